@@ -1,1 +1,13 @@
+//! A cheapest one-to-one assignment for a square table of costs, with the prices that prove it cheapest.
 #![tactic(auto)]
+
+mod growth;
+mod laws;
+mod partial;
+mod solution;
+#[cfg(test)]
+mod tests;
+mod tree;
+
+pub use laws::fitting_prices_bound_costs;
+pub use solution::{Solution, assign};

@@ -1,0 +1,5 @@
+pub mod Prices
+pub mod Assignment
+pub mod Cheapest
+pub mod Partial
+pub mod Tree

@@ -1,0 +1,55 @@
+//! The assignment that is answered, and its prices.
+ghost use Rattle.std.specs.Prelude.{◌≡◌, ℕ, ◌*◌, ◌≤◌, All, pos};
+ghost use Rattle.std.specs.Int.RustNames.{unsigned_abs};
+ghost use Rattle.kd_assign.specs.Assignment.{IsOneToOne, assignment_cost};
+ghost use Rattle.kd_assign.specs.Cheapest.{IsLeastCost};
+ghost use Rattle.kd_assign.specs.Prices.{Fits, price_sum};
+
+use crate::growth::assign_row;
+use crate::partial::{Prices, columns_of, cost_of};
+
+/// A cheapest one-to-one assignment of rows to columns. Rows and columns are counted from 0.
+#[derive(Clone, Copy, Debug, PartialEq, Eq)]
+pub struct Solution<const N: usize> {
+    /// The column of each row.
+    pub to: [u8; N],
+    /// The price of each row.
+    pub row: [i16; N],
+    /// The price of each column.
+    pub col: [i16; N],
+    /// The cost of the assignment.
+    pub total: u16,
+}
+
+/// Finds a cheapest one-to-one assignment by the Hungarian method of Kuhn and Munkres, in the form
+/// that grows a tree of tight edges from each row.
+pub fn assign<const N: usize>(cost: &[[u8; N]; N]) -> Solution<N>
+    requires some { 1 ≤ N }
+    requires few { N ≤ 32 }
+    requires costs { All (λ line. All (λ c. c ≤ 4) line) cost.now }
+    ensures one_to_one { IsOneToOne result.to }
+    ensures fits { Fits cost.now result.row result.col }
+    ensures row_prices { All (λ price. unsigned_abs price ≤ 4 * N) result.row }
+    ensures col_prices { All (λ price. unsigned_abs price ≤ 4 * N) result.col }
+    ensures price_sum { price_sum result.row result.col ≡ pos result.total }
+    ensures cost { assignment_cost cost.now result.to ≡ result.total }
+    ensures least { IsLeastCost cost.now result.total }
+{
+    let mut prices = Prices {
+        row: [0; N],
+        col: [0; N],
+    };
+    let mut to = [None; N];
+    for row in 0..N {
+        assign_row(cost, &mut prices, &mut to, row);
+    }
+    let columns = columns_of(&to);
+    let total = cost_of(cost, &columns);
+    let Prices { row, col } = prices;
+    Solution {
+        to: columns,
+        row,
+        col,
+        total,
+    }
+}

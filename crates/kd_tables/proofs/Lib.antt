@@ -1,0 +1,2 @@
+pub mod Wirings
+pub mod Products

@@ -1,0 +1,75 @@
+-- Products, inverses and shifts of permutations, letter by letter.
+use Rattle.std.proofs.Common.{◌≡◌, ℕ, ◌+◌, ◌-◌, ◌<◌, ◌≤◌, ◌%◌, ◌==◌, List, length, map, slice_index, eqb, refl, sym, ap, ◌∙◌, arith}
+use Rattle.std.specs.List.{range_with_len, position_or_len, list_any}
+use Rattle.std.specs.Slice.Sort.{NamesEachOnce}
+use Rattle.std.proofs.lemmas.Grind.{common_steps}
+use Rattle.std.proofs.lemmas.List.{get_or-map, length-map}
+use Rattle.std.proofs.lemmas.List.FromFn.{fill_by_all, get_or-map-range_with_len, length-map-range_with_len}
+use Rattle.kd_tables.specs.Permutation.{alphabet, followed_by, inverse, shift, IsPermutation26}
+use Rattle.kd_tables.proofs.Wirings.{place_within, first_place, at_place_of_any, occurs}
+
+-- what stands at a letter of a product, of an inverse and of a shift
+pub followed_by-at : (p q : List ℕ) (x : ℕ) → x < length p → slice_index (followed_by p q) x ≡ slice_index q (slice_index p x)
+unfolding followed_by
+followed_by-at p q x lt = get_or-map (λ y. slice_index q y) p x 0 0 lt
+
+pub inverse-at : (p : List ℕ) (y : ℕ) → y < 26 → slice_index (inverse p) y ≡ position_or_len (λ x. x == y) p
+unfolding inverse
+inverse-at p y lt = get_or-map-range_with_len (λ y'. position_or_len (λ x. x == y') p) 0 26 y y 0 lt (omega arith)
+
+pub shift-at : (k x : ℕ) → x < 26 → slice_index (shift k) x ≡ (x + k) % 26
+unfolding shift
+shift-at k x lt = get_or-map-range_with_len (λ x'. (x' + k) % 26) 0 26 x x 0 lt (omega arith)
+
+-- a letter's place has that letter
+pub at_place : (p : List ℕ) (y : ℕ) → IsPermutation26 p → y < 26 → slice_index p (position_or_len (λ x. x == y) p) ≡ y
+at_place p y h lt = at_place_of_any y p (occurs (list_any (eqb y) p) p y h lt refl)
+
+-- the place of what stands at a place is that place
+pub place_of_at : (p : List ℕ) (x : ℕ) → IsPermutation26 p → x < 26 → position_or_len (λ z. z == slice_index p x) p ≡ x
+place_of_at p x h lt = first_place p (slice_index p x) x (omega (arith, h.size)) (λ k k_lt e. absurd (omega (arith, h.each_once.apart k x (omega arith) lt e))) (λ _. refl)
+
+pub product_permutes : (p q : List ℕ) → IsPermutation26 p → IsPermutation26 q → IsPermutation26 (followed_by p q)
+unfolding followed_by
+product_permutes p q hp hq = record {
+  size = length-map p (λ y. slice_index q y) ∙ hp.size;
+  each_once = record {
+    within = λ k lt. rw (followed_by-at p q k (omega (arith, hp.size))) (hq.each_once.within (slice_index p k) (hp.each_once.within k lt));
+    apart = λ j k a b e. hp.each_once.apart j k a b (hq.each_once.apart (slice_index p j) (slice_index p k) (hp.each_once.within j a) (hp.each_once.within k b)
+        (sym (followed_by-at p q j (omega (arith, hp.size))) ∙ e ∙ followed_by-at p q k (omega (arith, hp.size))));
+  };
+}
+
+pub inverse_permutes : (p : List ℕ) → IsPermutation26 p → IsPermutation26 (inverse p)
+unfolding inverse
+inverse_permutes p h = record {
+  size = length-map-range_with_len (λ y. position_or_len (λ x. x == y) p) 0 26;
+  each_once = record {
+    within = λ k lt. rw (inverse-at p k lt) (place_within p k h lt);
+    apart = λ j k a b e. sym (at_place p j h a) ∙ ap (slice_index p) (sym (inverse-at p j a) ∙ e ∙ inverse-at p k b) ∙ at_place p k h b;
+  };
+}
+
+same_shift : (k x y : ℕ) → x < 26 → y < 26 → (x + k) % 26 ≡ (y + k) % 26 → x ≡ y
+same_shift k x y a b e = omega arith
+
+pub shift_permutes : (k : ℕ) → IsPermutation26 (shift k)
+unfolding shift
+shift_permutes k = record {
+  size = length-map-range_with_len (λ x. (x + k) % 26) 0 26;
+  each_once = record {
+    within = λ x lt. rw (shift-at k x lt) (omega arith);
+    apart = λ x y a b e. same_shift k x y a b (sym (shift-at k x a) ∙ e ∙ shift-at k y b);
+  };
+}
+
+same_as_alphabet : (p : List ℕ) → length p ≡ 26 → ((x : ℕ) → x < 26 → slice_index p x ≡ x) → p ≡ alphabet
+same_as_alphabet p size each = fill_by_all (λ x. x) p 26 0 size each
+
+pub product_inverse : (p : List ℕ) → IsPermutation26 p → followed_by p (inverse p) ≡ alphabet
+product_inverse p h = same_as_alphabet (followed_by p (inverse p)) (product_permutes p (inverse p) h (inverse_permutes p h)).size
+    (λ x lt. followed_by-at p (inverse p) x (omega (arith, h.size)) ∙ inverse-at p (slice_index p x) (h.each_once.within x lt) ∙ place_of_at p x h lt)
+
+pub inverse_product : (p : List ℕ) → IsPermutation26 p → followed_by (inverse p) p ≡ alphabet
+inverse_product p h = same_as_alphabet (followed_by (inverse p) p) (product_permutes (inverse p) p (inverse_permutes p h) h).size
+    (λ x lt. followed_by-at (inverse p) p x (omega (arith, (inverse_permutes p h).size)) ∙ ap (slice_index p) (inverse-at p x lt) ∙ at_place p x h lt)

@@ -1,0 +1,8 @@
+use Rattle.kd_tables.proofs.Products.{product_inverse, inverse_product}
+use Rattle.kd_tables.proofs.laws.inverse_undoes.Goals as goal
+
+pub returns-clause-after : goal.returns-clause-after
+returns-clause-after c = product_inverse
+
+pub returns-clause-before : goal.returns-clause-before
+returns-clause-before c = inverse_product

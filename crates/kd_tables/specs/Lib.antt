@@ -1,0 +1,4 @@
+pub mod Permutation
+pub mod Tables
+pub mod WiringText
+pub mod Ports

@@ -1,0 +1,82 @@
+ghost use Rattle.std.specs.Prelude.{◌≡◌, ℕ, ◌+◌, ◌-◌, ◌%◌, ◌<◌, ◌≤◌, ◌↔◌, IsSome, IfSome};
+
+use std::marker::Model;
+
+/// A letter of the alphabet, as its place in it: A is 0 and Z is 25.
+#[derive(Clone, Copy, Debug, PartialEq, Eq, PartialOrd, Ord, Hash)]
+pub struct Letter {
+    index: u8,
+}
+
+impl Model for Letter {
+    ghost Value = { ℕ };
+
+    ghost view = { λ l. l.index };
+
+    ghost invariant = { λ l. l.index < 26 };
+
+    ghost inverse = { λ n. record { index = n } };
+}
+
+impl Letter {
+    /// The first letter.
+    pub const A: Letter = Letter { index: 0 };
+
+    /// The letter at a place of the alphabet, counted from 0.
+    pub const fn new(index: u8) -> Option<Self>
+        ensures exists { IsSome result ↔ (index < 26) }
+        ensures value { IfSome result (λ letter. letter ≡ index) }
+    {
+        if index < 26 {
+            Some(Letter { index })
+        } else {
+            None
+        }
+    }
+
+    /// The letter that a byte is the ASCII code of. Only capital letters have one.
+    pub const fn from_byte(byte: u8) -> Option<Self>
+        ensures exists { IsSome result ↔ ((65 ≤ byte) × (byte ≤ 90)) }
+        ensures value { IfSome result (λ letter. byte ≡ letter + 65) }
+    {
+        if byte >= b'A' && byte <= b'Z' {
+            Some(Letter { index: byte - b'A' })
+        } else {
+            None
+        }
+    }
+
+    /// The letter's place in the alphabet, counted from 0.
+    pub const fn index(self) -> usize
+        ensures value { result ≡ self }
+        ensures within { result < 26 }
+    {
+        self.index as usize
+    }
+
+    /// The ASCII code of the letter, as a capital letter.
+    pub const fn byte(self) -> u8
+        ensures value { result ≡ self + 65 }
+        ensures capital { result ≤ 90 }
+    {
+        self.index + b'A'
+    }
+
+    /// The letter that stands as many places after this one as `by` after A, with A after Z.
+    pub const fn forward(self, by: Letter) -> Letter
+        ensures { result ≡ (self + by) % 26 }
+    {
+        Letter {
+            index: (self.index + by.index) % 26,
+        }
+    }
+
+    /// The letter that stands as many places before this one as `by` after A, with Z before A.
+    pub const fn back(self, by: Letter) -> Letter
+        ensures { result ≡ (self + (26 - by)) % 26 }
+    {
+        Letter {
+            index: (self.index + (26 - by.index)) % 26,
+        }
+    }
+}

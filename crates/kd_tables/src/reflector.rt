@@ -1,0 +1,68 @@
+ghost use Rattle.std.specs.Prelude.{◌≡◌, ◌≢◌, MatchOption};
+ghost use Rattle.kd_tables.specs.Permutation.{IsOwnInverse, MovesEachLetter};
+ghost use Rattle.kd_tables.specs.Tables.{reflector_text, reflector_of};
+
+use super::letter::Letter;
+use super::table::reflection;
+use arrayvec::ArrayString;
+
+/// A reflector of the rotor machines, which sends the current back through the wheels.
+#[derive(Clone, Copy, Debug, PartialEq, Eq, Hash)]
+pub enum Reflector {
+    A,
+    B,
+    C,
+    /// The thin B of the M4, written `b`.
+    ThinB,
+    /// The thin C of the M4, written `c`.
+    ThinC,
+}
+
+impl Reflector {
+    /// The reflector's name, in small letters for the thin ones.
+    pub fn text(self) -> ArrayString<8>
+        ensures { result.bytes ≡ reflector_text self }
+    {
+        let mut text = ArrayString::new();
+        text.push_str(match self {
+            Reflector::A => "A",
+            Reflector::B => "B",
+            Reflector::C => "C",
+            Reflector::ThinB => "b",
+            Reflector::ThinC => "c",
+        });
+        text
+    }
+
+    /// The reflector of that name.
+    pub fn from_text(text: &[u8]) -> Option<Self>
+        ensures { MatchOption result
+            ((reflector : _) → reflector_text reflector ≢ text.now)
+            (λ reflector. reflector_text reflector ≡ text.now) }
+    {
+        match text {
+            b"A" => Some(Reflector::A),
+            b"B" => Some(Reflector::B),
+            b"C" => Some(Reflector::C),
+            b"b" => Some(Reflector::ThinB),
+            b"c" => Some(Reflector::ThinC),
+            _ => None,
+        }
+    }
+}
+
+/// The letter to which each letter is led back.
+#[tactic(auto, unfolding(crate::specs::Tables::reflector_of))]
+pub fn reflecting(reflector: Reflector) -> [Letter; 26]
+    ensures table { result ≡ reflector_of reflector }
+    ensures own_inverse { IsOwnInverse (reflector_of reflector) }
+    ensures none_fixed { MovesEachLetter (reflector_of reflector) }
+{
+    match reflector {
+        Reflector::A => reflection(b"EJMZALYXVBWFCRQUONTSPIKHGD"),
+        Reflector::B => reflection(b"YRUHQSLDPXNGOKMIEBFZCWVJAT"),
+        Reflector::C => reflection(b"FVPJIAOYEDRZXWGCTKUQSBNMHL"),
+        Reflector::ThinB => reflection(b"ENKQAUYWJICOPBLMDXZVFTHRGS"),
+        Reflector::ThinC => reflection(b"RDOBJNTKVEHMLFCWZAXGYIPSUQ"),
+    }
+}

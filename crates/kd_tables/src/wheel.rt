@@ -1,0 +1,115 @@
+ghost use Rattle.std.specs.Prelude.{◌≡◌, ◌↔◌, ◌≢◌, IsTrue, MatchOption, Contains};
+ghost use Rattle.kd_tables.specs.Permutation.{inverse};
+ghost use Rattle.kd_tables.specs.Tables.{wheel_text, wiring_of, notches_of};
+
+use super::letter::Letter;
+use super::table::{inverse_table, table};
+use arrayvec::ArrayString;
+
+/// A wheel of the rotor machines. I to VIII turn; Beta and Gamma stand still beside the thin reflectors of the M4.
+#[derive(Clone, Copy, Debug, PartialEq, Eq, Hash)]
+pub enum Wheel {
+    I,
+    II,
+    III,
+    IV,
+    V,
+    VI,
+    VII,
+    VIII,
+    Beta,
+    Gamma,
+}
+
+/// Makes a table of a wheel's published wiring: what A to Z become, in order.
+macro_rules! wiring {
+    ($make:ident, $wheel:expr) => {
+        match $wheel {
+            Wheel::I => $make(b"EKMFLGDQVZNTOWYHXUSPAIBRCJ"),
+            Wheel::II => $make(b"AJDKSIRUXBLHWTMCQGZNPYFVOE"),
+            Wheel::III => $make(b"BDFHJLCPRTXVZNYEIWGAKMUSQO"),
+            Wheel::IV => $make(b"ESOVPZJAYQUIRHXLNFTGKDCMWB"),
+            Wheel::V => $make(b"VZBRGITYUPSDNHLXAWMJQOFECK"),
+            Wheel::VI => $make(b"JPGVOUMFYQBENHZRDKASXLICTW"),
+            Wheel::VII => $make(b"NZJHGRCXMYSWBOUFAIVLPEKQDT"),
+            Wheel::VIII => $make(b"FKQHTLXOCBJSPDZRAMEWNIUYGV"),
+            Wheel::Beta => $make(b"LEYJVCNIXWPBQMDRTAKZGFUHOS"),
+            Wheel::Gamma => $make(b"FSOKANUERHMBTIYCWLQPZXVGJD"),
+        }
+    };
+}
+
+impl Wheel {
+    /// The name that is engraved on the wheel.
+    pub fn text(self) -> ArrayString<8>
+        ensures { result.bytes ≡ wheel_text self }
+    {
+        let mut text = ArrayString::new();
+        text.push_str(match self {
+            Wheel::I => "I",
+            Wheel::II => "II",
+            Wheel::III => "III",
+            Wheel::IV => "IV",
+            Wheel::V => "V",
+            Wheel::VI => "VI",
+            Wheel::VII => "VII",
+            Wheel::VIII => "VIII",
+            Wheel::Beta => "Beta",
+            Wheel::Gamma => "Gamma",
+        });
+        text
+    }
+
+    /// The wheel of that name.
+    pub fn from_text(text: &[u8]) -> Option<Self>
+        ensures { MatchOption result
+            ((wheel : _) → wheel_text wheel ≢ text.now)
+            (λ wheel. wheel_text wheel ≡ text.now) }
+    {
+        match text {
+            b"I" => Some(Wheel::I),
+            b"II" => Some(Wheel::II),
+            b"III" => Some(Wheel::III),
+            b"IV" => Some(Wheel::IV),
+            b"V" => Some(Wheel::V),
+            b"VI" => Some(Wheel::VI),
+            b"VII" => Some(Wheel::VII),
+            b"VIII" => Some(Wheel::VIII),
+            b"Beta" => Some(Wheel::Beta),
+            b"Gamma" => Some(Wheel::Gamma),
+            _ => None,
+        }
+    }
+}
+
+/// What each letter becomes on the way in, from the right of the wheel to its left, with the wheel's A before A.
+#[tactic(auto, unfolding(crate::specs::Tables::wiring_of))]
+pub fn wiring(wheel: Wheel) -> [Letter; 26]
+    ensures { result ≡ wiring_of wheel }
+{
+    wiring!(table, wheel)
+}
+
+/// What each letter becomes on the way back, from the left of the wheel to its right.
+#[tactic(auto, unfolding(crate::specs::Tables::wiring_of))]
+pub fn unwiring(wheel: Wheel) -> [Letter; 26]
+    ensures { result ≡ inverse (wiring_of wheel) }
+{
+    wiring!(inverse_table, wheel)
+}
+
+/// Whether the step that the wheel makes from this window letter takes its left neighbour along.
+pub fn notched(wheel: Wheel, window: Letter) -> bool
+    ensures { IsTrue result ↔ Contains (notches_of wheel) window }
+{
+    let notches: &[u8] = match wheel {
+        Wheel::I => b"Q",
+        Wheel::II => b"E",
+        Wheel::III => b"V",
+        Wheel::IV => b"J",
+        Wheel::V => b"Z",
+        Wheel::VI | Wheel::VII | Wheel::VIII => b"MZ",
+        Wheel::Beta | Wheel::Gamma => b"",
+    };
+    notches.contains(&window.byte())
+}
