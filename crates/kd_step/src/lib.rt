@@ -1,1 +1,8 @@
+//! The stepping of the wheels of a rotor machine.
 #![tactic(auto)]
+
+mod countdown;
+pub mod laws;
+mod stepper;
+
+pub use stepper::Stepper;

@@ -1,8 +1,6 @@
 -- Products, inverses and shifts of permutations, letter by letter.
-use Rattle.std.proofs.Common.{◌≡◌, ℕ, ◌+◌, ◌-◌, ◌<◌, ◌≤◌, ◌%◌, ◌==◌, List, length, map, slice_index, eqb, refl, sym, ap, ◌∙◌, arith}
-use Rattle.std.specs.List.{range_with_len, position_or_len, list_any}
-use Rattle.std.specs.Slice.Sort.{NamesEachOnce}
-use Rattle.std.proofs.lemmas.Grind.{common_steps}
+use Rattle.std.proofs.Common.{◌≡◌, ℕ, ◌+◌, ◌<◌, ◌%◌, ◌==◌, List, length, slice_index, eqb, refl, sym, ap, ◌∙◌, arith}
+use Rattle.std.specs.List.{position_or_len, list_any}
 use Rattle.std.proofs.lemmas.List.{get_or-map, length-map}
 use Rattle.std.proofs.lemmas.List.FromFn.{fill_by_all, get_or-map-range_with_len, length-map-range_with_len}
 use Rattle.kd_tables.specs.Permutation.{alphabet, followed_by, inverse, shift, IsPermutation26}

@@ -1,10 +1,10 @@
 -- What the tests of a wiring's text say, and that each published table passes them.
-use Rattle.std.proofs.Common.{◌≡◌, ◌≢◌, ℕ, zero, suc, ◌+◌, ◌-◌, ◌<◌, ◌≤◌, ◌==◌, nat_eq, nat_le, nat_lt, Bool, true, false, not, ◌&&◌, ◌||◌, List, [], ◌∷◌, length, map, slice_index, slice_index_or, All, IsTrue, refl, sym, ap, ◌∙◌, arith, rules, cond, subst, eqb}
-use Rattle.std.specs.List.{range_with_len, position_or_len, prefix_len, IsDistinct, AllByRecursion, list_all, list_any}
+use Rattle.std.proofs.Common.{◌≡◌, ◌≢◌, ℕ, zero, suc, ◌+◌, ◌<◌, ◌≤◌, ◌==◌, nat_eq, nat_le, nat_lt, Bool, true, false, not, ◌&&◌, ◌||◌, List, [], ◌∷◌, length, slice_index, All, refl, sym, ap, arith, eqb}
+use Rattle.std.specs.List.{position_or_len, IsDistinct, AllByRecursion, list_all, list_any}
 use Rattle.std.proofs.lemmas.Map.Steps.{length-le_from_distinct_below}
 use Rattle.std.proofs.lemmas.Bool.Decides.{nat_tests}
 use Rattle.std.proofs.lemmas.List.Sums.{position_or_len_is}
-use Rattle.std.proofs.lemmas.List.Elements.{All-from_recursion, All-get_or, All-map, All-head, All-tail, All-cons, All-from_get_or, recursion_from_All}
+use Rattle.std.proofs.lemmas.List.Elements.{All-from_recursion, All-get_or, All-head, All-tail, All-cons, All-from_get_or, recursion_from_All}
 use Rattle.kd_tables.specs.Permutation.{alphabet, IsPermutation26, IsOwnInverse, MovesEachLetter}
 use Rattle.kd_tables.specs.Tables.{letters_of, wiring_of, reflector_of}
 use Rattle.kd_tables.specs.WiringText.{all_differ, is_permutation, is_wiring_text, is_reflection}

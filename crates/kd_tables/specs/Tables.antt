@@ -1,5 +1,6 @@
 -- The published tables of the Wehrmacht's and the Kriegsmarine's rotor machines, and which parts this project's models take.
-use Rattle.std.specs.Prelude.{codes, ℕ, ◌-◌, ◌<◌, ◌≤◌, List, [], ◌∷◌, map, Contains}
+use Rattle.std.specs.Prelude.{codes, ℕ, ◌-◌, ◌≤◌, ◌==◌, Bool, List, [], ◌∷◌, map, Contains}
+use Rattle.std.specs.List.{list_any}
 use Rattle.kd_tables.specs.declared.wheel.Wheel.{Wheel}
 use Rattle.kd_tables.specs.declared.wheel.Wheel.TheVariants.{I, II, III, IV, V, VI, VII, VIII, Beta, Gamma}
 use Rattle.kd_tables.specs.declared.reflector.Reflector.{Reflector}
@@ -49,6 +50,10 @@ notches_of VII = letters_of (codes "MZ")
 notches_of VIII = letters_of (codes "MZ")
 notches_of Beta = []
 notches_of Gamma = []
+
+-- the wheel stands at one of its notches where the letter shows in its window
+abbrev pub is_notch : Wheel → ℕ → Bool
+is_notch wheel letter = list_any (λ notch. notch == letter) (notches_of wheel)
 
 -- the reflector's name
 abbrev pub reflector_text : Reflector → List ℕ

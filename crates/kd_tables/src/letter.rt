@@ -62,6 +62,15 @@ impl Letter {
         self.index + b'A'
     }
 
+    /// The letter after this one, with A after Z.
+    pub const fn next(self) -> Letter
+        ensures { result ≡ (self + 1) % 26 }
+    {
+        Letter {
+            index: (self.index + 1) % 26,
+        }
+    }
+
     /// The letter that stands as many places after this one as `by` after A, with A after Z.
     pub const fn forward(self, by: Letter) -> Letter
         ensures { result ≡ (self + by) % 26 }

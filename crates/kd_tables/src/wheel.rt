@@ -1,6 +1,6 @@
-ghost use Rattle.std.specs.Prelude.{◌≡◌, ◌↔◌, ◌≢◌, IsTrue, MatchOption, Contains};
+ghost use Rattle.std.specs.Prelude.{◌≡◌, ◌≢◌, MatchOption};
 ghost use Rattle.kd_tables.specs.Permutation.{inverse};
-ghost use Rattle.kd_tables.specs.Tables.{wheel_text, wiring_of, notches_of};
+ghost use Rattle.kd_tables.specs.Tables.{wheel_text, wiring_of, is_notch};
 
 use super::letter::Letter;
 use super::table::{inverse_table, table};
@@ -100,7 +100,7 @@ pub fn unwiring(wheel: Wheel) -> [Letter; 26]
 
 /// Whether the step that the wheel makes from this window letter takes its left neighbour along.
 pub fn notched(wheel: Wheel, window: Letter) -> bool
-    ensures { IsTrue result ↔ Contains (notches_of wheel) window }
+    ensures { result ≡ is_notch wheel window }
 {
     let notches: &[u8] = match wheel {
         Wheel::I => b"Q",

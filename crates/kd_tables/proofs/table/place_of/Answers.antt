@@ -1,5 +1,4 @@
-use Rattle.std.proofs.Common.{◌≡◌, ◌==◌, ◌∙◌, sym, arith}
-use Rattle.std.specs.List.{position_or_len}
+use Rattle.std.proofs.Common.{arith}
 use Rattle.std.proofs.lemmas.Grind.{common_steps}
 use Rattle.kd_tables.proofs.Wirings.{first_place, place_within}
 use Rattle.kd_tables.proofs.table.place_of.Goals as goal

@@ -1,4 +1,4 @@
-use Rattle.std.proofs.Common.{◌-◌, ◌∙◌, sym, get_or, length, rules, arith}
+use Rattle.std.proofs.Common.{◌-◌, ◌∙◌, sym, get_or, rules, arith}
 use Rattle.std.proofs.lemmas.List.{get_or-map, length-map}
 use Rattle.std.proofs.lemmas.List.FromFn.{fill_by_all}
 use Rattle.kd_tables.proofs.Wirings.{text_permutes}

@@ -1,0 +1,2 @@
+pub mod Stepper
+pub mod Countdown

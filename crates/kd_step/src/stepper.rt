@@ -1,0 +1,88 @@
+ghost use Rattle.std.specs.Prelude.{◌≡◌, ◌≤◌, length, map};
+ghost use Rattle.kd_step.specs.Stepper.{IsStep, moved, next_letter};
+
+use super::countdown::{countdown, counted_down, moving};
+use kd_tables::{Letter, Wheel};
+use std::marker::Model;
+
+/// The wheels in their slots, from the left, and the letters in their windows.
+#[derive(Drop)]
+pub struct Stepper<const S: usize> {
+    wheels: [Wheel; S],
+    window: [Letter; S],
+    middle: Option<u8>,
+    right: Option<u8>,
+}
+
+impl<const S: usize> Model for Stepper<S> {
+    ghost use Rattle.std.specs.Prelude.{◌≡◌, ◌≤◌};
+    ghost use Rattle.kd_step.specs.Stepper.{Stepping};
+    ghost use Rattle.kd_step.specs.Countdown.{Counts};
+
+    ghost Value = { Stepping };
+
+    ghost view = { λ s. record { wheels = s.wheels; window = s.window } };
+
+    ghost invariant = { λ s. (3 ≤ S) × (S ≤ 4) × Counts s.wheels s.window 1 s.middle × Counts s.wheels s.window 0 s.right };
+}
+
+impl<const S: usize> Stepper<S> {
+    /// Wheels that show these letters. There are three or four slots, counted from the left.
+    pub fn new(wheels: [Wheel; S], window: [Letter; S]) -> Self
+        requires least { 3 ≤ S }
+        requires most { S ≤ 4 }
+        ensures { result ≡ record { wheels = wheels.entry; window = window.entry } }
+    {
+        let middle = countdown(wheels[S - 2], window[S - 2]);
+        let right = countdown(wheels[S - 1], window[S - 1]);
+        Stepper {
+            wheels,
+            window,
+            middle,
+            right,
+        }
+    }
+
+    /// Moves the wheels as a key press does.
+    pub fn step(&mut self)
+        ensures step { IsStep self.old.wheels self.old.window self.new.window }
+        ensures wheels { self.new.wheels ≡ self.old.wheels }
+    {
+        let moving = moving(self.middle, self.right);
+        let (middle, right) = (S - 2, S - 1);
+        self.middle = counted_down(
+            self.middle,
+            self.wheels[middle],
+            self.window[middle],
+            moving > 1,
+        );
+        self.right = counted_down(self.right, self.wheels[right], self.window[right], true);
+        move_last(&mut self.window, moving);
+    }
+
+    /// The letters that show, from the left.
+    pub fn window(&self) -> [Letter; S]
+        ensures { result ≡ self.now.window }
+    {
+        let Stepper { window, .. } = self;
+        *window
+    }
+}
+
+/// Moves the last so many letters one on.
+fn move_last(window: &mut [Letter], count: usize)
+    requires { count ≤ length window.old }
+    ensures { window.new ≡ moved count window.old }
+{
+    let first = window.len() - count;
+    advance(&mut window[first..]);
+}
+
+/// Moves each letter one on.
+fn advance(letters: &mut [Letter])
+    ensures { letters.new ≡ map next_letter letters.old }
+{
+    for letter in letters.iter_mut() {
+        *letter = letter.next();
+    }
+}
