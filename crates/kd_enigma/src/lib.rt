@@ -1,1 +1,12 @@
+//! The rotor machine: plugboard, wheels and reflector.
 #![tactic(auto)]
+
+mod enigma;
+mod key;
+pub mod laws;
+mod plugs;
+mod rotor;
+
+pub use enigma::Enigma;
+pub use key::EnigmaKey;
+pub use plugs::{LetterTwice, Plugs};

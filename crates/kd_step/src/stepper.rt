@@ -1,5 +1,5 @@
 ghost use Rattle.std.specs.Prelude.{◌≡◌, ◌≤◌, length, map};
-ghost use Rattle.kd_step.specs.Stepper.{IsStep, moved, next_letter};
+ghost use Rattle.kd_step.specs.Stepper.{IsStep, moved, next_letter, window_after};
 
 use super::countdown::{countdown, counted_down, moving};
 use kd_tables::{Letter, Wheel};
@@ -46,6 +46,7 @@ impl<const S: usize> Stepper<S> {
     /// Moves the wheels as a key press does.
     pub fn step(&mut self)
         ensures step { IsStep self.old.wheels self.old.window self.new.window }
+        ensures after { self.new.window ≡ window_after self.old.wheels self.old.window 1 }
         ensures wheels { self.new.wheels ≡ self.old.wheels }
     {
         let moving = moving(self.middle, self.right);

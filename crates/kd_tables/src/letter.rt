@@ -73,7 +73,8 @@ impl Letter {
 
     /// The letter that stands as many places after this one as `by` after A, with A after Z.
     pub const fn forward(self, by: Letter) -> Letter
-        ensures { result ≡ (self + by) % 26 }
+        ensures value { result ≡ (self + by) % 26 }
+        ensures letters { (self < 26) × (by < 26) }
     {
         Letter {
             index: (self.index + by.index) % 26,
@@ -82,7 +83,8 @@ impl Letter {
 
     /// The letter that stands as many places before this one as `by` after A, with Z before A.
     pub const fn back(self, by: Letter) -> Letter
-        ensures { result ≡ (self + (26 - by)) % 26 }
+        ensures value { result ≡ (self + (26 - by)) % 26 }
+        ensures letters { (self < 26) × (by < 26) }
     {
         Letter {
             index: (self.index + (26 - by.index)) % 26,

@@ -1,0 +1,4 @@
+pub mod Turning
+pub mod Ways
+pub mod Seats
+pub mod Ciphers

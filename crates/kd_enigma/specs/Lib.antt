@@ -1,0 +1,4 @@
+pub mod Rotor
+pub mod Cipher
+pub mod Seated
+pub mod Through
