@@ -1,5 +1,5 @@
 -- An assignment of some of the rows: the list has the column of each row that has one.
-use Rattle.std.specs.Prelude.{◌≡◌, ℕ, ◌<◌, ◌≤◌, List, length, Option, Some, None, is_some, slice_index_or, count_by, ℤ, pos, negsuc, ◌+ℤ◌, ◌≤ℤ◌}
+use Rattle.std.specs.Prelude.{◌≡◌, ℕ, ◌<◌, ◌≤◌, List, length, Option, Some, None, is_some, slice_index_or, count_by, ℤ, pos, neg_ℤ, ◌+ℤ◌, ◌≤ℤ◌}
 use Rattle.kd_assign.specs.Prices.{cost_at, price_at, Fits}
 
 -- place i has the number j
@@ -14,7 +14,7 @@ HasNone to i = slice_index_or to i None ≡ None
 abbrev pub IsTaken : List (Option ℕ) → ℕ → Type 0
 IsTaken to j = (i : ℕ) × Has to i j
 
--- no two rows have the same column
+-- a row has at most one column, and no two rows have the same
 pub record IsPartial (to : List (Option ℕ)) : Type 0 where
   pub in_range : (i j : ℕ) → Has to i j → j < length to
   pub distinct : (i k j : ℕ) → Has to i j → Has to k j → i ≡ k
@@ -23,22 +23,25 @@ pub record IsPartial (to : List (Option ℕ)) : Type 0 where
 abbrev pub IsTight : List (List ℕ) → List ℤ → List ℤ → ℕ → ℕ → Type 0
 IsTight cost row col i j = (price_at row i +ℤ price_at col j) ≡ pos (cost_at cost i j)
 
--- prices from 0 to the highest cost for rows, and from minus that to 0 for columns
+-- with 4 as the greatest cost: from 0 to 4 for rows, and from -4 to 0 for columns
 pub record AreSmall (row col : List ℤ) : Type 0 where
   pub row_low : (i : ℕ) → pos 0 ≤ℤ price_at row i
   pub row_high : (i : ℕ) → price_at row i ≤ℤ pos 4
-  pub col_low : (j : ℕ) → negsuc 3 ≤ℤ price_at col j
+  pub col_low : (j : ℕ) → neg_ℤ (pos 4) ≤ℤ price_at col j
   pub col_high : (j : ℕ) → price_at col j ≤ℤ pos 0
 
--- prices that fit, and that prove the assignment cheapest among those of its rows
-pub record IsSound (cost : List (List ℕ)) (row col : List ℤ) (to : List (Option ℕ)) : Type 0 where
+-- prices that fit, and that are tight at each row that has a column
+pub record IsSound (cost : List (List ℕ)) (row col : List ℤ) (to : List (Option ℕ))
+    : Type 0 where
+  pub rows : length row ≡ length to
+  pub columns : length col ≡ length to
   pub fits : Fits cost row col
   pub tight : (i j : ℕ) → Has to i j → IsTight cost row col i j
   pub small : AreSmall row col
   -- a column that no row has is free of charge
   pub free : (j : ℕ) → (IsTaken to j → ⊥) → price_at col j ≡ pos 0
 
--- the rows before `next` have their columns, and the others have none
+-- `next` rows have columns, and none from row `next` on
 pub record IsSolvedTo (cost : List (List ℕ)) (row col : List ℤ) (to : List (Option ℕ)) (next : ℕ) : Type 0 where
   pub partial : IsPartial to
   pub sound : IsSound cost row col to

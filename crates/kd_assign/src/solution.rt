@@ -1,12 +1,12 @@
 //! The assignment that is answered, and its prices.
-ghost use Rattle.std.specs.Prelude.{◌≡◌, ℕ, ◌*◌, ◌≤◌, All, pos};
-ghost use Rattle.std.specs.Int.RustNames.{unsigned_abs};
+ghost use Rattle.std.specs.Prelude.{◌≡◌, ◌*◌, ◌≤◌, All, pos, unsigned_abs};
 ghost use Rattle.kd_assign.specs.Assignment.{IsOneToOne, assignment_cost};
 ghost use Rattle.kd_assign.specs.Cheapest.{IsLeastCost};
-ghost use Rattle.kd_assign.specs.Prices.{Fits, price_sum};
+ghost use Rattle.kd_assign.specs.Prices.{CostsAtMost, Fits, price_sum};
 
 use crate::growth::assign_row;
-use crate::partial::{Prices, columns_of, cost_of};
+use crate::partial::{columns_of, cost_of};
+use crate::prices::Prices;
 
 /// A cheapest one-to-one assignment of rows to columns. Rows and columns are counted from 0.
 #[derive(Clone, Copy, Debug, PartialEq, Eq)]
@@ -22,11 +22,12 @@ pub struct Solution<const N: usize> {
 }
 
 /// Finds a cheapest one-to-one assignment by the Hungarian method of Kuhn and Munkres, in the form
-/// that grows a tree of tight edges from each row.
+/// that grows a tree of tight edges from each row. An edge is tight where the two prices add up to
+/// its cost. Which of several cheapest assignments is answered is not promised.
 pub fn assign<const N: usize>(cost: &[[u8; N]; N]) -> Solution<N>
     requires some { 1 ≤ N }
     requires few { N ≤ 32 }
-    requires costs { All (λ line. All (λ c. c ≤ 4) line) cost.now }
+    requires costs { CostsAtMost 4 cost.now }
     ensures one_to_one { IsOneToOne result.to }
     ensures fits { Fits cost.now result.row result.col }
     ensures row_prices { All (λ price. unsigned_abs price ≤ 4 * N) result.row }

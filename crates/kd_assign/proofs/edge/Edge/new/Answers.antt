@@ -1,6 +1,6 @@
 use Rattle.std.proofs.Common.{[], arith}
 use Rattle.std.proofs.lemmas.Int.{ints}
-use Rattle.kd_assign.proofs.tree.Edge.new.Goals as goal
+use Rattle.kd_assign.proofs.edge.Edge.new.Goals as goal
 
 pub overflow_sub-slack-2 : goal.overflow_sub-slack-2
 overflow_sub-slack-2 g c =
