@@ -1,7 +1,7 @@
 //! Laws over the definition of the cipher alone.
-ghost use Rattle.std.specs.Prelude.{◌≡◌, ◌<◌, List, ℕ, All};
+ghost use Rattle.std.specs.Prelude.{◌≡◌, ◌+◌, ◌<◌, ◌++◌, List, ℕ, length, All};
 ghost use Rattle.kd_tables.specs.Permutation.{IsOwnInverse, MovesEachLetter};
-ghost use Rattle.kd_enigma.specs.Cipher.{RotorKey, IsPlugboard, path, enigma_cipher};
+ghost use Rattle.kd_enigma.specs.Cipher.{RotorKey, IsPlugboard, key_after, path, enigma_cipher};
 ghost use Rattle.kd_enigma.specs.Seated.{TablesAreSound};
 
 /// The tables that the cipher is made of are permutations, with what undoes them.
@@ -28,3 +28,10 @@ pub fn enciphering_twice_gives_back()
 {
     tables_are_sound();
 }
+
+/// A text in two pieces is enciphered piece by piece, on the key that the first piece leaves.
+pub fn pieces_are_enciphered_in_turn()
+    ensures cipher { (key : RotorKey) (first rest : List ℕ)
+        → enigma_cipher key (first ++ rest) ≡ enigma_cipher key first ++ enigma_cipher (key_after key (length first)) rest }
+    ensures after { (key : RotorKey) (m n : ℕ) → key_after (key_after key m) n ≡ key_after key (m + n) }
+{}

@@ -6,6 +6,8 @@ mod key;
 pub mod laws;
 mod plugs;
 mod rotor;
+#[cfg(test)]
+mod tests;
 
 pub use enigma::Enigma;
 pub use key::EnigmaKey;

@@ -4,5 +4,7 @@
 mod countdown;
 pub mod laws;
 mod stepper;
+#[cfg(test)]
+mod tests;
 
 pub use stepper::Stepper;

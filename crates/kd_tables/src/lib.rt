@@ -11,6 +11,8 @@ mod reflector;
 mod sink;
 mod source;
 mod table;
+#[cfg(test)]
+mod tests;
 mod wheel;
 
 pub use failed::Failed;

@@ -11,7 +11,7 @@ stepped g c =
     let inside = c.self.inside in
     let after : c.move_last.new.window ≡ moved (moving_by inside.middle inside.right) inside.window = c.move_last.ensures ∙ ap (λ count. moved count inside.window) c.moving-moving.ensures in
     subst (λ (s : Stepping). IsStep s.wheels s.window c.move_last.new.window) c.self.view_is
-      (step_of_counts inside.wheels inside.window c.move_last.new.window inside.middle inside.right c.self.invariant.2 c.self.invariant.3 after)
+    (step_of_counts inside.wheels inside.window c.move_last.new.window inside.middle inside.right c.self.invariant.2 c.self.invariant.3 after)
 
 pub invariant_of-self : goal.invariant_of-self
 invariant_of-self g c =
