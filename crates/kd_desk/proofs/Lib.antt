@@ -1,0 +1,4 @@
+pub mod Documents
+pub mod Namings
+pub mod Seating
+pub mod Wheels

@@ -1,0 +1,14 @@
+-- The keys of the files.
+use Rattle.std.specs.Prelude.{codes, ℕ, List}
+use Rattle.kd_desk.specs.declared.sheet.key.Key.{Key}
+use Rattle.kd_desk.specs.declared.sheet.key.Key.TheVariants as keys
+
+-- the key as a file writes it
+abbrev pub key_name : Key → List ℕ
+key_name keys.Version = codes "version"
+key_name keys.Model = codes "model"
+key_name keys.Reflector = codes "reflector"
+key_name keys.Slots = codes "slots"
+key_name keys.Rings = codes "rings"
+key_name keys.Letters = codes "letters"
+key_name keys.Cables = codes "cables"

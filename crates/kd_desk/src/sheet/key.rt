@@ -1,0 +1,45 @@
+ghost use Rattle.std.specs.Prelude.{◌≡◌};
+
+use std::fmt;
+
+/// A key of the files.
+#[derive(Clone, Copy, Debug, PartialEq, Eq)]
+pub enum Key {
+    Version,
+    Model,
+    Reflector,
+    Slots,
+    Rings,
+    Letters,
+    Cables,
+}
+
+impl Key {
+    ghost use Rattle.kd_desk.specs.Key.{key_name};
+
+    /// The key as a file writes it.
+    pub fn name(self) -> &'static str
+        ensures { result.now ≡ key_name self }
+    {
+        match self {
+            Key::Version => "version",
+            Key::Model => "model",
+            Key::Reflector => "reflector",
+            Key::Slots => "slots",
+            Key::Rings => "rings",
+            Key::Letters => "letters",
+            Key::Cables => "cables",
+        }
+    }
+}
+
+impl fmt::Display for Key {
+    ghost use Rattle.std.specs.Prelude.{Some};
+    ghost use Rattle.kd_desk.specs.Key.{key_name};
+
+    ghost output = { λ key. Some (key_name key) };
+
+    fn fmt<W: fmt::Write>(&self, f: &mut fmt::Formatter<W>) -> fmt::Result {
+        f.write_str(self.name())
+    }
+}

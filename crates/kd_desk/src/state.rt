@@ -1,0 +1,4 @@
+//! The physical machines, as they stand on the desk.
+mod machine;
+
+pub use machine::Machine;
