@@ -5,3 +5,8 @@ pub mod Machine
 pub mod MachineFile
 pub mod Names
 pub mod Seats
+pub mod Writing
+pub mod Box
+pub mod TwoCiphers
+pub mod Typing
+pub mod RunType

@@ -1,3 +1,4 @@
+use super::places::place_in_box;
 use kd_tables::{Letter, Model, Reflector, Wheel};
 
 /// A rotor machine as it stands: what is seated in it, and the ring and the window letter of each wheel of its box.
@@ -57,5 +58,62 @@ impl Machine {
     {
         let place = usize::from(slot).checked_sub(1)?;
         self.slots.get(place).copied()
+    }
+}
+
+impl Machine {
+    ghost use Rattle.std.specs.Option.{SomeIff};
+    ghost use Rattle.std.specs.Prelude.{◌≡◌, ◌↔◌, All, Contains, IsSome, IfSome};
+    ghost use Rattle.kd_tables.specs.Tables.{box_of};
+    ghost use Rattle.kd_desk.specs.Box.{ring_of, letter_of};
+    ghost use Rattle.kd_desk.specs.TwoCiphers.{IsReady, seated_wheels};
+
+    /// The model.
+    pub fn model(&self) -> Model
+        ensures { result ≡ self.now.model }
+    {
+        self.model
+    }
+
+    /// A wheel or nothing for each slot, from the left.
+    pub fn slots(&self) -> [Option<Wheel>; 3]
+        ensures { result ≡ self.now.slots }
+    {
+        let Machine { slots, .. } = self;
+        *slots
+    }
+
+    /// The wheels that are seated, from the left, if each slot holds one.
+    pub fn seated(&self) -> Option<[Wheel; 3]>
+        ensures ready { IsSome result ↔ IsReady self.now }
+        ensures value { IfSome result (λ wheels. wheels ≡ seated_wheels self.now) }
+        ensures in_box { IfSome result (All (Contains (box_of self.now.model))) }
+    {
+        Some([self.slots[0]?, self.slots[1]?, self.slots[2]?])
+    }
+
+    /// The reflector.
+    pub fn reflector(&self) -> Reflector
+        ensures { result ≡ self.now.reflector }
+    {
+        self.reflector
+    }
+
+    /// The ring of a wheel of the box, seated or not.
+    #[tactic(auto, unfolding(crate::specs::Seats::is_same_wheel))]
+    pub fn ring(&self, wheel: Wheel) -> Option<Letter>
+        ensures { SomeIff result (Contains (box_of self.now.model) wheel) (ring_of self.now wheel) }
+    {
+        let place = place_in_box(self.model, wheel)?;
+        Some(self.rings[place])
+    }
+
+    /// The window letter of a wheel of the box, seated or not.
+    #[tactic(auto, unfolding(crate::specs::Seats::is_same_wheel))]
+    pub fn letter(&self, wheel: Wheel) -> Option<Letter>
+        ensures { SomeIff result (Contains (box_of self.now.model) wheel) (letter_of self.now wheel) }
+    {
+        let place = place_in_box(self.model, wheel)?;
+        Some(self.letters[place])
     }
 }

@@ -1,0 +1,36 @@
+-- What was written of a front of what was read.
+use Rattle.std.proofs.Common.{◌≡◌, ℕ, ◌≤◌, ◌<◌, ◌+◌, ◌-◌, Bool, true, false, ◌||◌, true≢false, List, [], length, take, slice_index, IsTrue, IsFalse, refl, sym, ap, subst, length-take-le, arith}
+use Rattle.std.proofs.lemmas.List.Elements.{All-nil}
+use Rattle.std.specs.Io.{StartsWith}
+use Rattle.kd_enigma.specs.Cipher.{RotorKey}
+use Rattle.kd_desk.specs.Typing.{is_allowed, AreAllowedBytes, Lights, TypesFront, IsFirstRefused}
+
+pub TypesFront-nil : (key : RotorKey) → TypesFront key [] []
+TypesFront-nil key = record { front = []; of_read = refl; allowed = All-nil (λ (byte : ℕ). IsTrue (is_allowed byte)); written = refl }
+
+-- a front of the lamps of so many bytes
+pub TypesFront-take : (key left : RotorKey) (bytes lamps text : List ℕ) (n : ℕ) → n ≤ length bytes → AreAllowedBytes (take n bytes)
+    → Lights key left (take n bytes) lamps → StartsWith lamps text → TypesFront key bytes text
+TypesFront-take key left bytes lamps text n within allowed lights starts = record {
+  front = take n bytes;
+  of_read = ap (λ k. take k bytes) (length-take-le n bytes within);
+  allowed = allowed;
+  written = subst (λ l. StartsWith l text) lights.cipher starts;
+}
+
+-- the byte behind a front of allowed bytes
+pub IsFirstRefused-behind : (bytes : List ℕ) (n : ℕ) → n < length bytes → AreAllowedBytes (take n bytes) → IsFalse (is_allowed (slice_index bytes n)) → IsFirstRefused bytes (n + 1)
+IsFirstRefused-behind bytes n within before here =
+    let back : n + 1 - 1 ≡ n = omega arith in
+    record {
+      within = (omega arith, omega arith);
+      before = subst (λ k. AreAllowedBytes (take k bytes)) (sym back) before;
+      here = subst (λ k. IsFalse (is_allowed (slice_index bytes k))) (sym back) here;
+    }
+
+-- where a call failed, the flag is not down
+pub flag_is_up : {P : Type 0} (old new : Bool) → new ≡ (old || true) → IsFalse new → P
+flag_is_up true false e down = absurd (true≢false (sym e))
+flag_is_up true true e down = absurd (true≢false down)
+flag_is_up false false e down = absurd (true≢false (sym e))
+flag_is_up false true e down = absurd (true≢false down)

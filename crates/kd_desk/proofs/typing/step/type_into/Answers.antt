@@ -1,0 +1,55 @@
+use Rattle.std.proofs.Common.{rules, ◌<◌, length, take, refl, subst, ◌∙◌, [], arith, length-take-le}
+use Rattle.std.specs.Io.{StartsWith}
+use Rattle.std.proofs.KnownBytes.{Consumes-nil, Consumes-kept, Appends-nil}
+use Rattle.kd_desk.proofs.Fronts.{TypesFront-nil, TypesFront-take, IsFirstRefused-behind, flag_is_up}
+use Rattle.kd_desk.proofs.typing.step.type_into.Goals as goal
+
+pub returns-in_default-clause-typed : goal.returns-in_default-clause-typed
+returns-in_default-clause-typed g c = record {
+  read = [];
+  text = [];
+  within = omega arith;
+  given = Consumes-kept _ _ _ [] (Consumes-nil _) c.in_default.ensures.bytes.refused;
+  written = Appends-nil _;
+  types = (TypesFront-nil _, λ _. (refl, refl));
+  ended = search rules;
+}
+
+pub returns-in_default-put_all-clause-typed : goal.returns-in_default-put_all-clause-typed
+returns-in_default-put_all-clause-typed g c =
+    let got = c.in-Ok.ensures.bytes in
+    let failed = c.in_default-put_all.ensures.err in
+    let bytes = take c.in-Ok.count c.get.new.buffer in
+    let starts = subst (λ l. StartsWith l failed.front) c.deref.ensures.0 failed.starts in
+    record {
+      read = bytes;
+      text = failed.front;
+      within = search rules;
+      given = got.given;
+      written = failed.taken;
+      types = (
+        TypesFront-take c.args.enigma.now c.type_piece-lamps.new.enigma bytes c.type_piece-lamps.result.items failed.front c.allowed_front-front.result
+            c.allowed_front-front.ensures.within c.allowed_front-front.ensures.front c.type_piece-lamps.ensures starts,
+        λ quiet. flag_is_up _ _ c.in_default-put_all.ensures.failed quiet,
+      );
+      ended = search rules;
+    }
+
+pub returns-then-front-count-clause-typed : goal.returns-then-front-count-clause-typed
+returns-then-front-count-clause-typed g c =
+    let got = c.in-Ok.ensures.bytes in
+    let bytes = take c.in-Ok.count c.get.new.buffer in
+    let front = c.allowed_front-front.result in
+    let inside : front < length bytes = omega (arith, c.if-front-count.true, length-take-le c.in-Ok.count c.get.new.buffer got.within) in
+    record {
+      read = bytes;
+      text = c.deref.result.now;
+      within = search rules;
+      given = got.given;
+      written = c.in-Ok-put_all.ensures.ok;
+      types = (
+        IsFirstRefused-behind bytes front inside c.allowed_front-front.ensures.front (c.allowed_front-front.ensures.next inside),
+        c.deref.ensures.0 ∙ c.type_piece-lamps.ensures.cipher,
+      );
+      ended = search rules;
+    }

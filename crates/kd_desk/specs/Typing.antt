@@ -1,0 +1,105 @@
+-- What the desk types: the text that it reads, and what it writes.
+use Rattle.std.specs.Prelude.{◌≡◌, ℕ, ◌+◌, ◌-◌, ◌<◌, ◌≤◌, ◌==◌, Bool, true, false, ◌||◌, List, ◌++◌, length, take, map, filter, slice_index, All, IsTrue, IsFalse, [], ◌∷◌, Option, Result, Ok, Err, OnOk}
+use Rattle.std.specs.Io.{StartsWith}
+use Rattle.std.specs.Io.KnownBytes.{Appends, Consumes, IsAtEnd}
+use Rattle.kd_tables.specs.Tables.{letters_of}
+use Rattle.kd_enigma.specs.Cipher.{RotorKey, key_after, enigma_cipher}
+use Rattle.kd_desk.specs.Letters.{is_capital}
+use Rattle.kd_desk.specs.declared.typing.step.Step.{Step}
+use Rattle.kd_desk.specs.declared.typing.step.Step.TheVariants.{Ended, Typed, Refused}
+use Rattle.kd_desk.specs.declared.fault.DeskFault.{DeskFault}
+use Rattle.kd_desk.specs.declared.fault.DeskFault.TheVariants.{Device, BadByte, ReadTooLong}
+
+-- a space, a carriage return or a line feed
+abbrev pub is_separator : ℕ → Bool
+is_separator byte = byte == 32 || (byte == 13 || byte == 10)
+
+-- what may stand in a text that is typed: capital letters, and what separates them
+abbrev pub is_allowed : ℕ → Bool
+is_allowed byte = is_capital byte || is_separator byte
+
+abbrev pub AreAllowedBytes : List ℕ → Type 0
+AreAllowedBytes bytes = All (λ byte. IsTrue (is_allowed byte)) bytes
+
+-- the byte at the place, counted from 1, is the first that is not allowed
+pub record IsFirstRefused (bytes : List ℕ) (place : ℕ) : Type 0 where
+  pub within : (1 ≤ place) × (place ≤ length bytes)
+  pub before : AreAllowedBytes (take (place - 1) bytes)
+  pub here : IsFalse (is_allowed (slice_index bytes (place - 1)))
+
+-- the letters among the bytes
+abbrev pub typed_letters : List ℕ → List ℕ
+typed_letters bytes = letters_of (filter is_capital bytes)
+
+-- the cipher of the letters among the bytes, in capital letters
+abbrev pub cipher_text : RotorKey → List ℕ → List ℕ
+cipher_text key bytes = map (λ letter. letter + 65) (enigma_cipher key (typed_letters bytes))
+
+-- The keys of the letters among the bytes were pressed: their cipher is what lit up, and the machine stepped as often.
+pub record Lights (key left : RotorKey) (bytes lamps : List ℕ) : Type 0 where
+  pub cipher : lamps ≡ cipher_text key bytes
+  pub after : left ≡ key_after key (length (typed_letters bytes))
+
+-- how many bytes are read at most
+abbrev pub read_limit : ℕ
+read_limit = 1048576
+
+-- what was written is a front of the cipher of a front of what was read, which is allowed
+pub record TypesFront (key : RotorKey) (read text : List ℕ) : Type 0 where
+  pub front : List ℕ
+  pub of_read : StartsWith read front
+  pub allowed : AreAllowedBytes front
+  pub written : StartsWith (cipher_text key front) text
+
+-- A text that was read and a text that was written, by the answer: all was allowed, and the cipher was written with what
+-- ends it; or the first byte that is not allowed, or the limit, came after the letters whose cipher was written; or a
+-- device failed, after a front of the cipher where the sink did, and else after the whole.
+abbrev pub Types : RotorKey → List ℕ → List ℕ → List ℕ → Bool → Result (Unit {0}) DeskFault → Type 0
+Types key end read written sink_failed (Ok _) = (length read ≤ read_limit) × AreAllowedBytes read × (written ≡ cipher_text key read ++ end)
+Types key end read written sink_failed (Err (BadByte place)) = IsFirstRefused read place × (place ≤ read_limit) × (written ≡ cipher_text key (take (place - 1) read))
+Types key end read written sink_failed (Err ReadTooLong) =
+    (read_limit < length read) × AreAllowedBytes (take read_limit read) × (written ≡ cipher_text key (take read_limit read))
+Types key end read written sink_failed (Err Device) = TypesFront key read written × (IsFalse sink_failed → AreAllowedBytes read × (written ≡ cipher_text key read))
+Types key end read written sink_failed (Err _) = ⊥
+
+-- The same of the bytes that a source had and has yet to give, and that a sink had taken and has taken: a source that
+-- was read to its end has none left.
+pub record IsTyped (key : RotorKey) (end : List ℕ) (had has : Option (List ℕ)) (took taken : Option (List ℕ)) (sink_failed : Bool) (answer : Result (Unit {0}) DeskFault) : Type 0 where
+  pub read : List ℕ
+  pub text : List ℕ
+  pub given : Consumes had has read
+  pub written : Appends took taken text
+  pub types : Types key end read text sink_failed answer
+  pub ended : OnOk answer (IsAtEnd has)
+
+-- What a step of the typing did with the bytes that it read: there were none; all were allowed, and typed; those before
+-- the first that is not allowed were typed; or a device failed, and where it was the source, there were none.
+abbrev pub StepTypes : RotorKey → RotorKey → List ℕ → List ℕ → Bool → Result Step DeskFault → Type 0
+StepTypes key left bytes text sink_failed (Ok Ended) = (bytes ≡ []) × (text ≡ [])
+StepTypes key left bytes text sink_failed (Ok (Typed count)) = (count ≡ length bytes) × (0 < count) × AreAllowedBytes bytes × Lights key left bytes text
+StepTypes key left bytes text sink_failed (Ok (Refused front)) = IsFirstRefused bytes (front + 1) × (text ≡ cipher_text key (take front bytes))
+StepTypes key left bytes text sink_failed (Err Device) = TypesFront key bytes text × (IsFalse sink_failed → (bytes ≡ []) × (text ≡ []))
+StepTypes key left bytes text sink_failed (Err _) = ⊥
+
+-- The same of the bytes that a source had and has yet to give, and that a sink had taken and has taken: a source that
+-- gave none has none left.
+pub record StepTyped (key left : RotorKey) (room : ℕ) (had has : Option (List ℕ)) (took taken : Option (List ℕ)) (sink_failed : Bool) (answer : Result Step DeskFault) : Type 0 where
+  pub read : List ℕ
+  pub text : List ℕ
+  pub within : length read ≤ room
+  pub given : Consumes had has read
+  pub written : Appends took taken text
+  pub types : StepTypes key left read text sink_failed answer
+  pub ended : answer ≡ Ok Ended → IsAtEnd has
+
+-- Whether the end was met behind a text that is as long as may be read: nothing, or a byte, was given.
+abbrev pub Ends : Option (List ℕ) → Option (List ℕ) → Result (Unit {0}) DeskFault → Type 0
+Ends had has (Ok _) = Consumes had has [] × IsAtEnd has
+Ends had has (Err ReadTooLong) = (byte : ℕ) × Consumes had has (byte ∷ [])
+Ends had has (Err Device) = Consumes had has []
+Ends had has (Err _) = ⊥
+
+-- whether a call failed by a device
+abbrev pub is_device : Result (Unit {0}) DeskFault → Bool
+is_device (Err Device) = true
+is_device _ = false

@@ -1,0 +1,66 @@
+use super::{Command, parse_words};
+use crate::fault::DeskFault;
+use crate::stop::Stop;
+use std::test::Fail;
+
+#[test]
+fn finds_the_machine_file(rt: HostRuntime) -> Result<(), Fail> {
+    for (words, machine) in [
+        (["desk", "type", "m.toml"].as_slice(), "m.toml"),
+        (["desk", "type", "-"].as_slice(), "-"),
+        (["desk", "type", ""].as_slice(), ""),
+        (["desk", "type", "--", "m.toml"].as_slice(), "m.toml"),
+        (["desk", "type", "--", "-m.toml"].as_slice(), "-m.toml"),
+        (["desk", "type", "--", "--"].as_slice(), "--"),
+        (["desk", "type", "type"].as_slice(), "type"),
+    ] {
+        assert_eq!(rt;
+            parse_words(rt.alloc(), words),
+            Ok(Command::Type { machine })
+        );
+    }
+    Ok(())
+}
+
+#[test]
+fn refuses_other_words(rt: HostRuntime) -> Result<(), Fail> {
+    for words in [
+        ["desk"].as_slice(),
+        ["desk", ""].as_slice(),
+        ["desk", "type"].as_slice(),
+        ["desk", "type", "--"].as_slice(),
+        ["desk", "type", "m.toml", "more"].as_slice(),
+        ["desk", "type", "-m.toml"].as_slice(),
+        ["desk", "type", "-5"].as_slice(),
+        ["desk", "type", "--m.toml"].as_slice(),
+        ["desk", "type", "--help"].as_slice(),
+        ["desk", "type", "-h"].as_slice(),
+        ["desk", "--", "type", "m.toml"].as_slice(),
+        ["desk", "--help"].as_slice(),
+        ["desk", "-V"].as_slice(),
+        ["desk", "help"].as_slice(),
+        ["desk", "Type", "m.toml"].as_slice(),
+        ["desk", "typ", "m.toml"].as_slice(),
+        ["desk", "card", "m.toml", "s.toml", "1"].as_slice(),
+    ] {
+        assert_eq!(rt; parse_words(rt.alloc(), words), Err(Stop::Usage));
+    }
+    Ok(())
+}
+
+#[test]
+fn says_why_it_stops(rt: HostRuntime) -> Result<(), Fail> {
+    for (stop, status, text) in [
+        (Stop::Usage, 2, "usage: desk COMMAND WORDS"),
+        (
+            Stop::Refused(DeskFault::BadByte(3)),
+            1,
+            "refused 28 BadByte 3",
+        ),
+    ] {
+        assert_eq!(rt; stop.status(), status);
+        let said = format!(in rt.alloc(); "{stop}")?;
+        assert_eq!(rt; said.as_str(), text);
+    }
+    Ok(())
+}

@@ -1,0 +1,30 @@
+use crate::sheet::SheetFault;
+use std::alloc::AllocError;
+use thiserror::Error;
+
+/// Why the desk refuses: the first fault of a call's steps. The printed text is the refusal's number and name, with the
+/// place that it speaks of.
+#[derive(Clone, Copy, Debug, PartialEq, Eq, Error)]
+pub enum DeskFault {
+    /// A machine file's fault.
+    #[error(transparent)]
+    File(SheetFault),
+    /// A slot of the machine is empty.
+    #[error("4 NotReady")]
+    NotReady,
+    /// A read or a write failed.
+    #[error("6 Device")]
+    Device,
+    /// A byte that may not stand in a text. Bytes are counted from 1.
+    #[error("28 BadByte {0}")]
+    BadByte(usize),
+    /// More bytes follow than are read.
+    #[error("38 ReadTooLong")]
+    ReadTooLong,
+}
+
+impl From<AllocError> for DeskFault {
+    fn from(_: AllocError) -> DeskFault {
+        DeskFault::File(SheetFault::NoMemory)
+    }
+}

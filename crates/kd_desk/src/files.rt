@@ -1,0 +1,42 @@
+ghost use Rattle.std.specs.Prelude.{◌≡◌, ◌≤◌, IfOk, IfSome, OnOk};
+ghost use Rattle.kd_desk.specs.Typing.{read_limit};
+
+use crate::fault::DeskFault;
+use crate::sheet::SheetFault;
+use std::alloc::Global;
+use std::fs::File;
+use std::io::{self, Read};
+
+/// How many bytes of a file are read at most.
+pub const FILE_LIMIT: u64 = 1_048_576;
+
+/// The bytes of the file of this name. One that can't be opened or read is `Device`, and a longer one than 1,048,576
+/// bytes `ReadTooLong`.
+pub fn read_named(rt: &HostRuntime, name: &str) -> Result<Vec<u8>, DeskFault> {
+    let file = File::open(rt, name).map_err(|error| fault(&error))?;
+    read_whole(rt.alloc(), file)
+}
+
+/// All the bytes of a reader.
+fn read_whole<R: Read + Drop>(alloc: Global, reader: R) -> Result<Vec<u8>, DeskFault>
+    ensures limit { IfOk result (λ bytes. bytes.len ≤ read_limit) }
+    ensures whole { IfOk result (λ bytes. IfSome (R.remaining reader) (λ all. bytes.items ≡ all)) }
+{
+    let mut bytes = Vec::new(alloc);
+    let mut front = reader.take(FILE_LIMIT + 1);
+    if let Err(error) = front.read_to_end(&mut bytes) {
+        return Err(fault(&error));
+    }
+    if bytes.len() as u64 > FILE_LIMIT {
+        return Err(DeskFault::ReadTooLong);
+    }
+    Ok(bytes)
+}
+
+/// Why a file can't be read.
+fn fault(error: &io::Error) -> DeskFault {
+    match error.kind() {
+        io::ErrorKind::OutOfMemory => DeskFault::File(SheetFault::NoMemory),
+        _ => DeskFault::Device,
+    }
+}
