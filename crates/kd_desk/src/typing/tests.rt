@@ -1,3 +1,5 @@
+ghost use Rattle.std.specs.Prelude.{false};
+
 use super::run_type;
 use crate::fault::DeskFault;
 use crate::sheet::SheetFault;
