@@ -11,7 +11,7 @@ use Rattle.kd_desk.specs.Machine.{StandsAt, AreAllowed, AreApart}
 use Rattle.kd_desk.specs.Seats.{seat_for, seats_behind}
 
 -- what stands at a place stands among the first slots, or is the last
-push_cases : {A : Type 0} (xs : List A) (y : A) (place : ℕ) (x : A) → slice_get (xs ++ y ∷ []) place ≡ Some x → (slice_get xs place ≡ Some x) ⊎ ((place ≡ length xs) × (y ≡ x))
+pub push_cases : {A : Type 0} (xs : List A) (y : A) (place : ℕ) (x : A) → slice_get (xs ++ y ∷ []) place ≡ Some x → (slice_get xs place ≡ Some x) ⊎ ((place ≡ length xs) × (y ≡ x))
 push_cases [] y zero x h = inr (refl, same_Some _ _ h)
 push_cases [] y (suc place) x h = absurd (none-some _ h)
 push_cases (z ∷ xs) y zero x h = inl h

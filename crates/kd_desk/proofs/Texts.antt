@@ -1,6 +1,6 @@
 -- What was read and typed so far, and what a step makes of it.
 use Rattle.std.proofs.Common.{◌≡◌, ℕ, ◌+◌, ◌-◌, ◌≤◌, Bool, List, [], ◌∷◌, ◌++◌, Option, Result, Ok, Err, length, take, slice_index, IsTrue, IsFalse, refl, sym, ap, subst, ◌∙◌, append_assoc, append-nil, arith}
-use Rattle.std.proofs.lemmas.List.{length-append, get_or-append-add, nil_from_length}
+use Rattle.std.proofs.lemmas.List.{length-append, get_or-append-add}
 use Rattle.std.proofs.lemmas.List.Elements.{All-append}
 use Rattle.std.proofs.Math.Seq.{take-append-add, take-append_seam}
 use Rattle.std.proofs.KnownBytes.{Consumes-trans, Appends-trans, Consumes-nil, Appends-nil, starts_with_rest}
@@ -11,8 +11,8 @@ use Rattle.kd_enigma.specs.Cipher.{RotorKey}
 use Rattle.kd_desk.specs.declared.typing.step.Step.{Step}
 use Rattle.kd_desk.specs.declared.typing.step.Step.TheVariants.{Typed, Refused}
 use Rattle.kd_desk.specs.declared.fault.DeskFault.{DeskFault}
-use Rattle.kd_desk.specs.declared.fault.DeskFault.TheVariants.{File, NotReady, Device, BadByte, ReadTooLong}
-use Rattle.kd_desk.specs.Writing.{AppendsFront}
+use Rattle.kd_desk.specs.declared.fault.DeskFault.TheVariants.{File, NotReady, OtherModel, Device, BadByte, ReadTooLong, NoSuchDay}
+use Rattle.kd_desk.specs.Writing.{TakesFront}
 use Rattle.kd_desk.specs.Typing.{is_allowed, AreAllowedBytes, IsFirstRefused, cipher_text, read_limit, Lights, TypesFront, IsTyped, StepTyped, Ends}
 use Rattle.kd_desk.proofs.Lamps.{CipherInTurn, KeyInTurn, Lights-then}
 
@@ -121,6 +121,8 @@ module _ (cipher_in_turn : CipherInTurn) (key_in_turn : KeyInTurn) where
   }
   IsTyped-failed key now left had has next took taken wrote count room flag (File fault) before step = absurd step.types
   IsTyped-failed key now left had has next took taken wrote count room flag NotReady before step = absurd step.types
+  IsTyped-failed key now left had has next took taken wrote count room flag OtherModel before step = absurd step.types
+  IsTyped-failed key now left had has next took taken wrote count room flag NoSuchDay before step = absurd step.types
   IsTyped-failed key now left had has next took taken wrote count room flag (BadByte place) before step = absurd step.types
   IsTyped-failed key now left had has next took taken wrote count room flag ReadTooLong before step = absurd step.types
 
@@ -168,6 +170,8 @@ IsTyped-probed key now had has next took taken count flag (Err Device) before fu
 }
 IsTyped-probed key now had has next took taken count flag (Err (File fault)) before full ends = absurd ends
 IsTyped-probed key now had has next took taken count flag (Err NotReady) before full ends = absurd ends
+IsTyped-probed key now had has next took taken count flag (Err OtherModel) before full ends = absurd ends
+IsTyped-probed key now had has next took taken count flag (Err NoSuchDay) before full ends = absurd ends
 IsTyped-probed key now had has next took taken count flag (Err (BadByte place)) before full ends = absurd ends
 
 -- the same step by another name
@@ -177,21 +181,23 @@ step_is now left has next taken wrote room flag step other e typed = subst (λ s
 
 -- what ends a text failed to be written
 pub IsTyped-end_failed : (key : RotorKey) (end : ℕ) (had has took taken wrote : Option (List ℕ)) (flag after : Bool)
-    → IsTyped key [] had has took taken flag (Ok tt) → AppendsFront taken wrote (end ∷ []) → IsTyped key (end ∷ []) had has took wrote after (Err Device)
+    → IsTyped key [] had has took taken flag (Ok tt) → TakesFront taken wrote (end ∷ []) → IsTyped key (end ∷ []) had has took wrote after (Err Device)
 IsTyped-end_failed key end had has took taken wrote flag after typed failed =
-    let none : failed.front ≡ [] = nil_from_length failed.front (omega (arith, failed.short)) in
-    let whole : typed.text ++ failed.front ≡ cipher_text key typed.read = ap (λ l. typed.text ++ l) none ∙ append-nil typed.text ∙ typed.types.2 ∙ append-nil (cipher_text key typed.read) in
+    let front = take failed.0 (end ∷ []) in
+    let zero : failed.0 ≡ 0 = omega (arith, failed.1) in
+    let none : front ≡ [] = ap (λ k. take k (end ∷ [])) zero in
+    let whole : typed.text ++ front ≡ cipher_text key typed.read = ap (λ l. typed.text ++ l) none ∙ append-nil typed.text ∙ typed.types.2 ∙ append-nil (cipher_text key typed.read) in
     record {
       read = typed.read;
-      text = typed.text ++ failed.front;
+      text = typed.text ++ front;
       given = typed.given;
-      written = Appends-trans took taken wrote typed.text failed.front typed.written failed.taken;
+      written = Appends-trans took taken wrote typed.text front typed.written failed.2;
       types = (
         record {
           front = typed.read;
           of_read = starts_with_of_append typed.read typed.read [] (sym (append-nil typed.read));
           allowed = typed.types.1;
-          written = starts_with_of_append (cipher_text key typed.read) (typed.text ++ failed.front) [] (sym whole ∙ sym (append-nil (typed.text ++ failed.front)));
+          written = starts_with_of_append (cipher_text key typed.read) (typed.text ++ front) [] (sym whole ∙ sym (append-nil (typed.text ++ front)));
         },
         λ quiet. (typed.types.1, whole),
       );

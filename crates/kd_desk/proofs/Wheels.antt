@@ -15,7 +15,7 @@ use Rattle.kd_desk.proofs.Namings.{wheel_by_name-text}
 use Rattle.kd_desk.specs.Seats.{is_same_wheel, is_allowed, is_seated}
 
 -- wheels of one name are one wheel
-is_same_wheel-Decides : (wheel other : Wheel) → Decides (is_same_wheel wheel other) (wheel ≡ other)
+pub is_same_wheel-Decides : (wheel other : Wheel) → Decides (is_same_wheel wheel other) (wheel ≡ other)
 unfolding is_same_wheel
 is_same_wheel-Decides wheel other =
     Decides-like _

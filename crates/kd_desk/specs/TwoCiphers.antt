@@ -1,10 +1,11 @@
--- The key that the machine as it stands is set to.
-use Rattle.std.specs.Prelude.{List, [], map, filter_map, All, IsSome}
+-- The cipher of the machine as it stands, and the cipher that a day of the sheet asks for.
+use Rattle.std.specs.Prelude.{ℕ, List, [], map, filter_map, All, IsSome}
 use Rattle.kd_tables.specs.declared.wheel.Wheel.{Wheel}
 use Rattle.kd_tables.specs.Permutation.{exchange}
-use Rattle.kd_enigma.specs.Cipher.{RotorKey}
+use Rattle.kd_enigma.specs.Cipher.{RotorKey, enigma_cipher}
 use Rattle.kd_desk.specs.Machine.{RotorParts}
 use Rattle.kd_desk.specs.Box.{ring_of, letter_of}
+use Rattle.kd_desk.specs.SheetDay.{RotorDay}
 
 -- no slot is empty
 abbrev pub IsReady : RotorParts → Type 0
@@ -23,3 +24,20 @@ physical_key m = record {
   reflector = m.reflector;
   plugs = exchange [];
 }
+
+-- the key that the sheet asks for
+abbrev pub sheet_key : RotorDay → RotorKey
+sheet_key s = record {
+  wheels = s.wheels;
+  rings = s.rings;
+  window = s.window;
+  reflector = s.reflector;
+  plugs = exchange [];
+}
+
+-- what a ready machine makes of a text, and what the sheet's own machine does
+abbrev pub physical_cipher : RotorParts → List ℕ → List ℕ
+physical_cipher m = enigma_cipher (physical_key m)
+
+abbrev pub sheet_cipher : RotorDay → List ℕ → List ℕ
+sheet_cipher s = enigma_cipher (sheet_key s)

@@ -1,11 +1,12 @@
--- What a sink has taken where it failed.
-use Rattle.std.specs.Prelude.{ℕ, ◌<◌, List, Option, length}
-use Rattle.std.specs.Io.{StartsWith}
+-- What is taken of a text that is written to a sink.
+use Rattle.std.specs.Prelude.{ℕ, ◌<◌, List, length, take, Option, Result, OnOk, OnErr}
 use Rattle.std.specs.Io.KnownBytes.{Appends}
 
--- the known bytes grew by a front of these bytes, but not by all
-pub record AppendsFront (old new : Option (List ℕ)) (bytes : List ℕ) : Type 0 where
-  pub front : List ℕ
-  pub starts : StartsWith bytes front
-  pub short : length front < length bytes
-  pub taken : Appends old new front
+-- less than the whole text was taken, from its front
+abbrev pub TakesFront : Option (List ℕ) → Option (List ℕ) → List ℕ → Type 0
+TakesFront old new text = (count : ℕ) × (count < length text) × Appends old new (take count text)
+
+-- the whole text was taken, or a front of it where the answer is an error
+pub record Writes {T E : Type 0} (old new : Option (List ℕ)) (text : List ℕ) (answer : Result T E) : Type 0 where
+  pub whole : OnOk answer (Appends old new text)
+  pub front : OnErr answer (TakesFront old new text)

@@ -12,6 +12,9 @@ pub enum DeskFault {
     /// A slot of the machine is empty.
     #[error("4 NotReady")]
     NotReady,
+    /// The machine and the sheet's day are of different models.
+    #[error("5 OtherModel")]
+    OtherModel,
     /// A read or a write failed.
     #[error("6 Device")]
     Device,
@@ -21,6 +24,9 @@ pub enum DeskFault {
     /// More bytes follow than are read.
     #[error("38 ReadTooLong")]
     ReadTooLong,
+    /// The sheet has no day of this number.
+    #[error("39 NoSuchDay")]
+    NoSuchDay,
 }
 
 impl From<AllocError> for DeskFault {

@@ -1,18 +1,28 @@
-//! The key desk: types texts on the rotor machine that a machine file describes.
+//! The key desk: types texts on the rotor machine that a machine file describes, and prints the shortest card that leads
+//! it to a day of a key sheet.
 #![tactic(auto)]
 
+mod card;
 mod command;
 mod fault;
 mod files;
+mod laws;
+mod plan;
 mod ports;
+mod run_card;
 mod sheet;
 mod state;
 mod stop;
+#[cfg(test)]
+mod tests;
+mod text;
 mod typing;
+mod writing;
 
 use command::{Command, parse_words};
 use files::read_named;
 use ports::{ReaderSource, WriterSink};
+use run_card::run_card;
 use std::process::ExitCode;
 use stop::Stop;
 use typing::run_type;
@@ -34,6 +44,23 @@ fn desk(rt: &HostRuntime) -> Result<(), Stop> {
             let mut source = ReaderSource::new(rt.stdin());
             let mut sink = WriterSink::new(rt.stdout());
             run_type(rt.alloc(), machine.as_slice(), &mut source, &mut sink)?;
+            Ok(())
+        }
+        Command::Card {
+            machine,
+            sheet,
+            day,
+        } => {
+            let machine = read_named(rt, machine)?;
+            let sheet = read_named(rt, sheet)?;
+            let mut sink = WriterSink::new(rt.stdout());
+            run_card(
+                rt.alloc(),
+                machine.as_slice(),
+                sheet.as_slice(),
+                day,
+                &mut sink,
+            )?;
             Ok(())
         }
     }

@@ -23,6 +23,9 @@ pub enum SheetFault {
     /// A wheel stands in a slot where the model does not take it.
     #[error("23 WheelNotAllowed")]
     WheelNotAllowed,
+    /// A day of a sheet has the number of an earlier one.
+    #[error("25 DayTwice {0}")]
+    DayTwice(u8),
     /// Memory ran out as the file was read.
     #[error("26 NoMemory")]
     NoMemory,

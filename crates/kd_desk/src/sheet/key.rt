@@ -12,6 +12,11 @@ pub enum Key {
     Rings,
     Letters,
     Cables,
+    Day,
+    Wheels,
+    Window,
+    Plugs,
+    Groups,
 }
 
 impl Key {
@@ -29,6 +34,11 @@ impl Key {
             Key::Rings => "rings",
             Key::Letters => "letters",
             Key::Cables => "cables",
+            Key::Day => "day",
+            Key::Wheels => "wheels",
+            Key::Window => "window",
+            Key::Plugs => "plugs",
+            Key::Groups => "groups",
         }
     }
 }

@@ -34,7 +34,7 @@ fn check_version(table: &Table) -> Result<(), SheetFault>
 
 /// The model whose name stands in the file.
 #[tactic(auto, unfolding(crate::specs::MachineFile::model_in))]
-fn model_in(table: &Table) -> Result<Model, SheetFault>
+pub fn model_in(table: &Table) -> Result<Model, SheetFault>
     ensures { result ≡ model_in (table_view table.now) }
 {
     model_by_name(text_at(table, Key::Model)?).ok_or(SheetFault::UnknownModel)
@@ -42,7 +42,7 @@ fn model_in(table: &Table) -> Result<Model, SheetFault>
 
 /// The model's reflector whose name stands in the file.
 #[tactic(auto, unfolding(crate::specs::MachineFile::reflector_in))]
-fn reflector_in(table: &Table, model: Model) -> Result<Reflector, SheetFault>
+pub fn reflector_in(table: &Table, model: Model) -> Result<Reflector, SheetFault>
     ensures value { result ≡ reflector_in model (table_view table.now) }
     ensures of_model { IfOk result (Contains (reflectors_of model)) }
 {

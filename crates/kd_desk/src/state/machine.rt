@@ -66,11 +66,13 @@ impl Machine {
     ghost use Rattle.std.specs.Prelude.{◌≡◌, ◌↔◌, All, Contains, IsSome, IfSome};
     ghost use Rattle.kd_tables.specs.Tables.{box_of};
     ghost use Rattle.kd_desk.specs.Box.{ring_of, letter_of};
+    ghost use Rattle.kd_desk.specs.Machine.{IsLegal};
     ghost use Rattle.kd_desk.specs.TwoCiphers.{IsReady, seated_wheels};
 
     /// The model.
     pub fn model(&self) -> Model
-        ensures { result ≡ self.now.model }
+        ensures value { result ≡ self.now.model }
+        ensures legal { IsLegal self.now }
     {
         self.model
     }
@@ -100,7 +102,6 @@ impl Machine {
     }
 
     /// The ring of a wheel of the box, seated or not.
-    #[tactic(auto, unfolding(crate::specs::Seats::is_same_wheel))]
     pub fn ring(&self, wheel: Wheel) -> Option<Letter>
         ensures { SomeIff result (Contains (box_of self.now.model) wheel) (ring_of self.now wheel) }
     {
@@ -109,7 +110,6 @@ impl Machine {
     }
 
     /// The window letter of a wheel of the box, seated or not.
-    #[tactic(auto, unfolding(crate::specs::Seats::is_same_wheel))]
     pub fn letter(&self, wheel: Wheel) -> Option<Letter>
         ensures { SomeIff result (Contains (box_of self.now.model) wheel) (letter_of self.now wheel) }
     {

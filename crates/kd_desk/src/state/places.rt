@@ -6,7 +6,6 @@ ghost use Rattle.kd_desk.specs.Box.{place_in_box};
 use kd_tables::{Model, Wheel};
 
 /// The place of a wheel in the model's box, counted from 0.
-#[tactic(auto, unfolding(crate::specs::Seats::is_same_wheel))]
 pub fn place_in_box(model: Model, wheel: Wheel) -> Option<usize>
     ensures { SomeIff result (Contains (box_of model) wheel) (place_in_box model wheel) }
 {

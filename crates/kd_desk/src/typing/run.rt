@@ -3,7 +3,7 @@ ghost use Rattle.kd_desk.specs.declared.fault.DeskFault.TheVariants.{File, NotRe
 ghost use Rattle.kd_desk.specs.MachineFile.{machine_of};
 ghost use Rattle.kd_desk.specs.TwoCiphers.{IsReady, physical_key};
 ghost use Rattle.kd_desk.specs.Typing.{IsTyped, is_device};
-ghost use Rattle.kd_desk.specs.RunType.{RanOut, AnswersFault, is_refused_before};
+ghost use Rattle.kd_desk.specs.RunSteps.{RanOut, AnswersFault, is_refused_before};
 
 use super::text::type_text;
 use crate::fault::DeskFault;

@@ -1,4 +1,4 @@
-use Rattle.std.proofs.Common.{rules, ◌<◌, length, take, refl, subst, ◌∙◌, [], arith, length-take-le}
+use Rattle.std.proofs.Common.{rules, ap, ◌<◌, length, take, refl, subst, ◌∙◌, [], arith, length-take-le}
 use Rattle.std.specs.Io.{StartsWith}
 use Rattle.std.proofs.KnownBytes.{Consumes-nil, Consumes-kept, Appends-nil}
 use Rattle.kd_desk.proofs.Fronts.{TypesFront-nil, TypesFront-take, IsFirstRefused-behind, flag_is_up}
@@ -18,17 +18,18 @@ returns-in_default-clause-typed g c = record {
 pub returns-in_default-put_all-clause-typed : goal.returns-in_default-put_all-clause-typed
 returns-in_default-put_all-clause-typed g c =
     let got = c.in-Ok.ensures.bytes in
-    let failed = c.in_default-put_all.ensures.err in
+    let failed = c.in_default-put_all.ensures.text.front in
     let bytes = take c.in-Ok.count c.get.new.buffer in
-    let starts = subst (λ l. StartsWith l failed.front) c.deref.ensures.0 failed.starts in
+    let front = take failed.0 c.deref.result.now in
+    let starts = subst (λ l. StartsWith l front) c.deref.ensures.0 (ap (λ k. take k c.deref.result.now) (length-take-le failed.0 c.deref.result.now (omega (arith, failed.1)))) in
     record {
       read = bytes;
-      text = failed.front;
+      text = front;
       within = search rules;
       given = got.given;
-      written = failed.taken;
+      written = failed.2;
       types = (
-        TypesFront-take c.args.enigma.now c.type_piece-lamps.new.enigma bytes c.type_piece-lamps.result.items failed.front c.allowed_front-front.result
+        TypesFront-take c.args.enigma.now c.type_piece-lamps.new.enigma bytes c.type_piece-lamps.result.items front c.allowed_front-front.result
             c.allowed_front-front.ensures.within c.allowed_front-front.ensures.front c.type_piece-lamps.ensures starts,
         λ quiet. flag_is_up _ _ c.in_default-put_all.ensures.failed quiet,
       );
@@ -46,7 +47,7 @@ returns-then-front-count-clause-typed g c =
       text = c.deref.result.now;
       within = search rules;
       given = got.given;
-      written = c.in-Ok-put_all.ensures.ok;
+      written = c.in-Ok-put_all.ensures.text.whole;
       types = (
         IsFirstRefused-behind bytes front inside c.allowed_front-front.ensures.front (c.allowed_front-front.ensures.next inside),
         c.deref.ensures.0 ∙ c.type_piece-lamps.ensures.cipher,

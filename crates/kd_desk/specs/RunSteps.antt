@@ -1,10 +1,10 @@
--- What the desk answers to a machine file and a text.
+-- What the desk answers to a machine file, and to what comes with it.
 use Rattle.std.specs.Prelude.{◌≡◌, ◌⊎◌, Bool, true, false, Result, Err}
 use Rattle.kd_desk.specs.declared.sheet.fault.SheetFault.TheVariants.{NoMemory}
 use Rattle.kd_desk.specs.declared.fault.DeskFault.{DeskFault}
-use Rattle.kd_desk.specs.declared.fault.DeskFault.TheVariants.{File, NotReady}
+use Rattle.kd_desk.specs.declared.fault.DeskFault.TheVariants.{File, NotReady, OtherModel, NoSuchDay}
 
--- the call ran out of memory while it read the machine file
+-- the call ran out of memory while it read a file
 abbrev pub RanOut : Result (Unit {0}) DeskFault → Type 0
 RanOut answer = answer ≡ Err (File NoMemory)
 
@@ -12,8 +12,10 @@ RanOut answer = answer ≡ Err (File NoMemory)
 abbrev pub AnswersFault : Result (Unit {0}) DeskFault → DeskFault → Type 0
 AnswersFault answer fault = (answer ≡ Err fault) ⊎ RanOut answer
 
--- whether a call was refused before it read a text
+-- whether a call was refused before it read a text or wrote a card
 abbrev pub is_refused_before : Result (Unit {0}) DeskFault → Bool
 is_refused_before (Err (File _)) = true
 is_refused_before (Err NotReady) = true
+is_refused_before (Err OtherModel) = true
+is_refused_before (Err NoSuchDay) = true
 is_refused_before _ = false

@@ -1,0 +1,108 @@
+-- Wheels and reflectors by their names, and the places of wheels in the box.
+use Rattle.std.proofs.Common.{◌≡◌, ◌≢◌, ℕ, ◌<◌, Bool, true, false, List, length, get_or, cond, Contains, Decides, refl, sym, ap, ◌∙◌}
+use Rattle.std.specs.Prelude.{codes}
+use Rattle.std.specs.Cmp.{on_equiv, IsEquivalence}
+use Rattle.std.specs.Cmp.Lexicographic.{nat_list_eq_equiv}
+use Rattle.std.specs.List.{list_any}
+use Rattle.std.specs.Str.{bytes_eq}
+use Rattle.std.proofs.lemmas.Bool.{false_from_ne_true}
+use Rattle.std.proofs.lemmas.List.Sums.{passes_at_first}
+use Rattle.std.proofs.lemmas.Map.Views.{list_any-from_Contains}
+use Rattle.std.proofs.lemmas.Slice.Eq.{bytes_eq-Decides}
+use denote.Enum.Bare.{sameb, same_true, same_false}
+use Rattle.kd_tables.specs.contracts.wheel.Wheel.{the_type}
+use Rattle.kd_tables.specs.declared.model.Model.{Model}
+use Rattle.kd_tables.specs.declared.wheel.Wheel.{Wheel}
+use Rattle.kd_tables.specs.declared.wheel.Wheel.TheVariants.{I, II, III, IV, V, VI, VII, VIII, Beta, Gamma}
+use Rattle.kd_tables.specs.declared.reflector.Reflector.{Reflector}
+use Rattle.kd_tables.specs.declared.reflector.Reflector.TheVariants as reflectors
+use Rattle.kd_tables.specs.Tables.{box_of, reflectors_of, wheel_text, reflector_text}
+use Rattle.kd_desk.specs.Box.{same_wheel, same_reflector, place_in_box}
+use Rattle.kd_desk.specs.Setting.{is_in_box}
+use Rattle.kd_desk.proofs.Lists.{first_within}
+
+-- the wheel of a name
+wheel_named : List ℕ → Wheel
+wheel_named text =
+    cond (bytes_eq text (codes "I")) I (cond (bytes_eq text (codes "II")) II (cond (bytes_eq text (codes "III")) III
+    (cond (bytes_eq text (codes "IV")) IV (cond (bytes_eq text (codes "V")) V (cond (bytes_eq text (codes "VI")) VI
+    (cond (bytes_eq text (codes "VII")) VII (cond (bytes_eq text (codes "VIII")) VIII (cond (bytes_eq text (codes "Beta")) Beta Gamma))))))))
+
+wheel_named-text : (wheel : Wheel) → wheel_named (wheel_text wheel) ≡ wheel
+unfolding wheel_named
+wheel_named-text I = refl
+wheel_named-text II = refl
+wheel_named-text III = refl
+wheel_named-text IV = refl
+wheel_named-text V = refl
+wheel_named-text VI = refl
+wheel_named-text VII = refl
+wheel_named-text VIII = refl
+wheel_named-text Beta = refl
+wheel_named-text Gamma = refl
+
+-- no two wheels have one name
+pub wheel_of_name : (wheel other : Wheel) → wheel_text wheel ≡ wheel_text other → wheel ≡ other
+wheel_of_name wheel other e = sym (wheel_named-text wheel) ∙ ap wheel_named e ∙ wheel_named-text other
+
+-- the reflector of a name
+reflector_named : List ℕ → Reflector
+reflector_named text =
+    cond (bytes_eq text (codes "A")) reflectors.A (cond (bytes_eq text (codes "B")) reflectors.B (cond (bytes_eq text (codes "C")) reflectors.C
+    (cond (bytes_eq text (codes "b")) reflectors.ThinB reflectors.ThinC)))
+
+reflector_named-text : (reflector : Reflector) → reflector_named (reflector_text reflector) ≡ reflector
+unfolding reflector_named
+reflector_named-text reflectors.A = refl
+reflector_named-text reflectors.B = refl
+reflector_named-text reflectors.C = refl
+reflector_named-text reflectors.ThinB = refl
+reflector_named-text reflectors.ThinC = refl
+
+-- no two reflectors have one name
+pub reflector_of_name : (reflector other : Reflector) → reflector_text reflector ≡ reflector_text other → reflector ≡ other
+reflector_of_name reflector other e = sym (reflector_named-text reflector) ∙ ap reflector_named e ∙ reflector_named-text other
+
+-- the test of two wheels, and of two reflectors
+pub same_wheel-Decides : (wheel other : Wheel) → Decides (same_wheel wheel other) (wheel ≡ other)
+same_wheel-Decides wheel other =
+    let names = bytes_eq-Decides (wheel_text wheel) (wheel_text other) in
+    (λ e. wheel_of_name wheel other (names.0 e), λ e. names.1 (ap wheel_text e))
+
+pub same_reflector-Decides : (reflector other : Reflector) → Decides (same_reflector reflector other) (reflector ≡ other)
+same_reflector-Decides reflector other =
+    let names = bytes_eq-Decides (reflector_text reflector) (reflector_text other) in
+    (λ e. reflector_of_name reflector other (names.0 e), λ e. names.1 (ap reflector_text e))
+
+pub same_wheel_self : (wheel : Wheel) → same_wheel wheel wheel ≡ true
+same_wheel_self wheel = (same_wheel-Decides wheel wheel).1 refl
+
+pub same_wheel_differs : (wheel other : Wheel) → wheel ≢ other → same_wheel wheel other ≡ false
+same_wheel_differs wheel other h = false_from_ne_true (same_wheel wheel other) (λ e. h ((same_wheel-Decides wheel other).0 e))
+
+pub same_wheel_equiv : IsEquivalence same_wheel
+same_wheel_equiv = on_equiv wheel_text nat_list_eq_equiv
+
+pub reflector_test : (model : Model) (reflector : Reflector) → Contains (reflectors_of model) reflector → list_any (same_reflector reflector) (reflectors_of model) ≡ true
+reflector_test model reflector h =
+    let equiv : IsEquivalence same_reflector = on_equiv reflector_text nat_list_eq_equiv in
+    list_any-from_Contains equiv reflector (reflectors_of model) h
+
+-- a wheel of the box has a place in it, and no other wheel has that place
+pub in_box_test : (model : Model) (wheel : Wheel) → Contains (box_of model) wheel → is_in_box model wheel ≡ true
+in_box_test model wheel h = list_any-from_Contains same_wheel_equiv wheel (box_of model) h
+
+pub place_within : (model : Model) (wheel : Wheel) → is_in_box model wheel ≡ true → place_in_box model wheel < length (box_of model)
+place_within model wheel h = first_within (same_wheel wheel) (box_of model) h
+
+pub wheel_of_place : (model : Model) (wheel other : Wheel) → is_in_box model wheel ≡ true → is_in_box model other ≡ true
+    → place_in_box model wheel ≡ place_in_box model other → wheel ≡ other
+wheel_of_place model wheel other h k e =
+    let here = (same_wheel-Decides wheel (get_or (box_of model) (place_in_box model wheel) I)).0 (passes_at_first (same_wheel wheel) (box_of model) I (place_within model wheel h)) in
+    let there = (same_wheel-Decides other (get_or (box_of model) (place_in_box model other) I)).0 (passes_at_first (same_wheel other) (box_of model) I (place_within model other k)) in
+    here ∙ ap (λ place. get_or (box_of model) place I) e ∙ sym there
+
+-- what `==` of the program says of two wheels
+pub same_wheel_tested : (wheel other : Wheel) (b : Bool) → b ≡ sameb the_type wheel other → same_wheel other wheel ≡ b
+same_wheel_tested wheel other true e = (same_wheel-Decides other wheel).1 (sym (same_true the_type tt wheel other (sym e)))
+same_wheel_tested wheel other false e = same_wheel_differs other wheel (λ same. same_false the_type wheel other (sym e) (sym same))

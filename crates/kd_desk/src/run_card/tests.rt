@@ -1,0 +1,143 @@
+use super::run_card;
+use crate::fault::DeskFault;
+use crate::sheet::SheetFault;
+use kd_tables::{MemorySink, Sink};
+use std::test::Fail;
+
+const MACHINE: &str = "version = 1
+model = \"Enigma I\"
+reflector = \"B\"
+slots = [\"I\", \"II\", \"III\"]
+rings = \"AAAAA\"
+letters = \"AAAAA\"
+";
+
+const SHEET: &str = "[[day]]
+day = 11
+model = \"Enigma I\"
+reflector = \"B\"
+wheels = [\"I\", \"II\", \"III\"]
+rings = \"AAA\"
+window = \"AAA\"
+plugs = []
+";
+
+/// What stands in every card below behind its number of settings.
+const PRICES: &str = "CABLES 0 0 0 0 0 0 0 0 0 0 0 0 0\nPAIRS 0 0 0 0 0 0 0 0 0 0 0 0 0\nSUM 0\n";
+
+#[test]
+fn prints_the_shortest_card(rt: HostRuntime) -> Result<(), Fail> {
+    for (old, new, lines) in [
+        ("\"B\"", "\"B\"", "CARD 1 DAY 11\nSETTINGS 0\n"),
+        (
+            "rings = \"AAAAA\"\nletters = \"AAAAA\"",
+            "rings = \"BAAAA\"\nletters = \"BAAAA\"",
+            "CARD 1 DAY 11\nRING I A\nTURN 1 A\nSETTINGS 2\n",
+        ),
+        (
+            "\"I\", \"II\"",
+            "\"II\", \"I\"",
+            "CARD 1 DAY 11\nSEAT 1 I\nSEAT 2 II\nSETTINGS 2\n",
+        ),
+        (
+            "\"I\", \"II\"",
+            "\"\", \"I\"",
+            "CARD 1 DAY 11\nSEAT 1 I\nSEAT 2 II\nSETTINGS 2\n",
+        ),
+        ("\"B\"", "\"C\"", "CARD 1 DAY 11\nREFLECTOR B\nSETTINGS 1\n"),
+    ] {
+        let machine = MACHINE.replace(rt.alloc(), old, new)?;
+        let card = format!(in rt.alloc(); "{lines}{PRICES}")?;
+        let mut sink = MemorySink::<256>::new(256);
+        let answer = run_card(
+            rt.alloc(),
+            machine.as_bytes(),
+            SHEET.as_bytes(),
+            11,
+            &mut sink,
+        );
+        assert_eq!(rt; answer, Ok(()));
+        assert_eq!(rt; sink.taken(), card.as_bytes());
+    }
+    Ok(())
+}
+
+#[test]
+fn stops_where_the_sink_fails(rt: HostRuntime) -> Result<(), Fail> {
+    let card = format!(in rt.alloc(); "CARD 1 DAY 11\nSETTINGS 0\n{PRICES}")?;
+    for room in 0..card.len() {
+        let mut sink = MemorySink::<256>::new(room.min(256));
+        let answer = run_card(
+            rt.alloc(),
+            MACHINE.as_bytes(),
+            SHEET.as_bytes(),
+            11,
+            &mut sink,
+        );
+        assert_eq!(rt; answer, Err(DeskFault::Device));
+        assert!(rt; sink.failed());
+        assert_eq!(rt; Some(sink.taken()), card.as_bytes().get(..room));
+    }
+    Ok(())
+}
+
+#[test]
+fn takes_ten_bytes_and_fails(rt: HostRuntime) -> Result<(), Fail> {
+    let mut sink = MemorySink::<256>::new(10);
+    let answer = run_card(
+        rt.alloc(),
+        MACHINE.as_bytes(),
+        SHEET.as_bytes(),
+        11,
+        &mut sink,
+    );
+    assert_eq!(rt; answer, Err(DeskFault::Device));
+    assert_eq!(rt; sink.taken(), "CARD 1 DAY".as_bytes());
+    Ok(())
+}
+
+#[test]
+fn refuses_the_first_fault_and_writes_nothing(rt: HostRuntime) -> Result<(), Fail> {
+    for (machine, sheet, day, fault) in [
+        ("=", "=", 5, DeskFault::File(SheetFault::NotToml)),
+        (
+            "model = \"M3\"",
+            "=",
+            5,
+            DeskFault::File(SheetFault::Missing(crate::sheet::Key::Version)),
+        ),
+        (MACHINE, "=", 5, DeskFault::File(SheetFault::NotToml)),
+        (
+            MACHINE,
+            "day = 5",
+            5,
+            DeskFault::File(SheetFault::BadValue(crate::sheet::Key::Day)),
+        ),
+        (MACHINE, SHEET, 5, DeskFault::NoSuchDay),
+        (MACHINE, "day = []", 11, DeskFault::NoSuchDay),
+    ] {
+        let mut sink = MemorySink::<256>::new(0);
+        let answer = run_card(
+            rt.alloc(),
+            machine.as_bytes(),
+            sheet.as_bytes(),
+            day,
+            &mut sink,
+        );
+        assert_eq!(rt; answer, Err(fault));
+        assert!(rt; !sink.failed());
+    }
+    Ok(())
+}
+
+#[test]
+fn says_why_it_refuses(rt: HostRuntime) -> Result<(), Fail> {
+    for (fault, text) in [
+        (DeskFault::OtherModel, "5 OtherModel"),
+        (DeskFault::NoSuchDay, "39 NoSuchDay"),
+    ] {
+        let said = format!(in rt.alloc(); "{fault}")?;
+        assert_eq!(rt; said.as_str(), text);
+    }
+    Ok(())
+}
