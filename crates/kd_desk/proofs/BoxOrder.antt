@@ -7,12 +7,12 @@ use Rattle.kd_tables.specs.declared.model.Model.TheVariants.{EnigmaI}
 use Rattle.kd_tables.specs.declared.wheel.Wheel.{Wheel}
 use Rattle.kd_tables.specs.Tables.{box_of}
 use Rattle.kd_desk.specs.Box.{same_wheel}
-use Rattle.kd_desk.specs.Setting.{is_in_box}
+use Rattle.kd_desk.specs.Box.{is_in_box}
 use Rattle.kd_desk.specs.SheetDay.{pair_of}
 use Rattle.kd_desk.proofs.Days.{AreInBox}
 use Rattle.kd_desk.proofs.Lists.{count_by-cons, each_with}
 use Rattle.kd_desk.proofs.SeatLines.{IsNone_of, AreDifferent}
-use Rattle.kd_desk.proofs.SameWheel.{same_wheel-Decides, same_wheel_self, same_wheel_differs}
+use Rattle.kd_desk.proofs.Wheels.{same_wheel-Decides, same_wheel_self, same_wheel_differs}
 
 -- no wheel lies in a box twice
 all_different : List Wheel → Bool

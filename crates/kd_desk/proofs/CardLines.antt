@@ -15,7 +15,7 @@ use Rattle.kd_desk.specs.declared.state.setting.Setting.TheVariants.{Seat, SeatR
 use Rattle.kd_desk.specs.CardText.{line, zero_prices, card_text}
 use Rattle.kd_desk.specs.Setting.{letter_text, setting_line, IsInRange}
 use Rattle.kd_desk.proofs.Lists.{each_weaker}
-use Rattle.kd_desk.proofs.SameWheel.{wheel_of_name, reflector_of_name}
+use Rattle.kd_desk.proofs.Wheels.{wheel_of_name, reflector_of_name}
 
 -- bytes that are all above one
 abbrev Above : ℕ → List ℕ → Type 0

@@ -8,11 +8,11 @@ use Rattle.kd_tables.specs.declared.wheel.Wheel.{Wheel}
 use Rattle.kd_tables.specs.Tables.{box_of}
 use Rattle.kd_desk.specs.Box.{same_wheel, place_in_box}
 use Rattle.kd_desk.specs.Machine.{StandsAt, AreAllowed, AreApart}
-use Rattle.kd_desk.specs.Setting.{is_in_box}
+use Rattle.kd_desk.specs.Box.{is_in_box}
 use Rattle.kd_desk.specs.SheetDay.{RotorDay, IsLegalDay, ring_in}
 use Rattle.kd_desk.proofs.Lists.{AreApartAt, each_weaker}
 use Rattle.kd_desk.proofs.SeatLines.{IsNone_of, AreDifferent}
-use Rattle.kd_desk.proofs.SameWheel.{in_box_test, wheel_of_place}
+use Rattle.kd_desk.proofs.Wheels.{in_box_test, wheel_of_place}
 
 -- each wheel is in the model's box
 abbrev pub AreInBox : Model → List Wheel → Type 0

@@ -7,7 +7,6 @@ pub mod Days
 pub mod Documents
 pub mod Fronts
 pub mod Lamps
-pub mod LegalParts
 pub mod Lists
 pub mod Loosening
 pub mod Namings
@@ -15,10 +14,8 @@ pub mod Planning
 pub mod Reaching
 pub mod Refusals
 pub mod Rings
-pub mod SameWheel
 pub mod SeatLines
 pub mod Seating
-pub mod SheetDays
 pub mod TextTaken
 pub mod Texts
 pub mod WheelRows

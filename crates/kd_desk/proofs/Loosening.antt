@@ -14,7 +14,7 @@ use Rattle.kd_desk.specs.Setting.{Carries, Leads, SlotEmpty, unless, without}
 use Rattle.kd_desk.specs.SheetDay.{RotorDay, IsLegalDay, ReadsAs}
 use Rattle.kd_desk.proofs.Days.{place_of_pair, pairs_apart, different_of_apart, boxed_of_allowed}
 use Rattle.kd_desk.proofs.Lists.{AreApartAt, count_by-cons}
-use Rattle.kd_desk.proofs.SameWheel.{same_wheel_self, same_reflector-Decides}
+use Rattle.kd_desk.proofs.Wheels.{same_wheel_self, same_reflector-Decides}
 
 at_most_one : (b : Bool) → cond b 1 0 ≤ 1
 at_most_one true = omega arith

@@ -14,7 +14,7 @@ use Rattle.kd_desk.specs.Box.{same_wheel, holds, ring_of, letter_of}
 use Rattle.kd_desk.specs.Machine.{RotorParts}
 use Rattle.kd_desk.specs.Planned.{unless_so}
 use Rattle.kd_desk.specs.SheetDay.{RotorDay, pair_of, ring_in}
-use Rattle.kd_desk.proofs.SameWheel.{same_wheel-Decides}
+use Rattle.kd_desk.proofs.Wheels.{same_wheel-Decides}
 
 -- the lines of the slots from a place on, counted from 0
 abbrev pub seats_from : ℕ → List (Option Wheel × Wheel) → List Setting

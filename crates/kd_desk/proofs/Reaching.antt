@@ -13,7 +13,8 @@ use Rattle.kd_desk.specs.Costs.{loose_slots, loose_rings, loose_letters, loose_c
 use Rattle.kd_desk.specs.Headline.{LeavesTheSheetsMachine, IsShortest}
 use Rattle.kd_desk.specs.Machine.{RotorParts, IsLegal}
 use Rattle.kd_desk.specs.Planned.{unless_so, seat_lines, reflector_lines, rings_in_box_order, ring_lines, turn_lines, IsPlanned}
-use Rattle.kd_desk.specs.Setting.{Leads, WheelNotAllowed, SlotEmpty, unless, is_in_box, why_refused}
+use Rattle.kd_desk.specs.Setting.{Leads, WheelNotAllowed, SlotEmpty, unless, why_refused}
+use Rattle.kd_desk.specs.Box.{is_in_box}
 use Rattle.kd_desk.specs.SheetDay.{RotorDay, IsLegalDay, ReadsAs}
 use Rattle.kd_desk.proofs.BoxOrder.{holds_in_order, holds_of_pairs, count_in_order, boxed_pairs}
 use Rattle.kd_desk.proofs.Carrying.{Leads-append, length_lines, IsSetting, Sets, lines_set}
@@ -23,7 +24,7 @@ use Rattle.kd_desk.proofs.Lists.{each_with, from_numbered, to_numbered, count_by
 use Rattle.kd_desk.proofs.Loosening.{no_fewer}
 use Rattle.kd_desk.proofs.Refusals.{reflector_refused}
 use Rattle.kd_desk.proofs.SeatLines.{IsNone_of, AreDifferent, AreAlike, seats_lead}
-use Rattle.kd_desk.proofs.SameWheel.{same_reflector-Decides, place_within}
+use Rattle.kd_desk.proofs.Wheels.{same_reflector-Decides, place_within}
 
 -- The machine after the lines of each kind.
 abbrev after_seats : RotorParts → RotorDay → RotorParts

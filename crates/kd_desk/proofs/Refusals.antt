@@ -11,8 +11,9 @@ use Rattle.kd_tables.specs.Tables.{box_of, slots_of, reflectors_of, IsAllowed}
 use Rattle.kd_desk.specs.declared.state.setting.Setting.TheVariants.{Seat, SeatReflector, RingTo, Turn}
 use Rattle.kd_desk.specs.Box.{same_reflector, seated_in}
 use Rattle.kd_desk.specs.Machine.{RotorParts, StandsAt}
-use Rattle.kd_desk.specs.Setting.{Why, WheelNotAllowed, SlotEmpty, unless, is_in_box, is_slot, why_refused}
-use Rattle.kd_desk.proofs.SameWheel.{same_wheel-Decides, same_reflector-Decides, in_box_test, reflector_test}
+use Rattle.kd_desk.specs.Setting.{Why, WheelNotAllowed, SlotEmpty, unless, why_refused}
+use Rattle.kd_desk.specs.Box.{is_in_box, is_slot}
+use Rattle.kd_desk.proofs.Wheels.{same_wheel-Decides, same_reflector-Decides, in_box_test, reflector_test}
 
 not_refused : (b : Bool) (why : Why) → unless b why ≡ None → b ≡ true
 not_refused true why h = refl

@@ -9,9 +9,10 @@ use Rattle.kd_desk.specs.declared.state.setting.Setting.{Setting}
 use Rattle.kd_desk.specs.declared.state.setting.Setting.TheVariants.{Seat}
 use Rattle.kd_desk.specs.Machine.{RotorParts}
 use Rattle.kd_desk.specs.Box.{same_wheel, holds}
-use Rattle.kd_desk.specs.Setting.{Carries, Leads, WheelNotAllowed, unless, is_in_box, is_slot, without}
+use Rattle.kd_desk.specs.Setting.{Carries, Leads, WheelNotAllowed, unless, without}
+use Rattle.kd_desk.specs.Box.{is_in_box, is_slot}
 use Rattle.kd_desk.specs.Planned.{unless_so}
-use Rattle.kd_desk.proofs.SameWheel.{same_wheel-Decides, same_wheel_differs}
+use Rattle.kd_desk.proofs.Wheels.{same_wheel-Decides, same_wheel_differs}
 
 -- the wheel is none of these
 abbrev pub IsNone_of : Wheel → List Wheel → Type 0

@@ -3,7 +3,7 @@ use Rattle.std.proofs.Common.{◌≡◌, ℕ, ◌+◌, ◌-◌, ◌≤◌, Bool,
 use Rattle.std.proofs.lemmas.List.{length-append, get_or-append-add}
 use Rattle.std.proofs.lemmas.List.Elements.{All-append}
 use Rattle.std.proofs.Math.Seq.{take-append-add, take-append_seam}
-use Rattle.std.proofs.KnownBytes.{Consumes-trans, Appends-trans, Consumes-nil, Appends-nil, starts_with_rest}
+use Rattle.std.proofs.KnownBytes.{Consumes-trans, Appends-trans, starts_with_rest}
 use Rattle.std.proofs.Transfers.{starts_with_of_append}
 use Rattle.std.specs.Io.{StartsWith}
 use Rattle.std.specs.Io.KnownBytes.{Appends, Consumes}
@@ -26,18 +26,6 @@ pub record SoFar (key now : RotorKey) (had has took taken : Option (List ℕ)) (
   pub written : Appends took taken text
   pub allowed : AreAllowedBytes read
   pub lights : Lights key now read text
-
-pub SoFar-none : (key : RotorKey) (had took : Option (List ℕ)) → SoFar key key had had took took 0
-SoFar-none key had took = record {
-  read = [];
-  text = [];
-  counted = refl;
-  within = omega arith;
-  given = Consumes-nil had;
-  written = Appends-nil took;
-  allowed = λ place byte below. absurd (omega (arith, below));
-  lights = record { cipher = refl; after = refl };
-}
 
 StartsWith-behind : (read bytes front : List ℕ) → StartsWith bytes front → StartsWith (read ++ bytes) (read ++ front)
 StartsWith-behind read bytes front starts =

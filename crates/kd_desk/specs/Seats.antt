@@ -1,11 +1,10 @@
 -- Which wheels the items of a file seat, slot by slot from the left.
-use Rattle.std.specs.Prelude.{ℕ, ◌+◌, ◌==◌, ◌&&◌, nat_le, Bool, false, not, List, [], ◌∷◌, ◌++◌, length, bytes_eq, Option, Some, None, Result, Ok, ok_or, if◌then◌else◌}
+use Rattle.std.specs.Prelude.{ℕ, ◌+◌, ◌==◌, ◌&&◌, Bool, not, List, [], ◌∷◌, ◌++◌, length, Option, Some, None, Result, Ok, ok_or, if◌then◌else◌}
 use Rattle.std.specs.List.{list_any}
-use Rattle.std.specs.Option.{option_map_or}
 use Rattle.toml.specs.Data.{Data, as_str}
-use Rattle.kd_tables.specs.Tables.{wheel_text, box_of, slots_of}
 use Rattle.kd_tables.specs.declared.model.Model.{Model}
 use Rattle.kd_tables.specs.declared.wheel.Wheel.{Wheel}
+use Rattle.kd_desk.specs.Box.{holds, is_in_box, is_slot}
 use Rattle.kd_desk.specs.Document.{◌>>=◌, ◌>>◌, demand}
 use Rattle.kd_desk.specs.Names.{wheel_by_name}
 use Rattle.kd_desk.specs.declared.sheet.key.Key.{Key}
@@ -13,17 +12,13 @@ use Rattle.kd_desk.specs.declared.sheet.key.Key.TheVariants as keys
 use Rattle.kd_desk.specs.declared.sheet.fault.SheetFault.{SheetFault}
 use Rattle.kd_desk.specs.declared.sheet.fault.SheetFault.TheVariants.{BadValue, WheelTwice, WheelNotAllowed}
 
--- the two wheels have one name
-unfoldable pub is_same_wheel : Wheel → Wheel → Bool
-is_same_wheel wheel other = bytes_eq (wheel_text wheel) (wheel_text other)
-
 -- the wheel may be seated in the slot, counted from 1
 unfoldable pub is_allowed : Model → ℕ → Wheel → Bool
-is_allowed model slot wheel = nat_le 1 slot && nat_le slot (slots_of model) && list_any (is_same_wheel wheel) (box_of model)
+is_allowed model slot wheel = is_slot model slot && is_in_box model wheel
 
 -- the wheel is seated in one of the slots
 unfoldable pub is_seated : List (Option Wheel) → Wheel → Bool
-is_seated slots wheel = list_any (λ seat. option_map_or (is_same_wheel wheel) seat false) slots
+is_seated slots wheel = list_any (λ seat. holds seat wheel) slots
 
 -- the wheel of that name, for the slot behind those that are judged
 unfoldable pub wheel_for : Key → Model → List (Option Wheel) → List ℕ → Result Wheel SheetFault

@@ -1,13 +1,12 @@
 -- A single setting of a machine: its line on a card, why it is refused, and what it does.
-use Rattle.std.specs.Prelude.{codes, decimal, ◌≡◌, ℕ, ◌+◌, ◌-◌, ◌^◌, ◌<◌, nat_le, Bool, ◌&&◌, List, [], ◌∷◌, ◌++◌, map, slice_set, Option, Some, None, IfSome, is_some, if◌then◌else◌}
+use Rattle.std.specs.Prelude.{codes, decimal, ◌≡◌, ℕ, ◌+◌, ◌-◌, ◌^◌, ◌<◌, Bool, ◌&&◌, List, [], ◌∷◌, ◌++◌, map, slice_set, Option, Some, None, IfSome, is_some, if◌then◌else◌}
 use Rattle.std.specs.List.{list_any}
-use Rattle.kd_tables.specs.declared.model.Model.{Model}
 use Rattle.kd_tables.specs.declared.wheel.Wheel.{Wheel}
-use Rattle.kd_tables.specs.Tables.{box_of, slots_of, reflectors_of, wheel_text, reflector_text}
+use Rattle.kd_tables.specs.Tables.{reflectors_of, wheel_text, reflector_text}
 use Rattle.kd_desk.specs.declared.state.setting.Setting.{Setting}
 use Rattle.kd_desk.specs.declared.state.setting.Setting.TheVariants.{Seat, SeatReflector, RingTo, Turn}
 use Rattle.kd_desk.specs.Machine.{RotorParts}
-use Rattle.kd_desk.specs.Box.{same_wheel, same_reflector, holds, seated_in, place_in_box}
+use Rattle.kd_desk.specs.Box.{same_reflector, holds, is_in_box, is_slot, seated_in, place_in_box}
 
 -- the capital letter with the place in the alphabet
 abbrev pub letter_text : ℕ → List ℕ
@@ -34,13 +33,6 @@ pub data Why : Type 0 where
 
 abbrev pub unless : Bool → Why → Option Why
 unless allowed why = if allowed then None else Some why
-
--- the wheel is in the model's box, and the slot is one of the model's
-abbrev pub is_in_box : Model → Wheel → Bool
-is_in_box model wheel = list_any (same_wheel wheel) (box_of model)
-
-abbrev pub is_slot : Model → ℕ → Bool
-is_slot model slot = nat_le 1 slot && nat_le slot (slots_of model)
 
 -- the first reason for which the machine refuses the setting
 abbrev pub why_refused : RotorParts → Setting → Option Why

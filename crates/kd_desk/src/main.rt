@@ -13,8 +13,6 @@ mod run_card;
 mod sheet;
 mod state;
 mod stop;
-#[cfg(test)]
-mod tests;
 mod text;
 mod typing;
 mod writing;

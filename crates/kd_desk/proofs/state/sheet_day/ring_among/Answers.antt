@@ -1,6 +1,6 @@
 use Rattle.std.proofs.Common.{sym, ap, ◌∙◌, arith, Some}
 use Rattle.kd_desk.proofs.Days.{ring_here, ring_further, ring_nowhere}
-use Rattle.kd_desk.proofs.SameWheel.{same_wheel_tested}
+use Rattle.kd_desk.proofs.Wheels.{same_wheel_tested}
 use Rattle.kd_desk.proofs.state.sheet_day.ring_among.Goals as goal
 
 pub returns-then-eq : goal.returns-then-eq
