@@ -3,6 +3,7 @@ pub mod CardLines
 pub mod Carrying
 pub mod Ciphers
 pub mod DayLists
+pub mod CommandLines
 pub mod Days
 pub mod Documents
 pub mod Fronts

@@ -1,5 +1,6 @@
 pub mod Box
 pub mod CardText
+pub mod CommandLine
 pub mod Costs
 pub mod Days
 pub mod Document
@@ -18,6 +19,7 @@ pub mod Setting
 pub mod SheetDay
 pub mod SheetFile
 pub mod SheetWheels
+pub mod Stops
 pub mod TwoCiphers
 pub mod Typing
 pub mod Writing

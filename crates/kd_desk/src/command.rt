@@ -1,11 +1,16 @@
-ghost use Rattle.std.specs.Prelude.{◌≤◌, IfSome};
+ghost use Rattle.std.specs.Prelude.{◌≡◌, ◌≢◌, ◌≤◌, ℕ, false, map, decimal, Err, IfSome, IfOk, IfErr};
+ghost use Rattle.clap.specs.Words.{app_of, found_of, kind_of, rows_of, rule_of};
+ghost use Rattle.kd_desk.specs.CommandLine.{word_named, desk_grammar, IsOf, Says};
 
 #[cfg(test)]
 mod tests;
 
+use crate::fault::DeskFault;
+use crate::sheet::SheetFault;
 use crate::stop::Stop;
 use clap::error::ErrorKind;
-use clap::{Arg, Command as Grammar, Error};
+use clap::{Arg, ArgMatches, Command as Grammar, Error};
+use itoa::Buffer;
 use std::alloc::{AllocError, Global};
 use std::convert::AsStr;
 
@@ -28,8 +33,12 @@ pub enum Command<'a> {
 /// The command of the program's words, the program's own name first.
 ///
 /// A word that begins with `-` and is longer is a file name only after the word `--`, which counts once and behind the
-/// command's name. Other words than a command's are `Usage`.
-pub fn parse_words<'a, S: AsStr>(alloc: Global, words: &'a [S]) -> Result<Command<'a>, Stop> {
+/// command's name. Other words than a command's are `Usage`. The only other error is want of memory.
+pub fn parse_words<'a, S: AsStr>(alloc: Global, words: &'a [S]) -> Result<Command<'a>, Stop>
+    ensures said { IfOk result (Says (map S.text words.entry.now)) }
+    ensures usage { result ≡ Err Stop.Usage → (command : Command) → Says (map S.text words.entry.now) command → ⊥ }
+    ensures memory { IfErr result (λ stop. stop ≢ Stop.Usage → stop ≡ Stop.Refused (DeskFault.File SheetFault.NoMemory)) }
+{
     let matches = match grammar(alloc)?.try_get_matches_from(words) {
         Ok(matches) => matches,
         Err(error) => return Err(stop(&error)),
@@ -37,52 +46,75 @@ pub fn parse_words<'a, S: AsStr>(alloc: Global, words: &'a [S]) -> Result<Comman
     let Some((name, words)) = matches.subcommand() else {
         return Err(Stop::Usage);
     };
-    let machine = words.get_str("MACHINE").ok_or(Stop::Usage)?;
-    if name == "type" {
-        return Ok(Command::Type { machine });
+    command_of(name, words).ok_or(Stop::Usage)
+}
+
+/// The command of this name with these words, if the day among them is one.
+fn command_of<'a>(name: &str, words: &ArgMatches<'a>) -> Option<Command<'a>>
+    ensures said { IfSome result (IsOf (name.now, rows_of (found_of words.now))) }
+    ensures none { result ≡ None → (command : Command) → IsOf (name.now, rows_of (found_of words.now)) command → ⊥ }
+{
+    let machine = words.get_str("MACHINE")?;
+    match name {
+        "type" => Some(Command::Type { machine }),
+        "card" => {
+            let sheet = words.get_str("SHEET")?;
+            let day = day_number(words.get_str("DAY")?)?;
+            Some(Command::Card {
+                machine,
+                sheet,
+                day,
+            })
+        }
+        _ => None,
     }
-    let sheet = words.get_str("SHEET").ok_or(Stop::Usage)?;
-    let day = words.get_str("DAY").ok_or(Stop::Usage)?;
-    let day = day_number(day).ok_or(Stop::Usage)?;
-    Ok(Command::Card {
-        machine,
-        sheet,
-        day,
-    })
 }
 
 /// The day that a word names: a decimal number from 1 to 31, without sign or leading zero.
 fn day_number(word: &str) -> Option<u8>
-    ensures { IfSome result (λ day. (1 ≤ day) × (day ≤ 31)) }
+    ensures day { IfSome result (λ day. (word.now ≡ decimal day) × (1 ≤ day) × (day ≤ 31)) }
+    ensures none { result ≡ None → (day : ℕ) → 1 ≤ day → day ≤ 31 → word.now ≢ decimal day }
 {
-    let day = match word.as_bytes() {
-        [ones @ b'1'..=b'9'] => ones - b'0',
-        [tens @ b'1'..=b'3', ones @ b'0'..=b'9'] => (tens - b'0') * 10 + (ones - b'0'),
-        _ => return None,
-    };
-    if day <= 31 { Some(day) } else { None }
+    for day in 1..=31 {
+        if Buffer::new().format(day) == word {
+            return Some(day);
+        }
+    }
+    None
 }
 
 /// What may stand on the command line: no options and no help.
-fn grammar<'a>(alloc: Global) -> Result<Grammar<'a>, AllocError> {
+fn grammar<'a>(alloc: Global) -> Result<Grammar<'a>, AllocError>
+    ensures { IfOk result (λ grammar. app_of grammar ≡ desk_grammar) }
+{
+    let type_words = Grammar::new(alloc, "type")
+        .disable_help_flag(true)
+        .arg(word(alloc, "MACHINE"))?;
+    let card_words = Grammar::new(alloc, "card")
+        .disable_help_flag(true)
+        .arg(word(alloc, "MACHINE"))?
+        .arg(word(alloc, "SHEET"))?
+        .arg(word(alloc, "DAY"))?;
     Grammar::new(alloc, "desk")
         .disable_help_flag(true)
         .disable_help_subcommand(true)
-        .subcommand(form(alloc, "type", &["MACHINE"])?)?
-        .subcommand(form(alloc, "card", &["MACHINE", "SHEET", "DAY"])?)
+        .subcommand(type_words)?
+        .subcommand(card_words)
 }
 
-/// A command of this name, with a word for each of these.
-fn form<'a>(alloc: Global, name: &'a str, words: &[&'a str]) -> Result<Grammar<'a>, AllocError> {
-    let mut form = Grammar::new(alloc, name).disable_help_flag(true);
-    for word in words {
-        form = form.arg(Arg::new(alloc, word).required(true))?;
-    }
-    Ok(form)
+/// A word that has to be there.
+fn word<'a>(alloc: Global, name: &'a str) -> Arg<'a>
+    ensures rule { rule_of result ≡ word_named name.entry.now }
+    ensures local { result.global ≡ false }
+{
+    Arg::new(alloc, name).required(true)
 }
 
 /// Why words that don't parse stop the program.
-fn stop(error: &Error) -> Stop {
+fn stop(error: &Error) -> Stop
+    ensures memory { kind_of error.now ≡ ErrorKind.OutOfMemory → result ≡ Stop.Refused (DeskFault.File SheetFault.NoMemory) }
+    ensures usage { kind_of error.now ≢ ErrorKind.OutOfMemory → result ≡ Stop.Usage }
+{
     match error.kind() {
         ErrorKind::OutOfMemory => Stop::from(AllocError),
         _ => Stop::Usage,

@@ -6,7 +6,7 @@ use thiserror::Error;
 /// place that it speaks of.
 #[derive(Clone, Copy, Debug, PartialEq, Eq, Error)]
 pub enum DeskFault {
-    /// A machine file's fault.
+    /// A fault of a machine file or of a key sheet, or want of memory.
     #[error(transparent)]
     File(SheetFault),
     /// A slot of the machine is empty.
@@ -30,6 +30,12 @@ pub enum DeskFault {
 }
 
 impl From<AllocError> for DeskFault {
+    ghost use Rattle.std.specs.Prelude.{◌≡◌};
+    ghost use Rattle.kd_desk.specs.declared.fault.DeskFault.TheVariants.{File};
+    ghost use Rattle.kd_desk.specs.declared.sheet.fault.SheetFault.TheVariants.{NoMemory};
+
+    ghost from_gives = { λ _ fault. fault ≡ File NoMemory };
+
     fn from(_: AllocError) -> DeskFault {
         DeskFault::File(SheetFault::NoMemory)
     }

@@ -1,3 +1,6 @@
+ghost use Rattle.std.specs.Prelude.{◌≡◌};
+ghost use Rattle.kd_desk.specs.Stops.{status_of};
+
 use crate::fault::DeskFault;
 use std::alloc::AllocError;
 use std::io;
@@ -15,8 +18,10 @@ pub enum Stop {
 }
 
 impl Stop {
-    /// The status with which the program ends.
-    pub fn status(self) -> u8 {
+    /// The status with which the program ends: 2 for words that are no command, 1 for a refusal.
+    pub fn status(self) -> u8
+        ensures { result ≡ status_of self }
+    {
         match self {
             Stop::Usage => 2,
             Stop::Refused(_) => 1,
@@ -25,18 +30,36 @@ impl Stop {
 }
 
 impl From<DeskFault> for Stop {
+    ghost use Rattle.std.specs.Prelude.{◌≡◌};
+    ghost use Rattle.kd_desk.specs.declared.stop.Stop.TheVariants.{Refused};
+
+    ghost from_gives = { λ fault stop. stop ≡ Refused fault };
+
     fn from(fault: DeskFault) -> Stop {
         Stop::Refused(fault)
     }
 }
 
 impl From<AllocError> for Stop {
+    ghost use Rattle.std.specs.Prelude.{◌≡◌};
+    ghost use Rattle.kd_desk.specs.declared.fault.DeskFault.TheVariants.{File};
+    ghost use Rattle.kd_desk.specs.declared.sheet.fault.SheetFault.TheVariants.{NoMemory};
+    ghost use Rattle.kd_desk.specs.declared.stop.Stop.TheVariants.{Refused};
+
+    ghost from_gives = { λ _ stop. stop ≡ Refused (File NoMemory) };
+
     fn from(_: AllocError) -> Stop {
         Stop::Refused(DeskFault::from(AllocError))
     }
 }
 
 impl From<io::Error> for Stop {
+    ghost use Rattle.std.specs.Prelude.{◌≡◌};
+    ghost use Rattle.std.specs.IoError.{error_kind};
+    ghost use Rattle.kd_desk.specs.Stops.{stop_of_kind};
+
+    ghost from_gives = { λ error stop. stop ≡ stop_of_kind (error_kind error) };
+
     /// What keeps the program's words from being read: no memory, or a word that is no text.
     fn from(error: io::Error) -> Stop {
         match error.kind() {

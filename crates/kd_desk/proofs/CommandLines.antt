@@ -1,0 +1,134 @@
+-- Commands and the values of their words.
+use Rattle.std.proofs.Common.{◌≡◌, ◌≢◌, ℕ, ◌≤◌, List, Option, Some, None, Bor, codes, decimal, option_map, sym, ap, ◌∙◌}
+use Rattle.std.proofs.Common.{Result, Ok, Err, IsSomeAnd, IfSome, IfOk, IfErr, is_some, ok_or, true, false, [], inl, inr, refl, subst, ap₂}
+use Rattle.clap.specs.Words.{App, FailsBy, HasKind, HasMatchesOf, Row, fault_of, first_of, first_value, is_simple, is_simple_and_free, kind_of, rows_of, subcommand_of, subcommand_rows_of}
+use Rattle.clap.specs.declared.parser.matches.ArgMatches.{ArgMatches}
+use Rattle.clap.specs.declared.error.Error.{Error}
+use Rattle.clap.specs.declared.error.kind.ErrorKind.TheVariants.{OutOfMemory}
+use Rattle.clap.proofs.OnLiterals.{clap_on_literals}
+use Rattle.std.proofs.lemmas.Option.{same_Some}
+use Rattle.clap.specs.declared.parser.matches.Found.{Found}
+use Rattle.clap.proofs.WalkLemmas.{first_value-rows}
+use Rattle.kd_desk.specs.declared.command.Command.{Command}
+use Rattle.kd_desk.specs.declared.command.Command.TheVariants as commands
+use Rattle.kd_desk.specs.declared.fault.DeskFault.{DeskFault}
+use Rattle.kd_desk.specs.declared.fault.DeskFault.TheVariants.{File}
+use Rattle.kd_desk.specs.declared.sheet.fault.SheetFault.TheVariants.{NoMemory}
+use Rattle.kd_desk.specs.declared.stop.Stop.{Stop}
+use Rattle.kd_desk.specs.declared.stop.Stop.TheVariants.{Usage, Refused}
+use Rattle.kd_desk.specs.CommandLine.{desk_grammar, IsOf, Says}
+
+none_or_some : {X : Type 0} (o : Option X) (x : X) → o ≡ None → o ≡ Some x → ⊥
+none_or_some o x none some = cc
+
+pub no_machine : (said : List ℕ × List Row) → first_of (codes "MACHINE") said.1 ≡ None → (command : Command) → IsOf said command → ⊥
+no_machine said none (commands.Type machine) is = none_or_some _ _ none is.1
+no_machine said none (commands.Card machine sheet day) is = none_or_some _ _ none is.1
+
+pub no_sheet : (said : List ℕ × List Row) → said.0 ≢ codes "type" → first_of (codes "SHEET") said.1 ≡ None → (command : Command) → IsOf said command → ⊥
+no_sheet said card none (commands.Type machine) is = card is.0
+no_sheet said card none (commands.Card machine sheet day) is = none_or_some _ _ none is.2
+
+pub no_day : (said : List ℕ × List Row) → said.0 ≢ codes "type" → ((day : ℕ) → 1 ≤ day → day ≤ 31 → first_of (codes "DAY") said.1 ≢ Some (decimal day))
+    → (command : Command) → IsOf said command → ⊥
+no_day said card none (commands.Type machine) is = card is.0
+no_day said card none (commands.Card machine sheet day) is = none day is.4 is.5 is.3
+
+pub no_command : (said : List ℕ × List Row) → said.0 ≢ codes "type" → said.0 ≢ codes "card" → (command : Command) → IsOf said command → ⊥
+no_command said not_type not_card (commands.Type machine) is = not_type is.0
+no_command said not_type not_card (commands.Card machine sheet day) is = not_card is.0
+
+-- what a getter of the matches reads, by their rows
+pub read_none : (found : Found) (id : List ℕ) (word : Option (Bor (List ℕ))) → option_map (λ s. s.now) word ≡ first_value found id → word ≡ None → first_of id (rows_of found) ≡ None
+read_none found id word reads none = sym (first_value-rows found id) ∙ sym reads ∙ ap (option_map (λ s. s.now)) none
+
+pub read_some : (found : Found) (id : List ℕ) (word : Option (Bor (List ℕ))) (read : Bor (List ℕ)) → option_map (λ s. s.now) word ≡ first_value found id → word ≡ Some read
+    → first_of id (rows_of found) ≡ Some read.now
+read_some found id word read reads some = sym (first_value-rows found id) ∙ sym reads ∙ ap (option_map (λ s. s.now)) some
+
+pub no_word : (found : Found) (id : List ℕ) (word : Option (Bor (List ℕ))) → option_map (λ s. s.now) word ≡ first_value found id → word ≡ None
+    → (day : ℕ) → 1 ≤ day → day ≤ 31 → first_of id (rows_of found) ≢ Some (decimal day)
+no_word found id word reads none day first last is = none_or_some _ _ (read_none found id word reads none) is
+
+pub other_word : (found : Found) (id : List ℕ) (word : Option (Bor (List ℕ))) (read : Bor (List ℕ)) → option_map (λ s. s.now) word ≡ first_value found id → word ≡ Some read
+    → ((day : ℕ) → 1 ≤ day → day ≤ 31 → read.now ≢ decimal day) → (day : ℕ) → 1 ≤ day → day ≤ 31 → first_of id (rows_of found) ≢ Some (decimal day)
+other_word found id word read reads some other day first last is = other day first last (same_Some _ _ (sym (read_some found id word read reads some) ∙ is))
+
+-- clap says all of this grammar
+pub grammar_is_simple : is_simple_and_free desk_grammar ≡ true
+unfolding clap_on_literals desk_grammar
+grammar_is_simple = refl
+
+pub grammar_is_known : is_simple desk_grammar ≡ true
+unfolding clap_on_literals desk_grammar
+grammar_is_known = refl
+
+-- what a parse by the grammar answers
+pub parse_fails_by : (app : App) (words : List (List ℕ)) (result : Result ArgMatches Error) → app ≡ desk_grammar
+    → (is_simple_and_free app ≡ true → FailsBy (fault_of app words) result) → FailsBy (fault_of desk_grammar words) result
+parse_fails_by app words result is fails = subst (λ a. FailsBy (fault_of a words) result) is (fails (ap is_simple_and_free is ∙ grammar_is_simple))
+
+pub parse_takes : (app : App) (words : List (List ℕ)) (m : ArgMatches) → app ≡ desk_grammar
+    → (is_simple_and_free app ≡ true → FailsBy (fault_of app words) (Ok m)) → fault_of desk_grammar words ≡ []
+parse_takes app words m is fails = parse_fails_by app words (Ok m) is fails
+
+pub parse_enters : (app : App) (words : List (List ℕ)) (m : ArgMatches) → app ≡ desk_grammar → HasMatchesOf app words m → subcommand_rows_of m ≡ subcommand_of desk_grammar words
+parse_enters app words m is has = (subst (λ a. HasMatchesOf a words m) is has grammar_is_known).1
+
+pub no_fault_said : (words : List (List ℕ)) (error : Error) → HasKind (fault_of desk_grammar words) error → kind_of error ≢ OutOfMemory → (command : Command) → Says words command → ⊥
+no_fault_said words error has other command says = elim (subst (λ kinds. HasKind kinds error) says.taken has) [
+  | inl memory ↦ other memory
+  | inr among ↦ among
+]
+
+entered_none : {X : Type 0} (said : Option X) (P : X → Type 0) → said ≡ None → IsSomeAnd said P → ⊥
+entered_none None P e is = is
+entered_none (Some x) P e is = cc
+
+pub no_subcommand_said : (words : List (List ℕ)) → subcommand_of desk_grammar words ≡ None → (command : Command) → Says words command → ⊥
+no_subcommand_said words none command says = entered_none (subcommand_of desk_grammar words) (λ said. IsOf said command) none says.said
+
+entered_some : {X : Type 0} (said : Option X) (x : X) (P : X → Type 0) → said ≡ Some x → IsSomeAnd said P → P x
+entered_some said x P e is = subst (λ o. IsSomeAnd o P) e is
+
+some_entered : {X : Type 0} (said : Option X) (x : X) (P : X → Type 0) → said ≡ Some x → P x → IsSomeAnd said P
+some_entered said x P e p = subst (λ o. IsSomeAnd o P) (sym e) p
+
+pub subcommand_said : (words : List (List ℕ)) (said : List ℕ × List Row) → subcommand_of desk_grammar words ≡ Some said → (command : Command) → Says words command → IsOf said command
+subcommand_said words said e command says = entered_some (subcommand_of desk_grammar words) said (λ x. IsOf x command) e says.said
+
+pub said_subcommand : (words : List (List ℕ)) (said : List ℕ × List Row) → fault_of desk_grammar words ≡ [] → subcommand_of desk_grammar words ≡ Some said → (command : Command) → IsOf said command → Says words command
+said_subcommand words said taken e command is = record {
+  taken = taken;
+  said = some_entered (subcommand_of desk_grammar words) said (λ x. IsOf x command) e is;
+}
+
+-- a name and rows that are read apart
+pub paired : {X : Type 0} (entered : Option X) (name : X → List ℕ) (rows : X → List Row) (n : List ℕ) (r : List Row)
+    → Some n ≡ option_map name entered → Some r ≡ option_map (λ (p : List ℕ × List Row). p.1) (option_map {U = List ℕ × List Row} (λ x. (name x, rows x)) entered) → option_map {U = List ℕ × List Row} (λ x. (name x, rows x)) entered ≡ Some (n, r)
+paired None name rows n r is is_rows = cc
+paired (Some x) name rows n r is is_rows = ap₂ (λ a b. Some (a, b)) (sym (same_Some _ _ is)) (sym (same_Some _ _ is_rows))
+
+pub no_entered : {X Y : Type 0} (entered : Option X) (f : X → Y) → false ≡ is_some entered → option_map f entered ≡ None
+no_entered None f e = refl
+no_entered (Some x) f e = cc
+
+abbrev as_answer : Stop → Result Command Stop
+as_answer = Err
+
+pub usage_refused : (stop : Stop) (fault : DeskFault) → stop ≡ Refused fault → as_answer stop ≡ as_answer Usage → ⊥
+usage_refused stop fault refused usage = cc
+
+-- the answer of a command that may not be there
+pub ok_said : (said : Option Command) (answer : Result Command Stop) (P Q : Command → Type 0) → answer ≡ ok_or said Usage → ((command : Command) → P command → Q command)
+    → IfSome said P → IfOk answer Q
+ok_said None answer P Q e more is = subst (λ (a : Result Command Stop). IfOk a Q) (sym e) tt
+ok_said (Some command) answer P Q e more is = subst (λ (a : Result Command Stop). IfOk a Q) (sym e) (more command is)
+
+pub no_command_of : (said : Option Command) (answer : Result Command Stop) → answer ≡ ok_or said Usage → answer ≡ Err Usage → said ≡ None
+no_command_of None answer e usage = refl
+no_command_of (Some command) answer e usage = cc
+
+pub usage_or_said : (said : Option Command) (answer : Result Command Stop) → answer ≡ ok_or said Usage → IfErr answer (λ stop. stop ≢ Usage → stop ≡ Refused (File NoMemory))
+usage_or_said None answer e = subst (λ (a : Result Command Stop). IfErr a (λ stop. stop ≢ Usage → stop ≡ Refused (File NoMemory))) (sym e) (λ other. absurd (other refl))
+usage_or_said (Some command) answer e = subst (λ (a : Result Command Stop). IfErr a (λ stop. stop ≢ Usage → stop ≡ Refused (File NoMemory))) (sym e) tt

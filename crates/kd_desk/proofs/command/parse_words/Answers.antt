@@ -1,0 +1,36 @@
+use Rattle.std.proofs.Common.{map, ℕ, List, Err, sym, ◌∙◌}
+use Rattle.clap.specs.Words.{Row, app_of, found_of, rows_of}
+use Rattle.kd_desk.specs.CommandLine.{IsOf, Says}
+use Rattle.kd_desk.proofs.CommandLines.{parse_fails_by, parse_takes, parse_enters, no_fault_said, no_subcommand_said, subcommand_said, said_subcommand, paired, usage_refused, no_entered, ok_said, no_command_of, usage_or_said}
+use Rattle.kd_desk.proofs.command.parse_words.Goals as goal
+
+pub returns-in-Err-clause-usage : goal.returns-in-Err-clause-usage
+returns-in-Err-clause-usage g c =
+    let words = map g.S.AsStr.text c.args.words.now in
+    λ usage. no_fault_said words c.in-Err.error (parse_fails_by (app_of c.in_ok-grammar.field-0) words (Err c.in-Err.error) c.in_ok-grammar.ensures c.in-Err.ensures.kinds)
+    (λ memory. usage_refused c.stop.result _ (c.stop.ensures.memory memory) usage)
+
+pub returns-in_default-clause-usage : goal.returns-in_default-clause-usage
+returns-in_default-clause-usage g c =
+    let words = map g.S.AsStr.text c.args.words.now in
+    λ _. no_subcommand_said words (sym (parse_enters (app_of c.in_ok-grammar.field-0) words c.in-Ok.matches c.in_ok-grammar.ensures c.in-Ok.ensures.matches) ∙ no_entered _ _ c.in_default.ensures.variant)
+
+pub returns-clause-said : goal.returns-clause-said
+returns-clause-said g c =
+    let words = map g.S.AsStr.text c.args.words.now in
+    let said : List ℕ × List Row = (c.in-Some.name.now, rows_of (found_of c.in-Some.words.now)) in
+    let taken = parse_takes (app_of c.in_ok-grammar.field-0) words c.in-Ok.matches c.in_ok-grammar.ensures c.in-Ok.ensures.kinds in
+    let entered = sym (parse_enters (app_of c.in_ok-grammar.field-0) words c.in-Ok.matches c.in_ok-grammar.ensures c.in-Ok.ensures.matches)
+    ∙ paired _ _ _ said.0 said.1 c.in-Some.ensures.name c.in-Some.ensures.rows in
+    ok_said c.command_of.result c.ok_or.result (IsOf said) (Says words) c.ok_or.ensures.value (said_subcommand words said taken entered) c.command_of.ensures.said
+
+pub returns-clause-usage : goal.returns-clause-usage
+returns-clause-usage g c =
+    let words = map g.S.AsStr.text c.args.words.now in
+    let said : List ℕ × List Row = (c.in-Some.name.now, rows_of (found_of c.in-Some.words.now)) in
+    let entered = sym (parse_enters (app_of c.in_ok-grammar.field-0) words c.in-Ok.matches c.in_ok-grammar.ensures c.in-Ok.ensures.matches)
+    ∙ paired _ _ _ said.0 said.1 c.in-Some.ensures.name c.in-Some.ensures.rows in
+    λ usage command says. c.command_of.ensures.none (no_command_of c.command_of.result c.ok_or.result c.ok_or.ensures.value usage) command (subcommand_said words said entered command says)
+
+pub returns-clause-memory : goal.returns-clause-memory
+returns-clause-memory g c = usage_or_said c.command_of.result c.ok_or.result c.ok_or.ensures.value
