@@ -84,7 +84,7 @@ module _ (cipher_in_turn : CipherInTurn) (key_in_turn : KeyInTurn) where
         written = Appends-trans took taken wrote before.text step.text before.written step.written;
         types = (
           subst (IsFirstRefused (before.read ++ step.read)) place refused,
-          omega (arith, before.within, step.within, step.types.0.within.1, space),
+          omega (arith, length-append before.read step.read, before.counted, before.within, step.within, space),
           ap (λ l. before.text ++ l) step.types.1 ∙ sym (cipher_behind key now before.read before.text (take n step.read) before.lights)
               ∙ ap (cipher_text key) (sym (take-append-add before.read step.read n)) ∙ ap (λ k. cipher_text key (take k (before.read ++ step.read))) (sym there),
         );
@@ -92,13 +92,14 @@ module _ (cipher_in_turn : CipherInTurn) (key_in_turn : KeyInTurn) where
       }
 
   pub IsTyped-failed : (key now left : RotorKey) (had has next took taken wrote : Option (List ℕ)) (count room : ℕ) (flag : Bool) (fault : DeskFault)
-      → SoFar key now had has took taken count → StepTyped now left room has next taken wrote flag (Err fault) → IsTyped key [] had next took wrote flag (Err fault)
-  IsTyped-failed key now left had has next took taken wrote count room flag Device before step = record {
+      → SoFar key now had has took taken count → room ≡ read_limit - count → StepTyped now left room has next taken wrote flag (Err fault) → IsTyped key [] had next took wrote flag (Err fault)
+  IsTyped-failed key now left had has next took taken wrote count room flag Device before space step = record {
     read = before.read ++ step.read;
     text = before.text ++ step.text;
     given = Consumes-trans had has next before.read step.read before.given step.given;
     written = Appends-trans took taken wrote before.text step.text before.written step.written;
     types = (
+      omega (arith, length-append before.read step.read, before.counted, before.within, step.within, space),
       TypesFront-behind key now before.read before.text step.read step.text before.allowed before.lights step.types.0,
       λ quiet. let none = step.types.1 quiet in (
         subst (λ l. AreAllowedBytes (before.read ++ l)) (sym none.0) (subst AreAllowedBytes (sym (append-nil before.read)) before.allowed),
@@ -107,12 +108,12 @@ module _ (cipher_in_turn : CipherInTurn) (key_in_turn : KeyInTurn) where
     );
     ended = tt;
   }
-  IsTyped-failed key now left had has next took taken wrote count room flag (File fault) before step = absurd step.types
-  IsTyped-failed key now left had has next took taken wrote count room flag NotReady before step = absurd step.types
-  IsTyped-failed key now left had has next took taken wrote count room flag OtherModel before step = absurd step.types
-  IsTyped-failed key now left had has next took taken wrote count room flag NoSuchDay before step = absurd step.types
-  IsTyped-failed key now left had has next took taken wrote count room flag (BadByte place) before step = absurd step.types
-  IsTyped-failed key now left had has next took taken wrote count room flag ReadTooLong before step = absurd step.types
+  IsTyped-failed key now left had has next took taken wrote count room flag (File fault) before space step = absurd step.types
+  IsTyped-failed key now left had has next took taken wrote count room flag NotReady before space step = absurd step.types
+  IsTyped-failed key now left had has next took taken wrote count room flag OtherModel before space step = absurd step.types
+  IsTyped-failed key now left had has next took taken wrote count room flag NoSuchDay before space step = absurd step.types
+  IsTyped-failed key now left had has next took taken wrote count room flag (BadByte place) before space step = absurd step.types
+  IsTyped-failed key now left had has next took taken wrote count room flag ReadTooLong before space step = absurd step.types
 
 -- as much as may be read was read
 pub IsTyped-probed : (key now : RotorKey) (had has next took taken : Option (List ℕ)) (count : ℕ) (flag : Bool) (answer : Result (Unit {0}) DeskFault)
@@ -146,6 +147,7 @@ IsTyped-probed key now had has next took taken count flag (Err Device) before fu
   given = subst (Consumes had next) (append-nil before.read) (Consumes-trans had has next before.read [] before.given ends);
   written = before.written;
   types = (
+    omega (arith, before.within, before.counted),
     record {
       front = before.read;
       of_read = starts_with_of_append before.read before.read [] (sym (append-nil before.read));
@@ -181,6 +183,7 @@ IsTyped-end_failed key end had has took taken wrote flag after typed failed =
       given = typed.given;
       written = Appends-trans took taken wrote typed.text front typed.written failed.2;
       types = (
+        typed.types.0,
         record {
           front = typed.read;
           of_read = starts_with_of_append typed.read typed.read [] (sym (append-nil typed.read));

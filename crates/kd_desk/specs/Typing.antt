@@ -51,15 +51,17 @@ pub record TypesFront (key : RotorKey) (read text : List ℕ) : Type 0 where
   pub allowed : AreAllowedBytes front
   pub written : StartsWith (cipher_text key front) text
 
--- A text that was read and a text that was written, by the answer: all was allowed, and the cipher was written with what
--- ends it; or the first byte that is not allowed, or the limit, came after the letters whose cipher was written; or a
--- device failed, after a front of the cipher where the sink did, and else after the whole.
+-- A text that was read, no further than the limit, and a text that was written, by the answer: all was allowed, and the
+-- cipher was written with what ends it; or the first byte that is not allowed, or one behind the limit, came after the
+-- letters whose cipher was written; or a device failed, after a front of the cipher where the sink did, and else after the
+-- whole.
 abbrev pub Types : RotorKey → List ℕ → List ℕ → List ℕ → Bool → Result (Unit {0}) DeskFault → Type 0
 Types key end read written sink_failed (Ok _) = (length read ≤ read_limit) × AreAllowedBytes read × (written ≡ cipher_text key read ++ end)
-Types key end read written sink_failed (Err (BadByte place)) = IsFirstRefused read place × (place ≤ read_limit) × (written ≡ cipher_text key (take (place - 1) read))
+Types key end read written sink_failed (Err (BadByte place)) = IsFirstRefused read place × (length read ≤ read_limit) × (written ≡ cipher_text key (take (place - 1) read))
 Types key end read written sink_failed (Err ReadTooLong) =
-    (read_limit < length read) × AreAllowedBytes (take read_limit read) × (written ≡ cipher_text key (take read_limit read))
-Types key end read written sink_failed (Err Device) = TypesFront key read written × (IsFalse sink_failed → AreAllowedBytes read × (written ≡ cipher_text key read))
+    (length read ≡ read_limit + 1) × AreAllowedBytes (take read_limit read) × (written ≡ cipher_text key (take read_limit read))
+Types key end read written sink_failed (Err Device) =
+    (length read ≤ read_limit) × TypesFront key read written × (IsFalse sink_failed → AreAllowedBytes read × (written ≡ cipher_text key read))
 Types key end read written sink_failed (Err _) = ⊥
 
 -- The same of the bytes that a source had and has yet to give, and that a sink had taken and has taken: a source that

@@ -12,20 +12,12 @@ use crate::card::{Card, Settings};
 use crate::state::{Machine, Setting, SheetDay};
 use arrayvec::ArrayVec;
 use kd_tables::{Letter, Reflector, Wheel};
-use std::error::Error;
-use std::fmt;
+use thiserror::Error;
 
 /// The models of the machine and of the sheet differ.
-#[derive(Clone, Copy, Debug, PartialEq, Eq)]
+#[derive(Clone, Copy, Debug, PartialEq, Eq, Error)]
+#[error("5 OtherModel")]
 pub struct OtherModel;
-
-impl fmt::Display for OtherModel {
-    fn fmt<W: fmt::Write>(&self, f: &mut fmt::Formatter<W>) -> fmt::Result {
-        f.write_str("the sheet is another model's")
-    }
-}
-
-impl Error for OtherModel {}
 
 /// The card that leads the machine to the day's key.
 pub fn plan(machine: &Machine, day: &SheetDay) -> Result<Card, OtherModel>

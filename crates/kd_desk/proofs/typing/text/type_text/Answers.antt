@@ -22,7 +22,7 @@ returns-in-Ok-Refused-clause-typed g c =
 pub returns-in-Err-clause-typed : goal.returns-in-Err-clause-typed
 returns-in-Err-clause-typed g c =
     let law = c.pieces_are_enciphered_in_turn.ensures in
-    IsTyped-failed law.cipher law.after _ _ _ _ _ _ _ _ _ _ _ _ c.in-Err.fault c.loop-read.invariant.typed c.in-Err.ensures.typed
+    IsTyped-failed law.cipher law.after _ _ _ _ _ _ _ _ _ _ _ _ c.in-Err.fault c.loop-read.invariant.typed refl c.in-Err.ensures.typed
 
 pub returns-clause-typed : goal.returns-clause-typed
 returns-clause-typed g c = IsTyped-probed _ _ _ _ _ _ _ _ _ _ c.loop-read.invariant.typed (omega (arith, c.loop-read.invariant.typed.within, c.loop-read-test.false)) c.expect_end.ensures.ends
