@@ -148,12 +148,12 @@ no_slot_wrong (wheel ∷ wheels) =
 -- a machine that reads as the sheet has nothing loose
 pub nothing_loose : (n : RotorParts) (s : RotorDay) → ReadsAs n s → loose_count n s ≡ 0
 nothing_loose n s h =
-    let slots : loose_slots n s ≡ 0 = ap (λ slots. count_by wrong_slot (zip slots s.wheels)) h.slots ∙ no_slot_wrong s.wheels in
-    let reflector : loose_reflector n s ≡ 0 = ap (λ b. cond b 0 1) ((same_reflector-Decides n.reflector s.reflector).1 h.reflector) in
-    let rings : loose_rings n s ≡ 0 = ap (λ rings. count_by (λ (pair : Wheel × ℕ). not (ring_of n pair.0 == pair.1)) (zip s.wheels rings)) (sym h.rings) ∙ none_wrong (ring_of n) s.wheels in
+    let slots : loose_slots n s ≡ 0 = ap (λ slots. count_by wrong_slot (zip slots s.wheels)) h.key.slots ∙ no_slot_wrong s.wheels in
+    let reflector : loose_reflector n s ≡ 0 = ap (λ b. cond b 0 1) ((same_reflector-Decides n.reflector s.reflector).1 h.key.reflector) in
+    let rings : loose_rings n s ≡ 0 = ap (λ rings. count_by (λ (pair : Wheel × ℕ). not (ring_of n pair.0 == pair.1)) (zip s.wheels rings)) (sym h.key.rings) ∙ none_wrong (ring_of n) s.wheels in
     let letters : loose_letters n s ≡ 0 = ap (λ letters. count_by (λ (pair : Wheel × ℕ). not (letter_of n pair.0 == pair.1)) (zip s.wheels letters)) (sym h.window) ∙ none_wrong (letter_of n) s.wheels in
     omega (arith, slots, reflector, rings, letters)
 
 -- so no settings whatever that lead a machine to the sheet are fewer than its loose things
 pub no_fewer : (m n : RotorParts) (s : RotorDay) (xs : List Setting) → IsLegalDay s → Leads m xs n → ReadsAs n s → loose_count m s ≤ length xs
-no_fewer m n s xs h leads reads = omega (arith, chain_lowers m n s xs h reads.model leads, nothing_loose n s reads)
+no_fewer m n s xs h leads reads = omega (arith, chain_lowers m n s xs h reads.key.model leads, nothing_loose n s reads)

@@ -18,7 +18,7 @@ use Rattle.kd_desk.specs.Box.{is_in_box}
 use Rattle.kd_desk.specs.SheetDay.{RotorDay, IsLegalDay, ReadsAs}
 use Rattle.kd_desk.proofs.BoxOrder.{holds_in_order, holds_of_pairs, count_in_order, boxed_pairs}
 use Rattle.kd_desk.proofs.Carrying.{Leads-append, length_lines, IsSetting, Sets, lines_set}
-use Rattle.kd_desk.proofs.Ciphers.{sheets_machine}
+use Rattle.kd_desk.proofs.Ciphers.{CipherTwice, sheets_machine}
 use Rattle.kd_desk.proofs.Days.{AreInBox, place_of_pair, pairs_apart, different_of_apart, boxed_of_allowed}
 use Rattle.kd_desk.proofs.Lists.{each_with, from_numbered, to_numbered, count_by-numbered, wanted_at}
 use Rattle.kd_desk.proofs.Loosening.{no_fewer}
@@ -198,11 +198,13 @@ module _ (m : RotorParts) (s : RotorDay) (legal : IsLegal m) (h : IsLegalDay s) 
         end = end;
         leads = Leads-append m (after_rings m s rings.1.letters) end (seat_lines m s ++ reflector_lines m s ++ ring_lines m s) (turn_lines m s) second turns.1.leads;
         reads = record {
-          model = same;
-          reflector = refl;
-          slots = refl;
-          rings = map_of_pairs (ring_of end) s.wheels s.rings (h.slots ∙ sym h.rings.count)
-              (holds_of_pairs (λ (pair : Wheel × ℕ). ring_of end pair.0 ≡ pair.1) m.model s.wheels s.rings different boxed rings.1.done);
+          key = record {
+            model = same;
+            reflector = refl;
+            slots = refl;
+            rings = map_of_pairs (ring_of end) s.wheels s.rings (h.slots ∙ sym h.rings.count)
+                (holds_of_pairs (λ (pair : Wheel × ℕ). ring_of end pair.0 ≡ pair.1) m.model s.wheels s.rings different boxed rings.1.done);
+          };
           window = map_of_pairs (letter_of end) s.wheels s.window (h.slots ∙ sym h.window.count)
               (from_numbered (λ (pair : Wheel × ℕ). letter_of end pair.0 ≡ pair.1) 1 (zip s.wheels s.window) turns.1.done);
         };
@@ -245,10 +247,10 @@ module _ (m : RotorParts) (s : RotorDay) (legal : IsLegal m) (h : IsLegalDay s) 
         length-append (seat_lines m s) (reflector_lines m s),
       )
 
-  pub planned_leaves : (settings : List Setting) → IsPlanned m s settings → LeavesTheSheetsMachine m s settings
-  planned_leaves settings planned =
+  pub planned_leaves : CipherTwice → (settings : List Setting) → IsPlanned m s settings → LeavesTheSheetsMachine m s settings
+  planned_leaves twice settings planned =
       let there = planned_reaches settings planned in
-      (there.end, there.leads, sheets_machine there.end s there.reads)
+      (there.end, there.leads, sheets_machine twice there.end s there.reads)
 
   pub planned_shortest : (settings : List Setting) → IsPlanned m s settings → IsShortest m s settings
   planned_shortest settings planned = λ others n leads reads. omega (arith, length_planned settings planned, no_fewer m n s others h leads reads)

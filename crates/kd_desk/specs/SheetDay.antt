@@ -40,10 +40,14 @@ pub record IsLegalDay (s : RotorDay) : Type 0 where
   pub rings : AreSlotLetters s.model s.rings
   pub window : AreSlotLetters s.model s.window
 
--- each slot has the sheet's wheel with the sheet's ring and letter, and the reflector is the sheet's
-pub record ReadsAs (m : RotorParts) (s : RotorDay) : Type 0 where
+-- each slot has the sheet's wheel with the sheet's ring, and the reflector is the sheet's
+pub record OnKey (m : RotorParts) (s : RotorDay) : Type 0 where
   pub model : m.model ≡ s.model
   pub reflector : m.reflector ≡ s.reflector
   pub slots : m.slots ≡ map Some s.wheels
   pub rings : map (ring_of m) s.wheels ≡ s.rings
+
+-- and each window shows the sheet's letter
+pub record ReadsAs (m : RotorParts) (s : RotorDay) : Type 0 where
+  pub key : OnKey m s
   pub window : map (letter_of m) s.wheels ≡ s.window

@@ -15,12 +15,16 @@ IsReady m = All (λ seated. IsSome seated) m.slots
 abbrev pub seated_wheels : RotorParts → List Wheel
 seated_wheels m = filter_map (λ seated. seated) m.slots
 
+-- the letters in their windows
+abbrev pub window_of : RotorParts → List ℕ
+window_of m = map (letter_of m) (seated_wheels m)
+
 -- the key to which a ready machine is set: its seated wheels with their rings and letters, its reflector, and no cable
 abbrev pub physical_key : RotorParts → RotorKey
 physical_key m = record {
   wheels = seated_wheels m;
   rings = map (ring_of m) (seated_wheels m);
-  window = map (letter_of m) (seated_wheels m);
+  window = window_of m;
   reflector = m.reflector;
   plugs = exchange [];
 }

@@ -1,6 +1,7 @@
 //! Laws over machines, settings and days of a sheet alone.
-ghost use Rattle.std.specs.Prelude.{◌≡◌, ◌↔◌, ℕ, ◌+◌, ◌≤◌, length, List, All, Contains, None};
+ghost use Rattle.std.specs.Prelude.{◌≡◌, ◌↔◌, ℕ, ◌+◌, ◌<◌, ◌≤◌, length, List, All, Contains, None};
 ghost use Rattle.kd_tables.specs.Tables.{box_of, reflectors_of, IsAllowed};
+ghost use Rattle.kd_enigma.specs.Cipher.{enigma_cipher, key_turned};
 ghost use Rattle.kd_desk.specs.declared.state.setting.Setting.{Setting};
 ghost use Rattle.kd_desk.specs.CardText.{card_text};
 ghost use Rattle.kd_desk.specs.Costs.{loose_count};
@@ -8,7 +9,10 @@ ghost use Rattle.kd_desk.specs.Headline.{IsSheetsMachine, LeavesTheSheetsMachine
 ghost use Rattle.kd_desk.specs.Machine.{RotorParts, StandsAt, IsLegal};
 ghost use Rattle.kd_desk.specs.Planned.{IsPlanned};
 ghost use Rattle.kd_desk.specs.Setting.{Carries, IsInRange, Leads, why_refused};
-ghost use Rattle.kd_desk.specs.SheetDay.{RotorDay, IsLegalDay, ReadsAs};
+ghost use Rattle.kd_desk.specs.SheetDay.{RotorDay, IsLegalDay, OnKey, ReadsAs};
+ghost use Rattle.kd_desk.specs.TwoCiphers.{IsReady, physical_cipher, sheet_key, window_of};
+
+use kd_enigma::laws::enciphering_twice_gives_back;
 
 /// A setting is refused exactly where the tables don't allow it, and a turn where no wheel is seated.
 pub fn tables_say_what_is_refused()
@@ -22,10 +26,25 @@ pub fn tables_say_what_is_refused()
         ↔ ((place : ℕ) × (wheel : _) × (slot ≡ place + 1) × StandsAt m.slots place wheel) }
 {}
 
-/// A machine that reads as the sheet is ready, and enciphers every text as the sheet's own machine.
+/// A machine that reads as the sheet is ready, and enciphers every text as the sheet's own machine. What it enciphers, any
+/// machine that reads as the sheet deciphers.
 pub fn reading_as_the_sheet_is_its_cipher()
     ensures { (n : RotorParts) (s : RotorDay) → ReadsAs n s → IsSheetsMachine n s }
-{}
+{
+    enciphering_twice_gives_back();
+}
+
+/// A machine on the sheet's key is ready, and enciphers every text as the sheet's own machine does that is turned to the
+/// same letters. What one machine on the key enciphers, another one that shows the same letters deciphers.
+pub fn being_on_the_sheets_key_is_its_cipher()
+    ensures ready { (n : RotorParts) (s : RotorDay) → OnKey n s → IsReady n }
+    ensures alike { (n : RotorParts) (s : RotorDay) → OnKey n s → (text : List ℕ)
+        → physical_cipher n text ≡ enigma_cipher (key_turned (sheet_key s) (window_of n)) text }
+    ensures back { (m n : RotorParts) (s : RotorDay) (text : List ℕ) → OnKey m s → OnKey n s → window_of m ≡ window_of n
+        → All (λ letter. letter < 26) text → physical_cipher n (physical_cipher m text) ≡ text }
+{
+    enciphering_twice_gives_back();
+}
 
 /// A setting puts at most one loose thing right, and the sheet's machine has none: so no settings whatever that lead
 /// a machine to the sheet are fewer than its loose things.
@@ -46,7 +65,9 @@ pub fn planned_settings_lead_to_the_sheet()
         → IsPlanned m s xs → length xs ≡ loose_count m s }
     ensures shortest { (m : RotorParts) (s : RotorDay) (xs : List Setting) → IsLegal m → IsLegalDay s → m.model ≡ s.model
         → IsPlanned m s xs → IsShortest m s xs }
-{}
+{
+    enciphering_twice_gives_back();
+}
 
 /// No two cards have one text.
 pub fn a_card_is_read_off_its_text()
