@@ -4,6 +4,9 @@ ghost use Rattle.kd_desk.specs.Stops.{fault_of_kind, IsReadFault};
 ghost use Rattle.kd_desk.specs.declared.fault.DeskFault.TheVariants.{ReadTooLong};
 ghost use Rattle.kd_desk.specs.Typing.{read_limit};
 
+#[cfg(test)]
+mod tests;
+
 use crate::fault::DeskFault;
 use crate::sheet::SheetFault;
 use std::alloc::Global;

@@ -25,35 +25,39 @@ plugs = []
 /// What stands in every card below behind its number of settings.
 const PRICES: &str = "CABLES 0 0 0 0 0 0 0 0 0 0 0 0 0\nPAIRS 0 0 0 0 0 0 0 0 0 0 0 0 0\nSUM 0\n";
 
+/// A machine that differs from the day only in ways that leave the cipher as it is.
+const CANCELLING: [&str; 2] = [
+    "rings = \"AAAAA\"\nletters = \"AAAAA\"",
+    "rings = \"BAAAA\"\nletters = \"BAAAA\"",
+];
+
 #[test]
 fn prints_the_shortest_card(rt: HostRuntime) -> Result<(), Fail> {
-    for (old, new, lines) in [
-        ("\"B\"", "\"B\"", "CARD 1 DAY 11\nSETTINGS 0\n"),
+    for (day, [old, new], lines) in [
+        (11, ["\"B\"", "\"B\""], "SETTINGS 0\n"),
+        (12, CANCELLING, "RING I A\nTURN 1 A\nSETTINGS 2\n"),
         (
-            "rings = \"AAAAA\"\nletters = \"AAAAA\"",
-            "rings = \"BAAAA\"\nletters = \"BAAAA\"",
-            "CARD 1 DAY 11\nRING I A\nTURN 1 A\nSETTINGS 2\n",
+            16,
+            ["\"I\", \"II\"", "\"II\", \"I\""],
+            "SEAT 1 I\nSEAT 2 II\nSETTINGS 2\n",
         ),
         (
-            "\"I\", \"II\"",
-            "\"II\", \"I\"",
-            "CARD 1 DAY 11\nSEAT 1 I\nSEAT 2 II\nSETTINGS 2\n",
+            1,
+            ["\"I\", \"II\"", "\"\", \"I\""],
+            "SEAT 1 I\nSEAT 2 II\nSETTINGS 2\n",
         ),
-        (
-            "\"I\", \"II\"",
-            "\"\", \"I\"",
-            "CARD 1 DAY 11\nSEAT 1 I\nSEAT 2 II\nSETTINGS 2\n",
-        ),
-        ("\"B\"", "\"C\"", "CARD 1 DAY 11\nREFLECTOR B\nSETTINGS 1\n"),
+        (31, ["\"B\"", "\"C\""], "REFLECTOR B\nSETTINGS 1\n"),
     ] {
         let machine = MACHINE.replace(rt.alloc(), old, new)?;
-        let card = format!(in rt.alloc(); "{lines}{PRICES}")?;
+        let number = format!(in rt.alloc(); "day = {day}")?;
+        let sheet = SHEET.replace(rt.alloc(), "day = 11", number.as_str())?;
+        let card = format!(in rt.alloc(); "CARD 1 DAY {day}\n{lines}{PRICES}")?;
         let mut sink = MemorySink::<256>::new(256);
         let answer = run_card(
             rt.alloc(),
             machine.as_bytes(),
-            SHEET.as_bytes(),
-            11,
+            sheet.as_bytes(),
+            day,
             &mut sink,
         );
         assert_eq!(rt; answer, Ok(()));
@@ -64,19 +68,25 @@ fn prints_the_shortest_card(rt: HostRuntime) -> Result<(), Fail> {
 
 #[test]
 fn stops_where_the_sink_fails(rt: HostRuntime) -> Result<(), Fail> {
-    let card = format!(in rt.alloc(); "CARD 1 DAY 11\nSETTINGS 0\n{PRICES}")?;
-    for room in 0..card.len() {
-        let mut sink = MemorySink::<256>::new(room.min(256));
-        let answer = run_card(
-            rt.alloc(),
-            MACHINE.as_bytes(),
-            SHEET.as_bytes(),
-            11,
-            &mut sink,
-        );
-        assert_eq!(rt; answer, Err(DeskFault::Device));
-        assert!(rt; sink.failed());
-        assert_eq!(rt; Some(sink.taken()), card.as_bytes().get(..room));
+    for ([old, new], lines) in [
+        (["\"B\"", "\"B\""], "SETTINGS 0\n"),
+        (CANCELLING, "RING I A\nTURN 1 A\nSETTINGS 2\n"),
+    ] {
+        let machine = MACHINE.replace(rt.alloc(), old, new)?;
+        let card = format!(in rt.alloc(); "CARD 1 DAY 11\n{lines}{PRICES}")?;
+        for room in 0..card.len() {
+            let mut sink = MemorySink::<256>::new(room.min(256));
+            let answer = run_card(
+                rt.alloc(),
+                machine.as_bytes(),
+                SHEET.as_bytes(),
+                11,
+                &mut sink,
+            );
+            assert_eq!(rt; answer, Err(DeskFault::Device));
+            assert!(rt; sink.failed());
+            assert_eq!(rt; Some(sink.taken()), card.as_bytes().get(..room));
+        }
     }
     Ok(())
 }
