@@ -4,13 +4,12 @@ use Rattle.std.specs.List.{AllByRecursion}
 use Rattle.std.proofs.lemmas.List.Elements.{All-from_recursion}
 use Rattle.kd_tables.specs.Permutation.{exchange}
 use Rattle.kd_tables.specs.declared.wheel.Wheel.{Wheel}
-use Rattle.kd_enigma.specs.Cipher.{RotorKey, IsPlugboard, key_turned, enigma_cipher}
-use Rattle.kd_enigma.proofs.Turning.{alphabet_board}
+use Rattle.kd_enigma.specs.Cipher.{key_turned, enigma_cipher}
 use Rattle.kd_desk.specs.Box.{ring_of, letter_of}
 use Rattle.kd_desk.specs.Headline.{IsSheetsMachine}
 use Rattle.kd_desk.specs.Machine.{RotorParts}
 use Rattle.kd_desk.specs.SheetDay.{RotorDay, OnKey, ReadsAs}
-use Rattle.kd_desk.specs.TwoCiphers.{IsReady, seated_wheels, window_of, physical_key, physical_cipher, sheet_key, sheet_cipher}
+use Rattle.kd_desk.specs.TwoCiphers.{CipherTwice, IsReady, seated_wheels, window_of, physical_key, physical_cipher, sheet_key, sheet_cipher}
 
 all_seated : (wheels : List Wheel) → filter_map (λ (seated : Option Wheel). seated) (map Some wheels) ≡ wheels
 all_seated [] = refl
@@ -19,14 +18,6 @@ all_seated (wheel ∷ wheels) = ap (λ rest. wheel ∷ rest) (all_seated wheels)
 each_seated : (wheels : List Wheel) → AllByRecursion (λ (seated : Option Wheel). IsSome seated) (map Some wheels)
 each_seated [] = tt
 each_seated (wheel ∷ wheels) = (refl, each_seated wheels)
-
--- what the law of the cipher says of two times
-abbrev pub CipherTwice : Type 0
-CipherTwice = (key : RotorKey) (text : List ℕ) → IsPlugboard key.plugs → All (λ letter. letter < 26) text → enigma_cipher key (enigma_cipher key text) ≡ text
-
-no_cables : IsPlugboard (exchange [])
-unfolding exchange
-no_cables = alphabet_board
 
 pub on_key_ready : (n : RotorParts) (s : RotorDay) → OnKey n s → IsReady n
 on_key_ready n s h =
@@ -53,12 +44,12 @@ module _ (twice : CipherTwice) where
       → physical_cipher n (physical_cipher m text) ≡ text
   on_key_back m n s text h k same letters =
       on_key_alike n s k (physical_cipher m text) ∙ ap (enigma_cipher (key_turned (sheet_key s) (window_of n))) (ap (λ key. enigma_cipher key text) (on_key_is m s (window_of n) h same))
-      ∙ twice (key_turned (sheet_key s) (window_of n)) text no_cables letters
+      ∙ twice (key_turned (sheet_key s) (window_of n)) text refl letters
 
   pub sheets_machine : (n : RotorParts) (s : RotorDay) → ReadsAs n s → IsSheetsMachine n s
   sheets_machine n s h = record {
     reads = h;
     ready = on_key_ready n s h.key;
     alike = reads_alike n s h;
-    back = λ other text k letters. reads_alike other s k (physical_cipher n text) ∙ ap (sheet_cipher s) (reads_alike n s h text) ∙ twice (sheet_key s) text no_cables letters;
+    back = λ other text k letters. reads_alike other s k (physical_cipher n text) ∙ ap (sheet_cipher s) (reads_alike n s h text) ∙ twice (sheet_key s) text refl letters;
   }

@@ -18,7 +18,8 @@ use Rattle.kd_desk.specs.Box.{is_in_box}
 use Rattle.kd_desk.specs.SheetDay.{RotorDay, IsLegalDay, ReadsAs}
 use Rattle.kd_desk.proofs.BoxOrder.{holds_in_order, holds_of_pairs, count_in_order, boxed_pairs}
 use Rattle.kd_desk.proofs.Carrying.{Leads-append, length_lines, IsSetting, Sets, lines_set}
-use Rattle.kd_desk.proofs.Ciphers.{CipherTwice, sheets_machine}
+use Rattle.kd_desk.specs.TwoCiphers.{CipherTwice}
+use Rattle.kd_desk.proofs.Ciphers.{sheets_machine}
 use Rattle.kd_desk.proofs.Days.{AreInBox, place_of_pair, pairs_apart, different_of_apart, boxed_of_allowed}
 use Rattle.kd_desk.proofs.Lists.{each_with, from_numbered, to_numbered, count_by-numbered, wanted_at}
 use Rattle.kd_desk.proofs.Loosening.{no_fewer}

@@ -1,5 +1,5 @@
 -- The cipher of the machine as it stands, and the cipher that a day of the sheet asks for.
-use Rattle.std.specs.Prelude.{ℕ, List, [], map, filter_map, All, IsSome}
+use Rattle.std.specs.Prelude.{◌≡◌, ℕ, ◌<◌, List, [], map, filter_map, All, IsSome}
 use Rattle.kd_tables.specs.declared.wheel.Wheel.{Wheel}
 use Rattle.kd_tables.specs.Permutation.{exchange}
 use Rattle.kd_enigma.specs.Cipher.{RotorKey, enigma_cipher}
@@ -45,3 +45,7 @@ physical_cipher m = enigma_cipher (physical_key m)
 
 abbrev pub sheet_cipher : RotorDay → List ℕ → List ℕ
 sheet_cipher s = enigma_cipher (sheet_key s)
+
+-- enciphering twice on a key without cables gives the text back
+abbrev pub CipherTwice : Type 0
+CipherTwice = (key : RotorKey) (text : List ℕ) → key.plugs ≡ exchange [] → All (λ letter. letter < 26) text → enigma_cipher key (enigma_cipher key text) ≡ text

@@ -10,9 +10,17 @@ ghost use Rattle.kd_desk.specs.Machine.{RotorParts, StandsAt, IsLegal};
 ghost use Rattle.kd_desk.specs.Planned.{IsPlanned};
 ghost use Rattle.kd_desk.specs.Setting.{Carries, IsInRange, Leads, why_refused};
 ghost use Rattle.kd_desk.specs.SheetDay.{RotorDay, IsLegalDay, OnKey, ReadsAs};
-ghost use Rattle.kd_desk.specs.TwoCiphers.{IsReady, physical_cipher, sheet_key, window_of};
+ghost use Rattle.kd_desk.specs.TwoCiphers.{CipherTwice, IsReady, physical_cipher, sheet_key, window_of};
 
-use kd_enigma::laws::enciphering_twice_gives_back;
+use kd_enigma::laws;
+
+/// Enciphering twice on a key without cables gives the text back.
+pub(crate) fn without_cables_twice_gives_back()
+    ensures { CipherTwice }
+{
+    laws::enciphering_twice_gives_back();
+    laws::an_empty_board_is_a_plugboard();
+}
 
 /// A setting is refused exactly where the tables don't allow it, and a turn where no wheel is seated.
 pub fn tables_say_what_is_refused()
@@ -31,7 +39,7 @@ pub fn tables_say_what_is_refused()
 pub fn reading_as_the_sheet_is_its_cipher()
     ensures { (n : RotorParts) (s : RotorDay) → ReadsAs n s → IsSheetsMachine n s }
 {
-    enciphering_twice_gives_back();
+    without_cables_twice_gives_back();
 }
 
 /// A machine on the sheet's key is ready, and enciphers every text as the sheet's own machine does that is turned to the
@@ -43,7 +51,7 @@ pub fn being_on_the_sheets_key_is_its_cipher()
     ensures back { (m n : RotorParts) (s : RotorDay) (text : List ℕ) → OnKey m s → OnKey n s → window_of m ≡ window_of n
         → All (λ letter. letter < 26) text → physical_cipher n (physical_cipher m text) ≡ text }
 {
-    enciphering_twice_gives_back();
+    without_cables_twice_gives_back();
 }
 
 /// A setting puts at most one loose thing right, and the sheet's machine has none: so no settings whatever that lead
@@ -66,7 +74,7 @@ pub fn planned_settings_lead_to_the_sheet()
     ensures shortest { (m : RotorParts) (s : RotorDay) (xs : List Setting) → IsLegal m → IsLegalDay s → m.model ≡ s.model
         → IsPlanned m s xs → IsShortest m s xs }
 {
-    enciphering_twice_gives_back();
+    without_cables_twice_gives_back();
 }
 
 /// No two cards have one text.

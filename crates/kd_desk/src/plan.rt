@@ -9,9 +9,9 @@ ghost use Rattle.kd_desk.specs.Planned.{unless_so, seat_lines, ring_lines, turn_
 ghost use Rattle.kd_desk.specs.SheetDay.{IsLegalDay};
 
 use crate::card::{Card, Settings};
+use crate::laws::without_cables_twice_gives_back;
 use crate::state::{Machine, Setting, SheetDay};
 use arrayvec::ArrayVec;
-use kd_enigma::laws;
 use kd_tables::{Letter, Reflector, Wheel};
 use thiserror::Error;
 
@@ -30,7 +30,7 @@ pub fn plan(machine: &Machine, day: &SheetDay) -> Result<Card, OtherModel>
     if machine.model() != day.model() {
         return Err(OtherModel);
     }
-    laws::enciphering_twice_gives_back();
+    without_cables_twice_gives_back();
     Ok(planned_card(machine, day))
 }
 

@@ -1,6 +1,6 @@
 //! Laws over the definition of the cipher alone.
-ghost use Rattle.std.specs.Prelude.{◌≡◌, ◌+◌, ◌<◌, ◌++◌, List, ℕ, length, All};
-ghost use Rattle.kd_tables.specs.Permutation.{IsOwnInverse, MovesEachLetter};
+ghost use Rattle.std.specs.Prelude.{◌≡◌, ◌+◌, ◌<◌, ◌++◌, List, [], ℕ, length, All};
+ghost use Rattle.kd_tables.specs.Permutation.{exchange, IsOwnInverse, MovesEachLetter};
 ghost use Rattle.kd_enigma.specs.Cipher.{RotorKey, IsPlugboard, key_after, path, enigma_cipher};
 ghost use Rattle.kd_enigma.specs.Seated.{TablesAreSound};
 
@@ -12,6 +12,11 @@ pub(crate) fn tables_are_sound()
     kd_tables::laws::products_are_permutations();
     kd_tables::laws::inverse_undoes();
 }
+
+/// A board without cables exchanges no letters, and is a plugboard.
+pub fn an_empty_board_is_a_plugboard()
+    ensures { IsPlugboard (exchange []) }
+{}
 
 /// The current that comes back by the way that it took leads each letter to another one, and that one back.
 pub fn path_is_its_own_inverse()

@@ -8,4 +8,4 @@ pub returns-clause-alike : goal.returns-clause-alike
 returns-clause-alike c = on_key_alike
 
 pub returns-clause-back : goal.returns-clause-back
-returns-clause-back c = on_key_back c.enciphering_twice_gives_back.ensures
+returns-clause-back c = on_key_back c.without_cables_twice_gives_back.ensures
