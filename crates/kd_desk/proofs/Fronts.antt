@@ -3,10 +3,10 @@ use Rattle.std.proofs.Common.{◌≡◌, ℕ, ◌≤◌, ◌<◌, ◌+◌, ◌-�
 use Rattle.std.proofs.lemmas.List.Elements.{All-nil}
 use Rattle.std.specs.Io.{StartsWith}
 use Rattle.kd_enigma.specs.Cipher.{RotorKey}
-use Rattle.kd_desk.specs.Typing.{is_allowed, AreAllowedBytes, Lights, TypesFront, IsFirstRefused}
+use Rattle.kd_desk.specs.Typing.{may_be_typed, AreAllowedBytes, Lights, TypesFront, IsFirstRefused}
 
 pub TypesFront-nil : (key : RotorKey) → TypesFront key [] []
-TypesFront-nil key = record { front = []; of_read = refl; allowed = All-nil (λ (byte : ℕ). IsTrue (is_allowed byte)); written = refl }
+TypesFront-nil key = record { front = []; of_read = refl; allowed = All-nil (λ (byte : ℕ). IsTrue (may_be_typed byte)); written = refl }
 
 -- a front of the lamps of so many bytes
 pub TypesFront-take : (key left : RotorKey) (bytes lamps text : List ℕ) (n : ℕ) → n ≤ length bytes → AreAllowedBytes (take n bytes)
@@ -19,13 +19,13 @@ TypesFront-take key left bytes lamps text n within allowed lights starts = recor
 }
 
 -- the byte behind a front of allowed bytes
-pub IsFirstRefused-behind : (bytes : List ℕ) (n : ℕ) → n < length bytes → AreAllowedBytes (take n bytes) → IsFalse (is_allowed (slice_index bytes n)) → IsFirstRefused bytes (n + 1)
+pub IsFirstRefused-behind : (bytes : List ℕ) (n : ℕ) → n < length bytes → AreAllowedBytes (take n bytes) → IsFalse (may_be_typed (slice_index bytes n)) → IsFirstRefused bytes (n + 1)
 IsFirstRefused-behind bytes n within before here =
     let back : n + 1 - 1 ≡ n = omega arith in
     record {
       within = (omega arith, omega arith);
       before = subst (λ k. AreAllowedBytes (take k bytes)) (sym back) before;
-      here = subst (λ k. IsFalse (is_allowed (slice_index bytes k))) (sym back) here;
+      here = subst (λ k. IsFalse (may_be_typed (slice_index bytes k))) (sym back) here;
     }
 
 -- where a call failed, the flag is not down

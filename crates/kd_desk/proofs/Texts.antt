@@ -13,7 +13,8 @@ use Rattle.kd_desk.specs.declared.typing.step.Step.TheVariants.{Typed, Refused}
 use Rattle.kd_desk.specs.declared.fault.DeskFault.{DeskFault}
 use Rattle.kd_desk.specs.declared.fault.DeskFault.TheVariants.{File, NotReady, OtherModel, Device, BadByte, ReadTooLong, NoSuchDay}
 use Rattle.kd_desk.specs.Writing.{TakesFront}
-use Rattle.kd_desk.specs.Typing.{is_allowed, AreAllowedBytes, IsFirstRefused, cipher_text, read_limit, Lights, TypesFront, IsTyped, StepTyped, Ends}
+use Rattle.kd_desk.specs.Typing.{may_be_typed, AreAllowedBytes, IsFirstRefused, cipher_text, read_limit, Lights, TypesFront, IsTyped}
+use Rattle.kd_desk.specs.TypingSteps.{StepTyped, Ends}
 use Rattle.kd_desk.proofs.Lamps.{CipherInTurn, KeyInTurn, Lights-then}
 
 -- so many bytes were read and typed
@@ -39,9 +40,9 @@ IsFirstRefused-behind read bytes n allowed refused =
     record {
       within = (omega arith, omega (arith, refused.within.1, length-append read bytes));
       before = subst (λ k. AreAllowedBytes (take k (read ++ bytes))) (sym there) (subst AreAllowedBytes (sym (take-append-add read bytes n))
-          (All-append (λ (byte : ℕ). IsTrue (is_allowed byte)) read (take n bytes) allowed (subst (λ k. AreAllowedBytes (take k bytes)) back refused.before)));
-      here = subst (λ k. IsFalse (is_allowed (slice_index (read ++ bytes) k))) (sym there)
-          (subst (λ b. IsFalse (is_allowed b)) (sym (get_or-append-add read bytes n 0)) (subst (λ k. IsFalse (is_allowed (slice_index bytes k))) back refused.here));
+          (All-append (λ (byte : ℕ). IsTrue (may_be_typed byte)) read (take n bytes) allowed (subst (λ k. AreAllowedBytes (take k bytes)) back refused.before)));
+      here = subst (λ k. IsFalse (may_be_typed (slice_index (read ++ bytes) k))) (sym there)
+          (subst (λ b. IsFalse (may_be_typed b)) (sym (get_or-append-add read bytes n 0)) (subst (λ k. IsFalse (may_be_typed (slice_index bytes k))) back refused.here));
     }
 
 module _ (cipher_in_turn : CipherInTurn) (key_in_turn : KeyInTurn) where
@@ -53,7 +54,7 @@ module _ (cipher_in_turn : CipherInTurn) (key_in_turn : KeyInTurn) where
   TypesFront-behind key now read text bytes lamps allowed lights types = record {
     front = read ++ types.front;
     of_read = StartsWith-behind read bytes types.front types.of_read;
-    allowed = All-append (λ (byte : ℕ). IsTrue (is_allowed byte)) read types.front allowed types.allowed;
+    allowed = All-append (λ (byte : ℕ). IsTrue (may_be_typed byte)) read types.front allowed types.allowed;
     written = subst (λ l. StartsWith l (text ++ lamps)) (sym (cipher_behind key now read text types.front lights))
         (StartsWith-behind text (cipher_text now types.front) lamps types.written);
   }
@@ -67,7 +68,7 @@ module _ (cipher_in_turn : CipherInTurn) (key_in_turn : KeyInTurn) where
     within = omega (arith, before.within, step.within, step.types.0, space);
     given = Consumes-trans had has next before.read step.read before.given step.given;
     written = Appends-trans took taken wrote before.text step.text before.written step.written;
-    allowed = All-append (λ (byte : ℕ). IsTrue (is_allowed byte)) before.read step.read before.allowed step.types.2;
+    allowed = All-append (λ (byte : ℕ). IsTrue (may_be_typed byte)) before.read step.read before.allowed step.types.2;
     lights = Lights-then cipher_in_turn key_in_turn key now left before.read step.read before.text step.text before.lights step.types.3;
   }
 

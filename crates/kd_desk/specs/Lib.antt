@@ -22,4 +22,5 @@ pub mod SheetWheels
 pub mod Stops
 pub mod TwoCiphers
 pub mod Typing
+pub mod TypingSteps
 pub mod Writing

@@ -2,7 +2,7 @@
 use Rattle.std.specs.Prelude.{◌≡◌, ◌⊎◌, Bool, true, false, Result, Err}
 use Rattle.kd_desk.specs.declared.sheet.fault.SheetFault.TheVariants.{NoMemory}
 use Rattle.kd_desk.specs.declared.fault.DeskFault.{DeskFault}
-use Rattle.kd_desk.specs.declared.fault.DeskFault.TheVariants.{File, NotReady, OtherModel, NoSuchDay}
+use Rattle.kd_desk.specs.declared.fault.DeskFault.TheVariants.{File, NotReady, OtherModel, NoSuchDay, Device}
 
 -- the call ran out of memory while it read a file
 abbrev pub RanOut : Result (Unit {0}) DeskFault → Type 0
@@ -19,3 +19,8 @@ is_refused_before (Err NotReady) = true
 is_refused_before (Err OtherModel) = true
 is_refused_before (Err NoSuchDay) = true
 is_refused_before _ = false
+
+-- whether a call failed by a device
+abbrev pub is_device : Result (Unit {0}) DeskFault → Bool
+is_device (Err Device) = true
+is_device _ = false

@@ -1,12 +1,10 @@
 -- What the desk types: the text that it reads, and what it writes.
-use Rattle.std.specs.Prelude.{◌≡◌, ℕ, ◌+◌, ◌-◌, ◌<◌, ◌≤◌, ◌==◌, Bool, true, false, ◌||◌, List, ◌++◌, length, take, map, filter, slice_index, All, IsTrue, IsFalse, [], ◌∷◌, Option, Result, Ok, Err, OnOk}
+use Rattle.std.specs.Prelude.{◌≡◌, ℕ, ◌+◌, ◌-◌, ◌≤◌, ◌==◌, Bool, ◌||◌, List, ◌++◌, length, take, map, filter, slice_index, All, IsTrue, IsFalse, Option, Result, Ok, Err, OnOk}
 use Rattle.std.specs.Io.{StartsWith}
 use Rattle.std.specs.Io.KnownBytes.{Appends, Consumes, IsAtEnd}
 use Rattle.kd_tables.specs.Tables.{letters_of}
 use Rattle.kd_enigma.specs.Cipher.{RotorKey, key_after, enigma_cipher}
 use Rattle.kd_desk.specs.Letters.{is_capital}
-use Rattle.kd_desk.specs.declared.typing.step.Step.{Step}
-use Rattle.kd_desk.specs.declared.typing.step.Step.TheVariants.{Ended, Typed, Refused}
 use Rattle.kd_desk.specs.declared.fault.DeskFault.{DeskFault}
 use Rattle.kd_desk.specs.declared.fault.DeskFault.TheVariants.{Device, BadByte, ReadTooLong}
 
@@ -15,17 +13,17 @@ abbrev pub is_separator : ℕ → Bool
 is_separator byte = byte == 32 || (byte == 13 || byte == 10)
 
 -- what may stand in a text that is typed: capital letters, and what separates them
-abbrev pub is_allowed : ℕ → Bool
-is_allowed byte = is_capital byte || is_separator byte
+abbrev pub may_be_typed : ℕ → Bool
+may_be_typed byte = is_capital byte || is_separator byte
 
 abbrev pub AreAllowedBytes : List ℕ → Type 0
-AreAllowedBytes bytes = All (λ byte. IsTrue (is_allowed byte)) bytes
+AreAllowedBytes bytes = All (λ byte. IsTrue (may_be_typed byte)) bytes
 
 -- the byte at the place, counted from 1, is the first that is not allowed
 pub record IsFirstRefused (bytes : List ℕ) (place : ℕ) : Type 0 where
   pub within : (1 ≤ place) × (place ≤ length bytes)
   pub before : AreAllowedBytes (take (place - 1) bytes)
-  pub here : IsFalse (is_allowed (slice_index bytes (place - 1)))
+  pub here : IsFalse (may_be_typed (slice_index bytes (place - 1)))
 
 -- the letters among the bytes
 abbrev pub typed_letters : List ℕ → List ℕ
@@ -73,35 +71,3 @@ pub record IsTyped (key : RotorKey) (end : List ℕ) (had has : Option (List ℕ
   pub written : Appends took taken text
   pub types : Types key end read text sink_failed answer
   pub ended : OnOk answer (IsAtEnd has)
-
--- What a step of the typing did with the bytes that it read: there were none; all were allowed, and typed; those before
--- the first that is not allowed were typed; or a device failed, and where it was the source, there were none.
-abbrev pub StepTypes : RotorKey → RotorKey → List ℕ → List ℕ → Bool → Result Step DeskFault → Type 0
-StepTypes key left bytes text sink_failed (Ok Ended) = (bytes ≡ []) × (text ≡ [])
-StepTypes key left bytes text sink_failed (Ok (Typed count)) = (count ≡ length bytes) × (0 < count) × AreAllowedBytes bytes × Lights key left bytes text
-StepTypes key left bytes text sink_failed (Ok (Refused front)) = IsFirstRefused bytes (front + 1) × (text ≡ cipher_text key (take front bytes))
-StepTypes key left bytes text sink_failed (Err Device) = TypesFront key bytes text × (IsFalse sink_failed → (bytes ≡ []) × (text ≡ []))
-StepTypes key left bytes text sink_failed (Err _) = ⊥
-
--- The same of the bytes that a source had and has yet to give, and that a sink had taken and has taken: a source that
--- gave none has none left.
-pub record StepTyped (key left : RotorKey) (room : ℕ) (had has : Option (List ℕ)) (took taken : Option (List ℕ)) (sink_failed : Bool) (answer : Result Step DeskFault) : Type 0 where
-  pub read : List ℕ
-  pub text : List ℕ
-  pub within : length read ≤ room
-  pub given : Consumes had has read
-  pub written : Appends took taken text
-  pub types : StepTypes key left read text sink_failed answer
-  pub ended : answer ≡ Ok Ended → IsAtEnd has
-
--- Whether the end was met behind a text that is as long as may be read: nothing, or a byte, was given.
-abbrev pub Ends : Option (List ℕ) → Option (List ℕ) → Result (Unit {0}) DeskFault → Type 0
-Ends had has (Ok _) = Consumes had has [] × IsAtEnd has
-Ends had has (Err ReadTooLong) = (byte : ℕ) × Consumes had has (byte ∷ [])
-Ends had has (Err Device) = Consumes had has []
-Ends had has (Err _) = ⊥
-
--- whether a call failed by a device
-abbrev pub is_device : Result (Unit {0}) DeskFault → Bool
-is_device (Err Device) = true
-is_device _ = false

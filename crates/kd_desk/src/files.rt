@@ -8,13 +8,11 @@ ghost use Rattle.kd_desk.specs.Typing.{read_limit};
 mod tests;
 
 use crate::fault::DeskFault;
+use crate::limit::READ_LIMIT;
 use crate::sheet::SheetFault;
 use std::alloc::Global;
 use std::fs::File;
 use std::io::{self, Read};
-
-/// How many bytes of a file are read at most.
-pub const FILE_LIMIT: u64 = 1_048_576;
 
 /// The bytes of the file of this name. One that can't be opened or read is `Device`, and a longer one than 1,048,576
 /// bytes `ReadTooLong`.
@@ -34,11 +32,11 @@ fn read_whole<R: Read + Drop>(alloc: Global, reader: R) -> Result<Vec<u8>, DeskF
     ensures whole { IfOk result (λ bytes. IfSome (R.remaining reader) (λ all. bytes.items ≡ all)) }
 {
     let mut bytes = Vec::new(alloc);
-    let mut front = reader.take(FILE_LIMIT + 1);
+    let mut front = reader.take(READ_LIMIT as u64 + 1);
     if let Err(error) = front.read_to_end(&mut bytes) {
         return Err(fault(&error));
     }
-    if bytes.len() as u64 > FILE_LIMIT {
+    if bytes.len() > READ_LIMIT {
         return Err(DeskFault::ReadTooLong);
     }
     Ok(bytes)

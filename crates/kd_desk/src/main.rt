@@ -7,6 +7,7 @@ mod command;
 mod fault;
 mod files;
 mod laws;
+mod limit;
 mod plan;
 mod ports;
 mod run_card;

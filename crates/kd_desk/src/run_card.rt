@@ -3,8 +3,7 @@ ghost use Rattle.kd_desk.specs.declared.fault.DeskFault.TheVariants.{File, NoSuc
 ghost use Rattle.kd_desk.specs.MachineFile.{machine_of};
 ghost use Rattle.kd_desk.specs.SheetFile.{sheet_of};
 ghost use Rattle.kd_desk.specs.Days.{day_of};
-ghost use Rattle.kd_desk.specs.Typing.{is_device};
-ghost use Rattle.kd_desk.specs.RunSteps.{RanOut, AnswersFault, is_refused_before};
+ghost use Rattle.kd_desk.specs.RunSteps.{RanOut, AnswersFault, is_refused_before, is_device};
 ghost use Rattle.kd_desk.specs.RunCard.{WritesCard};
 
 #[cfg(test)]
@@ -63,6 +62,7 @@ fn print_card<W: Sink>(machine: &Machine, day: &SheetDay, sink: &mut W) -> Resul
     let Ok(card) = plan(machine, day) else {
         return Err(DeskFault::OtherModel);
     };
+    // The number of a legal day has two digits at most, and `model` tells the prover that the day is legal.
     let _ = day.model();
     match write_card(sink, day.day(), &card) {
         Ok(()) => Ok(()),

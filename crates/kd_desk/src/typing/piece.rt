@@ -1,5 +1,5 @@
 ghost use Rattle.std.specs.Prelude.{◌≡◌, ◌<◌, ◌≤◌, take, length, slice_index, IsFalse, [], ◌∷◌, option_to_list};
-ghost use Rattle.kd_desk.specs.Typing.{is_allowed, AreAllowedBytes, Lights};
+ghost use Rattle.kd_desk.specs.Typing.{may_be_typed, AreAllowedBytes, Lights};
 
 use arrayvec::ArrayVec;
 use kd_enigma::{Enigma, laws};
@@ -9,8 +9,8 @@ use kd_tables::Letter;
 pub const PIECE: usize = 4096;
 
 /// Whether the byte is a capital letter or a separator: a space, a carriage return or a line feed.
-fn is_allowed(byte: u8) -> bool
-    ensures { result ≡ is_allowed byte }
+fn may_be_typed(byte: u8) -> bool
+    ensures { result ≡ may_be_typed byte }
 {
     byte.is_ascii_uppercase() || matches!(byte, b' ' | b'\r' | b'\n')
 }
@@ -19,10 +19,10 @@ fn is_allowed(byte: u8) -> bool
 pub fn allowed_front(bytes: &[u8]) -> usize
     ensures within { result ≤ length bytes.now }
     ensures front { AreAllowedBytes (take result bytes.now) }
-    ensures next { result < length bytes.now → IsFalse (is_allowed (slice_index bytes.now result)) }
+    ensures next { result < length bytes.now → IsFalse (may_be_typed (slice_index bytes.now result)) }
 {
     for (place, byte) in bytes.iter().enumerate() {
-        if !is_allowed(*byte) {
+        if !may_be_typed(*byte) {
             return place;
         }
     }

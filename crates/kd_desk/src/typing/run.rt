@@ -2,8 +2,8 @@ ghost use Rattle.std.specs.Prelude.{◌≡◌, ◌||◌, ◌⊎◌, [], ◌∷�
 ghost use Rattle.kd_desk.specs.declared.fault.DeskFault.TheVariants.{File, NotReady};
 ghost use Rattle.kd_desk.specs.MachineFile.{machine_of};
 ghost use Rattle.kd_desk.specs.TwoCiphers.{IsReady, physical_key};
-ghost use Rattle.kd_desk.specs.Typing.{IsTyped, is_device};
-ghost use Rattle.kd_desk.specs.RunSteps.{RanOut, AnswersFault, is_refused_before};
+ghost use Rattle.kd_desk.specs.Typing.{IsTyped};
+ghost use Rattle.kd_desk.specs.RunSteps.{RanOut, AnswersFault, is_device, is_refused_before};
 
 use super::text::type_text;
 use crate::fault::DeskFault;

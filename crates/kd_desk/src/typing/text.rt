@@ -1,13 +1,13 @@
 ghost use Rattle.std.specs.Prelude.{◌≡◌, ◌||◌, []};
-ghost use Rattle.kd_desk.specs.Typing.{IsTyped, Ends, is_device};
+ghost use Rattle.kd_desk.specs.RunSteps.{is_device};
+ghost use Rattle.kd_desk.specs.Typing.{IsTyped};
+ghost use Rattle.kd_desk.specs.TypingSteps.{Ends};
 
 use super::step::{Step, type_next};
 use crate::fault::DeskFault;
+use crate::limit::READ_LIMIT;
 use kd_enigma::{Enigma, laws};
 use kd_tables::{Sink, Source};
-
-/// How many bytes of a text are read at most.
-pub const READ_LIMIT: usize = 1_048_576;
 
 /// Types all that the source gives, up to the first byte that is not allowed.
 pub fn type_text<R: Source, W: Sink>(

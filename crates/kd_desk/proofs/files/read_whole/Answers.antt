@@ -19,4 +19,4 @@ returns-clause-whole g c =
     let inner = c.take-front.ensures.inner in
     let bytes = subst (λ n. IfSome (option_map (take n) (g.R.Read.remaining c.args.reader)) (λ xs. read.items ≡ c.new-bytes.result.items ++ xs)) limit
     (subst (λ r. IfSome (option_map (take c.take-front.result.limit) (g.R.Read.remaining r)) (λ xs. read.items ≡ c.new-bytes.result.items ++ xs)) inner c.in_default.ensures.bytes) in
-    whole 1048577 (g.R.Read.remaining c.args.reader) read.items c.new-bytes.result.items c.new-bytes.ensures.items bytes (omega (arith, c.len.ensures, c.if-len-gt-FILE_LIMIT.false, read.ok))
+    whole 1048577 (g.R.Read.remaining c.args.reader) read.items c.new-bytes.result.items c.new-bytes.ensures.items bytes (omega (arith, c.len.ensures, c.if-len-gt-READ_LIMIT.false, read.ok))
