@@ -62,8 +62,6 @@ fn print_card<W: Sink>(machine: &Machine, day: &SheetDay, sink: &mut W) -> Resul
     let Ok(card) = plan(machine, day) else {
         return Err(DeskFault::OtherModel);
     };
-    // The number of a legal day has two digits at most, and `model` tells the prover that the day is legal.
-    let _ = day.model();
     match write_card(sink, day.day(), &card) {
         Ok(()) => Ok(()),
         Err(_) => Err(DeskFault::Device),

@@ -30,6 +30,7 @@ impl std::marker::Model for SheetDay {
 }
 
 impl SheetDay {
+    ghost use Rattle.std.specs.Prelude.{◌≡◌, ◌≤◌};
     ghost use Rattle.kd_desk.specs.SheetDay.{IsLegalDay};
 
     /// The day of these values.
@@ -56,7 +57,9 @@ impl SheetDay {
 
     /// The day of the month, from 1 to 31.
     pub fn day(&self) -> u8
-        ensures { result ≡ self.now.day }
+        ensures value { result ≡ self.now.day }
+        ensures first { 1 ≤ result }
+        ensures last { result ≤ 31 }
     {
         self.day
     }
