@@ -1,5 +1,5 @@
 -- What a key sheet says, day by day, and in each day key by key, in the order in which its keys are tested.
-use Rattle.std.specs.Prelude.{ℕ, ◌==◌, ◌&&◌, nat_le, Bool, false, not, List, [], ◌∷◌, ◌++◌, length, Option, None, Result, Ok, ok_or, is_some, if◌then◌else◌}
+use Rattle.std.specs.Prelude.{ℕ, ◌==◌, ◌&&◌, nat_le, Bool, false, not, List, [], ◌∷◌, ◌++◌, length, Option, None, Result, Ok, ok_or, is_some}
 use Rattle.std.specs.List.{list_all}
 use Rattle.std.specs.Option.{option_map_or}
 use Rattle.toml.specs.Data.{Data, string, array, Members, get_member, as_str, as_table}
@@ -11,7 +11,7 @@ use Rattle.kd_desk.specs.Document.{◌>>=◌, ◌>>◌, demand, document_of, val
 use Rattle.kd_desk.specs.Key.{key_name}
 use Rattle.kd_desk.specs.Letters.{capital_letters}
 use Rattle.kd_desk.specs.MachineFile.{model_in, reflector_in}
-use Rattle.kd_desk.specs.Numbers.{number_to, letters_behind}
+use Rattle.kd_desk.specs.Numbers.{number_to, numbered_letters}
 use Rattle.kd_desk.specs.SheetDay.{RotorDay}
 use Rattle.kd_desk.specs.SheetWheels.{wheels_behind}
 use Rattle.kd_desk.specs.declared.sheet.key.Key.TheVariants as keys
@@ -35,10 +35,6 @@ wheels_in model table = do
   items ← items_in keys.Wheels value
   demand (length items == slots_of model) (BadValue keys.Wheels)
   wheels_behind model [] items
-
--- the letters that exactly so many items name by their numbers
-abbrev pub numbered_letters : ℕ → List Data → Option (List ℕ)
-numbered_letters count items = if length items == count then letters_behind [] items else None
 
 -- exactly so many rings, as a text of capital letters or as numbers of which 1 is A
 abbrev pub rings_of : ℕ → Data → Option (List ℕ)
