@@ -5,7 +5,9 @@ pub mod Ciphers
 pub mod DayLists
 pub mod Days
 pub mod Documents
+pub mod Earlier
 pub mod Fronts
+pub mod ItemWheels
 pub mod Lamps
 pub mod Lists
 pub mod Loosening
@@ -18,5 +20,4 @@ pub mod SeatLines
 pub mod Seating
 pub mod TextTaken
 pub mod Texts
-pub mod WheelRows
 pub mod Wheels

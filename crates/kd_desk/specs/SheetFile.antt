@@ -13,7 +13,7 @@ use Rattle.kd_desk.specs.Letters.{capital_letters}
 use Rattle.kd_desk.specs.MachineFile.{model_in, reflector_in}
 use Rattle.kd_desk.specs.Numbers.{number_to, numbered_letters}
 use Rattle.kd_desk.specs.SheetDay.{RotorDay}
-use Rattle.kd_desk.specs.SheetWheels.{wheels_behind}
+use Rattle.kd_desk.specs.SheetWheels.{wheels_of}
 use Rattle.kd_desk.specs.declared.sheet.key.Key.TheVariants as keys
 use Rattle.kd_desk.specs.declared.sheet.fault.SheetFault.{SheetFault}
 use Rattle.kd_desk.specs.declared.sheet.fault.SheetFault.TheVariants.{BadValue, DayTwice}
@@ -34,7 +34,7 @@ wheels_in model table = do
   value ← value_at keys.Wheels table
   items ← items_in keys.Wheels value
   demand (length items == slots_of model) (BadValue keys.Wheels)
-  wheels_behind model [] items
+  wheels_of model items
 
 -- exactly so many rings, as a text of capital letters or as numbers of which 1 is A
 abbrev pub rings_of : ℕ → Data → Option (List ℕ)

@@ -3,7 +3,7 @@ ghost use Rattle.std.specs.Prelude.{◌≡◌, ◌↔◌, ◌+◌, ◌<◌, [], 
 ghost use Rattle.toml.specs.View.{view};
 ghost use Rattle.kd_tables.specs.Tables.{slots_of, IsAllowed};
 ghost use Rattle.kd_desk.specs.Machine.{AreAllowed, AreApart};
-ghost use Rattle.kd_desk.specs.Seats.{is_allowed, is_seated, wheel_for, seat_for, seats_behind};
+ghost use Rattle.kd_desk.specs.Seats.{is_allowed, is_seated, wheel_for, seat_for, seats_of};
 
 use super::fault::SheetFault;
 use super::key::Key;
@@ -74,7 +74,7 @@ fn seat_for(
 pub fn seats(model: Model, items: &[Value]) -> Result<[Option<Wheel>; 3], SheetFault>
     requires slots { slots_of model ≡ 3 }
     requires items { length items.now ≡ 3 }
-    ensures value { result ≡ seats_behind model [] (map view items.now) }
+    ensures value { result ≡ seats_of model (map view items.now) }
     ensures allowed { IfOk result (AreAllowed model) }
     ensures apart { IfOk result AreApart }
 {

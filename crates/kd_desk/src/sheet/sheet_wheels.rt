@@ -3,7 +3,7 @@ ghost use Rattle.std.specs.Prelude.{◌≡◌, ◌+◌, ◌<◌, [], map, length
 ghost use Rattle.toml.specs.View.{view};
 ghost use Rattle.kd_tables.specs.Tables.{slots_of, IsAllowed};
 ghost use Rattle.kd_desk.specs.Machine.{AreAllowed, AreApart};
-ghost use Rattle.kd_desk.specs.SheetWheels.{named_wheel, wheels_behind};
+ghost use Rattle.kd_desk.specs.SheetWheels.{named_wheel, wheels_of};
 
 use super::fault::SheetFault;
 use super::key::Key;
@@ -27,7 +27,7 @@ fn named_wheel(model: Model, slots: &[Option<Wheel>], item: &Value) -> Result<Wh
 pub fn wheels(model: Model, items: &[Value]) -> Result<[Wheel; 3], SheetFault>
     requires slots { slots_of model ≡ 3 }
     requires items { length items.now ≡ 3 }
-    ensures value { result ≡ wheels_behind model [] (map view items.now) }
+    ensures value { result ≡ wheels_of model (map view items.now) }
     ensures allowed { IfOk result (λ wheels. AreAllowed model (map Some wheels)) }
     ensures apart { IfOk result (λ wheels. AreApart (map Some wheels)) }
 {
