@@ -10,8 +10,9 @@ use Rattle.kd_tables.specs.declared.wheel.Wheel.{Wheel}
 use Rattle.toml.specs.Data.{Data, as_str}
 use Rattle.std.specs.Option.{option_and_then}
 use Rattle.kd_desk.specs.Document.{◌>>=◌, ◌>>◌, demand}
+use Rattle.kd_desk.specs.Box.{is_allowed}
 use Rattle.kd_desk.specs.Names.{wheel_by_name}
-use Rattle.kd_desk.specs.Seats.{is_allowed, is_seated, wheel_for, seat_for, wheel_of_item}
+use Rattle.kd_desk.specs.Seats.{is_seated, wheel_for, seat_for, wheel_of_item}
 use Rattle.kd_desk.specs.SheetWheels.{named_wheel}
 use Rattle.kd_desk.specs.declared.sheet.key.Key.{Key}
 use Rattle.kd_desk.specs.declared.sheet.key.Key.TheVariants as keys

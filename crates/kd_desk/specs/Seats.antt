@@ -1,11 +1,11 @@
 -- Which wheels the items of a file seat, slot by slot from the left.
-use Rattle.std.specs.Prelude.{ℕ, ◌+◌, ◌==◌, ◌&&◌, Bool, not, List, [], ◌∷◌, length, map, take, Option, Some, None, Result, Ok, ok_or, if◌then◌else◌}
+use Rattle.std.specs.Prelude.{ℕ, ◌+◌, ◌==◌, Bool, not, List, [], ◌∷◌, length, map, take, Option, Some, None, Result, Ok, ok_or, if◌then◌else◌}
 use Rattle.std.specs.List.{list_any, enumerate_from}
 use Rattle.std.specs.Option.{option_and_then}
 use Rattle.toml.specs.Data.{Data, as_str}
 use Rattle.kd_tables.specs.declared.model.Model.{Model}
 use Rattle.kd_tables.specs.declared.wheel.Wheel.{Wheel}
-use Rattle.kd_desk.specs.Box.{holds, is_in_box, is_slot}
+use Rattle.kd_desk.specs.Box.{holds, is_allowed}
 use Rattle.kd_desk.specs.Document.{◌>>=◌, ◌>>◌, demand}
 use Rattle.kd_desk.specs.Names.{wheel_by_name}
 use Rattle.kd_desk.specs.declared.sheet.key.Key.{Key}
@@ -24,10 +24,6 @@ all_values (answer ∷ answers) = do
 -- what each item is, given the items before it
 abbrev pub given_earlier : {A : Type 0} → (List Data → Data → A) → List Data → List A
 given_earlier reading items = map (λ numbered. reading (take numbered.0 items) numbered.1) (enumerate_from 0 items)
-
--- the wheel may be seated in the slot, counted from 1
-unfoldable pub is_allowed : Model → ℕ → Wheel → Bool
-is_allowed model slot wheel = is_slot model slot && is_in_box model wheel
 
 -- the wheel is seated in one of the slots
 unfoldable pub is_seated : List (Option Wheel) → Wheel → Bool

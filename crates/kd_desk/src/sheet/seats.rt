@@ -2,8 +2,9 @@
 ghost use Rattle.std.specs.Prelude.{◌≡◌, ◌↔◌, ◌+◌, ◌<◌, [], map, length, Contains, IfOk, IfSome, IsTrue};
 ghost use Rattle.toml.specs.View.{view};
 ghost use Rattle.kd_tables.specs.Tables.{slots_of, IsAllowed};
+ghost use Rattle.kd_desk.specs.Box.{is_allowed};
 ghost use Rattle.kd_desk.specs.Machine.{AreAllowed, AreApart};
-ghost use Rattle.kd_desk.specs.Seats.{is_allowed, is_seated, wheel_for, seat_for, seats_of};
+ghost use Rattle.kd_desk.specs.Seats.{is_seated, wheel_for, seat_for, seats_of};
 
 use super::fault::SheetFault;
 use super::key::Key;

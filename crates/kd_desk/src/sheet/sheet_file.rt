@@ -5,8 +5,7 @@ ghost use Rattle.toml.specs.View.{view, table_view};
 ghost use Rattle.kd_tables.specs.Tables.{slots_of};
 ghost use Rattle.kd_desk.specs.Days.{has_day, AreDaysApart};
 ghost use Rattle.kd_desk.specs.Document.{Answers, result_map};
-ghost use Rattle.kd_desk.specs.Machine.{AreAllowed, AreApart};
-ghost use Rattle.kd_desk.specs.SheetDay.{AreSlotLetters};
+ghost use Rattle.kd_desk.specs.Machine.{AreAllowed, AreApart, AreLetters};
 ghost use Rattle.kd_desk.specs.SheetFile.{number_in, numbers_of, check_new, wheels_in, rings_of, rings_in, window_in, check_plugs, is_group, check_group_list, check_groups, day_in, day_for, day_number, days_of, sheet_in, sheet_of};
 
 use super::days::{Sheet, has_day};
@@ -86,7 +85,7 @@ fn rings_of(value: &Value) -> Option<[Letter; 3]>
 #[tactic(auto, unfolding(crate::specs::SheetFile::rings_in))]
 fn rings_in(table: &Table, model: Model) -> Result<[Letter; 3], SheetFault>
     ensures value { result ≡ rings_in model (table_view table.now) }
-    ensures letters { IfOk result (AreSlotLetters model) }
+    ensures letters { IfOk result (AreLetters (slots_of model)) }
 {
     rings_of(value_at(table, Key::Rings)?).ok_or(SheetFault::BadValue(Key::Rings))
 }
@@ -95,7 +94,7 @@ fn rings_in(table: &Table, model: Model) -> Result<[Letter; 3], SheetFault>
 #[tactic(auto, unfolding(crate::specs::SheetFile::window_in))]
 fn window_in(table: &Table, model: Model) -> Result<[Letter; 3], SheetFault>
     ensures value { result ≡ window_in model (table_view table.now) }
-    ensures letters { IfOk result (AreSlotLetters model) }
+    ensures letters { IfOk result (AreLetters (slots_of model)) }
 {
     capital_letters(text_at(table, Key::Window)?.as_bytes()).ok_or(SheetFault::BadValue(
         Key::Window,
