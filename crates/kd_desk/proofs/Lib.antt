@@ -7,7 +7,6 @@ pub mod Days
 pub mod Documents
 pub mod Earlier
 pub mod Fronts
-pub mod ItemWheels
 pub mod Lamps
 pub mod Lists
 pub mod Loosening

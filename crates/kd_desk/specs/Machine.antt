@@ -31,7 +31,7 @@ AreAllowed model slots = (place : ℕ) (wheel : Wheel) → StandsAt slots place 
 abbrev pub AreApart : List (Option Wheel) → Type 0
 AreApart slots = (place other : ℕ) (wheel : Wheel) → StandsAt slots place wheel → StandsAt slots other wheel → place ≡ other
 
--- so many letters
+-- so many letters, each by its place in the alphabet
 pub record AreLetters (number : ℕ) (letters : List ℕ) : Type 0 where
   pub count : length letters ≡ number
   pub within : All (λ letter. letter < 26) letters

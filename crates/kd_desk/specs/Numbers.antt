@@ -13,7 +13,7 @@ number_to last _ = None
 abbrev pub numbered_letter : Data → Option ℕ
 numbered_letter item = option_map (λ number. number - 1) (number_to 26 item)
 
--- the letters that exactly so many items name by their numbers
+-- the letters that exactly so many items stand for, where each item stands for one
 abbrev pub numbered_letters : ℕ → List Data → Option (List ℕ)
 numbered_letters count items =
     if length items == count && list_all (λ item. is_some (numbered_letter item)) items then Some (filter_map numbered_letter items) else None

@@ -13,7 +13,7 @@ use Rattle.kd_desk.specs.declared.sheet.key.Key.TheVariants as keys
 use Rattle.kd_desk.specs.declared.sheet.fault.SheetFault.{SheetFault}
 use Rattle.kd_desk.specs.declared.sheet.fault.SheetFault.TheVariants.{BadValue, WheelTwice, WheelNotAllowed}
 
--- all the values, or the first fault
+-- all the values, or else the first fault
 abbrev pub all_values : {A : Type 0} → List (Result A SheetFault) → Result (List A) SheetFault
 all_values [] = Ok []
 all_values (answer ∷ answers) = do
@@ -51,6 +51,6 @@ wheel_of_item item = option_and_then wheel_by_name (as_str item)
 abbrev pub seat_behind : Model → List Data → Data → Result (Option Wheel) SheetFault
 seat_behind model earlier item = seat_for model (map wheel_of_item earlier) item
 
--- what the items seat, slot by slot from the left, or the first fault
+-- what the items seat, slot by slot from the left, or else the first fault
 abbrev pub seats_of : Model → List Data → Result (List (Option Wheel)) SheetFault
 seats_of model items = all_values (given_earlier (seat_behind model) items)

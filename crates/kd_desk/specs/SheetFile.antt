@@ -108,7 +108,7 @@ day_number item = option_and_then (λ table. result_ok (number_in table)) (as_ta
 abbrev pub day_behind : List Data → Data → Result RotorDay SheetFault
 day_behind earlier item = day_for (filter_map day_number earlier) item
 
--- the days of the items, or the first fault
+-- the days of the items, or else the first fault
 abbrev pub days_of : List Data → Result (List RotorDay) SheetFault
 days_of items = all_values (given_earlier day_behind items)
 

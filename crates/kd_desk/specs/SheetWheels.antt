@@ -19,6 +19,6 @@ named_wheel model slots item = do
 abbrev pub wheel_behind : Model → List Data → Data → Result Wheel SheetFault
 wheel_behind model earlier item = named_wheel model (map wheel_of_item earlier) item
 
--- the wheels that the items name, slot by slot from the left, or the first fault
+-- the wheels that the items name, slot by slot from the left, or else the first fault
 abbrev pub wheels_of : Model → List Data → Result (List Wheel) SheetFault
 wheels_of model items = all_values (given_earlier (wheel_behind model) items)

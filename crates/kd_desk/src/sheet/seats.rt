@@ -4,7 +4,8 @@ ghost use Rattle.toml.specs.View.{view};
 ghost use Rattle.kd_tables.specs.Tables.{slots_of, IsAllowed};
 ghost use Rattle.kd_desk.specs.Box.{is_allowed};
 ghost use Rattle.kd_desk.specs.Machine.{AreAllowed, AreApart};
-ghost use Rattle.kd_desk.specs.Seats.{is_seated, wheel_for, seat_for, seats_of};
+ghost use Rattle.kd_desk.specs.Names.{wheel_by_name};
+ghost use Rattle.kd_desk.specs.Seats.{is_seated, wheel_for, seat_for, wheel_of_item, seats_of};
 
 use super::fault::SheetFault;
 use super::key::Key;
@@ -39,6 +40,7 @@ pub fn wheel_for(
 ) -> Result<Wheel, SheetFault>
     requires { length slots.now < slots_of model }
     ensures value { result ≡ wheel_for key model slots.now name.now }
+    ensures named { IfOk result (λ wheel. wheel_by_name name.now ≡ Some wheel) }
     ensures allowed { IfOk result (λ wheel. IsAllowed model (length slots.now + 1) wheel) }
     ensures free { IfOk result (λ wheel. ¬ Contains slots.now (Some wheel)) }
 {
@@ -53,7 +55,7 @@ pub fn wheel_for(
 }
 
 /// What an item seats in the slot behind those that are judged: nothing by the empty text, else the wheel of that name.
-#[tactic(auto, unfolding(crate::specs::Seats::seat_for))]
+#[tactic(auto, unfolding(crate::specs::Seats::seat_for, crate::specs::Seats::wheel_of_item, crate::specs::Names::wheel_by_name))]
 fn seat_for(
     model: Model,
     slots: &[Option<Wheel>],
@@ -61,6 +63,7 @@ fn seat_for(
 ) -> Result<Option<Wheel>, SheetFault>
     requires { length slots.now < slots_of model }
     ensures value { result ≡ seat_for model slots.now (view item.now) }
+    ensures named { IfOk result (λ seat. wheel_of_item (view item.now) ≡ seat) }
     ensures allowed { IfOk result (λ seat. IfSome seat (IsAllowed model (length slots.now + 1))) }
     ensures free { IfOk result (λ seat. IfSome seat (λ wheel. ¬ Contains slots.now (Some wheel))) }
 {

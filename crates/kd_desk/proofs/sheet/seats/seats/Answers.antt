@@ -2,8 +2,7 @@ use Rattle.std.proofs.Common.{◌<◌, length, arith, rules, length-set}
 use Rattle.std.proofs.lemmas.List.{take_more_set}
 use Rattle.kd_desk.specs.Seats.{seat_behind}
 use Rattle.kd_desk.proofs.Earlier.{read_more, read_stops}
-use Rattle.kd_desk.proofs.ItemWheels.{seat_is_named, named_more}
-use Rattle.kd_desk.proofs.Seating.{AreAllowed-push, AreApart-push}
+use Rattle.kd_desk.proofs.Seating.{AreAllowed-push, AreApart-push, named_more}
 use Rattle.kd_desk.proofs.sheet.seats.seats.Goals as goal
 
 pub loop-place-preserved : goal.loop-place-preserved
@@ -13,7 +12,7 @@ loop-place-preserved c =
     let found = rw c.loop-place.invariant.named at c.in_ok-seat.ensures.value in
     record {
       count = simp length-set c.loop-place.invariant.count;
-      named = named_more _ _ _ _ _ room left c.index-items-place.is (seat_is_named _ _ _ _ c.in_ok-seat.ensures.value) c.loop-place.invariant.named;
+      named = named_more _ _ _ _ _ room left c.index-items-place.is c.in_ok-seat.ensures.named c.loop-place.invariant.named;
       read = rw take_more_set (read_more (seat_behind c.args.model) _ _ _ _ _ left c.index-items-place.is found c.loop-place.invariant.read);
       allowed = rw take_more_set (AreAllowed-push _ _ _ c.loop-place.invariant.allowed c.in_ok-seat.ensures.allowed);
       apart = rw take_more_set (AreApart-push _ _ c.loop-place.invariant.apart c.in_ok-seat.ensures.free);

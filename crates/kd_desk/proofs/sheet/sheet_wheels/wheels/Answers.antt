@@ -2,8 +2,7 @@ use Rattle.std.proofs.Common.{◌<◌, length, arith, rules, length-set}
 use Rattle.std.proofs.lemmas.List.{take_more_set}
 use Rattle.kd_desk.specs.SheetWheels.{wheel_behind}
 use Rattle.kd_desk.proofs.Earlier.{read_more, read_stops}
-use Rattle.kd_desk.proofs.ItemWheels.{wheel_is_named, named_more, seated_more}
-use Rattle.kd_desk.proofs.Seating.{AreAllowed-push, AreApart-push}
+use Rattle.kd_desk.proofs.Seating.{AreAllowed-push, AreApart-push, named_more, seated_more}
 use Rattle.kd_desk.proofs.sheet.sheet_wheels.wheels.Goals as goal
 
 pub loop-place-preserved : goal.loop-place-preserved
@@ -16,7 +15,7 @@ loop-place-preserved c =
       slots = simp length-set c.loop-place.invariant.slots;
       count = simp length-set c.loop-place.invariant.count;
       seated = seated_more _ _ _ _ room seat c.loop-place.invariant.seated;
-      named = named_more _ _ _ _ _ room left c.index-items-place.is (wheel_is_named _ _ _ _ c.in_ok-wheel.ensures.value) c.loop-place.invariant.named;
+      named = named_more _ _ _ _ _ room left c.index-items-place.is c.in_ok-wheel.ensures.named c.loop-place.invariant.named;
       read = rw take_more_set (read_more (wheel_behind c.args.model) _ _ _ _ _ left c.index-items-place.is found c.loop-place.invariant.read);
       allowed = rw take_more_set (AreAllowed-push _ _ _ c.loop-place.invariant.allowed c.in_ok-wheel.ensures.allowed);
       apart = rw take_more_set (AreApart-push _ _ c.loop-place.invariant.apart c.in_ok-wheel.ensures.free);
