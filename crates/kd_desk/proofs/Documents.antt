@@ -1,8 +1,9 @@
 -- What the document reader's steps find, in the definitions' words.
-use Rattle.std.proofs.Common.{◌≡◌, ℕ, List, [], ◌∷◌, map, Option, Some, None, Ok, Err, ok_or, option_map, Vec, Global, IsUtf8, Bor, refl, sym, ap, ◌∙◌, inl, inr}
+use Rattle.std.proofs.Common.{◌≡◌, ℕ, ◌<◌, List, [], ◌∷◌, length, get_or, map, Option, Some, None, Ok, Err, ok_or, option_map, Vec, Global, IsUtf8, Bor, refl, sym, ap, ◌∙◌, inl, inr}
 use Rattle.std.specs.Str.{is_utf8}
 use Rattle.std.proofs.lemmas.Str.{is_utf8-from_IsUtf8, IsUtf8-from_is_utf8}
 use Rattle.std.proofs.lemmas.Bool.{cases_Bool}
+use Rattle.std.proofs.lemmas.List.{get_or-map}
 use Rattle.toml.specs.Data.{Data, Members, as_array}
 use Rattle.toml.specs.Parse.{parse_document}
 use Rattle.toml.specs.View.{view, items_of, array_view}
@@ -36,3 +37,7 @@ pub items_in_found : (key : Key) (value : Data) (found : Option (Bor (Vec Value 
 items_in_found key value None none = ap (λ o. ok_or (option_map list_of o) (BadValue key)) none
 items_in_found key value (Some items) some =
     ap Ok (sym (list_of-items_of (map view items.now.items))) ∙ ap (λ o. ok_or (option_map list_of o) (BadValue key)) some
+
+-- the item at a place stands there as data, too
+pub viewed_at : (items : List Value) (place : ℕ) (item : Value) → place < length items → item ≡ get_or items place item → get_or (map view items) place (view item) ≡ view item
+viewed_at items place item left here = get_or-map view items place item (view item) left ∙ ap view (sym here)

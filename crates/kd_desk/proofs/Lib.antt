@@ -6,6 +6,7 @@ pub mod DayLists
 pub mod CommandLines
 pub mod Days
 pub mod Documents
+pub mod Earlier
 pub mod Fronts
 pub mod Lamps
 pub mod Lists
@@ -19,5 +20,4 @@ pub mod SeatLines
 pub mod Seating
 pub mod TextTaken
 pub mod Texts
-pub mod WheelRows
 pub mod Wheels

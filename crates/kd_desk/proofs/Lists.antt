@@ -1,7 +1,9 @@
 -- Lists that are filtered, numbered or set at a place.
-use Rattle.std.proofs.Common.{◌≡◌, ◌≢◌, ℕ, ◌+◌, ◌<◌, ◌==◌, Bool, true, false, ◌||◌, cond, List, [], ◌∷◌, length, count_by, Option, Some, None, refl, sym, ap, ◌∙◌, arith}
-use Rattle.std.specs.List.{list_any, position_or_len, cons_option, enumerate_from, AllByRecursion}
+use Rattle.std.proofs.Common.{◌≡◌, ◌≢◌, ℕ, ◌+◌, ◌<◌, ◌==◌, Bool, true, false, ◌||◌, cond, List, [], ◌∷◌, ◌++◌, length, take, get_or, count_by, Option, Some, None, refl, sym, ap, ◌∙◌, arith}
+use Rattle.std.specs.List.{list_any, position_or_len, cons_option, enumerate_from, filter_map, AllByRecursion}
 use Rattle.std.proofs.lemmas.Bool.{eq-eqb, ne_eqb}
+use Rattle.std.proofs.lemmas.List.{take_more}
+use Rattle.std.proofs.lemmas.List.Elements.{filter_map-append}
 use Rattle.std.proofs.lemmas.List.Sums.{sum_by-cons}
 
 -- the first element that passes has a place, where there is one
@@ -66,3 +68,8 @@ wanted_at place target (x ∷ xs) h =
             (λ y here away. here ∙ sym (same_or_not (place y) (place x) (target x) (rest.0 (place y)) away)) xs rest.1 h.0,
       ),
     )
+
+-- one more element of which a function gives something
+pub filter_map_more : {X Y : Type 0} (h : X → Option Y) (xs : List X) (place : ℕ) (x : X) (y : Y) → place < length xs → get_or xs place x ≡ x → Some y ≡ h x
+    → filter_map h (take (place + 1) xs) ≡ filter_map h (take place xs) ++ y ∷ []
+filter_map_more h xs place x y left here is = rw (take_more xs place x left, here, filter_map-append, ← is) refl

@@ -1,6 +1,6 @@
--- One more slot behind those that are judged.
-use Rattle.std.proofs.Common.{◌≡◌, ℕ, zero, suc, ◌+◌, ◌<◌, List, [], ◌∷◌, ◌++◌, length, take, drop, get_or, set, map, Contains, slice_get, Option, Some, IfSome, Ok, ◌⊎◌, inl, inr, refl, sym, ap, ◌∙◌}
-use Rattle.std.proofs.lemmas.List.{drop_more, take_more_set}
+-- One more slot to the right of those that are filled.
+use Rattle.std.proofs.Common.{◌≡◌, ℕ, zero, suc, ◌+◌, ◌<◌, List, [], ◌∷◌, ◌++◌, length, take, get_or, set, map, Contains, slice_get, Option, Some, IfSome, ◌⊎◌, inl, inr, refl, sym, ap, ◌∙◌, arith}
+use Rattle.std.proofs.lemmas.List.{length-map, map-append, map_push, take_more, take_more_set}
 use Rattle.std.proofs.lemmas.Option.{none-some, same_Some, slice_get_within, get_or_from_slice_get}
 use Rattle.toml.specs.View.{view}
 use Rattle.toml.specs.declared.value.Value.{Value}
@@ -8,7 +8,8 @@ use Rattle.kd_tables.specs.Tables.{IsAllowed}
 use Rattle.kd_tables.specs.declared.model.Model.{Model}
 use Rattle.kd_tables.specs.declared.wheel.Wheel.{Wheel}
 use Rattle.kd_desk.specs.Machine.{StandsAt, AreAllowed, AreApart}
-use Rattle.kd_desk.specs.Seats.{seat_for, seats_behind}
+use Rattle.kd_desk.specs.Seats.{wheel_of_item}
+use Rattle.kd_desk.proofs.Documents.{viewed_at}
 
 -- what stands at a place stands among the first slots, or is the last
 pub push_cases : {A : Type 0} (xs : List A) (y : A) (place : ℕ) (x : A) → slice_get (xs ++ y ∷ []) place ≡ Some x → (slice_get xs place ≡ Some x) ⊎ ((place ≡ length xs) × (y ≡ x))
@@ -47,10 +48,15 @@ AreApart-push slots seat before new place other wheel stands again =
       ]
     ]
 
--- the item at a place fills its slot, and what all give stays the same
-pub seats_behind_more : (model : Model) (slots : List (Option Wheel)) (items : List Value) (place : ℕ) (item : Value) (seat : Option Wheel)
-    → place < length slots → place < length items → item ≡ get_or items place item → Ok seat ≡ seat_for model (take place slots) (view item)
-    → seats_behind model (take (place + 1) (set slots place seat)) (map view (drop (place + 1) items)) ≡ seats_behind model (take place slots) (map view (drop place items))
-seats_behind_more model slots items place item seat room left here found =
-    let rest : drop place items ≡ item ∷ drop (place + 1) items = drop_more items place item left ∙ ap (λ x. x ∷ drop (place + 1) items) (sym here) in
-    rw (take_more_set slots place seat room, rest, ← found)
+-- a slot more that is filled by what an item names
+pub named_more : (slots : List (Option Wheel)) (items : List Value) (place : ℕ) (item : Value) (seat : Option Wheel) → place < length slots → place < length items → item ≡ get_or items place item
+    → wheel_of_item (view item) ≡ seat → take place slots ≡ map wheel_of_item (take place (map view items)) → take (place + 1) (set slots place seat) ≡ map wheel_of_item (take (place + 1) (map view items))
+named_more slots items place item seat room left here named before =
+    let within : place < length (map view items) = omega (arith, length-map items view) in
+    rw (take_more_set slots place seat room, take_more (map view items) place (view item) within, viewed_at items place item left here, map_push, named, before) refl
+
+-- a slot more seats a wheel more
+pub seated_more : (slots : List (Option Wheel)) (wheels : List Wheel) (place : ℕ) (wheel : Wheel) → place < length slots → place < length wheels
+    → take place slots ≡ map Some (take place wheels) → take (place + 1) (set slots place (Some wheel)) ≡ map Some (take (place + 1) (set wheels place wheel))
+seated_more slots wheels place wheel room left seated =
+    rw (take_more_set slots place (Some wheel) room, take_more_set wheels place wheel left, map-append, seated) refl

@@ -20,9 +20,9 @@ use Rattle.kd_tables.specs.declared.wheel.Wheel.TheVariants.{I}
 use Rattle.kd_tables.specs.declared.reflector.Reflector.{Reflector}
 use Rattle.kd_tables.specs.declared.reflector.Reflector.TheVariants as reflectors
 use Rattle.kd_tables.specs.Tables.{box_of, slots_of, reflectors_of, wheel_text, reflector_text, IsAllowed}
-use Rattle.kd_desk.specs.Box.{same_wheel, same_reflector, holds, is_in_box, place_in_box}
+use Rattle.kd_desk.specs.Box.{same_wheel, same_reflector, holds, is_in_box, is_allowed, place_in_box}
 use Rattle.kd_desk.specs.Names.{wheel_by_name}
-use Rattle.kd_desk.specs.Seats.{is_allowed, is_seated}
+use Rattle.kd_desk.specs.Seats.{is_seated}
 use Rattle.kd_desk.proofs.Lists.{first_within}
 use Rattle.kd_desk.proofs.Namings.{wheel_by_name-text}
 
@@ -120,7 +120,6 @@ le-Decides low high =
 
 -- the model allows the wheel in the slot
 pub is_allowed-Decides : (model : Model) (slot : ℕ) (wheel : Wheel) → Decides (is_allowed model slot wheel) (IsAllowed model slot wheel)
-unfolding is_allowed
 is_allowed-Decides model slot wheel =
     Decides-like _
     (λ allowed. record { first = allowed.0.0; last = allowed.0.1; in_box = allowed.1 })

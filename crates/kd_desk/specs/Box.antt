@@ -22,6 +22,10 @@ is_in_box model wheel = list_any (same_wheel wheel) (box_of model)
 abbrev pub is_slot : Model → ℕ → Bool
 is_slot model slot = nat_le 1 slot && nat_le slot (slots_of model)
 
+-- the wheel may be seated in the slot, counted from 1
+abbrev pub is_allowed : Model → ℕ → Wheel → Bool
+is_allowed model slot wheel = is_slot model slot && is_in_box model wheel
+
 -- the wheel is the one that is seated
 abbrev pub holds : Option Wheel → Wheel → Bool
 holds None wheel = false

@@ -31,9 +31,9 @@ AreAllowed model slots = (place : ℕ) (wheel : Wheel) → StandsAt slots place 
 abbrev pub AreApart : List (Option Wheel) → Type 0
 AreApart slots = (place other : ℕ) (wheel : Wheel) → StandsAt slots place wheel → StandsAt slots other wheel → place ≡ other
 
--- a letter for each wheel of the box
-pub record AreWheelLetters (model : Model) (letters : List ℕ) : Type 0 where
-  pub count : length letters ≡ length (box_of model)
+-- so many letters, each by its place in the alphabet
+pub record AreLetters (number : ℕ) (letters : List ℕ) : Type 0 where
+  pub count : length letters ≡ number
   pub within : All (λ letter. letter < 26) letters
 
 -- the parts make a machine
@@ -42,5 +42,5 @@ pub record IsLegal (parts : RotorParts) : Type 0 where
   pub allowed : AreAllowed parts.model parts.slots
   pub apart : AreApart parts.slots
   pub reflector : Contains (reflectors_of parts.model) parts.reflector
-  pub rings : AreWheelLetters parts.model parts.rings
-  pub letters : AreWheelLetters parts.model parts.letters
+  pub rings : AreLetters (length (box_of parts.model)) parts.rings
+  pub letters : AreLetters (length (box_of parts.model)) parts.letters

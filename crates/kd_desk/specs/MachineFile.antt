@@ -1,5 +1,5 @@
 -- What a machine file says, key by key, in the order in which its keys are tested.
-use Rattle.std.specs.Prelude.{ℕ, ◌==◌, ◌&&◌, nat_le, pos, List, [], length, Option, Result, Ok, ok_or}
+use Rattle.std.specs.Prelude.{ℕ, ◌==◌, ◌&&◌, nat_le, pos, List, length, Option, Result, Ok, ok_or}
 use Rattle.std.specs.List.{list_all}
 use Rattle.std.specs.Option.{option_map_or}
 use Rattle.toml.specs.Data.{Data, Members, get_member}
@@ -12,7 +12,7 @@ use Rattle.kd_desk.specs.Key.{key_name}
 use Rattle.kd_desk.specs.Letters.{capital_letters}
 use Rattle.kd_desk.specs.Machine.{RotorParts, rotor_parts}
 use Rattle.kd_desk.specs.Names.{model_by_name, reflector_by_name}
-use Rattle.kd_desk.specs.Seats.{seats_behind}
+use Rattle.kd_desk.specs.Seats.{seats_of}
 use Rattle.kd_desk.specs.declared.sheet.key.Key.{Key}
 use Rattle.kd_desk.specs.declared.sheet.key.Key.TheVariants as keys
 use Rattle.kd_desk.specs.declared.sheet.fault.SheetFault.{SheetFault}
@@ -42,7 +42,7 @@ slots_in model table = do
   value ← value_at keys.Slots table
   items ← items_in keys.Slots value
   demand (length items == slots_of model) (BadValue keys.Slots)
-  seats_behind model [] items
+  seats_of model items
 
 -- a letter for each wheel of the model's box, in box order
 unfoldable pub wheel_letters_in : Key → Model → Members → Result (List ℕ) SheetFault

@@ -1,6 +1,7 @@
 -- Whole numbers of files.
-use Rattle.std.specs.Prelude.{ℕ, ◌&&◌, ◌-◌, nat_le, pos, List, [], ◌∷◌, ◌++◌, Option, Some, None, if◌then◌else◌}
-use Rattle.std.specs.Option.{option_map, option_and_then}
+use Rattle.std.specs.Prelude.{ℕ, ◌&&◌, ◌-◌, ◌==◌, nat_le, pos, List, length, Option, Some, None, is_some, if◌then◌else◌}
+use Rattle.std.specs.List.{list_all, filter_map}
+use Rattle.std.specs.Option.{option_map}
 use Rattle.toml.specs.Data.{Data, integer}
 
 -- the value is a whole number from 1 to the last one
@@ -12,7 +13,7 @@ number_to last _ = None
 abbrev pub numbered_letter : Data → Option ℕ
 numbered_letter item = option_map (λ number. number - 1) (number_to 26 item)
 
--- the letters that the items' numbers stand for, one after another, behind those that are read
-abbrev pub letters_behind : List ℕ → List Data → Option (List ℕ)
-letters_behind letters [] = Some letters
-letters_behind letters (item ∷ items) = option_and_then (λ letter. letters_behind (letters ++ letter ∷ []) items) (numbered_letter item)
+-- the letters that exactly so many items stand for, where each item stands for one
+abbrev pub numbered_letters : ℕ → List Data → Option (List ℕ)
+numbered_letters count items =
+    if length items == count && list_all (λ item. is_some (numbered_letter item)) items then Some (filter_map numbered_letter items) else None

@@ -1,12 +1,12 @@
 -- A single setting of a machine: its line on a card, why it is refused, and what it does.
-use Rattle.std.specs.Prelude.{codes, decimal, ◌≡◌, ℕ, ◌+◌, ◌-◌, ◌^◌, ◌<◌, Bool, ◌&&◌, List, [], ◌∷◌, ◌++◌, map, slice_set, Option, Some, None, IfSome, is_some, if◌then◌else◌}
+use Rattle.std.specs.Prelude.{codes, decimal, ◌≡◌, ℕ, ◌+◌, ◌-◌, ◌^◌, ◌<◌, Bool, List, [], ◌∷◌, ◌++◌, map, slice_set, Option, Some, None, IfSome, is_some, if◌then◌else◌}
 use Rattle.std.specs.List.{list_any}
 use Rattle.kd_tables.specs.declared.wheel.Wheel.{Wheel}
 use Rattle.kd_tables.specs.Tables.{reflectors_of, wheel_text, reflector_text}
 use Rattle.kd_desk.specs.declared.state.setting.Setting.{Setting}
 use Rattle.kd_desk.specs.declared.state.setting.Setting.TheVariants.{Seat, SeatReflector, RingTo, Turn}
 use Rattle.kd_desk.specs.Machine.{RotorParts}
-use Rattle.kd_desk.specs.Box.{same_reflector, holds, is_in_box, is_slot, seated_in, place_in_box}
+use Rattle.kd_desk.specs.Box.{same_reflector, holds, is_in_box, is_allowed, seated_in, place_in_box}
 
 -- the capital letter with the place in the alphabet
 abbrev pub letter_text : ℕ → List ℕ
@@ -36,7 +36,7 @@ unless allowed why = if allowed then None else Some why
 
 -- the first reason for which the machine refuses the setting
 abbrev pub why_refused : RotorParts → Setting → Option Why
-why_refused m (Seat slot wheel) = unless (is_slot m.model slot && is_in_box m.model wheel) WheelNotAllowed
+why_refused m (Seat slot wheel) = unless (is_allowed m.model slot wheel) WheelNotAllowed
 why_refused m (SeatReflector reflector) = unless (list_any (same_reflector reflector) (reflectors_of m.model)) WheelNotAllowed
 why_refused m (RingTo wheel letter) = unless (is_in_box m.model wheel) WheelNotAllowed
 why_refused m (Turn slot letter) = unless (is_some (seated_in m.slots slot)) SlotEmpty

@@ -1,11 +1,11 @@
 -- A day of a rotor model's sheet, and when a machine reads as it.
-use Rattle.std.specs.Prelude.{◌≡◌, ℕ, ◌<◌, ◌≤◌, List, length, map, find, Option, Some, All, Contains}
+use Rattle.std.specs.Prelude.{◌≡◌, ℕ, ◌≤◌, List, length, map, find, Option, Some, Contains}
 use Rattle.std.specs.Option.{option_map}
 use Rattle.kd_tables.specs.declared.model.Model.{Model}
 use Rattle.kd_tables.specs.declared.wheel.Wheel.{Wheel}
 use Rattle.kd_tables.specs.declared.reflector.Reflector.{Reflector}
 use Rattle.kd_tables.specs.Tables.{slots_of, reflectors_of}
-use Rattle.kd_desk.specs.Machine.{RotorParts, AreAllowed, AreApart}
+use Rattle.kd_desk.specs.Machine.{RotorParts, AreAllowed, AreApart, AreLetters}
 use Rattle.kd_desk.specs.Box.{same_wheel, ring_of, letter_of}
 
 -- the day's number, the reflector, and for each slot from the left a wheel, its ring and the letter in its window
@@ -24,11 +24,6 @@ pair_of pairs wheel = find (λ pair. same_wheel wheel pair.0) pairs
 abbrev pub ring_in : List (Wheel × ℕ) → Wheel → Option ℕ
 ring_in pairs wheel = option_map (λ pair. pair.1) (pair_of pairs wheel)
 
--- a letter for each slot
-pub record AreSlotLetters (model : Model) (letters : List ℕ) : Type 0 where
-  pub count : length letters ≡ slots_of model
-  pub within : All (λ letter. letter < 26) letters
-
 -- a day of a month, a reflector of the model, and different wheels of its box
 pub record IsLegalDay (s : RotorDay) : Type 0 where
   pub first : 1 ≤ s.day
@@ -37,8 +32,8 @@ pub record IsLegalDay (s : RotorDay) : Type 0 where
   pub slots : length s.wheels ≡ slots_of s.model
   pub allowed : AreAllowed s.model (map Some s.wheels)
   pub apart : AreApart (map Some s.wheels)
-  pub rings : AreSlotLetters s.model s.rings
-  pub window : AreSlotLetters s.model s.window
+  pub rings : AreLetters (slots_of s.model) s.rings
+  pub window : AreLetters (slots_of s.model) s.window
 
 -- each slot has the sheet's wheel with the sheet's ring, and the reflector is the sheet's
 pub record OnKey (m : RotorParts) (s : RotorDay) : Type 0 where

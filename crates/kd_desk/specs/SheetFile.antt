@@ -1,19 +1,20 @@
 -- What a key sheet says, day by day, and in each day key by key, in the order in which its keys are tested.
-use Rattle.std.specs.Prelude.{ℕ, ◌==◌, ◌&&◌, nat_le, Bool, false, not, List, [], ◌∷◌, ◌++◌, length, Option, None, Result, Ok, ok_or, is_some, if◌then◌else◌}
-use Rattle.std.specs.List.{list_all}
-use Rattle.std.specs.Option.{option_map_or}
+use Rattle.std.specs.Prelude.{ℕ, ◌==◌, ◌&&◌, nat_le, Bool, false, not, List, length, map, Option, None, Result, Ok, ok_or, is_some}
+use Rattle.std.specs.List.{list_all, list_any, filter_map}
+use Rattle.std.specs.Option.{option_and_then, option_map_or}
+use Rattle.std.specs.Result.{result_ok}
 use Rattle.toml.specs.Data.{Data, string, array, Members, get_member, as_str, as_table}
 use Rattle.kd_tables.specs.Tables.{slots_of}
 use Rattle.kd_tables.specs.declared.model.Model.{Model}
 use Rattle.kd_tables.specs.declared.wheel.Wheel.{Wheel}
-use Rattle.kd_desk.specs.Days.{has_day}
 use Rattle.kd_desk.specs.Document.{◌>>=◌, ◌>>◌, demand, document_of, value_at, text_at, list_of, items_in}
 use Rattle.kd_desk.specs.Key.{key_name}
 use Rattle.kd_desk.specs.Letters.{capital_letters}
 use Rattle.kd_desk.specs.MachineFile.{model_in, reflector_in}
-use Rattle.kd_desk.specs.Numbers.{number_to, letters_behind}
+use Rattle.kd_desk.specs.Numbers.{number_to, numbered_letters}
+use Rattle.kd_desk.specs.Seats.{all_values, given_earlier}
 use Rattle.kd_desk.specs.SheetDay.{RotorDay}
-use Rattle.kd_desk.specs.SheetWheels.{wheels_behind}
+use Rattle.kd_desk.specs.SheetWheels.{wheels_of}
 use Rattle.kd_desk.specs.declared.sheet.key.Key.TheVariants as keys
 use Rattle.kd_desk.specs.declared.sheet.fault.SheetFault.{SheetFault}
 use Rattle.kd_desk.specs.declared.sheet.fault.SheetFault.TheVariants.{BadValue, DayTwice}
@@ -24,9 +25,13 @@ number_in table = do
   value ← value_at keys.Day table
   ok_or (number_to 31 value) (BadValue keys.Day)
 
--- the number is that of no earlier day
-unfoldable pub check_new : List RotorDay → ℕ → Result (Unit {0}) SheetFault
-check_new days number = demand (not (has_day days number)) (DayTwice number)
+-- the numbers of the days
+abbrev pub numbers_of : List RotorDay → List ℕ
+numbers_of days = map (λ day. day.day) days
+
+-- the number is none of those that are taken
+unfoldable pub check_new : List ℕ → ℕ → Result (Unit {0}) SheetFault
+check_new taken number = demand (not (list_any (λ other. other == number) taken)) (DayTwice number)
 
 -- a wheel for each of the model's slots
 unfoldable pub wheels_in : Model → Members → Result (List Wheel) SheetFault
@@ -34,11 +39,7 @@ wheels_in model table = do
   value ← value_at keys.Wheels table
   items ← items_in keys.Wheels value
   demand (length items == slots_of model) (BadValue keys.Wheels)
-  wheels_behind model [] items
-
--- the letters that exactly so many items name by their numbers
-abbrev pub numbered_letters : ℕ → List Data → Option (List ℕ)
-numbered_letters count items = if length items == count then letters_behind [] items else None
+  wheels_of model items
 
 -- exactly so many rings, as a text of capital letters or as numbers of which 1 is A
 abbrev pub rings_of : ℕ → Data → Option (List ℕ)
@@ -79,11 +80,11 @@ check_group_list value = do
 unfoldable pub check_groups : Members → Result (Unit {0}) SheetFault
 check_groups table = option_map_or check_group_list (get_member (key_name keys.Groups) table) (Ok tt)
 
--- the day that an entry's table describes behind the days before it, or its first fault
-unfoldable pub day_in : List RotorDay → Members → Result RotorDay SheetFault
-day_in days table = do
+-- the day that an entry's table describes, where these numbers are taken, or its first fault
+unfoldable pub day_in : List ℕ → Members → Result RotorDay SheetFault
+day_in taken table = do
   number ← number_in table
-  check_new days number
+  check_new taken number
   model ← model_in table
   reflector ← reflector_in model table
   wheels ← wheels_in model table
@@ -93,25 +94,30 @@ day_in days table = do
   check_groups table
   Ok (record { day = number; model = model; reflector = reflector; wheels = wheels; rings = rings; window = window })
 
--- the day of an item behind the days before it
-unfoldable pub day_behind : List RotorDay → Data → Result RotorDay SheetFault
-day_behind days item = do
+-- the day of an item, where these numbers are taken
+unfoldable pub day_for : List ℕ → Data → Result RotorDay SheetFault
+day_for taken item = do
   table ← ok_or (as_table item) (BadValue keys.Day)
-  day_in days table
+  day_in taken table
 
--- the days of the items, one after another, behind those that are read
-abbrev pub days_behind : List RotorDay → List Data → Result (List RotorDay) SheetFault
-days_behind days [] = Ok days
-days_behind days (item ∷ items) = do
-  day ← day_behind days item
-  days_behind (days ++ day ∷ []) items
+-- the number of the day that an item describes, if it has one
+unfoldable pub day_number : Data → Option ℕ
+day_number item = option_and_then (λ table. result_ok (number_in table)) (as_table item)
+
+-- the day of an item, where the earlier items have taken their numbers
+abbrev pub day_behind : List Data → Data → Result RotorDay SheetFault
+day_behind earlier item = day_for (filter_map day_number earlier) item
+
+-- the days of the items, or else the first fault
+abbrev pub days_of : List Data → Result (List RotorDay) SheetFault
+days_of items = all_values (given_earlier day_behind items)
 
 -- the days that a sheet's table describes, in its order, or its first fault
 unfoldable pub sheet_in : Members → Result (List RotorDay) SheetFault
 sheet_in table = do
   value ← value_at keys.Day table
   items ← items_in keys.Day value
-  days_behind [] items
+  days_of items
 
 -- the days that the bytes of a sheet describe, in their order, or the sheet's first fault
 abbrev pub sheet_of : List ℕ → Result (List RotorDay) SheetFault

@@ -2,9 +2,9 @@
 ghost use Rattle.std.specs.Prelude.{◌≡◌, map, length, Contains, IfOk};
 ghost use Rattle.std.specs.List.{list_all};
 ghost use Rattle.toml.specs.View.{view, table_view};
-ghost use Rattle.kd_tables.specs.Tables.{slots_of, reflectors_of};
+ghost use Rattle.kd_tables.specs.Tables.{box_of, slots_of, reflectors_of};
 ghost use Rattle.kd_desk.specs.Document.{Answers, is_empty_text};
-ghost use Rattle.kd_desk.specs.Machine.{AreAllowed, AreApart, AreWheelLetters};
+ghost use Rattle.kd_desk.specs.Machine.{AreAllowed, AreApart, AreLetters};
 ghost use Rattle.kd_desk.specs.MachineFile.{check_version, model_in, reflector_in, slots_in, wheel_letters_in, check_unplugged, check_cables, machine_in, machine_of};
 
 use super::document::{document, find_at, is_empty_text, items_in, text_at, value_at};
@@ -69,7 +69,7 @@ fn slots_in(table: &Table, model: Model) -> Result<[Option<Wheel>; 3], SheetFaul
 #[tactic(auto, unfolding(crate::specs::MachineFile::wheel_letters_in))]
 fn wheel_letters_in(table: &Table, model: Model, key: Key) -> Result<[Letter; 5], SheetFault>
     ensures value { result ≡ wheel_letters_in key model (table_view table.now) }
-    ensures letters { IfOk result (AreWheelLetters model) }
+    ensures letters { IfOk result (AreLetters (length (box_of model))) }
 {
     capital_letters(text_at(table, key)?.as_bytes()).ok_or(SheetFault::BadValue(key))
 }

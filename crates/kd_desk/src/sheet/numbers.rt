@@ -1,7 +1,7 @@
 //! Whole numbers, and the letters that numbers from 1 to 26 stand for.
-ghost use Rattle.std.specs.Prelude.{◌≡◌, ◌<◌, ◌≤◌, [], map, length, All, IfSome};
+ghost use Rattle.std.specs.Prelude.{◌≡◌, ◌<◌, ◌≤◌, map, length, All, IfSome};
 ghost use Rattle.toml.specs.View.{view};
-ghost use Rattle.kd_desk.specs.Numbers.{number_to, numbered_letter, letters_behind};
+ghost use Rattle.kd_desk.specs.Numbers.{number_to, numbered_letter, numbered_letters};
 
 use kd_tables::Letter;
 use toml::Value;
@@ -31,7 +31,7 @@ fn numbered_letter(item: &Value) -> Option<Letter>
 /// The letters that `N` numbers stand for.
 pub fn numbered_letters<const N: usize>(items: &[Value]) -> Option<[Letter; N]>
     requires { length items.now ≡ N }
-    ensures value { result ≡ letters_behind [] (map view items.now) }
+    ensures value { result ≡ numbered_letters N (map view items.now) }
     ensures count { IfSome result (λ letters. length letters ≡ N) }
     ensures within { IfSome result (All (λ letter. letter < 26)) }
 {

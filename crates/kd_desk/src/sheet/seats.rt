@@ -2,8 +2,10 @@
 ghost use Rattle.std.specs.Prelude.{◌≡◌, ◌↔◌, ◌+◌, ◌<◌, [], map, length, Contains, IfOk, IfSome, IsTrue};
 ghost use Rattle.toml.specs.View.{view};
 ghost use Rattle.kd_tables.specs.Tables.{slots_of, IsAllowed};
+ghost use Rattle.kd_desk.specs.Box.{is_allowed};
 ghost use Rattle.kd_desk.specs.Machine.{AreAllowed, AreApart};
-ghost use Rattle.kd_desk.specs.Seats.{is_allowed, is_seated, wheel_for, seat_for, seats_behind};
+ghost use Rattle.kd_desk.specs.Names.{wheel_by_name};
+ghost use Rattle.kd_desk.specs.Seats.{is_seated, wheel_for, seat_for, wheel_of_item, seats_of};
 
 use super::fault::SheetFault;
 use super::key::Key;
@@ -38,6 +40,7 @@ pub fn wheel_for(
 ) -> Result<Wheel, SheetFault>
     requires { length slots.now < slots_of model }
     ensures value { result ≡ wheel_for key model slots.now name.now }
+    ensures named { IfOk result (λ wheel. wheel_by_name name.now ≡ Some wheel) }
     ensures allowed { IfOk result (λ wheel. IsAllowed model (length slots.now + 1) wheel) }
     ensures free { IfOk result (λ wheel. ¬ Contains slots.now (Some wheel)) }
 {
@@ -52,7 +55,7 @@ pub fn wheel_for(
 }
 
 /// What an item seats in the slot behind those that are judged: nothing by the empty text, else the wheel of that name.
-#[tactic(auto, unfolding(crate::specs::Seats::seat_for))]
+#[tactic(auto, unfolding(crate::specs::Seats::seat_for, crate::specs::Seats::wheel_of_item, crate::specs::Names::wheel_by_name))]
 fn seat_for(
     model: Model,
     slots: &[Option<Wheel>],
@@ -60,6 +63,7 @@ fn seat_for(
 ) -> Result<Option<Wheel>, SheetFault>
     requires { length slots.now < slots_of model }
     ensures value { result ≡ seat_for model slots.now (view item.now) }
+    ensures named { IfOk result (λ seat. wheel_of_item (view item.now) ≡ seat) }
     ensures allowed { IfOk result (λ seat. IfSome seat (IsAllowed model (length slots.now + 1))) }
     ensures free { IfOk result (λ seat. IfSome seat (λ wheel. ¬ Contains slots.now (Some wheel))) }
 {
@@ -74,7 +78,7 @@ fn seat_for(
 pub fn seats(model: Model, items: &[Value]) -> Result<[Option<Wheel>; 3], SheetFault>
     requires slots { slots_of model ≡ 3 }
     requires items { length items.now ≡ 3 }
-    ensures value { result ≡ seats_behind model [] (map view items.now) }
+    ensures value { result ≡ seats_of model (map view items.now) }
     ensures allowed { IfOk result (AreAllowed model) }
     ensures apart { IfOk result AreApart }
 {

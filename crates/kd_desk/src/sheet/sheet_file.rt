@@ -5,9 +5,8 @@ ghost use Rattle.toml.specs.View.{view, table_view};
 ghost use Rattle.kd_tables.specs.Tables.{slots_of};
 ghost use Rattle.kd_desk.specs.Days.{has_day, AreDaysApart};
 ghost use Rattle.kd_desk.specs.Document.{Answers, result_map};
-ghost use Rattle.kd_desk.specs.Machine.{AreAllowed, AreApart};
-ghost use Rattle.kd_desk.specs.SheetDay.{AreSlotLetters};
-ghost use Rattle.kd_desk.specs.SheetFile.{number_in, check_new, wheels_in, rings_of, rings_in, window_in, check_plugs, is_group, check_group_list, check_groups, day_in, day_behind, days_behind, sheet_in, sheet_of};
+ghost use Rattle.kd_desk.specs.Machine.{AreAllowed, AreApart, AreLetters};
+ghost use Rattle.kd_desk.specs.SheetFile.{number_in, numbers_of, check_new, wheels_in, rings_of, rings_in, window_in, check_plugs, is_group, check_group_list, check_groups, day_in, day_for, day_number, days_of, sheet_in, sheet_of};
 
 use super::days::{Sheet, has_day};
 use super::document::{document, find_at, items_in, text_at, value_at};
@@ -38,9 +37,9 @@ fn number_in(table: &Table) -> Result<u8, SheetFault>
 }
 
 /// Tests that no earlier day has the number.
-#[tactic(auto, unfolding(crate::specs::SheetFile::check_new))]
+#[tactic(auto, using(crate::proofs::DayLists::number_taken), unfolding(crate::specs::SheetFile::check_new))]
 fn check_new(days: &[SheetDay], number: u8) -> Result<(), SheetFault>
-    ensures value { result ≡ check_new days.now number }
+    ensures value { result ≡ check_new (numbers_of days.now) number }
     ensures free { IfOk result (λ _. has_day days.now number ≡ false) }
 {
     if has_day(days, number) {
@@ -86,7 +85,7 @@ fn rings_of(value: &Value) -> Option<[Letter; 3]>
 #[tactic(auto, unfolding(crate::specs::SheetFile::rings_in))]
 fn rings_in(table: &Table, model: Model) -> Result<[Letter; 3], SheetFault>
     ensures value { result ≡ rings_in model (table_view table.now) }
-    ensures letters { IfOk result (AreSlotLetters model) }
+    ensures letters { IfOk result (AreLetters (slots_of model)) }
 {
     rings_of(value_at(table, Key::Rings)?).ok_or(SheetFault::BadValue(Key::Rings))
 }
@@ -95,7 +94,7 @@ fn rings_in(table: &Table, model: Model) -> Result<[Letter; 3], SheetFault>
 #[tactic(auto, unfolding(crate::specs::SheetFile::window_in))]
 fn window_in(table: &Table, model: Model) -> Result<[Letter; 3], SheetFault>
     ensures value { result ≡ window_in model (table_view table.now) }
-    ensures letters { IfOk result (AreSlotLetters model) }
+    ensures letters { IfOk result (AreLetters (slots_of model)) }
 {
     capital_letters(text_at(table, Key::Window)?.as_bytes()).ok_or(SheetFault::BadValue(
         Key::Window,
@@ -159,7 +158,8 @@ fn check_groups(table: &Table) -> Result<(), SheetFault>
 /// The day that an entry's table describes behind the days before it, or its first fault.
 #[tactic(auto, unfolding(crate::specs::SheetFile::day_in))]
 fn day_in(days: &[SheetDay], table: &Table) -> Result<SheetDay, SheetFault>
-    ensures value { result ≡ day_in days.now (table_view table.now) }
+    ensures value { result ≡ day_in (numbers_of days.now) (table_view table.now) }
+    ensures number { IfOk result (λ new. number_in (table_view table.now) ≡ Ok new.day) }
     ensures free { IfOk result (λ day. has_day days.now day.day ≡ false) }
 {
     let number = number_in(table)?;
@@ -175,9 +175,10 @@ fn day_in(days: &[SheetDay], table: &Table) -> Result<SheetDay, SheetFault>
 }
 
 /// The day of an item behind the days before it.
-#[tactic(auto, unfolding(crate::specs::SheetFile::day_behind))]
-fn day_behind(days: &[SheetDay], item: &Value) -> Result<SheetDay, SheetFault>
-    ensures value { result ≡ day_behind days.now (view item.now) }
+#[tactic(auto, unfolding(crate::specs::SheetFile::day_for, crate::specs::SheetFile::day_number))]
+fn day_for(days: &[SheetDay], item: &Value) -> Result<SheetDay, SheetFault>
+    ensures value { result ≡ day_for (numbers_of days.now) (view item.now) }
+    ensures number { IfOk result (λ new. day_number (view item.now) ≡ Some new.day) }
     ensures free { IfOk result (λ day. has_day days.now day.day ≡ false) }
 {
     day_in(days, item.as_table().ok_or(SheetFault::BadValue(Key::Day))?)
@@ -185,12 +186,12 @@ fn day_behind(days: &[SheetDay], item: &Value) -> Result<SheetDay, SheetFault>
 
 /// The days of the items, in their order.
 fn days_of(alloc: Global, items: &[Value]) -> Result<Vec<SheetDay>, SheetFault>
-    ensures value { Answers (result_map (λ days. days.items) result) (days_behind [] (map view items.now)) }
+    ensures value { Answers (result_map (λ days. days.items) result) (days_of (map view items.now)) }
     ensures apart { IfOk result (λ days. AreDaysApart days.items) }
 {
     let mut days = Vec::new(alloc);
     for item in items {
-        let day = day_behind(&days, item)?;
+        let day = day_for(&days, item)?;
         if days.push(day).is_err() {
             return Err(SheetFault::NoMemory);
         }

@@ -1,12 +1,14 @@
-use Rattle.std.proofs.Common.{◌≡◌, ◌<◌, [], length, take, drop, map, All}
+use Rattle.std.proofs.Common.{◌≡◌, ◌<◌, true, length, take, map, All, is_some}
+use Rattle.std.specs.List.{list_all, filter_map}
 use Rattle.toml.specs.View.{view}
-use Rattle.kd_desk.specs.Numbers.{letters_behind}
+use Rattle.kd_desk.specs.Numbers.{numbered_letter}
 use Rattle.kd_desk.proofs.sheet.numbers.numbered_letters.Given as goal
 
--- the letters so far, with the items that are left, give what all the items give, and the array holds nothing but letters
+-- the items so far name letters, which stand in the array, and the array holds nothing but letters
 abbrev pub invariant-loop-place : goal.invariant-loop-place
 invariant-loop-place g l = record {
   count : length l.letters ≡ g.row.N;
   within : All (λ letter. letter < 26) l.letters;
-  read : letters_behind (take l.place l.letters) (map view (drop l.place l.items)) ≡ letters_behind [] (map view l.items);
+  numbers : list_all (λ item. is_some (numbered_letter item)) (take l.place (map view l.items)) ≡ true;
+  letters : take l.place l.letters ≡ filter_map numbered_letter (take l.place (map view l.items));
 }

@@ -1,14 +1,15 @@
-use Rattle.std.proofs.Common.{◌≡◌, [], length, take, drop, map}
+use Rattle.std.proofs.Common.{◌≡◌, length, take, map, Ok}
 use Rattle.toml.specs.View.{view}
 use Rattle.kd_desk.specs.Machine.{AreAllowed, AreApart}
-use Rattle.kd_desk.specs.Seats.{seats_behind}
+use Rattle.kd_desk.specs.Seats.{all_values, given_earlier, wheel_of_item, seat_behind}
 use Rattle.kd_desk.proofs.sheet.seats.seats.Given as goal
 
--- the slots so far are judged, and with the items that are left they give what all the items give
+-- the slots so far hold what the items so far seat, which is what they name
 abbrev pub invariant-loop-place : goal.invariant-loop-place
 invariant-loop-place l = record {
   count : length l.slots ≡ 3;
-  judged : seats_behind l.model (take l.place l.slots) (map view (drop l.place l.items)) ≡ seats_behind l.model [] (map view l.items);
+  named : take l.place l.slots ≡ map wheel_of_item (take l.place (map view l.items));
+  read : all_values (take l.place (given_earlier (seat_behind l.model) (map view l.items))) ≡ Ok (take l.place l.slots);
   allowed : AreAllowed l.model (take l.place l.slots);
   apart : AreApart (take l.place l.slots);
 }
