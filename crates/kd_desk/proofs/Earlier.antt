@@ -7,7 +7,7 @@ use Rattle.toml.specs.Data.{Data}
 use Rattle.toml.specs.View.{view}
 use Rattle.toml.specs.declared.value.Value.{Value}
 use Rattle.kd_desk.specs.Document.{◌>>=◌}
-use Rattle.kd_desk.specs.Seats.{all_values, given_earlier}
+use Rattle.kd_desk.specs.Document.{all_values, given_earlier}
 use Rattle.kd_desk.specs.declared.sheet.fault.SheetFault.{SheetFault}
 use Rattle.kd_desk.proofs.Documents.{viewed_at}
 

@@ -1,5 +1,6 @@
 -- What the bytes of a document mean, and what stands in its table at a key.
-use Rattle.std.specs.Prelude.{◌≡◌, ℕ, ℤ, ◌==◌, Bool, false, List, [], ◌∷◌, length, Result, Ok, Err, ok_or, option_map, ⊤, if◌then◌else◌}
+use Rattle.std.specs.Prelude.{◌≡◌, ℕ, ℤ, ◌==◌, Bool, false, List, [], ◌∷◌, length, map, take, Result, Ok, Err, ok_or, option_map, ⊤, if◌then◌else◌}
+use Rattle.std.specs.List.{enumerate_from}
 use Rattle.std.specs.Option.{option_map_or}
 use Rattle.std.specs.Ordering.{int_eq}
 use Rattle.std.specs.Result.{result_map_both}
@@ -21,6 +22,18 @@ abbrev pub ◌>>=◌ : {A B : Type 0} → Result A SheetFault → (A → Result 
 infixl 10 ◌>>◌
 abbrev pub ◌>>◌ : {B : Type 0} → Result (Unit {0}) SheetFault → Result B SheetFault → Result B SheetFault
 test >> reading = test >>= (λ _. reading)
+
+-- all the values, or else the first fault
+abbrev pub all_values : {A : Type 0} → List (Result A SheetFault) → Result (List A) SheetFault
+all_values [] = Ok []
+all_values (answer ∷ answers) = do
+  value ← answer
+  values ← all_values answers
+  Ok (value ∷ values)
+
+-- what each item is, given the items before it
+abbrev pub given_earlier : {A : Type 0} → (List Data → Data → A) → List Data → List A
+given_earlier reading items = map (λ numbered. reading (take numbered.0 items) numbered.1) (enumerate_from 0 items)
 
 -- What was answered is what was meant, unless memory ran out.
 abbrev pub Answers : {A : Type 0} → Result A SheetFault → Result A SheetFault → Type 0

@@ -1,29 +1,17 @@
 -- Which wheels the items of a file seat, slot by slot from the left.
-use Rattle.std.specs.Prelude.{ℕ, ◌+◌, ◌==◌, Bool, not, List, [], ◌∷◌, length, map, take, Option, Some, None, Result, Ok, ok_or, if◌then◌else◌}
-use Rattle.std.specs.List.{list_any, enumerate_from}
+use Rattle.std.specs.Prelude.{ℕ, ◌+◌, ◌==◌, Bool, not, List, length, map, Option, Some, None, Result, Ok, ok_or, if◌then◌else◌}
+use Rattle.std.specs.List.{list_any}
 use Rattle.std.specs.Option.{option_and_then}
 use Rattle.toml.specs.Data.{Data, as_str}
 use Rattle.kd_tables.specs.declared.model.Model.{Model}
 use Rattle.kd_tables.specs.declared.wheel.Wheel.{Wheel}
 use Rattle.kd_desk.specs.Box.{holds, is_allowed}
-use Rattle.kd_desk.specs.Document.{◌>>=◌, ◌>>◌, demand}
+use Rattle.kd_desk.specs.Document.{◌>>=◌, ◌>>◌, all_values, demand, given_earlier}
 use Rattle.kd_desk.specs.Names.{wheel_by_name}
 use Rattle.kd_desk.specs.declared.sheet.key.Key.{Key}
 use Rattle.kd_desk.specs.declared.sheet.key.Key.TheVariants as keys
 use Rattle.kd_desk.specs.declared.sheet.fault.SheetFault.{SheetFault}
 use Rattle.kd_desk.specs.declared.sheet.fault.SheetFault.TheVariants.{BadValue, WheelTwice, WheelNotAllowed}
-
--- all the values, or else the first fault
-abbrev pub all_values : {A : Type 0} → List (Result A SheetFault) → Result (List A) SheetFault
-all_values [] = Ok []
-all_values (answer ∷ answers) = do
-  value ← answer
-  values ← all_values answers
-  Ok (value ∷ values)
-
--- what each item is, given the items before it
-abbrev pub given_earlier : {A : Type 0} → (List Data → Data → A) → List Data → List A
-given_earlier reading items = map (λ numbered. reading (take numbered.0 items) numbered.1) (enumerate_from 0 items)
 
 -- the wheel is seated in one of the slots
 unfoldable pub is_seated : List (Option Wheel) → Wheel → Bool

@@ -7,12 +7,11 @@ use Rattle.toml.specs.Data.{Data, string, array, Members, get_member, as_str, as
 use Rattle.kd_tables.specs.Tables.{slots_of}
 use Rattle.kd_tables.specs.declared.model.Model.{Model}
 use Rattle.kd_tables.specs.declared.wheel.Wheel.{Wheel}
-use Rattle.kd_desk.specs.Document.{◌>>=◌, ◌>>◌, demand, document_of, value_at, text_at, list_of, items_in}
+use Rattle.kd_desk.specs.Document.{◌>>=◌, ◌>>◌, all_values, demand, document_of, given_earlier, value_at, text_at, list_of, items_in}
 use Rattle.kd_desk.specs.Key.{key_name}
 use Rattle.kd_desk.specs.Letters.{capital_letters}
 use Rattle.kd_desk.specs.MachineFile.{model_in, reflector_in}
 use Rattle.kd_desk.specs.Numbers.{number_to, numbered_letters}
-use Rattle.kd_desk.specs.Seats.{all_values, given_earlier}
 use Rattle.kd_desk.specs.SheetDay.{RotorDay}
 use Rattle.kd_desk.specs.SheetWheels.{wheels_of}
 use Rattle.kd_desk.specs.declared.sheet.key.Key.TheVariants as keys

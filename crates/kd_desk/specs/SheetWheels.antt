@@ -3,8 +3,8 @@ use Rattle.std.specs.Prelude.{List, map, Option, Result, ok_or}
 use Rattle.toml.specs.Data.{Data, as_str}
 use Rattle.kd_tables.specs.declared.model.Model.{Model}
 use Rattle.kd_tables.specs.declared.wheel.Wheel.{Wheel}
-use Rattle.kd_desk.specs.Document.{◌>>=◌}
-use Rattle.kd_desk.specs.Seats.{all_values, given_earlier, wheel_for, wheel_of_item}
+use Rattle.kd_desk.specs.Document.{◌>>=◌, all_values, given_earlier}
+use Rattle.kd_desk.specs.Seats.{wheel_for, wheel_of_item}
 use Rattle.kd_desk.specs.declared.sheet.key.Key.TheVariants as keys
 use Rattle.kd_desk.specs.declared.sheet.fault.SheetFault.{SheetFault}
 use Rattle.kd_desk.specs.declared.sheet.fault.SheetFault.TheVariants.{BadValue}

@@ -1,7 +1,8 @@
 use Rattle.std.proofs.Common.{◌≡◌, length, take, map, Ok}
 use Rattle.toml.specs.View.{view}
 use Rattle.kd_desk.specs.Machine.{AreAllowed, AreApart}
-use Rattle.kd_desk.specs.Seats.{all_values, given_earlier, wheel_of_item, seat_behind}
+use Rattle.kd_desk.specs.Document.{all_values, given_earlier}
+use Rattle.kd_desk.specs.Seats.{wheel_of_item, seat_behind}
 use Rattle.kd_desk.proofs.sheet.seats.seats.Given as goal
 
 -- the slots so far hold what the items so far seat, which is what they name

@@ -2,7 +2,7 @@ use Rattle.std.proofs.Common.{◌≡◌, take, map, Ok}
 use Rattle.std.specs.List.{filter_map}
 use Rattle.toml.specs.View.{view}
 use Rattle.kd_desk.specs.Days.{AreDaysApart}
-use Rattle.kd_desk.specs.Seats.{all_values, given_earlier}
+use Rattle.kd_desk.specs.Document.{all_values, given_earlier}
 use Rattle.kd_desk.specs.SheetFile.{numbers_of, day_number, day_behind}
 use Rattle.kd_desk.proofs.sheet.sheet_file.days_of.Given as goal
 

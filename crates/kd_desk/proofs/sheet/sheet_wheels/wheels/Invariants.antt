@@ -1,7 +1,8 @@
 use Rattle.std.proofs.Common.{◌≡◌, length, take, map, Some, Ok}
 use Rattle.toml.specs.View.{view}
 use Rattle.kd_desk.specs.Machine.{AreAllowed, AreApart}
-use Rattle.kd_desk.specs.Seats.{all_values, given_earlier, wheel_of_item}
+use Rattle.kd_desk.specs.Document.{all_values, given_earlier}
+use Rattle.kd_desk.specs.Seats.{wheel_of_item}
 use Rattle.kd_desk.specs.SheetWheels.{wheel_behind}
 use Rattle.kd_desk.proofs.sheet.sheet_wheels.wheels.Given as goal
 
