@@ -131,3 +131,10 @@ fn a_sink_takes_what_it_has_room_for(rt: HostRuntime) {
     assert!(rt; sink.failed());
     assert_eq!(rt; sink.taken(), b"KEYDE".as_slice());
 }
+
+#[test]
+fn a_refusal_is_printed(rt: HostRuntime) -> Result<(), Fail> {
+    let said = format!(in rt.alloc(); "{}", Failed)?;
+    assert_eq!(rt; said.as_str(), "the device refused");
+    Ok(())
+}
