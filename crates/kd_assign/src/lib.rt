@@ -3,7 +3,7 @@
 
 mod edge;
 mod growth;
-mod laws;
+pub mod laws;
 mod partial;
 mod prices;
 mod solution;
@@ -11,5 +11,4 @@ mod solution;
 mod tests;
 mod tree;
 
-pub use laws::fitting_prices_bound_costs;
 pub use solution::{Solution, assign};

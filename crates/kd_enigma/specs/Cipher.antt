@@ -22,10 +22,11 @@ pub record IsPlugboard (plugs : List ℕ) : Type 0 where
   pub permutation : IsPermutation26 plugs
   pub own_inverse : IsOwnInverse plugs
 
--- the key with these letters in the windows, and the key after so many letters
+-- the key with these letters in the windows
 abbrev pub key_turned : RotorKey → List ℕ → RotorKey
 key_turned key window = record key { window = window }
 
+-- the key after so many letters: the wheels have made a step for each
 abbrev pub key_after : RotorKey → ℕ → RotorKey
 key_after key n = key_turned key (window_after key.wheels key.window n)
 

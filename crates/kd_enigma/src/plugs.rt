@@ -31,7 +31,8 @@ impl Model for Plugs {
 }
 
 impl Plugs {
-    /// The plugboard whose cables exchange the letters of these pairs. There are no cables yet.
+    /// The plugboard whose cables exchange the letters of these pairs. So far `pairs` has to be empty; `LetterTwice` can't
+    /// come.
     pub fn from_pairs(pairs: &[(Letter, Letter)]) -> Result<Plugs, LetterTwice>
         requires { pairs.now ≡ [] }
         ensures ok { IsOk result }

@@ -1,5 +1,5 @@
 -- What the countdowns of the wheels say of the next step, and how a step leaves them.
-use Rattle.std.proofs.Common.{◌≡◌, ℕ, zero, suc, ◌+◌, ◌-◌, ◌%◌, ◌<◌, ◌≤◌, Bool, true, false, cond, nat_lt, Option, Some, None, IsSomeAnd, List, length, take, drop, map, get_or, slice_get, slice_index, refl, sym, ap, ◌∙◌, subst, arith, add-one, length-append, length-drop}
+use Rattle.std.proofs.Common.{◌≡◌, ◌≢◌, IsTrue, IsFalse, ℕ, zero, suc, ◌+◌, ◌-◌, ◌%◌, ◌<◌, ◌≤◌, Bool, true, false, cond, nat_lt, Option, Some, None, IsSomeAnd, List, length, take, drop, map, get_or, slice_get, slice_index, refl, sym, ap, ◌∙◌, subst, arith, add-one, length-append, length-drop}
 use Rattle.std.specs.Option.{option_map_or}
 use Rattle.std.proofs.lemmas.List.{get_or_default, get_or-append_right, get_or-map, get_or-drop, get_or-take, length-take-le, length-map}
 use Rattle.std.proofs.lemmas.Option.{slice_get-get_or}
@@ -8,7 +8,7 @@ use Rattle.std.proofs.lemmas.Bool.Decides.{nat_tests}
 use Rattle.kd_tables.specs.Tables.{is_notch}
 use Rattle.kd_tables.specs.declared.wheel.Wheel.{Wheel}
 use Rattle.kd_step.specs.Stepper.{next_letter, stands_at_notch, moved, IsStep}
-use Rattle.kd_step.specs.Countdown.{letter_after, IsCountdown, Counts, moving_by}
+use Rattle.kd_step.specs.Countdown.{letter_after, IsCountdown, Counts}
 
 -- one more step, at the end
 letter_after_suc : (letter n : ℕ) → letter_after letter (suc n) ≡ next_letter (letter_after letter n)
@@ -58,49 +58,33 @@ stands_by : (wheels : List Wheel) (window : List ℕ) (place : ℕ) (count : Opt
 stands_by wheels window place count h =
     at_notch (slice_get wheels (length window - (place + 1))) (slice_index window (length window - (place + 1))) count h
 
-moving_by_over : (middle right : Option ℕ) → moving_by middle right ≡ cond (is_over middle) 3 (cond (is_over right) 2 1)
-moving_by_over (Some zero) right = refl
-moving_by_over (Some (suc n)) (Some zero) = refl
-moving_by_over (Some (suc n)) (Some (suc m)) = refl
-moving_by_over (Some (suc n)) None = refl
-moving_by_over None (Some zero) = refl
-moving_by_over None (Some (suc m)) = refl
-moving_by_over None None = refl
+-- at a notch the countdown is over, and elsewhere it is not
+due : (wheels : List Wheel) (window : List ℕ) (place : ℕ) (count : Option ℕ) → Counts wheels window place count → IsTrue (stands_at_notch wheels window place) → count ≡ Some 0
+due wheels window place count h stands = over count (sym (stands_by wheels window place count h) ∙ stands)
+  where
+    over : (c : Option ℕ) → is_over c ≡ true → c ≡ Some 0
+    over (Some zero) e = refl
+    over (Some (suc n)) e = cc
+    over None e = cc
 
-pub moving_most : (middle right : Option ℕ) → moving_by middle right ≤ 3
-moving_most (Some zero) right = omega arith
-moving_most (Some (suc n)) (Some zero) = omega arith
-moving_most (Some (suc n)) (Some (suc m)) = omega arith
-moving_most (Some (suc n)) None = omega arith
-moving_most None (Some zero) = omega arith
-moving_most None (Some (suc m)) = omega arith
-moving_most None None = omega arith
-
--- the right wheel always moves
-pub moving_right : (middle right : Option ℕ) → true ≡ nat_lt 0 (moving_by middle right)
-moving_right (Some zero) right = refl
-moving_right (Some (suc n)) (Some zero) = refl
-moving_right (Some (suc n)) (Some (suc m)) = refl
-moving_right (Some (suc n)) None = refl
-moving_right None (Some zero) = refl
-moving_right None (Some (suc m)) = refl
-moving_right None None = refl
-
-step_by_tests : (wheels : List Wheel) (before after : List ℕ) (middle right : Bool) → stands_at_notch wheels before 1 ≡ middle → stands_at_notch wheels before 0 ≡ right
-    → after ≡ moved (cond middle 3 (cond right 2 1)) before → IsStep wheels before after
-step_by_tests wheels before after true right is_middle is_right e =
-    record { from_middle_notch = λ _. e; from_right_notch = λ h _. cc; from_no_notch = λ h _. cc }
-step_by_tests wheels before after false true is_middle is_right e =
-    record { from_middle_notch = λ h. cc; from_right_notch = λ _ _. e; from_no_notch = λ _ h. cc }
-step_by_tests wheels before after false false is_middle is_right e =
-    record { from_middle_notch = λ h. cc; from_right_notch = λ _ h. cc; from_no_notch = λ _ _. e }
+not_due : (wheels : List Wheel) (window : List ℕ) (place : ℕ) (count : Option ℕ) → Counts wheels window place count → IsFalse (stands_at_notch wheels window place) → count ≢ Some 0
+not_due wheels window place count h stands over =
+    let same : true ≡ false = sym (ap is_over over) ∙ sym (stands_by wheels window place count h) ∙ stands in
+    cc
 
 -- as many wheels move as the countdowns say
-pub step_of_counts : (wheels : List Wheel) (before after : List ℕ) (middle right : Option ℕ) → Counts wheels before 1 middle → Counts wheels before 0 right
-    → after ≡ moved (moving_by middle right) before → IsStep wheels before after
-step_of_counts wheels before after middle right is_middle is_right e =
-    step_by_tests wheels before after (is_over middle) (is_over right) (stands_by wheels before 1 middle is_middle) (stands_by wheels before 0 right is_right)
-    (e ∙ ap (λ count. moved count before) (moving_by_over middle right))
+pub step_of_counts : (wheels : List Wheel) (before after : List ℕ) (middle right : Option ℕ) (count : ℕ) → Counts wheels before 1 middle → Counts wheels before 0 right
+    → (middle ≡ Some 0 → count ≡ 3) → (middle ≢ Some 0 → right ≡ Some 0 → count ≡ 2) → (middle ≢ Some 0 → right ≢ Some 0 → count ≡ 1)
+    → after ≡ moved count before → IsStep wheels before after
+step_of_counts wheels before after middle right count is_middle is_right three two one e = record {
+  from_middle_notch = λ at_middle. e ∙ ap (λ n. moved n before) (three (due wheels before 1 middle is_middle at_middle));
+  from_right_notch = λ not_middle at_right. e ∙ ap (λ n. moved n before) (two (not_due wheels before 1 middle is_middle not_middle) (due wheels before 0 right is_right at_right));
+  from_no_notch = λ not_middle not_right. e ∙ ap (λ n. moved n before) (one (not_due wheels before 1 middle is_middle not_middle) (not_due wheels before 0 right is_right not_right));
+}
+
+-- the right wheel always moves
+pub right_moves : (count : ℕ) → 1 ≤ count → true ≡ nat_lt 0 count
+right_moves count some = grind (arith, nat_tests)
 
 -- the letter at a slot that moves with the last so many, and at one that does not
 moved_there : (count : ℕ) (window : List ℕ) (slot : ℕ) → count ≤ length window → length window - count ≤ slot → slot < length window

@@ -20,9 +20,3 @@ abbrev pub Counts : List Wheel → List ℕ → ℕ → Option ℕ → Type 0
 Counts wheels window place count =
     let slot = length window - (place + 1) in
     IsSomeAnd (slice_get wheels slot) (λ wheel. IsCountdown wheel (slice_index window slot) count)
-
--- how many wheels the next step moves, by the countdowns of the middle and of the right wheel
-abbrev pub moving_by : Option ℕ → Option ℕ → ℕ
-moving_by (Some zero) right = 3
-moving_by _ (Some zero) = 2
-moving_by _ _ = 1

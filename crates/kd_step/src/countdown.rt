@@ -1,5 +1,5 @@
-ghost use Rattle.std.specs.Prelude.{◌≡◌, if◌then◌else◌};
-ghost use Rattle.kd_step.specs.Countdown.{IsCountdown, moving_by};
+ghost use Rattle.std.specs.Prelude.{◌≡◌, ◌≢◌, ◌≤◌, Some, if◌then◌else◌};
+ghost use Rattle.kd_step.specs.Countdown.{IsCountdown};
 ghost use Rattle.kd_step.specs.Stepper.{next_letter};
 
 use kd_tables::{Letter, Wheel, notched};
@@ -42,7 +42,11 @@ pub(crate) fn counted_down(
 /// How many wheels the next step moves: the left one with the middle one, and the middle one with the right one,
 /// where that stands at a notch.
 pub(crate) fn moving(middle: Option<u8>, right: Option<u8>) -> usize
-    ensures { result ≡ moving_by middle right }
+    ensures from_middle_notch { middle ≡ Some 0 → result ≡ 3 }
+    ensures from_right_notch { middle ≢ Some 0 → right ≡ Some 0 → result ≡ 2 }
+    ensures from_no_notch { middle ≢ Some 0 → right ≢ Some 0 → result ≡ 1 }
+    ensures least { 1 ≤ result }
+    ensures most { result ≤ 3 }
 {
     match (middle, right) {
         (Some(0), _) => 3,

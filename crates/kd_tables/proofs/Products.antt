@@ -71,3 +71,10 @@ product_inverse p h = same_as_alphabet (followed_by p (inverse p)) (product_perm
 pub inverse_product : (p : List ℕ) → IsPermutation26 p → followed_by (inverse p) p ≡ alphabet
 inverse_product p h = same_as_alphabet (followed_by (inverse p) p) (product_permutes (inverse p) p (inverse_permutes p h) h).size
     (λ x lt. followed_by-at (inverse p) p x (omega (arith, (inverse_permutes p h).size)) ∙ ap (slice_index p) (inverse-at p x lt) ∙ at_place p x h lt)
+
+-- what leads the letter at each place back to that place is the inverse
+pub filled_is_inverse : (p filled : List ℕ) → IsPermutation26 p → length filled ≡ 26 → ((k : ℕ) → k < 26 → slice_index filled (slice_index p k) ≡ k) → filled ≡ inverse p
+unfolding inverse
+filled_is_inverse p filled h size leads =
+    fill_by_all (λ y. position_or_len (λ x. x == y) p) filled 26 0 size
+    (λ y lt. ap (slice_index filled) (sym (at_place p y h lt)) ∙ leads (position_or_len (λ x. x == y) p) (place_within p y h lt))

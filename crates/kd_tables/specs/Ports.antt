@@ -17,14 +17,15 @@ pub record Gets (old new : Option (List ℕ)) (buffer : List ℕ) (answer : Resu
   pub ended : answer ≡ Ok 0 → 0 < length buffer → IsAtEnd new
   pub refused : OnErr answer (Keeps old new)
 
--- what is known of a source in memory: the bytes to come, the greatest piece, and how many gets succeed yet
+-- what is known of a source in memory: the bytes to come, the greatest piece, how many gets succeed yet, or none where
+-- all do, and whether one has failed
 pub record MemoryBytes : Type 0 where
   pub rest : List ℕ
   pub piece : ℕ
   pub gets_left : Option ℕ
   pub failed : Bool
 
--- what is known of a sink in memory: the bytes taken, and how many it takes in all
+-- what is known of a sink in memory: the bytes taken, how many it takes in all, and whether a put has failed
 pub record MemoryTaken : Type 0 where
   pub taken : List ℕ
   pub limit : ℕ

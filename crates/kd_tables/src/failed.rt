@@ -1,14 +1,6 @@
-use std::error::Error;
-use std::fmt;
+use thiserror::Error;
 
-/// A put or a get that the device refused.
-#[derive(Clone, Copy, Debug, PartialEq, Eq)]
+/// A put or a get that the device refused: no byte was taken, and none was given.
+#[derive(Clone, Copy, Debug, PartialEq, Eq, Error)]
+#[error("the device refused")]
 pub struct Failed;
-
-impl fmt::Display for Failed {
-    fn fmt<W: fmt::Write>(&self, f: &mut fmt::Formatter<W>) -> fmt::Result {
-        f.write_str("the device refused")
-    }
-}
-
-impl Error for Failed {}

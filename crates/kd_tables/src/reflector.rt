@@ -9,8 +9,11 @@ use arrayvec::ArrayString;
 /// A reflector of the rotor machines, which sends the current back through the wheels.
 #[derive(Clone, Copy, Debug, PartialEq, Eq, Hash)]
 pub enum Reflector {
+    /// Reflector A.
     A,
+    /// Reflector B.
     B,
+    /// Reflector C.
     C,
     /// The thin B of the M4, written `b`.
     ThinB,
@@ -51,7 +54,8 @@ impl Reflector {
     }
 }
 
-/// The letter to which each letter is led back.
+/// The letter to which each letter is led back: the published wirings of the reflectors, as in Tony Sale's tables and in
+/// those of the Crypto Museum.
 #[tactic(auto, unfolding(crate::specs::Tables::reflector_of))]
 pub fn reflecting(reflector: Reflector) -> [Letter; 26]
     ensures table { result ≡ reflector_of reflector }

@@ -11,7 +11,8 @@ pub trait Sink {
     /// A put has failed.
     ghost has_failed: { Self → Bool };
 
-    /// Takes bytes from the front, at least one where there is one, and answers how many.
+    /// Takes bytes from the front, at least one where there is one, and answers how many. Where it answers `Failed`, it
+    /// took none.
     fn put(&mut self, bytes: &[u8]) -> Result<usize, Failed>
         ensures bytes { Puts (taken self.old) (taken self.new) bytes.now result }
         ensures failed { has_failed self.new ≡ (has_failed self.old || is_err result) };

@@ -1,5 +1,4 @@
-ghost use Rattle.std.specs.Prelude.{◌≡◌, ◌-◌, ◌+◌, ◌<◌, ◌==◌, slice_index, IsTrue};
-ghost use Rattle.std.specs.List.{position_or_len};
+ghost use Rattle.std.specs.Prelude.{◌≡◌, ◌-◌, ◌+◌, ◌<◌, slice_index, IsTrue};
 ghost use Rattle.kd_tables.specs.Permutation.{inverse, IsPermutation26, IsOwnInverse, MovesEachLetter};
 ghost use Rattle.kd_tables.specs.Tables.{letters_of};
 ghost use Rattle.kd_tables.specs.WiringText.{is_wiring_text, is_reflection};
@@ -35,24 +34,10 @@ pub(crate) fn inverse_table(text: &[u8; 26]) -> [Letter; 26]
 {
     let table = table(text);
     let mut inverse = [Letter::A; 26];
-    for letter in 0..26 {
-        inverse[letter] = place_of(&table, letter);
+    for place in 0..26 {
+        inverse[table[usize::from(place)].index()] = Letter::new(place).unwrap();
     }
     inverse
-}
-
-/// The place at which a permutation has a letter.
-fn place_of(permutation: &[Letter; 26], letter: usize) -> Letter
-    requires permutation { IsPermutation26 permutation.now }
-    requires within { letter < 26 }
-    ensures { result ≡ position_or_len (λ x. x == letter) permutation.now }
-{
-    for place in 0..26 {
-        if permutation[usize::from(place)].index() == letter {
-            return Letter::new(place).unwrap();
-        }
-    }
-    unreachable!()
 }
 
 /// The table of a reflector's published text.

@@ -33,7 +33,15 @@ fn letters_have_places_and_bytes(rt: HostRuntime) -> Result<(), Fail> {
     assert_eq!(rt; q.forward(l).byte(), b'B');
     assert_eq!(rt; l.back(q).byte(), b'V');
     assert_eq!(rt; Letter::new(26), None);
-    assert_eq!(rt; Letter::from_byte(b'q'), None);
+    for (byte, index) in [
+        (b'@', None),
+        (b'A', Some(0)),
+        (b'Z', Some(25)),
+        (b'[', None),
+        (b'a', None),
+    ] {
+        assert_eq!(rt; Letter::from_byte(byte).map(Letter::index), index);
+    }
     Ok(())
 }
 
@@ -103,8 +111,10 @@ fn a_source_gives_pieces_and_fails(rt: HostRuntime) {
     assert!(rt; !source.failed());
     assert_eq!(rt; source.get(&mut buffer), Err(Failed));
     assert!(rt; source.failed());
+    assert_eq!(rt; source.get(&mut buffer), Err(Failed));
 
     let mut source = MemorySource::new(b"E", 4, None);
+    assert_eq!(rt; source.get(&mut []), Ok(0));
     assert_eq!(rt; source.get(&mut buffer), Ok(1));
     assert_eq!(rt; source.get(&mut buffer), Ok(0));
 }
@@ -112,10 +122,19 @@ fn a_source_gives_pieces_and_fails(rt: HostRuntime) {
 #[test]
 fn a_sink_takes_what_it_has_room_for(rt: HostRuntime) {
     let mut sink = MemorySink::<8>::new(5);
+    assert_eq!(rt; sink.put(b""), Ok(0));
     assert_eq!(rt; sink.put(b"KEY"), Ok(3));
     assert_eq!(rt; sink.put(b"DESK"), Ok(2));
+    assert_eq!(rt; sink.put(b""), Ok(0));
     assert!(rt; !sink.failed());
     assert_eq!(rt; sink.put(b"SK"), Err(Failed));
     assert!(rt; sink.failed());
     assert_eq!(rt; sink.taken(), b"KEYDE".as_slice());
+}
+
+#[test]
+fn a_refusal_is_printed(rt: HostRuntime) -> Result<(), Fail> {
+    let said = format!(in rt.alloc(); "{}", Failed)?;
+    assert_eq!(rt; said.as_str(), "the device refused");
+    Ok(())
 }

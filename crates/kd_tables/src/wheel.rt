@@ -9,15 +9,25 @@ use arrayvec::ArrayString;
 /// A wheel of the rotor machines. I to VIII turn; Beta and Gamma stand still beside the thin reflectors of the M4.
 #[derive(Clone, Copy, Debug, PartialEq, Eq, Hash)]
 pub enum Wheel {
+    /// Wheel I.
     I,
+    /// Wheel II.
     II,
+    /// Wheel III.
     III,
+    /// Wheel IV.
     IV,
+    /// Wheel V.
     V,
+    /// Wheel VI.
     VI,
+    /// Wheel VII.
     VII,
+    /// Wheel VIII.
     VIII,
+    /// The M4's Beta wheel, which stands to the left of the three that turn.
     Beta,
+    /// The M4's Gamma wheel, which stands to the left of the three that turn.
     Gamma,
 }
 
@@ -40,7 +50,7 @@ macro_rules! wiring {
 }
 
 impl Wheel {
-    /// The name that is engraved on the wheel.
+    /// The wheel's name in machine files, sheets and cards.
     pub fn text(self) -> ArrayString<8>
         ensures { result.bytes ≡ wheel_text self }
     {
@@ -82,7 +92,9 @@ impl Wheel {
     }
 }
 
-/// What each letter becomes on the way in, from the right of the wheel to its left, with the wheel's A before A.
+/// What each letter becomes on the way in, from the right of the wheel to its left, with the wheel's A before A: the
+/// published wirings of the Wehrmacht's and the Kriegsmarine's wheels, as in Tony Sale's tables and in those of the
+/// Crypto Museum.
 #[tactic(auto, unfolding(crate::specs::Tables::wiring_of))]
 pub fn wiring(wheel: Wheel) -> [Letter; 26]
     ensures { result ≡ wiring_of wheel }
@@ -90,7 +102,8 @@ pub fn wiring(wheel: Wheel) -> [Letter; 26]
     wiring!(table, wheel)
 }
 
-/// What each letter becomes on the way back, from the left of the wheel to its right.
+/// What each letter becomes on the way back, from the left of the wheel to its right: the published wirings, the other
+/// way round.
 #[tactic(auto, unfolding(crate::specs::Tables::wiring_of))]
 pub fn unwiring(wheel: Wheel) -> [Letter; 26]
     ensures { result ≡ inverse (wiring_of wheel) }
@@ -98,7 +111,9 @@ pub fn unwiring(wheel: Wheel) -> [Letter; 26]
     wiring!(inverse_table, wheel)
 }
 
-/// Whether the step that the wheel makes from this window letter takes its left neighbour along.
+/// Whether the wheel stands at a notch when this letter shows in its window, whatever its ring. Some wheels have two
+/// notches, and Beta and Gamma none. On its next step the wheel takes the one to its left along, if that one can be
+/// turned. These are the published notches of the Wehrmacht's and the Kriegsmarine's wheels.
 pub fn notched(wheel: Wheel, window: Letter) -> bool
     ensures { result ≡ is_notch wheel window }
 {
