@@ -3,16 +3,10 @@ use Rattle.std.proofs.Common.{◌≡◌, ℕ, ◌+◌, ◌-◌, List, [], ◌++�
 use Rattle.std.proofs.lemmas.List.{map-append, length-append}
 use Rattle.std.proofs.lemmas.List.Elements.{filter-append}
 use Rattle.kd_tables.specs.Tables.{letters_of}
+use Rattle.kd_enigma.specs.Laws.{CipherInTurn, KeyInTurn}
 use Rattle.kd_enigma.specs.Cipher.{RotorKey, key_after, enigma_cipher}
 use Rattle.kd_desk.specs.Letters.{is_capital}
 use Rattle.kd_desk.specs.Typing.{typed_letters, cipher_text, Lights}
-
--- a text in two pieces is enciphered piece by piece
-abbrev pub CipherInTurn : Type 0
-CipherInTurn = (key : RotorKey) (first rest : List ℕ) → enigma_cipher key (first ++ rest) ≡ enigma_cipher key first ++ enigma_cipher (key_after key (length first)) rest
-
-abbrev pub KeyInTurn : Type 0
-KeyInTurn = (key : RotorKey) (m n : ℕ) → key_after (key_after key m) n ≡ key_after key (m + n)
 
 pub typed-append : (first rest : List ℕ) → typed_letters (first ++ rest) ≡ typed_letters first ++ typed_letters rest
 typed-append first rest = ap letters_of (filter-append is_capital first rest) ∙ map-append (λ byte. byte - 65) (filter is_capital first) (filter is_capital rest)

@@ -15,7 +15,8 @@ use Rattle.kd_desk.specs.declared.fault.DeskFault.TheVariants.{File, NotReady, O
 use Rattle.kd_desk.specs.Writing.{TakesFront}
 use Rattle.kd_desk.specs.Typing.{may_be_typed, AreAllowedBytes, IsFirstRefused, cipher_text, read_limit, Lights, TypesFront, IsTyped}
 use Rattle.kd_desk.specs.TypingSteps.{StepTyped, Ends}
-use Rattle.kd_desk.proofs.Lamps.{CipherInTurn, KeyInTurn, Lights-then}
+use Rattle.kd_enigma.specs.Laws.{CipherInTurn, KeyInTurn}
+use Rattle.kd_desk.proofs.Lamps.{Lights-then}
 
 -- so many bytes were read and typed
 pub record SoFar (key now : RotorKey) (had has took taken : Option (List ℕ)) (count : ℕ) : Type 0 where

@@ -6,6 +6,7 @@ pub mod Days
 pub mod Document
 pub mod Headline
 pub mod Key
+pub mod Laws
 pub mod Letters
 pub mod Machine
 pub mod MachineFile

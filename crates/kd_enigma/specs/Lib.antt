@@ -2,3 +2,4 @@ pub mod Rotor
 pub mod Cipher
 pub mod Seated
 pub mod Through
+pub mod Laws

@@ -1,9 +1,9 @@
 -- What a seated wheel keeps beside its tables, and what the published tables are.
 use Rattle.std.specs.Prelude.{◌≡◌, ℕ, List}
-use Rattle.kd_tables.specs.Permutation.{alphabet, followed_by, inverse, IsPermutation26, IsOwnInverse, MovesEachLetter}
-use Rattle.kd_tables.specs.Tables.{wiring_of, reflector_of}
+use Rattle.kd_tables.specs.Laws.{WiringsArePermutations, ReflectorsArePermutations, ReflectorsLeadBack, ReflectorsMoveEachLetter}
+use Rattle.kd_tables.specs.Permutation.{alphabet, followed_by, inverse, IsPermutation26}
+use Rattle.kd_tables.specs.Tables.{wiring_of}
 use Rattle.kd_tables.specs.declared.wheel.Wheel.{Wheel}
-use Rattle.kd_tables.specs.declared.reflector.Reflector.{Reflector}
 
 -- a wheel and its ring
 pub record SeatedWheel : Type 0 where
@@ -16,9 +16,9 @@ unwiring_of wheel = inverse (wiring_of wheel)
 
 -- The published wirings are permutations, which their inverses undo, and the reflectors exchange letters.
 pub record TablesAreSound : Type 0 where
-  pub wiring : (wheel : Wheel) → IsPermutation26 (wiring_of wheel)
+  pub wiring : WiringsArePermutations
   pub unwiring : (wheel : Wheel) → IsPermutation26 (unwiring_of wheel)
   pub undone : (wheel : Wheel) → followed_by (unwiring_of wheel) (wiring_of wheel) ≡ alphabet
-  pub reflector : (reflector : Reflector) → IsPermutation26 (reflector_of reflector)
-  pub own_inverse : (reflector : Reflector) → IsOwnInverse (reflector_of reflector)
-  pub none_fixed : (reflector : Reflector) → MovesEachLetter (reflector_of reflector)
+  pub reflector : ReflectorsArePermutations
+  pub own_inverse : ReflectorsLeadBack
+  pub none_fixed : ReflectorsMoveEachLetter

@@ -2,3 +2,4 @@ pub mod Permutation
 pub mod Tables
 pub mod WiringText
 pub mod Ports
+pub mod Laws
