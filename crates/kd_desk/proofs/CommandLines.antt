@@ -34,10 +34,6 @@ pub no_day : (said : List ℕ × List Row) → said.0 ≢ codes "type" → ((day
 no_day said card none (commands.Type machine) is = card is.0
 no_day said card none (commands.Card machine sheet day) is = none day is.4 is.5 is.3
 
-pub no_command : (said : List ℕ × List Row) → said.0 ≢ codes "type" → said.0 ≢ codes "card" → (command : Command) → IsOf said command → ⊥
-no_command said not_type not_card (commands.Type machine) is = not_type is.0
-no_command said not_type not_card (commands.Card machine sheet day) is = not_card is.0
-
 -- what a getter of the matches reads, by their rows
 pub read_none : (found : Found) (id : List ℕ) (word : Option (Bor (List ℕ))) → option_map (λ s. s.now) word ≡ first_value found id → word ≡ None → first_of id (rows_of found) ≡ None
 read_none found id word reads none = sym (first_value-rows found id) ∙ sym reads ∙ ap (option_map (λ s. s.now)) none

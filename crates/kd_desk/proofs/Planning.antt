@@ -4,10 +4,7 @@ use Rattle.std.specs.List.{enumerate_from, cons_option}
 use Rattle.std.specs.Option.{option_to_list, option_map, option_and_then}
 use Rattle.std.proofs.lemmas.List.{append-nil, drop_more, drop_all}
 use Rattle.std.proofs.lemmas.Slice.Zip.{get_or-zip, length-zip}
-use Rattle.kd_tables.specs.declared.model.Model.{Model}
-use Rattle.kd_tables.specs.declared.model.Model.TheVariants.{EnigmaI}
 use Rattle.kd_tables.specs.declared.wheel.Wheel.{Wheel}
-use Rattle.kd_tables.specs.Tables.{box_of}
 use Rattle.kd_desk.specs.declared.state.setting.Setting.{Setting}
 use Rattle.kd_desk.specs.declared.state.setting.Setting.TheVariants.{Seat, RingTo, Turn}
 use Rattle.kd_desk.specs.Box.{same_wheel, holds, ring_of, letter_of}
@@ -91,7 +88,3 @@ rings_more m s wheels place d lt =
 
 pub rings_all : (m : RotorParts) (s : RotorDay) (wheels : List Wheel) (place : ℕ) → length wheels ≤ place → rings_of m s (drop place wheels) ≡ []
 rings_all m s wheels place le = ap (rings_of m s) (drop_all place wheels le)
-
--- a box has at most ten wheels
-pub box_small : (model : Model) → length (box_of model) ≤ 10
-box_small EnigmaI = omega arith

@@ -17,6 +17,7 @@ pub type Settings = ArrayVec<Setting, 192>;
 /// A card for a machine without cables: all its prices are 0.
 #[derive(Drop)]
 pub struct Card {
+    /// The settings, first to last.
     pub settings: Settings,
 }
 

@@ -144,12 +144,6 @@ text_permutes text h = test_permutes (letters_of text) (both (list_all (λ byte.
 capital : (byte : ℕ) → (nat_le 65 byte && nat_le byte 90) ≡ true → (65 ≤ byte) × (byte ≤ 90)
 capital byte h = let parts = both (nat_le 65 byte) (nat_le byte 90) h in (grind (arith, nat_tests), grind (arith, nat_tests))
 
--- each byte of a wiring's text is a capital letter
-pub text_capital : (text : List ℕ) → is_wiring_text text ≡ true → All (λ byte. (65 ≤ byte) × (byte ≤ 90)) text
-text_capital text h = All-from_recursion (λ byte. (65 ≤ byte) × (byte ≤ 90)) text
-    (each_weaker (λ byte. (nat_le 65 byte && nat_le byte 90) ≡ true) (λ byte. (65 ≤ byte) × (byte ≤ 90)) capital text
-    (list_all_each (λ byte. nat_le 65 byte && nat_le byte 90) text (both (list_all (λ byte. nat_le 65 byte && nat_le byte 90) text) (is_permutation (letters_of text)) h).0))
-
 -- a reflection leads each letter to another one, and that one back
 reflects : (p : List ℕ) (x : ℕ) → (not (slice_index p x == x) && (slice_index p (slice_index p x) == x)) ≡ true → (slice_index p x ≢ x) × (slice_index p (slice_index p x) ≡ x)
 reflects p x h =

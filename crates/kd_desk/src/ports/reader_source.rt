@@ -12,6 +12,7 @@ pub struct ReaderSource<R: Read + Drop> {
 }
 
 impl<R: Read + Drop> ReaderSource<R> {
+    /// A source of what the reader gives.
     pub fn new(reader: R) -> Self
         ensures reader { result.reader ≡ reader }
         ensures failed { result.failed ≡ false }
