@@ -1,12 +1,12 @@
 -- Prices that move with a tree, and a tree that gains an edge.
-use Rattle.std.proofs.Common.{◌≡◌, ◌≢◌, ℕ, suc, ◌<◌, ◌≤◌, List, [], length, get_or, set, true, false, cond, eqb, Option, Some, None, ◌⊎◌, inl, inr, ℤ, pos, neg_ℤ, ◌+ℤ◌, ◌-ℤ◌, ◌≤ℤ◌, refl, sym, ◌∙◌, subst, arith}
-use Rattle.std.proofs.lemmas.Bool.{cases_eq, cases_lt, cases_Bool, eqb-true, eq-eqb, ne_eqb, false≢true, cond-true, cond-false, or_cases}
+use Rattle.std.proofs.Common.{◌≡◌, ◌≢◌, ℕ, suc, ◌<◌, ◌≤◌, List, [], length, get_or, set, true, false, cond, eqb, Option, Some, None, ◌⊎◌, inl, inr, ℤ, pos, neg_ℤ, ◌+ℤ◌, ◌-ℤ◌, ◌≤ℤ◌, refl, ap, sym, ◌∙◌, subst, arith}
+use Rattle.std.proofs.lemmas.Bool.{cases_eq, cases_lt, cases_Bool, eqb-true, eq-eqb, ne_eqb, false≢true, cond-true, cond-false, or_cases, or_right}
 use Rattle.std.proofs.lemmas.Int.{ints}
-use Rattle.std.proofs.lemmas.List.{get_or_past, get_or-set_other, length-set}
+use Rattle.std.proofs.lemmas.List.{get_or_past, get_or-set_same, get_or-set_other, length-set}
 use Rattle.std.proofs.lemmas.Option.{same_Some}
 use Rattle.kd_assign.specs.Prices.{CostsAtMost, Fits, cost_at, price_at}
 use Rattle.kd_assign.specs.Partial.{Has, IsSound, IsTaken, IsTight}
-use Rattle.kd_assign.specs.Tree.{IsTree, LeadsToRoot, IsGrowing, IsNearest, has_column, has_column_of, has_row}
+use Rattle.kd_assign.specs.Tree.{AreNearest, IsCompared, IsTree, LeadsToRoot, IsGrowing, has_column, has_column_of, has_row, slack_at, slack_of}
 use Rattle.kd_assign.proofs.Places.{vacant_or, within, written}
 
 -- no cost is above 4, nor is what stands past the end
@@ -21,7 +21,7 @@ cost_at_most cost costs i j =
     ]
 
 -- where the tree has the column of a row, the row has one
-column_given : (reached : List (Option ℕ)) (given : Option ℕ) → has_column_of reached given ≡ true →
+pub column_given : (reached : List (Option ℕ)) (given : Option ℕ) → has_column_of reached given ≡ true →
     (j : ℕ) × (given ≡ Some j) × (has_column reached j ≡ true)
 column_given reached None h = absurd (false≢true h)
 column_given reached (Some j) h = (j, refl, h)
@@ -29,6 +29,13 @@ column_given reached (Some j) h = (j, refl, h)
 -- an order that has one place changed
 abbrev order_with : (ℕ → ℕ) → ℕ → ℕ → ℕ → ℕ
 order_with order end top j = cond (eqb j end) top (order j)
+
+-- a column that the tree has stays as another one is reached
+pub reached_still : (reached : List (Option ℕ)) (end from : ℕ) → has_column reached end ≡ false → (j : ℕ) →
+    has_column reached j ≡ true → has_column (set reached end (Some from)) j ≡ true
+reached_still reached end from outside j reaches =
+    let other : j ≢ end = λ same. false≢true (sym outside ∙ rw same at reaches) in
+    rw (get_or-set_other reached end j (Some from) None other) reaches
 
 -- a tree whose paths lead to the root gains a column, which comes last
 LeadsToRoot-set : (to reached : List (Option ℕ)) (root from end top : ℕ) → end < length reached →
@@ -40,11 +47,11 @@ LeadsToRoot-set to reached root from end top h outside paths first = record {
   leads_on = λ i j edge. elim (written reached end (Some from) j i h edge) [
     | inl here ↦ elim first [
       | inl same ↦ inl (sym (same_Some from i here.1) ∙ same)
-      | inr on ↦ inr (on.0, rw (same_Some from i here.1) at on.1, reached_still on.0 on.2, omega (arith, on.3, order_stays on.0 (is_other on.0 on.2), order_last j here.0))
+      | inr on ↦ inr (on.0, rw (same_Some from i here.1) at on.1, reached_still reached end from outside on.0 on.2, omega (arith, on.3, order_stays on.0 (is_other on.0 on.2), order_last j here.0))
     ]
     | inr there ↦ elim (paths.leads_on i j there.1) [
       | inl same ↦ inl same
-      | inr on ↦ inr (on.0, on.1, reached_still on.0 on.2, omega (arith, on.3, order_stays on.0 (is_other on.0 on.2), order_stays j there.0))
+      | inr on ↦ inr (on.0, on.1, reached_still reached end from outside on.0 on.2, omega (arith, on.3, order_stays on.0 (is_other on.0 on.2), order_stays j there.0))
     ]
   ];
 }
@@ -58,8 +65,41 @@ LeadsToRoot-set to reached root from end top h outside paths first = record {
     is_other : (j : ℕ) → has_column reached j ≡ true → j ≢ end
     is_other j reaches same = false≢true (sym outside ∙ rw same at reaches)
 
-    reached_still : (j : ℕ) → has_column reached j ≡ true → has_column (set reached end (Some from)) j ≡ true
-    reached_still j reaches = let other = is_other j reaches in rw get_or-set_other reaches
+-- the edge from row `from` to column `end` leaves the tree, and has the least slack of those that do
+pub record IsNearest (cost : List (List ℕ)) (row col : List ℤ) (to : List (Option ℕ)) (root : ℕ) (reached : List (Option ℕ))
+    (from end : ℕ) (slack : ℤ) : Type 0 where
+  pub inside : has_row to root reached from ≡ true
+  pub within : end < length reached
+  pub outside : has_column reached end ≡ false
+  pub slack_is : slack ≡ slack_of cost row col from end
+  pub least : (i j : ℕ) → j < length reached → has_row to root reached i ≡ true → has_column reached j ≡ false →
+      slack ≤ℤ slack_of cost row col i j
+
+-- the prices of the tree's rows rose by so much, those of its columns fell by it, and so did the slacks outside of it
+pub record AreMoved (to : List (Option ℕ)) (root : ℕ) (reached : List (Option ℕ)) (by : ℤ) (row col slacks row' col' slacks' : List ℤ)
+    : Type 0 where
+  pub rows : length row' ≡ length to
+  pub columns : length col' ≡ length to
+  pub raised : (i : ℕ) → i < length to → price_at row' i ≡ cond (has_row to root reached i) (price_at row i +ℤ by) (price_at row i)
+  pub lowered : (j : ℕ) → j < length to → price_at col' j ≡ cond (has_column reached j) (price_at col j -ℤ by) (price_at col j)
+  pub fallen : (j : ℕ) → j < length reached → has_column reached j ≡ false → slack_at slacks' j ≡ slack_at slacks j -ℤ by
+
+-- by nothing
+pub AreMoved-none : (to : List (Option ℕ)) (root : ℕ) (reached : List (Option ℕ)) (by : ℤ) (row col slacks : List ℤ) →
+    length row ≡ length to → length col ≡ length to → by ≡ pos 0 → AreMoved to root reached by row col slacks row col slacks
+AreMoved-none to root reached by row col slacks rows columns none = record {
+  rows = rows;
+  columns = columns;
+  raised = λ i h. elim (cases_Bool (has_row to root reached i)) [
+    | inl has ↦ rw (cond-true _ _ _ has) (omega (arith, ints))
+    | inr misses ↦ rw (cond-false _ _ _ misses) refl
+  ];
+  lowered = λ j h. elim (cases_Bool (has_column reached j)) [
+    | inl has ↦ rw (cond-true _ _ _ has) (omega (arith, ints))
+    | inr misses ↦ rw (cond-false _ _ _ misses) refl
+  ];
+  fallen = λ j h misses. omega (arith, ints);
+}
 
 module _ (cost : List (List ℕ)) (row col : List ℤ) (to : List (Option ℕ)) (root : ℕ) (reached : List (Option ℕ))
     (costs : CostsAtMost 4 cost) (growing : IsGrowing cost row col to root reached) where
@@ -100,6 +140,19 @@ module _ (cost : List (List ℕ)) (row col : List ℤ) (to : List (Option ℕ)) 
   column_in_range : (j : ℕ) → has_column reached j ≡ true → j < length to
   column_in_range j has = let holder = growing.taken j has in let in_list = growing.partial.in_range holder.0 j holder.1 in omega arith
 
+  -- the nearest column, and the row that is nearest to it, are the ends of the nearest edge
+  pub is_nearest : (near : List ℕ) (slacks : List ℤ) → AreNearest cost row col to root reached near slacks →
+      (end : ℕ) → end < length reached → has_column reached end ≡ false →
+      ((j : ℕ) → j < length reached → has_column reached j ≡ false → slack_at slacks end ≤ℤ slack_at slacks j) →
+      IsNearest cost row col to root reached (get_or near end 0) end (slack_at slacks end)
+  is_nearest near slacks kept end within outside least = record {
+    inside = kept.inside end within outside;
+    within = within;
+    outside = outside;
+    slack_is = kept.slack_is end within outside;
+    least = λ i j h has misses. omega (arith, ints, least j h misses, kept.least i j h has misses);
+  }
+
   -- the prices move by the slack of the nearest edge
   module _ (from end : ℕ) (slack by : ℤ) (nearest : IsNearest cost row col to root reached from end slack) (by_is : by ≡ slack) where
     -- the nearest edge, and by how much the prices move
@@ -107,18 +160,18 @@ module _ (cost : List (List ℕ)) (row col : List ℤ) (to : List (Option ℕ)) 
     leaving = subst (IsNearest cost row col to root reached from end) (sym by_is) nearest
 
     end_in_range : end < length to
-    end_in_range = rw (← growing.tree.places) leaving.out.within
+    end_in_range = rw (← growing.tree.places) leaving.within
 
     -- the prices fit, so no slack is negative
     pub by_low : pos 0 ≤ℤ by
-    by_low = omega (arith, ints, growing.sound.fits from end (rw growing.sound.rows (row_in_range from leaving.inside)) (rw growing.sound.columns end_in_range), leaving.out.slack_is)
+    by_low = omega (arith, ints, growing.sound.fits from end (rw growing.sound.rows (row_in_range from leaving.inside)) (rw growing.sound.columns end_in_range), leaving.slack_is)
 
     -- the free column has the price 0, so that no row's price comes above the highest cost
     pub raised_at_most : (i : ℕ) → has_row to root reached i ≡ true → (price_at row i +ℤ by) ≤ℤ pos 4
     raised_at_most i has =
         let j = growing.free.0 in
         let free_in_range : j < length to = growing.free.1 in
-        omega (arith, ints, leaving.least i j ((row_in_range i has)) (rw growing.tree.places free_in_range) has (not_reached j growing.free.2), growing.sound.free j growing.free.2, cost_at_most cost costs i j)
+        omega (arith, ints, leaving.least i j (rw growing.tree.places free_in_range) has (not_reached j growing.free.2), growing.sound.free j growing.free.2, cost_at_most cost costs i j)
 
     -- the row that has a column of the tree is raised as the column is lowered
     pub lowered_at_least : (j : ℕ) → has_column reached j ≡ true → neg_ℤ (pos 4) ≤ℤ (price_at col j -ℤ by)
@@ -127,26 +180,24 @@ module _ (cost : List (List ℕ)) (row col : List ℤ) (to : List (Option ℕ)) 
         let i = holder.0 in
         omega (arith, ints, growing.sound.tight i j holder.1, raised_at_most i (has_row_at i j holder.1 ∙ has))
 
-    module _ (row' col' : List ℤ) (rows' : length row' ≡ length to) (columns' : length col' ≡ length to)
-        (raised : (i : ℕ) → i < length to → price_at row' i ≡ cond (has_row to root reached i) (price_at row i +ℤ by) (price_at row i))
-        (lowered : (j : ℕ) → j < length to → price_at col' j ≡ cond (has_column reached j) (price_at col j -ℤ by) (price_at col j)) where
+    module _ (slacks row' col' slacks' : List ℤ) (moved : AreMoved to root reached by row col slacks row' col' slacks') where
       -- what is in the tree moves, and what is outside stays
       row_moves : (i : ℕ) → has_row to root reached i ≡ true → price_at row' i ≡ price_at row i +ℤ by
-      row_moves i has = raised i (row_in_range i has) ∙ cond-true _ _ _ has
+      row_moves i has = moved.raised i (row_in_range i has) ∙ cond-true _ _ _ has
 
       row_stays : (i : ℕ) → has_row to root reached i ≡ false → price_at row' i ≡ price_at row i
       row_stays i has = elim (cases_lt i (length to)) [
-        | inl lt ↦ raised i lt ∙ cond-false _ _ _ has
-        | inr past ↦ get_or_past row' i (pos 0) (rw rows' past) ∙ sym (get_or_past row i (pos 0) (rw growing.sound.rows past))
+        | inl lt ↦ moved.raised i lt ∙ cond-false _ _ _ has
+        | inr past ↦ get_or_past row' i (pos 0) (rw moved.rows past) ∙ sym (get_or_past row i (pos 0) (rw growing.sound.rows past))
       ]
 
       column_moves : (j : ℕ) → j < length to → has_column reached j ≡ true → price_at col' j ≡ price_at col j -ℤ by
-      column_moves j h has = lowered j h ∙ cond-true _ _ _ has
+      column_moves j h has = moved.lowered j h ∙ cond-true _ _ _ has
 
       column_stays : (j : ℕ) → has_column reached j ≡ false → price_at col' j ≡ price_at col j
       column_stays j has = elim (cases_lt j (length to)) [
-        | inl lt ↦ lowered j lt ∙ cond-false _ _ _ has
-        | inr past ↦ get_or_past col' j (pos 0) (rw columns' past) ∙ sym (get_or_past col j (pos 0) (rw growing.sound.columns past))
+        | inl lt ↦ moved.lowered j lt ∙ cond-false _ _ _ has
+        | inr past ↦ get_or_past col' j (pos 0) (rw moved.columns past) ∙ sym (get_or_past col j (pos 0) (rw growing.sound.columns past))
       ]
 
       -- an edge stays tight where both of its ends move, or neither
@@ -160,14 +211,14 @@ module _ (cost : List (List ℕ)) (row col : List ℤ) (to : List (Option ℕ)) 
       -- the least slack leaves room at every edge out of the tree
       fits_still : Fits cost row' col'
       fits_still i j h h' =
-          let in_rows : i < length to = rw (← rows') h in
-          let in_columns : j < length to = rw (← columns') h' in
+          let in_rows : i < length to = rw (← moved.rows) h in
+          let in_columns : j < length to = rw (← moved.columns) h' in
           let fits = growing.sound.fits i j (rw growing.sound.rows in_rows) (rw growing.sound.columns in_columns) in
           let low = by_low in
           elim (cases_Bool (has_row to root reached i)) [
             | inl inside' ↦ elim (cases_Bool (has_column reached j)) [
               | inl reaches ↦ omega (arith, ints, row_moves i inside', column_moves j in_columns reaches)
-              | inr misses ↦ omega (arith, ints, row_moves i inside', column_stays j misses, leaving.least i j (in_rows) (rw growing.tree.places in_columns) inside' misses)
+              | inr misses ↦ omega (arith, ints, row_moves i inside', column_stays j misses, leaving.least i j (rw growing.tree.places in_columns) inside' misses)
             ]
             | inr outside ↦ elim (cases_Bool (has_column reached j)) [
               | inl reaches ↦ omega (arith, ints, row_stays i outside, column_moves j in_columns reaches)
@@ -199,8 +250,8 @@ module _ (cost : List (List ℕ)) (row col : List ℤ) (to : List (Option ℕ)) 
       -- so what held of the prices before the move holds after it
       pub sound_still : IsSound cost row' col' to
       sound_still = record {
-        rows = rows';
-        columns = columns';
+        rows = moved.rows;
+        columns = moved.columns;
         fits = fits_still;
         tight = λ i j h. tight_still i j ((growing.partial.in_range i j h)) (has_row_at i j h) (growing.sound.tight i j h);
         small = record {
@@ -214,11 +265,11 @@ module _ (cost : List (List ℕ)) (row col : List ℤ) (to : List (Option ℕ)) 
 
       -- the nearest edge has become tight
       end_is_tight : IsTight cost row' col' from end
-      end_is_tight = omega (arith, ints, row_moves from leaving.inside, column_stays end leaving.out.outside, leaving.out.slack_is)
+      end_is_tight = omega (arith, ints, row_moves from leaving.inside, column_stays end leaving.outside, leaving.slack_is)
 
       -- and so is every edge of the tree
       edges_tight : (i j : ℕ) → Has (set reached end (Some from)) j i → IsTight cost row' col' i j
-      edges_tight i j edge = elim (written reached end (Some from) j i leaving.out.within edge) [
+      edges_tight i j edge = elim (written reached end (Some from) j i leaving.within edge) [
         | inl here ↦ rw (here.0, ← same_Some from i here.1) end_is_tight
         | inr there ↦
             let ends = has_ends i j there.1 in
@@ -231,10 +282,79 @@ module _ (cost : List (List ℕ)) (row col : List ℤ) (to : List (Option ℕ)) 
         places = length-set reached end (Some from) ∙ growing.tree.places;
         tight = edges_tight;
         paths = elim (row_of_tree from leaving.inside) [
-          | inl same ↦ LeadsToRoot-set to reached root from end 0 leaving.out.within leaving.out.outside growing.tree.paths (inl same)
-          | inr on ↦ LeadsToRoot-set to reached root from end (suc (growing.tree.paths.order on.0)) leaving.out.within leaving.out.outside growing.tree.paths (inr (on.0, on.1, on.2, omega arith))
+          | inl same ↦ LeadsToRoot-set to reached root from end 0 leaving.within leaving.outside growing.tree.paths (inl same)
+          | inr on ↦ LeadsToRoot-set to reached root from end (suc (growing.tree.paths.order on.0)) leaving.within leaving.outside growing.tree.paths (inr (on.0, on.1, on.2, omega arith))
         ];
       }
+
+      -- the tree gains the row that has the column
+      module _ (holder : ℕ) (holds : Has to holder end) where
+        -- a row that it had, it has
+        row_still : (i : ℕ) → has_row to root reached i ≡ true → has_row to root (set reached end (Some from)) i ≡ true
+        row_still i has = elim (row_of_tree i has) [
+          | inl same ↦ rw (eq-eqb i root same) refl
+          | inr on ↦ or_right (eqb i root) _ (rw on.1 (reached_still reached end from leaving.outside on.0 on.2))
+        ]
+
+        -- and it has this one
+        holder_joins : has_row to root (set reached end (Some from)) holder ≡ true
+        holder_joins = or_right (eqb holder root) _ (rw (holds, get_or-set_same reached end (Some from) None leaving.within) refl)
+
+        -- and no further one
+        row_old_or_new : (i : ℕ) → has_row to root (set reached end (Some from)) i ≡ true →
+            (has_row to root reached i ≡ true) ⊎ (i ≡ holder)
+        row_old_or_new i has = elim (or_cases (eqb i root) (has_column_of (set reached end (Some from)) (get_or to i None)) has) [
+          | inl is_root ↦ inl (rw is_root refl)
+          | inr other ↦ (
+              let on = column_given (set reached end (Some from)) (get_or to i None) other in
+              elim (cases_eq on.0 end) [
+                | inl same ↦ inr (growing.partial.distinct i holder end (rw same at on.1) holds)
+                | inr differs ↦ inl (has_row_at i on.0 on.1 ∙ rw (get_or-set_other reached end on.0 (Some from) None differs) at on.2)
+              ])
+        ]
+
+        -- outside of the tree slacks fall as prices move
+        slack_moves : (i j : ℕ) → has_row to root reached i ≡ true → has_column reached j ≡ false →
+            slack_of cost row' col' i j ≡ slack_of cost row col i j -ℤ by
+        slack_moves i j has misses = omega (arith, ints, row_moves i has, column_stays j misses)
+
+        -- what was kept is lowered, and compared with the row that joins
+        pub nearest_still : (near near' : List ℕ) (slacks'' : List ℤ) →
+            AreNearest cost row col to root reached near slacks →
+            ((j : ℕ) → j < length reached → has_column (set reached end (Some from)) j ≡ false →
+            IsCompared cost row' col' holder j near slacks' near' slacks'') →
+            AreNearest cost row' col' to root (set reached end (Some from)) near' slacks''
+        nearest_still near near' slacks'' kept compared = record {
+          inside = λ j h misses.
+              let now = compared j (in_tree j h) misses in
+              elim now.one [
+                | inl was ↦ rw was.0 (row_still _ (kept.inside j (in_tree j h) (missed j misses)))
+                | inr is ↦ rw is.0 holder_joins
+              ];
+          slack_is = λ j h misses.
+              let now = compared j (in_tree j h) misses in
+              elim now.one [
+                | inl was ↦ rw (was.0, was.1) (moved.fallen j (in_tree j h) (missed j misses)
+                    ∙ ap (λ s. s -ℤ by) (kept.slack_is j (in_tree j h) (missed j misses))
+                    ∙ sym (slack_moves (get_or near j 0) j (kept.inside j (in_tree j h) (missed j misses)) (missed j misses)))
+                | inr is ↦ rw (is.0, is.1) refl
+              ];
+          least = λ i j h has misses.
+              let now = compared j (in_tree j h) misses in
+              elim (row_old_or_new i has) [
+                | inl old ↦ omega (arith, ints, now.least, moved.fallen j (in_tree j h) (missed j misses), kept.least i j (in_tree j h) old (missed j misses), slack_moves i j old (missed j misses))
+                | inr new ↦ rw new now.least_here
+              ];
+        }
+          where
+            in_tree : (j : ℕ) → j < length (set reached end (Some from)) → j < length reached
+            in_tree j h = rw (length-set reached end (Some from)) at h
+
+            missed : (j : ℕ) → has_column (set reached end (Some from)) j ≡ false → has_column reached j ≡ false
+            missed j misses = elim (cases_Bool (has_column reached j)) [
+              | inl has ↦ absurd (false≢true (sym misses ∙ reached_still reached end from leaving.outside j has))
+              | inr not ↦ not
+            ]
 
 -- what was taken is taken after the turn, and each edge is an old one or one of the tree
 pub IsSound-turned : (cost : List (List ℕ)) (row col : List ℤ) (before after : List (Option ℕ)) (root : ℕ) (reached : List (Option ℕ)) →

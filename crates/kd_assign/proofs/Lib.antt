@@ -1,4 +1,5 @@
-pub mod Edges
+pub mod Comparing
+pub mod Counting
 pub mod Free
 pub mod Growing
 pub mod Places

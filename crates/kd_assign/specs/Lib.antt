@@ -3,3 +3,4 @@ pub mod Assignment
 pub mod Cheapest
 pub mod Partial
 pub mod Tree
+pub mod Scans

@@ -14,6 +14,11 @@ HasNone to i = slice_index_or to i None ≡ None
 abbrev pub IsTaken : List (Option ℕ) → ℕ → Type 0
 IsTaken to j = (i : ℕ) × Has to i j
 
+-- the second list has the row of each column that is taken
+pub record AreHolders (to holders : List (Option ℕ)) : Type 0 where
+  pub holds : (i j : ℕ) → Has holders j i → Has to i j
+  pub taken : (i j : ℕ) → Has to i j → Has holders j i
+
 -- a row has at most one column, and no two rows have the same
 pub record IsPartial (to : List (Option ℕ)) : Type 0 where
   pub in_range : (i j : ℕ) → Has to i j → j < length to

@@ -1,5 +1,5 @@
 -- A tree of tight edges, grown from a row that has no column. A column that was reached has the row from which it was.
-use Rattle.std.specs.Prelude.{◌≡◌, ℕ, ◌<◌, Bool, true, false, ◌||◌, ◌==◌, List, length, Option, Some, None, is_some, slice_index_or, ◌⊎◌, ℤ, pos, ◌-ℤ◌, ◌≤ℤ◌}
+use Rattle.std.specs.Prelude.{◌≡◌, ℕ, ◌<◌, Bool, true, false, ◌||◌, ◌==◌, List, length, slice_index, Option, Some, None, is_some, slice_index_or, ◌⊎◌, ℤ, pos, ◌-ℤ◌, ◌≤ℤ◌}
 use Rattle.kd_assign.specs.Prices.{cost_at, price_at}
 use Rattle.kd_assign.specs.Partial.{Has, HasNone, IsPartial, IsSound, IsTaken, IsTight}
 
@@ -30,12 +30,23 @@ pub record LeadsToRoot (to : List (Option ℕ)) (root : ℕ) (reached : List (Op
   pub order : ℕ → ℕ
   pub leads_on : (i j : ℕ) → Has reached j i → LeadsOn to root reached order i j
 
--- column j is outside of the tree, and this is the slack of row i at it
-pub record LeadsOut (cost : List (List ℕ)) (row col : List ℤ) (reached : List (Option ℕ)) (i j : ℕ) (slack : ℤ)
+-- the least slack that is kept for column j
+abbrev pub slack_at : List ℤ → ℕ → ℤ
+slack_at slacks j = slice_index_or slacks j (pos 0)
+
+-- column j was compared with row i: it keeps the row and the slack that it had, or takes these, and the slack is the lesser one
+pub record IsCompared (cost : List (List ℕ)) (row col : List ℤ) (i j : ℕ) (near : List ℕ) (slacks : List ℤ) (near' : List ℕ) (slacks' : List ℤ)
     : Type 0 where
-  pub within : j < length reached
-  pub outside : has_column reached j ≡ false
-  pub slack_is : slack ≡ slack_of cost row col i j
+  pub one : ((slice_index near' j ≡ slice_index near j) × (slack_at slacks' j ≡ slack_at slacks j))
+      ⊎ ((slice_index near' j ≡ i) × (slack_at slacks' j ≡ slack_of cost row col i j))
+  pub least : slack_at slacks' j ≤ℤ slack_at slacks j
+  pub least_here : slack_at slacks' j ≤ℤ slack_of cost row col i j
+
+-- column j ends the tree: it was reached, and no row has it
+pub record IsFreeEnd (to reached : List (Option ℕ)) (j : ℕ) : Type 0 where
+  pub within : j < length to
+  pub here : has_column reached j ≡ true
+  pub free : IsTaken to j → ⊥
 
 module _ (cost : List (List ℕ)) (row col : List ℤ) (to : List (Option ℕ)) (root : ℕ) (reached : List (Option ℕ)) where
   -- the paths to the root go by tight edges
@@ -54,9 +65,8 @@ module _ (cost : List (List ℕ)) (row col : List ℤ) (to : List (Option ℕ)) 
     pub taken : (j : ℕ) → has_column reached j ≡ true → IsTaken to j
     pub free : (j : ℕ) × (j < length to) × (IsTaken to j → ⊥)
 
-  -- the edge from row `from` to column `end` leaves the tree, and has the least slack of those that do
-  pub record IsNearest (from end : ℕ) (slack : ℤ) : Type 0 where
-    pub inside : has_row to root reached from ≡ true
-    pub out : LeadsOut cost row col reached from end slack
-    pub least : (i j : ℕ) → i < length to → j < length reached →
-        has_row to root reached i ≡ true → has_column reached j ≡ false → slack ≤ℤ slack_of cost row col i j
+  -- for each column outside of the tree the row of the tree that is nearest to it, and the slack there
+  pub record AreNearest (near : List ℕ) (slacks : List ℤ) : Type 0 where
+    pub inside : (j : ℕ) → j < length reached → has_column reached j ≡ false → has_row to root reached (slice_index near j) ≡ true
+    pub slack_is : (j : ℕ) → j < length reached → has_column reached j ≡ false → slack_at slacks j ≡ slack_of cost row col (slice_index near j) j
+    pub least : (i j : ℕ) → j < length reached → has_row to root reached i ≡ true → has_column reached j ≡ false → slack_at slacks j ≤ℤ slack_of cost row col i j

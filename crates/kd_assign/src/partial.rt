@@ -1,14 +1,22 @@
 //! An assignment of some of the rows.
-ghost use Rattle.std.specs.Prelude.{◌≡◌, ℕ, ◌<◌, ◌≤◌, ◌↔◌, length, count_by, slice_index, is_some, IsTrue};
+ghost use Rattle.std.specs.Prelude.{◌≡◌, ℕ, ◌<◌, ◌≤◌, length, count_by, slice_index, is_some};
 ghost use Rattle.kd_assign.specs.Assignment.{IsOneToOne, assignment_cost};
-ghost use Rattle.kd_assign.specs.Partial.{Has, IsPartial, IsTaken};
+ghost use Rattle.kd_assign.specs.Partial.{AreHolders, Has, IsPartial};
 ghost use Rattle.kd_assign.specs.Prices.{CostsAtMost};
 
-/// Whether some row has the column.
-pub fn is_taken<const N: usize>(to: &[Option<usize>; N], column: usize) -> bool
-    ensures { IsTrue result ↔ IsTaken to.now column }
+/// The row that has each column.
+pub fn holders_of<const N: usize>(to: &[Option<usize>; N]) -> [Option<usize>; N]
+    requires { IsPartial to.now }
+    ensures len { length result ≡ N }
+    ensures holders { AreHolders to.now result }
 {
-    to.contains(&Some(column))
+    let mut holders = [None; N];
+    for row in 0..N {
+        if let Some(column) = to[row] {
+            holders[column] = Some(row);
+        }
+    }
+    holders
 }
 
 /// The columns of an assignment of all rows.

@@ -1,5 +1,5 @@
 //! The assignment that is answered, and its prices.
-ghost use Rattle.std.specs.Prelude.{◌≡◌, ◌*◌, ◌≤◌, All, pos, unsigned_abs};
+ghost use Rattle.std.specs.Prelude.{◌≡◌, ◌+◌, ◌*◌, ◌/◌, ◌≤◌, All, pos, unsigned_abs};
 ghost use Rattle.kd_assign.specs.Assignment.{IsOneToOne, assignment_cost};
 ghost use Rattle.kd_assign.specs.Cheapest.{IsLeastCost};
 ghost use Rattle.kd_assign.specs.Prices.{CostsAtMost, Fits, price_sum};
@@ -7,6 +7,7 @@ ghost use Rattle.kd_assign.specs.Prices.{CostsAtMost, Fits, price_sum};
 use crate::growth::assign_row;
 use crate::partial::{columns_of, cost_of};
 use crate::prices::Prices;
+use crate::scans::Scans;
 
 /// A cheapest one-to-one assignment of rows to columns. Rows and columns are counted from 0.
 #[derive(Clone, Copy, Debug, PartialEq, Eq)]
@@ -19,6 +20,8 @@ pub struct Solution<const N: usize> {
     pub col: [i16; N],
     /// The cost of the assignment.
     pub total: u16,
+    /// How many times a column was compared with a row that had just joined a tree.
+    pub scans: Scans,
 }
 
 /// Finds a cheapest one-to-one assignment by the Hungarian method of Kuhn and Munkres, in the form
@@ -35,14 +38,17 @@ pub fn assign<const N: usize>(cost: &[[u8; N]; N]) -> Solution<N>
     ensures price_sum { price_sum result.row result.col ≡ pos result.total }
     ensures cost { assignment_cost cost.now result.to ≡ result.total }
     ensures least { IsLeastCost cost.now result.total }
+    ensures least_scans { N * N ≤ result.scans }
+    ensures most_scans { result.scans ≤ N * (N + 1) * (2 * N + 1) / 6 }
 {
     let mut prices = Prices {
         row: [0; N],
         col: [0; N],
     };
     let mut to = [None; N];
+    let mut scans = Scans::new();
     for row in 0..N {
-        assign_row(cost, &mut prices, &mut to, row);
+        assign_row(cost, &mut prices, &mut to, row, &mut scans);
     }
     let columns = columns_of(&to);
     let total = cost_of(cost, &columns);
@@ -52,5 +58,6 @@ pub fn assign<const N: usize>(cost: &[[u8; N]; N]) -> Solution<N>
         row,
         col,
         total,
+        scans,
     }
 }

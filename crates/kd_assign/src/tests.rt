@@ -1,5 +1,5 @@
-//! Worked examples, and a plain trial of all assignments to compare with.
-ghost use Rattle.std.specs.Prelude.{◌≤◌};
+//! Worked examples, a plain trial of all assignments to compare with, and many random tables.
+ghost use Rattle.std.specs.Prelude.{◌≤◌, All};
 ghost use Rattle.kd_assign.specs.Prices.{CostsAtMost};
 
 use super::assign;
@@ -10,6 +10,7 @@ fn answers_one_row(rt: HostRuntime) {
     let solution = assign(&[[4]]);
     assert_eq!(rt; solution.to, [0]);
     assert_eq!(rt; solution.total, 4);
+    assert_eq!(rt; solution.scans.count(), 1);
 }
 
 #[test]
@@ -17,6 +18,14 @@ fn moves_a_row_to_make_room(rt: HostRuntime) {
     let solution = assign(&[[0, 1], [0, 2]]);
     assert_eq!(rt; solution.to, [1, 0]);
     assert_eq!(rt; solution.total, 1);
+    assert_eq!(rt; solution.scans.count(), 5);
+}
+
+#[test]
+fn compares_roots_alone_where_each_finds_a_free_column(rt: HostRuntime) {
+    let solution = assign(&[[0, 1], [1, 0]]);
+    assert_eq!(rt; solution.total, 0);
+    assert_eq!(rt; solution.scans.count(), 4);
 }
 
 #[test]
@@ -151,4 +160,50 @@ fn agrees_with_a_trial_at_five_rows(rt: HostRuntime) {
             [0, 1, 2, 4, 4],
         ],
     );
+}
+
+/// A random number of at most 4, of the linear congruential sequence of Knuth's MMIX.
+fn random_cost(state: &mut u64) -> u8
+    ensures { result ≤ 4 }
+{
+    *state = state
+        .wrapping_mul(6364136223846793005)
+        .wrapping_add(1442695040888963407);
+    ((*state >> 33) % 5) as u8
+}
+
+/// The costs of one row, of which the low ones are the rarer.
+fn random_row<const N: usize>(state: &mut u64) -> [u8; N]
+    ensures { All (λ c. c ≤ 4) result }
+{
+    let mut line = [0; N];
+    for column in 0..N {
+        line[column] = random_cost(state).max(random_cost(state));
+    }
+    line
+}
+
+/// A table of such rows.
+fn random_table<const N: usize>(state: &mut u64) -> [[u8; N]; N]
+    ensures { CostsAtMost 4 result }
+{
+    let mut cost = [[0; N]; N];
+    for row in 0..N {
+        let line = random_row(state);
+        cost[row] = line;
+    }
+    cost
+}
+
+#[test]
+fn agrees_with_the_method_that_keeps_no_slacks(rt: HostRuntime) {
+    let mut state = 1;
+    let mut totals: u32 = 0;
+    for _ in 0..10_000 {
+        let solution = assign(&random_table::<27>(&mut state));
+        assert!(rt; solution.scans.count() < 6_930);
+        totals = totals.wrapping_add(u32::from(solution.total));
+    }
+    // The sum that these tables have where every slack is computed anew in each turn.
+    assert_eq!(rt; totals, 139_523);
 }

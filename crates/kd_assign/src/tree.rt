@@ -1,11 +1,12 @@
 //! A tree of tight edges, grown from a row that has no column yet.
-ghost use Rattle.std.specs.Prelude.{◌≡◌, ◌≢◌, ℕ, ◌+◌, ◌<◌, ◌⊎◌, true, false, if◌then◌else◌, length, All, count_by, slice_set, is_some, IfSome, IsSomeAnd, ℤ, pos, neg_ℤ, ◌+ℤ◌, ◌-ℤ◌, ◌≤ℤ◌};
-ghost use Rattle.kd_assign.specs.Partial.{AreSmall, Has, HasNone, IsPartial, IsSound, IsTaken};
+ghost use Rattle.std.specs.Prelude.{◌≡◌, ◌≢◌, ℕ, ◌+◌, ◌^◌, ◌<◌, ◌⊎◌, true, false, if◌then◌else◌, length, All, count_by, is_some, IfSome, IfNone, pos, neg_ℤ, ◌+ℤ◌, ◌-ℤ◌, ◌≤ℤ◌};
+ghost use Rattle.kd_assign.specs.Partial.{AreHolders, AreSmall, Has, HasNone, IsPartial, IsSound, IsTaken};
 ghost use Rattle.kd_assign.specs.Prices.{CostsAtMost, price_at};
-ghost use Rattle.kd_assign.specs.Tree.{IsGrowing, IsNearest, IsTree, LeadsOut, LeadsToRoot, has_column, has_column_of, has_row, slack_of};
+ghost use Rattle.kd_assign.specs.Tree.{AreNearest, IsCompared, IsFreeEnd, IsGrowing, IsTree, LeadsToRoot, has_column, has_column_of, has_row, slack_at};
 
-use crate::edge::{Edge, nearer};
+use crate::nearest::Nearest;
 use crate::prices::Prices;
+use crate::scans::Scans;
 
 /// A tree that alternates between rows and columns.
 #[derive(Drop)]
@@ -56,51 +57,48 @@ impl<const N: usize> Tree<N> {
         row == self.root || self.has_column_of(to[row])
     }
 
-    /// The edge of least slack that leaves the tree.
-    fn nearest_edge(&self, cost: &[[u8; N]; N], prices: &Prices<N>, to: &[Option<usize>; N]) -> Edge
-        requires costs { CostsAtMost 4 cost.now }
-        requires growing { IsGrowing cost.now prices.now.row prices.now.col to.now
-            self.now.root self.now.reached }
-        ensures { IsNearest cost.now prices.now.row prices.now.col to.now
-            self.now.root self.now.reached result.row result.column result.slack }
+    /// The nearest column outside of the tree.
+    fn nearest_column(&self, nearest: &Nearest<N>, holders: &[Option<usize>; N]) -> usize
+        requires some { (j : ℕ) × (j < N) × (has_column self.now.reached j ≡ false) }
+        ensures within { result < N }
+        ensures outside { has_column self.now.reached result ≡ false }
+        ensures least { (j : ℕ) → j < N → has_column self.now.reached j ≡ false →
+            slack_at nearest.now.slack result ≤ℤ slack_at nearest.now.slack j }
     {
-        let mut nearest = None;
-        for row in 0..N {
-            if self.has_row(to, row) {
-                nearest = self.nearest_edge_from(row, cost, prices, nearest);
+        let mut least = None;
+        for column in 0..N {
+            if !self.has_column(column) {
+                least = Some(nearest.nearer(least, column, holders));
             }
         }
-        nearest.unwrap()
+        least.unwrap()
     }
 
-    /// The edge of least slack among the given one and those that lead from the row out of the tree.
-    fn nearest_edge_from(
+    /// Compares each column outside of the tree with the row that has just joined.
+    pub fn join(
         &self,
-        row: usize,
+        nearest: &mut Nearest<N>,
         cost: &[[u8; N]; N],
         prices: &Prices<N>,
-        given: Option<Edge>,
-    ) -> Option<Edge>
+        row: usize,
+        scans: &mut Scans,
+    )
         requires row { row < N }
         requires costs { CostsAtMost 4 cost.now }
         requires prices { AreSmall prices.now.row prices.now.col }
-        ensures one { IfSome result (λ e. (given ≡ Some e) ⊎ ((e.row ≡ row)
-            × LeadsOut cost.now prices.now.row prices.now.col self.now.reached
-            row e.column e.slack)) }
-        ensures least { (j : ℕ) → j < N → has_column self.now.reached j ≡ false →
-            IsSomeAnd result
-            (λ e. e.slack ≤ℤ slack_of cost.now prices.now.row prices.now.col row j) }
-        ensures least_of_given { (s : ℤ) →
-            IsSomeAnd given (λ e. e.slack ≤ℤ s) → IsSomeAnd result (λ e. e.slack ≤ℤ s) }
+        requires room { scans.old + N < 2 ^ 32 }
+        ensures rows { length nearest.new.row ≡ N }
+        ensures slacks { length nearest.new.slack ≡ N }
+        ensures compared { (j : ℕ) → j < N → has_column self.now.reached j ≡ false →
+            IsCompared cost.now prices.now.row prices.now.col row j
+            nearest.old.row nearest.old.slack nearest.new.row nearest.new.slack }
+        ensures counted { scans.new + count_by is_some self.now.reached ≡ scans.old + N }
     {
-        let mut nearest = given;
         for column in 0..N {
             if !self.has_column(column) {
-                let edge = Edge::new(cost, prices, row, column);
-                nearest = Some(nearer(nearest, edge));
+                nearest.compare(cost, prices, row, column, scans);
             }
         }
-        nearest
     }
 
     /// Raises the price of each row of the tree.
@@ -142,30 +140,69 @@ impl<const N: usize> Tree<N> {
         }
     }
 
+    /// Lowers the slack of each column outside of the tree, as the rows' prices rise.
+    fn lower_slacks(&self, slacks: &mut [i16; N], by: i16)
+        requires enough { (j : ℕ) → j < N → has_column self.now.reached j ≡ false →
+            by ≤ℤ slack_at slacks.old j }
+        requires by { pos 0 ≤ℤ by }
+        ensures len { length slacks.new ≡ N }
+        ensures slacks { (j : ℕ) → j < N → has_column self.now.reached j ≡ false →
+            slack_at slacks.new j ≡ slack_at slacks.old j -ℤ by }
+    {
+        for column in 0..N {
+            if !self.has_column(column) {
+                slacks[column] -= by;
+            }
+        }
+    }
+
     /// Moves the prices until an edge that leaves the tree is tight, and adds that edge. Answers
-    /// its column.
+    /// its column where that is free; else the row that has the column joins the tree.
     pub fn grow(
         &mut self,
+        nearest: &mut Nearest<N>,
         cost: &[[u8; N]; N],
         prices: &mut Prices<N>,
         to: &[Option<usize>; N],
-    ) -> usize
+        holders: &[Option<usize>; N],
+        scans: &mut Scans,
+    ) -> Option<usize>
+        requires holders { AreHolders to.now holders.now }
         requires costs { CostsAtMost 4 cost.now }
         requires growing { IsGrowing cost.now prices.old.row prices.old.col to.now
             self.old.root self.old.reached }
+        requires nearest { AreNearest cost.now prices.old.row prices.old.col to.now
+            self.old.root self.old.reached nearest.old.row nearest.old.slack }
+        requires room { scans.old + N < 2 ^ 32 }
+        ensures root { self.new.root ≡ self.old.root }
+        ensures added { count_by is_some self.new.reached ≡ count_by is_some self.old.reached + 1 }
         ensures sound { IsSound cost.now prices.new.row prices.new.col to.now }
         ensures tree { IsTree cost.now prices.new.row prices.new.col to.now
             self.old.root self.new.reached }
-        ensures root { self.new.root ≡ self.old.root }
-        ensures within { result < N }
-        ensures outside { has_column self.old.reached result ≡ false }
-        ensures added { (i : ℕ) × (self.new.reached ≡ slice_set self.old.reached result (Some i)) }
+        ensures free { IfSome result (λ j. IsFreeEnd to.now self.new.reached j) }
+        ensures growing { IfNone result (IsGrowing cost.now prices.new.row prices.new.col to.now
+            self.old.root self.new.reached) }
+        ensures nearest { IfNone result (AreNearest cost.now prices.new.row prices.new.col to.now
+            self.old.root self.new.reached nearest.new.row nearest.new.slack) }
+        ensures not_counted { IfSome result (λ _. scans.new ≡ scans.old) }
+        ensures counted { IfNone result
+            (scans.new + count_by is_some self.new.reached ≡ scans.old + N) }
     {
-        let edge = self.nearest_edge(cost, prices, to);
-        self.raise_rows(&mut prices.row, to, edge.slack);
-        self.lower_columns(&mut prices.col, edge.slack);
-        self.reached[edge.column] = Some(edge.row);
-        edge.column
+        let column = self.nearest_column(nearest, holders);
+        let by = nearest.slack[column];
+        if by > 0 {
+            self.raise_rows(&mut prices.row, to, by);
+            self.lower_columns(&mut prices.col, by);
+            self.lower_slacks(&mut nearest.slack, by);
+        }
+        self.reached[column] = Some(nearest.row[column]);
+        match holders[column] {
+            Some(holder) => {
+                self.join(nearest, cost, prices, holder, scans);
+                None
+            }
+            None => Some(column),
+        }
     }
 
     /// Gives the column to the row from which it was reached, that row's column to the row from

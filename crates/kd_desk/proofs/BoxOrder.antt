@@ -3,7 +3,7 @@ use Rattle.std.proofs.Common.{◌≡◌, ◌≢◌, ℕ, ◌+◌, Bool, true, fa
 use Rattle.std.specs.List.{AllByRecursion, list_any, cons_option}
 use Rattle.std.proofs.lemmas.Bool.{and_parts, not-true}
 use Rattle.kd_tables.specs.declared.model.Model.{Model}
-use Rattle.kd_tables.specs.declared.model.Model.TheVariants.{EnigmaI}
+use Rattle.kd_tables.specs.declared.model.Model.TheVariants.{EnigmaI, M3, M4, M209}
 use Rattle.kd_tables.specs.declared.wheel.Wheel.{Wheel}
 use Rattle.kd_tables.specs.Tables.{box_of}
 use Rattle.kd_desk.specs.Box.{same_wheel}
@@ -22,6 +22,9 @@ all_different (wheel ∷ wheels) = not (list_any (same_wheel wheel) wheels) && a
 box_different : (model : Model) → all_different (box_of model) ≡ true
 unfolding all_different
 box_different EnigmaI = refl
+box_different M3 = refl
+box_different M4 = refl
+box_different M209 = refl
 
 pair_of_first : (wheel : Wheel) (letter : ℕ) (pairs : List (Wheel × ℕ)) → pair_of ((wheel, letter) ∷ pairs) wheel ≡ Some (wheel, letter)
 pair_of_first wheel letter pairs = rw (same_wheel_self wheel) refl

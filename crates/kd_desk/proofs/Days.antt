@@ -4,6 +4,7 @@ use Rattle.std.specs.List.{AllByRecursion}
 use Rattle.std.proofs.lemmas.List.{drop_more, drop_all}
 use Rattle.std.proofs.lemmas.List.Elements.{All-from_recursion}
 use Rattle.kd_tables.specs.declared.model.Model.{Model}
+use Rattle.kd_tables.specs.declared.model.Model.TheVariants.{EnigmaI}
 use Rattle.kd_tables.specs.declared.wheel.Wheel.{Wheel}
 use Rattle.kd_tables.specs.Tables.{box_of}
 use Rattle.kd_desk.specs.Box.{same_wheel, place_in_box}
@@ -12,7 +13,7 @@ use Rattle.kd_desk.specs.Box.{is_in_box}
 use Rattle.kd_desk.specs.SheetDay.{RotorDay, IsLegalDay, ring_in}
 use Rattle.kd_desk.proofs.Lists.{AreApartAt, each_weaker}
 use Rattle.kd_desk.proofs.SeatLines.{IsNone_of, AreDifferent}
-use Rattle.kd_desk.proofs.Wheels.{in_box_test, wheel_of_place}
+use Rattle.kd_desk.proofs.Wheels.{in_box_test, in_box_of_allowed, wheel_of_place}
 
 -- each wheel is in the model's box
 abbrev pub AreInBox : Model → List Wheel → Type 0
@@ -37,11 +38,11 @@ in_box_each : (model : Model) (wheels : List Wheel) → ((k : ℕ) (wheel : Whee
 in_box_each model [] h = tt
 in_box_each model (wheel ∷ wheels) h = (h zero wheel refl, in_box_each model wheels (λ k. h (suc k)))
 
-pub all_in_box : (model : Model) (wheels : List Wheel) → AreAllowed model (map Some wheels) → AllByRecursion (Contains (box_of model)) wheels
-all_in_box model wheels h = in_box_each model wheels (λ k wheel at. (h k wheel at).in_box)
+pub all_in_box : (model : Model) (wheels : List Wheel) → model ≡ EnigmaI → AreAllowed model (map Some wheels) → AllByRecursion (Contains (box_of model)) wheels
+all_in_box model wheels e h = in_box_each model wheels (λ k wheel at. in_box_of_allowed model (k + 1) wheel e (h k wheel at))
 
-pub boxed_of_allowed : (model : Model) (wheels : List Wheel) → AreAllowed model (map Some wheels) → AreInBox model wheels
-boxed_of_allowed model wheels h = each_weaker (Contains (box_of model)) (λ wheel. is_in_box model wheel ≡ true) (in_box_test model) wheels (all_in_box model wheels h)
+pub boxed_of_allowed : (model : Model) (wheels : List Wheel) → model ≡ EnigmaI → AreAllowed model (map Some wheels) → AreInBox model wheels
+boxed_of_allowed model wheels e h = each_weaker (Contains (box_of model)) (λ wheel. is_in_box model wheel ≡ true) (in_box_test model) wheels (all_in_box model wheels e h)
 
 -- different wheels have different places in the box, with whatever letters
 abbrev pub place_of_pair : Model → Wheel × ℕ → ℕ
@@ -75,4 +76,4 @@ ring_nowhere wheel wheels rings place le = rw (drop_all place wheels le) refl
 -- the wheels of a legal day are in the box of a machine of its model
 pub wheels_in_box : (model : Model) (s : RotorDay) → model ≡ s.model → IsLegalDay s → All (Contains (box_of model)) s.wheels
 wheels_in_box model s same h =
-    subst (λ m. All (Contains (box_of m)) s.wheels) (sym same) (All-from_recursion (Contains (box_of s.model)) s.wheels (all_in_box s.model s.wheels h.allowed))
+    subst (λ m. All (Contains (box_of m)) s.wheels) (sym same) (All-from_recursion (Contains (box_of s.model)) s.wheels (all_in_box s.model s.wheels h.model h.allowed))

@@ -1,5 +1,5 @@
 -- What was written of a front of what was read.
-use Rattle.std.proofs.Common.{◌≡◌, ℕ, ◌≤◌, ◌<◌, ◌+◌, ◌-◌, Bool, true, false, ◌||◌, true≢false, List, [], length, take, slice_index, IsTrue, IsFalse, refl, sym, ap, subst, length-take-le, arith}
+use Rattle.std.proofs.Common.{◌≡◌, ℕ, ◌≤◌, ◌<◌, ◌+◌, ◌-◌, List, [], length, take, slice_index, IsTrue, IsFalse, refl, sym, ap, subst, length-take-le, arith}
 use Rattle.std.proofs.lemmas.List.Elements.{All-nil}
 use Rattle.std.specs.Io.{StartsWith}
 use Rattle.kd_enigma.specs.Cipher.{RotorKey}
@@ -27,10 +27,3 @@ IsFirstRefused-behind bytes n within before here =
       before = subst (λ k. AreAllowedBytes (take k bytes)) (sym back) before;
       here = subst (λ k. IsFalse (may_be_typed (slice_index bytes k))) (sym back) here;
     }
-
--- where a call failed, the flag is not down
-pub flag_is_up : {P : Type 0} (old new : Bool) → new ≡ (old || true) → IsFalse new → P
-flag_is_up true false e down = absurd (true≢false (sym e))
-flag_is_up true true e down = absurd (true≢false down)
-flag_is_up false false e down = absurd (true≢false (sym e))
-flag_is_up false true e down = absurd (true≢false down)

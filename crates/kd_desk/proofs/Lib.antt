@@ -7,6 +7,7 @@ pub mod CommandLines
 pub mod Days
 pub mod Documents
 pub mod Earlier
+pub mod Failing
 pub mod Fronts
 pub mod Lamps
 pub mod Lists
@@ -16,6 +17,7 @@ pub mod Planning
 pub mod Reaching
 pub mod Refusals
 pub mod Rings
+pub mod Runs
 pub mod SeatLines
 pub mod Seating
 pub mod TextTaken

@@ -89,7 +89,7 @@ reflector_at_most false = omega arith
 day_pairs_apart : (m : RotorParts) (s : RotorDay) → IsLegalDay s → m.model ≡ s.model → (letters : List ℕ) → AreApartAt (place_of_pair m.model) (zip s.wheels letters)
 day_pairs_apart m s h same letters =
     subst (λ model. AreApartAt (place_of_pair model) (zip s.wheels letters)) (sym same)
-    (pairs_apart s.model s.wheels letters (different_of_apart s.wheels h.apart) (boxed_of_allowed s.model s.wheels h.allowed))
+    (pairs_apart s.model s.wheels letters (different_of_apart s.wheels h.apart) (boxed_of_allowed s.model s.wheels h.model h.allowed))
 
 turned_lowers : (m n : RotorParts) (s : RotorDay) (slot letter : ℕ) (seated : Option Wheel) → IsLegalDay s → m.model ≡ s.model
     → unless (is_some seated) SlotEmpty ≡ None → IfSome seated (λ wheel. n ≡ record m { letters = set m.letters (place_in_box m.model wheel) letter })

@@ -2,12 +2,10 @@
 use Rattle.std.proofs.Common.{◌≡◌, ◌≢◌, ℕ, List, [], ◌∷◌, find, MatchOption, bytes_eq, Option, Some, None, refl, sym, ap, ◌∙◌, inl, inr}
 use Rattle.std.proofs.lemmas.Bool.{cases_Bool}
 use Rattle.std.proofs.lemmas.Slice.Eq.{bytes_eq-Decides}
-use Rattle.kd_tables.specs.Tables.{model_text, wheel_text}
-use Rattle.kd_tables.specs.declared.model.Model.{Model}
-use Rattle.kd_tables.specs.declared.model.Model.TheVariants.{EnigmaI}
+use Rattle.kd_tables.specs.Tables.{wheel_text}
 use Rattle.kd_tables.specs.declared.wheel.Wheel.{Wheel}
 use Rattle.kd_tables.specs.declared.wheel.Wheel.TheVariants.{I, II, III, IV, V, VI, VII, VIII, Beta, Gamma}
-use Rattle.kd_desk.specs.Names.{every_model, every_wheel, model_by_name, wheel_by_name}
+use Rattle.kd_desk.specs.Names.{every_wheel, wheel_by_name}
 
 -- a list has nothing of a name that none has
 find_unnamed : {A : Type 0} (text_of : A → List ℕ) (name : List ℕ) → ((x : A) → text_of x ≢ name) → (xs : List A) → find (λ x. bytes_eq (text_of x) name) xs ≡ None
@@ -24,11 +22,6 @@ find_named : {A : Type 0} (text_of : A → List ℕ) (xs : List A) → ((x : A) 
 find_named text_of xs own name None none = sym (find_unnamed text_of name none xs)
 find_named text_of xs own name (Some x) named = sym (own x) ∙ ap (λ text. find (λ y. bytes_eq (text_of y) text) xs) named
 
--- each model is the one of its name
-model_by_name-text : (model : Model) → model_by_name (model_text model) ≡ Some model
-unfolding model_by_name
-model_by_name-text EnigmaI = refl
-
 -- each wheel is the one of its name
 pub wheel_by_name-text : (wheel : Wheel) → wheel_by_name (wheel_text wheel) ≡ Some wheel
 unfolding wheel_by_name
@@ -42,11 +35,6 @@ wheel_by_name-text VII = refl
 wheel_by_name-text VIII = refl
 wheel_by_name-text Beta = refl
 wheel_by_name-text Gamma = refl
-
--- the model that has the name, if one has it
-pub model_by_name_found : (name : List ℕ) (found : Option Model) → MatchOption found ((model : Model) → model_text model ≢ name) (λ model. model_text model ≡ name) → found ≡ model_by_name name
-unfolding model_by_name
-model_by_name_found = find_named model_text every_model model_by_name-text
 
 -- the wheel that has the name, if one has it
 pub wheel_by_name_found : (name : List ℕ) (found : Option Wheel) → MatchOption found ((wheel : Wheel) → wheel_text wheel ≢ name) (λ wheel. wheel_text wheel ≡ name) → found ≡ wheel_by_name name

@@ -56,7 +56,7 @@ seats_reach : (m : RotorParts) (s : RotorDay) → IsLegal m → m.model ≡ s.mo
 seats_reach m s legal same count d boxed =
     let slots : length m.slots ≡ length s.wheels = legal.slots ∙ ap slots_of same ∙ sym count in
     let size : length s.wheels ≡ slots_of m.model = count ∙ sym (ap slots_of same) in
-    seats_lead m [] m.slots m.slots s.wheels 1 (omega arith) (omega arith) (alike_self m.slots s.wheels slots) (none_done s.wheels) d boxed
+    seats_lead m legal.model [] m.slots m.slots s.wheels 1 (omega arith) (omega arith) (alike_self m.slots s.wheels slots) (none_done s.wheels) d boxed
 
 -- REFLECTOR
 reflector_reaches_cond : (b : Bool) (m : RotorParts) (reflector : Reflector) → same_reflector m.reflector reflector ≡ b → why_refused m (SeatReflector reflector) ≡ None
@@ -185,7 +185,7 @@ module _ (m : RotorParts) (s : RotorDay) (legal : IsLegal m) (h : IsLegalDay s) 
   different = different_of_apart s.wheels h.apart
 
   boxed : AreInBox m.model s.wheels
-  boxed = subst (λ model. AreInBox model s.wheels) (sym same) (boxed_of_allowed s.model s.wheels h.allowed)
+  boxed = subst (λ model. AreInBox model s.wheels) (sym same) (boxed_of_allowed s.model s.wheels h.model h.allowed)
 
   all_reach : Reaches m s (seat_lines m s ++ reflector_lines m s ++ ring_lines m s ++ turn_lines m s)
   all_reach =

@@ -1,19 +1,18 @@
 -- What the tests of a refusal say.
-use Rattle.std.proofs.Common.{◌≡◌, ◌↔◌, ℕ, zero, suc, ◌+◌, nat_le, Bool, true, false, ◌&&◌, List, Option, Some, None, Contains, slice_get, unwrap_or, refl, ap, ◌∙◌, arith}
+use Rattle.std.proofs.Common.{◌≡◌, ◌↔◌, ℕ, zero, suc, ◌+◌, Bool, true, false, List, Option, Some, None, Contains, slice_get, unwrap_or, refl, ap, ◌∙◌, arith}
 use Rattle.std.specs.List.{list_any}
 use Rattle.std.specs.Option.{is_some}
-use Rattle.std.proofs.lemmas.Bool.{and_parts, and_from, leb-true, le-leb}
 use Rattle.std.proofs.lemmas.Map.Views.{Contains-from_any}
 use Rattle.kd_tables.specs.declared.model.Model.{Model}
 use Rattle.kd_tables.specs.declared.wheel.Wheel.{Wheel}
 use Rattle.kd_tables.specs.declared.reflector.Reflector.{Reflector}
-use Rattle.kd_tables.specs.Tables.{box_of, slots_of, reflectors_of, IsAllowed}
+use Rattle.kd_tables.specs.Tables.{box_of, reflectors_of, IsAllowed}
 use Rattle.kd_desk.specs.declared.state.setting.Setting.TheVariants.{Seat, SeatReflector, RingTo, Turn}
 use Rattle.kd_desk.specs.Box.{same_reflector, seated_in}
 use Rattle.kd_desk.specs.Machine.{RotorParts, StandsAt}
 use Rattle.kd_desk.specs.Setting.{Why, WheelNotAllowed, SlotEmpty, unless, why_refused}
-use Rattle.kd_desk.specs.Box.{is_in_box, is_slot}
-use Rattle.kd_desk.proofs.Wheels.{same_wheel-Decides, same_reflector-Decides, in_box_test, reflector_test}
+use Rattle.kd_desk.specs.Box.{is_in_box, is_allowed}
+use Rattle.kd_desk.proofs.Wheels.{same_wheel-Decides, same_reflector-Decides, is_allowed-Decides, in_box_test, reflector_test}
 
 not_refused : (b : Bool) (why : Why) → unless b why ≡ None → b ≡ true
 not_refused true why h = refl
@@ -27,13 +26,8 @@ reflector_in model reflector h = Contains-from_any (λ v w. (same_reflector-Deci
 
 pub seat_refused : (m : RotorParts) (slot : ℕ) (wheel : Wheel) → (why_refused m (Seat slot wheel) ≡ None) ↔ IsAllowed m.model slot wheel
 seat_refused m slot wheel = (
-  λ h.
-      let parts = and_parts (is_slot m.model slot) (is_in_box m.model wheel) (not_refused (is_slot m.model slot && is_in_box m.model wheel) WheelNotAllowed h) in
-      let slots = and_parts (nat_le 1 slot) (nat_le slot (slots_of m.model)) parts.0 in
-      record { first = leb-true 1 slot slots.0; last = leb-true slot (slots_of m.model) slots.1; in_box = in_box m.model wheel parts.1 },
-  λ h. ap (λ b. unless b WheelNotAllowed)
-      (and_from (is_slot m.model slot) (is_in_box m.model wheel)
-      (and_from (nat_le 1 slot) (nat_le slot (slots_of m.model)) (le-leb 1 slot h.first) (le-leb slot (slots_of m.model) h.last)) (in_box_test m.model wheel h.in_box)),
+  λ h. (is_allowed-Decides m.model slot wheel).0 (not_refused (is_allowed m.model slot wheel) WheelNotAllowed h),
+  λ h. ap (λ b. unless b WheelNotAllowed) ((is_allowed-Decides m.model slot wheel).1 h),
 )
 
 pub reflector_refused : (m : RotorParts) (reflector : Reflector) → (why_refused m (SeatReflector reflector) ≡ None) ↔ Contains (reflectors_of m.model) reflector

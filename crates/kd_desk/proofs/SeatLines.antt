@@ -1,8 +1,8 @@
 -- The SEAT lines, one slot after another: a slot that is right already is never emptied, since the sheet's wheels differ.
-use Rattle.std.proofs.Common.{◌≡◌, ◌≢◌, ℕ, suc, ◌+◌, ◌-◌, ◌≤◌, nat_le, Bool, true, false, cond, List, [], ◌∷◌, ◌++◌, length, map, set, zip, filter_map, Option, Some, None, refl, sym, ap, ◌∙◌, subst, arith, append_assoc, length-append}
+use Rattle.std.proofs.Common.{◌≡◌, ◌≢◌, ℕ, suc, ◌+◌, ◌-◌, ◌≤◌, Bool, true, false, cond, List, [], ◌∷◌, ◌++◌, length, map, set, zip, filter_map, Option, Some, None, refl, sym, ap, ◌∙◌, subst, arith, append_assoc, length-append}
 use Rattle.std.specs.List.{AllByRecursion, enumerate_from}
-use Rattle.std.proofs.lemmas.Bool.{le-leb, and_from}
 use Rattle.std.proofs.lemmas.List.{append-nil, map-append, length-map, set_at}
+use Rattle.kd_tables.specs.declared.model.Model.TheVariants.{EnigmaI}
 use Rattle.kd_tables.specs.declared.wheel.Wheel.{Wheel}
 use Rattle.kd_tables.specs.Tables.{slots_of}
 use Rattle.kd_desk.specs.declared.state.setting.Setting.{Setting}
@@ -10,9 +10,9 @@ use Rattle.kd_desk.specs.declared.state.setting.Setting.TheVariants.{Seat}
 use Rattle.kd_desk.specs.Machine.{RotorParts}
 use Rattle.kd_desk.specs.Box.{same_wheel, holds}
 use Rattle.kd_desk.specs.Setting.{Carries, Leads, WheelNotAllowed, unless, without}
-use Rattle.kd_desk.specs.Box.{is_in_box, is_slot}
+use Rattle.kd_desk.specs.Box.{is_in_box}
 use Rattle.kd_desk.specs.Planned.{unless_so}
-use Rattle.kd_desk.proofs.Wheels.{same_wheel-Decides, same_wheel_differs}
+use Rattle.kd_desk.proofs.Wheels.{same_wheel-Decides, same_wheel_differs, allowed_of_boxed}
 
 -- the wheel is none of these
 abbrev pub IsNone_of : Wheel → List Wheel → Type 0
@@ -75,7 +75,7 @@ clear_more wheel done (other ∷ wheels) h c = (none_more done other wheel c.0 (
     none_more [] other wheel n d = (d, tt)
     none_more (x ∷ done) other wheel n d = (n.0, none_more done other wheel n.1 d)
 
-module _ (m : RotorParts) where
+module _ (m : RotorParts) (enigma : m.model ≡ EnigmaI) where
   abbrev pub with_slots : List (Option Wheel) → RotorParts
   with_slots slots = record m { slots = slots }
 
@@ -85,7 +85,7 @@ module _ (m : RotorParts) where
   carries_seat : (slots : List (Option Wheel)) (slot : ℕ) (wheel : Wheel) → 1 ≤ slot → slot ≤ slots_of m.model → is_in_box m.model wheel ≡ true
       → Carries (with_slots slots) (Seat slot wheel) (with_slots (set (map (without wheel) slots) (slot - 1) (Some wheel)))
   carries_seat slots slot wheel first last boxed = record {
-    allowed = ap (λ b. unless b WheelNotAllowed) (and_from (is_slot m.model slot) (is_in_box m.model wheel) (and_from (nat_le 1 slot) (nat_le slot (slots_of m.model)) (le-leb 1 slot first) (le-leb slot (slots_of m.model) last)) boxed);
+    allowed = ap (λ b. unless b WheelNotAllowed) (allowed_of_boxed m.model slot wheel enigma first last boxed);
     changed = refl;
   }
 

@@ -1,27 +1,15 @@
 -- Texts that are written one after another.
-use Rattle.std.proofs.Common.{◌≡◌, ℕ, ◌+◌, ◌-◌, ◌<◌, Bool, true, false, ◌||◌, List, [], ◌∷◌, ◌++◌, length, get_or, take, drop, Option, Result, Ok, Err, IsErr, refl, sym, ap, ◌∙◌, subst, arith, length-append}
+use Rattle.std.proofs.Common.{◌≡◌, ℕ, ◌+◌, ◌<◌, List, [], ◌∷◌, ◌++◌, length, get_or, take, drop, Option, Result, Ok, Err, IsErr, refl, sym, ap, ◌∙◌, subst, arith, length-append}
 use Rattle.std.specs.Prelude.{codes, decimal}
 use Rattle.std.specs.Io.KnownBytes.{Appends}
 use Rattle.std.specs.List.{flat_map}
 use Rattle.std.proofs.KnownBytes.{Appends-trans}
-use Rattle.std.proofs.Math.Seq.{take-add, take-append-add}
-use Rattle.std.proofs.lemmas.List.{append-nil, take-append-le, take_rest, drop_more, take_more, take-append-drop}
+use Rattle.std.proofs.Math.Seq.{take-append-add}
+use Rattle.std.proofs.lemmas.List.{append-nil, take-append-le, drop_more, take_more, take-append-drop}
 use Rattle.std.proofs.lemmas.List.Concat.{flat_map-append}
 use Rattle.std.proofs.lemmas.Fmt.{decimal_digit}
 use Rattle.kd_desk.specs.CardText.{zero_prices}
-use Rattle.kd_desk.specs.Writing.{Writes, TakesFront}
-
--- a put that succeeds leaves whether one has failed
-pub still_failed : (now before first : Bool) → now ≡ (before || false) → before ≡ first → now ≡ first
-still_failed now true first h e = h ∙ e
-still_failed now false first h e = h ∙ e
-
--- a further part of the bytes
-pub takes_more : (a b c : Option (List ℕ)) (bytes : List ℕ) (done count : ℕ) → Appends a b (take done bytes) → Appends b c (take count (take (length bytes - done) (drop done bytes)))
-    → Appends a c (take (done + count) bytes)
-takes_more a b c bytes done count first second =
-    subst (Appends a c) (sym (take-add done count bytes)) (Appends-trans a b c (take done bytes) (take count (drop done bytes)) first
-    (subst (λ rest. Appends b c (take count rest)) (take_rest bytes done) second))
+use Rattle.kd_tables.specs.Writing.{Writes, TakesFront}
 
 -- a front of a text, whatever was to follow, and one behind a text that was taken
 front_more : (a b : Option (List ℕ)) (first rest : List ℕ) → TakesFront a b first → TakesFront a b (first ++ rest)

@@ -1,12 +1,13 @@
 -- Wheels and reflectors by their names, and the places of wheels in the box.
-use Rattle.std.proofs.Common.{◌≡◌, ◌≢◌, ℕ, ◌<◌, ◌≤◌, nat_le, Bool, true, false, List, length, get_or, cond, Contains, Decides, Option, Some, None, refl, sym, ap, ◌∙◌, inl, inr, arith}
+use Rattle.std.proofs.Common.{◌≡◌, ◌≢◌, ℕ, ◌<◌, ◌≤◌, nat_le, nat_lt, Bool, true, false, List, [], length, get_or, cond, Contains, Decides, Option, Some, None, refl, sym, ap, ◌∙◌, subst, arith}
 use Rattle.std.specs.Prelude.{codes}
 use Rattle.std.specs.Cmp.{on_equiv, IsEquivalence}
 use Rattle.std.specs.Cmp.Lexicographic.{nat_list_eq_equiv}
-use Rattle.std.specs.List.{list_any}
+use Rattle.std.specs.List.{list_any, position_or_len}
+use Rattle.std.specs.Option.{SomeIff}
 use Rattle.std.specs.Str.{bytes_eq}
-use Rattle.std.proofs.lemmas.Bool.{false_from_ne_true, false≢true}
-use Rattle.std.proofs.lemmas.Bool.Decides.{Decides-by_or, Decides-like, Decides-and, leb_tells}
+use Rattle.std.proofs.lemmas.Bool.{false_from_ne_true, false≢true, and_from, le-leb, ltb-true, ltb-false}
+use Rattle.std.proofs.lemmas.Bool.Decides.{Decides-by_or, Decides-like}
 use Rattle.std.proofs.lemmas.List.Elements.{Decides-contains}
 use Rattle.std.proofs.lemmas.Option.{same_Some}
 use Rattle.std.proofs.lemmas.List.Sums.{passes_at_first}
@@ -15,11 +16,12 @@ use Rattle.std.proofs.lemmas.Slice.Eq.{bytes_eq-Decides}
 use denote.Enum.Bare.{sameb, same_true, same_false}
 use Rattle.kd_tables.specs.contracts.wheel.Wheel.{the_type}
 use Rattle.kd_tables.specs.declared.model.Model.{Model}
+use Rattle.kd_tables.specs.declared.model.Model.TheVariants.{EnigmaI, M3, M4, M209}
 use Rattle.kd_tables.specs.declared.wheel.Wheel.{Wheel}
 use Rattle.kd_tables.specs.declared.wheel.Wheel.TheVariants.{I}
 use Rattle.kd_tables.specs.declared.reflector.Reflector.{Reflector}
 use Rattle.kd_tables.specs.declared.reflector.Reflector.TheVariants as reflectors
-use Rattle.kd_tables.specs.Tables.{box_of, slots_of, reflectors_of, wheel_text, reflector_text, IsAllowed}
+use Rattle.kd_tables.specs.Tables.{box_of, slots_of, lies_in, wheels_for, reflectors_of, wheel_text, reflector_text, IsAllowed}
 use Rattle.kd_desk.specs.Box.{same_wheel, same_reflector, holds, is_in_box, is_allowed, place_in_box}
 use Rattle.kd_desk.specs.Names.{wheel_by_name}
 use Rattle.kd_desk.specs.Seats.{is_seated}
@@ -110,18 +112,42 @@ is_among-Decides wheels wheel =
     Decides-contains wheels wheel _ (Decides-by_or (same_wheel wheel) (λ other. other ≡ wheel) (list_any (same_wheel wheel))
     (λ other. Decides-like _ sym sym (same_wheel-Decides wheel other)) refl (λ _ _. refl) wheels)
 
--- low is at most high
-le-Decides : (low high : ℕ) → Decides (nat_le low high) (low ≤ high)
-le-Decides low high =
-    elim (leb_tells low high) [
-      | inl least ↦ (λ _. least.1, λ _. least.0)
-      | inr less ↦ (λ e. absurd (false≢true (sym less.0 ∙ e)), λ least. absurd (omega arith))
-    ]
+-- the place at which a wheel is found, where it is one of these
+found_cond : (b : Bool) (wheels : List Wheel) (wheel : Wheel) (place : ℕ) → place ≡ position_or_len (same_wheel wheel) wheels → nat_lt place (length wheels) ≡ b
+    → SomeIff (cond b (Some place) None) (Contains wheels wheel) (position_or_len (same_wheel wheel) wheels)
+found_cond true wheels wheel place is within =
+    let here : position_or_len (same_wheel wheel) wheels < length wheels = omega (arith, is, ltb-true place (length wheels) within) in
+    ((position_or_len (same_wheel wheel) wheels, here, sym ((same_wheel-Decides wheel _).0 (passes_at_first (same_wheel wheel) wheels wheel here))), is)
+found_cond false wheels wheel place is beyond = λ h.
+    let here = first_within (same_wheel wheel) wheels ((is_among-Decides wheels wheel).1 h) in
+    absurd (omega (arith, is, here, ltb-false place (length wheels) beyond))
+
+pub found_among : (wheels : List Wheel) (wheel : Wheel) (found : Option ℕ)
+    → found ≡ cond (nat_lt (position_or_len (same_wheel wheel) wheels) (length wheels)) (Some (position_or_len (same_wheel wheel) wheels)) None
+    → SomeIff found (Contains wheels wheel) (position_or_len (same_wheel wheel) wheels)
+found_among wheels wheel found is =
+    subst (λ found. SomeIff found (Contains wheels wheel) (position_or_len (same_wheel wheel) wheels)) (sym is)
+    (found_cond (nat_lt (position_or_len (same_wheel wheel) wheels) (length wheels)) wheels wheel (position_or_len (same_wheel wheel) wheels) refl refl)
 
 -- the model allows the wheel in the slot
 pub is_allowed-Decides : (model : Model) (slot : ℕ) (wheel : Wheel) → Decides (is_allowed model slot wheel) (IsAllowed model slot wheel)
-is_allowed-Decides model slot wheel =
-    Decides-like _
-    (λ allowed. record { first = allowed.0.0; last = allowed.0.1; in_box = allowed.1 })
-    (λ allowed. ((allowed.first, allowed.last), allowed.in_box))
-    (Decides-and _ _ (Decides-and _ _ (le-Decides 1 slot) (le-Decides slot (slots_of model))) (is_among-Decides (box_of model) wheel))
+is_allowed-Decides model slot wheel = is_among-Decides (wheels_for model slot) wheel
+
+-- what may stand in a slot of the Enigma I is of its box, and what is of its box may stand in each slot
+among_if : (b : Bool) (wheels : List Wheel) (wheel : Wheel) → Contains (cond b wheels []) wheel → Contains wheels wheel
+among_if true wheels wheel h = h
+among_if false wheels wheel h = absurd (omega (arith, h.1))
+
+pub in_box_of_allowed : (model : Model) (slot : ℕ) (wheel : Wheel) → model ≡ EnigmaI → IsAllowed model slot wheel → Contains (box_of model) wheel
+in_box_of_allowed EnigmaI slot wheel e h = among_if (lies_in 1 3 slot) (box_of EnigmaI) wheel h
+in_box_of_allowed M3 slot wheel e h = cc
+in_box_of_allowed M4 slot wheel e h = cc
+in_box_of_allowed M209 slot wheel e h = cc
+
+pub allowed_of_boxed : (model : Model) (slot : ℕ) (wheel : Wheel) → model ≡ EnigmaI → 1 ≤ slot → slot ≤ slots_of model → is_in_box model wheel ≡ true → is_allowed model slot wheel ≡ true
+allowed_of_boxed EnigmaI slot wheel e first last boxed =
+    let within : lies_in 1 3 slot ≡ true = and_from (nat_le 1 slot) (nat_le slot 3) (le-leb 1 slot first) (le-leb slot 3 last) in
+    rw within boxed
+allowed_of_boxed M3 slot wheel e first last boxed = cc
+allowed_of_boxed M4 slot wheel e first last boxed = cc
+allowed_of_boxed M209 slot wheel e first last boxed = cc

@@ -1,11 +1,11 @@
 -- What a machine says of a wheel, wherever it lies, and of a slot.
-use Rattle.std.specs.Prelude.{ℕ, zero, suc, nat_le, Bool, false, ◌&&◌, List, slice_get, slice_index, Option, Some, None, unwrap_or}
+use Rattle.std.specs.Prelude.{ℕ, zero, suc, Bool, false, List, slice_get, slice_index, Option, Some, None, unwrap_or}
 use Rattle.std.specs.List.{list_any, position_or_len}
 use Rattle.std.specs.Str.{bytes_eq}
 use Rattle.kd_tables.specs.declared.model.Model.{Model}
 use Rattle.kd_tables.specs.declared.wheel.Wheel.{Wheel}
 use Rattle.kd_tables.specs.declared.reflector.Reflector.{Reflector}
-use Rattle.kd_tables.specs.Tables.{box_of, slots_of, wheel_text, reflector_text}
+use Rattle.kd_tables.specs.Tables.{box_of, wheels_for, wheel_text, reflector_text}
 use Rattle.kd_desk.specs.Machine.{RotorParts}
 
 -- two wheels are one where their names are, and so are two reflectors
@@ -15,16 +15,13 @@ same_wheel wheel other = bytes_eq (wheel_text wheel) (wheel_text other)
 abbrev pub same_reflector : Reflector → Reflector → Bool
 same_reflector reflector other = bytes_eq (reflector_text reflector) (reflector_text other)
 
--- the wheel is in the model's box, and the slot is one of the model's
+-- the wheel is in the model's box
 abbrev pub is_in_box : Model → Wheel → Bool
 is_in_box model wheel = list_any (same_wheel wheel) (box_of model)
 
-abbrev pub is_slot : Model → ℕ → Bool
-is_slot model slot = nat_le 1 slot && nat_le slot (slots_of model)
-
 -- the wheel may be seated in the slot, counted from 1
 abbrev pub is_allowed : Model → ℕ → Wheel → Bool
-is_allowed model slot wheel = is_slot model slot && is_in_box model wheel
+is_allowed model slot wheel = list_any (same_wheel wheel) (wheels_for model slot)
 
 -- the wheel is the one that is seated
 abbrev pub holds : Option Wheel → Wheel → Bool

@@ -3,7 +3,9 @@ pub mod CardText
 pub mod CommandLine
 pub mod Costs
 pub mod Days
+pub mod Desk
 pub mod Document
+pub mod Files
 pub mod Headline
 pub mod Key
 pub mod Laws
@@ -13,6 +15,7 @@ pub mod MachineFile
 pub mod Names
 pub mod Numbers
 pub mod Planned
+pub mod Ports
 pub mod RunCard
 pub mod RunSteps
 pub mod Seats
@@ -24,4 +27,3 @@ pub mod Stops
 pub mod TwoCiphers
 pub mod Typing
 pub mod TypingSteps
-pub mod Writing

@@ -1,6 +1,7 @@
 -- The physical machine of a rotor model: its parts, and which parts make a machine.
 use Rattle.std.specs.Prelude.{◌≡◌, ℕ, ◌+◌, ◌<◌, List, length, Option, Some, All, Contains, slice_get}
 use Rattle.kd_tables.specs.declared.model.Model.{Model}
+use Rattle.kd_tables.specs.declared.model.Model.TheVariants.{EnigmaI}
 use Rattle.kd_tables.specs.declared.wheel.Wheel.{Wheel}
 use Rattle.kd_tables.specs.declared.reflector.Reflector.{Reflector}
 use Rattle.kd_tables.specs.Tables.{box_of, slots_of, reflectors_of, IsAllowed}
@@ -36,8 +37,9 @@ pub record AreLetters (number : ℕ) (letters : List ℕ) : Type 0 where
   pub count : length letters ≡ number
   pub within : All (λ letter. letter < 26) letters
 
--- the parts make a machine
+-- the parts make a machine; so far it is an Enigma I
 pub record IsLegal (parts : RotorParts) : Type 0 where
+  pub model : parts.model ≡ EnigmaI
   pub slots : length parts.slots ≡ slots_of parts.model
   pub allowed : AreAllowed parts.model parts.slots
   pub apart : AreApart parts.slots

@@ -8,7 +8,7 @@ use Rattle.kd_desk.specs.SheetDay.{RotorDay}
 use Rattle.kd_desk.specs.Planned.{IsPlanned}
 use Rattle.kd_desk.specs.Headline.{LeavesTheSheetsMachine, IsShortest}
 use Rattle.kd_desk.specs.CardText.{card_text}
-use Rattle.kd_desk.specs.Writing.{Writes}
+use Rattle.kd_tables.specs.Writing.{Writes}
 
 -- The text of a card was written, or a front of it where the device failed. The card's settings are those that differ
 -- from the sheet; carried out, they leave a machine that is ready and enciphers as the sheet's own; and no list of

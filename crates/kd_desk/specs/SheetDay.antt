@@ -2,6 +2,7 @@
 use Rattle.std.specs.Prelude.{◌≡◌, ℕ, ◌≤◌, List, length, map, find, Option, Some, Contains}
 use Rattle.std.specs.Option.{option_map}
 use Rattle.kd_tables.specs.declared.model.Model.{Model}
+use Rattle.kd_tables.specs.declared.model.Model.TheVariants.{EnigmaI}
 use Rattle.kd_tables.specs.declared.wheel.Wheel.{Wheel}
 use Rattle.kd_tables.specs.declared.reflector.Reflector.{Reflector}
 use Rattle.kd_tables.specs.Tables.{slots_of, reflectors_of}
@@ -24,10 +25,11 @@ pair_of pairs wheel = find (λ pair. same_wheel wheel pair.0) pairs
 abbrev pub ring_in : List (Wheel × ℕ) → Wheel → Option ℕ
 ring_in pairs wheel = option_map (λ pair. pair.1) (pair_of pairs wheel)
 
--- a day of a month, a reflector of the model, and different wheels of its box
+-- a day of a month, a reflector of the model, and different wheels of its box; so far the model is the Enigma I
 pub record IsLegalDay (s : RotorDay) : Type 0 where
   pub first : 1 ≤ s.day
   pub last : s.day ≤ 31
+  pub model : s.model ≡ EnigmaI
   pub reflector : Contains (reflectors_of s.model) s.reflector
   pub slots : length s.wheels ≡ slots_of s.model
   pub allowed : AreAllowed s.model (map Some s.wheels)

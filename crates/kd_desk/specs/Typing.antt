@@ -1,12 +1,16 @@
 -- What the desk types: the text that it reads, and what it writes.
-use Rattle.std.specs.Prelude.{◌≡◌, ℕ, ◌+◌, ◌-◌, ◌≤◌, ◌==◌, Bool, ◌||◌, List, ◌++◌, length, take, map, filter, slice_index, All, IsTrue, IsFalse, Option, Result, Ok, Err, OnOk}
+use Rattle.std.specs.Prelude.{◌≡◌, ℕ, ◌+◌, ◌-◌, ◌≤◌, ◌==◌, Bool, true, false, ◌||◌, ◌⊎◌, List, [], ◌∷◌, ◌++◌, length, take, map, filter, slice_index, All, IsTrue, IsFalse, Result, Ok, Err, OnOk}
+use Rattle.std.specs.Result.{result_map_both}
 use Rattle.std.specs.Io.{StartsWith}
 use Rattle.std.specs.Io.KnownBytes.{Appends, Consumes, IsAtEnd}
 use Rattle.kd_tables.specs.Tables.{letters_of}
 use Rattle.kd_enigma.specs.Cipher.{RotorKey, key_after, enigma_cipher}
 use Rattle.kd_desk.specs.Letters.{is_capital}
+use Rattle.kd_desk.specs.Ports.{Port, FailsAlone}
 use Rattle.kd_desk.specs.declared.fault.DeskFault.{DeskFault}
-use Rattle.kd_desk.specs.declared.fault.DeskFault.TheVariants.{Device, BadByte, ReadTooLong}
+use Rattle.kd_desk.specs.declared.fault.DeskFault.TheVariants as faults
+use Rattle.kd_desk.specs.declared.typing.fault.TextFault.{TextFault}
+use Rattle.kd_desk.specs.declared.typing.fault.TextFault.TheVariants.{Device, BadByte, ReadTooLong}
 
 -- a space, a carriage return or a line feed
 abbrev pub is_separator : ℕ → Bool
@@ -49,25 +53,56 @@ pub record TypesFront (key : RotorKey) (read text : List ℕ) : Type 0 where
   pub allowed : AreAllowedBytes front
   pub written : StartsWith (cipher_text key front) text
 
+-- the source failed behind a text that is allowed, and its whole cipher was written
+pub record TypesWhole (key : RotorKey) (source sink : Port) (read text : List ℕ) : Type 0 where
+  pub fails : FailsAlone source sink
+  pub allowed : AreAllowedBytes read
+  pub written : text ≡ cipher_text key read
+
+-- the sink failed, and what was written before is a front of the cipher
+pub record TypesPart (key : RotorKey) (source sink : Port) (read text : List ℕ) : Type 0 where
+  pub fails : FailsAlone sink source
+  pub front : TypesFront key read text
+
 -- A text that was read, no further than the limit, and a text that was written, by the answer: all was allowed, and the
 -- cipher was written with what ends it; or the first byte that is not allowed, or one behind the limit, came after the
--- letters whose cipher was written; or a device failed, after a front of the cipher where the sink did, and else after the
--- whole.
-abbrev pub Types : RotorKey → List ℕ → List ℕ → List ℕ → Bool → Result (Unit {0}) DeskFault → Type 0
-Types key end read written sink_failed (Ok _) = (length read ≤ read_limit) × AreAllowedBytes read × (written ≡ cipher_text key read ++ end)
-Types key end read written sink_failed (Err (BadByte place)) = IsFirstRefused read place × (length read ≤ read_limit) × (written ≡ cipher_text key (take (place - 1) read))
-Types key end read written sink_failed (Err ReadTooLong) =
+-- letters whose cipher was written; or a device failed, after the whole cipher where it was the source, and after a front
+-- of it where it was the sink.
+abbrev pub Types : RotorKey → List ℕ → Port → Port → List ℕ → List ℕ → Result (Unit {0}) TextFault → Type 0
+Types key end source sink read written (Ok _) = (length read ≤ read_limit) × AreAllowedBytes read × (written ≡ cipher_text key read ++ end)
+Types key end source sink read written (Err (BadByte place)) = IsFirstRefused read place × (length read ≤ read_limit) × (written ≡ cipher_text key (take (place - 1) read))
+Types key end source sink read written (Err ReadTooLong) =
     (length read ≡ read_limit + 1) × AreAllowedBytes (take read_limit read) × (written ≡ cipher_text key (take read_limit read))
-Types key end read written sink_failed (Err Device) =
-    (length read ≤ read_limit) × TypesFront key read written × (IsFalse sink_failed → AreAllowedBytes read × (written ≡ cipher_text key read))
-Types key end read written sink_failed (Err _) = ⊥
+Types key end source sink read written (Err Device) =
+    (length read ≤ read_limit) × (TypesWhole key source sink read written ⊎ TypesPart key source sink read written)
 
 -- The same of the bytes that a source had and has yet to give, and that a sink had taken and has taken: a source that
 -- was read to its end has none left.
-pub record IsTyped (key : RotorKey) (end : List ℕ) (had has : Option (List ℕ)) (took taken : Option (List ℕ)) (sink_failed : Bool) (answer : Result (Unit {0}) DeskFault) : Type 0 where
+pub record IsTyped (key : RotorKey) (end : List ℕ) (source sink : Port) (answer : Result (Unit {0}) TextFault) : Type 0 where
   pub read : List ℕ
   pub text : List ℕ
-  pub given : Consumes had has read
-  pub written : Appends took taken text
-  pub types : Types key end read text sink_failed answer
-  pub ended : OnOk answer (IsAtEnd has)
+  pub given : Consumes source.had source.has read
+  pub written : Appends sink.had sink.has text
+  pub types : Types key end source sink read text answer
+  pub ended : OnOk answer (IsAtEnd source.has)
+
+-- the refusal of the desk that a text's fault is
+abbrev pub fault_of_text : TextFault → DeskFault
+fault_of_text Device = faults.Device
+fault_of_text (BadByte place) = faults.BadByte place
+fault_of_text ReadTooLong = faults.ReadTooLong
+
+-- the desk's answer to a text
+abbrev pub answer_to_text : Result (Unit {0}) TextFault → Result (Unit {0}) DeskFault
+answer_to_text answer = result_map_both (λ done. done) fault_of_text answer
+
+-- whether a text's typing stopped at a device that failed
+abbrev pub fails_in_text : Result (Unit {0}) TextFault → Bool
+fails_in_text (Err Device) = true
+fails_in_text _ = false
+
+-- what was typed and ended with a line feed is what the desk answers
+pub record TypesLine (key : RotorKey) (source sink : Port) (answer : Result (Unit {0}) DeskFault) : Type 0 where
+  pub told : Result (Unit {0}) TextFault
+  pub typed : IsTyped key (10 ∷ []) source sink told
+  pub answers : answer ≡ answer_to_text told

@@ -3,13 +3,12 @@ ghost use Rattle.std.specs.Prelude.{◌≡◌, ◌≤◌, ◌||◌, is_err};
 ghost use Rattle.std.specs.List.{flat_map};
 ghost use Rattle.kd_desk.specs.CardText.{line, card_text};
 ghost use Rattle.kd_desk.specs.Setting.{setting_line};
-ghost use Rattle.kd_desk.specs.Writing.{Writes};
+ghost use Rattle.kd_tables.specs.Writing.{Writes};
 
-use crate::ports::{Device, put_all};
 use crate::state::Setting;
 use crate::writing::put_number;
 use arrayvec::ArrayVec;
-use kd_tables::Sink;
+use kd_tables::{Device, Sink, put_all};
 
 /// The settings of a card, in the order in which they are carried out.
 pub type Settings = ArrayVec<Setting, 192>;

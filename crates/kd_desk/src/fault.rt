@@ -1,4 +1,12 @@
+#[cfg(test)]
+mod tests;
+
+use crate::files::FileFault;
+use crate::plan::OtherModel;
 use crate::sheet::SheetFault;
+use crate::state::NotReady;
+use crate::typing::TextFault;
+use kd_tables::Device;
 use std::alloc::AllocError;
 use thiserror::Error;
 
@@ -10,13 +18,13 @@ pub enum DeskFault {
     #[error(transparent)]
     File(SheetFault),
     /// A slot of the machine is empty.
-    #[error("4 NotReady")]
+    #[error("{}", NotReady)]
     NotReady,
     /// The machine and the sheet's day are of different models.
-    #[error("5 OtherModel")]
+    #[error("{}", OtherModel)]
     OtherModel,
     /// A read or a write failed.
-    #[error("6 Device")]
+    #[error("{}", Device)]
     Device,
     /// A byte that may not stand in a text. Bytes are counted from 1.
     #[error("28 BadByte {0}")]
@@ -29,14 +37,88 @@ pub enum DeskFault {
     NoSuchDay,
 }
 
+impl From<SheetFault> for DeskFault {
+    ghost use Rattle.std.specs.Prelude.{◌≡◌};
+    ghost use Rattle.kd_desk.specs.declared.fault.DeskFault.TheVariants as faults;
+
+    ghost from_gives = { λ fault desk. desk ≡ faults.File fault };
+
+    fn from(fault: SheetFault) -> DeskFault {
+        DeskFault::File(fault)
+    }
+}
+
 impl From<AllocError> for DeskFault {
     ghost use Rattle.std.specs.Prelude.{◌≡◌};
-    ghost use Rattle.kd_desk.specs.declared.fault.DeskFault.TheVariants.{File};
+    ghost use Rattle.kd_desk.specs.declared.fault.DeskFault.TheVariants as faults;
     ghost use Rattle.kd_desk.specs.declared.sheet.fault.SheetFault.TheVariants.{NoMemory};
 
-    ghost from_gives = { λ _ fault. fault ≡ File NoMemory };
+    ghost from_gives = { λ _ desk. desk ≡ faults.File NoMemory };
 
     fn from(_: AllocError) -> DeskFault {
         DeskFault::File(SheetFault::NoMemory)
+    }
+}
+
+impl From<NotReady> for DeskFault {
+    ghost use Rattle.std.specs.Prelude.{◌≡◌};
+    ghost use Rattle.kd_desk.specs.declared.fault.DeskFault.TheVariants as faults;
+
+    ghost from_gives = { λ _ desk. desk ≡ faults.NotReady };
+
+    fn from(_: NotReady) -> DeskFault {
+        DeskFault::NotReady
+    }
+}
+
+impl From<OtherModel> for DeskFault {
+    ghost use Rattle.std.specs.Prelude.{◌≡◌};
+    ghost use Rattle.kd_desk.specs.declared.fault.DeskFault.TheVariants as faults;
+
+    ghost from_gives = { λ _ desk. desk ≡ faults.OtherModel };
+
+    fn from(_: OtherModel) -> DeskFault {
+        DeskFault::OtherModel
+    }
+}
+
+impl From<Device> for DeskFault {
+    ghost use Rattle.std.specs.Prelude.{◌≡◌};
+    ghost use Rattle.kd_desk.specs.declared.fault.DeskFault.TheVariants as faults;
+
+    ghost from_gives = { λ _ desk. desk ≡ faults.Device };
+
+    fn from(_: Device) -> DeskFault {
+        DeskFault::Device
+    }
+}
+
+impl From<TextFault> for DeskFault {
+    ghost use Rattle.std.specs.Prelude.{◌≡◌};
+    ghost use Rattle.kd_desk.specs.Typing.{fault_of_text};
+
+    ghost from_gives = { λ fault desk. desk ≡ fault_of_text fault };
+
+    fn from(fault: TextFault) -> DeskFault {
+        match fault {
+            TextFault::Device => DeskFault::Device,
+            TextFault::BadByte(place) => DeskFault::BadByte(place),
+            TextFault::ReadTooLong => DeskFault::ReadTooLong,
+        }
+    }
+}
+
+impl From<FileFault> for DeskFault {
+    ghost use Rattle.std.specs.Prelude.{◌≡◌};
+    ghost use Rattle.kd_desk.specs.Stops.{fault_of_file};
+
+    ghost from_gives = { λ fault desk. desk ≡ fault_of_file fault };
+
+    fn from(fault: FileFault) -> DeskFault {
+        match fault {
+            FileFault::NoMemory => DeskFault::from(AllocError),
+            FileFault::Device => DeskFault::Device,
+            FileFault::ReadTooLong => DeskFault::ReadTooLong,
+        }
     }
 }

@@ -1,53 +1,30 @@
-ghost use Rattle.std.specs.Prelude.{◌≡◌, ◌<◌, ◌≤◌, length, Err, IfOk, IfErr, IfSome};
-ghost use Rattle.std.specs.IoError.{error_kind};
-ghost use Rattle.kd_desk.specs.Stops.{fault_of_kind, IsReadFault};
-ghost use Rattle.kd_desk.specs.declared.fault.DeskFault.TheVariants.{ReadTooLong};
+//! The files that the program's words name.
+ghost use Rattle.std.specs.Prelude.{◌≡◌, ◌≢◌, ◌≤◌, ℕ, List, Option, None, Ok, Err, IfOk, IfErr, IfSome};
+ghost use Rattle.kd_desk.specs.Files.{content_of};
 ghost use Rattle.kd_desk.specs.Typing.{read_limit};
 
+mod fault;
+mod host;
+mod memory;
 #[cfg(test)]
 mod tests;
 
-use crate::fault::DeskFault;
-use crate::limit::READ_LIMIT;
-use crate::sheet::SheetFault;
+pub use fault::FileFault;
+pub use host::HostFiles;
+pub use memory::MemoryFiles;
 use std::alloc::Global;
-use std::fs::File;
-use std::io::{self, Read};
 
-/// The bytes of the file of this name. One that can't be opened or read is `Device`, and a longer one than 1,048,576
-/// bytes `ReadTooLong`.
-pub fn read_named(rt: &HostRuntime, name: &str) -> Result<Vec<u8>, DeskFault>
-    ensures limit { IfOk result (λ bytes. bytes.len ≤ read_limit) }
-    ensures failed { IfErr result IsReadFault }
-{
-    let file = File::open(rt, name).map_err(|error| fault(&error))?;
-    read_whole(rt.alloc(), file)
-}
+/// Files, each under its name.
+pub trait Files {
+    /// The bytes that a name stands for, or none where there is no such file, if that is known.
+    ghost known: { Self → Option (List ℕ → Option (List ℕ)) } = { λ _. None };
 
-/// All the bytes of a reader.
-fn read_whole<R: Read + Drop>(alloc: Global, reader: R) -> Result<Vec<u8>, DeskFault>
-    ensures limit { IfOk result (λ bytes. bytes.len ≤ read_limit) }
-    ensures failed { IfErr result IsReadFault }
-    ensures too_long { result ≡ Err ReadTooLong → IfSome (R.remaining reader) (λ all. read_limit < length all) }
-    ensures whole { IfOk result (λ bytes. IfSome (R.remaining reader) (λ all. bytes.items ≡ all)) }
-{
-    let mut bytes = Vec::new(alloc);
-    let mut front = reader.take(READ_LIMIT as u64 + 1);
-    if let Err(error) = front.read_to_end(&mut bytes) {
-        return Err(fault(&error));
-    }
-    if bytes.len() > READ_LIMIT {
-        return Err(DeskFault::ReadTooLong);
-    }
-    Ok(bytes)
-}
-
-/// Why a file can't be read.
-fn fault(error: &io::Error) -> DeskFault
-    ensures { result ≡ fault_of_kind (error_kind error.now) }
-{
-    match error.kind() {
-        io::ErrorKind::OutOfMemory => DeskFault::File(SheetFault::NoMemory),
-        _ => DeskFault::Device,
-    }
+    /// All the bytes of the file of this name. One that can't be had is `Device`, and a longer one than 1,048,576 bytes
+    /// `ReadTooLong`.
+    fn read(&self, alloc: Global, name: &str) -> Result<Vec<u8>, FileFault>
+        ensures limit { IfOk result (λ bytes. bytes.len ≤ read_limit) }
+        ensures bytes { IfOk result (λ bytes.
+            IfSome (known self.now) (λ held. content_of (held name.now) ≡ Ok bytes.items)) }
+        ensures refused { IfErr result (λ fault. fault ≢ FileFault.NoMemory
+            → IfSome (known self.now) (λ held. content_of (held name.now) ≡ Err fault)) };
 }

@@ -4,6 +4,7 @@
 
 mod card;
 mod command;
+mod desk;
 mod fault;
 mod files;
 mod laws;
@@ -11,6 +12,9 @@ mod limit;
 mod plan;
 mod ports;
 mod run_card;
+mod run_type;
+#[cfg(test)]
+mod samples;
 mod sheet;
 mod state;
 mod stop;
@@ -18,55 +22,30 @@ mod text;
 mod typing;
 mod writing;
 
-use command::{Command, parse_words};
-use files::read_named;
+use desk::run_desk;
+use files::HostFiles;
 use ports::{ReaderSource, WriterSink};
-use run_card::run_card;
 use std::process::ExitCode;
 use stop::Stop;
-use typing::run_type;
 
 fn main(rt: HostRuntime) -> ExitCode {
-    let Err(stop) = desk(&rt) else {
+    let Err(stop) = run(&rt) else {
         return ExitCode::SUCCESS;
     };
     let _ = eprintln!(rt; "{stop}");
     ExitCode::from(stop.status())
 }
 
-/// Carries out the command of the program's words.
-fn desk(rt: &HostRuntime) -> Result<(), Stop> {
-    let words = words(rt)?;
-    match parse_words(rt.alloc(), words.as_slice())? {
-        Command::Type { machine } => {
-            let machine = read_named(rt, machine)?;
-            let mut source = ReaderSource::new(rt.stdin());
-            let mut sink = WriterSink::new(rt.stdout());
-            run_type(rt.alloc(), machine.as_slice(), &mut source, &mut sink)?;
-            Ok(())
-        }
-        Command::Card {
-            machine,
-            sheet,
-            day,
-        } => {
-            let machine = read_named(rt, machine)?;
-            let sheet = read_named(rt, sheet)?;
-            let mut sink = WriterSink::new(rt.stdout());
-            run_card(
-                rt.alloc(),
-                machine.as_slice(),
-                sheet.as_slice(),
-                day,
-                &mut sink,
-            )?;
-            Ok(())
-        }
-    }
-}
-
-/// The program's words, its own name among them.
-fn words(rt: &HostRuntime) -> Result<Vec<String>, Stop> {
-    let words = std::env::args(rt)?;
-    Ok(words.collect(rt.alloc())?)
+/// Carries out the program's words, on the host's files and the standard input and output.
+fn run(rt: &HostRuntime) -> Result<(), Stop> {
+    let words: Vec<String> = std::env::args(rt)?.collect(rt.alloc())?;
+    let mut source = ReaderSource::new(rt.stdin());
+    let mut sink = WriterSink::new(rt.stdout());
+    run_desk(
+        rt.alloc(),
+        words.as_slice(),
+        &HostFiles::new(rt),
+        &mut source,
+        &mut sink,
+    )
 }

@@ -38,18 +38,10 @@ pub fn run_card<W: Sink>(
     ensures untouched { IsTrue (is_refused_before result) → sink.new ≡ sink.old }
     ensures failed { W.has_failed sink.new ≡ (W.has_failed sink.old || is_device result) }
 {
-    let machine = match read_machine(alloc, machine) {
-        Ok(machine) => machine,
-        Err(fault) => return Err(DeskFault::File(fault)),
-    };
-    let sheet = match read_sheet(alloc, sheet) {
-        Ok(sheet) => sheet,
-        Err(fault) => return Err(DeskFault::File(fault)),
-    };
-    match sheet.day(number) {
-        Some(day) => print_card(&machine, day, sink),
-        None => Err(DeskFault::NoSuchDay),
-    }
+    let machine = read_machine(alloc, machine)?;
+    let sheet = read_sheet(alloc, sheet)?;
+    let day = sheet.day(number).ok_or(DeskFault::NoSuchDay)?;
+    print_card(&machine, day, sink)
 }
 
 /// Writes the shortest card that leads the machine to the day.
@@ -59,11 +51,7 @@ fn print_card<W: Sink>(machine: &Machine, day: &SheetDay, sink: &mut W) -> Resul
     ensures untouched { IsTrue (is_refused_before result) → sink.new ≡ sink.old }
     ensures failed { W.has_failed sink.new ≡ (W.has_failed sink.old || is_device result) }
 {
-    let Ok(card) = plan(machine, day) else {
-        return Err(DeskFault::OtherModel);
-    };
-    match write_card(sink, day.day(), &card) {
-        Ok(()) => Ok(()),
-        Err(_) => Err(DeskFault::Device),
-    }
+    let card = plan(machine, day)?;
+    write_card(sink, day.day(), &card)?;
+    Ok(())
 }

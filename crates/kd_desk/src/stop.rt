@@ -2,6 +2,7 @@ ghost use Rattle.std.specs.Prelude.{◌≡◌};
 ghost use Rattle.kd_desk.specs.Stops.{status_of};
 
 use crate::fault::DeskFault;
+use crate::files::FileFault;
 use std::alloc::AllocError;
 use std::io;
 use thiserror::Error;
@@ -12,6 +13,9 @@ pub enum Stop {
     /// The words are no command of the desk.
     #[error("usage: desk COMMAND WORDS")]
     Usage,
+    /// A file that the words name can't be read.
+    #[error("refused {}", DeskFault::from(*.0))]
+    Unread(FileFault),
     /// The command was refused.
     #[error("refused {0}")]
     Refused(DeskFault),
@@ -24,7 +28,7 @@ impl Stop {
     {
         match self {
             Stop::Usage => 2,
-            Stop::Refused(_) => 1,
+            Stop::Unread(_) | Stop::Refused(_) => 1,
         }
     }
 }
@@ -37,6 +41,17 @@ impl From<DeskFault> for Stop {
 
     fn from(fault: DeskFault) -> Stop {
         Stop::Refused(fault)
+    }
+}
+
+impl From<FileFault> for Stop {
+    ghost use Rattle.std.specs.Prelude.{◌≡◌};
+    ghost use Rattle.kd_desk.specs.declared.stop.Stop.TheVariants.{Unread};
+
+    ghost from_gives = { λ fault stop. stop ≡ Unread fault };
+
+    fn from(fault: FileFault) -> Stop {
+        Stop::Unread(fault)
     }
 }
 

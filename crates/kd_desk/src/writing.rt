@@ -1,12 +1,11 @@
 //! Writing lines to a sink.
 ghost use Rattle.std.specs.Prelude.{◌≡◌, ◌≤◌, ◌++◌, ◌||◌, decimal, length, is_err};
 ghost use Rattle.kd_desk.specs.CardText.{line};
-ghost use Rattle.kd_desk.specs.Writing.{Writes};
+ghost use Rattle.kd_tables.specs.Writing.{Writes};
 
-use crate::ports::{Device, put_all};
 use crate::text::push_number;
 use arrayvec::ArrayString;
-use kd_tables::Sink;
+use kd_tables::{Device, Sink, put_all};
 
 /// Writes the line of a word, which ends in a space, and a number behind it.
 pub fn put_number<W: Sink>(sink: &mut W, word: &str, number: u8) -> Result<(), Device>

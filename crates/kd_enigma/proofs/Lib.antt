@@ -1,3 +1,4 @@
+pub mod Cables
 pub mod Turning
 pub mod Ways
 pub mod Seats

@@ -1,23 +1,15 @@
 -- The way of a letter through products of permutations, and back.
-use Rattle.std.proofs.Common.{◌≡◌, ◌≢◌, ℕ, ◌<◌, List, [], ◌∷◌, ◌++◌, map, reverse, slice_index, All, refl, sym, ap, ◌∙◌, subst, arith}
+use Rattle.std.proofs.Common.{◌≡◌, ◌≢◌, ℕ, ◌<◌, List, [], ◌∷◌, ◌++◌, map, reverse, slice_index, All, refl, sym, ap, ◌∙◌, subst}
 use Rattle.std.specs.List.{AllByRecursion}
 use Rattle.std.proofs.lemmas.List.{reverse-append}
-use Rattle.kd_tables.specs.Permutation.{alphabet, inverse}
+use Rattle.kd_tables.specs.Permutation.{alphabet, inverse, IsPermutation26}
 use Rattle.kd_tables.specs.Tables.{wiring_of, reflector_of}
 use Rattle.kd_tables.specs.declared.wheel.Wheel.{Wheel}
-use Rattle.kd_enigma.specs.Rotor.{turned, offset}
+use Rattle.kd_enigma.specs.Rotor.{offset}
 use Rattle.kd_enigma.specs.Cipher.{RotorKey, IsPlugboard, rotors, product, path}
-use Rattle.kd_enigma.specs.Seated.{TablesAreSound, unwiring_of}
+use Rattle.kd_enigma.specs.Seated.{TablesAreSound, PermutationLaws}
 use Rattle.kd_enigma.specs.Through.{through}
-use Rattle.kd_enigma.proofs.Turning.{IsTable, permutation_table, followed_by-at, turned-table, turned_permutes, turned_undone, turned_forth, alphabet-at, inverse_is, inverse_size}
-
--- ---- one permutation with what leads back
-
-pub record Turns (p : List ℕ) : Type 0 where
-  pub table : IsTable p
-  pub back_table : IsTable (inverse p)
-  pub back : (x : ℕ) → x < 26 → slice_index (inverse p) (slice_index p x) ≡ x
-  pub forth : (y : ℕ) → y < 26 → slice_index p (slice_index (inverse p) y) ≡ y
+use Rattle.kd_enigma.proofs.Turning.{alphabet-at, product-at, turned_permutes}
 
 -- ---- through lists of permutations
 
@@ -25,16 +17,16 @@ pub through-append : (ps qs : List (List ℕ)) (x : ℕ) → through (ps ++ qs) 
 through-append [] qs x = refl
 through-append (p ∷ ps) qs x = through-append ps qs (slice_index p x)
 
-through_within : (ps : List (List ℕ)) (x : ℕ) → AllByRecursion IsTable ps → x < 26 → through ps x < 26
+through_within : (ps : List (List ℕ)) (x : ℕ) → AllByRecursion IsPermutation26 ps → x < 26 → through ps x < 26
 through_within [] x h lt = lt
-through_within (p ∷ ps) x h lt = through_within ps (slice_index p x) h.1 (h.0.within x lt)
+through_within (p ∷ ps) x h lt = through_within ps (slice_index p x) h.1 (h.0.each_once.within x lt)
 
-product-at : (ps : List (List ℕ)) (x : ℕ) → AllByRecursion IsTable ps → x < 26 → slice_index (product ps) x ≡ through ps x
+products-at : PermutationLaws → (ps : List (List ℕ)) (x : ℕ) → AllByRecursion IsPermutation26 ps → x < 26 → slice_index (product ps) x ≡ through ps x
 unfolding product
-product-at [] x h lt = alphabet-at x lt
-product-at (p ∷ ps) x h lt = followed_by-at p (product ps) x h.0 lt ∙ product-at ps (slice_index p x) h.1 (h.0.within x lt)
+products-at laws [] x h lt = alphabet-at x lt
+products-at laws (p ∷ ps) x h lt = product-at laws p (product ps) x h.0 lt ∙ products-at laws ps (slice_index p x) h.1 (h.0.each_once.within x lt)
 
-all_append : (ps qs : List (List ℕ)) → AllByRecursion IsTable ps → AllByRecursion IsTable qs → AllByRecursion IsTable (ps ++ qs)
+all_append : (ps qs : List (List ℕ)) → AllByRecursion IsPermutation26 ps → AllByRecursion IsPermutation26 qs → AllByRecursion IsPermutation26 (ps ++ qs)
 all_append [] qs h k = k
 all_append (p ∷ ps) qs h k = (h.0, all_append ps qs h.1 k)
 
@@ -44,58 +36,42 @@ reverse_cons w ws = reverse-append (w ∷ []) ws
 inward_cons : (w : List ℕ) (ws : List (List ℕ)) (x : ℕ) → through (reverse (w ∷ ws)) x ≡ slice_index w (through (reverse ws) x)
 inward_cons w ws x = ap (λ ps. through ps x) (reverse_cons w ws) ∙ through-append (reverse ws) (w ∷ []) x
 
-all_inward : (ws : List (List ℕ)) → AllByRecursion Turns ws → AllByRecursion IsTable (reverse ws)
+all_inward : (ws : List (List ℕ)) → AllByRecursion IsPermutation26 ws → AllByRecursion IsPermutation26 (reverse ws)
 all_inward [] h = tt
-all_inward (w ∷ ws) h = subst (AllByRecursion IsTable) (sym (reverse_cons w ws)) (all_append (reverse ws) (w ∷ []) (all_inward ws h.1) (h.0.table, tt))
+all_inward (w ∷ ws) h = subst (AllByRecursion IsPermutation26) (sym (reverse_cons w ws)) (all_append (reverse ws) (w ∷ []) (all_inward ws h.1) (h.0, tt))
 
-all_outward : (ws : List (List ℕ)) → AllByRecursion Turns ws → AllByRecursion IsTable (map inverse ws)
-all_outward [] h = tt
-all_outward (w ∷ ws) h = (h.0.back_table, all_outward ws h.1)
+all_outward : PermutationLaws → (ws : List (List ℕ)) → AllByRecursion IsPermutation26 ws → AllByRecursion IsPermutation26 (map inverse ws)
+all_outward laws [] h = tt
+all_outward laws (w ∷ ws) h = (laws.inverses w h.0, all_outward laws ws h.1)
 
 -- the way back leads back, and the way in leads in again
-back_of_in : (ws : List (List ℕ)) (x : ℕ) → AllByRecursion Turns ws → x < 26 → through (map inverse ws) (through (reverse ws) x) ≡ x
-back_of_in [] x h lt = refl
-back_of_in (w ∷ ws) x h lt =
+back_of_in : PermutationLaws → (ws : List (List ℕ)) (x : ℕ) → AllByRecursion IsPermutation26 ws → x < 26 → through (map inverse ws) (through (reverse ws) x) ≡ x
+back_of_in laws [] x h lt = refl
+back_of_in laws (w ∷ ws) x h lt =
+    let y = through (reverse ws) x in
+    let y_lt : y < 26 = through_within (reverse ws) x (all_inward ws h.1) lt in
     ap (through (map inverse (w ∷ ws))) (inward_cons w ws x)
-    ∙ ap (through (map inverse ws)) (h.0.back (through (reverse ws) x) (through_within (reverse ws) x (all_inward ws h.1) lt))
-    ∙ back_of_in ws x h.1 lt
+    ∙ ap (through (map inverse ws)) ((laws.inverse_at w y (slice_index w y) h.0 y_lt (h.0.each_once.within y y_lt)).0 refl)
+    ∙ back_of_in laws ws x h.1 lt
 
-in_of_back : (ws : List (List ℕ)) (y : ℕ) → AllByRecursion Turns ws → y < 26 → through (reverse ws) (through (map inverse ws) y) ≡ y
-in_of_back [] y h lt = refl
-in_of_back (w ∷ ws) y h lt =
+in_of_back : PermutationLaws → (ws : List (List ℕ)) (y : ℕ) → AllByRecursion IsPermutation26 ws → y < 26 → through (reverse ws) (through (map inverse ws) y) ≡ y
+in_of_back laws [] y h lt = refl
+in_of_back laws (w ∷ ws) y h lt =
     let next = slice_index (inverse w) y in
+    let next_lt : next < 26 = (laws.inverses w h.0).each_once.within y lt in
     inward_cons w ws (through (map inverse ws) next)
-    ∙ ap (slice_index w) (in_of_back ws next h.1 (h.0.back_table.within y lt))
-    ∙ h.0.forth y lt
+    ∙ ap (slice_index w) (in_of_back laws ws next h.1 next_lt)
+    ∙ (laws.inverse_at w next y h.0 next_lt lt).1 refl
 
 -- ---- the rotors
 
-rotor_turns : TablesAreSound → (by : ℕ) (wheel : Wheel) → by < 26 → Turns (turned by (wiring_of wheel))
-rotor_turns sound by wheel lt =
-    let wiring = wiring_of wheel in
-    let unwiring = unwiring_of wheel in
-    let permutation = turned_permutes by wiring (sound.wiring wheel) in
-    let table = permutation_table (turned by wiring) permutation in
-    let undone : (y : ℕ) → y < 26 → slice_index (inverse (turned by wiring)) y ≡ slice_index (turned by unwiring) y =
-    λ y y_lt. turned_undone by wiring unwiring y lt y_lt (sound.wiring wheel) (sound.unwiring wheel) (sound.undone wheel) in
-    record {
-      table = table;
-      back_table = record {
-        size = inverse_size (turned by wiring);
-        within = λ y y_lt. subst (λ n. n < 26) (sym (undone y y_lt)) ((turned-table by unwiring (permutation_table unwiring (sound.unwiring wheel))).within y y_lt);
-      };
-      back = λ x x_lt. inverse_is (turned by wiring) x (slice_index (turned by wiring) x) permutation x_lt (table.within x x_lt) refl;
-      forth = λ y y_lt. ap (slice_index (turned by wiring)) (undone y y_lt)
-          ∙ turned_forth by wiring unwiring y lt y_lt (sound.wiring wheel) (sound.unwiring wheel) (sound.undone wheel);
-    }
-
-pub rotors_turn : TablesAreSound → (wheels : List Wheel) (rings window : List ℕ) → AllByRecursion Turns (rotors wheels rings window)
+pub rotors_permute : TablesAreSound → (wheels : List Wheel) (rings window : List ℕ) → AllByRecursion IsPermutation26 (rotors wheels rings window)
 unfolding rotors
-rotors_turn sound [] rings window = tt
-rotors_turn sound (wheel ∷ wheels) [] window = tt
-rotors_turn sound (wheel ∷ wheels) (ring ∷ rings) [] = tt
-rotors_turn sound (wheel ∷ wheels) (ring ∷ rings) (letter ∷ window) =
-    (rotor_turns sound (offset ring letter) wheel (omega arith), rotors_turn sound wheels rings window)
+rotors_permute sound [] rings window = tt
+rotors_permute sound (wheel ∷ wheels) [] window = tt
+rotors_permute sound (wheel ∷ wheels) (ring ∷ rings) [] = tt
+rotors_permute sound (wheel ∷ wheels) (ring ∷ rings) (letter ∷ window) =
+    (turned_permutes sound.laws (offset ring letter) (wiring_of wheel) (sound.wiring wheel), rotors_permute sound wheels rings window)
 
 -- ---- the path
 
@@ -106,12 +82,12 @@ pub path-at : TablesAreSound → (key : RotorKey) (window : List ℕ) (x : ℕ) 
 unfolding path
 path-at sound key window x board lt =
     let ws = rotors key.wheels key.rings window in
-    let turns = rotors_turn sound key.wheels key.rings window in
-    let plugs = permutation_table key.plugs board.permutation in
-    let reflector = permutation_table (reflector_of key.reflector) (sound.reflector key.reflector) in
-    product-at (key.plugs ∷ reverse ws ++ reflector_of key.reflector ∷ map inverse ws ++ key.plugs ∷ []) x
+    let turns = rotors_permute sound key.wheels key.rings window in
+    let plugs = board.permutation in
+    let reflector = sound.reflector key.reflector in
+    products-at sound.laws (key.plugs ∷ reverse ws ++ reflector_of key.reflector ∷ map inverse ws ++ key.plugs ∷ []) x
     (all_append (key.plugs ∷ reverse ws ++ reflector_of key.reflector ∷ map inverse ws) (key.plugs ∷ [])
-    (all_append (key.plugs ∷ reverse ws) (reflector_of key.reflector ∷ map inverse ws) (plugs, all_inward ws turns) (reflector, all_outward ws turns)) (plugs, tt)) lt
+    (all_append (key.plugs ∷ reverse ws) (reflector_of key.reflector ∷ map inverse ws) (plugs, all_inward ws turns) (reflector, all_outward sound.laws ws turns)) (plugs, tt)) lt
     ∙ through-append (key.plugs ∷ reverse ws ++ reflector_of key.reflector ∷ map inverse ws) (key.plugs ∷ []) x
     ∙ ap (slice_index key.plugs) (through-append (key.plugs ∷ reverse ws) (reflector_of key.reflector ∷ map inverse ws) x)
 
@@ -139,10 +115,10 @@ module _ (sound : TablesAreSound) (key : RotorKey) (window : List ℕ) (board : 
   plug_lt x lt = board.permutation.each_once.within x lt
 
   in_lt : (x : ℕ) → x < 26 → go_in x < 26
-  in_lt x lt = through_within (reverse ws) (plug x) (all_inward ws (rotors_turn sound key.wheels key.rings window)) (plug_lt x lt)
+  in_lt x lt = through_within (reverse ws) (plug x) (all_inward ws (rotors_permute sound key.wheels key.rings window)) (plug_lt x lt)
 
   out_lt : (y : ℕ) → y < 26 → through (map inverse ws) y < 26
-  out_lt y lt = through_within (map inverse ws) y (all_outward ws (rotors_turn sound key.wheels key.rings window)) lt
+  out_lt y lt = through_within (map inverse ws) y (all_outward sound.laws ws (rotors_permute sound key.wheels key.rings window)) lt
 
   reflect_lt : (x : ℕ) → x < 26 → reflect x < 26
   reflect_lt x lt = (sound.reflector key.reflector).each_once.within x lt
@@ -155,13 +131,13 @@ module _ (sound : TablesAreSound) (key : RotorKey) (window : List ℕ) (board : 
   in_again x lt =
       ap go_in (path-at sound key window x board lt)
       ∙ ap (through (reverse ws)) (board_returns key.plugs (through (map inverse ws) (reflect (go_in x))) board (out_lt _ (reflect_lt _ (in_lt x lt))))
-      ∙ in_of_back ws (reflect (go_in x)) (rotors_turn sound key.wheels key.rings window) (reflect_lt _ (in_lt x lt))
+      ∙ in_of_back sound.laws ws (reflect (go_in x)) (rotors_permute sound key.wheels key.rings window) (reflect_lt _ (in_lt x lt))
 
   pub path_returns : (x : ℕ) → x < 26 → slice_index (path key window) (slice_index (path key window) x) ≡ x
   path_returns x lt =
       path-at sound key window (slice_index (path key window) x) board (path_within x lt)
       ∙ ap (λ y. plug (through (map inverse ws) y)) (ap reflect (in_again x lt) ∙ at_alphabet (reflector_of key.reflector) (λ z. reflect (reflect z) ≡ z) (sound.own_inverse key.reflector) (go_in x) (in_lt x lt))
-      ∙ ap plug (back_of_in ws (plug x) (rotors_turn sound key.wheels key.rings window) (plug_lt x lt))
+      ∙ ap plug (back_of_in sound.laws ws (plug x) (rotors_permute sound key.wheels key.rings window) (plug_lt x lt))
       ∙ board_returns key.plugs x board lt
 
   pub path_moves : (x : ℕ) → x < 26 → slice_index (path key window) x ≢ x

@@ -1,7 +1,23 @@
 -- What holds of the cipher.
-use Rattle.std.specs.Prelude.{◌≡◌, ◌+◌, ◌<◌, ◌++◌, List, ℕ, length, All}
-use Rattle.kd_tables.specs.Permutation.{IsOwnInverse, MovesEachLetter}
+use Rattle.std.specs.Prelude.{◌≡◌, ◌↔◌, ◌⊎◌, ◌+◌, ◌<◌, ◌++◌, List, ℕ, length, All, Contains}
+use Rattle.kd_tables.specs.Permutation.{exchanged, exchange, IsOwnInverse, MovesEachLetter}
 use Rattle.kd_enigma.specs.Cipher.{RotorKey, IsPlugboard, key_after, path, enigma_cipher}
+use Rattle.kd_enigma.specs.Plugs.{letters_plugged, NoLetterTwice, Joins}
+
+-- pairs in which no letter lies twice make a plugboard
+abbrev pub PairsMakeAPlugboard : Type 0
+PairsMakeAPlugboard = (pairs : List (ℕ × ℕ)) → NoLetterTwice pairs → All (λ letter. letter < 26) (letters_plugged pairs) → IsPlugboard (exchange pairs)
+
+-- a letter becomes the other letter of its pair, or stays where it lies in none
+abbrev pub PairsExchange : Type 0
+PairsExchange =
+    (pairs : List (ℕ × ℕ)) (x y : ℕ) → NoLetterTwice pairs
+    → (exchanged pairs x ≡ y) ↔ (Joins pairs x y ⊎ ((x ≡ y) × ¬ Contains (letters_plugged pairs) x))
+
+-- the order of the pairs, and of the two letters of a pair, makes no difference
+abbrev pub SamePairsExchangeAlike : Type 0
+SamePairsExchangeAlike =
+    (ps qs : List (ℕ × ℕ)) → NoLetterTwice ps → NoLetterTwice qs → ((x y : ℕ) → Joins ps x y ↔ Joins qs x y) → exchange ps ≡ exchange qs
 
 -- the path of the current leads each letter to another one, and that one back
 abbrev pub PathsLeadBack : Type 0

@@ -1,3 +1,4 @@
+pub mod Plugs
 pub mod Rotor
 pub mod Cipher
 pub mod Seated

@@ -1,7 +1,9 @@
 -- What a seated wheel keeps beside its tables, and what the published tables are.
-use Rattle.std.specs.Prelude.{◌≡◌, ℕ, List}
+use Rattle.std.specs.Prelude.{ℕ, List}
 use Rattle.kd_tables.specs.Laws.{WiringsArePermutations, ReflectorsArePermutations, ReflectorsLeadBack, ReflectorsMoveEachLetter}
-use Rattle.kd_tables.specs.Permutation.{alphabet, followed_by, inverse, IsPermutation26}
+use Rattle.kd_tables.specs.Laws.{ProductsByLetter, InversesByLetter, ShiftsByLetter}
+use Rattle.kd_tables.specs.Laws.{ProductsArePermutations, InversesArePermutations, ShiftsArePermutations, ProductsBackwards, ShiftsBackwards}
+use Rattle.kd_tables.specs.Permutation.{inverse}
 use Rattle.kd_tables.specs.Tables.{wiring_of}
 use Rattle.kd_tables.specs.declared.wheel.Wheel.{Wheel}
 
@@ -14,11 +16,22 @@ pub record SeatedWheel : Type 0 where
 abbrev pub unwiring_of : Wheel → List ℕ
 unwiring_of wheel = inverse (wiring_of wheel)
 
--- The published wirings are permutations, which their inverses undo, and the reflectors exchange letters.
+-- The laws of permutations: what a letter becomes by a product, an inverse and a shift, that these are permutations, and
+-- what undoes them.
+pub record PermutationLaws : Type 0 where
+  pub product_at : ProductsByLetter
+  pub inverse_at : InversesByLetter
+  pub shift_at : ShiftsByLetter
+  pub products : ProductsArePermutations
+  pub inverses : InversesArePermutations
+  pub shifts : ShiftsArePermutations
+  pub product_undone : ProductsBackwards
+  pub shift_undone : ShiftsBackwards
+
+-- The published wirings are permutations, and the reflectors exchange letters.
 pub record TablesAreSound : Type 0 where
+  pub laws : PermutationLaws
   pub wiring : WiringsArePermutations
-  pub unwiring : (wheel : Wheel) → IsPermutation26 (unwiring_of wheel)
-  pub undone : (wheel : Wheel) → followed_by (unwiring_of wheel) (wiring_of wheel) ≡ alphabet
   pub reflector : ReflectorsArePermutations
   pub own_inverse : ReflectorsLeadBack
   pub none_fixed : ReflectorsMoveEachLetter

@@ -1,6 +1,6 @@
 ghost use Rattle.std.specs.Prelude.{◌≡◌, ◌≤◌, ◌∷◌, [], length, map, reverse};
 ghost use Rattle.kd_tables.specs.Permutation.{inverse};
-ghost use Rattle.kd_enigma.specs.Cipher.{enigma_cipher, key_after};
+ghost use Rattle.kd_enigma.specs.Cipher.{enigma_cipher, key_after, key_turned};
 ghost use Rattle.kd_enigma.specs.Through.{through, standing};
 
 use super::key::EnigmaKey;
@@ -8,7 +8,7 @@ use super::laws::tables_are_sound;
 use super::plugs::Plugs;
 use super::rotor::Rotor;
 use kd_step::Stepper;
-use kd_tables::{Letter, Reflector, reflecting};
+use kd_tables::{Letter, Reflector, Wheel, reflecting};
 use std::marker::Model;
 
 /// A rotor machine that is set to a key, ready for its keys to be pressed.
@@ -22,7 +22,7 @@ pub struct Enigma<const S: usize> {
 }
 
 impl<const S: usize> Model for Enigma<S> {
-    ghost use Rattle.std.specs.Prelude.{◌≡◌, map};
+    ghost use Rattle.std.specs.Prelude.{◌≡◌, ◌≤◌, map};
     ghost use Rattle.kd_tables.specs.Tables.{reflector_of};
     ghost use Rattle.kd_enigma.specs.Cipher.{RotorKey};
     ghost use Rattle.kd_enigma.specs.Seated.{TablesAreSound};
@@ -31,7 +31,7 @@ impl<const S: usize> Model for Enigma<S> {
 
     ghost view = { λ e. record { wheels = e.stepper.wheels; rings = map (λ r. r.ring) e.rotors; window = e.stepper.window; reflector = e.reflector; plugs = e.plugs } };
 
-    ghost invariant = { λ e. (map (λ r. r.wheel) e.rotors ≡ e.stepper.wheels) × (e.reflecting ≡ reflector_of e.reflector) × TablesAreSound };
+    ghost invariant = { λ e. (map (λ r. r.wheel) e.rotors ≡ e.stepper.wheels) × (e.reflecting ≡ reflector_of e.reflector) × TablesAreSound × (3 ≤ S) × (S ≤ 4) };
 }
 
 impl<const S: usize> Enigma<S> {
@@ -60,6 +60,8 @@ impl<const S: usize> Enigma<S> {
         ensures cipher { enigma_cipher self.old (letter ∷ []) ≡ result ∷ [] }
         ensures after { self.new ≡ key_after self.old 1 }
     {
+        prove!(letter.index() < 26);
+        self.plugs.exchanges();
         self.stepper.step();
         let window = self.stepper.window();
         let letter = self.plugs.swap(letter);
@@ -79,12 +81,31 @@ impl<const S: usize> Enigma<S> {
         }
     }
 
+    /// Turns the wheels until these letters show in the windows, from the left.
+    pub fn turn_to(&mut self, window: [Letter; S])
+        ensures { self.new ≡ key_turned self.old window.entry }
+    {
+        self.stepper = Stepper::new(wheels_of(&self.rotors), window);
+    }
+
     /// The letters that show in the windows, from the left.
     pub fn window(&self) -> [Letter; S]
         ensures { result ≡ self.now.window }
     {
         self.stepper.window()
     }
+}
+
+/// The wheels of the rotors. There is at least one.
+fn wheels_of<const S: usize>(rotors: &[Rotor; S]) -> [Wheel; S]
+    requires { 1 ≤ S }
+    ensures { result ≡ map (λ r. r.wheel) rotors.now }
+{
+    let mut wheels = [rotors[0].wheel(); S];
+    for slot in 0..S {
+        wheels[slot] = rotors[slot].wheel();
+    }
+    wheels
 }
 
 /// What the wheels make of a letter on the way in, from right to left.

@@ -2,17 +2,34 @@
 ghost use Rattle.std.specs.Prelude.{[]};
 ghost use Rattle.kd_tables.specs.Permutation.{exchange};
 ghost use Rattle.kd_enigma.specs.Cipher.{IsPlugboard};
+ghost use Rattle.kd_enigma.specs.Laws.{PairsMakeAPlugboard, PairsExchange, SamePairsExchangeAlike};
 ghost use Rattle.kd_enigma.specs.Laws.{PathsLeadBack, PathsMoveEachLetter, TwiceGivesBack, CipherInTurn, KeyInTurn};
-ghost use Rattle.kd_enigma.specs.Seated.{TablesAreSound};
+ghost use Rattle.kd_enigma.specs.Seated.{PermutationLaws, TablesAreSound};
 
-/// The tables that the cipher is made of are permutations, with what undoes them.
-pub(crate) fn tables_are_sound()
-    ensures { TablesAreSound }
+/// The laws of permutations, together.
+pub(crate) fn permutations_obey_laws()
+    ensures { PermutationLaws }
 {
-    kd_tables::laws::tables_are_permutations();
+    kd_tables::laws::permutations_by_letter();
     kd_tables::laws::products_are_permutations();
     kd_tables::laws::inverse_undoes();
 }
+
+/// The tables that the cipher is made of are permutations, and obey their laws.
+pub(crate) fn tables_are_sound()
+    ensures { TablesAreSound }
+{
+    permutations_obey_laws();
+    kd_tables::laws::tables_are_permutations();
+}
+
+/// Pairs in which no letter lies twice make a plugboard, on which a letter becomes the other letter of its pair; the
+/// order of the pairs, and of the two letters of a pair, makes no difference.
+pub fn pairs_make_a_plugboard()
+    ensures plugboard { PairsMakeAPlugboard }
+    ensures exchanged { PairsExchange }
+    ensures same { SamePairsExchangeAlike }
+{}
 
 /// A board without cables exchanges no letters, and is a plugboard.
 pub fn an_empty_board_is_a_plugboard()

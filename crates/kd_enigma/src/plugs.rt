@@ -1,6 +1,7 @@
-ghost use Rattle.std.specs.Prelude.{◌≡◌, ◌<◌, [], IsOk, IfOk, slice_index};
-ghost use Rattle.kd_tables.specs.Permutation.{exchange};
+ghost use Rattle.std.specs.Prelude.{◌≡◌, ◌≢◌, ◌<◌, ◌↔◌, IsOk, IfOk, OnOk, slice_index, slice_set};
+ghost use Rattle.kd_tables.specs.Permutation.{alphabet, exchange};
 ghost use Rattle.kd_enigma.specs.Cipher.{IsPlugboard};
+ghost use Rattle.kd_enigma.specs.Plugs.{IsLeft, NoLetterTwice};
 
 use kd_tables::Letter;
 use std::marker::Model;
@@ -31,18 +32,16 @@ impl Model for Plugs {
 }
 
 impl Plugs {
-    /// The plugboard whose cables exchange the letters of these pairs. So far `pairs` has to be empty; `LetterTwice` can't
-    /// come.
+    /// The plugboard whose cables exchange the letters of these pairs, whatever their order. Refused where a letter lies in
+    /// two pairs, or twice in one.
     pub fn from_pairs(pairs: &[(Letter, Letter)]) -> Result<Plugs, LetterTwice>
-        requires { pairs.now ≡ [] }
-        ensures ok { IsOk result }
+        ensures ok { IsOk result ↔ NoLetterTwice pairs.now }
         ensures value { IfOk result (λ plugs. plugs ≡ exchange pairs.now) }
         ensures plugboard { IfOk result IsPlugboard }
     {
-        let [] = pairs else { unreachable!() };
-        let mut table = [Letter::A; 26];
-        for index in 0..26 {
-            table[usize::from(index)] = Letter::new(index).unwrap();
+        let mut table = unplugged();
+        for (one, other) in pairs {
+            plug(&mut table, *one, *other)?;
         }
         Ok(Plugs { table })
     }
@@ -50,9 +49,41 @@ impl Plugs {
     /// What the letter is exchanged for.
     pub fn swap(self, letter: Letter) -> Letter
         ensures value { result ≡ slice_index self letter }
-        ensures letter { letter < 26 }
-        ensures plugboard { IsPlugboard self }
+        ensures within { result < 26 }
     {
         self.table[letter.index()]
     }
+
+    /// The board exchanges letters.
+    pub(crate) fn exchanges(&self)
+        ensures { IsPlugboard self.now }
+    {
+        let _ = &self.table;
+    }
+}
+
+/// The table that leaves each letter.
+fn unplugged() -> [Letter; 26]
+    ensures { result ≡ alphabet }
+{
+    let mut table = [Letter::A; 26];
+    for index in 0..26 {
+        table[usize::from(index)] = Letter::new(index).unwrap();
+    }
+    table
+}
+
+/// Exchanges two letters that have been left so far.
+fn plug(table: &mut [Letter; 26], one: Letter, other: Letter) -> Result<(), LetterTwice>
+    ensures ok { IsOk result ↔ (one ≢ other) × IsLeft table.old one × IsLeft table.old other }
+    ensures after { OnOk result (table.new ≡ slice_set (slice_set table.old one other) other one) }
+    ensures letters { (one < 26) × (other < 26) }
+{
+    let (place, far) = (one.index(), other.index());
+    if one == other || table[place] != one || table[far] != other {
+        return Err(LetterTwice);
+    }
+    table[place] = other;
+    table[far] = one;
+    Ok(())
 }

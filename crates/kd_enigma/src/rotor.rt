@@ -2,7 +2,7 @@ ghost use Rattle.std.specs.Prelude.{◌≡◌, ◌<◌, slice_index};
 ghost use Rattle.kd_tables.specs.Permutation.{inverse, IsPermutation26};
 ghost use Rattle.kd_enigma.specs.Rotor.{rotor, turned};
 
-use super::laws::tables_are_sound;
+use super::laws::{permutations_obey_laws, tables_are_sound};
 use kd_tables::{Letter, Wheel, unwiring, wiring};
 use std::marker::Model;
 
@@ -42,6 +42,13 @@ impl Rotor {
         }
     }
 
+    /// The wheel.
+    pub(crate) fn wheel(&self) -> Wheel
+        ensures { result ≡ self.now.wheel }
+    {
+        self.wheel
+    }
+
     /// What the wheel makes of a letter on the way in, while the other letter shows in its window.
     pub(crate) fn inward(&self, window: Letter, letter: Letter) -> Letter
         ensures { result ≡ slice_index (rotor self.now.wheel self.now.ring window) letter }
@@ -60,8 +67,9 @@ impl Rotor {
 /// What a table makes of a letter when it is turned on by so many letters.
 fn lead(table: &[Letter; 26], by: Letter, letter: Letter) -> Letter
     requires { IsPermutation26 table.now }
-    ensures value { result ≡ slice_index (turned by table.now) letter }
-    ensures within { letter < 26 }
+    ensures { result ≡ slice_index (turned by table.now) letter }
 {
+    permutations_obey_laws();
+    prove!(letter.index() < 26);
     table[letter.forward(by).index()].back(by)
 }

@@ -70,9 +70,110 @@ fn what_one_machine_enciphers_an_equal_one_deciphers(rt: HostRuntime) {
     assert_eq!(rt; text, [letter(&rt, b'A'); 5]);
 }
 
+fn text<const N: usize>(rt: &impl Abort, bytes: [u8; N]) -> [Letter; N] {
+    let mut text = [Letter::A; N];
+    for place in 0..N {
+        text[place] = letter(rt, bytes[place]);
+    }
+    text
+}
+
+/// The board with ten cables, each between the two letters of a word.
+fn ten_cables(rt: &impl Abort, words: [[u8; 2]; 10]) -> Plugs {
+    let mut pairs = [(Letter::A, Letter::A); 10];
+    for (pair, [one, other]) in pairs.iter_mut().zip(words) {
+        *pair = (letter(rt, one), letter(rt, other));
+    }
+    Plugs::from_pairs(&pairs).expect(rt, "no letter twice")
+}
+
+/// An army machine of 1930 as it was set for a message that was sent on the eastern front in July 1941.
+fn july_1941(rt: &impl Abort, window: [u8; 3]) -> Enigma<3> {
+    Enigma::new(EnigmaKey {
+        wheels: [Wheel::II, Wheel::IV, Wheel::V],
+        rings: three(rt, *b"BUL"),
+        window: three(rt, window),
+        reflector: Reflector::B,
+        plugs: ten_cables(
+            rt,
+            [
+                *b"AV", *b"BS", *b"CG", *b"DL", *b"FU", *b"HZ", *b"IN", *b"KM", *b"OW", *b"RX",
+            ],
+        ),
+    })
+}
+
+/// Runs a text through a machine, and compares what comes out.
+fn becomes<const S: usize, const N: usize>(
+    rt: &impl Abort,
+    mut enigma: Enigma<S>,
+    plain: [u8; N],
+    cipher: [u8; N],
+) {
+    let mut letters = text(rt, plain);
+    enigma.run(&mut letters);
+    assert_eq!(rt; letters, text(rt, cipher));
+}
+
+#[test]
+fn a_message_on_ten_cables(rt: HostRuntime) {
+    becomes(&rt, july_1941(&rt, *b"BLA"), *b"EDPUD", *b"AUFKL");
+    becomes(&rt, july_1941(&rt, *b"WXC"), *b"KCH", *b"BLA");
+    becomes(&rt, july_1941(&rt, *b"WXC"), *b"BLA", *b"KCH");
+}
+
+#[test]
+fn turned_to_another_window(rt: HostRuntime) {
+    let mut enigma = july_1941(&rt, *b"BLA");
+    enigma.turn_to(three(&rt, *b"WXC"));
+    assert_eq!(&rt; enigma.window(), three(&rt, *b"WXC"));
+    becomes(&rt, enigma, *b"KCH", *b"BLA");
+}
+
+#[test]
+fn a_message_on_four_wheels(rt: HostRuntime) {
+    let [beta, left, middle, right] = text(&rt, *b"AAAV");
+    let enigma = Enigma::new(EnigmaKey {
+        wheels: [Wheel::Beta, Wheel::II, Wheel::IV, Wheel::I],
+        rings: [beta, left, middle, right],
+        window: text(&rt, *b"VJNA"),
+        reflector: Reflector::ThinB,
+        plugs: ten_cables(
+            &rt,
+            [
+                *b"AT", *b"BL", *b"DF", *b"GJ", *b"HM", *b"NW", *b"OP", *b"QY", *b"RZ", *b"VX",
+            ],
+        ),
+    });
+    becomes(&rt, enigma, *b"NCZWVUSX", *b"VONVONJL");
+}
+
+#[test]
+fn beta_stands_still(rt: HostRuntime) -> Result<(), Fail> {
+    let mut enigma = Enigma::new(EnigmaKey {
+        wheels: [Wheel::Beta, Wheel::I, Wheel::II, Wheel::III],
+        rings: [Letter::A; 4],
+        window: text(&rt, *b"AADU"),
+        reflector: Reflector::ThinB,
+        plugs: Plugs::from_pairs(&[])?,
+    });
+    for window in [*b"AADV", *b"AAEW", *b"ABFX", *b"ABFY"] {
+        enigma.press(Letter::A);
+        assert_eq!(&rt; enigma.window(), text(&rt, window));
+    }
+    Ok(())
+}
+
 #[test]
 fn a_board_without_cables_leaves_each_letter(rt: HostRuntime) -> Result<(), Fail> {
     let q = letter(&rt, b'Q');
     assert_eq!(rt; Plugs::from_pairs(&[])?.swap(q), q);
     Ok(())
+}
+
+#[test]
+fn no_letter_is_plugged_twice(rt: HostRuntime) {
+    let [a, b, c] = text(&rt, *b"ABC");
+    assert!(&rt; Plugs::from_pairs(&[(a, b), (b, c)]).is_err());
+    assert!(&rt; Plugs::from_pairs(&[(a, a)]).is_err());
 }

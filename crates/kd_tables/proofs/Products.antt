@@ -1,10 +1,12 @@
 -- Products, inverses and shifts of permutations, letter by letter.
-use Rattle.std.proofs.Common.{◌≡◌, ℕ, ◌+◌, ◌<◌, ◌%◌, ◌==◌, List, length, slice_index, eqb, refl, sym, ap, ◌∙◌, arith}
-use Rattle.std.specs.List.{position_or_len, list_any}
+use Rattle.std.proofs.Common.{◌≡◌, ◌↔◌, ℕ, ◌+◌, ◌-◌, ◌<◌, ◌≤◌, ◌%◌, ◌==◌, List, length, slice_index, refl, sym, ap, ◌∙◌, arith}
+use Rattle.std.specs.List.{position_or_len}
 use Rattle.std.proofs.lemmas.List.{get_or-map, length-map}
+use Rattle.std.proofs.lemmas.Bool.{eq-eqb, ne_eqb}
+use Rattle.std.proofs.lemmas.List.Sums.{position_or_len_is}
 use Rattle.std.proofs.lemmas.List.FromFn.{fill_by_all, get_or-map-range_with_len, length-map-range_with_len}
 use Rattle.kd_tables.specs.Permutation.{alphabet, followed_by, inverse, shift, IsPermutation26}
-use Rattle.kd_tables.proofs.Wirings.{place_within, first_place, at_place_of_any, occurs}
+use Rattle.kd_tables.proofs.Wirings.{place_within, at_place}
 
 -- what stands at a letter of a product, of an inverse and of a shift
 pub followed_by-at : (p q : List ℕ) (x : ℕ) → x < length p → slice_index (followed_by p q) x ≡ slice_index q (slice_index p x)
@@ -19,13 +21,11 @@ pub shift-at : (k x : ℕ) → x < 26 → slice_index (shift k) x ≡ (x + k) % 
 unfolding shift
 shift-at k x lt = get_or-map-range_with_len (λ x'. (x' + k) % 26) 0 26 x x 0 lt (omega arith)
 
--- a letter's place has that letter
-pub at_place : (p : List ℕ) (y : ℕ) → IsPermutation26 p → y < 26 → slice_index p (position_or_len (λ x. x == y) p) ≡ y
-at_place p y h lt = at_place_of_any y p (occurs (list_any (eqb y) p) p y h lt refl)
-
 -- the place of what stands at a place is that place
 pub place_of_at : (p : List ℕ) (x : ℕ) → IsPermutation26 p → x < 26 → position_or_len (λ z. z == slice_index p x) p ≡ x
-place_of_at p x h lt = first_place p (slice_index p x) x (omega (arith, h.size)) (λ k k_lt e. absurd (omega (arith, h.each_once.apart k x (omega arith) lt e))) (λ _. refl)
+place_of_at p x h lt = position_or_len_is (λ z. z == slice_index p x) p x 0 (omega (arith, h.size))
+    (λ k k_lt. ne_eqb (slice_index p k) (slice_index p x) (λ e. absurd (omega (arith, h.each_once.apart k x (omega arith) lt e))))
+    (λ _. eq-eqb (slice_index p x) (slice_index p x) refl)
 
 pub product_permutes : (p q : List ℕ) → IsPermutation26 p → IsPermutation26 q → IsPermutation26 (followed_by p q)
 unfolding followed_by
@@ -78,3 +78,39 @@ unfolding inverse
 filled_is_inverse p filled h size leads =
     fill_by_all (λ y. position_or_len (λ x. x == y) p) filled 26 0 size
     (λ y lt. ap (slice_index filled) (sym (at_place p y h lt)) ∙ leads (position_or_len (λ x. x == y) p) (place_within p y h lt))
+
+-- a permutation leads to a letter exactly where its inverse leads that one back
+pub inverse_by_letter : (p : List ℕ) (x y : ℕ) → IsPermutation26 p → x < 26 → y < 26 → (slice_index p x ≡ y) ↔ (slice_index (inverse p) y ≡ x)
+inverse_by_letter p x y h x_lt y_lt = (
+  λ e. inverse-at p y y_lt ∙ ap (λ z. position_or_len (λ w. w == z) p) (sym e) ∙ place_of_at p x h x_lt,
+  λ e. ap (slice_index p) (sym e ∙ inverse-at p y y_lt) ∙ at_place p y h y_lt,
+)
+
+-- two permutations of which the first leads each letter back that the other leads
+is_inverse : (p back : List ℕ) → IsPermutation26 p → IsPermutation26 back → ((y : ℕ) → y < 26 → slice_index p (slice_index back y) ≡ y) → inverse p ≡ back
+is_inverse p back h hb leads = fill_by_all (slice_index back) (inverse p) 26 0 (inverse_permutes p h).size
+    (λ y lt. (inverse_by_letter p (slice_index back y) y h (hb.each_once.within y lt) lt).0 (leads y lt))
+    ∙ sym (fill_by_all (slice_index back) back 26 0 hb.size (λ y lt. refl))
+
+pub product_backwards : (p q : List ℕ) → IsPermutation26 p → IsPermutation26 q → inverse (followed_by p q) ≡ followed_by (inverse q) (inverse p)
+product_backwards p q hp hq =
+    let ip = inverse_permutes p hp in
+    let iq = inverse_permutes q hq in
+    is_inverse (followed_by p q) (followed_by (inverse q) (inverse p)) (product_permutes p q hp hq) (product_permutes (inverse q) (inverse p) iq ip)
+    (λ y lt.
+    let z = slice_index (inverse q) y in
+    let z_lt : z < 26 = iq.each_once.within y lt in
+    let x = slice_index (inverse p) z in
+    let x_lt : x < 26 = ip.each_once.within z z_lt in
+    ap (slice_index (followed_by p q)) (followed_by-at (inverse q) (inverse p) y (omega (arith, iq.size)))
+    ∙ followed_by-at p q x (omega (arith, hp.size))
+    ∙ ap (slice_index q) ((inverse_by_letter p x z hp x_lt z_lt).1 refl)
+    ∙ (inverse_by_letter q z y hq z_lt lt).1 refl)
+
+shifted_back : (k y : ℕ) → k ≤ 26 → y < 26 → ((y + (26 - k)) % 26 + k) % 26 ≡ y
+shifted_back k y k_le lt = omega arith
+
+pub shift_backwards : (k : ℕ) → k ≤ 26 → inverse (shift k) ≡ shift (26 - k)
+shift_backwards k k_le =
+    is_inverse (shift k) (shift (26 - k)) (shift_permutes k) (shift_permutes (26 - k))
+    (λ y lt. ap (slice_index (shift k)) (shift-at (26 - k) y lt) ∙ shift-at k ((y + (26 - k)) % 26) (omega arith) ∙ shifted_back k y k_le lt)

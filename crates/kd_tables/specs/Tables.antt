@@ -1,12 +1,12 @@
 -- The published tables of the Wehrmacht's and the Kriegsmarine's rotor machines, and which parts this project's models take.
-use Rattle.std.specs.Prelude.{codes, ℕ, ◌-◌, ◌≤◌, ◌==◌, Bool, List, [], ◌∷◌, map, Contains}
+use Rattle.std.specs.Prelude.{codes, ℕ, ◌-◌, ◌==◌, nat_le, Bool, ◌&&◌, if◌then◌else◌, List, [], ◌∷◌, ◌++◌, map, Contains}
 use Rattle.std.specs.List.{list_any}
 use Rattle.kd_tables.specs.declared.wheel.Wheel.{Wheel}
 use Rattle.kd_tables.specs.declared.wheel.Wheel.TheVariants.{I, II, III, IV, V, VI, VII, VIII, Beta, Gamma}
 use Rattle.kd_tables.specs.declared.reflector.Reflector.{Reflector}
 use Rattle.kd_tables.specs.declared.reflector.Reflector.TheVariants as reflectors
 use Rattle.kd_tables.specs.declared.model.Model.{Model}
-use Rattle.kd_tables.specs.declared.model.Model.TheVariants.{EnigmaI}
+use Rattle.kd_tables.specs.declared.model.Model.TheVariants.{EnigmaI, M3, M4, M209}
 
 -- the letters that capital letters stand for
 abbrev pub letters_of : List ℕ → List ℕ
@@ -74,21 +74,43 @@ reflector_of reflectors.ThinC = letters_of (codes "RDOBJNTKVEHMLFCWZAXGYIPSUQ")
 -- the model's name
 abbrev pub model_text : Model → List ℕ
 model_text EnigmaI = codes "Enigma I"
+model_text M3 = codes "M3"
+model_text M4 = codes "M4"
+model_text M209 = codes "M-209"
 
--- how many wheels the model seats
+-- how many wheels the model seats side by side; a Converter M-209 seats none, as its six pin wheels stay where they are
 abbrev pub slots_of : Model → ℕ
 slots_of EnigmaI = 3
+slots_of M3 = 3
+slots_of M4 = 4
+slots_of M209 = 0
 
--- the wheels of the model's box, in box order
+-- the number is one of those from the first to the last
+abbrev pub lies_in : ℕ → ℕ → ℕ → Bool
+lies_in first last number = nat_le first number && nat_le number last
+
+-- the wheels that may stand in a slot, counted from the left from 1; none where the model has no such slot
+abbrev pub wheels_for : Model → ℕ → List Wheel
+wheels_for EnigmaI slot = if lies_in 1 3 slot then I ∷ II ∷ III ∷ IV ∷ V ∷ [] else []
+wheels_for M3 slot = if lies_in 1 3 slot then I ∷ II ∷ III ∷ IV ∷ V ∷ VI ∷ VII ∷ VIII ∷ [] else []
+wheels_for M4 slot =
+    if slot == 1 then Beta ∷ Gamma ∷ [] else (if lies_in 2 4 slot then I ∷ II ∷ III ∷ IV ∷ V ∷ VI ∷ VII ∷ VIII ∷ [] else [])
+wheels_for M209 slot = []
+
+-- the wheels of the model's box, in box order: all that may stand in one of its slots
 abbrev pub box_of : Model → List Wheel
-box_of EnigmaI = I ∷ II ∷ III ∷ IV ∷ V ∷ []
+box_of EnigmaI = wheels_for EnigmaI 1
+box_of M3 = wheels_for M3 1
+box_of M4 = wheels_for M4 2 ++ wheels_for M4 1
+box_of M209 = []
+
+-- the wheel may be seated in the slot, counted from the left from 1
+abbrev pub IsAllowed : Model → ℕ → Wheel → Type 0
+IsAllowed model slot wheel = Contains (wheels_for model slot) wheel
 
 -- the model's reflectors
 abbrev pub reflectors_of : Model → List Reflector
 reflectors_of EnigmaI = reflectors.A ∷ reflectors.B ∷ reflectors.C ∷ []
-
--- the wheel may be seated in the slot, counted from the left from 1
-pub record IsAllowed (model : Model) (slot : ℕ) (wheel : Wheel) : Type 0 where
-  pub first : 1 ≤ slot
-  pub last : slot ≤ slots_of model
-  pub in_box : Contains (box_of model) wheel
+reflectors_of M3 = reflectors.B ∷ reflectors.C ∷ []
+reflectors_of M4 = reflectors.ThinB ∷ reflectors.ThinC ∷ []
+reflectors_of M209 = []

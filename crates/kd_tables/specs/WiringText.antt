@@ -1,21 +1,29 @@
--- What the text of a wiring has to be, as tests that compute on a written text.
-use Rattle.std.specs.Prelude.{ℕ, ◌==◌, nat_le, nat_lt, Bool, true, not, ◌&&◌, List, [], ◌∷◌, length, slice_index}
+-- What the text of a wiring or of a pin wheel has to be, as tests that compute on a written text.
+use Rattle.std.specs.Prelude.{ℕ, ◌==◌, nat_eq, nat_le, nat_lt, Bool, not, ◌&&◌, List, length, slice_index}
 use Rattle.std.specs.List.{list_all}
+use Rattle.std.specs.Set.{distinct_count}
 use Rattle.kd_tables.specs.Permutation.{alphabet}
 use Rattle.kd_tables.specs.Tables.{letters_of}
 
--- no number stands twice
-abbrev pub all_differ : List ℕ → Bool
-all_differ [] = true
-all_differ (x ∷ xs) = list_all (λ y. not (x == y)) xs && all_differ xs
+-- each byte is a capital letter
+abbrev pub are_capitals : List ℕ → Bool
+are_capitals text = list_all (λ byte. nat_le 65 byte && nat_le byte 90) text
+
+-- letters, none of them twice
+abbrev pub are_distinct_letters : List ℕ → Bool
+are_distinct_letters p = list_all (λ x. nat_lt x 26) p && (distinct_count nat_eq p == length p)
+
+-- the letters of a pin wheel: capital letters, none of them twice
+abbrev pub is_ring_text : List ℕ → Bool
+is_ring_text text = are_capitals text && are_distinct_letters (letters_of text)
 
 -- 26 different numbers below 26
 abbrev pub is_permutation : List ℕ → Bool
-is_permutation p = (length p == 26) && (list_all (λ x. nat_lt x 26) p && all_differ p)
+is_permutation p = (length p == 26) && are_distinct_letters p
 
 -- 26 capital letters, each once
 abbrev pub is_wiring_text : List ℕ → Bool
-is_wiring_text text = list_all (λ byte. nat_le 65 byte && nat_le byte 90) text && is_permutation (letters_of text)
+is_wiring_text text = are_capitals text && is_permutation (letters_of text)
 
 -- each letter leads to another one, which leads back
 abbrev pub is_reflection : List ℕ → Bool

@@ -3,7 +3,7 @@ ghost use Rattle.std.specs.Prelude.{◌≡◌, ℕ, ◌+◌, ◌-◌, ◌%◌, �
 use std::marker::Model;
 
 /// A letter of the alphabet, as its place in it: A is 0 and Z is 25.
-#[derive(Clone, Copy, Debug, PartialEq, Eq, PartialOrd, Ord, Hash)]
+#[derive(Clone, Copy, Debug, Default, PartialEq, Eq, PartialOrd, Ord, Hash)]
 pub struct Letter {
     index: u8,
 }
@@ -17,6 +17,9 @@ impl Model for Letter {
 
     ghost inverse = { λ n. record { index = n } };
 }
+
+// The constant has no contract of its own: this proves that it is the first letter.
+const _: () = prove!(Letter::A.index == 0);
 
 impl Letter {
     /// The first letter.
@@ -64,7 +67,8 @@ impl Letter {
 
     /// The letter after this one, with A after Z.
     pub const fn next(self) -> Letter
-        ensures { result ≡ (self + 1) % 26 }
+        ensures value { result ≡ (self + 1) % 26 }
+        ensures within { result < 26 }
     {
         Letter {
             index: (self.index + 1) % 26,
@@ -74,7 +78,7 @@ impl Letter {
     /// The letter that stands as many places after this one as `by` after A, with A after Z.
     pub const fn forward(self, by: Letter) -> Letter
         ensures value { result ≡ (self + by) % 26 }
-        ensures letters { (self < 26) × (by < 26) }
+        ensures within { result < 26 }
     {
         Letter {
             index: (self.index + by.index) % 26,
@@ -84,7 +88,7 @@ impl Letter {
     /// The letter that stands as many places before this one as `by` after A, with Z before A.
     pub const fn back(self, by: Letter) -> Letter
         ensures value { result ≡ (self + (26 - by)) % 26 }
-        ensures letters { (self < 26) × (by < 26) }
+        ensures within { result < 26 }
     {
         Letter {
             index: (self.index + (26 - by.index)) % 26,

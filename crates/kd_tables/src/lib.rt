@@ -4,23 +4,36 @@
 mod failed;
 pub mod laws;
 mod letter;
+mod lug;
 mod memory_sink;
 mod memory_source;
 mod model;
+mod names;
+mod place;
+mod reading;
 mod reflector;
+mod ring;
 mod sink;
 mod source;
+mod standing;
 mod table;
 #[cfg(test)]
 mod tests;
 mod wheel;
+mod writing;
 
 pub use failed::Failed;
 pub use letter::Letter;
+pub use lug::Lug;
 pub use memory_sink::MemorySink;
 pub use memory_source::MemorySource;
 pub use model::{Model, allowed, allowed_reflector, in_box};
+pub use place::Place;
+pub use reading::Reading;
 pub use reflector::{Reflector, reflecting};
+pub use ring::{Ring, ring1, ring2, ring3, ring4, ring5, ring6};
 pub use sink::Sink;
 pub use source::Source;
+pub use standing::Standing;
 pub use wheel::{Wheel, notched, unwiring, wiring};
+pub use writing::{Device, put_all};

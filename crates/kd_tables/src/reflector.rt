@@ -3,6 +3,7 @@ ghost use Rattle.kd_tables.specs.Permutation.{IsOwnInverse, MovesEachLetter};
 ghost use Rattle.kd_tables.specs.Tables.{reflector_text, reflector_of};
 
 use super::letter::Letter;
+use super::names::{name_of, named};
 use super::table::reflection;
 use arrayvec::ArrayString;
 
@@ -21,19 +22,26 @@ pub enum Reflector {
     ThinC,
 }
 
+/// Reads the reflectors' names, each beside its reflector, from the one to the other.
+macro_rules! names {
+    ($read:ident, $value:expr) => {
+        $read!($value, {
+            Reflector::A => "A",
+            Reflector::B => "B",
+            Reflector::C => "C",
+            Reflector::ThinB => "b",
+            Reflector::ThinC => "c",
+        })
+    };
+}
+
 impl Reflector {
     /// The reflector's name, in small letters for the thin ones.
     pub fn text(self) -> ArrayString<8>
         ensures { result.bytes ≡ reflector_text self }
     {
         let mut text = ArrayString::new();
-        text.push_str(match self {
-            Reflector::A => "A",
-            Reflector::B => "B",
-            Reflector::C => "C",
-            Reflector::ThinB => "b",
-            Reflector::ThinC => "c",
-        });
+        text.push_str(names!(name_of, self));
         text
     }
 
@@ -43,14 +51,7 @@ impl Reflector {
             ((reflector : _) → reflector_text reflector ≢ text.now)
             (λ reflector. reflector_text reflector ≡ text.now) }
     {
-        match text {
-            b"A" => Some(Reflector::A),
-            b"B" => Some(Reflector::B),
-            b"C" => Some(Reflector::C),
-            b"b" => Some(Reflector::ThinB),
-            b"c" => Some(Reflector::ThinC),
-            _ => None,
-        }
+        names!(named, text)
     }
 }
 

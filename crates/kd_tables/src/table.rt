@@ -1,9 +1,31 @@
 ghost use Rattle.std.specs.Prelude.{◌≡◌, ◌-◌, ◌+◌, ◌<◌, slice_index, IsTrue};
 ghost use Rattle.kd_tables.specs.Permutation.{inverse, IsPermutation26, IsOwnInverse, MovesEachLetter};
+ghost use Rattle.kd_tables.specs.Rings.{IsRing};
 ghost use Rattle.kd_tables.specs.Tables.{letters_of};
-ghost use Rattle.kd_tables.specs.WiringText.{is_wiring_text, is_reflection};
+ghost use Rattle.kd_tables.specs.WiringText.{are_capitals, is_wiring_text, is_ring_text, is_reflection};
 
 use super::letter::Letter;
+
+/// The letters that a text spells.
+fn letters<const N: usize>(text: &[u8; N]) -> [Letter; N]
+    requires { IsTrue (are_capitals text.now) }
+    ensures { result ≡ letters_of text.now }
+{
+    let mut letters = [Letter::A; N];
+    for place in 0..N {
+        letters[place] = letter_at(text, place);
+    }
+    letters
+}
+
+/// The letter that a text has at a place.
+fn letter_at<const N: usize>(text: &[u8; N], place: usize) -> Letter
+    requires capitals { IsTrue (are_capitals text.now) }
+    requires within { place < N }
+    ensures { result ≡ slice_index text.now place - 65 }
+{
+    Letter::from_byte(text[place]).unwrap()
+}
 
 /// The table that a published text spells: its first letter is what A becomes.
 pub(crate) fn table(text: &[u8; 26]) -> [Letter; 26]
@@ -11,20 +33,7 @@ pub(crate) fn table(text: &[u8; 26]) -> [Letter; 26]
     ensures table { result ≡ letters_of text.now }
     ensures permutation { IsPermutation26 (letters_of text.now) }
 {
-    let mut table = [Letter::A; 26];
-    for place in 0..26 {
-        table[place] = letter_at(text, place);
-    }
-    table
-}
-
-/// The letter that a published text has at a place.
-fn letter_at(text: &[u8; 26], place: usize) -> Letter
-    requires wiring { IsTrue (is_wiring_text text.now) }
-    requires within { place < 26 }
-    ensures { result ≡ slice_index text.now place - 65 }
-{
-    Letter::from_byte(text[place]).unwrap()
+    letters(text)
 }
 
 /// The table that undoes the one that a published text spells.
@@ -49,4 +58,13 @@ pub(crate) fn reflection(text: &[u8; 26]) -> [Letter; 26]
     ensures none_fixed { MovesEachLetter (letters_of text.now) }
 {
     table(text)
+}
+
+/// The letters of a pin wheel's published text.
+pub(crate) fn ring<const N: usize>(text: &[u8; N]) -> [Letter; N]
+    requires { IsTrue (is_ring_text text.now) }
+    ensures letters { result ≡ letters_of text.now }
+    ensures ring { IsRing N (letters_of text.now) }
+{
+    letters(text)
 }

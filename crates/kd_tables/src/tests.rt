@@ -56,11 +56,18 @@ fn names_are_read_back(rt: HostRuntime) {
             Some(reflector)
         );
     }
-    assert_eq!(rt; Model::from_text(b"Enigma I"), Some(Model::EnigmaI));
-    assert_eq!(rt; Model::EnigmaI.text().as_str(), "Enigma I");
+    for (model, text) in [
+        (Model::EnigmaI, "Enigma I"),
+        (Model::M3, "M3"),
+        (Model::M4, "M4"),
+        (Model::M209, "M-209"),
+    ] {
+        assert_eq!(rt; model.text().as_str(), text);
+        assert_eq!(rt; Model::from_text(text.as_bytes()), Some(model));
+    }
     assert_eq!(rt; Wheel::from_text(b"IX"), None);
     assert_eq!(rt; Reflector::from_text(b"B "), None);
-    assert_eq!(rt; Model::from_text(b"M4"), None);
+    assert_eq!(rt; Model::from_text(b"M209"), None);
 }
 
 #[test]
@@ -89,15 +96,113 @@ fn tables_are_the_published_ones(rt: HostRuntime) -> Result<(), Fail> {
 
 #[test]
 fn models_take_their_own_parts(rt: HostRuntime) {
+    for (model, slots, wheels, reflectors) in [
+        (Model::EnigmaI, 3, 5, 3),
+        (Model::M3, 3, 8, 2),
+        (Model::M4, 4, 10, 2),
+        (Model::M209, 0, 0, 0),
+    ] {
+        assert_eq!(rt; model.slots(), slots);
+        assert_eq!(rt; model.wheels().len(), wheels);
+        assert_eq!(rt; model.reflectors().len(), reflectors);
+    }
     assert!(rt; in_box(Model::EnigmaI, Wheel::V) && !in_box(Model::EnigmaI, Wheel::VI));
+    assert!(rt; in_box(Model::M3, Wheel::VIII) && !in_box(Model::M3, Wheel::Beta));
     assert!(rt; allowed(Model::EnigmaI, 1, Wheel::I) && allowed(Model::EnigmaI, 3, Wheel::I));
     assert!(rt; !allowed(Model::EnigmaI, 0, Wheel::I) && !allowed(Model::EnigmaI, 4, Wheel::I));
-    assert!(rt; !allowed(Model::EnigmaI, 1, Wheel::Beta));
+    assert!(rt; allowed(Model::M4, 1, Wheel::Beta) && !allowed(Model::M4, 2, Wheel::Beta));
+    assert!(rt; allowed(Model::M4, 4, Wheel::I) && !allowed(Model::M4, 1, Wheel::I));
+    assert_eq!(rt;
+        Model::M4.wheels_for(1),
+        [Wheel::Beta, Wheel::Gamma].as_slice()
+    );
+    assert!(rt; Model::M209.wheels_for(1).is_empty());
     assert!(rt; allowed_reflector(Model::EnigmaI, Reflector::A));
+    assert!(rt; !allowed_reflector(Model::M3, Reflector::A));
+    assert!(rt; allowed_reflector(Model::M4, Reflector::ThinB));
     assert!(rt; !allowed_reflector(Model::EnigmaI, Reflector::ThinB));
-    assert_eq!(rt; Model::EnigmaI.slots(), 3);
-    assert_eq!(rt; Model::EnigmaI.wheels().len(), 5);
-    assert_eq!(rt; Model::EnigmaI.reflectors().len(), 3);
+}
+
+#[test]
+fn rings_have_their_own_letters(rt: HostRuntime) -> Result<(), Fail> {
+    assert_eq!(rt; ring1().letter_of(25).byte(), b'Z');
+    assert_eq!(rt; ring2().letter_of(24).byte(), b'Z');
+    assert_eq!(rt; ring3().letter_of(22).byte(), b'X');
+    assert_eq!(rt; ring4().letter_of(20).byte(), b'U');
+    assert_eq!(rt; ring5().letter_of(18).byte(), b'S');
+    assert_eq!(rt; ring6().letter_of(16).byte(), b'Q');
+    let w = Letter::from_byte(b'W').ok_or("W")?;
+    let x = Letter::from_byte(b'X').ok_or("X")?;
+    let r = Letter::from_byte(b'R').ok_or("R")?;
+    assert_eq!(rt; ring1().place_of(w), Some(22));
+    assert_eq!(rt; ring2().place_of(w), None);
+    assert_eq!(rt; ring2().place_of(x), Some(22));
+    assert_eq!(rt; ring3().place_of(x), Some(22));
+    assert_eq!(rt; ring3().place_of(w), None);
+    assert_eq!(rt; ring6().place_of(r), None);
+    Ok(())
+}
+
+#[test]
+fn bars_have_28_standings_and_22_readings(rt: HostRuntime) -> Result<(), Fail> {
+    let mut standings = 0;
+    for left in Place::all() {
+        for right in Place::all() {
+            if let Some(standing) = Standing::new(left, right) {
+                standings += 1;
+                assert_eq!(rt;
+                    Standing::from_text(standing.text().as_bytes()),
+                    Some(standing)
+                );
+                let text = standing.reading().text();
+                assert_eq!(rt;
+                    Reading::from_text(text.as_bytes()),
+                    Some(standing.reading())
+                );
+            }
+        }
+    }
+    assert_eq!(rt; standings, 28);
+    let mut readings = 0;
+    for smaller in 0..8 {
+        for larger in smaller..8 {
+            if let Some(reading) = Reading::new(larger, smaller) {
+                readings += 1;
+                assert_eq!(rt; reading.numbers(), (smaller, larger));
+            }
+        }
+    }
+    assert_eq!(rt; readings, 22);
+    Ok(())
+}
+
+#[test]
+fn bars_have_texts(rt: HostRuntime) -> Result<(), Fail> {
+    let standing = Standing::new(Place::Three, Place::ZeroRight).ok_or("3-0R")?;
+    assert_eq!(rt; standing.text().as_str(), "3-0R");
+    assert_eq!(rt;
+        (standing.left(), standing.right()),
+        (Place::Three, Place::ZeroRight)
+    );
+    assert_eq!(rt; standing.reading().text().as_str(), "0-3");
+    let earlier = Standing::from_text(b"1-0L").ok_or("1-0L")?;
+    assert_eq!(rt; earlier.reading().numbers(), (0, 1));
+    assert!(rt; earlier < standing);
+    assert_eq!(rt; Standing::new(Place::ZeroRight, Place::Three), None);
+    assert_eq!(rt; Standing::from_text(b"0R-3"), None);
+    assert_eq!(rt; Standing::from_text(b"3-3"), None);
+    assert_eq!(rt; Standing::from_text(b"3-0"), None);
+    assert_eq!(rt; Reading::from_text(b"3-0"), None);
+    assert_eq!(rt; Reading::from_text(b"4-4"), None);
+    assert_eq!(rt; Reading::from_text(b"0-7"), None);
+    assert_eq!(rt; Reading::new(0, 0).map(Reading::numbers), Some((0, 0)));
+    assert!(rt; Reading::from_text(b"0-6") < Reading::from_text(b"1-2"));
+    assert_eq!(rt; Place::ZeroLeft.text().as_str(), "0L");
+    assert_eq!(rt; Place::from_text(b"0R"), Some(Place::ZeroRight));
+    assert_eq!(rt; Place::from_text(b"0"), None);
+    assert_eq!(rt; Lug::Right.text().as_str(), "R");
+    assert_eq!(rt; Lug::from_text(b"L"), Some(Lug::Left));
+    Ok(())
 }
 
 #[test]

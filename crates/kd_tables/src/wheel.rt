@@ -3,6 +3,7 @@ ghost use Rattle.kd_tables.specs.Permutation.{inverse};
 ghost use Rattle.kd_tables.specs.Tables.{wheel_text, wiring_of, is_notch};
 
 use super::letter::Letter;
+use super::names::{name_of, named};
 use super::table::{inverse_table, table};
 use arrayvec::ArrayString;
 
@@ -49,13 +50,10 @@ macro_rules! wiring {
     };
 }
 
-impl Wheel {
-    /// The wheel's name in machine files, sheets and cards.
-    pub fn text(self) -> ArrayString<8>
-        ensures { result.bytes ≡ wheel_text self }
-    {
-        let mut text = ArrayString::new();
-        text.push_str(match self {
+/// Reads the wheels' names, each beside its wheel, from the one to the other.
+macro_rules! names {
+    ($read:ident, $value:expr) => {
+        $read!($value, {
             Wheel::I => "I",
             Wheel::II => "II",
             Wheel::III => "III",
@@ -66,7 +64,17 @@ impl Wheel {
             Wheel::VIII => "VIII",
             Wheel::Beta => "Beta",
             Wheel::Gamma => "Gamma",
-        });
+        })
+    };
+}
+
+impl Wheel {
+    /// The wheel's name in machine files, sheets and cards.
+    pub fn text(self) -> ArrayString<8>
+        ensures { result.bytes ≡ wheel_text self }
+    {
+        let mut text = ArrayString::new();
+        text.push_str(names!(name_of, self));
         text
     }
 
@@ -76,19 +84,7 @@ impl Wheel {
             ((wheel : _) → wheel_text wheel ≢ text.now)
             (λ wheel. wheel_text wheel ≡ text.now) }
     {
-        match text {
-            b"I" => Some(Wheel::I),
-            b"II" => Some(Wheel::II),
-            b"III" => Some(Wheel::III),
-            b"IV" => Some(Wheel::IV),
-            b"V" => Some(Wheel::V),
-            b"VI" => Some(Wheel::VI),
-            b"VII" => Some(Wheel::VII),
-            b"VIII" => Some(Wheel::VIII),
-            b"Beta" => Some(Wheel::Beta),
-            b"Gamma" => Some(Wheel::Gamma),
-            _ => None,
-        }
+        names!(named, text)
     }
 }
 

@@ -1,5 +1,6 @@
 use super::{Command, parse_words};
 use crate::fault::DeskFault;
+use crate::files::FileFault;
 use crate::stop::Stop;
 use std::test::Fail;
 
@@ -77,6 +78,13 @@ fn refuses_other_words(rt: HostRuntime) -> Result<(), Fail> {
 fn says_why_it_stops(rt: HostRuntime) -> Result<(), Fail> {
     for (stop, status, text) in [
         (Stop::Usage, 2, "usage: desk COMMAND WORDS"),
+        (Stop::Unread(FileFault::NoMemory), 1, "refused 26 NoMemory"),
+        (Stop::Unread(FileFault::Device), 1, "refused 6 Device"),
+        (
+            Stop::Unread(FileFault::ReadTooLong),
+            1,
+            "refused 38 ReadTooLong",
+        ),
         (
             Stop::Refused(DeskFault::BadByte(3)),
             1,

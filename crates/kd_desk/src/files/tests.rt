@@ -1,5 +1,5 @@
-use super::{read_named, read_whole};
-use crate::fault::DeskFault;
+use super::host::read_whole;
+use super::{FileFault, Files, HostFiles};
 use std::io::{self, Read};
 use std::test::Fail;
 
@@ -9,7 +9,7 @@ fn reads_to_the_limit(rt: HostRuntime) -> Result<(), Fail> {
         (0, Ok(0)),
         (5, Ok(5)),
         (1_048_576, Ok(1_048_576)),
-        (1_048_577, Err(DeskFault::ReadTooLong)),
+        (1_048_577, Err(FileFault::ReadTooLong)),
     ] {
         let spaces = io::repeat(b' ').take(count);
         let read = read_whole(rt.alloc(), spaces).map(|bytes| bytes.len());
@@ -20,6 +20,6 @@ fn reads_to_the_limit(rt: HostRuntime) -> Result<(), Fail> {
 
 #[test]
 fn a_file_that_is_not_there_is_a_failed_device(rt: HostRuntime) {
-    let read = read_named(&rt, "no such file");
-    assert_eq!(rt; read.map(|bytes| bytes.len()), Err(DeskFault::Device));
+    let read = HostFiles::new(&rt).read(rt.alloc(), "no such file");
+    assert_eq!(rt; read.map(|bytes| bytes.len()), Err(FileFault::Device));
 }

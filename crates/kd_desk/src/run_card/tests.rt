@@ -1,26 +1,9 @@
 use super::run_card;
 use crate::fault::DeskFault;
-use crate::sheet::SheetFault;
+use crate::samples::{MACHINE, SHEET};
+use crate::sheet::{Key, SheetFault};
 use kd_tables::{MemorySink, Sink};
 use std::test::Fail;
-
-const MACHINE: &str = "version = 1
-model = \"Enigma I\"
-reflector = \"B\"
-slots = [\"I\", \"II\", \"III\"]
-rings = \"AAAAA\"
-letters = \"AAAAA\"
-";
-
-const SHEET: &str = "[[day]]
-day = 11
-model = \"Enigma I\"
-reflector = \"B\"
-wheels = [\"I\", \"II\", \"III\"]
-rings = \"AAA\"
-window = \"AAA\"
-plugs = []
-";
 
 /// What stands in every card below behind its number of settings.
 const PRICES: &str = "CABLES 0 0 0 0 0 0 0 0 0 0 0 0 0\nPAIRS 0 0 0 0 0 0 0 0 0 0 0 0 0\nSUM 0\n";
@@ -114,14 +97,14 @@ fn refuses_the_first_fault_and_writes_nothing(rt: HostRuntime) -> Result<(), Fai
             "model = \"M3\"",
             "=",
             5,
-            DeskFault::File(SheetFault::Missing(crate::sheet::Key::Version)),
+            DeskFault::File(SheetFault::Missing(Key::Version)),
         ),
         (MACHINE, "=", 5, DeskFault::File(SheetFault::NotToml)),
         (
             MACHINE,
             "day = 5",
             5,
-            DeskFault::File(SheetFault::BadValue(crate::sheet::Key::Day)),
+            DeskFault::File(SheetFault::BadValue(Key::Day)),
         ),
         (MACHINE, SHEET, 5, DeskFault::NoSuchDay),
         (MACHINE, "day = []", 11, DeskFault::NoSuchDay),
@@ -136,18 +119,6 @@ fn refuses_the_first_fault_and_writes_nothing(rt: HostRuntime) -> Result<(), Fai
         );
         assert_eq!(rt; answer, Err(fault));
         assert!(rt; !sink.failed());
-    }
-    Ok(())
-}
-
-#[test]
-fn says_why_it_refuses(rt: HostRuntime) -> Result<(), Fail> {
-    for (fault, text) in [
-        (DeskFault::OtherModel, "5 OtherModel"),
-        (DeskFault::NoSuchDay, "39 NoSuchDay"),
-    ] {
-        let said = format!(in rt.alloc(); "{fault}")?;
-        assert_eq!(rt; said.as_str(), text);
     }
     Ok(())
 }

@@ -35,7 +35,10 @@ fn check_version(table: &Table) -> Result<(), SheetFault>
 /// The model whose name stands in the file.
 #[tactic(auto, unfolding(crate::specs::MachineFile::model_in))]
 pub fn model_in(table: &Table) -> Result<Model, SheetFault>
-    ensures { result ≡ model_in (table_view table.now) }
+    ensures value { result ≡ model_in (table_view table.now) }
+    ensures enigma { IfOk result (λ model. model ≡ Model.EnigmaI) }
+    ensures slots { IfOk result (λ model. slots_of model ≡ 3) }
+    ensures count { IfOk result (λ model. length (box_of model) ≡ 5) }
 {
     model_by_name(text_at(table, Key::Model)?).ok_or(SheetFault::UnknownModel)
 }
@@ -53,6 +56,7 @@ pub fn reflector_in(table: &Table, model: Model) -> Result<Reflector, SheetFault
 /// The seats of the model's slots.
 #[tactic(auto, unfolding(crate::specs::MachineFile::slots_in))]
 fn slots_in(table: &Table, model: Model) -> Result<[Option<Wheel>; 3], SheetFault>
+    requires { slots_of model ≡ 3 }
     ensures value { result ≡ slots_in model (table_view table.now) }
     ensures count { IfOk result (λ slots. length slots ≡ slots_of model) }
     ensures allowed { IfOk result (AreAllowed model) }
@@ -68,6 +72,7 @@ fn slots_in(table: &Table, model: Model) -> Result<[Option<Wheel>; 3], SheetFaul
 /// A letter for each wheel of the model's box.
 #[tactic(auto, unfolding(crate::specs::MachineFile::wheel_letters_in))]
 fn wheel_letters_in(table: &Table, model: Model, key: Key) -> Result<[Letter; 5], SheetFault>
+    requires { length (box_of model) ≡ 5 }
     ensures value { result ≡ wheel_letters_in key model (table_view table.now) }
     ensures letters { IfOk result (AreLetters (length (box_of model))) }
 {

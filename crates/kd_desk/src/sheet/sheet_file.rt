@@ -52,6 +52,7 @@ fn check_new(days: &[SheetDay], number: u8) -> Result<(), SheetFault>
 /// The wheels of the model's slots.
 #[tactic(auto, unfolding(crate::specs::SheetFile::wheels_in))]
 fn wheels_in(table: &Table, model: Model) -> Result<[Wheel; 3], SheetFault>
+    requires { slots_of model ≡ 3 }
     ensures value { result ≡ wheels_in model (table_view table.now) }
     ensures count { IfOk result (λ wheels. length wheels ≡ slots_of model) }
     ensures allowed { IfOk result (λ wheels. AreAllowed model (map Some wheels)) }
@@ -84,6 +85,7 @@ fn rings_of(value: &Value) -> Option<[Letter; 3]>
 /// The rings of the wheels in the model's slots.
 #[tactic(auto, unfolding(crate::specs::SheetFile::rings_in))]
 fn rings_in(table: &Table, model: Model) -> Result<[Letter; 3], SheetFault>
+    requires { slots_of model ≡ 3 }
     ensures value { result ≡ rings_in model (table_view table.now) }
     ensures letters { IfOk result (AreLetters (slots_of model)) }
 {
@@ -93,6 +95,7 @@ fn rings_in(table: &Table, model: Model) -> Result<[Letter; 3], SheetFault>
 /// The letters in the model's windows.
 #[tactic(auto, unfolding(crate::specs::SheetFile::window_in))]
 fn window_in(table: &Table, model: Model) -> Result<[Letter; 3], SheetFault>
+    requires { slots_of model ≡ 3 }
     ensures value { result ≡ window_in model (table_view table.now) }
     ensures letters { IfOk result (AreLetters (slots_of model)) }
 {

@@ -1,14 +1,7 @@
 use super::{Key, SheetFault, read_machine};
+use crate::samples::MACHINE;
 use kd_tables::Wheel;
 use std::test::Fail;
-
-const MACHINE: &str = "version = 1
-model = \"Enigma I\"
-reflector = \"B\"
-slots = [\"I\", \"II\", \"III\"]
-rings = \"AAAAA\"
-letters = \"AAAAA\"
-";
 
 #[test]
 fn reads_seats_in_order(rt: HostRuntime) -> Result<(), Fail> {

@@ -1,11 +1,10 @@
-ghost use Rattle.std.specs.Prelude.{◌≡◌, ◌<◌, ◌≤◌, ◌||◌, is_err, length};
+ghost use Rattle.std.specs.Prelude.{◌<◌, ◌≤◌, is_err, length};
+ghost use Rattle.kd_desk.specs.Ports.{Fail, port};
 ghost use Rattle.kd_desk.specs.TypingSteps.{StepTyped};
 
 use super::piece::{PIECE, allowed_front, type_piece};
-use crate::fault::DeskFault;
-use crate::ports::put_all;
 use kd_enigma::Enigma;
-use kd_tables::{Sink, Source};
+use kd_tables::{Device, Sink, Source, put_all};
 
 /// What the next bytes of a text were.
 #[derive(Clone, Copy, Debug, PartialEq, Eq)]
@@ -24,10 +23,12 @@ pub fn type_next<R: Source, W: Sink>(
     source: &mut R,
     sink: &mut W,
     room: usize,
-) -> Result<Step, DeskFault>
+) -> Result<Step, Device>
     requires { 0 < room }
-    ensures typed { StepTyped enigma.old enigma.new room (R.remaining source.old) (R.remaining source.new) (W.taken sink.old) (W.taken sink.new) (W.has_failed sink.new) result }
-    ensures failed { (R.has_failed source.new || W.has_failed sink.new) ≡ ((R.has_failed source.old || W.has_failed sink.old) || is_err result) }
+    ensures typed { StepTyped enigma.old enigma.new room (port R.remaining R.has_failed source.old source.new)
+        (port W.taken W.has_failed sink.old sink.new) result }
+    ensures failed { Fail (port R.remaining R.has_failed source.old source.new)
+        (port W.taken W.has_failed sink.old sink.new) (is_err result) }
 {
     let mut buffer = [0; PIECE];
     type_into(enigma, source, sink, &mut buffer[..room.min(PIECE)])
@@ -39,14 +40,16 @@ fn type_into<R: Source, W: Sink>(
     source: &mut R,
     sink: &mut W,
     buffer: &mut [u8],
-) -> Result<Step, DeskFault>
+) -> Result<Step, Device>
     requires some { 0 < length buffer.now }
     requires most { length buffer.now ≤ PIECE }
-    ensures typed { StepTyped enigma.old enigma.new (length buffer.old) (R.remaining source.old) (R.remaining source.new) (W.taken sink.old) (W.taken sink.new) (W.has_failed sink.new) result }
-    ensures failed { (R.has_failed source.new || W.has_failed sink.new) ≡ ((R.has_failed source.old || W.has_failed sink.old) || is_err result) }
+    ensures typed { StepTyped enigma.old enigma.new (length buffer.old) (port R.remaining R.has_failed source.old source.new)
+        (port W.taken W.has_failed sink.old sink.new) result }
+    ensures failed { Fail (port R.remaining R.has_failed source.old source.new)
+        (port W.taken W.has_failed sink.old sink.new) (is_err result) }
 {
     let Ok(count) = source.get(buffer) else {
-        return Err(DeskFault::Device);
+        return Err(Device);
     };
     if count == 0 {
         return Ok(Step::Ended);
@@ -54,9 +57,7 @@ fn type_into<R: Source, W: Sink>(
     let bytes = &buffer[..count];
     let front = allowed_front(bytes);
     let lamps = type_piece(enigma, &bytes[..front]);
-    let Ok(()) = put_all(sink, &lamps) else {
-        return Err(DeskFault::Device);
-    };
+    put_all(sink, &lamps)?;
     if front < count {
         return Ok(Step::Refused(front));
     }

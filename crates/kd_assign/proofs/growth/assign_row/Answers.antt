@@ -1,11 +1,15 @@
 use Rattle.std.proofs.Common.{◌+◌, count_by, is_some, ap, ◌∙◌, rules, arith}
-use Rattle.kd_assign.proofs.Free.{free_column, no_column, no_edge, taken-set}
+use Rattle.std.proofs.lemmas.List.Sums.{count_by-le-length}
+use Rattle.kd_assign.specs.Scans.{scans_of_tree}
+use Rattle.kd_assign.proofs.Comparing.{nearest_root}
+use Rattle.kd_assign.proofs.Counting.{none_counted, reached_at_most, scans_of_tree-grows, scans_of_tree-more, scans_of_tree-most}
+use Rattle.kd_assign.proofs.Free.{free_column, no_column, no_edge}
 use Rattle.kd_assign.proofs.Growing.{IsSound-turned}
 use Rattle.kd_assign.proofs.Places.{vacant_or}
 use Rattle.kd_assign.proofs.growth.assign_row.Goals as goal
 
-pub loop-tree-init : goal.loop-tree-init
-loop-tree-init g c =
+pub loop-free-init : goal.loop-free-init
+loop-free-init g c =
     let solved = c.requires.solved in
     let none = c.new-tree.ensures.none in
     rw c.new-tree.ensures.root record {
@@ -25,13 +29,22 @@ loop-tree-init g c =
         taken = λ j h. absurd (no_column _ none j h);
         free = free_column _ c.args.to.now (omega arith);
       };
+      nearest = nearest_root _ _ _ _ _ _ _ _ _ _ c.requires.costs solved.sound.small none c.new-nearest.ensures.far (omega arith) (λ j h. c.join.ensures.compared j (omega arith));
+      scans = (let empty = none_counted _ (no_column _ none) in rw empty (omega (arith, c.join.ensures.counted)));
     }
 
-pub returns-then-not-is_taken-clause-solved : goal.returns-then-not-is_taken-clause-solved
-returns-then-not-is_taken-clause-solved g c =
-    let so_far = c.loop-tree.invariant in
+pub grow-requires : goal.grow-requires
+grow-requires g c =
+    let so_far = c.loop-free.invariant in
+    let columns = count_by-le-length is_some c.loop-free.tree.reached in
+    let most = scans_of_tree-most g.row.N (count_by is_some c.loop-free.tree.reached + 1) c.requires.few in
+    (search rules, (search rules, (search rules, (search rules, (search rules, (search rules, (rw so_far.same_to c.holders_of-holders.ensures.holders, (c.requires.costs, (so_far.growing, (so_far.nearest, omega arith))))))))))
+
+pub returns-in-Some-clause-solved : goal.returns-in-Some-clause-solved
+returns-in-Some-clause-solved g c =
+    let so_far = c.loop-free.invariant in
     let solved = c.requires.solved in
-    let grow = c.grow-column.ensures in
+    let grow = c.grow.ensures in
     let turn = c.turn_round.ensures in
     record {
       partial = turn.partial;
@@ -40,22 +53,31 @@ returns-then-not-is_taken-clause-solved g c =
       rest = λ i h. turn.others i (λ same. omega arith) (rw so_far.same_to (solved.rest i (omega arith)));
     }
 
-pub loop-tree-preserved : goal.loop-tree-preserved
-loop-tree-preserved g c =
-    let so_far = c.loop-tree.invariant in
-    let before = so_far.growing in
-    let grow = c.grow-column.ensures in
+pub returns-in-Some-clause-least_scans : goal.returns-in-Some-clause-least_scans
+returns-in-Some-clause-least_scans g c =
+    let so_far = c.loop-free.invariant in
+    let least = scans_of_tree-grows g.row.N 1 (count_by is_some c.loop-free.tree.reached + 1) (omega arith) in
+    omega (arith, so_far.scans, c.in-Some.ensures.not_counted)
+
+pub returns-in-Some-clause-most_scans : goal.returns-in-Some-clause-most_scans
+returns-in-Some-clause-most_scans g c =
+    let so_far = c.loop-free.invariant in
+    let few = reached_at_most _ _ so_far.growing.taken in
+    let same = ap (λ to. count_by is_some to) so_far.same_to ∙ c.requires.solved.count in
+    let most = scans_of_tree-grows g.row.N (count_by is_some c.loop-free.tree.reached + 1) (c.args.row + 1) (omega arith) in
+    omega (arith, so_far.scans, c.in-Some.ensures.not_counted)
+
+pub loop-free-preserved : goal.loop-free-preserved
+loop-free-preserved g c =
+    let so_far = c.loop-free.invariant in
+    let grow = c.in_default.ensures in
+    let columns = count_by-le-length is_some c.grow.new.self.reached in
+    let more = scans_of_tree-more g.row.N (count_by is_some c.grow.new.self.reached) in
     record {
       len = so_far.len;
       same_to = so_far.same_to;
       root = grow.root ∙ so_far.root;
-      growing = record {
-        partial = before.partial;
-        sound = grow.sound;
-        root_in_range = rw grow.root before.root_in_range;
-        vacant = rw grow.root before.vacant;
-        tree = rw grow.root grow.tree;
-        taken = rw grow.added.1 (taken-set _ _ _ _ before.taken (c.is_taken.ensures.0 c.if-not-is_taken.false));
-        free = before.free;
-      };
+      growing = rw grow.root grow.growing;
+      nearest = rw grow.root grow.nearest;
+      scans = omega (arith, so_far.scans, grow.counted, ap (scans_of_tree g.row.N) grow.added);
     }

@@ -1,9 +1,12 @@
-use Rattle.std.proofs.Common.{◌≡◌, length}
+use Rattle.std.proofs.Common.{◌≡◌, ◌*◌, ◌≤◌, length}
 use Rattle.kd_assign.specs.Partial.{IsSolvedTo}
+use Rattle.kd_assign.specs.Scans.{scans_of_trees}
 use Rattle.kd_assign.proofs.solution.assign.Given as goal
 
 abbrev pub invariant-loop-row : goal.invariant-loop-row
 invariant-loop-row g l = record {
   len : length l.to ≡ g.row.N;
+  least_scans : g.row.N * l.row ≤ l.scans;
+  most_scans : l.scans ≤ scans_of_trees g.row.N l.row;
   solved : IsSolvedTo l.cost l.prices.row l.prices.col l.to l.row;
 }

@@ -1,7 +1,7 @@
-use Rattle.kd_tables.specs.Permutation.{exchange}
-use Rattle.kd_enigma.proofs.Turning.{alphabet_board}
+use Rattle.std.proofs.Common.{◌<◌, []}
+use Rattle.std.proofs.lemmas.List.Elements.{All-nil}
+use Rattle.kd_enigma.proofs.Cables.{plugboard_of}
 use Rattle.kd_enigma.proofs.laws.an_empty_board_is_a_plugboard.Goals as goal
 
 pub returns : goal.returns
-unfolding exchange
-returns c = alphabet_board
+returns c = plugboard_of [] tt (All-nil (λ letter. letter < 26))

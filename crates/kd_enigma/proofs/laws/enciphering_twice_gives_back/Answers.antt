@@ -1,5 +1,5 @@
-use Rattle.kd_enigma.proofs.Ciphers.{cipher_twice}
+use Rattle.kd_enigma.proofs.Ciphers.{twice_from}
 use Rattle.kd_enigma.proofs.laws.enciphering_twice_gives_back.Goals as goal
 
 pub returns : goal.returns
-returns c = cipher_twice c.tables_are_sound.ensures
+returns c = λ key text. twice_from c.tables_are_sound.ensures key 1 text

@@ -7,7 +7,7 @@ use Rattle.kd_step.proofs.countdown.countdown.Goals as goal
 
 pub loop-steps-preserved : goal.loop-steps-preserved
 loop-steps-preserved c = record {
-  letter = c.next-letter.ensures ∙ ap next_letter c.loop-steps.invariant.letter ∙ sym (letter_after_next c.args.window c.loop-steps.steps);
+  letter = c.next-letter.ensures.value ∙ ap next_letter c.loop-steps.invariant.letter ∙ sym (letter_after_next c.args.window c.loop-steps.steps);
   none_yet = below_more (λ n. is_notch c.args.wheel (letter_after c.args.window n) ≡ false) c.loop-steps.steps c.loop-steps.invariant.none_yet
       (ap (is_notch c.args.wheel) (sym c.loop-steps.invariant.letter) ∙ sym c.notched.ensures ∙ c.if-notched.false);
 }

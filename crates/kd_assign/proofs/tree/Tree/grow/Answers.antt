@@ -1,11 +1,63 @@
-use Rattle.std.proofs.Common.{w16, rules, arith}
-use Rattle.std.proofs.lemmas.Int.{to_z-of_z}
-use Rattle.kd_assign.proofs.Growing.{raised_at_most, lowered_at_least, by_low, sound_still, grown}
+use Rattle.std.proofs.Common.{refl, Some, get_or, set, w16, rules, arith}
+use Rattle.std.proofs.lemmas.Int.{ints, to_z-of_z}
+use Rattle.kd_assign.specs.Partial.{IsSound}
+use Rattle.kd_assign.specs.Tree.{AreNearest, IsTree, slack_at}
+use Rattle.kd_assign.proofs.Free.{taken-set}
+use Rattle.kd_assign.proofs.Places.{within}
+use Rattle.kd_assign.proofs.Growing.{IsNearest, AreMoved, AreMoved-none, raised_at_most, lowered_at_least, by_low, is_nearest, not_reached, nearest_still, sound_still, grown}
+use Rattle.kd_assign.proofs.tree.Tree.grow.Given.{Over}
 use Rattle.kd_assign.proofs.tree.Tree.grow.Goals as goal
+use Rattle.kd_assign.proofs.tree.Tree.grow.Goals.{After-nearest_column-column, Joined-by-gt0, then-by-gt0, else-by-gt0}
+
+-- the edge to the nearest column is the nearest one
+leaving : (g : Over) (c : After-nearest_column-column g) → IsNearest c.args.cost.now c.args.prices.now.row c.args.prices.now.col c.args.to.now c.args.self.now.root c.args.self.now.reached (get_or c.args.nearest.now.row c.nearest_column-column.result 0) c.nearest_column-column.result (slack_at c.args.nearest.now.slack c.nearest_column-column.result)
+leaving g c =
+    let call = c.nearest_column-column.ensures in
+    is_nearest _ _ _ _ _ _ c.requires.costs c.requires.growing _ _ c.requires.nearest _ (omega arith) call.outside (λ j h. call.least j (omega arith))
+
+-- what is kept of rows stays as prices move
+kept : (g : Over) (c : Joined-by-gt0 g) → AreNearest c.args.cost.now c.args.prices.now.row c.args.prices.now.col c.args.to.now c.args.self.now.root c.args.self.now.reached c.if-by-gt0.nearest.row c.args.nearest.now.slack
+kept g c = elim c.if-by-gt0.branch [ then-by-gt0 w ↦ rw w.nearest-is c.requires.nearest | else-by-gt0 w ↦ rw w.nearest-is c.requires.nearest ]
+
+-- so the nearest edge is the same
+nearest_edge : (g : Over) (c : Joined-by-gt0 g) → IsNearest c.args.cost.now c.args.prices.now.row c.args.prices.now.col c.args.to.now c.args.self.now.root c.args.self.now.reached (get_or c.if-by-gt0.nearest.row c.nearest_column-column.result 0) c.nearest_column-column.result (slack_at c.args.nearest.now.slack c.nearest_column-column.result)
+nearest_edge g c =
+    let call = c.nearest_column-column.ensures in
+    is_nearest _ _ _ _ _ _ c.requires.costs c.requires.growing _ _ (kept g c) _ (omega arith) call.outside (λ j h. call.least j (omega arith))
+
+-- whether or not there is anything to move, it moves by the slack there
+moved : (g : Over) (c : Joined-by-gt0 g) → AreMoved c.args.to.now c.args.self.now.root c.args.self.now.reached (slack_at c.args.nearest.now.slack c.nearest_column-column.result) c.args.prices.now.row c.args.prices.now.col c.args.nearest.now.slack c.if-by-gt0.prices.row c.if-by-gt0.prices.col c.if-by-gt0.nearest.slack
+moved g c =
+    let fits = to_z-of_z w16 (slack_at c.args.nearest.now.slack c.nearest_column-column.result) (search rules) in
+    let sound = c.requires.growing.sound in
+    elim c.if-by-gt0.branch [
+      | then-by-gt0 w ↦ rw (w.prices-is, w.nearest-is) record {
+        rows = omega arith;
+        columns = omega arith;
+        raised = λ i h. rw (← fits) (w.raise_rows.ensures.prices i (omega arith));
+        lowered = λ j h. rw (← fits) (w.lower_columns.ensures.prices j (omega arith));
+        fallen = λ j h misses. rw (← fits) (w.lower_slacks.ensures.slacks j (omega arith) misses);
+      }
+      | else-by-gt0 w ↦ rw (w.prices-is, w.nearest-is) (AreMoved-none _ _ _ _ _ _ _ sound.rows sound.columns (let low = by_low _ _ _ _ _ _ c.requires.costs c.requires.growing _ _ _ _ (nearest_edge g c) refl in let high = rw fits at w.if-by-gt0.false in grind (arith, ints)))
+    ]
+
+-- the prices that moved are sound
+sound : (g : Over) (c : Joined-by-gt0 g) → IsSound c.args.cost.now c.if-by-gt0.prices.row c.if-by-gt0.prices.col c.args.to.now
+sound g c = sound_still _ _ _ _ _ _ c.requires.costs c.requires.growing _ _ _ _ (nearest_edge g c) refl _ _ _ _ (moved g c)
+
+-- and the tree has one edge more
+tree : (g : Over) (c : Joined-by-gt0 g) → IsTree c.args.cost.now c.if-by-gt0.prices.row c.if-by-gt0.prices.col c.args.to.now c.args.self.now.root (set c.args.self.now.reached c.nearest_column-column.result (Some (get_or c.if-by-gt0.nearest.row c.nearest_column-column.result 0)))
+tree g c = grown _ _ _ _ _ _ c.requires.costs c.requires.growing _ _ _ _ (nearest_edge g c) refl _ _ _ _ (moved g c)
+
+pub nearest_column-column-requires : goal.nearest_column-column-requires
+nearest_column-column-requires g c =
+    let free = c.requires.growing.free in
+    (search rules, (search rules, (search rules, (free.0, omega (arith, free.1), not_reached _ _ _ _ _ _ c.requires.costs c.requires.growing free.0 free.2))))
 
 pub raise_rows-requires : goal.raise_rows-requires
 raise_rows-requires g c =
-    let slack_fits = to_z-of_z w16 c.nearest_edge-edge.result.slack (search rules) in (
+    let nearest = leaving g (goal.at.raise_rows-requires g c).After-nearest_column-column in
+    let fits = to_z-of_z w16 (slack_at c.args.nearest.now.slack c.nearest_column-column.result) (search rules) in (
       search rules,
       (
         search rules,
@@ -14,8 +66,8 @@ raise_rows-requires g c =
           (
             c.requires.growing.sound.small.row_low,
             (
-              λ i h. raised_at_most _ _ _ _ _ _ c.requires.costs c.requires.growing _ _ _ _ c.nearest_edge-edge.ensures slack_fits i,
-              (by_low _ _ _ _ _ _ c.requires.costs c.requires.growing _ _ _ _ c.nearest_edge-edge.ensures slack_fits, search rules),
+              λ i h. raised_at_most _ _ _ _ _ _ c.requires.costs c.requires.growing _ _ _ _ nearest fits i,
+              (by_low _ _ _ _ _ _ c.requires.costs c.requires.growing _ _ _ _ nearest fits, search rules),
             ),
           ),
         ),
@@ -24,26 +76,64 @@ raise_rows-requires g c =
 
 pub lower_columns-requires : goal.lower_columns-requires
 lower_columns-requires g c =
-    let slack_fits = to_z-of_z w16 c.nearest_edge-edge.result.slack (search rules) in (
+    let nearest = leaving g (goal.at.lower_columns-requires g c).After-nearest_column-column in
+    let fits = to_z-of_z w16 (slack_at c.args.nearest.now.slack c.nearest_column-column.result) (search rules) in (
       search rules,
       (
         search rules,
         (
-          λ j h. lowered_at_least _ _ _ _ _ _ c.requires.costs c.requires.growing _ _ _ _ c.nearest_edge-edge.ensures slack_fits j,
-          (
-            c.requires.growing.sound.small.col_high,
-            by_low _ _ _ _ _ _ c.requires.costs c.requires.growing _ _ _ _ c.nearest_edge-edge.ensures slack_fits,
-          ),
+          λ j h. lowered_at_least _ _ _ _ _ _ c.requires.costs c.requires.growing _ _ _ _ nearest fits j,
+          (c.requires.growing.sound.small.col_high, by_low _ _ _ _ _ _ c.requires.costs c.requires.growing _ _ _ _ nearest fits),
         ),
       ),
     )
 
-pub returns-clause-sound : goal.returns-clause-sound
-returns-clause-sound g c =
-    let slack_fits = to_z-of_z w16 c.nearest_edge-edge.result.slack (search rules) in
-    sound_still _ _ _ _ _ _ c.requires.costs c.requires.growing _ _ _ _ c.nearest_edge-edge.ensures slack_fits _ _ (omega arith) (omega arith) (λ i h. c.raise_rows.ensures.prices i (omega arith)) (λ j h. c.lower_columns.ensures.prices j (omega arith))
+pub lower_slacks-requires : goal.lower_slacks-requires
+lower_slacks-requires g c =
+    let nearest = leaving g (goal.at.lower_slacks-requires g c).After-nearest_column-column in
+    let fits = to_z-of_z w16 (slack_at c.args.nearest.now.slack c.nearest_column-column.result) (search rules) in (
+      search rules,
+      (
+        search rules,
+        (
+          λ j h outside. rw fits (c.nearest_column-column.ensures.least j (omega arith) outside),
+          by_low _ _ _ _ _ _ c.requires.costs c.requires.growing _ _ _ _ nearest fits,
+        ),
+      ),
+    )
 
-pub returns-clause-tree : goal.returns-clause-tree
-returns-clause-tree g c =
-    let slack_fits = to_z-of_z w16 c.nearest_edge-edge.result.slack (search rules) in
-    grown _ _ _ _ _ _ c.requires.costs c.requires.growing _ _ _ _ c.nearest_edge-edge.ensures slack_fits _ _ (omega arith) (omega arith) (λ i h. c.raise_rows.ensures.prices i (omega arith)) (λ j h. c.lower_columns.ensures.prices j (omega arith))
+pub join-requires : goal.join-requires
+join-requires g c =
+    let in_list = within c.args.to.now c.in-Some.holder c.nearest_column-column.result (c.requires.holders.holds _ _ c.in-Some.is) in
+    (search rules, (search rules, (search rules, (search rules, (search rules, (omega arith, (c.requires.costs, ((sound g (goal.at.join-requires g c).Joined-by-gt0).small, search rules))))))))
+
+pub returns-in-Some-clause-sound : goal.returns-in-Some-clause-sound
+returns-in-Some-clause-sound g c = sound g (goal.at.returns-in-Some-clause-sound g c).Joined-by-gt0
+
+pub returns-in-Some-clause-tree : goal.returns-in-Some-clause-tree
+returns-in-Some-clause-tree g c = tree g (goal.at.returns-in-Some-clause-tree g c).Joined-by-gt0
+
+pub returns-in-None-clause-sound : goal.returns-in-None-clause-sound
+returns-in-None-clause-sound g c = sound g (goal.at.returns-in-None-clause-sound g c).Joined-by-gt0
+
+pub returns-in-None-clause-tree : goal.returns-in-None-clause-tree
+returns-in-None-clause-tree g c = tree g (goal.at.returns-in-None-clause-tree g c).Joined-by-gt0
+
+pub returns-in-Some-clause-growing : goal.returns-in-Some-clause-growing
+returns-in-Some-clause-growing g c =
+    let before = c.requires.growing in
+    let moved = (goal.at.returns-in-Some-clause-growing g c).Joined-by-gt0 in
+    record {
+      partial = before.partial;
+      sound = sound g moved;
+      root_in_range = before.root_in_range;
+      vacant = before.vacant;
+      tree = tree g moved;
+      taken = taken-set _ _ _ _ before.taken (c.in-Some.holder, (c.requires.holders.holds _ _ c.in-Some.is));
+      free = before.free;
+    }
+
+pub returns-in-Some-clause-nearest : goal.returns-in-Some-clause-nearest
+returns-in-Some-clause-nearest g c =
+    let before = (goal.at.returns-in-Some-clause-nearest g c).Joined-by-gt0 in
+    nearest_still _ _ _ _ _ _ c.requires.costs c.requires.growing _ _ _ _ (nearest_edge g before) refl _ _ _ _ (moved g before) c.in-Some.holder (c.requires.holders.holds _ _ c.in-Some.is) _ _ _ (kept g before) (λ j h. c.join.ensures.compared j (omega arith))

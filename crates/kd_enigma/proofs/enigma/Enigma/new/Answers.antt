@@ -22,6 +22,8 @@ invariant_of-result g c = (
       ∙ sym (ap (λ (s : Stepping). s.wheels) c.new-2.ensures),
   c.reflecting.ensures.table,
   c.tables_are_sound.ensures,
+  c.requires.least,
+  c.requires.most,
 )
 
 pub returns : goal.returns

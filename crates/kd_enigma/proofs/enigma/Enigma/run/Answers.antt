@@ -1,7 +1,7 @@
 use Rattle.std.proofs.Common.{◌≡◌, ◌≢◌, ◌∙◌, ◌<◌, ap, subst, length, get_or, slice_index, slice_set, get_or-set_other, get_or-set_same, below_more, [], ◌∷◌, arith}
-use Rattle.std.proofs.lemmas.List.{get_or_default}
+use Rattle.std.proofs.lemmas.List.{get_or_default, ext_get_or}
 use Rattle.kd_enigma.specs.Cipher.{RotorKey, enigma_cipher, key_after}
-use Rattle.kd_enigma.proofs.Ciphers.{same_text, length-cipher, key_after_next, next_letter_of_cipher}
+use Rattle.kd_enigma.proofs.Ciphers.{length-cipher, key_after_next, next_letter_of_cipher}
 use Rattle.kd_enigma.proofs.enigma.Enigma.run.Goals as goal
 
 pub loop-letter-preserved : goal.loop-letter-preserved
@@ -26,5 +26,4 @@ pub returns-clause-cipher : goal.returns-clause-cipher
 returns-clause-cipher g c =
     let key = c.args.self.now in
     let text = c.args.text.now in
-    same_text c.loop-letter.text (enigma_cipher key text) (omega (arith, length-cipher key text))
-    (λ k lt. c.loop-letter.invariant.done k (omega (arith, length-cipher key text)))
+    ext_get_or 0 c.loop-letter.text (enigma_cipher key text) (omega (arith, length-cipher key text)) (λ k lt. c.loop-letter.invariant.done k (omega arith))

@@ -1,5 +1,6 @@
-use Rattle.std.proofs.Common.{◌≡◌, ℕ, ◌<◌, length, get_or}
+use Rattle.std.proofs.Common.{take}
+use Rattle.kd_enigma.proofs.Cables.{IsPlugged}
 use Rattle.kd_enigma.proofs.plugs.Plugs.from_pairs.Given as goal
 
-abbrev pub invariant-loop-index : goal.invariant-loop-index
-invariant-loop-index l = (length l.table ≡ 26) × ((k : ℕ) → k < l.index → get_or l.table k 0 ≡ k)
+abbrev pub invariant-loop-one : goal.invariant-loop-one
+invariant-loop-one l = IsPlugged l.table (take l.one-index l.pairs)

@@ -1,0 +1,46 @@
+//! A count of comparisons, which only a comparison raises.
+ghost use Rattle.std.specs.Prelude.{◌≡◌, ℕ, ◌+◌, ◌<◌, ◌↔◌, IsTrue, ◌<ℤ◌};
+
+use std::marker::Model;
+
+/// How many slacks have been compared. The field is private to this module, so that a formula in
+/// the place of the count doesn't compile elsewhere.
+#[derive(Clone, Copy, Debug, PartialEq, Eq)]
+pub struct Scans {
+    count: u32,
+}
+
+impl Model for Scans {
+    ghost Value = { ℕ };
+
+    ghost view = { λ s. s.count };
+
+    ghost inverse = { λ n. record { count = n } };
+}
+
+impl Scans {
+    /// No comparison yet.
+    pub fn new() -> Self
+        ensures { result ≡ 0 }
+    {
+        Scans { count: 0 }
+    }
+
+    /// Whether the new slack is less. This is one comparison, and it is counted.
+    pub fn closer(&mut self, slack: i16, new: i16) -> bool
+        requires room { self.old < 4294967295 }
+        ensures less { IsTrue result ↔ (new <ℤ slack) }
+        ensures counted { self.new ≡ self.old + 1 }
+    {
+        self.count += 1;
+        new < slack
+    }
+
+    /// How many comparisons were made.
+    pub fn count(self) -> u32
+        ensures { result ≡ self }
+    {
+        let Scans { count } = self;
+        count
+    }
+}

@@ -1,0 +1,92 @@
+-- How often letters are among others.
+use Rattle.std.proofs.Common.{◌≡◌, ◌≢◌, ℕ, zero, suc, ◌+◌, ◌<◌, ◌≤◌, nat_eq, Bool, true, false, ◌||◌, cond, inl, inr, List, [], ◌∷◌, ◌++◌, AllPairs, count_by, refl, sym, ap, ◌∙◌, arith}
+use Rattle.std.specs.List.{AllByRecursion, IsDistinct, range_with_len}
+use Rattle.std.proofs.lemmas.Bool.{eqb-true, eq-eqb, false≢true, ne_eqb}
+use Rattle.std.proofs.lemmas.Bool.Decides.{eqb_tells}
+use Rattle.std.proofs.lemmas.List.Elements.{recursion_from_All}
+use Rattle.std.proofs.lemmas.List.Sums.{sum_by-append, sum_by-cons}
+use Rattle.std.proofs.lemmas.Map.Made.{AllPairs-from_IsDistinct}
+use Rattle.kd_tables.specs.Permutation.{alphabet}
+use Rattle.kd_state.specs.Setting.{has_letter}
+
+-- one more element to count
+pub count_by-cons : {X : Type 0} (p : X → Bool) (x : X) (xs : List X) → count_by p (x ∷ xs) ≡ cond (p x) 1 0 + count_by p xs
+count_by-cons p x xs = sum_by-cons (λ y. cond (p y) 1 0) x xs
+
+pub at_most_one : (b : Bool) → cond b 1 0 ≤ 1
+at_most_one true = omega arith
+at_most_one false = omega arith
+
+-- how often the letter is among these
+abbrev pub times : ℕ → List ℕ → ℕ
+times letter letters = count_by (nat_eq letter) letters
+
+pub times-append : (letter : ℕ) (xs ys : List ℕ) → times letter (xs ++ ys) ≡ times letter xs + times letter ys
+times-append letter xs ys = sum_by-append (λ other. cond (nat_eq letter other) 1 0) xs ys
+
+-- letters of which none lies in two places
+abbrev pub AreOnce : List ℕ → Type 0
+AreOnce letters = (letter : ℕ) → times letter letters ≤ 1
+
+times_apart : (letter : ℕ) (letters : List ℕ) → AllByRecursion (λ other. letter ≢ other) letters → times letter letters ≡ 0
+times_apart letter [] h = refl
+times_apart letter (other ∷ letters) h = count_by-cons (nat_eq letter) other letters ∙ rw (ne_eqb letter other h.0, times_apart letter letters h.1) refl
+
+once_of_apart : (letters : List ℕ) → AllPairs (λ letter other. letter ≢ other) letters → AreOnce letters
+once_of_apart [] apart letter = omega arith
+once_of_apart (other ∷ letters) apart letter =
+    let more = count_by-cons (nat_eq letter) other letters in
+    elim (eqb_tells letter other) [
+      | inl here ↦
+          let rest = times_apart other letters (recursion_from_All (λ next. other ≢ next) letters (λ k d lt. apart zero (suc k) d (omega arith) (omega arith))) in
+          let same = ap (λ x. times x letters) here.1 in
+          omega (arith, at_most_one (nat_eq letter other))
+      | inr away ↦
+          let head = ap (λ b. cond {A = ℕ} b 1 0) away.0 in
+          omega (arith, once_of_apart letters (λ i j d before lt. apart (suc i) (suc j) d (omega arith) (omega arith)) letter)
+    ]
+
+pub once_of_distinct : (letters : List ℕ) → IsDistinct nat_eq letters → AreOnce letters
+once_of_distinct letters distinct = once_of_apart letters (AllPairs-from_IsDistinct (λ a b. (eqb-true a b, eq-eqb a b)) letters distinct)
+
+-- each letter stands once in the alphabet
+once_from : (letter a n : ℕ) → (times letter (range_with_len a n) ≤ 1) × (letter < a → times letter (range_with_len a n) ≡ 0)
+once_from letter a zero = (omega arith, λ _. refl)
+once_from letter a (suc n) =
+    let rest = once_from letter (a + 1) n in
+    let more = count_by-cons (nat_eq letter) a (range_with_len (a + 1) n) in
+    elim (eqb_tells letter a) [
+      | inl here ↦
+          let head : cond {A = ℕ} (nat_eq letter a) 1 0 ≡ 1 = rw (here.0) refl in
+          let none = rest.1 (omega arith) in
+          (omega arith, λ less. absurd (omega arith))
+      | inr away ↦
+          let head : cond {A = ℕ} (nat_eq letter a) 1 0 ≡ 0 = rw (away.0) refl in
+          (omega (arith, rest.0), λ less. let none = rest.1 (omega arith) in omega arith)
+    ]
+
+pub once_in_alphabet : AreOnce alphabet
+once_in_alphabet letter = (once_from letter 0 26).0
+
+-- a letter that isn't among these, and one more
+or_false : (a b : Bool) → (a || b) ≡ false → (a ≡ false) × (b ≡ false)
+or_false true b e = absurd (false≢true (sym e))
+or_false false b e = (refl, e)
+
+not_among : (letters : List ℕ) (letter : ℕ) → has_letter letters letter ≡ false → AllByRecursion (λ other. letter ≢ other) letters
+not_among [] letter e = tt
+not_among (other ∷ letters) letter e =
+    let both = or_false (nat_eq other letter) (has_letter letters letter) e in (
+      elim (eqb_tells other letter) [ inl same ↦ absurd (false≢true (sym both.0 ∙ same.0)) | inr away ↦ λ same. away.1 (sym same) ],
+      not_among letters letter both.1,
+    )
+
+pub once_more : (l letter : ℕ) (letters : List ℕ) → AreOnce letters → has_letter letters letter ≡ false → times l letters + times l (letter ∷ []) ≤ 1
+once_more l letter letters once none =
+    let more = count_by-cons (nat_eq l) letter [] in
+    elim (eqb_tells l letter) [
+      | inl here ↦
+          let same = ap (λ x. times x letters) here.1 in
+          omega (arith, at_most_one (nat_eq l letter), times_apart letter letters (not_among letters letter none))
+      | inr away ↦ let head = ap (λ b. cond {A = ℕ} b 1 0) away.0 in omega (arith, once l)
+    ]

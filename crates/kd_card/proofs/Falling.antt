@@ -1,0 +1,159 @@
+-- What a pairing of cables with pairs, or of bars with rows, costs falls by at most one with each setting that changes a
+-- cable or a bar, and doesn't change with the others.
+use Rattle.std.proofs.Common.{◌≡◌, ℕ, zero, suc, ◌+◌, ◌-◌, ◌≤◌, nat_eq, min, Bool, true, false, cond, inl, inr, List, [], ◌∷◌, get_or, set, map, fold, find, count_by, Option, Some, None, unwrap_or, slice_get, ℤ, refl, sym, ap, ◌∙◌, subst, arith}
+use Rattle.std.specs.List.{AllByRecursion}
+use Rattle.std.specs.Option.{option_map, option_map_or}
+use Rattle.std.proofs.lemmas.Option.{unwrap_or-slice_get}
+use Rattle.kd_tables.specs.declared.place.Place.{Place}
+use Rattle.kd_tables.specs.declared.lug.Lug.{Lug}
+use Rattle.kd_tables.specs.declared.lug.Lug.TheVariants.{Left, Right}
+use Rattle.kd_tables.specs.Permutation.{alphabet}
+use Rattle.kd_state.specs.declared.rotor_parts.RotorParts.{RotorParts}
+use Rattle.kd_state.specs.declared.pin_parts.PinParts.{PinParts}
+use Rattle.kd_state.specs.declared.parts.Parts.{Parts}
+use Rattle.kd_state.specs.declared.parts.Parts.TheVariants.{Rotor, Pin}
+use Rattle.kd_state.specs.declared.setting.Setting.{Setting}
+use Rattle.kd_state.specs.declared.setting.Setting.TheVariants.{Pull, Put, Seat, SeatReflector, RingTo, Turn, PinTo, LugTo}
+use Rattle.kd_state.specs.declared.why.Why.{Why}
+use Rattle.kd_state.specs.Machine.{cable_letters}
+use Rattle.kd_state.specs.Setting.{has_letter, is_at, reasons, why_refused, cable_at, cable_without, cable_with, with_lug, with_lug_at, changed}
+use Rattle.kd_state.specs.Costs.{differ, unless_same, column_letters, cable_cost, lugs_moved, standings_as, bar_cost}
+use Rattle.kd_card.specs.Proving.{is_priced}
+use Rattle.kd_card.proofs.Counts.{count_by-cons, once_in_alphabet}
+use Rattle.kd_card.proofs.Cables.{SameBut, same_but, same_but-sym, pulled, put}
+use Rattle.kd_card.proofs.Duality.{pairing_cost}
+
+-- one row is changed
+pairing_cost-set : {A B : Type 0} (cost : A → B → ℕ) (rows : List A) (ws : List (B × ℤ)) (i : ℕ) (row d : A)
+    → ((column : B) → cost (get_or rows i d) column ≤ cost row column + 1) → pairing_cost cost rows ws ≤ pairing_cost cost (set rows i row) ws + 1
+pairing_cost-set cost [] ws i row d h = omega arith
+pairing_cost-set cost (now ∷ rows) [] zero row d h = omega arith
+pairing_cost-set cost (now ∷ rows) [] (suc i) row d h = omega arith
+pairing_cost-set cost (now ∷ rows) (w ∷ ws) zero row d h = omega (arith, h w.0)
+pairing_cost-set cost (now ∷ rows) (w ∷ ws) (suc i) row d h = omega (arith, pairing_cost-set cost rows ws i row d h)
+
+one_more : (a b t : Bool) → cond {A = ℕ} (differ a b) 1 0 ≤ cond (differ t b) 1 0 + 1
+one_more true true true = omega arith
+one_more true true false = omega arith
+one_more true false true = omega arith
+one_more true false false = omega arith
+one_more false true true = omega arith
+one_more false true false = omega arith
+one_more false false true = omega arith
+one_more false false false = omega arith
+
+counted_apart : (letters others wanted : List ℕ) (x : ℕ) → SameBut x letters others → (alphabet : List ℕ)
+    → count_by (λ letter. differ (has_letter letters letter) (has_letter wanted letter)) alphabet
+    ≤ count_by (λ letter. differ (has_letter others letter) (has_letter wanted letter)) alphabet + count_by (nat_eq x) alphabet
+counted_apart letters others wanted x same [] = omega arith
+counted_apart letters others wanted x same (letter ∷ alphabet) =
+    let before = count_by-cons (λ letter. differ (has_letter letters letter) (has_letter wanted letter)) letter alphabet in
+    let after = count_by-cons (λ letter. differ (has_letter others letter) (has_letter wanted letter)) letter alphabet in
+    let here = count_by-cons (nat_eq x) letter alphabet in
+    let rest = counted_apart letters others wanted x same alphabet in
+    elim (same letter) [
+      | inl e ↦ let head = ap (λ b. cond {A = ℕ} (differ b (has_letter wanted letter)) 1 0) e in omega arith
+      | inr e ↦
+          let most = one_more (has_letter letters letter) (has_letter wanted letter) (has_letter others letter) in
+          let head : cond {A = ℕ} (nat_eq x letter) 1 0 ≡ 1 = rw e refl in
+          omega arith
+    ]
+
+cable_cost_step : (cable other : Option ℕ × Option ℕ) (x : ℕ) → SameBut x (cable_letters cable) (cable_letters other)
+    → (column : Option (ℕ × ℕ)) → cable_cost cable column ≤ cable_cost other column + 1
+cable_cost_step cable other x same column =
+    omega (arith, counted_apart (cable_letters cable) (cable_letters other) (column_letters column) x same alphabet, once_in_alphabet x)
+
+-- why a setting is not refused
+pub none_of_them : (reasons : List (Bool × Why)) → option_map (λ (reason : Bool × Why). reason.1) (find (λ reason. reason.0) reasons) ≡ None → AllByRecursion (λ reason. reason.0 ≡ false) reasons
+none_of_them [] e = tt
+none_of_them ((true, why) ∷ reasons) e = cc
+none_of_them ((false, why) ∷ reasons) e = (refl, none_of_them reasons e)
+
+pub one_less : (place : ℕ) → suc place - 1 ≡ place
+one_less place = omega arith
+
+-- One cable is changed.
+cables_fall : (cables : List (Option ℕ × Option ℕ)) (ws : List (Option (ℕ × ℕ) × ℤ)) (place : ℕ) (was now : Option ℕ × Option ℕ) (x : ℕ) → was ≡ get_or cables place (None, None)
+    → SameBut x (cable_letters was) (cable_letters now) → pairing_cost cable_cost cables ws ≤ pairing_cost cable_cost (set cables (suc place - 1) now) ws + 1
+cables_fall cables ws place was now x here same =
+    rw (one_less place)
+    (pairing_cost-set cable_cost cables ws place now (None, None)
+    (λ column. subst (λ cable. cable_cost cable column ≤ cable_cost now column + 1) here (cable_cost_step was now x same column)))
+
+pull_falls : (m : RotorParts) (cable letter : ℕ) (ws : List (Option (ℕ × ℕ) × ℤ)) → why_refused (Rotor m) (Pull cable letter) ≡ None
+    → pairing_cost cable_cost m.cables ws ≤ pairing_cost cable_cost (set m.cables (cable - 1) (cable_without letter (cable_at m cable))) ws + 1
+pull_falls m zero letter ws e = cc
+pull_falls m (suc place) letter ws e =
+    let was = cable_at m (suc place) in
+    let now = cable_without letter was in
+    let falls : (x : ℕ) → SameBut x (cable_letters was) (cable_letters now) → pairing_cost cable_cost m.cables ws ≤ pairing_cost cable_cost (set m.cables (suc place - 1) now) ws + 1
+    = λ x. cables_fall m.cables ws place was now x (unwrap_or-slice_get m.cables place (None, None)) in
+    elim (pulled letter was) [
+      | inl same ↦ falls 0 (λ l. inl (ap (λ letters. has_letter letters l) (sym same)))
+      | inr less ↦ falls less.0 (same_but less.0 (cable_letters now) (cable_letters was) less.1)
+    ]
+
+put_falls : (m : RotorParts) (cable letter : ℕ) (ws : List (Option (ℕ × ℕ) × ℤ)) → why_refused (Rotor m) (Put cable letter) ≡ None
+    → pairing_cost cable_cost m.cables ws ≤ pairing_cost cable_cost (set m.cables (cable - 1) (cable_with letter (cable_at m cable))) ws + 1
+put_falls m zero letter ws e = cc
+put_falls m (suc place) letter ws e =
+    let was = cable_at m (suc place) in
+    let now = cable_with letter was in
+    let more = put letter was (none_of_them (reasons (Rotor m) (Put (suc place) letter)) e).1.0 in
+    cables_fall m.cables ws place was now letter (unwrap_or-slice_get m.cables place (None, None))
+    (same_but-sym letter (cable_letters now) (cable_letters was) (same_but letter (cable_letters was) (cable_letters now) more))
+
+-- one lug of a bar is moved
+pub unless_same_at_most : (b : Bool) → unless_same b ≤ 1
+unless_same_at_most true = omega arith
+unless_same_at_most false = omega arith
+
+lugs_moved_step : (lug : Lug) (place : Place) (standing other : Place × Place) → lugs_moved standing other ≤ lugs_moved (with_lug lug place standing) other + 1
+lugs_moved_step Left place standing other = omega (arith, unless_same_at_most (is_at standing.0 other.0))
+lugs_moved_step Right place standing other = omega (arith, unless_same_at_most (is_at standing.1 other.1))
+
+least_falls : {X : Type 0} (f g : X → ℕ) → ((x : X) → f x ≤ g x + 1) → (xs : List X) (a b : ℕ) → a ≤ b + 1 → fold min a (map f xs) ≤ fold min b (map g xs) + 1
+least_falls f g h [] a b start = start
+least_falls f g h (x ∷ xs) a b start = least_falls f g h xs (min a (f x)) (min b (g x)) (omega (arith, h x))
+
+bar_cost_step : (lug : Lug) (place : Place) (standing : Place × Place) (row : ℕ × ℕ) → bar_cost standing row ≤ bar_cost (with_lug lug place standing) row + 1
+bar_cost_step lug place standing row =
+    least_falls (lugs_moved standing) (lugs_moved (with_lug lug place standing)) (lugs_moved_step lug place standing) (standings_as row) 2 2 (omega arith)
+
+lug_falls_at : (bars : List (Place × Place)) (ws : List ((ℕ × ℕ) × ℤ)) (bar : ℕ) (lug : Lug) (place : Place) (found : Option (Place × Place)) → slice_get bars bar ≡ found
+    → pairing_cost bar_cost bars ws ≤ pairing_cost bar_cost (option_map_or (λ standing. set bars (suc bar - 1) (with_lug lug place standing)) found bars) ws + 1
+lug_falls_at bars ws bar lug place None e = omega arith
+lug_falls_at bars ws bar lug place (Some standing) e =
+    let here : get_or bars bar standing ≡ standing = sym (unwrap_or-slice_get bars bar standing) ∙ ap (λ o. unwrap_or o standing) e in
+    rw (one_less bar)
+    (pairing_cost-set bar_cost bars ws bar (with_lug lug place standing) standing
+    (λ row. subst (λ was. bar_cost was row ≤ bar_cost (with_lug lug place standing) row + 1) (sym here) (bar_cost_step lug place standing row)))
+
+lug_falls : (m : PinParts) (bar : ℕ) (lug : Lug) (place : Place) (ws : List ((ℕ × ℕ) × ℤ)) → pairing_cost bar_cost m.bars ws ≤ pairing_cost bar_cost (with_lug_at m bar lug place) ws + 1
+lug_falls m zero lug place ws = omega arith
+lug_falls m (suc bar) lug place ws = lug_falls_at m.bars ws bar lug place (slice_get m.bars bar) refl
+
+-- What a machine's cables cost at some columns, or its bars at some rows, each with a price of its own.
+abbrev pub paired_cost : Parts → List (Option (ℕ × ℕ) × ℤ) → List ((ℕ × ℕ) × ℤ) → ℕ
+paired_cost (Rotor m) columns rows = pairing_cost cable_cost m.cables columns
+paired_cost (Pin m) columns rows = pairing_cost bar_cost m.bars rows
+
+pub falls : (m : Parts) (x : Setting) (columns : List (Option (ℕ × ℕ) × ℤ)) (rows : List ((ℕ × ℕ) × ℤ)) → why_refused m x ≡ None
+    → paired_cost m columns rows ≤ paired_cost (changed m x) columns rows + cond (is_priced x) 1 0
+falls (Rotor m) (Pull cable letter) columns rows e = pull_falls m cable letter columns e
+falls (Rotor m) (Put cable letter) columns rows e = put_falls m cable letter columns e
+falls (Rotor m) (Seat slot wheel) columns rows e = omega arith
+falls (Rotor m) (SeatReflector reflector) columns rows e = omega arith
+falls (Rotor m) (RingTo wheel letter) columns rows e = omega arith
+falls (Rotor m) (Turn slot letter) columns rows e = omega arith
+falls (Rotor m) (PinTo wheel letter effective) columns rows e = omega arith
+falls (Rotor m) (LugTo bar lug place) columns rows e = omega arith
+falls (Pin m) (Pull cable letter) columns rows e = omega arith
+falls (Pin m) (Put cable letter) columns rows e = omega arith
+falls (Pin m) (Seat slot wheel) columns rows e = omega arith
+falls (Pin m) (SeatReflector reflector) columns rows e = omega arith
+falls (Pin m) (RingTo wheel letter) columns rows e = omega arith
+falls (Pin m) (Turn wheel letter) columns rows e = omega arith
+falls (Pin m) (PinTo wheel letter effective) columns rows e = omega arith
+falls (Pin m) (LugTo bar lug place) columns rows e = lug_falls m bar lug place rows

@@ -1,0 +1,274 @@
+-- A setting that changes no cable and no bar puts at most one loose thing right; the others leave what is loose.
+use Rattle.std.proofs.Common.{◌≡◌, ◌≢◌, ℕ, zero, suc, ◌+◌, ◌-◌, ◌≤◌, nat_eq, Bool, true, false, not, cond, List, [], ◌∷◌, get_or, set, map, zip, sum, count_by, Option, Some, None, slice_get, unwrap_or, inl, inr, refl, sym, ap, ◌∙◌, subst, arith}
+use Rattle.std.specs.List.{AllByRecursion}
+use Rattle.std.specs.Option.{option_map_or}
+use Rattle.std.proofs.lemmas.Bool.{cases_eq, eq-eqb, false≢true}
+use Rattle.std.proofs.lemmas.List.Elements.{recursion_from_All}
+use Rattle.std.proofs.lemmas.List.Sums.{sum_by-cons}
+use Rattle.std.proofs.lemmas.Option.{unwrap_or-slice_get}
+use Rattle.kd_tables.specs.declared.wheel.Wheel.{Wheel}
+use Rattle.kd_tables.specs.declared.place.Place.{Place}
+use Rattle.kd_tables.specs.Rings.{ring_of, place_on}
+use Rattle.kd_pins.specs.declared.pin_set.PinSet.{PinSet}
+use Rattle.kd_pins.specs.PinWheels.{pins_of}
+use Rattle.kd_state.specs.declared.rotor_parts.RotorParts.{RotorParts}
+use Rattle.kd_state.specs.declared.pin_parts.PinParts.{PinParts}
+use Rattle.kd_state.specs.declared.parts.Parts.{Parts}
+use Rattle.kd_state.specs.declared.parts.Parts.TheVariants.{Rotor, Pin}
+use Rattle.kd_state.specs.declared.setting.Setting.{Setting}
+use Rattle.kd_state.specs.declared.setting.Setting.TheVariants.{Pull, Put, Seat, SeatReflector, RingTo, Turn, PinTo, LugTo}
+use Rattle.kd_state.specs.declared.sheet_wheel.SheetWheel.{SheetWheel}
+use Rattle.kd_state.specs.Box.{same_wheel, same_reflector, place_in_box}
+use Rattle.kd_state.specs.Pins.{pin_set, wheel_pins, with_pin}
+use Rattle.kd_state.specs.Machine.{model_of, ring_at, letter_at}
+use Rattle.kd_state.specs.Setting.{why_refused, cable_at, cable_without, cable_with, seated_in, without, with_letter, with_lug_at, changed}
+use Rattle.kd_state.specs.SheetDay.{RotorDay, PinDay, Day, OfRotors, OfPins, seats, IsLegalDay, day_model}
+use Rattle.kd_state.specs.OnKey.{ReadsAs}
+use Rattle.kd_state.specs.Costs.{differ, unless_same, loose_slots, loose_reflector, loose_rings, loose_letters, loose_pins, loose_pin_letters, loose_count}
+use Rattle.kd_card.specs.Proving.{is_priced}
+use Rattle.kd_card.proofs.Counts.{count_by-cons, at_most_one}
+use Rattle.kd_card.proofs.Falling.{unless_same_at_most, one_less}
+use Rattle.kd_card.proofs.Wheels.{AreApartAt, wheels_apart, same_wheel_self, same_reflector_self}
+
+-- one of two lists that stand side by side is changed at a place
+zip_set_lowers : {X Y : Type 0} (p : X × Y → Bool) (xs : List X) (ys : List Y) (i : ℕ) (v : X) → count_by p (zip xs ys) ≤ count_by p (zip (set xs i v) ys) + 1
+zip_set_lowers p [] ys i v = omega arith
+zip_set_lowers p (x ∷ xs) [] zero v = omega arith
+zip_set_lowers p (x ∷ xs) [] (suc i) v = omega arith
+zip_set_lowers p (x ∷ xs) (y ∷ ys) zero v =
+    omega (arith, count_by-cons p (x, y) (zip xs ys), count_by-cons p (v, y) (zip xs ys), at_most_one (p (x, y)))
+zip_set_lowers p (x ∷ xs) (y ∷ ys) (suc i) v =
+    omega (arith, count_by-cons p (x, y) (zip xs ys), count_by-cons p (x, y) (zip (set xs i v) ys), zip_set_lowers p xs ys i v)
+
+-- Letters of which one is set: of things at different places at most one is right then that was not.
+slice_get-set_other : {X : Type 0} (xs : List X) (p q : ℕ) (v : X) → q ≢ p → slice_get (set xs p v) q ≡ slice_get xs q
+slice_get-set_other [] p q v h = refl
+slice_get-set_other (x ∷ xs) zero zero v h = absurd (h refl)
+slice_get-set_other (x ∷ xs) zero (suc q) v h = refl
+slice_get-set_other (x ∷ xs) (suc p) zero v h = refl
+slice_get-set_other (x ∷ xs) (suc p) (suc q) v h = slice_get-set_other xs p q v (λ e. h (ap suc e))
+
+module _ {X : Type 0} (place target : X → ℕ) where
+  abbrev wrong : List ℕ → X → Bool
+  wrong letters x = not (option_map_or (nat_eq (target x)) (slice_get letters (place x)) false)
+
+  same_elsewhere : (letters : List ℕ) (p l : ℕ) (x : X) → place x ≢ p → wrong (set letters p l) x ≡ wrong letters x
+  same_elsewhere letters p l x away = ap (λ seen. not (option_map_or (nat_eq (target x)) seen false)) (slice_get-set_other letters p (place x) l away)
+
+  other_places : (letters : List ℕ) (p l : ℕ) (xs : List X) → AllByRecursion (λ y. place y ≢ p) xs → count_by (wrong (set letters p l)) xs ≡ count_by (wrong letters) xs
+  other_places letters p l [] h = refl
+  other_places letters p l (x ∷ xs) h =
+      let head = ap (λ b. cond {A = ℕ} b 1 0) (same_elsewhere letters p l x h.0) in
+      omega (arith, count_by-cons (wrong (set letters p l)) x xs, count_by-cons (wrong letters) x xs, other_places letters p l xs h.1)
+
+  set_lowers : (letters : List ℕ) (p l : ℕ) (xs : List X) → AreApartAt place xs → count_by (wrong letters) xs ≤ count_by (wrong (set letters p l)) xs + 1
+  set_lowers letters p l [] h = omega arith
+  set_lowers letters p l (x ∷ xs) h =
+      let now = count_by-cons (wrong letters) x xs in
+      let later = count_by-cons (wrong (set letters p l)) x xs in
+      elim (cases_eq (place x) p) [
+        | inl here ↦
+            let rest = other_places letters p l xs (subst (λ q. AllByRecursion (λ y. place y ≢ q) xs) here h.0) in
+            omega (arith, at_most_one (wrong letters x), rest)
+        | inr away ↦
+            let head = ap (λ b. cond {A = ℕ} b 1 0) (same_elsewhere letters p l x away) in
+            omega (arith, now, later, head, set_lowers letters p l xs h.1)
+      ]
+
+-- a slot that becomes empty is not right
+abbrev wrong_slot : Option Wheel × SheetWheel → Bool
+wrong_slot slot = not (option_map_or (same_wheel slot.1.wheel) slot.0 false)
+
+empty_wrong_cond : (b : Bool) (other : Wheel) (wanted : SheetWheel) → cond {A = ℕ} (wrong_slot (Some other, wanted)) 1 0 ≤ cond {A = ℕ} (wrong_slot (cond b None (Some other), wanted)) 1 0
+empty_wrong_cond true other wanted = at_most_one (not (same_wheel wanted.wheel other))
+empty_wrong_cond false other wanted = omega arith
+
+empty_wrong : (seated : Option Wheel) (wheel : Wheel) (wanted : SheetWheel) → cond {A = ℕ} (wrong_slot (seated, wanted)) 1 0 ≤ cond {A = ℕ} (wrong_slot (without wheel seated, wanted)) 1 0
+empty_wrong None wheel wanted = omega arith
+empty_wrong (Some other) wheel wanted = empty_wrong_cond (same_wheel wheel other) other wanted
+
+without_raises : (wheel : Wheel) (slots : List (Option Wheel)) (wheels : List SheetWheel) → count_by wrong_slot (zip slots wheels) ≤ count_by wrong_slot (zip (map (without wheel) slots) wheels)
+without_raises wheel [] wheels = omega arith
+without_raises wheel (now ∷ slots) [] = omega arith
+without_raises wheel (now ∷ slots) (wanted ∷ wheels) =
+    omega (
+      arith,
+      count_by-cons wrong_slot (now, wanted) (zip slots wheels),
+      count_by-cons wrong_slot (without wheel now, wanted) (zip (map (without wheel) slots) wheels),
+      empty_wrong now wheel wanted,
+      without_raises wheel slots wheels,
+    )
+
+-- a wheel is turned, if there is one
+module _ (m : RotorParts) (s : RotorDay) (apart : AreApartAt (λ (w : SheetWheel). place_in_box m.model w.wheel) s.wheels) where
+  abbrev place : SheetWheel → ℕ
+  place w = place_in_box m.model w.wheel
+
+  turned_lowers : (seated : Option Wheel) (letter : ℕ) → loose_count (Rotor m) (OfRotors s) ≤ loose_count (Rotor (record m { letters = with_letter m seated letter })) (OfRotors s) + 1
+  turned_lowers None letter = omega arith
+  turned_lowers (Some wheel) letter = omega (arith, set_lowers place (λ (w : SheetWheel). w.letter) m.letters (place_in_box m.model wheel) letter s.wheels apart)
+
+  rotor_lowers : (x : Setting) → loose_count (Rotor m) (OfRotors s) ≤ loose_count (changed (Rotor m) x) (OfRotors s) + cond (is_priced x) 0 1
+  rotor_lowers (Pull cable letter) = omega arith
+  rotor_lowers (Put cable letter) = omega arith
+  rotor_lowers (Seat slot wheel) =
+      omega (arith, without_raises wheel m.slots s.wheels, zip_set_lowers wrong_slot (map (without wheel) m.slots) s.wheels (slot - 1) (Some wheel))
+  rotor_lowers (SeatReflector reflector) = omega (arith, unless_same_at_most (same_reflector m.reflector s.reflector))
+  rotor_lowers (RingTo wheel letter) = omega (arith, set_lowers place (λ (w : SheetWheel). w.ring) m.rings (place_in_box m.model wheel) letter s.wheels apart)
+  rotor_lowers (Turn slot letter) = turned_lowers (seated_in m slot) letter
+  rotor_lowers (PinTo wheel letter effective) = omega arith
+  rotor_lowers (LugTo bar lug place) = omega arith
+
+-- a pin is set
+abbrev differing : List Bool × List Bool → ℕ
+differing wheel = count_by (λ (pin : Bool × Bool). differ pin.0 pin.1) (zip wheel.0 wheel.1)
+
+wheel_set_lowers : (xss yss : List (List Bool)) (i p : ℕ) (effective : Bool) → sum (map differing (zip xss yss)) ≤ sum (map differing (zip (set xss i (set (get_or xss i []) p effective)) yss)) + 1
+wheel_set_lowers [] yss i p effective = omega arith
+wheel_set_lowers (xs ∷ xss) [] zero p effective = omega arith
+wheel_set_lowers (xs ∷ xss) [] (suc i) p effective = omega arith
+wheel_set_lowers (xs ∷ xss) (ys ∷ yss) zero p effective =
+    omega (
+      arith,
+      sum_by-cons (λ n. n) (differing (xs, ys)) (map differing (zip xss yss)),
+      sum_by-cons (λ n. n) (differing (set xs p effective, ys)) (map differing (zip xss yss)),
+      zip_set_lowers (λ (pin : Bool × Bool). differ pin.0 pin.1) xs ys p effective,
+    )
+wheel_set_lowers (xs ∷ xss) (ys ∷ yss) (suc i) p effective =
+    omega (
+      arith,
+      sum_by-cons (λ n. n) (differing (xs, ys)) (map differing (zip xss yss)),
+      sum_by-cons (λ n. n) (differing (xs, ys)) (map differing (zip (set xss i (set (get_or xss i []) p effective)) yss)),
+      wheel_set_lowers xss yss i p effective,
+    )
+
+pins_of-set : (pins : PinSet) (i : ℕ) (new : List Bool) → pins_of (pin_set (set (pins_of pins) i new)) ≡ set (pins_of pins) i new
+pins_of-set pins zero new = refl
+pins_of-set pins (suc zero) new = refl
+pins_of-set pins (suc (suc zero)) new = refl
+pins_of-set pins (suc (suc (suc zero))) new = refl
+pins_of-set pins (suc (suc (suc (suc zero)))) new = refl
+pins_of-set pins (suc (suc (suc (suc (suc zero))))) new = refl
+pins_of-set pins (suc (suc (suc (suc (suc (suc i)))))) new = refl
+
+pin_lowers : (m : PinParts) (s : PinDay) (wheel letter : ℕ) (effective : Bool) → why_refused (Pin m) (PinTo wheel letter effective) ≡ None
+    → loose_pins m s ≤ loose_pins (record m { pins = with_pin m.pins wheel letter effective }) s + 1
+unfolding ring_of
+pin_lowers m s zero letter effective e = cc
+pin_lowers m s (suc wheel) letter effective e =
+    let place = unwrap_or (place_on (ring_of (suc wheel)) letter) 0 in
+    let new = set (wheel_pins m.pins (suc wheel)) place effective in
+    let all : pins_of (with_pin m.pins (suc wheel) letter effective) ≡ set (pins_of m.pins) wheel (set (get_or (pins_of m.pins) wheel []) place effective)
+    = pins_of-set m.pins (suc wheel - 1) new ∙ ap (λ i. set (pins_of m.pins) i new) (one_less wheel)
+    ∙ ap (λ pins. set (pins_of m.pins) wheel (set pins place effective)) (unwrap_or-slice_get (pins_of m.pins) wheel []) in
+    subst (λ pins. loose_pins m s ≤ sum (map differing (zip pins (pins_of s.pins))) + 1) (sym all) (wheel_set_lowers (pins_of m.pins) (pins_of s.pins) wheel place effective)
+
+pin_machine_lowers : (m : PinParts) (s : PinDay) (x : Setting) → why_refused (Pin m) x ≡ None → loose_count (Pin m) (OfPins s) ≤ loose_count (changed (Pin m) x) (OfPins s) + cond (is_priced x) 0 1
+pin_machine_lowers m s (Pull cable letter) e = omega arith
+pin_machine_lowers m s (Put cable letter) e = omega arith
+pin_machine_lowers m s (Seat slot wheel) e = omega arith
+pin_machine_lowers m s (SeatReflector reflector) e = omega arith
+pin_machine_lowers m s (RingTo wheel letter) e = omega arith
+pin_machine_lowers m s (Turn wheel letter) e =
+    omega (arith, zip_set_lowers (λ (letter : ℕ × ℕ). not (nat_eq letter.0 letter.1)) m.letters s.window (wheel - 1) letter)
+pin_machine_lowers m s (PinTo wheel letter effective) e = omega (arith, pin_lowers m s wheel letter effective e)
+pin_machine_lowers m s (LugTo bar lug place) e = omega arith
+
+-- whatever the setting and the machine
+pub lowers : (m : Parts) (s : Day) (x : Setting) → IsLegalDay s → model_of m ≡ day_model s → why_refused m x ≡ None → loose_count m s ≤ loose_count (changed m x) s + cond (is_priced x) 0 1
+lowers (Rotor m) (OfRotors s) x h same e =
+    rotor_lowers m s (subst (λ model. AreApartAt (λ (w : SheetWheel). place_in_box model w.wheel) s.wheels) (sym same) (wheels_apart s.model s.wheels h.wheels.allowed h.wheels.apart)) x
+lowers (Pin m) (OfPins s) x h same e = pin_machine_lowers m s x e
+lowers (Rotor m) (OfPins s) x h same e = omega arith
+lowers (Pin m) (OfRotors s) x h same e = omega arith
+
+-- no setting makes another model of a machine, and those of cables and bars leave what is loose
+pub model_of-changed : (m : Parts) (x : Setting) → model_of (changed m x) ≡ model_of m
+model_of-changed (Rotor m) (Pull cable letter) = refl
+model_of-changed (Rotor m) (Put cable letter) = refl
+model_of-changed (Rotor m) (Seat slot wheel) = refl
+model_of-changed (Rotor m) (SeatReflector reflector) = refl
+model_of-changed (Rotor m) (RingTo wheel letter) = refl
+model_of-changed (Rotor m) (Turn slot letter) = refl
+model_of-changed (Rotor m) (PinTo wheel letter effective) = refl
+model_of-changed (Rotor m) (LugTo bar lug place) = refl
+model_of-changed (Pin m) (Pull cable letter) = refl
+model_of-changed (Pin m) (Put cable letter) = refl
+model_of-changed (Pin m) (Seat slot wheel) = refl
+model_of-changed (Pin m) (SeatReflector reflector) = refl
+model_of-changed (Pin m) (RingTo wheel letter) = refl
+model_of-changed (Pin m) (Turn wheel letter) = refl
+model_of-changed (Pin m) (PinTo wheel letter effective) = refl
+model_of-changed (Pin m) (LugTo bar lug place) = refl
+
+other_cables : (m : RotorParts) (cables : List (Option ℕ × Option ℕ)) (s : Day) → loose_count (Rotor (record m { cables = cables })) s ≡ loose_count (Rotor m) s
+other_cables m cables (OfRotors s) = refl
+other_cables m cables (OfPins s) = refl
+
+other_bars : (m : PinParts) (bars : List (Place × Place)) (s : Day) → loose_count (Pin (record m { bars = bars })) s ≡ loose_count (Pin m) s
+other_bars m bars (OfRotors s) = refl
+other_bars m bars (OfPins s) = refl
+
+pub leaves : (m : Parts) (s : Day) (x : Setting) → is_priced x ≡ true → loose_count (changed m x) s ≡ loose_count m s
+leaves (Rotor m) s (Pull cable letter) e = other_cables m (set m.cables (cable - 1) (cable_without letter (cable_at m cable))) s
+leaves (Rotor m) s (Put cable letter) e = other_cables m (set m.cables (cable - 1) (cable_with letter (cable_at m cable))) s
+leaves (Rotor m) s (LugTo bar lug place) e = refl
+leaves (Pin m) s (Pull cable letter) e = refl
+leaves (Pin m) s (Put cable letter) e = refl
+leaves (Pin m) s (LugTo bar lug place) e = other_bars m (with_lug_at m bar lug place) s
+leaves m s (Seat slot wheel) e = absurd (false≢true e)
+leaves m s (SeatReflector reflector) e = absurd (false≢true e)
+leaves m s (RingTo wheel letter) e = absurd (false≢true e)
+leaves m s (Turn slot letter) e = absurd (false≢true e)
+leaves m s (PinTo wheel letter effective) e = absurd (false≢true e)
+
+-- a machine that reads as the day has nothing loose
+no_slot_wrong : (wheels : List SheetWheel) → count_by wrong_slot (zip (seats wheels) wheels) ≡ 0
+no_slot_wrong [] = refl
+no_slot_wrong (wheel ∷ wheels) =
+    count_by-cons wrong_slot (Some wheel.wheel, wheel) (zip (seats wheels) wheels) ∙ rw (same_wheel_self wheel.wheel, no_slot_wrong wheels) refl
+
+none_wrong : (seen : SheetWheel → Option ℕ) (wanted : SheetWheel → ℕ) (wheels : List SheetWheel) → AllByRecursion (λ w. seen w ≡ Some (wanted w)) wheels
+    → count_by (λ w. not (option_map_or (nat_eq (wanted w)) (seen w) false)) wheels ≡ 0
+none_wrong seen wanted [] h = refl
+none_wrong seen wanted (w ∷ wheels) h =
+    count_by-cons (λ w. not (option_map_or (nat_eq (wanted w)) (seen w) false)) w wheels
+    ∙ rw (h.0, eq-eqb (wanted w) (wanted w) refl, none_wrong seen wanted wheels h.1) refl
+
+rotor_not_loose : (n : RotorParts) (s : RotorDay) → ReadsAs (Rotor n) (OfRotors s) → loose_count (Rotor n) (OfRotors s) ≡ 0
+rotor_not_loose n s h =
+    let slots : loose_slots n s ≡ 0 = ap (λ slots. count_by wrong_slot (zip slots s.wheels)) h.key.slots ∙ no_slot_wrong s.wheels in
+    let reflector : loose_reflector n s ≡ 0 = ap (λ reflector. unless_same (same_reflector reflector s.reflector)) h.key.reflector ∙ ap unless_same (same_reflector_self s.reflector) in
+    let rings : loose_rings n s ≡ 0 = none_wrong (λ w. ring_at n w.wheel) (λ w. w.ring) s.wheels (recursion_from_All (λ (w : SheetWheel). ring_at n w.wheel ≡ Some w.ring) s.wheels h.key.rings) in
+    let letters : loose_letters n s ≡ 0 = none_wrong (λ w. letter_at n w.wheel) (λ w. w.letter) s.wheels (recursion_from_All (λ (w : SheetWheel). letter_at n w.wheel ≡ Some w.letter) s.wheels h.window) in
+    omega (arith, slots, reflector, rings, letters)
+
+not_differing : (b : Bool) → differ b b ≡ false
+not_differing true = refl
+not_differing false = refl
+
+no_pin_wrong : (pins : List Bool) → differing (pins, pins) ≡ 0
+no_pin_wrong [] = refl
+no_pin_wrong (pin ∷ pins) =
+    count_by-cons (λ (pin : Bool × Bool). differ pin.0 pin.1) (pin, pin) (zip pins pins) ∙ rw (not_differing pin, no_pin_wrong pins) refl
+
+no_wheel_wrong : (lists : List (List Bool)) → sum (map differing (zip lists lists)) ≡ 0
+no_wheel_wrong [] = refl
+no_wheel_wrong (pins ∷ lists) = sum_by-cons (λ n. n) (differing (pins, pins)) (map differing (zip lists lists)) ∙ rw (no_pin_wrong pins, no_wheel_wrong lists) refl
+
+no_letter_wrong : (letters : List ℕ) → count_by (λ (letter : ℕ × ℕ). not (nat_eq letter.0 letter.1)) (zip letters letters) ≡ 0
+no_letter_wrong [] = refl
+no_letter_wrong (letter ∷ letters) =
+    count_by-cons (λ (letter : ℕ × ℕ). not (nat_eq letter.0 letter.1)) (letter, letter) (zip letters letters) ∙ rw (eq-eqb letter letter refl, no_letter_wrong letters) refl
+
+pin_not_loose : (n : PinParts) (s : PinDay) → ReadsAs (Pin n) (OfPins s) → loose_count (Pin n) (OfPins s) ≡ 0
+pin_not_loose n s h =
+    let pins : loose_pins n s ≡ 0 = ap (λ pins. sum (map differing (zip (pins_of pins) (pins_of s.pins)))) h.key.pins ∙ no_wheel_wrong (pins_of s.pins) in
+    let letters : loose_pin_letters n s ≡ 0 = ap (λ letters. count_by (λ (letter : ℕ × ℕ). not (nat_eq letter.0 letter.1)) (zip letters s.window)) h.window ∙ no_letter_wrong s.window in
+    omega (arith, pins, letters)
+
+pub nothing_loose : (n : Parts) (s : Day) → ReadsAs n s → loose_count n s ≡ 0
+nothing_loose (Rotor n) (OfRotors s) h = rotor_not_loose n s h
+nothing_loose (Pin n) (OfPins s) h = pin_not_loose n s h
+nothing_loose (Rotor n) (OfPins s) h = refl
+nothing_loose (Pin n) (OfRotors s) h = refl

@@ -1,0 +1,303 @@
+-- On a machine that reads as the day the cables can be paired with the day's pairs and nothings, and the bars with its rows,
+-- each with one that costs nothing.
+use Rattle.std.proofs.Common.{◌≡◌, ◌≢◌, ℕ, zero, suc, ◌+◌, ◌-◌, ◌<◌, ◌≤◌, ◌==◌, nat_eq, nat_lt, Bool, true, false, not, ◌||◌, cond, ◌⊎◌, inl, inr, List, [], ◌∷◌, ◌++◌, length, get_or, map, zip, replicate, Any, Contains, IsPermutation, count_by, remove, Option, Some, None, ℤ, refl, sym, ap, ◌∙◌, subst, arith}
+use Rattle.std.specs.List.{AllByRecursion, AllZip, flat_map, list_all}
+use Rattle.std.specs.List as lists
+use Rattle.std.proofs.lemmas.Bool.{false≢true, eq-eqb, lt-ltb}
+use Rattle.std.proofs.lemmas.Bool.Decides.{eqb_tells}
+use Rattle.std.proofs.lemmas.List.{length-append, length-map, length-replicate}
+use Rattle.std.proofs.lemmas.List.Edits.{length-remove}
+use Rattle.std.proofs.lemmas.List.Elements.{All-contains, recursion_from_All}
+use Rattle.std.proofs.lemmas.List.Sums.{sum_by-cons, AllPass-from_list_all}
+use Rattle.std.proofs.lemmas.List.Sorted.{sum_by-IsPermutation, Contains-permutation, IsPermutation-refl, IsPermutation-sym, IsPermutation-cons, IsPermutation-trans, IsPermutation-remove}
+use Rattle.kd_tables.specs.declared.place.Place.{Place}
+use Rattle.kd_tables.specs.declared.place.Place.TheVariants.{One, ZeroLeft, Two, Three, Four, Five, ZeroRight, Six}
+use Rattle.kd_tables.specs.Permutation.{alphabet}
+use Rattle.kd_tables.specs.Places.{places, place_rank, reading_of, IsBefore}
+use Rattle.kd_enigma.specs.Plugs.{letters_plugged}
+use Rattle.kd_state.specs.Machine.{cable_letters, plugged_letters}
+use Rattle.kd_state.specs.Setting.{has_letter}
+use Rattle.kd_state.specs.OnKey.{SameLetters, IsPaired, IsPlugged, AreThePairs}
+use Rattle.kd_state.specs.Costs.{differ, cable_cost, standings_as, bar_cost, columns_of}
+use Rattle.kd_card.proofs.Duality.{pairing_cost, reordered}
+use Rattle.kd_card.proofs.Counts.{count_by-cons, times, times-append, AreOnce}
+use Rattle.kd_card.proofs.Kept.{CablesAreOnce, HasCables, HasBars, Stands}
+
+-- the letter is among these exactly where the test says so
+has_of_contains : (letters : List ℕ) (letter place : ℕ) → place < length letters → get_or letters place letter ≡ letter → has_letter letters letter ≡ true
+has_of_contains [] letter place lt e = absurd (omega arith)
+has_of_contains (other ∷ letters) letter zero lt e = ap (λ b. b || has_letter letters letter) (eq-eqb other letter e)
+has_of_contains (other ∷ letters) letter (suc place) lt e =
+    ap (λ b. nat_eq other letter || b) (has_of_contains letters letter place (omega arith) e) ∙ or_true (nat_eq other letter)
+  where
+    or_true : (b : Bool) → (b || true) ≡ true
+    or_true true = refl
+    or_true false = refl
+
+contains_of_has : (letters : List ℕ) (letter : ℕ) → has_letter letters letter ≡ true → Contains letters letter
+contains_of_has [] letter e = absurd (false≢true e)
+contains_of_has (other ∷ letters) letter e =
+    elim (eqb_tells other letter) [
+      | inl same ↦ (zero, omega arith, same.1)
+      | inr away ↦
+          let later = contains_of_has letters letter (sym (ap (λ b. b || has_letter letters letter) away.0) ∙ e) in
+          (suc later.0, omega (arith, later.1), later.2)
+    ]
+
+same_tests : (b c : Bool) → (b ≡ true → c ≡ true) → (c ≡ true → b ≡ true) → b ≡ c
+same_tests true c f g = sym (f refl)
+same_tests false true f g = g refl
+same_tests false false f g = refl
+
+has_same : (xs ys : List ℕ) → SameLetters xs ys → (letter : ℕ) → has_letter xs letter ≡ has_letter ys letter
+has_same xs ys same letter =
+    same_tests (has_letter xs letter) (has_letter ys letter)
+    (λ e. let there = (same letter).0 (contains_of_has xs letter e) in has_of_contains ys letter there.0 there.1 there.2)
+    (λ e. let there = (same letter).1 (contains_of_has ys letter e) in has_of_contains xs letter there.0 there.1 there.2)
+
+-- a cable with the letters of its column costs nothing
+none_differ : (xs ys : List ℕ) → ((letter : ℕ) → has_letter xs letter ≡ has_letter ys letter) → (letters : List ℕ) → count_by (λ letter. differ (has_letter xs letter) (has_letter ys letter)) letters ≡ 0
+none_differ xs ys same [] = refl
+none_differ xs ys same (letter ∷ letters) =
+    count_by-cons (λ letter. differ (has_letter xs letter) (has_letter ys letter)) letter letters
+    ∙ rw (same letter, unlike (has_letter ys letter), none_differ xs ys same letters) refl
+  where
+    unlike : (b : Bool) → differ b b ≡ false
+    unlike true = refl
+    unlike false = refl
+
+abbrev CostsNothing : Option ℕ × Option ℕ → Option (ℕ × ℕ) → Type 0
+CostsNothing cable column = cable_cost cable column ≡ 0
+
+-- letters that are among these are counted
+counted : (letter : ℕ) (letters : List ℕ) (place : ℕ) → place < length letters → get_or letters place letter ≡ letter → 1 ≤ times letter letters
+counted letter [] place lt e = absurd (omega arith)
+counted letter (other ∷ letters) zero lt e =
+    let here = ap (λ b. cond {A = ℕ} b 1 0) (eq-eqb letter other (sym e)) in
+    omega (arith, count_by-cons (nat_eq letter) other letters)
+counted letter (other ∷ letters) (suc place) lt e = omega (arith, count_by-cons (nat_eq letter) other letters, counted letter letters place (omega arith) e)
+
+-- letters that lie in some things
+module _ {X : Type 0} (letters_of : X → List ℕ) where
+  within : (letter : ℕ) (xs : List X) (place : ℕ) (x : X) → place < length xs → get_or xs place x ≡ x → times letter (letters_of x) ≤ times letter (flat_map letters_of xs)
+  within letter [] place x lt e = absurd (omega arith)
+  within letter (y ∷ ys) zero x lt e =
+      let same = ap (λ x. times letter (letters_of x)) e in
+      omega (arith, times-append letter (letters_of y) (flat_map letters_of ys))
+  within letter (y ∷ ys) (suc place) x lt e = omega (arith, times-append letter (letters_of y) (flat_map letters_of ys), within letter ys place x (omega arith) e)
+
+  times-flat_map : (letter : ℕ) (xs : List X) → times letter (flat_map letters_of xs) ≡ lists.sum_by (λ x. times letter (letters_of x)) xs
+  times-flat_map letter [] = refl
+  times-flat_map letter (x ∷ xs) =
+      omega (arith, times-append letter (letters_of x) (flat_map letters_of xs), sum_by-cons (λ x. times letter (letters_of x)) x xs, times-flat_map letter xs)
+
+  times-IsPermutation : (letter : ℕ) (xs ys : List X) → IsPermutation xs ys → times letter (flat_map letters_of ys) ≡ times letter (flat_map letters_of xs)
+  times-IsPermutation letter xs ys h = times-flat_map letter ys ∙ sum_by-IsPermutation (λ x. times letter (letters_of x)) xs ys h ∙ sym (times-flat_map letter xs)
+
+abbrev pair_letters : ℕ × ℕ → List ℕ
+pair_letters pair = pair.0 ∷ pair.1 ∷ []
+
+abbrev HasPair : Option ℕ × Option ℕ → ℕ × ℕ → Type 0
+HasPair cable pair = SameLetters (cable_letters cable) (pair_letters pair)
+
+first_of_cable : (cable : Option ℕ × Option ℕ) (pair : ℕ × ℕ) → HasPair cable pair → 1 ≤ times pair.0 (cable_letters cable)
+first_of_cable cable pair h =
+    let there = (h pair.0).1 (zero, omega arith, refl) in
+    counted pair.0 (cable_letters cable) there.0 there.1 there.2
+
+-- two cables with one pair's letters would have a letter in two places, and so would two pairs with one cable's letters
+one_cable : (cable other : Option ℕ × Option ℕ) (cables : List (Option ℕ × Option ℕ)) (pair : ℕ × ℕ) → CablesAreOnce (cable ∷ cables) → HasPair cable pair
+    → Contains cables other → HasPair other pair → ⊥
+one_cable cable other cables pair once h among k =
+    omega (
+      arith,
+      once pair.0,
+      times-append pair.0 (cable_letters cable) (plugged_letters cables),
+      first_of_cable cable pair h,
+      first_of_cable other pair k,
+      within cable_letters pair.0 cables among.0 other among.1 among.2,
+    )
+
+one_pair : (cable : Option ℕ × Option ℕ) (pair other : ℕ × ℕ) (pairs : List (ℕ × ℕ)) → AreOnce (letters_plugged (pair ∷ pairs)) → HasPair cable pair
+    → Contains pairs other → HasPair cable other → ⊥
+one_pair cable pair other pairs once h among k =
+    let here = (h other.0).0 ((k other.0).1 (zero, omega arith, refl)) in
+    omega (
+      arith,
+      once other.0,
+      times-append other.0 (pair_letters pair) (letters_plugged pairs),
+      counted other.0 (pair_letters pair) here.0 here.1 here.2,
+      count_by-cons (nat_eq other.0) other.0 (other.1 ∷ []),
+      counted other.0 (pair_letters other) zero (omega arith) refl,
+      within pair_letters other.0 pairs among.0 other among.1 among.2,
+    )
+
+-- each cable that isn't empty has a pair's letters, and each pair's letters lie in a cable
+pub record AreMatched (cables : List (Option ℕ × Option ℕ)) (pairs : List (ℕ × ℕ)) : Type 0 where
+  pub cables_once : CablesAreOnce cables
+  pub pairs_once : AreOnce (letters_plugged pairs)
+  pub pair : (cable : Option ℕ × Option ℕ) → Contains cables cable → cable_letters cable ≢ [] → (pair : ℕ × ℕ) × Contains pairs pair × HasPair cable pair
+  pub cable : (pair : ℕ × ℕ) → Contains pairs pair → (cable : Option ℕ × Option ℕ) × Contains cables cable × HasPair cable pair
+
+first_or_rest : {X : Type 0} (x y : X) (xs : List X) → Contains (x ∷ xs) y → (x ≡ y) ⊎ Contains xs y
+first_or_rest x y xs (zero, lt, e) = inl e
+first_or_rest x y xs (suc place, lt, e) = inr (place, omega arith, e)
+
+in_rest : {X : Type 0} (x y : X) (xs : List X) → Contains xs y → Contains (x ∷ xs) y
+in_rest x y xs h = (suc h.0, omega (arith, h.1), h.2)
+
+-- the first pair and its cable are taken away
+module _ (cables rest : List (Option ℕ × Option ℕ)) (cable : Option ℕ × Option ℕ) (pair : ℕ × ℕ) (pairs : List (ℕ × ℕ)) (order : IsPermutation cables (cable ∷ rest)) (h : AreMatched cables (pair ∷ pairs)) (here : HasPair cable pair) where
+  once_in_order : CablesAreOnce (cable ∷ rest)
+  once_in_order letter = omega (arith, h.cables_once letter, times-IsPermutation cable_letters letter cables (cable ∷ rest) order)
+
+  rest_once : CablesAreOnce rest
+  rest_once letter = omega (arith, once_in_order letter, times-append letter (cable_letters cable) (plugged_letters rest))
+
+  pairs_rest_once : AreOnce (letters_plugged pairs)
+  pairs_rest_once letter = omega (arith, h.pairs_once letter, times-append letter (pair_letters pair) (letters_plugged pairs))
+
+  pair_of_rest : (other : Option ℕ × Option ℕ) → Contains rest other → cable_letters other ≢ [] → (p : ℕ × ℕ) × Contains pairs p × HasPair other p
+  pair_of_rest other among some =
+      let found = h.pair other (Contains-permutation (cable ∷ rest) cables other (IsPermutation-sym cables (cable ∷ rest) order) (in_rest cable other rest among)) some in
+      elim (first_or_rest pair found.0 pairs found.1) [
+        | inl same ↦ absurd (one_cable cable other rest pair once_in_order here among (subst (HasPair other) (sym same) found.2))
+        | inr later ↦ (found.0, later, found.2)
+      ]
+
+  cable_of_rest : (other : ℕ × ℕ) → Contains pairs other → (c : Option ℕ × Option ℕ) × Contains rest c × HasPair c other
+  cable_of_rest other among =
+      let found = h.cable other (in_rest pair other pairs among) in
+      elim (first_or_rest cable found.0 rest (Contains-permutation cables (cable ∷ rest) found.0 order found.1)) [
+        | inl same ↦ absurd (one_pair cable pair other pairs h.pairs_once here among (subst (λ c. HasPair c other) (sym same) found.2))
+        | inr later ↦ (found.0, later, found.2)
+      ]
+
+  rest_matched : AreMatched rest pairs
+  rest_matched = record { cables_once = rest_once; pairs_once = pairs_rest_once; pair = pair_of_rest; cable = cable_of_rest }
+
+-- without pairs all cables are empty
+empty_costs_nothing : (cable : Option ℕ × Option ℕ) → (cable_letters cable ≢ [] → ⊥) → CostsNothing cable None
+empty_costs_nothing (None, None) h = none_differ [] [] (λ letter. refl) alphabet
+empty_costs_nothing (None, Some b) h = absurd (h (λ e. cc))
+empty_costs_nothing (Some a, None) h = absurd (h (λ e. cc))
+empty_costs_nothing (Some a, Some b) h = absurd (h (λ e. cc))
+
+all_empty : (cables : List (Option ℕ × Option ℕ)) (number : ℕ) → length cables ≡ number → ((cable : Option ℕ × Option ℕ) → Contains cables cable → cable_letters cable ≢ [] → ⊥)
+    → AllZip CostsNothing cables (replicate number None)
+all_empty [] zero e h = tt
+all_empty (cable ∷ cables) (suc number) e h =
+    (empty_costs_nothing cable (h cable (zero, omega arith, refl)), all_empty cables number (omega arith) (λ other among. h other (in_rest cable other cables among)))
+all_empty [] (suc number) e h = absurd (omega arith)
+all_empty (cable ∷ cables) zero e h = absurd (omega arith)
+
+-- the cables in an order in which each costs nothing at its column
+pub matched : (cables : List (Option ℕ × Option ℕ)) (pairs : List (ℕ × ℕ)) (nothings : ℕ) → length cables ≡ length pairs + nothings → AreMatched cables pairs
+    → (others : List (Option ℕ × Option ℕ)) × IsPermutation cables others × AllZip CostsNothing others (map Some pairs ++ replicate nothings None)
+matched cables [] nothings e h =
+    (cables, IsPermutation-refl cables, all_empty cables nothings (omega arith) (λ cable among some. let found = h.pair cable among some in omega (arith, found.1.1)))
+matched cables (pair ∷ pairs) nothings e h =
+    let found = h.cable pair (zero, omega arith, refl) in
+    let rest = remove cables found.1.0 in
+    let order = IsPermutation-remove cables found.1.0 found.0 found.1.1 (sym found.1.2) in
+    let fewer = length-remove cables found.1.0 found.1.1 in
+    let further = matched rest pairs nothings (omega arith) (rest_matched cables rest found.0 pair pairs order h found.2) in (
+      found.0 ∷ further.0,
+      IsPermutation-trans cables (found.0 ∷ rest) (found.0 ∷ further.0) order (IsPermutation-cons found.0 rest further.0 further.1),
+      (none_differ (cable_letters found.0) (pair_letters pair) (has_same (cable_letters found.0) (pair_letters pair) found.2) alphabet, further.2),
+    )
+
+-- A pairing: the columns with their prices, each beside the row that it is paired with, and none costs anything.
+pub record FreePairing {A B : Type 0} (cost : A → B → ℕ) (rows : List A) (columns : List B) (prices : List ℤ) : Type 0 where
+  pub beside : List (B × ℤ)
+  pub order : IsPermutation (zip columns prices) beside
+  pub free : pairing_cost cost rows beside ≡ 0
+
+module _ {A B : Type 0} (cost : A → B → ℕ) where
+  free_of_all : (rows : List A) (ws : List (B × ℤ)) → AllZip (λ row w. cost row w.0 ≡ 0) rows ws → pairing_cost cost rows ws ≡ 0
+  free_of_all [] ws h = refl
+  free_of_all (row ∷ rows) [] h = refl
+  free_of_all (row ∷ rows) (w ∷ ws) h = omega (arith, h.0, free_of_all rows ws h.1)
+
+with_prices : {A B : Type 0} (R : A → B → Type 0) (xs : List A) (columns : List B) (prices : List ℤ) → length columns ≡ length prices → AllZip R xs columns
+    → AllZip (λ x (w : B × ℤ). R x w.0) xs (zip columns prices)
+with_prices R [] [] prices e h = tt
+with_prices R (x ∷ xs) (column ∷ columns) (price ∷ prices) e h = (h.0, with_prices R xs columns prices (omega arith) h.1)
+with_prices R (x ∷ xs) (column ∷ columns) [] e h = absurd (omega arith)
+with_prices R [] (column ∷ columns) prices e h = absurd h
+with_prices R (x ∷ xs) [] prices e h = absurd h
+
+matched_of_pairs : (cables : List (Option ℕ × Option ℕ)) (pairs : List (ℕ × ℕ)) → CablesAreOnce cables → AreOnce (letters_plugged pairs) → AreThePairs cables pairs → AreMatched cables pairs
+matched_of_pairs cables pairs once pairs_once h =
+    record {
+      cables_once = once;
+      pairs_once = pairs_once;
+      pair = λ cable among some. let any = (All-contains (IsPaired pairs) cables cable h.pair among).joins some in (any.1, (any.0, any.2, any.3), any.4.letters);
+      cable = λ pair among. let any = (All-contains (IsPlugged cables) pairs pair h.cable among).joins in (any.1, (any.0, any.2, any.3), any.4.letters);
+    }
+
+pub length-columns_of : (pairs : List (ℕ × ℕ)) → length pairs ≤ 13 → length (columns_of pairs) ≡ 13
+length-columns_of pairs few =
+    simp (length-append, length-map, length-replicate) (omega arith)
+
+pub cables_paired : (cables : List (Option ℕ × Option ℕ)) (pairs : List (ℕ × ℕ)) (prices : List ℤ) → HasCables cables → AreOnce (letters_plugged pairs) → length pairs ≤ 13 → length prices ≡ 13
+    → AreThePairs cables pairs → FreePairing cable_cost cables (columns_of pairs) prices
+cables_paired cables pairs prices has once few count h =
+    let size = length-columns_of pairs few in
+    let there = matched cables pairs (13 - length pairs) (omega (arith, has.count)) (matched_of_pairs cables pairs has.once once h) in
+    let beside = reordered (λ cable (w : Option (ℕ × ℕ) × ℤ). CostsNothing cable w.0) there.0 cables (zip (columns_of pairs) prices) (IsPermutation-sym cables there.0 there.1)
+    (with_prices CostsNothing there.0 (columns_of pairs) prices (omega arith) there.2) in
+    record { beside = beside.0; order = beside.1; free = free_of_all cable_cost cables beside.0 beside.2 }
+
+-- a bar that stands costs nothing at its own row
+in_places : (place : Place) → Contains places place
+in_places One = (0, omega arith, refl)
+in_places ZeroLeft = (1, omega arith, refl)
+in_places Two = (2, omega arith, refl)
+in_places Three = (3, omega arith, refl)
+in_places Four = (4, omega arith, refl)
+in_places Five = (5, omega arith, refl)
+in_places ZeroRight = (6, omega arith, refl)
+in_places Six = (7, omega arith, refl)
+
+free_bar : Place → Place → Bool
+free_bar left right = not (nat_lt (place_rank left) (place_rank right)) || (bar_cost (left, right) (reading_of left right) == 0)
+
+free_bars : Bool
+free_bars = list_all (λ left. list_all (free_bar left) places) places
+
+all_free : free_bars ≡ true
+unfolding free_bars free_bar standings_as
+all_free = refl
+
+own_row : (left right : Place) → IsBefore left right → bar_cost (left, right) (reading_of left right) ≡ 0
+unfolding free_bars free_bar standings_as
+own_row left right before =
+    let row = All-contains (λ left. list_all (free_bar left) places ≡ true) places left (AllPass-from_list_all (λ left. list_all (free_bar left) places) places all_free) (in_places left) in
+    let cell = All-contains (λ right. free_bar left right ≡ true) places right (AllPass-from_list_all (free_bar left) places row) (in_places right) in
+    let stands = lt-ltb (place_rank left) (place_rank right) before in
+    zero_of (bar_cost (left, right) (reading_of left right)) (sym (ap (λ b. not b || (bar_cost (left, right) (reading_of left right) == 0)) stands) ∙ cell)
+  where
+    zero_of : (n : ℕ) → (n == 0) ≡ true → n ≡ 0
+    zero_of n e = elim (eqb_tells n 0) [ inl same ↦ same.1 | inr away ↦ absurd (false≢true (sym away.0 ∙ e)) ]
+
+abbrev reading : Place × Place → ℕ × ℕ
+reading bar = reading_of bar.0 bar.1
+
+alike_rows : (rows : List (ℕ × ℕ)) → AllZip (λ row (other : ℕ × ℕ). row ≡ other) rows rows
+alike_rows [] = tt
+alike_rows (row ∷ rows) = (refl, alike_rows rows)
+
+free_rows : (bars : List (Place × Place)) (ws : List ((ℕ × ℕ) × ℤ)) → AllByRecursion Stands bars → AllZip (λ row (w : (ℕ × ℕ) × ℤ). row ≡ w.0) (map reading bars) ws
+    → AllZip (λ bar (w : (ℕ × ℕ) × ℤ). bar_cost bar w.0 ≡ 0) bars ws
+free_rows [] [] stand h = tt
+free_rows (bar ∷ bars) (w ∷ ws) stand h = (subst (λ row. bar_cost bar row ≡ 0) h.0 (own_row bar.0 bar.1 stand.0), free_rows bars ws stand.1 h.1)
+free_rows [] (w ∷ ws) stand h = absurd h
+free_rows (bar ∷ bars) [] stand h = absurd h
+
+pub bars_paired : (bars : List (Place × Place)) (rows : List (ℕ × ℕ)) (prices : List ℤ) → HasBars bars → length rows ≡ length prices → IsPermutation (map (λ bar. reading_of bar.0 bar.1) bars) rows
+    → FreePairing bar_cost bars rows prices
+bars_paired bars rows prices has count h =
+    let beside = reordered (λ row (w : (ℕ × ℕ) × ℤ). row ≡ w.0) rows (map reading bars) (zip rows prices) (IsPermutation-sym (map reading bars) rows h)
+    (with_prices (λ row (other : ℕ × ℕ). row ≡ other) rows rows prices count (alike_rows rows)) in
+    record { beside = beside.0; order = beside.1; free = free_of_all bar_cost bars beside.0 (free_rows bars beside.0 (recursion_from_All Stands bars has.stand) beside.2) }

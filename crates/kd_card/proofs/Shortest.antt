@@ -1,0 +1,139 @@
+-- No list of settings that leads to the day has fewer than there are loose things and prices in sum, and a card that proves
+-- itself has as many.
+use Rattle.std.proofs.Common.{◌≡◌, ℕ, suc, ◌+◌, ◌<◌, ◌≤◌, Bool, true, false, cond, List, [], ◌∷◌, ◌++◌, length, get_or, map, zip, fold, Contains, Option, ℤ, pos, ◌+ℤ◌, ◌≤ℤ◌, IsPermutation, refl, sym, ap, ◌∙◌, subst, arith}
+use Rattle.std.proofs.lemmas.Int.{ints}
+use Rattle.std.proofs.lemmas.List.Sorted.{length_permutation}
+use Rattle.kd_tables.specs.declared.model.Model.{Model}
+use Rattle.kd_tables.specs.declared.model.Model.TheVariants.{M209}
+use Rattle.kd_tables.specs.declared.reflector.Reflector.{Reflector}
+use Rattle.kd_tables.specs.Tables.{reflectors_of}
+use Rattle.kd_enigma.specs.Plugs.{letters_plugged}
+use Rattle.kd_state.specs.declared.rotor_parts.RotorParts.{RotorParts}
+use Rattle.kd_state.specs.declared.pin_parts.PinParts.{PinParts}
+use Rattle.kd_state.specs.declared.parts.Parts.{Parts}
+use Rattle.kd_state.specs.declared.parts.Parts.TheVariants.{Rotor, Pin}
+use Rattle.kd_state.specs.declared.setting.Setting.{Setting}
+use Rattle.kd_state.specs.Machine.{model_of, IsMachine}
+use Rattle.kd_state.specs.Setting.{Carries, Leads, changed}
+use Rattle.kd_state.specs.SheetDay.{RotorDay, PinDay, Day, OfRotors, OfPins, day_model, IsLegalDay}
+use Rattle.kd_state.specs.OnKey.{ReadsAs}
+use Rattle.kd_state.specs.Costs.{cable_cost, bar_cost, columns_of, cost_table, loose_count}
+use Rattle.kd_card.specs.declared.prices.PriceParts.TheVariants.{Cables, Bars}
+use Rattle.kd_card.specs.Prices.{ArePrices, Fits, price_sum}
+use Rattle.kd_card.specs.Proving.{is_priced, priced_count, IsNeeded, AreNeeded}
+use Rattle.kd_card.specs.Laws.{FittingPricesBoundLists, ProvingCardsAreAsLong, ProvingCardsAreShortest}
+use Rattle.kd_card.proofs.Duality.{fold_of_both, prices_with-IsPermutation, prices_with-zip, pairing_cost, fitting_prices, FitAll-IsPermutation, fit_all}
+use Rattle.kd_card.proofs.Counts.{count_by-cons, once_of_distinct}
+use Rattle.kd_card.proofs.Falling.{paired_cost, falls}
+use Rattle.kd_card.proofs.Loosening.{lowers, leaves, model_of-changed, nothing_loose}
+use Rattle.kd_card.proofs.Kept.{machines_have_all, list_keeps}
+use Rattle.kd_card.proofs.Pairing.{cables_paired, bars_paired, length-columns_of}
+
+-- A setting lowers the loose things and the pairing's cost together by at most one, and so many settings by at most so many.
+either : (b : Bool) → cond b 0 1 + cond b 1 0 ≡ 1
+either true = refl
+either false = refl
+
+model_of-list : (m n : Parts) (xs : List Setting) → Leads m xs n → model_of n ≡ model_of m
+model_of-list m n [] h = ap model_of h
+model_of-list m n (x ∷ xs) h = model_of-list h.0 n xs h.2 ∙ ap model_of h.1.made ∙ model_of-changed m x
+
+module _ (s : Day) (legal : IsLegalDay s) (columns : List (Option (ℕ × ℕ) × ℤ)) (rows : List ((ℕ × ℕ) × ℤ)) where
+  abbrev left_over : Parts → ℕ
+  left_over m = loose_count m s + paired_cost m columns rows
+
+  setting_lowers : (m n : Parts) (x : Setting) → model_of m ≡ day_model s → Carries m x n → left_over m ≤ left_over n + 1
+  setting_lowers m n x same h =
+      subst (λ n. left_over m ≤ left_over n + 1) (sym h.made) (omega (arith, lowers m s x legal same h.allowed, falls m x columns rows h.allowed, either (is_priced x)))
+
+  list_lowers : (m n : Parts) (xs : List Setting) → model_of m ≡ day_model s → Leads m xs n → left_over m ≤ left_over n + length xs
+  list_lowers m n [] same h = subst (λ n. left_over m ≤ left_over n + 0) (sym h) (omega arith)
+  list_lowers m n (x ∷ xs) same h =
+      let next : model_of h.0 ≡ day_model s = ap model_of h.1.made ∙ model_of-changed m x ∙ same in
+      omega (arith, setting_lowers m h.0 x same h.1, list_lowers h.0 n xs next h.2)
+
+-- Prices that fit a square table are in sum at most what any pairing costs.
+length-zip : {A B : Type 0} (xs : List A) (ys : List B) → length xs ≡ length ys → length (zip xs ys) ≡ length xs
+length-zip [] ys e = refl
+length-zip (x ∷ xs) (y ∷ ys) e = ap suc (length-zip xs ys (omega arith))
+length-zip (x ∷ xs) [] e = absurd (omega arith)
+
+module _ {A B : Type 0} (cost : A → B → ℕ) (number : ℕ) (rows : List A) (row_prices : List ℤ) (columns : List B) (prices : List ℤ) where
+  sum_at_most : length rows ≡ number → length row_prices ≡ number → length columns ≡ number → length prices ≡ number → (beside : List (B × ℤ)) → IsPermutation (zip columns prices) beside
+      → ((i j : ℕ) → i < number → j < number
+      → (get_or row_prices i (pos 0) +ℤ get_or prices j (pos 0)) ≤ℤ pos (get_or (get_or (map (λ row. map (cost row) columns) rows) i []) j 0))
+      → fold (λ sum price. sum +ℤ price) (pos 0) (row_prices ++ prices) ≤ℤ pos (pairing_cost cost rows beside)
+  sum_at_most a b c d beside order fits =
+      let size = length_permutation (zip columns prices) beside order ∙ length-zip columns prices (c ∙ sym d) in
+      let all = fit_all cost rows row_prices columns prices (a ∙ sym b) (c ∙ sym d) (λ i j lt lt'. fits i j (omega (arith, a)) (omega (arith, c))) in
+      let below = fitting_prices cost rows row_prices beside (omega arith) (FitAll-IsPermutation cost rows row_prices (zip columns prices) beside order all) in
+      let same = prices_with-IsPermutation (zip columns prices) beside order ∙ prices_with-zip columns prices (c ∙ sym d) in
+      let both = fold_of_both row_prices prices in
+      omega (arith, ints)
+
+rotors_bound : (m n : RotorParts) (s : RotorDay) (row column : List ℤ) (settings : List Setting) → IsMachine (Rotor m) → IsLegalDay (OfRotors s) → ArePrices (Cables row column)
+    → Fits (cost_table (Rotor m) (OfRotors s)) (Cables row column) → Leads (Rotor m) settings (Rotor n) → ReadsAs (Rotor n) (OfRotors s)
+    → (pos (loose_count (Rotor m) (OfRotors s)) +ℤ price_sum (Cables row column)) ≤ℤ pos (length settings)
+rotors_bound m n s row column settings machine legal prices fits leads reads =
+    let at_first = machines_have_all (Rotor m) machine.legal in
+    let at_last = list_keeps (Rotor m) (Rotor n) settings leads at_first in
+    let once = once_of_distinct (letters_plugged s.pairs) legal.pairs.apart in
+    let pairing = cables_paired n.cables s.pairs column at_last once legal.pairs.few prices.columns reads.key.cables in
+    let size = length-columns_of s.pairs legal.pairs.few in
+    let below = sum_at_most cable_cost 13 m.cables row (columns_of s.pairs) column at_first.count prices.rows size prices.columns pairing.beside pairing.order fits in
+    let same = sym (model_of-list (Rotor m) (Rotor n) settings leads) ∙ reads.key.model in
+    let falling = list_lowers (OfRotors s) legal pairing.beside [] (Rotor m) (Rotor n) settings same leads in
+    omega (arith, ints, pairing.free, nothing_loose (Rotor n) (OfRotors s) reads)
+
+pins_bound : (m n : PinParts) (s : PinDay) (row column : List ℤ) (settings : List Setting) → IsMachine (Pin m) → IsLegalDay (OfPins s) → ArePrices (Bars row column)
+    → Fits (cost_table (Pin m) (OfPins s)) (Bars row column) → Leads (Pin m) settings (Pin n) → ReadsAs (Pin n) (OfPins s)
+    → (pos (loose_count (Pin m) (OfPins s)) +ℤ price_sum (Bars row column)) ≤ℤ pos (length settings)
+pins_bound m n s row column settings machine legal prices fits leads reads =
+    let at_first = machines_have_all (Pin m) machine.legal in
+    let at_last = list_keeps (Pin m) (Pin n) settings leads at_first in
+    let pairing = bars_paired n.bars s.rows column at_last (legal.count ∙ sym prices.columns) reads.key.rows in
+    let below = sum_at_most bar_cost 27 m.bars row s.rows column at_first.count prices.rows legal.count prices.columns pairing.beside pairing.order fits in
+    let falling = list_lowers (OfPins s) legal [] pairing.beside (Pin m) (Pin n) settings refl leads in
+    omega (arith, ints, pairing.free, nothing_loose (Pin n) (OfPins s) reads)
+
+-- A machine and a day are of one kind.
+no_rotors : (model : Model) (reflector : Reflector) → model ≡ M209 → Contains (reflectors_of model) reflector → ⊥
+no_rotors model reflector e h = let none = subst (λ model. Contains (reflectors_of model) reflector) e h in omega (arith, none.1)
+
+pub fitting_prices_bound_lists : FittingPricesBoundLists
+fitting_prices_bound_lists (Rotor m) (OfRotors s) (Cables row column) settings machine legal prices kind fits (Rotor n, leads, reads) = rotors_bound m n s row column settings machine legal prices fits leads reads
+fitting_prices_bound_lists (Pin m) (OfPins s) (Bars row column) settings machine legal prices kind fits (Pin n, leads, reads) = pins_bound m n s row column settings machine legal prices fits leads reads
+fitting_prices_bound_lists (Rotor m) (OfPins s) (Cables row column) settings machine legal prices kind fits (Pin n, leads, reads) =
+    absurd (no_rotors m.model m.reflector (sym (model_of-list (Rotor m) (Pin n) settings leads)) machine.legal.reflector)
+fitting_prices_bound_lists (Pin m) (OfRotors s) (Bars row column) settings machine legal prices kind fits (Rotor n, leads, reads) =
+    absurd (no_rotors s.model s.reflector (sym reads.key.model ∙ model_of-list (Pin m) (Rotor n) settings leads) legal.reflector)
+fitting_prices_bound_lists (Rotor m) (OfRotors s) (Cables row column) settings machine legal prices kind fits (Pin n, leads, reads) = absurd reads.key
+fitting_prices_bound_lists (Rotor m) (OfPins s) (Cables row column) settings machine legal prices kind fits (Rotor n, leads, reads) = absurd reads.key
+fitting_prices_bound_lists (Pin m) (OfRotors s) (Bars row column) settings machine legal prices kind fits (Pin n, leads, reads) = absurd reads.key
+fitting_prices_bound_lists (Pin m) (OfPins s) (Bars row column) settings machine legal prices kind fits (Rotor n, leads, reads) = absurd reads.key
+fitting_prices_bound_lists (Rotor m) s (Bars row column) settings machine legal prices kind fits reached = absurd kind
+fitting_prices_bound_lists (Pin m) s (Cables row column) settings machine legal prices kind fits reached = absurd kind
+
+-- Where each setting is needed, there are as many as loose things and those that change a cable or a bar.
+needed_one : (m : Parts) (s : Day) (x : Setting) (b : Bool) → is_priced x ≡ b → IsNeeded m s x → loose_count m s + cond b 1 0 ≡ loose_count (changed m x) s + 1
+needed_one m s x true e needed = omega (arith, leaves m s x e)
+needed_one m s x false e needed = omega (arith, needed e)
+
+needed_all : (m n : Parts) (s : Day) (xs : List Setting) → Leads m xs n → AreNeeded m s xs → loose_count m s + priced_count xs ≡ loose_count n s + length xs
+needed_all m n s [] leads needed = subst (λ n. loose_count m s + 0 ≡ loose_count n s + 0) (sym leads) refl
+needed_all m n s (x ∷ xs) leads needed =
+    let rest = needed_all (changed m x) n s xs (subst (λ between. Leads between xs n) leads.1.made leads.2) needed.1 in
+    omega (arith, needed_one m s x (is_priced x) refl needed.0, count_by-cons is_priced x xs, rest)
+
+pub proving_cards_are_as_long : ProvingCardsAreAsLong
+proving_cards_are_as_long m s settings prices h =
+    let sum = h.sum in
+    let whole = needed_all m h.leads.0 s settings h.leads.1 h.needed in
+    let none = nothing_loose h.leads.0 s h.leads.2 in
+    omega (arith, ints)
+
+pub proving_cards_are_shortest : ProvingCardsAreShortest
+proving_cards_are_shortest m s settings prices machine legal are_prices h others reached =
+    let long = proving_cards_are_as_long m s settings prices h in
+    let below = fitting_prices_bound_lists m s prices others machine legal are_prices h.kind h.fits reached in
+    omega (arith, ints)

@@ -1,0 +1,11 @@
+use Rattle.std.proofs.Common.{◌↔◌, length}
+use Rattle.std.specs.List.{All}
+use Rattle.kd_state.specs.Words.{words_of}
+use Rattle.kd_card.specs.CardFault.{IsPriceText}
+use Rattle.kd_card.proofs.price_text.are_prices.Given as goal
+
+abbrev pub invariant-loop-word : goal.invariant-loop-word
+invariant-loop-word l = All IsPriceText (words_of l.text) ↔ All IsPriceText (words_of l.rest)
+
+abbrev pub decreases-loop-word : goal.decreases-loop-word
+decreases-loop-word l = length l.rest

@@ -1,0 +1,11 @@
+use Rattle.std.proofs.Common.{◌≡◌, length, map, take}
+use Rattle.std.specs.Fmt.{signed_decimal}
+use Rattle.kd_card.specs.Prices.{AreWithinReach}
+use Rattle.kd_card.proofs.price_text.prices_of_words.Given as goal
+
+abbrev pub invariant-loop-word : goal.invariant-loop-word
+invariant-loop-word g l = record {
+  texts : map (λ word. word.now) (take l.word-index l.words) ≡ map signed_decimal l.prices.items;
+  reach : AreWithinReach l.prices.items;
+  count : length l.prices.items ≡ l.word-index;
+}

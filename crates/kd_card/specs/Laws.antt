@@ -1,0 +1,42 @@
+-- What holds of cards.
+use Rattle.std.specs.Prelude.{◌≡◌, ℕ, ◌+◌, ◌≤◌, List, length, pos, ◌+ℤ◌, ◌≤ℤ◌}
+use Rattle.kd_state.specs.declared.parts.Parts.{Parts}
+use Rattle.kd_state.specs.declared.setting.Setting.{Setting}
+use Rattle.kd_state.specs.Machine.{IsMachine}
+use Rattle.kd_state.specs.Setting.{Carries, changed}
+use Rattle.kd_state.specs.SheetDay.{Day, IsLegalDay}
+use Rattle.kd_state.specs.Costs.{cost_table, loose_count}
+use Rattle.kd_card.specs.declared.prices.PriceParts.{PriceParts}
+use Rattle.kd_card.specs.declared.fault.CardFault.{CardFault}
+use Rattle.kd_card.specs.Prices.{Fits, price_sum, ArePrices}
+use Rattle.kd_card.specs.CardText.{IsCard}
+use Rattle.kd_card.specs.CardFault.{IsCardFault}
+use Rattle.kd_card.specs.Proving.{AreOfKind, Proves, IsShortest, LeadsToTheDay}
+
+-- Where prices fit, no settings whatever that lead the machine to the day are fewer than the loose things and the sum of
+-- the prices.
+abbrev pub FittingPricesBoundLists : Type 0
+FittingPricesBoundLists =
+    (m : Parts) (s : Day) (prices : PriceParts) (settings : List Setting) → IsMachine m → IsLegalDay s → ArePrices prices → AreOfKind m prices
+    → Fits (cost_table m s) prices → LeadsToTheDay m s settings
+    → (pos (loose_count m s) +ℤ price_sum prices) ≤ℤ pos (length settings)
+
+-- a card that proves itself has as many lines as there are loose things and prices in sum, and is shortest
+abbrev pub ProvingCardsAreAsLong : Type 0
+ProvingCardsAreAsLong =
+    (m : Parts) (s : Day) (settings : List Setting) (prices : PriceParts) → Proves m s settings prices
+    → pos (length settings) ≡ (pos (loose_count m s) +ℤ price_sum prices)
+
+abbrev pub ProvingCardsAreShortest : Type 0
+ProvingCardsAreShortest =
+    (m : Parts) (s : Day) (settings : List Setting) (prices : PriceParts) → IsMachine m → IsLegalDay s → ArePrices prices → Proves m s settings prices
+    → IsShortest m s settings
+
+-- no two cards have one text, and a card has no fault
+abbrev pub TextsTellCards : Type 0
+TextsTellCards =
+    (bytes : List ℕ) (day other : ℕ) (xs ys : List Setting) (prices others : PriceParts) → IsCard bytes day xs prices → IsCard bytes other ys others
+    → (day ≡ other) × (xs ≡ ys) × (prices ≡ others)
+
+abbrev pub CardsHaveNoFault : Type 0
+CardsHaveNoFault = (bytes : List ℕ) (day : ℕ) (xs : List Setting) (prices : PriceParts) (fault : CardFault) → IsCard bytes day xs prices → ¬ (IsCardFault bytes fault)

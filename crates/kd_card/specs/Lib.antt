@@ -1,0 +1,6 @@
+pub mod Prices
+pub mod CardText
+pub mod CardFault
+pub mod Reading
+pub mod Proving
+pub mod Laws

@@ -1,0 +1,24 @@
+use thiserror::Error;
+
+/// Why bytes are no card. Lines are counted from 1.
+#[derive(Clone, Copy, Debug, PartialEq, Eq, Error)]
+pub enum CardFault {
+    /// The first line is no card's head.
+    #[error("7 BadHead")]
+    BadHead,
+    /// The line is not what is due there.
+    #[error("8 BadLine {line}")]
+    BadLine { line: usize },
+    /// There are more than 192 settings.
+    #[error("9 TooMany")]
+    TooMany,
+    /// Prices are due, and there are none, others, or another number of them.
+    #[error("10 PriceMissing")]
+    PriceMissing,
+    /// The number of settings, or the sum of the prices, is another one.
+    #[error("11 CountWrong")]
+    CountWrong,
+    /// Bytes follow the card.
+    #[error("12 Trailing")]
+    Trailing,
+}

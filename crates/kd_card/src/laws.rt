@@ -1,0 +1,36 @@
+//! What holds of cards.
+ghost use Rattle.kd_card.specs.Laws.{TextsTellCards, CardsHaveNoFault};
+ghost use Rattle.kd_card.specs.Laws.{FittingPricesBoundLists, ProvingCardsAreAsLong, ProvingCardsAreShortest};
+
+use kd_state::laws::{
+    lines_tell_words, no_two_settings_have_one_line, numbers_and_letters_are_words,
+    settings_have_words, texts_tell_first_parts,
+};
+
+/// No two cards have one text, and a card's text has no fault. So it is not the front of another card's text either.
+pub fn no_two_cards_have_one_text()
+    ensures card { TextsTellCards }
+    ensures no_fault { CardsHaveNoFault }
+{
+    lines_tell_words();
+    texts_tell_first_parts();
+    numbers_and_letters_are_words();
+    settings_have_words();
+    no_two_settings_have_one_line();
+}
+
+/// Where prices fit, no settings whatever that lead a machine to the day are fewer than its loose things and the sum of
+/// the prices.
+pub fn fitting_prices_bound_lists()
+    ensures { FittingPricesBoundLists }
+{}
+
+/// A card that proves itself has as many settings as there are loose things and prices in sum.
+pub fn proving_cards_are_as_long()
+    ensures { ProvingCardsAreAsLong }
+{}
+
+/// A card that proves itself is shortest.
+pub fn proving_cards_are_shortest()
+    ensures { ProvingCardsAreShortest }
+{}

@@ -1,0 +1,18 @@
+//! Cards: the settings that lead a machine to a day of a sheet, the prices that prove them fewest, and the text of both.
+#![tactic(auto)]
+
+mod card;
+mod fault;
+pub mod laws;
+mod price_text;
+mod prices;
+mod read;
+#[cfg(test)]
+mod tests;
+mod write;
+
+pub use card::Card;
+pub use fault::CardFault;
+pub use prices::{PriceParts, Prices};
+pub use read::read_card;
+pub use write::write_card;

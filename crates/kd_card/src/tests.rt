@@ -1,0 +1,4 @@
+mod prices;
+mod read;
+mod samples;
+mod write;

@@ -1,0 +1,148 @@
+//! The text of a card, written to a sink.
+ghost use Rattle.std.specs.Prelude.{◌≡◌, ◌+◌, ◌*◌, ◌≤◌, ◌||◌, [], ◌∷◌, ◌++◌, length, decimal, is_err, unsigned_abs};
+ghost use Rattle.std.specs.List.{flat_map};
+ghost use Rattle.std.specs.Fmt.{signed_decimal};
+ghost use Rattle.arrayvec.specs.ArrayString.{array_string_len};
+ghost use Rattle.kd_tables.specs.Writing.{Writes};
+ghost use Rattle.kd_state.specs.Line.{list_text};
+ghost use Rattle.kd_state.specs.SheetDay.{IsDayNumber};
+ghost use Rattle.kd_card.specs.Prices.{row_prices, column_prices, price_sum, AreWithinReach, ArePrices};
+ghost use Rattle.kd_card.specs.CardText.{card_text, kind_of, row_word, column_word, head_words, settings_words, price_words, sum_words};
+ghost use Rattle.kd_card.specs.CardFault.{with_line};
+
+use super::card::Card;
+use super::prices::{PriceParts, Prices};
+use arrayvec::ArrayString;
+use itoa::Buffer;
+use kd_state::{Setting, push_number};
+use kd_tables::{Device, Sink, put_all};
+
+/// No text of a card is longer: the head, 192 settings and their number, twice 27 prices and their sum.
+const LONGEST: usize = 5120;
+
+/// Writes the text of the card for that day. A sink that fails has taken a front of it.
+pub fn write_card<W: Sink>(sink: &mut W, day: u8, card: &Card) -> Result<(), Device>
+    requires { IsDayNumber day }
+    ensures text { let text = card_text day card.now.settings.items card.now.prices in
+        Writes (W.taken sink.old) (W.taken sink.new) text result }
+    ensures failed { W.has_failed sink.new ≡ (W.has_failed sink.old || is_err result) }
+{
+    put_all(sink, text_of(day, card).as_str().as_bytes())
+}
+
+/// The text of the card for that day.
+fn text_of(day: u8, card: &Card) -> ArrayString<LONGEST>
+    ensures { result.bytes ≡ card_text day card.now.settings.items card.now.prices }
+{
+    let mut text = ArrayString::new();
+    push_head(&mut text, day);
+    push_settings(&mut text, card.settings.as_slice());
+    push_count(&mut text, card.settings.len());
+    push_prices(&mut text, &card.prices);
+    push_sum(&mut text, card.prices.sum());
+    text
+}
+
+/// Appends the head.
+fn push_head<const N: usize>(text: &mut ArrayString<N>, day: u8)
+    requires { array_string_len text.old + 15 ≤ N }
+    ensures bytes { text.new.bytes ≡ text.old.bytes ++ with_line (head_words day) [] }
+    ensures len { array_string_len text.new ≤ array_string_len text.old + 15 }
+{
+    text.push_str("CARD 1 DAY ");
+    push_number(text, day);
+    text.push_str("\n");
+}
+
+/// Appends a line for each setting.
+fn push_settings<const N: usize>(text: &mut ArrayString<N>, settings: &[Setting])
+    requires { array_string_len text.old + 24 * length settings.now ≤ N }
+    ensures bytes { text.new.bytes ≡ text.old.bytes ++ list_text settings.now }
+    ensures len { array_string_len text.new ≤ array_string_len text.old + 24 * length settings.now }
+{
+    for setting in settings {
+        push_setting(text, setting);
+    }
+}
+
+/// Appends the line of the setting.
+fn push_setting<const N: usize>(text: &mut ArrayString<N>, setting: &Setting)
+    requires { array_string_len text.old + 24 ≤ N }
+    ensures bytes { text.new.bytes ≡ text.old.bytes ++ list_text (setting.now ∷ []) }
+    ensures len { array_string_len text.new ≤ array_string_len text.old + 24 }
+{
+    text.push_str(setting.line().as_str());
+    text.push_str("\n");
+}
+
+/// Appends the line with the number of settings.
+fn push_count<const N: usize>(text: &mut ArrayString<N>, count: usize)
+    requires { array_string_len text.old + 30 ≤ N }
+    ensures bytes { text.new.bytes ≡ text.old.bytes ++ with_line (settings_words count) [] }
+    ensures len { array_string_len text.new ≤ array_string_len text.old + 30 }
+{
+    let mut buffer = Buffer::new();
+    text.push_str("SETTINGS ");
+    text.push_str(buffer.format(count));
+    text.push_str("\n");
+}
+
+/// Appends the two lines of prices.
+fn push_prices<const N: usize>(text: &mut ArrayString<N>, prices: &Prices)
+    requires { array_string_len text.old + 400 ≤ N }
+    ensures bytes { let kind = kind_of prices.now in
+        let rows = price_words (row_word kind) (row_prices prices.now) in
+        let columns = price_words (column_word kind) (column_prices prices.now) in
+        text.new.bytes ≡ text.old.bytes ++ with_line rows (with_line columns []) }
+    ensures len { array_string_len text.new ≤ array_string_len text.old + 400 }
+{
+    match prices.parts() {
+        PriceParts::Cables(cables, pairs) => {
+            push_price_line(text, "CABLES", &cables);
+            push_price_line(text, "PAIRS", &pairs);
+        }
+        PriceParts::Bars(bars, rows) => {
+            push_price_line(text, "BARS", &bars);
+            push_price_line(text, "ROWS", &rows);
+        }
+    }
+}
+
+/// Appends the line of a word and prices.
+fn push_price_line<const N: usize>(text: &mut ArrayString<N>, word: &str, prices: &[i16])
+    requires room { array_string_len text.old + length word.now + 6 * length prices.now + 1 ≤ N }
+    requires reach { AreWithinReach prices.now }
+    ensures bytes { text.new.bytes ≡ text.old.bytes ++ with_line (price_words word.now prices.now) [] }
+    ensures len { array_string_len text.new
+        ≤ array_string_len text.old + length word.now + 6 * length prices.now + 1 }
+{
+    text.push_str(word);
+    for price in prices {
+        push_price(text, *price);
+    }
+    text.push_str("\n");
+}
+
+/// Appends a space and a price.
+fn push_price<const N: usize>(text: &mut ArrayString<N>, price: i16)
+    requires room { array_string_len text.old + 6 ≤ N }
+    requires reach { unsigned_abs price ≤ 9999 }
+    ensures bytes { text.new.bytes ≡ text.old.bytes ++ (32 ∷ signed_decimal price) }
+    ensures len { array_string_len text.new ≤ array_string_len text.old + 6 }
+{
+    let mut buffer = Buffer::new();
+    text.push_str(" ");
+    text.push_str(buffer.format(price));
+}
+
+/// Appends the line with the sum.
+fn push_sum<const N: usize>(text: &mut ArrayString<N>, sum: i32)
+    requires { array_string_len text.old + 16 ≤ N }
+    ensures bytes { text.new.bytes ≡ text.old.bytes ++ with_line (sum_words sum) [] }
+    ensures len { array_string_len text.new ≤ array_string_len text.old + 16 }
+{
+    let mut buffer = Buffer::new();
+    text.push_str("SUM ");
+    text.push_str(buffer.format(sum));
+    text.push_str("\n");
+}

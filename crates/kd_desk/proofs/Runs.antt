@@ -1,0 +1,57 @@
+-- What the program's words say, and the run that is made for them.
+use Rattle.std.proofs.Common.{◌≡◌, ℕ, List, Option, Some, None, IfSome, IsSomeAnd, Result, Ok, Err, IsErrAnd, codes, get_or, sym, ap, ◌∙◌, subst, inl, arith}
+use Rattle.std.proofs.lemmas.Fmt.{decimal_injective}
+use Rattle.std.proofs.lemmas.Option.{same_Some}
+use Rattle.clap.specs.Words.{Row, subcommand_of}
+use Rattle.kd_desk.specs.declared.command.Command.{Command}
+use Rattle.kd_desk.specs.declared.command.Command.TheVariants as commands
+use Rattle.kd_desk.specs.declared.fault.DeskFault.{DeskFault}
+use Rattle.kd_desk.specs.declared.stop.Stop.{Stop}
+use Rattle.kd_desk.specs.declared.stop.Stop.TheVariants.{Refused}
+use Rattle.kd_desk.specs.CommandLine.{desk_grammar, IsOf, Says}
+use Rattle.kd_desk.specs.Desk.{typing, with_bytes, typing_of, card_of, run_of, TypesOn, CarriesOut}
+use Rattle.kd_desk.specs.Files.{content_of}
+use Rattle.kd_desk.specs.Ports.{Port}
+
+other_name : codes "type" ≡ codes "card" → ⊥
+other_name same = let letter : 116 ≡ 99 = ap (λ word. get_or word 0 0) same in omega (arith, letter)
+
+-- two commands of one name with the same words make one run
+same_run : (said : List ℕ × List Row) (one other : Command) → IsOf said one → IsOf said other → (held : List ℕ → Option (List ℕ)) → run_of held one ≡ run_of held other
+same_run said (commands.Type machine) (commands.Type another) is are held = ap (λ name. typing_of (held name)) (same_Some _ _ (sym is.1 ∙ are.1))
+same_run said (commands.Type machine) (commands.Card another sheet day) is are held = absurd (other_name (sym is.0 ∙ are.0))
+same_run said (commands.Card machine sheet day) (commands.Type another) is are held = absurd (other_name (sym are.0 ∙ is.0))
+same_run said (commands.Card machine sheet day) (commands.Card another second number) is are held =
+    let first = same_Some _ _ (sym is.1 ∙ are.1) in
+    let then = same_Some _ _ (sym is.2 ∙ are.2) in
+    let days = decimal_injective day number (omega (arith, is.5)) (omega (arith, are.5)) (same_Some _ _ (sym is.3 ∙ are.3)) in
+    λ i. card_of (held (first i)) (held (then i)) (days i)
+
+said_by : (said : Option (List ℕ × List Row)) (one other : Command) → IsSomeAnd said (λ x. IsOf x one) → IsSomeAnd said (λ x. IsOf x other)
+    → (held : List ℕ → Option (List ℕ)) → run_of held one ≡ run_of held other
+said_by None one other is are held = absurd is
+said_by (Some said) one other is are held = same_run said one other is are held
+
+-- the words say one run
+pub said_run : (words : List (List ℕ)) (one other : Command) → Says words one → Says words other → (held : List ℕ → Option (List ℕ)) → run_of held one ≡ run_of held other
+said_run words one other says same held = said_by (subcommand_of desk_grammar words) one other says.said same.said held
+
+-- the run of one command is carried out for another one that means the same
+pub carried_for : (known : Option (List ℕ → Option (List ℕ))) (one other : Command) (source sink : Port) (answer : Result (Unit {0}) Stop)
+    → ((held : List ℕ → Option (List ℕ)) → run_of held one ≡ run_of held other)
+    → IfSome known (λ held. CarriesOut (run_of held one) source sink answer) → IfSome known (λ held. CarriesOut (run_of held other) source sink answer)
+carried_for None one other source sink answer same carried = tt
+carried_for (Some held) one other source sink answer same carried = subst (λ run. CarriesOut run source sink answer) (same held) carried
+
+err_is : (answer : Result (Unit {0}) Stop) (stop : Stop) → IsErrAnd answer (λ made. made ≡ stop) → answer ≡ Err stop
+err_is (Ok x) stop made = absurd made
+err_is (Err other) stop made = ap Err made
+
+-- the typing on a file was refused, or stopped
+pub typing_refused : (known : Option (List ℕ → Option (List ℕ))) (name bytes read : List ℕ) (source sink : Port) (fault : DeskFault) (answer : Result (Unit {0}) Stop)
+    → IfSome known (λ held. content_of (held name) ≡ Ok bytes) → read ≡ bytes → TypesOn read source sink (Err fault) → IsErrAnd answer (λ made. made ≡ Refused fault)
+    → IfSome known (λ held. CarriesOut (typing_of (held name)) source sink answer)
+typing_refused None name bytes read source sink fault answer content same types made = tt
+typing_refused (Some held) name bytes read source sink fault answer content same types made =
+    subst (λ file. CarriesOut (with_bytes file (λ m. Ok (typing m))) source sink answer) (ap Ok same ∙ sym content)
+    (inl (record { told = Err fault; does = types; answers = err_is answer (Refused fault) made }))

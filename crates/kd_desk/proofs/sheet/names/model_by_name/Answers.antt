@@ -1,5 +1,0 @@
-use Rattle.kd_desk.proofs.Namings.{model_by_name_found}
-use Rattle.kd_desk.proofs.sheet.names.model_by_name.Goals as goal
-
-pub returns : goal.returns
-returns c = rw (← c.as_bytes.ensures.value) (model_by_name_found _ _ c.from_text.ensures)

@@ -1,0 +1,108 @@
+//! The program, from its words to its bytes.
+ghost use Rattle.std.specs.Prelude.{◌≡◌, ◌≢◌, ◌⊎◌, ◌||◌, map, Err, IfSome, IsTrue};
+ghost use Rattle.kd_desk.specs.CommandLine.{Says};
+ghost use Rattle.kd_desk.specs.Desk.{CarriesOut, LacksMemory, run_of, typing_of, card_of, is_stopped_before, is_stopped_by_port};
+ghost use Rattle.kd_desk.specs.Ports.{Fail, IsWell, Port, port};
+
+#[cfg(test)]
+mod tests;
+
+use crate::command::{Command, parse_words};
+use crate::files::Files;
+use crate::run_card::run_card;
+use crate::run_type::run_type;
+use crate::stop::Stop;
+use kd_tables::{Sink, Source};
+use std::alloc::Global;
+use std::convert::AsStr;
+
+/// Carries out the command that the program's words say, the program's own name first, on the files that they name.
+///
+/// Words that say no command are `Usage`. The files are read in the order of the words, each whole before the next, and
+/// the first that can't be had is `Unread`; then nothing is read from the source or written to the sink.
+pub fn run_desk<S: AsStr, F: Files, R: Source, W: Sink>(
+    alloc: Global,
+    words: &[S],
+    files: &F,
+    source: &mut R,
+    sink: &mut W,
+) -> Result<(), Stop>
+    ensures carried { (command : Command) → Says (map S.text words.entry.now) command
+        → IfSome (F.known files.now) (λ held. CarriesOut (run_of held command)
+        (port R.remaining R.has_failed source.old source.new) (port W.taken W.has_failed sink.old sink.new) result) }
+    ensures usage { result ≡ Err Stop.Usage → (command : Command) → Says (map S.text words.entry.now) command → ⊥ }
+    ensures other_words { ((command : Command) → Says (map S.text words.entry.now) command → ⊥)
+        → (result ≡ Err Stop.Usage) ⊎ LacksMemory result }
+    ensures untouched { IsTrue (is_stopped_before result) → (source.new ≡ source.old) × (sink.new ≡ sink.old) }
+    ensures failed { Fail (port R.remaining R.has_failed source.old source.new)
+        (port W.taken W.has_failed sink.old sink.new) (is_stopped_by_port result) }
+{
+    let command = parse_words(alloc, words)?;
+    carry_out(alloc, command, files, source, sink)
+}
+
+/// Carries out a command on the files that it names.
+fn carry_out<F: Files, R: Source, W: Sink>(
+    alloc: Global,
+    command: Command,
+    files: &F,
+    source: &mut R,
+    sink: &mut W,
+) -> Result<(), Stop>
+    ensures carried { IfSome (F.known files.now) (λ held. CarriesOut (run_of held command.entry)
+        (port R.remaining R.has_failed source.old source.new) (port W.taken W.has_failed sink.old sink.new) result) }
+    ensures begun { result ≢ Err Stop.Usage }
+    ensures untouched { IsTrue (is_stopped_before result) → (source.new ≡ source.old) × (sink.new ≡ sink.old) }
+    ensures failed { Fail (port R.remaining R.has_failed source.old source.new)
+        (port W.taken W.has_failed sink.old sink.new) (is_stopped_by_port result) }
+{
+    match command {
+        Command::Type { machine } => type_on(alloc, machine, files, source, sink),
+        Command::Card {
+            machine,
+            sheet,
+            day,
+        } => write_card_of(alloc, machine, sheet, day, files, sink),
+    }
+}
+
+/// Types on the machine of a file.
+fn type_on<F: Files, R: Source, W: Sink>(
+    alloc: Global,
+    machine: &str,
+    files: &F,
+    source: &mut R,
+    sink: &mut W,
+) -> Result<(), Stop>
+    ensures carried { IfSome (F.known files.now) (λ held. CarriesOut (typing_of (held machine.now))
+        (port R.remaining R.has_failed source.old source.new) (port W.taken W.has_failed sink.old sink.new) result) }
+    ensures begun { result ≢ Err Stop.Usage }
+    ensures untouched { IsTrue (is_stopped_before result) → (source.new ≡ source.old) × (sink.new ≡ sink.old) }
+    ensures failed { Fail (port R.remaining R.has_failed source.old source.new)
+        (port W.taken W.has_failed sink.old sink.new) (is_stopped_by_port result) }
+{
+    let bytes = files.read(alloc, machine)?;
+    run_type(alloc, bytes.as_slice(), source, sink)?;
+    Ok(())
+}
+
+/// Writes the card that leads the machine of a file to the day of a sheet, without a look at the source.
+fn write_card_of<F: Files, W: Sink>(
+    alloc: Global,
+    machine: &str,
+    sheet: &str,
+    day: u8,
+    files: &F,
+    sink: &mut W,
+) -> Result<(), Stop>
+    ensures carried { IfSome (F.known files.now) (λ held. (source : Port) → (source.has ≡ source.had) → IsWell source
+        → CarriesOut (card_of (held machine.now) (held sheet.now) day) source (port W.taken W.has_failed sink.old sink.new) result) }
+    ensures begun { result ≢ Err Stop.Usage }
+    ensures untouched { IsTrue (is_stopped_before result) → sink.new ≡ sink.old }
+    ensures failed { W.has_failed sink.new ≡ (W.has_failed sink.old || is_stopped_by_port result) }
+{
+    let machine = files.read(alloc, machine)?;
+    let sheet = files.read(alloc, sheet)?;
+    run_card(alloc, machine.as_slice(), sheet.as_slice(), day, sink)?;
+    Ok(())
+}

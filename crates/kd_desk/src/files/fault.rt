@@ -1,0 +1,39 @@
+use std::alloc::AllocError;
+use std::io;
+
+/// Why a file can't be read whole.
+#[derive(Clone, Copy, Debug, PartialEq, Eq)]
+pub enum FileFault {
+    /// Memory ran out as the file was read.
+    NoMemory,
+    /// There is no such file, or a read failed.
+    Device,
+    /// The file has more bytes than are read.
+    ReadTooLong,
+}
+
+impl From<AllocError> for FileFault {
+    ghost use Rattle.std.specs.Prelude.{◌≡◌};
+    ghost use Rattle.kd_desk.specs.declared.files.fault.FileFault.TheVariants as files;
+
+    ghost from_gives = { λ _ fault. fault ≡ files.NoMemory };
+
+    fn from(_: AllocError) -> FileFault {
+        FileFault::NoMemory
+    }
+}
+
+impl From<io::Error> for FileFault {
+    ghost use Rattle.std.specs.Prelude.{◌≡◌};
+    ghost use Rattle.std.specs.IoError.{error_kind};
+    ghost use Rattle.kd_desk.specs.Stops.{fault_of_kind};
+
+    ghost from_gives = { λ error fault. fault ≡ fault_of_kind (error_kind error) };
+
+    fn from(error: io::Error) -> FileFault {
+        match error.kind() {
+            io::ErrorKind::OutOfMemory => FileFault::NoMemory,
+            _ => FileFault::Device,
+        }
+    }
+}

@@ -1,0 +1,45 @@
+ghost use Rattle.std.specs.Prelude.{◌≡◌, ◌⊎◌, IfOk, IfErr, IsTrue};
+ghost use Rattle.kd_desk.specs.declared.fault.DeskFault.TheVariants as faults;
+ghost use Rattle.kd_desk.specs.MachineFile.{machine_of};
+ghost use Rattle.kd_desk.specs.TwoCiphers.{IsReady, physical_key};
+ghost use Rattle.kd_desk.specs.Ports.{Fail, port};
+ghost use Rattle.kd_desk.specs.Typing.{TypesLine};
+ghost use Rattle.kd_desk.specs.RunSteps.{RanOut, AnswersFault, is_device, is_refused_before};
+
+#[cfg(test)]
+mod tests;
+
+use crate::fault::DeskFault;
+use crate::sheet::read_machine;
+use crate::state::engine;
+use crate::typing::type_line;
+use kd_tables::{Sink, Source};
+use std::alloc::Global;
+
+/// Types the text that the source gives on the machine that the file describes, and writes the lamps that light up, in
+/// capital letters, and a line feed.
+///
+/// The text has capital letters; spaces, carriage returns and line feeds between them are passed over. The machine file's
+/// faults come first, then an empty slot, and nothing is read or written where the call is refused for these. Then the
+/// text is read to its end, a piece at a time: the call is refused at the first byte that is not allowed, and where more
+/// than 1,048,576 bytes come, and has then written the lamps of the letters before, without the line feed. So it has where
+/// a read fails; where a write fails, it has written a front of what it was to write.
+pub fn run_type<R: Source, W: Sink>(
+    alloc: Global,
+    machine: &[u8],
+    source: &mut R,
+    sink: &mut W,
+) -> Result<(), DeskFault>
+    ensures refused { IfErr (machine_of machine.now) (λ fault. AnswersFault result (faults.File fault)) }
+    ensures not_ready { IfOk (machine_of machine.now) (λ m. ¬ IsReady m → AnswersFault result faults.NotReady) }
+    ensures typed { IfOk (machine_of machine.now) (λ m. IsReady m → TypesLine (physical_key m)
+        (port R.remaining R.has_failed source.old source.new) (port W.taken W.has_failed sink.old sink.new) result ⊎ RanOut result) }
+    ensures untouched { IsTrue (is_refused_before result) → (source.new ≡ source.old) × (sink.new ≡ sink.old) }
+    ensures failed { Fail (port R.remaining R.has_failed source.old source.new)
+        (port W.taken W.has_failed sink.old sink.new) (is_device result) }
+{
+    let machine = read_machine(alloc, machine)?;
+    let mut enigma = engine(&machine)?;
+    type_line(&mut enigma, source, sink)?;
+    Ok(())
+}

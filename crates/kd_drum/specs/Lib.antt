@@ -1,0 +1,4 @@
+pub mod Converter
+pub mod Laws
+pub mod Sound
+pub mod Standing

@@ -1,0 +1,39 @@
+-- The wheels as they stand in the Converter, and the key that they make.
+use Rattle.std.specs.Prelude.{◌≡◌, ℕ, Bool, List, [], ◌∷◌}
+use Rattle.kd_tables.specs.Rings.{ring_of}
+use Rattle.kd_pins.specs.PinWheel.{TurnedWheel, IsWheel, letter_shown}
+use Rattle.kd_pins.specs.PinWheels.{offset_of}
+use Rattle.kd_drum.specs.Converter.{PinKey}
+use Rattle.kd_drum.specs.Sound.{RingsAreSound}
+
+-- the wheel is that of the number, and has so many places
+pub record StandsAs (number size : ℕ) (wheel : TurnedWheel) : Type 0 where
+  pub ring : wheel.ring ≡ ring_of number
+  pub offset : wheel.offset ≡ offset_of number
+  pub turned : IsWheel size wheel
+
+-- six wheels stand as the first to the sixth
+pub record AllStand (w1 w2 w3 w4 w5 w6 : TurnedWheel) : Type 0 where
+  pub first : StandsAs 1 26 w1
+  pub second : StandsAs 2 25 w2
+  pub third : StandsAs 3 23 w3
+  pub fourth : StandsAs 4 21 w4
+  pub fifth : StandsAs 5 19 w5
+  pub sixth : StandsAs 6 17 w6
+  pub sound : RingsAreSound
+
+-- the key that six wheels and the readings of the bars make
+abbrev pub key_of : TurnedWheel → TurnedWheel → TurnedWheel → TurnedWheel → TurnedWheel → TurnedWheel → List (ℕ × ℕ) → PinKey
+key_of w1 w2 w3 w4 w5 w6 rows = record {
+  pins = w1.pins ∷ w2.pins ∷ w3.pins ∷ w4.pins ∷ w5.pins ∷ w6.pins ∷ [];
+  letters = letter_shown w1 ∷ letter_shown w2 ∷ letter_shown w3 ∷ letter_shown w4 ∷ letter_shown w5 ∷ letter_shown w6 ∷ [];
+  rows = rows;
+}
+
+-- the wheel has these letters and pins, and shows the letter
+pub record IsSetTo (size : ℕ) (ring : List ℕ) (offset : ℕ) (pins : List Bool) (letter : ℕ) (wheel : TurnedWheel) : Type 0 where
+  pub same_ring : wheel.ring ≡ ring
+  pub same_offset : wheel.offset ≡ offset
+  pub same_pins : wheel.pins ≡ pins
+  pub shows : letter_shown wheel ≡ letter
+  pub turned : IsWheel size wheel

@@ -1,0 +1,220 @@
+ghost use Rattle.std.specs.Prelude.{◌≡◌, ◌↔◌, ◌<◌, ◌≤◌, ◌+◌, ◌-◌, ◌%◌, ◌||◌, [], ◌∷◌, length, Contains, IsOk, IfOk, OnOk, OnErr};
+ghost use Rattle.kd_pins.specs.PinWheel.{TurnedWheel, IsWheel, letter_shown};
+ghost use Rattle.kd_pins.specs.PinWheels.{pins_of};
+ghost use Rattle.kd_drum.specs.Converter.{OnWheels, acts_after, bars_met, converter_cipher, pin_key_after, pin_key_turned};
+ghost use Rattle.kd_drum.specs.Sound.{RingsAreSound};
+ghost use Rattle.kd_drum.specs.Standing.{IsSetTo};
+
+use super::laws::rings_are_sound;
+use kd_pins::{NotOnWheel, PinSet, PinWheel};
+use kd_tables::{Letter, Reading, Ring, ring1, ring2, ring3, ring4, ring5, ring6};
+use std::marker::Model;
+
+/// A Converter M-209 that is set to a key, ready for letters to be enciphered.
+#[derive(Drop)]
+pub struct Converter {
+    w1: PinWheel<26>,
+    w2: PinWheel<25>,
+    w3: PinWheel<23>,
+    w4: PinWheel<21>,
+    w5: PinWheel<19>,
+    w6: PinWheel<17>,
+    rows: [Reading; 27],
+}
+
+impl Model for Converter {
+    ghost use Rattle.std.specs.Prelude.{◌≡◌, length};
+    ghost use Rattle.kd_drum.specs.Converter.{PinKey};
+    ghost use Rattle.kd_drum.specs.Standing.{AllStand, key_of};
+
+    ghost Value = { PinKey };
+
+    ghost view = { λ c. key_of c.w1 c.w2 c.w3 c.w4 c.w5 c.w6 c.rows };
+
+    ghost invariant = { λ c. AllStand c.w1 c.w2 c.w3 c.w4 c.w5 c.w6 × (length c.rows ≡ 27) };
+}
+
+impl Converter {
+    /// The machine with these pins, the letters that its wheels show, and what its bars read as. Refused where a letter
+    /// isn't on its wheel.
+    pub fn new(
+        pins: PinSet,
+        letters: [Letter; 6],
+        rows: [Reading; 27],
+    ) -> Result<Converter, NotOnWheel>
+        ensures ok { IsOk result ↔ OnWheels letters }
+        ensures value { IfOk result (λ converter.
+            converter ≡ record { pins = pins_of pins; letters = letters; rows = rows }) }
+    {
+        rings_are_sound();
+        let [l1, l2, l3, l4, l5, l6] = letters;
+        let w1 = set_to(ring1(), 15, pins.w1, l1)?;
+        let w2 = set_to(ring2(), 14, pins.w2, l2)?;
+        let w3 = set_to(ring3(), 13, pins.w3, l3)?;
+        let w4 = set_to(ring4(), 12, pins.w4, l4)?;
+        let w5 = set_to(ring5(), 11, pins.w5, l5)?;
+        let w6 = set_to(ring6(), 10, pins.w6, l6)?;
+        Ok(Converter {
+            w1,
+            w2,
+            w3,
+            w4,
+            w5,
+            w6,
+            rows,
+        })
+    }
+
+    /// Turns the wheels until they show these letters, from the first wheel on. Refused, and then no wheel is turned, where a
+    /// letter isn't on its wheel.
+    pub fn turn_to(&mut self, letters: [Letter; 6]) -> Result<(), NotOnWheel>
+        ensures ok { IsOk result ↔ OnWheels letters }
+        ensures turned { OnOk result (self.new ≡ pin_key_turned self.old letters) }
+        ensures unchanged { OnErr result (self.new ≡ self.old) }
+    {
+        let [l1, l2, l3, l4, l5, l6] = letters;
+        let w1 = showing(self.w1, l1)?;
+        let w2 = showing(self.w2, l2)?;
+        let w3 = showing(self.w3, l3)?;
+        let w4 = showing(self.w4, l4)?;
+        let w5 = showing(self.w5, l5)?;
+        let w6 = showing(self.w6, l6)?;
+        *self = Converter {
+            w1,
+            w2,
+            w3,
+            w4,
+            w5,
+            w6,
+            rows: self.rows,
+        };
+        Ok(())
+    }
+
+    /// Enciphers a letter, or deciphers it: each of the wheels turns by one place then.
+    pub fn press(&mut self, letter: Letter) -> Letter
+        ensures cipher { converter_cipher self.old (letter ∷ []) ≡ result ∷ [] }
+        ensures after { self.new ≡ pin_key_after self.old 1 }
+    {
+        let met = self.met();
+        self.advance();
+        reversed(met, letter)
+    }
+
+    /// Enciphers a text in its place, letter by letter.
+    pub fn run(&mut self, text: &mut [Letter])
+        ensures cipher { text.new ≡ converter_cipher self.old text.old }
+        ensures after { self.new ≡ pin_key_after self.old (length text.old) }
+    {
+        self.stands();
+        for letter in text.iter_mut() {
+            *letter = self.press(*letter);
+        }
+    }
+
+    /// How many bars the next letter meets.
+    pub fn met(&self) -> u8
+        ensures value { result ≡ bars_met self.now 0 }
+        ensures most { result ≤ 27 }
+    {
+        let mut met = 0;
+        for row in &self.rows {
+            if self.is_met(*row) {
+                met += 1;
+            }
+        }
+        met
+    }
+
+    /// The letters that the wheels show, from the first wheel on.
+    pub fn shown(&self) -> [Letter; 6]
+        ensures { result ≡ self.now.letters }
+    {
+        [
+            self.w1.shown(),
+            self.w2.shown(),
+            self.w3.shown(),
+            self.w4.shown(),
+            self.w5.shown(),
+            self.w6.shown(),
+        ]
+    }
+
+    /// A lug of a bar with this reading stands at a wheel whose acting pin is effective.
+    fn is_met(&self, row: Reading) -> bool
+        ensures { result ≡ (acts_after self.now 0 row.0 || acts_after self.now 0 row.1) }
+    {
+        let (smaller, larger) = row.numbers();
+        self.acts(smaller) || self.acts(larger)
+    }
+
+    /// There is a wheel of that number, and its acting pin is effective.
+    fn acts(&self, wheel: u8) -> bool
+        ensures { result ≡ acts_after self.now 0 wheel }
+    {
+        match wheel {
+            1 => self.w1.acting(),
+            2 => self.w2.acting(),
+            3 => self.w3.acting(),
+            4 => self.w4.acting(),
+            5 => self.w5.acting(),
+            6 => self.w6.acting(),
+            _ => false,
+        }
+    }
+
+    /// Each letter that shows is one of its wheel's.
+    fn stands(&self)
+        ensures now { pin_key_after self.now 0 ≡ self.now }
+        ensures sound { RingsAreSound }
+    {
+        let _ = &self.rows;
+    }
+
+    /// Turns each wheel by one place.
+    fn advance(&mut self)
+        ensures { self.new ≡ pin_key_after self.old 1 }
+    {
+        self.w1.advance();
+        self.w2.advance();
+        self.w3.advance();
+        self.w4.advance();
+        self.w5.advance();
+        self.w6.advance();
+    }
+}
+
+/// The wheel with these letters and pins, turned until it shows the letter.
+fn set_to<const N: usize>(
+    ring: Ring<N>,
+    offset: usize,
+    pins: [bool; N],
+    letter: Letter,
+) -> Result<PinWheel<N>, NotOnWheel>
+    requires { offset < N }
+    ensures ok { IsOk result ↔ Contains ring.entry letter }
+    ensures value { IfOk result (IsSetTo N ring.entry offset pins.entry letter) }
+{
+    let mut wheel = PinWheel::new(ring, offset, pins);
+    wheel.set(letter)?;
+    Ok(wheel)
+}
+
+/// The wheel, turned until it shows the letter.
+fn showing<const N: usize>(wheel: PinWheel<N>, letter: Letter) -> Result<PinWheel<N>, NotOnWheel>
+    ensures ok { IsOk result ↔ Contains wheel.entry.ring letter }
+    ensures value { IfOk result (IsSetTo N wheel.entry.ring wheel.entry.offset wheel.entry.pins letter) }
+{
+    let mut turned = wheel;
+    turned.set(letter)?;
+    Ok(turned)
+}
+
+/// The letter of the reversed alphabet, moved on by the number of bars met.
+fn reversed(met: u8, letter: Letter) -> Letter
+    requires { met ≤ 27 }
+    ensures { result ≡ (25 + met - letter) % 26 }
+{
+    let moved = 25 + usize::from(met) - letter.index();
+    Letter::new((moved % 26) as u8).unwrap()
+}

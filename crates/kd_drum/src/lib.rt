@@ -1,0 +1,9 @@
+//! The Converter M-209: the drum, and the rule of encipherment.
+#![tactic(auto)]
+
+mod converter;
+pub mod laws;
+#[cfg(test)]
+mod tests;
+
+pub use converter::Converter;

@@ -1,0 +1,19 @@
+-- The cables of a plugboard: each exchanges the two letters of a pair.
+use Rattle.std.specs.Prelude.{◌≡◌, ◌⊎◌, ℕ, nat_eq, List, [], ◌∷◌, slice_index, Contains}
+use Rattle.std.specs.List.{flat_map, IsDistinct}
+
+-- the letters of the pairs, one pair after the other
+abbrev pub letters_plugged : List (ℕ × ℕ) → List ℕ
+letters_plugged pairs = flat_map (λ pair. pair.0 ∷ pair.1 ∷ []) pairs
+
+-- no letter lies in two pairs, or twice in one
+abbrev pub NoLetterTwice : List (ℕ × ℕ) → Type 0
+NoLetterTwice pairs = IsDistinct nat_eq (letters_plugged pairs)
+
+-- a pair has these two letters, in either order
+abbrev pub Joins : List (ℕ × ℕ) → ℕ → ℕ → Type 0
+Joins pairs x y = Contains pairs (x, y) ⊎ Contains pairs (y, x)
+
+-- the table leaves the letter
+abbrev pub IsLeft : List ℕ → ℕ → Type 0
+IsLeft table letter = slice_index table letter ≡ letter

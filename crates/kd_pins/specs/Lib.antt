@@ -1,0 +1,2 @@
+pub mod PinWheel
+pub mod PinWheels

@@ -1,0 +1,10 @@
+//! The pin wheels of the Converter M-209.
+#![tactic(auto)]
+
+mod pin_set;
+mod pin_wheel;
+#[cfg(test)]
+mod tests;
+
+pub use pin_set::PinSet;
+pub use pin_wheel::{NotOnWheel, PinWheel};

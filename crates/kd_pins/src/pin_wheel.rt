@@ -1,0 +1,105 @@
+ghost use Rattle.std.specs.Prelude.{◌≡◌, ◌↔◌, ◌<◌, ◌≤◌, ◌+◌, ◌%◌, IsOk, OnOk, Contains};
+ghost use Rattle.kd_tables.specs.Rings.{IsRing};
+ghost use Rattle.kd_pins.specs.PinWheel.{IsWheel, letter_shown, pin_acting, place_past, turned_to, with_shown};
+
+use kd_tables::{Letter, Ring};
+use std::marker::Model;
+use thiserror::Error;
+
+/// A letter that the wheel hasn't.
+#[derive(Clone, Copy, Debug, PartialEq, Eq, Error)]
+#[error("2 NotOnWheel")]
+pub struct NotOnWheel;
+
+/// A pin wheel with its letters in their own order, which is not always the alphabet's, and a pin beside each letter.
+#[derive(Clone, Copy, Debug)]
+pub struct PinWheel<const N: usize> {
+    ring: Ring<N>,
+    offset: usize,
+    pins: [bool; N],
+    place: usize,
+}
+
+impl<const N: usize> Model for PinWheel<N> {
+    ghost use Rattle.std.specs.Prelude.{◌≡◌, ◌<◌, ◌≤◌};
+    ghost use Rattle.kd_pins.specs.PinWheel.{TurnedWheel, IsWheel};
+
+    ghost Value = { TurnedWheel };
+
+    ghost view = { λ w. record { ring = w.ring; offset = w.offset; pins = w.pins; place = w.place } };
+
+    ghost invariant = { λ w. IsWheel N (record { ring = w.ring; offset = w.offset; pins = w.pins; place = w.place }) × (N ≤ 26) };
+
+    ghost inverse = { λ w. record { ring = w.ring; offset = w.offset; pins = w.pins; place = w.place } };
+}
+
+impl<const N: usize> PinWheel<N> {
+    /// The wheel with these letters and the pins beside them, showing its first letter, A. The pin that acts stands `offset`
+    /// places past the letter shown, in the wheel's own order.
+    pub fn new(ring: Ring<N>, offset: usize, pins: [bool; N]) -> Self
+        requires { offset < N }
+        ensures value { result ≡ record { ring = ring.entry; offset = offset; pins = pins.entry; place = 0 } }
+        ensures wheel { IsWheel N result }
+    {
+        at_most_all_letters(&ring);
+        PinWheel {
+            ring,
+            offset,
+            pins,
+            place: 0,
+        }
+    }
+
+    /// The pin that acts while this letter shows is effective.
+    pub fn acting(&self) -> bool
+        ensures { result ≡ pin_acting N self.now }
+    {
+        let PinWheel {
+            offset,
+            pins,
+            place,
+            ..
+        } = self;
+        pins[(*place + *offset) % N]
+    }
+
+    /// Turns the wheel by one place, to the next letter in its order, with the first after the last.
+    pub fn advance(&mut self)
+        ensures next { self.new ≡ turned_to self.old (place_past N self.old.place 1) }
+        ensures wheel { IsWheel N self.new }
+    {
+        self.place = (self.place + 1) % N;
+    }
+
+    /// Turns the wheel until it shows the letter. Refused, and then not turned, where the letter isn't on the wheel.
+    pub fn set(&mut self, letter: Letter) -> Result<(), NotOnWheel>
+        ensures ok { IsOk result ↔ Contains self.old.ring letter }
+        ensures turned { self.new ≡ with_shown self.old letter }
+        ensures shows { OnOk result (letter_shown self.new ≡ letter) }
+        ensures wheel { IsWheel N self.new }
+    {
+        match self.ring.place_of(letter) {
+            Some(place) => {
+                self.place = place;
+                Ok(())
+            }
+            None => Err(NotOnWheel),
+        }
+    }
+
+    /// The letter that the wheel shows.
+    pub fn shown(&self) -> Letter
+        ensures { result ≡ letter_shown self.now }
+    {
+        let PinWheel { ring, place, .. } = self;
+        ring.letter_of(*place)
+    }
+}
+
+/// A wheel has each letter at most once, and so no more than there are.
+fn at_most_all_letters<const N: usize>(ring: &Ring<N>)
+    ensures size { N ≤ 26 }
+    ensures ring { IsRing N ring.now }
+{
+    let _letters = ring.letters();
+}

@@ -1,0 +1,170 @@
+-- The wheels of a day, in box order and by their slots.
+use Rattle.std.proofs.Common.{◌≡◌, ◌≢◌, ℕ, zero, suc, ◌+◌, ◌<◌, Bool, true, false, ◌||◌, cond, List, [], ◌∷◌, ◌++◌, length, get_or, filter_map, find, All, Contains, Option, Some, None, slice_get, refl, sym, ap, ◌∙◌, subst, arith, append_assoc, length-append}
+use Rattle.std.specs.List.{AllByRecursion, cons_option, enumerate_from}
+use Rattle.std.proofs.lemmas.Bool.{false≢true}
+use Rattle.std.proofs.lemmas.List.{get_or_default}
+use Rattle.kd_tables.specs.declared.model.Model.{Model}
+use Rattle.kd_tables.specs.declared.wheel.Wheel.{Wheel}
+use Rattle.kd_tables.specs.Tables.{box_of}
+use Rattle.kd_state.specs.declared.sheet_wheel.SheetWheel.{SheetWheel}
+use Rattle.kd_state.specs.Box.{same_wheel, has_wheel, place_in_box}
+use Rattle.kd_state.specs.Machine.{AreApart, StandsAt}
+use Rattle.kd_state.specs.SheetDay.{seats}
+use Rattle.kd_plan.proofs.Lists.{EachTwo}
+use Rattle.kd_plan.proofs.Seats.{OtherWheels, seat_of}
+use Rattle.kd_plan.proofs.Wheels.{zero_not_suc, one_less, wheel_of_same, same_wheel_self, wheel_of_place, AreApartAt, place_of, NoneTwice}
+
+-- elements by their places
+pub all_of_each : {X : Type 0} (P : X → Type 0) (xs : List X) → ((x : X) → Contains xs x → P x) → All P xs
+all_of_each P xs h = λ k d lt. h (get_or xs k d) (k, lt, get_or_default xs k (get_or xs k d) d lt)
+
+pub recursion_of_each : {X : Type 0} (P : X → Type 0) (xs : List X) → ((x : X) → Contains xs x → P x) → AllByRecursion P xs
+recursion_of_each P [] h = tt
+recursion_of_each P (x ∷ xs) h = (h x (zero, omega arith, refl), recursion_of_each P xs (λ y c. h y (suc c.0, omega (arith, c.1), c.2)))
+
+each_of_recursion : {X : Type 0} (P : X → Type 0) (xs : List X) (k : ℕ) (x : X) → AllByRecursion P xs → k < length xs → get_or xs k x ≡ x → P x
+each_of_recursion P [] k x h lt e = absurd (omega arith)
+each_of_recursion P (y ∷ xs) zero x h lt e = subst P e h.0
+each_of_recursion P (y ∷ xs) (suc k) x h lt e = each_of_recursion P xs k x h.1 (omega arith) e
+
+pub at_element : {X : Type 0} (P : X → Type 0) (xs : List X) (x : X) → AllByRecursion P xs → Contains xs x → P x
+at_element P xs x h c = each_of_recursion P xs c.0 x h c.1 c.2
+
+-- no two of a day's wheels are one
+apart_wheels : (w : SheetWheel) (wheels : List SheetWheel) → ((place : ℕ) (wheel : Wheel) → StandsAt (seats wheels) place wheel → w.wheel ≢ wheel) → AllByRecursion (OtherWheels w) wheels
+apart_wheels w [] h = tt
+apart_wheels w (v ∷ wheels) h = (h zero v.wheel refl, apart_wheels w wheels (λ place. h (suc place)))
+
+pub each_two : (wheels : List SheetWheel) → AreApart (seats wheels) → EachTwo OtherWheels wheels
+each_two [] apart = tt
+each_two (w ∷ wheels) apart = (
+  apart_wheels w wheels (λ place wheel at same. zero_not_suc place (apart zero (suc place) wheel (ap (λ x. Some (Some x)) same) at)),
+  each_two wheels (λ place other wheel a b. one_less place other (apart (suc place) (suc other) wheel a b)),
+)
+
+-- what is found passes the test and is there
+found_cond : {X : Type 0} (b : Bool) (p : X → Bool) (y x : X) (xs : List X) → p y ≡ b → cond b (Some y) (find p xs) ≡ Some x → (find p xs ≡ Some x → (p x ≡ true) × Contains xs x) → (p x ≡ true) × Contains (y ∷ xs) x
+found_cond true p y x xs is e next = let same : y ≡ x = cc in (ap p (sym same) ∙ is, (zero, omega arith, same))
+found_cond false p y x xs is e next = let later = next e in (later.0, (suc later.1.0, omega (arith, later.1.1), later.1.2))
+
+pub found : {X : Type 0} (p : X → Bool) (xs : List X) (x : X) → find p xs ≡ Some x → (p x ≡ true) × Contains xs x
+found p [] x e = cc
+found p (y ∷ xs) x e = found_cond (p y) p y x xs refl e (found p xs x)
+
+module _ (model : Model) (wheels : List SheetWheel) where
+  abbrev the_one : Wheel → Option SheetWheel
+  the_one wheel = find (λ (w : SheetWheel). same_wheel wheel w.wheel) wheels
+
+  abbrev pub in_order : List Wheel → List SheetWheel
+  in_order box = filter_map the_one box
+
+  -- each of these is a wheel of the day
+  with_one : (seen : Option SheetWheel) (rest : List SheetWheel) → ((w : SheetWheel) → seen ≡ Some w → Contains wheels w) → AllByRecursion (Contains wheels) rest → AllByRecursion (Contains wheels) (cons_option seen rest)
+  with_one None rest h hs = hs
+  with_one (Some w) rest h hs = (h w refl, hs)
+
+  pub order_among : (box : List Wheel) → AllByRecursion (Contains wheels) (in_order box)
+  order_among [] = tt
+  order_among (wheel ∷ box) =
+      with_one (the_one wheel) (in_order box) (λ w e. (found (λ (w : SheetWheel). same_wheel wheel w.wheel) wheels w e).1) (order_among box)
+
+  -- they have different places
+  away_one : (p : ℕ) (seen : Option SheetWheel) (rest : List SheetWheel) → ((w : SheetWheel) → seen ≡ Some w → place_of model w ≢ p) → AllByRecursion (λ w. place_of model w ≢ p) rest
+      → AllByRecursion (λ w. place_of model w ≢ p) (cons_option seen rest)
+  away_one p None rest h hs = hs
+  away_one p (Some w) rest h hs = (h w refl, hs)
+
+  or_false : (p q : Bool) → (p || q) ≡ false → (p ≡ false) × (q ≡ false)
+  or_false true q e = absurd (false≢true (sym e))
+  or_false false q e = (refl, e)
+
+  boxed_place : (wheel other : Wheel) (w : SheetWheel) → the_one wheel ≡ Some w → Contains (box_of model) wheel → Contains (box_of model) other → same_wheel other wheel ≡ false → place_of model w ≢ place_in_box model other
+  boxed_place wheel other w e boxed here unlike same =
+      let one = wheel_of_same wheel w.wheel (found (λ (w : SheetWheel). same_wheel wheel w.wheel) wheels w e).0 in
+      let places : place_in_box model other ≡ place_in_box model wheel = sym same ∙ ap (place_in_box model) (sym one) in
+      let two = wheel_of_place model other wheel here boxed places in
+      false≢true (sym unlike ∙ ap (same_wheel other) (sym two) ∙ same_wheel_self other)
+
+  away_order : (other : Wheel) (box : List Wheel) → Contains (box_of model) other → AllByRecursion (Contains (box_of model)) box → has_wheel box other ≡ false
+      → AllByRecursion (λ w. place_of model w ≢ place_in_box model other) (in_order box)
+  away_order other [] here boxed none = tt
+  away_order other (wheel ∷ box) here boxed none =
+      let both = or_false (same_wheel other wheel) (has_wheel box other) none in
+      away_one (place_in_box model other) (the_one wheel) (in_order box) (λ w e. boxed_place wheel other w e boxed.0 here both.0) (away_order other box here boxed.1 both.1)
+
+  apart_one : (wheel : Wheel) (seen : Option SheetWheel) (rest : List SheetWheel) → ((w : SheetWheel) → seen ≡ Some w → wheel ≡ w.wheel) → AllByRecursion (λ w. place_of model w ≢ place_in_box model wheel) rest
+      → AreApartAt (place_of model) rest → AreApartAt (place_of model) (cons_option seen rest)
+  apart_one wheel None rest h away apart = apart
+  apart_one wheel (Some w) rest h away apart =
+      (subst (λ x. AllByRecursion (λ v. place_of model v ≢ place_in_box model x) rest) (h w refl) away, apart)
+
+  pub order_apart : (box : List Wheel) → AllByRecursion (Contains (box_of model)) box → NoneTwice box → AreApartAt (place_of model) (in_order box)
+  order_apart [] boxed none = tt
+  order_apart (wheel ∷ box) boxed none =
+      apart_one wheel (the_one wheel) (in_order box) (λ w e. wheel_of_same wheel w.wheel (found (λ (w : SheetWheel). same_wheel wheel w.wheel) wheels w e).0)
+      (away_order wheel box boxed.0 boxed.1 none.0) (order_apart box boxed.1 none.1)
+
+  -- a day's wheel is among them
+  of_one : (P : SheetWheel → Type 0) (w : SheetWheel) (seen : Option SheetWheel) (rest : List SheetWheel) → AllByRecursion P (cons_option seen rest) → seen ≡ Some w → P w
+  of_one P w None rest h e = cc
+  of_one P w (Some v) rest h e = let same : v ≡ w = cc in subst P same h.0
+
+  of_rest : (P : SheetWheel → Type 0) (seen : Option SheetWheel) (rest : List SheetWheel) → AllByRecursion P (cons_option seen rest) → AllByRecursion P rest
+  of_rest P None rest h = h
+  of_rest P (Some v) rest h = h.1
+
+  of_order : (P : SheetWheel → Type 0) (box : List Wheel) (k : ℕ) (w : SheetWheel) → AllByRecursion P (in_order box) → k < length box → get_or box k w.wheel ≡ w.wheel → the_one w.wheel ≡ Some w → P w
+  of_order P [] k w h lt e seen = absurd (omega arith)
+  of_order P (wheel ∷ box) zero w h lt e seen = of_one P w (the_one wheel) (in_order box) h (ap the_one e ∙ seen)
+  of_order P (wheel ∷ box) (suc k) w h lt e seen = of_order P box k w (of_rest P (the_one wheel) (in_order box) h) (omega arith) e seen
+
+itself_cond : (b : Bool) (model : Model) (v w : SheetWheel) (wheels : List SheetWheel) → same_wheel w.wheel v.wheel ≡ b → AllByRecursion (λ x. place_of model x ≢ place_of model v) wheels → Contains (v ∷ wheels) w
+    → (Contains wheels w → find (λ (x : SheetWheel). same_wheel w.wheel x.wheel) wheels ≡ Some w) → cond b (Some v) (find (λ (x : SheetWheel). same_wheel w.wheel x.wheel) wheels) ≡ Some w
+itself_cond true model v w wheels is away (zero, lt, e) next = ap Some e
+itself_cond true model v w wheels is away (suc k, lt, e) next =
+    absurd (at_element (λ x. place_of model x ≢ place_of model v) wheels w away (k, omega arith, e) (ap (place_in_box model) (wheel_of_same w.wheel v.wheel is)))
+itself_cond false model v w wheels is away (zero, lt, e) next = absurd (false≢true (sym is ∙ ap (λ (x : SheetWheel). same_wheel w.wheel x.wheel) e ∙ same_wheel_self w.wheel))
+itself_cond false model v w wheels is away (suc k, lt, e) next = next (k, omega arith, e)
+
+found_itself : (model : Model) (wheels : List SheetWheel) (w : SheetWheel) → AreApartAt (place_of model) wheels → Contains wheels w → find (λ (x : SheetWheel). same_wheel w.wheel x.wheel) wheels ≡ Some w
+found_itself model [] w apart c = absurd (omega (arith, c.1))
+found_itself model (v ∷ wheels) w apart c = itself_cond (same_wheel w.wheel v.wheel) model v w wheels refl apart.0 c (found_itself model wheels w apart.1)
+
+-- what holds of all of them in box order, holds of all
+pub all_of_order : (P : SheetWheel → Type 0) (model : Model) (wheels : List SheetWheel) → AreApartAt (place_of model) wheels → AllByRecursion (λ w. Contains (box_of model) w.wheel) wheels
+    → AllByRecursion P (in_order model wheels (box_of model)) → All P wheels
+all_of_order P model wheels apart boxed h =
+    all_of_each P wheels (λ w c.
+    let box = at_element (λ (w : SheetWheel). Contains (box_of model) w.wheel) wheels w boxed c in
+    of_order model wheels P (box_of model) box.0 w h box.1 box.2 (found_itself model wheels w apart c))
+
+-- The wheels by their slots.
+pub record StandsThere (wheels : List SheetWheel) (n : ℕ × SheetWheel) : Type 0 where
+  pub place : ℕ
+  pub number : n.0 ≡ suc place
+  pub seated : slice_get (seats wheels) place ≡ Some (Some n.1.wheel)
+  pub among : Contains wheels n.1
+
+behind : (done rest : List SheetWheel) (w : SheetWheel) → Contains (done ++ w ∷ rest) w
+behind [] rest w = (zero, omega arith, refl)
+behind (v ∷ done) rest w = let later = behind done rest w in (suc later.0, omega (arith, later.1), later.2)
+
+pub numbered : (wheels done rest : List SheetWheel) (number : ℕ) → done ++ rest ≡ wheels → number ≡ suc (length done) → AllByRecursion (StandsThere wheels) (enumerate_from number rest)
+numbered wheels done [] number e at = tt
+numbered wheels done (w ∷ rest) number e at = (
+  record { place = length done; number = at; seated = seat_of wheels done rest w e; among = subst (λ all. Contains all w) e (behind done rest w) },
+  numbered wheels (done ++ w ∷ []) rest (number + 1) (append_assoc done (w ∷ []) rest ∙ e) (omega (arith, length-append done (w ∷ []))),
+)
+
+numbered_away : (model : Model) (p : ℕ) (wheels : List SheetWheel) (number : ℕ) → AllByRecursion (λ w. place_of model w ≢ p) wheels
+    → AllByRecursion (λ (n : ℕ × SheetWheel). place_of model n.1 ≢ p) (enumerate_from number wheels)
+numbered_away model p [] number h = tt
+numbered_away model p (w ∷ wheels) number h = (h.0, numbered_away model p wheels (number + 1) h.1)
+
+pub numbered_apart : (model : Model) (wheels : List SheetWheel) (number : ℕ) → AreApartAt (place_of model) wheels → AreApartAt (λ (n : ℕ × SheetWheel). place_of model n.1) (enumerate_from number wheels)
+numbered_apart model [] number h = tt
+numbered_apart model (w ∷ wheels) number h = (numbered_away model (place_of model w) wheels (number + 1) h.0, numbered_apart model wheels (number + 1) h.1)
+
+pub from_numbered : {X : Type 0} (P : X → Type 0) (xs : List X) (number : ℕ) → AllByRecursion (λ (n : ℕ × X). P n.1) (enumerate_from number xs) → AllByRecursion P xs
+from_numbered P [] number h = tt
+from_numbered P (x ∷ xs) number h = (h.0, from_numbered P xs (number + 1) h.1)

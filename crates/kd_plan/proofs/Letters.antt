@@ -1,0 +1,130 @@
+-- Lines that each set the number at a place of a list, where it is another one, as RING and TURN do.
+use Rattle.std.proofs.Common.{◌≡◌, ◌≢◌, ℕ, zero, suc, ◌+◌, ◌<◌, nat_eq, Bool, true, false, not, cond, List, [], ◌∷◌, length, get_or, set, filter_map, count_by, Option, Some, None, slice_get, refl, sym, ap, ◌∙◌, subst, arith}
+use Rattle.std.specs.List.{AllByRecursion}
+use Rattle.std.specs.Option.{option_map_or}
+use Rattle.std.proofs.lemmas.Bool.{false≢true, eq-eqb, eqb-true}
+use Rattle.std.proofs.lemmas.List.{length-set}
+use Rattle.std.proofs.lemmas.List.Sums.{sum_by-cons}
+use Rattle.kd_state.specs.declared.parts.Parts.{Parts}
+use Rattle.kd_state.specs.declared.setting.Setting.{Setting}
+use Rattle.kd_state.specs.Setting.{why_refused, changed}
+use Rattle.kd_state.specs.SheetDay.{Day}
+use Rattle.kd_card.specs.Proving.{IsNeeded}
+use Rattle.kd_plan.specs.Planned.{unless_so}
+use Rattle.kd_plan.proofs.Carrying.{Led, led_none, led_cons}
+use Rattle.kd_plan.proofs.Wheels.{AreApartAt}
+
+-- one more element to count
+pub count_by-cons : {X : Type 0} (p : X → Bool) (x : X) (xs : List X) → count_by p (x ∷ xs) ≡ cond (p x) 1 0 + count_by p xs
+count_by-cons p x xs = sum_by-cons (λ y. cond (p y) 1 0) x xs
+
+-- a list with one place set
+slice_get-set_other : {X : Type 0} (xs : List X) (p q : ℕ) (v : X) → q ≢ p → slice_get (set xs p v) q ≡ slice_get xs q
+slice_get-set_other [] p q v h = refl
+slice_get-set_other (x ∷ xs) zero zero v h = absurd (h refl)
+slice_get-set_other (x ∷ xs) zero (suc q) v h = refl
+slice_get-set_other (x ∷ xs) (suc p) zero v h = refl
+slice_get-set_other (x ∷ xs) (suc p) (suc q) v h = slice_get-set_other xs p q v (λ e. h (ap suc e))
+
+slice_get-set_same : {X : Type 0} (xs : List X) (p : ℕ) (v : X) → p < length xs → slice_get (set xs p v) p ≡ Some v
+slice_get-set_same [] p v lt = absurd (omega arith)
+slice_get-set_same (x ∷ xs) zero v lt = refl
+slice_get-set_same (x ∷ xs) (suc p) v lt = slice_get-set_same xs p v (omega arith)
+
+module _ {X : Type 0} (place target : X → ℕ) where
+  -- the number at the element's place is its own
+  abbrev pub right : List ℕ → X → Bool
+  right letters x = option_map_or (nat_eq (target x)) (slice_get letters (place x)) false
+
+  abbrev pub wrong : List ℕ → X → Bool
+  wrong letters x = not (right letters x)
+
+  pub right_elsewhere : (letters : List ℕ) (p l : ℕ) (x : X) → place x ≢ p → right (set letters p l) x ≡ right letters x
+  right_elsewhere letters p l x away = ap (λ seen. option_map_or (nat_eq (target x)) seen false) (slice_get-set_other letters p (place x) l away)
+
+  right_now : (letters : List ℕ) (x : X) → place x < length letters → right (set letters (place x) (target x)) x ≡ true
+  right_now letters x lt = ap (λ seen. option_map_or (nat_eq (target x)) seen false) (slice_get-set_same letters (place x) (target x) lt) ∙ eq-eqb (target x) (target x) refl
+
+  other_places : (letters : List ℕ) (p l : ℕ) (xs : List X) → AllByRecursion (λ y. place y ≢ p) xs → count_by (wrong (set letters p l)) xs ≡ count_by (wrong letters) xs
+  other_places letters p l [] h = refl
+  other_places letters p l (x ∷ xs) h =
+      let head = ap (λ b. cond {A = ℕ} (not b) 1 0) (right_elsewhere letters p l x h.0) in
+      omega (arith, count_by-cons (wrong (set letters p l)) x xs, count_by-cons (wrong letters) x xs, other_places letters p l xs h.1)
+
+  away_at : (p : ℕ) (xs : List X) (k : ℕ) (x : X) → AllByRecursion (λ y. place y ≢ p) xs → k < length xs → get_or xs k x ≡ x → place x ≢ p
+  away_at p [] k x h lt e = absurd (omega arith)
+  away_at p (y ∷ xs) zero x h lt e = subst (λ z. place z ≢ p) e h.0
+  away_at p (y ∷ xs) (suc k) x h lt e = away_at p xs k x h.1 (omega arith) e
+
+  -- where one of them is set right that was wrong, one fewer is wrong
+  pub one_fewer : (letters : List ℕ) (xs : List X) (k : ℕ) (x : X) → k < length xs → get_or xs k x ≡ x → AreApartAt place xs → place x < length letters → right letters x ≡ false
+      → count_by (wrong letters) xs ≡ count_by (wrong (set letters (place x) (target x))) xs + 1
+  one_fewer letters [] k x lt e h within is = absurd (omega arith)
+  one_fewer letters (y ∷ xs) zero x lt e h within is =
+      let now = count_by-cons (wrong letters) y xs in
+      let later = count_by-cons (wrong (set letters (place x) (target x))) y xs in
+      let before : cond {A = ℕ} (wrong letters y) 1 0 ≡ 1 = ap (λ z. cond (wrong letters z) 1 0) e ∙ ap (λ b. cond (not b) 1 0) is in
+      let after : cond {A = ℕ} (wrong (set letters (place x) (target x)) y) 1 0 ≡ 0 =
+      ap (λ z. cond (wrong (set letters (place x) (target x)) z) 1 0) e ∙ ap (λ b. cond (not b) 1 0) (right_now letters x within) in
+      let rest = other_places letters (place x) (target x) xs (subst (λ z. AllByRecursion (λ w. place w ≢ place z) xs) e h.0) in
+      omega arith
+  one_fewer letters (y ∷ xs) (suc k) x lt e h within is =
+      let now = count_by-cons (wrong letters) y xs in
+      let later = count_by-cons (wrong (set letters (place x) (target x))) y xs in
+      let head = ap (λ b. cond {A = ℕ} (not b) 1 0) (right_elsewhere letters (place x) (target x) y (λ same. away_at (place y) xs k x h.0 (omega arith) e (sym same))) in
+      let rest = one_fewer letters xs k x (omega arith) e h.1 within is in
+      omega arith
+
+  right_is : (x : X) (seen : Option ℕ) → option_map_or (nat_eq (target x)) seen false ≡ true → seen ≡ Some (target x)
+  right_is x None e = absurd (false≢true e)
+  right_is x (Some l) e = ap Some (sym (eqb-true (target x) l e))
+
+  -- Lines of a machine in which the list stands.
+  module _ (s : Day) (put : List ℕ → Parts) (size : ℕ) (line : X → Setting) where
+    abbrev pub lines_for : List ℕ → List X → List Setting
+    lines_for letters xs = filter_map (λ x. unless_so (right letters x) (line x)) xs
+
+    -- the line sets the element's place, and is needed where another number stands there
+    pub record SetsIts (x : X) : Type 0 where
+      pub within : place x < size
+      pub allowed : (letters : List ℕ) → length letters ≡ size → why_refused (put letters) (line x) ≡ None
+      pub made : (letters : List ℕ) → length letters ≡ size → put (set letters (place x) (target x)) ≡ changed (put letters) (line x)
+      pub needed : (letters : List ℕ) → length letters ≡ size → right letters x ≡ false → IsNeeded (put letters) s (line x)
+
+    -- what the lines lead to
+    pub record AreSet (letters : List ℕ) (xs : List X) : Type 0 where
+      pub end : List ℕ
+      pub led : Led s (put letters) (lines_for letters xs) (put end)
+      pub done : AllByRecursion (λ x. slice_get end (place x) ≡ Some (target x)) xs
+      pub kept : (p : ℕ) → AllByRecursion (λ x. place x ≢ p) xs → slice_get end p ≡ slice_get letters p
+
+    same_lines : (letters : List ℕ) (p l : ℕ) (xs : List X) → AllByRecursion (λ x. place x ≢ p) xs → lines_for (set letters p l) xs ≡ lines_for letters xs
+    same_lines letters p l [] h = refl
+    same_lines letters p l (x ∷ xs) h = rw (right_elsewhere letters p l x h.0, same_lines letters p l xs h.1) refl
+
+    set_cond : (b : Bool) (letters : List ℕ) (x : X) (xs : List X) → right letters x ≡ b → length letters ≡ size → SetsIts x → AreApartAt place (x ∷ xs)
+        → ((letters : List ℕ) → length letters ≡ size → AreSet letters xs) → AreSet letters (x ∷ xs)
+    set_cond true letters x xs e count h apart next =
+        let rest = next letters count in
+        record {
+          end = rest.end;
+          led = rw e rest.led;
+          done = (rest.kept (place x) apart.0 ∙ right_is x (slice_get letters (place x)) e, rest.done);
+          kept = λ p away. rest.kept p away.1;
+        }
+    set_cond false letters x xs e count h apart next =
+        let after = set letters (place x) (target x) in
+        let rest = next after (length-set letters (place x) (target x) ∙ count) in
+        let led = led_cons s (put letters) (put rest.end) (line x) (lines_for after xs) (h.allowed letters count) (h.needed letters count e)
+        (subst (λ k. Led s k (lines_for after xs) (put rest.end)) (h.made letters count) rest.led) in
+        record {
+          end = rest.end;
+          led = rw e (subst (λ xs. Led s (put letters) (line x ∷ xs) (put rest.end)) (same_lines letters (place x) (target x) xs apart.0) led);
+          done = (rest.kept (place x) apart.0 ∙ slice_get-set_same letters (place x) (target x) (omega (arith, h.within)), rest.done);
+          kept = λ p away. rest.kept p away.1 ∙ slice_get-set_other letters (place x) p (target x) (λ same. away.0 (sym same));
+        }
+
+    pub all_set : (letters : List ℕ) (xs : List X) → length letters ≡ size → AllByRecursion SetsIts xs → AreApartAt place xs → AreSet letters xs
+    all_set letters [] count h apart = record { end = letters; led = led_none s (put letters) (put letters) refl; done = tt; kept = λ p away. refl }
+    all_set letters (x ∷ xs) count h apart =
+        set_cond (right letters x) letters x xs refl count h.0 apart (λ letters count. all_set letters xs count h.1 apart.1)

@@ -1,0 +1,198 @@
+-- The planned lines of a rotor machine lead to the day, and each is needed.
+use Rattle.std.proofs.Common.{◌≡◌, ℕ, ◌+◌, Bool, true, false, List, [], ◌++◌, length, set, map, Contains, Option, Some, None, unwrap_or, slice_get, refl, sym, ap, ◌∙◌, subst, arith}
+use Rattle.std.specs.List.{AllByRecursion, enumerate_from}
+use Rattle.std.specs.Option.{option_to_list}
+use Rattle.std.proofs.lemmas.List.{length-map}
+use Rattle.std.proofs.lemmas.List.Elements.{All-from_recursion}
+use Rattle.kd_tables.specs.Tables.{box_of, slots_of, reflectors_of}
+use Rattle.kd_state.specs.declared.rotor_parts.RotorParts.{RotorParts}
+use Rattle.kd_state.specs.declared.parts.Parts.{Parts}
+use Rattle.kd_state.specs.declared.parts.Parts.TheVariants.{Rotor}
+use Rattle.kd_state.specs.declared.setting.Setting.{Setting}
+use Rattle.kd_state.specs.declared.setting.Setting.TheVariants.{Pull, Put, SeatReflector, RingTo, Turn}
+use Rattle.kd_state.specs.declared.sheet_wheel.SheetWheel.{SheetWheel}
+use Rattle.kd_state.specs.Box.{same_reflector, numbered}
+use Rattle.kd_state.specs.Machine.{AreAllowed, IsMachine}
+use Rattle.kd_state.specs.Setting.{with_letter, changed}
+use Rattle.kd_state.specs.SheetDay.{RotorDay, OfRotors, seats, IsLegalRotorDay}
+use Rattle.kd_state.specs.Costs.{unless_same, loose_count}
+use Rattle.kd_plan.specs.Planned.{unless_so, seat_lines, reflector_lines, ring_lines, turn_lines, pull_lines, put_lines, letters_apart, planned_lines, IsPairing}
+use Rattle.kd_plan.proofs.Carrying.{Reaches, Led, led_none, led_cons, led_append, lines_from, cells_led}
+use Rattle.kd_plan.proofs.Columns.{column, beside, are_pluggable, are_apart, same_cables, are_the_pairs}
+use Rattle.kd_plan.proofs.Days.{at_element, recursion_of_each, each_two, in_order, order_among, order_apart, all_of_order, StandsThere, numbered as by_slots, numbered_apart, from_numbered}
+use Rattle.kd_plan.proofs.Letters.{SetsIts, AreSet, all_set, one_fewer}
+use Rattle.kd_plan.proofs.Plugging.{Beside, present, once_pulled, once_put, with_cables, pulls_of, puts_of, pulls_each, puts_each, numbered_lines}
+use Rattle.kd_plan.proofs.Seats.{seats_led}
+use Rattle.kd_plan.proofs.Wheels.{reflector_of_same, same_reflector_self, has_wheel_of, has_reflector_of, place_within, AreApartAt, place_of, wheels_apart, box_none_twice, wheels_boxed}
+
+-- REFLECTOR
+reflector_led : (b : Bool) (m : RotorParts) (s : RotorDay) → same_reflector m.reflector s.reflector ≡ b → Contains (reflectors_of m.model) s.reflector
+    → Led (OfRotors s) (Rotor m) (option_to_list (unless_so b (SeatReflector s.reflector))) (Rotor (record m { reflector = s.reflector }))
+reflector_led true m s e h =
+    led_none (OfRotors s) (Rotor m) (Rotor (record m { reflector = s.reflector })) (ap (λ r. Rotor (record m { reflector = r })) (sym (reflector_of_same m.reflector s.reflector e)))
+reflector_led false m s e h =
+    let has = has_reflector_of (reflectors_of m.model) s.reflector h in
+    let now = ap unless_same e in
+    let then_so = ap unless_same (same_reflector_self s.reflector) in
+    let end = Rotor (record m { reflector = s.reflector }) in
+    led_cons (OfRotors s) (Rotor m) end (SeatReflector s.reflector) [] (rw has refl) (λ unpriced. omega (arith, now, then_so)) (led_none (OfRotors s) end end refl)
+
+module _ (m : RotorParts) (s : RotorDay) where
+  -- The machine after the lines of each kind.
+  abbrev after_seats : RotorParts
+  after_seats = record m { slots = seats s.wheels }
+
+  abbrev after_reflector : RotorParts
+  after_reflector = record m { slots = seats s.wheels; reflector = s.reflector }
+
+  abbrev after_rings : List ℕ → RotorParts
+  after_rings rings = record m { slots = seats s.wheels; reflector = s.reflector; rings = rings }
+
+  abbrev after_turns : List ℕ → List ℕ → RotorParts
+  after_turns rings letters = record m { slots = seats s.wheels; reflector = s.reflector; rings = rings; letters = letters }
+
+  -- RING
+  abbrev ring_line : SheetWheel → Setting
+  ring_line w = RingTo w.wheel w.ring
+
+  abbrev ring_wanted : SheetWheel → ℕ
+  ring_wanted w = w.ring
+
+  abbrev with_rings : List ℕ → Parts
+  with_rings rings = Rotor (after_rings rings)
+
+  ring_sets : AreApartAt (place_of m.model) s.wheels → AllByRecursion (λ w. Contains (box_of m.model) w.wheel) s.wheels → (w : SheetWheel) → Contains s.wheels w
+      → SetsIts (place_of m.model) ring_wanted (OfRotors s) with_rings (length (box_of m.model)) ring_line w
+  ring_sets apart boxed w among =
+      let box = at_element (λ (w : SheetWheel). Contains (box_of m.model) w.wheel) s.wheels w boxed among in
+      let has = has_wheel_of (box_of m.model) w.wheel box in
+      record {
+        within = place_within m.model w.wheel box;
+        allowed = λ rings count. rw has refl;
+        made = λ rings count. refl;
+        needed = λ rings count wrong unpriced.
+            let fewer = one_fewer (place_of m.model) ring_wanted rings s.wheels among.0 w among.1 among.2 apart (omega (arith, count, place_within m.model w.wheel box)) wrong in
+            omega (arith, fewer);
+      }
+
+  -- TURN
+  abbrev Numbered : Type 0
+  Numbered = ℕ × SheetWheel
+
+  abbrev turn_line : Numbered → Setting
+  turn_line n = Turn n.0 n.1.letter
+
+  abbrev letter_wanted : SheetWheel → ℕ
+  letter_wanted w = w.letter
+
+  abbrev with_letters : List ℕ → List ℕ → Parts
+  with_letters rings letters = Rotor (after_turns rings letters)
+
+  seated : (n : Numbered) → StandsThere s.wheels n → unwrap_or (numbered (seats s.wheels) n.0) None ≡ Some n.1.wheel
+  seated n h = ap (λ slot. unwrap_or (numbered (seats s.wheels) slot) None) h.number ∙ ap (λ found. unwrap_or found None) h.seated
+
+  turn_sets : (rings : List ℕ) → AreApartAt (place_of m.model) s.wheels → AllByRecursion (λ w. Contains (box_of m.model) w.wheel) s.wheels → (n : Numbered) → StandsThere s.wheels n
+      → SetsIts (λ (n : Numbered). place_of m.model n.1) (λ (n : Numbered). n.1.letter) (OfRotors s) (with_letters rings) (length (box_of m.model)) turn_line n
+  turn_sets rings apart boxed n h =
+      let box = at_element (λ (w : SheetWheel). Contains (box_of m.model) w.wheel) s.wheels n.1 boxed h.among in
+      let seat = seated n h in
+      let made : (letters : List ℕ) → with_letters rings (set letters (place_of m.model n.1) n.1.letter) ≡ changed (with_letters rings letters) (turn_line n) =
+      λ letters. ap (λ seen. with_letters rings (with_letter (after_turns rings letters) seen n.1.letter)) (sym seat) in
+      record {
+        within = place_within m.model n.1.wheel box;
+        allowed = λ letters count. rw seat refl;
+        made = λ letters count. made letters;
+        needed = λ letters count wrong unpriced.
+            let fewer = one_fewer (place_of m.model) letter_wanted letters s.wheels h.among.0 n.1 h.among.1 h.among.2 apart (omega (arith, count, place_within m.model n.1.wheel box)) wrong in
+            subst (λ k. loose_count (with_letters rings letters) (OfRotors s) ≡ loose_count k (OfRotors s) + 1) (made letters) (omega (arith, fewer));
+      }
+
+  module _ (machine : IsMachine (Rotor m)) (legal : IsLegalRotorDay s) (same : m.model ≡ s.model) (to : List ℕ) (pairing : IsPairing 13 to) where
+    allowed : AreAllowed m.model (seats s.wheels)
+    allowed = subst (λ model. AreAllowed model (seats s.wheels)) (sym same) legal.wheels.allowed
+
+    boxed : AllByRecursion (λ w. Contains (box_of m.model) w.wheel) s.wheels
+    boxed = wheels_boxed m.model s.wheels allowed
+
+    apart : AreApartAt (place_of m.model) s.wheels
+    apart = wheels_apart m.model s.wheels allowed legal.wheels.apart
+
+    seats_reach : Led (OfRotors s) (Rotor m) (seat_lines m s) (Rotor after_seats)
+    seats_reach = seats_led m s allowed (each_two s.wheels legal.wheels.apart) (machine.legal.slots ∙ ap slots_of same ∙ sym (sym (length-map s.wheels (λ w. Some w.wheel)) ∙ legal.wheels.count))
+
+    reflector_reaches : Led (OfRotors s) (Rotor after_seats) (reflector_lines m s) (Rotor after_reflector)
+    reflector_reaches =
+        reflector_led (same_reflector m.reflector s.reflector) after_seats s refl (subst (λ model. Contains (reflectors_of model) s.reflector) (sym same) legal.reflector)
+
+    rings_set : AreSet (place_of m.model) ring_wanted (OfRotors s) with_rings (length (box_of m.model)) ring_line m.rings (in_order m.model s.wheels (box_of m.model))
+    rings_set =
+        all_set (place_of m.model) ring_wanted (OfRotors s) with_rings (length (box_of m.model)) ring_line m.rings (in_order m.model s.wheels (box_of m.model)) machine.legal.rings.count
+        (recursion_of_each (SetsIts (place_of m.model) ring_wanted (OfRotors s) with_rings (length (box_of m.model)) ring_line) (in_order m.model s.wheels (box_of m.model))
+        (λ w c. ring_sets apart boxed w (at_element (Contains s.wheels) (in_order m.model s.wheels (box_of m.model)) w (order_among m.model s.wheels (box_of m.model)) c)))
+        (order_apart m.model s.wheels (box_of m.model) (recursion_of_each (Contains (box_of m.model)) (box_of m.model) (λ wheel c. c)) (box_none_twice m.model))
+
+    turns_set : AreSet (λ (n : Numbered). place_of m.model n.1) (λ (n : Numbered). n.1.letter) (OfRotors s) (with_letters rings_set.end) (length (box_of m.model)) turn_line m.letters (enumerate_from 1 s.wheels)
+    turns_set =
+        all_set (λ (n : Numbered). place_of m.model n.1) (λ (n : Numbered). n.1.letter) (OfRotors s) (with_letters rings_set.end) (length (box_of m.model)) turn_line m.letters (enumerate_from 1 s.wheels)
+        machine.legal.letters.count
+        (recursion_of_each (SetsIts (λ (n : Numbered). place_of m.model n.1) (λ (n : Numbered). n.1.letter) (OfRotors s) (with_letters rings_set.end) (length (box_of m.model)) turn_line) (enumerate_from 1 s.wheels)
+        (λ n c. turn_sets rings_set.end apart boxed n (at_element (StandsThere s.wheels) (enumerate_from 1 s.wheels) n (by_slots s.wheels [] s.wheels 1 refl refl) c)))
+        (numbered_apart m.model s.wheels 1 apart)
+
+    -- PULL and PUT
+    abbrev turned : RotorParts
+    turned = after_turns rings_set.end turns_set.end
+
+    abbrev zs : List Beside
+    zs = beside s.pairs legal.pairs m.cables to machine.legal.cables pairing
+
+    abbrev plugged : List (Option ℕ × Option ℕ) → Parts
+    plugged cables = with_cables (OfRotors s) turned cables
+
+    pulls_reach : Led (OfRotors s) (Rotor turned) (pull_lines m s to) (plugged (map once_pulled zs))
+    pulls_reach =
+        subst (λ lines. Led (OfRotors s) (Rotor turned) lines (plugged (map once_pulled zs)))
+        (sym (numbered_lines (λ n letters others. map (Pull n) (letters_apart letters others)) (column s.pairs legal.pairs) m.cables to 1))
+        (subst (λ cables. Led (OfRotors s) (plugged cables) (lines_from (pulls_of (OfRotors s) turned) 1 zs) (plugged (map once_pulled zs)))
+        (same_cables s.pairs legal.pairs m.cables to machine.legal.cables pairing)
+        (cells_led (OfRotors s) plugged present once_pulled (pulls_of (OfRotors s) turned) zs
+        (pulls_each (OfRotors s) turned zs (are_pluggable s.pairs legal.pairs m.cables to machine.legal.cables pairing))))
+
+    puts_reach : Led (OfRotors s) (plugged (map once_pulled zs)) (put_lines m s to) (plugged (map once_put zs))
+    puts_reach =
+        subst (λ lines. Led (OfRotors s) (plugged (map once_pulled zs)) lines (plugged (map once_put zs)))
+        (sym (numbered_lines (λ n letters others. map (Put n) (letters_apart others letters)) (column s.pairs legal.pairs) m.cables to 1))
+        (cells_led (OfRotors s) plugged once_pulled once_put (puts_of (OfRotors s) turned) zs
+        (puts_each (OfRotors s) turned zs (are_pluggable s.pairs legal.pairs m.cables to machine.legal.cables pairing) (are_apart s.pairs legal.pairs m.cables to machine.legal.cables pairing)))
+
+    all_led : Led (OfRotors s) (Rotor m) (planned_lines (Rotor m) (OfRotors s) to) (plugged (map once_put zs))
+    all_led =
+        let day = OfRotors s in
+        let end = plugged (map once_put zs) in
+        let seats = seat_lines m s in
+        let reflector = reflector_lines m s in
+        let rings = ring_lines m s in
+        let turns = turn_lines m s in
+        let pulls = pull_lines m s to in
+        let two = led_append day (Rotor m) (Rotor after_seats) (Rotor after_reflector) seats reflector seats_reach reflector_reaches in
+        let three = led_append day (Rotor m) (Rotor after_reflector) (with_rings rings_set.end) (seats ++ reflector) rings two rings_set.led in
+        let four = led_append day (Rotor m) (with_rings rings_set.end) (Rotor turned) (seats ++ reflector ++ rings) turns three turns_set.led in
+        let five = led_append day (Rotor m) (Rotor turned) (plugged (map once_pulled zs)) (seats ++ reflector ++ rings ++ turns) pulls four pulls_reach in
+        led_append day (Rotor m) (plugged (map once_pulled zs)) end (seats ++ reflector ++ rings ++ turns ++ pulls) (put_lines m s to) five puts_reach
+
+    pub rotors_reach : Reaches (OfRotors s) (Rotor m) (planned_lines (Rotor m) (OfRotors s) to)
+    rotors_reach = record {
+      end = plugged (map once_put zs);
+      led = all_led;
+      reads = record {
+        key = record {
+          model = same;
+          slots = refl;
+          rings = all_of_order (λ w. slice_get rings_set.end (place_of m.model w) ≡ Some w.ring) m.model s.wheels apart boxed rings_set.done;
+          reflector = refl;
+          cables = are_the_pairs s.pairs legal.pairs m.cables to machine.legal.cables pairing;
+        };
+        window = All-from_recursion (λ (w : SheetWheel). slice_get turns_set.end (place_of m.model w) ≡ Some w.letter) s.wheels
+            (from_numbered (λ (w : SheetWheel). slice_get turns_set.end (place_of m.model w) ≡ Some w.letter) s.wheels 1 turns_set.done);
+      };
+    }

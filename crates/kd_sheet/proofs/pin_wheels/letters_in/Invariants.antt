@@ -1,0 +1,10 @@
+use Rattle.std.proofs.Common.{◌≡◌, length, take, map}
+use Rattle.kd_sheet.specs.PinWheels.{has_capital}
+use Rattle.kd_sheet.proofs.pin_wheels.letters_in.Given as goal
+
+-- the letters so far are found where the text has them
+abbrev pub invariant-loop-place : goal.invariant-loop-place
+invariant-loop-place g l = record {
+  count : length l.found ≡ g.row.N;
+  found : take l.place l.found ≡ map (has_capital l.text) (take l.place l.letters);
+}

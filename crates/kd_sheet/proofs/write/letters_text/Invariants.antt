@@ -1,0 +1,6 @@
+use Rattle.std.proofs.Common.{◌≡◌, take}
+use Rattle.kd_sheet.specs.MachineText.{letters_text}
+use Rattle.kd_sheet.proofs.write.letters_text.Given as goal
+
+abbrev pub invariant-loop-letter : goal.invariant-loop-letter
+invariant-loop-letter l = l.text.bytes ≡ letters_text (take l.letter-index l.letters)

@@ -1,0 +1,72 @@
+-- What the bytes of a document mean, and what stands in its table at a key.
+use Rattle.std.specs.Prelude.{◌≡◌, ℕ, Bool, List, [], ◌∷◌, map, take, Result, Ok, Err, ok_or, option_map, ⊤, if◌then◌else◌}
+use Rattle.std.specs.List.{enumerate_from}
+use Rattle.std.specs.Result.{result_map_both}
+use Rattle.std.specs.Str.{is_utf8}
+use Rattle.toml.specs.Data.{Data, Items, no_items, item, Members, get_member, as_str, as_array}
+use Rattle.toml.specs.Parse.{parse_document}
+use Rattle.kd_sheet.specs.Key.{key_name}
+use Rattle.kd_sheet.specs.declared.key.Key.{Key}
+use Rattle.kd_sheet.specs.declared.fault.SheetFault.{SheetFault}
+use Rattle.kd_sheet.specs.declared.fault.SheetFault.TheVariants.{NotToml, Missing, BadValue, NoMemory}
+
+-- One reading after another, up to the first refusal.
+infixl 10 ◌>>=◌
+abbrev pub ◌>>=◌ : {A B : Type 0} → Result A SheetFault → (A → Result B SheetFault) → Result B SheetFault
+(Ok x) >>= f = f x
+(Err fault) >>= f = Err fault
+
+-- A test that has to pass, and then a reading.
+infixl 10 ◌>>◌
+abbrev pub ◌>>◌ : {B : Type 0} → Result (Unit {0}) SheetFault → Result B SheetFault → Result B SheetFault
+test >> reading = test >>= (λ _. reading)
+
+-- all the values, or else the first fault
+abbrev pub all_values : {A : Type 0} → List (Result A SheetFault) → Result (List A) SheetFault
+all_values [] = Ok []
+all_values (answer ∷ answers) = do
+  value ← answer
+  values ← all_values answers
+  Ok (value ∷ values)
+
+-- what each item is, given the items before it
+abbrev pub given_earlier : {A : Type 0} → (List Data → Data → A) → List Data → List A
+given_earlier reading items = map (λ numbered. reading (take numbered.0 items) numbered.1) (enumerate_from 0 items)
+
+-- What was answered is what was meant, unless memory ran out.
+abbrev pub Answers : {A : Type 0} → Result A SheetFault → Result A SheetFault → Type 0
+Answers (Err NoMemory) meant = ⊤
+Answers answer meant = answer ≡ meant
+
+-- the answer with its value seen by view
+abbrev pub result_map : {A B : Type 0} → (A → B) → Result A SheetFault → Result B SheetFault
+result_map view answer = result_map_both view (λ fault. fault) answer
+
+-- the test passes, or else that is the fault
+abbrev pub demand : Bool → SheetFault → Result (Unit {0}) SheetFault
+demand test fault = if test then Ok tt else Err fault
+
+-- the table that the bytes of a document mean
+unfoldable pub document_of : List ℕ → Result Members SheetFault
+document_of bytes = if is_utf8 bytes then ok_or (parse_document bytes) NotToml else Err NotToml
+
+-- the value at a key that has to be there
+abbrev pub value_at : Key → Members → Result Data SheetFault
+value_at key table = ok_or (get_member (key_name key) table) (Missing key)
+
+-- the text at a key
+abbrev pub text_at : Key → Members → Result (List ℕ) SheetFault
+text_at key table = value_at key table >>= (λ value. ok_or (as_str value) (BadValue key))
+
+-- the items of an array, in order
+abbrev pub list_of : Items → List Data
+list_of no_items = []
+list_of (item first rest) = first ∷ list_of rest
+
+-- the items of the array that a key's value has to be
+abbrev pub items_in : Key → Data → Result (List Data) SheetFault
+items_in key value = ok_or (option_map list_of (as_array value)) (BadValue key)
+
+-- the items of the array at a key
+abbrev pub items_at : Key → Members → Result (List Data) SheetFault
+items_at key table = value_at key table >>= items_in key

@@ -1,0 +1,48 @@
+-- How the bars of the Converter's drum stand, and what a sheet wants them to read as.
+use Rattle.std.specs.Prelude.{ℕ, ◌+◌, ◌-◌, ◌==◌, ◌&&◌, ◌||◌, nat_le, Bool, not, List, [], ◌∷◌, length, Option, Some, None, Result, ok_or, if◌then◌else◌}
+use Rattle.std.specs.Option.{option_and_then}
+use Rattle.toml.specs.Data.{Data, Members, as_str}
+use Rattle.kd_tables.specs.Places.{in_order}
+use Rattle.kd_tables.specs.declared.place.Place.{Place}
+use Rattle.kd_sheet.specs.Document.{◌>>=◌, ◌>>◌, all_values, demand, given_earlier, items_at}
+use Rattle.kd_sheet.specs.Names.{standing_by_text}
+use Rattle.kd_sheet.specs.declared.key.Key.{Key}
+use Rattle.kd_sheet.specs.declared.key.Key.TheVariants as keys
+use Rattle.kd_sheet.specs.declared.fault.SheetFault.{SheetFault}
+use Rattle.kd_sheet.specs.declared.fault.SheetFault.TheVariants.{BadValue, BadRow}
+
+-- how the bar behind those of the earlier items stands. Bars are counted from 1
+abbrev pub bar_behind : List Data → Data → Result (Place × Place) SheetFault
+bar_behind earlier item = ok_or (option_and_then standing_by_text (as_str item)) (BadRow (length earlier + 1))
+
+-- how the 27 bars stand, an item for each
+unfoldable pub bars_in : Members → Result (List (Place × Place)) SheetFault
+bars_in table = do
+  items ← items_at keys.Bars table
+  demand (length items == 27) (BadValue keys.Bars)
+  all_values (given_earlier bar_behind items)
+
+-- the byte is a figure from 0 to 6
+abbrev pub is_figure : ℕ → Bool
+is_figure byte = nat_le 48 byte && nat_le byte 54
+
+-- a bar can read as these two figures: they differ, or are both 0
+abbrev pub may_read : ℕ → ℕ → Bool
+may_read one other = not (one == other) || one == 48
+
+-- the numbers of a text of two figures with `-` between them, in either order
+unfoldable pub row_of_text : List ℕ → Option (ℕ × ℕ)
+row_of_text (one ∷ dash ∷ other ∷ []) =
+    if ((is_figure one && dash == 45) && is_figure other) && may_read one other then Some (in_order (one - 48) (other - 48)) else None
+row_of_text _ = None
+
+-- what the row behind those of the earlier items says. Rows are counted from 1
+abbrev pub row_behind : List Data → Data → Result (ℕ × ℕ) SheetFault
+row_behind earlier item = ok_or (option_and_then row_of_text (as_str item)) (BadRow (length earlier + 1))
+
+-- what the 27 bars are to read as, an item for each
+unfoldable pub rows_in : Members → Result (List (ℕ × ℕ)) SheetFault
+rows_in table = do
+  items ← items_at keys.Rows table
+  demand (length items == 27) (BadValue keys.Rows)
+  all_values (given_earlier row_behind items)

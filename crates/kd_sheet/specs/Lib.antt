@@ -1,0 +1,13 @@
+pub mod Key
+pub mod Document
+pub mod Letters
+pub mod Names
+pub mod Numbers
+pub mod Seats
+pub mod Cables
+pub mod PinWheels
+pub mod Drum
+pub mod MachineFile
+pub mod Sheet
+pub mod SheetFile
+pub mod MachineText

@@ -1,0 +1,94 @@
+-- What a machine file says, key by key, in the order in which its keys are tested.
+use Rattle.std.specs.Prelude.{ℕ, ◌==◌, Bool, true, List, length, Option, Result, Ok, ok_or}
+use Rattle.toml.specs.Data.{Members}
+use Rattle.kd_tables.specs.Tables.{box_of}
+use Rattle.kd_tables.specs.declared.model.Model.{Model}
+use Rattle.kd_tables.specs.declared.model.Model.TheVariants.{M4, M209}
+use Rattle.kd_tables.specs.declared.reflector.Reflector.{Reflector}
+use Rattle.kd_state.specs.Machine.{cables_ordered}
+use Rattle.kd_state.specs.declared.rotor_parts.RotorParts.{RotorParts}
+use Rattle.kd_state.specs.declared.pin_parts.PinParts.{PinParts}
+use Rattle.kd_state.specs.declared.parts.Parts.{Parts}
+use Rattle.kd_state.specs.declared.parts.Parts.TheVariants.{Rotor, Pin}
+use Rattle.kd_sheet.specs.Cables.{cables_in}
+use Rattle.kd_sheet.specs.Document.{◌>>=◌, ◌>>◌, demand, document_of, value_at, text_at}
+use Rattle.kd_sheet.specs.Drum.{bars_in}
+use Rattle.kd_sheet.specs.Letters.{capital_letters}
+use Rattle.kd_sheet.specs.Names.{model_by_name, reflector_by_name}
+use Rattle.kd_sheet.specs.Numbers.{number_to}
+use Rattle.kd_sheet.specs.PinWheels.{shown_in, pins_in}
+use Rattle.kd_sheet.specs.Seats.{seats_in}
+use Rattle.kd_sheet.specs.declared.key.Key.{Key}
+use Rattle.kd_sheet.specs.declared.key.Key.TheVariants as keys
+use Rattle.kd_sheet.specs.declared.fault.SheetFault.{SheetFault}
+use Rattle.kd_sheet.specs.declared.fault.SheetFault.TheVariants.{UnknownModel, BadValue}
+
+-- the file's version, 1 or 2
+unfoldable pub version_in : Members → Result ℕ SheetFault
+version_in table = do
+  value ← value_at keys.Version table
+  ok_or (number_to 2 value) (BadValue keys.Version)
+
+-- the model whose name stands there
+unfoldable pub model_in : Members → Result Model SheetFault
+model_in table = do
+  name ← text_at keys.Model table
+  ok_or (model_by_name name) UnknownModel
+
+-- files of the version know the model: the M4 came with version 2
+abbrev pub knows : ℕ → Model → Bool
+knows version M4 = version == 2
+knows version _ = true
+
+-- the model of a machine file of that version
+unfoldable pub known_model_in : ℕ → Members → Result Model SheetFault
+known_model_in version table = do
+  model ← model_in table
+  demand (knows version model) UnknownModel
+  Ok model
+
+-- the model's reflector whose name stands there
+unfoldable pub reflector_in : Model → Members → Result Reflector SheetFault
+reflector_in model table = do
+  name ← text_at keys.Reflector table
+  ok_or (reflector_by_name model name) (BadValue keys.Reflector)
+
+-- a letter for each wheel of the model's box, in box order
+unfoldable pub box_letters_in : Key → Model → Members → Result (List ℕ) SheetFault
+box_letters_in key model table = do
+  text ← text_at key table
+  ok_or (capital_letters (length (box_of model)) text) (BadValue key)
+
+-- the parts of a rotor machine
+unfoldable pub rotor_parts_in : Model → Members → Result RotorParts SheetFault
+rotor_parts_in model table = do
+  reflector ← reflector_in model table
+  slots ← seats_in keys.Slots model table
+  rings ← box_letters_in keys.Rings model table
+  letters ← box_letters_in keys.Letters model table
+  cables ← cables_in table
+  Ok (record { model = model; slots = slots; reflector = reflector; rings = rings; letters = letters; cables = cables })
+
+-- the parts of a Converter M-209
+unfoldable pub pin_parts_in : Members → Result PinParts SheetFault
+pin_parts_in table = do
+  letters ← shown_in keys.Letters table
+  pins ← pins_in table
+  bars ← bars_in table
+  Ok (record { pins = pins; letters = letters; bars = bars })
+
+-- the parts of a machine of the model. A cable holds a set of letters, whichever stands first
+unfoldable pub parts_in : Model → Members → Result Parts SheetFault
+parts_in M209 table = pin_parts_in table >>= (λ parts. Ok (Pin parts))
+parts_in model table = rotor_parts_in model table >>= (λ parts. Ok (cables_ordered (Rotor parts)))
+
+-- the machine that a machine file's table describes, or its first fault
+unfoldable pub machine_in : Members → Result Parts SheetFault
+machine_in table = do
+  version ← version_in table
+  model ← known_model_in version table
+  parts_in model table
+
+-- the machine that the bytes of a machine file describe, or the file's first fault
+abbrev pub machine_of : List ℕ → Result Parts SheetFault
+machine_of bytes = document_of bytes >>= machine_in

@@ -1,0 +1,60 @@
+//! The table of a document, and what stands in it at a key.
+ghost use Rattle.std.specs.Prelude.{◌≡◌, map, option_map};
+ghost use Rattle.toml.specs.Data.{get_member};
+ghost use Rattle.toml.specs.View.{view, table_view};
+ghost use Rattle.kd_sheet.specs.Document.{Answers, result_map, document_of, value_at, text_at, items_in, items_at};
+ghost use Rattle.kd_sheet.specs.Key.{key_name};
+
+use super::fault::SheetFault;
+use super::key::Key;
+use std::alloc::Global;
+use toml::value::Array;
+use toml::{Table, Value};
+
+/// The table of a document.
+pub fn document(alloc: Global, bytes: &[u8]) -> Result<Table, SheetFault>
+    ensures { Answers (result_map table_view result) (document_of bytes.now) }
+{
+    match toml::table_from_slice(alloc, bytes) {
+        Ok(table) => Ok(table),
+        Err(error) if error.is_memory() => Err(SheetFault::NoMemory),
+        Err(_) => Err(SheetFault::NotToml),
+    }
+}
+
+/// The value at a key, if it is there.
+pub fn find_at(table: &Table, key: Key) -> Option<&Value>
+    ensures { option_map (λ value. view value.now) result ≡ get_member (key_name key) (table_view table.now) }
+{
+    table.get(key.name())
+}
+
+/// The value at a key that has to be there.
+pub fn value_at(table: &Table, key: Key) -> Result<&Value, SheetFault>
+    ensures { result_map (λ value. view value.now) result ≡ value_at key (table_view table.now) }
+{
+    find_at(table, key).ok_or(SheetFault::Missing(key))
+}
+
+/// The text at a key.
+pub fn text_at(table: &Table, key: Key) -> Result<&str, SheetFault>
+    ensures { result_map (λ text. text.now) result ≡ text_at key (table_view table.now) }
+{
+    value_at(table, key)?
+        .as_str()
+        .ok_or(SheetFault::BadValue(key))
+}
+
+/// The items of the array that a key's value has to be.
+pub fn items_in(value: &Value, key: Key) -> Result<&Array, SheetFault>
+    ensures { result_map (λ items. map view items.now.items) result ≡ items_in key (view value.now) }
+{
+    value.as_array().ok_or(SheetFault::BadValue(key))
+}
+
+/// The items of the array at a key.
+pub fn items_at(table: &Table, key: Key) -> Result<&Array, SheetFault>
+    ensures { result_map (λ items. map view items.now.items) result ≡ items_at key (table_view table.now) }
+{
+    items_in(value_at(table, key)?, key)
+}

@@ -1,0 +1,64 @@
+ghost use Rattle.std.specs.Prelude.{◌≡◌, ◌≤◌, length};
+
+use std::fmt;
+
+/// A key of the files.
+#[derive(Clone, Copy, Debug, PartialEq, Eq)]
+pub enum Key {
+    Version,
+    Model,
+    Reflector,
+    Slots,
+    Rings,
+    Letters,
+    Cables,
+    Pins,
+    Bars,
+    Day,
+    Wheels,
+    Window,
+    Plugs,
+    Groups,
+    Rows,
+    List,
+}
+
+impl Key {
+    ghost use Rattle.kd_sheet.specs.Key.{key_name};
+
+    /// The key as a file writes it.
+    pub fn name(self) -> &'static str
+        ensures value { result.now ≡ key_name self }
+        ensures short { length result.now ≤ 9 }
+    {
+        match self {
+            Key::Version => "version",
+            Key::Model => "model",
+            Key::Reflector => "reflector",
+            Key::Slots => "slots",
+            Key::Rings => "rings",
+            Key::Letters => "letters",
+            Key::Cables => "cables",
+            Key::Pins => "pins",
+            Key::Bars => "bars",
+            Key::Day => "day",
+            Key::Wheels => "wheels",
+            Key::Window => "window",
+            Key::Plugs => "plugs",
+            Key::Groups => "groups",
+            Key::Rows => "rows",
+            Key::List => "list",
+        }
+    }
+}
+
+impl fmt::Display for Key {
+    ghost use Rattle.std.specs.Prelude.{Some};
+    ghost use Rattle.kd_sheet.specs.Key.{key_name};
+
+    ghost output = { λ key. Some (key_name key) };
+
+    fn fmt<W: fmt::Write>(&self, f: &mut fmt::Formatter<W>) -> fmt::Result {
+        f.write_str(self.name())
+    }
+}

@@ -1,0 +1,59 @@
+//! Texts of capital letters.
+ghost use Rattle.std.specs.Prelude.{◌≡◌, ◌-◌, ◌<◌, length, All, None, Some, IfSome, if◌then◌else◌};
+ghost use Rattle.kd_tables.specs.Tables.{box_of, slots_of};
+ghost use Rattle.kd_state.specs.Machine.{AreLetters};
+ghost use Rattle.kd_sheet.specs.Letters.{is_capital, capital_letters};
+
+use kd_state::{PerSlot, PerWheel};
+use kd_tables::{Letter, Model};
+
+/// The letter of a capital letter.
+pub fn capital_letter(byte: u8) -> Option<Letter>
+    ensures value { result ≡ (if is_capital byte then Some (byte - 65) else None) }
+    ensures within { IfSome result (λ letter. letter < 26) }
+{
+    Letter::from_byte(byte)
+}
+
+/// The letters of a text of exactly `N` capital letters.
+pub fn capital_letters<const N: usize>(text: &[u8]) -> Option<[Letter; N]>
+    ensures value { result ≡ capital_letters N text.now }
+    ensures count { IfSome result (λ letters. length letters ≡ N) }
+    ensures within { IfSome result (All (λ letter. letter < 26)) }
+{
+    if text.len() != N {
+        return None;
+    }
+    let mut letters = [Letter::A; N];
+    for (place, byte) in text.iter().enumerate() {
+        letters[place] = Letter::from_byte(*byte)?;
+    }
+    Some(letters)
+}
+
+/// A letter for each of the model's slots.
+pub fn slot_letters(model: Model, text: &[u8]) -> Option<PerSlot<Letter>>
+    requires { 0 < slots_of model }
+    ensures value { result ≡ capital_letters (slots_of model) text.now }
+    ensures letters { IfSome result (AreLetters (slots_of model)) }
+{
+    if model.slots() == 4 {
+        PerSlot::new(&capital_letters::<4>(text)?)
+    } else {
+        PerSlot::new(&capital_letters::<3>(text)?)
+    }
+}
+
+/// A letter for each wheel of the model's box, in box order.
+pub fn box_letters(model: Model, text: &[u8]) -> Option<PerWheel<Letter>>
+    requires { 0 < slots_of model }
+    ensures value { result ≡ capital_letters (length (box_of model)) text.now }
+    ensures letters { IfSome result (AreLetters (length (box_of model))) }
+{
+    match model {
+        Model::EnigmaI => PerWheel::new(&capital_letters::<5>(text)?),
+        Model::M3 => PerWheel::new(&capital_letters::<8>(text)?),
+        Model::M4 => PerWheel::new(&capital_letters::<10>(text)?),
+        Model::M209 => None,
+    }
+}

@@ -1,0 +1,31 @@
+//! Machine files and key sheets: reading them, and writing the file of a machine.
+#![tactic(auto)]
+
+mod cables;
+mod document;
+mod drum;
+mod fault;
+mod groups;
+mod item_text;
+mod key;
+mod letters;
+mod lines;
+mod machine_file;
+mod names;
+mod numbers;
+mod pin_wheels;
+mod plugs;
+mod seats;
+mod sheet;
+mod sheet_day;
+mod sheet_file;
+#[cfg(test)]
+mod tests;
+mod write;
+
+pub use fault::SheetFault;
+pub use key::Key;
+pub use machine_file::read_machine;
+pub use sheet::Sheet;
+pub use sheet_file::read_sheet;
+pub use write::write_machine;

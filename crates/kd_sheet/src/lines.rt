@@ -1,0 +1,101 @@
+//! The lines of a machine file, each with a key and its value.
+ghost use Rattle.std.specs.Prelude.{codes, ◌≡◌, ◌+◌, ◌*◌, ◌≤◌, ◌++◌, map, length};
+ghost use Rattle.std.specs.List.{flat_map, join_by};
+ghost use Rattle.arrayvec.specs.ArrayString.{array_string_len};
+ghost use Rattle.kd_sheet.specs.Key.{key_name};
+ghost use Rattle.kd_sheet.specs.MachineText.{quoted, listed, key_line};
+
+use super::item_text::ItemText;
+use super::key::Key;
+use arrayvec::ArrayString;
+
+/// The text of a machine file, which is shorter than 2048 bytes.
+pub type Text = ArrayString<2048>;
+
+/// Puts a key and the sign behind it.
+fn push_key(text: &mut Text, key: Key)
+    requires { array_string_len text.old + 12 ≤ 2048 }
+    ensures bytes { text.new.bytes ≡ text.old.bytes ++ (key_name key ++ codes " = ") }
+    ensures len { array_string_len text.new ≤ array_string_len text.old + 12 }
+{
+    text.push_str(key.name());
+    text.push_str(" = ");
+}
+
+/// Puts a value in double quotes.
+fn push_quoted(text: &mut Text, value: &str)
+    requires { array_string_len text.old + length value.now + 2 ≤ 2048 }
+    ensures bytes { text.new.bytes ≡ text.old.bytes ++ quoted value.now }
+    ensures len { array_string_len text.new ≡ array_string_len text.old + length value.now + 2 }
+{
+    text.push_str("\"");
+    text.push_str(value);
+    text.push_str("\"");
+}
+
+/// Puts a line with a number of one figure.
+pub fn push_figure_line(text: &mut Text, key: Key, value: &str)
+    requires { array_string_len text.old + length value.now + 13 ≤ 2048 }
+    ensures bytes { text.new.bytes ≡ text.old.bytes ++ key_line key value.now }
+    ensures len { array_string_len text.new ≤ array_string_len text.old + length value.now + 13 }
+{
+    push_key(text, key);
+    text.push_str(value);
+    text.push_str("\n");
+}
+
+/// Puts a line with a text.
+pub fn push_text_line(text: &mut Text, key: Key, value: &str)
+    requires { array_string_len text.old + length value.now + 15 ≤ 2048 }
+    ensures bytes { text.new.bytes ≡ text.old.bytes ++ key_line key (quoted value.now) }
+    ensures len { array_string_len text.new ≤ array_string_len text.old + length value.now + 15 }
+{
+    push_key(text, key);
+    push_quoted(text, value);
+    text.push_str("\n");
+}
+
+/// Puts an item behind another one.
+fn push_next<T: ItemText>(text: &mut Text, item: &T)
+    requires { array_string_len text.old + 36 ≤ 2048 }
+    ensures bytes { text.new.bytes ≡ text.old.bytes ++ (codes ", " ++ quoted (T.item_text item.now)) }
+    ensures len { array_string_len text.new ≤ array_string_len text.old + 36 }
+{
+    text.push_str(", ");
+    push_quoted(text, item.item_text().as_str());
+}
+
+/// Puts items behind a first one.
+fn push_rest<T: ItemText>(text: &mut Text, items: &[T])
+    requires { array_string_len text.old + 36 * length items.now ≤ 2048 }
+    ensures bytes { text.new.bytes ≡ text.old.bytes ++ flat_map (λ text. codes ", " ++ quoted text) (map T.item_text items.now) }
+    ensures len { array_string_len text.new ≤ array_string_len text.old + 36 * length items.now }
+{
+    for item in items {
+        push_next(text, item);
+    }
+}
+
+/// Puts items with a comma and a space between them.
+fn push_items<T: ItemText>(text: &mut Text, items: &[T])
+    requires { array_string_len text.old + 36 * length items.now ≤ 2048 }
+    ensures bytes { text.new.bytes ≡ text.old.bytes ++ join_by quoted (codes ", ") (map T.item_text items.now) }
+    ensures len { array_string_len text.new ≤ array_string_len text.old + 36 * length items.now }
+{
+    if let [first, rest @ ..] = items {
+        push_quoted(text, first.item_text().as_str());
+        push_rest(text, rest);
+    }
+}
+
+/// Puts a line with an array of texts.
+pub fn push_list_line<T: ItemText>(text: &mut Text, key: Key, items: &[T])
+    requires { array_string_len text.old + 36 * length items.now + 15 ≤ 2048 }
+    ensures bytes { text.new.bytes ≡ text.old.bytes ++ key_line key (listed (map T.item_text items.now)) }
+    ensures len { array_string_len text.new ≤ array_string_len text.old + 36 * length items.now + 15 }
+{
+    push_key(text, key);
+    text.push_str("[");
+    push_items(text, items);
+    text.push_str("]\n");
+}

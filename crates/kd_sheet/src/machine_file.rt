@@ -1,0 +1,159 @@
+//! Machine files: what stands on the desk.
+ghost use Rattle.std.specs.Prelude.{◌≡◌, ◌≤◌, ◌<◌, length, Contains, IfOk, Ok};
+ghost use Rattle.toml.specs.View.{table_view};
+ghost use Rattle.kd_tables.specs.Tables.{box_of, slots_of, reflectors_of};
+ghost use Rattle.kd_state.specs.Machine.{AreLetters, IsLegalRotor, IsLegalPin};
+ghost use Rattle.kd_sheet.specs.Document.{Answers};
+ghost use Rattle.kd_sheet.specs.MachineFile.{version_in, model_in, knows, known_model_in, reflector_in, box_letters_in, rotor_parts_in, pin_parts_in, parts_in, machine_in, machine_of};
+
+use super::cables::cables_in;
+use super::document::{document, text_at, value_at};
+use super::drum::bars_in;
+use super::fault::SheetFault;
+use super::key::Key;
+use super::letters::box_letters;
+use super::names::{model_by_name, reflector_by_name};
+use super::numbers::number_to;
+use super::pin_wheels::{pins_in, shown_in};
+use super::seats::seats_in;
+use kd_state::{Machine, PerWheel, PinParts, RotorParts};
+use kd_tables::{Letter, Model, Reflector};
+use std::alloc::Global;
+use toml::Table;
+
+/// The latest version of the files.
+const VERSION: u8 = 2;
+
+/// The file's version.
+#[tactic(auto, unfolding(crate::specs::MachineFile::version_in))]
+fn version_in(table: &Table) -> Result<u8, SheetFault>
+    ensures { result ≡ version_in (table_view table.now) }
+{
+    number_to(value_at(table, Key::Version)?, VERSION).ok_or(SheetFault::BadValue(Key::Version))
+}
+
+/// The model whose name stands in the table.
+#[tactic(auto, unfolding(crate::specs::MachineFile::model_in))]
+pub fn model_in(table: &Table) -> Result<Model, SheetFault>
+    ensures { result ≡ model_in (table_view table.now) }
+{
+    model_by_name(text_at(table, Key::Model)?).ok_or(SheetFault::UnknownModel)
+}
+
+/// Whether files of the version know the model: the M4 came with version 2.
+fn knows(version: u8, model: Model) -> bool
+    ensures { result ≡ knows version model }
+{
+    match model {
+        Model::M4 => version == 2,
+        _ => true,
+    }
+}
+
+/// The model of a machine file of that version.
+#[tactic(auto, unfolding(crate::specs::MachineFile::known_model_in))]
+fn known_model_in(version: u8, table: &Table) -> Result<Model, SheetFault>
+    ensures { result ≡ known_model_in version (table_view table.now) }
+{
+    let model = model_in(table)?;
+    if knows(version, model) {
+        Ok(model)
+    } else {
+        Err(SheetFault::UnknownModel)
+    }
+}
+
+/// The model's reflector whose name stands in the table.
+#[tactic(auto, unfolding(crate::specs::MachineFile::reflector_in))]
+pub fn reflector_in(table: &Table, model: Model) -> Result<Reflector, SheetFault>
+    ensures value { result ≡ reflector_in model (table_view table.now) }
+    ensures of_model { IfOk result (Contains (reflectors_of model)) }
+{
+    let name = text_at(table, Key::Reflector)?;
+    reflector_by_name(model, name).ok_or(SheetFault::BadValue(Key::Reflector))
+}
+
+/// A letter for each wheel of the model's box, in box order.
+#[tactic(auto, unfolding(crate::specs::MachineFile::box_letters_in))]
+fn box_letters_in(table: &Table, key: Key, model: Model) -> Result<PerWheel<Letter>, SheetFault>
+    requires { 0 < slots_of model }
+    ensures value { result ≡ box_letters_in key model (table_view table.now) }
+    ensures letters { IfOk result (AreLetters (length (box_of model))) }
+{
+    box_letters(model, text_at(table, key)?.as_bytes()).ok_or(SheetFault::BadValue(key))
+}
+
+/// The parts of a rotor machine.
+#[tactic(auto, unfolding(crate::specs::MachineFile::rotor_parts_in))]
+fn rotor_parts_in(table: &Table, model: Model) -> Result<RotorParts, SheetFault>
+    requires { 0 < slots_of model }
+    ensures value { result ≡ rotor_parts_in model (table_view table.now) }
+    ensures legal { IfOk result IsLegalRotor }
+{
+    let reflector = reflector_in(table, model)?;
+    let slots = seats_in(table, Key::Slots, model)?;
+    let rings = box_letters_in(table, Key::Rings, model)?;
+    let letters = box_letters_in(table, Key::Letters, model)?;
+    let cables = cables_in(table)?;
+    Ok(RotorParts {
+        model,
+        slots,
+        reflector,
+        rings,
+        letters,
+        cables,
+    })
+}
+
+/// The parts of a Converter M-209.
+#[tactic(auto, unfolding(crate::specs::MachineFile::pin_parts_in))]
+fn pin_parts_in(table: &Table) -> Result<PinParts, SheetFault>
+    ensures value { result ≡ pin_parts_in (table_view table.now) }
+    ensures legal { IfOk result IsLegalPin }
+{
+    let letters = shown_in(table, Key::Letters)?;
+    let pins = pins_in(table)?;
+    let bars = bars_in(table)?;
+    Ok(PinParts {
+        pins,
+        letters,
+        bars,
+    })
+}
+
+/// The machine of a model that the table describes.
+#[tactic(auto, unfolding(crate::specs::MachineFile::parts_in))]
+fn parts_in(table: &Table, model: Model) -> Result<Machine, SheetFault>
+    ensures { result ≡ parts_in model (table_view table.now) }
+{
+    match model {
+        Model::M209 => {
+            let parts = pin_parts_in(table)?;
+            Ok(Machine::pin(parts).unwrap())
+        }
+        Model::EnigmaI | Model::M3 | Model::M4 => {
+            let parts = rotor_parts_in(table, model)?;
+            Ok(Machine::rotor(parts).unwrap())
+        }
+    }
+}
+
+/// The machine that a machine file's table describes, or its first fault.
+#[tactic(auto, unfolding(crate::specs::MachineFile::machine_in))]
+fn machine_in(table: &Table) -> Result<Machine, SheetFault>
+    ensures { result ≡ machine_in (table_view table.now) }
+{
+    let version = version_in(table)?;
+    let model = known_model_in(version, table)?;
+    parts_in(table, model)
+}
+
+/// The machine that the bytes of a machine file describe, or the file's first fault. A file of version 1 or 2 is read; the
+/// M4 stands only in version 2. Only reading the document takes memory, so only where memory runs out it may answer
+/// `NoMemory` in place of any other answer.
+pub fn read_machine(alloc: Global, bytes: &[u8]) -> Result<Machine, SheetFault>
+    ensures { Answers result (machine_of bytes.now) }
+{
+    let table = document(alloc, bytes)?;
+    machine_in(&table)
+}

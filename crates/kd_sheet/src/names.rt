@@ -1,0 +1,44 @@
+//! Models, reflectors, wheels and standings by their names.
+ghost use Rattle.std.specs.Prelude.{◌≡◌, Contains, IfSome};
+ghost use Rattle.kd_tables.specs.Tables.{reflectors_of};
+ghost use Rattle.kd_sheet.specs.Names.{model_by_name, reflector_by_name, wheel_by_name, standing_by_text};
+
+use kd_tables::{Model, Reflector, Standing, Wheel};
+
+/// The model of that name.
+pub fn model_by_name(name: &str) -> Option<Model>
+    ensures { result ≡ model_by_name name.now }
+{
+    Model::from_text(name.as_bytes())
+}
+
+/// The model's reflector of that name.
+#[tactic(auto, unfolding(crate::specs::Names::reflector_by_name))]
+pub fn reflector_by_name(model: Model, name: &str) -> Option<Reflector>
+    ensures value { result ≡ reflector_by_name model name.now }
+    ensures of_model { IfSome result (Contains (reflectors_of model)) }
+{
+    model
+        .reflectors()
+        .iter()
+        .copied()
+        .find(|reflector| reflector.text().as_str() == name)
+}
+
+/// The wheel of that name.
+pub fn wheel_by_name(name: &str) -> Option<Wheel>
+    ensures { result ≡ wheel_by_name name.now }
+{
+    Wheel::from_text(name.as_bytes())
+}
+
+/// The standing of that text.
+#[tactic(auto, unfolding(crate::specs::Names::standing_by_text))]
+pub fn standing_by_text(text: &str) -> Option<Standing>
+    ensures { result ≡ standing_by_text text.now }
+{
+    Standing::all()
+        .iter()
+        .copied()
+        .find(|standing| standing.text().as_str() == text)
+}

@@ -1,0 +1,142 @@
+//! The letters of the Converter's six wheels, and which of their pins are effective.
+ghost use Rattle.std.specs.Prelude.{◌≡◌, ◌+◌, ◌==◌, ◌<◌, map, length, All, IfOk, IfSome};
+ghost use Rattle.std.specs.List.{list_any, count_by};
+ghost use Rattle.toml.specs.View.{view, table_view};
+ghost use Rattle.kd_state.specs.Machine.{AreOnWheels, HasAllPins};
+ghost use Rattle.kd_state.specs.Setting.{has_letter};
+ghost use Rattle.kd_sheet.specs.PinWheels.{are_on_wheels, letters_on_wheels, shown_in, is_on, stands_once, is_pin_text, has_capital, pins_of_text, pins_of_item, pins_in};
+
+use super::document::{items_at, text_at};
+use super::fault::SheetFault;
+use super::key::Key;
+use super::letters::capital_letters;
+use kd_pins::PinSet;
+use kd_tables::{Letter, Ring, ring1, ring2, ring3, ring4, ring5, ring6};
+use toml::{Table, Value};
+
+/// Whether the letter is on the wheel.
+fn is_on_wheel<const N: usize>(ring: &Ring<N>, letter: Letter) -> bool
+    ensures { result ≡ has_letter ring.now letter }
+{
+    ring.letters().iter().any(|other| *other == letter)
+}
+
+/// Whether each letter is on its wheel, from wheel 1 on.
+fn are_on_wheels(letters: &[Letter; 6]) -> bool
+    ensures { result ≡ are_on_wheels letters.now }
+{
+    let [one, two, three, four, five, six] = *letters;
+    is_on_wheel(&ring1(), one)
+        && is_on_wheel(&ring2(), two)
+        && is_on_wheel(&ring3(), three)
+        && is_on_wheel(&ring4(), four)
+        && is_on_wheel(&ring5(), five)
+        && is_on_wheel(&ring6(), six)
+}
+
+/// The letters of a text of six capital letters, each on its wheel.
+#[tactic(auto, unfolding(crate::specs::PinWheels::letters_on_wheels))]
+fn letters_on_wheels(text: &[u8]) -> Option<[Letter; 6]>
+    ensures value { result ≡ letters_on_wheels text.now }
+    ensures on_wheels { IfSome result AreOnWheels }
+{
+    let letters = capital_letters::<6>(text)?;
+    if are_on_wheels(&letters) {
+        Some(letters)
+    } else {
+        None
+    }
+}
+
+/// A letter for each of the six wheels.
+#[tactic(auto, unfolding(crate::specs::PinWheels::shown_in))]
+pub fn shown_in(table: &Table, key: Key) -> Result<[Letter; 6], SheetFault>
+    ensures value { result ≡ shown_in key (table_view table.now) }
+    ensures on_wheels { IfOk result AreOnWheels }
+{
+    letters_on_wheels(text_at(table, key)?.as_bytes()).ok_or(SheetFault::BadValue(key))
+}
+
+/// Whether the byte is the capital letter of one on the wheel.
+fn is_on(ring: &[Letter], byte: u8) -> bool
+    ensures { result ≡ is_on ring.now byte }
+{
+    ring.iter().any(|letter| letter.byte() == byte)
+}
+
+/// Whether the byte stands once in the text.
+fn stands_once(text: &[u8], byte: u8) -> bool
+    ensures { result ≡ stands_once text.now byte }
+{
+    text.iter().filter(|other| **other == byte).count() == 1
+}
+
+/// Whether the text has letters of the wheel, and none of them twice.
+fn is_pin_text(ring: &[Letter], text: &[u8]) -> bool
+    ensures { result ≡ is_pin_text ring.now text.now }
+{
+    text.iter()
+        .all(|byte| is_on(ring, *byte) && stands_once(text, *byte))
+}
+
+/// Which of the letters the text has.
+fn letters_in<const N: usize>(letters: &[Letter; N], text: &[u8]) -> [bool; N]
+    ensures value { result ≡ map (has_capital text.now) letters.now }
+    ensures count { length result ≡ N }
+{
+    let mut found = [false; N];
+    for (place, letter) in letters.iter().enumerate() {
+        found[place] = text.contains(&letter.byte());
+    }
+    found
+}
+
+/// Which pins of the wheel are effective, where the text has the letters of those that are.
+#[tactic(auto, unfolding(crate::specs::PinWheels::pins_of_text))]
+fn pins_of_text<const N: usize>(ring: &Ring<N>, text: &[u8]) -> Option<[bool; N]>
+    ensures value { result ≡ pins_of_text ring.now text.now }
+    ensures count { IfSome result (λ pins. length pins ≡ N) }
+{
+    let letters = ring.letters();
+    if is_pin_text(&letters, text) {
+        Some(letters_in(&letters, text))
+    } else {
+        None
+    }
+}
+
+/// Which pins of the wheel the item makes effective.
+#[tactic(auto, unfolding(crate::specs::PinWheels::pins_of_item))]
+fn pins_of_item<const N: usize>(ring: &Ring<N>, item: &Value) -> Result<[bool; N], SheetFault>
+    ensures value { result ≡ pins_of_item ring.now (view item.now) }
+    ensures count { IfOk result (λ pins. length pins ≡ N) }
+{
+    let text = item.as_str().ok_or(SheetFault::BadValue(Key::Pins))?;
+    pins_of_text(ring, text.as_bytes()).ok_or(SheetFault::BadValue(Key::Pins))
+}
+
+/// The effective pins of the six wheels, an item for each.
+#[tactic(auto, unfolding(crate::specs::PinWheels::pins_in))]
+pub fn pins_in(table: &Table) -> Result<PinSet, SheetFault>
+    ensures value { result ≡ pins_in (table_view table.now) }
+    ensures count { IfOk result HasAllPins }
+{
+    let items = items_at(table, Key::Pins)?.as_slice();
+    let [one, two, three, four, five, six] = items else {
+        return Err(SheetFault::BadValue(Key::Pins));
+    };
+    let w1 = pins_of_item(&ring1(), one)?;
+    let w2 = pins_of_item(&ring2(), two)?;
+    let w3 = pins_of_item(&ring3(), three)?;
+    let w4 = pins_of_item(&ring4(), four)?;
+    let w5 = pins_of_item(&ring5(), five)?;
+    let w6 = pins_of_item(&ring6(), six)?;
+    Ok(PinSet {
+        w1,
+        w2,
+        w3,
+        w4,
+        w5,
+        w6,
+    })
+}

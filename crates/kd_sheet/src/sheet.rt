@@ -1,0 +1,67 @@
+ghost use Rattle.std.specs.Prelude.{◌≡◌, option_copied, slice_set, ◌-◌, IfSome, [], Some};
+ghost use Rattle.kd_state.specs.SheetDay.{day_number};
+ghost use Rattle.kd_sheet.specs.Sheet.{day_of, month_of, IsMonth};
+
+use kd_state::SheetDay;
+use std::marker::Model;
+
+/// How many days the longest month has.
+const DAYS: usize = 31;
+
+/// A key sheet: a month with a day here and there. It takes no memory of its own.
+#[derive(Drop)]
+pub struct Sheet {
+    /// Each day at its number, counted from 1.
+    days: [Option<SheetDay>; DAYS],
+}
+
+impl Model for Sheet {
+    ghost use Rattle.std.specs.Prelude.{List, Option};
+    ghost use Rattle.kd_state.specs.SheetDay.{Day};
+    ghost use Rattle.kd_sheet.specs.Sheet.{IsMonth};
+
+    ghost Value = { List (Option Day) };
+
+    ghost view = { λ sheet. sheet.days };
+
+    ghost invariant = { λ sheet. IsMonth sheet.days };
+}
+
+impl Sheet {
+    /// The sheet without days.
+    pub(crate) fn new() -> Self
+        ensures { result ≡ month_of [] }
+    {
+        Sheet {
+            days: Default::default(),
+        }
+    }
+
+    /// The day of that number, if the sheet has one.
+    pub fn day(&self, number: u8) -> Option<&SheetDay>
+        ensures value { option_copied result ≡ day_of self.now number }
+        ensures number { IfSome result (λ day. day_number day.now ≡ number) }
+    {
+        self.find(number)
+    }
+
+    /// The day at that number.
+    fn find(&self, number: u8) -> Option<&SheetDay>
+        ensures value { option_copied result ≡ day_of self.now number }
+        ensures month { IsMonth self.now }
+    {
+        let days = &self.days;
+        if number == 0 {
+            return None;
+        }
+        days.get(usize::from(number) - 1)?.as_ref()
+    }
+
+    /// Puts the day at its number.
+    pub(crate) fn put(&mut self, day: SheetDay)
+        ensures { self.new ≡ slice_set self.old (day_number day - 1) (Some day) }
+    {
+        let place = usize::from(day.day()) - 1;
+        self.days[place] = Some(day);
+    }
+}

@@ -1,0 +1,153 @@
+//! A day of a key sheet, key by key.
+ghost use Rattle.std.specs.Prelude.{◌≡◌, ◌≤◌, ◌<◌, length, All, IsSome, IfOk, IfSome};
+ghost use Rattle.toml.specs.View.{view, table_view};
+ghost use Rattle.kd_tables.specs.Tables.{slots_of};
+ghost use Rattle.kd_state.specs.Machine.{AreLetters};
+ghost use Rattle.kd_state.specs.SheetDay.{IsDayNumber, HasLetters, day_number};
+ghost use Rattle.kd_sheet.specs.SheetFile.{rings_of, rings_in, window_in, list_in, sheet_wheels, rotor_day_in, pin_day_in, model_day_in};
+
+use super::document::{text_at, value_at};
+use super::drum::rows_in;
+use super::fault::SheetFault;
+use super::groups::groups_in;
+use super::key::Key;
+use super::letters::{capital_letters, slot_letters};
+use super::machine_file::reflector_in;
+use super::numbers::numbered_slots;
+use super::pin_wheels::{pins_in, shown_in};
+use super::plugs::pairs_in;
+use super::seats::seats_in;
+use kd_state::{PerSlot, SheetDay, SheetWheel};
+use kd_tables::{Letter, Model, Wheel};
+use toml::{Table, Value};
+
+/// The rings of the model's slots, as a text of capital letters or as numbers.
+fn rings_of(value: &Value, model: Model) -> Option<PerSlot<Letter>>
+    requires { 0 < slots_of model }
+    ensures value { result ≡ rings_of (slots_of model) (view value.now) }
+    ensures letters { IfSome result (AreLetters (slots_of model)) }
+{
+    if let Some(text) = value.as_str() {
+        return slot_letters(model, text.as_bytes());
+    }
+    let items = value.as_array()?.as_slice();
+    numbered_slots(model, items)
+}
+
+/// A ring for each of the model's slots.
+#[tactic(auto, unfolding(crate::specs::SheetFile::rings_in))]
+fn rings_in(table: &Table, model: Model) -> Result<PerSlot<Letter>, SheetFault>
+    requires { 0 < slots_of model }
+    ensures value { result ≡ rings_in model (table_view table.now) }
+    ensures letters { IfOk result (AreLetters (slots_of model)) }
+{
+    rings_of(value_at(table, Key::Rings)?, model).ok_or(SheetFault::BadValue(Key::Rings))
+}
+
+/// A letter for each of the model's windows.
+#[tactic(auto, unfolding(crate::specs::SheetFile::window_in))]
+fn window_in(table: &Table, model: Model) -> Result<PerSlot<Letter>, SheetFault>
+    requires { 0 < slots_of model }
+    ensures value { result ≡ window_in model (table_view table.now) }
+    ensures letters { IfOk result (AreLetters (slots_of model)) }
+{
+    let text = text_at(table, Key::Window)?;
+    slot_letters(model, text.as_bytes()).ok_or(SheetFault::BadValue(Key::Window))
+}
+
+/// The two letters of the key list.
+#[tactic(auto, unfolding(crate::specs::SheetFile::list_in))]
+fn list_in(table: &Table) -> Result<[Letter; 2], SheetFault>
+    ensures value { result ≡ list_in (table_view table.now) }
+    ensures word { IfOk result (AreLetters 2) }
+{
+    let text = text_at(table, Key::List)?;
+    capital_letters(text.as_bytes()).ok_or(SheetFault::BadValue(Key::List))
+}
+
+/// The wheels in the model's slots, each with its ring and the letter in its window.
+fn sheet_wheels(
+    model: Model,
+    slots: &[Option<Wheel>],
+    rings: &[Letter],
+    window: &[Letter],
+) -> PerSlot<SheetWheel>
+    requires some { 0 < slots_of model }
+    requires count { length slots.now ≡ slots_of model }
+    requires filled { All IsSome slots.now }
+    requires rings { AreLetters (slots_of model) rings.now }
+    requires window { AreLetters (slots_of model) window.now }
+    ensures value { result ≡ sheet_wheels slots.now rings.now window.now }
+    ensures letters { All HasLetters result }
+{
+    let blank = SheetWheel {
+        wheel: Wheel::I,
+        ring: Letter::A,
+        letter: Letter::A,
+    };
+    let mut wheels = [blank; 4];
+    for (place, slot) in slots.iter().enumerate() {
+        let wheel = slot.unwrap();
+        let ring = rings[place];
+        let letter = window[place];
+        wheels[place] = SheetWheel {
+            wheel,
+            ring,
+            letter,
+        };
+    }
+    PerSlot::new(&wheels[..slots.len()]).unwrap()
+}
+
+/// The day of a rotor model.
+#[tactic(auto, unfolding(crate::specs::SheetFile::rotor_day_in))]
+fn rotor_day_in(table: &Table, day: u8, model: Model) -> Result<SheetDay, SheetFault>
+    requires slots { 0 < slots_of model }
+    requires day { IsDayNumber day }
+    ensures value { result ≡ rotor_day_in day model (table_view table.now) }
+    ensures number { IfOk result (λ new. day_number new ≡ day) }
+{
+    let reflector = reflector_in(table, model)?;
+    let slots = seats_in(table, Key::Wheels, model)?;
+    let rings = rings_in(table, model)?;
+    let window = window_in(table, model)?;
+    let pairs = pairs_in(table)?;
+    let groups = groups_in(table)?;
+    let wheels = sheet_wheels(model, slots.as_slice(), rings.as_slice(), window.as_slice());
+    let new = SheetDay::rotor(
+        day,
+        model,
+        reflector,
+        wheels.as_slice(),
+        pairs.as_slice(),
+        groups.as_slice(),
+    );
+    Ok(new.unwrap())
+}
+
+/// The day of a Converter M-209.
+#[tactic(auto, unfolding(crate::specs::SheetFile::pin_day_in))]
+fn pin_day_in(table: &Table, day: u8) -> Result<SheetDay, SheetFault>
+    requires { IsDayNumber day }
+    ensures value { result ≡ pin_day_in day (table_view table.now) }
+    ensures number { IfOk result (λ new. day_number new ≡ day) }
+{
+    let rows = rows_in(table)?;
+    let pins = pins_in(table)?;
+    let window = shown_in(table, Key::Window)?;
+    let list = list_in(table)?;
+    Ok(SheetDay::pin(day, rows, pins, window, list).unwrap())
+}
+
+/// The day of a model.
+#[tactic(auto, unfolding(crate::specs::SheetFile::model_day_in))]
+pub fn model_day_in(table: &Table, day: u8, model: Model) -> Result<SheetDay, SheetFault>
+    requires { IsDayNumber day }
+    ensures value { result ≡ model_day_in day model (table_view table.now) }
+    ensures number { IfOk result (λ new. day_number new ≡ day) }
+{
+    match model {
+        Model::M209 => pin_day_in(table, day),
+        Model::EnigmaI | Model::M3 | Model::M4 => rotor_day_in(table, day, model),
+    }
+}

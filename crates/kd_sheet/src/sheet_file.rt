@@ -1,0 +1,103 @@
+//! Key sheets: the days for which a machine can be set.
+ghost use Rattle.std.specs.Prelude.{◌≡◌, ◌==◌, ◌-◌, ◌≤◌, ◌<◌, false, map, length, IfOk, Ok, Some, None, slice_set, is_some};
+ghost use Rattle.std.specs.List.{list_any};
+ghost use Rattle.toml.specs.View.{view, table_view};
+ghost use Rattle.kd_state.specs.SheetDay.{IsDayNumber, day_number};
+ghost use Rattle.kd_sheet.specs.Document.{Answers, result_map};
+ghost use Rattle.kd_sheet.specs.Sheet.{day_of, month_of, Takes};
+ghost use Rattle.kd_sheet.specs.SheetFile.{number_in, new_number_in, day_in, day_for, number_of_item, days_of, sheet_in, sheet_of};
+
+use super::document::{document, items_at, value_at};
+use super::fault::SheetFault;
+use super::key::Key;
+use super::machine_file::model_in;
+use super::numbers::number_to;
+use super::sheet::Sheet;
+use super::sheet_day::model_day_in;
+use kd_state::SheetDay;
+use std::alloc::Global;
+use toml::{Table, Value};
+
+/// How many days the longest month has.
+const DAYS: u8 = 31;
+
+/// The day's number.
+#[tactic(auto, unfolding(crate::specs::SheetFile::number_in))]
+fn number_in(table: &Table) -> Result<u8, SheetFault>
+    ensures value { result ≡ number_in (table_view table.now) }
+    ensures within { IfOk result IsDayNumber }
+{
+    number_to(value_at(table, Key::Day)?, DAYS).ok_or(SheetFault::BadValue(Key::Day))
+}
+
+/// The day's number, which no day of the sheet has.
+#[tactic(auto, unfolding(crate::specs::SheetFile::new_number_in))]
+fn new_number_in(sheet: &Sheet, table: &Table) -> Result<u8, SheetFault>
+    ensures value { (taken : _) → Takes sheet.now taken → result ≡ new_number_in taken (table_view table.now) }
+    ensures number { IfOk result (λ number. number_in (table_view table.now) ≡ Ok number) }
+    ensures within { IfOk result IsDayNumber }
+    ensures free { IfOk result (λ number. day_of sheet.now number ≡ None) }
+{
+    let number = number_in(table)?;
+    if sheet.day(number).is_some() {
+        Err(SheetFault::DayTwice(number))
+    } else {
+        Ok(number)
+    }
+}
+
+/// The day that an entry's table describes, behind the days of the sheet, or its first fault.
+#[tactic(auto, unfolding(crate::specs::SheetFile::day_in))]
+fn day_in(sheet: &Sheet, table: &Table) -> Result<SheetDay, SheetFault>
+    ensures value { (taken : _) → Takes sheet.now taken → result ≡ day_in taken (table_view table.now) }
+    ensures number { IfOk result (λ day. number_in (table_view table.now) ≡ Ok (day_number day)) }
+    ensures within { IfOk result (λ day. IsDayNumber (day_number day)) }
+    ensures free { IfOk result (λ day. day_of sheet.now (day_number day) ≡ None) }
+{
+    let number = new_number_in(sheet, table)?;
+    let model = model_in(table)?;
+    model_day_in(table, number, model)
+}
+
+/// The day of an item behind the days of the sheet.
+#[tactic(auto, unfolding(crate::specs::SheetFile::day_for, crate::specs::SheetFile::number_of_item))]
+fn day_for(sheet: &Sheet, item: &Value) -> Result<SheetDay, SheetFault>
+    ensures value { (taken : _) → Takes sheet.now taken → result ≡ day_for taken (view item.now) }
+    ensures number { IfOk result (λ day. number_of_item (view item.now) ≡ Some (day_number day)) }
+    ensures within { IfOk result (λ day. IsDayNumber (day_number day)) }
+    ensures free { IfOk result (λ day. day_of sheet.now (day_number day) ≡ None) }
+{
+    day_in(
+        sheet,
+        item.as_table().ok_or(SheetFault::BadValue(Key::Day))?,
+    )
+}
+
+/// The month with the days of the items.
+fn month(items: &[Value]) -> Result<Sheet, SheetFault>
+    ensures { result ≡ result_map month_of (days_of (map view items.now)) }
+{
+    let mut sheet = Sheet::new();
+    for item in items {
+        let day = day_for(&sheet, item)?;
+        sheet.put(day);
+    }
+    Ok(sheet)
+}
+
+/// The sheet that a sheet's table describes, or its first fault.
+#[tactic(auto, unfolding(crate::specs::SheetFile::sheet_in))]
+fn sheet_in(table: &Table) -> Result<Sheet, SheetFault>
+    ensures { result ≡ sheet_in (table_view table.now) }
+{
+    month(items_at(table, Key::Day)?)
+}
+
+/// The sheet that the bytes of a sheet file describe, or the file's first fault. Only reading the document takes memory,
+/// so only where memory runs out it may answer `NoMemory` in place of any other answer.
+pub fn read_sheet(alloc: Global, bytes: &[u8]) -> Result<Sheet, SheetFault>
+    ensures { Answers result (sheet_of bytes.now) }
+{
+    let table = document(alloc, bytes)?;
+    sheet_in(&table)
+}

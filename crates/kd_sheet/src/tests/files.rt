@@ -1,0 +1,131 @@
+//! Files that are read, and machines that are written.
+use super::samples::{M1, M1_WRITTEN, M4, M209, SHEET, TEN_CABLES, TEN_CABLES_WRITTEN};
+use crate::{read_machine, read_sheet, write_machine};
+use kd_tables::{Device, Letter, MemorySink, Model, Reflector, Wheel};
+use std::test::Fail;
+
+/// Each file beside the file that is written for its machine.
+const WRITTEN: [(&str, &str); 6] = [
+    (M1, M1_WRITTEN),
+    (M1_WRITTEN, M1_WRITTEN),
+    (TEN_CABLES, TEN_CABLES_WRITTEN),
+    (TEN_CABLES_WRITTEN, TEN_CABLES_WRITTEN),
+    (M4, M4),
+    (M209, M209),
+];
+
+#[test]
+fn writes_what_was_read(rt: HostRuntime) -> Result<(), Fail> {
+    for (file, text) in WRITTEN {
+        let machine = read_machine(rt.alloc(), file.as_bytes())?;
+        let mut sink = MemorySink::<1024>::new(1024);
+        write_machine(&mut sink, &machine)?;
+        assert_eq!(rt; sink.taken(), text.as_bytes());
+    }
+    Ok(())
+}
+
+/// Parts of a file that are written otherwise, and still say a machine that is written back the same.
+#[test]
+fn writes_other_machines_back(rt: HostRuntime) -> Result<(), Fail> {
+    for (old, new) in [
+        ("\"AAAAA\"\nl", "\"BBBAA\"\nl"),
+        ("[\"\", \"\",", "[\"AB\", \"CD\","),
+        ("[\"I\", \"II\", \"III\"]", "[\"\", \"I\", \"\"]"),
+        ("letters = \"AAAAA\"", "letters = \"BAAAA\""),
+    ] {
+        let text = M1_WRITTEN.replace(rt.alloc(), old, new)?;
+        let machine = read_machine(rt.alloc(), text.as_bytes())?;
+        let mut sink = MemorySink::<1024>::new(1024);
+        write_machine(&mut sink, &machine)?;
+        assert_eq!(rt; sink.taken(), text.as_bytes());
+    }
+    for (old, new) in [
+        ("\"1-2\", \"0L-0R\"", "\"3-0R\", \"0L-3\""),
+        ("\"P\", \"O\", \"\", \"\"", "\"AZ\", \"V\", \"X\", \"TU\""),
+        ("AAAAAA", "ZYXUSQ"),
+    ] {
+        let text = M209.replace(rt.alloc(), old, new)?;
+        let machine = read_machine(rt.alloc(), text.as_bytes())?;
+        let mut sink = MemorySink::<1024>::new(1024);
+        write_machine(&mut sink, &machine)?;
+        assert_eq!(rt; sink.taken(), text.as_bytes());
+    }
+    Ok(())
+}
+
+#[test]
+fn tells_that_the_sink_failed(rt: HostRuntime) -> Result<(), Fail> {
+    let machine = read_machine(rt.alloc(), M1.as_bytes())?;
+    let mut sink = MemorySink::<1024>::new(10);
+    assert_eq!(rt; write_machine(&mut sink, &machine), Err(Device));
+    assert_eq!(rt; sink.taken(), b"version = ".as_slice());
+    Ok(())
+}
+
+/// Version 2 tells the same machine, and what no key speaks of is passed over.
+#[test]
+fn reads_either_version_and_unknown_keys(rt: HostRuntime) -> Result<(), Fail> {
+    let deep =
+        "x = [[[[[[[[[[[[[[[[[[[[[[[[[[[[[[[[[[[[[[[[[[[[[[[[[[[[[[[[[[[[[[[[]]]]]]]]]]]]]]]]]]]]]]]]]]]]]]]]]]]]]]]]]]]]]]]]]]]]]]]]]]]]]]]]\nversion = 1";
+    for new in ["version = 2", deep] {
+        let text = M1.replace(rt.alloc(), "version = 1", new)?;
+        let machine = read_machine(rt.alloc(), text.as_bytes())?;
+        let mut sink = MemorySink::<1024>::new(1024);
+        write_machine(&mut sink, &machine)?;
+        assert_eq!(rt; sink.taken(), M1_WRITTEN.as_bytes());
+    }
+    Ok(())
+}
+
+#[test]
+fn reads_the_days_of_a_sheet(rt: HostRuntime) -> Result<(), Fail> {
+    let sheet = read_sheet(rt.alloc(), SHEET.as_bytes())?;
+    for number in [0, 2, 8, 10, 30, 32, 255] {
+        assert!(rt; sheet.day(number).is_none());
+    }
+    let Some(first) = sheet.day(1) else {
+        return Err(Fail::new("the first day"));
+    };
+    assert_eq!(rt; first.model(), Model::EnigmaI);
+    assert_eq!(rt; first.reflector(), Some(Reflector::B));
+    assert_eq!(rt; first.slot(1), Some(Wheel::I));
+    assert_eq!(rt; first.slot(3), Some(Wheel::III));
+    assert_eq!(rt; first.ring(2), Letter::from_byte(b'Z'));
+    assert_eq!(rt; first.ring(3), Letter::from_byte(b'B'));
+    assert_eq!(rt; first.window(3), Letter::from_byte(b'C'));
+    assert_eq!(rt; first.pairs().map(|pairs| pairs.len()), Some(2));
+    assert_eq!(rt; first.groups().map(|groups| groups.len()), Some(4));
+    let Some(last) = sheet.day(31) else {
+        return Err(Fail::new("the last day"));
+    };
+    assert_eq!(rt; last.model(), Model::M4);
+    assert_eq!(rt; last.slot(1), Some(Wheel::Gamma));
+    assert_eq!(rt; last.ring(4), Letter::from_byte(b'D'));
+    assert_eq!(rt; last.pairs().map(|pairs| pairs.len()), Some(0));
+    assert_eq!(rt; last.groups().map(|groups| groups.len()), Some(0));
+    let Some(converter) = sheet.day(9) else {
+        return Err(Fail::new("the Converter's day"));
+    };
+    assert_eq!(rt; converter.model(), Model::M209);
+    assert_eq!(rt; converter.window(6), Letter::from_byte(b'F'));
+    let Some(rows) = converter.rows() else {
+        return Err(Fail::new("rows"));
+    };
+    assert_eq!(rt; rows[0].numbers(), (0, 3));
+    assert_eq!(rt; rows[1].numbers(), (3, 6));
+    let Some(pins) = converter.pins() else {
+        return Err(Fail::new("pins"));
+    };
+    assert!(rt; pins.w1[0] && pins.w1[25] && !pins.w1[1] && pins.w6[16] && !pins.w6[0]);
+    Ok(())
+}
+
+#[test]
+fn reads_a_sheet_without_days(rt: HostRuntime) -> Result<(), Fail> {
+    let sheet = read_sheet(rt.alloc(), b"day = []\n")?;
+    for number in 0..=255 {
+        assert!(rt; sheet.day(number).is_none());
+    }
+    Ok(())
+}

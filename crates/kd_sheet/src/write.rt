@@ -1,0 +1,151 @@
+//! Writing the file of a machine.
+ghost use Rattle.std.specs.Prelude.{◌≡◌, ◌+◌, ◌<◌, ◌≤◌, ◌||◌, ◌++◌, map, length, is_err};
+ghost use Rattle.std.specs.List.{concat};
+ghost use Rattle.arrayvec.specs.ArrayString.{array_string_len};
+ghost use Rattle.kd_tables.specs.Places.{figure};
+ghost use Rattle.kd_tables.specs.Writing.{Writes};
+ghost use Rattle.kd_state.specs.Machine.{IsLegalRotor, IsLegalPin};
+ghost use Rattle.kd_sheet.specs.MachineText.{letters_text, version_of, pin_text, pins_text, pin_texts, head_lines, machine_text};
+
+use super::item_text::Item;
+use super::key::Key;
+use super::lines::{Text, push_figure_line, push_list_line, push_text_line};
+use kd_pins::PinSet;
+use kd_state::{Machine, Parts, PinParts, RotorParts, push_letter};
+use kd_tables::{
+    Device, Letter, Model, Ring, Sink, put_all, ring1, ring2, ring3, ring4, ring5, ring6,
+};
+
+/// The letters as a text.
+fn letters_text(letters: &[Letter]) -> Item
+    requires { length letters.now ≤ 32 }
+    ensures { result.bytes ≡ letters_text letters.now }
+{
+    let mut text = Item::new();
+    for letter in letters {
+        push_letter(&mut text, *letter);
+    }
+    text
+}
+
+/// Puts the letter of a pin, if it is effective.
+fn push_pin(text: &mut Item, letter: Letter, effective: bool)
+    requires { array_string_len text.old < 32 }
+    ensures bytes { text.new.bytes ≡ text.old.bytes ++ pin_text letter effective }
+    ensures len { array_string_len text.new ≤ array_string_len text.old + 1 }
+{
+    if effective {
+        push_letter(text, letter);
+    }
+}
+
+/// Puts the letters of the pins that are effective.
+fn push_pins(text: &mut Item, letters: &[Letter], pins: &[bool])
+    requires room { array_string_len text.old + length letters.now ≤ 32 }
+    requires pins { length pins.now ≡ length letters.now }
+    ensures { text.new.bytes ≡ text.old.bytes ++ pins_text letters.now pins.now }
+{
+    for (place, letter) in letters.iter().enumerate() {
+        let effective = pins[place];
+        push_pin(text, *letter, effective);
+    }
+}
+
+/// The letters of a wheel's effective pins, in the wheel's own order.
+fn pins_text<const N: usize>(ring: &Ring<N>, pins: &[bool; N]) -> Item
+    requires { N ≤ 32 }
+    ensures { result.bytes ≡ pins_text ring.now pins.now }
+{
+    let mut text = Item::new();
+    let letters = ring.letters();
+    push_pins(&mut text, &letters, pins);
+    text
+}
+
+/// The letters of the effective pins, wheel by wheel.
+fn pin_texts(pins: &PinSet) -> [Item; 6]
+    ensures { map (λ text. text.bytes) result ≡ pin_texts pins.now }
+{
+    [
+        pins_text(&ring1(), &pins.w1),
+        pins_text(&ring2(), &pins.w2),
+        pins_text(&ring3(), &pins.w3),
+        pins_text(&ring4(), &pins.w4),
+        pins_text(&ring5(), &pins.w5),
+        pins_text(&ring6(), &pins.w6),
+    ]
+}
+
+/// The version in which a file with the model is written, in figures.
+fn version_of(model: Model) -> &'static str
+    ensures value { result.now ≡ figure (version_of model) }
+{
+    match model {
+        Model::M4 => "2",
+        Model::EnigmaI | Model::M3 | Model::M209 => "1",
+    }
+}
+
+/// The first two lines: the version and the model.
+fn head_text(model: Model) -> Text
+    ensures bytes { result.bytes ≡ concat (head_lines model) }
+    ensures len { array_string_len result ≤ 40 }
+{
+    let mut text = Text::new();
+    push_figure_line(&mut text, Key::Version, version_of(model));
+    push_text_line(&mut text, Key::Model, model.text().as_str());
+    text
+}
+
+/// The machine file of a rotor machine.
+#[tactic(auto, unfolding(crate::specs::MachineText::machine_text))]
+fn rotor_text(parts: &RotorParts) -> Text
+    requires { IsLegalRotor parts.now }
+    ensures { result.bytes ≡ machine_text (Parts.Rotor parts.now) }
+{
+    let mut text = head_text(parts.model);
+    push_text_line(&mut text, Key::Reflector, parts.reflector.text().as_str());
+    push_list_line(&mut text, Key::Slots, parts.slots.as_slice());
+    push_text_line(
+        &mut text,
+        Key::Rings,
+        letters_text(parts.rings.as_slice()).as_str(),
+    );
+    push_text_line(
+        &mut text,
+        Key::Letters,
+        letters_text(parts.letters.as_slice()).as_str(),
+    );
+    push_list_line(&mut text, Key::Cables, &parts.cables);
+    text
+}
+
+/// The machine file of a Converter M-209.
+#[tactic(auto, unfolding(crate::specs::MachineText::machine_text))]
+fn pin_machine_text(parts: &PinParts) -> Text
+    requires { IsLegalPin parts.now }
+    ensures { result.bytes ≡ machine_text (Parts.Pin parts.now) }
+{
+    let mut text = head_text(Model::M209);
+    push_text_line(
+        &mut text,
+        Key::Letters,
+        letters_text(&parts.letters).as_str(),
+    );
+    push_list_line(&mut text, Key::Pins, &pin_texts(&parts.pins));
+    push_list_line(&mut text, Key::Bars, &parts.bars);
+    text
+}
+
+/// Writes the machine file of a machine: in version 1, and in version 2 for the M4. On `Device` the sink has taken a front
+/// of the text.
+pub fn write_machine<W: Sink>(sink: &mut W, machine: &Machine) -> Result<(), Device>
+    ensures text { Writes (W.taken sink.old) (W.taken sink.new) (machine_text machine.now) result }
+    ensures failed { W.has_failed sink.new ≡ (W.has_failed sink.old || is_err result) }
+{
+    let text = match machine.parts() {
+        Parts::Rotor(parts) => rotor_text(parts),
+        Parts::Pin(parts) => pin_machine_text(parts),
+    };
+    put_all(sink, text.as_str().as_bytes())
+}

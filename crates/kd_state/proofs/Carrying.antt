@@ -1,0 +1,63 @@
+-- Settings and lists of them, refused and carried out.
+use Rattle.std.proofs.Common.{◌≡◌, ◌↔◌, ℕ, not, List, [], ◌∷◌, All, Contains, Option, Some, None, MatchOption, refl, sym, ◌∙◌, subst}
+use Rattle.std.proofs.lemmas.Bool.{not-false}
+use Rattle.std.proofs.lemmas.List.Elements.{All-head, All-tail}
+use Rattle.std.proofs.lemmas.Option.{none-some}
+use Rattle.kd_tables.specs.declared.wheel.Wheel.{Wheel}
+use Rattle.kd_tables.specs.declared.reflector.Reflector.{Reflector}
+use Rattle.kd_tables.specs.Tables.{box_of, wheels_for, reflectors_of, IsAllowed}
+use Rattle.kd_state.specs.declared.rotor_parts.RotorParts.{RotorParts}
+use Rattle.kd_state.specs.declared.parts.Parts.{Parts}
+use Rattle.kd_state.specs.declared.parts.Parts.TheVariants.{Rotor}
+use Rattle.kd_state.specs.declared.setting.Setting.{Setting}
+use Rattle.kd_state.specs.declared.setting.Setting.TheVariants.{Seat, SeatReflector, RingTo}
+use Rattle.kd_state.specs.declared.why.Why.{Why}
+use Rattle.kd_state.specs.declared.why.Why.TheVariants.{WheelNotAllowed}
+use Rattle.kd_state.specs.Box.{has_wheel, has_reflector}
+use Rattle.kd_state.specs.Machine.{IsMachine}
+use Rattle.kd_state.specs.Setting.{why_refused, changed, Carries, Leads}
+use Rattle.kd_state.specs.Line.{IsInRange}
+use Rattle.kd_state.proofs.Keeping.{settings_keep_machines}
+use Rattle.kd_state.proofs.Reasons.{none_holds}
+use Rattle.kd_state.proofs.Wheels.{has_wheel-Decides, has_reflector-Decides}
+
+pub lists_keep_machines : (m n : Parts) (xs : List Setting) → IsMachine m → All IsInRange xs → Leads m xs n → IsMachine n
+lists_keep_machines m n [] h r l = subst IsMachine (sym l) h
+lists_keep_machines m n (x ∷ xs) h r l =
+    lists_keep_machines l.0 n xs (settings_keep_machines m l.0 x h (All-head IsInRange x xs r) l.1) (All-tail IsInRange x xs r) l.2
+
+either : (m : Parts) (x : Setting) (why : Option Why) → why_refused m x ≡ why → MatchOption why ((n : Parts) × Carries m x n) (λ why. (n : Parts) → ¬ (Carries m x n))
+either m x None e = (changed m x, record { allowed = e; made = refl })
+either m x (Some why) e = λ n c. none-some why (sym c.allowed ∙ e)
+
+pub refuses_or_carries : (m : Parts) (x : Setting) → MatchOption (why_refused m x) ((n : Parts) × Carries m x n) (λ why. (n : Parts) → ¬ (Carries m x n))
+refuses_or_carries m x = either m x (why_refused m x) refl
+
+pub carries_to_one : (m n o : Parts) (x : Setting) → Carries m x n → Carries m x o → n ≡ o
+carries_to_one m n o x one other = one.made ∙ sym other.made
+
+pub leads_to_one : (m n o : Parts) (xs : List Setting) → Leads m xs n → Leads m xs o → n ≡ o
+leads_to_one m n o [] one other = one ∙ sym other
+leads_to_one m n o (x ∷ xs) one other =
+    leads_to_one one.0 n o xs one.2 (subst (λ (between : Parts). Leads between xs o) (carries_to_one m other.0 one.0 x other.1 one.1) other.2)
+
+pub seats_by_the_tables : (m : RotorParts) (slot : ℕ) (wheel : Wheel) → (why_refused (Rotor m) (Seat slot wheel) ≡ None) ↔ IsAllowed m.model slot wheel
+seats_by_the_tables m slot wheel =
+    let tells = has_wheel-Decides (wheels_for m.model slot) wheel in (
+      λ e. tells.0 (not-false _ (none_holds (not (has_wheel (wheels_for m.model slot) wheel)) WheelNotAllowed [] e).0),
+      λ h. rw (tells.1 h) refl,
+    )
+
+pub reflectors_by_the_tables : (m : RotorParts) (reflector : Reflector) → (why_refused (Rotor m) (SeatReflector reflector) ≡ None) ↔ Contains (reflectors_of m.model) reflector
+reflectors_by_the_tables m reflector =
+    let tells = has_reflector-Decides (reflectors_of m.model) reflector in (
+      λ e. tells.0 (not-false _ (none_holds (not (has_reflector (reflectors_of m.model) reflector)) WheelNotAllowed [] e).0),
+      λ h. rw (tells.1 h) refl,
+    )
+
+pub rings_by_the_tables : (m : RotorParts) (wheel : Wheel) (letter : ℕ) → (why_refused (Rotor m) (RingTo wheel letter) ≡ None) ↔ Contains (box_of m.model) wheel
+rings_by_the_tables m wheel letter =
+    let tells = has_wheel-Decides (box_of m.model) wheel in (
+      λ e. tells.0 (not-false _ (none_holds (not (has_wheel (box_of m.model) wheel)) WheelNotAllowed [] e).0),
+      λ h. rw (tells.1 h) refl,
+    )

@@ -1,0 +1,36 @@
+-- The table of costs is square.
+use Rattle.std.proofs.Common.{◌≡◌, ℕ, ◌+◌, ◌-◌, List, [], ◌∷◌, length, map, replicate, All, Option, Some, None, sym, ◌∙◌, arith, length-append}
+use Rattle.std.proofs.lemmas.List.{length-map, length-replicate}
+use Rattle.std.proofs.lemmas.List.Elements.{All-nil, All-cons}
+use Rattle.kd_state.specs.declared.parts.Parts.TheVariants.{Rotor, Pin}
+use Rattle.kd_state.specs.SheetDay.{OfRotors, OfPins, ArePairs}
+use Rattle.kd_state.specs.Costs.{cable_cost, bar_cost, columns_of}
+use Rattle.kd_state.specs.Laws.{CostTablesAreSquare}
+
+-- each row of a table has as many entries as there are columns
+rows_are_long : {X Y : Type 0} (cost : X → Y → ℕ) (rows : List X) (columns : List Y) (number : ℕ) → length columns ≡ number
+    → All (λ row. length row ≡ number) (map (λ row. map (cost row) columns) rows)
+rows_are_long cost [] columns number same = All-nil (λ row. length row ≡ number)
+rows_are_long cost (row ∷ rows) columns number same =
+    All-cons (λ entries. length entries ≡ number) (map (cost row) columns) (map (λ other. map (cost other) columns) rows) (length-map columns (cost row) ∙ same)
+    (rows_are_long cost rows columns number same)
+
+square : {X Y : Type 0} (cost : X → Y → ℕ) (rows : List X) (columns : List Y) → length columns ≡ length rows
+    → All (λ row. length row ≡ length (map (λ other. map (cost other) columns) rows)) (map (λ row. map (cost row) columns) rows)
+square cost rows columns same =
+    rows_are_long cost rows columns (length (map (λ other. map (cost other) columns) rows)) (same ∙ sym (length-map rows (λ other. map (cost other) columns)))
+
+thirteen_columns : (pairs : List (ℕ × ℕ)) → ArePairs pairs → length (columns_of pairs) ≡ 13
+thirteen_columns pairs h =
+    let filled : length (map {A = ℕ × ℕ} {B = Option (ℕ × ℕ)} Some pairs) ≡ length pairs = length-map pairs Some in
+    let rest : length (replicate {A = Option (ℕ × ℕ)} (13 - length pairs) None) ≡ 13 - length pairs = length-replicate (13 - length pairs) None in
+    let all : length (columns_of pairs) ≡ length (map {A = ℕ × ℕ} {B = Option (ℕ × ℕ)} Some pairs) + length (replicate {A = Option (ℕ × ℕ)} (13 - length pairs) None) =
+    length-append (map Some pairs) (replicate (13 - length pairs) None)
+    in
+    omega (arith, h.few)
+
+pub cost_tables_are_square : CostTablesAreSquare
+cost_tables_are_square (Rotor m) (OfRotors s) machine day = square cable_cost m.cables (columns_of s.pairs) (thirteen_columns s.pairs day.pairs ∙ sym machine.legal.cables.count)
+cost_tables_are_square (Rotor m) (OfPins s) machine day = All-nil (λ row. length row ≡ 0)
+cost_tables_are_square (Pin m) (OfRotors s) machine day = All-nil (λ row. length row ≡ 0)
+cost_tables_are_square (Pin m) (OfPins s) machine day = square bar_cost m.bars s.rows (day.count ∙ sym machine.legal.bars)

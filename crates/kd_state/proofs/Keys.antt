@@ -1,0 +1,144 @@
+-- The key of a machine that is on the key of a day, and its cipher.
+use Rattle.std.proofs.Common.{◌≡◌, ℕ, ◌+◌, ◌-◌, ◌%◌, ◌<◌, Bool, List, map, filter_map, All, Some, refl, sym, ap, ◌∙◌, subst}
+use Rattle.std.specs.Prelude.{IsPermutation}
+use Rattle.std.specs.List.{enumerate_from}
+use Rattle.std.proofs.lemmas.List.Elements.{recursion_from_All}
+use Rattle.std.proofs.lemmas.List.Sorted.{sum_by-IsPermutation}
+use Rattle.kd_tables.specs.Places.{reading_of}
+use Rattle.kd_pins.specs.PinWheels.{pins_of}
+use Rattle.kd_enigma.specs.Laws.{PairsMakeAPlugboard, SamePairsExchangeAlike}
+use Rattle.kd_enigma.specs.Laws as enigma
+use Rattle.kd_drum.specs.Converter.{PinKey, bars_met, converter_cipher}
+use Rattle.kd_drum.specs.Laws as drum
+use Rattle.kd_state.specs.declared.parts.Parts.{Parts}
+use Rattle.kd_state.specs.declared.parts.Parts.TheVariants.{Rotor, Pin}
+use Rattle.kd_state.specs.declared.rotor_parts.RotorParts.{RotorParts}
+use Rattle.kd_state.specs.declared.pin_parts.PinParts.{PinParts}
+use Rattle.kd_state.specs.declared.sheet_wheel.SheetWheel.{SheetWheel}
+use Rattle.kd_state.specs.Laws.{ReadingIsReady, ReadingIsItsCipher, OnKeyIsReady, OnKeyIsItsCipher, TurnedHasTheDaysCipher, EquallySetDecipher, TurnedIsOnKey, TurnedHasItsKey}
+use Rattle.kd_state.specs.Machine.{IsMachine, AreCables, ring_at, letter_at}
+use Rattle.kd_state.specs.OnKey.{OnKey, IsRotorOnKey, IsPinOnKey}
+use Rattle.kd_state.specs.SheetDay.{RotorDay, Day, OfRotors, OfPins, IsLegalDay, IsLegalRotorDay}
+use Rattle.kd_state.specs.TwoCiphers.{EngineKey, OfWheels, cipher, key_with_window, IsRotorReady, window_of, plugged_pairs, physical_key, physical_cipher, sheet_key, IsTurned}
+use Rattle.kd_state.proofs.DayPairs.{whole_cables, pairs_joined}
+use Rattle.kd_state.proofs.Pairs.{no_letter_twice}
+use Rattle.kd_state.proofs.Seating.{all_seated, read_all, wheels_of_slots}
+
+-- the cables of a rotor machine have no letter twice
+abbrev IsCabled : Parts → Type 0
+IsCabled (Rotor m) = AreCables m.cables
+IsCabled (Pin m) = Unit {0}
+
+cabled : (m : Parts) → IsMachine m → IsCabled m
+cabled (Rotor m) machine = machine.legal.cables
+cabled (Pin m) machine = tt
+
+-- ready
+rotor_ready : (m : RotorParts) (s : RotorDay) → IsLegalRotorDay s → IsRotorOnKey m s → IsRotorReady m
+rotor_ready m s legal h = record { slots = all_seated m.slots s.wheels h.slots; cables = whole_cables m.cables s.pairs legal.pairs.apart h.cables }
+
+pub on_key_ready : OnKeyIsReady
+on_key_ready (Rotor m) (OfRotors s) machine legal h = rotor_ready m s legal h
+on_key_ready (Pin m) (OfPins s) machine legal h = tt
+on_key_ready (Rotor m) (OfPins s) machine legal h = absurd h
+on_key_ready (Pin m) (OfRotors s) machine legal h = absurd h
+
+pub reading_ready : ReadingIsReady
+reading_ready m s machine legal h = on_key_ready m s machine legal h.key
+
+-- the key of a rotor machine on the day's key, with the letters that it shows
+module _ (alike : SamePairsExchangeAlike) where
+  rotor_key : (m : RotorParts) (s : RotorDay) (window : List ℕ) → AreCables m.cables → IsLegalRotorDay s → IsRotorOnKey m s → window_of (Rotor m) ≡ window
+      → physical_key (Rotor m) ≡ key_with_window (sheet_key (OfRotors s)) window
+  rotor_key m s window cables legal h shows =
+      let wheels = wheels_of_slots m s.wheels h.slots in
+      let rings = ap (filter_map (ring_at m)) wheels
+      ∙ read_all (ring_at m) (λ w. w.ring) s.wheels (recursion_from_All (λ (w : SheetWheel). ring_at m w.wheel ≡ Some w.ring) s.wheels h.rings) in
+      let whole = whole_cables m.cables s.pairs legal.pairs.apart h.cables in
+      let plugs = alike (plugged_pairs m) s.pairs (no_letter_twice m.cables cables whole) legal.pairs.apart (pairs_joined m.cables s.pairs whole h.cables) in
+      λ i. OfWheels (record { wheels = wheels i; rings = rings i; window = shows i; reflector = h.reflector i; plugs = plugs i })
+
+  -- bars that read as the same rows in another order are met as often
+  converter_alike : (pins : List (List Bool)) (letters : List ℕ) (rows others : List (ℕ × ℕ)) (text : List ℕ) → IsPermutation rows others
+      → converter_cipher (record { pins = pins; letters = letters; rows = rows }) text ≡ converter_cipher (record { pins = pins; letters = letters; rows = others }) text
+  converter_alike pins letters rows others text moved =
+      let key : List (ℕ × ℕ) → PinKey = λ rows. record { pins = pins; letters = letters; rows = rows } in
+      let met : (count : ℕ) → bars_met (key rows) count ≡ bars_met (key others) count = λ count. sym (sum_by-IsPermutation _ rows others moved) in
+      λ i. map (λ (numbered : ℕ × ℕ). (25 + met numbered.0 i - numbered.1) % 26) (enumerate_from 0 text)
+
+  cipher_on_key : (m : Parts) (s : Day) (window text : List ℕ) → IsCabled m → IsLegalDay s → OnKey m s → window_of m ≡ window
+      → physical_cipher m text ≡ cipher (key_with_window (sheet_key s) window) text
+  cipher_on_key (Rotor m) (OfRotors s) window text cables legal h shows = ap (λ key. cipher key text) (rotor_key m s window cables legal h shows)
+  cipher_on_key (Pin m) (OfPins s) window text machine legal h shows =
+      ap (λ pins. converter_cipher (record { pins = pins_of pins; letters = m.letters; rows = map (λ bar. reading_of bar.0 bar.1) m.bars }) text) h.pins
+      ∙ ap (λ letters. converter_cipher (record { pins = pins_of s.pins; letters = letters; rows = map (λ bar. reading_of bar.0 bar.1) m.bars }) text) shows
+      ∙ converter_alike (pins_of s.pins) window (map (λ bar. reading_of bar.0 bar.1) m.bars) s.rows text h.rows
+  cipher_on_key (Rotor m) (OfPins s) window text machine legal h shows = absurd h
+  cipher_on_key (Pin m) (OfRotors s) window text machine legal h shows = absurd h
+
+  pub on_key_cipher : OnKeyIsItsCipher
+  on_key_cipher m s text machine legal h = cipher_on_key m s (window_of m) text (cabled m machine) legal h refl
+
+  pub reading_cipher : ReadingIsItsCipher
+  reading_cipher (Rotor m) (OfRotors s) text machine legal h =
+      cipher_on_key (Rotor m) (OfRotors s) (map (λ w. w.letter) s.wheels) text machine.legal.cables legal h.key
+      (ap (filter_map (letter_at m)) (wheels_of_slots m s.wheels h.key.slots)
+      ∙ read_all (letter_at m) (λ w. w.letter) s.wheels (recursion_from_All (λ (w : SheetWheel). letter_at m w.wheel ≡ Some w.letter) s.wheels h.window))
+  reading_cipher (Pin m) (OfPins s) text machine legal h = cipher_on_key (Pin m) (OfPins s) s.window text tt legal h.key h.window
+  reading_cipher (Rotor m) (OfPins s) text machine legal h = absurd h.key
+  reading_cipher (Pin m) (OfRotors s) text machine legal h = absurd h.key
+
+  -- what one enciphers the other deciphers
+  module _ (board : PairsMakeAPlugboard) (enigma_twice : enigma.TwiceGivesBack) (drum_twice : drum.TwiceGivesBack) where
+    twice_on_key : (s : Day) (window text : List ℕ) → IsLegalDay s → All (λ letter. letter < 26) text
+        → cipher (key_with_window (sheet_key s) window) (cipher (key_with_window (sheet_key s) window) text) ≡ text
+    twice_on_key (OfRotors s) window text legal letters = enigma_twice _ text (board s.pairs legal.pairs.apart legal.pairs.within) letters
+    twice_on_key (OfPins s) window text legal letters = drum_twice (record { pins = pins_of s.pins; letters = window; rows = s.rows }) text letters
+
+    pub equally_set : EquallySetDecipher
+    equally_set m n s text machine other legal h k same letters =
+        let key = key_with_window (sheet_key s) (window_of m) in
+        ap (physical_cipher n) (cipher_on_key m s (window_of m) text (cabled m machine) legal h refl)
+        ∙ cipher_on_key n s (window_of m) (cipher key text) (cabled n other) legal k (sym same)
+        ∙ twice_on_key s (window_of m) text legal letters
+
+-- turned to other letters
+turned_rotor : (m : RotorParts) (s : RotorDay) (letters : List ℕ) → IsRotorOnKey m s → IsRotorOnKey (record m { letters = letters }) s
+turned_rotor m s letters h = record { model = h.model; slots = h.slots; rings = h.rings; reflector = h.reflector; cables = h.cables }
+
+pub turned_on_key : TurnedIsOnKey
+turned_on_key (Rotor m) (Rotor n) (OfRotors s) window turned h = subst (λ (k : RotorParts). IsRotorOnKey k s) (sym turned.0) (turned_rotor m s n.letters h)
+turned_on_key (Pin m) (Pin n) (OfPins s) window turned h = subst (λ (k : PinParts). IsPinOnKey k s) (sym turned) (record { pins = h.pins; rows = h.rows })
+turned_on_key (Rotor m) (Rotor n) (OfPins s) window turned h = absurd h
+turned_on_key (Pin m) (Pin n) (OfRotors s) window turned h = absurd h
+turned_on_key (Rotor m) (Pin n) s window turned h = absurd turned
+turned_on_key (Pin m) (Rotor n) s window turned h = absurd turned
+
+-- the key of the turned machine, but for the letters that it shows
+turned_rotor_key : (m n : RotorParts) (window : List ℕ) → n ≡ record m { letters = n.letters } → window_of (Rotor n) ≡ window
+    → physical_key (Rotor n) ≡ key_with_window (physical_key (Rotor m)) window
+turned_rotor_key m n window e shows =
+    let shown : RotorParts → EngineKey = λ k. key_with_window (physical_key (Rotor k)) (window_of (Rotor n)) in
+    ap shown e ∙ ap (λ window. key_with_window (physical_key (Rotor m)) window) shows
+
+pub turned_key : TurnedHasItsKey
+turned_key (Rotor m) (Rotor n) window turned = turned_rotor_key m n window turned.0 turned.1
+turned_key (Pin m) (Pin n) window turned = ap (λ (k : PinParts). physical_key (Pin k)) turned
+turned_key (Rotor m) (Pin n) window turned = absurd turned
+turned_key (Pin m) (Rotor n) window turned = absurd turned
+
+turned_cabled : (m n : Parts) (window : List ℕ) → IsTurned m window n → IsCabled m → IsCabled n
+turned_cabled (Rotor m) (Rotor n) window turned h = subst (λ (k : RotorParts). AreCables k.cables) (sym turned.0) h
+turned_cabled (Pin m) (Pin n) window turned h = tt
+turned_cabled (Rotor m) (Pin n) window turned h = absurd turned
+turned_cabled (Pin m) (Rotor n) window turned h = absurd turned
+
+turned_window : (m n : Parts) (window : List ℕ) → IsTurned m window n → window_of n ≡ window
+turned_window (Rotor m) (Rotor n) window turned = turned.1
+turned_window (Pin m) (Pin n) window turned = ap (λ (k : PinParts). k.letters) turned
+turned_window (Rotor m) (Pin n) window turned = absurd turned
+turned_window (Pin m) (Rotor n) window turned = absurd turned
+
+pub turned_cipher : SamePairsExchangeAlike → TurnedHasTheDaysCipher
+turned_cipher alike m n s window text machine legal h turned =
+    cipher_on_key alike n s window text (turned_cabled m n window turned (cabled m machine)) legal (turned_on_key m n s window turned h) (turned_window m n window turned)

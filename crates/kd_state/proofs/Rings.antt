@@ -1,0 +1,78 @@
+-- The letters and the pins of the six pin wheels.
+use Rattle.std.proofs.Common.{◌≡◌, ◌≢◌, ℕ, zero, suc, ◌+◌, ◌-◌, ◌<◌, ◌≤◌, nat_eq, true, false, List, [], length, get_or, Contains, Decides, Some, refl, sym, ◌∙◌, inl, inr, subst, arith}
+use Rattle.std.specs.List.{position_or_len}
+use Rattle.std.specs.Option.{is_some}
+use Rattle.std.proofs.lemmas.Bool.{cases_Bool, lt-ltb, le-ltb, both_ways}
+use Rattle.std.proofs.lemmas.List.{get_or_default}
+use Rattle.std.proofs.lemmas.Bool.Decides.{Decides-by_or, Decides-eqb}
+use Rattle.std.proofs.lemmas.List.Elements.{Decides-contains}
+use Rattle.std.proofs.lemmas.Option.{get_or_from_slice_get, slice_get-get_or}
+use Rattle.kd_tables.specs.Rings.{ring_of, place_on}
+use Rattle.kd_pins.specs.declared.pin_set.PinSet.{PinSet}
+use Rattle.kd_state.specs.Box.{numbered}
+use Rattle.kd_state.specs.Machine.{HasAllPins, AreOnWheels}
+use Rattle.kd_state.specs.Setting.{has_letter}
+use Rattle.kd_state.proofs.Slots.{is_numbered, numbered_at}
+use Rattle.kd_state.proofs.Wheels.{first_within, first_nowhere}
+
+-- there are six wheels
+pub no_ring : (wheel : ℕ) → wheel ≢ 1 → wheel ≢ 2 → wheel ≢ 3 → wheel ≢ 4 → wheel ≢ 5 → wheel ≢ 6 → ring_of wheel ≡ []
+unfolding ring_of
+no_ring zero a b c d e f = refl
+no_ring (suc zero) a b c d e f = absurd (a refl)
+no_ring (suc (suc zero)) a b c d e f = absurd (b refl)
+no_ring (suc (suc (suc zero))) a b c d e f = absurd (c refl)
+no_ring (suc (suc (suc (suc zero)))) a b c d e f = absurd (d refl)
+no_ring (suc (suc (suc (suc (suc zero))))) a b c d e f = absurd (e refl)
+no_ring (suc (suc (suc (suc (suc (suc zero)))))) a b c d e f = absurd (f refl)
+no_ring (suc (suc (suc (suc (suc (suc (suc wheel))))))) a b c d e f = refl
+
+-- the letter is one of these, and has a place then
+pub has_letter-Decides : (letters : List ℕ) (letter : ℕ) → Decides (has_letter letters letter) (Contains letters letter)
+has_letter-Decides letters letter =
+    Decides-contains letters letter _ (Decides-by_or (λ other. nat_eq other letter) (λ other. other ≡ letter) (λ all. has_letter all letter)
+    (λ other. Decides-eqb other letter) refl (λ _ _. refl) letters)
+
+pub is_some-place_on : (letters : List ℕ) (letter : ℕ) → is_some (place_on letters letter) ≡ has_letter letters letter
+is_some-place_on letters letter = elim (cases_Bool (has_letter letters letter)) [
+  | inl e ↦ rw (lt-ltb _ _ (first_within (λ other. nat_eq other letter) letters e)) (sym e)
+  | inr e ↦
+      let past : length letters ≤ position_or_len (λ other. nat_eq other letter) letters = omega (arith, first_nowhere (λ other. nat_eq other letter) letters e) in
+      rw (le-ltb _ _ past) (sym e)
+]
+
+-- each of six letters is on its wheel
+pub each_on_wheel : (letters : List ℕ) → length letters ≡ 6 → ((place : ℕ) → place < length letters → Contains (ring_of (place + 1)) (get_or letters place 0)) → AreOnWheels letters
+each_on_wheel letters six on = record {
+  count = six;
+  each = λ wheel letter h.
+      let at = is_numbered letters wheel letter h in
+      let within : wheel - 1 < length letters = omega (arith, at.first, at.last) in
+      let back : wheel - 1 + 1 ≡ wheel = omega (arith, at.first) in
+      let here = on (wheel - 1) within in
+      let there : Contains (ring_of wheel) (get_or letters (wheel - 1) 0) = subst (λ (n : ℕ). Contains (ring_of n) (get_or letters (wheel - 1) 0)) back here in
+      subst (λ (x : ℕ). Contains (ring_of wheel) x) (get_or_from_slice_get letters (wheel - 1) letter 0 at.here) there;
+}
+
+-- the letter at a place is on its wheel, and then it isn't off it
+pub on_wheel : (letters : List ℕ) (place d : ℕ) → place < length letters → has_letter (ring_of (place + 1)) (get_or letters place d) ≡ true → Contains (ring_of (place + 1)) (get_or letters place 0)
+on_wheel letters place d within h =
+    subst (λ (x : ℕ). Contains (ring_of (place + 1)) x) (get_or_default letters place d 0 within) ((has_letter-Decides (ring_of (place + 1)) (get_or letters place d)).0 h)
+
+pub off_wheel : (letters : List ℕ) (place d : ℕ) → place < length letters → AreOnWheels letters → has_letter (ring_of (place + 1)) (get_or letters place d) ≡ false → ⊥
+off_wheel letters place d within on h =
+    let at : numbered letters (place + 1) ≡ Some (get_or letters place d) = numbered_at letters place ∙ slice_get-get_or letters place d within in
+    both_ways (has_letter (ring_of (place + 1)) (get_or letters place d)) h
+    ((has_letter-Decides (ring_of (place + 1)) (get_or letters place d)).1 (on.each (place + 1) (get_or letters place d) at))
+
+-- arrays of these lengths are all the pins
+pub all_pins : (pins : PinSet) → length pins.w1 ≡ 26 → length pins.w2 ≡ 25 → length pins.w3 ≡ 23 → length pins.w4 ≡ 21 → length pins.w5 ≡ 19 → length pins.w6 ≡ 17 → HasAllPins pins
+unfolding ring_of
+all_pins pins a b c d e f zero = refl
+all_pins pins a b c d e f (suc zero) = a
+all_pins pins a b c d e f (suc (suc zero)) = b
+all_pins pins a b c d e f (suc (suc (suc zero))) = c
+all_pins pins a b c d e f (suc (suc (suc (suc zero)))) = d
+all_pins pins a b c d e f (suc (suc (suc (suc (suc zero))))) = e
+all_pins pins a b c d e f (suc (suc (suc (suc (suc (suc zero)))))) = f
+all_pins pins a b c d e f (suc (suc (suc (suc (suc (suc (suc wheel))))))) = refl

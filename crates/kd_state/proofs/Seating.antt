@@ -1,0 +1,122 @@
+-- The wheels in the slots, with their rings and their window letters.
+use Rattle.std.proofs.Common.{◌≡◌, ℕ, ◌+◌, ◌<◌, List, [], ◌∷◌, length, map, get_or, slice_get, filter_map, Option, Some, None, IsSome, All, Contains, refl, sym, ap, ◌∙◌, subst, arith}
+use Rattle.std.specs.Prelude.{MatchOption}
+use Rattle.std.specs.List.{AllByRecursion, cons_option}
+use Rattle.std.proofs.lemmas.Bool.{false≢true}
+use Rattle.std.proofs.lemmas.List.{get_or-map, length-map}
+use Rattle.std.proofs.lemmas.List.Elements.{All-from_recursion}
+use Rattle.std.proofs.lemmas.Option.{none-some, same_Some, slice_get-get_or}
+use Rattle.kd_tables.specs.declared.wheel.Wheel.{Wheel}
+use Rattle.kd_tables.specs.Permutation.{exchange}
+use Rattle.kd_state.specs.declared.parts.Parts.{Parts}
+use Rattle.kd_state.specs.declared.parts.Parts.TheVariants.{Rotor}
+use Rattle.kd_state.specs.declared.rotor_parts.RotorParts.{RotorParts}
+use Rattle.kd_state.specs.declared.sheet_wheel.SheetWheel.{SheetWheel}
+use Rattle.kd_state.specs.Box.{place_in_box}
+use Rattle.kd_state.specs.Machine.{IsLegalRotor, StandsAt, ring_at, letter_at}
+use Rattle.kd_state.specs.Seated.{wheel_with, seated_wheel, key_of_wheels}
+use Rattle.kd_state.specs.SheetDay.{seats}
+use Rattle.kd_state.specs.TwoCiphers.{OfWheels, IsRotorReady, seated_wheels, plugged_pairs, physical_key}
+use Rattle.kd_state.proofs.Wheels.{placed, place_within}
+
+-- the wheels fill the slots, and these are their rings and letters
+pub record AreSeats (m : RotorParts) (seated : List (Option Wheel)) (wheels : List SheetWheel) : Type 0 where
+  pub slots : seated ≡ seats wheels
+  pub rings : AllByRecursion (λ w. ring_at m w.wheel ≡ Some w.ring) wheels
+  pub letters : AllByRecursion (λ w. letter_at m w.wheel ≡ Some w.letter) wheels
+
+record IsSeat (m : RotorParts) (seat : Option Wheel) (w : SheetWheel) : Type 0 where
+  wheel : seat ≡ Some w.wheel
+  ring : ring_at m w.wheel ≡ Some w.ring
+  letter : letter_at m w.wheel ≡ Some w.letter
+
+seat_with : (m : RotorParts) (wheel : Wheel) (ring letter : Option ℕ) (w : SheetWheel) → ring_at m wheel ≡ ring → letter_at m wheel ≡ letter
+    → Some w ≡ wheel_with wheel ring letter → IsSeat m (Some wheel) w
+seat_with m wheel None letter w r l e = absurd (none-some w (sym e))
+seat_with m wheel (Some ring) None w r l e = absurd (none-some w (sym e))
+seat_with m wheel (Some ring) (Some letter) w r l e =
+    let made : SheetWheel = record { wheel = wheel; ring = ring; letter = letter } in
+    subst (IsSeat m (Some wheel)) (sym (same_Some w made e)) (record { wheel = refl; ring = r; letter = l })
+
+is_seat : (m : RotorParts) (seat : Option Wheel) (w : SheetWheel) → Some w ≡ seated_wheel (Rotor m) seat → IsSeat m seat w
+is_seat m None w e = absurd (none-some w (sym e))
+is_seat m (Some wheel) w e = seat_with m wheel (ring_at m wheel) (letter_at m wheel) w refl refl e
+
+pub are_seats : (m : RotorParts) (slots : List (Option Wheel)) (wheels : List SheetWheel) → map Some wheels ≡ map (seated_wheel (Rotor m)) slots → AreSeats m slots wheels
+are_seats m [] [] e = record { slots = refl; rings = tt; letters = tt }
+are_seats m [] (w ∷ wheels) e = cc
+are_seats m (seat ∷ slots) [] e = cc
+are_seats m (seat ∷ slots) (w ∷ wheels) e =
+    let first : Some w ≡ seated_wheel (Rotor m) seat = cc in
+    let others : map Some wheels ≡ map (seated_wheel (Rotor m)) slots = cc in
+    let here = is_seat m seat w first in
+    let rest = are_seats m slots wheels others in
+    record {
+      slots = ap (λ seat. seat ∷ slots) here.wheel ∙ ap (λ rest. Some w.wheel ∷ rest) rest.slots;
+      rings = (here.ring, rest.rings);
+      letters = (here.letter, rest.letters);
+    }
+
+-- filled slots
+pub wheels_seated : (wheels : List SheetWheel) → filter_map (λ (seated : Option Wheel). seated) (seats wheels) ≡ map (λ w. w.wheel) wheels
+wheels_seated [] = refl
+wheels_seated (w ∷ wheels) = ap (λ rest. w.wheel ∷ rest) (wheels_seated wheels)
+
+each_seated : (wheels : List SheetWheel) → AllByRecursion (λ (seated : Option Wheel). IsSome seated) (seats wheels)
+each_seated [] = tt
+each_seated (w ∷ wheels) = (refl, each_seated wheels)
+
+pub all_seated : (slots : List (Option Wheel)) (wheels : List SheetWheel) → slots ≡ seats wheels → All (λ seated. IsSome seated) slots
+all_seated slots wheels e =
+    subst (All (λ (seated : Option Wheel). IsSome seated)) (sym e) (All-from_recursion (λ (seated : Option Wheel). IsSome seated) (seats wheels) (each_seated wheels))
+
+-- what is read of each wheel
+pub read_all : (f : Wheel → Option ℕ) (view : SheetWheel → ℕ) (wheels : List SheetWheel) → AllByRecursion (λ w. f w.wheel ≡ Some (view w)) wheels
+    → filter_map f (map (λ (w : SheetWheel). w.wheel) wheels) ≡ map view wheels
+read_all f view [] h = refl
+read_all f view (w ∷ wheels) h =
+    ap (λ found. cons_option found (filter_map f (map (λ (w : SheetWheel). w.wheel) wheels))) h.0 ∙ ap (λ rest. view w ∷ rest) (read_all f view wheels h.1)
+
+pub wheels_of_slots : (m : RotorParts) (wheels : List SheetWheel) → m.slots ≡ seats wheels → seated_wheels m ≡ map (λ w. w.wheel) wheels
+wheels_of_slots m wheels e = ap (filter_map (λ (seated : Option Wheel). seated)) e ∙ wheels_seated wheels
+
+pub key_of_seats : (m : RotorParts) (wheels : List SheetWheel) → AreSeats m m.slots wheels
+    → physical_key (Rotor m) ≡ OfWheels (key_of_wheels wheels m.reflector (exchange (plugged_pairs m)))
+key_of_seats m wheels h =
+    let same = wheels_of_slots m wheels h.slots in
+    let rings = ap (filter_map (ring_at m)) same ∙ read_all (ring_at m) (λ w. w.ring) wheels h.rings in
+    let letters = ap (filter_map (letter_at m)) same ∙ read_all (letter_at m) (λ w. w.letter) wheels h.letters in
+    λ i. OfWheels (record { wheels = same i; rings = rings i; window = letters i; reflector = m.reflector; plugs = exchange (plugged_pairs m) })
+
+-- a seat without its wheel
+pub none_seated : (m : Parts) (slots : List (Option Wheel)) (found : Option (List SheetWheel)) (k : ℕ) (d : Option Wheel) → found ≡ None → k < length slots
+    → None ≡ seated_wheel m (get_or slots k d)
+    → MatchOption found (Contains (map (seated_wheel m) slots) None) (λ wheels. map Some wheels ≡ map (seated_wheel m) slots)
+none_seated m slots found k d e within h =
+    subst (λ (r : Option (List SheetWheel)). MatchOption r (Contains (map (seated_wheel m) slots) None) (λ wheels. map Some wheels ≡ map (seated_wheel m) slots)) (sym e)
+    (k, omega (arith, length-map slots (seated_wheel m)), get_or-map (seated_wheel m) slots k d None within ∙ sym h)
+
+-- a wheel of a legal machine has its ring and its letter
+wheel_there : (m : RotorParts) → IsLegalRotor m → (place : ℕ) (wheel : Wheel) → StandsAt m.slots place wheel → seated_wheel (Rotor m) (Some wheel) ≡ None → ⊥
+wheel_there m legal place wheel at none =
+    let box = place_in_box m.model wheel in
+    let within = place_within m.model wheel (placed m.model (place + 1) wheel (legal.allowed place wheel at)).in_box in
+    let ring : ring_at m wheel ≡ Some (get_or m.rings box 0) = slice_get-get_or m.rings box 0 (omega (arith, within, legal.rings.count)) in
+    let letter : letter_at m wheel ≡ Some (get_or m.letters box 0) = slice_get-get_or m.letters box 0 (omega (arith, within, legal.letters.count)) in
+    none-some (record { wheel = wheel; ring = get_or m.rings box 0; letter = get_or m.letters box 0 })
+    (sym none ∙ ap (λ r. wheel_with wheel r (letter_at m wheel)) ring ∙ ap (wheel_with wheel (Some (get_or m.rings box 0))) letter)
+
+empty_seat : (m : RotorParts) → IsLegalRotor m → (place : ℕ) (seat : Option Wheel) → slice_get m.slots place ≡ Some seat → IsSome seat → seated_wheel (Rotor m) seat ≡ None → ⊥
+empty_seat m legal place None at there none = false≢true there
+empty_seat m legal place (Some wheel) at there none = wheel_there m legal place wheel at none
+
+pub nothing : {X : Type 0} (found : Option X) → found ≡ None → IsSome found → ⊥
+nothing None e there = false≢true there
+nothing (Some x) e there = none-some x (sym e)
+
+pub not_ready : (m : RotorParts) → IsLegalRotor m → Contains (map (seated_wheel (Rotor m)) m.slots) None → IsRotorReady m → ⊥
+not_ready m legal h ready =
+    let k = h.0 in
+    let within : k < length m.slots = omega (arith, h.1, length-map m.slots (seated_wheel (Rotor m))) in
+    empty_seat m legal k (get_or m.slots k None) (slice_get-get_or m.slots k None within) (ready.slots k None within)
+    (sym (get_or-map (seated_wheel (Rotor m)) m.slots k None None within) ∙ h.2)

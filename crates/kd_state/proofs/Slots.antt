@@ -1,0 +1,95 @@
+-- What stands in the slots, and things counted from 1.
+use Rattle.std.proofs.Common.{◌≡◌, ℕ, zero, suc, ◌+◌, ◌-◌, ◌<◌, ◌≤◌, inl, inr, List, length, take, get_or, Contains, Option, Some, None, IfSome, slice_get, refl, sym, ap, ◌∙◌, arith, add-one}
+use Rattle.std.proofs.lemmas.Bool.{cases_eq}
+use Rattle.std.proofs.lemmas.List.{get_or-take, length-take, get_or_default}
+use Rattle.std.proofs.lemmas.Option.{slice_get_within, slice_get-get_or, get_or_from_slice_get, same_Some}
+use Rattle.kd_tables.specs.declared.model.Model.{Model}
+use Rattle.kd_tables.specs.declared.wheel.Wheel.{Wheel}
+use Rattle.kd_tables.specs.Tables.{box_of}
+use Rattle.std.specs.Option.{SomeIff, IsSome}
+use Rattle.kd_state.proofs.Wheels.{placed}
+use Rattle.kd_state.specs.Box.{numbered}
+use Rattle.kd_state.specs.Machine.{StandsAt, AreAllowed, AreApart}
+
+-- what has a number, stands at a place
+pub record IsNumbered {X : Type 0} (xs : List X) (number : ℕ) (x : X) : Type 0 where
+  pub first : 1 ≤ number
+  pub last : number ≤ length xs
+  pub here : slice_get xs (number - 1) ≡ Some x
+
+pub is_numbered : {X : Type 0} (xs : List X) (number : ℕ) (x : X) → numbered xs number ≡ Some x → IsNumbered xs number x
+is_numbered xs zero x h = cc
+is_numbered xs (suc place) x h =
+    let within : place < length xs = slice_get_within xs place x h in
+    let here : suc place - 1 ≡ place = omega arith in
+    record { first = omega arith; last = omega arith; here = rw here h }
+
+pub numbered_at : {X : Type 0} (xs : List X) (place : ℕ) → numbered xs (place + 1) ≡ slice_get xs place
+numbered_at xs place = rw add-one refl
+
+-- a wheel in a slot
+pub stands_within : (slots : List (Option Wheel)) (place : ℕ) (wheel : Wheel) → StandsAt slots place wheel → place < length slots
+stands_within slots place wheel at = slice_get_within slots place (Some wheel) at
+
+pub stands_in : (slots : List (Option Wheel)) (place : ℕ) (seated : Option Wheel) (wheel : Wheel) → place < length slots → seated ≡ get_or slots place seated → StandsAt slots place wheel → seated ≡ Some wheel
+stands_in slots place seated wheel within is at = is ∙ get_or_from_slice_get slots place (Some wheel) seated at
+
+-- the wheels of the first slots
+pub among_first : (slots : List (Option Wheel)) (i place : ℕ) (wheel : Wheel) → place < i → StandsAt slots place wheel → Contains (take i slots) (Some wheel)
+among_first slots i place wheel below at =
+    let within : place < length slots = stands_within slots place wheel at in
+    (place, omega (arith, length-take i slots), get_or-take i slots place (Some wheel) below ∙ get_or_from_slice_get slots place (Some wheel) (Some wheel) at)
+
+pub first_among : (slots : List (Option Wheel)) (i : ℕ) (wheel : Wheel) → Contains (take i slots) (Some wheel) → (place : ℕ) × (place < i) × StandsAt slots place wheel
+first_among slots i wheel h =
+    let below : h.0 < i = omega (arith, length-take i slots, h.1) in
+    let within : h.0 < length slots = omega (arith, length-take i slots, h.1) in
+    (h.0, below, slice_get-get_or slots h.0 (Some wheel) within ∙ ap Some (sym (get_or-take i slots h.0 (Some wheel) below) ∙ h.2))
+
+-- one more slot whose wheel stands in none of the earlier ones
+new_here : (slots : List (Option Wheel)) (i : ℕ) (seated : Option Wheel) (wheel : Wheel) → seated ≡ Some wheel → IfSome seated (λ wheel. ¬ (Contains (take i slots) (Some wheel))) → ¬ (Contains (take i slots) (Some wheel))
+new_here slots i None wheel e h = cc
+new_here slots i (Some other) wheel e h = rw (sym (same_Some other wheel e)) h
+
+pub apart_more : (slots : List (Option Wheel)) (i : ℕ) → i < length slots → IfSome (get_or slots i None) (λ wheel. ¬ (Contains (take i slots) (Some wheel)))
+    → ((place other : ℕ) (wheel : Wheel) → place < i → other < i → StandsAt slots place wheel → StandsAt slots other wheel → place ≡ other)
+    → (place other : ℕ) (wheel : Wheel) → place < i + 1 → other < i + 1 → StandsAt slots place wheel → StandsAt slots other wheel → place ≡ other
+apart_more slots i within new before place other wheel below beneath at there =
+    let seated = get_or slots i None in
+    let is : seated ≡ get_or slots i seated = get_or_default slots i None seated within in
+    let alone : (p q : ℕ) → p ≡ i → q < i → StandsAt slots p wheel → StandsAt slots q wheel → ⊥ =
+    λ p q e lower here before.
+    let now : StandsAt slots i wheel = rw (sym e) here in
+    new_here slots i seated wheel (stands_in slots i seated wheel within is now) new (among_first slots i q wheel lower before)
+    in
+    elim (cases_eq place i) [
+      | inl e ↦ elim (cases_eq other i) [
+        | inl f ↦ e ∙ sym f
+        | inr f ↦ absurd (alone place other e (omega arith) at there)
+      ]
+      | inr e ↦ elim (cases_eq other i) [
+        | inl f ↦ absurd (alone other place f (omega arith) there at)
+        | inr f ↦ before place other wheel (omega arith) (omega arith) at there
+      ]
+    ]
+
+some_new : (slots : List (Option Wheel)) (i : ℕ) (seated : Option Wheel) → slice_get slots i ≡ Some seated → AreApart slots → IfSome seated (λ wheel. ¬ (Contains (take i slots) (Some wheel)))
+some_new slots i None at h = tt
+some_new slots i (Some wheel) at h = λ contained.
+    let earlier = first_among slots i wheel contained in
+    let same : earlier.0 ≡ i = h earlier.0 i wheel earlier.2 at in
+    omega (arith, earlier.1, same)
+
+pub new_at : (slots : List (Option Wheel)) (i : ℕ) → i < length slots → AreApart slots → IfSome (get_or slots i None) (λ wheel. ¬ (Contains (take i slots) (Some wheel)))
+new_at slots i within h = some_new slots i (get_or slots i None) (slice_get-get_or slots i None within) h
+
+-- a wheel that is seated is one of the box
+pub seated_in_box : (model : Model) (slots : List (Option Wheel)) (slot : ℕ) (wheel : Wheel) → AreAllowed model slots → numbered slots slot ≡ Some (Some wheel) → Contains (box_of model) wheel
+seated_in_box model slots slot wheel allowed e =
+    let at = is_numbered slots slot (Some wheel) e in
+    (placed model (slot - 1 + 1) wheel (allowed (slot - 1) wheel at.here)).in_box
+
+-- what is there exactly where something holds
+pub is_there : {X : Type 0} (found : Option X) (P : Type 0) (x : X) → SomeIff found P x → P → IsSome found
+is_there None P x h p = absurd (h p)
+is_there (Some y) P x h p = refl

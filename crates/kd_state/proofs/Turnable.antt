@@ -1,0 +1,151 @@
+-- A ready machine can be turned to each window.
+use Rattle.std.proofs.Common.{◌≡◌, ◌≢◌, ℕ, zero, suc, ◌+◌, ◌<◌, List, [], ◌∷◌, length, set, get_or, slice_get, filter_map, All, Contains, Option, Some, None, refl, sym, ap, ◌∙◌, subst, arith, length-set}
+use Rattle.std.specs.List.{AllByRecursion, cons_option}
+use Rattle.std.proofs.lemmas.List.Elements.{All-set, All-head, All-tail}
+use Rattle.std.proofs.lemmas.List.Sums.{passes_at_first}
+use Rattle.kd_tables.specs.declared.model.Model.{Model}
+use Rattle.kd_tables.specs.declared.wheel.Wheel.{Wheel}
+use Rattle.kd_tables.specs.declared.wheel.Wheel.TheVariants.{I}
+use Rattle.kd_tables.specs.Tables.{box_of}
+use Rattle.kd_state.specs.declared.parts.Parts.{Parts}
+use Rattle.kd_state.specs.declared.parts.Parts.TheVariants.{Rotor, Pin}
+use Rattle.kd_state.specs.declared.rotor_parts.RotorParts.{RotorParts}
+use Rattle.kd_state.specs.declared.pin_parts.PinParts.{PinParts}
+use Rattle.kd_state.specs.Box.{same_wheel, place_in_box}
+use Rattle.kd_state.specs.Laws.{MachinesCanBeTurned}
+use Rattle.kd_state.specs.Machine.{StandsAt, AreApart, AreLetters, AreOnWheels, IsMachine}
+use Rattle.kd_state.specs.TwoCiphers.{IsTurned, seated_wheels}
+use Rattle.kd_state.proofs.Wheels.{same_wheel-Decides, placed, place_within}
+
+-- one element after another was written
+get_same : (xs : List ℕ) (i x : ℕ) → i < length xs → slice_get (set xs i x) i ≡ Some x
+get_same [] i x below = absurd (omega arith)
+get_same (y ∷ ys) zero x below = refl
+get_same (y ∷ ys) (suc i) x below = get_same ys i x (omega arith)
+
+get_other : (xs : List ℕ) (i j x : ℕ) → j ≢ i → slice_get (set xs i x) j ≡ slice_get xs j
+get_other [] i j x h = refl
+get_other (y ∷ ys) zero zero x h = absurd (h refl)
+get_other (y ∷ ys) zero (suc j) x h = refl
+get_other (y ∷ ys) (suc i) zero x h = refl
+get_other (y ∷ ys) (suc i) (suc j) x h = get_other ys i j x (λ e. h (ap suc e))
+
+-- letters put in their places, one for each wheel
+module _ (place : Wheel → ℕ) where
+  put : List Wheel → List ℕ → List ℕ → List ℕ
+  put [] window letters = letters
+  put (wheel ∷ wheels) [] letters = letters
+  put (wheel ∷ wheels) (letter ∷ window) letters = set (put wheels window letters) (place wheel) letter
+
+  length-put : (wheels : List Wheel) (window letters : List ℕ) → length (put wheels window letters) ≡ length letters
+  unfolding put
+  length-put [] window letters = refl
+  length-put (wheel ∷ wheels) [] letters = refl
+  length-put (wheel ∷ wheels) (letter ∷ window) letters = length-set (put wheels window letters) (place wheel) letter ∙ length-put wheels window letters
+
+  all_put : (P : ℕ → Type 0) (wheels : List Wheel) (window letters : List ℕ) → All P window → All P letters → All P (put wheels window letters)
+  unfolding put
+  all_put P [] window letters in_window h = h
+  all_put P (wheel ∷ wheels) [] letters in_window h = h
+  all_put P (wheel ∷ wheels) (letter ∷ window) letters in_window h =
+      All-set P (put wheels window letters) (place wheel) letter (All-head P letter window in_window) (all_put P wheels window letters (All-tail P letter window in_window) h)
+
+  -- no two wheels have one place
+  HavePlaces : List Wheel → Type 0
+  HavePlaces [] = Unit {0}
+  HavePlaces (wheel ∷ wheels) = AllByRecursion (λ other. place other ≢ place wheel) wheels × HavePlaces wheels
+
+  still_read : (wheels : List Wheel) (xs : List ℕ) (i x : ℕ) → AllByRecursion (λ other. place other ≢ i) wheels
+      → filter_map (λ wheel. slice_get (set xs i x) (place wheel)) wheels ≡ filter_map (λ wheel. slice_get xs (place wheel)) wheels
+  still_read [] xs i x h = refl
+  still_read (wheel ∷ wheels) xs i x h =
+      ap (λ found. cons_option found (filter_map (λ wheel. slice_get (set xs i x) (place wheel)) wheels)) (get_other xs i (place wheel) x h.0)
+      ∙ ap (cons_option (slice_get xs (place wheel))) (still_read wheels xs i x h.1)
+
+  read_put : (wheels : List Wheel) (window letters : List ℕ) → length window ≡ length wheels → AllByRecursion (λ wheel. place wheel < length letters) wheels → HavePlaces wheels
+      → filter_map (λ wheel. slice_get (put wheels window letters) (place wheel)) wheels ≡ window
+  unfolding put HavePlaces
+  read_put [] [] letters same below apart = refl
+  read_put [] (letter ∷ window) letters same below apart = absurd (omega arith)
+  read_put (wheel ∷ wheels) [] letters same below apart = absurd (omega arith)
+  read_put (wheel ∷ wheels) (letter ∷ window) letters same below apart =
+      let rest = put wheels window letters in
+      let within : place wheel < length rest = omega (arith, below.0, length-put wheels window letters) in
+      ap (λ found. cons_option found (filter_map (λ other. slice_get (set rest (place wheel) letter) (place other)) wheels)) (get_same rest (place wheel) letter within)
+      ∙ ap (λ read. letter ∷ read) (still_read wheels rest (place wheel) letter apart.0 ∙ read_put wheels window letters (omega arith) below.1 apart.1)
+
+-- what holds of each wheel that stands in a slot
+each_standing : (Q : Wheel → Type 0) (slots : List (Option Wheel)) → ((k : ℕ) (wheel : Wheel) → StandsAt slots k wheel → Q wheel)
+    → AllByRecursion Q (filter_map (λ seated. seated) slots)
+each_standing Q [] h = tt
+each_standing Q (None ∷ slots) h = each_standing Q slots (λ k. h (suc k))
+each_standing Q (Some wheel ∷ slots) h = (h zero wheel refl, each_standing Q slots (λ k. h (suc k)))
+
+wheel_of_place : (model : Model) (wheel other : Wheel) → Contains (box_of model) wheel → Contains (box_of model) other → place_in_box model wheel ≡ place_in_box model other → wheel ≡ other
+wheel_of_place model wheel other h k e =
+    let box = box_of model in
+    let here = (same_wheel-Decides wheel (get_or box (place_in_box model wheel) I)).0 (passes_at_first (same_wheel wheel) box I (place_within model wheel h)) in
+    let there = (same_wheel-Decides other (get_or box (place_in_box model other) I)).0 (passes_at_first (same_wheel other) box I (place_within model other k)) in
+    here ∙ ap (λ place. get_or box place I) e ∙ sym there
+
+one_less : (j k : ℕ) → suc j ≡ suc k → j ≡ k
+one_less j k e = omega arith
+
+first_apart : (k : ℕ) → zero ≡ suc k → ⊥
+first_apart k e = omega arith
+
+places_apart : (model : Model) (slots : List (Option Wheel)) → AreApart slots → ((k : ℕ) (wheel : Wheel) → StandsAt slots k wheel → Contains (box_of model) wheel)
+    → HavePlaces (place_in_box model) (filter_map (λ seated. seated) slots)
+unfolding HavePlaces
+places_apart model [] apart boxed = tt
+places_apart model (None ∷ slots) apart boxed = places_apart model slots (λ j k wheel a b. one_less j k (apart (suc j) (suc k) wheel a b)) (λ k. boxed (suc k))
+places_apart model (Some wheel ∷ slots) apart boxed = (
+  each_standing (λ other. place_in_box model other ≢ place_in_box model wheel) slots
+      (λ k other at e. first_apart k (apart zero (suc k) wheel refl
+      (subst (StandsAt slots k) (wheel_of_place model other wheel (boxed (suc k) other at) (boxed zero wheel refl) e) at))),
+  places_apart model slots (λ j k other a b. one_less j k (apart (suc j) (suc k) other a b)) (λ k. boxed (suc k)),
+)
+
+cables_of : Parts → List (Option ℕ × Option ℕ)
+cables_of (Rotor m) = m.cables
+cables_of (Pin m) = []
+
+with_letters : (m : RotorParts) (letters : List ℕ) → IsMachine (Rotor m) → AreLetters (length (box_of m.model)) letters → IsMachine (Rotor (record m { letters = letters }))
+unfolding cables_of
+with_letters m letters machine are =
+    let legal = machine.legal in
+    record {
+      legal = record { slots = legal.slots; allowed = legal.allowed; apart = legal.apart; reflector = legal.reflector; rings = legal.rings; letters = are; cables = legal.cables };
+      cables = ap (λ cables. Rotor (record m { letters = letters; cables = cables })) (ap cables_of machine.cables);
+    }
+
+turned_rotor : (m : RotorParts) (window : List ℕ) → IsMachine (Rotor m) → AreLetters (length (seated_wheels m)) window
+    → (n : Parts) × IsTurned (Rotor m) window n × IsMachine n
+turned_rotor m window machine are =
+    let legal = machine.legal in
+    let place = place_in_box m.model in
+    let wheels = seated_wheels m in
+    let letters = put place wheels window m.letters in
+    let boxed : (k : ℕ) (wheel : Wheel) → StandsAt m.slots k wheel → Contains (box_of m.model) wheel =
+    λ k wheel at. (placed m.model (k + 1) wheel (legal.allowed k wheel at)).in_box in
+    let below = each_standing (λ wheel. place wheel < length m.letters) m.slots (λ k wheel at. omega (arith, place_within m.model wheel (boxed k wheel at), legal.letters.count)) in
+    let shows = read_put place wheels window m.letters are.count below (places_apart m.model m.slots legal.apart boxed) in (
+      Rotor (record m { letters = letters }),
+      (refl, shows),
+      with_letters m letters machine (record {
+        count = length-put place wheels window m.letters ∙ legal.letters.count;
+        within = all_put place (λ letter. letter < 26) wheels window m.letters are.within legal.letters.within;
+      }),
+    )
+
+turned_drum : (m : PinParts) (window : List ℕ) → IsMachine (Pin m) → AreOnWheels window → (n : Parts) × IsTurned (Pin m) window n × IsMachine n
+turned_drum m window machine on =
+    let legal = machine.legal in (
+      Pin (record m { letters = window }),
+      refl,
+      record { legal = record { pins = legal.pins; letters = on; bars = legal.bars; apart = legal.apart }; cables = refl },
+    )
+
+pub can_be_turned : MachinesCanBeTurned
+can_be_turned (Rotor m) window machine ready is = turned_rotor m window machine is
+can_be_turned (Pin m) window machine ready is = turned_drum m window machine is

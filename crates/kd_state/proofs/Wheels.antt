@@ -1,0 +1,174 @@
+-- Wheels and reflectors by their names, and where the wheels of the box may stand.
+use Rattle.std.proofs.Common.{◌≡◌, ◌≢◌, ℕ, ◌<◌, ◌≤◌, nat_le, ◌==◌, Bool, true, false, ◌||◌, cond, List, [], ◌∷◌, length, get_or, Contains, Decides, refl, sym, ap, ◌∙◌, subst, arith}
+use Rattle.std.specs.Prelude.{codes}
+use Rattle.std.specs.List.{list_any, position_or_len}
+use Rattle.std.specs.Str.{bytes_eq}
+use Rattle.std.proofs.lemmas.Bool.{false_from_ne_true, and_parts, leb-true, eqb-true, both_ways}
+use Rattle.std.proofs.lemmas.Bool.Decides.{Decides-by_or, Decides-like}
+use Rattle.std.proofs.lemmas.List.Elements.{Decides-contains, Contains-append_left, Contains-append_right, Contains-get_or}
+use Rattle.std.proofs.lemmas.List.{get_or_default}
+use Rattle.std.proofs.lemmas.List.Sums.{position_or_len_is}
+use denote.Enum.Bare.{sameb, same_true, same_false}
+use Rattle.kd_tables.specs.contracts.wheel.Wheel.{the_type}
+use Rattle.std.proofs.lemmas.Slice.Eq.{bytes_eq-Decides}
+use Rattle.kd_tables.specs.declared.model.Model.{Model}
+use Rattle.kd_tables.specs.declared.model.Model.TheVariants.{EnigmaI, M3, M4, M209}
+use Rattle.kd_tables.specs.declared.wheel.Wheel.{Wheel}
+use Rattle.kd_tables.specs.declared.wheel.Wheel.TheVariants.{I, II, III, IV, V, VI, VII, VIII, Beta, Gamma}
+use Rattle.kd_tables.specs.declared.reflector.Reflector.{Reflector}
+use Rattle.kd_tables.specs.declared.reflector.Reflector.TheVariants as reflectors
+use Rattle.kd_tables.specs.Tables.{box_of, slots_of, wheels_for, wheel_text, reflector_text, lies_in, IsAllowed}
+use Rattle.kd_state.specs.Box.{same_wheel, same_reflector, has_wheel, has_reflector, place_in_box}
+
+-- the wheel of a name
+wheel_named : List ℕ → Wheel
+wheel_named text =
+    cond (bytes_eq text (codes "I")) I (cond (bytes_eq text (codes "II")) II (cond (bytes_eq text (codes "III")) III
+    (cond (bytes_eq text (codes "IV")) IV (cond (bytes_eq text (codes "V")) V (cond (bytes_eq text (codes "VI")) VI
+    (cond (bytes_eq text (codes "VII")) VII (cond (bytes_eq text (codes "VIII")) VIII (cond (bytes_eq text (codes "Beta")) Beta Gamma))))))))
+
+wheel_named-text : (wheel : Wheel) → wheel_named (wheel_text wheel) ≡ wheel
+unfolding wheel_named
+wheel_named-text I = refl
+wheel_named-text II = refl
+wheel_named-text III = refl
+wheel_named-text IV = refl
+wheel_named-text V = refl
+wheel_named-text VI = refl
+wheel_named-text VII = refl
+wheel_named-text VIII = refl
+wheel_named-text Beta = refl
+wheel_named-text Gamma = refl
+
+-- the reflector of a name
+reflector_named : List ℕ → Reflector
+reflector_named text =
+    cond (bytes_eq text (codes "A")) reflectors.A (cond (bytes_eq text (codes "B")) reflectors.B (cond (bytes_eq text (codes "C")) reflectors.C
+    (cond (bytes_eq text (codes "b")) reflectors.ThinB reflectors.ThinC)))
+
+reflector_named-text : (reflector : Reflector) → reflector_named (reflector_text reflector) ≡ reflector
+unfolding reflector_named
+reflector_named-text reflectors.A = refl
+reflector_named-text reflectors.B = refl
+reflector_named-text reflectors.C = refl
+reflector_named-text reflectors.ThinB = refl
+reflector_named-text reflectors.ThinC = refl
+
+-- no two wheels have one name, and no two reflectors
+pub same_wheel-Decides : (wheel other : Wheel) → Decides (same_wheel wheel other) (wheel ≡ other)
+same_wheel-Decides wheel other =
+    Decides-like _ (λ e. sym (wheel_named-text wheel) ∙ ap wheel_named e ∙ wheel_named-text other) (ap wheel_text)
+    (bytes_eq-Decides (wheel_text wheel) (wheel_text other))
+
+pub same_reflector-Decides : (reflector other : Reflector) → Decides (same_reflector reflector other) (reflector ≡ other)
+same_reflector-Decides reflector other =
+    Decides-like _ (λ e. sym (reflector_named-text reflector) ∙ ap reflector_named e ∙ reflector_named-text other) (ap reflector_text)
+    (bytes_eq-Decides (reflector_text reflector) (reflector_text other))
+
+pub same_wheel_self : (wheel : Wheel) → same_wheel wheel wheel ≡ true
+same_wheel_self wheel = (same_wheel-Decides wheel wheel).1 refl
+
+pub same_wheel_differs : (wheel other : Wheel) → wheel ≢ other → same_wheel wheel other ≡ false
+same_wheel_differs wheel other h = false_from_ne_true (same_wheel wheel other) (λ e. h ((same_wheel-Decides wheel other).0 e))
+
+-- the wheel is one of these, and the reflector is
+pub has_wheel-Decides : (wheels : List Wheel) (wheel : Wheel) → Decides (has_wheel wheels wheel) (Contains wheels wheel)
+has_wheel-Decides wheels wheel =
+    Decides-contains wheels wheel _ (Decides-by_or (same_wheel wheel) (λ other. other ≡ wheel) (list_any (same_wheel wheel))
+    (λ other. Decides-like _ sym sym (same_wheel-Decides wheel other)) refl (λ _ _. refl) wheels)
+
+pub has_reflector-Decides : (reflectors : List Reflector) (reflector : Reflector) → Decides (has_reflector reflectors reflector) (Contains reflectors reflector)
+has_reflector-Decides reflectors reflector =
+    Decides-contains reflectors reflector _ (Decides-by_or (same_reflector reflector) (λ other. other ≡ reflector) (list_any (same_reflector reflector))
+    (λ other. Decides-like _ sym sym (same_reflector-Decides reflector other)) refl (λ _ _. refl) reflectors)
+
+-- the first that passes is within the list, where one passes; where none does, the length stands for it
+first_within_cons : {X : Type 0} (b : Bool) (p : X → Bool) (x : X) (xs : List X) → p x ≡ b → (b || list_any p xs) ≡ true
+    → (list_any p xs ≡ true → position_or_len p xs < length xs) → position_or_len p (x ∷ xs) < length (x ∷ xs)
+first_within_cons true p x xs e h next = rw e (omega arith)
+first_within_cons false p x xs e h next = let further = next h in rw e (omega arith)
+
+pub first_within : {X : Type 0} (p : X → Bool) (xs : List X) → list_any p xs ≡ true → position_or_len p xs < length xs
+first_within p [] h = cc
+first_within p (x ∷ xs) h = first_within_cons (p x) p x xs refl h (first_within p xs)
+
+first_nowhere_cons : {X : Type 0} (b : Bool) (p : X → Bool) (x : X) (xs : List X) → p x ≡ b → (b || list_any p xs) ≡ false
+    → (list_any p xs ≡ false → position_or_len p xs ≡ length xs) → position_or_len p (x ∷ xs) ≡ length (x ∷ xs)
+first_nowhere_cons true p x xs e h next = cc
+first_nowhere_cons false p x xs e h next = let further = next h in rw e (omega arith)
+
+pub first_nowhere : {X : Type 0} (p : X → Bool) (xs : List X) → list_any p xs ≡ false → position_or_len p xs ≡ length xs
+first_nowhere p [] h = refl
+first_nowhere p (x ∷ xs) h = first_nowhere_cons (p x) p x xs refl h (first_nowhere p xs)
+
+pub place_within : (model : Model) (wheel : Wheel) → Contains (box_of model) wheel → place_in_box model wheel < length (box_of model)
+place_within model wheel h = first_within (same_wheel wheel) (box_of model) ((has_wheel-Decides (box_of model) wheel).1 h)
+
+pub place_nowhere : (model : Model) (wheel : Wheel) → ¬ (Contains (box_of model) wheel) → place_in_box model wheel ≡ length (box_of model)
+place_nowhere model wheel h =
+    first_nowhere (same_wheel wheel) (box_of model) (false_from_ne_true _ (λ e. h ((has_wheel-Decides (box_of model) wheel).0 e)))
+
+-- a wheel that may stand in a slot, is one of the box, and the slot is one of the model's
+in_some : (b : Bool) (wheels : List Wheel) (wheel : Wheel) → Contains (cond b wheels []) wheel → (b ≡ true) × Contains wheels wheel
+in_some true wheels wheel h = (refl, h)
+in_some false wheels wheel h = absurd (omega (arith, h.1))
+
+lies_in_both : (first last number : ℕ) → lies_in first last number ≡ true → (first ≤ number) × (number ≤ last)
+lies_in_both first last number e =
+    let both = and_parts (nat_le first number) (nat_le number last) e in
+    (leb-true first number both.0, leb-true number last both.1)
+
+pub record IsPlaced (model : Model) (slot : ℕ) (wheel : Wheel) : Type 0 where
+  pub first : 1 ≤ slot
+  pub last : slot ≤ slots_of model
+  pub in_box : Contains (box_of model) wheel
+
+placed_in_three : (model : Model) (slot : ℕ) (wheel : Wheel) → slots_of model ≡ 3 → lies_in 1 3 slot ≡ true → Contains (box_of model) wheel → IsPlaced model slot wheel
+placed_in_three model slot wheel three e h =
+    let within = lies_in_both 1 3 slot e in
+    record { first = within.0; last = omega (arith, within.1, three); in_box = h }
+
+placed_in_m4 : (first : Bool) (slot : ℕ) (wheel : Wheel) → (slot == 1) ≡ first
+    → Contains (cond first (wheels_for M4 1) (cond (lies_in 2 4 slot) (wheels_for M4 2) [])) wheel → IsPlaced M4 slot wheel
+placed_in_m4 true slot wheel e h =
+    let one : slot ≡ 1 = eqb-true slot 1 e in
+    record { first = omega (arith, one); last = omega (arith, one); in_box = Contains-append_right (wheels_for M4 2) (wheels_for M4 1) wheel h }
+placed_in_m4 false slot wheel e h =
+    let parts = in_some (lies_in 2 4 slot) (wheels_for M4 2) wheel h in
+    let within = lies_in_both 2 4 slot parts.0 in
+    record { first = omega (arith, within.0); last = within.1; in_box = Contains-append_left (wheels_for M4 2) (wheels_for M4 1) wheel parts.1 }
+
+pub placed : (model : Model) (slot : ℕ) (wheel : Wheel) → IsAllowed model slot wheel → IsPlaced model slot wheel
+placed EnigmaI slot wheel h =
+    let parts = in_some (lies_in 1 3 slot) (box_of EnigmaI) wheel h in
+    placed_in_three EnigmaI slot wheel refl parts.0 parts.1
+placed M3 slot wheel h =
+    let parts = in_some (lies_in 1 3 slot) (box_of M3) wheel h in
+    placed_in_three M3 slot wheel refl parts.0 parts.1
+placed M4 slot wheel h = placed_in_m4 (slot == 1) slot wheel refl h
+placed M209 slot wheel h = absurd (omega (arith, h.1))
+
+pub lacks_wheel : (wheels : List Wheel) (wheel : Wheel) → ¬ (Contains wheels wheel) → has_wheel wheels wheel ≡ false
+lacks_wheel wheels wheel h = false_from_ne_true _ (λ e. h ((has_wheel-Decides wheels wheel).0 e))
+
+pub lacks_reflector : (reflectors : List Reflector) (reflector : Reflector) → ¬ (Contains reflectors reflector) → has_reflector reflectors reflector ≡ false
+lacks_reflector reflectors reflector h = false_from_ne_true _ (λ e. h ((has_reflector-Decides reflectors reflector).0 e))
+
+-- what `==` of the program says of a wheel of the box
+pub same_tested : (wheel other : Wheel) (b : Bool) → sameb the_type other wheel ≡ b → same_wheel wheel other ≡ b
+same_tested wheel other true e = (same_wheel-Decides wheel other).1 (sym (same_true the_type tt other wheel e))
+same_tested wheel other false e = same_wheel_differs wheel other (λ same. same_false the_type other wheel e (sym same))
+
+-- the first place of the box at which the wheel stands
+pub found_in_box : (model : Model) (wheel : Wheel) (place : ℕ) → place < length (box_of model) → ((k : ℕ) → k < place → same_wheel wheel (get_or (box_of model) k I) ≡ false)
+    → same_wheel wheel (get_or (box_of model) place I) ≡ true → Contains (box_of model) wheel × (place ≡ place_in_box model wheel)
+found_in_box model wheel place within before here = (
+  subst (Contains (box_of model)) (sym ((same_wheel-Decides wheel (get_or (box_of model) place I)).0 here)) (Contains-get_or (box_of model) place I within),
+  sym (position_or_len_is (same_wheel wheel) (box_of model) place I (omega arith) before (λ _. here)),
+)
+
+pub not_in_box : (model : Model) (wheel : Wheel) → ((k : ℕ) → k < length (box_of model) → same_wheel wheel (get_or (box_of model) k I) ≡ false) → ¬ (Contains (box_of model) wheel)
+not_in_box model wheel none h =
+    let within : h.0 < length (box_of model) = h.1 in
+    let there : get_or (box_of model) h.0 I ≡ wheel = get_or_default (box_of model) h.0 I wheel within ∙ h.2 in
+    both_ways _ (none h.0 within) ((same_wheel-Decides wheel (get_or (box_of model) h.0 I)).1 (sym there))

@@ -1,0 +1,7 @@
+use Rattle.std.specs.Prelude.{◌≡◌, count_by, take}
+use Rattle.kd_tables.specs.Permutation.{alphabet}
+use Rattle.kd_state.specs.Costs.{lies_in_one}
+use Rattle.kd_state.proofs.costs.letters_in_one.Given as goal
+
+abbrev pub invariant-loop-index : goal.invariant-loop-index
+invariant-loop-index l = l.cost ≡ count_by (lies_in_one l.cable l.column) (take l.index alphabet)

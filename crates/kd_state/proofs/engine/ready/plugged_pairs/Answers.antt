@@ -1,0 +1,28 @@
+use Rattle.std.proofs.Common.{◌≡◌, ℕ, ◌∷◌, [], ◌++◌, take, get_or, Option, Some, None, refl, sym, ap, ◌∙◌, arith}
+use Rattle.std.specs.List.{cons_option}
+use Rattle.std.specs.Option.{option_to_list}
+use Rattle.std.proofs.lemmas.List.{take_more}
+use Rattle.std.proofs.lemmas.List.Elements.{filter_map-append}
+use Rattle.kd_state.specs.TwoCiphers.{both_ends}
+use Rattle.kd_state.proofs.Pairs.{pairs_of}
+use Rattle.kd_state.proofs.engine.ready.plugged_pairs.Goals as goal
+
+if_there : (pair : Option (ℕ × ℕ)) → option_to_list pair ≡ cons_option pair []
+if_there None = refl
+if_there (Some pair) = refl
+
+pub loop-cable-preserved : goal.loop-cable-preserved
+loop-cable-preserved c =
+    let cables = c.args.cables.now in
+    let index = c.loop-cable.cable-index in
+    let cable = get_or cables index c.cable-item.result in
+    let ends : Option ℕ × Option ℕ → Option (ℕ × ℕ) = λ cable. both_ends cable.0 cable.1 in
+    record {
+      few = omega arith;
+      pairs =
+          c.push_pair.ensures.pairs
+          ∙ ap (λ pairs. pairs ++ option_to_list (ends cable)) c.loop-cable.invariant.pairs
+          ∙ ap (λ last. pairs_of (take index cables) ++ last) (if_there (ends cable))
+          ∙ sym (filter_map-append ends (take index cables) (cable ∷ []))
+          ∙ ap pairs_of (sym (take_more cables index c.cable-item.result (omega arith)));
+    }

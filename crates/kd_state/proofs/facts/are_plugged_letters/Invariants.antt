@@ -1,0 +1,6 @@
+use Rattle.std.proofs.Common.{◌<◌, All, take}
+use Rattle.kd_state.specs.Machine.{plugged_letters}
+use Rattle.kd_state.proofs.facts.are_plugged_letters.Given as goal
+
+abbrev pub invariant-loop-cable : goal.invariant-loop-cable
+invariant-loop-cable l = All (λ letter. letter < 26) (plugged_letters (take l.cable-index l.cables))

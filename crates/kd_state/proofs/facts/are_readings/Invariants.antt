@@ -1,0 +1,6 @@
+use Rattle.std.specs.List.{AllWithin}
+use Rattle.kd_tables.specs.Places.{IsReading}
+use Rattle.kd_state.proofs.facts.are_readings.Given as goal
+
+abbrev pub invariant-loop-row : goal.invariant-loop-row
+invariant-loop-row l = AllWithin IsReading l.rows 0 l.row-index

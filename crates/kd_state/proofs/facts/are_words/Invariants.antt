@@ -1,0 +1,6 @@
+use Rattle.std.specs.List.{AllWithin}
+use Rattle.kd_state.specs.Machine.{AreLetters}
+use Rattle.kd_state.proofs.facts.are_words.Given as goal
+
+abbrev pub invariant-loop-group : goal.invariant-loop-group
+invariant-loop-group l = AllWithin (AreLetters 3) l.groups 0 l.group-index

@@ -1,0 +1,6 @@
+use Rattle.std.specs.List.{AllWithin}
+use Rattle.kd_state.specs.SheetDay.{HasLetters}
+use Rattle.kd_state.proofs.facts.have_letters.Given as goal
+
+abbrev pub invariant-loop-wheel : goal.invariant-loop-wheel
+invariant-loop-wheel l = AllWithin HasLetters l.wheels 0 l.wheel-index

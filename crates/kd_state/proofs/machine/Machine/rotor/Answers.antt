@@ -1,0 +1,7 @@
+use Rattle.std.proofs.Common.{sym, subst}
+use Rattle.kd_state.specs.Machine.{IsMachine}
+use Rattle.kd_state.proofs.Keeping.{ordered_parts}
+use Rattle.kd_state.proofs.machine.Machine.rotor.Goals as goal
+
+pub invariant_of-result : goal.invariant_of-result
+invariant_of-result c = subst IsMachine (sym c.in_order.ensures) (ordered_parts c.args.parts (c.is_legal.ensures.0 c.if-not-is_legal.false))

@@ -1,0 +1,36 @@
+use Rattle.std.proofs.Common.{◌∙◌, refl, sym, ap, subst, List, ℕ, map, Option, None, Contains}
+use Rattle.kd_tables.specs.declared.wheel.Wheel.{Wheel}
+use Rattle.kd_state.specs.declared.parts.Parts.{Parts}
+use Rattle.kd_state.specs.declared.sheet_wheel.SheetWheel.{SheetWheel}
+use Rattle.kd_state.specs.Machine.{IsMachine}
+use Rattle.kd_state.specs.Seated.{seated_wheel, key_of_wheels}
+use Rattle.kd_state.specs.TwoCiphers.{OfWheels}
+use Rattle.kd_state.proofs.Seating.{are_seats, all_seated, key_of_seats, not_ready, nothing}
+use Rattle.kd_state.proofs.machine.Machine.rotor_engine.Goals as goal
+
+pub returns-in_err-wheels-clause-ready : goal.returns-in_err-wheels-clause-ready
+returns-in_err-wheels-clause-ready c =
+    let m = c.args.parts.now in
+    let legal = (subst IsMachine c.requires.parts c.requires.machine).legal in
+    let here = subst (λ (slots : List (Option Wheel)). Contains (map (seated_wheel c.args.self.now) slots) None) c.as_slice.ensures.value c.in_err-wheels.ensures in
+    let lacks = subst (λ (parts : Parts). Contains (map (seated_wheel parts) m.slots) None) c.requires.parts here in
+    (λ some. absurd (nothing c.from_residual.result c.from_residual.ensures some), λ ready. absurd (not_ready m legal lacks ready))
+
+pub returns-clause-ready : goal.returns-clause-ready
+returns-clause-ready c =
+    let m = c.args.parts.now in
+    let wheels = c.in_ok-wheels.wheels in
+    let seats = are_seats m m.slots wheels
+    (c.in_ok-wheels.ensures ∙ ap (map (seated_wheel c.args.self.now)) c.as_slice.ensures.value ∙ ap (λ (parts : Parts). map (seated_wheel parts) m.slots) c.requires.parts) in
+    (λ _. record { slots = all_seated m.slots wheels seats.slots; cables = c.in_ok-plugs.ensures.ready.0 refl }, λ _. refl)
+
+pub returns-clause-key : goal.returns-clause-key
+returns-clause-key c =
+    let m = c.args.parts.now in
+    let wheels = c.in_ok-wheels.wheels in
+    let seats = are_seats m m.slots wheels
+    (c.in_ok-wheels.ensures ∙ ap (map (seated_wheel c.args.self.now)) c.as_slice.ensures.value ∙ ap (λ (parts : Parts). map (seated_wheel parts) m.slots) c.requires.parts) in
+    c.of_wheels.ensures
+    ∙ ap (λ (ws : List SheetWheel). OfWheels (key_of_wheels ws m.reflector c.in_ok-plugs.plugs)) c.as_slice-2.ensures.value
+    ∙ ap (λ (plugs : List ℕ). OfWheels (key_of_wheels wheels m.reflector plugs)) c.in_ok-plugs.ensures.plugs
+    ∙ sym (key_of_seats m wheels seats)

@@ -1,0 +1,17 @@
+-- What an engine has inside.
+use Rattle.std.specs.Prelude.{◌≡◌, length}
+use Rattle.kd_state.specs.declared.engine.Mechanism.{Mechanism}
+use Rattle.kd_state.specs.declared.engine.Mechanism.TheVariants.{ThreeWheels, FourWheels, Drum}
+use Rattle.kd_state.specs.TwoCiphers.{EngineKey, OfWheels, OfDrum}
+
+-- the key to which the mechanism is set
+abbrev pub mechanism_key : Mechanism → EngineKey
+mechanism_key (ThreeWheels key) = OfWheels key
+mechanism_key (FourWheels key) = OfWheels key
+mechanism_key (Drum key) = OfDrum key
+
+-- as many wheels as the form says
+abbrev pub HasItsWheels : Mechanism → Type 0
+HasItsWheels (ThreeWheels key) = length key.wheels ≡ 3
+HasItsWheels (FourWheels key) = length key.wheels ≡ 4
+HasItsWheels (Drum key) = Unit {0}

@@ -1,0 +1,19 @@
+-- What an entry of a key sheet says.
+use Rattle.kd_state.specs.declared.rotor_entry.RotorEntry.{RotorEntry}
+use Rattle.kd_state.specs.declared.pin_entry.PinEntry.{PinEntry}
+use Rattle.kd_state.specs.declared.entry.Entry.{Entry}
+use Rattle.kd_state.specs.declared.entry.Entry.TheVariants.{Rotor, Pin}
+use Rattle.kd_state.specs.SheetDay.{RotorDay, PinDay, Day, OfRotors, OfPins}
+
+-- the values of a day of a rotor model
+abbrev pub rotor_values : RotorEntry → RotorDay
+rotor_values e = record { day = e.day; model = e.model; reflector = e.reflector; wheels = e.wheels; pairs = e.pairs.items; groups = e.groups.items }
+
+-- the values of a day of the Converter M-209
+abbrev pub pin_values : PinEntry → PinDay
+pin_values e = record { day = e.day; rows = e.rows; pins = e.pins; window = e.window; list = e.list }
+
+-- the values of the entry
+abbrev pub values_of : Entry → Day
+values_of (Rotor e) = OfRotors (rotor_values e)
+values_of (Pin e) = OfPins (pin_values e)

@@ -1,0 +1,104 @@
+-- What holds of machines, settings and days of a sheet.
+use Rattle.std.specs.Prelude.{◌≡◌, ◌↔◌, ℕ, ◌<◌, List, length, All, None, MatchOption, Contains}
+use Rattle.kd_tables.specs.declared.wheel.Wheel.{Wheel}
+use Rattle.kd_tables.specs.declared.reflector.Reflector.{Reflector}
+use Rattle.kd_tables.specs.Tables.{box_of, reflectors_of, IsAllowed}
+use Rattle.kd_state.specs.declared.rotor_parts.RotorParts.{RotorParts}
+use Rattle.kd_state.specs.declared.parts.Parts.{Parts}
+use Rattle.kd_state.specs.declared.parts.Parts.TheVariants.{Rotor}
+use Rattle.kd_state.specs.declared.setting.Setting.{Setting}
+use Rattle.kd_state.specs.declared.setting.Setting.TheVariants.{Seat, SeatReflector, RingTo}
+use Rattle.kd_state.specs.declared.list.ListFault.{ListFault}
+use Rattle.kd_state.specs.Machine.{IsMachine}
+use Rattle.kd_state.specs.Setting.{why_refused, Carries, Leads}
+use Rattle.kd_state.specs.Words.{IsWord}
+use Rattle.kd_state.specs.Line.{setting_words, setting_line, IsInRange, IsList, IsListFault}
+use Rattle.kd_state.specs.SheetDay.{Day, IsLegalDay}
+use Rattle.kd_state.specs.OnKey.{OnKey, ReadsAs}
+use Rattle.kd_state.specs.Costs.{cost_table}
+use Rattle.kd_state.specs.TwoCiphers.{cipher, key_with_window, IsWindow, IsReady, window_of, physical_key, physical_cipher, sheet_key, sheet_cipher, IsTurned}
+
+-- a setting that is carried out makes a machine of a machine, and so does a list of them
+abbrev pub SettingsKeepMachines : Type 0
+SettingsKeepMachines = (m n : Parts) (x : Setting) → IsMachine m → IsInRange x → Carries m x n → IsMachine n
+
+abbrev pub ListsKeepMachines : Type 0
+ListsKeepMachines = (m n : Parts) (xs : List Setting) → IsMachine m → All IsInRange xs → Leads m xs n → IsMachine n
+
+-- a machine refuses a setting, or carries it, and never both; it carries it to one machine only
+abbrev pub RefusesOrCarries : Type 0
+RefusesOrCarries = (m : Parts) (x : Setting) → MatchOption (why_refused m x) ((n : Parts) × Carries m x n) (λ why. (n : Parts) → ¬ (Carries m x n))
+
+abbrev pub CarriesToOne : Type 0
+CarriesToOne = (m n o : Parts) (x : Setting) → Carries m x n → Carries m x o → n ≡ o
+
+abbrev pub LeadsToOne : Type 0
+LeadsToOne = (m n o : Parts) (xs : List Setting) → Leads m xs n → Leads m xs o → n ≡ o
+
+-- a seat, a reflector and a ring are refused exactly where the tables don't allow them
+abbrev pub SeatsAreByTheTables : Type 0
+SeatsAreByTheTables = (m : RotorParts) (slot : ℕ) (wheel : Wheel) → (why_refused (Rotor m) (Seat slot wheel) ≡ None) ↔ IsAllowed m.model slot wheel
+
+abbrev pub ReflectorsAreByTheTables : Type 0
+ReflectorsAreByTheTables = (m : RotorParts) (reflector : Reflector) → (why_refused (Rotor m) (SeatReflector reflector) ≡ None) ↔ Contains (reflectors_of m.model) reflector
+
+abbrev pub RingsAreByTheTables : Type 0
+RingsAreByTheTables = (m : RotorParts) (wheel : Wheel) (letter : ℕ) → (why_refused (Rotor m) (RingTo wheel letter) ≡ None) ↔ Contains (box_of m.model) wheel
+
+-- what a setting's line is made of are words
+abbrev pub SettingsHaveWords : Type 0
+SettingsHaveWords = (x : Setting) → IsInRange x → All IsWord (setting_words x)
+
+-- no two settings have one line
+abbrev pub LinesTellSettings : Type 0
+LinesTellSettings = (x y : Setting) → IsInRange x → IsInRange y → setting_line x ≡ setting_line y → x ≡ y
+
+-- bytes that are a list are so of one list, and have no fault
+abbrev pub TextsTellLists : Type 0
+TextsTellLists = (bytes : List ℕ) (xs ys : List Setting) → IsList bytes xs → IsList bytes ys → xs ≡ ys
+
+abbrev pub ListsHaveNoFault : Type 0
+ListsHaveNoFault = (bytes : List ℕ) (xs : List Setting) (fault : ListFault) → IsList bytes xs → ¬ (IsListFault bytes fault)
+
+abbrev pub OneListFault : Type 0
+OneListFault = (bytes : List ℕ) (fault other : ListFault) → IsListFault bytes fault → IsListFault bytes other → fault ≡ other
+
+-- a machine that reads as the day is ready, and enciphers as the day's own machine
+abbrev pub ReadingIsReady : Type 0
+ReadingIsReady = (m : Parts) (s : Day) → IsMachine m → IsLegalDay s → ReadsAs m s → IsReady m
+
+abbrev pub ReadingIsItsCipher : Type 0
+ReadingIsItsCipher = (m : Parts) (s : Day) (text : List ℕ) → IsMachine m → IsLegalDay s → ReadsAs m s → physical_cipher m text ≡ sheet_cipher s text
+
+-- a machine that is on the day's key is ready, and enciphers as the day's own machine that shows the same letters
+abbrev pub OnKeyIsReady : Type 0
+OnKeyIsReady = (m : Parts) (s : Day) → IsMachine m → IsLegalDay s → OnKey m s → IsReady m
+
+abbrev pub OnKeyIsItsCipher : Type 0
+OnKeyIsItsCipher = (m : Parts) (s : Day) (text : List ℕ) → IsMachine m → IsLegalDay s → OnKey m s
+    → physical_cipher m text ≡ cipher (key_with_window (sheet_key s) (window_of m)) text
+
+-- and so does each machine that differs from it in the letters that show
+abbrev pub TurnedHasTheDaysCipher : Type 0
+TurnedHasTheDaysCipher = (m n : Parts) (s : Day) (window text : List ℕ) → IsMachine m → IsLegalDay s → OnKey m s → IsTurned m window n
+    → physical_cipher n text ≡ cipher (key_with_window (sheet_key s) window) text
+
+-- a ready machine can be turned to each window
+abbrev pub MachinesCanBeTurned : Type 0
+MachinesCanBeTurned = (m : Parts) (window : List ℕ) → IsMachine m → IsReady m → IsWindow (physical_key m) window → (n : Parts) × IsTurned m window n × IsMachine n
+
+-- and another machine on the key, that shows the same letters, deciphers
+abbrev pub EquallySetDecipher : Type 0
+EquallySetDecipher = (m n : Parts) (s : Day) (text : List ℕ) → IsMachine m → IsMachine n → IsLegalDay s → OnKey m s → OnKey n s
+    → window_of m ≡ window_of n → All (λ letter. letter < 26) text → physical_cipher n (physical_cipher m text) ≡ text
+
+-- with other letters a machine on the key is on the key still, and its key is the same but for the letters
+abbrev pub TurnedIsOnKey : Type 0
+TurnedIsOnKey = (m n : Parts) (s : Day) (window : List ℕ) → IsTurned m window n → OnKey m s → OnKey n s
+
+abbrev pub TurnedHasItsKey : Type 0
+TurnedHasItsKey = (m n : Parts) (window : List ℕ) → IsTurned m window n → physical_key n ≡ key_with_window (physical_key m) window
+
+-- the table of costs is square
+abbrev pub CostTablesAreSquare : Type 0
+CostTablesAreSquare = (m : Parts) (s : Day) → IsMachine m → IsLegalDay s → All (λ row. length row ≡ length (cost_table m s)) (cost_table m s)

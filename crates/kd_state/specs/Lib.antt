@@ -1,0 +1,16 @@
+pub mod Slots
+pub mod Wheels
+pub mod Box
+pub mod Pins
+pub mod Machine
+pub mod Setting
+pub mod Words
+pub mod Line
+pub mod SheetDay
+pub mod Entry
+pub mod OnKey
+pub mod TwoCiphers
+pub mod Seated
+pub mod Engine
+pub mod Costs
+pub mod Laws

@@ -1,0 +1,146 @@
+-- The physical machine as it stands on the desk: its parts, which parts make a machine, and what can be read off it.
+use Rattle.std.specs.Prelude.{◌≡◌, ℕ, ◌+◌, ◌<◌, nat_eq, nat_le, Bool, List, ◌++◌, length, map, All, Contains, slice_get, Option, Some, None, if◌then◌else◌}
+use Rattle.std.specs.List.{flat_map, IsDistinct}
+use Rattle.std.specs.Option.{option_to_list}
+use Rattle.kd_tables.specs.declared.model.Model.{Model}
+use Rattle.kd_tables.specs.declared.model.Model.TheVariants.{M209}
+use Rattle.kd_tables.specs.declared.wheel.Wheel.{Wheel}
+use Rattle.kd_tables.specs.Tables.{box_of, slots_of, reflectors_of, IsAllowed}
+use Rattle.kd_tables.specs.Rings.{ring_of}
+use Rattle.kd_tables.specs.Places.{IsBefore}
+use Rattle.kd_pins.specs.declared.pin_set.PinSet.{PinSet}
+use Rattle.kd_tables.specs.declared.reflector.Reflector.{Reflector}
+use Rattle.kd_tables.specs.declared.place.Place.{Place}
+use Rattle.kd_state.specs.Pins.{wheel_pins, pin_at}
+use Rattle.kd_state.specs.declared.rotor_parts.RotorParts.{RotorParts}
+use Rattle.kd_state.specs.declared.pin_parts.PinParts.{PinParts}
+use Rattle.kd_state.specs.declared.parts.Parts.{Parts}
+use Rattle.kd_state.specs.declared.parts.Parts.TheVariants.{Rotor, Pin}
+use Rattle.kd_state.specs.Box.{place_in_box, numbered}
+
+-- the letters that lie in a cable
+abbrev pub cable_letters : Option ℕ × Option ℕ → List ℕ
+cable_letters cable = option_to_list cable.0 ++ option_to_list cable.1
+
+-- the letters that lie in any of the cables
+abbrev pub plugged_letters : List (Option ℕ × Option ℕ) → List ℕ
+plugged_letters cables = flat_map cable_letters cables
+
+-- the wheel stands so many places to the right of the first slot
+abbrev pub StandsAt : List (Option Wheel) → ℕ → Wheel → Type 0
+StandsAt slots place wheel = slice_get slots place ≡ Some (Some wheel)
+
+-- each wheel is allowed in its slot
+abbrev pub AreAllowed : Model → List (Option Wheel) → Type 0
+AreAllowed model slots = (place : ℕ) (wheel : Wheel) → StandsAt slots place wheel → IsAllowed model (place + 1) wheel
+
+-- no wheel stands in two slots
+abbrev pub AreApart : List (Option Wheel) → Type 0
+AreApart slots = (place other : ℕ) (wheel : Wheel) → StandsAt slots place wheel → StandsAt slots other wheel → place ≡ other
+
+-- so many letters, each by its place in the alphabet
+pub record AreLetters (number : ℕ) (letters : List ℕ) : Type 0 where
+  pub count : length letters ≡ number
+  pub within : All (λ letter. letter < 26) letters
+
+-- 13 cables with letters of the alphabet, no letter in two places
+pub record AreCables (cables : List (Option ℕ × Option ℕ)) : Type 0 where
+  pub count : length cables ≡ 13
+  pub within : All (λ letter. letter < 26) (plugged_letters cables)
+  pub apart : IsDistinct nat_eq (plugged_letters cables)
+
+-- a letter for each of the six wheels, and it is on the wheel
+pub record AreOnWheels (letters : List ℕ) : Type 0 where
+  pub count : length letters ≡ 6
+  pub each : (wheel letter : ℕ) → numbered letters wheel ≡ Some letter → Contains (ring_of wheel) letter
+
+-- as many pins as the wheel has letters
+abbrev pub HasAllPins : PinSet → Type 0
+HasAllPins pins = (wheel : ℕ) → length (wheel_pins pins wheel) ≡ length (ring_of wheel)
+
+-- the parts make a rotor machine
+pub record IsLegalRotor (m : RotorParts) : Type 0 where
+  pub slots : length m.slots ≡ slots_of m.model
+  pub allowed : AreAllowed m.model m.slots
+  pub apart : AreApart m.slots
+  pub reflector : Contains (reflectors_of m.model) m.reflector
+  pub rings : AreLetters (length (box_of m.model)) m.rings
+  pub letters : AreLetters (length (box_of m.model)) m.letters
+  pub cables : AreCables m.cables
+
+-- the parts make a Converter M-209
+pub record IsLegalPin (m : PinParts) : Type 0 where
+  pub pins : HasAllPins m.pins
+  pub letters : AreOnWheels m.letters
+  pub bars : length m.bars ≡ 27
+  pub apart : All (λ bar. IsBefore bar.0 bar.1) m.bars
+
+abbrev pub IsLegal : Parts → Type 0
+IsLegal (Rotor m) = IsLegalRotor m
+IsLegal (Pin m) = IsLegalPin m
+
+-- a cable's letters in alphabetical order, a single letter first
+abbrev pub ordered : Option ℕ → Option ℕ → Option ℕ × Option ℕ
+ordered None other = (other, None)
+ordered (Some letter) None = (Some letter, None)
+ordered (Some letter) (Some other) = if nat_le letter other then (Some letter, Some other) else (Some other, Some letter)
+
+-- the same machine, with the letters of each cable in order: a cable holds a set of letters
+abbrev pub cables_ordered : Parts → Parts
+cables_ordered (Rotor m) = Rotor (record m { cables = map (λ cable. ordered cable.0 cable.1) m.cables })
+cables_ordered (Pin m) = Pin m
+
+-- what a machine on the desk is: legal parts, with each cable's letters in order
+pub record IsMachine (m : Parts) : Type 0 where
+  pub legal : IsLegal m
+  pub cables : cables_ordered m ≡ m
+
+-- the model
+abbrev pub model_of : Parts → Model
+model_of (Rotor m) = m.model
+model_of (Pin m) = M209
+
+-- the ring and the window letter of a wheel of the box, seated or not
+abbrev pub ring_at : RotorParts → Wheel → Option ℕ
+ring_at m wheel = slice_get m.rings (place_in_box m.model wheel)
+
+abbrev pub letter_at : RotorParts → Wheel → Option ℕ
+letter_at m wheel = slice_get m.letters (place_in_box m.model wheel)
+
+-- what is seated in the slot of that number, if there is one
+abbrev pub slot_in : Parts → ℕ → Option (Option Wheel)
+slot_in (Rotor m) slot = numbered m.slots slot
+slot_in (Pin m) slot = None
+
+-- the reflector, if the machine has one
+abbrev pub reflector_in : Parts → Option Reflector
+reflector_in (Rotor m) = Some m.reflector
+reflector_in (Pin m) = None
+
+-- the ring and the window letter of the wheel, if it is in the machine's box
+abbrev pub ring_in : Parts → Wheel → Option ℕ
+ring_in (Rotor m) wheel = ring_at m wheel
+ring_in (Pin m) wheel = None
+
+abbrev pub letter_in : Parts → Wheel → Option ℕ
+letter_in (Rotor m) wheel = letter_at m wheel
+letter_in (Pin m) wheel = None
+
+-- the letters in the cable of that number, if there is one
+abbrev pub cable_in : Parts → ℕ → Option (Option ℕ × Option ℕ)
+cable_in (Rotor m) cable = numbered m.cables cable
+cable_in (Pin m) cable = None
+
+-- whether the pin wheel's pin at the letter is effective, the letter that the wheel shows, and where the bar's lugs stand,
+-- if the machine has the thing
+abbrev pub pin_in : Parts → ℕ → ℕ → Option Bool
+pin_in (Rotor m) wheel letter = None
+pin_in (Pin m) wheel letter = pin_at m.pins wheel letter
+
+abbrev pub shown_in : Parts → ℕ → Option ℕ
+shown_in (Rotor m) wheel = None
+shown_in (Pin m) wheel = numbered m.letters wheel
+
+abbrev pub standing_in : Parts → ℕ → Option (Place × Place)
+standing_in (Rotor m) bar = None
+standing_in (Pin m) bar = numbered m.bars bar

@@ -1,0 +1,28 @@
+-- The wheels in the slots of a machine, with their rings and their window letters.
+use Rattle.std.specs.Prelude.{ℕ, List, map, Option, Some, None}
+use Rattle.kd_tables.specs.declared.wheel.Wheel.{Wheel}
+use Rattle.kd_tables.specs.declared.reflector.Reflector.{Reflector}
+use Rattle.kd_enigma.specs.Cipher.{RotorKey}
+use Rattle.kd_state.specs.declared.parts.Parts.{Parts}
+use Rattle.kd_state.specs.declared.sheet_wheel.SheetWheel.{SheetWheel}
+use Rattle.kd_state.specs.Machine.{ring_in, letter_in}
+
+-- the wheel with this ring and this letter, if there are both
+abbrev pub wheel_with : Wheel → Option ℕ → Option ℕ → Option SheetWheel
+wheel_with wheel (Some ring) (Some letter) = Some (record { wheel = wheel; ring = ring; letter = letter })
+wheel_with wheel _ _ = None
+
+-- what is seated, with its ring and its window letter
+abbrev pub seated_wheel : Parts → Option Wheel → Option SheetWheel
+seated_wheel m None = None
+seated_wheel m (Some wheel) = wheel_with wheel (ring_in m wheel) (letter_in m wheel)
+
+-- the key of wheels with their rings and window letters
+abbrev pub key_of_wheels : List SheetWheel → Reflector → List ℕ → RotorKey
+key_of_wheels wheels reflector plugs = record {
+  wheels = map (λ w. w.wheel) wheels;
+  rings = map (λ w. w.ring) wheels;
+  window = map (λ w. w.letter) wheels;
+  reflector = reflector;
+  plugs = plugs;
+}

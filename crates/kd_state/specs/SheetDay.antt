@@ -1,0 +1,113 @@
+-- A day of a key sheet: an entry's values, and which values an accepted entry has.
+use Rattle.std.specs.Prelude.{◌≡◌, ℕ, ◌<◌, ◌≤◌, List, length, map, All, Contains, Option, Some, None}
+use Rattle.std.specs.Option.{option_map}
+use Rattle.kd_tables.specs.declared.model.Model.{Model}
+use Rattle.kd_tables.specs.declared.model.Model.TheVariants.{M209}
+use Rattle.kd_tables.specs.declared.wheel.Wheel.{Wheel}
+use Rattle.kd_tables.specs.declared.reflector.Reflector.{Reflector}
+use Rattle.kd_tables.specs.Places.{IsReading}
+use Rattle.kd_tables.specs.Tables.{slots_of, reflectors_of}
+use Rattle.kd_pins.specs.declared.pin_set.PinSet.{PinSet}
+use Rattle.kd_enigma.specs.Plugs.{letters_plugged, NoLetterTwice}
+use Rattle.kd_state.specs.declared.sheet_wheel.SheetWheel.{SheetWheel}
+use Rattle.kd_state.specs.Box.{numbered}
+use Rattle.kd_state.specs.Machine.{AreAllowed, AreApart, AreLetters, AreOnWheels, HasAllPins}
+
+-- A day of a rotor model: its number, the model, the reflector, for each slot from the left a wheel with its ring and
+-- its window letter, the pairs that are plugged, and the groups of the day's messages.
+pub record RotorDay : Type 0 where
+  pub day : ℕ
+  pub model : Model
+  pub reflector : Reflector
+  pub wheels : List SheetWheel
+  pub pairs : List (ℕ × ℕ)
+  pub groups : List (List ℕ)
+
+-- A day of the Converter M-209: its number, what the bars are to read as, the effective pins, the letters that show, and
+-- the two letters of the key list.
+pub record PinDay : Type 0 where
+  pub day : ℕ
+  pub rows : List (ℕ × ℕ)
+  pub pins : PinSet
+  pub window : List ℕ
+  pub list : List ℕ
+
+pub data Day : Type 0 where
+  OfRotors : RotorDay → Day
+  OfPins : PinDay → Day
+
+-- a day of a month
+pub record IsDayNumber (number : ℕ) : Type 0 where
+  pub first : 1 ≤ number
+  pub last : number ≤ 31
+
+-- at most 13 pairs of letters, no letter in two places
+pub record ArePairs (pairs : List (ℕ × ℕ)) : Type 0 where
+  pub few : length pairs ≤ 13
+  pub within : All (λ letter. letter < 26) (letters_plugged pairs)
+  pub apart : NoLetterTwice pairs
+
+-- ring and window letter of a sheet's wheel are letters of the alphabet
+pub record HasLetters (wheel : SheetWheel) : Type 0 where
+  pub ring : wheel.ring < 26
+  pub letter : wheel.letter < 26
+
+-- the seats that the wheels take
+abbrev pub seats : List SheetWheel → List (Option Wheel)
+seats wheels = map (λ w. Some w.wheel) wheels
+
+-- the wheels fill the model's slots, each is allowed in its own, and none stands in two
+pub record AreSeated (model : Model) (slots : List (Option Wheel)) : Type 0 where
+  pub count : length slots ≡ slots_of model
+  pub allowed : AreAllowed model slots
+  pub apart : AreApart slots
+
+-- an accepted entry of a sheet has these values
+pub record IsLegalRotorDay (s : RotorDay) : Type 0 where
+  pub day : IsDayNumber s.day
+  pub reflector : Contains (reflectors_of s.model) s.reflector
+  pub wheels : AreSeated s.model (seats s.wheels)
+  pub letters : All HasLetters s.wheels
+  pub pairs : ArePairs s.pairs
+  pub few_groups : length s.groups ≤ 4
+  pub groups : All (AreLetters 3) s.groups
+
+pub record IsLegalPinDay (s : PinDay) : Type 0 where
+  pub day : IsDayNumber s.day
+  pub count : length s.rows ≡ 27
+  pub rows : All IsReading s.rows
+  pub pins : HasAllPins s.pins
+  pub window : AreOnWheels s.window
+  pub list : AreLetters 2 s.list
+
+abbrev pub IsLegalDay : Day → Type 0
+IsLegalDay (OfRotors s) = IsLegalRotorDay s
+IsLegalDay (OfPins s) = IsLegalPinDay s
+
+-- the day's number, and its model
+abbrev pub day_number : Day → ℕ
+day_number (OfRotors s) = s.day
+day_number (OfPins s) = s.day
+
+abbrev pub day_model : Day → Model
+day_model (OfRotors s) = s.model
+day_model (OfPins s) = M209
+
+-- the day as one of a rotor model, and as one of the Converter M-209
+abbrev pub rotor_day : Day → Option RotorDay
+rotor_day (OfRotors s) = Some s
+rotor_day (OfPins s) = None
+
+abbrev pub pin_day : Day → Option PinDay
+pin_day (OfRotors s) = None
+pin_day (OfPins s) = Some s
+
+-- the wheel in the slot of that number, with its ring and its window letter
+abbrev pub sheet_wheel : Day → ℕ → Option SheetWheel
+sheet_wheel (OfRotors s) slot = numbered s.wheels slot
+sheet_wheel (OfPins s) slot = None
+
+-- the letter in the window of the slot, or on the pin wheel, of that number
+abbrev pub shown_letter : Day → ℕ → Option ℕ
+shown_letter (OfRotors s) slot = option_map (λ w. w.letter) (numbered s.wheels slot)
+shown_letter (OfPins s) wheel = numbered s.window wheel

@@ -1,0 +1,18 @@
+-- Three or four values, one for each slot.
+use Rattle.std.specs.Prelude.{◌≡◌, ◌==◌, List, length, if◌then◌else◌}
+use Rattle.kd_state.specs.declared.per_slot.Slots.{Slots}
+use Rattle.kd_state.specs.declared.per_slot.Slots.TheVariants.{Three, Four}
+
+-- the values, from the left
+abbrev pub slot_values : {T : Type 0} → Slots T → List T
+slot_values (Three values) = values
+slot_values (Four values) = values
+
+-- as many as the form says
+abbrev pub HasSlots : {T : Type 0} → Slots T → Type 0
+HasSlots (Three values) = length values ≡ 3
+HasSlots (Four values) = length values ≡ 4
+
+-- the form of so many values
+abbrev pub slots_of_values : {T : Type 0} → List T → Slots T
+slots_of_values values = if length values == 3 then Three values else Four values

@@ -1,0 +1,103 @@
+-- The cipher of the machine as it stands, and the cipher that a day of the sheet asks for.
+use Rattle.std.specs.Prelude.{◌≡◌, ◌≢◌, ℕ, List, length, map, All, IsSome, Option, Some, None}
+use Rattle.std.specs.List.{filter_map}
+use Rattle.kd_tables.specs.declared.wheel.Wheel.{Wheel}
+use Rattle.kd_tables.specs.Permutation.{exchange}
+use Rattle.kd_tables.specs.Places.{reading_of}
+use Rattle.kd_pins.specs.PinWheels.{pins_of}
+use Rattle.kd_enigma.specs.Cipher.{RotorKey, enigma_cipher, key_after, key_turned}
+use Rattle.kd_drum.specs.Converter.{PinKey, converter_cipher, pin_key_after, pin_key_turned}
+use Rattle.kd_state.specs.declared.rotor_parts.RotorParts.{RotorParts}
+use Rattle.kd_state.specs.declared.parts.Parts.{Parts}
+use Rattle.kd_state.specs.declared.parts.Parts.TheVariants.{Rotor, Pin}
+use Rattle.kd_state.specs.Machine.{cable_letters, ring_at, letter_at, AreLetters, AreOnWheels}
+use Rattle.kd_state.specs.SheetDay.{Day, OfRotors, OfPins}
+
+-- the key of an engine: that of a rotor machine, or that of a Converter M-209
+pub data EngineKey : Type 0 where
+  OfWheels : RotorKey → EngineKey
+  OfDrum : PinKey → EngineKey
+
+-- what it makes of a text, the key that is left after so many letters, and the key with these letters in the windows
+abbrev pub cipher : EngineKey → List ℕ → List ℕ
+cipher (OfWheels key) text = enigma_cipher key text
+cipher (OfDrum key) text = converter_cipher key text
+
+abbrev pub key_left : EngineKey → ℕ → EngineKey
+key_left (OfWheels key) n = OfWheels (key_after key n)
+key_left (OfDrum key) n = OfDrum (pin_key_after key n)
+
+abbrev pub key_with_window : EngineKey → List ℕ → EngineKey
+key_with_window (OfWheels key) window = OfWheels (key_turned key window)
+key_with_window (OfDrum key) window = OfDrum (pin_key_turned key window)
+
+-- one letter for each slot, or for each pin wheel, and it is on the wheel
+abbrev pub IsWindow : EngineKey → List ℕ → Type 0
+IsWindow (OfWheels key) window = AreLetters (length key.wheels) window
+IsWindow (OfDrum key) window = AreOnWheels window
+
+-- no slot is empty, and no cable has one letter
+pub record IsRotorReady (m : RotorParts) : Type 0 where
+  pub slots : All (λ seated. IsSome seated) m.slots
+  pub cables : All (λ cable. length (cable_letters cable) ≢ 1) m.cables
+
+abbrev pub IsReady : Parts → Type 0
+IsReady (Rotor m) = IsRotorReady m
+IsReady (Pin m) = Unit {0}
+
+-- the wheels that are seated, from the left
+abbrev pub seated_wheels : RotorParts → List Wheel
+seated_wheels m = filter_map (λ seated. seated) m.slots
+
+-- the letters that show: in the windows of the slots, or on the pin wheels
+abbrev pub window_of : Parts → List ℕ
+window_of (Rotor m) = filter_map (letter_at m) (seated_wheels m)
+window_of (Pin m) = m.letters
+
+-- the pair that a cable of two letters exchanges
+abbrev pub both_ends : Option ℕ → Option ℕ → Option (ℕ × ℕ)
+both_ends (Some letter) (Some other) = Some (letter, other)
+both_ends _ _ = None
+
+abbrev pub plugged_pairs : RotorParts → List (ℕ × ℕ)
+plugged_pairs m = filter_map (λ cable. both_ends cable.0 cable.1) m.cables
+
+-- The key to which the machine is set as it stands: the seated wheels with their rings and letters, the reflector, and the
+-- cables of two letters; or the pins, the letters, and the places of each bar's two lugs.
+abbrev pub physical_key : Parts → EngineKey
+physical_key (Rotor m) = OfWheels (record {
+  wheels = seated_wheels m;
+  rings = filter_map (ring_at m) (seated_wheels m);
+  window = window_of (Rotor m);
+  reflector = m.reflector;
+  plugs = exchange (plugged_pairs m);
+})
+physical_key (Pin m) = OfDrum (record {
+  pins = pins_of m.pins;
+  letters = m.letters;
+  rows = map (λ bar. reading_of bar.0 bar.1) m.bars;
+})
+
+-- the key that the day asks for
+abbrev pub sheet_key : Day → EngineKey
+sheet_key (OfRotors s) = OfWheels (record {
+  wheels = map (λ w. w.wheel) s.wheels;
+  rings = map (λ w. w.ring) s.wheels;
+  window = map (λ w. w.letter) s.wheels;
+  reflector = s.reflector;
+  plugs = exchange s.pairs;
+})
+sheet_key (OfPins s) = OfDrum (record { pins = pins_of s.pins; letters = s.window; rows = s.rows })
+
+-- what a ready machine makes of a text, and what the day's own machine does
+abbrev pub physical_cipher : Parts → List ℕ → List ℕ
+physical_cipher m = cipher (physical_key m)
+
+abbrev pub sheet_cipher : Day → List ℕ → List ℕ
+sheet_cipher s = cipher (sheet_key s)
+
+-- the other machine differs from this one in letters alone, and shows these; letters of wheels in the box are left open
+abbrev pub IsTurned : Parts → List ℕ → Parts → Type 0
+IsTurned (Rotor m) window (Rotor n) = (n ≡ record m { letters = n.letters }) × (window_of (Rotor n) ≡ window)
+IsTurned (Pin m) window (Pin n) = n ≡ record m { letters = window }
+IsTurned _ _ _ = ⊥

@@ -1,0 +1,20 @@
+-- Five, eight or ten values, one for each wheel of a box.
+use Rattle.std.specs.Prelude.{◌≡◌, ◌==◌, List, length, if◌then◌else◌}
+use Rattle.kd_state.specs.declared.per_wheel.Wheels.{Wheels}
+use Rattle.kd_state.specs.declared.per_wheel.Wheels.TheVariants.{Five, Eight, Ten}
+
+-- the values, in box order
+abbrev pub wheel_values : {T : Type 0} → Wheels T → List T
+wheel_values (Five values) = values
+wheel_values (Eight values) = values
+wheel_values (Ten values) = values
+
+-- as many as the form says
+abbrev pub HasWheels : {T : Type 0} → Wheels T → Type 0
+HasWheels (Five values) = length values ≡ 5
+HasWheels (Eight values) = length values ≡ 8
+HasWheels (Ten values) = length values ≡ 10
+
+-- the form of so many values
+abbrev pub wheels_of_values : {T : Type 0} → List T → Wheels T
+wheels_of_values values = if length values == 5 then Five values else (if length values == 8 then Eight values else Ten values)

@@ -1,0 +1,113 @@
+//! The letters in the cables of the plugboard.
+ghost use Rattle.std.specs.Prelude.{◌≡◌, ◌↔◌, IsTrue, map, nat_eq};
+ghost use Rattle.std.specs.List.{list_any, IsDistinct};
+ghost use Rattle.std.specs.Option.{option_to_list};
+ghost use Rattle.kd_state.specs.Machine.{cable_letters, plugged_letters, ordered};
+ghost use Rattle.kd_state.specs.Setting.{has_letter, are_new, is_plugged, cable_without, cable_with};
+
+use kd_tables::Letter;
+
+/// The letters in a cable: none, one or two.
+pub type Cable = (Option<Letter>, Option<Letter>);
+
+/// The letters in their order, a single one first.
+pub(crate) fn ordered(one: Option<Letter>, other: Option<Letter>) -> Cable
+    ensures { result ≡ ordered one other }
+{
+    match (one, other) {
+        (None, _) => (other, None),
+        (Some(_), None) => (one, None),
+        (Some(letter), Some(next)) if letter.index() <= next.index() => (one, other),
+        (Some(_), Some(_)) => (other, one),
+    }
+}
+
+/// Puts the letters of each cable in order.
+pub(crate) fn put_in_order(cables: &mut [Cable])
+    ensures { cables.new ≡ map (λ cable. ordered cable.0 cable.1) cables.old }
+{
+    for cable in cables.iter_mut() {
+        let (one, other) = *cable;
+        *cable = ordered(one, other);
+    }
+}
+
+/// Whether the letter lies in the cable.
+pub(crate) fn lies_in(cable: &Cable, letter: Letter) -> bool
+    ensures { result ≡ has_letter (cable_letters cable.now) letter }
+{
+    is_letter(cable.0, letter) || is_letter(cable.1, letter)
+}
+
+/// Whether the letter is plugged into the cable's end.
+fn is_letter(end: Option<Letter>, letter: Letter) -> bool
+    ensures { result ≡ has_letter (option_to_list end) letter }
+{
+    match end {
+        None => false,
+        Some(other) => other == letter,
+    }
+}
+
+/// Whether the letter lies in one of the cables.
+pub(crate) fn lies_in_any(cables: &[Cable], letter: Letter) -> bool
+    ensures { result ≡ has_letter (plugged_letters cables.now) letter }
+{
+    for cable in cables {
+        if lies_in(cable, letter) {
+            return true;
+        }
+    }
+    false
+}
+
+/// Whether both ends of the cable are plugged.
+pub(crate) fn is_plugged(cable: &Cable) -> bool
+    ensures { result ≡ is_plugged cable.now }
+{
+    cable.0.is_some() && cable.1.is_some()
+}
+
+/// The cable without the letter.
+pub(crate) fn without(cable: &Cable, letter: Letter) -> Cable
+    ensures { result ≡ cable_without letter cable.now }
+{
+    if is_letter(cable.0, letter) {
+        (cable.1, None)
+    } else {
+        (cable.0, None)
+    }
+}
+
+/// The cable with the letter in its loose end.
+pub(crate) fn with(cable: &Cable, letter: Letter) -> Cable
+    ensures { result ≡ cable_with letter cable.now }
+{
+    ordered(cable.0.or(cable.1), Some(letter))
+}
+
+/// Whether no letter lies in two places of the cables.
+pub(crate) fn are_apart(cables: &[Cable]) -> bool
+    ensures { IsTrue result ↔ IsDistinct nat_eq (plugged_letters cables.now) }
+{
+    for (place, cable) in cables.iter().enumerate() {
+        let (_, later) = cables.split_at(place + 1);
+        if !is_new(cable, later) {
+            return false;
+        }
+    }
+    true
+}
+
+/// Whether the cable's letters are two, and lie in none of the others.
+fn is_new(cable: &Cable, others: &[Cable]) -> bool
+    ensures { result ≡ are_new (cable_letters cable.now) (plugged_letters others.now) }
+{
+    match *cable {
+        (None, None) => true,
+        (Some(letter), None) | (None, Some(letter)) => !lies_in_any(others, letter),
+        (Some(one), Some(other)) => {
+            !(other == one || lies_in_any(others, one)) && !lies_in_any(others, other)
+        }
+    }
+}

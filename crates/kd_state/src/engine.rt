@@ -1,0 +1,156 @@
+mod ready;
+
+ghost use Rattle.std.specs.Prelude.{◌≡◌, ◌↔◌, IsTrue};
+ghost use Rattle.std.specs.Bool.{OnTrue, OnFalse};
+ghost use Rattle.kd_enigma.specs.Cipher.{key_turned};
+ghost use Rattle.kd_drum.specs.Converter.{pin_key_turned};
+ghost use Rattle.kd_state.specs.Machine.{AreLetters, AreOnWheels};
+ghost use Rattle.kd_state.specs.TwoCiphers.{sheet_key};
+
+use super::entry::Entry;
+use super::facts::are_letters;
+use super::sheet_day::SheetDay;
+use super::sheet_wheel::SheetWheel;
+use kd_drum::Converter;
+use kd_enigma::{Enigma, EnigmaKey, Plugs};
+use kd_pins::PinSet;
+use kd_tables::{Letter, Reading, Reflector};
+pub use ready::NotReady;
+use std::marker::Model;
+
+/// A machine of any model that is set to a key, ready for texts to be enciphered and deciphered.
+#[derive(Drop)]
+pub struct Engine {
+    mechanism: Mechanism,
+}
+
+#[derive(Drop)]
+enum Mechanism {
+    ThreeWheels(Enigma<3>),
+    FourWheels(Enigma<4>),
+    Drum(Converter),
+}
+
+impl Model for Engine {
+    ghost use Rattle.kd_state.specs.TwoCiphers.{EngineKey};
+
+    ghost Value = { EngineKey };
+
+    ghost use Rattle.kd_state.specs.Engine.{mechanism_key, HasItsWheels};
+
+    ghost view = { λ e. mechanism_key e.mechanism };
+
+    ghost invariant = { λ e. HasItsWheels e.mechanism };
+}
+
+impl Engine {
+    ghost use Rattle.std.specs.Prelude.{◌≡◌, ◌⊎◌, ◌↔◌, length, IsTrue};
+    ghost use Rattle.std.specs.Bool.{OnTrue, OnFalse};
+    ghost use Rattle.kd_pins.specs.PinWheels.{pins_of};
+    ghost use Rattle.kd_state.specs.Machine.{AreOnWheels};
+    ghost use Rattle.kd_state.specs.Seated.{key_of_wheels};
+    ghost use Rattle.kd_state.specs.TwoCiphers.{OfWheels, OfDrum, cipher, key_left, key_with_window, IsWindow};
+
+    /// Enciphers a text in its place, or deciphers it.
+    pub fn run(&mut self, text: &mut [Letter])
+        ensures cipher { text.new ≡ cipher self.old text.old }
+        ensures after { self.new ≡ key_left self.old (length text.old) }
+    {
+        match &mut self.mechanism {
+            Mechanism::ThreeWheels(enigma) => enigma.run(text),
+            Mechanism::FourWheels(enigma) => enigma.run(text),
+            Mechanism::Drum(converter) => converter.run(text),
+        }
+    }
+
+    /// Turns the wheels until they show these letters, from the left, or from the first pin wheel on. False, and no wheel is
+    /// turned, where there isn't a letter for each slot or pin wheel, or one isn't on its wheel.
+    pub fn turn_to(&mut self, letters: &[Letter]) -> bool
+        ensures window { IsTrue result ↔ IsWindow self.old letters.now }
+        ensures turned { OnTrue result (self.new ≡ key_with_window self.old letters.now) }
+        ensures unchanged { OnFalse result (self.new ≡ self.old) }
+    {
+        match &mut self.mechanism {
+            Mechanism::ThreeWheels(enigma) => turn_wheels(enigma, letters),
+            Mechanism::FourWheels(enigma) => turn_wheels(enigma, letters),
+            Mechanism::Drum(converter) => turn_drum(converter, letters),
+        }
+    }
+
+    /// The engine of a rotor machine with these wheels from the left, of which there are three or four.
+    fn of_wheels(wheels: &[SheetWheel], reflector: Reflector, plugs: Plugs) -> Engine
+        requires { (length wheels.now ≡ 3) ⊎ (length wheels.now ≡ 4) }
+        ensures { result ≡ OfWheels (key_of_wheels wheels.now reflector plugs) }
+    {
+        let mechanism = match wheels {
+            [left, middle, right] => Mechanism::ThreeWheels(Enigma::new(EnigmaKey {
+                wheels: [left.wheel, middle.wheel, right.wheel],
+                rings: [left.ring, middle.ring, right.ring],
+                window: [left.letter, middle.letter, right.letter],
+                reflector,
+                plugs,
+            })),
+            [first, left, middle, right] => Mechanism::FourWheels(Enigma::new(EnigmaKey {
+                wheels: [first.wheel, left.wheel, middle.wheel, right.wheel],
+                rings: [first.ring, left.ring, middle.ring, right.ring],
+                window: [first.letter, left.letter, middle.letter, right.letter],
+                reflector,
+                plugs,
+            })),
+            _ => unreachable!(),
+        };
+        Engine { mechanism }
+    }
+
+    /// The engine of a Converter M-209 with these pins, the letters that its wheels show, and what its bars read as.
+    fn of_drum(pins: PinSet, letters: [Letter; 6], rows: [Reading; 27]) -> Engine
+        requires { AreOnWheels letters }
+        ensures { result ≡ OfDrum (record { pins = pins_of pins; letters = letters; rows = rows }) }
+    {
+        Engine {
+            mechanism: Mechanism::Drum(Converter::new(pins, letters, rows).unwrap()),
+        }
+    }
+}
+
+/// The day's own machine, set to its key.
+pub fn own_engine(day: &SheetDay) -> Engine
+    ensures { result ≡ sheet_key day.now }
+{
+    match day.entry() {
+        Entry::Rotor(entry) => {
+            let plugs = Plugs::from_pairs(entry.pairs.as_slice()).unwrap();
+            let _slots = entry.wheels.len();
+            Engine::of_wheels(entry.wheels.as_slice(), entry.reflector, plugs)
+        }
+        Entry::Pin(entry) => Engine::of_drum(entry.pins, entry.window, entry.rows),
+    }
+}
+
+/// Turns a rotor machine's wheels until these letters show in its windows, if there is one for each.
+fn turn_wheels<const S: usize>(enigma: &mut Enigma<S>, letters: &[Letter]) -> bool
+    ensures window { IsTrue result ↔ AreLetters S letters.now }
+    ensures turned { OnTrue result (enigma.new ≡ key_turned enigma.old letters.now) }
+    ensures unchanged { OnFalse result (enigma.new ≡ enigma.old) }
+{
+    are_letters(letters);
+    match <[Letter; S]>::try_from(letters) {
+        Ok(window) => {
+            enigma.turn_to(window);
+            true
+        }
+        Err(_) => false,
+    }
+}
+
+/// Turns the Converter's wheels until they show these letters, if there is one for each and it is on its wheel.
+fn turn_drum(converter: &mut Converter, letters: &[Letter]) -> bool
+    ensures window { IsTrue result ↔ AreOnWheels letters.now }
+    ensures turned { OnTrue result (converter.new ≡ pin_key_turned converter.old letters.now) }
+    ensures unchanged { OnFalse result (converter.new ≡ converter.old) }
+{
+    match <[Letter; 6]>::try_from(letters) {
+        Ok(window) => converter.turn_to(window).is_ok(),
+        Err(_) => false,
+    }
+}

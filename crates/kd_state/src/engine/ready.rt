@@ -1,0 +1,144 @@
+//! When a machine is ready, and its engine.
+ghost use Rattle.std.specs.Prelude.{◌≡◌, ◌≢◌, ◌↔◌, ◌<◌, ◌≤◌, ◌+◌, ◌++◌, length, filter_map, All, IsTrue, IsSome, IfSome};
+ghost use Rattle.std.specs.Option.{option_to_list};
+ghost use Rattle.arrayvec.specs.ArrayVec.{array_vec_len};
+ghost use Rattle.kd_tables.specs.Permutation.{exchange};
+ghost use Rattle.kd_state.specs.Machine.{cable_letters, AreCables};
+ghost use Rattle.kd_state.specs.TwoCiphers.{both_ends};
+
+use super::Engine;
+use crate::cable::Cable;
+use crate::machine::Machine;
+use crate::parts::Parts;
+use crate::per_slot::PerSlot;
+use crate::pin_parts::readings_of;
+use crate::rotor_parts::RotorParts;
+use crate::sheet_wheel::SheetWheel;
+use arrayvec::ArrayVec;
+use kd_enigma::Plugs;
+use kd_tables::{Letter, Wheel};
+use thiserror::Error;
+
+/// A machine with an empty slot, or with a cable that has one letter.
+#[derive(Clone, Copy, Debug, PartialEq, Eq, Error)]
+#[error("4 NotReady")]
+pub struct NotReady;
+
+impl Machine {
+    ghost use Rattle.std.specs.Prelude.{◌≡◌, ◌⊎◌, ◌↔◌, length, map, IsOk, IfOk, IsSome, IfSome, MatchOption, Contains, None, Some};
+    ghost use Rattle.kd_state.specs.Machine.{IsMachine};
+    ghost use Rattle.kd_state.specs.Seated.{seated_wheel};
+    ghost use Rattle.kd_state.specs.TwoCiphers.{IsReady, IsRotorReady, physical_key};
+
+    /// The engine of the machine as it stands. Refused where a slot is empty, or a cable has one letter.
+    pub fn engine(&self) -> Result<Engine, NotReady>
+        ensures ready { IsOk result ↔ IsReady self.now }
+        ensures key { IfOk result (λ engine. engine ≡ physical_key self.now) }
+    {
+        match self.parts() {
+            Parts::Rotor(parts) => self.rotor_engine(parts).ok_or(NotReady),
+            Parts::Pin(parts) => Ok(Engine::of_drum(
+                parts.pins,
+                parts.letters,
+                readings_of(&parts.bars),
+            )),
+        }
+    }
+
+    /// The engine of a rotor machine, if it is ready.
+    fn rotor_engine(&self, parts: &RotorParts) -> Option<Engine>
+        requires parts { self.now ≡ Parts.Rotor parts.now }
+        requires machine { IsMachine self.now }
+        ensures ready { IsSome result ↔ IsRotorReady parts.now }
+        ensures key { IfSome result (λ engine. engine ≡ physical_key (Parts.Rotor parts.now)) }
+    {
+        let _slots = parts.slots.len();
+        let wheels = self.seated_wheels(parts.slots.as_slice())?;
+        let plugs = plugs_of(&parts.cables)?;
+        Some(Engine::of_wheels(wheels.as_slice(), parts.reflector, plugs))
+    }
+
+    /// The wheels in the slots, if there is one in each.
+    fn seated_wheels(&self, slots: &[Option<Wheel>]) -> Option<PerSlot<SheetWheel>>
+        requires { (length slots.now ≡ 3) ⊎ (length slots.now ≡ 4) }
+        ensures { MatchOption result (Contains (map (seated_wheel self.now) slots.now) None)
+            (λ wheels. map Some wheels ≡ map (seated_wheel self.now) slots.now) }
+    {
+        match slots {
+            [left, middle, right] => PerSlot::new(&[
+                self.seated_wheel(*left)?,
+                self.seated_wheel(*middle)?,
+                self.seated_wheel(*right)?,
+            ]),
+            [first, left, middle, right] => PerSlot::new(&[
+                self.seated_wheel(*first)?,
+                self.seated_wheel(*left)?,
+                self.seated_wheel(*middle)?,
+                self.seated_wheel(*right)?,
+            ]),
+            _ => unreachable!(),
+        }
+    }
+
+    /// The wheel that is seated, with its ring and its window letter.
+    fn seated_wheel(&self, seated: Option<Wheel>) -> Option<SheetWheel>
+        ensures { result ≡ seated_wheel self.now seated }
+    {
+        let wheel = seated?;
+        let ring = self.ring(wheel)?;
+        let letter = self.letter(wheel)?;
+        Some(SheetWheel {
+            wheel,
+            ring,
+            letter,
+        })
+    }
+}
+
+/// What the cables exchange, if none has one letter.
+fn plugs_of(cables: &[Cable; 13]) -> Option<Plugs>
+    requires { AreCables cables.now }
+    ensures ready { IsSome result ↔ All (λ cable. length (cable_letters cable) ≢ 1) cables.now }
+    ensures plugs { IfSome result (λ plugs. plugs ≡ exchange (filter_map (λ cable. both_ends cable.0 cable.1) cables.now)) }
+{
+    if !are_whole(cables) {
+        return None;
+    }
+    Some(Plugs::from_pairs(plugged_pairs(cables).as_slice()).unwrap())
+}
+
+/// Whether no cable has one letter.
+fn are_whole(cables: &[Cable; 13]) -> bool
+    ensures { IsTrue result ↔ All (λ cable. length (cable_letters cable) ≢ 1) cables.now }
+{
+    cables.iter().all(|cable| !has_one_letter(*cable))
+}
+
+/// Whether one end of the cable is plugged, and the other is not.
+fn has_one_letter(cable: Cable) -> bool
+    ensures { IsTrue result ↔ (length (cable_letters cable) ≡ 1) }
+{
+    cable.0.is_some() != cable.1.is_some()
+}
+
+/// The letters of the cables that have two.
+fn plugged_pairs(cables: &[Cable; 13]) -> ArrayVec<(Letter, Letter), 13>
+    ensures { result.items ≡ filter_map (λ cable. both_ends cable.0 cable.1) cables.now }
+{
+    let mut pairs = ArrayVec::new();
+    for cable in cables {
+        push_pair(&mut pairs, *cable);
+    }
+    pairs
+}
+
+/// Appends the letters of a cable, if it has two.
+fn push_pair(pairs: &mut ArrayVec<(Letter, Letter), 13>, cable: Cable)
+    requires { array_vec_len pairs.old < 13 }
+    ensures pairs { pairs.new.items ≡ pairs.old.items ++ option_to_list (both_ends cable.0 cable.1) }
+    ensures at_most_one { array_vec_len pairs.new ≤ array_vec_len pairs.old + 1 }
+{
+    if let (Some(one), Some(other)) = cable {
+        pairs.push((one, other));
+    }
+}

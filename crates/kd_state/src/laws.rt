@@ -1,0 +1,110 @@
+//! Laws over machines, settings and days of a sheet alone.
+ghost use Rattle.kd_state.specs.Words.{LinesTellWords, LinesSplitIntoWords, PartsMakeLines, WordsMakeOneLine, TextsTellFirstParts};
+ghost use Rattle.kd_state.specs.Words.{NumbersAreWords, LettersAreWords};
+ghost use Rattle.kd_state.specs.Laws.{SettingsHaveWords, LinesTellSettings, TextsTellLists, ListsHaveNoFault, OneListFault};
+ghost use Rattle.kd_state.specs.Laws.{SettingsKeepMachines, ListsKeepMachines, RefusesOrCarries, CarriesToOne, LeadsToOne};
+ghost use Rattle.kd_state.specs.Laws.{SeatsAreByTheTables, ReflectorsAreByTheTables, RingsAreByTheTables};
+ghost use Rattle.kd_state.specs.Laws.{ReadingIsReady, ReadingIsItsCipher, OnKeyIsReady, OnKeyIsItsCipher};
+ghost use Rattle.kd_state.specs.Laws.{TurnedIsOnKey, TurnedHasItsKey, TurnedHasTheDaysCipher, MachinesCanBeTurned, EquallySetDecipher};
+ghost use Rattle.kd_state.specs.Laws.{CostTablesAreSquare};
+
+/// Words, joined by one space, are told by their line, and split off it again. Their line has no LF.
+pub fn lines_tell_words()
+    ensures told { LinesTellWords }
+    ensures split { LinesSplitIntoWords }
+    ensures joined { PartsMakeLines }
+    ensures one_line { WordsMakeOneLine }
+{}
+
+/// What stands before the first space or LF of a text, and what follows it, is told by the text.
+pub fn texts_tell_first_parts()
+    ensures { TextsTellFirstParts }
+{}
+
+/// Numbers in decimal and letters are words.
+pub fn numbers_and_letters_are_words()
+    ensures numbers { NumbersAreWords }
+    ensures letters { LettersAreWords }
+{}
+
+/// So are the words of settings' lines.
+pub fn settings_have_words()
+    ensures { SettingsHaveWords }
+{}
+
+/// No two settings have one line.
+pub fn no_two_settings_have_one_line()
+    ensures { LinesTellSettings }
+{}
+
+/// Bytes are the text of one list of settings at most; those that are have no fault, and the others one.
+pub fn texts_tell_lists()
+    ensures list { TextsTellLists }
+    ensures no_fault { ListsHaveNoFault }
+    ensures one_fault { OneListFault }
+{}
+
+/// A setting that is carried out makes a machine of a machine, and so does a list of them.
+pub fn settings_keep_machines()
+    ensures one { SettingsKeepMachines }
+    ensures lists { ListsKeepMachines }
+{}
+
+/// A machine refuses a setting, or carries it, and never both; it carries it to one machine only, and a list too.
+pub fn a_setting_is_refused_or_carried()
+    ensures either { RefusesOrCarries }
+    ensures to_one { CarriesToOne }
+    ensures lists_to_one { LeadsToOne }
+{}
+
+/// A seat, a reflector and a ring are refused exactly where the tables don't allow them.
+pub fn tables_say_what_is_refused()
+    ensures seats { SeatsAreByTheTables }
+    ensures reflectors { ReflectorsAreByTheTables }
+    ensures rings { RingsAreByTheTables }
+{}
+
+/// A machine that reads as the day is ready, and enciphers as the day's own machine.
+pub fn reading_as_the_day_is_its_cipher()
+    ensures ready { ReadingIsReady }
+    ensures cipher { ReadingIsItsCipher }
+{
+    kd_enigma::laws::pairs_make_a_plugboard();
+}
+
+/// A machine that is on the day's key is ready, and enciphers as the day's own machine that shows the same letters.
+pub fn being_on_the_key_is_its_cipher()
+    ensures ready { OnKeyIsReady }
+    ensures cipher { OnKeyIsItsCipher }
+{
+    kd_enigma::laws::pairs_make_a_plugboard();
+}
+
+/// With other letters a machine has the same key but for the letters, and on a day's key it stays on it, with the cipher of the
+/// day's own machine that shows these letters.
+pub fn turning_keeps_the_key()
+    ensures key { TurnedHasItsKey }
+    ensures on_key { TurnedIsOnKey }
+    ensures cipher { TurnedHasTheDaysCipher }
+{
+    kd_enigma::laws::pairs_make_a_plugboard();
+}
+
+/// A ready machine can be turned to each window that has a letter for each slot, or for each pin wheel and on it.
+pub fn ready_machines_can_be_turned()
+    ensures { MachinesCanBeTurned }
+{}
+
+/// What a machine on the day's key enciphers, another one on the key deciphers that shows the same letters.
+pub fn equally_set_machines_decipher()
+    ensures { EquallySetDecipher }
+{
+    kd_enigma::laws::pairs_make_a_plugboard();
+    kd_enigma::laws::enciphering_twice_gives_back();
+    kd_drum::laws::enciphering_twice_gives_back();
+}
+
+/// There are as many costs for each cable, or bar, as there are cables, or bars.
+pub fn cost_tables_are_square()
+    ensures { CostTablesAreSquare }
+{}

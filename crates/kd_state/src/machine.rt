@@ -1,0 +1,66 @@
+mod carrying;
+mod readers;
+
+use super::parts::Parts;
+use super::pin_parts::PinParts;
+use super::rotor_parts::RotorParts;
+
+/// A machine as it stands on the desk.
+#[derive(Clone, Copy, Debug)]
+pub struct Machine {
+    parts: Parts,
+}
+
+impl std::marker::Model for Machine {
+    ghost use Rattle.kd_state.specs.declared.parts.Parts.{Parts};
+    ghost use Rattle.kd_state.specs.Machine.{IsMachine};
+
+    ghost Value = { Parts };
+
+    ghost view = { λ m. m.parts };
+
+    ghost invariant = { λ m. IsMachine m.parts };
+
+    ghost inverse = { λ parts. record { parts = parts } };
+}
+
+impl Machine {
+    ghost use Rattle.std.specs.Prelude.{◌≡◌, ◌↔◌, IsSome, IfSome};
+    ghost use Rattle.kd_state.specs.Machine.{IsLegalRotor, IsLegalPin, IsMachine, cables_ordered};
+
+    /// The rotor machine of these parts: none where a wheel stands in two slots or may not stand where it does, a letter
+    /// lies in two places of the cables, or the reflector, the rings or the letters are not the model's. The letters of a
+    /// cable may come in either order.
+    pub fn rotor(parts: RotorParts) -> Option<Machine>
+        ensures exists { IsSome result ↔ IsLegalRotor parts }
+        ensures value { IfSome result (λ machine. machine ≡ cables_ordered (Parts.Rotor parts)) }
+    {
+        if !parts.is_legal() {
+            return None;
+        }
+        Some(Machine {
+            parts: Parts::Rotor(parts.in_order()),
+        })
+    }
+
+    /// The Converter M-209 of these parts: none where a letter is not on its wheel.
+    pub fn pin(parts: PinParts) -> Option<Machine>
+        ensures exists { IsSome result ↔ IsLegalPin parts }
+        ensures value { IfSome result (λ machine. machine ≡ Parts.Pin parts) }
+    {
+        if !parts.is_legal() {
+            return None;
+        }
+        Some(Machine {
+            parts: Parts::Pin(parts),
+        })
+    }
+
+    /// The parts.
+    pub fn parts(&self) -> &Parts
+        ensures parts { result.now ≡ self.now }
+        ensures legal { IsMachine self.now }
+    {
+        &self.parts
+    }
+}

@@ -1,0 +1,116 @@
+ghost use Rattle.std.specs.Prelude.{◌≡◌, length, slice_get};
+ghost use Rattle.kd_tables.specs.Tables.{box_of};
+ghost use Rattle.kd_state.specs.Box.{place_in_box};
+ghost use Rattle.kd_state.specs.Machine.{model_of, slot_in, reflector_in, ring_in, letter_in, cable_in, pin_in, shown_in, standing_in};
+
+use super::Machine;
+use crate::cable::Cable;
+use crate::counted::numbered;
+use crate::parts::Parts;
+use crate::per_wheel::PerWheel;
+use crate::pin_rings::pin_at;
+use crate::seats::place_in_box;
+use kd_tables::{Letter, Model, Reflector, Standing, Wheel};
+
+impl Machine {
+    /// The model.
+    pub fn model(&self) -> Model
+        ensures { result ≡ model_of self.now }
+    {
+        match &self.parts {
+            Parts::Rotor(parts) => parts.model,
+            Parts::Pin(_) => Model::M209,
+        }
+    }
+
+    /// What is seated in a slot, counted from the left from 1: a wheel, or nothing.
+    pub fn slot(&self, slot: u8) -> Option<Option<Wheel>>
+        ensures { result ≡ slot_in self.now slot }
+    {
+        match &self.parts {
+            Parts::Rotor(parts) => numbered(parts.slots.as_slice(), slot),
+            Parts::Pin(_) => None,
+        }
+    }
+
+    /// The reflector.
+    pub fn reflector(&self) -> Option<Reflector>
+        ensures { result ≡ reflector_in self.now }
+    {
+        match &self.parts {
+            Parts::Rotor(parts) => Some(parts.reflector),
+            Parts::Pin(_) => None,
+        }
+    }
+
+    /// The ring of a wheel of the box, seated or not: 01 is A.
+    pub fn ring(&self, wheel: Wheel) -> Option<Letter>
+        ensures { result ≡ ring_in self.now wheel }
+    {
+        match &self.parts {
+            Parts::Rotor(parts) => of_wheel(parts.model, &parts.rings, wheel),
+            Parts::Pin(_) => None,
+        }
+    }
+
+    /// The window letter of a wheel of the box, seated or not.
+    pub fn letter(&self, wheel: Wheel) -> Option<Letter>
+        ensures { result ≡ letter_in self.now wheel }
+    {
+        match &self.parts {
+            Parts::Rotor(parts) => of_wheel(parts.model, &parts.letters, wheel),
+            Parts::Pin(_) => None,
+        }
+    }
+
+    /// The letters in a cable, counted from 1: in alphabetical order, a single letter first.
+    pub fn cable(&self, cable: u8) -> Option<Cable>
+        ensures { result ≡ cable_in self.now cable }
+    {
+        match &self.parts {
+            Parts::Rotor(parts) => numbered(&parts.cables, cable),
+            Parts::Pin(_) => None,
+        }
+    }
+
+    /// Whether the pin at a letter of the pin wheel of that number, counted from 1, is effective.
+    pub fn pin_at(&self, wheel: u8, letter: Letter) -> Option<bool>
+        ensures { result ≡ pin_in self.now wheel letter }
+    {
+        match &self.parts {
+            Parts::Rotor(_) => None,
+            Parts::Pin(parts) => pin_at(&parts.pins, wheel, letter),
+        }
+    }
+
+    /// The letter that the pin wheel of that number, counted from 1, shows.
+    pub fn shown(&self, wheel: u8) -> Option<Letter>
+        ensures { result ≡ shown_in self.now wheel }
+    {
+        match &self.parts {
+            Parts::Rotor(_) => None,
+            Parts::Pin(parts) => numbered(&parts.letters, wheel),
+        }
+    }
+
+    /// Where the lugs of a bar, counted from 1, stand.
+    pub fn standing(&self, bar: u8) -> Option<Standing>
+        ensures { result ≡ standing_in self.now bar }
+    {
+        match &self.parts {
+            Parts::Rotor(_) => None,
+            Parts::Pin(parts) => numbered(&parts.bars, bar),
+        }
+    }
+}
+
+/// The letter that stands for a wheel of the box.
+fn of_wheel(model: Model, letters: &PerWheel<Letter>, wheel: Wheel) -> Option<Letter>
+    requires { length letters.now ≡ length (box_of model) }
+    ensures { result ≡ slice_get letters.now (place_in_box model wheel) }
+{
+    match place_in_box(model, wheel) {
+        Some(place) => letters.as_slice().get(place).copied(),
+        None => None,
+    }
+}

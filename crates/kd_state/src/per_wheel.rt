@@ -1,0 +1,69 @@
+ghost use Rattle.std.specs.Prelude.{◌≡◌, ◌⊎◌, ◌↔◌, ◌<◌, length, slice_set, IsSome, IfSome};
+
+use std::marker::Model;
+
+/// A value for each wheel of a rotor machine's box, in box order: five, eight or ten.
+#[derive(Clone, Copy, Debug)]
+pub struct PerWheel<T> {
+    values: Wheels<T>,
+}
+
+#[derive(Clone, Copy, Debug)]
+enum Wheels<T> {
+    Five([T; 5]),
+    Eight([T; 8]),
+    Ten([T; 10]),
+}
+
+impl<T> Model for PerWheel<T> {
+    ghost use Rattle.std.specs.Prelude.{List};
+
+    ghost Value = { List T };
+
+    ghost use Rattle.kd_state.specs.Wheels.{wheel_values, HasWheels, wheels_of_values};
+
+    ghost view = { λ p. wheel_values p.values };
+
+    ghost invariant = { λ p. HasWheels p.values };
+
+    ghost inverse = { λ values. record { values = wheels_of_values values } };
+}
+
+impl<T: Copy> PerWheel<T> {
+    /// These values, if there are five, eight or ten.
+    pub fn new(values: &[T]) -> Option<Self>
+        ensures exists { IsSome result ↔ ((length values.now ≡ 5) ⊎ (length values.now ≡ 8) ⊎ (length values.now ≡ 10)) }
+        ensures value { IfSome result (λ wheels. wheels ≡ values.now) }
+    {
+        let values = match values.len() {
+            5 => Wheels::Five(<[T; 5]>::try_from(values).ok()?),
+            8 => Wheels::Eight(<[T; 8]>::try_from(values).ok()?),
+            10 => Wheels::Ten(<[T; 10]>::try_from(values).ok()?),
+            _ => return None,
+        };
+        Some(PerWheel { values })
+    }
+
+    /// The values, in box order.
+    pub fn as_slice(&self) -> &[T]
+        ensures { result.now ≡ self.now }
+    {
+        match &self.values {
+            Wheels::Five(values) => values,
+            Wheels::Eight(values) => values,
+            Wheels::Ten(values) => values,
+        }
+    }
+
+    /// Puts a value in its place, counted from 0.
+    pub fn set(&mut self, place: usize, value: T)
+        requires { place < length self.old }
+        ensures { self.new ≡ slice_set self.old place value }
+    {
+        match &mut self.values {
+            Wheels::Five(values) => values[place] = value,
+            Wheels::Eight(values) => values[place] = value,
+            Wheels::Ten(values) => values[place] = value,
+        }
+    }
+}

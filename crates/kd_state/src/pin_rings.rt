@@ -1,0 +1,79 @@
+//! The letters and the pins of the Converter's six wheels, by the wheels' numbers.
+ghost use Rattle.std.specs.Prelude.{◌≡◌, slice_get, slice_set, unwrap_or, IsSome};
+ghost use Rattle.std.specs.Option.{option_and_then};
+ghost use Rattle.kd_tables.specs.Rings.{ring_of, place_on};
+ghost use Rattle.kd_state.specs.Pins.{pin_at, with_pin};
+ghost use Rattle.kd_state.specs.Setting.{has_letter};
+
+use kd_pins::PinSet;
+use kd_tables::{Letter, Ring, ring1, ring2, ring3, ring4, ring5, ring6};
+
+/// The place of the letter on the wheel of that number, counted from 0, if it is on it.
+fn place_on_wheel(wheel: u8, letter: Letter) -> Option<usize>
+    ensures { result ≡ place_on (ring_of wheel) letter }
+{
+    match wheel {
+        1 => ring1().place_of(letter),
+        2 => ring2().place_of(letter),
+        3 => ring3().place_of(letter),
+        4 => ring4().place_of(letter),
+        5 => ring5().place_of(letter),
+        6 => ring6().place_of(letter),
+        _ => None,
+    }
+}
+
+/// Whether the letter is on the wheel of that number.
+pub(crate) fn is_on_wheel(wheel: u8, letter: Letter) -> bool
+    ensures { result ≡ has_letter (ring_of wheel) letter }
+{
+    place_on_wheel(wheel, letter).is_some()
+}
+
+/// Whether the pin at the letter is effective on the wheel of that number, if the wheel has the letter.
+pub(crate) fn pin_at(pins: &PinSet, wheel: u8, letter: Letter) -> Option<bool>
+    ensures { result ≡ pin_at pins.now wheel letter }
+{
+    match wheel {
+        1 => pin_on(&ring1(), &pins.w1, letter),
+        2 => pin_on(&ring2(), &pins.w2, letter),
+        3 => pin_on(&ring3(), &pins.w3, letter),
+        4 => pin_on(&ring4(), &pins.w4, letter),
+        5 => pin_on(&ring5(), &pins.w5, letter),
+        6 => pin_on(&ring6(), &pins.w6, letter),
+        _ => None,
+    }
+}
+
+/// Whether a wheel's pin at the letter is effective.
+fn pin_on<const N: usize>(ring: &Ring<N>, pins: &[bool; N], letter: Letter) -> Option<bool>
+    ensures { result ≡ option_and_then (slice_get pins.now) (place_on ring.now letter) }
+{
+    let place = ring.place_of(letter)?;
+    Some(pins[place])
+}
+
+/// Makes the pin at the letter effective or not on the wheel of that number, which has the letter.
+pub(crate) fn set_pin(pins: &mut PinSet, wheel: u8, letter: Letter, effective: bool)
+    requires { IsSome (place_on (ring_of wheel) letter) }
+    ensures { pins.new ≡ with_pin pins.old wheel letter effective }
+{
+    match wheel {
+        1 => set_pin_on(&ring1(), &mut pins.w1, letter, effective),
+        2 => set_pin_on(&ring2(), &mut pins.w2, letter, effective),
+        3 => set_pin_on(&ring3(), &mut pins.w3, letter, effective),
+        4 => set_pin_on(&ring4(), &mut pins.w4, letter, effective),
+        5 => set_pin_on(&ring5(), &mut pins.w5, letter, effective),
+        6 => set_pin_on(&ring6(), &mut pins.w6, letter, effective),
+        _ => unreachable!(),
+    }
+}
+
+/// Makes a wheel's pin at the letter effective or not.
+fn set_pin_on<const N: usize>(ring: &Ring<N>, pins: &mut [bool; N], letter: Letter, effective: bool)
+    requires { IsSome (place_on ring.now letter) }
+    ensures { pins.new ≡ slice_set pins.old (unwrap_or (place_on ring.now letter) 0) effective }
+{
+    let place = ring.place_of(letter).unwrap();
+    pins[place] = effective;
+}

@@ -1,0 +1,254 @@
+use super::counted::numbered;
+use super::entry::Entry;
+use super::per_slot::PerSlot;
+use super::pin_entry::PinEntry;
+use super::rotor_entry::RotorEntry;
+use super::sheet_wheel::SheetWheel;
+use arrayvec::ArrayVec;
+use kd_pins::PinSet;
+use kd_tables::{Letter, Model, Reading, Reflector, Wheel};
+
+/// A day of a key sheet.
+#[derive(Debug, Drop)]
+pub struct SheetDay {
+    entry: Entry,
+}
+
+impl std::marker::Model for SheetDay {
+    ghost use Rattle.kd_state.specs.SheetDay.{Day, IsLegalDay};
+    ghost use Rattle.kd_state.specs.Entry.{values_of};
+
+    ghost Value = { Day };
+
+    ghost view = { λ s. values_of s.entry };
+
+    ghost invariant = { λ s. IsLegalDay (values_of s.entry) };
+}
+
+impl SheetDay {
+    ghost use Rattle.std.specs.Prelude.{◌≡◌, ◌↔◌, ◌≤◌, length, IsSome, IfSome};
+    ghost use Rattle.std.specs.Option.{option_copied, option_map};
+    ghost use Rattle.kd_state.specs.SheetDay.{OfRotors, OfPins, IsLegalDay, IsLegalRotorDay, IsLegalPinDay, IsDayNumber};
+    ghost use Rattle.kd_state.specs.SheetDay.{day_number, day_model, rotor_day, pin_day, sheet_wheel, shown_letter};
+    ghost use Rattle.kd_state.specs.Entry.{values_of};
+
+    /// The day of a rotor model, with a wheel for each slot from the left, the pairs that are plugged, and the groups of the
+    /// day's messages: none where no sheet has these values. The day is from 1 to 31; there are at most 13 pairs, with no
+    /// letter in two places, and at most 4 groups.
+    pub fn rotor(
+        day: u8,
+        model: Model,
+        reflector: Reflector,
+        wheels: &[SheetWheel],
+        pairs: &[(Letter, Letter)],
+        groups: &[[Letter; 3]],
+    ) -> Option<SheetDay>
+        ensures exists { IsSome result ↔ IsLegalRotorDay (record {
+          day = day;
+          model = model;
+          reflector = reflector;
+          wheels = wheels.now;
+          pairs = pairs.now;
+          groups = groups.now;
+        }) }
+        ensures value { IfSome result (λ sheet_day. sheet_day ≡ OfRotors (record {
+          day = day;
+          model = model;
+          reflector = reflector;
+          wheels = wheels.now;
+          pairs = pairs.now;
+          groups = groups.now;
+        })) }
+    {
+        let entry = RotorEntry {
+            day,
+            model,
+            reflector,
+            wheels: PerSlot::new(wheels)?,
+            pairs: ArrayVec::try_from(pairs).ok()?,
+            groups: ArrayVec::try_from(groups).ok()?,
+        };
+        if entry.is_legal() {
+            Some(SheetDay {
+                entry: Entry::Rotor(entry),
+            })
+        } else {
+            None
+        }
+    }
+
+    /// The day of the Converter M-209, with what the bars are to read as, the effective pins, the letter that each wheel
+    /// shows, and the two letters of the key list: none where the day isn't from 1 to 31, or a letter isn't on its wheel.
+    pub fn pin(
+        day: u8,
+        rows: [Reading; 27],
+        pins: PinSet,
+        window: [Letter; 6],
+        list: [Letter; 2],
+    ) -> Option<SheetDay>
+        ensures exists { IsSome result ↔ IsLegalPinDay (record {
+          day = day;
+          rows = rows;
+          pins = pins;
+          window = window;
+          list = list;
+        }) }
+        ensures value { IfSome result (λ sheet_day. sheet_day ≡ OfPins (record {
+          day = day;
+          rows = rows;
+          pins = pins;
+          window = window;
+          list = list;
+        })) }
+    {
+        let entry = PinEntry {
+            day,
+            rows,
+            pins,
+            window,
+            list,
+        };
+        if entry.is_legal() {
+            Some(SheetDay {
+                entry: Entry::Pin(entry),
+            })
+        } else {
+            None
+        }
+    }
+
+    /// The day of the month, from 1 to 31.
+    pub fn day(&self) -> u8
+        ensures value { result ≡ day_number self.now }
+        ensures within { IsDayNumber result }
+    {
+        match &self.entry {
+            Entry::Rotor(entry) => entry.day,
+            Entry::Pin(entry) => entry.day,
+        }
+    }
+
+    /// The model.
+    pub fn model(&self) -> Model
+        ensures { result ≡ day_model self.now }
+    {
+        match &self.entry {
+            Entry::Rotor(entry) => entry.model,
+            Entry::Pin(_) => Model::M209,
+        }
+    }
+
+    /// The wheel in a slot, counted from the left from 1; none on the Converter M-209.
+    pub fn slot(&self, slot: u8) -> Option<Wheel>
+        ensures { result ≡ option_map (λ seated. seated.wheel) (sheet_wheel self.now slot) }
+    {
+        Some(self.seated(slot)?.wheel)
+    }
+
+    /// The ring of the wheel in a slot, counted from the left from 1: 01 is A. None on the Converter M-209.
+    pub fn ring(&self, slot: u8) -> Option<Letter>
+        ensures { result ≡ option_map (λ seated. seated.ring) (sheet_wheel self.now slot) }
+    {
+        Some(self.seated(slot)?.ring)
+    }
+
+    /// The letter in the window of a slot, counted from the left from 1, or on the pin wheel of that number.
+    pub fn window(&self, slot: u8) -> Option<Letter>
+        ensures { result ≡ shown_letter self.now slot }
+    {
+        match &self.entry {
+            Entry::Rotor(entry) => Some(numbered(entry.wheels.as_slice(), slot)?.letter),
+            Entry::Pin(entry) => numbered(&entry.window, slot),
+        }
+    }
+
+    /// For each slot from the left the wheel with its ring and its window letter; none on the Converter M-209.
+    pub fn wheels(&self) -> Option<&[SheetWheel]>
+        ensures { option_copied result ≡ option_map (λ s. s.wheels) (rotor_day self.now) }
+    {
+        match &self.entry {
+            Entry::Rotor(entry) => Some(entry.wheels.as_slice()),
+            Entry::Pin(_) => None,
+        }
+    }
+
+    /// The reflector; none on the Converter M-209.
+    pub fn reflector(&self) -> Option<Reflector>
+        ensures { result ≡ option_map (λ s. s.reflector) (rotor_day self.now) }
+    {
+        match &self.entry {
+            Entry::Rotor(entry) => Some(entry.reflector),
+            Entry::Pin(_) => None,
+        }
+    }
+
+    /// The pairs that are plugged, at most 13, in the sheet's order; none on the Converter M-209.
+    pub fn pairs(&self) -> Option<&[(Letter, Letter)]>
+        ensures value { option_copied result ≡ option_map (λ s. s.pairs) (rotor_day self.now) }
+        ensures few { IfSome result (λ pairs. length pairs.now ≤ 13) }
+    {
+        match &self.entry {
+            Entry::Rotor(entry) => Some(entry.pairs.as_slice()),
+            Entry::Pin(_) => None,
+        }
+    }
+
+    /// The groups of the day's messages, at most 4; none on the Converter M-209.
+    pub fn groups(&self) -> Option<&[[Letter; 3]]>
+        ensures value { option_copied result ≡ option_map (λ s. s.groups) (rotor_day self.now) }
+        ensures few { IfSome result (λ groups. length groups.now ≤ 4) }
+    {
+        match &self.entry {
+            Entry::Rotor(entry) => Some(entry.groups.as_slice()),
+            Entry::Pin(_) => None,
+        }
+    }
+
+    /// What the bars of the Converter M-209 are to read as, in whichever order.
+    pub fn rows(&self) -> Option<[Reading; 27]>
+        ensures { result ≡ option_map (λ s. s.rows) (pin_day self.now) }
+    {
+        match &self.entry {
+            Entry::Rotor(_) => None,
+            Entry::Pin(entry) => Some(entry.rows),
+        }
+    }
+
+    /// Which pins of the Converter M-209 are effective.
+    pub fn pins(&self) -> Option<PinSet>
+        ensures { result ≡ option_map (λ s. s.pins) (pin_day self.now) }
+    {
+        match &self.entry {
+            Entry::Rotor(_) => None,
+            Entry::Pin(entry) => Some(entry.pins),
+        }
+    }
+
+    /// The two letters of the Converter M-209's key list.
+    pub fn list(&self) -> Option<[Letter; 2]>
+        ensures { result ≡ option_map (λ s. s.list) (pin_day self.now) }
+    {
+        match &self.entry {
+            Entry::Rotor(_) => None,
+            Entry::Pin(entry) => Some(entry.list),
+        }
+    }
+
+    /// The wheel in a slot, with its ring and its window letter.
+    fn seated(&self, slot: u8) -> Option<SheetWheel>
+        ensures { result ≡ sheet_wheel self.now slot }
+    {
+        match &self.entry {
+            Entry::Rotor(entry) => numbered(entry.wheels.as_slice(), slot),
+            Entry::Pin(_) => None,
+        }
+    }
+
+    /// The entry, which an accepted sheet can have.
+    pub(crate) fn entry(&self) -> &Entry
+        ensures value { values_of result.now ≡ self.now }
+        ensures legal { IsLegalDay self.now }
+    {
+        &self.entry
+    }
+}

@@ -1,0 +1,83 @@
+//! The words of a line, and the numbers and letters among them.
+ghost use Rattle.std.specs.Prelude.{◌≡◌, ◌≢◌, ℕ, ◌+◌, ◌^◌, ◌<◌, ◌≤◌, ◌++◌, length, map, decimal, MatchOption};
+ghost use Rattle.arrayvec.specs.ArrayString.{array_string_len};
+ghost use Rattle.kd_state.specs.Words.{words_of, letter_text, IsWithout, IsFirstPart};
+
+use arrayvec::{ArrayString, ArrayVec};
+use itoa::Buffer;
+use kd_tables::Letter;
+use std::str;
+
+/// What stands before the first such byte of a text, and what follows it; none where there is no such byte.
+pub fn split_once(text: &[u8], byte: u8) -> Option<(&[u8], &[u8])>
+    ensures { MatchOption result
+        (IsWithout byte text.now)
+        (λ parts. IsFirstPart byte text.now parts.0.now parts.1.now) }
+{
+    let end = text.iter().position(|other| *other == byte)?;
+    Some((&text[..end], &text[end + 1..]))
+}
+
+/// The parts of a line between its spaces, in order; none where there are more than `N`.
+pub fn split_words<const N: usize>(line: &[u8]) -> Option<ArrayVec<&[u8], N>>
+    ensures { MatchOption result
+        (N < length (words_of line.now))
+        (λ words. map (λ word. word.now) words.items ≡ words_of line.now) }
+{
+    let mut words = ArrayVec::new();
+    let mut rest = line;
+    while let Some((word, after)) = split_once(rest, b' ') {
+        if words.is_full() {
+            return None;
+        }
+        words.push(word);
+        rest = after;
+    }
+    if words.is_full() {
+        return None;
+    }
+    words.push(rest);
+    Some(words)
+}
+
+/// The number that is written so: in decimal, without leading zeros and without a sign.
+pub fn number_of_text(text: &[u8]) -> Option<u8>
+    ensures { MatchOption result
+        ((number : ℕ) → number < 2 ^ 8 → decimal number ≢ text.now)
+        (λ number. decimal number ≡ text.now) }
+{
+    let number: u8 = str::from_utf8(text).ok()?.parse().ok()?;
+    let mut buffer = Buffer::new();
+    (buffer.format(number).as_bytes() == text).then_some(number)
+}
+
+/// The letter that is written so: as one capital letter.
+pub fn letter_of_text(text: &[u8]) -> Option<Letter>
+    ensures { MatchOption result
+        ((letter : ℕ) → letter < 26 → letter_text letter ≢ text.now)
+        (λ letter. letter_text letter ≡ text.now) }
+{
+    match text {
+        [byte] => Letter::from_byte(*byte),
+        _ => None,
+    }
+}
+
+/// Appends a number, in decimal.
+pub fn push_number<const N: usize>(text: &mut ArrayString<N>, number: u8)
+    requires { array_string_len text.old + 3 ≤ N }
+    ensures bytes { text.new.bytes ≡ text.old.bytes ++ decimal number }
+    ensures len { array_string_len text.new ≤ array_string_len text.old + 3 }
+{
+    let mut buffer = Buffer::new();
+    text.push_str(buffer.format(number));
+}
+
+/// Appends a letter, as a capital letter.
+pub fn push_letter<const N: usize>(text: &mut ArrayString<N>, letter: Letter)
+    requires { array_string_len text.old < N }
+    ensures bytes { text.new.bytes ≡ text.old.bytes ++ letter_text letter }
+    ensures len { array_string_len text.new ≡ array_string_len text.old + 1 }
+{
+    text.push(char::from(letter.byte()));
+}

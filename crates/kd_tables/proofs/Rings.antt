@@ -1,0 +1,20 @@
+-- The places of a pin wheel's letters.
+use Rattle.std.proofs.Common.{◌≡◌, ℕ, ◌<◌, ◌==◌, ltb, List, length, slice_index, Some, None, refl, arith}
+use Rattle.std.specs.List.{position_or_len}
+use Rattle.std.proofs.lemmas.Bool.{cond-true, lt-ltb, eqb-true, eq-eqb, ne_eqb}
+use Rattle.std.proofs.lemmas.List.Sums.{position_or_len_is}
+use Rattle.std.proofs.lemmas.List.Quantifiers.{position-Some}
+use Rattle.kd_tables.specs.Rings.{IsRing, place_on}
+use Rattle.kd_tables.proofs.Wirings.{one_place}
+
+pub letter_leads_to_place : (size : ℕ) (ring : List ℕ) → IsRing size ring → (place : ℕ) → place < size → place_on ring (slice_index ring place) ≡ Some place
+letter_leads_to_place size ring h place lt =
+    let first : position_or_len (λ other. other == slice_index ring place) ring ≡ place =
+    position_or_len_is (λ other. other == slice_index ring place) ring place 0 (omega (arith, h.full))
+    (λ k k_lt. ne_eqb (slice_index ring k) (slice_index ring place) (λ e. absurd (omega (arith, one_place ring k place h.differ (omega (arith, h.full)) (omega (arith, h.full)) e))))
+    (λ _. eq-eqb (slice_index ring place) (slice_index ring place) refl) in
+    rw first (cond-true (ltb place (length ring)) (Some place) None (lt-ltb place (length ring) (omega (arith, h.full))))
+
+pub place_leads_to_letter : (size : ℕ) (ring : List ℕ) → IsRing size ring → (place letter : ℕ) → place_on ring letter ≡ Some place → slice_index ring place ≡ letter
+place_leads_to_letter size ring h place letter e =
+    eqb-true (slice_index ring place) letter (position-Some (λ other. other == letter) ring place 0 e).1

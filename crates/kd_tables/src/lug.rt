@@ -1,0 +1,44 @@
+ghost use Rattle.std.specs.Prelude.{◌≡◌, ◌≢◌, MatchOption};
+ghost use Rattle.kd_tables.specs.Places.{lug_text};
+
+use super::names::{name_of, named};
+use arrayvec::ArrayString;
+
+/// One of the two lugs on a bar of the Converter M-209.
+#[derive(Clone, Copy, Debug, PartialEq, Eq, PartialOrd, Ord, Hash)]
+pub enum Lug {
+    /// The left lug.
+    Left,
+    /// The right lug.
+    Right,
+}
+
+/// Reads the lugs' names, each beside its lug, from the one to the other.
+macro_rules! names {
+    ($read:ident, $value:expr) => {
+        $read!($value, {
+            Lug::Left => "L",
+            Lug::Right => "R",
+        })
+    };
+}
+
+impl Lug {
+    /// The lug's name in cards.
+    pub fn text(self) -> ArrayString<8>
+        ensures { result.bytes ≡ lug_text self }
+    {
+        let mut text = ArrayString::new();
+        text.push_str(names!(name_of, self));
+        text
+    }
+
+    /// The lug of that name.
+    pub fn from_text(text: &[u8]) -> Option<Self>
+        ensures { MatchOption result
+            ((lug : _) → lug_text lug ≢ text.now)
+            (λ lug. lug_text lug ≡ text.now) }
+    {
+        names!(named, text)
+    }
+}

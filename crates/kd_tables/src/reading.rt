@@ -1,0 +1,84 @@
+ghost use Rattle.std.specs.Prelude.{codes, ◌≡◌, ◌≢◌, ◌↔◌, [], ◌∷◌, ◌++◌, MatchOption, IsSome, IfSome};
+ghost use Rattle.kd_tables.specs.Places.{IsReading, in_order, reading_text};
+
+use arrayvec::ArrayString;
+use std::marker::Model;
+
+/// What a bar of the Converter M-209 reads as: the numbers of its lugs' places, the smaller first. The two numbers differ,
+/// or both are 0. Readings are in the order of the smaller number, and then of the larger one.
+#[derive(Clone, Copy, Debug, PartialEq, Eq, PartialOrd, Ord, Hash)]
+pub struct Reading {
+    smaller: u8,
+    larger: u8,
+}
+
+impl Model for Reading {
+    ghost use Rattle.std.specs.Prelude.{ℕ};
+    ghost use Rattle.kd_tables.specs.Places.{IsReading};
+
+    ghost Value = { ℕ × ℕ };
+
+    ghost view = { λ r. (r.smaller, r.larger) };
+
+    ghost invariant = { λ r. IsReading (r.smaller, r.larger) };
+
+    ghost inverse = { λ numbers. record { smaller = numbers.0; larger = numbers.1 } };
+}
+
+impl Reading {
+    /// The reading of two numbers, in either order: none for a number above 6, nor for two equal ones above 0.
+    pub fn new(a: u8, b: u8) -> Option<Self>
+        ensures exists { IsSome result ↔ IsReading (in_order a b) }
+        ensures value { IfSome result (λ reading. reading ≡ in_order a b) }
+    {
+        let (smaller, larger) = if a <= b { (a, b) } else { (b, a) };
+        if larger > 6 || (smaller == larger && smaller > 0) {
+            return None;
+        }
+        Some(Reading { smaller, larger })
+    }
+
+    /// The two numbers, the smaller first.
+    pub fn numbers(self) -> (u8, u8)
+        ensures value { result ≡ self }
+        ensures reading { IsReading result }
+    {
+        (self.smaller, self.larger)
+    }
+
+    /// The smaller number and the larger one, with `-` between them.
+    pub fn text(self) -> ArrayString<8>
+        ensures { result.bytes ≡ reading_text self }
+    {
+        let mut text = ArrayString::new();
+        text.push(char::from(b'0' + self.smaller));
+        text.push('-');
+        text.push(char::from(b'0' + self.larger));
+        text
+    }
+
+    /// The reading of that text, whose smaller number comes first.
+    pub fn from_text(text: &[u8]) -> Option<Self>
+        ensures { MatchOption result
+            ((numbers : _) → IsReading numbers → reading_text numbers ≢ text.now)
+            (λ reading. reading_text reading ≡ text.now) }
+    {
+        match text {
+            [first, b'-', second] => Reading::from_figures(*first, *second),
+            _ => None,
+        }
+    }
+
+    /// The reading of two numbers in figures, the smaller one first.
+    fn from_figures(first: u8, second: u8) -> Option<Self>
+        ensures { MatchOption result
+            ((numbers : _) → IsReading numbers → reading_text numbers ≢ first ∷ codes "-" ++ second ∷ [])
+            (λ reading. reading_text reading ≡ first ∷ codes "-" ++ second ∷ []) }
+    {
+        if b'0' <= first && first <= second {
+            Reading::new(first - b'0', second - b'0')
+        } else {
+            None
+        }
+    }
+}

@@ -1,0 +1,115 @@
+ghost use Rattle.std.specs.Prelude.{◌≡◌, ◌↔◌, ◌<◌, slice_index, Contains, Some, IsSome, IfSome};
+ghost use Rattle.kd_tables.specs.Rings.{ring_of, place_on, IsRing};
+
+use super::letter::Letter;
+use super::table::ring;
+use std::marker::Model;
+
+/// The alphabet of a pin wheel of the Converter M-209: its letters in the wheel's own order, from A on.
+#[derive(Clone, Copy, Debug, PartialEq, Eq)]
+pub struct Ring<const N: usize> {
+    letters: [Letter; N],
+}
+
+impl<const N: usize> Model for Ring<N> {
+    ghost use Rattle.std.specs.Prelude.{ℕ, List};
+    ghost use Rattle.kd_tables.specs.Rings.{IsRing};
+
+    ghost Value = { List ℕ };
+
+    ghost view = { λ r. r.letters };
+
+    ghost invariant = { λ r. IsRing N r.letters };
+
+    ghost inverse = { λ letters. record { letters = letters } };
+}
+
+impl<const N: usize> Ring<N> {
+    /// The wheel's letters, in its order: as many as it has places, and none of them twice.
+    pub fn letters(&self) -> [Letter; N]
+        ensures value { result ≡ self.now }
+        ensures ring { IsRing N result }
+    {
+        self.letters
+    }
+
+    /// The letter at a place of the wheel, counted from 0.
+    pub fn letter_of(&self, place: usize) -> Letter
+        requires { place < N }
+        ensures value { result ≡ slice_index self.now place }
+        ensures within { result < 26 }
+        ensures there_alone { place_on self.now result ≡ Some place }
+    {
+        self.letters[place]
+    }
+
+    /// The place of a letter, counted from 0, if it is on the wheel.
+    pub fn place_of(&self, letter: Letter) -> Option<usize>
+        ensures value { result ≡ place_on self.now letter }
+        ensures exists { IsSome result ↔ Contains self.now letter }
+        ensures within { IfSome result (λ place. place < N) }
+        ensures there { IfSome result (λ place. slice_index self.now place ≡ letter) }
+    {
+        self.letters.iter().position(|other| *other == letter)
+    }
+}
+
+/// The first wheel's letters: all 26. These are the wheels of War Department TM 11-380.
+#[tactic(auto, unfolding(crate::specs::Rings::ring_of))]
+pub fn ring1() -> Ring<26>
+    ensures { result ≡ ring_of 1 }
+{
+    Ring {
+        letters: ring(b"ABCDEFGHIJKLMNOPQRSTUVWXYZ"),
+    }
+}
+
+/// The second wheel's letters: all but W.
+#[tactic(auto, unfolding(crate::specs::Rings::ring_of))]
+pub fn ring2() -> Ring<25>
+    ensures { result ≡ ring_of 2 }
+{
+    Ring {
+        letters: ring(b"ABCDEFGHIJKLMNOPQRSTUVXYZ"),
+    }
+}
+
+/// The third wheel's letters: those up to X, without W.
+#[tactic(auto, unfolding(crate::specs::Rings::ring_of))]
+pub fn ring3() -> Ring<23>
+    ensures { result ≡ ring_of 3 }
+{
+    Ring {
+        letters: ring(b"ABCDEFGHIJKLMNOPQRSTUVX"),
+    }
+}
+
+/// The fourth wheel's letters: those up to U.
+#[tactic(auto, unfolding(crate::specs::Rings::ring_of))]
+pub fn ring4() -> Ring<21>
+    ensures { result ≡ ring_of 4 }
+{
+    Ring {
+        letters: ring(b"ABCDEFGHIJKLMNOPQRSTU"),
+    }
+}
+
+/// The fifth wheel's letters: those up to S.
+#[tactic(auto, unfolding(crate::specs::Rings::ring_of))]
+pub fn ring5() -> Ring<19>
+    ensures { result ≡ ring_of 5 }
+{
+    Ring {
+        letters: ring(b"ABCDEFGHIJKLMNOPQRS"),
+    }
+}
+
+/// The sixth wheel's letters: those up to Q.
+#[tactic(auto, unfolding(crate::specs::Rings::ring_of))]
+pub fn ring6() -> Ring<17>
+    ensures { result ≡ ring_of 6 }
+{
+    Ring {
+        letters: ring(b"ABCDEFGHIJKLMNOPQ"),
+    }
+}

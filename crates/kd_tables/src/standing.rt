@@ -1,0 +1,124 @@
+ghost use Rattle.std.specs.Prelude.{◌≡◌, ◌≢◌, ◌↔◌, ◌==◌, MatchOption, IsSome, IfSome};
+ghost use Rattle.std.specs.List.{position};
+ghost use Rattle.kd_tables.specs.Places.{IsBefore, reading_of, standing_text, standings, AreNames};
+
+use super::place::Place;
+use super::reading::Reading;
+use arrayvec::ArrayString;
+use std::marker::Model;
+
+/// How a bar of the Converter M-209 stands: the places of its two lugs, the left one's before the right one's. Standings
+/// are in the order of the left place, and then of the right one.
+#[derive(Clone, Copy, Debug, PartialEq, Eq, PartialOrd, Ord, Hash)]
+pub struct Standing {
+    left: Place,
+    right: Place,
+}
+
+impl Model for Standing {
+    ghost use Rattle.kd_tables.specs.Places.{IsBefore};
+    ghost use Rattle.kd_tables.specs.declared.place.Place.{Place};
+
+    ghost Value = { Place × Place };
+
+    ghost view = { λ s. (s.left, s.right) };
+
+    ghost invariant = { λ s. IsBefore s.left s.right };
+
+    ghost inverse = { λ places. record { left = places.0; right = places.1 } };
+}
+
+/// The standings of each left place, beside the right places that come after it.
+macro_rules! standings {
+    ($($left:ident: $($right:ident)*;)*) => {
+        [$($(Standing { left: Place::$left, right: Place::$right },)*)*]
+    };
+}
+
+impl Standing {
+    /// Every standing, in their order.
+    pub fn all() -> [Standing; 28]
+        ensures { result ≡ standings }
+    {
+        standings! {
+            One: ZeroLeft Two Three Four Five ZeroRight Six;
+            ZeroLeft: Two Three Four Five ZeroRight Six;
+            Two: Three Four Five ZeroRight Six;
+            Three: Four Five ZeroRight Six;
+            Four: Five ZeroRight Six;
+            Five: ZeroRight Six;
+            ZeroRight: Six;
+        }
+    }
+
+    /// The standing with the lugs at these places, if the left one's comes before the right one's.
+    pub fn new(left: Place, right: Place) -> Option<Self>
+        ensures exists { IsSome result ↔ IsBefore left right }
+        ensures value { IfSome result (λ standing. standing ≡ (left, right)) }
+    {
+        if left < right {
+            Some(Standing { left, right })
+        } else {
+            None
+        }
+    }
+
+    /// The left lug's place.
+    pub fn left(self) -> Place
+        ensures { result ≡ self.0 }
+    {
+        self.left
+    }
+
+    /// The right lug's place, which comes after the left one's.
+    pub fn right(self) -> Place
+        ensures value { result ≡ self.1 }
+        ensures after { IsBefore self.0 result }
+    {
+        self.right
+    }
+
+    /// What the bar reads as: the numbers of the two places.
+    pub fn reading(self) -> Reading
+        ensures { result ≡ reading_of self.0 self.1 }
+    {
+        Reading::new(self.left.number(), self.right.number()).unwrap()
+    }
+
+    /// The left place and the right one, with `-` between them.
+    pub fn text(self) -> ArrayString<8>
+        ensures { result.bytes ≡ standing_text self }
+    {
+        let mut text = ArrayString::new();
+        text.push_str(self.left.name());
+        text.push_str("-");
+        text.push_str(self.right.name());
+        text
+    }
+
+    /// The standing of that text.
+    pub fn from_text(text: &[u8]) -> Option<Self>
+        ensures { MatchOption result
+            ((places : _) → IsBefore places.0 places.1 → standing_text places ≢ text.now)
+            (λ standing. standing_text standing ≡ text.now) }
+    {
+        let dash = dash_in(text)?;
+        Standing::from_names(&text[..dash], &text[dash + 1..])
+    }
+
+    /// The standing with the lugs at the places of these names.
+    fn from_names(left: &[u8], right: &[u8]) -> Option<Self>
+        ensures { MatchOption result
+            ((places : _) → IsBefore places.0 places.1 → AreNames places left.now right.now → ⊥)
+            (λ standing. AreNames standing left.now right.now) }
+    {
+        Standing::new(Place::from_text(left)?, Place::from_text(right)?)
+    }
+}
+
+/// Where the first `-` stands in a text, counted from 0.
+fn dash_in(text: &[u8]) -> Option<usize>
+    ensures { result ≡ position (λ byte. byte == 45) text.now }
+{
+    text.iter().position(|byte| *byte == b'-')
+}

@@ -1,0 +1,26 @@
+ghost use Rattle.std.specs.Prelude.{◌≡◌, ◌||◌, is_err};
+ghost use Rattle.kd_tables.specs.Writing.{Writes};
+
+use super::failed::Failed;
+use super::sink::Sink;
+use thiserror::Error;
+
+/// A sink that failed before it had taken all.
+#[derive(Clone, Copy, Debug, PartialEq, Eq, Error)]
+#[error("6 Device")]
+pub struct Device;
+
+/// Puts all bytes into the sink, in as many puts as it wants. A sink that fails has taken a front of them.
+pub fn put_all<W: Sink>(sink: &mut W, bytes: &[u8]) -> Result<(), Device>
+    ensures text { Writes (W.taken sink.old) (W.taken sink.new) bytes.now result }
+    ensures failed { W.has_failed sink.new ≡ (W.has_failed sink.old || is_err result) }
+{
+    let mut done = 0;
+    while done < bytes.len() {
+        match sink.put(&bytes[done..]) {
+            Ok(count) => done += count,
+            Err(Failed) => return Err(Device),
+        }
+    }
+    Ok(())
+}
