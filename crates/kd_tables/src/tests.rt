@@ -145,11 +145,11 @@ fn rings_have_their_own_letters(rt: HostRuntime) -> Result<(), Fail> {
 
 #[test]
 fn bars_have_28_standings_and_22_readings(rt: HostRuntime) -> Result<(), Fail> {
-    let mut standings = 0;
+    let mut standings: usize = 0;
     for left in Place::all() {
         for right in Place::all() {
             if let Some(standing) = Standing::new(left, right) {
-                standings += 1;
+                standings = standings.checked_add(1).ok_or("too many standings")?;
                 assert_eq!(rt;
                     Standing::from_text(standing.text().as_bytes()),
                     Some(standing)
@@ -163,11 +163,11 @@ fn bars_have_28_standings_and_22_readings(rt: HostRuntime) -> Result<(), Fail> {
         }
     }
     assert_eq!(rt; standings, 28);
-    let mut readings = 0;
+    let mut readings: usize = 0;
     for smaller in 0..8 {
         for larger in smaller..8 {
             if let Some(reading) = Reading::new(larger, smaller) {
-                readings += 1;
+                readings = readings.checked_add(1).ok_or("too many readings")?;
                 assert_eq!(rt; reading.numbers(), (smaller, larger));
             }
         }
