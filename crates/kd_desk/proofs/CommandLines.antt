@@ -1,5 +1,5 @@
 -- Commands and the values of their words.
-use Rattle.std.proofs.Common.{◌≡◌, ◌≢◌, ℕ, ◌≤◌, List, Option, Some, None, Bor, codes, decimal, option_map, sym, ap, ◌∙◌}
+use Rattle.std.proofs.Common.{◌≡◌, ◌≢◌, ◌⊎◌, ℕ, List, Option, Some, None, Bor, codes, get_or, option_map, sym, ap, ◌∙◌, arith}
 use Rattle.std.proofs.Common.{Result, Ok, Err, IsSomeAnd, IfSome, IfOk, IfErr, is_some, ok_or, true, false, [], inl, inr, refl, subst, ap₂}
 use Rattle.clap.specs.Words.{App, FailsBy, HasKind, HasMatchesOf, Row, fault_of, first_of, first_value, is_simple, is_simple_and_free, kind_of, rows_of, subcommand_of, subcommand_rows_of}
 use Rattle.clap.specs.declared.parser.matches.ArgMatches.{ArgMatches}
@@ -13,7 +13,7 @@ use Rattle.kd_desk.specs.declared.command.Command.{Command}
 use Rattle.kd_desk.specs.declared.command.Command.TheVariants as commands
 use Rattle.kd_desk.specs.declared.fault.DeskFault.{DeskFault}
 use Rattle.kd_desk.specs.declared.fault.DeskFault.TheVariants.{File}
-use Rattle.kd_desk.specs.declared.sheet.fault.SheetFault.TheVariants.{NoMemory}
+use Rattle.kd_sheet.specs.declared.fault.SheetFault.TheVariants.{NoMemory}
 use Rattle.kd_desk.specs.declared.stop.Stop.{Stop}
 use Rattle.kd_desk.specs.declared.stop.Stop.TheVariants.{Usage, Refused}
 use Rattle.kd_desk.specs.CommandLine.{desk_grammar, IsOf, Says}
@@ -21,18 +21,25 @@ use Rattle.kd_desk.specs.CommandLine.{desk_grammar, IsOf, Says}
 none_or_some : {X : Type 0} (o : Option X) (x : X) → o ≡ None → o ≡ Some x → ⊥
 none_or_some o x none some = cc
 
-pub no_machine : (said : List ℕ × List Row) → first_of (codes "MACHINE") said.1 ≡ None → (command : Command) → IsOf said command → ⊥
-no_machine said none (commands.Type machine) is = none_or_some _ _ none is.1
-no_machine said none (commands.Card machine sheet day) is = none_or_some _ _ none is.1
+-- the names of commands are different
+pub type_is_not_apply : codes "type" ≡ codes "apply" → ⊥
+type_is_not_apply same = let letter : 116 ≡ 97 = ap (λ word. get_or word 0 0) same in omega (arith, letter)
 
-pub no_sheet : (said : List ℕ × List Row) → said.0 ≢ codes "type" → first_of (codes "SHEET") said.1 ≡ None → (command : Command) → IsOf said command → ⊥
-no_sheet said card none (commands.Type machine) is = card is.0
-no_sheet said card none (commands.Card machine sheet day) is = none_or_some _ _ none is.2
+-- another name than a command's
+pub other_name : (said : List ℕ × List Row) → said.0 ≢ codes "type" → said.0 ≢ codes "apply" → (command : Command) → IsOf said command → ⊥
+other_name said not_type not_apply (commands.Type machine) is = not_type is.name
+other_name said not_type not_apply (commands.Apply machine list) is = not_apply is.name
 
-pub no_day : (said : List ℕ × List Row) → said.0 ≢ codes "type" → ((day : ℕ) → 1 ≤ day → day ≤ 31 → first_of (codes "DAY") said.1 ≢ Some (decimal day))
-    → (command : Command) → IsOf said command → ⊥
-no_day said card none (commands.Type machine) is = card is.0
-no_day said card none (commands.Card machine sheet day) is = none day is.4 is.5 is.3
+-- a command by its name, whose words aren't all there
+pub no_typing : (rows : List Row) → first_of (codes "MACHINE") rows ≡ None → (command : Command) → IsOf (codes "type", rows) command → ⊥
+no_typing rows none (commands.Type machine) is = none_or_some _ _ none is.words
+no_typing rows none (commands.Apply machine list) is = type_is_not_apply is.name
+
+pub no_applying : (rows : List Row) → (first_of (codes "MACHINE") rows ≡ None) ⊎ (first_of (codes "LIST") rows ≡ None)
+    → (command : Command) → IsOf (codes "apply", rows) command → ⊥
+no_applying rows none (commands.Type machine) is = type_is_not_apply (sym is.name)
+no_applying rows (inl none) (commands.Apply machine list) is = none_or_some _ _ none is.words.0
+no_applying rows (inr none) (commands.Apply machine list) is = none_or_some _ _ none is.words.1
 
 -- what a getter of the matches reads, by their rows
 pub read_none : (found : Found) (id : List ℕ) (word : Option (Bor (List ℕ))) → option_map (λ s. s.now) word ≡ first_value found id → word ≡ None → first_of id (rows_of found) ≡ None
@@ -41,14 +48,6 @@ read_none found id word reads none = sym (first_value-rows found id) ∙ sym rea
 pub read_some : (found : Found) (id : List ℕ) (word : Option (Bor (List ℕ))) (read : Bor (List ℕ)) → option_map (λ s. s.now) word ≡ first_value found id → word ≡ Some read
     → first_of id (rows_of found) ≡ Some read.now
 read_some found id word read reads some = sym (first_value-rows found id) ∙ sym reads ∙ ap (option_map (λ s. s.now)) some
-
-pub no_word : (found : Found) (id : List ℕ) (word : Option (Bor (List ℕ))) → option_map (λ s. s.now) word ≡ first_value found id → word ≡ None
-    → (day : ℕ) → 1 ≤ day → day ≤ 31 → first_of id (rows_of found) ≢ Some (decimal day)
-no_word found id word reads none day first last is = none_or_some _ _ (read_none found id word reads none) is
-
-pub other_word : (found : Found) (id : List ℕ) (word : Option (Bor (List ℕ))) (read : Bor (List ℕ)) → option_map (λ s. s.now) word ≡ first_value found id → word ≡ Some read
-    → ((day : ℕ) → 1 ≤ day → day ≤ 31 → read.now ≢ decimal day) → (day : ℕ) → 1 ≤ day → day ≤ 31 → first_of id (rows_of found) ≢ Some (decimal day)
-other_word found id word read reads some other day first last is = other day first last (same_Some _ _ (sym (read_some found id word read reads some) ∙ is))
 
 -- clap says all of this grammar
 pub grammar_is_simple : is_simple_and_free desk_grammar ≡ true

@@ -2,14 +2,14 @@
 use Rattle.std.proofs.Common.{◌≡◌, ℕ, ◌≤◌, ◌<◌, ◌+◌, ◌-◌, List, [], length, take, slice_index, IsTrue, IsFalse, refl, sym, ap, subst, length-take-le, arith}
 use Rattle.std.proofs.lemmas.List.Elements.{All-nil}
 use Rattle.std.specs.Io.{StartsWith}
-use Rattle.kd_enigma.specs.Cipher.{RotorKey}
+use Rattle.kd_state.specs.TwoCiphers.{EngineKey}
 use Rattle.kd_desk.specs.Typing.{may_be_typed, AreAllowedBytes, Lights, TypesFront, IsFirstRefused}
 
-pub TypesFront-nil : (key : RotorKey) → TypesFront key [] []
+pub TypesFront-nil : (key : EngineKey) → TypesFront key [] []
 TypesFront-nil key = record { front = []; of_read = refl; allowed = All-nil (λ (byte : ℕ). IsTrue (may_be_typed byte)); written = refl }
 
 -- a front of the lamps of so many bytes
-pub TypesFront-take : (key left : RotorKey) (bytes lamps text : List ℕ) (n : ℕ) → n ≤ length bytes → AreAllowedBytes (take n bytes)
+pub TypesFront-take : (key left : EngineKey) (bytes lamps text : List ℕ) (n : ℕ) → n ≤ length bytes → AreAllowedBytes (take n bytes)
     → Lights key left (take n bytes) lamps → StartsWith lamps text → TypesFront key bytes text
 TypesFront-take key left bytes lamps text n within allowed lights starts = record {
   front = take n bytes;

@@ -7,7 +7,7 @@ use Rattle.std.proofs.KnownBytes.{Consumes-trans, Appends-trans, starts_with_res
 use Rattle.std.proofs.Transfers.{starts_with_of_append}
 use Rattle.std.specs.Io.{StartsWith}
 use Rattle.std.specs.Io.KnownBytes.{Appends, Consumes}
-use Rattle.kd_enigma.specs.Cipher.{RotorKey}
+use Rattle.kd_state.specs.TwoCiphers.{EngineKey}
 use Rattle.kd_desk.specs.declared.typing.step.Step.{Step}
 use Rattle.kd_desk.specs.declared.typing.step.Step.TheVariants.{Typed, Refused}
 use Rattle.kd_desk.specs.declared.typing.fault.TextFault.{TextFault}
@@ -17,12 +17,12 @@ use Rattle.kd_tables.specs.Writing.{TakesFront}
 use Rattle.kd_desk.specs.Ports.{Port, IsWell}
 use Rattle.kd_desk.specs.Typing.{may_be_typed, AreAllowedBytes, IsFirstRefused, cipher_text, read_limit, Lights, TypesFront, IsTyped}
 use Rattle.kd_desk.specs.TypingSteps.{StepTyped, Ends}
-use Rattle.kd_enigma.specs.Laws.{CipherInTurn, KeyInTurn}
+use Rattle.kd_state.specs.Laws.{CipherInTurn, KeyInTurn}
 use Rattle.kd_desk.proofs.Lamps.{Lights-then}
 use Rattle.kd_desk.proofs.Failing.{over, answered, failed_now}
 
 -- so many bytes were read and typed, and no port failed
-pub record SoFar (key now : RotorKey) (source sink : Port) (count : ℕ) : Type 0 where
+pub record SoFar (key now : EngineKey) (source sink : Port) (count : ℕ) : Type 0 where
   pub read : List ℕ
   pub text : List ℕ
   pub counted : length read ≡ count
@@ -51,11 +51,11 @@ IsFirstRefused-behind read bytes n allowed refused =
     }
 
 module _ (cipher_in_turn : CipherInTurn) (key_in_turn : KeyInTurn) where
-  cipher_behind : (key now : RotorKey) (read text bytes : List ℕ) → Lights key now read text → cipher_text key (read ++ bytes) ≡ text ++ cipher_text now bytes
+  cipher_behind : (key now : EngineKey) (read text bytes : List ℕ) → Lights key now read text → cipher_text key (read ++ bytes) ≡ text ++ cipher_text now bytes
   cipher_behind key now read text bytes lights =
       sym (Lights-then cipher_in_turn key_in_turn key now _ read bytes text (cipher_text now bytes) lights (record { cipher = refl; after = refl })).cipher
 
-  TypesFront-behind : (key now : RotorKey) (read text bytes lamps : List ℕ) → AreAllowedBytes read → Lights key now read text → TypesFront now bytes lamps → TypesFront key (read ++ bytes) (text ++ lamps)
+  TypesFront-behind : (key now : EngineKey) (read text bytes lamps : List ℕ) → AreAllowedBytes read → Lights key now read text → TypesFront now bytes lamps → TypesFront key (read ++ bytes) (text ++ lamps)
   TypesFront-behind key now read text bytes lamps allowed lights types = record {
     front = read ++ types.front;
     of_read = StartsWith-behind read bytes types.front types.of_read;
@@ -65,7 +65,7 @@ module _ (cipher_in_turn : CipherInTurn) (key_in_turn : KeyInTurn) where
   }
 
   -- A step behind what was read and typed, by what is known of the ports at the start, between and behind it.
-  module _ (key now left : RotorKey) (had has next took taken wrote : Option (List ℕ)) (a b c d e f : Bool) (count room : ℕ)
+  module _ (key now left : EngineKey) (had has next took taken wrote : Option (List ℕ)) (a b c d e f : Bool) (count room : ℕ)
       (before : SoFar key now (over had has a b) (over took taken d e) count) (space : room ≡ read_limit - count) where
     pub SoFar-typed : (n : ℕ) → StepTyped now left room (over has next b c) (over taken wrote e f) (Ok (Typed n)) → (c ≡ b) × (f ≡ e)
         → SoFar key left (over had next a c) (over took wrote d f) (count + n)
@@ -126,7 +126,7 @@ module _ (cipher_in_turn : CipherInTurn) (key_in_turn : KeyInTurn) where
     }
 
 -- As much as may be read was read, and one byte more was asked for.
-module _ (key now : RotorKey) (had has next took taken : Option (List ℕ)) (a b c d e : Bool) (count : ℕ)
+module _ (key now : EngineKey) (had has next took taken : Option (List ℕ)) (a b c d e : Bool) (count : ℕ)
     (before : SoFar key now (over had has a b) (over took taken d e) count) (full : count ≡ read_limit) where
   pub IsTyped-too_long : (end : Bool) → end ≡ false → Ends has next (Ok end) → IsTyped key [] (over had next a c) (over took taken d e) (Err texts.ReadTooLong)
   IsTyped-too_long end more met =
@@ -147,11 +147,11 @@ module _ (key now : RotorKey) (had has next took taken : Option (List ℕ)) (a b
       }
 
 -- the same step by another name
-pub step_is : (now left : RotorKey) (room : ℕ) (source sink : Port) (step other : Step) → step ≡ other → StepTyped now left room source sink (Ok step) → StepTyped now left room source sink (Ok other)
+pub step_is : (now left : EngineKey) (room : ℕ) (source sink : Port) (step other : Step) → step ≡ other → StepTyped now left room source sink (Ok step) → StepTyped now left room source sink (Ok other)
 step_is now left room source sink step other e typed = subst (λ s. StepTyped now left room source sink (Ok s)) e typed
 
 -- what ends a text failed to be written
-pub IsTyped-end_failed : (key : RotorKey) (end : ℕ) (source : Port) (took taken wrote : Option (List ℕ)) (d e f : Bool)
+pub IsTyped-end_failed : (key : EngineKey) (end : ℕ) (source : Port) (took taken wrote : Option (List ℕ)) (d e f : Bool)
     → IsTyped key [] source (over took taken d e) (Ok tt) → IsWell source → TakesFront taken wrote (end ∷ []) → f ≡ (e || true)
     → IsTyped key (end ∷ []) source (over took wrote d f) (Err texts.Device)
 IsTyped-end_failed key end source took taken wrote d e f typed well failed up =
@@ -180,16 +180,16 @@ IsTyped-end_failed key end source took taken wrote d e f typed well failed up =
     }
 
 -- what ends a text comes only behind a whole one
-pub IsTyped-unended : (key : RotorKey) (end : List ℕ) (source sink : Port) (fault : TextFault) → IsTyped key [] source sink (Err fault) → IsTyped key end source sink (Err fault)
+pub IsTyped-unended : (key : EngineKey) (end : List ℕ) (source sink : Port) (fault : TextFault) → IsTyped key [] source sink (Err fault) → IsTyped key end source sink (Err fault)
 IsTyped-unended key end source sink texts.Device typed = record { read = typed.read; text = typed.text; given = typed.given; written = typed.written; types = typed.types; ended = tt }
 IsTyped-unended key end source sink (texts.BadByte place) typed = record { read = typed.read; text = typed.text; given = typed.given; written = typed.written; types = typed.types; ended = tt }
 IsTyped-unended key end source sink texts.ReadTooLong typed = record { read = typed.read; text = typed.text; given = typed.given; written = typed.written; types = typed.types; ended = tt }
 
 -- the error that `?` makes
-pub IsTyped-answered : (key : RotorKey) (end : List ℕ) (source sink : Port) (answer : Result (Unit {0}) TextFault) (fault : TextFault)
+pub IsTyped-answered : (key : EngineKey) (end : List ℕ) (source sink : Port) (answer : Result (Unit {0}) TextFault) (fault : TextFault)
     → IsErrAnd answer (λ made. made ≡ fault) → IsTyped key end source sink (Err fault) → IsTyped key end source sink answer
 IsTyped-answered key end source sink answer fault made typed = answered answer fault (λ a. IsTyped key end source sink a) made typed
 
-pub StepTyped-answered : (key left : RotorKey) (room : ℕ) (source sink : Port) (answer : Result Step Device) (fault : Device)
+pub StepTyped-answered : (key left : EngineKey) (room : ℕ) (source sink : Port) (answer : Result Step Device) (fault : Device)
     → IsErrAnd answer (λ made. made ≡ fault) → StepTyped key left room source sink (Err fault) → StepTyped key left room source sink answer
 StepTyped-answered key left room source sink answer fault made typed = answered answer fault (λ a. StepTyped key left room source sink a) made typed

@@ -1,5 +1,5 @@
 -- What the program's words say, by what clap makes of the desk's grammar.
-use Rattle.std.specs.Prelude.{codes, decimal, ◌≡◌, ℕ, ◌≤◌, true, false, List, [], ◌∷◌, map, Some, IsSomeAnd}
+use Rattle.std.specs.Prelude.{codes, ◌≡◌, ℕ, true, false, List, [], ◌∷◌, map, Some, IsSomeAnd}
 use Rattle.clap.specs.Words.{App, Row, Rule, Shape, first_of, fault_of, new_rule, subcommand_of}
 use Rattle.clap.specs.Simple.{new_shape}
 use Rattle.kd_desk.specs.declared.command.Command.{Command}
@@ -19,8 +19,8 @@ form name words = record (new_shape name) {
 abbrev pub type_form : Shape
 type_form = form (codes "type") (codes "MACHINE" ∷ [])
 
-abbrev pub card_form : Shape
-card_form = form (codes "card") (codes "MACHINE" ∷ codes "SHEET" ∷ codes "DAY" ∷ [])
+abbrev pub apply_form : Shape
+apply_form = form (codes "apply") (codes "MACHINE" ∷ codes "LIST" ∷ [])
 
 unfoldable pub desk_grammar : App
 desk_grammar = record {
@@ -29,15 +29,22 @@ desk_grammar = record {
     disable_help_subcommand = true;
     is_leaf = false;
   };
-  subs = type_form ∷ card_form ∷ [];
+  subs = type_form ∷ apply_form ∷ [];
 }
 
--- a command's name and the values of its words are those of the command
-abbrev pub IsOf : List ℕ × List Row → Command → Type 0
-IsOf said (commands.Type machine) = (said.0 ≡ codes "type") × (first_of (codes "MACHINE") said.1 ≡ Some machine.now)
-IsOf said (commands.Card machine sheet day) =
-    (said.0 ≡ codes "card") × (first_of (codes "MACHINE") said.1 ≡ Some machine.now) × (first_of (codes "SHEET") said.1 ≡ Some sheet.now)
-    × (first_of (codes "DAY") said.1 ≡ Some (decimal day)) × (1 ≤ day) × (day ≤ 31)
+-- the name of a command, and the values of its words
+abbrev pub command_name : Command → List ℕ
+command_name (commands.Type machine) = codes "type"
+command_name (commands.Apply machine list) = codes "apply"
+
+abbrev pub HasWords : List Row → Command → Type 0
+HasWords rows (commands.Type machine) = first_of (codes "MACHINE") rows ≡ Some machine.now
+HasWords rows (commands.Apply machine list) = (first_of (codes "MACHINE") rows ≡ Some machine.now) × (first_of (codes "LIST") rows ≡ Some list.now)
+
+-- a name and the values of words are those of the command
+pub record IsOf (said : List ℕ × List Row) (command : Command) : Type 0 where
+  pub name : said.0 ≡ command_name command
+  pub words : HasWords said.1 command
 
 -- the words, the program's own name first, are taken by the grammar and say the command
 pub record Says (words : List (List ℕ)) (command : Command) : Type 0 where

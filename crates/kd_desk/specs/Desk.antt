@@ -1,29 +1,27 @@
 -- What the program does: the command that its words say, on the files that they name.
-use Rattle.std.specs.Prelude.{◌≡◌, ◌≢◌, ◌⊎◌, ℕ, Bool, true, false, List, Option, None, Result, Ok, Err, IfOk, IfErr, IfSome}
+use Rattle.std.specs.Prelude.{◌≡◌, ◌⊎◌, ℕ, Bool, true, false, List, Option, Result, Ok, Err, IfOk, IfErr}
 use Rattle.std.specs.Result.{result_map_both}
+use Rattle.kd_sheet.specs.declared.fault.SheetFault.TheVariants.{NoMemory}
+use Rattle.kd_sheet.specs.MachineFile.{machine_of}
+use Rattle.kd_state.specs.TwoCiphers.{IsReady, physical_key}
 use Rattle.kd_desk.specs.declared.command.Command.{Command}
 use Rattle.kd_desk.specs.declared.command.Command.TheVariants as commands
 use Rattle.kd_desk.specs.declared.fault.DeskFault.{DeskFault}
-use Rattle.kd_desk.specs.declared.fault.DeskFault.TheVariants.{File, NotReady, OtherModel, NoSuchDay}
+use Rattle.kd_desk.specs.declared.fault.DeskFault.TheVariants.{File, NotReady}
 use Rattle.kd_desk.specs.declared.files.fault.FileFault.{FileFault}
 use Rattle.kd_desk.specs.declared.files.fault.FileFault.TheVariants as files
-use Rattle.kd_desk.specs.declared.sheet.fault.SheetFault.TheVariants.{NoMemory}
 use Rattle.kd_desk.specs.declared.stop.Stop.{Stop}
 use Rattle.kd_desk.specs.declared.stop.Stop.TheVariants.{Usage, Unread, Refused}
-use Rattle.kd_desk.specs.Days.{day_of}
 use Rattle.kd_desk.specs.Files.{content_of}
-use Rattle.kd_desk.specs.MachineFile.{machine_of}
 use Rattle.kd_desk.specs.Ports.{Port, IsWell}
-use Rattle.kd_desk.specs.RunCard.{WritesCard}
+use Rattle.kd_desk.specs.RunApply.{Applies}
 use Rattle.kd_desk.specs.RunSteps.{RanOut, AnswersFault, is_refused_before, is_device}
-use Rattle.kd_desk.specs.SheetFile.{sheet_of}
-use Rattle.kd_desk.specs.TwoCiphers.{IsReady, physical_key}
 use Rattle.kd_desk.specs.Typing.{TypesLine}
 
 -- a command with the bytes of its files in the place of their names
 pub data Run : Type 0 where
   typing : List ℕ → Run
-  card : List ℕ → List ℕ → ℕ → Run
+  applying : List ℕ → List ℕ → Run
 
 -- a file's bytes go into a run, or its fault stands for it
 abbrev pub with_bytes : Result (List ℕ) FileFault → (List ℕ → Result Run FileFault) → Result Run FileFault
@@ -34,35 +32,35 @@ with_bytes (Err fault) run = Err fault
 abbrev pub typing_of : Option (List ℕ) → Result Run FileFault
 typing_of machine = with_bytes (content_of machine) (λ m. Ok (typing m))
 
--- the card that leads the machine of a file to a day of the sheet of a second one
-abbrev pub card_of : Option (List ℕ) → Option (List ℕ) → ℕ → Result Run FileFault
-card_of machine sheet day = with_bytes (content_of machine) (λ m. with_bytes (content_of sheet) (λ s. Ok (card m s day)))
+-- the settings of a second file, for the machine of a file
+abbrev pub applying_of : Option (List ℕ) → Option (List ℕ) → Result Run FileFault
+applying_of machine list = with_bytes (content_of machine) (λ m. with_bytes (content_of list) (λ l. Ok (applying m l)))
 
 -- the run of a command over files, or the fault of the first that can't be had, in the order of the words
 abbrev pub run_of : (List ℕ → Option (List ℕ)) → Command → Result Run FileFault
 run_of held (commands.Type machine) = typing_of (held machine.now)
-run_of held (commands.Card machine sheet day) = card_of (held machine.now) (held sheet.now) day
+run_of held (commands.Apply machine list) = applying_of (held machine.now) (held list.now)
 
--- a text was typed on the machine of a machine file, or the call was refused for the file or for an empty slot
+-- a text was typed on the machine of a machine file, or the call was refused for the file or for a machine that isn't ready
 pub record TypesOn (machine : List ℕ) (source sink : Port) (answer : Result (Unit {0}) DeskFault) : Type 0 where
   pub refused : IfErr (machine_of machine) (λ fault. AnswersFault answer (File fault))
   pub not_ready : IfOk (machine_of machine) (λ m. ¬ IsReady m → AnswersFault answer NotReady)
   pub typed : IfOk (machine_of machine) (λ m. IsReady m → TypesLine (physical_key m) source sink answer ⊎ RanOut answer)
 
--- the card was written that leads the machine of a machine file to the day of a sheet, or the call was refused for the
--- first of the two that is at fault, for the day or for the models
-pub record WritesCardOf (machine sheet : List ℕ) (number : ℕ) (sink : Port) (answer : Result (Unit {0}) DeskFault) : Type 0 where
-  pub no_machine : IfErr (machine_of machine) (λ fault. AnswersFault answer (File fault))
-  pub no_sheet : IfOk (machine_of machine) (λ m. IfErr (sheet_of sheet) (λ fault. AnswersFault answer (File fault)))
-  pub no_day : IfOk (machine_of machine) (λ m. IfOk (sheet_of sheet) (λ days. day_of days number ≡ None → AnswersFault answer NoSuchDay))
-  pub other : IfOk (machine_of machine) (λ m. IfOk (sheet_of sheet) (λ days. IfSome (day_of days number) (λ s. m.model ≢ s.model → AnswersFault answer OtherModel)))
-  pub written : IfOk (machine_of machine) (λ m. IfOk (sheet_of sheet) (λ days. IfSome (day_of days number) (λ s.
-      m.model ≡ s.model → WritesCard m s number sink.had sink.has answer ⊎ RanOut answer)))
+-- settings were carried out on the machine of a machine file, or the call was refused for the file
+pub record AppliesTo (machine list : List ℕ) (sink : Port) (answer : Result (Unit {0}) DeskFault) : Type 0 where
+  pub refused : IfErr (machine_of machine) (λ fault. AnswersFault answer (File fault))
+  pub applied : IfOk (machine_of machine) (λ m. Applies m list sink answer ⊎ RanOut answer)
 
--- what a run does: a card is written without a look at the source
+-- nobody looked at the port
+pub record IsLeftAlone (p : Port) : Type 0 where
+  pub bytes : p.has ≡ p.had
+  pub well : IsWell p
+
+-- what a run does: only typing looks at the source
 abbrev pub Does : Run → Port → Port → Result (Unit {0}) DeskFault → Type 0
 Does (typing machine) source sink answer = TypesOn machine source sink answer
-Does (card machine sheet day) source sink answer = WritesCardOf machine sheet day sink answer × (source.has ≡ source.had) × IsWell source
+Does (applying machine list) source sink answer = AppliesTo machine list sink answer × IsLeftAlone source
 
 -- memory ran out, over the words or a file's bytes, or as a file was read
 abbrev pub LacksMemory : Result (Unit {0}) Stop → Type 0

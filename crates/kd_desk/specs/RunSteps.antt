@@ -1,8 +1,8 @@
 -- What the desk answers to a machine file, and to what comes with it.
-use Rattle.std.specs.Prelude.{◌≡◌, ◌⊎◌, Bool, true, false, Result, Err}
-use Rattle.kd_desk.specs.declared.sheet.fault.SheetFault.TheVariants.{NoMemory}
+use Rattle.std.specs.Prelude.{◌≡◌, ◌⊎◌, Bool, true, false, Result, Ok, Err}
+use Rattle.kd_sheet.specs.declared.fault.SheetFault.TheVariants.{NoMemory}
 use Rattle.kd_desk.specs.declared.fault.DeskFault.{DeskFault}
-use Rattle.kd_desk.specs.declared.fault.DeskFault.TheVariants.{File, NotReady, OtherModel, NoSuchDay, Device}
+use Rattle.kd_desk.specs.declared.fault.DeskFault.TheVariants.{File, Device, BadByte, ReadTooLong}
 
 -- the call ran out of memory while it read a file
 abbrev pub RanOut : Result (Unit {0}) DeskFault → Type 0
@@ -12,13 +12,13 @@ RanOut answer = answer ≡ Err (File NoMemory)
 abbrev pub AnswersFault : Result (Unit {0}) DeskFault → DeskFault → Type 0
 AnswersFault answer fault = (answer ≡ Err fault) ⊎ RanOut answer
 
--- whether a call was refused before it read a text or wrote a card
+-- whether a call was refused before it read a text or wrote anything
 abbrev pub is_refused_before : Result (Unit {0}) DeskFault → Bool
-is_refused_before (Err (File _)) = true
-is_refused_before (Err NotReady) = true
-is_refused_before (Err OtherModel) = true
-is_refused_before (Err NoSuchDay) = true
-is_refused_before _ = false
+is_refused_before (Ok _) = false
+is_refused_before (Err Device) = false
+is_refused_before (Err (BadByte _)) = false
+is_refused_before (Err ReadTooLong) = false
+is_refused_before (Err _) = true
 
 -- whether a call failed by a device
 abbrev pub is_device : Result (Unit {0}) DeskFault → Bool

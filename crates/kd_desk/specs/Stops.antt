@@ -6,7 +6,7 @@ use Rattle.kd_desk.specs.declared.fault.DeskFault.{DeskFault}
 use Rattle.kd_desk.specs.declared.fault.DeskFault.TheVariants.{File, Device, ReadTooLong}
 use Rattle.kd_desk.specs.declared.files.fault.FileFault.{FileFault}
 use Rattle.kd_desk.specs.declared.files.fault.FileFault.TheVariants as files
-use Rattle.kd_desk.specs.declared.sheet.fault.SheetFault.TheVariants.{NoMemory}
+use Rattle.kd_sheet.specs.declared.fault.SheetFault.TheVariants.{NoMemory}
 use Rattle.kd_desk.specs.declared.stop.Stop.{Stop}
 use Rattle.kd_desk.specs.declared.stop.Stop.TheVariants.{Usage, Unread, Refused}
 

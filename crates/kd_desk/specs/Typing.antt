@@ -4,8 +4,8 @@ use Rattle.std.specs.Result.{result_map_both}
 use Rattle.std.specs.Io.{StartsWith}
 use Rattle.std.specs.Io.KnownBytes.{Appends, Consumes, IsAtEnd}
 use Rattle.kd_tables.specs.Tables.{letters_of}
-use Rattle.kd_enigma.specs.Cipher.{RotorKey, key_after, enigma_cipher}
-use Rattle.kd_desk.specs.Letters.{is_capital}
+use Rattle.kd_state.specs.TwoCiphers.{EngineKey, cipher, key_left}
+use Rattle.kd_sheet.specs.Letters.{is_capital}
 use Rattle.kd_desk.specs.Ports.{Port, FailsAlone}
 use Rattle.kd_desk.specs.declared.fault.DeskFault.{DeskFault}
 use Rattle.kd_desk.specs.declared.fault.DeskFault.TheVariants as faults
@@ -34,33 +34,33 @@ abbrev pub typed_letters : List ℕ → List ℕ
 typed_letters bytes = letters_of (filter is_capital bytes)
 
 -- the cipher of the letters among the bytes, in capital letters
-abbrev pub cipher_text : RotorKey → List ℕ → List ℕ
-cipher_text key bytes = map (λ letter. letter + 65) (enigma_cipher key (typed_letters bytes))
+abbrev pub cipher_text : EngineKey → List ℕ → List ℕ
+cipher_text key bytes = map (λ letter. letter + 65) (cipher key (typed_letters bytes))
 
 -- The keys of the letters among the bytes were pressed: their cipher is what lit up, and the machine stepped as often.
-pub record Lights (key left : RotorKey) (bytes lamps : List ℕ) : Type 0 where
+pub record Lights (key left : EngineKey) (bytes lamps : List ℕ) : Type 0 where
   pub cipher : lamps ≡ cipher_text key bytes
-  pub after : left ≡ key_after key (length (typed_letters bytes))
+  pub after : left ≡ key_left key (length (typed_letters bytes))
 
 -- how many bytes are read at most
 abbrev pub read_limit : ℕ
 read_limit = 1048576
 
 -- what was written is a front of the cipher of a front of what was read, which is allowed
-pub record TypesFront (key : RotorKey) (read text : List ℕ) : Type 0 where
+pub record TypesFront (key : EngineKey) (read text : List ℕ) : Type 0 where
   pub front : List ℕ
   pub of_read : StartsWith read front
   pub allowed : AreAllowedBytes front
   pub written : StartsWith (cipher_text key front) text
 
 -- the source failed behind a text that is allowed, and its whole cipher was written
-pub record TypesWhole (key : RotorKey) (source sink : Port) (read text : List ℕ) : Type 0 where
+pub record TypesWhole (key : EngineKey) (source sink : Port) (read text : List ℕ) : Type 0 where
   pub fails : FailsAlone source sink
   pub allowed : AreAllowedBytes read
   pub written : text ≡ cipher_text key read
 
 -- the sink failed, and what was written before is a front of the cipher
-pub record TypesPart (key : RotorKey) (source sink : Port) (read text : List ℕ) : Type 0 where
+pub record TypesPart (key : EngineKey) (source sink : Port) (read text : List ℕ) : Type 0 where
   pub fails : FailsAlone sink source
   pub front : TypesFront key read text
 
@@ -68,7 +68,7 @@ pub record TypesPart (key : RotorKey) (source sink : Port) (read text : List ℕ
 -- cipher was written with what ends it; or the first byte that is not allowed, or one behind the limit, came after the
 -- letters whose cipher was written; or a device failed, after the whole cipher where it was the source, and after a front
 -- of it where it was the sink.
-abbrev pub Types : RotorKey → List ℕ → Port → Port → List ℕ → List ℕ → Result (Unit {0}) TextFault → Type 0
+abbrev pub Types : EngineKey → List ℕ → Port → Port → List ℕ → List ℕ → Result (Unit {0}) TextFault → Type 0
 Types key end source sink read written (Ok _) = (length read ≤ read_limit) × AreAllowedBytes read × (written ≡ cipher_text key read ++ end)
 Types key end source sink read written (Err (BadByte place)) = IsFirstRefused read place × (length read ≤ read_limit) × (written ≡ cipher_text key (take (place - 1) read))
 Types key end source sink read written (Err ReadTooLong) =
@@ -78,7 +78,7 @@ Types key end source sink read written (Err Device) =
 
 -- The same of the bytes that a source had and has yet to give, and that a sink had taken and has taken: a source that
 -- was read to its end has none left.
-pub record IsTyped (key : RotorKey) (end : List ℕ) (source sink : Port) (answer : Result (Unit {0}) TextFault) : Type 0 where
+pub record IsTyped (key : EngineKey) (end : List ℕ) (source sink : Port) (answer : Result (Unit {0}) TextFault) : Type 0 where
   pub read : List ℕ
   pub text : List ℕ
   pub given : Consumes source.had source.has read
@@ -102,7 +102,7 @@ fails_in_text (Err Device) = true
 fails_in_text _ = false
 
 -- what was typed and ended with a line feed is what the desk answers
-pub record TypesLine (key : RotorKey) (source sink : Port) (answer : Result (Unit {0}) DeskFault) : Type 0 where
+pub record TypesLine (key : EngineKey) (source sink : Port) (answer : Result (Unit {0}) DeskFault) : Type 0 where
   pub told : Result (Unit {0}) TextFault
   pub typed : IsTyped key (10 ∷ []) source sink told
   pub answers : answer ≡ answer_to_text told

@@ -1,7 +1,7 @@
 -- What the steps do in which a text is typed. The contract of the whole does not speak of them.
 use Rattle.std.specs.Prelude.{◌≡◌, ◌⊎◌, ℕ, ◌+◌, ◌<◌, ◌≤◌, Bool, true, false, List, length, take, [], ◌∷◌, Option, Result, Ok, Err}
 use Rattle.std.specs.Io.KnownBytes.{Appends, Consumes, IsAtEnd}
-use Rattle.kd_enigma.specs.Cipher.{RotorKey}
+use Rattle.kd_state.specs.TwoCiphers.{EngineKey}
 use Rattle.kd_tables.specs.declared.writing.Device.{Device}
 use Rattle.kd_desk.specs.Ports.{Port, FailsAlone}
 use Rattle.kd_desk.specs.Typing.{AreAllowedBytes, IsFirstRefused, Lights, TypesPart, cipher_text}
@@ -10,7 +10,7 @@ use Rattle.kd_desk.specs.declared.typing.step.Step.TheVariants.{Ended, Typed, Re
 
 -- What a step of the typing did with the bytes that it read: there were none; all were allowed, and typed; those before
 -- the first that is not allowed were typed; or a device failed, and where it was the source, there were none.
-abbrev pub StepTypes : RotorKey → RotorKey → Port → Port → List ℕ → List ℕ → Result Step Device → Type 0
+abbrev pub StepTypes : EngineKey → EngineKey → Port → Port → List ℕ → List ℕ → Result Step Device → Type 0
 StepTypes key left source sink bytes text (Ok Ended) = (bytes ≡ []) × (text ≡ [])
 StepTypes key left source sink bytes text (Ok (Typed count)) = (count ≡ length bytes) × (0 < count) × AreAllowedBytes bytes × Lights key left bytes text
 StepTypes key left source sink bytes text (Ok (Refused front)) = IsFirstRefused bytes (front + 1) × (text ≡ cipher_text key (take front bytes))
@@ -18,7 +18,7 @@ StepTypes key left source sink bytes text (Err _) = (FailsAlone source sink × (
 
 -- The same of the bytes that a source had and has yet to give, and that a sink had taken and has taken: a source that
 -- gave none has none left.
-pub record StepTyped (key left : RotorKey) (room : ℕ) (source sink : Port) (answer : Result Step Device) : Type 0 where
+pub record StepTyped (key left : EngineKey) (room : ℕ) (source sink : Port) (answer : Result Step Device) : Type 0 where
   pub read : List ℕ
   pub text : List ℕ
   pub within : length read ≤ room

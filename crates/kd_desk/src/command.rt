@@ -1,4 +1,4 @@
-ghost use Rattle.std.specs.Prelude.{◌≡◌, ◌≢◌, ◌≤◌, ℕ, false, map, decimal, Err, IfSome, IfOk, IfErr};
+ghost use Rattle.std.specs.Prelude.{◌≡◌, ◌≢◌, false, codes, map, Err, IfSome, IfOk, IfErr};
 ghost use Rattle.clap.specs.Words.{app_of, found_of, kind_of, rows_of, rule_of};
 ghost use Rattle.kd_desk.specs.CommandLine.{word_named, desk_grammar, IsOf, Says};
 
@@ -6,11 +6,10 @@ ghost use Rattle.kd_desk.specs.CommandLine.{word_named, desk_grammar, IsOf, Says
 mod tests;
 
 use crate::fault::DeskFault;
-use crate::sheet::SheetFault;
 use crate::stop::Stop;
 use clap::error::ErrorKind;
 use clap::{Arg, ArgMatches, Command as Grammar, Error};
-use itoa::Buffer;
+use kd_sheet::SheetFault;
 use std::alloc::{AllocError, Global};
 use std::convert::AsStr;
 
@@ -21,12 +20,10 @@ pub enum Command<'a> {
     Type {
         machine: &'a str,
     },
-    /// Prints the card that leads the machine of the first file to a day of the sheet of the second.
-    Card {
+    /// Carries the settings of the second file out on the machine of the first, and prints the machine's file.
+    Apply {
         machine: &'a str,
-        sheet: &'a str,
-        /// The day's number, from 1 to 31.
-        day: u8,
+        list: &'a str,
     },
 }
 
@@ -49,38 +46,35 @@ pub fn parse_words<'a, S: AsStr>(alloc: Global, words: &'a [S]) -> Result<Comman
     command_of(name, words).ok_or(Stop::Usage)
 }
 
-/// The command of this name with these words, if the day among them is one.
+/// The command of this name with these words.
 fn command_of<'a>(name: &str, words: &ArgMatches<'a>) -> Option<Command<'a>>
     ensures said { IfSome result (IsOf (name.now, rows_of (found_of words.now))) }
     ensures none { result ≡ None → (command : Command) → IsOf (name.now, rows_of (found_of words.now)) command → ⊥ }
 {
-    let machine = words.get_str("MACHINE")?;
     match name {
-        "type" => Some(Command::Type { machine }),
-        "card" => {
-            let sheet = words.get_str("SHEET")?;
-            let day = day_number(words.get_str("DAY")?)?;
-            Some(Command::Card {
-                machine,
-                sheet,
-                day,
-            })
-        }
+        "type" => type_of(words),
+        "apply" => apply_of(words),
         _ => None,
     }
 }
 
-/// The day that a word names: a decimal number from 1 to 31, without sign or leading zero.
-fn day_number(word: &str) -> Option<u8>
-    ensures day { IfSome result (λ day. (word.now ≡ decimal day) × (1 ≤ day) × (day ≤ 31)) }
-    ensures none { result ≡ None → (day : ℕ) → 1 ≤ day → day ≤ 31 → word.now ≢ decimal day }
+/// The typing that these words say.
+fn type_of<'a>(words: &ArgMatches<'a>) -> Option<Command<'a>>
+    ensures said { IfSome result (IsOf (codes "type", rows_of (found_of words.now))) }
+    ensures none { result ≡ None → (command : Command) → IsOf (codes "type", rows_of (found_of words.now)) command → ⊥ }
 {
-    for day in 1..=31 {
-        if Buffer::new().format(day) == word {
-            return Some(day);
-        }
-    }
-    None
+    let machine = words.get_str("MACHINE")?;
+    Some(Command::Type { machine })
+}
+
+/// The carrying out of settings that these words say.
+fn apply_of<'a>(words: &ArgMatches<'a>) -> Option<Command<'a>>
+    ensures said { IfSome result (IsOf (codes "apply", rows_of (found_of words.now))) }
+    ensures none { result ≡ None → (command : Command) → IsOf (codes "apply", rows_of (found_of words.now)) command → ⊥ }
+{
+    let machine = words.get_str("MACHINE")?;
+    let list = words.get_str("LIST")?;
+    Some(Command::Apply { machine, list })
 }
 
 /// What may stand on the command line: no options and no help.
@@ -90,16 +84,15 @@ fn grammar<'a>(alloc: Global) -> Result<Grammar<'a>, AllocError>
     let type_words = Grammar::new(alloc, "type")
         .disable_help_flag(true)
         .arg(word(alloc, "MACHINE"))?;
-    let card_words = Grammar::new(alloc, "card")
+    let apply_words = Grammar::new(alloc, "apply")
         .disable_help_flag(true)
         .arg(word(alloc, "MACHINE"))?
-        .arg(word(alloc, "SHEET"))?
-        .arg(word(alloc, "DAY"))?;
+        .arg(word(alloc, "LIST"))?;
     Grammar::new(alloc, "desk")
         .disable_help_flag(true)
         .disable_help_subcommand(true)
         .subcommand(type_words)?
-        .subcommand(card_words)
+        .subcommand(apply_words)
 }
 
 /// A word that has to be there.

@@ -1,15 +1,15 @@
 //! The program, from its words to its bytes.
 ghost use Rattle.std.specs.Prelude.{◌≡◌, ◌≢◌, ◌⊎◌, ◌||◌, map, Err, IfSome, IsTrue};
 ghost use Rattle.kd_desk.specs.CommandLine.{Says};
-ghost use Rattle.kd_desk.specs.Desk.{CarriesOut, LacksMemory, run_of, typing_of, card_of, is_stopped_before, is_stopped_by_port};
-ghost use Rattle.kd_desk.specs.Ports.{Fail, IsWell, Port, port};
+ghost use Rattle.kd_desk.specs.Desk.{CarriesOut, IsLeftAlone, LacksMemory, run_of, typing_of, applying_of, is_stopped_before, is_stopped_by_port};
+ghost use Rattle.kd_desk.specs.Ports.{Fail, Port, port};
 
 #[cfg(test)]
 mod tests;
 
 use crate::command::{Command, parse_words};
 use crate::files::Files;
-use crate::run_card::run_card;
+use crate::run_apply::run_apply;
 use crate::run_type::run_type;
 use crate::stop::Stop;
 use kd_tables::{Sink, Source};
@@ -58,11 +58,7 @@ fn carry_out<F: Files, R: Source, W: Sink>(
 {
     match command {
         Command::Type { machine } => type_on(alloc, machine, files, source, sink),
-        Command::Card {
-            machine,
-            sheet,
-            day,
-        } => write_card_of(alloc, machine, sheet, day, files, sink),
+        Command::Apply { machine, list } => apply_on(alloc, machine, list, files, sink),
     }
 }
 
@@ -86,23 +82,22 @@ fn type_on<F: Files, R: Source, W: Sink>(
     Ok(())
 }
 
-/// Writes the card that leads the machine of a file to the day of a sheet, without a look at the source.
-fn write_card_of<F: Files, W: Sink>(
+/// Carries the settings of a second file out on the machine of a file, without a look at the source.
+fn apply_on<F: Files, W: Sink>(
     alloc: Global,
     machine: &str,
-    sheet: &str,
-    day: u8,
+    list: &str,
     files: &F,
     sink: &mut W,
 ) -> Result<(), Stop>
-    ensures carried { IfSome (F.known files.now) (λ held. (source : Port) → (source.has ≡ source.had) → IsWell source
-        → CarriesOut (card_of (held machine.now) (held sheet.now) day) source (port W.taken W.has_failed sink.old sink.new) result) }
+    ensures carried { IfSome (F.known files.now) (λ held. (source : Port) → IsLeftAlone source
+        → CarriesOut (applying_of (held machine.now) (held list.now)) source (port W.taken W.has_failed sink.old sink.new) result) }
     ensures begun { result ≢ Err Stop.Usage }
     ensures untouched { IsTrue (is_stopped_before result) → sink.new ≡ sink.old }
     ensures failed { W.has_failed sink.new ≡ (W.has_failed sink.old || is_stopped_by_port result) }
 {
     let machine = files.read(alloc, machine)?;
-    let sheet = files.read(alloc, sheet)?;
-    run_card(alloc, machine.as_slice(), sheet.as_slice(), day, sink)?;
+    let list = files.read(alloc, list)?;
+    run_apply(alloc, machine.as_slice(), list.as_slice(), sink)?;
     Ok(())
 }

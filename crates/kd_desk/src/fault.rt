@@ -2,10 +2,10 @@
 mod tests;
 
 use crate::files::FileFault;
-use crate::plan::OtherModel;
-use crate::sheet::SheetFault;
-use crate::state::NotReady;
 use crate::typing::TextFault;
+use kd_card::{CardFault, IllegalAt};
+use kd_sheet::SheetFault;
+use kd_state::{ListFault, NotReady};
 use kd_tables::Device;
 use std::alloc::AllocError;
 use thiserror::Error;
@@ -17,11 +17,20 @@ pub enum DeskFault {
     /// A fault of a machine file or of a key sheet, or want of memory.
     #[error(transparent)]
     File(SheetFault),
-    /// A slot of the machine is empty.
+    /// Bytes that are no list of settings.
+    #[error(transparent)]
+    List(ListFault),
+    /// Bytes that are no card.
+    #[error(transparent)]
+    Card(CardFault),
+    /// A line of a list or of a card that the machine refuses in its turn.
+    #[error(transparent)]
+    Illegal(IllegalAt),
+    /// A slot of the machine is empty, or a cable has one letter.
     #[error("{}", NotReady)]
     NotReady,
     /// The machine and the sheet's day are of different models.
-    #[error("{}", OtherModel)]
+    #[error("5 OtherModel")]
     OtherModel,
     /// A read or a write failed.
     #[error("{}", Device)]
@@ -51,12 +60,45 @@ impl From<SheetFault> for DeskFault {
 impl From<AllocError> for DeskFault {
     ghost use Rattle.std.specs.Prelude.{◌≡◌};
     ghost use Rattle.kd_desk.specs.declared.fault.DeskFault.TheVariants as faults;
-    ghost use Rattle.kd_desk.specs.declared.sheet.fault.SheetFault.TheVariants.{NoMemory};
+    ghost use Rattle.kd_sheet.specs.declared.fault.SheetFault.TheVariants.{NoMemory};
 
     ghost from_gives = { λ _ desk. desk ≡ faults.File NoMemory };
 
     fn from(_: AllocError) -> DeskFault {
         DeskFault::File(SheetFault::NoMemory)
+    }
+}
+
+impl From<ListFault> for DeskFault {
+    ghost use Rattle.std.specs.Prelude.{◌≡◌};
+    ghost use Rattle.kd_desk.specs.declared.fault.DeskFault.TheVariants as faults;
+
+    ghost from_gives = { λ fault desk. desk ≡ faults.List fault };
+
+    fn from(fault: ListFault) -> DeskFault {
+        DeskFault::List(fault)
+    }
+}
+
+impl From<CardFault> for DeskFault {
+    ghost use Rattle.std.specs.Prelude.{◌≡◌};
+    ghost use Rattle.kd_desk.specs.declared.fault.DeskFault.TheVariants as faults;
+
+    ghost from_gives = { λ fault desk. desk ≡ faults.Card fault };
+
+    fn from(fault: CardFault) -> DeskFault {
+        DeskFault::Card(fault)
+    }
+}
+
+impl From<IllegalAt> for DeskFault {
+    ghost use Rattle.std.specs.Prelude.{◌≡◌};
+    ghost use Rattle.kd_desk.specs.declared.fault.DeskFault.TheVariants as faults;
+
+    ghost from_gives = { λ fault desk. desk ≡ faults.Illegal fault };
+
+    fn from(fault: IllegalAt) -> DeskFault {
+        DeskFault::Illegal(fault)
     }
 }
 
@@ -68,17 +110,6 @@ impl From<NotReady> for DeskFault {
 
     fn from(_: NotReady) -> DeskFault {
         DeskFault::NotReady
-    }
-}
-
-impl From<OtherModel> for DeskFault {
-    ghost use Rattle.std.specs.Prelude.{◌≡◌};
-    ghost use Rattle.kd_desk.specs.declared.fault.DeskFault.TheVariants as faults;
-
-    ghost from_gives = { λ _ desk. desk ≡ faults.OtherModel };
-
-    fn from(_: OtherModel) -> DeskFault {
-        DeskFault::OtherModel
     }
 }
 

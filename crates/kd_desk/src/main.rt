@@ -1,26 +1,19 @@
-//! The key desk: types texts on the rotor machine that a machine file describes, and prints the shortest card that leads
-//! it to a day of a key sheet.
+//! The key desk: types texts on the machine that a machine file describes, and carries settings out on it.
 #![tactic(auto)]
 
-mod card;
 mod command;
 mod desk;
 mod fault;
 mod files;
-mod laws;
 mod limit;
-mod plan;
 mod ports;
-mod run_card;
+mod run_apply;
 mod run_type;
 #[cfg(test)]
 mod samples;
-mod sheet;
-mod state;
+mod settings;
 mod stop;
-mod text;
 mod typing;
-mod writing;
 
 use desk::run_desk;
 use files::HostFiles;

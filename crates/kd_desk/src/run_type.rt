@@ -1,7 +1,7 @@
 ghost use Rattle.std.specs.Prelude.{◌≡◌, ◌⊎◌, IfOk, IfErr, IsTrue};
 ghost use Rattle.kd_desk.specs.declared.fault.DeskFault.TheVariants as faults;
-ghost use Rattle.kd_desk.specs.MachineFile.{machine_of};
-ghost use Rattle.kd_desk.specs.TwoCiphers.{IsReady, physical_key};
+ghost use Rattle.kd_sheet.specs.MachineFile.{machine_of};
+ghost use Rattle.kd_state.specs.TwoCiphers.{IsReady, physical_key};
 ghost use Rattle.kd_desk.specs.Ports.{Fail, port};
 ghost use Rattle.kd_desk.specs.Typing.{TypesLine};
 ghost use Rattle.kd_desk.specs.RunSteps.{RanOut, AnswersFault, is_device, is_refused_before};
@@ -10,9 +10,8 @@ ghost use Rattle.kd_desk.specs.RunSteps.{RanOut, AnswersFault, is_device, is_ref
 mod tests;
 
 use crate::fault::DeskFault;
-use crate::sheet::read_machine;
-use crate::state::engine;
 use crate::typing::type_line;
+use kd_sheet::read_machine;
 use kd_tables::{Sink, Source};
 use std::alloc::Global;
 
@@ -20,8 +19,8 @@ use std::alloc::Global;
 /// capital letters, and a line feed.
 ///
 /// The text has capital letters; spaces, carriage returns and line feeds between them are passed over. The machine file's
-/// faults come first, then an empty slot, and nothing is read or written where the call is refused for these. Then the
-/// text is read to its end, a piece at a time: the call is refused at the first byte that is not allowed, and where more
+/// faults come first, then a machine that isn't ready, and nothing is read or written where the call is refused for these.
+/// Then the text is read to its end, a piece at a time: the call is refused at the first byte that is not allowed, and where more
 /// than 1,048,576 bytes come, and has then written the lamps of the letters before, without the line feed. So it has where
 /// a read fails; where a write fails, it has written a front of what it was to write.
 pub fn run_type<R: Source, W: Sink>(
@@ -39,7 +38,7 @@ pub fn run_type<R: Source, W: Sink>(
         (port W.taken W.has_failed sink.old sink.new) (is_device result) }
 {
     let machine = read_machine(alloc, machine)?;
-    let mut enigma = engine(&machine)?;
-    type_line(&mut enigma, source, sink)?;
+    let mut engine = machine.engine()?;
+    type_line(&mut engine, source, sink)?;
     Ok(())
 }

@@ -1,6 +1,6 @@
 //! The files that tests begin from.
 
-/// A machine file.
+/// An Enigma I with reflector B, the wheels I, II and III in the slots, and all rings and letters A.
 pub const MACHINE: &str = "version = 1
 model = \"Enigma I\"
 reflector = \"B\"
@@ -9,13 +9,86 @@ rings = \"AAAAA\"
 letters = \"AAAAA\"
 ";
 
-/// A key sheet of one day.
-pub const SHEET: &str = "[[day]]
-day = 11
+/// The same machine as it is written.
+pub const WRITTEN: &str = "version = 1
 model = \"Enigma I\"
 reflector = \"B\"
-wheels = [\"I\", \"II\", \"III\"]
-rings = \"AAA\"
-window = \"AAA\"
-plugs = []
+slots = [\"I\", \"II\", \"III\"]
+rings = \"AAAAA\"
+letters = \"AAAAA\"
+cables = [\"\", \"\", \"\", \"\", \"\", \"\", \"\", \"\", \"\", \"\", \"\", \"\", \"\"]
+";
+
+/// An M3 with the same wheels and reflector.
+pub const M3: &str = "version = 1
+model = \"M3\"
+reflector = \"B\"
+slots = [\"I\", \"II\", \"III\"]
+rings = \"AAAAAAAA\"
+letters = \"AAAAAAAA\"
+";
+
+/// An Enigma I with rings and ten cables.
+pub const TEN_CABLES: &str = "version = 1
+model = \"Enigma I\"
+reflector = \"B\"
+slots = [\"II\", \"IV\", \"V\"]
+rings = \"ABAUL\"
+letters = \"ABALA\"
+cables = [\"AV\", \"BS\", \"CG\", \"DL\", \"FU\", \"HZ\", \"IN\", \"KM\", \"OW\", \"RX\"]
+";
+
+/// An M4 with rings and ten cables.
+pub const M4: &str = "version = 2
+model = \"M4\"
+reflector = \"b\"
+slots = [\"Beta\", \"II\", \"IV\", \"I\"]
+rings = \"VAAAAAAAAA\"
+letters = \"AJANAAAAVA\"
+cables = [\"AT\", \"BL\", \"DF\", \"GJ\", \"HM\", \"NW\", \"OP\", \"QY\", \"RZ\", \"VX\"]
+";
+
+/// An M4 with all rings and letters A, and no cables: its thin reflector b with Beta at A acts as B.
+pub const M4_AS_ENIGMA: &str = "version = 2
+model = \"M4\"
+reflector = \"b\"
+slots = [\"Beta\", \"I\", \"II\", \"III\"]
+rings = \"AAAAAAAAAA\"
+letters = \"AAAAAAAAAA\"
+";
+
+/// A Converter M-209 whose first bar is met by both of its lugs.
+pub const MET_TWICE: &str = "version = 1
+model = \"M-209\"
+letters = \"AAAAAA\"
+pins = [\"P\", \"O\", \"\", \"\", \"\", \"\"]
+bars = [
+    \"1-2\", \"0L-0R\", \"0L-0R\", \"0L-0R\", \"0L-0R\", \"0L-0R\", \"0L-0R\", \"0L-0R\", \"0L-0R\",
+    \"0L-0R\", \"0L-0R\", \"0L-0R\", \"0L-0R\", \"0L-0R\", \"0L-0R\", \"0L-0R\", \"0L-0R\", \"0L-0R\",
+    \"0L-0R\", \"0L-0R\", \"0L-0R\", \"0L-0R\", \"0L-0R\", \"0L-0R\", \"0L-0R\", \"0L-0R\", \"0L-0R\",
+]
+";
+
+/// A Converter M-209 all of whose bars are met by the first wheel.
+pub const ALL_MET: &str = "version = 1
+model = \"M-209\"
+letters = \"AAAAAA\"
+pins = [\"P\", \"\", \"\", \"\", \"\", \"\"]
+bars = [
+    \"1-0L\", \"1-0L\", \"1-0L\", \"1-0L\", \"1-0L\", \"1-0L\", \"1-0L\", \"1-0L\", \"1-0L\",
+    \"1-0L\", \"1-0L\", \"1-0L\", \"1-0L\", \"1-0L\", \"1-0L\", \"1-0L\", \"1-0L\", \"1-0L\",
+    \"1-0L\", \"1-0L\", \"1-0L\", \"1-0L\", \"1-0L\", \"1-0L\", \"1-0L\", \"1-0L\", \"1-0L\",
+]
+";
+
+/// A card that leads a machine with the cables AB and CD to the pairs BC and DE.
+pub const CARD: &str = "CARD 1 DAY 8
+PULL 1 A
+PULL 2 C
+PUT 1 C
+PUT 2 E
+SETTINGS 4
+CABLES 2 2 0 0 0 0 0 0 0 0 0 0 0
+PAIRS 0 0 0 0 0 0 0 0 0 0 0 0 0
+SUM 4
 ";

@@ -58,7 +58,7 @@ impl From<FileFault> for Stop {
 impl From<AllocError> for Stop {
     ghost use Rattle.std.specs.Prelude.{◌≡◌};
     ghost use Rattle.kd_desk.specs.declared.fault.DeskFault.TheVariants.{File};
-    ghost use Rattle.kd_desk.specs.declared.sheet.fault.SheetFault.TheVariants.{NoMemory};
+    ghost use Rattle.kd_sheet.specs.declared.fault.SheetFault.TheVariants.{NoMemory};
     ghost use Rattle.kd_desk.specs.declared.stop.Stop.TheVariants.{Refused};
 
     ghost from_gives = { λ _ stop. stop ≡ Refused (File NoMemory) };

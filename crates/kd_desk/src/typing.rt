@@ -10,33 +10,33 @@ mod step;
 
 use crate::limit::READ_LIMIT;
 pub use fault::TextFault;
-use kd_enigma::{Enigma, laws};
+use kd_state::{Engine, laws};
 use kd_tables::{Device, Sink, Source, put_all};
 use step::{Step, type_next};
 
 /// Types all that the source gives, and ends what it writes with a line feed.
 pub fn type_line<R: Source, W: Sink>(
-    enigma: &mut Enigma<3>,
+    engine: &mut Engine,
     source: &mut R,
     sink: &mut W,
 ) -> Result<(), TextFault>
-    ensures typed { IsTyped enigma.old (10 ∷ []) (port R.remaining R.has_failed source.old source.new)
+    ensures typed { IsTyped engine.old (10 ∷ []) (port R.remaining R.has_failed source.old source.new)
         (port W.taken W.has_failed sink.old sink.new) result }
     ensures failed { Fail (port R.remaining R.has_failed source.old source.new)
         (port W.taken W.has_failed sink.old sink.new) (fails_in_text result) }
 {
-    type_text(enigma, source, sink)?;
+    type_text(engine, source, sink)?;
     put_all(sink, b"\n")?;
     Ok(())
 }
 
 /// Types all that the source gives, up to the first byte that is not allowed.
 fn type_text<R: Source, W: Sink>(
-    enigma: &mut Enigma<3>,
+    engine: &mut Engine,
     source: &mut R,
     sink: &mut W,
 ) -> Result<(), TextFault>
-    ensures typed { IsTyped enigma.old [] (port R.remaining R.has_failed source.old source.new)
+    ensures typed { IsTyped engine.old [] (port R.remaining R.has_failed source.old source.new)
         (port W.taken W.has_failed sink.old sink.new) result }
     ensures failed { Fail (port R.remaining R.has_failed source.old source.new)
         (port W.taken W.has_failed sink.old sink.new) (fails_in_text result) }
@@ -44,7 +44,7 @@ fn type_text<R: Source, W: Sink>(
     laws::pieces_are_enciphered_in_turn();
     let mut read = 0;
     while read < READ_LIMIT {
-        match type_next(enigma, source, sink, READ_LIMIT - read)? {
+        match type_next(engine, source, sink, READ_LIMIT - read)? {
             Step::Ended => return Ok(()),
             Step::Typed(count) => read += count,
             Step::Refused(front) => return Err(TextFault::BadByte(read + front + 1)),

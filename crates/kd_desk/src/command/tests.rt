@@ -24,24 +24,17 @@ fn finds_the_machine_file(rt: HostRuntime) -> Result<(), Fail> {
 }
 
 #[test]
-fn finds_the_files_of_a_card(rt: HostRuntime) -> Result<(), Fail> {
-    for (word, day) in [("1", 1), ("9", 9), ("10", 10), ("31", 31)] {
-        let words = ["desk", "card", "m.toml", "s.toml", word];
-        let card = Command::Card {
-            machine: "m.toml",
-            sheet: "s.toml",
-            day,
-        };
-        assert_eq!(rt; parse_words(rt.alloc(), words.as_slice()), Ok(card));
-    }
-    Ok(())
-}
-
-#[test]
-fn refuses_other_days(rt: HostRuntime) -> Result<(), Fail> {
-    for word in ["", "0", "01", "+1", "32", "40", "100", "1 ", "x", "-1"] {
-        let words = ["desk", "card", "m.toml", "s.toml", word];
-        assert_eq!(rt; parse_words(rt.alloc(), words.as_slice()), Err(Stop::Usage));
+fn finds_the_machine_and_the_list(rt: HostRuntime) -> Result<(), Fail> {
+    for (words, [machine, list]) in [
+        (["desk", "apply", "m.toml", "l.txt"].as_slice(), ["m.toml", "l.txt"]),
+        (["desk", "apply", "apply", "-"].as_slice(), ["apply", "-"]),
+        (["desk", "apply", "--", "-m.toml", "-l.txt"].as_slice(), ["-m.toml", "-l.txt"]),
+        (["desk", "apply", "m.toml", "--", "-l.txt"].as_slice(), ["m.toml", "-l.txt"]),
+    ] {
+        assert_eq!(rt;
+            parse_words(rt.alloc(), words),
+            Ok(Command::Apply { machine, list })
+        );
     }
     Ok(())
 }
@@ -65,8 +58,10 @@ fn refuses_other_words(rt: HostRuntime) -> Result<(), Fail> {
         ["desk", "help"].as_slice(),
         ["desk", "Type", "m.toml"].as_slice(),
         ["desk", "typ", "m.toml"].as_slice(),
-        ["desk", "card", "m.toml", "s.toml"].as_slice(),
-        ["desk", "card", "m.toml", "s.toml", "1", "2"].as_slice(),
+        ["desk", "apply", "m.toml"].as_slice(),
+        ["desk", "apply", "m.toml", "l.txt", "more"].as_slice(),
+        ["desk", "apply", "-m.toml", "l.txt"].as_slice(),
+        ["desk", "apply", "m.toml", "-l.txt"].as_slice(),
         ["desk", "check", "m.toml", "s.toml", "1", "c.txt"].as_slice(),
     ] {
         assert_eq!(rt; parse_words(rt.alloc(), words), Err(Stop::Usage));

@@ -1,30 +1,25 @@
 use super::run_desk;
 use crate::fault::DeskFault;
 use crate::files::{FileFault, MemoryFiles};
-use crate::samples::{MACHINE, SHEET};
-use crate::sheet::SheetFault;
+use crate::samples::{MACHINE, WRITTEN};
 use crate::stop::Stop;
+use kd_card::IllegalAt;
+use kd_sheet::SheetFault;
+use kd_state::Why;
 use kd_tables::{MemorySink, MemorySource, Sink, Source};
 use std::test::Fail;
 
-/// The card of a machine that stands on the sheet's day already.
-const CARD: &str = "CARD 1 DAY 11
-SETTINGS 0
-CABLES 0 0 0 0 0 0 0 0 0 0 0 0 0
-PAIRS 0 0 0 0 0 0 0 0 0 0 0 0 0
-SUM 0
-";
-
 #[test]
 fn carries_each_command_out(rt: HostRuntime) -> Result<(), Fail> {
-    let files = [("s.toml", SHEET.as_bytes()), ("m.toml", MACHINE.as_bytes())];
+    let turned = WRITTEN.replace(rt.alloc(), "AAAAA", "BAAAA")?;
+    let files = [("l.txt", b"RING I B\nTURN 1 B\n".as_slice()), ("m.toml", MACHINE.as_bytes())];
     for (words, written) in [
         (["desk", "type", "m.toml"].as_slice(), "BDZGO\n"),
-        (["desk", "card", "m.toml", "s.toml", "11"].as_slice(), CARD),
+        (["desk", "apply", "m.toml", "l.txt"].as_slice(), turned.as_str()),
     ] {
         let files = MemoryFiles::new(&files);
         let mut source = MemorySource::new(b"AAAAA", 5, None);
-        let mut sink = MemorySink::<256>::new(256);
+        let mut sink = MemorySink::<512>::new(512);
         run_desk(rt.alloc(), words, &files, &mut source, &mut sink)?;
         assert_eq!(rt; sink.taken(), written.as_bytes());
     }
@@ -35,48 +30,25 @@ fn carries_each_command_out(rt: HostRuntime) -> Result<(), Fail> {
 fn stops_before_it_reads_or_writes(rt: HostRuntime) -> Result<(), Fail> {
     let long = vec![in rt.alloc(); b' '; 1_048_577]?;
     let files = [
-        ("s.toml", SHEET.as_bytes()),
+        ("l.txt", b"TURN 4 B\n".as_slice()),
         ("m.toml", MACHINE.as_bytes()),
         ("long.toml", long.as_slice()),
-        ("bad.toml", b"=".as_slice()),
+        ("bad.toml", b"x =".as_slice()),
     ];
     let bad = Stop::Refused(DeskFault::File(SheetFault::NotToml));
+    let line = IllegalAt { line: 1, why: Why::SlotEmpty };
     for (words, stop) in [
         (["desk"].as_slice(), Stop::Usage),
-        (
-            ["desk", "apply", "m.toml", "s.toml"].as_slice(),
-            Stop::Usage,
-        ),
-        (
-            ["desk", "card", "none.toml", "s.toml", "32"].as_slice(),
-            Stop::Usage,
-        ),
-        (
-            ["desk", "type", "none.toml"].as_slice(),
-            Stop::Unread(FileFault::Device),
-        ),
-        (
-            ["desk", "type", "long.toml"].as_slice(),
-            Stop::Unread(FileFault::ReadTooLong),
-        ),
+        (["desk", "apply", "none.toml"].as_slice(), Stop::Usage),
+        (["desk", "send", "none.toml", "l.txt"].as_slice(), Stop::Usage),
+        (["desk", "type", "none.toml"].as_slice(), Stop::Unread(FileFault::Device)),
+        (["desk", "type", "long.toml"].as_slice(), Stop::Unread(FileFault::ReadTooLong)),
         (["desk", "type", "bad.toml"].as_slice(), bad),
-        (
-            ["desk", "card", "none.toml", "long.toml", "11"].as_slice(),
-            Stop::Unread(FileFault::Device),
-        ),
-        (
-            ["desk", "card", "m.toml", "none.toml", "11"].as_slice(),
-            Stop::Unread(FileFault::Device),
-        ),
-        (
-            ["desk", "card", "bad.toml", "long.toml", "11"].as_slice(),
-            Stop::Unread(FileFault::ReadTooLong),
-        ),
-        (["desk", "card", "bad.toml", "s.toml", "11"].as_slice(), bad),
-        (
-            ["desk", "card", "m.toml", "s.toml", "12"].as_slice(),
-            Stop::Refused(DeskFault::NoSuchDay),
-        ),
+        (["desk", "apply", "none.toml", "long.toml"].as_slice(), Stop::Unread(FileFault::Device)),
+        (["desk", "apply", "m.toml", "none.txt"].as_slice(), Stop::Unread(FileFault::Device)),
+        (["desk", "apply", "bad.toml", "long.toml"].as_slice(), Stop::Unread(FileFault::ReadTooLong)),
+        (["desk", "apply", "bad.toml", "l.txt"].as_slice(), bad),
+        (["desk", "apply", "m.toml", "l.txt"].as_slice(), Stop::Refused(DeskFault::Illegal(line))),
     ] {
         let mut source = MemorySource::new(b"a", 1, Some(0));
         let mut sink = MemorySink::<256>::new(0);

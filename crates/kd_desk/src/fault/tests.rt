@@ -1,13 +1,32 @@
 use super::DeskFault;
-use crate::sheet::SheetFault;
+use kd_card::{CardFault, IllegalAt};
+use kd_sheet::{Key, SheetFault};
+use kd_state::{ListFault, Why};
 use std::test::Fail;
 
 #[test]
 fn says_why_it_refuses(rt: HostRuntime) -> Result<(), Fail> {
     for (fault, text) in [
+        (DeskFault::File(SheetFault::LetterTwice), "1 LetterTwice"),
         (DeskFault::NotReady, "4 NotReady"),
         (DeskFault::OtherModel, "5 OtherModel"),
         (DeskFault::Device, "6 Device"),
+        (DeskFault::Card(CardFault::BadHead), "7 BadHead"),
+        (DeskFault::Card(CardFault::BadLine { line: 9 }), "8 BadLine 9"),
+        (DeskFault::List(ListFault::BadLine { line: 192 }), "8 BadLine 192"),
+        (DeskFault::Card(CardFault::TooMany), "9 TooMany"),
+        (DeskFault::List(ListFault::TooMany), "9 TooMany"),
+        (DeskFault::Card(CardFault::PriceMissing), "10 PriceMissing"),
+        (DeskFault::Card(CardFault::CountWrong), "11 CountWrong"),
+        (DeskFault::Card(CardFault::Trailing), "12 Trailing"),
+        (DeskFault::File(SheetFault::NotToml), "18 NotToml"),
+        (DeskFault::File(SheetFault::UnknownModel), "19 UnknownModel"),
+        (DeskFault::File(SheetFault::Missing(Key::Version)), "20 Missing version"),
+        (DeskFault::File(SheetFault::BadValue(Key::Letters)), "21 BadValue letters"),
+        (DeskFault::File(SheetFault::WheelTwice), "22 WheelTwice"),
+        (DeskFault::File(SheetFault::WheelNotAllowed), "23 WheelNotAllowed"),
+        (DeskFault::File(SheetFault::BadRow(4)), "24 BadRow 4"),
+        (DeskFault::File(SheetFault::DayTwice(31)), "25 DayTwice 31"),
         (DeskFault::File(SheetFault::NoMemory), "26 NoMemory"),
         (DeskFault::BadByte(3), "28 BadByte 3"),
         (DeskFault::ReadTooLong, "38 ReadTooLong"),
@@ -15,6 +34,29 @@ fn says_why_it_refuses(rt: HostRuntime) -> Result<(), Fail> {
     ] {
         let said = format!(in rt.alloc(); "{fault}")?;
         assert_eq!(rt; said.as_str(), text);
+    }
+    Ok(())
+}
+
+#[test]
+fn says_why_a_line_is_illegal(rt: HostRuntime) -> Result<(), Fail> {
+    for (why, name) in [
+        (Why::OtherModel, "OtherModel"),
+        (Why::NoSuchCable, "NoSuchCable"),
+        (Why::NotThere, "NotThere"),
+        (Why::NoLooseEnd, "NoLooseEnd"),
+        (Why::SocketTaken, "SocketTaken"),
+        (Why::WheelNotAllowed, "WheelNotAllowed"),
+        (Why::SlotEmpty, "SlotEmpty"),
+        (Why::NotOnWheel, "NotOnWheel"),
+        (Why::NoSuchBar, "NoSuchBar"),
+        (Why::PlaceTaken, "PlaceTaken"),
+        (Why::WouldPass, "WouldPass"),
+    ] {
+        let fault = DeskFault::Illegal(IllegalAt { line: 12, why });
+        let said = format!(in rt.alloc(); "{fault}")?;
+        let text = format!(in rt.alloc(); "13 IllegalAt 12 {name}")?;
+        assert_eq!(rt; said.as_str(), text.as_str());
     }
     Ok(())
 }

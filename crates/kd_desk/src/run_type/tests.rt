@@ -2,8 +2,8 @@ ghost use Rattle.std.specs.Prelude.{false};
 
 use super::run_type;
 use crate::fault::DeskFault;
-use crate::samples::MACHINE;
-use crate::sheet::SheetFault;
+use crate::samples::{ALL_MET, M3, M4, M4_AS_ENIGMA, MACHINE, MET_TWICE, TEN_CABLES};
+use kd_sheet::{Key, SheetFault};
 use kd_tables::{Failed, MemorySink, MemorySource, Sink, Source};
 use std::test::Fail;
 
@@ -27,12 +27,37 @@ fn types_the_first_letters(rt: HostRuntime) -> Result<(), Fail> {
 }
 
 #[test]
-fn turns_the_rings(rt: HostRuntime) -> Result<(), Fail> {
-    let machine = MACHINE.replace(rt.alloc(), "rings = \"AAAAA\"", "rings = \"BBBAA\"")?;
-    let mut source = MemorySource::new(b"AAAAA", 5, None);
-    let mut sink = MemorySink::<64>::new(64);
-    run_type(rt.alloc(), machine.as_bytes(), &mut source, &mut sink)?;
-    assert_eq!(rt; sink.taken(), "EWTYX\n".as_bytes());
+fn types_on_each_model(rt: HostRuntime) -> Result<(), Fail> {
+    for (machine, text, lamps) in [
+        (M3, "AAAAA", "BDZGO\n"),
+        (TEN_CABLES, "EDPUD", "AUFKL\n"),
+        (M4, "NCZWVUSX", "VONVONJL\n"),
+        (M4_AS_ENIGMA, "AAAAA", "BDZGO\n"),
+        (MET_TWICE, "A", "A\n"),
+        (ALL_MET, "AAAAA", "AZZZZ\n"),
+    ] {
+        let mut source = MemorySource::new(text.as_bytes(), 3, None);
+        let mut sink = MemorySink::<64>::new(64);
+        run_type(rt.alloc(), machine.as_bytes(), &mut source, &mut sink)?;
+        assert_eq!(rt; sink.taken(), lamps.as_bytes());
+    }
+    Ok(())
+}
+
+#[test]
+fn types_as_the_file_says(rt: HostRuntime) -> Result<(), Fail> {
+    for (machine, [old, new], text, lamps) in [
+        (MACHINE, ["rings = \"AAAAA\"", "rings = \"BBBAA\""], "AAAAA", "EWTYX\n"),
+        (MACHINE, ["version = 1", "version = 2"], "AAAAA", "BDZGO\n"),
+        (TEN_CABLES, ["ABALA", "AWAXC"], "KCH", "BLA\n"),
+        (TEN_CABLES, ["ABALA", "AWAXC"], "BLA", "KCH\n"),
+    ] {
+        let machine = machine.replace(rt.alloc(), old, new)?;
+        let mut source = MemorySource::new(text.as_bytes(), 5, None);
+        let mut sink = MemorySink::<64>::new(64);
+        run_type(rt.alloc(), machine.as_bytes(), &mut source, &mut sink)?;
+        assert_eq!(rt; sink.taken(), lamps.as_bytes());
+    }
     Ok(())
 }
 
@@ -58,14 +83,22 @@ fn refuses_the_first_byte_that_is_not_allowed(rt: HostRuntime) -> Result<(), Fai
 
 #[test]
 fn refuses_the_machine_before_the_text(rt: HostRuntime) -> Result<(), Fail> {
-    let empty = MACHINE.replace(rt.alloc(), "\"II\"", "\"\"")?;
-    for (machine, fault) in [
-        (empty.as_bytes(), DeskFault::NotReady),
-        (b"=", DeskFault::File(SheetFault::NotToml)),
+    for (machine, [old, new], fault) in [
+        (MACHINE, ["\"II\"", "\"\""], DeskFault::NotReady),
+        (TEN_CABLES, ["\"RX\"", "\"R\""], DeskFault::NotReady),
+        (MACHINE, ["1", ""], DeskFault::File(SheetFault::NotToml)),
+        (M4, ["version = 2", "version = 1"], DeskFault::File(SheetFault::UnknownModel)),
+        (MACHINE, ["letters", "letter"], DeskFault::File(SheetFault::Missing(Key::Letters))),
+        (MACHINE, ["\"B\"", "\"b\""], DeskFault::File(SheetFault::BadValue(Key::Reflector))),
+        (MACHINE, ["\"II\"", "\"I\""], DeskFault::File(SheetFault::WheelTwice)),
+        (MACHINE, ["\"III\"", "\"VI\""], DeskFault::File(SheetFault::WheelNotAllowed)),
+        (TEN_CABLES, ["\"BS\"", "\"AB\""], DeskFault::File(SheetFault::LetterTwice)),
+        (ALL_MET, ["\"1-0L\", \"1-0L\", \"1-0L\", \"1-0L\"", "\"1-0L\", \"1-0L\", \"1-0L\", \"4-4\""], DeskFault::File(SheetFault::BadRow(4))),
     ] {
+        let machine = machine.replacen(rt.alloc(), old, new, 1)?;
         let mut source = MemorySource::new(b"a", 7, Some(0));
         let mut sink = MemorySink::<64>::new(0);
-        let answer = run_type(rt.alloc(), machine, &mut source, &mut sink);
+        let answer = run_type(rt.alloc(), machine.as_bytes(), &mut source, &mut sink);
         assert_eq!(rt; answer, Err(fault));
         assert!(rt; !source.failed());
         assert!(rt; !sink.failed());

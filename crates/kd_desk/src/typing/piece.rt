@@ -1,8 +1,8 @@
-ghost use Rattle.std.specs.Prelude.{◌≡◌, ◌<◌, ◌≤◌, take, length, slice_index, IsFalse, [], ◌∷◌, option_to_list};
-ghost use Rattle.kd_desk.specs.Typing.{may_be_typed, AreAllowedBytes, Lights};
+ghost use Rattle.std.specs.Prelude.{◌≡◌, ◌<◌, ◌≤◌, take, length, slice_index, IsFalse, []};
+ghost use Rattle.kd_desk.specs.Typing.{may_be_typed, AreAllowedBytes, Lights, typed_letters};
 
 use arrayvec::ArrayVec;
-use kd_enigma::{Enigma, laws};
+use kd_state::Engine;
 use kd_tables::Letter;
 
 /// How many bytes are read at once, at most.
@@ -29,25 +29,30 @@ pub fn allowed_front(bytes: &[u8]) -> usize
     bytes.len()
 }
 
-/// Presses the key of a byte that is a letter, and answers the lamp that lights up, as a capital letter.
-fn light(enigma: &mut Enigma<3>, byte: u8) -> Option<u8>
-    ensures { Lights enigma.old enigma.new (byte ∷ []) (option_to_list result) }
+/// The letters among the bytes.
+fn letters_among(bytes: &[u8]) -> ArrayVec<Letter, PIECE>
+    requires { length bytes.now ≤ PIECE }
+    ensures { result.items ≡ typed_letters bytes.now }
 {
-    let letter = Letter::from_byte(byte)?;
-    Some(enigma.press(letter).byte())
+    let mut letters = ArrayVec::new();
+    for byte in bytes {
+        if let Some(letter) = Letter::from_byte(*byte) {
+            letters.push(letter);
+        }
+    }
+    letters
 }
 
 /// Presses the key of each letter among the bytes, and answers the lamps that light up, as capital letters.
-pub fn type_piece(enigma: &mut Enigma<3>, bytes: &[u8]) -> ArrayVec<u8, PIECE>
+pub fn type_piece(engine: &mut Engine, bytes: &[u8]) -> ArrayVec<u8, PIECE>
     requires { length bytes.now ≤ PIECE }
-    ensures { Lights enigma.old enigma.new bytes.now result.items }
+    ensures { Lights engine.old engine.new bytes.now result.items }
 {
-    laws::pieces_are_enciphered_in_turn();
+    let mut letters = letters_among(bytes);
+    engine.run(&mut letters);
     let mut lamps = ArrayVec::new();
-    for byte in bytes {
-        if let Some(lamp) = light(enigma, *byte) {
-            lamps.push(lamp);
-        }
+    for letter in &letters {
+        lamps.push(letter.byte());
     }
     lamps
 }

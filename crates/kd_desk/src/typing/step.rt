@@ -3,7 +3,7 @@ ghost use Rattle.kd_desk.specs.Ports.{Fail, port};
 ghost use Rattle.kd_desk.specs.TypingSteps.{StepTyped};
 
 use super::piece::{PIECE, allowed_front, type_piece};
-use kd_enigma::Enigma;
+use kd_state::Engine;
 use kd_tables::{Device, Sink, Source, put_all};
 
 /// What the next bytes of a text were.
@@ -19,31 +19,31 @@ pub enum Step {
 
 /// Reads the next bytes, as many as there is room for at most, and types those before the first that is not allowed.
 pub fn type_next<R: Source, W: Sink>(
-    enigma: &mut Enigma<3>,
+    engine: &mut Engine,
     source: &mut R,
     sink: &mut W,
     room: usize,
 ) -> Result<Step, Device>
     requires { 0 < room }
-    ensures typed { StepTyped enigma.old enigma.new room (port R.remaining R.has_failed source.old source.new)
+    ensures typed { StepTyped engine.old engine.new room (port R.remaining R.has_failed source.old source.new)
         (port W.taken W.has_failed sink.old sink.new) result }
     ensures failed { Fail (port R.remaining R.has_failed source.old source.new)
         (port W.taken W.has_failed sink.old sink.new) (is_err result) }
 {
     let mut buffer = [0; PIECE];
-    type_into(enigma, source, sink, &mut buffer[..room.min(PIECE)])
+    type_into(engine, source, sink, &mut buffer[..room.min(PIECE)])
 }
 
 /// The same, through a buffer that has the room.
 fn type_into<R: Source, W: Sink>(
-    enigma: &mut Enigma<3>,
+    engine: &mut Engine,
     source: &mut R,
     sink: &mut W,
     buffer: &mut [u8],
 ) -> Result<Step, Device>
     requires some { 0 < length buffer.now }
     requires most { length buffer.now ≤ PIECE }
-    ensures typed { StepTyped enigma.old enigma.new (length buffer.old) (port R.remaining R.has_failed source.old source.new)
+    ensures typed { StepTyped engine.old engine.new (length buffer.old) (port R.remaining R.has_failed source.old source.new)
         (port W.taken W.has_failed sink.old sink.new) result }
     ensures failed { Fail (port R.remaining R.has_failed source.old source.new)
         (port W.taken W.has_failed sink.old sink.new) (is_err result) }
@@ -56,7 +56,7 @@ fn type_into<R: Source, W: Sink>(
     }
     let bytes = &buffer[..count];
     let front = allowed_front(bytes);
-    let lamps = type_piece(enigma, &bytes[..front]);
+    let lamps = type_piece(engine, &bytes[..front]);
     put_all(sink, &lamps)?;
     if front < count {
         return Ok(Step::Refused(front));

@@ -1,5 +1,0 @@
-use Rattle.toml.proofs.Views.{table_get}
-use Rattle.kd_desk.proofs.sheet.document.find_at.Goals as goal
-
-pub returns : goal.returns
-returns c = rw (← c.name.ensures) (table_get c.get.result _ c.args.table.now.entries c.get.ensures.value)

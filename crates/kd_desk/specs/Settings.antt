@@ -1,0 +1,26 @@
+-- What bytes say as settings: a card's, where they begin as a card does, and else a list's.
+use Rattle.std.specs.Prelude.{codes, ◌≡◌, ℕ, List}
+use Rattle.std.specs.Io.{StartsWith}
+use Rattle.kd_state.specs.declared.setting.Setting.{Setting}
+use Rattle.kd_state.specs.declared.list.ListFault.{ListFault}
+use Rattle.kd_state.specs.Line.{IsList, IsListFault}
+use Rattle.kd_card.specs.declared.fault.CardFault.{CardFault}
+use Rattle.kd_card.specs.declared.prices.PriceParts.{PriceParts}
+use Rattle.kd_card.specs.CardText.{IsCard}
+use Rattle.kd_card.specs.CardFault.{IsCardFault}
+use Rattle.kd_desk.specs.declared.fault.DeskFault.{DeskFault}
+use Rattle.kd_desk.specs.declared.fault.DeskFault.TheVariants as faults
+
+-- the bytes begin as a card does
+abbrev pub BeginsAsCard : List ℕ → Type 0
+BeginsAsCard bytes = StartsWith bytes (codes "CARD ")
+
+-- the bytes are a card of these settings, whatever its day and its prices, or a list of them
+pub data AreSettings (bytes : List ℕ) (settings : List Setting) : Type 0 where
+  OfCard : BeginsAsCard bytes → (day : ℕ) (prices : PriceParts) → IsCard bytes day settings prices → AreSettings bytes settings
+  OfList : ¬ BeginsAsCard bytes → IsList bytes settings → AreSettings bytes settings
+
+-- the bytes begin as a card and have this fault of a card, or they don't and have this fault of a list
+pub data IsSettingsFault (bytes : List ℕ) (fault : DeskFault) : Type 0 where
+  InCard : BeginsAsCard bytes → (card : CardFault) → IsCardFault bytes card → fault ≡ faults.Card card → IsSettingsFault bytes fault
+  InList : ¬ BeginsAsCard bytes → (list : ListFault) → IsListFault bytes list → fault ≡ faults.List list → IsSettingsFault bytes fault
