@@ -92,3 +92,56 @@ CABLES 2 2 0 0 0 0 0 0 0 0 0 0 0
 PAIRS 0 0 0 0 0 0 0 0 0 0 0 0 0
 SUM 4
 ";
+
+/// A key sheet with the machine's own settings on day 11, pairs on day 8, a Converter M-209 on day 9, and an M4 on day 30.
+pub const SHEET: &str = "[[day]]
+day = 11
+model = \"Enigma I\"
+reflector = \"B\"
+wheels = [\"I\", \"II\", \"III\"]
+rings = \"AAA\"
+window = \"AAA\"
+plugs = []
+
+[[day]]
+day = 8
+model = \"Enigma I\"
+reflector = \"B\"
+wheels = [\"I\", \"II\", \"III\"]
+rings = \"AAA\"
+window = \"AAA\"
+plugs = [\"BC\", \"DE\"]
+
+[[day]]
+day = 9
+model = \"M-209\"
+rows = [
+    \"0-3\", \"3-6\", \"0-0\", \"0-0\", \"0-0\", \"0-0\", \"0-0\", \"0-0\", \"0-0\",
+    \"0-0\", \"0-0\", \"0-0\", \"0-0\", \"0-0\", \"0-0\", \"0-0\", \"0-0\", \"0-0\",
+    \"0-0\", \"0-0\", \"0-0\", \"0-0\", \"0-0\", \"0-0\", \"0-0\", \"0-0\", \"0-0\",
+]
+pins = [\"P\", \"O\", \"\", \"\", \"\", \"\"]
+window = \"AAAAAA\"
+list = \"QV\"
+
+[[day]]
+day = 30
+model = \"M4\"
+reflector = \"c\"
+wheels = [\"Gamma\", \"I\", \"II\", \"III\"]
+rings = \"AAAA\"
+window = \"AAAA\"
+plugs = []
+";
+
+/// A Converter M-209 whose first two bars have to change places, or one lug of the first has to move.
+pub const TWO_BARS: &str = "version = 1
+model = \"M-209\"
+letters = \"AAAAAA\"
+pins = [\"P\", \"O\", \"\", \"\", \"\", \"\"]
+bars = [
+    \"3-0R\", \"0L-3\", \"0L-0R\", \"0L-0R\", \"0L-0R\", \"0L-0R\", \"0L-0R\", \"0L-0R\", \"0L-0R\",
+    \"0L-0R\", \"0L-0R\", \"0L-0R\", \"0L-0R\", \"0L-0R\", \"0L-0R\", \"0L-0R\", \"0L-0R\", \"0L-0R\",
+    \"0L-0R\", \"0L-0R\", \"0L-0R\", \"0L-0R\", \"0L-0R\", \"0L-0R\", \"0L-0R\", \"0L-0R\", \"0L-0R\",
+]
+";

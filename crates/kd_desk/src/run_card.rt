@@ -1,0 +1,63 @@
+ghost use Rattle.std.specs.Prelude.{◌≡◌, ◌||◌, All, IsTrue};
+ghost use Rattle.kd_state.specs.Line.{IsInRange};
+ghost use Rattle.kd_desk.specs.OnDay.{OnDay};
+ghost use Rattle.kd_desk.specs.Ports.{port};
+ghost use Rattle.kd_desk.specs.RunCard.{Prints};
+ghost use Rattle.kd_desk.specs.RunSteps.{is_refused_before, is_device};
+
+#[cfg(test)]
+mod tests;
+
+use crate::fault::DeskFault;
+use kd_card::write_card;
+use kd_plan::plan;
+use kd_sheet::{read_machine, read_sheet};
+use kd_state::{Machine, Setting, SheetDay, is_in_range, laws};
+use kd_tables::Sink;
+use std::alloc::Global;
+
+/// Writes the shortest card that leads the machine of the machine file to the sheet's day of this number.
+///
+/// The machine file's faults come first, then the sheet's, then `NoSuchDay`, then `OtherModel`, and nothing is written
+/// where the call is refused for these. After `Device` a prefix of the card was written.
+pub fn run_card<W: Sink>(
+    alloc: Global,
+    machine: &[u8],
+    sheet: &[u8],
+    number: u8,
+    sink: &mut W,
+) -> Result<(), DeskFault>
+    ensures card { OnDay machine.now sheet.now number
+        (λ m s. Prints m s (port W.taken W.has_failed sink.old sink.new) result) result }
+    ensures untouched { IsTrue (is_refused_before result) → sink.new ≡ sink.old }
+    ensures failed { W.has_failed sink.new ≡ (W.has_failed sink.old || is_device result) }
+{
+    let machine = read_machine(alloc, machine)?;
+    let sheet = read_sheet(alloc, sheet)?;
+    let day = sheet.day(number).ok_or(DeskFault::NoSuchDay)?;
+    print_card(&machine, day, sink)
+}
+
+/// Writes the shortest card that leads the machine to the day.
+fn print_card<W: Sink>(machine: &Machine, day: &SheetDay, sink: &mut W) -> Result<(), DeskFault>
+    ensures prints { Prints machine.now day.now (port W.taken W.has_failed sink.old sink.new) result }
+    ensures untouched { IsTrue (is_refused_before result) → sink.new ≡ sink.old }
+    ensures failed { W.has_failed sink.new ≡ (W.has_failed sink.old || is_device result) }
+{
+    laws::settings_keep_machines();
+    laws::reading_as_the_day_is_its_cipher();
+    laws::equally_set_machines_decipher();
+    let card = plan(machine, day)?;
+    are_in_range(card.settings.as_slice());
+    write_card(sink, day.day(), &card)?;
+    Ok(())
+}
+
+/// What the type of settings says of them. It does nothing when the program runs.
+fn are_in_range(settings: &[Setting])
+    ensures { All IsInRange settings.now }
+{
+    for setting in settings {
+        is_in_range(setting);
+    }
+}
