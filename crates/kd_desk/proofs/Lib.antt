@@ -1,3 +1,4 @@
+pub mod Applying
 pub mod CommandLines
 pub mod Failing
 pub mod Fronts

@@ -1,9 +1,9 @@
 -- What was read and typed so far, and what a step makes of it.
 use Rattle.std.proofs.Common.{◌≡◌, ℕ, ◌+◌, ◌-◌, ◌≤◌, Bool, true, false, ◌||◌, inl, inr, List, [], ◌∷◌, ◌++◌, Option, Result, Ok, Err, IsErrAnd, length, take, slice_index, IsTrue, IsFalse, refl, sym, ap, subst, ◌∙◌, append_assoc, append-nil, arith}
 use Rattle.std.proofs.lemmas.List.{length-append, get_or-append-add}
-use Rattle.std.proofs.lemmas.List.Elements.{All-append}
+use Rattle.std.proofs.lemmas.List.Elements.{All-nil, All-append}
 use Rattle.std.proofs.Math.Seq.{take-append-add, take-append_seam}
-use Rattle.std.proofs.KnownBytes.{Consumes-trans, Appends-trans, starts_with_rest}
+use Rattle.std.proofs.KnownBytes.{Consumes-nil, Consumes-trans, Appends-nil, Appends-trans, starts_with_rest}
 use Rattle.std.proofs.Transfers.{starts_with_of_append}
 use Rattle.std.specs.Io.{StartsWith}
 use Rattle.std.specs.Io.KnownBytes.{Appends, Consumes}
@@ -15,10 +15,10 @@ use Rattle.kd_desk.specs.declared.typing.fault.TextFault.TheVariants as texts
 use Rattle.kd_tables.specs.declared.writing.Device.{Device}
 use Rattle.kd_tables.specs.Writing.{TakesFront}
 use Rattle.kd_desk.specs.Ports.{Port, IsWell}
-use Rattle.kd_desk.specs.Typing.{may_be_typed, AreAllowedBytes, IsFirstRefused, cipher_text, read_limit, Lights, TypesFront, IsTyped}
+use Rattle.kd_desk.specs.Typing.{may_be_typed, AreAllowedBytes, IsFirstRefused, cipher_text, read_limit, TypesFront, IsTyped}
 use Rattle.kd_desk.specs.TypingSteps.{StepTyped, Ends}
-use Rattle.kd_state.specs.Laws.{CipherInTurn, KeyInTurn}
-use Rattle.kd_desk.proofs.Lamps.{Lights-then}
+use Rattle.kd_state.specs.Laws.{CipherInTurn}
+use Rattle.kd_desk.proofs.Lamps.{cipher_text-nil, Lights-behind}
 use Rattle.kd_desk.proofs.Failing.{over, answered, failed_now}
 
 -- so many bytes were read and typed, and no port failed
@@ -30,7 +30,8 @@ pub record SoFar (key now : EngineKey) (source sink : Port) (count : ℕ) : Type
   pub given : Consumes source.had source.has read
   pub written : Appends sink.had sink.has text
   pub allowed : AreAllowedBytes read
-  pub lights : Lights key now read text
+  pub whole : text ≡ cipher_text key read
+  pub behind : (more : List ℕ) → cipher_text key (read ++ more) ≡ text ++ cipher_text now more
   pub well : IsWell source × IsWell sink
 
 StartsWith-behind : (read bytes front : List ℕ) → StartsWith bytes front → StartsWith (read ++ bytes) (read ++ front)
@@ -50,80 +51,94 @@ IsFirstRefused-behind read bytes n allowed refused =
           (subst (λ b. IsFalse (may_be_typed b)) (sym (get_or-append-add read bytes n 0)) (subst (λ k. IsFalse (may_be_typed (slice_index bytes k))) back refused.here));
     }
 
-module _ (cipher_in_turn : CipherInTurn) (key_in_turn : KeyInTurn) where
-  cipher_behind : (key now : EngineKey) (read text bytes : List ℕ) → Lights key now read text → cipher_text key (read ++ bytes) ≡ text ++ cipher_text now bytes
-  cipher_behind key now read text bytes lights =
-      sym (Lights-then cipher_in_turn key_in_turn key now _ read bytes text (cipher_text now bytes) lights (record { cipher = refl; after = refl })).cipher
+TypesFront-behind : (key now : EngineKey) (read text bytes lamps : List ℕ) → AreAllowedBytes read
+    → ((more : List ℕ) → cipher_text key (read ++ more) ≡ text ++ cipher_text now more) → TypesFront now bytes lamps → TypesFront key (read ++ bytes) (text ++ lamps)
+TypesFront-behind key now read text bytes lamps allowed behind types = record {
+  front = read ++ types.front;
+  of_read = StartsWith-behind read bytes types.front types.of_read;
+  allowed = All-append (λ (byte : ℕ). IsTrue (may_be_typed byte)) read types.front allowed types.allowed;
+  written = subst (λ l. StartsWith l (text ++ lamps)) (sym (behind types.front)) (StartsWith-behind text (cipher_text now types.front) lamps types.written);
+}
 
-  TypesFront-behind : (key now : EngineKey) (read text bytes lamps : List ℕ) → AreAllowedBytes read → Lights key now read text → TypesFront now bytes lamps → TypesFront key (read ++ bytes) (text ++ lamps)
-  TypesFront-behind key now read text bytes lamps allowed lights types = record {
-    front = read ++ types.front;
-    of_read = StartsWith-behind read bytes types.front types.of_read;
-    allowed = All-append (λ (byte : ℕ). IsTrue (may_be_typed byte)) read types.front allowed types.allowed;
-    written = subst (λ l. StartsWith l (text ++ lamps)) (sym (cipher_behind key now read text types.front lights))
-        (StartsWith-behind text (cipher_text now types.front) lamps types.written);
+-- nothing was read and typed yet
+pub SoFar-nil : (key : EngineKey) (had took : Option (List ℕ)) (a d : Bool) → SoFar key key (over had had a a) (over took took d d) 0
+SoFar-nil key had took a d = record {
+  read = [];
+  text = [];
+  counted = refl;
+  within = omega arith;
+  given = Consumes-nil had;
+  written = Appends-nil took;
+  allowed = All-nil (λ (byte : ℕ). IsTrue (may_be_typed byte));
+  whole = sym (cipher_text-nil key);
+  behind = λ more. refl;
+  well = (refl, refl);
+}
+
+-- A step behind what was read and typed, by what is known of the ports at the start, between and behind it.
+module _ (in_turn : CipherInTurn) (key now left : EngineKey) (had has next took taken wrote : Option (List ℕ)) (a b c d e f : Bool) (count room : ℕ)
+    (before : SoFar key now (over had has a b) (over took taken d e) count) (space : room ≡ read_limit - count) where
+  pub SoFar-typed : (n : ℕ) → StepTyped now left room (over has next b c) (over taken wrote e f) (Ok (Typed n)) → (c ≡ b) × (f ≡ e)
+      → SoFar key left (over had next a c) (over took wrote d f) (count + n)
+  SoFar-typed n step well = record {
+    read = before.read ++ step.read;
+    text = before.text ++ step.text;
+    counted = length-append before.read step.read ∙ omega (arith, before.counted, step.types.0);
+    within = omega (arith, before.within, step.within, step.types.0, space);
+    given = Consumes-trans had has next before.read step.read before.given step.given;
+    written = Appends-trans took taken wrote before.text step.text before.written step.written;
+    allowed = All-append (λ (byte : ℕ). IsTrue (may_be_typed byte)) before.read step.read before.allowed step.types.2;
+    whole = ap (λ l. before.text ++ l) step.types.3.cipher ∙ sym (before.behind step.read);
+    behind = λ more. ap (cipher_text key) (append_assoc before.read step.read more)
+        ∙ before.behind (step.read ++ more)
+        ∙ ap (λ l. before.text ++ l) (Lights-behind in_turn now left step.read step.text more step.types.3)
+        ∙ sym (append_assoc before.text step.text (cipher_text left more));
+    well = (well.0 ∙ before.well.0, well.1 ∙ before.well.1);
   }
 
-  -- A step behind what was read and typed, by what is known of the ports at the start, between and behind it.
-  module _ (key now left : EngineKey) (had has next took taken wrote : Option (List ℕ)) (a b c d e f : Bool) (count room : ℕ)
-      (before : SoFar key now (over had has a b) (over took taken d e) count) (space : room ≡ read_limit - count) where
-    pub SoFar-typed : (n : ℕ) → StepTyped now left room (over has next b c) (over taken wrote e f) (Ok (Typed n)) → (c ≡ b) × (f ≡ e)
-        → SoFar key left (over had next a c) (over took wrote d f) (count + n)
-    SoFar-typed n step well = record {
-      read = before.read ++ step.read;
-      text = before.text ++ step.text;
-      counted = length-append before.read step.read ∙ omega (arith, before.counted, step.types.0);
-      within = omega (arith, before.within, step.within, step.types.0, space);
-      given = Consumes-trans had has next before.read step.read before.given step.given;
-      written = Appends-trans took taken wrote before.text step.text before.written step.written;
-      allowed = All-append (λ (byte : ℕ). IsTrue (may_be_typed byte)) before.read step.read before.allowed step.types.2;
-      lights = Lights-then cipher_in_turn key_in_turn key now left before.read step.read before.text step.text before.lights step.types.3;
-      well = (well.0 ∙ before.well.0, well.1 ∙ before.well.1);
-    }
+  pub IsTyped-refused : (n : ℕ) → StepTyped now left room (over has next b c) (over taken wrote e f) (Ok (Refused n))
+      → IsTyped key [] (over had next a c) (over took wrote d f) (Err (texts.BadByte (count + n + 1)))
+  IsTyped-refused n step =
+      let refused = IsFirstRefused-behind before.read step.read n before.allowed step.types.0 in
+      let place : length before.read + n + 1 ≡ count + n + 1 = omega (arith, before.counted) in
+      let there : count + n + 1 - 1 ≡ length before.read + n = omega (arith, before.counted) in
+      record {
+        read = before.read ++ step.read;
+        text = before.text ++ step.text;
+        given = Consumes-trans had has next before.read step.read before.given step.given;
+        written = Appends-trans took taken wrote before.text step.text before.written step.written;
+        types = (
+          subst (IsFirstRefused (before.read ++ step.read)) place refused,
+          omega (arith, length-append before.read step.read, before.counted, before.within, step.within, space),
+          ap (λ l. before.text ++ l) step.types.1 ∙ sym (before.behind (take n step.read))
+              ∙ ap (cipher_text key) (sym (take-append-add before.read step.read n)) ∙ ap (λ k. cipher_text key (take k (before.read ++ step.read))) (sym there),
+        );
+        ended = tt;
+      }
 
-    pub IsTyped-refused : (n : ℕ) → StepTyped now left room (over has next b c) (over taken wrote e f) (Ok (Refused n))
-        → IsTyped key [] (over had next a c) (over took wrote d f) (Err (texts.BadByte (count + n + 1)))
-    IsTyped-refused n step =
-        let refused = IsFirstRefused-behind before.read step.read n before.allowed step.types.0 in
-        let place : length before.read + n + 1 ≡ count + n + 1 = omega (arith, before.counted) in
-        let there : count + n + 1 - 1 ≡ length before.read + n = omega (arith, before.counted) in
-        record {
-          read = before.read ++ step.read;
-          text = before.text ++ step.text;
-          given = Consumes-trans had has next before.read step.read before.given step.given;
-          written = Appends-trans took taken wrote before.text step.text before.written step.written;
-          types = (
-            subst (IsFirstRefused (before.read ++ step.read)) place refused,
-            omega (arith, length-append before.read step.read, before.counted, before.within, step.within, space),
-            ap (λ l. before.text ++ l) step.types.1 ∙ sym (cipher_behind key now before.read before.text (take n step.read) before.lights)
-                ∙ ap (cipher_text key) (sym (take-append-add before.read step.read n)) ∙ ap (λ k. cipher_text key (take k (before.read ++ step.read))) (sym there),
-          );
-          ended = tt;
-        }
-
-    pub IsTyped-failed : (device : Device) → StepTyped now left room (over has next b c) (over taken wrote e f) (Err device)
-        → IsTyped key [] (over had next a c) (over took wrote d f) (Err texts.Device)
-    IsTyped-failed device step = record {
-      read = before.read ++ step.read;
-      text = before.text ++ step.text;
-      given = Consumes-trans had has next before.read step.read before.given step.given;
-      written = Appends-trans took taken wrote before.text step.text before.written step.written;
-      types = (
-        omega (arith, length-append before.read step.read, before.counted, before.within, step.within, space),
-        elim step.types [
-          | inl none ↦ inl (record {
-            fails = record { failed = none.0.failed; well = none.0.well ∙ before.well.1 };
-            allowed = subst (λ l. AreAllowedBytes (before.read ++ l)) (sym none.1) (subst AreAllowedBytes (sym (append-nil before.read)) before.allowed);
-            written = ap (λ l. before.text ++ l) none.2 ∙ append-nil before.text ∙ before.lights.cipher ∙ ap (cipher_text key) (sym (append-nil before.read) ∙ ap (λ l. before.read ++ l) (sym none.1));
-          })
-          | inr part ↦ inr (record {
-            fails = record { failed = part.fails.failed; well = part.fails.well ∙ before.well.0 };
-            front = TypesFront-behind key now before.read before.text step.read step.text before.allowed before.lights part.front;
-          })
-        ],
-      );
-      ended = tt;
-    }
+  pub IsTyped-failed : (device : Device) → StepTyped now left room (over has next b c) (over taken wrote e f) (Err device)
+      → IsTyped key [] (over had next a c) (over took wrote d f) (Err texts.Device)
+  IsTyped-failed device step = record {
+    read = before.read ++ step.read;
+    text = before.text ++ step.text;
+    given = Consumes-trans had has next before.read step.read before.given step.given;
+    written = Appends-trans took taken wrote before.text step.text before.written step.written;
+    types = (
+      omega (arith, length-append before.read step.read, before.counted, before.within, step.within, space),
+      elim step.types [
+        | inl none ↦ inl (record {
+          fails = record { failed = none.0.failed; well = none.0.well ∙ before.well.1 };
+          allowed = subst (λ l. AreAllowedBytes (before.read ++ l)) (sym none.1) (subst AreAllowedBytes (sym (append-nil before.read)) before.allowed);
+          written = ap (λ l. before.text ++ l) none.2 ∙ append-nil before.text ∙ before.whole ∙ ap (cipher_text key) (sym (append-nil before.read) ∙ ap (λ l. before.read ++ l) (sym none.1));
+        })
+        | inr part ↦ inr (record {
+          fails = record { failed = part.fails.failed; well = part.fails.well ∙ before.well.0 };
+          front = TypesFront-behind key now before.read before.text step.read step.text before.allowed before.behind part.front;
+        })
+      ],
+    );
+    ended = tt;
+  }
 
 -- As much as may be read was read, and one byte more was asked for.
 module _ (key now : EngineKey) (had has next took taken : Option (List ℕ)) (a b c d e : Bool) (count : ℕ)
@@ -141,7 +156,7 @@ module _ (key now : EngineKey) (had has next took taken : Option (List ℕ)) (a 
         types = (
           omega (arith, length-append before.read (ends.0 ∷ []), before.counted, full),
           subst AreAllowedBytes (sym front) before.allowed,
-          before.lights.cipher ∙ ap (cipher_text key) (sym front),
+          before.whole ∙ ap (cipher_text key) (sym front),
         );
         ended = tt;
       }

@@ -1,6 +1,6 @@
 -- What bytes say as settings: a card's, where they begin as a card does, and else a list's.
-use Rattle.std.specs.Prelude.{codes, ◌≡◌, ℕ, List}
-use Rattle.std.specs.Io.{StartsWith}
+use Rattle.std.specs.Prelude.{codes, ◌≡◌, ℕ, nat_eq, Bool, List, IsTrue, IsFalse}
+use Rattle.std.specs.List.{starts_with}
 use Rattle.kd_state.specs.declared.setting.Setting.{Setting}
 use Rattle.kd_state.specs.declared.list.ListFault.{ListFault}
 use Rattle.kd_state.specs.Line.{IsList, IsListFault}
@@ -12,15 +12,15 @@ use Rattle.kd_desk.specs.declared.fault.DeskFault.{DeskFault}
 use Rattle.kd_desk.specs.declared.fault.DeskFault.TheVariants as faults
 
 -- the bytes begin as a card does
-abbrev pub BeginsAsCard : List ℕ → Type 0
-BeginsAsCard bytes = StartsWith bytes (codes "CARD ")
+abbrev pub begins_as_card : List ℕ → Bool
+begins_as_card bytes = starts_with nat_eq bytes (codes "CARD ")
 
 -- the bytes are a card of these settings, whatever its day and its prices, or a list of them
 pub data AreSettings (bytes : List ℕ) (settings : List Setting) : Type 0 where
-  OfCard : BeginsAsCard bytes → (day : ℕ) (prices : PriceParts) → IsCard bytes day settings prices → AreSettings bytes settings
-  OfList : ¬ BeginsAsCard bytes → IsList bytes settings → AreSettings bytes settings
+  OfCard : IsTrue (begins_as_card bytes) → (day : ℕ) (prices : PriceParts) → IsCard bytes day settings prices → AreSettings bytes settings
+  OfList : IsFalse (begins_as_card bytes) → IsList bytes settings → AreSettings bytes settings
 
 -- the bytes begin as a card and have this fault of a card, or they don't and have this fault of a list
 pub data IsSettingsFault (bytes : List ℕ) (fault : DeskFault) : Type 0 where
-  InCard : BeginsAsCard bytes → (card : CardFault) → IsCardFault bytes card → fault ≡ faults.Card card → IsSettingsFault bytes fault
-  InList : ¬ BeginsAsCard bytes → (list : ListFault) → IsListFault bytes list → fault ≡ faults.List list → IsSettingsFault bytes fault
+  InCard : IsTrue (begins_as_card bytes) → (card : CardFault) → IsCardFault bytes card → fault ≡ faults.Card card → IsSettingsFault bytes fault
+  InList : IsFalse (begins_as_card bytes) → (list : ListFault) → IsListFault bytes list → fault ≡ faults.List list → IsSettingsFault bytes fault

@@ -1,11 +1,12 @@
 -- What the desk types: the text that it reads, and what it writes.
-use Rattle.std.specs.Prelude.{◌≡◌, ℕ, ◌+◌, ◌-◌, ◌≤◌, ◌==◌, Bool, true, false, ◌||◌, ◌⊎◌, List, [], ◌∷◌, ◌++◌, length, take, map, filter, slice_index, All, IsTrue, IsFalse, Result, Ok, Err, OnOk}
+use Rattle.std.specs.Prelude.{◌≡◌, ℕ, ◌+◌, ◌-◌, ◌≤◌, ◌==◌, Bool, true, false, ◌||◌, ◌⊎◌, List, [], ◌∷◌, ◌++◌, length, take, filter, slice_index, All, IsTrue, IsFalse, Result, Ok, Err, OnOk}
 use Rattle.std.specs.Result.{result_map_both}
 use Rattle.std.specs.Io.{StartsWith}
 use Rattle.std.specs.Io.KnownBytes.{Appends, Consumes, IsAtEnd}
 use Rattle.kd_tables.specs.Tables.{letters_of}
 use Rattle.kd_state.specs.TwoCiphers.{EngineKey, cipher, key_left}
 use Rattle.kd_sheet.specs.Letters.{is_capital}
+use Rattle.kd_sheet.specs.MachineText.{letters_text}
 use Rattle.kd_desk.specs.Ports.{Port, FailsAlone}
 use Rattle.kd_desk.specs.declared.fault.DeskFault.{DeskFault}
 use Rattle.kd_desk.specs.declared.fault.DeskFault.TheVariants as faults
@@ -35,7 +36,7 @@ typed_letters bytes = letters_of (filter is_capital bytes)
 
 -- the cipher of the letters among the bytes, in capital letters
 abbrev pub cipher_text : EngineKey → List ℕ → List ℕ
-cipher_text key bytes = map (λ letter. letter + 65) (cipher key (typed_letters bytes))
+cipher_text key bytes = letters_text (cipher key (typed_letters bytes))
 
 -- The keys of the letters among the bytes were pressed: their cipher is what lit up, and the machine stepped as often.
 pub record Lights (key left : EngineKey) (bytes lamps : List ℕ) : Type 0 where

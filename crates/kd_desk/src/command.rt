@@ -17,14 +17,9 @@ use std::convert::AsStr;
 #[derive(Clone, Copy, Debug, PartialEq, Eq)]
 pub enum Command<'a> {
     /// Types the standard input on the machine of this file.
-    Type {
-        machine: &'a str,
-    },
+    Type { machine: &'a str },
     /// Carries the settings of the second file out on the machine of the first, and prints the machine's file.
-    Apply {
-        machine: &'a str,
-        list: &'a str,
-    },
+    Apply { machine: &'a str, list: &'a str },
 }
 
 /// The command of the program's words, the program's own name first.

@@ -4,7 +4,7 @@ ghost use Rattle.kd_desk.specs.Settings.{AreSettings, IsSettingsFault};
 
 use crate::fault::DeskFault;
 use arrayvec::ArrayVec;
-use kd_card::read_card;
+use kd_card::{Card, read_card};
 use kd_state::{Setting, read_list};
 
 /// How a card begins.
@@ -18,8 +18,11 @@ pub fn read_settings(bytes: &[u8]) -> Result<ArrayVec<Setting, 192>, DeskFault>
         (IsSettingsFault bytes.now) }
 {
     if bytes.starts_with(CARD) {
-        let (_, card) = read_card(bytes)?;
-        return Ok(card.settings);
+        match read_card(bytes) {
+            Ok((_, Card { settings, .. })) => Ok(settings),
+            Err(fault) => Err(DeskFault::Card(fault)),
+        }
+    } else {
+        read_list(bytes).map_err(DeskFault::List)
     }
-    Ok(read_list(bytes)?)
 }

@@ -26,10 +26,19 @@ fn finds_the_machine_file(rt: HostRuntime) -> Result<(), Fail> {
 #[test]
 fn finds_the_machine_and_the_list(rt: HostRuntime) -> Result<(), Fail> {
     for (words, [machine, list]) in [
-        (["desk", "apply", "m.toml", "l.txt"].as_slice(), ["m.toml", "l.txt"]),
+        (
+            ["desk", "apply", "m.toml", "l.txt"].as_slice(),
+            ["m.toml", "l.txt"],
+        ),
         (["desk", "apply", "apply", "-"].as_slice(), ["apply", "-"]),
-        (["desk", "apply", "--", "-m.toml", "-l.txt"].as_slice(), ["-m.toml", "-l.txt"]),
-        (["desk", "apply", "m.toml", "--", "-l.txt"].as_slice(), ["m.toml", "-l.txt"]),
+        (
+            ["desk", "apply", "--", "-m.toml", "-l.txt"].as_slice(),
+            ["-m.toml", "-l.txt"],
+        ),
+        (
+            ["desk", "apply", "m.toml", "--", "-l.txt"].as_slice(),
+            ["m.toml", "-l.txt"],
+        ),
     ] {
         assert_eq!(rt;
             parse_words(rt.alloc(), words),

@@ -12,10 +12,16 @@ use std::test::Fail;
 #[test]
 fn carries_each_command_out(rt: HostRuntime) -> Result<(), Fail> {
     let turned = WRITTEN.replace(rt.alloc(), "AAAAA", "BAAAA")?;
-    let files = [("l.txt", b"RING I B\nTURN 1 B\n".as_slice()), ("m.toml", MACHINE.as_bytes())];
+    let files = [
+        ("l.txt", b"RING I B\nTURN 1 B\n".as_slice()),
+        ("m.toml", MACHINE.as_bytes()),
+    ];
     for (words, written) in [
         (["desk", "type", "m.toml"].as_slice(), "BDZGO\n"),
-        (["desk", "apply", "m.toml", "l.txt"].as_slice(), turned.as_str()),
+        (
+            ["desk", "apply", "m.toml", "l.txt"].as_slice(),
+            turned.as_str(),
+        ),
     ] {
         let files = MemoryFiles::new(&files);
         let mut source = MemorySource::new(b"AAAAA", 5, None);
@@ -36,19 +42,43 @@ fn stops_before_it_reads_or_writes(rt: HostRuntime) -> Result<(), Fail> {
         ("bad.toml", b"x =".as_slice()),
     ];
     let bad = Stop::Refused(DeskFault::File(SheetFault::NotToml));
-    let line = IllegalAt { line: 1, why: Why::SlotEmpty };
+    let line = IllegalAt {
+        line: 1,
+        why: Why::SlotEmpty,
+    };
     for (words, stop) in [
         (["desk"].as_slice(), Stop::Usage),
         (["desk", "apply", "none.toml"].as_slice(), Stop::Usage),
-        (["desk", "send", "none.toml", "l.txt"].as_slice(), Stop::Usage),
-        (["desk", "type", "none.toml"].as_slice(), Stop::Unread(FileFault::Device)),
-        (["desk", "type", "long.toml"].as_slice(), Stop::Unread(FileFault::ReadTooLong)),
+        (
+            ["desk", "send", "none.toml", "l.txt"].as_slice(),
+            Stop::Usage,
+        ),
+        (
+            ["desk", "type", "none.toml"].as_slice(),
+            Stop::Unread(FileFault::Device),
+        ),
+        (
+            ["desk", "type", "long.toml"].as_slice(),
+            Stop::Unread(FileFault::ReadTooLong),
+        ),
         (["desk", "type", "bad.toml"].as_slice(), bad),
-        (["desk", "apply", "none.toml", "long.toml"].as_slice(), Stop::Unread(FileFault::Device)),
-        (["desk", "apply", "m.toml", "none.txt"].as_slice(), Stop::Unread(FileFault::Device)),
-        (["desk", "apply", "bad.toml", "long.toml"].as_slice(), Stop::Unread(FileFault::ReadTooLong)),
+        (
+            ["desk", "apply", "none.toml", "long.toml"].as_slice(),
+            Stop::Unread(FileFault::Device),
+        ),
+        (
+            ["desk", "apply", "m.toml", "none.txt"].as_slice(),
+            Stop::Unread(FileFault::Device),
+        ),
+        (
+            ["desk", "apply", "bad.toml", "long.toml"].as_slice(),
+            Stop::Unread(FileFault::ReadTooLong),
+        ),
         (["desk", "apply", "bad.toml", "l.txt"].as_slice(), bad),
-        (["desk", "apply", "m.toml", "l.txt"].as_slice(), Stop::Refused(DeskFault::Illegal(line))),
+        (
+            ["desk", "apply", "m.toml", "l.txt"].as_slice(),
+            Stop::Refused(DeskFault::Illegal(line)),
+        ),
     ] {
         let mut source = MemorySource::new(b"a", 1, Some(0));
         let mut sink = MemorySink::<256>::new(0);

@@ -12,6 +12,7 @@ const NO_CABLES: &str = "cables = [\"\", \"\", \"\"";
 
 /// The first ones of them once the card's settings are carried out, and before.
 const CARDS_CABLES: &str = "cables = [\"BC\", \"DE\", \"\"";
+
 const CABLES_BEFORE: &str = "cables = [\"AB\", \"CD\", \"\"";
 
 #[test]
@@ -55,14 +56,38 @@ fn refuses_the_first_fault_and_writes_nothing(rt: HostRuntime) -> Result<(), Fai
     let cut = CARD.replace(rt.alloc(), "SUM 4\n", "SUM")?;
     for (machine, list, fault) in [
         ("x =", "SEAT", DeskFault::File(SheetFault::NotToml)),
-        (MACHINE, "SEAT", DeskFault::List(ListFault::BadLine { line: 1 })),
-        (MACHINE, "TURN 4 B\nSEAT", DeskFault::List(ListFault::BadLine { line: 2 })),
-        (MACHINE, "CARD\n", DeskFault::List(ListFault::BadLine { line: 1 })),
-        (MACHINE, "CARD 2 DAY 8\n", DeskFault::Card(CardFault::BadHead)),
-        (MACHINE, cut.as_str(), DeskFault::Card(CardFault::BadLine { line: 9 })),
+        (
+            MACHINE,
+            "SEAT",
+            DeskFault::List(ListFault::BadLine { line: 1 }),
+        ),
+        (
+            MACHINE,
+            "TURN 4 B\nSEAT",
+            DeskFault::List(ListFault::BadLine { line: 2 }),
+        ),
+        (
+            MACHINE,
+            "CARD\n",
+            DeskFault::List(ListFault::BadLine { line: 1 }),
+        ),
+        (
+            MACHINE,
+            "CARD 2 DAY 8\n",
+            DeskFault::Card(CardFault::BadHead),
+        ),
+        (
+            MACHINE,
+            cut.as_str(),
+            DeskFault::Card(CardFault::BadLine { line: 9 }),
+        ),
         (MACHINE, CARD, illegal(1, Why::NotThere)),
         (MACHINE, "TURN 4 B\n", illegal(1, Why::SlotEmpty)),
-        (MACHINE, "RING I B\nPUT 1 A\nPUT 2 A\nPUT 14 B\n", illegal(3, Why::SocketTaken)),
+        (
+            MACHINE,
+            "RING I B\nPUT 1 A\nPUT 2 A\nPUT 14 B\n",
+            illegal(3, Why::SocketTaken),
+        ),
         (TEN_CABLES, "LUG 1 L 2\n", illegal(1, Why::OtherModel)),
     ] {
         let mut sink = MemorySink::<512>::new(0);

@@ -47,7 +47,12 @@ fn types_on_each_model(rt: HostRuntime) -> Result<(), Fail> {
 #[test]
 fn types_as_the_file_says(rt: HostRuntime) -> Result<(), Fail> {
     for (machine, [old, new], text, lamps) in [
-        (MACHINE, ["rings = \"AAAAA\"", "rings = \"BBBAA\""], "AAAAA", "EWTYX\n"),
+        (
+            MACHINE,
+            ["rings = \"AAAAA\"", "rings = \"BBBAA\""],
+            "AAAAA",
+            "EWTYX\n",
+        ),
         (MACHINE, ["version = 1", "version = 2"], "AAAAA", "BDZGO\n"),
         (TEN_CABLES, ["ABALA", "AWAXC"], "KCH", "BLA\n"),
         (TEN_CABLES, ["ABALA", "AWAXC"], "BLA", "KCH\n"),
@@ -87,13 +92,44 @@ fn refuses_the_machine_before_the_text(rt: HostRuntime) -> Result<(), Fail> {
         (MACHINE, ["\"II\"", "\"\""], DeskFault::NotReady),
         (TEN_CABLES, ["\"RX\"", "\"R\""], DeskFault::NotReady),
         (MACHINE, ["1", ""], DeskFault::File(SheetFault::NotToml)),
-        (M4, ["version = 2", "version = 1"], DeskFault::File(SheetFault::UnknownModel)),
-        (MACHINE, ["letters", "letter"], DeskFault::File(SheetFault::Missing(Key::Letters))),
-        (MACHINE, ["\"B\"", "\"b\""], DeskFault::File(SheetFault::BadValue(Key::Reflector))),
-        (MACHINE, ["\"II\"", "\"I\""], DeskFault::File(SheetFault::WheelTwice)),
-        (MACHINE, ["\"III\"", "\"VI\""], DeskFault::File(SheetFault::WheelNotAllowed)),
-        (TEN_CABLES, ["\"BS\"", "\"AB\""], DeskFault::File(SheetFault::LetterTwice)),
-        (ALL_MET, ["\"1-0L\", \"1-0L\", \"1-0L\", \"1-0L\"", "\"1-0L\", \"1-0L\", \"1-0L\", \"4-4\""], DeskFault::File(SheetFault::BadRow(4))),
+        (
+            M4,
+            ["version = 2", "version = 1"],
+            DeskFault::File(SheetFault::UnknownModel),
+        ),
+        (
+            MACHINE,
+            ["letters", "letter"],
+            DeskFault::File(SheetFault::Missing(Key::Letters)),
+        ),
+        (
+            MACHINE,
+            ["\"B\"", "\"b\""],
+            DeskFault::File(SheetFault::BadValue(Key::Reflector)),
+        ),
+        (
+            MACHINE,
+            ["\"II\"", "\"I\""],
+            DeskFault::File(SheetFault::WheelTwice),
+        ),
+        (
+            MACHINE,
+            ["\"III\"", "\"VI\""],
+            DeskFault::File(SheetFault::WheelNotAllowed),
+        ),
+        (
+            TEN_CABLES,
+            ["\"BS\"", "\"AB\""],
+            DeskFault::File(SheetFault::LetterTwice),
+        ),
+        (
+            ALL_MET,
+            [
+                "\"1-0L\", \"1-0L\", \"1-0L\", \"1-0L\"",
+                "\"1-0L\", \"1-0L\", \"1-0L\", \"4-4\"",
+            ],
+            DeskFault::File(SheetFault::BadRow(4)),
+        ),
     ] {
         let machine = machine.replacen(rt.alloc(), old, new, 1)?;
         let mut source = MemorySource::new(b"a", 7, Some(0));

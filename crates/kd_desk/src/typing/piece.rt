@@ -1,4 +1,5 @@
-ghost use Rattle.std.specs.Prelude.{◌≡◌, ◌<◌, ◌≤◌, take, length, slice_index, IsFalse, []};
+ghost use Rattle.std.specs.Prelude.{◌≡◌, ◌<◌, ◌≤◌, take, length, slice_index, IsFalse, [], ◌∷◌, option_to_list};
+ghost use Rattle.kd_sheet.specs.MachineText.{letters_text};
 ghost use Rattle.kd_desk.specs.Typing.{may_be_typed, AreAllowedBytes, Lights, typed_letters};
 
 use arrayvec::ArrayVec;
@@ -29,6 +30,13 @@ pub fn allowed_front(bytes: &[u8]) -> usize
     bytes.len()
 }
 
+/// The letter of a byte that is a capital letter's.
+fn letter_of(byte: u8) -> Option<Letter>
+    ensures { typed_letters (byte ∷ []) ≡ option_to_list result }
+{
+    Letter::from_byte(byte)
+}
+
 /// The letters among the bytes.
 fn letters_among(bytes: &[u8]) -> ArrayVec<Letter, PIECE>
     requires { length bytes.now ≤ PIECE }
@@ -36,11 +44,23 @@ fn letters_among(bytes: &[u8]) -> ArrayVec<Letter, PIECE>
 {
     let mut letters = ArrayVec::new();
     for byte in bytes {
-        if let Some(letter) = Letter::from_byte(*byte) {
+        if let Some(letter) = letter_of(*byte) {
             letters.push(letter);
         }
     }
     letters
+}
+
+/// The lamps of these letters, as capital letters.
+fn lamps_of(letters: &[Letter]) -> ArrayVec<u8, PIECE>
+    requires { length letters.now ≤ PIECE }
+    ensures { result.items ≡ letters_text letters.now }
+{
+    let mut lamps = ArrayVec::new();
+    for letter in letters {
+        lamps.push(letter.byte());
+    }
+    lamps
 }
 
 /// Presses the key of each letter among the bytes, and answers the lamps that light up, as capital letters.
@@ -50,9 +70,5 @@ pub fn type_piece(engine: &mut Engine, bytes: &[u8]) -> ArrayVec<u8, PIECE>
 {
     let mut letters = letters_among(bytes);
     engine.run(&mut letters);
-    let mut lamps = ArrayVec::new();
-    for letter in &letters {
-        lamps.push(letter.byte());
-    }
-    lamps
+    lamps_of(&letters)
 }

@@ -28,7 +28,7 @@ returns-in_err-put_all-clause-typed g c =
     let starts = subst (λ l. StartsWith l front) c.deref.ensures.0 (ap (λ k. take k c.deref.result.now) (length-take-le failed.0 c.deref.result.now (omega (arith, failed.1)))) in
     let source = port g.R.Source.remaining g.R.Source.has_failed c.args.source.now c.get.new.self in
     let sink = port g.W.Sink.taken g.W.Sink.has_failed c.args.sink.now c.put_all.new.sink in
-    StepTyped-answered c.args.enigma.now c.type_piece-lamps.new.enigma (length c.args.buffer.now) source sink c.from_residual.result _ c.from_residual.ensures.1 (record {
+    StepTyped-answered c.args.engine.now c.type_piece-lamps.new.engine (length c.args.buffer.now) source sink c.from_residual.result _ c.from_residual.ensures.1 (record {
       read = bytes;
       text = front;
       within = search rules;
@@ -36,7 +36,7 @@ returns-in_err-put_all-clause-typed g c =
       written = failed.2;
       types = inr (record {
         fails = record { failed = failed_now _ _ put.failed; well = well_now _ _ c.in-Ok.ensures.failed };
-        front = TypesFront-take c.args.enigma.now c.type_piece-lamps.new.enigma bytes c.type_piece-lamps.result.items front c.allowed_front-front.result
+        front = TypesFront-take c.args.engine.now c.type_piece-lamps.new.engine bytes c.type_piece-lamps.result.items front c.allowed_front-front.result
             c.allowed_front-front.ensures.within c.allowed_front-front.ensures.front c.type_piece-lamps.ensures starts;
       });
       ended = search rules;

@@ -1,0 +1,14 @@
+use Rattle.std.proofs.Common.{rules, codes, refl}
+use Rattle.clap.specs.Words.{found_of, rows_of}
+use Rattle.kd_desk.proofs.CommandLines.{read_none, read_some, no_typing}
+use Rattle.kd_desk.proofs.command.type_of.Goals as goal
+
+pub returns-in_err-machine-clause-none : goal.returns-in_err-machine-clause-none
+returns-in_err-machine-clause-none c =
+    let found = found_of c.args.words.now in
+    λ _. no_typing (rows_of found) (read_none found (codes "MACHINE") c.get_str.result c.get_str.ensures (search rules))
+
+pub returns-clause-said : goal.returns-clause-said
+returns-clause-said c =
+    let found = found_of c.args.words.now in
+    record { name = refl; words = read_some found (codes "MACHINE") c.get_str.result c.in_ok-machine.machine c.get_str.ensures (search rules) }
