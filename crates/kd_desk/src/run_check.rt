@@ -1,0 +1,79 @@
+ghost use Rattle.std.specs.Prelude.{◌≡◌, ◌||◌, is_err, IsTrue};
+ghost use Rattle.kd_tables.specs.Writing.{Writes};
+ghost use Rattle.kd_desk.specs.OnDay.{OnDay};
+ghost use Rattle.kd_desk.specs.Ports.{port};
+ghost use Rattle.kd_desk.specs.RunCheck.{Checks, verdict_text};
+ghost use Rattle.kd_desk.specs.RunSteps.{is_refused_before, is_device};
+
+#[cfg(test)]
+mod tests;
+
+use crate::fault::DeskFault;
+use arrayvec::ArrayString;
+use itoa::Buffer;
+use kd_card::{laws, read_card};
+use kd_prices::check;
+use kd_sheet::{read_machine, read_sheet};
+use kd_state::{Machine, SheetDay};
+use kd_tables::{Device, Sink, put_all};
+use std::alloc::Global;
+
+/// Tells of a card, whoever made it, that it is a shortest one from the machine of the machine file to the sheet's day of
+/// this number, and how many settings it has.
+///
+/// The machine file's faults come first, then the sheet's, then `NoSuchDay`, then the card's, then `OtherDay`, then the first
+/// doubt that the card proves itself, and nothing is written where the call is refused for these. After `Device` a prefix of
+/// the line was written.
+pub fn run_check<W: Sink>(
+    alloc: Global,
+    machine: &[u8],
+    sheet: &[u8],
+    number: u8,
+    card: &[u8],
+    sink: &mut W,
+) -> Result<(), DeskFault>
+    ensures checks { OnDay machine.now sheet.now number
+        (λ m s. Checks m s number card.now (port W.taken W.has_failed sink.old sink.new) result) result }
+    ensures untouched { IsTrue (is_refused_before result) → sink.new ≡ sink.old }
+    ensures failed { W.has_failed sink.new ≡ (W.has_failed sink.old || is_device result) }
+{
+    let machine = read_machine(alloc, machine)?;
+    let sheet = read_sheet(alloc, sheet)?;
+    let day = sheet.day(number).ok_or(DeskFault::NoSuchDay)?;
+    check_card(&machine, day, number, card, sink)
+}
+
+/// Tells of the card of that day that it is a shortest one from the machine to the day.
+fn check_card<W: Sink>(
+    machine: &Machine,
+    day: &SheetDay,
+    number: u8,
+    card: &[u8],
+    sink: &mut W,
+) -> Result<(), DeskFault>
+    ensures checks { Checks machine.now day.now number card.now (port W.taken W.has_failed sink.old sink.new) result }
+    ensures untouched { IsTrue (is_refused_before result) → sink.new ≡ sink.old }
+    ensures failed { W.has_failed sink.new ≡ (W.has_failed sink.old || is_device result) }
+{
+    laws::proving_cards_are_shortest();
+    let (dated, card) = read_card(card)?;
+    if dated != number {
+        return Err(DeskFault::OtherDay);
+    }
+    check(machine, day, &card)?;
+    write_verdict(sink, card.settings.len())?;
+    Ok(())
+}
+
+/// Writes that a card of so many settings is shortest.
+fn write_verdict<W: Sink>(sink: &mut W, number: usize) -> Result<(), Device>
+    ensures text { Writes (W.taken sink.old) (W.taken sink.new) (verdict_text number) result }
+    ensures failed { W.has_failed sink.new ≡ (W.has_failed sink.old || is_err result) }
+{
+    let mut buffer = Buffer::new();
+    let mut text = ArrayString::<32>::new();
+    text.push_str("SHORTEST ");
+    text.push_str(buffer.format(number));
+    text.push_str("\n");
+    put_all(sink, text.as_str().as_bytes())
+}

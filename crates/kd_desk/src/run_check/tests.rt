@@ -1,0 +1,123 @@
+use super::run_check;
+use crate::fault::DeskFault;
+use crate::samples::{CARD, MACHINE, SHEET, TWO_BARS};
+use kd_card::CardFault;
+use kd_prices::Doubt;
+use kd_sheet::SheetFault;
+use kd_tables::{MemorySink, Sink};
+use std::test::Fail;
+
+/// The card of a machine that is the day's already.
+const EMPTY: &str = "CARD 1 DAY 11
+SETTINGS 0
+CABLES 0 0 0 0 0 0 0 0 0 0 0 0 0
+PAIRS 0 0 0 0 0 0 0 0 0 0 0 0 0
+SUM 0
+";
+
+/// A card that moves one lug.
+const ONE_LUG: &str = "CARD 1 DAY 9
+LUG 1 R 6
+SETTINGS 1
+BARS 1 1 0 0 0 0 0 0 0 0 0 0 0 0 0 0 0 0 0 0 0 0 0 0 0 0 0
+ROWS -1 0 0 0 0 0 0 0 0 0 0 0 0 0 0 0 0 0 0 0 0 0 0 0 0 0 0
+SUM 1
+";
+
+/// The machine whose cables the card of the samples moves.
+const PLUGGED: [&str; 2] = ["version = 1", "version = 1\ncables = [\"AB\", \"CD\"]"];
+
+#[test]
+fn tells_of_shortest_cards(rt: HostRuntime) -> Result<(), Fail> {
+    let [old, new] = PLUGGED;
+    let plugged = MACHINE.replace(rt.alloc(), old, new)?;
+    let exchanged = CARD.replace(rt.alloc(), "PULL 1 A\nPULL 2 C\n", "PULL 2 C\nPULL 1 A\n")?;
+    for (machine, day, card, verdict) in [
+        (plugged.as_str(), 8, CARD, "SHORTEST 4\n"),
+        (plugged.as_str(), 8, exchanged.as_str(), "SHORTEST 4\n"),
+        (TWO_BARS, 9, ONE_LUG, "SHORTEST 1\n"),
+        (MACHINE, 11, EMPTY, "SHORTEST 0\n"),
+    ] {
+        let mut sink = MemorySink::<16>::new(16);
+        let answer = run_check(
+            rt.alloc(),
+            machine.as_bytes(),
+            SHEET.as_bytes(),
+            day,
+            card.as_bytes(),
+            &mut sink,
+        );
+        assert_eq!(rt; answer, Ok(()));
+        assert_eq!(rt; sink.taken(), verdict.as_bytes());
+    }
+    Ok(())
+}
+
+#[test]
+fn refuses_the_first_fault_and_writes_nothing(rt: HostRuntime) -> Result<(), Fail> {
+    let [old, new] = PLUGGED;
+    let plugged = MACHINE.replace(rt.alloc(), old, new)?;
+    let eighth = EMPTY.replace(rt.alloc(), "DAY 11", "DAY 8")?;
+    let turned = EMPTY.replace(rt.alloc(), "SETTINGS 0", "TURN 1 A\nSETTINGS 1")?;
+    let twelfth = SHEET.replace(rt.alloc(), "day = 11", "day = 12")?;
+    for (machine, sheet, day, card, fault) in [
+        ("=", "=", 5, "", DeskFault::File(SheetFault::NotToml)),
+        (MACHINE, "=", 5, "", DeskFault::File(SheetFault::NotToml)),
+        (MACHINE, SHEET, 5, "", DeskFault::NoSuchDay),
+        (MACHINE, SHEET, 11, "", DeskFault::Card(CardFault::BadHead)),
+        (MACHINE, twelfth.as_str(), 12, EMPTY, DeskFault::OtherDay),
+        (
+            MACHINE,
+            SHEET,
+            9,
+            ONE_LUG,
+            DeskFault::Doubtful(Doubt::OtherModel),
+        ),
+        (
+            plugged.as_str(),
+            SHEET,
+            8,
+            eighth.as_str(),
+            DeskFault::Doubtful(Doubt::NotTheSheet),
+        ),
+        (
+            MACHINE,
+            SHEET,
+            11,
+            turned.as_str(),
+            DeskFault::Doubtful(Doubt::NeedlessLine { line: 1 }),
+        ),
+    ] {
+        let mut sink = MemorySink::<16>::new(0);
+        let answer = run_check(
+            rt.alloc(),
+            machine.as_bytes(),
+            sheet.as_bytes(),
+            day,
+            card.as_bytes(),
+            &mut sink,
+        );
+        assert_eq!(rt; answer, Err(fault));
+        assert!(rt; !sink.failed());
+    }
+    Ok(())
+}
+
+#[test]
+fn stops_where_the_sink_fails(rt: HostRuntime) -> Result<(), Fail> {
+    let verdict = b"SHORTEST 0\n";
+    for room in 0..verdict.len() {
+        let mut sink = MemorySink::<16>::new(room.min(16));
+        let answer = run_check(
+            rt.alloc(),
+            MACHINE.as_bytes(),
+            SHEET.as_bytes(),
+            11,
+            EMPTY.as_bytes(),
+            &mut sink,
+        );
+        assert_eq!(rt; answer, Err(DeskFault::Device));
+        assert_eq!(rt; Some(sink.taken()), verdict.get(..room));
+    }
+    Ok(())
+}
