@@ -1,33 +1,46 @@
 //! The text of a card, written to a sink.
-ghost use Rattle.std.specs.Prelude.{◌≡◌, ◌+◌, ◌*◌, ◌≤◌, ◌||◌, [], ◌∷◌, ◌++◌, length, decimal, is_err, unsigned_abs};
+ghost use Rattle.std.specs.Prelude.{◌≡◌, ◌+◌, ◌*◌, ◌≤◌, ◌||◌, [], ◌∷◌, ◌++◌, length, decimal, is_err, unsigned_abs, All};
 ghost use Rattle.std.specs.List.{flat_map};
 ghost use Rattle.std.specs.Fmt.{signed_decimal};
 ghost use Rattle.arrayvec.specs.ArrayString.{array_string_len};
 ghost use Rattle.kd_tables.specs.Writing.{Writes};
-ghost use Rattle.kd_state.specs.Line.{list_text};
+ghost use Rattle.kd_state.specs.Line.{list_text, IsInRange};
 ghost use Rattle.kd_state.specs.SheetDay.{IsDayNumber};
 ghost use Rattle.kd_card.specs.Prices.{row_prices, column_prices, price_sum, AreWithinReach, ArePrices};
-ghost use Rattle.kd_card.specs.CardText.{card_text, kind_of, row_word, column_word, head_words, settings_words, price_words, sum_words};
+ghost use Rattle.kd_card.specs.CardText.{card_text, kind_of, row_word, column_word, head_words, settings_words, price_words, sum_words, IsCard};
 ghost use Rattle.kd_card.specs.CardFault.{with_line};
 
 use super::card::Card;
 use super::prices::{PriceParts, Prices};
 use arrayvec::ArrayString;
 use itoa::Buffer;
-use kd_state::{Setting, push_number};
+use kd_state::{Setting, is_in_range, push_number};
 use kd_tables::{Device, Sink, put_all};
 
 /// No text of a card is longer: the head, 192 settings and their number, twice 27 prices and their sum.
 const LONGEST: usize = 5120;
 
-/// Writes the text of the card for that day. A sink that fails has taken a front of it.
+/// Writes the text of the card for that day. A sink that fails has taken a prefix of it.
 pub fn write_card<W: Sink>(sink: &mut W, day: u8, card: &Card) -> Result<(), Device>
     requires { IsDayNumber day }
     ensures text { let text = card_text day card.now.settings.items card.now.prices in
         Writes (W.taken sink.old) (W.taken sink.new) text result }
+    ensures card { let text = card_text day card.now.settings.items card.now.prices in
+        IsCard text day card.now.settings.items card.now.prices }
     ensures failed { W.has_failed sink.new ≡ (W.has_failed sink.old || is_err result) }
 {
+    are_in_range(card.settings.as_slice());
+    let _prices = card.prices.parts();
     put_all(sink, text_of(day, card).as_str().as_bytes())
+}
+
+/// What the type of settings says of them. It does nothing when the program runs.
+fn are_in_range(settings: &[Setting])
+    ensures { All IsInRange settings.now }
+{
+    for setting in settings {
+        is_in_range(setting);
+    }
 }
 
 /// The text of the card for that day.

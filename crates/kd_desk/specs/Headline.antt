@@ -8,20 +8,27 @@ use Rattle.kd_state.specs.SheetDay.{Day}
 use Rattle.kd_state.specs.OnKey.{OnKey, ReadsAs}
 use Rattle.kd_state.specs.TwoCiphers.{IsReady, window_of, physical_cipher, sheet_cipher}
 
--- what the machine enciphers another one deciphers, that is on the day's key and shows the same letters
-abbrev pub IsDecipheredBy : Parts → Day → Parts → Type 0
-IsDecipheredBy n s other =
-    IsMachine other → OnKey other s → window_of n ≡ window_of other
-    → (text : List ℕ) → All (λ letter. letter < 26) text → physical_cipher other (physical_cipher n text) ≡ text
-
--- The machine reads as the day, so it is ready and enciphers each text as the day's own machine, and what it enciphers an
--- equally set one deciphers.
+-- the machine reads as the day, so it is ready, and it enciphers each text as the day's own machine
 pub record IsSheetsMachine (n : Parts) (s : Day) : Type 0 where
+  pub machine : IsMachine n
   pub reads : ReadsAs n s
   pub ready : IsReady n
-  pub alike : (text : List ℕ) → physical_cipher n text ≡ sheet_cipher s text
-  pub back : (other : Parts) → IsDecipheredBy n s other
+  pub enciphers : (text : List ℕ) → physical_cipher n text ≡ sheet_cipher s text
 
 -- the settings, carried out one after another, every one legal, leave such a machine
 abbrev pub LeavesTheSheetsMachine : Parts → Day → List Setting → Type 0
 LeavesTheSheetsMachine m s settings = (n : Parts) × Leads m settings n × IsSheetsMachine n s
+
+-- two machines are on the day's key and show the same letters, whichever these are
+pub record AreEquallySet (s : Day) (one other : Parts) : Type 0 where
+  pub machine : IsMachine one
+  pub other_machine : IsMachine other
+  pub on_key : OnKey one s
+  pub other_on_key : OnKey other s
+  pub letters : window_of one ≡ window_of other
+
+-- what a machine enciphers an equally set one deciphers
+abbrev pub EquallySetDecipher : Day → Type 0
+EquallySetDecipher s =
+    (one other : Parts) (text : List ℕ) → AreEquallySet s one other → All (λ letter. letter < 26) text
+    → physical_cipher other (physical_cipher one text) ≡ text

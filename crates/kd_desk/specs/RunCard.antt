@@ -1,27 +1,30 @@
 -- What the desk writes where it prints a card.
-use Rattle.std.specs.Prelude.{◌≡◌, ◌≢◌, List, Result, Err, OnErr}
+use Rattle.std.specs.Prelude.{◌≡◌, ◌≢◌, ℕ, List, Result, Err, OnErr}
 use Rattle.kd_tables.specs.Writing.{Writes}
 use Rattle.kd_state.specs.declared.parts.Parts.{Parts}
 use Rattle.kd_state.specs.declared.setting.Setting.{Setting}
 use Rattle.kd_state.specs.Machine.{model_of}
 use Rattle.kd_state.specs.SheetDay.{Day, day_number, day_model}
 use Rattle.kd_card.specs.declared.prices.PriceParts.{PriceParts}
-use Rattle.kd_card.specs.CardText.{card_text}
+use Rattle.kd_card.specs.CardText.{IsCard}
 use Rattle.kd_plan.specs.Planned.{Plans}
 use Rattle.kd_desk.specs.declared.fault.DeskFault.{DeskFault}
 use Rattle.kd_desk.specs.declared.fault.DeskFault.TheVariants.{OtherModel, Device}
-use Rattle.kd_desk.specs.Headline.{LeavesTheSheetsMachine}
+use Rattle.kd_desk.specs.Headline.{LeavesTheSheetsMachine, EquallySetDecipher}
 use Rattle.kd_desk.specs.Ports.{Port}
 
 -- The text of a card was written, or a prefix of it where the device failed. The card is a planned one; its prices prove it,
--- and no settings whatever that reach the day are fewer; and its settings, carried out, leave a machine that is ready and
--- enciphers as the day's own.
+-- and no settings whatever that reach the day are fewer. Its settings, carried out, leave a machine that is ready and
+-- enciphers as the day's own; and what a machine on the day's key enciphers an equally set one deciphers.
 pub record WritesCard (m : Parts) (s : Day) (sink : Port) (answer : Result (Unit {0}) DeskFault) : Type 0 where
   pub settings : List Setting
   pub prices : PriceParts
   pub plans : Plans m s settings prices
   pub leaves : LeavesTheSheetsMachine m s settings
-  pub written : Writes sink.had sink.has (card_text (day_number s) settings prices) answer
+  pub deciphers : EquallySetDecipher s
+  pub text : List ℕ
+  pub card : IsCard text (day_number s) settings prices
+  pub written : Writes sink.had sink.has text answer
   pub device : OnErr answer (answer ≡ Err Device)
 
 -- a card of the machine for the day: refused where they are of different models, and else written

@@ -1,5 +1,4 @@
-ghost use Rattle.std.specs.Prelude.{◌≡◌, ◌||◌, All, IsTrue};
-ghost use Rattle.kd_state.specs.Line.{IsInRange};
+ghost use Rattle.std.specs.Prelude.{◌≡◌, ◌||◌, IsTrue};
 ghost use Rattle.kd_desk.specs.OnDay.{OnDay};
 ghost use Rattle.kd_desk.specs.Ports.{port};
 ghost use Rattle.kd_desk.specs.RunCard.{Prints};
@@ -12,7 +11,7 @@ use crate::fault::DeskFault;
 use kd_card::write_card;
 use kd_plan::plan;
 use kd_sheet::{read_machine, read_sheet};
-use kd_state::{Machine, Setting, SheetDay, is_in_range, laws};
+use kd_state::{Machine, SheetDay, laws};
 use kd_tables::Sink;
 use std::alloc::Global;
 
@@ -48,16 +47,6 @@ fn print_card<W: Sink>(machine: &Machine, day: &SheetDay, sink: &mut W) -> Resul
     laws::reading_as_the_day_is_its_cipher();
     laws::equally_set_machines_decipher();
     let card = plan(machine, day)?;
-    are_in_range(card.settings.as_slice());
     write_card(sink, day.day(), &card)?;
     Ok(())
-}
-
-/// What the type of settings says of them. It does nothing when the program runs.
-fn are_in_range(settings: &[Setting])
-    ensures { All IsInRange settings.now }
-{
-    for setting in settings {
-        is_in_range(setting);
-    }
 }
