@@ -15,10 +15,9 @@ use Rattle.kd_state.specs.Setting.{has_letter}
 use Rattle.kd_state.specs.SheetDay.{ArePairs}
 use Rattle.kd_state.specs.OnKey.{SameLetters, Joins, IsPaired, IsPlugged, AreThePairs}
 use Rattle.kd_state.specs.Costs.{columns_of}
-use Rattle.kd_plan.specs.Planned.{IsPairing}
 use Rattle.kd_plan.proofs.Cables.{or_false, in_cable, in_column, Apart}
 use Rattle.kd_plan.proofs.Days.{all_of_each}
-use Rattle.kd_plan.proofs.Lists.{all_front, all_back, Differ, differ_of_pairs, EachTwo, paired}
+use Rattle.kd_plan.proofs.Lists.{all_front, all_back, Differ, differ_of_pairs, EachTwo, paired, IsPairing}
 use Rattle.kd_plan.proofs.Sides.{first_of}
 use Rattle.kd_plan.proofs.Plugging.{Beside, IsPluggable, ColumnsApart, present, once_put, has_column}
 
