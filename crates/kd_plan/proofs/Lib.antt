@@ -16,3 +16,5 @@ pub mod Pins
 pub mod PinMachines
 pub mod Totals
 pub mod Planning
+pub mod Writing
+pub mod LineKinds

@@ -29,7 +29,7 @@ pub(crate) fn push_pulls(
 {
     for (place, cable) in cables.iter().enumerate() {
         let column = column(pairs, usize::from(to[place]));
-        push_pulls_of(settings, place as u8 + 1, *cable, column);
+        push_pulls_of(settings, place as u8 + 1, cable, &column);
     }
 }
 
@@ -45,15 +45,15 @@ pub(crate) fn push_puts(
 {
     for (place, cable) in cables.iter().enumerate() {
         let column = column(pairs, usize::from(to[place]));
-        push_puts_of(settings, place as u8 + 1, *cable, column);
+        push_puts_of(settings, place as u8 + 1, cable, &column);
     }
 }
 
 /// Appends PULL for each letter that lies in the cable and isn't one of the pair.
-fn push_pulls_of(settings: &mut Settings, number: u8, cable: Cable, column: Column)
-    requires { let letters = letters_apart (cable_letters cable) (column_letters column) in
+fn push_pulls_of(settings: &mut Settings, number: u8, cable: &Cable, column: &Column)
+    requires { let letters = letters_apart (cable_letters cable.now) (column_letters column.now) in
         array_vec_len settings.old + length letters ≤ 192 }
-    ensures { let letters = letters_apart (cable_letters cable) (column_letters column) in
+    ensures { let letters = letters_apart (cable_letters cable.now) (column_letters column.now) in
         settings.new.items ≡ settings.old.items ++ map (λ letter. Setting.Pull number letter) letters }
 {
     for index in 0..26 {
@@ -63,10 +63,10 @@ fn push_pulls_of(settings: &mut Settings, number: u8, cable: Cable, column: Colu
 }
 
 /// Appends PUT for each letter of the pair that doesn't lie in the cable.
-fn push_puts_of(settings: &mut Settings, number: u8, cable: Cable, column: Column)
-    requires { let letters = letters_apart (column_letters column) (cable_letters cable) in
+fn push_puts_of(settings: &mut Settings, number: u8, cable: &Cable, column: &Column)
+    requires { let letters = letters_apart (column_letters column.now) (cable_letters cable.now) in
         array_vec_len settings.old + length letters ≤ 192 }
-    ensures { let letters = letters_apart (column_letters column) (cable_letters cable) in
+    ensures { let letters = letters_apart (column_letters column.now) (cable_letters cable.now) in
         settings.new.items ≡ settings.old.items ++ map (λ letter. Setting.Put number letter) letters }
 {
     for index in 0..26 {
@@ -76,11 +76,11 @@ fn push_puts_of(settings: &mut Settings, number: u8, cable: Cable, column: Colum
 }
 
 /// PULL, if the letter lies in the cable and isn't one of the pair.
-fn pull_line(number: u8, cable: Cable, column: Column, letter: Letter) -> Option<Setting>
-    ensures { let wanted = has_letter (cable_letters cable) letter && not (has_letter (column_letters column) letter) in
+fn pull_line(number: u8, cable: &Cable, column: &Column, letter: Letter) -> Option<Setting>
+    ensures { let wanted = has_letter (cable_letters cable.now) letter && not (has_letter (column_letters column.now) letter) in
         result ≡ unless_so (not wanted) (Setting.Pull number letter) }
 {
-    if lies_in(cable, letter) && !is_one_of(column, letter) {
+    if lies_in(*cable, letter) && !is_one_of(*column, letter) {
         Some(Setting::Pull {
             cable: number,
             letter,
@@ -91,11 +91,11 @@ fn pull_line(number: u8, cable: Cable, column: Column, letter: Letter) -> Option
 }
 
 /// PUT, if the letter is one of the pair and doesn't lie in the cable.
-fn put_line(number: u8, cable: Cable, column: Column, letter: Letter) -> Option<Setting>
-    ensures { let wanted = has_letter (column_letters column) letter && not (has_letter (cable_letters cable) letter) in
+fn put_line(number: u8, cable: &Cable, column: &Column, letter: Letter) -> Option<Setting>
+    ensures { let wanted = has_letter (column_letters column.now) letter && not (has_letter (cable_letters cable.now) letter) in
         result ≡ unless_so (not wanted) (Setting.Put number letter) }
 {
-    if is_one_of(column, letter) && !lies_in(cable, letter) {
+    if is_one_of(*column, letter) && !lies_in(*cable, letter) {
         Some(Setting::Put {
             cable: number,
             letter,

@@ -21,19 +21,19 @@ pub(crate) fn cable_costs(cables: &[Cable; 13], pairs: &[(Letter, Letter)]) -> [
 {
     let mut costs = [[0; 13]; 13];
     for row in 0..13 {
-        costs[row] = costs_of_cable(cables[row], pairs);
+        costs[row] = costs_of_cable(&cables[row], pairs);
     }
     costs
 }
 
 /// What a cable costs at each column.
-fn costs_of_cable(cable: Cable, pairs: &[(Letter, Letter)]) -> [u8; 13]
+fn costs_of_cable(cable: &Cable, pairs: &[(Letter, Letter)]) -> [u8; 13]
     requires { length pairs.now ≤ 13 }
-    ensures { result ≡ map (costs.cable_cost cable) (columns_of pairs.now) }
+    ensures { result ≡ map (costs.cable_cost cable.now) (columns_of pairs.now) }
 {
     let mut costs = [0; 13];
     for place in 0..13 {
-        costs[place] = cable_cost(cable, column(pairs, place));
+        costs[place] = cable_cost(*cable, column(pairs, place));
     }
     costs
 }
@@ -44,18 +44,18 @@ pub(crate) fn bar_costs(bars: &[Standing; 27], rows: &[Reading; 27]) -> [[u8; 27
 {
     let mut costs = [[0; 27]; 27];
     for row in 0..27 {
-        costs[row] = costs_of_bar(bars[row], rows);
+        costs[row] = costs_of_bar(&bars[row], rows);
     }
     costs
 }
 
 /// What a bar costs at each row.
-fn costs_of_bar(bar: Standing, rows: &[Reading; 27]) -> [u8; 27]
-    ensures { result ≡ map (costs.bar_cost bar) rows.now }
+fn costs_of_bar(bar: &Standing, rows: &[Reading; 27]) -> [u8; 27]
+    ensures { result ≡ map (costs.bar_cost bar.now) rows.now }
 {
     let mut costs = [0; 27];
     for place in 0..27 {
-        costs[place] = bar_cost(bar, rows[place]);
+        costs[place] = bar_cost(*bar, rows[place]);
     }
     costs
 }

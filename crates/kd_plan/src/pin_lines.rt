@@ -46,6 +46,7 @@ fn push_wheel_pins<const N: usize>(
     requires { array_vec_len settings.old + length (wheel_pin_lines wheel ring.now present.now wanted.now) ≤ 192 }
     ensures { settings.new.items ≡ settings.old.items ++ wheel_pin_lines wheel ring.now present.now wanted.now }
 {
+    let _letters = ring.letters();
     for place in 0..N {
         push_line(
             settings,

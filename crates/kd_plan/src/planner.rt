@@ -1,4 +1,5 @@
 ghost use Rattle.std.specs.Prelude.{◌≡◌, ◌≢◌, ◌<◌, ◌≤◌, All, IfSome, MatchResult, length};
+ghost use Rattle.kd_tables.specs.declared.model.Model.TheVariants.{M209};
 ghost use Rattle.kd_state.specs.Machine.{IsMachine, model_of};
 ghost use Rattle.kd_state.specs.SheetDay.{IsLegalDay, day_model, pin_day};
 ghost use Rattle.kd_plan.specs.Planned.{planned_lines, IsPlanned, Plans};
@@ -113,7 +114,7 @@ fn pin_settings(parts: &PinParts, day: &SheetDay, to: &[u8; 27]) -> Settings
 /// The letters that the pin wheels show on the day.
 fn window_of(day: &SheetDay) -> [Letter; 6]
     requires legal { IsLegalDay day.now }
-    requires pins { day_model day.now ≡ Model.M209 }
+    requires pins { day_model day.now ≡ M209 }
     ensures { IfSome (pin_day day.now) (λ s. result ≡ s.window) }
 {
     let mut window = [Letter::A; 6];

@@ -2,6 +2,7 @@
 ghost use Rattle.std.specs.Prelude.{◌≡◌, ◌+◌, ◌≤◌, ◌++◌, false, nat_eq, length, find, option_and_then};
 ghost use Rattle.std.specs.Option.{option_map_or};
 ghost use Rattle.arrayvec.specs.ArrayVec.{array_vec_len};
+ghost use Rattle.kd_state.specs.declared.parts.Parts.TheVariants.{Rotor};
 ghost use Rattle.kd_state.specs.Box.{same_wheel, same_reflector};
 ghost use Rattle.kd_state.specs.Machine.{ring_in, letter_in};
 ghost use Rattle.kd_plan.specs.Planned.{unless_so, seat_lines, reflector_lines, ring_lines, turn_lines};
@@ -40,7 +41,7 @@ pub(crate) fn push_rings(
     parts: &RotorParts,
     wheels: &[SheetWheel],
 )
-    requires machine { machine.now ≡ Parts.Rotor parts.now }
+    requires machine { machine.now ≡ Rotor parts.now }
     requires room { array_vec_len settings.old + length (ring_lines parts.now wheels.now) ≤ 192 }
     ensures { settings.new.items ≡ settings.old.items ++ ring_lines parts.now wheels.now }
 {
@@ -56,7 +57,7 @@ pub(crate) fn push_turns(
     parts: &RotorParts,
     wheels: &[SheetWheel],
 )
-    requires machine { machine.now ≡ Parts.Rotor parts.now }
+    requires machine { machine.now ≡ Rotor parts.now }
     requires few { length wheels.now ≤ 4 }
     requires room { array_vec_len settings.old + length (turn_lines parts.now wheels.now) ≤ 192 }
     ensures { settings.new.items ≡ settings.old.items ++ turn_lines parts.now wheels.now }
