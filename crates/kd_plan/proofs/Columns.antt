@@ -1,6 +1,6 @@
 -- The cables of a machine beside the columns of a day, one to one: no letter lies in two columns, and cables with the letters
 -- of their columns are the day's pairs.
-use Rattle.std.proofs.Common.{◌≡◌, ◌≢◌, ℕ, zero, suc, ◌+◌, ◌-◌, ◌<◌, ◌≤◌, nat_eq, Bool, true, false, ◌||◌, inl, inr, List, [], ◌∷◌, ◌++◌, length, get_or, map, zip, replicate, Any, Contains, IsPermutation, Option, Some, None, refl, sym, ap, ◌∙◌, subst, arith}
+use Rattle.std.proofs.Common.{◌≡◌, ◌≢◌, ℕ, zero, suc, ◌+◌, ◌-◌, ◌<◌, ◌≤◌, nat_eq, Bool, true, false, ◌||◌, inl, inr, List, [], ◌∷◌, ◌++◌, length, get_or, map, zip, replicate, Any, Contains, IsPermutation, Option, Some, None, slice_get, refl, sym, ap, ◌∙◌, subst, arith}
 use Rattle.std.specs.List.{AllByRecursion, range_with_len}
 use Rattle.std.proofs.lemmas.Bool.{false≢true, eq-eqb, eqb-true}
 use Rattle.std.proofs.lemmas.Bool.Decides.{eqb_tells}
@@ -113,6 +113,15 @@ nothing_at : (nothings j : ℕ) → column_at (replicate nothings None) j ≡ No
 nothing_at zero j = refl
 nothing_at (suc nothings) zero = refl
 nothing_at (suc nothings) (suc j) = nothing_at nothings j
+
+-- the column of a place is the pair of that place, if there is one
+read_from : (pairs : List (ℕ × ℕ)) (nothings j : ℕ) → column_at (with_nothings pairs nothings) j ≡ slice_get pairs j
+read_from [] nothings j = nothing_at nothings j
+read_from (pair ∷ pairs) nothings zero = refl
+read_from (pair ∷ pairs) nothings (suc j) = read_from pairs nothings j
+
+pub column_read : (pairs : List (ℕ × ℕ)) (j : ℕ) → column_at (columns_of pairs) j ≡ slice_get pairs j
+column_read pairs j = read_from pairs (13 - length pairs) j
 
 plugged_of : (pairs : List (ℕ × ℕ)) (nothings j letter : ℕ) → in_column (column_at (with_nothings pairs nothings) j) letter ≡ true → has_letter (letters_plugged pairs) letter ≡ true
 plugged_of [] nothings j letter e = absurd (false≢true (sym (ap (λ column. in_column column letter) (nothing_at nothings j)) ∙ e))

@@ -18,3 +18,5 @@ pub mod Totals
 pub mod Planning
 pub mod Writing
 pub mod LineKinds
+pub mod Pricing
+pub mod Bounds

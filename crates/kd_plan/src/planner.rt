@@ -14,7 +14,7 @@ use super::other_model::OtherModel;
 use super::pin_lines::{push_pin_turns, push_pins};
 use super::rotor_lines::{push_reflector, push_rings, push_seats, push_turns};
 use arrayvec::ArrayVec;
-use kd_assign::assign;
+use kd_assign::{Solution, assign};
 use kd_card::Card;
 use kd_card::laws::proving_cards_are_shortest;
 use kd_state::{Machine, Parts, PinParts, RotorParts, SheetDay};
@@ -55,9 +55,10 @@ fn rotor_card(machine: &Machine, parts: &RotorParts, day: &SheetDay) -> Card
     requires model { parts.now.model ≡ day_model day.now }
     ensures { IsPlanned machine.now day.now result.settings.items result.prices }
 {
-    let solution = assign(&cable_costs(&parts.cables, day.pairs().unwrap()));
-    let settings = rotor_settings(machine, parts, day, &solution.to);
-    let prices = cable_prices(&solution);
+    let costs = cable_costs(&parts.cables, day.pairs().unwrap());
+    let Solution { to, row, col, total, .. } = assign(&costs);
+    let settings = rotor_settings(machine, parts, day, &to);
+    let prices = cable_prices(total, row, col);
     Card { settings, prices }
 }
 
@@ -68,9 +69,10 @@ fn pin_card(parts: &PinParts, day: &SheetDay) -> Card
     requires model { model_of (Parts.Pin parts.now) ≡ day_model day.now }
     ensures { IsPlanned (Parts.Pin parts.now) day.now result.settings.items result.prices }
 {
-    let solution = assign(&bar_costs(&parts.bars, &day.rows().unwrap()));
-    let settings = pin_settings(parts, day, &solution.to);
-    let prices = bar_prices(&solution);
+    let costs = bar_costs(&parts.bars, &day.rows().unwrap());
+    let Solution { to, row, col, total, .. } = assign(&costs);
+    let settings = pin_settings(parts, day, &to);
+    let prices = bar_prices(total, row, col);
     Card { settings, prices }
 }
 
