@@ -53,7 +53,7 @@ two_each : {Z : Type 0} (lines : ℕ → Z → List Setting) → ((number : ℕ)
 two_each lines h [] number = omega arith
 two_each lines h (z ∷ zs) number = omega (arith, length-append (lines number z) (lines_from lines (number + 1) zs), h number z, two_each lines h zs (number + 1))
 
-option_at_most : (b : Bool) (x : Setting) → length (option_to_list (unless_so b x)) ≤ 1
+pub option_at_most : (b : Bool) (x : Setting) → length (option_to_list (unless_so b x)) ≤ 1
 option_at_most true x = omega arith
 option_at_most false x = omega arith
 
@@ -150,10 +150,10 @@ rings_at_most m wheels = omega (arith, found_at_most (ring_wanted m) (in_box_ord
 
 pub turns_at_most : (m : RotorParts) (wheels : List SheetWheel) → length (turn_lines m wheels) ≤ length wheels
 turns_at_most m wheels = omega (
-      arith,
-      found_at_most (λ (slot : ℕ × SheetWheel). unless_so (option_map_or (nat_eq slot.1.letter) (letter_at m slot.1.wheel) false) (Turn slot.0 slot.1.letter)) (enumerate_from 1 wheels),
-      numbered_length wheels 1,
-    )
+  arith,
+  found_at_most (λ (slot : ℕ × SheetWheel). unless_so (option_map_or (nat_eq slot.1.letter) (letter_at m slot.1.wheel) false) (Turn slot.0 slot.1.letter)) (enumerate_from 1 wheels),
+  numbered_length wheels 1,
+)
 
 pub pulls_at_most : (cables : List (Option ℕ × Option ℕ)) (pairs : List (ℕ × ℕ)) (to : List ℕ) → length (pull_lines cables pairs to) ≤ 2 * length cables
 pulls_at_most cables pairs to =
@@ -191,4 +191,37 @@ all_lugs_at_most bars rows to =
       ap length (flat_lines (λ (bar : ℕ × BarRow). lugs_to bar.0 bar.1.0 (target_of bar.1.0 bar.1.1)) (zip bars (map (row_at rows) to)) 1),
       two_each (λ n (z : BarRow). lugs_to n z.0 (target_of z.0 z.1)) (λ n z. lugs_at_most n z.0 (target_of z.0 z.1)) (zip bars (map (row_at rows) to)) 1,
       length-zip bars (map (row_at rows) to),
+    )
+
+pub pins_at_most : (present wanted : PinSet) → length (pin_lines present wanted) ≤ length (ring_of 1) + length (ring_of 2) + length (ring_of 3) + length (ring_of 4) + length (ring_of 5) + length (ring_of 6)
+pins_at_most present wanted =
+    let one = wheel_pin_lines 1 (ring_of 1) present.w1 wanted.w1 in
+    let two = wheel_pin_lines 2 (ring_of 2) present.w2 wanted.w2 in
+    let three = wheel_pin_lines 3 (ring_of 3) present.w3 wanted.w3 in
+    let four = wheel_pin_lines 4 (ring_of 4) present.w4 wanted.w4 in
+    let five = wheel_pin_lines 5 (ring_of 5) present.w5 wanted.w5 in
+    let six = wheel_pin_lines 6 (ring_of 6) present.w6 wanted.w6 in
+    omega (
+      arith,
+      length-append one (two ++ (three ++ (four ++ (five ++ (six ++ []))))),
+      length-append two (three ++ (four ++ (five ++ (six ++ [])))),
+      length-append three (four ++ (five ++ (six ++ []))),
+      length-append four (five ++ (six ++ [])),
+      length-append five (six ++ []),
+      length-append six [],
+      wheel_pins_at_most 1 (ring_of 1) present.w1 wanted.w1,
+      wheel_pins_at_most 2 (ring_of 2) present.w2 wanted.w2,
+      wheel_pins_at_most 3 (ring_of 3) present.w3 wanted.w3,
+      wheel_pins_at_most 4 (ring_of 4) present.w4 wanted.w4,
+      wheel_pins_at_most 5 (ring_of 5) present.w5 wanted.w5,
+      wheel_pins_at_most 6 (ring_of 6) present.w6 wanted.w6,
+    )
+
+pub pin_turns_at_most : (letters window : List ℕ) → length (pin_turn_lines letters window) ≤ length letters
+pin_turns_at_most letters window =
+    omega (
+      arith,
+      found_at_most (λ (wheel : ℕ × (ℕ × ℕ)). unless_so (nat_eq wheel.1.0 wheel.1.1) (Turn wheel.0 wheel.1.1)) (enumerate_from 1 (zip letters window)),
+      numbered_length (zip letters window) 1,
+      length-zip letters window,
     )

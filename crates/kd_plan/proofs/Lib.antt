@@ -20,3 +20,4 @@ pub mod Writing
 pub mod LineKinds
 pub mod Pricing
 pub mod Bounds
+pub mod Assembling

@@ -32,7 +32,10 @@ pub fn plan(machine: &Machine, day: &SheetDay) -> Result<Card, OtherModel>
     }
     planned_cards_prove_themselves();
     proving_cards_are_shortest();
-    Ok(planned_card(machine, day))
+    let card = planned_card(machine, day);
+    // What the types say of the machine and of the prices, for the two laws.
+    let (_parts, _prices) = (machine.parts(), card.prices.parts());
+    Ok(card)
 }
 
 /// The card of what differs from the day.
@@ -56,7 +59,13 @@ fn rotor_card(machine: &Machine, parts: &RotorParts, day: &SheetDay) -> Card
     ensures { IsPlanned machine.now day.now result.settings.items result.prices }
 {
     let costs = cable_costs(&parts.cables, day.pairs().unwrap());
-    let Solution { to, row, col, total, .. } = assign(&costs);
+    let Solution {
+        to,
+        row,
+        col,
+        total,
+        ..
+    } = assign(&costs);
     let settings = rotor_settings(machine, parts, day, &to);
     let prices = cable_prices(total, row, col);
     Card { settings, prices }
@@ -70,7 +79,13 @@ fn pin_card(parts: &PinParts, day: &SheetDay) -> Card
     ensures { IsPlanned (Parts.Pin parts.now) day.now result.settings.items result.prices }
 {
     let costs = bar_costs(&parts.bars, &day.rows().unwrap());
-    let Solution { to, row, col, total, .. } = assign(&costs);
+    let Solution {
+        to,
+        row,
+        col,
+        total,
+        ..
+    } = assign(&costs);
     let settings = pin_settings(parts, day, &to);
     let prices = bar_prices(total, row, col);
     Card { settings, prices }
