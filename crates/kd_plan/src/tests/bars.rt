@@ -5,6 +5,14 @@ use super::samples::{
 use kd_state::{Machine, PinParts, Setting, SheetDay};
 use kd_tables::{Letter, Lug, Place};
 
+/// PIN, to make a pin effective.
+fn is_pin_made_effective(setting: Setting) -> bool {
+    match setting {
+        Setting::PinTo { effective, .. } => effective,
+        _ => false,
+    }
+}
+
 /// To keep the first bar for the row that it reads as already would cost two lines.
 #[test]
 fn another_bar_takes_the_row(rt: HostRuntime) {
@@ -49,15 +57,7 @@ fn everything_differs(rt: HostRuntime) {
     let settings = card.settings.as_slice();
     assert_eq!(rt; settings.len(), 191);
     for line in 0..131 {
-        assert!(rt;
-            matches!(
-                settings[line],
-                Setting::PinTo {
-                    effective: true,
-                    ..
-                }
-            )
-        );
+        assert!(rt; is_pin_made_effective(settings[line]));
     }
     for wheel in 0..6 {
         let turn = Setting::Turn {

@@ -64,7 +64,9 @@ pub fn at_a(wheel: Wheel) -> SheetWheel {
 /// A day of the Enigma I with reflector B, the wheels I, II and III, all rings and letters A, and these pairs.
 pub fn s1(rt: &impl Abort, pairs: &[(Letter, Letter)]) -> SheetDay {
     let wheels = [at_a(Wheel::I), at_a(Wheel::II), at_a(Wheel::III)];
-    SheetDay::rotor(8, Model::EnigmaI, Reflector::B, &wheels, pairs, &[]).expect(rt, "a day")
+    let groups = [[Letter::A; 3]];
+    let day = SheetDay::rotor(8, Model::EnigmaI, Reflector::B, &wheels, pairs, &groups);
+    day.expect(rt, "a day")
 }
 
 /// The same with two pairs, the letters of each together.
