@@ -46,6 +46,7 @@ fn push_wheel_pins<const N: usize>(
     requires { array_vec_len settings.old + length (wheel_pin_lines wheel ring.now present.now wanted.now) ≤ 192 }
     ensures { settings.new.items ≡ settings.old.items ++ wheel_pin_lines wheel ring.now present.now wanted.now }
 {
+    // What the type says of the ring: it has a letter for each place.
     let _letters = ring.letters();
     for place in 0..N {
         push_line(

@@ -1,4 +1,4 @@
-ghost use Rattle.std.specs.Prelude.{◌≡◌, ◌≢◌, ◌<◌, ◌≤◌, All, IfSome, MatchResult, length};
+ghost use Rattle.std.specs.Prelude.{◌≡◌, ◌≢◌, ◌<◌, ◌≤◌, All, IfSome, IfOk, IsErr, ◌↔◌, length};
 ghost use Rattle.kd_tables.specs.declared.model.Model.TheVariants.{M209};
 ghost use Rattle.kd_state.specs.Machine.{IsMachine, model_of};
 ghost use Rattle.kd_state.specs.SheetDay.{IsLegalDay, day_model, pin_day};
@@ -23,9 +23,9 @@ use kd_tables::Letter;
 /// The card that leads the machine to the day by the fewest settings. Which of several shortest ones it is isn't promised,
 /// nor which prices prove it.
 pub fn plan(machine: &Machine, day: &SheetDay) -> Result<Card, OtherModel>
-    ensures { MatchResult result
-        (λ card. Plans machine.now day.now card.settings.items card.prices)
-        (λ fault. model_of machine.now ≢ day_model day.now) }
+    ensures refused { IsErr result ↔ (model_of machine.now ≢ day_model day.now) }
+    ensures card { IfOk result (λ card.
+        Plans machine.now day.now card.settings.items card.prices) }
 {
     if machine.model() != day.model() {
         return Err(OtherModel);

@@ -2,8 +2,8 @@ use Rattle.std.proofs.Common.{rules, subst, sym}
 use Rattle.kd_card.specs.Prices.{ArePrices}
 use Rattle.kd_plan.proofs.planner.plan.Goals as goal
 
-pub returns : goal.returns
-returns c =
+pub returns-clause-card : goal.returns-clause-card
+returns-clause-card c =
     let m = c.args.machine.now in
     let s = c.args.day.now in
     let settings = c.planned_card-card.result.settings.items in
