@@ -1,7 +1,7 @@
 -- The card that is made of an assignment and its lines is a planned one.
-use Rattle.std.proofs.Common.{◌≡◌, ◌≢◌, ℕ, ◌+◌, ◌*◌, ◌<◌, ◌≤◌, List, [], ◌∷◌, ◌++◌, length, map, take, All, Option, Some, None, IfSome, refl, sym, ap, ◌∙◌, subst, arith, length-append}
+use Rattle.std.proofs.Common.{◌≡◌, ℕ, ◌+◌, ◌≤◌, List, [], ◌∷◌, ◌++◌, length, map, take, All, Option, Some, IfSome, refl, sym, ap, ◌∙◌, subst, arith, length-append}
 use Rattle.std.specs.List.{AllByRecursion}
-use Rattle.std.specs.Option.{option_map, option_to_list}
+use Rattle.std.specs.Option.{option_map}
 use Rattle.std.proofs.lemmas.List.{length-map, take_all}
 use Rattle.std.proofs.lemmas.List.Elements.{All-from_recursion}
 use Rattle.kd_tables.specs.declared.model.Model.{Model}
@@ -11,19 +11,18 @@ use Rattle.kd_tables.specs.Rings.{ring_of}
 use Rattle.kd_tables.specs.Tables.{box_of, slots_of}
 use Rattle.kd_state.specs.declared.rotor_parts.RotorParts.{RotorParts}
 use Rattle.kd_state.specs.declared.pin_parts.PinParts.{PinParts}
-use Rattle.kd_state.specs.declared.parts.Parts.{Parts}
 use Rattle.kd_state.specs.declared.parts.Parts.TheVariants.{Rotor, Pin}
 use Rattle.kd_state.specs.declared.setting.Setting.{Setting}
 use Rattle.kd_state.specs.declared.setting.Setting.TheVariants.{SeatReflector}
 use Rattle.kd_state.specs.Box.{same_reflector}
-use Rattle.kd_state.specs.Machine.{IsMachine, model_of}
-use Rattle.kd_state.specs.SheetDay.{RotorDay, PinDay, Day, OfRotors, OfPins, IsLegalDay, day_model, rotor_day, pin_day}
+use Rattle.kd_state.specs.Machine.{IsMachine}
+use Rattle.kd_state.specs.SheetDay.{Day, OfRotors, OfPins, IsLegalDay, day_model, rotor_day, pin_day}
 use Rattle.kd_state.specs.Costs.{cable_cost, bar_cost, columns_of, cost_table}
 use Rattle.kd_card.specs.declared.prices.PriceParts.{PriceParts}
 use Rattle.kd_card.specs.Proving.{AreOfKind}
 use Rattle.kd_assign.specs.Assignment.{IsOneToOne}
 use Rattle.kd_assign.specs.Prices.{CostsAtMost}
-use Rattle.kd_plan.specs.Planned.{unless_so, seat_lines, reflector_lines, ring_lines, turn_lines, pull_lines, put_lines, wheel_pin_lines, pin_lines, pin_turn_lines, lug_lines, planned_lines, table_size, IsPlanned}
+use Rattle.kd_plan.specs.Planned.{seat_lines, reflector_lines, ring_lines, turn_lines, pull_lines, put_lines, pin_lines, pin_turn_lines, lug_lines, planned_lines, IsPlanned}
 use Rattle.kd_plan.proofs.Bounds.{option_at_most, cable_cost_at_most, bar_cost_at_most, seats_at_most, rings_at_most, turns_at_most, pulls_at_most, puts_at_most, pins_at_most, pin_turns_at_most, all_lugs_at_most}
 use Rattle.kd_plan.proofs.Pricing.{AreSolved}
 

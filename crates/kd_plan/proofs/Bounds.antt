@@ -1,31 +1,27 @@
 -- How many lines there are at most, and what a cable or a bar costs at most.
-use Rattle.std.proofs.Common.{◌≡◌, ◌≢◌, ℕ, zero, suc, ◌+◌, ◌*◌, ◌<◌, ◌≤◌, nat_eq, nat_lt, min, Bool, true, false, not, ◌&&◌, ◌||◌, cond, List, [], ◌∷◌, ◌++◌, length, map, zip, filter, filter_map, find, fold, count_by, All, Option, Some, None, refl, sym, ap, ◌∙◌, subst, arith, length-append}
-use Rattle.std.specs.List.{cons_option, enumerate_from, flat_map, range_with_len}
+use Rattle.std.proofs.Common.{◌≡◌, ℕ, zero, suc, ◌+◌, ◌*◌, ◌<◌, ◌≤◌, nat_eq, nat_lt, min, Bool, true, false, not, ◌&&◌, ◌||◌, cond, List, [], ◌∷◌, ◌++◌, length, map, zip, filter_map, fold, count_by, Option, Some, None, refl, ap, arith, length-append}
+use Rattle.std.specs.List.{cons_option, enumerate_from, range_with_len}
 use Rattle.std.specs.Option.{option_map_or, option_to_list}
-use Rattle.std.proofs.lemmas.Bool.{false≢true, eqb-true, ne_eqb}
+use Rattle.std.proofs.lemmas.Bool.{eqb-true, ne_eqb}
 use Rattle.std.proofs.lemmas.List.{length-map}
 use Rattle.std.proofs.lemmas.List.Sums.{length-filter}
 use Rattle.std.proofs.lemmas.Slice.Zip.{length-zip}
-use Rattle.kd_tables.specs.declared.model.Model.{Model}
-use Rattle.kd_tables.specs.declared.model.Model.TheVariants.{EnigmaI, M3, M4, M209}
 use Rattle.kd_tables.specs.declared.wheel.Wheel.{Wheel}
 use Rattle.kd_tables.specs.declared.place.Place.{Place}
 use Rattle.kd_tables.specs.Permutation.{alphabet}
 use Rattle.kd_tables.specs.Places.{place_rank}
 use Rattle.kd_tables.specs.Rings.{ring_of}
-use Rattle.kd_tables.specs.Tables.{box_of, slots_of}
+use Rattle.kd_tables.specs.Tables.{box_of}
 use Rattle.kd_pins.specs.declared.pin_set.PinSet.{PinSet}
 use Rattle.kd_state.specs.declared.rotor_parts.RotorParts.{RotorParts}
-use Rattle.kd_state.specs.declared.parts.Parts.{Parts}
-use Rattle.kd_state.specs.declared.parts.Parts.TheVariants.{Rotor, Pin}
 use Rattle.kd_state.specs.declared.sheet_wheel.SheetWheel.{SheetWheel}
 use Rattle.kd_state.specs.declared.setting.Setting.{Setting}
-use Rattle.kd_state.specs.declared.setting.Setting.TheVariants.{Pull, Put, Seat, SeatReflector, RingTo, Turn, PinTo, LugTo}
+use Rattle.kd_state.specs.declared.setting.Setting.TheVariants.{Pull, Put, Seat, Turn}
 use Rattle.kd_state.specs.Box.{same_wheel}
 use Rattle.kd_state.specs.Machine.{cable_letters, letter_at}
 use Rattle.kd_state.specs.Setting.{has_letter, is_at}
 use Rattle.kd_state.specs.Costs.{column_letters, columns_of, cable_cost, bar_cost, standings_as, lugs_moved}
-use Rattle.kd_plan.specs.Planned.{unless_so, in_box_order, letters_apart, seat_lines, reflector_lines, ring_lines, turn_lines, pull_lines, put_lines, wheel_pin_lines, pin_lines, pin_turn_lines, lugs_to, target_of, lug_lines}
+use Rattle.kd_plan.specs.Planned.{unless_so, in_box_order, letters_apart, seat_lines, ring_lines, turn_lines, pull_lines, put_lines, wheel_pin_lines, pin_lines, pin_turn_lines, lugs_to, target_of, lug_lines}
 use Rattle.kd_plan.proofs.Bars.{BarRow}
 use Rattle.kd_plan.proofs.Carrying.{lines_from}
 use Rattle.kd_plan.proofs.Columns.{column_at}

@@ -1,5 +1,5 @@
 -- The prices that a solution has may stand on a card, and mean there what they mean for the assignment.
-use Rattle.std.proofs.Common.{◌≡◌, ◌≢◌, ℕ, zero, suc, ◌≤◌, ◌<◌, ◌++◌, nat_eq, Bool, true, false, if◌then◌else◌, List, [], ◌∷◌, length, All, fold, replicate, ℤ, pos, unsigned_abs, ◌+ℤ◌, ◌≤ℤ◌, Option, Some, None, refl, sym, ap, ◌∙◌, subst, arith}
+use Rattle.std.proofs.Common.{◌≡◌, ◌≢◌, ℕ, zero, suc, ◌≤◌, ◌++◌, nat_eq, Bool, true, false, if◌then◌else◌, List, [], ◌∷◌, length, All, fold, replicate, ℤ, pos, unsigned_abs, ◌+ℤ◌, Option, Some, None, refl, sym, ap, ◌∙◌, subst, arith}
 use Rattle.std.proofs.lemmas.Bool.{ne_eqb}
 use Rattle.std.proofs.lemmas.Int.{ints}
 use Rattle.std.proofs.lemmas.List.{get_or-replicate, length-replicate}

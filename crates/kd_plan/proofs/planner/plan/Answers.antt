@@ -1,4 +1,4 @@
-use Rattle.std.proofs.Common.{rules, subst, sym}
+use Rattle.std.proofs.Common.{subst}
 use Rattle.kd_card.specs.Prices.{ArePrices}
 use Rattle.kd_plan.proofs.planner.plan.Goals as goal
 

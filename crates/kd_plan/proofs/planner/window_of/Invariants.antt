@@ -1,4 +1,4 @@
-use Rattle.std.specs.Prelude.{◌≡◌, map, take, length, IfSome}
+use Rattle.std.specs.Prelude.{◌≡◌, take, length, IfSome}
 use Rattle.kd_state.specs.SheetDay.{PinDay, pin_day}
 use Rattle.kd_plan.proofs.planner.window_of.Given as goal
 
