@@ -1,5 +1,5 @@
 -- Commands and the values of their words.
-use Rattle.std.proofs.Common.{◌≡◌, ◌≢◌, ◌⊎◌, ℕ, List, Option, Some, None, Bor, codes, get_or, option_map, sym, ap, ◌∙◌, arith}
+use Rattle.std.proofs.Common.{◌≡◌, ◌≢◌, ℕ, List, Option, Some, None, Bor, option_map, sym, ap, ◌∙◌}
 use Rattle.std.proofs.Common.{Result, Ok, Err, IsSomeAnd, IfSome, IfOk, IfErr, is_some, ok_or, true, false, [], inl, inr, refl, subst, ap₂}
 use Rattle.clap.specs.Words.{App, FailsBy, HasKind, HasMatchesOf, Row, fault_of, first_of, first_value, is_simple, is_simple_and_free, kind_of, rows_of, subcommand_of, subcommand_rows_of}
 use Rattle.clap.specs.declared.parser.matches.ArgMatches.{ArgMatches}
@@ -10,36 +10,12 @@ use Rattle.std.proofs.lemmas.Option.{same_Some}
 use Rattle.clap.specs.declared.parser.matches.Found.{Found}
 use Rattle.clap.proofs.WalkLemmas.{first_value-rows}
 use Rattle.kd_desk.specs.declared.command.Command.{Command}
-use Rattle.kd_desk.specs.declared.command.Command.TheVariants as commands
 use Rattle.kd_desk.specs.declared.fault.DeskFault.{DeskFault}
 use Rattle.kd_desk.specs.declared.fault.DeskFault.TheVariants.{File}
 use Rattle.kd_sheet.specs.declared.fault.SheetFault.TheVariants.{NoMemory}
 use Rattle.kd_desk.specs.declared.stop.Stop.{Stop}
 use Rattle.kd_desk.specs.declared.stop.Stop.TheVariants.{Usage, Refused}
 use Rattle.kd_desk.specs.CommandLine.{desk_grammar, IsOf, Says}
-
-none_or_some : {X : Type 0} (o : Option X) (x : X) → o ≡ None → o ≡ Some x → ⊥
-none_or_some o x none some = cc
-
--- the names of commands are different
-pub type_is_not_apply : codes "type" ≡ codes "apply" → ⊥
-type_is_not_apply same = let letter : 116 ≡ 97 = ap (λ word. get_or word 0 0) same in omega (arith, letter)
-
--- another name than a command's
-pub other_name : (said : List ℕ × List Row) → said.0 ≢ codes "type" → said.0 ≢ codes "apply" → (command : Command) → IsOf said command → ⊥
-other_name said not_type not_apply (commands.Type machine) is = not_type is.name
-other_name said not_type not_apply (commands.Apply machine list) is = not_apply is.name
-
--- a command by its name, whose words aren't all there
-pub no_typing : (rows : List Row) → first_of (codes "MACHINE") rows ≡ None → (command : Command) → IsOf (codes "type", rows) command → ⊥
-no_typing rows none (commands.Type machine) is = none_or_some _ _ none is.words
-no_typing rows none (commands.Apply machine list) is = type_is_not_apply is.name
-
-pub no_applying : (rows : List Row) → (first_of (codes "MACHINE") rows ≡ None) ⊎ (first_of (codes "LIST") rows ≡ None)
-    → (command : Command) → IsOf (codes "apply", rows) command → ⊥
-no_applying rows none (commands.Type machine) is = type_is_not_apply (sym is.name)
-no_applying rows (inl none) (commands.Apply machine list) is = none_or_some _ _ none is.words.0
-no_applying rows (inr none) (commands.Apply machine list) is = none_or_some _ _ none is.words.1
 
 -- what a getter of the matches reads, by their rows
 pub read_none : (found : Found) (id : List ℕ) (word : Option (Bor (List ℕ))) → option_map (λ s. s.now) word ≡ first_value found id → word ≡ None → first_of id (rows_of found) ≡ None

@@ -4,4 +4,5 @@ pub mod Failing
 pub mod Fronts
 pub mod Lamps
 pub mod Runs
+pub mod SaidRuns
 pub mod Texts

@@ -1,27 +1,15 @@
 -- What the program's words say, and the run that is made for them.
 use Rattle.std.proofs.Common.{◌≡◌, ℕ, List, Option, Some, None, IfSome, IsSomeAnd, Result, Ok, Err, IsErrAnd, sym, ap, ◌∙◌, subst, inl}
-use Rattle.std.proofs.lemmas.Option.{same_Some}
 use Rattle.clap.specs.Words.{Row, subcommand_of}
 use Rattle.kd_desk.specs.declared.command.Command.{Command}
-use Rattle.kd_desk.specs.declared.command.Command.TheVariants as commands
 use Rattle.kd_desk.specs.declared.fault.DeskFault.{DeskFault}
 use Rattle.kd_desk.specs.declared.stop.Stop.{Stop}
 use Rattle.kd_desk.specs.declared.stop.Stop.TheVariants.{Refused}
 use Rattle.kd_desk.specs.CommandLine.{desk_grammar, IsOf, Says}
-use Rattle.kd_desk.specs.Desk.{typing, with_bytes, typing_of, applying_of, run_of, TypesOn, CarriesOut}
+use Rattle.kd_desk.specs.Desk.{typing, with_bytes, typing_of, run_of, TypesOn, CarriesOut}
 use Rattle.kd_desk.specs.Files.{content_of}
 use Rattle.kd_desk.specs.Ports.{Port}
-use Rattle.kd_desk.proofs.CommandLines.{type_is_not_apply}
-
--- two commands of one name with the same words make one run
-same_run : (said : List ℕ × List Row) (one other : Command) → IsOf said one → IsOf said other → (held : List ℕ → Option (List ℕ)) → run_of held one ≡ run_of held other
-same_run said (commands.Type machine) (commands.Type another) is are held = ap (λ name. typing_of (held name)) (same_Some _ _ (sym is.words ∙ are.words))
-same_run said (commands.Type machine) (commands.Apply another list) is are held = absurd (type_is_not_apply (sym is.name ∙ are.name))
-same_run said (commands.Apply machine list) (commands.Type another) is are held = absurd (type_is_not_apply (sym are.name ∙ is.name))
-same_run said (commands.Apply machine list) (commands.Apply another second) is are held =
-    let first = same_Some _ _ (sym is.words.0 ∙ are.words.0) in
-    let last = same_Some _ _ (sym is.words.1 ∙ are.words.1) in
-    λ i. applying_of (held (first i)) (held (last i))
+use Rattle.kd_desk.proofs.SaidRuns.{same_run}
 
 said_by : (said : Option (List ℕ × List Row)) (one other : Command) → IsSomeAnd said (λ x. IsOf x one) → IsSomeAnd said (λ x. IsOf x other)
     → (held : List ℕ → Option (List ℕ)) → run_of held one ≡ run_of held other

@@ -1,6 +1,7 @@
 use Rattle.std.proofs.Common.{rules, codes, refl}
 use Rattle.clap.specs.Words.{found_of, rows_of}
-use Rattle.kd_desk.proofs.CommandLines.{read_none, read_some, no_typing}
+use Rattle.kd_desk.proofs.CommandLines.{read_none, read_some}
+use Rattle.kd_desk.proofs.SaidRuns.{no_typing}
 use Rattle.kd_desk.proofs.command.type_of.Goals as goal
 
 pub returns-in_err-machine-clause-none : goal.returns-in_err-machine-clause-none

@@ -1,4 +1,4 @@
-use Rattle.std.proofs.Common.{sym, subst, ◌≡◌}
+use Rattle.std.proofs.Common.{subst}
 use Rattle.kd_state.specs.Setting.{Leads}
 use Rattle.kd_desk.specs.RunApply.{Carried}
 use Rattle.kd_desk.proofs.Applying.{no_settings, refused_line, not_written}

@@ -1,4 +1,4 @@
-use Rattle.std.proofs.Common.{sym, ap, refl, ◌∙◌}
+use Rattle.std.proofs.Common.{sym, refl, ◌∙◌}
 use Rattle.kd_desk.specs.Settings.{OfCard, InCard}
 use Rattle.kd_desk.proofs.Applying.{list_read}
 use Rattle.kd_desk.proofs.settings.read_settings.Goals as goal
