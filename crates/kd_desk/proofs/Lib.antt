@@ -6,3 +6,5 @@ pub mod Lamps
 pub mod Runs
 pub mod SaidRuns
 pub mod Texts
+mod Days
+mod Printing

@@ -8,3 +8,6 @@ pub mod Settings
 pub mod Stops
 pub mod Typing
 pub mod TypingSteps
+pub mod Headline
+pub mod OnDay
+pub mod RunCard

@@ -43,6 +43,8 @@ fn print_card<W: Sink>(machine: &Machine, day: &SheetDay, sink: &mut W) -> Resul
     ensures untouched { IsTrue (is_refused_before result) → sink.new ≡ sink.old }
     ensures failed { W.has_failed sink.new ≡ (W.has_failed sink.old || is_device result) }
 {
+    let _legal_day = day.model();
+    let _legal_machine = machine.parts();
     laws::settings_keep_machines();
     laws::reading_as_the_day_is_its_cipher();
     laws::equally_set_machines_decipher();

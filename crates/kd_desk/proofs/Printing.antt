@@ -1,0 +1,65 @@
+-- What a card that was planned and written promises.
+use Rattle.std.proofs.Common.{◌≡◌, ◌≢◌, ℕ, List, Result, Ok, Err, IsErrAnd, refl, subst}
+use Rattle.std.specs.Io.KnownBytes.{Appends}
+use Rattle.kd_tables.specs.Writing.{TakesFront}
+use Rattle.kd_state.specs.declared.parts.Parts.{Parts}
+use Rattle.kd_state.specs.declared.setting.Setting.{Setting}
+use Rattle.kd_state.specs.Machine.{IsMachine, model_of}
+use Rattle.kd_state.specs.SheetDay.{Day, IsLegalDay, day_number, day_model}
+use Rattle.kd_state.specs.Laws.{ListsKeepMachines, ReadingIsReady, ReadingIsItsCipher, EquallySetDecipher}
+use Rattle.kd_card.specs.declared.prices.PriceParts.{PriceParts}
+use Rattle.kd_card.specs.CardText.{IsCard}
+use Rattle.kd_plan.specs.Planned.{Plans}
+use Rattle.kd_desk.specs.declared.fault.DeskFault.{DeskFault}
+use Rattle.kd_desk.specs.declared.fault.DeskFault.TheVariants as faults
+use Rattle.kd_desk.specs.Headline as headline
+use Rattle.kd_desk.specs.Ports.{Port}
+use Rattle.kd_desk.specs.RunCard.{WritesCard, Prints, Different, Card}
+use Rattle.kd_desk.proofs.Failing.{answered}
+
+-- the laws on which it rests
+pub record Laws : Type 0 where
+  pub keep : ListsKeepMachines
+  pub ready : ReadingIsReady
+  pub cipher : ReadingIsItsCipher
+  pub decipher : EquallySetDecipher
+
+module _ (laws : Laws) (m : Parts) (s : Day) (is_machine : IsMachine m) (legal : IsLegalDay s) where
+  leaves : (text settings : List _) (prices : PriceParts) → Plans m s settings prices → IsCard text (day_number s) settings prices
+      → headline.LeavesTheSheetsMachine m s settings
+  leaves text settings prices plans card =
+      let n = plans.leads.0 in
+      let machine = laws.keep m n settings is_machine card.in_range plans.leads.1 in
+      (n, plans.leads.1, record {
+        machine = machine;
+        reads = plans.leads.2;
+        ready = laws.ready n s machine legal plans.leads.2;
+        enciphers = λ letters. laws.cipher n s letters machine legal plans.leads.2;
+      })
+
+  decipher : headline.EquallySetDecipher s
+  decipher one other text set are =
+      laws.decipher one other s text set.machine set.other_machine legal set.on_key set.other_on_key set.letters are
+
+  pub whole : (settings : List Setting) (prices : PriceParts) (text : List ℕ) (day : ℕ) (sink : Port) → Plans m s settings prices
+      → day ≡ day_number s → IsCard text day settings prices → Appends sink.had sink.has text → Prints m s sink (Ok (tt {0}))
+  whole settings prices text day sink plans number card taken =
+      let dated = subst (λ d. IsCard text d settings prices) number card in
+      Card (record {
+        settings = settings; prices = prices; plans = plans; leaves = leaves text settings prices plans dated; deciphers = decipher;
+        text = text; card = dated; written = record { whole = taken; front = tt }; device = tt;
+      })
+
+  part_of : (settings : List Setting) (prices : PriceParts) (text : List ℕ) (sink : Port) → Plans m s settings prices
+      → IsCard text (day_number s) settings prices → TakesFront sink.had sink.has text → Prints m s sink (Err faults.Device)
+  part_of settings prices text sink plans card taken =
+      Card (record {
+        settings = settings; prices = prices; plans = plans; leaves = leaves text settings prices plans card; deciphers = decipher;
+        text = text; card = card; written = record { whole = tt; front = taken }; device = refl;
+      })
+
+  pub part : (settings : List Setting) (prices : PriceParts) (text : List ℕ) (day : ℕ) (sink : Port) (answer : Result (Unit {0}) DeskFault) → Plans m s settings prices
+      → day ≡ day_number s → IsCard text day settings prices → TakesFront sink.had sink.has text → IsErrAnd answer (λ made. made ≡ faults.Device) → Prints m s sink answer
+  part settings prices text day sink answer plans number card taken made =
+      answered answer faults.Device (Prints m s sink) made
+      (part_of settings prices text sink plans (subst (λ d. IsCard text d settings prices) number card) taken)
