@@ -1,4 +1,5 @@
-use Rattle.std.proofs.Common.{◌≡◌, ◌++◌, zip, map}
+use Rattle.std.proofs.Common.{◌≡◌, ◌+◌, ◌++◌, zip, map}
+use Rattle.std.specs.Option.{option_to_list}
 use Rattle.kd_state.specs.Costs.{columns_of}
 use Rattle.kd_plan.proofs.Columns.{column_at}
 use Rattle.kd_plan.specs.Planned.{pull_lines}
