@@ -1,5 +1,4 @@
-use Rattle.std.proofs.Common.{◌≡◌, ◌+◌, ◌++◌, zip, map}
-use Rattle.std.specs.Option.{option_to_list}
+use Rattle.std.proofs.Common.{◌≡◌, ◌++◌, zip, map}
 use Rattle.kd_plan.specs.Planned.{lug_lines}
 use Rattle.kd_plan.proofs.LineKinds.{lugs_of_bar}
 use Rattle.kd_plan.proofs.PinMachines.{row_at}

@@ -1,17 +1,13 @@
-use Rattle.std.proofs.Common.{rules, ◌≡◌, ◌+◌, ◌++◌, ℕ, List, nat_eq, false, filter_map, Bool, not, slice_get, unwrap_or, Option, Some, None, ◌<◌, zip, map, get_or, length, refl, sym, ap, ◌∙◌, arith, subst}
-use Rattle.std.specs.Option.{option_to_list}
+use Rattle.std.proofs.Common.{◌+◌, ◌++◌, None, zip, map, get_or, refl, sym, ap, ◌∙◌, arith}
 use Rattle.std.proofs.lemmas.Slice.Zip.{length-zip}
-use Rattle.std.proofs.lemmas.List.{length-map, get_or_default, get_or-map}
-use Rattle.std.proofs.lemmas.List.FromFn.{get_or-range_with_len, length-range_with_len}
-use Rattle.kd_tables.specs.Permutation.{alphabet}
+use Rattle.std.proofs.lemmas.List.{length-map, get_or-map}
 use Rattle.kd_state.specs.Costs.{columns_of}
 use Rattle.kd_plan.proofs.Columns.{column_at}
-use Rattle.kd_plan.specs.Planned.{pull_lines}
 use Rattle.kd_plan.proofs.LineKinds.{pulls_of_cable}
 use Rattle.kd_state.specs.declared.setting.Setting.TheVariants.{Pull}
 use Rattle.kd_plan.specs.Planned.{letters_apart}
 use Rattle.kd_plan.proofs.Plugging.{numbered_lines, pulls}
-use Rattle.kd_plan.proofs.Writing.{left_from, room, next, end, beside_at, lines_of_map, lines_of_found, lines_of_kept}
+use Rattle.kd_plan.proofs.Writing.{room, next, end, beside_at}
 use Rattle.kd_plan.proofs.cable_lines.push_pulls.Goals as goal
 
 pub loop-place-init : goal.loop-place-init

@@ -1,5 +1,4 @@
-use Rattle.std.proofs.Common.{◌≡◌, ◌+◌, ◌++◌, zip, map}
-use Rattle.std.specs.Option.{option_to_list}
+use Rattle.std.proofs.Common.{◌≡◌, ◌++◌, zip, map}
 use Rattle.kd_state.specs.Costs.{columns_of}
 use Rattle.kd_plan.proofs.Columns.{column_at}
 use Rattle.kd_plan.specs.Planned.{pull_lines}

@@ -1,7 +1,6 @@
-use Rattle.std.proofs.Common.{rules, ◌≡◌, ◌+◌, ◌++◌, ℕ, List, nat_eq, false, filter_map, Bool, not, slice_get, unwrap_or, Option, Some, None, ◌<◌, zip, map, get_or, length, refl, sym, ap, ◌∙◌, arith, subst}
+use Rattle.std.proofs.Common.{rules, ◌≡◌, ◌++◌, sym, ap, ◌∙◌, arith}
 use Rattle.std.specs.Option.{option_to_list}
-use Rattle.std.proofs.lemmas.Slice.Zip.{length-zip}
-use Rattle.std.proofs.lemmas.List.{length-map, get_or_default, get_or-map}
+use Rattle.std.proofs.lemmas.List.{length-map}
 use Rattle.std.proofs.lemmas.List.FromFn.{get_or-range_with_len, length-range_with_len}
 use Rattle.kd_tables.specs.Permutation.{alphabet}
 use Rattle.kd_tables.specs.Permutation.{alphabet}
@@ -11,7 +10,7 @@ use Rattle.kd_state.specs.Costs.{column_letters}
 use Rattle.kd_plan.specs.Planned.{letters_apart}
 use Rattle.kd_plan.proofs.LineKinds.{pull_of}
 use Rattle.kd_plan.specs.Planned.{lies_apart}
-use Rattle.kd_plan.proofs.Writing.{left_from, room, next, end, beside_at, lines_of_map, lines_of_found, lines_of_kept}
+use Rattle.kd_plan.proofs.Writing.{room, next, end, lines_of_kept}
 use Rattle.kd_plan.proofs.cable_lines.push_pulls_of.Goals as goal
 
 pub loop-index-init : goal.loop-index-init

@@ -1,5 +1,4 @@
-use Rattle.std.proofs.Common.{◌≡◌, ◌+◌, ◌++◌, zip, map}
-use Rattle.std.specs.Option.{option_to_list}
+use Rattle.std.proofs.Common.{◌≡◌, ◌++◌, map}
 use Rattle.kd_tables.specs.Permutation.{alphabet}
 use Rattle.kd_state.specs.declared.setting.Setting.TheVariants.{Pull}
 use Rattle.kd_state.specs.Machine.{cable_letters}

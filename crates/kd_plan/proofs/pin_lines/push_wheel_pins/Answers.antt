@@ -1,10 +1,6 @@
-use Rattle.std.proofs.Common.{rules, ◌≡◌, ◌+◌, ◌++◌, ℕ, List, nat_eq, false, filter_map, Bool, not, slice_get, unwrap_or, Option, Some, None, ◌<◌, zip, map, get_or, length, refl, sym, ap, ◌∙◌, arith, subst}
+use Rattle.std.proofs.Common.{◌≡◌, ◌++◌, ℕ, List, false, Bool, not, slice_get, unwrap_or, Some, get_or, length, sym, ap, ◌∙◌, arith}
 use Rattle.std.specs.Option.{option_to_list}
-use Rattle.std.proofs.lemmas.Slice.Zip.{length-zip}
-use Rattle.std.proofs.lemmas.List.{length-map, get_or_default, get_or-map}
-use Rattle.std.proofs.lemmas.List.FromFn.{get_or-range_with_len, length-range_with_len}
-use Rattle.kd_tables.specs.Permutation.{alphabet}
-use Rattle.kd_plan.specs.Planned.{wheel_pin_lines}
+use Rattle.std.proofs.lemmas.List.{get_or_default}
 use Rattle.kd_plan.proofs.LineKinds.{pin_of}
 use Rattle.std.specs.Option.{option_and_then}
 use Rattle.std.proofs.lemmas.Option.{unwrap_or-slice_get}
@@ -13,7 +9,7 @@ use Rattle.kd_state.specs.declared.setting.Setting.TheVariants.{PinTo}
 use Rattle.kd_state.specs.Costs.{differ}
 use Rattle.kd_plan.specs.Planned.{unless_so, pin_on}
 use Rattle.kd_plan.proofs.LineKinds.{pin_wanted}
-use Rattle.kd_plan.proofs.Writing.{left_from, room, next, end, beside_at, lines_of_map, lines_of_found, lines_of_kept}
+use Rattle.kd_plan.proofs.Writing.{room, next, end, lines_of_map}
 use Rattle.kd_plan.proofs.pin_lines.push_wheel_pins.Goals as goal
 
 -- what a pin is, by its place and by its letter

@@ -1,10 +1,6 @@
-use Rattle.std.proofs.Common.{rules, ◌≡◌, ◌+◌, ◌++◌, ℕ, List, nat_eq, false, filter_map, Bool, not, slice_get, unwrap_or, Option, Some, None, ◌<◌, zip, map, get_or, length, refl, sym, ap, ◌∙◌, arith, subst}
+use Rattle.std.proofs.Common.{◌++◌, nat_eq, false, filter_map, Option, get_or, sym, ap, ◌∙◌, arith}
 use Rattle.std.specs.Option.{option_to_list}
-use Rattle.std.proofs.lemmas.Slice.Zip.{length-zip}
-use Rattle.std.proofs.lemmas.List.{length-map, get_or_default, get_or-map}
-use Rattle.std.proofs.lemmas.List.FromFn.{get_or-range_with_len, length-range_with_len}
-use Rattle.kd_tables.specs.Permutation.{alphabet}
-use Rattle.kd_plan.specs.Planned.{ring_lines}
+use Rattle.std.proofs.lemmas.List.{get_or_default}
 use Rattle.kd_plan.proofs.LineKinds.{ring_of_wheel}
 use Rattle.kd_tables.specs.declared.wheel.Wheel.TheVariants.{I}
 use Rattle.std.specs.Option.{option_map_or, option_and_then}
@@ -15,7 +11,7 @@ use Rattle.kd_state.specs.declared.sheet_wheel.SheetWheel.{SheetWheel}
 use Rattle.kd_state.specs.Machine.{ring_in}
 use Rattle.kd_plan.specs.Planned.{unless_so}
 use Rattle.kd_plan.proofs.LineKinds.{ring_wanted, wheel_found}
-use Rattle.kd_plan.proofs.Writing.{left_from, room, next, end, beside_at, lines_of_map, lines_of_found, lines_of_kept}
+use Rattle.kd_plan.proofs.Writing.{room, next, end, lines_of_found}
 use Rattle.kd_plan.proofs.rotor_lines.push_rings.Goals as goal
 
 abbrev ring_from : Option SheetWheel → Parts → Option Setting

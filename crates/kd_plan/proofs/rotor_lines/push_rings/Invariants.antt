@@ -1,5 +1,4 @@
-use Rattle.std.proofs.Common.{◌≡◌, ◌+◌, ◌++◌, zip, map}
-use Rattle.std.specs.Option.{option_to_list}
+use Rattle.std.proofs.Common.{◌≡◌, ◌++◌}
 use Rattle.kd_plan.specs.Planned.{ring_lines}
 use Rattle.kd_plan.proofs.LineKinds.{ring_of_wheel}
 use Rattle.kd_plan.proofs.Writing.{left_from}

@@ -1,13 +1,9 @@
-use Rattle.std.proofs.Common.{rules, ◌≡◌, ◌+◌, ◌++◌, ℕ, List, nat_eq, false, filter_map, Bool, not, slice_get, unwrap_or, Option, Some, None, ◌<◌, zip, map, get_or, length, refl, sym, ap, ◌∙◌, arith, subst}
+use Rattle.std.proofs.Common.{◌++◌, None, zip, get_or, refl, sym, ap, arith}
 use Rattle.std.specs.Option.{option_to_list}
 use Rattle.std.proofs.lemmas.Slice.Zip.{length-zip}
-use Rattle.std.proofs.lemmas.List.{length-map, get_or_default, get_or-map}
-use Rattle.std.proofs.lemmas.List.FromFn.{get_or-range_with_len, length-range_with_len}
-use Rattle.kd_tables.specs.Permutation.{alphabet}
-use Rattle.kd_plan.specs.Planned.{seat_lines}
 use Rattle.kd_plan.proofs.LineKinds.{seat_of}
-use Rattle.kd_plan.proofs.Sides.{single_lines, flat_lines}
-use Rattle.kd_plan.proofs.Writing.{left_from, room, next, end, beside_at, lines_of_map, lines_of_found, lines_of_kept}
+use Rattle.kd_plan.proofs.Sides.{single_lines}
+use Rattle.kd_plan.proofs.Writing.{room, next, end, beside_at}
 use Rattle.kd_plan.proofs.rotor_lines.push_seats.Goals as goal
 
 pub loop-place-init : goal.loop-place-init

@@ -1,8 +1,6 @@
-use Rattle.std.proofs.Common.{◌≡◌, ◌+◌, ◌++◌, zip, map}
-use Rattle.std.specs.Option.{option_to_list}
+use Rattle.std.proofs.Common.{◌≡◌, ◌++◌, zip}
 use Rattle.kd_plan.specs.Planned.{seat_lines}
 use Rattle.kd_plan.proofs.LineKinds.{seat_of}
-use Rattle.kd_plan.proofs.Sides.{single_lines, flat_lines}
 use Rattle.kd_plan.proofs.Writing.{left_from}
 use Rattle.kd_plan.proofs.rotor_lines.push_seats.Given as goal
 

@@ -1,12 +1,7 @@
-use Rattle.std.proofs.Common.{rules, ◌≡◌, ◌+◌, ◌++◌, ℕ, List, nat_eq, false, filter_map, Bool, not, slice_get, unwrap_or, Option, Some, None, ◌<◌, zip, map, get_or, length, refl, sym, ap, ◌∙◌, arith, subst}
+use Rattle.std.proofs.Common.{◌+◌, ◌++◌, ℕ, nat_eq, false, Option, sym, ap, ◌∙◌, arith}
 use Rattle.std.specs.Option.{option_to_list}
-use Rattle.std.proofs.lemmas.Slice.Zip.{length-zip}
-use Rattle.std.proofs.lemmas.List.{length-map, get_or_default, get_or-map}
-use Rattle.std.proofs.lemmas.List.FromFn.{get_or-range_with_len, length-range_with_len}
-use Rattle.kd_tables.specs.Permutation.{alphabet}
-use Rattle.kd_plan.specs.Planned.{turn_lines}
 use Rattle.kd_plan.proofs.LineKinds.{turn_of}
-use Rattle.kd_plan.proofs.Sides.{single_lines, flat_lines}
+use Rattle.kd_plan.proofs.Sides.{single_lines}
 use Rattle.std.specs.Option.{option_map_or}
 use Rattle.kd_state.specs.declared.parts.Parts.{Parts}
 use Rattle.kd_state.specs.declared.setting.Setting.{Setting}
@@ -14,7 +9,7 @@ use Rattle.kd_state.specs.declared.setting.Setting.TheVariants.{Turn}
 use Rattle.kd_state.specs.declared.sheet_wheel.SheetWheel.{SheetWheel}
 use Rattle.kd_state.specs.Machine.{letter_in}
 use Rattle.kd_plan.specs.Planned.{unless_so}
-use Rattle.kd_plan.proofs.Writing.{left_from, room, next, end, beside_at, lines_of_map, lines_of_found, lines_of_kept}
+use Rattle.kd_plan.proofs.Writing.{room, next, end}
 use Rattle.kd_plan.proofs.rotor_lines.push_turns.Goals as goal
 
 abbrev turned_from : ℕ → SheetWheel → Parts → Option Setting
