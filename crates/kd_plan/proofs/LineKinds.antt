@@ -1,5 +1,5 @@
 -- The lines of each kind, thing by thing.
-use Rattle.std.proofs.Common.{ℕ, ◌&&◌, nat_eq, false, not, Bool, List, map, find, Option}
+use Rattle.std.proofs.Common.{ℕ, nat_eq, false, not, Bool, List, map, find, Option}
 use Rattle.std.specs.Option.{option_and_then, option_map_or, option_to_list}
 use Rattle.kd_tables.specs.declared.wheel.Wheel.{Wheel}
 use Rattle.kd_state.specs.declared.rotor_parts.RotorParts.{RotorParts}
@@ -8,9 +8,8 @@ use Rattle.kd_state.specs.declared.setting.Setting.{Setting}
 use Rattle.kd_state.specs.declared.setting.Setting.TheVariants.{Pull, Put, Seat, RingTo, Turn, PinTo}
 use Rattle.kd_state.specs.Box.{same_wheel}
 use Rattle.kd_state.specs.Machine.{ring_at, letter_at}
-use Rattle.kd_state.specs.Setting.{has_letter}
 use Rattle.kd_state.specs.Costs.{differ}
-use Rattle.kd_plan.specs.Planned.{unless_so, pin_on, target_of, lugs_to}
+use Rattle.kd_plan.specs.Planned.{unless_so, lies_apart, pin_on, target_of, lugs_to}
 use Rattle.kd_plan.proofs.Bars.{BarRow}
 use Rattle.kd_plan.proofs.Plugging.{Beside, pulls, puts}
 
@@ -34,10 +33,6 @@ pulls_of_cable number z = map (Pull number) (pulls z)
 
 abbrev pub puts_of_cable : ℕ → Beside → List Setting
 puts_of_cable number z = map (Put number) (puts z)
-
--- the letter lies in the first and not in the second
-abbrev pub lies_apart : List ℕ → List ℕ → ℕ → Bool
-lies_apart letters others letter = has_letter letters letter && not (has_letter others letter)
 
 abbrev pub pull_of : ℕ → List ℕ → List ℕ → ℕ → ℕ → List Setting
 pull_of cable letters others number letter = option_to_list (unless_so (not (lies_apart letters others letter)) (Pull cable letter))

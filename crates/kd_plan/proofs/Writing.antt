@@ -14,31 +14,31 @@ module _ {Z : Type 0} (lines : ℕ → Z → List Setting) (zs : List Z) where
   abbrev pub left_from : ℕ → List Setting
   left_from place = lines_from lines (place + 1) (drop place zs)
 
-  one_more : (place : ℕ) (d z : Z) → place < length zs → get_or zs place d ≡ z → left_from place ≡ lines (place + 1) z ++ left_from (place + 1)
-  one_more place d z lt at = ap (lines_from lines (place + 1)) (drop_more zs place d lt) ∙ ap (λ one. lines (place + 1) one ++ left_from (place + 1)) at
+  one_more : (place : ℕ) (z : Z) → place < length zs → get_or zs place z ≡ z → left_from place ≡ lines (place + 1) z ++ left_from (place + 1)
+  one_more place z lt at = ap (lines_from lines (place + 1)) (drop_more zs place z lt) ∙ ap (λ one. lines (place + 1) one ++ left_from (place + 1)) at
 
   module _ (items old all : List Setting) (place : ℕ) (written : items ++ left_from place ≡ old ++ all) where
     -- there is room for the next line
-    pub room : (d z : Z) (line : List Setting) → place < length zs → get_or zs place d ≡ z → line ≡ lines (place + 1) z → length old + length all ≤ 192
+    pub room : (z : Z) (line : List Setting) → place < length zs → get_or zs place z ≡ z → line ≡ lines (place + 1) z → length old + length all ≤ 192
         → length items + length line ≤ 192
-    room d z line lt at same few =
+    room z line lt at same few =
         omega (
           arith,
           ap length written,
           length-append items (left_from place),
           length-append old all,
-          ap length (one_more place d z lt at),
+          ap length (one_more place z lt at),
           length-append (lines (place + 1) z) (left_from (place + 1)),
           ap length same,
         )
 
     -- the next line is written
-    pub next : (d z : Z) (after line : List Setting) → place < length zs → get_or zs place d ≡ z → line ≡ lines (place + 1) z → after ≡ items ++ line
+    pub next : (z : Z) (after line : List Setting) → place < length zs → get_or zs place z ≡ z → line ≡ lines (place + 1) z → after ≡ items ++ line
         → after ++ left_from (place + 1) ≡ old ++ all
-    next d z after line lt at same e =
+    next z after line lt at same e =
         ap (λ xs. xs ++ left_from (place + 1)) (e ∙ ap (λ xs. items ++ xs) same)
         ∙ append_assoc items (lines (place + 1) z) (left_from (place + 1))
-        ∙ ap (λ xs. items ++ xs) (sym (one_more place d z lt at))
+        ∙ ap (λ xs. items ++ xs) (sym (one_more place z lt at))
         ∙ written
 
     -- no line is left

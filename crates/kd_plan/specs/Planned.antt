@@ -57,9 +57,13 @@ abbrev pub turn_lines : RotorParts → List SheetWheel → List Setting
 turn_lines m wheels =
     filter_map (λ slot. unless_so (option_map_or (nat_eq slot.1.letter) (letter_at m slot.1.wheel) false) (Turn slot.0 slot.1.letter)) (enumerate_from 1 wheels)
 
--- the letters that lie in the first and not in the second, in alphabetical order
+-- the letter lies in the first and not in the second
+abbrev pub lies_apart : List ℕ → List ℕ → ℕ → Bool
+lies_apart letters others letter = has_letter letters letter && not (has_letter others letter)
+
+-- the letters that do, in alphabetical order
 abbrev pub letters_apart : List ℕ → List ℕ → List ℕ
-letters_apart letters others = filter (λ letter. has_letter letters letter && not (has_letter others letter)) alphabet
+letters_apart letters others = filter (lies_apart letters others) alphabet
 
 -- the cables with their numbers, each with the letters of the column that it is paired with
 abbrev pub paired_cables : List (Option ℕ × Option ℕ) → List (ℕ × ℕ) → List ℕ → List (ℕ × (List ℕ × List ℕ))

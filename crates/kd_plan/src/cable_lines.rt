@@ -1,10 +1,10 @@
 //! The lines of cables: each loses the letters that its pair hasn't, and then takes those that it lacks.
-ghost use Rattle.std.specs.Prelude.{◌≡◌, ◌+◌, ◌≤◌, ◌++◌, ◌&&◌, not, map, length};
+ghost use Rattle.std.specs.Prelude.{◌≡◌, ◌+◌, ◌≤◌, ◌++◌, not, map, length};
 ghost use Rattle.arrayvec.specs.ArrayVec.{array_vec_len};
 ghost use Rattle.kd_state.specs.Machine.{cable_letters};
 ghost use Rattle.kd_state.specs.Setting.{has_letter};
 ghost use Rattle.kd_state.specs.Costs.{column_letters};
-ghost use Rattle.kd_plan.specs.Planned.{unless_so, letters_apart, pull_lines, put_lines};
+ghost use Rattle.kd_plan.specs.Planned.{unless_so, lies_apart, letters_apart, pull_lines, put_lines};
 
 use super::costs::column;
 use super::lines::{Settings, push_line};
@@ -77,8 +77,9 @@ fn push_puts_of(settings: &mut Settings, number: u8, cable: &Cable, column: &Col
 
 /// PULL, if the letter lies in the cable and isn't one of the pair.
 fn pull_line(number: u8, cable: &Cable, column: &Column, letter: Letter) -> Option<Setting>
-    ensures { let wanted = has_letter (cable_letters cable.now) letter && not (has_letter (column_letters column.now) letter) in
-        result ≡ unless_so (not wanted) (Setting.Pull number letter) }
+    ensures { let letters = cable_letters cable.now in
+        let others = column_letters column.now in
+        result ≡ unless_so (not (lies_apart letters others letter)) (Setting.Pull number letter) }
 {
     if lies_in(*cable, letter) && !is_one_of(*column, letter) {
         Some(Setting::Pull {
@@ -92,8 +93,9 @@ fn pull_line(number: u8, cable: &Cable, column: &Column, letter: Letter) -> Opti
 
 /// PUT, if the letter is one of the pair and doesn't lie in the cable.
 fn put_line(number: u8, cable: &Cable, column: &Column, letter: Letter) -> Option<Setting>
-    ensures { let wanted = has_letter (column_letters column.now) letter && not (has_letter (cable_letters cable.now) letter) in
-        result ≡ unless_so (not wanted) (Setting.Put number letter) }
+    ensures { let letters = column_letters column.now in
+        let others = cable_letters cable.now in
+        result ≡ unless_so (not (lies_apart letters others letter)) (Setting.Put number letter) }
 {
     if is_one_of(*column, letter) && !lies_in(*cable, letter) {
         Some(Setting::Put {

@@ -8,7 +8,8 @@ pub(crate) fn cable_prices(total: u16, cables: [i16; 13], pairs: [i16; 13]) -> P
     requires cables { All (λ price. unsigned_abs price ≤ 4 * 13) cables }
     requires pairs { All (λ price. unsigned_abs price ≤ 4 * 13) pairs }
     ensures { let zeros = replicate 13 (pos 0) in
-        result ≡ (if nat_eq total 0 then PriceParts.Cables zeros zeros else PriceParts.Cables cables pairs) }
+        result ≡ (if nat_eq total 0 then PriceParts.Cables zeros zeros
+        else PriceParts.Cables cables pairs) }
 {
     if total == 0 {
         Prices::cables([0; 13], [0; 13]).unwrap()
@@ -22,7 +23,8 @@ pub(crate) fn bar_prices(total: u16, bars: [i16; 27], rows: [i16; 27]) -> Prices
     requires bars { All (λ price. unsigned_abs price ≤ 4 * 27) bars }
     requires rows { All (λ price. unsigned_abs price ≤ 4 * 27) rows }
     ensures { let zeros = replicate 27 (pos 0) in
-        result ≡ (if nat_eq total 0 then PriceParts.Bars zeros zeros else PriceParts.Bars bars rows) }
+        result ≡ (if nat_eq total 0 then PriceParts.Bars zeros zeros
+        else PriceParts.Bars bars rows) }
 {
     if total == 0 {
         Prices::bars([0; 27], [0; 27]).unwrap()

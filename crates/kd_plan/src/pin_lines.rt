@@ -43,8 +43,10 @@ fn push_wheel_pins<const N: usize>(
     present: &[bool; N],
     wanted: &[bool; N],
 )
-    requires { array_vec_len settings.old + length (wheel_pin_lines wheel ring.now present.now wanted.now) ≤ 192 }
-    ensures { settings.new.items ≡ settings.old.items ++ wheel_pin_lines wheel ring.now present.now wanted.now }
+    requires { let lines = wheel_pin_lines wheel ring.now present.now wanted.now in
+        array_vec_len settings.old + length lines ≤ 192 }
+    ensures { let lines = wheel_pin_lines wheel ring.now present.now wanted.now in
+        settings.new.items ≡ settings.old.items ++ lines }
 {
     // What the type says of the ring: it has a letter for each place.
     let _letters = ring.letters();

@@ -69,7 +69,8 @@ pub(crate) fn push_turns(
 
 /// SEAT, unless the wheel is seated there.
 fn seat_line(slot: u8, seated: Option<Wheel>, wheel: Wheel) -> Option<Setting>
-    ensures { result ≡ unless_so (option_map_or (same_wheel wheel) seated false) (Setting.Seat slot wheel) }
+    ensures { let so = option_map_or (same_wheel wheel) seated false in
+        result ≡ unless_so so (Setting.Seat slot wheel) }
 {
     match seated {
         Some(present) if wheel == present => None,
@@ -79,7 +80,8 @@ fn seat_line(slot: u8, seated: Option<Wheel>, wheel: Wheel) -> Option<Setting>
 
 /// REFLECTOR, unless it is that one.
 fn reflector_line(present: Reflector, reflector: Reflector) -> Option<Setting>
-    ensures { result ≡ unless_so (same_reflector present reflector) (Setting.SeatReflector reflector) }
+    ensures { let so = same_reflector present reflector in
+        result ≡ unless_so so (Setting.SeatReflector reflector) }
 {
     if present == reflector {
         None
@@ -113,7 +115,8 @@ fn ring_line(machine: &Machine, wanted: Option<SheetWheel>) -> Option<Setting>
 
 /// TURN, unless the wheel in the slot shows the letter.
 fn turn_line(machine: &Machine, slot: u8, wanted: SheetWheel) -> Option<Setting>
-    ensures { let so = option_map_or (nat_eq wanted.letter) (letter_in machine.now wanted.wheel) false in
+    ensures { let shown = letter_in machine.now wanted.wheel in
+        let so = option_map_or (nat_eq wanted.letter) shown false in
         result ≡ unless_so so (Setting.Turn slot wanted.letter) }
 {
     let SheetWheel { wheel, letter, .. } = wanted;

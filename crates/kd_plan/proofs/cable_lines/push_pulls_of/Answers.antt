@@ -9,7 +9,7 @@ use Rattle.kd_state.specs.Machine.{cable_letters}
 use Rattle.kd_state.specs.Costs.{column_letters}
 use Rattle.kd_plan.specs.Planned.{letters_apart}
 use Rattle.kd_plan.proofs.LineKinds.{pull_of}
-use Rattle.kd_plan.proofs.LineKinds.{lies_apart}
+use Rattle.kd_plan.specs.Planned.{lies_apart}
 use Rattle.kd_plan.proofs.Writing.{room, next, end, lines_of_kept}
 use Rattle.kd_plan.proofs.cable_lines.push_pulls_of.Goals as goal
 
@@ -18,13 +18,29 @@ loop-index-init c = ap (λ lines. c.args.settings.now.items ++ lines) (sym (line
 
 pub push_line-requires : goal.push_line-requires
 push_line-requires c =
-    room (pull_of c.args.number (cable_letters c.args.cable.now) (column_letters c.args.column.now)) alphabet c.loop-index.settings.items c.args.settings.now.items _ c.loop-index.index c.loop-index.invariant
-    c.unwrap-letter.result c.unwrap-letter.result _ (omega (arith, length-range_with_len 0 26)) (let letter : c.unwrap-letter.result ≡ c.loop-index.index = search rules in get_or-range_with_len 0 26 c.loop-index.index c.unwrap-letter.result (omega arith) ∙ omega arith) (ap option_to_list c.pull_line.ensures) (omega (arith, c.requires, length-map (letters_apart (cable_letters c.args.cable.now) (column_letters c.args.column.now)) (Pull c.args.number)))
+    room (pull_of c.args.number (cable_letters c.args.cable.now) (column_letters c.args.column.now)) alphabet c.loop-index.settings.items c.args.settings.now.items _ c.loop-index.index
+    c.loop-index.invariant
+    c.unwrap-letter.result
+    _
+    (omega (arith, length-range_with_len 0 26))
+    (let letter : c.unwrap-letter.result ≡ c.loop-index.index = search rules in get_or-range_with_len 0 26 c.loop-index.index c.unwrap-letter.result (omega arith) ∙ omega arith)
+    (ap option_to_list c.pull_line.ensures)
+    (omega (arith, c.requires, length-map (letters_apart (cable_letters c.args.cable.now) (column_letters c.args.column.now)) (Pull c.args.number)))
 
 pub loop-index-preserved : goal.loop-index-preserved
 loop-index-preserved c =
-    next (pull_of c.args.number (cable_letters c.args.cable.now) (column_letters c.args.column.now)) alphabet c.loop-index.settings.items c.args.settings.now.items _ c.loop-index.index c.loop-index.invariant
-    c.unwrap-letter.result c.unwrap-letter.result _ _ (omega (arith, length-range_with_len 0 26)) (let letter : c.unwrap-letter.result ≡ c.loop-index.index = search rules in get_or-range_with_len 0 26 c.loop-index.index c.unwrap-letter.result (omega arith) ∙ omega arith) (ap option_to_list c.pull_line.ensures) c.push_line.ensures
+    next (pull_of c.args.number (cable_letters c.args.cable.now) (column_letters c.args.column.now)) alphabet c.loop-index.settings.items c.args.settings.now.items _ c.loop-index.index
+    c.loop-index.invariant
+    c.unwrap-letter.result
+    _
+    _
+    (omega (arith, length-range_with_len 0 26))
+    (let letter : c.unwrap-letter.result ≡ c.loop-index.index = search rules in get_or-range_with_len 0 26 c.loop-index.index c.unwrap-letter.result (omega arith) ∙ omega arith)
+    (ap option_to_list c.pull_line.ensures)
+    c.push_line.ensures
 
 pub returns : goal.returns
-returns c = end (pull_of c.args.number (cable_letters c.args.cable.now) (column_letters c.args.column.now)) alphabet c.loop-index.settings.items c.args.settings.now.items _ c.loop-index.index c.loop-index.invariant (omega (arith, length-range_with_len 0 26))
+returns c =
+    end (pull_of c.args.number (cable_letters c.args.cable.now) (column_letters c.args.column.now)) alphabet c.loop-index.settings.items c.args.settings.now.items _ c.loop-index.index
+    c.loop-index.invariant
+    (omega (arith, length-range_with_len 0 26))

@@ -11,13 +11,29 @@ loop-place-init c = ap (λ lines. c.args.settings.now.items ++ lines) (sym (sing
 
 pub push_line-requires : goal.push_line-requires
 push_line-requires c =
-    room pin_turn_of (zip c.args.letters.now c.args.window.now) c.loop-place.settings.items c.args.settings.now.items _ c.loop-place.place c.loop-place.invariant
-    (get_or c.args.letters.now c.loop-place.place c.index-letters-place.result, get_or c.args.window.now c.loop-place.place c.index-window-place.result) (get_or c.args.letters.now c.loop-place.place c.index-letters-place.result, get_or c.args.window.now c.loop-place.place c.index-window-place.result) _ (omega (arith, length-zip c.args.letters.now c.args.window.now)) (beside_at c.args.letters.now c.args.window.now c.loop-place.place _ c.index-letters-place.result _ c.index-window-place.result (omega arith) (omega arith) refl refl) (ap option_to_list c.pin_turn_line.ensures) (omega (arith, c.requires))
+    room pin_turn_of (zip c.args.letters.now c.args.window.now) c.loop-place.settings.items c.args.settings.now.items _ c.loop-place.place
+    c.loop-place.invariant
+    (get_or c.args.letters.now c.loop-place.place c.index-letters-place.result, get_or c.args.window.now c.loop-place.place c.index-window-place.result)
+    _
+    (omega (arith, length-zip c.args.letters.now c.args.window.now))
+    (beside_at c.args.letters.now c.args.window.now c.loop-place.place _ c.index-letters-place.result _ c.index-window-place.result (omega arith) (omega arith) refl refl)
+    (ap option_to_list c.pin_turn_line.ensures)
+    (omega (arith, c.requires))
 
 pub loop-place-preserved : goal.loop-place-preserved
 loop-place-preserved c =
-    next pin_turn_of (zip c.args.letters.now c.args.window.now) c.loop-place.settings.items c.args.settings.now.items _ c.loop-place.place c.loop-place.invariant
-    (get_or c.args.letters.now c.loop-place.place c.index-letters-place.result, get_or c.args.window.now c.loop-place.place c.index-window-place.result) (get_or c.args.letters.now c.loop-place.place c.index-letters-place.result, get_or c.args.window.now c.loop-place.place c.index-window-place.result) _ _ (omega (arith, length-zip c.args.letters.now c.args.window.now)) (beside_at c.args.letters.now c.args.window.now c.loop-place.place _ c.index-letters-place.result _ c.index-window-place.result (omega arith) (omega arith) refl refl) (ap option_to_list c.pin_turn_line.ensures) c.push_line.ensures
+    next pin_turn_of (zip c.args.letters.now c.args.window.now) c.loop-place.settings.items c.args.settings.now.items _ c.loop-place.place
+    c.loop-place.invariant
+    (get_or c.args.letters.now c.loop-place.place c.index-letters-place.result, get_or c.args.window.now c.loop-place.place c.index-window-place.result)
+    _
+    _
+    (omega (arith, length-zip c.args.letters.now c.args.window.now))
+    (beside_at c.args.letters.now c.args.window.now c.loop-place.place _ c.index-letters-place.result _ c.index-window-place.result (omega arith) (omega arith) refl refl)
+    (ap option_to_list c.pin_turn_line.ensures)
+    c.push_line.ensures
 
 pub returns : goal.returns
-returns c = end pin_turn_of (zip c.args.letters.now c.args.window.now) c.loop-place.settings.items c.args.settings.now.items _ c.loop-place.place c.loop-place.invariant (omega (arith, length-zip c.args.letters.now c.args.window.now))
+returns c =
+    end pin_turn_of (zip c.args.letters.now c.args.window.now) c.loop-place.settings.items c.args.settings.now.items _ c.loop-place.place
+    c.loop-place.invariant
+    (omega (arith, length-zip c.args.letters.now c.args.window.now))

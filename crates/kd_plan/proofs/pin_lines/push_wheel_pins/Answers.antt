@@ -21,21 +21,37 @@ loop-place-init g c = ap (λ lines. c.args.settings.now.items ++ lines) (sym (li
 
 pub push_line-requires : goal.push_line-requires
 push_line-requires g c =
-    room (pin_of c.args.wheel c.args.ring.now c.args.present.now c.args.wanted.now) c.args.ring.now c.loop-place.settings.items c.args.settings.now.items _ c.loop-place.place c.loop-place.invariant
-    c.letter_of.result c.letter_of.result _ (omega (arith, ap length c.letters-letters.ensures.value, c.letters-letters.ensures.ring.full)) (get_or_default c.args.ring.now c.loop-place.place c.letter_of.result 0 (omega (arith, ap length c.letters-letters.ensures.value, c.letters-letters.ensures.ring.full)) ∙ sym c.letter_of.ensures.value) (ap option_to_list c.pin_line.ensures
+    room (pin_of c.args.wheel c.args.ring.now c.args.present.now c.args.wanted.now) c.args.ring.now c.loop-place.settings.items c.args.settings.now.items _ c.loop-place.place
+    c.loop-place.invariant
+    c.letter_of.result
+    _
+    (omega (arith, ap length c.letters-letters.ensures.value, c.letters-letters.ensures.ring.full))
+    (get_or_default c.args.ring.now c.loop-place.place c.letter_of.result 0 (omega (arith, ap length c.letters-letters.ensures.value, c.letters-letters.ensures.ring.full)) ∙ sym c.letter_of.ensures.value)
+    (ap option_to_list c.pin_line.ensures
     ∙ ap (λ pin. option_to_list (unless_so (not (differ pin (get_or c.args.wanted.now c.loop-place.place false))) (PinTo c.args.wheel c.letter_of.result (get_or c.args.wanted.now c.loop-place.place false))))
     (pin_read c.args.ring.now c.args.present.now c.letter_of.result c.loop-place.place c.letter_of.ensures.there_alone)
     ∙ ap (λ pin. option_to_list (unless_so (not (differ (pin_on c.args.ring.now c.args.present.now c.letter_of.result) pin)) (PinTo c.args.wheel c.letter_of.result pin)))
-    (pin_read c.args.ring.now c.args.wanted.now c.letter_of.result c.loop-place.place c.letter_of.ensures.there_alone)) (omega (arith, c.requires))
+    (pin_read c.args.ring.now c.args.wanted.now c.letter_of.result c.loop-place.place c.letter_of.ensures.there_alone))
+    (omega (arith, c.requires))
 
 pub loop-place-preserved : goal.loop-place-preserved
 loop-place-preserved g c =
-    next (pin_of c.args.wheel c.args.ring.now c.args.present.now c.args.wanted.now) c.args.ring.now c.loop-place.settings.items c.args.settings.now.items _ c.loop-place.place c.loop-place.invariant
-    c.letter_of.result c.letter_of.result _ _ (omega (arith, ap length c.letters-letters.ensures.value, c.letters-letters.ensures.ring.full)) (get_or_default c.args.ring.now c.loop-place.place c.letter_of.result 0 (omega (arith, ap length c.letters-letters.ensures.value, c.letters-letters.ensures.ring.full)) ∙ sym c.letter_of.ensures.value) (ap option_to_list c.pin_line.ensures
+    next (pin_of c.args.wheel c.args.ring.now c.args.present.now c.args.wanted.now) c.args.ring.now c.loop-place.settings.items c.args.settings.now.items _ c.loop-place.place
+    c.loop-place.invariant
+    c.letter_of.result
+    _
+    _
+    (omega (arith, ap length c.letters-letters.ensures.value, c.letters-letters.ensures.ring.full))
+    (get_or_default c.args.ring.now c.loop-place.place c.letter_of.result 0 (omega (arith, ap length c.letters-letters.ensures.value, c.letters-letters.ensures.ring.full)) ∙ sym c.letter_of.ensures.value)
+    (ap option_to_list c.pin_line.ensures
     ∙ ap (λ pin. option_to_list (unless_so (not (differ pin (get_or c.args.wanted.now c.loop-place.place false))) (PinTo c.args.wheel c.letter_of.result (get_or c.args.wanted.now c.loop-place.place false))))
     (pin_read c.args.ring.now c.args.present.now c.letter_of.result c.loop-place.place c.letter_of.ensures.there_alone)
     ∙ ap (λ pin. option_to_list (unless_so (not (differ (pin_on c.args.ring.now c.args.present.now c.letter_of.result) pin)) (PinTo c.args.wheel c.letter_of.result pin)))
-    (pin_read c.args.ring.now c.args.wanted.now c.letter_of.result c.loop-place.place c.letter_of.ensures.there_alone)) c.push_line.ensures
+    (pin_read c.args.ring.now c.args.wanted.now c.letter_of.result c.loop-place.place c.letter_of.ensures.there_alone))
+    c.push_line.ensures
 
 pub returns : goal.returns
-returns g c = end (pin_of c.args.wheel c.args.ring.now c.args.present.now c.args.wanted.now) c.args.ring.now c.loop-place.settings.items c.args.settings.now.items _ c.loop-place.place c.loop-place.invariant (omega (arith, ap length c.letters-letters.ensures.value, c.letters-letters.ensures.ring.full))
+returns g c =
+    end (pin_of c.args.wheel c.args.ring.now c.args.present.now c.args.wanted.now) c.args.ring.now c.loop-place.settings.items c.args.settings.now.items _ c.loop-place.place
+    c.loop-place.invariant
+    (omega (arith, ap length c.letters-letters.ensures.value, c.letters-letters.ensures.ring.full))

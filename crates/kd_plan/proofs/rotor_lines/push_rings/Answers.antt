@@ -22,19 +22,35 @@ loop-wheel-init c = ap (λ lines. c.args.settings.now.items ++ lines) (sym (ap (
 
 pub push_line-requires : goal.push_line-requires
 push_line-requires c =
-    room (ring_of_wheel c.args.parts.now c.args.wheels.now) c.wheels-wheel-items.result.now c.loop-wheel.settings.items c.args.settings.now.items _ c.loop-wheel.wheel-index c.loop-wheel.invariant
-    (get_or c.wheels-wheel-items.result.now c.loop-wheel.wheel-index I) (get_or c.wheels-wheel-items.result.now c.loop-wheel.wheel-index I) _ (omega arith) (get_or_default c.wheels-wheel-items.result.now c.loop-wheel.wheel-index _ I (omega arith)) (
+    room (ring_of_wheel c.args.parts.now c.args.wheels.now) c.wheels-wheel-items.result.now c.loop-wheel.settings.items c.args.settings.now.items _ c.loop-wheel.wheel-index
+    c.loop-wheel.invariant
+    (get_or c.wheels-wheel-items.result.now c.loop-wheel.wheel-index I)
+    _
+    (omega arith)
+    (get_or_default c.wheels-wheel-items.result.now c.loop-wheel.wheel-index _ I (omega arith))
+    (
     ap option_to_list
     (c.ring_line.ensures ∙ ap (ring_from c.wheel_of.result) c.requires.machine ∙ ap (option_and_then (ring_wanted c.args.parts.now)) c.wheel_of.ensures)
-    ) (omega (arith, c.requires))
+    )
+    (omega (arith, c.requires))
 
 pub loop-wheel-preserved : goal.loop-wheel-preserved
 loop-wheel-preserved c =
-    next (ring_of_wheel c.args.parts.now c.args.wheels.now) c.wheels-wheel-items.result.now c.loop-wheel.settings.items c.args.settings.now.items _ c.loop-wheel.wheel-index c.loop-wheel.invariant
-    (get_or c.wheels-wheel-items.result.now c.loop-wheel.wheel-index I) (get_or c.wheels-wheel-items.result.now c.loop-wheel.wheel-index I) _ _ (omega arith) (get_or_default c.wheels-wheel-items.result.now c.loop-wheel.wheel-index _ I (omega arith)) (
+    next (ring_of_wheel c.args.parts.now c.args.wheels.now) c.wheels-wheel-items.result.now c.loop-wheel.settings.items c.args.settings.now.items _ c.loop-wheel.wheel-index
+    c.loop-wheel.invariant
+    (get_or c.wheels-wheel-items.result.now c.loop-wheel.wheel-index I)
+    _
+    _
+    (omega arith)
+    (get_or_default c.wheels-wheel-items.result.now c.loop-wheel.wheel-index _ I (omega arith))
+    (
     ap option_to_list
     (c.ring_line.ensures ∙ ap (ring_from c.wheel_of.result) c.requires.machine ∙ ap (option_and_then (ring_wanted c.args.parts.now)) c.wheel_of.ensures)
-    ) c.push_line.ensures
+    )
+    c.push_line.ensures
 
 pub returns : goal.returns
-returns c = end (ring_of_wheel c.args.parts.now c.args.wheels.now) c.wheels-wheel-items.result.now c.loop-wheel.settings.items c.args.settings.now.items _ c.loop-wheel.wheel-index c.loop-wheel.invariant (omega arith)
+returns c =
+    end (ring_of_wheel c.args.parts.now c.args.wheels.now) c.wheels-wheel-items.result.now c.loop-wheel.settings.items c.args.settings.now.items _ c.loop-wheel.wheel-index
+    c.loop-wheel.invariant
+    (omega arith)

@@ -11,13 +11,29 @@ loop-place-init c = ap (λ lines. c.args.settings.now.items ++ lines) (sym (sing
 
 pub push_line-requires : goal.push_line-requires
 push_line-requires c =
-    room seat_of (zip c.args.slots.now c.args.wheels.now) c.loop-place.settings.items c.args.settings.now.items _ c.loop-place.place c.loop-place.invariant
-    (get_or c.args.slots.now c.loop-place.place None, c.index-wheels-place.result) (get_or c.args.slots.now c.loop-place.place None, c.index-wheels-place.result) _ (omega (arith, length-zip c.args.slots.now c.args.wheels.now)) (beside_at c.args.slots.now c.args.wheels.now c.loop-place.place _ None c.index-wheels-place.result c.index-wheels-place.result (omega arith) (omega arith) refl c.index-wheels-place.is) (ap option_to_list c.seat_line.ensures) (omega (arith, c.requires))
+    room seat_of (zip c.args.slots.now c.args.wheels.now) c.loop-place.settings.items c.args.settings.now.items _ c.loop-place.place
+    c.loop-place.invariant
+    (get_or c.args.slots.now c.loop-place.place None, c.index-wheels-place.result)
+    _
+    (omega (arith, length-zip c.args.slots.now c.args.wheels.now))
+    (beside_at c.args.slots.now c.args.wheels.now c.loop-place.place _ None c.index-wheels-place.result c.index-wheels-place.result (omega arith) (omega arith) refl c.index-wheels-place.is)
+    (ap option_to_list c.seat_line.ensures)
+    (omega (arith, c.requires))
 
 pub loop-place-preserved : goal.loop-place-preserved
 loop-place-preserved c =
-    next seat_of (zip c.args.slots.now c.args.wheels.now) c.loop-place.settings.items c.args.settings.now.items _ c.loop-place.place c.loop-place.invariant
-    (get_or c.args.slots.now c.loop-place.place None, c.index-wheels-place.result) (get_or c.args.slots.now c.loop-place.place None, c.index-wheels-place.result) _ _ (omega (arith, length-zip c.args.slots.now c.args.wheels.now)) (beside_at c.args.slots.now c.args.wheels.now c.loop-place.place _ None c.index-wheels-place.result c.index-wheels-place.result (omega arith) (omega arith) refl c.index-wheels-place.is) (ap option_to_list c.seat_line.ensures) c.push_line.ensures
+    next seat_of (zip c.args.slots.now c.args.wheels.now) c.loop-place.settings.items c.args.settings.now.items _ c.loop-place.place
+    c.loop-place.invariant
+    (get_or c.args.slots.now c.loop-place.place None, c.index-wheels-place.result)
+    _
+    _
+    (omega (arith, length-zip c.args.slots.now c.args.wheels.now))
+    (beside_at c.args.slots.now c.args.wheels.now c.loop-place.place _ None c.index-wheels-place.result c.index-wheels-place.result (omega arith) (omega arith) refl c.index-wheels-place.is)
+    (ap option_to_list c.seat_line.ensures)
+    c.push_line.ensures
 
 pub returns : goal.returns
-returns c = end seat_of (zip c.args.slots.now c.args.wheels.now) c.loop-place.settings.items c.args.settings.now.items _ c.loop-place.place c.loop-place.invariant (omega (arith, length-zip c.args.slots.now c.args.wheels.now))
+returns c =
+    end seat_of (zip c.args.slots.now c.args.wheels.now) c.loop-place.settings.items c.args.settings.now.items _ c.loop-place.place
+    c.loop-place.invariant
+    (omega (arith, length-zip c.args.slots.now c.args.wheels.now))

@@ -20,17 +20,33 @@ loop-place-init c = ap (λ lines. c.args.settings.now.items ++ lines) (sym (sing
 
 pub push_line-requires : goal.push_line-requires
 push_line-requires c =
-    room (turn_of c.args.parts.now) c.args.wheels.now c.loop-place.settings.items c.args.settings.now.items _ c.loop-place.place c.loop-place.invariant
-    c.index-wheels-place.result c.index-wheels-place.result _ (omega arith) (sym c.index-wheels-place.is) (
+    room (turn_of c.args.parts.now) c.args.wheels.now c.loop-place.settings.items c.args.settings.now.items _ c.loop-place.place
+    c.loop-place.invariant
+    c.index-wheels-place.result
+    _
+    (omega arith)
+    (sym c.index-wheels-place.is)
+    (
     ap option_to_list (c.turn_line.ensures ∙ ap (turned_from (c.loop-place.place + 1) c.index-wheels-place.result) c.requires.machine)
-    ) (omega (arith, c.requires))
+    )
+    (omega (arith, c.requires))
 
 pub loop-place-preserved : goal.loop-place-preserved
 loop-place-preserved c =
-    next (turn_of c.args.parts.now) c.args.wheels.now c.loop-place.settings.items c.args.settings.now.items _ c.loop-place.place c.loop-place.invariant
-    c.index-wheels-place.result c.index-wheels-place.result _ _ (omega arith) (sym c.index-wheels-place.is) (
+    next (turn_of c.args.parts.now) c.args.wheels.now c.loop-place.settings.items c.args.settings.now.items _ c.loop-place.place
+    c.loop-place.invariant
+    c.index-wheels-place.result
+    _
+    _
+    (omega arith)
+    (sym c.index-wheels-place.is)
+    (
     ap option_to_list (c.turn_line.ensures ∙ ap (turned_from (c.loop-place.place + 1) c.index-wheels-place.result) c.requires.machine)
-    ) c.push_line.ensures
+    )
+    c.push_line.ensures
 
 pub returns : goal.returns
-returns c = end (turn_of c.args.parts.now) c.args.wheels.now c.loop-place.settings.items c.args.settings.now.items _ c.loop-place.place c.loop-place.invariant (omega arith)
+returns c =
+    end (turn_of c.args.parts.now) c.args.wheels.now c.loop-place.settings.items c.args.settings.now.items _ c.loop-place.place
+    c.loop-place.invariant
+    (omega arith)
