@@ -130,7 +130,8 @@ impl SheetDay {
 
     /// The model.
     pub fn model(&self) -> Model
-        ensures { result ≡ day_model self.now }
+        ensures value { result ≡ day_model self.now }
+        ensures legal { IsLegalDay self.now }
     {
         match &self.entry {
             Entry::Rotor(entry) => entry.model,
@@ -221,6 +222,16 @@ impl SheetDay {
         match &self.entry {
             Entry::Rotor(_) => None,
             Entry::Pin(entry) => Some(entry.pins),
+        }
+    }
+
+    /// The letter that each wheel of the Converter M-209 shows, from wheel 1 to wheel 6.
+    pub fn letters(&self) -> Option<[Letter; 6]>
+        ensures { result ≡ option_map (λ s. s.window) (pin_day self.now) }
+    {
+        match &self.entry {
+            Entry::Rotor(_) => None,
+            Entry::Pin(entry) => Some(entry.window),
         }
     }
 
