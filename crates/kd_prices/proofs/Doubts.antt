@@ -1,7 +1,7 @@
 -- A card that proves itself is in no doubt, and a card is in one doubt at most.
 use Rattle.std.proofs.Common.{◌≡◌, ℕ, ◌+◌, ◌<◌, ◌≤◌, ◌⊎◌, inl, inr, List, [], ◌∷◌, ◌++◌, length, refl, sym, ap, ◌∙◌, subst, arith}
-use Rattle.std.specs.Prelude.{pos}
-use Rattle.std.proofs.lemmas.Bool.{cases_lt}
+use Rattle.std.specs.Prelude.{pos, false, IsTrue, ◌↔◌}
+use Rattle.std.proofs.lemmas.Bool.{cases_lt, false≢true}
 use Rattle.kd_state.specs.declared.parts.Parts.{Parts}
 use Rattle.kd_state.specs.declared.setting.Setting.{Setting}
 use Rattle.kd_state.specs.declared.why.Why.{Why}
@@ -169,3 +169,8 @@ in_no_doubt one m s settings prices doubt proves h = denies one m s settings pri
     denied (PriceTooHigh i j) = proves.fits
     denied SumDiffers = proves.sum
     denied (NeedlessLine line) = proves.needed
+
+-- a card that is in a doubt doesn't prove itself
+pub not_proved : ProvingCardsAreInNoDoubt → (m : Parts) (s : Day) (settings : List Setting) (prices : PriceParts) (doubt : Doubt) → IsDoubt m s settings prices doubt
+    → IsTrue false ↔ Proves m s settings prices
+not_proved none m s settings prices doubt h = (λ e. absurd (false≢true e), λ proves. absurd (none m s settings prices doubt proves h))

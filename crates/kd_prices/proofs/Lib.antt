@@ -2,3 +2,5 @@ pub mod Columns
 pub mod Leading
 pub mod Doubts
 pub mod Rest
+pub mod CostTables
+pub mod LooseDays

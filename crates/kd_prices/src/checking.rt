@@ -1,4 +1,4 @@
-ghost use Rattle.std.specs.Prelude.{◌≡◌, ◌↔◌, IsTrue, IsOk, IfErr, MatchOption};
+ghost use Rattle.std.specs.Prelude.{◌≡◌, ◌↔◌, ◌≤◌, length, IsTrue, IsOk, IfErr, MatchOption};
 ghost use Rattle.kd_state.specs.Costs.{cost_table};
 ghost use Rattle.kd_card.specs.Prices.{Fits};
 ghost use Rattle.kd_card.specs.Proving.{AreOfKind, Proves, priced_count};
@@ -73,6 +73,7 @@ fn too_high(machine: &Machine, day: &SheetDay, prices: &Prices) -> Option<Place>
     ensures { let costs = cost_table machine.now day.now in
         MatchOption result (Fits costs prices.now) (λ place. IsFirstTooHigh costs prices.now place.row place.column) }
 {
+    let _model = day.model();
     match (machine.parts(), prices.parts()) {
         (Parts::Rotor(parts), PriceParts::Cables(rows, columns)) => {
             let costs = cable_costs(&parts.cables, day.pairs().unwrap());
@@ -88,7 +89,8 @@ fn too_high(machine: &Machine, day: &SheetDay, prices: &Prices) -> Option<Place>
 
 /// How many of the settings change a cable or a bar.
 fn priced_count(settings: &[Setting]) -> usize
-    ensures { result ≡ priced_count settings.now }
+    ensures value { result ≡ priced_count settings.now }
+    ensures few { result ≤ length settings.now }
 {
     settings.iter().filter(|setting| is_priced(setting)).count()
 }

@@ -1,5 +1,5 @@
 //! What it costs to make of each cable each column, and of each bar each row.
-ghost use Rattle.std.specs.Prelude.{◌≡◌, ◌≤◌, length, map};
+ghost use Rattle.std.specs.Prelude.{◌≡◌, ◌≤◌, None, length, map, slice_index_or};
 ghost use Rattle.kd_state.specs.Costs as costs;
 ghost use Rattle.kd_state.specs.Costs.{columns_of};
 
@@ -28,9 +28,16 @@ fn costs_of_cable(cable: &(Option<Letter>, Option<Letter>), pairs: &[(Letter, Le
 {
     let mut costs = [0; 13];
     for column in 0..13 {
-        costs[column] = cable_cost(*cable, pairs.get(column).copied());
+        costs[column] = cable_cost(*cable, column_at(pairs, column));
     }
     costs
+}
+
+/// The pair at the place, counted from 0, or nothing behind the last one.
+fn column_at(pairs: &[(Letter, Letter)], place: usize) -> Option<(Letter, Letter)>
+    ensures { result ≡ slice_index_or (columns_of pairs.now) place None }
+{
+    pairs.get(place).copied()
 }
 
 /// What it costs to make each bar read as each row.

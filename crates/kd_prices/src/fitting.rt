@@ -1,5 +1,5 @@
 //! Whether prices fit a table of costs.
-ghost use Rattle.std.specs.Prelude.{◌≡◌, ℕ, ◌<◌, length, MatchOption};
+ghost use Rattle.std.specs.Prelude.{◌≡◌, ◌↔◌, ℕ, ◌<◌, length, MatchOption, IsTrue, pos, ◌+ℤ◌, ◌≤ℤ◌};
 ghost use Rattle.kd_prices.specs.Doubt.{IsFirstWithout};
 ghost use Rattle.kd_prices.specs.Fitting.{AreWithin, IsWithin, IsFirstPlaceWithout};
 
@@ -36,9 +36,16 @@ fn first_column_too_high(costs: &[u8], price: i16, columns: &[i16]) -> Option<us
         (λ column. IsFirstPlaceWithout (IsWithin costs.now price columns.now) (length columns.now) column) }
 {
     for (column, other) in columns.iter().enumerate() {
-        if i32::from(price) + i32::from(*other) > i32::from(costs[column]) {
+        if !is_at_most(price, *other, costs[column]) {
             return Some(column);
         }
     }
     None
+}
+
+/// Whether two prices are together at most the cost.
+fn is_at_most(price: i16, other: i16, cost: u8) -> bool
+    ensures { IsTrue result ↔ ((price +ℤ other) ≤ℤ pos cost) }
+{
+    i32::from(price) + i32::from(other) <= i32::from(cost)
 }
