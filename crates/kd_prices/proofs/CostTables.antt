@@ -21,7 +21,7 @@ use Rattle.kd_prices.specs.declared.fitting.Place as places
 use Rattle.kd_prices.specs.Doubt.{IsFirstWithout, IsFirstTooHigh}
 use Rattle.kd_prices.specs.Fitting.{AreWithin}
 
-no_rotors : (model : Model) (reflector : Reflector) → model ≡ M209 → Contains (reflectors_of model) reflector → ⊥
+pub no_rotors : (model : Model) (reflector : Reflector) → model ≡ M209 → Contains (reflectors_of model) reflector → ⊥
 no_rotors model reflector e h = let none = subst (λ model. Contains (reflectors_of model) reflector) e h in omega (arith, none.1)
 
 -- a day of the Converter's model has rows

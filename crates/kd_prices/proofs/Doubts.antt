@@ -44,17 +44,17 @@ one_place Holds number row column i j h k =
     elim (cases_lt row i) [
       | inl lt ↦ absurd (h.here (not_before lt))
       | inr le ↦ elim (cases_lt i row) [
-          | inl lt ↦ absurd (k.here (not_behind lt))
-          | inr ge ↦
-              let same : row ≡ i = omega arith in
-              elim (cases_lt column j) [
-                | inl lt ↦ absurd (h.here (k.before row column h.column_within (inr (same, lt))))
-                | inr more ↦ elim (cases_lt j column) [
-                    | inl lt ↦ absurd (k.here (h.before i j k.column_within (inr (sym same, lt))))
-                    | inr less ↦ (same, omega arith)
-                  ]
+        | inl lt ↦ absurd (k.here (not_behind lt))
+        | inr ge ↦
+            let same : row ≡ i = omega arith in
+            elim (cases_lt column j) [
+              | inl lt ↦ absurd (h.here (k.before row column h.column_within (inr (same, lt))))
+              | inr more ↦ elim (cases_lt j column) [
+                | inl lt ↦ absurd (k.here (h.before i j k.column_within (inr (sym same, lt))))
+                | inr less ↦ (same, omega arith)
               ]
-        ]
+            ]
+      ]
     ]
 
 module _ (one : LeadsToOne) (m : Parts) (s : Day) (settings : List Setting) (prices : PriceParts) where
@@ -154,9 +154,9 @@ one_doubt one m s settings prices doubt other h k =
     elim (cases_lt (rank one m s settings prices doubt) (rank one m s settings prices other)) [
       | inl lt ↦ absurd (denies one m s settings prices doubt h (passed one m s settings prices doubt other lt k))
       | inr le ↦ elim (cases_lt (rank one m s settings prices other) (rank one m s settings prices doubt)) [
-          | inl lt ↦ absurd (denies one m s settings prices other k (passed one m s settings prices other doubt lt h))
-          | inr ge ↦ same_rank one m s settings prices doubt other (omega arith) h k
-        ]
+        | inl lt ↦ absurd (denies one m s settings prices other k (passed one m s settings prices other doubt lt h))
+        | inr ge ↦ same_rank one m s settings prices doubt other (omega arith) h k
+      ]
     ]
 
 pub in_no_doubt : LeadsToOne → ProvingCardsAreInNoDoubt

@@ -4,3 +4,4 @@ pub mod Doubts
 pub mod Rest
 pub mod CostTables
 pub mod LooseDays
+pub mod AlikePrices

@@ -14,8 +14,8 @@ rest_is_shortest one shortest m between s settings prices lines machine legal ar
     record {
       leads = (whole.0, leads_on one m between whole.0 (take lines settings) (drop lines settings) leads (subst (λ xs. Leads m xs whole.0) (sym (take-append-drop lines settings)) whole.1), whole.2);
       shortest = λ others reached.
-        let longer = shortest m s settings prices machine legal are_prices proves (take lines settings ++ others)
-        (reached.0, leads_join m between reached.0 (take lines settings) others leads reached.1, reached.2) in
-        omega (arith, longer, length-append (take lines settings) others, length-take lines settings, length-drop lines settings);
+          let longer = shortest m s settings prices machine legal are_prices proves (take lines settings ++ others)
+          (reached.0, leads_join m between reached.0 (take lines settings) others leads reached.1, reached.2) in
+          omega (arith, longer, length-append (take lines settings) others, length-take lines settings, length-drop lines settings);
       count = length-drop lines settings;
     }

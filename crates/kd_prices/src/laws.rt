@@ -1,7 +1,7 @@
 //! What holds of cards and of doubts.
-ghost use Rattle.kd_prices.specs.Laws.{ProvingCardsAreInNoDoubt, OneDoubt, RestIsShortest};
+ghost use Rattle.kd_prices.specs.Laws.{ProvingCardsAreInNoDoubt, OneDoubt, RestIsShortest, AlikePricesAreEqual};
 
-use kd_card::laws::proving_cards_are_shortest;
+use kd_card::laws::{proving_cards_are_shortest, proving_prices_are_tight};
 use kd_state::laws::a_setting_is_refused_or_carried;
 
 /// A card that proves itself is in no doubt, and no card is in two.
@@ -18,4 +18,12 @@ pub fn rest_of_a_card_is_shortest()
 {
     a_setting_is_refused_or_carried();
     proving_cards_are_shortest();
+}
+
+/// In a card that proves itself cables of equal letters have equal prices, and so have bars that stand alike, rows that read
+/// alike, and nothings.
+pub fn alike_prices_are_equal()
+    ensures { AlikePricesAreEqual }
+{
+    proving_prices_are_tight();
 }

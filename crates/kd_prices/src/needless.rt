@@ -10,7 +10,11 @@ use super::loose::loose_count;
 use kd_state::{Machine, Setting, SheetDay};
 
 /// The first line, counted from 1, that changes no cable or bar, and doesn't put one loose thing right either.
-pub(crate) fn first_needless(machine: &Machine, day: &SheetDay, settings: &[Setting]) -> Option<usize>
+pub(crate) fn first_needless(
+    machine: &Machine,
+    day: &SheetDay,
+    settings: &[Setting],
+) -> Option<usize>
     requires { (n : Parts) × Leads machine.now settings.now n }
     ensures { MatchOption result
         (AreNeeded machine.now day.now settings.now)
