@@ -114,7 +114,7 @@ module _ {A B : Type 0} (cost : A → B → ℕ) where
   abbrev pub FitAll : List A → List ℤ → List (B × ℤ) → Type 0
   FitAll rows prices ws = AllZip (λ row price. AllByRecursion (FitTogether row price) ws) rows prices
 
-  without_first : (rows : List A) (prices : List ℤ) (w : B × ℤ) (ws : List (B × ℤ)) → FitAll rows prices (w ∷ ws) → FitAll rows prices ws
+  pub without_first : (rows : List A) (prices : List ℤ) (w : B × ℤ) (ws : List (B × ℤ)) → FitAll rows prices (w ∷ ws) → FitAll rows prices ws
   without_first [] [] w ws h = tt
   without_first (row ∷ rows) (price ∷ prices) w ws h = (h.0.1, without_first rows prices w ws h.1)
   without_first [] (price ∷ prices) w ws h = h

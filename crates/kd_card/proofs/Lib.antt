@@ -14,3 +14,4 @@ pub mod Kept
 pub mod Pairing
 pub mod Shortest
 mod Carried
+pub mod Tight

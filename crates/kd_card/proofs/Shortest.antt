@@ -34,7 +34,7 @@ either : (b : Bool) → cond b 0 1 + cond b 1 0 ≡ 1
 either true = refl
 either false = refl
 
-model_of-list : (m n : Parts) (xs : List Setting) → Leads m xs n → model_of n ≡ model_of m
+pub model_of-list : (m n : Parts) (xs : List Setting) → Leads m xs n → model_of n ≡ model_of m
 model_of-list m n [] h = ap model_of h
 model_of-list m n (x ∷ xs) h = model_of-list h.0 n xs h.2 ∙ ap model_of h.1.made ∙ model_of-changed m x
 
@@ -53,7 +53,7 @@ module _ (s : Day) (legal : IsLegalDay s) (columns : List (Option (ℕ × ℕ) �
       omega (arith, setting_lowers m h.0 x same h.1, list_lowers h.0 n xs next h.2)
 
 -- Prices that fit a square table are in sum at most what any pairing costs.
-length-zip : {A B : Type 0} (xs : List A) (ys : List B) → length xs ≡ length ys → length (zip xs ys) ≡ length xs
+pub length-zip : {A B : Type 0} (xs : List A) (ys : List B) → length xs ≡ length ys → length (zip xs ys) ≡ length xs
 length-zip [] ys e = refl
 length-zip (x ∷ xs) (y ∷ ys) e = ap suc (length-zip xs ys (omega arith))
 length-zip (x ∷ xs) [] e = absurd (omega arith)
@@ -97,7 +97,7 @@ pins_bound m n s row column settings machine legal prices fits leads reads =
     omega (arith, ints, pairing.free, nothing_loose (Pin n) (OfPins s) reads)
 
 -- A machine and a day are of one kind.
-no_rotors : (model : Model) (reflector : Reflector) → model ≡ M209 → Contains (reflectors_of model) reflector → ⊥
+pub no_rotors : (model : Model) (reflector : Reflector) → model ≡ M209 → Contains (reflectors_of model) reflector → ⊥
 no_rotors model reflector e h = let none = subst (λ model. Contains (reflectors_of model) reflector) e h in omega (arith, none.1)
 
 pub fitting_prices_bound_lists : FittingPricesBoundLists

@@ -8,7 +8,7 @@ use Rattle.kd_state.specs.SheetDay.{Day, IsLegalDay}
 use Rattle.kd_state.specs.Costs.{cost_table, loose_count}
 use Rattle.kd_card.specs.declared.prices.PriceParts.{PriceParts}
 use Rattle.kd_card.specs.declared.fault.CardFault.{CardFault}
-use Rattle.kd_card.specs.Prices.{Fits, price_sum, ArePrices}
+use Rattle.kd_card.specs.Prices.{Fits, price_sum, ArePrices, AreTight}
 use Rattle.kd_card.specs.CardText.{IsCard}
 use Rattle.kd_card.specs.CardFault.{IsCardFault}
 use Rattle.kd_card.specs.Proving.{AreOfKind, Proves, IsShortest, LeadsToTheDay}
@@ -31,6 +31,12 @@ abbrev pub ProvingCardsAreShortest : Type 0
 ProvingCardsAreShortest =
     (m : Parts) (s : Day) (settings : List Setting) (prices : PriceParts) → IsMachine m → IsLegalDay s → ArePrices prices → Proves m s settings prices
     → IsShortest m s settings
+
+-- in a card that proves itself each row's price is as high as it can be at some column, and each column's at some row
+abbrev pub ProvingPricesAreTight : Type 0
+ProvingPricesAreTight =
+    (m : Parts) (s : Day) (settings : List Setting) (prices : PriceParts) → IsMachine m → IsLegalDay s → ArePrices prices → Proves m s settings prices
+    → AreTight (cost_table m s) prices
 
 -- no two cards have one text, and a card has no fault
 abbrev pub TextsTellCards : Type 0

@@ -47,3 +47,12 @@ Fits costs prices = (i j : ℕ) → i < how_many prices → j < how_many prices 
 -- the sum of all prices
 abbrev pub price_sum : PriceParts → ℤ
 price_sum prices = fold (λ sum price. sum +ℤ price) (pos 0) (row_prices prices ++ column_prices prices)
+
+-- a row's price and a column's are together the cost where they meet
+abbrev pub IsTightAt : List (List ℕ) → PriceParts → ℕ → ℕ → Type 0
+IsTightAt costs prices i j = (price_at (row_prices prices) i +ℤ price_at (column_prices prices) j) ≡ pos (cost_at costs i j)
+
+-- each row has a column where this is so, and each column a row
+pub record AreTight (costs : List (List ℕ)) (prices : PriceParts) : Type 0 where
+  pub column_of : (i : ℕ) → i < how_many prices → (j : ℕ) × (j < how_many prices) × IsTightAt costs prices i j
+  pub row_of : (j : ℕ) → j < how_many prices → (i : ℕ) × (i < how_many prices) × IsTightAt costs prices i j

@@ -1,6 +1,6 @@
 //! What holds of cards.
 ghost use Rattle.kd_card.specs.Laws.{TextsTellCards, CardsHaveNoFault};
-ghost use Rattle.kd_card.specs.Laws.{FittingPricesBoundLists, ProvingCardsAreAsLong, ProvingCardsAreShortest};
+ghost use Rattle.kd_card.specs.Laws.{FittingPricesBoundLists, ProvingCardsAreAsLong, ProvingCardsAreShortest, ProvingPricesAreTight};
 
 use kd_state::laws::{
     lines_tell_words, no_two_settings_have_one_line, numbers_and_letters_are_words,
@@ -33,4 +33,10 @@ pub fn proving_cards_are_as_long()
 /// A card that proves itself is shortest.
 pub fn proving_cards_are_shortest()
     ensures { ProvingCardsAreShortest }
+{}
+
+/// In a card that proves itself each row's price and some column's are together the cost where they meet, and so are each
+/// column's and some row's.
+pub fn proving_prices_are_tight()
+    ensures { ProvingPricesAreTight }
 {}

@@ -74,7 +74,7 @@ impl Prices {
     }
 
     /// The sum of all prices.
-    pub(crate) fn sum(&self) -> i32
+    pub fn sum(&self) -> i32
         ensures { result ≡ price_sum self.now }
     {
         let Prices { parts } = *self;

@@ -225,6 +225,16 @@ impl SheetDay {
         }
     }
 
+    /// The letter that each wheel of the Converter M-209 shows, from wheel 1 to wheel 6.
+    pub fn letters(&self) -> Option<[Letter; 6]>
+        ensures { result ≡ option_map (λ s. s.window) (pin_day self.now) }
+    {
+        match &self.entry {
+            Entry::Rotor(_) => None,
+            Entry::Pin(entry) => Some(entry.window),
+        }
+    }
+
     /// The two letters of the Converter M-209's key list.
     pub fn list(&self) -> Option<[Letter; 2]>
         ensures { result ≡ option_map (λ s. s.list) (pin_day self.now) }

@@ -1,0 +1,76 @@
+-- A machine and a day of one model are of one kind.
+use Rattle.std.proofs.Common.{◌≡◌, ℕ, ◌<◌, List, Contains, map, Option, Some, None, ℤ, refl, sym, ap, ◌∙◌, subst, arith}
+use Rattle.std.specs.Prelude.{MatchOption, IsSome}
+use Rattle.std.specs.Option.{option_map}
+use Rattle.kd_tables.specs.declared.model.Model.{Model}
+use Rattle.kd_tables.specs.declared.model.Model.TheVariants.{M209}
+use Rattle.kd_tables.specs.declared.reflector.Reflector.{Reflector}
+use Rattle.kd_tables.specs.declared.place.Place.{Place}
+use Rattle.kd_tables.specs.Tables.{reflectors_of}
+use Rattle.kd_state.specs.declared.rotor_parts.RotorParts.{RotorParts}
+use Rattle.kd_state.specs.declared.pin_parts.PinParts.{PinParts}
+use Rattle.kd_state.specs.declared.parts.Parts.{Parts}
+use Rattle.kd_state.specs.declared.parts.Parts.TheVariants.{Rotor, Pin}
+use Rattle.kd_state.specs.Machine.{model_of}
+use Rattle.kd_state.specs.SheetDay.{RotorDay, PinDay, Day, OfRotors, OfPins, day_model, rotor_day, pin_day, IsLegalDay}
+use Rattle.kd_state.specs.Costs.{cable_cost, bar_cost, columns_of, cost_table}
+use Rattle.kd_card.specs.declared.prices.PriceParts.{PriceParts}
+use Rattle.kd_card.specs.declared.prices.PriceParts.TheVariants.{Cables, Bars}
+use Rattle.kd_card.specs.Prices.{Fits}
+use Rattle.kd_prices.specs.declared.fitting.Place as places
+use Rattle.kd_prices.specs.Doubt.{IsFirstWithout, IsFirstTooHigh}
+use Rattle.kd_prices.specs.Fitting.{AreWithin}
+
+pub no_rotors : (model : Model) (reflector : Reflector) → model ≡ M209 → Contains (reflectors_of model) reflector → ⊥
+no_rotors model reflector e h = let none = subst (λ model. Contains (reflectors_of model) reflector) e h in omega (arith, none.1)
+
+-- a day of the Converter's model has rows
+pub has_rows : (s : Day) → IsLegalDay s → M209 ≡ day_model s → (p : PinDay) × (s ≡ OfPins p)
+has_rows (OfPins p) legal e = (p, refl)
+has_rows (OfRotors r) legal e = absurd (no_rotors r.model r.reflector (sym e) legal.reflector)
+
+-- so the reader of its rows tells them
+pub rows_are_told : (machine : Parts) (s : Day) (m : PinParts) (rows : Option (List (ℕ × ℕ))) → IsLegalDay s → machine ≡ Pin m → model_of machine ≡ day_model s
+    → rows ≡ option_map (λ (s : PinDay). s.rows) (pin_day s) → IsSome rows
+rows_are_told machine s m rows legal em same told =
+    let day = has_rows s legal (sym (ap model_of em) ∙ same) in
+    subst IsSome (sym (told ∙ ap (λ s. option_map (λ (s : PinDay). s.rows) (pin_day s)) day.1)) refl
+
+-- what the search through a table of costs has found
+abbrev Found : Parts → Day → PriceParts → Option places.Place → Type 0
+Found m s prices place =
+    MatchOption place (Fits (cost_table m s) prices) (λ place. IsFirstTooHigh (cost_table m s) prices place.row place.column)
+
+abbrev FoundIn : List (List ℕ) → List ℤ → List ℤ → ℕ → Option places.Place → Type 0
+FoundIn costs rows columns number place =
+    MatchOption place
+    ((i j : ℕ) → i < number → j < number → AreWithin costs rows columns i j)
+    (λ place. IsFirstWithout (AreWithin costs rows columns) number place.row place.column)
+
+pub found_for_cables : (machine : Parts) (s : Day) (prices : PriceParts) (m : RotorParts) (rows columns : List ℤ) (pairs : List (ℕ × ℕ)) (costs : List (List ℕ)) (place : Option places.Place)
+    → machine ≡ Rotor m → prices ≡ Cables rows columns → Some pairs ≡ option_map (λ (s : RotorDay). s.pairs) (rotor_day s)
+    → costs ≡ map (λ (cable : Option ℕ × Option ℕ). map (cable_cost cable) (columns_of pairs)) m.cables → FoundIn costs rows columns 13 place → Found machine s prices place
+found_for_cables machine (OfRotors s) prices m rows columns pairs costs place em ep es ec found =
+    let same : pairs ≡ s.pairs = cc in
+    let table = subst (λ pairs. costs ≡ map (λ (cable : Option ℕ × Option ℕ). map (cable_cost cable) (columns_of pairs)) m.cables) same ec in
+    let here = subst (λ costs. FoundIn costs rows columns 13 place) table found in
+    subst (λ machine. Found machine (OfRotors s) prices place) (sym em) (subst (λ prices. Found (Rotor m) (OfRotors s) prices place) (sym ep) (by_place place here))
+  where
+    by_place : (place : Option places.Place) → FoundIn (cost_table (Rotor m) (OfRotors s)) rows columns 13 place → Found (Rotor m) (OfRotors s) (Cables rows columns) place
+    by_place None h = h
+    by_place (Some place) h = h
+found_for_cables machine (OfPins s) prices m rows columns pairs costs place em ep es ec found = cc
+
+pub found_for_bars : (machine : Parts) (s : Day) (prices : PriceParts) (m : PinParts) (rows columns : List ℤ) (wanted : List (ℕ × ℕ)) (costs : List (List ℕ)) (place : Option places.Place)
+    → machine ≡ Pin m → prices ≡ Bars rows columns → Some wanted ≡ option_map (λ (s : PinDay). s.rows) (pin_day s)
+    → costs ≡ map (λ (bar : Place × Place). map (bar_cost bar) wanted) m.bars → FoundIn costs rows columns 27 place → Found machine s prices place
+found_for_bars machine (OfPins s) prices m rows columns wanted costs place em ep es ec found =
+    let same : wanted ≡ s.rows = cc in
+    let table = subst (λ wanted. costs ≡ map (λ (bar : Place × Place). map (bar_cost bar) wanted) m.bars) same ec in
+    let here = subst (λ costs. FoundIn costs rows columns 27 place) table found in
+    subst (λ machine. Found machine (OfPins s) prices place) (sym em) (subst (λ prices. Found (Pin m) (OfPins s) prices place) (sym ep) (by_place place here))
+  where
+    by_place : (place : Option places.Place) → FoundIn (cost_table (Pin m) (OfPins s)) rows columns 27 place → Found (Pin m) (OfPins s) (Bars rows columns) place
+    by_place None h = h
+    by_place (Some place) h = h
+found_for_bars machine (OfRotors s) prices m rows columns wanted costs place em ep es ec found = cc

@@ -1,0 +1,7 @@
+pub mod Columns
+pub mod Leading
+pub mod Doubts
+pub mod Rest
+pub mod CostTables
+pub mod LooseDays
+pub mod AlikePrices

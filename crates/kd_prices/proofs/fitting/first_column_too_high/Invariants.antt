@@ -1,0 +1,6 @@
+use Rattle.std.specs.Prelude.{ℕ, ◌<◌}
+use Rattle.kd_prices.specs.Fitting.{IsWithin}
+use Rattle.kd_prices.proofs.fitting.first_column_too_high.Given as goal
+
+abbrev pub invariant-loop-column : goal.invariant-loop-column
+invariant-loop-column l = (j : ℕ) → j < l.column → IsWithin l.costs l.price l.columns j

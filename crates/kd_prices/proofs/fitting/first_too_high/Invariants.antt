@@ -1,0 +1,6 @@
+use Rattle.std.specs.Prelude.{ℕ, ◌<◌}
+use Rattle.kd_prices.specs.Fitting.{AreWithin}
+use Rattle.kd_prices.proofs.fitting.first_too_high.Given as goal
+
+abbrev pub invariant-loop-row : goal.invariant-loop-row
+invariant-loop-row g l = (i j : ℕ) → i < l.row → j < g.row.N → AreWithin l.costs l.rows l.columns i j

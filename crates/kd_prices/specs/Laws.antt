@@ -1,0 +1,51 @@
+-- What holds of cards and of doubts.
+use Rattle.std.specs.Prelude.{◌≡◌, ℕ, ◌-◌, ◌<◌, ◌≤◌, List, length, take, drop}
+use Rattle.kd_state.specs.declared.parts.Parts.{Parts}
+use Rattle.kd_state.specs.declared.setting.Setting.{Setting}
+use Rattle.kd_state.specs.Machine.{IsMachine}
+use Rattle.kd_state.specs.Setting.{Leads}
+use Rattle.kd_state.specs.SheetDay.{Day, IsLegalDay}
+use Rattle.kd_card.specs.declared.prices.PriceParts.{PriceParts}
+use Rattle.kd_card.specs.Prices.{row_prices, column_prices, how_many, price_at, ArePrices}
+use Rattle.kd_card.specs.Proving.{LeadsToTheDay, Proves, IsShortest}
+use Rattle.kd_prices.specs.declared.doubt.Doubt.{Doubt}
+use Rattle.kd_prices.specs.Doubt.{IsDoubt}
+use Rattle.kd_prices.specs.Alike.{StandAlike, ReadAlike}
+
+-- a card that proves itself is in no doubt, and a card is in one doubt at most
+abbrev pub ProvingCardsAreInNoDoubt : Type 0
+ProvingCardsAreInNoDoubt =
+    (m : Parts) (s : Day) (settings : List Setting) (prices : PriceParts) (doubt : Doubt) → Proves m s settings prices → ¬ (IsDoubt m s settings prices doubt)
+
+abbrev pub OneDoubt : Type 0
+OneDoubt =
+    (m : Parts) (s : Day) (settings : List Setting) (prices : PriceParts) (doubt other : Doubt) → IsDoubt m s settings prices doubt → IsDoubt m s settings prices other
+    → doubt ≡ other
+
+-- the settings lead the machine to the day, no settings that do are fewer, and there are so many of them
+pub record AreShortest (m : Parts) (s : Day) (settings : List Setting) (number : ℕ) : Type 0 where
+  pub leads : LeadsToTheDay m s settings
+  pub shortest : IsShortest m s settings
+  pub count : length settings ≡ number
+
+-- After the first lines of a card that proves itself the others are a shortest list to the day.
+abbrev pub RestIsShortest : Type 0
+RestIsShortest =
+    (m between : Parts) (s : Day) (settings : List Setting) (prices : PriceParts) (lines : ℕ) → IsMachine m → IsLegalDay s → ArePrices prices
+    → Proves m s settings prices → lines ≤ length settings → Leads m (take lines settings) between
+    → AreShortest between s (drop lines settings) (length settings - lines)
+
+-- cables and bars that stand alike have equal prices, and so have pairs, nothings and rows that read alike
+pub record AreEqualWhereAlike (m : Parts) (s : Day) (prices : PriceParts) : Type 0 where
+  pub rows :
+      (place other : ℕ) → place < how_many prices → other < how_many prices → StandAlike m place other
+      → price_at (row_prices prices) place ≡ price_at (row_prices prices) other
+  pub columns :
+      (place other : ℕ) → place < how_many prices → other < how_many prices → ReadAlike s place other
+      → price_at (column_prices prices) place ≡ price_at (column_prices prices) other
+
+-- In a card that proves itself, what is alike has equal prices.
+abbrev pub AlikePricesAreEqual : Type 0
+AlikePricesAreEqual =
+    (m : Parts) (s : Day) (settings : List Setting) (prices : PriceParts) → IsMachine m → IsLegalDay s → ArePrices prices → Proves m s settings prices
+    → AreEqualWhereAlike m s prices

@@ -1,0 +1,4 @@
+pub mod Doubt
+pub mod Fitting
+pub mod Alike
+pub mod Laws

@@ -1,0 +1,96 @@
+ghost use Rattle.std.specs.Prelude.{◌≡◌, ◌↔◌, ◌≤◌, length, IsTrue, IsOk, IfErr, MatchOption};
+ghost use Rattle.kd_state.specs.Costs.{cost_table};
+ghost use Rattle.kd_card.specs.Prices.{Fits};
+ghost use Rattle.kd_card.specs.Proving.{AreOfKind, Proves, priced_count};
+ghost use Rattle.kd_prices.specs.Doubt.{AreOfOneModel, IsDoubt, IsFirstTooHigh};
+
+use super::costs::{bar_costs, cable_costs};
+use super::doubt::Doubt;
+use super::fitting::{Place, first_too_high};
+use super::laws::a_card_is_in_one_doubt_at_most;
+use super::needless::{first_needless, is_priced};
+use kd_card::{Card, PriceParts, Prices, carry_all};
+use kd_state::{Machine, Parts, Setting, SheetDay};
+
+/// Whether the card proves itself, whoever made it: its lines lead the machine to the day, and its prices show that no
+/// settings that do are fewer. Else the first doubt, in the order in which `Doubt` has them.
+pub fn check(machine: &Machine, day: &SheetDay, card: &Card) -> Result<(), Doubt>
+    ensures proves { IsOk result ↔ Proves machine.now day.now card.now.settings.items card.now.prices }
+    ensures doubt { IfErr result (IsDoubt machine.now day.now card.now.settings.items card.now.prices) }
+{
+    a_card_is_in_one_doubt_at_most();
+    let settings = card.settings.as_slice();
+    if !are_of_one_model(machine, day, &card.prices) {
+        return Err(Doubt::OtherModel);
+    }
+    let reached = match carry_all(machine, settings) {
+        Ok(reached) => reached,
+        Err(illegal) => {
+            return Err(Doubt::IllegalAt {
+                line: illegal.line,
+                why: illegal.why,
+            });
+        }
+    };
+    if !reached.reads_as(day) {
+        return Err(Doubt::NotTheSheet);
+    }
+    if let Some(place) = too_high(machine, day, &card.prices) {
+        return Err(Doubt::PriceTooHigh {
+            i: place.row as u8 + 1,
+            j: place.column as u8 + 1,
+        });
+    }
+    if card.prices.sum() != priced_count(settings) as i32 {
+        return Err(Doubt::SumDiffers);
+    }
+    match first_needless(machine, day, settings) {
+        Some(line) => Err(Doubt::NeedlessLine { line }),
+        None => Ok(()),
+    }
+}
+
+/// Whether machine and day are of one model, and the prices of their kind.
+fn are_of_one_model(machine: &Machine, day: &SheetDay, prices: &Prices) -> bool
+    ensures { IsTrue result ↔ AreOfOneModel machine.now day.now prices.now }
+{
+    machine.model() == day.model() && are_of_kind(machine, prices)
+}
+
+/// Whether the prices are of cables for a rotor machine, and of bars for a Converter M-209.
+fn are_of_kind(machine: &Machine, prices: &Prices) -> bool
+    ensures { IsTrue result ↔ AreOfKind machine.now prices.now }
+{
+    matches!(
+        (machine.parts(), prices.parts()),
+        (Parts::Rotor(_), PriceParts::Cables(..)) | (Parts::Pin(_), PriceParts::Bars(..))
+    )
+}
+
+/// The first row and column whose prices are together above what the machine's cable or bar costs there.
+fn too_high(machine: &Machine, day: &SheetDay, prices: &Prices) -> Option<Place>
+    requires { AreOfOneModel machine.now day.now prices.now }
+    ensures { let costs = cost_table machine.now day.now in
+        MatchOption result (Fits costs prices.now) (λ place. IsFirstTooHigh costs prices.now place.row place.column) }
+{
+    let _model = day.model();
+    match (machine.parts(), prices.parts()) {
+        (Parts::Rotor(parts), PriceParts::Cables(rows, columns)) => {
+            let costs = cable_costs(&parts.cables, day.pairs().unwrap());
+            first_too_high(&costs, &rows, &columns)
+        }
+        (Parts::Pin(parts), PriceParts::Bars(rows, columns)) => {
+            let costs = bar_costs(&parts.bars, &day.rows().unwrap());
+            first_too_high(&costs, &rows, &columns)
+        }
+        _ => unreachable!(),
+    }
+}
+
+/// How many of the settings change a cable or a bar.
+fn priced_count(settings: &[Setting]) -> usize
+    ensures value { result ≡ priced_count settings.now }
+    ensures few { result ≤ length settings.now }
+{
+    settings.iter().filter(|setting| is_priced(setting)).count()
+}

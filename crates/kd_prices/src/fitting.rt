@@ -1,0 +1,51 @@
+//! Whether prices fit a table of costs.
+ghost use Rattle.std.specs.Prelude.{◌≡◌, ◌↔◌, ℕ, ◌<◌, length, MatchOption, IsTrue, pos, ◌+ℤ◌, ◌≤ℤ◌};
+ghost use Rattle.kd_prices.specs.Doubt.{IsFirstWithout};
+ghost use Rattle.kd_prices.specs.Fitting.{AreWithin, IsWithin, IsFirstPlaceWithout};
+
+/// A place in a table of costs: its row and its column, counted from 0.
+#[derive(Clone, Copy)]
+pub(crate) struct Place {
+    pub row: usize,
+    pub column: usize,
+}
+
+/// The first place, by its row and then its column, at which the row's price and the column's are together above the cost.
+pub(crate) fn first_too_high<const N: usize>(
+    costs: &[[u8; N]; N],
+    rows: &[i16; N],
+    columns: &[i16; N],
+) -> Option<Place>
+    ensures { MatchOption result
+        ((i j : ℕ) → i < N → j < N → AreWithin costs.now rows.now columns.now i j)
+        (λ place. IsFirstWithout (AreWithin costs.now rows.now columns.now) N place.row place.column) }
+{
+    for (row, price) in rows.iter().enumerate() {
+        if let Some(column) = first_column_too_high(&costs[row], *price, columns) {
+            return Some(Place { row, column });
+        }
+    }
+    None
+}
+
+/// The first column whose price and this one are together above the cost there.
+fn first_column_too_high(costs: &[u8], price: i16, columns: &[i16]) -> Option<usize>
+    requires { length costs.now ≡ length columns.now }
+    ensures { MatchOption result
+        ((j : ℕ) → j < length columns.now → IsWithin costs.now price columns.now j)
+        (λ column. IsFirstPlaceWithout (IsWithin costs.now price columns.now) (length columns.now) column) }
+{
+    for (column, other) in columns.iter().enumerate() {
+        if !is_at_most(price, *other, costs[column]) {
+            return Some(column);
+        }
+    }
+    None
+}
+
+/// Whether two prices are together at most the cost.
+fn is_at_most(price: i16, other: i16, cost: u8) -> bool
+    ensures { IsTrue result ↔ ((price +ℤ other) ≤ℤ pos cost) }
+{
+    i32::from(price) + i32::from(other) <= i32::from(cost)
+}

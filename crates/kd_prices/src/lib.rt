@@ -1,0 +1,15 @@
+//! The check of a card: whether it proves itself, or the first doubt.
+#![tactic(auto)]
+
+mod checking;
+mod costs;
+mod doubt;
+mod fitting;
+pub mod laws;
+mod loose;
+mod needless;
+#[cfg(test)]
+mod tests;
+
+pub use checking::check;
+pub use doubt::Doubt;

@@ -1,0 +1,3 @@
+mod cables;
+mod lugs;
+mod samples;
