@@ -1,5 +1,6 @@
 pub mod Applying
 pub mod CommandLines
+pub mod Exclusions
 pub mod Failing
 pub mod Fronts
 pub mod Lamps

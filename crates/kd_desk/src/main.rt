@@ -5,6 +5,7 @@ mod command;
 mod desk;
 mod fault;
 mod files;
+mod laws;
 mod limit;
 mod ports;
 mod run_apply;

@@ -1,0 +1,39 @@
+-- Settings that bytes say, and lines that a machine refuses.
+use Rattle.std.proofs.Common.{◌≡◌, Bool, List, [], ◌∷◌, ◌++◌, Some, None, IsTrue, IsFalse, sym, ◌∙◌, ap, subst}
+use Rattle.kd_state.specs.declared.parts.Parts.{Parts}
+use Rattle.kd_state.specs.declared.setting.Setting.{Setting}
+use Rattle.kd_state.specs.declared.why.Why.{Why}
+use Rattle.kd_state.specs.Laws as lists
+use Rattle.kd_state.specs.Setting.{why_refused, Leads}
+use Rattle.kd_card.specs.Laws as cards
+use Rattle.kd_desk.specs.Laws.{TextsTellSettings, SettingsHaveNoFault, LeadsOrRefuses}
+use Rattle.kd_desk.specs.Settings.{OfCard, OfList, InCard, InList}
+
+both : (b : Bool) → IsTrue b → IsFalse b → ⊥
+both b holds fails = cc
+
+pub one_list : cards.TextsTellCards → lists.TextsTellLists → TextsTellSettings
+one_list tells_card tells_list bytes xs ys (OfCard begun day prices card) (OfCard also other others same) = (tells_card bytes day other xs ys prices others card same).1
+one_list tells_card tells_list bytes xs ys (OfCard begun day prices card) (OfList unbegun list) = absurd (both _ begun unbegun)
+one_list tells_card tells_list bytes xs ys (OfList unbegun list) (OfCard begun day prices card) = absurd (both _ begun unbegun)
+one_list tells_card tells_list bytes xs ys (OfList unbegun list) (OfList also same) = tells_list bytes xs ys list same
+
+pub no_fault : cards.CardsHaveNoFault → lists.ListsHaveNoFault → SettingsHaveNoFault
+no_fault no_card no_list bytes xs fault (OfCard begun day prices card) (InCard also of_card is told) = no_card bytes day xs prices of_card card is
+no_fault no_card no_list bytes xs fault (OfCard begun day prices card) (InList unbegun of_list is told) = both _ begun unbegun
+no_fault no_card no_list bytes xs fault (OfList unbegun list) (InCard begun of_card is told) = both _ begun unbegun
+no_fault no_card no_list bytes xs fault (OfList unbegun list) (InList also of_list is told) = no_list bytes xs of_list list is
+
+none_and_some : (m n : Parts) (x : Setting) (why : Why) → n ≡ m → why_refused m x ≡ None → why_refused n x ≡ Some why → ⊥
+none_and_some m n x why same none some = let e : None ≡ Some why = sym none ∙ ap (λ k. why_refused k x) (sym same) ∙ some in cc
+
+refused_behind : lists.CarriesToOne → (front rest : List Setting) (x : Setting) (m between n : Parts) (why : Why)
+    → Leads m (front ++ x ∷ rest) n → Leads m front between → why_refused between x ≡ Some why → ⊥
+refused_behind to_one [] rest x m between n why leads at refused = none_and_some m between x why at leads.1.allowed refused
+refused_behind to_one (y ∷ front) rest x m between n why leads at refused =
+    let same = to_one m leads.0 at.0 y leads.1 at.1 in
+    refused_behind to_one front rest x at.0 between n why (subst (λ k. Leads k (front ++ x ∷ rest) n) same leads.2) at.2 refused
+
+pub lead_or_refuse : lists.CarriesToOne → LeadsOrRefuses
+lead_or_refuse to_one m n xs line why leads first =
+    refused_behind to_one first.front first.rest first.setting m first.between n why (subst (λ l. Leads m l n) first.split leads) first.leads first.refused

@@ -1,0 +1,21 @@
+-- What holds of bytes that say settings, and of a machine that carries settings out.
+use Rattle.std.specs.Prelude.{◌≡◌, ℕ, List}
+use Rattle.kd_state.specs.declared.parts.Parts.{Parts}
+use Rattle.kd_state.specs.declared.setting.Setting.{Setting}
+use Rattle.kd_state.specs.declared.why.Why.{Why}
+use Rattle.kd_state.specs.Setting.{Leads}
+use Rattle.kd_card.specs.Carrying.{IsFirstIllegal}
+use Rattle.kd_desk.specs.declared.fault.DeskFault.{DeskFault}
+use Rattle.kd_desk.specs.Settings.{AreSettings, IsSettingsFault}
+
+-- bytes say one list of settings at most
+abbrev pub TextsTellSettings : Type 0
+TextsTellSettings = (bytes : List ℕ) (xs ys : List Setting) → AreSettings bytes xs → AreSettings bytes ys → xs ≡ ys
+
+-- and if they say one, they have no fault
+abbrev pub SettingsHaveNoFault : Type 0
+SettingsHaveNoFault = (bytes : List ℕ) (xs : List Setting) (fault : DeskFault) → AreSettings bytes xs → ¬ (IsSettingsFault bytes fault)
+
+-- of settings that lead a machine to another one no line is refused in its turn
+abbrev pub LeadsOrRefuses : Type 0
+LeadsOrRefuses = (m n : Parts) (xs : List Setting) (line : ℕ) (why : Why) → Leads m xs n → ¬ (IsFirstIllegal m xs line why)
