@@ -1,13 +1,13 @@
 //! Cables that become pairs.
 use super::samples::{
-    assert_lines, letter, m1, m1_with_two_cables, planned, pull, put, rotor, s1, s1_with_pairs,
-    total,
+    assert_lines, day_with_pairs, letter, plain_day, plain_parts, planned, pull, put, rotor, total,
+    with_two_cables,
 };
 
 #[test]
 fn cables_that_share_letters_with_pairs(rt: HostRuntime) {
-    let machine = rotor(&rt, m1_with_two_cables(&rt));
-    let card = planned(&rt, &machine, &s1_with_pairs(&rt, b"BCDE"));
+    let machine = rotor(&rt, with_two_cables(&rt));
+    let card = planned(&rt, &machine, &day_with_pairs(&rt, b"BCDE"));
     let expected = [
         pull(&rt, 1, b'A'),
         pull(&rt, 2, b'C'),
@@ -21,8 +21,8 @@ fn cables_that_share_letters_with_pairs(rt: HostRuntime) {
 /// By number it would be six lines: cable 1 has no letter of the first pair.
 #[test]
 fn pairs_in_the_other_order(rt: HostRuntime) {
-    let machine = rotor(&rt, m1_with_two_cables(&rt));
-    let card = planned(&rt, &machine, &s1_with_pairs(&rt, b"DEBC"));
+    let machine = rotor(&rt, with_two_cables(&rt));
+    let card = planned(&rt, &machine, &day_with_pairs(&rt, b"DEBC"));
     let expected = [
         pull(&rt, 1, b'A'),
         pull(&rt, 2, b'C'),
@@ -36,9 +36,9 @@ fn pairs_in_the_other_order(rt: HostRuntime) {
 #[test]
 fn a_cable_with_one_letter(rt: HostRuntime) {
     let (c, f) = (letter(&rt, b'C'), letter(&rt, b'F'));
-    let mut parts = m1(&rt);
+    let mut parts = plain_parts(&rt);
     parts.cables[0] = (Some(c), None);
-    let card = planned(&rt, &rotor(&rt, parts), &s1(&rt, &[(c, f)]));
+    let card = planned(&rt, &rotor(&rt, parts), &plain_day(&rt, &[(c, f)]));
     assert_lines(&rt, &card, &[put(&rt, 1, b'F')]);
     assert_eq!(rt; total(&rt, &card), 1);
 }

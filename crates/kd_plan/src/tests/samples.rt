@@ -26,7 +26,7 @@ pub fn per_wheel<const N: usize>(rt: &impl Abort, text: &[u8; N]) -> PerWheel<Le
 }
 
 /// An Enigma I with reflector B, the wheels I, II and III in the slots, no cables, and all rings and letters A.
-pub fn m1(rt: &impl Abort) -> RotorParts {
+pub fn plain_parts(rt: &impl Abort) -> RotorParts {
     let seated = [Some(Wheel::I), Some(Wheel::II), Some(Wheel::III)];
     RotorParts {
         model: Model::EnigmaI,
@@ -39,9 +39,9 @@ pub fn m1(rt: &impl Abort) -> RotorParts {
 }
 
 /// The same with cable 1 between A and B, and cable 2 between C and D.
-pub fn m1_with_two_cables(rt: &impl Abort) -> RotorParts {
+pub fn with_two_cables(rt: &impl Abort) -> RotorParts {
     let [a, b, c, d] = letters(rt, b"ABCD");
-    let mut parts = m1(rt);
+    let mut parts = plain_parts(rt);
     parts.cables[0] = (Some(a), Some(b));
     parts.cables[1] = (Some(c), Some(d));
     parts
@@ -62,7 +62,7 @@ pub fn at_a(wheel: Wheel) -> SheetWheel {
 }
 
 /// A day of the Enigma I with reflector B, the wheels I, II and III, all rings and letters A, and these pairs.
-pub fn s1(rt: &impl Abort, pairs: &[(Letter, Letter)]) -> SheetDay {
+pub fn plain_day(rt: &impl Abort, pairs: &[(Letter, Letter)]) -> SheetDay {
     let wheels = [at_a(Wheel::I), at_a(Wheel::II), at_a(Wheel::III)];
     let groups = [[Letter::A; 3]];
     let day = SheetDay::rotor(8, Model::EnigmaI, Reflector::B, &wheels, pairs, &groups);
@@ -70,9 +70,9 @@ pub fn s1(rt: &impl Abort, pairs: &[(Letter, Letter)]) -> SheetDay {
 }
 
 /// The same with two pairs, the letters of each together.
-pub fn s1_with_pairs(rt: &impl Abort, text: &[u8; 4]) -> SheetDay {
+pub fn day_with_pairs(rt: &impl Abort, text: &[u8; 4]) -> SheetDay {
     let [one, other, third, fourth] = letters(rt, text);
-    s1(rt, &[(one, other), (third, fourth)])
+    plain_day(rt, &[(one, other), (third, fourth)])
 }
 
 /// Pins of the six wheels, all of them so.

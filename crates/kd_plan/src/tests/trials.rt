@@ -1,5 +1,7 @@
 //! The planner beside a trial of every pairing of four things.
-use super::samples::{converter, letter, m1, pin_day, planned, reading, rotor, s1, standing};
+use super::samples::{
+    converter, letter, pin_day, plain_day, plain_parts, planned, reading, rotor, standing,
+};
 use kd_state::{bar_cost, cable_cost};
 use kd_tables::{Letter, Place};
 use std::process::Abort;
@@ -55,7 +57,7 @@ fn end(byte: u8) -> Option<Letter> {
 
 /// How many lines four cables take, and how many they have to; the letters of cables and pairs side by side.
 fn cable_lines(rt: &impl Abort, cables: [&[u8; 2]; 4], pairs: &[&[u8; 2]]) -> (usize, usize) {
-    let mut parts = m1(rt);
+    let mut parts = plain_parts(rt);
     let mut wanted = [(Letter::A, Letter::A); 4];
     for (place, pair) in pairs.iter().enumerate() {
         if place < 4 {
@@ -70,7 +72,7 @@ fn cable_lines(rt: &impl Abort, cables: [&[u8; 2]; 4], pairs: &[&[u8; 2]]) -> (u
             costs[row][column] = cable_cost(parts.cables[row], wanted.get(column).copied());
         }
     }
-    let card = planned(rt, &rotor(rt, parts), &s1(rt, wanted));
+    let card = planned(rt, &rotor(rt, parts), &plain_day(rt, wanted));
     (card.settings.len(), least(rt, &costs))
 }
 

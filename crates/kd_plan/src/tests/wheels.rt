@@ -1,6 +1,7 @@
 //! Wheels, reflectors, rings and window letters; and machines and days of two models.
 use super::samples::{
-    are_zero, assert_lines, at_a, letter, m1, per_wheel, pin_day, planned, rotor, s1, s1_with_pairs,
+    are_zero, assert_lines, at_a, day_with_pairs, letter, per_wheel, pin_day, plain_day,
+    plain_parts, planned, rotor,
 };
 use crate::{OtherModel, plan};
 use kd_state::{Machine, PerSlot, RotorParts, Setting, SheetDay};
@@ -10,12 +11,18 @@ use std::process::Abort;
 /// The first machine with these wheels in its slots.
 fn seated(rt: &impl Abort, wheels: [Option<Wheel>; 3]) -> Machine {
     let slots = PerSlot::new(&wheels).expect(rt, "three slots");
-    rotor(rt, RotorParts { slots, ..m1(rt) })
+    rotor(
+        rt,
+        RotorParts {
+            slots,
+            ..plain_parts(rt)
+        },
+    )
 }
 
 #[test]
 fn nothing_differs(rt: HostRuntime) {
-    let card = planned(&rt, &rotor(&rt, m1(&rt)), &s1(&rt, &[]));
+    let card = planned(&rt, &rotor(&rt, plain_parts(&rt)), &plain_day(&rt, &[]));
     assert!(rt; card.settings.as_slice().is_empty());
     assert!(rt; are_zero(&card));
 }
@@ -25,9 +32,9 @@ fn ring_and_letter_of_the_left_wheel(rt: HostRuntime) {
     let parts = RotorParts {
         rings: per_wheel(&rt, b"BAAAA"),
         letters: per_wheel(&rt, b"BAAAA"),
-        ..m1(&rt)
+        ..plain_parts(&rt)
     };
-    let card = planned(&rt, &rotor(&rt, parts), &s1(&rt, &[]));
+    let card = planned(&rt, &rotor(&rt, parts), &plain_day(&rt, &[]));
     let a = letter(&rt, b'A');
     let ring = Setting::RingTo {
         wheel: Wheel::I,
@@ -52,8 +59,8 @@ fn wheels_change_their_slots(rt: HostRuntime) {
     ];
     let exchanged = seated(&rt, [Some(Wheel::II), Some(Wheel::I), Some(Wheel::III)]);
     let moved = seated(&rt, [None, Some(Wheel::I), Some(Wheel::III)]);
-    assert_lines(&rt, &planned(&rt, &exchanged, &s1(&rt, &[])), &seats);
-    assert_lines(&rt, &planned(&rt, &moved, &s1(&rt, &[])), &seats);
+    assert_lines(&rt, &planned(&rt, &exchanged, &plain_day(&rt, &[])), &seats);
+    assert_lines(&rt, &planned(&rt, &moved, &plain_day(&rt, &[])), &seats);
 }
 
 #[test]
@@ -93,14 +100,14 @@ fn four_slots(rt: HostRuntime) {
 
 #[test]
 fn two_models(rt: HostRuntime) {
-    let machine = rotor(&rt, m1(&rt));
+    let machine = rotor(&rt, plain_parts(&rt));
     assert_eq!(rt; plan(&machine, &pin_day(&rt, &[])).err(), Some(OtherModel));
     let other = RotorParts {
         model: Model::M3,
         rings: per_wheel(&rt, b"AAAAAAAA"),
         letters: per_wheel(&rt, b"AAAAAAAA"),
-        ..m1(&rt)
+        ..plain_parts(&rt)
     };
-    let day = s1_with_pairs(&rt, b"BCDE");
+    let day = day_with_pairs(&rt, b"BCDE");
     assert_eq!(rt; plan(&rotor(&rt, other), &day).err(), Some(OtherModel));
 }
