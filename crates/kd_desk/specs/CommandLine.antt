@@ -39,14 +39,22 @@ command_name (commands.Apply machine list) = codes "apply"
 
 abbrev pub HasWords : List Row → Command → Type 0
 HasWords rows (commands.Type machine) = first_of (codes "MACHINE") rows ≡ Some machine.now
-HasWords rows (commands.Apply machine list) = (first_of (codes "MACHINE") rows ≡ Some machine.now) × (first_of (codes "LIST") rows ≡ Some list.now)
+HasWords rows (commands.Apply machine list) =
+    (first_of (codes "MACHINE") rows ≡ Some machine.now)
+    × (first_of (codes "LIST") rows ≡ Some list.now)
 
--- a name and the values of words are those of the command
+-- a name and the values of words are those of the command, or of none
 pub record IsOf (said : List ℕ × List Row) (command : Command) : Type 0 where
   pub name : said.0 ≡ command_name command
   pub words : HasWords said.1 command
 
--- the words, the program's own name first, are taken by the grammar and say the command
+abbrev pub IsOfNone : List ℕ × List Row → Type 0
+IsOfNone said = (command : Command) → ¬ (IsOf said command)
+
+-- the words, the program's own name first, are taken by the grammar and say the command, or they say none
 pub record Says (words : List (List ℕ)) (command : Command) : Type 0 where
   pub taken : fault_of desk_grammar words ≡ []
   pub said : IsSomeAnd (subcommand_of desk_grammar words) (λ said. IsOf said command)
+
+abbrev pub SaysNothing : List (List ℕ) → Type 0
+SaysNothing words = (command : Command) → ¬ (Says words command)

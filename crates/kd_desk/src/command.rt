@@ -1,6 +1,6 @@
 ghost use Rattle.std.specs.Prelude.{◌≡◌, ◌≢◌, false, codes, map, Err, IfSome, IfOk, IfErr};
 ghost use Rattle.clap.specs.Words.{app_of, found_of, kind_of, rows_of, rule_of};
-ghost use Rattle.kd_desk.specs.CommandLine.{word_named, desk_grammar, IsOf, Says};
+ghost use Rattle.kd_desk.specs.CommandLine.{word_named, desk_grammar, IsOf, IsOfNone, Says, SaysNothing};
 
 #[cfg(test)]
 mod tests;
@@ -28,8 +28,9 @@ pub enum Command<'a> {
 /// command's name. Other words than a command's are `Usage`. The only other error is want of memory.
 pub fn parse_words<'a, S: AsStr>(alloc: Global, words: &'a [S]) -> Result<Command<'a>, Stop>
     ensures said { IfOk result (Says (map S.text words.entry.now)) }
-    ensures usage { result ≡ Err Stop.Usage → (command : Command) → Says (map S.text words.entry.now) command → ⊥ }
-    ensures memory { IfErr result (λ stop. stop ≢ Stop.Usage → stop ≡ Stop.Refused (DeskFault.File SheetFault.NoMemory)) }
+    ensures usage { result ≡ Err Stop.Usage → SaysNothing (map S.text words.entry.now) }
+    ensures memory { IfErr result (λ stop. stop ≢ Stop.Usage
+        → stop ≡ Stop.Refused (DeskFault.File SheetFault.NoMemory)) }
 {
     let matches = match grammar(alloc)?.try_get_matches_from(words) {
         Ok(matches) => matches,
@@ -44,7 +45,7 @@ pub fn parse_words<'a, S: AsStr>(alloc: Global, words: &'a [S]) -> Result<Comman
 /// The command of this name with these words.
 fn command_of<'a>(name: &str, words: &ArgMatches<'a>) -> Option<Command<'a>>
     ensures said { IfSome result (IsOf (name.now, rows_of (found_of words.now))) }
-    ensures none { result ≡ None → (command : Command) → IsOf (name.now, rows_of (found_of words.now)) command → ⊥ }
+    ensures none { result ≡ None → IsOfNone (name.now, rows_of (found_of words.now)) }
 {
     match name {
         "type" => type_of(words),
@@ -56,7 +57,7 @@ fn command_of<'a>(name: &str, words: &ArgMatches<'a>) -> Option<Command<'a>>
 /// The typing that these words say.
 fn type_of<'a>(words: &ArgMatches<'a>) -> Option<Command<'a>>
     ensures said { IfSome result (IsOf (codes "type", rows_of (found_of words.now))) }
-    ensures none { result ≡ None → (command : Command) → IsOf (codes "type", rows_of (found_of words.now)) command → ⊥ }
+    ensures none { result ≡ None → IsOfNone (codes "type", rows_of (found_of words.now)) }
 {
     let machine = words.get_str("MACHINE")?;
     Some(Command::Type { machine })
@@ -65,7 +66,7 @@ fn type_of<'a>(words: &ArgMatches<'a>) -> Option<Command<'a>>
 /// The carrying out of settings that these words say.
 fn apply_of<'a>(words: &ArgMatches<'a>) -> Option<Command<'a>>
     ensures said { IfSome result (IsOf (codes "apply", rows_of (found_of words.now))) }
-    ensures none { result ≡ None → (command : Command) → IsOf (codes "apply", rows_of (found_of words.now)) command → ⊥ }
+    ensures none { result ≡ None → IsOfNone (codes "apply", rows_of (found_of words.now)) }
 {
     let machine = words.get_str("MACHINE")?;
     let list = words.get_str("LIST")?;
@@ -100,7 +101,8 @@ fn word<'a>(alloc: Global, name: &'a str) -> Arg<'a>
 
 /// Why words that don't parse stop the program.
 fn stop(error: &Error) -> Stop
-    ensures memory { kind_of error.now ≡ ErrorKind.OutOfMemory → result ≡ Stop.Refused (DeskFault.File SheetFault.NoMemory) }
+    ensures memory { kind_of error.now ≡ ErrorKind.OutOfMemory
+        → result ≡ Stop.Refused (DeskFault.File SheetFault.NoMemory) }
     ensures usage { kind_of error.now ≢ ErrorKind.OutOfMemory → result ≡ Stop.Usage }
 {
     match error.kind() {

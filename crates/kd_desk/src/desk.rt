@@ -1,7 +1,8 @@
 //! The program, from its words to its bytes.
 ghost use Rattle.std.specs.Prelude.{◌≡◌, ◌≢◌, ◌⊎◌, ◌||◌, map, Err, IfSome, IsTrue};
-ghost use Rattle.kd_desk.specs.CommandLine.{Says};
-ghost use Rattle.kd_desk.specs.Desk.{CarriesOut, IsLeftAlone, LacksMemory, run_of, typing_of, applying_of, is_stopped_before, is_stopped_by_port};
+ghost use Rattle.kd_desk.specs.CommandLine.{Says, SaysNothing};
+ghost use Rattle.kd_desk.specs.Desk.{run_of, typing_of, applying_of, CarriesOut, IsLeftAlone, LacksMemory};
+ghost use Rattle.kd_desk.specs.Desk.{is_stopped_before, is_stopped_by_port};
 ghost use Rattle.kd_desk.specs.Ports.{Fail, Port, port};
 
 #[cfg(test)]
@@ -30,8 +31,8 @@ pub fn run_desk<S: AsStr, F: Files, R: Source, W: Sink>(
     ensures carried { (command : Command) → Says (map S.text words.entry.now) command
         → IfSome (F.known files.now) (λ held. CarriesOut (run_of held command)
         (port R.remaining R.has_failed source.old source.new) (port W.taken W.has_failed sink.old sink.new) result) }
-    ensures usage { result ≡ Err Stop.Usage → (command : Command) → Says (map S.text words.entry.now) command → ⊥ }
-    ensures other_words { ((command : Command) → Says (map S.text words.entry.now) command → ⊥)
+    ensures usage { result ≡ Err Stop.Usage → SaysNothing (map S.text words.entry.now) }
+    ensures other_words { SaysNothing (map S.text words.entry.now)
         → (result ≡ Err Stop.Usage) ⊎ LacksMemory result }
     ensures untouched { IsTrue (is_stopped_before result) → (source.new ≡ source.old) × (sink.new ≡ sink.old) }
     ensures failed { Fail (port R.remaining R.has_failed source.old source.new)
@@ -91,7 +92,8 @@ fn apply_on<F: Files, W: Sink>(
     sink: &mut W,
 ) -> Result<(), Stop>
     ensures carried { IfSome (F.known files.now) (λ held. (source : Port) → IsLeftAlone source
-        → CarriesOut (applying_of (held machine.now) (held list.now)) source (port W.taken W.has_failed sink.old sink.new) result) }
+        → CarriesOut (applying_of (held machine.now) (held list.now)) source
+        (port W.taken W.has_failed sink.old sink.new) result) }
     ensures begun { result ≢ Err Stop.Usage }
     ensures untouched { IsTrue (is_stopped_before result) → sink.new ≡ sink.old }
     ensures failed { W.has_failed sink.new ≡ (W.has_failed sink.old || is_stopped_by_port result) }
