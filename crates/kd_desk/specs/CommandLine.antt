@@ -1,7 +1,8 @@
 -- What the program's words say, by what clap makes of the desk's grammar.
-use Rattle.std.specs.Prelude.{codes, ◌≡◌, ℕ, true, false, List, [], ◌∷◌, map, Some, IsSomeAnd}
+use Rattle.std.specs.Prelude.{codes, decimal, ◌≡◌, ℕ, true, false, List, [], ◌∷◌, map, Some, IsSomeAnd}
 use Rattle.clap.specs.Words.{App, Row, Rule, Shape, first_of, fault_of, new_rule, subcommand_of}
 use Rattle.clap.specs.Simple.{new_shape}
+use Rattle.kd_state.specs.SheetDay.{IsDayNumber}
 use Rattle.kd_desk.specs.declared.command.Command.{Command}
 use Rattle.kd_desk.specs.declared.command.Command.TheVariants as commands
 
@@ -19,6 +20,12 @@ form name words = record (new_shape name) {
 abbrev pub type_form : Shape
 type_form = form (codes "type") (codes "MACHINE" ∷ [])
 
+abbrev pub card_form : Shape
+card_form = form (codes "card") (codes "MACHINE" ∷ codes "SHEET" ∷ codes "DAY" ∷ [])
+
+abbrev pub check_form : Shape
+check_form = form (codes "check") (codes "MACHINE" ∷ codes "SHEET" ∷ codes "DAY" ∷ codes "CARD" ∷ [])
+
 abbrev pub apply_form : Shape
 apply_form = form (codes "apply") (codes "MACHINE" ∷ codes "LIST" ∷ [])
 
@@ -29,24 +36,43 @@ desk_grammar = record {
     disable_help_subcommand = true;
     is_leaf = false;
   };
-  subs = type_form ∷ apply_form ∷ [];
+  subs = type_form ∷ card_form ∷ check_form ∷ apply_form ∷ [];
 }
 
 -- the name of a command, and the values of its words
 abbrev pub command_name : Command → List ℕ
 command_name (commands.Type machine) = codes "type"
+command_name (commands.Card machine sheet day) = codes "card"
+command_name (commands.Check machine sheet day card) = codes "check"
 command_name (commands.Apply machine list) = codes "apply"
+
+-- the words that name a machine file, a sheet, and a day by its number in decimal
+pub record HaveDay (rows : List Row) (machine sheet : List ℕ) (day : ℕ) : Type 0 where
+  pub machine_word : first_of (codes "MACHINE") rows ≡ Some machine
+  pub sheet_word : first_of (codes "SHEET") rows ≡ Some sheet
+  pub day_word : first_of (codes "DAY") rows ≡ Some (decimal day)
+  pub of_month : IsDayNumber day
 
 abbrev pub HasWords : List Row → Command → Type 0
 HasWords rows (commands.Type machine) = first_of (codes "MACHINE") rows ≡ Some machine.now
-HasWords rows (commands.Apply machine list) = (first_of (codes "MACHINE") rows ≡ Some machine.now) × (first_of (codes "LIST") rows ≡ Some list.now)
+HasWords rows (commands.Card machine sheet day) = HaveDay rows machine.now sheet.now day
+HasWords rows (commands.Check machine sheet day card) = HaveDay rows machine.now sheet.now day × (first_of (codes "CARD") rows ≡ Some card.now)
+HasWords rows (commands.Apply machine list) =
+    (first_of (codes "MACHINE") rows ≡ Some machine.now)
+    × (first_of (codes "LIST") rows ≡ Some list.now)
 
--- a name and the values of words are those of the command
+-- a name and the values of words are those of the command, or of none
 pub record IsOf (said : List ℕ × List Row) (command : Command) : Type 0 where
   pub name : said.0 ≡ command_name command
   pub words : HasWords said.1 command
 
--- the words, the program's own name first, are taken by the grammar and say the command
+abbrev pub IsOfNone : List ℕ × List Row → Type 0
+IsOfNone said = (command : Command) → ¬ (IsOf said command)
+
+-- the words, the program's own name first, are taken by the grammar and say the command, or they say none
 pub record Says (words : List (List ℕ)) (command : Command) : Type 0 where
   pub taken : fault_of desk_grammar words ≡ []
   pub said : IsSomeAnd (subcommand_of desk_grammar words) (λ said. IsOf said command)
+
+abbrev pub SaysNothing : List (List ℕ) → Type 0
+SaysNothing words = (command : Command) → ¬ (Says words command)

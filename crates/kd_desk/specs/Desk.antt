@@ -14,13 +14,18 @@ use Rattle.kd_desk.specs.declared.stop.Stop.{Stop}
 use Rattle.kd_desk.specs.declared.stop.Stop.TheVariants.{Usage, Unread, Refused}
 use Rattle.kd_desk.specs.Files.{content_of}
 use Rattle.kd_desk.specs.Ports.{Port, IsWell}
+use Rattle.kd_desk.specs.OnDay.{OnDay}
 use Rattle.kd_desk.specs.RunApply.{Applies}
+use Rattle.kd_desk.specs.RunCard.{Prints}
+use Rattle.kd_desk.specs.RunCheck.{Checks}
 use Rattle.kd_desk.specs.RunSteps.{RanOut, AnswersFault, is_refused_before, is_device}
 use Rattle.kd_desk.specs.Typing.{TypesLine}
 
 -- a command with the bytes of its files in the place of their names
 pub data Run : Type 0 where
   typing : List ℕ → Run
+  printing : List ℕ → List ℕ → ℕ → Run
+  checking : List ℕ → List ℕ → ℕ → List ℕ → Run
   applying : List ℕ → List ℕ → Run
 
 -- a file's bytes go into a run, or its fault stands for it
@@ -32,6 +37,15 @@ with_bytes (Err fault) run = Err fault
 abbrev pub typing_of : Option (List ℕ) → Result Run FileFault
 typing_of machine = with_bytes (content_of machine) (λ m. Ok (typing m))
 
+-- the card for a day of a sheet, for the machine of a file
+abbrev pub printing_of : Option (List ℕ) → Option (List ℕ) → ℕ → Result Run FileFault
+printing_of machine sheet day = with_bytes (content_of machine) (λ m. with_bytes (content_of sheet) (λ s. Ok (printing m s day)))
+
+-- the check of the card of a third file
+abbrev pub checking_of : Option (List ℕ) → Option (List ℕ) → ℕ → Option (List ℕ) → Result Run FileFault
+checking_of machine sheet day card =
+    with_bytes (content_of machine) (λ m. with_bytes (content_of sheet) (λ s. with_bytes (content_of card) (λ c. Ok (checking m s day c))))
+
 -- the settings of a second file, for the machine of a file
 abbrev pub applying_of : Option (List ℕ) → Option (List ℕ) → Result Run FileFault
 applying_of machine list = with_bytes (content_of machine) (λ m. with_bytes (content_of list) (λ l. Ok (applying m l)))
@@ -39,6 +53,8 @@ applying_of machine list = with_bytes (content_of machine) (λ m. with_bytes (co
 -- the run of a command over files, or the fault of the first that can't be had, in the order of the words
 abbrev pub run_of : (List ℕ → Option (List ℕ)) → Command → Result Run FileFault
 run_of held (commands.Type machine) = typing_of (held machine.now)
+run_of held (commands.Card machine sheet day) = printing_of (held machine.now) (held sheet.now) day
+run_of held (commands.Check machine sheet day card) = checking_of (held machine.now) (held sheet.now) day (held card.now)
 run_of held (commands.Apply machine list) = applying_of (held machine.now) (held list.now)
 
 -- a text was typed on the machine of a machine file, or the call was refused for the file or for a machine that isn't ready
@@ -60,6 +76,9 @@ pub record IsLeftAlone (p : Port) : Type 0 where
 -- what a run does: only typing looks at the source
 abbrev pub Does : Run → Port → Port → Result (Unit {0}) DeskFault → Type 0
 Does (typing machine) source sink answer = TypesOn machine source sink answer
+Does (printing machine sheet day) source sink answer = OnDay machine sheet day (λ m s. Prints m s sink answer) answer × IsLeftAlone source
+Does (checking machine sheet day card) source sink answer =
+    OnDay machine sheet day (λ m s. Checks m s day card sink answer) answer × IsLeftAlone source
 Does (applying machine list) source sink answer = AppliesTo machine list sink answer × IsLeftAlone source
 
 -- memory ran out, over the words or a file's bytes, or as a file was read

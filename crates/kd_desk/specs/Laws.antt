@@ -14,8 +14,10 @@ TextsTellSettings = (bytes : List ℕ) (xs ys : List Setting) → AreSettings by
 
 -- and if they say one, they have no fault
 abbrev pub SettingsHaveNoFault : Type 0
-SettingsHaveNoFault = (bytes : List ℕ) (xs : List Setting) (fault : DeskFault) → AreSettings bytes xs → ¬ (IsSettingsFault bytes fault)
+SettingsHaveNoFault =
+    (bytes : List ℕ) (xs : List Setting) (fault : DeskFault) → AreSettings bytes xs → ¬ (IsSettingsFault bytes fault)
 
 -- of settings that lead a machine to another one no line is refused in its turn
 abbrev pub LeadsOrRefuses : Type 0
-LeadsOrRefuses = (m n : Parts) (xs : List Setting) (line : ℕ) (why : Why) → Leads m xs n → ¬ (IsFirstIllegal m xs line why)
+LeadsOrRefuses =
+    (m n : Parts) (xs : List Setting) (line : ℕ) (why : Why) → Leads m xs n → ¬ (IsFirstIllegal m xs line why)

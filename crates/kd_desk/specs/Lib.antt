@@ -12,3 +12,4 @@ pub mod TypingSteps
 pub mod Headline
 pub mod OnDay
 pub mod RunCard
+pub mod RunCheck

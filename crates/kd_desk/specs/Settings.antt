@@ -17,10 +17,13 @@ begins_as_card bytes = starts_with nat_eq bytes (codes "CARD ")
 
 -- the bytes are a card of these settings, whatever its day and its prices, or a list of them
 pub data AreSettings (bytes : List ℕ) (settings : List Setting) : Type 0 where
-  OfCard : IsTrue (begins_as_card bytes) → (day : ℕ) (prices : PriceParts) → IsCard bytes day settings prices → AreSettings bytes settings
+  OfCard : IsTrue (begins_as_card bytes) → (day : ℕ) (prices : PriceParts) → IsCard bytes day settings prices
+      → AreSettings bytes settings
   OfList : IsFalse (begins_as_card bytes) → IsList bytes settings → AreSettings bytes settings
 
 -- the bytes begin as a card and have this fault of a card, or they don't and have this fault of a list
 pub data IsSettingsFault (bytes : List ℕ) (fault : DeskFault) : Type 0 where
-  InCard : IsTrue (begins_as_card bytes) → (card : CardFault) → IsCardFault bytes card → fault ≡ faults.Card card → IsSettingsFault bytes fault
-  InList : IsFalse (begins_as_card bytes) → (list : ListFault) → IsListFault bytes list → fault ≡ faults.List list → IsSettingsFault bytes fault
+  InCard : IsTrue (begins_as_card bytes) → (card : CardFault) → IsCardFault bytes card → fault ≡ faults.Card card
+      → IsSettingsFault bytes fault
+  InList : IsFalse (begins_as_card bytes) → (list : ListFault) → IsListFault bytes list → fault ≡ faults.List list
+      → IsSettingsFault bytes fault

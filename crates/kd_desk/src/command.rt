@@ -1,6 +1,7 @@
-ghost use Rattle.std.specs.Prelude.{◌≡◌, ◌≢◌, false, codes, map, Err, IfSome, IfOk, IfErr};
+ghost use Rattle.std.specs.Prelude.{◌≡◌, ◌≢◌, ℕ, false, codes, decimal, map, Err, IfSome, IfOk, IfErr};
 ghost use Rattle.clap.specs.Words.{app_of, found_of, kind_of, rows_of, rule_of};
-ghost use Rattle.kd_desk.specs.CommandLine.{word_named, desk_grammar, IsOf, Says};
+ghost use Rattle.kd_state.specs.SheetDay.{IsDayNumber};
+ghost use Rattle.kd_desk.specs.CommandLine.{word_named, desk_grammar, IsOf, IsOfNone, Says, SaysNothing};
 
 #[cfg(test)]
 mod tests;
@@ -9,6 +10,7 @@ use crate::fault::DeskFault;
 use crate::stop::Stop;
 use clap::error::ErrorKind;
 use clap::{Arg, ArgMatches, Command as Grammar, Error};
+use itoa::Buffer;
 use kd_sheet::SheetFault;
 use std::alloc::{AllocError, Global};
 use std::convert::AsStr;
@@ -18,6 +20,21 @@ use std::convert::AsStr;
 pub enum Command<'a> {
     /// Types the standard input on the machine of this file.
     Type { machine: &'a str },
+    /// Prints the card that leads the machine of the first file to a day of the sheet of the second.
+    Card {
+        machine: &'a str,
+        sheet: &'a str,
+        /// The day's number, from 1 to 31.
+        day: u8,
+    },
+    /// Tells of a card of the third file that it is a shortest one from the machine to the day.
+    Check {
+        machine: &'a str,
+        sheet: &'a str,
+        /// The day's number, from 1 to 31.
+        day: u8,
+        card: &'a str,
+    },
     /// Carries the settings of the second file out on the machine of the first, and prints the machine's file.
     Apply { machine: &'a str, list: &'a str },
 }
@@ -28,8 +45,9 @@ pub enum Command<'a> {
 /// command's name. Other words than a command's are `Usage`. The only other error is want of memory.
 pub fn parse_words<'a, S: AsStr>(alloc: Global, words: &'a [S]) -> Result<Command<'a>, Stop>
     ensures said { IfOk result (Says (map S.text words.entry.now)) }
-    ensures usage { result ≡ Err Stop.Usage → (command : Command) → Says (map S.text words.entry.now) command → ⊥ }
-    ensures memory { IfErr result (λ stop. stop ≢ Stop.Usage → stop ≡ Stop.Refused (DeskFault.File SheetFault.NoMemory)) }
+    ensures usage { result ≡ Err Stop.Usage → SaysNothing (map S.text words.entry.now) }
+    ensures memory { IfErr result (λ stop. stop ≢ Stop.Usage
+        → stop ≡ Stop.Refused (DeskFault.File SheetFault.NoMemory)) }
 {
     let matches = match grammar(alloc)?.try_get_matches_from(words) {
         Ok(matches) => matches,
@@ -44,10 +62,12 @@ pub fn parse_words<'a, S: AsStr>(alloc: Global, words: &'a [S]) -> Result<Comman
 /// The command of this name with these words.
 fn command_of<'a>(name: &str, words: &ArgMatches<'a>) -> Option<Command<'a>>
     ensures said { IfSome result (IsOf (name.now, rows_of (found_of words.now))) }
-    ensures none { result ≡ None → (command : Command) → IsOf (name.now, rows_of (found_of words.now)) command → ⊥ }
+    ensures none { result ≡ None → IsOfNone (name.now, rows_of (found_of words.now)) }
 {
     match name {
         "type" => type_of(words),
+        "card" => card_of(words),
+        "check" => check_of(words),
         "apply" => apply_of(words),
         _ => None,
     }
@@ -56,16 +76,61 @@ fn command_of<'a>(name: &str, words: &ArgMatches<'a>) -> Option<Command<'a>>
 /// The typing that these words say.
 fn type_of<'a>(words: &ArgMatches<'a>) -> Option<Command<'a>>
     ensures said { IfSome result (IsOf (codes "type", rows_of (found_of words.now))) }
-    ensures none { result ≡ None → (command : Command) → IsOf (codes "type", rows_of (found_of words.now)) command → ⊥ }
+    ensures none { result ≡ None → IsOfNone (codes "type", rows_of (found_of words.now)) }
 {
     let machine = words.get_str("MACHINE")?;
     Some(Command::Type { machine })
 }
 
+/// The card that these words say, if the day among them is one.
+fn card_of<'a>(words: &ArgMatches<'a>) -> Option<Command<'a>>
+    ensures said { IfSome result (IsOf (codes "card", rows_of (found_of words.now))) }
+    ensures none { result ≡ None → (command : Command) → IsOf (codes "card", rows_of (found_of words.now)) command → ⊥ }
+{
+    let machine = words.get_str("MACHINE")?;
+    let sheet = words.get_str("SHEET")?;
+    let day = day_number(words.get_str("DAY")?)?;
+    Some(Command::Card {
+        machine,
+        sheet,
+        day,
+    })
+}
+
+/// The check that these words say, if the day among them is one.
+fn check_of<'a>(words: &ArgMatches<'a>) -> Option<Command<'a>>
+    ensures said { IfSome result (IsOf (codes "check", rows_of (found_of words.now))) }
+    ensures none { result ≡ None → (command : Command) → IsOf (codes "check", rows_of (found_of words.now)) command → ⊥ }
+{
+    let machine = words.get_str("MACHINE")?;
+    let sheet = words.get_str("SHEET")?;
+    let day = day_number(words.get_str("DAY")?)?;
+    let card = words.get_str("CARD")?;
+    Some(Command::Check {
+        machine,
+        sheet,
+        day,
+        card,
+    })
+}
+
+/// The day that a word names: a decimal number from 1 to 31, without sign or leading zero.
+fn day_number(word: &str) -> Option<u8>
+    ensures day { IfSome result (λ day. (word.now ≡ decimal day) × IsDayNumber day) }
+    ensures none { result ≡ None → (day : ℕ) → IsDayNumber day → word.now ≢ decimal day }
+{
+    for day in 1..=31 {
+        if Buffer::new().format(day) == word {
+            return Some(day);
+        }
+    }
+    None
+}
+
 /// The carrying out of settings that these words say.
 fn apply_of<'a>(words: &ArgMatches<'a>) -> Option<Command<'a>>
     ensures said { IfSome result (IsOf (codes "apply", rows_of (found_of words.now))) }
-    ensures none { result ≡ None → (command : Command) → IsOf (codes "apply", rows_of (found_of words.now)) command → ⊥ }
+    ensures none { result ≡ None → IsOfNone (codes "apply", rows_of (found_of words.now)) }
 {
     let machine = words.get_str("MACHINE")?;
     let list = words.get_str("LIST")?;
@@ -79,6 +144,17 @@ fn grammar<'a>(alloc: Global) -> Result<Grammar<'a>, AllocError>
     let type_words = Grammar::new(alloc, "type")
         .disable_help_flag(true)
         .arg(word(alloc, "MACHINE"))?;
+    let card_words = Grammar::new(alloc, "card")
+        .disable_help_flag(true)
+        .arg(word(alloc, "MACHINE"))?
+        .arg(word(alloc, "SHEET"))?
+        .arg(word(alloc, "DAY"))?;
+    let check_words = Grammar::new(alloc, "check")
+        .disable_help_flag(true)
+        .arg(word(alloc, "MACHINE"))?
+        .arg(word(alloc, "SHEET"))?
+        .arg(word(alloc, "DAY"))?
+        .arg(word(alloc, "CARD"))?;
     let apply_words = Grammar::new(alloc, "apply")
         .disable_help_flag(true)
         .arg(word(alloc, "MACHINE"))?
@@ -87,6 +163,8 @@ fn grammar<'a>(alloc: Global) -> Result<Grammar<'a>, AllocError>
         .disable_help_flag(true)
         .disable_help_subcommand(true)
         .subcommand(type_words)?
+        .subcommand(card_words)?
+        .subcommand(check_words)?
         .subcommand(apply_words)
 }
 
@@ -100,7 +178,8 @@ fn word<'a>(alloc: Global, name: &'a str) -> Arg<'a>
 
 /// Why words that don't parse stop the program.
 fn stop(error: &Error) -> Stop
-    ensures memory { kind_of error.now ≡ ErrorKind.OutOfMemory → result ≡ Stop.Refused (DeskFault.File SheetFault.NoMemory) }
+    ensures memory { kind_of error.now ≡ ErrorKind.OutOfMemory
+        → result ≡ Stop.Refused (DeskFault.File SheetFault.NoMemory) }
     ensures usage { kind_of error.now ≢ ErrorKind.OutOfMemory → result ≡ Stop.Usage }
 {
     match error.kind() {

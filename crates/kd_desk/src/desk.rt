@@ -1,7 +1,8 @@
 //! The program, from its words to its bytes.
 ghost use Rattle.std.specs.Prelude.{◌≡◌, ◌≢◌, ◌⊎◌, ◌||◌, map, Err, IfSome, IsTrue};
-ghost use Rattle.kd_desk.specs.CommandLine.{Says};
-ghost use Rattle.kd_desk.specs.Desk.{CarriesOut, IsLeftAlone, LacksMemory, run_of, typing_of, applying_of, is_stopped_before, is_stopped_by_port};
+ghost use Rattle.kd_desk.specs.CommandLine.{Says, SaysNothing};
+ghost use Rattle.kd_desk.specs.Desk.{run_of, typing_of, printing_of, checking_of, applying_of, CarriesOut, IsLeftAlone, LacksMemory};
+ghost use Rattle.kd_desk.specs.Desk.{is_stopped_before, is_stopped_by_port};
 ghost use Rattle.kd_desk.specs.Ports.{Fail, Port, port};
 
 #[cfg(test)]
@@ -10,6 +11,8 @@ mod tests;
 use crate::command::{Command, parse_words};
 use crate::files::Files;
 use crate::run_apply::run_apply;
+use crate::run_card::run_card;
+use crate::run_check::run_check;
 use crate::run_type::run_type;
 use crate::stop::Stop;
 use kd_tables::{Sink, Source};
@@ -30,8 +33,8 @@ pub fn run_desk<S: AsStr, F: Files, R: Source, W: Sink>(
     ensures carried { (command : Command) → Says (map S.text words.entry.now) command
         → IfSome (F.known files.now) (λ held. CarriesOut (run_of held command)
         (port R.remaining R.has_failed source.old source.new) (port W.taken W.has_failed sink.old sink.new) result) }
-    ensures usage { result ≡ Err Stop.Usage → (command : Command) → Says (map S.text words.entry.now) command → ⊥ }
-    ensures other_words { ((command : Command) → Says (map S.text words.entry.now) command → ⊥)
+    ensures usage { result ≡ Err Stop.Usage → SaysNothing (map S.text words.entry.now) }
+    ensures other_words { SaysNothing (map S.text words.entry.now)
         → (result ≡ Err Stop.Usage) ⊎ LacksMemory result }
     ensures untouched { IsTrue (is_stopped_before result) → (source.new ≡ source.old) × (sink.new ≡ sink.old) }
     ensures failed { Fail (port R.remaining R.has_failed source.old source.new)
@@ -58,6 +61,17 @@ fn carry_out<F: Files, R: Source, W: Sink>(
 {
     match command {
         Command::Type { machine } => type_on(alloc, machine, files, source, sink),
+        Command::Card {
+            machine,
+            sheet,
+            day,
+        } => print_on(alloc, machine, sheet, day, files, sink),
+        Command::Check {
+            machine,
+            sheet,
+            day,
+            card,
+        } => check_on(alloc, machine, sheet, day, card, files, sink),
         Command::Apply { machine, list } => apply_on(alloc, machine, list, files, sink),
     }
 }
@@ -82,6 +96,51 @@ fn type_on<F: Files, R: Source, W: Sink>(
     Ok(())
 }
 
+/// Prints the card that leads the machine of a file to the day of a sheet, without a look at the source.
+fn print_on<F: Files, W: Sink>(
+    alloc: Global,
+    machine: &str,
+    sheet: &str,
+    day: u8,
+    files: &F,
+    sink: &mut W,
+) -> Result<(), Stop>
+    ensures carried { IfSome (F.known files.now) (λ held. (source : Port) → IsLeftAlone source
+        → CarriesOut (printing_of (held machine.now) (held sheet.now) day) source (port W.taken W.has_failed sink.old sink.new) result) }
+    ensures begun { result ≢ Err Stop.Usage }
+    ensures untouched { IsTrue (is_stopped_before result) → sink.new ≡ sink.old }
+    ensures failed { W.has_failed sink.new ≡ (W.has_failed sink.old || is_stopped_by_port result) }
+{
+    let machine = files.read(alloc, machine)?;
+    let sheet = files.read(alloc, sheet)?;
+    run_card(alloc, machine.as_slice(), sheet.as_slice(), day, sink)?;
+    Ok(())
+}
+
+/// Checks the card of a third file for the machine of a file and the day of a sheet, without a look at the source.
+fn check_on<F: Files, W: Sink>(
+    alloc: Global,
+    machine: &str,
+    sheet: &str,
+    day: u8,
+    card: &str,
+    files: &F,
+    sink: &mut W,
+) -> Result<(), Stop>
+    ensures carried { IfSome (F.known files.now) (λ held. (source : Port) → IsLeftAlone source
+        → CarriesOut (checking_of (held machine.now) (held sheet.now) day (held card.now)) source (port W.taken W.has_failed sink.old sink.new) result) }
+    ensures begun { result ≢ Err Stop.Usage }
+    ensures untouched { IsTrue (is_stopped_before result) → sink.new ≡ sink.old }
+    ensures failed { W.has_failed sink.new ≡ (W.has_failed sink.old || is_stopped_by_port result) }
+{
+    let machine = files.read(alloc, machine)?;
+    let sheet = files.read(alloc, sheet)?;
+    let card = files.read(alloc, card)?;
+    let (machine, sheet) = (machine.as_slice(), sheet.as_slice());
+    run_check(alloc, machine, sheet, day, card.as_slice(), sink)?;
+    Ok(())
+}
+
 /// Carries the settings of a second file out on the machine of a file, without a look at the source.
 fn apply_on<F: Files, W: Sink>(
     alloc: Global,
@@ -91,7 +150,8 @@ fn apply_on<F: Files, W: Sink>(
     sink: &mut W,
 ) -> Result<(), Stop>
     ensures carried { IfSome (F.known files.now) (λ held. (source : Port) → IsLeftAlone source
-        → CarriesOut (applying_of (held machine.now) (held list.now)) source (port W.taken W.has_failed sink.old sink.new) result) }
+        → CarriesOut (applying_of (held machine.now) (held list.now)) source
+        (port W.taken W.has_failed sink.old sink.new) result) }
     ensures begun { result ≢ Err Stop.Usage }
     ensures untouched { IsTrue (is_stopped_before result) → sink.new ≡ sink.old }
     ensures failed { W.has_failed sink.new ≡ (W.has_failed sink.old || is_stopped_by_port result) }

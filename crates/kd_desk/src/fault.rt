@@ -4,6 +4,8 @@ mod tests;
 use crate::files::FileFault;
 use crate::typing::TextFault;
 use kd_card::{CardFault, IllegalAt};
+use kd_plan::OtherModel;
+use kd_prices::Doubt;
 use kd_sheet::SheetFault;
 use kd_state::{ListFault, NotReady};
 use kd_tables::Device;
@@ -30,7 +32,7 @@ pub enum DeskFault {
     #[error("{}", NotReady)]
     NotReady,
     /// The machine and the sheet's day are of different models.
-    #[error("5 OtherModel")]
+    #[error("{}", OtherModel)]
     OtherModel,
     /// A read or a write failed.
     #[error("{}", Device)]
@@ -44,6 +46,12 @@ pub enum DeskFault {
     /// The sheet has no day of this number.
     #[error("39 NoSuchDay")]
     NoSuchDay,
+    /// The card is another day's.
+    #[error("40 OtherDay")]
+    OtherDay,
+    /// Why a card doesn't prove itself.
+    #[error(transparent)]
+    Doubtful(Doubt),
 }
 
 impl From<SheetFault> for DeskFault {
@@ -110,6 +118,28 @@ impl From<NotReady> for DeskFault {
 
     fn from(_: NotReady) -> DeskFault {
         DeskFault::NotReady
+    }
+}
+
+impl From<OtherModel> for DeskFault {
+    ghost use Rattle.std.specs.Prelude.{◌≡◌};
+    ghost use Rattle.kd_desk.specs.declared.fault.DeskFault.TheVariants as faults;
+
+    ghost from_gives = { λ _ desk. desk ≡ faults.OtherModel };
+
+    fn from(_: OtherModel) -> DeskFault {
+        DeskFault::OtherModel
+    }
+}
+
+impl From<Doubt> for DeskFault {
+    ghost use Rattle.std.specs.Prelude.{◌≡◌};
+    ghost use Rattle.kd_desk.specs.declared.fault.DeskFault.TheVariants as faults;
+
+    ghost from_gives = { λ doubt desk. desk ≡ faults.Doubtful doubt };
+
+    fn from(doubt: Doubt) -> DeskFault {
+        DeskFault::Doubtful(doubt)
     }
 }
 

@@ -1,4 +1,5 @@
-//! The key desk: types texts on the machine that a machine file describes, and carries settings out on it.
+//! The key desk: types on the machine that a machine file describes, prints and checks the shortest card to a day of a sheet,
+//! and carries settings out.
 #![tactic(auto)]
 
 mod command;
@@ -9,6 +10,8 @@ mod laws;
 mod limit;
 mod ports;
 mod run_apply;
+mod run_card;
+mod run_check;
 mod run_type;
 #[cfg(test)]
 mod samples;
