@@ -9,3 +9,4 @@ pub mod SaidRuns
 pub mod Texts
 mod Days
 mod Printing
+mod Checking

@@ -55,6 +55,8 @@ fn check_card<W: Sink>(
     ensures untouched { IsTrue (is_refused_before result) → sink.new ≡ sink.old }
     ensures failed { W.has_failed sink.new ≡ (W.has_failed sink.old || is_device result) }
 {
+    let _legal_day = day.model();
+    let _legal_machine = machine.parts();
     laws::proving_cards_are_shortest();
     let (dated, card) = read_card(card)?;
     if dated != number {
