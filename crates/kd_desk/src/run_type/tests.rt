@@ -157,7 +157,14 @@ fn stops_at_a_failed_read(rt: HostRuntime) -> Result<(), Fail> {
 
 #[test]
 fn stops_at_a_failed_write(rt: HostRuntime) -> Result<(), Fail> {
-    for (room, lamps) in [(0, ""), (1, "B"), (3, "BDZ"), (5, "BDZGO")] {
+    for (room, lamps) in [
+        (0, ""),
+        (1, "B"),
+        (2, "BD"),
+        (3, "BDZ"),
+        (4, "BDZG"),
+        (5, "BDZGO"),
+    ] {
         let mut source = MemorySource::new(b"AAAAA", 2, None);
         let mut sink = MemorySink::<64>::new(room);
         let answer = run_type(rt.alloc(), MACHINE.as_bytes(), &mut source, &mut sink);
