@@ -1,6 +1,5 @@
 -- In a card that proves itself the prices are tight along the pairing of the machine that is reached.
-use Rattle.std.proofs.Common.{◌≡◌, ℕ, zero, suc, ◌+◌, ◌<◌, ◌≤◌, Bool, true, false, cond, List, [], ◌∷◌, ◌++◌, length, get_or, map, zip, fold, Contains, Option, None, ℤ, pos, ◌+ℤ◌, ◌≤ℤ◌, IsPermutation, refl, sym, ap, ◌∙◌, subst, arith}
-use Rattle.std.specs.List.{AllByRecursion, AllZip}
+use Rattle.std.proofs.Common.{◌≡◌, ℕ, zero, suc, ◌+◌, ◌<◌, ◌≤◌, cond, List, [], ◌∷◌, ◌++◌, length, get_or, map, zip, fold, Option, None, ℤ, pos, ◌+ℤ◌, ◌≤ℤ◌, IsPermutation, refl, sym, ap, ◌∙◌, subst, arith}
 use Rattle.std.proofs.lemmas.Int.{ints}
 use Rattle.std.proofs.lemmas.List.{get_or_default, get_or-map}
 use Rattle.std.proofs.lemmas.List.Sorted.{length_permutation, Contains-permutation, IsPermutation-sym}
@@ -12,7 +11,7 @@ use Rattle.kd_state.specs.declared.parts.Parts.{Parts}
 use Rattle.kd_state.specs.declared.parts.Parts.TheVariants.{Rotor, Pin}
 use Rattle.kd_state.specs.declared.setting.Setting.{Setting}
 use Rattle.kd_state.specs.Machine.{IsMachine}
-use Rattle.kd_state.specs.Setting.{Leads, changed}
+use Rattle.kd_state.specs.Setting.{Leads}
 use Rattle.kd_state.specs.SheetDay.{RotorDay, PinDay, Day, OfRotors, OfPins, IsLegalDay}
 use Rattle.kd_state.specs.OnKey.{ReadsAs}
 use Rattle.kd_state.specs.Costs.{cable_cost, bar_cost, columns_of, cost_table}
@@ -21,11 +20,11 @@ use Rattle.kd_card.specs.declared.prices.PriceParts.TheVariants.{Cables, Bars}
 use Rattle.kd_card.specs.Prices.{ArePrices, AreTight}
 use Rattle.kd_card.specs.Proving.{is_priced, priced_count, Proves}
 use Rattle.kd_card.specs.Laws.{ProvingPricesAreTight}
-use Rattle.kd_card.proofs.Duality.{sum_of, fold_of_both, prices_with, prices_with-IsPermutation, prices_with-zip, pairing_cost, FitTogether, FitAll, without_first, fitting_prices, FitAll-IsPermutation, fit_all}
+use Rattle.kd_card.proofs.Duality.{sum_of, fold_of_both, prices_with, prices_with-IsPermutation, prices_with-zip, pairing_cost, FitAll, without_first, fitting_prices, FitAll-IsPermutation, fit_all}
 use Rattle.kd_card.proofs.Counts.{count_by-cons, once_of_distinct}
 use Rattle.kd_card.proofs.Falling.{paired_cost, falls}
 use Rattle.kd_card.proofs.Kept.{machines_have_all, list_keeps}
-use Rattle.kd_card.proofs.Pairing.{FreePairing, cables_paired, bars_paired, length-columns_of}
+use Rattle.kd_card.proofs.Pairing.{cables_paired, bars_paired, length-columns_of}
 use Rattle.kd_card.proofs.Shortest.{length-zip, model_of-list, no_rotors}
 
 -- a list of settings lowers what a pairing costs by at most one for each that changes a cable or a bar

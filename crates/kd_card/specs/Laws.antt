@@ -1,9 +1,8 @@
 -- What holds of cards.
-use Rattle.std.specs.Prelude.{◌≡◌, ℕ, ◌+◌, ◌≤◌, List, length, pos, ◌+ℤ◌, ◌≤ℤ◌}
+use Rattle.std.specs.Prelude.{◌≡◌, ℕ, List, length, pos, ◌+ℤ◌, ◌≤ℤ◌}
 use Rattle.kd_state.specs.declared.parts.Parts.{Parts}
 use Rattle.kd_state.specs.declared.setting.Setting.{Setting}
 use Rattle.kd_state.specs.Machine.{IsMachine}
-use Rattle.kd_state.specs.Setting.{Carries, changed}
 use Rattle.kd_state.specs.SheetDay.{Day, IsLegalDay}
 use Rattle.kd_state.specs.Costs.{cost_table, loose_count}
 use Rattle.kd_card.specs.declared.prices.PriceParts.{PriceParts}

@@ -1,5 +1,5 @@
 -- The prices of a card: one for each cable or bar, and one for each pair or row, counted from 0.
-use Rattle.std.specs.Prelude.{◌≡◌, ℕ, ◌<◌, ◌≤◌, Bool, List, [], ◌++◌, length, All, fold, slice_index, slice_index_or, ℤ, pos, unsigned_abs, ◌+ℤ◌, ◌≤ℤ◌}
+use Rattle.std.specs.Prelude.{◌≡◌, ℕ, ◌<◌, ◌≤◌, List, [], ◌++◌, length, All, fold, slice_index, slice_index_or, ℤ, pos, unsigned_abs, ◌+ℤ◌, ◌≤ℤ◌}
 use Rattle.kd_card.specs.declared.prices.PriceParts.{PriceParts}
 use Rattle.kd_card.specs.declared.prices.PriceParts.TheVariants.{Cables, Bars}
 

@@ -17,7 +17,7 @@ use Rattle.kd_state.specs.Costs.{cable_cost, bar_cost, columns_of, cost_table}
 use Rattle.kd_card.specs.declared.prices.PriceParts.{PriceParts}
 use Rattle.kd_card.specs.declared.prices.PriceParts.TheVariants.{Cables, Bars}
 use Rattle.kd_card.specs.Prices.{Fits}
-use Rattle.kd_prices.specs.declared.fitting.Place as places
+use Rattle.kd_prices.specs.declared.fitting.Cell.{Cell}
 use Rattle.kd_prices.specs.Doubt.{IsFirstWithout, IsFirstTooHigh}
 use Rattle.kd_prices.specs.Fitting.{AreWithin}
 
@@ -37,40 +37,40 @@ rows_are_told machine s m rows legal em same told =
     subst IsSome (sym (told ∙ ap (λ s. option_map (λ (s : PinDay). s.rows) (pin_day s)) day.1)) refl
 
 -- what the search through a table of costs has found
-abbrev Found : Parts → Day → PriceParts → Option places.Place → Type 0
-Found m s prices place =
-    MatchOption place (Fits (cost_table m s) prices) (λ place. IsFirstTooHigh (cost_table m s) prices place.row place.column)
+abbrev Found : Parts → Day → PriceParts → Option Cell → Type 0
+Found m s prices cell =
+    MatchOption cell (Fits (cost_table m s) prices) (λ cell. IsFirstTooHigh (cost_table m s) prices cell.row cell.column)
 
-abbrev FoundIn : List (List ℕ) → List ℤ → List ℤ → ℕ → Option places.Place → Type 0
-FoundIn costs rows columns number place =
-    MatchOption place
+abbrev FoundIn : List (List ℕ) → List ℤ → List ℤ → ℕ → Option Cell → Type 0
+FoundIn costs rows columns number cell =
+    MatchOption cell
     ((i j : ℕ) → i < number → j < number → AreWithin costs rows columns i j)
-    (λ place. IsFirstWithout (AreWithin costs rows columns) number place.row place.column)
+    (λ cell. IsFirstWithout (AreWithin costs rows columns) number cell.row cell.column)
 
-pub found_for_cables : (machine : Parts) (s : Day) (prices : PriceParts) (m : RotorParts) (rows columns : List ℤ) (pairs : List (ℕ × ℕ)) (costs : List (List ℕ)) (place : Option places.Place)
+pub found_for_cables : (machine : Parts) (s : Day) (prices : PriceParts) (m : RotorParts) (rows columns : List ℤ) (pairs : List (ℕ × ℕ)) (costs : List (List ℕ)) (cell : Option Cell)
     → machine ≡ Rotor m → prices ≡ Cables rows columns → Some pairs ≡ option_map (λ (s : RotorDay). s.pairs) (rotor_day s)
-    → costs ≡ map (λ (cable : Option ℕ × Option ℕ). map (cable_cost cable) (columns_of pairs)) m.cables → FoundIn costs rows columns 13 place → Found machine s prices place
-found_for_cables machine (OfRotors s) prices m rows columns pairs costs place em ep es ec found =
+    → costs ≡ map (λ (cable : Option ℕ × Option ℕ). map (cable_cost cable) (columns_of pairs)) m.cables → FoundIn costs rows columns 13 cell → Found machine s prices cell
+found_for_cables machine (OfRotors s) prices m rows columns pairs costs cell em ep es ec found =
     let same : pairs ≡ s.pairs = cc in
     let table = subst (λ pairs. costs ≡ map (λ (cable : Option ℕ × Option ℕ). map (cable_cost cable) (columns_of pairs)) m.cables) same ec in
-    let here = subst (λ costs. FoundIn costs rows columns 13 place) table found in
-    subst (λ machine. Found machine (OfRotors s) prices place) (sym em) (subst (λ prices. Found (Rotor m) (OfRotors s) prices place) (sym ep) (by_place place here))
+    let here = subst (λ costs. FoundIn costs rows columns 13 cell) table found in
+    subst (λ machine. Found machine (OfRotors s) prices cell) (sym em) (subst (λ prices. Found (Rotor m) (OfRotors s) prices cell) (sym ep) (by_cell cell here))
   where
-    by_place : (place : Option places.Place) → FoundIn (cost_table (Rotor m) (OfRotors s)) rows columns 13 place → Found (Rotor m) (OfRotors s) (Cables rows columns) place
-    by_place None h = h
-    by_place (Some place) h = h
-found_for_cables machine (OfPins s) prices m rows columns pairs costs place em ep es ec found = cc
+    by_cell : (cell : Option Cell) → FoundIn (cost_table (Rotor m) (OfRotors s)) rows columns 13 cell → Found (Rotor m) (OfRotors s) (Cables rows columns) cell
+    by_cell None h = h
+    by_cell (Some cell) h = h
+found_for_cables machine (OfPins s) prices m rows columns pairs costs cell em ep es ec found = cc
 
-pub found_for_bars : (machine : Parts) (s : Day) (prices : PriceParts) (m : PinParts) (rows columns : List ℤ) (wanted : List (ℕ × ℕ)) (costs : List (List ℕ)) (place : Option places.Place)
+pub found_for_bars : (machine : Parts) (s : Day) (prices : PriceParts) (m : PinParts) (rows columns : List ℤ) (wanted : List (ℕ × ℕ)) (costs : List (List ℕ)) (cell : Option Cell)
     → machine ≡ Pin m → prices ≡ Bars rows columns → Some wanted ≡ option_map (λ (s : PinDay). s.rows) (pin_day s)
-    → costs ≡ map (λ (bar : Place × Place). map (bar_cost bar) wanted) m.bars → FoundIn costs rows columns 27 place → Found machine s prices place
-found_for_bars machine (OfPins s) prices m rows columns wanted costs place em ep es ec found =
+    → costs ≡ map (λ (bar : Place × Place). map (bar_cost bar) wanted) m.bars → FoundIn costs rows columns 27 cell → Found machine s prices cell
+found_for_bars machine (OfPins s) prices m rows columns wanted costs cell em ep es ec found =
     let same : wanted ≡ s.rows = cc in
     let table = subst (λ wanted. costs ≡ map (λ (bar : Place × Place). map (bar_cost bar) wanted) m.bars) same ec in
-    let here = subst (λ costs. FoundIn costs rows columns 27 place) table found in
-    subst (λ machine. Found machine (OfPins s) prices place) (sym em) (subst (λ prices. Found (Pin m) (OfPins s) prices place) (sym ep) (by_place place here))
+    let here = subst (λ costs. FoundIn costs rows columns 27 cell) table found in
+    subst (λ machine. Found machine (OfPins s) prices cell) (sym em) (subst (λ prices. Found (Pin m) (OfPins s) prices cell) (sym ep) (by_cell cell here))
   where
-    by_place : (place : Option places.Place) → FoundIn (cost_table (Pin m) (OfPins s)) rows columns 27 place → Found (Pin m) (OfPins s) (Bars rows columns) place
-    by_place None h = h
-    by_place (Some place) h = h
-found_for_bars machine (OfRotors s) prices m rows columns wanted costs place em ep es ec found = cc
+    by_cell : (cell : Option Cell) → FoundIn (cost_table (Pin m) (OfPins s)) rows columns 27 cell → Found (Pin m) (OfPins s) (Bars rows columns) cell
+    by_cell None h = h
+    by_cell (Some cell) h = h
+found_for_bars machine (OfRotors s) prices m rows columns wanted costs cell em ep es ec found = cc

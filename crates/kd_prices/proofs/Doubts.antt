@@ -1,5 +1,5 @@
 -- A card that proves itself is in no doubt, and a card is in one doubt at most.
-use Rattle.std.proofs.Common.{◌≡◌, ℕ, ◌+◌, ◌<◌, ◌≤◌, ◌⊎◌, inl, inr, List, [], ◌∷◌, ◌++◌, length, refl, sym, ap, ◌∙◌, subst, arith}
+use Rattle.std.proofs.Common.{◌≡◌, ℕ, ◌<◌, ◌≤◌, inl, inr, List, [], ◌∷◌, ◌++◌, length, refl, sym, ap, ◌∙◌, subst, arith}
 use Rattle.std.specs.Prelude.{pos, false, IsTrue, ◌↔◌}
 use Rattle.std.proofs.lemmas.Bool.{cases_lt, false≢true}
 use Rattle.kd_state.specs.declared.parts.Parts.{Parts}
@@ -13,7 +13,7 @@ use Rattle.kd_state.specs.Laws.{LeadsToOne}
 use Rattle.kd_card.specs.declared.prices.PriceParts.{PriceParts}
 use Rattle.kd_card.specs.Prices.{Fits, price_sum}
 use Rattle.kd_card.specs.Carrying.{IsFirstIllegal}
-use Rattle.kd_card.specs.Proving.{AreNeeded, IsNeeded, LeadsToTheDay, Proves, priced_count}
+use Rattle.kd_card.specs.Proving.{AreNeeded, LeadsToTheDay, Proves, priced_count}
 use Rattle.kd_prices.specs.declared.doubt.Doubt.{Doubt}
 use Rattle.kd_prices.specs.declared.doubt.Doubt.TheVariants.{OtherModel, IllegalAt, NotTheSheet, PriceTooHigh, SumDiffers, NeedlessLine}
 use Rattle.kd_prices.specs.Doubt.{AreOfOneModel, IsFirstWithout, IsFirstNeedless, IsDoubt}

@@ -4,7 +4,7 @@ use Rattle.std.proofs.lemmas.List.{length-take-le}
 use Rattle.kd_state.specs.declared.parts.Parts.{Parts}
 use Rattle.kd_state.specs.declared.setting.Setting.{Setting}
 use Rattle.kd_state.specs.declared.why.Why.{Why}
-use Rattle.kd_state.specs.Setting.{why_refused, changed, Carries, Leads}
+use Rattle.kd_state.specs.Setting.{why_refused, changed, Leads}
 use Rattle.kd_state.specs.SheetDay.{Day}
 use Rattle.kd_state.specs.Laws.{LeadsToOne}
 use Rattle.kd_card.specs.Proving.{IsNeeded, AreNeeded}

@@ -1,7 +1,6 @@
 -- What is left of a card that proves itself, after its first lines.
-use Rattle.std.proofs.Common.{◌≡◌, ℕ, ◌-◌, ◌≤◌, List, ◌++◌, length, take, drop, sym, subst, arith, length-append, length-drop}
+use Rattle.std.proofs.Common.{◌++◌, take, drop, sym, subst, arith, length-append, length-drop}
 use Rattle.std.proofs.lemmas.List.{take-append-drop, length-take}
-use Rattle.kd_state.specs.declared.setting.Setting.{Setting}
 use Rattle.kd_state.specs.Setting.{Leads}
 use Rattle.kd_state.specs.Laws.{LeadsToOne}
 use Rattle.kd_card.specs.Laws.{ProvingCardsAreShortest}

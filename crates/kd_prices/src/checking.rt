@@ -6,7 +6,7 @@ ghost use Rattle.kd_prices.specs.Doubt.{AreOfOneModel, IsDoubt, IsFirstTooHigh};
 
 use super::costs::{bar_costs, cable_costs};
 use super::doubt::Doubt;
-use super::fitting::{Place, first_too_high};
+use super::fitting::{Cell, first_too_high};
 use super::laws::a_card_is_in_one_doubt_at_most;
 use super::needless::{first_needless, is_priced};
 use kd_card::{Card, PriceParts, Prices, carry_all};
@@ -35,10 +35,10 @@ pub fn check(machine: &Machine, day: &SheetDay, card: &Card) -> Result<(), Doubt
     if !reached.reads_as(day) {
         return Err(Doubt::NotTheSheet);
     }
-    if let Some(place) = too_high(machine, day, &card.prices) {
+    if let Some(cell) = too_high(machine, day, &card.prices) {
         return Err(Doubt::PriceTooHigh {
-            i: place.row as u8 + 1,
-            j: place.column as u8 + 1,
+            i: cell.row as u8 + 1,
+            j: cell.column as u8 + 1,
         });
     }
     if card.prices.sum() != priced_count(settings) as i32 {
@@ -68,10 +68,10 @@ fn are_of_kind(machine: &Machine, prices: &Prices) -> bool
 }
 
 /// The first row and column whose prices are together above what the machine's cable or bar costs there.
-fn too_high(machine: &Machine, day: &SheetDay, prices: &Prices) -> Option<Place>
+fn too_high(machine: &Machine, day: &SheetDay, prices: &Prices) -> Option<Cell>
     requires { AreOfOneModel machine.now day.now prices.now }
     ensures { let costs = cost_table machine.now day.now in
-        MatchOption result (Fits costs prices.now) (λ place. IsFirstTooHigh costs prices.now place.row place.column) }
+        MatchOption result (Fits costs prices.now) (λ cell. IsFirstTooHigh costs prices.now cell.row cell.column) }
 {
     let _model = day.model();
     match (machine.parts(), prices.parts()) {

@@ -3,26 +3,26 @@ ghost use Rattle.std.specs.Prelude.{◌≡◌, ◌↔◌, ℕ, ◌<◌, length, 
 ghost use Rattle.kd_prices.specs.Doubt.{IsFirstWithout};
 ghost use Rattle.kd_prices.specs.Fitting.{AreWithin, IsWithin, IsFirstPlaceWithout};
 
-/// A place in a table of costs: its row and its column, counted from 0.
+/// A cell of a table of costs: its row and its column, counted from 0.
 #[derive(Clone, Copy)]
-pub(crate) struct Place {
+pub(crate) struct Cell {
     pub row: usize,
     pub column: usize,
 }
 
-/// The first place, by its row and then its column, at which the row's price and the column's are together above the cost.
+/// The first cell, by its row and then its column, at which the row's price and the column's are together above the cost.
 pub(crate) fn first_too_high<const N: usize>(
     costs: &[[u8; N]; N],
     rows: &[i16; N],
     columns: &[i16; N],
-) -> Option<Place>
+) -> Option<Cell>
     ensures { MatchOption result
         ((i j : ℕ) → i < N → j < N → AreWithin costs.now rows.now columns.now i j)
-        (λ place. IsFirstWithout (AreWithin costs.now rows.now columns.now) N place.row place.column) }
+        (λ cell. IsFirstWithout (AreWithin costs.now rows.now columns.now) N cell.row cell.column) }
 {
     for (row, price) in rows.iter().enumerate() {
         if let Some(column) = first_column_too_high(&costs[row], *price, columns) {
-            return Some(Place { row, column });
+            return Some(Cell { row, column });
         }
     }
     None

@@ -1,6 +1,5 @@
-use Rattle.std.proofs.Common.{◌≡◌, Some, ap, sym, ◌∙◌, subst}
+use Rattle.std.proofs.Common.{ap, sym, ◌∙◌}
 use Rattle.std.specs.Option.{option_copied}
-use Rattle.kd_state.specs.Machine.{model_of}
 use Rattle.kd_prices.proofs.CostTables.{rows_are_told, found_for_cables, found_for_bars}
 use Rattle.kd_prices.proofs.checking.too_high.Goals as goal
 

@@ -1,4 +1,4 @@
-use Rattle.std.specs.Prelude.{◌≡◌, ℕ, List, map, take, length}
+use Rattle.std.specs.Prelude.{◌≡◌, map, take, length}
 use Rattle.kd_tables.specs.declared.place.Place.{Place}
 use Rattle.kd_state.specs.Costs.{bar_cost}
 use Rattle.kd_prices.proofs.costs.bar_costs.Given as goal

@@ -1,4 +1,4 @@
-use Rattle.std.specs.Prelude.{◌≡◌, ℕ, List, Option, map, take, length}
+use Rattle.std.specs.Prelude.{◌≡◌, ℕ, Option, map, take, length}
 use Rattle.kd_state.specs.Costs.{cable_cost, columns_of}
 use Rattle.kd_prices.proofs.costs.cable_costs.Given as goal
 

@@ -1,4 +1,4 @@
-use Rattle.std.proofs.Common.{◌≡◌, ◌+◌, ◌∙◌, Some, ap, sym}
+use Rattle.std.proofs.Common.{◌≡◌, ◌+◌, ◌∙◌}
 use Rattle.kd_prices.proofs.LooseDays.{loose_by, loose_as_told}
 use Rattle.kd_prices.proofs.loose.loose_in_rotors.Goals as goal
 

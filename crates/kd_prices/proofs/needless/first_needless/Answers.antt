@@ -1,4 +1,4 @@
-use Rattle.std.proofs.Common.{refl, arith}
+use Rattle.std.proofs.Common.{refl}
 use Rattle.std.proofs.lemmas.Bool.{false≢true}
 use Rattle.kd_prices.proofs.Leading.{steps_on, stops_here}
 use Rattle.kd_prices.proofs.needless.first_needless.Goals as goal
