@@ -16,3 +16,8 @@ pub mod Pins
 pub mod PinMachines
 pub mod Totals
 pub mod Planning
+pub mod Writing
+pub mod LineKinds
+pub mod Pricing
+pub mod Bounds
+pub mod Assembling

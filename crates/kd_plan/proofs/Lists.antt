@@ -1,12 +1,25 @@
 -- Numbers that are one to one, and what stands side by side.
-use Rattle.std.proofs.Common.{◌≡◌, ◌≢◌, ℕ, zero, suc, ◌+◌, ◌-◌, ◌<◌, ◌⊎◌, inl, inr, List, [], ◌∷◌, ◌++◌, length, get_or, set, slice_get, map, Some, remove, AllPairs, Contains, IsPermutation, refl, sym, ap, ◌∙◌, subst, arith}
+use Rattle.std.proofs.Common.{◌≡◌, ◌≢◌, ℕ, zero, suc, ◌+◌, ◌-◌, ◌<◌, ◌⊎◌, inl, inr, List, [], ◌∷◌, ◌++◌, length, get_or, set, slice_get, map, Some, remove, All, AllPairs, Contains, IsPermutation, refl, sym, ap, ◌∙◌, subst, arith}
 use Rattle.std.specs.List.{AllByRecursion, range_with_len}
 use Rattle.std.proofs.lemmas.List.{set_at}
 use Rattle.std.proofs.lemmas.List.Edits.{length-remove}
 use Rattle.std.proofs.lemmas.List.FromFn.{length-range_with_len, get_or-range_with_len}
 use Rattle.std.proofs.lemmas.List.Elements.{recursion_from_All}
 use Rattle.std.proofs.lemmas.List.Sorted.{Contains-permutation, IsPermutation-refl, IsPermutation-cons, IsPermutation-trans, IsPermutation-remove, IsPermutation-map}
-use Rattle.kd_plan.specs.Planned.{IsPairing}
+use Rattle.kd_assign.specs.Assignment.{IsOneToOne}
+
+-- the column of each row of a table, one to one
+pub record IsPairing (number : ℕ) (to : List ℕ) : Type 0 where
+  pub count : length to ≡ number
+  pub within : All (λ j. j < number) to
+  pub apart : AllPairs (λ j k. j ≢ k) to
+
+pub pairing_of : (number : ℕ) (to : List ℕ) → length to ≡ number → IsOneToOne to → IsPairing number to
+pairing_of number to count h = record {
+  count = count;
+  within = λ k d lt. subst (λ n. get_or to k d < n) count (h.in_range k d lt);
+  apart = h.distinct;
+}
 
 first_or_rest : {X : Type 0} (x y : X) (xs : List X) → Contains (x ∷ xs) y → (x ≡ y) ⊎ Contains xs y
 first_or_rest x y xs (zero, lt, e) = inl e

@@ -12,10 +12,10 @@ use Rattle.kd_state.specs.declared.parts.Parts.TheVariants.{Pin}
 use Rattle.kd_state.specs.declared.setting.Setting.TheVariants.{Turn}
 use Rattle.kd_state.specs.Machine.{IsMachine}
 use Rattle.kd_state.specs.SheetDay.{PinDay, OfPins, IsLegalPinDay}
-use Rattle.kd_plan.specs.Planned.{unless_so, target_of, lugs_to, pin_lines, pin_turn_lines, lug_lines, planned_lines, IsPairing}
+use Rattle.kd_plan.specs.Planned.{unless_so, target_of, lugs_to, pin_lines, pin_turn_lines, lug_lines, planned_lines}
 use Rattle.kd_plan.proofs.Bars.{BarRow, IsMovable, now_stands, to_stand, with_bars, lugs_of, lugs_each, rows_read}
 use Rattle.kd_plan.proofs.Carrying.{Reaches, Led, led_append, lines_from, cells_led}
-use Rattle.kd_plan.proofs.Lists.{paired}
+use Rattle.kd_plan.proofs.Lists.{paired, IsPairing}
 use Rattle.kd_plan.proofs.PinLetters.{shown, wanted, turns_of, with_shown, turns_each}
 use Rattle.kd_plan.proofs.Pins.{pins_reach}
 use Rattle.kd_plan.proofs.Sides.{first_of, second_of, flat_lines, single_lines}
@@ -46,7 +46,7 @@ module _ (m : PinParts) (s : PinDay) (to : List ℕ) where
   bars_beside = zip m.bars (map (row_at s.rows) to)
 
   module _ (machine : IsMachine (Pin m)) (legal : IsLegalPinDay s) (pairing : IsPairing 27 to) where
-    turns_reach : Led (OfPins s) (Pin after_pins) (pin_turn_lines m s) (Pin after_turns)
+    turns_reach : Led (OfPins s) (Pin after_pins) (pin_turn_lines m.letters s.window) (Pin after_turns)
     turns_reach =
         let size : length m.letters ≡ length s.window = machine.legal.letters.count ∙ sym legal.window.count in
         let first = first_of m.letters s.window size in
@@ -66,7 +66,7 @@ module _ (m : PinParts) (s : PinDay) (to : List ℕ) where
     pub sizes : length m.bars ≡ length (map (row_at s.rows) to)
     sizes = machine.legal.bars ∙ sym (length-map to (row_at s.rows) ∙ pairing.count)
 
-    lugs_reach : Led (OfPins s) (Pin after_turns) (lug_lines m s to) (with_bars (OfPins s) after_turns (map to_stand bars_beside))
+    lugs_reach : Led (OfPins s) (Pin after_turns) (lug_lines m.bars s.rows to) (with_bars (OfPins s) after_turns (map to_stand bars_beside))
     lugs_reach =
         let put : List (Place × Place) → Parts = with_bars (OfPins s) after_turns in
         subst (λ lines. Led (OfPins s) (Pin after_turns) lines (put (map to_stand bars_beside)))
@@ -83,9 +83,9 @@ module _ (m : PinParts) (s : PinDay) (to : List ℕ) where
     pub pin_machines_reach : Reaches (OfPins s) (Pin m) (planned_lines (Pin m) (OfPins s) to)
     pin_machines_reach =
         let end = with_bars (OfPins s) after_turns (map to_stand bars_beside) in
-        let two = led_append (OfPins s) (Pin m) (Pin after_pins) (Pin after_turns) (pin_lines m s) (pin_turn_lines m s) (pins_reach m s machine.legal.pins legal.pins) turns_reach in
+        let two = led_append (OfPins s) (Pin m) (Pin after_pins) (Pin after_turns) (pin_lines m.pins s.pins) (pin_turn_lines m.letters s.window) (pins_reach m s machine.legal.pins legal.pins) turns_reach in
         record {
           end = end;
-          led = led_append (OfPins s) (Pin m) (Pin after_turns) end (pin_lines m s ++ pin_turn_lines m s) (lug_lines m s to) two lugs_reach;
+          led = led_append (OfPins s) (Pin m) (Pin after_turns) end (pin_lines m.pins s.pins ++ pin_turn_lines m.letters s.window) (lug_lines m.bars s.rows to) two lugs_reach;
           reads = record { key = record { pins = refl; rows = rows_are }; window = refl };
         }

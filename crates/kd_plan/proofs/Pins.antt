@@ -256,5 +256,5 @@ module _ (m : PinParts) (s : PinDay) where
       (wheel_led (map pins_wanted done) (map pins_now rest) six (map pins_wanted done) (map pins_wanted rest) z.1 refl are z.0 within
       (ap length (sym now_at) ∙ has (suc (length done)) ∙ ap length ring) (ap length (sym day_at) ∙ day_has (suc (length done)) ∙ ap length ring))
 
-  pub pins_reach : HasAllPins m.pins → HasAllPins s.pins → Led (OfPins s) (Pin m) (pin_lines m s) (Pin (record m { pins = s.pins }))
+  pub pins_reach : HasAllPins m.pins → HasAllPins s.pins → Led (OfPins s) (Pin m) (pin_lines m.pins s.pins) (Pin (record m { pins = s.pins }))
   pins_reach has day_has = cells_led (OfPins s) with_pins pins_now pins_wanted wheel_lines wheels (wheels_each has day_has)

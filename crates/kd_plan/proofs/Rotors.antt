@@ -16,11 +16,12 @@ use Rattle.kd_state.specs.Machine.{AreAllowed, IsMachine}
 use Rattle.kd_state.specs.Setting.{with_letter, changed}
 use Rattle.kd_state.specs.SheetDay.{RotorDay, OfRotors, seats, IsLegalRotorDay}
 use Rattle.kd_state.specs.Costs.{unless_same, loose_count}
-use Rattle.kd_plan.specs.Planned.{unless_so, seat_lines, reflector_lines, ring_lines, turn_lines, pull_lines, put_lines, letters_apart, planned_lines, IsPairing}
+use Rattle.kd_plan.specs.Planned.{unless_so, seat_lines, reflector_lines, ring_lines, turn_lines, pull_lines, put_lines, letters_apart, planned_lines}
 use Rattle.kd_plan.proofs.Carrying.{Reaches, Led, led_none, led_cons, led_append, lines_from, cells_led}
 use Rattle.kd_plan.proofs.Columns.{column, beside, are_pluggable, are_apart, same_cables, are_the_pairs}
 use Rattle.kd_plan.proofs.Days.{at_element, recursion_of_each, each_two, in_order, order_among, order_apart, all_of_order, StandsThere, numbered as by_slots, numbered_apart, from_numbered}
 use Rattle.kd_plan.proofs.Letters.{SetsIts, AreSet, all_set, one_fewer}
+use Rattle.kd_plan.proofs.Lists.{IsPairing}
 use Rattle.kd_plan.proofs.Plugging.{Beside, present, once_pulled, once_put, with_cables, pulls_of, puts_of, pulls_each, puts_each, numbered_lines}
 use Rattle.kd_plan.proofs.Seats.{seats_led}
 use Rattle.kd_plan.proofs.Wheels.{reflector_of_same, same_reflector_self, has_wheel_of, has_reflector_of, place_within, AreApartAt, place_of, wheels_apart, box_none_twice, wheels_boxed}
@@ -117,10 +118,10 @@ module _ (m : RotorParts) (s : RotorDay) where
     apart : AreApartAt (place_of m.model) s.wheels
     apart = wheels_apart m.model s.wheels allowed legal.wheels.apart
 
-    seats_reach : Led (OfRotors s) (Rotor m) (seat_lines m s) (Rotor after_seats)
+    seats_reach : Led (OfRotors s) (Rotor m) (seat_lines m.slots s.wheels) (Rotor after_seats)
     seats_reach = seats_led m s allowed (each_two s.wheels legal.wheels.apart) (machine.legal.slots ∙ ap slots_of same ∙ sym (sym (length-map s.wheels (λ w. Some w.wheel)) ∙ legal.wheels.count))
 
-    reflector_reaches : Led (OfRotors s) (Rotor after_seats) (reflector_lines m s) (Rotor after_reflector)
+    reflector_reaches : Led (OfRotors s) (Rotor after_seats) (reflector_lines m.reflector s.reflector) (Rotor after_reflector)
     reflector_reaches =
         reflector_led (same_reflector m.reflector s.reflector) after_seats s refl (subst (λ model. Contains (reflectors_of model) s.reflector) (sym same) legal.reflector)
 
@@ -149,7 +150,7 @@ module _ (m : RotorParts) (s : RotorDay) where
     abbrev plugged : List (Option ℕ × Option ℕ) → Parts
     plugged cables = with_cables (OfRotors s) turned cables
 
-    pulls_reach : Led (OfRotors s) (Rotor turned) (pull_lines m s to) (plugged (map once_pulled zs))
+    pulls_reach : Led (OfRotors s) (Rotor turned) (pull_lines m.cables s.pairs to) (plugged (map once_pulled zs))
     pulls_reach =
         subst (λ lines. Led (OfRotors s) (Rotor turned) lines (plugged (map once_pulled zs)))
         (sym (numbered_lines (λ n letters others. map (Pull n) (letters_apart letters others)) (column s.pairs legal.pairs) m.cables to 1))
@@ -158,7 +159,7 @@ module _ (m : RotorParts) (s : RotorDay) where
         (cells_led (OfRotors s) plugged present once_pulled (pulls_of (OfRotors s) turned) zs
         (pulls_each (OfRotors s) turned zs (are_pluggable s.pairs legal.pairs m.cables to machine.legal.cables pairing))))
 
-    puts_reach : Led (OfRotors s) (plugged (map once_pulled zs)) (put_lines m s to) (plugged (map once_put zs))
+    puts_reach : Led (OfRotors s) (plugged (map once_pulled zs)) (put_lines m.cables s.pairs to) (plugged (map once_put zs))
     puts_reach =
         subst (λ lines. Led (OfRotors s) (plugged (map once_pulled zs)) lines (plugged (map once_put zs)))
         (sym (numbered_lines (λ n letters others. map (Put n) (letters_apart others letters)) (column s.pairs legal.pairs) m.cables to 1))
@@ -169,16 +170,16 @@ module _ (m : RotorParts) (s : RotorDay) where
     all_led =
         let day = OfRotors s in
         let end = plugged (map once_put zs) in
-        let seats = seat_lines m s in
-        let reflector = reflector_lines m s in
-        let rings = ring_lines m s in
-        let turns = turn_lines m s in
-        let pulls = pull_lines m s to in
+        let seats = seat_lines m.slots s.wheels in
+        let reflector = reflector_lines m.reflector s.reflector in
+        let rings = ring_lines m s.wheels in
+        let turns = turn_lines m s.wheels in
+        let pulls = pull_lines m.cables s.pairs to in
         let two = led_append day (Rotor m) (Rotor after_seats) (Rotor after_reflector) seats reflector seats_reach reflector_reaches in
         let three = led_append day (Rotor m) (Rotor after_reflector) (with_rings rings_set.end) (seats ++ reflector) rings two rings_set.led in
         let four = led_append day (Rotor m) (with_rings rings_set.end) (Rotor turned) (seats ++ reflector ++ rings) turns three turns_set.led in
         let five = led_append day (Rotor m) (Rotor turned) (plugged (map once_pulled zs)) (seats ++ reflector ++ rings ++ turns) pulls four pulls_reach in
-        led_append day (Rotor m) (plugged (map once_pulled zs)) end (seats ++ reflector ++ rings ++ turns ++ pulls) (put_lines m s to) five puts_reach
+        led_append day (Rotor m) (plugged (map once_pulled zs)) end (seats ++ reflector ++ rings ++ turns ++ pulls) (put_lines m.cables s.pairs to) five puts_reach
 
     pub rotors_reach : Reaches (OfRotors s) (Rotor m) (planned_lines (Rotor m) (OfRotors s) to)
     rotors_reach = record {

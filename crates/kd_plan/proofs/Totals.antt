@@ -1,6 +1,6 @@
 -- The planned lines of cables and bars are as many as the pairing costs.
-use Rattle.std.proofs.Common.{◌≡◌, ℕ, ◌+◌, ◌<◌, nat_lt, Bool, true, false, not, ◌&&◌, cond, List, [], ◌∷◌, ◌++◌, length, get_or, map, zip, filter, filter_map, sum, count_by, Option, Some, slice_get, refl, sym, ap, ◌∙◌, arith, append_assoc, length-append}
-use Rattle.std.specs.List.{AllByRecursion, cons_option, enumerate_from, flat_map}
+use Rattle.std.proofs.Common.{◌≡◌, ℕ, ◌+◌, ◌<◌, nat_lt, Bool, true, false, not, ◌&&◌, cond, List, [], ◌∷◌, ◌++◌, length, get_or, map, zip, filter, filter_map, sum, count_by, Option, Some, slice_get, refl, ap, ◌∙◌, arith}
+use Rattle.std.specs.List.{AllByRecursion, cons_option, flat_map}
 use Rattle.std.specs.Option.{option_map, option_to_list}
 use Rattle.std.proofs.lemmas.List.Sums.{sum_by-append, sum_by-cons}
 use Rattle.std.proofs.lemmas.Option.{get_or_from_slice_get, slice_get-map, slice_get-get_or}
@@ -14,12 +14,11 @@ use Rattle.kd_state.specs.declared.setting.Setting.TheVariants.{LugTo}
 use Rattle.kd_state.specs.Machine.{cable_letters}
 use Rattle.kd_state.specs.Setting.{has_letter, is_at}
 use Rattle.kd_state.specs.Costs.{differ, unless_same, column_letters, cable_cost, lugs_moved}
-use Rattle.kd_card.specs.Prices.{cost_at}
 use Rattle.kd_card.specs.Proving.{is_priced, priced_count}
-use Rattle.kd_plan.specs.Planned.{unless_so, letters_apart, lugs_to, pairing_cost}
+use Rattle.kd_assign.specs.Assignment.{assignment_cost}
+use Rattle.kd_plan.specs.Planned.{unless_so, letters_apart, lugs_to}
 use Rattle.kd_plan.proofs.Carrying.{lines_from}
 use Rattle.kd_plan.proofs.Letters.{count_by-cons}
-use Rattle.kd_plan.proofs.Sides.{read_at}
 
 pub priced-append : (xs ys : List Setting) → priced_count (xs ++ ys) ≡ priced_count xs + priced_count ys
 priced-append xs ys = sum_by-append (λ x. cond (is_priced x) 1 0) xs ys
@@ -112,30 +111,20 @@ module _ {A B : Type 0} (cost : A → B → ℕ) (columns : List B) (d : B) wher
   abbrev row_of : A → List ℕ
   row_of x = map (cost x) columns
 
-  cell_is : (done rest : List A) (x : A) (j : ℕ) → j < length columns → cost_at (map row_of (done ++ x ∷ rest)) (length done) j ≡ cost x (get_or columns j d)
-  cell_is done rest x j lt =
-      let row = get_or_from_slice_get (map row_of (done ++ x ∷ rest)) (length done) (row_of x) [] (read_at row_of done x rest) in
+  cell_is : (x : A) (j : ℕ) → j < length columns → get_or (row_of x) j 0 ≡ cost x (get_or columns j d)
+  cell_is x j lt =
       let cell : slice_get (row_of x) j ≡ Some (cost x (get_or columns j d)) = slice_get-map (cost x) columns j ∙ ap (option_map (cost x)) (slice_get-get_or columns j d lt) in
-      ap (λ row. get_or row j 0) row ∙ get_or_from_slice_get (row_of x) j (cost x (get_or columns j d)) 0 cell
-
-  table_from : (all done rest : List A) (to : List ℕ) (k : ℕ) → done ++ rest ≡ all → k ≡ length done → length rest ≡ length to → AllByRecursion (λ j. j < length columns) to
-      → sum_of (λ (row : ℕ × ℕ). cost_at (map row_of all) row.0 row.1) (enumerate_from k to) ≡ sum_of (λ (z : A × B). cost z.0 z.1) (zip rest (map (λ j. get_or columns j d) to))
-  table_from all done [] [] k e at size within = refl
-  table_from all done (x ∷ rest) (j ∷ to) k e at size within =
-      let rows = map row_of all in
-      let first : cost_at rows k j ≡ cost x (get_or columns j d) =
-      ap (λ n. cost_at rows n j) at ∙ ap (λ xs. cost_at (map row_of xs) (length done) j) (sym e) ∙ cell_is done rest x j within.0 in
-      let next = table_from all (done ++ x ∷ []) rest to (k + 1) (append_assoc done (x ∷ []) rest ∙ e) (omega (arith, length-append done (x ∷ []))) (omega arith) within.1 in
-      omega (
-        arith,
-        sum_of-cons (λ (row : ℕ × ℕ). cost_at (map row_of all) row.0 row.1) (k, j) (enumerate_from (k + 1) to),
-        sum_of-cons (λ (z : A × B). cost z.0 z.1) (x, get_or columns j d) (zip rest (map (λ j. get_or columns j d) to)),
-        first,
-        next,
-      )
-  table_from all done [] (j ∷ to) k e at size within = absurd (omega arith)
-  table_from all done (x ∷ rest) [] k e at size within = absurd (omega arith)
+      get_or_from_slice_get (row_of x) j (cost x (get_or columns j d)) 0 cell
 
   pub table_cost : (all : List A) (to : List ℕ) → length all ≡ length to → AllByRecursion (λ j. j < length columns) to
-      → pairing_cost (map row_of all) to ≡ sum_of (λ (z : A × B). cost z.0 z.1) (zip all (map (λ j. get_or columns j d) to))
-  table_cost all to size within = table_from all [] all to 0 refl refl size within
+      → assignment_cost (map row_of all) to ≡ sum_of (λ (z : A × B). cost z.0 z.1) (zip all (map (λ j. get_or columns j d) to))
+  table_cost [] [] size within = refl
+  table_cost (x ∷ rest) (j ∷ to) size within =
+      omega (
+        arith,
+        sum_of-cons (λ (z : A × B). cost z.0 z.1) (x, get_or columns j d) (zip rest (map (λ j. get_or columns j d) to)),
+        cell_is x j within.0,
+        table_cost rest to (omega arith) within.1,
+      )
+  table_cost [] (j ∷ to) size within = absurd (omega arith)
+  table_cost (x ∷ rest) [] size within = absurd (omega arith)

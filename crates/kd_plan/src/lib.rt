@@ -1,6 +1,18 @@
 //! The planner: the shortest card that leads a machine to a day of a sheet.
 #![tactic(auto)]
 
-mod laws;
+mod bar_lines;
+mod cable_lines;
+mod card_prices;
+mod costs;
+pub mod laws;
+mod lines;
+mod other_model;
+mod pin_lines;
+mod planner;
+mod rotor_lines;
+#[cfg(test)]
+mod tests;
 
-pub use laws::{planned_cards_prove_themselves, planned_lines_lead_to_the_day};
+pub use other_model::OtherModel;
+pub use planner::plan;

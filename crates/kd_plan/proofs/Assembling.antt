@@ -1,0 +1,137 @@
+-- The card that is made of an assignment and its lines is a planned one.
+use Rattle.std.proofs.Common.{◌≡◌, ℕ, ◌+◌, ◌≤◌, List, [], ◌∷◌, ◌++◌, length, map, take, All, Option, Some, IfSome, refl, sym, ap, ◌∙◌, subst, arith, length-append}
+use Rattle.std.specs.List.{AllByRecursion}
+use Rattle.std.specs.Option.{option_map}
+use Rattle.std.proofs.lemmas.List.{length-map, take_all}
+use Rattle.std.proofs.lemmas.List.Elements.{All-from_recursion}
+use Rattle.kd_tables.specs.declared.model.Model.{Model}
+use Rattle.kd_tables.specs.declared.model.Model.TheVariants.{EnigmaI, M3, M4, M209}
+use Rattle.kd_tables.specs.declared.place.Place.{Place}
+use Rattle.kd_tables.specs.Rings.{ring_of}
+use Rattle.kd_tables.specs.Tables.{box_of, slots_of}
+use Rattle.kd_state.specs.declared.rotor_parts.RotorParts.{RotorParts}
+use Rattle.kd_state.specs.declared.pin_parts.PinParts.{PinParts}
+use Rattle.kd_state.specs.declared.parts.Parts.TheVariants.{Rotor, Pin}
+use Rattle.kd_state.specs.declared.setting.Setting.{Setting}
+use Rattle.kd_state.specs.declared.setting.Setting.TheVariants.{SeatReflector}
+use Rattle.kd_state.specs.Box.{same_reflector}
+use Rattle.kd_state.specs.Machine.{IsMachine}
+use Rattle.kd_state.specs.SheetDay.{Day, OfRotors, OfPins, IsLegalDay, day_model, rotor_day, pin_day}
+use Rattle.kd_state.specs.Costs.{cable_cost, bar_cost, columns_of, cost_table}
+use Rattle.kd_card.specs.declared.prices.PriceParts.{PriceParts}
+use Rattle.kd_card.specs.Proving.{AreOfKind}
+use Rattle.kd_assign.specs.Assignment.{IsOneToOne}
+use Rattle.kd_assign.specs.Prices.{CostsAtMost}
+use Rattle.kd_plan.specs.Planned.{seat_lines, reflector_lines, ring_lines, turn_lines, pull_lines, put_lines, pin_lines, pin_turn_lines, lug_lines, planned_lines, IsPlanned}
+use Rattle.kd_plan.proofs.Bounds.{option_at_most, cable_cost_at_most, bar_cost_at_most, seats_at_most, rings_at_most, turns_at_most, pulls_at_most, puts_at_most, pins_at_most, pin_turns_at_most, all_lugs_at_most}
+use Rattle.kd_plan.proofs.Pricing.{AreSolved}
+
+-- the letters that show on the day
+pub window_whole : (s : Day) (window : List ℕ) (place : ℕ) → IsLegalDay s → length window ≡ 6 → 6 ≤ place → IfSome (pin_day s) (λ s. take place window ≡ take place s.window) → IfSome (pin_day s) (λ s. window ≡ s.window)
+window_whole (OfRotors s) window place legal size le h = h
+window_whole (OfPins s) window place legal size le h =
+    sym (take_all place window (omega arith)) ∙ h ∙ take_all place s.window (omega (arith, legal.window.count))
+
+-- no cost is above the greatest
+module _ {A B : Type 0} (cost : A → B → ℕ) (most : ℕ) (h : (x : A) (y : B) → cost x y ≤ most) where
+  row_at_most : (x : A) (ys : List B) → AllByRecursion (λ c. c ≤ most) (map (cost x) ys)
+  row_at_most x [] = tt
+  row_at_most x (y ∷ ys) = (h x y, row_at_most x ys)
+
+  rows_at_most : (xs : List A) (ys : List B) → AllByRecursion (λ line. All (λ c. c ≤ most) line) (map (λ x. map (cost x) ys) xs)
+  rows_at_most [] ys = tt
+  rows_at_most (x ∷ xs) ys = (All-from_recursion (λ c. c ≤ most) (map (cost x) ys) (row_at_most x ys), rows_at_most xs ys)
+
+  table_at_most : (xs : List A) (ys : List B) → CostsAtMost most (map (λ x. map (cost x) ys) xs)
+  table_at_most xs ys = All-from_recursion (λ line. All (λ c. c ≤ most) line) (map (λ x. map (cost x) ys) xs) (rows_at_most xs ys)
+
+pub cable_costs_at_most : (costs : List (List ℕ)) (cables : List (Option ℕ × Option ℕ)) (pairs : List (ℕ × ℕ)) → costs ≡ map (λ cable. map (cable_cost cable) (columns_of pairs)) cables → CostsAtMost 4 costs
+cable_costs_at_most costs cables pairs e = subst (CostsAtMost 4) (sym e) (table_at_most cable_cost 4 cable_cost_at_most cables (columns_of pairs))
+
+pub bar_costs_at_most : (costs : List (List ℕ)) (bars : List (Place × Place)) (rows : List (ℕ × ℕ)) → costs ≡ map (λ bar. map (bar_cost bar) rows) bars → CostsAtMost 4 costs
+bar_costs_at_most costs bars rows e = subst (CostsAtMost 4) (sym e) (table_at_most bar_cost 4 (λ bar row. omega (arith, bar_cost_at_most bar row)) bars rows)
+
+-- there is room for all lines
+box_at_most : (model : Model) → length (box_of model) ≤ 10
+box_at_most EnigmaI = omega arith
+box_at_most M3 = omega arith
+box_at_most M4 = omega arith
+box_at_most M209 = omega arith
+
+slots_at_most : (model : Model) → slots_of model ≤ 4
+slots_at_most EnigmaI = omega arith
+slots_at_most M3 = omega arith
+slots_at_most M4 = omega arith
+slots_at_most M209 = omega arith
+
+pub rotor_room : (m : RotorParts) (day : Day) (to : List ℕ) → IsMachine (Rotor m) → IsLegalDay day → length (planned_lines (Rotor m) day to) ≤ 192
+rotor_room m (OfPins s) to machine legal = omega arith
+rotor_room m (OfRotors s) to machine legal =
+    let seats = seat_lines m.slots s.wheels in
+    let reflector = reflector_lines m.reflector s.reflector in
+    let rings = ring_lines m s.wheels in
+    let turns = turn_lines m s.wheels in
+    let pulls = pull_lines m.cables s.pairs to in
+    let puts = put_lines m.cables s.pairs to in
+    omega (
+      arith,
+      length-append (seats ++ reflector ++ rings ++ turns ++ pulls) puts,
+      length-append (seats ++ reflector ++ rings ++ turns) pulls,
+      length-append (seats ++ reflector ++ rings) turns,
+      length-append (seats ++ reflector) rings,
+      length-append seats reflector,
+      seats_at_most m.slots s.wheels,
+      option_at_most (same_reflector m.reflector s.reflector) (SeatReflector s.reflector),
+      rings_at_most m s.wheels,
+      turns_at_most m s.wheels,
+      pulls_at_most m.cables s.pairs to,
+      puts_at_most m.cables s.pairs to,
+      machine.legal.cables.count,
+      box_at_most m.model,
+      slots_at_most s.model,
+      legal.wheels.count,
+      length-map s.wheels (λ w. Some w.wheel),
+    )
+
+ring_sizes : length (ring_of 1) + length (ring_of 2) + length (ring_of 3) + length (ring_of 4) + length (ring_of 5) + length (ring_of 6) ≡ 131
+unfolding ring_of
+ring_sizes = refl
+
+pub pin_room : (m : PinParts) (day : Day) (to : List ℕ) → IsMachine (Pin m) → length (planned_lines (Pin m) day to) ≤ 192
+pin_room m (OfRotors s) to machine = omega arith
+pin_room m (OfPins s) to machine =
+    let pins = pin_lines m.pins s.pins in
+    let turns = pin_turn_lines m.letters s.window in
+    let lugs = lug_lines m.bars s.rows to in
+    omega (
+      arith,
+      length-append (pins ++ turns) lugs,
+      length-append pins turns,
+      pins_at_most m.pins s.pins,
+      ring_sizes,
+      pin_turns_at_most m.letters s.window,
+      all_lugs_at_most m.bars s.rows to,
+      machine.legal.letters.count,
+      machine.legal.bars,
+    )
+
+-- the card
+pub rotor_planned : (m : RotorParts) (day : Day) (pairs : List (ℕ × ℕ)) (costs : List (List ℕ)) (to : List ℕ) (settings : List Setting) (prices : PriceParts)
+    → m.model ≡ day_model day → Some pairs ≡ option_map (λ s. s.pairs) (rotor_day day) → costs ≡ map (λ cable. map (cable_cost cable) (columns_of pairs)) m.cables → AreOfKind (Rotor m) prices
+    → length to ≡ 13 → IsOneToOne to → settings ≡ planned_lines (Rotor m) day to → AreSolved costs to prices → IsPlanned (Rotor m) day settings prices
+rotor_planned m (OfPins s) pairs costs to settings prices same e table kind size one_to_one lines solved = absurd cc
+rotor_planned m (OfRotors s) pairs costs to settings prices same e table kind size one_to_one lines solved =
+    let pair : pairs ≡ s.pairs = cc in
+    let whole : costs ≡ cost_table (Rotor m) (OfRotors s) = table ∙ ap (λ pairs. map (λ cable. map (cable_cost cable) (columns_of pairs)) m.cables) pair in
+    let solution = subst (λ costs. AreSolved costs to prices) whole solved in
+    record { model = same; kind = kind; to = to; all_rows = size; one_to_one = one_to_one; lines = lines; fits = solution.fits; total = solution.total; zero = solution.zero }
+
+pub pin_planned : (m : PinParts) (day : Day) (rows : List (ℕ × ℕ)) (costs : List (List ℕ)) (to : List ℕ) (settings : List Setting) (prices : PriceParts)
+    → M209 ≡ day_model day → Some rows ≡ option_map (λ s. s.rows) (pin_day day) → costs ≡ map (λ bar. map (bar_cost bar) rows) m.bars → AreOfKind (Pin m) prices
+    → length to ≡ 27 → IsOneToOne to → settings ≡ planned_lines (Pin m) day to → AreSolved costs to prices → IsPlanned (Pin m) day settings prices
+pin_planned m (OfRotors s) rows costs to settings prices same e table kind size one_to_one lines solved = absurd cc
+pin_planned m (OfPins s) rows costs to settings prices same e table kind size one_to_one lines solved =
+    let row : rows ≡ s.rows = cc in
+    let whole : costs ≡ cost_table (Pin m) (OfPins s) = table ∙ ap (λ rows. map (λ bar. map (bar_cost bar) rows) m.bars) row in
+    let solution = subst (λ costs. AreSolved costs to prices) whole solved in
+    record { model = same; kind = kind; to = to; all_rows = size; one_to_one = one_to_one; lines = lines; fits = solution.fits; total = solution.total; zero = solution.zero }

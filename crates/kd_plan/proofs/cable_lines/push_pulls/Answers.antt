@@ -1,0 +1,53 @@
+use Rattle.std.proofs.Common.{rules, ◌≡◌, ◌+◌, ◌++◌, ℕ, List, nat_eq, false, filter_map, Bool, not, slice_get, unwrap_or, Option, Some, None, ◌<◌, zip, map, get_or, length, refl, sym, ap, ◌∙◌, arith, subst}
+use Rattle.std.specs.Option.{option_to_list}
+use Rattle.std.proofs.lemmas.Slice.Zip.{length-zip}
+use Rattle.std.proofs.lemmas.List.{length-map, get_or_default, get_or-map}
+use Rattle.std.proofs.lemmas.List.FromFn.{get_or-range_with_len, length-range_with_len}
+use Rattle.kd_tables.specs.Permutation.{alphabet}
+use Rattle.kd_state.specs.Costs.{columns_of}
+use Rattle.kd_plan.proofs.Columns.{column_at}
+use Rattle.kd_plan.specs.Planned.{pull_lines}
+use Rattle.kd_plan.proofs.LineKinds.{pulls_of_cable}
+use Rattle.kd_state.specs.declared.setting.Setting.TheVariants.{Pull}
+use Rattle.kd_plan.specs.Planned.{letters_apart}
+use Rattle.kd_plan.proofs.Plugging.{numbered_lines, pulls}
+use Rattle.kd_plan.proofs.Writing.{left_from, room, next, end, beside_at, lines_of_map, lines_of_found, lines_of_kept}
+use Rattle.kd_plan.proofs.cable_lines.push_pulls.Goals as goal
+
+pub loop-place-init : goal.loop-place-init
+loop-place-init c = ap (λ lines. c.args.settings.now.items ++ lines) (sym (numbered_lines (λ n letters others. map (Pull n) (letters_apart letters others)) (column_at (columns_of c.args.pairs.now)) c.args.cables.now c.args.to.now 1))
+
+pub push_pulls_of-requires : goal.push_pulls_of-requires
+push_pulls_of-requires c =
+    omega (
+      arith,
+      length-map (pulls (get_or c.args.cables.now c.loop-place.place c.index-cables-place.result, c.column-column.result)) (Pull (c.loop-place.place + 1)),
+      room pulls_of_cable (zip c.args.cables.now (map (column_at (columns_of c.args.pairs.now)) c.args.to.now)) c.loop-place.settings.items c.args.settings.now.items _ c.loop-place.place
+          c.loop-place.invariant
+          (get_or c.args.cables.now c.loop-place.place c.index-cables-place.result, c.column-column.result)
+          _
+          (omega (arith, length-zip c.args.cables.now (map (column_at (columns_of c.args.pairs.now)) c.args.to.now), length-map c.args.to.now (column_at (columns_of c.args.pairs.now))))
+          (let column = c.column-column.ensures ∙ ap (column_at (columns_of c.args.pairs.now)) c.from.ensures ∙ sym (get_or-map (column_at (columns_of c.args.pairs.now)) c.args.to.now c.loop-place.place 0 None (omega arith)) in
+          beside_at c.args.cables.now (map (column_at (columns_of c.args.pairs.now)) c.args.to.now) c.loop-place.place _ c.index-cables-place.result c.column-column.result None (omega arith) (omega (arith, length-map c.args.to.now (column_at (columns_of c.args.pairs.now)))) refl column)
+          (refl)
+          (omega (arith, c.requires)),
+    )
+
+pub loop-place-preserved : goal.loop-place-preserved
+loop-place-preserved c =
+    next pulls_of_cable (zip c.args.cables.now (map (column_at (columns_of c.args.pairs.now)) c.args.to.now)) c.loop-place.settings.items c.args.settings.now.items _ c.loop-place.place
+    c.loop-place.invariant
+    (get_or c.args.cables.now c.loop-place.place c.index-cables-place.result, c.column-column.result)
+    _
+    _
+    (omega (arith, length-zip c.args.cables.now (map (column_at (columns_of c.args.pairs.now)) c.args.to.now), length-map c.args.to.now (column_at (columns_of c.args.pairs.now))))
+    (let column = c.column-column.ensures ∙ ap (column_at (columns_of c.args.pairs.now)) c.from.ensures ∙ sym (get_or-map (column_at (columns_of c.args.pairs.now)) c.args.to.now c.loop-place.place 0 None (omega arith)) in
+    beside_at c.args.cables.now (map (column_at (columns_of c.args.pairs.now)) c.args.to.now) c.loop-place.place _ c.index-cables-place.result c.column-column.result None (omega arith) (omega (arith, length-map c.args.to.now (column_at (columns_of c.args.pairs.now)))) refl column)
+    (refl)
+    c.push_pulls_of.ensures
+
+pub returns : goal.returns
+returns c =
+    end pulls_of_cable (zip c.args.cables.now (map (column_at (columns_of c.args.pairs.now)) c.args.to.now)) c.loop-place.settings.items c.args.settings.now.items _ c.loop-place.place
+    c.loop-place.invariant
+    (omega (arith, length-zip c.args.cables.now (map (column_at (columns_of c.args.pairs.now)) c.args.to.now), length-map c.args.to.now (column_at (columns_of c.args.pairs.now))))

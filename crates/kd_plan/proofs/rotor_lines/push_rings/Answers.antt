@@ -1,0 +1,60 @@
+use Rattle.std.proofs.Common.{rules, ◌≡◌, ◌+◌, ◌++◌, ℕ, List, nat_eq, false, filter_map, Bool, not, slice_get, unwrap_or, Option, Some, None, ◌<◌, zip, map, get_or, length, refl, sym, ap, ◌∙◌, arith, subst}
+use Rattle.std.specs.Option.{option_to_list}
+use Rattle.std.proofs.lemmas.Slice.Zip.{length-zip}
+use Rattle.std.proofs.lemmas.List.{length-map, get_or_default, get_or-map}
+use Rattle.std.proofs.lemmas.List.FromFn.{get_or-range_with_len, length-range_with_len}
+use Rattle.kd_tables.specs.Permutation.{alphabet}
+use Rattle.kd_plan.specs.Planned.{ring_lines}
+use Rattle.kd_plan.proofs.LineKinds.{ring_of_wheel}
+use Rattle.kd_tables.specs.declared.wheel.Wheel.TheVariants.{I}
+use Rattle.std.specs.Option.{option_map_or, option_and_then}
+use Rattle.kd_state.specs.declared.parts.Parts.{Parts}
+use Rattle.kd_state.specs.declared.setting.Setting.{Setting}
+use Rattle.kd_state.specs.declared.setting.Setting.TheVariants.{RingTo}
+use Rattle.kd_state.specs.declared.sheet_wheel.SheetWheel.{SheetWheel}
+use Rattle.kd_state.specs.Machine.{ring_in}
+use Rattle.kd_plan.specs.Planned.{unless_so}
+use Rattle.kd_plan.proofs.LineKinds.{ring_wanted, wheel_found}
+use Rattle.kd_plan.proofs.Writing.{left_from, room, next, end, beside_at, lines_of_map, lines_of_found, lines_of_kept}
+use Rattle.kd_plan.proofs.rotor_lines.push_rings.Goals as goal
+
+abbrev ring_from : Option SheetWheel → Parts → Option Setting
+ring_from wanted m = option_and_then (λ w. unless_so (option_map_or (nat_eq w.ring) (ring_in m w.wheel) false) (RingTo w.wheel w.ring)) wanted
+
+pub loop-wheel-init : goal.loop-wheel-init
+loop-wheel-init c = ap (λ lines. c.args.settings.now.items ++ lines) (sym (ap (λ box. filter_map (ring_wanted c.args.parts.now) (filter_map (wheel_found c.args.wheels.now) box)) (sym c.wheels-wheel-items.ensures) ∙ lines_of_found (ring_wanted c.args.parts.now) (wheel_found c.args.wheels.now) c.wheels-wheel-items.result.now 1))
+
+pub push_line-requires : goal.push_line-requires
+push_line-requires c =
+    room (ring_of_wheel c.args.parts.now c.args.wheels.now) c.wheels-wheel-items.result.now c.loop-wheel.settings.items c.args.settings.now.items _ c.loop-wheel.wheel-index
+    c.loop-wheel.invariant
+    (get_or c.wheels-wheel-items.result.now c.loop-wheel.wheel-index I)
+    _
+    (omega arith)
+    (get_or_default c.wheels-wheel-items.result.now c.loop-wheel.wheel-index _ I (omega arith))
+    (
+    ap option_to_list
+    (c.ring_line.ensures ∙ ap (ring_from c.wheel_of.result) c.requires.machine ∙ ap (option_and_then (ring_wanted c.args.parts.now)) c.wheel_of.ensures)
+    )
+    (omega (arith, c.requires))
+
+pub loop-wheel-preserved : goal.loop-wheel-preserved
+loop-wheel-preserved c =
+    next (ring_of_wheel c.args.parts.now c.args.wheels.now) c.wheels-wheel-items.result.now c.loop-wheel.settings.items c.args.settings.now.items _ c.loop-wheel.wheel-index
+    c.loop-wheel.invariant
+    (get_or c.wheels-wheel-items.result.now c.loop-wheel.wheel-index I)
+    _
+    _
+    (omega arith)
+    (get_or_default c.wheels-wheel-items.result.now c.loop-wheel.wheel-index _ I (omega arith))
+    (
+    ap option_to_list
+    (c.ring_line.ensures ∙ ap (ring_from c.wheel_of.result) c.requires.machine ∙ ap (option_and_then (ring_wanted c.args.parts.now)) c.wheel_of.ensures)
+    )
+    c.push_line.ensures
+
+pub returns : goal.returns
+returns c =
+    end (ring_of_wheel c.args.parts.now c.args.wheels.now) c.wheels-wheel-items.result.now c.loop-wheel.settings.items c.args.settings.now.items _ c.loop-wheel.wheel-index
+    c.loop-wheel.invariant
+    (omega arith)

@@ -1,0 +1,20 @@
+//! The lines of a card, one after another.
+ghost use Rattle.std.specs.Prelude.{◌≡◌, ◌+◌, ◌≤◌, ◌++◌, length};
+ghost use Rattle.std.specs.Option.{option_to_list};
+ghost use Rattle.arrayvec.specs.ArrayVec.{array_vec_len};
+
+use arrayvec::ArrayVec;
+use kd_state::Setting;
+
+/// The settings of a card.
+pub(crate) type Settings = ArrayVec<Setting, 192>;
+
+/// Appends a line, if there is one.
+pub(crate) fn push_line(settings: &mut Settings, line: Option<Setting>)
+    requires { array_vec_len settings.old + length (option_to_list line) ≤ 192 }
+    ensures { settings.new.items ≡ settings.old.items ++ option_to_list line }
+{
+    if let Some(line) = line {
+        settings.push(line);
+    }
+}

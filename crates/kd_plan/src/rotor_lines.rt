@@ -1,0 +1,127 @@
+//! The lines of wheels, reflector, rings and window letters.
+ghost use Rattle.std.specs.Prelude.{◌≡◌, ◌+◌, ◌≤◌, ◌++◌, false, nat_eq, length, find, option_and_then};
+ghost use Rattle.std.specs.Option.{option_map_or};
+ghost use Rattle.arrayvec.specs.ArrayVec.{array_vec_len};
+ghost use Rattle.kd_state.specs.declared.parts.Parts.TheVariants.{Rotor};
+ghost use Rattle.kd_state.specs.Box.{same_wheel, same_reflector};
+ghost use Rattle.kd_state.specs.Machine.{ring_in, letter_in};
+ghost use Rattle.kd_plan.specs.Planned.{unless_so, seat_lines, reflector_lines, ring_lines, turn_lines};
+
+use super::lines::{Settings, push_line};
+use kd_state::{Machine, RotorParts, Setting, SheetWheel};
+use kd_tables::{Reflector, Wheel};
+
+/// Appends SEAT for each slot that doesn't hold the day's wheel.
+pub(crate) fn push_seats(settings: &mut Settings, slots: &[Option<Wheel>], wheels: &[SheetWheel])
+    requires slots { length slots.now ≡ length wheels.now }
+    requires few { length wheels.now ≤ 4 }
+    requires room { array_vec_len settings.old + length (seat_lines slots.now wheels.now) ≤ 192 }
+    ensures { settings.new.items ≡ settings.old.items ++ seat_lines slots.now wheels.now }
+{
+    for (place, wheel) in wheels.iter().enumerate() {
+        push_line(
+            settings,
+            seat_line(place as u8 + 1, slots[place], wheel.wheel),
+        );
+    }
+}
+
+/// Appends REFLECTOR, unless it is the day's.
+pub(crate) fn push_reflector(settings: &mut Settings, present: Reflector, wanted: Reflector)
+    requires { array_vec_len settings.old + length (reflector_lines present wanted) ≤ 192 }
+    ensures { settings.new.items ≡ settings.old.items ++ reflector_lines present wanted }
+{
+    push_line(settings, reflector_line(present, wanted));
+}
+
+/// Appends RING for each of the day's wheels whose ring differs, in box order.
+pub(crate) fn push_rings(
+    settings: &mut Settings,
+    machine: &Machine,
+    parts: &RotorParts,
+    wheels: &[SheetWheel],
+)
+    requires machine { machine.now ≡ Rotor parts.now }
+    requires room { array_vec_len settings.old + length (ring_lines parts.now wheels.now) ≤ 192 }
+    ensures { settings.new.items ≡ settings.old.items ++ ring_lines parts.now wheels.now }
+{
+    for wheel in parts.model.wheels() {
+        push_line(settings, ring_line(machine, wheel_of(wheels, *wheel)));
+    }
+}
+
+/// Appends TURN for each slot whose wheel shows another letter than the day's.
+pub(crate) fn push_turns(
+    settings: &mut Settings,
+    machine: &Machine,
+    parts: &RotorParts,
+    wheels: &[SheetWheel],
+)
+    requires machine { machine.now ≡ Rotor parts.now }
+    requires few { length wheels.now ≤ 4 }
+    requires room { array_vec_len settings.old + length (turn_lines parts.now wheels.now) ≤ 192 }
+    ensures { settings.new.items ≡ settings.old.items ++ turn_lines parts.now wheels.now }
+{
+    for (place, wheel) in wheels.iter().enumerate() {
+        push_line(settings, turn_line(machine, place as u8 + 1, *wheel));
+    }
+}
+
+/// SEAT, unless the wheel is seated there.
+fn seat_line(slot: u8, seated: Option<Wheel>, wheel: Wheel) -> Option<Setting>
+    ensures { let so = option_map_or (same_wheel wheel) seated false in
+        result ≡ unless_so so (Setting.Seat slot wheel) }
+{
+    match seated {
+        Some(present) if wheel == present => None,
+        _ => Some(Setting::Seat { slot, wheel }),
+    }
+}
+
+/// REFLECTOR, unless it is that one.
+fn reflector_line(present: Reflector, reflector: Reflector) -> Option<Setting>
+    ensures { let so = same_reflector present reflector in
+        result ≡ unless_so so (Setting.SeatReflector reflector) }
+{
+    if present == reflector {
+        None
+    } else {
+        Some(Setting::SeatReflector { reflector })
+    }
+}
+
+/// The wheel among the day's, if it is one of them.
+fn wheel_of(wheels: &[SheetWheel], wheel: Wheel) -> Option<SheetWheel>
+    ensures { result ≡ find (λ seated. same_wheel wheel seated.wheel) wheels.now }
+{
+    wheels.iter().copied().find(|seated| wheel == seated.wheel)
+}
+
+/// RING, if the wheel is one of the day's and has another ring.
+fn ring_line(machine: &Machine, wanted: Option<SheetWheel>) -> Option<Setting>
+    ensures { result ≡ option_and_then (λ seated.
+        let so = option_map_or (nat_eq seated.ring) (ring_in machine.now seated.wheel) false in
+        unless_so so (Setting.RingTo seated.wheel seated.ring)) wanted }
+{
+    let SheetWheel { wheel, ring, .. } = wanted?;
+    match machine.ring(wheel) {
+        Some(present) if ring == present => None,
+        _ => Some(Setting::RingTo {
+            wheel,
+            letter: ring,
+        }),
+    }
+}
+
+/// TURN, unless the wheel in the slot shows the letter.
+fn turn_line(machine: &Machine, slot: u8, wanted: SheetWheel) -> Option<Setting>
+    ensures { let shown = letter_in machine.now wanted.wheel in
+        let so = option_map_or (nat_eq wanted.letter) shown false in
+        result ≡ unless_so so (Setting.Turn slot wanted.letter) }
+{
+    let SheetWheel { wheel, letter, .. } = wanted;
+    match machine.letter(wheel) {
+        Some(present) if letter == present => None,
+        _ => Some(Setting::Turn { slot, letter }),
+    }
+}

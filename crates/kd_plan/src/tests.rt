@@ -1,0 +1,5 @@
+mod bars;
+mod cables;
+mod samples;
+mod trials;
+mod wheels;
