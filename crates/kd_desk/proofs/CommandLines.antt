@@ -1,5 +1,5 @@
 -- Commands and the values of their words.
-use Rattle.std.proofs.Common.{◌≡◌, ◌≢◌, ℕ, List, Option, Some, None, Bor, option_map, sym, ap, ◌∙◌}
+use Rattle.std.proofs.Common.{◌≡◌, ◌≢◌, ℕ, List, Option, Some, None, Bor, decimal, option_map, sym, ap, ◌∙◌}
 use Rattle.std.proofs.Common.{Result, Ok, Err, IsSomeAnd, IfSome, IfOk, IfErr, is_some, ok_or, true, false, [], inl, inr, refl, subst, ap₂}
 use Rattle.clap.specs.Words.{App, FailsBy, HasKind, HasMatchesOf, Row, fault_of, first_of, first_value, is_simple, is_simple_and_free, kind_of, rows_of, subcommand_of, subcommand_rows_of}
 use Rattle.clap.specs.declared.parser.matches.ArgMatches.{ArgMatches}
@@ -9,6 +9,7 @@ use Rattle.clap.proofs.OnLiterals.{clap_on_literals}
 use Rattle.std.proofs.lemmas.Option.{same_Some}
 use Rattle.clap.specs.declared.parser.matches.Found.{Found}
 use Rattle.clap.proofs.WalkLemmas.{first_value-rows}
+use Rattle.kd_state.specs.SheetDay.{IsDayNumber}
 use Rattle.kd_desk.specs.declared.command.Command.{Command}
 use Rattle.kd_desk.specs.declared.fault.DeskFault.{DeskFault}
 use Rattle.kd_desk.specs.declared.fault.DeskFault.TheVariants.{File}
@@ -24,6 +25,18 @@ read_none found id word reads none = sym (first_value-rows found id) ∙ sym rea
 pub read_some : (found : Found) (id : List ℕ) (word : Option (Bor (List ℕ))) (read : Bor (List ℕ)) → option_map (λ s. s.now) word ≡ first_value found id → word ≡ Some read
     → first_of id (rows_of found) ≡ Some read.now
 read_some found id word read reads some = sym (first_value-rows found id) ∙ sym reads ∙ ap (option_map (λ s. s.now)) some
+
+-- a word that says no day
+none_or_some : {X : Type 0} (o : Option X) (x : X) → o ≡ None → o ≡ Some x → ⊥
+none_or_some o x none some = cc
+
+pub no_word : (found : Found) (id : List ℕ) (word : Option (Bor (List ℕ))) → option_map (λ s. s.now) word ≡ first_value found id → word ≡ None
+    → (day : ℕ) → IsDayNumber day → first_of id (rows_of found) ≢ Some (decimal day)
+no_word found id word reads none day within is = none_or_some _ _ (read_none found id word reads none) is
+
+pub other_word : (found : Found) (id : List ℕ) (word : Option (Bor (List ℕ))) (read : Bor (List ℕ)) → option_map (λ s. s.now) word ≡ first_value found id → word ≡ Some read
+    → ((day : ℕ) → IsDayNumber day → read.now ≢ decimal day) → (day : ℕ) → IsDayNumber day → first_of id (rows_of found) ≢ Some (decimal day)
+other_word found id word read reads some other day within is = other day within (same_Some _ _ (sym (read_some found id word read reads some) ∙ is))
 
 -- clap says all of this grammar
 pub grammar_is_simple : is_simple_and_free desk_grammar ≡ true

@@ -6,7 +6,12 @@ use Rattle.kd_desk.specs.declared.fault.DeskFault.{DeskFault}
 use Rattle.kd_desk.specs.declared.stop.Stop.{Stop}
 use Rattle.kd_desk.specs.declared.stop.Stop.TheVariants.{Refused}
 use Rattle.kd_desk.specs.CommandLine.{desk_grammar, IsOf, Says}
-use Rattle.kd_desk.specs.Desk.{typing, with_bytes, typing_of, run_of, TypesOn, CarriesOut}
+use Rattle.std.specs.Result.{result_map_both}
+use Rattle.kd_desk.specs.declared.files.fault.FileFault.{FileFault}
+use Rattle.kd_desk.specs.Desk.{Run, typing, printing, checking, with_bytes, typing_of, printing_of, checking_of, run_of, TypesOn, Does, IsLeftAlone, CarriesOut}
+use Rattle.kd_desk.specs.OnDay.{OnDay}
+use Rattle.kd_desk.specs.RunCard.{Prints}
+use Rattle.kd_desk.specs.RunCheck.{Checks}
 use Rattle.kd_desk.specs.Files.{content_of}
 use Rattle.kd_desk.specs.Ports.{Port}
 use Rattle.kd_desk.proofs.SaidRuns.{same_run}
@@ -27,7 +32,7 @@ pub carried_for : (known : Option (List ℕ → Option (List ℕ))) (one other :
 carried_for None one other source sink answer same carried = tt
 carried_for (Some held) one other source sink answer same carried = subst (λ run. CarriesOut run source sink answer) (same held) carried
 
-err_is : (answer : Result (Unit {0}) Stop) (stop : Stop) → IsErrAnd answer (λ made. made ≡ stop) → answer ≡ Err stop
+pub err_is : (answer : Result (Unit {0}) Stop) (stop : Stop) → IsErrAnd answer (λ made. made ≡ stop) → answer ≡ Err stop
 err_is (Ok x) stop made = absurd made
 err_is (Err other) stop made = ap Err made
 
@@ -39,3 +44,36 @@ typing_refused None name bytes read source sink fault answer content same types 
 typing_refused (Some held) name bytes read source sink fault answer content same types made =
     subst (λ file. CarriesOut (with_bytes file (λ m. Ok (typing m))) source sink answer) (ap Ok same ∙ sym content)
     (inl (record { told = Err fault; does = types; answers = err_is answer (Refused fault) made }))
+
+-- a run was made of the bytes of the files
+module _ (source sink : Port) (told : Result (Unit {0}) DeskFault) (answer : Result (Unit {0}) Stop) (answers : answer ≡ result_map_both (λ done. done) Refused told) where
+  carries_out : (run : Run) (meant : Result Run FileFault) → meant ≡ Ok run → Does run source sink told → CarriesOut meant source sink answer
+  carries_out run meant is does =
+      subst (λ r. CarriesOut r source sink answer) (sym is) (inl (record { told = told; does = does; answers = answers }))
+
+-- the bytes of two files
+two_files : (machine sheet : Result (List ℕ) FileFault) (m s : List ℕ) (run : List ℕ → List ℕ → Run) → machine ≡ Ok m → sheet ≡ Ok s
+    → with_bytes machine (λ one. with_bytes sheet (λ two. Ok (run one two))) ≡ Ok (run m s)
+two_files machine sheet m s run is are =
+    ap (λ file. with_bytes file (λ one. with_bytes sheet (λ two. Ok (run one two)))) is ∙ ap (λ file. with_bytes file (λ two. Ok (run m two))) are
+
+-- a card is printed, or checked, on files that are known to hold these bytes
+module _ (machine sheet m s : List ℕ) (day : ℕ) (sink : Port) (told : Result (Unit {0}) DeskFault) (answer : Result (Unit {0}) Stop)
+    (answers : answer ≡ result_map_both (λ done. done) Refused told) where
+  pub printed : (known : Option (List ℕ → Option (List ℕ))) → IfSome known (λ held. content_of (held machine) ≡ Ok m)
+      → IfSome known (λ held. content_of (held sheet) ≡ Ok s) → OnDay m s day (λ n d. Prints n d sink told) told
+      → IfSome known (λ held. (source : Port) → IsLeftAlone source → CarriesOut (printing_of (held machine) (held sheet) day) source sink answer)
+  printed None holds holds_sheet does = tt
+  printed (Some held) holds holds_sheet does = λ source alone.
+      carries_out source sink told answer answers (printing m s day) (printing_of (held machine) (held sheet) day)
+      (two_files _ _ m s (λ one two. printing one two day) holds holds_sheet) (does, alone)
+
+  pub checked : (known : Option (List ℕ → Option (List ℕ))) (card c : List ℕ) → IfSome known (λ held. content_of (held machine) ≡ Ok m)
+      → IfSome known (λ held. content_of (held sheet) ≡ Ok s) → IfSome known (λ held. content_of (held card) ≡ Ok c)
+      → OnDay m s day (λ n d. Checks n d day c sink told) told
+      → IfSome known (λ held. (source : Port) → IsLeftAlone source → CarriesOut (checking_of (held machine) (held sheet) day (held card)) source sink answer)
+  checked None card c holds holds_sheet holds_card does = tt
+  checked (Some held) card c holds holds_sheet holds_card does = λ source alone.
+      carries_out source sink told answer answers (checking m s day c) (checking_of (held machine) (held sheet) day (held card))
+      (ap (λ file. with_bytes file (λ one. with_bytes (content_of (held sheet)) (λ two. with_bytes (content_of (held card)) (λ three. Ok (checking one two day three))))) holds
+      ∙ two_files _ _ s c (λ two three. checking m two day three) holds_sheet holds_card) (does, alone)

@@ -1,5 +1,5 @@
 -- The run that a command's name and words say. A command more is one branch of `run_by`, and one case of `run_said`.
-use Rattle.std.proofs.Common.{◌≡◌, ◌≢◌, ℕ, ◌<◌, ◌^◌, List, Option, Some, None, Result, codes, decimal, bytes_eq, option_map, refl, sym, ap, ◌∙◌, if◌then◌else◌, arith}
+use Rattle.std.proofs.Common.{◌≡◌, ◌≢◌, ℕ, ◌<◌, ◌^◌, List, Option, Some, None, Result, codes, decimal, bytes_eq, option_map, refl, sym, ap, ◌∙◌, if◌then◌else◌, arith, get_or}
 use Rattle.std.specs.Option.{option_and_then}
 use Rattle.std.proofs.lemmas.Option.{same_Some}
 use Rattle.std.proofs.lemmas.Fmt.{decimal_injective}
@@ -117,7 +117,8 @@ no_sheet_to_print rows none =
 
 pub no_machine_to_check : (rows : List Row) → first_of (codes "MACHINE") rows ≡ None → (command : Command) → IsOf (codes "check", rows) command → ⊥
 no_machine_to_check rows none =
-    let (sheet, card) = (first_of (codes "SHEET") rows, first_of (codes "CARD") rows) in
+    let sheet = first_of (codes "SHEET") rows in
+    let card = first_of (codes "CARD") rows in
     no_run (codes "check", rows) (λ day. ap (option_and_then (λ m. option_and_then (λ s. option_map (λ c. checking_of None None day None) card) sheet)) none)
 
 pub no_sheet_to_check : (rows : List Row) → first_of (codes "SHEET") rows ≡ None → (command : Command) → IsOf (codes "check", rows) command → ⊥
@@ -137,13 +138,21 @@ no_card_to_check rows none =
 -- a command with a day, where no word says one
 module _ (rows : List Row) (none : (day : ℕ) → IsDayNumber day → first_of (codes "DAY") rows ≢ Some (decimal day)) where
   pub no_day_to_print : (command : Command) → IsOf (codes "card", rows) command → ⊥
-  no_day_to_print (commands.Type machine) is = cc
+  no_day_to_print (commands.Type machine) is =
+      let first : 99 ≡ 116 = ap (λ name. get_or name 0 0) is.name in
+      absurd (omega (arith, first))
   no_day_to_print (commands.Card machine sheet day) is = none day is.words.of_month is.words.day_word
   no_day_to_print (commands.Check machine sheet day card) is = none day is.words.0.of_month is.words.0.day_word
-  no_day_to_print (commands.Apply machine list) is = cc
+  no_day_to_print (commands.Apply machine list) is =
+      let first : 99 ≡ 97 = ap (λ name. get_or name 0 0) is.name in
+      absurd (omega (arith, first))
 
   pub no_day_to_check : (command : Command) → IsOf (codes "check", rows) command → ⊥
-  no_day_to_check (commands.Type machine) is = cc
+  no_day_to_check (commands.Type machine) is =
+      let first : 99 ≡ 116 = ap (λ name. get_or name 0 0) is.name in
+      absurd (omega (arith, first))
   no_day_to_check (commands.Card machine sheet day) is = none day is.words.of_month is.words.day_word
   no_day_to_check (commands.Check machine sheet day card) is = none day is.words.0.of_month is.words.0.day_word
-  no_day_to_check (commands.Apply machine list) is = cc
+  no_day_to_check (commands.Apply machine list) is =
+      let first : 99 ≡ 97 = ap (λ name. get_or name 0 0) is.name in
+      absurd (omega (arith, first))

@@ -1,5 +1,5 @@
 -- What the program's words say, by what clap makes of the desk's grammar.
-use Rattle.std.specs.Prelude.{codes, decimal, ◌≡◌, ℕ, true, false, List, [], ◌∷◌, map, Some, IsSomeAnd}
+use Rattle.std.specs.Prelude.{codes, decimal, ◌≡◌, ℕ, true, false, List, [], ◌∷◌, ◌++◌, map, Some, IsSomeAnd}
 use Rattle.clap.specs.Words.{App, Row, Rule, Shape, first_of, fault_of, new_rule, subcommand_of}
 use Rattle.clap.specs.Simple.{new_shape}
 use Rattle.kd_state.specs.SheetDay.{IsDayNumber}
@@ -17,14 +17,22 @@ form name words = record (new_shape name) {
   rules = map word_named words;
 }
 
+-- a command that has no commands of its own
+abbrev pub alone : Shape → App
+alone shape = record { top = shape; subs = []; }
+
+-- the words that name a machine file, a sheet and a day
+abbrev pub day_words : List (List ℕ)
+day_words = codes "MACHINE" ∷ codes "SHEET" ∷ codes "DAY" ∷ []
+
 abbrev pub type_form : Shape
 type_form = form (codes "type") (codes "MACHINE" ∷ [])
 
 abbrev pub card_form : Shape
-card_form = form (codes "card") (codes "MACHINE" ∷ codes "SHEET" ∷ codes "DAY" ∷ [])
+card_form = form (codes "card") day_words
 
 abbrev pub check_form : Shape
-check_form = form (codes "check") (codes "MACHINE" ∷ codes "SHEET" ∷ codes "DAY" ∷ codes "CARD" ∷ [])
+check_form = form (codes "check") (day_words ++ codes "CARD" ∷ [])
 
 abbrev pub apply_form : Shape
 apply_form = form (codes "apply") (codes "MACHINE" ∷ codes "LIST" ∷ [])

@@ -1,7 +1,8 @@
-ghost use Rattle.std.specs.Prelude.{◌≡◌, ◌≢◌, ℕ, false, codes, decimal, map, Err, IfSome, IfOk, IfErr};
+ghost use Rattle.std.specs.Prelude.{◌≡◌, ◌≢◌, [], ◌∷◌, ◌++◌, ℕ, false, codes, decimal, map, Err, IfSome, IfOk, IfErr};
+ghost use Rattle.clap.specs.declared.builder.command.Command.{out-Command};
 ghost use Rattle.clap.specs.Words.{app_of, found_of, kind_of, rows_of, rule_of};
 ghost use Rattle.kd_state.specs.SheetDay.{IsDayNumber};
-ghost use Rattle.kd_desk.specs.CommandLine.{word_named, desk_grammar, IsOf, IsOfNone, Says, SaysNothing};
+ghost use Rattle.kd_desk.specs.CommandLine.{word_named, form, alone, day_words, desk_grammar, IsOf, IsOfNone, Says, SaysNothing};
 
 #[cfg(test)]
 mod tests;
@@ -85,7 +86,7 @@ fn type_of<'a>(words: &ArgMatches<'a>) -> Option<Command<'a>>
 /// The card that these words say, if the day among them is one.
 fn card_of<'a>(words: &ArgMatches<'a>) -> Option<Command<'a>>
     ensures said { IfSome result (IsOf (codes "card", rows_of (found_of words.now))) }
-    ensures none { result ≡ None → (command : Command) → IsOf (codes "card", rows_of (found_of words.now)) command → ⊥ }
+    ensures none { result ≡ None → IsOfNone (codes "card", rows_of (found_of words.now)) }
 {
     let machine = words.get_str("MACHINE")?;
     let sheet = words.get_str("SHEET")?;
@@ -100,7 +101,7 @@ fn card_of<'a>(words: &ArgMatches<'a>) -> Option<Command<'a>>
 /// The check that these words say, if the day among them is one.
 fn check_of<'a>(words: &ArgMatches<'a>) -> Option<Command<'a>>
     ensures said { IfSome result (IsOf (codes "check", rows_of (found_of words.now))) }
-    ensures none { result ≡ None → (command : Command) → IsOf (codes "check", rows_of (found_of words.now)) command → ⊥ }
+    ensures none { result ≡ None → IsOfNone (codes "check", rows_of (found_of words.now)) }
 {
     let machine = words.get_str("MACHINE")?;
     let sheet = words.get_str("SHEET")?;
@@ -141,31 +142,49 @@ fn apply_of<'a>(words: &ArgMatches<'a>) -> Option<Command<'a>>
 fn grammar<'a>(alloc: Global) -> Result<Grammar<'a>, AllocError>
     ensures { IfOk result (λ grammar. app_of grammar ≡ desk_grammar) }
 {
-    let type_words = Grammar::new(alloc, "type")
-        .disable_help_flag(true)
-        .arg(word(alloc, "MACHINE"))?;
-    let card_words = Grammar::new(alloc, "card")
-        .disable_help_flag(true)
-        .arg(word(alloc, "MACHINE"))?
-        .arg(word(alloc, "SHEET"))?
-        .arg(word(alloc, "DAY"))?;
-    let check_words = Grammar::new(alloc, "check")
-        .disable_help_flag(true)
-        .arg(word(alloc, "MACHINE"))?
-        .arg(word(alloc, "SHEET"))?
-        .arg(word(alloc, "DAY"))?
-        .arg(word(alloc, "CARD"))?;
-    let apply_words = Grammar::new(alloc, "apply")
-        .disable_help_flag(true)
-        .arg(word(alloc, "MACHINE"))?
-        .arg(word(alloc, "LIST"))?;
     Grammar::new(alloc, "desk")
         .disable_help_flag(true)
         .disable_help_subcommand(true)
-        .subcommand(type_words)?
-        .subcommand(card_words)?
-        .subcommand(check_words)?
-        .subcommand(apply_words)
+        .subcommand(with_machine(alloc, "type")?)?
+        .subcommand(with_day(alloc, "card")?)?
+        .subcommand(with_card(alloc, "check")?)?
+        .subcommand(with_list(alloc, "apply")?)
+}
+
+/// A command with the word MACHINE.
+fn with_machine<'a>(alloc: Global, name: &'a str) -> Result<Grammar<'a>, AllocError>
+    ensures shape { IfOk result (λ g. app_of g ≡ alone (form name.entry.now (codes "MACHINE" ∷ []))) }
+    ensures local { IfOk result (λ g. (out-Command g).has_globals ≡ false) }
+{
+    Grammar::new(alloc, name)
+        .disable_help_flag(true)
+        .arg(word(alloc, "MACHINE"))
+}
+
+/// A command with the words MACHINE, SHEET and DAY.
+fn with_day<'a>(alloc: Global, name: &'a str) -> Result<Grammar<'a>, AllocError>
+    ensures shape { IfOk result (λ g. app_of g ≡ alone (form name.entry.now day_words)) }
+    ensures local { IfOk result (λ g. (out-Command g).has_globals ≡ false) }
+{
+    with_machine(alloc, name)?
+        .arg(word(alloc, "SHEET"))?
+        .arg(word(alloc, "DAY"))
+}
+
+/// A command with the words MACHINE, SHEET, DAY and CARD.
+fn with_card<'a>(alloc: Global, name: &'a str) -> Result<Grammar<'a>, AllocError>
+    ensures shape { IfOk result (λ g. app_of g ≡ alone (form name.entry.now (day_words ++ codes "CARD" ∷ []))) }
+    ensures local { IfOk result (λ g. (out-Command g).has_globals ≡ false) }
+{
+    with_day(alloc, name)?.arg(word(alloc, "CARD"))
+}
+
+/// A command with the words MACHINE and LIST.
+fn with_list<'a>(alloc: Global, name: &'a str) -> Result<Grammar<'a>, AllocError>
+    ensures shape { IfOk result (λ g. app_of g ≡ alone (form name.entry.now (codes "MACHINE" ∷ codes "LIST" ∷ []))) }
+    ensures local { IfOk result (λ g. (out-Command g).has_globals ≡ false) }
+{
+    with_machine(alloc, name)?.arg(word(alloc, "LIST"))
 }
 
 /// A word that has to be there.
