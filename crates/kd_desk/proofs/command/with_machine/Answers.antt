@@ -11,5 +11,5 @@ without_help a = record a { top = record a.top { disable_help_flag = true } }
 pub returns-clause-shape : goal.returns-clause-shape
 returns-clause-shape c =
     let machine : rule_of c.word.result ≡ word_named (codes "MACHINE") = search rules in
-    let new : app_of c.disable_help_flag.result ≡ without_help (new_app c.args.name.entry.now) = ap app_of_fields c.disable_help_flag.ensures ∙ ap without_help c.new.ensures.app in
+    let new : app_of c.disable_help_flag.result ≡ without_help (new_app c.args.name.now) = ap app_of_fields c.disable_help_flag.ensures ∙ ap without_help c.new.ensures.app in
     IfOk-weaker c.arg.result _ _ (λ r adds. adds.shape (search rules) ∙ ap₂ with_rule new machine) c.arg.ensures

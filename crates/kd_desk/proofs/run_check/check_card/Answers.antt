@@ -1,4 +1,4 @@
-use Rattle.std.proofs.Common.{ℕ, refl, rules, ≢-sym}
+use Rattle.std.proofs.Common.{refl, rules}
 use Rattle.kd_desk.specs.RunCheck.{Other}
 use Rattle.kd_desk.proofs.Checking.{no_card, doubtful, told, told_in_part}
 use Rattle.kd_desk.proofs.run_check.check_card.Goals as goal
@@ -19,11 +19,11 @@ pub returns-in_err-write_verdict-clause-checks : goal.returns-in_err-write_verdi
 returns-in_err-write_verdict-clause-checks g c =
     told_in_part c.proving_cards_are_shortest.ensures _ _ _ _ _ c.parts-legal_machine.ensures.legal c.model-legal_day.ensures.legal
     c.in_ok-dated.dated c.in_ok-dated.card.settings.items c.in_ok-dated.card.prices c.len.result c.in_ok-dated.ensures (search rules)
-    (c.in_ok-check.ensures.proves.0 tt) (search rules) c.from_residual-in_err-write_verdict.result
+    (c.in_ok-check.ensures.proves.0 refl) (search rules) c.from_residual-in_err-write_verdict.result
     c.in_err-write_verdict.ensures.text.front c.from_residual-in_err-write_verdict.ensures.1
 
 pub returns-clause-checks : goal.returns-clause-checks
 returns-clause-checks g c =
     told c.proving_cards_are_shortest.ensures _ _ _ _ _ c.parts-legal_machine.ensures.legal c.model-legal_day.ensures.legal
     c.in_ok-dated.dated c.in_ok-dated.card.settings.items c.in_ok-dated.card.prices c.len.result c.in_ok-dated.ensures (search rules)
-    (c.in_ok-check.ensures.proves.0 tt) (search rules) c.in_ok-write_verdict.ensures.text.whole
+    (c.in_ok-check.ensures.proves.0 refl) (search rules) c.in_ok-write_verdict.ensures.text.whole
