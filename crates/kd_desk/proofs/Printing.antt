@@ -29,13 +29,16 @@ module _ (laws : Laws) (m : Parts) (s : Day) (is_machine : IsMachine m) (legal :
       → headline.LeavesTheSheetsMachine m s settings
   leaves text settings prices plans card =
       let n = plans.leads.0 in
-      let machine = laws.keep m n settings is_machine card.in_range plans.leads.1 in
-      (n, plans.leads.1, record {
-        machine = machine;
-        reads = plans.leads.2;
-        ready = laws.ready n s machine legal plans.leads.2;
-        enciphers = λ letters. laws.cipher n s letters machine legal plans.leads.2;
-      })
+      let machine = laws.keep m n settings is_machine card.in_range plans.leads.1 in (
+        n,
+        plans.leads.1,
+        record {
+          machine = machine;
+          reads = plans.leads.2;
+          ready = laws.ready n s machine legal plans.leads.2;
+          enciphers = λ letters. laws.cipher n s letters machine legal plans.leads.2;
+        },
+      )
 
   decipher : headline.EquallySetDecipher s
   decipher one other text set are =
@@ -46,16 +49,30 @@ module _ (laws : Laws) (m : Parts) (s : Day) (is_machine : IsMachine m) (legal :
   whole settings prices text day sink plans number card taken =
       let dated = subst (λ d. IsCard text d settings prices) number card in
       Card (record {
-        settings = settings; prices = prices; plans = plans; leaves = leaves text settings prices plans dated; deciphers = decipher;
-        text = text; card = dated; written = record { whole = taken; front = tt }; device = tt;
+        settings = settings;
+        prices = prices;
+        plans = plans;
+        leaves = leaves text settings prices plans dated;
+        deciphers = decipher;
+        text = text;
+        card = dated;
+        written = record { whole = taken; front = tt };
+        device = tt;
       })
 
   part_of : (settings : List Setting) (prices : PriceParts) (text : List ℕ) (sink : Port) → Plans m s settings prices
       → IsCard text (day_number s) settings prices → TakesFront sink.had sink.has text → Prints m s sink (Err faults.Device)
   part_of settings prices text sink plans card taken =
       Card (record {
-        settings = settings; prices = prices; plans = plans; leaves = leaves text settings prices plans card; deciphers = decipher;
-        text = text; card = card; written = record { whole = tt; front = taken }; device = refl;
+        settings = settings;
+        prices = prices;
+        plans = plans;
+        leaves = leaves text settings prices plans card;
+        deciphers = decipher;
+        text = text;
+        card = card;
+        written = record { whole = tt; front = taken };
+        device = refl;
       })
 
   pub part : (settings : List Setting) (prices : PriceParts) (text : List ℕ) (day : ℕ) (sink : Port) (answer : Result (Unit {0}) DeskFault) → Plans m s settings prices

@@ -19,7 +19,7 @@ form name words = record (new_shape name) {
 
 -- a command that has no commands of its own
 abbrev pub alone : Shape → App
-alone shape = record { top = shape; subs = []; }
+alone shape = record { top = shape; subs = [] }
 
 -- the words that name a machine file, a sheet and a day
 abbrev pub day_words : List (List ℕ)

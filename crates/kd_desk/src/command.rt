@@ -20,7 +20,9 @@ use std::convert::AsStr;
 #[derive(Clone, Copy, Debug, PartialEq, Eq)]
 pub enum Command<'a> {
     /// Types the standard input on the machine of this file.
-    Type { machine: &'a str },
+    Type {
+        machine: &'a str,
+    },
     /// Prints the card that leads the machine of the first file to a day of the sheet of the second.
     Card {
         machine: &'a str,
@@ -37,7 +39,10 @@ pub enum Command<'a> {
         card: &'a str,
     },
     /// Carries the settings of the second file out on the machine of the first, and prints the machine's file.
-    Apply { machine: &'a str, list: &'a str },
+    Apply {
+        machine: &'a str,
+        list: &'a str,
+    },
 }
 
 /// The command of the program's words, the program's own name first.

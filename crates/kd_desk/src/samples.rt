@@ -145,3 +145,11 @@ bars = [
     \"0L-0R\", \"0L-0R\", \"0L-0R\", \"0L-0R\", \"0L-0R\", \"0L-0R\", \"0L-0R\", \"0L-0R\", \"0L-0R\",
 ]
 ";
+
+/// The card of a machine that is the day's already.
+pub const EMPTY: &str = "CARD 1 DAY 11
+SETTINGS 0
+CABLES 0 0 0 0 0 0 0 0 0 0 0 0 0
+PAIRS 0 0 0 0 0 0 0 0 0 0 0 0 0
+SUM 0
+";

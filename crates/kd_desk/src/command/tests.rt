@@ -49,6 +49,39 @@ fn finds_the_machine_and_the_list(rt: HostRuntime) -> Result<(), Fail> {
 }
 
 #[test]
+fn finds_the_files_of_a_card(rt: HostRuntime) -> Result<(), Fail> {
+    for (word, day) in [("1", 1), ("9", 9), ("10", 10), ("31", 31)] {
+        let words = ["desk", "card", "m.toml", "s.toml", word];
+        let card = Command::Card {
+            machine: "m.toml",
+            sheet: "s.toml",
+            day,
+        };
+        assert_eq!(rt; parse_words(rt.alloc(), words.as_slice()), Ok(card));
+        let words = ["desk", "check", "m.toml", "s.toml", word, "c.txt"];
+        let check = Command::Check {
+            machine: "m.toml",
+            sheet: "s.toml",
+            day,
+            card: "c.txt",
+        };
+        assert_eq!(rt; parse_words(rt.alloc(), words.as_slice()), Ok(check));
+    }
+    Ok(())
+}
+
+#[test]
+fn refuses_other_days(rt: HostRuntime) -> Result<(), Fail> {
+    for word in ["", "0", "01", "+1", "32", "40", "100", "1 ", "x", "-1"] {
+        let words = ["desk", "card", "m.toml", "s.toml", word];
+        assert_eq!(rt; parse_words(rt.alloc(), words.as_slice()), Err(Stop::Usage));
+        let words = ["desk", "check", "m.toml", "s.toml", word, "c.txt"];
+        assert_eq!(rt; parse_words(rt.alloc(), words.as_slice()), Err(Stop::Usage));
+    }
+    Ok(())
+}
+
+#[test]
 fn refuses_other_words(rt: HostRuntime) -> Result<(), Fail> {
     for words in [
         ["desk"].as_slice(),
@@ -71,7 +104,11 @@ fn refuses_other_words(rt: HostRuntime) -> Result<(), Fail> {
         ["desk", "apply", "m.toml", "l.txt", "more"].as_slice(),
         ["desk", "apply", "-m.toml", "l.txt"].as_slice(),
         ["desk", "apply", "m.toml", "-l.txt"].as_slice(),
-        ["desk", "check", "m.toml", "s.toml", "1", "c.txt"].as_slice(),
+        ["desk", "card", "m.toml", "s.toml"].as_slice(),
+        ["desk", "card", "m.toml", "s.toml", "1", "more"].as_slice(),
+        ["desk", "check", "m.toml", "s.toml", "1"].as_slice(),
+        ["desk", "check", "m.toml", "s.toml", "c.txt", "1"].as_slice(),
+        ["desk", "send", "m.toml", "s.toml", "1", "o.txt"].as_slice(),
     ] {
         assert_eq!(rt; parse_words(rt.alloc(), words), Err(Stop::Usage));
     }

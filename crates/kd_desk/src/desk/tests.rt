@@ -1,7 +1,7 @@
 use super::run_desk;
 use crate::fault::DeskFault;
 use crate::files::{FileFault, MemoryFiles};
-use crate::samples::{MACHINE, WRITTEN};
+use crate::samples::{EMPTY, MACHINE, SHEET, WRITTEN};
 use crate::stop::Stop;
 use kd_card::IllegalAt;
 use kd_sheet::SheetFault;
@@ -15,9 +15,17 @@ fn carries_each_command_out(rt: HostRuntime) -> Result<(), Fail> {
     let files = [
         ("l.txt", b"RING I B\nTURN 1 B\n".as_slice()),
         ("m.toml", MACHINE.as_bytes()),
+        ("s.toml", SHEET.as_bytes()),
+        ("c.txt", EMPTY.as_bytes()),
     ];
     for (words, written) in [
         (["desk", "type", "m.toml"].as_slice(), "BDZGO\n"),
+        (["desk", "card", "m.toml", "s.toml", "11"].as_slice(), EMPTY),
+        (
+            ["desk", "check", "m.toml", "s.toml", "11", "c.txt"].as_slice(),
+            "SHORTEST 0\n",
+        ),
+        (["desk", "apply", "m.toml", "c.txt"].as_slice(), WRITTEN),
         (
             ["desk", "apply", "m.toml", "l.txt"].as_slice(),
             turned.as_str(),

@@ -1,5 +1,6 @@
 use super::DeskFault;
 use kd_card::{CardFault, IllegalAt};
+use kd_prices::Doubt;
 use kd_sheet::{Key, SheetFault};
 use kd_state::{ListFault, Why};
 use std::test::Fail;
@@ -46,6 +47,25 @@ fn says_why_it_refuses(rt: HostRuntime) -> Result<(), Fail> {
         (DeskFault::BadByte(3), "28 BadByte 3"),
         (DeskFault::ReadTooLong, "38 ReadTooLong"),
         (DeskFault::NoSuchDay, "39 NoSuchDay"),
+        (DeskFault::OtherDay, "40 OtherDay"),
+        (DeskFault::Doubtful(Doubt::OtherModel), "5 OtherModel"),
+        (
+            DeskFault::Doubtful(Doubt::IllegalAt {
+                line: 2,
+                why: Why::PlaceTaken,
+            }),
+            "13 IllegalAt 2 PlaceTaken",
+        ),
+        (DeskFault::Doubtful(Doubt::NotTheSheet), "14 NotTheSheet"),
+        (
+            DeskFault::Doubtful(Doubt::PriceTooHigh { i: 1, j: 27 }),
+            "15 PriceTooHigh 1 27",
+        ),
+        (DeskFault::Doubtful(Doubt::SumDiffers), "16 SumDiffers"),
+        (
+            DeskFault::Doubtful(Doubt::NeedlessLine { line: 3 }),
+            "17 NeedlessLine 3",
+        ),
     ] {
         let said = format!(in rt.alloc(); "{fault}")?;
         assert_eq!(rt; said.as_str(), text);

@@ -52,7 +52,8 @@ fn prints_the_shortest_card(rt: HostRuntime) -> Result<(), Fail> {
 #[test]
 fn prints_a_card_for_four_wheels(rt: HostRuntime) -> Result<(), Fail> {
     let card = format!(in rt.alloc();
-        "CARD 1 DAY 30\nSEAT 1 Gamma\nREFLECTOR c\nSETTINGS 2\n{PRICES}")?;
+        "CARD 1 DAY 30\nSEAT 1 Gamma\nREFLECTOR c\nSETTINGS 2\n{PRICES}"
+    )?;
     let mut sink = MemorySink::<512>::new(512);
     let (machine, sheet) = (M4_AS_ENIGMA.as_bytes(), SHEET.as_bytes());
     assert_eq!(rt; run_card(rt.alloc(), machine, sheet, 30, &mut sink), Ok(()));

@@ -1,19 +1,11 @@
 use super::run_check;
 use crate::fault::DeskFault;
-use crate::samples::{CARD, MACHINE, SHEET, TWO_BARS};
+use crate::samples::{CARD, EMPTY, MACHINE, SHEET, TWO_BARS};
 use kd_card::CardFault;
 use kd_prices::Doubt;
 use kd_sheet::SheetFault;
 use kd_tables::{MemorySink, Sink};
 use std::test::Fail;
-
-/// The card of a machine that is the day's already.
-const EMPTY: &str = "CARD 1 DAY 11
-SETTINGS 0
-CABLES 0 0 0 0 0 0 0 0 0 0 0 0 0
-PAIRS 0 0 0 0 0 0 0 0 0 0 0 0 0
-SUM 0
-";
 
 /// A card that moves one lug.
 const ONE_LUG: &str = "CARD 1 DAY 9

@@ -36,12 +36,12 @@ returns-clause-said c =
     record {
       name = refl;
       words = (
-      record {
-        machine_word = read_some found (codes "MACHINE") c.get_str.result c.in_ok-machine.machine c.get_str.ensures (search rules);
-        sheet_word = read_some found (codes "SHEET") c.get_str-2.result c.in_ok-sheet.sheet c.get_str-2.ensures (search rules);
-        day_word = read_some found (codes "DAY") c.get_str-3.result c.in_ok-get_str.field-0 c.get_str-3.ensures (search rules) ∙ ap Some (c.in_ok-day.ensures.day).0;
-        of_month = (c.in_ok-day.ensures.day).1;
-      },
-      read_some found (codes "CARD") c.get_str-4.result c.in_ok-card.card c.get_str-4.ensures (search rules),
+        record {
+          machine_word = read_some found (codes "MACHINE") c.get_str.result c.in_ok-machine.machine c.get_str.ensures (search rules);
+          sheet_word = read_some found (codes "SHEET") c.get_str-2.result c.in_ok-sheet.sheet c.get_str-2.ensures (search rules);
+          day_word = read_some found (codes "DAY") c.get_str-3.result c.in_ok-get_str.field-0 c.get_str-3.ensures (search rules) ∙ ap Some (c.in_ok-day.ensures.day).0;
+          of_month = (c.in_ok-day.ensures.day).1;
+        },
+        read_some found (codes "CARD") c.get_str-4.result c.in_ok-card.card c.get_str-4.ensures (search rules),
       );
     }
