@@ -111,9 +111,10 @@ fn print_on<F: Files, W: Sink>(
     ensures untouched { IsTrue (is_stopped_before result) → sink.new ≡ sink.old }
     ensures failed { W.has_failed sink.new ≡ (W.has_failed sink.old || is_stopped_by_port result) }
 {
-    let machine = files.read(alloc, machine)?;
-    let sheet = files.read(alloc, sheet)?;
-    run_card(alloc, machine.as_slice(), sheet.as_slice(), day, sink)?;
+    let machine_file = files.read(alloc, machine)?;
+    let sheet_file = files.read(alloc, sheet)?;
+    let (machine, sheet) = (machine_file.as_slice(), sheet_file.as_slice());
+    run_card(alloc, machine, sheet, day, sink)?;
     Ok(())
 }
 
