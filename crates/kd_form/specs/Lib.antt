@@ -1,0 +1,4 @@
+pub mod Keys
+pub mod InternalKey
+pub mod Part
+pub mod Making
