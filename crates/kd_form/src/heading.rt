@@ -17,7 +17,7 @@ pub(crate) struct Heading {
 /// The indicator in the heading of a rotor machine's part.
 #[derive(Clone, Copy, Debug)]
 pub(crate) struct Indicator {
-    /// What the windows show when the message key is deciphered.
+    /// The ground: what the windows show when the message key is deciphered.
     pub(crate) start: PerSlot<Letter>,
     /// The message key, enciphered.
     pub(crate) key: PerSlot<Letter>,

@@ -11,7 +11,7 @@ pub(crate) enum Keys {
 /// The keys of a part on a rotor machine.
 #[derive(Clone, Copy, Debug)]
 pub(crate) struct RotorKeys {
-    /// What the windows show when the message key is enciphered.
+    /// The ground: what the windows show when the message key is enciphered.
     pub(crate) start: PerSlot<Letter>,
     /// The message key: what the windows show when the text is.
     pub(crate) key: PerSlot<Letter>,

@@ -1,8 +1,11 @@
 //! Orders and forms: what is to be sent, and the message form that it becomes.
 #![tactic(auto)]
 
+mod body;
+mod cipher;
 mod fault;
 mod heading;
+mod internal_key;
 mod keys;
 
 pub use fault::FormFault;

@@ -1,0 +1,22 @@
+//! The day's own cipher, from any letters on.
+ghost use Rattle.std.specs.Prelude.{◌≡◌, ◌↔◌, IsTrue};
+ghost use Rattle.std.specs.Bool.{OnTrue};
+ghost use Rattle.kd_state.specs.TwoCiphers.{sheet_key, IsWindow};
+ghost use Rattle.kd_form.specs.Making.{cipher_from};
+
+use kd_state::{SheetDay, own_engine};
+use kd_tables::Letter;
+
+/// Enciphers or deciphers a text in its place on the day's own machine, which shows these letters first. False where there
+/// isn't one for each slot or wheel, or one isn't on its wheel.
+pub(crate) fn encipher(day: &SheetDay, window: &[Letter], text: &mut [Letter]) -> bool
+    ensures window { IsTrue result ↔ IsWindow (sheet_key day.now) window.now }
+    ensures text { OnTrue result (text.new ≡ cipher_from day.now window.now text.old) }
+{
+    let mut engine = own_engine(day);
+    if !engine.turn_to(window) {
+        return false;
+    }
+    engine.run(text);
+    true
+}
