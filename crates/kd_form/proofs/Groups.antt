@@ -1,6 +1,6 @@
 -- Letters in groups and lines, piece by piece.
 use Rattle.std.proofs.Common.{◌≡◌, ◌≢◌, ℕ, zero, suc, ◌+◌, ◌-◌, ◌*◌, ◌/◌, ◌%◌, ◌<◌, ◌≤◌, ◌⊎◌, inl, inr, List, [], ◌∷◌, ◌++◌, length, map, take, drop, refl, sym, ap, subst, ◌∙◌, append_assoc, length-drop, add-one, arith, min, Bool, true, false}
-use Rattle.std.specs.Prelude.{◌==◌}
+use Rattle.std.specs.Prelude.{◌==◌, codes, decimal}
 use Rattle.std.specs.Int.{div_ceil}
 use Rattle.std.specs.Simd.{first_chunks}
 use Rattle.std.specs.List.{flat_map, join_with_byte}
@@ -8,7 +8,8 @@ use Rattle.std.proofs.Math.Nat.{add-div_left, add-mod_left, div-eq_of_lt, mod-eq
 use Rattle.std.proofs.lemmas.Bool.{cases_lt, eqb-true, false≢true}
 use Rattle.std.proofs.lemmas.List.{append-nil, take_all, drop_all}
 use Rattle.kd_form.specs.Keys.{letters_text}
-use Rattle.kd_form.specs.Part.{pieces, groups_of, with_line, body_text}
+use Rattle.kd_form.specs.declared.heading.Heading.{Heading}
+use Rattle.kd_form.specs.Part.{fraction, indicator_words, heading_words, pieces, groups_of, behind_spaces, with_line, body_text}
 
 -- a piece more than the rest makes
 whole_piece : (size n : ℕ) → 0 < size → div_ceil (size + n) size ≡ div_ceil n size + 1
@@ -49,11 +50,7 @@ pieces-next size letters large some =
 pub pieces-none : (size : ℕ) → 0 < size → pieces size [] ≡ []
 pieces-none size large = ap (λ n. first_chunks size n []) (no_piece size large)
 
--- groups behind the first one of a line
-abbrev pub behind_spaces : List (List ℕ) → List ℕ
-behind_spaces groups = flat_map (λ group. 32 ∷ group) groups
-
-line-of_groups : (group : List ℕ) (groups : List (List ℕ)) → join_with_byte 32 (group ∷ groups) ≡ group ++ behind_spaces groups
+pub line-of_groups : (group : List ℕ) (groups : List (List ℕ)) → join_with_byte 32 (group ∷ groups) ≡ group ++ behind_spaces groups
 line-of_groups group [] = sym (append-nil group)
 line-of_groups group (next ∷ groups) = ap (λ text. group ++ 32 ∷ text) (line-of_groups next groups)
 
@@ -159,3 +156,19 @@ some_left empty (x ∷ xs) told filled = omega arith
 pub nothing_left : (empty : Bool) (xs : List ℕ) → empty ≡ (length xs == 0) → empty ≡ true → xs ≡ []
 nothing_left empty [] told gone = refl
 nothing_left empty (x ∷ xs) told gone = absurd (let none : length (x ∷ xs) ≡ 0 = eqb-true _ _ (sym told ∙ gone) in omega arith)
+
+-- ---- the line of a heading
+
+parts_of_heading : (front part parts count words : List ℕ)
+    → (((((((front ++ codes "PART ") ++ part) ++ codes "/") ++ parts) ++ codes " ") ++ count) ++ words) ++ codes "\n"
+    ≡ front ++ ((codes "PART" ++ 32 ∷ (((part ++ codes "/") ++ parts) ++ 32 ∷ (count ++ words))) ++ 10 ∷ [])
+parts_of_heading front part parts count words = simp append_assoc
+
+pub heading_line : (front whole : List ℕ) (h : Heading)
+    → whole ≡ (((((((front ++ codes "PART ") ++ decimal h.part) ++ codes "/") ++ decimal h.parts) ++ codes " ") ++ decimal h.letters)
+    ++ behind_spaces (indicator_words h.indicator)) ++ codes "\n"
+    → whole ≡ front ++ with_line (heading_words h) []
+heading_line front whole h written =
+    written ∙ parts_of_heading front (decimal h.part) (decimal h.parts) (decimal h.letters) (behind_spaces (indicator_words h.indicator))
+    ∙ ap (λ t. front ++ ((codes "PART" ++ 32 ∷ (fraction h.part h.parts ++ 32 ∷ t)) ++ 10 ∷ []))
+    (sym (line-of_groups (decimal h.letters) (indicator_words h.indicator)))

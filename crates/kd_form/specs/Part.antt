@@ -25,6 +25,10 @@ indicator_words None = []
 abbrev pub heading_words : Heading → List (List ℕ)
 heading_words h = codes "PART" ∷ fraction h.part h.parts ∷ decimal h.letters ∷ indicator_words h.indicator
 
+-- words, each behind a space
+abbrev pub behind_spaces : List (List ℕ) → List ℕ
+behind_spaces words = flat_map (λ word. 32 ∷ word) words
+
 -- the line of these words, with LF at its end, and what follows it
 abbrev pub with_line : List (List ℕ) → List ℕ → List ℕ
 with_line words rest = line_of words ++ 10 ∷ rest

@@ -1,9 +1,10 @@
 //! The day's own cipher, from any letters on.
-ghost use Rattle.std.specs.Prelude.{◌≡◌, ◌↔◌, IsTrue};
+ghost use Rattle.std.specs.Prelude.{◌≡◌, ◌↔◌, ◌≤◌, ◌+◌, ◌++◌, length, IsTrue};
 ghost use Rattle.std.specs.Bool.{OnTrue};
 ghost use Rattle.kd_state.specs.TwoCiphers.{sheet_key, IsWindow};
 ghost use Rattle.kd_form.specs.Making.{cipher_from};
 
+use arrayvec::ArrayVec;
 use kd_state::{SheetDay, own_engine};
 use kd_tables::Letter;
 
@@ -19,4 +20,30 @@ pub(crate) fn encipher(day: &SheetDay, window: &[Letter], text: &mut [Letter]) -
     }
     engine.run(text);
     true
+}
+
+/// What the day's own machine makes of a text, if it shows these letters first.
+pub(crate) fn enciphered<const N: usize>(
+    day: &SheetDay,
+    window: &[Letter],
+    text: &[Letter],
+) -> ArrayVec<Letter, N>
+    requires window { IsWindow (sheet_key day.now) window.now }
+    requires room { length text.now ≤ N }
+    ensures { result.items ≡ cipher_from day.now window.now text.now }
+{
+    let mut letters = ArrayVec::new();
+    push_letters(&mut letters, text);
+    encipher(day, window, letters.as_mut_slice());
+    letters
+}
+
+/// Appends letters, for which there is room.
+pub(crate) fn push_letters<const N: usize>(letters: &mut ArrayVec<Letter, N>, more: &[Letter])
+    requires { length letters.old.items + length more.now ≤ N }
+    ensures { letters.new.items ≡ letters.old.items ++ more.now }
+{
+    for letter in more {
+        letters.push(*letter);
+    }
 }

@@ -7,5 +7,6 @@ mod fault;
 mod heading;
 mod internal_key;
 mod keys;
+mod making;
 
 pub use fault::FormFault;
