@@ -1,2 +1,4 @@
 pub mod Groups
 pub mod Picking
+pub mod Ciphers
+pub mod Parts

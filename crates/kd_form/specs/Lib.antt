@@ -3,3 +3,4 @@ pub mod InternalKey
 pub mod Striking
 pub mod Part
 pub mod Making
+pub mod Filling

@@ -4,6 +4,7 @@
 mod body;
 mod cipher;
 mod fault;
+mod form_line;
 mod heading;
 mod internal_key;
 mod keys;
