@@ -2,3 +2,4 @@ pub mod Groups
 pub mod Picking
 pub mod Ciphers
 pub mod Parts
+pub mod Filled

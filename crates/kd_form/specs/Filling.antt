@@ -1,13 +1,12 @@
 -- Forms of lines: `_` stands for a letter, and each other byte for itself.
-use Rattle.std.specs.Prelude.{◌≡◌, ◌≢◌, ◌⊎◌, ℕ, ◌+◌, ◌-◌, ◌≤◌, ◌==◌, List, [], ◌∷◌, ◌++◌, length, if◌then◌else◌}
+use Rattle.std.specs.Prelude.{◌≡◌, ◌≢◌, ◌⊎◌, ℕ, ◌+◌, ◌-◌, ◌==◌, ◌&&◌, nat_le, Bool, List, [], ◌∷◌, ◌++◌, length, drop, slice_index, if◌then◌else◌}
 use Rattle.kd_state.specs.Machine.{AreLetters}
 
--- the form with these letters in the places of its `_`
+-- the form with these letters in the places of its `_`, each with the next one
 abbrev pub filled_in : List ℕ → List ℕ → List ℕ
 filled_in [] letters = []
-filled_in (mark ∷ form) [] = mark ∷ filled_in form []
-filled_in (mark ∷ form) (letter ∷ letters) =
-    if mark == 95 then (letter + 65) ∷ filled_in form letters else mark ∷ filled_in form (letter ∷ letters)
+filled_in (mark ∷ form) letters =
+    if mark == 95 then (slice_index letters 0 + 65) ∷ filled_in form (drop 1 letters) else mark ∷ filled_in form letters
 
 -- how many letters it takes
 abbrev pub blanks : List ℕ → ℕ
@@ -45,8 +44,8 @@ pub record LineBreaksOff (IsLine : List ℕ → Type 0) (bytes : List ℕ) (plac
 -- ---- one byte
 
 -- the byte may stand for the mark
-abbrev pub Fits : ℕ → ℕ → Type 0
-Fits mark byte = if mark == 95 then (65 ≤ byte) × (byte ≤ 90) else (byte ≡ mark)
+abbrev pub fits : ℕ → ℕ → Bool
+fits mark byte = if mark == 95 then nat_le 65 byte && nat_le byte 90 else byte == mark
 
 -- the letter that it then gives
 abbrev pub letters_at : ℕ → ℕ → List ℕ

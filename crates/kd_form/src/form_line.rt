@@ -1,8 +1,8 @@
 //! Lines of a form: `_` stands for a letter, and each other byte for itself.
-ghost use Rattle.std.specs.Prelude.{◌≡◌, ◌≤◌, ◌<◌, ◌++◌, ◌↔◌, length, IsTrue, MatchResult};
+ghost use Rattle.std.specs.Prelude.{◌≡◌, ◌≤◌, ◌<◌, ◌++◌, length, MatchResult};
 ghost use Rattle.std.specs.Bool.{OnTrue, OnFalse};
 ghost use Rattle.arrayvec.specs.ArrayVec.{array_vec_len};
-ghost use Rattle.kd_form.specs.Filling.{blanks, Fits, letters_at, BeginsWithForm, IsFormLine, LineBreaksOff};
+ghost use Rattle.kd_form.specs.Filling.{blanks, fits, letters_at, BeginsWithForm, IsFormLine, LineBreaksOff};
 ghost use Rattle.kd_form.specs.Filling.{EndsBefore, EndBreaksOff};
 
 use arrayvec::ArrayVec;
@@ -24,9 +24,11 @@ pub(crate) fn read_form<'a>(
 {
     let mut letters = ArrayVec::new();
     for (place, mark) in form.iter().enumerate() {
-        match bytes.get(place) {
-            Some(byte) if take_letter(&mut letters, *mark, *byte) => {}
-            _ => return Err(place),
+        let Some(byte) = bytes.get(place) else {
+            return Err(place);
+        };
+        if !take_letter(&mut letters, *mark, *byte) {
+            return Err(place);
         }
     }
     match read_end(&bytes[form.len()..]) {
@@ -37,8 +39,8 @@ pub(crate) fn read_form<'a>(
 
 /// Whether the byte may stand for the mark; if it stands for a letter, appends that.
 fn take_letter(letters: &mut ArrayVec<Letter, MOST>, mark: u8, byte: u8) -> bool
-    requires { array_vec_len letters.old < 13 }
-    ensures fits { IsTrue result ↔ Fits mark byte }
+    requires { mark ≡ 95 → array_vec_len letters.old < 13 }
+    ensures fits { result ≡ fits mark byte }
     ensures taken { OnTrue result (letters.new.items ≡ letters.old.items ++ letters_at mark byte) }
     ensures unchanged { OnFalse result (letters.new.items ≡ letters.old.items) }
 {
