@@ -13,3 +13,4 @@ pub mod Loosening
 pub mod Kept
 pub mod Pairing
 pub mod Shortest
+mod Carried

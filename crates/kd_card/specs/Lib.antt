@@ -1,4 +1,5 @@
 pub mod Prices
+pub mod Carrying
 pub mod CardText
 pub mod CardFault
 pub mod Reading

@@ -2,6 +2,7 @@
 #![tactic(auto)]
 
 mod card;
+mod carrying;
 mod fault;
 pub mod laws;
 mod price_text;
@@ -12,6 +13,7 @@ mod tests;
 mod write;
 
 pub use card::Card;
+pub use carrying::{IllegalAt, carry_all};
 pub use fault::CardFault;
 pub use prices::{PriceParts, Prices};
 pub use read::read_card;

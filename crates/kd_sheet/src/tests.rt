@@ -1,2 +1,3 @@
+mod faults;
 mod files;
 mod samples;

@@ -1,5 +1,5 @@
 -- What holds of machines, settings and days of a sheet.
-use Rattle.std.specs.Prelude.{◌≡◌, ◌↔◌, ℕ, ◌<◌, List, length, All, None, MatchOption, Contains}
+use Rattle.std.specs.Prelude.{◌≡◌, ◌↔◌, ℕ, ◌+◌, ◌<◌, List, ◌++◌, length, All, None, MatchOption, Contains}
 use Rattle.kd_tables.specs.declared.wheel.Wheel.{Wheel}
 use Rattle.kd_tables.specs.declared.reflector.Reflector.{Reflector}
 use Rattle.kd_tables.specs.Tables.{box_of, reflectors_of, IsAllowed}
@@ -16,7 +16,7 @@ use Rattle.kd_state.specs.Line.{setting_words, setting_line, IsInRange, IsList, 
 use Rattle.kd_state.specs.SheetDay.{Day, IsLegalDay}
 use Rattle.kd_state.specs.OnKey.{OnKey, ReadsAs}
 use Rattle.kd_state.specs.Costs.{cost_table}
-use Rattle.kd_state.specs.TwoCiphers.{cipher, key_with_window, IsWindow, IsReady, window_of, physical_key, physical_cipher, sheet_key, sheet_cipher, IsTurned}
+use Rattle.kd_state.specs.TwoCiphers.{EngineKey, cipher, key_left, key_with_window, IsWindow, IsReady, window_of, physical_key, physical_cipher, sheet_key, sheet_cipher, IsTurned}
 
 -- a setting that is carried out makes a machine of a machine, and so does a list of them
 abbrev pub SettingsKeepMachines : Type 0
@@ -98,6 +98,13 @@ TurnedIsOnKey = (m n : Parts) (s : Day) (window : List ℕ) → IsTurned m windo
 
 abbrev pub TurnedHasItsKey : Type 0
 TurnedHasItsKey = (m n : Parts) (window : List ℕ) → IsTurned m window n → physical_key n ≡ key_with_window (physical_key m) window
+
+-- a text in two pieces is enciphered piece by piece, on the key that the first piece leaves
+abbrev pub CipherInTurn : Type 0
+CipherInTurn = (key : EngineKey) (first rest : List ℕ) → cipher key (first ++ rest) ≡ cipher key first ++ cipher (key_left key (length first)) rest
+
+abbrev pub KeyInTurn : Type 0
+KeyInTurn = (key : EngineKey) (m n : ℕ) → key_left (key_left key m) n ≡ key_left key (m + n)
 
 -- the table of costs is square
 abbrev pub CostTablesAreSquare : Type 0

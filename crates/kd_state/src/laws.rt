@@ -6,6 +6,7 @@ ghost use Rattle.kd_state.specs.Laws.{SettingsKeepMachines, ListsKeepMachines, R
 ghost use Rattle.kd_state.specs.Laws.{SeatsAreByTheTables, ReflectorsAreByTheTables, RingsAreByTheTables};
 ghost use Rattle.kd_state.specs.Laws.{ReadingIsReady, ReadingIsItsCipher, OnKeyIsReady, OnKeyIsItsCipher};
 ghost use Rattle.kd_state.specs.Laws.{TurnedIsOnKey, TurnedHasItsKey, TurnedHasTheDaysCipher, MachinesCanBeTurned, EquallySetDecipher};
+ghost use Rattle.kd_state.specs.Laws.{CipherInTurn, KeyInTurn};
 ghost use Rattle.kd_state.specs.Laws.{CostTablesAreSquare};
 
 /// Words, joined by one space, are told by their line, and split off it again. Their line has no LF.
@@ -102,6 +103,15 @@ pub fn equally_set_machines_decipher()
     kd_enigma::laws::pairs_make_a_plugboard();
     kd_enigma::laws::enciphering_twice_gives_back();
     kd_drum::laws::enciphering_twice_gives_back();
+}
+
+/// A text in two pieces is enciphered piece by piece, on the key that the first piece leaves.
+pub fn pieces_are_enciphered_in_turn()
+    ensures cipher { CipherInTurn }
+    ensures after { KeyInTurn }
+{
+    kd_enigma::laws::pieces_are_enciphered_in_turn();
+    kd_drum::laws::pieces_are_enciphered_in_turn();
 }
 
 /// There are as many costs for each cable, or bar, as there are cables, or bars.

@@ -130,7 +130,8 @@ impl SheetDay {
 
     /// The model.
     pub fn model(&self) -> Model
-        ensures { result ≡ day_model self.now }
+        ensures value { result ≡ day_model self.now }
+        ensures legal { IsLegalDay self.now }
     {
         match &self.entry {
             Entry::Rotor(entry) => entry.model,

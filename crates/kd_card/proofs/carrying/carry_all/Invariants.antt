@@ -1,0 +1,6 @@
+use Rattle.std.proofs.Common.{take}
+use Rattle.kd_state.specs.Setting.{Leads}
+use Rattle.kd_card.proofs.carrying.carry_all.Given as goal
+
+abbrev pub invariant-loop-place : goal.invariant-loop-place
+invariant-loop-place l = Leads l.machine (take l.place l.settings) l.carried

@@ -1,0 +1,35 @@
+//! Settings that are carried out one after another.
+ghost use Rattle.std.specs.Prelude.{IfErr, IfOk};
+ghost use Rattle.kd_state.specs.Setting.{Leads};
+ghost use Rattle.kd_card.specs.Carrying.{IsFirstIllegal};
+
+use kd_state::{Machine, Setting, Why};
+use thiserror::Error;
+
+/// A setting of a list that the machine refuses in its turn. Lines are the settings, counted from 1.
+#[derive(Clone, Copy, Debug, PartialEq, Eq, Error)]
+#[error("13 IllegalAt {line} {why}")]
+pub struct IllegalAt {
+    pub line: usize,
+    pub why: Why,
+}
+
+/// The machine to which the settings lead, carried out one after another, or the first that is refused.
+pub fn carry_all(machine: &Machine, settings: &[Setting]) -> Result<Machine, IllegalAt>
+    ensures carried { IfOk result (λ n. Leads machine.now settings.now n) }
+    ensures refused { IfErr result (λ fault. IsFirstIllegal machine.now settings.now fault.line fault.why) }
+{
+    let mut carried = *machine;
+    for (place, setting) in settings.iter().enumerate() {
+        match carried.carry(*setting) {
+            Ok(()) => {}
+            Err(illegal) => {
+                return Err(IllegalAt {
+                    line: place + 1,
+                    why: illegal.why,
+                });
+            }
+        }
+    }
+    Ok(carried)
+}

@@ -1,0 +1,20 @@
+use Rattle.std.proofs.Common.{◌≡◌, ℕ, ◌+◌, List, ◌++◌, length, ap}
+use Rattle.kd_enigma.specs.Laws as wheels
+use Rattle.kd_drum.specs.Laws as drum
+use Rattle.kd_state.specs.Laws.{CipherInTurn, KeyInTurn}
+use Rattle.kd_state.specs.TwoCiphers.{OfWheels, OfDrum}
+use Rattle.kd_state.proofs.laws.pieces_are_enciphered_in_turn.Goals as goal
+
+cipher_in_turn : wheels.CipherInTurn → drum.CipherInTurn → CipherInTurn
+cipher_in_turn of_wheels of_drum (OfWheels key) first rest = of_wheels key first rest
+cipher_in_turn of_wheels of_drum (OfDrum key) first rest = of_drum key first rest
+
+key_in_turn : wheels.KeyInTurn → drum.KeyInTurn → KeyInTurn
+key_in_turn of_wheels of_drum (OfWheels key) m n = ap OfWheels (of_wheels key m n)
+key_in_turn of_wheels of_drum (OfDrum key) m n = ap OfDrum (of_drum key m n)
+
+pub returns-clause-cipher : goal.returns-clause-cipher
+returns-clause-cipher c = cipher_in_turn c.pieces_are_enciphered_in_turn.ensures.cipher c.pieces_are_enciphered_in_turn-2.ensures.cipher
+
+pub returns-clause-after : goal.returns-clause-after
+returns-clause-after c = key_in_turn c.pieces_are_enciphered_in_turn.ensures.after c.pieces_are_enciphered_in_turn-2.ensures.after
