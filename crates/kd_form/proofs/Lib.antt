@@ -3,3 +3,4 @@ pub mod Picking
 pub mod Ciphers
 pub mod Parts
 pub mod Filled
+pub mod KeyLines

@@ -4,3 +4,5 @@ pub mod Striking
 pub mod Part
 pub mod Making
 pub mod Filling
+pub mod Order
+pub mod KeyForms

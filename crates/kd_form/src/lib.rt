@@ -7,7 +7,9 @@ mod fault;
 mod form_line;
 mod heading;
 mod internal_key;
+mod key_line;
 mod keys;
 mod making;
+mod order;
 
 pub use fault::FormFault;
