@@ -4,3 +4,4 @@ pub mod Ciphers
 pub mod Parts
 pub mod Filled
 pub mod KeyLines
+pub mod Heads

@@ -5,4 +5,5 @@ pub mod Part
 pub mod Making
 pub mod Filling
 pub mod Order
+pub mod Sending
 pub mod KeyForms

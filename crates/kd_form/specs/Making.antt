@@ -19,6 +19,11 @@ cipher_from s window text = cipher (key_with_window (sheet_key s) window) text
 abbrev pub AreOfAGroup : List (List ℕ) → List ℕ → Type 0
 AreOfAGroup groups letters = Any (λ group. IsPermutation group letters) groups
 
+-- and the group is one of the day's, which has groups on a rotor machine
+abbrev pub AreOfADaysGroup : Day → List ℕ → Type 0
+AreOfADaysGroup (OfRotors s) letters = AreOfAGroup s.groups letters
+AreOfADaysGroup (OfPins s) letters = ⊥
+
 -- the two letters of the sheet's list, which the Converter M-209 has
 abbrev pub list_letters : Day → List ℕ
 list_letters (OfRotors s) = []

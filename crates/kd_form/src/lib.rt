@@ -11,5 +11,6 @@ mod key_line;
 mod keys;
 mod making;
 mod order;
+mod suiting;
 
 pub use fault::FormFault;

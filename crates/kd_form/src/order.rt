@@ -7,6 +7,7 @@ use super::key_line::read_keys;
 use super::keys::Keys;
 use arrayvec::ArrayVec;
 use kd_state::SheetDay;
+use kd_state::laws::texts_tell_first_parts;
 
 /// The keys of the parts, and the bytes of the text. The error is the position of the first byte after which the bytes
 /// begin no order, or one more than there are bytes, if the order ends there.
@@ -18,6 +19,7 @@ pub(crate) fn read_head<'a>(
         (λ found. (head : List ℕ) × IsOrder day.now order.now found.0.items head found.1.now)
         (λ position. IsHeadFault day.now order.now position) }
 {
+    texts_tell_first_parts();
     let mut keys = ArrayVec::new();
     let mut rest = order;
     while is_key_line(rest) && !keys.is_full() {
