@@ -5,3 +5,5 @@ pub mod Parts
 pub mod Filled
 pub mod KeyLines
 pub mod Heads
+pub mod SortedAlike
+pub mod SuitedKeys

@@ -22,13 +22,31 @@ is_capital byte = nat_le 65 byte && nat_le byte 90
 abbrev pub is_text_byte : ℕ → Bool
 is_text_byte byte = is_capital byte || (byte == 32 || (byte == 13 || byte == 10))
 
--- the letter that a byte of the text gives: on the Converter M-209 a space is Z
-abbrev pub letter_of_byte : Day → ℕ → Option ℕ
-letter_of_byte (OfRotors s) byte = if is_capital byte then Some (byte - 65) else None
-letter_of_byte (OfPins s) byte = if is_capital byte then Some (byte - 65) else if byte == 32 then Some 25 else None
+-- the letter that a space stands for: Z on the Converter M-209, and none on a rotor machine
+abbrev pub blank_of : Day → Option ℕ
+blank_of (OfRotors s) = None
+blank_of (OfPins s) = Some 25
 
+-- the letter that a byte of the text gives, where a space stands for that
+abbrev pub letter_of_byte : Option ℕ → ℕ → Option ℕ
+letter_of_byte blank byte = if is_capital byte then Some (byte - 65) else if byte == 32 then blank else None
+
+abbrev pub letters_from : Option ℕ → List ℕ → List ℕ
+letters_from blank text = filter_map (letter_of_byte blank) text
+
+-- the letters of an order's text
 abbrev pub text_letters : Day → List ℕ → List ℕ
-text_letters s text = filter_map (letter_of_byte s) text
+text_letters s text = letters_from (blank_of s) text
+
+-- the byte is the first that may not stand in a text
+pub record IsBadAt (text : List ℕ) (place : ℕ) : Type 0 where
+  pub before : List ℕ
+  pub byte : ℕ
+  pub rest : List ℕ
+  pub joined : text ≡ before ++ byte ∷ rest
+  pub size : place ≡ length before
+  pub allowed : All (λ b. IsTrue (is_text_byte b)) before
+  pub bad : IsFalse (is_text_byte byte)
 
 -- how many parts so many letters take
 abbrev pub parts_needed : Day → ℕ → ℕ
@@ -59,9 +77,8 @@ pub record IsFirstKeysFault (s : Day) (keys : List Keys) (fault : FormFault) : T
 pub data IsSendFault (s : Day) (order : List ℕ) (fault : FormFault) : Type 0 where
   InHead : (position : ℕ) → IsHeadFault s order position → fault ≡ BadByte position → IsSendFault s order fault
   InKeys : (keys : List Keys) (head text : List ℕ) → IsOrder s order keys head text → IsFirstKeysFault s keys fault → IsSendFault s order fault
-  InText : (keys : List Keys) (head before rest : List ℕ) (byte : ℕ) → IsOrder s order keys head (before ++ byte ∷ rest) → All (Suits s) keys
-      → All (λ b. IsTrue (is_text_byte b)) before → IsFalse (is_text_byte byte) → fault ≡ BadByte (length head + length before + 1)
-      → IsSendFault s order fault
+  InText : (keys : List Keys) (head text : List ℕ) (place : ℕ) → IsOrder s order keys head text → All (Suits s) keys → IsBadAt text place
+      → fault ≡ BadByte (length head + place + 1) → IsSendFault s order fault
   InLetters : (keys : List Keys) (head text : List ℕ) → IsOrder s order keys head text → All (Suits s) keys
       → All (λ b. IsTrue (is_text_byte b)) text → text_letters s text ≡ [] → fault ≡ EmptyText → IsSendFault s order fault
   InParts : (keys : List Keys) (head text : List ℕ) → IsOrder s order keys head text → All (Suits s) keys
@@ -78,14 +95,18 @@ AreMadeTexts s part parts (k ∷ keys) (piece ∷ pieces) bytes =
 AreMadeTexts s part parts [] (piece ∷ pieces) bytes = ⊥
 AreMadeTexts s part parts (k ∷ keys) [] bytes = ⊥
 
--- the form that the order becomes: all of its parts but the last are full
-pub record IsFormOf (s : Day) (order form : List ℕ) : Type 0 where
-  pub keys : List Keys
+-- the order can be sent: no reason is against it
+pub record CanBeSent (s : Day) (order : List ℕ) (keys : List Keys) (text : List ℕ) : Type 0 where
   pub head : List ℕ
-  pub text : List ℕ
   pub is_order : IsOrder s order keys head text
   pub suited : All (Suits s) keys
   pub allowed : All (λ b. IsTrue (is_text_byte b)) text
   pub filled : text_letters s text ≢ []
   pub counted : parts_needed s (length (text_letters s text)) ≡ length keys
+
+-- the form that the order becomes: all of its parts but the last are full
+pub record IsFormOf (s : Day) (order form : List ℕ) : Type 0 where
+  pub keys : List Keys
+  pub text : List ℕ
+  pub sent : CanBeSent s order keys text
   pub made : AreMadeTexts s 1 (length keys) keys (pieces (part_size s) (text_letters s text)) form

@@ -8,6 +8,13 @@ use arrayvec::ArrayVec;
 use kd_state::{SheetDay, own_engine};
 use kd_tables::Letter;
 
+/// Whether there is a letter for each slot or wheel, each on its wheel.
+pub(crate) fn is_window(day: &SheetDay, window: &[Letter]) -> bool
+    ensures { IsTrue result ↔ IsWindow (sheet_key day.now) window.now }
+{
+    own_engine(day).turn_to(window)
+}
+
 /// Enciphers or deciphers a text in its place on the day's own machine, which shows these letters first. False where there
 /// isn't one for each slot or wheel, or one isn't on its wheel.
 pub(crate) fn encipher(day: &SheetDay, window: &[Letter], text: &mut [Letter]) -> bool

@@ -44,7 +44,7 @@ fn next_on_wheel(wheel: u8, letters: &[Letter]) -> Option<(Letter, &[Letter])>
 }
 
 /// Whether the letter is on the wheel of that number.
-pub(crate) fn is_on_wheel(wheel: u8, letter: Letter) -> bool
+fn is_on_wheel(wheel: u8, letter: Letter) -> bool
     requires { (1 ≤ wheel) × (wheel ≤ 6) }
     ensures { IsTrue result ↔ Contains (ring_of wheel) letter }
 {

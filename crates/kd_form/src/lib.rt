@@ -12,5 +12,6 @@ mod keys;
 mod making;
 mod order;
 mod suiting;
+mod text;
 
 pub use fault::FormFault;

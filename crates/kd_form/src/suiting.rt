@@ -1,12 +1,11 @@
 //! Whether the keys of an order suit the day.
 ghost use Rattle.std.specs.Prelude.{◌↔◌, ◌≤◌, length, All, IsPermutation, IsTrue, MatchResult};
-ghost use Rattle.kd_state.specs.Machine.{AreOnWheels};
 ghost use Rattle.kd_form.specs.Keys.{AreKeys};
 ghost use Rattle.kd_form.specs.Making.{Suits, AreOfADaysGroup};
 ghost use Rattle.kd_form.specs.Sending.{IsKeysFault, IsFirstKeysFault};
 
+use super::cipher::is_window;
 use super::fault::FormFault;
-use super::internal_key::is_on_wheel;
 use super::keys::{Keys, PinKeys};
 use super::making::internal_key_of;
 use kd_state::SheetDay;
@@ -56,26 +55,13 @@ fn check_pin_keys(day: &SheetDay, part: u8, keys: &PinKeys) -> Result<(), FormFa
         (λ _. Suits day.now (Keys.Pin keys.now))
         (IsKeysFault day.now part (Keys.Pin keys.now)) }
 {
-    if !are_on_wheels(&keys.external) {
+    if !is_window(day, &keys.external) {
         return Err(FormFault::KeyNotOnWheel);
     }
     match internal_key_of(day, keys) {
         Some(_) => Ok(()),
         None => Err(FormFault::IndicatorSpent { part }),
     }
-}
-
-/// Whether each letter is on its wheel.
-pub(crate) fn are_on_wheels(letters: &[Letter; 6]) -> bool
-    ensures { IsTrue result ↔ AreOnWheels letters.now }
-{
-    let [first, second, third, fourth, fifth, sixth] = *letters;
-    is_on_wheel(1, first)
-        && is_on_wheel(2, second)
-        && is_on_wheel(3, third)
-        && is_on_wheel(4, fourth)
-        && is_on_wheel(5, fifth)
-        && is_on_wheel(6, sixth)
 }
 
 /// Whether the letters are those of one of the day's groups, in any order.
