@@ -7,3 +7,4 @@ pub mod KeyLines
 pub mod Heads
 pub mod SortedAlike
 pub mod SuitedKeys
+pub mod TextLetters

@@ -6,4 +6,5 @@ pub mod Making
 pub mod Filling
 pub mod Order
 pub mod Sending
+pub mod OnTheKey
 pub mod KeyForms

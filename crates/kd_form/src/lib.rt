@@ -11,7 +11,9 @@ mod key_line;
 mod keys;
 mod making;
 mod order;
+mod sending;
 mod suiting;
 mod text;
 
 pub use fault::FormFault;
+pub use sending::send;

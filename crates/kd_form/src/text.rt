@@ -29,7 +29,7 @@ pub(crate) fn count_letters(blank: Option<Letter>, text: &[u8]) -> Result<usize,
         if !is_text_byte(*byte) {
             return Err(place);
         }
-        count += usize::from(letter_of_byte(blank, *byte).is_some());
+        count += usize::from(letter_of_byte(&blank, *byte).is_some());
     }
     Ok(count)
 }
@@ -50,7 +50,7 @@ pub(crate) fn take_piece(
         let [byte, after @ ..] = rest else {
             break;
         };
-        push_letter(&mut letters, letter_of_byte(blank, *byte));
+        push_letter(&mut letters, letter_of_byte(&blank, *byte));
         rest = after;
     }
     (letters, rest)
@@ -67,11 +67,11 @@ fn push_letter(letters: &mut ArrayVec<Letter, 500>, letter: Option<Letter>)
 }
 
 /// The letter that a byte of the text gives, where a space stands for that.
-fn letter_of_byte(blank: Option<Letter>, byte: u8) -> Option<Letter>
-    ensures { result ≡ letter_of_byte blank byte }
+fn letter_of_byte(blank: &Option<Letter>, byte: u8) -> Option<Letter>
+    ensures { result ≡ letter_of_byte blank.now byte }
 {
     if byte == b' ' {
-        return blank;
+        return *blank;
     }
     Letter::from_byte(byte)
 }
