@@ -136,12 +136,12 @@ filling_more form bytes letters more place mark byte filling below inside marked
     ∙ ap (λ text. text ++ filled_in (mark ∷ []) (letters_at mark byte)) filling.filled
     ∙ ap (λ text. take place bytes ++ text) one.2 in
     record {
-  inside = omega arith;
-  counted = ap length put ∙ length-append letters (letters_at mark byte) ∙ ap (λ n. n + length (letters_at mark byte)) filling.counted
-      ∙ ap (λ n. blanks (take place form) + n) one.0 ∙ sym (blanks-append (take place form) (mark ∷ [])) ∙ sym (ap blanks longer);
-  within = subst (All (λ l. l < 26)) (sym put) (All-append (λ l. l < 26) letters (letters_at mark byte) filling.within one.1);
-  filled = ap (λ f. filled_in f more) longer ∙ ap (filled_in (take place form ++ mark ∷ [])) put ∙ joined ∙ sym further;
-}
+      inside = omega arith;
+      counted = ap length put ∙ length-append letters (letters_at mark byte) ∙ ap (λ n. n + length (letters_at mark byte)) filling.counted
+          ∙ ap (λ n. blanks (take place form) + n) one.0 ∙ sym (blanks-append (take place form) (mark ∷ [])) ∙ sym (ap blanks longer);
+      within = subst (All (λ l. l < 26)) (sym put) (All-append (λ l. l < 26) letters (letters_at mark byte) filling.within one.1);
+      filled = ap (λ f. filled_in f more) longer ∙ ap (filled_in (take place form ++ mark ∷ [])) put ∙ joined ∙ sym further;
+    }
 
 -- ---- where the bytes don't go on as a line
 
@@ -210,7 +210,7 @@ in_line form letters line other ending i inside is =
 
 line_fits : (form line other : List ℕ) (i : ℕ) → i < length form → IsFormLine form line → fits (get_or form i 0) (get_or (line ++ other) i 0) ≡ true
 line_fits form line other i inside is = elim is.ended [
-  inl short ↦ ap (fits (get_or form i 0)) (in_line form is.letters line other (10 ∷ []) i inside short)
+  | inl short ↦ ap (fits (get_or form i 0)) (in_line form is.letters line other (10 ∷ []) i inside short)
       ∙ filled-fits form is.letters i inside is.are_letters.within is.are_letters.count
   | inr long ↦ ap (fits (get_or form i 0)) (in_line form is.letters line other (13 ∷ 10 ∷ []) i inside long)
       ∙ filled-fits form is.letters i inside is.are_letters.within is.are_letters.count
@@ -225,29 +225,28 @@ pub broken_off : (form bytes letters : List ℕ) (place : ℕ) → IsFilling for
 broken_off form bytes letters place filling below unfit =
     let size : place ≡ length (take place bytes) = sym (length-take-le place bytes filling.inside) in
     record {
-  before = take place bytes;
-  rest = drop place bytes;
-  joined = sym (take-append-drop place bytes);
-  size = size;
-  more = rest_of_line form place ++ 10 ∷ [];
-  missing = not_empty (rest_of_line form place) 10;
-  begins = then_ended form bytes letters place filling;
-  stops = λ byte after line other others next is same.
-      let there : get_or (line ++ other) place 0 ≡ byte = ap (λ t. get_or t place 0) same ∙ at_seam (take place bytes) others byte place size in
-      let fit : fits (get_or form place 0) byte ≡ true = ap (fits (get_or form place 0)) (sym there) ∙ line_fits form line other place below is in
-      false≢true (sym (unfit byte after next) ∙ fit);
-}
+      before = take place bytes;
+      rest = drop place bytes;
+      joined = sym (take-append-drop place bytes);
+      size = size;
+      more = rest_of_line form place ++ 10 ∷ [];
+      missing = not_empty (rest_of_line form place) 10;
+      begins = then_ended form bytes letters place filling;
+      stops = λ byte after line other others next is same.
+          let there : get_or (line ++ other) place 0 ≡ byte = ap (λ t. get_or t place 0) same ∙ at_seam (take place bytes) others byte place size in
+          let fit : fits (get_or form place 0) byte ≡ true = ap (fits (get_or form place 0)) (sym there) ∙ line_fits form line other place below is in
+          false≢true (sym (unfit byte after next) ∙ fit);
+    }
 
 -- ---- the end of the line
 
 whole_line : (form bytes letters : List ℕ) (place : ℕ) → IsFilling form bytes place letters → place ≡ length form
     → (filled_in form letters ≡ take (length form) bytes) × AreLetters (blanks form) letters
 whole_line form bytes letters place filling all =
-    let whole : take place form ≡ form = take_all place form (omega arith) in
-    (
-  sym (ap (λ f. filled_in f letters) whole) ∙ filling.filled ∙ ap (λ n. take n bytes) all,
-  record { count = filling.counted ∙ ap blanks whole; within = filling.within },
-)
+    let whole : take place form ≡ form = take_all place form (omega arith) in (
+      sym (ap (λ f. filled_in f letters) whole) ∙ filling.filled ∙ ap (λ n. take n bytes) all,
+      record { count = filling.counted ∙ ap blanks whole; within = filling.within },
+    )
 
 pub line_read : (form bytes letters tail rest : List ℕ) (place : ℕ) → IsFilling form bytes place letters → place ≡ length form
     → tail ≡ drop (length form) bytes → EndsBefore tail rest → BeginsWithForm form bytes letters rest
@@ -256,19 +255,19 @@ line_read form bytes letters tail rest place filling all cut ends =
     let parts : bytes ≡ filled_in form letters ++ tail =
     sym (take-append-drop (length form) bytes) ∙ ap (λ t. t ++ drop (length form) bytes) (sym line.0) ∙ ap (λ t. filled_in form letters ++ t) (sym cut) in
     elim ends [
-  inl short ↦ record {
-    line = filled_in form letters ++ 10 ∷ [];
-    joined = parts ∙ ap (λ t. filled_in form letters ++ t) short ∙ sym (append_assoc (filled_in form letters) (10 ∷ []) rest);
-    are_letters = line.1;
-    ended = inl refl;
-  }
-  | inr long ↦ record {
-    line = filled_in form letters ++ 13 ∷ 10 ∷ [];
-    joined = parts ∙ ap (λ t. filled_in form letters ++ t) long ∙ sym (append_assoc (filled_in form letters) (13 ∷ 10 ∷ []) rest);
-    are_letters = line.1;
-    ended = inr refl;
-  }
-]
+      | inl short ↦ record {
+        line = filled_in form letters ++ 10 ∷ [];
+        joined = parts ∙ ap (λ t. filled_in form letters ++ t) short ∙ sym (append_assoc (filled_in form letters) (10 ∷ []) rest);
+        are_letters = line.1;
+        ended = inl refl;
+      }
+      | inr long ↦ record {
+        line = filled_in form letters ++ 13 ∷ 10 ∷ [];
+        joined = parts ∙ ap (λ t. filled_in form letters ++ t) long ∙ sym (append_assoc (filled_in form letters) (13 ∷ 10 ∷ []) rest);
+        are_letters = line.1;
+        ended = inr refl;
+      }
+    ]
 
 behind_form : (form letters line other ending : List ℕ) (j : ℕ) → line ≡ filled_in form letters ++ ending
     → get_or (line ++ other) (length form + j) 0 ≡ get_or (ending ++ other) j 0
@@ -281,7 +280,7 @@ behind_form form letters line other ending j is =
 at_end : (form line other : List ℕ) → IsFormLine form line → (get_or (line ++ other) (length form + 0) 0 ≡ 10)
     ⊎ ((get_or (line ++ other) (length form + 0) 0 ≡ 13) × (get_or (line ++ other) (length form + 1) 0 ≡ 10))
 at_end form line other is = elim is.ended [
-  inl short ↦ inl (behind_form form is.letters line other (10 ∷ []) 0 short)
+  | inl short ↦ inl (behind_form form is.letters line other (10 ∷ []) 0 short)
   | inr long ↦ inr (behind_form form is.letters line other (13 ∷ 10 ∷ []) 0 long, behind_form form is.letters line other (13 ∷ 10 ∷ []) 1 long)
 ]
 
@@ -297,21 +296,21 @@ no_end form bytes letters tail place filling all cut none =
     let line = whole_line form bytes letters place filling all in
     let size : length form + 0 ≡ length (take (length form) bytes) = omega (arith, length-take-le (length form) bytes (omega (arith, filling.inside))) in
     record {
-  before = take (length form) bytes;
-  rest = drop (length form) bytes;
-  joined = sym (take-append-drop (length form) bytes);
-  size = size;
-  more = 10 ∷ [];
-  missing = not_empty [] 10;
-  begins = record { letters = letters; are_letters = line.1; ended = inl (ap (λ t. t ++ 10 ∷ []) (sym line.0)) };
-  stops = λ byte after found other others next is same.
-      let there : get_or (found ++ other) (length form + 0) 0 ≡ byte =
-      seam_byte found other (take (length form) bytes) others byte (length form + 0) (length form + 0) same size refl in
-      elim (at_end form found other is) [
-        inl short ↦ (none after).0 (cut ∙ next ∙ ap (λ b. b ∷ after) (sym there ∙ short))
-        | inr long ↦ (none after).1 (cut ∙ next ∙ ap (λ b. b ∷ after) (sym there ∙ long.0))
-      ];
-}
+      before = take (length form) bytes;
+      rest = drop (length form) bytes;
+      joined = sym (take-append-drop (length form) bytes);
+      size = size;
+      more = 10 ∷ [];
+      missing = not_empty [] 10;
+      begins = record { letters = letters; are_letters = line.1; ended = inl (ap (λ t. t ++ 10 ∷ []) (sym line.0)) };
+      stops = λ byte after found other others next is same.
+          let there : get_or (found ++ other) (length form + 0) 0 ≡ byte =
+          seam_byte found other (take (length form) bytes) others byte (length form + 0) (length form + 0) same size refl in
+          elim (at_end form found other is) [
+            | inl short ↦ (none after).0 (cut ∙ next ∙ ap (λ b. b ∷ after) (sym there ∙ short))
+            | inr long ↦ (none after).1 (cut ∙ next ∙ ap (λ b. b ∷ after) (sym there ∙ long.0))
+          ];
+    }
 
 half_end : (form bytes letters tail after : List ℕ) (place : ℕ) → IsFilling form bytes place letters → place ≡ length form
     → tail ≡ drop (length form) bytes → tail ≡ 13 ∷ after → ((rest : List ℕ) → after ≢ 10 ∷ rest)
@@ -322,33 +321,33 @@ half_end form bytes letters tail after place filling all cut half none =
     let before : List ℕ = take (length form) bytes ++ 13 ∷ [] in
     let longer : length form + 1 ≡ length before = omega (arith, length-append (take (length form) bytes) (13 ∷ [])) in
     record {
-  before = before;
-  rest = after;
-  joined = sym (take-append-drop (length form) bytes) ∙ ap (λ t. take (length form) bytes ++ t) (sym cut ∙ half)
-      ∙ sym (append_assoc (take (length form) bytes) (13 ∷ []) after);
-  size = longer;
-  more = 10 ∷ [];
-  missing = not_empty [] 10;
-  begins = record {
-    letters = letters;
-    are_letters = line.1;
-    ended = inr (append_assoc (take (length form) bytes) (13 ∷ []) (10 ∷ []) ∙ ap (λ t. t ++ 13 ∷ 10 ∷ []) (sym line.0));
-  };
-  stops = λ byte next found other others follows is same.
-      let there : get_or (found ++ other) (length form + 1) 0 ≡ byte = seam_byte found other before others byte (length form + 1) (length form + 1) same longer refl in
-      let same_before : found ++ other ≡ take (length form) bytes ++ 13 ∷ (byte ∷ others) = same ∙ append_assoc (take (length form) bytes) (13 ∷ []) (byte ∷ others) in
-      let return : get_or (found ++ other) (length form + 0) 0 ≡ 13 =
-      seam_byte found other (take (length form) bytes) (byte ∷ others) 13 (length form) (length form + 0) same_before size (omega arith) in
-      elim (at_end form found other is) [
-        inl short ↦ absurd (omega arith)
-        | inr long ↦ none next (follows ∙ ap (λ b. b ∷ next) (sym there ∙ long.1))
-      ];
-}
+      before = before;
+      rest = after;
+      joined = sym (take-append-drop (length form) bytes) ∙ ap (λ t. take (length form) bytes ++ t) (sym cut ∙ half)
+          ∙ sym (append_assoc (take (length form) bytes) (13 ∷ []) after);
+      size = longer;
+      more = 10 ∷ [];
+      missing = not_empty [] 10;
+      begins = record {
+        letters = letters;
+        are_letters = line.1;
+        ended = inr (append_assoc (take (length form) bytes) (13 ∷ []) (10 ∷ []) ∙ ap (λ t. t ++ 13 ∷ 10 ∷ []) (sym line.0));
+      };
+      stops = λ byte next found other others follows is same.
+          let there : get_or (found ++ other) (length form + 1) 0 ≡ byte = seam_byte found other before others byte (length form + 1) (length form + 1) same longer refl in
+          let same_before : found ++ other ≡ take (length form) bytes ++ 13 ∷ (byte ∷ others) = same ∙ append_assoc (take (length form) bytes) (13 ∷ []) (byte ∷ others) in
+          let return : get_or (found ++ other) (length form + 0) 0 ≡ 13 =
+          seam_byte found other (take (length form) bytes) (byte ∷ others) 13 (length form) (length form + 0) same_before size (omega arith) in
+          elim (at_end form found other is) [
+            | inl short ↦ absurd (omega arith)
+            | inr long ↦ none next (follows ∙ ap (λ b. b ∷ next) (sym there ∙ long.1))
+          ];
+    }
 
 pub line_broken : (form bytes letters tail : List ℕ) (place at : ℕ) → IsFilling form bytes place letters → place ≡ length form
     → tail ≡ drop (length form) bytes → EndBreaksOff tail at → LineBreaksOff (IsFormLine form) bytes (length form + at)
 line_broken form bytes letters tail place at filling all cut broken = elim broken [
-  inl none ↦ subst (λ n. LineBreaksOff (IsFormLine form) bytes (length form + n)) (sym none.0) (no_end form bytes letters tail place filling all cut none.1)
+  | inl none ↦ subst (λ n. LineBreaksOff (IsFormLine form) bytes (length form + n)) (sym none.0) (no_end form bytes letters tail place filling all cut none.1)
   | inr half ↦
       subst (λ n. LineBreaksOff (IsFormLine form) bytes (length form + n)) (sym half.0)
       (half_end form bytes letters tail half.1.0 place filling all cut half.1.1 half.1.2)

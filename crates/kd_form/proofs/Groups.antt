@@ -24,7 +24,7 @@ short_piece size n some small =
     let all : n % size ≡ n = mod-eq_of_lt small in
     rw (none, all) (omega arith)
 
-no_piece : (size : ℕ) → 0 < size → div_ceil 0 size ≡ 0
+pub no_piece : (size : ℕ) → 0 < size → div_ceil 0 size ≡ 0
 no_piece size large =
     let none : 0 / size ≡ 0 = div-eq_of_lt large in
     let all : 0 % size ≡ 0 = mod-eq_of_lt large in

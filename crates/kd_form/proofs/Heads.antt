@@ -51,7 +51,7 @@ pub record IsUpToBreak (line : List ℕ) : Type 0 where
 
 pub up_to_break : (text line : List ℕ) → IsWithout 10 text → IsEnded text line → IsUpToBreak line
 up_to_break text line unbroken ended = elim ended [
-  inl short ↦ record { text = text; unbroken = unbroken; is = short }
+  | inl short ↦ record { text = text; unbroken = unbroken; is = short }
   | inr long ↦ record {
     text = text ++ 13 ∷ [];
     unbroken = All-push (λ byte. byte ≢ 10) text 13 unbroken (λ e. omega arith);
@@ -93,21 +93,20 @@ without_line s k line more [] tell ended head =
     absurd (let clash : 80 ≡ 84 = sym (key_first k line more ended) ∙ text_first (line ++ more) (text_only s (line ++ more) head) in omega arith)
 without_line s k line more (other ∷ others) tell ended head =
     let first = head.keyed in
-    let same : line ++ more ≡ first.0 ++ (first.1 ++ head.last) = head.joined ∙ ap (λ l. l ++ head.last) first.4 ∙ append_assoc first.0 first.1 head.last in
-    (
-  others,
-  record {
-    lines = first.1;
-    last = head.last;
-    joined = same_line line first.0 more (first.1 ++ head.last) tell (up_to_break _ line (key_line_unbroken k) ended)
-        (up_to_break _ first.0 (key_line_unbroken other) first.2) same;
-    keyed = first.3;
-    ended = head.ended;
-    of_the_day = All-tail (AreKeys s) other others head.of_the_day;
-    few = omega (arith, head.few);
-  },
-  refl,
-)
+    let same : line ++ more ≡ first.0 ++ (first.1 ++ head.last) = head.joined ∙ ap (λ l. l ++ head.last) first.4 ∙ append_assoc first.0 first.1 head.last in (
+      others,
+      record {
+        lines = first.1;
+        last = head.last;
+        joined = same_line line first.0 more (first.1 ++ head.last) tell (up_to_break _ line (key_line_unbroken k) ended)
+            (up_to_break _ first.0 (key_line_unbroken other) first.2) same;
+        keyed = first.3;
+        ended = head.ended;
+        of_the_day = All-tail (AreKeys s) other others head.of_the_day;
+        few = omega (arith, head.few);
+      },
+      refl,
+    )
 
 -- ---- line after line
 

@@ -44,7 +44,7 @@ rotor_line slots k are =
     let fillers : filled_in (places_for 2 ++ 32 ∷ places_for 3) (k.fillers ++ k.group) ≡ letters_text k.fillers ++ 32 ∷ letters_text k.group =
     filled_word 2 k.fillers (32 ∷ places_for 3) k.group are.fillers.count ∙ ap (λ t. letters_text k.fillers ++ 32 ∷ t) last in
     let key : filled_in (places_for slots ++ 32 ∷ (places_for 2 ++ 32 ∷ places_for 3)) (k.key ++ (k.fillers ++ k.group))
-        ≡ letters_text k.key ++ 32 ∷ (letters_text k.fillers ++ 32 ∷ letters_text k.group) =
+    ≡ letters_text k.key ++ 32 ∷ (letters_text k.fillers ++ 32 ∷ letters_text k.group) =
     filled_word slots k.key (32 ∷ (places_for 2 ++ 32 ∷ places_for 3)) (k.fillers ++ k.group) are.key.count ∙ ap (λ t. letters_text k.key ++ 32 ∷ t) fillers in
     ap (λ t. codes "PART " ++ t) (filled_word slots k.start (32 ∷ (places_for slots ++ 32 ∷ (places_for 2 ++ 32 ∷ places_for 3))) (k.key ++ (k.fillers ++ k.group)) are.start.count
     ∙ ap (λ t. letters_text k.start ++ 32 ∷ t) key)
@@ -78,18 +78,17 @@ keys_exist (OfRotors s) letters are =
     let fewer : length others ≡ slots + 5 = omega (arith, length-drop slots letters) in
     let five : length last ≡ 5 = omega (arith, length-drop slots others) in
     let within_others : All (λ n. n < 26) others = All-drop (λ n. n < 26) slots letters are.within in
-    let within_last : All (λ n. n < 26) last = All-drop (λ n. n < 26) slots others within_others in
-    (
-  Rotor (record { start = take slots letters; key = take slots others; fillers = take 2 last; group = drop 2 last }),
-  record {
-    start = record { count = length-take-le slots letters (omega arith); within = All-take (λ n. n < 26) slots letters are.within };
-    key = record { count = length-take-le slots others (omega arith); within = All-take (λ n. n < 26) slots others within_others };
-    fillers = record { count = length-take-le 2 last (omega arith); within = All-take (λ n. n < 26) 2 last within_last };
-    group = record { count = omega (arith, length-drop 2 last); within = All-drop (λ n. n < 26) 2 last within_last };
-  },
-  ap (λ t. take slots letters ++ (take slots others ++ t)) (take-append-drop 2 last)
-  ∙ ap (λ t. take slots letters ++ t) (take-append-drop slots others) ∙ take-append-drop slots letters,
-)
+    let within_last : All (λ n. n < 26) last = All-drop (λ n. n < 26) slots others within_others in (
+      Rotor (record { start = take slots letters; key = take slots others; fillers = take 2 last; group = drop 2 last }),
+      record {
+        start = record { count = length-take-le slots letters (omega arith); within = All-take (λ n. n < 26) slots letters are.within };
+        key = record { count = length-take-le slots others (omega arith); within = All-take (λ n. n < 26) slots others within_others };
+        fillers = record { count = length-take-le 2 last (omega arith); within = All-take (λ n. n < 26) 2 last within_last };
+        group = record { count = omega (arith, length-drop 2 last); within = All-drop (λ n. n < 26) 2 last within_last };
+      },
+      ap (λ t. take slots letters ++ (take slots others ++ t)) (take-append-drop 2 last)
+          ∙ ap (λ t. take slots letters ++ t) (take-append-drop slots others) ∙ take-append-drop slots letters,
+    )
 keys_exist (OfPins s) [] are = absurd (omega (arith, are.count))
 keys_exist (OfPins s) (l ∷ letters) are = (
   Pin (record { chosen = l; external = letters }),
@@ -104,10 +103,10 @@ pub as_key_line : (s : Day) (line : List ℕ) → IsFormLine (key_form s) line �
 as_key_line s line is =
     let made = keys_exist s is.letters is.are_letters in
     record {
-  keys = made.0;
-  of_the_day = made.1;
-  keyed = subst (λ text. IsEnded text line) (ap (filled_in (key_form s)) (sym made.2) ∙ key_line s made.0 made.1) is.ended;
-}
+      keys = made.0;
+      of_the_day = made.1;
+      keyed = subst (λ text. IsEnded text line) (ap (filled_in (key_form s)) (sym made.2) ∙ key_line s made.0 made.1) is.ended;
+    }
 
 letters_of_keys : (s : Day) (k : Keys) → AreKeys s k → AreLetters (blanks (key_form s)) (key_letters k)
 letters_of_keys (OfRotors s) (Rotor k) are = record {

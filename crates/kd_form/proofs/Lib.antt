@@ -8,3 +8,4 @@ pub mod Heads
 pub mod SortedAlike
 pub mod SuitedKeys
 pub mod TextLetters
+pub mod Sent

@@ -15,18 +15,22 @@ pub made_of_rotor : (s : Day) (part parts : ℕ) (keys : Keys) (k : RotorKeys) (
     → indicator ≡ indicator_of s k → letters ≡ rotor_letters s k text → shown ≡ letters
     → bytes ≡ part_text (part_of part parts (Some indicator) shown) → IsMadeText s part parts keys text bytes
 made_of_rotor s part parts keys k text letters shown bytes indicator is told made same written =
-    subst (λ ks. IsMadeText s part parts ks text bytes) (sym is)
-    (part_of part parts (Some (indicator_of s k)) (rotor_letters s k text), refl,
-    written ∙ ap (λ i. part_text (part_of part parts (Some i) shown)) told
-    ∙ ap (λ ls. part_text (part_of part parts (Some (indicator_of s k)) ls)) (same ∙ made))
+    subst (λ ks. IsMadeText s part parts ks text bytes) (sym is) (
+      part_of part parts (Some (indicator_of s k)) (rotor_letters s k text),
+      refl,
+      written ∙ ap (λ i. part_text (part_of part parts (Some i) shown)) told
+          ∙ ap (λ ls. part_text (part_of part parts (Some (indicator_of s k)) ls)) (same ∙ made),
+    )
 
 pub made_of_pin : (s : Day) (part parts : ℕ) (keys : Keys) (k : PinKeys) (text letters shown bytes : List ℕ) → keys ≡ Pin k
     → (internal : List ℕ) × IsInternalKey (enciphered_choice s k) internal × (letters ≡ pin_letters s k internal text) → shown ≡ letters
     → bytes ≡ part_text (part_of part parts None shown) → IsMadeText s part parts keys text bytes
 made_of_pin s part parts keys k text letters shown bytes is (internal, first, made) same written =
-    subst (λ ks. IsMadeText s part parts ks text bytes) (sym is)
-    (part_of part parts None (pin_letters s k internal text), (internal, first, refl),
-    written ∙ ap (λ ls. part_text (part_of part parts None ls)) (same ∙ made))
+    subst (λ ks. IsMadeText s part parts ks text bytes) (sym is) (
+      part_of part parts None (pin_letters s k internal text),
+      (internal, first, refl),
+      written ∙ ap (λ ls. part_text (part_of part parts None ls)) (same ∙ made),
+    )
 
 -- ---- the internal key is there where the keys suit the day
 

@@ -42,11 +42,11 @@ unsuited s keys part index k fault inside is before found =
     let number : part ≡ length (take index keys) + 1 = omega (arith, before.counted, length-take-le index keys (omega arith)) in
     let next : suc index ≡ index + 1 = omega arith in
     record {
-  before = take index keys;
-  unsuited = k;
-  others = drop (index + 1) keys;
-  joined = sym (take-append-drop index keys) ∙ ap (λ ks. take index keys ++ ks) (drop-cons keys index k inside ∙ ap (λ x. x ∷ drop (suc index) keys) is
-      ∙ ap (λ n. k ∷ drop n keys) next);
-  suited = before.suited;
-  is = subst (λ n. IsKeysFault s n k fault) number found;
-}
+      before = take index keys;
+      unsuited = k;
+      others = drop (index + 1) keys;
+      joined = sym (take-append-drop index keys) ∙ ap (λ ks. take index keys ++ ks) (drop-cons keys index k inside ∙ ap (λ x. x ∷ drop (suc index) keys) is
+          ∙ ap (λ n. k ∷ drop n keys) next);
+      suited = before.suited;
+      is = subst (λ n. IsKeysFault s n k fault) number found;
+    }

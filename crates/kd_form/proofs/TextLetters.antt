@@ -45,12 +45,12 @@ pub counting_more : (blank found : Option ℕ) (text : List ℕ) (place count on
 counting_more blank found text place count one inside before allowed told more =
     let here : one ≡ length (option_to_list (letter_of_byte blank (get_or text place 0))) = more ∙ sym (how_many found) ∙ ap (λ o. length (option_to_list o)) told in
     record {
-  allowed = All-more (λ b. IsTrue (is_text_byte b)) text place 0 inside before.allowed allowed;
-  counted = ap (λ n. n + one) before.counted ∙ ap (λ n. length (letters_from blank (take place text)) + n) here
-      ∙ sym (length-append (letters_from blank (take place text)) (option_to_list (letter_of_byte blank (get_or text place 0))))
-      ∙ sym (ap length (letters_last blank text place inside));
-  few = omega (arith, before.few, here, at_most_one (letter_of_byte blank (get_or text place 0)));
-}
+      allowed = All-more (λ b. IsTrue (is_text_byte b)) text place 0 inside before.allowed allowed;
+      counted = ap (λ n. n + one) before.counted ∙ ap (λ n. length (letters_from blank (take place text)) + n) here
+          ∙ sym (length-append (letters_from blank (take place text)) (option_to_list (letter_of_byte blank (get_or text place 0))))
+          ∙ sym (ap length (letters_last blank text place inside));
+      few = omega (arith, before.few, here, at_most_one (letter_of_byte blank (get_or text place 0)));
+    }
 
 pub bad_at : (blank : Option ℕ) (text : List ℕ) (place count : ℕ) → place < length text → IsCounting blank text place count
     → is_text_byte (get_or text place 0) ≡ false → IsBadAt text place
@@ -81,22 +81,20 @@ taking_more blank size byte text rest after letters more room before first put =
 pub taken_full : (blank : Option ℕ) (size : ℕ) (text rest letters : List ℕ) → size ≤ length letters → IsTaking blank size text rest letters
     → (letters ≡ take size (letters_from blank text)) × (letters_from blank rest ≡ drop size (letters_from blank text))
 taken_full blank size text rest letters full taking =
-    let same : length letters ≡ size = omega (arith, taking.few) in
-    (
-  sym (ap (take size) (sym taking.taken) ∙ take-append-le size letters (letters_from blank rest) (omega arith) ∙ take_all size letters (omega arith)),
-  sym (ap (drop size) (sym taking.taken) ∙ drop_at letters (letters_from blank rest) size same),
-)
+    let same : length letters ≡ size = omega (arith, taking.few) in (
+      sym (ap (take size) (sym taking.taken) ∙ take-append-le size letters (letters_from blank rest) (omega arith) ∙ take_all size letters (omega arith)),
+      sym (ap (drop size) (sym taking.taken) ∙ drop_at letters (letters_from blank rest) size same),
+    )
 
 pub taken_all : (blank : Option ℕ) (size : ℕ) (text rest letters : List ℕ) → rest ≡ [] → IsTaking blank size text rest letters
     → (letters ≡ take size (letters_from blank text)) × (letters_from blank rest ≡ drop size (letters_from blank text))
 taken_all blank size text rest letters none taking =
     let whole : letters ≡ letters_from blank text =
     sym (append-nil letters) ∙ ap (λ t. letters ++ letters_from blank t) (sym none) ∙ taking.taken in
-    let short : length (letters_from blank text) ≤ size = omega (arith, taking.few, ap length whole) in
-    (
-  whole ∙ sym (take_all size (letters_from blank text) short),
-  ap (letters_from blank) none ∙ sym (drop_all size (letters_from blank text) short),
-)
+    let short : length (letters_from blank text) ≤ size = omega (arith, taking.few, ap length whole) in (
+      whole ∙ sym (take_all size (letters_from blank text) short),
+      ap (letters_from blank) none ∙ sym (drop_all size (letters_from blank text) short),
+    )
 
 pub as_number : (b : Bool) → bool_byte b ≡ (if b then 1 else 0)
 as_number true = refl

@@ -1,6 +1,5 @@
 //! The form that an order becomes.
-ghost use Rattle.std.specs.Prelude.{◌≡◌, ◌⊎◌, ◌≤◌, length, All, IfOk, OnOk, MatchResult};
-
+ghost use Rattle.std.specs.Prelude.{◌≡◌, ◌⊎◌, ◌↔◌, ◌≤◌, length, All, IsOk, IfOk, MatchResult};
 ghost use Rattle.kd_form.specs.Keys.{AreKeys};
 ghost use Rattle.kd_form.specs.Part.{pieces};
 ghost use Rattle.kd_form.specs.Making.{Suits, part_size};
@@ -29,7 +28,10 @@ pub fn send(
         (λ form. IsFormOf day.now order.now form.items)
         (λ fault. (fault ≡ FormFault.NoMemory) ⊎ IsSendFault day.now order.now fault) }
 {
-    check_machine(machine, day)?;
+    match check_machine(machine, day) {
+        Ok(()) => {}
+        Err(fault) => return Err(fault),
+    }
     let (keys, text) = match read_order(day, order) {
         Ok(found) => found,
         Err(fault) => return Err(fault),
@@ -119,7 +121,7 @@ fn part_size(day: &SheetDay) -> usize
 /// Refuses a machine that isn't ready, or not on the day's key.
 pub(crate) fn check_machine(machine: &Machine, day: &SheetDay) -> Result<(), FormFault>
     ensures off_key { IsOffKey machine.now day.now result }
-    ensures on_key { OnOk result (IsOnKey machine.now day.now) }
+    ensures on_key { IsOk result ↔ IsOnKey machine.now day.now }
 {
     if machine.engine().is_err() {
         return Err(FormFault::NotReady);

@@ -21,7 +21,7 @@ pub(crate) fn blank_of(day: &SheetDay) -> Option<Letter>
 pub(crate) fn count_letters(blank: Option<Letter>, text: &[u8]) -> Result<usize, usize>
     ensures { MatchResult result
         (λ count. All (λ byte. IsTrue (is_text_byte byte)) text.now
-          × (count ≡ length (letters_from blank text.now)))
+        × (count ≡ length (letters_from blank text.now)))
         (IsBadAt text.now) }
 {
     let mut count = 0;

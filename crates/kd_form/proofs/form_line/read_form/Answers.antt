@@ -5,8 +5,8 @@ use Rattle.kd_form.proofs.form_line.read_form.Goals as goal
 pub take_letter-requires : goal.take_letter-requires
 take_letter-requires c =
     λ blank.
-      letter_room c.args.form.now c.args.bytes.now c.loop-place.letters.items c.loop-place.place _ c.loop-place.invariant c.loop-place-test.true refl
-      c.requires blank
+    letter_room c.args.form.now c.args.bytes.now c.loop-place.letters.items c.loop-place.place _ c.loop-place.invariant c.loop-place-test.true refl
+    c.requires blank
 
 pub returns-in_default : goal.returns-in_default
 returns-in_default c =
@@ -17,9 +17,9 @@ pub returns-then-not-take_letter : goal.returns-then-not-take_letter
 returns-then-not-take_letter c =
     broken_off c.args.form.now c.args.bytes.now c.loop-place.letters.items c.loop-place.place c.loop-place.invariant c.loop-place-test.true
     (λ byte after next.
-      unfit_next c.args.bytes.now after c.loop-place.place _ c.in-Some.byte.now byte
-      (read_at c.args.bytes.now c.loop-place.place c.in-Some.byte.now c.in-Some.ensures.lookup.0 c.in-Some.ensures.lookup.1)
-      (sym c.take_letter.ensures.fits ∙ c.if-not-take_letter.true) next)
+    unfit_next c.args.bytes.now after c.loop-place.place _ c.in-Some.byte.now byte
+    (read_at c.args.bytes.now c.loop-place.place c.in-Some.byte.now c.in-Some.ensures.lookup.0 c.in-Some.ensures.lookup.1)
+    (sym c.take_letter.ensures.fits ∙ c.if-not-take_letter.true) next)
 
 pub loop-place-preserved : goal.loop-place-preserved
 loop-place-preserved c =

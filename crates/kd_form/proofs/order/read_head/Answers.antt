@@ -25,7 +25,7 @@ pub returns-in-Err-read_form : goal.returns-in-Err-read_form
 returns-in-Err-read_form c =
     text_fault c.args.day.now c.args.order.now c.loop-keys.rest.now c.loop-keys.keys.items c.in-Err-read_form.place _ c.loop-keys.invariant
     (λ first. elim c.loop-keys-test.branch [
-      then-loop-keys-test+else-not-is_full w ↦ eqb-true _ _ (sym w.is_full.ensures.value ∙ w.if-not-is_full.false)
+      | then-loop-keys-test+else-not-is_full w ↦ eqb-true _ _ (sym w.is_full.ensures.value ∙ w.if-not-is_full.false)
       | else-loop-keys-test w ↦ absurd (false≢true (sym w.loop-keys-test.false ∙ c.is_key_line.ensures.1 first))
     ])
     c.in-Err-read_form.ensures refl
