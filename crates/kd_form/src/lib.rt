@@ -13,6 +13,8 @@ mod making;
 mod order;
 mod sending;
 mod suiting;
+#[cfg(test)]
+mod tests;
 mod text;
 
 pub use fault::FormFault;
