@@ -9,3 +9,4 @@ pub mod SortedAlike
 pub mod SuitedKeys
 pub mod TextLetters
 pub mod Sent
+pub mod PartLetters

@@ -7,4 +7,5 @@ pub mod Filling
 pub mod Order
 pub mod Sending
 pub mod OnTheKey
+pub mod Reading
 pub mod KeyForms

@@ -1,5 +1,5 @@
 //! The day's own cipher, from any letters on.
-ghost use Rattle.std.specs.Prelude.{◌≡◌, ◌↔◌, ◌≤◌, ◌+◌, ◌++◌, length, IsTrue};
+ghost use Rattle.std.specs.Prelude.{◌≡◌, ◌↔◌, ◌≤◌, ◌+◌, ◌<◌, ◌++◌, length, All, IsTrue};
 ghost use Rattle.std.specs.Bool.{OnTrue};
 ghost use Rattle.kd_state.specs.TwoCiphers.{sheet_key, IsWindow};
 ghost use Rattle.kd_form.specs.Making.{cipher_from};
@@ -37,12 +37,23 @@ pub(crate) fn enciphered<const N: usize>(
 ) -> ArrayVec<Letter, N>
     requires window { IsWindow (sheet_key day.now) window.now }
     requires room { length text.now ≤ N }
-    ensures { result.items ≡ cipher_from day.now window.now text.now }
+    ensures text { result.items ≡ cipher_from day.now window.now text.now }
+    ensures letters { All (λ letter. letter < 26) result.items }
 {
     let mut letters = ArrayVec::new();
     push_letters(&mut letters, text);
     encipher(day, window, letters.as_mut_slice());
+    are_letters(letters.as_slice());
     letters
+}
+
+/// Letters are letters of the alphabet.
+pub(crate) fn are_letters(letters: &[Letter])
+    ensures { All (λ letter. letter < 26) letters.now }
+{
+    for letter in letters {
+        let _place = letter.index();
+    }
 }
 
 /// Appends letters, for which there is room.

@@ -11,6 +11,7 @@ mod key_line;
 mod keys;
 mod making;
 mod order;
+mod reading;
 mod sending;
 mod suiting;
 #[cfg(test)]
