@@ -29,7 +29,7 @@ part_unbroken =
 words_joined : (word text : List ℕ) → IsWithout 10 word → IsWithout 10 text → IsWithout 10 (word ++ 32 ∷ text)
 words_joined word text one other = All-append (λ byte. byte ≢ 10) word (32 ∷ text) one (behind_space text other)
 
-key_line_unbroken : (k : Keys) → IsWithout 10 (line_of (key_words k))
+pub key_line_unbroken : (k : Keys) → IsWithout 10 (line_of (key_words k))
 key_line_unbroken (Rotor k) =
     let fillers : IsWithout 10 (letters_text k.fillers ++ 32 ∷ letters_text k.group) =
     words_joined (letters_text k.fillers) (letters_text k.group) (letters_unbroken k.fillers) (letters_unbroken k.group) in
@@ -66,11 +66,11 @@ same_line line other rest more tell a b same =
     let two : other ++ more ≡ b.text ++ 10 ∷ more = ap (λ l. l ++ more) b.is ∙ append_assoc b.text (10 ∷ []) more in
     (tell 10 a.text b.text rest more a.unbroken b.unbroken (sym one ∙ same ∙ two)).1
 
-key_first : (k : Keys) (line more : List ℕ) → IsKeyLine k line → get_or (line ++ more) 0 0 ≡ 80
+pub key_first : (k : Keys) (line more : List ℕ) → IsKeyLine k line → get_or (line ++ more) 0 0 ≡ 80
 key_first (Rotor k) line more ended = elim ended [ inl short ↦ ap (λ l. get_or (l ++ more) 0 0) short | inr long ↦ ap (λ l. get_or (l ++ more) 0 0) long ]
 key_first (Pin k) line more ended = elim ended [ inl short ↦ ap (λ l. get_or (l ++ more) 0 0) short | inr long ↦ ap (λ l. get_or (l ++ more) 0 0) long ]
 
-text_first : (last : List ℕ) → IsEnded (codes "TEXT") last → get_or last 0 0 ≡ 84
+pub text_first : (last : List ℕ) → IsEnded (codes "TEXT") last → get_or last 0 0 ≡ 84
 text_first last ended = elim ended [ inl short ↦ ap (λ l. get_or l 0 0) short | inr long ↦ ap (λ l. get_or l 0 0) long ]
 
 -- ---- heads that begin with a line

@@ -10,3 +10,4 @@ pub mod SuitedKeys
 pub mod TextLetters
 pub mod Sent
 pub mod PartLetters
+pub mod OneOrder

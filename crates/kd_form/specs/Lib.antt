@@ -8,4 +8,5 @@ pub mod Order
 pub mod Sending
 pub mod OnTheKey
 pub mod Reading
+pub mod Laws
 pub mod KeyForms
