@@ -11,3 +11,4 @@ pub mod TextLetters
 pub mod Sent
 pub mod PartLetters
 pub mod OneOrder
+pub mod OneFault

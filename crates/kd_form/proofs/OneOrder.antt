@@ -28,9 +28,9 @@ same_places [] [] one other = refl
 same_places [] (y ∷ others) one other = absurd other
 same_places (x ∷ places) [] one other = absurd one
 same_places (x ∷ places) (y ∷ others) one other = elim one [
-  inl below ↦ elim other [ inl above ↦ absurd (omega arith) | inr same ↦ absurd (omega (arith, same.0)) ]
+  | inl below ↦ elim other [ inl above ↦ absurd (omega arith) | inr same ↦ absurd (omega (arith, same.0)) ]
   | inr same ↦ elim other [
-    inl above ↦ absurd (omega (arith, same.0))
+    | inl above ↦ absurd (omega (arith, same.0))
     | inr again ↦ ap (λ z. z ∷ places) same.0 ∙ ap (λ zs. y ∷ zs) (same_places places others same.1 again.1)
   ]
 ]
@@ -154,12 +154,12 @@ longer_end text = sym (append_assoc text (13 ∷ []) (10 ∷ []))
 
 same_text : (text other line : List ℕ) → IsWithout 13 text → IsWithout 13 other → IsEnded text line → IsEnded other line → text ≡ other
 same_text text other line one two a b = elim a [
-  inl short ↦ elim b [
-    inl also ↦ append_cancel_right text other (10 ∷ []) (sym short ∙ also)
+  | inl short ↦ elim b [
+    | inl also ↦ append_cancel_right text other (10 ∷ []) (sym short ∙ also)
     | inr long ↦ absurd (not_longer other text one (append_cancel_right (other ++ 13 ∷ []) text (10 ∷ []) (sym (longer_end other) ∙ sym long ∙ short)))
   ]
   | inr long ↦ elim b [
-    inl short ↦ absurd (not_longer text other two (append_cancel_right (text ++ 13 ∷ []) other (10 ∷ []) (sym (longer_end text) ∙ sym long ∙ short)))
+    | inl short ↦ absurd (not_longer text other two (append_cancel_right (text ++ 13 ∷ []) other (10 ∷ []) (sym (longer_end text) ∙ sym long ∙ short)))
     | inr also ↦ append_cancel_right text other (13 ∷ 10 ∷ []) (sym long ∙ also)
   ]
 ]
@@ -173,7 +173,7 @@ text_unbroken =
 
 first_of_text : (last text : List ℕ) → IsEnded (codes "TEXT") last → get_or (last ++ text) 0 0 ≡ 84
 first_of_text last text ended = elim ended [
-  inl short ↦ ap (λ l. get_or (l ++ text) 0 0) short
+  | inl short ↦ ap (λ l. get_or (l ++ text) 0 0) short
   | inr long ↦ ap (λ l. get_or (l ++ text) 0 0) long
 ]
 
@@ -210,11 +210,11 @@ one_head s (k ∷ keys) (k' ∷ others) lines last lines' last' text more tell a
     (subst (IsEnded (line_of (key_words k))) both.0 is) is' in
     let one : k ≡ k' = same_keys s k k' tell (All-head (AreKeys s) k keys all) (All-head (AreKeys s) k' others alls) words in
     record {
-  keys_are = ap (λ x. x ∷ keys) one ∙ ap (λ xs. k' ∷ xs) behind.keys_are;
-  head_is = ap (λ l. l ++ last) joined ∙ append_assoc line rest last ∙ ap (λ l. l ++ (rest ++ last)) both.0 ∙ ap (λ l. line' ++ l) behind.head_is
-      ∙ sym (append_assoc line' rest' last') ∙ sym (ap (λ l. l ++ last') joined');
-  text_is = behind.text_is;
-}
+      keys_are = ap (λ x. x ∷ keys) one ∙ ap (λ xs. k' ∷ xs) behind.keys_are;
+      head_is = ap (λ l. l ++ last) joined ∙ append_assoc line rest last ∙ ap (λ l. l ++ (rest ++ last)) both.0 ∙ ap (λ l. line' ++ l) behind.head_is
+          ∙ sym (append_assoc line' rest' last') ∙ sym (ap (λ l. l ++ last') joined');
+      text_is = behind.text_is;
+    }
 
 pub one_order : (s : Day) (order : List ℕ) (keys others : List Keys) (head other text more : List ℕ) → TextsTellFirstParts → IsOrder s order keys head text
     → IsOrder s order others other more → IsSameOrder keys others head other text more
@@ -224,10 +224,10 @@ one_order s order keys others head other text more tell a b =
     let same = one_head s keys others a.is_head.lines a.is_head.last b.is_head.lines b.is_head.last text more tell a.is_head.of_the_day b.is_head.of_the_day
     a.is_head.keyed b.is_head.keyed a.is_head.ended b.is_head.ended (sym left ∙ right) in
     record {
-  keys_are = same.keys_are;
-  head_is = a.is_head.joined ∙ same.head_is ∙ sym b.is_head.joined;
-  text_is = same.text_is;
-}
+      keys_are = same.keys_are;
+      head_is = a.is_head.joined ∙ same.head_is ∙ sym b.is_head.joined;
+      text_is = same.text_is;
+    }
 
 pub orders_become_one_form : TextsTellFirstParts → OrdersBecomeOneForm
 orders_become_one_form tell s order form other a b =

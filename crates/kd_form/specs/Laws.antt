@@ -11,3 +11,7 @@ OrdersBecomeOneForm = (s : Day) (order form other : List ℕ) → IsFormOf s ord
 -- an order that becomes a form has no fault
 abbrev pub SentOrdersHaveNoFault : Type 0
 SentOrdersHaveNoFault = (s : Day) (order form : List ℕ) (fault : FormFault) → IsFormOf s order form → ¬ (IsSendFault s order fault)
+
+-- and an order has one fault at most
+abbrev pub OrdersHaveOneFault : Type 0
+OrdersHaveOneFault = (s : Day) (order : List ℕ) (fault other : FormFault) → IsSendFault s order fault → IsSendFault s order other → fault ≡ other

@@ -9,6 +9,7 @@ mod heading;
 mod internal_key;
 mod key_line;
 mod keys;
+pub mod laws;
 mod making;
 mod order;
 mod reading;
