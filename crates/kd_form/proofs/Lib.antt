@@ -12,3 +12,4 @@ pub mod Sent
 pub mod PartLetters
 pub mod OneOrder
 pub mod OneFault
+pub mod FormCuts

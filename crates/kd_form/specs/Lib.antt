@@ -8,5 +8,6 @@ pub mod Order
 pub mod Sending
 pub mod OnTheKey
 pub mod Reading
+pub mod FormParts
 pub mod Laws
 pub mod KeyForms
