@@ -38,7 +38,7 @@ after_line bytes rest line after place behind joined =
 none_in_line : (bytes rest line after : List ℕ) (scanned : IsScanned bytes rest) → IsFirstPart 10 rest line after → (k : ℕ) → k < scanned.place + length line
     → slice_index bytes k ≡ 10 → ¬ (BeginsHeading (drop (k + 1) bytes))
 none_in_line bytes rest line after scanned first k below is = elim (cases_lt k scanned.place) [
-  inl before ↦ scanned.none k before is
+  | inl before ↦ scanned.none k before is
   | inr from ↦ absurd (no_break line after (k - scanned.place) first.without (omega arith)
       (ap (λ xs. get_or xs (k - scanned.place) 0) (sym first.joined) ∙ sym (in_rest bytes rest scanned.place k scanned.behind from) ∙ is))
 ]
@@ -54,16 +54,16 @@ pub scanned_more : (bytes rest line after : List ℕ) → IsScanned bytes rest �
 scanned_more bytes rest line after scanned first other =
     let here : after ≡ drop (scanned.place + length line + 1) bytes = after_line bytes rest line after scanned.place scanned.behind first.joined in
     record {
-  place = scanned.place + length line + 1;
-  within = omega (arith, line_within bytes rest line after scanned first);
-  behind = here;
-  none = λ k below is. elim (cases_lt k (scanned.place + length line)) [
-    inl before ↦ none_in_line bytes rest line after scanned first k before is
-    | inr from ↦ λ begins.
-        let last : k + 1 ≡ scanned.place + length line + 1 = omega arith in
-        other (subst BeginsHeading (ap (λ n. drop n bytes) last ∙ sym here) begins)
-  ];
-}
+      place = scanned.place + length line + 1;
+      within = omega (arith, line_within bytes rest line after scanned first);
+      behind = here;
+      none = λ k below is. elim (cases_lt k (scanned.place + length line)) [
+        | inl before ↦ none_in_line bytes rest line after scanned first k before is
+        | inr from ↦ λ begins.
+            let last : k + 1 ≡ scanned.place + length line + 1 = omega arith in
+            other (subst BeginsHeading (ap (λ n. drop n bytes) last ∙ sym here) begins)
+      ];
+    }
 
 pub cut_here : (bytes rest line after part others : List ℕ) (n : ℕ) (scanned : IsScanned bytes rest) → IsFirstPart 10 rest line after → BeginsHeading after
     → n ≡ length bytes - length after → part ≡ take n bytes → others ≡ drop n bytes → IsFirstOf bytes part others
@@ -76,10 +76,10 @@ cut_here bytes rest line after part others n scanned first begins count front ba
     in_rest bytes rest scanned.place (scanned.place + length line) scanned.behind (omega arith)
     ∙ ap (λ k. get_or rest k 0) (omega arith) ∙ ap (λ xs. get_or xs (length line) 0) first.joined ∙ get_or-append_seam line 10 after 0 in
     record {
-  joined = sym (take-append-drop n bytes) ∙ ap (λ t. t ++ drop n bytes) (sym front) ∙ ap (λ t. part ++ t) (sym back);
-  whole = λ k below. none_in_line bytes rest line after scanned first k (omega arith);
-  ends = inr (ap (λ k. get_or bytes k 0) (omega arith) ∙ ending, subst BeginsHeading (here ∙ sym back) begins);
-}
+      joined = sym (take-append-drop n bytes) ∙ ap (λ t. t ++ drop n bytes) (sym front) ∙ ap (λ t. part ++ t) (sym back);
+      whole = λ k below. none_in_line bytes rest line after scanned first k (omega arith);
+      ends = inr (ap (λ k. get_or bytes k 0) (omega arith) ∙ ending, subst BeginsHeading (here ∙ sym back) begins);
+    }
 
 pub cut_nowhere : (bytes rest part others : List ℕ) → IsScanned bytes rest → IsWithout 10 rest → part ≡ take (length bytes) bytes
     → others ≡ drop (length bytes) bytes → IsFirstOf bytes part others
@@ -87,12 +87,12 @@ cut_nowhere bytes rest part others scanned without front back =
     let whole : part ≡ bytes = front ∙ take_all (length bytes) bytes (omega arith) in
     let left : length rest ≡ length bytes - scanned.place = ap length scanned.behind ∙ length-drop scanned.place bytes in
     record {
-  joined = sym (append-nil bytes) ∙ ap (λ t. t ++ []) (sym whole) ∙ ap (λ t. part ++ t) (sym (drop_all (length bytes) bytes (omega arith)) ∙ sym back);
-  whole = λ k below is. elim (cases_lt k scanned.place) [
-    inl before ↦ scanned.none k before is
-    | inr from ↦ absurd (
-        let inside : k - scanned.place < length rest = omega (arith, ap length whole, left) in
-        All-get_or (λ byte. byte ≢ 10) rest (k - scanned.place) 0 inside without (sym (in_rest bytes rest scanned.place k scanned.behind from) ∙ is))
-  ];
-  ends = inl (back ∙ drop_all (length bytes) bytes (omega arith));
-}
+      joined = sym (append-nil bytes) ∙ ap (λ t. t ++ []) (sym whole) ∙ ap (λ t. part ++ t) (sym (drop_all (length bytes) bytes (omega arith)) ∙ sym back);
+      whole = λ k below is. elim (cases_lt k scanned.place) [
+        | inl before ↦ scanned.none k before is
+        | inr from ↦ absurd (
+            let inside : k - scanned.place < length rest = omega (arith, ap length whole, left) in
+            All-get_or (λ byte. byte ≢ 10) rest (k - scanned.place) 0 inside without (sym (in_rest bytes rest scanned.place k scanned.behind from) ∙ is))
+      ];
+      ends = inl (back ∙ drop_all (length bytes) bytes (omega arith));
+    }

@@ -13,3 +13,4 @@ pub mod PartLetters
 pub mod OneOrder
 pub mod OneFault
 pub mod FormCuts
+pub mod Fractions
