@@ -5,10 +5,10 @@ use Rattle.std.proofs.Math.Seq.{get_or-append_seam}
 use Rattle.std.specs.Prelude.{◌==◌, nat_le, nat_lt, ◌&&◌, slice_index, All, if◌then◌else◌}
 use Rattle.std.proofs.lemmas.Bool.Decides.{nat_tests}
 use Rattle.std.proofs.lemmas.Bool.{false≢true}
-use Rattle.std.proofs.lemmas.List.{append-nil, take_more, take-append-drop, length-replicate, length-take-le, get_or-append-add, take_all, get_or_default, get_or-drop}
+use Rattle.std.proofs.lemmas.List.{take_more, take-append-drop, length-replicate, length-take-le, get_or-append-add, take_all, get_or_default, get_or-drop}
 use Rattle.std.proofs.lemmas.List.Elements.{All-append, All-cons, All-nil, All-head, All-tail, All-replicate}
 use Rattle.kd_state.specs.Machine.{AreLetters}
-use Rattle.kd_form.specs.Filling.{filled_in, blanks, fits, letters_at, IsEnded, IsFormLine, BeginsWithForm, LineBreaksOff, EndsBefore, EndBreaksOff}
+use Rattle.kd_form.specs.Filling.{filled_in, blanks, fits, letters_at, IsFormLine, BeginsWithForm, LineBreaksOff, EndsBefore, EndBreaksOff}
 
 -- ---- forms joined
 

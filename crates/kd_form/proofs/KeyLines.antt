@@ -1,23 +1,18 @@
 -- Lines of keys, as forms with letters.
-use Rattle.std.proofs.Common.{◌≡◌, ◌≢◌, ℕ, zero, suc, ◌+◌, ◌-◌, ◌<◌, ◌≤◌, ◌⊎◌, inl, inr, List, [], ◌∷◌, ◌++◌, length, map, take, drop, replicate, refl, sym, ap, subst, ◌∙◌, append_assoc, length-append, length-drop, arith}
-use Rattle.std.specs.Prelude.{codes, All, Contains, Option, Some, None}
-use Rattle.std.proofs.lemmas.List.{append-nil, length-take-le, length-map, take-append-drop}
+use Rattle.std.proofs.Common.{◌≡◌, ℕ, zero, suc, ◌+◌, ◌<◌, List, [], ◌∷◌, ◌++◌, length, take, drop, refl, sym, ap, subst, ◌∙◌, length-append, length-drop, arith}
+use Rattle.std.specs.Prelude.{codes, All}
+use Rattle.std.proofs.lemmas.List.{length-take-le, take-append-drop}
 use Rattle.std.proofs.lemmas.List.Elements.{All-append, All-take, All-drop, All-head, All-tail, All-cons}
-use Rattle.kd_tables.specs.declared.model.Model.{Model}
-use Rattle.kd_tables.specs.declared.model.Model.TheVariants.{EnigmaI, M3, M4, M209}
-use Rattle.kd_tables.specs.declared.reflector.Reflector.{Reflector}
-use Rattle.kd_tables.specs.Tables.{slots_of, reflectors_of}
 use Rattle.kd_state.specs.Words.{line_of}
 use Rattle.kd_state.specs.Machine.{AreLetters}
-use Rattle.kd_state.specs.SheetDay.{Day, RotorDay, PinDay, OfRotors, OfPins, IsLegalDay, rotor_day}
+use Rattle.kd_state.specs.SheetDay.{Day, OfRotors, OfPins}
 use Rattle.kd_form.specs.declared.keys.Keys.{Keys}
 use Rattle.kd_form.specs.declared.keys.Keys.TheVariants.{Rotor, Pin}
 use Rattle.kd_form.specs.declared.keys.RotorKeys.{RotorKeys}
 use Rattle.kd_form.specs.declared.keys.PinKeys.{PinKeys}
 use Rattle.kd_form.specs.Keys.{letters_text, key_words, AreKeys, AreRotorKeys, ArePinKeys}
 use Rattle.kd_form.specs.Filling.{filled_in, blanks, IsEnded, IsFormLine, BeginsWithForm, LineBreaksOff}
-use Rattle.kd_form.specs.Order.{IsKeyLine}
-use Rattle.kd_form.specs.KeyForms.{places_for, rotor_form, pin_form, key_form, key_letters, BeginsWithKeys, IsAnyKeyLine, HasSlots, HasPins}
+use Rattle.kd_form.specs.KeyForms.{places_for, rotor_form, pin_form, key_form, key_letters, BeginsWithKeys, IsAnyKeyLine}
 use Rattle.kd_form.proofs.Filled.{filled-append, blanks-append}
 
 -- ---- words of letters

@@ -1,8 +1,8 @@
 -- An order is read in one way, and becomes one form.
-use Rattle.std.proofs.Common.{◌≡◌, ◌≢◌, ℕ, zero, suc, ◌+◌, ◌-◌, ◌<◌, ◌≤◌, ◌⊎◌, inl, inr, List, [], ◌∷◌, ◌++◌, length, map, get_or, take, drop, refl, sym, ap, subst, ◌∙◌, append_assoc, length-append, arith}
+use Rattle.std.proofs.Common.{◌≡◌, ◌≢◌, ℕ, ◌+◌, ◌<◌, inl, inr, List, [], ◌∷◌, ◌++◌, length, map, get_or, refl, sym, ap, subst, ◌∙◌, append_assoc, length-append, arith}
 use Rattle.std.specs.Prelude.{codes, All, slice_index, None}
 use Rattle.std.proofs.Math.Seq.{get_or-append_seam}
-use Rattle.std.proofs.lemmas.List.{append-nil, append_cancel_left, append_cancel_right}
+use Rattle.std.proofs.lemmas.List.{append_cancel_left, append_cancel_right}
 use Rattle.std.proofs.lemmas.List.Elements.{All-append, All-cons, All-nil, All-head, All-tail, All-map, All-get_or}
 use Rattle.kd_state.specs.Words.{line_of, IsWithout, TextsTellFirstParts}
 use Rattle.kd_state.specs.SheetDay.{Day, OfRotors, OfPins}
@@ -15,10 +15,10 @@ use Rattle.kd_form.specs.Keys.{letters_text, key_words, AreKeys}
 use Rattle.kd_form.specs.Filling.{IsEnded}
 use Rattle.kd_form.specs.Making.{IsMadeText, part_of, pin_letters, enciphered_choice}
 use Rattle.kd_form.specs.Part.{part_text, pieces}
-use Rattle.kd_form.specs.Order.{IsKeyLine, AreKeyLines, IsHead, IsOrder}
-use Rattle.kd_form.specs.Sending.{AreMadeTexts, CanBeSent, IsFormOf, text_letters}
+use Rattle.kd_form.specs.Order.{AreKeyLines, IsOrder}
+use Rattle.kd_form.specs.Sending.{AreMadeTexts, text_letters}
 use Rattle.kd_form.specs.Making.{part_size}
-use Rattle.kd_form.specs.Laws.{OrdersBecomeOneForm, SentOrdersHaveNoFault}
+use Rattle.kd_form.specs.Laws.{OrdersBecomeOneForm}
 use Rattle.kd_form.proofs.Heads.{IsUpToBreak, up_to_break, key_line_unbroken, key_first}
 
 -- ---- the internal key

@@ -1,17 +1,15 @@
 -- The letters of a part's body, taken apart.
-use Rattle.std.proofs.Common.{◌≡◌, ◌≢◌, ℕ, ◌+◌, ◌-◌, ◌<◌, ◌≤◌, ◌⊎◌, inl, inr, Bool, true, false, List, [], ◌∷◌, ◌++◌, length, get_or, take, drop, refl, sym, ap, subst, ◌∙◌, append_assoc, length-append, length-drop, arith}
+use Rattle.std.proofs.Common.{◌≡◌, ◌≢◌, ℕ, ◌-◌, ◌<◌, ◌≤◌, inl, inr, true, false, List, [], ◌∷◌, ◌++◌, length, get_or, take, drop, refl, sym, ap, ◌∙◌, length-drop, arith}
 use Rattle.std.specs.Prelude.{All, slice_index, not, ◌==◌}
-use Rattle.std.proofs.lemmas.List.{append-nil, length-take-le, length-map, take-append-drop, get_or_default}
+use Rattle.std.proofs.lemmas.List.{length-take-le, length-map, take-append-drop, get_or_default}
 use Rattle.std.proofs.lemmas.Bool.{false≢true}
 use Rattle.std.proofs.lemmas.Bool.Decides.{nat_tests}
-use Rattle.kd_state.specs.Machine.{AreLetters}
 use Rattle.kd_state.specs.SheetDay.{Day, OfRotors, OfPins, pin_day}
 use Rattle.kd_state.specs.TwoCiphers.{sheet_key, IsWindow}
 use Rattle.kd_form.specs.declared.heading.Indicator.{Indicator}
 use Rattle.kd_form.specs.declared.keys.PinKeys.{PinKeys}
-use Rattle.kd_form.specs.declared.fault.FormFault.{FormFault}
 use Rattle.kd_form.specs.declared.fault.FormFault.TheVariants.{IndicatorsDiffer}
-use Rattle.kd_form.specs.Making.{cipher_from, list_letters}
+use Rattle.kd_form.specs.Making.{list_letters}
 use Rattle.kd_form.specs.Reading.{HasIndicator, message_key, indicators_with, ArePinLetters, IsPinFault, InIndicators}
 use Rattle.kd_form.proofs.Ciphers.{length-cipher_from}
 use Rattle.std.specs.Prelude.{Option, Some}

@@ -1,13 +1,12 @@
 -- The first of all rising places is found by striking out: letter by letter, and wheel by wheel.
-use Rattle.std.proofs.Common.{◌≡◌, ◌≢◌, ℕ, zero, suc, ◌+◌, ◌-◌, ◌<◌, ◌≤◌, ◌⊎◌, inl, inr, List, [], ◌∷◌, ◌++◌, length, map, get_or, take, drop, refl, sym, ap, subst, ◌∙◌, append_assoc, length-append, length-drop, add-one, arith}
-use Rattle.std.specs.Prelude.{slice_index, slice_get, Option, Some, None, Contains, All}
+use Rattle.std.proofs.Common.{◌≡◌, ℕ, zero, suc, ◌+◌, ◌-◌, ◌<◌, ◌≤◌, inl, inr, List, [], ◌∷◌, ◌++◌, length, map, get_or, take, drop, refl, sym, ap, subst, ◌∙◌, append_assoc, length-append, length-drop, arith}
+use Rattle.std.specs.Prelude.{slice_index, slice_get, Some, Contains}
 use Rattle.std.proofs.Math.Seq.{get_or-append_seam, drop-append-add, drop-drop}
 use Rattle.std.proofs.Math.ListN.{get_or-append}
 use Rattle.std.proofs.lemmas.Bool.{cases_order}
 use Rattle.std.proofs.lemmas.List.{append-nil, get_or-drop, map-append, length-map, take_all}
 use Rattle.std.proofs.lemmas.List.Elements.{All-get_or, All-nil, All-push}
 use Rattle.kd_tables.specs.Rings.{ring_of}
-use Rattle.kd_state.specs.Machine.{AreOnWheels}
 use Rattle.kd_state.specs.Box.{numbered}
 use Rattle.kd_form.specs.InternalKey.{AreRising, ComesFirst, ArePicked, IsInternalKey, HaveRunOut}
 use Rattle.kd_form.specs.Striking.{NoneIsOnWheel, IsNextOnWheel}

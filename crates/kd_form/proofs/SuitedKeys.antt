@@ -1,20 +1,13 @@
 -- Keys that suit the day, and those that don't.
-use Rattle.std.proofs.Common.{◌≡◌, ◌≢◌, ℕ, suc, ◌+◌, ◌<◌, ◌≤◌, ◌⊎◌, inl, inr, Bool, true, false, List, [], ◌∷◌, ◌++◌, length, get_or, take, drop, refl, sym, ap, subst, ◌∙◌, arith}
+use Rattle.std.proofs.Common.{◌≡◌, ℕ, suc, ◌+◌, ◌<◌, ◌≤◌, List, ◌∷◌, ◌++◌, length, get_or, take, drop, refl, sym, ap, subst, ◌∙◌, arith}
 use Rattle.std.specs.Prelude.{All}
 use Rattle.std.proofs.Math.Seq.{drop-cons}
 use Rattle.std.proofs.lemmas.List.{take_all, length-take-le, take-append-drop}
 use Rattle.std.proofs.lemmas.List.Elements.{All-more, All-nil}
-use Rattle.kd_state.specs.SheetDay.{Day, OfRotors, OfPins}
-use Rattle.kd_state.specs.TwoCiphers.{sheet_key, IsWindow}
+use Rattle.kd_state.specs.SheetDay.{Day}
 use Rattle.kd_form.specs.declared.fault.FormFault.{FormFault}
-use Rattle.kd_form.specs.declared.fault.FormFault.TheVariants.{KeyNotOnWheel, WrongGroup, IndicatorSpent}
 use Rattle.kd_form.specs.declared.keys.Keys.{Keys}
-use Rattle.kd_form.specs.declared.keys.Keys.TheVariants.{Rotor, Pin}
-use Rattle.kd_form.specs.declared.keys.RotorKeys.{RotorKeys}
-use Rattle.kd_form.specs.declared.keys.PinKeys.{PinKeys}
-use Rattle.kd_form.specs.InternalKey.{IsInternalKey, HaveRunOut}
-use Rattle.kd_form.specs.Keys.{AreKeys}
-use Rattle.kd_form.specs.Making.{Suits, AreOfADaysGroup, enciphered_choice}
+use Rattle.kd_form.specs.Making.{Suits}
 use Rattle.kd_form.specs.Sending.{IsKeysFault, IsFirstKeysFault}
 
 -- ---- one part after another

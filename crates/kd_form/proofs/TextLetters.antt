@@ -1,12 +1,12 @@
 -- The letters of a text, byte by byte.
-use Rattle.std.proofs.Common.{◌≡◌, ◌≢◌, ℕ, zero, suc, ◌+◌, ◌-◌, ◌<◌, ◌≤◌, ◌⊎◌, inl, inr, Bool, true, false, List, [], ◌∷◌, ◌++◌, length, get_or, take, drop, refl, sym, ap, subst, ◌∙◌, append_assoc, length-append, length-drop, arith}
-use Rattle.std.specs.Prelude.{All, IsTrue, IsFalse, Option, Some, None, filter_map, if◌then◌else◌}
+use Rattle.std.proofs.Common.{◌≡◌, ℕ, suc, ◌+◌, ◌<◌, ◌≤◌, Bool, true, false, List, [], ◌∷◌, ◌++◌, length, get_or, take, drop, refl, sym, ap, ◌∙◌, append_assoc, length-append, arith}
+use Rattle.std.specs.Prelude.{All, IsTrue, Option, Some, None, if◌then◌else◌}
 use Rattle.std.specs.Option.{option_to_list, is_some}
 use Rattle.std.specs.List.{cons_option}
 use mir.Val.{bool_byte}
 use Rattle.std.proofs.Math.Seq.{drop-cons}
 use Rattle.std.proofs.lemmas.List.{append-nil, take_all, drop_all, length-take-le, take-append-drop, take_more, take-append-le, drop_at}
-use Rattle.std.proofs.lemmas.List.Elements.{All-more, All-nil, filter_map-append}
+use Rattle.std.proofs.lemmas.List.Elements.{All-more, filter_map-append}
 use Rattle.kd_form.specs.Sending.{is_text_byte, letter_of_byte, letters_from, IsBadAt}
 
 one_option : (found : Option ℕ) (rest : List ℕ) → cons_option found rest ≡ option_to_list found ++ rest

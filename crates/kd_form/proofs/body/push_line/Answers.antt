@@ -1,5 +1,4 @@
-use Rattle.std.proofs.Common.{rules, ◌∙◌, sym, arith}
-use Rattle.std.proofs.lemmas.Grind.{common_steps}
+use Rattle.std.proofs.Common.{arith}
 use Rattle.kd_form.proofs.Groups.{line_turn, line_end, some_left, nothing_left}
 use Rattle.kd_form.proofs.body.push_line.Goals as goal
 

@@ -1,5 +1,5 @@
-use Rattle.std.proofs.Common.{rules, ◌≡◌, ◌∙◌, sym, refl, get_or, arith}
-use Rattle.kd_form.proofs.Filled.{filling_none, filling_more, letter_room, broken_off, line_read, line_broken, nothing_past, read_inside, read_at, unfit_next, whole_tail}
+use Rattle.std.proofs.Common.{◌∙◌, sym, refl, arith}
+use Rattle.kd_form.proofs.Filled.{filling_more, letter_room, broken_off, line_read, line_broken, nothing_past, read_inside, read_at, unfit_next, whole_tail}
 use Rattle.kd_form.proofs.form_line.read_form.Goals as goal
 
 pub take_letter-requires : goal.take_letter-requires

@@ -1,4 +1,3 @@
-use Rattle.std.proofs.Common.{◌≡◌, ◌∙◌, sym}
 use Rattle.kd_form.proofs.Groups.{heading_line}
 use Rattle.kd_form.proofs.heading.push_heading.Goals as goal
 

@@ -1,4 +1,3 @@
-use Rattle.std.proofs.Common.{sym, ◌∙◌}
 use Rattle.kd_form.proofs.Fractions.{fraction_parts}
 use Rattle.kd_form.proofs.heading_line.read_fraction.Goals as goal
 

@@ -1,4 +1,4 @@
-use Rattle.std.proofs.Common.{rules, sym, subst, ◌∙◌, ◌≡◌, ◌+◌, [], ◌∷◌, ◌++◌, arith}
+use Rattle.std.proofs.Common.{rules, sym, subst, ◌≡◌, arith}
 use Rattle.kd_form.proofs.Picking.{IsPicking, picking_none, picking_on, key_picked, run_out, picked_count}
 use Rattle.kd_form.proofs.internal_key.internal_key.Goals as goal
 

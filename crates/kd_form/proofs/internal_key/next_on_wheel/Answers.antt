@@ -1,4 +1,4 @@
-use Rattle.std.proofs.Common.{rules, ◌≡◌, [], sym, ◌∙◌, arith}
+use Rattle.std.proofs.Common.{sym, ◌∙◌}
 use Rattle.std.proofs.lemmas.Bool.{false≢true}
 use Rattle.kd_form.proofs.Picking.{struck_none, struck_more, struck_all, struck_next, first_and_others, nothing_there}
 use Rattle.kd_form.proofs.internal_key.next_on_wheel.Goals as goal

@@ -1,4 +1,4 @@
-use Rattle.std.proofs.Common.{rules, ◌≡◌, ◌∙◌, subst, arith}
+use Rattle.std.proofs.Common.{◌∙◌, subst}
 use Rattle.kd_form.specs.Filling.{LineBreaksOff, IsFormLine, BeginsWithForm}
 use Rattle.kd_form.specs.KeyForms.{IsAnyKeyLine, key_form}
 use Rattle.kd_form.proofs.KeyLines.{keys_read, breaks_alike, as_key_line, as_form_line}

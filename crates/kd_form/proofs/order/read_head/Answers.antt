@@ -1,6 +1,6 @@
-use Rattle.std.proofs.Common.{rules, ◌≡◌, ◌<◌, refl, sym, ◌∙◌, length, arith}
+use Rattle.std.proofs.Common.{rules, refl, sym, ◌∙◌}
 use Rattle.std.proofs.lemmas.Bool.{false≢true, eqb-true}
-use Rattle.kd_form.proofs.Heads.{reading_none, reading_on, room_left, order_read, key_fault, text_fault}
+use Rattle.kd_form.proofs.Heads.{reading_on, room_left, order_read, key_fault, text_fault}
 use Rattle.kd_form.proofs.order.read_head.Goals as goal
 use Rattle.kd_form.proofs.order.read_head.Goals.{then-loop-keys-test+else-not-is_full, else-loop-keys-test}
 

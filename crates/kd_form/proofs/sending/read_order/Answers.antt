@@ -1,4 +1,4 @@
-use Rattle.std.proofs.Common.{refl, arith}
+use Rattle.std.proofs.Common.{refl}
 use Rattle.kd_form.specs.Sending.{InHead}
 use Rattle.kd_form.proofs.Sent.{keys_refused, byte_refused, nothing_to_send, other_parts}
 use Rattle.kd_form.proofs.sending.read_order.Goals as goal

@@ -1,6 +1,5 @@
 use Rattle.std.proofs.Common.{sym, ap, ◌∙◌, ◌++◌, take, drop, length}
-use Rattle.kd_form.specs.Making.{part_size}
-use Rattle.kd_form.specs.Sending.{letters_from, text_letters, blank_of}
+use Rattle.kd_form.specs.Sending.{letters_from, text_letters}
 use Rattle.kd_form.proofs.Sent.{writing_more, writing_done}
 use Rattle.kd_form.proofs.sending.write_parts.Goals as goal
 

@@ -1,4 +1,3 @@
-use Rattle.std.proofs.Common.{length}
 use Rattle.kd_form.proofs.Sent.{IsWriting}
 use Rattle.kd_form.proofs.sending.write_parts.Given as goal
 
