@@ -14,3 +14,5 @@ pub mod OneOrder
 pub mod OneFault
 pub mod FormCuts
 pub mod Fractions
+pub mod Numerals
+pub mod Spelled

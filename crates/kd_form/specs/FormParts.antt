@@ -1,5 +1,5 @@
 -- The parts of a form: a heading line, and all lines up to the next. Places are counted from 0.
-use Rattle.std.specs.Prelude.{codes, ◌≡◌, ◌≢◌, ◌⊎◌, ℕ, ◌+◌, ◌-◌, ◌%◌, ◌<◌, ◌≤◌, List, [], ◌∷◌, ◌++◌, length, drop, slice_index, Option, MatchOption}
+use Rattle.std.specs.Prelude.{codes, ◌≡◌, ◌≢◌, ◌⊎◌, ℕ, ◌+◌, ◌-◌, ◌%◌, ◌<◌, ◌≤◌, List, [], ◌∷◌, ◌++◌, length, drop, slice_index, All, Option, MatchOption}
 use Rattle.kd_state.specs.SheetDay.{Day, OfRotors, OfPins}
 use Rattle.kd_form.specs.declared.heading.Heading.{Heading}
 use Rattle.kd_form.specs.Part.{heading_words}
@@ -39,3 +39,8 @@ pub record IsHeading (s : Day) (h : Heading) : Type 0 where
 abbrev pub AreHeadingWords : Day → List (List ℕ) → Option Heading → Type 0
 AreHeadingWords s words found =
     MatchOption found ((h : Heading) → IsHeading s h → heading_words h ≢ words) (λ h. IsHeading s h × (heading_words h ≡ words))
+
+-- at most four letters
+pub record AreFewLetters (letters : List ℕ) : Type 0 where
+  pub few : length letters ≤ 4
+  pub within : All (λ letter. letter < 26) letters

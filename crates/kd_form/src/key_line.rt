@@ -35,7 +35,7 @@ fn key_form(day: &SheetDay) -> &'static [u8]
 }
 
 /// How many slots the day's machine has; none on the Converter M-209.
-fn slots_of(day: &SheetDay) -> Option<usize>
+pub(crate) fn slots_of(day: &SheetDay) -> Option<usize>
     ensures { MatchOption result
         (HasPins day.now)
         (HasSlots day.now) }
