@@ -1,0 +1,277 @@
+-- An order up to its text, line by line.
+use Rattle.std.proofs.Common.{◌≡◌, ◌≢◌, ℕ, suc, ◌+◌, ◌-◌, ◌<◌, ◌≤◌, inl, inr, List, [], ◌∷◌, ◌++◌, length, get_or, refl, sym, ap, subst, ◌∙◌, append_assoc, length-append, arith, Bool, false}
+use Rattle.std.specs.Prelude.{codes, All, ◌==◌}
+use Rattle.std.proofs.lemmas.Bool.Decides.{nat_tests}
+use Rattle.std.proofs.lemmas.List.{append-nil}
+use Rattle.std.proofs.lemmas.List.Elements.{All-append, All-cons, All-nil, All-push, All-head, All-tail, All-map}
+use Rattle.kd_state.specs.Words.{line_of, IsWithout, TextsTellFirstParts}
+use Rattle.kd_state.specs.SheetDay.{Day}
+use Rattle.kd_form.specs.declared.keys.Keys.{Keys}
+use Rattle.kd_form.specs.declared.keys.Keys.TheVariants.{Rotor, Pin}
+use Rattle.kd_form.specs.Keys.{letters_text, key_words, AreKeys}
+use Rattle.kd_form.specs.Filling.{IsEnded, IsFormLine, BeginsWithForm, LineBreaksOff}
+use Rattle.kd_form.specs.Order.{IsKeyLine, AreKeyLines, IsHead, IsOrder, IsHeadFault}
+use Rattle.kd_form.specs.KeyForms.{BeginsWithKeys, IsAnyKeyLine}
+
+-- ---- one line
+
+letters_unbroken : (letters : List ℕ) → IsWithout 10 (letters_text letters)
+letters_unbroken letters = All-map (λ byte. byte ≢ 10) (λ letter. letter + 65) letters (λ k d inside e. omega arith)
+
+behind_space : (text : List ℕ) → IsWithout 10 text → IsWithout 10 (32 ∷ text)
+behind_space text without = All-cons (λ byte. byte ≢ 10) 32 text (λ e. omega arith) without
+
+part_unbroken : IsWithout 10 (codes "PART")
+part_unbroken =
+    All-cons (λ byte. byte ≢ 10) 80 (65 ∷ 82 ∷ 84 ∷ []) (λ e. omega arith) (All-cons (λ byte. byte ≢ 10) 65 (82 ∷ 84 ∷ []) (λ e. omega arith)
+    (All-cons (λ byte. byte ≢ 10) 82 (84 ∷ []) (λ e. omega arith) (All-cons (λ byte. byte ≢ 10) 84 [] (λ e. omega arith) (All-nil (λ byte. byte ≢ 10)))))
+
+words_joined : (word text : List ℕ) → IsWithout 10 word → IsWithout 10 text → IsWithout 10 (word ++ 32 ∷ text)
+words_joined word text one other = All-append (λ byte. byte ≢ 10) word (32 ∷ text) one (behind_space text other)
+
+pub key_line_unbroken : (k : Keys) → IsWithout 10 (line_of (key_words k))
+key_line_unbroken (Rotor k) =
+    let fillers : IsWithout 10 (letters_text k.fillers ++ 32 ∷ letters_text k.group) =
+    words_joined (letters_text k.fillers) (letters_text k.group) (letters_unbroken k.fillers) (letters_unbroken k.group) in
+    let key : IsWithout 10 (letters_text k.key ++ 32 ∷ (letters_text k.fillers ++ 32 ∷ letters_text k.group)) =
+    words_joined (letters_text k.key) (letters_text k.fillers ++ 32 ∷ letters_text k.group) (letters_unbroken k.key) fillers in
+    let start : IsWithout 10 (letters_text k.start ++ 32 ∷ (letters_text k.key ++ 32 ∷ (letters_text k.fillers ++ 32 ∷ letters_text k.group))) =
+    words_joined (letters_text k.start) (letters_text k.key ++ 32 ∷ (letters_text k.fillers ++ 32 ∷ letters_text k.group)) (letters_unbroken k.start) key in
+    words_joined (codes "PART") (letters_text k.start ++ 32 ∷ (letters_text k.key ++ 32 ∷ (letters_text k.fillers ++ 32 ∷ letters_text k.group))) part_unbroken start
+key_line_unbroken (Pin k) =
+    let external : IsWithout 10 (letters_text (k.chosen ∷ []) ++ 32 ∷ letters_text k.external) =
+    words_joined (letters_text (k.chosen ∷ [])) (letters_text k.external) (letters_unbroken (k.chosen ∷ [])) (letters_unbroken k.external) in
+    words_joined (codes "PART") (letters_text (k.chosen ∷ []) ++ 32 ∷ letters_text k.external) part_unbroken external
+
+-- what stands before the LF of a line
+pub record IsUpToBreak (line : List ℕ) : Type 0 where
+  pub text : List ℕ
+  pub unbroken : IsWithout 10 text
+  pub is : line ≡ text ++ 10 ∷ []
+
+pub up_to_break : (text line : List ℕ) → IsWithout 10 text → IsEnded text line → IsUpToBreak line
+up_to_break text line unbroken ended = elim ended [
+  | inl short ↦ record { text = text; unbroken = unbroken; is = short }
+  | inr long ↦ record {
+    text = text ++ 13 ∷ [];
+    unbroken = All-push (λ byte. byte ≢ 10) text 13 unbroken (λ e. omega arith);
+    is = long ∙ sym (append_assoc text (13 ∷ []) (10 ∷ []));
+  }
+]
+
+-- two lines at the front of the same bytes are one
+pub same_line : (line other rest more : List ℕ) → TextsTellFirstParts → IsUpToBreak line → IsUpToBreak other → line ++ rest ≡ other ++ more → rest ≡ more
+same_line line other rest more tell a b same =
+    let one : line ++ rest ≡ a.text ++ 10 ∷ rest = ap (λ l. l ++ rest) a.is ∙ append_assoc a.text (10 ∷ []) rest in
+    let two : other ++ more ≡ b.text ++ 10 ∷ more = ap (λ l. l ++ more) b.is ∙ append_assoc b.text (10 ∷ []) more in
+    (tell 10 a.text b.text rest more a.unbroken b.unbroken (sym one ∙ same ∙ two)).1
+
+pub key_first : (k : Keys) (line more : List ℕ) → IsKeyLine k line → get_or (line ++ more) 0 0 ≡ 80
+key_first (Rotor k) line more ended = elim ended [ inl short ↦ ap (λ l. get_or (l ++ more) 0 0) short | inr long ↦ ap (λ l. get_or (l ++ more) 0 0) long ]
+key_first (Pin k) line more ended = elim ended [ inl short ↦ ap (λ l. get_or (l ++ more) 0 0) short | inr long ↦ ap (λ l. get_or (l ++ more) 0 0) long ]
+
+pub text_first : (last : List ℕ) → IsEnded (codes "TEXT") last → get_or last 0 0 ≡ 84
+text_first last ended = elim ended [ inl short ↦ ap (λ l. get_or l 0 0) short | inr long ↦ ap (λ l. get_or l 0 0) long ]
+
+-- ---- heads that begin with a line
+
+no_lines : (lines last bytes : List ℕ) → lines ≡ [] → bytes ≡ lines ++ last → bytes ≡ last
+no_lines lines last bytes none joined = joined ∙ ap (λ l. l ++ last) none
+
+-- the first byte of a head tells whether a line of keys comes first
+head_first : (s : Day) (k : Keys) (others : List Keys) (bytes : List ℕ) → IsHead s (k ∷ others) bytes → get_or bytes 0 0 ≡ 80
+head_first s k others bytes head =
+    let first = head.keyed in
+    ap (λ b. get_or b 0 0) (head.joined ∙ ap (λ l. l ++ head.last) first.4 ∙ append_assoc first.0 first.1 head.last) ∙ key_first k first.0 (first.1 ++ head.last) first.2
+
+text_only : (s : Day) (bytes : List ℕ) → IsHead s [] bytes → IsEnded (codes "TEXT") bytes
+text_only s bytes head = subst (IsEnded (codes "TEXT")) (sym (no_lines head.lines head.last bytes head.keyed head.joined)) head.ended
+
+pub without_line : (s : Day) (k : Keys) (line more : List ℕ) (others : List Keys) → TextsTellFirstParts → IsKeyLine k line → IsHead s others (line ++ more)
+    → (after : List Keys) × IsHead s after more × (length others ≡ suc (length after))
+without_line s k line more [] tell ended head =
+    absurd (let clash : 80 ≡ 84 = sym (key_first k line more ended) ∙ text_first (line ++ more) (text_only s (line ++ more) head) in omega arith)
+without_line s k line more (other ∷ others) tell ended head =
+    let first = head.keyed in
+    let same : line ++ more ≡ first.0 ++ (first.1 ++ head.last) = head.joined ∙ ap (λ l. l ++ head.last) first.4 ∙ append_assoc first.0 first.1 head.last in (
+      others,
+      record {
+        lines = first.1;
+        last = head.last;
+        joined = same_line line first.0 more (first.1 ++ head.last) tell (up_to_break _ line (key_line_unbroken k) ended)
+            (up_to_break _ first.0 (key_line_unbroken other) first.2) same;
+        keyed = first.3;
+        ended = head.ended;
+        of_the_day = All-tail (AreKeys s) other others head.of_the_day;
+        few = omega (arith, head.few);
+      },
+      refl,
+    )
+
+-- ---- line after line
+
+pub record IsReadingHead (s : Day) (order rest : List ℕ) (keys : List Keys) : Type 0 where
+  pub lines : List ℕ
+  pub joined : order ≡ lines ++ rest
+  pub keyed : AreKeyLines keys lines
+  pub of_the_day : All (AreKeys s) keys
+  pub few : length keys ≤ 99
+  pub only : (others : List Keys) (more : List ℕ) → IsHead s others (lines ++ more)
+      → (after : List Keys) × IsHead s after more × (length others ≡ length keys + length after)
+
+pub reading_none : (s : Day) (order : List ℕ) → IsReadingHead s order order []
+reading_none s order = record {
+  lines = [];
+  joined = refl;
+  keyed = refl;
+  of_the_day = All-nil (AreKeys s);
+  few = omega arith;
+  only = λ others more head. (others, head, omega arith);
+}
+
+lines_more : (keys : List Keys) (k : Keys) (lines line : List ℕ) → AreKeyLines keys lines → IsKeyLine k line → AreKeyLines (keys ++ k ∷ []) (lines ++ line)
+lines_more [] k lines line keyed ended =
+    (line, [], ended, refl, ap (λ l. l ++ line) keyed ∙ sym (append-nil line))
+lines_more (first ∷ keys) k lines line (one, others, is, more, joined) ended =
+    (one, others ++ line, is, lines_more keys k others line more ended, ap (λ l. l ++ line) joined ∙ append_assoc one others line)
+
+pub reading_more : (s : Day) (order rest after : List ℕ) (keys : List Keys) (k : Keys) → TextsTellFirstParts → length keys < 99
+    → IsReadingHead s order rest keys → BeginsWithKeys s rest k after → IsReadingHead s order after (keys ++ k ∷ [])
+reading_more s order rest after keys k tell room reading begins = record {
+  lines = reading.lines ++ begins.line;
+  joined = reading.joined ∙ ap (λ t. reading.lines ++ t) begins.joined ∙ sym (append_assoc reading.lines begins.line after);
+  keyed = lines_more keys k reading.lines begins.line reading.keyed begins.keyed;
+  of_the_day = All-push (AreKeys s) keys k reading.of_the_day begins.of_the_day;
+  few = omega (arith, length-append keys (k ∷ []));
+  only = λ others more head.
+      let behind = reading.only others (begins.line ++ more) (subst (IsHead s others) (append_assoc reading.lines begins.line more) head) in
+      let later = without_line s k begins.line more behind.0 tell begins.keyed behind.1 in
+      (later.0, later.1, behind.2 ∙ ap (λ n. length keys + n) later.2 ∙ omega (arith, length-append keys (k ∷ [])));
+}
+
+pub order_read : (s : Day) (order rest text letters : List ℕ) (keys : List Keys) → IsReadingHead s order rest keys → BeginsWithForm (codes "TEXT") rest letters text
+    → (head : List ℕ) × IsOrder s order keys head text
+order_read s order rest text letters keys reading begins = (
+  reading.lines ++ begins.line,
+  record {
+    joined = reading.joined ∙ ap (λ t. reading.lines ++ t) begins.joined ∙ sym (append_assoc reading.lines begins.line text);
+    is_head = record {
+      lines = reading.lines;
+      last = begins.line;
+      joined = refl;
+      keyed = reading.keyed;
+      ended = begins.ended;
+      of_the_day = reading.of_the_day;
+      few = reading.few;
+    };
+  },
+)
+
+-- ---- where no order goes on
+
+some_more : (text more : List ℕ) → text ≢ [] → text ++ more ≢ []
+some_more [] more some none = some refl
+some_more (x ∷ text) more some none = absurd (let gone : length (x ∷ (text ++ more)) ≡ 0 = ap length none in omega arith)
+
+front_byte : (before after other : List ℕ) (byte : ℕ) → get_or (before ++ byte ∷ after) 0 0 ≡ get_or (before ++ byte ∷ other) 0 0
+front_byte [] after other byte = refl
+front_byte (x ∷ before) after other byte = refl
+
+place_in_order : (order lines rest before more : List ℕ) (place position : ℕ) → order ≡ lines ++ rest → rest ≡ before ++ more → place ≡ length before
+    → position ≡ length order - length rest + place + 1 → position ≡ length (lines ++ before) + 1
+place_in_order order lines rest before more place position joined cut size is =
+    let all : length order ≡ length lines + length rest = ap length joined ∙ length-append lines rest in
+    omega (arith, length-append lines before)
+
+four : (lines before more last : List ℕ) → (lines ++ before) ++ (more ++ last) ≡ (lines ++ (before ++ more)) ++ last
+four lines before more last = simp append_assoc
+
+no_key_line : (s : Day) (others : List Keys) (rest after other : List ℕ) (byte place : ℕ) (off : LineBreaksOff (IsAnyKeyLine s) rest place)
+    → off.rest ≡ byte ∷ after → get_or (off.before ++ byte ∷ other) 0 0 ≡ 80 → ¬ (IsHead s others (off.before ++ byte ∷ other))
+no_key_line s [] rest after other byte place off next front head =
+    absurd (let clash : 80 ≡ 84 = sym front ∙ text_first _ (text_only s _ head) in omega arith)
+no_key_line s (k ∷ others) rest after other byte place off next front head =
+    let first = head.keyed in
+    off.stops byte after first.0 (first.1 ++ head.last) other next
+    (record { keys = k; of_the_day = All-head (AreKeys s) k others head.of_the_day; keyed = first.2 })
+    (sym (append_assoc first.0 first.1 head.last) ∙ ap (λ l. l ++ head.last) (sym first.4) ∙ sym head.joined)
+
+text_line : (last : List ℕ) → IsEnded (codes "TEXT") last → IsFormLine (codes "TEXT") last
+text_line last ended = record { letters = []; are_letters = record { count = refl; within = All-nil (λ l. l < 26) }; ended = ended }
+
+no_text_line : (s : Day) (others keys : List Keys) (rest after other : List ℕ) (byte place : ℕ) (off : LineBreaksOff (IsFormLine (codes "TEXT")) rest place)
+    → off.rest ≡ byte ∷ after → get_or (off.before ++ byte ∷ other) 0 0 ≡ get_or rest 0 0 → (get_or rest 0 0 ≡ 80 → length keys ≡ 99)
+    → length keys + length others ≤ 99 → ¬ (IsHead s others (off.before ++ byte ∷ other))
+no_text_line s [] keys rest after other byte place off next front full few head =
+    off.stops byte after (off.before ++ byte ∷ other) [] other next (text_line _ (text_only s _ head)) (append-nil (off.before ++ byte ∷ other))
+no_text_line s (k ∷ others) keys rest after other byte place off next front full few head =
+    let all : length keys ≡ 99 = full (sym front ∙ head_first s k others _ head) in
+    omega arith
+
+keys_begin : (s : Day) (k : Keys) (keys : List Keys) (lines before more : List ℕ) → length keys < 99 → AreKeyLines keys lines → All (AreKeys s) keys
+    → AreKeys s k → IsKeyLine k (before ++ more) → IsHead s (keys ++ k ∷ []) ((lines ++ before) ++ (more ++ codes "TEXT\n"))
+keys_begin s k keys lines before more room keyed all are ended = record {
+  lines = lines ++ (before ++ more);
+  last = codes "TEXT\n";
+  joined = four lines before more (codes "TEXT\n");
+  keyed = lines_more keys k lines (before ++ more) keyed ended;
+  ended = inl refl;
+  of_the_day = All-push (AreKeys s) keys k all are;
+  few = omega (arith, length-append keys (k ∷ []));
+}
+
+pub key_fault : (s : Day) (order rest : List ℕ) (keys : List Keys) (place position : ℕ) → IsReadingHead s order rest keys → length keys < 99
+    → get_or rest 0 0 ≡ 80 → LineBreaksOff (IsAnyKeyLine s) rest place → position ≡ length order - length rest + place + 1 → IsHeadFault s order position
+key_fault s order rest keys place position reading room first off is = record {
+  before = reading.lines ++ off.before;
+  rest = off.rest;
+  joined = reading.joined ∙ ap (λ t. reading.lines ++ t) off.joined ∙ sym (append_assoc reading.lines off.before off.rest);
+  size = place_in_order order reading.lines rest off.before off.rest place position reading.joined off.joined off.size is;
+  keys = keys ++ off.begins.keys ∷ [];
+  more = off.more ++ codes "TEXT\n";
+  missing = some_more off.more (codes "TEXT\n") off.missing;
+  begins = keys_begin s off.begins.keys keys reading.lines off.before off.more room reading.keyed reading.of_the_day off.begins.of_the_day off.begins.keyed;
+  stops = λ byte after others other next head.
+      let behind = reading.only others (off.before ++ byte ∷ other) (subst (IsHead s others) (append_assoc reading.lines off.before (byte ∷ other)) head) in
+      let front : get_or (off.before ++ byte ∷ other) 0 0 ≡ 80 =
+      front_byte off.before other after byte ∙ ap (λ t. get_or (off.before ++ t) 0 0) (sym next) ∙ ap (λ t. get_or t 0 0) (sym off.joined) ∙ first in
+      no_key_line s behind.0 rest after other byte place off next front behind.1;
+}
+
+pub text_fault : (s : Day) (order rest : List ℕ) (keys : List Keys) (place position : ℕ) → IsReadingHead s order rest keys
+    → (get_or rest 0 0 ≡ 80 → length keys ≡ 99) → LineBreaksOff (IsFormLine (codes "TEXT")) rest place → position ≡ length order - length rest + place + 1
+    → IsHeadFault s order position
+text_fault s order rest keys place position reading full off is = record {
+  before = reading.lines ++ off.before;
+  rest = off.rest;
+  joined = reading.joined ∙ ap (λ t. reading.lines ++ t) off.joined ∙ sym (append_assoc reading.lines off.before off.rest);
+  size = place_in_order order reading.lines rest off.before off.rest place position reading.joined off.joined off.size is;
+  keys = keys;
+  more = off.more;
+  missing = off.missing;
+  begins = record {
+    lines = reading.lines;
+    last = off.before ++ off.more;
+    joined = append_assoc reading.lines off.before off.more;
+    keyed = reading.keyed;
+    ended = off.begins.ended;
+    of_the_day = reading.of_the_day;
+    few = reading.few;
+  };
+  stops = λ byte after others other next head.
+      let behind = reading.only others (off.before ++ byte ∷ other) (subst (IsHead s others) (append_assoc reading.lines off.before (byte ∷ other)) head) in
+      let front : get_or (off.before ++ byte ∷ other) 0 0 ≡ get_or rest 0 0 =
+      front_byte off.before other after byte ∙ ap (λ t. get_or (off.before ++ t) 0 0) (sym next) ∙ ap (λ t. get_or t 0 0) (sym off.joined) in
+      no_text_line s behind.0 keys rest after other byte place off next front full (omega (arith, behind.2, head.few)) behind.1;
+}
+
+-- ---- as the loop finds it
+
+pub room_left : (full : Bool) (n : ℕ) → full ≡ (n == 99) → full ≡ false → n ≤ 99 → n < 99
+room_left full n told left few = grind (arith, nat_tests)
+
+pub reading_on : (s : Day) (order rest after other : List ℕ) (keys more : List Keys) (k : Keys) → after ≡ other → more ≡ keys ++ k ∷ [] → TextsTellFirstParts
+    → length keys < 99 → IsReadingHead s order rest keys → BeginsWithKeys s rest k after → IsReadingHead s order other more
+reading_on s order rest after other keys more k same put tell room reading begins =
+    subst (λ xs. IsReadingHead s order xs more) same
+    (subst (IsReadingHead s order after) (sym put) (reading_more s order rest after keys k tell room reading begins))

@@ -1,0 +1,52 @@
+-- Two lists that are sorted, and hold the same elements as often, are one list.
+use Rattle.std.specs.Prelude.{◌≡◌, ℕ, ◌+◌, ◌<◌, Bool, true, false, if◌then◌else◌, List, [], ◌∷◌, length, count_by, slice_index_or, IsPermutation, IsSortedBy}
+use Rattle.std.specs.Cmp.{IsStrictWeakOrder}
+use Rattle.std.proofs.Common.{suc, refl, sym, ap, subst, arith}
+use Rattle.std.proofs.lemmas.List.Sums.{sum_by-cons}
+use Rattle.std.proofs.lemmas.List.Sorted.{sorted_far, sum_by-IsPermutation}
+
+-- 1 where it holds
+abbrev pub once : Bool → ℕ
+once holds = if holds then 1 else 0
+
+-- an element more
+pub count_by-cons : {X : Type 0} (p : X → Bool) (x : X) (xs : List X) → count_by p (x ∷ xs) ≡ once (p x) + count_by p xs
+count_by-cons p x xs = sum_by-cons (λ y. once (p y)) x xs
+
+-- elements that don't pass aren't counted
+none_counted : {X : Type 0} (p : X → Bool) (xs : List X) → ((k : ℕ) (d : X) → k < length xs → p (slice_index_or xs k d) ≡ false) → count_by p xs ≡ 0
+none_counted p [] none = refl
+none_counted p (x ∷ xs) none =
+    let first : once (p x) ≡ 0 = ap once (none 0 x (omega arith)) in
+    let rest : count_by p xs ≡ 0 = none_counted p xs (λ k d below. none (suc k) d (omega arith)) in
+    omega (arith, count_by-cons p x xs, first, rest)
+
+module _ {X : Type 0} (lt : X → X → Bool) (order : IsStrictWeakOrder lt) (same : (x y : X) → lt x y ≡ false → lt y x ≡ false → x ≡ y) where
+  tail_sorted : (x : X) (xs : List X) → IsSortedBy lt (x ∷ xs) → IsSortedBy lt xs
+  tail_sorted x xs sorted k d low high =
+      let next : suc k + 1 ≡ suc (k + 1) = omega arith in
+      subst (λ place. lt (slice_index_or (x ∷ xs) place d) (slice_index_or xs k d) ≡ false) next (sorted (suc k) d (omega arith) (omega arith))
+
+  -- the other list's first element doesn't come before a sorted list's first
+  not_before : (before : Bool) (x : X) (xs : List X) (y : X) (ys : List X) → lt x y ≡ before → IsSortedBy lt (y ∷ ys)
+      → ((p : X → Bool) → count_by p (x ∷ xs) ≡ count_by p (y ∷ ys)) → lt x y ≡ false
+  not_before false x xs y ys is sorted counts = is
+  not_before true x xs y ys is sorted counts =
+      let p : X → Bool = λ z. lt z y in
+      let none : count_by p (y ∷ ys) ≡ 0 = none_counted p (y ∷ ys) (λ k d below. sorted_far lt order (y ∷ ys) sorted 0 k d (omega arith) below) in
+      let here : once (lt x y) ≡ 1 = ap once is in
+      absurd (omega (arith, count_by-cons p x xs, counts p, none, here))
+
+  pub sorted_alike : (xs ys : List X) → IsSortedBy lt xs → IsSortedBy lt ys → ((p : X → Bool) → count_by p xs ≡ count_by p ys) → xs ≡ ys
+  sorted_alike [] [] up rising counts = refl
+  sorted_alike [] (y ∷ ys) up rising counts = absurd (omega (arith, counts (λ _. true), count_by-cons (λ (_ : X). true) y ys))
+  sorted_alike (x ∷ xs) [] up rising counts = absurd (omega (arith, counts (λ _. true), count_by-cons (λ (_ : X). true) x xs))
+  sorted_alike (x ∷ xs) (y ∷ ys) up rising counts =
+      let first : x ≡ y = same x y (not_before (lt x y) x xs y ys refl rising counts) (not_before (lt y x) y ys x xs refl up (λ p. sym (counts p))) in
+      let rest : xs ≡ ys = sorted_alike xs ys (tail_sorted x xs up) (tail_sorted y ys rising)
+      (λ p. omega (arith, counts p, count_by-cons p x xs, count_by-cons p y ys, ap (λ z. once (p z)) first)) in
+      cc
+
+  -- the same of a list and its elements in another order
+  pub sorted_permutation : (xs ys : List X) → IsSortedBy lt xs → IsSortedBy lt ys → IsPermutation xs ys → xs ≡ ys
+  sorted_permutation xs ys up rising moved = sorted_alike xs ys up rising (λ p. sym (sum_by-IsPermutation (λ y. once (p y)) xs ys moved))

@@ -1,0 +1,13 @@
+use Rattle.std.proofs.Common.{◌≡◌, ◌+◌, ◌*◌, ◌≤◌, ◌++◌, length}
+use Rattle.arrayvec.specs.ArrayString.{array_string_len}
+use Rattle.kd_form.specs.Part.{body_text}
+use Rattle.kd_form.proofs.body.push_body.Given as goal
+
+abbrev pub invariant-loop-rest : goal.invariant-loop-rest
+invariant-loop-rest g l = record {
+  bytes : l.text.bytes ++ body_text l.rest ≡ l.initial.text.bytes ++ body_text l.initial.rest;
+  len : array_string_len l.text + 2 * length l.rest ≤ array_string_len l.initial.text + 2 * length l.initial.rest;
+}
+
+abbrev pub decreases-loop-rest : goal.decreases-loop-rest
+decreases-loop-rest g l = length l.rest

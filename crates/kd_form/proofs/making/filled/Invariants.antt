@@ -1,0 +1,5 @@
+use Rattle.std.proofs.Common.{◌≡◌, ◌++◌, replicate}
+use Rattle.kd_form.proofs.making.filled.Given as goal
+
+abbrev pub invariant-loop : goal.invariant-loop
+invariant-loop l = l.letters.items ≡ l.text ++ replicate l.counter l.filler

@@ -1,0 +1,5 @@
+use Rattle.kd_form.proofs.SuitedKeys.{AreSuited}
+use Rattle.kd_form.proofs.suiting.check_keys.Given as goal
+
+abbrev pub invariant-loop-keys : goal.invariant-loop-keys
+invariant-loop-keys l = AreSuited l.day l.keys l.part l.keys-index

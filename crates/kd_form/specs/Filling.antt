@@ -1,0 +1,64 @@
+-- Forms of lines: `_` stands for a letter, and each other byte for itself.
+use Rattle.std.specs.Prelude.{◌≡◌, ◌≢◌, ◌⊎◌, ℕ, ◌+◌, ◌-◌, ◌==◌, ◌&&◌, nat_le, Bool, List, [], ◌∷◌, ◌++◌, length, drop, slice_index, if◌then◌else◌}
+use Rattle.kd_state.specs.Machine.{AreLetters}
+
+-- the form with these letters in the places of its `_`, each with the next one
+abbrev pub filled_in : List ℕ → List ℕ → List ℕ
+filled_in [] letters = []
+filled_in (mark ∷ form) letters =
+    if mark == 95 then (slice_index letters 0 + 65) ∷ filled_in form (drop 1 letters) else mark ∷ filled_in form letters
+
+-- how many letters it takes
+abbrev pub blanks : List ℕ → ℕ
+blanks [] = 0
+blanks (mark ∷ form) = if mark == 95 then blanks form + 1 else blanks form
+
+-- the line with its end: LF, or CR and LF
+abbrev pub IsEnded : List ℕ → List ℕ → Type 0
+IsEnded line bytes = (bytes ≡ line ++ 10 ∷ []) ⊎ (bytes ≡ line ++ 13 ∷ 10 ∷ [])
+
+-- the bytes are a line of that form, with its end
+pub record IsFormLine (form bytes : List ℕ) : Type 0 where
+  pub letters : List ℕ
+  pub are_letters : AreLetters (blanks form) letters
+  pub ended : IsEnded (filled_in form letters) bytes
+
+-- the bytes begin with the line of that form with these letters, and this follows
+pub record BeginsWithForm (form bytes letters rest : List ℕ) : Type 0 where
+  pub line : List ℕ
+  pub joined : bytes ≡ line ++ rest
+  pub are_letters : AreLetters (blanks form) letters
+  pub ended : IsEnded (filled_in form letters) line
+
+-- So many of the bytes begin such a line, and are not yet one; with the next byte, if there is one, no such line begins.
+pub record LineBreaksOff (IsLine : List ℕ → Type 0) (bytes : List ℕ) (place : ℕ) : Type 0 where
+  pub before : List ℕ
+  pub rest : List ℕ
+  pub joined : bytes ≡ before ++ rest
+  pub size : place ≡ length before
+  pub more : List ℕ
+  pub missing : more ≢ []
+  pub begins : IsLine (before ++ more)
+  pub stops : (byte : ℕ) (after line other others : List ℕ) → rest ≡ byte ∷ after → IsLine line → line ++ other ≢ before ++ byte ∷ others
+
+-- ---- one byte
+
+-- the byte may stand for the mark
+abbrev pub fits : ℕ → ℕ → Bool
+fits mark byte = if mark == 95 then nat_le 65 byte && nat_le byte 90 else byte == mark
+
+-- the letter that it then gives
+abbrev pub letters_at : ℕ → ℕ → List ℕ
+letters_at mark byte = if mark == 95 then (byte - 65) ∷ [] else []
+
+-- ---- the end of a line
+
+-- what follows a line, if its end is there
+abbrev pub EndsBefore : List ℕ → List ℕ → Type 0
+EndsBefore bytes rest = (bytes ≡ 10 ∷ rest) ⊎ (bytes ≡ 13 ∷ 10 ∷ rest)
+
+-- so many bytes begin an end of a line, and the next one doesn't go with them
+abbrev pub EndBreaksOff : List ℕ → ℕ → Type 0
+EndBreaksOff bytes place =
+    ((place ≡ 0) × ((rest : List ℕ) → (bytes ≢ 10 ∷ rest) × (bytes ≢ 13 ∷ rest)))
+    ⊎ ((place ≡ 1) × ((after : List ℕ) × (bytes ≡ 13 ∷ after) × ((rest : List ℕ) → after ≢ 10 ∷ rest)))

@@ -1,0 +1,52 @@
+-- The line of keys as a form with letters.
+use Rattle.std.specs.Prelude.{codes, ◌≡◌, ◌⊎◌, ℕ, List, [], ◌∷◌, ◌++◌, length, replicate}
+use Rattle.kd_state.specs.Words.{line_of}
+use Rattle.kd_state.specs.SheetDay.{Day, RotorDay, PinDay, OfRotors, OfPins}
+use Rattle.kd_form.specs.declared.keys.Keys.{Keys}
+use Rattle.kd_form.specs.declared.keys.Keys.TheVariants.{Rotor, Pin}
+use Rattle.kd_form.specs.Keys.{AreKeys}
+use Rattle.kd_form.specs.Order.{IsKeyLine}
+
+-- so many letters
+abbrev pub places_for : ℕ → List ℕ
+places_for number = replicate number 95
+
+-- the form of the line on a machine with so many slots, and on the Converter M-209
+abbrev pub rotor_form : ℕ → List ℕ
+rotor_form slots = line_of (codes "PART" ∷ places_for slots ∷ places_for slots ∷ places_for 2 ∷ places_for 3 ∷ [])
+
+abbrev pub pin_form : List ℕ
+pin_form = line_of (codes "PART" ∷ places_for 1 ∷ places_for 6 ∷ [])
+
+abbrev pub key_form : Day → List ℕ
+key_form (OfRotors s) = rotor_form (length s.wheels)
+key_form (OfPins s) = pin_form
+
+-- the letters of the keys, in order
+abbrev pub key_letters : Keys → List ℕ
+key_letters (Rotor k) = k.start ++ (k.key ++ (k.fillers ++ k.group))
+key_letters (Pin k) = k.chosen ∷ k.external
+
+-- the bytes begin with the line of keys that are the day's, and this follows
+pub record BeginsWithKeys (s : Day) (bytes : List ℕ) (keys : Keys) (rest : List ℕ) : Type 0 where
+  pub line : List ℕ
+  pub joined : bytes ≡ line ++ rest
+  pub of_the_day : AreKeys s keys
+  pub keyed : IsKeyLine keys line
+
+-- the bytes are the line of any keys that are the day's
+pub record IsAnyKeyLine (s : Day) (bytes : List ℕ) : Type 0 where
+  pub keys : Keys
+  pub of_the_day : AreKeys s keys
+  pub keyed : IsKeyLine keys bytes
+
+-- it is a day of a rotor machine with so many slots, three or four; or one of the Converter M-209
+pub record HasSlots (s : Day) (slots : ℕ) : Type 0 where
+  pub day : RotorDay
+  pub is : s ≡ OfRotors day
+  pub count : slots ≡ length day.wheels
+  pub either : (slots ≡ 3) ⊎ (slots ≡ 4)
+
+pub record HasPins (s : Day) : Type 0 where
+  pub day : PinDay
+  pub is : s ≡ OfPins day

@@ -1,0 +1,13 @@
+pub mod Keys
+pub mod InternalKey
+pub mod Striking
+pub mod Part
+pub mod Making
+pub mod Filling
+pub mod Order
+pub mod Sending
+pub mod OnTheKey
+pub mod Reading
+pub mod FormParts
+pub mod Laws
+pub mod KeyForms

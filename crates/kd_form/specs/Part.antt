@@ -1,0 +1,50 @@
+-- A part of a form, as a heading and letters, and how it is written.
+use Rattle.std.specs.Prelude.{codes, decimal, ℕ, List, [], ◌∷◌, ◌++◌, length, map, Option, Some, None}
+use Rattle.std.specs.List.{flat_map}
+use Rattle.std.specs.Int.{div_ceil}
+use Rattle.std.specs.Simd.{first_chunks}
+use Rattle.kd_state.specs.Words.{line_of}
+use Rattle.kd_form.specs.declared.heading.Heading.{Heading}
+use Rattle.kd_form.specs.declared.heading.Indicator.{Indicator}
+use Rattle.kd_form.specs.Keys.{letters_text}
+
+-- the letters in pieces of so many, of which the last may be shorter
+abbrev pub pieces : ℕ → List ℕ → List (List ℕ)
+pieces size letters = first_chunks size (div_ceil (length letters) size) letters
+
+-- which part of how many
+abbrev pub fraction : ℕ → ℕ → List ℕ
+fraction part parts = decimal part ++ codes "/" ++ decimal parts
+
+-- the ground and the enciphered message key
+abbrev pub indicator_words : Option Indicator → List (List ℕ)
+indicator_words (Some indicator) = letters_text indicator.start ∷ letters_text indicator.key ∷ []
+indicator_words None = []
+
+-- the words of the heading
+abbrev pub heading_words : Heading → List (List ℕ)
+heading_words h = codes "PART" ∷ fraction h.part h.parts ∷ decimal h.letters ∷ indicator_words h.indicator
+
+-- words, each behind a space
+abbrev pub behind_spaces : List (List ℕ) → List ℕ
+behind_spaces words = flat_map (λ word. 32 ∷ word) words
+
+-- the line of these words, with LF at its end, and what follows it
+abbrev pub with_line : List (List ℕ) → List ℕ → List ℕ
+with_line words rest = line_of words ++ 10 ∷ rest
+
+-- a line of the body: groups of five letters, with one space between them
+abbrev pub groups_of : List ℕ → List (List ℕ)
+groups_of letters = map letters_text (pieces 5 letters)
+
+-- the body: ten groups a line
+abbrev pub body_text : List ℕ → List ℕ
+body_text letters = flat_map (λ line. with_line (groups_of line) []) (pieces 50 letters)
+
+-- a part: its heading and the letters of its body
+pub record Part : Type 0 where
+  pub heading : Heading
+  pub body : List ℕ
+
+abbrev pub part_text : Part → List ℕ
+part_text part = with_line (heading_words part.heading) (body_text part.body)

@@ -1,0 +1,112 @@
+-- What an order becomes: a form, or the first fault. Parts are counted from 1, positions in bytes from 1.
+use Rattle.std.specs.Prelude.{◌≡◌, ◌≢◌, ℕ, ◌+◌, ◌-◌, ◌⊎◌, nat_le, Bool, ◌&&◌, ◌||◌, ◌==◌, List, [], ◌∷◌, ◌++◌, length, filter_map, All, IsTrue, IsFalse, Option, Some, None, if◌then◌else◌}
+use Rattle.std.specs.Int.{div_ceil}
+use Rattle.kd_state.specs.Machine.{AreOnWheels}
+use Rattle.kd_state.specs.SheetDay.{Day, OfRotors, OfPins}
+use Rattle.kd_form.specs.declared.fault.FormFault.{FormFault}
+use Rattle.kd_form.specs.declared.fault.FormFault.TheVariants.{BadByte, EmptyText, PartKeys, KeyNotOnWheel, WrongGroup, IndicatorSpent}
+use Rattle.kd_form.specs.declared.keys.Keys.{Keys}
+use Rattle.kd_form.specs.declared.keys.Keys.TheVariants.{Rotor, Pin}
+use Rattle.kd_form.specs.InternalKey.{HaveRunOut}
+use Rattle.kd_form.specs.Part.{pieces}
+use Rattle.kd_form.specs.Making.{Suits, IsMadeText, AreOfAGroup, enciphered_choice, part_size}
+use Rattle.kd_form.specs.Order.{IsOrder, IsHeadFault}
+
+-- ---- the text of an order
+
+-- a capital letter
+abbrev pub is_capital : ℕ → Bool
+is_capital byte = nat_le 65 byte && nat_le byte 90
+
+-- what a text may have: capital letters, spaces, CR and LF
+abbrev pub is_text_byte : ℕ → Bool
+is_text_byte byte = is_capital byte || (byte == 32 || (byte == 13 || byte == 10))
+
+-- the letter that a space stands for: Z on the Converter M-209, and none on a rotor machine
+abbrev pub blank_of : Day → Option ℕ
+blank_of (OfRotors s) = None
+blank_of (OfPins s) = Some 25
+
+-- the letter that a byte of the text gives, where a space stands for that
+abbrev pub letter_of_byte : Option ℕ → ℕ → Option ℕ
+letter_of_byte blank byte = if is_capital byte then Some (byte - 65) else if byte == 32 then blank else None
+
+abbrev pub letters_from : Option ℕ → List ℕ → List ℕ
+letters_from blank text = filter_map (letter_of_byte blank) text
+
+-- the letters of an order's text
+abbrev pub text_letters : Day → List ℕ → List ℕ
+text_letters s text = letters_from (blank_of s) text
+
+-- the byte is the first that may not stand in a text
+pub record IsBadAt (text : List ℕ) (place : ℕ) : Type 0 where
+  pub before : List ℕ
+  pub byte : ℕ
+  pub rest : List ℕ
+  pub joined : text ≡ before ++ byte ∷ rest
+  pub size : place ≡ length before
+  pub allowed : All (λ b. IsTrue (is_text_byte b)) before
+  pub bad : IsFalse (is_text_byte byte)
+
+-- how many parts so many letters take
+abbrev pub parts_needed : Day → ℕ → ℕ
+parts_needed s letters = div_ceil letters (part_size s)
+
+-- ---- why there is no form
+
+-- why the part's keys don't suit the day
+abbrev pub IsKeysFault : Day → ℕ → Keys → FormFault → Type 0
+IsKeysFault (OfRotors s) part (Rotor k) fault = ¬ (AreOfAGroup s.groups k.group) × (fault ≡ WrongGroup part)
+IsKeysFault (OfPins s) part (Pin k) fault =
+    (¬ (AreOnWheels k.external) × (fault ≡ KeyNotOnWheel))
+    ⊎ (AreOnWheels k.external × HaveRunOut (enciphered_choice (OfPins s) k) × (fault ≡ IndicatorSpent part))
+IsKeysFault (OfRotors s) part (Pin k) fault = ⊥
+IsKeysFault (OfPins s) part (Rotor k) fault = ⊥
+
+-- the keys of all parts suit the day, up to those of one part
+pub record IsFirstKeysFault (s : Day) (keys : List Keys) (fault : FormFault) : Type 0 where
+  pub before : List Keys
+  pub unsuited : Keys
+  pub others : List Keys
+  pub joined : keys ≡ before ++ unsuited ∷ others
+  pub suited : All (Suits s) before
+  pub is : IsKeysFault s (length before + 1) unsuited fault
+
+-- The first of the reasons: in the lines up to the text; in the keys; in the bytes of the text; there is no letter; there
+-- are not as many lines of keys as parts.
+pub data IsSendFault (s : Day) (order : List ℕ) (fault : FormFault) : Type 0 where
+  InHead : (position : ℕ) → IsHeadFault s order position → fault ≡ BadByte position → IsSendFault s order fault
+  InKeys : (keys : List Keys) (head text : List ℕ) → IsOrder s order keys head text → IsFirstKeysFault s keys fault → IsSendFault s order fault
+  InText : (keys : List Keys) (head text : List ℕ) (place : ℕ) → IsOrder s order keys head text → All (Suits s) keys → IsBadAt text place
+      → fault ≡ BadByte (length head + place + 1) → IsSendFault s order fault
+  InLetters : (keys : List Keys) (head text : List ℕ) → IsOrder s order keys head text → All (Suits s) keys
+      → All (λ b. IsTrue (is_text_byte b)) text → text_letters s text ≡ [] → fault ≡ EmptyText → IsSendFault s order fault
+  InParts : (keys : List Keys) (head text : List ℕ) → IsOrder s order keys head text → All (Suits s) keys
+      → All (λ b. IsTrue (is_text_byte b)) text → text_letters s text ≢ [] → parts_needed s (length (text_letters s text)) ≢ length keys
+      → fault ≡ PartKeys (parts_needed s (length (text_letters s text))) (length keys) → IsSendFault s order fault
+
+-- ---- the form
+
+-- the parts from this one on, of so many, made of these pieces by these keys, one after another
+abbrev pub AreMadeTexts : Day → ℕ → ℕ → List Keys → List (List ℕ) → List ℕ → Type 0
+AreMadeTexts s part parts [] [] bytes = bytes ≡ []
+AreMadeTexts s part parts (k ∷ keys) (piece ∷ pieces) bytes =
+    (one more : List ℕ) × IsMadeText s part parts k piece one × AreMadeTexts s (part + 1) parts keys pieces more × (bytes ≡ one ++ more)
+AreMadeTexts s part parts [] (piece ∷ pieces) bytes = ⊥
+AreMadeTexts s part parts (k ∷ keys) [] bytes = ⊥
+
+-- the order can be sent: no reason is against it
+pub record CanBeSent (s : Day) (order : List ℕ) (keys : List Keys) (text : List ℕ) : Type 0 where
+  pub head : List ℕ
+  pub is_order : IsOrder s order keys head text
+  pub suited : All (Suits s) keys
+  pub allowed : All (λ b. IsTrue (is_text_byte b)) text
+  pub filled : text_letters s text ≢ []
+  pub counted : parts_needed s (length (text_letters s text)) ≡ length keys
+
+-- the form that the order becomes: all of its parts but the last are full
+pub record IsFormOf (s : Day) (order form : List ℕ) : Type 0 where
+  pub keys : List Keys
+  pub text : List ℕ
+  pub sent : CanBeSent s order keys text
+  pub made : AreMadeTexts s 1 (length keys) keys (pieces (part_size s) (text_letters s text)) form

@@ -1,0 +1,52 @@
+//! How the letters of a part are written.
+ghost use Rattle.std.specs.Prelude.{◌≡◌, ◌+◌, ◌*◌, ◌≤◌, [], ◌++◌, length};
+ghost use Rattle.arrayvec.specs.ArrayString.{array_string_len};
+ghost use Rattle.kd_form.specs.Keys.{letters_text};
+ghost use Rattle.kd_form.specs.Part.{body_text, groups_of, with_line};
+
+use arrayvec::ArrayString;
+use kd_state::push_letter;
+use kd_tables::Letter;
+
+/// Appends the letters in groups of five, ten groups a line.
+pub(crate) fn push_body<const N: usize>(text: &mut ArrayString<N>, letters: &[Letter])
+    requires { array_string_len text.old + 2 * length letters.now ≤ N }
+    ensures bytes { text.new.bytes ≡ text.old.bytes ++ body_text letters.now }
+    ensures len { array_string_len text.new ≤ array_string_len text.old + 2 * length letters.now }
+{
+    let mut rest = letters;
+    while !rest.is_empty() {
+        let (line, after) = rest.split_at(rest.len().min(50));
+        push_line(text, line);
+        rest = after;
+    }
+}
+
+/// Appends a line of groups.
+fn push_line<const N: usize>(text: &mut ArrayString<N>, letters: &[Letter])
+    requires some { 1 ≤ length letters.now }
+    requires room { array_string_len text.old + 2 * length letters.now ≤ N }
+    ensures bytes { text.new.bytes ≡ text.old.bytes ++ with_line (groups_of letters.now) [] }
+    ensures len { array_string_len text.new ≤ array_string_len text.old + 2 * length letters.now }
+{
+    let (group, mut rest) = letters.split_at(letters.len().min(5));
+    push_letters(text, group);
+    while !rest.is_empty() {
+        let (group, after) = rest.split_at(rest.len().min(5));
+        text.push_str(" ");
+        push_letters(text, group);
+        rest = after;
+    }
+    text.push_str("\n");
+}
+
+/// Appends the letters.
+pub(crate) fn push_letters<const N: usize>(text: &mut ArrayString<N>, letters: &[Letter])
+    requires { array_string_len text.old + length letters.now ≤ N }
+    ensures bytes { text.new.bytes ≡ text.old.bytes ++ letters_text letters.now }
+    ensures len { array_string_len text.new ≡ array_string_len text.old + length letters.now }
+{
+    for letter in letters {
+        push_letter(text, *letter);
+    }
+}

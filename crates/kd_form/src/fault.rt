@@ -1,0 +1,45 @@
+use thiserror::Error;
+
+/// Why an order becomes no form, or a form no text. Positions are counted in bytes from 1, and parts from 1.
+#[derive(Clone, Copy, Debug, PartialEq, Eq, Error)]
+pub enum FormFault {
+    /// A slot of the machine is empty, or a cable has one letter.
+    #[error("4 NotReady")]
+    NotReady,
+    /// There was no memory for the form, or for the text.
+    #[error("26 NoMemory")]
+    NoMemory,
+    /// The machine isn't set as the day says.
+    #[error("27 NotOnKey")]
+    NotOnKey,
+    /// The byte may not stand there, or one is missing there.
+    #[error("28 BadByte {position}")]
+    BadByte { position: usize },
+    /// The order has no letter to be sent.
+    #[error("29 EmptyText")]
+    EmptyText,
+    /// The text takes another number of parts than there are lines of keys.
+    #[error("30 PartKeys {needed} {given}")]
+    PartKeys { needed: usize, given: usize },
+    /// An external letter isn't on its wheel.
+    #[error("31 KeyNotOnWheel")]
+    KeyNotOnWheel,
+    /// The part's group is none of the day's.
+    #[error("32 WrongGroup {part}")]
+    WrongGroup { part: u8 },
+    /// The letters that are to give the internal key run out.
+    #[error("33 IndicatorSpent {part}")]
+    IndicatorSpent { part: u8 },
+    /// The part's heading is none.
+    #[error("34 BadHeading {part}")]
+    BadHeading { part: u8 },
+    /// The part has another number of letters than its heading says.
+    #[error("35 CountWrong {part}")]
+    CountWrong { part: u8 },
+    /// The indicators at the part's end aren't those at its beginning.
+    #[error("36 IndicatorsDiffer {part}")]
+    IndicatorsDiffer { part: u8 },
+    /// The parts aren't numbered in order, or one is missing.
+    #[error("37 PartOrder")]
+    PartOrder,
+}

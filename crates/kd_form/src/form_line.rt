@@ -1,0 +1,71 @@
+//! Lines of a form: `_` stands for a letter, and each other byte for itself.
+ghost use Rattle.std.specs.Prelude.{◌≡◌, ◌≤◌, ◌<◌, ◌++◌, length, MatchResult};
+ghost use Rattle.std.specs.Bool.{OnTrue, OnFalse};
+ghost use Rattle.arrayvec.specs.ArrayVec.{array_vec_len};
+ghost use Rattle.kd_form.specs.Filling.{blanks, fits, letters_at, BeginsWithForm, IsFormLine, LineBreaksOff};
+ghost use Rattle.kd_form.specs.Filling.{EndsBefore, EndBreaksOff};
+
+use arrayvec::ArrayVec;
+use kd_tables::Letter;
+
+/// No form takes more letters than the line of a part's keys on four wheels.
+const MOST: usize = 13;
+
+/// The letters of the line of that form at the front of the bytes, and what follows its end. The error is how many bytes
+/// begin such a line.
+pub(crate) fn read_form<'a>(
+    form: &[u8],
+    bytes: &'a [u8],
+) -> Result<(ArrayVec<Letter, MOST>, &'a [u8]), usize>
+    requires { blanks form.now ≤ 13 }
+    ensures { MatchResult result
+        (λ found. BeginsWithForm form.now bytes.now found.0.items found.1.now)
+        (λ place. LineBreaksOff (IsFormLine form.now) bytes.now place) }
+{
+    let mut letters = ArrayVec::new();
+    for (place, mark) in form.iter().enumerate() {
+        let Some(byte) = bytes.get(place) else {
+            return Err(place);
+        };
+        if !take_letter(&mut letters, *mark, *byte) {
+            return Err(place);
+        }
+    }
+    match read_end(&bytes[form.len()..]) {
+        Ok(rest) => Ok((letters, rest)),
+        Err(place) => Err(form.len() + place),
+    }
+}
+
+/// Whether the byte may stand for the mark; if it stands for a letter, appends that.
+fn take_letter(letters: &mut ArrayVec<Letter, MOST>, mark: u8, byte: u8) -> bool
+    requires { mark ≡ 95 → array_vec_len letters.old < 13 }
+    ensures fits { result ≡ fits mark byte }
+    ensures taken { OnTrue result (letters.new.items ≡ letters.old.items ++ letters_at mark byte) }
+    ensures unchanged { OnFalse result (letters.new.items ≡ letters.old.items) }
+{
+    if mark != b'_' {
+        return byte == mark;
+    }
+    match Letter::from_byte(byte) {
+        Some(letter) => {
+            letters.push(letter);
+            true
+        }
+        None => false,
+    }
+}
+
+/// What follows the end of a line: LF, or CR and LF. The error is how many bytes begin one.
+fn read_end(bytes: &[u8]) -> Result<&[u8], usize>
+    ensures { MatchResult result
+        (λ rest. EndsBefore bytes.now rest.now)
+        (EndBreaksOff bytes.now) }
+{
+    match bytes {
+        [b'\n', rest @ ..] => Ok(rest),
+        [b'\r', b'\n', rest @ ..] => Ok(rest),
+        [b'\r', ..] => Err(1),
+        _ => Err(0),
+    }
+}

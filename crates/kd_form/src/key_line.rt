@@ -1,0 +1,91 @@
+//! The line of an order that gives the keys of a part.
+ghost use Rattle.std.specs.Prelude.{◌≡◌, ◌≤◌, ◌+◌, ◌⊎◌, ◌++◌, ◌∷◌, MatchOption, MatchResult};
+ghost use Rattle.kd_state.specs.Machine.{AreLetters};
+ghost use Rattle.kd_form.specs.Keys.{AreKeys, AreRotorKeys, ArePinKeys};
+ghost use Rattle.kd_form.specs.Filling.{blanks, LineBreaksOff};
+ghost use Rattle.kd_form.specs.KeyForms.{key_form, key_letters, BeginsWithKeys, IsAnyKeyLine, HasSlots, HasPins};
+
+use super::form_line::read_form;
+use super::keys::{Keys, PinKeys, RotorKeys};
+use kd_state::{PerSlot, SheetDay};
+use kd_tables::Letter;
+
+/// The keys in the line at the front of the bytes, and what follows its end. The error is how many bytes begin such a line.
+pub(crate) fn read_keys<'a>(day: &SheetDay, bytes: &'a [u8]) -> Result<(Keys, &'a [u8]), usize>
+    ensures { MatchResult result
+        (λ found. BeginsWithKeys day.now bytes.now found.0 found.1.now)
+        (λ place. LineBreaksOff (IsAnyKeyLine day.now) bytes.now place) }
+{
+    match read_form(key_form(day), bytes) {
+        Ok((letters, rest)) => Ok((keys_of(day, letters.as_slice()), rest)),
+        Err(place) => Err(place),
+    }
+}
+
+/// The form of the line.
+fn key_form(day: &SheetDay) -> &'static [u8]
+    ensures form { result.now ≡ key_form day.now }
+    ensures few { blanks (key_form day.now) ≤ 13 }
+{
+    match slots_of(day) {
+        Some(3) => b"PART ___ ___ __ ___",
+        Some(_) => b"PART ____ ____ __ ___",
+        None => b"PART _ ______",
+    }
+}
+
+/// How many slots the day's machine has; none on the Converter M-209.
+pub(crate) fn slots_of(day: &SheetDay) -> Option<usize>
+    ensures { MatchOption result
+        (HasPins day.now)
+        (HasSlots day.now) }
+{
+    let _model = day.model();
+    let wheels = day.wheels()?;
+    Some(wheels.len())
+}
+
+/// The keys with these letters.
+fn keys_of(day: &SheetDay, letters: &[Letter]) -> Keys
+    requires { AreLetters (blanks (key_form day.now)) letters.now }
+    ensures letters { key_letters result ≡ letters.now }
+    ensures keys { AreKeys day.now result }
+{
+    match slots_of(day) {
+        Some(slots) => Keys::Rotor(rotor_keys(slots, letters)),
+        None => Keys::Pin(pin_keys(letters)),
+    }
+}
+
+/// The keys with these letters on a machine with so many slots.
+fn rotor_keys(slots: usize, letters: &[Letter]) -> RotorKeys
+    requires slots { (slots ≡ 3) ⊎ (slots ≡ 4) }
+    requires letters { AreLetters (slots + slots + 5) letters.now }
+    ensures letters { letters.now ≡ result.start ++ (result.key ++ (result.fillers ++ result.group)) }
+    ensures keys { AreRotorKeys slots result }
+{
+    let (start, rest) = letters.split_at(slots);
+    let (key, rest) = rest.split_at(slots);
+    let (fillers, group) = rest.split_at(2);
+    let start = PerSlot::new(start).unwrap();
+    let key = PerSlot::new(key).unwrap();
+    let fillers = <[Letter; 2]>::try_from(fillers).unwrap();
+    let group = <[Letter; 3]>::try_from(group).unwrap();
+    RotorKeys {
+        start,
+        key,
+        fillers,
+        group,
+    }
+}
+
+/// The keys with these letters on the Converter M-209.
+pub(crate) fn pin_keys(letters: &[Letter]) -> PinKeys
+    requires { AreLetters 7 letters.now }
+    ensures letters { letters.now ≡ result.chosen ∷ result.external }
+    ensures keys { ArePinKeys result }
+{
+    let chosen = letters[0];
+    let external = <[Letter; 6]>::try_from(&letters[1..]).unwrap();
+    PinKeys { chosen, external }
+}

@@ -1,0 +1,13 @@
+//! What holds of orders and forms.
+ghost use Rattle.kd_form.specs.Laws.{OrdersBecomeOneForm, OrdersHaveOneFault, SentOrdersHaveNoFault};
+
+use kd_state::laws::texts_tell_first_parts;
+
+/// An order becomes one form, or has one fault, and never both.
+pub fn orders_have_one_answer()
+    ensures form { OrdersBecomeOneForm }
+    ensures fault { OrdersHaveOneFault }
+    ensures never_both { SentOrdersHaveNoFault }
+{
+    texts_tell_first_parts();
+}

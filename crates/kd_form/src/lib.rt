@@ -1,0 +1,25 @@
+//! Orders and forms: what is to be sent, and the message form that it becomes.
+#![tactic(auto)]
+
+mod body;
+mod cipher;
+mod fault;
+mod form_line;
+mod form_part;
+mod heading;
+mod heading_line;
+mod internal_key;
+mod key_line;
+mod keys;
+pub mod laws;
+mod making;
+mod order;
+mod reading;
+mod sending;
+mod suiting;
+#[cfg(test)]
+mod tests;
+mod text;
+
+pub use fault::FormFault;
+pub use sending::send;

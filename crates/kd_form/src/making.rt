@@ -1,0 +1,158 @@
+//! A part of a form, made of a piece of text and its keys.
+ghost use Rattle.std.specs.Prelude.{◌≡◌, ◌≤◌, ℕ, List, length, MatchOption};
+ghost use Rattle.kd_state.specs.TwoCiphers.{sheet_key, IsWindow};
+ghost use Rattle.kd_form.specs.InternalKey.{IsInternalKey, HaveRunOut};
+ghost use Rattle.kd_form.specs.Keys.{AreKeys};
+ghost use Rattle.kd_form.specs.Part.{part_text};
+ghost use Rattle.kd_form.specs.Making.{Suits, IsMadeText, part_of, part_size};
+ghost use Rattle.kd_form.specs.Making.{indicator_of, rotor_letters, enciphered_choice, pin_indicators, pin_letters, filled};
+
+use super::body::push_body;
+use super::cipher::{encipher, enciphered, push_letters};
+use super::heading::{Heading, Indicator, push_heading};
+use super::internal_key::internal_key;
+use super::keys::{Keys, PinKeys, RotorKeys};
+use arrayvec::{ArrayString, ArrayVec};
+use kd_state::{PerSlot, SheetDay};
+use kd_tables::Letter;
+
+/// No part is longer: its heading, and 520 letters in groups.
+pub(crate) const LONGEST: usize = 1100;
+
+/// The text of the part of that number, of so many, that a piece of text becomes by keys that suit the day.
+pub(crate) fn make_part(
+    day: &SheetDay,
+    part: u8,
+    parts: u8,
+    keys: &Keys,
+    text: &[Letter],
+) -> ArrayString<LONGEST>
+    requires keys { AreKeys day.now keys.now }
+    requires suits { Suits day.now keys.now }
+    requires few { length text.now ≤ part_size day.now }
+    ensures { IsMadeText day.now part parts keys.now text.now result.bytes }
+{
+    match keys {
+        Keys::Rotor(keys) => {
+            let indicator = indicator_of(day, keys);
+            let letters = rotor_letters(day, keys, text);
+            text_of(part, parts, Some(indicator), letters.as_slice())
+        }
+        Keys::Pin(keys) => {
+            let letters = pin_letters(day, keys, text);
+            text_of(part, parts, None, letters.as_slice())
+        }
+    }
+}
+
+/// The text of the part of that number, of so many, with these letters in its body.
+fn text_of(
+    part: u8,
+    parts: u8,
+    indicator: Option<Indicator>,
+    letters: &[Letter],
+) -> ArrayString<LONGEST>
+    requires { length letters.now ≤ 520 }
+    ensures { result.bytes ≡ part_text (part_of part parts indicator letters.now) }
+{
+    let heading = Heading {
+        part,
+        parts,
+        letters: letters.len(),
+        indicator,
+    };
+    let mut text = ArrayString::new();
+    push_heading(&mut text, &heading);
+    push_body(&mut text, letters);
+    text
+}
+
+/// The ground, and the message key, enciphered from there.
+fn indicator_of(day: &SheetDay, keys: &RotorKeys) -> Indicator
+    requires { AreKeys day.now (Keys.Rotor keys.now) }
+    ensures { result ≡ indicator_of day.now keys.now }
+{
+    let _slots = keys.key.len();
+    let key = enciphered::<4>(day, keys.start.as_slice(), keys.key.as_slice());
+    Indicator {
+        start: keys.start,
+        key: PerSlot::new(key.as_slice()).unwrap(),
+    }
+}
+
+/// The letters of a rotor machine's part.
+fn rotor_letters(day: &SheetDay, keys: &RotorKeys, text: &[Letter]) -> ArrayVec<Letter, 520>
+    requires keys { AreKeys day.now (Keys.Rotor keys.now) }
+    requires few { length text.now ≤ 245 }
+    ensures value { result.items ≡ rotor_letters day.now keys.now text.now }
+    ensures few { length result.items ≤ 520 }
+{
+    let enciphered = enciphered::<245>(day, keys.key.as_slice(), text);
+    let mut letters = ArrayVec::new();
+    push_letters(&mut letters, &keys.fillers);
+    push_letters(&mut letters, &keys.group);
+    push_letters(&mut letters, enciphered.as_slice());
+    letters
+}
+
+/// The letters of a part on the Converter M-209.
+fn pin_letters(day: &SheetDay, keys: &PinKeys, text: &[Letter]) -> ArrayVec<Letter, 520>
+    requires keys { AreKeys day.now (Keys.Pin keys.now) }
+    requires suits { Suits day.now (Keys.Pin keys.now) }
+    requires few { length text.now ≤ 500 }
+    ensures value { (internal : List ℕ) × IsInternalKey (enciphered_choice day.now keys.now) internal
+        × (result.items ≡ pin_letters day.now keys.now internal text.now) }
+    ensures few { length result.items ≤ 520 }
+{
+    let internal = internal_key_of(day, keys).unwrap();
+    let text = filled(text);
+    let enciphered = enciphered::<500>(day, internal.as_slice(), text.as_slice());
+    let indicators = indicators_of(day, keys);
+    let mut letters = ArrayVec::new();
+    push_letters(&mut letters, indicators.as_slice());
+    push_letters(&mut letters, enciphered.as_slice());
+    push_letters(&mut letters, indicators.as_slice());
+    letters
+}
+
+/// The internal key to which the external letters lead, if the letters don't run out.
+pub(crate) fn internal_key_of(day: &SheetDay, keys: &PinKeys) -> Option<ArrayVec<Letter, 6>>
+    requires { IsWindow (sheet_key day.now) keys.now.external }
+    ensures { MatchOption result
+        (HaveRunOut (enciphered_choice day.now keys.now))
+        (λ internal. IsInternalKey (enciphered_choice day.now keys.now) internal.items) }
+{
+    let mut letters = [keys.chosen; 12];
+    encipher(day, &keys.external, &mut letters);
+    internal_key(&letters)
+}
+
+/// The indicators of a part on the Converter M-209.
+pub(crate) fn indicators_of(day: &SheetDay, keys: &PinKeys) -> ArrayVec<Letter, 10>
+    requires { AreKeys day.now (Keys.Pin keys.now) }
+    ensures value { result.items ≡ pin_indicators day.now keys.now }
+    ensures ten { length result.items ≡ 10 }
+{
+    let list = day.list().unwrap();
+    let mut indicators = ArrayVec::new();
+    indicators.push(keys.chosen);
+    indicators.push(keys.chosen);
+    push_letters(&mut indicators, &keys.external);
+    push_letters(&mut indicators, &list);
+    indicators
+}
+
+/// The text, filled with X to whole groups of five.
+fn filled(text: &[Letter]) -> ArrayVec<Letter, 500>
+    requires { length text.now ≤ 500 }
+    ensures { result.items ≡ filled text.now }
+{
+    let filler = Letter::from_byte(b'X').unwrap();
+    let missing = (5 - text.len() % 5) % 5;
+    let mut letters = ArrayVec::new();
+    push_letters(&mut letters, text);
+    for _ in 0..missing {
+        letters.push(filler);
+    }
+    letters
+}

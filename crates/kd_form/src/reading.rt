@@ -1,0 +1,84 @@
+//! The letters of a part's body, read.
+ghost use Rattle.std.specs.Prelude.{◌≡◌, ◌≤◌, ◌↔◌, Some, length, IsTrue, MatchResult};
+ghost use Rattle.kd_form.specs.Reading.{HasIndicator, IsRotorText, IsRotorFault, IsPinText, IsPinFault};
+ghost use Rattle.kd_form.specs.KeyForms.{HasPins};
+
+use super::cipher::{are_letters, enciphered, is_window};
+use super::fault::FormFault;
+use super::heading::Indicator;
+use super::key_line::pin_keys;
+use super::making::internal_key_of;
+use super::suiting::are_of_the_day;
+use arrayvec::ArrayVec;
+use kd_state::SheetDay;
+use kd_tables::Letter;
+
+/// The letters of the text of a rotor machine's part.
+fn read_rotor_letters(
+    day: &SheetDay,
+    part: u8,
+    indicator: &Indicator,
+    letters: &[Letter],
+) -> Result<ArrayVec<Letter, 500>, FormFault>
+    requires indicator { HasIndicator day.now (Some indicator.now) }
+    requires some { 5 ≤ length letters.now }
+    requires few { length letters.now ≤ 250 }
+    ensures { MatchResult result
+        (λ text. IsRotorText day.now indicator.now letters.now text.items)
+        (IsRotorFault day.now part letters.now) }
+{
+    let _slots = indicator.key.len();
+    let (fillers, rest) = letters.split_at(2);
+    let (group, text) = rest.split_at(3);
+    let group = <[Letter; 3]>::try_from(group).unwrap();
+    if !are_of_the_day(day, group) {
+        return Err(FormFault::WrongGroup { part });
+    }
+    let key = enciphered::<4>(day, indicator.start.as_slice(), indicator.key.as_slice());
+    Ok(enciphered(day, key.as_slice(), text))
+}
+
+/// Whether these are the same letters in the same order.
+fn are_the_same(letters: &[Letter], others: &[Letter]) -> bool
+    ensures { IsTrue result ↔ (letters.now ≡ others.now) }
+{
+    letters == others
+}
+
+/// The letters of the text of a part on the Converter M-209.
+fn read_pin_letters(
+    day: &SheetDay,
+    part: u8,
+    letters: &[Letter],
+) -> Result<ArrayVec<Letter, 500>, FormFault>
+    requires pins { HasPins day.now }
+    requires some { 20 ≤ length letters.now }
+    requires few { length letters.now ≤ 520 }
+    ensures { MatchResult result
+        (λ text. IsPinText day.now letters.now text.items)
+        (IsPinFault day.now part letters.now) }
+{
+    let (first, rest) = letters.split_at(10);
+    let (text, last) = rest.split_at(rest.len() - 10);
+    if !are_the_same(first, last) {
+        return Err(FormFault::IndicatorsDiffer { part });
+    }
+    let (twice, others) = first.split_at(1);
+    let (key, list) = others.split_at(7);
+    are_letters(key);
+    let keys = pin_keys(key);
+    if twice[0] != keys.chosen {
+        return Err(FormFault::IndicatorsDiffer { part });
+    }
+    if !is_window(day, &keys.external) {
+        return Err(FormFault::KeyNotOnWheel);
+    }
+    let due = day.list().unwrap();
+    if !are_the_same(list, &due) {
+        return Err(FormFault::WrongGroup { part });
+    }
+    match internal_key_of(day, &keys) {
+        Some(internal) => Ok(enciphered(day, internal.as_slice(), text)),
+        None => Err(FormFault::IndicatorSpent { part }),
+    }
+}

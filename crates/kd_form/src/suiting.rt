@@ -1,0 +1,85 @@
+//! Whether the keys of an order suit the day.
+ghost use Rattle.std.specs.Prelude.{◌↔◌, ◌≤◌, length, All, IsPermutation, IsTrue, MatchResult};
+ghost use Rattle.kd_form.specs.Keys.{AreKeys};
+ghost use Rattle.kd_form.specs.Making.{Suits, AreOfADaysGroup};
+ghost use Rattle.kd_form.specs.Sending.{IsKeysFault, IsFirstKeysFault};
+
+use super::cipher::is_window;
+use super::fault::FormFault;
+use super::keys::{Keys, PinKeys};
+use super::making::internal_key_of;
+use kd_state::SheetDay;
+use kd_tables::Letter;
+
+/// Refuses the first keys that don't suit the day.
+pub(crate) fn check_keys(day: &SheetDay, keys: &[Keys]) -> Result<(), FormFault>
+    requires keys { All (AreKeys day.now) keys.now }
+    requires few { length keys.now ≤ 99 }
+    ensures { MatchResult result
+        (λ _. All (Suits day.now) keys.now)
+        (IsFirstKeysFault day.now keys.now) }
+{
+    let mut part = 1;
+    for keys in keys {
+        match check_part(day, part, keys) {
+            Ok(()) => part += 1,
+            Err(fault) => return Err(fault),
+        }
+    }
+    Ok(())
+}
+
+/// Refuses the keys of the part of that number if they don't suit the day.
+fn check_part(day: &SheetDay, part: u8, keys: &Keys) -> Result<(), FormFault>
+    requires { AreKeys day.now keys.now }
+    ensures { MatchResult result
+        (λ _. Suits day.now keys.now)
+        (IsKeysFault day.now part keys.now) }
+{
+    match keys {
+        Keys::Rotor(keys) => {
+            if are_of_the_day(day, keys.group) {
+                Ok(())
+            } else {
+                Err(FormFault::WrongGroup { part })
+            }
+        }
+        Keys::Pin(keys) => check_pin_keys(day, part, keys),
+    }
+}
+
+/// Refuses the keys of a part on the Converter M-209 if they don't suit the day.
+fn check_pin_keys(day: &SheetDay, part: u8, keys: &PinKeys) -> Result<(), FormFault>
+    requires { AreKeys day.now (Keys.Pin keys.now) }
+    ensures { MatchResult result
+        (λ _. Suits day.now (Keys.Pin keys.now))
+        (IsKeysFault day.now part (Keys.Pin keys.now)) }
+{
+    if !is_window(day, &keys.external) {
+        return Err(FormFault::KeyNotOnWheel);
+    }
+    match internal_key_of(day, keys) {
+        Some(_) => Ok(()),
+        None => Err(FormFault::IndicatorSpent { part }),
+    }
+}
+
+/// Whether the letters are those of one of the day's groups, in any order.
+pub(crate) fn are_of_the_day(day: &SheetDay, letters: [Letter; 3]) -> bool
+    ensures { IsTrue result ↔ AreOfADaysGroup day.now letters }
+{
+    match day.groups() {
+        Some(groups) => groups.iter().any(|group| are_reordered(*group, letters)),
+        None => false,
+    }
+}
+
+/// Whether these are the same letters, each as often, in any order.
+fn are_reordered(group: [Letter; 3], letters: [Letter; 3]) -> bool
+    ensures { IsTrue result ↔ IsPermutation group letters }
+{
+    let (mut group, mut letters) = (group, letters);
+    group.sort_unstable();
+    letters.sort_unstable();
+    group == letters
+}
