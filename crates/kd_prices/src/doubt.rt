@@ -1,3 +1,4 @@
+use kd_card::IllegalAt;
 use kd_state::Why;
 use thiserror::Error;
 
@@ -8,7 +9,7 @@ pub enum Doubt {
     #[error("5 OtherModel")]
     OtherModel,
     /// The line is the first that the machine refuses in its turn, for this reason.
-    #[error("13 IllegalAt {line} {why}")]
+    #[error("{}", IllegalAt { line: *.line, why: *.why })]
     IllegalAt { line: usize, why: Why },
     /// After the last line the machine doesn't read as the day.
     #[error("14 NotTheSheet")]
