@@ -67,6 +67,11 @@ fn prints_cards_with_prices(rt: HostRuntime) -> Result<(), Fail> {
     let plugged = "version = 1\ncables = [\"AB\", \"CD\"]";
     let cables = MACHINE.replace(rt.alloc(), "version = 1", plugged)?;
     let single = MACHINE.replace(rt.alloc(), "version = 1", "version = 1\ncables = [\"C\"]")?;
+    let pulled = MACHINE.replace(
+        rt.alloc(),
+        "version = 1",
+        "version = 1\ncables = [\"B\", \"D\"]",
+    )?;
     let pair = SHEET.replace(rt.alloc(), "\"BC\", \"DE\"", "\"CF\"")?;
     for (machine, sheet, day, first, last) in [
         (
@@ -75,6 +80,13 @@ fn prints_cards_with_prices(rt: HostRuntime) -> Result<(), Fail> {
             8,
             "CARD 1 DAY 8\nPULL 1 A\nPULL 2 C\nPUT 1 C\nPUT 2 E\nSETTINGS 4\nCABLES ",
             "\nSUM 4\n",
+        ),
+        (
+            pulled.as_str(),
+            SHEET,
+            8,
+            "CARD 1 DAY 8\nPUT 1 C\nPUT 2 E\nSETTINGS 2\nCABLES ",
+            "\nSUM 2\n",
         ),
         (
             single.as_str(),

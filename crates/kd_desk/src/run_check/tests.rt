@@ -1,9 +1,10 @@
 use super::run_check;
 use crate::fault::DeskFault;
-use crate::samples::{CARD, EMPTY, MACHINE, SHEET, TWO_BARS};
-use kd_card::CardFault;
-use kd_prices::Doubt;
-use kd_sheet::SheetFault;
+use crate::samples::{CARD, EMPTY, M4_AS_ENIGMA, MACHINE, SHEET, TWO_BARS};
+use kd_card::{CardFault, PriceParts, Prices};
+use kd_plan::plan;
+use kd_prices::{Doubt, check};
+use kd_sheet::{SheetFault, read_machine, read_sheet};
 use kd_tables::{MemorySink, Sink};
 use std::test::Fail;
 
@@ -112,4 +113,50 @@ fn stops_where_the_sink_fails(rt: HostRuntime) -> Result<(), Fail> {
         assert_eq!(rt; Some(sink.taken()), verdict.get(..room));
     }
     Ok(())
+}
+
+/// The planner's card proves itself, and with one price changed by one it doesn't: the sum is then another one.
+#[test]
+fn no_price_of_a_card_can_be_changed(rt: HostRuntime) -> Result<(), Fail> {
+    let [old, new] = PLUGGED;
+    let plugged = MACHINE.replace(rt.alloc(), old, new)?;
+    let sheet = read_sheet(rt.alloc(), SHEET.as_bytes())?;
+    for (machine, number) in [
+        (plugged.as_str(), 8),
+        (MACHINE, 8),
+        (TWO_BARS, 9),
+        (M4_AS_ENIGMA, 30),
+        (MACHINE, 11),
+    ] {
+        let machine = read_machine(rt.alloc(), machine.as_bytes())?;
+        let day = sheet.day(number).ok_or("no such day")?;
+        let mut card = plan(&machine, day)?;
+        assert_eq!(rt; check(&machine, day, &card), Ok(()));
+        let parts = card.prices.parts();
+        for place in 0..27 {
+            for step in [-1, 1] {
+                if let Some(prices) = with_price(parts, place, step) {
+                    card.prices = prices;
+                    assert!(rt; check(&machine, day, &card).is_err());
+                }
+            }
+        }
+    }
+    Ok(())
+}
+
+/// The prices with a step added to that of a row.
+fn with_price(parts: PriceParts, place: usize, step: i16) -> Option<Prices> {
+    match parts {
+        PriceParts::Cables(mut rows, columns) => {
+            let price = rows.get(place)?.checked_add(step)?;
+            *rows.get_mut(place)? = price;
+            Prices::cables(rows, columns)
+        }
+        PriceParts::Bars(mut rows, columns) => {
+            let price = rows.get(place)?.checked_add(step)?;
+            *rows.get_mut(place)? = price;
+            Prices::bars(rows, columns)
+        }
+    }
 }
