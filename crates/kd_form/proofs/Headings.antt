@@ -1,10 +1,9 @@
 -- The line of a heading, and its words.
-use Rattle.std.proofs.Common.{◌≡◌, ◌≢◌, ℕ, ◌+◌, ◌^◌, ◌<◌, ◌≤◌, ◌⊎◌, inl, inr, List, [], ◌∷◌, ◌++◌, length, map, refl, sym, ap, subst, ◌∙◌, append_assoc, length-append, arith, Bor}
+use Rattle.std.proofs.Common.{◌≡◌, ◌≢◌, ℕ, ◌+◌, ◌^◌, ◌<◌, ◌≤◌, inl, inr, List, [], ◌∷◌, ◌++◌, length, sym, ap, ◌∙◌, length-append, arith}
 use Rattle.std.specs.Prelude.{codes, decimal, All, Option, Some, None, MatchOption}
 use Rattle.std.proofs.lemmas.Fmt.{decimal_injective}
 use Rattle.std.proofs.lemmas.List.{length-map}
 use Rattle.std.proofs.lemmas.List.Elements.{All-cons, All-nil, All-append, All-map}
-use Rattle.kd_state.specs.Machine.{AreLetters}
 use Rattle.kd_state.specs.SheetDay.{Day, RotorDay, OfRotors, OfPins}
 use Rattle.kd_state.specs.Words.{line_of, words_of, IsWord, IsWithout, IsFirstPart, TextsTellFirstParts, NumbersAreWords, LinesSplitIntoWords, PartsMakeLines}
 use Rattle.kd_form.specs.declared.heading.Heading.{Heading}

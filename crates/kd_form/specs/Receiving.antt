@@ -1,5 +1,5 @@
 -- What one part of a form becomes: the letters of its text, or a fault. Parts are counted from 1, positions in bytes from 1.
-use Rattle.std.specs.Prelude.{codes, ◌≡◌, ◌≢◌, ◌⊎◌, ℕ, ◌+◌, ◌-◌, List, [], ◌∷◌, ◌++◌, length, All, IsTrue, Option, Some, None}
+use Rattle.std.specs.Prelude.{◌≡◌, ◌≢◌, ◌⊎◌, ℕ, ◌+◌, ◌-◌, List, [], ◌++◌, length, All, IsTrue, Option, Some, None}
 use Rattle.kd_state.specs.SheetDay.{Day}
 use Rattle.kd_state.specs.Words.{line_of}
 use Rattle.kd_form.specs.declared.fault.FormFault.{FormFault}
