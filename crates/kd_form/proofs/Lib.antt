@@ -16,3 +16,6 @@ pub mod FormCuts
 pub mod Fractions
 pub mod Numerals
 pub mod Spelled
+pub mod Headings
+pub mod FirstLines
+pub mod ReadParts

@@ -1,6 +1,7 @@
 -- The parts of a form: a heading line, and all lines up to the next. Places are counted from 0.
 use Rattle.std.specs.Prelude.{codes, ◌≡◌, ◌≢◌, ◌⊎◌, ℕ, ◌+◌, ◌-◌, ◌%◌, ◌<◌, ◌≤◌, List, [], ◌∷◌, ◌++◌, length, drop, slice_index, All, Option, MatchOption}
 use Rattle.kd_state.specs.SheetDay.{Day, OfRotors, OfPins}
+use Rattle.kd_state.specs.Words.{IsWithout, IsFirstPart}
 use Rattle.kd_form.specs.declared.heading.Heading.{Heading}
 use Rattle.kd_form.specs.Part.{heading_words}
 use Rattle.kd_form.specs.Reading.{HasIndicator}
@@ -27,11 +28,15 @@ abbrev pub IsLetterCount : Day → ℕ → Type 0
 IsLetterCount (OfRotors s) count = (6 ≤ count) × (count ≤ 250)
 IsLetterCount (OfPins s) count = (25 ≤ count) × (count ≤ 520) × (count % 5 ≡ 0)
 
+-- one part of so many, from 1 to 99
+pub record IsFraction (part parts : ℕ) : Type 0 where
+  pub first : 1 ≤ part
+  pub in_order : part ≤ parts
+  pub few : parts ≤ 99
+
 -- a heading that a part of the day can have
 pub record IsHeading (s : Day) (h : Heading) : Type 0 where
-  pub first : 1 ≤ h.part
-  pub in_order : h.part ≤ h.parts
-  pub few : h.parts ≤ 99
+  pub number : IsFraction h.part h.parts
   pub letters : IsLetterCount s h.letters
   pub indicator : HasIndicator s h.indicator
 
@@ -44,3 +49,9 @@ AreHeadingWords s words found =
 pub record AreFewLetters (letters : List ℕ) : Type 0 where
   pub few : length letters ≤ 4
   pub within : All (λ letter. letter < 26) letters
+
+-- the first line without its end, and what follows it
+pub data IsFirstLine (bytes line rest : List ℕ) : Type 0 where
+  WithLf : IsFirstPart 10 bytes line rest → ((front : List ℕ) → line ≢ front ++ 13 ∷ []) → IsFirstLine bytes line rest
+  WithCr : IsFirstPart 10 bytes (line ++ 13 ∷ []) rest → IsFirstLine bytes line rest
+  WithoutEnd : IsWithout 10 bytes → line ≡ bytes → rest ≡ [] → IsFirstLine bytes line rest

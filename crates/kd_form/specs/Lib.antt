@@ -9,5 +9,6 @@ pub mod Sending
 pub mod OnTheKey
 pub mod Reading
 pub mod FormParts
+pub mod Receiving
 pub mod Laws
 pub mod KeyForms

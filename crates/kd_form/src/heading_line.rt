@@ -1,36 +1,54 @@
 //! The line of a heading, read.
-ghost use Rattle.std.specs.Prelude.{◌≡◌, ◌≢◌, ◌⊎◌, ◌↔◌, ℕ, ◌^◌, ◌<◌, List, decimal, map, IsTrue, MatchOption};
+ghost use Rattle.std.specs.Prelude.{◌≡◌, ◌≢◌, ◌⊎◌, ◌↔◌, ℕ, ◌^◌, ◌<◌, List, codes, decimal, map, IsTrue, MatchOption};
 ghost use Rattle.kd_state.specs.Machine.{AreLetters};
+ghost use Rattle.kd_state.specs.Words.{line_of};
 ghost use Rattle.kd_form.specs.Keys.{letters_text};
-ghost use Rattle.kd_form.specs.Part.{fraction, indicator_words};
-ghost use Rattle.kd_form.specs.FormParts.{AreFewLetters, IsLetterCount};
+ghost use Rattle.kd_form.specs.Part.{fraction, indicator_words, heading_words};
+ghost use Rattle.kd_form.specs.FormParts.{IsFraction, AreFewLetters, IsLetterCount, IsHeading, AreHeadingWords, IsFirstLine};
 ghost use Rattle.kd_form.specs.Reading.{HasIndicator};
+ghost use Rattle.kd_form.specs.Receiving.{HasHeading};
 
 use super::cipher::are_letters;
-use super::heading::Indicator;
+use super::heading::{Heading, Indicator};
 use super::key_line::slots_of;
 use arrayvec::ArrayVec;
 use itoa::Buffer;
-use kd_state::laws::texts_tell_first_parts;
-use kd_state::{PerSlot, SheetDay, number_of_text, split_once};
+use kd_state::laws::{lines_tell_words, numbers_and_letters_are_words, texts_tell_first_parts};
+use kd_state::{PerSlot, SheetDay, number_of_text, split_once, split_words};
 use kd_tables::Letter;
 use std::str;
 
-/// Which part of how many the word says.
+/// Which part of how many the word says, if they are from 1 to 99.
 fn read_fraction(word: &[u8]) -> Option<(u8, u8)>
     ensures { MatchOption result
-        ((part parts : ℕ) → part < 2 ^ 8 → parts < 2 ^ 8 → fraction part parts ≢ word.now)
-        (λ found. fraction found.0 found.1 ≡ word.now) }
+        ((part parts : ℕ) → IsFraction part parts → fraction part parts ≢ word.now)
+        (λ found. IsFraction found.0 found.1 × (fraction found.0 found.1 ≡ word.now)) }
 {
     texts_tell_first_parts();
     let (part, parts) = split_once(word, b'/')?;
     let part = number_of_text(part)?;
     let parts = number_of_text(parts)?;
+    if part < 1 || part > parts || parts > 99 {
+        return None;
+    }
     Some((part, parts))
 }
 
+/// How many letters the word says, if a body may have so many.
+fn read_count(day: &SheetDay, word: &[u8]) -> Option<u16>
+    ensures { MatchOption result
+        ((count : ℕ) → IsLetterCount day.now count → decimal count ≢ word.now)
+        (λ count. IsLetterCount day.now count × (decimal count ≡ word.now)) }
+{
+    let count = read_number(word)?;
+    if !is_letter_count(day, count) {
+        return None;
+    }
+    Some(count)
+}
+
 /// The number that is written so: in decimal, without leading zeros and without a sign.
-fn read_count(word: &[u8]) -> Option<u16>
+fn read_number(word: &[u8]) -> Option<u16>
     ensures { MatchOption result
         ((count : ℕ) → count < 2 ^ 16 → decimal count ≢ word.now)
         (λ count. decimal count ≡ word.now) }
@@ -98,5 +116,75 @@ fn is_letter_count(day: &SheetDay, count: u16) -> bool
     match slots_of(day) {
         Some(_) => count >= 6 && count <= 250,
         None => count >= 25 && count <= 520 && count % 5 == 0,
+    }
+}
+
+/// The heading that has these words, if a part of the day can have it.
+fn heading_of_words(day: &SheetDay, words: &[&[u8]]) -> Option<Heading>
+    ensures { AreHeadingWords day.now (map (λ word. word.now) words.now) result }
+{
+    let [name, fraction, count, indicator @ ..] = words else {
+        return None;
+    };
+    if !is_part(name) {
+        return None;
+    }
+    let (part, parts) = read_fraction(fraction)?;
+    let count = read_count(day, count)?;
+    let indicator = read_indicator(day, indicator)?;
+    let letters = usize::from(count);
+    Some(Heading {
+        part,
+        parts,
+        letters,
+        indicator,
+    })
+}
+
+/// Whether the word is PART.
+fn is_part(word: &[u8]) -> bool
+    ensures { IsTrue result ↔ (word.now ≡ codes "PART") }
+{
+    match word {
+        b"PART" => true,
+        _ => false,
+    }
+}
+
+/// The heading of the line, if a part of the day can have it.
+fn heading_of_line(day: &SheetDay, line: &[u8]) -> Option<Heading>
+    ensures { MatchOption result
+        ((h : _) → IsHeading day.now h → line_of (heading_words h) ≢ line.now)
+        (λ h. IsHeading day.now h × (line_of (heading_words h) ≡ line.now)) }
+{
+    lines_tell_words();
+    numbers_and_letters_are_words();
+    let _slots = slots_of(day);
+    let words = split_words::<5>(line)?;
+    heading_of_words(day, words.as_slice())
+}
+
+/// The heading of the part, and its body.
+pub(crate) fn read_heading<'a>(day: &SheetDay, part: &'a [u8]) -> Option<(Heading, &'a [u8])>
+    ensures { MatchOption result
+        ((h : _) (body : List ℕ) → ¬ HasHeading day.now part.now h body)
+        (λ found. HasHeading day.now part.now found.0 found.1.now) }
+{
+    texts_tell_first_parts();
+    let (line, body) = split_line(part);
+    let heading = heading_of_line(day, line)?;
+    Some((heading, body))
+}
+
+/// The first line without its end, and what follows it. The last line may lack its end.
+fn split_line(part: &[u8]) -> (&[u8], &[u8])
+    ensures { IsFirstLine part.now result.0.now result.1.now }
+{
+    match split_once(part, b'\n') {
+        Some((line, body)) => match line {
+            [text @ .., b'\r'] => (text, body),
+            _ => (line, body),
+        },
+        None => part.split_at(part.len()),
     }
 }

@@ -1,14 +1,18 @@
 //! The letters of a part's body, read.
-ghost use Rattle.std.specs.Prelude.{◌≡◌, ◌≤◌, ◌↔◌, Some, length, IsTrue, MatchResult};
-ghost use Rattle.kd_form.specs.Reading.{HasIndicator, IsRotorText, IsRotorFault, IsPinText, IsPinFault};
+ghost use Rattle.std.specs.Prelude.{◌≡◌, ◌+◌, ◌^◌, ◌<◌, ◌≤◌, ◌↔◌, Some, length, IsTrue, MatchResult};
+ghost use Rattle.kd_form.specs.Reading.{HasIndicator, IsLettersText, IsLettersFault, IsRotorText, IsRotorFault, IsPinText, IsPinFault};
 ghost use Rattle.kd_form.specs.KeyForms.{HasPins};
+ghost use Rattle.kd_form.specs.FormParts.{IsLetterCount};
+ghost use Rattle.kd_form.specs.Receiving.{IsExpected, IsPartRead, IsPartFault};
 
 use super::cipher::{are_letters, enciphered, is_window};
 use super::fault::FormFault;
 use super::heading::Indicator;
-use super::key_line::pin_keys;
+use super::heading_line::read_heading;
+use super::key_line::{pin_keys, slots_of};
 use super::making::internal_key_of;
 use super::suiting::are_of_the_day;
+use super::text::{count_letters, take_piece};
 use arrayvec::ArrayVec;
 use kd_state::SheetDay;
 use kd_tables::Letter;
@@ -80,5 +84,86 @@ fn read_pin_letters(
     match internal_key_of(day, &keys) {
         Some(internal) => Ok(enciphered(day, internal.as_slice(), text)),
         None => Err(FormFault::IndicatorSpent { part }),
+    }
+}
+
+/// The letters of the text of a part, whose heading has this indicator.
+fn read_letters(
+    day: &SheetDay,
+    part: u8,
+    indicator: &Option<Indicator>,
+    letters: &[Letter],
+) -> Result<ArrayVec<Letter, 500>, FormFault>
+    requires indicator { HasIndicator day.now indicator.now }
+    requires count { IsLetterCount day.now (length letters.now) }
+    ensures { MatchResult result
+        (λ text. IsLettersText day.now indicator.now letters.now text.items)
+        (IsLettersFault day.now part indicator.now letters.now) }
+{
+    let _slots = slots_of(day);
+    match indicator {
+        Some(indicator) => read_rotor_letters(day, part, indicator, letters),
+        None => read_pin_letters(day, part, letters),
+    }
+}
+
+/// What a part is read as: of how many parts it is, and the letters of its text.
+#[derive(Drop)]
+pub(crate) struct PartText {
+    pub(crate) parts: u8,
+    pub(crate) letters: ArrayVec<Letter, 500>,
+}
+
+/// The text of the part of that number, before which so many bytes of the form stand. The first part says of how many parts
+/// the form is.
+fn read_part(
+    day: &SheetDay,
+    number: u8,
+    expected: &Option<u8>,
+    start: usize,
+    part: &[u8],
+) -> Result<PartText, FormFault>
+    requires { start + length part.now < 2 ^ 63 }
+    ensures { MatchResult result
+        (λ read. IsPartRead day.now number expected.now part.now read.parts read.letters.items)
+        (IsPartFault day.now number expected.now start part.now) }
+{
+    let Some((heading, body)) = read_heading(day, part) else {
+        return Err(FormFault::BadHeading { part: number });
+    };
+    if heading.part != number {
+        return Err(FormFault::PartOrder);
+    }
+    if !is_expected(expected, heading.parts) {
+        return Err(FormFault::PartOrder);
+    }
+    let count = match count_letters(None, body) {
+        Ok(count) => count,
+        Err(place) => {
+            return Err(FormFault::BadByte {
+                position: start + (part.len() - body.len()) + place + 1,
+            });
+        }
+    };
+    if count != heading.letters {
+        return Err(FormFault::CountWrong { part: number });
+    }
+    let (letters, _) = take_piece(None, 520, body);
+    match read_letters(day, number, &heading.indicator, letters.as_slice()) {
+        Ok(letters) => Ok(PartText {
+            parts: heading.parts,
+            letters,
+        }),
+        Err(fault) => Err(fault),
+    }
+}
+
+/// Whether the number of parts is the first part's, if there was one.
+fn is_expected(expected: &Option<u8>, parts: u8) -> bool
+    ensures { IsTrue result ↔ IsExpected expected.now parts }
+{
+    match expected {
+        Some(first) => *first == parts,
+        None => true,
     }
 }

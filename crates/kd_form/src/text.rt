@@ -39,8 +39,8 @@ pub(crate) fn take_piece(
     blank: Option<Letter>,
     size: usize,
     text: &[u8],
-) -> (ArrayVec<Letter, 500>, &[u8])
-    requires { size ≤ 500 }
+) -> (ArrayVec<Letter, 520>, &[u8])
+    requires { size ≤ 520 }
     ensures letters { result.0.items ≡ take size (letters_from blank text.now) }
     ensures rest { letters_from blank result.1.now ≡ drop size (letters_from blank text.now) }
 {
@@ -57,8 +57,8 @@ pub(crate) fn take_piece(
 }
 
 /// Appends the letter, if there is one.
-fn push_letter(letters: &mut ArrayVec<Letter, 500>, letter: Option<Letter>)
-    requires { length letters.old.items < 500 }
+fn push_letter(letters: &mut ArrayVec<Letter, 520>, letter: Option<Letter>)
+    requires { length letters.old.items < 520 }
     ensures { letters.new.items ≡ letters.old.items ++ option_to_list letter }
 {
     if let Some(letter) = letter {

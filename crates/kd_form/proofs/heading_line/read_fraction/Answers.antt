@@ -1,14 +1,29 @@
+use Rattle.std.proofs.Common.{rules, arith}
 use Rattle.kd_form.proofs.Fractions.{fraction_parts}
+use Rattle.kd_form.proofs.Headings.{same_fraction}
 use Rattle.kd_form.proofs.heading_line.read_fraction.Goals as goal
+use Rattle.kd_form.proofs.heading_line.read_fraction.Goals.{then-part-lt1-via-then-part-lt1, then-part-lt1-via-else-part-lt1+then-part-parts, then-part-lt1-via-else-part-lt1+else-part-parts+then-parts-gt99}
 
 pub returns-in_err-part-2 : goal.returns-in_err-part-2
 returns-in_err-part-2 c =
     rw c.from_residual-in_err-part-2.ensures
-    (λ part parts small few is. c.in_err-part-2.ensures part small
-    (fraction_parts c.args.word.now c.in_ok-part.part.now c.in_ok-part.parts.now part parts c.texts_tell_first_parts.ensures small c.in_ok-part.ensures is).0)
+    (λ part parts number is. c.in_err-part-2.ensures part (omega (arith, number.in_order, number.few))
+    (fraction_parts c.args.word.now c.in_ok-part.part.now c.in_ok-part.parts.now part parts c.texts_tell_first_parts.ensures
+    (omega (arith, number.in_order, number.few)) c.in_ok-part.ensures is).0)
 
 pub returns-in_err-parts : goal.returns-in_err-parts
 returns-in_err-parts c =
     rw c.from_residual-in_err-parts.ensures
-    (λ part parts small few is. c.in_err-parts.ensures parts few
-    (fraction_parts c.args.word.now c.in_ok-part.part.now c.in_ok-part.parts.now part parts c.texts_tell_first_parts.ensures small c.in_ok-part.ensures is).1)
+    (λ part parts number is. c.in_err-parts.ensures parts (omega (arith, number.few))
+    (fraction_parts c.args.word.now c.in_ok-part.part.now c.in_ok-part.parts.now part parts c.texts_tell_first_parts.ensures
+    (omega (arith, number.in_order, number.few)) c.in_ok-part.ensures is).1)
+
+pub returns-then-part-lt1 : goal.returns-then-part-lt1
+returns-then-part-lt1 c = λ part parts number is.
+    let same = same_fraction c.args.word.now c.in_ok-part.part.now c.in_ok-part.parts.now part parts c.in_ok-part-2.part c.in_ok-parts.parts
+    c.texts_tell_first_parts.ensures number (search rules) (search rules) c.in_ok-part.ensures c.in_ok-part-2.ensures c.in_ok-parts.ensures is in
+    elim c.then-part-lt1.branch [
+      | then-part-lt1-via-then-part-lt1 w ↦ omega (arith, number.first, same.0, w.if-part-lt1.true)
+      | then-part-lt1-via-else-part-lt1+then-part-parts w ↦ omega (arith, number.in_order, same.0, same.1, w.if-part-parts.true)
+      | then-part-lt1-via-else-part-lt1+else-part-parts+then-parts-gt99 w ↦ omega (arith, number.few, same.1, w.if-parts-gt99.true)
+    ]

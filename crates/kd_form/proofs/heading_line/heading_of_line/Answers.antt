@@ -1,0 +1,15 @@
+use Rattle.std.proofs.Common.{ap, map}
+use Rattle.kd_form.proofs.Headings.{too_many_words, heading_told}
+use Rattle.kd_form.proofs.heading_line.heading_of_line.Goals as goal
+
+pub returns-in_err-words : goal.returns-in_err-words
+returns-in_err-words c =
+    rw c.from_residual.ensures
+    (λ h is. too_many_words c.args.day.now c.slots_of-slots.result h c.args.line.now c.numbers_and_letters_are_words.ensures.numbers c.lines_tell_words.ensures.split
+    c.slots_of-slots.ensures is c.in_err-words.ensures)
+
+pub returns : goal.returns
+returns c =
+    heading_told c.args.day.now c.slots_of-slots.result c.args.line.now _ _ c.heading_of_words.result c.numbers_and_letters_are_words.ensures.numbers
+    c.lines_tell_words.ensures.split c.lines_tell_words.ensures.joined c.slots_of-slots.ensures c.in_ok-words.ensures
+    (ap (map (λ word. word.now)) c.as_slice.ensures.value) c.heading_of_words.ensures

@@ -1,0 +1,52 @@
+-- What one part of a form becomes: the letters of its text, or a fault. Parts are counted from 1, positions in bytes from 1.
+use Rattle.std.specs.Prelude.{◌≡◌, ◌≢◌, ◌⊎◌, ℕ, ◌+◌, ◌-◌, List, [], ◌++◌, length, All, IsTrue, Option, Some, None}
+use Rattle.kd_state.specs.SheetDay.{Day}
+use Rattle.kd_state.specs.Words.{line_of}
+use Rattle.kd_form.specs.declared.fault.FormFault.{FormFault}
+use Rattle.kd_form.specs.declared.fault.FormFault.TheVariants.{BadByte, BadHeading, CountWrong, PartOrder}
+use Rattle.kd_form.specs.declared.heading.Heading.{Heading}
+use Rattle.kd_form.specs.Filling.{IsEnded}
+use Rattle.kd_form.specs.Part.{heading_words}
+use Rattle.kd_form.specs.Sending.{is_text_byte, letters_from, IsBadAt}
+use Rattle.kd_form.specs.Reading.{IsLettersText, IsLettersFault}
+use Rattle.kd_form.specs.FormParts.{IsHeading}
+
+-- the first line of the part is that of this heading, and the body follows it: the last line of a form may lack its end
+pub record HasHeading (s : Day) (part : List ℕ) (h : Heading) (body : List ℕ) : Type 0 where
+  pub line : List ℕ
+  pub joined : part ≡ line ++ body
+  pub ended : IsEnded (line_of (heading_words h)) line ⊎ ((line ≡ line_of (heading_words h)) × (body ≡ []))
+  pub is_heading : IsHeading s h
+
+-- the number of parts is the first part's, if there was one
+abbrev pub IsExpected : Option ℕ → ℕ → Type 0
+IsExpected None parts = Unit {0}
+IsExpected (Some first) parts = first ≡ parts
+
+-- the part is the one of that number, its body has as many letters as the heading says, and they become this text
+pub record IsPartRead (s : Day) (number : ℕ) (expected : Option ℕ) (part : List ℕ) (parts : ℕ) (text : List ℕ) : Type 0 where
+  pub heading : Heading
+  pub body : List ℕ
+  pub has : HasHeading s part heading body
+  pub numbered : heading.part ≡ number
+  pub so_many : heading.parts ≡ parts
+  pub as_expected : IsExpected expected parts
+  pub allowed : All (λ b. IsTrue (is_text_byte b)) body
+  pub counted : length (letters_from None body) ≡ heading.letters
+  pub read : IsLettersText s heading.indicator (letters_from None body) text
+
+-- The first of the reasons, for a part before which so many bytes of the form stand: it has no heading; it isn't the one of that
+-- number, or the number of parts is another one; a byte of the body may not stand there; its letters are more or fewer; or
+-- they are refused.
+pub data IsPartFault (s : Day) (number : ℕ) (expected : Option ℕ) (start : ℕ) (part : List ℕ) (fault : FormFault) : Type 0 where
+  InHeading : ((h : Heading) (body : List ℕ) → ¬ (HasHeading s part h body)) → fault ≡ BadHeading number → IsPartFault s number expected start part fault
+  InNumber : (h : Heading) (body : List ℕ) → HasHeading s part h body → (h.part ≢ number) ⊎ (¬ (IsExpected expected h.parts)) → fault ≡ PartOrder
+      → IsPartFault s number expected start part fault
+  InBody : (h : Heading) (body : List ℕ) (place : ℕ) → HasHeading s part h body → h.part ≡ number → IsExpected expected h.parts → IsBadAt body place
+      → fault ≡ BadByte (start + (length part - length body) + place + 1) → IsPartFault s number expected start part fault
+  InCount : (h : Heading) (body : List ℕ) → HasHeading s part h body → h.part ≡ number → IsExpected expected h.parts
+      → All (λ b. IsTrue (is_text_byte b)) body → length (letters_from None body) ≢ h.letters → fault ≡ CountWrong number
+      → IsPartFault s number expected start part fault
+  InLetters : (h : Heading) (body : List ℕ) → HasHeading s part h body → h.part ≡ number → IsExpected expected h.parts
+      → All (λ b. IsTrue (is_text_byte b)) body → length (letters_from None body) ≡ h.letters
+      → IsLettersFault s number h.indicator (letters_from None body) fault → IsPartFault s number expected start part fault
