@@ -12,7 +12,7 @@ use Rattle.kd_desk.specs.declared.fault.DeskFault.TheVariants.{Illegal, Device}
 use Rattle.kd_desk.specs.Ports.{Port}
 use Rattle.kd_desk.specs.Settings.{AreSettings, IsSettingsFault}
 
--- the machine's file was written, or a front of it where the device failed
+-- the machine's file was written, or a prefix of it where the device failed
 pub record WritesMachine (m : Parts) (sink : Port) (answer : Result (Unit {0}) DeskFault) : Type 0 where
   pub written : Writes sink.had sink.has (machine_text m) answer
   pub device : OnErr answer (answer ≡ Err Device)

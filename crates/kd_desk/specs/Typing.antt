@@ -47,7 +47,7 @@ pub record Lights (key left : EngineKey) (bytes lamps : List ℕ) : Type 0 where
 abbrev pub read_limit : ℕ
 read_limit = 1048576
 
--- what was written is a front of the cipher of a front of what was read, which is allowed
+-- what was written is a prefix of the cipher of a prefix of what was read, which is allowed
 pub record TypesFront (key : EngineKey) (read text : List ℕ) : Type 0 where
   pub front : List ℕ
   pub of_read : StartsWith read front
@@ -60,7 +60,7 @@ pub record TypesWhole (key : EngineKey) (source sink : Port) (read text : List �
   pub allowed : AreAllowedBytes read
   pub written : text ≡ cipher_text key read
 
--- the sink failed, and what was written before is a front of the cipher
+-- the sink failed, and what was written before is a prefix of the cipher
 pub record TypesPart (key : EngineKey) (source sink : Port) (read text : List ℕ) : Type 0 where
   pub fails : FailsAlone sink source
   pub front : TypesFront key read text

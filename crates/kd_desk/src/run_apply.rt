@@ -21,7 +21,7 @@ use std::alloc::Global;
 ///
 /// The machine file's faults come first, then those of the list or of the card, then the first line that the machine
 /// refuses, and nothing is written where the call is refused for these. Of a card neither the day nor the prices are
-/// looked at. After `Device` a front of the file was written.
+/// looked at. After `Device` a prefix of the file was written.
 pub fn run_apply<W: Sink>(
     alloc: Global,
     machine: &[u8],

@@ -22,7 +22,7 @@ use std::alloc::Global;
 /// faults come first, then a machine that isn't ready, and nothing is read or written where the call is refused for these.
 /// Then the text is read to its end, a piece at a time: the call is refused at the first byte that is not allowed, and where more
 /// than 1,048,576 bytes come, and has then written the lamps of the letters before, without the line feed. So it has where
-/// a read fails; where a write fails, it has written a front of what it was to write.
+/// a read fails; where a write fails, it has written a prefix of what it was to write.
 pub fn run_type<R: Source, W: Sink>(
     alloc: Global,
     machine: &[u8],
