@@ -9,7 +9,7 @@ pub enum Doubt {
     #[error("5 OtherModel")]
     OtherModel,
     /// The line is the first that the machine refuses in its turn, for this reason.
-    #[error("{}", IllegalAt { line: *.line, why: *.why })]
+    #[error("{}", IllegalAt {line: *.line, why: *.why})]
     IllegalAt { line: usize, why: Why },
     /// After the last line the machine doesn't read as the day.
     #[error("14 NotTheSheet")]
