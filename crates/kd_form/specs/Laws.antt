@@ -1,8 +1,9 @@
 -- What holds of orders and forms.
 use Rattle.std.specs.Prelude.{◌≡◌, ℕ, List}
-use Rattle.kd_state.specs.SheetDay.{Day}
+use Rattle.kd_state.specs.SheetDay.{Day, IsLegalDay}
 use Rattle.kd_form.specs.declared.fault.FormFault.{FormFault}
 use Rattle.kd_form.specs.Sending.{IsFormOf, IsSendFault}
+use Rattle.kd_form.specs.FormText.{IsTextOf, IsReceiveFault, IsGivenOf}
 
 -- an order becomes one form at most
 abbrev pub OrdersBecomeOneForm : Type 0
@@ -15,3 +16,19 @@ SentOrdersHaveNoFault = (s : Day) (order form : List ℕ) (fault : FormFault) �
 -- and an order has one fault at most
 abbrev pub OrdersHaveOneFault : Type 0
 OrdersHaveOneFault = (s : Day) (order : List ℕ) (fault other : FormFault) → IsSendFault s order fault → IsSendFault s order other → fault ≡ other
+
+-- a form becomes one text at most
+abbrev pub FormsBecomeOneText : Type 0
+FormsBecomeOneText = (s : Day) (form text other : List ℕ) → IsTextOf s form text → IsTextOf s form other → text ≡ other
+
+-- a form that becomes a text has no fault
+abbrev pub ReceivedFormsHaveNoFault : Type 0
+ReceivedFormsHaveNoFault = (s : Day) (form text : List ℕ) (fault : FormFault) → IsTextOf s form text → ¬ (IsReceiveFault s form fault)
+
+-- and a form has one fault at most
+abbrev pub FormsHaveOneFault : Type 0
+FormsHaveOneFault = (s : Day) (form : List ℕ) (fault other : FormFault) → IsReceiveFault s form fault → IsReceiveFault s form other → fault ≡ other
+
+-- the form that an order becomes, becomes the order's letters
+abbrev pub FormsGiveTheirOrders : Type 0
+FormsGiveTheirOrders = (s : Day) (order form : List ℕ) → IsLegalDay s → IsFormOf s order form → (given : List ℕ) × IsGivenOf s order given × IsTextOf s form given

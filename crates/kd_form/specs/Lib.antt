@@ -10,5 +10,6 @@ pub mod OnTheKey
 pub mod Reading
 pub mod FormParts
 pub mod Receiving
+pub mod FormText
 pub mod Laws
 pub mod KeyForms

@@ -15,7 +15,7 @@ use Rattle.kd_state.specs.declared.parts.Parts.TheVariants.{Rotor, Pin}
 use Rattle.kd_state.specs.declared.rotor_parts.RotorParts.{RotorParts}
 use Rattle.kd_state.specs.declared.pin_parts.PinParts.{PinParts}
 use Rattle.kd_state.specs.declared.sheet_wheel.SheetWheel.{SheetWheel}
-use Rattle.kd_state.specs.Laws.{ReadingIsReady, ReadingIsItsCipher, OnKeyIsReady, OnKeyIsItsCipher, TurnedHasTheDaysCipher, EquallySetDecipher, TurnedIsOnKey, TurnedHasItsKey}
+use Rattle.kd_state.specs.Laws.{ReadingIsReady, ReadingIsItsCipher, OnKeyIsReady, OnKeyIsItsCipher, TurnedHasTheDaysCipher, EquallySetDecipher, TheDayDeciphersItself, TurnedIsOnKey, TurnedHasItsKey}
 use Rattle.kd_state.specs.Machine.{IsMachine, AreCables, ring_at, letter_at}
 use Rattle.kd_state.specs.OnKey.{OnKey, IsRotorOnKey, IsPinOnKey}
 use Rattle.kd_state.specs.SheetDay.{RotorDay, Day, OfRotors, OfPins, IsLegalDay, IsLegalRotorDay}
@@ -90,8 +90,7 @@ module _ (alike : SamePairsExchangeAlike) where
 
   -- what one enciphers the other deciphers
   module _ (board : PairsMakeAPlugboard) (enigma_twice : enigma.TwiceGivesBack) (drum_twice : drum.TwiceGivesBack) where
-    twice_on_key : (s : Day) (window text : List ℕ) → IsLegalDay s → All (λ letter. letter < 26) text
-        → cipher (key_with_window (sheet_key s) window) (cipher (key_with_window (sheet_key s) window) text) ≡ text
+    pub twice_on_key : TheDayDeciphersItself
     twice_on_key (OfRotors s) window text legal letters = enigma_twice _ text (board s.pairs legal.pairs.apart legal.pairs.within) letters
     twice_on_key (OfPins s) window text legal letters = drum_twice (record { pins = pins_of s.pins; letters = window; rows = s.rows }) text letters
 

@@ -92,6 +92,11 @@ abbrev pub EquallySetDecipher : Type 0
 EquallySetDecipher = (m n : Parts) (s : Day) (text : List ℕ) → IsMachine m → IsMachine n → IsLegalDay s → OnKey m s → OnKey n s
     → window_of m ≡ window_of n → All (λ letter. letter < 26) text → physical_cipher n (physical_cipher m text) ≡ text
 
+-- what the day's own machine enciphers, it deciphers if it shows the same letters again
+abbrev pub TheDayDeciphersItself : Type 0
+TheDayDeciphersItself = (s : Day) (window text : List ℕ) → IsLegalDay s → All (λ letter. letter < 26) text
+    → cipher (key_with_window (sheet_key s) window) (cipher (key_with_window (sheet_key s) window) text) ≡ text
+
 -- with other letters a machine on the key is on the key still, and its key is the same but for the letters
 abbrev pub TurnedIsOnKey : Type 0
 TurnedIsOnKey = (m n : Parts) (s : Day) (window : List ℕ) → IsTurned m window n → OnKey m s → OnKey n s

@@ -6,7 +6,7 @@ ghost use Rattle.kd_state.specs.Laws.{SettingsKeepMachines, ListsKeepMachines, R
 ghost use Rattle.kd_state.specs.Laws.{SeatsAreByTheTables, ReflectorsAreByTheTables, RingsAreByTheTables};
 ghost use Rattle.kd_state.specs.Laws.{ReadingIsReady, ReadingIsItsCipher, OnKeyIsReady, OnKeyIsItsCipher};
 ghost use Rattle.kd_state.specs.Laws.{TurnedIsOnKey, TurnedHasItsKey, TurnedHasTheDaysCipher, MachinesCanBeTurned, EquallySetDecipher};
-ghost use Rattle.kd_state.specs.Laws.{CipherInTurn, KeyInTurn};
+ghost use Rattle.kd_state.specs.Laws.{TheDayDeciphersItself, CipherInTurn, KeyInTurn};
 ghost use Rattle.kd_state.specs.Laws.{CostTablesAreSquare};
 
 /// Words, joined by one space, are told by their line, and split off it again. Their line has no LF.
@@ -99,6 +99,15 @@ pub fn ready_machines_can_be_turned()
 /// What a machine on the day's key enciphers, another one on the key deciphers that shows the same letters.
 pub fn equally_set_machines_decipher()
     ensures { EquallySetDecipher }
+{
+    kd_enigma::laws::pairs_make_a_plugboard();
+    kd_enigma::laws::enciphering_twice_gives_back();
+    kd_drum::laws::enciphering_twice_gives_back();
+}
+
+/// What the day's own machine enciphers, it deciphers if it shows the same letters again.
+pub fn the_day_deciphers_itself()
+    ensures { TheDayDeciphersItself }
 {
     kd_enigma::laws::pairs_make_a_plugboard();
     kd_enigma::laws::enciphering_twice_gives_back();
