@@ -19,3 +19,4 @@ pub mod Spelled
 pub mod Headings
 pub mod FirstLines
 pub mod ReadParts
+pub mod Received

@@ -4,10 +4,9 @@ use Rattle.kd_state.specs.SheetDay.{Day, OfRotors, OfPins}
 use Rattle.kd_form.specs.declared.fault.FormFault.{FormFault}
 use Rattle.kd_form.specs.declared.fault.FormFault.TheVariants.{PartOrder}
 use Rattle.kd_form.specs.declared.keys.Keys.{Keys}
-use Rattle.kd_form.specs.Keys.{letters_text}
 use Rattle.kd_form.specs.Making.{filled}
 use Rattle.kd_form.specs.Order.{IsOrder}
-use Rattle.kd_form.specs.Sending.{text_letters}
+use Rattle.kd_form.specs.Sending.{blank_of, text_letters}
 use Rattle.kd_form.specs.FormParts.{IsFirstOf}
 use Rattle.kd_form.specs.Receiving.{IsPartRead, IsPartFault}
 
@@ -29,10 +28,14 @@ pub record IsReadTo (s : Day) (form rest : List ℕ) (parts : List (List ℕ)) (
 
 -- ---- the text
 
--- letters as they are given: on the Converter M-209 a blank for each Z
+-- the byte that is given for a letter, where a space may stand for one
+abbrev pub given_byte : Option ℕ → ℕ → ℕ
+given_byte None letter = letter + 65
+given_byte (Some blank) letter = if letter == blank then 32 else letter + 65
+
+-- letters as they are given: on the Converter M-209 with a space for each Z
 abbrev pub given_letters : Day → List ℕ → List ℕ
-given_letters (OfRotors s) letters = letters_text letters
-given_letters (OfPins s) letters = map (λ letter. if letter == 25 then 32 else letter + 65) letters
+given_letters s letters = map (given_byte (blank_of s)) letters
 
 -- with LF at their end
 abbrev pub given_text : Day → List ℕ → List ℕ

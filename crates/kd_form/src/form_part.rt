@@ -5,7 +5,7 @@ ghost use Rattle.kd_form.specs.FormParts.{BeginsHeading, IsFirstOf};
 use kd_state::split_once;
 
 /// The first part of the bytes, up to the next line that begins as a heading, and what follows it.
-fn split_part(bytes: &[u8]) -> (&[u8], &[u8])
+pub(crate) fn split_part(bytes: &[u8]) -> (&[u8], &[u8])
     ensures { IsFirstOf bytes.now result.0.now result.1.now }
 {
     let mut rest = bytes;

@@ -15,6 +15,7 @@ pub mod laws;
 mod making;
 mod order;
 mod reading;
+mod receiving;
 mod sending;
 mod suiting;
 #[cfg(test)]
@@ -22,4 +23,5 @@ mod tests;
 mod text;
 
 pub use fault::FormFault;
+pub use receiving::receive;
 pub use sending::send;

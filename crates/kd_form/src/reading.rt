@@ -116,7 +116,7 @@ pub(crate) struct PartText {
 
 /// The text of the part of that number, before which so many bytes of the form stand. The first part says of how many parts
 /// the form is.
-fn read_part(
+pub(crate) fn read_part(
     day: &SheetDay,
     number: u8,
     expected: &Option<u8>,
