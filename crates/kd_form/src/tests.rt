@@ -1,2 +1,4 @@
+mod long_texts;
+mod receiving;
 mod samples;
 mod sending;

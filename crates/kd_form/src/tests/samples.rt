@@ -3,6 +3,7 @@ use kd_pins::PinSet;
 use kd_state::{Machine, PerSlot, PerWheel, PinParts, RotorParts, SheetDay, SheetWheel};
 use kd_tables::{Letter, Model, Place, Reading, Reflector, Standing, Wheel};
 use std::process::Abort;
+use std::test::Fail;
 
 /// The letter of that capital letter.
 pub fn letter(rt: &impl Abort, byte: u8) -> Letter {
@@ -78,6 +79,11 @@ pub fn s1(rt: &impl Abort, group: &[u8; 3]) -> SheetDay {
     .expect(rt, "a day of a sheet")
 }
 
+/// An Enigma I with the wheels I, II and III, all rings and letters A, on its day with the group ZUG.
+pub fn keyed(rt: &impl Abort) -> Keyed {
+    (m1(rt, b"AAAAA", b"AAAAA"), s1(rt, b"ZUG"))
+}
+
 /// An M4 with thin reflector b, the wheels Beta, I, II and III, no cables, and all rings and letters A, on its day.
 pub fn m4(rt: &impl Abort) -> Keyed {
     let parts = RotorParts {
@@ -145,3 +151,69 @@ fn converter(rt: &impl Abort, pins: PinSet, bar: Standing, row: (u8, u8)) -> Key
         day.expect(rt, "a day of a sheet"),
     )
 }
+
+/// The ten cables of a message of 1941.
+const CABLES: [[u8; 2]; 10] = [
+    *b"AV", *b"BS", *b"CG", *b"DL", *b"FU", *b"HZ", *b"IN", *b"KM", *b"OW", *b"RX",
+];
+
+/// An Enigma I on the key of a message of 1941, with its day, which has one group.
+pub fn message_of_1941(rt: &impl Abort, group: &[u8; 3]) -> Keyed {
+    let mut cables = [(None, None); 13];
+    let mut pairs = [(Letter::A, Letter::A); 10];
+    for (place, [one, other]) in CABLES.iter().enumerate() {
+        let (one, other) = (letter(rt, *one), letter(rt, *other));
+        cables[place] = (Some(one), Some(other));
+        pairs[place] = (one, other);
+    }
+    let parts = RotorParts {
+        model: Model::EnigmaI,
+        slots: slots(rt, &[Wheel::II, Wheel::IV, Wheel::V]),
+        reflector: Reflector::B,
+        rings: per_wheel(rt, b"ABAUL"),
+        letters: per_wheel(rt, b"ABALA"),
+        cables,
+    };
+    let wheel = |wheel, ring, window| SheetWheel {
+        wheel,
+        ring: letter(rt, ring),
+        letter: letter(rt, window),
+    };
+    let day = SheetDay::rotor(
+        14,
+        Model::EnigmaI,
+        Reflector::B,
+        &[
+            wheel(Wheel::II, b'B', b'B'),
+            wheel(Wheel::IV, b'U', b'L'),
+            wheel(Wheel::V, b'L', b'A'),
+        ],
+        &pairs,
+        &[letters(rt, group)],
+    );
+    (
+        Machine::rotor(parts).expect(rt, "legal parts"),
+        day.expect(rt, "a day of a sheet"),
+    )
+}
+
+/// So many lines of these keys, TEXT, and so many letters A.
+pub fn order_of(
+    rt: &HostRuntime,
+    keys: &[u8],
+    lines: usize,
+    letters: usize,
+) -> Result<Vec<u8>, Fail> {
+    let mut order = Vec::new(rt.alloc());
+    for _ in 0..lines {
+        order.extend_from_slice(keys)?;
+    }
+    order.extend_from_slice(b"TEXT\n")?;
+    for _ in 0..letters {
+        order.push(b'A').map_err(|_| "no memory")?;
+    }
+    Ok(order)
+}
+
+/// A line of keys for M1's day with the group ZUG.
+pub const KEYS: &[u8] = b"PART AAA AAA QX UGZ\n";

@@ -1,25 +1,7 @@
-use super::samples::{Keyed, m1, m4, s1, with_one_pin, without_pins};
+use super::samples::{KEYS, Keyed, keyed, m1, m4, order_of, s1, with_one_pin, without_pins};
 use crate::{FormFault, send};
 use std::process::Abort;
 use std::test::Fail;
-
-/// The line of keys, TEXT, and so many letters A.
-fn order_of_letters(rt: &HostRuntime, lines: usize, letters: usize) -> Result<Vec<u8>, Fail> {
-    let mut order = Vec::new(rt.alloc());
-    for _ in 0..lines {
-        order.extend_from_slice(b"PART AAA AAA QX UGZ\n")?;
-    }
-    order.extend_from_slice(b"TEXT\n")?;
-    for _ in 0..letters {
-        order.push(b'A').map_err(|_| "no memory")?;
-    }
-    Ok(order)
-}
-
-/// The machine with the wheels I, II and III, on its day with the group ZUG.
-fn keyed(rt: &impl Abort) -> Keyed {
-    (m1(rt, b"AAAAA", b"AAAAA"), s1(rt, b"ZUG"))
-}
 
 /// What the order is refused for.
 fn fault(rt: &HostRuntime, (machine, day): &Keyed, order: &[u8]) -> Option<FormFault> {
@@ -80,25 +62,6 @@ fn an_order_becomes_a_form_on_the_converter(rt: HostRuntime) -> Result<(), Fail>
 }
 
 #[test]
-fn a_long_text_takes_two_parts(rt: HostRuntime) -> Result<(), Fail> {
-    let (machine, day) = keyed(&rt);
-    let order = order_of_letters(&rt, 2, 246)?;
-    let form = send(rt.alloc(), &machine, &day, order.as_slice())?;
-    let first = b"PART 1/2 250 AAA BDZ\nQXUGZ BDZGO ";
-    let last = b"\nPART 2/2 6 AAA BDZ\nQXUGZ B\n";
-    assert!(rt; form.as_slice().starts_with(first));
-    assert!(rt; form.as_slice().ends_with(last));
-    assert_eq!(rt;
-        form.as_slice()
-            .iter()
-            .filter(|byte| **byte == b'\n')
-            .count(),
-        8
-    );
-    Ok(())
-}
-
-#[test]
 fn orders_are_refused_in_turn(rt: HostRuntime) -> Result<(), Fail> {
     let bad = |position| Some(FormFault::BadByte { position });
     let rotor = keyed(&rt);
@@ -129,18 +92,8 @@ fn orders_are_refused_in_turn(rt: HostRuntime) -> Result<(), Fail> {
     ] {
         assert_eq!(rt; fault(&rt, &rotor, order), due);
     }
-    let order = order_of_letters(&rt, 1, 246)?;
-    let due = Some(FormFault::PartKeys {
-        needed: 2,
-        given: 1,
-    });
-    assert_eq!(rt; fault(&rt, &rotor, order.as_slice()), due);
     assert_eq!(rt;
-        fault(&rt, &rotor, order_of_letters(&rt, 1, 245)?.as_slice()),
-        None
-    );
-    assert_eq!(rt;
-        fault(&rt, &rotor, order_of_letters(&rt, 100, 1)?.as_slice()),
+        fault(&rt, &rotor, order_of(&rt, KEYS, 100, 1)?.as_slice()),
         bad(1981)
     );
     Ok(())

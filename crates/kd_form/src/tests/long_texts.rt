@@ -1,0 +1,120 @@
+use super::samples::{KEYS, Keyed, keyed, order_of, without_pins};
+use crate::{FormFault, receive, send};
+use std::test::Fail;
+
+/// A line of keys for the day of the Converter without pins.
+const PIN_KEYS: &[u8] = b"PART T ABCDEF\n";
+
+/// The form of an order of so many lines of keys, and so many letters A.
+fn form_of(
+    rt: &HostRuntime,
+    (machine, day): &Keyed,
+    keys: &[u8],
+    lines: usize,
+    letters: usize,
+) -> Result<Vec<u8>, Fail> {
+    let order = order_of(rt, keys, lines, letters)?;
+    Ok(send(rt.alloc(), machine, day, order.as_slice())?)
+}
+
+/// Whether the text is so many letters A, and this.
+fn is_given(text: &[u8], letters: usize, end: &[u8]) -> bool {
+    match text.split_at_checked(letters) {
+        Some((letters, rest)) => letters.iter().all(|byte| *byte == b'A') && rest == end,
+        None => false,
+    }
+}
+
+#[test]
+fn a_long_text_takes_two_parts(rt: HostRuntime) -> Result<(), Fail> {
+    let keyed = keyed(&rt);
+    let form = form_of(&rt, &keyed, KEYS, 2, 246)?;
+    let first = b"PART 1/2 250 AAA BDZ\nQXUGZ BDZGO ";
+    let last = b"\nPART 2/2 6 AAA BDZ\nQXUGZ B\n";
+    assert!(rt; form.as_slice().starts_with(first));
+    assert!(rt; form.as_slice().ends_with(last));
+    let lines = form
+        .as_slice()
+        .iter()
+        .filter(|byte| **byte == b'\n')
+        .count();
+    assert_eq!(rt; lines, 8);
+    let (machine, day) = &keyed;
+    let text = receive(rt.alloc(), machine, day, form.as_slice())?;
+    assert!(rt; is_given(text.as_slice(), 246, b"\n"));
+    Ok(())
+}
+
+#[test]
+fn parts_are_missing_or_exchanged(rt: HostRuntime) -> Result<(), Fail> {
+    let keyed = keyed(&rt);
+    let (machine, day) = &keyed;
+    let form = form_of(&rt, &keyed, KEYS, 2, 246)?;
+    let second = b"PART 2/2 6 AAA BDZ\nQXUGZ B\n";
+    let first = form
+        .as_slice()
+        .strip_suffix(second)
+        .ok_or("no second part")?;
+    let mut exchanged = Vec::new(rt.alloc());
+    exchanged.extend_from_slice(second)?;
+    exchanged.extend_from_slice(first)?;
+    for form in [first, exchanged.as_slice()] {
+        let fault = receive(rt.alloc(), machine, day, form).err();
+        assert_eq!(rt; fault, Some(FormFault::PartOrder));
+    }
+    Ok(())
+}
+
+#[test]
+fn a_form_of_99_parts(rt: HostRuntime) -> Result<(), Fail> {
+    let keyed = keyed(&rt);
+    let form = form_of(&rt, &keyed, KEYS, 99, 24011)?;
+    let last = b"\nPART 99/99 6 AAA BDZ\nQXUGZ B\n";
+    assert!(rt; form.as_slice().ends_with(last));
+    let (machine, day) = &keyed;
+    let text = receive(rt.alloc(), machine, day, form.as_slice())?;
+    assert!(rt; is_given(text.as_slice(), 24011, b"\n"));
+    Ok(())
+}
+
+#[test]
+fn another_number_of_parts(rt: HostRuntime) -> Result<(), Fail> {
+    let (machine, day) = keyed(&rt);
+    for (lines, letters, due) in [
+        (1, 245, None),
+        (1, 246, Some((2, 1))),
+        (2, 245, Some((1, 2))),
+        (99, 24256, Some((100, 99))),
+    ] {
+        let order = order_of(&rt, KEYS, lines, letters)?;
+        let fault = send(rt.alloc(), &machine, &day, order.as_slice()).err();
+        let due = due.map(|(needed, given)| FormFault::PartKeys { needed, given });
+        assert_eq!(rt; fault, due);
+    }
+    Ok(())
+}
+
+#[test]
+fn long_texts_on_the_converter(rt: HostRuntime) -> Result<(), Fail> {
+    let keyed = without_pins(&rt);
+    let form = form_of(&rt, &keyed, PIN_KEYS, 2, 501)?;
+    let last = b"\nPART 2/2 25\nTTABC DEFQV ZCCCC TTABC DEFQV\n";
+    assert!(rt;
+        form.as_slice()
+            .starts_with(b"PART 1/2 520\nTTABC DEFQV ZZZZZ ")
+    );
+    assert!(rt; form.as_slice().ends_with(last));
+    let (machine, day) = &keyed;
+    let text = receive(rt.alloc(), machine, day, form.as_slice())?;
+    assert!(rt; is_given(text.as_slice(), 501, b"XXXX\n"));
+    let order = order_of(&rt, PIN_KEYS, 1, 500)?;
+    assert!(rt; send(rt.alloc(), machine, day, order.as_slice()).is_ok());
+    let order = order_of(&rt, PIN_KEYS, 1, 501)?;
+    let fault = send(rt.alloc(), machine, day, order.as_slice()).err();
+    let due = FormFault::PartKeys {
+        needed: 2,
+        given: 1,
+    };
+    assert_eq!(rt; fault, Some(due));
+    Ok(())
+}

@@ -1,0 +1,208 @@
+use super::samples::{Keyed, keyed, m1, m4, message_of_1941, s1, with_one_pin, without_pins};
+use crate::{FormFault, receive};
+use std::test::Fail;
+
+/// A message of 1941 up to `ZRCXN`; what follows is made up, in as many letters.
+const MESSAGE: &[u8] = b"PART 1/1 179 WXC KCH\n\
+    RFUGZ EDPUD NRGYS ZRCXN UYTPO MRMBO FKTBZ REZKM LXLVE FGUEY\n\
+    SIOZV EQMIK UBPMM YLKLT TDEIS MDICA GYKUA CTCDO MOHWX MUUIA\n\
+    UBSTS LRNBZ SZWNR FXWFY SSXJZ VIJHI DISHP RKLKA YUPAD TXQSP\n\
+    INQMA TLPIF SVKDA SCTAC DPBOP VHJK\n";
+
+/// The text of the form, or what it is refused for.
+fn text(rt: &HostRuntime, (machine, day): &Keyed, form: &[u8]) -> Result<Vec<u8>, FormFault> {
+    receive(rt.alloc(), machine, day, form)
+}
+
+/// What the form is refused for.
+fn fault(rt: &HostRuntime, keyed: &Keyed, form: &[u8]) -> Option<FormFault> {
+    text(rt, keyed, form).err()
+}
+
+#[test]
+fn a_form_becomes_its_text(rt: HostRuntime) -> Result<(), Fail> {
+    let keyed = keyed(&rt);
+    for form in [
+        b"PART 1/1 10 AAA BDZ\nQXUGZ BDZGO\n".as_slice(),
+        b"PART 1/1 10 AAA BDZ\nQXUGZ BDZGO",
+        b"PART 1/1 10 AAA BDZ\r\nQXUGZ BDZGO\r\n",
+        b"PART 1/1 10 AAA BDZ\nQXUGZBDZGO",
+        b"PART 1/1 10 AAA BDZ\nQ\nX\nU\nG\nZ\nB\nD\nZ\nG\nO\n",
+        b"PART 1/1 10 AAA BDZ\n\n Q X UGZ \n\nB  DZGO\r\r ",
+        b"PART 1/1 10 AAA BDZ\nQXGUZ BDZGO\n",
+    ] {
+        assert_eq!(rt; text(&rt, &keyed, form)?.as_slice(), b"AAAAA\n".as_slice());
+    }
+    let keyed = m4(&rt);
+    let form = b"PART 1/1 10 AAAA BDZG\nQXUGZ BDZGO\n";
+    assert_eq!(rt; text(&rt, &keyed, form)?.as_slice(), b"AAAAA\n".as_slice());
+    Ok(())
+}
+
+#[test]
+fn a_message_of_1941(rt: HostRuntime) -> Result<(), Fail> {
+    let keyed = message_of_1941(&rt, b"UGZ");
+    let given = text(&rt, &keyed, MESSAGE)?;
+    assert!(rt; given.as_slice().starts_with(b"AUFKLXABTEILUNG"));
+    assert_eq!(rt; given.len(), 175);
+    assert_eq!(rt; given.last(), Some(&b'\n'));
+    let whole = MESSAGE.len() - 1;
+    let also = text(&rt, &keyed, &MESSAGE[..whole])?;
+    assert_eq!(rt; also.as_slice(), given.as_slice());
+    for cut in 0..whole {
+        let due = if cut < 20 {
+            FormFault::BadHeading { part: 1 }
+        } else {
+            FormFault::CountWrong { part: 1 }
+        };
+        assert_eq!(rt; fault(&rt, &keyed, &MESSAGE[..cut]), Some(due));
+    }
+    let other = message_of_1941(&rt, b"ABC");
+    assert_eq!(rt;
+        fault(&rt, &other, MESSAGE),
+        Some(FormFault::WrongGroup { part: 1 })
+    );
+    Ok(())
+}
+
+#[test]
+fn a_message_with_another_count(rt: HostRuntime) -> Result<(), Fail> {
+    let keyed = message_of_1941(&rt, b"UGZ");
+    for heading in [b"PART 1/1 178 WXC KCH".as_slice(), b"PART 1/1 180 WXC KCH"] {
+        let mut form = Vec::new(rt.alloc());
+        form.extend_from_slice(heading)?;
+        form.extend_from_slice(&MESSAGE[20..])?;
+        assert_eq!(rt;
+            fault(&rt, &keyed, form.as_slice()),
+            Some(FormFault::CountWrong { part: 1 })
+        );
+    }
+    Ok(())
+}
+
+#[test]
+fn a_form_of_the_converter_becomes_its_text(rt: HostRuntime) -> Result<(), Fail> {
+    let form = b"PART 1/1 35\nTTABC DEFQV SVOOL ADLIO WCCCC TTABC DEFQV\n";
+    let given = text(&rt, &without_pins(&rt), form)?;
+    assert_eq!(rt; given.as_slice(), b"HELLO WORLDXXXX\n".as_slice());
+    let form = b"PART 1/1 25\nJJVAA AAAQV ZZZZZ JJVAA AAAQV\n";
+    let given = text(&rt, &with_one_pin(&rt), form)?;
+    assert_eq!(rt; given.as_slice(), b"AAAAA\n".as_slice());
+    Ok(())
+}
+
+#[test]
+fn forms_of_the_converter_are_refused_in_turn(rt: HostRuntime) {
+    let keyed = without_pins(&rt);
+    for (form, due) in [
+        (
+            b"PART 1/1 20\nTTABC DEFQV TTABC DEFQV".as_slice(),
+            FormFault::BadHeading { part: 1 },
+        ),
+        (
+            b"PART 1/1 26\nTTABC DEFQV SVOOL A TTABC DEFQV",
+            FormFault::BadHeading { part: 1 },
+        ),
+        (
+            b"PART 1/1 525\nTTABC DEFQV",
+            FormFault::BadHeading { part: 1 },
+        ),
+        (
+            b"PART 1/1 25 AAA BDZ\nTTABC DEFQV SVOOL TTABC DEFQV",
+            FormFault::BadHeading { part: 1 },
+        ),
+        (
+            b"PART 1/1 25\nTTABC DEFQV SVOOL TTABC DEFQW",
+            FormFault::IndicatorsDiffer { part: 1 },
+        ),
+        (
+            b"PART 1/1 25\nTUABC DEZQW SVOOL TUABC DEZQW",
+            FormFault::IndicatorsDiffer { part: 1 },
+        ),
+        (
+            b"PART 1/1 25\nTTABC DEZQW SVOOL TTABC DEZQW",
+            FormFault::KeyNotOnWheel,
+        ),
+        (
+            b"PART 1/1 25\nAAABC DEFQW SVOOL AAABC DEFQW",
+            FormFault::WrongGroup { part: 1 },
+        ),
+        (
+            b"PART 1/1 25\nAAABC DEFQV SVOOL AAABC DEFQV",
+            FormFault::IndicatorSpent { part: 1 },
+        ),
+    ] {
+        assert_eq!(rt; fault(&rt, &keyed, form), Some(due));
+    }
+}
+
+#[test]
+fn forms_are_refused_in_turn(rt: HostRuntime) {
+    let keyed = keyed(&rt);
+    let heading = |part| FormFault::BadHeading { part };
+    let byte = |position| FormFault::BadByte { position };
+    for (form, due) in [
+        (b"".as_slice(), heading(1)),
+        (b"\nPART 1/1 6 AAA BDZ\nQXUGZ B", heading(1)),
+        (b"PART 1/1 6 AAA BDZ\r", heading(1)),
+        (b"PART 01/1 6 AAA BDZ\nQXUGZ B", heading(1)),
+        (b"PART 1/01 6 AAA BDZ\nQXUGZ B", heading(1)),
+        (b"PART 1/1 06 AAA BDZ\nQXUGZ B", heading(1)),
+        (b"PART 0/1 6 AAA BDZ\nQXUGZ B", heading(1)),
+        (b"PART 2/1 6 AAA BDZ\nQXUGZ B", heading(1)),
+        (b"PART 1/100 6 AAA BDZ\nQXUGZ B", heading(1)),
+        (b"PART 1/1 5 AAA BDZ\nQXUGZ", heading(1)),
+        (b"PART 1/1 251 AAA BDZ\nQXUGZ", heading(1)),
+        (b"PART 1/1 6\nQXUGZ B", heading(1)),
+        (b"PART 1/1 6 AAA BD\nQXUGZ B", heading(1)),
+        (b"PART 1/1 6 AAA BDZ \nQXUGZ B", heading(1)),
+        (b"PART 1/1 6 AAA BDz\nQXUGZ B", heading(1)),
+        (b"PART 2/2 6 AAA BDZ\nQXUGz", FormFault::PartOrder),
+        (b"PART 1/1 6 AAA BDZ\nQXABC Bz", byte(27)),
+        (
+            b"PART 1/1 6 AAA BDZ\nQXABC\nPART X",
+            FormFault::CountWrong { part: 1 },
+        ),
+        (
+            b"PART 1/1 6 AAA BDZ\nQXABC BB",
+            FormFault::CountWrong { part: 1 },
+        ),
+        (
+            b"PART 1/1 6 AAA BDZ\nQXABC B",
+            FormFault::WrongGroup { part: 1 },
+        ),
+        (b"PART 1/2 6 AAA BDZ\nQXUGZ B", FormFault::PartOrder),
+        (
+            b"PART 1/2 6 AAA BDZ\nQXUGZ B\nPART 2/2 6 AAA BD",
+            heading(2),
+        ),
+        (
+            b"PART 1/2 6 AAA BDZ\nQXUGZ B\nPART 1/2 6 AAA BDZ\nQXUGZ B",
+            FormFault::PartOrder,
+        ),
+        (
+            b"PART 1/2 6 AAA BDZ\nQXUGZ B\nPART 2/3 6 AAA BDZ\nQXUGZ B",
+            FormFault::PartOrder,
+        ),
+        (
+            b"PART 1/2 6 AAA BDZ\nQXUGZ B\nPART 2/2 6 AAA BDZ\nQXUGZ 1",
+            byte(53),
+        ),
+        (
+            b"PART 1/2 6 AAA BDZ\nQXUGZ B\nPART 2/2 6 AAA BDZ\nQXUGZ BPART 3",
+            byte(59),
+        ),
+        (
+            b"PART 1/2 6 AAA BDZ\nQXUGZ B\nPART 2/2 6 AAA BDZ\nQXABC B",
+            FormFault::WrongGroup { part: 2 },
+        ),
+    ] {
+        assert_eq!(rt; fault(&rt, &keyed, form), Some(due));
+    }
+}
+
+#[test]
+fn a_machine_off_the_key_receives_nothing(rt: HostRuntime) {
+    let keyed = (m1(&rt, b"BAAAA", b"AAAAA"), s1(&rt, b"ZUG"));
+    assert_eq!(rt; fault(&rt, &keyed, b""), Some(FormFault::NotOnKey));
+}
