@@ -20,3 +20,4 @@ pub mod Headings
 pub mod FirstLines
 pub mod ReadParts
 pub mod Received
+pub mod PartTexts
