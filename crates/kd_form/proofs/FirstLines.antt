@@ -19,7 +19,7 @@ use Rattle.kd_form.proofs.Headings.{small_count}
 
 -- ---- no byte of a heading's line is below the space
 
-abbrev IsPlain : List ℕ → Type 0
+abbrev pub IsPlain : List ℕ → Type 0
 IsPlain text = All (λ byte. 32 ≤ byte) text
 
 plain_number : (number : ℕ) → number < 2 ^ 64 → IsPlain (decimal number)
@@ -30,10 +30,10 @@ plain_number number small =
 plain_letters : (letters : List ℕ) → IsPlain (letters_text letters)
 plain_letters letters = All-map (λ b. 32 ≤ b) (λ l. l + 65) letters (λ k d inside. omega arith)
 
-plain_more : (word text : List ℕ) → IsPlain word → IsPlain text → IsPlain (word ++ 32 ∷ text)
+pub plain_more : (word text : List ℕ) → IsPlain word → IsPlain text → IsPlain (word ++ 32 ∷ text)
 plain_more word text one other = All-append (λ b. 32 ≤ b) word (32 ∷ text) one (All-cons (λ b. 32 ≤ b) 32 text (omega arith) other)
 
-plain_part : IsPlain (codes "PART")
+pub plain_part : IsPlain (codes "PART")
 plain_part =
     All-cons (λ b. 32 ≤ b) 80 (65 ∷ 82 ∷ 84 ∷ []) (omega arith) (All-cons (λ b. 32 ≤ b) 65 (82 ∷ 84 ∷ []) (omega arith)
     (All-cons (λ b. 32 ≤ b) 82 (84 ∷ []) (omega arith) (All-cons (λ b. 32 ≤ b) 84 [] (omega arith) (All-nil (λ b. 32 ≤ b)))))
@@ -50,14 +50,14 @@ plain_end count (Some i) small =
     plain_more (decimal count) (letters_text i.start ++ 32 ∷ letters_text i.key) (plain_number count small)
     (plain_more (letters_text i.start) (letters_text i.key) (plain_letters i.start) (plain_letters i.key))
 
-plain_heading : (s : Day) (h : Heading) → IsHeading s h → IsPlain (line_of (heading_words h))
+pub plain_heading : (s : Day) (h : Heading) → IsHeading s h → IsPlain (line_of (heading_words h))
 plain_heading s h is =
     plain_more (codes "PART") (fraction h.part h.parts ++ 32 ∷ line_of (decimal h.letters ∷ indicator_words h.indicator)) plain_part
     (plain_more (fraction h.part h.parts) (line_of (decimal h.letters ∷ indicator_words h.indicator))
     (plain_fraction h.part h.parts (omega (arith, is.number.in_order, is.number.few)) (omega (arith, is.number.few)))
     (plain_end h.letters h.indicator (small_count s h.letters is.letters)))
 
-without : (byte : ℕ) (text : List ℕ) → byte < 32 → IsPlain text → IsWithout byte text
+pub without : (byte : ℕ) (text : List ℕ) → byte < 32 → IsPlain text → IsWithout byte text
 without byte text low plain = All-weaker (λ b. 32 ≤ b) (λ b. b ≢ byte) (λ b above same. omega (arith, above, same)) text plain
 
 has_byte : (byte : ℕ) (before rest : List ℕ) → ¬ (IsWithout byte (before ++ byte ∷ rest))

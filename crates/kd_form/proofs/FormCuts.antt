@@ -25,7 +25,7 @@ in_rest bytes rest place k behind from =
     let back : place + (k - place) ≡ k = omega arith in
     ap (λ i. get_or bytes i 0) (sym back) ∙ sym (get_or-drop place bytes (k - place) 0) ∙ ap (λ xs. get_or xs (k - place) 0) (sym behind)
 
-no_break : (line after : List ℕ) (k : ℕ) → IsWithout 10 line → k < length line → get_or (line ++ 10 ∷ after) k 0 ≢ 10
+pub no_break : (line after : List ℕ) (k : ℕ) → IsWithout 10 line → k < length line → get_or (line ++ 10 ∷ after) k 0 ≢ 10
 no_break line after k without inside is =
     All-get_or (λ byte. byte ≢ 10) line k 0 inside without (sym (get_or-append line (10 ∷ after) 0 k inside) ∙ is)
 

@@ -1,21 +1,29 @@
 -- A part as it is written: its heading, and the letters that its body gives.
-use Rattle.std.proofs.Common.{◌≡◌, ◌≢◌, ℕ, zero, suc, ◌+◌, ◌-◌, ◌<◌, ◌≤◌, ◌⊎◌, inl, inr, List, [], ◌∷◌, ◌++◌, length, get_or, map, take, drop, refl, sym, ap, subst, ◌∙◌, append_assoc, length-append, length-drop, add-one, arith}
-use Rattle.std.specs.Prelude.{nat_le, ◌&&◌, All, IsTrue, Some, None}
+use Rattle.std.proofs.Common.{◌≡◌, ◌≢◌, ℕ, zero, suc, ◌+◌, ◌-◌, ◌^◌, ◌<◌, ◌≤◌, ◌⊎◌, inl, inr, List, [], ◌∷◌, ◌++◌, length, get_or, map, take, drop, refl, sym, ap, subst, ◌∙◌, append_assoc, length-append, length-drop, add-one, arith}
+use Rattle.std.specs.Prelude.{codes, decimal, slice_index, Bool, false, All, IsTrue, Some, None}
+use Rattle.std.specs.Int.{IsInRange}
 use Rattle.std.specs.List.{flat_map}
 use Rattle.std.specs.Option.{option_to_list}
 use Rattle.std.proofs.lemmas.Bool.Decides.{nat_tests}
-use Rattle.std.proofs.lemmas.List.{append-nil, take-append-drop}
-use Rattle.std.proofs.lemmas.List.Elements.{All-nil, All-cons, All-head, All-tail, All-append, All-take, All-drop, All-map, All-weaker, filter_map-append}
+use Rattle.std.proofs.Math.ListN.{get_or-append}
+use Rattle.std.proofs.Math.Seq.{get_or-append_seam, drop-append-add}
+use Rattle.std.proofs.lemmas.Bool.{cases_lt, false≢true}
+use Rattle.std.proofs.lemmas.Fmt.{decimal_nonempty, digits_decimal}
+use Rattle.std.proofs.lemmas.List.{append-nil, take-append-drop, drop-append-le}
+use Rattle.std.proofs.lemmas.List.Elements.{All-nil, All-cons, All-head, All-tail, All-append, All-take, All-drop, All-pop, All-map, All-weaker, All-get_or, filter_map-append}
 use Rattle.std.proofs.lemmas.List.Folds.{flat_map-map}
 use Rattle.kd_state.specs.SheetDay.{Day}
-use Rattle.kd_state.specs.Words.{line_of}
+use Rattle.kd_state.specs.Words.{line_of, IsWithout}
 use Rattle.kd_form.specs.Keys.{letters_text}
-use Rattle.kd_form.specs.Part.{Part, pieces, groups_of, with_line, body_text, heading_words, part_text}
+use Rattle.kd_form.specs.Part.{Part, fraction, indicator_words, pieces, groups_of, with_line, body_text, heading_words, part_text}
 use Rattle.kd_form.specs.Sending.{is_text_byte, letter_of_byte, letters_from}
-use Rattle.kd_form.specs.FormParts.{IsHeading}
+use Rattle.kd_form.specs.FormParts.{IsHeading, BeginsHeading, IsFirstOf}
 use Rattle.kd_form.specs.Receiving.{HasHeading}
 use Rattle.kd_form.proofs.Groups.{pieces-next, pieces-none}
 use Rattle.kd_form.proofs.TextLetters.{letters_first}
+use Rattle.kd_form.proofs.Fractions.{figures}
+use Rattle.kd_form.proofs.FirstLines.{IsPlain, plain_more, plain_part, plain_heading, without}
+use Rattle.kd_form.proofs.FormCuts.{no_break}
 
 abbrev AreOfTheAlphabet : List ℕ → Type 0
 AreOfTheAlphabet letters = All (λ letter. letter < 26) letters
@@ -144,3 +152,111 @@ part_has_heading s made is = record {
   ended = inl (inl refl);
   is_heading = is;
 }
+
+first_of : (text : List ℕ) → 0 < length text → text ≡ get_or text 0 0 ∷ drop 1 text
+first_of [] some = absurd (omega arith)
+first_of (byte ∷ text) some = refl
+
+-- a written part begins a heading line
+pub part_begins_heading : (s : Day) (made : Part) (more : List ℕ) → IsHeading s made.heading → BeginsHeading (part_text made ++ more)
+part_begins_heading s made more is =
+    let part : List ℕ = decimal made.heading.part in
+    let small : made.heading.part < 2 ^ 64 = omega (arith, is.number.in_order, is.number.few) in
+    let some : 0 < length part = decimal_nonempty made.heading.part small in
+    let figure : IsInRange 48 57 (get_or part 0 0) = digits_decimal figures made.heading.part small 0 some in
+    let tail : List ℕ = line_of (decimal made.heading.letters ∷ indicator_words made.heading.indicator) in
+    record {
+      digit = get_or part 0 0;
+      rest = (((((drop 1 part ++ codes "/") ++ decimal made.heading.parts) ++ 32 ∷ tail) ++ 10 ∷ body_text made.body) ++ more);
+      is = ap (λ p. ((codes "PART" ++ 32 ∷ (((p ++ codes "/") ++ decimal made.heading.parts) ++ 32 ∷ tail)) ++ 10 ∷ body_text made.body) ++ more)
+          (first_of part some);
+      low = figure.0;
+      high = figure.1;
+    }
+
+-- ---- no heading begins within a part
+
+-- nothing, or a text with LF at its end
+abbrev AreLines : List ℕ → Type 0
+AreLines text = (text ≡ []) ⊎ ((lines : List ℕ) × (text ≡ lines ++ 10 ∷ []))
+
+line_before : (line text : List ℕ) → AreLines text → (lines : List ℕ) × (line ++ 10 ∷ text ≡ lines ++ 10 ∷ [])
+line_before line text (inl none) = (line, ap (λ t. line ++ 10 ∷ t) none)
+line_before line text (inr (lines, is)) = (line ++ 10 ∷ lines, ap (λ t. line ++ 10 ∷ t) is ∙ sym (append_assoc line (10 ∷ lines) (10 ∷ [])))
+
+are_lines : (items : List (List ℕ)) → AreLines (flat_map (λ line. with_line (groups_of line) []) items)
+are_lines [] = inl refl
+are_lines (item ∷ items) =
+    let text : List ℕ = flat_map (λ line. with_line (groups_of line) []) items in
+    let found = line_before (line_of (groups_of item)) text (are_lines items) in
+    inr (found.0, append_assoc (line_of (groups_of item)) (10 ∷ []) text ∙ found.1)
+
+no_figure : (byte : ℕ) → 48 ≤ byte → byte ≤ 57 → is_text_byte byte ≡ false
+no_figure byte low high = grind (arith, nat_tests)
+
+-- lines of a body don't begin with the mark of a heading
+no_mark : (lines rest : List ℕ) → AreAllowed lines → ¬ (BeginsHeading ((lines ++ 10 ∷ []) ++ rest))
+no_mark lines rest allowed begins =
+    let mark : List ℕ = codes "PART" ++ 32 ∷ (begins.digit ∷ []) in
+    let plain : IsPlain mark =
+    plain_more (codes "PART") (begins.digit ∷ []) plain_part (All-cons (λ b. 32 ≤ b) begins.digit [] (omega (arith, begins.low)) (All-nil (λ b. 32 ≤ b))) in
+    let same : lines ++ 10 ∷ rest ≡ mark ++ begins.rest = sym (append_assoc lines (10 ∷ []) rest) ∙ begins.is in
+    elim (cases_lt (length lines) 6) [
+      | inl short ↦
+          let there : get_or mark (length lines) 0 ≡ 10 =
+          sym (get_or-append mark begins.rest 0 (length lines) short) ∙ ap (λ t. get_or t (length lines) 0) (sym same) ∙ get_or-append_seam lines 10 rest 0 in
+          omega (arith, there, All-get_or (λ b. 32 ≤ b) mark (length lines) 0 short plain)
+      | inr long ↦
+          let figure : get_or lines 5 0 ≡ begins.digit = sym (get_or-append lines (10 ∷ rest) 0 5 (omega arith)) ∙ ap (λ t. get_or t 5 0) same in
+          let stands : IsTrue (is_text_byte (get_or lines 5 0)) = All-get_or (λ b. IsTrue (is_text_byte b)) lines 5 0 (omega arith) allowed in
+          false≢true (sym (no_figure begins.digit begins.low begins.high) ∙ ap is_text_byte (sym figure) ∙ stands)
+    ]
+
+-- what follows an LF at or behind the end of the first line
+behind_line : (line body rest : List ℕ) (place j : ℕ) → place + 1 ≡ length line + suc j → j ≤ length body
+    → drop (place + 1) ((line ++ 10 ∷ body) ++ rest) ≡ drop j body ++ rest
+behind_line line body rest place j is inside =
+    ap (drop (place + 1)) (append_assoc line (10 ∷ body) rest) ∙ ap (λ n. drop n (line ++ 10 ∷ (body ++ rest))) is
+    ∙ drop-append-add line (10 ∷ (body ++ rest)) (suc j) ∙ drop-append-le j body rest inside
+
+no_line_begins : (line body rest : List ℕ) (place : ℕ) → IsWithout 10 line → AreAllowed body → AreLines body → place + 1 < length (line ++ 10 ∷ body)
+    → slice_index ((line ++ 10 ∷ body) ++ rest) place ≡ 10 → ¬ (BeginsHeading (drop (place + 1) ((line ++ 10 ∷ body) ++ rest)))
+no_line_begins line body rest place unbroken allowed lines below is begins =
+    let size : length (line ++ 10 ∷ body) ≡ length line + suc (length body) = length-append line (10 ∷ body) in
+    elim (cases_lt place (length line)) [
+      | inl before ↦ no_break line (body ++ rest) place unbroken before (ap (λ t. get_or t place 0) (sym (append_assoc line (10 ∷ body) rest)) ∙ is)
+      | inr from ↦
+          let j : ℕ = place - length line in
+          elim lines [
+            | inl none ↦ omega (arith, ap length none)
+            | inr some ↦
+                let inside : j ≤ length some.0 = omega (arith, ap length some.1, length-append some.0 (10 ∷ [])) in
+                let behind : drop (place + 1) ((line ++ 10 ∷ body) ++ rest) ≡ (drop j some.0 ++ 10 ∷ []) ++ rest =
+                behind_line line body rest place j (omega arith) (omega arith) ∙ ap (λ t. drop j t ++ rest) some.1
+                ∙ ap (λ t. t ++ rest) (drop-append-le j some.0 (10 ∷ []) inside) in
+                no_mark (drop j some.0) rest (All-drop (λ b. IsTrue (is_text_byte b)) j some.0 (All-pop (λ b. IsTrue (is_text_byte b)) body some.0 (Some 10) some.1 allowed).0) (subst BeginsHeading behind begins)
+          ]
+    ]
+
+last_byte : (text lines rest : List ℕ) → text ≡ lines ++ 10 ∷ [] → slice_index (text ++ rest) (length text - 1) ≡ 10
+last_byte text lines rest is =
+    let last : length text - 1 ≡ length lines = omega (arith, ap length is, length-append lines (10 ∷ [])) in
+    ap (λ t. get_or (t ++ rest) (length text - 1) 0) is ∙ ap (λ t. get_or t (length text - 1) 0) (append_assoc lines (10 ∷ []) rest)
+    ∙ ap (λ n. get_or (lines ++ 10 ∷ rest) n 0) last ∙ get_or-append_seam lines 10 rest 0
+
+-- a written part is the first part of what it begins, if nothing follows it, or another heading
+pub part_is_first : (s : Day) (made : Part) (rest : List ℕ) → IsHeading s made.heading → All (λ letter. letter < 26) made.body
+    → (rest ≡ []) ⊎ BeginsHeading rest → IsFirstOf (part_text made ++ rest) (part_text made) rest
+part_is_first s made rest is are follows =
+    let line : List ℕ = line_of (heading_words made.heading) in
+    let lines : AreLines (body_text made.body) = are_lines (pieces 50 made.body) in
+    record {
+      joined = refl;
+      whole = λ place.
+          no_line_begins line (body_text made.body) rest place (without 10 line (omega arith) (plain_heading s made.heading is))
+          (body_is_allowed made.body are) lines;
+      ends = elim follows [
+        | inl none ↦ inl none
+        | inr begins ↦ inr (last_byte (part_text made) (line_before line (body_text made.body) lines).0 rest (line_before line (body_text made.body) lines).1, begins)
+      ];
+    }
