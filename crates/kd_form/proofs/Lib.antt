@@ -20,4 +20,5 @@ pub mod Headings
 pub mod FirstLines
 pub mod ReadParts
 pub mod Received
+pub mod BodyTexts
 pub mod PartTexts
