@@ -1,11 +1,47 @@
--- A cipher has as many letters as its text.
-use Rattle.std.proofs.Common.{◌≡◌, ◌∙◌, ℕ, List, length}
+-- A cipher has as many letters as its text, and they are letters of the alphabet.
+use Rattle.std.proofs.Common.{◌≡◌, ◌∙◌, ℕ, ◌<◌, inl, inr, List, [], ◌∷◌, ◌++◌, length, map, get_or, arith}
+use Rattle.std.specs.Prelude.{All, reverse, slice_index}
 use Rattle.std.specs.List.{enumerate_from}
+use Rattle.std.proofs.Math.ListN.{get_or-eq_default}
+use Rattle.std.proofs.lemmas.Bool.{cases_lt}
 use Rattle.std.proofs.lemmas.List.{length-map}
-use Rattle.std.proofs.lemmas.List.FromFn.{length-enumerate_from}
+use Rattle.std.proofs.lemmas.List.Elements.{All-get_or, All-from_get_or, All-map}
+use Rattle.std.proofs.lemmas.List.FromFn.{length-enumerate_from, length-range_with_len, get_or-range_with_len}
+use Rattle.kd_tables.specs.Permutation.{alphabet, followed_by, inverse}
+use Rattle.kd_tables.specs.Tables.{reflector_of}
+use Rattle.kd_enigma.specs.Cipher.{RotorKey, rotors, product, path}
 use Rattle.kd_state.specs.SheetDay.{Day, OfRotors, OfPins}
 use Rattle.kd_form.specs.Making.{cipher_from}
 
 pub length-cipher_from : (s : Day) (window text : List ℕ) → length (cipher_from s window text) ≡ length text
 length-cipher_from (OfRotors s) window text = length-map (enumerate_from 1 text) _ ∙ length-enumerate_from 1 text
 length-cipher_from (OfPins s) window text = length-map (enumerate_from 0 text) _ ∙ length-enumerate_from 0 text
+
+-- a table of letters has a letter at each place, since what stands past its end is read as the first
+letter_read : (table : List ℕ) (place : ℕ) → All (λ letter. letter < 26) table → slice_index table place < 26
+letter_read table place letters = elim (cases_lt place (length table)) [
+  | inl inside ↦ All-get_or (λ letter. letter < 26) table place 0 inside letters
+  | inr past ↦ omega (arith, get_or-eq_default table 0 past)
+]
+
+-- products end in the alphabet
+product_letters : (ps : List (List ℕ)) → All (λ letter. letter < 26) (product ps)
+unfolding product followed_by
+product_letters [] =
+    All-from_get_or (λ letter. letter < 26) alphabet 0
+    (λ i inside. let below : i < 26 = omega (arith, length-range_with_len 0 26) in omega (arith, get_or-range_with_len 0 26 i 0 below))
+product_letters (p ∷ ps) =
+    All-map (λ letter. letter < 26) (λ y. slice_index (product ps) y) p
+    (λ k d inside. letter_read (product ps) (get_or p k d) (product_letters ps))
+
+path_letters : (key : RotorKey) (window : List ℕ) → All (λ letter. letter < 26) (path key window)
+unfolding path
+path_letters key window =
+    let wheels : List (List ℕ) = rotors key.wheels key.rings window in
+    product_letters (key.plugs ∷ reverse wheels ++ reflector_of key.reflector ∷ map inverse wheels ++ key.plugs ∷ [])
+
+pub letters-cipher_from : (s : Day) (window text : List ℕ) → All (λ letter. letter < 26) (cipher_from s window text)
+letters-cipher_from (OfRotors s) window text =
+    All-map (λ letter. letter < 26) _ (enumerate_from 1 text) (λ k d inside. letter_read _ _ (path_letters _ _))
+letters-cipher_from (OfPins s) window text =
+    All-map (λ letter. letter < 26) _ (enumerate_from 0 text) (λ k d inside. omega arith)

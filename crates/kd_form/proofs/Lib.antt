@@ -22,3 +22,4 @@ pub mod ReadParts
 pub mod Received
 pub mod BodyTexts
 pub mod PartTexts
+pub mod MadeParts
