@@ -10,6 +10,8 @@ pub mod SuitedKeys
 pub mod TextLetters
 pub mod Sent
 pub mod PartLetters
+pub mod MadeParts
+pub mod GivenBack
 pub mod OneOrder
 pub mod OneFault
 pub mod FormCuts

@@ -15,7 +15,7 @@ use Rattle.kd_form.specs.InternalKey.{IsInternalKey}
 use Rattle.kd_form.specs.Keys.{AreKeys}
 use Rattle.kd_form.specs.Making.{Suits, IsMade, cipher_from, part_of, part_size, indicator_of, rotor_letters, enciphered_choice, list_letters, pin_indicators, pin_letters, filled}
 use Rattle.kd_form.specs.Part.{Part}
-use Rattle.kd_form.specs.Reading.{IsLettersText, message_key}
+use Rattle.kd_form.specs.Reading.{IsLettersText}
 use Rattle.kd_form.proofs.Ciphers.{length-cipher_from, letters-cipher_from}
 
 -- a piece of a text: letters for one part

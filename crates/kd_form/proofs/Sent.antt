@@ -57,7 +57,7 @@ other_parts s order text keys shown blank count size needed given (head, is) sam
 
 -- ---- part after part
 
-size_some : (s : Day) → 0 < part_size s
+pub size_some : (s : Day) → 0 < part_size s
 size_some (OfRotors s) = omega arith
 size_some (OfPins s) = omega arith
 

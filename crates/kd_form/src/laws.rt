@@ -1,7 +1,7 @@
 //! What holds of orders and forms.
-ghost use Rattle.kd_form.specs.Laws.{OrdersBecomeOneForm, OrdersHaveOneFault, SentOrdersHaveNoFault};
+ghost use Rattle.kd_form.specs.Laws.{OrdersBecomeOneForm, OrdersHaveOneFault, SentOrdersHaveNoFault, FormsGiveTheirOrders};
 
-use kd_state::laws::texts_tell_first_parts;
+use kd_state::laws::{texts_tell_first_parts, the_day_deciphers_itself};
 
 /// An order becomes one form, or has one fault, and never both.
 pub fn orders_have_one_answer()
@@ -10,4 +10,11 @@ pub fn orders_have_one_answer()
     ensures never_both { SentOrdersHaveNoFault }
 {
     texts_tell_first_parts();
+}
+
+/// The form that an order becomes, becomes the order's letters.
+pub fn forms_give_their_orders()
+    ensures { FormsGiveTheirOrders }
+{
+    the_day_deciphers_itself();
 }

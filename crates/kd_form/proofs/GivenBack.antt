@@ -1,0 +1,191 @@
+-- The form that an order becomes gives the order's letters back.
+use Rattle.std.proofs.Common.{◌≡◌, ◌≢◌, ℕ, ◌+◌, ◌-◌, ◌%◌, ◌<◌, ◌≤◌, ◌⊎◌, inl, inr, Bool, true, false, List, [], ◌∷◌, ◌++◌, length, take, drop, replicate, refl, sym, ap, subst, ◌∙◌, append_assoc, length-append, arith}
+use Rattle.std.specs.Prelude.{All, Option, Some, None, IfSome, if◌then◌else◌, ◌==◌}
+use Rattle.std.specs.List.{flat_map, cons_option}
+use Rattle.std.proofs.lemmas.Bool.{cases_lt}
+use Rattle.std.proofs.lemmas.Bool.Decides.{nat_tests}
+use Rattle.std.proofs.lemmas.List.{append-nil, take_all, drop_all, length-take, length-take-le, take-append-drop}
+use Rattle.std.proofs.lemmas.List.Elements.{All-nil, All-cons, All-head, All-tail, All-take, All-drop}
+use Rattle.kd_state.specs.Laws.{TheDayDeciphersItself}
+use Rattle.kd_state.specs.SheetDay.{Day, OfRotors, OfPins, IsLegalDay}
+use Rattle.kd_form.specs.declared.keys.Keys.{Keys}
+use Rattle.kd_form.specs.FormParts.{BeginsHeading, IsFirstOf}
+use Rattle.kd_form.specs.FormText.{AreFirstParts, ArePartsRead, IsTextOf, given_text, sent_letters}
+use Rattle.kd_form.specs.Keys.{AreKeys}
+use Rattle.kd_form.specs.Laws.{FormsGiveTheirOrders}
+use Rattle.kd_form.specs.Making.{Suits, part_size, filled}
+use Rattle.kd_form.specs.Part.{Part, part_text, pieces, body_text}
+use Rattle.kd_form.specs.Reading.{IsLettersText}
+use Rattle.kd_form.specs.Receiving.{IsPartRead}
+use Rattle.kd_form.specs.Sending.{is_capital, letter_of_byte, letters_from, text_letters, parts_needed, AreMadeTexts}
+use Rattle.kd_form.proofs.BodyTexts.{by_pieces, letters_of_body, body_is_allowed}
+use Rattle.kd_form.proofs.Groups.{more_pieces, pieces-next, pieces-none}
+use Rattle.kd_form.proofs.MadeParts.{IsPiece, GivesBack, part_gives_back}
+use Rattle.kd_form.proofs.PartTexts.{part_has_heading, part_begins_heading, part_is_first}
+use Rattle.kd_form.proofs.Sent.{size_some}
+
+-- ---- the letters of a text are letters of the alphabet
+
+choice_within : (capital space : Bool) (blank : Option ℕ) (byte : ℕ) → (capital ≡ true → byte ≤ 90) → IfSome blank (λ letter. letter < 26)
+    → IfSome (if capital then Some (byte - 65) else if space then blank else None) (λ letter. letter < 26)
+choice_within true space blank byte last less = omega (arith, last refl)
+choice_within false true blank byte last less = less
+choice_within false false blank byte last less = tt
+
+capital_last : (byte : ℕ) → is_capital byte ≡ true → byte ≤ 90
+capital_last byte capital = grind (arith, nat_tests)
+
+found_within : (found : Option ℕ) (letters : List ℕ) → IfSome found (λ letter. letter < 26) → All (λ letter. letter < 26) letters
+    → All (λ letter. letter < 26) (cons_option found letters)
+found_within None letters less within = within
+found_within (Some letter) letters less within = All-cons (λ l. l < 26) letter letters less within
+
+letters_within : (blank : Option ℕ) (text : List ℕ) → IfSome blank (λ letter. letter < 26) → All (λ letter. letter < 26) (letters_from blank text)
+letters_within blank [] less = All-nil (λ letter. letter < 26)
+letters_within blank (byte ∷ text) less =
+    found_within (letter_of_byte blank byte) (letters_from blank text)
+    (choice_within (is_capital byte) (byte == 32) blank byte (capital_last byte) less) (letters_within blank text less)
+
+text_letters_within : (s : Day) (text : List ℕ) → All (λ letter. letter < 26) (text_letters s text)
+text_letters_within (OfRotors s) text = letters_within None text tt
+text_letters_within (OfPins s) text = letters_within (Some 25) text (omega arith)
+
+-- ---- pieces of a text
+
+-- behind whole groups the rest is filled as the whole text is
+filled_behind : (front rest : List ℕ) → length front % 5 ≡ 0 → filled front ++ filled rest ≡ filled (front ++ rest)
+filled_behind front rest whole =
+    let none : (5 - length front % 5) % 5 ≡ 0 = omega arith in
+    let joined : length (front ++ rest) ≡ length front + length rest = length-append front rest in
+    let alike : (5 - length rest % 5) % 5 ≡ (5 - length (front ++ rest) % 5) % 5 = omega arith in
+    ap (λ n. (front ++ replicate n 23) ++ filled rest) none ∙ ap (λ t. t ++ filled rest) (append-nil front)
+    ∙ sym (append_assoc front rest (replicate ((5 - length rest % 5) % 5) 23)) ∙ ap (λ n. (front ++ rest) ++ replicate n 23) alike
+
+filled_pieces : (letters : List ℕ) → filled (take 500 letters) ++ filled (drop 500 letters) ≡ filled letters
+filled_pieces letters = elim (cases_lt (length letters) 500) [
+  | inl short ↦
+      ap (λ t. filled t ++ filled (drop 500 letters)) (take_all 500 letters (omega arith))
+      ∙ ap (λ t. filled letters ++ filled t) (drop_all 500 letters (omega arith)) ∙ append-nil (filled letters)
+  | inr long ↦
+      filled_behind (take 500 letters) (drop 500 letters) (ap (λ n. n % 5) (length-take-le 500 letters long)) ∙ ap filled (take-append-drop 500 letters)
+]
+
+sent_joined : (s : Day) (letters : List ℕ)
+    → sent_letters s (take (part_size s) letters) ++ sent_letters s (drop (part_size s) letters) ≡ sent_letters s letters
+sent_joined (OfRotors s) letters = take-append-drop 245 letters
+sent_joined (OfPins s) letters = filled_pieces letters
+
+nothing_sent : (s : Day) → [] ≡ sent_letters s []
+nothing_sent (OfRotors s) = refl
+nothing_sent (OfPins s) = refl
+
+-- the pieces, sent one after another, are the letters as they are sent
+sent_pieces : (s : Day) (letters : List ℕ) → flat_map (sent_letters s) (pieces (part_size s) letters) ≡ sent_letters s letters
+sent_pieces s =
+    by_pieces (part_size s) (λ letters. flat_map (sent_letters s) (pieces (part_size s) letters) ≡ sent_letters s letters) (size_some s)
+    (ap (flat_map (sent_letters s)) (pieces-none (part_size s) (size_some s)) ∙ nothing_sent s)
+    (λ letters some rest.
+    ap (flat_map (sent_letters s)) (pieces-next (part_size s) letters (size_some s) some)
+    ∙ ap (λ t. sent_letters s (take (part_size s) letters) ++ t) rest ∙ sent_joined s letters)
+
+first_piece : (s : Day) (letters : List ℕ) → 0 < length letters → All (λ letter. letter < 26) letters → IsPiece s (take (part_size s) letters)
+first_piece s letters some within = record {
+  some = omega (arith, size_some s, length-take (part_size s) letters);
+  few = omega (arith, length-take (part_size s) letters);
+  within = All-take (λ letter. letter < 26) (part_size s) letters within;
+}
+
+are_pieces : (s : Day) (letters : List ℕ) → All (λ letter. letter < 26) letters → All (IsPiece s) (pieces (part_size s) letters)
+are_pieces s =
+    by_pieces (part_size s) (λ letters. All (λ letter. letter < 26) letters → All (IsPiece s) (pieces (part_size s) letters)) (size_some s)
+    (λ within. subst (All (IsPiece s)) (sym (pieces-none (part_size s) (size_some s))) (All-nil (IsPiece s)))
+    (λ letters some rest within.
+    subst (All (IsPiece s)) (sym (pieces-next (part_size s) letters (size_some s) some))
+    (All-cons (IsPiece s) (take (part_size s) letters) (pieces (part_size s) (drop (part_size s) letters)) (first_piece s letters some within)
+    (rest (All-drop (λ letter. letter < 26) (part_size s) letters within))))
+
+-- ---- part after part
+
+part_is_read : (s : Day) (part parts : ℕ) (text : List ℕ) (made : Part) → GivesBack s part parts text made
+    → IsPartRead s part None (part_text made) parts text
+part_is_read s part parts text made back =
+    let letters : letters_from None (body_text made.body) ≡ made.body = letters_of_body made.body back.within in
+    record {
+      heading = made.heading;
+      body = body_text made.body;
+      has = part_has_heading s made back.is_heading;
+      numbered = back.numbered;
+      so_many = back.so_many;
+      as_expected = tt;
+      allowed = body_is_allowed made.body back.within;
+      counted = ap length letters ∙ back.counted;
+      read = subst (λ ls. IsLettersText s made.heading.indicator ls text) (sym letters) back.read;
+    }
+
+-- the form is nothing but parts, which are read as the letters of the pieces
+record AreGivenBack (s : Day) (part parts count : ℕ) (pieces : List (List ℕ)) (form : List ℕ) : Type 0 where
+  texts : List (List ℕ)
+  counted : length texts ≡ count
+  begins : (form ≡ []) ⊎ BeginsHeading form
+  cut : AreFirstParts texts form []
+  read : ArePartsRead s part parts texts (flat_map (sent_letters s) pieces)
+
+parts_are_given_back : (s : Day) (part parts : ℕ) (keys : List Keys) (pieces : List (List ℕ)) (form : List ℕ) → TheDayDeciphersItself → IsLegalDay s
+    → All (AreKeys s) keys → All (Suits s) keys → All (IsPiece s) pieces → 1 ≤ part → part + length keys ≤ parts + 1 → parts ≤ 99
+    → AreMadeTexts s part parts keys pieces form → AreGivenBack s part parts (length keys) pieces form
+parts_are_given_back s part parts [] [] form decipher legal are suited all first last few made =
+    record { texts = []; counted = refl; begins = inl made; cut = made; read = refl }
+parts_are_given_back s part parts [] (piece ∷ pieces) form decipher legal are suited all first last few made = absurd made
+parts_are_given_back s part parts (k ∷ keys) [] form decipher legal are suited all first last few made = absurd made
+parts_are_given_back s part parts (k ∷ keys) (piece ∷ pieces) form decipher legal are suited all first last few (one, more, (made, makes, written), others, joined) =
+    let rest : AreGivenBack s (part + 1) parts (length keys) pieces more =
+    parts_are_given_back s (part + 1) parts keys pieces more decipher legal (All-tail (AreKeys s) k keys are) (All-tail (Suits s) k keys suited)
+    (All-tail (IsPiece s) piece pieces all) (omega arith) (omega arith) few others in
+    let back : GivesBack s part parts (sent_letters s piece) made =
+    part_gives_back s part parts k piece made decipher legal (All-head (AreKeys s) k keys are) (All-head (Suits s) k keys suited)
+    (record { first = first; in_order = omega arith; few = few }) (All-head (IsPiece s) piece pieces all) makes in
+    let whole : form ≡ part_text made ++ more = joined ∙ ap (λ t. t ++ more) written in
+    record {
+      texts = part_text made ∷ rest.texts;
+      counted = omega (arith, rest.counted);
+      begins = inr (subst BeginsHeading (sym whole) (part_begins_heading s made more back.is_heading));
+      cut = (
+        more,
+        subst (λ f. IsFirstOf f (part_text made) more) (sym whole) (part_is_first s made more back.is_heading back.within rest.begins),
+        rest.cut,
+      );
+      read = (sent_letters s piece, flat_map (sent_letters s) pieces, part_is_read s part parts (sent_letters s piece) made back, rest.read, refl);
+    }
+
+-- ---- the whole form
+
+has_letters : (letters : List ℕ) → letters ≢ [] → 0 < length letters
+has_letters [] some = absurd (some refl)
+has_letters (letter ∷ letters) some = omega arith
+
+some_parts : (s : Day) (letters : List ℕ) (texts : List (List ℕ)) → letters ≢ [] → length texts ≡ parts_needed s (length letters) → texts ≢ []
+some_parts s letters texts some needed none =
+    omega (arith, needed, ap length none, more_pieces (part_size s) (length letters) (size_some s) (has_letters letters some))
+
+pub forms_give_their_orders : TheDayDeciphersItself → FormsGiveTheirOrders
+forms_give_their_orders decipher s order form legal is =
+    let letters : List ℕ = text_letters s is.text in
+    let sent : List ℕ = sent_letters s letters in
+    let back : AreGivenBack s 1 (length is.keys) (length is.keys) (pieces (part_size s) letters) form =
+    parts_are_given_back s 1 (length is.keys) is.keys (pieces (part_size s) letters) form decipher legal is.sent.is_order.is_head.of_the_day is.sent.suited
+    (are_pieces s letters (text_letters_within s is.text)) (omega arith) (omega arith) is.sent.is_order.is_head.few is.made in
+    let text : IsTextOf s form (given_text s sent) = record {
+      parts = back.texts;
+      letters = sent;
+      some = some_parts s letters back.texts is.sent.filled (back.counted ∙ sym is.sent.counted);
+      read = record {
+        cut = back.cut;
+        read = subst (λ n. ArePartsRead s 1 n back.texts sent) (sym back.counted)
+            (subst (ArePartsRead s 1 (length is.keys) back.texts) (sent_pieces s letters) back.read);
+      };
+      is = refl;
+    } in (
+      given_text s sent,
+      record { keys = is.keys; head = is.sent.head; text = is.text; is_order = is.sent.is_order; is = refl },
+      text,
+    )
