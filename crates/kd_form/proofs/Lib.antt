@@ -25,3 +25,4 @@ pub mod Received
 pub mod BodyTexts
 pub mod PartTexts
 pub mod MadeParts
+pub mod OneCut

@@ -26,7 +26,7 @@ fronts_more : (x : ℕ) (xs ys zs ws : List ℕ) → AreFronts xs ys zs ws → A
 fronts_more x xs ys zs ws (Shorter more is rest) = Shorter more (ap (λ l. x ∷ l) is) rest
 fronts_more x xs ys zs ws (Longer y more is rest) = Longer y more (ap (λ l. x ∷ l) is) rest
 
-fronts : (xs ys zs ws : List ℕ) → xs ++ ys ≡ zs ++ ws → AreFronts xs ys zs ws
+pub fronts : (xs ys zs ws : List ℕ) → xs ++ ys ≡ zs ++ ws → AreFronts xs ys zs ws
 fronts [] ys zs ws same = Shorter zs refl same
 fronts (x ∷ xs) ys [] ws same = Longer x xs refl (sym same)
 fronts (x ∷ xs) ys (z ∷ zs) ws same =
@@ -125,13 +125,13 @@ no_keys_fault s keys fault all is =
 allowed_or_not : (byte : ℕ) → IsTrue (is_text_byte byte) → ¬ (IsFalse (is_text_byte byte))
 allowed_or_not byte yes' not' = false≢true (sym not' ∙ yes')
 
-one_bad_byte : (text : List ℕ) (place other : ℕ) → IsBadAt text place → IsBadAt text other → place ≡ other
+pub one_bad_byte : (text : List ℕ) (place other : ℕ) → IsBadAt text place → IsBadAt text other → place ≡ other
 one_bad_byte text place other a b =
     let same = same_first (λ x. IsTrue (is_text_byte x)) (λ x. IsFalse (is_text_byte x)) allowed_or_not a.before a.byte a.rest b.before b.byte b.rest
     a.allowed a.bad b.allowed b.bad (sym a.joined ∙ b.joined) in
     a.size ∙ ap length same.0 ∙ sym b.size
 
-no_bad_byte : (text : List ℕ) (place : ℕ) → All (λ x. IsTrue (is_text_byte x)) text → ¬ (IsBadAt text place)
+pub no_bad_byte : (text : List ℕ) (place : ℕ) → All (λ x. IsTrue (is_text_byte x)) text → ¬ (IsBadAt text place)
 no_bad_byte text place all is =
     none_first (λ x. IsTrue (is_text_byte x)) (λ x. IsFalse (is_text_byte x)) allowed_or_not is.before is.byte is.rest
     (subst (All (λ x. IsTrue (is_text_byte x))) is.joined all) is.bad
