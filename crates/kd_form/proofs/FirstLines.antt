@@ -60,7 +60,7 @@ plain_heading s h is =
 pub without : (byte : ℕ) (text : List ℕ) → byte < 32 → IsPlain text → IsWithout byte text
 without byte text low plain = All-weaker (λ b. 32 ≤ b) (λ b. b ≢ byte) (λ b above same. omega (arith, above, same)) text plain
 
-has_byte : (byte : ℕ) (before rest : List ℕ) → ¬ (IsWithout byte (before ++ byte ∷ rest))
+pub has_byte : (byte : ℕ) (before rest : List ℕ) → ¬ (IsWithout byte (before ++ byte ∷ rest))
 has_byte byte before rest none =
     All-get_or (λ b. b ≢ byte) (before ++ byte ∷ rest) (length before) 0 (omega (arith, length-append before (byte ∷ rest))) none
     (get_or-append_seam before byte rest 0)

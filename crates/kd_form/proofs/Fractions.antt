@@ -13,7 +13,7 @@ pub figures : IsNumeralModel (λ ds. (i : ℕ) → i < length ds → IsInRange 4
 figures = numerals_by_value (λ ds. (i : ℕ) → i < length ds → IsInRange 48 57 (get_or ds i 0)) tells_by_index
 
 -- a number has no stroke in it
-strokeless : (number : ℕ) → number < 2 ^ 8 → IsWithout 47 (decimal number)
+pub strokeless : (number : ℕ) → number < 2 ^ 8 → IsWithout 47 (decimal number)
 strokeless number small =
     All-from_get_or (λ b. b ≢ 47) (decimal number) 0
     (λ i inside same. let figure : IsInRange 48 57 (get_or (decimal number) i 0) = digits_decimal figures number (omega arith) i inside in omega (arith, figure.0))

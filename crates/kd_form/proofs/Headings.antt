@@ -45,7 +45,7 @@ stroke_without byte one other differ a b =
     All-append (λ c. c ≢ byte) (one ++ codes "/") other
     (All-append (λ c. c ≢ byte) one (codes "/") a (All-cons (λ c. c ≢ byte) 47 [] (λ e. differ (sym e)) (All-nil (λ c. c ≢ byte)))) b
 
-fraction_word : (one other : List ℕ) → IsWord one → IsWord other → IsWord ((one ++ codes "/") ++ other)
+pub fraction_word : (one other : List ℕ) → IsWord one → IsWord other → IsWord ((one ++ codes "/") ++ other)
 fraction_word one other a b = record {
   filled = λ none.
       let gone : length ((one ++ codes "/") ++ other) ≡ 0 = ap length none in

@@ -26,3 +26,4 @@ pub mod BodyTexts
 pub mod PartTexts
 pub mod MadeParts
 pub mod OneCut
+pub mod OneHeading

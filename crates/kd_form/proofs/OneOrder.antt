@@ -35,7 +35,7 @@ same_places (x ∷ places) (y ∷ others) one other = elim one [
   ]
 ]
 
-one_internal_key : (letters key other : List ℕ) → IsInternalKey letters key → IsInternalKey letters other → key ≡ other
+pub one_internal_key : (letters key other : List ℕ) → IsInternalKey letters key → IsInternalKey letters other → key ≡ other
 one_internal_key letters key other a b =
     let same : a.places ≡ b.places = same_places a.places b.places (a.first b.places other b.picked) (b.first a.places key a.picked) in
     a.picked.taken ∙ ap (map (λ place. slice_index letters place)) same ∙ sym b.picked.taken
@@ -59,7 +59,7 @@ one_form s part parts (k ∷ keys) (text ∷ texts) form other (one, more, made,
 
 -- ---- one line
 
-same_letters : (letters others : List ℕ) → letters_text letters ≡ letters_text others → letters ≡ others
+pub same_letters : (letters others : List ℕ) → letters_text letters ≡ letters_text others → letters ≡ others
 same_letters [] [] same = refl
 same_letters [] (y ∷ others) same = cc
 same_letters (x ∷ letters) [] same = cc
@@ -69,7 +69,7 @@ same_letters (x ∷ letters) (y ∷ others) same =
     let one : x ≡ y = omega arith in
     ap (λ z. z ∷ letters) one ∙ ap (λ zs. y ∷ zs) (same_letters letters others more)
 
-letters_spaceless : (letters : List ℕ) → IsWithout 32 (letters_text letters)
+pub letters_spaceless : (letters : List ℕ) → IsWithout 32 (letters_text letters)
 letters_spaceless letters = All-map (λ byte. byte ≢ 32) (λ letter. letter + 65) letters (λ k d inside e. omega arith)
 
 -- words before a space
@@ -79,7 +79,7 @@ same_word letters others rest more tell same =
     let parts = tell 32 (letters_text letters) (letters_text others) rest more (letters_spaceless letters) (letters_spaceless others) same in
     (same_letters letters others parts.0, parts.1)
 
-behind_part : (rest more : List ℕ) → codes "PART" ++ 32 ∷ rest ≡ codes "PART" ++ 32 ∷ more → rest ≡ more
+pub behind_part : (rest more : List ℕ) → codes "PART" ++ 32 ∷ rest ≡ codes "PART" ++ 32 ∷ more → rest ≡ more
 behind_part rest more same = append_cancel_left (codes "PART ") rest more same
 
 same_rotor_keys : (k other : RotorKeys) → TextsTellFirstParts → line_of (key_words (Rotor k)) ≡ line_of (key_words (Rotor other)) → k ≡ other
@@ -152,7 +152,7 @@ same_front line other rest more tell a b same =
 longer_end : (text : List ℕ) → text ++ 13 ∷ 10 ∷ [] ≡ (text ++ 13 ∷ []) ++ 10 ∷ []
 longer_end text = sym (append_assoc text (13 ∷ []) (10 ∷ []))
 
-same_text : (text other line : List ℕ) → IsWithout 13 text → IsWithout 13 other → IsEnded text line → IsEnded other line → text ≡ other
+pub same_text : (text other line : List ℕ) → IsWithout 13 text → IsWithout 13 other → IsEnded text line → IsEnded other line → text ≡ other
 same_text text other line one two a b = elim a [
   | inl short ↦ elim b [
     | inl also ↦ append_cancel_right text other (10 ∷ []) (sym short ∙ also)
