@@ -27,3 +27,4 @@ pub mod PartTexts
 pub mod MadeParts
 pub mod OneCut
 pub mod OneHeading
+pub mod OnePart
