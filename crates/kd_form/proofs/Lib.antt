@@ -28,3 +28,4 @@ pub mod MadeParts
 pub mod OneCut
 pub mod OneHeading
 pub mod OnePart
+pub mod OneText
