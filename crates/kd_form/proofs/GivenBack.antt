@@ -8,11 +8,12 @@ use Rattle.std.proofs.lemmas.List.{append-nil, take_all, drop_all, length-take, 
 use Rattle.std.proofs.lemmas.List.Elements.{All-nil, All-cons, All-head, All-tail, All-take, All-drop}
 use Rattle.kd_state.specs.Laws.{TheDayDeciphersItself}
 use Rattle.kd_state.specs.SheetDay.{Day, OfRotors, OfPins, IsLegalDay}
+use Rattle.kd_state.specs.Words.{TextsTellFirstParts}
 use Rattle.kd_form.specs.declared.keys.Keys.{Keys}
 use Rattle.kd_form.specs.FormParts.{BeginsHeading, IsFirstOf}
-use Rattle.kd_form.specs.FormText.{AreFirstParts, ArePartsRead, IsTextOf, given_text, sent_letters}
+use Rattle.kd_form.specs.FormText.{AreFirstParts, ArePartsRead, given_text, sent_letters}
 use Rattle.kd_form.specs.Keys.{AreKeys}
-use Rattle.kd_form.specs.Laws.{FormsGiveTheirOrders}
+use Rattle.kd_form.specs.Laws.{OrdersGiveLetters, FormsGiveTheirOrders}
 use Rattle.kd_form.specs.Making.{Suits, part_size, filled}
 use Rattle.kd_form.specs.Part.{Part, part_text, pieces, body_text}
 use Rattle.kd_form.specs.Reading.{IsLettersText}
@@ -22,6 +23,7 @@ use Rattle.kd_form.proofs.BodyTexts.{by_pieces, letters_of_body, body_is_allowed
 use Rattle.kd_form.proofs.Groups.{more_pieces, pieces-next, pieces-none}
 use Rattle.kd_form.proofs.MadeParts.{IsPiece, GivesBack, part_gives_back}
 use Rattle.kd_form.proofs.PartTexts.{part_has_heading, part_begins_heading, part_is_first}
+use Rattle.kd_form.proofs.OneOrder.{one_order}
 use Rattle.kd_form.proofs.Sent.{size_some}
 
 -- ---- the letters of a text are letters of the alphabet
@@ -107,7 +109,7 @@ are_pieces s =
 -- ---- part after part
 
 part_is_read : (s : Day) (part parts : ℕ) (text : List ℕ) (made : Part) → GivesBack s part parts text made
-    → IsPartRead s part None (part_text made) parts text
+    → IsPartRead s part parts (part_text made) text
 part_is_read s part parts text made back =
     let letters : letters_from None (body_text made.body) ≡ made.body = letters_of_body made.body back.within in
     record {
@@ -116,7 +118,6 @@ part_is_read s part parts text made back =
       has = part_has_heading s made back.is_heading;
       numbered = back.numbered;
       so_many = back.so_many;
-      as_expected = tt;
       allowed = body_is_allowed made.body back.within;
       counted = ap length letters ∙ back.counted;
       read = subst (λ ls. IsLettersText s made.heading.indicator ls text) (sym letters) back.read;
@@ -167,14 +168,21 @@ some_parts : (s : Day) (letters : List ℕ) (texts : List (List ℕ)) → letter
 some_parts s letters texts some needed none =
     omega (arith, needed, ap length none, more_pieces (part_size s) (length letters) (size_some s) (has_letters letters some))
 
-pub forms_give_their_orders : TheDayDeciphersItself → FormsGiveTheirOrders
-forms_give_their_orders decipher s order form legal is =
+pub orders_give_letters : OrdersGiveLetters
+orders_give_letters s order form is = (
+  given_text s (sent_letters s (text_letters s is.text)),
+  record { keys = is.keys; head = is.sent.head; text = is.text; is_order = is.sent.is_order; is = refl },
+)
+
+pub forms_give_their_orders : TheDayDeciphersItself → TextsTellFirstParts → FormsGiveTheirOrders
+forms_give_their_orders decipher tell s order form given legal is due =
     let letters : List ℕ = text_letters s is.text in
     let sent : List ℕ = sent_letters s letters in
+    let same = one_order s order is.keys due.keys is.sent.head due.head is.text due.text tell is.sent.is_order due.is_order in
     let back : AreGivenBack s 1 (length is.keys) (length is.keys) (pieces (part_size s) letters) form =
     parts_are_given_back s 1 (length is.keys) is.keys (pieces (part_size s) letters) form decipher legal is.sent.is_order.is_head.of_the_day is.sent.suited
     (are_pieces s letters (text_letters_within s is.text)) (omega arith) (omega arith) is.sent.is_order.is_head.few is.made in
-    let text : IsTextOf s form (given_text s sent) = record {
+    record {
       parts = back.texts;
       letters = sent;
       some = some_parts s letters back.texts is.sent.filled (back.counted ∙ sym is.sent.counted);
@@ -183,9 +191,5 @@ forms_give_their_orders decipher s order form legal is =
         read = subst (λ n. ArePartsRead s 1 n back.texts sent) (sym back.counted)
             (subst (ArePartsRead s 1 (length is.keys) back.texts) (sent_pieces s letters) back.read);
       };
-      is = refl;
-    } in (
-      given_text s sent,
-      record { keys = is.keys; head = is.sent.head; text = is.text; is_order = is.sent.is_order; is = refl },
-      text,
-    )
+      is = due.is ∙ ap (λ t. given_text s (sent_letters s (text_letters s t))) (sym same.text_is);
+    }

@@ -22,9 +22,9 @@ pub mod Headings
 pub mod FirstLines
 pub mod ReadParts
 pub mod Received
+pub mod Answered
 pub mod BodyTexts
 pub mod PartTexts
-pub mod MadeParts
 pub mod OneCut
 pub mod OneHeading
 pub mod OnePart

@@ -248,26 +248,28 @@ part_fault s number expected start part fault (InCount h body has numbered of_so
 part_fault s number expected start part fault (InLetters h body has numbered of_so_many allowed counted is) =
     inr ((h, body), has, inr ((numbered, of_so_many), inr (allowed, inr (counted, is))))
 
-part_read : (s : Day) (number : ℕ) (expected : Option ℕ) (start : ℕ) (part : List ℕ) (parts : ℕ) (text : List ℕ) → IsPartRead s number expected part parts text
-    → IsPartAnswer s number expected start part (Ok text)
-part_read s number expected start part parts text a =
-    inr ((a.heading, a.body), a.has, inr ((a.numbered, subst (IsExpected expected) (sym a.so_many) a.as_expected), inr (a.allowed, inr (a.counted, a.read))))
+part_read : (s : Day) (number : ℕ) (expected : Option ℕ) (start : ℕ) (part : List ℕ) (parts : ℕ) (text : List ℕ) → IsPartRead s number parts part text
+    → IsExpected expected parts → IsPartAnswer s number expected start part (Ok text)
+part_read s number expected start part parts text a due =
+    inr ((a.heading, a.body), a.has, inr ((a.numbered, subst (IsExpected expected) (sym a.so_many) due), inr (a.allowed, inr (a.counted, a.read))))
 
 -- a part is read as one of so many, and as one text
 pub one_text : (s : Day) (number : ℕ) (part : List ℕ) (parts others : ℕ) (text other : List ℕ) → TextsTellFirstParts → NumbersAreWords
-    → IsPartRead s number None part parts text → IsPartRead s number None part others other → (parts ≡ others) × (text ≡ other)
+    → IsPartRead s number parts part text → IsPartRead s number others part other → (parts ≡ others) × (text ≡ other)
 one_text s number part parts others text other tell numbers a b =
     let headings = one_heading s part a.heading b.heading a.body b.body tell numbers a.has b.has in
     let texts : Ok text ≡ Ok other =
-    only_part s number None 0 part tell numbers (Ok text) (Ok other) (part_read s number None 0 part parts text a) (part_read s number None 0 part others other b) in
+    only_part s number None 0 part tell numbers (Ok text) (Ok other) (part_read s number None 0 part parts text a tt)
+    (part_read s number None 0 part others other b tt) in
     (sym a.so_many ∙ ap (λ h. h.parts) headings.0 ∙ b.so_many, cc)
 
 -- a part that is read isn't refused
 pub read_or_refused : (s : Day) (number : ℕ) (expected : Option ℕ) (start : ℕ) (part : List ℕ) (parts : ℕ) (text : List ℕ) (fault : FormFault)
-    → TextsTellFirstParts → NumbersAreWords → IsPartRead s number expected part parts text → ¬ (IsPartFault s number expected start part fault)
-read_or_refused s number expected start part parts text fault tell numbers a b =
+    → TextsTellFirstParts → NumbersAreWords → IsPartRead s number parts part text → IsExpected expected parts
+    → ¬ (IsPartFault s number expected start part fault)
+read_or_refused s number expected start part parts text fault tell numbers a due b =
     let clash : Ok text ≡ Err fault =
-    only_part s number expected start part tell numbers (Ok text) (Err fault) (part_read s number expected start part parts text a)
+    only_part s number expected start part tell numbers (Ok text) (Err fault) (part_read s number expected start part parts text a due)
     (part_fault s number expected start part fault b) in
     cc
 

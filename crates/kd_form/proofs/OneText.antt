@@ -1,6 +1,5 @@
 -- A form becomes one text, or has one fault.
 use Rattle.std.proofs.Common.{◌≡◌, ◌≢◌, ℕ, ◌+◌, ◌-◌, ◌⊎◌, inl, inr, List, [], ◌∷◌, ◌++◌, length, refl, sym, ap, subst, ◌∙◌, arith}
-use Rattle.std.specs.Prelude.{Option, None}
 use Rattle.kd_state.specs.SheetDay.{Day}
 use Rattle.kd_state.specs.Words.{TextsTellFirstParts, NumbersAreWords}
 use Rattle.kd_form.specs.declared.fault.FormFault.{FormFault}
@@ -16,11 +15,11 @@ use Rattle.kd_form.proofs.OnePart.{one_text, read_or_refused, one_refusal}
 
 -- a part among those that are read
 read_there : (s : Day) (number count : ℕ) (before : List (List ℕ)) (part : List ℕ) (behind : List (List ℕ)) (letters : List ℕ)
-    → ArePartsRead s number count (before ++ part ∷ behind) letters → (text : List ℕ) × IsPartRead s (length before + number) None part count text
-read_there s number count [] part behind letters (one, more, is, others, joined) = (one, subst (λ n. IsPartRead s n None part count one) (omega arith) is)
+    → ArePartsRead s number count (before ++ part ∷ behind) letters → (text : List ℕ) × IsPartRead s (length before + number) count part text
+read_there s number count [] part behind letters (one, more, is, others, joined) = (one, subst (λ n. IsPartRead s n count part one) (omega arith) is)
 read_there s number count (first ∷ before) part behind letters (one, more, is, others, joined) =
     let found = read_there s (number + 1) count before part behind more others in
-    (found.0, subst (λ n. IsPartRead s n None part count found.0) (omega arith) found.1)
+    (found.0, subst (λ n. IsPartRead s n count part found.0) (omega arith) found.1)
 
 -- the first part says of how many parts the form is
 same_count : (s : Day) (number count other : ℕ) (part : List ℕ) (parts others : List (List ℕ)) (letters more : List ℕ) → TextsTellFirstParts → NumbersAreWords
@@ -94,20 +93,6 @@ expected_too s [] behind count other letters more tell numbers a b = tt
 expected_too s (part ∷ before) behind count other letters more tell numbers a b =
     same_count s 1 count other part before (before ++ behind) letters more tell numbers a b
 
-expecting : (s : Day) (number : ℕ) (expected : Option ℕ) (part : List ℕ) (parts : ℕ) (text : List ℕ) → IsPartRead s number None part parts text
-    → IsExpected expected parts → IsPartRead s number expected part parts text
-expecting s number expected part parts text a due = record {
-  heading = a.heading;
-  body = a.body;
-  has = a.has;
-  numbered = a.numbered;
-  so_many = a.so_many;
-  as_expected = due;
-  allowed = a.allowed;
-  counted = a.counted;
-  read = a.read;
-}
-
 -- none of the parts that are read is refused
 not_refused : (s : Day) (form rest : List ℕ) (before : List (List ℕ)) (count : ℕ) (fault : FormFault) (part : List ℕ) (behind : List (List ℕ)) (other : ℕ)
     (letters more : List ℕ) → TextsTellFirstParts → NumbersAreWords → AreFirstParts (part ∷ behind) rest more
@@ -115,11 +100,9 @@ not_refused : (s : Day) (form rest : List ℕ) (before : List (List ℕ)) (count
 not_refused s form rest before count fault part behind other letters more tell numbers (after, first, later) read at =
     let same : part ≡ at.part = (one_cut rest part after at.part at.after first at.first).0 in
     let there = read_there s 1 other before part behind letters read in
-    let due : IsPartRead s (length before + 1) (count_due before count) part other there.0 =
-    expecting s (length before + 1) (count_due before count) part other there.0 there.1
-    (expected_too s before (part ∷ behind) count other at.letters letters tell numbers at.read.read read) in
     read_or_refused s (length before + 1) (count_due before count) (length form - length rest) at.part other there.0 fault tell numbers
-    (subst (λ p. IsPartRead s (length before + 1) (count_due before count) p other there.0) same due) at.refused
+    (subst (λ p. IsPartRead s (length before + 1) other p there.0) same there.1)
+    (expected_too s before (part ∷ behind) count other at.letters letters tell numbers at.read.read read) at.refused
 
 -- a form that is read to its end has no part that is refused
 whole_not_refused : (s : Day) (form rest : List ℕ) (parts before : List (List ℕ)) (count other : ℕ) (letters : List ℕ) (fault : FormFault) → TextsTellFirstParts

@@ -16,16 +16,16 @@ first_parts_more [] form rest part after cut first = (after, subst (λ bytes. Is
 first_parts_more (p ∷ before) form rest part after (next, is, cut) first = (next, is, first_parts_more before next rest part after cut first)
 
 parts_read_more : (s : Day) (number count : ℕ) (before : List (List ℕ)) (letters part one : List ℕ) → ArePartsRead s number count before letters
-    → IsPartRead s (number + length before) None part count one → ArePartsRead s number count (before ++ part ∷ []) (letters ++ one)
+    → IsPartRead s (number + length before) count part one → ArePartsRead s number count (before ++ part ∷ []) (letters ++ one)
 parts_read_more s number count [] letters part one none read =
     let here : number + 0 ≡ number = omega arith in
-    (one, [], subst (λ n. IsPartRead s n None part count one) here read, refl, ap (λ l. l ++ one) none ∙ sym (append-nil one))
+    (one, [], subst (λ n. IsPartRead s n count part one) here read, refl, ap (λ l. l ++ one) none ∙ sym (append-nil one))
 parts_read_more s number count (p ∷ before) letters part one (first, more, is, others, joined) read =
     let here : number + length (p ∷ before) ≡ number + 1 + length before = omega arith in (
       first,
       more ++ one,
       is,
-      parts_read_more s (number + 1) count before more part one others (subst (λ n. IsPartRead s n None part count one) here read),
+      parts_read_more s (number + 1) count before more part one others (subst (λ n. IsPartRead s n count part one) here read),
       ap (λ l. l ++ one) joined ∙ append_assoc first more one,
     )
 
@@ -34,20 +34,6 @@ of_so_many : (s : Day) (before : List (List ℕ)) (count parts : ℕ) (letters :
     → ArePartsRead s 1 count before letters → ArePartsRead s 1 parts before letters
 of_so_many s [] count parts letters due read = read
 of_so_many s (p ∷ before) count parts letters due read = subst (λ n. ArePartsRead s 1 n (p ∷ before) letters) due read
-
-of_any_number : (s : Day) (number parts : ℕ) (expected : Option ℕ) (part one : List ℕ) → IsPartRead s number expected part parts one
-    → IsPartRead s number None part parts one
-of_any_number s number parts expected part one is = record {
-  heading = is.heading;
-  body = is.body;
-  has = is.has;
-  numbered = is.numbered;
-  so_many = is.so_many;
-  as_expected = tt;
-  allowed = is.allowed;
-  counted = is.counted;
-  read = is.read;
-}
 
 -- ---- in the loop
 
@@ -98,8 +84,8 @@ due_more [] part parts = refl
 due_more (p ∷ before) part parts = refl
 
 one_more : (s : Day) (form text rest part after one : List ℕ) (number parts : ℕ) (expected : Option ℕ) → IsReceiving s form text rest number expected
-    → IsFirstOf rest part after → IsPartRead s number expected part parts one → IsOneMore s form text after number parts one
-one_more s form text rest part after one number parts expected so_far first is = record {
+    → IsFirstOf rest part after → IsPartRead s number parts part one → IsExpected expected parts → IsOneMore s form text after number parts one
+one_more s form text rest part after one number parts expected so_far first is due = record {
   all = so_far.before ++ part ∷ [];
   some = some_parts so_far.before part;
   so_many = length-append so_far.before (part ∷ []) ∙ sym so_far.numbered;
@@ -108,9 +94,9 @@ one_more s form text rest part after one number parts expected so_far first is =
     cut = first_parts_more so_far.before form rest part after so_far.read.cut first;
     read =
         let here : number ≡ 1 + length so_far.before = omega (arith, so_far.numbered) in
-        let due : IsExpected (count_due so_far.before so_far.count) parts = subst (λ e. IsExpected e parts) so_far.due is.as_expected in
-        parts_read_more s 1 parts so_far.before so_far.letters part one (of_so_many s so_far.before so_far.count parts so_far.letters due so_far.read.read)
-        (subst (λ n. IsPartRead s n None part parts one) here (of_any_number s number parts expected part one is));
+        let counts : IsExpected (count_due so_far.before so_far.count) parts = subst (λ e. IsExpected e parts) so_far.due due in
+        parts_read_more s 1 parts so_far.before so_far.letters part one (of_so_many s so_far.before so_far.count parts so_far.letters counts so_far.read.read)
+        (subst (λ n. IsPartRead s n parts part one) here is);
   };
   written = ap (λ t. t ++ given_letters s one) so_far.written ∙ sym (given_more s so_far.letters one);
   counted = omega (arith, is.numbered, is.so_many, is.has.is_heading.number.in_order);
@@ -118,10 +104,10 @@ one_more s form text rest part after one number parts expected so_far first is =
 }
 
 pub receiving_more : (s : Day) (form text longer rest part after one : List ℕ) (number parts : ℕ) (expected : Option ℕ)
-    → IsReceiving s form text rest number expected → IsFirstOf rest part after → IsPartRead s number expected part parts one
+    → IsReceiving s form text rest number expected → IsFirstOf rest part after → IsPartRead s number parts part one → IsExpected expected parts
     → after ≢ [] → longer ≡ text ++ given_letters s one → IsReceiving s form longer after (number + 1) (Some parts)
-receiving_more s form text longer rest part after one number parts expected so_far first is left put =
-    let more = one_more s form text rest part after one number parts expected so_far first is in
+receiving_more s form text longer rest part after one number parts expected so_far first is due left put =
+    let more = one_more s form text rest part after one number parts expected so_far first is due in
     let size : length rest ≡ length part + length after = ap length first.joined ∙ length-append part after in
     record {
       before = more.all;
@@ -146,18 +132,18 @@ part_refused s form text rest part after number expected fault so_far first foun
     (subst (λ n. IsPartFault s n expected (length form - length rest) part fault) so_far.numbered found))
 
 pub too_few_parts : (s : Day) (form text rest part after one : List ℕ) (number parts : ℕ) (expected : Option ℕ)
-    → IsReceiving s form text rest number expected → IsFirstOf rest part after → IsPartRead s number expected part parts one
+    → IsReceiving s form text rest number expected → IsFirstOf rest part after → IsPartRead s number parts part one → IsExpected expected parts
     → after ≡ [] → parts ≢ number → IsReceiveFault s form PartOrder
-too_few_parts s form text rest part after one number parts expected so_far first is none fewer =
-    let more = one_more s form text rest part after one number parts expected so_far first is in
+too_few_parts s form text rest part after one number parts expected so_far first is due none fewer =
+    let more = one_more s form text rest part after one number parts expected so_far first is due in
     AtEnd more.all parts more.letters more.some (subst (λ left. IsReadTo s form left more.all parts more.letters) none more.read)
     (omega (arith, more.so_many, more.counted, fewer)) refl
 
 pub all_received : (s : Day) (form text given whole rest part after one : List ℕ) (number parts : ℕ) (expected : Option ℕ)
-    → IsReceiving s form text rest number expected → IsFirstOf rest part after → IsPartRead s number expected part parts one
+    → IsReceiving s form text rest number expected → IsFirstOf rest part after → IsPartRead s number parts part one → IsExpected expected parts
     → after ≡ [] → parts ≡ number → given ≡ text ++ given_letters s one → whole ≡ given ++ 10 ∷ [] → IsTextOf s form whole
-all_received s form text given whole rest part after one number parts expected so_far first is none same put ended =
-    let more = one_more s form text rest part after one number parts expected so_far first is in
+all_received s form text given whole rest part after one number parts expected so_far first is due none same put ended =
+    let more = one_more s form text rest part after one number parts expected so_far first is due in
     record {
       parts = more.all;
       letters = more.letters;

@@ -19,7 +19,7 @@ AreFirstParts (part ∷ parts) bytes rest = (after : List ℕ) × IsFirstOf byte
 abbrev pub ArePartsRead : Day → ℕ → ℕ → List (List ℕ) → List ℕ → Type 0
 ArePartsRead s number count [] letters = letters ≡ []
 ArePartsRead s number count (part ∷ parts) letters =
-    (one more : List ℕ) × IsPartRead s number None part count one × ArePartsRead s (number + 1) count parts more × (letters ≡ one ++ more)
+    (one more : List ℕ) × IsPartRead s number count part one × ArePartsRead s (number + 1) count parts more × (letters ≡ one ++ more)
 
 -- the form begins with these parts, which are read as the first of so many, and this follows them
 pub record IsReadTo (s : Day) (form rest : List ℕ) (parts : List (List ℕ)) (count : ℕ) (letters : List ℕ) : Type 0 where

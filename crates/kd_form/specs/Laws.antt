@@ -1,5 +1,5 @@
 -- What holds of orders and forms.
-use Rattle.std.specs.Prelude.{◌≡◌, ℕ, List}
+use Rattle.std.specs.Prelude.{◌≡◌, ◌⊎◌, ℕ, List}
 use Rattle.kd_state.specs.SheetDay.{Day, IsLegalDay}
 use Rattle.kd_form.specs.declared.fault.FormFault.{FormFault}
 use Rattle.kd_form.specs.Sending.{IsFormOf, IsSendFault}
@@ -17,6 +17,10 @@ SentOrdersHaveNoFault = (s : Day) (order form : List ℕ) (fault : FormFault) �
 abbrev pub OrdersHaveOneFault : Type 0
 OrdersHaveOneFault = (s : Day) (order : List ℕ) (fault other : FormFault) → IsSendFault s order fault → IsSendFault s order other → fault ≡ other
 
+-- and each order has an answer
+abbrev pub OrderIsAnswered : Day → List ℕ → Type 0
+OrderIsAnswered s order = ((form : List ℕ) × IsFormOf s order form) ⊎ ((fault : FormFault) × IsSendFault s order fault)
+
 -- a form becomes one text at most
 abbrev pub FormsBecomeOneText : Type 0
 FormsBecomeOneText = (s : Day) (form text other : List ℕ) → IsTextOf s form text → IsTextOf s form other → text ≡ other
@@ -29,6 +33,13 @@ ReceivedFormsHaveNoFault = (s : Day) (form text : List ℕ) (fault : FormFault) 
 abbrev pub FormsHaveOneFault : Type 0
 FormsHaveOneFault = (s : Day) (form : List ℕ) (fault other : FormFault) → IsReceiveFault s form fault → IsReceiveFault s form other → fault ≡ other
 
--- the form that an order becomes, becomes the order's letters
+-- and each form has an answer
+abbrev pub FormIsAnswered : Day → List ℕ → Type 0
+FormIsAnswered s form = ((text : List ℕ) × IsTextOf s form text) ⊎ ((fault : FormFault) × IsReceiveFault s form fault)
+
+-- the form that an order becomes, becomes the letters that the order gives; it gives some, and so no others
 abbrev pub FormsGiveTheirOrders : Type 0
-FormsGiveTheirOrders = (s : Day) (order form : List ℕ) → IsLegalDay s → IsFormOf s order form → (given : List ℕ) × IsGivenOf s order given × IsTextOf s form given
+FormsGiveTheirOrders = (s : Day) (order form given : List ℕ) → IsLegalDay s → IsFormOf s order form → IsGivenOf s order given → IsTextOf s form given
+
+abbrev pub OrdersGiveLetters : Type 0
+OrdersGiveLetters = (s : Day) (order form : List ℕ) → IsFormOf s order form → (given : List ℕ) × IsGivenOf s order given

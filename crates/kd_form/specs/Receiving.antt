@@ -18,22 +18,21 @@ pub record HasHeading (s : Day) (part : List ℕ) (h : Heading) (body : List ℕ
   pub ended : IsEnded (line_of (heading_words h)) line ⊎ ((line ≡ line_of (heading_words h)) × (body ≡ []))
   pub is_heading : IsHeading s h
 
--- the number of parts is the first part's, if there was one
-abbrev pub IsExpected : Option ℕ → ℕ → Type 0
-IsExpected None parts = Unit {0}
-IsExpected (Some first) parts = first ≡ parts
-
--- the part is the one of that number, its body has as many letters as the heading says, and they become this text
-pub record IsPartRead (s : Day) (number : ℕ) (expected : Option ℕ) (part : List ℕ) (parts : ℕ) (text : List ℕ) : Type 0 where
+-- the part is the one of that number, of so many, its body has as many letters as the heading says, and they become this text
+pub record IsPartRead (s : Day) (number parts : ℕ) (part text : List ℕ) : Type 0 where
   pub heading : Heading
   pub body : List ℕ
   pub has : HasHeading s part heading body
   pub numbered : heading.part ≡ number
   pub so_many : heading.parts ≡ parts
-  pub as_expected : IsExpected expected parts
   pub allowed : All (λ b. IsTrue (is_text_byte b)) body
   pub counted : length (letters_from None body) ≡ heading.letters
   pub read : IsLettersText s heading.indicator (letters_from None body) text
+
+-- the number of parts is the one that is expected, if one is
+abbrev pub IsExpected : Option ℕ → ℕ → Type 0
+IsExpected None parts = Unit {0}
+IsExpected (Some first) parts = first ≡ parts
 
 -- The first of the reasons, for a part before which so many bytes of the form stand: it has no heading; it isn't the one of that
 -- number, or the number of parts is another one; a byte of the body may not stand there; its letters are more or fewer; or

@@ -1,11 +1,16 @@
 //! What holds of orders and forms.
-ghost use Rattle.kd_form.specs.Laws.{OrdersBecomeOneForm, OrdersHaveOneFault, SentOrdersHaveNoFault, FormsGiveTheirOrders};
-
-use kd_state::laws::{texts_tell_first_parts, the_day_deciphers_itself};
+ghost use Rattle.kd_form.specs.Laws.{OrderIsAnswered, FormIsAnswered};
 ghost use Rattle.kd_form.specs.Laws.{OrdersBecomeOneForm, OrdersHaveOneFault, SentOrdersHaveNoFault};
 ghost use Rattle.kd_form.specs.Laws.{FormsBecomeOneText, FormsHaveOneFault, ReceivedFormsHaveNoFault};
+ghost use Rattle.kd_form.specs.Laws.{OrdersGiveLetters, FormsGiveTheirOrders};
 
-use kd_state::laws::{numbers_and_letters_are_words, texts_tell_first_parts};
+use super::form_part::split_part;
+use super::reading::read_part;
+use super::sending::read_order;
+use kd_state::SheetDay;
+use kd_state::laws::{
+    numbers_and_letters_are_words, texts_tell_first_parts, the_day_deciphers_itself,
+};
 
 /// An order becomes one form, or has one fault, and never both.
 pub fn orders_have_one_answer()
@@ -16,11 +21,16 @@ pub fn orders_have_one_answer()
     texts_tell_first_parts();
 }
 
-/// The form that an order becomes, becomes the order's letters.
-pub fn forms_give_their_orders()
-    ensures { FormsGiveTheirOrders }
+/// Every order has an answer. To see it, the order is read.
+pub fn orders_have_an_answer(day: &SheetDay, order: &[u8])
+    ensures { OrderIsAnswered day.now order.now }
 {
-    the_day_deciphers_itself();
+    match read_order(day, order) {
+        Ok(_) => {}
+        Err(_) => {}
+    }
+}
+
 /// A form becomes one text, or has one fault, and never both.
 pub fn forms_have_one_answer()
     ensures text { FormsBecomeOneText }
@@ -29,4 +39,35 @@ pub fn forms_have_one_answer()
 {
     texts_tell_first_parts();
     numbers_and_letters_are_words();
+}
+
+/// Every form has an answer. To see it, the form is read.
+pub fn forms_have_an_answer(day: &SheetDay, form: &[u8])
+    ensures { FormIsAnswered day.now form.now }
+{
+    let mut expected = None;
+    let mut number = 1;
+    let mut rest = form;
+    loop {
+        let (part, after) = split_part(rest);
+        let read = match read_part(day, number, &expected, form.len() - rest.len(), part) {
+            Ok(read) => read,
+            Err(_) => return,
+        };
+        if after.is_empty() {
+            return;
+        }
+        expected = Some(read.parts);
+        number += 1;
+        rest = after;
+    }
+}
+
+/// The form that an order becomes, becomes the order's letters.
+pub fn forms_give_their_orders()
+    ensures letters { OrdersGiveLetters }
+    ensures back { FormsGiveTheirOrders }
+{
+    texts_tell_first_parts();
+    the_day_deciphers_itself();
 }

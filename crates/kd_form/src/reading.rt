@@ -125,7 +125,8 @@ pub(crate) fn read_part(
 ) -> Result<PartText, FormFault>
     requires { start + length part.now < 2 ^ 63 }
     ensures { MatchResult result
-        (λ read. IsPartRead day.now number expected.now part.now read.parts read.letters.items)
+        (λ read. IsPartRead day.now number read.parts part.now read.letters.items
+        × IsExpected expected.now read.parts)
         (IsPartFault day.now number expected.now start part.now) }
 {
     let Some((heading, body)) = read_heading(day, part) else {

@@ -43,7 +43,7 @@ pub fn send(
 }
 
 /// The keys and the text of an order that can be sent.
-fn read_order<'a>(
+pub(crate) fn read_order<'a>(
     day: &SheetDay,
     order: &'a [u8],
 ) -> Result<(ArrayVec<Keys, 99>, &'a [u8]), FormFault>

@@ -33,20 +33,22 @@ read_letters-requires-clause-count c =
     c.as_slice.result.now c.in-Some.ensures.is_heading.letters c.in-Ok.ensures.1 c.if-count-heading.false c.take_piece-letters.ensures.letters c.as_slice.ensures.value)
 
 pub returns-in-Ok-read_letters : goal.returns-in-Ok-read_letters
-returns-in-Ok-read_letters c = record {
-  heading = c.in-Some.heading;
-  body = c.in-Some.body.now;
-  has = c.in-Some.ensures;
-  numbered = c.if-heading-number.false;
-  so_many = refl;
-  as_expected = c.is_expected.ensures.0 c.if-not-is_expected.false;
-  allowed = c.in-Ok.ensures.0;
-  counted = sym c.in-Ok.ensures.1 ∙ c.if-count-heading.false;
-  read = subst (λ letters. IsLettersText c.args.day.now c.in-Some.heading.indicator letters c.in-Ok-read_letters.letters.items)
-      (all_letters c.args.day.now c.in-Some.heading.letters c.in-Ok.count (letters_from None c.in-Some.body.now) c.take_piece-letters.result.0.items
-      c.as_slice.result.now c.in-Some.ensures.is_heading.letters c.in-Ok.ensures.1 c.if-count-heading.false c.take_piece-letters.ensures.letters c.as_slice.ensures.value)
-      c.in-Ok-read_letters.ensures;
-}
+returns-in-Ok-read_letters c = (
+  record {
+    heading = c.in-Some.heading;
+    body = c.in-Some.body.now;
+    has = c.in-Some.ensures;
+    numbered = c.if-heading-number.false;
+    so_many = refl;
+    allowed = c.in-Ok.ensures.0;
+    counted = sym c.in-Ok.ensures.1 ∙ c.if-count-heading.false;
+    read = subst (λ letters. IsLettersText c.args.day.now c.in-Some.heading.indicator letters c.in-Ok-read_letters.letters.items)
+        (all_letters c.args.day.now c.in-Some.heading.letters c.in-Ok.count (letters_from None c.in-Some.body.now) c.take_piece-letters.result.0.items
+        c.as_slice.result.now c.in-Some.ensures.is_heading.letters c.in-Ok.ensures.1 c.if-count-heading.false c.take_piece-letters.ensures.letters c.as_slice.ensures.value)
+        c.in-Ok-read_letters.ensures;
+  },
+  c.is_expected.ensures.0 c.if-not-is_expected.false,
+)
 
 pub returns-in-Err-read_letters : goal.returns-in-Err-read_letters
 returns-in-Err-read_letters c =

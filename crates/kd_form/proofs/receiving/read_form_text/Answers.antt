@@ -15,14 +15,14 @@ returns-then-read-number c =
     let none : c.split_part.result.1.now ≡ [] = search rules in
     let differ : c.in-Ok.read.parts ≢ c.loop-read.number = search rules in
     inr (too_few_parts c.args.day.now c.args.form.now c.loop-read.text.items c.loop-read.rest.now c.split_part.result.0.now
-    c.split_part.result.1.now c.in-Ok.read.letters.items c.loop-read.number c.in-Ok.read.parts c.loop-read.expected c.loop-read.invariant c.split_part.ensures c.in-Ok.ensures none differ)
+    c.split_part.result.1.now c.in-Ok.read.letters.items c.loop-read.number c.in-Ok.read.parts c.loop-read.expected c.loop-read.invariant c.split_part.ensures c.in-Ok.ensures.0 c.in-Ok.ensures.1 none differ)
 
 pub loop-read-preserved : goal.loop-read-preserved
 loop-read-preserved c =
     let some : c.split_part.result.1.now ≢ [] = search rules in
     let put : c.extend_from_slice.new.self.items ≡ c.loop-read.text.items ++ given_letters c.args.day.now c.in-Ok.read.letters.items = search rules in
     receiving_more c.args.day.now c.args.form.now c.loop-read.text.items c.extend_from_slice.new.self.items c.loop-read.rest.now c.split_part.result.0.now
-    c.split_part.result.1.now c.in-Ok.read.letters.items c.loop-read.number c.in-Ok.read.parts c.loop-read.expected c.loop-read.invariant c.split_part.ensures c.in-Ok.ensures some put
+    c.split_part.result.1.now c.in-Ok.read.letters.items c.loop-read.number c.in-Ok.read.parts c.loop-read.expected c.loop-read.invariant c.split_part.ensures c.in-Ok.ensures.0 c.in-Ok.ensures.1 some put
 
 pub returns-in-Ok-push : goal.returns-in-Ok-push
 returns-in-Ok-push c =
@@ -32,4 +32,4 @@ returns-in-Ok-push c =
     let ended : c.push.new.self.items ≡ c.extend_from_slice.new.self.items ++ 10 ∷ [] = search rules in
     all_received c.args.day.now c.args.form.now c.loop-read.text.items c.extend_from_slice.new.self.items c.push.new.self.items c.loop-read.rest.now
     c.split_part.result.0.now c.split_part.result.1.now c.in-Ok.read.letters.items c.loop-read.number c.in-Ok.read.parts c.loop-read.expected
-    c.loop-read.invariant c.split_part.ensures c.in-Ok.ensures none same put ended
+    c.loop-read.invariant c.split_part.ensures c.in-Ok.ensures.0 c.in-Ok.ensures.1 none same put ended
