@@ -185,7 +185,7 @@ forms_give_their_orders decipher tell s order form given legal is due =
     record {
       parts = back.texts;
       letters = sent;
-      some = some_parts s letters back.texts is.sent.filled (back.counted ∙ sym is.sent.counted);
+      some = some_parts s letters back.texts is.sent.some (back.counted ∙ sym is.sent.counted);
       read = record {
         cut = back.cut;
         read = subst (λ n. ArePartsRead s 1 n back.texts sent) (sym back.counted)

@@ -11,7 +11,7 @@ use Rattle.kd_form.specs.declared.heading.Indicator.{Indicator}
 use Rattle.kd_form.specs.Keys.{letters_text}
 use Rattle.kd_form.specs.Part.{fraction, indicator_words, heading_words}
 use Rattle.kd_form.specs.Reading.{HasIndicator}
-use Rattle.kd_form.specs.KeyForms.{HasSlots, HasPins}
+use Rattle.kd_form.specs.KeyPatterns.{HasSlots, HasPins}
 use Rattle.kd_form.specs.FormParts.{IsFraction, IsLetterCount, IsHeading, AreHeadingWords}
 use Rattle.kd_form.proofs.Fractions.{fraction_parts}
 

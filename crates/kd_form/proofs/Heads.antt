@@ -9,9 +9,9 @@ use Rattle.kd_state.specs.SheetDay.{Day}
 use Rattle.kd_form.specs.declared.keys.Keys.{Keys}
 use Rattle.kd_form.specs.declared.keys.Keys.TheVariants.{Rotor, Pin}
 use Rattle.kd_form.specs.Keys.{letters_text, key_words, AreKeys}
-use Rattle.kd_form.specs.Filling.{IsEnded, IsFormLine, BeginsWithForm, LineBreaksOff}
-use Rattle.kd_form.specs.Order.{IsKeyLine, AreKeyLines, IsHead, IsOrder, IsHeadFault}
-use Rattle.kd_form.specs.KeyForms.{BeginsWithKeys, IsAnyKeyLine}
+use Rattle.kd_form.specs.Patterns.{IsPatternLine, BeginsWithPattern, LineBreaksOff}
+use Rattle.kd_form.specs.Order.{IsEnded, IsKeyLine, AreKeyLines, IsHead, IsOrder, IsHeadFault}
+use Rattle.kd_form.specs.KeyPatterns.{BeginsWithKeys, IsAnyKeyLine}
 
 -- ---- one line
 
@@ -149,7 +149,7 @@ reading_more s order rest after keys k tell room reading begins = record {
       (later.0, later.1, behind.2 ∙ ap (λ n. length keys + n) later.2 ∙ omega (arith, length-append keys (k ∷ [])));
 }
 
-pub order_read : (s : Day) (order rest text letters : List ℕ) (keys : List Keys) → IsReadingHead s order rest keys → BeginsWithForm (codes "TEXT") rest letters text
+pub order_read : (s : Day) (order rest text letters : List ℕ) (keys : List Keys) → IsReadingHead s order rest keys → BeginsWithPattern (codes "TEXT") rest letters text
     → (head : List ℕ) × IsOrder s order keys head text
 order_read s order rest text letters keys reading begins = (
   reading.lines ++ begins.line,
@@ -196,10 +196,10 @@ no_key_line s (k ∷ others) rest after other byte place off next front head =
     (record { keys = k; of_the_day = All-head (AreKeys s) k others head.of_the_day; keyed = first.2 })
     (sym (append_assoc first.0 first.1 head.last) ∙ ap (λ l. l ++ head.last) (sym first.4) ∙ sym head.joined)
 
-text_line : (last : List ℕ) → IsEnded (codes "TEXT") last → IsFormLine (codes "TEXT") last
+text_line : (last : List ℕ) → IsEnded (codes "TEXT") last → IsPatternLine (codes "TEXT") last
 text_line last ended = record { letters = []; are_letters = record { count = refl; within = All-nil (λ l. l < 26) }; ended = ended }
 
-no_text_line : (s : Day) (others keys : List Keys) (rest after other : List ℕ) (byte place : ℕ) (off : LineBreaksOff (IsFormLine (codes "TEXT")) rest place)
+no_text_line : (s : Day) (others keys : List Keys) (rest after other : List ℕ) (byte place : ℕ) (off : LineBreaksOff (IsPatternLine (codes "TEXT")) rest place)
     → off.rest ≡ byte ∷ after → get_or (off.before ++ byte ∷ other) 0 0 ≡ get_or rest 0 0 → (get_or rest 0 0 ≡ 80 → length keys ≡ 99)
     → length keys + length others ≤ 99 → ¬ (IsHead s others (off.before ++ byte ∷ other))
 no_text_line s [] keys rest after other byte place off next front full few head =
@@ -239,7 +239,7 @@ key_fault s order rest keys place position reading room first off is = record {
 }
 
 pub text_fault : (s : Day) (order rest : List ℕ) (keys : List Keys) (place position : ℕ) → IsReadingHead s order rest keys
-    → (get_or rest 0 0 ≡ 80 → length keys ≡ 99) → LineBreaksOff (IsFormLine (codes "TEXT")) rest place → position ≡ length order - length rest + place + 1
+    → (get_or rest 0 0 ≡ 80 → length keys ≡ 99) → LineBreaksOff (IsPatternLine (codes "TEXT")) rest place → position ≡ length order - length rest + place + 1
     → IsHeadFault s order position
 text_fault s order rest keys place position reading full off is = record {
   before = reading.lines ++ off.before;

@@ -11,8 +11,9 @@ use Rattle.kd_form.specs.declared.keys.Keys.TheVariants.{Rotor, Pin}
 use Rattle.kd_form.specs.declared.keys.RotorKeys.{RotorKeys}
 use Rattle.kd_form.specs.declared.keys.PinKeys.{PinKeys}
 use Rattle.kd_form.specs.Keys.{letters_text, key_words, AreKeys, AreRotorKeys, ArePinKeys}
-use Rattle.kd_form.specs.Filling.{filled_in, blanks, IsEnded, IsFormLine, BeginsWithForm, LineBreaksOff}
-use Rattle.kd_form.specs.KeyForms.{places_for, rotor_form, pin_form, key_form, key_letters, BeginsWithKeys, IsAnyKeyLine}
+use Rattle.kd_form.specs.Patterns.{filled_in, blanks, IsPatternLine, BeginsWithPattern, LineBreaksOff}
+use Rattle.kd_form.specs.Order.{IsEnded}
+use Rattle.kd_form.specs.KeyPatterns.{places_for, rotor_pattern, pin_pattern, key_pattern, key_letters, BeginsWithKeys, IsAnyKeyLine}
 use Rattle.kd_form.proofs.Filled.{filled-append, blanks-append}
 
 -- ---- words of letters
@@ -33,7 +34,7 @@ filled_word n letters other more count =
     filled-append (places_for n) other letters more (count ∙ sym (blanks-places n))
     ∙ ap (λ text. text ++ filled_in other more) (filled-places n letters count)
 
-rotor_line : (slots : ℕ) (k : RotorKeys) → AreRotorKeys slots k → filled_in (rotor_form slots) (key_letters (Rotor k)) ≡ line_of (key_words (Rotor k))
+rotor_line : (slots : ℕ) (k : RotorKeys) → AreRotorKeys slots k → filled_in (rotor_pattern slots) (key_letters (Rotor k)) ≡ line_of (key_words (Rotor k))
 rotor_line slots k are =
     let last : filled_in (places_for 3) k.group ≡ letters_text k.group = filled-places 3 k.group are.group.count in
     let fillers : filled_in (places_for 2 ++ 32 ∷ places_for 3) (k.fillers ++ k.group) ≡ letters_text k.fillers ++ 32 ∷ letters_text k.group =
@@ -44,10 +45,10 @@ rotor_line slots k are =
     ap (λ t. codes "PART " ++ t) (filled_word slots k.start (32 ∷ (places_for slots ++ 32 ∷ (places_for 2 ++ 32 ∷ places_for 3))) (k.key ++ (k.fillers ++ k.group)) are.start.count
     ∙ ap (λ t. letters_text k.start ++ 32 ∷ t) key)
 
-pin_line : (k : PinKeys) → ArePinKeys k → filled_in pin_form (key_letters (Pin k)) ≡ line_of (key_words (Pin k))
+pin_line : (k : PinKeys) → ArePinKeys k → filled_in pin_pattern (key_letters (Pin k)) ≡ line_of (key_words (Pin k))
 pin_line k are = ap (λ t. codes "PART " ++ (k.chosen + 65) ∷ 32 ∷ t) (filled-places 6 k.external are.external.count)
 
-pub key_line : (s : Day) (k : Keys) → AreKeys s k → filled_in (key_form s) (key_letters k) ≡ line_of (key_words k)
+pub key_line : (s : Day) (k : Keys) → AreKeys s k → filled_in (key_pattern s) (key_letters k) ≡ line_of (key_words k)
 key_line (OfRotors s) (Rotor k) are = rotor_line (length s.wheels) k are
 key_line (OfPins s) (Pin k) are = pin_line k are
 key_line (OfRotors s) (Pin k) are = absurd are
@@ -55,7 +56,7 @@ key_line (OfPins s) (Rotor k) are = absurd are
 
 -- ---- how many letters
 
-pub rotor_blanks : (slots : ℕ) → blanks (rotor_form slots) ≡ slots + slots + 5
+pub rotor_blanks : (slots : ℕ) → blanks (rotor_pattern slots) ≡ slots + slots + 5
 rotor_blanks slots =
     blanks-append (places_for slots) (32 ∷ (places_for slots ++ 32 ∷ (places_for 2 ++ 32 ∷ places_for 3)))
     ∙ ap (λ n. n + blanks (places_for slots ++ 32 ∷ (places_for 2 ++ 32 ∷ places_for 3))) (blanks-places slots)
@@ -64,7 +65,7 @@ rotor_blanks slots =
 
 -- ---- any letters make keys
 
-keys_exist : (s : Day) (letters : List ℕ) → AreLetters (blanks (key_form s)) letters → (k : Keys) × AreKeys s k × (key_letters k ≡ letters)
+keys_exist : (s : Day) (letters : List ℕ) → AreLetters (blanks (key_pattern s)) letters → (k : Keys) × AreKeys s k × (key_letters k ≡ letters)
 keys_exist (OfRotors s) letters are =
     let slots : ℕ = length s.wheels in
     let others : List ℕ = drop slots letters in
@@ -94,16 +95,16 @@ keys_exist (OfPins s) (l ∷ letters) are = (
   refl,
 )
 
-pub as_key_line : (s : Day) (line : List ℕ) → IsFormLine (key_form s) line → IsAnyKeyLine s line
+pub as_key_line : (s : Day) (line : List ℕ) → IsPatternLine (key_pattern s) line → IsAnyKeyLine s line
 as_key_line s line is =
     let made = keys_exist s is.letters is.are_letters in
     record {
       keys = made.0;
       of_the_day = made.1;
-      keyed = subst (λ text. IsEnded text line) (ap (filled_in (key_form s)) (sym made.2) ∙ key_line s made.0 made.1) is.ended;
+      keyed = subst (λ text. IsEnded text line) (ap (filled_in (key_pattern s)) (sym made.2) ∙ key_line s made.0 made.1) is.ended;
     }
 
-letters_of_keys : (s : Day) (k : Keys) → AreKeys s k → AreLetters (blanks (key_form s)) (key_letters k)
+letters_of_keys : (s : Day) (k : Keys) → AreKeys s k → AreLetters (blanks (key_pattern s)) (key_letters k)
 letters_of_keys (OfRotors s) (Rotor k) are = record {
   count =
       let all : length (k.start ++ (k.key ++ (k.fillers ++ k.group))) ≡ length k.start + (length k.key + (length k.fillers + length k.group)) =
@@ -120,7 +121,7 @@ letters_of_keys (OfPins s) (Pin k) are = record {
 letters_of_keys (OfRotors s) (Pin k) are = absurd are
 letters_of_keys (OfPins s) (Rotor k) are = absurd are
 
-pub as_form_line : (s : Day) (line : List ℕ) → IsAnyKeyLine s line → IsFormLine (key_form s) line
+pub as_form_line : (s : Day) (line : List ℕ) → IsAnyKeyLine s line → IsPatternLine (key_pattern s) line
 as_form_line s line is = record {
   letters = key_letters is.keys;
   are_letters = letters_of_keys s is.keys is.of_the_day;
@@ -140,11 +141,11 @@ breaks_alike P Q bytes place to back off = record {
   stops = λ byte after line other others next is. off.stops byte after line other others next (back line is);
 }
 
-pub keys_read : (s : Day) (bytes letters rest : List ℕ) (k : Keys) → BeginsWithForm (key_form s) bytes letters rest → key_letters k ≡ letters → AreKeys s k
+pub keys_read : (s : Day) (bytes letters rest : List ℕ) (k : Keys) → BeginsWithPattern (key_pattern s) bytes letters rest → key_letters k ≡ letters → AreKeys s k
     → BeginsWithKeys s bytes k rest
 keys_read s bytes letters rest k begins told are = record {
   line = begins.line;
   joined = begins.joined;
   of_the_day = are;
-  keyed = subst (λ text. IsEnded text begins.line) (ap (filled_in (key_form s)) (sym told) ∙ key_line s k are) begins.ended;
+  keyed = subst (λ text. IsEnded text begins.line) (ap (filled_in (key_pattern s)) (sym told) ∙ key_line s k are) begins.ended;
 }

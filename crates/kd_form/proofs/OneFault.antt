@@ -12,7 +12,7 @@ use Rattle.kd_form.specs.declared.keys.Keys.{Keys}
 use Rattle.kd_form.specs.declared.keys.Keys.TheVariants.{Rotor, Pin}
 use Rattle.kd_form.specs.Making.{Suits}
 use Rattle.kd_form.specs.Order.{IsHead, IsOrder, IsHeadFault}
-use Rattle.kd_form.specs.Sending.{is_text_byte, text_letters, parts_needed, IsBadAt, IsKeysFault, IsFirstKeysFault, IsSendFault, InHead, InKeys, InText, InLetters, InParts, IsFormOf}
+use Rattle.kd_form.specs.Sending.{is_text_byte, text_letters, parts_needed, IsBadAt, IsKeysFault, IsFirstKeysFault, IsSendFault, InHead, InKeys, InText, NoLetter, InParts, IsFormOf}
 use Rattle.kd_form.specs.Laws.{SentOrdersHaveNoFault, OrdersHaveOneFault}
 use Rattle.kd_form.proofs.OneOrder.{IsSameOrder, one_order}
 
@@ -167,7 +167,7 @@ orders_have_one : (tell : TextsTellFirstParts) (s : Day) (order : List ℕ) (fau
 orders_have_one tell s order fault other (InHead p h e) (InHead q i f) = e ∙ ap BadByte (one_place s order p q h i) ∙ sym f
 orders_have_one tell s order fault other (InHead p h e) (InKeys ks hd t o k) = absurd (no_head_fault s order ks hd t p tell o h)
 orders_have_one tell s order fault other (InHead p h e) (InText ks hd t n o su b f) = absurd (no_head_fault s order ks hd t p tell o h)
-orders_have_one tell s order fault other (InHead p h e) (InLetters ks hd t o su al none f) = absurd (no_head_fault s order ks hd t p tell o h)
+orders_have_one tell s order fault other (InHead p h e) (NoLetter ks hd t o su al none f) = absurd (no_head_fault s order ks hd t p tell o h)
 orders_have_one tell s order fault other (InHead p h e) (InParts ks hd t o su al some differ f) = absurd (no_head_fault s order ks hd t p tell o h)
 orders_have_one tell s order fault other (InKeys ks hd t o k) (InHead p h e) = absurd (no_head_fault s order ks hd t p tell o h)
 orders_have_one tell s order fault other (InKeys ks hd t o k) (InKeys ls ge u q l) =
@@ -175,7 +175,7 @@ orders_have_one tell s order fault other (InKeys ks hd t o k) (InKeys ls ge u q 
     first_keys_fault s ks fault other k (subst (λ xs. IsFirstKeysFault s xs other) (sym same.keys_are) l)
 orders_have_one tell s order fault other (InKeys ks hd t o k) (InText ls ge u n q su b f) =
     absurd (suited_too s ks ls hd ge t u fault (same_of s order ks ls hd ge t u tell o q) k su)
-orders_have_one tell s order fault other (InKeys ks hd t o k) (InLetters ls ge u q su al none f) =
+orders_have_one tell s order fault other (InKeys ks hd t o k) (NoLetter ls ge u q su al none f) =
     absurd (suited_too s ks ls hd ge t u fault (same_of s order ks ls hd ge t u tell o q) k su)
 orders_have_one tell s order fault other (InKeys ks hd t o k) (InParts ls ge u q su al some differ f) =
     absurd (suited_too s ks ls hd ge t u fault (same_of s order ks ls hd ge t u tell o q) k su)
@@ -184,24 +184,24 @@ orders_have_one tell s order fault other (InText ks hd t n o su b e) (InKeys ls 
     absurd (suited_too s ls ks ge hd u t other (same_of s order ls ks ge hd u t tell q o) l su)
 orders_have_one tell s order fault other (InText ks hd t n o su b e) (InText ls ge u m q sv c f) =
     e ∙ bad_alike ks ls hd ge t u n m (same_of s order ks ls hd ge t u tell o q) b c ∙ sym f
-orders_have_one tell s order fault other (InText ks hd t n o su b e) (InLetters ls ge u q sv al none f) =
+orders_have_one tell s order fault other (InText ks hd t n o su b e) (NoLetter ls ge u q sv al none f) =
     absurd (allowed_too ks ls hd ge t u n (same_of s order ks ls hd ge t u tell o q) b al)
 orders_have_one tell s order fault other (InText ks hd t n o su b e) (InParts ls ge u q sv al some differ f) =
     absurd (allowed_too ks ls hd ge t u n (same_of s order ks ls hd ge t u tell o q) b al)
-orders_have_one tell s order fault other (InLetters ks hd t o su al none e) (InHead p h f) = absurd (no_head_fault s order ks hd t p tell o h)
-orders_have_one tell s order fault other (InLetters ks hd t o su al none e) (InKeys ls ge u q l) =
+orders_have_one tell s order fault other (NoLetter ks hd t o su al none e) (InHead p h f) = absurd (no_head_fault s order ks hd t p tell o h)
+orders_have_one tell s order fault other (NoLetter ks hd t o su al none e) (InKeys ls ge u q l) =
     absurd (suited_too s ls ks ge hd u t other (same_of s order ls ks ge hd u t tell q o) l su)
-orders_have_one tell s order fault other (InLetters ks hd t o su al none e) (InText ls ge u m q sv c f) =
+orders_have_one tell s order fault other (NoLetter ks hd t o su al none e) (InText ls ge u m q sv c f) =
     absurd (allowed_too ls ks ge hd u t m (same_of s order ls ks ge hd u t tell q o) c al)
-orders_have_one tell s order fault other (InLetters ks hd t o su al none e) (InLetters ls ge u q sv am nil f) = e ∙ sym f
-orders_have_one tell s order fault other (InLetters ks hd t o su al none e) (InParts ls ge u q sv am some differ f) =
+orders_have_one tell s order fault other (NoLetter ks hd t o su al none e) (NoLetter ls ge u q sv am nil f) = e ∙ sym f
+orders_have_one tell s order fault other (NoLetter ks hd t o su al none e) (InParts ls ge u q sv am some differ f) =
     absurd (some (ap (text_letters s) (sym (same_of s order ks ls hd ge t u tell o q).text_is) ∙ none))
 orders_have_one tell s order fault other (InParts ks hd t o su al some differ e) (InHead p h f) = absurd (no_head_fault s order ks hd t p tell o h)
 orders_have_one tell s order fault other (InParts ks hd t o su al some differ e) (InKeys ls ge u q l) =
     absurd (suited_too s ls ks ge hd u t other (same_of s order ls ks ge hd u t tell q o) l su)
 orders_have_one tell s order fault other (InParts ks hd t o su al some differ e) (InText ls ge u m q sv c f) =
     absurd (allowed_too ls ks ge hd u t m (same_of s order ls ks ge hd u t tell q o) c al)
-orders_have_one tell s order fault other (InParts ks hd t o su al some differ e) (InLetters ls ge u q sv am nil f) =
+orders_have_one tell s order fault other (InParts ks hd t o su al some differ e) (NoLetter ls ge u q sv am nil f) =
     absurd (some (ap (text_letters s) (same_of s order ks ls hd ge t u tell o q).text_is ∙ nil))
 orders_have_one tell s order fault other (InParts ks hd t o su al some differ e) (InParts ls ge u q sv am any part f) =
     e ∙ parts_alike s ks ls hd ge t u (same_of s order ks ls hd ge t u tell o q) ∙ sym f
@@ -217,8 +217,8 @@ sent_fault tell s order form fault a (InKeys ks hd t o k) =
     suited_too s ks a.keys hd a.sent.head t a.text fault (same_of s order ks a.keys hd a.sent.head t a.text tell o a.sent.is_order) k a.sent.suited
 sent_fault tell s order form fault a (InText ks hd t n o su b e) =
     allowed_too ks a.keys hd a.sent.head t a.text n (same_of s order ks a.keys hd a.sent.head t a.text tell o a.sent.is_order) b a.sent.allowed
-sent_fault tell s order form fault a (InLetters ks hd t o su al none e) =
-    a.sent.filled (ap (text_letters s) (sym (same_of s order ks a.keys hd a.sent.head t a.text tell o a.sent.is_order).text_is) ∙ none)
+sent_fault tell s order form fault a (NoLetter ks hd t o su al none e) =
+    a.sent.some (ap (text_letters s) (sym (same_of s order ks a.keys hd a.sent.head t a.text tell o a.sent.is_order).text_is) ∙ none)
 sent_fault tell s order form fault a (InParts ks hd t o su al some differ e) =
     let same = same_of s order ks a.keys hd a.sent.head t a.text tell o a.sent.is_order in
     differ (ap (λ x. parts_needed s (length (text_letters s x))) same.text_is ∙ a.sent.counted ∙ sym (ap length same.keys_are))

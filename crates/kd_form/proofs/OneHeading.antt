@@ -8,7 +8,7 @@ use Rattle.kd_state.specs.Words.{line_of, IsWord, IsWithout, TextsTellFirstParts
 use Rattle.kd_form.specs.declared.heading.Heading.{Heading}
 use Rattle.kd_form.specs.declared.heading.Indicator.{Indicator}
 use Rattle.kd_form.specs.Keys.{letters_text}
-use Rattle.kd_form.specs.Filling.{IsEnded}
+use Rattle.kd_form.specs.Order.{IsEnded}
 use Rattle.kd_form.specs.Part.{fraction, indicator_words, heading_words}
 use Rattle.kd_form.specs.Reading.{HasIndicator}
 use Rattle.kd_form.specs.FormParts.{IsFraction, IsLetterCount, IsHeading}

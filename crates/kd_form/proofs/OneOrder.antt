@@ -12,10 +12,9 @@ use Rattle.kd_form.specs.declared.keys.RotorKeys.{RotorKeys}
 use Rattle.kd_form.specs.declared.keys.PinKeys.{PinKeys}
 use Rattle.kd_form.specs.InternalKey.{ComesFirst, IsInternalKey}
 use Rattle.kd_form.specs.Keys.{letters_text, key_words, AreKeys}
-use Rattle.kd_form.specs.Filling.{IsEnded}
+use Rattle.kd_form.specs.Order.{IsEnded, AreKeyLines, IsOrder}
 use Rattle.kd_form.specs.Making.{IsMadeText, part_of, pin_letters, enciphered_choice}
 use Rattle.kd_form.specs.Part.{part_text, pieces}
-use Rattle.kd_form.specs.Order.{AreKeyLines, IsOrder}
 use Rattle.kd_form.specs.Sending.{AreMadeTexts, text_letters}
 use Rattle.kd_form.specs.Making.{part_size}
 use Rattle.kd_form.specs.Laws.{OrdersBecomeOneForm}

@@ -12,7 +12,7 @@ use Rattle.kd_form.specs.declared.keys.Keys.{Keys}
 use Rattle.kd_form.specs.Part.{pieces}
 use Rattle.kd_form.specs.Making.{Suits, IsMadeText, part_size}
 use Rattle.kd_form.specs.Order.{IsOrder}
-use Rattle.kd_form.specs.Sending.{is_text_byte, blank_of, letters_from, text_letters, parts_needed, IsBadAt, IsFirstKeysFault, IsSendFault, InKeys, InText, InLetters, InParts, AreMadeTexts}
+use Rattle.kd_form.specs.Sending.{is_text_byte, blank_of, letters_from, text_letters, parts_needed, IsBadAt, IsFirstKeysFault, IsSendFault, InKeys, InText, NoLetter, InParts, AreMadeTexts}
 use Rattle.kd_form.proofs.Groups.{more_pieces, no_piece, pieces-next}
 
 -- ---- refusals
@@ -40,7 +40,7 @@ pub nothing_to_send : (s : Day) (order text : List ℕ) (keys shown : List Keys)
     → All (Suits s) shown → blank ≡ blank_of s → All (λ b. IsTrue (is_text_byte b)) text → count ≡ length (letters_from blank text) → count ≡ 0
     → IsSendFault s order EmptyText
 nothing_to_send s order text keys shown blank count (head, is) same suited told allowed counted none =
-    InLetters keys head text is (subst (All (Suits s)) same suited) allowed
+    NoLetter keys head text is (subst (All (Suits s)) same suited) allowed
     (nothing (text_letters s text) (sym (ap (λ b. length (letters_from b text)) told) ∙ sym counted ∙ none)) refl
 
 something : (xs : List ℕ) (count : ℕ) → count ≡ length xs → count ≢ 0 → xs ≢ []

@@ -3,7 +3,7 @@ pub mod InternalKey
 pub mod Striking
 pub mod Part
 pub mod Making
-pub mod Filling
+pub mod Patterns
 pub mod Order
 pub mod Sending
 pub mod OnTheKey
@@ -12,4 +12,4 @@ pub mod FormParts
 pub mod Receiving
 pub mod FormText
 pub mod Laws
-pub mod KeyForms
+pub mod KeyPatterns

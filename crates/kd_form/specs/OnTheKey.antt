@@ -12,6 +12,6 @@ pub record IsOnKey (m : Parts) (s : Day) : Type 0 where
   pub on_key : OnKey m s
 
 -- a machine that isn't ready is refused for that, and a ready one that isn't on the key for this
-pub record IsOffKey {X : Type 0} (m : Parts) (s : Day) (answer : Result X FormFault) : Type 0 where
+pub record RefusesOffKey {X : Type 0} (m : Parts) (s : Day) (answer : Result X FormFault) : Type 0 where
   pub not_ready : ¬ (IsReady m) → answer ≡ Err NotReady
   pub not_on_key : IsReady m → ¬ (OnKey m s) → answer ≡ Err NotOnKey

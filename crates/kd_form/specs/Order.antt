@@ -1,10 +1,13 @@
 -- Orders: a line of keys for each part, the line TEXT, and the text. Positions are counted in bytes from 1.
-use Rattle.std.specs.Prelude.{codes, ◌≡◌, ◌≢◌, ℕ, ◌+◌, ◌≤◌, List, [], ◌∷◌, ◌++◌, length, All}
+use Rattle.std.specs.Prelude.{codes, ◌≡◌, ◌≢◌, ◌⊎◌, ℕ, ◌+◌, ◌≤◌, List, [], ◌∷◌, ◌++◌, length, All}
 use Rattle.kd_state.specs.Words.{line_of}
 use Rattle.kd_state.specs.SheetDay.{Day}
 use Rattle.kd_form.specs.declared.keys.Keys.{Keys}
 use Rattle.kd_form.specs.Keys.{key_words, AreKeys}
-use Rattle.kd_form.specs.Filling.{IsEnded}
+
+-- the line with its end: LF, or CR and LF
+abbrev pub IsEnded : List ℕ → List ℕ → Type 0
+IsEnded line bytes = (bytes ≡ line ++ 10 ∷ []) ⊎ (bytes ≡ line ++ 13 ∷ 10 ∷ [])
 
 -- the line of these keys, with its end
 abbrev pub IsKeyLine : Keys → List ℕ → Type 0

@@ -5,7 +5,7 @@ use Rattle.kd_state.specs.Words.{line_of}
 use Rattle.kd_form.specs.declared.fault.FormFault.{FormFault}
 use Rattle.kd_form.specs.declared.fault.FormFault.TheVariants.{BadByte, BadHeading, CountWrong, PartOrder}
 use Rattle.kd_form.specs.declared.heading.Heading.{Heading}
-use Rattle.kd_form.specs.Filling.{IsEnded}
+use Rattle.kd_form.specs.Order.{IsEnded}
 use Rattle.kd_form.specs.Part.{heading_words}
 use Rattle.kd_form.specs.Sending.{is_text_byte, letters_from, IsBadAt}
 use Rattle.kd_form.specs.Reading.{IsLettersText, IsLettersFault}

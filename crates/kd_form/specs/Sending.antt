@@ -79,7 +79,7 @@ pub data IsSendFault (s : Day) (order : List ℕ) (fault : FormFault) : Type 0 w
   InKeys : (keys : List Keys) (head text : List ℕ) → IsOrder s order keys head text → IsFirstKeysFault s keys fault → IsSendFault s order fault
   InText : (keys : List Keys) (head text : List ℕ) (place : ℕ) → IsOrder s order keys head text → All (Suits s) keys → IsBadAt text place
       → fault ≡ BadByte (length head + place + 1) → IsSendFault s order fault
-  InLetters : (keys : List Keys) (head text : List ℕ) → IsOrder s order keys head text → All (Suits s) keys
+  NoLetter : (keys : List Keys) (head text : List ℕ) → IsOrder s order keys head text → All (Suits s) keys
       → All (λ b. IsTrue (is_text_byte b)) text → text_letters s text ≡ [] → fault ≡ EmptyText → IsSendFault s order fault
   InParts : (keys : List Keys) (head text : List ℕ) → IsOrder s order keys head text → All (Suits s) keys
       → All (λ b. IsTrue (is_text_byte b)) text → text_letters s text ≢ [] → parts_needed s (length (text_letters s text)) ≢ length keys
@@ -101,7 +101,7 @@ pub record CanBeSent (s : Day) (order : List ℕ) (keys : List Keys) (text : Lis
   pub is_order : IsOrder s order keys head text
   pub suited : All (Suits s) keys
   pub allowed : All (λ b. IsTrue (is_text_byte b)) text
-  pub filled : text_letters s text ≢ []
+  pub some : text_letters s text ≢ []
   pub counted : parts_needed s (length (text_letters s text)) ≡ length keys
 
 -- the form that the order becomes: all of its parts but the last are full

@@ -24,22 +24,22 @@ pub enum FormFault {
     /// An external letter isn't on its wheel.
     #[error("31 KeyNotOnWheel")]
     KeyNotOnWheel,
-    /// The part's group is none of the day's.
+    /// The part's group is none of the day's; on the Converter M-209 its list isn't the day's.
     #[error("32 WrongGroup {part}")]
     WrongGroup { part: u8 },
     /// The letters that are to give the internal key run out.
     #[error("33 IndicatorSpent {part}")]
     IndicatorSpent { part: u8 },
-    /// The part's heading is none.
+    /// The part doesn't begin with a heading that the day's model has.
     #[error("34 BadHeading {part}")]
     BadHeading { part: u8 },
     /// The part has another number of letters than its heading says.
     #[error("35 CountWrong {part}")]
     CountWrong { part: u8 },
-    /// The indicators at the part's end aren't those at its beginning.
+    /// The indicators at the part's end aren't those at its beginning, or the chosen letter doesn't stand there twice.
     #[error("36 IndicatorsDiffer {part}")]
     IndicatorsDiffer { part: u8 },
-    /// The parts aren't numbered in order, or one is missing.
+    /// The parts aren't numbered in order, say different numbers of parts, or one is missing.
     #[error("37 PartOrder")]
     PartOrder,
 }

@@ -2,11 +2,11 @@
 ghost use Rattle.std.specs.Prelude.{◌≡◌, ◌≤◌, ◌+◌, ◌⊎◌, ◌++◌, ◌∷◌, MatchOption, MatchResult};
 ghost use Rattle.kd_state.specs.Machine.{AreLetters};
 ghost use Rattle.kd_form.specs.Keys.{AreKeys, AreRotorKeys, ArePinKeys};
-ghost use Rattle.kd_form.specs.Filling.{blanks, LineBreaksOff};
-ghost use Rattle.kd_form.specs.KeyForms.{key_form, key_letters, BeginsWithKeys, IsAnyKeyLine, HasSlots, HasPins};
+ghost use Rattle.kd_form.specs.Patterns.{blanks, LineBreaksOff};
+ghost use Rattle.kd_form.specs.KeyPatterns.{key_pattern, key_letters, BeginsWithKeys, IsAnyKeyLine, HasSlots, HasPins};
 
-use super::form_line::read_form;
 use super::keys::{Keys, PinKeys, RotorKeys};
+use super::pattern_line::read_pattern;
 use kd_state::{PerSlot, SheetDay};
 use kd_tables::Letter;
 
@@ -16,16 +16,16 @@ pub(crate) fn read_keys<'a>(day: &SheetDay, bytes: &'a [u8]) -> Result<(Keys, &'
         (λ found. BeginsWithKeys day.now bytes.now found.0 found.1.now)
         (λ place. LineBreaksOff (IsAnyKeyLine day.now) bytes.now place) }
 {
-    match read_form(key_form(day), bytes) {
+    match read_pattern(key_pattern(day), bytes) {
         Ok((letters, rest)) => Ok((keys_of(day, letters.as_slice()), rest)),
         Err(place) => Err(place),
     }
 }
 
-/// The form of the line.
-fn key_form(day: &SheetDay) -> &'static [u8]
-    ensures form { result.now ≡ key_form day.now }
-    ensures few { blanks (key_form day.now) ≤ 13 }
+/// The pattern of the line.
+fn key_pattern(day: &SheetDay) -> &'static [u8]
+    ensures pattern { result.now ≡ key_pattern day.now }
+    ensures few { blanks (key_pattern day.now) ≤ 13 }
 {
     match slots_of(day) {
         Some(3) => b"PART ___ ___ __ ___",
@@ -47,7 +47,7 @@ pub(crate) fn slots_of(day: &SheetDay) -> Option<usize>
 
 /// The keys with these letters.
 fn keys_of(day: &SheetDay, letters: &[Letter]) -> Keys
-    requires { AreLetters (blanks (key_form day.now)) letters.now }
+    requires { AreLetters (blanks (key_pattern day.now)) letters.now }
     ensures letters { key_letters result ≡ letters.now }
     ensures keys { AreKeys day.now result }
 {

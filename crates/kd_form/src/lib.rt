@@ -4,7 +4,6 @@
 mod body;
 mod cipher;
 mod fault;
-mod form_line;
 mod form_part;
 mod heading;
 mod heading_line;
@@ -14,6 +13,7 @@ mod keys;
 pub mod laws;
 mod making;
 mod order;
+mod pattern_line;
 mod reading;
 mod receiving;
 mod sending;

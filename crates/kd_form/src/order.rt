@@ -2,9 +2,9 @@
 ghost use Rattle.std.specs.Prelude.{◌≡◌, ◌↔◌, List, ℕ, IsTrue, slice_index, MatchResult};
 ghost use Rattle.kd_form.specs.Order.{IsOrder, IsHeadFault};
 
-use super::form_line::read_form;
 use super::key_line::read_keys;
 use super::keys::Keys;
+use super::pattern_line::read_pattern;
 use arrayvec::ArrayVec;
 use kd_state::SheetDay;
 use kd_state::laws::texts_tell_first_parts;
@@ -31,7 +31,7 @@ pub(crate) fn read_head<'a>(
             Err(place) => return Err(order.len() - rest.len() + place + 1),
         }
     }
-    match read_form(b"TEXT", rest) {
+    match read_pattern(b"TEXT", rest) {
         Ok((_, text)) => Ok((keys, text)),
         Err(place) => Err(order.len() - rest.len() + place + 1),
     }

@@ -1,7 +1,7 @@
 //! The letters of a part's body, read.
 ghost use Rattle.std.specs.Prelude.{◌≡◌, ◌+◌, ◌^◌, ◌<◌, ◌≤◌, ◌↔◌, Some, length, IsTrue, MatchResult};
 ghost use Rattle.kd_form.specs.Reading.{HasIndicator, IsLettersText, IsLettersFault, IsRotorText, IsRotorFault, IsPinText, IsPinFault};
-ghost use Rattle.kd_form.specs.KeyForms.{HasPins};
+ghost use Rattle.kd_form.specs.KeyPatterns.{HasPins};
 ghost use Rattle.kd_form.specs.FormParts.{IsLetterCount};
 ghost use Rattle.kd_form.specs.Receiving.{IsExpected, IsPartRead, IsPartFault};
 

@@ -1,7 +1,7 @@
 //! The text that a form becomes.
 ghost use Rattle.std.specs.Prelude.{◌≡◌, ◌⊎◌, ◌≤◌, length, MatchResult};
 ghost use Rattle.kd_form.specs.FormText.{given_byte, given_letters, IsTextOf, IsReceiveFault};
-ghost use Rattle.kd_form.specs.OnTheKey.{IsOffKey, IsOnKey};
+ghost use Rattle.kd_form.specs.OnTheKey.{RefusesOffKey, IsOnKey};
 
 use super::fault::FormFault;
 use super::form_part::split_part;
@@ -20,7 +20,7 @@ pub fn receive(
     day: &SheetDay,
     form: &[u8],
 ) -> Result<Vec<u8>, FormFault>
-    ensures off_key { IsOffKey machine.now day.now result }
+    ensures off_key { RefusesOffKey machine.now day.now result }
     ensures received { IsOnKey machine.now day.now → MatchResult result
         (λ text. IsTextOf day.now form.now text.items)
         (λ fault. (fault ≡ FormFault.NoMemory) ⊎ IsReceiveFault day.now form.now fault) }

@@ -1,21 +1,21 @@
 use Rattle.std.proofs.Common.{◌∙◌, sym, refl, arith}
 use Rattle.kd_form.proofs.Filled.{filling_more, letter_room, broken_off, line_read, line_broken, nothing_past, read_inside, read_at, unfit_next, whole_tail}
-use Rattle.kd_form.proofs.form_line.read_form.Goals as goal
+use Rattle.kd_form.proofs.pattern_line.read_pattern.Goals as goal
 
 pub take_letter-requires : goal.take_letter-requires
 take_letter-requires c =
     λ blank.
-    letter_room c.args.form.now c.args.bytes.now c.loop-place.letters.items c.loop-place.place _ c.loop-place.invariant c.loop-place-test.true refl
+    letter_room c.args.pattern.now c.args.bytes.now c.loop-place.letters.items c.loop-place.place _ c.loop-place.invariant c.loop-place-test.true refl
     c.requires blank
 
 pub returns-in_default : goal.returns-in_default
 returns-in_default c =
-    broken_off c.args.form.now c.args.bytes.now c.loop-place.letters.items c.loop-place.place c.loop-place.invariant c.loop-place-test.true
+    broken_off c.args.pattern.now c.args.bytes.now c.loop-place.letters.items c.loop-place.place c.loop-place.invariant c.loop-place-test.true
     (λ byte after next. absurd (nothing_past c.args.bytes.now after c.loop-place.place byte c.in_default.ensures.lookup.0 next))
 
 pub returns-then-not-take_letter : goal.returns-then-not-take_letter
 returns-then-not-take_letter c =
-    broken_off c.args.form.now c.args.bytes.now c.loop-place.letters.items c.loop-place.place c.loop-place.invariant c.loop-place-test.true
+    broken_off c.args.pattern.now c.args.bytes.now c.loop-place.letters.items c.loop-place.place c.loop-place.invariant c.loop-place-test.true
     (λ byte after next.
     unfit_next c.args.bytes.now after c.loop-place.place _ c.in-Some.byte.now byte
     (read_at c.args.bytes.now c.loop-place.place c.in-Some.byte.now c.in-Some.ensures.lookup.0 c.in-Some.ensures.lookup.1)
@@ -23,17 +23,17 @@ returns-then-not-take_letter c =
 
 pub loop-place-preserved : goal.loop-place-preserved
 loop-place-preserved c =
-    filling_more c.args.form.now c.args.bytes.now c.loop-place.letters.items _ c.loop-place.place _ c.in-Some.byte.now c.loop-place.invariant
+    filling_more c.args.pattern.now c.args.bytes.now c.loop-place.letters.items _ c.loop-place.place _ c.in-Some.byte.now c.loop-place.invariant
     c.loop-place-test.true (read_inside c.args.bytes.now c.loop-place.place c.in-Some.ensures.lookup.0) refl
     (read_at c.args.bytes.now c.loop-place.place c.in-Some.byte.now c.in-Some.ensures.lookup.0 c.in-Some.ensures.lookup.1)
     (sym c.take_letter.ensures.fits ∙ c.if-not-take_letter.false) c.if-not-take_letter.ensures.taken
 
 pub returns-in-Ok : goal.returns-in-Ok
 returns-in-Ok c =
-    line_read c.args.form.now c.args.bytes.now c.loop-place.letters.items _ c.in-Ok.rest.now c.loop-place.place c.loop-place.invariant (omega arith)
-    (whole_tail c.args.form.now c.args.bytes.now) c.in-Ok.ensures
+    line_read c.args.pattern.now c.args.bytes.now c.loop-place.letters.items _ c.in-Ok.rest.now c.loop-place.place c.loop-place.invariant (omega arith)
+    (whole_tail c.args.pattern.now c.args.bytes.now) c.in-Ok.ensures
 
 pub returns-in-Err : goal.returns-in-Err
 returns-in-Err c =
-    line_broken c.args.form.now c.args.bytes.now c.loop-place.letters.items _ c.loop-place.place c.in-Err.place c.loop-place.invariant (omega arith)
-    (whole_tail c.args.form.now c.args.bytes.now) c.in-Err.ensures
+    line_broken c.args.pattern.now c.args.bytes.now c.loop-place.letters.items _ c.loop-place.place c.in-Err.place c.loop-place.invariant (omega arith)
+    (whole_tail c.args.pattern.now c.args.bytes.now) c.in-Err.ensures

@@ -1,29 +1,29 @@
-//! Lines of a form: `_` stands for a letter, and each other byte for itself.
+//! Patterns of lines: `_` stands for a letter, and each other byte for itself.
 ghost use Rattle.std.specs.Prelude.{◌≡◌, ◌≤◌, ◌<◌, ◌++◌, length, MatchResult};
 ghost use Rattle.std.specs.Bool.{OnTrue, OnFalse};
 ghost use Rattle.arrayvec.specs.ArrayVec.{array_vec_len};
-ghost use Rattle.kd_form.specs.Filling.{blanks, fits, letters_at, BeginsWithForm, IsFormLine, LineBreaksOff};
-ghost use Rattle.kd_form.specs.Filling.{EndsBefore, EndBreaksOff};
+ghost use Rattle.kd_form.specs.Patterns.{blanks, fits, letters_at, BeginsWithPattern, IsPatternLine, LineBreaksOff};
+ghost use Rattle.kd_form.specs.Patterns.{EndsBefore, EndBreaksOff};
 
 use arrayvec::ArrayVec;
 use kd_tables::Letter;
 
-/// No form takes more letters than the line of a part's keys on four wheels.
+/// No pattern takes more letters than the line of a part's keys on four wheels.
 const MOST: usize = 13;
 
-/// The letters of the line of that form at the front of the bytes, and what follows its end. The error is how many bytes
+/// The letters of the line of that pattern at the front of the bytes, and what follows its end. The error is how many bytes
 /// begin such a line.
-pub(crate) fn read_form<'a>(
-    form: &[u8],
+pub(crate) fn read_pattern<'a>(
+    pattern: &[u8],
     bytes: &'a [u8],
 ) -> Result<(ArrayVec<Letter, MOST>, &'a [u8]), usize>
-    requires { blanks form.now ≤ 13 }
+    requires { blanks pattern.now ≤ 13 }
     ensures { MatchResult result
-        (λ found. BeginsWithForm form.now bytes.now found.0.items found.1.now)
-        (λ place. LineBreaksOff (IsFormLine form.now) bytes.now place) }
+        (λ found. BeginsWithPattern pattern.now bytes.now found.0.items found.1.now)
+        (λ place. LineBreaksOff (IsPatternLine pattern.now) bytes.now place) }
 {
     let mut letters = ArrayVec::new();
-    for (place, mark) in form.iter().enumerate() {
+    for (place, mark) in pattern.iter().enumerate() {
         let Some(byte) = bytes.get(place) else {
             return Err(place);
         };
@@ -31,9 +31,9 @@ pub(crate) fn read_form<'a>(
             return Err(place);
         }
     }
-    match read_end(&bytes[form.len()..]) {
+    match read_end(&bytes[pattern.len()..]) {
         Ok(rest) => Ok((letters, rest)),
-        Err(place) => Err(form.len() + place),
+        Err(place) => Err(pattern.len() + place),
     }
 }
 

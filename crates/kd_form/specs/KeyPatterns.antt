@@ -1,4 +1,4 @@
--- The line of keys as a form with letters.
+-- The line of keys as a pattern with letters.
 use Rattle.std.specs.Prelude.{codes, ◌≡◌, ◌⊎◌, ℕ, List, [], ◌∷◌, ◌++◌, length, replicate}
 use Rattle.kd_state.specs.Words.{line_of}
 use Rattle.kd_state.specs.SheetDay.{Day, RotorDay, PinDay, OfRotors, OfPins}
@@ -11,16 +11,16 @@ use Rattle.kd_form.specs.Order.{IsKeyLine}
 abbrev pub places_for : ℕ → List ℕ
 places_for number = replicate number 95
 
--- the form of the line on a machine with so many slots, and on the Converter M-209
-abbrev pub rotor_form : ℕ → List ℕ
-rotor_form slots = line_of (codes "PART" ∷ places_for slots ∷ places_for slots ∷ places_for 2 ∷ places_for 3 ∷ [])
+-- the pattern of the line on a machine with so many slots, and on the Converter M-209
+abbrev pub rotor_pattern : ℕ → List ℕ
+rotor_pattern slots = line_of (codes "PART" ∷ places_for slots ∷ places_for slots ∷ places_for 2 ∷ places_for 3 ∷ [])
 
-abbrev pub pin_form : List ℕ
-pin_form = line_of (codes "PART" ∷ places_for 1 ∷ places_for 6 ∷ [])
+abbrev pub pin_pattern : List ℕ
+pin_pattern = line_of (codes "PART" ∷ places_for 1 ∷ places_for 6 ∷ [])
 
-abbrev pub key_form : Day → List ℕ
-key_form (OfRotors s) = rotor_form (length s.wheels)
-key_form (OfPins s) = pin_form
+abbrev pub key_pattern : Day → List ℕ
+key_pattern (OfRotors s) = rotor_pattern (length s.wheels)
+key_pattern (OfPins s) = pin_pattern
 
 -- the letters of the keys, in order
 abbrev pub key_letters : Keys → List ℕ

@@ -1,34 +1,31 @@
--- Forms of lines: `_` stands for a letter, and each other byte for itself.
+-- Patterns of lines: `_` stands for a letter, and each other byte for itself.
 use Rattle.std.specs.Prelude.{◌≡◌, ◌≢◌, ◌⊎◌, ℕ, ◌+◌, ◌-◌, ◌==◌, ◌&&◌, nat_le, Bool, List, [], ◌∷◌, ◌++◌, length, drop, slice_index, if◌then◌else◌}
 use Rattle.kd_state.specs.Machine.{AreLetters}
+use Rattle.kd_form.specs.Order.{IsEnded}
 
--- the form with these letters in the places of its `_`, each with the next one
+-- the pattern with these letters in the places of its `_`, each with the next one
 abbrev pub filled_in : List ℕ → List ℕ → List ℕ
 filled_in [] letters = []
-filled_in (mark ∷ form) letters =
-    if mark == 95 then (slice_index letters 0 + 65) ∷ filled_in form (drop 1 letters) else mark ∷ filled_in form letters
+filled_in (mark ∷ pattern) letters =
+    if mark == 95 then (slice_index letters 0 + 65) ∷ filled_in pattern (drop 1 letters) else mark ∷ filled_in pattern letters
 
 -- how many letters it takes
 abbrev pub blanks : List ℕ → ℕ
 blanks [] = 0
-blanks (mark ∷ form) = if mark == 95 then blanks form + 1 else blanks form
+blanks (mark ∷ pattern) = if mark == 95 then blanks pattern + 1 else blanks pattern
 
--- the line with its end: LF, or CR and LF
-abbrev pub IsEnded : List ℕ → List ℕ → Type 0
-IsEnded line bytes = (bytes ≡ line ++ 10 ∷ []) ⊎ (bytes ≡ line ++ 13 ∷ 10 ∷ [])
-
--- the bytes are a line of that form, with its end
-pub record IsFormLine (form bytes : List ℕ) : Type 0 where
+-- the bytes are a line of that pattern, with its end
+pub record IsPatternLine (pattern bytes : List ℕ) : Type 0 where
   pub letters : List ℕ
-  pub are_letters : AreLetters (blanks form) letters
-  pub ended : IsEnded (filled_in form letters) bytes
+  pub are_letters : AreLetters (blanks pattern) letters
+  pub ended : IsEnded (filled_in pattern letters) bytes
 
--- the bytes begin with the line of that form with these letters, and this follows
-pub record BeginsWithForm (form bytes letters rest : List ℕ) : Type 0 where
+-- the bytes begin with the line of that pattern with these letters, and this follows
+pub record BeginsWithPattern (pattern bytes letters rest : List ℕ) : Type 0 where
   pub line : List ℕ
   pub joined : bytes ≡ line ++ rest
-  pub are_letters : AreLetters (blanks form) letters
-  pub ended : IsEnded (filled_in form letters) line
+  pub are_letters : AreLetters (blanks pattern) letters
+  pub ended : IsEnded (filled_in pattern letters) line
 
 -- So many of the bytes begin such a line, and are not yet one; with the next byte, if there is one, no such line begins.
 pub record LineBreaksOff (IsLine : List ℕ → Type 0) (bytes : List ℕ) (place : ℕ) : Type 0 where
