@@ -1,17 +1,22 @@
--- A machine that is ready and on the day's key, and what is answered of another one.
-use Rattle.std.specs.Prelude.{◌≡◌, Result, Err}
+-- A machine that is ready and on the day's key, and what is answered for any machine.
+use Rattle.std.specs.Prelude.{◌≡◌, ◌⊎◌, Result, Err, MatchResult}
 use Rattle.kd_state.specs.declared.parts.Parts.{Parts}
 use Rattle.kd_state.specs.SheetDay.{Day}
 use Rattle.kd_state.specs.OnKey.{OnKey}
 use Rattle.kd_state.specs.TwoCiphers.{IsReady}
 use Rattle.kd_form.specs.declared.fault.FormFault.{FormFault}
-use Rattle.kd_form.specs.declared.fault.FormFault.TheVariants.{NotReady, NotOnKey}
+use Rattle.kd_form.specs.declared.fault.FormFault.TheVariants.{NotReady, NoMemory, NotOnKey}
 
 pub record IsOnKey (m : Parts) (s : Day) : Type 0 where
   pub ready : IsReady m
   pub on_key : OnKey m s
 
--- a machine that isn't ready is refused for that, and a ready one that isn't on the key for this
-pub record RefusesOffKey {X : Type 0} (m : Parts) (s : Day) (answer : Result X FormFault) : Type 0 where
-  pub not_ready : ¬ (IsReady m) → answer ≡ Err NotReady
-  pub not_on_key : IsReady m → ¬ (OnKey m s) → answer ≡ Err NotOnKey
+-- the machine isn't ready; or it is, and isn't on the key
+abbrev pub IsKeyFault : Parts → Day → FormFault → Type 0
+IsKeyFault m s fault = (¬ (IsReady m) × (fault ≡ NotReady)) ⊎ (IsReady m × ¬ (OnKey m s) × (fault ≡ NotOnKey))
+
+-- A machine that isn't ready and on the key is refused for that. With one that is, the answer is as due, or a fault that is
+-- there, or memory ran out.
+pub data AnswersOnKey {X : Type 0} (m : Parts) (s : Day) (is_due : X → Type 0) (is_fault : FormFault → Type 0) (answer : Result X FormFault) : Type 0 where
+  OffKey : (fault : FormFault) → IsKeyFault m s fault → answer ≡ Err fault → AnswersOnKey m s is_due is_fault answer
+  WithKey : IsOnKey m s → MatchResult answer is_due (λ fault. (fault ≡ NoMemory) ⊎ is_fault fault) → AnswersOnKey m s is_due is_fault answer

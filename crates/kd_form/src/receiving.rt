@@ -1,7 +1,7 @@
 //! The text that a form becomes.
 ghost use Rattle.std.specs.Prelude.{◌≡◌, ◌⊎◌, ◌≤◌, length, MatchResult};
 ghost use Rattle.kd_form.specs.FormText.{given_byte, given_letters, IsTextOf, IsReceiveFault};
-ghost use Rattle.kd_form.specs.OnTheKey.{RefusesOffKey, IsOnKey};
+ghost use Rattle.kd_form.specs.OnTheKey.{AnswersOnKey};
 
 use super::fault::FormFault;
 use super::form_part::split_part;
@@ -20,10 +20,9 @@ pub fn receive(
     day: &SheetDay,
     form: &[u8],
 ) -> Result<Vec<u8>, FormFault>
-    ensures off_key { RefusesOffKey machine.now day.now result }
-    ensures received { IsOnKey machine.now day.now → MatchResult result
+    ensures { AnswersOnKey machine.now day.now
         (λ text. IsTextOf day.now form.now text.items)
-        (λ fault. (fault ≡ FormFault.NoMemory) ⊎ IsReceiveFault day.now form.now fault) }
+        (IsReceiveFault day.now form.now) result }
 {
     match check_machine(machine, day) {
         Ok(()) => {}

@@ -4,7 +4,7 @@ ghost use Rattle.kd_form.specs.Keys.{AreKeys};
 ghost use Rattle.kd_form.specs.Part.{pieces};
 ghost use Rattle.kd_form.specs.Making.{Suits, part_size};
 ghost use Rattle.kd_form.specs.Sending.{parts_needed, text_letters, IsSendFault, CanBeSent, AreMadeTexts, IsFormOf};
-ghost use Rattle.kd_form.specs.OnTheKey.{RefusesOffKey, IsOnKey};
+ghost use Rattle.kd_form.specs.OnTheKey.{IsOnKey, IsKeyFault, AnswersOnKey};
 
 use super::fault::FormFault;
 use super::keys::Keys;
@@ -23,10 +23,9 @@ pub fn send(
     day: &SheetDay,
     order: &[u8],
 ) -> Result<Vec<u8>, FormFault>
-    ensures off_key { RefusesOffKey machine.now day.now result }
-    ensures sent { IsOnKey machine.now day.now → MatchResult result
+    ensures { AnswersOnKey machine.now day.now
         (λ form. IsFormOf day.now order.now form.items)
-        (λ fault. (fault ≡ FormFault.NoMemory) ⊎ IsSendFault day.now order.now fault) }
+        (IsSendFault day.now order.now) result }
 {
     match check_machine(machine, day) {
         Ok(()) => {}
@@ -120,8 +119,9 @@ fn part_size(day: &SheetDay) -> usize
 
 /// Refuses a machine that isn't ready, or not on the day's key.
 pub(crate) fn check_machine(machine: &Machine, day: &SheetDay) -> Result<(), FormFault>
-    ensures off_key { RefusesOffKey machine.now day.now result }
-    ensures on_key { IsOk result ↔ IsOnKey machine.now day.now }
+    ensures { MatchResult result
+        (λ _. IsOnKey machine.now day.now)
+        (IsKeyFault machine.now day.now) }
 {
     if machine.engine().is_err() {
         return Err(FormFault::NotReady);
