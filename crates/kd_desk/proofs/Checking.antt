@@ -1,5 +1,5 @@
 -- What is told of a card.
-use Rattle.std.proofs.Common.{◌≡◌, ◌≢◌, ℕ, List, length, Result, Ok, Err, IsErrAnd, refl, sym, subst, ap}
+use Rattle.std.proofs.Common.{◌≡◌, ℕ, List, length, Result, Ok, Err, IsErrAnd, refl, subst}
 use Rattle.std.specs.Io.KnownBytes.{Appends}
 use Rattle.kd_tables.specs.Writing.{TakesFront}
 use Rattle.kd_state.specs.declared.parts.Parts.{Parts}
@@ -17,7 +17,7 @@ use Rattle.kd_prices.specs.Doubt.{IsDoubt}
 use Rattle.kd_desk.specs.declared.fault.DeskFault.{DeskFault}
 use Rattle.kd_desk.specs.declared.fault.DeskFault.TheVariants as faults
 use Rattle.kd_desk.specs.Ports.{Port}
-use Rattle.kd_desk.specs.RunCheck.{Checks, NoCard, Other, Doubtful, Shortest, verdict_text}
+use Rattle.kd_desk.specs.RunCheck.{Checks, NoCard, Doubtful, Shortest, verdict_text}
 use Rattle.kd_desk.proofs.Failing.{answered}
 
 module _ (m : Parts) (s : Day) (number : ℕ) (bytes : List ℕ) (sink : Port) (answer : Result (Unit {0}) DeskFault) where

@@ -26,14 +26,15 @@ pub read_some : (found : Found) (id : List ℕ) (word : Option (Bor (List ℕ)))
     → first_of id (rows_of found) ≡ Some read.now
 read_some found id word read reads some = sym (first_value-rows found id) ∙ sym reads ∙ ap (option_map (λ s. s.now)) some
 
--- a word that says no day
-none_or_some : {X : Type 0} (o : Option X) (x : X) → o ≡ None → o ≡ Some x → ⊥
+pub none_or_some : {X : Type 0} (o : Option X) (x : X) → o ≡ None → o ≡ Some x → ⊥
 none_or_some o x none some = cc
 
+-- a word that is not there
 pub no_word : (found : Found) (id : List ℕ) (word : Option (Bor (List ℕ))) → option_map (λ s. s.now) word ≡ first_value found id → word ≡ None
-    → (day : ℕ) → IsDayNumber day → first_of id (rows_of found) ≢ Some (decimal day)
-no_word found id word reads none day within is = none_or_some _ _ (read_none found id word reads none) is
+    → (value : List ℕ) → first_of id (rows_of found) ≢ Some value
+no_word found id word reads none value is = none_or_some _ _ (read_none found id word reads none) is
 
+-- a word that says no day
 pub other_word : (found : Found) (id : List ℕ) (word : Option (Bor (List ℕ))) (read : Bor (List ℕ)) → option_map (λ s. s.now) word ≡ first_value found id → word ≡ Some read
     → ((day : ℕ) → IsDayNumber day → read.now ≢ decimal day) → (day : ℕ) → IsDayNumber day → first_of id (rows_of found) ≢ Some (decimal day)
 other_word found id word read reads some other day within is = other day within (same_Some _ _ (sym (read_some found id word read reads some) ∙ is))

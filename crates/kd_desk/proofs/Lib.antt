@@ -10,3 +10,4 @@ pub mod Texts
 mod Days
 mod Printing
 mod Checking
+mod Passing

@@ -1,11 +1,11 @@
 -- What a card that was planned and written promises.
-use Rattle.std.proofs.Common.{◌≡◌, ◌≢◌, ℕ, List, Result, Ok, Err, IsErrAnd, refl, subst}
+use Rattle.std.proofs.Common.{◌≡◌, ℕ, List, Result, Ok, Err, IsErrAnd, refl, subst}
 use Rattle.std.specs.Io.KnownBytes.{Appends}
 use Rattle.kd_tables.specs.Writing.{TakesFront}
 use Rattle.kd_state.specs.declared.parts.Parts.{Parts}
 use Rattle.kd_state.specs.declared.setting.Setting.{Setting}
-use Rattle.kd_state.specs.Machine.{IsMachine, model_of}
-use Rattle.kd_state.specs.SheetDay.{Day, IsLegalDay, day_number, day_model}
+use Rattle.kd_state.specs.Machine.{IsMachine}
+use Rattle.kd_state.specs.SheetDay.{Day, IsLegalDay, day_number}
 use Rattle.kd_state.specs.Laws.{ListsKeepMachines, ReadingIsReady, ReadingIsItsCipher, EquallySetDecipher}
 use Rattle.kd_card.specs.declared.prices.PriceParts.{PriceParts}
 use Rattle.kd_card.specs.CardText.{IsCard}
@@ -14,7 +14,7 @@ use Rattle.kd_desk.specs.declared.fault.DeskFault.{DeskFault}
 use Rattle.kd_desk.specs.declared.fault.DeskFault.TheVariants as faults
 use Rattle.kd_desk.specs.Headline as headline
 use Rattle.kd_desk.specs.Ports.{Port}
-use Rattle.kd_desk.specs.RunCard.{WritesCard, Prints, Different, Card}
+use Rattle.kd_desk.specs.RunCard.{Prints, Card}
 use Rattle.kd_desk.proofs.Failing.{answered}
 
 -- the laws on which it rests

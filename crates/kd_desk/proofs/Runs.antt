@@ -8,10 +8,9 @@ use Rattle.kd_desk.specs.declared.stop.Stop.TheVariants.{Refused}
 use Rattle.kd_desk.specs.CommandLine.{desk_grammar, IsOf, Says}
 use Rattle.std.specs.Result.{result_map_both}
 use Rattle.kd_desk.specs.declared.files.fault.FileFault.{FileFault}
-use Rattle.kd_desk.specs.Desk.{Run, typing, printing, checking, with_bytes, typing_of, printing_of, checking_of, run_of, TypesOn, Does, IsLeftAlone, CarriesOut}
+use Rattle.kd_desk.specs.Desk.{Run, typing, printing, with_bytes, run_with, typing_of, printing_of, run_of, TypesOn, Does, IsLeftAlone, CarriesOut}
 use Rattle.kd_desk.specs.OnDay.{OnDay}
 use Rattle.kd_desk.specs.RunCard.{Prints}
-use Rattle.kd_desk.specs.RunCheck.{Checks}
 use Rattle.kd_desk.specs.Files.{content_of}
 use Rattle.kd_desk.specs.Ports.{Port}
 use Rattle.kd_desk.proofs.SaidRuns.{same_run}
@@ -57,23 +56,23 @@ two_files : (machine sheet : Result (List ℕ) FileFault) (m s : List ℕ) (run 
 two_files machine sheet m s run is are =
     ap (λ file. with_bytes file (λ one. with_bytes sheet (λ two. Ok (run one two)))) is ∙ ap (λ file. with_bytes file (λ two. Ok (run m two))) are
 
--- a card is printed, or checked, on files that are known to hold these bytes
-module _ (machine sheet m s : List ℕ) (day : ℕ) (sink : Port) (told : Result (Unit {0}) DeskFault) (answer : Result (Unit {0}) Stop)
+-- what is done on files that are known to hold these bytes
+module _ (machine sheet m s : List ℕ) (sink : Port) (told : Result (Unit {0}) DeskFault) (answer : Result (Unit {0}) Stop)
     (answers : answer ≡ result_map_both (λ done. done) Refused told) where
-  pub printed : (known : Option (List ℕ → Option (List ℕ))) → IfSome known (λ held. content_of (held machine) ≡ Ok m)
+  pub printed : (day : ℕ) (known : Option (List ℕ → Option (List ℕ))) → IfSome known (λ held. content_of (held machine) ≡ Ok m)
       → IfSome known (λ held. content_of (held sheet) ≡ Ok s) → OnDay m s day (λ n d. Prints n d sink told) told
       → IfSome known (λ held. (source : Port) → IsLeftAlone source → CarriesOut (printing_of (held machine) (held sheet) day) source sink answer)
-  printed None holds holds_sheet does = tt
-  printed (Some held) holds holds_sheet does = λ source alone.
+  printed day None holds holds_sheet does = tt
+  printed day (Some held) holds holds_sheet does = λ source alone.
       carries_out source sink told answer answers (printing m s day) (printing_of (held machine) (held sheet) day)
       (two_files _ _ m s (λ one two. printing one two day) holds holds_sheet) (does, alone)
 
-  pub checked : (known : Option (List ℕ → Option (List ℕ))) (card c : List ℕ) → IfSome known (λ held. content_of (held machine) ≡ Ok m)
-      → IfSome known (λ held. content_of (held sheet) ≡ Ok s) → IfSome known (λ held. content_of (held card) ≡ Ok c)
-      → OnDay m s day (λ n d. Checks n d day c sink told) told
-      → IfSome known (λ held. (source : Port) → IsLeftAlone source → CarriesOut (checking_of (held machine) (held sheet) day (held card)) source sink answer)
-  checked None card c holds holds_sheet holds_card does = tt
-  checked (Some held) card c holds holds_sheet holds_card does = λ source alone.
-      carries_out source sink told answer answers (checking m s day c) (checking_of (held machine) (held sheet) day (held card))
-      (ap (λ file. with_bytes file (λ one. with_bytes (content_of (held sheet)) (λ two. with_bytes (content_of (held card)) (λ three. Ok (checking one two day three))))) holds
-      ∙ two_files _ _ s c (λ two three. checking m two day three) holds_sheet holds_card) (does, alone)
+  pub done_with : (run : List ℕ → List ℕ → List ℕ → Run) (known : Option (List ℕ → Option (List ℕ))) (file f : List ℕ)
+      → IfSome known (λ held. content_of (held machine) ≡ Ok m) → IfSome known (λ held. content_of (held sheet) ≡ Ok s)
+      → IfSome known (λ held. content_of (held file) ≡ Ok f) → ((source : Port) → IsLeftAlone source → Does (run m s f) source sink told)
+      → IfSome known (λ held. (source : Port) → IsLeftAlone source → CarriesOut (run_with (held machine) (held sheet) (held file) run) source sink answer)
+  done_with run None file f holds holds_sheet holds_file does = tt
+  done_with run (Some held) file f holds holds_sheet holds_file does = λ source alone.
+      carries_out source sink told answer answers (run m s f) (run_with (held machine) (held sheet) (held file) run)
+      (ap (λ bytes. with_bytes bytes (λ one. with_bytes (content_of (held sheet)) (λ two. with_bytes (content_of (held file)) (λ three. Ok (run one two three))))) holds
+      ∙ two_files _ _ s f (run m) holds_sheet holds_file) (does source alone)

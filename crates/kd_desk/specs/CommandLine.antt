@@ -31,11 +31,18 @@ type_form = form (codes "type") (codes "MACHINE" ∷ [])
 abbrev pub card_form : Shape
 card_form = form (codes "card") day_words
 
+-- a command with these words, and one that names a file more
+abbrev pub file_form : List ℕ → List ℕ → Shape
+file_form name word = form name (day_words ++ word ∷ [])
+
 abbrev pub check_form : Shape
-check_form = form (codes "check") (day_words ++ codes "CARD" ∷ [])
+check_form = file_form (codes "check") (codes "CARD")
 
 abbrev pub apply_form : Shape
 apply_form = form (codes "apply") (codes "MACHINE" ∷ codes "LIST" ∷ [])
+
+abbrev pub send_form : Shape
+send_form = file_form (codes "send") (codes "ORDER")
 
 unfoldable pub desk_grammar : App
 desk_grammar = record {
@@ -44,7 +51,7 @@ desk_grammar = record {
     disable_help_subcommand = true;
     is_leaf = false;
   };
-  subs = type_form ∷ card_form ∷ check_form ∷ apply_form ∷ [];
+  subs = type_form ∷ card_form ∷ check_form ∷ apply_form ∷ send_form ∷ [];
 }
 
 -- the name of a command, and the values of its words
@@ -53,6 +60,7 @@ command_name (commands.Type machine) = codes "type"
 command_name (commands.Card machine sheet day) = codes "card"
 command_name (commands.Check machine sheet day card) = codes "check"
 command_name (commands.Apply machine list) = codes "apply"
+command_name (commands.Send machine sheet day order) = codes "send"
 
 -- the words that name a machine file, a sheet, and a day by its number in decimal
 pub record HaveDay (rows : List Row) (machine sheet : List ℕ) (day : ℕ) : Type 0 where
@@ -61,13 +69,19 @@ pub record HaveDay (rows : List Row) (machine sheet : List ℕ) (day : ℕ) : Ty
   pub day_word : first_of (codes "DAY") rows ≡ Some (decimal day)
   pub of_month : IsDayNumber day
 
+-- and a file more, by the word of that name
+pub record HaveFile (rows : List Row) (word machine sheet : List ℕ) (day : ℕ) (file : List ℕ) : Type 0 where
+  pub on_day : HaveDay rows machine sheet day
+  pub file_word : first_of word rows ≡ Some file
+
 abbrev pub HasWords : List Row → Command → Type 0
 HasWords rows (commands.Type machine) = first_of (codes "MACHINE") rows ≡ Some machine.now
 HasWords rows (commands.Card machine sheet day) = HaveDay rows machine.now sheet.now day
-HasWords rows (commands.Check machine sheet day card) = HaveDay rows machine.now sheet.now day × (first_of (codes "CARD") rows ≡ Some card.now)
+HasWords rows (commands.Check machine sheet day card) = HaveFile rows (codes "CARD") machine.now sheet.now day card.now
 HasWords rows (commands.Apply machine list) =
     (first_of (codes "MACHINE") rows ≡ Some machine.now)
     × (first_of (codes "LIST") rows ≡ Some list.now)
+HasWords rows (commands.Send machine sheet day order) = HaveFile rows (codes "ORDER") machine.now sheet.now day order.now
 
 -- a name and the values of words are those of the command, or of none
 pub record IsOf (said : List ℕ × List Row) (command : Command) : Type 0 where

@@ -2,6 +2,7 @@ pub mod CommandLine
 pub mod Desk
 pub mod Files
 pub mod Laws
+pub mod Messages
 pub mod Ports
 pub mod RunApply
 pub mod RunSteps

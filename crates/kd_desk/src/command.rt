@@ -1,8 +1,9 @@
-ghost use Rattle.std.specs.Prelude.{◌≡◌, ◌≢◌, [], ◌∷◌, ◌++◌, ℕ, false, codes, decimal, map, Err, IfSome, IfOk, IfErr};
+ghost use Rattle.std.specs.Prelude.{◌≡◌, ◌≢◌, [], ◌∷◌, ℕ, List, false, codes, decimal, map, Err, IfSome, IfOk, IfErr};
 ghost use Rattle.clap.specs.declared.builder.command.Command.{out-Command};
 ghost use Rattle.clap.specs.Words.{app_of, found_of, kind_of, rows_of, rule_of};
 ghost use Rattle.kd_state.specs.SheetDay.{IsDayNumber};
-ghost use Rattle.kd_desk.specs.CommandLine.{word_named, form, alone, day_words, desk_grammar, IsOf, IsOfNone, Says, SaysNothing};
+ghost use Rattle.kd_desk.specs.CommandLine.{word_named, form, alone, day_words, file_form, desk_grammar};
+ghost use Rattle.kd_desk.specs.CommandLine.{HaveDay, HaveFile, IsOf, IsOfNone, Says, SaysNothing};
 
 #[cfg(test)]
 mod tests;
@@ -43,6 +44,14 @@ pub enum Command<'a> {
         machine: &'a str,
         list: &'a str,
     },
+    /// Prints the form that the order of the third file becomes, on the machine and the day.
+    Send {
+        machine: &'a str,
+        sheet: &'a str,
+        /// The day's number, from 1 to 31.
+        day: u8,
+        order: &'a str,
+    },
 }
 
 /// The command of the program's words, the program's own name first.
@@ -75,6 +84,7 @@ fn command_of<'a>(name: &str, words: &ArgMatches<'a>) -> Option<Command<'a>>
         "card" => card_of(words),
         "check" => check_of(words),
         "apply" => apply_of(words),
+        "send" => send_of(words),
         _ => None,
     }
 }
@@ -93,9 +103,7 @@ fn card_of<'a>(words: &ArgMatches<'a>) -> Option<Command<'a>>
     ensures said { IfSome result (IsOf (codes "card", rows_of (found_of words.now))) }
     ensures none { result ≡ None → IsOfNone (codes "card", rows_of (found_of words.now)) }
 {
-    let machine = words.get_str("MACHINE")?;
-    let sheet = words.get_str("SHEET")?;
-    let day = day_number(words.get_str("DAY")?)?;
+    let (machine, sheet, day) = day_said(words)?;
     Some(Command::Card {
         machine,
         sheet,
@@ -108,16 +116,51 @@ fn check_of<'a>(words: &ArgMatches<'a>) -> Option<Command<'a>>
     ensures said { IfSome result (IsOf (codes "check", rows_of (found_of words.now))) }
     ensures none { result ≡ None → IsOfNone (codes "check", rows_of (found_of words.now)) }
 {
-    let machine = words.get_str("MACHINE")?;
-    let sheet = words.get_str("SHEET")?;
-    let day = day_number(words.get_str("DAY")?)?;
-    let card = words.get_str("CARD")?;
+    let (machine, sheet, day, card) = file_said(words, "CARD")?;
     Some(Command::Check {
         machine,
         sheet,
         day,
         card,
     })
+}
+
+/// The sending that these words say, if the day among them is one.
+fn send_of<'a>(words: &ArgMatches<'a>) -> Option<Command<'a>>
+    ensures said { IfSome result (IsOf (codes "send", rows_of (found_of words.now))) }
+    ensures none { result ≡ None → IsOfNone (codes "send", rows_of (found_of words.now)) }
+{
+    let (machine, sheet, day, order) = file_said(words, "ORDER")?;
+    Some(Command::Send {
+        machine,
+        sheet,
+        day,
+        order,
+    })
+}
+
+/// The machine file, the sheet and the day that these words name.
+fn day_said<'a>(words: &ArgMatches<'a>) -> Option<(&'a str, &'a str, u8)>
+    ensures said { IfSome result (λ on. HaveDay (rows_of (found_of words.now)) on.0.now on.1.now on.2) }
+    ensures none { result ≡ None → (machine sheet : List ℕ) (day : ℕ)
+        → ¬ (HaveDay (rows_of (found_of words.now)) machine sheet day) }
+{
+    let machine = words.get_str("MACHINE")?;
+    let sheet = words.get_str("SHEET")?;
+    let day = day_number(words.get_str("DAY")?)?;
+    Some((machine, sheet, day))
+}
+
+/// The same, and the file that the word of that name names.
+fn file_said<'a>(words: &ArgMatches<'a>, name: &str) -> Option<(&'a str, &'a str, u8, &'a str)>
+    ensures said { IfSome result (λ on.
+        HaveFile (rows_of (found_of words.now)) name.now on.0.now on.1.now on.2 on.3.now) }
+    ensures none { result ≡ None → (machine sheet : List ℕ) (day : ℕ) (file : List ℕ)
+        → ¬ (HaveFile (rows_of (found_of words.now)) name.now machine sheet day file) }
+{
+    let (machine, sheet, day) = day_said(words)?;
+    let file = words.get_str(name)?;
+    Some((machine, sheet, day, file))
 }
 
 /// The day that a word names: a decimal number from 1 to 31, without sign or leading zero.
@@ -152,8 +195,9 @@ fn grammar<'a>(alloc: Global) -> Result<Grammar<'a>, AllocError>
         .disable_help_subcommand(true)
         .subcommand(with_machine(alloc, "type")?)?
         .subcommand(with_day(alloc, "card")?)?
-        .subcommand(with_card(alloc, "check")?)?
-        .subcommand(with_list(alloc, "apply")?)
+        .subcommand(with_file(alloc, "check", "CARD")?)?
+        .subcommand(with_list(alloc, "apply")?)?
+        .subcommand(with_file(alloc, "send", "ORDER")?)
 }
 
 /// A command with the word MACHINE.
@@ -176,12 +220,12 @@ fn with_day<'a>(alloc: Global, name: &'a str) -> Result<Grammar<'a>, AllocError>
         .arg(word(alloc, "DAY"))
 }
 
-/// A command with the words MACHINE, SHEET, DAY and CARD.
-fn with_card<'a>(alloc: Global, name: &'a str) -> Result<Grammar<'a>, AllocError>
-    ensures shape { IfOk result (λ g. app_of g ≡ alone (form name.entry.now (day_words ++ codes "CARD" ∷ []))) }
+/// A command with the words MACHINE, SHEET and DAY, and a file's.
+fn with_file<'a>(alloc: Global, name: &'a str, file: &'a str) -> Result<Grammar<'a>, AllocError>
+    ensures shape { IfOk result (λ g. app_of g ≡ alone (file_form name.entry.now file.entry.now)) }
     ensures local { IfOk result (λ g. (out-Command g).has_globals ≡ false) }
 {
-    with_day(alloc, name)?.arg(word(alloc, "CARD"))
+    with_day(alloc, name)?.arg(word(alloc, file))
 }
 
 /// A command with the words MACHINE and LIST.

@@ -1,8 +1,8 @@
 //! The program, from its words to its bytes.
 ghost use Rattle.std.specs.Prelude.{◌≡◌, ◌≢◌, ◌⊎◌, ◌||◌, map, Err, IfSome, IsTrue};
 ghost use Rattle.kd_desk.specs.CommandLine.{Says, SaysNothing};
-ghost use Rattle.kd_desk.specs.Desk.{run_of, typing_of, printing_of, checking_of, applying_of, CarriesOut, IsLeftAlone, LacksMemory};
-ghost use Rattle.kd_desk.specs.Desk.{is_stopped_before, is_stopped_by_port};
+ghost use Rattle.kd_desk.specs.Desk.{run_of, typing_of, printing_of, checking_of, applying_of, sending_of};
+ghost use Rattle.kd_desk.specs.Desk.{CarriesOut, IsLeftAlone, LacksMemory, is_stopped_before, is_stopped_by_port};
 ghost use Rattle.kd_desk.specs.Ports.{Fail, Port, port};
 
 #[cfg(test)]
@@ -13,6 +13,7 @@ use crate::files::Files;
 use crate::run_apply::run_apply;
 use crate::run_card::run_card;
 use crate::run_check::run_check;
+use crate::run_send::run_send;
 use crate::run_type::run_type;
 use crate::stop::Stop;
 use kd_tables::{Sink, Source};
@@ -73,6 +74,12 @@ fn carry_out<F: Files, R: Source, W: Sink>(
             card,
         } => check_on(alloc, machine, sheet, day, card, files, sink),
         Command::Apply { machine, list } => apply_on(alloc, machine, list, files, sink),
+        Command::Send {
+            machine,
+            sheet,
+            day,
+            order,
+        } => send_on(alloc, machine, sheet, day, order, files, sink),
     }
 }
 
@@ -160,5 +167,30 @@ fn apply_on<F: Files, W: Sink>(
     let machine = files.read(alloc, machine)?;
     let list = files.read(alloc, list)?;
     run_apply(alloc, machine.as_slice(), list.as_slice(), sink)?;
+    Ok(())
+}
+
+/// Prints the form of the order of a third file for the machine of a file and the day of a sheet, without a look at the source.
+fn send_on<F: Files, W: Sink>(
+    alloc: Global,
+    machine: &str,
+    sheet: &str,
+    day: u8,
+    order: &str,
+    files: &F,
+    sink: &mut W,
+) -> Result<(), Stop>
+    ensures carried { IfSome (F.known files.now) (λ held. (source : Port) → IsLeftAlone source
+        → CarriesOut (sending_of (held machine.now) (held sheet.now) day (held order.now)) source
+        (port W.taken W.has_failed sink.old sink.new) result) }
+    ensures begun { result ≢ Err Stop.Usage }
+    ensures untouched { IsTrue (is_stopped_before result) → sink.new ≡ sink.old }
+    ensures failed { W.has_failed sink.new ≡ (W.has_failed sink.old || is_stopped_by_port result) }
+{
+    let machine = files.read(alloc, machine)?;
+    let sheet = files.read(alloc, sheet)?;
+    let order = files.read(alloc, order)?;
+    let (machine, sheet) = (machine.as_slice(), sheet.as_slice());
+    run_send(alloc, machine, sheet, day, order.as_slice(), sink)?;
     Ok(())
 }

@@ -4,6 +4,7 @@ mod tests;
 use crate::files::FileFault;
 use crate::typing::TextFault;
 use kd_card::{CardFault, IllegalAt};
+use kd_form::FormFault;
 use kd_plan::OtherModel;
 use kd_prices::Doubt;
 use kd_sheet::SheetFault;
@@ -52,6 +53,9 @@ pub enum DeskFault {
     /// Why a card doesn't prove itself.
     #[error(transparent)]
     Doubtful(Doubt),
+    /// Why an order becomes no form, or a form no text.
+    #[error(transparent)]
+    Message(FormFault),
 }
 
 impl From<SheetFault> for DeskFault {
@@ -140,6 +144,17 @@ impl From<Doubt> for DeskFault {
 
     fn from(doubt: Doubt) -> DeskFault {
         DeskFault::Doubtful(doubt)
+    }
+}
+
+impl From<FormFault> for DeskFault {
+    ghost use Rattle.std.specs.Prelude.{◌≡◌};
+    ghost use Rattle.kd_desk.specs.declared.fault.DeskFault.TheVariants as faults;
+
+    ghost from_gives = { λ fault desk. desk ≡ faults.Message fault };
+
+    fn from(fault: FormFault) -> DeskFault {
+        DeskFault::Message(fault)
     }
 }
 

@@ -1,5 +1,5 @@
 //! The key desk: types on the machine that a machine file describes, prints and checks the shortest card to a day of a sheet,
-//! and carries settings out.
+//! carries settings out, and sends orders.
 #![tactic(auto)]
 
 mod command;
@@ -8,10 +8,12 @@ mod fault;
 mod files;
 mod laws;
 mod limit;
+mod messages;
 mod ports;
 mod run_apply;
 mod run_card;
 mod run_check;
+mod run_send;
 mod run_type;
 #[cfg(test)]
 mod samples;

@@ -153,3 +153,62 @@ CABLES 0 0 0 0 0 0 0 0 0 0 0 0 0
 PAIRS 0 0 0 0 0 0 0 0 0 0 0 0 0
 SUM 0
 ";
+
+/// A Converter M-209 without effective pins, all of whose lugs are idle.
+pub const WITHOUT_PINS: &str = "version = 1
+model = \"M-209\"
+letters = \"AAAAAA\"
+pins = [\"\", \"\", \"\", \"\", \"\", \"\"]
+bars = [
+    \"0L-0R\", \"0L-0R\", \"0L-0R\", \"0L-0R\", \"0L-0R\", \"0L-0R\", \"0L-0R\", \"0L-0R\", \"0L-0R\",
+    \"0L-0R\", \"0L-0R\", \"0L-0R\", \"0L-0R\", \"0L-0R\", \"0L-0R\", \"0L-0R\", \"0L-0R\", \"0L-0R\",
+    \"0L-0R\", \"0L-0R\", \"0L-0R\", \"0L-0R\", \"0L-0R\", \"0L-0R\", \"0L-0R\", \"0L-0R\", \"0L-0R\",
+]
+";
+
+/// A key sheet with the Enigma's own settings and a group on day 17, and that Converter on day 15.
+pub const MESSAGES: &str = "[[day]]
+day = 17
+model = \"Enigma I\"
+reflector = \"B\"
+wheels = [\"I\", \"II\", \"III\"]
+rings = \"AAA\"
+window = \"AAA\"
+plugs = []
+groups = [\"ZUG\"]
+
+[[day]]
+day = 15
+model = \"M-209\"
+rows = [
+    \"0-0\", \"0-0\", \"0-0\", \"0-0\", \"0-0\", \"0-0\", \"0-0\", \"0-0\", \"0-0\",
+    \"0-0\", \"0-0\", \"0-0\", \"0-0\", \"0-0\", \"0-0\", \"0-0\", \"0-0\", \"0-0\",
+    \"0-0\", \"0-0\", \"0-0\", \"0-0\", \"0-0\", \"0-0\", \"0-0\", \"0-0\", \"0-0\",
+]
+pins = [\"\", \"\", \"\", \"\", \"\", \"\"]
+window = \"AAAAAA\"
+list = \"QV\"
+";
+
+/// An order for that Enigma, and the form that it becomes.
+pub const ORDER: &str = "PART AAA AAA QX UGZ
+TEXT
+AAAAA";
+
+pub const FORM: &str = "PART 1/1 10 AAA BDZ
+QXUGZ BDZGO
+";
+
+/// An order for that Converter, and the form that it becomes.
+pub const CONVERTER_ORDER: &str = "PART T ABCDEF
+TEXT
+HELLO WORLD";
+
+pub const CONVERTER_FORM: &str = "PART 1/1 35
+TTABC DEFQV SVOOL ADLIO WCCCC TTABC DEFQV
+";
+
+/// How machines come off the key, and one isn't ready: what their files say, and would have to.
+pub const OFF_KEY: [&str; 2] = ["rings = \"AAAAA\"", "rings = \"BAAAA\""];
+
+pub const UNREADY: [&str; 2] = ["\"II\"", "\"\""];

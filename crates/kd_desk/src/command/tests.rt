@@ -66,6 +66,14 @@ fn finds_the_files_of_a_card(rt: HostRuntime) -> Result<(), Fail> {
             card: "c.txt",
         };
         assert_eq!(rt; parse_words(rt.alloc(), words.as_slice()), Ok(check));
+        let words = ["desk", "send", "m.toml", "s.toml", word, "o.txt"];
+        let send = Command::Send {
+            machine: "m.toml",
+            sheet: "s.toml",
+            day,
+            order: "o.txt",
+        };
+        assert_eq!(rt; parse_words(rt.alloc(), words.as_slice()), Ok(send));
     }
     Ok(())
 }
@@ -76,6 +84,8 @@ fn refuses_other_days(rt: HostRuntime) -> Result<(), Fail> {
         let words = ["desk", "card", "m.toml", "s.toml", word];
         assert_eq!(rt; parse_words(rt.alloc(), words.as_slice()), Err(Stop::Usage));
         let words = ["desk", "check", "m.toml", "s.toml", word, "c.txt"];
+        assert_eq!(rt; parse_words(rt.alloc(), words.as_slice()), Err(Stop::Usage));
+        let words = ["desk", "send", "m.toml", "s.toml", word, "o.txt"];
         assert_eq!(rt; parse_words(rt.alloc(), words.as_slice()), Err(Stop::Usage));
     }
     Ok(())
@@ -108,7 +118,7 @@ fn refuses_other_words(rt: HostRuntime) -> Result<(), Fail> {
         ["desk", "card", "m.toml", "s.toml", "1", "more"].as_slice(),
         ["desk", "check", "m.toml", "s.toml", "1"].as_slice(),
         ["desk", "check", "m.toml", "s.toml", "c.txt", "1"].as_slice(),
-        ["desk", "send", "m.toml", "s.toml", "1", "o.txt"].as_slice(),
+        ["desk", "send", "m.toml", "s.toml", "1"].as_slice(),
     ] {
         assert_eq!(rt; parse_words(rt.alloc(), words), Err(Stop::Usage));
     }

@@ -1,7 +1,7 @@
 use super::run_desk;
 use crate::fault::DeskFault;
 use crate::files::{FileFault, MemoryFiles};
-use crate::samples::{EMPTY, MACHINE, SHEET, WRITTEN};
+use crate::samples::{EMPTY, FORM, MACHINE, MESSAGES, ORDER, SHEET, WRITTEN};
 use crate::stop::Stop;
 use kd_card::IllegalAt;
 use kd_sheet::SheetFault;
@@ -17,6 +17,8 @@ fn carries_each_command_out(rt: HostRuntime) -> Result<(), Fail> {
         ("m.toml", MACHINE.as_bytes()),
         ("s.toml", SHEET.as_bytes()),
         ("c.txt", EMPTY.as_bytes()),
+        ("d.toml", MESSAGES.as_bytes()),
+        ("o.txt", ORDER.as_bytes()),
     ];
     for (words, written) in [
         (["desk", "type", "m.toml"].as_slice(), "BDZGO\n"),
@@ -29,6 +31,10 @@ fn carries_each_command_out(rt: HostRuntime) -> Result<(), Fail> {
         (
             ["desk", "apply", "m.toml", "l.txt"].as_slice(),
             turned.as_str(),
+        ),
+        (
+            ["desk", "send", "m.toml", "d.toml", "17", "o.txt"].as_slice(),
+            FORM,
         ),
     ] {
         let files = MemoryFiles::new(&files);

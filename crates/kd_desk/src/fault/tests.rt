@@ -1,5 +1,6 @@
 use super::DeskFault;
 use kd_card::{CardFault, IllegalAt};
+use kd_form::FormFault;
 use kd_prices::Doubt;
 use kd_sheet::{Key, SheetFault};
 use kd_state::{ListFault, Why};
@@ -66,6 +67,46 @@ fn says_why_it_refuses(rt: HostRuntime) -> Result<(), Fail> {
             DeskFault::Doubtful(Doubt::NeedlessLine { line: 3 }),
             "17 NeedlessLine 3",
         ),
+        (DeskFault::Message(FormFault::NotReady), "4 NotReady"),
+        (DeskFault::Message(FormFault::NoMemory), "26 NoMemory"),
+        (DeskFault::Message(FormFault::NotOnKey), "27 NotOnKey"),
+        (
+            DeskFault::Message(FormFault::BadByte { position: 9 }),
+            "28 BadByte 9",
+        ),
+        (DeskFault::Message(FormFault::EmptyText), "29 EmptyText"),
+        (
+            DeskFault::Message(FormFault::PartKeys {
+                needed: 2,
+                given: 1,
+            }),
+            "30 PartKeys 2 1",
+        ),
+        (
+            DeskFault::Message(FormFault::KeyNotOnWheel),
+            "31 KeyNotOnWheel",
+        ),
+        (
+            DeskFault::Message(FormFault::WrongGroup { part: 1 }),
+            "32 WrongGroup 1",
+        ),
+        (
+            DeskFault::Message(FormFault::IndicatorSpent { part: 99 }),
+            "33 IndicatorSpent 99",
+        ),
+        (
+            DeskFault::Message(FormFault::BadHeading { part: 2 }),
+            "34 BadHeading 2",
+        ),
+        (
+            DeskFault::Message(FormFault::CountWrong { part: 1 }),
+            "35 CountWrong 1",
+        ),
+        (
+            DeskFault::Message(FormFault::IndicatorsDiffer { part: 1 }),
+            "36 IndicatorsDiffer 1",
+        ),
+        (DeskFault::Message(FormFault::PartOrder), "37 PartOrder"),
     ] {
         let said = format!(in rt.alloc(); "{fault}")?;
         assert_eq!(rt; said.as_str(), text);

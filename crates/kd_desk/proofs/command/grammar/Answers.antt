@@ -1,8 +1,8 @@
-use Rattle.std.proofs.Common.{true, rules, ap, ap₂, codes, ◌≡◌, ◌∙◌}
+use Rattle.std.proofs.Common.{true, ap, ap₂, codes, ◌≡◌, ◌∙◌}
 use Rattle.std.proofs.lemmas.Result.{IfOk-weaker}
 use Rattle.clap.specs.Words.{App, app_of, new_app, with_subcommand}
 use Rattle.clap.specs.Simple.{app_of_fields}
-use Rattle.kd_desk.specs.CommandLine.{type_form, card_form, check_form, desk_grammar}
+use Rattle.kd_desk.specs.CommandLine.{type_form, card_form, check_form, apply_form, desk_grammar}
 use Rattle.kd_desk.proofs.command.grammar.Goals as goal
 
 abbrev without_help : App → App
@@ -22,6 +22,8 @@ returns c =
     let with_cards : app_of c.in_ok-subcommand-2.field-0 ≡ with_subcommand (with_subcommand bare type_form) card_form =
     c.in_ok-subcommand-2.ensures.shape c.in_ok-with_day.ensures.local ∙ ap₂ with_subcommand with_types (ap (λ (a : App). a.top) c.in_ok-with_day.ensures.shape) in
     let with_checks : app_of c.in_ok-subcommand-3.field-0 ≡ with_subcommand (with_subcommand (with_subcommand bare type_form) card_form) check_form =
-    c.in_ok-subcommand-3.ensures.shape c.in_ok-with_card.ensures.local ∙ ap₂ with_subcommand with_cards (ap (λ (a : App). a.top) c.in_ok-with_card.ensures.shape) in
-    IfOk-weaker c.subcommand-4.result _ _ (λ r adds. adds.shape c.in_ok-with_list.ensures.local
-    ∙ ap₂ with_subcommand with_checks (ap (λ (a : App). a.top) c.in_ok-with_list.ensures.shape)) c.subcommand-4.ensures
+    c.in_ok-subcommand-3.ensures.shape c.in_ok-with_file.ensures.local ∙ ap₂ with_subcommand with_cards (ap (λ (a : App). a.top) c.in_ok-with_file.ensures.shape) in
+    let with_lists : app_of c.in_ok-subcommand-4.field-0 ≡ with_subcommand (with_subcommand (with_subcommand (with_subcommand bare type_form) card_form) check_form) apply_form =
+    c.in_ok-subcommand-4.ensures.shape c.in_ok-with_list.ensures.local ∙ ap₂ with_subcommand with_checks (ap (λ (a : App). a.top) c.in_ok-with_list.ensures.shape) in
+    IfOk-weaker c.subcommand-5.result _ _ (λ r adds. adds.shape c.in_ok-with_file-2.ensures.local
+    ∙ ap₂ with_subcommand with_lists (ap (λ (a : App). a.top) c.in_ok-with_file-2.ensures.shape)) c.subcommand-5.ensures
