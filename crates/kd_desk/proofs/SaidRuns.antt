@@ -8,7 +8,7 @@ use Rattle.kd_desk.specs.declared.command.Command.{Command}
 use Rattle.kd_desk.specs.declared.command.Command.TheVariants as commands
 use Rattle.kd_desk.specs.declared.files.fault.FileFault.{FileFault}
 use Rattle.kd_desk.specs.CommandLine.{HaveDay, HaveFile, IsOf}
-use Rattle.kd_desk.specs.Desk.{Run, typing_of, printing_of, checking_of, applying_of, sending_of, run_of}
+use Rattle.kd_desk.specs.Desk.{Run, typing_of, printing_of, checking_of, applying_of, sending_of, receiving_of, run_of}
 use Rattle.kd_desk.proofs.CommandLines.{none_or_some}
 
 -- the run with the files of a machine, of a sheet, and of the word of that name, if these words are there
@@ -34,6 +34,7 @@ run_by held day said =
     else if bytes_eq said.0 (codes "apply")
     then option_and_then (λ m. option_map (λ l. applying_of (held m) (held l)) (first_of (codes "LIST") said.1)) (first_of (codes "MACHINE") said.1)
     else if bytes_eq said.0 (codes "send") then run_by_file held said.1 (codes "ORDER") (λ m s o. sending_of m s day o)
+    else if bytes_eq said.0 (codes "receive") then run_by_file held said.1 (codes "FORM") (λ m s f. receiving_of m s day f)
     else None
 
 -- the day of a command, and 0 where it has none
@@ -43,6 +44,7 @@ day_in (commands.Card machine sheet day) = day
 day_in (commands.Check machine sheet day card) = day
 day_in (commands.Apply machine list) = 0
 day_in (commands.Send machine sheet day order) = day
+day_in (commands.Receive machine sheet day form) = day
 
 pub run_said : (held : List ℕ → Option (List ℕ)) (said : List ℕ × List Row) (command : Command) → IsOf said command
     → run_by held (day_in command) said ≡ Some (run_of held command)
@@ -63,6 +65,9 @@ run_said held said (commands.Apply machine list) is =
 run_said held said (commands.Send machine sheet day order) is =
     ap (λ name. run_by held day (name, said.1)) is.name
     ∙ file_run_said held said.1 (codes "ORDER") (λ m s o. sending_of m s day o) machine.now sheet.now day order.now is.words
+run_said held said (commands.Receive machine sheet day form) is =
+    ap (λ name. run_by held day (name, said.1)) is.name
+    ∙ file_run_said held said.1 (codes "FORM") (λ m s f. receiving_of m s day f) machine.now sheet.now day form.now is.words
 
 -- the word that says the day of a command, and the word of 0 where it has none
 abbrev pub day_said : List ℕ × List Row → Option (List ℕ)
@@ -75,6 +80,7 @@ is_day_said said (commands.Card machine sheet day) is = ap (λ name. day_said (n
 is_day_said said (commands.Check machine sheet day card) is = ap (λ name. day_said (name, said.1)) is.name ∙ is.words.on_day.day_word
 is_day_said said (commands.Apply machine list) is = ap (λ name. day_said (name, said.1)) is.name
 is_day_said said (commands.Send machine sheet day order) is = ap (λ name. day_said (name, said.1)) is.name ∙ is.words.on_day.day_word
+is_day_said said (commands.Receive machine sheet day form) is = ap (λ name. day_said (name, said.1)) is.name ∙ is.words.on_day.day_word
 
 is_small : (said : List ℕ × List Row) (command : Command) → IsOf said command → day_in command < 2 ^ 64
 is_small said (commands.Type machine) is = omega arith
@@ -82,6 +88,7 @@ is_small said (commands.Card machine sheet day) is = let within = is.words.of_mo
 is_small said (commands.Check machine sheet day card) is = let within = is.words.on_day.of_month in omega (arith, within.last)
 is_small said (commands.Apply machine list) is = omega arith
 is_small said (commands.Send machine sheet day order) is = let within = is.words.on_day.of_month in omega (arith, within.last)
+is_small said (commands.Receive machine sheet day form) is = let within = is.words.on_day.of_month in omega (arith, within.last)
 
 same_day : (said : List ℕ × List Row) (one other : Command) → IsOf said one → IsOf said other → day_in one ≡ day_in other
 same_day said one other is are =
@@ -119,7 +126,7 @@ abbrev has_day : List ℕ → Bool
 has_day name = if bytes_eq name (codes "type") then false else if bytes_eq name (codes "apply") then false else true
 
 abbrev file_word : List ℕ → Option (List ℕ)
-file_word name = if bytes_eq name (codes "check") then Some (codes "CARD") else if bytes_eq name (codes "send") then Some (codes "ORDER") else None
+file_word name = if bytes_eq name (codes "check") then Some (codes "CARD") else if bytes_eq name (codes "send") then Some (codes "ORDER") else if bytes_eq name (codes "receive") then Some (codes "FORM") else None
 
 not_both : (b : Bool) → b ≡ true → b ≡ false → ⊥
 not_both b is other = cc
@@ -131,6 +138,7 @@ no_day rows none name has (commands.Card machine sheet day) is = none machine.no
 no_day rows none name has (commands.Check machine sheet day card) is = none machine.now sheet.now day is.words.on_day
 no_day rows none name has (commands.Apply machine list) is = not_both (has_day name) has (ap has_day is.name)
 no_day rows none name has (commands.Send machine sheet day order) is = none machine.now sheet.now day is.words.on_day
+no_day rows none name has (commands.Receive machine sheet day form) is = none machine.now sheet.now day is.words.on_day
 
 module _ (rows : List Row) (word : List ℕ) (none : (machine sheet : List ℕ) (day : ℕ) (file : List ℕ) → ¬ (HaveFile rows word machine sheet day file))
     (name : List ℕ) (has : file_word name ≡ Some word) where
@@ -144,3 +152,4 @@ module _ (rows : List Row) (word : List ℕ) (none : (machine sheet : List ℕ) 
   no_file (commands.Check machine sheet day card) is = no_other (codes "CARD") machine.now sheet.now day card.now (ap file_word is.name) is.words
   no_file (commands.Apply machine list) is = none_or_some (file_word name) word (ap file_word is.name) has
   no_file (commands.Send machine sheet day order) is = no_other (codes "ORDER") machine.now sheet.now day order.now (ap file_word is.name) is.words
+  no_file (commands.Receive machine sheet day form) is = no_other (codes "FORM") machine.now sheet.now day form.now (ap file_word is.name) is.words

@@ -44,6 +44,9 @@ apply_form = form (codes "apply") (codes "MACHINE" ∷ codes "LIST" ∷ [])
 abbrev pub send_form : Shape
 send_form = file_form (codes "send") (codes "ORDER")
 
+abbrev pub receive_form : Shape
+receive_form = file_form (codes "receive") (codes "FORM")
+
 unfoldable pub desk_grammar : App
 desk_grammar = record {
   top = record (new_shape (codes "desk")) {
@@ -51,7 +54,7 @@ desk_grammar = record {
     disable_help_subcommand = true;
     is_leaf = false;
   };
-  subs = type_form ∷ card_form ∷ check_form ∷ apply_form ∷ send_form ∷ [];
+  subs = type_form ∷ card_form ∷ check_form ∷ apply_form ∷ send_form ∷ receive_form ∷ [];
 }
 
 -- the name of a command, and the values of its words
@@ -61,6 +64,7 @@ command_name (commands.Card machine sheet day) = codes "card"
 command_name (commands.Check machine sheet day card) = codes "check"
 command_name (commands.Apply machine list) = codes "apply"
 command_name (commands.Send machine sheet day order) = codes "send"
+command_name (commands.Receive machine sheet day form) = codes "receive"
 
 -- the words that name a machine file, a sheet, and a day by its number in decimal
 pub record HaveDay (rows : List Row) (machine sheet : List ℕ) (day : ℕ) : Type 0 where
@@ -82,6 +86,7 @@ HasWords rows (commands.Apply machine list) =
     (first_of (codes "MACHINE") rows ≡ Some machine.now)
     × (first_of (codes "LIST") rows ≡ Some list.now)
 HasWords rows (commands.Send machine sheet day order) = HaveFile rows (codes "ORDER") machine.now sheet.now day order.now
+HasWords rows (commands.Receive machine sheet day form) = HaveFile rows (codes "FORM") machine.now sheet.now day form.now
 
 -- a name and the values of words are those of the command, or of none
 pub record IsOf (said : List ℕ × List Row) (command : Command) : Type 0 where

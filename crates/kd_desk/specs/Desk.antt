@@ -14,7 +14,7 @@ use Rattle.kd_desk.specs.declared.stop.Stop.{Stop}
 use Rattle.kd_desk.specs.declared.stop.Stop.TheVariants.{Usage, Unread, Refused}
 use Rattle.kd_desk.specs.Files.{content_of}
 use Rattle.kd_desk.specs.Ports.{Port, IsWell}
-use Rattle.kd_desk.specs.Messages.{Sends}
+use Rattle.kd_desk.specs.Messages.{Sends, Receives}
 use Rattle.kd_desk.specs.OnDay.{OnDay}
 use Rattle.kd_desk.specs.RunApply.{Applies}
 use Rattle.kd_desk.specs.RunCard.{Prints}
@@ -29,6 +29,7 @@ pub data Run : Type 0 where
   checking : List ℕ → List ℕ → ℕ → List ℕ → Run
   applying : List ℕ → List ℕ → Run
   sending : List ℕ → List ℕ → ℕ → List ℕ → Run
+  receiving : List ℕ → List ℕ → ℕ → List ℕ → Run
 
 -- a file's bytes go into a run, or its fault stands for it
 abbrev pub with_bytes : Result (List ℕ) FileFault → (List ℕ → Result Run FileFault) → Result Run FileFault
@@ -56,6 +57,10 @@ checking_of machine sheet day card = run_with machine sheet card (λ m s c. chec
 abbrev pub sending_of : Option (List ℕ) → Option (List ℕ) → ℕ → Option (List ℕ) → Result Run FileFault
 sending_of machine sheet day order = run_with machine sheet order (λ m s o. sending m s day o)
 
+-- the text of a form
+abbrev pub receiving_of : Option (List ℕ) → Option (List ℕ) → ℕ → Option (List ℕ) → Result Run FileFault
+receiving_of machine sheet day form = run_with machine sheet form (λ m s f. receiving m s day f)
+
 -- the settings of a second file, for the machine of a file
 abbrev pub applying_of : Option (List ℕ) → Option (List ℕ) → Result Run FileFault
 applying_of machine list = with_bytes (content_of machine) (λ m. with_bytes (content_of list) (λ l. Ok (applying m l)))
@@ -67,6 +72,7 @@ run_of held (commands.Card machine sheet day) = printing_of (held machine.now) (
 run_of held (commands.Check machine sheet day card) = checking_of (held machine.now) (held sheet.now) day (held card.now)
 run_of held (commands.Apply machine list) = applying_of (held machine.now) (held list.now)
 run_of held (commands.Send machine sheet day order) = sending_of (held machine.now) (held sheet.now) day (held order.now)
+run_of held (commands.Receive machine sheet day form) = receiving_of (held machine.now) (held sheet.now) day (held form.now)
 
 -- a text was typed on the machine of a machine file, or the call was refused for the file or for a machine that isn't ready
 pub record TypesOn (machine : List ℕ) (source sink : Port) (answer : Result (Unit {0}) DeskFault) : Type 0 where
@@ -92,6 +98,7 @@ Does (checking machine sheet day card) source sink answer =
     OnDay machine sheet day (λ m s. Checks m s day card sink answer) answer × IsLeftAlone source
 Does (applying machine list) source sink answer = AppliesTo machine list sink answer × IsLeftAlone source
 Does (sending machine sheet day order) source sink answer = OnDay machine sheet day (λ m s. Sends m s order sink answer) answer × IsLeftAlone source
+Does (receiving machine sheet day form) source sink answer = OnDay machine sheet day (λ m s. Receives m s form sink answer) answer × IsLeftAlone source
 
 -- memory ran out, over the words or a file's bytes, or as a file was read
 abbrev pub LacksMemory : Result (Unit {0}) Stop → Type 0

@@ -1,4 +1,5 @@
--- What becomes of a message, on a machine and a day of a sheet: of an order that is sent.
+-- What becomes of a message, on a machine and a day of a sheet: of an order that is sent, or of a form
+-- that is received.
 use Rattle.std.specs.Prelude.{◌≡◌, ℕ, List, Result, Err, OnErr}
 use Rattle.kd_tables.specs.Writing.{Writes}
 use Rattle.kd_state.specs.declared.parts.Parts.{Parts}
@@ -7,6 +8,7 @@ use Rattle.kd_state.specs.OnKey.{OnKey}
 use Rattle.kd_state.specs.TwoCiphers.{IsReady}
 use Rattle.kd_form.specs.declared.fault.FormFault.{FormFault}
 use Rattle.kd_form.specs.declared.fault.FormFault.TheVariants as messages
+use Rattle.kd_form.specs.FormText.{IsTextOf, IsReceiveFault}
 use Rattle.kd_form.specs.OnTheKey.{IsOnKey}
 use Rattle.kd_form.specs.Sending.{IsFormOf, IsSendFault}
 use Rattle.kd_desk.specs.declared.fault.DeskFault.{DeskFault}
@@ -32,3 +34,7 @@ pub data Passes (m : Parts) (s : Day) (due : List ℕ → Type 0) (faulty : Form
 -- the form that the order becomes is written, or the order is refused
 abbrev pub Sends : Parts → Day → List ℕ → Port → Result (Unit {0}) DeskFault → Type 0
 Sends m s order = Passes m s (IsFormOf s order) (IsSendFault s order)
+
+-- the text that the form becomes is written, or the form is refused
+abbrev pub Receives : Parts → Day → List ℕ → Port → Result (Unit {0}) DeskFault → Type 0
+Receives m s form = Passes m s (IsTextOf s form) (IsReceiveFault s form)

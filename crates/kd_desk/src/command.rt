@@ -52,6 +52,14 @@ pub enum Command<'a> {
         day: u8,
         order: &'a str,
     },
+    /// Prints the text that the form of the third file becomes, on the machine and the day.
+    Receive {
+        machine: &'a str,
+        sheet: &'a str,
+        /// The day's number, from 1 to 31.
+        day: u8,
+        form: &'a str,
+    },
 }
 
 /// The command of the program's words, the program's own name first.
@@ -85,6 +93,7 @@ fn command_of<'a>(name: &str, words: &ArgMatches<'a>) -> Option<Command<'a>>
         "check" => check_of(words),
         "apply" => apply_of(words),
         "send" => send_of(words),
+        "receive" => receive_of(words),
         _ => None,
     }
 }
@@ -136,6 +145,20 @@ fn send_of<'a>(words: &ArgMatches<'a>) -> Option<Command<'a>>
         sheet,
         day,
         order,
+    })
+}
+
+/// The receiving that these words say, if the day among them is one.
+fn receive_of<'a>(words: &ArgMatches<'a>) -> Option<Command<'a>>
+    ensures said { IfSome result (IsOf (codes "receive", rows_of (found_of words.now))) }
+    ensures none { result ≡ None → IsOfNone (codes "receive", rows_of (found_of words.now)) }
+{
+    let (machine, sheet, day, form) = file_said(words, "FORM")?;
+    Some(Command::Receive {
+        machine,
+        sheet,
+        day,
+        form,
     })
 }
 
@@ -197,7 +220,8 @@ fn grammar<'a>(alloc: Global) -> Result<Grammar<'a>, AllocError>
         .subcommand(with_day(alloc, "card")?)?
         .subcommand(with_file(alloc, "check", "CARD")?)?
         .subcommand(with_list(alloc, "apply")?)?
-        .subcommand(with_file(alloc, "send", "ORDER")?)
+        .subcommand(with_file(alloc, "send", "ORDER")?)?
+        .subcommand(with_file(alloc, "receive", "FORM")?)
 }
 
 /// A command with the word MACHINE.

@@ -1,7 +1,7 @@
 //! The program, from its words to its bytes.
 ghost use Rattle.std.specs.Prelude.{◌≡◌, ◌≢◌, ◌⊎◌, ◌||◌, map, Err, IfSome, IsTrue};
 ghost use Rattle.kd_desk.specs.CommandLine.{Says, SaysNothing};
-ghost use Rattle.kd_desk.specs.Desk.{run_of, typing_of, printing_of, checking_of, applying_of, sending_of};
+ghost use Rattle.kd_desk.specs.Desk.{run_of, typing_of, printing_of, checking_of, applying_of, sending_of, receiving_of};
 ghost use Rattle.kd_desk.specs.Desk.{CarriesOut, IsLeftAlone, LacksMemory, is_stopped_before, is_stopped_by_port};
 ghost use Rattle.kd_desk.specs.Ports.{Fail, Port, port};
 
@@ -13,6 +13,7 @@ use crate::files::Files;
 use crate::run_apply::run_apply;
 use crate::run_card::run_card;
 use crate::run_check::run_check;
+use crate::run_receive::run_receive;
 use crate::run_send::run_send;
 use crate::run_type::run_type;
 use crate::stop::Stop;
@@ -80,6 +81,12 @@ fn carry_out<F: Files, R: Source, W: Sink>(
             day,
             order,
         } => send_on(alloc, machine, sheet, day, order, files, sink),
+        Command::Receive {
+            machine,
+            sheet,
+            day,
+            form,
+        } => receive_on(alloc, machine, sheet, day, form, files, sink),
     }
 }
 
@@ -192,5 +199,30 @@ fn send_on<F: Files, W: Sink>(
     let order = files.read(alloc, order)?;
     let (machine, sheet) = (machine.as_slice(), sheet.as_slice());
     run_send(alloc, machine, sheet, day, order.as_slice(), sink)?;
+    Ok(())
+}
+
+/// Prints the text of the form of a third file for the machine of a file and the day of a sheet, without a look at the source.
+fn receive_on<F: Files, W: Sink>(
+    alloc: Global,
+    machine: &str,
+    sheet: &str,
+    day: u8,
+    form: &str,
+    files: &F,
+    sink: &mut W,
+) -> Result<(), Stop>
+    ensures carried { IfSome (F.known files.now) (λ held. (source : Port) → IsLeftAlone source
+        → CarriesOut (receiving_of (held machine.now) (held sheet.now) day (held form.now)) source
+        (port W.taken W.has_failed sink.old sink.new) result) }
+    ensures begun { result ≢ Err Stop.Usage }
+    ensures untouched { IsTrue (is_stopped_before result) → sink.new ≡ sink.old }
+    ensures failed { W.has_failed sink.new ≡ (W.has_failed sink.old || is_stopped_by_port result) }
+{
+    let machine = files.read(alloc, machine)?;
+    let sheet = files.read(alloc, sheet)?;
+    let form = files.read(alloc, form)?;
+    let (machine, sheet) = (machine.as_slice(), sheet.as_slice());
+    run_receive(alloc, machine, sheet, day, form.as_slice(), sink)?;
     Ok(())
 }

@@ -1,5 +1,5 @@
 //! The key desk: types on the machine that a machine file describes, prints and checks the shortest card to a day of a sheet,
-//! carries settings out, and sends orders.
+//! carries settings out, and sends and receives messages.
 #![tactic(auto)]
 
 mod command;
@@ -13,6 +13,7 @@ mod ports;
 mod run_apply;
 mod run_card;
 mod run_check;
+mod run_receive;
 mod run_send;
 mod run_type;
 #[cfg(test)]

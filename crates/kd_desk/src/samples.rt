@@ -190,7 +190,7 @@ window = \"AAAAAA\"
 list = \"QV\"
 ";
 
-/// An order for that Enigma, and the form that it becomes.
+/// An order for that Enigma, the form that it becomes, and the text that this becomes.
 pub const ORDER: &str = "PART AAA AAA QX UGZ
 TEXT
 AAAAA";
@@ -199,7 +199,9 @@ pub const FORM: &str = "PART 1/1 10 AAA BDZ
 QXUGZ BDZGO
 ";
 
-/// An order for that Converter, and the form that it becomes.
+pub const TEXT: &str = "AAAAA\n";
+
+/// An order for that Converter, the form that it becomes, and the text that this becomes.
 pub const CONVERTER_ORDER: &str = "PART T ABCDEF
 TEXT
 HELLO WORLD";
@@ -208,7 +210,9 @@ pub const CONVERTER_FORM: &str = "PART 1/1 35
 TTABC DEFQV SVOOL ADLIO WCCCC TTABC DEFQV
 ";
 
-/// How machines come off the key, and one isn't ready: what their files say, and would have to.
+pub const CONVERTER_TEXT: &str = "HELLO WORLDXXXX\n";
+
+/// What a machine's file says, and what another says in its place: it is off the key, or isn't ready.
 pub const OFF_KEY: [&str; 2] = ["rings = \"AAAAA\"", "rings = \"BAAAA\""];
 
 pub const UNREADY: [&str; 2] = ["\"II\"", "\"\""];

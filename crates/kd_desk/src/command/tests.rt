@@ -74,6 +74,14 @@ fn finds_the_files_of_a_card(rt: HostRuntime) -> Result<(), Fail> {
             order: "o.txt",
         };
         assert_eq!(rt; parse_words(rt.alloc(), words.as_slice()), Ok(send));
+        let words = ["desk", "receive", "m.toml", "s.toml", word, "f.txt"];
+        let receive = Command::Receive {
+            machine: "m.toml",
+            sheet: "s.toml",
+            day,
+            form: "f.txt",
+        };
+        assert_eq!(rt; parse_words(rt.alloc(), words.as_slice()), Ok(receive));
     }
     Ok(())
 }
@@ -86,6 +94,8 @@ fn refuses_other_days(rt: HostRuntime) -> Result<(), Fail> {
         let words = ["desk", "check", "m.toml", "s.toml", word, "c.txt"];
         assert_eq!(rt; parse_words(rt.alloc(), words.as_slice()), Err(Stop::Usage));
         let words = ["desk", "send", "m.toml", "s.toml", word, "o.txt"];
+        assert_eq!(rt; parse_words(rt.alloc(), words.as_slice()), Err(Stop::Usage));
+        let words = ["desk", "receive", "m.toml", "s.toml", word, "f.txt"];
         assert_eq!(rt; parse_words(rt.alloc(), words.as_slice()), Err(Stop::Usage));
     }
     Ok(())
@@ -119,6 +129,7 @@ fn refuses_other_words(rt: HostRuntime) -> Result<(), Fail> {
         ["desk", "check", "m.toml", "s.toml", "1"].as_slice(),
         ["desk", "check", "m.toml", "s.toml", "c.txt", "1"].as_slice(),
         ["desk", "send", "m.toml", "s.toml", "1"].as_slice(),
+        ["desk", "receive", "m.toml", "s.toml", "1"].as_slice(),
     ] {
         assert_eq!(rt; parse_words(rt.alloc(), words), Err(Stop::Usage));
     }

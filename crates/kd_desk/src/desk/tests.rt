@@ -1,7 +1,7 @@
 use super::run_desk;
 use crate::fault::DeskFault;
 use crate::files::{FileFault, MemoryFiles};
-use crate::samples::{EMPTY, FORM, MACHINE, MESSAGES, ORDER, SHEET, WRITTEN};
+use crate::samples::{EMPTY, FORM, MACHINE, MESSAGES, ORDER, SHEET, TEXT, WRITTEN};
 use crate::stop::Stop;
 use kd_card::IllegalAt;
 use kd_sheet::SheetFault;
@@ -19,6 +19,7 @@ fn carries_each_command_out(rt: HostRuntime) -> Result<(), Fail> {
         ("c.txt", EMPTY.as_bytes()),
         ("d.toml", MESSAGES.as_bytes()),
         ("o.txt", ORDER.as_bytes()),
+        ("f.txt", FORM.as_bytes()),
     ];
     for (words, written) in [
         (["desk", "type", "m.toml"].as_slice(), "BDZGO\n"),
@@ -35,6 +36,10 @@ fn carries_each_command_out(rt: HostRuntime) -> Result<(), Fail> {
         (
             ["desk", "send", "m.toml", "d.toml", "17", "o.txt"].as_slice(),
             FORM,
+        ),
+        (
+            ["desk", "receive", "m.toml", "d.toml", "17", "f.txt"].as_slice(),
+            TEXT,
         ),
     ] {
         let files = MemoryFiles::new(&files);

@@ -1,8 +1,8 @@
-use Rattle.std.proofs.Common.{true, ap, ap₂, codes, ◌≡◌, ◌∙◌}
+use Rattle.std.proofs.Common.{true, rules, ap, ap₂, codes, ◌≡◌, ◌∙◌}
 use Rattle.std.proofs.lemmas.Result.{IfOk-weaker}
 use Rattle.clap.specs.Words.{App, app_of, new_app, with_subcommand}
 use Rattle.clap.specs.Simple.{app_of_fields}
-use Rattle.kd_desk.specs.CommandLine.{type_form, card_form, check_form, apply_form, desk_grammar}
+use Rattle.kd_desk.specs.CommandLine.{type_form, card_form, check_form, apply_form, send_form, desk_grammar}
 use Rattle.kd_desk.proofs.command.grammar.Goals as goal
 
 abbrev without_help : App → App
@@ -11,19 +11,39 @@ without_help a = record a { top = record a.top { disable_help_flag = true } }
 abbrev without_help_command : App → App
 without_help_command a = record a { top = record a.top { disable_help_subcommand = true } }
 
+-- the grammar as it grows
+abbrev bare : App
+bare = without_help_command (without_help (new_app (codes "desk")))
+
+abbrev with_types : App
+with_types = with_subcommand bare type_form
+
+abbrev with_cards : App
+with_cards = with_subcommand with_types card_form
+
+abbrev with_checks : App
+with_checks = with_subcommand with_cards check_form
+
+abbrev with_lists : App
+with_lists = with_subcommand with_checks apply_form
+
+abbrev with_orders : App
+with_orders = with_subcommand with_lists send_form
+
 pub returns : goal.returns
 unfolding desk_grammar
 returns c =
-    let bare : App = without_help_command (without_help (new_app (codes "desk"))) in
     let desk_new : app_of c.disable_help_subcommand.result ≡ bare =
     ap app_of_fields c.disable_help_subcommand.ensures ∙ ap without_help_command (ap app_of_fields c.disable_help_flag.ensures ∙ ap without_help c.new.ensures.app) in
-    let with_types : app_of c.in_ok-subcommand.field-0 ≡ with_subcommand bare type_form =
+    let types : app_of c.in_ok-subcommand.field-0 ≡ with_types =
     c.in_ok-subcommand.ensures.shape c.in_ok-with_machine.ensures.local ∙ ap₂ with_subcommand desk_new (ap (λ (a : App). a.top) c.in_ok-with_machine.ensures.shape) in
-    let with_cards : app_of c.in_ok-subcommand-2.field-0 ≡ with_subcommand (with_subcommand bare type_form) card_form =
-    c.in_ok-subcommand-2.ensures.shape c.in_ok-with_day.ensures.local ∙ ap₂ with_subcommand with_types (ap (λ (a : App). a.top) c.in_ok-with_day.ensures.shape) in
-    let with_checks : app_of c.in_ok-subcommand-3.field-0 ≡ with_subcommand (with_subcommand (with_subcommand bare type_form) card_form) check_form =
-    c.in_ok-subcommand-3.ensures.shape c.in_ok-with_file.ensures.local ∙ ap₂ with_subcommand with_cards (ap (λ (a : App). a.top) c.in_ok-with_file.ensures.shape) in
-    let with_lists : app_of c.in_ok-subcommand-4.field-0 ≡ with_subcommand (with_subcommand (with_subcommand (with_subcommand bare type_form) card_form) check_form) apply_form =
-    c.in_ok-subcommand-4.ensures.shape c.in_ok-with_list.ensures.local ∙ ap₂ with_subcommand with_checks (ap (λ (a : App). a.top) c.in_ok-with_list.ensures.shape) in
-    IfOk-weaker c.subcommand-5.result _ _ (λ r adds. adds.shape c.in_ok-with_file-2.ensures.local
-    ∙ ap₂ with_subcommand with_lists (ap (λ (a : App). a.top) c.in_ok-with_file-2.ensures.shape)) c.subcommand-5.ensures
+    let cards : app_of c.in_ok-subcommand-2.field-0 ≡ with_cards =
+    c.in_ok-subcommand-2.ensures.shape c.in_ok-with_day.ensures.local ∙ ap₂ with_subcommand types (ap (λ (a : App). a.top) c.in_ok-with_day.ensures.shape) in
+    let checks : app_of c.in_ok-subcommand-3.field-0 ≡ with_checks =
+    c.in_ok-subcommand-3.ensures.shape c.in_ok-with_file.ensures.local ∙ ap₂ with_subcommand cards (ap (λ (a : App). a.top) c.in_ok-with_file.ensures.shape) in
+    let lists : app_of c.in_ok-subcommand-4.field-0 ≡ with_lists =
+    c.in_ok-subcommand-4.ensures.shape c.in_ok-with_list.ensures.local ∙ ap₂ with_subcommand checks (ap (λ (a : App). a.top) c.in_ok-with_list.ensures.shape) in
+    let orders : app_of c.in_ok-subcommand-5.field-0 ≡ with_orders =
+    c.in_ok-subcommand-5.ensures.shape c.in_ok-with_file-2.ensures.local ∙ ap₂ with_subcommand lists (ap (λ (a : App). a.top) c.in_ok-with_file-2.ensures.shape) in
+    IfOk-weaker c.subcommand-6.result _ _ (λ r adds. adds.shape c.in_ok-with_file-3.ensures.local
+    ∙ ap₂ with_subcommand orders (ap (λ (a : App). a.top) c.in_ok-with_file-3.ensures.shape)) c.subcommand-6.ensures

@@ -1,0 +1,15 @@
+use Rattle.std.proofs.Common.{refl, rules}
+use Rattle.kd_desk.specs.declared.stop.Stop.TheVariants.{Refused}
+use Rattle.kd_desk.specs.Desk.{receiving}
+use Rattle.kd_desk.proofs.Runs.{err_is, done_with}
+use Rattle.kd_desk.proofs.desk.receive_on.Goals as goal
+
+pub returns-in_err-run_receive-clause-carried : goal.returns-in_err-run_receive-clause-carried
+returns-in_err-run_receive-clause-carried g c =
+    done_with c.args.machine.now c.args.sheet.now _ _ _ _ c.from_residual-in_err-run_receive.result (err_is _ (Refused _) c.from_residual-in_err-run_receive.ensures.1)
+    (λ m s f. receiving m s c.args.day f) _ c.args.form.now _ (search rules) (search rules) (search rules) (λ source alone. (c.in_err-run_receive.ensures.receives, alone))
+
+pub returns-clause-carried : goal.returns-clause-carried
+returns-clause-carried g c =
+    done_with c.args.machine.now c.args.sheet.now _ _ _ _ _ refl (λ m s f. receiving m s c.args.day f) _ c.args.form.now _ (search rules) (search rules)
+    (search rules) (λ source alone. (c.in_ok-run_receive.ensures.receives, alone))
