@@ -19,6 +19,7 @@ holds_or_not false P tells = inr (λ p. let t : false ≡ true = tells.1 p in cc
 
 module _ (m : Parts) (s : Day) (due : List ℕ → Type 0) (faulty : FormFault → Type 0) (sink : Port) (answer : Result (Unit {0}) DeskFault)
     {T : Type 0} (items : T → List ℕ) where
+  -- a text that is due was made, or a fault is there; and the answer tells it
   abbrev IsMade : Result T FormFault → Type 0
   IsMade made = MatchResult made (λ text. due (items text)) (λ fault. (fault ≡ messages.NoMemory) ⊎ faulty fault)
 
@@ -30,8 +31,8 @@ module _ (m : Parts) (s : Day) (due : List ℕ → Type 0) (faulty : FormFault �
   on_the_key (Err fault) on (inl same) told = OutOfMemory (subst (λ f. answer ≡ Err (Message f)) same told)
   on_the_key (Err fault) on (inr is) told = Refused on fault is told
 
-  pub passes : (made : Result T FormFault) → IsReady m ⊎ ¬ (IsReady m) → OnKey m s ⊎ ¬ (OnKey m s) → IsOffKey m s made → (IsOnKey m s → IsMade made) → IsTold made
-      → Passes m s due faulty sink answer
+  pub passes : (made : Result T FormFault) → IsReady m ⊎ ¬ (IsReady m) → OnKey m s ⊎ ¬ (OnKey m s) → IsOffKey m s made
+      → (IsOnKey m s → IsMade made) → IsTold made → Passes m s due faulty sink answer
   passes made (inr unready) either off on told = Unready unready (subst IsTold (off.not_ready unready) told)
   passes made (inl ready) (inr other) off on told = OffKey ready other (subst IsTold (off.not_on_key ready other) told)
   passes made (inl ready) (inl key) off on told =

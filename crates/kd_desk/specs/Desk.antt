@@ -44,8 +44,9 @@ typing_of machine = with_bytes (content_of machine) (λ m. Ok (typing m))
 abbrev pub printing_of : Option (List ℕ) → Option (List ℕ) → ℕ → Result Run FileFault
 printing_of machine sheet day = with_bytes (content_of machine) (λ m. with_bytes (content_of sheet) (λ s. Ok (printing m s day)))
 
--- what is done with a third file, for them
-abbrev pub run_with : Option (List ℕ) → Option (List ℕ) → Option (List ℕ) → (List ℕ → List ℕ → List ℕ → Run) → Result Run FileFault
+-- what is done with a third file, for the machine of a file and a sheet
+abbrev pub run_with : Option (List ℕ) → Option (List ℕ) → Option (List ℕ) → (List ℕ → List ℕ → List ℕ → Run)
+    → Result Run FileFault
 run_with machine sheet file run =
     with_bytes (content_of machine) (λ m. with_bytes (content_of sheet) (λ s. with_bytes (content_of file) (λ f. Ok (run m s f))))
 
@@ -97,8 +98,10 @@ Does (printing machine sheet day) source sink answer = OnDay machine sheet day (
 Does (checking machine sheet day card) source sink answer =
     OnDay machine sheet day (λ m s. Checks m s day card sink answer) answer × IsLeftAlone source
 Does (applying machine list) source sink answer = AppliesTo machine list sink answer × IsLeftAlone source
-Does (sending machine sheet day order) source sink answer = OnDay machine sheet day (λ m s. Sends m s order sink answer) answer × IsLeftAlone source
-Does (receiving machine sheet day form) source sink answer = OnDay machine sheet day (λ m s. Receives m s form sink answer) answer × IsLeftAlone source
+Does (sending machine sheet day order) source sink answer =
+    OnDay machine sheet day (λ m s. Sends m s order sink answer) answer × IsLeftAlone source
+Does (receiving machine sheet day form) source sink answer =
+    OnDay machine sheet day (λ m s. Receives m s form sink answer) answer × IsLeftAlone source
 
 -- memory ran out, over the words or a file's bytes, or as a file was read
 abbrev pub LacksMemory : Result (Unit {0}) Stop → Type 0

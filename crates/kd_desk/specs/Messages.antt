@@ -20,16 +20,18 @@ pub record WritesText (text : List ℕ) (sink : Port) (answer : Result (Unit {0}
   pub written : Writes sink.had sink.has text answer
   pub device : OnErr answer (answer ≡ Err Device)
 
--- What becomes of a message of which such texts are due, and which is refused for such faults: memory ran out; the machine
--- isn't ready, or is, and not on the day's key; or it is on the key, and the message is refused, or a text that is due is
--- written.
-pub data Passes (m : Parts) (s : Day) (due : List ℕ → Type 0) (faulty : FormFault → Type 0) (sink : Port) (answer : Result (Unit {0}) DeskFault)
-    : Type 0 where
+-- What becomes of a message, for which such texts are due, and which has such faults: memory ran out; the machine isn't
+-- ready, or is, and not on the day's key; or it is on the key, and the message is refused, or a text that is due is written.
+pub data Passes (m : Parts) (s : Day) (due : List ℕ → Type 0) (faulty : FormFault → Type 0) (sink : Port)
+    (answer : Result (Unit {0}) DeskFault) : Type 0 where
   OutOfMemory : answer ≡ Err (Message messages.NoMemory) → Passes m s due faulty sink answer
   Unready : ¬ (IsReady m) → answer ≡ Err (Message messages.NotReady) → Passes m s due faulty sink answer
-  OffKey : IsReady m → ¬ (OnKey m s) → answer ≡ Err (Message messages.NotOnKey) → Passes m s due faulty sink answer
-  Refused : IsOnKey m s → (fault : FormFault) → faulty fault → answer ≡ Err (Message fault) → Passes m s due faulty sink answer
-  Passed : IsOnKey m s → (text : List ℕ) → due text → WritesText text sink answer → Passes m s due faulty sink answer
+  OffKey : IsReady m → ¬ (OnKey m s) → answer ≡ Err (Message messages.NotOnKey)
+      → Passes m s due faulty sink answer
+  Refused : IsOnKey m s → (fault : FormFault) → faulty fault → answer ≡ Err (Message fault)
+      → Passes m s due faulty sink answer
+  Passed : IsOnKey m s → (text : List ℕ) → due text → WritesText text sink answer
+      → Passes m s due faulty sink answer
 
 -- the form that the order becomes is written, or the order is refused
 abbrev pub Sends : Parts → Day → List ℕ → Port → Result (Unit {0}) DeskFault → Type 0

@@ -11,8 +11,8 @@ use kd_form::FormFault;
 use kd_state::{Machine, SheetDay};
 use kd_tables::{Sink, put_all};
 
-/// Tells the prover that the machine is ready or not, and on the day's key or not. What makes a text of a message tests it
-/// for itself.
+/// Tells the prover that the machine is ready or not, and on the day's key or not: the contracts of `send` and `receive`,
+/// which test it, say what follows of each, and not that one of them is so.
 pub fn tell_key(machine: &Machine, day: &SheetDay)
     ensures ready { IsReady machine.now ⊎ ¬ (IsReady machine.now) }
     ensures on_key { OnKey machine.now day.now ⊎ ¬ (OnKey machine.now day.now) }

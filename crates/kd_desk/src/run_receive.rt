@@ -47,7 +47,8 @@ fn receive_form<W: Sink>(
     form: &[u8],
     sink: &mut W,
 ) -> Result<(), DeskFault>
-    ensures receives { Receives machine.now day.now form.now (port W.taken W.has_failed sink.old sink.new) result }
+    ensures receives { Receives machine.now day.now form.now
+        (port W.taken W.has_failed sink.old sink.new) result }
     ensures untouched { IsTrue (is_refused_before result) → sink.new ≡ sink.old }
     ensures failed { W.has_failed sink.new ≡ (W.has_failed sink.old || is_device result) }
 {

@@ -47,7 +47,8 @@ fn send_order<W: Sink>(
     order: &[u8],
     sink: &mut W,
 ) -> Result<(), DeskFault>
-    ensures sends { Sends machine.now day.now order.now (port W.taken W.has_failed sink.old sink.new) result }
+    ensures sends { Sends machine.now day.now order.now
+        (port W.taken W.has_failed sink.old sink.new) result }
     ensures untouched { IsTrue (is_refused_before result) → sink.new ≡ sink.old }
     ensures failed { W.has_failed sink.new ≡ (W.has_failed sink.old || is_device result) }
 {
