@@ -1,15 +1,12 @@
--- What becomes of a message, on a machine and a day of a sheet: of an order that is sent, or of a form
--- that is received.
+-- What becomes of a message, on a machine and a day of a sheet: of an order that is sent, or of a form that is received.
 use Rattle.std.specs.Prelude.{◌≡◌, ℕ, List, Result, Err, OnErr}
 use Rattle.kd_tables.specs.Writing.{Writes}
 use Rattle.kd_state.specs.declared.parts.Parts.{Parts}
 use Rattle.kd_state.specs.SheetDay.{Day}
-use Rattle.kd_state.specs.OnKey.{OnKey}
-use Rattle.kd_state.specs.TwoCiphers.{IsReady}
 use Rattle.kd_form.specs.declared.fault.FormFault.{FormFault}
-use Rattle.kd_form.specs.declared.fault.FormFault.TheVariants as messages
+use Rattle.kd_form.specs.declared.fault.FormFault.TheVariants.{NoMemory}
 use Rattle.kd_form.specs.FormText.{IsTextOf, IsReceiveFault}
-use Rattle.kd_form.specs.OnTheKey.{IsOnKey}
+use Rattle.kd_form.specs.OnTheKey.{IsOnKey, IsKeyFault}
 use Rattle.kd_form.specs.Sending.{IsFormOf, IsSendFault}
 use Rattle.kd_desk.specs.declared.fault.DeskFault.{DeskFault}
 use Rattle.kd_desk.specs.declared.fault.DeskFault.TheVariants.{Message, Device}
@@ -21,17 +18,13 @@ pub record WritesText (text : List ℕ) (sink : Port) (answer : Result (Unit {0}
   pub device : OnErr answer (answer ≡ Err Device)
 
 -- What becomes of a message, for which such texts are due, and which has such faults: memory ran out; the machine isn't
--- ready, or is, and not on the day's key; or it is on the key, and the message is refused, or a text that is due is written.
-pub data Passes (m : Parts) (s : Day) (due : List ℕ → Type 0) (faulty : FormFault → Type 0) (sink : Port)
+-- ready, or isn't on the day's key; or it is on the key, and the message is refused, or a text that is due is written.
+pub data Passes (m : Parts) (s : Day) (is_due : List ℕ → Type 0) (is_fault : FormFault → Type 0) (sink : Port)
     (answer : Result (Unit {0}) DeskFault) : Type 0 where
-  OutOfMemory : answer ≡ Err (Message messages.NoMemory) → Passes m s due faulty sink answer
-  Unready : ¬ (IsReady m) → answer ≡ Err (Message messages.NotReady) → Passes m s due faulty sink answer
-  OffKey : IsReady m → ¬ (OnKey m s) → answer ≡ Err (Message messages.NotOnKey)
-      → Passes m s due faulty sink answer
-  Refused : IsOnKey m s → (fault : FormFault) → faulty fault → answer ≡ Err (Message fault)
-      → Passes m s due faulty sink answer
-  Passed : IsOnKey m s → (text : List ℕ) → due text → WritesText text sink answer
-      → Passes m s due faulty sink answer
+  OutOfMemory : answer ≡ Err (Message NoMemory) → Passes m s is_due is_fault sink answer
+  OffKey : (fault : FormFault) → IsKeyFault m s fault → answer ≡ Err (Message fault) → Passes m s is_due is_fault sink answer
+  Refused : IsOnKey m s → (fault : FormFault) → is_fault fault → answer ≡ Err (Message fault) → Passes m s is_due is_fault sink answer
+  Passed : IsOnKey m s → (text : List ℕ) → is_due text → WritesText text sink answer → Passes m s is_due is_fault sink answer
 
 -- the form that the order becomes is written, or the order is refused
 abbrev pub Sends : Parts → Day → List ℕ → Port → Result (Unit {0}) DeskFault → Type 0

@@ -1,25 +1,12 @@
 //! What orders and forms have in common.
-ghost use Rattle.std.specs.Prelude.{◌≡◌, ◌⊎◌, ◌||◌, Err, MatchResult, IsTrue};
-ghost use Rattle.kd_state.specs.OnKey.{OnKey};
-ghost use Rattle.kd_state.specs.TwoCiphers.{IsReady};
+ghost use Rattle.std.specs.Prelude.{◌≡◌, ◌||◌, Err, MatchResult, IsTrue};
 ghost use Rattle.kd_desk.specs.Messages.{WritesText};
 ghost use Rattle.kd_desk.specs.Ports.{port};
 ghost use Rattle.kd_desk.specs.RunSteps.{is_refused_before, is_device};
 
 use crate::fault::DeskFault;
 use kd_form::FormFault;
-use kd_state::{Machine, SheetDay};
 use kd_tables::{Sink, put_all};
-
-/// Tells the prover that the machine is ready or not, and on the day's key or not: the contracts of `send` and `receive`,
-/// which test it, say what follows of each, and not that one of them is so.
-pub fn tell_key(machine: &Machine, day: &SheetDay)
-    ensures ready { IsReady machine.now ⊎ ¬ (IsReady machine.now) }
-    ensures on_key { OnKey machine.now day.now ⊎ ¬ (OnKey machine.now day.now) }
-{
-    let _ready = machine.engine().is_ok();
-    let _on_key = machine.on_key(day);
-}
 
 /// Writes the text that was made of a message, or tells why there is none.
 pub fn write_made<W: Sink>(made: Result<Vec<u8>, FormFault>, sink: &mut W) -> Result<(), DeskFault>

@@ -8,7 +8,7 @@ ghost use Rattle.kd_desk.specs.RunSteps.{is_refused_before, is_device};
 mod tests;
 
 use crate::fault::DeskFault;
-use crate::messages::{tell_key, write_made};
+use crate::messages::write_made;
 use kd_form::receive;
 use kd_sheet::{read_machine, read_sheet};
 use kd_state::{Machine, SheetDay};
@@ -52,6 +52,5 @@ fn receive_form<W: Sink>(
     ensures untouched { IsTrue (is_refused_before result) → sink.new ≡ sink.old }
     ensures failed { W.has_failed sink.new ≡ (W.has_failed sink.old || is_device result) }
 {
-    tell_key(machine, day);
     write_made(receive(alloc, machine, day, form), sink)
 }
