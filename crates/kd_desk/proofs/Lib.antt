@@ -11,3 +11,4 @@ mod Days
 mod Printing
 mod Checking
 mod Passing
+mod Receiving

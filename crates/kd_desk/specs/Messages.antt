@@ -5,7 +5,7 @@ use Rattle.kd_state.specs.declared.parts.Parts.{Parts}
 use Rattle.kd_state.specs.SheetDay.{Day}
 use Rattle.kd_form.specs.declared.fault.FormFault.{FormFault}
 use Rattle.kd_form.specs.declared.fault.FormFault.TheVariants.{NoMemory}
-use Rattle.kd_form.specs.FormText.{IsTextOf, IsReceiveFault}
+use Rattle.kd_form.specs.FormText.{IsTextOf, IsReceiveFault, IsGivenOf}
 use Rattle.kd_form.specs.OnTheKey.{IsOnKey, IsKeyFault}
 use Rattle.kd_form.specs.Sending.{IsFormOf, IsSendFault}
 use Rattle.kd_desk.specs.declared.fault.DeskFault.{DeskFault}
@@ -30,6 +30,20 @@ pub data Passes (m : Parts) (s : Day) (is_due : List ℕ → Type 0) (is_fault :
 abbrev pub Sends : Parts → Day → List ℕ → Port → Result (Unit {0}) DeskFault → Type 0
 Sends m s order = Passes m s (IsFormOf s order) (IsSendFault s order)
 
+-- it is the text that any order gives that has become this form
+abbrev pub GivesBack : Day → List ℕ → List ℕ → Type 0
+GivesBack s form text = (order given : List ℕ) → IsFormOf s order form → IsGivenOf s order given → text ≡ given
+
+-- what a form that is received becomes
+pub record IsReceived (s : Day) (form text : List ℕ) : Type 0 where
+  pub is_text : IsTextOf s form text
+  pub back : GivesBack s form text
+
+-- the form has this fault, and no order has become it
+pub record IsGarbled (s : Day) (form : List ℕ) (fault : FormFault) : Type 0 where
+  pub is_fault : IsReceiveFault s form fault
+  pub of_no_order : (order : List ℕ) → ¬ (IsFormOf s order form)
+
 -- the text that the form becomes is written, or the form is refused
 abbrev pub Receives : Parts → Day → List ℕ → Port → Result (Unit {0}) DeskFault → Type 0
-Receives m s form = Passes m s (IsTextOf s form) (IsReceiveFault s form)
+Receives m s form = Passes m s (IsReceived s form) (IsGarbled s form)

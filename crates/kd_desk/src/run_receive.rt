@@ -9,7 +9,7 @@ mod tests;
 
 use crate::fault::DeskFault;
 use crate::messages::write_made;
-use kd_form::receive;
+use kd_form::{laws, receive};
 use kd_sheet::{read_machine, read_sheet};
 use kd_state::{Machine, SheetDay};
 use kd_tables::Sink;
@@ -52,5 +52,8 @@ fn receive_form<W: Sink>(
     ensures untouched { IsTrue (is_refused_before result) → sink.new ≡ sink.old }
     ensures failed { W.has_failed sink.new ≡ (W.has_failed sink.old || is_device result) }
 {
+    let _legal_day = day.model();
+    laws::forms_have_one_answer();
+    laws::forms_give_their_orders();
     write_made(receive(alloc, machine, day, form), sink)
 }
