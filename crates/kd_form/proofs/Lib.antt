@@ -22,6 +22,7 @@ pub mod Headings
 pub mod FirstLines
 pub mod ReadParts
 pub mod Received
+pub mod Told
 pub mod Answered
 pub mod BodyTexts
 pub mod PartTexts

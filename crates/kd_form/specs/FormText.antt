@@ -19,7 +19,8 @@ AreFirstParts (part ∷ parts) bytes rest = (after : List ℕ) × IsFirstOf byte
 abbrev pub ArePartsRead : Day → ℕ → ℕ → List (List ℕ) → List ℕ → Type 0
 ArePartsRead s number count [] letters = letters ≡ []
 ArePartsRead s number count (part ∷ parts) letters =
-    (one more : List ℕ) × IsPartRead s number count part one × ArePartsRead s (number + 1) count parts more × (letters ≡ one ++ more)
+    (one more : List ℕ) × IsPartRead s number count part one × ArePartsRead s (number + 1) count parts more
+    × (letters ≡ one ++ more)
 
 -- the form begins with these parts, which are read as the first of so many, and this follows them
 pub record IsReadTo (s : Day) (form rest : List ℕ) (parts : List (List ℕ)) (count : ℕ) (letters : List ℕ) : Type 0 where
@@ -59,11 +60,12 @@ count_due (part ∷ parts) count = Some count
 -- The first of the reasons: a part is refused, and those before it are read; or all parts are read, and are fewer than their
 -- headings say. Where the form is empty, its first part is.
 pub data IsReceiveFault (s : Day) (form : List ℕ) (fault : FormFault) : Type 0 where
-  InPart : (before : List (List ℕ)) (count : ℕ) (letters rest part after : List ℕ) → IsReadTo s form rest before count letters
-      → (before ≡ []) ⊎ (rest ≢ []) → IsFirstOf rest part after
-      → IsPartFault s (length before + 1) (count_due before count) (length form - length rest) part fault → IsReceiveFault s form fault
-  AtEnd : (parts : List (List ℕ)) (count : ℕ) (letters : List ℕ) → parts ≢ [] → IsReadTo s form [] parts count letters
-      → length parts < count → fault ≡ PartOrder → IsReceiveFault s form fault
+  InPart : (before : List (List ℕ)) (count : ℕ) (letters rest part after : List ℕ)
+      → IsReadTo s form rest before count letters → (before ≡ []) ⊎ (rest ≢ []) → IsFirstOf rest part after
+      → IsPartFault s (length before + 1) (count_due before count) (length form - length rest) part fault
+      → IsReceiveFault s form fault
+  AtEnd : (parts : List (List ℕ)) (count : ℕ) (letters : List ℕ) → parts ≢ []
+      → IsReadTo s form [] parts count letters → length parts < count → fault ≡ PartOrder → IsReceiveFault s form fault
 
 -- ---- the text of an order
 

@@ -23,23 +23,30 @@ OrderIsAnswered s order = ((form : List ℕ) × IsFormOf s order form) ⊎ ((fau
 
 -- a form becomes one text at most
 abbrev pub FormsBecomeOneText : Type 0
-FormsBecomeOneText = (s : Day) (form text other : List ℕ) → IsTextOf s form text → IsTextOf s form other → text ≡ other
+FormsBecomeOneText =
+    (s : Day) (form text other : List ℕ) → IsTextOf s form text → IsTextOf s form other → text ≡ other
 
 -- a form that becomes a text has no fault
 abbrev pub ReceivedFormsHaveNoFault : Type 0
-ReceivedFormsHaveNoFault = (s : Day) (form text : List ℕ) (fault : FormFault) → IsTextOf s form text → ¬ (IsReceiveFault s form fault)
+ReceivedFormsHaveNoFault =
+    (s : Day) (form text : List ℕ) (fault : FormFault) → IsTextOf s form text → ¬ (IsReceiveFault s form fault)
 
 -- and a form has one fault at most
 abbrev pub FormsHaveOneFault : Type 0
-FormsHaveOneFault = (s : Day) (form : List ℕ) (fault other : FormFault) → IsReceiveFault s form fault → IsReceiveFault s form other → fault ≡ other
+FormsHaveOneFault =
+    (s : Day) (form : List ℕ) (fault other : FormFault) → IsReceiveFault s form fault → IsReceiveFault s form other
+    → fault ≡ other
 
 -- and each form has an answer
 abbrev pub FormIsAnswered : Day → List ℕ → Type 0
 FormIsAnswered s form = ((text : List ℕ) × IsTextOf s form text) ⊎ ((fault : FormFault) × IsReceiveFault s form fault)
 
--- the form that an order becomes, becomes the letters that the order gives; it gives some, and so no others
-abbrev pub FormsGiveTheirOrders : Type 0
-FormsGiveTheirOrders = (s : Day) (order form given : List ℕ) → IsLegalDay s → IsFormOf s order form → IsGivenOf s order given → IsTextOf s form given
-
+-- an order that becomes a form gives letters
 abbrev pub OrdersGiveLetters : Type 0
 OrdersGiveLetters = (s : Day) (order form : List ℕ) → IsFormOf s order form → (given : List ℕ) × IsGivenOf s order given
+
+-- and the form becomes the letters that the order gives
+abbrev pub FormsGiveTheirOrders : Type 0
+FormsGiveTheirOrders =
+    (s : Day) (order form given : List ℕ) → IsLegalDay s → IsFormOf s order form → IsGivenOf s order given
+    → IsTextOf s form given

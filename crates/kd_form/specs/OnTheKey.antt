@@ -17,6 +17,8 @@ IsKeyFault m s fault = (¬ (IsReady m) × (fault ≡ NotReady)) ⊎ (IsReady m �
 
 -- A machine that isn't ready and on the key is refused for that. With one that is, the answer is as due, or a fault that is
 -- there, or memory ran out.
-pub data AnswersOnKey {X : Type 0} (m : Parts) (s : Day) (is_due : X → Type 0) (is_fault : FormFault → Type 0) (answer : Result X FormFault) : Type 0 where
+pub data AnswersOnKey {X : Type 0} (m : Parts) (s : Day) (is_due : X → Type 0) (is_fault : FormFault → Type 0)
+    (answer : Result X FormFault) : Type 0 where
   OffKey : (fault : FormFault) → IsKeyFault m s fault → answer ≡ Err fault → AnswersOnKey m s is_due is_fault answer
-  WithKey : IsOnKey m s → MatchResult answer is_due (λ fault. (fault ≡ NoMemory) ⊎ is_fault fault) → AnswersOnKey m s is_due is_fault answer
+  WithKey : IsOnKey m s → MatchResult answer is_due (λ fault. (fault ≡ NoMemory) ⊎ is_fault fault)
+      → AnswersOnKey m s is_due is_fault answer

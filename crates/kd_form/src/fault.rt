@@ -1,3 +1,4 @@
+use std::alloc::AllocError;
 use thiserror::Error;
 
 /// Why an order becomes no form, or a form no text. Positions are counted in bytes from 1, and parts from 1.
@@ -42,4 +43,15 @@ pub enum FormFault {
     /// The parts aren't numbered in order, say different numbers of parts, or one is missing.
     #[error("37 PartOrder")]
     PartOrder,
+}
+
+impl From<AllocError> for FormFault {
+    ghost use Rattle.std.specs.Prelude.{◌≡◌};
+    ghost use Rattle.kd_form.specs.declared.fault.FormFault.TheVariants as faults;
+
+    ghost from_gives = { λ _ fault. fault ≡ faults.NoMemory };
+
+    fn from(_: AllocError) -> FormFault {
+        FormFault::NoMemory
+    }
 }

@@ -63,7 +63,8 @@ pub fn forms_have_an_answer(day: &SheetDay, form: &[u8])
     }
 }
 
-/// The form that an order becomes, becomes the order's letters.
+/// An order that becomes a form gives letters, and its form becomes these: on the Converter M-209 with the X that fill the last
+/// group, and with a space for each Z.
 pub fn forms_give_their_orders()
     ensures letters { OrdersGiveLetters }
     ensures back { FormsGiveTheirOrders }

@@ -1,5 +1,5 @@
 //! Patterns of lines: `_` stands for a letter, and each other byte for itself.
-ghost use Rattle.std.specs.Prelude.{◌≡◌, ◌≤◌, ◌<◌, ◌++◌, length, MatchResult};
+ghost use Rattle.std.specs.Prelude.{◌≡◌, ◌≤◌, ◌<◌, ◌++◌, MatchResult};
 ghost use Rattle.std.specs.Bool.{OnTrue, OnFalse};
 ghost use Rattle.arrayvec.specs.ArrayVec.{array_vec_len};
 ghost use Rattle.kd_form.specs.Patterns.{blanks, fits, letters_at, BeginsWithPattern, IsPatternLine, LineBreaksOff};

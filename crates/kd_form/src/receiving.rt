@@ -13,7 +13,12 @@ use kd_state::{Machine, SheetDay};
 use kd_tables::Letter;
 use std::alloc::Global;
 
-/// The text that the form becomes on a machine that is on the day's key.
+/// The text that the form becomes on a machine that is on the day's key: capital letters, on the Converter M-209 with a space
+/// for each Z, and LF.
+///
+/// `NotReady` and `NotOnKey` come first, and then the form's first fault, part after part: `BadHeading`, `PartOrder`,
+/// `BadByte`, `CountWrong`, and what is wrong with its letters; at the end `PartOrder` again. `NoMemory` is told as soon as
+/// there is none.
 pub fn receive(
     alloc: Global,
     machine: &Machine,
@@ -24,10 +29,7 @@ pub fn receive(
         (λ text. IsTextOf day.now form.now text.items)
         (IsReceiveFault day.now form.now) result }
 {
-    match check_machine(machine, day) {
-        Ok(()) => {}
-        Err(fault) => return Err(fault),
-    }
+    check_machine(machine, day)?;
     read_form_text(alloc, day, form)
 }
 
@@ -61,10 +63,8 @@ fn read_form_text(alloc: Global, day: &SheetDay, form: &[u8]) -> Result<Vec<u8>,
         number += 1;
         rest = after;
     }
-    match text.push(b'\n') {
-        Ok(()) => Ok(text),
-        Err(_) => Err(FormFault::NoMemory),
-    }
+    text.extend_from_slice(b"\n")?;
+    Ok(text)
 }
 
 /// The letters as they are given: on the Converter M-209 a space for each Z.

@@ -1,5 +1,5 @@
 //! The form that an order becomes.
-ghost use Rattle.std.specs.Prelude.{◌≡◌, ◌⊎◌, ◌↔◌, ◌≤◌, length, All, IsOk, IfOk, MatchResult};
+ghost use Rattle.std.specs.Prelude.{◌≡◌, ◌≤◌, length, All, IfOk, MatchResult};
 ghost use Rattle.kd_form.specs.Keys.{AreKeys};
 ghost use Rattle.kd_form.specs.Part.{pieces};
 ghost use Rattle.kd_form.specs.Making.{Suits, part_size};
@@ -17,6 +17,9 @@ use kd_state::{Machine, SheetDay};
 use std::alloc::{AllocError, Global};
 
 /// The form that the order becomes on a machine that is on the day's key.
+///
+/// `NotReady` and `NotOnKey` come first, and then the order's first fault: in the lines up to its text, in the keys of a part,
+/// in the bytes of the text, `EmptyText`, `PartKeys`. `NoMemory` is told of an order that can be sent.
 pub fn send(
     alloc: Global,
     machine: &Machine,
@@ -27,18 +30,10 @@ pub fn send(
         (λ form. IsFormOf day.now order.now form.items)
         (IsSendFault day.now order.now) result }
 {
-    match check_machine(machine, day) {
-        Ok(()) => {}
-        Err(fault) => return Err(fault),
-    }
-    let (keys, text) = match read_order(day, order) {
-        Ok(found) => found,
-        Err(fault) => return Err(fault),
-    };
-    match write_parts(alloc, day, keys.as_slice(), text) {
-        Ok(form) => Ok(form),
-        Err(_) => Err(FormFault::NoMemory),
-    }
+    check_machine(machine, day)?;
+    let (keys, text) = read_order(day, order)?;
+    let form = write_parts(alloc, day, keys.as_slice(), text)?;
+    Ok(form)
 }
 
 /// The keys and the text of an order that can be sent.

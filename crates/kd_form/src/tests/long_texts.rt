@@ -78,6 +78,21 @@ fn a_form_of_99_parts(rt: HostRuntime) -> Result<(), Fail> {
 }
 
 #[test]
+fn parts_that_are_full(rt: HostRuntime) -> Result<(), Fail> {
+    for (keyed, keys, letters, heading) in [
+        (keyed(&rt), KEYS, 245, b"PART 1/1 250 AAA BDZ\n".as_slice()),
+        (without_pins(&rt), PIN_KEYS, 500, b"PART 1/1 520\n"),
+    ] {
+        let form = form_of(&rt, &keyed, keys, 1, letters)?;
+        assert!(rt; form.as_slice().starts_with(heading));
+        let (machine, day) = &keyed;
+        let text = receive(rt.alloc(), machine, day, form.as_slice())?;
+        assert!(rt; is_given(text.as_slice(), letters, b"\n"));
+    }
+    Ok(())
+}
+
+#[test]
 fn another_number_of_parts(rt: HostRuntime) -> Result<(), Fail> {
     let (machine, day) = keyed(&rt);
     for (lines, letters, due) in [
@@ -107,8 +122,6 @@ fn long_texts_on_the_converter(rt: HostRuntime) -> Result<(), Fail> {
     let (machine, day) = &keyed;
     let text = receive(rt.alloc(), machine, day, form.as_slice())?;
     assert!(rt; is_given(text.as_slice(), 501, b"XXXX\n"));
-    let order = order_of(&rt, PIN_KEYS, 1, 500)?;
-    assert!(rt; send(rt.alloc(), machine, day, order.as_slice()).is_ok());
     let order = order_of(&rt, PIN_KEYS, 1, 501)?;
     let fault = send(rt.alloc(), machine, day, order.as_slice()).err();
     let due = FormFault::PartKeys {

@@ -1,8 +1,10 @@
-use super::samples::{Keyed, keyed, m1, m4, message_of_1941, s1, with_one_pin, without_pins};
+use super::samples::{
+    Keyed, keyed, m1, m4, m4_of_1942, message_of_1941, s1, unready, with_one_pin, without_pins,
+};
 use crate::{FormFault, receive};
 use std::test::Fail;
 
-/// A message of 1941 up to `ZRCXN`; what follows is made up, in as many letters.
+/// A message of 1941.
 const MESSAGE: &[u8] = b"PART 1/1 179 WXC KCH\n\
     RFUGZ EDPUD NRGYS ZRCXN UYTPO MRMBO FKTBZ REZKM LXLVE FGUEY\n\
     SIOZV EQMIK UBPMM YLKLT TDEIS MDICA GYKUA CTCDO MOHWX MUUIA\n\
@@ -62,6 +64,14 @@ fn a_message_of_1941(rt: HostRuntime) -> Result<(), Fail> {
         fault(&rt, &other, MESSAGE),
         Some(FormFault::WrongGroup { part: 1 })
     );
+    Ok(())
+}
+
+#[test]
+fn a_message_of_1942(rt: HostRuntime) -> Result<(), Fail> {
+    let form = b"PART 1/1 13 VJNA NGZS\nQXUGZ NCZWV USX\n";
+    let given = text(&rt, &m4_of_1942(&rt), form)?;
+    assert_eq!(rt; given.as_slice(), b"VONVONJL\n".as_slice());
     Ok(())
 }
 
@@ -137,6 +147,17 @@ fn forms_of_the_converter_are_refused_in_turn(rt: HostRuntime) {
 }
 
 #[test]
+fn letters_of_the_list_are_exchanged(rt: HostRuntime) {
+    let keyed = with_one_pin(&rt);
+    let form = b"PART 1/1 25\nJJVAA AAAQV ZZZZZ JJVAA AAAQW\n";
+    let due = FormFault::IndicatorsDiffer { part: 1 };
+    assert_eq!(rt; fault(&rt, &keyed, form), Some(due));
+    let form = b"PART 1/1 25\nJJVAA AAAQW ZZZZZ JJVAA AAAQW\n";
+    let due = FormFault::WrongGroup { part: 1 };
+    assert_eq!(rt; fault(&rt, &keyed, form), Some(due));
+}
+
+#[test]
 fn forms_are_refused_in_turn(rt: HostRuntime) {
     let keyed = keyed(&rt);
     let heading = |part| FormFault::BadHeading { part };
@@ -205,4 +226,6 @@ fn forms_are_refused_in_turn(rt: HostRuntime) {
 fn a_machine_off_the_key_receives_nothing(rt: HostRuntime) {
     let keyed = (m1(&rt, b"BAAAA", b"AAAAA"), s1(&rt, b"ZUG"));
     assert_eq!(rt; fault(&rt, &keyed, b""), Some(FormFault::NotOnKey));
+    let keyed = (unready(&rt), s1(&rt, b"ZUG"));
+    assert_eq!(rt; fault(&rt, &keyed, b""), Some(FormFault::NotReady));
 }

@@ -40,15 +40,45 @@ pub fn per_wheel<const N: usize>(rt: &impl Abort, text: &[u8; N]) -> PerWheel<Le
 /// A machine with its day.
 pub type Keyed = (Machine, SheetDay);
 
-/// An Enigma I with reflector B, the wheels I, II and III in the slots, no cables, and all rings A, which shows these letters.
+/// An Enigma I with reflector B, the wheels I, II and III in the slots, and no cables, with these rings and letters.
 pub fn m1(rt: &impl Abort, rings: &[u8; 5], shown: &[u8; 5]) -> Machine {
+    enigma_i(
+        rt,
+        &[Wheel::I, Wheel::II, Wheel::III],
+        rings,
+        shown,
+        [(None, None); 13],
+    )
+}
+
+/// The same machine with one end of a cable plugged.
+pub fn unready(rt: &impl Abort) -> Machine {
+    let mut cables = [(None, None); 13];
+    cables[0] = (Some(Letter::A), None);
+    enigma_i(
+        rt,
+        &[Wheel::I, Wheel::II, Wheel::III],
+        b"AAAAA",
+        b"AAAAA",
+        cables,
+    )
+}
+
+/// An Enigma I with reflector B.
+fn enigma_i(
+    rt: &impl Abort,
+    wheels: &[Wheel; 3],
+    rings: &[u8; 5],
+    shown: &[u8; 5],
+    cables: [(Option<Letter>, Option<Letter>); 13],
+) -> Machine {
     let parts = RotorParts {
         model: Model::EnigmaI,
-        slots: slots(rt, &[Wheel::I, Wheel::II, Wheel::III]),
+        slots: slots(rt, wheels),
         reflector: Reflector::B,
         rings: per_wheel(rt, rings),
         letters: per_wheel(rt, shown),
-        cables: [(None, None); 13],
+        cables,
     };
     Machine::rotor(parts).expect(rt, "legal parts")
 }
@@ -152,44 +182,87 @@ fn converter(rt: &impl Abort, pins: PinSet, bar: Standing, row: (u8, u8)) -> Key
     )
 }
 
-/// The ten cables of a message of 1941.
-const CABLES: [[u8; 2]; 10] = [
-    *b"AV", *b"BS", *b"CG", *b"DL", *b"FU", *b"HZ", *b"IN", *b"KM", *b"OW", *b"RX",
-];
-
-/// An Enigma I on the key of a message of 1941, with its day, which has one group.
-pub fn message_of_1941(rt: &impl Abort, group: &[u8; 3]) -> Keyed {
+/// Ten cables of two letters each, and the pairs that they exchange.
+fn plugged(
+    rt: &impl Abort,
+    text: &[[u8; 2]; 10],
+) -> (
+    [(Option<Letter>, Option<Letter>); 13],
+    [(Letter, Letter); 10],
+) {
     let mut cables = [(None, None); 13];
     let mut pairs = [(Letter::A, Letter::A); 10];
-    for (place, [one, other]) in CABLES.iter().enumerate() {
+    for ((cable, pair), [one, other]) in cables.iter_mut().zip(pairs.iter_mut()).zip(text) {
         let (one, other) = (letter(rt, *one), letter(rt, *other));
-        cables[place] = (Some(one), Some(other));
-        pairs[place] = (one, other);
+        *cable = (Some(one), Some(other));
+        *pair = (one, other);
     }
-    let parts = RotorParts {
-        model: Model::EnigmaI,
-        slots: slots(rt, &[Wheel::II, Wheel::IV, Wheel::V]),
-        reflector: Reflector::B,
-        rings: per_wheel(rt, b"ABAUL"),
-        letters: per_wheel(rt, b"ABALA"),
-        cables,
-    };
-    let wheel = |wheel, ring, window| SheetWheel {
+    (cables, pairs)
+}
+
+/// A wheel of a sheet with this ring and this letter.
+fn wheel_with(rt: &impl Abort, wheel: Wheel, ring: u8, window: u8) -> SheetWheel {
+    SheetWheel {
         wheel,
         ring: letter(rt, ring),
         letter: letter(rt, window),
-    };
+    }
+}
+
+/// An Enigma I on the key of a message of 1941, with its day, which has one group.
+pub fn message_of_1941(rt: &impl Abort, group: &[u8; 3]) -> Keyed {
+    let plugs = [
+        *b"AV", *b"BS", *b"CG", *b"DL", *b"FU", *b"HZ", *b"IN", *b"KM", *b"OW", *b"RX",
+    ];
+    let (cables, pairs) = plugged(rt, &plugs);
+    let machine = enigma_i(
+        rt,
+        &[Wheel::II, Wheel::IV, Wheel::V],
+        b"ABAUL",
+        b"ABALA",
+        cables,
+    );
     let day = SheetDay::rotor(
         14,
         Model::EnigmaI,
         Reflector::B,
         &[
-            wheel(Wheel::II, b'B', b'B'),
-            wheel(Wheel::IV, b'U', b'L'),
-            wheel(Wheel::V, b'L', b'A'),
+            wheel_with(rt, Wheel::II, b'B', b'B'),
+            wheel_with(rt, Wheel::IV, b'U', b'L'),
+            wheel_with(rt, Wheel::V, b'L', b'A'),
         ],
         &pairs,
         &[letters(rt, group)],
+    );
+    (machine, day.expect(rt, "a day of a sheet"))
+}
+
+/// An M4 on the key of a message of 1942, with its day, which has the group UGZ.
+pub fn m4_of_1942(rt: &impl Abort) -> Keyed {
+    let plugs = [
+        *b"AT", *b"BL", *b"DF", *b"GJ", *b"HM", *b"NW", *b"OP", *b"QY", *b"RZ", *b"VX",
+    ];
+    let (cables, pairs) = plugged(rt, &plugs);
+    let parts = RotorParts {
+        model: Model::M4,
+        slots: slots(rt, &[Wheel::Beta, Wheel::II, Wheel::IV, Wheel::I]),
+        reflector: Reflector::ThinB,
+        rings: per_wheel(rt, b"VAAAAAAAAA"),
+        letters: per_wheel(rt, b"AJANAAAAVA"),
+        cables,
+    };
+    let day = SheetDay::rotor(
+        5,
+        Model::M4,
+        Reflector::ThinB,
+        &[
+            wheel_with(rt, Wheel::Beta, b'A', b'V'),
+            wheel_with(rt, Wheel::II, b'A', b'J'),
+            wheel_with(rt, Wheel::IV, b'A', b'N'),
+            wheel_with(rt, Wheel::I, b'V', b'A'),
+        ],
+        &pairs,
+        &[letters(rt, b"UGZ")],
     );
     (
         Machine::rotor(parts).expect(rt, "legal parts"),

@@ -1,4 +1,6 @@
-use super::samples::{KEYS, Keyed, keyed, m1, m4, order_of, s1, with_one_pin, without_pins};
+use super::samples::{
+    KEYS, Keyed, keyed, m1, m4, order_of, s1, unready, with_one_pin, without_pins,
+};
 use crate::{FormFault, send};
 use std::process::Abort;
 use std::test::Fail;
@@ -77,6 +79,10 @@ fn orders_are_refused_in_turn(rt: HostRuntime) -> Result<(), Fail> {
             b"PART AAA AAA QX ABC\nTEXT\n!",
             Some(FormFault::WrongGroup { part: 1 }),
         ),
+        (
+            b"PART AAA AAA QX GUZ\nPART AAA AAA QX ABC\nTEXT\n!",
+            Some(FormFault::WrongGroup { part: 2 }),
+        ),
         (b"PART AAA AAA QX GUZ\nTEXT\nA a", bad(28)),
         (
             b"PART AAA AAA QX GUZ\nTEXT\n \n",
@@ -107,6 +113,11 @@ fn orders_of_the_converter_are_refused_in_turn(rt: HostRuntime) {
             b"PART A ABCDEF\nTEXT\nA".as_slice(),
             Some(FormFault::IndicatorSpent { part: 1 }),
         ),
+        (
+            b"PART T ABCDEF\nPART A ABCDEF\nTEXT\n!",
+            Some(FormFault::IndicatorSpent { part: 2 }),
+        ),
+        (b"PART A ABCDEZ\nTEXT\nA", Some(FormFault::KeyNotOnWheel)),
         (b"PART T ABCDEZ\nTEXT\nA", Some(FormFault::KeyNotOnWheel)),
         (b"PART T ABCDEF\nTEXT\n \n ", None),
         (b"PART T ABCDEF\nTEXT\n", Some(FormFault::EmptyText)),
@@ -120,4 +131,6 @@ fn a_machine_off_the_key_sends_nothing(rt: HostRuntime) {
     let day = s1(&rt, b"ZUG");
     let machine = m1(&rt, b"BAAAA", b"AAAAA");
     assert_eq!(rt; fault(&rt, &(machine, day), b""), Some(FormFault::NotOnKey));
+    let keyed = (unready(&rt), s1(&rt, b"ZUG"));
+    assert_eq!(rt; fault(&rt, &keyed, b""), Some(FormFault::NotReady));
 }

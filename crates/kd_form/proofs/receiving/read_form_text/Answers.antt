@@ -24,12 +24,12 @@ loop-read-preserved c =
     receiving_more c.args.day.now c.args.form.now c.loop-read.text.items c.extend_from_slice.new.self.items c.loop-read.rest.now c.split_part.result.0.now
     c.split_part.result.1.now c.in-Ok.read.letters.items c.loop-read.number c.in-Ok.read.parts c.loop-read.expected c.loop-read.invariant c.split_part.ensures c.in-Ok.ensures.0 c.in-Ok.ensures.1 some put
 
-pub returns-in-Ok-push : goal.returns-in-Ok-push
-returns-in-Ok-push c =
+pub returns : goal.returns
+returns c =
     let none : c.split_part.result.1.now ≡ [] = search rules in
     let same : c.in-Ok.read.parts ≡ c.loop-read.number = search rules in
     let put : c.extend_from_slice.new.self.items ≡ c.loop-read.text.items ++ given_letters c.args.day.now c.in-Ok.read.letters.items = search rules in
-    let ended : c.push.new.self.items ≡ c.extend_from_slice.new.self.items ++ 10 ∷ [] = search rules in
-    all_received c.args.day.now c.args.form.now c.loop-read.text.items c.extend_from_slice.new.self.items c.push.new.self.items c.loop-read.rest.now
+    let ended : c.extend_from_slice-2.new.self.items ≡ c.extend_from_slice.new.self.items ++ 10 ∷ [] = search rules in
+    all_received c.args.day.now c.args.form.now c.loop-read.text.items c.extend_from_slice.new.self.items c.extend_from_slice-2.new.self.items c.loop-read.rest.now
     c.split_part.result.0.now c.split_part.result.1.now c.in-Ok.read.letters.items c.loop-read.number c.in-Ok.read.parts c.loop-read.expected
     c.loop-read.invariant c.split_part.ensures c.in-Ok.ensures.0 c.in-Ok.ensures.1 none same put ended
