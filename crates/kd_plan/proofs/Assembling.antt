@@ -17,7 +17,7 @@ use Rattle.kd_state.specs.declared.setting.Setting.TheVariants.{SeatReflector}
 use Rattle.kd_state.specs.Box.{same_reflector}
 use Rattle.kd_state.specs.Machine.{IsMachine}
 use Rattle.kd_state.specs.SheetDay.{Day, OfRotors, OfPins, IsLegalDay, day_model, rotor_day, pin_day}
-use Rattle.kd_state.specs.Costs.{cable_cost, bar_cost, columns_of, cost_table}
+use Rattle.kd_state.specs.Costs.{cable_cost, bar_cost, columns_of, cable_costs, bar_costs, cost_table}
 use Rattle.kd_card.specs.declared.prices.PriceParts.{PriceParts}
 use Rattle.kd_card.specs.Proving.{AreOfKind}
 use Rattle.kd_assign.specs.Assignment.{IsOneToOne}
@@ -45,10 +45,10 @@ module _ {A B : Type 0} (cost : A → B → ℕ) (most : ℕ) (h : (x : A) (y : 
   table_at_most : (xs : List A) (ys : List B) → CostsAtMost most (map (λ x. map (cost x) ys) xs)
   table_at_most xs ys = All-from_recursion (λ line. All (λ c. c ≤ most) line) (map (λ x. map (cost x) ys) xs) (rows_at_most xs ys)
 
-pub cable_costs_at_most : (costs : List (List ℕ)) (cables : List (Option ℕ × Option ℕ)) (pairs : List (ℕ × ℕ)) → costs ≡ map (λ cable. map (cable_cost cable) (columns_of pairs)) cables → CostsAtMost 4 costs
+pub cable_costs_at_most : (costs : List (List ℕ)) (cables : List (Option ℕ × Option ℕ)) (pairs : List (ℕ × ℕ)) → costs ≡ cable_costs cables pairs → CostsAtMost 4 costs
 cable_costs_at_most costs cables pairs e = subst (CostsAtMost 4) (sym e) (table_at_most cable_cost 4 cable_cost_at_most cables (columns_of pairs))
 
-pub bar_costs_at_most : (costs : List (List ℕ)) (bars : List (Place × Place)) (rows : List (ℕ × ℕ)) → costs ≡ map (λ bar. map (bar_cost bar) rows) bars → CostsAtMost 4 costs
+pub bar_costs_at_most : (costs : List (List ℕ)) (bars : List (Place × Place)) (rows : List (ℕ × ℕ)) → costs ≡ bar_costs bars rows → CostsAtMost 4 costs
 bar_costs_at_most costs bars rows e = subst (CostsAtMost 4) (sym e) (table_at_most bar_cost 4 (λ bar row. omega (arith, bar_cost_at_most bar row)) bars rows)
 
 -- there is room for all lines
@@ -117,21 +117,21 @@ pin_room m (OfPins s) to machine =
 
 -- the card
 pub rotor_planned : (m : RotorParts) (day : Day) (pairs : List (ℕ × ℕ)) (costs : List (List ℕ)) (to : List ℕ) (settings : List Setting) (prices : PriceParts)
-    → m.model ≡ day_model day → Some pairs ≡ option_map (λ s. s.pairs) (rotor_day day) → costs ≡ map (λ cable. map (cable_cost cable) (columns_of pairs)) m.cables → AreOfKind (Rotor m) prices
+    → m.model ≡ day_model day → Some pairs ≡ option_map (λ s. s.pairs) (rotor_day day) → costs ≡ cable_costs m.cables pairs → AreOfKind (Rotor m) prices
     → length to ≡ 13 → IsOneToOne to → settings ≡ planned_lines (Rotor m) day to → AreSolved costs to prices → IsPlanned (Rotor m) day settings prices
 rotor_planned m (OfPins s) pairs costs to settings prices same e table kind size one_to_one lines solved = absurd cc
 rotor_planned m (OfRotors s) pairs costs to settings prices same e table kind size one_to_one lines solved =
     let pair : pairs ≡ s.pairs = cc in
-    let whole : costs ≡ cost_table (Rotor m) (OfRotors s) = table ∙ ap (λ pairs. map (λ cable. map (cable_cost cable) (columns_of pairs)) m.cables) pair in
+    let whole : costs ≡ cost_table (Rotor m) (OfRotors s) = table ∙ ap (cable_costs m.cables) pair in
     let solution = subst (λ costs. AreSolved costs to prices) whole solved in
     record { model = same; kind = kind; to = to; all_rows = size; one_to_one = one_to_one; lines = lines; fits = solution.fits; total = solution.total; zero = solution.zero }
 
 pub pin_planned : (m : PinParts) (day : Day) (rows : List (ℕ × ℕ)) (costs : List (List ℕ)) (to : List ℕ) (settings : List Setting) (prices : PriceParts)
-    → M209 ≡ day_model day → Some rows ≡ option_map (λ s. s.rows) (pin_day day) → costs ≡ map (λ bar. map (bar_cost bar) rows) m.bars → AreOfKind (Pin m) prices
+    → M209 ≡ day_model day → Some rows ≡ option_map (λ s. s.rows) (pin_day day) → costs ≡ bar_costs m.bars rows → AreOfKind (Pin m) prices
     → length to ≡ 27 → IsOneToOne to → settings ≡ planned_lines (Pin m) day to → AreSolved costs to prices → IsPlanned (Pin m) day settings prices
 pin_planned m (OfRotors s) rows costs to settings prices same e table kind size one_to_one lines solved = absurd cc
 pin_planned m (OfPins s) rows costs to settings prices same e table kind size one_to_one lines solved =
     let row : rows ≡ s.rows = cc in
-    let whole : costs ≡ cost_table (Pin m) (OfPins s) = table ∙ ap (λ rows. map (λ bar. map (bar_cost bar) rows) m.bars) row in
+    let whole : costs ≡ cost_table (Pin m) (OfPins s) = table ∙ ap (bar_costs m.bars) row in
     let solution = subst (λ costs. AreSolved costs to prices) whole solved in
     record { model = same; kind = kind; to = to; all_rows = size; one_to_one = one_to_one; lines = lines; fits = solution.fits; total = solution.total; zero = solution.zero }

@@ -1,14 +1,12 @@
 -- The cables of a machine beside the columns of a day, one to one: no letter lies in two columns, and cables with the letters
 -- of their columns are the day's pairs.
-use Rattle.std.proofs.Common.{◌≡◌, ◌≢◌, ℕ, zero, suc, ◌+◌, ◌-◌, ◌<◌, ◌≤◌, nat_eq, Bool, true, false, ◌||◌, inl, inr, List, [], ◌∷◌, ◌++◌, length, get_or, map, zip, replicate, Any, Contains, IsPermutation, Option, Some, None, slice_get, Bor, ltb, refl, sym, ap, ◌∙◌, subst, arith}
+use Rattle.std.proofs.Common.{◌≡◌, ◌≢◌, ℕ, zero, suc, ◌+◌, ◌-◌, ◌<◌, ◌≤◌, nat_eq, Bool, true, false, ◌||◌, inl, inr, List, [], ◌∷◌, ◌++◌, length, get_or, map, zip, replicate, Any, Contains, IsPermutation, Option, Some, None, refl, sym, ap, ◌∙◌, subst, arith}
 use Rattle.std.specs.List.{AllByRecursion, range_with_len}
-use Rattle.std.specs.Option.{is_some, IfSome, option_copied}
-use Rattle.std.proofs.lemmas.Bool.{false≢true, eq-eqb, eqb-true, ltb-true, ltb-false}
+use Rattle.std.proofs.lemmas.Bool.{false≢true, eq-eqb, eqb-true}
 use Rattle.std.proofs.lemmas.Bool.Decides.{eqb_tells}
 use Rattle.std.proofs.lemmas.List.{length-append, length-map, length-replicate}
 use Rattle.std.proofs.lemmas.List.Elements.{All-from_recursion, recursion_from_All}
 use Rattle.std.proofs.lemmas.List.Sorted.{Contains-permutation}
-use Rattle.std.proofs.lemmas.Option.{slice_get_past, slice_get-get_or}
 use Rattle.std.proofs.lemmas.Map.Made.{AllPairs-from_IsDistinct}
 use Rattle.kd_tables.specs.Permutation.{alphabet}
 use Rattle.kd_enigma.specs.Plugs.{letters_plugged}
@@ -115,20 +113,6 @@ nothing_at : (nothings j : ℕ) → column_at (replicate nothings None) j ≡ No
 nothing_at zero j = refl
 nothing_at (suc nothings) zero = refl
 nothing_at (suc nothings) (suc j) = nothing_at nothings j
-
--- the column of a place is the pair of that place, if there is one
-read_from : (pairs : List (ℕ × ℕ)) (nothings j : ℕ) → column_at (with_nothings pairs nothings) j ≡ slice_get pairs j
-read_from [] nothings j = nothing_at nothings j
-read_from (pair ∷ pairs) nothings zero = refl
-read_from (pair ∷ pairs) nothings (suc j) = read_from pairs nothings j
-
-pub column_read : (pairs : List (ℕ × ℕ)) (j : ℕ) → column_at (columns_of pairs) j ≡ slice_get pairs j
-column_read pairs j = read_from pairs (13 - length pairs) j
-
-pub copied_read : {X : Type 0} (found : Option (Bor X)) (xs : List X) (place : ℕ) → is_some found ≡ ltb place (length xs) → IfSome found (λ x. x.now ≡ get_or xs place x.now)
-    → option_copied found ≡ slice_get xs place
-copied_read None xs place e h = sym (slice_get_past xs place (ltb-false place (length xs) (sym e)))
-copied_read (Some x) xs place e h = ap Some h ∙ sym (slice_get-get_or xs place x.now (ltb-true place (length xs) (sym e)))
 
 plugged_of : (pairs : List (ℕ × ℕ)) (nothings j letter : ℕ) → in_column (column_at (with_nothings pairs nothings) j) letter ≡ true → has_letter (letters_plugged pairs) letter ≡ true
 plugged_of [] nothings j letter e = absurd (false≢true (sym (ap (λ column. in_column column letter) (nothing_at nothings j)) ∙ e))

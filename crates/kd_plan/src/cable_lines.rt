@@ -6,9 +6,8 @@ ghost use Rattle.kd_state.specs.Setting.{has_letter};
 ghost use Rattle.kd_state.specs.Costs.{column_letters};
 ghost use Rattle.kd_plan.specs.Planned.{unless_so, lies_apart, letters_apart, pull_lines, put_lines};
 
-use super::costs::column;
 use super::lines::{Settings, push_line};
-use kd_state::Setting;
+use kd_state::{Setting, column_at};
 use kd_tables::Letter;
 
 /// The letters in a cable: none, one or two.
@@ -28,7 +27,7 @@ pub(crate) fn push_pulls(
     ensures { settings.new.items ≡ settings.old.items ++ pull_lines cables.now pairs.now to.now }
 {
     for (place, cable) in cables.iter().enumerate() {
-        let column = column(pairs, usize::from(to[place]));
+        let column = column_at(pairs, usize::from(to[place]));
         push_pulls_of(settings, place as u8 + 1, cable, &column);
     }
 }
@@ -44,7 +43,7 @@ pub(crate) fn push_puts(
     ensures { settings.new.items ≡ settings.old.items ++ put_lines cables.now pairs.now to.now }
 {
     for (place, cable) in cables.iter().enumerate() {
-        let column = column(pairs, usize::from(to[place]));
+        let column = column_at(pairs, usize::from(to[place]));
         push_puts_of(settings, place as u8 + 1, cable, &column);
     }
 }

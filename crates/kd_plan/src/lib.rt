@@ -4,7 +4,6 @@
 mod bar_lines;
 mod cable_lines;
 mod card_prices;
-mod costs;
 pub mod laws;
 mod lines;
 mod other_model;

@@ -7,7 +7,6 @@ ghost use Rattle.kd_plan.specs.Planned.{planned_lines, IsPlanned, Plans};
 use super::bar_lines::push_lugs;
 use super::cable_lines::{push_pulls, push_puts};
 use super::card_prices::{bar_prices, cable_prices};
-use super::costs::{bar_costs, cable_costs};
 use super::laws::planned_cards_prove_themselves;
 use super::lines::Settings;
 use super::other_model::OtherModel;
@@ -17,7 +16,7 @@ use arrayvec::ArrayVec;
 use kd_assign::{Solution, assign};
 use kd_card::Card;
 use kd_card::laws::proving_cards_are_shortest;
-use kd_state::{Machine, Parts, PinParts, RotorParts, SheetDay};
+use kd_state::{Machine, Parts, PinParts, RotorParts, SheetDay, bar_costs, cable_costs};
 use kd_tables::Letter;
 
 /// The card that leads the machine to the day by the fewest settings. Which of several shortest ones it is isn't promised,

@@ -1,11 +1,10 @@
 -- A machine and a day of one model are of one kind.
-use Rattle.std.proofs.Common.{◌≡◌, ℕ, ◌<◌, List, Contains, map, Option, Some, None, ℤ, refl, sym, ap, ◌∙◌, subst, arith}
+use Rattle.std.proofs.Common.{◌≡◌, ℕ, ◌<◌, List, Contains, Option, Some, None, ℤ, refl, sym, ap, ◌∙◌, subst, arith}
 use Rattle.std.specs.Prelude.{MatchOption, IsSome}
 use Rattle.std.specs.Option.{option_map}
 use Rattle.kd_tables.specs.declared.model.Model.{Model}
 use Rattle.kd_tables.specs.declared.model.Model.TheVariants.{M209}
 use Rattle.kd_tables.specs.declared.reflector.Reflector.{Reflector}
-use Rattle.kd_tables.specs.declared.place.Place.{Place}
 use Rattle.kd_tables.specs.Tables.{reflectors_of}
 use Rattle.kd_state.specs.declared.rotor_parts.RotorParts.{RotorParts}
 use Rattle.kd_state.specs.declared.pin_parts.PinParts.{PinParts}
@@ -13,7 +12,7 @@ use Rattle.kd_state.specs.declared.parts.Parts.{Parts}
 use Rattle.kd_state.specs.declared.parts.Parts.TheVariants.{Rotor, Pin}
 use Rattle.kd_state.specs.Machine.{model_of}
 use Rattle.kd_state.specs.SheetDay.{RotorDay, PinDay, Day, OfRotors, OfPins, day_model, rotor_day, pin_day, IsLegalDay}
-use Rattle.kd_state.specs.Costs.{cable_cost, bar_cost, columns_of, cost_table}
+use Rattle.kd_state.specs.Costs.{cable_costs, bar_costs, cost_table}
 use Rattle.kd_card.specs.declared.prices.PriceParts.{PriceParts}
 use Rattle.kd_card.specs.declared.prices.PriceParts.TheVariants.{Cables, Bars}
 use Rattle.kd_card.specs.Prices.{Fits}
@@ -49,10 +48,10 @@ FoundIn costs rows columns number cell =
 
 pub found_for_cables : (machine : Parts) (s : Day) (prices : PriceParts) (m : RotorParts) (rows columns : List ℤ) (pairs : List (ℕ × ℕ)) (costs : List (List ℕ)) (cell : Option Cell)
     → machine ≡ Rotor m → prices ≡ Cables rows columns → Some pairs ≡ option_map (λ (s : RotorDay). s.pairs) (rotor_day s)
-    → costs ≡ map (λ (cable : Option ℕ × Option ℕ). map (cable_cost cable) (columns_of pairs)) m.cables → FoundIn costs rows columns 13 cell → Found machine s prices cell
+    → costs ≡ cable_costs m.cables pairs → FoundIn costs rows columns 13 cell → Found machine s prices cell
 found_for_cables machine (OfRotors s) prices m rows columns pairs costs cell em ep es ec found =
     let same : pairs ≡ s.pairs = cc in
-    let table = subst (λ pairs. costs ≡ map (λ (cable : Option ℕ × Option ℕ). map (cable_cost cable) (columns_of pairs)) m.cables) same ec in
+    let table = subst (λ pairs. costs ≡ cable_costs m.cables pairs) same ec in
     let here = subst (λ costs. FoundIn costs rows columns 13 cell) table found in
     subst (λ machine. Found machine (OfRotors s) prices cell) (sym em) (subst (λ prices. Found (Rotor m) (OfRotors s) prices cell) (sym ep) (by_cell cell here))
   where
@@ -63,10 +62,10 @@ found_for_cables machine (OfPins s) prices m rows columns pairs costs cell em ep
 
 pub found_for_bars : (machine : Parts) (s : Day) (prices : PriceParts) (m : PinParts) (rows columns : List ℤ) (wanted : List (ℕ × ℕ)) (costs : List (List ℕ)) (cell : Option Cell)
     → machine ≡ Pin m → prices ≡ Bars rows columns → Some wanted ≡ option_map (λ (s : PinDay). s.rows) (pin_day s)
-    → costs ≡ map (λ (bar : Place × Place). map (bar_cost bar) wanted) m.bars → FoundIn costs rows columns 27 cell → Found machine s prices cell
+    → costs ≡ bar_costs m.bars wanted → FoundIn costs rows columns 27 cell → Found machine s prices cell
 found_for_bars machine (OfPins s) prices m rows columns wanted costs cell em ep es ec found =
     let same : wanted ≡ s.rows = cc in
-    let table = subst (λ wanted. costs ≡ map (λ (bar : Place × Place). map (bar_cost bar) wanted) m.bars) same ec in
+    let table = subst (λ wanted. costs ≡ bar_costs m.bars wanted) same ec in
     let here = subst (λ costs. FoundIn costs rows columns 27 cell) table found in
     subst (λ machine. Found machine (OfPins s) prices cell) (sym em) (subst (λ prices. Found (Pin m) (OfPins s) prices cell) (sym ep) (by_cell cell here))
   where

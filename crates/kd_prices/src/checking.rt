@@ -4,13 +4,12 @@ ghost use Rattle.kd_card.specs.Prices.{Fits};
 ghost use Rattle.kd_card.specs.Proving.{AreOfKind, Proves, priced_count};
 ghost use Rattle.kd_prices.specs.Doubt.{AreOfOneModel, IsDoubt, IsFirstTooHigh};
 
-use super::costs::{bar_costs, cable_costs};
 use super::doubt::Doubt;
 use super::fitting::{Cell, first_too_high};
 use super::laws::a_card_is_in_one_doubt_at_most;
 use super::needless::{first_needless, is_priced};
 use kd_card::{Card, PriceParts, Prices, carry_all};
-use kd_state::{Machine, Parts, Setting, SheetDay};
+use kd_state::{Machine, Parts, Setting, SheetDay, bar_costs, cable_costs};
 
 /// Whether the card proves itself, whoever made it: its lines lead the machine to the day, and its prices show that no
 /// settings that do are fewer. Else the first doubt, in the order in which `Doubt` has them.

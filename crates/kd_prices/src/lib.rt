@@ -2,7 +2,6 @@
 #![tactic(auto)]
 
 mod checking;
-mod costs;
 mod doubt;
 mod fitting;
 pub mod laws;

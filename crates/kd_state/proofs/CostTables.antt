@@ -1,11 +1,12 @@
 -- The table of costs is square.
-use Rattle.std.proofs.Common.{◌≡◌, ℕ, ◌+◌, ◌-◌, List, [], ◌∷◌, length, map, replicate, All, Option, Some, None, sym, ◌∙◌, arith, length-append}
-use Rattle.std.proofs.lemmas.List.{length-map, length-replicate}
+use Rattle.std.proofs.Common.{◌≡◌, ℕ, List, [], ◌∷◌, length, map, All, sym, ◌∙◌}
+use Rattle.std.proofs.lemmas.List.{length-map}
 use Rattle.std.proofs.lemmas.List.Elements.{All-nil, All-cons}
 use Rattle.kd_state.specs.declared.parts.Parts.TheVariants.{Rotor, Pin}
-use Rattle.kd_state.specs.SheetDay.{OfRotors, OfPins, ArePairs}
+use Rattle.kd_state.specs.SheetDay.{OfRotors, OfPins}
 use Rattle.kd_state.specs.Costs.{cable_cost, bar_cost, columns_of}
 use Rattle.kd_state.specs.Laws.{CostTablesAreSquare}
+use Rattle.kd_state.proofs.Columns.{length-columns_of}
 
 -- each row of a table has as many entries as there are columns
 rows_are_long : {X Y : Type 0} (cost : X → Y → ℕ) (rows : List X) (columns : List Y) (number : ℕ) → length columns ≡ number
@@ -20,17 +21,8 @@ square : {X Y : Type 0} (cost : X → Y → ℕ) (rows : List X) (columns : List
 square cost rows columns same =
     rows_are_long cost rows columns (length (map (λ other. map (cost other) columns) rows)) (same ∙ sym (length-map rows (λ other. map (cost other) columns)))
 
-thirteen_columns : (pairs : List (ℕ × ℕ)) → ArePairs pairs → length (columns_of pairs) ≡ 13
-thirteen_columns pairs h =
-    let filled : length (map {A = ℕ × ℕ} {B = Option (ℕ × ℕ)} Some pairs) ≡ length pairs = length-map pairs Some in
-    let rest : length (replicate {A = Option (ℕ × ℕ)} (13 - length pairs) None) ≡ 13 - length pairs = length-replicate (13 - length pairs) None in
-    let all : length (columns_of pairs) ≡ length (map {A = ℕ × ℕ} {B = Option (ℕ × ℕ)} Some pairs) + length (replicate {A = Option (ℕ × ℕ)} (13 - length pairs) None) =
-    length-append (map Some pairs) (replicate (13 - length pairs) None)
-    in
-    omega (arith, h.few)
-
 pub cost_tables_are_square : CostTablesAreSquare
-cost_tables_are_square (Rotor m) (OfRotors s) machine day = square cable_cost m.cables (columns_of s.pairs) (thirteen_columns s.pairs day.pairs ∙ sym machine.legal.cables.count)
+cost_tables_are_square (Rotor m) (OfRotors s) machine day = square cable_cost m.cables (columns_of s.pairs) (length-columns_of s.pairs day.pairs.few ∙ sym machine.legal.cables.count)
 cost_tables_are_square (Rotor m) (OfPins s) machine day = All-nil (λ row. length row ≡ 0)
 cost_tables_are_square (Pin m) (OfRotors s) machine day = All-nil (λ row. length row ≡ 0)
 cost_tables_are_square (Pin m) (OfPins s) machine day = square bar_cost m.bars s.rows (day.count ∙ sym machine.legal.bars)

@@ -7,6 +7,7 @@ pub mod WordLines
 pub mod SettingLines
 pub mod SettingLists
 mod CountedLetters
+pub mod Columns
 mod CostTables
 mod DayPairs
 mod Joined

@@ -71,10 +71,17 @@ nearest_standing standing row =
 abbrev pub columns_of : List (ℕ × ℕ) → List (Option (ℕ × ℕ))
 columns_of pairs = map Some pairs ++ replicate (13 - length pairs) None
 
--- the cost of each cable to each pair or nothing, or of each bar to each row
+-- the cost of each cable to each pair or nothing, and of each bar to each row
+abbrev pub cable_costs : List (Option ℕ × Option ℕ) → List (ℕ × ℕ) → List (List ℕ)
+cable_costs cables pairs = map (λ cable. map (cable_cost cable) (columns_of pairs)) cables
+
+abbrev pub bar_costs : List (Place × Place) → List (ℕ × ℕ) → List (List ℕ)
+bar_costs bars rows = map (λ bar. map (bar_cost bar) rows) bars
+
+-- what it costs to make of a machine's cables the day's pairs, or of its bars the day's rows
 abbrev pub cost_table : Parts → Day → List (List ℕ)
-cost_table (Rotor m) (OfRotors s) = map (λ cable. map (cable_cost cable) (columns_of s.pairs)) m.cables
-cost_table (Pin m) (OfPins s) = map (λ bar. map (bar_cost bar) s.rows) m.bars
+cost_table (Rotor m) (OfRotors s) = cable_costs m.cables s.pairs
+cost_table (Pin m) (OfPins s) = bar_costs m.bars s.rows
 cost_table _ _ = []
 
 -- the slots that hold another wheel than the day's, or none

@@ -2,6 +2,7 @@
 #![tactic(auto)]
 
 mod cable;
+mod cost_tables;
 mod costs;
 mod counted;
 mod day_number;
@@ -33,6 +34,7 @@ mod tests;
 mod why;
 mod words;
 
+pub use cost_tables::{bar_costs, cable_costs, column_at};
 pub use costs::{bar_cost, cable_cost, nearest_standing};
 pub use engine::{Engine, NotReady, own_engine};
 pub use facts::is_in_range;

@@ -17,14 +17,14 @@ pub push_puts_of-requires : goal.push_puts_of-requires
 push_puts_of-requires c =
     omega (
       arith,
-      length-map (puts (get_or c.args.cables.now c.loop-place.place c.index-cables-place.result, c.column-column.result)) (Put (c.loop-place.place + 1)),
+      length-map (puts (get_or c.args.cables.now c.loop-place.place c.index-cables-place.result, c.column_at-column.result)) (Put (c.loop-place.place + 1)),
       room puts_of_cable (zip c.args.cables.now (map (column_at (columns_of c.args.pairs.now)) c.args.to.now)) c.loop-place.settings.items c.args.settings.now.items _ c.loop-place.place
           c.loop-place.invariant
-          (get_or c.args.cables.now c.loop-place.place c.index-cables-place.result, c.column-column.result)
+          (get_or c.args.cables.now c.loop-place.place c.index-cables-place.result, c.column_at-column.result)
           _
           (omega (arith, length-zip c.args.cables.now (map (column_at (columns_of c.args.pairs.now)) c.args.to.now), length-map c.args.to.now (column_at (columns_of c.args.pairs.now))))
-          (let column = c.column-column.ensures ∙ ap (column_at (columns_of c.args.pairs.now)) c.from.ensures ∙ sym (get_or-map (column_at (columns_of c.args.pairs.now)) c.args.to.now c.loop-place.place 0 None (omega arith)) in
-          beside_at c.args.cables.now (map (column_at (columns_of c.args.pairs.now)) c.args.to.now) c.loop-place.place _ c.index-cables-place.result c.column-column.result None (omega arith) (omega (arith, length-map c.args.to.now (column_at (columns_of c.args.pairs.now)))) refl column)
+          (let column = c.column_at-column.ensures ∙ ap (column_at (columns_of c.args.pairs.now)) c.from.ensures ∙ sym (get_or-map (column_at (columns_of c.args.pairs.now)) c.args.to.now c.loop-place.place 0 None (omega arith)) in
+          beside_at c.args.cables.now (map (column_at (columns_of c.args.pairs.now)) c.args.to.now) c.loop-place.place _ c.index-cables-place.result c.column_at-column.result None (omega arith) (omega (arith, length-map c.args.to.now (column_at (columns_of c.args.pairs.now)))) refl column)
           (refl)
           (omega (arith, c.requires)),
     )
@@ -33,12 +33,12 @@ pub loop-place-preserved : goal.loop-place-preserved
 loop-place-preserved c =
     next puts_of_cable (zip c.args.cables.now (map (column_at (columns_of c.args.pairs.now)) c.args.to.now)) c.loop-place.settings.items c.args.settings.now.items _ c.loop-place.place
     c.loop-place.invariant
-    (get_or c.args.cables.now c.loop-place.place c.index-cables-place.result, c.column-column.result)
+    (get_or c.args.cables.now c.loop-place.place c.index-cables-place.result, c.column_at-column.result)
     _
     _
     (omega (arith, length-zip c.args.cables.now (map (column_at (columns_of c.args.pairs.now)) c.args.to.now), length-map c.args.to.now (column_at (columns_of c.args.pairs.now))))
-    (let column = c.column-column.ensures ∙ ap (column_at (columns_of c.args.pairs.now)) c.from.ensures ∙ sym (get_or-map (column_at (columns_of c.args.pairs.now)) c.args.to.now c.loop-place.place 0 None (omega arith)) in
-    beside_at c.args.cables.now (map (column_at (columns_of c.args.pairs.now)) c.args.to.now) c.loop-place.place _ c.index-cables-place.result c.column-column.result None (omega arith) (omega (arith, length-map c.args.to.now (column_at (columns_of c.args.pairs.now)))) refl column)
+    (let column = c.column_at-column.ensures ∙ ap (column_at (columns_of c.args.pairs.now)) c.from.ensures ∙ sym (get_or-map (column_at (columns_of c.args.pairs.now)) c.args.to.now c.loop-place.place 0 None (omega arith)) in
+    beside_at c.args.cables.now (map (column_at (columns_of c.args.pairs.now)) c.args.to.now) c.loop-place.place _ c.index-cables-place.result c.column_at-column.result None (omega arith) (omega (arith, length-map c.args.to.now (column_at (columns_of c.args.pairs.now)))) refl column)
     (refl)
     c.push_puts_of.ensures
 

@@ -1,4 +1,4 @@
-use Rattle.std.proofs.Common.{◌≡◌, ℕ, ◌+◌, List, ◌++◌, length, ap}
+use Rattle.std.proofs.Common.{ap}
 use Rattle.kd_enigma.specs.Laws as wheels
 use Rattle.kd_drum.specs.Laws as drum
 use Rattle.kd_state.specs.Laws.{CipherInTurn, KeyInTurn}

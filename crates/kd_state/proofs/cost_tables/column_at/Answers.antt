@@ -1,8 +1,8 @@
 use Rattle.std.proofs.Common.{◌≡◌, ◌∙◌, slice_get, arith}
 use Rattle.std.proofs.lemmas.Grind.{common_steps}
 use Rattle.std.proofs.lemmas.Option.{gets}
-use Rattle.kd_prices.proofs.Columns.{column_at}
-use Rattle.kd_prices.proofs.costs.column_at.Goals as goal
+use Rattle.kd_state.proofs.Columns.{column_at}
+use Rattle.kd_state.proofs.cost_tables.column_at.Goals as goal
 
 pub returns : goal.returns
 returns c =
