@@ -4,7 +4,6 @@ pub mod PriceLines
 pub mod Cards
 pub mod CardWords
 pub mod OneCard
-pub mod Wheels
 pub mod Counts
 pub mod Cables
 pub mod Duality

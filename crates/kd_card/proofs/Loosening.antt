@@ -1,14 +1,18 @@
 -- A setting that changes no cable and no bar puts at most one loose thing right; the others leave what is loose.
-use Rattle.std.proofs.Common.{◌≡◌, ◌≢◌, ℕ, zero, suc, ◌+◌, ◌-◌, ◌≤◌, nat_eq, Bool, true, false, not, cond, List, [], ◌∷◌, get_or, set, map, zip, sum, count_by, Option, Some, None, slice_get, unwrap_or, inl, inr, refl, sym, ap, ◌∙◌, subst, arith}
+use Rattle.std.proofs.Common.{◌≡◌, ◌≢◌, ℕ, zero, suc, ◌+◌, ◌-◌, ◌≤◌, nat_eq, Bool, true, false, not, cond, List, [], ◌∷◌, get_or, set, map, zip, sum, count_by, AllPairs, Option, Some, None, slice_get, unwrap_or, inl, inr, refl, sym, ap, ◌∙◌, subst, arith}
 use Rattle.std.specs.List.{AllByRecursion}
 use Rattle.std.specs.Option.{option_map_or}
+use Rattle.std.specs.Str.{bytes_eq}
 use Rattle.std.proofs.lemmas.Bool.{cases_eq, eq-eqb, false≢true}
 use Rattle.std.proofs.lemmas.List.Elements.{recursion_from_All}
 use Rattle.std.proofs.lemmas.List.Sums.{sum_by-cons}
 use Rattle.std.proofs.lemmas.Option.{unwrap_or-slice_get}
+use Rattle.std.proofs.lemmas.Slice.Eq.{bytes_eq-Decides}
+use Rattle.kd_tables.specs.declared.model.Model.{Model}
 use Rattle.kd_tables.specs.declared.wheel.Wheel.{Wheel}
 use Rattle.kd_tables.specs.declared.place.Place.{Place}
 use Rattle.kd_tables.specs.Rings.{ring_of, place_on}
+use Rattle.kd_tables.specs.Tables.{wheel_text, reflector_text}
 use Rattle.kd_pins.specs.declared.pin_set.PinSet.{PinSet}
 use Rattle.kd_pins.specs.PinWheels.{pins_of}
 use Rattle.kd_state.specs.declared.rotor_parts.RotorParts.{RotorParts}
@@ -24,11 +28,11 @@ use Rattle.kd_state.specs.Machine.{model_of, ring_at, letter_at}
 use Rattle.kd_state.specs.Setting.{why_refused, cable_at, cable_without, cable_with, seated_in, without, with_letter, with_lug_at, changed}
 use Rattle.kd_state.specs.SheetDay.{RotorDay, PinDay, Day, OfRotors, OfPins, seats, IsLegalDay, day_model}
 use Rattle.kd_state.specs.OnKey.{ReadsAs}
+use Rattle.kd_state.specs.Laws.{DaysWheelsHaveTheirPlaces}
 use Rattle.kd_state.specs.Costs.{differ, unless_same, loose_slots, loose_reflector, loose_rings, loose_letters, loose_pins, loose_pin_letters, loose_count}
 use Rattle.kd_card.specs.Proving.{is_priced}
 use Rattle.kd_card.proofs.Counts.{count_by-cons, at_most_one}
 use Rattle.kd_card.proofs.Falling.{unless_same_at_most, one_less}
-use Rattle.kd_card.proofs.Wheels.{AreApartAt, wheels_apart, same_wheel_self, same_reflector_self}
 
 -- one of two lists that stand side by side is changed at a place
 zip_set_lowers : {X Y : Type 0} (p : X × Y → Bool) (xs : List X) (ys : List Y) (i : ℕ) (v : X) → count_by p (zip xs ys) ≤ count_by p (zip (set xs i v) ys) + 1
@@ -61,18 +65,19 @@ module _ {X : Type 0} (place target : X → ℕ) where
       let head = ap (λ b. cond {A = ℕ} b 1 0) (same_elsewhere letters p l x h.0) in
       omega (arith, count_by-cons (wrong (set letters p l)) x xs, count_by-cons (wrong letters) x xs, other_places letters p l xs h.1)
 
-  set_lowers : (letters : List ℕ) (p l : ℕ) (xs : List X) → AreApartAt place xs → count_by (wrong letters) xs ≤ count_by (wrong (set letters p l)) xs + 1
+  set_lowers : (letters : List ℕ) (p l : ℕ) (xs : List X) → AllPairs (λ x y. place x ≢ place y) xs → count_by (wrong letters) xs ≤ count_by (wrong (set letters p l)) xs + 1
   set_lowers letters p l [] h = omega arith
   set_lowers letters p l (x ∷ xs) h =
       let now = count_by-cons (wrong letters) x xs in
       let later = count_by-cons (wrong (set letters p l)) x xs in
       elim (cases_eq (place x) p) [
         | inl here ↦
-            let rest = other_places letters p l xs (subst (λ q. AllByRecursion (λ y. place y ≢ q) xs) here h.0) in
+            let others = recursion_from_All (λ y. place y ≢ place x) xs (λ k d lt same. h zero (suc k) d (omega arith) (omega arith) (sym same)) in
+            let rest = other_places letters p l xs (subst (λ q. AllByRecursion (λ y. place y ≢ q) xs) here others) in
             omega (arith, at_most_one (wrong letters x), rest)
         | inr away ↦
             let head = ap (λ b. cond {A = ℕ} b 1 0) (same_elsewhere letters p l x away) in
-            omega (arith, now, later, head, set_lowers letters p l xs h.1)
+            omega (arith, now, later, head, set_lowers letters p l xs (λ i j d before within. h (suc i) (suc j) d (omega arith) (omega arith)))
       ]
 
 -- a slot that becomes empty is not right
@@ -100,7 +105,10 @@ without_raises wheel (now ∷ slots) (wanted ∷ wheels) =
     )
 
 -- a wheel is turned, if there is one
-module _ (m : RotorParts) (s : RotorDay) (apart : AreApartAt (λ (w : SheetWheel). place_in_box m.model w.wheel) s.wheels) where
+abbrev HaveTheirPlaces : Model → List SheetWheel → Type 0
+HaveTheirPlaces model wheels = AllPairs (λ (w other : SheetWheel). place_in_box model w.wheel ≢ place_in_box model other.wheel) wheels
+
+module _ (m : RotorParts) (s : RotorDay) (apart : HaveTheirPlaces m.model s.wheels) where
   abbrev place : SheetWheel → ℕ
   place w = place_in_box m.model w.wheel
 
@@ -175,12 +183,11 @@ pin_machine_lowers m s (PinTo wheel letter effective) e = omega (arith, pin_lowe
 pin_machine_lowers m s (LugTo bar lug place) e = omega arith
 
 -- whatever the setting and the machine
-pub lowers : (m : Parts) (s : Day) (x : Setting) → IsLegalDay s → model_of m ≡ day_model s → why_refused m x ≡ None → loose_count m s ≤ loose_count (changed m x) s + cond (is_priced x) 0 1
-lowers (Rotor m) (OfRotors s) x h same e =
-    rotor_lowers m s (subst (λ model. AreApartAt (λ (w : SheetWheel). place_in_box model w.wheel) s.wheels) (sym same) (wheels_apart s.model s.wheels h.wheels.allowed h.wheels.apart)) x
-lowers (Pin m) (OfPins s) x h same e = pin_machine_lowers m s x e
-lowers (Rotor m) (OfPins s) x h same e = omega arith
-lowers (Pin m) (OfRotors s) x h same e = omega arith
+pub lowers : DaysWheelsHaveTheirPlaces → (m : Parts) (s : Day) (x : Setting) → IsLegalDay s → model_of m ≡ day_model s → why_refused m x ≡ None → loose_count m s ≤ loose_count (changed m x) s + cond (is_priced x) 0 1
+lowers places (Rotor m) (OfRotors s) x h same e = rotor_lowers m s (subst (λ model. HaveTheirPlaces model s.wheels) (sym same) (places s.model s.wheels h.wheels)) x
+lowers places (Pin m) (OfPins s) x h same e = pin_machine_lowers m s x e
+lowers places (Rotor m) (OfPins s) x h same e = omega arith
+lowers places (Pin m) (OfRotors s) x h same e = omega arith
 
 -- no setting makes another model of a machine, and those of cables and bars leave what is loose
 pub model_of-changed : (m : Parts) (x : Setting) → model_of (changed m x) ≡ model_of m
@@ -223,10 +230,13 @@ leaves m s (Turn slot letter) e = absurd (false≢true e)
 leaves m s (PinTo wheel letter effective) e = absurd (false≢true e)
 
 -- a machine that reads as the day has nothing loose
+itself : (name : List ℕ) → bytes_eq name name ≡ true
+itself name = (bytes_eq-Decides name name).1 refl
+
 no_slot_wrong : (wheels : List SheetWheel) → count_by wrong_slot (zip (seats wheels) wheels) ≡ 0
 no_slot_wrong [] = refl
 no_slot_wrong (wheel ∷ wheels) =
-    count_by-cons wrong_slot (Some wheel.wheel, wheel) (zip (seats wheels) wheels) ∙ rw (same_wheel_self wheel.wheel, no_slot_wrong wheels) refl
+    count_by-cons wrong_slot (Some wheel.wheel, wheel) (zip (seats wheels) wheels) ∙ rw (itself (wheel_text wheel.wheel), no_slot_wrong wheels) refl
 
 none_wrong : (seen : SheetWheel → Option ℕ) (wanted : SheetWheel → ℕ) (wheels : List SheetWheel) → AllByRecursion (λ w. seen w ≡ Some (wanted w)) wheels
     → count_by (λ w. not (option_map_or (nat_eq (wanted w)) (seen w) false)) wheels ≡ 0
@@ -238,7 +248,7 @@ none_wrong seen wanted (w ∷ wheels) h =
 rotor_not_loose : (n : RotorParts) (s : RotorDay) → ReadsAs (Rotor n) (OfRotors s) → loose_count (Rotor n) (OfRotors s) ≡ 0
 rotor_not_loose n s h =
     let slots : loose_slots n s ≡ 0 = ap (λ slots. count_by wrong_slot (zip slots s.wheels)) h.key.slots ∙ no_slot_wrong s.wheels in
-    let reflector : loose_reflector n s ≡ 0 = ap (λ reflector. unless_same (same_reflector reflector s.reflector)) h.key.reflector ∙ ap unless_same (same_reflector_self s.reflector) in
+    let reflector : loose_reflector n s ≡ 0 = ap (λ reflector. unless_same (same_reflector reflector s.reflector)) h.key.reflector ∙ ap unless_same (itself (reflector_text s.reflector)) in
     let rings : loose_rings n s ≡ 0 = none_wrong (λ w. ring_at n w.wheel) (λ w. w.ring) s.wheels (recursion_from_All (λ (w : SheetWheel). ring_at n w.wheel ≡ Some w.ring) s.wheels h.key.rings) in
     let letters : loose_letters n s ≡ 0 = none_wrong (λ w. letter_at n w.wheel) (λ w. w.letter) s.wheels (recursion_from_All (λ (w : SheetWheel). letter_at n w.wheel ≡ Some w.letter) s.wheels h.window) in
     omega (arith, slots, reflector, rings, letters)

@@ -4,7 +4,7 @@ ghost use Rattle.kd_card.specs.Laws.{FittingPricesBoundLists, ProvingCardsAreAsL
 
 use kd_state::laws::{
     lines_tell_words, no_two_settings_have_one_line, numbers_and_letters_are_words,
-    settings_have_words, texts_tell_first_parts,
+    places_tell_wheels, settings_have_words, texts_tell_first_parts,
 };
 
 /// No two cards have one text, and a card's text has no fault. So it is not the front of another card's text either.
@@ -23,7 +23,9 @@ pub fn no_two_cards_have_one_text()
 /// the prices.
 pub fn fitting_prices_bound_lists()
     ensures { FittingPricesBoundLists }
-{}
+{
+    places_tell_wheels();
+}
 
 /// A card that proves itself has as many settings as there are loose things and prices in sum.
 pub fn proving_cards_are_as_long()
@@ -33,7 +35,9 @@ pub fn proving_cards_are_as_long()
 /// A card that proves itself is shortest.
 pub fn proving_cards_are_shortest()
     ensures { ProvingCardsAreShortest }
-{}
+{
+    places_tell_wheels();
+}
 
 /// In a card that proves itself each row's price and some column's are together the cost where they meet, and so are each
 /// column's and some row's.

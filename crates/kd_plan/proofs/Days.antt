@@ -8,11 +8,10 @@ use Rattle.kd_tables.specs.declared.wheel.Wheel.{Wheel}
 use Rattle.kd_tables.specs.Tables.{box_of}
 use Rattle.kd_state.specs.declared.sheet_wheel.SheetWheel.{SheetWheel}
 use Rattle.kd_state.specs.Box.{same_wheel, has_wheel, place_in_box}
-use Rattle.kd_state.specs.Machine.{AreApart, StandsAt}
-use Rattle.kd_state.specs.SheetDay.{seats}
-use Rattle.kd_plan.proofs.Lists.{EachTwo}
+use Rattle.kd_state.specs.SheetDay.{seats, AreSeated}
+use Rattle.kd_plan.proofs.Lists.{EachTwo, each_two_of_pairs}
 use Rattle.kd_plan.proofs.Seats.{OtherWheels, seat_of}
-use Rattle.kd_plan.proofs.Wheels.{zero_not_suc, one_less, wheel_of_same, same_wheel_self, wheel_of_place, AreApartAt, place_of, NoneTwice}
+use Rattle.kd_plan.proofs.Wheels.{Told, same_wheel_self, AreApartAt, place_of, NoneTwice}
 
 -- elements by their places
 pub all_of_each : {X : Type 0} (P : X → Type 0) (xs : List X) → ((x : X) → Contains xs x → P x) → All P xs
@@ -31,16 +30,8 @@ pub at_element : {X : Type 0} (P : X → Type 0) (xs : List X) (x : X) → AllBy
 at_element P xs x h c = each_of_recursion P xs c.0 x h c.1 c.2
 
 -- no two of a day's wheels are one
-apart_wheels : (w : SheetWheel) (wheels : List SheetWheel) → ((place : ℕ) (wheel : Wheel) → StandsAt (seats wheels) place wheel → w.wheel ≢ wheel) → AllByRecursion (OtherWheels w) wheels
-apart_wheels w [] h = tt
-apart_wheels w (v ∷ wheels) h = (h zero v.wheel refl, apart_wheels w wheels (λ place. h (suc place)))
-
-pub each_two : (wheels : List SheetWheel) → AreApart (seats wheels) → EachTwo OtherWheels wheels
-each_two [] apart = tt
-each_two (w ∷ wheels) apart = (
-  apart_wheels w wheels (λ place wheel at same. zero_not_suc place (apart zero (suc place) wheel (ap (λ x. Some (Some x)) same) at)),
-  each_two wheels (λ place other wheel a b. one_less place other (apart (suc place) (suc other) wheel a b)),
-)
+pub each_two : Told → (model : Model) (wheels : List SheetWheel) → AreSeated model (seats wheels) → EachTwo OtherWheels wheels
+each_two told model wheels h = each_two_of_pairs OtherWheels wheels (λ i j d before within same. told.days model wheels h i j d before within (ap (place_in_box model) same))
 
 -- what is found passes the test and is there
 found_cond : {X : Type 0} (b : Bool) (p : X → Bool) (y x : X) (xs : List X) → p y ≡ b → cond b (Some y) (find p xs) ≡ Some x → (find p xs ≡ Some x → (p x ≡ true) × Contains xs x) → (p x ≡ true) × Contains (y ∷ xs) x
@@ -78,19 +69,19 @@ module _ (model : Model) (wheels : List SheetWheel) where
   or_false true q e = absurd (false≢true (sym e))
   or_false false q e = (refl, e)
 
-  boxed_place : (wheel other : Wheel) (w : SheetWheel) → the_one wheel ≡ Some w → Contains (box_of model) wheel → Contains (box_of model) other → same_wheel other wheel ≡ false → place_of model w ≢ place_in_box model other
-  boxed_place wheel other w e boxed here unlike same =
-      let one = wheel_of_same wheel w.wheel (found (λ (w : SheetWheel). same_wheel wheel w.wheel) wheels w e).0 in
+  boxed_place : Told → (wheel other : Wheel) (w : SheetWheel) → the_one wheel ≡ Some w → Contains (box_of model) wheel → Contains (box_of model) other → same_wheel other wheel ≡ false → place_of model w ≢ place_in_box model other
+  boxed_place told wheel other w e boxed here unlike same =
+      let one = (told.wheels wheel w.wheel).0 (found (λ (w : SheetWheel). same_wheel wheel w.wheel) wheels w e).0 in
       let places : place_in_box model other ≡ place_in_box model wheel = sym same ∙ ap (place_in_box model) (sym one) in
-      let two = wheel_of_place model other wheel here boxed places in
+      let two = told.places model other wheel here boxed places in
       false≢true (sym unlike ∙ ap (same_wheel other) (sym two) ∙ same_wheel_self other)
 
-  away_order : (other : Wheel) (box : List Wheel) → Contains (box_of model) other → AllByRecursion (Contains (box_of model)) box → has_wheel box other ≡ false
+  away_order : Told → (other : Wheel) (box : List Wheel) → Contains (box_of model) other → AllByRecursion (Contains (box_of model)) box → has_wheel box other ≡ false
       → AllByRecursion (λ w. place_of model w ≢ place_in_box model other) (in_order box)
-  away_order other [] here boxed none = tt
-  away_order other (wheel ∷ box) here boxed none =
+  away_order told other [] here boxed none = tt
+  away_order told other (wheel ∷ box) here boxed none =
       let both = or_false (same_wheel other wheel) (has_wheel box other) none in
-      away_one (place_in_box model other) (the_one wheel) (in_order box) (λ w e. boxed_place wheel other w e boxed.0 here both.0) (away_order other box here boxed.1 both.1)
+      away_one (place_in_box model other) (the_one wheel) (in_order box) (λ w e. boxed_place told wheel other w e boxed.0 here both.0) (away_order told other box here boxed.1 both.1)
 
   apart_one : (wheel : Wheel) (seen : Option SheetWheel) (rest : List SheetWheel) → ((w : SheetWheel) → seen ≡ Some w → wheel ≡ w.wheel) → AllByRecursion (λ w. place_of model w ≢ place_in_box model wheel) rest
       → AreApartAt (place_of model) rest → AreApartAt (place_of model) (cons_option seen rest)
@@ -98,11 +89,11 @@ module _ (model : Model) (wheels : List SheetWheel) where
   apart_one wheel (Some w) rest h away apart =
       (subst (λ x. AllByRecursion (λ v. place_of model v ≢ place_in_box model x) rest) (h w refl) away, apart)
 
-  pub order_apart : (box : List Wheel) → AllByRecursion (Contains (box_of model)) box → NoneTwice box → AreApartAt (place_of model) (in_order box)
-  order_apart [] boxed none = tt
-  order_apart (wheel ∷ box) boxed none =
-      apart_one wheel (the_one wheel) (in_order box) (λ w e. wheel_of_same wheel w.wheel (found (λ (w : SheetWheel). same_wheel wheel w.wheel) wheels w e).0)
-      (away_order wheel box boxed.0 boxed.1 none.0) (order_apart box boxed.1 none.1)
+  pub order_apart : Told → (box : List Wheel) → AllByRecursion (Contains (box_of model)) box → NoneTwice box → AreApartAt (place_of model) (in_order box)
+  order_apart told [] boxed none = tt
+  order_apart told (wheel ∷ box) boxed none =
+      apart_one wheel (the_one wheel) (in_order box) (λ w e. (told.wheels wheel w.wheel).0 (found (λ (w : SheetWheel). same_wheel wheel w.wheel) wheels w e).0)
+      (away_order told wheel box boxed.0 boxed.1 none.0) (order_apart told box boxed.1 none.1)
 
   -- a day's wheel is among them
   of_one : (P : SheetWheel → Type 0) (w : SheetWheel) (seen : Option SheetWheel) (rest : List SheetWheel) → AllByRecursion P (cons_option seen rest) → seen ≡ Some w → P w
@@ -118,25 +109,25 @@ module _ (model : Model) (wheels : List SheetWheel) where
   of_order P (wheel ∷ box) zero w h lt e seen = of_one P w (the_one wheel) (in_order box) h (ap the_one e ∙ seen)
   of_order P (wheel ∷ box) (suc k) w h lt e seen = of_order P box k w (of_rest P (the_one wheel) (in_order box) h) (omega arith) e seen
 
-itself_cond : (b : Bool) (model : Model) (v w : SheetWheel) (wheels : List SheetWheel) → same_wheel w.wheel v.wheel ≡ b → AllByRecursion (λ x. place_of model x ≢ place_of model v) wheels → Contains (v ∷ wheels) w
+itself_cond : Told → (b : Bool) (model : Model) (v w : SheetWheel) (wheels : List SheetWheel) → same_wheel w.wheel v.wheel ≡ b → AllByRecursion (λ x. place_of model x ≢ place_of model v) wheels → Contains (v ∷ wheels) w
     → (Contains wheels w → find (λ (x : SheetWheel). same_wheel w.wheel x.wheel) wheels ≡ Some w) → cond b (Some v) (find (λ (x : SheetWheel). same_wheel w.wheel x.wheel) wheels) ≡ Some w
-itself_cond true model v w wheels is away (zero, lt, e) next = ap Some e
-itself_cond true model v w wheels is away (suc k, lt, e) next =
-    absurd (at_element (λ x. place_of model x ≢ place_of model v) wheels w away (k, omega arith, e) (ap (place_in_box model) (wheel_of_same w.wheel v.wheel is)))
-itself_cond false model v w wheels is away (zero, lt, e) next = absurd (false≢true (sym is ∙ ap (λ (x : SheetWheel). same_wheel w.wheel x.wheel) e ∙ same_wheel_self w.wheel))
-itself_cond false model v w wheels is away (suc k, lt, e) next = next (k, omega arith, e)
+itself_cond told true model v w wheels is away (zero, lt, e) next = ap Some e
+itself_cond told true model v w wheels is away (suc k, lt, e) next =
+    absurd (at_element (λ x. place_of model x ≢ place_of model v) wheels w away (k, omega arith, e) (ap (place_in_box model) ((told.wheels w.wheel v.wheel).0 is)))
+itself_cond told false model v w wheels is away (zero, lt, e) next = absurd (false≢true (sym is ∙ ap (λ (x : SheetWheel). same_wheel w.wheel x.wheel) e ∙ same_wheel_self w.wheel))
+itself_cond told false model v w wheels is away (suc k, lt, e) next = next (k, omega arith, e)
 
-found_itself : (model : Model) (wheels : List SheetWheel) (w : SheetWheel) → AreApartAt (place_of model) wheels → Contains wheels w → find (λ (x : SheetWheel). same_wheel w.wheel x.wheel) wheels ≡ Some w
-found_itself model [] w apart c = absurd (omega (arith, c.1))
-found_itself model (v ∷ wheels) w apart c = itself_cond (same_wheel w.wheel v.wheel) model v w wheels refl apart.0 c (found_itself model wheels w apart.1)
+found_itself : Told → (model : Model) (wheels : List SheetWheel) (w : SheetWheel) → AreApartAt (place_of model) wheels → Contains wheels w → find (λ (x : SheetWheel). same_wheel w.wheel x.wheel) wheels ≡ Some w
+found_itself told model [] w apart c = absurd (omega (arith, c.1))
+found_itself told model (v ∷ wheels) w apart c = itself_cond told (same_wheel w.wheel v.wheel) model v w wheels refl apart.0 c (found_itself told model wheels w apart.1)
 
 -- what holds of all of them in box order, holds of all
-pub all_of_order : (P : SheetWheel → Type 0) (model : Model) (wheels : List SheetWheel) → AreApartAt (place_of model) wheels → AllByRecursion (λ w. Contains (box_of model) w.wheel) wheels
+pub all_of_order : Told → (P : SheetWheel → Type 0) (model : Model) (wheels : List SheetWheel) → AreApartAt (place_of model) wheels → AllByRecursion (λ w. Contains (box_of model) w.wheel) wheels
     → AllByRecursion P (in_order model wheels (box_of model)) → All P wheels
-all_of_order P model wheels apart boxed h =
+all_of_order told P model wheels apart boxed h =
     all_of_each P wheels (λ w c.
     let box = at_element (λ (w : SheetWheel). Contains (box_of model) w.wheel) wheels w boxed c in
-    of_order model wheels P (box_of model) box.0 w h box.1 box.2 (found_itself model wheels w apart c))
+    of_order model wheels P (box_of model) box.0 w h box.1 box.2 (found_itself told model wheels w apart c))
 
 -- The wheels by their slots.
 pub record StandsThere (wheels : List SheetWheel) (n : ℕ × SheetWheel) : Type 0 where

@@ -25,17 +25,24 @@ first_or_rest : {X : Type 0} (x y : X) (xs : List X) → Contains (x ∷ xs) y �
 first_or_rest x y xs (zero, lt, e) = inl e
 first_or_rest x y xs (suc place, lt, e) = inr (place, omega arith, e)
 
+-- what holds of each of them and each later one
+abbrev pub EachTwo : {X : Type 0} → (X → X → Type 0) → List X → Type 0
+EachTwo R [] = Unit {0}
+EachTwo R (x ∷ xs) = AllByRecursion (R x) xs × EachTwo R xs
+
+pub each_two_of_pairs : {X : Type 0} (R : X → X → Type 0) (xs : List X) → AllPairs R xs → EachTwo R xs
+each_two_of_pairs R [] h = tt
+each_two_of_pairs R (x ∷ xs) h = (
+  recursion_from_All (R x) xs (λ k d lt. h zero (suc k) d (omega arith) (omega arith)),
+  each_two_of_pairs R xs (λ i k d before lt. h (suc i) (suc k) d (omega arith) (omega arith)),
+)
+
 -- numbers that differ
 abbrev pub Differ : List ℕ → Type 0
-Differ [] = Unit {0}
-Differ (j ∷ js) = AllByRecursion (λ k. j ≢ k) js × Differ js
+Differ js = EachTwo (λ j k. j ≢ k) js
 
 pub differ_of_pairs : (js : List ℕ) → AllPairs (λ j k. j ≢ k) js → Differ js
-differ_of_pairs [] h = tt
-differ_of_pairs (j ∷ js) h = (
-  recursion_from_All (λ k. j ≢ k) js (λ k d lt. h zero (suc k) d (omega arith) (omega arith)),
-  differ_of_pairs js (λ i k d before lt. h (suc i) (suc k) d (omega arith) (omega arith)),
-)
+differ_of_pairs js h = each_two_of_pairs (λ j k. j ≢ k) js h
 
 still_among : (xs rest js : List ℕ) (j : ℕ) → IsPermutation xs (j ∷ rest) → AllByRecursion (λ k. j ≢ k) js → AllByRecursion (Contains xs) js → AllByRecursion (Contains rest) js
 still_among xs rest [] j order away among = tt
@@ -98,11 +105,6 @@ module _ {X : Type 0} where
   pub all_back : (P : X → Type 0) (front back : List X) → AllByRecursion P (front ++ back) → AllByRecursion P back
   all_back P [] back h = h
   all_back P (x ∷ front) back h = all_back P front back h.1
-
-  -- what holds of each two of them, in either order
-  abbrev pub EachTwo : (X → X → Type 0) → List X → Type 0
-  EachTwo R [] = Unit {0}
-  EachTwo R (x ∷ xs) = AllByRecursion (R x) xs × EachTwo R xs
 
   pub beside_back : (R : X → X → Type 0) (front : List X) (x : X) (back : List X) → EachTwo R (front ++ x ∷ back) → AllByRecursion (R x) back
   beside_back R [] x back h = h.0

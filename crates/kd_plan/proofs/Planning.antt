@@ -36,21 +36,22 @@ use Rattle.kd_plan.proofs.Plugging.{Beside, pulls, puts, numbered_lines}
 use Rattle.kd_plan.proofs.Rotors.{rotors_reach}
 use Rattle.kd_plan.proofs.Sides.{flat_lines}
 use Rattle.kd_plan.proofs.Targets.{is_target}
+use Rattle.kd_plan.proofs.Wheels.{Told}
 use Rattle.kd_plan.proofs.Totals.{priced-append, unpriced_lines, unpriced_all, unpriced_option, sum_of, priced_from, priced_map, cable_lines, two_sums, bar_lines, table_cost}
 
 -- A machine and a day are of one kind.
 no_rotors : (model : Model) (reflector : Reflector) → model ≡ M209 → Contains (reflectors_of model) reflector → ⊥
 no_rotors model reflector e h = let none = subst (λ model. Contains (reflectors_of model) reflector) e h in omega (arith, none.1)
 
-reaches : (m : Parts) (s : Day) (to : List ℕ) → IsMachine m → IsLegalDay s → model_of m ≡ day_model s → IsPairing (table_size m) to → Reaches s m (planned_lines m s to)
-reaches (Rotor m) (OfRotors s) to machine legal same pairing = rotors_reach m s machine legal same to pairing
-reaches (Pin m) (OfPins s) to machine legal same pairing = pin_machines_reach m s to machine legal pairing
-reaches (Rotor m) (OfPins s) to machine legal same pairing = absurd (no_rotors m.model m.reflector same machine.legal.reflector)
-reaches (Pin m) (OfRotors s) to machine legal same pairing = absurd (no_rotors s.model s.reflector (sym same) legal.reflector)
+reaches : Told → (m : Parts) (s : Day) (to : List ℕ) → IsMachine m → IsLegalDay s → model_of m ≡ day_model s → IsPairing (table_size m) to → Reaches s m (planned_lines m s to)
+reaches told (Rotor m) (OfRotors s) to machine legal same pairing = rotors_reach told m s machine legal same to pairing
+reaches told (Pin m) (OfPins s) to machine legal same pairing = pin_machines_reach m s to machine legal pairing
+reaches told (Rotor m) (OfPins s) to machine legal same pairing = absurd (no_rotors m.model m.reflector same machine.legal.reflector)
+reaches told (Pin m) (OfRotors s) to machine legal same pairing = absurd (no_rotors s.model s.reflector (sym same) legal.reflector)
 
-pub planned_lines_lead : PlannedLinesLead
-planned_lines_lead m s to machine legal same count one_to_one =
-    let there = reaches m s to machine legal same (pairing_of (table_size m) to count one_to_one) in
+pub planned_lines_lead : Told → PlannedLinesLead
+planned_lines_lead told m s to machine legal same count one_to_one =
+    let there = reaches told m s to machine legal same (pairing_of (table_size m) to count one_to_one) in
     (there.end, there.led.leads, there.reads)
 
 -- nothing is asked of these
@@ -154,10 +155,10 @@ total (Pin m) (OfPins s) to machine legal same pairing = pin_total m s to machin
 total (Rotor m) (OfPins s) to machine legal same pairing = absurd (no_rotors m.model m.reflector same machine.legal.reflector)
 total (Pin m) (OfRotors s) to machine legal same pairing = absurd (no_rotors s.model s.reflector (sym same) legal.reflector)
 
-proves : (m : Parts) (s : Day) (settings : List Setting) (prices : PriceParts) (h : IsPlanned m s settings prices) → IsMachine m → IsLegalDay s → Proves m s (planned_lines m s h.to) prices
-proves m s settings prices h machine legal =
+proves : Told → (m : Parts) (s : Day) (settings : List Setting) (prices : PriceParts) (h : IsPlanned m s settings prices) → IsMachine m → IsLegalDay s → Proves m s (planned_lines m s h.to) prices
+proves told m s settings prices h machine legal =
     let pairing = pairing_of (table_size m) h.to h.all_rows h.one_to_one in
-    let there = reaches m s h.to machine legal h.model pairing in
+    let there = reaches told m s h.to machine legal h.model pairing in
     record {
       model = h.model;
       kind = h.kind;
@@ -167,5 +168,5 @@ proves m s settings prices h machine legal =
       needed = there.led.needed;
     }
 
-pub planned_cards_prove : PlannedCardsProve
-planned_cards_prove m s settings prices machine legal h = subst (λ lines. Proves m s lines prices) (sym h.lines) (proves m s settings prices h machine legal)
+pub planned_cards_prove : Told → PlannedCardsProve
+planned_cards_prove told m s settings prices machine legal h = subst (λ lines. Proves m s lines prices) (sym h.lines) (proves told m s settings prices h machine legal)

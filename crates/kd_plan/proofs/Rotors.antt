@@ -12,9 +12,9 @@ use Rattle.kd_state.specs.declared.setting.Setting.{Setting}
 use Rattle.kd_state.specs.declared.setting.Setting.TheVariants.{Pull, Put, SeatReflector, RingTo, Turn}
 use Rattle.kd_state.specs.declared.sheet_wheel.SheetWheel.{SheetWheel}
 use Rattle.kd_state.specs.Box.{same_reflector, numbered}
-use Rattle.kd_state.specs.Machine.{AreAllowed, IsMachine}
+use Rattle.kd_state.specs.Machine.{IsMachine}
 use Rattle.kd_state.specs.Setting.{with_letter, changed}
-use Rattle.kd_state.specs.SheetDay.{RotorDay, OfRotors, seats, IsLegalRotorDay}
+use Rattle.kd_state.specs.SheetDay.{RotorDay, OfRotors, seats, AreSeated, IsLegalRotorDay}
 use Rattle.kd_state.specs.Costs.{unless_same, loose_count}
 use Rattle.kd_plan.specs.Planned.{unless_so, seat_lines, reflector_lines, ring_lines, turn_lines, pull_lines, put_lines, letters_apart, planned_lines}
 use Rattle.kd_plan.proofs.Carrying.{Reaches, Led, led_none, led_cons, led_append, lines_from, cells_led}
@@ -24,21 +24,21 @@ use Rattle.kd_plan.proofs.Letters.{SetsIts, AreSet, all_set, one_fewer}
 use Rattle.kd_plan.proofs.Lists.{IsPairing}
 use Rattle.kd_plan.proofs.Plugging.{Beside, present, once_pulled, once_put, with_cables, pulls_of, puts_of, pulls_each, puts_each, numbered_lines}
 use Rattle.kd_plan.proofs.Seats.{seats_led}
-use Rattle.kd_plan.proofs.Wheels.{reflector_of_same, same_reflector_self, has_wheel_of, has_reflector_of, place_within, AreApartAt, place_of, wheels_apart, box_none_twice, wheels_boxed}
+use Rattle.kd_plan.proofs.Wheels.{Told, same_reflector_self, has_wheel_of, has_reflector_of, AreApartAt, place_of, wheels_apart, box_none_twice, wheels_boxed}
 
 -- REFLECTOR
-reflector_led : (b : Bool) (m : RotorParts) (s : RotorDay) → same_reflector m.reflector s.reflector ≡ b → Contains (reflectors_of m.model) s.reflector
+reflector_led : Told → (b : Bool) (m : RotorParts) (s : RotorDay) → same_reflector m.reflector s.reflector ≡ b → Contains (reflectors_of m.model) s.reflector
     → Led (OfRotors s) (Rotor m) (option_to_list (unless_so b (SeatReflector s.reflector))) (Rotor (record m { reflector = s.reflector }))
-reflector_led true m s e h =
-    led_none (OfRotors s) (Rotor m) (Rotor (record m { reflector = s.reflector })) (ap (λ r. Rotor (record m { reflector = r })) (sym (reflector_of_same m.reflector s.reflector e)))
-reflector_led false m s e h =
+reflector_led told true m s e h =
+    led_none (OfRotors s) (Rotor m) (Rotor (record m { reflector = s.reflector })) (ap (λ r. Rotor (record m { reflector = r })) (sym ((told.reflectors m.reflector s.reflector).0 e)))
+reflector_led told false m s e h =
     let has = has_reflector_of (reflectors_of m.model) s.reflector h in
     let now = ap unless_same e in
     let then_so = ap unless_same (same_reflector_self s.reflector) in
     let end = Rotor (record m { reflector = s.reflector }) in
     led_cons (OfRotors s) (Rotor m) end (SeatReflector s.reflector) [] (rw has refl) (λ unpriced. omega (arith, now, then_so)) (led_none (OfRotors s) end end refl)
 
-module _ (m : RotorParts) (s : RotorDay) where
+module _ (told : Told) (m : RotorParts) (s : RotorDay) where
   -- The machine after the lines of each kind.
   abbrev after_seats : RotorParts
   after_seats = record m { slots = seats s.wheels }
@@ -68,11 +68,11 @@ module _ (m : RotorParts) (s : RotorDay) where
       let box = at_element (λ (w : SheetWheel). Contains (box_of m.model) w.wheel) s.wheels w boxed among in
       let has = has_wheel_of (box_of m.model) w.wheel box in
       record {
-        within = place_within m.model w.wheel box;
+        within = told.within m.model w.wheel box;
         allowed = λ rings count. rw has refl;
         made = λ rings count. refl;
         needed = λ rings count wrong unpriced.
-            let fewer = one_fewer (place_of m.model) ring_wanted rings s.wheels among.0 w among.1 among.2 apart (omega (arith, count, place_within m.model w.wheel box)) wrong in
+            let fewer = one_fewer (place_of m.model) ring_wanted rings s.wheels among.0 w among.1 among.2 apart (omega (arith, count, told.within m.model w.wheel box)) wrong in
             omega (arith, fewer);
       }
 
@@ -100,37 +100,37 @@ module _ (m : RotorParts) (s : RotorDay) where
       let made : (letters : List ℕ) → with_letters rings (set letters (place_of m.model n.1) n.1.letter) ≡ changed (with_letters rings letters) (turn_line n) =
       λ letters. ap (λ seen. with_letters rings (with_letter (after_turns rings letters) seen n.1.letter)) (sym seat) in
       record {
-        within = place_within m.model n.1.wheel box;
+        within = told.within m.model n.1.wheel box;
         allowed = λ letters count. rw seat refl;
         made = λ letters count. made letters;
         needed = λ letters count wrong unpriced.
-            let fewer = one_fewer (place_of m.model) letter_wanted letters s.wheels h.among.0 n.1 h.among.1 h.among.2 apart (omega (arith, count, place_within m.model n.1.wheel box)) wrong in
+            let fewer = one_fewer (place_of m.model) letter_wanted letters s.wheels h.among.0 n.1 h.among.1 h.among.2 apart (omega (arith, count, told.within m.model n.1.wheel box)) wrong in
             subst (λ k. loose_count (with_letters rings letters) (OfRotors s) ≡ loose_count k (OfRotors s) + 1) (made letters) (omega (arith, fewer));
       }
 
   module _ (machine : IsMachine (Rotor m)) (legal : IsLegalRotorDay s) (same : m.model ≡ s.model) (to : List ℕ) (pairing : IsPairing 13 to) where
-    allowed : AreAllowed m.model (seats s.wheels)
-    allowed = subst (λ model. AreAllowed model (seats s.wheels)) (sym same) legal.wheels.allowed
+    seated_wheels : AreSeated m.model (seats s.wheels)
+    seated_wheels = subst (λ model. AreSeated model (seats s.wheels)) (sym same) legal.wheels
 
     boxed : AllByRecursion (λ w. Contains (box_of m.model) w.wheel) s.wheels
-    boxed = wheels_boxed m.model s.wheels allowed
+    boxed = wheels_boxed told m.model s.wheels seated_wheels.allowed
 
     apart : AreApartAt (place_of m.model) s.wheels
-    apart = wheels_apart m.model s.wheels allowed legal.wheels.apart
+    apart = wheels_apart told m.model s.wheels seated_wheels
 
     seats_reach : Led (OfRotors s) (Rotor m) (seat_lines m.slots s.wheels) (Rotor after_seats)
-    seats_reach = seats_led m s allowed (each_two s.wheels legal.wheels.apart) (machine.legal.slots ∙ ap slots_of same ∙ sym (sym (length-map s.wheels (λ w. Some w.wheel)) ∙ legal.wheels.count))
+    seats_reach = seats_led told.wheels m s seated_wheels.allowed (each_two told m.model s.wheels seated_wheels) (machine.legal.slots ∙ ap slots_of same ∙ sym (sym (length-map s.wheels (λ w. Some w.wheel)) ∙ legal.wheels.count))
 
     reflector_reaches : Led (OfRotors s) (Rotor after_seats) (reflector_lines m.reflector s.reflector) (Rotor after_reflector)
     reflector_reaches =
-        reflector_led (same_reflector m.reflector s.reflector) after_seats s refl (subst (λ model. Contains (reflectors_of model) s.reflector) (sym same) legal.reflector)
+        reflector_led told (same_reflector m.reflector s.reflector) after_seats s refl (subst (λ model. Contains (reflectors_of model) s.reflector) (sym same) legal.reflector)
 
     rings_set : AreSet (place_of m.model) ring_wanted (OfRotors s) with_rings (length (box_of m.model)) ring_line m.rings (in_order m.model s.wheels (box_of m.model))
     rings_set =
         all_set (place_of m.model) ring_wanted (OfRotors s) with_rings (length (box_of m.model)) ring_line m.rings (in_order m.model s.wheels (box_of m.model)) machine.legal.rings.count
         (recursion_of_each (SetsIts (place_of m.model) ring_wanted (OfRotors s) with_rings (length (box_of m.model)) ring_line) (in_order m.model s.wheels (box_of m.model))
         (λ w c. ring_sets apart boxed w (at_element (Contains s.wheels) (in_order m.model s.wheels (box_of m.model)) w (order_among m.model s.wheels (box_of m.model)) c)))
-        (order_apart m.model s.wheels (box_of m.model) (recursion_of_each (Contains (box_of m.model)) (box_of m.model) (λ wheel c. c)) (box_none_twice m.model))
+        (order_apart m.model s.wheels told (box_of m.model) (recursion_of_each (Contains (box_of m.model)) (box_of m.model) (λ wheel c. c)) (box_none_twice m.model))
 
     turns_set : AreSet (λ (n : Numbered). place_of m.model n.1) (λ (n : Numbered). n.1.letter) (OfRotors s) (with_letters rings_set.end) (length (box_of m.model)) turn_line m.letters (enumerate_from 1 s.wheels)
     turns_set =
@@ -189,7 +189,7 @@ module _ (m : RotorParts) (s : RotorDay) where
         key = record {
           model = same;
           slots = refl;
-          rings = all_of_order (λ w. slice_get rings_set.end (place_of m.model w) ≡ Some w.ring) m.model s.wheels apart boxed rings_set.done;
+          rings = all_of_order told (λ w. slice_get rings_set.end (place_of m.model w) ≡ Some w.ring) m.model s.wheels apart boxed rings_set.done;
           reflector = refl;
           cables = are_the_pairs s.pairs legal.pairs m.cables to machine.legal.cables pairing;
         };

@@ -2,7 +2,7 @@
 use Rattle.std.proofs.Common.{◌≡◌, ◌≢◌, ℕ, suc, ◌+◌, ◌-◌, Bool, true, false, not, cond, List, [], ◌∷◌, ◌++◌, length, map, set, zip, filter_map, count_by, Option, Some, None, slice_get, refl, sym, ap, ◌∙◌, subst, arith, append_assoc, length-append}
 use Rattle.std.specs.List.{AllByRecursion, enumerate_from}
 use Rattle.std.specs.Option.{option_map_or}
-use Rattle.std.proofs.lemmas.Bool.{false≢true}
+use Rattle.std.proofs.lemmas.Bool.{false≢true, false_from_ne_true}
 use Rattle.std.proofs.lemmas.List.{append-nil, map-append, length-map}
 use Rattle.kd_tables.specs.declared.wheel.Wheel.{Wheel}
 use Rattle.kd_tables.specs.Tables.{IsAllowed, wheels_for}
@@ -16,13 +16,14 @@ use Rattle.kd_state.specs.Box.{same_wheel}
 use Rattle.kd_state.specs.Machine.{AreAllowed}
 use Rattle.kd_state.specs.Setting.{why_refused, without}
 use Rattle.kd_state.specs.SheetDay.{RotorDay, OfRotors, seats}
+use Rattle.kd_state.specs.Laws.{NamesTellWheels}
 use Rattle.kd_state.specs.Costs.{loose_slots}
 use Rattle.kd_card.specs.Proving.{IsNeeded}
 use Rattle.kd_plan.specs.Planned.{unless_so}
 use Rattle.kd_plan.proofs.Carrying.{Led, led_none, led_cons}
 use Rattle.kd_plan.proofs.Letters.{count_by-cons}
 use Rattle.kd_plan.proofs.Lists.{seam_set, EachTwo, beside_back, beside_front}
-use Rattle.kd_plan.proofs.Wheels.{wheel_of_same, same_wheel_self, same_wheel_differs, has_wheel_of}
+use Rattle.kd_plan.proofs.Wheels.{same_wheel_self, has_wheel_of}
 
 -- the slot holds the day's wheel
 abbrev pub holds : Option Wheel → SheetWheel → Bool
@@ -34,43 +35,12 @@ wrong_slot slot = not (holds slot.0 slot.1)
 abbrev pub OtherWheels : SheetWheel → SheetWheel → Type 0
 OtherWheels w v = w.wheel ≢ v.wheel
 
--- a slot that loses a wheel held no other one
-holds_without_cond : (b : Bool) (wheel other : Wheel) (w : SheetWheel) → same_wheel wheel other ≡ b → wheel ≢ w.wheel → holds (cond b None (Some other)) w ≡ same_wheel w.wheel other
-holds_without_cond true wheel other w e h = sym (same_wheel_differs w.wheel other (λ same. h (wheel_of_same wheel other e ∙ sym same)))
-holds_without_cond false wheel other w e h = refl
-
-holds_without : (wheel : Wheel) (seated : Option Wheel) (w : SheetWheel) → wheel ≢ w.wheel → holds (without wheel seated) w ≡ holds seated w
-holds_without wheel None w h = refl
-holds_without wheel (Some other) w h = holds_without_cond (same_wheel wheel other) wheel other w refl h
-
-holds_is : (seated : Option Wheel) (w : SheetWheel) → holds seated w ≡ true → seated ≡ Some w.wheel
-holds_is None w e = absurd (false≢true e)
-holds_is (Some other) w e = ap Some (sym (wheel_of_same w.wheel other e))
-
 -- the lines of slots from a number on
 abbrev pub seat_lines_from : ℕ → List (Option Wheel) → List SheetWheel → List Setting
 seat_lines_from number slots wheels =
     filter_map (λ (slot : ℕ × (Option Wheel × SheetWheel)). unless_so (holds slot.1.0 slot.1.1) (Seat slot.0 slot.1.1.wheel)) (enumerate_from number (zip slots wheels))
 
--- nothing changes for slots of other wheels
-same_lines : (wheel : Wheel) (slots : List (Option Wheel)) (wheels : List SheetWheel) (number : ℕ) → AllByRecursion (λ v. wheel ≢ v.wheel) wheels
-    → seat_lines_from number (map (without wheel) slots) wheels ≡ seat_lines_from number slots wheels
-same_lines wheel [] wheels number h = refl
-same_lines wheel (now ∷ slots) [] number h = refl
-same_lines wheel (now ∷ slots) (w ∷ wheels) number h = rw (holds_without wheel now w h.0, same_lines wheel slots wheels (number + 1) h.1) refl
-
-same_count : (wheel : Wheel) (slots : List (Option Wheel)) (wheels : List SheetWheel) → AllByRecursion (λ v. wheel ≢ v.wheel) wheels
-    → count_by wrong_slot (zip (map (without wheel) slots) wheels) ≡ count_by wrong_slot (zip slots wheels)
-same_count wheel [] wheels h = refl
-same_count wheel (now ∷ slots) [] h = refl
-same_count wheel (now ∷ slots) (w ∷ wheels) h =
-    let head = ap (λ b. cond {A = ℕ} (not b) 1 0) (holds_without wheel now w h.0) in
-    omega (arith, count_by-cons wrong_slot (without wheel now, w) (zip (map (without wheel) slots) wheels), count_by-cons wrong_slot (now, w) (zip slots wheels), same_count wheel slots wheels h.1)
-
-seats_without : (wheel : Wheel) (done : List SheetWheel) → AllByRecursion (λ v. v.wheel ≢ wheel) done → map (without wheel) (seats done) ≡ seats done
-seats_without wheel [] h = refl
-seats_without wheel (v ∷ done) h = let other = same_wheel_differs wheel v.wheel (λ e. h.0 (sym e)) in rw (other, seats_without wheel done h.1) refl
-
+-- slots that are done are right
 done_right : (done : List SheetWheel) (slots : List (Option Wheel)) (wheels : List SheetWheel) → count_by wrong_slot (zip (seats done ++ slots) (done ++ wheels)) ≡ count_by wrong_slot (zip slots wheels)
 done_right [] slots wheels = refl
 done_right (v ∷ done) slots wheels =
@@ -84,16 +54,6 @@ seated_at slot wheel slots = set (map (without wheel) slots) (slot - 1) (Some wh
 more_seats : (done : List SheetWheel) (w : SheetWheel) (slots : List (Option Wheel)) → seats (done ++ w ∷ []) ++ slots ≡ seats done ++ Some w.wheel ∷ slots
 more_seats done w slots = ap (λ front. front ++ slots) (map-append (λ (v : SheetWheel). Some v.wheel) done (w ∷ [])) ∙ append_assoc (seats done) (Some w.wheel ∷ []) slots
 
-seated_behind : (done : List SheetWheel) (w : SheetWheel) (now : Option Wheel) (slots : List (Option Wheel)) → AllByRecursion (λ v. v.wheel ≢ w.wheel) done
-    → seats (done ++ w ∷ []) ++ map (without w.wheel) slots ≡ seated_at (suc (length done)) w.wheel (seats done ++ now ∷ slots)
-seated_behind done w now slots h =
-    let front = map-append (without w.wheel) (seats done) (now ∷ slots) ∙ ap (λ first. first ++ map (without w.wheel) (now ∷ slots)) (seats_without w.wheel done h) in
-    let size = length-map done (λ (v : SheetWheel). Some v.wheel) in
-    more_seats done w (map (without w.wheel) slots)
-    ∙ sym (ap (λ all. set all (suc (length done) - 1) (Some w.wheel)) front
-    ∙ ap (λ n. set (seats done ++ map (without w.wheel) (now ∷ slots)) (suc n - 1) (Some w.wheel)) (sym size)
-    ∙ seam_set (seats done) (without w.wheel now) (map (without w.wheel) slots) (Some w.wheel))
-
 seat_behind : (done rest : List SheetWheel) (w : SheetWheel) → slice_get (seats (done ++ w ∷ rest)) (length done) ≡ Some (Some w.wheel)
 seat_behind [] rest w = refl
 seat_behind (v ∷ done) rest w = seat_behind done rest w
@@ -101,57 +61,104 @@ seat_behind (v ∷ done) rest w = seat_behind done rest w
 pub seat_of : (wheels done rest : List SheetWheel) (w : SheetWheel) → done ++ w ∷ rest ≡ wheels → slice_get (seats wheels) (length done) ≡ Some (Some w.wheel)
 seat_of wheels done rest w e = subst (λ all. slice_get (seats all) (length done) ≡ Some (Some w.wheel)) e (seat_behind done rest w)
 
-module _ (m : RotorParts) (s : RotorDay) (allowed : AreAllowed m.model (seats s.wheels)) (apart : EachTwo OtherWheels s.wheels) where
-  abbrev pub with_slots : List (Option Wheel) → Parts
-  with_slots slots = Rotor (record m { slots = slots })
+module _ (told : NamesTellWheels) where
+  -- two wheels that differ are told apart
+  differs : (wheel other : Wheel) → wheel ≢ other → same_wheel wheel other ≡ false
+  differs wheel other h = false_from_ne_true (same_wheel wheel other) (λ e. h ((told wheel other).0 e))
 
-  seat_allowed : (slots : List (Option Wheel)) (done rest : List SheetWheel) (w : SheetWheel) → done ++ w ∷ rest ≡ s.wheels → why_refused (with_slots slots) (Seat (suc (length done)) w.wheel) ≡ None
-  seat_allowed slots done rest w e =
-      let may : IsAllowed m.model (length done + 1) w.wheel = allowed (length done) w.wheel (seat_of s.wheels done rest w e) in
-      let slot : length done + 1 ≡ suc (length done) = omega arith in
-      let has = has_wheel_of (wheels_for m.model (suc (length done))) w.wheel (subst (λ slot. IsAllowed m.model slot w.wheel) slot may) in
-      rw has refl
+  -- a slot that loses a wheel held no other one
+  holds_without_cond : (b : Bool) (wheel other : Wheel) (w : SheetWheel) → same_wheel wheel other ≡ b → wheel ≢ w.wheel → holds (cond b None (Some other)) w ≡ same_wheel w.wheel other
+  holds_without_cond true wheel other w e h = sym (differs w.wheel other (λ same. h ((told wheel other).0 e ∙ sym same)))
+  holds_without_cond false wheel other w e h = refl
 
-  seat_needed : (done rest : List SheetWheel) (w : SheetWheel) (now : Option Wheel) (slots : List (Option Wheel)) → done ++ w ∷ rest ≡ s.wheels → holds now w ≡ false
-      → IsNeeded (with_slots (seats done ++ now ∷ slots)) (OfRotors s) (Seat (suc (length done)) w.wheel)
-  seat_needed done rest w now slots e wrong = λ unpriced.
-      let two = subst (EachTwo OtherWheels) (sym e) apart in
-      let before : loose_slots (record m { slots = seats done ++ now ∷ slots }) s ≡ count_by wrong_slot (zip (now ∷ slots) (w ∷ rest)) =
-      ap (λ wheels. count_by wrong_slot (zip (seats done ++ now ∷ slots) wheels)) (sym e) ∙ done_right done (now ∷ slots) (w ∷ rest) in
-      let head = count_by-cons wrong_slot (now, w) (zip slots rest) in
-      let one : cond {A = ℕ} (wrong_slot (now, w)) 1 0 ≡ 1 = ap (λ b. cond (not b) 1 0) wrong in
-      let after : loose_slots (record m { slots = seated_at (suc (length done)) w.wheel (seats done ++ now ∷ slots) }) s ≡ count_by wrong_slot (zip slots rest) =
-      ap (λ all. count_by wrong_slot (zip all s.wheels)) (sym (seated_behind done w now slots (beside_front OtherWheels done w rest two)))
-      ∙ ap (λ wheels. count_by wrong_slot (zip (seats (done ++ w ∷ []) ++ map (without w.wheel) slots) wheels)) (sym e ∙ sym (append_assoc done (w ∷ []) rest))
-      ∙ done_right (done ++ w ∷ []) (map (without w.wheel) slots) rest ∙ same_count w.wheel slots rest (beside_back OtherWheels done w rest two) in
-      omega (arith, before, head, one, after)
+  holds_without : (wheel : Wheel) (seated : Option Wheel) (w : SheetWheel) → wheel ≢ w.wheel → holds (without wheel seated) w ≡ holds seated w
+  holds_without wheel None w h = refl
+  holds_without wheel (Some other) w h = holds_without_cond (same_wheel wheel other) wheel other w refl h
 
-  seat_cond : (b : Bool) (done rest : List SheetWheel) (w : SheetWheel) (now : Option Wheel) (slots : List (Option Wheel)) (number : ℕ) (end : Parts) → done ++ w ∷ rest ≡ s.wheels → holds now w ≡ b → number ≡ suc (length done)
-      → ((others : List (Option Wheel)) → length others ≡ length slots → Led (OfRotors s) (with_slots (seats (done ++ w ∷ []) ++ others)) (seat_lines_from (number + 1) others rest) end)
-      → Led (OfRotors s) (with_slots (seats done ++ now ∷ slots)) (seat_lines_from number (now ∷ slots) (w ∷ rest)) end
-  seat_cond true done rest w now slots number end e is at next =
-      rw is (subst (λ all. Led (OfRotors s) (with_slots all) (seat_lines_from (number + 1) slots rest) end)
-      (more_seats done w slots ∙ ap (λ seated. seats done ++ seated ∷ slots) (sym (holds_is now w is))) (next slots refl))
-  seat_cond false done rest w now slots number end e is at next =
-      let two = subst (EachTwo OtherWheels) (sym e) apart in
-      let here = with_slots (seats done ++ now ∷ slots) in
-      let line = Seat (suc (length done)) w.wheel in
-      let further = seat_lines_from (number + 1) slots rest in
-      let then_so = subst (λ lines. Led (OfRotors s) (with_slots (seats (done ++ w ∷ []) ++ map (without w.wheel) slots)) lines end)
-      (same_lines w.wheel slots rest (number + 1) (beside_back OtherWheels done w rest two)) (next (map (without w.wheel) slots) (length-map slots (without w.wheel))) in
-      let led = led_cons (OfRotors s) here end line further (seat_allowed (seats done ++ now ∷ slots) done rest w e) (seat_needed done rest w now slots e is)
-      (subst (λ all. Led (OfRotors s) (with_slots all) further end) (seated_behind done w now slots (beside_front OtherWheels done w rest two)) then_so) in
-      rw is (subst (λ n. Led (OfRotors s) here (Seat n w.wheel ∷ further) end) (sym at) led)
+  holds_is : (seated : Option Wheel) (w : SheetWheel) → holds seated w ≡ true → seated ≡ Some w.wheel
+  holds_is None w e = absurd (false≢true e)
+  holds_is (Some other) w e = ap Some (sym ((told w.wheel other).0 e))
 
-  seats_from : (done rest : List SheetWheel) (slots : List (Option Wheel)) (number : ℕ) → done ++ rest ≡ s.wheels → length slots ≡ length rest → number ≡ suc (length done)
-      → Led (OfRotors s) (with_slots (seats done ++ slots)) (seat_lines_from number slots rest) (with_slots (seats s.wheels))
-  seats_from done [] [] number e size at =
-      led_none (OfRotors s) (with_slots (seats done ++ [])) (with_slots (seats s.wheels)) (ap with_slots (ap seats (sym e ∙ append-nil done) ∙ sym (append-nil (seats done))))
-  seats_from done (w ∷ rest) (now ∷ slots) number e size at =
-      seat_cond (holds now w) done rest w now slots number (with_slots (seats s.wheels)) e refl at
-      (λ others same. seats_from (done ++ w ∷ []) rest others (number + 1) (append_assoc done (w ∷ []) rest ∙ e) (omega arith) (omega (arith, length-append done (w ∷ []))))
-  seats_from done [] (now ∷ slots) number e size at = absurd (omega arith)
-  seats_from done (w ∷ rest) [] number e size at = absurd (omega arith)
+  -- nothing changes for slots of other wheels
+  same_lines : (wheel : Wheel) (slots : List (Option Wheel)) (wheels : List SheetWheel) (number : ℕ) → AllByRecursion (λ v. wheel ≢ v.wheel) wheels
+      → seat_lines_from number (map (without wheel) slots) wheels ≡ seat_lines_from number slots wheels
+  same_lines wheel [] wheels number h = refl
+  same_lines wheel (now ∷ slots) [] number h = refl
+  same_lines wheel (now ∷ slots) (w ∷ wheels) number h = rw (holds_without wheel now w h.0, same_lines wheel slots wheels (number + 1) h.1) refl
 
-  pub seats_led : length m.slots ≡ length s.wheels → Led (OfRotors s) (Rotor m) (seat_lines_from 1 m.slots s.wheels) (with_slots (seats s.wheels))
-  seats_led size = seats_from [] s.wheels m.slots 1 refl size refl
+  same_count : (wheel : Wheel) (slots : List (Option Wheel)) (wheels : List SheetWheel) → AllByRecursion (λ v. wheel ≢ v.wheel) wheels
+      → count_by wrong_slot (zip (map (without wheel) slots) wheels) ≡ count_by wrong_slot (zip slots wheels)
+  same_count wheel [] wheels h = refl
+  same_count wheel (now ∷ slots) [] h = refl
+  same_count wheel (now ∷ slots) (w ∷ wheels) h =
+      let head = ap (λ b. cond {A = ℕ} (not b) 1 0) (holds_without wheel now w h.0) in
+      omega (arith, count_by-cons wrong_slot (without wheel now, w) (zip (map (without wheel) slots) wheels), count_by-cons wrong_slot (now, w) (zip slots wheels), same_count wheel slots wheels h.1)
+
+  seats_without : (wheel : Wheel) (done : List SheetWheel) → AllByRecursion (λ v. v.wheel ≢ wheel) done → map (without wheel) (seats done) ≡ seats done
+  seats_without wheel [] h = refl
+  seats_without wheel (v ∷ done) h = let other = differs wheel v.wheel (λ e. h.0 (sym e)) in rw (other, seats_without wheel done h.1) refl
+
+  seated_behind : (done : List SheetWheel) (w : SheetWheel) (now : Option Wheel) (slots : List (Option Wheel)) → AllByRecursion (λ v. v.wheel ≢ w.wheel) done
+      → seats (done ++ w ∷ []) ++ map (without w.wheel) slots ≡ seated_at (suc (length done)) w.wheel (seats done ++ now ∷ slots)
+  seated_behind done w now slots h =
+      let front = map-append (without w.wheel) (seats done) (now ∷ slots) ∙ ap (λ first. first ++ map (without w.wheel) (now ∷ slots)) (seats_without w.wheel done h) in
+      let size = length-map done (λ (v : SheetWheel). Some v.wheel) in
+      more_seats done w (map (without w.wheel) slots)
+      ∙ sym (ap (λ all. set all (suc (length done) - 1) (Some w.wheel)) front
+      ∙ ap (λ n. set (seats done ++ map (without w.wheel) (now ∷ slots)) (suc n - 1) (Some w.wheel)) (sym size)
+      ∙ seam_set (seats done) (without w.wheel now) (map (without w.wheel) slots) (Some w.wheel))
+
+  module _ (m : RotorParts) (s : RotorDay) (allowed : AreAllowed m.model (seats s.wheels)) (apart : EachTwo OtherWheels s.wheels) where
+    abbrev pub with_slots : List (Option Wheel) → Parts
+    with_slots slots = Rotor (record m { slots = slots })
+
+    seat_allowed : (slots : List (Option Wheel)) (done rest : List SheetWheel) (w : SheetWheel) → done ++ w ∷ rest ≡ s.wheels → why_refused (with_slots slots) (Seat (suc (length done)) w.wheel) ≡ None
+    seat_allowed slots done rest w e =
+        let may : IsAllowed m.model (length done + 1) w.wheel = allowed (length done) w.wheel (seat_of s.wheels done rest w e) in
+        let slot : length done + 1 ≡ suc (length done) = omega arith in
+        let has = has_wheel_of (wheels_for m.model (suc (length done))) w.wheel (subst (λ slot. IsAllowed m.model slot w.wheel) slot may) in
+        rw has refl
+
+    seat_needed : (done rest : List SheetWheel) (w : SheetWheel) (now : Option Wheel) (slots : List (Option Wheel)) → done ++ w ∷ rest ≡ s.wheels → holds now w ≡ false
+        → IsNeeded (with_slots (seats done ++ now ∷ slots)) (OfRotors s) (Seat (suc (length done)) w.wheel)
+    seat_needed done rest w now slots e wrong = λ unpriced.
+        let two = subst (EachTwo OtherWheels) (sym e) apart in
+        let before : loose_slots (record m { slots = seats done ++ now ∷ slots }) s ≡ count_by wrong_slot (zip (now ∷ slots) (w ∷ rest)) =
+        ap (λ wheels. count_by wrong_slot (zip (seats done ++ now ∷ slots) wheels)) (sym e) ∙ done_right done (now ∷ slots) (w ∷ rest) in
+        let head = count_by-cons wrong_slot (now, w) (zip slots rest) in
+        let one : cond {A = ℕ} (wrong_slot (now, w)) 1 0 ≡ 1 = ap (λ b. cond (not b) 1 0) wrong in
+        let after : loose_slots (record m { slots = seated_at (suc (length done)) w.wheel (seats done ++ now ∷ slots) }) s ≡ count_by wrong_slot (zip slots rest) =
+        ap (λ all. count_by wrong_slot (zip all s.wheels)) (sym (seated_behind done w now slots (beside_front OtherWheels done w rest two)))
+        ∙ ap (λ wheels. count_by wrong_slot (zip (seats (done ++ w ∷ []) ++ map (without w.wheel) slots) wheels)) (sym e ∙ sym (append_assoc done (w ∷ []) rest))
+        ∙ done_right (done ++ w ∷ []) (map (without w.wheel) slots) rest ∙ same_count w.wheel slots rest (beside_back OtherWheels done w rest two) in
+        omega (arith, before, head, one, after)
+
+    seat_cond : (b : Bool) (done rest : List SheetWheel) (w : SheetWheel) (now : Option Wheel) (slots : List (Option Wheel)) (number : ℕ) (end : Parts) → done ++ w ∷ rest ≡ s.wheels → holds now w ≡ b → number ≡ suc (length done)
+        → ((others : List (Option Wheel)) → length others ≡ length slots → Led (OfRotors s) (with_slots (seats (done ++ w ∷ []) ++ others)) (seat_lines_from (number + 1) others rest) end)
+        → Led (OfRotors s) (with_slots (seats done ++ now ∷ slots)) (seat_lines_from number (now ∷ slots) (w ∷ rest)) end
+    seat_cond true done rest w now slots number end e is at next =
+        rw is (subst (λ all. Led (OfRotors s) (with_slots all) (seat_lines_from (number + 1) slots rest) end)
+        (more_seats done w slots ∙ ap (λ seated. seats done ++ seated ∷ slots) (sym (holds_is now w is))) (next slots refl))
+    seat_cond false done rest w now slots number end e is at next =
+        let two = subst (EachTwo OtherWheels) (sym e) apart in
+        let here = with_slots (seats done ++ now ∷ slots) in
+        let line = Seat (suc (length done)) w.wheel in
+        let further = seat_lines_from (number + 1) slots rest in
+        let then_so = subst (λ lines. Led (OfRotors s) (with_slots (seats (done ++ w ∷ []) ++ map (without w.wheel) slots)) lines end)
+        (same_lines w.wheel slots rest (number + 1) (beside_back OtherWheels done w rest two)) (next (map (without w.wheel) slots) (length-map slots (without w.wheel))) in
+        let led = led_cons (OfRotors s) here end line further (seat_allowed (seats done ++ now ∷ slots) done rest w e) (seat_needed done rest w now slots e is)
+        (subst (λ all. Led (OfRotors s) (with_slots all) further end) (seated_behind done w now slots (beside_front OtherWheels done w rest two)) then_so) in
+        rw is (subst (λ n. Led (OfRotors s) here (Seat n w.wheel ∷ further) end) (sym at) led)
+
+    seats_from : (done rest : List SheetWheel) (slots : List (Option Wheel)) (number : ℕ) → done ++ rest ≡ s.wheels → length slots ≡ length rest → number ≡ suc (length done)
+        → Led (OfRotors s) (with_slots (seats done ++ slots)) (seat_lines_from number slots rest) (with_slots (seats s.wheels))
+    seats_from done [] [] number e size at =
+        led_none (OfRotors s) (with_slots (seats done ++ [])) (with_slots (seats s.wheels)) (ap with_slots (ap seats (sym e ∙ append-nil done) ∙ sym (append-nil (seats done))))
+    seats_from done (w ∷ rest) (now ∷ slots) number e size at =
+        seat_cond (holds now w) done rest w now slots number (with_slots (seats s.wheels)) e refl at
+        (λ others same. seats_from (done ++ w ∷ []) rest others (number + 1) (append_assoc done (w ∷ []) rest ∙ e) (omega arith) (omega (arith, length-append done (w ∷ []))))
+    seats_from done [] (now ∷ slots) number e size at = absurd (omega arith)
+    seats_from done (w ∷ rest) [] number e size at = absurd (omega arith)
+
+    pub seats_led : length m.slots ≡ length s.wheels → Led (OfRotors s) (Rotor m) (seat_lines_from 1 m.slots s.wheels) (with_slots (seats s.wheels))
+    seats_led size = seats_from [] s.wheels m.slots 1 refl size refl

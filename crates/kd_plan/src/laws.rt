@@ -1,13 +1,21 @@
 //! What holds of planned cards.
 ghost use Rattle.kd_plan.specs.Laws.{PlannedCardsProve, PlannedLinesLead};
 
+use kd_state::laws::{names_tell_parts, places_tell_wheels};
+
 /// The planned lines of any pairing, carried out one after another, are each allowed, and lead the machine to the day.
 pub fn planned_lines_lead_to_the_day()
     ensures { PlannedLinesLead }
-{}
+{
+    names_tell_parts();
+    places_tell_wheels();
+}
 
 /// A planned card proves itself: prices that fit and add up to what its pairing costs show that no list of settings that
 /// leads to the day is shorter.
 pub fn planned_cards_prove_themselves()
     ensures { PlannedCardsProve }
-{}
+{
+    names_tell_parts();
+    places_tell_wheels();
+}

@@ -8,6 +8,7 @@ pub mod SettingLines
 pub mod SettingLists
 mod CountedLetters
 pub mod Columns
+mod Places
 mod CostTables
 mod DayPairs
 mod Joined

@@ -1,5 +1,7 @@
 -- What holds of machines, settings and days of a sheet.
-use Rattle.std.specs.Prelude.{◌≡◌, ◌↔◌, ℕ, ◌+◌, ◌<◌, List, ◌++◌, length, All, None, MatchOption, Contains}
+use Rattle.std.specs.Prelude.{◌≡◌, ◌≢◌, ◌↔◌, ℕ, ◌+◌, ◌<◌, List, ◌++◌, length, All, AllPairs, None, MatchOption, Contains}
+use Rattle.std.specs.Bool.{Decides}
+use Rattle.kd_tables.specs.declared.model.Model.{Model}
 use Rattle.kd_tables.specs.declared.wheel.Wheel.{Wheel}
 use Rattle.kd_tables.specs.declared.reflector.Reflector.{Reflector}
 use Rattle.kd_tables.specs.Tables.{box_of, reflectors_of, IsAllowed}
@@ -9,14 +11,39 @@ use Rattle.kd_state.specs.declared.parts.Parts.TheVariants.{Rotor}
 use Rattle.kd_state.specs.declared.setting.Setting.{Setting}
 use Rattle.kd_state.specs.declared.setting.Setting.TheVariants.{Seat, SeatReflector, RingTo}
 use Rattle.kd_state.specs.declared.list.ListFault.{ListFault}
+use Rattle.kd_state.specs.declared.sheet_wheel.SheetWheel.{SheetWheel}
+use Rattle.kd_state.specs.Box.{same_wheel, same_reflector, place_in_box}
 use Rattle.kd_state.specs.Machine.{IsMachine}
 use Rattle.kd_state.specs.Setting.{why_refused, Carries, Leads}
 use Rattle.kd_state.specs.Words.{IsWord}
 use Rattle.kd_state.specs.Line.{setting_words, setting_line, IsInRange, IsList, IsListFault}
-use Rattle.kd_state.specs.SheetDay.{Day, IsLegalDay}
+use Rattle.kd_state.specs.SheetDay.{seats, AreSeated, Day, IsLegalDay}
 use Rattle.kd_state.specs.OnKey.{OnKey, ReadsAs}
 use Rattle.kd_state.specs.Costs.{cost_table}
 use Rattle.kd_state.specs.TwoCiphers.{EngineKey, cipher, key_left, key_with_window, IsWindow, IsReady, window_of, physical_key, physical_cipher, sheet_key, sheet_cipher, IsTurned}
+
+-- no two wheels have one name, and no two reflectors
+abbrev pub NamesTellWheels : Type 0
+NamesTellWheels = (wheel other : Wheel) → Decides (same_wheel wheel other) (wheel ≡ other)
+
+abbrev pub NamesTellReflectors : Type 0
+NamesTellReflectors = (reflector other : Reflector) → Decides (same_reflector reflector other) (reflector ≡ other)
+
+-- a wheel that may stand in a slot lies in the box; it has a place there, and no other wheel has that place
+abbrev pub AllowedWheelsLieInTheBox : Type 0
+AllowedWheelsLieInTheBox = (model : Model) (slot : ℕ) (wheel : Wheel) → IsAllowed model slot wheel → Contains (box_of model) wheel
+
+abbrev pub WheelsHavePlaces : Type 0
+WheelsHavePlaces = (model : Model) (wheel : Wheel) → Contains (box_of model) wheel → place_in_box model wheel < length (box_of model)
+
+abbrev pub PlacesTellWheels : Type 0
+PlacesTellWheels = (model : Model) (wheel other : Wheel) → Contains (box_of model) wheel → Contains (box_of model) other
+    → place_in_box model wheel ≡ place_in_box model other → wheel ≡ other
+
+-- no two wheels of a day have one place in the box
+abbrev pub DaysWheelsHaveTheirPlaces : Type 0
+DaysWheelsHaveTheirPlaces = (model : Model) (wheels : List SheetWheel) → AreSeated model (seats wheels)
+    → AllPairs (λ (w other : SheetWheel). place_in_box model w.wheel ≢ place_in_box model other.wheel) wheels
 
 -- a setting that is carried out makes a machine of a machine, and so does a list of them
 abbrev pub SettingsKeepMachines : Type 0

@@ -1,6 +1,8 @@
 //! Laws over machines, settings and days of a sheet alone.
 ghost use Rattle.kd_state.specs.Words.{LinesTellWords, LinesSplitIntoWords, PartsMakeLines, WordsMakeOneLine, TextsTellFirstParts};
 ghost use Rattle.kd_state.specs.Words.{NumbersAreWords, LettersAreWords};
+ghost use Rattle.kd_state.specs.Laws.{NamesTellWheels, NamesTellReflectors};
+ghost use Rattle.kd_state.specs.Laws.{AllowedWheelsLieInTheBox, WheelsHavePlaces, PlacesTellWheels, DaysWheelsHaveTheirPlaces};
 ghost use Rattle.kd_state.specs.Laws.{SettingsHaveWords, LinesTellSettings, TextsTellLists, ListsHaveNoFault, OneListFault};
 ghost use Rattle.kd_state.specs.Laws.{SettingsKeepMachines, ListsKeepMachines, RefusesOrCarries, CarriesToOne, LeadsToOne};
 ghost use Rattle.kd_state.specs.Laws.{SeatsAreByTheTables, ReflectorsAreByTheTables, RingsAreByTheTables};
@@ -43,6 +45,21 @@ pub fn texts_tell_lists()
     ensures list { TextsTellLists }
     ensures no_fault { ListsHaveNoFault }
     ensures one_fault { OneListFault }
+{}
+
+/// No two wheels have one name, and no two reflectors.
+pub fn names_tell_parts()
+    ensures wheels { NamesTellWheels }
+    ensures reflectors { NamesTellReflectors }
+{}
+
+/// A wheel that may stand in a slot lies in the box, and each wheel of the box has a place of its own there. So no two wheels
+/// of a day have one place.
+pub fn places_tell_wheels()
+    ensures in_box { AllowedWheelsLieInTheBox }
+    ensures within { WheelsHavePlaces }
+    ensures wheels { PlacesTellWheels }
+    ensures days { DaysWheelsHaveTheirPlaces }
 {}
 
 /// A setting that is carried out makes a machine of a machine, and so does a list of them.

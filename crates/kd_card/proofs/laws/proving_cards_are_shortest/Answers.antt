@@ -2,4 +2,4 @@ use Rattle.kd_card.proofs.Shortest.{proving_cards_are_shortest}
 use Rattle.kd_card.proofs.laws.proving_cards_are_shortest.Goals as goal
 
 pub returns : goal.returns
-returns c = proving_cards_are_shortest
+returns c = proving_cards_are_shortest c.places_tell_wheels.ensures.days
