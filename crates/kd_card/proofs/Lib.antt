@@ -1,3 +1,4 @@
+pub mod Told
 pub mod Lines
 pub mod PriceTexts
 pub mod PriceLines

@@ -5,7 +5,6 @@ use Rattle.std.specs.List.{AllByRecursion, AllZip, flat_map, list_all}
 use Rattle.std.specs.List as lists
 use Rattle.std.proofs.lemmas.Bool.{false≢true, eq-eqb, lt-ltb}
 use Rattle.std.proofs.lemmas.Bool.Decides.{eqb_tells}
-use Rattle.std.proofs.lemmas.List.{length-append, length-map, length-replicate}
 use Rattle.std.proofs.lemmas.List.Edits.{length-remove}
 use Rattle.std.proofs.lemmas.List.Elements.{All-contains, recursion_from_All}
 use Rattle.std.proofs.lemmas.List.Sums.{sum_by-cons, AllPass-from_list_all}
@@ -21,39 +20,8 @@ use Rattle.kd_state.specs.OnKey.{SameLetters, IsPaired, IsPlugged, AreThePairs}
 use Rattle.kd_state.specs.Costs.{differ, cable_cost, standings_as, bar_cost, columns_of}
 use Rattle.kd_card.proofs.Duality.{pairing_cost, reordered}
 use Rattle.kd_card.proofs.Counts.{count_by-cons, times, times-append, AreOnce}
+use Rattle.kd_card.proofs.Told.{Told}
 use Rattle.kd_card.proofs.Kept.{CablesAreOnce, HasCables, HasBars, Stands}
-
--- the letter is among these exactly where the test says so
-has_of_contains : (letters : List ℕ) (letter place : ℕ) → place < length letters → get_or letters place letter ≡ letter → has_letter letters letter ≡ true
-has_of_contains [] letter place lt e = absurd (omega arith)
-has_of_contains (other ∷ letters) letter zero lt e = ap (λ b. b || has_letter letters letter) (eq-eqb other letter e)
-has_of_contains (other ∷ letters) letter (suc place) lt e =
-    ap (λ b. nat_eq other letter || b) (has_of_contains letters letter place (omega arith) e) ∙ or_true (nat_eq other letter)
-  where
-    or_true : (b : Bool) → (b || true) ≡ true
-    or_true true = refl
-    or_true false = refl
-
-contains_of_has : (letters : List ℕ) (letter : ℕ) → has_letter letters letter ≡ true → Contains letters letter
-contains_of_has [] letter e = absurd (false≢true e)
-contains_of_has (other ∷ letters) letter e =
-    elim (eqb_tells other letter) [
-      | inl same ↦ (zero, omega arith, same.1)
-      | inr away ↦
-          let later = contains_of_has letters letter (sym (ap (λ b. b || has_letter letters letter) away.0) ∙ e) in
-          (suc later.0, omega (arith, later.1), later.2)
-    ]
-
-same_tests : (b c : Bool) → (b ≡ true → c ≡ true) → (c ≡ true → b ≡ true) → b ≡ c
-same_tests true c f g = sym (f refl)
-same_tests false true f g = g refl
-same_tests false false f g = refl
-
-has_same : (xs ys : List ℕ) → SameLetters xs ys → (letter : ℕ) → has_letter xs letter ≡ has_letter ys letter
-has_same xs ys same letter =
-    same_tests (has_letter xs letter) (has_letter ys letter)
-    (λ e. let there = (same letter).0 (contains_of_has xs letter e) in has_of_contains ys letter there.0 there.1 there.2)
-    (λ e. let there = (same letter).1 (contains_of_has ys letter e) in has_of_contains xs letter there.0 there.1 there.2)
 
 -- a cable with the letters of its column costs nothing
 none_differ : (xs ys : List ℕ) → ((letter : ℕ) → has_letter xs letter ≡ has_letter ys letter) → (letters : List ℕ) → count_by (λ letter. differ (has_letter xs letter) (has_letter ys letter)) letters ≡ 0
@@ -192,19 +160,19 @@ all_empty [] (suc number) e h = absurd (omega arith)
 all_empty (cable ∷ cables) zero e h = absurd (omega arith)
 
 -- the cables in an order in which each costs nothing at its column
-pub matched : (cables : List (Option ℕ × Option ℕ)) (pairs : List (ℕ × ℕ)) (nothings : ℕ) → length cables ≡ length pairs + nothings → AreMatched cables pairs
+pub matched : Told → (cables : List (Option ℕ × Option ℕ)) (pairs : List (ℕ × ℕ)) (nothings : ℕ) → length cables ≡ length pairs + nothings → AreMatched cables pairs
     → (others : List (Option ℕ × Option ℕ)) × IsPermutation cables others × AllZip CostsNothing others (map Some pairs ++ replicate nothings None)
-matched cables [] nothings e h =
+matched told cables [] nothings e h =
     (cables, IsPermutation-refl cables, all_empty cables nothings (omega arith) (λ cable among some. let found = h.pair cable among some in omega (arith, found.1.1)))
-matched cables (pair ∷ pairs) nothings e h =
+matched told cables (pair ∷ pairs) nothings e h =
     let found = h.cable pair (zero, omega arith, refl) in
     let rest = remove cables found.1.0 in
     let order = IsPermutation-remove cables found.1.0 found.0 found.1.1 (sym found.1.2) in
     let fewer = length-remove cables found.1.0 found.1.1 in
-    let further = matched rest pairs nothings (omega arith) (rest_matched cables rest found.0 pair pairs order h found.2) in (
+    let further = matched told rest pairs nothings (omega arith) (rest_matched cables rest found.0 pair pairs order h found.2) in (
       found.0 ∷ further.0,
       IsPermutation-trans cables (found.0 ∷ rest) (found.0 ∷ further.0) order (IsPermutation-cons found.0 rest further.0 further.1),
-      (none_differ (cable_letters found.0) (pair_letters pair) (has_same (cable_letters found.0) (pair_letters pair) found.2) alphabet, further.2),
+      (none_differ (cable_letters found.0) (pair_letters pair) ((told.letters (cable_letters found.0) (pair_letters pair)).0 found.2) alphabet, further.2),
     )
 
 -- A pairing: the columns with their prices, each beside the row that it is paired with, and none costs anything.
@@ -236,15 +204,11 @@ matched_of_pairs cables pairs once pairs_once h =
       cable = λ pair among. let any = (All-contains (IsPlugged cables) pairs pair h.cable among).joins in (any.1, (any.0, any.2, any.3), any.4.letters);
     }
 
-pub length-columns_of : (pairs : List (ℕ × ℕ)) → length pairs ≤ 13 → length (columns_of pairs) ≡ 13
-length-columns_of pairs few =
-    simp (length-append, length-map, length-replicate) (omega arith)
-
-pub cables_paired : (cables : List (Option ℕ × Option ℕ)) (pairs : List (ℕ × ℕ)) (prices : List ℤ) → HasCables cables → AreOnce (letters_plugged pairs) → length pairs ≤ 13 → length prices ≡ 13
+pub cables_paired : Told → (cables : List (Option ℕ × Option ℕ)) (pairs : List (ℕ × ℕ)) (prices : List ℤ) → HasCables cables → AreOnce (letters_plugged pairs) → length pairs ≤ 13 → length prices ≡ 13
     → AreThePairs cables pairs → FreePairing cable_cost cables (columns_of pairs) prices
-cables_paired cables pairs prices has once few count h =
-    let size = length-columns_of pairs few in
-    let there = matched cables pairs (13 - length pairs) (omega (arith, has.count)) (matched_of_pairs cables pairs has.once once h) in
+cables_paired told cables pairs prices has once few count h =
+    let size = told.thirteen pairs few in
+    let there = matched told cables pairs (13 - length pairs) (omega (arith, has.count)) (matched_of_pairs cables pairs has.once once h) in
     let beside = reordered (λ cable (w : Option (ℕ × ℕ) × ℤ). CostsNothing cable w.0) there.0 cables (zip (columns_of pairs) prices) (IsPermutation-sym cables there.0 there.1)
     (with_prices CostsNothing there.0 (columns_of pairs) prices (omega arith) there.2) in
     record { beside = beside.0; order = beside.1; free = free_of_all cable_cost cables beside.0 beside.2 }

@@ -17,7 +17,6 @@ use Rattle.kd_state.specs.Machine.{model_of, IsMachine}
 use Rattle.kd_state.specs.Setting.{Carries, Leads, changed}
 use Rattle.kd_state.specs.SheetDay.{RotorDay, PinDay, Day, OfRotors, OfPins, day_model, IsLegalDay}
 use Rattle.kd_state.specs.OnKey.{ReadsAs}
-use Rattle.kd_state.specs.Laws.{DaysWheelsHaveTheirPlaces}
 use Rattle.kd_state.specs.Costs.{cable_cost, bar_cost, columns_of, cost_table, loose_count}
 use Rattle.kd_card.specs.declared.prices.PriceParts.TheVariants.{Cables, Bars}
 use Rattle.kd_card.specs.Prices.{ArePrices, Fits, price_sum}
@@ -28,7 +27,8 @@ use Rattle.kd_card.proofs.Counts.{count_by-cons, once_of_distinct}
 use Rattle.kd_card.proofs.Falling.{paired_cost, falls}
 use Rattle.kd_card.proofs.Loosening.{lowers, leaves, model_of-changed, nothing_loose}
 use Rattle.kd_card.proofs.Kept.{machines_have_all, list_keeps}
-use Rattle.kd_card.proofs.Pairing.{cables_paired, bars_paired, length-columns_of}
+use Rattle.kd_card.proofs.Pairing.{cables_paired, bars_paired}
+use Rattle.kd_card.proofs.Told.{Told}
 
 -- A setting lowers the loose things and the pairing's cost together by at most one, and so many settings by at most so many.
 either : (b : Bool) → cond b 0 1 + cond b 1 0 ≡ 1
@@ -39,13 +39,13 @@ pub model_of-list : (m n : Parts) (xs : List Setting) → Leads m xs n → model
 model_of-list m n [] h = ap model_of h
 model_of-list m n (x ∷ xs) h = model_of-list h.0 n xs h.2 ∙ ap model_of h.1.made ∙ model_of-changed m x
 
-module _ (places : DaysWheelsHaveTheirPlaces) (s : Day) (legal : IsLegalDay s) (columns : List (Option (ℕ × ℕ) × ℤ)) (rows : List ((ℕ × ℕ) × ℤ)) where
+module _ (told : Told) (s : Day) (legal : IsLegalDay s) (columns : List (Option (ℕ × ℕ) × ℤ)) (rows : List ((ℕ × ℕ) × ℤ)) where
   abbrev left_over : Parts → ℕ
   left_over m = loose_count m s + paired_cost m columns rows
 
   setting_lowers : (m n : Parts) (x : Setting) → model_of m ≡ day_model s → Carries m x n → left_over m ≤ left_over n + 1
   setting_lowers m n x same h =
-      subst (λ n. left_over m ≤ left_over n + 1) (sym h.made) (omega (arith, lowers places m s x legal same h.allowed, falls m x columns rows h.allowed, either (is_priced x)))
+      subst (λ n. left_over m ≤ left_over n + 1) (sym h.made) (omega (arith, lowers told.places m s x legal same h.allowed, falls m x columns rows h.allowed, either (is_priced x)))
 
   list_lowers : (m n : Parts) (xs : List Setting) → model_of m ≡ day_model s → Leads m xs n → left_over m ≤ left_over n + length xs
   list_lowers m n [] same h = subst (λ n. left_over m ≤ left_over n + 0) (sym h) (omega arith)
@@ -72,48 +72,48 @@ module _ {A B : Type 0} (cost : A → B → ℕ) (number : ℕ) (rows : List A) 
       let both = fold_of_both row_prices prices in
       omega (arith, ints)
 
-rotors_bound : DaysWheelsHaveTheirPlaces → (m n : RotorParts) (s : RotorDay) (row column : List ℤ) (settings : List Setting) → IsMachine (Rotor m) → IsLegalDay (OfRotors s) → ArePrices (Cables row column)
+rotors_bound : Told → (m n : RotorParts) (s : RotorDay) (row column : List ℤ) (settings : List Setting) → IsMachine (Rotor m) → IsLegalDay (OfRotors s) → ArePrices (Cables row column)
     → Fits (cost_table (Rotor m) (OfRotors s)) (Cables row column) → Leads (Rotor m) settings (Rotor n) → ReadsAs (Rotor n) (OfRotors s)
     → (pos (loose_count (Rotor m) (OfRotors s)) +ℤ price_sum (Cables row column)) ≤ℤ pos (length settings)
-rotors_bound places m n s row column settings machine legal prices fits leads reads =
+rotors_bound told m n s row column settings machine legal prices fits leads reads =
     let at_first = machines_have_all (Rotor m) machine.legal in
     let at_last = list_keeps (Rotor m) (Rotor n) settings leads at_first in
     let once = once_of_distinct (letters_plugged s.pairs) legal.pairs.apart in
-    let pairing = cables_paired n.cables s.pairs column at_last once legal.pairs.few prices.columns reads.key.cables in
-    let size = length-columns_of s.pairs legal.pairs.few in
+    let pairing = cables_paired told n.cables s.pairs column at_last once legal.pairs.few prices.columns reads.key.cables in
+    let size = told.thirteen s.pairs legal.pairs.few in
     let below = sum_at_most cable_cost 13 m.cables row (columns_of s.pairs) column at_first.count prices.rows size prices.columns pairing.beside pairing.order fits in
     let same = sym (model_of-list (Rotor m) (Rotor n) settings leads) ∙ reads.key.model in
-    let falling = list_lowers places (OfRotors s) legal pairing.beside [] (Rotor m) (Rotor n) settings same leads in
+    let falling = list_lowers told (OfRotors s) legal pairing.beside [] (Rotor m) (Rotor n) settings same leads in
     omega (arith, ints, pairing.free, nothing_loose (Rotor n) (OfRotors s) reads)
 
-pins_bound : DaysWheelsHaveTheirPlaces → (m n : PinParts) (s : PinDay) (row column : List ℤ) (settings : List Setting) → IsMachine (Pin m) → IsLegalDay (OfPins s) → ArePrices (Bars row column)
+pins_bound : Told → (m n : PinParts) (s : PinDay) (row column : List ℤ) (settings : List Setting) → IsMachine (Pin m) → IsLegalDay (OfPins s) → ArePrices (Bars row column)
     → Fits (cost_table (Pin m) (OfPins s)) (Bars row column) → Leads (Pin m) settings (Pin n) → ReadsAs (Pin n) (OfPins s)
     → (pos (loose_count (Pin m) (OfPins s)) +ℤ price_sum (Bars row column)) ≤ℤ pos (length settings)
-pins_bound places m n s row column settings machine legal prices fits leads reads =
+pins_bound told m n s row column settings machine legal prices fits leads reads =
     let at_first = machines_have_all (Pin m) machine.legal in
     let at_last = list_keeps (Pin m) (Pin n) settings leads at_first in
     let pairing = bars_paired n.bars s.rows column at_last (legal.count ∙ sym prices.columns) reads.key.rows in
     let below = sum_at_most bar_cost 27 m.bars row s.rows column at_first.count prices.rows legal.count prices.columns pairing.beside pairing.order fits in
-    let falling = list_lowers places (OfPins s) legal [] pairing.beside (Pin m) (Pin n) settings refl leads in
+    let falling = list_lowers told (OfPins s) legal [] pairing.beside (Pin m) (Pin n) settings refl leads in
     omega (arith, ints, pairing.free, nothing_loose (Pin n) (OfPins s) reads)
 
 -- A machine and a day are of one kind.
 pub no_rotors : (model : Model) (reflector : Reflector) → model ≡ M209 → Contains (reflectors_of model) reflector → ⊥
 no_rotors model reflector e h = let none = subst (λ model. Contains (reflectors_of model) reflector) e h in omega (arith, none.1)
 
-pub fitting_prices_bound_lists : DaysWheelsHaveTheirPlaces → FittingPricesBoundLists
-fitting_prices_bound_lists places (Rotor m) (OfRotors s) (Cables row column) settings machine legal prices kind fits (Rotor n, leads, reads) = rotors_bound places m n s row column settings machine legal prices fits leads reads
-fitting_prices_bound_lists places (Pin m) (OfPins s) (Bars row column) settings machine legal prices kind fits (Pin n, leads, reads) = pins_bound places m n s row column settings machine legal prices fits leads reads
-fitting_prices_bound_lists places (Rotor m) (OfPins s) (Cables row column) settings machine legal prices kind fits (Pin n, leads, reads) =
+pub fitting_prices_bound_lists : Told → FittingPricesBoundLists
+fitting_prices_bound_lists told (Rotor m) (OfRotors s) (Cables row column) settings machine legal prices kind fits (Rotor n, leads, reads) = rotors_bound told m n s row column settings machine legal prices fits leads reads
+fitting_prices_bound_lists told (Pin m) (OfPins s) (Bars row column) settings machine legal prices kind fits (Pin n, leads, reads) = pins_bound told m n s row column settings machine legal prices fits leads reads
+fitting_prices_bound_lists told (Rotor m) (OfPins s) (Cables row column) settings machine legal prices kind fits (Pin n, leads, reads) =
     absurd (no_rotors m.model m.reflector (sym (model_of-list (Rotor m) (Pin n) settings leads)) machine.legal.reflector)
-fitting_prices_bound_lists places (Pin m) (OfRotors s) (Bars row column) settings machine legal prices kind fits (Rotor n, leads, reads) =
+fitting_prices_bound_lists told (Pin m) (OfRotors s) (Bars row column) settings machine legal prices kind fits (Rotor n, leads, reads) =
     absurd (no_rotors s.model s.reflector (sym reads.key.model ∙ model_of-list (Pin m) (Rotor n) settings leads) legal.reflector)
-fitting_prices_bound_lists places (Rotor m) (OfRotors s) (Cables row column) settings machine legal prices kind fits (Pin n, leads, reads) = absurd reads.key
-fitting_prices_bound_lists places (Rotor m) (OfPins s) (Cables row column) settings machine legal prices kind fits (Rotor n, leads, reads) = absurd reads.key
-fitting_prices_bound_lists places (Pin m) (OfRotors s) (Bars row column) settings machine legal prices kind fits (Pin n, leads, reads) = absurd reads.key
-fitting_prices_bound_lists places (Pin m) (OfPins s) (Bars row column) settings machine legal prices kind fits (Rotor n, leads, reads) = absurd reads.key
-fitting_prices_bound_lists places (Rotor m) s (Bars row column) settings machine legal prices kind fits reached = absurd kind
-fitting_prices_bound_lists places (Pin m) s (Cables row column) settings machine legal prices kind fits reached = absurd kind
+fitting_prices_bound_lists told (Rotor m) (OfRotors s) (Cables row column) settings machine legal prices kind fits (Pin n, leads, reads) = absurd reads.key
+fitting_prices_bound_lists told (Rotor m) (OfPins s) (Cables row column) settings machine legal prices kind fits (Rotor n, leads, reads) = absurd reads.key
+fitting_prices_bound_lists told (Pin m) (OfRotors s) (Bars row column) settings machine legal prices kind fits (Pin n, leads, reads) = absurd reads.key
+fitting_prices_bound_lists told (Pin m) (OfPins s) (Bars row column) settings machine legal prices kind fits (Rotor n, leads, reads) = absurd reads.key
+fitting_prices_bound_lists told (Rotor m) s (Bars row column) settings machine legal prices kind fits reached = absurd kind
+fitting_prices_bound_lists told (Pin m) s (Cables row column) settings machine legal prices kind fits reached = absurd kind
 
 -- Where each setting is needed, there are as many as loose things and those that change a cable or a bar.
 needed_one : (m : Parts) (s : Day) (x : Setting) (b : Bool) → is_priced x ≡ b → IsNeeded m s x → loose_count m s + cond b 1 0 ≡ loose_count (changed m x) s + 1
@@ -133,8 +133,8 @@ proving_cards_are_as_long m s settings prices h =
     let none = nothing_loose h.leads.0 s h.leads.2 in
     omega (arith, ints)
 
-pub proving_cards_are_shortest : DaysWheelsHaveTheirPlaces → ProvingCardsAreShortest
-proving_cards_are_shortest places m s settings prices machine legal are_prices h others reached =
+pub proving_cards_are_shortest : Told → ProvingCardsAreShortest
+proving_cards_are_shortest told m s settings prices machine legal are_prices h others reached =
     let long = proving_cards_are_as_long m s settings prices h in
-    let below = fitting_prices_bound_lists places m s prices others machine legal are_prices h.kind h.fits reached in
+    let below = fitting_prices_bound_lists told m s prices others machine legal are_prices h.kind h.fits reached in
     omega (arith, ints)

@@ -24,7 +24,8 @@ use Rattle.kd_card.proofs.Duality.{sum_of, fold_of_both, prices_with, prices_wit
 use Rattle.kd_card.proofs.Counts.{count_by-cons, once_of_distinct}
 use Rattle.kd_card.proofs.Falling.{paired_cost, falls}
 use Rattle.kd_card.proofs.Kept.{machines_have_all, list_keeps}
-use Rattle.kd_card.proofs.Pairing.{cables_paired, bars_paired, length-columns_of}
+use Rattle.kd_card.proofs.Pairing.{cables_paired, bars_paired}
+use Rattle.kd_card.proofs.Told.{Told}
 use Rattle.kd_card.proofs.Shortest.{length-zip, model_of-list, no_rotors}
 
 -- a list of settings lowers what a pairing costs by at most one for each that changes a cable or a bar
@@ -124,19 +125,19 @@ module _ {A B : Type 0} (cost : A → B → ℕ) (number : ℕ) (rows : List A) 
         let here = sym (get_or_default beside there.0 v (b, pos 0) there.1) ∙ there.2 ∙ zip_at columns prices j b (h.columns_count ∙ sym h.prices_count) (omega (arith, h.columns_count)) in
         (there.0, place, tight_where there.0 j place lt here)
 
-rotors_tight : (m n : RotorParts) (s : RotorDay) (row column : List ℤ) (settings : List Setting) → IsMachine (Rotor m) → IsLegalDay (OfRotors s) → ArePrices (Cables row column)
+rotors_tight : Told → (m n : RotorParts) (s : RotorDay) (row column : List ℤ) (settings : List Setting) → IsMachine (Rotor m) → IsLegalDay (OfRotors s) → ArePrices (Cables row column)
     → Proves (Rotor m) (OfRotors s) settings (Cables row column) → Leads (Rotor m) settings (Rotor n) → ReadsAs (Rotor n) (OfRotors s) → AreTight (cost_table (Rotor m) (OfRotors s)) (Cables row column)
-rotors_tight m n s row column settings machine legal prices proves leads reads =
+rotors_tight told m n s row column settings machine legal prices proves leads reads =
     let at_first = machines_have_all (Rotor m) machine.legal in
     let at_last = list_keeps (Rotor m) (Rotor n) settings leads at_first in
     let once = once_of_distinct (letters_plugged s.pairs) legal.pairs.apart in
-    let pairing = cables_paired n.cables s.pairs column at_last once legal.pairs.few prices.columns reads.key.cables in
+    let pairing = cables_paired told n.cables s.pairs column at_last once legal.pairs.few prices.columns reads.key.cables in
     let falling = list_falls (Rotor m) (Rotor n) settings pairing.beside [] leads in
     let sum = proves.sum in
     let square : AreSquare cable_cost 13 m.cables row (columns_of s.pairs) column pairing.beside (None, None) None = record {
       rows_count = at_first.count;
       row_prices_count = prices.rows;
-      columns_count = length-columns_of s.pairs legal.pairs.few;
+      columns_count = told.thirteen s.pairs legal.pairs.few;
       prices_count = prices.columns;
       order = pairing.order;
       fits = proves.fits;
@@ -169,18 +170,18 @@ pins_tight m n s row column settings machine legal prices proves leads reads =
       row_of = row_for bar_cost 27 m.bars row s.rows column pairing.beside (One, One) (0, 0) square;
     }
 
-reached_tight : (m n : Parts) (s : Day) (settings : List Setting) (prices : PriceParts) → IsMachine m → IsLegalDay s → ArePrices prices → Proves m s settings prices
+reached_tight : Told → (m n : Parts) (s : Day) (settings : List Setting) (prices : PriceParts) → IsMachine m → IsLegalDay s → ArePrices prices → Proves m s settings prices
     → Leads m settings n → ReadsAs n s → AreTight (cost_table m s) prices
-reached_tight (Rotor m) (Rotor n) (OfRotors s) settings (Cables row column) machine legal are_prices h leads reads = rotors_tight m n s row column settings machine legal are_prices h leads reads
-reached_tight (Pin m) (Pin n) (OfPins s) settings (Bars row column) machine legal are_prices h leads reads = pins_tight m n s row column settings machine legal are_prices h leads reads
-reached_tight (Rotor m) (Pin n) (OfPins s) settings (Cables row column) machine legal are_prices h leads reads =
+reached_tight told (Rotor m) (Rotor n) (OfRotors s) settings (Cables row column) machine legal are_prices h leads reads = rotors_tight told m n s row column settings machine legal are_prices h leads reads
+reached_tight told (Pin m) (Pin n) (OfPins s) settings (Bars row column) machine legal are_prices h leads reads = pins_tight m n s row column settings machine legal are_prices h leads reads
+reached_tight told (Rotor m) (Pin n) (OfPins s) settings (Cables row column) machine legal are_prices h leads reads =
     absurd (no_rotors m.model m.reflector (sym (model_of-list (Rotor m) (Pin n) settings leads)) machine.legal.reflector)
-reached_tight (Pin m) (Rotor n) (OfRotors s) settings (Bars row column) machine legal are_prices h leads reads =
+reached_tight told (Pin m) (Rotor n) (OfRotors s) settings (Bars row column) machine legal are_prices h leads reads =
     absurd (no_rotors s.model s.reflector (sym reads.key.model ∙ model_of-list (Pin m) (Rotor n) settings leads) legal.reflector)
-reached_tight m (Pin n) (OfRotors s) settings prices machine legal are_prices h leads reads = absurd reads.key
-reached_tight m (Rotor n) (OfPins s) settings prices machine legal are_prices h leads reads = absurd reads.key
-reached_tight (Rotor m) n s settings (Bars row column) machine legal are_prices h leads reads = absurd h.kind
-reached_tight (Pin m) n s settings (Cables row column) machine legal are_prices h leads reads = absurd h.kind
+reached_tight told m (Pin n) (OfRotors s) settings prices machine legal are_prices h leads reads = absurd reads.key
+reached_tight told m (Rotor n) (OfPins s) settings prices machine legal are_prices h leads reads = absurd reads.key
+reached_tight told (Rotor m) n s settings (Bars row column) machine legal are_prices h leads reads = absurd h.kind
+reached_tight told (Pin m) n s settings (Cables row column) machine legal are_prices h leads reads = absurd h.kind
 
-pub proving_prices_are_tight : ProvingPricesAreTight
-proving_prices_are_tight m s settings prices machine legal are_prices h = reached_tight m h.leads.0 s settings prices machine legal are_prices h h.leads.1 h.leads.2
+pub proving_prices_are_tight : Told → ProvingPricesAreTight
+proving_prices_are_tight told m s settings prices machine legal are_prices h = reached_tight told m h.leads.0 s settings prices machine legal are_prices h h.leads.1 h.leads.2

@@ -3,8 +3,9 @@ ghost use Rattle.kd_card.specs.Laws.{TextsTellCards, CardsHaveNoFault};
 ghost use Rattle.kd_card.specs.Laws.{FittingPricesBoundLists, ProvingCardsAreAsLong, ProvingCardsAreShortest, ProvingPricesAreTight};
 
 use kd_state::laws::{
-    lines_tell_words, no_two_settings_have_one_line, numbers_and_letters_are_words,
-    places_tell_wheels, settings_have_words, texts_tell_first_parts,
+    columns_are_the_pairs, lines_tell_words, no_two_settings_have_one_line,
+    numbers_and_letters_are_words, places_tell_wheels, settings_have_words, tests_tell_letters,
+    texts_tell_first_parts,
 };
 
 /// No two cards have one text, and a card's text has no fault. So it is not the front of another card's text either.
@@ -25,6 +26,8 @@ pub fn fitting_prices_bound_lists()
     ensures { FittingPricesBoundLists }
 {
     places_tell_wheels();
+    tests_tell_letters();
+    columns_are_the_pairs();
 }
 
 /// A card that proves itself has as many settings as there are loose things and prices in sum.
@@ -37,10 +40,16 @@ pub fn proving_cards_are_shortest()
     ensures { ProvingCardsAreShortest }
 {
     places_tell_wheels();
+    tests_tell_letters();
+    columns_are_the_pairs();
 }
 
 /// In a card that proves itself each row's price and some column's are together the cost where they meet, and so are each
 /// column's and some row's.
 pub fn proving_prices_are_tight()
     ensures { ProvingPricesAreTight }
-{}
+{
+    places_tell_wheels();
+    tests_tell_letters();
+    columns_are_the_pairs();
+}

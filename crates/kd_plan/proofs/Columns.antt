@@ -1,52 +1,27 @@
 -- The cables of a machine beside the columns of a day, one to one: no letter lies in two columns, and cables with the letters
 -- of their columns are the day's pairs.
-use Rattle.std.proofs.Common.{◌≡◌, ◌≢◌, ℕ, zero, suc, ◌+◌, ◌-◌, ◌<◌, ◌≤◌, nat_eq, Bool, true, false, ◌||◌, inl, inr, List, [], ◌∷◌, ◌++◌, length, get_or, map, zip, replicate, Any, Contains, IsPermutation, Option, Some, None, refl, sym, ap, ◌∙◌, subst, arith}
+use Rattle.std.proofs.Common.{◌≡◌, ◌≢◌, ℕ, zero, suc, ◌+◌, ◌<◌, ◌≤◌, nat_eq, Bool, true, false, ◌||◌, inl, inr, List, [], ◌∷◌, ◌++◌, length, get_or, map, zip, Any, Contains, IsPermutation, Option, Some, None, slice_get, refl, sym, ap, ◌∙◌, subst, arith}
 use Rattle.std.specs.List.{AllByRecursion, range_with_len}
 use Rattle.std.proofs.lemmas.Bool.{false≢true, eq-eqb, eqb-true}
 use Rattle.std.proofs.lemmas.Bool.Decides.{eqb_tells}
-use Rattle.std.proofs.lemmas.List.{length-append, length-map, length-replicate}
+use Rattle.std.proofs.lemmas.List.{length-map, get_or_default}
 use Rattle.std.proofs.lemmas.List.Elements.{All-from_recursion, recursion_from_All}
 use Rattle.std.proofs.lemmas.List.Sorted.{Contains-permutation}
+use Rattle.std.proofs.lemmas.Option.{slice_get_within, slice_get-get_or, get_or_from_slice_get}
 use Rattle.std.proofs.lemmas.Map.Made.{AllPairs-from_IsDistinct}
 use Rattle.kd_tables.specs.Permutation.{alphabet}
 use Rattle.kd_enigma.specs.Plugs.{letters_plugged}
 use Rattle.kd_state.specs.Machine.{cable_letters, plugged_letters, AreCables}
 use Rattle.kd_state.specs.Setting.{has_letter}
 use Rattle.kd_state.specs.SheetDay.{ArePairs}
-use Rattle.kd_state.specs.OnKey.{SameLetters, Joins, IsPaired, IsPlugged, AreThePairs}
+use Rattle.kd_state.specs.OnKey.{Joins, IsPaired, IsPlugged, AreThePairs}
 use Rattle.kd_state.specs.Costs.{columns_of}
 use Rattle.kd_plan.proofs.Cables.{or_false, in_cable, in_column, Apart}
 use Rattle.kd_plan.proofs.Days.{all_of_each}
 use Rattle.kd_plan.proofs.Lists.{all_front, all_back, Differ, differ_of_pairs, EachTwo, paired, IsPairing}
+use Rattle.kd_plan.proofs.Told.{Told}
 use Rattle.kd_plan.proofs.Sides.{first_of}
 use Rattle.kd_plan.proofs.Plugging.{Beside, IsPluggable, ColumnsApart, present, once_put, has_column}
-
--- the letter is among these exactly where the test says so
-has_of_contains : (letters : List ℕ) (letter place : ℕ) → place < length letters → get_or letters place letter ≡ letter → has_letter letters letter ≡ true
-has_of_contains [] letter place lt e = absurd (omega arith)
-has_of_contains (other ∷ letters) letter zero lt e = ap (λ b. b || has_letter letters letter) (eq-eqb other letter e)
-has_of_contains (other ∷ letters) letter (suc place) lt e =
-    ap (λ b. nat_eq other letter || b) (has_of_contains letters letter place (omega arith) e) ∙ or_true (nat_eq other letter)
-  where
-    or_true : (b : Bool) → (b || true) ≡ true
-    or_true true = refl
-    or_true false = refl
-
-contains_of_has : (letters : List ℕ) (letter : ℕ) → has_letter letters letter ≡ true → Contains letters letter
-contains_of_has [] letter e = absurd (false≢true e)
-contains_of_has (other ∷ letters) letter e =
-    elim (eqb_tells other letter) [
-      | inl same ↦ (zero, omega arith, same.1)
-      | inr away ↦
-          let later = contains_of_has letters letter (sym (ap (λ b. b || has_letter letters letter) away.0) ∙ e) in
-          (suc later.0, omega (arith, later.1), later.2)
-    ]
-
-same_of_has : (xs ys : List ℕ) → ((letter : ℕ) → has_letter xs letter ≡ has_letter ys letter) → SameLetters xs ys
-same_of_has xs ys same letter = (
-  λ c. contains_of_has ys letter (sym (same letter) ∙ has_of_contains xs letter c.0 c.1 c.2),
-  λ c. contains_of_has xs letter (same letter ∙ has_of_contains ys letter c.0 c.1 c.2),
-)
 
 -- a letter among these has what they all have
 of_has : (P : ℕ → Type 0) (letters : List ℕ) (letter : ℕ) → AllByRecursion P letters → has_letter letters letter ≡ true → P letter
@@ -102,28 +77,19 @@ all_cables (cable ∷ cables) within apart = (
 )
 
 -- columns of a day
--- the pairs, and then so many nothings
-abbrev with_nothings : List (ℕ × ℕ) → ℕ → List (Option (ℕ × ℕ))
-with_nothings pairs nothings = map Some pairs ++ replicate nothings None
-
 abbrev pub column_at : List (Option (ℕ × ℕ)) → ℕ → Option (ℕ × ℕ)
 column_at columns j = get_or columns j None
 
-nothing_at : (nothings j : ℕ) → column_at (replicate nothings None) j ≡ None
-nothing_at zero j = refl
-nothing_at (suc nothings) zero = refl
-nothing_at (suc nothings) (suc j) = nothing_at nothings j
-
-plugged_of : (pairs : List (ℕ × ℕ)) (nothings j letter : ℕ) → in_column (column_at (with_nothings pairs nothings) j) letter ≡ true → has_letter (letters_plugged pairs) letter ≡ true
-plugged_of [] nothings j letter e = absurd (false≢true (sym (ap (λ column. in_column column letter) (nothing_at nothings j)) ∙ e))
-plugged_of (pair ∷ pairs) nothings zero letter e = more (nat_eq pair.0 letter) (nat_eq pair.1 letter) (has_letter (letters_plugged pairs) letter) e
+plugged_of : (pairs : List (ℕ × ℕ)) (j letter : ℕ) → in_column (slice_get pairs j) letter ≡ true → has_letter (letters_plugged pairs) letter ≡ true
+plugged_of [] j letter e = absurd (false≢true e)
+plugged_of (pair ∷ pairs) zero letter e = more (nat_eq pair.0 letter) (nat_eq pair.1 letter) (has_letter (letters_plugged pairs) letter) e
   where
     more : (p q r : Bool) → (p || (q || false)) ≡ true → (p || (q || r)) ≡ true
     more true q r e = refl
     more false true r e = refl
     more false false r e = absurd (false≢true e)
-plugged_of (pair ∷ pairs) nothings (suc j) letter e =
-    later (nat_eq pair.0 letter) (nat_eq pair.1 letter) (has_letter (letters_plugged pairs) letter) (plugged_of pairs nothings j letter e)
+plugged_of (pair ∷ pairs) (suc j) letter e =
+    later (nat_eq pair.0 letter) (nat_eq pair.1 letter) (has_letter (letters_plugged pairs) letter) (plugged_of pairs j letter e)
   where
     later : (p q r : Bool) → r ≡ true → (p || (q || r)) ≡ true
     later true q r e = refl
@@ -138,52 +104,50 @@ first_away pair pairs letter h e later =
           (eqb-true pair.1 letter (sym (or_false (nat_eq pair.1 letter)) ∙ sym (ap (λ b. b || (nat_eq pair.1 letter || false)) away.0) ∙ e))
     ]
 
-columns_apart : (pairs : List (ℕ × ℕ)) (nothings j k letter : ℕ) → Differ (letters_plugged pairs) → j ≢ k
-    → in_column (column_at (with_nothings pairs nothings) j) letter ≡ true → in_column (column_at (with_nothings pairs nothings) k) letter ≡ true → ⊥
-columns_apart [] nothings j k letter h away e f = false≢true (sym (ap (λ column. in_column column letter) (nothing_at nothings j)) ∙ e)
-columns_apart (pair ∷ pairs) nothings zero zero letter h away e f = away refl
-columns_apart (pair ∷ pairs) nothings zero (suc k) letter h away e f = first_away pair pairs letter h e (plugged_of pairs nothings k letter f)
-columns_apart (pair ∷ pairs) nothings (suc j) zero letter h away e f = first_away pair pairs letter h f (plugged_of pairs nothings j letter e)
-columns_apart (pair ∷ pairs) nothings (suc j) (suc k) letter h away e f = columns_apart pairs nothings j k letter h.1.1 (λ same. away (ap suc same)) e f
-
-pair_of : (pairs : List (ℕ × ℕ)) (nothings j : ℕ) (pair : ℕ × ℕ) → column_at (with_nothings pairs nothings) j ≡ Some pair → Contains pairs pair
-pair_of [] nothings j pair e = absurd (none_some pair (sym (nothing_at nothings j) ∙ e))
-  where
-    none_some : (pair : ℕ × ℕ) → None ≡ Some pair → ⊥
-    none_some pair e = cc
-pair_of (first ∷ pairs) nothings zero pair e = let same : first ≡ pair = cc in (zero, omega arith, same)
-pair_of (first ∷ pairs) nothings (suc j) pair e = let later = pair_of pairs nothings j pair e in (suc later.0, omega (arith, later.1), later.2)
-
-column_of : (pairs : List (ℕ × ℕ)) (nothings k : ℕ) (pair : ℕ × ℕ) → k < length pairs → get_or pairs k pair ≡ pair → Contains (with_nothings pairs nothings) (Some pair)
-column_of [] nothings k pair lt e = absurd (omega arith)
-column_of (first ∷ pairs) nothings zero pair lt e = (zero, omega arith, ap Some e)
-column_of (first ∷ pairs) nothings (suc k) pair lt e = let later = column_of pairs nothings k pair (omega arith) e in (suc later.0, omega (arith, later.1), later.2)
-
-pub length-columns_of : (pairs : List (ℕ × ℕ)) → length pairs ≤ 13 → length (columns_of pairs) ≡ 13
-length-columns_of pairs few = simp (length-append, length-map, length-replicate) (omega arith)
+columns_apart : (pairs : List (ℕ × ℕ)) (j k letter : ℕ) → Differ (letters_plugged pairs) → j ≢ k
+    → in_column (slice_get pairs j) letter ≡ true → in_column (slice_get pairs k) letter ≡ true → ⊥
+columns_apart [] j k letter h away e f = false≢true e
+columns_apart (pair ∷ pairs) zero zero letter h away e f = away refl
+columns_apart (pair ∷ pairs) zero (suc k) letter h away e f = first_away pair pairs letter h e (plugged_of pairs k letter f)
+columns_apart (pair ∷ pairs) (suc j) zero letter h away e f = first_away pair pairs letter h f (plugged_of pairs j letter e)
+columns_apart (pair ∷ pairs) (suc j) (suc k) letter h away e f = columns_apart pairs j k letter h.1.1 (λ same. away (ap suc same)) e f
 
 -- a cable with the letters of its column is empty, or has a pair's letters
 no_letters : (letters : List ℕ) → ((letter : ℕ) → has_letter letters letter ≡ false) → letters ≡ []
 no_letters [] h = refl
 no_letters (letter ∷ letters) h = absurd (false≢true (sym (h letter) ∙ ap (λ b. b || has_letter letters letter) (eq-eqb letter letter refl)))
 
-one_pair : (pairs : List (ℕ × ℕ)) (cable : Option ℕ × Option ℕ) (column : Option (ℕ × ℕ)) → ((letter : ℕ) → in_cable cable letter ≡ in_column column letter)
+one_pair : Told → (pairs : List (ℕ × ℕ)) (cable : Option ℕ × Option ℕ) (column : Option (ℕ × ℕ)) → ((letter : ℕ) → in_cable cable letter ≡ in_column column letter)
     → ((pair : ℕ × ℕ) → column ≡ Some pair → Contains pairs pair) → cable_letters cable ≢ [] → Any (Joins cable) pairs
-one_pair pairs cable None same known some = absurd (some (no_letters (cable_letters cable) same))
-one_pair pairs cable (Some pair) same known some =
+one_pair told pairs cable None same known some = absurd (some (no_letters (cable_letters cable) same))
+one_pair told pairs cable (Some pair) same known some =
     let there = known pair refl in
-    (there.0, pair, there.1, there.2, record { letters = same_of_has (cable_letters cable) (pair.0 ∷ pair.1 ∷ []) same })
+    (there.0, pair, there.1, there.2, record { letters = (told.letters (cable_letters cable) (pair.0 ∷ pair.1 ∷ [])).1 same })
 
-module _ (pairs : List (ℕ × ℕ)) (legal : ArePairs pairs) where
+module _ (told : Told) (pairs : List (ℕ × ℕ)) (legal : ArePairs pairs) where
   abbrev pub column : ℕ → Option (ℕ × ℕ)
   column j = column_at (columns_of pairs) j
+
+  in_pair : (j letter : ℕ) → in_column (column j) letter ≡ true → in_column (slice_get pairs j) letter ≡ true
+  in_pair j letter e = sym (ap (λ column. in_column column letter) (told.columns pairs j)) ∙ e
+
+  pair_of : (j : ℕ) (pair : ℕ × ℕ) → column j ≡ Some pair → Contains pairs pair
+  pair_of j pair e =
+      let here = sym (told.columns pairs j) ∙ e in
+      (j, slice_get_within pairs j pair here, get_or_from_slice_get pairs j pair pair here)
+
+  column_of : (pair : ℕ × ℕ) → Contains pairs pair → Contains (columns_of pairs) (Some pair)
+  column_of pair c =
+      let within : c.0 < length (columns_of pairs) = omega (arith, c.1, told.thirteen pairs legal.few, legal.few) in
+      let there = slice_get-get_or pairs c.0 pair c.1 ∙ ap Some c.2 in
+      (c.0, within, get_or_default (columns_of pairs) c.0 (Some pair) None within ∙ told.columns pairs c.0 ∙ there)
 
   pairs_differ : Differ (letters_plugged pairs)
   pairs_differ = differ_of_pairs (letters_plugged pairs) (AllPairs-from_IsDistinct (λ a b. (eqb-true a b, eq-eqb a b)) (letters_plugged pairs) legal.apart)
 
   column_within : (j letter : ℕ) → in_column (column j) letter ≡ true → has_letter alphabet letter ≡ true
   column_within j letter e =
-      in_alphabet (letters_plugged pairs) letter (recursion_from_All (λ letter. letter < 26) (letters_plugged pairs) legal.within) (plugged_of pairs (13 - length pairs) j letter e)
+      in_alphabet (letters_plugged pairs) letter (recursion_from_All (λ letter. letter < 26) (letters_plugged pairs) legal.within) (plugged_of pairs j letter (in_pair j letter e))
 
   all_pluggable : (cables : List (Option ℕ × Option ℕ)) (to : List ℕ) → AllByRecursion IsCable cables → AllByRecursion IsPluggable (zip cables (map column to))
   all_pluggable [] to h = tt
@@ -197,7 +161,7 @@ module _ (pairs : List (ℕ × ℕ)) (legal : ArePairs pairs) where
   away_from j cable [] to h = tt
   away_from j cable (other ∷ cables) [] h = tt
   away_from j cable (other ∷ cables) (k ∷ to) h =
-      (λ letter e f. columns_apart pairs (13 - length pairs) j k letter pairs_differ h.0 e f, away_from j cable cables to h.1)
+      (λ letter e f. columns_apart pairs j k letter pairs_differ h.0 (in_pair j letter e) (in_pair k letter f), away_from j cable cables to h.1)
 
   two_apart : (cables : List (Option ℕ × Option ℕ)) (to : List ℕ) → Differ to → EachTwo ColumnsApart (zip cables (map column to))
   two_apart [] to h = tt
@@ -209,7 +173,7 @@ module _ (pairs : List (ℕ × ℕ)) (legal : ArePairs pairs) where
   pairs_of_all [] to h = tt
   pairs_of_all (cable ∷ cables) [] h = tt
   pairs_of_all (cable ∷ cables) (j ∷ to) h = (
-    record { joins = one_pair pairs (once_put (cable, column j)) (column j) (λ letter. has_column (cable, column j) letter h.0) (pair_of pairs (13 - length pairs) j) },
+    record { joins = one_pair told pairs (once_put (cable, column j)) (column j) (λ letter. has_column (cable, column j) letter h.0) (pair_of j) },
     pairs_of_all cables to h.1,
   )
 
@@ -221,7 +185,7 @@ module _ (pairs : List (ℕ × ℕ)) (legal : ArePairs pairs) where
     once_put (cable, other),
     omega arith,
     refl,
-    record { letters = same_of_has (cable_letters (once_put (cable, other))) (pair.0 ∷ pair.1 ∷ []) (λ letter. has_column (cable, other) letter h.0 ∙ ap (λ column. in_column column letter) e) },
+    record { letters = (told.letters (cable_letters (once_put (cable, other))) (pair.0 ∷ pair.1 ∷ [])).1 (λ letter. has_column (cable, other) letter h.0 ∙ ap (λ column. in_column column letter) e) },
   )
   cable_of pair (cable ∷ cables) (other ∷ columns) (suc k) size lt e h =
       let later = cable_of pair cables columns k (omega arith) (omega arith) e h.1 in
@@ -245,12 +209,12 @@ module _ (pairs : List (ℕ × ℕ)) (legal : ArePairs pairs) where
     same_cables = first_of cables (map column to) (omega (arith, are.count, pairing.count, length-map to column))
 
     pub all_columns : IsPermutation (columns_of pairs) (map column to)
-    all_columns = paired None (columns_of pairs) to (subst (λ n. IsPairing n to) (sym (length-columns_of pairs legal.few)) pairing)
+    all_columns = paired None (columns_of pairs) to (subst (λ n. IsPairing n to) (sym (told.thirteen pairs legal.few)) pairing)
 
     pub are_the_pairs : AreThePairs (map once_put beside) pairs
     are_the_pairs = record {
       pair = All-from_recursion (IsPaired pairs) (map once_put beside) (pairs_of_all cables to are_pluggable);
       cable = all_of_each (IsPlugged (map once_put beside)) pairs (λ pair c.
-          let there = Contains-permutation (columns_of pairs) (map column to) (Some pair) all_columns (column_of pairs (13 - length pairs) c.0 pair c.1 c.2) in
+          let there = Contains-permutation (columns_of pairs) (map column to) (Some pair) all_columns (column_of pair c) in
           record { joins = cable_of pair cables (map column to) there.0 (omega (arith, are.count, pairing.count, length-map to column)) there.1 there.2 are_pluggable });
     }

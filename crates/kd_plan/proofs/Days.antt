@@ -11,7 +11,8 @@ use Rattle.kd_state.specs.Box.{same_wheel, has_wheel, place_in_box}
 use Rattle.kd_state.specs.SheetDay.{seats, AreSeated}
 use Rattle.kd_plan.proofs.Lists.{EachTwo, each_two_of_pairs}
 use Rattle.kd_plan.proofs.Seats.{OtherWheels, seat_of}
-use Rattle.kd_plan.proofs.Wheels.{Told, same_wheel_self, AreApartAt, place_of, NoneTwice}
+use Rattle.kd_plan.proofs.Told.{Told}
+use Rattle.kd_plan.proofs.Wheels.{same_wheel_self, AreApartAt, place_of, NoneTwice}
 
 -- elements by their places
 pub all_of_each : {X : Type 0} (P : X → Type 0) (xs : List X) → ((x : X) → Contains xs x → P x) → All P xs

@@ -1,3 +1,4 @@
+pub mod Told
 pub mod Carrying
 pub mod Lists
 pub mod Cables

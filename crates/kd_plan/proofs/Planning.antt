@@ -29,14 +29,14 @@ use Rattle.kd_plan.specs.Planned.{unless_so, seat_lines, reflector_lines, in_box
 use Rattle.kd_plan.specs.Laws.{PlannedLinesLead, PlannedCardsProve}
 use Rattle.kd_plan.proofs.Bars.{BarRow, IsMovable}
 use Rattle.kd_plan.proofs.Carrying.{Reaches}
-use Rattle.kd_plan.proofs.Columns.{column_at, length-columns_of}
+use Rattle.kd_plan.proofs.Columns.{column_at}
 use Rattle.kd_plan.proofs.Lists.{IsPairing, pairing_of}
 use Rattle.kd_plan.proofs.PinMachines.{bars_beside, are_movable, pin_machines_reach}
 use Rattle.kd_plan.proofs.Plugging.{Beside, pulls, puts, numbered_lines}
 use Rattle.kd_plan.proofs.Rotors.{rotors_reach}
 use Rattle.kd_plan.proofs.Sides.{flat_lines}
 use Rattle.kd_plan.proofs.Targets.{is_target}
-use Rattle.kd_plan.proofs.Wheels.{Told}
+use Rattle.kd_plan.proofs.Told.{Told}
 use Rattle.kd_plan.proofs.Totals.{priced-append, unpriced_lines, unpriced_all, unpriced_option, sum_of, priced_from, priced_map, cable_lines, two_sums, bar_lines, table_cost}
 
 -- A machine and a day are of one kind.
@@ -89,14 +89,14 @@ module _ (m : RotorParts) (s : RotorDay) (to : List ℕ) where
   unpriced_turns =
       unpriced_lines (λ (slot : ℕ × SheetWheel). option_map_or (nat_eq slot.1.letter) (letter_at m slot.1.wheel) false) (λ slot. Turn slot.0 slot.1.letter) (enumerate_from 1 s.wheels) (λ slot. refl)
 
-  rotor_total : IsMachine (Rotor m) → IsLegalRotorDay s → IsPairing 13 to → priced_count (planned_lines (Rotor m) (OfRotors s) to) ≡ assignment_cost (cost_table (Rotor m) (OfRotors s)) to
-  rotor_total machine legal pairing =
+  rotor_total : Told → IsMachine (Rotor m) → IsLegalRotorDay s → IsPairing 13 to → priced_count (planned_lines (Rotor m) (OfRotors s) to) ≡ assignment_cost (cost_table (Rotor m) (OfRotors s)) to
+  rotor_total told machine legal pairing =
       let seats = seat_lines m.slots s.wheels in
       let reflector = reflector_lines m.reflector s.reflector in
       let rings = ring_lines m s.wheels in
       let turns = turn_lines m s.wheels in
       let pull = pull_lines m.cables s.pairs to in
-      let columns = length-columns_of s.pairs legal.pairs.few in
+      let columns = told.thirteen s.pairs legal.pairs.few in
       let within = subst (λ n. AllByRecursion (λ j. j < n) to) (sym columns) (recursion_from_All (λ j. j < 13) to pairing.within) in
       let cost = table_cost cable_cost (columns_of s.pairs) None m.cables to (machine.legal.cables.count ∙ sym pairing.count) within in
       let both = two_sums (λ (z : Beside). length (pulls z)) (λ (z : Beside). length (puts z)) (λ (z : Beside). cable_cost z.0 z.1) (λ z. cable_lines z.0 z.1) beside in
@@ -149,11 +149,11 @@ module _ (m : PinParts) (s : PinDay) (to : List ℕ) where
         cost,
       )
 
-total : (m : Parts) (s : Day) (to : List ℕ) → IsMachine m → IsLegalDay s → model_of m ≡ day_model s → IsPairing (table_size m) to → priced_count (planned_lines m s to) ≡ assignment_cost (cost_table m s) to
-total (Rotor m) (OfRotors s) to machine legal same pairing = rotor_total m s to machine legal pairing
-total (Pin m) (OfPins s) to machine legal same pairing = pin_total m s to machine legal pairing
-total (Rotor m) (OfPins s) to machine legal same pairing = absurd (no_rotors m.model m.reflector same machine.legal.reflector)
-total (Pin m) (OfRotors s) to machine legal same pairing = absurd (no_rotors s.model s.reflector (sym same) legal.reflector)
+total : Told → (m : Parts) (s : Day) (to : List ℕ) → IsMachine m → IsLegalDay s → model_of m ≡ day_model s → IsPairing (table_size m) to → priced_count (planned_lines m s to) ≡ assignment_cost (cost_table m s) to
+total told (Rotor m) (OfRotors s) to machine legal same pairing = rotor_total m s to told machine legal pairing
+total told (Pin m) (OfPins s) to machine legal same pairing = pin_total m s to machine legal pairing
+total told (Rotor m) (OfPins s) to machine legal same pairing = absurd (no_rotors m.model m.reflector same machine.legal.reflector)
+total told (Pin m) (OfRotors s) to machine legal same pairing = absurd (no_rotors s.model s.reflector (sym same) legal.reflector)
 
 proves : Told → (m : Parts) (s : Day) (settings : List Setting) (prices : PriceParts) (h : IsPlanned m s settings prices) → IsMachine m → IsLegalDay s → Proves m s (planned_lines m s h.to) prices
 proves told m s settings prices h machine legal =
@@ -164,7 +164,7 @@ proves told m s settings prices h machine legal =
       kind = h.kind;
       leads = (there.end, there.led.leads, there.reads);
       fits = h.fits;
-      sum = h.total ∙ ap pos (sym (total m s h.to machine legal h.model pairing));
+      sum = h.total ∙ ap pos (sym (total told m s h.to machine legal h.model pairing));
       needed = there.led.needed;
     }
 

@@ -24,7 +24,8 @@ use Rattle.kd_plan.proofs.Letters.{SetsIts, AreSet, all_set, one_fewer}
 use Rattle.kd_plan.proofs.Lists.{IsPairing}
 use Rattle.kd_plan.proofs.Plugging.{Beside, present, once_pulled, once_put, with_cables, pulls_of, puts_of, pulls_each, puts_each, numbered_lines}
 use Rattle.kd_plan.proofs.Seats.{seats_led}
-use Rattle.kd_plan.proofs.Wheels.{Told, same_reflector_self, has_wheel_of, has_reflector_of, AreApartAt, place_of, wheels_apart, box_none_twice, wheels_boxed}
+use Rattle.kd_plan.proofs.Told.{Told}
+use Rattle.kd_plan.proofs.Wheels.{same_reflector_self, has_wheel_of, has_reflector_of, AreApartAt, place_of, wheels_apart, box_none_twice, wheels_boxed}
 
 -- REFLECTOR
 reflector_led : Told → (b : Bool) (m : RotorParts) (s : RotorDay) → same_reflector m.reflector s.reflector ≡ b → Contains (reflectors_of m.model) s.reflector
@@ -145,7 +146,7 @@ module _ (told : Told) (m : RotorParts) (s : RotorDay) where
     turned = after_turns rings_set.end turns_set.end
 
     abbrev zs : List Beside
-    zs = beside s.pairs legal.pairs m.cables to machine.legal.cables pairing
+    zs = beside told s.pairs legal.pairs m.cables to machine.legal.cables pairing
 
     abbrev plugged : List (Option ℕ × Option ℕ) → Parts
     plugged cables = with_cables (OfRotors s) turned cables
@@ -153,18 +154,18 @@ module _ (told : Told) (m : RotorParts) (s : RotorDay) where
     pulls_reach : Led (OfRotors s) (Rotor turned) (pull_lines m.cables s.pairs to) (plugged (map once_pulled zs))
     pulls_reach =
         subst (λ lines. Led (OfRotors s) (Rotor turned) lines (plugged (map once_pulled zs)))
-        (sym (numbered_lines (λ n letters others. map (Pull n) (letters_apart letters others)) (column s.pairs legal.pairs) m.cables to 1))
+        (sym (numbered_lines (λ n letters others. map (Pull n) (letters_apart letters others)) (column told s.pairs legal.pairs) m.cables to 1))
         (subst (λ cables. Led (OfRotors s) (plugged cables) (lines_from (pulls_of (OfRotors s) turned) 1 zs) (plugged (map once_pulled zs)))
-        (same_cables s.pairs legal.pairs m.cables to machine.legal.cables pairing)
+        (same_cables told s.pairs legal.pairs m.cables to machine.legal.cables pairing)
         (cells_led (OfRotors s) plugged present once_pulled (pulls_of (OfRotors s) turned) zs
-        (pulls_each (OfRotors s) turned zs (are_pluggable s.pairs legal.pairs m.cables to machine.legal.cables pairing))))
+        (pulls_each (OfRotors s) turned zs (are_pluggable told s.pairs legal.pairs m.cables to machine.legal.cables pairing))))
 
     puts_reach : Led (OfRotors s) (plugged (map once_pulled zs)) (put_lines m.cables s.pairs to) (plugged (map once_put zs))
     puts_reach =
         subst (λ lines. Led (OfRotors s) (plugged (map once_pulled zs)) lines (plugged (map once_put zs)))
-        (sym (numbered_lines (λ n letters others. map (Put n) (letters_apart others letters)) (column s.pairs legal.pairs) m.cables to 1))
+        (sym (numbered_lines (λ n letters others. map (Put n) (letters_apart others letters)) (column told s.pairs legal.pairs) m.cables to 1))
         (cells_led (OfRotors s) plugged once_pulled once_put (puts_of (OfRotors s) turned) zs
-        (puts_each (OfRotors s) turned zs (are_pluggable s.pairs legal.pairs m.cables to machine.legal.cables pairing) (are_apart s.pairs legal.pairs m.cables to machine.legal.cables pairing)))
+        (puts_each (OfRotors s) turned zs (are_pluggable told s.pairs legal.pairs m.cables to machine.legal.cables pairing) (are_apart told s.pairs legal.pairs m.cables to machine.legal.cables pairing)))
 
     all_led : Led (OfRotors s) (Rotor m) (planned_lines (Rotor m) (OfRotors s) to) (plugged (map once_put zs))
     all_led =
@@ -191,7 +192,7 @@ module _ (told : Told) (m : RotorParts) (s : RotorDay) where
           slots = refl;
           rings = all_of_order told (λ w. slice_get rings_set.end (place_of m.model w) ≡ Some w.ring) m.model s.wheels apart boxed rings_set.done;
           reflector = refl;
-          cables = are_the_pairs s.pairs legal.pairs m.cables to machine.legal.cables pairing;
+          cables = are_the_pairs told s.pairs legal.pairs m.cables to machine.legal.cables pairing;
         };
         window = All-from_recursion (λ (w : SheetWheel). slice_get turns_set.end (place_of m.model w) ≡ Some w.letter) s.wheels
             (from_numbered (λ (w : SheetWheel). slice_get turns_set.end (place_of m.model w) ≡ Some w.letter) s.wheels 1 turns_set.done);

@@ -13,17 +13,8 @@ use Rattle.kd_state.specs.declared.sheet_wheel.SheetWheel.{SheetWheel}
 use Rattle.kd_state.specs.Box.{same_wheel, same_reflector, has_wheel, has_reflector, place_in_box}
 use Rattle.kd_state.specs.Machine.{StandsAt, AreAllowed}
 use Rattle.kd_state.specs.SheetDay.{seats, AreSeated}
-use Rattle.kd_state.specs.Laws.{NamesTellWheels, NamesTellReflectors, AllowedWheelsLieInTheBox, WheelsHavePlaces, PlacesTellWheels, DaysWheelsHaveTheirPlaces}
+use Rattle.kd_plan.proofs.Told.{Told}
 use Rattle.kd_plan.proofs.Lists.{EachTwo, each_two_of_pairs}
-
--- what the laws of kd_state say of wheels, reflectors and places in the box
-pub record Told : Type 0 where
-  pub wheels : NamesTellWheels
-  pub reflectors : NamesTellReflectors
-  pub in_box : AllowedWheelsLieInTheBox
-  pub within : WheelsHavePlaces
-  pub places : PlacesTellWheels
-  pub days : DaysWheelsHaveTheirPlaces
 
 pub same_wheel_self : (wheel : Wheel) → same_wheel wheel wheel ≡ true
 same_wheel_self wheel = (bytes_eq-Decides (wheel_text wheel) (wheel_text wheel)).1 refl

@@ -1,7 +1,9 @@
 //! What holds of planned cards.
 ghost use Rattle.kd_plan.specs.Laws.{PlannedCardsProve, PlannedLinesLead};
 
-use kd_state::laws::{names_tell_parts, places_tell_wheels};
+use kd_state::laws::{
+    columns_are_the_pairs, names_tell_parts, places_tell_wheels, tests_tell_letters,
+};
 
 /// The planned lines of any pairing, carried out one after another, are each allowed, and lead the machine to the day.
 pub fn planned_lines_lead_to_the_day()
@@ -9,6 +11,8 @@ pub fn planned_lines_lead_to_the_day()
 {
     names_tell_parts();
     places_tell_wheels();
+    tests_tell_letters();
+    columns_are_the_pairs();
 }
 
 /// A planned card proves itself: prices that fit and add up to what its pairing costs show that no list of settings that
@@ -18,4 +22,6 @@ pub fn planned_cards_prove_themselves()
 {
     names_tell_parts();
     places_tell_wheels();
+    tests_tell_letters();
+    columns_are_the_pairs();
 }

@@ -1,10 +1,8 @@
 -- In a card that proves itself, what is alike has equal prices: it costs the same everywhere, and each price is tight
 -- somewhere.
-use Rattle.std.proofs.Common.{◌≡◌, ℕ, ◌<◌, ◌≤◌, nat_eq, Bool, true, false, cond, List, [], ◌∷◌, get_or, length, map, count_by, Contains, Option, None, unwrap_or, slice_get, refl, sym, ap, ◌∙◌, subst, arith}
+use Rattle.std.proofs.Common.{◌≡◌, ℕ, ◌<◌, ◌≤◌, Bool, cond, List, [], ◌∷◌, get_or, length, map, count_by, Option, None, unwrap_or, slice_get, refl, sym, ap, ◌∙◌, arith}
 use Rattle.std.proofs.lemmas.Int.{ints}
-use Rattle.std.proofs.lemmas.Bool.{eqb-true, eq-eqb}
 use Rattle.std.proofs.lemmas.List.{get_or-map}
-use Rattle.std.proofs.lemmas.List.Folds.{Any-from_list_any, list_any-from_Any}
 use Rattle.std.proofs.lemmas.List.Sums.{sum_by-cons}
 use Rattle.std.proofs.lemmas.Option.{unwrap_or-slice_get, slice_get_past}
 use Rattle.kd_tables.specs.declared.place.Place.TheVariants.{One}
@@ -14,13 +12,13 @@ use Rattle.kd_state.specs.Machine.{cable_letters}
 use Rattle.kd_state.specs.Setting.{has_letter}
 use Rattle.kd_state.specs.SheetDay.{OfRotors, OfPins}
 use Rattle.kd_state.specs.OnKey.{SameLetters}
+use Rattle.kd_state.specs.Laws.{TestsTellLetters, ThirteenColumns, ColumnsAreThePairs}
 use Rattle.kd_state.specs.Costs.{differ, column_letters, cable_cost, bar_cost, columns_of}
 use Rattle.kd_card.specs.declared.prices.PriceParts.{PriceParts}
 use Rattle.kd_card.specs.declared.prices.PriceParts.TheVariants.{Cables, Bars}
 use Rattle.kd_card.specs.Prices.{row_prices, column_prices, how_many, price_at, cost_at, Fits, AreTight}
 use Rattle.kd_card.specs.Laws.{ProvingPricesAreTight}
 use Rattle.kd_prices.specs.Laws.{AlikePricesAreEqual}
-use Rattle.kd_prices.proofs.Columns.{column_at, length-columns_of}
 use Rattle.kd_prices.proofs.CostTables.{no_rotors}
 
 -- Rows, or columns, that cost the same everywhere.
@@ -47,25 +45,6 @@ module _ {A B : Type 0} (cost : A → B → ℕ) (rows : List A) (columns : List
       ap (λ row. get_or row j 0) (get_or-map (λ row. map (cost row) columns) rows i a [] lt) ∙ get_or-map (cost (get_or rows i a)) columns j b 0 lt'
 
 -- cables with the same letters cost the same
-same_tests : (b c : Bool) → (b ≡ true → c ≡ true) → (c ≡ true → b ≡ true) → b ≡ c
-same_tests true c f g = sym (f refl)
-same_tests false true f g = g refl
-same_tests false false f g = refl
-
-contains_of_has : (letters : List ℕ) (letter : ℕ) → has_letter letters letter ≡ true → Contains letters letter
-contains_of_has letters letter e =
-    let any = Any-from_list_any (λ other. nat_eq other letter) letters e in
-    subst (Contains letters) (eqb-true any.1 letter any.4) (any.0, any.2, any.3)
-
-has_of_contains : (letters : List ℕ) (letter : ℕ) → Contains letters letter → has_letter letters letter ≡ true
-has_of_contains letters letter h = list_any-from_Any (λ other. nat_eq other letter) letters (h.0, letter, h.1, h.2, eq-eqb letter letter refl)
-
-has_same : (xs ys : List ℕ) → SameLetters xs ys → (letter : ℕ) → has_letter xs letter ≡ has_letter ys letter
-has_same xs ys same letter =
-    same_tests (has_letter xs letter) (has_letter ys letter)
-    (λ e. has_of_contains ys letter ((same letter).0 (contains_of_has xs letter e)))
-    (λ e. has_of_contains xs letter ((same letter).1 (contains_of_has ys letter e)))
-
 counted_alike : (p q : ℕ → Bool) → ((x : ℕ) → p x ≡ q x) → (xs : List ℕ) → count_by p xs ≡ count_by q xs
 counted_alike p q h [] = refl
 counted_alike p q h (x ∷ xs) =
@@ -74,36 +53,43 @@ counted_alike p q h (x ∷ xs) =
     let head = ap (λ b. cond {A = ℕ} b 1 0) (h x) in
     omega (arith, counted_alike p q h xs)
 
-cost_alike : (cable other : Option ℕ × Option ℕ) (column : Option (ℕ × ℕ)) → SameLetters (cable_letters cable) (cable_letters other) → cable_cost cable column ≡ cable_cost other column
-cost_alike cable other column same =
+cost_alike : TestsTellLetters → (cable other : Option ℕ × Option ℕ) (column : Option (ℕ × ℕ)) → SameLetters (cable_letters cable) (cable_letters other) → cable_cost cable column ≡ cable_cost other column
+cost_alike letters cable other column same =
     counted_alike (λ letter. differ (has_letter (cable_letters cable) letter) (has_letter (column_letters column) letter))
     (λ letter. differ (has_letter (cable_letters other) letter) (has_letter (column_letters column) letter))
-    (λ letter. ap (λ b. differ b (has_letter (column_letters column) letter)) (has_same (cable_letters cable) (cable_letters other) same letter))
+    (λ letter. ap (λ b. differ b (has_letter (column_letters column) letter)) ((letters (cable_letters cable) (cable_letters other)).0 same letter))
     alphabet
 
 -- what is the same in two places
 same_at : {X : Type 0} (xs : List X) (i k : ℕ) (d : X) → slice_get xs i ≡ slice_get xs k → get_or xs i d ≡ get_or xs k d
 same_at xs i k d e = sym (unwrap_or-slice_get xs i d) ∙ ap (λ found. unwrap_or found d) e ∙ unwrap_or-slice_get xs k d
 
-nothing_at : (pairs : List (ℕ × ℕ)) (place : ℕ) → length pairs ≤ place → get_or (columns_of pairs) place None ≡ None
-nothing_at pairs place past = sym (column_at pairs place) ∙ slice_get_past pairs place past
+nothing_at : ColumnsAreThePairs → (pairs : List (ℕ × ℕ)) (place : ℕ) → length pairs ≤ place → get_or (columns_of pairs) place None ≡ None
+nothing_at columns pairs place past = columns pairs place ∙ slice_get_past pairs place past
 
-pub alike_prices_are_equal : ProvingPricesAreTight → AlikePricesAreEqual
-alike_prices_are_equal law (Rotor m) (OfRotors s) settings (Cables row column) machine legal are_prices h =
-    let tight = law (Rotor m) (OfRotors s) settings (Cables row column) machine legal are_prices h in
+-- what the laws of kd_card and kd_state say
+pub record Told : Type 0 where
+  pub tight : ProvingPricesAreTight
+  pub letters : TestsTellLetters
+  pub thirteen : ThirteenColumns
+  pub columns : ColumnsAreThePairs
+
+pub alike_prices_are_equal : Told → AlikePricesAreEqual
+alike_prices_are_equal told (Rotor m) (OfRotors s) settings (Cables row column) machine legal are_prices h =
+    let tight = told.tight (Rotor m) (OfRotors s) settings (Cables row column) machine legal are_prices h in
     let count = machine.legal.cables.count in
-    let size = length-columns_of s.pairs legal.pairs.few in
+    let size = told.thirteen s.pairs legal.pairs.few in
     let at = table_at cable_cost m.cables (columns_of s.pairs) (None, None) None in
     record {
       rows = λ i k lt lt' alike. rows_alike _ (Cables row column) h.fits tight i k lt lt'
-          (λ j within. at i j (omega arith) (omega arith) ∙ cost_alike _ _ (get_or (columns_of s.pairs) j None) alike ∙ sym (at k j (omega arith) (omega arith)));
+          (λ j within. at i j (omega arith) (omega arith) ∙ cost_alike told.letters _ _ (get_or (columns_of s.pairs) j None) alike ∙ sym (at k j (omega arith) (omega arith)));
       columns = λ j k lt lt' alike. columns_alike _ (Cables row column) h.fits tight j k lt lt'
           (λ i within. at i j (omega arith) (omega arith)
-          ∙ ap (cable_cost (get_or m.cables i (None, None))) (nothing_at s.pairs j alike.0 ∙ sym (nothing_at s.pairs k alike.1))
+          ∙ ap (cable_cost (get_or m.cables i (None, None))) (nothing_at told.columns s.pairs j alike.0 ∙ sym (nothing_at told.columns s.pairs k alike.1))
           ∙ sym (at i k (omega arith) (omega arith)));
     }
-alike_prices_are_equal law (Pin m) (OfPins s) settings (Bars row column) machine legal are_prices h =
-    let tight = law (Pin m) (OfPins s) settings (Bars row column) machine legal are_prices h in
+alike_prices_are_equal told (Pin m) (OfPins s) settings (Bars row column) machine legal are_prices h =
+    let tight = told.tight (Pin m) (OfPins s) settings (Bars row column) machine legal are_prices h in
     let count = machine.legal.bars in
     let size = legal.count in
     let at = table_at bar_cost m.bars s.rows (One, One) (0, 0) in
@@ -113,7 +99,7 @@ alike_prices_are_equal law (Pin m) (OfPins s) settings (Bars row column) machine
       columns = λ j k lt lt' alike. columns_alike _ (Bars row column) h.fits tight j k lt lt'
           (λ i within. at i j (omega arith) (omega arith) ∙ ap (bar_cost (get_or m.bars i (One, One))) (same_at s.rows j k (0, 0) alike) ∙ sym (at i k (omega arith) (omega arith)));
     }
-alike_prices_are_equal law (Rotor m) (OfPins s) settings prices machine legal are_prices h = absurd (no_rotors m.model m.reflector h.model machine.legal.reflector)
-alike_prices_are_equal law (Pin m) (OfRotors s) settings prices machine legal are_prices h = absurd (no_rotors s.model s.reflector (sym h.model) legal.reflector)
-alike_prices_are_equal law (Rotor m) (OfRotors s) settings (Bars row column) machine legal are_prices h = absurd h.kind
-alike_prices_are_equal law (Pin m) (OfPins s) settings (Cables row column) machine legal are_prices h = absurd h.kind
+alike_prices_are_equal told (Rotor m) (OfPins s) settings prices machine legal are_prices h = absurd (no_rotors m.model m.reflector h.model machine.legal.reflector)
+alike_prices_are_equal told (Pin m) (OfRotors s) settings prices machine legal are_prices h = absurd (no_rotors s.model s.reflector (sym h.model) legal.reflector)
+alike_prices_are_equal told (Rotor m) (OfRotors s) settings (Bars row column) machine legal are_prices h = absurd h.kind
+alike_prices_are_equal told (Pin m) (OfPins s) settings (Cables row column) machine legal are_prices h = absurd h.kind

@@ -1,4 +1,3 @@
-pub mod Columns
 pub mod Leading
 pub mod Doubts
 pub mod Rest

@@ -1,20 +1,34 @@
--- A day's pairs, and then nothings.
-use Rattle.std.proofs.Common.{◌≡◌, ℕ, zero, suc, ◌-◌, ◌≤◌, List, [], ◌∷◌, ◌++◌, length, get_or, map, replicate, Option, Some, None, slice_get, refl, arith}
+-- A day's pairs, and then nothings; and letters by the tests that hold of them.
+use Rattle.std.proofs.Common.{◌≡◌, ℕ, zero, suc, ◌-◌, List, [], ◌∷◌, ◌++◌, length, get_or, map, replicate, Option, Some, None, slice_get, refl, sym, ◌∙◌, arith}
+use Rattle.std.specs.Cmp.{both_ways}
 use Rattle.std.proofs.lemmas.List.{length-append, length-map, length-replicate}
-use Rattle.kd_state.specs.Costs.{columns_of}
+use Rattle.kd_state.specs.Setting.{has_letter}
+use Rattle.kd_state.specs.Laws.{TestsTellLetters, ThirteenColumns, ColumnsAreThePairs}
+use Rattle.kd_state.proofs.Rings.{has_letter-Decides}
 
-nothings : (number place : ℕ) → None ≡ get_or (replicate {A = Option (ℕ × ℕ)} number None) place None
+nothings : (number place : ℕ) → get_or (replicate {A = Option (ℕ × ℕ)} number None) place None ≡ None
 nothings zero place = refl
 nothings (suc number) zero = refl
 nothings (suc number) (suc place) = nothings number place
 
-pairs_at : (pairs : List (ℕ × ℕ)) (number place : ℕ) → slice_get pairs place ≡ get_or (map Some pairs ++ replicate number None) place None
+pairs_at : (pairs : List (ℕ × ℕ)) (number place : ℕ) → get_or (map Some pairs ++ replicate number None) place None ≡ slice_get pairs place
 pairs_at [] number place = nothings number place
 pairs_at (pair ∷ pairs) number zero = refl
 pairs_at (pair ∷ pairs) number (suc place) = pairs_at pairs number place
 
-pub column_at : (pairs : List (ℕ × ℕ)) (place : ℕ) → slice_get pairs place ≡ get_or (columns_of pairs) place None
-column_at pairs place = pairs_at pairs (13 - length pairs) place
+pub columns_are_the_pairs : ColumnsAreThePairs
+columns_are_the_pairs pairs place = pairs_at pairs (13 - length pairs) place
 
-pub length-columns_of : (pairs : List (ℕ × ℕ)) → length pairs ≤ 13 → length (columns_of pairs) ≡ 13
-length-columns_of pairs few = simp (length-append, length-map, length-replicate) (omega arith)
+pub thirteen_columns : ThirteenColumns
+thirteen_columns pairs few = simp (length-append, length-map, length-replicate) (omega arith)
+
+pub tests_tell_letters : TestsTellLetters
+tests_tell_letters xs ys = (
+  λ same letter. both_ways (has_letter xs letter) (has_letter ys letter)
+      (λ e. (has_letter-Decides ys letter).1 ((same letter).0 ((has_letter-Decides xs letter).0 e)))
+      (λ e. (has_letter-Decides xs letter).1 ((same letter).1 ((has_letter-Decides ys letter).0 e))),
+  λ alike letter. (
+    λ c. (has_letter-Decides ys letter).0 (sym (alike letter) ∙ (has_letter-Decides xs letter).1 c),
+    λ c. (has_letter-Decides xs letter).0 (alike letter ∙ (has_letter-Decides ys letter).1 c),
+  ),
+)

@@ -6,7 +6,7 @@ use Rattle.kd_state.specs.declared.parts.Parts.TheVariants.{Rotor, Pin}
 use Rattle.kd_state.specs.SheetDay.{OfRotors, OfPins}
 use Rattle.kd_state.specs.Costs.{cable_cost, bar_cost, columns_of}
 use Rattle.kd_state.specs.Laws.{CostTablesAreSquare}
-use Rattle.kd_state.proofs.Columns.{length-columns_of}
+use Rattle.kd_state.proofs.Columns.{thirteen_columns}
 
 -- each row of a table has as many entries as there are columns
 rows_are_long : {X Y : Type 0} (cost : X → Y → ℕ) (rows : List X) (columns : List Y) (number : ℕ) → length columns ≡ number
@@ -22,7 +22,7 @@ square cost rows columns same =
     rows_are_long cost rows columns (length (map (λ other. map (cost other) columns) rows)) (same ∙ sym (length-map rows (λ other. map (cost other) columns)))
 
 pub cost_tables_are_square : CostTablesAreSquare
-cost_tables_are_square (Rotor m) (OfRotors s) machine day = square cable_cost m.cables (columns_of s.pairs) (length-columns_of s.pairs day.pairs.few ∙ sym machine.legal.cables.count)
+cost_tables_are_square (Rotor m) (OfRotors s) machine day = square cable_cost m.cables (columns_of s.pairs) (thirteen_columns s.pairs day.pairs.few ∙ sym machine.legal.cables.count)
 cost_tables_are_square (Rotor m) (OfPins s) machine day = All-nil (λ row. length row ≡ 0)
 cost_tables_are_square (Pin m) (OfRotors s) machine day = All-nil (λ row. length row ≡ 0)
 cost_tables_are_square (Pin m) (OfPins s) machine day = square bar_cost m.bars s.rows (day.count ∙ sym machine.legal.bars)

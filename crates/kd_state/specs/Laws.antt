@@ -1,5 +1,5 @@
 -- What holds of machines, settings and days of a sheet.
-use Rattle.std.specs.Prelude.{◌≡◌, ◌≢◌, ◌↔◌, ℕ, ◌+◌, ◌<◌, List, ◌++◌, length, All, AllPairs, None, MatchOption, Contains}
+use Rattle.std.specs.Prelude.{◌≡◌, ◌≢◌, ◌↔◌, ℕ, ◌+◌, ◌<◌, ◌≤◌, List, ◌++◌, length, slice_index_or, slice_get, All, AllPairs, None, MatchOption, Contains}
 use Rattle.std.specs.Bool.{Decides}
 use Rattle.kd_tables.specs.declared.model.Model.{Model}
 use Rattle.kd_tables.specs.declared.wheel.Wheel.{Wheel}
@@ -14,12 +14,12 @@ use Rattle.kd_state.specs.declared.list.ListFault.{ListFault}
 use Rattle.kd_state.specs.declared.sheet_wheel.SheetWheel.{SheetWheel}
 use Rattle.kd_state.specs.Box.{same_wheel, same_reflector, place_in_box}
 use Rattle.kd_state.specs.Machine.{IsMachine}
-use Rattle.kd_state.specs.Setting.{why_refused, Carries, Leads}
+use Rattle.kd_state.specs.Setting.{has_letter, why_refused, Carries, Leads}
 use Rattle.kd_state.specs.Words.{IsWord}
 use Rattle.kd_state.specs.Line.{setting_words, setting_line, IsInRange, IsList, IsListFault}
 use Rattle.kd_state.specs.SheetDay.{seats, AreSeated, Day, IsLegalDay}
-use Rattle.kd_state.specs.OnKey.{OnKey, ReadsAs}
-use Rattle.kd_state.specs.Costs.{cost_table}
+use Rattle.kd_state.specs.OnKey.{SameLetters, OnKey, ReadsAs}
+use Rattle.kd_state.specs.Costs.{columns_of, cost_table}
 use Rattle.kd_state.specs.TwoCiphers.{EngineKey, cipher, key_left, key_with_window, IsWindow, IsReady, window_of, physical_key, physical_cipher, sheet_key, sheet_cipher, IsTurned}
 
 -- no two wheels have one name, and no two reflectors
@@ -137,6 +137,17 @@ CipherInTurn = (key : EngineKey) (first rest : List ℕ) → cipher key (first +
 
 abbrev pub KeyInTurn : Type 0
 KeyInTurn = (key : EngineKey) (m n : ℕ) → key_left (key_left key m) n ≡ key_left key (m + n)
+
+-- two lists have the same letters exactly where the same tests hold of them
+abbrev pub TestsTellLetters : Type 0
+TestsTellLetters = (xs ys : List ℕ) → SameLetters xs ys ↔ ((letter : ℕ) → has_letter xs letter ≡ has_letter ys letter)
+
+-- the columns of a day are 13: its pairs in their order, and then nothings
+abbrev pub ThirteenColumns : Type 0
+ThirteenColumns = (pairs : List (ℕ × ℕ)) → length pairs ≤ 13 → length (columns_of pairs) ≡ 13
+
+abbrev pub ColumnsAreThePairs : Type 0
+ColumnsAreThePairs = (pairs : List (ℕ × ℕ)) (place : ℕ) → slice_index_or (columns_of pairs) place None ≡ slice_get pairs place
 
 -- the table of costs is square
 abbrev pub CostTablesAreSquare : Type 0

@@ -9,7 +9,7 @@ ghost use Rattle.kd_state.specs.Laws.{SeatsAreByTheTables, ReflectorsAreByTheTab
 ghost use Rattle.kd_state.specs.Laws.{ReadingIsReady, ReadingIsItsCipher, OnKeyIsReady, OnKeyIsItsCipher};
 ghost use Rattle.kd_state.specs.Laws.{TurnedIsOnKey, TurnedHasItsKey, TurnedHasTheDaysCipher, MachinesCanBeTurned, EquallySetDecipher};
 ghost use Rattle.kd_state.specs.Laws.{TheDayDeciphersItself, CipherInTurn, KeyInTurn};
-ghost use Rattle.kd_state.specs.Laws.{CostTablesAreSquare};
+ghost use Rattle.kd_state.specs.Laws.{TestsTellLetters, ThirteenColumns, ColumnsAreThePairs, CostTablesAreSquare};
 
 /// Words, joined by one space, are told by their line, and split off it again. Their line has no LF.
 pub fn lines_tell_words()
@@ -139,6 +139,17 @@ pub fn pieces_are_enciphered_in_turn()
     kd_enigma::laws::pieces_are_enciphered_in_turn();
     kd_drum::laws::pieces_are_enciphered_in_turn();
 }
+
+/// Two lists have the same letters exactly where the same tests hold of them.
+pub fn tests_tell_letters()
+    ensures { TestsTellLetters }
+{}
+
+/// A day has 13 columns: its pairs in their order, and then nothings.
+pub fn columns_are_the_pairs()
+    ensures count { ThirteenColumns }
+    ensures pairs { ColumnsAreThePairs }
+{}
 
 /// There are as many costs for each cable, or bar, as there are cables, or bars.
 pub fn cost_tables_are_square()

@@ -10,4 +10,7 @@ returns c =
       within = c.places_tell_wheels.ensures.within;
       places = c.places_tell_wheels.ensures.wheels;
       days = c.places_tell_wheels.ensures.days;
+      letters = c.tests_tell_letters.ensures;
+      thirteen = c.columns_are_the_pairs.ensures.count;
+      columns = c.columns_are_the_pairs.ensures.pairs;
     })

@@ -1,0 +1,5 @@
+use Rattle.kd_state.proofs.Columns.{tests_tell_letters}
+use Rattle.kd_state.proofs.laws.tests_tell_letters.Goals as goal
+
+pub returns : goal.returns
+returns c = tests_tell_letters
