@@ -104,10 +104,11 @@ without_raises wheel (now ∷ slots) (wanted ∷ wheels) =
       without_raises wheel slots wheels,
     )
 
--- a wheel is turned, if there is one
+-- no two of these wheels have one place in the box
 abbrev HaveTheirPlaces : Model → List SheetWheel → Type 0
 HaveTheirPlaces model wheels = AllPairs (λ (w other : SheetWheel). place_in_box model w.wheel ≢ place_in_box model other.wheel) wheels
 
+-- a wheel is turned, if there is one
 module _ (m : RotorParts) (s : RotorDay) (apart : HaveTheirPlaces m.model s.wheels) where
   abbrev place : SheetWheel → ℕ
   place w = place_in_box m.model w.wheel
