@@ -19,7 +19,7 @@ module _ (m : Parts) (s : Day) (is_due : List ℕ → Type 0) (is_fault : FormFa
   on_the_key : (made : Result T FormFault) → form.IsOnKey m s
       → MatchResult made (λ text. is_due (items text)) (λ fault. (fault ≡ NoMemory) ⊎ is_fault fault) → IsTold made → Passes m s is_due is_fault sink answer
   on_the_key (Ok text) on is told = Passed on (items text) is told
-  on_the_key (Err fault) on (inl same) told = OutOfMemory (subst (λ f. answer ≡ Err (Message f)) same told)
+  on_the_key (Err fault) on (inl same) told = OutOfMemory on (subst (λ f. answer ≡ Err (Message f)) same told)
   on_the_key (Err fault) on (inr is) told = Refused on fault is told
 
   pub passes : (made : Result T FormFault) → form.AnswersOnKey m s (λ text. is_due (items text)) is_fault made → IsTold made

@@ -17,12 +17,12 @@ pub record WritesText (text : List ℕ) (sink : Port) (answer : Result (Unit {0}
   pub written : Writes sink.had sink.has text answer
   pub device : OnErr answer (answer ≡ Err Device)
 
--- What becomes of a message, for which such texts are due, and which has such faults: memory ran out; the machine isn't
--- ready, or isn't on the day's key; or it is on the key, and the message is refused, or a text that is due is written.
+-- What becomes of a message, for which such texts are due, and which has such faults: the machine isn't ready, or isn't on
+-- the day's key; or it is on the key, and memory ran out, or the message is refused, or a text that is due is written.
 pub data Passes (m : Parts) (s : Day) (is_due : List ℕ → Type 0) (is_fault : FormFault → Type 0) (sink : Port)
     (answer : Result (Unit {0}) DeskFault) : Type 0 where
-  OutOfMemory : answer ≡ Err (Message NoMemory) → Passes m s is_due is_fault sink answer
   OffKey : (fault : FormFault) → IsKeyFault m s fault → answer ≡ Err (Message fault) → Passes m s is_due is_fault sink answer
+  OutOfMemory : IsOnKey m s → answer ≡ Err (Message NoMemory) → Passes m s is_due is_fault sink answer
   Refused : IsOnKey m s → (fault : FormFault) → is_fault fault → answer ≡ Err (Message fault) → Passes m s is_due is_fault sink answer
   Passed : IsOnKey m s → (text : List ℕ) → is_due text → WritesText text sink answer → Passes m s is_due is_fault sink answer
 
