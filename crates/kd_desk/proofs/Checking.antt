@@ -42,8 +42,7 @@ module _ (shortest : ProvingCardsAreShortest) (m : Parts) (s : Day) (number : �
       Shortest settings prices dated (record {
         proves = proves;
         shortest = shortest m s settings prices is_machine legal card.are_prices proves;
-        written = record { whole = subst (λ n. Appends sink.had sink.has (verdict_text n)) counted taken; front = tt };
-        device = tt;
+        written = record { written = record { whole = subst (λ n. Appends sink.had sink.has (verdict_text n)) counted taken; front = tt }; device = tt };
       })
 
   part_of : TakesFront sink.had sink.has (verdict_text count) → Checks m s number bytes sink (Err faults.Device)
@@ -51,8 +50,7 @@ module _ (shortest : ProvingCardsAreShortest) (m : Parts) (s : Day) (number : �
       Shortest settings prices dated (record {
         proves = proves;
         shortest = shortest m s settings prices is_machine legal card.are_prices proves;
-        written = record { whole = tt; front = subst (λ n. TakesFront sink.had sink.has (verdict_text n)) counted taken };
-        device = refl;
+        written = record { written = record { whole = tt; front = subst (λ n. TakesFront sink.had sink.has (verdict_text n)) counted taken }; device = refl };
       })
 
   pub told_in_part : (answer : Result (Unit {0}) DeskFault) → TakesFront sink.had sink.has (verdict_text count) → IsErrAnd answer (λ made. made ≡ faults.Device)

@@ -56,8 +56,7 @@ module _ (laws : Laws) (m : Parts) (s : Day) (is_machine : IsMachine m) (legal :
         deciphers = decipher;
         text = text;
         card = dated;
-        written = record { whole = taken; front = tt };
-        device = tt;
+        written = record { written = record { whole = taken; front = tt }; device = tt };
       })
 
   part_of : (settings : List Setting) (prices : PriceParts) (text : List ℕ) (sink : Port) → Plans m s settings prices
@@ -71,8 +70,7 @@ module _ (laws : Laws) (m : Parts) (s : Day) (is_machine : IsMachine m) (legal :
         deciphers = decipher;
         text = text;
         card = card;
-        written = record { whole = tt; front = taken };
-        device = refl;
+        written = record { written = record { whole = tt; front = taken }; device = refl };
       })
 
   pub part : (settings : List Setting) (prices : PriceParts) (text : List ℕ) (day : ℕ) (sink : Port) (answer : Result (Unit {0}) DeskFault) → Plans m s settings prices

@@ -1,6 +1,5 @@
 -- What becomes of a message, on a machine and a day of a sheet: of an order that is sent, or of a form that is received.
-use Rattle.std.specs.Prelude.{◌≡◌, ℕ, List, Result, Err, OnErr}
-use Rattle.kd_tables.specs.Writing.{Writes}
+use Rattle.std.specs.Prelude.{◌≡◌, ℕ, List, Result, Err}
 use Rattle.kd_state.specs.declared.parts.Parts.{Parts}
 use Rattle.kd_state.specs.SheetDay.{Day}
 use Rattle.kd_form.specs.declared.fault.FormFault.{FormFault}
@@ -9,13 +8,8 @@ use Rattle.kd_form.specs.FormText.{IsTextOf, IsReceiveFault, IsGivenOf}
 use Rattle.kd_form.specs.OnTheKey.{IsOnKey, IsKeyFault}
 use Rattle.kd_form.specs.Sending.{IsFormOf, IsSendFault}
 use Rattle.kd_desk.specs.declared.fault.DeskFault.{DeskFault}
-use Rattle.kd_desk.specs.declared.fault.DeskFault.TheVariants.{Message, Device}
-use Rattle.kd_desk.specs.Ports.{Port}
-
--- the text was written, or a prefix of it where the device failed
-pub record WritesText (text : List ℕ) (sink : Port) (answer : Result (Unit {0}) DeskFault) : Type 0 where
-  pub written : Writes sink.had sink.has text answer
-  pub device : OnErr answer (answer ≡ Err Device)
+use Rattle.kd_desk.specs.declared.fault.DeskFault.TheVariants.{Message}
+use Rattle.kd_desk.specs.Ports.{Port, WritesText}
 
 -- What becomes of a message, for which such texts are due, and which has such faults: the machine isn't ready, or isn't on
 -- the day's key; or it is on the key, and memory ran out, or the message is refused, or a text that is due is written.

@@ -1,6 +1,5 @@
 -- What the desk does with a machine and with bytes that say settings.
-use Rattle.std.specs.Prelude.{◌≡◌, ℕ, List, Result, Err, OnErr}
-use Rattle.kd_tables.specs.Writing.{Writes}
+use Rattle.std.specs.Prelude.{◌≡◌, ℕ, List, Result, Err}
 use Rattle.kd_state.specs.declared.parts.Parts.{Parts}
 use Rattle.kd_state.specs.declared.setting.Setting.{Setting}
 use Rattle.kd_state.specs.Setting.{Leads}
@@ -8,14 +7,9 @@ use Rattle.kd_card.specs.declared.carrying.IllegalAt.{IllegalAt}
 use Rattle.kd_card.specs.Carrying.{IsFirstIllegal}
 use Rattle.kd_sheet.specs.MachineText.{machine_text}
 use Rattle.kd_desk.specs.declared.fault.DeskFault.{DeskFault}
-use Rattle.kd_desk.specs.declared.fault.DeskFault.TheVariants.{Illegal, Device}
-use Rattle.kd_desk.specs.Ports.{Port}
+use Rattle.kd_desk.specs.declared.fault.DeskFault.TheVariants.{Illegal}
+use Rattle.kd_desk.specs.Ports.{Port, WritesText}
 use Rattle.kd_desk.specs.Settings.{AreSettings, IsSettingsFault}
-
--- the machine's file was written, or a prefix of it where the device failed
-pub record WritesMachine (m : Parts) (sink : Port) (answer : Result (Unit {0}) DeskFault) : Type 0 where
-  pub written : Writes sink.had sink.has (machine_text m) answer
-  pub device : OnErr answer (answer ≡ Err Device)
 
 -- What becomes of a machine and of bytes that say settings: they say none, for this fault; or the first line that the machine
 -- refuses in its turn is told; or the settings lead it to another machine, whose file is written.
@@ -24,4 +18,4 @@ pub data Applies (m : Parts) (bytes : List ℕ) (sink : Port) (answer : Result (
   RefusedLine : (settings : List Setting) (fault : IllegalAt) → AreSettings bytes settings
       → IsFirstIllegal m settings fault.line fault.why → answer ≡ Err (Illegal fault) → Applies m bytes sink answer
   Carried : (settings : List Setting) (n : Parts) → AreSettings bytes settings → Leads m settings n
-      → WritesMachine n sink answer → Applies m bytes sink answer
+      → WritesText (machine_text n) sink answer → Applies m bytes sink answer

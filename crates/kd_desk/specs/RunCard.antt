@@ -1,6 +1,5 @@
 -- What the desk writes where it prints a card.
-use Rattle.std.specs.Prelude.{◌≡◌, ◌≢◌, ℕ, List, Result, Err, OnErr}
-use Rattle.kd_tables.specs.Writing.{Writes}
+use Rattle.std.specs.Prelude.{◌≡◌, ◌≢◌, ℕ, List, Result, Err}
 use Rattle.kd_state.specs.declared.parts.Parts.{Parts}
 use Rattle.kd_state.specs.declared.setting.Setting.{Setting}
 use Rattle.kd_state.specs.Machine.{model_of}
@@ -9,9 +8,9 @@ use Rattle.kd_card.specs.declared.prices.PriceParts.{PriceParts}
 use Rattle.kd_card.specs.CardText.{IsCard}
 use Rattle.kd_plan.specs.Planned.{Plans}
 use Rattle.kd_desk.specs.declared.fault.DeskFault.{DeskFault}
-use Rattle.kd_desk.specs.declared.fault.DeskFault.TheVariants.{OtherModel, Device}
+use Rattle.kd_desk.specs.declared.fault.DeskFault.TheVariants.{OtherModel}
 use Rattle.kd_desk.specs.Headline.{LeavesTheSheetsMachine, EquallySetDecipher}
-use Rattle.kd_desk.specs.Ports.{Port}
+use Rattle.kd_desk.specs.Ports.{Port, WritesText}
 
 -- The text of a card was written, or a prefix of it where the device failed. The card is a planned one; its prices prove it,
 -- and no settings whatever that reach the day are fewer. Its settings, carried out, leave a machine that is ready and
@@ -24,8 +23,7 @@ pub record WritesCard (m : Parts) (s : Day) (sink : Port) (answer : Result (Unit
   pub deciphers : EquallySetDecipher s
   pub text : List ℕ
   pub card : IsCard text (day_number s) settings prices
-  pub written : Writes sink.had sink.has text answer
-  pub device : OnErr answer (answer ≡ Err Device)
+  pub written : WritesText text sink answer
 
 -- a card of the machine for the day: refused where they are of different models, and else written
 pub data Prints (m : Parts) (s : Day) (sink : Port) (answer : Result (Unit {0}) DeskFault) : Type 0 where

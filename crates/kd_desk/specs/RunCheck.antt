@@ -1,6 +1,5 @@
 -- What the desk tells of a card.
-use Rattle.std.specs.Prelude.{codes, decimal, ◌≡◌, ◌≢◌, ℕ, List, [], ◌∷◌, ◌++◌, length, Result, Err, OnErr}
-use Rattle.kd_tables.specs.Writing.{Writes}
+use Rattle.std.specs.Prelude.{codes, decimal, ◌≡◌, ◌≢◌, ℕ, List, [], ◌∷◌, ◌++◌, length, Result, Err}
 use Rattle.kd_state.specs.declared.parts.Parts.{Parts}
 use Rattle.kd_state.specs.declared.setting.Setting.{Setting}
 use Rattle.kd_state.specs.SheetDay.{Day}
@@ -13,7 +12,7 @@ use Rattle.kd_prices.specs.declared.doubt.Doubt.{Doubt}
 use Rattle.kd_prices.specs.Doubt.{IsDoubt}
 use Rattle.kd_desk.specs.declared.fault.DeskFault.{DeskFault}
 use Rattle.kd_desk.specs.declared.fault.DeskFault.TheVariants as faults
-use Rattle.kd_desk.specs.Ports.{Port}
+use Rattle.kd_desk.specs.Ports.{Port, WritesText}
 
 -- the line that tells of a card that it is shortest, with the number of its settings
 abbrev pub verdict_text : ℕ → List ℕ
@@ -25,8 +24,7 @@ pub record IsTold (m : Parts) (s : Day) (settings : List Setting) (prices : Pric
     : Type 0 where
   pub proves : Proves m s settings prices
   pub shortest : IsShortest m s settings
-  pub written : Writes sink.had sink.has (verdict_text (length settings)) answer
-  pub device : OnErr answer (answer ≡ Err faults.Device)
+  pub written : WritesText (verdict_text (length settings)) sink answer
 
 -- what becomes of a machine, a day of that number, and the bytes of a card: they are no card, or another day's, or the card's
 -- first doubt is answered; or it is told to be shortest

@@ -1,7 +1,6 @@
 //! What orders and forms have in common.
 ghost use Rattle.std.specs.Prelude.{◌≡◌, ◌||◌, Err, MatchResult, IsTrue};
-ghost use Rattle.kd_desk.specs.Messages.{WritesText};
-ghost use Rattle.kd_desk.specs.Ports.{port};
+ghost use Rattle.kd_desk.specs.Ports.{WritesText, port};
 ghost use Rattle.kd_desk.specs.RunSteps.{is_refused_before, is_device};
 
 use crate::fault::DeskFault;
