@@ -8,7 +8,7 @@ use Rattle.kd_desk.specs.declared.stop.Stop.TheVariants.{Refused}
 use Rattle.kd_desk.specs.CommandLine.{desk_grammar, IsOf, Says}
 use Rattle.std.specs.Result.{result_map_both}
 use Rattle.kd_desk.specs.declared.files.fault.FileFault.{FileFault}
-use Rattle.kd_desk.specs.Desk.{Run, typing, printing, with_bytes, run_with, typing_of, printing_of, run_of, TypesOn, Does, IsLeftAlone, CarriesOut}
+use Rattle.kd_desk.specs.Desk.{Run, typing, printing, with_bytes, contents_of, run_with, typing_of, printing_of, run_of, TypesOn, Does, IsLeftAlone, CarriesOut}
 use Rattle.kd_desk.specs.OnDay.{OnDay}
 use Rattle.kd_desk.specs.RunCard.{Prints}
 use Rattle.kd_desk.specs.Files.{content_of}
@@ -67,12 +67,17 @@ module _ (machine sheet m s : List ℕ) (sink : Port) (told : Result (Unit {0}) 
       carries_out source sink told answer answers (printing m s day) (printing_of (held machine) (held sheet) day)
       (two_files _ _ m s (λ one two. printing one two day) holds holds_sheet) (does, alone)
 
-  pub done_with : (run : List ℕ → List ℕ → List ℕ → Run) (known : Option (List ℕ → Option (List ℕ))) (file f : List ℕ)
-      → IfSome known (λ held. content_of (held machine) ≡ Ok m) → IfSome known (λ held. content_of (held sheet) ≡ Ok s)
-      → IfSome known (λ held. content_of (held file) ≡ Ok f) → ((source : Port) → IsLeftAlone source → Does (run m s f) source sink told)
-      → IfSome known (λ held. (source : Port) → IsLeftAlone source → CarriesOut (run_with (held machine) (held sheet) (held file) run) source sink answer)
-  done_with run None file f holds holds_sheet holds_file does = tt
-  done_with run (Some held) file f holds holds_sheet holds_file does = λ source alone.
-      carries_out source sink told answer answers (run m s f) (run_with (held machine) (held sheet) (held file) run)
-      (ap (λ bytes. with_bytes bytes (λ one. with_bytes (content_of (held sheet)) (λ two. with_bytes (content_of (held file)) (λ three. Ok (run one two three))))) holds
-      ∙ two_files _ _ s f (run m) holds_sheet holds_file) (does source alone)
+-- what is done on three files
+module _ (machine sheet file : List ℕ) (run : List ℕ → List ℕ → List ℕ → Run) (sink : Port) (answer : Result (Unit {0}) Stop) where
+  abbrev IsDone : Option (List ℕ → Option (List ℕ)) → Type 0
+  IsDone known = IfSome known (λ held. (source : Port) → IsLeftAlone source → CarriesOut (run_with (held machine) (held sheet) (held file) run) source sink answer)
+
+  abbrev AreRead : Option (List ℕ → Option (List ℕ)) → Result (List ℕ × List ℕ × List ℕ) FileFault → Type 0
+  AreRead known read = IfSome known (λ held. contents_of (held machine) (held sheet) (held file) ≡ read)
+
+  pub done_with : (known : Option (List ℕ → Option (List ℕ))) (m s f : List ℕ) (told : Result (Unit {0}) DeskFault) → AreRead known (Ok (m, s, f))
+      → answer ≡ result_map_both (λ done. done) Refused told → ((source : Port) → IsLeftAlone source → Does (run m s f) source sink told) → IsDone known
+  done_with None m s f told read answers does = tt
+  done_with (Some held) m s f told read answers does = λ source alone.
+      subst (λ (r : Result _ FileFault). CarriesOut (result_map_both (λ bytes. run bytes.0 bytes.1 bytes.2) (λ fault. fault) r) source sink answer) (sym read)
+      (inl (record { told = told; does = does source alone; answers = answers }))

@@ -31,10 +31,10 @@ pub data Run : Type 0 where
   sending : List ℕ → List ℕ → ℕ → List ℕ → Run
   receiving : List ℕ → List ℕ → ℕ → List ℕ → Run
 
--- a file's bytes go into a run, or its fault stands for it
-abbrev pub with_bytes : Result (List ℕ) FileFault → (List ℕ → Result Run FileFault) → Result Run FileFault
-with_bytes (Ok bytes) run = run bytes
-with_bytes (Err fault) run = Err fault
+-- a file's bytes go into what is made of them, or its fault stands for it
+abbrev pub with_bytes : {X : Type 0} → Result (List ℕ) FileFault → (List ℕ → Result X FileFault) → Result X FileFault
+with_bytes (Ok bytes) made = made bytes
+with_bytes (Err fault) made = Err fault
 
 -- typing on the machine of a file
 abbrev pub typing_of : Option (List ℕ) → Result Run FileFault
@@ -44,11 +44,16 @@ typing_of machine = with_bytes (content_of machine) (λ m. Ok (typing m))
 abbrev pub printing_of : Option (List ℕ) → Option (List ℕ) → ℕ → Result Run FileFault
 printing_of machine sheet day = with_bytes (content_of machine) (λ m. with_bytes (content_of sheet) (λ s. Ok (printing m s day)))
 
+-- the bytes of three files, or the fault of the first that can't be had
+abbrev pub contents_of : Option (List ℕ) → Option (List ℕ) → Option (List ℕ) → Result (List ℕ × List ℕ × List ℕ) FileFault
+contents_of machine sheet file =
+    with_bytes (content_of machine) (λ m. with_bytes (content_of sheet) (λ s. with_bytes (content_of file) (λ f. Ok (m, s, f))))
+
 -- what is done with a third file, for the machine of a file and a sheet
 abbrev pub run_with : Option (List ℕ) → Option (List ℕ) → Option (List ℕ) → (List ℕ → List ℕ → List ℕ → Run)
     → Result Run FileFault
 run_with machine sheet file run =
-    with_bytes (content_of machine) (λ m. with_bytes (content_of sheet) (λ s. with_bytes (content_of file) (λ f. Ok (run m s f))))
+    result_map_both (λ read. run read.0 read.1 read.2) (λ fault. fault) (contents_of machine sheet file)
 
 -- the check of a card
 abbrev pub checking_of : Option (List ℕ) → Option (List ℕ) → ℕ → Option (List ℕ) → Result Run FileFault

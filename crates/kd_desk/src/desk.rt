@@ -1,7 +1,7 @@
 //! The program, from its words to its bytes.
-ghost use Rattle.std.specs.Prelude.{◌≡◌, ◌≢◌, ◌⊎◌, ◌||◌, map, Err, IfSome, IsTrue};
+ghost use Rattle.std.specs.Prelude.{◌≡◌, ◌≢◌, ◌⊎◌, ◌||◌, map, Ok, Err, IfOk, IfErr, IfSome, IsTrue};
 ghost use Rattle.kd_desk.specs.CommandLine.{Says, SaysNothing};
-ghost use Rattle.kd_desk.specs.Desk.{run_of, typing_of, printing_of, checking_of, applying_of, sending_of, receiving_of};
+ghost use Rattle.kd_desk.specs.Desk.{contents_of, run_of, typing_of, printing_of, checking_of, applying_of, sending_of, receiving_of};
 ghost use Rattle.kd_desk.specs.Desk.{CarriesOut, IsLeftAlone, LacksMemory, is_stopped_before, is_stopped_by_port};
 ghost use Rattle.kd_desk.specs.Ports.{Fail, Port, port};
 
@@ -9,7 +9,7 @@ ghost use Rattle.kd_desk.specs.Ports.{Fail, Port, port};
 mod tests;
 
 use crate::command::{Command, parse_words};
-use crate::files::Files;
+use crate::files::{FileFault, Files};
 use crate::run_apply::run_apply;
 use crate::run_card::run_card;
 use crate::run_check::run_check;
@@ -120,7 +120,8 @@ fn print_on<F: Files, W: Sink>(
     sink: &mut W,
 ) -> Result<(), Stop>
     ensures carried { IfSome (F.known files.now) (λ held. (source : Port) → IsLeftAlone source
-        → CarriesOut (printing_of (held machine.now) (held sheet.now) day) source (port W.taken W.has_failed sink.old sink.new) result) }
+        → CarriesOut (printing_of (held machine.now) (held sheet.now) day) source
+        (port W.taken W.has_failed sink.old sink.new) result) }
     ensures begun { result ≢ Err Stop.Usage }
     ensures untouched { IsTrue (is_stopped_before result) → sink.new ≡ sink.old }
     ensures failed { W.has_failed sink.new ≡ (W.has_failed sink.old || is_stopped_by_port result) }
@@ -130,6 +131,27 @@ fn print_on<F: Files, W: Sink>(
     let (machine, sheet) = (machine_file.as_slice(), sheet_file.as_slice());
     run_card(alloc, machine, sheet, day, sink)?;
     Ok(())
+}
+
+/// The bytes of three files, each read whole before the next; or why the first that can't be had is refused.
+fn read_three<F: Files>(
+    alloc: Global,
+    files: &F,
+    machine: &str,
+    sheet: &str,
+    file: &str,
+) -> Result<(Vec<u8>, Vec<u8>, Vec<u8>), FileFault>
+    ensures bytes { IfOk result (λ read. IfSome (F.known files.now) (λ held.
+        contents_of (held machine.now) (held sheet.now) (held file.now)
+        ≡ Ok (read.0.items, read.1.items, read.2.items))) }
+    ensures refused { IfErr result (λ fault. fault ≢ FileFault.NoMemory
+        → IfSome (F.known files.now) (λ held.
+        contents_of (held machine.now) (held sheet.now) (held file.now) ≡ Err fault)) }
+{
+    let machine = files.read(alloc, machine)?;
+    let sheet = files.read(alloc, sheet)?;
+    let file = files.read(alloc, file)?;
+    Ok((machine, sheet, file))
 }
 
 /// Checks the card of a third file for the machine of a file and the day of a sheet, without a look at the source.
@@ -143,14 +165,13 @@ fn check_on<F: Files, W: Sink>(
     sink: &mut W,
 ) -> Result<(), Stop>
     ensures carried { IfSome (F.known files.now) (λ held. (source : Port) → IsLeftAlone source
-        → CarriesOut (checking_of (held machine.now) (held sheet.now) day (held card.now)) source (port W.taken W.has_failed sink.old sink.new) result) }
+        → CarriesOut (checking_of (held machine.now) (held sheet.now) day (held card.now)) source
+        (port W.taken W.has_failed sink.old sink.new) result) }
     ensures begun { result ≢ Err Stop.Usage }
     ensures untouched { IsTrue (is_stopped_before result) → sink.new ≡ sink.old }
     ensures failed { W.has_failed sink.new ≡ (W.has_failed sink.old || is_stopped_by_port result) }
 {
-    let machine = files.read(alloc, machine)?;
-    let sheet = files.read(alloc, sheet)?;
-    let card = files.read(alloc, card)?;
+    let (machine, sheet, card) = read_three(alloc, files, machine, sheet, card)?;
     let (machine, sheet) = (machine.as_slice(), sheet.as_slice());
     run_check(alloc, machine, sheet, day, card.as_slice(), sink)?;
     Ok(())
@@ -194,9 +215,7 @@ fn send_on<F: Files, W: Sink>(
     ensures untouched { IsTrue (is_stopped_before result) → sink.new ≡ sink.old }
     ensures failed { W.has_failed sink.new ≡ (W.has_failed sink.old || is_stopped_by_port result) }
 {
-    let machine = files.read(alloc, machine)?;
-    let sheet = files.read(alloc, sheet)?;
-    let order = files.read(alloc, order)?;
+    let (machine, sheet, order) = read_three(alloc, files, machine, sheet, order)?;
     let (machine, sheet) = (machine.as_slice(), sheet.as_slice());
     run_send(alloc, machine, sheet, day, order.as_slice(), sink)?;
     Ok(())
@@ -219,9 +238,7 @@ fn receive_on<F: Files, W: Sink>(
     ensures untouched { IsTrue (is_stopped_before result) → sink.new ≡ sink.old }
     ensures failed { W.has_failed sink.new ≡ (W.has_failed sink.old || is_stopped_by_port result) }
 {
-    let machine = files.read(alloc, machine)?;
-    let sheet = files.read(alloc, sheet)?;
-    let form = files.read(alloc, form)?;
+    let (machine, sheet, form) = read_three(alloc, files, machine, sheet, form)?;
     let (machine, sheet) = (machine.as_slice(), sheet.as_slice());
     run_receive(alloc, machine, sheet, day, form.as_slice(), sink)?;
     Ok(())

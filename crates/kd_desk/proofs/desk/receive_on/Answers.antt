@@ -6,10 +6,10 @@ use Rattle.kd_desk.proofs.desk.receive_on.Goals as goal
 
 pub returns-in_err-run_receive-clause-carried : goal.returns-in_err-run_receive-clause-carried
 returns-in_err-run_receive-clause-carried g c =
-    done_with c.args.machine.now c.args.sheet.now _ _ _ _ c.from_residual-in_err-run_receive.result (err_is _ (Refused _) c.from_residual-in_err-run_receive.ensures.1)
-    (λ m s f. receiving m s c.args.day f) _ c.args.form.now _ (search rules) (search rules) (search rules) (λ source alone. (c.in_err-run_receive.ensures.receives, alone))
+    done_with c.args.machine.now c.args.sheet.now c.args.form.now (λ m s f. receiving m s c.args.day f) _ c.from_residual-in_err-run_receive.result _ _ _ _ _ (search rules)
+    (err_is _ (Refused _) c.from_residual-in_err-run_receive.ensures.1) (λ source alone. (c.in_err-run_receive.ensures.receives, alone))
 
 pub returns-clause-carried : goal.returns-clause-carried
 returns-clause-carried g c =
-    done_with c.args.machine.now c.args.sheet.now _ _ _ _ _ refl (λ m s f. receiving m s c.args.day f) _ c.args.form.now _ (search rules) (search rules)
-    (search rules) (λ source alone. (c.in_ok-run_receive.ensures.receives, alone))
+    done_with c.args.machine.now c.args.sheet.now c.args.form.now (λ m s f. receiving m s c.args.day f) _ _ _ _ _ _ _ (search rules) refl
+    (λ source alone. (c.in_ok-run_receive.ensures.receives, alone))
