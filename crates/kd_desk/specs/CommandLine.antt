@@ -81,12 +81,15 @@ pub record HaveFile (rows : List Row) (word machine sheet : List ℕ) (day : ℕ
 abbrev pub HasWords : List Row → Command → Type 0
 HasWords rows (commands.Type machine) = first_of (codes "MACHINE") rows ≡ Some machine.now
 HasWords rows (commands.Card machine sheet day) = HaveDay rows machine.now sheet.now day
-HasWords rows (commands.Check machine sheet day card) = HaveFile rows (codes "CARD") machine.now sheet.now day card.now
+HasWords rows (commands.Check machine sheet day card) =
+    HaveFile rows (codes "CARD") machine.now sheet.now day card.now
 HasWords rows (commands.Apply machine list) =
     (first_of (codes "MACHINE") rows ≡ Some machine.now)
     × (first_of (codes "LIST") rows ≡ Some list.now)
-HasWords rows (commands.Send machine sheet day order) = HaveFile rows (codes "ORDER") machine.now sheet.now day order.now
-HasWords rows (commands.Receive machine sheet day form) = HaveFile rows (codes "FORM") machine.now sheet.now day form.now
+HasWords rows (commands.Send machine sheet day order) =
+    HaveFile rows (codes "ORDER") machine.now sheet.now day order.now
+HasWords rows (commands.Receive machine sheet day form) =
+    HaveFile rows (codes "FORM") machine.now sheet.now day form.now
 
 -- a name and the values of words are those of the command, or of none
 pub record IsOf (said : List ℕ × List Row) (command : Command) : Type 0 where

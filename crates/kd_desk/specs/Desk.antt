@@ -42,12 +42,15 @@ typing_of machine = with_bytes (content_of machine) (λ m. Ok (typing m))
 
 -- the card for a day of a sheet, for the machine of a file
 abbrev pub printing_of : Option (List ℕ) → Option (List ℕ) → ℕ → Result Run FileFault
-printing_of machine sheet day = with_bytes (content_of machine) (λ m. with_bytes (content_of sheet) (λ s. Ok (printing m s day)))
+printing_of machine sheet day =
+    with_bytes (content_of machine) (λ m. with_bytes (content_of sheet) (λ s. Ok (printing m s day)))
 
 -- the bytes of three files, or the fault of the first that can't be had
-abbrev pub contents_of : Option (List ℕ) → Option (List ℕ) → Option (List ℕ) → Result (List ℕ × List ℕ × List ℕ) FileFault
+abbrev pub contents_of : Option (List ℕ) → Option (List ℕ) → Option (List ℕ)
+    → Result (List ℕ × List ℕ × List ℕ) FileFault
 contents_of machine sheet file =
-    with_bytes (content_of machine) (λ m. with_bytes (content_of sheet) (λ s. with_bytes (content_of file) (λ f. Ok (m, s, f))))
+    with_bytes (content_of machine) (λ m. with_bytes (content_of sheet)
+    (λ s. with_bytes (content_of file) (λ f. Ok (m, s, f))))
 
 -- what is done with a third file, for the machine of a file and a sheet
 abbrev pub run_with : Option (List ℕ) → Option (List ℕ) → Option (List ℕ) → (List ℕ → List ℕ → List ℕ → Run)
@@ -75,10 +78,13 @@ applying_of machine list = with_bytes (content_of machine) (λ m. with_bytes (co
 abbrev pub run_of : (List ℕ → Option (List ℕ)) → Command → Result Run FileFault
 run_of held (commands.Type machine) = typing_of (held machine.now)
 run_of held (commands.Card machine sheet day) = printing_of (held machine.now) (held sheet.now) day
-run_of held (commands.Check machine sheet day card) = checking_of (held machine.now) (held sheet.now) day (held card.now)
+run_of held (commands.Check machine sheet day card) =
+    checking_of (held machine.now) (held sheet.now) day (held card.now)
 run_of held (commands.Apply machine list) = applying_of (held machine.now) (held list.now)
-run_of held (commands.Send machine sheet day order) = sending_of (held machine.now) (held sheet.now) day (held order.now)
-run_of held (commands.Receive machine sheet day form) = receiving_of (held machine.now) (held sheet.now) day (held form.now)
+run_of held (commands.Send machine sheet day order) =
+    sending_of (held machine.now) (held sheet.now) day (held order.now)
+run_of held (commands.Receive machine sheet day form) =
+    receiving_of (held machine.now) (held sheet.now) day (held form.now)
 
 -- a text was typed on the machine of a machine file, or the call was refused for the file or for a machine that isn't ready
 pub record TypesOn (machine : List ℕ) (source sink : Port) (answer : Result (Unit {0}) DeskFault) : Type 0 where
@@ -99,7 +105,8 @@ pub record IsLeftAlone (p : Port) : Type 0 where
 -- what a run does: only typing looks at the source
 abbrev pub Does : Run → Port → Port → Result (Unit {0}) DeskFault → Type 0
 Does (typing machine) source sink answer = TypesOn machine source sink answer
-Does (printing machine sheet day) source sink answer = OnDay machine sheet day (λ m s. Prints m s sink answer) answer × IsLeftAlone source
+Does (printing machine sheet day) source sink answer =
+    OnDay machine sheet day (λ m s. Prints m s sink answer) answer × IsLeftAlone source
 Does (checking machine sheet day card) source sink answer =
     OnDay machine sheet day (λ m s. Checks m s day card sink answer) answer × IsLeftAlone source
 Does (applying machine list) source sink answer = AppliesTo machine list sink answer × IsLeftAlone source

@@ -1,4 +1,4 @@
--- What becomes of a message, on a machine and a day of a sheet: of an order that is sent, or of a form that is received.
+-- What becomes of a message on a machine and a day of a sheet: of an order that is sent, or of a form that is received.
 use Rattle.std.specs.Prelude.{◌≡◌, ℕ, List, Result, Err}
 use Rattle.kd_state.specs.declared.parts.Parts.{Parts}
 use Rattle.kd_state.specs.SheetDay.{Day}
@@ -11,14 +11,18 @@ use Rattle.kd_desk.specs.declared.fault.DeskFault.{DeskFault}
 use Rattle.kd_desk.specs.declared.fault.DeskFault.TheVariants.{Message}
 use Rattle.kd_desk.specs.Ports.{Port, WritesText}
 
--- What becomes of a message, for which such texts are due, and which has such faults: the machine isn't ready, or isn't on
--- the day's key; or it is on the key, and memory ran out, or the message is refused, or a text that is due is written.
+-- What becomes of a message, for which such texts are due, and which has such faults: the machine isn't ready, or isn't
+-- on the day's key; or it is on the key, and memory ran out, or the message is refused, or a text that is due is
+-- written.
 pub data Passes (m : Parts) (s : Day) (is_due : List ℕ → Type 0) (is_fault : FormFault → Type 0) (sink : Port)
     (answer : Result (Unit {0}) DeskFault) : Type 0 where
-  OffKey : (fault : FormFault) → IsKeyFault m s fault → answer ≡ Err (Message fault) → Passes m s is_due is_fault sink answer
+  OffKey : (fault : FormFault) → IsKeyFault m s fault → answer ≡ Err (Message fault)
+      → Passes m s is_due is_fault sink answer
   OutOfMemory : IsOnKey m s → answer ≡ Err (Message NoMemory) → Passes m s is_due is_fault sink answer
-  Refused : IsOnKey m s → (fault : FormFault) → is_fault fault → answer ≡ Err (Message fault) → Passes m s is_due is_fault sink answer
-  Passed : IsOnKey m s → (text : List ℕ) → is_due text → WritesText text sink answer → Passes m s is_due is_fault sink answer
+  Refused : IsOnKey m s → (fault : FormFault) → is_fault fault → answer ≡ Err (Message fault)
+      → Passes m s is_due is_fault sink answer
+  Passed : IsOnKey m s → (text : List ℕ) → is_due text → WritesText text sink answer
+      → Passes m s is_due is_fault sink answer
 
 -- the form that the order becomes is written, or the order is refused
 abbrev pub Sends : Parts → Day → List ℕ → Port → Result (Unit {0}) DeskFault → Type 0

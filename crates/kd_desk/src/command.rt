@@ -164,7 +164,8 @@ fn receive_of<'a>(words: &ArgMatches<'a>) -> Option<Command<'a>>
 
 /// The machine file, the sheet and the day that these words name.
 fn day_said<'a>(words: &ArgMatches<'a>) -> Option<(&'a str, &'a str, u8)>
-    ensures said { IfSome result (λ on. HaveDay (rows_of (found_of words.now)) on.0.now on.1.now on.2) }
+    ensures said { IfSome result (λ on.
+        HaveDay (rows_of (found_of words.now)) on.0.now on.1.now on.2) }
     ensures none { result ≡ None → (machine sheet : List ℕ) (day : ℕ)
         → ¬ (HaveDay (rows_of (found_of words.now)) machine sheet day) }
 {

@@ -1,7 +1,8 @@
 //! The program, from its words to its bytes.
 ghost use Rattle.std.specs.Prelude.{◌≡◌, ◌≢◌, ◌⊎◌, ◌||◌, map, Ok, Err, IfOk, IfErr, IfSome, IsTrue};
 ghost use Rattle.kd_desk.specs.CommandLine.{Says, SaysNothing};
-ghost use Rattle.kd_desk.specs.Desk.{contents_of, run_of, typing_of, printing_of, checking_of, applying_of, sending_of, receiving_of};
+ghost use Rattle.kd_desk.specs.Desk.{contents_of, run_of, typing_of, printing_of, checking_of, applying_of};
+ghost use Rattle.kd_desk.specs.Desk.{sending_of, receiving_of};
 ghost use Rattle.kd_desk.specs.Desk.{CarriesOut, IsLeftAlone, LacksMemory, is_stopped_before, is_stopped_by_port};
 ghost use Rattle.kd_desk.specs.Ports.{Fail, Port, port};
 
@@ -198,7 +199,8 @@ fn apply_on<F: Files, W: Sink>(
     Ok(())
 }
 
-/// Prints the form of the order of a third file for the machine of a file and the day of a sheet, without a look at the source.
+/// Prints the form of the order of a third file for the machine of a file and the day of a sheet, without a look at the
+/// source.
 fn send_on<F: Files, W: Sink>(
     alloc: Global,
     machine: &str,
@@ -221,7 +223,8 @@ fn send_on<F: Files, W: Sink>(
     Ok(())
 }
 
-/// Prints the text of the form of a third file for the machine of a file and the day of a sheet, without a look at the source.
+/// Prints the text of the form of a third file for the machine of a file and the day of a sheet, without a look at the
+/// source.
 fn receive_on<F: Files, W: Sink>(
     alloc: Global,
     machine: &str,
