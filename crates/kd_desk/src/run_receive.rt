@@ -52,6 +52,7 @@ fn receive_form<W: Sink>(
     ensures untouched { IsTrue (is_refused_before result) → sink.new ≡ sink.old }
     ensures failed { W.has_failed sink.new ≡ (W.has_failed sink.old || is_device result) }
 {
+    // The laws speak of legal days, and a getter tells that this one is.
     let _legal_day = day.model();
     laws::forms_have_one_answer();
     laws::forms_give_their_orders();
