@@ -1,4 +1,6 @@
 //! The files that tests begin from.
+use crate::fault::DeskFault;
+use kd_form::FormFault;
 
 /// An Enigma I with reflector B, the wheels I, II and III in the slots, and all rings and letters A.
 pub const MACHINE: &str = "version = 1
@@ -212,7 +214,24 @@ TTABC DEFQV SVOOL ADLIO WCCCC TTABC DEFQV
 
 pub const CONVERTER_TEXT: &str = "HELLO WORLDXXXX\n";
 
-/// What a machine's file says, and what another says in its place: it is off the key, or isn't ready.
-pub const OFF_KEY: [&str; 2] = ["rings = \"AAAAA\"", "rings = \"BAAAA\""];
+/// The Enigma I with another ring, which is off the key, and with an empty slot, which isn't ready.
+pub const OFF_KEY: &str = "version = 1
+model = \"Enigma I\"
+reflector = \"B\"
+slots = [\"I\", \"II\", \"III\"]
+rings = \"BAAAA\"
+letters = \"AAAAA\"
+";
 
-pub const UNREADY: [&str; 2] = ["\"II\"", "\"\""];
+pub const UNREADY: &str = "version = 1
+model = \"Enigma I\"
+reflector = \"B\"
+slots = [\"I\", \"\", \"III\"]
+rings = \"AAAAA\"
+letters = \"AAAAA\"
+";
+
+/// The desk's refusal of a message.
+pub fn message(fault: FormFault) -> DeskFault {
+    DeskFault::Message(fault)
+}

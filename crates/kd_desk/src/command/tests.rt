@@ -89,14 +89,14 @@ fn finds_the_files_of_a_card(rt: HostRuntime) -> Result<(), Fail> {
 #[test]
 fn refuses_other_days(rt: HostRuntime) -> Result<(), Fail> {
     for word in ["", "0", "01", "+1", "32", "40", "100", "1 ", "x", "-1"] {
-        let words = ["desk", "card", "m.toml", "s.toml", word];
-        assert_eq!(rt; parse_words(rt.alloc(), words.as_slice()), Err(Stop::Usage));
-        let words = ["desk", "check", "m.toml", "s.toml", word, "c.txt"];
-        assert_eq!(rt; parse_words(rt.alloc(), words.as_slice()), Err(Stop::Usage));
-        let words = ["desk", "send", "m.toml", "s.toml", word, "o.txt"];
-        assert_eq!(rt; parse_words(rt.alloc(), words.as_slice()), Err(Stop::Usage));
-        let words = ["desk", "receive", "m.toml", "s.toml", word, "f.txt"];
-        assert_eq!(rt; parse_words(rt.alloc(), words.as_slice()), Err(Stop::Usage));
+        for words in [
+            ["desk", "card", "m.toml", "s.toml", word].as_slice(),
+            ["desk", "check", "m.toml", "s.toml", word, "c.txt"].as_slice(),
+            ["desk", "send", "m.toml", "s.toml", word, "o.txt"].as_slice(),
+            ["desk", "receive", "m.toml", "s.toml", word, "f.txt"].as_slice(),
+        ] {
+            assert_eq!(rt; parse_words(rt.alloc(), words), Err(Stop::Usage));
+        }
     }
     Ok(())
 }

@@ -2,6 +2,7 @@ use super::run_receive;
 use crate::fault::DeskFault;
 use crate::samples::{
     CONVERTER_FORM, CONVERTER_TEXT, FORM, MACHINE, MESSAGES, OFF_KEY, TEXT, UNREADY, WITHOUT_PINS,
+    message,
 };
 use kd_form::FormFault;
 use kd_sheet::SheetFault;
@@ -29,36 +30,15 @@ fn receives_forms(rt: HostRuntime) -> Result<(), Fail> {
 }
 
 #[test]
-fn refuses_the_first_fault_and_writes_nothing(rt: HostRuntime) -> Result<(), Fail> {
-    let [old, new] = OFF_KEY;
-    let off_key = MACHINE.replace(rt.alloc(), old, new)?;
-    let [old, new] = UNREADY;
-    let unready = MACHINE.replace(rt.alloc(), old, new)?;
+fn refuses_the_first_fault_and_writes_nothing(rt: HostRuntime) {
+    let bad_heading = FormFault::BadHeading { part: 1 };
     for (machine, sheet, day, form, fault) in [
         ("=", "=", 5, "", DeskFault::File(SheetFault::NotToml)),
         (MACHINE, "=", 5, "", DeskFault::File(SheetFault::NotToml)),
-        (unready.as_str(), MESSAGES, 5, "", DeskFault::NoSuchDay),
-        (
-            unready.as_str(),
-            MESSAGES,
-            17,
-            "",
-            DeskFault::Message(FormFault::NotReady),
-        ),
-        (
-            off_key.as_str(),
-            MESSAGES,
-            17,
-            "",
-            DeskFault::Message(FormFault::NotOnKey),
-        ),
-        (
-            MACHINE,
-            MESSAGES,
-            17,
-            "",
-            DeskFault::Message(FormFault::BadHeading { part: 1 }),
-        ),
+        (UNREADY, MESSAGES, 5, "", DeskFault::NoSuchDay),
+        (UNREADY, MESSAGES, 17, "", message(FormFault::NotReady)),
+        (OFF_KEY, MESSAGES, 17, "", message(FormFault::NotOnKey)),
+        (MACHINE, MESSAGES, 17, "", message(bad_heading)),
     ] {
         let mut sink = MemorySink::<256>::new(0);
         let answer = run_receive(
@@ -72,7 +52,6 @@ fn refuses_the_first_fault_and_writes_nothing(rt: HostRuntime) -> Result<(), Fai
         assert_eq!(rt; answer, Err(fault));
         assert!(rt; !sink.failed());
     }
-    Ok(())
 }
 
 #[test]

@@ -1,7 +1,8 @@
 use super::run_send;
 use crate::fault::DeskFault;
 use crate::samples::{
-    CONVERTER_FORM, CONVERTER_ORDER, FORM, MACHINE, MESSAGES, OFF_KEY, ORDER, UNREADY, WITHOUT_PINS,
+    CONVERTER_FORM, CONVERTER_ORDER, FORM, MACHINE, MESSAGES, OFF_KEY, ORDER, UNREADY,
+    WITHOUT_PINS, message,
 };
 use kd_form::FormFault;
 use kd_sheet::SheetFault;
@@ -32,10 +33,6 @@ fn sends_orders(rt: HostRuntime) -> Result<(), Fail> {
 
 #[test]
 fn refuses_the_first_fault_and_writes_nothing(rt: HostRuntime) -> Result<(), Fail> {
-    let [old, new] = OFF_KEY;
-    let off_key = MACHINE.replace(rt.alloc(), old, new)?;
-    let [old, new] = UNREADY;
-    let unready = MACHINE.replace(rt.alloc(), old, new)?;
     let long = "A".repeat(rt.alloc(), 246)?;
     let long = ORDER.replace(rt.alloc(), "AAAAA", long.as_str())?;
     let one_part = FormFault::PartKeys {
@@ -46,42 +43,12 @@ fn refuses_the_first_fault_and_writes_nothing(rt: HostRuntime) -> Result<(), Fai
     for (machine, sheet, day, order, fault) in [
         ("=", "=", 5, "", DeskFault::File(SheetFault::NotToml)),
         (MACHINE, "=", 5, "", DeskFault::File(SheetFault::NotToml)),
-        (unready.as_str(), MESSAGES, 5, "", DeskFault::NoSuchDay),
-        (
-            unready.as_str(),
-            MESSAGES,
-            17,
-            "",
-            DeskFault::Message(FormFault::NotReady),
-        ),
-        (
-            off_key.as_str(),
-            MESSAGES,
-            17,
-            "",
-            DeskFault::Message(FormFault::NotOnKey),
-        ),
-        (
-            MACHINE,
-            MESSAGES,
-            15,
-            "",
-            DeskFault::Message(FormFault::NotOnKey),
-        ),
-        (
-            MACHINE,
-            MESSAGES,
-            17,
-            long.as_str(),
-            DeskFault::Message(one_part),
-        ),
-        (
-            MACHINE,
-            MESSAGES,
-            17,
-            empty,
-            DeskFault::Message(FormFault::EmptyText),
-        ),
+        (UNREADY, MESSAGES, 5, "", DeskFault::NoSuchDay),
+        (UNREADY, MESSAGES, 17, "", message(FormFault::NotReady)),
+        (OFF_KEY, MESSAGES, 17, "", message(FormFault::NotOnKey)),
+        (MACHINE, MESSAGES, 15, "", message(FormFault::NotOnKey)),
+        (MACHINE, MESSAGES, 17, long.as_str(), message(one_part)),
+        (MACHINE, MESSAGES, 17, empty, message(FormFault::EmptyText)),
     ] {
         let mut sink = MemorySink::<64>::new(0);
         let answer = run_send(
