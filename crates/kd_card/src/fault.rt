@@ -7,8 +7,8 @@ pub enum CardFault {
     #[error("7 BadHead")]
     BadHead,
     /// The line is not what is due there.
-    #[error("8 BadLine {line}")]
-    BadLine { line: usize },
+    #[error("8 BadLine {0}")]
+    BadLine(usize),
     /// There are more than 192 settings.
     #[error("9 TooMany")]
     TooMany,

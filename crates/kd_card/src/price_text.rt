@@ -63,10 +63,10 @@ pub(crate) fn prices_of_text<const N: usize>(
         if are_prices(text) {
             return Err(CardFault::PriceMissing);
         }
-        return Err(CardFault::BadLine { line });
+        return Err(CardFault::BadLine(line));
     };
     let Some(prices) = prices_of_words::<N>(words.as_slice()) else {
-        return Err(CardFault::BadLine { line });
+        return Err(CardFault::BadLine(line));
     };
     match prices.into_inner() {
         Ok(prices) => Ok(prices),

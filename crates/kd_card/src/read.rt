@@ -98,14 +98,14 @@ fn read_count(text: &[u8], count: usize) -> Result<&[u8], CardFault>
 {
     texts_tell_first_parts();
     let Some((number, rest)) = split_value(text, b"SETTINGS ") else {
-        return Err(CardFault::BadLine { line: count + 2 });
+        return Err(CardFault::BadLine(count + 2));
     };
     let mut buffer = Buffer::new();
     if number == buffer.format(count).as_bytes() {
         return Ok(rest);
     }
     if !is_number_text(number) {
-        return Err(CardFault::BadLine { line: count + 2 });
+        return Err(CardFault::BadLine(count + 2));
     }
     Err(CardFault::CountWrong)
 }
@@ -154,7 +154,7 @@ fn read_price_line<'a, const N: usize>(
         return Err(CardFault::PriceMissing);
     }
     let Some((words, rest)) = split_once(text, b'\n') else {
-        return Err(CardFault::BadLine { line });
+        return Err(CardFault::BadLine(line));
     };
     let Some((first, prices)) = split_once(words, b' ') else {
         return Err(CardFault::PriceMissing);
@@ -177,14 +177,14 @@ fn read_sum(text: &[u8], sum: i32, line: usize) -> Result<&[u8], CardFault>
 {
     texts_tell_first_parts();
     let Some((number, rest)) = split_value(text, b"SUM ") else {
-        return Err(CardFault::BadLine { line });
+        return Err(CardFault::BadLine(line));
     };
     let mut buffer = Buffer::new();
     if number == buffer.format(sum).as_bytes() {
         return Ok(rest);
     }
     if !is_signed_text(number) {
-        return Err(CardFault::BadLine { line });
+        return Err(CardFault::BadLine(line));
     }
     Err(CardFault::CountWrong)
 }

@@ -14,7 +14,7 @@ use super::card::Card;
 use super::prices::{PriceParts, Prices};
 use arrayvec::ArrayString;
 use itoa::Buffer;
-use kd_state::{Setting, is_in_range, push_number};
+use kd_state::{Setting, push_number};
 use kd_tables::{Device, Sink, put_all};
 
 /// No text of a card is longer: the head, 192 settings and their number, twice 27 prices and their sum.
@@ -29,23 +29,14 @@ pub fn write_card<W: Sink>(sink: &mut W, day: u8, card: &Card) -> Result<(), Dev
         IsCard text day card.now.settings.items card.now.prices }
     ensures failed { W.has_failed sink.new ≡ (W.has_failed sink.old || is_err result) }
 {
-    are_in_range(card.settings.as_slice());
     let _prices = card.prices.parts();
     put_all(sink, text_of(day, card).as_str().as_bytes())
 }
 
-/// What the type of settings says of them. It does nothing when the program runs.
-fn are_in_range(settings: &[Setting])
-    ensures { All IsInRange settings.now }
-{
-    for setting in settings {
-        is_in_range(setting);
-    }
-}
-
 /// The text of the card for that day.
 fn text_of(day: u8, card: &Card) -> ArrayString<LONGEST>
-    ensures { result.bytes ≡ card_text day card.now.settings.items card.now.prices }
+    ensures bytes { result.bytes ≡ card_text day card.now.settings.items card.now.prices }
+    ensures in_range { All IsInRange card.now.settings.items }
 {
     let mut text = ArrayString::new();
     push_head(&mut text, day);
@@ -72,6 +63,7 @@ fn push_settings<const N: usize>(text: &mut ArrayString<N>, settings: &[Setting]
     requires { array_string_len text.old + 24 * length settings.now ≤ N }
     ensures bytes { text.new.bytes ≡ text.old.bytes ++ list_text settings.now }
     ensures len { array_string_len text.new ≤ array_string_len text.old + 24 * length settings.now }
+    ensures in_range { All IsInRange settings.now }
 {
     for setting in settings {
         push_setting(text, setting);
@@ -83,6 +75,7 @@ fn push_setting<const N: usize>(text: &mut ArrayString<N>, setting: &Setting)
     requires { array_string_len text.old + 24 ≤ N }
     ensures bytes { text.new.bytes ≡ text.old.bytes ++ list_text (setting.now ∷ []) }
     ensures len { array_string_len text.new ≤ array_string_len text.old + 24 }
+    ensures in_range { IsInRange setting.now }
 {
     text.push_str(setting.line().as_str());
     text.push_str("\n");

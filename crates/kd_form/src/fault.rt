@@ -14,8 +14,8 @@ pub enum FormFault {
     #[error("27 NotOnKey")]
     NotOnKey,
     /// The byte may not stand there, or one is missing there.
-    #[error("28 BadByte {position}")]
-    BadByte { position: usize },
+    #[error("28 BadByte {0}")]
+    BadByte(usize),
     /// The order has no letter to be sent.
     #[error("29 EmptyText")]
     EmptyText,
@@ -26,20 +26,20 @@ pub enum FormFault {
     #[error("31 KeyNotOnWheel")]
     KeyNotOnWheel,
     /// The part's group is none of the day's; on the Converter M-209 its list isn't the day's.
-    #[error("32 WrongGroup {part}")]
-    WrongGroup { part: u8 },
+    #[error("32 WrongGroup {0}")]
+    WrongGroup(u8),
     /// The letters that are to give the internal key run out.
-    #[error("33 IndicatorSpent {part}")]
-    IndicatorSpent { part: u8 },
+    #[error("33 IndicatorSpent {0}")]
+    IndicatorSpent(u8),
     /// The part doesn't begin with a heading that the day's model has.
-    #[error("34 BadHeading {part}")]
-    BadHeading { part: u8 },
+    #[error("34 BadHeading {0}")]
+    BadHeading(u8),
     /// The part has another number of letters than its heading says.
-    #[error("35 CountWrong {part}")]
-    CountWrong { part: u8 },
+    #[error("35 CountWrong {0}")]
+    CountWrong(u8),
     /// The indicators at the part's end aren't those at its beginning, or the chosen letter doesn't stand there twice.
-    #[error("36 IndicatorsDiffer {part}")]
-    IndicatorsDiffer { part: u8 },
+    #[error("36 IndicatorsDiffer {0}")]
+    IndicatorsDiffer(u8),
     /// The parts aren't numbered in order, say different numbers of parts, or one is missing.
     #[error("37 PartOrder")]
     PartOrder,

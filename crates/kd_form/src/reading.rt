@@ -36,7 +36,7 @@ fn read_rotor_letters(
     let (group, text) = rest.split_at(3);
     let group = <[Letter; 3]>::try_from(group).unwrap();
     if !are_of_the_day(day, group) {
-        return Err(FormFault::WrongGroup { part });
+        return Err(FormFault::WrongGroup(part));
     }
     let key = enciphered::<4>(day, indicator.start.as_slice(), indicator.key.as_slice());
     Ok(enciphered(day, key.as_slice(), text))
@@ -65,25 +65,25 @@ fn read_pin_letters(
     let (first, rest) = letters.split_at(10);
     let (text, last) = rest.split_at(rest.len() - 10);
     if !are_the_same(first, last) {
-        return Err(FormFault::IndicatorsDiffer { part });
+        return Err(FormFault::IndicatorsDiffer(part));
     }
     let (twice, others) = first.split_at(1);
     let (key, list) = others.split_at(7);
     are_letters(key);
     let keys = pin_keys(key);
     if twice[0] != keys.chosen {
-        return Err(FormFault::IndicatorsDiffer { part });
+        return Err(FormFault::IndicatorsDiffer(part));
     }
     if !is_window(day, &keys.external) {
         return Err(FormFault::KeyNotOnWheel);
     }
     let due = day.list().unwrap();
     if !are_the_same(list, &due) {
-        return Err(FormFault::WrongGroup { part });
+        return Err(FormFault::WrongGroup(part));
     }
     match internal_key_of(day, &keys) {
         Some(internal) => Ok(enciphered(day, internal.as_slice(), text)),
-        None => Err(FormFault::IndicatorSpent { part }),
+        None => Err(FormFault::IndicatorSpent(part)),
     }
 }
 
@@ -130,7 +130,7 @@ pub(crate) fn read_part(
         (IsPartFault day.now number expected.now start part.now) }
 {
     let Some((heading, body)) = read_heading(day, part) else {
-        return Err(FormFault::BadHeading { part: number });
+        return Err(FormFault::BadHeading(number));
     };
     if heading.part != number {
         return Err(FormFault::PartOrder);
@@ -141,13 +141,11 @@ pub(crate) fn read_part(
     let count = match count_letters(None, body) {
         Ok(count) => count,
         Err(place) => {
-            return Err(FormFault::BadByte {
-                position: start + (part.len() - body.len()) + place + 1,
-            });
+            return Err(FormFault::BadByte(start + (part.len() - body.len()) + place + 1));
         }
     };
     if count != heading.letters {
-        return Err(FormFault::CountWrong { part: number });
+        return Err(FormFault::CountWrong(number));
     }
     let (letters, _) = take_piece(None, 520, body);
     match read_letters(day, number, &heading.indicator, letters.as_slice()) {

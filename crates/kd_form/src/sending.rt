@@ -47,7 +47,7 @@ pub(crate) fn read_order<'a>(
 {
     let (keys, text) = match read_head(day, order) {
         Ok(found) => found,
-        Err(position) => return Err(FormFault::BadByte { position }),
+        Err(position) => return Err(FormFault::BadByte(position)),
     };
     match check_keys(day, keys.as_slice()) {
         Ok(()) => {}
@@ -56,9 +56,7 @@ pub(crate) fn read_order<'a>(
     let letters = match count_letters(blank_of(day), text) {
         Ok(letters) => letters,
         Err(place) => {
-            return Err(FormFault::BadByte {
-                position: order.len() - text.len() + place + 1,
-            });
+            return Err(FormFault::BadByte(order.len() - text.len() + place + 1));
         }
     };
     if letters == 0 {

@@ -41,7 +41,7 @@ fn check_part(day: &SheetDay, part: u8, keys: &Keys) -> Result<(), FormFault>
             if are_of_the_day(day, keys.group) {
                 Ok(())
             } else {
-                Err(FormFault::WrongGroup { part })
+                Err(FormFault::WrongGroup(part))
             }
         }
         Keys::Pin(keys) => check_pin_keys(day, part, keys),
@@ -60,7 +60,7 @@ fn check_pin_keys(day: &SheetDay, part: u8, keys: &PinKeys) -> Result<(), FormFa
     }
     match internal_key_of(day, keys) {
         Some(_) => Ok(()),
-        None => Err(FormFault::IndicatorSpent { part }),
+        None => Err(FormFault::IndicatorSpent(part)),
     }
 }
 

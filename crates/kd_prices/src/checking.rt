@@ -25,26 +25,20 @@ pub fn check(machine: &Machine, day: &SheetDay, card: &Card) -> Result<(), Doubt
     let reached = match carry_all(machine, settings) {
         Ok(reached) => reached,
         Err(illegal) => {
-            return Err(Doubt::IllegalAt {
-                line: illegal.line,
-                why: illegal.why,
-            });
+            return Err(Doubt::IllegalAt(illegal.line, illegal.why));
         }
     };
     if !reached.reads_as(day) {
         return Err(Doubt::NotTheSheet);
     }
     if let Some(cell) = too_high(machine, day, &card.prices) {
-        return Err(Doubt::PriceTooHigh {
-            i: cell.row as u8 + 1,
-            j: cell.column as u8 + 1,
-        });
+        return Err(Doubt::PriceTooHigh(cell.row as u8 + 1, cell.column as u8 + 1));
     }
     if card.prices.sum() != priced_count(settings) as i32 {
         return Err(Doubt::SumDiffers);
     }
     match first_needless(machine, day, settings) {
-        Some(line) => Err(Doubt::NeedlessLine { line }),
+        Some(line) => Err(Doubt::NeedlessLine(line)),
         None => Ok(()),
     }
 }

@@ -9,19 +9,19 @@ pub enum Doubt {
     #[error("5 OtherModel")]
     OtherModel,
     /// The line is the first that the machine refuses in its turn, for this reason.
-    #[error("{}", IllegalAt {line: *.line, why: *.why})]
-    IllegalAt { line: usize, why: Why },
+    #[error("{}", IllegalAt {line: *.0, why: *.1})]
+    IllegalAt(usize, Why),
     /// After the last line the machine doesn't read as the day.
     #[error("14 NotTheSheet")]
     NotTheSheet,
     /// The price of row i and that of column j, counted from 1, are together above what it costs to make the cable or bar i
     /// the pair or row j. It is the first such pair by i, and then by j.
-    #[error("15 PriceTooHigh {i} {j}")]
-    PriceTooHigh { i: u8, j: u8 },
+    #[error("15 PriceTooHigh {0} {1}")]
+    PriceTooHigh(u8, u8),
     /// The sum of all prices isn't the number of lines that change a cable or a bar.
     #[error("16 SumDiffers")]
     SumDiffers,
     /// The line is the first of the others that doesn't put one loose thing right.
-    #[error("17 NeedlessLine {line}")]
-    NeedlessLine { line: usize },
+    #[error("17 NeedlessLine {0}")]
+    NeedlessLine(usize),
 }

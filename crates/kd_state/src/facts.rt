@@ -96,7 +96,7 @@ pub(crate) fn are_all_pins(pins: PinSet)
 }
 
 /// The numbers of a setting are bytes, and its letter is one of the alphabet.
-pub fn is_in_range(setting: &Setting)
+pub(crate) fn is_in_range(setting: &Setting)
     ensures { IsInRange setting.now }
 {
     match *setting {

@@ -37,7 +37,6 @@ mod words;
 pub use cost_tables::{bar_costs, cable_costs, column_at};
 pub use costs::{bar_cost, cable_cost, nearest_standing};
 pub use engine::{Engine, NotReady, own_engine};
-pub use facts::is_in_range;
 pub use list::{ListFault, read_list, split_setting};
 pub use machine::Machine;
 pub use parts::Parts;

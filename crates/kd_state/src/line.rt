@@ -3,6 +3,7 @@ ghost use Rattle.std.specs.Prelude.{◌≡◌, ◌≢◌, ◌<◌, [], ◌∷◌
 ghost use Rattle.arrayvec.specs.ArrayString.{array_string_len};
 ghost use Rattle.kd_state.specs.Line.{setting_line, pin_text, IsInRange, IsReadOff};
 
+use super::facts::is_in_range;
 use super::form::Form;
 use super::setting::Setting;
 use super::words::{letter_of_text, number_of_text, push_letter, push_number, split_words};
@@ -10,11 +11,13 @@ use arrayvec::ArrayString;
 use kd_tables::{Lug, Place, Reflector, Wheel};
 
 impl Setting {
-    /// The setting's line, without the LF at its end.
+    /// The setting's line, without the LF at its end. Its numbers are bytes, and its letter is one of the alphabet.
     pub fn line(&self) -> ArrayString<24>
         ensures value { result.bytes ≡ setting_line self.now }
         ensures short { array_string_len result < 24 }
+        ensures in_range { IsInRange self.now }
     {
+        is_in_range(self);
         let mut line = ArrayString::new();
         match *self {
             Setting::Pull { cable, letter } => {

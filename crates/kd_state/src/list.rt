@@ -10,8 +10,8 @@ use thiserror::Error;
 #[derive(Clone, Copy, Debug, PartialEq, Eq, Error)]
 pub enum ListFault {
     /// The first line that is no setting's, or has no LF, counted from 1.
-    #[error("8 BadLine {line}")]
-    BadLine { line: usize },
+    #[error("8 BadLine {0}")]
+    BadLine(usize),
     /// There are more than 192 lines.
     #[error("9 TooMany")]
     TooMany,
@@ -27,9 +27,7 @@ pub fn read_list(text: &[u8]) -> Result<ArrayVec<Setting, 192>, ListFault>
     let mut rest = text;
     while !rest.is_empty() {
         let Some((setting, after)) = split_setting(rest) else {
-            return Err(ListFault::BadLine {
-                line: settings.len() + 1,
-            });
+            return Err(ListFault::BadLine(settings.len() + 1));
         };
         if settings.is_full() {
             return Err(ListFault::TooMany);

@@ -49,6 +49,12 @@ pub enum Setting {
 
 /// What stands in the unused places of a list of settings.
 impl Default for Setting {
+    ghost use Rattle.std.specs.Prelude.{◌≡◌};
+    ghost use Rattle.kd_tables.specs.declared.reflector.Reflector.TheVariants as reflectors;
+    ghost use Rattle.kd_state.specs.declared.setting.Setting.TheVariants.{SeatReflector};
+
+    ghost is_default = { λ x. x ≡ SeatReflector reflectors.A };
+
     fn default() -> Self {
         Setting::SeatReflector {
             reflector: Reflector::A,

@@ -1,4 +1,5 @@
-//! Letters, wheels, reflectors and models of the rotor machines, and the ports through which text comes and goes.
+//! What the machines are made of, as far as it is tables: letters, wheels, reflectors and models, and the pin wheels and
+//! bars of the Converter M-209. Beside it the ports through which text comes and goes.
 #![tactic(auto)]
 
 mod failed;

@@ -52,6 +52,7 @@ impl<'a> Source for MemorySource<'a> {
         ensures failed { self.new.failed ≡ (self.old.failed || is_err result) }
         ensures piece { IfOk result (λ count. count ≡ min self.old.piece (min (length buffer.old) (length self.old.rest))) }
         ensures refused { IsErr result ↔ (self.old.gets_left ≡ Some 0) }
+        ensures behind { IfOk result (λ count. drop count buffer.new ≡ drop count buffer.old) }
         ensures kept { OnErr result (buffer.new ≡ buffer.old) }
         ensures gets_left { self.new.gets_left ≡ option_map (λ n. n - 1) self.old.gets_left }
         ensures piece_kept { self.new.piece ≡ self.old.piece }

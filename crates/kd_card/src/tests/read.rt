@@ -55,7 +55,7 @@ fn the_head_has_a_day_of_the_month(rt: HostRuntime) {
 
 #[test]
 fn the_number_of_settings_is_counted(rt: HostRuntime) {
-    let line = CardFault::BadLine { line: 6 };
+    let line = CardFault::BadLine(6);
     for (number, due) in [
         ("SETTINGS 3", CardFault::CountWrong),
         ("SETTINGS 0", CardFault::CountWrong),
@@ -96,7 +96,7 @@ fn prices_are_written_in_one_way(rt: HostRuntime) {
         let mut line = ArrayString::<64>::new();
         let _room = line.try_push_str("BARS ");
         let _room = line.try_push_str(price);
-        let bad = Some(CardFault::BadLine { line: 4 });
+        let bad = Some(CardFault::BadLine(4));
         assert_eq!(rt; fault(ONE_LUG, "BARS 1", line.as_str()), bad);
     }
     for price in ["9999", "-9999", "2", "-1"] {
@@ -117,19 +117,19 @@ fn a_line_of_prices_has_its_word_and_number(rt: HostRuntime) {
         ("CABLES 2", "CABLE 2", missing),
         ("CABLES 2", "CABLES", missing),
         ("CABLES 2", "CABLES 2 0", missing),
-        ("CABLES 2", "CABLES 2 0 +", CardFault::BadLine { line: 7 }),
+        ("CABLES 2", "CABLES 2 0 +", CardFault::BadLine(7)),
         ("CABLES 2 2 0 0 0 0 0 0 0 0 0 0 0", "CABLES", missing),
         (
             "CABLES 2 2 0 0 0 0 0 0 0 0 0 0 0",
             "CABLES ",
-            CardFault::BadLine { line: 7 },
+            CardFault::BadLine(7),
         ),
         ("CABLES 2 2 0 0 0 0 0 0 0 0 0 0 0", "", missing),
         ("PAIRS", "ROWS", missing),
         ("PAIRS", "SUM", missing),
         ("PAIRS 0", "PAIRS", missing),
         ("PAIRS 0", "PAIRS 0 0", missing),
-        ("PAIRS 0", "PAIRS  0", CardFault::BadLine { line: 8 }),
+        ("PAIRS 0", "PAIRS  0", CardFault::BadLine(8)),
     ] {
         assert_eq!(rt; fault(TWO_CABLES, old, new), Some(due));
     }
@@ -137,7 +137,7 @@ fn a_line_of_prices_has_its_word_and_number(rt: HostRuntime) {
 
 #[test]
 fn the_sum_of_the_prices_is_added_up(rt: HostRuntime) {
-    let line = CardFault::BadLine { line: 9 };
+    let line = CardFault::BadLine(9);
     let hundred =
         "SUM -1234567890123456789012345678901234567890123456789012345678901234567890123456789012345678901234567890";
     for (sum, due) in [
@@ -171,7 +171,7 @@ fn cut_fault(front: &[u8]) -> CardFault {
     match lines {
         0 => CardFault::BadHead,
         6 | 7 if is_whole => CardFault::PriceMissing,
-        1..=8 => CardFault::BadLine { line: lines + 1 },
+        1..=8 => CardFault::BadLine(lines + 1),
         _ => CardFault::Trailing,
     }
 }

@@ -14,14 +14,8 @@ fn says_why_it_refuses(rt: HostRuntime) -> Result<(), Fail> {
         (DeskFault::OtherModel, "5 OtherModel"),
         (DeskFault::Device, "6 Device"),
         (DeskFault::Card(CardFault::BadHead), "7 BadHead"),
-        (
-            DeskFault::Card(CardFault::BadLine { line: 9 }),
-            "8 BadLine 9",
-        ),
-        (
-            DeskFault::List(ListFault::BadLine { line: 192 }),
-            "8 BadLine 192",
-        ),
+        (DeskFault::Card(CardFault::BadLine(9)), "8 BadLine 9"),
+        (DeskFault::List(ListFault::BadLine(192)), "8 BadLine 192"),
         (DeskFault::Card(CardFault::TooMany), "9 TooMany"),
         (DeskFault::List(ListFault::TooMany), "9 TooMany"),
         (DeskFault::Card(CardFault::PriceMissing), "10 PriceMissing"),
@@ -51,29 +45,23 @@ fn says_why_it_refuses(rt: HostRuntime) -> Result<(), Fail> {
         (DeskFault::OtherDay, "40 OtherDay"),
         (DeskFault::Doubtful(Doubt::OtherModel), "5 OtherModel"),
         (
-            DeskFault::Doubtful(Doubt::IllegalAt {
-                line: 2,
-                why: Why::PlaceTaken,
-            }),
+            DeskFault::Doubtful(Doubt::IllegalAt(2, Why::PlaceTaken)),
             "13 IllegalAt 2 PlaceTaken",
         ),
         (DeskFault::Doubtful(Doubt::NotTheSheet), "14 NotTheSheet"),
         (
-            DeskFault::Doubtful(Doubt::PriceTooHigh { i: 1, j: 27 }),
+            DeskFault::Doubtful(Doubt::PriceTooHigh(1, 27)),
             "15 PriceTooHigh 1 27",
         ),
         (DeskFault::Doubtful(Doubt::SumDiffers), "16 SumDiffers"),
         (
-            DeskFault::Doubtful(Doubt::NeedlessLine { line: 3 }),
+            DeskFault::Doubtful(Doubt::NeedlessLine(3)),
             "17 NeedlessLine 3",
         ),
         (DeskFault::Message(FormFault::NotReady), "4 NotReady"),
         (DeskFault::Message(FormFault::NoMemory), "26 NoMemory"),
         (DeskFault::Message(FormFault::NotOnKey), "27 NotOnKey"),
-        (
-            DeskFault::Message(FormFault::BadByte { position: 9 }),
-            "28 BadByte 9",
-        ),
+        (DeskFault::Message(FormFault::BadByte(9)), "28 BadByte 9"),
         (DeskFault::Message(FormFault::EmptyText), "29 EmptyText"),
         (
             DeskFault::Message(FormFault::PartKeys {
@@ -87,23 +75,23 @@ fn says_why_it_refuses(rt: HostRuntime) -> Result<(), Fail> {
             "31 KeyNotOnWheel",
         ),
         (
-            DeskFault::Message(FormFault::WrongGroup { part: 1 }),
+            DeskFault::Message(FormFault::WrongGroup(1)),
             "32 WrongGroup 1",
         ),
         (
-            DeskFault::Message(FormFault::IndicatorSpent { part: 99 }),
+            DeskFault::Message(FormFault::IndicatorSpent(99)),
             "33 IndicatorSpent 99",
         ),
         (
-            DeskFault::Message(FormFault::BadHeading { part: 2 }),
+            DeskFault::Message(FormFault::BadHeading(2)),
             "34 BadHeading 2",
         ),
         (
-            DeskFault::Message(FormFault::CountWrong { part: 1 }),
+            DeskFault::Message(FormFault::CountWrong(1)),
             "35 CountWrong 1",
         ),
         (
-            DeskFault::Message(FormFault::IndicatorsDiffer { part: 1 }),
+            DeskFault::Message(FormFault::IndicatorsDiffer(1)),
             "36 IndicatorsDiffer 1",
         ),
         (DeskFault::Message(FormFault::PartOrder), "37 PartOrder"),

@@ -56,21 +56,13 @@ fn refuses_the_first_fault_and_writes_nothing(rt: HostRuntime) -> Result<(), Fai
     let cut = CARD.replace(rt.alloc(), "SUM 4\n", "SUM")?;
     for (machine, list, fault) in [
         ("x =", "SEAT", DeskFault::File(SheetFault::NotToml)),
-        (
-            MACHINE,
-            "SEAT",
-            DeskFault::List(ListFault::BadLine { line: 1 }),
-        ),
+        (MACHINE, "SEAT", DeskFault::List(ListFault::BadLine(1))),
         (
             MACHINE,
             "TURN 4 B\nSEAT",
-            DeskFault::List(ListFault::BadLine { line: 2 }),
+            DeskFault::List(ListFault::BadLine(2)),
         ),
-        (
-            MACHINE,
-            "CARD\n",
-            DeskFault::List(ListFault::BadLine { line: 1 }),
-        ),
+        (MACHINE, "CARD\n", DeskFault::List(ListFault::BadLine(1))),
         (
             MACHINE,
             "CARD 2 DAY 8\n",
@@ -79,7 +71,7 @@ fn refuses_the_first_fault_and_writes_nothing(rt: HostRuntime) -> Result<(), Fai
         (
             MACHINE,
             cut.as_str(),
-            DeskFault::Card(CardFault::BadLine { line: 9 }),
+            DeskFault::Card(CardFault::BadLine(9)),
         ),
         (MACHINE, CARD, illegal(1, Why::NotThere)),
         (MACHINE, "TURN 4 B\n", illegal(1, Why::SlotEmpty)),

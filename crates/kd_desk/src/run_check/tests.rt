@@ -78,7 +78,7 @@ fn refuses_the_first_fault_and_writes_nothing(rt: HostRuntime) -> Result<(), Fai
             SHEET,
             11,
             turned.as_str(),
-            DeskFault::Doubtful(Doubt::NeedlessLine { line: 1 }),
+            DeskFault::Doubtful(Doubt::NeedlessLine(1)),
         ),
     ] {
         let mut sink = MemorySink::<16>::new(0);

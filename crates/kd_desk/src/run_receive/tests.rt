@@ -31,7 +31,7 @@ fn receives_forms(rt: HostRuntime) -> Result<(), Fail> {
 
 #[test]
 fn refuses_the_first_fault_and_writes_nothing(rt: HostRuntime) {
-    let bad_heading = FormFault::BadHeading { part: 1 };
+    let bad_heading = FormFault::BadHeading(1);
     for (machine, sheet, day, form, fault) in [
         ("=", "=", 5, "", DeskFault::File(SheetFault::NotToml)),
         (MACHINE, "=", 5, "", DeskFault::File(SheetFault::NotToml)),

@@ -53,17 +53,14 @@ fn a_message_of_1941(rt: HostRuntime) -> Result<(), Fail> {
     assert_eq!(rt; also.as_slice(), given.as_slice());
     for cut in 0..whole {
         let due = if cut < 20 {
-            FormFault::BadHeading { part: 1 }
+            FormFault::BadHeading(1)
         } else {
-            FormFault::CountWrong { part: 1 }
+            FormFault::CountWrong(1)
         };
         assert_eq!(rt; fault(&rt, &keyed, &MESSAGE[..cut]), Some(due));
     }
     let other = message_of_1941(&rt, b"ABC");
-    assert_eq!(rt;
-        fault(&rt, &other, MESSAGE),
-        Some(FormFault::WrongGroup { part: 1 })
-    );
+    assert_eq!(rt; fault(&rt, &other, MESSAGE), Some(FormFault::WrongGroup(1)));
     Ok(())
 }
 
@@ -84,7 +81,7 @@ fn a_message_with_another_count(rt: HostRuntime) -> Result<(), Fail> {
         form.extend_from_slice(&MESSAGE[20..])?;
         assert_eq!(rt;
             fault(&rt, &keyed, form.as_slice()),
-            Some(FormFault::CountWrong { part: 1 })
+            Some(FormFault::CountWrong(1))
         );
     }
     Ok(())
@@ -107,27 +104,24 @@ fn forms_of_the_converter_are_refused_in_turn(rt: HostRuntime) {
     for (form, due) in [
         (
             b"PART 1/1 20\nTTABC DEFQV TTABC DEFQV".as_slice(),
-            FormFault::BadHeading { part: 1 },
+            FormFault::BadHeading(1),
         ),
         (
             b"PART 1/1 26\nTTABC DEFQV SVOOL A TTABC DEFQV",
-            FormFault::BadHeading { part: 1 },
+            FormFault::BadHeading(1),
         ),
-        (
-            b"PART 1/1 525\nTTABC DEFQV",
-            FormFault::BadHeading { part: 1 },
-        ),
+        (b"PART 1/1 525\nTTABC DEFQV", FormFault::BadHeading(1)),
         (
             b"PART 1/1 25 AAA BDZ\nTTABC DEFQV SVOOL TTABC DEFQV",
-            FormFault::BadHeading { part: 1 },
+            FormFault::BadHeading(1),
         ),
         (
             b"PART 1/1 25\nTTABC DEFQV SVOOL TTABC DEFQW",
-            FormFault::IndicatorsDiffer { part: 1 },
+            FormFault::IndicatorsDiffer(1),
         ),
         (
             b"PART 1/1 25\nTUABC DEZQW SVOOL TUABC DEZQW",
-            FormFault::IndicatorsDiffer { part: 1 },
+            FormFault::IndicatorsDiffer(1),
         ),
         (
             b"PART 1/1 25\nTTABC DEZQW SVOOL TTABC DEZQW",
@@ -135,11 +129,11 @@ fn forms_of_the_converter_are_refused_in_turn(rt: HostRuntime) {
         ),
         (
             b"PART 1/1 25\nAAABC DEFQW SVOOL AAABC DEFQW",
-            FormFault::WrongGroup { part: 1 },
+            FormFault::WrongGroup(1),
         ),
         (
             b"PART 1/1 25\nAAABC DEFQV SVOOL AAABC DEFQV",
-            FormFault::IndicatorSpent { part: 1 },
+            FormFault::IndicatorSpent(1),
         ),
     ] {
         assert_eq!(rt; fault(&rt, &keyed, form), Some(due));
@@ -150,18 +144,18 @@ fn forms_of_the_converter_are_refused_in_turn(rt: HostRuntime) {
 fn letters_of_the_list_are_exchanged(rt: HostRuntime) {
     let keyed = with_one_pin(&rt);
     let form = b"PART 1/1 25\nJJVAA AAAQV ZZZZZ JJVAA AAAQW\n";
-    let due = FormFault::IndicatorsDiffer { part: 1 };
+    let due = FormFault::IndicatorsDiffer(1);
     assert_eq!(rt; fault(&rt, &keyed, form), Some(due));
     let form = b"PART 1/1 25\nJJVAA AAAQW ZZZZZ JJVAA AAAQW\n";
-    let due = FormFault::WrongGroup { part: 1 };
+    let due = FormFault::WrongGroup(1);
     assert_eq!(rt; fault(&rt, &keyed, form), Some(due));
 }
 
 #[test]
 fn forms_are_refused_in_turn(rt: HostRuntime) {
     let keyed = keyed(&rt);
-    let heading = |part| FormFault::BadHeading { part };
-    let byte = |position| FormFault::BadByte { position };
+    let heading = |part| FormFault::BadHeading(part);
+    let byte = |position| FormFault::BadByte(position);
     for (form, due) in [
         (b"".as_slice(), heading(1)),
         (b"\nPART 1/1 6 AAA BDZ\nQXUGZ B", heading(1)),
@@ -182,16 +176,10 @@ fn forms_are_refused_in_turn(rt: HostRuntime) {
         (b"PART 1/1 6 AAA BDZ\nQXABC Bz", byte(27)),
         (
             b"PART 1/1 6 AAA BDZ\nQXABC\nPART X",
-            FormFault::CountWrong { part: 1 },
+            FormFault::CountWrong(1),
         ),
-        (
-            b"PART 1/1 6 AAA BDZ\nQXABC BB",
-            FormFault::CountWrong { part: 1 },
-        ),
-        (
-            b"PART 1/1 6 AAA BDZ\nQXABC B",
-            FormFault::WrongGroup { part: 1 },
-        ),
+        (b"PART 1/1 6 AAA BDZ\nQXABC BB", FormFault::CountWrong(1)),
+        (b"PART 1/1 6 AAA BDZ\nQXABC B", FormFault::WrongGroup(1)),
         (b"PART 1/2 6 AAA BDZ\nQXUGZ B", FormFault::PartOrder),
         (
             b"PART 1/2 6 AAA BDZ\nQXUGZ B\nPART 2/2 6 AAA BD",
@@ -215,7 +203,7 @@ fn forms_are_refused_in_turn(rt: HostRuntime) {
         ),
         (
             b"PART 1/2 6 AAA BDZ\nQXUGZ B\nPART 2/2 6 AAA BDZ\nQXABC B",
-            FormFault::WrongGroup { part: 2 },
+            FormFault::WrongGroup(2),
         ),
     ] {
         assert_eq!(rt; fault(&rt, &keyed, form), Some(due));

@@ -65,7 +65,7 @@ fn an_order_becomes_a_form_on_the_converter(rt: HostRuntime) -> Result<(), Fail>
 
 #[test]
 fn orders_are_refused_in_turn(rt: HostRuntime) -> Result<(), Fail> {
-    let bad = |position| Some(FormFault::BadByte { position });
+    let bad = |position| Some(FormFault::BadByte(position));
     let rotor = keyed(&rt);
     for (order, due) in [
         (b"".as_slice(), bad(1)),
@@ -77,11 +77,11 @@ fn orders_are_refused_in_turn(rt: HostRuntime) -> Result<(), Fail> {
         (b"PART AAA AAA QX ABC\nTEXT!", bad(25)),
         (
             b"PART AAA AAA QX ABC\nTEXT\n!",
-            Some(FormFault::WrongGroup { part: 1 }),
+            Some(FormFault::WrongGroup(1)),
         ),
         (
             b"PART AAA AAA QX GUZ\nPART AAA AAA QX ABC\nTEXT\n!",
-            Some(FormFault::WrongGroup { part: 2 }),
+            Some(FormFault::WrongGroup(2)),
         ),
         (b"PART AAA AAA QX GUZ\nTEXT\nA a", bad(28)),
         (
@@ -111,11 +111,11 @@ fn orders_of_the_converter_are_refused_in_turn(rt: HostRuntime) {
     for (order, due) in [
         (
             b"PART A ABCDEF\nTEXT\nA".as_slice(),
-            Some(FormFault::IndicatorSpent { part: 1 }),
+            Some(FormFault::IndicatorSpent(1)),
         ),
         (
             b"PART T ABCDEF\nPART A ABCDEF\nTEXT\n!",
-            Some(FormFault::IndicatorSpent { part: 2 }),
+            Some(FormFault::IndicatorSpent(2)),
         ),
         (b"PART A ABCDEZ\nTEXT\nA", Some(FormFault::KeyNotOnWheel)),
         (b"PART T ABCDEZ\nTEXT\nA", Some(FormFault::KeyNotOnWheel)),

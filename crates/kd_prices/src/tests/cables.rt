@@ -69,7 +69,7 @@ fn nothing_to_do(rt: HostRuntime) {
     let needless = card(&rt, &[turn], cable_prices(&rt, &[], &[]));
     assert_eq!(rt;
         check(&unplugged(&rt), &day, &needless),
-        Err(Doubt::NeedlessLine { line: 1 })
+        Err(Doubt::NeedlessLine(1))
     );
     let of_bars = card(&rt, &[], bar_prices(&rt, &[], &[]));
     assert_eq!(rt;

@@ -35,15 +35,9 @@ fn prices_that_do_not_fit(rt: HostRuntime) {
     let zero = bar_prices(&rt, &[], &[]);
     assert_eq!(rt; verdict(&rt, zero), Err(Doubt::SumDiffers));
     let higher = bar_prices(&rt, &[2, 1], &[-1]);
-    assert_eq!(rt;
-        verdict(&rt, higher),
-        Err(Doubt::PriceTooHigh { i: 1, j: 1 })
-    );
+    assert_eq!(rt; verdict(&rt, higher), Err(Doubt::PriceTooHigh(1, 1)));
     let highest = bar_prices(&rt, &[9999], &[-9999]);
-    assert_eq!(rt;
-        verdict(&rt, highest),
-        Err(Doubt::PriceTooHigh { i: 1, j: 2 })
-    );
+    assert_eq!(rt; verdict(&rt, highest), Err(Doubt::PriceTooHigh(1, 2)));
 }
 
 /// The first bar is kept for the row that it reads as already, and prices with the right sum pretend that this is shortest.
@@ -56,7 +50,7 @@ fn a_card_with_a_line_more(rt: HostRuntime) {
     let card = card(&rt, &settings, bar_prices(&rt, &[2], &[]));
     assert_eq!(rt;
         check(&two_bars(&rt), &two_rows(&rt), &card),
-        Err(Doubt::PriceTooHigh { i: 1, j: 1 })
+        Err(Doubt::PriceTooHigh(1, 1))
     );
 }
 
@@ -93,9 +87,6 @@ fn the_right_lug_makes_room(rt: HostRuntime) {
         lug(1, Lug::Left, Place::Three),
         lug(1, Lug::Right, Place::Six),
     ];
-    let taken = Doubt::IllegalAt {
-        line: 1,
-        why: Why::PlaceTaken,
-    };
+    let taken = Doubt::IllegalAt(1, Why::PlaceTaken);
     assert_eq!(rt; verdict_on_one_bar(&rt, &exchanged), Err(taken));
 }

@@ -40,7 +40,7 @@ fn a_list_has_at_most_192_lines(rt: HostRuntime) {
     }
     assert_eq!(rt; fault(193, b""), Some(ListFault::TooMany));
     assert_eq!(rt; fault(193, b"SEAT"), Some(ListFault::TooMany));
-    assert_eq!(rt; fault(192, b"SEAT"), Some(ListFault::BadLine { line: 193 }));
+    assert_eq!(rt; fault(192, b"SEAT"), Some(ListFault::BadLine(193)));
 }
 
 #[test]
@@ -56,7 +56,7 @@ fn the_first_line_that_is_none_is_told(rt: HostRuntime) {
     ] {
         assert_eq!(rt;
             fault(count, rest.as_bytes()),
-            Some(ListFault::BadLine { line })
+            Some(ListFault::BadLine(line))
         );
     }
 }
