@@ -169,3 +169,8 @@ blank_month month blank =
     same_lists month (month_of []) blank.long (λ place d left.
     let within : place < 31 = omega (arith, blank.long) in
     blank.at place d within ∙ sym (get_or-map-range_with_len (λ number. find (has number) []) 1 31 place (1 + place) d within refl))
+
+pub number_of_found : (month : List (Option Day)) (number : ℕ) (found : Option Day) → IsMonth month → found ≡ day_of month number
+    → IfSome found (λ day. day_number day ≡ number)
+number_of_found month number None is value = tt
+number_of_found month number (Some day) is value = is.each number day (sym value)

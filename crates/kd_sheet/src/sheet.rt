@@ -45,6 +45,23 @@ impl Sheet {
         self.find(number)
     }
 
+    /// The day of that number, if the sheet has one, given away.
+    pub fn into_day(self, number: u8) -> Option<SheetDay>
+        ensures value { result ≡ day_of self number }
+        ensures number { IfSome result (λ day. day_number day ≡ number) }
+    {
+        self.take(number)
+    }
+
+    /// The day at that number, given away.
+    fn take(self, number: u8) -> Option<SheetDay>
+        ensures value { result ≡ day_of self number }
+        ensures month { IsMonth self }
+    {
+        let Sheet { mut days } = self;
+        days.get_mut(usize::from(number).checked_sub(1)?)?.take()
+    }
+
     /// The day at that number.
     fn find(&self, number: u8) -> Option<&SheetDay>
         ensures value { option_copied result ≡ day_of self.now number }
