@@ -44,12 +44,6 @@ pub all_prices : (front word : List ℕ) (prices : List ℤ)
 all_prices front word prices =
     append_assoc front (word ++ behind_spaces prices) (10 ∷ []) ∙ ap (λ t. front ++ (t ++ 10 ∷ [])) (sym (line_of_prices word prices))
 
-pub one_more_setting : (front : List ℕ) (xs : List Setting) (i : ℕ) (d : Setting) → i < length xs
-    → (front ++ list_text (take i xs)) ++ list_text (get_or xs i d ∷ []) ≡ front ++ list_text (take (i + 1) xs)
-one_more_setting front xs i d inside =
-    append_assoc front (list_text (take i xs)) (list_text (get_or xs i d ∷ []))
-    ∙ ap (λ t. front ++ t) (sym (flat_map-append (λ x. setting_line x ++ 10 ∷ []) (take i xs) (get_or xs i d ∷ [])) ∙ ap list_text (sym (take_more xs i d inside)))
-
 -- ---- a card's text, line by line
 
 one_line : (words : List (List ℕ)) (lines : List (List (List ℕ))) → lines_text (words ∷ lines) ≡ with_line words (lines_text lines)

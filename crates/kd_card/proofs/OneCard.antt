@@ -1,5 +1,5 @@
--- Cards are told by their texts, and a card's text has no fault.
-use Rattle.std.proofs.Common.{codes, ◌≡◌, ◌≢◌, ℕ, ◌+◌, ◌*◌, ◌^◌, ◌<◌, ◌≤◌, inl, inr, List, [], ◌∷◌, ◌++◌, length, map, get_or, decimal, refl, sym, ap, subst, ◌∙◌, arith, ℤ, pos, negsuc, unsigned_abs, length-append}
+-- Bytes are one card, or have one fault.
+use Rattle.std.proofs.Common.{codes, ◌≡◌, ◌≢◌, ℕ, ◌+◌, ◌*◌, ◌^◌, ◌<◌, ◌≤◌, inl, inr, List, [], ◌∷◌, ◌++◌, length, map, get_or, decimal, Result, Ok, Err, refl, sym, ap, subst, ◌∙◌, arith, ℤ, pos, negsuc, unsigned_abs, length-append}
 use Rattle.std.specs.List.{All, AllByRecursion}
 use Rattle.std.specs.Int.Signed.{mag}
 use Rattle.std.specs.Fmt.{signed_decimal}
@@ -8,17 +8,20 @@ use Rattle.std.proofs.lemmas.List.{append_cancel_left, length-map}
 use Rattle.std.proofs.lemmas.List.Elements.{All-cons, All-append, recursion_from_All}
 use Rattle.kd_state.specs.declared.setting.Setting.{Setting}
 use Rattle.kd_state.specs.declared.setting.Setting.TheVariants.{Pull, Put, Seat, SeatReflector, RingTo, Turn, PinTo, LugTo}
-use Rattle.kd_state.specs.Words.{words_of, line_of, IsWord, IsWithout, IsFirstPart, LinesTellWords, LinesSplitIntoWords, WordsMakeOneLine, TextsTellFirstParts, NumbersAreWords}
-use Rattle.kd_state.specs.Line.{setting_words, setting_line, list_text, IsInRange, BeginsWithNoLine}
+use Rattle.kd_state.specs.Words.{words_of, line_of, IsWord, IsWithout, LinesTellWords, LinesSplitIntoWords, WordsMakeOneLine, TextsTellFirstParts, NumbersAreWords}
+use Rattle.kd_state.specs.Line.{setting_words, setting_line, list_text, IsInRange, BeginsWith, BeginsWithNoLine}
+use Rattle.kd_state.specs.SheetDay.{IsDayNumber}
 use Rattle.kd_state.specs.Laws.{SettingsHaveWords, LinesTellSettings}
 use Rattle.kd_card.specs.declared.prices.PriceParts.{PriceParts}
 use Rattle.kd_card.specs.declared.prices.PriceParts.TheVariants.{Cables, Bars}
 use Rattle.kd_card.specs.declared.fault.CardFault.{CardFault}
-use Rattle.kd_card.specs.Prices.{row_prices, column_prices, price_sum, AreWithinReach}
+use Rattle.kd_card.specs.declared.fault.CardFault.TheVariants.{BadHead, TooMany, Trailing}
+use Rattle.kd_card.specs.Prices.{row_prices, column_prices, price_sum, AreWithinReach, ArePrices}
 use Rattle.kd_card.specs.CardText.{Kind, OfCables, OfBars, kind_of, row_word, column_word, head_words, settings_words, price_words, sum_words, IsCard}
-use Rattle.kd_card.specs.CardFault.{price_count, with_line, IsNumberText, IsSignedText, IsPriceText, ToSettings, ToNumber, ToRows, ToColumns, HasWords, IsValueFault, OtherValue, NoValue, IsPricesFault, NoLine, NoEnd, OtherWord, OtherPrices, AreRows, AreColumns, AtHead, AtSettings, AtNumber, AtRows, AtColumns, AtSum, AtEnd}
-use Rattle.kd_card.specs.Laws.{TextsTellCards, CardsHaveNoFault}
-use Rattle.kd_card.proofs.Lines.{card_in_lines, text_behind, text_of_more, no_first_part, same_first_part, unbroken_by_test, unbroken_number, unbroken_signed}
+use Rattle.kd_card.specs.CardFault.{price_count, with_line, IsNumberText, IsSignedText, IsCountFault, ToSettings, ToNumber, ToRows, ToColumns, HasWords, IsValueFault, OtherValue, NoValue, IsPricesFault, NoLine, NoEnd, OtherWord, OtherPrices, AreRows, AreColumns, IsCardFault, AtHead, AtSettings, AtNumber, AtRows, AtColumns, AtSum, AtEnd}
+use Rattle.kd_card.specs.Reading.{BeginsWithHead, BeginsWithSettings, BeginsWithPrices}
+use Rattle.kd_card.specs.Laws.{TextsTellCards, CardsHaveNoFault, OneCardFault}
+use Rattle.kd_card.proofs.Lines.{text_of_more, no_first_part, same_first_part, unbroken_by_test, unbroken_number, unbroken_signed}
 use Rattle.kd_card.proofs.PriceLines.{all_price_texts}
 use Rattle.kd_card.proofs.Cards.{as_many, goes_to_columns}
 use Rattle.kd_card.proofs.CardWords.{head_is_words, settings_is_words, row_is_word, column_is_word, prices_are_words, number_text, signed_text, price_sum_is_small}
@@ -33,93 +36,86 @@ pub record Known : Type 0 where
   pub settings : SettingsHaveWords
   pub lines : LinesTellSettings
 
--- ---- lines
+-- ---- steps
 
-same_line : Known → (words others : List (List ℕ)) (rest more : List ℕ) → All IsWord words → All IsWord others → with_line words rest ≡ with_line others more
-    → (words ≡ others) × (rest ≡ more)
-same_line k words others rest more a b e =
-    let parts : (line_of words ≡ line_of others) × (rest ≡ more) =
-    k.first_parts 10 (line_of words) (line_of others) rest more (k.one_line words a) (k.one_line others b) e in
-    (k.words words others a b parts.0, parts.1)
+-- what bytes are: a card with its day, or why they are none
+abbrev Verdict : Type 0
+Verdict = Result (ℕ × List Setting × PriceParts) CardFault
 
-same_settings : Known → (xs ys : List Setting) (rest more : List ℕ) → AllByRecursion IsInRange xs → AllByRecursion IsInRange ys
-    → BeginsWithNoLine rest → BeginsWithNoLine more → list_text xs ++ rest ≡ list_text ys ++ more → (xs ≡ ys) × (rest ≡ more)
-same_settings k [] [] rest more a b none nor e = (refl, e)
-same_settings k [] (y ∷ ys) rest more a b none nor e = absurd (none y (list_text ys ++ more) b.0 (e ∙ text_of_more y ys more))
-same_settings k (x ∷ xs) [] rest more a b none nor e = absurd (nor x (list_text xs ++ rest) a.0 (sym e ∙ text_of_more x xs rest))
-same_settings k (x ∷ xs) (y ∷ ys) rest more a b none nor e =
-    let parts : (setting_line x ≡ setting_line y) × (list_text xs ++ rest ≡ list_text ys ++ more) =
-    k.first_parts 10 (setting_line x) (setting_line y) (list_text xs ++ rest) (list_text ys ++ more)
-    (k.one_line (setting_words x) (k.settings x a.0)) (k.one_line (setting_words y) (k.settings y b.0))
-    (sym (text_of_more x xs rest) ∙ e ∙ text_of_more y ys more) in
-    let first : x ≡ y = k.lines x y a.0 b.0 parts.0 in
-    let others : (xs ≡ ys) × (rest ≡ more) = same_settings k xs ys rest more a.1 b.1 none nor parts.1 in
-    let tails : xs ≡ ys = others.0 in
-    (cc, others.1)
+-- there is one verdict at most
+abbrev IsOnly : (Verdict → Type 0) → Type 0
+IsOnly Says = (v w : Verdict) → Says v → Says w → v ≡ w
 
-not_longer : Known → (xs ys : List Setting) (rest more : List ℕ) → AllByRecursion IsInRange xs → AllByRecursion IsInRange ys
-    → BeginsWithNoLine rest → list_text xs ++ rest ≡ list_text ys ++ more → length ys ≤ length xs
-not_longer k xs [] rest more a b none e = omega arith
-not_longer k [] (y ∷ ys) rest more a b none e = absurd (none y (list_text ys ++ more) b.0 (e ∙ text_of_more y ys more))
-not_longer k (x ∷ xs) (y ∷ ys) rest more a b none e =
-    let parts : (setting_line x ≡ setting_line y) × (list_text xs ++ rest ≡ list_text ys ++ more) =
-    k.first_parts 10 (setting_line x) (setting_line y) (list_text xs ++ rest) (list_text ys ++ more)
-    (k.one_line (setting_words x) (k.settings x a.0)) (k.one_line (setting_words y) (k.settings y b.0))
-    (sym (text_of_more x xs rest) ∙ e ∙ text_of_more y ys more) in
-    let fewer = not_longer k xs ys rest more a.1 b.1 none parts.1 in
-    omega (arith, fewer)
+-- a step refuses the bytes, or finds something at their front, and the verdict is that of the next one
+data Step {X : Type 0} (Finds : X → Type 0) (Refuses : CardFault → Type 0) (Next : X → Verdict → Type 0) (v : Verdict) : Type 0 where
+  Refused : (fault : CardFault) → Refuses fault → v ≡ Err fault → Step Finds Refuses Next v
+  Found : (x : X) → Finds x → Next x v → Step Finds Refuses Next v
 
--- the first and the third letter of the first word tell SETTINGS from the words of settings
-abbrev first_and_third : List (List ℕ) → ℕ
-first_and_third words = get_or (get_or words 0 []) 0 0 * 256 + get_or (get_or words 0 []) 2 0
+-- it finds one thing, or refuses for one reason, and never does both
+record IsSure {X : Type 0} (Finds : X → Type 0) (Refuses : CardFault → Type 0) : Type 0 where
+  one : (x y : X) → Finds x → Finds y → x ≡ y
+  reason : (fault other : CardFault) → Refuses fault → Refuses other → fault ≡ other
+  either : (x : X) (fault : CardFault) → Finds x → ¬ (Refuses fault)
 
-no_setting : (x : Setting) → first_and_third (setting_words x) ≢ 21332
-no_setting (Pull c l) e = omega (arith, e)
-no_setting (Put c l) e = omega (arith, e)
-no_setting (Seat s w) e = omega (arith, e)
-no_setting (SeatReflector r) e = omega (arith, e)
-no_setting (RingTo w l) e = omega (arith, e)
-no_setting (Turn s l) e = omega (arith, e)
-no_setting (PinTo w l p) e = omega (arith, e)
-no_setting (LugTo b l p) e = omega (arith, e)
+only_step : {X : Type 0} {Finds : X → Type 0} {Refuses : CardFault → Type 0} {Next : X → Verdict → Type 0} → IsSure Finds Refuses
+    → ((x : X) → Finds x → IsOnly (Next x)) → IsOnly (Step Finds Refuses Next)
+only_step sure next v w (Refused f a e) (Refused g b d) = e ∙ ap Err (sure.reason f g a b) ∙ sym d
+only_step sure next v w (Refused f a e) (Found y b m) = absurd (sure.either y f b a)
+only_step sure next v w (Found x a l) (Refused g b d) = absurd (sure.either x g a b)
+only_step {Next} sure next v w (Found x a l) (Found y b m) = next y b v w (subst (λ z. Next z v) (sure.one x y a b) l) m
 
-number_ends : Known → (number : ℕ) (rest : List ℕ) → number ≤ 192 → BeginsWithNoLine (with_line (settings_words number) rest)
-number_ends k number rest small x more r e =
-    let same = same_line k (settings_words number) (setting_words x) rest more (settings_is_words k.numbers number small) (k.settings x r) e in
-    no_setting x (sym (ap first_and_third same.0))
+-- a first word, the prices behind it, and what follows their line
+abbrev PriceLine : Type 0
+PriceLine = List ℕ × List ℤ × List ℕ
 
--- ---- how far a card's text goes
+abbrev FindsPrices : (List ℕ → ℕ → Type 0) → List ℕ → PriceLine → Type 0
+FindsPrices IsDue bytes line = IsDue line.0 (length line.1) × BeginsWithPrices bytes line.0 line.1 line.2
 
-abbrev rows_behind : PriceParts → List ℕ
-rows_behind prices =
-    with_line (price_words (row_word (kind_of prices)) (row_prices prices))
-    (with_line (price_words (column_word (kind_of prices)) (column_prices prices)) (with_line (sum_words (price_sum prices)) []))
+-- ---- the steps of a card, from the last to the first
 
-abbrev columns_behind : PriceParts → List ℕ
-columns_behind prices = with_line (price_words (column_word (kind_of prices)) (column_prices prices)) (with_line (sum_words (price_sum prices)) [])
+abbrev EndSays : ℕ → List Setting → PriceParts → List ℕ → Verdict → Type 0
+EndSays day xs prices rest =
+    Step (λ (nothing : Unit {0}). rest ≡ []) (λ fault. (rest ≢ []) × (fault ≡ Trailing)) (λ nothing v. v ≡ Ok (day, xs, prices))
 
-heads : Known → (bytes : List ℕ) (day other : ℕ) (xs ys : List Setting) (prices : PriceParts) (rest : List ℕ) → IsCard bytes day xs prices
-    → ToSettings bytes other ys rest → (head_words day ≡ head_words other) × (list_text xs ++ text_behind (length xs) prices ≡ list_text ys ++ rest)
-heads k bytes day other xs ys prices rest card to =
-    let last = card.of_month.last in
-    let most = to.of_month.last in
-    same_line k (head_words day) (head_words other) (list_text xs ++ text_behind (length xs) prices) (list_text ys ++ rest)
-    (head_is_words k.numbers day last) (head_is_words k.numbers other most) (sym (card_in_lines day xs prices) ∙ sym card.text ∙ to.text)
+abbrev SumSays : ℕ → List Setting → PriceParts → List ℕ → Verdict → Type 0
+SumSays day xs prices rest =
+    Step (λ (more : List ℕ). rest ≡ with_line (sum_words (price_sum prices)) more)
+    (IsValueFault IsSignedText (codes "SUM") (signed_decimal (price_sum prices)) (length xs + 5) rest) (EndSays day xs prices)
 
-lists : Known → (bytes : List ℕ) (day other : ℕ) (xs ys : List Setting) (prices : PriceParts) (rest : List ℕ) → IsCard bytes day xs prices
-    → ToSettings bytes other ys rest → BeginsWithNoLine rest → (xs ≡ ys) × (text_behind (length xs) prices ≡ rest)
-lists k bytes day other xs ys prices rest card to none =
-    same_settings k xs ys (text_behind (length xs) prices) rest (recursion_from_All IsInRange xs card.in_range) (recursion_from_All IsInRange ys to.in_range)
-    (number_ends k (length xs) (rows_behind prices) card.few) none (heads k bytes day other xs ys prices rest card to).1
+abbrev BehindColumns : ℕ → List Setting → Kind → List ℤ → PriceLine → Verdict → Type 0
+BehindColumns day xs kind rows line v =
+    (prices : PriceParts) × ArePrices prices × (kind_of prices ≡ kind) × (row_prices prices ≡ rows) × (column_prices prices ≡ line.1)
+    × SumSays day xs prices line.2 v
 
-numbers_end : Known → (bytes : List ℕ) (day other : ℕ) (xs ys : List Setting) (prices : PriceParts) (rest : List ℕ) → IsCard bytes day xs prices
-    → ToNumber bytes other ys rest → (xs ≡ ys) × (rows_behind prices ≡ rest)
-numbers_end k bytes day other xs ys prices rest card to =
-    let both = lists k bytes day other xs ys prices (with_line (settings_words (length ys)) rest) card to.before (number_ends k (length ys) rest to.few) in
-    let line =
-    same_line k (settings_words (length xs)) (settings_words (length ys)) (rows_behind prices) rest (settings_is_words k.numbers (length xs) card.few)
-    (settings_is_words k.numbers (length ys) to.few) both.1 in
-    (both.0, line.1)
+abbrev ColumnsSay : ℕ → List Setting → Kind → List ℤ → List ℕ → Verdict → Type 0
+ColumnsSay day xs kind rows rest =
+    Step (FindsPrices (AreColumns kind) rest) (IsPricesFault (AreColumns kind) (length xs + 4) rest) (BehindColumns day xs kind rows)
+
+abbrev BehindRows : ℕ → List Setting → PriceLine → Verdict → Type 0
+BehindRows day xs line v = (kind : Kind) × (line.0 ≡ row_word kind) × ColumnsSay day xs kind line.1 line.2 v
+
+abbrev RowsSay : ℕ → List Setting → List ℕ → Verdict → Type 0
+RowsSay day xs rest = Step (FindsPrices AreRows rest) (IsPricesFault AreRows (length xs + 3) rest) (BehindRows day xs)
+
+abbrev NumberSays : ℕ → List Setting → List ℕ → Verdict → Type 0
+NumberSays day xs rest =
+    Step (λ (more : List ℕ). rest ≡ with_line (settings_words (length xs)) more)
+    (IsValueFault IsNumberText (codes "SETTINGS") (decimal (length xs)) (length xs + 2) rest) (RowsSay day xs)
+
+abbrev AreTooMany : List ℕ → CardFault → Type 0
+AreTooMany body fault = (xs : List Setting) × (rest : List ℕ) × BeginsWith body xs rest × (length xs ≡ 193) × (fault ≡ TooMany)
+
+abbrev SettingsSay : ℕ → List ℕ → Verdict → Type 0
+SettingsSay day body =
+    Step (λ (list : List Setting × List ℕ). BeginsWithSettings body list.0 list.1) (AreTooMany body) (λ list. NumberSays day list.0 list.1)
+
+abbrev IsNoHead : List ℕ → CardFault → Type 0
+IsNoHead bytes fault = ((day : ℕ) (rest : List ℕ) → IsDayNumber day → bytes ≢ with_line (head_words day) rest) × (fault ≡ BadHead)
+
+abbrev CardSays : List ℕ → Verdict → Type 0
+CardSays bytes = Step (λ (head : ℕ × List ℕ). BeginsWithHead bytes head.0 head.1) (IsNoHead bytes) (λ head. SettingsSay head.0 head.1)
+
+-- ---- prices, kinds and first words
 
 small_mag : (p : ℤ) → unsigned_abs p ≤ 9999 → mag p < 2 ^ 63
 small_mag (pos n) within = omega arith
@@ -145,26 +141,6 @@ same_kind OfBars OfBars e = refl
 same_kind OfCables OfBars e = absurd (omega (arith, ap (λ t. get_or t 0 0) e))
 same_kind OfBars OfCables e = absurd (omega (arith, ap (λ t. get_or t 0 0) e))
 
-same_line_of_prices : Known → (word other : List ℕ) (ps qs : List ℤ) (rest more : List ℕ) → IsWord word → IsWord other → AreWithinReach ps → AreWithinReach qs
-    → with_line (price_words word ps) rest ≡ with_line (price_words other qs) more → (word ≡ other) × (ps ≡ qs) × (rest ≡ more)
-same_line_of_prices k word other ps qs rest more w o a b e =
-    let line : (price_words word ps ≡ price_words other qs) × (rest ≡ more) =
-    same_line k (price_words word ps) (price_words other qs) rest more (prices_are_words k.numbers word ps w a) (prices_are_words k.numbers other qs o b) e in
-    let words : price_words word ps ≡ price_words other qs = line.0 in
-    let first : word ≡ other = cc in
-    let texts : map signed_decimal ps ≡ map signed_decimal qs = cc in
-    (first, same_prices ps qs (recursion_from_All _ ps a) (recursion_from_All _ qs b) texts, line.1)
-
-rows_end : Known → (bytes : List ℕ) (day other : ℕ) (xs ys : List Setting) (prices : PriceParts) (kind : Kind) (rows : List ℤ) (rest : List ℕ)
-    → IsCard bytes day xs prices → ToRows bytes other ys kind rows rest
-    → (xs ≡ ys) × (kind_of prices ≡ kind) × (row_prices prices ≡ rows) × (columns_behind prices ≡ rest)
-rows_end k bytes day other xs ys prices kind rows rest card to =
-    let both = numbers_end k bytes day other xs ys prices (with_line (price_words (row_word kind) rows) rest) card to.before in
-    let line =
-    same_line_of_prices k (row_word (kind_of prices)) (row_word kind) (row_prices prices) rows (columns_behind prices) rest (row_is_word (kind_of prices))
-    (row_is_word kind) card.are_prices.row_reach to.reach both.1 in
-    (both.0, same_kind (kind_of prices) kind line.0, line.1, line.2)
-
 same_parts : (prices others : PriceParts) → kind_of prices ≡ kind_of others → row_prices prices ≡ row_prices others
     → column_prices prices ≡ column_prices others → prices ≡ others
 same_parts (Cables a b) (Cables c d) kind rows columns = cc
@@ -172,116 +148,370 @@ same_parts (Bars a b) (Bars c d) kind rows columns = cc
 same_parts (Cables a b) (Bars c d) kind rows columns = cc
 same_parts (Bars a b) (Cables c d) kind rows columns = cc
 
-columns_end : Known → (bytes : List ℕ) (day other : ℕ) (xs ys : List Setting) (prices others : PriceParts) (rest : List ℕ)
-    → IsCard bytes day xs prices → ToColumns bytes other ys others rest
-    → (xs ≡ ys) × (prices ≡ others) × (with_line (sum_words (price_sum prices)) [] ≡ rest)
-columns_end k bytes day other xs ys prices others rest card to =
-    let rows =
-    rows_end k bytes day other xs ys prices (kind_of others) (row_prices others)
-    (with_line (price_words (column_word (kind_of others)) (column_prices others)) rest) card to.before in
-    let line =
-    same_line_of_prices k (column_word (kind_of prices)) (column_word (kind_of others)) (column_prices prices) (column_prices others)
-    (with_line (sum_words (price_sum prices)) []) rest (column_is_word (kind_of prices)) (column_is_word (kind_of others))
-    card.are_prices.column_reach to.are_prices.column_reach rows.3 in
-    (rows.0, same_parts prices others rows.1 rows.2 line.1, line.2)
+known_head : (day other : ℕ) → day ≤ 31 → other ≤ 31 → head_words day ≡ head_words other → day ≡ other
+known_head day other a b e = let same : decimal day ≡ decimal other = cc in decimal_injective day other (omega arith) (omega arith) same
 
--- ---- a line that is due has no fault
+-- the first and the third letter of the first word tell SETTINGS from the words of settings
+abbrev first_and_third : List (List ℕ) → ℕ
+first_and_third words = get_or (get_or words 0 []) 0 0 * 256 + get_or (get_or words 0 []) 2 0
 
-no_value_fault : Known → (IsForm : List ℕ → Type 0) (name due : List ℕ) (line : ℕ) (bytes rest : List ℕ) (fault : CardFault)
-    → ((value : List ℕ) → IsForm value → IsWithout 10 value) → IsWithout 10 name → IsForm due → with_line (name ∷ due ∷ []) rest ≡ bytes
-    → ¬ (IsValueFault IsForm name due line bytes fault)
-no_value_fault k IsForm name due line bytes rest fault unbroken plain form e (OtherValue value more f other differs w) =
-    let space : 32 ≢ 10 = λ same. omega (arith, same) in
-    let parts =
-    k.first_parts 10 (name ++ 32 ∷ due) (name ++ 32 ∷ value) rest more
-    (All-append (λ b. b ≢ 10) name (32 ∷ due) plain (All-cons (λ b. b ≢ 10) 32 due space (unbroken due form)))
-    (All-append (λ b. b ≢ 10) name (32 ∷ value) plain (All-cons (λ b. b ≢ 10) 32 value space (unbroken value other))) (e ∙ f) in
-    let same : 32 ∷ due ≡ 32 ∷ value = append_cancel_left name (32 ∷ due) (32 ∷ value) parts.0 in
-    differs (cc)
-no_value_fault k IsForm name due line bytes rest fault unbroken plain form e (NoValue none w) = none due rest form (sym e)
+no_setting : (x : Setting) → first_and_third (setting_words x) ≢ 21332
+no_setting (Pull c l) e = omega (arith, e)
+no_setting (Put c l) e = omega (arith, e)
+no_setting (Seat s w) e = omega (arith, e)
+no_setting (SeatReflector r) e = omega (arith, e)
+no_setting (RingTo w l) e = omega (arith, e)
+no_setting (Turn s l) e = omega (arith, e)
+no_setting (PinTo w l p) e = omega (arith, e)
+no_setting (LugTo b l p) e = omega (arith, e)
 
-its_words : Known → (words others : List (List ℕ)) (bytes rest more : List ℕ) → words ≢ [] → All IsWord words → with_line words rest ≡ bytes
-    → HasWords bytes others more → words ≡ others
-its_words k words others bytes rest more some a e has =
-    let first : IsFirstPart 10 bytes (line_of words) rest = record { joined = sym e; without = k.one_line words a } in
-    let line : line_of words ≡ has.line = (same_first_part k.first_parts 10 bytes (line_of words) has.line rest more first has.first).0 in
-    sym (k.split words some a) ∙ ap words_of line ∙ has.parts
+-- the words that may begin a line of prices, and how many prices are due behind each
+record AreDue (IsDue : List ℕ → ℕ → Type 0) : Type 0 where
+  are_words : (first : List ℕ) (number : ℕ) → IsDue first number → IsWord first
+  one_number : (first : List ℕ) (number other : ℕ) → IsDue first number → IsDue first other → number ≡ other
 
-no_prices_fault : Known → (IsDue : List ℕ → ℕ → Type 0) (line : ℕ) (first : List ℕ) (prices : List ℤ) (bytes rest : List ℕ) (fault : CardFault)
-    → IsWord first → AreWithinReach prices → IsDue first (length prices) → ((number : ℕ) → IsDue first number → number ≡ length prices)
-    → with_line (price_words first prices) rest ≡ bytes → ¬ (IsPricesFault IsDue line bytes fault)
-no_prices_fault k IsDue line first prices bytes rest fault word reach due alone e (NoLine none w) =
-    omega (arith, ap length (e ∙ none), length-append (line_of (price_words first prices)) (10 ∷ rest))
-no_prices_fault k IsDue line first prices bytes rest fault word reach due alone e (NoEnd some without w) =
-    no_first_part 10 bytes (line_of (price_words first prices)) rest without
-    (record { joined = sym e; without = k.one_line (price_words first prices) (prices_are_words k.numbers first prices word reach) })
-no_prices_fault k IsDue line first prices bytes rest fault word reach due alone e (OtherWord other words more has none w) =
-    let same : price_words first prices ≡ other ∷ words =
-    its_words k (price_words first prices) (other ∷ words) bytes rest more (λ n. cc) (prices_are_words k.numbers first prices word reach) e has in
-    let begins : first ≡ other = cc in
-    none (length prices) (subst (λ f. IsDue f (length prices)) begins due)
-no_prices_fault k IsDue line first prices bytes rest fault word reach due alone e (OtherPrices other words more number has found wrong) =
-    let same : price_words first prices ≡ other ∷ words =
-    its_words k (price_words first prices) (other ∷ words) bytes rest more (λ n. cc) (prices_are_words k.numbers first prices word reach) e has in
-    let begins : first ≡ other = cc in
-    let texts : map signed_decimal prices ≡ words = cc in
-    let count : number ≡ length prices = alone number (subst (λ f. IsDue f number) (sym begins) found) in
-    elim wrong [
-      | inl w ↦ w.0 (subst (All IsPriceText) texts (all_price_texts prices reach))
-      | inr w ↦ w.1 (omega (arith, count, ap length texts, length-map prices signed_decimal))
-    ]
+rows_are_due : AreDue AreRows
+rows_are_due = record {
+  are_words = λ first number due. subst IsWord (sym due.1) (row_is_word due.0);
+  one_number = λ first number other due also. due.2 ∙ ap price_count (same_kind due.0 also.0 (sym due.1 ∙ also.1)) ∙ sym also.2;
+}
 
-row_count : (kind other : Kind) → row_word kind ≡ row_word other → price_count other ≡ price_count kind
-row_count kind other e = ap price_count (sym (same_kind kind other e))
+columns_are_due : (kind : Kind) → AreDue (AreColumns kind)
+columns_are_due kind = record {
+  are_words = λ first number due. subst IsWord (sym due.0) (column_is_word kind);
+  one_number = λ first number other due also. due.1 ∙ sym also.1;
+}
 
--- ---- laws
+module _ (k : Known) where
+  -- ---- lines
 
-known_head : Known → (day other : ℕ) → day ≤ 31 → other ≤ 31 → head_words day ≡ head_words other → day ≡ other
-known_head k day other a b e = let same : decimal day ≡ decimal other = cc in decimal_injective day other (omega arith) (omega arith) same
+  same_line : (words others : List (List ℕ)) (rest more : List ℕ) → All IsWord words → All IsWord others → with_line words rest ≡ with_line others more
+      → (words ≡ others) × (rest ≡ more)
+  same_line words others rest more a b e =
+      let parts : (line_of words ≡ line_of others) × (rest ≡ more) =
+      k.first_parts 10 (line_of words) (line_of others) rest more (k.one_line words a) (k.one_line others b) e in
+      (k.words words others a b parts.0, parts.1)
 
-pub texts_tell_cards : Known → TextsTellCards
-texts_tell_cards k bytes day other xs ys prices others card second =
-    let to = goes_to_columns bytes other ys others second in
-    let same = columns_end k bytes day other xs ys prices others (with_line (sum_words (price_sum others)) []) card to in
-    let last = card.of_month.last in
-    let most = second.of_month.last in
-    let head = (heads k bytes day other xs ys prices (text_behind (length ys) others) card to.before.before.before).0 in
-    (known_head k day other last most head, same.0, same.1)
+  same_settings : (xs ys : List Setting) (rest more : List ℕ) → AllByRecursion IsInRange xs → AllByRecursion IsInRange ys
+      → BeginsWithNoLine rest → BeginsWithNoLine more → list_text xs ++ rest ≡ list_text ys ++ more → (xs ≡ ys) × (rest ≡ more)
+  same_settings [] [] rest more a b none nor e = (refl, e)
+  same_settings [] (y ∷ ys) rest more a b none nor e = absurd (none y (list_text ys ++ more) b.0 (e ∙ text_of_more y ys more))
+  same_settings (x ∷ xs) [] rest more a b none nor e = absurd (nor x (list_text xs ++ rest) a.0 (sym e ∙ text_of_more x xs rest))
+  same_settings (x ∷ xs) (y ∷ ys) rest more a b none nor e =
+      let parts : (setting_line x ≡ setting_line y) × (list_text xs ++ rest ≡ list_text ys ++ more) =
+      k.first_parts 10 (setting_line x) (setting_line y) (list_text xs ++ rest) (list_text ys ++ more)
+      (k.one_line (setting_words x) (k.settings x a.0)) (k.one_line (setting_words y) (k.settings y b.0))
+      (sym (text_of_more x xs rest) ∙ e ∙ text_of_more y ys more) in
+      let first : x ≡ y = k.lines x y a.0 b.0 parts.0 in
+      let others : (xs ≡ ys) × (rest ≡ more) = same_settings xs ys rest more a.1 b.1 none nor parts.1 in
+      let tails : xs ≡ ys = others.0 in
+      (cc, others.1)
 
-pub cards_have_no_fault : Known → CardsHaveNoFault
-cards_have_no_fault k bytes day xs prices fault card (AtHead none w) =
-    none day (list_text xs ++ text_behind (length xs) prices) card.of_month (card.text ∙ card_in_lines day xs prices)
-cards_have_no_fault k bytes day xs prices fault card (AtSettings other ys rest to many w) =
-    let few = card.few in
-    let fewer =
-    not_longer k xs ys (text_behind (length xs) prices) rest (recursion_from_All IsInRange xs card.in_range) (recursion_from_All IsInRange ys to.in_range)
-    (number_ends k (length xs) (rows_behind prices) few) (heads k bytes day other xs ys prices rest card to).1 in
-    omega (arith, few, fewer, many)
-cards_have_no_fault k bytes day xs prices fault card (AtNumber other ys rest to few none wrong) =
-    let both = lists k bytes day other xs ys prices rest card to none in
-    no_value_fault k IsNumberText (codes "SETTINGS") (decimal (length ys)) (length ys + 2) rest (rows_behind prices) fault unbroken_number
-    (unbroken_by_test (codes "SETTINGS") refl) (number_text (length ys) (omega (arith, few)))
-    (ap (λ l. text_behind (length l) prices) (sym both.0) ∙ both.1) wrong
-cards_have_no_fault k bytes day xs prices fault card (AtRows other ys rest to wrong) =
-    let both = numbers_end k bytes day other xs ys prices rest card to in
-    let kind = kind_of prices in
-    no_prices_fault k AreRows (length ys + 3) (row_word (kind_of prices)) (row_prices prices) rest (columns_behind prices) fault (row_is_word (kind_of prices))
-    card.are_prices.row_reach (kind_of prices, refl, card.are_prices.rows ∙ as_many prices)
-    (λ number due. due.2 ∙ row_count (kind_of prices) due.0 due.1 ∙ sym (card.are_prices.rows ∙ as_many prices)) both.1 wrong
-cards_have_no_fault k bytes day xs prices fault card (AtColumns other ys kind rows rest to wrong) =
-    let all = rows_end k bytes day other xs ys prices kind rows rest card to in
-    let count : length (column_prices prices) ≡ price_count kind = card.are_prices.columns ∙ as_many prices ∙ ap price_count all.1 in
-    no_prices_fault k (AreColumns kind) (length ys + 4) (column_word (kind_of prices)) (column_prices prices) rest
-    (with_line (sum_words (price_sum prices)) []) fault (column_is_word (kind_of prices)) card.are_prices.column_reach (ap column_word all.1, count)
-    (λ number due. due.1 ∙ sym count) all.3 wrong
-cards_have_no_fault k bytes day xs prices fault card (AtSum other ys others rest to wrong) =
-    let all = columns_end k bytes day other xs ys prices others rest card to in
-    no_value_fault k IsSignedText (codes "SUM") (signed_decimal (price_sum others)) (length ys + 5) rest [] fault unbroken_signed
-    (unbroken_by_test (codes "SUM") refl) (signed_text (price_sum others) (price_sum_is_small others to.are_prices))
-    (ap (λ p. with_line (sum_words (price_sum p)) []) (sym all.1) ∙ all.2) wrong
-cards_have_no_fault k bytes day xs prices fault card (AtEnd other ys others rest to some w) =
-    let all = columns_end k bytes day other xs ys prices others (with_line (sum_words (price_sum others)) rest) card to in
-    let same : with_line (sum_words (price_sum others)) [] ≡ with_line (sum_words (price_sum others)) rest =
-    ap (λ p. with_line (sum_words (price_sum p)) []) (sym all.1) ∙ all.2 in
-    let ends : 10 ∷ [] ≡ 10 ∷ rest = append_cancel_left (line_of (sum_words (price_sum others))) (10 ∷ []) (10 ∷ rest) same in
-    some (cc)
+  not_longer : (xs ys : List Setting) (rest more : List ℕ) → AllByRecursion IsInRange xs → AllByRecursion IsInRange ys
+      → BeginsWithNoLine rest → list_text xs ++ rest ≡ list_text ys ++ more → length ys ≤ length xs
+  not_longer xs [] rest more a b none e = omega arith
+  not_longer [] (y ∷ ys) rest more a b none e = absurd (none y (list_text ys ++ more) b.0 (e ∙ text_of_more y ys more))
+  not_longer (x ∷ xs) (y ∷ ys) rest more a b none e =
+      let parts : (setting_line x ≡ setting_line y) × (list_text xs ++ rest ≡ list_text ys ++ more) =
+      k.first_parts 10 (setting_line x) (setting_line y) (list_text xs ++ rest) (list_text ys ++ more)
+      (k.one_line (setting_words x) (k.settings x a.0)) (k.one_line (setting_words y) (k.settings y b.0))
+      (sym (text_of_more x xs rest) ∙ e ∙ text_of_more y ys more) in
+      let fewer = not_longer xs ys rest more a.1 b.1 none parts.1 in
+      omega (arith, fewer)
+
+  number_ends : (number : ℕ) (rest : List ℕ) → number ≤ 192 → BeginsWithNoLine (with_line (settings_words number) rest)
+  number_ends number rest small x more r e =
+      let same = same_line (settings_words number) (setting_words x) rest more (settings_is_words k.numbers number small) (k.settings x r) e in
+      no_setting x (sym (ap first_and_third same.0))
+
+  same_line_of_prices : (word other : List ℕ) (ps qs : List ℤ) (rest more : List ℕ) → IsWord word → IsWord other → AreWithinReach ps → AreWithinReach qs
+      → with_line (price_words word ps) rest ≡ with_line (price_words other qs) more → (word ≡ other) × (ps ≡ qs) × (rest ≡ more)
+  same_line_of_prices word other ps qs rest more w o a b e =
+      let line : (price_words word ps ≡ price_words other qs) × (rest ≡ more) =
+      same_line (price_words word ps) (price_words other qs) rest more (prices_are_words k.numbers word ps w a) (prices_are_words k.numbers other qs o b) e in
+      let words : price_words word ps ≡ price_words other qs = line.0 in
+      let first : word ≡ other = cc in
+      let texts : map signed_decimal ps ≡ map signed_decimal qs = cc in
+      (first, same_prices ps qs (recursion_from_All _ ps a) (recursion_from_All _ qs b) texts, line.1)
+
+  -- ---- the head and the settings
+
+  one_head : (bytes : List ℕ) (head other : ℕ × List ℕ) → BeginsWithHead bytes head.0 head.1 → BeginsWithHead bytes other.0 other.1 → head ≡ other
+  one_head bytes (day, rest) (other, more) a b =
+      let last = a.of_month.last in
+      let most = b.of_month.last in
+      let line =
+      same_line (head_words day) (head_words other) rest more (head_is_words k.numbers day last) (head_is_words k.numbers other most) (sym a.text ∙ b.text) in
+      let days : day ≡ other = known_head day other last most line.0 in
+      let rests : rest ≡ more = line.1 in
+      cc
+
+  head_is_sure : (bytes : List ℕ) → IsSure (λ (head : ℕ × List ℕ). BeginsWithHead bytes head.0 head.1) (IsNoHead bytes)
+  head_is_sure bytes = record {
+    one = one_head bytes;
+    reason = λ fault other a b. a.1 ∙ sym b.1;
+    either = λ head fault a none. none.0 head.0 head.1 a.of_month a.text;
+  }
+
+  one_list : (body : List ℕ) (list other : List Setting × List ℕ) → BeginsWithSettings body list.0 list.1 → BeginsWithSettings body other.0 other.1 → list ≡ other
+  one_list body (xs, rest) (ys, more) a b =
+      let both =
+      same_settings xs ys rest more (recursion_from_All IsInRange xs a.lines.in_range) (recursion_from_All IsInRange ys b.lines.in_range) a.none_more b.none_more
+      (sym a.lines.lines ∙ b.lines.lines) in
+      let lists : xs ≡ ys = both.0 in
+      let rests : rest ≡ more = both.1 in
+      cc
+
+  not_too_many : (body : List ℕ) (list : List Setting × List ℕ) (fault : CardFault) → BeginsWithSettings body list.0 list.1 → ¬ (AreTooMany body fault)
+  not_too_many body (xs, rest) fault a (ys, more, b, many, is) =
+      let few = a.few in
+      let most =
+      not_longer xs ys rest more (recursion_from_All IsInRange xs a.lines.in_range) (recursion_from_All IsInRange ys b.in_range) a.none_more
+      (sym a.lines.lines ∙ b.lines) in
+      omega (arith, few, most, many)
+
+  settings_are_sure : (body : List ℕ) → IsSure (λ (list : List Setting × List ℕ). BeginsWithSettings body list.0 list.1) (AreTooMany body)
+  settings_are_sure body = record {
+    one = one_list body;
+    reason = λ fault other a b. a.4 ∙ sym b.4;
+    either = not_too_many body;
+  }
+
+  -- ---- a name and a value
+
+  one_value_fault : (IsForm : List ℕ → Type 0) (name due : List ℕ) (line : ℕ) (bytes : List ℕ) (fault other : CardFault)
+      → IsValueFault IsForm name due line bytes fault → IsValueFault IsForm name due line bytes other → fault ≡ other
+  one_value_fault IsForm name due line bytes fault other (OtherValue value rest e form differs w) (OtherValue third more f is apart u) = w ∙ sym u
+  one_value_fault IsForm name due line bytes fault other (OtherValue value rest e form differs w) (NoValue none u) = absurd (none value rest form e)
+  one_value_fault IsForm name due line bytes fault other (NoValue none w) (OtherValue value rest e form differs u) = absurd (none value rest form e)
+  one_value_fault IsForm name due line bytes fault other (NoValue none w) (NoValue nil u) = w ∙ sym u
+
+  no_value_fault : (IsForm : List ℕ → Type 0) (name due : List ℕ) (line : ℕ) (bytes rest : List ℕ) (fault : CardFault)
+      → ((value : List ℕ) → IsForm value → IsWithout 10 value) → IsWithout 10 name → IsForm due → bytes ≡ with_line (name ∷ due ∷ []) rest
+      → ¬ (IsValueFault IsForm name due line bytes fault)
+  no_value_fault IsForm name due line bytes rest fault unbroken plain form e (OtherValue value more f other differs w) =
+      let space : 32 ≢ 10 = λ same. omega (arith, same) in
+      let parts =
+      k.first_parts 10 (name ++ 32 ∷ due) (name ++ 32 ∷ value) rest more
+      (All-append (λ b. b ≢ 10) name (32 ∷ due) plain (All-cons (λ b. b ≢ 10) 32 due space (unbroken due form)))
+      (All-append (λ b. b ≢ 10) name (32 ∷ value) plain (All-cons (λ b. b ≢ 10) 32 value space (unbroken value other))) (sym e ∙ f) in
+      let same : 32 ∷ due ≡ 32 ∷ value = append_cancel_left name (32 ∷ due) (32 ∷ value) parts.0 in
+      differs (cc)
+  no_value_fault IsForm name due line bytes rest fault unbroken plain form e (NoValue none w) = none due rest form e
+
+  same_rest : (words : List (List ℕ)) (bytes rest more : List ℕ) → bytes ≡ with_line words rest → bytes ≡ with_line words more → rest ≡ more
+  same_rest words bytes rest more a b =
+      let ends : 10 ∷ rest ≡ 10 ∷ more = append_cancel_left (line_of words) (10 ∷ rest) (10 ∷ more) (sym a ∙ b) in
+      cc
+
+  value_is_sure : (IsForm : List ℕ → Type 0) (name due : List ℕ) (line : ℕ) (bytes : List ℕ) → ((value : List ℕ) → IsForm value → IsWithout 10 value)
+      → IsWithout 10 name → IsForm due
+      → IsSure (λ (rest : List ℕ). bytes ≡ with_line (name ∷ due ∷ []) rest) (IsValueFault IsForm name due line bytes)
+  value_is_sure IsForm name due line bytes unbroken plain form = record {
+    one = same_rest (name ∷ due ∷ []) bytes;
+    reason = one_value_fault IsForm name due line bytes;
+    either = λ rest fault. no_value_fault IsForm name due line bytes rest fault unbroken plain form;
+  }
+
+  -- ---- prices
+
+  not_empty : (line rest : List ℕ) → line ++ 10 ∷ rest ≢ []
+  not_empty line rest e = omega (arith, ap length e, length-append line (10 ∷ rest))
+
+  -- what a line has between its spaces is told by the bytes
+  same_words : (bytes : List ℕ) (words others : List (List ℕ)) (rest more : List ℕ) → HasWords bytes words rest → HasWords bytes others more → words ≡ others
+  same_words bytes words others rest more a b =
+      sym a.parts ∙ ap words_of (same_first_part k.first_parts 10 bytes a.line b.line rest more a.first b.first).0 ∙ b.parts
+
+  one_count_fault : (number line : ℕ) (words : List (List ℕ)) (fault other : CardFault) → IsCountFault number line words fault
+      → IsCountFault number line words other → fault ≡ other
+  one_count_fault number line words fault other a b = elim a [
+    | inl bad ↦ elim b [ inl worse ↦ bad.1 ∙ sym worse.1 | inr count ↦ absurd (bad.0 count.0) ]
+    | inr count ↦ elim b [ inl bad ↦ absurd (bad.0 count.0) | inr also ↦ count.2 ∙ sym also.2 ]
+  ]
+
+  module _ (IsDue : List ℕ → ℕ → Type 0) (line : ℕ) (bytes : List ℕ) (are_due : AreDue IsDue) where
+    some_bytes : (words : List (List ℕ)) (rest : List ℕ) → HasWords bytes words rest → bytes ≢ []
+    some_bytes words rest has none = not_empty has.line rest (sym has.first.joined ∙ none)
+
+    some_end : (words : List (List ℕ)) (rest : List ℕ) → HasWords bytes words rest → ¬ (IsWithout 10 bytes)
+    some_end words rest has without = no_first_part 10 bytes has.line rest without has.first
+
+    same_due : (first other : List ℕ) (words others : List (List ℕ)) (rest more : List ℕ) (number : ℕ) → HasWords bytes (first ∷ words) rest
+        → HasWords bytes (other ∷ others) more → IsDue first number → IsDue other number
+    same_due first other words others rest more number a b due =
+        let same : first ∷ words ≡ other ∷ others = same_words bytes (first ∷ words) (other ∷ others) rest more a b in
+        let begins : first ≡ other = cc in
+        subst (λ word. IsDue word number) begins due
+
+    same_count : (first other : List ℕ) (words others : List (List ℕ)) (rest more : List ℕ) (number count : ℕ) (fault : CardFault)
+        → HasWords bytes (first ∷ words) rest → HasWords bytes (other ∷ others) more → IsDue first number → IsDue other count
+        → IsCountFault number line words fault → IsCountFault count line others fault
+    same_count first other words others rest more number count fault a b due also wrong =
+        let same : first ∷ words ≡ other ∷ others = same_words bytes (first ∷ words) (other ∷ others) rest more a b in
+        let behind : words ≡ others = cc in
+        let numbers : number ≡ count = are_due.one_number other number count (same_due first other words others rest more number a b due) also in
+        subst (λ n. IsCountFault n line others fault) numbers (subst (λ ws. IsCountFault number line ws fault) behind wrong)
+
+    one_prices_fault : (fault other : CardFault) → IsPricesFault IsDue line bytes fault → IsPricesFault IsDue line bytes other → fault ≡ other
+    one_prices_fault fault other (NoLine none w) (NoLine nil u) = w ∙ sym u
+    one_prices_fault fault other (NoLine none w) (NoEnd some without u) = absurd (some none)
+    one_prices_fault fault other (NoLine none w) (OtherWord f ws r has not' u) = absurd (some_bytes (f ∷ ws) r has none)
+    one_prices_fault fault other (NoLine none w) (OtherPrices f ws r n has due wrong) = absurd (some_bytes (f ∷ ws) r has none)
+    one_prices_fault fault other (NoEnd some without w) (NoLine none u) = absurd (some none)
+    one_prices_fault fault other (NoEnd some without w) (NoEnd more within u) = w ∙ sym u
+    one_prices_fault fault other (NoEnd some without w) (OtherWord f ws r has not' u) = absurd (some_end (f ∷ ws) r has without)
+    one_prices_fault fault other (NoEnd some without w) (OtherPrices f ws r n has due wrong) = absurd (some_end (f ∷ ws) r has without)
+    one_prices_fault fault other (OtherWord f ws r has not' w) (NoLine none u) = absurd (some_bytes (f ∷ ws) r has none)
+    one_prices_fault fault other (OtherWord f ws r has not' w) (NoEnd some without u) = absurd (some_end (f ∷ ws) r has without)
+    one_prices_fault fault other (OtherWord f ws r has not' w) (OtherWord g vs t have nor u) = w ∙ sym u
+    one_prices_fault fault other (OtherWord f ws r has not' w) (OtherPrices g vs t n have due wrong) =
+        absurd (not' n (same_due g f vs ws t r n have has due))
+    one_prices_fault fault other (OtherPrices f ws r n has due wrong) (NoLine none u) = absurd (some_bytes (f ∷ ws) r has none)
+    one_prices_fault fault other (OtherPrices f ws r n has due wrong) (NoEnd some without u) = absurd (some_end (f ∷ ws) r has without)
+    one_prices_fault fault other (OtherPrices f ws r n has due wrong) (OtherWord g vs t have nor u) =
+        absurd (nor n (same_due f g ws vs r t n has have due))
+    one_prices_fault fault other (OtherPrices f ws r n has due wrong) (OtherPrices g vs t m have also bad) =
+        one_count_fault m line vs fault other (same_count f g ws vs r t n m fault has have due also wrong) bad
+
+    -- the words of the line of prices that is found
+    found_words : (first : List ℕ) (prices : List ℤ) (rest : List ℕ) → FindsPrices IsDue bytes (first, prices, rest) → HasWords bytes (price_words first prices) rest
+    found_words first prices rest found =
+        let words = prices_are_words k.numbers first prices (are_due.are_words first (length prices) found.0) found.1.reach in
+        record {
+          line = line_of (price_words first prices);
+          first = record { joined = found.1.text; without = k.one_line (price_words first prices) words };
+          parts = k.split (price_words first prices) (λ none. cc) words;
+        }
+
+    no_prices_fault : (found : PriceLine) (fault : CardFault) → FindsPrices IsDue bytes found → ¬ (IsPricesFault IsDue line bytes fault)
+    no_prices_fault (first, prices, rest) fault found (NoLine none w) = some_bytes (price_words first prices) rest (found_words first prices rest found) none
+    no_prices_fault (first, prices, rest) fault found (NoEnd some without w) =
+        some_end (price_words first prices) rest (found_words first prices rest found) without
+    no_prices_fault (first, prices, rest) fault found (OtherWord g vs t have nor w) =
+        nor (length prices) (same_due first g (map signed_decimal prices) vs rest t (length prices) (found_words first prices rest found) have found.0)
+    no_prices_fault (first, prices, rest) fault found (OtherPrices g vs t m have also bad) =
+        elim (same_count g first vs (map signed_decimal prices) t rest m (length prices) fault have (found_words first prices rest found) also found.0 bad) [
+          | inl w ↦ w.0 (all_price_texts prices found.1.reach)
+          | inr w ↦ w.1 (length-map prices signed_decimal)
+        ]
+
+    one_line_of_prices : (found other : PriceLine) → FindsPrices IsDue bytes found → FindsPrices IsDue bytes other → found ≡ other
+    one_line_of_prices (first, prices, rest) (other, others, more) a b =
+        let line =
+        same_line_of_prices first other prices others rest more (are_due.are_words first (length prices) a.0) (are_due.are_words other (length others) b.0)
+        a.1.reach b.1.reach (sym a.1.text ∙ b.1.text) in
+        let firsts : first ≡ other = line.0 in
+        let same : prices ≡ others = line.1 in
+        let rests : rest ≡ more = line.2 in
+        cc
+
+    prices_are_sure : IsSure (FindsPrices IsDue bytes) (IsPricesFault IsDue line bytes)
+    prices_are_sure = record { one = one_line_of_prices; reason = one_prices_fault; either = no_prices_fault }
+
+  -- ---- the verdict
+
+  only_end : (day : ℕ) (xs : List Setting) (prices : PriceParts) (rest : List ℕ) → IsOnly (EndSays day xs prices rest)
+  only_end day xs prices rest =
+      only_step
+      (record { one = λ x y a b. refl; reason = λ fault other a b. a.1 ∙ sym b.1; either = λ x fault none some. some.0 none })
+      (λ x none v w a b. a ∙ sym b)
+
+  only_sum : (day : ℕ) (xs : List Setting) (prices : PriceParts) (rest : List ℕ) → ArePrices prices → IsOnly (SumSays day xs prices rest)
+  only_sum day xs prices rest are =
+      only_step
+      (value_is_sure IsSignedText (codes "SUM") (signed_decimal (price_sum prices)) (length xs + 5) rest unbroken_signed
+      (unbroken_by_test (codes "SUM") refl) (signed_text (price_sum prices) (price_sum_is_small prices are)))
+      (λ more e. only_end day xs prices more)
+
+  behind_columns : (day : ℕ) (xs : List Setting) (kind : Kind) (rows : List ℤ) (line : PriceLine) → IsOnly (BehindColumns day xs kind rows line)
+  behind_columns day xs kind rows line v w (prices, are, is, ps, qs, a) (others, also, is_too, rs, ss, b) =
+      let same : prices ≡ others = same_parts prices others (is ∙ sym is_too) (ps ∙ sym rs) (qs ∙ sym ss) in
+      only_sum day xs others line.2 also v w (subst (λ p. SumSays day xs p line.2 v) same a) b
+
+  only_columns : (day : ℕ) (xs : List Setting) (kind : Kind) (rows : List ℤ) (rest : List ℕ) → IsOnly (ColumnsSay day xs kind rows rest)
+  only_columns day xs kind rows rest =
+      only_step (prices_are_sure (AreColumns kind) (length xs + 4) rest (columns_are_due kind)) (λ line found. behind_columns day xs kind rows line)
+
+  behind_rows : (day : ℕ) (xs : List Setting) (line : PriceLine) → IsOnly (BehindRows day xs line)
+  behind_rows day xs line v w (kind, is, a) (other, also, b) =
+      only_columns day xs other line.1 line.2 v w (subst (λ q. ColumnsSay day xs q line.1 line.2 v) (same_kind kind other (sym is ∙ also)) a) b
+
+  only_rows : (day : ℕ) (xs : List Setting) (rest : List ℕ) → IsOnly (RowsSay day xs rest)
+  only_rows day xs rest = only_step (prices_are_sure AreRows (length xs + 3) rest rows_are_due) (λ line found. behind_rows day xs line)
+
+  only_number : (day : ℕ) (xs : List Setting) (rest : List ℕ) → length xs ≤ 192 → IsOnly (NumberSays day xs rest)
+  only_number day xs rest few =
+      only_step
+      (value_is_sure IsNumberText (codes "SETTINGS") (decimal (length xs)) (length xs + 2) rest unbroken_number
+      (unbroken_by_test (codes "SETTINGS") refl) (number_text (length xs) (omega (arith, few))))
+      (λ more e. only_rows day xs more)
+
+  only_card : (bytes : List ℕ) → IsOnly (CardSays bytes)
+  only_card bytes =
+      only_step (head_is_sure bytes)
+      (λ head found. only_step (settings_are_sure head.1) (λ list begins. only_number head.0 list.0 list.1 begins.few))
+
+  -- ---- what is said of bytes that are a card up to a step
+
+  at_number : (bytes : List ℕ) (day : ℕ) (xs : List Setting) (rest : List ℕ) (v : Verdict) → ToSettings bytes day xs rest → length xs ≤ 192
+      → BeginsWithNoLine rest → NumberSays day xs rest v → CardSays bytes v
+  at_number bytes day xs rest v to few none says =
+      Found (day, list_text xs ++ rest) (record { text = to.text; of_month = to.of_month })
+      (Found (xs, rest) (record { lines = record { lines = refl; in_range = to.in_range }; few = few; none_more = none }) says)
+
+  at_rows : (bytes : List ℕ) (day : ℕ) (xs : List Setting) (rest : List ℕ) (v : Verdict) → ToNumber bytes day xs rest → RowsSay day xs rest v → CardSays bytes v
+  at_rows bytes day xs rest v to says =
+      at_number bytes day xs (with_line (settings_words (length xs)) rest) v to.before to.few (number_ends (length xs) rest to.few) (Found rest refl says)
+
+  at_columns : (bytes : List ℕ) (day : ℕ) (xs : List Setting) (kind : Kind) (rows : List ℤ) (rest : List ℕ) (v : Verdict) → ToRows bytes day xs kind rows rest
+      → ColumnsSay day xs kind rows rest v → CardSays bytes v
+  at_columns bytes day xs kind rows rest v to says =
+      at_rows bytes day xs (with_line (price_words (row_word kind) rows) rest) v to.before
+      (Found (row_word kind, rows, rest) ((kind, refl, to.count), record { text = refl; reach = to.reach }) (kind, refl, says))
+
+  at_sum : (bytes : List ℕ) (day : ℕ) (xs : List Setting) (prices : PriceParts) (rest : List ℕ) (v : Verdict) → ToColumns bytes day xs prices rest
+      → SumSays day xs prices rest v → CardSays bytes v
+  at_sum bytes day xs prices rest v to says =
+      let are = to.are_prices in
+      let kind = kind_of prices in
+      at_columns bytes day xs kind (row_prices prices) (with_line (price_words (column_word kind) (column_prices prices)) rest) v to.before
+      (Found (column_word kind, column_prices prices, rest) ((refl, are.columns ∙ as_many prices), record { text = refl; reach = are.column_reach })
+      (prices, are, refl, refl, refl, says))
+
+  card_says : (bytes : List ℕ) (day : ℕ) (xs : List Setting) (prices : PriceParts) → IsCard bytes day xs prices → CardSays bytes (Ok (day, xs, prices))
+  card_says bytes day xs prices card =
+      let sum = with_line (sum_words (price_sum prices)) [] in
+      at_sum bytes day xs prices sum (Ok (day, xs, prices)) (goes_to_columns bytes day xs prices card) (Found [] refl (Found tt refl refl))
+
+  fault_says : (bytes : List ℕ) (fault : CardFault) → IsCardFault bytes fault → CardSays bytes (Err fault)
+  fault_says bytes fault (AtHead none is) = Refused fault (none, is) refl
+  fault_says bytes fault (AtSettings day xs rest to many is) =
+      Found (day, list_text xs ++ rest) (record { text = to.text; of_month = to.of_month })
+      (Refused fault (xs, rest, record { lines = refl; in_range = to.in_range }, many, is) refl)
+  fault_says bytes fault (AtNumber day xs rest to few none wrong) = at_number bytes day xs rest (Err fault) to few none (Refused fault wrong refl)
+  fault_says bytes fault (AtRows day xs rest to wrong) = at_rows bytes day xs rest (Err fault) to (Refused fault wrong refl)
+  fault_says bytes fault (AtColumns day xs kind rows rest to wrong) = at_columns bytes day xs kind rows rest (Err fault) to (Refused fault wrong refl)
+  fault_says bytes fault (AtSum day xs prices rest to wrong) = at_sum bytes day xs prices rest (Err fault) to (Refused fault wrong refl)
+  fault_says bytes fault (AtEnd day xs prices rest to some is) =
+      at_sum bytes day xs prices (with_line (sum_words (price_sum prices)) rest) (Err fault) to (Found rest refl (Refused fault (some, is) refl))
+
+  -- ---- laws
+
+  pub texts_tell_cards : TextsTellCards
+  texts_tell_cards bytes day other xs ys prices others a b =
+      let cards : ◌≡◌ {A = Verdict} (Ok (day, xs, prices)) (Ok (other, ys, others)) =
+      only_card bytes (Ok (day, xs, prices)) (Ok (other, ys, others)) (card_says bytes day xs prices a) (card_says bytes other ys others b) in
+      let parts : ◌≡◌ {A = ℕ × List Setting × PriceParts} (day, xs, prices) (other, ys, others) = cc in
+      (ap (λ p. p.0) parts, ap (λ p. p.1) parts, ap (λ p. p.2) parts)
+
+  pub cards_have_no_fault : CardsHaveNoFault
+  cards_have_no_fault bytes day xs prices fault a b =
+      let none : ◌≡◌ {A = Verdict} (Ok (day, xs, prices)) (Err fault) =
+      only_card bytes (Ok (day, xs, prices)) (Err fault) (card_says bytes day xs prices a) (fault_says bytes fault b) in
+      cc
+
+  pub one_card_fault : OneCardFault
+  one_card_fault bytes fault other a b =
+      let same : ◌≡◌ {A = Verdict} (Err fault) (Err other) = only_card bytes (Err fault) (Err other) (fault_says bytes fault a) (fault_says bytes other b) in
+      cc

@@ -37,7 +37,7 @@ ProvingPricesAreTight =
     (m : Parts) (s : Day) (settings : List Setting) (prices : PriceParts) → IsMachine m → IsLegalDay s → ArePrices prices → Proves m s settings prices
     → AreTight (cost_table m s) prices
 
--- no two cards have one text, and a card has no fault
+-- no two cards have one text, a card has no fault, and bytes have one at most
 abbrev pub TextsTellCards : Type 0
 TextsTellCards =
     (bytes : List ℕ) (day other : ℕ) (xs ys : List Setting) (prices others : PriceParts) → IsCard bytes day xs prices → IsCard bytes other ys others
@@ -45,3 +45,6 @@ TextsTellCards =
 
 abbrev pub CardsHaveNoFault : Type 0
 CardsHaveNoFault = (bytes : List ℕ) (day : ℕ) (xs : List Setting) (prices : PriceParts) (fault : CardFault) → IsCard bytes day xs prices → ¬ (IsCardFault bytes fault)
+
+abbrev pub OneCardFault : Type 0
+OneCardFault = (bytes : List ℕ) (fault other : CardFault) → IsCardFault bytes fault → IsCardFault bytes other → fault ≡ other

@@ -1,5 +1,5 @@
 //! What holds of cards.
-ghost use Rattle.kd_card.specs.Laws.{TextsTellCards, CardsHaveNoFault};
+ghost use Rattle.kd_card.specs.Laws.{TextsTellCards, CardsHaveNoFault, OneCardFault};
 ghost use Rattle.kd_card.specs.Laws.{FittingPricesBoundLists, ProvingCardsAreAsLong, ProvingCardsAreShortest, ProvingPricesAreTight};
 
 use kd_state::laws::{
@@ -8,10 +8,12 @@ use kd_state::laws::{
     texts_tell_first_parts,
 };
 
-/// No two cards have one text, and a card's text has no fault. So it is not the front of another card's text either.
+/// No two cards have one text, and a card's text has no fault. So it is not the front of another card's text either. Bytes
+/// that are no card have one fault.
 pub fn no_two_cards_have_one_text()
     ensures card { TextsTellCards }
     ensures no_fault { CardsHaveNoFault }
+    ensures one_fault { OneCardFault }
 {
     lines_tell_words();
     texts_tell_first_parts();

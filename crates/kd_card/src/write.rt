@@ -37,6 +37,7 @@ pub fn write_card<W: Sink>(sink: &mut W, day: u8, card: &Card) -> Result<(), Dev
 fn text_of(day: u8, card: &Card) -> ArrayString<LONGEST>
     ensures bytes { result.bytes ≡ card_text day card.now.settings.items card.now.prices }
     ensures in_range { All IsInRange card.now.settings.items }
+    ensures few { length card.now.settings.items ≤ 192 }
 {
     let mut text = ArrayString::new();
     push_head(&mut text, day);

@@ -3,8 +3,8 @@ use Rattle.std.proofs.lemmas.Int.{to_z-of_z}
 use Rattle.kd_card.proofs.Lines.{written}
 use Rattle.kd_card.proofs.write.text_of.Goals as goal
 
-pub returns : goal.returns
-returns c =
+pub returns-clause-bytes : goal.returns-clause-bytes
+returns-clause-bytes c =
     let fits : FitsSigned w32 c.sum.result = search rules in
     written c.args.day c.len.result c.args.card.now.settings.items c.as_slice.result.now c.args.card.now.prices _ c.new-text.result.bytes
     c.push_head.new.text.bytes c.push_settings.new.text.bytes c.push_count.new.text.bytes c.push_prices.new.text.bytes c.push_sum.new.text.bytes
