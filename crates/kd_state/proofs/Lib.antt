@@ -12,6 +12,7 @@ mod Places
 mod CostTables
 mod DayPairs
 mod Joined
+mod BarsMoved
 mod Keys
 mod OnKey
 mod OnWheels

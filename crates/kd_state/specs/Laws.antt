@@ -90,6 +90,15 @@ ListsHaveNoFault = (bytes : List ℕ) (xs : List Setting) (fault : ListFault) �
 abbrev pub OneListFault : Type 0
 OneListFault = (bytes : List ℕ) (fault other : ListFault) → IsListFault bytes fault → IsListFault bytes other → fault ≡ other
 
+-- an engine with the machine's key makes of each text what the machine makes of it; and so does one that is turned to other
+-- letters, of the machine that shows these
+abbrev pub EngineIsTheMachine : Type 0
+EngineIsTheMachine = (m : Parts) (text : List ℕ) → cipher (physical_key m) text ≡ physical_cipher m text
+
+abbrev pub TurnedEngineIsTheTurnedMachine : Type 0
+TurnedEngineIsTheTurnedMachine = (m n : Parts) (window text : List ℕ) → IsTurned m window n
+    → cipher (key_with_window (physical_key m) window) text ≡ physical_cipher n text
+
 -- a machine that reads as the day is ready, and enciphers as the day's own machine
 abbrev pub ReadingIsReady : Type 0
 ReadingIsReady = (m : Parts) (s : Day) → IsMachine m → IsLegalDay s → ReadsAs m s → IsReady m

@@ -9,6 +9,7 @@ pub mod Line
 pub mod SheetDay
 pub mod Entry
 pub mod OnKey
+pub mod Lugs
 pub mod TwoCiphers
 pub mod Seated
 pub mod Engine

@@ -6,6 +6,7 @@ ghost use Rattle.kd_state.specs.Laws.{AllowedWheelsLieInTheBox, WheelsHavePlaces
 ghost use Rattle.kd_state.specs.Laws.{SettingsHaveWords, LinesTellSettings, TextsTellLists, ListsHaveNoFault, OneListFault};
 ghost use Rattle.kd_state.specs.Laws.{SettingsKeepMachines, ListsKeepMachines, RefusesOrCarries, CarriesToOne, LeadsToOne};
 ghost use Rattle.kd_state.specs.Laws.{SeatsAreByTheTables, ReflectorsAreByTheTables, RingsAreByTheTables};
+ghost use Rattle.kd_state.specs.Laws.{EngineIsTheMachine, TurnedEngineIsTheTurnedMachine};
 ghost use Rattle.kd_state.specs.Laws.{ReadingIsReady, ReadingIsItsCipher, OnKeyIsReady, OnKeyIsItsCipher};
 ghost use Rattle.kd_state.specs.Laws.{TurnedIsOnKey, TurnedHasItsKey, TurnedHasTheDaysCipher, MachinesCanBeTurned, EquallySetDecipher};
 ghost use Rattle.kd_state.specs.Laws.{TheDayDeciphersItself, CipherInTurn, KeyInTurn};
@@ -80,6 +81,13 @@ pub fn tables_say_what_is_refused()
     ensures seats { SeatsAreByTheTables }
     ensures reflectors { ReflectorsAreByTheTables }
     ensures rings { RingsAreByTheTables }
+{}
+
+/// An engine with a machine's key enciphers as the machine itself, by its own parts; turned to other letters, as the machine
+/// that shows these.
+pub fn engines_encipher_as_their_machines()
+    ensures standing { EngineIsTheMachine }
+    ensures turned { TurnedEngineIsTheTurnedMachine }
 {}
 
 /// A machine that reads as the day is ready, and enciphers as the day's own machine.
