@@ -24,3 +24,4 @@ mod Standings
 mod Turnable
 pub mod Keeping
 pub mod Carrying
+mod Changing

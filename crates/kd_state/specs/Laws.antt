@@ -15,6 +15,7 @@ use Rattle.kd_state.specs.declared.sheet_wheel.SheetWheel.{SheetWheel}
 use Rattle.kd_state.specs.Box.{same_wheel, same_reflector, place_in_box}
 use Rattle.kd_state.specs.Machine.{IsMachine}
 use Rattle.kd_state.specs.Setting.{has_letter, why_refused, Carries, Leads}
+use Rattle.kd_state.specs.Changes.{Makes}
 use Rattle.kd_state.specs.Words.{IsWord}
 use Rattle.kd_state.specs.Line.{setting_words, setting_line, IsInRange, IsList, IsListFault}
 use Rattle.kd_state.specs.SheetDay.{seats, AreSeated, Day, IsLegalDay}
@@ -61,6 +62,10 @@ CarriesToOne = (m n o : Parts) (x : Setting) → Carries m x n → Carries m x o
 
 abbrev pub LeadsToOne : Type 0
 LeadsToOne = (m n o : Parts) (xs : List Setting) → Leads m xs n → Leads m xs o → n ≡ o
+
+-- what a setting that is carried out changes, and that it changes nothing else, as the readers tell it
+abbrev pub SettingsAreTold : Type 0
+SettingsAreTold = (m n : Parts) (x : Setting) → IsMachine m → Carries m x n → Makes m x n
 
 -- a seat, a reflector and a ring are refused exactly where the tables don't allow them
 abbrev pub SeatsAreByTheTables : Type 0

@@ -4,6 +4,7 @@ pub mod Box
 pub mod Pins
 pub mod Machine
 pub mod Setting
+pub mod Changes
 pub mod Words
 pub mod Line
 pub mod SheetDay
