@@ -35,11 +35,11 @@ use Rattle.kd_state.specs.Line.{IsInRange}
 use Rattle.kd_state.proofs.Cables.{all_ordered, all_ordered_move, all_ordered_again, ordered_again, without_ordered, without_moves, with_moves, set_moves, eqb_flips, free_of_absent}
 use Rattle.kd_state.proofs.Reasons.{none_holds}
 use Rattle.kd_state.proofs.Rings.{all_pins, has_letter-Decides}
-use Rattle.kd_state.proofs.Slots.{is_numbered, numbered_at}
+use Rattle.kd_state.proofs.Slots.{is_numbered, numbered_at, set_other}
 use Rattle.kd_state.proofs.Wheels.{has_wheel-Decides, has_reflector-Decides, same_wheel-Decides, placed}
 
 -- what is there
-not_none : {X : Type 0} (found : Option X) → is_none found ≡ false → (x : X) × (found ≡ Some x)
+pub not_none : {X : Type 0} (found : Option X) → is_none found ≡ false → (x : X) × (found ≡ Some x)
 not_none None e = absurd (false≢true (sym e))
 not_none (Some x) e = (x, refl)
 
@@ -126,13 +126,6 @@ set_same : {X : Type 0} (xs : List X) (place : ℕ) (x y : X) → slice_get (set
 set_same [] place x y e = absurd (none-some _ e)
 set_same (first ∷ xs) zero x y e = same_Some _ _ e
 set_same (first ∷ xs) (suc place) x y e = set_same xs place x y e
-
-set_other : {X : Type 0} (xs : List X) (place at : ℕ) (x : X) → at ≢ place → slice_get (set xs place x) at ≡ slice_get xs at
-set_other [] place at x h = refl
-set_other (first ∷ xs) zero zero x h = absurd (h refl)
-set_other (first ∷ xs) zero (suc at) x h = refl
-set_other (first ∷ xs) (suc place) zero x h = refl
-set_other (first ∷ xs) (suc place) (suc at) x h = set_other xs place at x (λ e. h (ap suc e))
 
 seated_row : (model : Model) (slots : List (Option Wheel)) (slot : ℕ) (wheel : Wheel) → IsRow model slots → IsAllowed model slot wheel → IsRow model (set (map (without wheel) slots) (slot - 1) (Some wheel))
 seated_row model slots slot wheel h allowed =

@@ -15,11 +15,12 @@ use Rattle.kd_state.specs.declared.parts.Parts.TheVariants.{Rotor, Pin}
 use Rattle.kd_state.specs.declared.rotor_parts.RotorParts.{RotorParts}
 use Rattle.kd_state.specs.declared.pin_parts.PinParts.{PinParts}
 use Rattle.kd_state.specs.declared.sheet_wheel.SheetWheel.{SheetWheel}
-use Rattle.kd_state.specs.Laws.{ReadingIsReady, ReadingIsItsCipher, OnKeyIsReady, OnKeyIsItsCipher, TurnedHasTheDaysCipher, EquallySetDecipher, TheDayDeciphersItself, TurnedIsOnKey, TurnedHasItsKey}
+use Rattle.kd_state.specs.Laws.{TurnedEngineIsTheTurnedMachine, ReadingIsReady, ReadingIsItsCipher, OnKeyIsReady, OnKeyIsItsCipher, TurnedHasTheDaysCipher, EquallySetDecipher, TheDayDeciphersItself, TurnedIsOnKey, TurnedHasItsKey}
 use Rattle.kd_state.specs.Machine.{IsMachine, AreCables, ring_at, letter_at}
 use Rattle.kd_state.specs.OnKey.{OnKey, IsRotorOnKey, IsPinOnKey}
 use Rattle.kd_state.specs.SheetDay.{RotorDay, Day, OfRotors, OfPins, IsLegalDay, IsLegalRotorDay}
 use Rattle.kd_state.specs.TwoCiphers.{EngineKey, OfWheels, cipher, key_with_window, IsRotorReady, window_of, plugged_pairs, physical_key, physical_cipher, sheet_key, IsTurned}
+use Rattle.kd_state.proofs.BarsMoved.{engine_cipher}
 use Rattle.kd_state.proofs.DayPairs.{whole_cables, pairs_joined}
 use Rattle.kd_state.proofs.Pairs.{no_letter_twice}
 use Rattle.kd_state.proofs.Seating.{all_seated, read_all, wheels_of_slots}
@@ -66,15 +67,19 @@ module _ (alike : SamePairsExchangeAlike) where
       let met : (count : ℕ) → bars_met (key rows) count ≡ bars_met (key others) count = λ count. sym (sum_by-IsPermutation _ rows others moved) in
       λ i. map (λ (numbered : ℕ × ℕ). (25 + met numbered.0 i - numbered.1) % 26) (enumerate_from 0 text)
 
-  cipher_on_key : (m : Parts) (s : Day) (window text : List ℕ) → IsCabled m → IsLegalDay s → OnKey m s → window_of m ≡ window
-      → physical_cipher m text ≡ cipher (key_with_window (sheet_key s) window) text
-  cipher_on_key (Rotor m) (OfRotors s) window text cables legal h shows = ap (λ key. cipher key text) (rotor_key m s window cables legal h shows)
-  cipher_on_key (Pin m) (OfPins s) window text machine legal h shows =
+  key_on_key : (m : Parts) (s : Day) (window text : List ℕ) → IsCabled m → IsLegalDay s → OnKey m s → window_of m ≡ window
+      → cipher (physical_key m) text ≡ cipher (key_with_window (sheet_key s) window) text
+  key_on_key (Rotor m) (OfRotors s) window text cables legal h shows = ap (λ key. cipher key text) (rotor_key m s window cables legal h shows)
+  key_on_key (Pin m) (OfPins s) window text machine legal h shows =
       ap (λ pins. converter_cipher (record { pins = pins_of pins; letters = m.letters; rows = map (λ bar. reading_of bar.0 bar.1) m.bars }) text) h.pins
       ∙ ap (λ letters. converter_cipher (record { pins = pins_of s.pins; letters = letters; rows = map (λ bar. reading_of bar.0 bar.1) m.bars }) text) shows
       ∙ converter_alike (pins_of s.pins) window (map (λ bar. reading_of bar.0 bar.1) m.bars) s.rows text h.rows
-  cipher_on_key (Rotor m) (OfPins s) window text machine legal h shows = absurd h
-  cipher_on_key (Pin m) (OfRotors s) window text machine legal h shows = absurd h
+  key_on_key (Rotor m) (OfPins s) window text machine legal h shows = absurd h
+  key_on_key (Pin m) (OfRotors s) window text machine legal h shows = absurd h
+
+  cipher_on_key : (m : Parts) (s : Day) (window text : List ℕ) → IsCabled m → IsLegalDay s → OnKey m s → window_of m ≡ window
+      → physical_cipher m text ≡ cipher (key_with_window (sheet_key s) window) text
+  cipher_on_key m s window text cables legal h shows = sym (engine_cipher m text) ∙ key_on_key m s window text cables legal h shows
 
   pub on_key_cipher : OnKeyIsItsCipher
   on_key_cipher m s text machine legal h = cipher_on_key m s (window_of m) text (cabled m machine) legal h refl
@@ -125,6 +130,10 @@ turned_key (Rotor m) (Rotor n) window turned = turned_rotor_key m n window turne
 turned_key (Pin m) (Pin n) window turned = ap (λ (k : PinParts). physical_key (Pin k)) turned
 turned_key (Rotor m) (Pin n) window turned = absurd turned
 turned_key (Pin m) (Rotor n) window turned = absurd turned
+
+-- so an engine with the machine's key, turned to other letters, enciphers as the turned machine
+pub turned_engine : TurnedEngineIsTheTurnedMachine
+turned_engine m n window text turned = ap (λ key. cipher key text) (sym (turned_key m n window turned)) ∙ engine_cipher n text
 
 turned_cabled : (m n : Parts) (window : List ℕ) → IsTurned m window n → IsCabled m → IsCabled n
 turned_cabled (Rotor m) (Rotor n) window turned h = subst (λ (k : RotorParts). AreCables k.cables) (sym turned.0) h

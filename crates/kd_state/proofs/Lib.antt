@@ -12,6 +12,7 @@ mod Places
 mod CostTables
 mod DayPairs
 mod Joined
+mod BarsMoved
 mod Keys
 mod OnKey
 mod OnWheels
@@ -23,3 +24,4 @@ mod Standings
 mod Turnable
 pub mod Keeping
 pub mod Carrying
+mod Changing

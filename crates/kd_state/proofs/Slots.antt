@@ -1,5 +1,5 @@
 -- What stands in the slots, and things counted from 1.
-use Rattle.std.proofs.Common.{◌≡◌, ℕ, zero, suc, ◌+◌, ◌-◌, ◌<◌, ◌≤◌, inl, inr, List, length, take, get_or, Contains, Option, Some, None, IfSome, slice_get, refl, sym, ap, ◌∙◌, arith, add-one}
+use Rattle.std.proofs.Common.{◌≡◌, ◌≢◌, ℕ, zero, suc, ◌+◌, ◌-◌, ◌<◌, ◌≤◌, inl, inr, List, [], ◌∷◌, length, take, get_or, set, Contains, Option, Some, None, IfSome, slice_get, refl, sym, ap, ◌∙◌, subst, arith, add-one}
 use Rattle.std.proofs.lemmas.Bool.{cases_eq}
 use Rattle.std.proofs.lemmas.List.{get_or-take, length-take, get_or_default}
 use Rattle.std.proofs.lemmas.Option.{slice_get_within, slice_get-get_or, get_or_from_slice_get, same_Some}
@@ -26,6 +26,29 @@ is_numbered xs (suc place) x h =
 
 pub numbered_at : {X : Type 0} (xs : List X) (place : ℕ) → numbered xs (place + 1) ≡ slice_get xs place
 numbered_at xs place = rw add-one refl
+
+-- one thing was set: what is read there, and at another place or number
+pub set_here : {X : Type 0} (xs : List X) (place : ℕ) (x : X) → place < length xs → slice_get (set xs place x) place ≡ Some x
+set_here [] place x below = absurd (omega arith)
+set_here (first ∷ xs) zero x below = refl
+set_here (first ∷ xs) (suc place) x below = set_here xs place x (omega arith)
+
+pub set_other : {X : Type 0} (xs : List X) (place at : ℕ) (x : X) → at ≢ place → slice_get (set xs place x) at ≡ slice_get xs at
+set_other [] place at x h = refl
+set_other (first ∷ xs) zero zero x h = absurd (h refl)
+set_other (first ∷ xs) zero (suc at) x h = refl
+set_other (first ∷ xs) (suc place) zero x h = refl
+set_other (first ∷ xs) (suc place) (suc at) x h = set_other xs place at x (λ e. h (ap suc e))
+
+pub numbered_here : {X : Type 0} (xs : List X) (number : ℕ) (x : X) → 1 ≤ number → number ≤ length xs → numbered (set xs (number - 1) x) number ≡ Some x
+numbered_here xs zero x first last = absurd (omega arith)
+numbered_here xs (suc place) x first last =
+    let place_is : place ≡ suc place - 1 = omega arith in
+    subst (λ (p : ℕ). slice_get (set xs p x) place ≡ Some x) place_is (set_here xs place x (omega arith))
+
+pub numbered_other : {X : Type 0} (xs : List X) (number other : ℕ) (x : X) → 1 ≤ number → other ≢ number → numbered (set xs (number - 1) x) other ≡ numbered xs other
+numbered_other xs number zero x first h = refl
+numbered_other xs number (suc at) x first h = set_other xs (number - 1) at x (λ e. h (omega (arith, e, first)))
 
 -- a wheel in a slot
 pub stands_within : (slots : List (Option Wheel)) (place : ℕ) (wheel : Wheel) → StandsAt slots place wheel → place < length slots

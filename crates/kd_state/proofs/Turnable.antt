@@ -1,34 +1,21 @@
 -- A ready machine can be turned to each window.
-use Rattle.std.proofs.Common.{◌≡◌, ◌≢◌, ℕ, zero, suc, ◌+◌, ◌<◌, List, [], ◌∷◌, length, set, get_or, slice_get, filter_map, All, Contains, Option, Some, None, refl, sym, ap, ◌∙◌, subst, arith, length-set}
+use Rattle.std.proofs.Common.{◌≡◌, ◌≢◌, ℕ, zero, suc, ◌+◌, ◌<◌, List, [], ◌∷◌, length, set, slice_get, filter_map, All, Contains, Option, Some, None, refl, ap, ◌∙◌, subst, arith, length-set}
 use Rattle.std.specs.List.{AllByRecursion, cons_option}
 use Rattle.std.proofs.lemmas.List.Elements.{All-set, All-head, All-tail}
-use Rattle.std.proofs.lemmas.List.Sums.{passes_at_first}
 use Rattle.kd_tables.specs.declared.model.Model.{Model}
 use Rattle.kd_tables.specs.declared.wheel.Wheel.{Wheel}
-use Rattle.kd_tables.specs.declared.wheel.Wheel.TheVariants.{I}
 use Rattle.kd_tables.specs.Tables.{box_of}
 use Rattle.kd_state.specs.declared.parts.Parts.{Parts}
 use Rattle.kd_state.specs.declared.parts.Parts.TheVariants.{Rotor, Pin}
 use Rattle.kd_state.specs.declared.rotor_parts.RotorParts.{RotorParts}
 use Rattle.kd_state.specs.declared.pin_parts.PinParts.{PinParts}
-use Rattle.kd_state.specs.Box.{same_wheel, place_in_box}
+use Rattle.kd_state.specs.Box.{place_in_box}
 use Rattle.kd_state.specs.Laws.{MachinesCanBeTurned}
 use Rattle.kd_state.specs.Machine.{StandsAt, AreApart, AreLetters, AreOnWheels, IsMachine}
 use Rattle.kd_state.specs.TwoCiphers.{IsTurned, seated_wheels}
-use Rattle.kd_state.proofs.Wheels.{same_wheel-Decides, placed, place_within}
-
--- one element after another was written
-get_same : (xs : List ℕ) (i x : ℕ) → i < length xs → slice_get (set xs i x) i ≡ Some x
-get_same [] i x below = absurd (omega arith)
-get_same (y ∷ ys) zero x below = refl
-get_same (y ∷ ys) (suc i) x below = get_same ys i x (omega arith)
-
-get_other : (xs : List ℕ) (i j x : ℕ) → j ≢ i → slice_get (set xs i x) j ≡ slice_get xs j
-get_other [] i j x h = refl
-get_other (y ∷ ys) zero zero x h = absurd (h refl)
-get_other (y ∷ ys) zero (suc j) x h = refl
-get_other (y ∷ ys) (suc i) zero x h = refl
-get_other (y ∷ ys) (suc i) (suc j) x h = get_other ys i j x (λ e. h (ap suc e))
+use Rattle.kd_state.proofs.Places.{places_tell_wheels}
+use Rattle.kd_state.proofs.Slots.{set_here, set_other}
+use Rattle.kd_state.proofs.Wheels.{placed, place_within}
 
 -- letters put in their places, one for each wheel
 module _ (place : Wheel → ℕ) where
@@ -59,7 +46,7 @@ module _ (place : Wheel → ℕ) where
       → filter_map (λ wheel. slice_get (set xs i x) (place wheel)) wheels ≡ filter_map (λ wheel. slice_get xs (place wheel)) wheels
   still_read [] xs i x h = refl
   still_read (wheel ∷ wheels) xs i x h =
-      ap (λ found. cons_option found (filter_map (λ wheel. slice_get (set xs i x) (place wheel)) wheels)) (get_other xs i (place wheel) x h.0)
+      ap (λ found. cons_option found (filter_map (λ wheel. slice_get (set xs i x) (place wheel)) wheels)) (set_other xs i (place wheel) x h.0)
       ∙ ap (cons_option (slice_get xs (place wheel))) (still_read wheels xs i x h.1)
 
   read_put : (wheels : List Wheel) (window letters : List ℕ) → length window ≡ length wheels → AllByRecursion (λ wheel. place wheel < length letters) wheels → HavePlaces wheels
@@ -71,7 +58,7 @@ module _ (place : Wheel → ℕ) where
   read_put (wheel ∷ wheels) (letter ∷ window) letters same below apart =
       let rest = put wheels window letters in
       let within : place wheel < length rest = omega (arith, below.0, length-put wheels window letters) in
-      ap (λ found. cons_option found (filter_map (λ other. slice_get (set rest (place wheel) letter) (place other)) wheels)) (get_same rest (place wheel) letter within)
+      ap (λ found. cons_option found (filter_map (λ other. slice_get (set rest (place wheel) letter) (place other)) wheels)) (set_here rest (place wheel) letter within)
       ∙ ap (λ read. letter ∷ read) (still_read wheels rest (place wheel) letter apart.0 ∙ read_put wheels window letters (omega arith) below.1 apart.1)
 
 -- what holds of each wheel that stands in a slot
@@ -80,13 +67,6 @@ each_standing : (Q : Wheel → Type 0) (slots : List (Option Wheel)) → ((k : �
 each_standing Q [] h = tt
 each_standing Q (None ∷ slots) h = each_standing Q slots (λ k. h (suc k))
 each_standing Q (Some wheel ∷ slots) h = (h zero wheel refl, each_standing Q slots (λ k. h (suc k)))
-
-wheel_of_place : (model : Model) (wheel other : Wheel) → Contains (box_of model) wheel → Contains (box_of model) other → place_in_box model wheel ≡ place_in_box model other → wheel ≡ other
-wheel_of_place model wheel other h k e =
-    let box = box_of model in
-    let here = (same_wheel-Decides wheel (get_or box (place_in_box model wheel) I)).0 (passes_at_first (same_wheel wheel) box I (place_within model wheel h)) in
-    let there = (same_wheel-Decides other (get_or box (place_in_box model other) I)).0 (passes_at_first (same_wheel other) box I (place_within model other k)) in
-    here ∙ ap (λ place. get_or box place I) e ∙ sym there
 
 one_less : (j k : ℕ) → suc j ≡ suc k → j ≡ k
 one_less j k e = omega arith
@@ -102,7 +82,7 @@ places_apart model (None ∷ slots) apart boxed = places_apart model slots (λ j
 places_apart model (Some wheel ∷ slots) apart boxed = (
   each_standing (λ other. place_in_box model other ≢ place_in_box model wheel) slots
       (λ k other at e. first_apart k (apart zero (suc k) wheel refl
-      (subst (StandsAt slots k) (wheel_of_place model other wheel (boxed (suc k) other at) (boxed zero wheel refl) e) at))),
+      (subst (StandsAt slots k) (places_tell_wheels model other wheel (boxed (suc k) other at) (boxed zero wheel refl) e) at))),
   places_apart model slots (λ j k other a b. one_less j k (apart (suc j) (suc k) other a b)) (λ k. boxed (suc k)),
 )
 

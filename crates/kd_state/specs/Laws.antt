@@ -15,6 +15,7 @@ use Rattle.kd_state.specs.declared.sheet_wheel.SheetWheel.{SheetWheel}
 use Rattle.kd_state.specs.Box.{same_wheel, same_reflector, place_in_box}
 use Rattle.kd_state.specs.Machine.{IsMachine}
 use Rattle.kd_state.specs.Setting.{has_letter, why_refused, Carries, Leads}
+use Rattle.kd_state.specs.Changes.{Makes}
 use Rattle.kd_state.specs.Words.{IsWord}
 use Rattle.kd_state.specs.Line.{setting_words, setting_line, IsInRange, IsList, IsListFault}
 use Rattle.kd_state.specs.SheetDay.{seats, AreSeated, Day, IsLegalDay}
@@ -62,6 +63,10 @@ CarriesToOne = (m n o : Parts) (x : Setting) → Carries m x n → Carries m x o
 abbrev pub LeadsToOne : Type 0
 LeadsToOne = (m n o : Parts) (xs : List Setting) → Leads m xs n → Leads m xs o → n ≡ o
 
+-- what a setting that is carried out changes, and that it changes nothing else, as the readers tell it
+abbrev pub SettingsAreTold : Type 0
+SettingsAreTold = (m n : Parts) (x : Setting) → IsMachine m → Carries m x n → Makes m x n
+
 -- a seat, a reflector and a ring are refused exactly where the tables don't allow them
 abbrev pub SeatsAreByTheTables : Type 0
 SeatsAreByTheTables = (m : RotorParts) (slot : ℕ) (wheel : Wheel) → (why_refused (Rotor m) (Seat slot wheel) ≡ None) ↔ IsAllowed m.model slot wheel
@@ -89,6 +94,15 @@ ListsHaveNoFault = (bytes : List ℕ) (xs : List Setting) (fault : ListFault) �
 
 abbrev pub OneListFault : Type 0
 OneListFault = (bytes : List ℕ) (fault other : ListFault) → IsListFault bytes fault → IsListFault bytes other → fault ≡ other
+
+-- an engine with the machine's key makes of each text what the machine makes of it; and so does one that is turned to other
+-- letters, of the machine that shows these
+abbrev pub EngineIsTheMachine : Type 0
+EngineIsTheMachine = (m : Parts) (text : List ℕ) → cipher (physical_key m) text ≡ physical_cipher m text
+
+abbrev pub TurnedEngineIsTheTurnedMachine : Type 0
+TurnedEngineIsTheTurnedMachine = (m n : Parts) (window text : List ℕ) → IsTurned m window n
+    → cipher (key_with_window (physical_key m) window) text ≡ physical_cipher n text
 
 -- a machine that reads as the day is ready, and enciphers as the day's own machine
 abbrev pub ReadingIsReady : Type 0

@@ -4,11 +4,13 @@ pub mod Box
 pub mod Pins
 pub mod Machine
 pub mod Setting
+pub mod Changes
 pub mod Words
 pub mod Line
 pub mod SheetDay
 pub mod Entry
 pub mod OnKey
+pub mod Lugs
 pub mod TwoCiphers
 pub mod Seated
 pub mod Engine

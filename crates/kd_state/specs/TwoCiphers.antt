@@ -1,4 +1,5 @@
--- The cipher of the machine as it stands, and the cipher that a day of the sheet asks for.
+-- The cipher of the machine as it stands, and the cipher that a day of the sheet asks for. Neither names the other's parts: the
+-- machine's is said by its slots, cables and lugs, and the day's by the wheels, pairs and rows of the entry.
 use Rattle.std.specs.Prelude.{◌≡◌, ◌≢◌, ℕ, List, length, map, All, IsSome, Option, Some, None}
 use Rattle.std.specs.List.{filter_map}
 use Rattle.kd_tables.specs.declared.wheel.Wheel.{Wheel}
@@ -12,6 +13,7 @@ use Rattle.kd_state.specs.declared.parts.Parts.{Parts}
 use Rattle.kd_state.specs.declared.parts.Parts.TheVariants.{Rotor, Pin}
 use Rattle.kd_state.specs.Machine.{cable_letters, ring_at, letter_at, AreLetters, AreOnWheels}
 use Rattle.kd_state.specs.SheetDay.{Day, OfRotors, OfPins}
+use Rattle.kd_state.specs.Lugs.{lugs_cipher}
 
 -- the key of an engine: that of a rotor machine, or that of a Converter M-209
 pub data EngineKey : Type 0 where
@@ -62,8 +64,8 @@ both_ends _ _ = None
 abbrev pub plugged_pairs : RotorParts → List (ℕ × ℕ)
 plugged_pairs m = filter_map (λ cable. both_ends cable.0 cable.1) m.cables
 
--- The key to which the machine is set as it stands: the seated wheels with their rings and letters, the reflector, and the
--- cables of two letters; or the pins, the letters, and the places of each bar's two lugs.
+-- The key of an engine that is made of the machine: the seated wheels with their rings and letters, the reflector, and the
+-- cables of two letters; or the pins, the letters, and what each bar reads as.
 abbrev pub physical_key : Parts → EngineKey
 physical_key (Rotor m) = OfWheels (record {
   wheels = seated_wheels m;
@@ -89,10 +91,12 @@ sheet_key (OfRotors s) = OfWheels (record {
 })
 sheet_key (OfPins s) = OfDrum (record { pins = pins_of s.pins; letters = s.window; rows = s.rows })
 
--- what a ready machine makes of a text, and what the day's own machine does
+-- what a ready machine makes of a text, by its seated wheels, reflector and cables, or by its pins, letters and lugs
 abbrev pub physical_cipher : Parts → List ℕ → List ℕ
-physical_cipher m = cipher (physical_key m)
+physical_cipher (Rotor m) text = cipher (physical_key (Rotor m)) text
+physical_cipher (Pin m) text = lugs_cipher m text
 
+-- what the day's own machine makes of a text
 abbrev pub sheet_cipher : Day → List ℕ → List ℕ
 sheet_cipher s = cipher (sheet_key s)
 

@@ -5,7 +5,9 @@ ghost use Rattle.kd_state.specs.Laws.{NamesTellWheels, NamesTellReflectors};
 ghost use Rattle.kd_state.specs.Laws.{AllowedWheelsLieInTheBox, WheelsHavePlaces, PlacesTellWheels, DaysWheelsHaveTheirPlaces};
 ghost use Rattle.kd_state.specs.Laws.{SettingsHaveWords, LinesTellSettings, TextsTellLists, ListsHaveNoFault, OneListFault};
 ghost use Rattle.kd_state.specs.Laws.{SettingsKeepMachines, ListsKeepMachines, RefusesOrCarries, CarriesToOne, LeadsToOne};
+ghost use Rattle.kd_state.specs.Laws.{SettingsAreTold};
 ghost use Rattle.kd_state.specs.Laws.{SeatsAreByTheTables, ReflectorsAreByTheTables, RingsAreByTheTables};
+ghost use Rattle.kd_state.specs.Laws.{EngineIsTheMachine, TurnedEngineIsTheTurnedMachine};
 ghost use Rattle.kd_state.specs.Laws.{ReadingIsReady, ReadingIsItsCipher, OnKeyIsReady, OnKeyIsItsCipher};
 ghost use Rattle.kd_state.specs.Laws.{TurnedIsOnKey, TurnedHasItsKey, TurnedHasTheDaysCipher, MachinesCanBeTurned, EquallySetDecipher};
 ghost use Rattle.kd_state.specs.Laws.{TheDayDeciphersItself, CipherInTurn, KeyInTurn};
@@ -75,11 +77,23 @@ pub fn a_setting_is_refused_or_carried()
     ensures lists_to_one { LeadsToOne }
 {}
 
+/// A setting that is carried out changes what it says, and nothing else: as each reader of the machine tells it.
+pub fn readers_tell_what_settings_change()
+    ensures { SettingsAreTold }
+{}
+
 /// A seat, a reflector and a ring are refused exactly where the tables don't allow them.
 pub fn tables_say_what_is_refused()
     ensures seats { SeatsAreByTheTables }
     ensures reflectors { ReflectorsAreByTheTables }
     ensures rings { RingsAreByTheTables }
+{}
+
+/// An engine with a machine's key enciphers as the machine itself, by its own parts; turned to other letters, as the machine
+/// that shows these.
+pub fn engines_encipher_as_their_machines()
+    ensures standing { EngineIsTheMachine }
+    ensures turned { TurnedEngineIsTheTurnedMachine }
 {}
 
 /// A machine that reads as the day is ready, and enciphers as the day's own machine.

@@ -1,0 +1,430 @@
+-- What a setting that is carried out changes is what the readers tell, and nothing else.
+use Rattle.std.proofs.Common.{◌≡◌, ◌≢◌, ◌⊎◌, ◌↔◌, ℕ, zero, suc, ◌-◌, ◌<◌, ◌≤◌, Bool, true, false, not, nat_eq, List, [], ◌∷◌, length, map, set, Contains, Option, Some, None, slice_get, refl, sym, ap, ◌∙◌, inl, inr, subst, arith}
+use Rattle.std.specs.List.{IsDistinct}
+use Rattle.std.specs.List.Sorted.{IsPermutation}
+use Rattle.std.specs.Option.{is_none, is_some, option_map, option_map_or, option_and_then, unwrap_or}
+use Rattle.std.proofs.lemmas.Bool.{cases_eq, cases_Bool, both_ways, eqb-true, not-false, false≢true}
+use Rattle.std.proofs.lemmas.List.{length-map}
+use Rattle.std.proofs.lemmas.List.Elements.{Contains-append_left, Contains-append_right}
+use Rattle.std.proofs.lemmas.List.Quantifiers.{position-Some}
+use Rattle.std.proofs.lemmas.List.Sorted.{Contains-permutation, IsPermutation-sym}
+use Rattle.std.proofs.lemmas.Map.Keys.{IsDistinct-IsPermutation}
+use Rattle.std.proofs.lemmas.Option.{none-some, same_Some, slice_get-map, slice_get_within}
+use Rattle.kd_tables.specs.declared.model.Model.{Model}
+use Rattle.kd_tables.specs.declared.wheel.Wheel.{Wheel}
+use Rattle.kd_tables.specs.declared.reflector.Reflector.{Reflector}
+use Rattle.kd_tables.specs.declared.place.Place.{Place}
+use Rattle.kd_tables.specs.declared.lug.Lug.{Lug}
+use Rattle.kd_tables.specs.declared.lug.Lug.TheVariants.{Left, Right}
+use Rattle.kd_tables.specs.Tables.{box_of, wheels_for}
+use Rattle.kd_tables.specs.Rings.{ring_of, place_on}
+use Rattle.kd_pins.specs.declared.pin_set.PinSet.{PinSet}
+use Rattle.kd_pins.specs.PinWheels.{pins_of}
+use Rattle.kd_state.specs.declared.rotor_parts.RotorParts.{RotorParts}
+use Rattle.kd_state.specs.declared.pin_parts.PinParts.{PinParts}
+use Rattle.kd_state.specs.declared.parts.Parts.{Parts}
+use Rattle.kd_state.specs.declared.parts.Parts.TheVariants.{Rotor, Pin}
+use Rattle.kd_state.specs.declared.setting.Setting.{Setting}
+use Rattle.kd_state.specs.declared.setting.Setting.TheVariants.{Pull, Put, Seat, SeatReflector, RingTo, Turn, PinTo, LugTo}
+use Rattle.kd_state.specs.declared.why.Why.{Why}
+use Rattle.kd_state.specs.declared.why.Why.TheVariants.{NoSuchCable, NotThere, NoLooseEnd, SocketTaken, WheelNotAllowed, SlotEmpty, NotOnWheel, NoSuchBar, PlaceTaken, WouldPass}
+use Rattle.kd_state.specs.Box.{numbered, same_wheel, has_wheel, place_in_box}
+use Rattle.kd_state.specs.Pins.{wheel_pins, pin_at, pin_set, with_pin}
+use Rattle.kd_state.specs.Machine.{cable_letters, plugged_letters, ring_at, letter_at, AreCables, IsLegalRotor, IsLegalPin, IsMachine}
+use Rattle.kd_state.specs.Setting.{has_letter, cable_at, seated_in, is_plugged, cable_without, cable_with, without, with_letter, with_lug, with_lug_at, lug_place, other_lug, other_place, is_at, lies_beyond, why_refused, changed}
+use Rattle.kd_state.specs.Changes.{Thing, TheSlot, TheReflector, TheRing, TheLetter, TheCable, ThePin, TheShown, TheBar, IsKept, KeepsAllBut, SetsOnly, Turns, TakesOut, PutsIn, MovesLug, Makes}
+use Rattle.kd_state.specs.Laws.{SettingsAreTold}
+use Rattle.kd_state.proofs.Cables.{set_moves, without_moves, with_moves, eqb_flips, absent_of_free}
+use Rattle.kd_state.proofs.Keeping.{not_none}
+use Rattle.kd_state.proofs.Places.{places_tell_wheels}
+use Rattle.kd_state.proofs.Reasons.{none_holds}
+use Rattle.kd_state.proofs.Rings.{has_letter-Decides, is_some-place_on}
+use Rattle.kd_state.proofs.Slots.{is_numbered, set_here, set_other, numbered_here, numbered_other, seated_in_box}
+use Rattle.kd_state.proofs.Wheels.{has_wheel-Decides, same_wheel-Decides, same_wheel_self, same_wheel_differs, placed, place_within, place_nowhere}
+
+-- ---- what is kept
+
+record KeepsRotor (IsTouched : Thing → Type 0) (m n : RotorParts) : Type 0 where
+  model : n.model ≡ m.model
+  slots : (slot : ℕ) → ¬ (IsTouched (TheSlot slot)) → numbered n.slots slot ≡ numbered m.slots slot
+  reflector : ¬ (IsTouched TheReflector) → n.reflector ≡ m.reflector
+  rings : (wheel : Wheel) → ¬ (IsTouched (TheRing wheel)) → ring_at n wheel ≡ ring_at m wheel
+  letters : (wheel : Wheel) → ¬ (IsTouched (TheLetter wheel)) → letter_at n wheel ≡ letter_at m wheel
+  cables : (cable : ℕ) → ¬ (IsTouched (TheCable cable)) → numbered n.cables cable ≡ numbered m.cables cable
+
+rotor_kept : (IsTouched : Thing → Type 0) (m n : RotorParts) → KeepsRotor IsTouched m n → (thing : Thing) → ¬ (IsTouched thing) → IsKept (Rotor m) (Rotor n) thing
+rotor_kept IsTouched m n h (TheSlot slot) free = h.slots slot free
+rotor_kept IsTouched m n h TheReflector free = ap Some (h.reflector free)
+rotor_kept IsTouched m n h (TheRing wheel) free = h.rings wheel free
+rotor_kept IsTouched m n h (TheLetter wheel) free = h.letters wheel free
+rotor_kept IsTouched m n h (TheCable cable) free = h.cables cable free
+rotor_kept IsTouched m n h (ThePin wheel letter) free = refl
+rotor_kept IsTouched m n h (TheShown wheel) free = refl
+rotor_kept IsTouched m n h (TheBar bar) free = refl
+
+keeps_rotor : (IsTouched : Thing → Type 0) (m n : RotorParts) → KeepsRotor IsTouched m n → KeepsAllBut IsTouched (Rotor m) (Rotor n)
+keeps_rotor IsTouched m n h = record { model = h.model; others = rotor_kept IsTouched m n h }
+
+record KeepsPin (IsTouched : Thing → Type 0) (m n : PinParts) : Type 0 where
+  pins : (wheel letter : ℕ) → ¬ (IsTouched (ThePin wheel letter)) → pin_at n.pins wheel letter ≡ pin_at m.pins wheel letter
+  shown : (wheel : ℕ) → ¬ (IsTouched (TheShown wheel)) → numbered n.letters wheel ≡ numbered m.letters wheel
+  bars : (bar : ℕ) → ¬ (IsTouched (TheBar bar)) → numbered n.bars bar ≡ numbered m.bars bar
+
+pin_kept : (IsTouched : Thing → Type 0) (m n : PinParts) → KeepsPin IsTouched m n → (thing : Thing) → ¬ (IsTouched thing) → IsKept (Pin m) (Pin n) thing
+pin_kept IsTouched m n h (TheSlot slot) free = refl
+pin_kept IsTouched m n h TheReflector free = refl
+pin_kept IsTouched m n h (TheRing wheel) free = refl
+pin_kept IsTouched m n h (TheLetter wheel) free = refl
+pin_kept IsTouched m n h (TheCable cable) free = refl
+pin_kept IsTouched m n h (ThePin wheel letter) free = h.pins wheel letter free
+pin_kept IsTouched m n h (TheShown wheel) free = h.shown wheel free
+pin_kept IsTouched m n h (TheBar bar) free = h.bars bar free
+
+keeps_pin : (IsTouched : Thing → Type 0) (m n : PinParts) → KeepsPin IsTouched m n → KeepsAllBut IsTouched (Pin m) (Pin n)
+keeps_pin IsTouched m n h = record { model = refl; others = pin_kept IsTouched m n h }
+
+-- ---- cables
+
+one_of : (first other : ℕ) (letters : List ℕ) → Contains (first ∷ letters) other → (first ≡ other) ⊎ Contains letters other
+one_of first other letters (zero, within, is) = inl is
+one_of first other letters (suc place, within, is) = inr (place, omega arith, is)
+
+the_first : (first : ℕ) (letters : List ℕ) → Contains (first ∷ letters) first
+the_first first letters = (0, omega arith, refl)
+
+lies_plugged : (cables : List (Option ℕ × Option ℕ)) (place : ℕ) (cable : Option ℕ × Option ℕ) (letter : ℕ) → slice_get cables place ≡ Some cable
+    → Contains (cable_letters cable) letter → Contains (plugged_letters cables) letter
+lies_plugged [] place cable letter here lies = absurd (none-some cable here)
+lies_plugged (first ∷ cables) zero cable letter here lies =
+    Contains-append_left (cable_letters first) (plugged_letters cables) letter (subst (λ c. Contains (cable_letters c) letter) (sym (same_Some first cable here)) lies)
+lies_plugged (first ∷ cables) (suc place) cable letter here lies =
+    Contains-append_right (cable_letters first) (plugged_letters cables) letter (lies_plugged cables place cable letter here lies)
+
+new_first : (letter : ℕ) (letters : List ℕ) → IsDistinct nat_eq (letter ∷ letters) → has_letter letters letter ≡ false
+unfolding IsDistinct
+new_first letter letters h = absent_of_free letters letter h.0
+
+taken_out : (cables : List (Option ℕ × Option ℕ)) (place letter : ℕ) (cable : Option ℕ × Option ℕ) → AreCables cables → slice_get cables place ≡ Some cable
+    → has_letter (cable_letters cable) letter ≡ true → (other : ℕ)
+    → Contains (cable_letters (cable_without letter cable)) other ↔ (Contains (cable_letters cable) other × (other ≢ letter))
+taken_out cables place letter cable h here there other =
+    let new = cable_without letter cable in
+    let left = plugged_letters (set cables place new) in
+    let moved : IsPermutation (cable_letters cable) (letter ∷ cable_letters new) = without_moves letter cable.0 cable.1 there in
+    let moves : IsPermutation (plugged_letters cables) (letter ∷ left) = set_moves [] (letter ∷ []) cables place cable new here moved in
+    let gone : has_letter left letter ≡ false = new_first letter left (IsDistinct-IsPermutation nat_eq eqb_flips _ _ moves h.apart) in
+    let there_now = set_here cables place new (slice_get_within cables place cable here) in (
+      λ lies. (
+        Contains-permutation _ _ other (IsPermutation-sym _ _ moved) (Contains-append_right (letter ∷ []) (cable_letters new) other lies),
+        λ e. both_ways _ gone ((has_letter-Decides left letter).1 (lies_plugged (set cables place new) place new letter there_now (subst (Contains (cable_letters new)) e lies))),
+      ),
+      λ lay. elim (one_of letter other (cable_letters new) (Contains-permutation _ _ other moved lay.0)) [ inl e ↦ absurd (lay.1 (sym e)) | inr lies ↦ lies ],
+    )
+
+put_into : (letter : ℕ) (cable : Option ℕ × Option ℕ) → is_plugged cable ≡ false → (other : ℕ)
+    → Contains (cable_letters (cable_with letter cable)) other ↔ (Contains (cable_letters cable) other ⊎ (other ≡ letter))
+put_into letter cable loose other =
+    let old = cable_letters cable in
+    let moved : IsPermutation (letter ∷ old) (cable_letters (cable_with letter cable)) = with_moves letter cable.0 cable.1 loose in (
+      λ lies. elim (one_of letter other old (Contains-permutation _ _ other (IsPermutation-sym _ _ moved) lies)) [ inl e ↦ inr (sym e) | inr lay ↦ inl lay ],
+      λ lay. Contains-permutation _ _ other moved (elim lay [
+        | inl lay ↦ Contains-append_right (letter ∷ []) old other lay
+        | inr e ↦ subst (Contains (letter ∷ old)) (sym e) (the_first letter old)
+      ]),
+    )
+
+keeps_cables : (m : RotorParts) (cable : ℕ) (new : Option ℕ × Option ℕ) → 1 ≤ cable
+    → SetsOnly (TheCable cable) (Rotor m) (Rotor (record m { cables = set m.cables (cable - 1) new }))
+keeps_cables m cable new first = keeps_rotor _ m (record m { cables = set m.cables (cable - 1) new }) (record {
+  model = refl;
+  slots = λ _ _. refl;
+  reflector = λ _. refl;
+  rings = λ _ _. refl;
+  letters = λ _ _. refl;
+  cables = λ other free. numbered_other m.cables cable other new first (λ e. free (ap TheCable e));
+})
+
+told_pull : (m : RotorParts) (cable letter : ℕ) → IsLegalRotor m → why_refused (Rotor m) (Pull cable letter) ≡ None → Makes (Rotor m) (Pull cable letter) (changed (Rotor m) (Pull cable letter))
+told_pull m cable letter l allowed =
+    let there_is : List (Bool × Why) = (not (has_letter (cable_letters (cable_at m cable)) letter), NotThere) ∷ [] in
+    let first = none_holds (is_none (numbered m.cables cable)) NoSuchCable there_is allowed in
+    let second = none_holds (not (has_letter (cable_letters (cable_at m cable)) letter)) NotThere [] first.1 in
+    let found = not_none (numbered m.cables cable) first.0 in
+    let at = is_numbered m.cables cable found.0 found.1 in
+    let there : has_letter (cable_letters found.0) letter ≡ true = let h = not-false _ second.0 in rw found.1 at h in
+    let new = cable_without letter (cable_at m cable) in
+    let now = numbered_here m.cables cable new at.first at.last in
+    let out : TakesOut (Rotor m) cable letter (Rotor (record m { cables = set m.cables (cable - 1) new })) =
+    rw (now, found.1) (taken_out m.cables (cable - 1) letter found.0 l.cables at.here there) in
+    (out, keeps_cables m cable new at.first)
+
+told_put : (m : RotorParts) (cable letter : ℕ) → why_refused (Rotor m) (Put cable letter) ≡ None → Makes (Rotor m) (Put cable letter) (changed (Rotor m) (Put cable letter))
+told_put m cable letter allowed =
+    let taken : List (Bool × Why) = (has_letter (plugged_letters m.cables) letter, SocketTaken) ∷ [] in
+    let first = none_holds (is_none (numbered m.cables cable)) NoSuchCable ((is_plugged (cable_at m cable), NoLooseEnd) ∷ taken) allowed in
+    let second = none_holds (is_plugged (cable_at m cable)) NoLooseEnd taken first.1 in
+    let found = not_none (numbered m.cables cable) first.0 in
+    let at = is_numbered m.cables cable found.0 found.1 in
+    let loose : is_plugged found.0 ≡ false = let h = second.0 in rw found.1 at h in
+    let new = cable_with letter (cable_at m cable) in
+    let now = numbered_here m.cables cable new at.first at.last in
+    let into : PutsIn (Rotor m) cable letter (Rotor (record m { cables = set m.cables (cable - 1) new })) =
+    rw (now, found.1) (put_into letter found.0 loose) in
+    (into, keeps_cables m cable new at.first)
+
+-- ---- slots
+
+-- what stands in a slot once the wheel was taken out
+left_there : (wheel : Wheel) (seated : Option Wheel) → seated ≢ Some wheel → without wheel seated ≡ seated
+left_there wheel None free = refl
+left_there wheel (Some other) free = rw (same_wheel_differs wheel other (λ e. free (ap Some (sym e)))) refl
+
+taken_from : (wheel : Wheel) → without wheel (Some wheel) ≡ None
+taken_from wheel = rw (same_wheel_self wheel) refl
+
+numbered-map : {X Y : Type 0} (f : X → Y) (xs : List X) (number : ℕ) → numbered (map f xs) number ≡ option_map f (numbered xs number)
+numbered-map f xs zero = refl
+numbered-map f xs (suc place) = slice_get-map f xs place
+
+not_held : (wheel : Wheel) (held : Option (Option Wheel)) → held ≢ Some (Some wheel) → option_map (without wheel) held ≡ held
+not_held wheel None free = refl
+not_held wheel (Some seated) free = ap Some (left_there wheel seated (λ e. free (ap Some e)))
+
+not_left : (wheel : Wheel) (held : Option (Option Wheel)) → option_map (without wheel) held ≢ Some (Some wheel)
+not_left wheel None e = none-some _ e
+not_left wheel (Some None) e = none-some wheel (same_Some _ _ e)
+not_left wheel (Some (Some other)) e = elim (cases_Bool (same_wheel wheel other)) [
+  | inl same ↦ let gone = same_Some _ _ e in none-some wheel (rw same at gone)
+  | inr differs ↦
+      let stays = same_Some _ _ e in
+      let one : other ≡ wheel = same_Some _ _ (rw differs at stays) in
+      both_ways _ differs ((same_wheel-Decides wheel other).1 (sym one))
+]
+
+told_seat : (m : RotorParts) (slot : ℕ) (wheel : Wheel) → IsLegalRotor m → why_refused (Rotor m) (Seat slot wheel) ≡ None → Makes (Rotor m) (Seat slot wheel) (changed (Rotor m) (Seat slot wheel))
+told_seat m slot wheel l allowed =
+    let first = none_holds (not (has_wheel (wheels_for m.model slot) wheel)) WheelNotAllowed [] allowed in
+    let at = placed m.model slot wheel ((has_wheel-Decides (wheels_for m.model slot) wheel).0 (not-false _ first.0)) in
+    let left = map (without wheel) m.slots in
+    let within : slot ≤ length left = omega (arith, length-map m.slots (without wheel), l.slots, at.last) in
+    let other_is : (other : ℕ) → other ≢ slot → numbered (set left (slot - 1) (Some wheel)) other ≡ option_map (without wheel) (numbered m.slots other) =
+    λ other ne. numbered_other left slot other (Some wheel) at.first ne ∙ numbered-map (without wheel) m.slots other in
+    record {
+      here = numbered_here left slot (Some wheel) at.first within;
+      only = λ other e. elim (cases_eq other slot) [ inl same ↦ same | inr ne ↦ absurd (not_left wheel (numbered m.slots other) (sym (other_is other ne) ∙ e)) ];
+      left = λ held ne e. other_is held ne ∙ ap (option_map (without wheel)) e ∙ ap Some (taken_from wheel);
+      others = keeps_rotor _ m (record m { slots = set left (slot - 1) (Some wheel) }) (record {
+        model = refl;
+        slots = λ other free. other_is other (λ e. free (inl (ap TheSlot e))) ∙ not_held wheel (numbered m.slots other) (λ e. free (inr (other, refl, e)));
+        reflector = λ _. refl;
+        rings = λ _ _. refl;
+        letters = λ _ _. refl;
+        cables = λ _ _. refl;
+      });
+    }
+
+told_reflector : (m : RotorParts) (reflector : Reflector) → Makes (Rotor m) (SeatReflector reflector) (changed (Rotor m) (SeatReflector reflector))
+told_reflector m reflector = (
+  refl,
+  keeps_rotor _ m (record m { reflector = reflector }) (record {
+    model = refl;
+    slots = λ _ _. refl;
+    reflector = λ free. absurd (free refl);
+    rings = λ _ _. refl;
+    letters = λ _ _. refl;
+    cables = λ _ _. refl;
+  }),
+)
+
+-- ---- rings and window letters
+
+places_differ : (model : Model) (wheel other : Wheel) → Contains (box_of model) wheel → other ≢ wheel → place_in_box model other ≢ place_in_box model wheel
+places_differ model wheel other boxed ne e = elim (cases_Bool (has_wheel (box_of model) other)) [
+  | inl has ↦ ne (places_tell_wheels model other wheel ((has_wheel-Decides (box_of model) other).0 has) boxed e)
+  | inr lacks ↦
+      let nowhere = place_nowhere model other (λ has. both_ways _ lacks ((has_wheel-Decides (box_of model) other).1 has)) in
+      omega (arith, place_within model wheel boxed, nowhere, e)
+]
+
+told_ring : (m : RotorParts) (wheel : Wheel) (letter : ℕ) → IsLegalRotor m → why_refused (Rotor m) (RingTo wheel letter) ≡ None → Makes (Rotor m) (RingTo wheel letter) (changed (Rotor m) (RingTo wheel letter))
+told_ring m wheel letter l allowed =
+    let first = none_holds (not (has_wheel (box_of m.model) wheel)) WheelNotAllowed [] allowed in
+    let boxed = (has_wheel-Decides (box_of m.model) wheel).0 (not-false _ first.0) in
+    let place = place_in_box m.model wheel in (
+      set_here m.rings place letter (omega (arith, place_within m.model wheel boxed, l.rings.count)),
+      keeps_rotor _ m (record m { rings = set m.rings place letter }) (record {
+        model = refl;
+        slots = λ _ _. refl;
+        reflector = λ _. refl;
+        rings = λ other free. set_other m.rings place (place_in_box m.model other) letter (places_differ m.model wheel other boxed (λ e. free (ap TheRing e)));
+        letters = λ _ _. refl;
+        cables = λ _ _. refl;
+      }),
+    )
+
+told_letter : (m : RotorParts) (slot letter : ℕ) (wheel : Wheel) → IsLegalRotor m → numbered m.slots slot ≡ Some (Some wheel)
+    → Turns (Rotor m) slot letter (Rotor (record m { letters = set m.letters (place_in_box m.model wheel) letter }))
+told_letter m slot letter wheel l here =
+    let boxed = seated_in_box m.model m.slots slot wheel l.allowed here in
+    let place = place_in_box m.model wheel in (
+      wheel,
+      here,
+      set_here m.letters place letter (omega (arith, place_within m.model wheel boxed, l.letters.count)),
+      keeps_rotor _ m (record m { letters = set m.letters place letter }) (record {
+        model = refl;
+        slots = λ _ _. refl;
+        reflector = λ _. refl;
+        rings = λ _ _. refl;
+        letters = λ other free. set_other m.letters place (place_in_box m.model other) letter (places_differ m.model wheel other boxed (λ e. free (ap TheLetter e)));
+        cables = λ _ _. refl;
+      }),
+    )
+
+is_seated : (held : Option (Option Wheel)) → is_none (unwrap_or held None) ≡ false → (wheel : Wheel) × (held ≡ Some (Some wheel))
+is_seated None e = absurd (false≢true (sym e))
+is_seated (Some None) e = absurd (false≢true (sym e))
+is_seated (Some (Some wheel)) e = (wheel, refl)
+
+told_turn : (m : RotorParts) (slot letter : ℕ) → IsLegalRotor m → why_refused (Rotor m) (Turn slot letter) ≡ None → Makes (Rotor m) (Turn slot letter) (changed (Rotor m) (Turn slot letter))
+told_turn m slot letter l allowed =
+    let first = none_holds (is_none (seated_in m slot)) SlotEmpty [] allowed in
+    let found = is_seated (numbered m.slots slot) first.0 in
+    let seated : seated_in m slot ≡ Some found.0 = ap (λ held. unwrap_or held None) found.1 in
+    subst (λ seated. Turns (Rotor m) slot letter (Rotor (record m { letters = with_letter m seated letter }))) (sym seated)
+    (told_letter m slot letter found.0 l found.1)
+
+-- ---- the Converter
+
+told_shown : (m : PinParts) (wheel letter : ℕ) → why_refused (Pin m) (Turn wheel letter) ≡ None → Makes (Pin m) (Turn wheel letter) (changed (Pin m) (Turn wheel letter))
+told_shown m wheel letter allowed =
+    let first = none_holds (is_none (numbered m.letters wheel)) SlotEmpty ((not (has_letter (ring_of wheel) letter), NotOnWheel) ∷ []) allowed in
+    let found = not_none (numbered m.letters wheel) first.0 in
+    let at = is_numbered m.letters wheel found.0 found.1 in (
+      numbered_here m.letters wheel letter at.first at.last,
+      keeps_pin _ m (record m { letters = set m.letters (wheel - 1) letter }) (record {
+        pins = λ _ _ _. refl;
+        shown = λ other free. numbered_other m.letters wheel other letter at.first (λ e. free (ap TheShown e));
+        bars = λ _ _. refl;
+      }),
+    )
+
+-- six lists are the pins that are made of them
+six_lists : (pins : PinSet) (place : ℕ) (list : List Bool) → pins_of (pin_set (set (pins_of pins) place list)) ≡ set (pins_of pins) place list
+six_lists pins zero list = refl
+six_lists pins (suc zero) list = refl
+six_lists pins (suc (suc zero)) list = refl
+six_lists pins (suc (suc (suc zero))) list = refl
+six_lists pins (suc (suc (suc (suc zero)))) list = refl
+six_lists pins (suc (suc (suc (suc (suc zero))))) list = refl
+six_lists pins (suc (suc (suc (suc (suc (suc place)))))) list = refl
+
+has_list : (found : Option (List Bool)) → 0 < length (unwrap_or found []) → (list : List Bool) × (found ≡ Some list)
+has_list None more = absurd (omega arith)
+has_list (Some list) more = (list, refl)
+
+place_of : (letters : List ℕ) (letter : ℕ) → Contains letters letter → (place : ℕ) × (place_on letters letter ≡ Some place)
+place_of letters letter h =
+    there (place_on letters letter) (is_some-place_on letters letter ∙ (has_letter-Decides letters letter).1 h)
+  where
+    there : (found : Option ℕ) → is_some found ≡ true → (place : ℕ) × (found ≡ Some place)
+    there None e = absurd (false≢true e)
+    there (Some place) e = (place, refl)
+
+one_place : (letters : List ℕ) (letter other place : ℕ) → place_on letters letter ≡ Some place → place_on letters other ≡ Some place → other ≡ letter
+one_place letters letter other place e f =
+    let here = position-Some (λ (l : ℕ). nat_eq l letter) letters place 0 e in
+    let there = position-Some (λ (l : ℕ). nat_eq l other) letters place 0 f in
+    sym (eqb-true _ _ there.1) ∙ eqb-true _ _ here.1
+
+other_pin : (ring : List ℕ) (list : List Bool) (letter other place : ℕ) (effective : Bool) (found : Option ℕ) → place_on ring letter ≡ Some place → place_on ring other ≡ found → other ≢ letter
+    → option_and_then (slice_get (set list place effective)) found ≡ option_and_then (slice_get list) found
+other_pin ring list letter other place effective None e f ne = refl
+other_pin ring list letter other place effective (Some another) e f ne =
+    set_other list place another effective (λ same. ne (one_place ring letter other place e (f ∙ ap Some same)))
+
+told_pin : (m : PinParts) (wheel letter : ℕ) (effective : Bool) → IsLegalPin m → why_refused (Pin m) (PinTo wheel letter effective) ≡ None
+    → Makes (Pin m) (PinTo wheel letter effective) (changed (Pin m) (PinTo wheel letter effective))
+told_pin m wheel letter effective l allowed =
+    let first = none_holds (not (has_letter (ring_of wheel) letter)) NotOnWheel [] allowed in
+    let on = (has_letter-Decides (ring_of wheel) letter).0 (not-false _ first.0) in
+    let place = place_of (ring_of wheel) letter on in
+    let ring = position-Some (λ (l : ℕ). nat_eq l letter) (ring_of wheel) place.0 0 place.1 in
+    let old = wheel_pins m.pins wheel in
+    let many : place.0 < length old = omega (arith, l.pins wheel, ring.0) in
+    let list = has_list (numbered (pins_of m.pins) wheel) (omega arith) in
+    let at = is_numbered (pins_of m.pins) wheel list.0 list.1 in
+    let new = set old (unwrap_or (place_on (ring_of wheel) letter) 0) effective in
+    let here : wheel_pins (with_pin m.pins wheel letter effective) wheel ≡ set old place.0 effective =
+    ap (λ lists. unwrap_or (numbered lists wheel) []) (six_lists m.pins (wheel - 1) new)
+    ∙ ap (λ found. unwrap_or found []) (numbered_here (pins_of m.pins) wheel new at.first at.last)
+    ∙ ap (λ found. set old (unwrap_or found 0) effective) place.1 in
+    let there : (other : ℕ) → other ≢ wheel → wheel_pins (with_pin m.pins wheel letter effective) other ≡ wheel_pins m.pins other =
+    λ other ne. ap (λ lists. unwrap_or (numbered lists other) []) (six_lists m.pins (wheel - 1) new)
+    ∙ ap (λ found. unwrap_or found []) (numbered_other (pins_of m.pins) wheel other new at.first ne) in (
+      rw (here, place.1) (set_here old place.0 effective many),
+      keeps_pin _ m (record m { pins = with_pin m.pins wheel letter effective }) (record {
+        pins = λ turned other free. elim (cases_eq turned wheel) [
+          | inl e ↦ subst (λ w. pin_at (with_pin m.pins wheel letter effective) w other ≡ pin_at m.pins w other) (sym e)
+              (ap (λ list. option_and_then (slice_get list) (place_on (ring_of wheel) other)) here
+              ∙ other_pin (ring_of wheel) old letter other place.0 effective (place_on (ring_of wheel) other) place.1 refl (λ f. free (ap (λ w. ThePin w other) e ∙ ap (ThePin wheel) f)))
+          | inr ne ↦ ap (λ list. option_and_then (slice_get list) (place_on (ring_of turned) other)) (there turned ne)
+        ];
+        shown = λ _ _. refl;
+        bars = λ _ _. refl;
+      }),
+    )
+
+lug_there : (lug : Lug) (place : Place) (bar : Place × Place) → lug_place lug (with_lug lug place bar) ≡ place
+lug_there Left place bar = refl
+lug_there Right place bar = refl
+
+other_there : (lug : Lug) (place : Place) (bar : Place × Place) → lug_place (other_lug lug) (with_lug lug place bar) ≡ lug_place (other_lug lug) bar
+other_there Left place bar = refl
+other_there Right place bar = refl
+
+told_lug : (m : PinParts) (bar : ℕ) (lug : Lug) (place : Place) → why_refused (Pin m) (LugTo bar lug place) ≡ None → Makes (Pin m) (LugTo bar lug place) (changed (Pin m) (LugTo bar lug place))
+told_lug m bar lug place allowed =
+    let taken : Bool × Why = (option_map_or (is_at place) (other_place m bar lug) false, PlaceTaken) in
+    let passing : Bool × Why = (option_map_or (lies_beyond lug place) (other_place m bar lug) false, WouldPass) in
+    let first = none_holds (is_none (numbered m.bars bar)) NoSuchBar (taken ∷ passing ∷ []) allowed in
+    let found = not_none (numbered m.bars bar) first.0 in
+    let at = is_numbered m.bars bar found.0 found.1 in
+    let new = with_lug lug place found.0 in
+    let bars = set m.bars (bar - 1) new in
+    let now = numbered_here m.bars bar new at.first at.last in
+    let moved : MovesLug (Pin m) bar lug place (Pin (record m { bars = bars })) = record {
+      moved = ap (option_map (lug_place lug)) now ∙ ap Some (lug_there lug place found.0);
+      other = ap (option_map (lug_place (other_lug lug))) now ∙ ap Some (other_there lug place found.0) ∙ ap (option_map (lug_place (other_lug lug))) (sym found.1);
+    }
+    in
+    let kept : SetsOnly (TheBar bar) (Pin m) (Pin (record m { bars = bars })) = keeps_pin _ m (record m { bars = bars }) (record {
+      pins = λ _ _ _. refl;
+      shown = λ _ _. refl;
+      bars = λ other free. numbered_other m.bars bar other new at.first (λ e. free (ap TheBar e));
+    })
+    in
+    let all : with_lug_at m bar lug place ≡ bars = ap (λ found. option_map_or (λ standing. set m.bars (bar - 1) (with_lug lug place standing)) found m.bars) found.1 in
+    subst (λ bars. Makes (Pin m) (LugTo bar lug place) (Pin (record m { bars = bars }))) (sym all) (moved, kept)
+
+-- ---- each setting
+
+told : (m : Parts) (x : Setting) → IsMachine m → why_refused m x ≡ None → Makes m x (changed m x)
+told (Rotor m) (Pull cable letter) h allowed = told_pull m cable letter h.legal allowed
+told (Rotor m) (Put cable letter) h allowed = told_put m cable letter allowed
+told (Rotor m) (Seat slot wheel) h allowed = told_seat m slot wheel h.legal allowed
+told (Rotor m) (SeatReflector reflector) h allowed = told_reflector m reflector
+told (Rotor m) (RingTo wheel letter) h allowed = told_ring m wheel letter h.legal allowed
+told (Rotor m) (Turn slot letter) h allowed = told_turn m slot letter h.legal allowed
+told (Rotor m) (PinTo wheel letter effective) h allowed = absurd (none-some _ (sym allowed))
+told (Rotor m) (LugTo bar lug place) h allowed = absurd (none-some _ (sym allowed))
+told (Pin m) (Turn wheel letter) h allowed = told_shown m wheel letter allowed
+told (Pin m) (PinTo wheel letter effective) h allowed = told_pin m wheel letter effective h.legal allowed
+told (Pin m) (LugTo bar lug place) h allowed = told_lug m bar lug place allowed
+told (Pin m) (Pull cable letter) h allowed = absurd (none-some _ (sym allowed))
+told (Pin m) (Put cable letter) h allowed = absurd (none-some _ (sym allowed))
+told (Pin m) (Seat slot wheel) h allowed = absurd (none-some _ (sym allowed))
+told (Pin m) (SeatReflector reflector) h allowed = absurd (none-some _ (sym allowed))
+told (Pin m) (RingTo wheel letter) h allowed = absurd (none-some _ (sym allowed))
+
+pub settings_are_told : SettingsAreTold
+settings_are_told m n x h carried = subst (Makes m x) (sym carried.made) (told m x h carried.allowed)

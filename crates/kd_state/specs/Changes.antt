@@ -1,0 +1,97 @@
+-- What a setting that is carried out changes at a machine, as the machine's readers tell it.
+use Rattle.std.specs.Prelude.{◌≡◌, ◌≢◌, ◌⊎◌, ◌↔◌, ℕ, List, [], Contains, Option, Some, None}
+use Rattle.std.specs.Option.{option_map, option_map_or}
+use Rattle.kd_tables.specs.declared.wheel.Wheel.{Wheel}
+use Rattle.kd_tables.specs.declared.place.Place.{Place}
+use Rattle.kd_tables.specs.declared.lug.Lug.{Lug}
+use Rattle.kd_state.specs.declared.parts.Parts.{Parts}
+use Rattle.kd_state.specs.declared.parts.Parts.TheVariants.{Rotor, Pin}
+use Rattle.kd_state.specs.declared.setting.Setting.{Setting}
+use Rattle.kd_state.specs.declared.setting.Setting.TheVariants.{Pull, Put, Seat, SeatReflector, RingTo, Turn, PinTo, LugTo}
+use Rattle.kd_state.specs.Machine.{cable_letters, model_of, slot_in, reflector_in, ring_in, letter_in, cable_in, pin_in, shown_in, standing_in}
+use Rattle.kd_state.specs.Setting.{lug_place, other_lug}
+
+-- a thing of which a reader tells: slots, cables, pin wheels and bars by their numbers, a pin by its wheel and its letter
+pub data Thing : Type 0 where
+  TheSlot : ℕ → Thing
+  TheReflector : Thing
+  TheRing : Wheel → Thing
+  TheLetter : Wheel → Thing
+  TheCable : ℕ → Thing
+  ThePin : ℕ → ℕ → Thing
+  TheShown : ℕ → Thing
+  TheBar : ℕ → Thing
+
+-- the reader tells the same of the thing at both machines
+abbrev pub IsKept : Parts → Parts → Thing → Type 0
+IsKept m n (TheSlot slot) = slot_in n slot ≡ slot_in m slot
+IsKept m n TheReflector = reflector_in n ≡ reflector_in m
+IsKept m n (TheRing wheel) = ring_in n wheel ≡ ring_in m wheel
+IsKept m n (TheLetter wheel) = letter_in n wheel ≡ letter_in m wheel
+IsKept m n (TheCable cable) = cable_in n cable ≡ cable_in m cable
+IsKept m n (ThePin wheel letter) = pin_in n wheel letter ≡ pin_in m wheel letter
+IsKept m n (TheShown wheel) = shown_in n wheel ≡ shown_in m wheel
+IsKept m n (TheBar bar) = standing_in n bar ≡ standing_in m bar
+
+-- the model is kept, and every thing but those that are touched
+pub record KeepsAllBut (IsTouched : Thing → Type 0) (m n : Parts) : Type 0 where
+  pub model : model_of n ≡ model_of m
+  pub others : (thing : Thing) → ¬ (IsTouched thing) → IsKept m n thing
+
+-- everything but this thing is kept
+abbrev pub SetsOnly : Thing → Parts → Parts → Type 0
+SetsOnly thing m n = KeepsAllBut (λ other. other ≡ thing) m n
+
+-- the letters that lie in the cable of that number
+abbrev pub letters_in : Parts → ℕ → List ℕ
+letters_in m cable = option_map_or cable_letters (cable_in m cable) []
+
+-- where that lug of the bar stands
+abbrev pub lug_in : Parts → ℕ → Lug → Option Place
+lug_in m bar lug = option_map (lug_place lug) (standing_in m bar)
+
+-- it is this slot, or one that held the wheel
+abbrev pub IsSeatOf : Parts → ℕ → Wheel → Thing → Type 0
+IsSeatOf m slot wheel thing =
+    (thing ≡ TheSlot slot) ⊎ ((held : ℕ) × (thing ≡ TheSlot held) × (slot_in m held ≡ Some (Some wheel)))
+
+-- The wheel stands in this slot, in no other one, and what held it before is empty. The wheel that stood here stands nowhere
+-- then: it lies in the box, with its ring and its letter.
+pub record Seats (m : Parts) (slot : ℕ) (wheel : Wheel) (n : Parts) : Type 0 where
+  pub here : slot_in n slot ≡ Some (Some wheel)
+  pub only : (other : ℕ) → slot_in n other ≡ Some (Some wheel) → other ≡ slot
+  pub left : (held : ℕ) → held ≢ slot → slot_in m held ≡ Some (Some wheel) → slot_in n held ≡ Some None
+  pub others : KeepsAllBut (IsSeatOf m slot wheel) m n
+
+-- the wheel that is seated in the slot shows the letter; of a Converter M-209, the pin wheel of that number
+abbrev pub Turns : Parts → ℕ → ℕ → Parts → Type 0
+Turns (Rotor m) slot letter n =
+    (wheel : Wheel) × (slot_in (Rotor m) slot ≡ Some (Some wheel))
+    × (letter_in n wheel ≡ Some letter) × SetsOnly (TheLetter wheel) (Rotor m) n
+Turns (Pin m) wheel letter n = (shown_in n wheel ≡ Some letter) × SetsOnly (TheShown wheel) (Pin m) n
+
+-- the letters of the cable are those that lay in it, but this one; or those, and this one
+abbrev pub TakesOut : Parts → ℕ → ℕ → Parts → Type 0
+TakesOut m cable letter n =
+    (other : ℕ) → Contains (letters_in n cable) other ↔ (Contains (letters_in m cable) other × (other ≢ letter))
+
+abbrev pub PutsIn : Parts → ℕ → ℕ → Parts → Type 0
+PutsIn m cable letter n =
+    (other : ℕ) → Contains (letters_in n cable) other ↔ (Contains (letters_in m cable) other ⊎ (other ≡ letter))
+
+-- the lug stands at the place, and the bar's other lug where it stood
+pub record MovesLug (m : Parts) (bar : ℕ) (lug : Lug) (place : Place) (n : Parts) : Type 0 where
+  pub moved : lug_in n bar lug ≡ Some place
+  pub other : lug_in n bar (other_lug lug) ≡ lug_in m bar (other_lug lug)
+
+-- the setting makes the other machine of this one
+abbrev pub Makes : Parts → Setting → Parts → Type 0
+Makes m (Pull cable letter) n = TakesOut m cable letter n × SetsOnly (TheCable cable) m n
+Makes m (Put cable letter) n = PutsIn m cable letter n × SetsOnly (TheCable cable) m n
+Makes m (Seat slot wheel) n = Seats m slot wheel n
+Makes m (SeatReflector reflector) n = (reflector_in n ≡ Some reflector) × SetsOnly TheReflector m n
+Makes m (RingTo wheel letter) n = (ring_in n wheel ≡ Some letter) × SetsOnly (TheRing wheel) m n
+Makes m (Turn slot letter) n = Turns m slot letter n
+Makes m (PinTo wheel letter effective) n =
+    (pin_in n wheel letter ≡ Some effective) × SetsOnly (ThePin wheel letter) m n
+Makes m (LugTo bar lug place) n = MovesLug m bar lug place n × SetsOnly (TheBar bar) m n
