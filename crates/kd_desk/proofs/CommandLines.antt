@@ -18,6 +18,13 @@ use Rattle.kd_desk.specs.declared.stop.Stop.{Stop}
 use Rattle.kd_desk.specs.declared.stop.Stop.TheVariants.{Usage, Refused}
 use Rattle.kd_desk.specs.CommandLine.{desk_grammar, IsOf, Says}
 
+-- a command with the texts of its files' names, and with the names as they were lent
+abbrev Named : Type 0
+Named = Command (List ℕ)
+
+abbrev Lent : Type 0
+Lent = Command (Bor (List ℕ))
+
 -- what a getter of the matches reads, by their rows
 pub read_none : (found : Found) (id : List ℕ) (word : Option (Bor (List ℕ))) → option_map (λ s. s.now) word ≡ first_value found id → word ≡ None → first_of id (rows_of found) ≡ None
 read_none found id word reads none = sym (first_value-rows found id) ∙ sym reads ∙ ap (option_map (λ s. s.now)) none
@@ -60,7 +67,7 @@ parse_takes app words m is fails = parse_fails_by app words (Ok m) is fails
 pub parse_enters : (app : App) (words : List (List ℕ)) (m : ArgMatches) → app ≡ desk_grammar → HasMatchesOf app words m → subcommand_rows_of m ≡ subcommand_of desk_grammar words
 parse_enters app words m is has = (subst (λ a. HasMatchesOf a words m) is has grammar_is_known).1
 
-pub no_fault_said : (words : List (List ℕ)) (error : Error) → HasKind (fault_of desk_grammar words) error → kind_of error ≢ OutOfMemory → (command : Command) → Says words command → ⊥
+pub no_fault_said : (words : List (List ℕ)) (error : Error) → HasKind (fault_of desk_grammar words) error → kind_of error ≢ OutOfMemory → (command : Named) → Says words command → ⊥
 no_fault_said words error has other command says = elim (subst (λ kinds. HasKind kinds error) says.taken has) [
   | inl memory ↦ other memory
   | inr among ↦ among
@@ -70,7 +77,7 @@ entered_none : {X : Type 0} (said : Option X) (P : X → Type 0) → said ≡ No
 entered_none None P e is = is
 entered_none (Some x) P e is = cc
 
-pub no_subcommand_said : (words : List (List ℕ)) → subcommand_of desk_grammar words ≡ None → (command : Command) → Says words command → ⊥
+pub no_subcommand_said : (words : List (List ℕ)) → subcommand_of desk_grammar words ≡ None → (command : Named) → Says words command → ⊥
 no_subcommand_said words none command says = entered_none (subcommand_of desk_grammar words) (λ said. IsOf said command) none says.said
 
 entered_some : {X : Type 0} (said : Option X) (x : X) (P : X → Type 0) → said ≡ Some x → IsSomeAnd said P → P x
@@ -79,10 +86,10 @@ entered_some said x P e is = subst (λ o. IsSomeAnd o P) e is
 some_entered : {X : Type 0} (said : Option X) (x : X) (P : X → Type 0) → said ≡ Some x → P x → IsSomeAnd said P
 some_entered said x P e p = subst (λ o. IsSomeAnd o P) (sym e) p
 
-pub subcommand_said : (words : List (List ℕ)) (said : List ℕ × List Row) → subcommand_of desk_grammar words ≡ Some said → (command : Command) → Says words command → IsOf said command
+pub subcommand_said : (words : List (List ℕ)) (said : List ℕ × List Row) → subcommand_of desk_grammar words ≡ Some said → (command : Named) → Says words command → IsOf said command
 subcommand_said words said e command says = entered_some (subcommand_of desk_grammar words) said (λ x. IsOf x command) e says.said
 
-pub said_subcommand : (words : List (List ℕ)) (said : List ℕ × List Row) → fault_of desk_grammar words ≡ [] → subcommand_of desk_grammar words ≡ Some said → (command : Command) → IsOf said command → Says words command
+pub said_subcommand : (words : List (List ℕ)) (said : List ℕ × List Row) → fault_of desk_grammar words ≡ [] → subcommand_of desk_grammar words ≡ Some said → (command : Named) → IsOf said command → Says words command
 said_subcommand words said taken e command is = record {
   taken = taken;
   said = some_entered (subcommand_of desk_grammar words) said (λ x. IsOf x command) e is;
@@ -98,22 +105,22 @@ pub no_entered : {X Y : Type 0} (entered : Option X) (f : X → Y) → false ≡
 no_entered None f e = refl
 no_entered (Some x) f e = cc
 
-abbrev as_answer : Stop → Result Command Stop
+abbrev as_answer : Stop → Result Lent Stop
 as_answer = Err
 
 pub usage_refused : (stop : Stop) (fault : DeskFault) → stop ≡ Refused fault → as_answer stop ≡ as_answer Usage → ⊥
 usage_refused stop fault refused usage = cc
 
 -- the answer of a command that may not be there
-pub ok_said : (said : Option Command) (answer : Result Command Stop) (P Q : Command → Type 0) → answer ≡ ok_or said Usage → ((command : Command) → P command → Q command)
+pub ok_said : (said : Option Lent) (answer : Result Lent Stop) (P Q : Lent → Type 0) → answer ≡ ok_or said Usage → ((command : Lent) → P command → Q command)
     → IfSome said P → IfOk answer Q
-ok_said None answer P Q e more is = subst (λ (a : Result Command Stop). IfOk a Q) (sym e) tt
-ok_said (Some command) answer P Q e more is = subst (λ (a : Result Command Stop). IfOk a Q) (sym e) (more command is)
+ok_said None answer P Q e more is = subst (λ (a : Result Lent Stop). IfOk a Q) (sym e) tt
+ok_said (Some command) answer P Q e more is = subst (λ (a : Result Lent Stop). IfOk a Q) (sym e) (more command is)
 
-pub no_command_of : (said : Option Command) (answer : Result Command Stop) → answer ≡ ok_or said Usage → answer ≡ Err Usage → said ≡ None
+pub no_command_of : (said : Option Lent) (answer : Result Lent Stop) → answer ≡ ok_or said Usage → answer ≡ Err Usage → said ≡ None
 no_command_of None answer e usage = refl
 no_command_of (Some command) answer e usage = cc
 
-pub usage_or_said : (said : Option Command) (answer : Result Command Stop) → answer ≡ ok_or said Usage → IfErr answer (λ stop. stop ≢ Usage → stop ≡ Refused (File NoMemory))
-usage_or_said None answer e = subst (λ (a : Result Command Stop). IfErr a (λ stop. stop ≢ Usage → stop ≡ Refused (File NoMemory))) (sym e) (λ other. absurd (other refl))
-usage_or_said (Some command) answer e = subst (λ (a : Result Command Stop). IfErr a (λ stop. stop ≢ Usage → stop ≡ Refused (File NoMemory))) (sym e) tt
+pub usage_or_said : (said : Option Lent) (answer : Result Lent Stop) → answer ≡ ok_or said Usage → IfErr answer (λ stop. stop ≢ Usage → stop ≡ Refused (File NoMemory))
+usage_or_said None answer e = subst (λ (a : Result Lent Stop). IfErr a (λ stop. stop ≢ Usage → stop ≡ Refused (File NoMemory))) (sym e) (λ other. absurd (other refl))
+usage_or_said (Some command) answer e = subst (λ (a : Result Lent Stop). IfErr a (λ stop. stop ≢ Usage → stop ≡ Refused (File NoMemory))) (sym e) tt

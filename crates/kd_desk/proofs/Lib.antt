@@ -5,7 +5,7 @@ pub mod Failing
 pub mod Fronts
 pub mod Lamps
 pub mod Runs
-pub mod SaidRuns
+pub mod SaidCommands
 pub mod Texts
 mod Days
 mod Printing

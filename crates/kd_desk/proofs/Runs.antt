@@ -1,83 +1,144 @@
--- What the program's words say, and the run that is made for them.
-use Rattle.std.proofs.Common.{◌≡◌, ℕ, List, Option, Some, None, IfSome, IsSomeAnd, Result, Ok, Err, IsErrAnd, sym, ap, ◌∙◌, subst, inl}
+-- Files that are read one after another, and what the program answers to a command.
+use Rattle.std.proofs.Common.{◌≡◌, ◌≢◌, ℕ, suc, Bool, true, false, List, [], ◌∷◌, ◌++◌, take, Option, Some, None, IfSome, IsSomeAnd, Result, Ok, Err, IsErr, IsErrAnd, is_ok, refl, sym, ap, ◌∙◌, subst, inl, inr, append_assoc}
+use Rattle.std.proofs.lemmas.Bool.{false≢true}
+use Rattle.std.proofs.lemmas.List.{append-nil}
+use Rattle.std.specs.Result.{result_map_both}
 use Rattle.clap.specs.Words.{Row, subcommand_of}
+use Rattle.kd_sheet.specs.declared.fault.SheetFault.TheVariants.{NoMemory}
 use Rattle.kd_desk.specs.declared.command.Command.{Command}
 use Rattle.kd_desk.specs.declared.fault.DeskFault.{DeskFault}
-use Rattle.kd_desk.specs.declared.stop.Stop.{Stop}
-use Rattle.kd_desk.specs.declared.stop.Stop.TheVariants.{Refused}
-use Rattle.kd_desk.specs.CommandLine.{desk_grammar, IsOf, Says}
-use Rattle.std.specs.Result.{result_map_both}
+use Rattle.kd_desk.specs.declared.fault.DeskFault.TheVariants.{File}
 use Rattle.kd_desk.specs.declared.files.fault.FileFault.{FileFault}
-use Rattle.kd_desk.specs.Desk.{Run, typing, printing, with_bytes, contents_of, run_with, typing_of, printing_of, run_of, TypesOn, Does, IsLeftAlone, CarriesOut}
+use Rattle.kd_desk.specs.declared.files.fault.FileFault.TheVariants as files
+use Rattle.kd_desk.specs.declared.stop.Stop.{Stop}
+use Rattle.kd_desk.specs.declared.stop.Stop.TheVariants.{Usage, Unread, Refused}
+use Rattle.kd_desk.specs.declared.command.Task.{Task}
+use Rattle.kd_desk.specs.declared.command.Task.TheVariants as tasks
+use Rattle.kd_desk.specs.declared.command.Work.{Work}
+use Rattle.kd_desk.specs.CommandLine.{desk_grammar, files_of, IsOf, Says}
+use Rattle.kd_desk.specs.Desk.{command_over, AskFor, Does, DoesTask, CarriesOut, has_read}
 use Rattle.kd_desk.specs.OnDay.{OnDay}
-use Rattle.kd_desk.specs.RunCard.{Prints}
-use Rattle.kd_desk.specs.Files.{content_of}
+use Rattle.kd_desk.specs.Files.{Gives}
 use Rattle.kd_desk.specs.Ports.{Port}
-use Rattle.kd_desk.proofs.SaidRuns.{same_run}
+use Rattle.kd_desk.proofs.SaidCommands.{same_command}
 
-said_by : (said : Option (List ℕ × List Row)) (one other : Command) → IsSomeAnd said (λ x. IsOf x one) → IsSomeAnd said (λ x. IsOf x other)
-    → (held : List ℕ → Option (List ℕ)) → run_of held one ≡ run_of held other
-said_by None one other is are held = absurd is
-said_by (Some said) one other is are held = same_run said one other is are held
+-- what is known of files
+abbrev Known : Type 0
+Known = Option (List ℕ → Option (List ℕ))
 
--- the words say one run
-pub said_run : (words : List (List ℕ)) (one other : Command) → Says words one → Says words other → (held : List ℕ → Option (List ℕ)) → run_of held one ≡ run_of held other
-said_run words one other says same held = said_by (subcommand_of desk_grammar words) one other says.said same.said held
+-- ---- the names that are asked for
 
--- the run of one command is carried out for another one that means the same
-pub carried_for : (known : Option (List ℕ → Option (List ℕ))) (one other : Command) (source sink : Port) (answer : Result (Unit {0}) Stop)
-    → ((held : List ℕ → Option (List ℕ)) → run_of held one ≡ run_of held other)
-    → IfSome known (λ held. CarriesOut (run_of held one) source sink answer) → IfSome known (λ held. CarriesOut (run_of held other) source sink answer)
-carried_for None one other source sink answer same carried = tt
-carried_for (Some held) one other source sink answer same carried = subst (λ run. CarriesOut run source sink answer) (same held) carried
+pub asks_for_none : (old : List (List ℕ)) (all : Bool) → AskFor [] old old all
+asks_for_none old all = record { number = 0; asked = sym (append-nil old); whole = λ _. sym (append-nil old) }
+
+pub asks_yet : (names old : List (List ℕ)) → AskFor names old old false
+asks_yet names old = record { number = 0; asked = sym (append-nil old); whole = λ none. absurd (false≢true none) }
+
+pub asks_for_first : (name : List ℕ) (names old new : List (List ℕ)) → new ≡ old ++ name ∷ [] → AskFor (name ∷ names) old new false
+asks_for_first name names old new is = record { number = 1; asked = is; whole = λ none. absurd (false≢true none) }
+
+pub asks_for_it : (name : List ℕ) (old new : List (List ℕ)) (all : Bool) → new ≡ old ++ name ∷ [] → AskFor (name ∷ []) old new all
+asks_for_it name old new all is = record { number = 1; asked = is; whole = λ _. is }
+
+pub asks_on : (name : List ℕ) (names old new newer : List (List ℕ)) (all : Bool) → new ≡ old ++ name ∷ [] → AskFor names new newer all
+    → AskFor (name ∷ names) old newer all
+asks_on name names old new newer all is more =
+    let joined : (rest : List (List ℕ)) → new ++ rest ≡ old ++ name ∷ rest = λ rest. ap (λ l. l ++ rest) is ∙ append_assoc old (name ∷ []) rest in
+    record {
+      number = suc more.number;
+      asked = more.asked ∙ joined (take more.number names);
+      whole = λ all. more.whole all ∙ joined names;
+    }
+
+pub asks_no_more : {T : Type 0} (names old new : List (List ℕ)) (all : Bool) (answer : Result T FileFault) → IsErr answer → AskFor names old new all
+    → AskFor names old new (is_ok answer)
+asks_no_more names old new all (Ok x) failed asks = absurd (false≢true failed)
+asks_no_more names old new all (Err fault) failed asks = record { number = asks.number; asked = asks.asked; whole = λ none. absurd (false≢true none) }
+
+pub asked_all : (names old new : List (List ℕ)) (all : Bool) → AskFor names old new true → AskFor names old new all
+asked_all names old new all asks = record { number = asks.number; asked = asks.asked; whole = λ _. asks.whole refl }
+
+-- words that say nothing ask for nothing
+pub unsaid : (stop : Stop) → (stop ≢ Usage → stop ≡ Refused (File NoMemory)) → has_read (Err stop) ≡ false
+unsaid Usage is = refl
+unsaid (Unread fault) is = refl
+unsaid (Refused fault) is = ap (λ s. has_read (Err s)) (is (λ usage. cc))
+
+-- ---- what the words say
+
+said_by : (said : Option (List ℕ × List Row)) (one other : Command (List ℕ)) → IsSomeAnd said (λ x. IsOf x one) → IsSomeAnd said (λ x. IsOf x other) → one ≡ other
+said_by None one other is are = absurd is
+said_by (Some said) one other is are = same_command said one other is are
+
+-- the words say one command
+pub said_command : (words : List (List ℕ)) (one other : Command (List ℕ)) → Says words one → Says words other → one ≡ other
+said_command words one other says same = said_by (subcommand_of desk_grammar words) one other says.said same.said
+
+-- what is so of a command is so of each that the words say
+pub asked_for : (one other : Command (List ℕ)) (old new : List (List ℕ)) (all : Bool) → one ≡ other → AskFor (files_of one) old new all → AskFor (files_of other) old new all
+asked_for one other old new all same asks = subst (λ command. AskFor (files_of command) old new all) same asks
+
+-- what a task does, by its kind
+pub does_task : (machine sheet : List ℕ) (number : ℕ) (one other : Task (List ℕ)) (sink : Port) (answer : Result (Unit {0}) DeskFault) → one ≡ other
+    → OnDay machine sheet number (DoesTask other number sink answer) answer → OnDay machine sheet number (DoesTask one number sink answer) answer
+does_task machine sheet number one other sink answer same does =
+    subst (λ task. OnDay machine sheet number (DoesTask task number sink answer) answer) (sym same) does
+
+pub on_file : (task : Task (List ℕ)) (work : Work) (file bytes : List ℕ) → task ≡ tasks.Work work file → bytes ≡ file → task ≡ tasks.Work work bytes
+on_file task work file bytes is same = is ∙ ap (λ b. tasks.Work work b) (sym same)
+
+-- ---- what is answered
 
 pub err_is : (answer : Result (Unit {0}) Stop) (stop : Stop) → IsErrAnd answer (λ made. made ≡ stop) → answer ≡ Err stop
 err_is (Ok x) stop made = absurd made
 err_is (Err other) stop made = ap Err made
 
--- the typing on a file was refused, or stopped
-pub typing_refused : (known : Option (List ℕ → Option (List ℕ))) (name bytes read : List ℕ) (source sink : Port) (fault : DeskFault) (answer : Result (Unit {0}) Stop)
-    → IfSome known (λ held. content_of (held name) ≡ Ok bytes) → read ≡ bytes → TypesOn read source sink (Err fault) → IsErrAnd answer (λ made. made ≡ Refused fault)
-    → IfSome known (λ held. CarriesOut (typing_of (held name)) source sink answer)
-typing_refused None name bytes read source sink fault answer content same types made = tt
-typing_refused (Some held) name bytes read source sink fault answer content same types made =
-    subst (λ file. CarriesOut (with_bytes file (λ m. Ok (typing m))) source sink answer) (ap Ok same ∙ sym content)
-    (inl (record { told = Err fault; does = types; answers = err_is answer (Refused fault) made }))
+abbrev fails : FileFault → Result (Command (List ℕ)) FileFault
+fails fault = Err fault
 
--- a run was made of the bytes of the files
-module _ (source sink : Port) (told : Result (Unit {0}) DeskFault) (answer : Result (Unit {0}) Stop) (answers : answer ≡ result_map_both (λ done. done) Refused told) where
-  carries_out : (run : Run) (meant : Result Run FileFault) → meant ≡ Ok run → Does run source sink told → CarriesOut meant source sink answer
-  carries_out run meant is does =
-      subst (λ r. CarriesOut r source sink answer) (sym is) (inl (record { told = told; does = does; answers = answers }))
+abbrev stopped : FileFault → Result (Unit {0}) Stop
+stopped fault = Err (Unread fault)
 
--- the bytes of two files
-two_files : (machine sheet : Result (List ℕ) FileFault) (m s : List ℕ) (run : List ℕ → List ℕ → Run) → machine ≡ Ok m → sheet ≡ Ok s
-    → with_bytes machine (λ one. with_bytes sheet (λ two. Ok (run one two))) ≡ Ok (run m s)
-two_files machine sheet m s run is are =
-    ap (λ file. with_bytes file (λ one. with_bytes sheet (λ two. Ok (run one two)))) is ∙ ap (λ file. with_bytes file (λ two. Ok (run m two))) are
+pub asked_yet : (names old new : List (List ℕ)) (answer : Result (Unit {0}) Stop) (fault : FileFault) → IsErrAnd answer (λ made. made ≡ Unread fault)
+    → AskFor names old new false → AskFor names old new (has_read answer)
+asked_yet names old new answer fault made asks = subst (λ a. AskFor names old new (has_read a)) (sym (err_is answer (Unread fault) made)) asks
 
--- what is done on files that are known to hold these bytes
-module _ (machine sheet m s : List ℕ) (sink : Port) (told : Result (Unit {0}) DeskFault) (answer : Result (Unit {0}) Stop)
-    (answers : answer ≡ result_map_both (λ done. done) Refused told) where
-  pub printed : (day : ℕ) (known : Option (List ℕ → Option (List ℕ))) → IfSome known (λ held. content_of (held machine) ≡ Ok m)
-      → IfSome known (λ held. content_of (held sheet) ≡ Ok s) → OnDay m s day (λ n d. Prints n d sink told) told
-      → IfSome known (λ held. (source : Port) → IsLeftAlone source → CarriesOut (printing_of (held machine) (held sheet) day) source sink answer)
-  printed day None holds holds_sheet does = tt
-  printed day (Some held) holds holds_sheet does = λ source alone.
-      carries_out source sink told answer answers (printing m s day) (printing_of (held machine) (held sheet) day)
-      (two_files _ _ m s (λ one two. printing one two day) holds holds_sheet) (does, alone)
+module _ (source sink : Port) (answer : Result (Unit {0}) Stop) where
+  unread_by : (fault other : FileFault) → fails fault ≡ fails other → answer ≡ Err (Unread fault) → answer ≡ Err (Unread other)
+  unread_by fault other is answers = answers ∙ subst (λ (r : Result (Command (List ℕ)) FileFault). IsErrAnd r (λ f. stopped fault ≡ stopped f)) is refl
 
--- what is done on three files
-module _ (machine sheet file : List ℕ) (run : List ℕ → List ℕ → List ℕ → Run) (sink : Port) (answer : Result (Unit {0}) Stop) where
-  abbrev IsDone : Option (List ℕ → Option (List ℕ)) → Type 0
-  IsDone known = IfSome known (λ held. (source : Port) → IsLeftAlone source → CarriesOut (run_with (held machine) (held sheet) (held file) run) source sink answer)
+  file_refused : (meant : Result (Command (List ℕ)) FileFault) (fault : FileFault) → Gives meant (Err fault) → answer ≡ Err (Unread fault)
+      → CarriesOut meant source sink answer
+  file_refused (Ok command) fault (inl is) answers = cc
+  file_refused (Ok command) fault (inr lacks) answers = inr (inr (unread_by fault files.NoMemory lacks answers))
+  file_refused (Err other) fault (inl is) answers = inl (unread_by fault other is answers)
+  file_refused (Err other) fault (inr lacks) answers = inr (inr (unread_by fault files.NoMemory lacks answers))
 
-  abbrev AreRead : Option (List ℕ → Option (List ℕ)) → Result (List ℕ × List ℕ × List ℕ) FileFault → Type 0
-  AreRead known read = IfSome known (λ held. contents_of (held machine) (held sheet) (held file) ≡ read)
+  carried_out : (meant : Result (Command (List ℕ)) FileFault) (command : Command (List ℕ)) (told : Result (Unit {0}) DeskFault) → Gives meant (Ok command)
+      → Does command source sink told → answer ≡ result_map_both (λ done. done) Refused told → CarriesOut meant source sink answer
+  carried_out meant command told (inl is) does answers =
+      subst (λ r. CarriesOut r source sink answer) is (inl (record { told = told; does = does; answers = answers }))
+  carried_out meant command told (inr lacks) does answers = cc
 
-  pub done_with : (known : Option (List ℕ → Option (List ℕ))) (m s f : List ℕ) (told : Result (Unit {0}) DeskFault) → AreRead known (Ok (m, s, f))
-      → answer ≡ result_map_both (λ done. done) Refused told → ((source : Port) → IsLeftAlone source → Does (run m s f) source sink told) → IsDone known
-  done_with None m s f told read answers does = tt
-  done_with (Some held) m s f told read answers does = λ source alone.
-      subst (λ (r : Result _ FileFault). CarriesOut (result_map_both (λ bytes. run bytes.0 bytes.1 bytes.2) (λ fault. fault) r) source sink answer) (sym read)
-      (inl (record { told = told; does = does source alone; answers = answers }))
+  module _ (command : Command (List ℕ)) where
+    unread_of : (known : Known) (fault : FileFault) → IsErrAnd answer (λ made. made ≡ Unread fault) → IfSome known (λ held. Gives (command_over held command) (Err fault))
+        → IfSome known (λ held. CarriesOut (command_over held command) source sink answer)
+    unread_of None fault made gives = tt
+    unread_of (Some held) fault made gives = file_refused (command_over held command) fault gives (err_is answer (Unread fault) made)
+
+    done_of : (known : Known) (bytes : Command (List ℕ)) (told : Result (Unit {0}) DeskFault) → answer ≡ result_map_both (λ done. done) Refused told
+        → Does bytes source sink told → IfSome known (λ held. Gives (command_over held command) (Ok bytes))
+        → IfSome known (λ held. CarriesOut (command_over held command) source sink answer)
+    done_of None bytes told answers does gives = tt
+    done_of (Some held) bytes told answers does gives = carried_out (command_over held command) bytes told gives does answers
+
+  -- the same of whatever is known of files, for each command that is the one that was said
+  module _ (known : Known) (said command : Command (List ℕ)) (same : said ≡ command) where
+    pub unread : (fault : FileFault) → IsErrAnd answer (λ made. made ≡ Unread fault) → IfSome known (λ held. Gives (command_over held said) (Err fault))
+        → IfSome known (λ held. CarriesOut (command_over held command) source sink answer)
+    unread fault made gives = unread_of command known fault made (subst (λ c. IfSome known (λ held. Gives (command_over held c) (Err fault))) same gives)
+
+    pub done : (bytes : Command (List ℕ)) (told : Result (Unit {0}) DeskFault) → answer ≡ result_map_both (λ done. done) Refused told
+        → Does bytes source sink told → IfSome known (λ held. Gives (command_over held said) (Ok bytes))
+        → IfSome known (λ held. CarriesOut (command_over held command) source sink answer)
+    done bytes told answers does gives = done_of command known bytes told answers does (subst (λ c. IfSome known (λ held. Gives (command_over held c) (Ok bytes))) same gives)

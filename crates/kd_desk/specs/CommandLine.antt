@@ -1,10 +1,16 @@
 -- What the program's words say, by what clap makes of the desk's grammar.
 use Rattle.std.specs.Prelude.{codes, decimal, ◌≡◌, ℕ, true, false, List, [], ◌∷◌, ◌++◌, map, Some, IsSomeAnd}
+use Rattle.std.specs.Borrow.{Bor}
 use Rattle.clap.specs.Words.{App, Row, Rule, Shape, first_of, fault_of, new_rule, subcommand_of}
 use Rattle.clap.specs.Simple.{new_shape}
 use Rattle.kd_state.specs.SheetDay.{IsDayNumber}
 use Rattle.kd_desk.specs.declared.command.Command.{Command}
-use Rattle.kd_desk.specs.declared.command.Command.TheVariants as commands
+use Rattle.kd_desk.specs.declared.command.Action.{Action}
+use Rattle.kd_desk.specs.declared.command.Action.TheVariants as actions
+use Rattle.kd_desk.specs.declared.command.Task.{Task}
+use Rattle.kd_desk.specs.declared.command.Task.TheVariants as tasks
+use Rattle.kd_desk.specs.declared.command.Work.{Work}
+use Rattle.kd_desk.specs.declared.command.Work.TheVariants.{Check, Send, Receive}
 
 -- a word that has to be there
 abbrev pub word_named : List ℕ → Rule
@@ -25,8 +31,22 @@ alone shape = record { top = shape; subs = [] }
 abbrev pub day_words : List (List ℕ)
 day_words = codes "MACHINE" ∷ codes "SHEET" ∷ codes "DAY" ∷ []
 
+-- the name of a command that works on a third file, and the word that names the file
+abbrev pub work_name : Work → List ℕ
+work_name Check = codes "check"
+work_name Send = codes "send"
+work_name Receive = codes "receive"
+
+abbrev pub work_word : Work → List ℕ
+work_word Check = codes "CARD"
+work_word Send = codes "ORDER"
+work_word Receive = codes "FORM"
+
 abbrev pub type_form : Shape
 type_form = form (codes "type") (codes "MACHINE" ∷ [])
+
+abbrev pub apply_form : Shape
+apply_form = form (codes "apply") (codes "MACHINE" ∷ codes "LIST" ∷ [])
 
 abbrev pub card_form : Shape
 card_form = form (codes "card") day_words
@@ -35,17 +55,8 @@ card_form = form (codes "card") day_words
 abbrev pub file_form : List ℕ → List ℕ → Shape
 file_form name word = form name (day_words ++ word ∷ [])
 
-abbrev pub check_form : Shape
-check_form = file_form (codes "check") (codes "CARD")
-
-abbrev pub apply_form : Shape
-apply_form = form (codes "apply") (codes "MACHINE" ∷ codes "LIST" ∷ [])
-
-abbrev pub send_form : Shape
-send_form = file_form (codes "send") (codes "ORDER")
-
-abbrev pub receive_form : Shape
-receive_form = file_form (codes "receive") (codes "FORM")
+abbrev pub work_form : Work → Shape
+work_form work = file_form (work_name work) (work_word work)
 
 unfoldable pub desk_grammar : App
 desk_grammar = record {
@@ -54,55 +65,85 @@ desk_grammar = record {
     disable_help_subcommand = true;
     is_leaf = false;
   };
-  subs = type_form ∷ card_form ∷ check_form ∷ apply_form ∷ send_form ∷ receive_form ∷ [];
+  subs = type_form ∷ apply_form ∷ card_form ∷ work_form Check ∷ work_form Send ∷ work_form Receive ∷ [];
 }
 
--- the name of a command, and the values of its words
-abbrev pub command_name : Command → List ℕ
-command_name (commands.Type machine) = codes "type"
-command_name (commands.Card machine sheet day) = codes "card"
-command_name (commands.Check machine sheet day card) = codes "check"
-command_name (commands.Apply machine list) = codes "apply"
-command_name (commands.Send machine sheet day order) = codes "send"
-command_name (commands.Receive machine sheet day form) = codes "receive"
+-- the same with other files: with their names as texts, or with their bytes
+abbrev pub with_task_files : {F G : Type 0} → (F → G) → Task F → Task G
+with_task_files f tasks.Card = tasks.Card
+with_task_files f (tasks.Work work file) = tasks.Work work (f file)
 
--- the words that name a machine file, a sheet, and a day by its number in decimal
-pub record HaveDay (rows : List Row) (machine sheet : List ℕ) (day : ℕ) : Type 0 where
-  pub machine_word : first_of (codes "MACHINE") rows ≡ Some machine
+abbrev pub with_files : {F G : Type 0} → (F → G) → Action F → Action G
+with_files f actions.Type = actions.Type
+with_files f (actions.Apply list) = actions.Apply (f list)
+with_files f (actions.OnDay sheet day task) = actions.OnDay (f sheet) day (with_task_files f task)
+
+-- a command, or what is done, with the texts of names that were lent
+abbrev pub task_named : Task (Bor (List ℕ)) → Task (List ℕ)
+task_named task = with_task_files (λ name. name.now) task
+
+abbrev pub action_named : Action (Bor (List ℕ)) → Action (List ℕ)
+action_named action = with_files (λ name. name.now) action
+
+abbrev pub named : Command (Bor (List ℕ)) → Command (List ℕ)
+named command = record { machine = command.machine.now; action = action_named command.action }
+
+-- the name of the command that does this
+abbrev pub task_name : Task (List ℕ) → List ℕ
+task_name tasks.Card = codes "card"
+task_name (tasks.Work work file) = work_name work
+
+abbrev pub action_name : Action (List ℕ) → List ℕ
+action_name actions.Type = codes "type"
+action_name (actions.Apply list) = codes "apply"
+action_name (actions.OnDay sheet day task) = task_name task
+
+-- the words that name a sheet, and a day by its number in decimal
+pub record HaveDay (rows : List Row) (sheet : List ℕ) (day : ℕ) : Type 0 where
   pub sheet_word : first_of (codes "SHEET") rows ≡ Some sheet
   pub day_word : first_of (codes "DAY") rows ≡ Some (decimal day)
   pub of_month : IsDayNumber day
 
--- and a file more, by the word of that name
-pub record HaveFile (rows : List Row) (word machine sheet : List ℕ) (day : ℕ) (file : List ℕ) : Type 0 where
-  pub on_day : HaveDay rows machine sheet day
-  pub file_word : first_of word rows ≡ Some file
+-- the values of the words behind the machine's are those of what is done
+abbrev pub HasFile : List Row → Task (List ℕ) → Type 0
+HasFile rows tasks.Card = Unit {0}
+HasFile rows (tasks.Work work file) = first_of (work_word work) rows ≡ Some file
 
-abbrev pub HasWords : List Row → Command → Type 0
-HasWords rows (commands.Type machine) = first_of (codes "MACHINE") rows ≡ Some machine.now
-HasWords rows (commands.Card machine sheet day) = HaveDay rows machine.now sheet.now day
-HasWords rows (commands.Check machine sheet day card) =
-    HaveFile rows (codes "CARD") machine.now sheet.now day card.now
-HasWords rows (commands.Apply machine list) =
-    (first_of (codes "MACHINE") rows ≡ Some machine.now)
-    × (first_of (codes "LIST") rows ≡ Some list.now)
-HasWords rows (commands.Send machine sheet day order) =
-    HaveFile rows (codes "ORDER") machine.now sheet.now day order.now
-HasWords rows (commands.Receive machine sheet day form) =
-    HaveFile rows (codes "FORM") machine.now sheet.now day form.now
+abbrev pub HasWords : List Row → Action (List ℕ) → Type 0
+HasWords rows actions.Type = Unit {0}
+HasWords rows (actions.Apply list) = first_of (codes "LIST") rows ≡ Some list
+HasWords rows (actions.OnDay sheet day task) = HaveDay rows sheet day × HasFile rows task
 
--- a name and the values of words are those of the command, or of none
-pub record IsOf (said : List ℕ × List Row) (command : Command) : Type 0 where
-  pub name : said.0 ≡ command_name command
-  pub words : HasWords said.1 command
+-- a name and the values of words are those of what is done
+pub record IsActionOf (said : List ℕ × List Row) (action : Action (List ℕ)) : Type 0 where
+  pub name : said.0 ≡ action_name action
+  pub words : HasWords said.1 action
+
+-- they are those of the command, or of none
+pub record IsOf (said : List ℕ × List Row) (command : Command (List ℕ)) : Type 0 where
+  pub machine : first_of (codes "MACHINE") said.1 ≡ Some command.machine
+  pub action : IsActionOf said command.action
 
 abbrev pub IsOfNone : List ℕ × List Row → Type 0
-IsOfNone said = (command : Command) → ¬ (IsOf said command)
+IsOfNone said = (command : Command (List ℕ)) → ¬ (IsOf said command)
 
 -- the words, the program's own name first, are taken by the grammar and say the command, or they say none
-pub record Says (words : List (List ℕ)) (command : Command) : Type 0 where
+pub record Says (words : List (List ℕ)) (command : Command (List ℕ)) : Type 0 where
   pub taken : fault_of desk_grammar words ≡ []
   pub said : IsSomeAnd (subcommand_of desk_grammar words) (λ said. IsOf said command)
 
 abbrev pub SaysNothing : List (List ℕ) → Type 0
-SaysNothing words = (command : Command) → ¬ (Says words command)
+SaysNothing words = (command : Command (List ℕ)) → ¬ (Says words command)
+
+-- the names of the files, in the order of the words
+abbrev pub task_files : Task (List ℕ) → List (List ℕ)
+task_files tasks.Card = []
+task_files (tasks.Work work file) = file ∷ []
+
+abbrev pub action_files : Action (List ℕ) → List (List ℕ)
+action_files actions.Type = []
+action_files (actions.Apply list) = list ∷ []
+action_files (actions.OnDay sheet day task) = sheet ∷ task_files task
+
+abbrev pub files_of : Command (List ℕ) → List (List ℕ)
+files_of command = command.machine ∷ action_files command.action

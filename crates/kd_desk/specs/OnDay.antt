@@ -1,23 +1,29 @@
 -- What is done with the machine of a machine file and a day of a key sheet.
-use Rattle.std.specs.Prelude.{◌≡◌, ℕ, List, Option, Some, None, Result, Ok, Err}
+use Rattle.std.specs.Prelude.{◌≡◌, ℕ, List, Option, Some, None, Result, Ok, Err, MatchResult}
 use Rattle.kd_state.specs.declared.parts.Parts.{Parts}
 use Rattle.kd_state.specs.SheetDay.{Day}
 use Rattle.kd_sheet.specs.declared.fault.SheetFault.{SheetFault}
+use Rattle.kd_sheet.specs.declared.fault.SheetFault.TheVariants.{NoMemory}
 use Rattle.kd_sheet.specs.MachineFile.{machine_of}
 use Rattle.kd_sheet.specs.Sheet.{day_of}
 use Rattle.kd_sheet.specs.SheetFile.{sheet_of}
 use Rattle.kd_desk.specs.declared.fault.DeskFault.{DeskFault}
 use Rattle.kd_desk.specs.declared.fault.DeskFault.TheVariants.{File, NoSuchDay}
-use Rattle.kd_desk.specs.RunSteps.{RanOut}
 
--- The bytes of a machine file say a machine, and those of a sheet a day of that number, and this is done; or the first
--- fault is answered: of the machine file, of the sheet, or that it has no such day. Or memory ran out over the files.
-pub data OnDay (machine sheet : List ℕ) (number : ℕ) (does : Parts → Day → Type 0) (answer : Result (Unit {0}) DeskFault) : Type 0 where
-  OutOfMemory : RanOut answer → OnDay machine sheet number does answer
-  NoMachine : (fault : SheetFault) → machine_of machine ≡ Err fault → answer ≡ Err (File fault) → OnDay machine sheet number does answer
-  NoSheet : (m : Parts) (fault : SheetFault) → machine_of machine ≡ Ok m → sheet_of sheet ≡ Err fault → answer ≡ Err (File fault)
-      → OnDay machine sheet number does answer
-  NoDay : (m : Parts) (days : List (Option Day)) → machine_of machine ≡ Ok m → sheet_of sheet ≡ Ok days → day_of days number ≡ None
-      → answer ≡ Err NoSuchDay → OnDay machine sheet number does answer
-  Done : (m : Parts) (days : List (Option Day)) (s : Day) → machine_of machine ≡ Ok m → sheet_of sheet ≡ Ok days → day_of days number ≡ Some s
-      → does m s → OnDay machine sheet number does answer
+-- The bytes of a machine file say a machine, and those of a sheet a day of that number; or this is the first fault: of the
+-- machine file, of the sheet, or that it has no such day. Or memory ran out over the files.
+pub data FindsDay (machine sheet : List ℕ) (number : ℕ) (found : Result (Parts × Day) DeskFault) : Type 0 where
+  OutOfMemory : found ≡ Err (File NoMemory) → FindsDay machine sheet number found
+  NoMachine : (fault : SheetFault) → machine_of machine ≡ Err fault → found ≡ Err (File fault) → FindsDay machine sheet number found
+  NoSheet : (m : Parts) (fault : SheetFault) → machine_of machine ≡ Ok m → sheet_of sheet ≡ Err fault
+      → found ≡ Err (File fault) → FindsDay machine sheet number found
+  NoDay : (m : Parts) (days : List (Option Day)) → machine_of machine ≡ Ok m → sheet_of sheet ≡ Ok days
+      → day_of days number ≡ None → found ≡ Err NoSuchDay → FindsDay machine sheet number found
+  Found : (m : Parts) (days : List (Option Day)) (s : Day) → machine_of machine ≡ Ok m → sheet_of sheet ≡ Ok days
+      → day_of days number ≡ Some s → found ≡ Ok (m, s) → FindsDay machine sheet number found
+
+-- this is done with the machine and the day, or the first fault is answered
+pub record OnDay (machine sheet : List ℕ) (number : ℕ) (does : Parts → Day → Type 0) (answer : Result (Unit {0}) DeskFault) : Type 0 where
+  pub found : Result (Parts × Day) DeskFault
+  pub finds : FindsDay machine sheet number found
+  pub done : MatchResult found (λ on. does on.0 on.1) (λ fault. answer ≡ Err fault)

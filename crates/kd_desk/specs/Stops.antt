@@ -1,5 +1,5 @@
 -- Why the program stops before its command is carried out, and the status with which it ends.
-use Rattle.std.specs.Prelude.{ℕ}
+use Rattle.std.specs.Prelude.{Some, None, Result, Ok, Err}
 use Rattle.std.specs.declared.io.ErrorKind.{ErrorKind}
 use Rattle.std.specs.declared.io.ErrorKind.TheVariants.{OutOfMemory}
 use Rattle.kd_desk.specs.declared.fault.DeskFault.{DeskFault}
@@ -7,14 +7,16 @@ use Rattle.kd_desk.specs.declared.fault.DeskFault.TheVariants.{File, Device, Rea
 use Rattle.kd_desk.specs.declared.files.fault.FileFault.{FileFault}
 use Rattle.kd_desk.specs.declared.files.fault.FileFault.TheVariants as files
 use Rattle.kd_sheet.specs.declared.fault.SheetFault.TheVariants.{NoMemory}
+use Rattle.kd_desk.specs.declared.stop.Exit.{Exit}
 use Rattle.kd_desk.specs.declared.stop.Stop.{Stop}
 use Rattle.kd_desk.specs.declared.stop.Stop.TheVariants.{Usage, Unread, Refused}
 
--- the status with which the program ends
-abbrev pub status_of : Stop → ℕ
-status_of Usage = 2
-status_of (Unread fault) = 1
-status_of (Refused fault) = 1
+-- the status with which the program ends, and what its line on standard error tells
+abbrev pub exit_of : Result (Unit {0}) Stop → Exit
+exit_of (Ok done) = record { status = 0; line = None }
+exit_of (Err Usage) = record { status = 2; line = Some Usage }
+exit_of (Err (Unread fault)) = record { status = 1; line = Some (Unread fault) }
+exit_of (Err (Refused fault)) = record { status = 1; line = Some (Refused fault) }
 
 -- what keeps a file from being read: want of memory, or the device
 abbrev pub fault_of_kind : ErrorKind → FileFault

@@ -2,8 +2,8 @@ ghost use Rattle.std.specs.Prelude.{◌≡◌, ◌≢◌, [], ◌∷◌, ℕ, Li
 ghost use Rattle.clap.specs.declared.builder.command.Command.{out-Command};
 ghost use Rattle.clap.specs.Words.{app_of, found_of, kind_of, rows_of, rule_of};
 ghost use Rattle.kd_state.specs.SheetDay.{IsDayNumber};
-ghost use Rattle.kd_desk.specs.CommandLine.{word_named, form, alone, day_words, file_form, desk_grammar};
-ghost use Rattle.kd_desk.specs.CommandLine.{HaveDay, HaveFile, IsOf, IsOfNone, Says, SaysNothing};
+ghost use Rattle.kd_desk.specs.CommandLine.{word_named, form, alone, day_words, work_name, work_word, file_form, desk_grammar};
+ghost use Rattle.kd_desk.specs.CommandLine.{named, action_named, HaveDay, IsActionOf, IsOf, IsOfNone, Says, SaysNothing};
 
 #[cfg(test)]
 mod tests;
@@ -17,57 +17,72 @@ use kd_sheet::SheetFault;
 use std::alloc::{AllocError, Global};
 use std::convert::AsStr;
 
-/// A command of the desk, with its words.
-#[derive(Clone, Copy, Debug, PartialEq, Eq)]
-pub enum Command<'a> {
-    /// Types the standard input on the machine of this file.
-    Type {
-        machine: &'a str,
-    },
-    /// Prints the card that leads the machine of the first file to a day of the sheet of the second.
-    Card {
-        machine: &'a str,
-        sheet: &'a str,
-        /// The day's number, from 1 to 31.
-        day: u8,
-    },
-    /// Tells of a card of the third file that it is a shortest one from the machine to the day.
-    Check {
-        machine: &'a str,
-        sheet: &'a str,
-        /// The day's number, from 1 to 31.
-        day: u8,
-        card: &'a str,
-    },
-    /// Carries the settings of the second file out on the machine of the first, and prints the machine's file.
+/// A command of the desk, with its files: their names, or their bytes.
+#[derive(Clone, Copy, Debug, PartialEq, Eq, Drop)]
+pub struct Command<F> {
+    /// The machine file.
+    pub machine: F,
+    /// What is done with the machine.
+    pub action: Action<F>,
+}
+
+/// What is done with a machine.
+#[derive(Clone, Copy, Debug, PartialEq, Eq, Drop)]
+pub enum Action<F> {
+    /// The standard input is typed on it.
+    Type,
+    /// The settings of this file are carried out on it, and its file is printed.
     Apply {
-        machine: &'a str,
-        list: &'a str,
+        list: F,
     },
-    /// Prints the form that the order of the third file becomes, on the machine and the day.
-    Send {
-        machine: &'a str,
-        sheet: &'a str,
+    /// It goes together with a day of the sheet of this file.
+    OnDay {
+        sheet: F,
         /// The day's number, from 1 to 31.
         day: u8,
-        order: &'a str,
+        task: Task<F>,
     },
-    /// Prints the text that the form of the third file becomes, on the machine and the day.
-    Receive {
-        machine: &'a str,
-        sheet: &'a str,
-        /// The day's number, from 1 to 31.
-        day: u8,
-        form: &'a str,
-    },
+}
+
+/// What is done with a machine and a day.
+#[derive(Clone, Copy, Debug, PartialEq, Eq, Drop)]
+pub enum Task<F> {
+    /// The card that leads the machine to the day is printed.
+    Card,
+    /// A third file is worked on.
+    Work(Work, F),
+}
+
+/// What is done with a third file, on a machine and a day.
+#[derive(Clone, Copy, Debug, PartialEq, Eq)]
+pub enum Work {
+    /// It is told of the card in it whether its prices prove it shortest, from the machine to the day.
+    Check,
+    /// The form is printed that the order in it becomes.
+    Send,
+    /// The text is printed that the form in it becomes.
+    Receive,
+}
+
+impl Work {
+    /// The word of the grammar that names the file.
+    fn word(self) -> &'static str
+        ensures { result.now ≡ work_word self }
+    {
+        match self {
+            Work::Check => "CARD",
+            Work::Send => "ORDER",
+            Work::Receive => "FORM",
+        }
+    }
 }
 
 /// The command of the program's words, the program's own name first.
 ///
 /// A word that begins with `-` and is longer is a file name only after the word `--`, which counts once and behind the
 /// command's name. Other words than a command's are `Usage`. The only other error is want of memory.
-pub fn parse_words<'a, S: AsStr>(alloc: Global, words: &'a [S]) -> Result<Command<'a>, Stop>
-    ensures said { IfOk result (Says (map S.text words.entry.now)) }
+pub fn parse_words<'a, S: AsStr>(alloc: Global, words: &'a [S]) -> Result<Command<&'a str>, Stop>
+    ensures said { IfOk result (λ command. Says (map S.text words.entry.now) (named command)) }
     ensures usage { result ≡ Err Stop.Usage → SaysNothing (map S.text words.entry.now) }
     ensures memory { IfErr result (λ stop. stop ≢ Stop.Usage
         → stop ≡ Stop.Refused (DeskFault.File SheetFault.NoMemory)) }
@@ -83,108 +98,79 @@ pub fn parse_words<'a, S: AsStr>(alloc: Global, words: &'a [S]) -> Result<Comman
 }
 
 /// The command of this name with these words.
-fn command_of<'a>(name: &str, words: &ArgMatches<'a>) -> Option<Command<'a>>
-    ensures said { IfSome result (IsOf (name.now, rows_of (found_of words.now))) }
+fn command_of<'a>(name: &str, words: &ArgMatches<'a>) -> Option<Command<&'a str>>
+    ensures said { IfSome result (λ command.
+        IsOf (name.now, rows_of (found_of words.now)) (named command)) }
     ensures none { result ≡ None → IsOfNone (name.now, rows_of (found_of words.now)) }
 {
+    let machine = words.get_str("MACHINE")?;
+    let action = action_of(name, words)?;
+    Some(Command { machine, action })
+}
+
+/// What a command of this name with these words does.
+fn action_of<'a>(name: &str, words: &ArgMatches<'a>) -> Option<Action<&'a str>>
+    ensures said { IfSome result (λ action.
+        IsActionOf (name.now, rows_of (found_of words.now)) (action_named action)) }
+    ensures none { result ≡ None → (action : _)
+        → ¬ (IsActionOf (name.now, rows_of (found_of words.now)) action) }
+{
     match name {
-        "type" => type_of(words),
-        "card" => card_of(words),
-        "check" => check_of(words),
+        "type" => Some(Action::Type),
         "apply" => apply_of(words),
-        "send" => send_of(words),
-        "receive" => receive_of(words),
+        "card" => card_of(words),
+        "check" => work_of(words, Work::Check),
+        "send" => work_of(words, Work::Send),
+        "receive" => work_of(words, Work::Receive),
         _ => None,
     }
 }
 
-/// The typing that these words say.
-fn type_of<'a>(words: &ArgMatches<'a>) -> Option<Command<'a>>
-    ensures said { IfSome result (IsOf (codes "type", rows_of (found_of words.now))) }
-    ensures none { result ≡ None → IsOfNone (codes "type", rows_of (found_of words.now)) }
+/// The carrying out of the settings that these words name.
+fn apply_of<'a>(words: &ArgMatches<'a>) -> Option<Action<&'a str>>
+    ensures said { IfSome result (λ action.
+        IsActionOf (codes "apply", rows_of (found_of words.now)) (action_named action)) }
+    ensures none { result ≡ None → (action : _)
+        → ¬ (IsActionOf (codes "apply", rows_of (found_of words.now)) action) }
 {
-    let machine = words.get_str("MACHINE")?;
-    Some(Command::Type { machine })
+    let list = words.get_str("LIST")?;
+    Some(Action::Apply { list })
 }
 
-/// The card that these words say, if the day among them is one.
-fn card_of<'a>(words: &ArgMatches<'a>) -> Option<Command<'a>>
-    ensures said { IfSome result (IsOf (codes "card", rows_of (found_of words.now))) }
-    ensures none { result ≡ None → IsOfNone (codes "card", rows_of (found_of words.now)) }
+/// The card for the day that these words say, if it is one.
+fn card_of<'a>(words: &ArgMatches<'a>) -> Option<Action<&'a str>>
+    ensures said { IfSome result (λ action.
+        IsActionOf (codes "card", rows_of (found_of words.now)) (action_named action)) }
+    ensures none { result ≡ None → (action : _)
+        → ¬ (IsActionOf (codes "card", rows_of (found_of words.now)) action) }
 {
-    let (machine, sheet, day) = day_said(words)?;
-    Some(Command::Card {
-        machine,
-        sheet,
-        day,
-    })
+    let (sheet, day) = day_of(words)?;
+    let task = Task::Card;
+    Some(Action::OnDay { sheet, day, task })
 }
 
-/// The check that these words say, if the day among them is one.
-fn check_of<'a>(words: &ArgMatches<'a>) -> Option<Command<'a>>
-    ensures said { IfSome result (IsOf (codes "check", rows_of (found_of words.now))) }
-    ensures none { result ≡ None → IsOfNone (codes "check", rows_of (found_of words.now)) }
+/// The work on a third file that these words say, if the day among them is one.
+fn work_of<'a>(words: &ArgMatches<'a>, work: Work) -> Option<Action<&'a str>>
+    ensures said { IfSome result (λ action.
+        IsActionOf (work_name work, rows_of (found_of words.now)) (action_named action)) }
+    ensures none { result ≡ None → (action : _)
+        → ¬ (IsActionOf (work_name work, rows_of (found_of words.now)) action) }
 {
-    let (machine, sheet, day, card) = file_said(words, "CARD")?;
-    Some(Command::Check {
-        machine,
-        sheet,
-        day,
-        card,
-    })
+    let (sheet, day) = day_of(words)?;
+    let file = words.get_str(work.word())?;
+    let task = Task::Work(work, file);
+    Some(Action::OnDay { sheet, day, task })
 }
 
-/// The sending that these words say, if the day among them is one.
-fn send_of<'a>(words: &ArgMatches<'a>) -> Option<Command<'a>>
-    ensures said { IfSome result (IsOf (codes "send", rows_of (found_of words.now))) }
-    ensures none { result ≡ None → IsOfNone (codes "send", rows_of (found_of words.now)) }
+/// The sheet and the day that these words name.
+fn day_of<'a>(words: &ArgMatches<'a>) -> Option<(&'a str, u8)>
+    ensures said { IfSome result (λ on. HaveDay (rows_of (found_of words.now)) on.0.now on.1) }
+    ensures none { result ≡ None → (sheet : List ℕ) (day : ℕ)
+        → ¬ (HaveDay (rows_of (found_of words.now)) sheet day) }
 {
-    let (machine, sheet, day, order) = file_said(words, "ORDER")?;
-    Some(Command::Send {
-        machine,
-        sheet,
-        day,
-        order,
-    })
-}
-
-/// The receiving that these words say, if the day among them is one.
-fn receive_of<'a>(words: &ArgMatches<'a>) -> Option<Command<'a>>
-    ensures said { IfSome result (IsOf (codes "receive", rows_of (found_of words.now))) }
-    ensures none { result ≡ None → IsOfNone (codes "receive", rows_of (found_of words.now)) }
-{
-    let (machine, sheet, day, form) = file_said(words, "FORM")?;
-    Some(Command::Receive {
-        machine,
-        sheet,
-        day,
-        form,
-    })
-}
-
-/// The machine file, the sheet and the day that these words name.
-fn day_said<'a>(words: &ArgMatches<'a>) -> Option<(&'a str, &'a str, u8)>
-    ensures said { IfSome result (λ on.
-        HaveDay (rows_of (found_of words.now)) on.0.now on.1.now on.2) }
-    ensures none { result ≡ None → (machine sheet : List ℕ) (day : ℕ)
-        → ¬ (HaveDay (rows_of (found_of words.now)) machine sheet day) }
-{
-    let machine = words.get_str("MACHINE")?;
     let sheet = words.get_str("SHEET")?;
     let day = day_number(words.get_str("DAY")?)?;
-    Some((machine, sheet, day))
-}
-
-/// The same, and the file that the word of that name names.
-fn file_said<'a>(words: &ArgMatches<'a>, name: &str) -> Option<(&'a str, &'a str, u8, &'a str)>
-    ensures said { IfSome result (λ on.
-        HaveFile (rows_of (found_of words.now)) name.now on.0.now on.1.now on.2 on.3.now) }
-    ensures none { result ≡ None → (machine sheet : List ℕ) (day : ℕ) (file : List ℕ)
-        → ¬ (HaveFile (rows_of (found_of words.now)) name.now machine sheet day file) }
-{
-    let (machine, sheet, day) = day_said(words)?;
-    let file = words.get_str(name)?;
-    Some((machine, sheet, day, file))
+    Some((sheet, day))
 }
 
 /// The day that a word names: a decimal number from 1 to 31, without sign or leading zero.
@@ -200,16 +186,6 @@ fn day_number(word: &str) -> Option<u8>
     None
 }
 
-/// The carrying out of settings that these words say.
-fn apply_of<'a>(words: &ArgMatches<'a>) -> Option<Command<'a>>
-    ensures said { IfSome result (IsOf (codes "apply", rows_of (found_of words.now))) }
-    ensures none { result ≡ None → IsOfNone (codes "apply", rows_of (found_of words.now)) }
-{
-    let machine = words.get_str("MACHINE")?;
-    let list = words.get_str("LIST")?;
-    Some(Command::Apply { machine, list })
-}
-
 /// What may stand on the command line: no options and no help.
 fn grammar<'a>(alloc: Global) -> Result<Grammar<'a>, AllocError>
     ensures { IfOk result (λ grammar. app_of grammar ≡ desk_grammar) }
@@ -218,9 +194,9 @@ fn grammar<'a>(alloc: Global) -> Result<Grammar<'a>, AllocError>
         .disable_help_flag(true)
         .disable_help_subcommand(true)
         .subcommand(with_machine(alloc, "type")?)?
+        .subcommand(with_list(alloc, "apply")?)?
         .subcommand(with_day(alloc, "card")?)?
         .subcommand(with_file(alloc, "check", "CARD")?)?
-        .subcommand(with_list(alloc, "apply")?)?
         .subcommand(with_file(alloc, "send", "ORDER")?)?
         .subcommand(with_file(alloc, "receive", "FORM")?)
 }

@@ -1,16 +1,20 @@
 //! The program, from its words to its bytes.
-ghost use Rattle.std.specs.Prelude.{◌≡◌, ◌≢◌, ◌⊎◌, ◌||◌, map, Ok, Err, IfOk, IfErr, IfSome, IsTrue};
+ghost use Rattle.std.specs.Prelude.{◌≡◌, ◌≤◌, ◌⊎◌, ◌||◌, [], map, length, Err, IfSome, IsTrue, is_ok};
+ghost use Rattle.kd_desk.specs.CommandLine.{named, action_named, task_named, files_of, action_files, task_files};
 ghost use Rattle.kd_desk.specs.CommandLine.{Says, SaysNothing};
-ghost use Rattle.kd_desk.specs.Desk.{contents_of, run_of, typing_of, printing_of, checking_of, applying_of};
-ghost use Rattle.kd_desk.specs.Desk.{sending_of, receiving_of};
-ghost use Rattle.kd_desk.specs.Desk.{CarriesOut, IsLeftAlone, LacksMemory, is_stopped_before, is_stopped_by_port};
-ghost use Rattle.kd_desk.specs.Ports.{Fail, Port, port};
+ghost use Rattle.kd_desk.specs.Desk.{command_over, action_over, task_over, AskFor, CarriesOut, Does, DoesTask};
+ghost use Rattle.kd_desk.specs.Desk.{LacksMemory, has_read, is_stopped_before, is_stopped_by_port};
+ghost use Rattle.kd_desk.specs.Files.{Gives};
+ghost use Rattle.kd_desk.specs.OnDay.{OnDay};
+ghost use Rattle.kd_desk.specs.Ports.{Fail, port};
+ghost use Rattle.kd_desk.specs.RunSteps.{is_device, is_refused_before};
 
 #[cfg(test)]
 mod tests;
 
-use crate::command::{Command, parse_words};
-use crate::files::{FileFault, Files};
+use crate::command::{Action, Command, Task, Work, parse_words};
+use crate::fault::DeskFault;
+use crate::files::{Content, FileFault, Files};
 use crate::run_apply::run_apply;
 use crate::run_card::run_card;
 use crate::run_check::run_check;
@@ -24,225 +28,159 @@ use std::convert::AsStr;
 
 /// Carries out the command that the program's words say, the program's own name first, on the files that they name.
 ///
-/// Words that say no command are `Usage`. The files are read in the order of the words, each whole before the next, and
-/// the first that can't be had is `Unread`; then nothing is read from the source or written to the sink.
-pub fn run_desk<S: AsStr, F: Files, R: Source, W: Sink>(
+/// Words that say no command are `Usage`. The files are read in the order of the words, each once and whole before the
+/// next, and the first that can't be had is `Unread`; then nothing is read from the source or written to the sink.
+pub fn run_desk<'n, S: AsStr, F: Files<'n>, R: Source, W: Sink>(
     alloc: Global,
-    words: &[S],
-    files: &F,
+    words: &'n [S],
+    files: &mut F,
     source: &mut R,
     sink: &mut W,
 ) -> Result<(), Stop>
-    ensures carried { (command : Command) → Says (map S.text words.entry.now) command
-        → IfSome (F.known files.now) (λ held. CarriesOut (run_of held command)
+    requires { F.asked files.old ≡ [] }
+    ensures carried { (command : _) → Says (map S.text words.entry.now) command
+        → IfSome (F.known files.old) (λ held. CarriesOut (command_over held command)
         (port R.remaining R.has_failed source.old source.new) (port W.taken W.has_failed sink.old sink.new) result) }
+    ensures asked { (command : _) → Says (map S.text words.entry.now) command
+        → AskFor (files_of command) (F.asked files.old) (F.asked files.new) (has_read result) }
     ensures usage { result ≡ Err Stop.Usage → SaysNothing (map S.text words.entry.now) }
     ensures other_words { SaysNothing (map S.text words.entry.now)
         → (result ≡ Err Stop.Usage) ⊎ LacksMemory result }
+    ensures none_asked { SaysNothing (map S.text words.entry.now) → F.asked files.new ≡ [] }
     ensures untouched { IsTrue (is_stopped_before result) → (source.new ≡ source.old) × (sink.new ≡ sink.old) }
     ensures failed { Fail (port R.remaining R.has_failed source.old source.new)
         (port W.taken W.has_failed sink.old sink.new) (is_stopped_by_port result) }
 {
     let command = parse_words(alloc, words)?;
-    carry_out(alloc, command, files, source, sink)
+    let command = read_files(alloc, command, files)?;
+    carry_out(alloc, &command, source, sink)?;
+    Ok(())
 }
 
-/// Carries out a command on the files that it names.
-fn carry_out<F: Files, R: Source, W: Sink>(
+/// The command with the bytes of its files in the place of their names. They are read in the order of the words, each
+/// whole before the next; or why the first that can't be had is refused.
+fn read_files<'n, F: Files<'n>>(
     alloc: Global,
-    command: Command,
-    files: &F,
-    source: &mut R,
-    sink: &mut W,
-) -> Result<(), Stop>
-    ensures carried { IfSome (F.known files.now) (λ held. CarriesOut (run_of held command.entry)
-        (port R.remaining R.has_failed source.old source.new) (port W.taken W.has_failed sink.old sink.new) result) }
-    ensures begun { result ≢ Err Stop.Usage }
-    ensures untouched { IsTrue (is_stopped_before result) → (source.new ≡ source.old) × (sink.new ≡ sink.old) }
-    ensures failed { Fail (port R.remaining R.has_failed source.old source.new)
-        (port W.taken W.has_failed sink.old sink.new) (is_stopped_by_port result) }
+    command: Command<&'n str>,
+    files: &mut F,
+) -> Result<Command<Content>, FileFault>
+    requires { F.asked files.old ≡ [] }
+    ensures read { IfSome (F.known files.old) (λ held. Gives (command_over held (named command.entry)) result) }
+    ensures asked { AskFor (files_of (named command.entry)) (F.asked files.old) (F.asked files.new) (is_ok result) }
 {
-    match command {
-        Command::Type { machine } => type_on(alloc, machine, files, source, sink),
-        Command::Card {
-            machine,
-            sheet,
-            day,
-        } => print_on(alloc, machine, sheet, day, files, sink),
-        Command::Check {
-            machine,
-            sheet,
-            day,
-            card,
-        } => check_on(alloc, machine, sheet, day, card, files, sink),
-        Command::Apply { machine, list } => apply_on(alloc, machine, list, files, sink),
-        Command::Send {
-            machine,
-            sheet,
-            day,
-            order,
-        } => send_on(alloc, machine, sheet, day, order, files, sink),
-        Command::Receive {
-            machine,
-            sheet,
-            day,
-            form,
-        } => receive_on(alloc, machine, sheet, day, form, files, sink),
+    let machine = files.read(alloc, command.machine)?;
+    let action = read_action(alloc, command.action, files)?;
+    Ok(Command { machine, action })
+}
+
+/// The same of what is done with a machine.
+fn read_action<'n, F: Files<'n>>(
+    alloc: Global,
+    action: Action<&'n str>,
+    files: &mut F,
+) -> Result<Action<Content>, FileFault>
+    requires { length (F.asked files.old) ≤ 1 }
+    ensures read { IfSome (F.known files.old) (λ held. Gives (action_over held (action_named action.entry)) result) }
+    ensures asked { AskFor (action_files (action_named action.entry)) (F.asked files.old) (F.asked files.new) (is_ok result) }
+    ensures same { F.known files.new ≡ F.known files.old }
+{
+    match action {
+        Action::Type => Ok(Action::Type),
+        Action::Apply { list } => {
+            let list = files.read(alloc, list)?;
+            Ok(Action::Apply { list })
+        }
+        Action::OnDay { sheet, day, task } => {
+            let sheet = files.read(alloc, sheet)?;
+            let task = read_task(alloc, task, files)?;
+            Ok(Action::OnDay { sheet, day, task })
+        }
     }
 }
 
-/// Types on the machine of a file.
-fn type_on<F: Files, R: Source, W: Sink>(
+/// The same of what is done with a machine and a day.
+fn read_task<'n, F: Files<'n>>(
     alloc: Global,
-    machine: &str,
-    files: &F,
+    task: Task<&'n str>,
+    files: &mut F,
+) -> Result<Task<Content>, FileFault>
+    requires { length (F.asked files.old) ≤ 2 }
+    ensures read { IfSome (F.known files.old) (λ held. Gives (task_over held (task_named task.entry)) result) }
+    ensures asked { AskFor (task_files (task_named task.entry)) (F.asked files.old) (F.asked files.new) (is_ok result) }
+    ensures same { F.known files.new ≡ F.known files.old }
+{
+    match task {
+        Task::Card => Ok(Task::Card),
+        Task::Work(work, file) => {
+            let file = files.read(alloc, file)?;
+            Ok(Task::Work(work, file))
+        }
+    }
+}
+
+/// Carries out a command on the bytes of its files.
+fn carry_out<R: Source, W: Sink>(
+    alloc: Global,
+    command: &Command<Content>,
     source: &mut R,
     sink: &mut W,
-) -> Result<(), Stop>
-    ensures carried { IfSome (F.known files.now) (λ held. CarriesOut (typing_of (held machine.now))
-        (port R.remaining R.has_failed source.old source.new) (port W.taken W.has_failed sink.old sink.new) result) }
-    ensures begun { result ≢ Err Stop.Usage }
-    ensures untouched { IsTrue (is_stopped_before result) → (source.new ≡ source.old) × (sink.new ≡ sink.old) }
+) -> Result<(), DeskFault>
+    ensures does { Does command.now (port R.remaining R.has_failed source.old source.new)
+        (port W.taken W.has_failed sink.old sink.new) result }
+    ensures untouched { IsTrue (is_refused_before result) → (source.new ≡ source.old) × (sink.new ≡ sink.old) }
     ensures failed { Fail (port R.remaining R.has_failed source.old source.new)
-        (port W.taken W.has_failed sink.old sink.new) (is_stopped_by_port result) }
+        (port W.taken W.has_failed sink.old sink.new) (is_device result) }
 {
-    let bytes = files.read(alloc, machine)?;
-    run_type(alloc, bytes.as_slice(), source, sink)?;
-    Ok(())
+    let machine = command.machine.as_slice();
+    match &command.action {
+        Action::Type => run_type(alloc, machine, source, sink),
+        Action::Apply { list } => run_apply(alloc, machine, list.as_slice(), sink),
+        Action::OnDay { sheet, day, task } => {
+            carry_task(alloc, machine, sheet.as_slice(), *day, task, sink)
+        }
+    }
 }
 
-/// Prints the card that leads the machine of a file to the day of a sheet, without a look at the source.
-fn print_on<F: Files, W: Sink>(
+/// Does what is to be done with the machine and the day of this number.
+fn carry_task<W: Sink>(
     alloc: Global,
-    machine: &str,
-    sheet: &str,
-    day: u8,
-    files: &F,
+    machine: &[u8],
+    sheet: &[u8],
+    number: u8,
+    task: &Task<Content>,
     sink: &mut W,
-) -> Result<(), Stop>
-    ensures carried { IfSome (F.known files.now) (λ held. (source : Port) → IsLeftAlone source
-        → CarriesOut (printing_of (held machine.now) (held sheet.now) day) source
-        (port W.taken W.has_failed sink.old sink.new) result) }
-    ensures begun { result ≢ Err Stop.Usage }
-    ensures untouched { IsTrue (is_stopped_before result) → sink.new ≡ sink.old }
-    ensures failed { W.has_failed sink.new ≡ (W.has_failed sink.old || is_stopped_by_port result) }
+) -> Result<(), DeskFault>
+    ensures does { OnDay machine.now sheet.now number
+        (DoesTask task.now number (port W.taken W.has_failed sink.old sink.new) result) result }
+    ensures untouched { IsTrue (is_refused_before result) → sink.new ≡ sink.old }
+    ensures failed { W.has_failed sink.new ≡ (W.has_failed sink.old || is_device result) }
 {
-    let machine_file = files.read(alloc, machine)?;
-    let sheet_file = files.read(alloc, sheet)?;
-    let (machine, sheet) = (machine_file.as_slice(), sheet_file.as_slice());
-    run_card(alloc, machine, sheet, day, sink)?;
-    Ok(())
+    match task {
+        Task::Card => run_card(alloc, machine, sheet, number, sink),
+        Task::Work(work, file) => {
+            carry_work(alloc, machine, sheet, number, *work, file.as_slice(), sink)
+        }
+    }
 }
 
-/// The bytes of three files, each read whole before the next; or why the first that can't be had is refused.
-fn read_three<F: Files>(
+/// Works on a third file, on the machine and the day of this number.
+fn carry_work<W: Sink>(
     alloc: Global,
-    files: &F,
-    machine: &str,
-    sheet: &str,
-    file: &str,
-) -> Result<(Vec<u8>, Vec<u8>, Vec<u8>), FileFault>
-    ensures bytes { IfOk result (λ read. IfSome (F.known files.now) (λ held.
-        contents_of (held machine.now) (held sheet.now) (held file.now)
-        ≡ Ok (read.0.items, read.1.items, read.2.items))) }
-    ensures refused { IfErr result (λ fault. fault ≢ FileFault.NoMemory
-        → IfSome (F.known files.now) (λ held.
-        contents_of (held machine.now) (held sheet.now) (held file.now) ≡ Err fault)) }
-{
-    let machine = files.read(alloc, machine)?;
-    let sheet = files.read(alloc, sheet)?;
-    let file = files.read(alloc, file)?;
-    Ok((machine, sheet, file))
-}
-
-/// Checks the card of a third file for the machine of a file and the day of a sheet, without a look at the source.
-fn check_on<F: Files, W: Sink>(
-    alloc: Global,
-    machine: &str,
-    sheet: &str,
-    day: u8,
-    card: &str,
-    files: &F,
+    machine: &[u8],
+    sheet: &[u8],
+    number: u8,
+    work: Work,
+    file: &[u8],
     sink: &mut W,
-) -> Result<(), Stop>
-    ensures carried { IfSome (F.known files.now) (λ held. (source : Port) → IsLeftAlone source
-        → CarriesOut (checking_of (held machine.now) (held sheet.now) day (held card.now)) source
-        (port W.taken W.has_failed sink.old sink.new) result) }
-    ensures begun { result ≢ Err Stop.Usage }
-    ensures untouched { IsTrue (is_stopped_before result) → sink.new ≡ sink.old }
-    ensures failed { W.has_failed sink.new ≡ (W.has_failed sink.old || is_stopped_by_port result) }
+) -> Result<(), DeskFault>
+    ensures does { OnDay machine.now sheet.now number
+        (DoesTask (Task.Work work file.now) number (port W.taken W.has_failed sink.old sink.new) result) result }
+    ensures untouched { IsTrue (is_refused_before result) → sink.new ≡ sink.old }
+    ensures failed { W.has_failed sink.new ≡ (W.has_failed sink.old || is_device result) }
 {
-    let (machine, sheet, card) = read_three(alloc, files, machine, sheet, card)?;
-    let (machine, sheet) = (machine.as_slice(), sheet.as_slice());
-    run_check(alloc, machine, sheet, day, card.as_slice(), sink)?;
-    Ok(())
-}
-
-/// Carries the settings of a second file out on the machine of a file, without a look at the source.
-fn apply_on<F: Files, W: Sink>(
-    alloc: Global,
-    machine: &str,
-    list: &str,
-    files: &F,
-    sink: &mut W,
-) -> Result<(), Stop>
-    ensures carried { IfSome (F.known files.now) (λ held. (source : Port) → IsLeftAlone source
-        → CarriesOut (applying_of (held machine.now) (held list.now)) source
-        (port W.taken W.has_failed sink.old sink.new) result) }
-    ensures begun { result ≢ Err Stop.Usage }
-    ensures untouched { IsTrue (is_stopped_before result) → sink.new ≡ sink.old }
-    ensures failed { W.has_failed sink.new ≡ (W.has_failed sink.old || is_stopped_by_port result) }
-{
-    let machine = files.read(alloc, machine)?;
-    let list = files.read(alloc, list)?;
-    run_apply(alloc, machine.as_slice(), list.as_slice(), sink)?;
-    Ok(())
-}
-
-/// Prints the form of the order of a third file for the machine of a file and the day of a sheet, without a look at the
-/// source.
-fn send_on<F: Files, W: Sink>(
-    alloc: Global,
-    machine: &str,
-    sheet: &str,
-    day: u8,
-    order: &str,
-    files: &F,
-    sink: &mut W,
-) -> Result<(), Stop>
-    ensures carried { IfSome (F.known files.now) (λ held. (source : Port) → IsLeftAlone source
-        → CarriesOut (sending_of (held machine.now) (held sheet.now) day (held order.now)) source
-        (port W.taken W.has_failed sink.old sink.new) result) }
-    ensures begun { result ≢ Err Stop.Usage }
-    ensures untouched { IsTrue (is_stopped_before result) → sink.new ≡ sink.old }
-    ensures failed { W.has_failed sink.new ≡ (W.has_failed sink.old || is_stopped_by_port result) }
-{
-    let (machine, sheet, order) = read_three(alloc, files, machine, sheet, order)?;
-    let (machine, sheet) = (machine.as_slice(), sheet.as_slice());
-    run_send(alloc, machine, sheet, day, order.as_slice(), sink)?;
-    Ok(())
-}
-
-/// Prints the text of the form of a third file for the machine of a file and the day of a sheet, without a look at the
-/// source.
-fn receive_on<F: Files, W: Sink>(
-    alloc: Global,
-    machine: &str,
-    sheet: &str,
-    day: u8,
-    form: &str,
-    files: &F,
-    sink: &mut W,
-) -> Result<(), Stop>
-    ensures carried { IfSome (F.known files.now) (λ held. (source : Port) → IsLeftAlone source
-        → CarriesOut (receiving_of (held machine.now) (held sheet.now) day (held form.now)) source
-        (port W.taken W.has_failed sink.old sink.new) result) }
-    ensures begun { result ≢ Err Stop.Usage }
-    ensures untouched { IsTrue (is_stopped_before result) → sink.new ≡ sink.old }
-    ensures failed { W.has_failed sink.new ≡ (W.has_failed sink.old || is_stopped_by_port result) }
-{
-    let (machine, sheet, form) = read_three(alloc, files, machine, sheet, form)?;
-    let (machine, sheet) = (machine.as_slice(), sheet.as_slice());
-    run_receive(alloc, machine, sheet, day, form.as_slice(), sink)?;
-    Ok(())
+    match work {
+        Work::Check => run_check(alloc, machine, sheet, number, file, sink),
+        Work::Send => run_send(alloc, machine, sheet, number, file, sink),
+        Work::Receive => run_receive(alloc, machine, sheet, number, file, sink),
+    }
 }

@@ -6,6 +6,7 @@ mod command;
 mod desk;
 mod fault;
 mod files;
+mod finding;
 mod laws;
 mod limit;
 mod messages;
@@ -26,25 +27,26 @@ use desk::run_desk;
 use files::HostFiles;
 use ports::{ReaderSource, WriterSink};
 use std::process::ExitCode;
-use stop::Stop;
+use stop::{Exit, Stop};
 
 fn main(rt: HostRuntime) -> ExitCode {
-    let Err(stop) = run(&rt) else {
-        return ExitCode::SUCCESS;
-    };
-    let _ = eprintln!(rt; "{stop}");
-    ExitCode::from(stop.status())
+    let Exit { status, line } = Exit::of(run(&rt));
+    if let Some(stop) = line {
+        let _ = eprintln!(rt; "{stop}");
+    }
+    ExitCode::from(status)
 }
 
 /// Carries out the program's words, on the host's files and the standard input and output.
 fn run(rt: &HostRuntime) -> Result<(), Stop> {
     let words: Vec<String> = std::env::args(rt)?.collect(rt.alloc())?;
+    let mut files = HostFiles::new(rt);
     let mut source = ReaderSource::new(rt.stdin());
     let mut sink = WriterSink::new(rt.stdout());
     run_desk(
         rt.alloc(),
         words.as_slice(),
-        &HostFiles::new(rt),
+        &mut files,
         &mut source,
         &mut sink,
     )

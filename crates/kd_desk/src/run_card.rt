@@ -8,9 +8,9 @@ ghost use Rattle.kd_desk.specs.RunSteps.{is_refused_before, is_device};
 mod tests;
 
 use crate::fault::DeskFault;
+use crate::finding::find_day;
 use kd_card::write_card;
 use kd_plan::plan;
-use kd_sheet::{read_machine, read_sheet};
 use kd_state::{Machine, SheetDay, laws};
 use kd_tables::Sink;
 use std::alloc::Global;
@@ -31,10 +31,8 @@ pub fn run_card<W: Sink>(
     ensures untouched { IsTrue (is_refused_before result) → sink.new ≡ sink.old }
     ensures failed { W.has_failed sink.new ≡ (W.has_failed sink.old || is_device result) }
 {
-    let machine = read_machine(alloc, machine)?;
-    let sheet = read_sheet(alloc, sheet)?;
-    let day = sheet.day(number).ok_or(DeskFault::NoSuchDay)?;
-    print_card(&machine, day, sink)
+    let (machine, day) = find_day(alloc, machine, sheet, number)?;
+    print_card(&machine, &day, sink)
 }
 
 /// Writes the shortest card that leads the machine to the day.

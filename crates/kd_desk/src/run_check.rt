@@ -9,11 +9,11 @@ ghost use Rattle.kd_desk.specs.RunSteps.{is_refused_before, is_device};
 mod tests;
 
 use crate::fault::DeskFault;
+use crate::finding::find_day;
 use arrayvec::ArrayString;
 use itoa::Buffer;
 use kd_card::{laws, read_card};
 use kd_prices::check;
-use kd_sheet::{read_machine, read_sheet};
 use kd_state::{Machine, SheetDay};
 use kd_tables::{Device, Sink, put_all};
 use std::alloc::Global;
@@ -37,10 +37,8 @@ pub fn run_check<W: Sink>(
     ensures untouched { IsTrue (is_refused_before result) → sink.new ≡ sink.old }
     ensures failed { W.has_failed sink.new ≡ (W.has_failed sink.old || is_device result) }
 {
-    let machine = read_machine(alloc, machine)?;
-    let sheet = read_sheet(alloc, sheet)?;
-    let day = sheet.day(number).ok_or(DeskFault::NoSuchDay)?;
-    check_card(&machine, day, number, card, sink)
+    let (machine, day) = find_day(alloc, machine, sheet, number)?;
+    check_card(&machine, &day, number, card, sink)
 }
 
 /// Tells of the card of that day that it is a shortest one from the machine to the day.

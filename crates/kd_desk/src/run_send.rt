@@ -8,9 +8,9 @@ ghost use Rattle.kd_desk.specs.RunSteps.{is_refused_before, is_device};
 mod tests;
 
 use crate::fault::DeskFault;
+use crate::finding::find_day;
 use crate::messages::write_made;
 use kd_form::send;
-use kd_sheet::{read_machine, read_sheet};
 use kd_state::{Machine, SheetDay};
 use kd_tables::Sink;
 use std::alloc::Global;
@@ -33,10 +33,8 @@ pub fn run_send<W: Sink>(
     ensures untouched { IsTrue (is_refused_before result) → sink.new ≡ sink.old }
     ensures failed { W.has_failed sink.new ≡ (W.has_failed sink.old || is_device result) }
 {
-    let machine = read_machine(alloc, machine)?;
-    let sheet = read_sheet(alloc, sheet)?;
-    let day = sheet.day(number).ok_or(DeskFault::NoSuchDay)?;
-    send_order(alloc, &machine, day, order, sink)
+    let (machine, day) = find_day(alloc, machine, sheet, number)?;
+    send_order(alloc, &machine, &day, order, sink)
 }
 
 /// Writes the form that the order becomes on the machine and the day.

@@ -1,5 +1,5 @@
 ghost use Rattle.std.specs.Prelude.{◌≡◌};
-ghost use Rattle.kd_desk.specs.Stops.{status_of};
+ghost use Rattle.kd_desk.specs.Stops.{exit_of};
 
 use crate::fault::DeskFault;
 use crate::files::FileFault;
@@ -21,14 +21,33 @@ pub enum Stop {
     Refused(DeskFault),
 }
 
-impl Stop {
-    /// The status with which the program ends: 2 for words that are no command, 1 for a refusal.
-    pub fn status(self) -> u8
-        ensures { result ≡ status_of self }
+/// How the program ends.
+#[derive(Clone, Copy, Debug, PartialEq, Eq)]
+pub struct Exit {
+    /// The status: 0 where all was done, 2 for words that are no command, 1 for a refusal.
+    pub status: u8,
+    /// What stopped the program, for its line on standard error.
+    pub line: Option<Stop>,
+}
+
+impl Exit {
+    /// How the program ends with this answer.
+    pub fn of(answer: Result<(), Stop>) -> Self
+        ensures { result ≡ exit_of answer }
     {
-        match self {
-            Stop::Usage => 2,
-            Stop::Unread(_) | Stop::Refused(_) => 1,
+        match answer {
+            Ok(()) => Exit {
+                status: 0,
+                line: None,
+            },
+            Err(Stop::Usage) => Exit {
+                status: 2,
+                line: Some(Stop::Usage),
+            },
+            Err(stop) => Exit {
+                status: 1,
+                line: Some(stop),
+            },
         }
     }
 }

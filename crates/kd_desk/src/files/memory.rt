@@ -1,26 +1,31 @@
-ghost use Rattle.std.specs.Prelude.{◌≡◌, option_map};
+ghost use Rattle.std.specs.Prelude.{◌≡◌, [], option_map};
 ghost use Rattle.kd_desk.specs.Files.{held_in};
 
-use super::{FileFault, Files};
-use crate::limit::READ_LIMIT;
+use super::asked::Asked;
+use super::{Content, FileFault, Files};
 use std::alloc::Global;
 
 /// Files in memory: a name and the bytes of each.
-#[derive(Clone, Copy)]
-pub struct MemoryFiles<'a> {
-    files: &'a [(&'a str, &'a [u8])],
+#[derive(Drop)]
+pub struct MemoryFiles<'n> {
+    files: &'n [(&'n str, &'n [u8])],
+    asked: Asked<'n>,
 }
 
-impl<'a> MemoryFiles<'a> {
+impl<'n> MemoryFiles<'n> {
     /// These files. Of two with one name the first is read.
-    pub fn new(files: &'a [(&'a str, &'a [u8])]) -> Self
-        ensures { result.files ≡ files.entry }
+    pub fn new(files: &'n [(&'n str, &'n [u8])]) -> Self
+        ensures files { result.files ≡ files.entry }
+        ensures asked { result.asked ≡ [] }
     {
-        MemoryFiles { files }
+        MemoryFiles {
+            files,
+            asked: Asked::new(),
+        }
     }
 
     /// The bytes of the first file of this name.
-    fn find(&self, name: &str) -> Option<&'a [u8]>
+    fn find(&self, name: &str) -> Option<&'n [u8]>
         ensures { option_map (λ bytes. bytes.now) result ≡ held_in self.now.files.now name.now }
     {
         let (_, bytes) = self.files.iter().find(|(held, _)| *held == name)?;
@@ -28,17 +33,17 @@ impl<'a> MemoryFiles<'a> {
     }
 }
 
-impl<'a> Files for MemoryFiles<'a> {
+impl<'n> Files<'n> for MemoryFiles<'n> {
     ghost use Rattle.std.specs.Prelude.{Some};
     ghost use Rattle.kd_desk.specs.Files.{held_in};
 
     ghost known = { λ s. Some (held_in s.files.now) };
 
-    fn read(&self, alloc: Global, name: &str) -> Result<Vec<u8>, FileFault> {
+    ghost asked = { λ s. s.asked };
+
+    fn read(&mut self, alloc: Global, name: &'n str) -> Result<Content, FileFault> {
+        self.asked.add(name);
         let bytes = self.find(name).ok_or(FileFault::Device)?;
-        if bytes.len() > READ_LIMIT {
-            return Err(FileFault::ReadTooLong);
-        }
-        Ok(Vec::from_slice(alloc, bytes)?)
+        Content::new(Vec::from_slice(alloc, bytes)?)
     }
 }

@@ -2,7 +2,8 @@ use Rattle.std.proofs.Common.{true, ap, ap₂, codes, ◌≡◌, ◌∙◌}
 use Rattle.std.proofs.lemmas.Result.{IfOk-weaker}
 use Rattle.clap.specs.Words.{App, app_of, new_app, with_subcommand}
 use Rattle.clap.specs.Simple.{app_of_fields}
-use Rattle.kd_desk.specs.CommandLine.{type_form, card_form, check_form, apply_form, send_form, desk_grammar}
+use Rattle.kd_desk.specs.declared.command.Work.TheVariants.{Check, Send}
+use Rattle.kd_desk.specs.CommandLine.{type_form, card_form, apply_form, work_form, desk_grammar}
 use Rattle.kd_desk.proofs.command.grammar.Goals as goal
 
 abbrev without_help : App → App
@@ -18,17 +19,17 @@ bare = without_help_command (without_help (new_app (codes "desk")))
 abbrev with_types : App
 with_types = with_subcommand bare type_form
 
+abbrev with_lists : App
+with_lists = with_subcommand with_types apply_form
+
 abbrev with_cards : App
-with_cards = with_subcommand with_types card_form
+with_cards = with_subcommand with_lists card_form
 
 abbrev with_checks : App
-with_checks = with_subcommand with_cards check_form
-
-abbrev with_lists : App
-with_lists = with_subcommand with_checks apply_form
+with_checks = with_subcommand with_cards (work_form Check)
 
 abbrev with_orders : App
-with_orders = with_subcommand with_lists send_form
+with_orders = with_subcommand with_checks (work_form Send)
 
 pub returns : goal.returns
 unfolding desk_grammar
@@ -37,13 +38,13 @@ returns c =
     ap app_of_fields c.disable_help_subcommand.ensures ∙ ap without_help_command (ap app_of_fields c.disable_help_flag.ensures ∙ ap without_help c.new.ensures.app) in
     let types : app_of c.in_ok-subcommand.field-0 ≡ with_types =
     c.in_ok-subcommand.ensures.shape c.in_ok-with_machine.ensures.local ∙ ap₂ with_subcommand desk_new (ap (λ (a : App). a.top) c.in_ok-with_machine.ensures.shape) in
-    let cards : app_of c.in_ok-subcommand-2.field-0 ≡ with_cards =
-    c.in_ok-subcommand-2.ensures.shape c.in_ok-with_day.ensures.local ∙ ap₂ with_subcommand types (ap (λ (a : App). a.top) c.in_ok-with_day.ensures.shape) in
-    let checks : app_of c.in_ok-subcommand-3.field-0 ≡ with_checks =
-    c.in_ok-subcommand-3.ensures.shape c.in_ok-with_file.ensures.local ∙ ap₂ with_subcommand cards (ap (λ (a : App). a.top) c.in_ok-with_file.ensures.shape) in
-    let lists : app_of c.in_ok-subcommand-4.field-0 ≡ with_lists =
-    c.in_ok-subcommand-4.ensures.shape c.in_ok-with_list.ensures.local ∙ ap₂ with_subcommand checks (ap (λ (a : App). a.top) c.in_ok-with_list.ensures.shape) in
+    let lists : app_of c.in_ok-subcommand-2.field-0 ≡ with_lists =
+    c.in_ok-subcommand-2.ensures.shape c.in_ok-with_list.ensures.local ∙ ap₂ with_subcommand types (ap (λ (a : App). a.top) c.in_ok-with_list.ensures.shape) in
+    let cards : app_of c.in_ok-subcommand-3.field-0 ≡ with_cards =
+    c.in_ok-subcommand-3.ensures.shape c.in_ok-with_day.ensures.local ∙ ap₂ with_subcommand lists (ap (λ (a : App). a.top) c.in_ok-with_day.ensures.shape) in
+    let checks : app_of c.in_ok-subcommand-4.field-0 ≡ with_checks =
+    c.in_ok-subcommand-4.ensures.shape c.in_ok-with_file.ensures.local ∙ ap₂ with_subcommand cards (ap (λ (a : App). a.top) c.in_ok-with_file.ensures.shape) in
     let orders : app_of c.in_ok-subcommand-5.field-0 ≡ with_orders =
-    c.in_ok-subcommand-5.ensures.shape c.in_ok-with_file-2.ensures.local ∙ ap₂ with_subcommand lists (ap (λ (a : App). a.top) c.in_ok-with_file-2.ensures.shape) in
+    c.in_ok-subcommand-5.ensures.shape c.in_ok-with_file-2.ensures.local ∙ ap₂ with_subcommand checks (ap (λ (a : App). a.top) c.in_ok-with_file-2.ensures.shape) in
     IfOk-weaker c.subcommand-6.result _ _ (λ r adds. adds.shape c.in_ok-with_file-3.ensures.local
     ∙ ap₂ with_subcommand orders (ap (λ (a : App). a.top) c.in_ok-with_file-3.ensures.shape)) c.subcommand-6.ensures

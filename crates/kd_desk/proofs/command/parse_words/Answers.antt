@@ -1,6 +1,6 @@
 use Rattle.std.proofs.Common.{map, ℕ, List, Err, sym, ◌∙◌}
 use Rattle.clap.specs.Words.{Row, app_of, found_of, rows_of}
-use Rattle.kd_desk.specs.CommandLine.{IsOf, Says}
+use Rattle.kd_desk.specs.CommandLine.{named, IsOf, Says}
 use Rattle.kd_desk.proofs.CommandLines.{parse_fails_by, parse_takes, parse_enters, no_fault_said, no_subcommand_said, subcommand_said, said_subcommand, paired, usage_refused, no_entered, ok_said, no_command_of, usage_or_said}
 use Rattle.kd_desk.proofs.command.parse_words.Goals as goal
 
@@ -22,7 +22,8 @@ returns-clause-said g c =
     let taken = parse_takes (app_of c.in_ok-grammar.field-0) words c.in-Ok.matches c.in_ok-grammar.ensures c.in-Ok.ensures.kinds in
     let entered = sym (parse_enters (app_of c.in_ok-grammar.field-0) words c.in-Ok.matches c.in_ok-grammar.ensures c.in-Ok.ensures.matches)
     ∙ paired _ _ _ said.0 said.1 c.in-Some.ensures.name c.in-Some.ensures.rows in
-    ok_said c.command_of.result c.ok_or.result (IsOf said) (Says words) c.ok_or.ensures.value (said_subcommand words said taken entered) c.command_of.ensures.said
+    ok_said c.command_of.result c.ok_or.result (λ command. IsOf said (named command)) (λ command. Says words (named command)) c.ok_or.ensures.value
+    (λ command. said_subcommand words said taken entered (named command)) c.command_of.ensures.said
 
 pub returns-clause-usage : goal.returns-clause-usage
 returns-clause-usage g c =

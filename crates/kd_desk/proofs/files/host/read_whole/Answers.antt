@@ -1,22 +1,55 @@
-use Rattle.std.proofs.Common.{◌≡◌, ℕ, ◌+◌, ◌≤◌, List, [], ◌++◌, Option, Some, None, option_map, IfSome, length, take, drop, ap, subst, sym, ◌∙◌, take-append-drop, arith}
-use Rattle.std.proofs.lemmas.List.{take_all, length-append, length-drop}
+use Rattle.std.proofs.Common.{◌≡◌, ◌⊎◌, ℕ, ◌<◌, List, [], ◌++◌, Option, Some, None, option_map, IfSome, Result, Ok, Err, IsErrAnd, length, take, inl, inr, refl, ap, subst, sym, ◌∙◌, arith, if◌then◌else◌}
+use Rattle.std.specs.declared.io.ErrorKind.{ErrorKind}
+use Rattle.std.specs.declared.io.ErrorKind.TheVariants.{OutOfMemory}
+use Rattle.std.proofs.lemmas.Bool.Decides.{leb_tells}
+use Rattle.std.proofs.lemmas.List.{take_all, length-take-le}
+use Rattle.kd_desk.specs.declared.files.fault.FileFault.{FileFault}
+use Rattle.kd_desk.specs.declared.files.fault.FileFault.TheVariants.{ReadTooLong}
+use Rattle.kd_desk.specs.Files.{content_of, HasFailed}
+use Rattle.kd_desk.specs.Stops.{fault_of_kind}
 use Rattle.kd_desk.proofs.files.host.read_whole.Goals as goal
 
--- bytes that are fewer than were asked for are all
-whole : (asked : ℕ) (all : Option (List ℕ)) (items before : List ℕ) → before ≡ [] → IfSome (option_map (take asked) all) (λ xs. items ≡ before ++ xs)
-    → length items + 1 ≤ asked → IfSome all (λ xs. items ≡ xs)
-whole asked None items before none is few = tt
-whole asked (Some xs) items before none is few =
-    let front : items ≡ take asked xs = is ∙ ap (λ l. l ++ take asked xs) none in
-    let parts : length xs ≡ length (take asked xs) + length (drop asked xs) = ap length (sym (take-append-drop asked xs)) ∙ length-append (take asked xs) (drop asked xs) in
-    let short : length xs ≤ asked = omega (arith, parts, length-drop asked xs, ap length front, few) in
-    front ∙ take_all asked xs short
+too_long : (bytes : List ℕ) → 1048576 < length bytes → content_of (Some bytes) ≡ Err ReadTooLong
+too_long bytes more = elim (leb_tells (length bytes) 1048576) [
+  | inl is ↦ let few = is.1 in absurd (omega (arith, more, few))
+  | inr is ↦ ap (λ b. if b then Ok bytes else Err ReadTooLong) is.0
+]
 
-pub returns-clause-whole : goal.returns-clause-whole
-returns-clause-whole g c =
+-- one byte more than the limit tells that there are more
+judged : (all : List ℕ) → content_of (Some (take 1048577 all)) ≡ content_of (Some all)
+judged all = elim (leb_tells (length all) 1048576) [
+  | inl is ↦ let few = is.1 in ap (λ l. content_of (Some l)) (take_all 1048577 all (omega (arith, few)))
+  | inr is ↦
+    let more = is.1 in
+    let taken = length-take-le 1048577 all (omega (arith, more)) in
+    too_long (take 1048577 all) (omega (arith, taken)) ∙ sym (too_long all more)
+]
+
+whole : (all : Option (List ℕ)) (items before : List ℕ) (answer : Result (List ℕ) FileFault) → before ≡ []
+    → IfSome (option_map (take 1048577) all) (λ xs. items ≡ before ++ xs) → answer ≡ content_of (Some items)
+    → IfSome all (λ xs. (answer ≡ content_of (Some xs)) ⊎ HasFailed answer)
+whole None items before answer none is judges = tt
+whole (Some xs) items before answer none is judges =
+    inl (judges ∙ ap (λ l. content_of (Some l)) (is ∙ ap (λ l. l ++ take 1048577 xs) none) ∙ judged xs)
+
+abbrev fails : FileFault → Result (List ℕ) FileFault
+fails fault = Err fault
+
+failed_by : (kind : ErrorKind) → HasFailed (fails (fault_of_kind kind))
+failed_by OutOfMemory = inr refl
+failed_by _ = inl refl
+
+failed : (all : Option (List ℕ)) (answer : Result (List ℕ) FileFault) (kind : ErrorKind) → IsErrAnd answer (λ made. made ≡ fault_of_kind kind)
+    → IfSome all (λ xs. (answer ≡ content_of (Some xs)) ⊎ HasFailed answer)
+failed None answer kind made = tt
+failed (Some xs) (Ok content) kind made = absurd made
+failed (Some xs) (Err fault) kind made = inr (subst (λ f. HasFailed (fails f)) (sym made) (failed_by kind))
+
+pub returns : goal.returns
+returns g c =
     let read = c.read_to_end.new.buf in
     let limit = c.take-front.ensures.limit in
     let inner = c.take-front.ensures.inner in
     let bytes = subst (λ n. IfSome (option_map (take n) (g.R.Read.remaining c.args.reader)) (λ xs. read.items ≡ c.new-bytes.result.items ++ xs)) limit
     (subst (λ r. IfSome (option_map (take c.take-front.result.limit) (g.R.Read.remaining r)) (λ xs. read.items ≡ c.new-bytes.result.items ++ xs)) inner c.in_ok-read_to_end.ensures.bytes) in
-    whole 1048577 (g.R.Read.remaining c.args.reader) read.items c.new-bytes.result.items c.new-bytes.ensures.items bytes (omega (arith, c.len.ensures, c.if-len-gt-READ_LIMIT.false, read.ok))
+    whole (g.R.Read.remaining c.args.reader) read.items c.new-bytes.result.items c.new.result c.new-bytes.ensures.items bytes c.new.ensures

@@ -1,0 +1,18 @@
+use Rattle.std.proofs.Common.{codes, rules}
+use Rattle.clap.specs.Words.{found_of, rows_of}
+use Rattle.kd_desk.proofs.CommandLines.{read_none, read_some}
+use Rattle.kd_desk.proofs.SaidCommands.{no_machine}
+use Rattle.kd_desk.proofs.command.command_of.Goals as goal
+
+pub returns-in_err-machine-clause-none : goal.returns-in_err-machine-clause-none
+returns-in_err-machine-clause-none c =
+    let found = found_of c.args.words.now in
+    λ _. no_machine (c.args.name.now, rows_of found) (read_none found (codes "MACHINE") c.get_str.result c.get_str.ensures (search rules))
+
+pub returns-clause-said : goal.returns-clause-said
+returns-clause-said c =
+    let found = found_of c.args.words.now in
+    record {
+      machine = read_some found (codes "MACHINE") c.get_str.result c.in_ok-machine.machine c.get_str.ensures (search rules);
+      action = c.in_ok-action.ensures.said;
+    }

@@ -1,0 +1,27 @@
+use Rattle.std.proofs.Common.{rules, Some, codes, ap, ◌∙◌}
+use Rattle.clap.specs.Words.{found_of}
+use Rattle.kd_desk.proofs.CommandLines.{read_some, no_word, other_word}
+use Rattle.kd_desk.proofs.command.day_of.Goals as goal
+
+pub returns-in_err-sheet-clause-none : goal.returns-in_err-sheet-clause-none
+returns-in_err-sheet-clause-none c =
+    λ _ sheet day have. no_word (found_of c.args.words.now) (codes "SHEET") c.get_str.result c.get_str.ensures (search rules) sheet have.sheet_word
+
+pub returns-in_err-get_str-clause-none : goal.returns-in_err-get_str-clause-none
+returns-in_err-get_str-clause-none c =
+    λ _ sheet day have. no_word (found_of c.args.words.now) (codes "DAY") c.get_str-2.result c.get_str-2.ensures (search rules) _ have.day_word
+
+pub returns-in_err-day-clause-none : goal.returns-in_err-day-clause-none
+returns-in_err-day-clause-none c =
+    λ _ sheet day have.
+    other_word (found_of c.args.words.now) (codes "DAY") c.get_str-2.result c.in_ok-get_str.field-0 c.get_str-2.ensures (search rules) (c.day_number.ensures.none (search rules))
+    day have.of_month have.day_word
+
+pub returns-clause-said : goal.returns-clause-said
+returns-clause-said c =
+    let found = found_of c.args.words.now in
+    record {
+      sheet_word = read_some found (codes "SHEET") c.get_str.result c.in_ok-sheet.sheet c.get_str.ensures (search rules);
+      day_word = read_some found (codes "DAY") c.get_str-2.result c.in_ok-get_str.field-0 c.get_str-2.ensures (search rules) ∙ ap Some (c.in_ok-day.ensures.day).0;
+      of_month = (c.in_ok-day.ensures.day).1;
+    }

@@ -1,0 +1,24 @@
+//! The machine and the day that files say.
+ghost use Rattle.kd_desk.specs.OnDay.{FindsDay};
+
+use crate::fault::DeskFault;
+use kd_sheet::{read_machine, read_sheet};
+use kd_state::{Machine, SheetDay};
+use std::alloc::Global;
+
+/// The machine of a machine file, and the sheet's day of this number.
+///
+/// The machine file's faults come first, then the sheet's, then `NoSuchDay`.
+pub fn find_day(
+    alloc: Global,
+    machine: &[u8],
+    sheet: &[u8],
+    number: u8,
+) -> Result<(Machine, SheetDay), DeskFault>
+    ensures { FindsDay machine.now sheet.now number result }
+{
+    let machine = read_machine(alloc, machine)?;
+    let sheet = read_sheet(alloc, sheet)?;
+    let day = sheet.into_day(number).ok_or(DeskFault::NoSuchDay)?;
+    Ok((machine, day))
+}
