@@ -45,10 +45,12 @@ pub(crate) fn push_cables(
 
 /// Appends the lines of one cable, letter by letter.
 fn push_cable(settings: &mut Settings, work: Work, number: u8, cable: &Cable, column: &Column)
-    requires { let lines = cable_work work number (cable_letters cable.now) (column_letters column.now) in
-        array_vec_len settings.old + length lines ≤ 192 }
-    ensures { let lines = cable_work work number (cable_letters cable.now) (column_letters column.now) in
-        settings.new.items ≡ settings.old.items ++ lines }
+    requires { let held = cable_letters cable.now in
+        let due = column_letters column.now in
+        array_vec_len settings.old + length (cable_work work number held due) ≤ 192 }
+    ensures { let held = cable_letters cable.now in
+        let due = column_letters column.now in
+        settings.new.items ≡ settings.old.items ++ cable_work work number held due }
 {
     for index in 0..26 {
         let letter = Letter::new(index).unwrap();
@@ -64,7 +66,8 @@ fn cable_line(
     column: &Column,
     letter: Letter,
 ) -> Option<Setting>
-    ensures { let moved = is_moved work (cable_letters cable.now) (column_letters column.now) letter in
+    ensures { let held = cable_letters cable.now in
+        let moved = is_moved work held (column_letters column.now) letter in
         result ≡ unless_so (not moved) (work_setting work number letter) }
 {
     let present = lies_in(*cable, letter);
