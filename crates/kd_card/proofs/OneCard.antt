@@ -1,7 +1,6 @@
 -- Bytes are one card, or have one fault.
-use Rattle.std.proofs.Common.{codes, ◌≡◌, ◌≢◌, ℕ, ◌+◌, ◌*◌, ◌^◌, ◌<◌, ◌≤◌, inl, inr, List, [], ◌∷◌, ◌++◌, length, map, get_or, decimal, Result, Ok, Err, refl, sym, ap, subst, ◌∙◌, arith, ℤ, pos, negsuc, unsigned_abs, length-append}
+use Rattle.std.proofs.Common.{codes, ◌≡◌, ◌≢◌, ℕ, ◌+◌, ◌*◌, ◌≤◌, inl, inr, List, [], ◌∷◌, ◌++◌, length, map, get_or, drop, decimal, Result, Ok, Err, refl, sym, ap, subst, ◌∙◌, arith, ℤ, unsigned_abs, length-append}
 use Rattle.std.specs.List.{All, AllByRecursion}
-use Rattle.std.specs.Int.Signed.{mag}
 use Rattle.std.specs.Fmt.{signed_decimal}
 use Rattle.std.proofs.lemmas.Fmt.{decimal_injective, signed_decimal_injective}
 use Rattle.std.proofs.lemmas.List.{append_cancel_left, length-map}
@@ -15,13 +14,14 @@ use Rattle.kd_state.specs.Laws.{SettingsHaveWords, LinesTellSettings}
 use Rattle.kd_card.specs.declared.prices.PriceParts.{PriceParts}
 use Rattle.kd_card.specs.declared.prices.PriceParts.TheVariants.{Cables, Bars}
 use Rattle.kd_card.specs.declared.fault.CardFault.{CardFault}
-use Rattle.kd_card.specs.declared.fault.CardFault.TheVariants.{BadHead, TooMany, Trailing}
+use Rattle.kd_card.specs.declared.fault.CardFault.TheVariants.{BadHead, BadLine, TooMany, PriceMissing, Trailing}
 use Rattle.kd_card.specs.Prices.{row_prices, column_prices, price_sum, AreWithinReach, ArePrices}
 use Rattle.kd_card.specs.CardText.{Kind, OfCables, OfBars, kind_of, row_word, column_word, head_words, settings_words, price_words, sum_words, IsCard}
-use Rattle.kd_card.specs.CardFault.{price_count, with_line, IsNumberText, IsSignedText, IsCountFault, ToSettings, ToNumber, ToRows, ToColumns, HasWords, IsValueFault, OtherValue, NoValue, IsPricesFault, NoLine, NoEnd, OtherWord, OtherPrices, AreRows, AreColumns, IsCardFault, AtHead, AtSettings, AtNumber, AtRows, AtColumns, AtSum, AtEnd}
+use Rattle.kd_card.specs.CardFault.{price_count, with_line, IsNumberText, IsSignedText, IsPriceText, IsCountFault, ToSettings, ToNumber, ToRows, ToColumns, HasWords, IsValueFault, OtherValue, NoValue, IsPricesFault, NoLine, NoEnd, OtherWord, OtherPrices, AreRows, AreColumns, IsCardFault, AtHead, AtSettings, AtNumber, AtRows, AtColumns, AtSum, AtEnd}
 use Rattle.kd_card.specs.Reading.{BeginsWithHead, BeginsWithSettings, BeginsWithPrices}
 use Rattle.kd_card.specs.Laws.{TextsTellCards, CardsHaveNoFault, OneCardFault}
 use Rattle.kd_card.proofs.Lines.{text_of_more, no_first_part, same_first_part, unbroken_by_test, unbroken_number, unbroken_signed}
+use Rattle.kd_card.proofs.PriceTexts.{small}
 use Rattle.kd_card.proofs.PriceLines.{all_price_texts}
 use Rattle.kd_card.proofs.Cards.{as_many, goes_to_columns}
 use Rattle.kd_card.proofs.CardWords.{head_is_words, settings_is_words, row_is_word, column_is_word, prices_are_words, number_text, signed_text, price_sum_is_small}
@@ -68,8 +68,23 @@ only_step {Next} sure next v w (Found x a l) (Found y b m) = next y b v w (subst
 abbrev PriceLine : Type 0
 PriceLine = List ℕ × List ℤ × List ℕ
 
-abbrev FindsPrices : (List ℕ → ℕ → Type 0) → List ℕ → PriceLine → Type 0
-FindsPrices IsDue bytes line = IsDue line.0 (length line.1) × BeginsWithPrices bytes line.0 line.1 line.2
+-- ---- the steps of a line of prices: there is one, it ends, its first word is due, and so are so many prices
+
+abbrev BeginsDue : (List ℕ → ℕ → Type 0) → List (List ℕ) → List ℕ × List (List ℕ) × ℕ → Type 0
+BeginsDue IsDue words x = (words ≡ x.0 ∷ x.1) × IsDue x.0 x.2
+
+abbrev BeginsOtherwise : (List ℕ → ℕ → Type 0) → List (List ℕ) → CardFault → Type 0
+BeginsOtherwise IsDue words fault = ((x : List ℕ × List (List ℕ) × ℕ) → ¬ (BeginsDue IsDue words x)) × (fault ≡ PriceMissing)
+
+abbrev ArePricesOf : ℕ → List (List ℕ) → List ℤ → Type 0
+ArePricesOf number words prices = (words ≡ map signed_decimal prices) × AreWithinReach prices × (length prices ≡ number)
+
+abbrev LineSays : (List ℕ → ℕ → Type 0) → ℕ → List ℕ → (PriceLine → Verdict → Type 0) → Verdict → Type 0
+LineSays IsDue line bytes Next =
+    Step (λ (some : Unit {0}). bytes ≢ []) (λ fault. (bytes ≡ []) × (fault ≡ PriceMissing))
+    (λ some. Step (λ (found : List (List ℕ) × List ℕ). HasWords bytes found.0 found.1) (λ fault. IsWithout 10 bytes × (fault ≡ BadLine line))
+    (λ found. Step (BeginsDue IsDue found.0) (BeginsOtherwise IsDue found.0)
+    (λ x. Step (ArePricesOf x.2 x.1) (IsCountFault x.2 line x.1) (λ prices. Next (x.0, prices, found.1)))))
 
 -- ---- the steps of a card, from the last to the first
 
@@ -88,14 +103,13 @@ BehindColumns day xs kind rows line v =
     × SumSays day xs prices line.2 v
 
 abbrev ColumnsSay : ℕ → List Setting → Kind → List ℤ → List ℕ → Verdict → Type 0
-ColumnsSay day xs kind rows rest =
-    Step (FindsPrices (AreColumns kind) rest) (IsPricesFault (AreColumns kind) (length xs + 4) rest) (BehindColumns day xs kind rows)
+ColumnsSay day xs kind rows rest = LineSays (AreColumns kind) (length xs + 4) rest (BehindColumns day xs kind rows)
 
 abbrev BehindRows : ℕ → List Setting → PriceLine → Verdict → Type 0
 BehindRows day xs line v = (kind : Kind) × (line.0 ≡ row_word kind) × ColumnsSay day xs kind line.1 line.2 v
 
 abbrev RowsSay : ℕ → List Setting → List ℕ → Verdict → Type 0
-RowsSay day xs rest = Step (FindsPrices AreRows rest) (IsPricesFault AreRows (length xs + 3) rest) (BehindRows day xs)
+RowsSay day xs rest = LineSays AreRows (length xs + 3) rest (BehindRows day xs)
 
 abbrev NumberSays : ℕ → List Setting → List ℕ → Verdict → Type 0
 NumberSays day xs rest =
@@ -117,12 +131,8 @@ CardSays bytes = Step (λ (head : ℕ × List ℕ). BeginsWithHead bytes head.0 
 
 -- ---- prices, kinds and first words
 
-small_mag : (p : ℤ) → unsigned_abs p ≤ 9999 → mag p < 2 ^ 63
-small_mag (pos n) within = omega arith
-small_mag (negsuc n) within = omega arith
-
 same_price : (p q : ℤ) → unsigned_abs p ≤ 9999 → unsigned_abs q ≤ 9999 → signed_decimal p ≡ signed_decimal q → p ≡ q
-same_price p q a b e = signed_decimal_injective p q (small_mag p a) (small_mag q b) e
+same_price p q a b e = signed_decimal_injective p q (small p a) (small q b) e
 
 same_prices : (ps qs : List ℤ) → AllByRecursion (λ p. unsigned_abs p ≤ 9999) ps → AllByRecursion (λ p. unsigned_abs p ≤ 9999) qs
     → map signed_decimal ps ≡ map signed_decimal qs → ps ≡ qs
@@ -165,22 +175,22 @@ no_setting (Turn s l) e = omega (arith, e)
 no_setting (PinTo w l p) e = omega (arith, e)
 no_setting (LugTo b l p) e = omega (arith, e)
 
--- the words that may begin a line of prices, and how many prices are due behind each
-record AreDue (IsDue : List ℕ → ℕ → Type 0) : Type 0 where
-  are_words : (first : List ℕ) (number : ℕ) → IsDue first number → IsWord first
-  one_number : (first : List ℕ) (number other : ℕ) → IsDue first number → IsDue first other → number ≡ other
+-- how many prices are due behind a word
+abbrev IsOneNumber : (List ℕ → ℕ → Type 0) → Type 0
+IsOneNumber IsDue = (first : List ℕ) (number other : ℕ) → IsDue first number → IsDue first other → number ≡ other
 
-rows_are_due : AreDue AreRows
-rows_are_due = record {
-  are_words = λ first number due. subst IsWord (sym due.1) (row_is_word due.0);
-  one_number = λ first number other due also. due.2 ∙ ap price_count (same_kind due.0 also.0 (sym due.1 ∙ also.1)) ∙ sym also.2;
-}
+one_number_of_rows : IsOneNumber AreRows
+one_number_of_rows first number other due also = due.2 ∙ ap price_count (same_kind due.0 also.0 (sym due.1 ∙ also.1)) ∙ sym also.2
 
-columns_are_due : (kind : Kind) → AreDue (AreColumns kind)
-columns_are_due kind = record {
-  are_words = λ first number due. subst IsWord (sym due.0) (column_is_word kind);
-  one_number = λ first number other due also. due.1 ∙ sym also.1;
-}
+one_count_fault : (number line : ℕ) (words : List (List ℕ)) (fault other : CardFault) → IsCountFault number line words fault
+    → IsCountFault number line words other → fault ≡ other
+one_count_fault number line words fault other a b = elim a [
+  | inl bad ↦ elim b [ inl worse ↦ bad.1 ∙ sym worse.1 | inr count ↦ absurd (bad.0 count.0) ]
+  | inr count ↦ elim b [ inl bad ↦ absurd (bad.0 count.0) | inr also ↦ count.2 ∙ sym also.2 ]
+]
+
+not_empty : (line rest : List ℕ) → line ++ 10 ∷ rest ≢ []
+not_empty line rest e = omega (arith, ap length e, length-append line (10 ∷ rest))
 
 module _ (k : Known) where
   -- ---- lines
@@ -192,47 +202,25 @@ module _ (k : Known) where
       k.first_parts 10 (line_of words) (line_of others) rest more (k.one_line words a) (k.one_line others b) e in
       (k.words words others a b parts.0, parts.1)
 
-  same_settings : (xs ys : List Setting) (rest more : List ℕ) → AllByRecursion IsInRange xs → AllByRecursion IsInRange ys
-      → BeginsWithNoLine rest → BeginsWithNoLine more → list_text xs ++ rest ≡ list_text ys ++ more → (xs ≡ ys) × (rest ≡ more)
-  same_settings [] [] rest more a b none nor e = (refl, e)
-  same_settings [] (y ∷ ys) rest more a b none nor e = absurd (none y (list_text ys ++ more) b.0 (e ∙ text_of_more y ys more))
-  same_settings (x ∷ xs) [] rest more a b none nor e = absurd (nor x (list_text xs ++ rest) a.0 (sym e ∙ text_of_more x xs rest))
-  same_settings (x ∷ xs) (y ∷ ys) rest more a b none nor e =
+  -- where no line of a setting follows the first settings, there are no more of them, and no others
+  lists_end : (xs ys : List Setting) (rest more : List ℕ) → AllByRecursion IsInRange xs → AllByRecursion IsInRange ys → BeginsWithNoLine rest
+      → list_text xs ++ rest ≡ list_text ys ++ more → (length ys ≤ length xs) × (BeginsWithNoLine more → (xs ≡ ys) × (rest ≡ more))
+  lists_end [] [] rest more a b none e = (omega arith, λ nor. (refl, e))
+  lists_end [] (y ∷ ys) rest more a b none e = absurd (none y (list_text ys ++ more) b.0 (e ∙ text_of_more y ys more))
+  lists_end (x ∷ xs) [] rest more a b none e = (omega arith, λ nor. absurd (nor x (list_text xs ++ rest) a.0 (sym e ∙ text_of_more x xs rest)))
+  lists_end (x ∷ xs) (y ∷ ys) rest more a b none e =
       let parts : (setting_line x ≡ setting_line y) × (list_text xs ++ rest ≡ list_text ys ++ more) =
       k.first_parts 10 (setting_line x) (setting_line y) (list_text xs ++ rest) (list_text ys ++ more)
       (k.one_line (setting_words x) (k.settings x a.0)) (k.one_line (setting_words y) (k.settings y b.0))
       (sym (text_of_more x xs rest) ∙ e ∙ text_of_more y ys more) in
       let first : x ≡ y = k.lines x y a.0 b.0 parts.0 in
-      let others : (xs ≡ ys) × (rest ≡ more) = same_settings xs ys rest more a.1 b.1 none nor parts.1 in
-      let tails : xs ≡ ys = others.0 in
-      (cc, others.1)
-
-  not_longer : (xs ys : List Setting) (rest more : List ℕ) → AllByRecursion IsInRange xs → AllByRecursion IsInRange ys
-      → BeginsWithNoLine rest → list_text xs ++ rest ≡ list_text ys ++ more → length ys ≤ length xs
-  not_longer xs [] rest more a b none e = omega arith
-  not_longer [] (y ∷ ys) rest more a b none e = absurd (none y (list_text ys ++ more) b.0 (e ∙ text_of_more y ys more))
-  not_longer (x ∷ xs) (y ∷ ys) rest more a b none e =
-      let parts : (setting_line x ≡ setting_line y) × (list_text xs ++ rest ≡ list_text ys ++ more) =
-      k.first_parts 10 (setting_line x) (setting_line y) (list_text xs ++ rest) (list_text ys ++ more)
-      (k.one_line (setting_words x) (k.settings x a.0)) (k.one_line (setting_words y) (k.settings y b.0))
-      (sym (text_of_more x xs rest) ∙ e ∙ text_of_more y ys more) in
-      let fewer = not_longer xs ys rest more a.1 b.1 none parts.1 in
-      omega (arith, fewer)
+      let others = lists_end xs ys rest more a.1 b.1 none parts.1 in
+      (omega (arith, others.0), λ nor. let tails : xs ≡ ys = (others.1 nor).0 in (cc, (others.1 nor).1))
 
   number_ends : (number : ℕ) (rest : List ℕ) → number ≤ 192 → BeginsWithNoLine (with_line (settings_words number) rest)
   number_ends number rest small x more r e =
       let same = same_line (settings_words number) (setting_words x) rest more (settings_is_words k.numbers number small) (k.settings x r) e in
       no_setting x (sym (ap first_and_third same.0))
-
-  same_line_of_prices : (word other : List ℕ) (ps qs : List ℤ) (rest more : List ℕ) → IsWord word → IsWord other → AreWithinReach ps → AreWithinReach qs
-      → with_line (price_words word ps) rest ≡ with_line (price_words other qs) more → (word ≡ other) × (ps ≡ qs) × (rest ≡ more)
-  same_line_of_prices word other ps qs rest more w o a b e =
-      let line : (price_words word ps ≡ price_words other qs) × (rest ≡ more) =
-      same_line (price_words word ps) (price_words other qs) rest more (prices_are_words k.numbers word ps w a) (prices_are_words k.numbers other qs o b) e in
-      let words : price_words word ps ≡ price_words other qs = line.0 in
-      let first : word ≡ other = cc in
-      let texts : map signed_decimal ps ≡ map signed_decimal qs = cc in
-      (first, same_prices ps qs (recursion_from_All _ ps a) (recursion_from_All _ qs b) texts, line.1)
 
   -- ---- the head and the settings
 
@@ -256,8 +244,8 @@ module _ (k : Known) where
   one_list : (body : List ℕ) (list other : List Setting × List ℕ) → BeginsWithSettings body list.0 list.1 → BeginsWithSettings body other.0 other.1 → list ≡ other
   one_list body (xs, rest) (ys, more) a b =
       let both =
-      same_settings xs ys rest more (recursion_from_All IsInRange xs a.lines.in_range) (recursion_from_All IsInRange ys b.lines.in_range) a.none_more b.none_more
-      (sym a.lines.lines ∙ b.lines.lines) in
+      (lists_end xs ys rest more (recursion_from_All IsInRange xs a.lines.in_range) (recursion_from_All IsInRange ys b.lines.in_range) a.none_more
+      (sym a.lines.lines ∙ b.lines.lines)).1 b.none_more in
       let lists : xs ≡ ys = both.0 in
       let rests : rest ≡ more = both.1 in
       cc
@@ -266,8 +254,8 @@ module _ (k : Known) where
   not_too_many body (xs, rest) fault a (ys, more, b, many, is) =
       let few = a.few in
       let most =
-      not_longer xs ys rest more (recursion_from_All IsInRange xs a.lines.in_range) (recursion_from_All IsInRange ys b.in_range) a.none_more
-      (sym a.lines.lines ∙ b.lines) in
+      (lists_end xs ys rest more (recursion_from_All IsInRange xs a.lines.in_range) (recursion_from_All IsInRange ys b.in_range) a.none_more
+      (sym a.lines.lines ∙ b.lines)).0 in
       omega (arith, few, most, many)
 
   settings_are_sure : (body : List ℕ) → IsSure (λ (list : List Setting × List ℕ). BeginsWithSettings body list.0 list.1) (AreTooMany body)
@@ -295,8 +283,7 @@ module _ (k : Known) where
       k.first_parts 10 (name ++ 32 ∷ due) (name ++ 32 ∷ value) rest more
       (All-append (λ b. b ≢ 10) name (32 ∷ due) plain (All-cons (λ b. b ≢ 10) 32 due space (unbroken due form)))
       (All-append (λ b. b ≢ 10) name (32 ∷ value) plain (All-cons (λ b. b ≢ 10) 32 value space (unbroken value other))) (sym e ∙ f) in
-      let same : 32 ∷ due ≡ 32 ∷ value = append_cancel_left name (32 ∷ due) (32 ∷ value) parts.0 in
-      differs (cc)
+      differs (sym (ap (drop 1) (append_cancel_left name (32 ∷ due) (32 ∷ value) parts.0)))
   no_value_fault IsForm name due line bytes rest fault unbroken plain form e (NoValue none w) = none due rest form e
 
   same_rest : (words : List (List ℕ)) (bytes rest more : List ℕ) → bytes ≡ with_line words rest → bytes ≡ with_line words more → rest ≡ more
@@ -315,99 +302,73 @@ module _ (k : Known) where
 
   -- ---- prices
 
-  not_empty : (line rest : List ℕ) → line ++ 10 ∷ rest ≢ []
-  not_empty line rest e = omega (arith, ap length e, length-append line (10 ∷ rest))
+  one_line_of_words : (bytes : List ℕ) (found other : List (List ℕ) × List ℕ) → HasWords bytes found.0 found.1 → HasWords bytes other.0 other.1 → found ≡ other
+  one_line_of_words bytes (words, rest) (others, more) a b =
+      let parts = same_first_part k.first_parts 10 bytes a.line b.line rest more a.first b.first in
+      let same : words ≡ others = sym a.parts ∙ ap words_of parts.0 ∙ b.parts in
+      let rests : rest ≡ more = parts.1 in
+      cc
 
-  -- what a line has between its spaces is told by the bytes
-  same_words : (bytes : List ℕ) (words others : List (List ℕ)) (rest more : List ℕ) → HasWords bytes words rest → HasWords bytes others more → words ≡ others
-  same_words bytes words others rest more a b =
-      sym a.parts ∙ ap words_of (same_first_part k.first_parts 10 bytes a.line b.line rest more a.first b.first).0 ∙ b.parts
+  module _ (IsDue : List ℕ → ℕ → Type 0) (line : ℕ) (bytes : List ℕ) (Next : PriceLine → Verdict → Type 0) where
+    one_beginning : IsOneNumber IsDue → (words : List (List ℕ)) (x y : List ℕ × List (List ℕ) × ℕ) → BeginsDue IsDue words x → BeginsDue IsDue words y → x ≡ y
+    one_beginning one words (first, others, number) (other, more, count) (e, due) (f, also) =
+        let firsts : first ≡ other = cc in
+        let behind : others ≡ more = cc in
+        let numbers : number ≡ count = one other number count (subst (λ word. IsDue word number) firsts due) also in
+        cc
 
-  one_count_fault : (number line : ℕ) (words : List (List ℕ)) (fault other : CardFault) → IsCountFault number line words fault
-      → IsCountFault number line words other → fault ≡ other
-  one_count_fault number line words fault other a b = elim a [
-    | inl bad ↦ elim b [ inl worse ↦ bad.1 ∙ sym worse.1 | inr count ↦ absurd (bad.0 count.0) ]
-    | inr count ↦ elim b [ inl bad ↦ absurd (bad.0 count.0) | inr also ↦ count.2 ∙ sym also.2 ]
-  ]
+    prices_or_fault : (number : ℕ) (words : List (List ℕ)) (prices : List ℤ) (fault : CardFault) → ArePricesOf number words prices
+        → ¬ (IsCountFault number line words fault)
+    prices_or_fault number words prices fault are wrong = elim wrong [
+      | inl w ↦ w.0 (subst (All IsPriceText) (sym are.0) (all_price_texts prices are.1))
+      | inr w ↦ w.1 (ap length are.0 ∙ length-map prices signed_decimal ∙ are.2)
+    ]
 
-  module _ (IsDue : List ℕ → ℕ → Type 0) (line : ℕ) (bytes : List ℕ) (are_due : AreDue IsDue) where
+    only_line : IsOneNumber IsDue → ((found : PriceLine) → IsOnly (Next found)) → IsOnly (LineSays IsDue line bytes Next)
+    only_line one next =
+        only_step (record { one = λ x y a b. refl; reason = λ fault other a b. a.1 ∙ sym b.1; either = λ x fault some none. some none.0 })
+        (λ x some. only_step
+        (record {
+          one = one_line_of_words bytes;
+          reason = λ fault other a b. a.1 ∙ sym b.1;
+          either = λ found fault has none. no_first_part 10 bytes has.line found.1 none.0 has.first;
+        })
+        (λ found has. only_step
+        (record { one = one_beginning one found.0; reason = λ fault other a b. a.1 ∙ sym b.1; either = λ x fault begins none. none.0 x begins })
+        (λ x begins. only_step
+        (record {
+          one = λ ps qs a b. same_prices ps qs (recursion_from_All _ ps a.1) (recursion_from_All _ qs b.1) (sym a.0 ∙ b.0);
+          reason = one_count_fault x.2 line x.1;
+          either = prices_or_fault x.2 x.1;
+        })
+        (λ prices are. next (x.0, prices, found.1)))))
+
     some_bytes : (words : List (List ℕ)) (rest : List ℕ) → HasWords bytes words rest → bytes ≢ []
     some_bytes words rest has none = not_empty has.line rest (sym has.first.joined ∙ none)
 
-    some_end : (words : List (List ℕ)) (rest : List ℕ) → HasWords bytes words rest → ¬ (IsWithout 10 bytes)
-    some_end words rest has without = no_first_part 10 bytes has.line rest without has.first
+    fault_in_line : (fault : CardFault) → IsPricesFault IsDue line bytes fault → LineSays IsDue line bytes Next (Err fault)
+    fault_in_line fault (NoLine none is) = Refused fault (none, is) refl
+    fault_in_line fault (NoEnd some without is) = Found tt some (Refused fault (without, is) refl)
+    fault_in_line fault (OtherWord first words rest has none is) =
+        let other : (x : List ℕ × List (List ℕ) × ℕ) → ¬ (BeginsDue IsDue (first ∷ words) x) =
+        λ x begins. let e = begins.0 in let same : x.0 ≡ first = cc in none x.2 (subst (λ word. IsDue word x.2) same begins.1) in
+        Found tt (some_bytes (first ∷ words) rest has) (Found (first ∷ words, rest) has (Refused fault (other, is) refl))
+    fault_in_line fault (OtherPrices first words rest number has due wrong) =
+        Found tt (some_bytes (first ∷ words) rest has)
+        (Found (first ∷ words, rest) has (Found (first, words, number) (refl, due) (Refused fault wrong refl)))
 
-    same_due : (first other : List ℕ) (words others : List (List ℕ)) (rest more : List ℕ) (number : ℕ) → HasWords bytes (first ∷ words) rest
-        → HasWords bytes (other ∷ others) more → IsDue first number → IsDue other number
-    same_due first other words others rest more number a b due =
-        let same : first ∷ words ≡ other ∷ others = same_words bytes (first ∷ words) (other ∷ others) rest more a b in
-        let begins : first ≡ other = cc in
-        subst (λ word. IsDue word number) begins due
-
-    same_count : (first other : List ℕ) (words others : List (List ℕ)) (rest more : List ℕ) (number count : ℕ) (fault : CardFault)
-        → HasWords bytes (first ∷ words) rest → HasWords bytes (other ∷ others) more → IsDue first number → IsDue other count
-        → IsCountFault number line words fault → IsCountFault count line others fault
-    same_count first other words others rest more number count fault a b due also wrong =
-        let same : first ∷ words ≡ other ∷ others = same_words bytes (first ∷ words) (other ∷ others) rest more a b in
-        let behind : words ≡ others = cc in
-        let numbers : number ≡ count = are_due.one_number other number count (same_due first other words others rest more number a b due) also in
-        subst (λ n. IsCountFault n line others fault) numbers (subst (λ ws. IsCountFault number line ws fault) behind wrong)
-
-    one_prices_fault : (fault other : CardFault) → IsPricesFault IsDue line bytes fault → IsPricesFault IsDue line bytes other → fault ≡ other
-    one_prices_fault fault other (NoLine none w) (NoLine nil u) = w ∙ sym u
-    one_prices_fault fault other (NoLine none w) (NoEnd some without u) = absurd (some none)
-    one_prices_fault fault other (NoLine none w) (OtherWord f ws r has not' u) = absurd (some_bytes (f ∷ ws) r has none)
-    one_prices_fault fault other (NoLine none w) (OtherPrices f ws r n has due wrong) = absurd (some_bytes (f ∷ ws) r has none)
-    one_prices_fault fault other (NoEnd some without w) (NoLine none u) = absurd (some none)
-    one_prices_fault fault other (NoEnd some without w) (NoEnd more within u) = w ∙ sym u
-    one_prices_fault fault other (NoEnd some without w) (OtherWord f ws r has not' u) = absurd (some_end (f ∷ ws) r has without)
-    one_prices_fault fault other (NoEnd some without w) (OtherPrices f ws r n has due wrong) = absurd (some_end (f ∷ ws) r has without)
-    one_prices_fault fault other (OtherWord f ws r has not' w) (NoLine none u) = absurd (some_bytes (f ∷ ws) r has none)
-    one_prices_fault fault other (OtherWord f ws r has not' w) (NoEnd some without u) = absurd (some_end (f ∷ ws) r has without)
-    one_prices_fault fault other (OtherWord f ws r has not' w) (OtherWord g vs t have nor u) = w ∙ sym u
-    one_prices_fault fault other (OtherWord f ws r has not' w) (OtherPrices g vs t n have due wrong) =
-        absurd (not' n (same_due g f vs ws t r n have has due))
-    one_prices_fault fault other (OtherPrices f ws r n has due wrong) (NoLine none u) = absurd (some_bytes (f ∷ ws) r has none)
-    one_prices_fault fault other (OtherPrices f ws r n has due wrong) (NoEnd some without u) = absurd (some_end (f ∷ ws) r has without)
-    one_prices_fault fault other (OtherPrices f ws r n has due wrong) (OtherWord g vs t have nor u) =
-        absurd (nor n (same_due f g ws vs r t n has have due))
-    one_prices_fault fault other (OtherPrices f ws r n has due wrong) (OtherPrices g vs t m have also bad) =
-        one_count_fault m line vs fault other (same_count f g ws vs r t n m fault has have due also wrong) bad
-
-    -- the words of the line of prices that is found
-    found_words : (first : List ℕ) (prices : List ℤ) (rest : List ℕ) → FindsPrices IsDue bytes (first, prices, rest) → HasWords bytes (price_words first prices) rest
-    found_words first prices rest found =
-        let words = prices_are_words k.numbers first prices (are_due.are_words first (length prices) found.0) found.1.reach in
-        record {
+    found_in_line : (first : List ℕ) (prices : List ℤ) (rest : List ℕ) (v : Verdict) → IsWord first → IsDue first (length prices)
+        → BeginsWithPrices bytes first prices rest → Next (first, prices, rest) v → LineSays IsDue line bytes Next v
+    found_in_line first prices rest v word due begins next =
+        let words = prices_are_words k.numbers first prices word begins.reach in
+        let has : HasWords bytes (price_words first prices) rest = record {
           line = line_of (price_words first prices);
-          first = record { joined = found.1.text; without = k.one_line (price_words first prices) words };
+          first = record { joined = begins.text; without = k.one_line (price_words first prices) words };
           parts = k.split (price_words first prices) (λ none. cc) words;
-        }
-
-    no_prices_fault : (found : PriceLine) (fault : CardFault) → FindsPrices IsDue bytes found → ¬ (IsPricesFault IsDue line bytes fault)
-    no_prices_fault (first, prices, rest) fault found (NoLine none w) = some_bytes (price_words first prices) rest (found_words first prices rest found) none
-    no_prices_fault (first, prices, rest) fault found (NoEnd some without w) =
-        some_end (price_words first prices) rest (found_words first prices rest found) without
-    no_prices_fault (first, prices, rest) fault found (OtherWord g vs t have nor w) =
-        nor (length prices) (same_due first g (map signed_decimal prices) vs rest t (length prices) (found_words first prices rest found) have found.0)
-    no_prices_fault (first, prices, rest) fault found (OtherPrices g vs t m have also bad) =
-        elim (same_count g first vs (map signed_decimal prices) t rest m (length prices) fault have (found_words first prices rest found) also found.0 bad) [
-          | inl w ↦ w.0 (all_price_texts prices found.1.reach)
-          | inr w ↦ w.1 (length-map prices signed_decimal)
-        ]
-
-    one_line_of_prices : (found other : PriceLine) → FindsPrices IsDue bytes found → FindsPrices IsDue bytes other → found ≡ other
-    one_line_of_prices (first, prices, rest) (other, others, more) a b =
-        let line =
-        same_line_of_prices first other prices others rest more (are_due.are_words first (length prices) a.0) (are_due.are_words other (length others) b.0)
-        a.1.reach b.1.reach (sym a.1.text ∙ b.1.text) in
-        let firsts : first ≡ other = line.0 in
-        let same : prices ≡ others = line.1 in
-        let rests : rest ≡ more = line.2 in
-        cc
-
-    prices_are_sure : IsSure (FindsPrices IsDue bytes) (IsPricesFault IsDue line bytes)
-    prices_are_sure = record { one = one_line_of_prices; reason = one_prices_fault; either = no_prices_fault }
+        } in
+        Found tt (some_bytes (price_words first prices) rest has)
+        (Found (price_words first prices, rest) has
+        (Found (first, map signed_decimal prices, length prices) (refl, due) (Found prices (refl, begins.reach, refl) next)))
 
   -- ---- the verdict
 
@@ -431,14 +392,15 @@ module _ (k : Known) where
 
   only_columns : (day : ℕ) (xs : List Setting) (kind : Kind) (rows : List ℤ) (rest : List ℕ) → IsOnly (ColumnsSay day xs kind rows rest)
   only_columns day xs kind rows rest =
-      only_step (prices_are_sure (AreColumns kind) (length xs + 4) rest (columns_are_due kind)) (λ line found. behind_columns day xs kind rows line)
+      only_line (AreColumns kind) (length xs + 4) rest (BehindColumns day xs kind rows) (λ first number other due also. due.1 ∙ sym also.1)
+      (behind_columns day xs kind rows)
 
   behind_rows : (day : ℕ) (xs : List Setting) (line : PriceLine) → IsOnly (BehindRows day xs line)
   behind_rows day xs line v w (kind, is, a) (other, also, b) =
       only_columns day xs other line.1 line.2 v w (subst (λ q. ColumnsSay day xs q line.1 line.2 v) (same_kind kind other (sym is ∙ also)) a) b
 
   only_rows : (day : ℕ) (xs : List Setting) (rest : List ℕ) → IsOnly (RowsSay day xs rest)
-  only_rows day xs rest = only_step (prices_are_sure AreRows (length xs + 3) rest rows_are_due) (λ line found. behind_rows day xs line)
+  only_rows day xs rest = only_line AreRows (length xs + 3) rest (BehindRows day xs) one_number_of_rows (behind_rows day xs)
 
   only_number : (day : ℕ) (xs : List Setting) (rest : List ℕ) → length xs ≤ 192 → IsOnly (NumberSays day xs rest)
   only_number day xs rest few =
@@ -468,16 +430,18 @@ module _ (k : Known) where
       → ColumnsSay day xs kind rows rest v → CardSays bytes v
   at_columns bytes day xs kind rows rest v to says =
       at_rows bytes day xs (with_line (price_words (row_word kind) rows) rest) v to.before
-      (Found (row_word kind, rows, rest) ((kind, refl, to.count), record { text = refl; reach = to.reach }) (kind, refl, says))
+      (found_in_line AreRows (length xs + 3) (with_line (price_words (row_word kind) rows) rest) (BehindRows day xs) (row_word kind) rows rest v
+      (row_is_word kind) (kind, refl, to.count) (record { text = refl; reach = to.reach }) (kind, refl, says))
 
   at_sum : (bytes : List ℕ) (day : ℕ) (xs : List Setting) (prices : PriceParts) (rest : List ℕ) (v : Verdict) → ToColumns bytes day xs prices rest
       → SumSays day xs prices rest v → CardSays bytes v
   at_sum bytes day xs prices rest v to says =
       let are = to.are_prices in
       let kind = kind_of prices in
-      at_columns bytes day xs kind (row_prices prices) (with_line (price_words (column_word kind) (column_prices prices)) rest) v to.before
-      (Found (column_word kind, column_prices prices, rest) ((refl, are.columns ∙ as_many prices), record { text = refl; reach = are.column_reach })
-      (prices, are, refl, refl, refl, says))
+      let columns = with_line (price_words (column_word kind) (column_prices prices)) rest in
+      at_columns bytes day xs kind (row_prices prices) columns v to.before
+      (found_in_line (AreColumns kind) (length xs + 4) columns (BehindColumns day xs kind (row_prices prices)) (column_word kind) (column_prices prices) rest v
+      (column_is_word kind) (refl, are.columns ∙ as_many prices) (record { text = refl; reach = are.column_reach }) (prices, are, refl, refl, refl, says))
 
   card_says : (bytes : List ℕ) (day : ℕ) (xs : List Setting) (prices : PriceParts) → IsCard bytes day xs prices → CardSays bytes (Ok (day, xs, prices))
   card_says bytes day xs prices card =
@@ -490,8 +454,10 @@ module _ (k : Known) where
       Found (day, list_text xs ++ rest) (record { text = to.text; of_month = to.of_month })
       (Refused fault (xs, rest, record { lines = refl; in_range = to.in_range }, many, is) refl)
   fault_says bytes fault (AtNumber day xs rest to few none wrong) = at_number bytes day xs rest (Err fault) to few none (Refused fault wrong refl)
-  fault_says bytes fault (AtRows day xs rest to wrong) = at_rows bytes day xs rest (Err fault) to (Refused fault wrong refl)
-  fault_says bytes fault (AtColumns day xs kind rows rest to wrong) = at_columns bytes day xs kind rows rest (Err fault) to (Refused fault wrong refl)
+  fault_says bytes fault (AtRows day xs rest to wrong) = at_rows bytes day xs rest (Err fault) to (fault_in_line AreRows (length xs + 3) rest (BehindRows day xs) fault wrong)
+  fault_says bytes fault (AtColumns day xs kind rows rest to wrong) =
+      at_columns bytes day xs kind rows rest (Err fault) to
+      (fault_in_line (AreColumns kind) (length xs + 4) rest (BehindColumns day xs kind rows) fault wrong)
   fault_says bytes fault (AtSum day xs prices rest to wrong) = at_sum bytes day xs prices rest (Err fault) to (Refused fault wrong refl)
   fault_says bytes fault (AtEnd day xs prices rest to some is) =
       at_sum bytes day xs prices (with_line (sum_words (price_sum prices)) rest) (Err fault) to (Found rest refl (Refused fault (some, is) refl))

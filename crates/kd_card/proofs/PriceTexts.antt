@@ -20,7 +20,7 @@ use Rattle.std.proofs.lemmas.Fmt.{parse-signed_decimal, IsAscii-signed, length-d
 fits : (p : ℤ) → unsigned_abs p ≤ 9999 → FitsSigned w16 p
 fits p within = fits_signed_from_abs w16 p (omega (arith, within))
 
-small : (p : ℤ) → unsigned_abs p ≤ 9999 → mag p < 2 ^ 63
+pub small : (p : ℤ) → unsigned_abs p ≤ 9999 → mag p < 2 ^ 63
 small (pos n) within = omega arith
 small (negsuc n) within = omega arith
 

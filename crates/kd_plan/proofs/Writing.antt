@@ -17,29 +17,30 @@ module _ {Z : Type 0} (lines : ℕ → Z → List Setting) (zs : List Z) where
   one_more : (place : ℕ) (z : Z) → place < length zs → get_or zs place z ≡ z → left_from place ≡ lines (place + 1) z ++ left_from (place + 1)
   one_more place z lt at = ap (lines_from lines (place + 1)) (drop_more zs place z lt) ∙ ap (λ one. lines (place + 1) one ++ left_from (place + 1)) at
 
-  module _ (items old all : List Setting) (place : ℕ) (written : items ++ left_from place ≡ old ++ all) where
-    -- there is room for the next line
-    pub room : (z : Z) (line : List Setting) → place < length zs → get_or zs place z ≡ z → line ≡ lines (place + 1) z → length old + length all ≤ 192
-        → length items + length line ≤ 192
-    room z line lt at same few =
-        omega (
-          arith,
-          ap length written,
-          length-append items (left_from place),
-          length-append old all,
-          ap length (one_more place z lt at),
-          length-append (lines (place + 1) z) (left_from (place + 1)),
-          ap length same,
-        )
+  -- A turn: there is room for the next line, and when it is written, it and what is left are still all.
+  pub record InTurn (items old all line : List Setting) (place : ℕ) : Type 0 where
+    pub room : length old + length all ≤ 192 → length items + length line ≤ 192
+    pub next : (after : List Setting) → after ≡ items ++ line → after ++ left_from (place + 1) ≡ old ++ all
 
-    -- the next line is written
-    pub next : (z : Z) (after line : List Setting) → place < length zs → get_or zs place z ≡ z → line ≡ lines (place + 1) z → after ≡ items ++ line
-        → after ++ left_from (place + 1) ≡ old ++ all
-    next z after line lt at same e =
-        ap (λ xs. xs ++ left_from (place + 1)) (e ∙ ap (λ xs. items ++ xs) same)
-        ∙ append_assoc items (lines (place + 1) z) (left_from (place + 1))
-        ∙ ap (λ xs. items ++ xs) (sym (one_more place z lt at))
-        ∙ written
+  module _ (items old all : List Setting) (place : ℕ) (written : items ++ left_from place ≡ old ++ all) where
+    pub turn : (z : Z) (line : List Setting) → place < length zs → get_or zs place z ≡ z → line ≡ lines (place + 1) z → InTurn items old all line place
+    turn z line lt at same = record {
+      room = λ few.
+          omega (
+            arith,
+            ap length written,
+            length-append items (left_from place),
+            length-append old all,
+            ap length (one_more place z lt at),
+            length-append (lines (place + 1) z) (left_from (place + 1)),
+            ap length same,
+          );
+      next = λ after e.
+          ap (λ xs. xs ++ left_from (place + 1)) (e ∙ ap (λ xs. items ++ xs) same)
+          ∙ append_assoc items (lines (place + 1) z) (left_from (place + 1))
+          ∙ ap (λ xs. items ++ xs) (sym (one_more place z lt at))
+          ∙ written;
+    }
 
     -- no line is left
     pub end : length zs ≤ place → items ≡ old ++ all

@@ -5,7 +5,7 @@ ghost use Rattle.kd_state.specs.SheetDay.{IsLegalDay, day_model, pin_day};
 ghost use Rattle.kd_plan.specs.Planned.{planned_lines, IsPlanned, Plans};
 
 use super::bar_lines::push_lugs;
-use super::cable_lines::{push_pulls, push_puts};
+use super::cable_lines::{Work, push_cables};
 use super::card_prices::{bar_prices, cable_prices};
 use super::laws::planned_cards_prove_themselves;
 use super::lines::Settings;
@@ -106,8 +106,8 @@ fn rotor_settings(machine: &Machine, parts: &RotorParts, day: &SheetDay, to: &[u
     push_reflector(&mut settings, parts.reflector, day.reflector().unwrap());
     push_rings(&mut settings, machine, parts, wheels);
     push_turns(&mut settings, machine, parts, wheels);
-    push_pulls(&mut settings, &parts.cables, pairs, to);
-    push_puts(&mut settings, &parts.cables, pairs, to);
+    push_cables(&mut settings, Work::Pull, &parts.cables, pairs, to);
+    push_cables(&mut settings, Work::Put, &parts.cables, pairs, to);
     settings
 }
 

@@ -3,7 +3,7 @@ use Rattle.std.specs.Option.{option_to_list}
 use Rattle.std.proofs.lemmas.Slice.Zip.{length-zip}
 use Rattle.kd_plan.proofs.LineKinds.{pin_turn_of}
 use Rattle.kd_plan.proofs.Sides.{single_lines}
-use Rattle.kd_plan.proofs.Writing.{room, next, end, beside_at}
+use Rattle.kd_plan.proofs.Writing.{turn, end, beside_at}
 use Rattle.kd_plan.proofs.pin_lines.push_pin_turns.Goals as goal
 
 pub loop-place-init : goal.loop-place-init
@@ -11,26 +11,23 @@ loop-place-init c = ap (λ lines. c.args.settings.now.items ++ lines) (sym (sing
 
 pub push_line-requires : goal.push_line-requires
 push_line-requires c =
-    room pin_turn_of (zip c.args.letters.now c.args.window.now) c.loop-place.settings.items c.args.settings.now.items _ c.loop-place.place
+    (turn pin_turn_of (zip c.args.letters.now c.args.window.now) c.loop-place.settings.items c.args.settings.now.items _ c.loop-place.place
     c.loop-place.invariant
     (get_or c.args.letters.now c.loop-place.place c.index-letters-place.result, get_or c.args.window.now c.loop-place.place c.index-window-place.result)
     _
     (omega (arith, length-zip c.args.letters.now c.args.window.now))
     (beside_at c.args.letters.now c.args.window.now c.loop-place.place _ c.index-letters-place.result _ c.index-window-place.result (omega arith) (omega arith) refl refl)
-    (ap option_to_list c.pin_turn_line.ensures)
-    (omega (arith, c.requires))
+    (ap option_to_list c.pin_turn_line.ensures)).room (omega (arith, c.requires))
 
 pub loop-place-preserved : goal.loop-place-preserved
 loop-place-preserved c =
-    next pin_turn_of (zip c.args.letters.now c.args.window.now) c.loop-place.settings.items c.args.settings.now.items _ c.loop-place.place
+    (turn pin_turn_of (zip c.args.letters.now c.args.window.now) c.loop-place.settings.items c.args.settings.now.items _ c.loop-place.place
     c.loop-place.invariant
     (get_or c.args.letters.now c.loop-place.place c.index-letters-place.result, get_or c.args.window.now c.loop-place.place c.index-window-place.result)
     _
-    _
     (omega (arith, length-zip c.args.letters.now c.args.window.now))
     (beside_at c.args.letters.now c.args.window.now c.loop-place.place _ c.index-letters-place.result _ c.index-window-place.result (omega arith) (omega arith) refl refl)
-    (ap option_to_list c.pin_turn_line.ensures)
-    c.push_line.ensures
+    (ap option_to_list c.pin_turn_line.ensures)).next _ c.push_line.ensures
 
 pub returns : goal.returns
 returns c =

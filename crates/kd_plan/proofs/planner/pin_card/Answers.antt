@@ -8,7 +8,7 @@ assign-total-requires c =
     (omega arith, (omega arith, (omega arith, (omega arith, (omega arith, bar_costs_at_most c.bar_costs-costs.result c.args.parts.now.bars c.unwrap.result c.bar_costs-costs.ensures)))))
 
 pub pin_settings-settings-requires-clause-room : goal.pin_settings-settings-requires-clause-room
-pin_settings-settings-requires-clause-room c = pin_room c.args.parts.now c.args.day.now c.assign-total.result.to c.requires.machine
+pin_settings-settings-requires-clause-room c = pin_room c.args.parts.now c.args.day.now _ c.requires.machine
 
 pub returns : goal.returns
 returns c =

@@ -9,9 +9,9 @@ use Rattle.kd_state.specs.declared.setting.Setting.{Setting}
 use Rattle.kd_state.specs.declared.setting.Setting.TheVariants.{RingTo}
 use Rattle.kd_state.specs.declared.sheet_wheel.SheetWheel.{SheetWheel}
 use Rattle.kd_state.specs.Machine.{ring_in}
-use Rattle.kd_plan.specs.Planned.{unless_so}
+use Rattle.kd_plan.specs.Planned.{unless_so, ring_lines}
 use Rattle.kd_plan.proofs.LineKinds.{ring_wanted, wheel_found}
-use Rattle.kd_plan.proofs.Writing.{room, next, end, lines_of_found}
+use Rattle.kd_plan.proofs.Writing.{InTurn, turn, end, lines_of_found}
 use Rattle.kd_plan.proofs.rotor_lines.push_rings.Goals as goal
 
 abbrev ring_from : Option SheetWheel → Parts → Option Setting
@@ -20,9 +20,12 @@ ring_from wanted m = option_and_then (λ w. unless_so (option_map_or (nat_eq w.r
 pub loop-wheel-init : goal.loop-wheel-init
 loop-wheel-init c = ap (λ lines. c.args.settings.now.items ++ lines) (sym (ap (λ box. filter_map (ring_wanted c.args.parts.now) (filter_map (wheel_found c.args.wheels.now) box)) (sym c.wheels-wheel-items.ensures) ∙ lines_of_found (ring_wanted c.args.parts.now) (wheel_found c.args.wheels.now) c.wheels-wheel-items.result.now 1))
 
-pub push_line-requires : goal.push_line-requires
-push_line-requires c =
-    room (ring_of_wheel c.args.parts.now c.args.wheels.now) c.wheels-wheel-items.result.now c.loop-wheel.settings.items c.args.settings.now.items _ c.loop-wheel.wheel-index
+in_turn : (c : goal.After-ring_line)
+    → InTurn (ring_of_wheel c.args.parts.now c.args.wheels.now) c.wheels-wheel-items.result.now c.loop-wheel.settings.items c.args.settings.now.items
+    (ring_lines c.args.parts.now c.args.wheels.now)
+    (option_to_list c.ring_line.result) c.loop-wheel.wheel-index
+in_turn c =
+    turn (ring_of_wheel c.args.parts.now c.args.wheels.now) c.wheels-wheel-items.result.now c.loop-wheel.settings.items c.args.settings.now.items _ c.loop-wheel.wheel-index
     c.loop-wheel.invariant
     (get_or c.wheels-wheel-items.result.now c.loop-wheel.wheel-index I)
     _
@@ -32,22 +35,12 @@ push_line-requires c =
     ap option_to_list
     (c.ring_line.ensures ∙ ap (ring_from c.wheel_of.result) c.requires.machine ∙ ap (option_and_then (ring_wanted c.args.parts.now)) c.wheel_of.ensures)
     )
-    (omega (arith, c.requires))
+
+pub push_line-requires : goal.push_line-requires
+push_line-requires c = (in_turn c).room (omega (arith, c.requires))
 
 pub loop-wheel-preserved : goal.loop-wheel-preserved
-loop-wheel-preserved c =
-    next (ring_of_wheel c.args.parts.now c.args.wheels.now) c.wheels-wheel-items.result.now c.loop-wheel.settings.items c.args.settings.now.items _ c.loop-wheel.wheel-index
-    c.loop-wheel.invariant
-    (get_or c.wheels-wheel-items.result.now c.loop-wheel.wheel-index I)
-    _
-    _
-    (omega arith)
-    (get_or_default c.wheels-wheel-items.result.now c.loop-wheel.wheel-index _ I (omega arith))
-    (
-    ap option_to_list
-    (c.ring_line.ensures ∙ ap (ring_from c.wheel_of.result) c.requires.machine ∙ ap (option_and_then (ring_wanted c.args.parts.now)) c.wheel_of.ensures)
-    )
-    c.push_line.ensures
+loop-wheel-preserved c = (in_turn c.before).next _ c.push_line.ensures
 
 pub returns : goal.returns
 returns c =

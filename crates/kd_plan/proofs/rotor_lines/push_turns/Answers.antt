@@ -8,8 +8,8 @@ use Rattle.kd_state.specs.declared.setting.Setting.{Setting}
 use Rattle.kd_state.specs.declared.setting.Setting.TheVariants.{Turn}
 use Rattle.kd_state.specs.declared.sheet_wheel.SheetWheel.{SheetWheel}
 use Rattle.kd_state.specs.Machine.{letter_in}
-use Rattle.kd_plan.specs.Planned.{unless_so}
-use Rattle.kd_plan.proofs.Writing.{room, next, end}
+use Rattle.kd_plan.specs.Planned.{unless_so, turn_lines}
+use Rattle.kd_plan.proofs.Writing.{InTurn, turn, end}
 use Rattle.kd_plan.proofs.rotor_lines.push_turns.Goals as goal
 
 abbrev turned_from : ℕ → SheetWheel → Parts → Option Setting
@@ -18,9 +18,12 @@ turned_from slot w m = unless_so (option_map_or (nat_eq w.letter) (letter_in m w
 pub loop-place-init : goal.loop-place-init
 loop-place-init c = ap (λ lines. c.args.settings.now.items ++ lines) (sym (single_lines _ c.args.wheels.now 1))
 
-pub push_line-requires : goal.push_line-requires
-push_line-requires c =
-    room (turn_of c.args.parts.now) c.args.wheels.now c.loop-place.settings.items c.args.settings.now.items _ c.loop-place.place
+in_turn : (c : goal.After-turn_line)
+    → InTurn (turn_of c.args.parts.now) c.args.wheels.now c.loop-place.settings.items c.args.settings.now.items
+    (turn_lines c.args.parts.now c.args.wheels.now)
+    (option_to_list c.turn_line.result) c.loop-place.place
+in_turn c =
+    turn (turn_of c.args.parts.now) c.args.wheels.now c.loop-place.settings.items c.args.settings.now.items _ c.loop-place.place
     c.loop-place.invariant
     c.index-wheels-place.result
     _
@@ -29,21 +32,12 @@ push_line-requires c =
     (
     ap option_to_list (c.turn_line.ensures ∙ ap (turned_from (c.loop-place.place + 1) c.index-wheels-place.result) c.requires.machine)
     )
-    (omega (arith, c.requires))
+
+pub push_line-requires : goal.push_line-requires
+push_line-requires c = (in_turn c).room (omega (arith, c.requires))
 
 pub loop-place-preserved : goal.loop-place-preserved
-loop-place-preserved c =
-    next (turn_of c.args.parts.now) c.args.wheels.now c.loop-place.settings.items c.args.settings.now.items _ c.loop-place.place
-    c.loop-place.invariant
-    c.index-wheels-place.result
-    _
-    _
-    (omega arith)
-    (sym c.index-wheels-place.is)
-    (
-    ap option_to_list (c.turn_line.ensures ∙ ap (turned_from (c.loop-place.place + 1) c.index-wheels-place.result) c.requires.machine)
-    )
-    c.push_line.ensures
+loop-place-preserved c = (in_turn c.before).next _ c.push_line.ensures
 
 pub returns : goal.returns
 returns c =
