@@ -2,6 +2,7 @@
 use super::samples::{M1, M1_WRITTEN, M4, M209, SHEET, TEN_CABLES, TEN_CABLES_WRITTEN};
 use crate::{read_machine, read_sheet, write_machine};
 use kd_tables::{Device, Letter, MemorySink, Model, Reflector, Wheel};
+use std::alloc::Global;
 use std::test::Fail;
 
 /// Each file beside the file that is written for its machine.
@@ -14,41 +15,54 @@ const WRITTEN: [(&str, &str); 6] = [
     (M209, M209),
 ];
 
+/// A file, a part of it, what stands in the part's place: another machine, whose file is written back the same.
+const WRITTEN_BACK: [(&str, &str, &str); 8] = [
+    (M1_WRITTEN, "\"AAAAA\"\nl", "\"BBBAA\"\nl"),
+    (M1_WRITTEN, "[\"\", \"\",", "[\"AB\", \"CD\","),
+    (
+        M1_WRITTEN,
+        "[\"I\", \"II\", \"III\"]",
+        "[\"\", \"I\", \"\"]",
+    ),
+    (M1_WRITTEN, "letters = \"AAAAA\"", "letters = \"BAAAA\""),
+    (M1_WRITTEN, "\"AAAAA\"", "\"BAAAA\""),
+    (M209, "\"1-2\", \"0L-0R\"", "\"3-0R\", \"0L-3\""),
+    (
+        M209,
+        "\"P\", \"O\", \"\", \"\"",
+        "\"AZ\", \"V\", \"X\", \"TU\"",
+    ),
+    (M209, "AAAAAA", "ZYXUSQ"),
+];
+
+/// What may stand for the version: 2 tells the same machine, and what no key speaks of is passed over.
+const VERSIONS: [&str; 2] = [
+    "version = 2",
+    "x = [[[[[[[[[[[[[[[[[[[[[[[[[[[[[[[[[[[[[[[[[[[[[[[[[[[[[[[[[[[[[[[[]]]]]]]]]]]]]]]]]]]]]]]]]]]]]]]]]]]]]]]]]]]]]]]]]]]]]]]]]]]]]]]]\nversion = 1",
+];
+
+/// The file that is written for the file's machine.
+fn written(alloc: Global, file: &str) -> Result<MemorySink<1024>, Fail> {
+    let machine = read_machine(alloc, file.as_bytes())?;
+    let mut sink = MemorySink::new(1024);
+    write_machine(&mut sink, &machine)?;
+    Ok(sink)
+}
+
 #[test]
 fn writes_what_was_read(rt: HostRuntime) -> Result<(), Fail> {
     for (file, text) in WRITTEN {
-        let machine = read_machine(rt.alloc(), file.as_bytes())?;
-        let mut sink = MemorySink::<1024>::new(1024);
-        write_machine(&mut sink, &machine)?;
+        let sink = written(rt.alloc(), file)?;
         assert_eq!(rt; sink.taken(), text.as_bytes());
     }
     Ok(())
 }
 
-/// Parts of a file that are written otherwise, and still say a machine that is written back the same.
 #[test]
 fn writes_other_machines_back(rt: HostRuntime) -> Result<(), Fail> {
-    for (old, new) in [
-        ("\"AAAAA\"\nl", "\"BBBAA\"\nl"),
-        ("[\"\", \"\",", "[\"AB\", \"CD\","),
-        ("[\"I\", \"II\", \"III\"]", "[\"\", \"I\", \"\"]"),
-        ("letters = \"AAAAA\"", "letters = \"BAAAA\""),
-    ] {
-        let text = M1_WRITTEN.replace(rt.alloc(), old, new)?;
-        let machine = read_machine(rt.alloc(), text.as_bytes())?;
-        let mut sink = MemorySink::<1024>::new(1024);
-        write_machine(&mut sink, &machine)?;
-        assert_eq!(rt; sink.taken(), text.as_bytes());
-    }
-    for (old, new) in [
-        ("\"1-2\", \"0L-0R\"", "\"3-0R\", \"0L-3\""),
-        ("\"P\", \"O\", \"\", \"\"", "\"AZ\", \"V\", \"X\", \"TU\""),
-        ("AAAAAA", "ZYXUSQ"),
-    ] {
-        let text = M209.replace(rt.alloc(), old, new)?;
-        let machine = read_machine(rt.alloc(), text.as_bytes())?;
-        let mut sink = MemorySink::<1024>::new(1024);
-        write_machine(&mut sink, &machine)?;
+    for (file, old, new) in WRITTEN_BACK {
+        let text = file.replace(rt.alloc(), old, new)?;
+        let sink = written(rt.alloc(), text.as_str())?;
         assert_eq!(rt; sink.taken(), text.as_bytes());
     }
     Ok(())
@@ -63,16 +77,11 @@ fn tells_that_the_sink_failed(rt: HostRuntime) -> Result<(), Fail> {
     Ok(())
 }
 
-/// Version 2 tells the same machine, and what no key speaks of is passed over.
 #[test]
 fn reads_either_version_and_unknown_keys(rt: HostRuntime) -> Result<(), Fail> {
-    let deep =
-        "x = [[[[[[[[[[[[[[[[[[[[[[[[[[[[[[[[[[[[[[[[[[[[[[[[[[[[[[[[[[[[[[[[]]]]]]]]]]]]]]]]]]]]]]]]]]]]]]]]]]]]]]]]]]]]]]]]]]]]]]]]]]]]]]]]\nversion = 1";
-    for new in ["version = 2", deep] {
-        let text = M1.replace(rt.alloc(), "version = 1", new)?;
-        let machine = read_machine(rt.alloc(), text.as_bytes())?;
-        let mut sink = MemorySink::<1024>::new(1024);
-        write_machine(&mut sink, &machine)?;
+    for version in VERSIONS {
+        let text = M1.replace(rt.alloc(), "version = 1", version)?;
+        let sink = written(rt.alloc(), text.as_str())?;
         assert_eq!(rt; sink.taken(), M1_WRITTEN.as_bytes());
     }
     Ok(())
