@@ -1,6 +1,7 @@
 //! Files that are read, and machines that are written.
 use super::samples::{M1, M1_WRITTEN, M4, M209, SHEET, TEN_CABLES, TEN_CABLES_WRITTEN};
 use crate::{read_machine, read_sheet, write_machine};
+use kd_state::SheetDay;
 use kd_tables::{Device, Letter, MemorySink, Model, Reflector, Wheel};
 use std::alloc::Global;
 use std::test::Fail;
@@ -93,39 +94,45 @@ fn reads_the_days_of_a_sheet(rt: HostRuntime) -> Result<(), Fail> {
     for number in [0, 2, 8, 10, 30, 32, 255] {
         assert!(rt; sheet.day(number).is_none());
     }
-    let Some(first) = sheet.day(1) else {
-        return Err(Fail::new("the first day"));
-    };
-    assert_eq!(rt; first.model(), Model::EnigmaI);
+    for (number, model) in [(1, Model::EnigmaI), (9, Model::M209), (31, Model::M4)] {
+        let day = sheet.day(number).ok_or("a day")?;
+        assert_eq!(rt; day.model(), model);
+    }
+    Ok(())
+}
+
+/// How many pairs and how many groups the day has.
+fn counts(day: &SheetDay) -> Option<(usize, usize)> {
+    Some((day.pairs()?.len(), day.groups()?.len()))
+}
+
+#[test]
+fn reads_days_of_rotors(rt: HostRuntime) -> Result<(), Fail> {
+    let sheet = read_sheet(rt.alloc(), SHEET.as_bytes())?;
+    let first = sheet.day(1).ok_or("the first day")?;
     assert_eq!(rt; first.reflector(), Some(Reflector::B));
-    assert_eq!(rt; first.slot(1), Some(Wheel::I));
-    assert_eq!(rt; first.slot(3), Some(Wheel::III));
-    assert_eq!(rt; first.ring(2), Letter::from_byte(b'Z'));
-    assert_eq!(rt; first.ring(3), Letter::from_byte(b'B'));
-    assert_eq!(rt; first.window(3), Letter::from_byte(b'C'));
-    assert_eq!(rt; first.pairs().map(|pairs| pairs.len()), Some(2));
-    assert_eq!(rt; first.groups().map(|groups| groups.len()), Some(4));
-    let Some(last) = sheet.day(31) else {
-        return Err(Fail::new("the last day"));
-    };
-    assert_eq!(rt; last.model(), Model::M4);
+    assert_eq!(rt;
+        [first.slot(1), first.slot(3)],
+        [Some(Wheel::I), Some(Wheel::III)]
+    );
+    let letters = [first.ring(2), first.ring(3), first.window(3)];
+    assert_eq!(rt; letters, [b'Z', b'B', b'C'].map(Letter::from_byte));
+    assert_eq!(rt; counts(first), Some((2, 4)));
+    let last = sheet.day(31).ok_or("the last day")?;
     assert_eq!(rt; last.slot(1), Some(Wheel::Gamma));
     assert_eq!(rt; last.ring(4), Letter::from_byte(b'D'));
-    assert_eq!(rt; last.pairs().map(|pairs| pairs.len()), Some(0));
-    assert_eq!(rt; last.groups().map(|groups| groups.len()), Some(0));
-    let Some(converter) = sheet.day(9) else {
-        return Err(Fail::new("the Converter's day"));
-    };
-    assert_eq!(rt; converter.model(), Model::M209);
-    assert_eq!(rt; converter.window(6), Letter::from_byte(b'F'));
-    let Some(rows) = converter.rows() else {
-        return Err(Fail::new("rows"));
-    };
-    assert_eq!(rt; rows[0].numbers(), (0, 3));
-    assert_eq!(rt; rows[1].numbers(), (3, 6));
-    let Some(pins) = converter.pins() else {
-        return Err(Fail::new("pins"));
-    };
+    assert_eq!(rt; counts(last), Some((0, 0)));
+    Ok(())
+}
+
+#[test]
+fn reads_a_day_of_the_converter(rt: HostRuntime) -> Result<(), Fail> {
+    let sheet = read_sheet(rt.alloc(), SHEET.as_bytes())?;
+    let day = sheet.day(9).ok_or("the Converter's day")?;
+    assert_eq!(rt; day.window(6), Letter::from_byte(b'F'));
+    let rows = day.rows().ok_or("rows")?;
+    assert_eq!(rt; [rows[0].numbers(), rows[1].numbers()], [(0, 3), (3, 6)]);
+    let pins = day.pins().ok_or("pins")?;
     assert!(rt; pins.w1[0] && pins.w1[25] && !pins.w1[1] && pins.w6[16] && !pins.w6[0]);
     Ok(())
 }
