@@ -63,66 +63,68 @@ fn an_order_becomes_a_form_on_the_converter(rt: HostRuntime) -> Result<(), Fail>
     Ok(())
 }
 
+/// Orders on an Enigma I, each with its fault.
+const REFUSED: [(&[u8], FormFault); 12] = [
+    (b"", FormFault::BadByte(1)),
+    (b" ", FormFault::BadByte(1)),
+    (b"PART AAA", FormFault::BadByte(9)),
+    (b"PART AAA AAA QX UGZ", FormFault::BadByte(20)),
+    (b"PART AAA AAA QX UGZ\r", FormFault::BadByte(21)),
+    (b"PART AAA AAA QX UGZ\rT", FormFault::BadByte(21)),
+    (b"PART AAA AAA QX ABC\nTEXT!", FormFault::BadByte(25)),
+    (b"PART AAA AAA QX ABC\nTEXT\n!", FormFault::WrongGroup(1)),
+    (
+        b"PART AAA AAA QX GUZ\nPART AAA AAA QX ABC\nTEXT\n!",
+        FormFault::WrongGroup(2),
+    ),
+    (b"PART AAA AAA QX GUZ\nTEXT\nA a", FormFault::BadByte(28)),
+    (b"PART AAA AAA QX GUZ\nTEXT\n \n", FormFault::EmptyText),
+    (
+        b"TEXT\nA",
+        FormFault::PartKeys {
+            needed: 1,
+            given: 0,
+        },
+    ),
+];
+
 #[test]
-fn orders_are_refused_in_turn(rt: HostRuntime) -> Result<(), Fail> {
-    let bad = |position| Some(FormFault::BadByte(position));
-    let rotor = keyed(&rt);
-    for (order, due) in [
-        (b"".as_slice(), bad(1)),
-        (b" ", bad(1)),
-        (b"PART AAA", bad(9)),
-        (b"PART AAA AAA QX UGZ", bad(20)),
-        (b"PART AAA AAA QX UGZ\r", bad(21)),
-        (b"PART AAA AAA QX UGZ\rT", bad(21)),
-        (b"PART AAA AAA QX ABC\nTEXT!", bad(25)),
-        (
-            b"PART AAA AAA QX ABC\nTEXT\n!",
-            Some(FormFault::WrongGroup(1)),
-        ),
-        (
-            b"PART AAA AAA QX GUZ\nPART AAA AAA QX ABC\nTEXT\n!",
-            Some(FormFault::WrongGroup(2)),
-        ),
-        (b"PART AAA AAA QX GUZ\nTEXT\nA a", bad(28)),
-        (
-            b"PART AAA AAA QX GUZ\nTEXT\n \n",
-            Some(FormFault::EmptyText),
-        ),
-        (
-            b"TEXT\nA",
-            Some(FormFault::PartKeys {
-                needed: 1,
-                given: 0,
-            }),
-        ),
-    ] {
-        assert_eq!(rt; fault(&rt, &rotor, order), due);
+fn orders_are_refused_in_turn(rt: HostRuntime) {
+    let keyed = keyed(&rt);
+    for (order, due) in REFUSED {
+        assert_eq!(rt; fault(&rt, &keyed, order), Some(due));
     }
-    assert_eq!(rt;
-        fault(&rt, &rotor, order_of(&rt, KEYS, 100, 1)?.as_slice()),
-        bad(1981)
-    );
-    Ok(())
 }
 
 #[test]
+fn a_hundredth_line_of_keys(rt: HostRuntime) -> Result<(), Fail> {
+    let order = order_of(&rt, KEYS, 100, 1)?;
+    let due = FormFault::BadByte(1981);
+    assert_eq!(rt; fault(&rt, &keyed(&rt), order.as_slice()), Some(due));
+    Ok(())
+}
+
+/// Orders on a Converter without pins, each with its fault, if it has one.
+const ON_THE_CONVERTER: [(&[u8], Option<FormFault>); 6] = [
+    (
+        b"PART A ABCDEF\nTEXT\nA",
+        Some(FormFault::IndicatorSpent(1)),
+    ),
+    (
+        b"PART T ABCDEF\nPART A ABCDEF\nTEXT\n!",
+        Some(FormFault::IndicatorSpent(2)),
+    ),
+    (b"PART A ABCDEZ\nTEXT\nA", Some(FormFault::KeyNotOnWheel)),
+    (b"PART T ABCDEZ\nTEXT\nA", Some(FormFault::KeyNotOnWheel)),
+    (b"PART T ABCDEF\nTEXT\n \n ", None),
+    (b"PART T ABCDEF\nTEXT\n", Some(FormFault::EmptyText)),
+];
+
+#[test]
 fn orders_of_the_converter_are_refused_in_turn(rt: HostRuntime) {
-    let converter = without_pins(&rt);
-    for (order, due) in [
-        (
-            b"PART A ABCDEF\nTEXT\nA".as_slice(),
-            Some(FormFault::IndicatorSpent(1)),
-        ),
-        (
-            b"PART T ABCDEF\nPART A ABCDEF\nTEXT\n!",
-            Some(FormFault::IndicatorSpent(2)),
-        ),
-        (b"PART A ABCDEZ\nTEXT\nA", Some(FormFault::KeyNotOnWheel)),
-        (b"PART T ABCDEZ\nTEXT\nA", Some(FormFault::KeyNotOnWheel)),
-        (b"PART T ABCDEF\nTEXT\n \n ", None),
-        (b"PART T ABCDEF\nTEXT\n", Some(FormFault::EmptyText)),
-    ] {
-        assert_eq!(rt; fault(&rt, &converter, order), due);
+    let keyed = without_pins(&rt);
+    for (order, due) in ON_THE_CONVERTER {
+        assert_eq!(rt; fault(&rt, &keyed, order), due);
     }
 }
 
