@@ -2,6 +2,8 @@ use super::samples::{
     Keyed, keyed, m1, m4, m4_of_1942, message_of_1941, s1, unready, with_one_pin, without_pins,
 };
 use crate::{FormFault, receive};
+use std::alloc::Global;
+use std::process::Abort;
 use std::test::Fail;
 
 /// A message of 1941.
@@ -21,6 +23,19 @@ fn fault(rt: &HostRuntime, keyed: &Keyed, form: &[u8]) -> Option<FormFault> {
     text(rt, keyed, form).err()
 }
 
+/// The form becomes that text.
+fn becomes(
+    rt: &impl Abort,
+    alloc: Global,
+    (machine, day): &Keyed,
+    form: &[u8],
+    text: &[u8],
+) -> Result<(), FormFault> {
+    let given = receive(alloc, machine, day, form)?;
+    assert_eq!(rt; given.as_slice(), text);
+    Ok(())
+}
+
 /// Forms of five letters A.
 const ALIKE: [&[u8]; 7] = [
     b"PART 1/1 10 AAA BDZ\nQXUGZ BDZGO\n",
@@ -33,22 +48,18 @@ const ALIKE: [&[u8]; 7] = [
 ];
 
 #[test]
-fn a_form_becomes_its_text(rt: HostRuntime) -> Result<(), Fail> {
+fn a_form_becomes_its_text(rt: HostRuntime) -> Result<(), FormFault> {
     let keyed = keyed(&rt);
     for form in ALIKE {
-        assert_eq!(rt; text(&rt, &keyed, form)?.as_slice(), b"AAAAA\n".as_slice());
+        becomes(&rt, rt.alloc(), &keyed, form, b"AAAAA\n")?;
     }
     Ok(())
 }
 
 #[test]
-fn a_form_of_four_wheels_becomes_its_text(rt: HostRuntime) -> Result<(), Fail> {
+fn a_form_of_four_wheels_becomes_its_text(rt: HostRuntime) -> Result<(), FormFault> {
     let form = b"PART 1/1 10 AAAA BDZG\nQXUGZ BDZGO\n";
-    assert_eq!(rt;
-        text(&rt, &m4(&rt), form)?.as_slice(),
-        b"AAAAA\n".as_slice()
-    );
-    Ok(())
+    becomes(&rt, rt.alloc(), &m4(&rt), form, b"AAAAA\n")
 }
 
 #[test]
@@ -61,7 +72,14 @@ fn a_message_of_1941(rt: HostRuntime) -> Result<(), Fail> {
     let whole = MESSAGE.len() - 1;
     let also = text(&rt, &keyed, &MESSAGE[..whole])?;
     assert_eq!(rt; also.as_slice(), given.as_slice());
-    for cut in 0..whole {
+    Ok(())
+}
+
+/// Up to its heading's end a message has no heading, and then too few letters.
+#[test]
+fn a_message_that_breaks_off(rt: HostRuntime) {
+    let keyed = message_of_1941(&rt, b"UGZ");
+    for cut in 0..MESSAGE.len() - 1 {
         let due = if cut < 20 {
             FormFault::BadHeading(1)
         } else {
@@ -69,17 +87,18 @@ fn a_message_of_1941(rt: HostRuntime) -> Result<(), Fail> {
         };
         assert_eq!(rt; fault(&rt, &keyed, &MESSAGE[..cut]), Some(due));
     }
-    let other = message_of_1941(&rt, b"ABC");
-    assert_eq!(rt; fault(&rt, &other, MESSAGE), Some(FormFault::WrongGroup(1)));
-    Ok(())
 }
 
 #[test]
-fn a_message_of_1942(rt: HostRuntime) -> Result<(), Fail> {
+fn a_message_of_another_day(rt: HostRuntime) {
+    let keyed = message_of_1941(&rt, b"ABC");
+    assert_eq!(rt; fault(&rt, &keyed, MESSAGE), Some(FormFault::WrongGroup(1)));
+}
+
+#[test]
+fn a_message_of_1942(rt: HostRuntime) -> Result<(), FormFault> {
     let form = b"PART 1/1 13 VJNA NGZS\nQXUGZ NCZWV USX\n";
-    let given = text(&rt, &m4_of_1942(&rt), form)?;
-    assert_eq!(rt; given.as_slice(), b"VONVONJL\n".as_slice());
-    Ok(())
+    becomes(&rt, rt.alloc(), &m4_of_1942(&rt), form, b"VONVONJL\n")
 }
 
 #[test]
@@ -98,14 +117,21 @@ fn a_message_with_another_count(rt: HostRuntime) -> Result<(), Fail> {
 }
 
 #[test]
-fn a_form_of_the_converter_becomes_its_text(rt: HostRuntime) -> Result<(), Fail> {
+fn a_form_of_the_converter_becomes_its_text(rt: HostRuntime) -> Result<(), FormFault> {
     let form = b"PART 1/1 35\nTTABC DEFQV SVOOL ADLIO WCCCC TTABC DEFQV\n";
-    let given = text(&rt, &without_pins(&rt), form)?;
-    assert_eq!(rt; given.as_slice(), b"HELLO WORLDXXXX\n".as_slice());
+    becomes(
+        &rt,
+        rt.alloc(),
+        &without_pins(&rt),
+        form,
+        b"HELLO WORLDXXXX\n",
+    )
+}
+
+#[test]
+fn a_form_with_one_pin_becomes_its_text(rt: HostRuntime) -> Result<(), FormFault> {
     let form = b"PART 1/1 25\nJJVAA AAAQV ZZZZZ JJVAA AAAQV\n";
-    let given = text(&rt, &with_one_pin(&rt), form)?;
-    assert_eq!(rt; given.as_slice(), b"AAAAA\n".as_slice());
-    Ok(())
+    becomes(&rt, rt.alloc(), &with_one_pin(&rt), form, b"AAAAA\n")
 }
 
 /// Forms on a Converter without pins, each with its fault.

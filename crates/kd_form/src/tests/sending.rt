@@ -2,6 +2,7 @@ use super::samples::{
     KEYS, Keyed, keyed, m1, m4, order_of, s1, unready, with_one_pin, without_pins,
 };
 use crate::{FormFault, send};
+use std::alloc::Global;
 use std::process::Abort;
 use std::test::Fail;
 
@@ -10,57 +11,50 @@ fn fault(rt: &HostRuntime, (machine, day): &Keyed, order: &[u8]) -> Option<FormF
     send(rt.alloc(), machine, day, order).err()
 }
 
+/// The order becomes that form.
+fn becomes(
+    rt: &impl Abort,
+    alloc: Global,
+    (machine, day): &Keyed,
+    order: &[u8],
+    form: &[u8],
+) -> Result<(), FormFault> {
+    let made = send(alloc, machine, day, order)?;
+    assert_eq!(rt; made.as_slice(), form);
+    Ok(())
+}
+
+/// Whatever letters the machine shows.
 #[test]
-fn an_order_becomes_a_form(rt: HostRuntime) -> Result<(), Fail> {
-    let day = s1(&rt, b"ZUG");
+fn an_order_becomes_a_form(rt: HostRuntime) -> Result<(), FormFault> {
     for shown in [b"AAAAA", b"QRSAA"] {
-        let machine = m1(&rt, b"AAAAA", shown);
-        let form = send(
-            rt.alloc(),
-            &machine,
-            &day,
-            b"PART AAA AAA QX UGZ\nTEXT\nAAAAA",
-        )?;
-        assert_eq!(rt;
-            form.as_slice(),
-            b"PART 1/1 10 AAA BDZ\nQXUGZ BDZGO\n".as_slice()
-        );
+        let keyed = (m1(&rt, b"AAAAA", shown), s1(&rt, b"ZUG"));
+        let order = b"PART AAA AAA QX UGZ\nTEXT\nAAAAA";
+        let form = b"PART 1/1 10 AAA BDZ\nQXUGZ BDZGO\n";
+        becomes(&rt, rt.alloc(), &keyed, order, form)?;
     }
     Ok(())
 }
 
 #[test]
-fn an_order_becomes_a_form_on_four_wheels(rt: HostRuntime) -> Result<(), Fail> {
-    let (machine, day) = m4(&rt);
-    let form = send(
-        rt.alloc(),
-        &machine,
-        &day,
-        b"PART AAAA AAAA QX UGZ\r\nTEXT\r\nAA A\r\nAA\n",
-    )?;
-    assert_eq!(rt;
-        form.as_slice(),
-        b"PART 1/1 10 AAAA BDZG\nQXUGZ BDZGO\n".as_slice()
-    );
-    Ok(())
+fn an_order_becomes_a_form_on_four_wheels(rt: HostRuntime) -> Result<(), FormFault> {
+    let order = b"PART AAAA AAAA QX UGZ\r\nTEXT\r\nAA A\r\nAA\n";
+    let form = b"PART 1/1 10 AAAA BDZG\nQXUGZ BDZGO\n";
+    becomes(&rt, rt.alloc(), &m4(&rt), order, form)
 }
 
 #[test]
-fn an_order_becomes_a_form_on_the_converter(rt: HostRuntime) -> Result<(), Fail> {
-    let (machine, day) = without_pins(&rt);
-    let form = send(
-        rt.alloc(),
-        &machine,
-        &day,
-        b"PART T ABCDEF\nTEXT\nHELLO WORLD",
-    )?;
-    let due = b"PART 1/1 35\nTTABC DEFQV SVOOL ADLIO WCCCC TTABC DEFQV\n";
-    assert_eq!(rt; form.as_slice(), due.as_slice());
-    let (machine, day) = with_one_pin(&rt);
-    let form = send(rt.alloc(), &machine, &day, b"PART J VAAAAA\nTEXT\nAAAAA")?;
-    let due = b"PART 1/1 25\nJJVAA AAAQV ZZZZZ JJVAA AAAQV\n";
-    assert_eq!(rt; form.as_slice(), due.as_slice());
-    Ok(())
+fn an_order_becomes_a_form_on_the_converter(rt: HostRuntime) -> Result<(), FormFault> {
+    let order = b"PART T ABCDEF\nTEXT\nHELLO WORLD";
+    let form = b"PART 1/1 35\nTTABC DEFQV SVOOL ADLIO WCCCC TTABC DEFQV\n";
+    becomes(&rt, rt.alloc(), &without_pins(&rt), order, form)
+}
+
+#[test]
+fn an_order_becomes_a_form_with_one_pin(rt: HostRuntime) -> Result<(), FormFault> {
+    let order = b"PART J VAAAAA\nTEXT\nAAAAA";
+    let form = b"PART 1/1 25\nJJVAA AAAQV ZZZZZ JJVAA AAAQV\n";
+    becomes(&rt, rt.alloc(), &with_one_pin(&rt), order, form)
 }
 
 /// Orders on an Enigma I, each with its fault.
