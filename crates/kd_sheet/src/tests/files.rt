@@ -88,18 +88,12 @@ fn reads_either_version_and_unknown_keys(rt: HostRuntime) -> Result<(), Fail> {
     Ok(())
 }
 
-#[test]
-fn reads_the_days_of_a_sheet(rt: HostRuntime) -> Result<(), Fail> {
-    let sheet = read_sheet(rt.alloc(), SHEET.as_bytes())?;
-    for number in [0, 2, 8, 10, 30, 32, 255] {
-        assert!(rt; sheet.day(number).is_none());
-    }
-    for (number, model) in [(1, Model::EnigmaI), (9, Model::M209), (31, Model::M4)] {
-        let day = sheet.day(number).ok_or("a day")?;
-        assert_eq!(rt; day.model(), model);
-    }
-    Ok(())
-}
+/// The days of the sheet: the number, the model, the reflector, and how many pairs and groups there are.
+const DAYS: [(u8, Model, Option<Reflector>, Option<(usize, usize)>); 3] = [
+    (1, Model::EnigmaI, Some(Reflector::B), Some((2, 4))),
+    (9, Model::M209, None, None),
+    (31, Model::M4, Some(Reflector::ThinC), Some((0, 0))),
+];
 
 /// How many pairs and how many groups the day has.
 fn counts(day: &SheetDay) -> Option<(usize, usize)> {
@@ -107,21 +101,40 @@ fn counts(day: &SheetDay) -> Option<(usize, usize)> {
 }
 
 #[test]
-fn reads_days_of_rotors(rt: HostRuntime) -> Result<(), Fail> {
+fn reads_the_days_of_a_sheet(rt: HostRuntime) -> Result<(), Fail> {
     let sheet = read_sheet(rt.alloc(), SHEET.as_bytes())?;
-    let first = sheet.day(1).ok_or("the first day")?;
-    assert_eq!(rt; first.reflector(), Some(Reflector::B));
-    assert_eq!(rt;
-        [first.slot(1), first.slot(3)],
-        [Some(Wheel::I), Some(Wheel::III)]
-    );
-    let letters = [first.ring(2), first.ring(3), first.window(3)];
-    assert_eq!(rt; letters, [b'Z', b'B', b'C'].map(Letter::from_byte));
-    assert_eq!(rt; counts(first), Some((2, 4)));
-    let last = sheet.day(31).ok_or("the last day")?;
-    assert_eq!(rt; last.slot(1), Some(Wheel::Gamma));
-    assert_eq!(rt; last.ring(4), Letter::from_byte(b'D'));
-    assert_eq!(rt; counts(last), Some((0, 0)));
+    for number in [0, 2, 8, 10, 30, 32, 255] {
+        assert!(rt; sheet.day(number).is_none());
+    }
+    for (number, model, reflector, pairs_and_groups) in DAYS {
+        let day = sheet.day(number).ok_or("a day")?;
+        assert_eq!(rt; day.model(), model);
+        assert_eq!(rt; day.reflector(), reflector);
+        assert_eq!(rt; counts(day), pairs_and_groups);
+    }
+    Ok(())
+}
+
+/// The wheels of the days of rotors: the day, the slot, the wheel there, its ring, and the letter in its window.
+const WHEELS: [(u8, u8, Wheel, u8, u8); 7] = [
+    (1, 1, Wheel::I, b'A', b'A'),
+    (1, 2, Wheel::II, b'Z', b'B'),
+    (1, 3, Wheel::III, b'B', b'C'),
+    (31, 1, Wheel::Gamma, b'A', b'W'),
+    (31, 2, Wheel::VIII, b'B', b'X'),
+    (31, 3, Wheel::I, b'C', b'Y'),
+    (31, 4, Wheel::V, b'D', b'Z'),
+];
+
+#[test]
+fn reads_the_wheels_of_a_day(rt: HostRuntime) -> Result<(), Fail> {
+    let sheet = read_sheet(rt.alloc(), SHEET.as_bytes())?;
+    for (number, slot, wheel, ring, letter) in WHEELS {
+        let day = sheet.day(number).ok_or("a day")?;
+        assert_eq!(rt; day.slot(slot), Some(wheel));
+        assert_eq!(rt; day.ring(slot), Letter::from_byte(ring));
+        assert_eq!(rt; day.window(slot), Letter::from_byte(letter));
+    }
     Ok(())
 }
 
