@@ -11,11 +11,11 @@ use Rattle.kd_form.specs.declared.keys.Keys.{Keys}
 use Rattle.kd_form.specs.declared.keys.Keys.TheVariants.{Rotor, Pin}
 use Rattle.kd_form.specs.FormParts.{IsFirstOf}
 use Rattle.kd_form.specs.FormText.{given_letters}
-use Rattle.kd_form.specs.Laws.{OrderIsAnswered, FormIsAnswered}
+use Rattle.kd_form.specs.Laws.{FormIsAnswered}
 use Rattle.kd_form.specs.Making.{Suits, IsMadeText, part_of, indicator_of, rotor_letters, pin_letters, part_size}
 use Rattle.kd_form.specs.Part.{part_text, pieces}
 use Rattle.kd_form.specs.Receiving.{IsExpected, IsPartRead}
-use Rattle.kd_form.specs.Sending.{text_letters, AreMadeTexts, CanBeSent}
+use Rattle.kd_form.specs.Sending.{text_letters, AreMadeTexts, CanBeSent, HasForm}
 use Rattle.kd_form.proofs.Received.{IsReceiving, too_few_parts, all_received}
 
 -- ---- orders
@@ -45,12 +45,12 @@ length-first_chunks : (size count : ℕ) (letters : List ℕ) → length (first_
 length-first_chunks size zero letters = refl
 length-first_chunks size (suc count) letters = ap suc (length-first_chunks size count (drop size letters))
 
-pub order_becomes_a_form : (s : Day) (order text : List ℕ) (keys : List Keys) → CanBeSent s order keys text → OrderIsAnswered s order
+pub order_becomes_a_form : (s : Day) (order text : List ℕ) (keys : List Keys) → CanBeSent s order keys text → HasForm s order
 order_becomes_a_form s order text keys sent =
     let letters : List ℕ = text_letters s text in
     let made = parts_are_made s 1 (length keys) keys (pieces (part_size s) letters)
     (length-first_chunks (part_size s) (div_ceil (length letters) (part_size s)) letters ∙ sent.counted) sent.suited in
-    inl (made.0, record { keys = keys; text = text; sent = sent; made = made.1 })
+    (made.0, record { keys = keys; text = text; sent = sent; made = made.1 })
 
 -- ---- forms
 

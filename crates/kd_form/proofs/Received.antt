@@ -6,7 +6,7 @@ use Rattle.kd_form.specs.declared.fault.FormFault.{FormFault}
 use Rattle.kd_form.specs.declared.fault.FormFault.TheVariants.{PartOrder}
 use Rattle.kd_form.specs.FormParts.{IsFirstOf}
 use Rattle.kd_form.specs.Receiving.{IsExpected, IsPartRead, IsPartFault}
-use Rattle.kd_form.specs.FormText.{AreFirstParts, ArePartsRead, IsReadTo, given_letters, IsTextOf, count_due, IsReceiveFault, InPart, AtEnd}
+use Rattle.kd_form.specs.FormText.{AreFirstParts, ArePartsRead, IsReadTo, IsFirstPartRead, given_letters, IsTextOf, count_due, IsReceiveFault, InPart, AtEnd}
 
 -- ---- one part more
 
@@ -130,6 +130,21 @@ part_refused s form text rest part after number expected fault so_far first foun
     InPart so_far.before so_far.count so_far.letters rest part after so_far.read so_far.left first
     (subst (λ e. IsPartFault s (length so_far.before + 1) e (length form - length rest) part fault) so_far.due
     (subst (λ n. IsPartFault s n expected (length form - length rest) part fault) so_far.numbered found))
+
+first_part_read : (s : Day) (form rest : List ℕ) (parts : List (List ℕ)) (count : ℕ) (letters : List ℕ) → parts ≢ []
+    → IsReadTo s form rest parts count letters → IsFirstPartRead s form
+first_part_read s form rest [] count letters some read = absurd (some refl)
+first_part_read s form rest (p ∷ parts) count letters some read =
+    let cut = read.cut in
+    let is = read.read in
+    record { part = p; rest = cut.0; count = count; letters = is.0; first = cut.1; read = is.2 }
+
+pub begins : (s : Day) (form text rest part after one : List ℕ) (number parts : ℕ) (expected : Option ℕ)
+    → IsReceiving s form text rest number expected → IsFirstOf rest part after → IsPartRead s number parts part one → IsExpected expected parts
+    → IsFirstPartRead s form
+begins s form text rest part after one number parts expected so_far first is due =
+    let more = one_more s form text rest part after one number parts expected so_far first is due in
+    first_part_read s form after more.all parts more.letters more.some more.read
 
 pub too_few_parts : (s : Day) (form text rest part after one : List ℕ) (number parts : ℕ) (expected : Option ℕ)
     → IsReceiving s form text rest number expected → IsFirstOf rest part after → IsPartRead s number parts part one → IsExpected expected parts

@@ -2,7 +2,7 @@
 use Rattle.std.specs.Prelude.{◌≡◌, ◌⊎◌, ℕ, List}
 use Rattle.kd_state.specs.SheetDay.{Day, IsLegalDay}
 use Rattle.kd_form.specs.declared.fault.FormFault.{FormFault}
-use Rattle.kd_form.specs.Sending.{IsFormOf, IsSendFault}
+use Rattle.kd_form.specs.Sending.{IsFormOf, HasForm, IsSendFault}
 use Rattle.kd_form.specs.FormText.{IsTextOf, IsReceiveFault, IsGivenOf}
 
 -- an order becomes one form at most
@@ -19,7 +19,7 @@ OrdersHaveOneFault = (s : Day) (order : List ℕ) (fault other : FormFault) → 
 
 -- and each order has an answer
 abbrev pub OrderIsAnswered : Day → List ℕ → Type 0
-OrderIsAnswered s order = ((form : List ℕ) × IsFormOf s order form) ⊎ ((fault : FormFault) × IsSendFault s order fault)
+OrderIsAnswered s order = HasForm s order ⊎ ((fault : FormFault) × IsSendFault s order fault)
 
 -- a form becomes one text at most
 abbrev pub FormsBecomeOneText : Type 0

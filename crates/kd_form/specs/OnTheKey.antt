@@ -15,10 +15,14 @@ pub record IsOnKey (m : Parts) (s : Day) : Type 0 where
 abbrev pub IsKeyFault : Parts → Day → FormFault → Type 0
 IsKeyFault m s fault = (¬ (IsReady m) × (fault ≡ NotReady)) ⊎ (IsReady m × ¬ (OnKey m s) × (fault ≡ NotOnKey))
 
--- A machine that isn't ready and on the key is refused for that. With one that is, the answer is as due, or a fault that is
--- there, or memory ran out.
+-- a fault that is there, or want of memory, where that is taken
+abbrev pub IsRefusal : (FormFault → Type 0) → Type 0 → FormFault → Type 0
+IsRefusal is_fault takes_memory fault = (takes_memory × (fault ≡ NoMemory)) ⊎ is_fault fault
+
+-- A machine that isn't ready and on the key is refused for that. With one that is, the answer is as due, or a refusal.
 pub data AnswersOnKey {X : Type 0} (m : Parts) (s : Day) (is_due : X → Type 0) (is_fault : FormFault → Type 0)
-    (answer : Result X FormFault) : Type 0 where
-  OffKey : (fault : FormFault) → IsKeyFault m s fault → answer ≡ Err fault → AnswersOnKey m s is_due is_fault answer
-  WithKey : IsOnKey m s → MatchResult answer is_due (λ fault. (fault ≡ NoMemory) ⊎ is_fault fault)
-      → AnswersOnKey m s is_due is_fault answer
+    (takes_memory : Type 0) (answer : Result X FormFault) : Type 0 where
+  OffKey : (fault : FormFault) → IsKeyFault m s fault → answer ≡ Err fault
+      → AnswersOnKey m s is_due is_fault takes_memory answer
+  WithKey : IsOnKey m s → MatchResult answer is_due (IsRefusal is_fault takes_memory)
+      → AnswersOnKey m s is_due is_fault takes_memory answer

@@ -1,7 +1,7 @@
 //! The text that a form becomes.
-ghost use Rattle.std.specs.Prelude.{◌≡◌, ◌⊎◌, ◌≤◌, length, MatchResult};
-ghost use Rattle.kd_form.specs.FormText.{given_byte, given_letters, IsTextOf, IsReceiveFault};
-ghost use Rattle.kd_form.specs.OnTheKey.{AnswersOnKey};
+ghost use Rattle.std.specs.Prelude.{◌≡◌, ◌≤◌, length, MatchResult};
+ghost use Rattle.kd_form.specs.FormText.{given_byte, given_letters, IsFirstPartRead, IsTextOf, IsReceiveFault};
+ghost use Rattle.kd_form.specs.OnTheKey.{IsRefusal, AnswersOnKey};
 
 use super::fault::FormFault;
 use super::form_part::split_part;
@@ -18,7 +18,7 @@ use std::alloc::Global;
 ///
 /// `NotReady` and `NotOnKey` come first, and then the form's first fault, part after part: `BadHeading`, `PartOrder`,
 /// `BadByte`, `CountWrong`, and what is wrong with its letters; at the end `PartOrder` again. `NoMemory` is told as soon as
-/// there is none.
+/// there is none, also of a form that has a fault in a later part; not before a part is read.
 pub fn receive(
     alloc: Global,
     machine: &Machine,
@@ -27,7 +27,7 @@ pub fn receive(
 ) -> Result<Vec<u8>, FormFault>
     ensures { AnswersOnKey machine.now day.now
         (λ text. IsTextOf day.now form.now text.items)
-        (IsReceiveFault day.now form.now) result }
+        (IsReceiveFault day.now form.now) (IsFirstPartRead day.now form.now) result }
 {
     check_machine(machine, day)?;
     read_form_text(alloc, day, form)
@@ -37,7 +37,7 @@ pub fn receive(
 fn read_form_text(alloc: Global, day: &SheetDay, form: &[u8]) -> Result<Vec<u8>, FormFault>
     ensures { MatchResult result
         (λ text. IsTextOf day.now form.now text.items)
-        (λ fault. (fault ≡ FormFault.NoMemory) ⊎ IsReceiveFault day.now form.now fault) }
+        (IsRefusal (IsReceiveFault day.now form.now) (IsFirstPartRead day.now form.now)) }
 {
     let mut text = Vec::new(alloc);
     let mut expected = None;

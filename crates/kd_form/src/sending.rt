@@ -3,7 +3,7 @@ ghost use Rattle.std.specs.Prelude.{◌≡◌, ◌≤◌, length, All, IfOk, Mat
 ghost use Rattle.kd_form.specs.Keys.{AreKeys};
 ghost use Rattle.kd_form.specs.Part.{pieces};
 ghost use Rattle.kd_form.specs.Making.{Suits, part_size};
-ghost use Rattle.kd_form.specs.Sending.{parts_needed, text_letters, IsSendFault, CanBeSent, AreMadeTexts, IsFormOf};
+ghost use Rattle.kd_form.specs.Sending.{parts_needed, text_letters, IsSendFault, CanBeSent, AreMadeTexts, IsFormOf, HasForm};
 ghost use Rattle.kd_form.specs.OnTheKey.{IsOnKey, IsKeyFault, AnswersOnKey};
 
 use super::fault::FormFault;
@@ -19,7 +19,7 @@ use std::alloc::{AllocError, Global};
 /// The form that the order becomes on a machine that is on the day's key.
 ///
 /// `NotReady` and `NotOnKey` come first, and then the order's first fault: in the lines up to its text, in the keys of a part,
-/// in the bytes of the text, `EmptyText`, `PartKeys`. `NoMemory` is told of an order that can be sent.
+/// in the bytes of the text, `EmptyText`, `PartKeys`. `NoMemory` is told only of an order that becomes a form.
 pub fn send(
     alloc: Global,
     machine: &Machine,
@@ -28,7 +28,7 @@ pub fn send(
 ) -> Result<Vec<u8>, FormFault>
     ensures { AnswersOnKey machine.now day.now
         (λ form. IsFormOf day.now order.now form.items)
-        (IsSendFault day.now order.now) result }
+        (IsSendFault day.now order.now) (HasForm day.now order.now) result }
 {
     check_machine(machine, day)?;
     let (keys, text) = read_order(day, order)?;

@@ -1,268 +1,220 @@
 //! Each fault of each key once, in the order in which the keys are tested, and what comes before what.
 use super::samples::{M1, M4, M209, SHEET};
-use crate::{Key, SheetFault, read_machine, read_sheet};
+use crate::SheetFault::{
+    self, BadRow, BadValue, DayTwice, LetterTwice, Missing, NotToml, UnknownModel, WheelNotAllowed,
+    WheelTwice,
+};
+use crate::{Key, read_machine, read_sheet};
 use std::alloc::{AllocError, Global};
-use std::test::Fail;
+use std::process::Abort;
 
-/// The fault of a machine file, one part of which is another text.
-fn machine_fault(
-    alloc: Global,
-    file: &str,
-    old: &str,
-    new: &str,
-) -> Result<Option<SheetFault>, AllocError> {
-    let text = file.replace(alloc, old, new)?;
-    Ok(read_machine(alloc, text.as_bytes()).err())
+/// Bytes that are no machine file.
+const MACHINE_BYTES: [(&[u8], SheetFault); 3] = [
+    (b"x =", NotToml),
+    (b"\xff", NotToml),
+    (b"x = 1", Missing(Key::Version)),
+];
+
+/// Bytes that are no sheet.
+const SHEET_BYTES: [(&[u8], SheetFault); 6] = [
+    (b"x =", NotToml),
+    (b"\xff", NotToml),
+    (b"x = 1", Missing(Key::Day)),
+    (b"day = 3", BadValue(Key::Day)),
+    (b"day = [3]", BadValue(Key::Day)),
+    (b"[[day]]\nx = 1", Missing(Key::Day)),
+];
+
+/// A machine file, a part of it, what stands in the part's place, and the fault that the file then has.
+type MachineCase = (&'static str, &'static str, &'static str, SheetFault);
+
+const VERSIONS_AND_MODELS: [MachineCase; 7] = [
+    (M1, "version = 1", "version = 9223372036854775808", NotToml),
+    (M1, "version = 1", "version = 3", BadValue(Key::Version)),
+    (M1, "version = 1", "version = true", BadValue(Key::Version)),
+    (M1, "model = \"Enigma I\"\n", "", Missing(Key::Model)),
+    (M1, "\"Enigma I\"", "5", BadValue(Key::Model)),
+    (M1, "\"Enigma I\"", "\"Enigma D\"", UnknownModel),
+    (M4, "version = 2", "version = 1", UnknownModel),
+];
+
+const REFLECTORS_AND_SLOTS: [MachineCase; 11] = [
+    (M1, "reflector = \"B\"\n", "", Missing(Key::Reflector)),
+    (M1, "\"B\"", "\"b\"", BadValue(Key::Reflector)),
+    (
+        M1,
+        "\"Enigma I\"\nreflector = \"B\"",
+        "\"M3\"\nreflector = \"A\"",
+        BadValue(Key::Reflector),
+    ),
+    (M1, "slots", "x", Missing(Key::Slots)),
+    (M1, "[\"I\", ", "[\"XX\", ", BadValue(Key::Slots)),
+    (M1, "[\"I\", ", "[\"VI\", \"I\", ", BadValue(Key::Slots)),
+    (M1, "[\"I\", ", "[5, ", BadValue(Key::Slots)),
+    (M1, "[\"I\", ", "[\"VI\", ", WheelNotAllowed),
+    (M1, "[\"I\", \"II\"", "[\"VI\", 5", WheelNotAllowed),
+    (M4, "\"Beta\", \"II\"", "\"I\", \"II\"", WheelNotAllowed),
+    (M1, "\"II\"", "\"I\"", WheelTwice),
+];
+
+const RINGS_LETTERS_AND_CABLES: [MachineCase; 10] = [
+    (M1, "rings", "x", Missing(Key::Rings)),
+    (
+        M1,
+        "rings = \"AAAAA\"",
+        "rings = \"AAA\"",
+        BadValue(Key::Rings),
+    ),
+    (
+        M1,
+        "rings = \"AAAAA\"",
+        "rings = \"AAAAa\"",
+        BadValue(Key::Rings),
+    ),
+    (M1, "letters", "x", Missing(Key::Letters)),
+    (
+        M1,
+        "letters = \"AAAAA\"",
+        "letters = []",
+        BadValue(Key::Letters),
+    ),
+    (
+        M1,
+        "version = 1",
+        "version = 1\ncables = [\"ABC\"]",
+        BadValue(Key::Cables),
+    ),
+    (
+        M1,
+        "version = 1",
+        "version = 1\ncables = \"AB\"",
+        BadValue(Key::Cables),
+    ),
+    (
+        M1,
+        "version = 1",
+        "version = 1\ncables = [\"AB\", \"BC\"]",
+        LetterTwice,
+    ),
+    (
+        M1,
+        "version = 1",
+        "version = 1\ncables = [\"AA\"]",
+        LetterTwice,
+    ),
+    (M1, "version = 1", "version = 1\ncables = ", NotToml),
+];
+
+const PARTS_OF_A_CONVERTER: [MachineCase; 9] = [
+    (M209, "letters", "x", Missing(Key::Letters)),
+    (M209, "\"AAAAAA\"", "\"AAAAAR\"", BadValue(Key::Letters)),
+    (M209, "pins", "x", Missing(Key::Pins)),
+    (M209, "[\"P\", ", "[\"PP\", ", BadValue(Key::Pins)),
+    (M209, "\"P\", \"O\"", "\"P\", \"W\"", BadValue(Key::Pins)),
+    (M209, "bars", "x", Missing(Key::Bars)),
+    (M209, "[\"1-2\", ", "[5, \"1-2\", ", BadValue(Key::Bars)),
+    (M209, "\"1-2\"", "\"0R-3\"", BadRow(1)),
+    (M209, "\"1-2\"", "5", BadRow(1)),
+];
+
+/// A part of the sheet, what stands in its place, and the fault that the sheet then has.
+type SheetCase = (&'static str, &'static str, SheetFault);
+
+const DAYS_AND_WHEELS: [SheetCase; 14] = [
+    ("day = 31", "day = 32", BadValue(Key::Day)),
+    ("day = 31", "day = 0", BadValue(Key::Day)),
+    ("day = 31", "day = 1", DayTwice(1)),
+    ("model = \"M4\"\n", "", Missing(Key::Model)),
+    ("\"M4\"", "\"M5\"", UnknownModel),
+    ("\"c\"", "\"C\"", BadValue(Key::Reflector)),
+    (
+        "wheels = [\"Gamma\"",
+        "x = [\"Gamma\"",
+        Missing(Key::Wheels),
+    ),
+    ("[\"Gamma\"", "[\"\"", BadValue(Key::Wheels)),
+    ("[\"Gamma\"", "[\"II\"", WheelNotAllowed),
+    ("\"VIII\"", "\"I\"", WheelTwice),
+    ("[1, 26, 2]", "[0, 1, 27]", BadValue(Key::Rings)),
+    ("[1, 26, 2]", "[1, 26]", BadValue(Key::Rings)),
+    ("\"ABCD\"", "\"ABC\"", BadValue(Key::Rings)),
+    ("\"WXYZ\"", "\"WXY\"", BadValue(Key::Window)),
+];
+
+const PAIRS_GROUPS_AND_ROWS: [SheetCase; 11] = [
+    ("plugs = []", "x = []", Missing(Key::Plugs)),
+    ("\"BC\", \"ED\"", "\"BC\", \"E\"", BadValue(Key::Plugs)),
+    ("\"BC\", \"ED\"", "\"AB\", \"BC\"", LetterTwice),
+    ("\"QQQ\"", "\"QQ\"", BadValue(Key::Groups)),
+    ("\"QQQ\"", "\"QQQ\", \"QQQ\"", BadValue(Key::Groups)),
+    ("rows", "x", Missing(Key::Rows)),
+    ("\"3-0\"", "\"4-4\"", BadRow(1)),
+    ("\"3-0\"", "\"0-7\"", BadRow(1)),
+    ("pins", "x", Missing(Key::Pins)),
+    ("list", "x", Missing(Key::List)),
+    ("list = \"", "list = \"Q", BadValue(Key::List)),
+];
+
+/// Each of the files has its fault.
+fn are_refused(rt: &impl Abort, alloc: Global, cases: &[MachineCase]) -> Result<(), AllocError> {
+    for (file, old, new, due) in cases {
+        let text = file.replace(alloc, old, new)?;
+        let fault = read_machine(alloc, text.as_bytes()).err();
+        assert_eq!(rt; fault, Some(*due), "{new}");
+    }
+    Ok(())
 }
 
-/// The fault of the sheet, one part of which is another text.
-fn sheet_fault(alloc: Global, old: &str, new: &str) -> Result<Option<SheetFault>, AllocError> {
-    let text = SHEET.replace(alloc, old, new)?;
-    Ok(read_sheet(alloc, text.as_bytes()).err())
-}
-
-#[test]
-fn bytes_that_are_no_document(rt: HostRuntime) -> Result<(), Fail> {
-    let alloc = rt.alloc();
-    assert_eq!(rt;
-        read_machine(alloc, b"x =").err(),
-        Some(SheetFault::NotToml)
-    );
-    assert_eq!(rt;
-        read_machine(alloc, b"\xff").err(),
-        Some(SheetFault::NotToml)
-    );
-    assert_eq!(rt; read_sheet(alloc, b"x =").err(), Some(SheetFault::NotToml));
-    assert_eq!(rt; read_sheet(alloc, b"\xff").err(), Some(SheetFault::NotToml));
-    let large = machine_fault(alloc, M1, "version = 1", "version = 9223372036854775808")?;
-    assert_eq!(rt; large, Some(SheetFault::NotToml));
+/// Each of the sheets has its fault.
+fn are_refused_days(rt: &impl Abort, alloc: Global, cases: &[SheetCase]) -> Result<(), AllocError> {
+    for (old, new, due) in cases {
+        let text = SHEET.replace(alloc, old, new)?;
+        let fault = read_sheet(alloc, text.as_bytes()).err();
+        assert_eq!(rt; fault, Some(*due), "{new}");
+    }
     Ok(())
 }
 
 #[test]
-fn versions_and_models(rt: HostRuntime) -> Result<(), Fail> {
-    let alloc = rt.alloc();
-    let missing = Some(SheetFault::Missing(Key::Version));
-    let bad = Some(SheetFault::BadValue(Key::Version));
-    assert_eq!(rt; read_machine(alloc, b"x = 1").err(), missing);
-    assert_eq!(rt;
-        machine_fault(alloc, M1, "version = 1", "version = 3")?,
-        bad
-    );
-    assert_eq!(rt;
-        machine_fault(alloc, M1, "version = 1", "version = true")?,
-        bad
-    );
-    let missing = Some(SheetFault::Missing(Key::Model));
-    let bad = Some(SheetFault::BadValue(Key::Model));
-    let unknown = Some(SheetFault::UnknownModel);
-    assert_eq!(rt;
-        machine_fault(alloc, M1, "model = \"Enigma I\"\n", "")?,
-        missing
-    );
-    assert_eq!(rt; machine_fault(alloc, M1, "\"Enigma I\"", "5")?, bad);
-    assert_eq!(rt;
-        machine_fault(alloc, M1, "\"Enigma I\"", "\"Enigma D\"")?,
-        unknown
-    );
-    assert_eq!(rt;
-        machine_fault(alloc, M4, "version = 2", "version = 1")?,
-        unknown
-    );
-    Ok(())
+fn bytes_of_no_machine_file(rt: HostRuntime) {
+    for (bytes, due) in MACHINE_BYTES {
+        assert_eq!(rt; read_machine(rt.alloc(), bytes).err(), Some(due));
+    }
 }
 
 #[test]
-fn reflectors_and_slots(rt: HostRuntime) -> Result<(), Fail> {
-    let alloc = rt.alloc();
-    let missing = Some(SheetFault::Missing(Key::Reflector));
-    let bad = Some(SheetFault::BadValue(Key::Reflector));
-    assert_eq!(rt;
-        machine_fault(alloc, M1, "reflector = \"B\"\n", "")?,
-        missing
-    );
-    assert_eq!(rt; machine_fault(alloc, M1, "\"B\"", "\"b\"")?, bad);
-    let missing = Some(SheetFault::Missing(Key::Slots));
-    let bad = Some(SheetFault::BadValue(Key::Slots));
-    let barred = Some(SheetFault::WheelNotAllowed);
-    assert_eq!(rt; machine_fault(alloc, M1, "slots", "x")?, missing);
-    assert_eq!(rt; machine_fault(alloc, M1, "[\"I\", ", "[\"XX\", ")?, bad);
-    assert_eq!(rt;
-        machine_fault(alloc, M1, "[\"I\", ", "[\"VI\", \"I\", ")?,
-        bad
-    );
-    assert_eq!(rt; machine_fault(alloc, M1, "[\"I\", ", "[5, ")?, bad);
-    assert_eq!(rt; machine_fault(alloc, M1, "[\"I\", ", "[\"VI\", ")?, barred);
-    assert_eq!(rt;
-        machine_fault(alloc, M1, "[\"I\", \"II\"", "[\"VI\", 5")?,
-        barred
-    );
-    assert_eq!(rt;
-        machine_fault(alloc, M4, "\"Beta\", \"II\"", "\"I\", \"II\"")?,
-        barred
-    );
-    let twice = machine_fault(alloc, M1, "\"II\"", "\"I\"")?;
-    assert_eq!(rt; twice, Some(SheetFault::WheelTwice));
-    Ok(())
+fn bytes_of_no_sheet(rt: HostRuntime) {
+    for (bytes, due) in SHEET_BYTES {
+        assert_eq!(rt; read_sheet(rt.alloc(), bytes).err(), Some(due));
+    }
 }
 
 #[test]
-fn rings_letters_and_cables(rt: HostRuntime) -> Result<(), Fail> {
-    let alloc = rt.alloc();
-    let missing = Some(SheetFault::Missing(Key::Rings));
-    let bad = Some(SheetFault::BadValue(Key::Rings));
-    assert_eq!(rt; machine_fault(alloc, M1, "rings", "x")?, missing);
-    assert_eq!(rt;
-        machine_fault(alloc, M1, "rings = \"AAAAA\"", "rings = \"AAA\"")?,
-        bad
-    );
-    assert_eq!(rt;
-        machine_fault(alloc, M1, "rings = \"AAAAA\"", "rings = \"AAAAa\"")?,
-        bad
-    );
-    let missing = Some(SheetFault::Missing(Key::Letters));
-    let bad = Some(SheetFault::BadValue(Key::Letters));
-    assert_eq!(rt; machine_fault(alloc, M1, "letters", "x")?, missing);
-    assert_eq!(rt;
-        machine_fault(alloc, M1, "letters = \"AAAAA\"", "letters = []")?,
-        bad
-    );
-    let bad = Some(SheetFault::BadValue(Key::Cables));
-    let cables = "version = 1\ncables = ";
-    let three = "version = 1\ncables = [\"ABC\"]";
-    assert_eq!(rt; machine_fault(alloc, M1, "version = 1", three)?, bad);
-    let no_array = "version = 1\ncables = \"AB\"";
-    assert_eq!(rt; machine_fault(alloc, M1, "version = 1", no_array)?, bad);
-    let twice = Some(SheetFault::LetterTwice);
-    let shared = "version = 1\ncables = [\"AB\", \"BC\"]";
-    assert_eq!(rt; machine_fault(alloc, M1, "version = 1", shared)?, twice);
-    let alone = "version = 1\ncables = [\"AA\"]";
-    assert_eq!(rt; machine_fault(alloc, M1, "version = 1", alone)?, twice);
-    assert_eq!(rt;
-        machine_fault(alloc, M1, "version = 1", cables)?,
-        Some(SheetFault::NotToml)
-    );
-    Ok(())
+fn versions_and_models(rt: HostRuntime) -> Result<(), AllocError> {
+    are_refused(&rt, rt.alloc(), &VERSIONS_AND_MODELS)
 }
 
 #[test]
-fn parts_of_a_converter(rt: HostRuntime) -> Result<(), Fail> {
-    let alloc = rt.alloc();
-    let missing = Some(SheetFault::Missing(Key::Letters));
-    let bad = Some(SheetFault::BadValue(Key::Letters));
-    assert_eq!(rt; machine_fault(alloc, M209, "letters", "x")?, missing);
-    assert_eq!(rt;
-        machine_fault(alloc, M209, "\"AAAAAA\"", "\"AAAAAR\"")?,
-        bad
-    );
-    let missing = Some(SheetFault::Missing(Key::Pins));
-    let bad = Some(SheetFault::BadValue(Key::Pins));
-    assert_eq!(rt; machine_fault(alloc, M209, "pins", "x")?, missing);
-    assert_eq!(rt; machine_fault(alloc, M209, "[\"P\", ", "[\"PP\", ")?, bad);
-    assert_eq!(rt;
-        machine_fault(alloc, M209, "\"P\", \"O\"", "\"P\", \"W\"")?,
-        bad
-    );
-    let missing = Some(SheetFault::Missing(Key::Bars));
-    let bad = Some(SheetFault::BadValue(Key::Bars));
-    assert_eq!(rt; machine_fault(alloc, M209, "bars", "x")?, missing);
-    assert_eq!(rt;
-        machine_fault(alloc, M209, "[\"1-2\", ", "[5, \"1-2\", ")?,
-        bad
-    );
-    let row = Some(SheetFault::BadRow(1));
-    assert_eq!(rt; machine_fault(alloc, M209, "\"1-2\"", "\"0R-3\"")?, row);
-    assert_eq!(rt; machine_fault(alloc, M209, "\"1-2\"", "5")?, row);
-    Ok(())
+fn reflectors_and_slots(rt: HostRuntime) -> Result<(), AllocError> {
+    are_refused(&rt, rt.alloc(), &REFLECTORS_AND_SLOTS)
 }
 
 #[test]
-fn days_of_a_sheet(rt: HostRuntime) -> Result<(), Fail> {
-    let alloc = rt.alloc();
-    let missing = Some(SheetFault::Missing(Key::Day));
-    let bad = Some(SheetFault::BadValue(Key::Day));
-    assert_eq!(rt; read_sheet(alloc, b"x = 1").err(), missing);
-    assert_eq!(rt; read_sheet(alloc, b"day = 3").err(), bad);
-    assert_eq!(rt; read_sheet(alloc, b"day = [3]").err(), bad);
-    assert_eq!(rt; read_sheet(alloc, b"[[day]]\nx = 1").err(), missing);
-    assert_eq!(rt; sheet_fault(alloc, "day = 31", "day = 32")?, bad);
-    assert_eq!(rt; sheet_fault(alloc, "day = 31", "day = 0")?, bad);
-    assert_eq!(rt;
-        sheet_fault(alloc, "day = 31", "day = 1")?,
-        Some(SheetFault::DayTwice(1))
-    );
-    let missing = Some(SheetFault::Missing(Key::Model));
-    assert_eq!(rt; sheet_fault(alloc, "model = \"M4\"\n", "")?, missing);
-    assert_eq!(rt;
-        sheet_fault(alloc, "\"M4\"", "\"M5\"")?,
-        Some(SheetFault::UnknownModel)
-    );
-    Ok(())
+fn rings_letters_and_cables(rt: HostRuntime) -> Result<(), AllocError> {
+    are_refused(&rt, rt.alloc(), &RINGS_LETTERS_AND_CABLES)
 }
 
 #[test]
-fn wheels_of_a_day(rt: HostRuntime) -> Result<(), Fail> {
-    let alloc = rt.alloc();
-    let bad = Some(SheetFault::BadValue(Key::Reflector));
-    assert_eq!(rt; sheet_fault(alloc, "\"c\"", "\"C\"")?, bad);
-    let missing = Some(SheetFault::Missing(Key::Wheels));
-    let bad = Some(SheetFault::BadValue(Key::Wheels));
-    assert_eq!(rt;
-        sheet_fault(alloc, "wheels = [\"Gamma\"", "x = [\"Gamma\"")?,
-        missing
-    );
-    assert_eq!(rt; sheet_fault(alloc, "[\"Gamma\"", "[\"\"")?, bad);
-    let barred = Some(SheetFault::WheelNotAllowed);
-    assert_eq!(rt; sheet_fault(alloc, "[\"Gamma\"", "[\"II\"")?, barred);
-    assert_eq!(rt;
-        sheet_fault(alloc, "\"VIII\"", "\"I\"")?,
-        Some(SheetFault::WheelTwice)
-    );
-    let bad = Some(SheetFault::BadValue(Key::Rings));
-    assert_eq!(rt; sheet_fault(alloc, "[1, 26, 2]", "[0, 1, 27]")?, bad);
-    assert_eq!(rt; sheet_fault(alloc, "[1, 26, 2]", "[1, 26]")?, bad);
-    assert_eq!(rt; sheet_fault(alloc, "\"ABCD\"", "\"ABC\"")?, bad);
-    let bad = Some(SheetFault::BadValue(Key::Window));
-    assert_eq!(rt; sheet_fault(alloc, "\"WXYZ\"", "\"WXY\"")?, bad);
-    Ok(())
+fn parts_of_a_converter(rt: HostRuntime) -> Result<(), AllocError> {
+    are_refused(&rt, rt.alloc(), &PARTS_OF_A_CONVERTER)
 }
 
 #[test]
-fn pairs_and_groups_of_a_day(rt: HostRuntime) -> Result<(), Fail> {
-    let alloc = rt.alloc();
-    let missing = Some(SheetFault::Missing(Key::Plugs));
-    let bad = Some(SheetFault::BadValue(Key::Plugs));
-    assert_eq!(rt; sheet_fault(alloc, "plugs = []", "x = []")?, missing);
-    assert_eq!(rt; sheet_fault(alloc, "\"BC\", \"ED\"", "\"BC\", \"E\"")?, bad);
-    let twice = Some(SheetFault::LetterTwice);
-    assert_eq!(rt;
-        sheet_fault(alloc, "\"BC\", \"ED\"", "\"AB\", \"BC\"")?,
-        twice
-    );
-    let bad = Some(SheetFault::BadValue(Key::Groups));
-    assert_eq!(rt; sheet_fault(alloc, "\"QQQ\"", "\"QQ\"")?, bad);
-    assert_eq!(rt; sheet_fault(alloc, "\"QQQ\"", "\"QQQ\", \"QQQ\"")?, bad);
-    Ok(())
+fn days_and_wheels(rt: HostRuntime) -> Result<(), AllocError> {
+    are_refused_days(&rt, rt.alloc(), &DAYS_AND_WHEELS)
 }
 
 #[test]
-fn parts_of_a_converters_day(rt: HostRuntime) -> Result<(), Fail> {
-    let alloc = rt.alloc();
-    let missing = Some(SheetFault::Missing(Key::Rows));
-    assert_eq!(rt; sheet_fault(alloc, "rows", "x")?, missing);
-    assert_eq!(rt;
-        sheet_fault(alloc, "\"3-0\"", "\"4-4\"")?,
-        Some(SheetFault::BadRow(1))
-    );
-    assert_eq!(rt;
-        sheet_fault(alloc, "\"3-0\"", "\"0-7\"")?,
-        Some(SheetFault::BadRow(1))
-    );
-    let missing = Some(SheetFault::Missing(Key::Pins));
-    assert_eq!(rt; sheet_fault(alloc, "pins", "x")?, missing);
-    let missing = Some(SheetFault::Missing(Key::List));
-    let bad = Some(SheetFault::BadValue(Key::List));
-    assert_eq!(rt; sheet_fault(alloc, "list", "x")?, missing);
-    assert_eq!(rt; sheet_fault(alloc, "list = \"", "list = \"Q")?, bad);
-    Ok(())
+fn pairs_groups_and_rows(rt: HostRuntime) -> Result<(), AllocError> {
+    are_refused_days(&rt, rt.alloc(), &PAIRS_GROUPS_AND_ROWS)
 }

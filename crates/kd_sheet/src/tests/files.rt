@@ -1,7 +1,9 @@
 //! Files that are read, and machines that are written.
 use super::samples::{M1, M1_WRITTEN, M4, M209, SHEET, TEN_CABLES, TEN_CABLES_WRITTEN};
 use crate::{read_machine, read_sheet, write_machine};
+use kd_state::SheetDay;
 use kd_tables::{Device, Letter, MemorySink, Model, Reflector, Wheel};
+use std::alloc::Global;
 use std::test::Fail;
 
 /// Each file beside the file that is written for its machine.
@@ -14,41 +16,54 @@ const WRITTEN: [(&str, &str); 6] = [
     (M209, M209),
 ];
 
+/// A file, a part of it, what stands in the part's place: another machine, whose file is written back the same.
+const WRITTEN_BACK: [(&str, &str, &str); 8] = [
+    (M1_WRITTEN, "\"AAAAA\"\nl", "\"BBBAA\"\nl"),
+    (M1_WRITTEN, "[\"\", \"\",", "[\"AB\", \"CD\","),
+    (
+        M1_WRITTEN,
+        "[\"I\", \"II\", \"III\"]",
+        "[\"\", \"I\", \"\"]",
+    ),
+    (M1_WRITTEN, "letters = \"AAAAA\"", "letters = \"BAAAA\""),
+    (M1_WRITTEN, "\"AAAAA\"", "\"BAAAA\""),
+    (M209, "\"1-2\", \"0L-0R\"", "\"3-0R\", \"0L-3\""),
+    (
+        M209,
+        "\"P\", \"O\", \"\", \"\"",
+        "\"AZ\", \"V\", \"X\", \"TU\"",
+    ),
+    (M209, "AAAAAA", "ZYXUSQ"),
+];
+
+/// What may stand for the version: 2 tells the same machine, and what no key speaks of is passed over.
+const VERSIONS: [&str; 2] = [
+    "version = 2",
+    "x = [[[[[[[[[[[[[[[[[[[[[[[[[[[[[[[[[[[[[[[[[[[[[[[[[[[[[[[[[[[[[[[[]]]]]]]]]]]]]]]]]]]]]]]]]]]]]]]]]]]]]]]]]]]]]]]]]]]]]]]]]]]]]]]]\nversion = 1",
+];
+
+/// The file that is written for the file's machine.
+fn written(alloc: Global, file: &str) -> Result<MemorySink<1024>, Fail> {
+    let machine = read_machine(alloc, file.as_bytes())?;
+    let mut sink = MemorySink::new(1024);
+    write_machine(&mut sink, &machine)?;
+    Ok(sink)
+}
+
 #[test]
 fn writes_what_was_read(rt: HostRuntime) -> Result<(), Fail> {
     for (file, text) in WRITTEN {
-        let machine = read_machine(rt.alloc(), file.as_bytes())?;
-        let mut sink = MemorySink::<1024>::new(1024);
-        write_machine(&mut sink, &machine)?;
+        let sink = written(rt.alloc(), file)?;
         assert_eq!(rt; sink.taken(), text.as_bytes());
     }
     Ok(())
 }
 
-/// Parts of a file that are written otherwise, and still say a machine that is written back the same.
 #[test]
 fn writes_other_machines_back(rt: HostRuntime) -> Result<(), Fail> {
-    for (old, new) in [
-        ("\"AAAAA\"\nl", "\"BBBAA\"\nl"),
-        ("[\"\", \"\",", "[\"AB\", \"CD\","),
-        ("[\"I\", \"II\", \"III\"]", "[\"\", \"I\", \"\"]"),
-        ("letters = \"AAAAA\"", "letters = \"BAAAA\""),
-    ] {
-        let text = M1_WRITTEN.replace(rt.alloc(), old, new)?;
-        let machine = read_machine(rt.alloc(), text.as_bytes())?;
-        let mut sink = MemorySink::<1024>::new(1024);
-        write_machine(&mut sink, &machine)?;
-        assert_eq!(rt; sink.taken(), text.as_bytes());
-    }
-    for (old, new) in [
-        ("\"1-2\", \"0L-0R\"", "\"3-0R\", \"0L-3\""),
-        ("\"P\", \"O\", \"\", \"\"", "\"AZ\", \"V\", \"X\", \"TU\""),
-        ("AAAAAA", "ZYXUSQ"),
-    ] {
-        let text = M209.replace(rt.alloc(), old, new)?;
-        let machine = read_machine(rt.alloc(), text.as_bytes())?;
-        let mut sink = MemorySink::<1024>::new(1024);
-        write_machine(&mut sink, &machine)?;
+    for (file, old, new) in WRITTEN_BACK {
+        let text = file.replace(rt.alloc(), old, new)?;
+        let sink = written(rt.alloc(), text.as_str())?;
         assert_eq!(rt; sink.taken(), text.as_bytes());
     }
     Ok(())
@@ -63,19 +78,26 @@ fn tells_that_the_sink_failed(rt: HostRuntime) -> Result<(), Fail> {
     Ok(())
 }
 
-/// Version 2 tells the same machine, and what no key speaks of is passed over.
 #[test]
 fn reads_either_version_and_unknown_keys(rt: HostRuntime) -> Result<(), Fail> {
-    let deep =
-        "x = [[[[[[[[[[[[[[[[[[[[[[[[[[[[[[[[[[[[[[[[[[[[[[[[[[[[[[[[[[[[[[[[]]]]]]]]]]]]]]]]]]]]]]]]]]]]]]]]]]]]]]]]]]]]]]]]]]]]]]]]]]]]]]]]\nversion = 1";
-    for new in ["version = 2", deep] {
-        let text = M1.replace(rt.alloc(), "version = 1", new)?;
-        let machine = read_machine(rt.alloc(), text.as_bytes())?;
-        let mut sink = MemorySink::<1024>::new(1024);
-        write_machine(&mut sink, &machine)?;
+    for version in VERSIONS {
+        let text = M1.replace(rt.alloc(), "version = 1", version)?;
+        let sink = written(rt.alloc(), text.as_str())?;
         assert_eq!(rt; sink.taken(), M1_WRITTEN.as_bytes());
     }
     Ok(())
+}
+
+/// The days of the sheet: the number, the model, the reflector, and how many pairs and groups there are.
+const DAYS: [(u8, Model, Option<Reflector>, Option<(usize, usize)>); 3] = [
+    (1, Model::EnigmaI, Some(Reflector::B), Some((2, 4))),
+    (9, Model::M209, None, None),
+    (31, Model::M4, Some(Reflector::ThinC), Some((0, 0))),
+];
+
+/// How many pairs and how many groups the day has.
+fn counts(day: &SheetDay) -> Option<(usize, usize)> {
+    Some((day.pairs()?.len(), day.groups()?.len()))
 }
 
 #[test]
@@ -84,39 +106,46 @@ fn reads_the_days_of_a_sheet(rt: HostRuntime) -> Result<(), Fail> {
     for number in [0, 2, 8, 10, 30, 32, 255] {
         assert!(rt; sheet.day(number).is_none());
     }
-    let Some(first) = sheet.day(1) else {
-        return Err(Fail::new("the first day"));
-    };
-    assert_eq!(rt; first.model(), Model::EnigmaI);
-    assert_eq!(rt; first.reflector(), Some(Reflector::B));
-    assert_eq!(rt; first.slot(1), Some(Wheel::I));
-    assert_eq!(rt; first.slot(3), Some(Wheel::III));
-    assert_eq!(rt; first.ring(2), Letter::from_byte(b'Z'));
-    assert_eq!(rt; first.ring(3), Letter::from_byte(b'B'));
-    assert_eq!(rt; first.window(3), Letter::from_byte(b'C'));
-    assert_eq!(rt; first.pairs().map(|pairs| pairs.len()), Some(2));
-    assert_eq!(rt; first.groups().map(|groups| groups.len()), Some(4));
-    let Some(last) = sheet.day(31) else {
-        return Err(Fail::new("the last day"));
-    };
-    assert_eq!(rt; last.model(), Model::M4);
-    assert_eq!(rt; last.slot(1), Some(Wheel::Gamma));
-    assert_eq!(rt; last.ring(4), Letter::from_byte(b'D'));
-    assert_eq!(rt; last.pairs().map(|pairs| pairs.len()), Some(0));
-    assert_eq!(rt; last.groups().map(|groups| groups.len()), Some(0));
-    let Some(converter) = sheet.day(9) else {
-        return Err(Fail::new("the Converter's day"));
-    };
-    assert_eq!(rt; converter.model(), Model::M209);
-    assert_eq!(rt; converter.window(6), Letter::from_byte(b'F'));
-    let Some(rows) = converter.rows() else {
-        return Err(Fail::new("rows"));
-    };
-    assert_eq!(rt; rows[0].numbers(), (0, 3));
-    assert_eq!(rt; rows[1].numbers(), (3, 6));
-    let Some(pins) = converter.pins() else {
-        return Err(Fail::new("pins"));
-    };
+    for (number, model, reflector, pairs_and_groups) in DAYS {
+        let day = sheet.day(number).ok_or("a day")?;
+        assert_eq!(rt; day.model(), model);
+        assert_eq!(rt; day.reflector(), reflector);
+        assert_eq!(rt; counts(day), pairs_and_groups);
+    }
+    Ok(())
+}
+
+/// The wheels of the days of rotors: the day, the slot, the wheel there, its ring, and the letter in its window.
+const WHEELS: [(u8, u8, Wheel, u8, u8); 7] = [
+    (1, 1, Wheel::I, b'A', b'A'),
+    (1, 2, Wheel::II, b'Z', b'B'),
+    (1, 3, Wheel::III, b'B', b'C'),
+    (31, 1, Wheel::Gamma, b'A', b'W'),
+    (31, 2, Wheel::VIII, b'B', b'X'),
+    (31, 3, Wheel::I, b'C', b'Y'),
+    (31, 4, Wheel::V, b'D', b'Z'),
+];
+
+#[test]
+fn reads_the_wheels_of_a_day(rt: HostRuntime) -> Result<(), Fail> {
+    let sheet = read_sheet(rt.alloc(), SHEET.as_bytes())?;
+    for (number, slot, wheel, ring, letter) in WHEELS {
+        let day = sheet.day(number).ok_or("a day")?;
+        assert_eq!(rt; day.slot(slot), Some(wheel));
+        assert_eq!(rt; day.ring(slot), Letter::from_byte(ring));
+        assert_eq!(rt; day.window(slot), Letter::from_byte(letter));
+    }
+    Ok(())
+}
+
+#[test]
+fn reads_a_day_of_the_converter(rt: HostRuntime) -> Result<(), Fail> {
+    let sheet = read_sheet(rt.alloc(), SHEET.as_bytes())?;
+    let day = sheet.day(9).ok_or("the Converter's day")?;
+    assert_eq!(rt; day.window(6), Letter::from_byte(b'F'));
+    let rows = day.rows().ok_or("rows")?;
+    assert_eq!(rt; [rows[0].numbers(), rows[1].numbers()], [(0, 3), (3, 6)]);
+    let pins = day.pins().ok_or("pins")?;
     assert!(rt; pins.w1[0] && pins.w1[25] && !pins.w1[1] && pins.w6[16] && !pins.w6[0]);
     Ok(())
 }
