@@ -17,7 +17,8 @@ pub struct IllegalAt {
 /// The machine to which the settings lead, carried out one after another, or the first that is refused.
 pub fn carry_all(machine: &Machine, settings: &[Setting]) -> Result<Machine, IllegalAt>
     ensures carried { IfOk result (λ n. Leads machine.now settings.now n) }
-    ensures refused { IfErr result (λ fault. IsFirstIllegal machine.now settings.now fault.line fault.why) }
+    ensures refused { IfErr result
+        (λ fault. IsFirstIllegal machine.now settings.now fault.line fault.why) }
 {
     let mut carried = *machine;
     for (place, setting) in settings.iter().enumerate() {

@@ -119,7 +119,8 @@ fn push_prices<const N: usize>(text: &mut ArrayString<N>, prices: &Prices)
 fn push_price_line<const N: usize>(text: &mut ArrayString<N>, word: &str, prices: &[i16])
     requires room { array_string_len text.old + length word.now + 6 * length prices.now + 1 ≤ N }
     requires reach { AreWithinReach prices.now }
-    ensures bytes { text.new.bytes ≡ text.old.bytes ++ with_line (price_words word.now prices.now) [] }
+    ensures bytes { text.new.bytes
+        ≡ text.old.bytes ++ with_line (price_words word.now prices.now) [] }
     ensures len { array_string_len text.new
         ≤ array_string_len text.old + length word.now + 6 * length prices.now + 1 }
 {

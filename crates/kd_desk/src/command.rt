@@ -203,7 +203,8 @@ fn grammar<'a>(alloc: Global) -> Result<Grammar<'a>, AllocError>
 
 /// A command with the word MACHINE.
 fn with_machine<'a>(alloc: Global, name: &'a str) -> Result<Grammar<'a>, AllocError>
-    ensures shape { IfOk result (λ g. app_of g ≡ alone (form name.entry.now (codes "MACHINE" ∷ []))) }
+    ensures shape { IfOk result
+        (λ g. app_of g ≡ alone (form name.entry.now (codes "MACHINE" ∷ []))) }
     ensures local { IfOk result (λ g. (out-Command g).has_globals ≡ false) }
 {
     Grammar::new(alloc, name)
@@ -231,7 +232,8 @@ fn with_file<'a>(alloc: Global, name: &'a str, file: &'a str) -> Result<Grammar<
 
 /// A command with the words MACHINE and LIST.
 fn with_list<'a>(alloc: Global, name: &'a str) -> Result<Grammar<'a>, AllocError>
-    ensures shape { IfOk result (λ g. app_of g ≡ alone (form name.entry.now (codes "MACHINE" ∷ codes "LIST" ∷ []))) }
+    ensures shape { IfOk result
+        (λ g. app_of g ≡ alone (form name.entry.now (codes "MACHINE" ∷ codes "LIST" ∷ []))) }
     ensures local { IfOk result (λ g. (out-Command g).has_globals ≡ false) }
 {
     with_machine(alloc, name)?.arg(word(alloc, "LIST"))

@@ -47,7 +47,8 @@ pub fn run_desk<'n, S: AsStr, F: Files<'n>, R: Source, W: Sink>(
     ensures other_words { SaysNothing (map S.text words.entry.now)
         → (result ≡ Err Stop.Usage) ⊎ LacksMemory result }
     ensures none_asked { SaysNothing (map S.text words.entry.now) → F.asked files.new ≡ [] }
-    ensures untouched { IsTrue (is_stopped_before result) → (source.new ≡ source.old) × (sink.new ≡ sink.old) }
+    ensures untouched { IsTrue (is_stopped_before result)
+        → (source.new ≡ source.old) × (sink.new ≡ sink.old) }
     ensures failed { Fail (port R.remaining R.has_failed source.old source.new)
         (port W.taken W.has_failed sink.old sink.new) (is_stopped_by_port result) }
 {
@@ -65,8 +66,10 @@ fn read_files<'n, F: Files<'n>>(
     files: &mut F,
 ) -> Result<Command<Content>, FileFault>
     requires { F.asked files.old ≡ [] }
-    ensures read { IfSome (F.known files.old) (λ held. Gives (command_over held (named command.entry)) result) }
-    ensures asked { AskFor (files_of (named command.entry)) (F.asked files.old) (F.asked files.new) (is_ok result) }
+    ensures read { IfSome (F.known files.old)
+        (λ held. Gives (command_over held (named command.entry)) result) }
+    ensures asked { AskFor (files_of (named command.entry)) (F.asked files.old)
+        (F.asked files.new) (is_ok result) }
 {
     let machine = files.read(alloc, command.machine)?;
     let action = read_action(alloc, command.action, files)?;
@@ -80,8 +83,10 @@ fn read_action<'n, F: Files<'n>>(
     files: &mut F,
 ) -> Result<Action<Content>, FileFault>
     requires { length (F.asked files.old) ≤ 1 }
-    ensures read { IfSome (F.known files.old) (λ held. Gives (action_over held (action_named action.entry)) result) }
-    ensures asked { AskFor (action_files (action_named action.entry)) (F.asked files.old) (F.asked files.new) (is_ok result) }
+    ensures read { IfSome (F.known files.old)
+        (λ held. Gives (action_over held (action_named action.entry)) result) }
+    ensures asked { AskFor (action_files (action_named action.entry)) (F.asked files.old)
+        (F.asked files.new) (is_ok result) }
     ensures same { F.known files.new ≡ F.known files.old }
 {
     match action {
@@ -105,8 +110,10 @@ fn read_task<'n, F: Files<'n>>(
     files: &mut F,
 ) -> Result<Task<Content>, FileFault>
     requires { length (F.asked files.old) ≤ 2 }
-    ensures read { IfSome (F.known files.old) (λ held. Gives (task_over held (task_named task.entry)) result) }
-    ensures asked { AskFor (task_files (task_named task.entry)) (F.asked files.old) (F.asked files.new) (is_ok result) }
+    ensures read { IfSome (F.known files.old)
+        (λ held. Gives (task_over held (task_named task.entry)) result) }
+    ensures asked { AskFor (task_files (task_named task.entry)) (F.asked files.old)
+        (F.asked files.new) (is_ok result) }
     ensures same { F.known files.new ≡ F.known files.old }
 {
     match task {
@@ -127,7 +134,8 @@ fn carry_out<R: Source, W: Sink>(
 ) -> Result<(), DeskFault>
     ensures does { Does command.now (port R.remaining R.has_failed source.old source.new)
         (port W.taken W.has_failed sink.old sink.new) result }
-    ensures untouched { IsTrue (is_refused_before result) → (source.new ≡ source.old) × (sink.new ≡ sink.old) }
+    ensures untouched { IsTrue (is_refused_before result)
+        → (source.new ≡ source.old) × (sink.new ≡ sink.old) }
     ensures failed { Fail (port R.remaining R.has_failed source.old source.new)
         (port W.taken W.has_failed sink.old sink.new) (is_device result) }
 {

@@ -81,17 +81,6 @@ impl From<AllocError> for DeskFault {
     }
 }
 
-impl From<ListFault> for DeskFault {
-    ghost use Rattle.std.specs.Prelude.{◌≡◌};
-    ghost use Rattle.kd_desk.specs.declared.fault.DeskFault.TheVariants as faults;
-
-    ghost from_gives = { λ fault desk. desk ≡ faults.List fault };
-
-    fn from(fault: ListFault) -> DeskFault {
-        DeskFault::List(fault)
-    }
-}
-
 impl From<CardFault> for DeskFault {
     ghost use Rattle.std.specs.Prelude.{◌≡◌};
     ghost use Rattle.kd_desk.specs.declared.fault.DeskFault.TheVariants as faults;

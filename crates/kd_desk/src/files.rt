@@ -28,7 +28,8 @@ pub trait Files<'n> {
     /// `ReadTooLong`. Three names may be asked for.
     fn read(&mut self, alloc: Global, name: &'n str) -> Result<Content, FileFault>
         requires { length (asked self.old) < 3 }
-        ensures content { IfSome (known self.old) (λ held. Gives (content_of (held name.now)) result) }
+        ensures content { IfSome (known self.old)
+            (λ held. Gives (content_of (held name.now)) result) }
         ensures asked { asked self.new ≡ asked self.old ++ name.now ∷ [] }
         ensures same { known self.new ≡ known self.old };
 }

@@ -40,7 +40,8 @@ pub fn run_apply<W: Sink>(
 
 /// Carries the settings that the bytes say out on the machine, and writes the file of the machine that stands then.
 fn apply<W: Sink>(machine: &Machine, list: &[u8], sink: &mut W) -> Result<(), DeskFault>
-    ensures applied { Applies machine.now list.now (port W.taken W.has_failed sink.old sink.new) result }
+    ensures applied { Applies machine.now list.now
+        (port W.taken W.has_failed sink.old sink.new) result }
     ensures untouched { IsTrue (is_refused_before result) → sink.new ≡ sink.old }
     ensures failed { W.has_failed sink.new ≡ (W.has_failed sink.old || is_device result) }
 {

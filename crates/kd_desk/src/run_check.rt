@@ -49,7 +49,8 @@ fn check_card<W: Sink>(
     card: &[u8],
     sink: &mut W,
 ) -> Result<(), DeskFault>
-    ensures checks { Checks machine.now day.now number card.now (port W.taken W.has_failed sink.old sink.new) result }
+    ensures checks { Checks machine.now day.now number card.now
+        (port W.taken W.has_failed sink.old sink.new) result }
     ensures untouched { IsTrue (is_refused_before result) → sink.new ≡ sink.old }
     ensures failed { W.has_failed sink.new ≡ (W.has_failed sink.old || is_device result) }
 {

@@ -29,12 +29,15 @@ pub fn run_type<R: Source, W: Sink>(
     source: &mut R,
     sink: &mut W,
 ) -> Result<(), DeskFault>
-    ensures refused { IfErr (machine_of machine.now) (λ fault. AnswersFault result (faults.File fault)) }
-    ensures not_ready { IfOk (machine_of machine.now) (λ m. ¬ IsReady m → AnswersFault result faults.NotReady) }
+    ensures refused { IfErr (machine_of machine.now)
+        (λ fault. AnswersFault result (faults.File fault)) }
+    ensures not_ready { IfOk (machine_of machine.now) (λ m. ¬ IsReady m
+        → AnswersFault result faults.NotReady) }
     ensures typed { IfOk (machine_of machine.now) (λ m. IsReady m → TypesLine (physical_key m)
         (port R.remaining R.has_failed source.old source.new)
         (port W.taken W.has_failed sink.old sink.new) result ⊎ RanOut result) }
-    ensures untouched { IsTrue (is_refused_before result) → (source.new ≡ source.old) × (sink.new ≡ sink.old) }
+    ensures untouched { IsTrue (is_refused_before result)
+        → (source.new ≡ source.old) × (sink.new ≡ sink.old) }
     ensures failed { Fail (port R.remaining R.has_failed source.old source.new)
         (port W.taken W.has_failed sink.old sink.new) (is_device result) }
 {

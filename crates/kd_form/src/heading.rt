@@ -51,7 +51,8 @@ pub(crate) fn push_heading<const N: usize>(text: &mut ArrayString<N>, heading: &
 /// Appends the ground and the enciphered message key, each behind a space, if the heading has them.
 fn push_indicator<const N: usize>(text: &mut ArrayString<N>, indicator: &Option<Indicator>)
     requires { array_string_len text.old + 10 ≤ N }
-    ensures bytes { text.new.bytes ≡ text.old.bytes ++ behind_spaces (indicator_words indicator.now) }
+    ensures bytes { text.new.bytes
+        ≡ text.old.bytes ++ behind_spaces (indicator_words indicator.now) }
     ensures len { array_string_len text.new ≤ array_string_len text.old + 10 }
 {
     if let Some(Indicator { start, key }) = indicator {

@@ -61,7 +61,8 @@ fn keys_of(day: &SheetDay, letters: &[Letter]) -> Keys
 fn rotor_keys(slots: usize, letters: &[Letter]) -> RotorKeys
     requires slots { (slots ≡ 3) ⊎ (slots ≡ 4) }
     requires letters { AreLetters (slots + slots + 5) letters.now }
-    ensures letters { letters.now ≡ result.start ++ (result.key ++ (result.fillers ++ result.group)) }
+    ensures letters { letters.now
+        ≡ result.start ++ (result.key ++ (result.fillers ++ result.group)) }
     ensures keys { AreRotorKeys slots result }
 {
     let (start, rest) = letters.split_at(slots);

@@ -80,7 +80,8 @@ fn write_parts(
     requires keys { All (AreKeys day.now) keys.now }
     requires suited { All (Suits day.now) keys.now }
     requires few { length keys.now ≤ 99 }
-    requires counted { parts_needed day.now (length (text_letters day.now text.now)) ≡ length keys.now }
+    requires counted { parts_needed day.now (length (text_letters day.now text.now))
+        ≡ length keys.now }
     ensures { let letters = text_letters day.now text.now in IfOk result (λ form.
         AreMadeTexts day.now 1 (length keys.now) keys.now (pieces (part_size day.now) letters) form.items) }
 {

@@ -38,7 +38,8 @@ impl<const N: usize> PinWheel<N> {
     /// places past the letter shown, in the wheel's own order.
     pub fn new(ring: Ring<N>, offset: usize, pins: [bool; N]) -> Self
         requires { offset < N }
-        ensures value { result ≡ record { ring = ring.entry; offset = offset; pins = pins.entry; place = 0 } }
+        ensures value { result
+            ≡ record { ring = ring.entry; offset = offset; pins = pins.entry; place = 0 } }
         ensures wheel { IsWheel N result }
     {
         at_most_all_letters(&ring);

@@ -14,8 +14,10 @@ use kd_state::{Machine, Parts, Setting, SheetDay, bar_costs, cable_costs};
 /// Whether the card proves itself, whoever made it: its lines lead the machine to the day, and its prices show that no
 /// settings that do are fewer. Else the first doubt, in the order in which `Doubt` has them.
 pub fn check(machine: &Machine, day: &SheetDay, card: &Card) -> Result<(), Doubt>
-    ensures proves { IsOk result ↔ Proves machine.now day.now card.now.settings.items card.now.prices }
-    ensures doubt { IfErr result (IsDoubt machine.now day.now card.now.settings.items card.now.prices) }
+    ensures proves { IsOk result
+        ↔ Proves machine.now day.now card.now.settings.items card.now.prices }
+    ensures doubt { IfErr result
+        (IsDoubt machine.now day.now card.now.settings.items card.now.prices) }
 {
     a_card_is_in_one_doubt_at_most();
     let settings = card.settings.as_slice();

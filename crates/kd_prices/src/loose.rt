@@ -145,7 +145,8 @@ fn pins_apart(pins: &[bool], others: &[bool]) -> usize
 
 /// How many pin wheels show another letter.
 fn loose_shown(letters: &[Letter], others: &[Letter]) -> usize
-    ensures value { result ≡ count_by (λ letter. not (nat_eq letter.0 letter.1)) (zip letters.now others.now) }
+    ensures value { result ≡ count_by
+        (λ letter. not (nat_eq letter.0 letter.1)) (zip letters.now others.now) }
     ensures few { result ≤ length letters.now }
 {
     letters

@@ -35,7 +35,8 @@ fn may_have(key: Key, count: usize) -> bool
 #[tactic(auto, unfolding(crate::specs::Cables::plugged_letters_in))]
 fn cable_of_text(key: Key, text: &[u8]) -> Option<Cable>
     ensures value { result ≡ option_map cable_of (plugged_letters_in key text.now) }
-    ensures letters { IfSome result (λ cable. plugged_letters_in key text.now ≡ Some (cable_letters cable)) }
+    ensures letters { IfSome result
+        (λ cable. plugged_letters_in key text.now ≡ Some (cable_letters cable)) }
     ensures within { IfSome result (λ cable. All (λ letter. letter < 26) (cable_letters cable)) }
 {
     if !may_have(key, text.len()) {
@@ -102,9 +103,11 @@ fn are_new(cables: &[Cable], cable: &Cable) -> bool
 #[tactic(auto, unfolding(crate::specs::Cables::cable_for, crate::specs::Cables::letters_of_item))]
 fn cable_for(key: Key, cables: &[Cable], item: &Value) -> Result<Cable, SheetFault>
     ensures value { result ≡ cable_for key (plugged_letters cables.now) (view item.now) }
-    ensures letters { IfOk result (λ cable. letters_of_item key (view item.now) ≡ Some (cable_letters cable)) }
+    ensures letters { IfOk result
+        (λ cable. letters_of_item key (view item.now) ≡ Some (cable_letters cable)) }
     ensures within { IfOk result (λ cable. All (λ letter. letter < 26) (cable_letters cable)) }
-    ensures free { IfOk result (λ cable. are_new (plugged_letters cables.now) (cable_letters cable) ≡ true) }
+    ensures free { IfOk result
+        (λ cable. are_new (plugged_letters cables.now) (cable_letters cable) ≡ true) }
 {
     let text = item.as_str().ok_or(SheetFault::BadValue(key))?;
     let cable = cable_of_text(key, text.as_bytes()).ok_or(SheetFault::BadValue(key))?;

@@ -24,7 +24,8 @@ pub fn document(alloc: Global, bytes: &[u8]) -> Result<Table, SheetFault>
 
 /// The value at a key, if it is there.
 pub fn find_at(table: &Table, key: Key) -> Option<&Value>
-    ensures { option_map (λ value. view value.now) result ≡ get_member (key_name key) (table_view table.now) }
+    ensures { option_map (λ value. view value.now) result
+        ≡ get_member (key_name key) (table_view table.now) }
 {
     table.get(key.name())
 }
@@ -47,14 +48,16 @@ pub fn text_at(table: &Table, key: Key) -> Result<&str, SheetFault>
 
 /// The items of the array that a key's value has to be.
 pub fn items_in(value: &Value, key: Key) -> Result<&Array, SheetFault>
-    ensures { result_map (λ items. map view items.now.items) result ≡ items_in key (view value.now) }
+    ensures { result_map (λ items. map view items.now.items) result
+        ≡ items_in key (view value.now) }
 {
     value.as_array().ok_or(SheetFault::BadValue(key))
 }
 
 /// The items of the array at a key.
 pub fn items_at(table: &Table, key: Key) -> Result<&Array, SheetFault>
-    ensures { result_map (λ items. map view items.now.items) result ≡ items_at key (table_view table.now) }
+    ensures { result_map (λ items. map view items.now.items) result
+        ≡ items_at key (table_view table.now) }
 {
     items_in(value_at(table, key)?, key)
 }

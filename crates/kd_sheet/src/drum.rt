@@ -17,7 +17,8 @@ const BARS: usize = 27;
 
 /// How a bar stands, by its item. The bar's number counts from 1.
 fn standing_for(bar: u8, item: &Value) -> Result<Standing, SheetFault>
-    ensures value { (earlier : _) → bar ≡ length earlier + 1 → result ≡ bar_behind earlier (view item.now) }
+    ensures value { (earlier : _) → bar ≡ length earlier + 1
+        → result ≡ bar_behind earlier (view item.now) }
     ensures before { IfOk result (λ standing. IsBefore standing.0 standing.1) }
 {
     let text = item.as_str().ok_or(SheetFault::BadRow(bar))?;
@@ -85,7 +86,8 @@ fn row_of_text(text: &[u8]) -> Option<Reading>
 
 /// What a row says, by its item. The row's number counts from 1.
 fn row_for(row: u8, item: &Value) -> Result<Reading, SheetFault>
-    ensures value { (earlier : _) → row ≡ length earlier + 1 → result ≡ row_behind earlier (view item.now) }
+    ensures value { (earlier : _) → row ≡ length earlier + 1
+        → result ≡ row_behind earlier (view item.now) }
     ensures reading { IfOk result IsReading }
 {
     let text = item.as_str().ok_or(SheetFault::BadRow(row))?;

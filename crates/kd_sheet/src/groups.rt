@@ -39,7 +39,8 @@ fn group_for(item: &Value) -> Result<[Letter; 3], SheetFault>
 /// The groups of at most four items.
 fn groups(items: &[Value]) -> Result<Groups, SheetFault>
     requires { length items.now ≤ 4 }
-    ensures value { result_map (λ groups. groups.items) result ≡ all_values (given_earlier group_behind (map view items.now)) }
+    ensures value { result_map (λ groups. groups.items) result
+        ≡ all_values (given_earlier group_behind (map view items.now)) }
     ensures few { IfOk result (λ groups. length groups.items ≤ 4) }
     ensures words { IfOk result (λ groups. All (AreLetters 3) groups.items) }
 {

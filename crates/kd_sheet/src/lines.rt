@@ -58,7 +58,8 @@ pub fn push_text_line(text: &mut Text, key: Key, value: &str)
 /// Puts an item behind another one.
 fn push_next<T: ItemText>(text: &mut Text, item: &T)
     requires { array_string_len text.old + 36 ≤ 2048 }
-    ensures bytes { text.new.bytes ≡ text.old.bytes ++ (codes ", " ++ quoted (T.item_text item.now)) }
+    ensures bytes { text.new.bytes
+        ≡ text.old.bytes ++ (codes ", " ++ quoted (T.item_text item.now)) }
     ensures len { array_string_len text.new ≤ array_string_len text.old + 36 }
 {
     text.push_str(", ");
@@ -68,7 +69,8 @@ fn push_next<T: ItemText>(text: &mut Text, item: &T)
 /// Puts items behind a first one.
 fn push_rest<T: ItemText>(text: &mut Text, items: &[T])
     requires { array_string_len text.old + 36 * length items.now ≤ 2048 }
-    ensures bytes { text.new.bytes ≡ text.old.bytes ++ flat_map (λ text. codes ", " ++ quoted text) (map T.item_text items.now) }
+    ensures bytes { text.new.bytes ≡ text.old.bytes ++ flat_map
+        (λ text. codes ", " ++ quoted text) (map T.item_text items.now) }
     ensures len { array_string_len text.new ≤ array_string_len text.old + 36 * length items.now }
 {
     for item in items {
@@ -79,7 +81,8 @@ fn push_rest<T: ItemText>(text: &mut Text, items: &[T])
 /// Puts items with a comma and a space between them.
 fn push_items<T: ItemText>(text: &mut Text, items: &[T])
     requires { array_string_len text.old + 36 * length items.now ≤ 2048 }
-    ensures bytes { text.new.bytes ≡ text.old.bytes ++ join_by quoted (codes ", ") (map T.item_text items.now) }
+    ensures bytes { text.new.bytes
+        ≡ text.old.bytes ++ join_by quoted (codes ", ") (map T.item_text items.now) }
     ensures len { array_string_len text.new ≤ array_string_len text.old + 36 * length items.now }
 {
     if let [first, rest @ ..] = items {
@@ -91,7 +94,8 @@ fn push_items<T: ItemText>(text: &mut Text, items: &[T])
 /// Puts a line with an array of texts.
 pub fn push_list_line<T: ItemText>(text: &mut Text, key: Key, items: &[T])
     requires { array_string_len text.old + 36 * length items.now + 15 ≤ 2048 }
-    ensures bytes { text.new.bytes ≡ text.old.bytes ++ key_line key (listed (map T.item_text items.now)) }
+    ensures bytes { text.new.bytes
+        ≡ text.old.bytes ++ key_line key (listed (map T.item_text items.now)) }
     ensures len { array_string_len text.new ≤ array_string_len text.old + 36 * length items.now + 15 }
 {
     push_key(text, key);

@@ -32,7 +32,8 @@ fn pair_of(cable: &Cable) -> Option<(Letter, Letter)>
 /// Puts the pair that a cable joins behind the others, if it joins one.
 fn push_pair(pairs: &mut Pairs, cable: &Cable)
     requires { array_vec_len pairs.old < 13 }
-    ensures items { pairs.new.items ≡ pairs.old.items ++ option_to_list (both_ends cable.now.0 cable.now.1) }
+    ensures items { pairs.new.items
+        ≡ pairs.old.items ++ option_to_list (both_ends cable.now.0 cable.now.1) }
     ensures len { array_vec_len pairs.new ≤ array_vec_len pairs.old + 1 }
 {
     if let Some(pair) = pair_of(cable) {

@@ -33,7 +33,8 @@ fn number_in(table: &Table) -> Result<u8, SheetFault>
 /// The day's number, which no day of the sheet has.
 #[tactic(auto, unfolding(crate::specs::SheetFile::new_number_in))]
 fn new_number_in(sheet: &Sheet, table: &Table) -> Result<u8, SheetFault>
-    ensures value { (taken : _) → Takes sheet.now taken → result ≡ new_number_in taken (table_view table.now) }
+    ensures value { (taken : _) → Takes sheet.now taken
+        → result ≡ new_number_in taken (table_view table.now) }
     ensures number { IfOk result (λ number. number_in (table_view table.now) ≡ Ok number) }
     ensures within { IfOk result IsDayNumber }
     ensures free { IfOk result (λ number. day_of sheet.now number ≡ None) }
@@ -49,7 +50,8 @@ fn new_number_in(sheet: &Sheet, table: &Table) -> Result<u8, SheetFault>
 /// The day that an entry's table describes, behind the days of the sheet, or its first fault.
 #[tactic(auto, unfolding(crate::specs::SheetFile::day_in))]
 fn day_in(sheet: &Sheet, table: &Table) -> Result<SheetDay, SheetFault>
-    ensures value { (taken : _) → Takes sheet.now taken → result ≡ day_in taken (table_view table.now) }
+    ensures value { (taken : _) → Takes sheet.now taken
+        → result ≡ day_in taken (table_view table.now) }
     ensures number { IfOk result (λ day. number_in (table_view table.now) ≡ Ok (day_number day)) }
     ensures within { IfOk result (λ day. IsDayNumber (day_number day)) }
     ensures free { IfOk result (λ day. day_of sheet.now (day_number day) ≡ None) }

@@ -32,7 +32,8 @@ impl<T> Model for PerWheel<T> {
 impl<T: Copy> PerWheel<T> {
     /// These values, if there are five, eight or ten.
     pub fn new(values: &[T]) -> Option<Self>
-        ensures exists { IsSome result ↔ ((length values.now ≡ 5) ⊎ (length values.now ≡ 8) ⊎ (length values.now ≡ 10)) }
+        ensures exists { IsSome result
+            ↔ ((length values.now ≡ 5) ⊎ (length values.now ≡ 8) ⊎ (length values.now ≡ 10)) }
         ensures value { IfSome result (λ wheels. wheels ≡ values.now) }
     {
         let values = match values.len() {

@@ -30,7 +30,8 @@ impl PinParts {
 
     /// Turns the wheel of that number until the letter shows.
     fn turn(&mut self, wheel: u8, letter: Letter) -> Result<(), Why>
-        ensures { Answers (Parts.Pin self.old) (Setting.Turn wheel letter) (Parts.Pin self.new) result }
+        ensures { Answers (Parts.Pin self.old) (Setting.Turn wheel letter)
+            (Parts.Pin self.new) result }
     {
         let Some(_) = numbered(&self.letters, wheel) else {
             return Err(Why::SlotEmpty);
@@ -44,7 +45,8 @@ impl PinParts {
 
     /// Makes the wheel's pin at the letter effective, or not.
     fn pin_to(&mut self, wheel: u8, letter: Letter, effective: bool) -> Result<(), Why>
-        ensures { Answers (Parts.Pin self.old) (Setting.PinTo wheel letter effective) (Parts.Pin self.new) result }
+        ensures { Answers (Parts.Pin self.old) (Setting.PinTo wheel letter effective)
+            (Parts.Pin self.new) result }
     {
         if !is_on_wheel(wheel, letter) {
             return Err(Why::NotOnWheel);
@@ -55,7 +57,8 @@ impl PinParts {
 
     /// Moves a lug of the bar to the place.
     fn lug_to(&mut self, bar: u8, lug: Lug, place: Place) -> Result<(), Why>
-        ensures { Answers (Parts.Pin self.old) (Setting.LugTo bar lug place) (Parts.Pin self.new) result }
+        ensures { Answers (Parts.Pin self.old) (Setting.LugTo bar lug place)
+            (Parts.Pin self.new) result }
     {
         let Some(standing) = numbered(&self.bars, bar) else {
             return Err(Why::NoSuchBar);

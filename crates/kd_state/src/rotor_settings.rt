@@ -30,7 +30,8 @@ impl RotorParts {
 
     /// Takes the letter out of the cable.
     fn pull(&mut self, cable: u8, letter: Letter) -> Result<(), Why>
-        ensures { Answers (Parts.Rotor self.old) (Setting.Pull cable letter) (Parts.Rotor self.new) result }
+        ensures { Answers (Parts.Rotor self.old) (Setting.Pull cable letter)
+            (Parts.Rotor self.new) result }
     {
         let Some(ends) = numbered(&self.cables, cable) else {
             return Err(Why::NoSuchCable);
@@ -45,7 +46,8 @@ impl RotorParts {
 
     /// Puts the letter into the cable.
     fn put(&mut self, cable: u8, letter: Letter) -> Result<(), Why>
-        ensures { Answers (Parts.Rotor self.old) (Setting.Put cable letter) (Parts.Rotor self.new) result }
+        ensures { Answers (Parts.Rotor self.old) (Setting.Put cable letter)
+            (Parts.Rotor self.new) result }
     {
         let Some(ends) = numbered(&self.cables, cable) else {
             return Err(Why::NoSuchCable);
@@ -64,7 +66,8 @@ impl RotorParts {
     /// Seats the wheel in the slot. It leaves the slot that held it, and the wheel that was there goes to the box.
     fn seat(&mut self, slot: u8, wheel: Wheel) -> Result<(), Why>
         requires { IsLegalRotor self.old }
-        ensures { Answers (Parts.Rotor self.old) (Setting.Seat slot wheel) (Parts.Rotor self.new) result }
+        ensures { Answers (Parts.Rotor self.old) (Setting.Seat slot wheel)
+            (Parts.Rotor self.new) result }
     {
         if !allowed(self.model, slot, wheel) {
             return Err(Why::WheelNotAllowed);
@@ -76,7 +79,8 @@ impl RotorParts {
 
     /// Changes the reflector.
     fn seat_reflector(&mut self, reflector: Reflector) -> Result<(), Why>
-        ensures { Answers (Parts.Rotor self.old) (Setting.SeatReflector reflector) (Parts.Rotor self.new) result }
+        ensures { Answers (Parts.Rotor self.old) (Setting.SeatReflector reflector)
+            (Parts.Rotor self.new) result }
     {
         if !allowed_reflector(self.model, reflector) {
             return Err(Why::WheelNotAllowed);
@@ -88,7 +92,8 @@ impl RotorParts {
     /// Sets the wheel's ring, and leaves its window letter.
     fn ring_to(&mut self, wheel: Wheel, letter: Letter) -> Result<(), Why>
         requires { IsLegalRotor self.old }
-        ensures { Answers (Parts.Rotor self.old) (Setting.RingTo wheel letter) (Parts.Rotor self.new) result }
+        ensures { Answers (Parts.Rotor self.old) (Setting.RingTo wheel letter)
+            (Parts.Rotor self.new) result }
     {
         let Some(place) = place_in_box(self.model, wheel) else {
             return Err(Why::WheelNotAllowed);
@@ -100,7 +105,8 @@ impl RotorParts {
     /// Turns the wheel in the slot until the letter shows.
     fn turn(&mut self, slot: u8, letter: Letter) -> Result<(), Why>
         requires { IsLegalRotor self.old }
-        ensures { Answers (Parts.Rotor self.old) (Setting.Turn slot letter) (Parts.Rotor self.new) result }
+        ensures { Answers (Parts.Rotor self.old) (Setting.Turn slot letter)
+            (Parts.Rotor self.new) result }
     {
         let Some(Some(wheel)) = numbered(self.slots.as_slice(), slot) else {
             return Err(Why::SlotEmpty);

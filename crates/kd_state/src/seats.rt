@@ -22,7 +22,8 @@ pub(crate) fn place_in_box(model: Model, wheel: Wheel) -> Option<usize>
 
 /// Whether there are as many slots as the model has, each wheel may stand in its slot, and none stands in two.
 pub(crate) fn are_legal(model: Model, slots: &PerSlot<Option<Wheel>>) -> bool
-    ensures { IsTrue result ↔ (length slots.now ≡ slots_of model) × AreAllowed model slots.now × AreApart slots.now }
+    ensures { IsTrue result ↔ (length slots.now ≡ slots_of model) × AreAllowed model slots.now
+        × AreApart slots.now }
 {
     let slots = slots.as_slice();
     if slots.len() != usize::from(model.slots()) {

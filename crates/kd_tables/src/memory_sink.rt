@@ -55,8 +55,10 @@ impl<const CAP: usize> Sink for MemorySink<CAP> {
         ensures bytes { Puts (Some self.old.taken) (Some self.new.taken) bytes.now result }
         ensures failed { self.new.failed ≡ (self.old.failed || is_err result) }
         ensures limit { self.new.limit ≡ self.old.limit }
-        ensures room { IfOk result (λ count. count ≡ min (length bytes.now) (self.old.limit - length self.old.taken)) }
-        ensures refused { IsErr result ↔ ((0 < length bytes.now) × (self.old.limit ≡ length self.old.taken)) }
+        ensures room { IfOk result
+            (λ count. count ≡ min (length bytes.now) (self.old.limit - length self.old.taken)) }
+        ensures refused { IsErr result
+            ↔ ((0 < length bytes.now) × (self.old.limit ≡ length self.old.taken)) }
     {
         let count = bytes.len().min(self.limit - self.bytes.len());
         if count == 0 && !bytes.is_empty() {

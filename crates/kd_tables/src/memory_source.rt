@@ -50,7 +50,8 @@ impl<'a> Source for MemorySource<'a> {
     fn get(&mut self, buffer: &mut [u8]) -> Result<usize, Failed>
         ensures bytes { Gets (Some self.old.rest) (Some self.new.rest) buffer.new result }
         ensures failed { self.new.failed ≡ (self.old.failed || is_err result) }
-        ensures piece { IfOk result (λ count. count ≡ min self.old.piece (min (length buffer.old) (length self.old.rest))) }
+        ensures piece { IfOk result
+            (λ count. count ≡ min self.old.piece (min (length buffer.old) (length self.old.rest))) }
         ensures refused { IsErr result ↔ (self.old.gets_left ≡ Some 0) }
         ensures behind { IfOk result (λ count. drop count buffer.new ≡ drop count buffer.old) }
         ensures kept { OnErr result (buffer.new ≡ buffer.old) }

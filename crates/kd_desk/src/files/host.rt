@@ -39,7 +39,8 @@ impl<'n> Files<'n> for HostFiles<'n> {
 
 /// All the bytes of a reader, unless they are more than a file may have.
 pub fn read_whole<R: Read + Drop>(alloc: Global, reader: R) -> Result<Content, FileFault>
-    ensures { IfSome (R.remaining reader) (λ all. (result ≡ content_of (Some all)) ⊎ HasFailed result) }
+    ensures { IfSome (R.remaining reader)
+        (λ all. (result ≡ content_of (Some all)) ⊎ HasFailed result) }
 {
     let mut bytes = Vec::new(alloc);
     let mut front = reader.take(READ_LIMIT as u64 + 1);

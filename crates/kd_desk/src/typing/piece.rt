@@ -20,7 +20,8 @@ fn may_be_typed(byte: u8) -> bool
 pub fn allowed_front(bytes: &[u8]) -> usize
     ensures within { result ≤ length bytes.now }
     ensures front { AreAllowedBytes (take result bytes.now) }
-    ensures next { result < length bytes.now → IsFalse (may_be_typed (slice_index bytes.now result)) }
+    ensures next { result < length bytes.now
+        → IsFalse (may_be_typed (slice_index bytes.now result)) }
 {
     for (place, byte) in bytes.iter().enumerate() {
         if !may_be_typed(*byte) {

@@ -99,7 +99,8 @@ impl Machine {
 fn plugs_of(cables: &[Cable; 13]) -> Option<Plugs>
     requires { AreCables cables.now }
     ensures ready { IsSome result ↔ All (λ cable. length (cable_letters cable) ≢ 1) cables.now }
-    ensures plugs { IfSome result (λ plugs. plugs ≡ exchange (filter_map (λ cable. both_ends cable.0 cable.1) cables.now)) }
+    ensures plugs { IfSome result
+        (λ plugs. plugs ≡ exchange (filter_map (λ cable. both_ends cable.0 cable.1) cables.now)) }
 {
     if !are_whole(cables) {
         return None;
@@ -135,7 +136,8 @@ fn plugged_pairs(cables: &[Cable; 13]) -> ArrayVec<(Letter, Letter), 13>
 /// Appends the letters of a cable, if it has two.
 fn push_pair(pairs: &mut ArrayVec<(Letter, Letter), 13>, cable: Cable)
     requires { array_vec_len pairs.old < 13 }
-    ensures pairs { pairs.new.items ≡ pairs.old.items ++ option_to_list (both_ends cable.0 cable.1) }
+    ensures pairs { pairs.new.items
+        ≡ pairs.old.items ++ option_to_list (both_ends cable.0 cable.1) }
     ensures at_most_one { array_vec_len pairs.new ≤ array_vec_len pairs.old + 1 }
 {
     if let (Some(one), Some(other)) = cable {
