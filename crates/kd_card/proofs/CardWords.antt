@@ -1,4 +1,4 @@
--- What stands in a card's lines are words, and its numbers have the forms that are read.
+-- What stands in a card's lines are words, and its numbers have the keywords that are read.
 use Rattle.std.proofs.Common.{codes, ◌≡◌, ◌≢◌, ℕ, zero, suc, ◌+◌, ◌*◌, ◌^◌, ◌<◌, ◌≤◌, inl, inr, true, List, [], ◌∷◌, ◌++◌, length, map, get_or, fold, decimal, refl, ap, arith, ℤ, pos, negsuc, ◌+ℤ◌, unsigned_abs, length-append}
 use Rattle.std.specs.List.{All, AllByRecursion}
 use Rattle.std.specs.Int.{IsInRange}
@@ -61,7 +61,7 @@ prices_are_words numbers word prices w reach =
     (All-weaker (λ price. unsigned_abs price ≤ 9999) (λ price. IsWord (signed_decimal price))
     (λ price within. signed_word numbers price (omega (arith, within))) prices reach))
 
--- ---- the forms of numbers
+-- ---- the keywords of numbers
 
 figures : IsNumeralModel (λ ds. (i : ℕ) → i < length ds → IsInRange 48 57 (get_or ds i 0)) (digits_value 10)
 figures = numerals_by_value (λ ds. (i : ℕ) → i < length ds → IsInRange 48 57 (get_or ds i 0)) tells_by_index

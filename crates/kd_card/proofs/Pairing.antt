@@ -16,7 +16,7 @@ use Rattle.kd_tables.specs.Places.{places, place_rank, reading_of, IsBefore}
 use Rattle.kd_enigma.specs.Plugs.{letters_plugged}
 use Rattle.kd_state.specs.Machine.{cable_letters, plugged_letters}
 use Rattle.kd_state.specs.Setting.{has_letter}
-use Rattle.kd_state.specs.OnKey.{SameLetters, IsPaired, IsPlugged, AreThePairs}
+use Rattle.kd_state.specs.OnKey.{SameLetters, IsPaired, IsJoined, AreThePairs}
 use Rattle.kd_state.specs.Costs.{differ, cable_cost, standings_as, bar_cost, columns_of}
 use Rattle.kd_card.proofs.Duality.{pairing_cost, reordered}
 use Rattle.kd_card.proofs.Counts.{count_by-cons, times, times-append, AreOnce}
@@ -201,7 +201,7 @@ matched_of_pairs cables pairs once pairs_once h =
       cables_once = once;
       pairs_once = pairs_once;
       pair = λ cable among some. let any = (All-contains (IsPaired pairs) cables cable h.pair among).joins some in (any.1, (any.0, any.2, any.3), any.4.letters);
-      cable = λ pair among. let any = (All-contains (IsPlugged cables) pairs pair h.cable among).joins in (any.1, (any.0, any.2, any.3), any.4.letters);
+      cable = λ pair among. let any = (All-contains (IsJoined cables) pairs pair h.cable among).joins in (any.1, (any.0, any.2, any.3), any.4.letters);
     }
 
 pub cables_paired : Told → (cables : List (Option ℕ × Option ℕ)) (pairs : List (ℕ × ℕ)) (prices : List ℤ) → HasCables cables → AreOnce (letters_plugged pairs) → length pairs ≤ 13 → length prices ≡ 13

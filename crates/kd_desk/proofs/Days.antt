@@ -11,7 +11,7 @@ use Rattle.kd_sheet.specs.Sheet.{day_of}
 use Rattle.kd_sheet.specs.SheetFile.{sheet_of}
 use Rattle.kd_desk.specs.declared.fault.DeskFault.{DeskFault}
 use Rattle.kd_desk.specs.declared.fault.DeskFault.TheVariants as faults
-use Rattle.kd_desk.specs.OnDay.{FindsDay, OutOfMemory, NoMachine, NoSheet, NoDay, Found, OnDay}
+use Rattle.kd_desk.specs.OnDay.{FindsDay, LackedMemory, NoMachine, NoSheet, NoDay, Found, OnDay}
 use Rattle.kd_desk.proofs.Failing.{answered}
 
 -- a fault that is answered is the one that is meant, or want of memory
@@ -40,14 +40,14 @@ module _ (machine sheet : List ℕ) (number : ℕ) (answer : Result (Parts × Da
   Finds found = FindsDay machine sheet number found
 
   first_fault : (fault : SheetFault) → (fault ≡ files.NoMemory) ⊎ (machine_of machine ≡ Err fault) → Finds (Err (faults.File fault))
-  first_fault fault (inl same) = OutOfMemory (ap (λ f. Err (faults.File f)) same)
+  first_fault fault (inl same) = LackedMemory (ap (λ f. Err (faults.File f)) same)
   first_fault fault (inr is) = NoMachine fault is refl
 
   pub no_machine : (fault : SheetFault) → IsErrAnd answer (λ made. made ≡ faults.File fault) → Answers (Err fault) (machine_of machine) → Finds answer
   no_machine fault made is = answered answer (faults.File fault) Finds made (first_fault fault (is_meant fault _ is))
 
   second_fault : (m : Parts) (fault : SheetFault) → Ok m ≡ machine_of machine → (fault ≡ files.NoMemory) ⊎ (sheet_of sheet ≡ Err fault) → Finds (Err (faults.File fault))
-  second_fault m fault read (inl same) = OutOfMemory (ap (λ f. Err (faults.File f)) same)
+  second_fault m fault read (inl same) = LackedMemory (ap (λ f. Err (faults.File f)) same)
   second_fault m fault read (inr is) = NoSheet m fault (sym read) is refl
 
   pub no_sheet : (m : Parts) (fault : SheetFault) → IsErrAnd answer (λ made. made ≡ faults.File fault) → Ok m ≡ machine_of machine

@@ -7,7 +7,7 @@ use Rattle.kd_form.specs.declared.fault.FormFault.TheVariants.{NoMemory}
 use Rattle.kd_form.specs.OnTheKey as form
 use Rattle.kd_desk.specs.declared.fault.DeskFault.{DeskFault}
 use Rattle.kd_desk.specs.declared.fault.DeskFault.TheVariants.{Message}
-use Rattle.kd_desk.specs.Messages.{Passes, OutOfMemory, OffKey, Refused, Passed}
+use Rattle.kd_desk.specs.Messages.{Passes, LackedMemory, OffKey, Refused, Passed}
 use Rattle.kd_desk.specs.Ports.{Port, WritesText}
 
 module _ (m : Parts) (s : Day) (is_due : List ℕ → Type 0) (is_fault : FormFault → Type 0) (takes_memory : Type 0) (sink : Port) (answer : Result (Unit {0}) DeskFault)
@@ -19,7 +19,7 @@ module _ (m : Parts) (s : Day) (is_due : List ℕ → Type 0) (is_fault : FormFa
   on_the_key : (made : Result T FormFault) → form.IsOnKey m s
       → MatchResult made (λ text. is_due (items text)) (form.IsRefusal is_fault takes_memory) → IsTold made → Passes m s is_due is_fault takes_memory sink answer
   on_the_key (Ok text) on is told = Passed on (items text) is told
-  on_the_key (Err fault) on (inl lacks) told = OutOfMemory on lacks.0 (subst (λ f. answer ≡ Err (Message f)) lacks.1 told)
+  on_the_key (Err fault) on (inl lacks) told = LackedMemory on lacks.0 (subst (λ f. answer ≡ Err (Message f)) lacks.1 told)
   on_the_key (Err fault) on (inr is) told = Refused on fault is told
 
   pub passes : (made : Result T FormFault) → form.AnswersOnKey m s (λ text. is_due (items text)) is_fault takes_memory made → IsTold made

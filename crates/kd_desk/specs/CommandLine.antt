@@ -17,8 +17,8 @@ abbrev pub word_named : List ℕ → Rule
 word_named name = record (new_rule name) { required = true }
 
 -- a command with its words: no options and no help
-abbrev pub form : List ℕ → List (List ℕ) → Shape
-form name words = record (new_shape name) {
+abbrev pub command_shape : List ℕ → List (List ℕ) → Shape
+command_shape name words = record (new_shape name) {
   disable_help_flag = true;
   rules = map word_named words;
 }
@@ -42,21 +42,21 @@ work_word Check = codes "CARD"
 work_word Send = codes "ORDER"
 work_word Receive = codes "FORM"
 
-abbrev pub type_form : Shape
-type_form = form (codes "type") (codes "MACHINE" ∷ [])
+abbrev pub type_shape : Shape
+type_shape = command_shape (codes "type") (codes "MACHINE" ∷ [])
 
-abbrev pub apply_form : Shape
-apply_form = form (codes "apply") (codes "MACHINE" ∷ codes "LIST" ∷ [])
+abbrev pub apply_shape : Shape
+apply_shape = command_shape (codes "apply") (codes "MACHINE" ∷ codes "LIST" ∷ [])
 
-abbrev pub card_form : Shape
-card_form = form (codes "card") day_words
+abbrev pub card_shape : Shape
+card_shape = command_shape (codes "card") day_words
 
 -- a command with these words, and one that names a file more
-abbrev pub file_form : List ℕ → List ℕ → Shape
-file_form name word = form name (day_words ++ word ∷ [])
+abbrev pub file_shape : List ℕ → List ℕ → Shape
+file_shape name word = command_shape name (day_words ++ word ∷ [])
 
-abbrev pub work_form : Work → Shape
-work_form work = file_form (work_name work) (work_word work)
+abbrev pub work_shape : Work → Shape
+work_shape work = file_shape (work_name work) (work_word work)
 
 unfoldable pub desk_grammar : App
 desk_grammar = record {
@@ -65,7 +65,7 @@ desk_grammar = record {
     disable_help_subcommand = true;
     is_leaf = false;
   };
-  subs = type_form ∷ apply_form ∷ card_form ∷ work_form Check ∷ work_form Send ∷ work_form Receive ∷ [];
+  subs = type_shape ∷ apply_shape ∷ card_shape ∷ work_shape Check ∷ work_shape Send ∷ work_shape Receive ∷ [];
 }
 
 -- the same with other files: with their names as texts, or with their bytes

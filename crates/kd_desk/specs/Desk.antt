@@ -25,7 +25,7 @@ use Rattle.kd_desk.specs.OnDay.{OnDay}
 use Rattle.kd_desk.specs.RunApply.{Applies}
 use Rattle.kd_desk.specs.RunCard.{Prints}
 use Rattle.kd_desk.specs.RunCheck.{Checks}
-use Rattle.kd_desk.specs.RunSteps.{RanOut, AnswersFault, is_refused_before, is_device}
+use Rattle.kd_desk.specs.RunSteps.{LacksMemory, AnswersFault, is_refused_before, is_device}
 use Rattle.kd_desk.specs.Typing.{TypesLine}
 
 -- a file's bytes go into what is made of them, or its fault stands for it
@@ -60,12 +60,12 @@ pub record AskFor (names old new : List (List ℕ)) (all : Bool) : Type 0 where
 pub record TypesOn (machine : List ℕ) (source sink : Port) (answer : Result (Unit {0}) DeskFault) : Type 0 where
   pub refused : IfErr (machine_of machine) (λ fault. AnswersFault answer (File fault))
   pub not_ready : IfOk (machine_of machine) (λ m. ¬ IsReady m → AnswersFault answer NotReady)
-  pub typed : IfOk (machine_of machine) (λ m. IsReady m → TypesLine (physical_key m) source sink answer ⊎ RanOut answer)
+  pub typed : IfOk (machine_of machine) (λ m. IsReady m → TypesLine (physical_key m) source sink answer ⊎ LacksMemory answer)
 
 -- settings were carried out on the machine of a machine file, or the call was refused for the file
 pub record AppliesTo (machine list : List ℕ) (sink : Port) (answer : Result (Unit {0}) DeskFault) : Type 0 where
   pub refused : IfErr (machine_of machine) (λ fault. AnswersFault answer (File fault))
-  pub applied : IfOk (machine_of machine) (λ m. Applies m list sink answer ⊎ RanOut answer)
+  pub applied : IfOk (machine_of machine) (λ m. Applies m list sink answer ⊎ LacksMemory answer)
 
 -- nobody looked at the port
 pub record IsLeftAlone (p : Port) : Type 0 where
@@ -91,8 +91,8 @@ abbrev pub Does : Command (List ℕ) → Port → Port → Result (Unit {0}) Des
 Does command source sink answer = DoesAction command.machine command.action source sink answer
 
 -- memory ran out, over the words or a file's bytes, or as a file was read
-abbrev pub LacksMemory : Result (Unit {0}) Stop → Type 0
-LacksMemory answer = (answer ≡ Err (Refused (File NoMemory))) ⊎ (answer ≡ Err (Unread files.NoMemory))
+abbrev pub StopsForMemory : Result (Unit {0}) Stop → Type 0
+StopsForMemory answer = (answer ≡ Err (Refused (File NoMemory))) ⊎ (answer ≡ Err (Unread files.NoMemory))
 
 -- a command was carried out, and its refusal is the program's
 pub record IsDone (command : Command (List ℕ)) (source sink : Port) (answer : Result (Unit {0}) Stop) : Type 0 where
@@ -102,8 +102,8 @@ pub record IsDone (command : Command (List ℕ)) (source sink : Port) (answer : 
 
 -- A command was carried out, or it was refused for a file that can't be had; or memory ran out.
 abbrev pub CarriesOut : Result (Command (List ℕ)) FileFault → Port → Port → Result (Unit {0}) Stop → Type 0
-CarriesOut (Ok command) source sink answer = IsDone command source sink answer ⊎ LacksMemory answer
-CarriesOut (Err fault) source sink answer = (answer ≡ Err (Unread fault)) ⊎ LacksMemory answer
+CarriesOut (Ok command) source sink answer = IsDone command source sink answer ⊎ StopsForMemory answer
+CarriesOut (Err fault) source sink answer = (answer ≡ Err (Unread fault)) ⊎ StopsForMemory answer
 
 -- whether the program stopped before it read a text or wrote anything
 abbrev pub is_stopped_before : Result (Unit {0}) Stop → Bool

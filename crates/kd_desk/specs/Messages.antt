@@ -18,7 +18,7 @@ pub data Passes (m : Parts) (s : Day) (is_due : List ℕ → Type 0) (is_fault :
     (takes_memory : Type 0) (sink : Port) (answer : Result (Unit {0}) DeskFault) : Type 0 where
   OffKey : (fault : FormFault) → IsKeyFault m s fault → answer ≡ Err (Message fault)
       → Passes m s is_due is_fault takes_memory sink answer
-  OutOfMemory : IsOnKey m s → takes_memory → answer ≡ Err (Message NoMemory)
+  LackedMemory : IsOnKey m s → takes_memory → answer ≡ Err (Message NoMemory)
       → Passes m s is_due is_fault takes_memory sink answer
   Refused : IsOnKey m s → (fault : FormFault) → is_fault fault → answer ≡ Err (Message fault)
       → Passes m s is_due is_fault takes_memory sink answer

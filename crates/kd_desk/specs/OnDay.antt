@@ -13,7 +13,7 @@ use Rattle.kd_desk.specs.declared.fault.DeskFault.TheVariants.{File, NoSuchDay}
 -- The bytes of a machine file say a machine, and those of a sheet a day of that number; or this is the first fault: of the
 -- machine file, of the sheet, or that it has no such day. Or memory ran out over the files.
 pub data FindsDay (machine sheet : List ℕ) (number : ℕ) (found : Result (Parts × Day) DeskFault) : Type 0 where
-  OutOfMemory : found ≡ Err (File NoMemory) → FindsDay machine sheet number found
+  LackedMemory : found ≡ Err (File NoMemory) → FindsDay machine sheet number found
   NoMachine : (fault : SheetFault) → machine_of machine ≡ Err fault → found ≡ Err (File fault) → FindsDay machine sheet number found
   NoSheet : (m : Parts) (fault : SheetFault) → machine_of machine ≡ Ok m → sheet_of sheet ≡ Err fault
       → found ≡ Err (File fault) → FindsDay machine sheet number found

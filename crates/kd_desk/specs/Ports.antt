@@ -29,7 +29,7 @@ pub record FailsAlone (p other : Port) : Type 0 where
   pub failed : IsTrue p.has_failed
   pub well : IsWell other
 
--- one of the two ports failed in a call that answers Device, and none in any other
+-- Of ports that had not failed before the call: one of the two failed in a call that answers Device, and none in any other.
 abbrev pub Fail : Port → Port → Bool → Type 0
 Fail source sink false = IsWell source × IsWell sink
 Fail source sink true = FailsAlone source sink ⊎ FailsAlone sink source

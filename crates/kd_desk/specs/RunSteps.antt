@@ -5,12 +5,12 @@ use Rattle.kd_desk.specs.declared.fault.DeskFault.{DeskFault}
 use Rattle.kd_desk.specs.declared.fault.DeskFault.TheVariants.{File, Device, BadByte, ReadTooLong}
 
 -- the call ran out of memory while it read a file
-abbrev pub RanOut : Result (Unit {0}) DeskFault → Type 0
-RanOut answer = answer ≡ Err (File NoMemory)
+abbrev pub LacksMemory : Result (Unit {0}) DeskFault → Type 0
+LacksMemory answer = answer ≡ Err (File NoMemory)
 
 -- the call answers this fault, unless it ran out of memory
 abbrev pub AnswersFault : Result (Unit {0}) DeskFault → DeskFault → Type 0
-AnswersFault answer fault = (answer ≡ Err fault) ⊎ RanOut answer
+AnswersFault answer fault = (answer ≡ Err fault) ⊎ LacksMemory answer
 
 -- whether a call was refused before it read a text or wrote anything
 abbrev pub is_refused_before : Result (Unit {0}) DeskFault → Bool

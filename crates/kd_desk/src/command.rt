@@ -2,7 +2,7 @@ ghost use Rattle.std.specs.Prelude.{◌≡◌, ◌≢◌, [], ◌∷◌, ℕ, Li
 ghost use Rattle.clap.specs.declared.builder.command.Command.{out-Command};
 ghost use Rattle.clap.specs.Words.{app_of, found_of, kind_of, rows_of, rule_of};
 ghost use Rattle.kd_state.specs.SheetDay.{IsDayNumber};
-ghost use Rattle.kd_desk.specs.CommandLine.{word_named, form, alone, day_words, work_name, work_word, file_form, desk_grammar};
+ghost use Rattle.kd_desk.specs.CommandLine.{word_named, command_shape, alone, day_words, work_name, work_word, file_shape, desk_grammar};
 ghost use Rattle.kd_desk.specs.CommandLine.{named, action_named, HaveDay, IsActionOf, IsOf, IsOfNone, Says, SaysNothing};
 
 #[cfg(test)]
@@ -204,7 +204,7 @@ fn grammar<'a>(alloc: Global) -> Result<Grammar<'a>, AllocError>
 /// A command with the word MACHINE.
 fn with_machine<'a>(alloc: Global, name: &'a str) -> Result<Grammar<'a>, AllocError>
     ensures shape { IfOk result
-        (λ g. app_of g ≡ alone (form name.entry.now (codes "MACHINE" ∷ []))) }
+        (λ g. app_of g ≡ alone (command_shape name.entry.now (codes "MACHINE" ∷ []))) }
     ensures local { IfOk result (λ g. (out-Command g).has_globals ≡ false) }
 {
     Grammar::new(alloc, name)
@@ -214,7 +214,7 @@ fn with_machine<'a>(alloc: Global, name: &'a str) -> Result<Grammar<'a>, AllocEr
 
 /// A command with the words MACHINE, SHEET and DAY.
 fn with_day<'a>(alloc: Global, name: &'a str) -> Result<Grammar<'a>, AllocError>
-    ensures shape { IfOk result (λ g. app_of g ≡ alone (form name.entry.now day_words)) }
+    ensures shape { IfOk result (λ g. app_of g ≡ alone (command_shape name.entry.now day_words)) }
     ensures local { IfOk result (λ g. (out-Command g).has_globals ≡ false) }
 {
     with_machine(alloc, name)?
@@ -224,7 +224,7 @@ fn with_day<'a>(alloc: Global, name: &'a str) -> Result<Grammar<'a>, AllocError>
 
 /// A command with the words MACHINE, SHEET and DAY, and a file's.
 fn with_file<'a>(alloc: Global, name: &'a str, file: &'a str) -> Result<Grammar<'a>, AllocError>
-    ensures shape { IfOk result (λ g. app_of g ≡ alone (file_form name.entry.now file.entry.now)) }
+    ensures shape { IfOk result (λ g. app_of g ≡ alone (file_shape name.entry.now file.entry.now)) }
     ensures local { IfOk result (λ g. (out-Command g).has_globals ≡ false) }
 {
     with_day(alloc, name)?.arg(word(alloc, file))
@@ -233,7 +233,7 @@ fn with_file<'a>(alloc: Global, name: &'a str, file: &'a str) -> Result<Grammar<
 /// A command with the words MACHINE and LIST.
 fn with_list<'a>(alloc: Global, name: &'a str) -> Result<Grammar<'a>, AllocError>
     ensures shape { IfOk result
-        (λ g. app_of g ≡ alone (form name.entry.now (codes "MACHINE" ∷ codes "LIST" ∷ []))) }
+        (λ g. app_of g ≡ alone (command_shape name.entry.now (codes "MACHINE" ∷ codes "LIST" ∷ []))) }
     ensures local { IfOk result (λ g. (out-Command g).has_globals ≡ false) }
 {
     with_machine(alloc, name)?.arg(word(alloc, "LIST"))

@@ -3,7 +3,7 @@ ghost use Rattle.std.specs.Prelude.{◌≡◌, ◌≤◌, ◌⊎◌, ◌||◌, [
 ghost use Rattle.kd_desk.specs.CommandLine.{named, action_named, task_named, files_of, action_files, task_files};
 ghost use Rattle.kd_desk.specs.CommandLine.{Says, SaysNothing};
 ghost use Rattle.kd_desk.specs.Desk.{command_over, action_over, task_over, AskFor, CarriesOut, Does, DoesTask};
-ghost use Rattle.kd_desk.specs.Desk.{LacksMemory, has_read, is_stopped_before, is_stopped_by_port};
+ghost use Rattle.kd_desk.specs.Desk.{StopsForMemory, has_read, is_stopped_before, is_stopped_by_port};
 ghost use Rattle.kd_desk.specs.Files.{Gives};
 ghost use Rattle.kd_desk.specs.OnDay.{OnDay};
 ghost use Rattle.kd_desk.specs.Ports.{Fail, port};
@@ -45,7 +45,7 @@ pub fn run_desk<'n, S: AsStr, F: Files<'n>, R: Source, W: Sink>(
         → AskFor (files_of command) (F.asked files.old) (F.asked files.new) (has_read result) }
     ensures usage { result ≡ Err Stop.Usage → SaysNothing (map S.text words.entry.now) }
     ensures other_words { SaysNothing (map S.text words.entry.now)
-        → (result ≡ Err Stop.Usage) ⊎ LacksMemory result }
+        → (result ≡ Err Stop.Usage) ⊎ StopsForMemory result }
     ensures none_asked { SaysNothing (map S.text words.entry.now) → F.asked files.new ≡ [] }
     ensures untouched { IsTrue (is_stopped_before result)
         → (source.new ≡ source.old) × (sink.new ≡ sink.old) }

@@ -3,7 +3,7 @@ ghost use Rattle.kd_sheet.specs.MachineFile.{machine_of};
 ghost use Rattle.kd_desk.specs.declared.fault.DeskFault.TheVariants.{File};
 ghost use Rattle.kd_desk.specs.Ports.{port};
 ghost use Rattle.kd_desk.specs.RunApply.{Applies};
-ghost use Rattle.kd_desk.specs.RunSteps.{RanOut, AnswersFault, is_device, is_refused_before};
+ghost use Rattle.kd_desk.specs.RunSteps.{LacksMemory, AnswersFault, is_device, is_refused_before};
 
 #[cfg(test)]
 mod tests;
@@ -30,7 +30,7 @@ pub fn run_apply<W: Sink>(
 ) -> Result<(), DeskFault>
     ensures refused { IfErr (machine_of machine.now) (λ fault. AnswersFault result (File fault)) }
     ensures applied { IfOk (machine_of machine.now) (λ m.
-        Applies m list.now (port W.taken W.has_failed sink.old sink.new) result ⊎ RanOut result) }
+        Applies m list.now (port W.taken W.has_failed sink.old sink.new) result ⊎ LacksMemory result) }
     ensures untouched { IsTrue (is_refused_before result) → sink.new ≡ sink.old }
     ensures failed { W.has_failed sink.new ≡ (W.has_failed sink.old || is_device result) }
 {

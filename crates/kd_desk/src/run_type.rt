@@ -4,7 +4,7 @@ ghost use Rattle.kd_sheet.specs.MachineFile.{machine_of};
 ghost use Rattle.kd_state.specs.TwoCiphers.{IsReady, physical_key};
 ghost use Rattle.kd_desk.specs.Ports.{Fail, port};
 ghost use Rattle.kd_desk.specs.Typing.{TypesLine};
-ghost use Rattle.kd_desk.specs.RunSteps.{RanOut, AnswersFault, is_device, is_refused_before};
+ghost use Rattle.kd_desk.specs.RunSteps.{LacksMemory, AnswersFault, is_device, is_refused_before};
 
 #[cfg(test)]
 mod tests;
@@ -35,7 +35,7 @@ pub fn run_type<R: Source, W: Sink>(
         → AnswersFault result faults.NotReady) }
     ensures typed { IfOk (machine_of machine.now) (λ m. IsReady m → TypesLine (physical_key m)
         (port R.remaining R.has_failed source.old source.new)
-        (port W.taken W.has_failed sink.old sink.new) result ⊎ RanOut result) }
+        (port W.taken W.has_failed sink.old sink.new) result ⊎ LacksMemory result) }
     ensures untouched { IsTrue (is_refused_before result)
         → (source.new ≡ source.old) × (sink.new ≡ sink.old) }
     ensures failed { Fail (port R.remaining R.has_failed source.old source.new)

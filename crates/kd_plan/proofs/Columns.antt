@@ -14,7 +14,7 @@ use Rattle.kd_enigma.specs.Plugs.{letters_plugged}
 use Rattle.kd_state.specs.Machine.{cable_letters, plugged_letters, AreCables}
 use Rattle.kd_state.specs.Setting.{has_letter}
 use Rattle.kd_state.specs.SheetDay.{ArePairs}
-use Rattle.kd_state.specs.OnKey.{Joins, IsPaired, IsPlugged, AreThePairs}
+use Rattle.kd_state.specs.OnKey.{Joins, IsPaired, IsJoined, AreThePairs}
 use Rattle.kd_state.specs.Costs.{columns_of}
 use Rattle.kd_plan.proofs.Cables.{or_false, in_cable, in_column, Apart}
 use Rattle.kd_plan.proofs.Days.{all_of_each}
@@ -214,7 +214,7 @@ module _ (told : Told) (pairs : List (ℕ × ℕ)) (legal : ArePairs pairs) wher
     pub are_the_pairs : AreThePairs (map once_put beside) pairs
     are_the_pairs = record {
       pair = All-from_recursion (IsPaired pairs) (map once_put beside) (pairs_of_all cables to are_pluggable);
-      cable = all_of_each (IsPlugged (map once_put beside)) pairs (λ pair c.
+      cable = all_of_each (IsJoined (map once_put beside)) pairs (λ pair c.
           let there = Contains-permutation (columns_of pairs) (map column to) (Some pair) all_columns (column_of pair c) in
           record { joins = cable_of pair cables (map column to) there.0 (omega (arith, are.count, pairing.count, length-map to column)) there.1 there.2 are_pluggable });
     }

@@ -12,15 +12,15 @@ use Rattle.kd_sheet.specs.declared.fault.SheetFault.{SheetFault}
 use Rattle.kd_sheet.specs.declared.fault.SheetFault.TheVariants.{BadValue, BadRow}
 
 -- how the bar behind those of the earlier items stands. Bars are counted from 1
-abbrev pub bar_behind : List Data → Data → Result (Place × Place) SheetFault
-bar_behind earlier item = ok_or (option_and_then standing_by_text (as_str item)) (BadRow (length earlier + 1))
+abbrev pub standing_for : List Data → Data → Result (Place × Place) SheetFault
+standing_for earlier item = ok_or (option_and_then standing_by_text (as_str item)) (BadRow (length earlier + 1))
 
 -- how the 27 bars stand, an item for each
 unfoldable pub bars_in : Members → Result (List (Place × Place)) SheetFault
 bars_in table = do
   items ← items_at keys.Bars table
   demand (length items == 27) (BadValue keys.Bars)
-  all_values (given_earlier bar_behind items)
+  all_values (given_earlier standing_for items)
 
 -- the byte is a figure from 0 to 6
 abbrev pub is_figure : ℕ → Bool
@@ -37,12 +37,12 @@ row_of_text (one ∷ dash ∷ other ∷ []) =
 row_of_text _ = None
 
 -- what the row behind those of the earlier items says. Rows are counted from 1
-abbrev pub row_behind : List Data → Data → Result (ℕ × ℕ) SheetFault
-row_behind earlier item = ok_or (option_and_then row_of_text (as_str item)) (BadRow (length earlier + 1))
+abbrev pub row_for : List Data → Data → Result (ℕ × ℕ) SheetFault
+row_for earlier item = ok_or (option_and_then row_of_text (as_str item)) (BadRow (length earlier + 1))
 
 -- what the 27 bars are to read as, an item for each
 unfoldable pub rows_in : Members → Result (List (ℕ × ℕ)) SheetFault
 rows_in table = do
   items ← items_at keys.Rows table
   demand (length items == 27) (BadValue keys.Rows)
-  all_values (given_earlier row_behind items)
+  all_values (given_earlier row_for items)

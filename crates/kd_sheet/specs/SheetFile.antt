@@ -60,15 +60,15 @@ unfoldable pub group_of_item : Data → Option (List ℕ)
 group_of_item item = option_and_then (capital_letters 3) (as_str item)
 
 -- the group of an item, whatever the earlier ones are
-abbrev pub group_behind : List Data → Data → Result (List ℕ) SheetFault
-group_behind earlier item = ok_or (group_of_item item) (BadValue keys.Groups)
+abbrev pub group_for : List Data → Data → Result (List ℕ) SheetFault
+group_for earlier item = ok_or (group_of_item item) (BadValue keys.Groups)
 
 -- an array of at most four groups
 unfoldable pub all_groups_in : Data → Result (List (List ℕ)) SheetFault
 all_groups_in value = do
   items ← items_in keys.Groups value
   demand (nat_le (length items) 4) (BadValue keys.Groups)
-  all_values (given_earlier group_behind items)
+  all_values (given_earlier group_for items)
 
 -- the groups: none where the day does not speak of them
 unfoldable pub groups_in : Members → Result (List (List ℕ)) SheetFault

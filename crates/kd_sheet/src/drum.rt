@@ -3,7 +3,7 @@ ghost use Rattle.std.specs.Prelude.{◌≡◌, ◌+◌, map, length, is_some, Al
 ghost use Rattle.toml.specs.View.{view, table_view};
 ghost use Rattle.kd_tables.specs.Places.{IsBefore, IsReading, in_order};
 ghost use Rattle.kd_sheet.specs.Document.{all_values, given_earlier};
-ghost use Rattle.kd_sheet.specs.Drum.{bar_behind, bars_in, is_figure, may_read, row_of_text, row_behind, rows_in};
+ghost use Rattle.kd_sheet.specs.Drum.{standing_for, bars_in, is_figure, may_read, row_of_text, row_for, rows_in};
 
 use super::document::items_at;
 use super::fault::SheetFault;
@@ -18,7 +18,7 @@ const BARS: usize = 27;
 /// How a bar stands, by its item. The bar's number counts from 1.
 fn standing_for(bar: u8, item: &Value) -> Result<Standing, SheetFault>
     ensures value { (earlier : _) → bar ≡ length earlier + 1
-        → result ≡ bar_behind earlier (view item.now) }
+        → result ≡ standing_for earlier (view item.now) }
     ensures before { IfOk result (λ standing. IsBefore standing.0 standing.1) }
 {
     let text = item.as_str().ok_or(SheetFault::BadRow(bar))?;
@@ -30,7 +30,7 @@ fn standing_for(bar: u8, item: &Value) -> Result<Standing, SheetFault>
 /// How the bars stand, an item for each.
 fn bars(items: &[Value]) -> Result<[Standing; BARS], SheetFault>
     requires { length items.now ≡ 27 }
-    ensures value { result ≡ all_values (given_earlier bar_behind (map view items.now)) }
+    ensures value { result ≡ all_values (given_earlier standing_for (map view items.now)) }
     ensures count { IfOk result (λ bars. length bars ≡ 27) }
     ensures before { IfOk result (All (λ bar. IsBefore bar.0 bar.1)) }
 {
@@ -87,7 +87,7 @@ fn row_of_text(text: &[u8]) -> Option<Reading>
 /// What a row says, by its item. The row's number counts from 1.
 fn row_for(row: u8, item: &Value) -> Result<Reading, SheetFault>
     ensures value { (earlier : _) → row ≡ length earlier + 1
-        → result ≡ row_behind earlier (view item.now) }
+        → result ≡ row_for earlier (view item.now) }
     ensures reading { IfOk result IsReading }
 {
     let text = item.as_str().ok_or(SheetFault::BadRow(row))?;
@@ -97,7 +97,7 @@ fn row_for(row: u8, item: &Value) -> Result<Reading, SheetFault>
 /// What the rows say, an item for each.
 fn rows(items: &[Value]) -> Result<[Reading; BARS], SheetFault>
     requires { length items.now ≡ 27 }
-    ensures value { result ≡ all_values (given_earlier row_behind (map view items.now)) }
+    ensures value { result ≡ all_values (given_earlier row_for (map view items.now)) }
     ensures count { IfOk result (λ rows. length rows ≡ 27) }
     ensures readings { IfOk result (All IsReading) }
 {

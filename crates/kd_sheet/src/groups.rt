@@ -3,7 +3,7 @@ ghost use Rattle.std.specs.Prelude.{◌≡◌, ◌≤◌, map, length, All, IfOk
 ghost use Rattle.toml.specs.View.{view, table_view};
 ghost use Rattle.kd_state.specs.Machine.{AreLetters};
 ghost use Rattle.kd_sheet.specs.Document.{all_values, given_earlier, result_map};
-ghost use Rattle.kd_sheet.specs.SheetFile.{group_of_item, group_behind, all_groups_in, groups_in};
+ghost use Rattle.kd_sheet.specs.SheetFile.{group_of_item, group_for, all_groups_in, groups_in};
 
 use super::document::{find_at, items_in};
 use super::fault::SheetFault;
@@ -30,7 +30,7 @@ fn group_of_item(item: &Value) -> Option<[Letter; 3]>
 
 /// The group of an item.
 fn group_for(item: &Value) -> Result<[Letter; 3], SheetFault>
-    ensures value { (earlier : _) → result ≡ group_behind earlier (view item.now) }
+    ensures value { (earlier : _) → result ≡ group_for earlier (view item.now) }
     ensures word { IfOk result (AreLetters 3) }
 {
     group_of_item(item).ok_or(SheetFault::BadValue(Key::Groups))
@@ -40,7 +40,7 @@ fn group_for(item: &Value) -> Result<[Letter; 3], SheetFault>
 fn groups(items: &[Value]) -> Result<Groups, SheetFault>
     requires { length items.now ≤ 4 }
     ensures value { result_map (λ groups. groups.items) result
-        ≡ all_values (given_earlier group_behind (map view items.now)) }
+        ≡ all_values (given_earlier group_for (map view items.now)) }
     ensures few { IfOk result (λ groups. length groups.items ≤ 4) }
     ensures words { IfOk result (λ groups. All (AreLetters 3) groups.items) }
 {

@@ -7,7 +7,7 @@ use Rattle.std.proofs.lemmas.Option.{none-some, same_Some}
 use Rattle.kd_enigma.specs.Plugs.{letters_plugged, NoLetterTwice}
 use Rattle.kd_enigma.specs.Plugs as plugs
 use Rattle.kd_state.specs.Machine.{cable_letters}
-use Rattle.kd_state.specs.OnKey.{SameLetters, IsPaired, IsPlugged, AreThePairs}
+use Rattle.kd_state.specs.OnKey.{SameLetters, IsPaired, IsJoined, AreThePairs}
 use Rattle.kd_state.specs.TwoCiphers.{both_ends}
 use Rattle.kd_state.proofs.Pairs.{pairs_of}
 
@@ -139,7 +139,7 @@ module _ (cables : List (Option ℕ × Option ℕ)) (pairs : List (ℕ × ℕ)) 
 
   day_pair : (x y : ℕ) → Contains pairs (x, y) → plugs.Joins (pairs_of cables) x y
   day_pair x y there =
-      let joined = (All-contains (IsPlugged cables) pairs (x, y) h.cable there).joins in
+      let joined = (All-contains (IsJoined cables) pairs (x, y) h.cable there).joins in
       let cable = joined.1 in
       let at : Contains cables cable = (joined.0, joined.2, joined.3) in
       let ends = both_plugged cable.0 cable.1 x (All-contains (λ (cable : Option ℕ × Option ℕ). length (cable_letters cable) ≢ 1) cables cable whole at) ((joined.4.letters x).1 (0, omega arith, refl)) in

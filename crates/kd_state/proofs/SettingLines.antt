@@ -16,9 +16,9 @@ use Rattle.kd_tables.specs.declared.lug.Lug.TheVariants.{Left, Right}
 use Rattle.kd_tables.specs.Tables.{wheel_text, reflector_text}
 use Rattle.kd_tables.specs.Places.{place_text, lug_text, places}
 use Rattle.kd_state.specs.Words.{IsWord, IsWithout, letter_text, line_of, words_of}
-use Rattle.kd_state.specs.Line.{form_text, setting_words, setting_line, pin_text, IsInRange, IsReadOff}
-use Rattle.kd_state.specs.declared.form.Form.{Form}
-use Rattle.kd_state.specs.declared.form.Form.TheVariants as forms
+use Rattle.kd_state.specs.Line.{keyword_text, setting_words, setting_line, pin_text, IsInRange, IsReadOff}
+use Rattle.kd_state.specs.declared.keyword.Keyword.{Keyword}
+use Rattle.kd_state.specs.declared.keyword.Keyword.TheVariants as keywords
 use Rattle.kd_state.specs.declared.setting.Setting.{Setting}
 use Rattle.kd_state.specs.declared.setting.Setting.TheVariants.{Pull, Put, Seat, SeatReflector, RingTo, Turn, PinTo, LugTo}
 use Rattle.kd_state.proofs.WordLines.{word_by_test, numbers_are_words, letters_are_words, lines_split_into_words, lines_tell_words, parts_make_lines, words_make_one_line}
@@ -74,8 +74,8 @@ lug_is_word x = elim x as (λ l. IsWord (lug_text l)) [ Left ↦ word_by_test _ 
 pin_is_word : (x : Bool) → IsWord (pin_text x)
 pin_is_word x = elim x as (λ p. IsWord (pin_text p)) [ true ↦ word_by_test _ _ refl | _ ↦ word_by_test _ _ refl ]
 
-form_is_word : (x : Form) → IsWord (form_text x)
-form_is_word x = elim x as (λ f. IsWord (form_text f)) [ forms.Pull ↦ word_by_test _ _ refl | _ ↦ word_by_test _ _ refl ]
+form_is_word : (x : Keyword) → IsWord (keyword_text x)
+form_is_word x = elim x as (λ f. IsWord (keyword_text f)) [ keywords.Pull ↦ word_by_test _ _ refl | _ ↦ word_by_test _ _ refl ]
 
 byte_is_word : (n : ℕ) → n < 2 ^ 8 → IsWord (decimal n)
 byte_is_word n small = numbers_are_words n (omega arith)
@@ -83,14 +83,14 @@ byte_is_word n small = numbers_are_words n (omega arith)
 -- ---- settings
 
 words_are_words : (x : Setting) → IsInRange x → AllByRecursion IsWord (setting_words x)
-words_are_words (Pull cable letter) r = (form_is_word forms.Pull, (byte_is_word cable r.0, (letters_are_words letter, tt)))
-words_are_words (Put cable letter) r = (form_is_word forms.Put, (byte_is_word cable r.0, (letters_are_words letter, tt)))
-words_are_words (Seat slot wheel) r = (form_is_word forms.Seat, (byte_is_word slot r, (wheel_is_word wheel, tt)))
-words_are_words (SeatReflector reflector) r = (form_is_word forms.SeatReflector, (reflector_is_word reflector, tt))
-words_are_words (RingTo wheel letter) r = (form_is_word forms.RingTo, (wheel_is_word wheel, (letters_are_words letter, tt)))
-words_are_words (Turn slot letter) r = (form_is_word forms.Turn, (byte_is_word slot r.0, (letters_are_words letter, tt)))
-words_are_words (PinTo wheel letter effective) r = (form_is_word forms.PinTo, (byte_is_word wheel r.0, (letters_are_words letter, (pin_is_word effective, tt))))
-words_are_words (LugTo bar lug place) r = (form_is_word forms.LugTo, (byte_is_word bar r, (lug_is_word lug, (place_is_word place, tt))))
+words_are_words (Pull cable letter) r = (form_is_word keywords.Pull, (byte_is_word cable r.0, (letters_are_words letter, tt)))
+words_are_words (Put cable letter) r = (form_is_word keywords.Put, (byte_is_word cable r.0, (letters_are_words letter, tt)))
+words_are_words (Seat slot wheel) r = (form_is_word keywords.Seat, (byte_is_word slot r, (wheel_is_word wheel, tt)))
+words_are_words (SeatReflector reflector) r = (form_is_word keywords.SeatReflector, (reflector_is_word reflector, tt))
+words_are_words (RingTo wheel letter) r = (form_is_word keywords.RingTo, (wheel_is_word wheel, (letters_are_words letter, tt)))
+words_are_words (Turn slot letter) r = (form_is_word keywords.Turn, (byte_is_word slot r.0, (letters_are_words letter, tt)))
+words_are_words (PinTo wheel letter effective) r = (form_is_word keywords.PinTo, (byte_is_word wheel r.0, (letters_are_words letter, (pin_is_word effective, tt))))
+words_are_words (LugTo bar lug place) r = (form_is_word keywords.LugTo, (byte_is_word bar r, (lug_is_word lug, (place_is_word place, tt))))
 
 pub setting_words_are_words : (x : Setting) → IsInRange x → All IsWord (setting_words x)
 setting_words_are_words x r = All-from_recursion IsWord (setting_words x) (words_are_words x r)
@@ -101,7 +101,7 @@ same_number m n small other e = decimal_injective m n (omega arith) (omega arith
 same_letter : (l m : ℕ) → letter_text l ≡ letter_text m → l ≡ m
 same_letter l m e = let places : l + 65 ≡ m + 65 = cc in omega arith
 
--- the first and the third letter of the first word, in which any two forms differ
+-- the first and the third letter of the first word, in which any two keywords differ
 abbrev first_and_third : List (List ℕ) → ℕ
 first_and_third words = get_or (get_or words 0 []) 0 0 * 256 + get_or (get_or words 0 []) 2 0
 
@@ -122,15 +122,15 @@ same_settings x y r s e = absurd (omega (arith, ap first_and_third e))
 pub setting_has_words : (x : Setting) → (2 ≤ length (setting_words x)) × (length (setting_words x) ≤ 4)
 setting_has_words x = elim x as (λ y. (2 ≤ length (setting_words y)) × (length (setting_words y) ≤ 4)) [ Pull c l ↦ (omega arith, omega arith) | _ ↦ (omega arith, omega arith) ]
 
-pub no_form : (form : List ℕ) (rest : List (List ℕ)) → ((f : Form) → form_text f ≢ form) → (x : Setting) → IsInRange x → setting_words x ≢ form ∷ rest
-no_form form rest none (Pull c l) r e = none forms.Pull (cc)
-no_form form rest none (Put c l) r e = none forms.Put (cc)
-no_form form rest none (Seat s w) r e = none forms.Seat (cc)
-no_form form rest none (SeatReflector x) r e = none forms.SeatReflector (cc)
-no_form form rest none (RingTo w l) r e = none forms.RingTo (cc)
-no_form form rest none (Turn s l) r e = none forms.Turn (cc)
-no_form form rest none (PinTo w l p) r e = none forms.PinTo (cc)
-no_form form rest none (LugTo b l p) r e = none forms.LugTo (cc)
+pub no_form : (form : List ℕ) (rest : List (List ℕ)) → ((f : Keyword) → keyword_text f ≢ form) → (x : Setting) → IsInRange x → setting_words x ≢ form ∷ rest
+no_form form rest none (Pull c l) r e = none keywords.Pull (cc)
+no_form form rest none (Put c l) r e = none keywords.Put (cc)
+no_form form rest none (Seat s w) r e = none keywords.Seat (cc)
+no_form form rest none (SeatReflector x) r e = none keywords.SeatReflector (cc)
+no_form form rest none (RingTo w l) r e = none keywords.RingTo (cc)
+no_form form rest none (Turn s l) r e = none keywords.Turn (cc)
+no_form form rest none (PinTo w l p) r e = none keywords.PinTo (cc)
+no_form form rest none (LugTo b l p) r e = none keywords.LugTo (cc)
 
 -- ---- the words of a text that is a setting's line
 

@@ -25,14 +25,14 @@ pub record IsPaired (pairs : List (ℕ × ℕ)) (cable : Option ℕ × Option �
   pub joins : cable_letters cable ≢ [] → Any (Joins cable) pairs
 
 -- one of the cables has the pair's letters
-pub record IsPlugged (cables : List (Option ℕ × Option ℕ)) (pair : ℕ × ℕ) : Type 0 where
+pub record IsJoined (cables : List (Option ℕ × Option ℕ)) (pair : ℕ × ℕ) : Type 0 where
   pub joins : Any (λ cable. Joins cable pair) cables
 
 -- The set of the cables that aren't empty, each a set of letters, is the set of the pairs: each such cable has the
 -- letters of a pair, and each pair's letters lie in a cable.
 pub record AreThePairs (cables : List (Option ℕ × Option ℕ)) (pairs : List (ℕ × ℕ)) : Type 0 where
   pub pair : All (IsPaired pairs) cables
-  pub cable : All (IsPlugged cables) pairs
+  pub cable : All (IsJoined cables) pairs
 
 -- each slot has the day's wheel with the day's ring, the reflector is the day's, and the cables are the day's pairs
 pub record IsRotorOnKey (m : RotorParts) (s : RotorDay) : Type 0 where

@@ -9,7 +9,7 @@ mod day_number;
 mod engine;
 mod entry;
 mod facts;
-mod form;
+mod keyword;
 pub mod laws;
 mod line;
 mod list;

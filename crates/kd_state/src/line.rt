@@ -4,7 +4,7 @@ ghost use Rattle.arrayvec.specs.ArrayString.{array_string_len};
 ghost use Rattle.kd_state.specs.Line.{setting_line, pin_text, IsInRange, IsReadOff};
 
 use super::facts::is_in_range;
-use super::form::Form;
+use super::keyword::Keyword;
 use super::setting::Setting;
 use super::words::{letter_of_text, number_of_text, push_letter, push_number, split_words};
 use arrayvec::ArrayString;
@@ -94,19 +94,19 @@ fn of_words(words: &[&[u8]]) -> Option<Setting>
     ensures { IsReadOff (map (λ word. word.now) words.now) result }
 {
     match words {
-        [form, value] => with_one_value(form, value),
-        [form, first, second] => with_two_values(form, first, second),
-        [form, first, second, third] => with_three_values(form, first, second, third),
+        [keyword, value] => with_one_value(keyword, value),
+        [keyword, first, second] => with_two_values(keyword, first, second),
+        [keyword, first, second, third] => with_three_values(keyword, first, second, third),
         _ => None,
     }
 }
 
 /// The setting whose line has these two words.
-fn with_one_value(form: &[u8], value: &[u8]) -> Option<Setting>
-    ensures { IsReadOff (form.now ∷ value.now ∷ []) result }
+fn with_one_value(keyword: &[u8], value: &[u8]) -> Option<Setting>
+    ensures { IsReadOff (keyword.now ∷ value.now ∷ []) result }
 {
-    match Form::from_text(form)? {
-        Form::SeatReflector => Some(Setting::SeatReflector {
+    match Keyword::from_text(keyword)? {
+        Keyword::SeatReflector => Some(Setting::SeatReflector {
             reflector: Reflector::from_text(value)?,
         }),
         _ => None,
@@ -114,27 +114,27 @@ fn with_one_value(form: &[u8], value: &[u8]) -> Option<Setting>
 }
 
 /// The setting whose line has these three words.
-fn with_two_values(form: &[u8], first: &[u8], second: &[u8]) -> Option<Setting>
-    ensures { IsReadOff (form.now ∷ first.now ∷ second.now ∷ []) result }
+fn with_two_values(keyword: &[u8], first: &[u8], second: &[u8]) -> Option<Setting>
+    ensures { IsReadOff (keyword.now ∷ first.now ∷ second.now ∷ []) result }
 {
-    match Form::from_text(form)? {
-        Form::Pull => Some(Setting::Pull {
+    match Keyword::from_text(keyword)? {
+        Keyword::Pull => Some(Setting::Pull {
             cable: number_of_text(first)?,
             letter: letter_of_text(second)?,
         }),
-        Form::Put => Some(Setting::Put {
+        Keyword::Put => Some(Setting::Put {
             cable: number_of_text(first)?,
             letter: letter_of_text(second)?,
         }),
-        Form::Seat => Some(Setting::Seat {
+        Keyword::Seat => Some(Setting::Seat {
             slot: number_of_text(first)?,
             wheel: Wheel::from_text(second)?,
         }),
-        Form::RingTo => Some(Setting::RingTo {
+        Keyword::RingTo => Some(Setting::RingTo {
             wheel: Wheel::from_text(first)?,
             letter: letter_of_text(second)?,
         }),
-        Form::Turn => Some(Setting::Turn {
+        Keyword::Turn => Some(Setting::Turn {
             slot: number_of_text(first)?,
             letter: letter_of_text(second)?,
         }),
@@ -143,16 +143,16 @@ fn with_two_values(form: &[u8], first: &[u8], second: &[u8]) -> Option<Setting>
 }
 
 /// The setting whose line has these four words.
-fn with_three_values(form: &[u8], first: &[u8], second: &[u8], third: &[u8]) -> Option<Setting>
-    ensures { IsReadOff (form.now ∷ first.now ∷ second.now ∷ third.now ∷ []) result }
+fn with_three_values(keyword: &[u8], first: &[u8], second: &[u8], third: &[u8]) -> Option<Setting>
+    ensures { IsReadOff (keyword.now ∷ first.now ∷ second.now ∷ third.now ∷ []) result }
 {
-    match Form::from_text(form)? {
-        Form::PinTo => Some(Setting::PinTo {
+    match Keyword::from_text(keyword)? {
+        Keyword::PinTo => Some(Setting::PinTo {
             wheel: number_of_text(first)?,
             letter: letter_of_text(second)?,
             effective: effective_of_text(third)?,
         }),
-        Form::LugTo => Some(Setting::LugTo {
+        Keyword::LugTo => Some(Setting::LugTo {
             bar: number_of_text(first)?,
             lug: Lug::from_text(second)?,
             place: Place::from_text(third)?,

@@ -1,6 +1,6 @@
 ghost use Rattle.std.specs.Prelude.{◌↔◌, IsTrue, IsPermutation, All};
 ghost use Rattle.kd_state.specs.Entry.{pin_values};
-ghost use Rattle.kd_state.specs.OnKey.{IsPinOnKey, AreThePairs, IsPaired, IsPlugged, Joins, AreTheLetters};
+ghost use Rattle.kd_state.specs.OnKey.{IsPinOnKey, AreThePairs, IsPaired, IsJoined, Joins, AreTheLetters};
 
 use super::cable::Cable;
 use super::entry::Entry;
@@ -107,7 +107,7 @@ fn are_the_same(readings: [Reading; 27], rows: [Reading; 27]) -> bool
 fn are_the_pairs(cables: &[Cable], pairs: &[(Letter, Letter)]) -> bool
     ensures { IsTrue result ↔ AreThePairs cables.now pairs.now }
 {
-    are_paired(cables, pairs) && are_plugged(pairs, cables)
+    are_paired(cables, pairs) && are_joined(pairs, cables)
 }
 
 /// Whether each cable is empty or joins one of the pairs.
@@ -118,11 +118,11 @@ fn are_paired(cables: &[Cable], pairs: &[(Letter, Letter)]) -> bool
 }
 
 /// Whether each pair is joined by one of the cables.
-fn are_plugged(pairs: &[(Letter, Letter)], cables: &[Cable]) -> bool
-    ensures { IsTrue result ↔ All (IsPlugged cables.now) pairs.now }
+fn are_joined(pairs: &[(Letter, Letter)], cables: &[Cable]) -> bool
+    ensures { IsTrue result ↔ All (IsJoined cables.now) pairs.now }
 {
     for pair in pairs {
-        if !is_plugged(cables, *pair) {
+        if !is_joined(cables, *pair) {
             return false;
         }
     }
@@ -137,8 +137,8 @@ fn is_paired(cable: Cable, pairs: &[(Letter, Letter)]) -> bool
 }
 
 /// Whether one of the cables joins the pair.
-fn is_plugged(cables: &[Cable], pair: (Letter, Letter)) -> bool
-    ensures { IsTrue result ↔ IsPlugged cables.now pair }
+fn is_joined(cables: &[Cable], pair: (Letter, Letter)) -> bool
+    ensures { IsTrue result ↔ IsJoined cables.now pair }
 {
     cables.iter().any(|cable| joins(*cable, pair))
 }

@@ -3,7 +3,7 @@ use Rattle.std.proofs.lemmas.Result.{IfOk-weaker}
 use Rattle.clap.specs.Words.{App, app_of, new_app, with_subcommand}
 use Rattle.clap.specs.Simple.{app_of_fields}
 use Rattle.kd_desk.specs.declared.command.Work.TheVariants.{Check, Send}
-use Rattle.kd_desk.specs.CommandLine.{type_form, card_form, apply_form, work_form, desk_grammar}
+use Rattle.kd_desk.specs.CommandLine.{type_shape, card_shape, apply_shape, work_shape, desk_grammar}
 use Rattle.kd_desk.proofs.command.grammar.Goals as goal
 
 abbrev without_help : App → App
@@ -17,19 +17,19 @@ abbrev bare : App
 bare = without_help_command (without_help (new_app (codes "desk")))
 
 abbrev with_types : App
-with_types = with_subcommand bare type_form
+with_types = with_subcommand bare type_shape
 
 abbrev with_lists : App
-with_lists = with_subcommand with_types apply_form
+with_lists = with_subcommand with_types apply_shape
 
 abbrev with_cards : App
-with_cards = with_subcommand with_lists card_form
+with_cards = with_subcommand with_lists card_shape
 
 abbrev with_checks : App
-with_checks = with_subcommand with_cards (work_form Check)
+with_checks = with_subcommand with_cards (work_shape Check)
 
 abbrev with_orders : App
-with_orders = with_subcommand with_checks (work_form Send)
+with_orders = with_subcommand with_checks (work_shape Send)
 
 pub returns : goal.returns
 unfolding desk_grammar

@@ -3,7 +3,7 @@ use Rattle.std.proofs.lemmas.List.{take_all, take_more_set}
 use Rattle.std.proofs.lemmas.List.Elements.{All-push}
 use Rattle.kd_tables.specs.Places.{IsBefore}
 use Rattle.kd_tables.specs.declared.place.Place.{Place}
-use Rattle.kd_sheet.specs.Drum.{bar_behind}
+use Rattle.kd_sheet.specs.Drum.{standing_for}
 use Rattle.kd_sheet.proofs.Earlier.{counted_earlier, read_more, read_stops, read_all}
 use Rattle.kd_sheet.proofs.drum.bars.Goals as goal
 
@@ -14,7 +14,7 @@ loop-place-preserved c =
     let found = c.in_ok-standing.ensures.value _ (counted_earlier c.args.items.now c.loop-place.place left) in
     record {
       count = simp length-set c.loop-place.invariant.count;
-      read = rw take_more_set (read_more bar_behind _ _ _ _ _ left c.index-items-place.is found c.loop-place.invariant.read);
+      read = rw take_more_set (read_more standing_for _ _ _ _ _ left c.index-items-place.is found c.loop-place.invariant.read);
       before = rw take_more_set (All-push (λ (bar : Place × Place). IsBefore bar.0 bar.1) _ _ c.loop-place.invariant.before c.in_ok-standing.ensures.before);
     }
 
@@ -22,9 +22,9 @@ pub returns-in_err-standing-clause-value : goal.returns-in_err-standing-clause-v
 returns-in_err-standing-clause-value c =
     let left : c.loop-place.place < length c.args.items.now = omega arith in
     let found = c.in_err-standing.ensures.value _ (counted_earlier c.args.items.now c.loop-place.place left) in
-    rw (read_stops bar_behind _ _ _ _ _ left c.index-items-place.is found c.loop-place.invariant.read) (search rules)
+    rw (read_stops standing_for _ _ _ _ _ left c.index-items-place.is found c.loop-place.invariant.read) (search rules)
 
 pub returns-clause-value : goal.returns-clause-value
 returns-clause-value c =
     let whole = take_all c.loop-place.place c.loop-place.bars (omega arith) in
-    sym (read_all bar_behind _ _ _ (omega arith) (rw whole at c.loop-place.invariant.read))
+    sym (read_all standing_for _ _ _ (omega arith) (rw whole at c.loop-place.invariant.read))

@@ -2,7 +2,7 @@ use Rattle.std.proofs.Common.{◌<◌, length, arith, rules, length-set, sym}
 use Rattle.std.proofs.lemmas.List.{take_all, take_more_set}
 use Rattle.std.proofs.lemmas.List.Elements.{All-push}
 use Rattle.kd_tables.specs.Places.{IsReading}
-use Rattle.kd_sheet.specs.Drum.{row_behind}
+use Rattle.kd_sheet.specs.Drum.{row_for}
 use Rattle.kd_sheet.proofs.Earlier.{counted_earlier, read_more, read_stops, read_all}
 use Rattle.kd_sheet.proofs.drum.rows.Goals as goal
 
@@ -13,7 +13,7 @@ loop-place-preserved c =
     let found = c.in_ok-reading.ensures.value _ (counted_earlier c.args.items.now c.loop-place.place left) in
     record {
       count = simp length-set c.loop-place.invariant.count;
-      read = rw take_more_set (read_more row_behind _ _ _ _ _ left c.index-items-place.is found c.loop-place.invariant.read);
+      read = rw take_more_set (read_more row_for _ _ _ _ _ left c.index-items-place.is found c.loop-place.invariant.read);
       readings = rw take_more_set (All-push IsReading _ _ c.loop-place.invariant.readings c.in_ok-reading.ensures.reading);
     }
 
@@ -21,9 +21,9 @@ pub returns-in_err-reading-clause-value : goal.returns-in_err-reading-clause-val
 returns-in_err-reading-clause-value c =
     let left : c.loop-place.place < length c.args.items.now = omega arith in
     let found = c.in_err-reading.ensures.value _ (counted_earlier c.args.items.now c.loop-place.place left) in
-    rw (read_stops row_behind _ _ _ _ _ left c.index-items-place.is found c.loop-place.invariant.read) (search rules)
+    rw (read_stops row_for _ _ _ _ _ left c.index-items-place.is found c.loop-place.invariant.read) (search rules)
 
 pub returns-clause-value : goal.returns-clause-value
 returns-clause-value c =
     let whole = take_all c.loop-place.place c.loop-place.rows (omega arith) in
-    sym (read_all row_behind _ _ _ (omega arith) (rw whole at c.loop-place.invariant.read))
+    sym (read_all row_for _ _ _ (omega arith) (rw whole at c.loop-place.invariant.read))
