@@ -6,7 +6,8 @@ use Rattle.kd_state.specs.declared.why.Why.{Why}
 use Rattle.kd_state.specs.Laws as lists
 use Rattle.kd_state.specs.Setting.{why_refused, Leads}
 use Rattle.kd_card.specs.Laws as cards
-use Rattle.kd_desk.specs.Laws.{TextsTellSettings, SettingsHaveNoFault, LeadsOrRefuses}
+use Rattle.kd_desk.specs.declared.fault.DeskFault.TheVariants as faults
+use Rattle.kd_desk.specs.Laws.{TextsTellSettings, SettingsHaveNoFault, SettingsHaveOneFault, LeadsOrRefuses}
 use Rattle.kd_desk.specs.Settings.{OfCard, OfList, InCard, InList}
 
 both : (b : Bool) → IsTrue b → IsFalse b → ⊥
@@ -23,6 +24,12 @@ no_fault no_card no_list bytes xs fault (OfCard begun day prices card) (InCard a
 no_fault no_card no_list bytes xs fault (OfCard begun day prices card) (InList unbegun of_list is told) = both _ begun unbegun
 no_fault no_card no_list bytes xs fault (OfList unbegun list) (InCard begun of_card is told) = both _ begun unbegun
 no_fault no_card no_list bytes xs fault (OfList unbegun list) (InList also of_list is told) = no_list bytes xs of_list list is
+
+pub one_fault : cards.OneCardFault → lists.OneListFault → SettingsHaveOneFault
+one_fault of_cards of_lists bytes fault other (InCard begun card is told) (InCard also same are as_told) = told ∙ ap (λ f. faults.Card f) (of_cards bytes card same is are) ∙ sym as_told
+one_fault of_cards of_lists bytes fault other (InCard begun card is told) (InList unbegun list are as_told) = absurd (both _ begun unbegun)
+one_fault of_cards of_lists bytes fault other (InList unbegun list is told) (InCard begun card are as_told) = absurd (both _ begun unbegun)
+one_fault of_cards of_lists bytes fault other (InList unbegun list is told) (InList also same are as_told) = told ∙ ap (λ f. faults.List f) (of_lists bytes list same is are) ∙ sym as_told
 
 none_and_some : (m n : Parts) (x : Setting) (why : Why) → n ≡ m → why_refused m x ≡ None → why_refused n x ≡ Some why → ⊥
 none_and_some m n x why same none some = let e : None ≡ Some why = sym none ∙ ap (λ k. why_refused k x) (sym same) ∙ some in cc

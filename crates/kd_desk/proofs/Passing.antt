@@ -10,19 +10,19 @@ use Rattle.kd_desk.specs.declared.fault.DeskFault.TheVariants.{Message}
 use Rattle.kd_desk.specs.Messages.{Passes, OutOfMemory, OffKey, Refused, Passed}
 use Rattle.kd_desk.specs.Ports.{Port, WritesText}
 
-module _ (m : Parts) (s : Day) (is_due : List ℕ → Type 0) (is_fault : FormFault → Type 0) (sink : Port) (answer : Result (Unit {0}) DeskFault)
+module _ (m : Parts) (s : Day) (is_due : List ℕ → Type 0) (is_fault : FormFault → Type 0) (takes_memory : Type 0) (sink : Port) (answer : Result (Unit {0}) DeskFault)
     {T : Type 0} (items : T → List ℕ) where
   -- the answer tells what was made
   abbrev IsTold : Result T FormFault → Type 0
   IsTold made = MatchResult made (λ text. WritesText (items text) sink answer) (λ fault. answer ≡ Err (Message fault))
 
   on_the_key : (made : Result T FormFault) → form.IsOnKey m s
-      → MatchResult made (λ text. is_due (items text)) (λ fault. (fault ≡ NoMemory) ⊎ is_fault fault) → IsTold made → Passes m s is_due is_fault sink answer
+      → MatchResult made (λ text. is_due (items text)) (form.IsRefusal is_fault takes_memory) → IsTold made → Passes m s is_due is_fault takes_memory sink answer
   on_the_key (Ok text) on is told = Passed on (items text) is told
-  on_the_key (Err fault) on (inl same) told = OutOfMemory on (subst (λ f. answer ≡ Err (Message f)) same told)
+  on_the_key (Err fault) on (inl lacks) told = OutOfMemory on lacks.0 (subst (λ f. answer ≡ Err (Message f)) lacks.1 told)
   on_the_key (Err fault) on (inr is) told = Refused on fault is told
 
-  pub passes : (made : Result T FormFault) → form.AnswersOnKey m s (λ text. is_due (items text)) is_fault made → IsTold made
-      → Passes m s is_due is_fault sink answer
+  pub passes : (made : Result T FormFault) → form.AnswersOnKey m s (λ text. is_due (items text)) is_fault takes_memory made → IsTold made
+      → Passes m s is_due is_fault takes_memory sink answer
   passes made (form.OffKey fault off same) told = OffKey fault off (subst IsTold same told)
   passes made (form.WithKey on is) told = on_the_key made on is told

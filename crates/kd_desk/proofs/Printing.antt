@@ -45,7 +45,7 @@ module _ (laws : Laws) (m : Parts) (s : Day) (is_machine : IsMachine m) (legal :
       laws.decipher one other s text set.machine set.other_machine legal set.on_key set.other_on_key set.letters are
 
   pub whole : (settings : List Setting) (prices : PriceParts) (text : List ℕ) (day : ℕ) (sink : Port) → Plans m s settings prices
-      → day ≡ day_number s → IsCard text day settings prices → Appends sink.had sink.has text → Prints m s sink (Ok (tt {0}))
+      → day ≡ day_number s → IsCard text day settings prices → Appends sink.had sink.has text → Prints m s (day_number s) sink (Ok (tt {0}))
   whole settings prices text day sink plans number card taken =
       let dated = subst (λ d. IsCard text d settings prices) number card in
       Card (record {
@@ -60,7 +60,7 @@ module _ (laws : Laws) (m : Parts) (s : Day) (is_machine : IsMachine m) (legal :
       })
 
   part_of : (settings : List Setting) (prices : PriceParts) (text : List ℕ) (sink : Port) → Plans m s settings prices
-      → IsCard text (day_number s) settings prices → TakesFront sink.had sink.has text → Prints m s sink (Err faults.Device)
+      → IsCard text (day_number s) settings prices → TakesFront sink.had sink.has text → Prints m s (day_number s) sink (Err faults.Device)
   part_of settings prices text sink plans card taken =
       Card (record {
         settings = settings;
@@ -74,7 +74,11 @@ module _ (laws : Laws) (m : Parts) (s : Day) (is_machine : IsMachine m) (legal :
       })
 
   pub part : (settings : List Setting) (prices : PriceParts) (text : List ℕ) (day : ℕ) (sink : Port) (answer : Result (Unit {0}) DeskFault) → Plans m s settings prices
-      → day ≡ day_number s → IsCard text day settings prices → TakesFront sink.had sink.has text → IsErrAnd answer (λ made. made ≡ faults.Device) → Prints m s sink answer
+      → day ≡ day_number s → IsCard text day settings prices → TakesFront sink.had sink.has text → IsErrAnd answer (λ made. made ≡ faults.Device) → Prints m s (day_number s) sink answer
   part settings prices text day sink answer plans number card taken made =
-      answered answer faults.Device (Prints m s sink) made
+      answered answer faults.Device (Prints m s (day_number s) sink) made
       (part_of settings prices text sink plans (subst (λ d. IsCard text d settings prices) number card) taken)
+
+pub printed_for : (m : Parts) (s : Day) (number asked : ℕ) (sink : Port) (answer : Result (Unit {0}) DeskFault) → number ≡ asked
+    → Prints m s number sink answer → Prints m s asked sink answer
+printed_for m s number asked sink answer same prints = subst (λ n. Prints m s n sink answer) same prints

@@ -29,10 +29,10 @@ garbled laws s form fault legal is = record {
       laws.no_fault s form gives.0 fault (laws.back s order form gives.0 legal sent gives.1) is;
 }
 
-pub answers_received : (laws : Laws) (m : Parts) (s : Day) (form : List ℕ) {T : Type 0} (items : T → List ℕ) (made : Result T FormFault) → IsLegalDay s
-    → AnswersOnKey m s (λ text. IsTextOf s form (items text)) (IsReceiveFault s form) made
-    → AnswersOnKey m s (λ text. IsReceived s form (items text)) (IsGarbled s form) made
-answers_received laws m s form items made legal (OffKey fault off same) = OffKey fault off same
-answers_received laws m s form items (Ok text) legal (WithKey on is) = WithKey on (received laws s form (items text) legal is)
-answers_received laws m s form items (Err fault) legal (WithKey on (inl none)) = WithKey on (inl none)
-answers_received laws m s form items (Err fault) legal (WithKey on (inr is)) = WithKey on (inr (garbled laws s form fault legal is))
+pub answers_received : (laws : Laws) (m : Parts) (s : Day) (form : List ℕ) {T : Type 0} (items : T → List ℕ) (takes_memory : Type 0) (made : Result T FormFault) → IsLegalDay s
+    → AnswersOnKey m s (λ text. IsTextOf s form (items text)) (IsReceiveFault s form) takes_memory made
+    → AnswersOnKey m s (λ text. IsReceived s form (items text)) (IsGarbled s form) takes_memory made
+answers_received laws m s form items takes_memory made legal (OffKey fault off same) = OffKey fault off same
+answers_received laws m s form items takes_memory (Ok text) legal (WithKey on is) = WithKey on (received laws s form (items text) legal is)
+answers_received laws m s form items takes_memory (Err fault) legal (WithKey on (inl none)) = WithKey on (inl none)
+answers_received laws m s form items takes_memory (Err fault) legal (WithKey on (inr is)) = WithKey on (inr (garbled laws s form fault legal is))

@@ -74,7 +74,7 @@ pub record IsLeftAlone (p : Port) : Type 0 where
 
 -- what a task does with a machine and a day
 abbrev pub DoesTask : Task (List ℕ) → ℕ → Port → Result (Unit {0}) DeskFault → Parts → Day → Type 0
-DoesTask tasks.Card number sink answer m s = Prints m s sink answer
+DoesTask tasks.Card number sink answer m s = Prints m s number sink answer
 DoesTask (tasks.Work Check card) number sink answer m s = Checks m s number card sink answer
 DoesTask (tasks.Work Send order) number sink answer m s = Sends m s order sink answer
 DoesTask (tasks.Work Receive form) number sink answer m s = Receives m s form sink answer

@@ -17,6 +17,11 @@ abbrev pub SettingsHaveNoFault : Type 0
 SettingsHaveNoFault =
     (bytes : List ℕ) (xs : List Setting) (fault : DeskFault) → AreSettings bytes xs → ¬ (IsSettingsFault bytes fault)
 
+-- and if they say none, they have one
+abbrev pub SettingsHaveOneFault : Type 0
+SettingsHaveOneFault =
+    (bytes : List ℕ) (fault other : DeskFault) → IsSettingsFault bytes fault → IsSettingsFault bytes other → fault ≡ other
+
 -- of settings that lead a machine to another one no line is refused in its turn
 abbrev pub LeadsOrRefuses : Type 0
 LeadsOrRefuses =

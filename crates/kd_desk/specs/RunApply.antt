@@ -11,7 +11,7 @@ use Rattle.kd_desk.specs.declared.fault.DeskFault.TheVariants.{Illegal}
 use Rattle.kd_desk.specs.Ports.{Port, WritesText}
 use Rattle.kd_desk.specs.Settings.{AreSettings, IsSettingsFault}
 
--- What becomes of a machine and of bytes that say settings: they say none, for this fault; or the first line that the machine
+-- What becomes of a machine and of bytes that say settings: they say none, for their fault; or the first line that the machine
 -- refuses in its turn is told; or the settings lead it to another machine, whose file is written.
 pub data Applies (m : Parts) (bytes : List ℕ) (sink : Port) (answer : Result (Unit {0}) DeskFault) : Type 0 where
   NoSettings : (fault : DeskFault) → IsSettingsFault bytes fault → answer ≡ Err fault → Applies m bytes sink answer

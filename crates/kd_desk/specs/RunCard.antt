@@ -3,7 +3,7 @@ use Rattle.std.specs.Prelude.{◌≡◌, ◌≢◌, ℕ, List, Result, Err}
 use Rattle.kd_state.specs.declared.parts.Parts.{Parts}
 use Rattle.kd_state.specs.declared.setting.Setting.{Setting}
 use Rattle.kd_state.specs.Machine.{model_of}
-use Rattle.kd_state.specs.SheetDay.{Day, day_number, day_model}
+use Rattle.kd_state.specs.SheetDay.{Day, day_model}
 use Rattle.kd_card.specs.declared.prices.PriceParts.{PriceParts}
 use Rattle.kd_card.specs.CardText.{IsCard}
 use Rattle.kd_plan.specs.Planned.{Plans}
@@ -12,20 +12,20 @@ use Rattle.kd_desk.specs.declared.fault.DeskFault.TheVariants.{OtherModel}
 use Rattle.kd_desk.specs.Headline.{LeavesTheSheetsMachine, EquallySetDecipher}
 use Rattle.kd_desk.specs.Ports.{Port, WritesText}
 
--- The text of a card was written, or a prefix of it where the device failed. The card is a planned one; its prices prove it,
+-- The text of a card for the day of that number was written, or a prefix of it where the device failed. The card is a planned one; its prices prove it,
 -- and no settings whatever that reach the day are fewer. Its settings, carried out, leave a machine that is ready and
 -- enciphers as the day's own; and what a machine on the day's key enciphers an equally set one deciphers.
-pub record WritesCard (m : Parts) (s : Day) (sink : Port) (answer : Result (Unit {0}) DeskFault) : Type 0 where
+pub record WritesCard (m : Parts) (s : Day) (number : ℕ) (sink : Port) (answer : Result (Unit {0}) DeskFault) : Type 0 where
   pub settings : List Setting
   pub prices : PriceParts
   pub plans : Plans m s settings prices
   pub leaves : LeavesTheSheetsMachine m s settings
   pub deciphers : EquallySetDecipher s
   pub text : List ℕ
-  pub card : IsCard text (day_number s) settings prices
+  pub card : IsCard text number settings prices
   pub written : WritesText text sink answer
 
 -- a card of the machine for the day: refused where they are of different models, and else written
-pub data Prints (m : Parts) (s : Day) (sink : Port) (answer : Result (Unit {0}) DeskFault) : Type 0 where
-  Different : model_of m ≢ day_model s → answer ≡ Err OtherModel → Prints m s sink answer
-  Card : WritesCard m s sink answer → Prints m s sink answer
+pub data Prints (m : Parts) (s : Day) (number : ℕ) (sink : Port) (answer : Result (Unit {0}) DeskFault) : Type 0 where
+  Different : model_of m ≢ day_model s → answer ≡ Err OtherModel → Prints m s number sink answer
+  Card : WritesCard m s number sink answer → Prints m s number sink answer

@@ -26,7 +26,7 @@ pub record IsTold (m : Parts) (s : Day) (settings : List Setting) (prices : Pric
   pub shortest : IsShortest m s settings
   pub written : WritesText (verdict_text (length settings)) sink answer
 
--- what becomes of a machine, a day of that number, and the bytes of a card: they are no card, or another day's, or the card's
+-- what becomes of a machine, a day of that number, and the bytes of a card: they are no card, for their fault, or another day's, or the card's
 -- first doubt is answered; or it is told to be shortest
 pub data Checks (m : Parts) (s : Day) (number : ℕ) (bytes : List ℕ) (sink : Port) (answer : Result (Unit {0}) DeskFault) : Type 0 where
   NoCard : (fault : CardFault) → IsCardFault bytes fault → answer ≡ Err (faults.Card fault) → Checks m s number bytes sink answer

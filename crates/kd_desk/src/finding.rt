@@ -1,4 +1,6 @@
 //! The machine and the day that files say.
+ghost use Rattle.std.specs.Prelude.{◌≡◌, IfOk};
+ghost use Rattle.kd_state.specs.SheetDay.{day_number};
 ghost use Rattle.kd_desk.specs.OnDay.{FindsDay};
 
 use crate::fault::DeskFault;
@@ -15,7 +17,8 @@ pub fn find_day(
     sheet: &[u8],
     number: u8,
 ) -> Result<(Machine, SheetDay), DeskFault>
-    ensures { FindsDay machine.now sheet.now number result }
+    ensures day { FindsDay machine.now sheet.now number result }
+    ensures number { IfOk result (λ found. day_number found.1 ≡ number) }
 {
     let machine = read_machine(alloc, machine)?;
     let sheet = read_sheet(alloc, sheet)?;

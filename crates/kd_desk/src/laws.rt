@@ -1,10 +1,11 @@
 //! Laws over settings that are carried out: what the desk answers to them is one of three things, and never two of them.
-ghost use Rattle.kd_desk.specs.Laws.{TextsTellSettings, SettingsHaveNoFault, LeadsOrRefuses};
+ghost use Rattle.kd_desk.specs.Laws.{TextsTellSettings, SettingsHaveNoFault, SettingsHaveOneFault, LeadsOrRefuses};
 
-/// Bytes say one list of settings at most, and if they say one, they have no fault.
+/// Bytes say one list of settings at most, and if they say one, they have no fault; and they have one at most.
 pub fn bytes_say_settings_or_have_a_fault()
     ensures settings { TextsTellSettings }
     ensures no_fault { SettingsHaveNoFault }
+    ensures one_fault { SettingsHaveOneFault }
 {
     kd_state::laws::texts_tell_lists();
     kd_card::laws::no_two_cards_have_one_text();

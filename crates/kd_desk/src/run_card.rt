@@ -1,4 +1,5 @@
 ghost use Rattle.std.specs.Prelude.{◌≡◌, ◌||◌, IsTrue};
+ghost use Rattle.kd_state.specs.SheetDay.{day_number};
 ghost use Rattle.kd_desk.specs.OnDay.{OnDay};
 ghost use Rattle.kd_desk.specs.Ports.{port};
 ghost use Rattle.kd_desk.specs.RunCard.{Prints};
@@ -27,7 +28,7 @@ pub fn run_card<W: Sink>(
     sink: &mut W,
 ) -> Result<(), DeskFault>
     ensures card { OnDay machine.now sheet.now number
-        (λ m s. Prints m s (port W.taken W.has_failed sink.old sink.new) result) result }
+        (λ m s. Prints m s number (port W.taken W.has_failed sink.old sink.new) result) result }
     ensures untouched { IsTrue (is_refused_before result) → sink.new ≡ sink.old }
     ensures failed { W.has_failed sink.new ≡ (W.has_failed sink.old || is_device result) }
 {
@@ -37,7 +38,8 @@ pub fn run_card<W: Sink>(
 
 /// Writes the shortest card that leads the machine to the day.
 fn print_card<W: Sink>(machine: &Machine, day: &SheetDay, sink: &mut W) -> Result<(), DeskFault>
-    ensures prints { Prints machine.now day.now (port W.taken W.has_failed sink.old sink.new) result }
+    ensures prints { Prints machine.now day.now (day_number day.now)
+        (port W.taken W.has_failed sink.old sink.new) result }
     ensures untouched { IsTrue (is_refused_before result) → sink.new ≡ sink.old }
     ensures failed { W.has_failed sink.new ≡ (W.has_failed sink.old || is_device result) }
 {

@@ -1,9 +1,11 @@
 use Rattle.kd_desk.proofs.Days.{not_found, on_day}
+use Rattle.kd_desk.proofs.Printing.{printed_for}
 use Rattle.kd_desk.proofs.run_card.run_card.Goals as goal
 
 pub returns-in_err-machine-clause-card : goal.returns-in_err-machine-clause-card
 returns-in_err-machine-clause-card g c =
-    not_found _ _ _ _ c.from_residual.result _ c.in_err-machine.ensures c.from_residual.ensures.1
+    not_found _ _ _ _ c.from_residual.result _ c.in_err-machine.ensures.day c.from_residual.ensures.1
 
 pub returns-clause-card : goal.returns-clause-card
-returns-clause-card g c = on_day _ _ _ _ _ _ _ c.in_ok-machine.ensures c.print_card.ensures.prints
+returns-clause-card g c =
+    on_day _ _ _ _ _ _ _ c.in_ok-machine.ensures.day (printed_for _ _ _ _ _ _ c.in_ok-machine.ensures.number c.print_card.ensures.prints)

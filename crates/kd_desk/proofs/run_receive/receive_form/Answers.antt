@@ -10,5 +10,5 @@ returns-clause-receives g c =
       letters = c.forms_give_their_orders.ensures.letters;
       back = c.forms_give_their_orders.ensures.back;
     } in
-    passes _ _ _ _ _ _ (λ text. text.items) c.receive.result
-    (answers_received laws _ _ c.args.form.now (λ text. text.items) c.receive.result c.model-legal_day.ensures.legal c.receive.ensures) c.write_made.ensures.made
+    passes _ _ _ _ _ _ _ (λ text. text.items) c.receive.result
+    (answers_received laws _ _ c.args.form.now (λ text. text.items) _ c.receive.result c.model-legal_day.ensures.legal c.receive.ensures) c.write_made.ensures.made

@@ -20,9 +20,9 @@ judged : (all : List ℕ) → content_of (Some (take 1048577 all)) ≡ content_o
 judged all = elim (leb_tells (length all) 1048576) [
   | inl is ↦ let few = is.1 in ap (λ l. content_of (Some l)) (take_all 1048577 all (omega (arith, few)))
   | inr is ↦
-    let more = is.1 in
-    let taken = length-take-le 1048577 all (omega (arith, more)) in
-    too_long (take 1048577 all) (omega (arith, taken)) ∙ sym (too_long all more)
+      let more = is.1 in
+      let taken = length-take-le 1048577 all (omega (arith, more)) in
+      too_long (take 1048577 all) (omega (arith, taken)) ∙ sym (too_long all more)
 ]
 
 whole : (all : Option (List ℕ)) (items before : List ℕ) (answer : Result (List ℕ) FileFault) → before ≡ []
