@@ -117,7 +117,7 @@ pub(crate) fn check_machine(machine: &Machine, day: &SheetDay) -> Result<(), For
         (λ _. IsOnKey machine.now day.now)
         (IsKeyFault machine.now day.now) }
 {
-    if machine.engine().is_err() {
+    if !machine.is_ready() {
         return Err(FormFault::NotReady);
     }
     if !machine.on_key(day) {

@@ -4,7 +4,7 @@ ghost use Rattle.std.specs.Option.{option_to_list};
 ghost use Rattle.arrayvec.specs.ArrayVec.{array_vec_len};
 ghost use Rattle.kd_tables.specs.Permutation.{exchange};
 ghost use Rattle.kd_state.specs.Machine.{cable_letters, AreCables};
-ghost use Rattle.kd_state.specs.TwoCiphers.{both_ends};
+ghost use Rattle.kd_state.specs.TwoCiphers.{both_ends, IsRotorReady};
 
 use super::Engine;
 use crate::cable::Cable;
@@ -25,10 +25,20 @@ use thiserror::Error;
 pub struct NotReady;
 
 impl Machine {
-    ghost use Rattle.std.specs.Prelude.{◌≡◌, ◌⊎◌, ◌↔◌, length, map, IsOk, IfOk, IsSome, IfSome, MatchOption, Contains, None, Some};
+    ghost use Rattle.std.specs.Prelude.{◌≡◌, ◌⊎◌, ◌↔◌, length, map, IsTrue, IsOk, IfOk, IsSome, IfSome, MatchOption, Contains, None, Some};
     ghost use Rattle.kd_state.specs.Machine.{IsMachine};
     ghost use Rattle.kd_state.specs.Seated.{seated_wheel};
     ghost use Rattle.kd_state.specs.TwoCiphers.{IsReady, IsRotorReady, physical_key};
+
+    /// Whether no slot is empty, and no cable has one letter.
+    pub fn is_ready(&self) -> bool
+        ensures { IsTrue result ↔ IsReady self.now }
+    {
+        match self.parts() {
+            Parts::Rotor(parts) => is_rotor_ready(parts),
+            Parts::Pin(_) => true,
+        }
+    }
 
     /// The engine of the machine as it stands. Refused where a slot is empty, or a cable has one letter.
     pub fn engine(&self) -> Result<Engine, NotReady>
@@ -93,6 +103,20 @@ impl Machine {
             letter,
         })
     }
+}
+
+/// Whether no slot is empty, and no cable has one letter.
+fn is_rotor_ready(parts: &RotorParts) -> bool
+    ensures { IsTrue result ↔ IsRotorReady parts.now }
+{
+    are_seated(parts.slots.as_slice()) && are_whole(&parts.cables)
+}
+
+/// Whether there is a wheel in each slot.
+fn are_seated(slots: &[Option<Wheel>]) -> bool
+    ensures { IsTrue result ↔ All (λ seated. IsSome seated) slots.now }
+{
+    slots.iter().all(|seated| seated.is_some())
 }
 
 /// What the cables exchange, if none has one letter.
