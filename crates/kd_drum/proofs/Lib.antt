@@ -1,3 +1,4 @@
 pub mod Starts
 pub mod Ciphers
 mod Letters
+mod Sets

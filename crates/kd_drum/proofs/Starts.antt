@@ -6,7 +6,7 @@ use Rattle.std.proofs.lemmas.List.FromFn.{get_or-map-range_with_len}
 use Rattle.std.proofs.lemmas.List.Sums.{sum_by-le-sum_by}
 use Rattle.std.proofs.Math.Nat.{mod-add-mod, mod-lt, mod-eq_of_lt}
 use Rattle.kd_tables.specs.Rings.{ring_of, place_on}
-use Rattle.kd_pins.specs.PinWheel.{TurnedWheel, is_effective, letter_shown, turned_to}
+use Rattle.kd_pins.specs.PinWheel.{TurnedWheel, is_effective, letter_shown, pin_acting, turned_to}
 use Rattle.kd_pins.specs.PinWheels.{pin_wheels, pins_on, offset_of, size_of}
 use Rattle.kd_drum.specs.Converter.{PinKey, pin_key_turned, start_on, acts_after, bars_met, letter_after, pin_key_after}
 use Rattle.kd_drum.specs.Sound.{RingsAreSound}
@@ -73,7 +73,7 @@ acts_after_sum sound key m i wheel = at (leb 1 wheel && leb wheel 6) refl
         ∙ three_on (start_on key wheel) m i (offset_of wheel) (size_of wheel))
 
 -- a count by tests that answer alike
-count_alike : {X : Type 0} (p q : X → Bool) (xs : List X) → ((x : X) → p x ≡ q x) → count_by p xs ≡ count_by q xs
+pub count_alike : {X : Type 0} (p q : X → Bool) (xs : List X) → ((x : X) → p x ≡ q x) → count_by p xs ≡ count_by q xs
 count_alike p q xs same =
     let fewer = sum_by-le-sum_by (λ x. cond (p x) 1 0) (λ x. cond (q x) 1 0) xs (λ x. let e : cond (p x) 1 0 ≡ cond (q x) 1 0 = ap (λ (b : Bool). cond {A = ℕ} b 1 0) (same x) in omega arith) in
     let more = sum_by-le-sum_by (λ x. cond (q x) 1 0) (λ x. cond (p x) 1 0) xs (λ x. let e : cond (p x) 1 0 ≡ cond (q x) 1 0 = ap (λ (b : Bool). cond {A = ℕ} b 1 0) (same x) in omega arith) in
@@ -105,6 +105,17 @@ shows_after sound key number size count place wheel h shown e =
     ∙ ap (λ n. slice_index (ring_of number) ((wheel.place + count) % n)) (sym (size_is number size wheel h))
     ∙ ap (λ start. slice_index (ring_of number) ((start + count) % size_of number))
     (sym (ap (λ letter. unwrap_or (place_on (ring_of number) letter) 0) shown ∙ start_place sound number size wheel h))
+
+-- the acting pin of a wheel as it stands is the one that acts after no letters
+pub acts_now : RingsAreSound → (key : PinKey) (number size : ℕ) (wheel : TurnedWheel) → StandsAs number size wheel
+    → slice_index key.letters (number - 1) ≡ letter_shown wheel → pins_on key.pins number ≡ wheel.pins
+    → pin_acting size wheel ≡ is_effective (pins_on key.pins number) ((start_on key number + 0 + offset_of number) % size_of number)
+acts_now sound key number size wheel h shown pins =
+    let start : start_on key number ≡ wheel.place = ap (λ letter. unwrap_or (place_on (ring_of number) letter) 0) shown ∙ start_place sound number size wheel h in
+    let sum : wheel.place + wheel.offset ≡ start_on key number + 0 + offset_of number = omega (arith, start, h.offset) in
+    ap (λ n. is_effective wheel.pins (n % size)) sum
+    ∙ ap (λ n. is_effective wheel.pins ((start_on key number + 0 + offset_of number) % n)) (sym (size_is number size wheel h))
+    ∙ ap (λ p. is_effective p ((start_on key number + 0 + offset_of number) % size_of number)) (sym pins)
 
 -- each wheel so many places on makes the key after so many letters
 pub key_moved : (w1 w2 w3 w4 w5 w6 : TurnedWheel) (rows : List (ℕ × ℕ)) → AllStand w1 w2 w3 w4 w5 w6 → (count p1 p2 p3 p4 p5 p6 : ℕ)

@@ -1,4 +1,5 @@
 pub mod Converter
+pub mod Counts
 pub mod Laws
 pub mod Sound
 pub mod Standing

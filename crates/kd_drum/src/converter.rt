@@ -2,9 +2,11 @@ ghost use Rattle.std.specs.Prelude.{◌≡◌, ◌↔◌, ◌<◌, ◌≤◌, �
 ghost use Rattle.kd_pins.specs.PinWheel.{TurnedWheel, IsWheel, letter_shown};
 ghost use Rattle.kd_pins.specs.PinWheels.{pins_of};
 ghost use Rattle.kd_drum.specs.Converter.{OnWheels, acts_after, bars_met, converter_cipher, pin_key_after, pin_key_turned};
+ghost use Rattle.kd_drum.specs.Counts.{is_in};
 ghost use Rattle.kd_drum.specs.Sound.{RingsAreSound};
 ghost use Rattle.kd_drum.specs.Standing.{IsSetTo};
 
+use super::counts::counts;
 use super::laws::rings_are_sound;
 use kd_pins::{NotOnWheel, PinSet, PinWheel};
 use kd_tables::{Letter, Reading, Ring, ring1, ring2, ring3, ring4, ring5, ring6};
@@ -20,18 +22,19 @@ pub struct Converter {
     w5: PinWheel<19>,
     w6: PinWheel<17>,
     rows: [Reading; 27],
+    counts: [u8; 64],
 }
 
 impl Model for Converter {
-    ghost use Rattle.std.specs.Prelude.{◌≡◌, length};
     ghost use Rattle.kd_drum.specs.Converter.{PinKey};
+    ghost use Rattle.kd_drum.specs.Counts.{AreCounts};
     ghost use Rattle.kd_drum.specs.Standing.{AllStand, key_of};
 
     ghost Value = { PinKey };
 
     ghost view = { λ c. key_of c.w1 c.w2 c.w3 c.w4 c.w5 c.w6 c.rows };
 
-    ghost invariant = { λ c. AllStand c.w1 c.w2 c.w3 c.w4 c.w5 c.w6 × (length c.rows ≡ 27) };
+    ghost invariant = { λ c. AllStand c.w1 c.w2 c.w3 c.w4 c.w5 c.w6 × AreCounts c.rows c.counts };
 }
 
 impl Converter {
@@ -61,6 +64,7 @@ impl Converter {
             w4,
             w5,
             w6,
+            counts: counts(&rows),
             rows,
         })
     }
@@ -87,6 +91,7 @@ impl Converter {
             w5,
             w6,
             rows: self.rows,
+            counts: self.counts,
         };
         Ok(())
     }
@@ -117,13 +122,7 @@ impl Converter {
         ensures value { result ≡ bars_met self.now 0 }
         ensures most { result ≤ 27 }
     {
-        let mut met = 0;
-        for row in &self.rows {
-            if self.is_met(*row) {
-                met += 1;
-            }
-        }
-        met
+        self.counts[self.acting()]
     }
 
     /// The letters that the wheels show, from the first wheel on.
@@ -140,27 +139,17 @@ impl Converter {
         ]
     }
 
-    /// A lug of a bar with this reading stands at a wheel whose acting pin is effective.
-    fn is_met(&self, row: Reading) -> bool
-        ensures { result ≡ (acts_after self.now 0 row.0 || acts_after self.now 0 row.1) }
+    /// The set of the wheels whose acting pins are effective.
+    fn acting(&self) -> usize
+        ensures set { result < 64 }
+        ensures each { (wheel : _) → is_in result wheel ≡ acts_after self.now 0 wheel }
     {
-        let (smaller, larger) = row.numbers();
-        self.acts(smaller) || self.acts(larger)
-    }
-
-    /// There is a wheel of that number, and its acting pin is effective.
-    fn acts(&self, wheel: u8) -> bool
-        ensures { result ≡ acts_after self.now 0 wheel }
-    {
-        match wheel {
-            1 => self.w1.acting(),
-            2 => self.w2.acting(),
-            3 => self.w3.acting(),
-            4 => self.w4.acting(),
-            5 => self.w5.acting(),
-            6 => self.w6.acting(),
-            _ => false,
-        }
+        usize::from(self.w1.acting())
+            + 2 * usize::from(self.w2.acting())
+            + 4 * usize::from(self.w3.acting())
+            + 8 * usize::from(self.w4.acting())
+            + 16 * usize::from(self.w5.acting())
+            + 32 * usize::from(self.w6.acting())
     }
 
     /// Each letter that shows is one of its wheel's.

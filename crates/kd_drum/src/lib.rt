@@ -2,6 +2,7 @@
 #![tactic(auto)]
 
 mod converter;
+mod counts;
 pub mod laws;
 #[cfg(test)]
 mod tests;

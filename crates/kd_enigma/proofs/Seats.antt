@@ -1,12 +1,14 @@
 -- The rotors of seated wheels, slot by slot.
-use Rattle.std.proofs.Common.{◌≡◌, ℕ, zero, suc, ◌+◌, ◌<◌, ◌≤◌, List, [], ◌∷◌, ◌++◌, length, map, reverse, take, drop, set, get_or, slice_index, refl, sym, ap, ◌∙◌, arith, add-one}
-use Rattle.std.proofs.lemmas.List.{reverse-append, take_more, take_more_set, take_all, get_or-map, length-map, map-append}
-use Rattle.std.proofs.Math.Seq.{drop-cons, take-length}
-use Rattle.kd_tables.specs.Permutation.{inverse}
+use Rattle.std.proofs.Common.{◌≡◌, ℕ, zero, suc, ◌+◌, ◌-◌, ◌<◌, ◌≤◌, List, [], ◌∷◌, ◌++◌, length, map, take, drop, get_or, slice_get, Some, refl, sym, ap, ◌∙◌, arith, add-one}
+use Rattle.std.proofs.lemmas.List.{take_more, take_all}
+use Rattle.std.proofs.lemmas.Option.{get_or_from_slice_get}
+use Rattle.std.proofs.Math.Seq.{drop-cons}
+use Rattle.kd_enigma.specs.Around.{around, enclosed}
 use Rattle.kd_enigma.specs.Rotor.{rotor}
 use Rattle.kd_enigma.specs.Cipher.{rotors}
 use Rattle.kd_enigma.specs.Seated.{SeatedWheel}
-use Rattle.kd_enigma.specs.Through.{through, standing}
+use Rattle.kd_enigma.specs.Through.{standing}
+use Rattle.kd_enigma.specs.Wired.{slow}
 
 length-standing : (seated : List SeatedWheel) (window : List ℕ) → length seated ≡ length window → length (standing seated window) ≡ length window
 unfolding rotors
@@ -29,33 +31,15 @@ standing_in seated window slot s letter e lt is_s is_letter =
     standing-at seated window slot s letter [] e lt
     ∙ ap (λ (t : SeatedWheel). rotor t.wheel t.ring (get_or window slot letter)) (sym is_s) ∙ ap (rotor s.wheel s.ring) (sym is_letter)
 
--- the whole way in is left at first
-pub inward_all : (seated : List SeatedWheel) (window : List ℕ) (letter : ℕ) → length seated ≡ length window
-    → through (reverse (take (length seated) (standing seated window))) letter ≡ through (reverse (standing seated window)) letter
-inward_all seated window letter e =
-    ap (λ n. through (reverse (take n (standing seated window))) letter) (e ∙ sym (length-standing seated window e))
-    ∙ ap (λ ws. through (reverse ws) letter) (take-length (standing seated window))
-
--- one wheel on the way in, and on the way back
-pub inward_more : (seated : List SeatedWheel) (window : List ℕ) (slot : ℕ) (s : SeatedWheel) (shown letter : ℕ) → length seated ≡ length window → slot < length window
+-- one wheel more around the core, and none left
+pub around_more : (seated : List SeatedWheel) (window : List ℕ) (slot : ℕ) (s : SeatedWheel) (shown : ℕ) (core : List ℕ) → length seated ≡ length window → slot < length window
     → s ≡ get_or seated slot s → shown ≡ get_or window slot shown
-    → through (reverse (take slot (standing seated window))) (slice_index (rotor s.wheel s.ring shown) letter) ≡ through (reverse (take (slot + 1) (standing seated window))) letter
-inward_more seated window slot s shown letter e lt is_s is_shown =
+    → around (enclosed core (rotor s.wheel s.ring shown)) (drop (slot + 1) (standing seated window)) ≡ around core (drop slot (standing seated window))
+around_more seated window slot s shown core e lt is_s is_shown =
     let ws = standing seated window in
-    let w = get_or ws slot [] in
-    ap (λ p. through (reverse (take slot ws)) (slice_index p letter)) (sym (standing_in seated window slot s shown e lt is_s is_shown))
-    ∙ sym (ap (λ ps. through ps letter) (ap reverse (take_more ws slot [] (omega (arith, length-standing seated window e))) ∙ reverse-append (take slot ws) (w ∷ [])))
-
-pub outward_more : (seated : List SeatedWheel) (window : List ℕ) (slot : ℕ) (s : SeatedWheel) (shown letter : ℕ) → length seated ≡ length window → slot < length window
-    → s ≡ get_or seated slot s → shown ≡ get_or window slot shown
-    → through (drop (slot + 1) (map inverse (standing seated window))) (slice_index (inverse (rotor s.wheel s.ring shown)) letter) ≡ through (drop slot (map inverse (standing seated window))) letter
-outward_more seated window slot s shown letter e lt is_s is_shown =
-    let ws = standing seated window in
-    let backs = map inverse ws in
-    let in_ws : slot < length ws = omega (arith, length-standing seated window e) in
-    sym (ap (λ ps. through ps letter) (drop-cons backs slot [] (omega (arith, length-map ws inverse)))
-    ∙ ap (λ p. through (drop (suc slot) backs) (slice_index p letter)) (get_or-map inverse ws slot [] [] in_ws ∙ ap inverse (standing_in seated window slot s shown e lt is_s is_shown))
-    ∙ ap (λ n. through (drop n backs) (slice_index (inverse (rotor s.wheel s.ring shown)) letter)) (sym (add-one slot)))
+    ap (λ n. around (enclosed core (rotor s.wheel s.ring shown)) (drop n ws)) (add-one slot)
+    ∙ ap (λ w. around (enclosed core w) (drop (suc slot) ws)) (sym (standing_in seated window slot s shown e lt is_s is_shown))
+    ∙ sym (ap (around core) (drop-cons ws slot [] (omega (arith, length-standing seated window e))))
 
 drop_all : (ps : List (List ℕ)) (n : ℕ) → length ps ≤ n → drop n ps ≡ []
 drop_all [] zero h = refl
@@ -63,19 +47,31 @@ drop_all [] (suc n) h = refl
 drop_all (p ∷ ps) zero h = absurd (omega arith)
 drop_all (p ∷ ps) (suc n) h = drop_all ps n (omega arith)
 
--- nothing of the way back is left at the end
-pub outward_none : (seated : List SeatedWheel) (window : List ℕ) (slot letter : ℕ) → length seated ≡ length window → length seated ≤ slot
-    → through (drop slot (map inverse (standing seated window))) letter ≡ letter
-outward_none seated window slot letter e h =
-    ap (λ ps. through ps letter) (drop_all (map inverse (standing seated window)) slot (omega (arith, length-map (standing seated window) inverse, length-standing seated window e)))
+pub around_none : (seated : List SeatedWheel) (window : List ℕ) (slot : ℕ) (core : List ℕ) → length seated ≡ length window → length seated ≤ slot
+    → around core (drop slot (standing seated window)) ≡ core
+around_none seated window slot core e h = ap (around core) (drop_all (standing seated window) slot (omega (arith, length-standing seated window e)))
+
+standing-take : (n : ℕ) (seated : List SeatedWheel) (window : List ℕ) → standing (take n seated) (take n window) ≡ take n (standing seated window)
+unfolding rotors
+standing-take zero seated window = refl
+standing-take (suc n) [] window = refl
+standing-take (suc n) (s ∷ seated) [] = refl
+standing-take (suc n) (s ∷ seated) (letter ∷ window) = ap (λ ws. rotor s.wheel s.ring letter ∷ ws) (standing-take n seated window)
+
+-- the slow wheels and the right one
+pub standing_slow : (seated : List SeatedWheel) (window : List ℕ) (s : SeatedWheel) (shown : ℕ) → length seated ≡ length window → 0 < length seated
+    → slice_get seated (length seated - 1) ≡ Some s → shown ≡ get_or window (length window - 1) shown
+    → standing seated window ≡ standing (slow seated) (slow window) ++ rotor s.wheel s.ring shown ∷ []
+standing_slow seated window s shown e some is_s is_shown =
+    let ws = standing seated window in
+    let size = length-standing seated window e in
+    let slot = length window - 1 in
+    let seat : s ≡ get_or seated slot s = sym (get_or_from_slice_get seated slot s s (ap (λ n. slice_get seated (n - 1)) (sym e) ∙ is_s)) in
+    sym (take_all (slot + 1) ws (omega arith)) ∙ take_more ws slot [] (omega arith)
+    ∙ ap (λ w. take slot ws ++ w ∷ []) (standing_in seated window slot s shown e (omega arith) seat is_shown)
+    ∙ ap (λ front. front ++ rotor s.wheel s.ring shown ∷ []) (sym (standing-take slot seated window) ∙ ap (λ n. standing (take (n - 1) seated) (slow window)) (sym e))
 
 -- the seats filled so far, seen by one of their parts
-pub seen_more : {X : Type 0} (view : SeatedWheel → X) (seated : List SeatedWheel) (xs : List X) (slot : ℕ) (s : SeatedWheel) (d : X) → slot < length seated → slot < length xs
-    → view s ≡ get_or xs slot d → map view (take slot seated) ≡ take slot xs → map view (take (slot + 1) (set seated slot s)) ≡ take (slot + 1) xs
-seen_more view seated xs slot s d in_seated in_xs is so_far =
-    ap (map view) (take_more_set seated slot s in_seated) ∙ map-append view (take slot seated) (s ∷ [])
-    ∙ ap (λ front. front ++ view s ∷ []) so_far ∙ ap (λ x. take slot xs ++ x ∷ []) is ∙ sym (take_more xs slot d in_xs)
-
 pub seen_all : {X : Type 0} (view : SeatedWheel → X) (seated : List SeatedWheel) (xs : List X) (slot : ℕ) → length seated ≤ slot → length xs ≤ slot
     → map view (take slot seated) ≡ take slot xs → map view seated ≡ xs
 seen_all view seated xs slot in_seated in_xs h = ap (map view) (sym (take_all slot seated in_seated)) ∙ h ∙ take_all slot xs in_xs

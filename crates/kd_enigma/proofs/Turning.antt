@@ -1,5 +1,5 @@
 -- Turned permutations.
-use Rattle.std.proofs.Common.{◌≡◌, ℕ, ◌+◌, ◌-◌, ◌%◌, ◌<◌, List, slice_index, All, sym, ap, ◌∙◌, subst, arith}
+use Rattle.std.proofs.Common.{◌≡◌, ℕ, ◌-◌, ◌<◌, List, slice_index, All, sym, ap, ◌∙◌, subst, arith}
 use Rattle.std.proofs.lemmas.List.{ext_get_or}
 use Rattle.std.proofs.lemmas.List.FromFn.{get_or-range_with_len}
 use Rattle.kd_tables.specs.Permutation.{alphabet, followed_by, inverse, shift, IsPermutation26}
@@ -19,15 +19,6 @@ product-at laws p q x h lt = laws.product_at p q x (omega (arith, h.size))
 pub turned_permutes : PermutationLaws → (by : ℕ) (p : List ℕ) → IsPermutation26 p → IsPermutation26 (turned by p)
 unfolding turned
 turned_permutes laws by p h = laws.products (followed_by (shift by) p) (shift (26 - by)) (laws.products (shift by) p (laws.shifts by) h) (laws.shifts (26 - by))
-
--- what a turned permutation makes of a letter
-pub turned-at : PermutationLaws → (by : ℕ) (p : List ℕ) (x : ℕ) → IsPermutation26 p → x < 26
-    → slice_index (turned by p) x ≡ (slice_index p ((x + by) % 26) + (26 - by)) % 26
-unfolding turned
-turned-at laws by p x h lt =
-    product-at laws (followed_by (shift by) p) (shift (26 - by)) x (laws.products (shift by) p (laws.shifts by) h) lt
-    ∙ ap (slice_index (shift (26 - by))) (product-at laws (shift by) p x (laws.shifts by) lt ∙ ap (slice_index p) (laws.shift_at by x lt))
-    ∙ laws.shift_at (26 - by) (slice_index p ((x + by) % 26)) (h.each_once.within ((x + by) % 26) (omega arith))
 
 -- three permutations one after the other, the first two or the last two taken together
 grouped : PermutationLaws → (p q r : List ℕ) → IsPermutation26 p → IsPermutation26 q → IsPermutation26 r → followed_by (followed_by p q) r ≡ followed_by p (followed_by q r)
@@ -50,3 +41,8 @@ turned_undone laws by p lt h =
     ∙ ap (followed_by (inverse again)) (laws.product_undone there p (laws.shifts by) h ∙ ap (followed_by back) (laws.shift_undone by (omega arith)))
     ∙ ap (λ s. followed_by s (followed_by back again)) (laws.shift_undone (26 - by) (omega arith) ∙ ap shift (omega arith))
     ∙ sym (grouped laws there back again (laws.shifts by) (laws.inverses p h) (laws.shifts (26 - by)))
+
+-- a permutation that was turned on in two steps
+pub turned_in_steps : (by : ℕ) (p on there off once both : List ℕ) → on ≡ shift by → there ≡ p → off ≡ shift (26 - by) → once ≡ followed_by on there → both ≡ followed_by once off → both ≡ turned by p
+unfolding turned
+turned_in_steps by p on there off once both e f g h k = cc

@@ -1,10 +1,11 @@
 -- The way of a letter through products of permutations, and back.
-use Rattle.std.proofs.Common.{◌≡◌, ◌≢◌, ℕ, ◌<◌, List, [], ◌∷◌, ◌++◌, map, reverse, slice_index, All, refl, sym, ap, ◌∙◌, subst}
+use Rattle.std.proofs.Common.{◌≡◌, ◌≢◌, ℕ, ◌<◌, List, [], ◌∷◌, ◌++◌, map, reverse, slice_index, All, length, refl, sym, ap, ◌∙◌, subst, arith}
 use Rattle.std.specs.List.{AllByRecursion}
-use Rattle.std.proofs.lemmas.List.{reverse-append}
-use Rattle.kd_tables.specs.Permutation.{alphabet, inverse, IsPermutation26}
+use Rattle.std.proofs.lemmas.List.{reverse-append, ext_get_or, length-map}
+use Rattle.kd_tables.specs.Permutation.{alphabet, followed_by, inverse, IsPermutation26}
 use Rattle.kd_tables.specs.Tables.{wiring_of, reflector_of}
 use Rattle.kd_tables.specs.declared.wheel.Wheel.{Wheel}
+use Rattle.kd_enigma.specs.Around.{around, boarded, enclosed}
 use Rattle.kd_enigma.specs.Rotor.{offset}
 use Rattle.kd_enigma.specs.Cipher.{RotorKey, IsPlugboard, rotors, product, path}
 use Rattle.kd_enigma.specs.Seated.{TablesAreSound, PermutationLaws}
@@ -90,6 +91,69 @@ path-at sound key window x board lt =
     (all_append (key.plugs ∷ reverse ws) (reflector_of key.reflector ∷ map inverse ws) (plugs, all_inward ws turns) (reflector, all_outward sound.laws ws turns)) (plugs, tt)) lt
     ∙ through-append (key.plugs ∷ reverse ws ++ reflector_of key.reflector ∷ map inverse ws) (key.plugs ∷ []) x
     ∙ ap (slice_index key.plugs) (through-append (key.plugs ∷ reverse ws) (reflector_of key.reflector ∷ map inverse ws) x)
+
+-- ---- the way around
+
+enclosed_permutes : PermutationLaws → (core w : List ℕ) → IsPermutation26 core → IsPermutation26 w → IsPermutation26 (enclosed core w)
+enclosed_permutes laws core w hc hw = laws.products (followed_by w core) (inverse w) (laws.products w core hw hc) (laws.inverses w hw)
+
+enclosed-at : PermutationLaws → (core w : List ℕ) (x : ℕ) → IsPermutation26 core → IsPermutation26 w → x < 26
+    → slice_index (enclosed core w) x ≡ slice_index (inverse w) (slice_index core (slice_index w x))
+enclosed-at laws core w x hc hw lt =
+    product-at laws (followed_by w core) (inverse w) x (laws.products w core hw hc) lt ∙ ap (slice_index (inverse w)) (product-at laws w core x hw lt)
+
+around_permutes : PermutationLaws → (core : List ℕ) (ws : List (List ℕ)) → IsPermutation26 core → AllByRecursion IsPermutation26 ws → IsPermutation26 (around core ws)
+around_permutes laws core [] hc h = hc
+around_permutes laws core (w ∷ ws) hc h = around_permutes laws (enclosed core w) ws (enclosed_permutes laws core w hc h.0) h.1
+
+around-at : PermutationLaws → (core : List ℕ) (ws : List (List ℕ)) (x : ℕ) → IsPermutation26 core → AllByRecursion IsPermutation26 ws → x < 26
+    → slice_index (around core ws) x ≡ through (map inverse ws) (slice_index core (through (reverse ws) x))
+around-at laws core [] x hc h lt = refl
+around-at laws core (w ∷ ws) x hc h lt =
+    let y = through (reverse ws) x in
+    around-at laws (enclosed core w) ws x (enclosed_permutes laws core w hc h.0) h.1 lt
+    ∙ ap (through (map inverse ws)) (enclosed-at laws core w y hc h.0 (through_within (reverse ws) x (all_inward ws h.1) lt)
+    ∙ ap (λ z. slice_index (inverse w) (slice_index core z)) (sym (inward_cons w ws x)))
+
+around_last : (core : List ℕ) (ws : List (List ℕ)) (w : List ℕ) → around core (ws ++ w ∷ []) ≡ enclosed (around core ws) w
+around_last core [] w = refl
+around_last core (v ∷ ws) w = around_last (enclosed core v) ws w
+
+all_parts : (ps qs : List (List ℕ)) → AllByRecursion IsPermutation26 (ps ++ qs) → AllByRecursion IsPermutation26 ps × AllByRecursion IsPermutation26 qs
+all_parts [] qs h = (tt, h)
+all_parts (p ∷ ps) qs h = let rest = all_parts ps qs h.1 in ((h.0, rest.0), rest.1)
+
+path-size : (key : RotorKey) (window : List ℕ) → IsPlugboard key.plugs → length (path key window) ≡ 26
+unfolding path product followed_by
+path-size key window board = length-map key.plugs _ ∙ board.permutation.size
+
+-- the path is the way around through the slow wheels, enclosed by the right wheel with the plugboard beside it
+pub path_is_boarded : TablesAreSound → (key : RotorKey) (window : List ℕ) (ws : List (List ℕ)) (w : List ℕ) → IsPlugboard key.plugs
+    → rotors key.wheels key.rings window ≡ ws ++ w ∷ [] → boarded key.plugs (around (reflector_of key.reflector) ws) w ≡ path key window
+path_is_boarded sound key window ws w board parts =
+    let laws = sound.laws in
+    let plugs = key.plugs in
+    let reflector = reflector_of key.reflector in
+    let core = around reflector ws in
+    let turns = rotors_permute sound key.wheels key.rings window in
+    let turned_parts = all_parts ws (w ∷ []) (subst (AllByRecursion IsPermutation26) parts turns) in
+    let hw : IsPermutation26 w = turned_parts.1.0 in
+    let hc = around_permutes laws reflector ws (sound.reflector key.reflector) turned_parts.0 in
+    let h_in = laws.products plugs w board.permutation hw in
+    let h_around = laws.products (followed_by plugs w) core h_in hc in
+    let h_out = laws.products (inverse w) plugs (laws.inverses w hw) board.permutation in
+    let h_all = laws.products (followed_by (followed_by plugs w) core) (followed_by (inverse w) plugs) h_around h_out in
+    ext_get_or 0 (boarded plugs core w) (path key window) (h_all.size ∙ sym (path-size key window board)) (λ x in_left.
+    let lt : x < 26 = omega (arith, h_all.size) in
+    let p = slice_index plugs x in
+    let p_lt = board.permutation.each_once.within x lt in
+    product-at laws (followed_by (followed_by plugs w) core) (followed_by (inverse w) plugs) x h_around lt
+    ∙ product-at laws (inverse w) plugs (slice_index (followed_by (followed_by plugs w) core) x) (laws.inverses w hw) (h_around.each_once.within x lt)
+    ∙ ap (λ y. slice_index plugs (slice_index (inverse w) y)) (product-at laws (followed_by plugs w) core x h_in lt ∙ ap (slice_index core) (product-at laws plugs w x board.permutation lt))
+    ∙ ap (slice_index plugs) (sym (enclosed-at laws core w p hc hw p_lt)
+    ∙ ap (λ q. slice_index q p) (sym (around_last reflector ws w) ∙ ap (around reflector) (sym parts))
+    ∙ around-at laws reflector (rotors key.wheels key.rings window) p (sound.reflector key.reflector) turns p_lt)
+    ∙ sym (path-at sound key window x board lt))
 
 -- the plugboard and the reflector, letter by letter
 at_alphabet : (p : List ℕ) (P : ℕ → Type 0) → All P alphabet → (x : ℕ) → x < 26 → P x

@@ -1,6 +1,9 @@
 pub mod Plugs
 pub mod Rotor
 pub mod Cipher
+pub mod Map
+pub mod Around
 pub mod Seated
 pub mod Through
 pub mod Laws
+pub mod Wired

@@ -1,20 +1,14 @@
--- What a seated wheel keeps beside its tables, and what the published tables are.
+-- Wheels as they sit, and what the published tables are.
 use Rattle.std.specs.Prelude.{ℕ, List}
 use Rattle.kd_tables.specs.Laws.{WiringsArePermutations, ReflectorsArePermutations, ReflectorsLeadBack, ReflectorsMoveEachLetter}
 use Rattle.kd_tables.specs.Laws.{ProductsByLetter, InversesByLetter, ShiftsByLetter}
 use Rattle.kd_tables.specs.Laws.{ProductsArePermutations, InversesArePermutations, ShiftsArePermutations, ProductsBackwards, ShiftsBackwards}
-use Rattle.kd_tables.specs.Permutation.{inverse}
-use Rattle.kd_tables.specs.Tables.{wiring_of}
 use Rattle.kd_tables.specs.declared.wheel.Wheel.{Wheel}
 
 -- a wheel and its ring
 pub record SeatedWheel : Type 0 where
   pub wheel : Wheel
   pub ring : ℕ
-
--- what the letters become on the way back, with the wheel's A before A
-abbrev pub unwiring_of : Wheel → List ℕ
-unwiring_of wheel = inverse (wiring_of wheel)
 
 -- The laws of permutations: what a letter becomes by a product, an inverse and a shift, that these are permutations, and
 -- what undoes them.
@@ -35,3 +29,9 @@ pub record TablesAreSound : Type 0 where
   pub reflector : ReflectorsArePermutations
   pub own_inverse : ReflectorsLeadBack
   pub none_fixed : ReflectorsMoveEachLetter
+
+-- a wheel, its ring, and the plugboard beside it
+pub record BoardedWheel : Type 0 where
+  pub wheel : Wheel
+  pub ring : ℕ
+  pub plugs : List ℕ

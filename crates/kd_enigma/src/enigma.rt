@@ -1,11 +1,14 @@
-ghost use Rattle.std.specs.Prelude.{◌≡◌, ◌≤◌, ◌∷◌, [], length, map, reverse};
-ghost use Rattle.kd_tables.specs.Permutation.{inverse};
-ghost use Rattle.kd_enigma.specs.Cipher.{enigma_cipher, key_after, key_turned};
-ghost use Rattle.kd_enigma.specs.Through.{through, standing};
+ghost use Rattle.std.specs.Prelude.{◌≡◌, ◌≤◌, ◌-◌, ◌∷◌, [], length, map, slice_get, slice_index, Some};
+ghost use Rattle.kd_enigma.specs.Around.{around};
+ghost use Rattle.kd_enigma.specs.Cipher.{enigma_cipher, key_after, key_turned, path};
+ghost use Rattle.kd_enigma.specs.Through.{standing};
+ghost use Rattle.kd_enigma.specs.Wired.{seat_of, slow};
 
 use super::key::EnigmaKey;
 use super::laws::tables_are_sound;
+use super::map::Map;
 use super::plugs::Plugs;
+use super::right_wheel::RightWheel;
 use super::rotor::Rotor;
 use kd_step::Stepper;
 use kd_tables::{Letter, Reflector, Wheel, reflecting};
@@ -16,22 +19,23 @@ use std::marker::Model;
 pub struct Enigma<const S: usize> {
     stepper: Stepper<S>,
     rotors: [Rotor; S],
+    right: RightWheel,
     reflector: Reflector,
-    reflecting: [Letter; 26],
-    plugs: Plugs,
+    reflecting: Map,
+    inner: Map,
+    whole: Map,
 }
 
 impl<const S: usize> Model for Enigma<S> {
     ghost use Rattle.std.specs.Prelude.{◌≡◌, ◌≤◌, map};
-    ghost use Rattle.kd_tables.specs.Tables.{reflector_of};
     ghost use Rattle.kd_enigma.specs.Cipher.{RotorKey};
-    ghost use Rattle.kd_enigma.specs.Seated.{TablesAreSound};
+    ghost use Rattle.kd_enigma.specs.Wired.{IsWired, key_in};
 
     ghost Value = { RotorKey };
 
-    ghost view = { λ e. record { wheels = e.stepper.wheels; rings = map (λ r. r.ring) e.rotors; window = e.stepper.window; reflector = e.reflector; plugs = e.plugs } };
+    ghost view = { λ e. key_in e.stepper e.rotors e.reflector e.right };
 
-    ghost invariant = { λ e. (map (λ r. r.wheel) e.rotors ≡ e.stepper.wheels) × (e.reflecting ≡ reflector_of e.reflector) × TablesAreSound × (3 ≤ S) × (S ≤ 4) };
+    ghost invariant = { λ e. IsWired e.rotors e.right (key_in e.stepper e.rotors e.reflector e.right) e.reflecting e.inner e.whole × (3 ≤ S) × (S ≤ 4) };
 }
 
 impl<const S: usize> Enigma<S> {
@@ -42,16 +46,30 @@ impl<const S: usize> Enigma<S> {
         ensures { result ≡ key.entry }
     {
         tables_are_sound();
-        let mut rotors = [Rotor::new(key.wheels[0], key.rings[0]); S];
+        let EnigmaKey {
+            wheels,
+            rings,
+            window,
+            reflector,
+            plugs,
+        } = key;
+        plugs.exchanges();
+        let mut rotors = [Rotor::new(wheels[0], rings[0]); S];
         for slot in 0..S {
-            rotors[slot] = Rotor::new(key.wheels[slot], key.rings[slot]);
+            rotors[slot] = Rotor::new(wheels[slot], rings[slot]);
         }
+        let right = boarded(&rotors, plugs);
+        let reflecting = Map::of(&reflecting(reflector));
+        let inner = around_slow(&rotors, &window, reflecting);
+        let whole = right.enclosing(inner, window[S - 1]);
         Enigma {
-            stepper: Stepper::new(key.wheels, key.window),
+            stepper: Stepper::new(wheels, window),
             rotors,
-            reflector: key.reflector,
-            reflecting: reflecting(key.reflector),
-            plugs: key.plugs,
+            right,
+            reflector,
+            reflecting,
+            inner,
+            whole,
         }
     }
 
@@ -60,15 +78,8 @@ impl<const S: usize> Enigma<S> {
         ensures cipher { enigma_cipher self.old (letter ∷ []) ≡ result ∷ [] }
         ensures after { self.new ≡ key_after self.old 1 }
     {
-        prove!(letter.index() < 26);
-        self.plugs.exchanges();
-        self.stepper.step();
-        let window = self.stepper.window();
-        let letter = self.plugs.swap(letter);
-        let letter = inward(&self.rotors, &window, letter);
-        let letter = self.reflecting[letter.index()];
-        let letter = outward(&self.rotors, &window, letter);
-        self.plugs.swap(letter)
+        self.step();
+        self.light(letter)
     }
 
     /// Enciphers a text in its place, a key press for each letter.
@@ -85,7 +96,10 @@ impl<const S: usize> Enigma<S> {
     pub fn turn_to(&mut self, window: [Letter; S])
         ensures { self.new ≡ key_turned self.old window.entry }
     {
+        tables_are_sound();
         self.stepper = Stepper::new(wheels_of(&self.rotors), window);
+        self.inner = around_slow(&self.rotors, &window, self.reflecting);
+        self.whole = self.right.enclosing(self.inner, window[S - 1]);
     }
 
     /// The letters that show in the windows, from the left.
@@ -93,6 +107,32 @@ impl<const S: usize> Enigma<S> {
         ensures { result ≡ self.now.window }
     {
         self.stepper.window()
+    }
+
+    /// The wheels step. The way around through the slow wheels is another one only where the middle wheel has moved, since
+    /// that one moves with each wheel to its left.
+    fn step(&mut self)
+        ensures { self.new ≡ key_after self.old 1 }
+    {
+        tables_are_sound();
+        let before = self.stepper.window();
+        self.stepper.step();
+        let window = self.stepper.window();
+        let (stood, stands) = (before[S - 2].index(), window[S - 2].index());
+        self.inner = if stands == stood {
+            self.inner
+        } else {
+            around_slow(&self.rotors, &window, self.reflecting)
+        };
+        self.whole = self.right.enclosing(self.inner, window[S - 1]);
+    }
+
+    /// The letter that lights up for a letter while no wheel moves.
+    fn light(&self, letter: Letter) -> Letter
+        ensures { result ≡ slice_index (path self.now self.now.window) letter }
+    {
+        let Enigma { whole, .. } = self;
+        whole.at(letter)
     }
 }
 
@@ -108,26 +148,32 @@ fn wheels_of<const S: usize>(rotors: &[Rotor; S]) -> [Wheel; S]
     wheels
 }
 
-/// What the wheels make of a letter on the way in, from right to left.
-fn inward(rotors: &[Rotor], window: &[Letter], letter: Letter) -> Letter
-    requires { length rotors.now ≡ length window.now }
-    ensures { result ≡ through (reverse (standing rotors.now window.now)) letter }
+/// The right wheel with the plugboard beside it.
+fn boarded(rotors: &[Rotor], plugs: Plugs) -> RightWheel
+    requires { 1 ≤ length rotors.now }
+    ensures board { result.plugs ≡ plugs }
+    ensures last { slice_get rotors.now (length rotors.now - 1) ≡ Some (seat_of result) }
 {
-    let mut letter = letter;
-    for slot in (0..rotors.len()).rev() {
-        letter = rotors[slot].inward(window[slot], letter);
-    }
-    letter
+    RightWheel::new(&rotors[rotors.len() - 1], plugs)
 }
 
-/// What the wheels make of a letter on the way back, from left to right.
-fn outward(rotors: &[Rotor], window: &[Letter], letter: Letter) -> Letter
-    requires { length rotors.now ≡ length window.now }
-    ensures { result ≡ through (map inverse (standing rotors.now window.now)) letter }
+/// The way around through all wheels but the right one, and the reflector.
+fn around_slow<const S: usize>(rotors: &[Rotor; S], window: &[Letter; S], reflecting: Map) -> Map
+    requires { 1 ≤ S }
+    ensures { result ≡ around reflecting (standing (slow rotors.now) (slow window.now)) }
 {
-    let mut letter = letter;
+    let (rotors, window) = (&rotors[..], &window[..]);
+    around(&rotors[..S - 1], &window[..S - 1], reflecting)
+}
+
+/// The way around through wheels, from the left, and what lies behind them.
+fn around(rotors: &[Rotor], window: &[Letter], core: Map) -> Map
+    requires { length rotors.now ≡ length window.now }
+    ensures { result ≡ around core (standing rotors.now window.now) }
+{
+    let mut core = core;
     for slot in 0..rotors.len() {
-        letter = rotors[slot].outward(window[slot], letter);
+        core = rotors[slot].enclosing(core, window[slot]);
     }
-    letter
+    core
 }

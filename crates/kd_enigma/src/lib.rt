@@ -4,7 +4,9 @@
 mod enigma;
 mod key;
 pub mod laws;
+mod map;
 mod plugs;
+mod right_wheel;
 mod rotor;
 #[cfg(test)]
 mod tests;

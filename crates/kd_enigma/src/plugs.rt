@@ -3,6 +3,7 @@ ghost use Rattle.kd_tables.specs.Permutation.{alphabet, exchange};
 ghost use Rattle.kd_enigma.specs.Cipher.{IsPlugboard};
 ghost use Rattle.kd_enigma.specs.Plugs.{IsLeft, NoLetterTwice};
 
+use super::map::Map;
 use kd_tables::Letter;
 use std::marker::Model;
 use thiserror::Error;
@@ -52,6 +53,13 @@ impl Plugs {
         ensures within { result < 26 }
     {
         self.table[letter.index()]
+    }
+
+    /// What each letter is exchanged for.
+    pub(crate) fn map(self) -> Map
+        ensures { result ≡ self }
+    {
+        Map::of(&self.table)
     }
 
     /// The board exchanges letters.

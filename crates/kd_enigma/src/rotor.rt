@@ -1,32 +1,34 @@
-ghost use Rattle.std.specs.Prelude.{◌≡◌, ◌<◌, slice_index};
-ghost use Rattle.kd_tables.specs.Permutation.{inverse, IsPermutation26};
-ghost use Rattle.kd_enigma.specs.Rotor.{rotor, turned};
+ghost use Rattle.std.specs.Prelude.{◌≡◌};
+ghost use Rattle.kd_tables.specs.Permutation.{inverse};
+ghost use Rattle.kd_enigma.specs.Around.{enclosed};
+ghost use Rattle.kd_enigma.specs.Rotor.{rotor};
 
-use super::laws::{permutations_obey_laws, tables_are_sound};
+use super::laws::tables_are_sound;
+use super::map::Map;
 use kd_tables::{Letter, Wheel, unwiring, wiring};
 use std::marker::Model;
 
-/// A wheel with its ring, and the tables of its two ways.
+/// A wheel with its ring, and its two ways for each letter in its window.
 #[derive(Clone, Copy, Debug)]
 pub(crate) struct Rotor {
     wheel: Wheel,
     ring: Letter,
-    inward: [Letter; 26],
-    outward: [Letter; 26],
+    inward: [Map; 26],
+    outward: [Map; 26],
 }
 
 impl Model for Rotor {
-    ghost use Rattle.kd_enigma.specs.Seated.{SeatedWheel, TablesAreSound, unwiring_of};
     ghost use Rattle.std.specs.Prelude.{◌≡◌};
-    ghost use Rattle.kd_tables.specs.Tables.{wiring_of};
+    ghost use Rattle.kd_enigma.specs.Around.{inward_of, outward_of};
+    ghost use Rattle.kd_enigma.specs.Seated.{SeatedWheel};
 
     ghost Value = { SeatedWheel };
 
     ghost view = { λ r. record { wheel = r.wheel; ring = r.ring } };
 
-    ghost invariant = { λ r. (r.inward ≡ wiring_of r.wheel) × (r.outward ≡ unwiring_of r.wheel) × TablesAreSound };
+    ghost invariant = { λ r. (r.inward ≡ inward_of r.wheel r.ring) × (r.outward ≡ outward_of r.wheel r.ring) };
 
-    ghost inverse = { λ s. record { wheel = s.wheel; ring = s.ring; inward = wiring_of s.wheel; outward = unwiring_of s.wheel } };
+    ghost inverse = { λ s. record { wheel = s.wheel; ring = s.ring; inward = inward_of s.wheel s.ring; outward = outward_of s.wheel s.ring } };
 }
 
 impl Rotor {
@@ -34,11 +36,19 @@ impl Rotor {
         ensures { result ≡ record { wheel = wheel; ring = ring } }
     {
         tables_are_sound();
+        let (there, back) = (Map::of(&wiring(wheel)), Map::of(&unwiring(wheel)));
+        let (mut inward, mut outward) = ([there; 26], [back; 26]);
+        for window in 0..26 {
+            let by = Letter::new(window).unwrap().back(ring).index() as u8;
+            let (on, off) = (Map::shift(by), Map::shift(26 - by));
+            inward[usize::from(window)] = on.then(there).then(off);
+            outward[usize::from(window)] = on.then(back).then(off);
+        }
         Rotor {
             wheel,
             ring,
-            inward: wiring(wheel),
-            outward: unwiring(wheel),
+            inward,
+            outward,
         }
     }
 
@@ -49,27 +59,31 @@ impl Rotor {
         self.wheel
     }
 
-    /// What the wheel makes of a letter on the way in, while the other letter shows in its window.
-    pub(crate) fn inward(&self, window: Letter, letter: Letter) -> Letter
-        ensures { result ≡ slice_index (rotor self.now.wheel self.now.ring window) letter }
+    /// The letter of the ring.
+    pub(crate) fn ring(&self) -> Letter
+        ensures { result ≡ self.now.ring }
     {
-        lead(&self.inward, window.back(self.ring), letter)
+        self.ring
     }
 
-    /// What the wheel makes of a letter on the way back.
-    pub(crate) fn outward(&self, window: Letter, letter: Letter) -> Letter
-        ensures { result ≡ slice_index (inverse (rotor self.now.wheel self.now.ring window)) letter }
+    /// What the wheel makes of the letters on the way in, while this letter shows in its window.
+    pub(crate) fn inward(&self, window: Letter) -> Map
+        ensures { result ≡ rotor self.now.wheel self.now.ring window }
     {
-        lead(&self.outward, window.back(self.ring), letter)
+        self.inward[window.index()]
     }
-}
 
-/// What a table makes of a letter when it is turned on by so many letters.
-fn lead(table: &[Letter; 26], by: Letter, letter: Letter) -> Letter
-    requires { IsPermutation26 table.now }
-    ensures { result ≡ slice_index (turned by table.now) letter }
-{
-    permutations_obey_laws();
-    prove!(letter.index() < 26);
-    table[letter.forward(by).index()].back(by)
+    /// What the wheel makes of the letters on the way back.
+    pub(crate) fn outward(&self, window: Letter) -> Map
+        ensures { result ≡ inverse (rotor self.now.wheel self.now.ring window) }
+    {
+        self.outward[window.index()]
+    }
+
+    /// In through the wheel, around, and back through the wheel.
+    pub(crate) fn enclosing(&self, core: Map, window: Letter) -> Map
+        ensures { result ≡ enclosed core (rotor self.now.wheel self.now.ring window) }
+    {
+        self.inward(window).then(core).then(self.outward(window))
+    }
 }

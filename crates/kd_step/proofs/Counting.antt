@@ -87,7 +87,7 @@ pub right_moves : (count : ℕ) → 1 ≤ count → true ≡ nat_lt 0 count
 right_moves count some = grind (arith, nat_tests)
 
 -- the letter at a slot that moves with the last so many, and at one that does not
-moved_there : (count : ℕ) (window : List ℕ) (slot : ℕ) → count ≤ length window → length window - count ≤ slot → slot < length window
+pub moved_there : (count : ℕ) (window : List ℕ) (slot : ℕ) → count ≤ length window → length window - count ≤ slot → slot < length window
     → slice_index (moved count window) slot ≡ next_letter (slice_index window slot)
 moved_there count window slot fits from within =
     let front = length window - count in

@@ -1,12 +1,24 @@
-use Rattle.std.proofs.Common.{ℕ, ◌||◌, Bool, ◌≤◌, length, count_by, ap, ◌∙◌, arith}
-use Rattle.std.proofs.lemmas.List.{take_all}
+use Rattle.std.proofs.Common.{◌||◌, ℕ, ap, ◌∙◌, arith}
+use Rattle.std.proofs.lemmas.List.Sums.{count_by-le-length}
 use Rattle.kd_drum.specs.Converter.{PinKey, acts_after}
+use Rattle.kd_drum.specs.Counts.{is_in, met_by}
+use Rattle.kd_drum.proofs.Starts.{count_alike}
 use Rattle.kd_drum.proofs.converter.Converter.met.Goals as goal
 
 pub returns-clause-value : goal.returns-clause-value
 returns-clause-value c =
-    let rows = c.self.inside.rows in
+    let inside = c.self.inside in
     let key = c.args.self.now in
-    let is_met : ℕ × ℕ → Bool = λ row. acts_after key 0 row.0 || acts_after key 0 row.1 in
-    let all_seen : length rows ≤ c.loop-row.row-index = omega (arith, c.self.invariant.1) in
-    c.loop-row.invariant ∙ ap (count_by is_met) (take_all c.loop-row.row-index rows all_seen) ∙ ap (λ (k : PinKey). count_by is_met k.rows) c.self.view_is
+    let wheels = c.acting.result in
+    let acts = c.acting.ensures.each in
+    c.self.invariant.1.each wheels c.acting.ensures.set
+    ∙ ap (λ (k : PinKey). met_by k.rows wheels) c.self.view_is
+    ∙ count_alike (λ (row : ℕ × ℕ). is_in wheels row.0 || is_in wheels row.1) (λ (row : ℕ × ℕ). acts_after key 0 row.0 || acts_after key 0 row.1) key.rows
+    (λ row. ap (λ b. b || is_in wheels row.1) (acts row.0) ∙ ap (λ b. acts_after key 0 row.0 || b) (acts row.1))
+
+pub returns-clause-most : goal.returns-clause-most
+returns-clause-most c =
+    let inside = c.self.inside in
+    let wheels = c.acting.result in
+    let met : ℕ × ℕ → _ = λ row. is_in wheels row.0 || is_in wheels row.1 in
+    omega (arith, c.self.invariant.1.bars, c.self.invariant.1.each wheels c.acting.ensures.set, count_by-le-length met inside.rows)

@@ -1,36 +1,33 @@
-use Rattle.std.proofs.Common.{◌∙◌, ℕ, List, sym, ap, map, arith, rules, length-set}
-use Rattle.kd_tables.specs.declared.wheel.Wheel.TheVariants.{I}
+use Rattle.std.proofs.Common.{◌∙◌, ℕ, List, sym, ap, map, subst, arith, rules}
 use Rattle.kd_step.specs.Stepper.{Stepping}
-use Rattle.kd_enigma.specs.Cipher.{RotorKey}
+use Rattle.kd_enigma.specs.Cipher.{RotorKey, IsPlugboard}
 use Rattle.kd_enigma.specs.Seated.{SeatedWheel}
-use Rattle.kd_enigma.proofs.Seats.{seen_more, seen_all}
+use Rattle.kd_enigma.specs.Wired.{IsWired, key_in}
+use Rattle.kd_enigma.proofs.Seats.{seen_all}
+use Rattle.kd_enigma.proofs.Wiring.{path_made}
 use Rattle.kd_enigma.proofs.enigma.Enigma.new.Goals as goal
 
-pub loop-slot-preserved : goal.loop-slot-preserved
-loop-slot-preserved g c =
-    let key = c.key.inside in
-    let slot = c.loop-slot.slot in
-    record {
-      size = length-set c.loop-slot.rotors slot c.new.result ∙ c.loop-slot.invariant.size;
-      wheels = seen_more (λ (s : SeatedWheel). s.wheel) c.loop-slot.rotors key.wheels slot c.new.result I (omega arith) (search rules) (ap (λ (s : SeatedWheel). s.wheel) c.new.ensures) c.loop-slot.invariant.wheels;
-      rings = seen_more (λ (s : SeatedWheel). s.ring) c.loop-slot.rotors key.rings slot c.new.result c.index-key-slot.result (omega arith) (search rules) (ap (λ (s : SeatedWheel). s.ring) c.new.ensures) c.loop-slot.invariant.rings;
-    }
-
 pub invariant_of-result : goal.invariant_of-result
-invariant_of-result g c = (
-  seen_all (λ (s : SeatedWheel). s.wheel) c.loop-slot.rotors c.key.inside.wheels c.loop-slot.slot (omega arith) (search rules) c.loop-slot.invariant.wheels
-      ∙ sym (ap (λ (s : Stepping). s.wheels) c.new-2.ensures),
-  c.reflecting.ensures.table,
-  c.tables_are_sound.ensures,
-  c.requires.least,
-  c.requires.most,
-)
+invariant_of-result g c =
+    let key = c.key.inside in
+    let right = c.boarded-right.result in
+    let inner = c.around_slow-inner.result in
+    let whole = c.enclosing-whole.result in (
+      subst (λ (s : Stepping). IsWired c.loop-slot.rotors right (key_in s c.loop-slot.rotors key.reflector right) c.of-reflecting.result inner whole) (sym c.new-2.ensures)
+          (path_made c.tables_are_sound.ensures key.wheels key.window c.loop-slot.rotors key.reflector right c.of-reflecting.result inner whole g.row.S c.index-window.result
+          (seen_all (λ (s : SeatedWheel). s.wheel) c.loop-slot.rotors key.wheels c.loop-slot.slot (omega arith) (search rules) c.loop-slot.invariant.wheels)
+          c.boarded-right.ensures.last (subst IsPlugboard (sym c.boarded-right.ensures.board) c.exchanges.ensures) (c.of-reflecting.ensures ∙ c.reflecting.ensures.table)
+          c.around_slow-inner.ensures c.loop-slot.invariant.size (search rules) (omega (arith, c.requires.least)) c.enclosing-whole.ensures),
+      c.requires.least,
+      c.requires.most,
+    )
 
 pub returns : goal.returns
 returns g c =
     let key = c.key.inside in
-    let made : Stepping → List ℕ → RotorKey = λ s rings. record { wheels = s.wheels; rings = rings; window = s.window; reflector = key.reflector; plugs = key.plugs } in
-    ap (λ s. made s (map (λ (t : SeatedWheel). t.ring) c.loop-slot.rotors)) c.new-2.ensures
-    ∙ ap (made (record { wheels = key.wheels; window = key.window }))
+    let made : Stepping → List ℕ → List ℕ → RotorKey = λ s rings plugs. record { wheels = s.wheels; rings = rings; window = s.window; reflector = key.reflector; plugs = plugs } in
+    ap (λ s. made s (map (λ (t : SeatedWheel). t.ring) c.loop-slot.rotors) c.boarded-right.result.plugs) c.new-2.ensures
+    ∙ ap (made (record { wheels = key.wheels; window = key.window }) (map (λ (t : SeatedWheel). t.ring) c.loop-slot.rotors)) c.boarded-right.ensures.board
+    ∙ ap (λ rings. made (record { wheels = key.wheels; window = key.window }) rings key.plugs)
     (seen_all (λ (s : SeatedWheel). s.ring) c.loop-slot.rotors key.rings c.loop-slot.slot (omega arith) (search rules) c.loop-slot.invariant.rings)
     ∙ c.key.view_is

@@ -5,6 +5,6 @@ use Rattle.kd_enigma.proofs.enigma.Enigma.new.Given as goal
 abbrev pub invariant-loop-slot : goal.invariant-loop-slot
 invariant-loop-slot g l = record {
   size : length l.rotors ≡ g.row.S;
-  wheels : map (λ (s : SeatedWheel). s.wheel) (take l.slot l.rotors) ≡ take l.slot l.key-inside.wheels;
-  rings : map (λ (s : SeatedWheel). s.ring) (take l.slot l.rotors) ≡ take l.slot l.key-inside.rings;
+  wheels : map (λ (s : SeatedWheel). s.wheel) (take l.slot l.rotors) ≡ take l.slot l.wheels;
+  rings : map (λ (s : SeatedWheel). s.ring) (take l.slot l.rotors) ≡ take l.slot l.rings;
 }
