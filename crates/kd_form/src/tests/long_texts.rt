@@ -1,4 +1,4 @@
-use super::samples::{KEYS, Keyed, keyed, order_of, without_pins};
+use super::samples::{KEYS, Keyed, M1, keyed, order_of, without_pins};
 use crate::{FormFault, receive, send};
 use std::test::Fail;
 
@@ -27,7 +27,7 @@ fn is_given(text: &[u8], letters: usize, end: &[u8]) -> bool {
 
 #[test]
 fn a_long_text_takes_two_parts(rt: HostRuntime) -> Result<(), Fail> {
-    let keyed = keyed(&rt);
+    let keyed = keyed(&rt, &M1);
     let form = form_of(&rt, &keyed, KEYS, 2, 246)?;
     let first = b"PART 1/2 250 AAA BDZ\nQXUGZ BDZGO ";
     let last = b"\nPART 2/2 6 AAA BDZ\nQXUGZ B\n";
@@ -47,7 +47,7 @@ fn a_long_text_takes_two_parts(rt: HostRuntime) -> Result<(), Fail> {
 
 #[test]
 fn parts_are_missing_or_exchanged(rt: HostRuntime) -> Result<(), Fail> {
-    let keyed = keyed(&rt);
+    let keyed = keyed(&rt, &M1);
     let (machine, day) = &keyed;
     let form = form_of(&rt, &keyed, KEYS, 2, 246)?;
     let second = b"PART 2/2 6 AAA BDZ\nQXUGZ B\n";
@@ -67,7 +67,7 @@ fn parts_are_missing_or_exchanged(rt: HostRuntime) -> Result<(), Fail> {
 
 #[test]
 fn a_form_of_99_parts(rt: HostRuntime) -> Result<(), Fail> {
-    let keyed = keyed(&rt);
+    let keyed = keyed(&rt, &M1);
     let form = form_of(&rt, &keyed, KEYS, 99, 24011)?;
     let last = b"\nPART 99/99 6 AAA BDZ\nQXUGZ B\n";
     assert!(rt; form.as_slice().ends_with(last));
@@ -80,7 +80,12 @@ fn a_form_of_99_parts(rt: HostRuntime) -> Result<(), Fail> {
 #[test]
 fn parts_that_are_full(rt: HostRuntime) -> Result<(), Fail> {
     for (keyed, keys, letters, heading) in [
-        (keyed(&rt), KEYS, 245, b"PART 1/1 250 AAA BDZ\n".as_slice()),
+        (
+            keyed(&rt, &M1),
+            KEYS,
+            245,
+            b"PART 1/1 250 AAA BDZ\n".as_slice(),
+        ),
         (without_pins(&rt), PIN_KEYS, 500, b"PART 1/1 520\n"),
     ] {
         let form = form_of(&rt, &keyed, keys, 1, letters)?;
@@ -94,7 +99,7 @@ fn parts_that_are_full(rt: HostRuntime) -> Result<(), Fail> {
 
 #[test]
 fn another_number_of_parts(rt: HostRuntime) -> Result<(), Fail> {
-    let (machine, day) = keyed(&rt);
+    let (machine, day) = keyed(&rt, &M1);
     for (lines, letters, due) in [
         (1, 245, None),
         (1, 246, Some((2, 1))),

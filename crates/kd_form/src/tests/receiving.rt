@@ -1,5 +1,6 @@
 use super::samples::{
-    Keyed, keyed, m1, m4, m4_of_1942, message_of_1941, s1, unready, with_one_pin, without_pins,
+    Keyed, M1, M1_OF_1941, M1_OFF_KEY, M1_UNREADY, M1_WITH_ANOTHER_GROUP, M4, M4_OF_1942, keyed,
+    with_one_pin, without_pins,
 };
 use crate::{FormFault, receive};
 use std::alloc::Global;
@@ -37,7 +38,7 @@ fn becomes(
 }
 
 /// Forms of five letters A.
-const ALIKE: [&[u8]; 7] = [
+static ALIKE: [&[u8]; 7] = [
     b"PART 1/1 10 AAA BDZ\nQXUGZ BDZGO\n",
     b"PART 1/1 10 AAA BDZ\nQXUGZ BDZGO",
     b"PART 1/1 10 AAA BDZ\r\nQXUGZ BDZGO\r\n",
@@ -49,8 +50,8 @@ const ALIKE: [&[u8]; 7] = [
 
 #[test]
 fn a_form_becomes_its_text(rt: HostRuntime) -> Result<(), FormFault> {
-    let keyed = keyed(&rt);
-    for form in ALIKE {
+    let keyed = keyed(&rt, &M1);
+    for form in &ALIKE {
         becomes(&rt, rt.alloc(), &keyed, form, b"AAAAA\n")?;
     }
     Ok(())
@@ -59,12 +60,12 @@ fn a_form_becomes_its_text(rt: HostRuntime) -> Result<(), FormFault> {
 #[test]
 fn a_form_of_four_wheels_becomes_its_text(rt: HostRuntime) -> Result<(), FormFault> {
     let form = b"PART 1/1 10 AAAA BDZG\nQXUGZ BDZGO\n";
-    becomes(&rt, rt.alloc(), &m4(&rt), form, b"AAAAA\n")
+    becomes(&rt, rt.alloc(), &keyed(&rt, &M4), form, b"AAAAA\n")
 }
 
 #[test]
 fn a_message_of_1941(rt: HostRuntime) -> Result<(), Fail> {
-    let keyed = message_of_1941(&rt, b"UGZ");
+    let keyed = keyed(&rt, &M1_OF_1941);
     let given = text(&rt, &keyed, MESSAGE)?;
     assert!(rt; given.as_slice().starts_with(b"AUFKLXABTEILUNG"));
     assert_eq!(rt; given.len(), 175);
@@ -78,7 +79,7 @@ fn a_message_of_1941(rt: HostRuntime) -> Result<(), Fail> {
 /// Up to its heading's end a message has no heading, and then too few letters.
 #[test]
 fn a_message_that_breaks_off(rt: HostRuntime) {
-    let keyed = message_of_1941(&rt, b"UGZ");
+    let keyed = keyed(&rt, &M1_OF_1941);
     for cut in 0..MESSAGE.len() - 1 {
         let due = if cut < 20 {
             FormFault::BadHeading(1)
@@ -91,19 +92,25 @@ fn a_message_that_breaks_off(rt: HostRuntime) {
 
 #[test]
 fn a_message_of_another_day(rt: HostRuntime) {
-    let keyed = message_of_1941(&rt, b"ABC");
+    let keyed = keyed(&rt, &M1_WITH_ANOTHER_GROUP);
     assert_eq!(rt; fault(&rt, &keyed, MESSAGE), Some(FormFault::WrongGroup(1)));
 }
 
 #[test]
 fn a_message_of_1942(rt: HostRuntime) -> Result<(), FormFault> {
     let form = b"PART 1/1 13 VJNA NGZS\nQXUGZ NCZWV USX\n";
-    becomes(&rt, rt.alloc(), &m4_of_1942(&rt), form, b"VONVONJL\n")
+    becomes(
+        &rt,
+        rt.alloc(),
+        &keyed(&rt, &M4_OF_1942),
+        form,
+        b"VONVONJL\n",
+    )
 }
 
 #[test]
 fn a_message_with_another_count(rt: HostRuntime) -> Result<(), Fail> {
-    let keyed = message_of_1941(&rt, b"UGZ");
+    let keyed = keyed(&rt, &M1_OF_1941);
     for heading in [b"PART 1/1 178 WXC KCH".as_slice(), b"PART 1/1 180 WXC KCH"] {
         let mut form = Vec::new(rt.alloc());
         form.extend_from_slice(heading)?;
@@ -135,7 +142,7 @@ fn a_form_with_one_pin_becomes_its_text(rt: HostRuntime) -> Result<(), FormFault
 }
 
 /// Forms on a Converter without pins, each with its fault.
-const REFUSED_ON_THE_CONVERTER: [(&[u8], FormFault); 9] = [
+static REFUSED_ON_THE_CONVERTER: [(&[u8], FormFault); 9] = [
     (
         b"PART 1/1 20\nTTABC DEFQV TTABC DEFQV",
         FormFault::BadHeading(1),
@@ -174,13 +181,13 @@ const REFUSED_ON_THE_CONVERTER: [(&[u8], FormFault); 9] = [
 #[test]
 fn forms_of_the_converter_are_refused_in_turn(rt: HostRuntime) {
     let keyed = without_pins(&rt);
-    for (form, due) in REFUSED_ON_THE_CONVERTER {
-        assert_eq!(rt; fault(&rt, &keyed, form), Some(due));
+    for (form, due) in &REFUSED_ON_THE_CONVERTER {
+        assert_eq!(rt; fault(&rt, &keyed, form), Some(*due));
     }
 }
 
 /// Forms with the letters of the list exchanged.
-const EXCHANGED: [(&[u8], FormFault); 2] = [
+static EXCHANGED: [(&[u8], FormFault); 2] = [
     (
         b"PART 1/1 25\nJJVAA AAAQV ZZZZZ JJVAA AAAQW\n",
         FormFault::IndicatorsDiffer(1),
@@ -194,13 +201,13 @@ const EXCHANGED: [(&[u8], FormFault); 2] = [
 #[test]
 fn letters_of_the_list_are_exchanged(rt: HostRuntime) {
     let keyed = with_one_pin(&rt);
-    for (form, due) in EXCHANGED {
-        assert_eq!(rt; fault(&rt, &keyed, form), Some(due));
+    for (form, due) in &EXCHANGED {
+        assert_eq!(rt; fault(&rt, &keyed, form), Some(*due));
     }
 }
 
 /// Forms on an Enigma I, each with its fault.
-const REFUSED: [(&[u8], FormFault); 27] = [
+static REFUSED: [(&[u8], FormFault); 27] = [
     (b"", FormFault::BadHeading(1)),
     (b"\nPART 1/1 6 AAA BDZ\nQXUGZ B", FormFault::BadHeading(1)),
     (b"PART 1/1 6 AAA BDZ\r", FormFault::BadHeading(1)),
@@ -253,16 +260,18 @@ const REFUSED: [(&[u8], FormFault); 27] = [
 
 #[test]
 fn forms_are_refused_in_turn(rt: HostRuntime) {
-    let keyed = keyed(&rt);
-    for (form, due) in REFUSED {
-        assert_eq!(rt; fault(&rt, &keyed, form), Some(due));
+    let keyed = keyed(&rt, &M1);
+    for (form, due) in &REFUSED {
+        assert_eq!(rt; fault(&rt, &keyed, form), Some(*due));
     }
 }
 
 #[test]
 fn a_machine_off_the_key_receives_nothing(rt: HostRuntime) {
-    let keyed = (m1(&rt, b"BAAAA", b"AAAAA"), s1(&rt, b"ZUG"));
-    assert_eq!(rt; fault(&rt, &keyed, b""), Some(FormFault::NotOnKey));
-    let keyed = (unready(&rt), s1(&rt, b"ZUG"));
-    assert_eq!(rt; fault(&rt, &keyed, b""), Some(FormFault::NotReady));
+    for (told, due) in [
+        (&M1_OFF_KEY, FormFault::NotOnKey),
+        (&M1_UNREADY, FormFault::NotReady),
+    ] {
+        assert!(rt; fault(&rt, &keyed(&rt, told), b"") == Some(due));
+    }
 }

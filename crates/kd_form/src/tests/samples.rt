@@ -1,17 +1,200 @@
-//! Machines and days for the tests.
+//! Machines and days for the tests. A byte that is no capital letter stands for no letter.
 use kd_pins::PinSet;
 use kd_state::{Machine, PerSlot, PerWheel, PinParts, RotorParts, SheetDay, SheetWheel};
 use kd_tables::{Letter, Model, Place, Reading, Reflector, Standing, Wheel};
 use std::process::Abort;
 use std::test::Fail;
 
+/// The parts of an Enigma, of which the cables at the end are empty.
+#[derive(Drop)]
+pub struct Enigma {
+    pub model: Model,
+    pub slots: &'static [Option<Wheel>],
+    pub reflector: Reflector,
+    pub rings: &'static [u8],
+    pub letters: &'static [u8],
+    pub cables: &'static [[u8; 2]],
+}
+
+/// A day of an Enigma: the wheels with their rings and window letters, the pairs, and one group.
+#[derive(Drop)]
+pub struct EnigmaDay {
+    pub number: u8,
+    pub model: Model,
+    pub reflector: Reflector,
+    pub wheels: &'static [(Wheel, u8, u8)],
+    pub pairs: &'static [[u8; 2]],
+    pub group: [u8; 3],
+}
+
+/// A machine and a day, as they are told. Those of the tests are static: they stand at one place, and no test copies them.
+pub type Told = (Enigma, EnigmaDay);
+
+/// An Enigma I with reflector B, the wheels I, II and III in the slots, no cables, and all rings and letters A.
+const PLAIN: Enigma = Enigma {
+    model: Model::EnigmaI,
+    slots: &[Some(Wheel::I), Some(Wheel::II), Some(Wheel::III)],
+    reflector: Reflector::B,
+    rings: b"AAAAA",
+    letters: b"AAAAA",
+    cables: &[],
+};
+
+/// The day of that machine, with the group ZUG.
+const PLAIN_DAY: EnigmaDay = EnigmaDay {
+    number: 17,
+    model: Model::EnigmaI,
+    reflector: Reflector::B,
+    wheels: &[
+        (Wheel::I, b'A', b'A'),
+        (Wheel::II, b'A', b'A'),
+        (Wheel::III, b'A', b'A'),
+    ],
+    pairs: &[],
+    group: *b"ZUG",
+};
+
+/// That machine on its day.
+pub static M1: Told = (PLAIN, PLAIN_DAY);
+
+/// The same machine with other letters in its windows.
+pub static M1_TURNED: Told = (
+    Enigma {
+        letters: b"QRSAA",
+        ..PLAIN
+    },
+    PLAIN_DAY,
+);
+
+/// The same machine with another ring.
+pub static M1_OFF_KEY: Told = (
+    Enigma {
+        rings: b"BAAAA",
+        ..PLAIN
+    },
+    PLAIN_DAY,
+);
+
+/// The same machine with one end of a cable plugged.
+pub static M1_UNREADY: Told = (
+    Enigma {
+        cables: &[*b"A "],
+        ..PLAIN
+    },
+    PLAIN_DAY,
+);
+
+/// An M4 with thin reflector b, the wheels Beta, I, II and III, no cables, and all rings and letters A, on its day.
+pub static M4: Told = (
+    Enigma {
+        model: Model::M4,
+        slots: &[
+            Some(Wheel::Beta),
+            Some(Wheel::I),
+            Some(Wheel::II),
+            Some(Wheel::III),
+        ],
+        reflector: Reflector::ThinB,
+        rings: b"AAAAAAAAAA",
+        letters: b"AAAAAAAAAA",
+        cables: &[],
+    },
+    EnigmaDay {
+        number: 15,
+        model: Model::M4,
+        reflector: Reflector::ThinB,
+        wheels: &[
+            (Wheel::Beta, b'A', b'A'),
+            (Wheel::I, b'A', b'A'),
+            (Wheel::II, b'A', b'A'),
+            (Wheel::III, b'A', b'A'),
+        ],
+        pairs: &[],
+        group: *b"ZUG",
+    },
+);
+
+/// An Enigma I on the key of a message of 1941.
+const OF_1941: Enigma = Enigma {
+    model: Model::EnigmaI,
+    slots: &[Some(Wheel::II), Some(Wheel::IV), Some(Wheel::V)],
+    reflector: Reflector::B,
+    rings: b"ABAUL",
+    letters: b"ABALA",
+    cables: &[
+        *b"AV", *b"BS", *b"CG", *b"DL", *b"FU", *b"HZ", *b"IN", *b"KM", *b"OW", *b"RX",
+    ],
+};
+
+/// The day of that machine, with the group UGZ.
+const DAY_OF_1941: EnigmaDay = EnigmaDay {
+    number: 14,
+    model: Model::EnigmaI,
+    reflector: Reflector::B,
+    wheels: &[
+        (Wheel::II, b'B', b'B'),
+        (Wheel::IV, b'U', b'L'),
+        (Wheel::V, b'L', b'A'),
+    ],
+    pairs: &[
+        *b"AV", *b"BS", *b"CG", *b"DL", *b"FU", *b"HZ", *b"IN", *b"KM", *b"OW", *b"RX",
+    ],
+    group: *b"UGZ",
+};
+
+/// That machine on its day.
+pub static M1_OF_1941: Told = (OF_1941, DAY_OF_1941);
+
+/// That machine on a day with another group.
+pub static M1_WITH_ANOTHER_GROUP: Told = (
+    OF_1941,
+    EnigmaDay {
+        group: *b"ABC",
+        ..DAY_OF_1941
+    },
+);
+
+/// An M4 on the key of a message of 1942, with its day, which has the group UGZ.
+pub static M4_OF_1942: Told = (
+    Enigma {
+        model: Model::M4,
+        slots: &[
+            Some(Wheel::Beta),
+            Some(Wheel::II),
+            Some(Wheel::IV),
+            Some(Wheel::I),
+        ],
+        reflector: Reflector::ThinB,
+        rings: b"VAAAAAAAAA",
+        letters: b"AJANAAAAVA",
+        cables: &[
+            *b"AT", *b"BL", *b"DF", *b"GJ", *b"HM", *b"NW", *b"OP", *b"QY", *b"RZ", *b"VX",
+        ],
+    },
+    EnigmaDay {
+        number: 5,
+        model: Model::M4,
+        reflector: Reflector::ThinB,
+        wheels: &[
+            (Wheel::Beta, b'A', b'V'),
+            (Wheel::II, b'A', b'J'),
+            (Wheel::IV, b'A', b'N'),
+            (Wheel::I, b'V', b'A'),
+        ],
+        pairs: &[
+            *b"AT", *b"BL", *b"DF", *b"GJ", *b"HM", *b"NW", *b"OP", *b"QY", *b"RZ", *b"VX",
+        ],
+        group: *b"UGZ",
+    },
+);
+
 /// The letter of that capital letter.
-pub fn letter(rt: &impl Abort, byte: u8) -> Letter {
+fn letter(rt: &impl Abort, byte: u8) -> Letter {
     Letter::from_byte(byte).expect(rt, "a capital letter")
 }
 
 /// The letters of a text of capital letters.
-pub fn letters<const N: usize>(rt: &impl Abort, text: &[u8; N]) -> [Letter; N] {
+fn letters<const N: usize>(rt: &impl Abort, text: &[u8; N]) -> [Letter; N] {
     let mut letters = [Letter::A; N];
     for (place, byte) in text.iter().enumerate() {
         letters[place] = letter(rt, *byte);
@@ -19,127 +202,89 @@ pub fn letters<const N: usize>(rt: &impl Abort, text: &[u8; N]) -> [Letter; N] {
     letters
 }
 
-/// The wheels in their slots.
-pub fn slots(rt: &impl Abort, wheels: &[Wheel]) -> PerSlot<Option<Wheel>> {
-    let mut slots = [None; 4];
-    for (slot, wheel) in slots.iter_mut().zip(wheels) {
-        *slot = Some(*wheel);
+/// The letters of a cable.
+fn cable(text: [u8; 2]) -> (Option<Letter>, Option<Letter>) {
+    let [one, other] = text;
+    (Letter::from_byte(one), Letter::from_byte(other))
+}
+
+/// Thirteen cables, the first of them so.
+fn cables(texts: &[[u8; 2]]) -> [(Option<Letter>, Option<Letter>); 13] {
+    let mut cables = [(None, None); 13];
+    for (plugged, text) in cables.iter_mut().zip(texts) {
+        *plugged = cable(*text);
     }
-    if wheels.len() <= 4 {
-        PerSlot::new(&slots[..wheels.len()]).expect(rt, "three or four slots")
-    } else {
-        panic!(rt; "too many slots")
-    }
+    cables
 }
 
 /// Letters for the wheels of a box.
-pub fn per_wheel<const N: usize>(rt: &impl Abort, text: &[u8; N]) -> PerWheel<Letter> {
-    PerWheel::new(&letters(rt, text)).expect(rt, "five, eight or ten letters")
+fn per_wheel(rt: &impl Abort, text: &[u8]) -> Option<PerWheel<Letter>> {
+    let mut letters = [Letter::A; 10];
+    for (shown, byte) in letters.iter_mut().zip(text) {
+        *shown = letter(rt, *byte);
+    }
+    PerWheel::new(letters.get(..text.len())?)
+}
+
+/// The parts of the Enigma.
+fn enigma_parts(rt: &impl Abort, enigma: &Enigma) -> Option<RotorParts> {
+    Some(RotorParts {
+        model: enigma.model,
+        slots: PerSlot::new(enigma.slots)?,
+        reflector: enigma.reflector,
+        rings: per_wheel(rt, enigma.rings)?,
+        letters: per_wheel(rt, enigma.letters)?,
+        cables: cables(enigma.cables),
+    })
+}
+
+/// The wheels of a day.
+fn sheet_wheels(rt: &impl Abort, texts: &[(Wheel, u8, u8)]) -> [SheetWheel; 4] {
+    let mut wheels = [SheetWheel {
+        wheel: Wheel::I,
+        ring: Letter::A,
+        letter: Letter::A,
+    }; 4];
+    for (place, (wheel, ring, shown)) in wheels.iter_mut().zip(texts) {
+        *place = SheetWheel {
+            wheel: *wheel,
+            ring: letter(rt, *ring),
+            letter: letter(rt, *shown),
+        };
+    }
+    wheels
+}
+
+/// The pairs of a day.
+fn pairs(rt: &impl Abort, texts: &[[u8; 2]]) -> [(Letter, Letter); 13] {
+    let mut pairs = [(Letter::A, Letter::A); 13];
+    for (pair, [one, other]) in pairs.iter_mut().zip(texts) {
+        *pair = (letter(rt, *one), letter(rt, *other));
+    }
+    pairs
+}
+
+/// The day of an Enigma.
+fn enigma_day(rt: &impl Abort, day: &EnigmaDay) -> Option<SheetDay> {
+    SheetDay::rotor(
+        day.number,
+        day.model,
+        day.reflector,
+        sheet_wheels(rt, day.wheels).get(..day.wheels.len())?,
+        pairs(rt, day.pairs).get(..day.pairs.len())?,
+        &[letters(rt, &day.group)],
+    )
 }
 
 /// A machine with its day.
 pub type Keyed = (Machine, SheetDay);
 
-/// An Enigma I with reflector B, the wheels I, II and III in the slots, and no cables, with these rings and letters.
-pub fn m1(rt: &impl Abort, rings: &[u8; 5], shown: &[u8; 5]) -> Machine {
-    enigma_i(
-        rt,
-        &[Wheel::I, Wheel::II, Wheel::III],
-        rings,
-        shown,
-        [(None, None); 13],
-    )
-}
-
-/// The same machine with one end of a cable plugged.
-pub fn unready(rt: &impl Abort) -> Machine {
-    let mut cables = [(None, None); 13];
-    cables[0] = (Some(Letter::A), None);
-    enigma_i(
-        rt,
-        &[Wheel::I, Wheel::II, Wheel::III],
-        b"AAAAA",
-        b"AAAAA",
-        cables,
-    )
-}
-
-/// An Enigma I with reflector B.
-fn enigma_i(
-    rt: &impl Abort,
-    wheels: &[Wheel; 3],
-    rings: &[u8; 5],
-    shown: &[u8; 5],
-    cables: [(Option<Letter>, Option<Letter>); 13],
-) -> Machine {
-    let parts = RotorParts {
-        model: Model::EnigmaI,
-        slots: slots(rt, wheels),
-        reflector: Reflector::B,
-        rings: per_wheel(rt, rings),
-        letters: per_wheel(rt, shown),
-        cables,
-    };
-    Machine::rotor(parts).expect(rt, "legal parts")
-}
-
-/// A wheel of a sheet, with ring and window letter A.
-fn sheet_wheel(wheel: Wheel) -> SheetWheel {
-    SheetWheel {
-        wheel,
-        ring: Letter::A,
-        letter: Letter::A,
-    }
-}
-
-/// The day of that machine, with one group.
-pub fn s1(rt: &impl Abort, group: &[u8; 3]) -> SheetDay {
-    SheetDay::rotor(
-        17,
-        Model::EnigmaI,
-        Reflector::B,
-        &[
-            sheet_wheel(Wheel::I),
-            sheet_wheel(Wheel::II),
-            sheet_wheel(Wheel::III),
-        ],
-        &[],
-        &[letters(rt, group)],
-    )
-    .expect(rt, "a day of a sheet")
-}
-
-/// An Enigma I with the wheels I, II and III, all rings and letters A, on its day with the group ZUG.
-pub fn keyed(rt: &impl Abort) -> Keyed {
-    (m1(rt, b"AAAAA", b"AAAAA"), s1(rt, b"ZUG"))
-}
-
-/// An M4 with thin reflector b, the wheels Beta, I, II and III, no cables, and all rings and letters A, on its day.
-pub fn m4(rt: &impl Abort) -> Keyed {
-    let parts = RotorParts {
-        model: Model::M4,
-        slots: slots(rt, &[Wheel::Beta, Wheel::I, Wheel::II, Wheel::III]),
-        reflector: Reflector::ThinB,
-        rings: per_wheel(rt, b"AAAAAAAAAA"),
-        letters: per_wheel(rt, b"AAAAAAAAAA"),
-        cables: [(None, None); 13],
-    };
-    let day = SheetDay::rotor(
-        15,
-        Model::M4,
-        Reflector::ThinB,
-        &[
-            sheet_wheel(Wheel::Beta),
-            sheet_wheel(Wheel::I),
-            sheet_wheel(Wheel::II),
-            sheet_wheel(Wheel::III),
-        ],
-        &[],
-        &[letters(rt, b"ZUG")],
-    );
+/// The machine and the day that are told.
+pub fn keyed(rt: &impl Abort, (enigma, day): &Told) -> Keyed {
+    let parts = enigma_parts(rt, enigma).expect(rt, "slots and letters");
     (
         Machine::rotor(parts).expect(rt, "legal parts"),
-        day.expect(rt, "a day of a sheet"),
+        enigma_day(rt, day).expect(rt, "a day of a sheet"),
     )
 }
 
@@ -178,94 +323,6 @@ fn converter(rt: &impl Abort, pins: PinSet, bar: Standing, row: (u8, u8)) -> Key
     let day = SheetDay::pin(15, [row; 27], pins, [Letter::A; 6], letters(rt, b"QV"));
     (
         Machine::pin(parts).expect(rt, "legal parts"),
-        day.expect(rt, "a day of a sheet"),
-    )
-}
-
-/// Ten cables of two letters each, and the pairs that they exchange.
-fn plugged(
-    rt: &impl Abort,
-    text: &[[u8; 2]; 10],
-) -> (
-    [(Option<Letter>, Option<Letter>); 13],
-    [(Letter, Letter); 10],
-) {
-    let mut cables = [(None, None); 13];
-    let mut pairs = [(Letter::A, Letter::A); 10];
-    for ((cable, pair), [one, other]) in cables.iter_mut().zip(pairs.iter_mut()).zip(text) {
-        let (one, other) = (letter(rt, *one), letter(rt, *other));
-        *cable = (Some(one), Some(other));
-        *pair = (one, other);
-    }
-    (cables, pairs)
-}
-
-/// A wheel of a sheet with this ring and this letter.
-fn wheel_with(rt: &impl Abort, wheel: Wheel, ring: u8, window: u8) -> SheetWheel {
-    SheetWheel {
-        wheel,
-        ring: letter(rt, ring),
-        letter: letter(rt, window),
-    }
-}
-
-/// An Enigma I on the key of a message of 1941, with its day, which has one group.
-pub fn message_of_1941(rt: &impl Abort, group: &[u8; 3]) -> Keyed {
-    let plugs = [
-        *b"AV", *b"BS", *b"CG", *b"DL", *b"FU", *b"HZ", *b"IN", *b"KM", *b"OW", *b"RX",
-    ];
-    let (cables, pairs) = plugged(rt, &plugs);
-    let machine = enigma_i(
-        rt,
-        &[Wheel::II, Wheel::IV, Wheel::V],
-        b"ABAUL",
-        b"ABALA",
-        cables,
-    );
-    let day = SheetDay::rotor(
-        14,
-        Model::EnigmaI,
-        Reflector::B,
-        &[
-            wheel_with(rt, Wheel::II, b'B', b'B'),
-            wheel_with(rt, Wheel::IV, b'U', b'L'),
-            wheel_with(rt, Wheel::V, b'L', b'A'),
-        ],
-        &pairs,
-        &[letters(rt, group)],
-    );
-    (machine, day.expect(rt, "a day of a sheet"))
-}
-
-/// An M4 on the key of a message of 1942, with its day, which has the group UGZ.
-pub fn m4_of_1942(rt: &impl Abort) -> Keyed {
-    let plugs = [
-        *b"AT", *b"BL", *b"DF", *b"GJ", *b"HM", *b"NW", *b"OP", *b"QY", *b"RZ", *b"VX",
-    ];
-    let (cables, pairs) = plugged(rt, &plugs);
-    let parts = RotorParts {
-        model: Model::M4,
-        slots: slots(rt, &[Wheel::Beta, Wheel::II, Wheel::IV, Wheel::I]),
-        reflector: Reflector::ThinB,
-        rings: per_wheel(rt, b"VAAAAAAAAA"),
-        letters: per_wheel(rt, b"AJANAAAAVA"),
-        cables,
-    };
-    let day = SheetDay::rotor(
-        5,
-        Model::M4,
-        Reflector::ThinB,
-        &[
-            wheel_with(rt, Wheel::Beta, b'A', b'V'),
-            wheel_with(rt, Wheel::II, b'A', b'J'),
-            wheel_with(rt, Wheel::IV, b'A', b'N'),
-            wheel_with(rt, Wheel::I, b'V', b'A'),
-        ],
-        &pairs,
-        &[letters(rt, b"UGZ")],
-    );
-    (
-        Machine::rotor(parts).expect(rt, "legal parts"),
         day.expect(rt, "a day of a sheet"),
     )
 }

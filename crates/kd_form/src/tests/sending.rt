@@ -1,5 +1,6 @@
 use super::samples::{
-    KEYS, Keyed, keyed, m1, m4, order_of, s1, unready, with_one_pin, without_pins,
+    KEYS, Keyed, M1, M1_OFF_KEY, M1_TURNED, M1_UNREADY, M4, keyed, order_of, with_one_pin,
+    without_pins,
 };
 use crate::{FormFault, send};
 use std::alloc::Global;
@@ -27,11 +28,10 @@ fn becomes(
 /// Whatever letters the machine shows.
 #[test]
 fn an_order_becomes_a_form(rt: HostRuntime) -> Result<(), FormFault> {
-    for shown in [b"AAAAA", b"QRSAA"] {
-        let keyed = (m1(&rt, b"AAAAA", shown), s1(&rt, b"ZUG"));
+    for told in [&M1, &M1_TURNED] {
         let order = b"PART AAA AAA QX UGZ\nTEXT\nAAAAA";
         let form = b"PART 1/1 10 AAA BDZ\nQXUGZ BDZGO\n";
-        becomes(&rt, rt.alloc(), &keyed, order, form)?;
+        becomes(&rt, rt.alloc(), &keyed(&rt, told), order, form)?;
     }
     Ok(())
 }
@@ -40,7 +40,7 @@ fn an_order_becomes_a_form(rt: HostRuntime) -> Result<(), FormFault> {
 fn an_order_becomes_a_form_on_four_wheels(rt: HostRuntime) -> Result<(), FormFault> {
     let order = b"PART AAAA AAAA QX UGZ\r\nTEXT\r\nAA A\r\nAA\n";
     let form = b"PART 1/1 10 AAAA BDZG\nQXUGZ BDZGO\n";
-    becomes(&rt, rt.alloc(), &m4(&rt), order, form)
+    becomes(&rt, rt.alloc(), &keyed(&rt, &M4), order, form)
 }
 
 #[test]
@@ -58,7 +58,7 @@ fn an_order_becomes_a_form_with_one_pin(rt: HostRuntime) -> Result<(), FormFault
 }
 
 /// Orders on an Enigma I, each with its fault.
-const REFUSED: [(&[u8], FormFault); 12] = [
+static REFUSED: [(&[u8], FormFault); 12] = [
     (b"", FormFault::BadByte(1)),
     (b" ", FormFault::BadByte(1)),
     (b"PART AAA", FormFault::BadByte(9)),
@@ -84,9 +84,9 @@ const REFUSED: [(&[u8], FormFault); 12] = [
 
 #[test]
 fn orders_are_refused_in_turn(rt: HostRuntime) {
-    let keyed = keyed(&rt);
-    for (order, due) in REFUSED {
-        assert_eq!(rt; fault(&rt, &keyed, order), Some(due));
+    let keyed = keyed(&rt, &M1);
+    for (order, due) in &REFUSED {
+        assert_eq!(rt; fault(&rt, &keyed, order), Some(*due));
     }
 }
 
@@ -94,12 +94,12 @@ fn orders_are_refused_in_turn(rt: HostRuntime) {
 fn a_hundredth_line_of_keys(rt: HostRuntime) -> Result<(), Fail> {
     let order = order_of(&rt, KEYS, 100, 1)?;
     let due = FormFault::BadByte(1981);
-    assert_eq!(rt; fault(&rt, &keyed(&rt), order.as_slice()), Some(due));
+    assert_eq!(rt; fault(&rt, &keyed(&rt, &M1), order.as_slice()), Some(due));
     Ok(())
 }
 
 /// Orders on a Converter without pins, each with its fault, if it has one.
-const ON_THE_CONVERTER: [(&[u8], Option<FormFault>); 6] = [
+static ON_THE_CONVERTER: [(&[u8], Option<FormFault>); 6] = [
     (
         b"PART A ABCDEF\nTEXT\nA",
         Some(FormFault::IndicatorSpent(1)),
@@ -117,16 +117,17 @@ const ON_THE_CONVERTER: [(&[u8], Option<FormFault>); 6] = [
 #[test]
 fn orders_of_the_converter_are_refused_in_turn(rt: HostRuntime) {
     let keyed = without_pins(&rt);
-    for (order, due) in ON_THE_CONVERTER {
-        assert_eq!(rt; fault(&rt, &keyed, order), due);
+    for (order, due) in &ON_THE_CONVERTER {
+        assert_eq!(rt; fault(&rt, &keyed, order), *due);
     }
 }
 
 #[test]
 fn a_machine_off_the_key_sends_nothing(rt: HostRuntime) {
-    let day = s1(&rt, b"ZUG");
-    let machine = m1(&rt, b"BAAAA", b"AAAAA");
-    assert_eq!(rt; fault(&rt, &(machine, day), b""), Some(FormFault::NotOnKey));
-    let keyed = (unready(&rt), s1(&rt, b"ZUG"));
-    assert_eq!(rt; fault(&rt, &keyed, b""), Some(FormFault::NotReady));
+    for (told, due) in [
+        (&M1_OFF_KEY, FormFault::NotOnKey),
+        (&M1_UNREADY, FormFault::NotReady),
+    ] {
+        assert!(rt; fault(&rt, &keyed(&rt, told), b"") == Some(due));
+    }
 }

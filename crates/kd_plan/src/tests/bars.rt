@@ -1,6 +1,6 @@
 //! Bars that come to read as rows, and pins and letters of the Converter.
 use super::samples::{
-    assert_lines, converter, lug, pin_day, pins, planned, reading, standing, total,
+    Bar, converter, has_lines, letter, pin_day, pins, planned, reading, standing,
 };
 use kd_state::{Machine, PinParts, Setting, SheetDay};
 use kd_tables::{Letter, Lug, Place};
@@ -13,34 +13,50 @@ fn is_pin_made_effective(setting: Setting) -> bool {
     }
 }
 
-/// To keep the first bar for the row that it reads as already would cost two lines.
-#[test]
-fn another_bar_takes_the_row(rt: HostRuntime) {
-    let rows = [reading(&rt, 0, 3), reading(&rt, 3, 6)];
-    let first = standing(&rt, Place::Three, Place::ZeroRight);
-    let second = standing(&rt, Place::ZeroLeft, Place::Three);
-    let card = planned(&rt, &converter(&rt, &[first, second]), &pin_day(&rt, &rows));
-    assert_lines(&rt, &card, &[lug(1, Lug::Right, Place::Six)]);
-    assert_eq!(rt; total(&rt, &card), 1);
-    let card = planned(&rt, &converter(&rt, &[second, first]), &pin_day(&rt, &rows));
-    assert_lines(&rt, &card, &[lug(2, Lug::Right, Place::Six)]);
-    assert_eq!(rt; total(&rt, &card), 1);
-}
+/// Bars, rows, the lines of the card, and the sum of its prices.
+type Case = (&'static [Bar], &'static [(u8, u8)], &'static str, i32);
+
+/// To keep the bar for the row that it reads as already would cost two lines, so another bar takes the row; and a right
+/// lug makes room.
+static CASES: [Case; 3] = [
+    (
+        &[
+            (Place::Three, Place::ZeroRight),
+            (Place::ZeroLeft, Place::Three),
+        ],
+        &[(0, 3), (3, 6)],
+        "LUG 1 R 6\n",
+        1,
+    ),
+    (
+        &[
+            (Place::ZeroLeft, Place::Three),
+            (Place::Three, Place::ZeroRight),
+        ],
+        &[(0, 3), (3, 6)],
+        "LUG 2 R 6\n",
+        1,
+    ),
+    (
+        &[(Place::One, Place::Three)],
+        &[(3, 6)],
+        "LUG 1 R 6\nLUG 1 L 3\n",
+        2,
+    ),
+];
 
 #[test]
-fn the_right_lug_makes_room(rt: HostRuntime) {
-    let bar = standing(&rt, Place::One, Place::Three);
-    let card = planned(
-        &rt,
-        &converter(&rt, &[bar]),
-        &pin_day(&rt, &[reading(&rt, 3, 6)]),
-    );
-    let expected = [
-        lug(1, Lug::Right, Place::Six),
-        lug(1, Lug::Left, Place::Three),
-    ];
-    assert_lines(&rt, &card, &expected);
-    assert_eq!(rt; total(&rt, &card), 2);
+fn bars_come_to_read_as_rows(rt: HostRuntime) {
+    for (bars, rows, lines, sum) in &CASES {
+        let card = planned(&rt, &converter(&rt, bars), &pin_day(&rt, rows));
+        assert!(rt; has_lines(&card, lines), "{lines}");
+        assert_eq!(rt; card.prices.sum(), *sum);
+    }
+}
+
+/// LUG.
+fn lug(bar: u8, lug: Lug, place: Place) -> Setting {
+    Setting::LugTo { bar, lug, place }
 }
 
 #[test]
@@ -51,7 +67,7 @@ fn everything_differs(rt: HostRuntime) {
         bars: [standing(&rt, Place::One, Place::Two); 27],
     };
     let machine = Machine::pin(parts).expect(&rt, "legal parts");
-    let b = Letter::from_byte(b'B').expect(&rt, "a capital letter");
+    let b = letter(&rt, b'B');
     let day = SheetDay::pin(13, [reading(&rt, 3, 4); 27], pins(true), [b; 6], [b; 2]);
     let card = planned(&rt, &machine, &day.expect(&rt, "a day"));
     let settings = card.settings.as_slice();
@@ -77,5 +93,5 @@ fn everything_differs(rt: HostRuntime) {
             lug(number, Lug::Left, Place::Three)
         );
     }
-    assert_eq!(rt; total(&rt, &card), 54);
+    assert_eq!(rt; card.prices.sum(), 54);
 }

@@ -1,44 +1,46 @@
 //! Cables that become pairs.
-use super::samples::{
-    assert_lines, day_with_pairs, letter, plain_day, plain_parts, planned, pull, put, rotor, total,
-    with_two_cables,
+use super::samples::{Enigma, PLAIN, has_lines, plain_day, planned, rotor};
+
+/// Cable 1 between A and B, and cable 2 between C and D.
+const TWO_CABLES: Enigma = Enigma {
+    cables: &[*b"AB", *b"CD"],
+    ..PLAIN
 };
 
-#[test]
-fn cables_that_share_letters_with_pairs(rt: HostRuntime) {
-    let machine = rotor(&rt, with_two_cables(&rt));
-    let card = planned(&rt, &machine, &day_with_pairs(&rt, b"BCDE"));
-    let expected = [
-        pull(&rt, 1, b'A'),
-        pull(&rt, 2, b'C'),
-        put(&rt, 1, b'C'),
-        put(&rt, 2, b'E'),
-    ];
-    assert_lines(&rt, &card, &expected);
-    assert_eq!(rt; total(&rt, &card), 4);
-}
+/// A machine, the day's pairs, the lines of the card, and the sum of its prices.
+type Case = (Enigma, &'static [[u8; 2]], &'static str, i32);
 
-/// By number it would be six lines: cable 1 has no letter of the first pair.
-#[test]
-fn pairs_in_the_other_order(rt: HostRuntime) {
-    let machine = rotor(&rt, with_two_cables(&rt));
-    let card = planned(&rt, &machine, &day_with_pairs(&rt, b"DEBC"));
-    let expected = [
-        pull(&rt, 1, b'A'),
-        pull(&rt, 2, b'C'),
-        put(&rt, 1, b'C'),
-        put(&rt, 2, b'E'),
-    ];
-    assert_lines(&rt, &card, &expected);
-    assert_eq!(rt; total(&rt, &card), 4);
-}
+/// Cables that share letters with pairs; the pairs in the other order, where it would be six lines by number, since
+/// cable 1 has no letter of the first pair; and a cable with one letter.
+static CASES: [Case; 3] = [
+    (
+        TWO_CABLES,
+        &[*b"BC", *b"DE"],
+        "PULL 1 A\nPULL 2 C\nPUT 1 C\nPUT 2 E\n",
+        4,
+    ),
+    (
+        TWO_CABLES,
+        &[*b"DE", *b"BC"],
+        "PULL 1 A\nPULL 2 C\nPUT 1 C\nPUT 2 E\n",
+        4,
+    ),
+    (
+        Enigma {
+            cables: &[*b"C "],
+            ..PLAIN
+        },
+        &[*b"CF"],
+        "PUT 1 F\n",
+        1,
+    ),
+];
 
 #[test]
-fn a_cable_with_one_letter(rt: HostRuntime) {
-    let (c, f) = (letter(&rt, b'C'), letter(&rt, b'F'));
-    let mut parts = plain_parts(&rt);
-    parts.cables[0] = (Some(c), None);
-    let card = planned(&rt, &rotor(&rt, parts), &plain_day(&rt, &[(c, f)]));
-    assert_lines(&rt, &card, &[put(&rt, 1, b'F')]);
-    assert_eq!(rt; total(&rt, &card), 1);
+fn cables_become_pairs(rt: HostRuntime) {
+    for (enigma, pairs, lines, sum) in &CASES {
+        let card = planned(&rt, &rotor(&rt, enigma), &plain_day(&rt, pairs));
+        assert!(rt; has_lines(&card, lines), "{lines}");
+        assert_eq!(rt; card.prices.sum(), *sum);
+    }
 }

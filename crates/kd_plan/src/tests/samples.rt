@@ -1,54 +1,76 @@
-//! Machines and days for the tests.
+//! Machines and days for the tests. A byte that is no capital letter stands for no letter.
 use crate::plan;
-use kd_card::{Card, PriceParts};
+use kd_card::Card;
 use kd_pins::PinSet;
-use kd_state::{Machine, PerSlot, PerWheel, PinParts, RotorParts, Setting, SheetDay, SheetWheel};
-use kd_tables::{Letter, Lug, Model, Place, Reading, Reflector, Standing, Wheel};
+use kd_state::{Machine, PerSlot, PerWheel, PinParts, RotorParts, SheetDay, SheetWheel, read_list};
+use kd_tables::{Letter, Model, Place, Reading, Reflector, Standing, Wheel};
 use std::process::Abort;
+
+/// The parts of an Enigma, of which the cables at the end are empty. Tables of them are static: no test copies them.
+#[derive(Drop)]
+pub struct Enigma {
+    pub model: Model,
+    pub slots: &'static [Option<Wheel>],
+    pub reflector: Reflector,
+    pub rings: &'static [u8],
+    pub letters: &'static [u8],
+    pub cables: &'static [[u8; 2]],
+}
+
+/// An Enigma I with reflector B, the wheels I, II and III in the slots, no cables, and all rings and letters A.
+pub const PLAIN: Enigma = Enigma {
+    model: Model::EnigmaI,
+    slots: &[Some(Wheel::I), Some(Wheel::II), Some(Wheel::III)],
+    reflector: Reflector::B,
+    rings: b"AAAAA",
+    letters: b"AAAAA",
+    cables: &[],
+};
 
 /// The letter of that capital letter.
 pub fn letter(rt: &impl Abort, byte: u8) -> Letter {
     Letter::from_byte(byte).expect(rt, "a capital letter")
 }
 
-/// The letters of a text of capital letters.
-pub fn letters<const N: usize>(rt: &impl Abort, text: &[u8; N]) -> [Letter; N] {
-    let mut letters = [Letter::A; N];
-    for (place, byte) in text.iter().enumerate() {
-        letters[place] = letter(rt, *byte);
+/// The letters of a cable.
+pub fn cable(text: [u8; 2]) -> (Option<Letter>, Option<Letter>) {
+    let [one, other] = text;
+    (Letter::from_byte(one), Letter::from_byte(other))
+}
+
+/// Thirteen cables, the first of them so.
+fn cables(texts: &[[u8; 2]]) -> [(Option<Letter>, Option<Letter>); 13] {
+    let mut cables = [(None, None); 13];
+    for (plugged, text) in cables.iter_mut().zip(texts) {
+        *plugged = cable(*text);
     }
-    letters
+    cables
 }
 
 /// Letters for the wheels of a box.
-pub fn per_wheel<const N: usize>(rt: &impl Abort, text: &[u8; N]) -> PerWheel<Letter> {
-    PerWheel::new(&letters(rt, text)).expect(rt, "five, eight or ten letters")
-}
-
-/// An Enigma I with reflector B, the wheels I, II and III in the slots, no cables, and all rings and letters A.
-pub fn plain_parts(rt: &impl Abort) -> RotorParts {
-    let seated = [Some(Wheel::I), Some(Wheel::II), Some(Wheel::III)];
-    RotorParts {
-        model: Model::EnigmaI,
-        slots: PerSlot::new(&seated).expect(rt, "three slots"),
-        reflector: Reflector::B,
-        rings: per_wheel(rt, b"AAAAA"),
-        letters: per_wheel(rt, b"AAAAA"),
-        cables: [(None, None); 13],
+fn per_wheel(rt: &impl Abort, text: &[u8]) -> Option<PerWheel<Letter>> {
+    let mut letters = [Letter::A; 10];
+    for (shown, byte) in letters.iter_mut().zip(text) {
+        *shown = letter(rt, *byte);
     }
+    PerWheel::new(letters.get(..text.len())?)
 }
 
-/// The same with cable 1 between A and B, and cable 2 between C and D.
-pub fn with_two_cables(rt: &impl Abort) -> RotorParts {
-    let [a, b, c, d] = letters(rt, b"ABCD");
-    let mut parts = plain_parts(rt);
-    parts.cables[0] = (Some(a), Some(b));
-    parts.cables[1] = (Some(c), Some(d));
-    parts
+/// The parts of the Enigma.
+fn enigma_parts(rt: &impl Abort, enigma: &Enigma) -> Option<RotorParts> {
+    Some(RotorParts {
+        model: enigma.model,
+        slots: PerSlot::new(enigma.slots)?,
+        reflector: enigma.reflector,
+        rings: per_wheel(rt, enigma.rings)?,
+        letters: per_wheel(rt, enigma.letters)?,
+        cables: cables(enigma.cables),
+    })
 }
 
-/// The rotor machine of these parts.
-pub fn rotor(rt: &impl Abort, parts: RotorParts) -> Machine {
+/// The Enigma.
+pub fn rotor(rt: &impl Abort, enigma: &Enigma) -> Machine {
+    let parts = enigma_parts(rt, enigma).expect(rt, "slots and letters");
     Machine::rotor(parts).expect(rt, "legal parts")
 }
 
@@ -61,18 +83,23 @@ pub fn at_a(wheel: Wheel) -> SheetWheel {
     }
 }
 
-/// A day of the Enigma I with reflector B, the wheels I, II and III, all rings and letters A, and these pairs.
-pub fn plain_day(rt: &impl Abort, pairs: &[(Letter, Letter)]) -> SheetDay {
-    let wheels = [at_a(Wheel::I), at_a(Wheel::II), at_a(Wheel::III)];
-    let groups = [[Letter::A; 3]];
-    let day = SheetDay::rotor(8, Model::EnigmaI, Reflector::B, &wheels, pairs, &groups);
-    day.expect(rt, "a day")
+/// The pairs of a day.
+fn pairs(rt: &impl Abort, texts: &[[u8; 2]]) -> [(Letter, Letter); 13] {
+    let mut pairs = [(Letter::A, Letter::A); 13];
+    for (pair, [one, other]) in pairs.iter_mut().zip(texts) {
+        *pair = (letter(rt, *one), letter(rt, *other));
+    }
+    pairs
 }
 
-/// The same with two pairs, the letters of each together.
-pub fn day_with_pairs(rt: &impl Abort, text: &[u8; 4]) -> SheetDay {
-    let [one, other, third, fourth] = letters(rt, text);
-    plain_day(rt, &[(one, other), (third, fourth)])
+/// A day of the Enigma I with reflector B, the wheels I, II and III, all rings and letters A, and these pairs.
+pub fn plain_day(rt: &impl Abort, texts: &[[u8; 2]]) -> SheetDay {
+    let wheels = [at_a(Wheel::I), at_a(Wheel::II), at_a(Wheel::III)];
+    let groups = [[Letter::A; 3]];
+    let pairs = pairs(rt, texts);
+    let pairs = pairs.get(..texts.len()).expect(rt, "at most 13 pairs");
+    let day = SheetDay::rotor(8, Model::EnigmaI, Reflector::B, &wheels, pairs, &groups);
+    day.expect(rt, "a day")
 }
 
 /// Pins of the six wheels, all of them so.
@@ -97,11 +124,14 @@ pub fn reading(rt: &impl Abort, one: u8, other: u8) -> Reading {
     Reading::new(one, other).expect(rt, "a reading")
 }
 
+/// A bar with the places of its lugs.
+pub type Bar = (Place, Place);
+
 /// A Converter that shows AAAAAA, with no effective pin, the first bars so, and the others at 0L-0R.
-pub fn converter(rt: &impl Abort, first: &[Standing]) -> Machine {
+pub fn converter(rt: &impl Abort, first: &[Bar]) -> Machine {
     let mut bars = [standing(rt, Place::ZeroLeft, Place::ZeroRight); 27];
-    for (bar, place) in bars.iter_mut().zip(first) {
-        *bar = *place;
+    for (bar, (left, right)) in bars.iter_mut().zip(first) {
+        *bar = standing(rt, *left, *right);
     }
     let parts = PinParts {
         pins: pins(false),
@@ -112,10 +142,10 @@ pub fn converter(rt: &impl Abort, first: &[Standing]) -> Machine {
 }
 
 /// A day of the Converter that shows AAAAAA, with no effective pin, the first rows so, and the others 0-0.
-pub fn pin_day(rt: &impl Abort, first: &[Reading]) -> SheetDay {
+pub fn pin_day(rt: &impl Abort, first: &[(u8, u8)]) -> SheetDay {
     let mut rows = [reading(rt, 0, 0); 27];
-    for (row, place) in rows.iter_mut().zip(first) {
-        *row = *place;
+    for (row, (one, other)) in rows.iter_mut().zip(first) {
+        *row = reading(rt, *one, *other);
     }
     SheetDay::pin(9, rows, pins(false), [Letter::A; 6], [Letter::A; 2]).expect(rt, "a day")
 }
@@ -125,58 +155,10 @@ pub fn planned(rt: &impl Abort, machine: &Machine, day: &SheetDay) -> Card {
     plan(machine, day).expect(rt, "one model")
 }
 
-/// The card has these lines.
-pub fn assert_lines(rt: &impl Abort, card: &Card, lines: &[Setting]) {
-    assert_eq!(rt; card.settings.as_slice(), lines);
-}
-
-/// The sum of some prices.
-fn sum(rt: &impl Abort, prices: &[i16]) -> i32 {
-    let mut sum: i32 = 0;
-    for price in prices {
-        sum = sum.checked_add(i32::from(*price)).expect(rt, "a small sum");
+/// Whether the card has these lines.
+pub fn has_lines(card: &Card, lines: &str) -> bool {
+    match read_list(lines.as_bytes()) {
+        Ok(settings) => card.settings.as_slice() == settings.as_slice(),
+        Err(_) => false,
     }
-    sum
-}
-
-/// The sum of all prices of the card.
-pub fn total(rt: &impl Abort, card: &Card) -> i32 {
-    let (rows, columns) = match card.prices.parts() {
-        PriceParts::Cables(cables, pairs) => (sum(rt, &cables), sum(rt, &pairs)),
-        PriceParts::Bars(bars, rows) => (sum(rt, &bars), sum(rt, &rows)),
-    };
-    rows.checked_add(columns).expect(rt, "a small sum")
-}
-
-/// Whether no price of the card differs from 0.
-pub fn are_zero(card: &Card) -> bool {
-    match card.prices.parts() {
-        PriceParts::Cables(cables, pairs) => {
-            cables.iter().all(|price| *price == 0) && pairs.iter().all(|price| *price == 0)
-        }
-        PriceParts::Bars(bars, rows) => {
-            bars.iter().all(|price| *price == 0) && rows.iter().all(|price| *price == 0)
-        }
-    }
-}
-
-/// PULL.
-pub fn pull(rt: &impl Abort, cable: u8, byte: u8) -> Setting {
-    Setting::Pull {
-        cable,
-        letter: letter(rt, byte),
-    }
-}
-
-/// PUT.
-pub fn put(rt: &impl Abort, cable: u8, byte: u8) -> Setting {
-    Setting::Put {
-        cable,
-        letter: letter(rt, byte),
-    }
-}
-
-/// LUG.
-pub fn lug(bar: u8, lug: Lug, place: Place) -> Setting {
-    Setting::LugTo { bar, lug, place }
 }

@@ -1,13 +1,13 @@
 //! The planner beside a trial of every pairing of four things.
 use super::samples::{
-    converter, letter, pin_day, plain_day, plain_parts, planned, reading, rotor, standing,
+    Bar, Enigma, PLAIN, cable, converter, pin_day, plain_day, planned, reading, rotor, standing,
 };
 use kd_state::{bar_cost, cable_cost};
-use kd_tables::{Letter, Place};
+use kd_tables::Place;
 use std::process::Abort;
 
 /// The orders of four things.
-const ORDERS: [[usize; 4]; 24] = [
+static ORDERS: [[usize; 4]; 24] = [
     [0, 1, 2, 3],
     [0, 1, 3, 2],
     [0, 2, 1, 3],
@@ -37,7 +37,7 @@ const ORDERS: [[usize; 4]; 24] = [
 /// What four things cost in the cheapest order.
 fn least(rt: &impl Abort, costs: &[[u8; 4]; 4]) -> usize {
     let mut least = usize::MAX;
-    for order in ORDERS {
+    for order in &ORDERS {
         let mut cost: usize = 0;
         for (row, column) in order.iter().enumerate() {
             let one = costs[row].get(*column).expect(rt, "four columns");
@@ -50,105 +50,152 @@ fn least(rt: &impl Abort, costs: &[[u8; 4]; 4]) -> usize {
     least
 }
 
-/// The letter, or none for `-`.
-fn end(byte: u8) -> Option<Letter> {
-    Letter::from_byte(byte)
+/// What it costs to make the cable each of the first four pairs, or nothing where there are fewer.
+fn cable_row(plugged: [u8; 2], pairs: &[[u8; 2]]) -> [u8; 4] {
+    let mut row = [0; 4];
+    for (column, cost) in row.iter_mut().enumerate() {
+        let (one, other) = cable(pairs.get(column).copied().unwrap_or(*b"--"));
+        *cost = cable_cost(cable(plugged), one.zip(other));
+    }
+    row
 }
 
-/// How many lines four cables take, and how many they have to; the letters of cables and pairs side by side.
-fn cable_lines(rt: &impl Abort, cables: [&[u8; 2]; 4], pairs: &[&[u8; 2]]) -> (usize, usize) {
-    let mut parts = plain_parts(rt);
-    let mut wanted = [(Letter::A, Letter::A); 4];
-    for (place, pair) in pairs.iter().enumerate() {
-        if place < 4 {
-            wanted[place] = (letter(rt, pair[0]), letter(rt, pair[1]));
-        }
-    }
-    let (wanted, _) = wanted.split_at(pairs.len().min(4));
+/// How many lines the four cables take, and how many they have to.
+fn cable_lines(rt: &impl Abort, enigma: &Enigma, pairs: &[[u8; 2]]) -> (usize, usize) {
     let mut costs = [[0; 4]; 4];
-    for row in 0..4 {
-        parts.cables[row] = (end(cables[row][0]), end(cables[row][1]));
-        for column in 0..4 {
-            costs[row][column] = cable_cost(parts.cables[row], wanted.get(column).copied());
-        }
+    for (row, plugged) in costs.iter_mut().zip(enigma.cables) {
+        *row = cable_row(*plugged, pairs);
     }
-    let card = planned(rt, &rotor(rt, parts), &plain_day(rt, wanted));
+    let card = planned(rt, &rotor(rt, enigma), &plain_day(rt, pairs));
     (card.settings.len(), least(rt, &costs))
 }
 
-/// How many lines four bars take, and how many they have to.
-fn bar_lines(rt: &impl Abort, bars: [(Place, Place); 4], rows: [(u8, u8); 4]) -> (usize, usize) {
-    let mut standings = [standing(rt, Place::ZeroLeft, Place::ZeroRight); 4];
-    let mut readings = [reading(rt, 0, 0); 4];
-    for place in 0..4 {
-        standings[place] = standing(rt, bars[place].0, bars[place].1);
-        readings[place] = reading(rt, rows[place].0, rows[place].1);
-    }
-    let mut costs = [[0; 4]; 4];
-    for row in 0..4 {
-        for column in 0..4 {
-            costs[row][column] = bar_cost(standings[row], readings[column]);
-        }
-    }
-    let card = planned(rt, &converter(rt, &standings), &pin_day(rt, &readings));
-    (card.settings.len(), least(rt, &costs))
-}
+/// Four cables, and pairs.
+static CABLES: [(Enigma, &[[u8; 2]]); 6] = [
+    (
+        Enigma {
+            cables: &[*b"AB", *b"CD", *b"EF", *b"GH"],
+            ..PLAIN
+        },
+        &[*b"HA", *b"BC", *b"DE", *b"FG"],
+    ),
+    (
+        Enigma {
+            cables: &[*b"AB", *b"C-", *b"--", *b"DE"],
+            ..PLAIN
+        },
+        &[*b"CE", *b"AD", *b"BX"],
+    ),
+    (
+        Enigma {
+            cables: &[*b"QW", *b"ER", *b"TZ", *b"U-"],
+            ..PLAIN
+        },
+        &[*b"WE", *b"RT", *b"QZ", *b"UI"],
+    ),
+    (
+        Enigma {
+            cables: &[*b"--", *b"--", *b"AB", *b"CD"],
+            ..PLAIN
+        },
+        &[*b"CD", *b"AX"],
+    ),
+    (
+        Enigma {
+            cables: &[*b"AX", *b"BY", *b"CZ", *b"D-"],
+            ..PLAIN
+        },
+        &[*b"XY", *b"AB", *b"ZD"],
+    ),
+    (
+        Enigma {
+            cables: &[*b"AB", *b"CD", *b"EF", *b"GH"],
+            ..PLAIN
+        },
+        &[],
+    ),
+];
 
 #[test]
 fn no_pairing_of_cables_is_cheaper(rt: HostRuntime) {
-    let trials = [
-        cable_lines(
-            &rt,
-            [b"AB", b"CD", b"EF", b"GH"],
-            &[b"HA", b"BC", b"DE", b"FG"],
-        ),
-        cable_lines(&rt, [b"AB", b"C-", b"--", b"DE"], &[b"CE", b"AD", b"BX"]),
-        cable_lines(
-            &rt,
-            [b"QW", b"ER", b"TZ", b"U-"],
-            &[b"WE", b"RT", b"QZ", b"UI"],
-        ),
-        cable_lines(&rt, [b"--", b"--", b"AB", b"CD"], &[b"CD", b"AX"]),
-        cable_lines(&rt, [b"AX", b"BY", b"CZ", b"D-"], &[b"XY", b"AB", b"ZD"]),
-        cable_lines(&rt, [b"AB", b"CD", b"EF", b"GH"], &[]),
-    ];
-    for (lines, least) in trials {
+    for (enigma, pairs) in &CABLES {
+        let (lines, least) = cable_lines(&rt, enigma, pairs);
         assert_eq!(rt; lines, least);
     }
 }
 
+/// What it costs to make the bar read as each of the rows.
+fn bar_row(rt: &impl Abort, (left, right): Bar, rows: &[(u8, u8)]) -> [u8; 4] {
+    let mut row = [0; 4];
+    for (cost, (one, other)) in row.iter_mut().zip(rows) {
+        *cost = bar_cost(standing(rt, left, right), reading(rt, *one, *other));
+    }
+    row
+}
+
+/// How many lines four bars take, and how many they have to.
+fn bar_lines(rt: &impl Abort, bars: &[Bar], rows: &[(u8, u8)]) -> (usize, usize) {
+    let mut costs = [[0; 4]; 4];
+    for (row, bar) in costs.iter_mut().zip(bars) {
+        *row = bar_row(rt, *bar, rows);
+    }
+    let card = planned(rt, &converter(rt, bars), &pin_day(rt, rows));
+    (card.settings.len(), least(rt, &costs))
+}
+
+/// Four bars, and four rows.
+static BARS: [(&[Bar], &[(u8, u8)]); 5] = [
+    (
+        &[
+            (Place::Three, Place::ZeroRight),
+            (Place::ZeroLeft, Place::Three),
+            (Place::One, Place::Two),
+            (Place::Four, Place::Six),
+        ],
+        &[(0, 3), (3, 6), (1, 6), (2, 4)],
+    ),
+    (
+        &[
+            (Place::One, Place::ZeroLeft),
+            (Place::ZeroLeft, Place::Six),
+            (Place::Two, Place::Five),
+            (Place::Five, Place::ZeroRight),
+        ],
+        &[(0, 5), (0, 1), (2, 6), (1, 5)],
+    ),
+    (
+        &[
+            (Place::One, Place::Three),
+            (Place::Three, Place::Four),
+            (Place::Two, Place::ZeroRight),
+            (Place::ZeroLeft, Place::Two),
+        ],
+        &[(3, 6), (0, 4), (1, 2), (2, 3)],
+    ),
+    (
+        &[
+            (Place::Five, Place::Six),
+            (Place::ZeroRight, Place::Six),
+            (Place::ZeroLeft, Place::ZeroRight),
+            (Place::One, Place::Six),
+        ],
+        &[(0, 1), (0, 0), (5, 6), (1, 2)],
+    ),
+    (
+        &[
+            (Place::Two, Place::Three),
+            (Place::Two, Place::Three),
+            (Place::Four, Place::ZeroRight),
+            (Place::ZeroLeft, Place::Four),
+        ],
+        &[(2, 4), (3, 4), (0, 2), (0, 3)],
+    ),
+];
+
 #[test]
 fn no_pairing_of_bars_is_cheaper(rt: HostRuntime) {
-    let (one, two, three, four) = (Place::One, Place::Two, Place::Three, Place::Four);
-    let (left, right, five, six) = (Place::ZeroLeft, Place::ZeroRight, Place::Five, Place::Six);
-    let trials = [
-        bar_lines(
-            &rt,
-            [(three, right), (left, three), (one, two), (four, six)],
-            [(0, 3), (3, 6), (1, 6), (2, 4)],
-        ),
-        bar_lines(
-            &rt,
-            [(one, left), (left, six), (two, five), (five, right)],
-            [(0, 5), (0, 1), (2, 6), (1, 5)],
-        ),
-        bar_lines(
-            &rt,
-            [(one, three), (three, four), (two, right), (left, two)],
-            [(3, 6), (0, 4), (1, 2), (2, 3)],
-        ),
-        bar_lines(
-            &rt,
-            [(five, six), (right, six), (left, right), (one, six)],
-            [(0, 1), (0, 0), (5, 6), (1, 2)],
-        ),
-        bar_lines(
-            &rt,
-            [(two, three), (two, three), (four, right), (left, four)],
-            [(2, 4), (3, 4), (0, 2), (0, 3)],
-        ),
-    ];
-    for (lines, least) in trials {
+    for (bars, rows) in &BARS {
+        let (lines, least) = bar_lines(&rt, bars, rows);
         assert_eq!(rt; lines, least);
     }
 }

@@ -1,84 +1,70 @@
 //! Wheels, reflectors, rings and window letters; and machines and days of two models.
-use super::samples::{
-    are_zero, assert_lines, at_a, day_with_pairs, letter, per_wheel, pin_day, plain_day,
-    plain_parts, planned, rotor,
-};
+use super::samples::{Enigma, PLAIN, at_a, has_lines, pin_day, plain_day, planned, rotor};
 use crate::{OtherModel, plan};
-use kd_state::{Machine, PerSlot, RotorParts, Setting, SheetDay};
+use kd_card::{Card, PriceParts};
+use kd_state::SheetDay;
 use kd_tables::{Model, Reflector, Wheel};
-use std::process::Abort;
 
-/// The first machine with these wheels in its slots.
-fn seated(rt: &impl Abort, wheels: [Option<Wheel>; 3]) -> Machine {
-    let slots = PerSlot::new(&wheels).expect(rt, "three slots");
-    rotor(
-        rt,
-        RotorParts {
-            slots,
-            ..plain_parts(rt)
+/// Machines of the plain day's cables, and the lines that lead each to that day.
+static CASES: [(Enigma, &str); 4] = [
+    (PLAIN, ""),
+    (
+        Enigma {
+            rings: b"BAAAA",
+            letters: b"BAAAA",
+            ..PLAIN
         },
-    )
-}
-
-#[test]
-fn nothing_differs(rt: HostRuntime) {
-    let card = planned(&rt, &rotor(&rt, plain_parts(&rt)), &plain_day(&rt, &[]));
-    assert!(rt; card.settings.as_slice().is_empty());
-    assert!(rt; are_zero(&card));
-}
-
-#[test]
-fn ring_and_letter_of_the_left_wheel(rt: HostRuntime) {
-    let parts = RotorParts {
-        rings: per_wheel(&rt, b"BAAAA"),
-        letters: per_wheel(&rt, b"BAAAA"),
-        ..plain_parts(&rt)
-    };
-    let card = planned(&rt, &rotor(&rt, parts), &plain_day(&rt, &[]));
-    let a = letter(&rt, b'A');
-    let ring = Setting::RingTo {
-        wheel: Wheel::I,
-        letter: a,
-    };
-    let turn = Setting::Turn { slot: 1, letter: a };
-    assert_lines(&rt, &card, &[ring, turn]);
-    assert!(rt; are_zero(&card));
-}
-
-#[test]
-fn wheels_change_their_slots(rt: HostRuntime) {
-    let seats = [
-        Setting::Seat {
-            slot: 1,
-            wheel: Wheel::I,
+        "RING I A\nTURN 1 A\n",
+    ),
+    (
+        Enigma {
+            slots: &[Some(Wheel::II), Some(Wheel::I), Some(Wheel::III)],
+            ..PLAIN
         },
-        Setting::Seat {
-            slot: 2,
-            wheel: Wheel::II,
+        "SEAT 1 I\nSEAT 2 II\n",
+    ),
+    (
+        Enigma {
+            slots: &[None, Some(Wheel::I), Some(Wheel::III)],
+            ..PLAIN
         },
-    ];
-    let exchanged = seated(&rt, [Some(Wheel::II), Some(Wheel::I), Some(Wheel::III)]);
-    let moved = seated(&rt, [None, Some(Wheel::I), Some(Wheel::III)]);
-    assert_lines(&rt, &planned(&rt, &exchanged, &plain_day(&rt, &[])), &seats);
-    assert_lines(&rt, &planned(&rt, &moved, &plain_day(&rt, &[])), &seats);
+        "SEAT 1 I\nSEAT 2 II\n",
+    ),
+];
+
+/// Whether no price of the card of cables differs from 0.
+fn are_zero(card: &Card) -> bool {
+    match card.prices.parts() {
+        PriceParts::Cables(cables, pairs) => cables == [0; 13] && pairs == [0; 13],
+        PriceParts::Bars(..) => false,
+    }
 }
 
 #[test]
-fn four_slots(rt: HostRuntime) {
-    let wheels = [
+fn wheels_rings_and_letters(rt: HostRuntime) {
+    for (enigma, lines) in &CASES {
+        let card = planned(&rt, &rotor(&rt, enigma), &plain_day(&rt, &[]));
+        assert!(rt; has_lines(&card, lines), "{lines}");
+        assert!(rt; are_zero(&card), "{lines}");
+    }
+}
+
+static FOUR_SLOTS: Enigma = Enigma {
+    model: Model::M4,
+    slots: &[
         Some(Wheel::Beta),
         Some(Wheel::I),
         Some(Wheel::II),
         Some(Wheel::III),
-    ];
-    let parts = RotorParts {
-        model: Model::M4,
-        slots: PerSlot::new(&wheels).expect(&rt, "four slots"),
-        reflector: Reflector::ThinB,
-        rings: per_wheel(&rt, b"AAAAAAAAAA"),
-        letters: per_wheel(&rt, b"AAAAAAAAAA"),
-        cables: [(None, None); 13],
-    };
+    ],
+    reflector: Reflector::ThinB,
+    rings: b"AAAAAAAAAA",
+    letters: b"AAAAAAAAAA",
+    cables: &[],
+};
+
+#[test]
+fn four_slots(rt: HostRuntime) {
     let wanted = [
         at_a(Wheel::Gamma),
         at_a(Wheel::I),
@@ -86,28 +72,23 @@ fn four_slots(rt: HostRuntime) {
         at_a(Wheel::III),
     ];
     let day = SheetDay::rotor(1, Model::M4, Reflector::ThinC, &wanted, &[], &[]);
-    let card = planned(&rt, &rotor(&rt, parts), &day.expect(&rt, "a day"));
-    let seat = Setting::Seat {
-        slot: 1,
-        wheel: Wheel::Gamma,
-    };
-    let reflector = Setting::SeatReflector {
-        reflector: Reflector::ThinC,
-    };
-    assert_lines(&rt, &card, &[seat, reflector]);
+    let card = planned(&rt, &rotor(&rt, &FOUR_SLOTS), &day.expect(&rt, "a day"));
+    assert!(rt; has_lines(&card, "SEAT 1 Gamma\nREFLECTOR c\n"));
     assert!(rt; are_zero(&card));
 }
 
+static M1: Enigma = PLAIN;
+
+static M3: Enigma = Enigma {
+    model: Model::M3,
+    rings: b"AAAAAAAA",
+    letters: b"AAAAAAAA",
+    ..PLAIN
+};
+
 #[test]
 fn two_models(rt: HostRuntime) {
-    let machine = rotor(&rt, plain_parts(&rt));
-    assert_eq!(rt; plan(&machine, &pin_day(&rt, &[])).err(), Some(OtherModel));
-    let other = RotorParts {
-        model: Model::M3,
-        rings: per_wheel(&rt, b"AAAAAAAA"),
-        letters: per_wheel(&rt, b"AAAAAAAA"),
-        ..plain_parts(&rt)
-    };
-    let day = day_with_pairs(&rt, b"BCDE");
-    assert_eq!(rt; plan(&rotor(&rt, other), &day).err(), Some(OtherModel));
+    assert!(rt; plan(&rotor(&rt, &M1), &pin_day(&rt, &[])).err() == Some(OtherModel));
+    let day = plain_day(&rt, &[*b"BC", *b"DE"]);
+    assert!(rt; plan(&rotor(&rt, &M3), &day).err() == Some(OtherModel));
 }

@@ -1,196 +1,146 @@
 //! Single settings, carried out and refused.
-use super::samples::{
-    converter, first_bar_set, letter, m1, m1_with_a_cable, m4, pair, pin, rotor, standing,
-};
-use crate::{Illegal, Machine, Setting, Why};
-use kd_tables::{Lug, Place, Reflector, Wheel};
+use super::samples::{M1, M1_WITH_A_CABLE, M4, cable, converter, pin, rotor, standing};
+use crate::{Machine, Setting, Why};
+use kd_tables::{Letter, Place, Reflector, Standing, Wheel};
 use std::process::Abort;
 
-/// Carries a setting out that the machine doesn't refuse.
-fn carry(rt: &impl Abort, machine: &mut Machine, setting: Setting) {
-    assert_eq!(rt; machine.carry(setting), Ok(()));
-}
+/// The line of a setting, and why it is refused, if it is.
+type Case = (&'static str, Option<Why>);
 
-/// Looks for the reason for which the machine refuses a setting.
-fn refuses(rt: &impl Abort, machine: &mut Machine, setting: Setting, why: Why) {
-    assert_eq!(rt; machine.carry(setting), Err(Illegal { why }));
-}
-
-fn pull(rt: &impl Abort, cable: u8, byte: u8) -> Setting {
-    Setting::Pull {
-        cable,
-        letter: letter(rt, byte),
+/// Gives the machine the settings one after another.
+fn give(rt: &impl Abort, machine: &mut Machine, cases: &[Case]) {
+    for (line, due) in cases {
+        let setting = Setting::from_line(line.as_bytes()).expect(rt, "a setting");
+        let refused = machine.carry(setting).err();
+        assert_eq!(rt; refused.map(|illegal| illegal.why), *due, "{line}");
     }
 }
 
-fn put(rt: &impl Abort, cable: u8, byte: u8) -> Setting {
-    Setting::Put {
-        cable,
-        letter: letter(rt, byte),
-    }
-}
-
-fn seat(slot: u8, wheel: Wheel) -> Setting {
-    Setting::Seat { slot, wheel }
-}
-
-fn ring_to(rt: &impl Abort, wheel: Wheel, byte: u8) -> Setting {
-    Setting::RingTo {
-        wheel,
-        letter: letter(rt, byte),
-    }
-}
-
-fn turn(rt: &impl Abort, slot: u8, byte: u8) -> Setting {
-    Setting::Turn {
-        slot,
-        letter: letter(rt, byte),
-    }
-}
-
-fn pin_to(rt: &impl Abort, wheel: u8, byte: u8) -> Setting {
-    Setting::PinTo {
-        wheel,
-        letter: letter(rt, byte),
-        effective: true,
-    }
-}
-
-fn lug_to(bar: u8, lug: Lug, place: Place) -> Setting {
-    Setting::LugTo { bar, lug, place }
-}
+static PULLED: [Case; 6] = [
+    ("PUT 3 B", Some(Why::SocketTaken)),
+    ("PUT 1 C", Some(Why::NoLooseEnd)),
+    ("PUT 14 C", Some(Why::NoSuchCable)),
+    ("PULL 1 C", Some(Why::NotThere)),
+    ("PULL 0 A", Some(Why::NoSuchCable)),
+    ("PULL 1 A", None),
+];
 
 #[test]
 fn cables(rt: HostRuntime) {
-    let rt = &rt;
-    let mut machine = rotor(rt, m1_with_a_cable(rt));
-    refuses(rt, &mut machine, put(rt, 3, b'B'), Why::SocketTaken);
-    refuses(rt, &mut machine, put(rt, 1, b'C'), Why::NoLooseEnd);
-    refuses(rt, &mut machine, put(rt, 14, b'C'), Why::NoSuchCable);
-    refuses(rt, &mut machine, pull(rt, 1, b'C'), Why::NotThere);
-    refuses(rt, &mut machine, pull(rt, 0, b'A'), Why::NoSuchCable);
-    carry(rt, &mut machine, pull(rt, 1, b'A'));
-    assert_eq!(rt; machine.cable(1), Some((Some(letter(rt, b'B')), None)));
-    carry(rt, &mut machine, put(rt, 1, b'A'));
-    assert_eq!(rt; machine.cable(1), Some(pair(rt, b'A', b'B')));
+    let mut machine = rotor(&rt, &M1_WITH_A_CABLE);
+    give(&rt, &mut machine, &PULLED);
+    assert!(rt; machine.cable(1) == Some(cable(*b"B ")));
+    give(&rt, &mut machine, &[("PUT 1 A", None)]);
+    assert!(rt; machine.cable(1) == Some(cable(*b"AB")));
 }
+
+static SEATED: [Case; 6] = [
+    ("SEAT 1 VI", Some(Why::WheelNotAllowed)),
+    ("SEAT 4 I", Some(Why::WheelNotAllowed)),
+    ("SEAT 1 II", None),
+    ("TURN 2 A", Some(Why::SlotEmpty)),
+    ("TURN 0 A", Some(Why::SlotEmpty)),
+    ("TURN 1 Q", None),
+];
 
 #[test]
 fn wheels(rt: HostRuntime) {
-    let rt = &rt;
-    let mut machine = rotor(rt, m1(rt));
-    refuses(rt, &mut machine, seat(1, Wheel::VI), Why::WheelNotAllowed);
-    refuses(rt, &mut machine, seat(4, Wheel::I), Why::WheelNotAllowed);
-    carry(rt, &mut machine, seat(1, Wheel::II));
-    assert_eq!(rt; machine.slot(1), Some(Some(Wheel::II)));
-    assert_eq!(rt; machine.slot(2), Some(None));
-    refuses(rt, &mut machine, turn(rt, 2, b'A'), Why::SlotEmpty);
-    refuses(rt, &mut machine, turn(rt, 0, b'A'), Why::SlotEmpty);
-    carry(rt, &mut machine, turn(rt, 1, b'Q'));
-    assert_eq!(rt; machine.letter(Wheel::II), Some(letter(rt, b'Q')));
+    let mut machine = rotor(&rt, &M1);
+    give(&rt, &mut machine, &SEATED);
+    assert!(rt; machine.slot(1) == Some(Some(Wheel::II)) && machine.slot(2) == Some(None));
+    assert!(rt; machine.letter(Wheel::II) == Letter::from_byte(b'Q'));
 }
+
+static RINGS_AND_REFLECTORS: [Case; 4] = [
+    ("REFLECTOR b", Some(Why::WheelNotAllowed)),
+    ("REFLECTOR C", None),
+    ("RING VI A", Some(Why::WheelNotAllowed)),
+    ("RING V C", None),
+];
 
 #[test]
 fn rings_and_reflectors(rt: HostRuntime) {
-    let rt = &rt;
-    let mut machine = rotor(rt, m1(rt));
-    let thin = Setting::SeatReflector {
-        reflector: Reflector::ThinB,
-    };
-    let c = Setting::SeatReflector {
-        reflector: Reflector::C,
-    };
-    refuses(rt, &mut machine, thin, Why::WheelNotAllowed);
-    carry(rt, &mut machine, c);
-    assert_eq!(rt; machine.reflector(), Some(Reflector::C));
-    refuses(
-        rt,
-        &mut machine,
-        ring_to(rt, Wheel::VI, b'A'),
-        Why::WheelNotAllowed,
-    );
-    carry(rt, &mut machine, ring_to(rt, Wheel::V, b'C'));
-    assert_eq!(rt; machine.ring(Wheel::V), Some(letter(rt, b'C')));
-    assert_eq!(rt; machine.letter(Wheel::V), Some(letter(rt, b'A')));
+    let mut machine = rotor(&rt, &M1);
+    give(&rt, &mut machine, &RINGS_AND_REFLECTORS);
+    assert!(rt; machine.reflector() == Some(Reflector::C));
+    assert!(rt; machine.ring(Wheel::V) == Letter::from_byte(b'C'));
+    assert!(rt; machine.letter(Wheel::V) == Some(Letter::A));
 }
+
+static FOUR_SLOTS: [Case; 3] = [
+    ("SEAT 2 Beta", Some(Why::WheelNotAllowed)),
+    ("SEAT 1 I", Some(Why::WheelNotAllowed)),
+    ("SEAT 1 Gamma", None),
+];
 
 #[test]
 fn the_four_slots(rt: HostRuntime) {
-    let rt = &rt;
-    let mut machine = rotor(rt, m4(rt));
-    refuses(rt, &mut machine, seat(2, Wheel::Beta), Why::WheelNotAllowed);
-    refuses(rt, &mut machine, seat(1, Wheel::I), Why::WheelNotAllowed);
-    carry(rt, &mut machine, seat(1, Wheel::Gamma));
-    assert_eq!(rt; machine.slot(1), Some(Some(Wheel::Gamma)));
+    let mut machine = rotor(&rt, &M4);
+    give(&rt, &mut machine, &FOUR_SLOTS);
+    assert!(rt; machine.slot(1) == Some(Some(Wheel::Gamma)));
 }
+
+static OF_THE_CONVERTER: [Case; 2] = [
+    ("PIN 1 A ON", Some(Why::OtherModel)),
+    ("LUG 1 L 1", Some(Why::OtherModel)),
+];
+
+static OF_AN_ENIGMA: [Case; 2] = [
+    ("PUT 1 A", Some(Why::OtherModel)),
+    ("SEAT 1 I", Some(Why::OtherModel)),
+];
 
 #[test]
 fn settings_of_the_other_kind(rt: HostRuntime) {
-    let rt = &rt;
-    let mut machine = rotor(rt, m1(rt));
-    refuses(rt, &mut machine, pin_to(rt, 1, b'A'), Why::OtherModel);
-    refuses(
-        rt,
-        &mut machine,
-        lug_to(1, Lug::Left, Place::One),
-        Why::OtherModel,
-    );
-    let mut machine = pin(rt, converter(rt));
-    refuses(rt, &mut machine, put(rt, 1, b'A'), Why::OtherModel);
-    refuses(rt, &mut machine, seat(1, Wheel::I), Why::OtherModel);
+    give(&rt, &mut rotor(&rt, &M1), &OF_THE_CONVERTER);
+    give(&rt, &mut pin(&rt, converter(&rt)), &OF_AN_ENIGMA);
 }
+
+static PINS_AND_LETTERS: [Case; 6] = [
+    ("TURN 7 A", Some(Why::SlotEmpty)),
+    ("TURN 6 R", Some(Why::NotOnWheel)),
+    ("PIN 2 W ON", Some(Why::NotOnWheel)),
+    ("PIN 7 A ON", Some(Why::NotOnWheel)),
+    ("TURN 6 Q", None),
+    ("PIN 2 Z ON", None),
+];
 
 #[test]
 fn pin_wheels(rt: HostRuntime) {
-    let rt = &rt;
-    let mut machine = pin(rt, converter(rt));
-    refuses(rt, &mut machine, turn(rt, 7, b'A'), Why::SlotEmpty);
-    refuses(rt, &mut machine, turn(rt, 6, b'R'), Why::NotOnWheel);
-    refuses(rt, &mut machine, pin_to(rt, 2, b'W'), Why::NotOnWheel);
-    refuses(rt, &mut machine, pin_to(rt, 7, b'A'), Why::NotOnWheel);
-    carry(rt, &mut machine, turn(rt, 6, b'Q'));
-    assert_eq!(rt; machine.shown(6), Some(letter(rt, b'Q')));
-    carry(rt, &mut machine, pin_to(rt, 2, b'Z'));
-    assert_eq!(rt; machine.pin_at(2, letter(rt, b'Z')), Some(true));
+    let mut machine = pin(&rt, converter(&rt));
+    give(&rt, &mut machine, &PINS_AND_LETTERS);
+    assert!(rt; machine.shown(6) == Letter::from_byte(b'Q'));
+    assert!(rt; machine.pin_at(2, super::samples::letter(&rt, b'Z')) == Some(true));
 }
+
+/// On a bar at 1-3.
+static LUGS: [Case; 5] = [
+    ("LUG 28 L 1", Some(Why::NoSuchBar)),
+    ("LUG 1 L 3", Some(Why::PlaceTaken)),
+    ("LUG 1 L 4", Some(Why::WouldPass)),
+    ("LUG 1 R 6", None),
+    ("LUG 1 L 3", None),
+];
 
 #[test]
 fn lugs(rt: HostRuntime) {
-    let rt = &rt;
-    let mut machine = pin(rt, first_bar_set(rt));
-    refuses(
-        rt,
-        &mut machine,
-        lug_to(28, Lug::Left, Place::One),
-        Why::NoSuchBar,
-    );
-    refuses(
-        rt,
-        &mut machine,
-        lug_to(1, Lug::Left, Place::Three),
-        Why::PlaceTaken,
-    );
-    refuses(
-        rt,
-        &mut machine,
-        lug_to(1, Lug::Left, Place::Four),
-        Why::WouldPass,
-    );
-    carry(rt, &mut machine, lug_to(1, Lug::Right, Place::Six));
-    carry(rt, &mut machine, lug_to(1, Lug::Left, Place::Three));
-    assert_eq!(rt;
-        machine.standing(1),
-        Some(standing(rt, Place::Three, Place::Six))
-    );
+    let mut parts = converter(&rt);
+    parts.bars[0] = standing(&rt, Place::One, Place::Three);
+    let mut machine = pin(&rt, parts);
+    give(&rt, &mut machine, &LUGS);
+    assert!(rt; machine.standing(1) == Standing::new(Place::Three, Place::Six));
 }
 
 /// A setting to what is so already is no refusal, but for those of cables.
+static SO_ALREADY: [Case; 3] = [
+    ("SEAT 1 I", None),
+    ("TURN 1 A", None),
+    ("PUT 1 A", Some(Why::NoLooseEnd)),
+];
+
 #[test]
 fn what_is_so_already(rt: HostRuntime) {
-    let rt = &rt;
-    let mut machine = rotor(rt, m1_with_a_cable(rt));
-    carry(rt, &mut machine, seat(1, Wheel::I));
-    carry(rt, &mut machine, turn(rt, 1, b'A'));
-    refuses(rt, &mut machine, put(rt, 1, b'A'), Why::NoLooseEnd);
-    assert_eq!(rt; machine.slot(1), Some(Some(Wheel::I)));
+    let mut machine = rotor(&rt, &M1_WITH_A_CABLE);
+    give(&rt, &mut machine, &SO_ALREADY);
+    assert!(rt; machine.slot(1) == Some(Some(Wheel::I)));
 }

@@ -1,136 +1,154 @@
 //! Days of a sheet, machines that read as them, and costs.
 use super::samples::{
-    NO_PINS, cables, converter, letter, letters, m1, per_wheel, pin, rotor, standing,
+    Enigma, EnigmaDay, MOVED, NO_PINS, PLAIN, PLAIN_DAY, cable, converter, enigma_day, letter,
+    letters, pin, reading, rotor, sheet_wheels, standing,
 };
-use crate::{RotorParts, SheetDay, SheetWheel, bar_cost, cable_cost, nearest_standing};
+use crate::{SheetDay, bar_cost, cable_cost, nearest_standing};
 use kd_tables::{Letter, Model, Place, Reading, Reflector, Wheel};
-use std::process::Abort;
 
-/// The wheel with its ring and its window letter.
-fn wheel(rt: &impl Abort, wheel: Wheel, ring: u8, window: u8) -> SheetWheel {
-    SheetWheel {
-        wheel,
-        ring: letter(rt, ring),
-        letter: letter(rt, window),
+/// Days of the Enigma I.
+static DAYS: [EnigmaDay; 5] = [
+    PLAIN_DAY,
+    EnigmaDay {
+        number: 31,
+        ..PLAIN_DAY
+    },
+    EnigmaDay {
+        pairs: &[*b"AB"],
+        ..PLAIN_DAY
+    },
+    EnigmaDay {
+        wheels: &[
+            (Wheel::V, b'A', b'A'),
+            (Wheel::I, b'A', b'A'),
+            (Wheel::IV, b'A', b'A'),
+        ],
+        ..PLAIN_DAY
+    },
+    EnigmaDay {
+        groups: &[*b"AAA", *b"AAA", *b"AAA", *b"AAA"],
+        ..PLAIN_DAY
+    },
+];
+
+/// No days, for their number, for a letter in two pairs or twice in one, or for the number of groups.
+static NO_DAYS: [EnigmaDay; 5] = [
+    EnigmaDay {
+        number: 0,
+        ..PLAIN_DAY
+    },
+    EnigmaDay {
+        number: 32,
+        ..PLAIN_DAY
+    },
+    EnigmaDay {
+        pairs: &[*b"AB", *b"CA"],
+        ..PLAIN_DAY
+    },
+    EnigmaDay {
+        pairs: &[*b"AA"],
+        ..PLAIN_DAY
+    },
+    EnigmaDay {
+        groups: &[*b"AAA", *b"AAA", *b"AAA", *b"AAA", *b"AAA"],
+        ..PLAIN_DAY
+    },
+];
+
+/// No days, for a wheel in two slots or another model's, for another model's reflector, or for two wheels.
+static NO_SEATS: [EnigmaDay; 4] = [
+    EnigmaDay {
+        wheels: &[
+            (Wheel::V, b'A', b'A'),
+            (Wheel::I, b'A', b'A'),
+            (Wheel::V, b'A', b'A'),
+        ],
+        ..PLAIN_DAY
+    },
+    EnigmaDay {
+        wheels: &[
+            (Wheel::VI, b'A', b'A'),
+            (Wheel::I, b'A', b'A'),
+            (Wheel::V, b'A', b'A'),
+        ],
+        ..PLAIN_DAY
+    },
+    EnigmaDay {
+        reflector: Reflector::ThinB,
+        wheels: &[
+            (Wheel::V, b'A', b'A'),
+            (Wheel::I, b'A', b'A'),
+            (Wheel::IV, b'A', b'A'),
+        ],
+        ..PLAIN_DAY
+    },
+    EnigmaDay {
+        wheels: &[(Wheel::I, b'A', b'A'), (Wheel::II, b'A', b'A')],
+        ..PLAIN_DAY
+    },
+];
+
+#[test]
+fn days_of_an_enigma(rt: HostRuntime) {
+    for day in &DAYS {
+        assert!(rt; enigma_day(&rt, day).is_some());
     }
-}
-
-/// A day of the Enigma I with reflector B, the wheels I, II and III, all rings and letters A, these pairs, and a group.
-fn day(rt: &impl Abort, number: u8, pairs: &[(Letter, Letter)]) -> Option<SheetDay> {
-    let wheels = [
-        wheel(rt, Wheel::I, b'A', b'A'),
-        wheel(rt, Wheel::II, b'A', b'A'),
-        wheel(rt, Wheel::III, b'A', b'A'),
-    ];
-    let groups = [[Letter::A; 3]];
-    SheetDay::rotor(
-        number,
-        Model::EnigmaI,
-        Reflector::B,
-        &wheels,
-        pairs,
-        &groups,
-    )
-}
-
-/// A day of the Enigma I with this reflector and these wheels.
-fn seated(rt: &impl Abort, reflector: Reflector, wheels: [Wheel; 3]) -> Option<SheetDay> {
-    let [left, middle, right] = wheels;
-    let wheels = [
-        wheel(rt, left, b'A', b'A'),
-        wheel(rt, middle, b'A', b'A'),
-        wheel(rt, right, b'A', b'A'),
-    ];
-    SheetDay::rotor(1, Model::EnigmaI, reflector, &wheels, &[], &[])
-}
-
-/// A day of the Enigma I with these groups.
-fn with_groups(rt: &impl Abort, groups: &[[Letter; 3]]) -> Option<SheetDay> {
-    let wheels = [
-        wheel(rt, Wheel::I, b'A', b'A'),
-        wheel(rt, Wheel::II, b'A', b'A'),
-        wheel(rt, Wheel::III, b'A', b'A'),
-    ];
-    SheetDay::rotor(1, Model::EnigmaI, Reflector::B, &wheels, &[], groups)
-}
-
-/// The reading of two numbers.
-fn reading(rt: &impl Abort, one: u8, other: u8) -> Reading {
-    Reading::new(one, other).expect(rt, "a reading")
-}
-
-#[test]
-fn days_of_a_month(rt: HostRuntime) {
-    assert!(rt; day(&rt, 0, &[]).is_none());
-    assert!(rt; day(&rt, 1, &[]).is_some());
-    assert!(rt; day(&rt, 31, &[]).is_some());
-    assert!(rt; day(&rt, 32, &[]).is_none());
-}
-
-#[test]
-fn no_letter_twice(rt: HostRuntime) {
-    let [a, b, c] = letters(&rt, b"ABC");
-    assert!(rt; day(&rt, 1, &[(a, b)]).is_some());
-    assert!(rt; day(&rt, 1, &[(a, b), (c, a)]).is_none());
-    assert!(rt; day(&rt, 1, &[(a, a)]).is_none());
-}
-
-#[test]
-fn wheels_of_the_model(rt: HostRuntime) {
-    assert!(rt; seated(&rt, Reflector::B, [Wheel::V, Wheel::I, Wheel::IV]).is_some());
-    assert!(rt; seated(&rt, Reflector::B, [Wheel::V, Wheel::I, Wheel::V]).is_none());
-    assert!(rt; seated(&rt, Reflector::B, [Wheel::VI, Wheel::I, Wheel::V]).is_none());
-    assert!(rt; seated(&rt, Reflector::ThinB, [Wheel::V, Wheel::I, Wheel::IV]).is_none());
-    let two = [
-        wheel(&rt, Wheel::I, b'A', b'A'),
-        wheel(&rt, Wheel::II, b'A', b'A'),
-    ];
-    assert!(rt; SheetDay::rotor(1, Model::EnigmaI, Reflector::B, &two, &[], &[]).is_none());
-}
-
-#[test]
-fn at_most_four_groups(rt: HostRuntime) {
-    assert!(rt; with_groups(&rt, &[[Letter::A; 3]; 4]).is_some());
-    assert!(rt; with_groups(&rt, &[[Letter::A; 3]; 5]).is_none());
+    for days in [NO_DAYS.as_slice(), NO_SEATS.as_slice()] {
+        for day in days {
+            assert!(rt; enigma_day(&rt, day).is_none());
+        }
+    }
 }
 
 #[test]
 fn letters_on_their_wheels(rt: HostRuntime) {
     let rows = [reading(&rt, 0, 0); 27];
-    let list = [Letter::A; 2];
-    let on = letters(&rt, b"WAAAAA");
-    assert!(rt; SheetDay::pin(1, rows, NO_PINS, on, list).is_some());
-    let off = letters(&rt, b"AWAAAA");
-    assert!(rt; SheetDay::pin(1, rows, NO_PINS, off, list).is_none());
-    assert!(rt; SheetDay::pin(32, rows, NO_PINS, on, list).is_none());
+    for (number, shown, is_day) in [
+        (1, b"WAAAAA", true),
+        (1, b"AWAAAA", false),
+        (32, b"WAAAAA", false),
+    ] {
+        let day = SheetDay::pin(number, rows, NO_PINS, letters(&rt, shown), [Letter::A; 2]);
+        assert_eq!(rt; day.is_some(), is_day);
+    }
+}
+
+static FOUR_WHEELS: EnigmaDay = EnigmaDay {
+    number: 7,
+    model: Model::M4,
+    reflector: Reflector::ThinB,
+    wheels: &[
+        (Wheel::Beta, b'V', b'W'),
+        (Wheel::II, b'A', b'X'),
+        (Wheel::IV, b'B', b'Y'),
+        (Wheel::I, b'C', b'Z'),
+    ],
+    pairs: &[*b"AB"],
+    groups: &[*b"ABA", *b"BBB"],
+};
+
+/// Whether that day tells its number, its model and its wheels.
+fn tells_its_wheels(day: &SheetDay) -> bool {
+    day.day() == 7
+        && day.model() == Model::M4
+        && day.reflector() == Some(Reflector::ThinB)
+        && day.slot(1) == Some(Wheel::Beta)
+        && day.slot(4) == Some(Wheel::I)
+        && day.slot(5).is_none()
+        && day.ring(3) == Letter::from_byte(b'B')
+        && day.window(2) == Letter::from_byte(b'X')
+        && day.rows().is_none()
+        && day.list().is_none()
 }
 
 #[test]
 fn what_a_rotor_day_says(rt: HostRuntime) {
+    let day = enigma_day(&rt, &FOUR_WHEELS).expect(&rt, "a day");
+    assert!(rt; tells_its_wheels(&day));
     let [a, b] = letters(&rt, b"AB");
-    let wheels = [
-        wheel(&rt, Wheel::Beta, b'V', b'W'),
-        wheel(&rt, Wheel::II, b'A', b'X'),
-        wheel(&rt, Wheel::IV, b'B', b'Y'),
-        wheel(&rt, Wheel::I, b'C', b'Z'),
-    ];
-    let (pairs, groups) = ([(a, b)], [[a, b, a], [b, b, b]]);
-    let said = SheetDay::rotor(7, Model::M4, Reflector::ThinB, &wheels, &pairs, &groups).expect(
-        &rt, "a day",
-    );
-    assert_eq!(rt; said.day(), 7);
-    assert_eq!(rt; said.model(), Model::M4);
-    assert_eq!(rt; said.reflector(), Some(Reflector::ThinB));
-    assert_eq!(rt; said.slot(1), Some(Wheel::Beta));
-    assert_eq!(rt; said.slot(4), Some(Wheel::I));
-    assert_eq!(rt; said.slot(5), None);
-    assert_eq!(rt; said.ring(3), Some(b));
-    assert_eq!(rt; said.window(2), Some(letter(&rt, b'X')));
-    assert!(rt; said.wheels() == Some(&wheels[..]));
-    assert!(rt; said.pairs() == Some(&pairs[..]));
-    assert!(rt; said.groups() == Some(&groups[..]));
-    assert!(rt; said.rows().is_none());
-    assert!(rt; said.list().is_none());
+    assert!(rt; day.pairs() == Some(&[(a, b)]));
+    assert!(rt; day.groups() == Some(&[[a, b, a], [b, b, b]]));
+    assert!(rt; day.wheels() == Some(&sheet_wheels(&rt, FOUR_WHEELS.wheels)));
 }
 
 #[test]
@@ -139,66 +157,64 @@ fn what_a_pin_day_says(rt: HostRuntime) {
     rows[26] = reading(&rt, 3, 6);
     let mut pins = NO_PINS;
     pins.w6[16] = true;
-    let shown = letters(&rt, b"ABCDEF");
     let list = letters(&rt, b"XY");
-    let said = SheetDay::pin(31, rows, pins, shown, list).expect(&rt, "a day");
-    assert_eq!(rt; said.day(), 31);
-    assert_eq!(rt; said.model(), Model::M209);
-    assert_eq!(rt; said.window(6), Some(letter(&rt, b'F')));
-    assert_eq!(rt; said.window(7), None);
-    assert_eq!(rt; said.list(), Some(list));
-    assert!(rt; said.rows() == Some(rows));
-    assert!(rt; said.pins() == Some(pins));
-    assert!(rt; said.reflector().is_none());
-    assert!(rt; said.slot(1).is_none());
-    assert!(rt; said.pairs().is_none());
+    let day = SheetDay::pin(31, rows, pins, letters(&rt, b"ABCDEF"), list).expect(&rt, "a day");
+    assert!(rt; day.day() == 31 && day.model() == Model::M209);
+    assert!(rt; day.window(6) == Letter::from_byte(b'F') && day.window(7).is_none());
+    assert!(rt; day.list() == Some(list) && day.rows() == Some(rows) && day.pins() == Some(pins));
+    assert!(rt; day.reflector().is_none() && day.slot(1).is_none() && day.pairs().is_none());
 }
 
-#[test]
-fn same_cipher_on_another_setting(rt: HostRuntime) {
-    let sheet_day = day(&rt, 12, &[]).expect(&rt, "a day");
-    let as_the_day = rotor(&rt, m1(&rt));
-    assert!(rt; as_the_day.reads_as(&sheet_day));
-    let other = rotor(
-        &rt,
-        RotorParts {
-            rings: per_wheel(&rt, b"BAAAA"),
-            letters: per_wheel(&rt, b"BAAAA"),
-            ..m1(&rt)
+/// A machine and a day, whether the machine is on the day's key, and whether it shows the day's letters too.
+type Pairing = (Enigma, EnigmaDay, bool, bool);
+
+const TWO_CABLES: Enigma = Enigma {
+    cables: &[*b"AB", *b"CD"],
+    ..PLAIN
+};
+
+static READINGS: [Pairing; 5] = [
+    (PLAIN, PLAIN_DAY, true, true),
+    (MOVED, PLAIN_DAY, false, false),
+    (
+        Enigma {
+            letters: b"QRSAA",
+            ..PLAIN
         },
-    );
-    assert!(rt; !other.reads_as(&sheet_day));
-    assert!(rt; !other.on_key(&sheet_day));
-}
+        PLAIN_DAY,
+        true,
+        false,
+    ),
+    (
+        TWO_CABLES,
+        EnigmaDay {
+            pairs: &[*b"DC", *b"AB"],
+            ..PLAIN_DAY
+        },
+        true,
+        true,
+    ),
+    (
+        TWO_CABLES,
+        EnigmaDay {
+            pairs: &[*b"AC", *b"BD"],
+            ..PLAIN_DAY
+        },
+        false,
+        false,
+    ),
+];
 
 #[test]
-fn letters_apart_from_the_key(rt: HostRuntime) {
-    let sheet_day = day(&rt, 1, &[]).expect(&rt, "a day");
-    let turned = rotor(
-        &rt,
-        RotorParts {
-            letters: per_wheel(&rt, b"QRSAA"),
-            ..m1(&rt)
-        },
-    );
-    assert!(rt; turned.on_key(&sheet_day));
-    assert!(rt; !turned.reads_as(&sheet_day));
-}
-
-#[test]
-fn cables_of_other_numbers(rt: HostRuntime) {
-    let [a, b, c, d] = letters(&rt, b"ABCD");
-    let sheet_day = day(&rt, 1, &[(d, c), (a, b)]).expect(&rt, "a day");
-    let plugged = rotor(
-        &rt,
-        RotorParts {
-            cables: cables(&rt, &[*b"AB", *b"CD"]),
-            ..m1(&rt)
-        },
-    );
-    assert!(rt; plugged.reads_as(&sheet_day));
-    let other_day = day(&rt, 1, &[(a, c), (b, d)]).expect(&rt, "a day");
-    assert!(rt; !plugged.on_key(&other_day));
+fn machines_that_read_as_a_day(rt: HostRuntime) {
+    for (enigma, day, on_key, reads_as) in &READINGS {
+        let machine = rotor(&rt, enigma);
+        let day = enigma_day(&rt, day).expect(&rt, "a day");
+        assert_eq!(rt;
+            (machine.on_key(&day), machine.reads_as(&day)),
+            (*on_key, *reads_as)
+        );
+    }
 }
 
 #[test]
@@ -209,34 +225,48 @@ fn bars_in_another_order(rt: HostRuntime) {
     let mut rows = [reading(&rt, 0, 0); 27];
     rows[25] = reading(&rt, 3, 6);
     rows[26] = reading(&rt, 0, 3);
-    let list = [Letter::A; 2];
-    let sheet_day = SheetDay::pin(9, rows, parts.pins, parts.letters, list).expect(&rt, "a day");
-    assert!(rt; pin(&rt, parts).reads_as(&sheet_day));
+    let day = SheetDay::pin(9, rows, parts.pins, parts.letters, [Letter::A; 2]).expect(
+        &rt, "a day",
+    );
+    assert!(rt; pin(&rt, parts).reads_as(&day));
     parts.bars[1] = standing(&rt, Place::ZeroLeft, Place::Three);
-    assert!(rt; !pin(&rt, parts).on_key(&sheet_day));
+    assert!(rt; !pin(&rt, parts).on_key(&day));
 }
+
+/// The places of a bar's lugs, a row, and what it costs to make the bar read as the row.
+static BARS: [(Place, Place, (u8, u8), u8); 5] = [
+    (Place::Three, Place::ZeroRight, (0, 3), 0),
+    (Place::ZeroLeft, Place::Three, (3, 6), 2),
+    (Place::ZeroLeft, Place::ZeroRight, (0, 3), 1),
+    (Place::ZeroLeft, Place::Six, (0, 0), 1),
+    (Place::One, Place::Three, (3, 6), 2),
+];
 
 #[test]
 fn what_bars_cost(rt: HostRuntime) {
-    let at = |left: Place, right: Place| standing(&rt, left, right);
-    let row = |one: u8, other: u8| reading(&rt, one, other);
-    assert_eq!(rt; bar_cost(at(Place::Three, Place::ZeroRight), row(0, 3)), 0);
-    assert_eq!(rt; bar_cost(at(Place::ZeroLeft, Place::Three), row(3, 6)), 2);
-    assert_eq!(rt;
-        bar_cost(at(Place::ZeroLeft, Place::ZeroRight), row(0, 3)),
-        1
-    );
-    assert_eq!(rt; bar_cost(at(Place::ZeroLeft, Place::Six), row(0, 0)), 1);
-    assert_eq!(rt; bar_cost(at(Place::One, Place::Three), row(3, 6)), 2);
-    let nearest = nearest_standing(at(Place::Three, Place::ZeroRight), row(3, 6));
-    assert_eq!(rt; nearest, at(Place::Three, Place::Six));
+    for (left, right, (one, other), due) in &BARS {
+        assert_eq!(rt;
+            bar_cost(standing(&rt, *left, *right), reading(&rt, *one, *other)),
+            *due
+        );
+    }
+    let bar = standing(&rt, Place::Three, Place::ZeroRight);
+    let nearest = nearest_standing(bar, reading(&rt, 3, 6));
+    assert!(rt; nearest == standing(&rt, Place::Three, Place::Six));
 }
+
+/// A cable, a pair or nothing, and what it costs to make the cable so.
+static CABLES: [([u8; 2], [u8; 2], u8); 4] = [
+    (*b"AB", *b"BC", 2),
+    (*b"AB", *b"DE", 4),
+    (*b"C ", *b"CF", 1),
+    (*b"C ", *b"  ", 1),
+];
 
 #[test]
 fn what_cables_cost(rt: HostRuntime) {
-    let [a, b, c, d, e, f] = letters(&rt, b"ABCDEF");
-    assert_eq!(rt; cable_cost((Some(a), Some(b)), Some((b, c))), 2);
-    assert_eq!(rt; cable_cost((Some(a), Some(b)), Some((d, e))), 4);
-    assert_eq!(rt; cable_cost((Some(c), None), Some((c, f))), 1);
-    assert_eq!(rt; cable_cost((Some(c), None), None), 1);
+    for (plugged, pair, due) in &CABLES {
+        let (one, other) = cable(*pair);
+        assert_eq!(rt; cable_cost(cable(*plugged), one.zip(other)), *due);
+    }
 }

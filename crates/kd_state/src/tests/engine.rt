@@ -1,10 +1,10 @@
 //! What machines make of a text.
 use super::samples::{
-    NO_PINS, all_bars_met, letter, letters, m1, m1_with_a_cable, m4, met_twice, per_wheel, pin,
-    rotor, slots, with_ten_cables,
+    Enigma, M1, M1_WITH_A_CABLE, M4, MOVED, NO_PINS, PLAIN, S1, TEN_CABLES, all_bars_met,
+    enigma_day, letters, met_twice, pin, reading, rotor, rotor_parts,
 };
-use crate::{Engine, Machine, NotReady, RotorParts, SheetDay, SheetWheel, own_engine};
-use kd_tables::{Letter, Model, Reading, Reflector, Wheel};
+use crate::{Engine, Machine, NotReady, SheetDay, own_engine};
+use kd_tables::{Letter, Model, Reflector, Wheel};
 use std::process::Abort;
 
 /// The engine of a machine that is ready.
@@ -13,174 +13,163 @@ fn ready(rt: &impl Abort, machine: &Machine) -> Engine {
 }
 
 /// Runs a text through an engine, and compares what comes out.
-fn becomes<const N: usize>(rt: &impl Abort, mut engine: Engine, plain: [u8; N], cipher: [u8; N]) {
-    let mut text = letters(rt, &plain);
+fn becomes<const N: usize>(rt: &impl Abort, mut engine: Engine, plain: &[u8; N], cipher: &[u8; N]) {
+    let mut text = letters(rt, plain);
     engine.run(&mut text);
-    assert_eq!(rt; text, letters(rt, &cipher));
+    assert!(rt; text == letters(rt, cipher));
 }
 
-/// Presses keys at the first window, and compares what comes after with what does at the last one.
-fn steps_to<const N: usize>(
-    rt: &impl Abort,
-    machine: &Machine,
-    keys: usize,
-    first: [u8; N],
-    last: [u8; N],
-) {
-    let (mut stepped, mut set) = (ready(rt, machine), ready(rt, machine));
-    assert!(rt; stepped.turn_to(&letters(rt, &first)));
-    assert!(rt; set.turn_to(&letters(rt, &last)));
+/// What becomes of thirty letters A after so many keys at this window.
+fn run_from(rt: &impl Abort, enigma: &Enigma, window: &[u8; 3], keys: usize) -> [Letter; 30] {
+    let mut engine = ready(rt, &rotor(rt, enigma));
+    assert!(rt; engine.turn_to(&letters(rt, window)));
     for _ in 0..keys {
-        stepped.run(&mut [Letter::A]);
+        engine.run(&mut [Letter::A]);
     }
-    let (mut text, mut other) = ([Letter::A; 30], [Letter::A; 30]);
-    stepped.run(&mut text);
-    set.run(&mut other);
-    assert_eq!(rt; text, other);
+    let mut text = [Letter::A; 30];
+    engine.run(&mut text);
+    text
+}
+
+/// A window, and the one to which so many keys lead.
+type Steps = (&'static [u8; 3], usize, &'static [u8; 3]);
+
+static STEPS: [Steps; 5] = [
+    (b"ADU", 1, b"ADV"),
+    (b"ADU", 2, b"AEW"),
+    (b"ADU", 3, b"BFX"),
+    (b"ADU", 4, b"BFY"),
+    (b"AEV", 1, b"BFW"),
+];
+
+static STEPS_OF_TWO_NOTCHES: [Steps; 3] = [
+    (b"AAL", 1, b"AAM"),
+    (b"AAL", 2, b"ABN"),
+    (b"AAL", 3, b"ABO"),
+];
+
+static RINGED: Enigma = Enigma {
+    rings: b"BBBAA",
+    ..PLAIN
+};
+
+static TWO_NOTCHES: Enigma = Enigma {
+    model: Model::M3,
+    slots: &[Some(Wheel::I), Some(Wheel::II), Some(Wheel::VI)],
+    rings: b"AAAAAAAA",
+    letters: b"AAAAAAAA",
+    ..PLAIN
+};
+
+/// The wheels of the machine step so.
+fn steps(rt: &impl Abort, enigma: &Enigma, cases: &[Steps]) {
+    for (first, keys, last) in cases {
+        let stepped = run_from(rt, enigma, first, *keys);
+        assert!(rt; stepped == run_from(rt, enigma, last, 0));
+    }
 }
 
 #[test]
 fn of_stepping_wheels(rt: HostRuntime) {
-    let rt = &rt;
-    let plain = rotor(rt, m1(rt));
-    let ringed = rotor(
-        rt,
-        RotorParts {
-            rings: per_wheel(rt, b"BBBAA"),
-            ..m1(rt)
-        },
-    );
-    for machine in [plain, ringed] {
-        steps_to(rt, &machine, 1, *b"ADU", *b"ADV");
-        steps_to(rt, &machine, 2, *b"ADU", *b"AEW");
-        steps_to(rt, &machine, 3, *b"ADU", *b"BFX");
-        steps_to(rt, &machine, 4, *b"ADU", *b"BFY");
-        steps_to(rt, &machine, 1, *b"AEV", *b"BFW");
-    }
-    let two_notches = rotor(
-        rt,
-        RotorParts {
-            model: Model::M3,
-            slots: slots(rt, &[Wheel::I, Wheel::II, Wheel::VI]),
-            rings: per_wheel(rt, b"AAAAAAAA"),
-            letters: per_wheel(rt, b"AAAAAAAA"),
-            ..m1(rt)
-        },
-    );
-    steps_to(rt, &two_notches, 1, *b"AAL", *b"AAM");
-    steps_to(rt, &two_notches, 2, *b"AAL", *b"ABN");
-    steps_to(rt, &two_notches, 3, *b"AAL", *b"ABO");
+    steps(&rt, &M1, &STEPS);
+    steps(&rt, &RINGED, &STEPS);
+    steps(&rt, &TWO_NOTCHES, &STEPS_OF_TWO_NOTCHES);
 }
 
 #[test]
 fn of_ten_cables(rt: HostRuntime) {
-    let rt = &rt;
-    let machine = rotor(rt, with_ten_cables(rt));
-    becomes(rt, ready(rt, &machine), *b"EDPUD", *b"AUFKL");
-    for (plain, cipher) in [(*b"KCH", *b"BLA"), (*b"BLA", *b"KCH")] {
-        let mut engine = ready(rt, &machine);
-        assert!(rt; engine.turn_to(&letters(rt, b"WXC")));
-        becomes(rt, engine, plain, cipher);
+    let machine = rotor(&rt, &TEN_CABLES);
+    becomes(&rt, ready(&rt, &machine), b"EDPUD", b"AUFKL");
+    for (plain, cipher) in [(b"KCH", b"BLA"), (b"BLA", b"KCH")] {
+        let mut engine = ready(&rt, &machine);
+        assert!(rt; engine.turn_to(&letters(&rt, b"WXC")));
+        becomes(&rt, engine, plain, cipher);
     }
 }
 
 #[test]
 fn of_four_wheels(rt: HostRuntime) {
-    let rt = &rt;
-    becomes(
-        rt,
-        ready(rt, &rotor(rt, m4(rt))),
-        *b"NCZWVUSX",
-        *b"VONVONJL",
-    );
-    let thin = RotorParts {
-        slots: slots(rt, &[Wheel::Beta, Wheel::I, Wheel::II, Wheel::III]),
-        rings: per_wheel(rt, b"AAAAAAAAAA"),
-        letters: per_wheel(rt, b"AAAAAAAAAA"),
-        cables: [(None, None); 13],
-        ..m4(rt)
-    };
-    becomes(rt, ready(rt, &rotor(rt, thin)), *b"AAAAA", *b"BDZGO");
+    becomes(&rt, ready(&rt, &rotor(&rt, &M4)), b"NCZWVUSX", b"VONVONJL");
 }
 
-#[test]
-fn of_bars_that_are_met(rt: HostRuntime) {
-    let rt = &rt;
-    becomes(rt, ready(rt, &pin(rt, met_twice(rt))), *b"A", *b"A");
-    becomes(
-        rt,
-        ready(rt, &pin(rt, all_bars_met(rt))),
-        *b"AAAAA",
-        *b"AZZZZ",
-    );
-}
+/// Ring and letter of the leftmost wheel, moved together, change nothing of the cipher, nor does Beta beside the three.
+static ALIKE: [Enigma; 3] = [
+    PLAIN,
+    MOVED,
+    Enigma {
+        model: Model::M4,
+        slots: &[
+            Some(Wheel::Beta),
+            Some(Wheel::I),
+            Some(Wheel::II),
+            Some(Wheel::III),
+        ],
+        reflector: Reflector::ThinB,
+        rings: b"AAAAAAAAAA",
+        letters: b"AAAAAAAAAA",
+        cables: &[],
+    },
+];
 
-/// Ring and letter of the leftmost wheel, moved together, change nothing of the cipher.
 #[test]
-fn of_two_settings_with_one_cipher(rt: HostRuntime) {
-    let rt = &rt;
-    let moved = RotorParts {
-        rings: per_wheel(rt, b"BAAAA"),
-        letters: per_wheel(rt, b"BAAAA"),
-        ..m1(rt)
-    };
-    for parts in [m1(rt), moved] {
-        becomes(rt, ready(rt, &rotor(rt, parts)), *b"AAAAA", *b"BDZGO");
+fn of_settings_with_one_cipher(rt: HostRuntime) {
+    for enigma in &ALIKE {
+        becomes(&rt, ready(&rt, &rotor(&rt, enigma)), b"AAAAA", b"BDZGO");
     }
 }
 
 #[test]
+fn of_bars_that_are_met(rt: HostRuntime) {
+    becomes(&rt, ready(&rt, &pin(&rt, met_twice(&rt))), b"A", b"A");
+    becomes(
+        &rt,
+        ready(&rt, &pin(&rt, all_bars_met(&rt))),
+        b"AAAAA",
+        b"AZZZZ",
+    );
+}
+
+static HALF_PLUGGED: Enigma = Enigma {
+    cables: &[*b"C "],
+    ..PLAIN
+};
+
+#[test]
 fn of_machines_that_are_not_ready(rt: HostRuntime) {
-    let rt = &rt;
-    let mut half_plugged = m1(rt);
-    half_plugged.cables[0] = (Some(letter(rt, b'C')), None);
-    assert!(rt; matches!(rotor(rt, half_plugged).engine(), Err(NotReady)));
-    let mut empty = m1_with_a_cable(rt);
+    assert!(rt; matches!(rotor(&rt, &HALF_PLUGGED).engine(), Err(NotReady)));
+    let mut empty = rotor_parts(&rt, &M1_WITH_A_CABLE);
     empty.slots.set(1, None);
-    assert!(rt; matches!(rotor(rt, empty).engine(), Err(NotReady)));
+    let machine = Machine::rotor(empty).expect(&rt, "legal parts");
+    assert!(rt; matches!(machine.engine(), Err(NotReady)));
 }
 
 /// A window has a letter for each slot or pin wheel, and it is on the wheel.
 #[test]
 fn of_other_letters(rt: HostRuntime) {
-    let rt = &rt;
-    let mut engine = ready(rt, &rotor(rt, m1(rt)));
-    assert!(rt; !engine.turn_to(&letters(rt, b"AAAA")));
-    assert!(rt; !engine.turn_to(&[]));
-    becomes(rt, engine, *b"AAAAA", *b"BDZGO");
-    let mut engine = ready(rt, &pin(rt, all_bars_met(rt)));
-    assert!(rt; !engine.turn_to(&letters(rt, b"BBBBB")));
-    assert!(rt; !engine.turn_to(&letters(rt, b"BBBBBR")));
-    becomes(rt, engine, *b"AAAAA", *b"AZZZZ");
-    let mut engine = ready(rt, &pin(rt, all_bars_met(rt)));
-    assert!(rt; engine.turn_to(&letters(rt, b"BBBBBB")));
-    becomes(rt, engine, *b"A", *b"Z");
+    let mut engine = ready(&rt, &rotor(&rt, &M1));
+    assert!(rt; !engine.turn_to(&letters(&rt, b"AAAA")) && !engine.turn_to(&[]));
+    becomes(&rt, engine, b"AAAAA", b"BDZGO");
+}
+
+#[test]
+fn of_other_letters_of_the_converter(rt: HostRuntime) {
+    let machine = pin(&rt, all_bars_met(&rt));
+    let mut engine = ready(&rt, &machine);
+    assert!(rt; !engine.turn_to(&letters(&rt, b"BBBBB")));
+    assert!(rt; !engine.turn_to(&letters(&rt, b"BBBBBR")));
+    becomes(&rt, engine, b"AAAAA", b"AZZZZ");
+    let mut engine = ready(&rt, &machine);
+    assert!(rt; engine.turn_to(&letters(&rt, b"BBBBBB")));
+    becomes(&rt, engine, b"A", b"Z");
 }
 
 #[test]
 fn of_a_day(rt: HostRuntime) {
-    let rt = &rt;
-    let seated = |wheel| SheetWheel {
-        wheel,
-        ring: Letter::A,
-        letter: Letter::A,
-    };
-    let wheels = [seated(Wheel::I), seated(Wheel::II), seated(Wheel::III)];
-    let day = SheetDay::rotor(1, Model::EnigmaI, Reflector::B, &wheels, &[], &[]);
-    becomes(
-        rt,
-        own_engine(&day.expect(rt, "a day")),
-        *b"AAAAA",
-        *b"BDZGO",
-    );
-    let rows = [Reading::new(0, 1).expect(rt, "a reading"); 27];
+    let day = enigma_day(&rt, &S1).expect(&rt, "a day");
+    becomes(&rt, own_engine(&day), b"AAAAA", b"BDZGO");
     let mut pins = NO_PINS;
     pins.w1[15] = true;
-    let day = SheetDay::pin(7, rows, pins, [Letter::A; 6], [Letter::A; 2]);
-    becomes(
-        rt,
-        own_engine(&day.expect(rt, "a day")),
-        *b"AAAAA",
-        *b"AZZZZ",
-    );
+    let rows = [reading(&rt, 0, 1); 27];
+    let day = SheetDay::pin(7, rows, pins, [Letter::A; 6], [Letter::A; 2]).expect(&rt, "a day");
+    becomes(&rt, own_engine(&day), b"AAAAA", b"AZZZZ");
 }

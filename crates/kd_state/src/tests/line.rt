@@ -1,13 +1,11 @@
+use super::samples::letters;
 use crate::Setting;
-use kd_tables::{Letter, Lug, Place, Reflector, Wheel};
-
-/// The letter of that capital letter.
-fn letter(byte: u8) -> Letter {
-    Letter::from_byte(byte).unwrap_or(Letter::A)
-}
+use kd_tables::{Lug, Place, Reflector, Wheel};
+use std::process::Abort;
 
 /// Each form of setting beside its line.
-fn written() -> [(Setting, &'static str); 10] {
+fn written(rt: &impl Abort) -> [(Setting, &'static str); 10] {
+    let [a, c, p] = letters(rt, b"ACP");
     [
         (
             Setting::Seat {
@@ -25,35 +23,29 @@ fn written() -> [(Setting, &'static str); 10] {
         (
             Setting::RingTo {
                 wheel: Wheel::IV,
-                letter: letter(b'C'),
+                letter: c,
             },
             "RING IV C",
         ),
-        (
-            Setting::Turn {
-                slot: 1,
-                letter: letter(b'A'),
-            },
-            "TURN 1 A",
-        ),
+        (Setting::Turn { slot: 1, letter: a }, "TURN 1 A"),
         (
             Setting::Pull {
                 cable: 3,
-                letter: letter(b'A'),
+                letter: a,
             },
             "PULL 3 A",
         ),
         (
             Setting::Put {
                 cable: 3,
-                letter: letter(b'C'),
+                letter: c,
             },
             "PUT 3 C",
         ),
         (
             Setting::PinTo {
                 wheel: 1,
-                letter: letter(b'P'),
+                letter: p,
                 effective: true,
             },
             "PIN 1 P ON",
@@ -61,7 +53,7 @@ fn written() -> [(Setting, &'static str); 10] {
         (
             Setting::PinTo {
                 wheel: 1,
-                letter: letter(b'P'),
+                letter: p,
                 effective: false,
             },
             "PIN 1 P OFF",
@@ -86,40 +78,39 @@ fn written() -> [(Setting, &'static str); 10] {
 }
 
 #[test]
-fn settings_are_written_as_their_lines(rt: HostRuntime) {
-    for (setting, line) in written() {
+fn settings_and_their_lines(rt: HostRuntime) {
+    for (setting, line) in written(&rt) {
         assert_eq!(rt; setting.line().as_str(), line);
+        assert!(rt;
+            Setting::from_line(line.as_bytes()) == Some(setting),
+            "{line}"
+        );
     }
 }
 
-#[test]
-fn settings_are_read_off_their_lines(rt: HostRuntime) {
-    for (setting, line) in written() {
-        assert_eq!(rt; Setting::from_line(line.as_bytes()), Some(setting));
-    }
-}
+/// Lines of no setting.
+static NO_SETTINGS: [&[u8]; 16] = [
+    b"",
+    b"SEAT 01 I",
+    b"SEAT  1 I",
+    b"SEAT +1 I",
+    b"SEAT 1 IX",
+    b"SEAT 1",
+    b"SEAT 1 I I",
+    b"seat 1 I",
+    b"SEAT 1 I ",
+    b" SEAT 1 I",
+    b"SEAT 1 I\r",
+    b"SEAT 1 I\n",
+    b"TURN 256 A",
+    b"TURN 1 a",
+    b"PIN 1 P on",
+    b"LUG 3 l 0R",
+];
 
 #[test]
 fn other_lines_are_no_settings(rt: HostRuntime) {
-    let lines: [&[u8]; 16] = [
-        b"",
-        b"SEAT 01 I",
-        b"SEAT  1 I",
-        b"SEAT +1 I",
-        b"SEAT 1 IX",
-        b"SEAT 1",
-        b"SEAT 1 I I",
-        b"seat 1 I",
-        b"SEAT 1 I ",
-        b" SEAT 1 I",
-        b"SEAT 1 I\r",
-        b"SEAT 1 I\n",
-        b"TURN 256 A",
-        b"TURN 1 a",
-        b"PIN 1 P on",
-        b"LUG 3 l 0R",
-    ];
-    for line in lines {
-        assert_eq!(rt; Setting::from_line(line), None);
+    for line in &NO_SETTINGS {
+        assert!(rt; Setting::from_line(line).is_none());
     }
 }

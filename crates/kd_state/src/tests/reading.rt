@@ -1,115 +1,114 @@
 //! What can be read off a machine, and parts that make none.
 use super::samples::{
-    converter, letter, letters, m1, m1_with_a_cable, m4, met_twice, pair, pin, rotor, slots,
-    standing, with_ten_cables,
+    Enigma, M4, PLAIN, TEN_CABLES, cable, converter, letter, letters, met_twice, pin, rotor,
+    rotor_parts,
 };
-use crate::{Machine, PinParts, RotorParts};
-use kd_tables::{Letter, Model, Place, Reflector, Wheel};
-use std::process::Abort;
+use crate::{Machine, PinParts};
+use kd_tables::{Letter, Model, Place, Reflector, Standing, Wheel};
+
+/// Whether the Enigma with ten cables tells its wheels.
+fn tells_its_wheels(machine: &Machine) -> bool {
+    machine.model() == Model::EnigmaI
+        && machine.reflector() == Some(Reflector::B)
+        && machine.slot(2) == Some(Some(Wheel::IV))
+        && machine.slot(4).is_none()
+        && machine.ring(Wheel::V) == Letter::from_byte(b'L')
+        && machine.ring(Wheel::VI).is_none()
+        && machine.letter(Wheel::II) == Letter::from_byte(b'B')
+}
+
+/// Whether it tells its cables, and nothing of the parts of the Converter.
+fn tells_its_cables(machine: &Machine) -> bool {
+    machine.cable(10) == Some(cable(*b"RX"))
+        && machine.cable(13) == Some((None, None))
+        && machine.cable(14).is_none()
+        && machine.shown(1).is_none()
+        && machine.pin_at(1, Letter::A).is_none()
+        && machine.standing(1).is_none()
+}
 
 #[test]
 fn of_a_rotor_machine(rt: HostRuntime) {
-    let rt = &rt;
-    let machine = rotor(rt, with_ten_cables(rt));
-    assert_eq!(rt; machine.model(), Model::EnigmaI);
-    assert_eq!(rt; machine.reflector(), Some(Reflector::B));
-    assert_eq!(rt; machine.slot(2), Some(Some(Wheel::IV)));
-    assert_eq!(rt; machine.slot(4), None);
-    assert_eq!(rt; machine.ring(Wheel::V), Some(letter(rt, b'L')));
-    assert_eq!(rt; machine.ring(Wheel::VI), None);
-    assert_eq!(rt; machine.letter(Wheel::II), Some(letter(rt, b'B')));
-    assert_eq!(rt; machine.cable(10), Some(pair(rt, b'R', b'X')));
-    assert_eq!(rt; machine.cable(13), Some((None, None)));
-    assert_eq!(rt; machine.cable(14), None);
-    assert_eq!(rt; machine.shown(1), None);
-    assert_eq!(rt; machine.pin_at(1, Letter::A), None);
-    assert_eq!(rt; machine.standing(1), None);
+    let machine = rotor(&rt, &TEN_CABLES);
+    assert!(rt; tells_its_wheels(&machine));
+    assert!(rt; tells_its_cables(&machine));
 }
 
 #[test]
 fn of_an_m4(rt: HostRuntime) {
-    let rt = &rt;
-    let machine = rotor(rt, m4(rt));
-    assert_eq!(rt; machine.slot(4), Some(Some(Wheel::I)));
-    assert_eq!(rt; machine.letter(Wheel::Beta), Some(letter(rt, b'V')));
+    let machine = rotor(&rt, &M4);
+    assert!(rt; machine.slot(4) == Some(Some(Wheel::I)));
+    assert!(rt; machine.letter(Wheel::Beta) == Letter::from_byte(b'V'));
+}
+
+/// Whether the Converter with one bar at 1-2 tells its letters and bars, and nothing of the parts of an Enigma.
+fn tells_its_letters_and_bars(machine: &Machine) -> bool {
+    machine.model() == Model::M209
+        && machine.shown(6) == Some(Letter::A)
+        && machine.shown(7).is_none()
+        && machine.standing(1) == Standing::new(Place::One, Place::Two)
+        && machine.standing(0).is_none()
+        && machine.slot(1).is_none()
+        && machine.reflector().is_none()
+        && machine.cable(1).is_none()
+        && machine.ring(Wheel::I).is_none()
 }
 
 #[test]
 fn of_a_converter(rt: HostRuntime) {
-    let rt = &rt;
-    let machine = pin(rt, met_twice(rt));
-    assert_eq!(rt; machine.model(), Model::M209);
-    assert_eq!(rt; machine.shown(6), Some(Letter::A));
-    assert_eq!(rt; machine.shown(7), None);
-    assert_eq!(rt; machine.pin_at(2, letter(rt, b'O')), Some(true));
-    assert_eq!(rt; machine.pin_at(2, letter(rt, b'P')), Some(false));
-    assert_eq!(rt; machine.pin_at(2, letter(rt, b'W')), None);
-    assert_eq!(rt;
-        machine.standing(1),
-        Some(standing(rt, Place::One, Place::Two))
-    );
-    assert_eq!(rt; machine.standing(0), None);
-    assert_eq!(rt; machine.slot(1), None);
-    assert_eq!(rt; machine.reflector(), None);
-    assert_eq!(rt; machine.cable(1), None);
-    assert_eq!(rt; machine.ring(Wheel::I), None);
+    let machine = pin(&rt, met_twice(&rt));
+    assert!(rt; tells_its_letters_and_bars(&machine));
+    for (byte, due) in [(b'O', Some(true)), (b'P', Some(false)), (b'W', None)] {
+        assert!(rt; machine.pin_at(2, letter(&rt, byte)) == due);
+    }
 }
+
+static OUT_OF_ORDER: Enigma = Enigma {
+    cables: &[*b"BA", *b" C"],
+    ..PLAIN
+};
 
 /// The letters of a cable come in order, whichever way they were given.
 #[test]
 fn a_cables_letters(rt: HostRuntime) {
-    let rt = &rt;
-    let mut parts = m1_with_a_cable(rt);
-    parts.cables[0] = pair(rt, b'B', b'A');
-    parts.cables[1] = (None, Some(letter(rt, b'C')));
-    let machine = rotor(rt, parts);
-    assert_eq!(rt; machine.cable(1), Some(pair(rt, b'A', b'B')));
-    assert_eq!(rt; machine.cable(2), Some((Some(letter(rt, b'C')), None)));
+    let machine = rotor(&rt, &OUT_OF_ORDER);
+    assert!(rt; machine.cable(1) == Some(cable(*b"AB")));
+    assert!(rt; machine.cable(2) == Some(cable(*b"C ")));
 }
 
-/// Looks whether the parts make no machine.
-fn makes_none(rt: &impl Abort, parts: RotorParts) {
-    assert!(rt; Machine::rotor(parts).is_none());
-}
+/// Wheels in two slots, or not of the model; another reflector, another model's rings; a letter in two cables.
+static NO_MACHINES: [Enigma; 5] = [
+    Enigma {
+        slots: &[Some(Wheel::I), Some(Wheel::II), Some(Wheel::I)],
+        ..PLAIN
+    },
+    Enigma {
+        slots: &[Some(Wheel::I), Some(Wheel::II), Some(Wheel::VI)],
+        ..PLAIN
+    },
+    Enigma {
+        reflector: Reflector::ThinC,
+        ..PLAIN
+    },
+    Enigma {
+        model: Model::M3,
+        ..PLAIN
+    },
+    Enigma {
+        cables: &[
+            *b"AB", *b"  ", *b"  ", *b"  ", *b"  ", *b"  ", *b"  ", *b"  ", *b"  ", *b"  ", *b"  ",
+            *b"  ", *b"A ",
+        ],
+        ..PLAIN
+    },
+];
 
 #[test]
-fn wheels_that_make_no_machine(rt: HostRuntime) {
-    let rt = &rt;
-    for wheels in [
-        [Wheel::I, Wheel::II, Wheel::I],
-        [Wheel::I, Wheel::II, Wheel::VI],
-    ] {
-        let seated = slots(rt, &wheels);
-        makes_none(
-            rt,
-            RotorParts {
-                slots: seated,
-                ..m1(rt)
-            },
-        );
+fn parts_that_make_no_machine(rt: HostRuntime) {
+    for enigma in &NO_MACHINES {
+        assert!(rt; Machine::rotor(rotor_parts(&rt, enigma)).is_none());
     }
-    let reflector = Reflector::ThinC;
-    makes_none(
-        rt,
-        RotorParts {
-            reflector,
-            ..m1(rt)
-        },
-    );
-    let model = Model::M3;
-    makes_none(rt, RotorParts { model, ..m1(rt) });
-}
-
-#[test]
-fn letters_that_make_no_machine(rt: HostRuntime) {
-    let rt = &rt;
-    let mut twice_plugged = m1_with_a_cable(rt);
-    twice_plugged.cables[12] = (Some(letter(rt, b'A')), None);
-    makes_none(rt, twice_plugged);
-    let shown = letters(rt, b"AAAAAR");
-    let parts = PinParts {
-        letters: shown,
-        ..converter(rt)
-    };
+    let mut parts = converter(&rt);
+    parts.letters = letters(&rt, b"AAAAAR");
     assert!(rt; Machine::pin(parts).is_none());
 }

@@ -1,8 +1,102 @@
-//! Machines for the tests.
-use crate::{Machine, PerSlot, PerWheel, PinParts, RotorParts};
+//! Machines and days for the tests. A byte that is no capital letter stands for no letter.
+use crate::{Machine, PerSlot, PerWheel, PinParts, RotorParts, SheetDay, SheetWheel};
 use kd_pins::PinSet;
-use kd_tables::{Letter, Model, Place, Reflector, Standing, Wheel};
+use kd_tables::{Letter, Model, Place, Reading, Reflector, Standing, Wheel};
 use std::process::Abort;
+
+/// The parts of an Enigma, of which the cables at the end are empty.
+#[derive(Drop)]
+pub struct Enigma {
+    pub model: Model,
+    pub slots: &'static [Option<Wheel>],
+    pub reflector: Reflector,
+    pub rings: &'static [u8],
+    pub letters: &'static [u8],
+    pub cables: &'static [[u8; 2]],
+}
+
+/// An Enigma I with reflector B, the wheels I, II and III in the slots, no cables, and all rings and letters A.
+pub const PLAIN: Enigma = Enigma {
+    model: Model::EnigmaI,
+    slots: &[Some(Wheel::I), Some(Wheel::II), Some(Wheel::III)],
+    reflector: Reflector::B,
+    rings: b"AAAAA",
+    letters: b"AAAAA",
+    cables: &[],
+};
+
+/// The same machine, at one place: a table or a machine that is static isn't copied into the tests that name it.
+pub static M1: Enigma = PLAIN;
+
+/// The same machine with cable 1 between A and B.
+pub static M1_WITH_A_CABLE: Enigma = Enigma {
+    cables: &[*b"AB"],
+    ..PLAIN
+};
+
+/// The same machine with another ring and another letter on the leftmost wheel, which encipher alike.
+pub const MOVED: Enigma = Enigma {
+    rings: b"BAAAA",
+    letters: b"BAAAA",
+    ..PLAIN
+};
+
+/// An Enigma I with ten cables, and the window BLA.
+pub static TEN_CABLES: Enigma = Enigma {
+    model: Model::EnigmaI,
+    slots: &[Some(Wheel::II), Some(Wheel::IV), Some(Wheel::V)],
+    reflector: Reflector::B,
+    rings: b"ABAUL",
+    letters: b"ABALA",
+    cables: &[
+        *b"AV", *b"BS", *b"CG", *b"DL", *b"FU", *b"HZ", *b"IN", *b"KM", *b"OW", *b"RX",
+    ],
+};
+
+/// An M4 with ten cables, and the window VJNA.
+pub static M4: Enigma = Enigma {
+    model: Model::M4,
+    slots: &[
+        Some(Wheel::Beta),
+        Some(Wheel::II),
+        Some(Wheel::IV),
+        Some(Wheel::I),
+    ],
+    reflector: Reflector::ThinB,
+    rings: b"VAAAAAAAAA",
+    letters: b"AJANAAAAVA",
+    cables: &[
+        *b"AT", *b"BL", *b"DF", *b"GJ", *b"HM", *b"NW", *b"OP", *b"QY", *b"RZ", *b"VX",
+    ],
+};
+
+/// A day of an Enigma: the wheels with their rings and window letters.
+#[derive(Drop)]
+pub struct EnigmaDay {
+    pub number: u8,
+    pub model: Model,
+    pub reflector: Reflector,
+    pub wheels: &'static [(Wheel, u8, u8)],
+    pub pairs: &'static [[u8; 2]],
+    pub groups: &'static [[u8; 3]],
+}
+
+/// The day of the Enigma I with reflector B, the wheels I, II and III, and all rings and letters A.
+pub const PLAIN_DAY: EnigmaDay = EnigmaDay {
+    number: 1,
+    model: Model::EnigmaI,
+    reflector: Reflector::B,
+    wheels: &[
+        (Wheel::I, b'A', b'A'),
+        (Wheel::II, b'A', b'A'),
+        (Wheel::III, b'A', b'A'),
+    ],
+    pairs: &[],
+    groups: &[*b"AAA"],
+};
+
+/// The same day, at one place.
+pub static S1: EnigmaDay = PLAIN_DAY;
 
 /// The letter of that capital letter.
 pub fn letter(rt: &impl Abort, byte: u8) -> Letter {
@@ -18,95 +112,97 @@ pub fn letters<const N: usize>(rt: &impl Abort, text: &[u8; N]) -> [Letter; N] {
     letters
 }
 
-/// Two letters in a cable.
-pub fn pair(rt: &impl Abort, one: u8, other: u8) -> (Option<Letter>, Option<Letter>) {
-    (Some(letter(rt, one)), Some(letter(rt, other)))
+/// The letters of a cable.
+pub fn cable(text: [u8; 2]) -> (Option<Letter>, Option<Letter>) {
+    let [one, other] = text;
+    (Letter::from_byte(one), Letter::from_byte(other))
 }
 
-/// Thirteen cables, the first ones with these pairs of letters.
-pub fn cables(rt: &impl Abort, pairs: &[[u8; 2]]) -> [(Option<Letter>, Option<Letter>); 13] {
+/// Thirteen cables, the first of them so.
+fn cables(texts: &[[u8; 2]]) -> [(Option<Letter>, Option<Letter>); 13] {
     let mut cables = [(None, None); 13];
-    for (cable, [one, other]) in cables.iter_mut().zip(pairs) {
-        *cable = pair(rt, *one, *other);
+    for (plugged, text) in cables.iter_mut().zip(texts) {
+        *plugged = cable(*text);
     }
     cables
 }
 
-/// The wheels in their slots.
-pub fn slots(rt: &impl Abort, wheels: &[Wheel]) -> PerSlot<Option<Wheel>> {
-    let mut slots = [None; 4];
-    for (slot, wheel) in slots.iter_mut().zip(wheels) {
-        *slot = Some(*wheel);
-    }
-    if wheels.len() <= 4 {
-        PerSlot::new(&slots[..wheels.len()]).expect(rt, "three or four slots")
-    } else {
-        panic!(rt; "too many slots")
-    }
-}
-
 /// Letters for the wheels of a box.
-pub fn per_wheel<const N: usize>(rt: &impl Abort, text: &[u8; N]) -> PerWheel<Letter> {
-    PerWheel::new(&letters(rt, text)).expect(rt, "five, eight or ten letters")
-}
-
-/// An Enigma I with reflector B, the wheels I, II and III in the slots, no cables, and all rings and letters A.
-pub fn m1(rt: &impl Abort) -> RotorParts {
-    RotorParts {
-        model: Model::EnigmaI,
-        slots: slots(rt, &[Wheel::I, Wheel::II, Wheel::III]),
-        reflector: Reflector::B,
-        rings: per_wheel(rt, b"AAAAA"),
-        letters: per_wheel(rt, b"AAAAA"),
-        cables: [(None, None); 13],
+fn per_wheel(rt: &impl Abort, text: &[u8]) -> Option<PerWheel<Letter>> {
+    let mut letters = [Letter::A; 10];
+    for (shown, byte) in letters.iter_mut().zip(text) {
+        *shown = letter(rt, *byte);
     }
+    PerWheel::new(letters.get(..text.len())?)
 }
 
-/// The same machine with cable 1 between A and B.
-pub fn m1_with_a_cable(rt: &impl Abort) -> RotorParts {
-    RotorParts {
-        cables: cables(rt, &[*b"AB"]),
-        ..m1(rt)
+/// The parts of the Enigma.
+fn enigma_parts(rt: &impl Abort, enigma: &Enigma) -> Option<RotorParts> {
+    Some(RotorParts {
+        model: enigma.model,
+        slots: PerSlot::new(enigma.slots)?,
+        reflector: enigma.reflector,
+        rings: per_wheel(rt, enigma.rings)?,
+        letters: per_wheel(rt, enigma.letters)?,
+        cables: cables(enigma.cables),
+    })
+}
+
+/// The parts of the Enigma, which may make no machine.
+pub fn rotor_parts(rt: &impl Abort, enigma: &Enigma) -> RotorParts {
+    enigma_parts(rt, enigma).expect(rt, "wheels for three or four slots, and letters for a box")
+}
+
+/// The Enigma.
+pub fn rotor(rt: &impl Abort, enigma: &Enigma) -> Machine {
+    Machine::rotor(rotor_parts(rt, enigma)).expect(rt, "legal parts")
+}
+
+/// The wheels of a day.
+pub fn sheet_wheels(rt: &impl Abort, texts: &[(Wheel, u8, u8)]) -> [SheetWheel; 4] {
+    let mut wheels = [SheetWheel {
+        wheel: Wheel::I,
+        ring: Letter::A,
+        letter: Letter::A,
+    }; 4];
+    for (place, (wheel, ring, shown)) in wheels.iter_mut().zip(texts) {
+        *place = SheetWheel {
+            wheel: *wheel,
+            ring: letter(rt, *ring),
+            letter: letter(rt, *shown),
+        };
     }
+    wheels
 }
 
-/// An Enigma I with ten cables, and the window BLA.
-pub fn with_ten_cables(rt: &impl Abort) -> RotorParts {
-    RotorParts {
-        model: Model::EnigmaI,
-        slots: slots(rt, &[Wheel::II, Wheel::IV, Wheel::V]),
-        reflector: Reflector::B,
-        rings: per_wheel(rt, b"ABAUL"),
-        letters: per_wheel(rt, b"ABALA"),
-        cables: cables(
-            rt,
-            &[
-                *b"AV", *b"BS", *b"CG", *b"DL", *b"FU", *b"HZ", *b"IN", *b"KM", *b"OW", *b"RX",
-            ],
-        ),
+/// The pairs of a day.
+fn pairs(rt: &impl Abort, texts: &[[u8; 2]]) -> [(Letter, Letter); 13] {
+    let mut pairs = [(Letter::A, Letter::A); 13];
+    for (pair, [one, other]) in pairs.iter_mut().zip(texts) {
+        *pair = (letter(rt, *one), letter(rt, *other));
     }
+    pairs
 }
 
-/// An M4 with ten cables, and the window VJNA.
-pub fn m4(rt: &impl Abort) -> RotorParts {
-    RotorParts {
-        model: Model::M4,
-        slots: slots(rt, &[Wheel::Beta, Wheel::II, Wheel::IV, Wheel::I]),
-        reflector: Reflector::ThinB,
-        rings: per_wheel(rt, b"VAAAAAAAAA"),
-        letters: per_wheel(rt, b"AJANAAAAVA"),
-        cables: cables(
-            rt,
-            &[
-                *b"AT", *b"BL", *b"DF", *b"GJ", *b"HM", *b"NW", *b"OP", *b"QY", *b"RZ", *b"VX",
-            ],
-        ),
+/// The groups of a day.
+fn groups(rt: &impl Abort, texts: &[[u8; 3]]) -> [[Letter; 3]; 5] {
+    let mut groups = [[Letter::A; 3]; 5];
+    for (group, text) in groups.iter_mut().zip(texts) {
+        *group = letters(rt, text);
     }
+    groups
 }
 
-/// The rotor machine of these parts.
-pub fn rotor(rt: &impl Abort, parts: RotorParts) -> Machine {
-    Machine::rotor(parts).expect(rt, "legal parts")
+/// The day of an Enigma, if it is one.
+pub fn enigma_day(rt: &impl Abort, day: &EnigmaDay) -> Option<SheetDay> {
+    SheetDay::rotor(
+        day.number,
+        day.model,
+        day.reflector,
+        sheet_wheels(rt, day.wheels).get(..day.wheels.len())?,
+        pairs(rt, day.pairs).get(..day.pairs.len())?,
+        groups(rt, day.groups).get(..day.groups.len())?,
+    )
 }
 
 /// No pin effective.
@@ -122,6 +218,11 @@ pub const NO_PINS: PinSet = PinSet {
 /// A bar that stands with its lugs at these places.
 pub fn standing(rt: &impl Abort, left: Place, right: Place) -> Standing {
     Standing::new(left, right).expect(rt, "the left place before the right one")
+}
+
+/// The reading of two numbers.
+pub fn reading(rt: &impl Abort, one: u8, other: u8) -> Reading {
+    Reading::new(one, other).expect(rt, "a reading")
 }
 
 /// A Converter that shows AAAAAA, with no effective pin and every bar at 0L-0R.
@@ -144,28 +245,13 @@ pub fn met_twice(rt: &impl Abort) -> PinParts {
 
 /// All bars at 1-0L, and only the pin at P of wheel 1 effective.
 pub fn all_bars_met(rt: &impl Abort) -> PinParts {
-    let met = [standing(rt, Place::One, Place::ZeroLeft); 27];
-    let mut parts = PinParts {
-        bars: met,
-        ..converter(rt)
-    };
-    parts.pins.w1[15] = true;
-    parts
-}
-
-/// The first bars at 3-0R and 0L-3.
-pub fn two_bars_set(rt: &impl Abort) -> PinParts {
-    let mut parts = converter(rt);
-    parts.bars[0] = standing(rt, Place::Three, Place::ZeroRight);
-    parts.bars[1] = standing(rt, Place::ZeroLeft, Place::Three);
-    parts
-}
-
-/// Bar 1 at 1-3.
-pub fn first_bar_set(rt: &impl Abort) -> PinParts {
-    let mut parts = converter(rt);
-    parts.bars[0] = standing(rt, Place::One, Place::Three);
-    parts
+    let mut pins = NO_PINS;
+    pins.w1[15] = true;
+    PinParts {
+        pins,
+        letters: [Letter::A; 6],
+        bars: [standing(rt, Place::One, Place::ZeroLeft); 27],
+    }
 }
 
 /// The Converter of these parts.
