@@ -234,39 +234,34 @@ fn stops_where_the_text_does(rt: HostRuntime) {
     assert_eq!(rt; ran.sink.taken(), b"BD".as_slice());
 }
 
-/// An answer, its status, and its line.
-static EXITS: [(Result<(), Stop>, u8, Option<&str>); 6] = [
-    (Ok(()), 0, None),
-    (Err(Usage), 2, Some("usage: desk COMMAND WORDS")),
-    (
-        Err(Unread(FileFault::NoMemory)),
-        1,
-        Some("refused 26 NoMemory"),
-    ),
-    (Err(Unread(FileFault::Device)), 1, Some("refused 6 Device")),
+/// An answer, its status, and the line that tells of it, if there is one.
+static EXITS: [(Result<(), Stop>, u8, &str); 6] = [
+    (Ok(()), 0, ""),
+    (Err(Usage), 2, "usage: desk COMMAND WORDS"),
+    (Err(Unread(FileFault::NoMemory)), 1, "refused 26 NoMemory"),
+    (Err(Unread(FileFault::Device)), 1, "refused 6 Device"),
     (
         Err(Unread(FileFault::ReadTooLong)),
         1,
-        Some("refused 38 ReadTooLong"),
+        "refused 38 ReadTooLong",
     ),
     (
         Err(Refused(DeskFault::BadByte(3))),
         1,
-        Some("refused 28 BadByte 3"),
+        "refused 28 BadByte 3",
     ),
 ];
 
 #[test]
 fn ends_with_a_status_and_a_line(rt: HostRuntime) -> Result<(), Fail> {
-    for (answer, status, line) in &EXITS {
+    for (answer, status, text) in &EXITS {
         let exit = Exit::of(*answer);
         assert_eq!(rt; exit.status, *status);
-        let mut said = String::new(rt.alloc());
+        assert_eq!(rt; exit.line, answer.err());
         if let Some(stop) = exit.line {
-            said = format!(in rt.alloc(); "{stop}")?;
+            let said = format!(in rt.alloc(); "{stop}")?;
+            assert_eq!(rt; said.as_str(), *text);
         }
-        assert_eq!(rt; said.as_str(), line.unwrap_or(""));
-        assert_eq!(rt; exit.line.is_some(), line.is_some());
     }
     Ok(())
 }

@@ -45,15 +45,27 @@ static APPLIED: [Applied; 5] = [
     ),
 ];
 
+/// The card cut within its last line.
+const CUT: &str = "CARD 1 DAY 8
+PULL 1 A
+PULL 2 C
+PUT 1 C
+PUT 2 E
+SETTINGS 4
+CABLES 2 2 0 0 0 0 0 0 0 0 0 0 0
+PAIRS 0 0 0 0 0 0 0 0 0 0 0 0 0
+SUM";
+
 /// A machine, a list, and the fault.
 type Case = (&'static str, &'static str, DeskFault);
 
-static REFUSED: [Case; 9] = [
+static REFUSED: [Case; 10] = [
     ("x =", "SEAT", File(NotToml)),
     (MACHINE, "SEAT", List(BadLine(1))),
     (MACHINE, "TURN 4 B\nSEAT", List(BadLine(2))),
     (MACHINE, "CARD\n", List(BadLine(1))),
     (MACHINE, "CARD 2 DAY 8\n", Card(CardFault::BadHead)),
+    (MACHINE, CUT, Card(CardFault::BadLine(9))),
     (
         MACHINE,
         CARD,
@@ -107,13 +119,6 @@ fn refuses_the_first_fault_and_writes_nothing(rt: HostRuntime) {
     for (machine, list, fault) in &REFUSED {
         run(rt.alloc(), machine, list, 0).refused(&rt, *fault);
     }
-}
-
-#[test]
-fn refuses_a_card_that_is_cut(rt: HostRuntime) -> Result<(), AllocError> {
-    let cut = CARD.replace(rt.alloc(), "SUM 4\n", "SUM")?;
-    run(rt.alloc(), MACHINE, cut.as_str(), 0).refused(&rt, Card(CardFault::BadLine(9)));
-    Ok(())
 }
 
 #[test]

@@ -233,10 +233,24 @@ fn prints_the_largest_card(rt: HostRuntime) -> Result<(), Fail> {
     Ok(())
 }
 
+/// A day whose fourth row is none.
+const BAD_ROW: &str = "[[day]]
+day = 9
+model = \"M-209\"
+rows = [
+    \"0-3\", \"3-6\", \"0-0\", \"4-4\", \"0-0\", \"0-0\", \"0-0\", \"0-0\", \"0-0\",
+    \"0-0\", \"0-0\", \"0-0\", \"0-0\", \"0-0\", \"0-0\", \"0-0\", \"0-0\", \"0-0\",
+    \"0-0\", \"0-0\", \"0-0\", \"0-0\", \"0-0\", \"0-0\", \"0-0\", \"0-0\", \"0-0\",
+]
+pins = [\"P\", \"O\", \"\", \"\", \"\", \"\"]
+window = \"AAAAAA\"
+list = \"QV\"
+";
+
 /// A machine, a sheet, a day, and the fault.
 type Refused = (&'static str, &'static str, u8, DeskFault);
 
-static REFUSED: [Refused; 9] = [
+static REFUSED: [Refused; 10] = [
     ("=", "=", 5, File(NotToml)),
     ("model = \"M3\"", "=", 5, File(Missing(Key::Version))),
     (MACHINE, "=", 5, File(NotToml)),
@@ -246,6 +260,7 @@ static REFUSED: [Refused; 9] = [
     (MACHINE, SHEET, 0, NoSuchDay),
     (MACHINE, SHEET, 9, OtherModel),
     (TWO_BARS, SHEET, 11, OtherModel),
+    (TWO_BARS, BAD_ROW, 9, File(BadRow(4))),
 ];
 
 #[test]
@@ -253,14 +268,6 @@ fn refuses_the_first_fault_and_writes_nothing(rt: HostRuntime) {
     for (machine, sheet, day, fault) in &REFUSED {
         run(rt.alloc(), machine, sheet, *day, 0).refused(&rt, *fault);
     }
-}
-
-#[test]
-fn refuses_a_row_that_is_none(rt: HostRuntime) -> Result<(), AllocError> {
-    let fourth = ["\"3-6\", \"0-0\", \"0-0\"", "\"3-6\", \"0-0\", \"4-4\""];
-    let sheet = SHEET.replace(rt.alloc(), fourth[0], fourth[1])?;
-    run(rt.alloc(), TWO_BARS, sheet.as_str(), 9, 0).refused(&rt, File(BadRow(4)));
-    Ok(())
 }
 
 /// The card of two settings of the machine whose differences cancel.
@@ -285,10 +292,4 @@ fn stops_where_the_sink_fails(rt: HostRuntime) -> Result<(), AllocError> {
         }
     }
     Ok(())
-}
-
-#[test]
-fn takes_ten_bytes_and_fails(rt: HostRuntime) {
-    let ran = run(rt.alloc(), MACHINE, SHEET, 11, 10);
-    ran.ended(&rt, Err(DeskFault::Device), b"CARD 1 DAY");
 }

@@ -159,15 +159,25 @@ fn refuses_what_comes_before_the_card(rt: HostRuntime) {
     }
 }
 
+/// The card is refused on the eighth day.
+fn is_refused(rt: &impl Abort, alloc: Global, card: &str, fault: DeskFault) {
+    run(alloc, MACHINE, SHEET, 8, card, 0).refused(rt, fault);
+}
+
 #[test]
 fn refuses_bytes_that_are_no_card(rt: HostRuntime) -> Result<(), AllocError> {
     for ([old, new], fault) in &BAD_CARDS {
         let card = EMPTY.replace(rt.alloc(), old, new)?;
-        run(rt.alloc(), MACHINE, SHEET, 8, card.as_str(), 0).refused(&rt, *fault);
+        is_refused(&rt, rt.alloc(), card.as_str(), *fault);
     }
+    Ok(())
+}
+
+#[test]
+fn refuses_a_card_of_too_many_lines(rt: HostRuntime) -> Result<(), AllocError> {
     let lines = "TURN 1 A\n".repeat(rt.alloc(), 193)?;
-    let card = EMPTY.replace(rt.alloc(), "SETTINGS 0\n", lines.as_str())?;
-    run(rt.alloc(), MACHINE, SHEET, 8, card.as_str(), 0).refused(&rt, Card(TooMany));
+    let card = format!(in rt.alloc(); "CARD 1 DAY 8\n{lines}")?;
+    is_refused(&rt, rt.alloc(), card.as_str(), Card(TooMany));
     Ok(())
 }
 
