@@ -1,6 +1,37 @@
-//! The files that tests begin from.
+//! The files that tests begin from, and what a run did.
 use crate::fault::DeskFault;
-use kd_form::FormFault;
+use kd_tables::{MemorySink, Sink};
+use std::process::Abort;
+
+/// What a call answered, and the sink that it wrote to.
+#[derive(Drop)]
+pub struct Ran {
+    pub answer: Result<(), DeskFault>,
+    pub sink: MemorySink<4096>,
+}
+
+impl Ran {
+    /// This was answered, and these bytes were written.
+    pub fn ended(&self, rt: &impl Abort, answer: Result<(), DeskFault>, written: &[u8]) {
+        assert_eq!(rt; self.answer, answer);
+        assert_eq!(rt; self.sink.taken(), written);
+    }
+
+    /// This was refused before anything was written.
+    pub fn refused(&self, rt: &impl Abort, fault: DeskFault) {
+        assert_eq!(rt; self.answer, Err(fault));
+        assert!(rt; !self.sink.failed());
+    }
+}
+
+/// A part of a file, and what stands in its place.
+pub type Change = [&'static str; 2];
+
+/// No change.
+pub const SAME: Change = ["model", "model"];
+
+/// Two cables of the Enigma I.
+pub const PLUGGED: Change = ["version = 1", "version = 1\ncables = [\"AB\", \"CD\"]"];
 
 /// An Enigma I with reflector B, the wheels I, II and III in the slots, and all rings and letters A.
 pub const MACHINE: &str = "version = 1
@@ -148,6 +179,20 @@ bars = [
 ]
 ";
 
+/// The card that moves one lug of it.
+pub const ONE_LUG: &str = "CARD 1 DAY 9
+LUG 1 R 6
+SETTINGS 1
+BARS 1 1 0 0 0 0 0 0 0 0 0 0 0 0 0 0 0 0 0 0 0 0 0 0 0 0 0
+ROWS -1 0 0 0 0 0 0 0 0 0 0 0 0 0 0 0 0 0 0 0 0 0 0 0 0 0 0
+SUM 1
+";
+
+/// Both lugs of its first bar have to move, on a day whose first row is 3-6 and whose others are 0-0.
+pub const LUGS_IN_TURN: Change = ["\"3-0R\", \"0L-3\"", "\"1-3\", \"0L-0R\""];
+
+pub const ROWS_IN_TURN: Change = ["\"0-3\", \"3-6\"", "\"3-6\", \"0-0\""];
+
 /// The card of a machine that is the day's already.
 pub const EMPTY: &str = "CARD 1 DAY 11
 SETTINGS 0
@@ -168,7 +213,8 @@ bars = [
 ]
 ";
 
-/// A key sheet with the Enigma's own settings and a group on day 17, and that Converter on day 15.
+/// A key sheet with the Enigma's own settings and a group on day 17, those of the M3 on day 3 and of the M4 on day 4, and
+/// that Converter on day 15.
 pub const MESSAGES: &str = "[[day]]
 day = 17
 model = \"Enigma I\"
@@ -176,6 +222,26 @@ reflector = \"B\"
 wheels = [\"I\", \"II\", \"III\"]
 rings = \"AAA\"
 window = \"AAA\"
+plugs = []
+groups = [\"ZUG\"]
+
+[[day]]
+day = 3
+model = \"M3\"
+reflector = \"B\"
+wheels = [\"I\", \"II\", \"III\"]
+rings = \"AAA\"
+window = \"AAA\"
+plugs = []
+groups = [\"ZUG\"]
+
+[[day]]
+day = 4
+model = \"M4\"
+reflector = \"b\"
+wheels = [\"Beta\", \"I\", \"II\", \"III\"]
+rings = \"AAAA\"
+window = \"AAAA\"
 plugs = []
 groups = [\"ZUG\"]
 
@@ -203,6 +269,15 @@ QXUGZ BDZGO
 
 pub const TEXT: &str = "AAAAA\n";
 
+/// An order for the M4, and the form that it becomes.
+pub const M4_ORDER: &str = "PART AAAA AAAA QX UGZ
+TEXT
+AAAAA";
+
+pub const M4_FORM: &str = "PART 1/1 10 AAAA BDZG
+QXUGZ BDZGO
+";
+
 /// An order for that Converter, the form that it becomes, and the text that this becomes.
 pub const CONVERTER_ORDER: &str = "PART T ABCDEF
 TEXT
@@ -213,6 +288,15 @@ TTABC DEFQV SVOOL ADLIO WCCCC TTABC DEFQV
 ";
 
 pub const CONVERTER_TEXT: &str = "HELLO WORLDXXXX\n";
+
+/// The Enigma I showing other letters.
+pub const TURNED: &str = "version = 1
+model = \"Enigma I\"
+reflector = \"B\"
+slots = [\"I\", \"II\", \"III\"]
+rings = \"AAAAA\"
+letters = \"QRSAA\"
+";
 
 /// The Enigma I with another ring, which is off the key, and with an empty slot, which isn't ready.
 pub const OFF_KEY: &str = "version = 1
@@ -230,8 +314,3 @@ slots = [\"I\", \"\", \"III\"]
 rings = \"AAAAA\"
 letters = \"AAAAA\"
 ";
-
-/// The desk's refusal of a message.
-pub fn message(fault: FormFault) -> DeskFault {
-    DeskFault::Message(fault)
-}

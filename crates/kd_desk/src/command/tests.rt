@@ -1,161 +1,135 @@
-use super::{Command, parse_words};
-use crate::fault::DeskFault;
-use crate::files::FileFault;
+use super::{Action, Command, Task, Work, parse_words};
 use crate::stop::Stop;
-use std::test::Fail;
+use std::alloc::Global;
+use std::process::Abort;
 
-#[test]
-fn finds_the_machine_file(rt: HostRuntime) -> Result<(), Fail> {
-    for (words, machine) in [
-        (["desk", "type", "m.toml"].as_slice(), "m.toml"),
-        (["desk", "type", "-"].as_slice(), "-"),
-        (["desk", "type", ""].as_slice(), ""),
-        (["desk", "type", "--", "m.toml"].as_slice(), "m.toml"),
-        (["desk", "type", "--", "-m.toml"].as_slice(), "-m.toml"),
-        (["desk", "type", "--", "--"].as_slice(), "--"),
-        (["desk", "type", "type"].as_slice(), "type"),
-    ] {
-        assert_eq!(rt;
-            parse_words(rt.alloc(), words),
-            Ok(Command::Type { machine })
-        );
-    }
-    Ok(())
+/// The program's words, and the machine file that they name.
+static TYPE: [(&[&str], &str); 7] = [
+    (&["desk", "type", "m.toml"], "m.toml"),
+    (&["desk", "type", "-"], "-"),
+    (&["desk", "type", ""], ""),
+    (&["desk", "type", "--", "m.toml"], "m.toml"),
+    (&["desk", "type", "--", "-m.toml"], "-m.toml"),
+    (&["desk", "type", "--", "--"], "--"),
+    (&["desk", "type", "type"], "type"),
+];
+
+/// The program's words, and the machine file and the list that they name.
+static APPLY: [(&[&str], &str, &str); 4] = [
+    (&["desk", "apply", "m.toml", "l.txt"], "m.toml", "l.txt"),
+    (&["desk", "apply", "apply", "-"], "apply", "-"),
+    (
+        &["desk", "apply", "--", "-m.toml", "-l.txt"],
+        "-m.toml",
+        "-l.txt",
+    ),
+    (
+        &["desk", "apply", "m.toml", "--", "-l.txt"],
+        "m.toml",
+        "-l.txt",
+    ),
+];
+
+/// The name of a command with a day, how many words it has, and what it does.
+static ON_A_DAY: [(&str, usize, Task<&str>); 4] = [
+    ("card", 5, Task::Card),
+    ("check", 6, Task::Work(Work::Check, "x.txt")),
+    ("send", 6, Task::Work(Work::Send, "x.txt")),
+    ("receive", 6, Task::Work(Work::Receive, "x.txt")),
+];
+
+/// Words for a day, and the day that they are.
+static DAYS: [(&str, Option<u8>); 14] = [
+    ("1", Some(1)),
+    ("9", Some(9)),
+    ("10", Some(10)),
+    ("31", Some(31)),
+    ("", None),
+    ("0", None),
+    ("01", None),
+    ("+1", None),
+    ("32", None),
+    ("40", None),
+    ("100", None),
+    ("1 ", None),
+    ("x", None),
+    ("-1", None),
+];
+
+/// Words that say no command.
+static OTHERS: [&[&str]; 26] = [
+    &["desk"],
+    &["desk", ""],
+    &["desk", "type"],
+    &["desk", "type", "--"],
+    &["desk", "type", "m.toml", "more"],
+    &["desk", "type", "-m.toml"],
+    &["desk", "type", "-5"],
+    &["desk", "type", "--m.toml"],
+    &["desk", "type", "--help"],
+    &["desk", "type", "-h"],
+    &["desk", "--", "type", "m.toml"],
+    &["desk", "--help"],
+    &["desk", "-V"],
+    &["desk", "help"],
+    &["desk", "Type", "m.toml"],
+    &["desk", "typ", "m.toml"],
+    &["desk", "apply", "m.toml"],
+    &["desk", "apply", "m.toml", "l.txt", "more"],
+    &["desk", "apply", "-m.toml", "l.txt"],
+    &["desk", "apply", "m.toml", "-l.txt"],
+    &["desk", "card", "m.toml", "s.toml"],
+    &["desk", "card", "m.toml", "s.toml", "1", "more"],
+    &["desk", "check", "m.toml", "s.toml", "1"],
+    &["desk", "check", "m.toml", "s.toml", "c.txt", "1"],
+    &["desk", "send", "m.toml", "s.toml", "1"],
+    &["desk", "receive", "m.toml", "s.toml", "1"],
+];
+
+/// The words say this command, or none.
+fn say(rt: &impl Abort, alloc: Global, words: &[&str], command: Option<Command<&str>>) {
+    assert_eq!(rt; parse_words(alloc, words), command.ok_or(Stop::Usage));
 }
 
 #[test]
-fn finds_the_machine_and_the_list(rt: HostRuntime) -> Result<(), Fail> {
-    for (words, [machine, list]) in [
-        (
-            ["desk", "apply", "m.toml", "l.txt"].as_slice(),
-            ["m.toml", "l.txt"],
-        ),
-        (["desk", "apply", "apply", "-"].as_slice(), ["apply", "-"]),
-        (
-            ["desk", "apply", "--", "-m.toml", "-l.txt"].as_slice(),
-            ["-m.toml", "-l.txt"],
-        ),
-        (
-            ["desk", "apply", "m.toml", "--", "-l.txt"].as_slice(),
-            ["m.toml", "-l.txt"],
-        ),
-    ] {
-        assert_eq!(rt;
-            parse_words(rt.alloc(), words),
-            Ok(Command::Apply { machine, list })
-        );
+fn finds_the_machine_file(rt: HostRuntime) {
+    let action = Action::Type;
+    for (words, machine) in &TYPE {
+        let machine = *machine;
+        say(&rt, rt.alloc(), words, Some(Command { machine, action }));
     }
-    Ok(())
 }
 
 #[test]
-fn finds_the_files_of_a_card(rt: HostRuntime) -> Result<(), Fail> {
-    for (word, day) in [("1", 1), ("9", 9), ("10", 10), ("31", 31)] {
-        let words = ["desk", "card", "m.toml", "s.toml", word];
-        let card = Command::Card {
-            machine: "m.toml",
-            sheet: "s.toml",
-            day,
-        };
-        assert_eq!(rt; parse_words(rt.alloc(), words.as_slice()), Ok(card));
-        let words = ["desk", "check", "m.toml", "s.toml", word, "c.txt"];
-        let check = Command::Check {
-            machine: "m.toml",
-            sheet: "s.toml",
-            day,
-            card: "c.txt",
-        };
-        assert_eq!(rt; parse_words(rt.alloc(), words.as_slice()), Ok(check));
-        let words = ["desk", "send", "m.toml", "s.toml", word, "o.txt"];
-        let send = Command::Send {
-            machine: "m.toml",
-            sheet: "s.toml",
-            day,
-            order: "o.txt",
-        };
-        assert_eq!(rt; parse_words(rt.alloc(), words.as_slice()), Ok(send));
-        let words = ["desk", "receive", "m.toml", "s.toml", word, "f.txt"];
-        let receive = Command::Receive {
-            machine: "m.toml",
-            sheet: "s.toml",
-            day,
-            form: "f.txt",
-        };
-        assert_eq!(rt; parse_words(rt.alloc(), words.as_slice()), Ok(receive));
+fn finds_the_machine_and_the_list(rt: HostRuntime) {
+    for (words, machine, list) in &APPLY {
+        let action = Action::Apply { list: *list };
+        let machine = *machine;
+        say(&rt, rt.alloc(), words, Some(Command { machine, action }));
     }
-    Ok(())
 }
 
 #[test]
-fn refuses_other_days(rt: HostRuntime) -> Result<(), Fail> {
-    for word in ["", "0", "01", "+1", "32", "40", "100", "1 ", "x", "-1"] {
-        for words in [
-            ["desk", "card", "m.toml", "s.toml", word].as_slice(),
-            ["desk", "check", "m.toml", "s.toml", word, "c.txt"].as_slice(),
-            ["desk", "send", "m.toml", "s.toml", word, "o.txt"].as_slice(),
-            ["desk", "receive", "m.toml", "s.toml", word, "f.txt"].as_slice(),
-        ] {
-            assert_eq!(rt; parse_words(rt.alloc(), words), Err(Stop::Usage));
+fn finds_the_day(rt: HostRuntime) {
+    for (word, day) in &DAYS {
+        for (name, count, task) in &ON_A_DAY {
+            let words = ["desk", name, "m.toml", "s.toml", word, "x.txt"];
+            let command = day.map(|day| Command {
+                machine: "m.toml",
+                action: Action::OnDay {
+                    sheet: "s.toml",
+                    day,
+                    task: *task,
+                },
+            });
+            say(&rt, rt.alloc(), &words[..(*count).min(6)], command);
         }
     }
-    Ok(())
 }
 
 #[test]
-fn refuses_other_words(rt: HostRuntime) -> Result<(), Fail> {
-    for words in [
-        ["desk"].as_slice(),
-        ["desk", ""].as_slice(),
-        ["desk", "type"].as_slice(),
-        ["desk", "type", "--"].as_slice(),
-        ["desk", "type", "m.toml", "more"].as_slice(),
-        ["desk", "type", "-m.toml"].as_slice(),
-        ["desk", "type", "-5"].as_slice(),
-        ["desk", "type", "--m.toml"].as_slice(),
-        ["desk", "type", "--help"].as_slice(),
-        ["desk", "type", "-h"].as_slice(),
-        ["desk", "--", "type", "m.toml"].as_slice(),
-        ["desk", "--help"].as_slice(),
-        ["desk", "-V"].as_slice(),
-        ["desk", "help"].as_slice(),
-        ["desk", "Type", "m.toml"].as_slice(),
-        ["desk", "typ", "m.toml"].as_slice(),
-        ["desk", "apply", "m.toml"].as_slice(),
-        ["desk", "apply", "m.toml", "l.txt", "more"].as_slice(),
-        ["desk", "apply", "-m.toml", "l.txt"].as_slice(),
-        ["desk", "apply", "m.toml", "-l.txt"].as_slice(),
-        ["desk", "card", "m.toml", "s.toml"].as_slice(),
-        ["desk", "card", "m.toml", "s.toml", "1", "more"].as_slice(),
-        ["desk", "check", "m.toml", "s.toml", "1"].as_slice(),
-        ["desk", "check", "m.toml", "s.toml", "c.txt", "1"].as_slice(),
-        ["desk", "send", "m.toml", "s.toml", "1"].as_slice(),
-        ["desk", "receive", "m.toml", "s.toml", "1"].as_slice(),
-    ] {
-        assert_eq!(rt; parse_words(rt.alloc(), words), Err(Stop::Usage));
+fn refuses_other_words(rt: HostRuntime) {
+    for words in &OTHERS {
+        say(&rt, rt.alloc(), words, None);
     }
-    Ok(())
-}
-
-#[test]
-fn says_why_it_stops(rt: HostRuntime) -> Result<(), Fail> {
-    for (stop, status, text) in [
-        (Stop::Usage, 2, "usage: desk COMMAND WORDS"),
-        (Stop::Unread(FileFault::NoMemory), 1, "refused 26 NoMemory"),
-        (Stop::Unread(FileFault::Device), 1, "refused 6 Device"),
-        (
-            Stop::Unread(FileFault::ReadTooLong),
-            1,
-            "refused 38 ReadTooLong",
-        ),
-        (
-            Stop::Refused(DeskFault::BadByte(3)),
-            1,
-            "refused 28 BadByte 3",
-        ),
-    ] {
-        assert_eq!(rt; stop.status(), status);
-        let said = format!(in rt.alloc(); "{stop}")?;
-        assert_eq!(rt; said.as_str(), text);
-    }
-    Ok(())
 }

@@ -2,127 +2,266 @@ use super::run_desk;
 use crate::fault::DeskFault;
 use crate::files::{FileFault, MemoryFiles};
 use crate::samples::{EMPTY, FORM, MACHINE, MESSAGES, ORDER, SHEET, TEXT, WRITTEN};
-use crate::stop::Stop;
+use crate::stop::Exit;
+use crate::stop::Stop::{self, Refused, Unread, Usage};
 use kd_card::IllegalAt;
-use kd_sheet::SheetFault;
+use kd_sheet::SheetFault::NotToml;
 use kd_state::Why;
 use kd_tables::{MemorySink, MemorySource, Sink, Source};
+use std::alloc::{AllocError, Global};
+use std::process::Abort;
 use std::test::Fail;
 
-#[test]
-fn carries_each_command_out(rt: HostRuntime) -> Result<(), Fail> {
-    let turned = WRITTEN.replace(rt.alloc(), "AAAAA", "BAAAA")?;
-    let files = [
-        ("l.txt", b"RING I B\nTURN 1 B\n".as_slice()),
+/// What a run answered, and the source and the sink that it had.
+#[derive(Drop)]
+struct Ran<'a> {
+    answer: Result<(), Stop>,
+    source: MemorySource<'a>,
+    sink: MemorySink<512>,
+}
+
+/// The name of a file, and its bytes.
+type Held<'a> = (&'a str, &'a [u8]);
+
+/// What becomes of the words with these files.
+fn run<'a>(
+    alloc: Global,
+    words: &'a [&'a str],
+    files: &'a [Held<'a>],
+    mut source: MemorySource<'a>,
+    room: usize,
+) -> Ran<'a> {
+    let mut files = MemoryFiles::new(files);
+    let mut sink = MemorySink::new(room.min(512));
+    let answer = run_desk(alloc, words, &mut files, &mut source, &mut sink);
+    Ran {
+        answer,
+        source,
+        sink,
+    }
+}
+
+/// The machine that the list leads to.
+const TURNED: &str = "version = 1
+model = \"Enigma I\"
+reflector = \"B\"
+slots = [\"I\", \"II\", \"III\"]
+rings = \"BAAAA\"
+letters = \"BAAAA\"
+cables = [\"\", \"\", \"\", \"\", \"\", \"\", \"\", \"\", \"\", \"\", \"\", \"\", \"\"]
+";
+
+/// The files that the words name.
+fn files() -> [Held<'static>; 9] {
+    [
+        ("l.txt", b"RING I B\nTURN 1 B\n"),
         ("m.toml", MACHINE.as_bytes()),
         ("s.toml", SHEET.as_bytes()),
         ("c.txt", EMPTY.as_bytes()),
         ("d.toml", MESSAGES.as_bytes()),
         ("o.txt", ORDER.as_bytes()),
         ("f.txt", FORM.as_bytes()),
-    ];
-    for (words, written) in [
-        (["desk", "type", "m.toml"].as_slice(), "BDZGO\n"),
-        (["desk", "card", "m.toml", "s.toml", "11"].as_slice(), EMPTY),
-        (
-            ["desk", "check", "m.toml", "s.toml", "11", "c.txt"].as_slice(),
-            "SHORTEST 0\n",
-        ),
-        (["desk", "apply", "m.toml", "c.txt"].as_slice(), WRITTEN),
-        (
-            ["desk", "apply", "m.toml", "l.txt"].as_slice(),
-            turned.as_str(),
-        ),
-        (
-            ["desk", "send", "m.toml", "d.toml", "17", "o.txt"].as_slice(),
-            FORM,
-        ),
-        (
-            ["desk", "receive", "m.toml", "d.toml", "17", "f.txt"].as_slice(),
-            TEXT,
-        ),
-    ] {
-        let files = MemoryFiles::new(&files);
-        let mut source = MemorySource::new(b"AAAAA", 5, None);
-        let mut sink = MemorySink::<512>::new(512);
-        run_desk(rt.alloc(), words, &files, &mut source, &mut sink)?;
-        assert_eq!(rt; sink.taken(), written.as_bytes());
+        ("bad", b"x ="),
+        ("t.txt", b"TURN 4 B\n"),
+    ]
+}
+
+/// The program's words, and what is written.
+static DONE: [(&[&str], &str); 7] = [
+    (&["desk", "type", "m.toml"], "BDZGO\n"),
+    (&["desk", "apply", "m.toml", "c.txt"], WRITTEN),
+    (&["desk", "apply", "m.toml", "l.txt"], TURNED),
+    (&["desk", "card", "m.toml", "s.toml", "11"], EMPTY),
+    (
+        &["desk", "check", "m.toml", "s.toml", "11", "c.txt"],
+        "SHORTEST 0\n",
+    ),
+    (&["desk", "send", "m.toml", "d.toml", "17", "o.txt"], FORM),
+    (
+        &["desk", "receive", "m.toml", "d.toml", "17", "f.txt"],
+        TEXT,
+    ),
+];
+
+/// The program's words, and why it stops.
+type Case = (&'static [&'static str], Stop);
+
+static STOPPED: [Case; 8] = [
+    (&["desk"], Usage),
+    (&["desk", "apply", "none"], Usage),
+    (&["desk", "send", "none", "l.txt"], Usage),
+    (&["desk", "type", "bad"], Refused(DeskFault::File(NotToml))),
+    (
+        &["desk", "apply", "bad", "l.txt"],
+        Refused(DeskFault::File(NotToml)),
+    ),
+    (
+        &["desk", "apply", "m.toml", "t.txt"],
+        Refused(DeskFault::Illegal(IllegalAt {
+            line: 1,
+            why: Why::SlotEmpty,
+        })),
+    ),
+    (
+        &["desk", "card", "m.toml", "s.toml", "5"],
+        Refused(DeskFault::NoSuchDay),
+    ),
+    (
+        &["desk", "check", "m.toml", "s.toml", "8", "c.txt"],
+        Refused(DeskFault::OtherDay),
+    ),
+];
+
+/// Each of the files missing, for each command.
+static MISSING: [Case; 14] = [
+    (&["desk", "type", "none"], Unread(FileFault::Device)),
+    (
+        &["desk", "apply", "none", "l.txt"],
+        Unread(FileFault::Device),
+    ),
+    (
+        &["desk", "apply", "m.toml", "none"],
+        Unread(FileFault::Device),
+    ),
+    (
+        &["desk", "card", "none", "s.toml", "11"],
+        Unread(FileFault::Device),
+    ),
+    (
+        &["desk", "card", "m.toml", "none", "11"],
+        Unread(FileFault::Device),
+    ),
+    (
+        &["desk", "check", "none", "s.toml", "11", "c.txt"],
+        Unread(FileFault::Device),
+    ),
+    (
+        &["desk", "check", "m.toml", "none", "11", "c.txt"],
+        Unread(FileFault::Device),
+    ),
+    (
+        &["desk", "check", "m.toml", "s.toml", "11", "none"],
+        Unread(FileFault::Device),
+    ),
+    (
+        &["desk", "send", "none", "d.toml", "17", "o.txt"],
+        Unread(FileFault::Device),
+    ),
+    (
+        &["desk", "send", "m.toml", "none", "17", "o.txt"],
+        Unread(FileFault::Device),
+    ),
+    (
+        &["desk", "send", "m.toml", "d.toml", "17", "none"],
+        Unread(FileFault::Device),
+    ),
+    (
+        &["desk", "receive", "none", "d.toml", "17", "f.txt"],
+        Unread(FileFault::Device),
+    ),
+    (
+        &["desk", "receive", "m.toml", "none", "17", "f.txt"],
+        Unread(FileFault::Device),
+    ),
+    (
+        &["desk", "receive", "m.toml", "d.toml", "17", "none"],
+        Unread(FileFault::Device),
+    ),
+];
+
+/// Where one file has a byte too much, and another one isn't there.
+static TOO_LONG: [Case; 4] = [
+    (&["desk", "type", "long"], Unread(FileFault::ReadTooLong)),
+    (
+        &["desk", "apply", "none", "long"],
+        Unread(FileFault::Device),
+    ),
+    (
+        &["desk", "apply", "bad", "long"],
+        Unread(FileFault::ReadTooLong),
+    ),
+    (
+        &["desk", "check", "bad", "long", "1", "none"],
+        Unread(FileFault::ReadTooLong),
+    ),
+];
+
+/// Each of the words stop the program, and nothing is read or written.
+fn are_stopped<'a>(rt: &impl Abort, alloc: Global, files: &'a [Held<'a>], cases: &'a [Case]) {
+    for (words, stop) in cases {
+        let ran = run(alloc, words, files, MemorySource::new(b"a", 1, Some(0)), 0);
+        assert_eq!(rt; ran.answer, Err(*stop));
+        assert!(rt; !ran.source.failed());
+        assert!(rt; !ran.sink.failed());
     }
-    Ok(())
 }
 
 #[test]
-fn stops_before_it_reads_or_writes(rt: HostRuntime) -> Result<(), Fail> {
-    let long = vec![in rt.alloc(); b' '; 1_048_577]?;
-    let files = [
-        ("l.txt", b"TURN 4 B\n".as_slice()),
-        ("m.toml", MACHINE.as_bytes()),
-        ("long.toml", long.as_slice()),
-        ("bad.toml", b"x =".as_slice()),
-    ];
-    let bad = Stop::Refused(DeskFault::File(SheetFault::NotToml));
-    let line = IllegalAt {
-        line: 1,
-        why: Why::SlotEmpty,
-    };
-    for (words, stop) in [
-        (["desk"].as_slice(), Stop::Usage),
-        (["desk", "apply", "none.toml"].as_slice(), Stop::Usage),
-        (
-            ["desk", "send", "none.toml", "l.txt"].as_slice(),
-            Stop::Usage,
-        ),
-        (
-            ["desk", "type", "none.toml"].as_slice(),
-            Stop::Unread(FileFault::Device),
-        ),
-        (
-            ["desk", "type", "long.toml"].as_slice(),
-            Stop::Unread(FileFault::ReadTooLong),
-        ),
-        (["desk", "type", "bad.toml"].as_slice(), bad),
-        (
-            ["desk", "apply", "none.toml", "long.toml"].as_slice(),
-            Stop::Unread(FileFault::Device),
-        ),
-        (
-            ["desk", "apply", "m.toml", "none.txt"].as_slice(),
-            Stop::Unread(FileFault::Device),
-        ),
-        (
-            ["desk", "apply", "bad.toml", "long.toml"].as_slice(),
-            Stop::Unread(FileFault::ReadTooLong),
-        ),
-        (["desk", "apply", "bad.toml", "l.txt"].as_slice(), bad),
-        (
-            ["desk", "apply", "m.toml", "l.txt"].as_slice(),
-            Stop::Refused(DeskFault::Illegal(line)),
-        ),
-    ] {
-        let mut source = MemorySource::new(b"a", 1, Some(0));
-        let mut sink = MemorySink::<256>::new(0);
-        let answer = run_desk(
-            rt.alloc(),
-            words,
-            &MemoryFiles::new(&files),
-            &mut source,
-            &mut sink,
-        );
-        assert_eq!(rt; answer, Err(stop));
-        assert!(rt; !source.failed());
-        assert!(rt; !sink.failed());
+fn carries_each_command_out(rt: HostRuntime) {
+    let files = files();
+    for (words, written) in &DONE {
+        let source = MemorySource::new(b"AAAAA", 5, None);
+        let ran = run(rt.alloc(), words, &files, source, 512);
+        assert_eq!(rt; ran.answer, Ok(()));
+        assert_eq!(rt; ran.sink.taken(), written.as_bytes());
     }
+}
+
+#[test]
+fn stops_before_it_reads_or_writes(rt: HostRuntime) {
+    are_stopped(&rt, rt.alloc(), &files(), &STOPPED);
+}
+
+#[test]
+fn stops_where_a_file_is_missing(rt: HostRuntime) {
+    are_stopped(&rt, rt.alloc(), &files(), &MISSING);
+}
+
+#[test]
+fn stops_where_a_file_is_too_long(rt: HostRuntime) -> Result<(), AllocError> {
+    let long = vec![in rt.alloc(); b' '; 1_048_577]?;
+    let files = [("bad", b"x =".as_slice()), ("long", long.as_slice())];
+    are_stopped(&rt, rt.alloc(), &files, &TOO_LONG);
     Ok(())
 }
 
 #[test]
 fn stops_where_the_text_does(rt: HostRuntime) {
-    let files = [("m.toml", MACHINE.as_bytes())];
-    let files = MemoryFiles::new(&files);
-    let words = ["desk", "type", "m.toml"];
-    let mut source = MemorySource::new(b"AAa", 1, None);
-    let mut sink = MemorySink::<256>::new(256);
-    let answer = run_desk(rt.alloc(), words.as_slice(), &files, &mut source, &mut sink);
-    assert_eq!(rt; answer, Err(Stop::Refused(DeskFault::BadByte(3))));
-    assert_eq!(rt; sink.taken(), "BD".as_bytes());
+    let source = MemorySource::new(b"AAa", 1, None);
+    let files = files();
+    let ran = run(rt.alloc(), &["desk", "type", "m.toml"], &files, source, 512);
+    assert_eq!(rt; ran.answer, Err(Refused(DeskFault::BadByte(3))));
+    assert_eq!(rt; ran.sink.taken(), b"BD".as_slice());
+}
+
+/// An answer, its status, and the line that tells of it, if there is one.
+static EXITS: [(Result<(), Stop>, u8, &str); 6] = [
+    (Ok(()), 0, ""),
+    (Err(Usage), 2, "usage: desk COMMAND WORDS"),
+    (Err(Unread(FileFault::NoMemory)), 1, "refused 26 NoMemory"),
+    (Err(Unread(FileFault::Device)), 1, "refused 6 Device"),
+    (
+        Err(Unread(FileFault::ReadTooLong)),
+        1,
+        "refused 38 ReadTooLong",
+    ),
+    (
+        Err(Refused(DeskFault::BadByte(3))),
+        1,
+        "refused 28 BadByte 3",
+    ),
+];
+
+#[test]
+fn ends_with_a_status_and_a_line(rt: HostRuntime) -> Result<(), Fail> {
+    for (answer, status, text) in &EXITS {
+        let exit = Exit::of(*answer);
+        assert_eq!(rt; exit.status, *status);
+        assert_eq!(rt; exit.line, answer.err());
+        if let Some(stop) = exit.line {
+            let said = format!(in rt.alloc(); "{stop}")?;
+            assert_eq!(rt; said.as_str(), *text);
+        }
+    }
+    Ok(())
 }

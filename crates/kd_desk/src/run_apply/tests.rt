@@ -1,91 +1,131 @@
 use super::run_apply;
-use crate::fault::DeskFault;
-use crate::samples::{CARD, M4, MACHINE, TEN_CABLES, WRITTEN};
+use crate::fault::DeskFault::{self, Card, File, Illegal, List};
+use crate::samples::{CARD, Change, M4, MACHINE, PLUGGED, Ran, SAME, TEN_CABLES, WRITTEN};
 use kd_card::{CardFault, IllegalAt};
-use kd_sheet::SheetFault;
-use kd_state::{ListFault, Why};
-use kd_tables::{MemorySink, Sink};
-use std::test::Fail;
+use kd_sheet::SheetFault::NotToml;
+use kd_state::ListFault::BadLine;
+use kd_state::Why;
+use kd_tables::MemorySink;
+use std::alloc::{AllocError, Global};
+use std::process::Abort;
 
-/// The cables that are written where none is plugged.
-const NO_CABLES: &str = "cables = [\"\", \"\", \"\"";
+/// What becomes of a machine by a list, with so much room for its file.
+fn run(alloc: Global, machine: &str, list: &str, room: usize) -> Ran {
+    let mut sink = MemorySink::new(room.min(4096));
+    let answer = run_apply(alloc, machine.as_bytes(), list.as_bytes(), &mut sink);
+    Ran { answer, sink }
+}
 
-/// The first ones of them once the card's settings are carried out, and before.
-const CARDS_CABLES: &str = "cables = [\"BC\", \"DE\", \"\"";
+/// No cables are written, and the pairs of the card's day.
+const CARRIED: Change = [
+    "cables = [\"\", \"\", \"\"",
+    "cables = [\"BC\", \"DE\", \"\"",
+];
 
-const CABLES_BEFORE: &str = "cables = [\"AB\", \"CD\", \"\"";
+/// A machine, a list, and how the file differs that is then written.
+type Applied = (&'static str, Change, &'static str, &'static str, Change);
+
+static APPLIED: [Applied; 5] = [
+    (
+        MACHINE,
+        SAME,
+        "RING I B\nTURN 1 B\n",
+        WRITTEN,
+        ["AAAAA", "BAAAA"],
+    ),
+    (MACHINE, SAME, "", WRITTEN, SAME),
+    (MACHINE, PLUGGED, CARD, WRITTEN, CARRIED),
+    (M4, SAME, "", M4, ["\"VX\"", "\"VX\", \"\", \"\", \"\""]),
+    (
+        MACHINE,
+        PLUGGED,
+        "PULL 1 A\nPULL 2 C\n",
+        WRITTEN,
+        ["cables = [\"\", \"\", \"\"", "cables = [\"B\", \"D\", \"\""],
+    ),
+];
+
+/// The card cut within its last line.
+const CUT: &str = "CARD 1 DAY 8
+PULL 1 A
+PULL 2 C
+PUT 1 C
+PUT 2 E
+SETTINGS 4
+CABLES 2 2 0 0 0 0 0 0 0 0 0 0 0
+PAIRS 0 0 0 0 0 0 0 0 0 0 0 0 0
+SUM";
+
+/// A machine, a list, and the fault.
+type Case = (&'static str, &'static str, DeskFault);
+
+static REFUSED: [Case; 10] = [
+    ("x =", "SEAT", File(NotToml)),
+    (MACHINE, "SEAT", List(BadLine(1))),
+    (MACHINE, "TURN 4 B\nSEAT", List(BadLine(2))),
+    (MACHINE, "CARD\n", List(BadLine(1))),
+    (MACHINE, "CARD 2 DAY 8\n", Card(CardFault::BadHead)),
+    (MACHINE, CUT, Card(CardFault::BadLine(9))),
+    (
+        MACHINE,
+        CARD,
+        Illegal(IllegalAt {
+            line: 1,
+            why: Why::NotThere,
+        }),
+    ),
+    (
+        MACHINE,
+        "TURN 4 B\n",
+        Illegal(IllegalAt {
+            line: 1,
+            why: Why::SlotEmpty,
+        }),
+    ),
+    (
+        MACHINE,
+        "RING I B\nPUT 1 A\nPUT 2 A\nPUT 14 B\n",
+        Illegal(IllegalAt {
+            line: 3,
+            why: Why::SocketTaken,
+        }),
+    ),
+    (
+        TEN_CABLES,
+        "LUG 1 L 2\n",
+        Illegal(IllegalAt {
+            line: 1,
+            why: Why::OtherModel,
+        }),
+    ),
+];
 
 #[test]
-fn writes_the_machine_that_stands_then(rt: HostRuntime) -> Result<(), Fail> {
-    let turned = WRITTEN.replace(rt.alloc(), "AAAAA", "BAAAA")?;
-    let before = WRITTEN.replace(rt.alloc(), NO_CABLES, CABLES_BEFORE)?;
-    let behind = WRITTEN.replace(rt.alloc(), NO_CABLES, CARDS_CABLES)?;
-    let four = M4.replace(rt.alloc(), "\"VX\"", "\"VX\", \"\", \"\", \"\"")?;
-    for (machine, list, written) in [
-        (MACHINE, "RING I B\nTURN 1 B\n", turned.as_str()),
-        (MACHINE, "", WRITTEN),
-        (before.as_str(), CARD, behind.as_str()),
-        (M4, "", four.as_str()),
-    ] {
-        let mut sink = MemorySink::<512>::new(512);
-        run_apply(rt.alloc(), machine.as_bytes(), list.as_bytes(), &mut sink)?;
-        assert_eq!(rt; sink.taken(), written.as_bytes());
+fn writes_the_machine_that_stands_then(rt: HostRuntime) -> Result<(), AllocError> {
+    for (machine, [old, new], list, file, [before, behind]) in &APPLIED {
+        let machine = machine.replace(rt.alloc(), old, new)?;
+        let written = file.replace(rt.alloc(), before, behind)?;
+        run(rt.alloc(), machine.as_str(), list, 4096).ended(
+            &rt,
+            Ok(()),
+            written.as_str().as_bytes(),
+        );
     }
     Ok(())
 }
 
 #[test]
-fn stops_where_the_sink_fails(rt: HostRuntime) -> Result<(), Fail> {
-    for room in 0..WRITTEN.len() {
-        let mut sink = MemorySink::<512>::new(room.min(512));
-        let answer = run_apply(rt.alloc(), MACHINE.as_bytes(), b"", &mut sink);
-        assert_eq!(rt; answer, Err(DeskFault::Device));
-        assert!(rt; sink.failed());
-        assert_eq!(rt; Some(sink.taken()), WRITTEN.as_bytes().get(..room));
+fn refuses_the_first_fault_and_writes_nothing(rt: HostRuntime) {
+    for (machine, list, fault) in &REFUSED {
+        run(rt.alloc(), machine, list, 0).refused(&rt, *fault);
     }
-    Ok(())
-}
-
-/// The refusal of a line.
-fn illegal(line: usize, why: Why) -> DeskFault {
-    DeskFault::Illegal(IllegalAt { line, why })
 }
 
 #[test]
-fn refuses_the_first_fault_and_writes_nothing(rt: HostRuntime) -> Result<(), Fail> {
-    let cut = CARD.replace(rt.alloc(), "SUM 4\n", "SUM")?;
-    for (machine, list, fault) in [
-        ("x =", "SEAT", DeskFault::File(SheetFault::NotToml)),
-        (MACHINE, "SEAT", DeskFault::List(ListFault::BadLine(1))),
-        (
-            MACHINE,
-            "TURN 4 B\nSEAT",
-            DeskFault::List(ListFault::BadLine(2)),
-        ),
-        (MACHINE, "CARD\n", DeskFault::List(ListFault::BadLine(1))),
-        (
-            MACHINE,
-            "CARD 2 DAY 8\n",
-            DeskFault::Card(CardFault::BadHead),
-        ),
-        (
-            MACHINE,
-            cut.as_str(),
-            DeskFault::Card(CardFault::BadLine(9)),
-        ),
-        (MACHINE, CARD, illegal(1, Why::NotThere)),
-        (MACHINE, "TURN 4 B\n", illegal(1, Why::SlotEmpty)),
-        (
-            MACHINE,
-            "RING I B\nPUT 1 A\nPUT 2 A\nPUT 14 B\n",
-            illegal(3, Why::SocketTaken),
-        ),
-        (TEN_CABLES, "LUG 1 L 2\n", illegal(1, Why::OtherModel)),
-    ] {
-        let mut sink = MemorySink::<512>::new(0);
-        let answer = run_apply(rt.alloc(), machine.as_bytes(), list.as_bytes(), &mut sink);
-        assert_eq!(rt; answer, Err(fault));
-        assert!(rt; !sink.failed());
+fn stops_where_the_sink_fails(rt: HostRuntime) {
+    let written = WRITTEN.as_bytes();
+    for room in 0..written.len() {
+        let ran = run(rt.alloc(), MACHINE, "", room);
+        ran.ended(&rt, Err(DeskFault::Device), &written[..room]);
     }
-    Ok(())
 }

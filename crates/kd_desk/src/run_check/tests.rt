@@ -1,144 +1,239 @@
 use super::run_check;
-use crate::fault::DeskFault;
-use crate::samples::{CARD, EMPTY, M4_AS_ENIGMA, MACHINE, SHEET, TWO_BARS};
-use kd_card::{CardFault, PriceParts, Prices};
+use crate::fault::DeskFault::{self, Card, Doubtful, File, NoSuchDay, OtherDay};
+use crate::samples::{
+    CARD, Change, EMPTY, LUGS_IN_TURN, M4_AS_ENIGMA, MACHINE, ONE_LUG, PLUGGED, ROWS_IN_TURN, Ran,
+    SAME, SHEET, TWO_BARS,
+};
+use kd_card::CardFault::{BadHead, BadLine, CountWrong, PriceMissing, TooMany, Trailing};
+use kd_card::{PriceParts, Prices};
 use kd_plan::plan;
-use kd_prices::{Doubt, check};
-use kd_sheet::{SheetFault, read_machine, read_sheet};
-use kd_tables::{MemorySink, Sink};
+use kd_prices::Doubt::{
+    self, IllegalAt, NeedlessLine, NotTheSheet, OtherModel, PriceTooHigh, SumDiffers,
+};
+use kd_prices::check;
+use kd_sheet::SheetFault::NotToml;
+use kd_sheet::{read_machine, read_sheet};
+use kd_state::{Machine, SheetDay, Why};
+use kd_tables::MemorySink;
+use std::alloc::{AllocError, Global};
+use std::process::Abort;
 use std::test::Fail;
 
-/// A card that moves one lug.
-const ONE_LUG: &str = "CARD 1 DAY 9
+/// What is told of a card, with so much room.
+fn run(alloc: Global, machine: &str, sheet: &str, day: u8, card: &str, room: usize) -> Ran {
+    let mut sink = MemorySink::new(room.min(4096));
+    let (machine, sheet, card) = (machine.as_bytes(), sheet.as_bytes(), card.as_bytes());
+    let answer = run_check(alloc, machine, sheet, day, card, &mut sink);
+    Ran { answer, sink }
+}
+
+/// No change of a card.
+const NOTHING: Change = ["SETTINGS", "SETTINGS"];
+
+/// Two lines of a card exchanged.
+const EXCHANGED: Change = ["PULL 1 A\nPULL 2 C\n", "PULL 2 C\nPULL 1 A\n"];
+
+/// A machine, what is changed of it, a day, a card, what is changed of it, and what is told.
+static SHORTEST: [(&str, Change, u8, &str, Change, &str); 4] = [
+    (MACHINE, PLUGGED, 8, CARD, NOTHING, "SHORTEST 4\n"),
+    (MACHINE, PLUGGED, 8, CARD, EXCHANGED, "SHORTEST 4\n"),
+    (TWO_BARS, SAME, 9, ONE_LUG, NOTHING, "SHORTEST 1\n"),
+    (MACHINE, SAME, 11, EMPTY, NOTHING, "SHORTEST 0\n"),
+];
+
+/// A machine, a sheet, a day, a card, and the fault.
+static UNREAD: [(&str, &str, u8, &str, DeskFault); 4] = [
+    ("=", "=", 5, "", File(NotToml)),
+    (MACHINE, "=", 5, "", File(NotToml)),
+    (MACHINE, SHEET, 5, "", NoSuchDay),
+    (MACHINE, SHEET, 11, "", Card(BadHead)),
+];
+
+/// What is changed of the card of the eleventh day, and the fault that it then has on another day.
+static BAD_CARDS: [(Change, DeskFault); 6] = [
+    (["CARD 1", "CARD 2"], Card(BadHead)),
+    (["SUM 0\n", "SUM"], Card(BadLine(5))),
+    (["CABLES", "CABLE"], Card(PriceMissing)),
+    (["SETTINGS 0", "SETTINGS 1"], Card(CountWrong)),
+    (["SUM 0\n", "SUM 0\n\n"], Card(Trailing)),
+    (["SUM", "SUM"], OtherDay),
+];
+
+/// A machine, what is changed of it and of the sheet, a day, a card, what is changed of it, and the doubt.
+type Case = (
+    &'static str,
+    Change,
+    Change,
+    u8,
+    &'static str,
+    Change,
+    Doubt,
+);
+
+/// The lines in the wrong order where both lugs of a bar move.
+const WRONG_ORDER: Change = [
+    "LUG 1 R 6\nSETTINGS 1\n",
+    "LUG 1 L 3\nLUG 1 R 6\nSETTINGS 2\n",
+];
+
+static DOUBTFUL: [Case; 6] = [
+    (MACHINE, SAME, SAME, 9, ONE_LUG, NOTHING, OtherModel),
+    (
+        MACHINE,
+        PLUGGED,
+        SAME,
+        8,
+        EMPTY,
+        ["DAY 11", "DAY 8"],
+        NotTheSheet,
+    ),
+    (
+        MACHINE,
+        SAME,
+        SAME,
+        11,
+        EMPTY,
+        ["SETTINGS 0", "TURN 1 A\nSETTINGS 1"],
+        NeedlessLine(1),
+    ),
+    (
+        TWO_BARS,
+        LUGS_IN_TURN,
+        ROWS_IN_TURN,
+        9,
+        ONE_LUG,
+        WRONG_ORDER,
+        IllegalAt(1, Why::PlaceTaken),
+    ),
+    (TWO_BARS, SAME, SAME, 9, WITHOUT_PRICES, NOTHING, SumDiffers),
+    (
+        TWO_BARS,
+        SAME,
+        SAME,
+        9,
+        DEAR_BAR,
+        NOTHING,
+        PriceTooHigh(1, 1),
+    ),
+];
+
+/// The card of one lug with all prices 0, and with a price too high.
+const WITHOUT_PRICES: &str = "CARD 1 DAY 9
 LUG 1 R 6
 SETTINGS 1
-BARS 1 1 0 0 0 0 0 0 0 0 0 0 0 0 0 0 0 0 0 0 0 0 0 0 0 0 0
-ROWS -1 0 0 0 0 0 0 0 0 0 0 0 0 0 0 0 0 0 0 0 0 0 0 0 0 0 0
-SUM 1
+BARS 0 0 0 0 0 0 0 0 0 0 0 0 0 0 0 0 0 0 0 0 0 0 0 0 0 0 0
+ROWS 0 0 0 0 0 0 0 0 0 0 0 0 0 0 0 0 0 0 0 0 0 0 0 0 0 0 0
+SUM 0
 ";
 
-/// The machine whose cables the card of the samples moves.
-const PLUGGED: [&str; 2] = ["version = 1", "version = 1\ncables = [\"AB\", \"CD\"]"];
+const DEAR_BAR: &str = "CARD 1 DAY 9
+LUG 1 R 6
+SETTINGS 1
+BARS 2 1 0 0 0 0 0 0 0 0 0 0 0 0 0 0 0 0 0 0 0 0 0 0 0 0 0
+ROWS -1 0 0 0 0 0 0 0 0 0 0 0 0 0 0 0 0 0 0 0 0 0 0 0 0 0 0
+SUM 2
+";
 
 #[test]
-fn tells_of_shortest_cards(rt: HostRuntime) -> Result<(), Fail> {
-    let [old, new] = PLUGGED;
-    let plugged = MACHINE.replace(rt.alloc(), old, new)?;
-    let exchanged = CARD.replace(rt.alloc(), "PULL 1 A\nPULL 2 C\n", "PULL 2 C\nPULL 1 A\n")?;
-    for (machine, day, card, verdict) in [
-        (plugged.as_str(), 8, CARD, "SHORTEST 4\n"),
-        (plugged.as_str(), 8, exchanged.as_str(), "SHORTEST 4\n"),
-        (TWO_BARS, 9, ONE_LUG, "SHORTEST 1\n"),
-        (MACHINE, 11, EMPTY, "SHORTEST 0\n"),
-    ] {
-        let mut sink = MemorySink::<16>::new(16);
-        let answer = run_check(
+fn tells_of_shortest_cards(rt: HostRuntime) -> Result<(), AllocError> {
+    for (machine, [old, new], day, card, [before, behind], told) in &SHORTEST {
+        let machine = machine.replace(rt.alloc(), old, new)?;
+        let card = card.replace(rt.alloc(), before, behind)?;
+        let ran = run(
             rt.alloc(),
-            machine.as_bytes(),
-            SHEET.as_bytes(),
-            day,
-            card.as_bytes(),
-            &mut sink,
+            machine.as_str(),
+            SHEET,
+            *day,
+            card.as_str(),
+            4096,
         );
-        assert_eq!(rt; answer, Ok(()));
-        assert_eq!(rt; sink.taken(), verdict.as_bytes());
+        ran.ended(&rt, Ok(()), told.as_bytes());
     }
     Ok(())
 }
 
 #[test]
-fn refuses_the_first_fault_and_writes_nothing(rt: HostRuntime) -> Result<(), Fail> {
-    let [old, new] = PLUGGED;
-    let plugged = MACHINE.replace(rt.alloc(), old, new)?;
-    let eighth = EMPTY.replace(rt.alloc(), "DAY 11", "DAY 8")?;
-    let turned = EMPTY.replace(rt.alloc(), "SETTINGS 0", "TURN 1 A\nSETTINGS 1")?;
-    let twelfth = SHEET.replace(rt.alloc(), "day = 11", "day = 12")?;
-    for (machine, sheet, day, card, fault) in [
-        ("=", "=", 5, "", DeskFault::File(SheetFault::NotToml)),
-        (MACHINE, "=", 5, "", DeskFault::File(SheetFault::NotToml)),
-        (MACHINE, SHEET, 5, "", DeskFault::NoSuchDay),
-        (MACHINE, SHEET, 11, "", DeskFault::Card(CardFault::BadHead)),
-        (MACHINE, twelfth.as_str(), 12, EMPTY, DeskFault::OtherDay),
-        (
-            MACHINE,
-            SHEET,
-            9,
-            ONE_LUG,
-            DeskFault::Doubtful(Doubt::OtherModel),
-        ),
-        (
-            plugged.as_str(),
-            SHEET,
-            8,
-            eighth.as_str(),
-            DeskFault::Doubtful(Doubt::NotTheSheet),
-        ),
-        (
-            MACHINE,
-            SHEET,
-            11,
-            turned.as_str(),
-            DeskFault::Doubtful(Doubt::NeedlessLine(1)),
-        ),
-    ] {
-        let mut sink = MemorySink::<16>::new(0);
-        let answer = run_check(
-            rt.alloc(),
-            machine.as_bytes(),
-            sheet.as_bytes(),
-            day,
-            card.as_bytes(),
-            &mut sink,
-        );
-        assert_eq!(rt; answer, Err(fault));
-        assert!(rt; !sink.failed());
+fn refuses_what_comes_before_the_card(rt: HostRuntime) {
+    for (machine, sheet, day, card, fault) in &UNREAD {
+        run(rt.alloc(), machine, sheet, *day, card, 0).refused(&rt, *fault);
+    }
+}
+
+/// The card is refused on the eighth day.
+fn is_refused(rt: &impl Abort, alloc: Global, card: &str, fault: DeskFault) {
+    run(alloc, MACHINE, SHEET, 8, card, 0).refused(rt, fault);
+}
+
+#[test]
+fn refuses_bytes_that_are_no_card(rt: HostRuntime) -> Result<(), AllocError> {
+    for ([old, new], fault) in &BAD_CARDS {
+        let card = EMPTY.replace(rt.alloc(), old, new)?;
+        is_refused(&rt, rt.alloc(), card.as_str(), *fault);
     }
     Ok(())
 }
 
 #[test]
-fn stops_where_the_sink_fails(rt: HostRuntime) -> Result<(), Fail> {
-    let verdict = b"SHORTEST 0\n";
-    for room in 0..verdict.len() {
-        let mut sink = MemorySink::<16>::new(room.min(16));
-        let answer = run_check(
-            rt.alloc(),
-            MACHINE.as_bytes(),
-            SHEET.as_bytes(),
-            11,
-            EMPTY.as_bytes(),
-            &mut sink,
-        );
-        assert_eq!(rt; answer, Err(DeskFault::Device));
-        assert_eq!(rt; Some(sink.taken()), verdict.get(..room));
+fn refuses_a_card_of_too_many_lines(rt: HostRuntime) -> Result<(), AllocError> {
+    let lines = "TURN 1 A\n".repeat(rt.alloc(), 193)?;
+    let card = format!(in rt.alloc(); "CARD 1 DAY 8\n{lines}")?;
+    is_refused(&rt, rt.alloc(), card.as_str(), Card(TooMany));
+    Ok(())
+}
+
+#[test]
+fn refuses_a_doubtful_card(rt: HostRuntime) -> Result<(), AllocError> {
+    for (machine, [old, new], [one, other], day, card, [before, behind], doubt) in &DOUBTFUL {
+        let machine = machine.replace(rt.alloc(), old, new)?;
+        let sheet = SHEET.replace(rt.alloc(), one, other)?;
+        let card = card.replace(rt.alloc(), before, behind)?;
+        let (machine, sheet) = (machine.as_str(), sheet.as_str());
+        run(rt.alloc(), machine, sheet, *day, card.as_str(), 0).refused(&rt, Doubtful(*doubt));
     }
     Ok(())
 }
+
+#[test]
+fn stops_where_the_sink_fails(rt: HostRuntime) {
+    let told = b"SHORTEST 0\n";
+    for room in 0..told.len() {
+        let ran = run(rt.alloc(), MACHINE, SHEET, 11, EMPTY, room);
+        ran.ended(&rt, Err(DeskFault::Device), &told[..room]);
+    }
+}
+
+/// A machine, what is changed of it, and a day.
+static PLANNED: [(&str, Change, u8); 5] = [
+    (MACHINE, PLUGGED, 8),
+    (MACHINE, SAME, 8),
+    (TWO_BARS, SAME, 9),
+    (M4_AS_ENIGMA, SAME, 30),
+    (MACHINE, SAME, 11),
+];
 
 /// The planner's card proves itself, and with one price changed by one it doesn't: the sum is then another one.
 #[test]
 fn no_price_of_a_card_can_be_changed(rt: HostRuntime) -> Result<(), Fail> {
-    let [old, new] = PLUGGED;
-    let plugged = MACHINE.replace(rt.alloc(), old, new)?;
     let sheet = read_sheet(rt.alloc(), SHEET.as_bytes())?;
-    for (machine, number) in [
-        (plugged.as_str(), 8),
-        (MACHINE, 8),
-        (TWO_BARS, 9),
-        (M4_AS_ENIGMA, 30),
-        (MACHINE, 11),
-    ] {
-        let machine = read_machine(rt.alloc(), machine.as_bytes())?;
-        let day = sheet.day(number).ok_or("no such day")?;
-        let mut card = plan(&machine, day)?;
-        assert_eq!(rt; check(&machine, day, &card), Ok(()));
-        let parts = card.prices.parts();
-        for place in 0..27 {
-            for step in [-1, 1] {
-                if let Some(prices) = with_price(parts, place, step) {
-                    card.prices = prices;
-                    assert!(rt; check(&machine, day, &card).is_err());
-                }
+    for (machine, [old, new], number) in &PLANNED {
+        let machine = machine.replace(rt.alloc(), old, new)?;
+        let machine = read_machine(rt.alloc(), machine.as_str().as_bytes())?;
+        let day = sheet.day(*number).ok_or("no such day")?;
+        prices_are_fixed(&rt, &machine, day)?;
+    }
+    Ok(())
+}
+
+/// The planner's card proves itself, and with one price changed by one it doesn't.
+fn prices_are_fixed(rt: &impl Abort, machine: &Machine, day: &SheetDay) -> Result<(), Fail> {
+    let mut card = plan(machine, day)?;
+    assert_eq!(rt; check(machine, day, &card), Ok(()));
+    let parts = card.prices.parts();
+    for place in 0..27 {
+        for step in [-1, 1] {
+            if let Some(prices) = with_price(parts, place, step) {
+                card.prices = prices;
+                assert!(rt; check(machine, day, &card).is_err());
             }
         }
     }

@@ -1,83 +1,145 @@
 use super::run_send;
-use crate::fault::DeskFault;
+use crate::fault::DeskFault::{self, File, Message, NoSuchDay};
 use crate::samples::{
-    CONVERTER_FORM, CONVERTER_ORDER, FORM, MACHINE, MESSAGES, OFF_KEY, ORDER, UNREADY,
-    WITHOUT_PINS, message,
+    CONVERTER_FORM, CONVERTER_ORDER, FORM, M3, M4_AS_ENIGMA, M4_FORM, M4_ORDER, MACHINE, MESSAGES,
+    OFF_KEY, ORDER, Ran, TURNED, UNREADY, WITHOUT_PINS,
 };
-use kd_form::FormFault;
-use kd_sheet::SheetFault;
-use kd_tables::{MemorySink, Sink};
-use std::test::Fail;
+use kd_form::FormFault::{
+    BadByte, EmptyText, IndicatorSpent, KeyNotOnWheel, NotOnKey, NotReady, PartKeys, WrongGroup,
+};
+use kd_sheet::SheetFault::NotToml;
+use kd_tables::MemorySink;
+use std::alloc::Global;
+use std::process::Abort;
 
-#[test]
-fn sends_orders(rt: HostRuntime) -> Result<(), Fail> {
-    let turned = MACHINE.replace(rt.alloc(), "letters = \"AAAAA\"", "letters = \"QRSAA\"")?;
-    for (machine, day, order, form) in [
-        (MACHINE, 17, ORDER, FORM),
-        (turned.as_str(), 17, ORDER, FORM),
-        (WITHOUT_PINS, 15, CONVERTER_ORDER, CONVERTER_FORM),
-    ] {
-        let mut sink = MemorySink::<64>::new(64);
-        run_send(
-            rt.alloc(),
-            machine.as_bytes(),
-            MESSAGES.as_bytes(),
-            day,
-            order.as_bytes(),
-            &mut sink,
-        )?;
-        assert_eq!(rt; sink.taken(), form.as_bytes());
+/// What becomes of an order, with so much room for the form.
+fn run(alloc: Global, machine: &str, sheet: &str, day: u8, order: &str, room: usize) -> Ran {
+    let mut sink = MemorySink::new(room.min(4096));
+    let (machine, sheet, order) = (machine.as_bytes(), sheet.as_bytes(), order.as_bytes());
+    let answer = run_send(alloc, machine, sheet, day, order, &mut sink);
+    Ran { answer, sink }
+}
+
+/// A machine, a day of the sheet, an order, and the form that it becomes.
+static SENT: [(&str, u8, &str, &str); 5] = [
+    (MACHINE, 17, ORDER, FORM),
+    (TURNED, 17, ORDER, FORM),
+    (M3, 3, ORDER, FORM),
+    (M4_AS_ENIGMA, 4, M4_ORDER, M4_FORM),
+    (WITHOUT_PINS, 15, CONVERTER_ORDER, CONVERTER_FORM),
+];
+
+/// A machine, a sheet, a day, an order, and the fault.
+type Case = (&'static str, &'static str, u8, &'static str, DeskFault);
+
+static NO_KEY: [Case; 6] = [
+    ("=", "=", 5, "", File(NotToml)),
+    (MACHINE, "=", 5, "", File(NotToml)),
+    (UNREADY, MESSAGES, 5, "", NoSuchDay),
+    (UNREADY, MESSAGES, 17, "", Message(NotReady)),
+    (OFF_KEY, MESSAGES, 17, "", Message(NotOnKey)),
+    (MACHINE, MESSAGES, 15, "", Message(NotOnKey)),
+];
+
+/// 246 letters with one line of keys.
+const LONG: &str = "PART AAA AAA QX UGZ
+TEXT
+AAAAAAAAAAAAAAAAAAAAAAAAAAAAAAAAAAAAAAAAAAAAAAAAAAAAAAAAAAAA
+AAAAAAAAAAAAAAAAAAAAAAAAAAAAAAAAAAAAAAAAAAAAAAAAAAAAAAAAAAAA
+AAAAAAAAAAAAAAAAAAAAAAAAAAAAAAAAAAAAAAAAAAAAAAAAAAAAAAAAAAAA
+AAAAAAAAAAAAAAAAAAAAAAAAAAAAAAAAAAAAAAAAAAAAAAAAAAAAAAAAAAAA
+AAAAAA
+";
+
+static BAD_ORDERS: [Case; 9] = [
+    (MACHINE, MESSAGES, 17, "", Message(BadByte(1))),
+    (MACHINE, MESSAGES, 17, "PART AAA", Message(BadByte(9))),
+    (
+        MACHINE,
+        MESSAGES,
+        17,
+        "PART AAA AAA QX ABC\nTEXT\n!",
+        Message(WrongGroup(1)),
+    ),
+    (
+        MACHINE,
+        MESSAGES,
+        17,
+        "PART AAA AAA QX GUZ\nTEXT\nA a",
+        Message(BadByte(28)),
+    ),
+    (
+        MACHINE,
+        MESSAGES,
+        17,
+        "PART AAA AAA QX UGZ\nTEXT\n",
+        Message(EmptyText),
+    ),
+    (
+        MACHINE,
+        MESSAGES,
+        17,
+        "TEXT\nA",
+        Message(PartKeys {
+            needed: 1,
+            given: 0,
+        }),
+    ),
+    (
+        MACHINE,
+        MESSAGES,
+        17,
+        LONG,
+        Message(PartKeys {
+            needed: 2,
+            given: 1,
+        }),
+    ),
+    (
+        WITHOUT_PINS,
+        MESSAGES,
+        15,
+        "PART T ABCDEZ\nTEXT\nA",
+        Message(KeyNotOnWheel),
+    ),
+    (
+        WITHOUT_PINS,
+        MESSAGES,
+        15,
+        "PART A ABCDEF\nTEXT\nA",
+        Message(IndicatorSpent(1)),
+    ),
+];
+
+/// Each of them is refused, and nothing is written.
+fn are_refused(rt: &impl Abort, alloc: Global, cases: &[Case]) {
+    for (machine, sheet, day, order, fault) in cases {
+        run(alloc, machine, sheet, *day, order, 0).refused(rt, *fault);
     }
-    Ok(())
 }
 
 #[test]
-fn refuses_the_first_fault_and_writes_nothing(rt: HostRuntime) -> Result<(), Fail> {
-    let long = "A".repeat(rt.alloc(), 246)?;
-    let long = ORDER.replace(rt.alloc(), "AAAAA", long.as_str())?;
-    let one_part = FormFault::PartKeys {
-        needed: 2,
-        given: 1,
-    };
-    let empty = "PART AAA AAA QX UGZ\nTEXT\n";
-    for (machine, sheet, day, order, fault) in [
-        ("=", "=", 5, "", DeskFault::File(SheetFault::NotToml)),
-        (MACHINE, "=", 5, "", DeskFault::File(SheetFault::NotToml)),
-        (UNREADY, MESSAGES, 5, "", DeskFault::NoSuchDay),
-        (UNREADY, MESSAGES, 17, "", message(FormFault::NotReady)),
-        (OFF_KEY, MESSAGES, 17, "", message(FormFault::NotOnKey)),
-        (MACHINE, MESSAGES, 15, "", message(FormFault::NotOnKey)),
-        (MACHINE, MESSAGES, 17, long.as_str(), message(one_part)),
-        (MACHINE, MESSAGES, 17, empty, message(FormFault::EmptyText)),
-    ] {
-        let mut sink = MemorySink::<64>::new(0);
-        let answer = run_send(
-            rt.alloc(),
-            machine.as_bytes(),
-            sheet.as_bytes(),
-            day,
-            order.as_bytes(),
-            &mut sink,
-        );
-        assert_eq!(rt; answer, Err(fault));
-        assert!(rt; !sink.failed());
+fn sends_orders(rt: HostRuntime) {
+    for (machine, day, order, form) in &SENT {
+        run(rt.alloc(), machine, MESSAGES, *day, order, 4096).ended(&rt, Ok(()), form.as_bytes());
     }
-    Ok(())
+}
+
+#[test]
+fn sends_nothing_without_a_key(rt: HostRuntime) {
+    are_refused(&rt, rt.alloc(), &NO_KEY);
+}
+
+#[test]
+fn refuses_an_order_and_writes_nothing(rt: HostRuntime) {
+    are_refused(&rt, rt.alloc(), &BAD_ORDERS);
 }
 
 #[test]
 fn stops_where_the_sink_fails(rt: HostRuntime) {
-    for room in 0..FORM.len() {
-        let mut sink = MemorySink::<64>::new(room.min(64));
-        let answer = run_send(
-            rt.alloc(),
-            MACHINE.as_bytes(),
-            MESSAGES.as_bytes(),
-            17,
-            ORDER.as_bytes(),
-            &mut sink,
-        );
-        assert_eq!(rt; answer, Err(DeskFault::Device));
-        assert_eq!(rt; Some(sink.taken()), FORM.as_bytes().get(..room));
+    let form = FORM.as_bytes();
+    for room in 0..form.len() {
+        let ran = run(rt.alloc(), MACHINE, MESSAGES, 17, ORDER, room);
+        ran.ended(&rt, Err(DeskFault::Device), &form[..room]);
     }
 }
