@@ -25,7 +25,8 @@ pub fn type_next<R: Source, W: Sink>(
     room: usize,
 ) -> Result<Step, Device>
     requires { 0 < room }
-    ensures typed { StepTyped engine.old engine.new room (port R.remaining R.has_failed source.old source.new)
+    ensures typed { StepTyped engine.old engine.new room
+        (port R.remaining R.has_failed source.old source.new)
         (port W.taken W.has_failed sink.old sink.new) result }
     ensures failed { Fail (port R.remaining R.has_failed source.old source.new)
         (port W.taken W.has_failed sink.old sink.new) (is_err result) }
@@ -43,7 +44,8 @@ fn type_into<R: Source, W: Sink>(
 ) -> Result<Step, Device>
     requires some { 0 < length buffer.now }
     requires most { length buffer.now ≤ PIECE }
-    ensures typed { StepTyped engine.old engine.new (length buffer.old) (port R.remaining R.has_failed source.old source.new)
+    ensures typed { StepTyped engine.old engine.new (length buffer.old)
+        (port R.remaining R.has_failed source.old source.new)
         (port W.taken W.has_failed sink.old sink.new) result }
     ensures failed { Fail (port R.remaining R.has_failed source.old source.new)
         (port W.taken W.has_failed sink.old sink.new) (is_err result) }
