@@ -2,6 +2,7 @@ use super::samples::{NO_SETTINGS, ONE_LUG, TWO_CABLES};
 use crate::{CardFault, read_card, write_card};
 use arrayvec::ArrayString;
 use kd_tables::MemorySink;
+use std::process::Abort;
 
 /// The text with other words in place of the first such ones.
 fn changed(text: &str, old: &str, new: &str) -> ArrayString<4096> {
@@ -13,64 +14,106 @@ fn changed(text: &str, old: &str, new: &str) -> ArrayString<4096> {
     other
 }
 
-/// What the text with those other words is refused for.
-fn fault(text: &str, old: &str, new: &str) -> Option<CardFault> {
-    read_card(changed(text, old, new).as_str().as_bytes()).err()
+/// A part of a card, what stands in the part's place, and what the card is then refused for.
+type Case = (&'static str, &'static str, CardFault);
+
+/// Each of the cards is refused for that.
+fn are_refused(rt: &impl Abort, card: &str, cases: &[Case]) {
+    for (old, new, due) in cases {
+        let fault = read_card(changed(card, old, new).as_str().as_bytes()).err();
+        assert!(rt; fault == Some(*due), "{new}");
+    }
 }
+
+/// The card is refused for that, whichever of these words stands in the place of the old ones.
+fn is_refused(rt: &impl Abort, card: &str, old: &str, words: &[&str], due: CardFault) {
+    for new in words {
+        let fault = read_card(changed(card, old, new).as_str().as_bytes()).err();
+        assert!(rt; fault == Some(due), "{new}");
+    }
+}
+
+/// Cards, and their days.
+static CARDS: [(&str, u8); 3] = [(TWO_CABLES, 8), (ONE_LUG, 9), (NO_SETTINGS, 11)];
 
 #[test]
 fn cards_are_read(rt: HostRuntime) {
-    for (text, due) in [(TWO_CABLES, 8), (ONE_LUG, 9), (NO_SETTINGS, 11)] {
+    for (text, due) in &CARDS {
         let mut sink = MemorySink::<512>::new(512);
         if let Ok((day, card)) = read_card(text.as_bytes()) {
-            assert_eq!(rt; day, due);
-            assert_eq!(rt; write_card(&mut sink, due, &card), Ok(()));
+            assert!(rt; day == *due && write_card(&mut sink, day, &card).is_ok());
         }
         assert_eq!(rt; sink.taken(), text.as_bytes());
     }
 }
 
+/// Heads of no card.
+static HEADS: [&str; 12] = [
+    "CARD 1 DAY 0",
+    "CARD 1 DAY 32",
+    "CARD 1 DAY 08",
+    "CARD 1 DAY +8",
+    "CARD 1 DAY 264",
+    "CARD 1 DAY",
+    "CARD 2 DAY 8",
+    "CARD  1 DAY 8",
+    "card 1 day 8",
+    " CARD 1 DAY 8",
+    "CARD 1 DAY 8 ",
+    "CARD 1 DAY 8\r",
+];
+
 #[test]
 fn the_head_has_a_day_of_the_month(rt: HostRuntime) {
-    for head in [
-        "CARD 1 DAY 0",
-        "CARD 1 DAY 32",
-        "CARD 1 DAY 08",
-        "CARD 1 DAY +8",
-        "CARD 1 DAY 264",
-        "CARD 1 DAY",
-        "CARD 2 DAY 8",
-        "CARD  1 DAY 8",
-        "card 1 day 8",
-        " CARD 1 DAY 8",
-        "CARD 1 DAY 8 ",
-        "CARD 1 DAY 8\r",
-    ] {
-        assert_eq!(rt;
-            fault(TWO_CABLES, "CARD 1 DAY 8", head),
-            Some(CardFault::BadHead)
-        );
-    }
+    is_refused(&rt, TWO_CABLES, "CARD 1 DAY 8", &HEADS, CardFault::BadHead);
 }
+
+/// Counts of other numbers of settings.
+static OTHER_COUNTS: [&str; 3] = [
+    "SETTINGS 3",
+    "SETTINGS 0",
+    "SETTINGS 99999999999999999999999999",
+];
+
+/// Lines that are neither a setting nor a count of them.
+static NO_COUNTS: [&str; 8] = [
+    "SETTINGS 04",
+    "SETTINGS +4",
+    "SETTINGS -4",
+    "SETTINGS ",
+    "SETTINGS",
+    "SETTINGS 4 ",
+    "SETTING 4",
+    "PUT 2 e",
+];
 
 #[test]
 fn the_number_of_settings_is_counted(rt: HostRuntime) {
-    let line = CardFault::BadLine(6);
-    for (number, due) in [
-        ("SETTINGS 3", CardFault::CountWrong),
-        ("SETTINGS 0", CardFault::CountWrong),
-        ("SETTINGS 99999999999999999999999999", CardFault::CountWrong),
-        ("SETTINGS 04", line),
-        ("SETTINGS +4", line),
-        ("SETTINGS -4", line),
-        ("SETTINGS ", line),
-        ("SETTINGS", line),
-        ("SETTINGS 4 ", line),
-        ("SETTING 4", line),
-        ("PUT 2 e", line),
-    ] {
-        assert_eq!(rt; fault(TWO_CABLES, "SETTINGS 4", number), Some(due));
+    is_refused(
+        &rt,
+        TWO_CABLES,
+        "SETTINGS 4",
+        &OTHER_COUNTS,
+        CardFault::CountWrong,
+    );
+    is_refused(
+        &rt,
+        TWO_CABLES,
+        "SETTINGS 4",
+        &NO_COUNTS,
+        CardFault::BadLine(6),
+    );
+}
+
+/// So many lines of a setting, and the count of another number.
+fn with_lines(count: usize) -> ArrayString<4096> {
+    let mut text = ArrayString::new();
+    let _room = text.try_push_str("CARD 1 DAY 8\n");
+    for _ in 0..count {
+        let _room = text.try_push_str("TURN 1 A\n");
     }
+    let _room = text.try_push_str("SETTINGS 4\n");
+    text
 }
 
 #[test]
@@ -80,88 +123,87 @@ fn no_more_than_192_settings_are_read(rt: HostRuntime) {
         (193, CardFault::TooMany),
         (194, CardFault::TooMany),
     ] {
-        let mut text = ArrayString::<4096>::new();
-        let _room = text.try_push_str("CARD 1 DAY 8\n");
-        for _ in 0..count {
-            let _room = text.try_push_str("TURN 1 A\n");
-        }
-        let _room = text.try_push_str("SETTINGS 4\n");
-        assert_eq!(rt; read_card(text.as_str().as_bytes()).err(), Some(due));
+        let fault = read_card(with_lines(count).as_str().as_bytes()).err();
+        assert!(rt; fault == Some(due));
     }
 }
+
+/// Prices that aren't written in the one way.
+static NO_PRICES: [&str; 8] = [
+    "BARS +1",
+    "BARS 01",
+    "BARS -0",
+    "BARS 10000",
+    "BARS -10000",
+    "BARS 1.",
+    "BARS ",
+    "BARS 99999999999",
+];
+
+/// Prices that don't add up to the sum.
+static OTHER_PRICES: [&str; 4] = ["BARS 9999", "BARS -9999", "BARS 2", "BARS -1"];
 
 #[test]
 fn prices_are_written_in_one_way(rt: HostRuntime) {
-    for price in ["+1", "01", "-0", "10000", "-10000", "1.", "", "99999999999"] {
-        let mut line = ArrayString::<64>::new();
-        let _room = line.try_push_str("BARS ");
-        let _room = line.try_push_str(price);
-        let bad = Some(CardFault::BadLine(4));
-        assert_eq!(rt; fault(ONE_LUG, "BARS 1", line.as_str()), bad);
-    }
-    for price in ["9999", "-9999", "2", "-1"] {
-        let mut line = ArrayString::<64>::new();
-        let _room = line.try_push_str("BARS ");
-        let _room = line.try_push_str(price);
-        let other = Some(CardFault::CountWrong);
-        assert_eq!(rt; fault(ONE_LUG, "BARS 1", line.as_str()), other);
-    }
+    is_refused(&rt, ONE_LUG, "BARS 1", &NO_PRICES, CardFault::BadLine(4));
+    is_refused(&rt, ONE_LUG, "BARS 1", &OTHER_PRICES, CardFault::CountWrong);
 }
+
+/// Lines of prices with other words, or another number of prices.
+static PRICE_LINES: [Case; 14] = [
+    ("CABLES 2", "BARS 2", CardFault::PriceMissing),
+    ("CABLES 2", "ROWS 2", CardFault::PriceMissing),
+    ("CABLES 2", "CABLE 2", CardFault::PriceMissing),
+    ("CABLES 2", "CABLES", CardFault::PriceMissing),
+    ("CABLES 2", "CABLES 2 0", CardFault::PriceMissing),
+    ("CABLES 2", "CABLES 2 0 +", CardFault::BadLine(7)),
+    (
+        "CABLES 2 2 0 0 0 0 0 0 0 0 0 0 0",
+        "CABLES",
+        CardFault::PriceMissing,
+    ),
+    (
+        "CABLES 2 2 0 0 0 0 0 0 0 0 0 0 0",
+        "CABLES ",
+        CardFault::BadLine(7),
+    ),
+    (
+        "CABLES 2 2 0 0 0 0 0 0 0 0 0 0 0",
+        "",
+        CardFault::PriceMissing,
+    ),
+    ("PAIRS", "ROWS", CardFault::PriceMissing),
+    ("PAIRS", "SUM", CardFault::PriceMissing),
+    ("PAIRS 0", "PAIRS", CardFault::PriceMissing),
+    ("PAIRS 0", "PAIRS 0 0", CardFault::PriceMissing),
+    ("PAIRS 0", "PAIRS  0", CardFault::BadLine(8)),
+];
 
 #[test]
 fn a_line_of_prices_has_its_word_and_number(rt: HostRuntime) {
-    let missing = CardFault::PriceMissing;
-    for (old, new, due) in [
-        ("CABLES 2", "BARS 2", missing),
-        ("CABLES 2", "ROWS 2", missing),
-        ("CABLES 2", "CABLE 2", missing),
-        ("CABLES 2", "CABLES", missing),
-        ("CABLES 2", "CABLES 2 0", missing),
-        ("CABLES 2", "CABLES 2 0 +", CardFault::BadLine(7)),
-        ("CABLES 2 2 0 0 0 0 0 0 0 0 0 0 0", "CABLES", missing),
-        (
-            "CABLES 2 2 0 0 0 0 0 0 0 0 0 0 0",
-            "CABLES ",
-            CardFault::BadLine(7),
-        ),
-        ("CABLES 2 2 0 0 0 0 0 0 0 0 0 0 0", "", missing),
-        ("PAIRS", "ROWS", missing),
-        ("PAIRS", "SUM", missing),
-        ("PAIRS 0", "PAIRS", missing),
-        ("PAIRS 0", "PAIRS 0 0", missing),
-        ("PAIRS 0", "PAIRS  0", CardFault::BadLine(8)),
-    ] {
-        assert_eq!(rt; fault(TWO_CABLES, old, new), Some(due));
-    }
+    are_refused(&rt, TWO_CABLES, &PRICE_LINES);
 }
+
+/// Other sums, one of a hundred figures.
+static OTHER_SUMS: [&str; 3] = [
+    "SUM 3",
+    "SUM -4",
+    "SUM -1234567890123456789012345678901234567890123456789012345678901234567890123456789012345678901234567890",
+];
+
+/// Sums that aren't written in the one way.
+static NO_SUMS: [&str; 7] = [
+    "SUM 04", "SUM +4", "SUM -0", "SUM --4", "SUM -04", "SUM 4 ", "SUM",
+];
+
+/// Lines after the sum.
+static TRAILING: [&str; 2] = ["SUM 4\n\n", "SUM 4\nSUM 4\n"];
 
 #[test]
 fn the_sum_of_the_prices_is_added_up(rt: HostRuntime) {
-    let line = CardFault::BadLine(9);
-    let hundred =
-        "SUM -1234567890123456789012345678901234567890123456789012345678901234567890123456789012345678901234567890";
-    for (sum, due) in [
-        ("SUM 3", CardFault::CountWrong),
-        ("SUM -4", CardFault::CountWrong),
-        (hundred, CardFault::CountWrong),
-        ("SUM 04", line),
-        ("SUM +4", line),
-        ("SUM -0", line),
-        ("SUM --4", line),
-        ("SUM -04", line),
-        ("SUM 4 ", line),
-        ("SUM", line),
-    ] {
-        assert_eq!(rt; fault(TWO_CABLES, "SUM 4", sum), Some(due));
-    }
-    assert_eq!(rt;
-        fault(TWO_CABLES, "SUM 4\n", "SUM 4\n\n"),
-        Some(CardFault::Trailing)
-    );
-    assert_eq!(rt;
-        fault(TWO_CABLES, "SUM 4\n", "SUM 4\nSUM 4\n"),
-        Some(CardFault::Trailing)
-    );
+    is_refused(&rt, TWO_CABLES, "SUM 4", &OTHER_SUMS, CardFault::CountWrong);
+    is_refused(&rt, TWO_CABLES, "SUM 4", &NO_SUMS, CardFault::BadLine(9));
+    is_refused(&rt, TWO_CABLES, "SUM 4\n", &TRAILING, CardFault::Trailing);
 }
 
 /// What the card in which two cables change places is refused for when it is cut here.
@@ -181,6 +223,6 @@ fn a_card_that_is_cut_is_refused(rt: HostRuntime) {
     let text = TWO_CABLES.as_bytes();
     for end in 0..text.len() {
         let front = &text[..end];
-        assert_eq!(rt; read_card(front).err(), Some(cut_fault(front)));
+        assert!(rt; read_card(front).err() == Some(cut_fault(front)));
     }
 }

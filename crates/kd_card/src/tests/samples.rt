@@ -1,8 +1,6 @@
 //! Cards beside their texts.
 use crate::{Card, Prices};
-use arrayvec::ArrayVec;
-use kd_state::Setting;
-use kd_tables::{Letter, Lug, Place};
+use kd_state::read_list;
 
 /// Two cables change places.
 pub(super) const TWO_CABLES: &str = "CARD 1 DAY 8
@@ -33,11 +31,6 @@ PAIRS 0 0 0 0 0 0 0 0 0 0 0 0 0
 SUM 0
 ";
 
-/// The letter of that capital letter.
-fn letter(byte: u8) -> Letter {
-    Letter::from_byte(byte).unwrap_or(Letter::A)
-}
-
 /// Prices that are these in front, and then 0.
 fn padded<const N: usize>(front: &[i16]) -> [i16; N] {
     let mut prices = [0; N];
@@ -47,52 +40,26 @@ fn padded<const N: usize>(front: &[i16]) -> [i16; N] {
     prices
 }
 
-/// The card of these settings and prices, if they are prices.
-fn card(settings: &[Setting], prices: Option<Prices>) -> Option<Card> {
-    let mut list = ArrayVec::new();
-    for setting in settings {
-        list.try_push(*setting).ok()?;
-    }
+/// The card of these lines and prices.
+fn card(lines: &str, prices: Option<Prices>) -> Option<Card> {
     Some(Card {
-        settings: list,
+        settings: read_list(lines.as_bytes()).ok()?,
         prices: prices?,
     })
 }
 
 /// The card in which two cables change places.
 pub(super) fn two_cables() -> Option<Card> {
-    let settings = [
-        Setting::Pull {
-            cable: 1,
-            letter: letter(b'A'),
-        },
-        Setting::Pull {
-            cable: 2,
-            letter: letter(b'C'),
-        },
-        Setting::Put {
-            cable: 1,
-            letter: letter(b'C'),
-        },
-        Setting::Put {
-            cable: 2,
-            letter: letter(b'E'),
-        },
-    ];
-    card(&settings, Prices::cables(padded(&[2, 2]), padded(&[])))
+    let lines = "PULL 1 A\nPULL 2 C\nPUT 1 C\nPUT 2 E\n";
+    card(lines, Prices::cables(padded(&[2, 2]), [0; 13]))
 }
 
 /// The card that moves one lug.
 pub(super) fn one_lug() -> Option<Card> {
-    let settings = [Setting::LugTo {
-        bar: 1,
-        lug: Lug::Right,
-        place: Place::Six,
-    }];
-    card(&settings, Prices::bars(padded(&[1, 1]), padded(&[-1])))
+    card("LUG 1 R 6\n", Prices::bars(padded(&[1, 1]), padded(&[-1])))
 }
 
 /// The card with nothing to be done.
 pub(super) fn no_settings() -> Option<Card> {
-    card(&[], Prices::cables(padded(&[]), padded(&[])))
+    card("", Prices::cables([0; 13], [0; 13]))
 }

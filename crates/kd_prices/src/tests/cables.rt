@@ -1,79 +1,54 @@
 //! Cards of an Enigma I.
-use super::samples::{bar_prices, cable_prices, card, enigma_day, letter, plugged, unplugged};
+use super::samples::{bar_prices, cable_prices, card, enigma, enigma_day};
 use crate::{Doubt, check};
-use kd_state::{Setting, SheetDay};
-use kd_tables::Letter;
-use std::process::Abort;
 
-/// The day with the pairs BC and DE.
-fn two_pairs(rt: &impl Abort) -> SheetDay {
-    let first = (letter(rt, b'B'), letter(rt, b'C'));
-    let second = (letter(rt, b'D'), letter(rt, b'E'));
-    enigma_day(rt, 8, &[first, second])
-}
+/// What cables lie in the machine and are to lie there, the lines, the prices of the cables, and what the check says.
+type Case = (
+    &'static [[u8; 2]],
+    &'static [[u8; 2]],
+    &'static str,
+    &'static [i16],
+    Result<(), Doubt>,
+);
 
-/// PULL.
-fn pull(rt: &impl Abort, cable: u8, byte: u8) -> Setting {
-    let letter = letter(rt, byte);
-    Setting::Pull { cable, letter }
-}
+static CASES: [Case; 5] = [
+    (
+        &[*b"AB", *b"CD"],
+        &[*b"BC", *b"DE"],
+        "PULL 1 A\nPULL 2 C\nPUT 1 C\nPUT 2 E\n",
+        &[2, 2],
+        Ok(()),
+    ),
+    (
+        &[*b"AB", *b"CD"],
+        &[*b"BC", *b"DE"],
+        "PULL 2 C\nPULL 1 A\nPUT 1 C\nPUT 2 E\n",
+        &[2, 2],
+        Ok(()),
+    ),
+    (
+        &[*b"AB", *b"CD"],
+        &[*b"BC", *b"DE"],
+        "",
+        &[],
+        Err(Doubt::NotTheSheet),
+    ),
+    (&[], &[], "", &[], Ok(())),
+    (&[], &[], "TURN 1 A\n", &[], Err(Doubt::NeedlessLine(1))),
+];
 
-/// PUT.
-fn put(rt: &impl Abort, cable: u8, byte: u8) -> Setting {
-    let letter = letter(rt, byte);
-    Setting::Put { cable, letter }
-}
-
-/// What the check says of these lines, with one fitting list of prices.
-fn verdict(rt: &impl Abort, settings: &[Setting]) -> Result<(), Doubt> {
-    let card = card(rt, settings, cable_prices(rt, &[2, 2], &[]));
-    check(&plugged(rt), &two_pairs(rt), &card)
+#[test]
+fn cards_of_cables(rt: HostRuntime) {
+    for (cables, pairs, lines, prices, due) in &CASES {
+        let card = card(&rt, lines, cable_prices(&rt, prices, &[]));
+        let said = check(&enigma(&rt, cables), &enigma_day(&rt, pairs), &card);
+        assert_eq!(rt; said, *due, "{lines}");
+    }
 }
 
 #[test]
-fn two_cables_are_changed(rt: HostRuntime) {
-    let in_order = [
-        pull(&rt, 1, b'A'),
-        pull(&rt, 2, b'C'),
-        put(&rt, 1, b'C'),
-        put(&rt, 2, b'E'),
-    ];
-    assert_eq!(rt; verdict(&rt, &in_order), Ok(()));
-    let exchanged = [
-        pull(&rt, 2, b'C'),
-        pull(&rt, 1, b'A'),
-        put(&rt, 1, b'C'),
-        put(&rt, 2, b'E'),
-    ];
-    assert_eq!(rt; verdict(&rt, &exchanged), Ok(()));
-}
-
-#[test]
-fn no_lines_where_there_is_something_to_do(rt: HostRuntime) {
-    let card = card(&rt, &[], cable_prices(&rt, &[], &[]));
-    assert_eq!(rt;
-        check(&plugged(&rt), &two_pairs(&rt), &card),
-        Err(Doubt::NotTheSheet)
-    );
-}
-
-#[test]
-fn nothing_to_do(rt: HostRuntime) {
-    let day = enigma_day(&rt, 11, &[]);
-    let none = card(&rt, &[], cable_prices(&rt, &[], &[]));
-    assert_eq!(rt; check(&unplugged(&rt), &day, &none), Ok(()));
-    let turn = Setting::Turn {
-        slot: 1,
-        letter: Letter::A,
-    };
-    let needless = card(&rt, &[turn], cable_prices(&rt, &[], &[]));
-    assert_eq!(rt;
-        check(&unplugged(&rt), &day, &needless),
-        Err(Doubt::NeedlessLine(1))
-    );
-    let of_bars = card(&rt, &[], bar_prices(&rt, &[], &[]));
-    assert_eq!(rt;
-        check(&unplugged(&rt), &day, &of_bars),
-        Err(Doubt::OtherModel)
-    );
+fn prices_of_bars_on_an_enigma(rt: HostRuntime) {
+    let card = card(&rt, "", bar_prices(&rt, &[], &[]));
+    let said = check(&enigma(&rt, &[]), &enigma_day(&rt, &[]), &card);
+    assert_eq!(rt; said, Err(Doubt::OtherModel));
 }

@@ -1,92 +1,85 @@
 //! Cards of a Converter M-209.
-use super::samples::{
-    bar_prices, card, converter, converter_day, lug, reading, standing, unplugged,
-};
+use super::samples::{bar_prices, card, converter, converter_day, enigma};
 use crate::{Doubt, check};
-use kd_card::Prices;
-use kd_state::{Machine, Setting, SheetDay, Why};
-use kd_tables::{Lug, Place};
-use std::process::Abort;
+use kd_state::Why;
+use kd_tables::Place;
 
-/// The first two bars at 3-0R and 0L-3.
-fn two_bars(rt: &impl Abort) -> Machine {
-    let first = standing(rt, Place::Three, Place::ZeroRight);
-    converter(rt, first, standing(rt, Place::ZeroLeft, Place::Three))
-}
+/// Lines, the prices of the bars and of the rows, and what the check says.
+type Case = (
+    &'static str,
+    &'static [i16],
+    &'static [i16],
+    Result<(), Doubt>,
+);
 
-/// The day whose first two rows are 0-3 and 3-6.
-fn two_rows(rt: &impl Abort) -> SheetDay {
-    converter_day(rt, 9, reading(rt, 0, 3), reading(rt, 3, 6))
-}
+/// The first two bars, which are to read as 0-3 and 3-6.
+static TWO_BARS: [(Place, Place); 2] = [
+    (Place::Three, Place::ZeroRight),
+    (Place::ZeroLeft, Place::Three),
+];
 
-/// What the check says of the one line that makes the first bar 3-6, with these prices.
-fn verdict(rt: &impl Abort, prices: Prices) -> Result<(), Doubt> {
-    let card = card(rt, &[lug(1, Lug::Right, Place::Six)], prices);
-    check(&two_bars(rt), &two_rows(rt), &card)
-}
+static TWO_ROWS: [(u8, u8); 2] = [(0, 3), (3, 6)];
+
+/// The line that makes the first bar 3-6, with prices that fit and others; and a card with a line more, where the first
+/// bar is kept for the row that it reads as already, and prices with the right sum pretend that this is shortest.
+static OF_TWO_BARS: [Case; 5] = [
+    ("LUG 1 R 6\n", &[1, 1], &[-1], Ok(())),
+    ("LUG 1 R 6\n", &[], &[], Err(Doubt::SumDiffers)),
+    (
+        "LUG 1 R 6\n",
+        &[2, 1],
+        &[-1],
+        Err(Doubt::PriceTooHigh(1, 1)),
+    ),
+    (
+        "LUG 1 R 6\n",
+        &[9999],
+        &[-9999],
+        Err(Doubt::PriceTooHigh(1, 2)),
+    ),
+    (
+        "LUG 2 R 6\nLUG 2 L 3\n",
+        &[2],
+        &[],
+        Err(Doubt::PriceTooHigh(1, 1)),
+    ),
+];
 
 #[test]
-fn one_lug_is_moved(rt: HostRuntime) {
-    assert_eq!(rt; verdict(&rt, bar_prices(&rt, &[1, 1], &[-1])), Ok(()));
-}
-
-#[test]
-fn prices_that_do_not_fit(rt: HostRuntime) {
-    let zero = bar_prices(&rt, &[], &[]);
-    assert_eq!(rt; verdict(&rt, zero), Err(Doubt::SumDiffers));
-    let higher = bar_prices(&rt, &[2, 1], &[-1]);
-    assert_eq!(rt; verdict(&rt, higher), Err(Doubt::PriceTooHigh(1, 1)));
-    let highest = bar_prices(&rt, &[9999], &[-9999]);
-    assert_eq!(rt; verdict(&rt, highest), Err(Doubt::PriceTooHigh(1, 2)));
-}
-
-/// The first bar is kept for the row that it reads as already, and prices with the right sum pretend that this is shortest.
-#[test]
-fn a_card_with_a_line_more(rt: HostRuntime) {
-    let settings = [
-        lug(2, Lug::Right, Place::Six),
-        lug(2, Lug::Left, Place::Three),
-    ];
-    let card = card(&rt, &settings, bar_prices(&rt, &[2], &[]));
-    assert_eq!(rt;
-        check(&two_bars(&rt), &two_rows(&rt), &card),
-        Err(Doubt::PriceTooHigh(1, 1))
-    );
+fn cards_of_two_bars(rt: HostRuntime) {
+    for (lines, bars, rows, due) in &OF_TWO_BARS {
+        let card = card(&rt, lines, bar_prices(&rt, bars, rows));
+        let said = check(
+            &converter(&rt, &TWO_BARS),
+            &converter_day(&rt, &TWO_ROWS),
+            &card,
+        );
+        assert_eq!(rt; said, *due, "{lines}");
+    }
 }
 
 #[test]
 fn a_card_of_another_machine(rt: HostRuntime) {
-    let settings = [lug(1, Lug::Right, Place::Six)];
-    let card = card(&rt, &settings, bar_prices(&rt, &[1, 1], &[-1]));
-    assert_eq!(rt;
-        check(&unplugged(&rt), &two_rows(&rt), &card),
-        Err(Doubt::OtherModel)
-    );
+    let card = card(&rt, "LUG 1 R 6\n", bar_prices(&rt, &[1, 1], &[-1]));
+    let said = check(&enigma(&rt, &[]), &converter_day(&rt, &TWO_ROWS), &card);
+    assert_eq!(rt; said, Err(Doubt::OtherModel));
 }
 
-/// What the check says of these lines on a machine whose first bar is to come from 1-3 to 3-6.
-fn verdict_on_one_bar(rt: &impl Abort, settings: &[Setting]) -> Result<(), Doubt> {
-    let resting = standing(rt, Place::ZeroLeft, Place::ZeroRight);
-    let machine = converter(rt, standing(rt, Place::One, Place::Three), resting);
-    let day = converter_day(rt, 10, reading(rt, 3, 6), reading(rt, 0, 0));
-    check(
-        &machine,
-        &day,
-        &card(rt, settings, bar_prices(rt, &[2], &[])),
-    )
-}
+/// The right lug of a bar at 1-3 makes room for the left one.
+static OF_ONE_BAR: [(&str, Result<(), Doubt>); 2] = [
+    ("LUG 1 R 6\nLUG 1 L 3\n", Ok(())),
+    (
+        "LUG 1 L 3\nLUG 1 R 6\n",
+        Err(Doubt::IllegalAt(1, Why::PlaceTaken)),
+    ),
+];
 
 #[test]
-fn the_right_lug_makes_room(rt: HostRuntime) {
-    let in_order = [
-        lug(1, Lug::Right, Place::Six),
-        lug(1, Lug::Left, Place::Three),
-    ];
-    assert_eq!(rt; verdict_on_one_bar(&rt, &in_order), Ok(()));
-    let exchanged = [
-        lug(1, Lug::Left, Place::Three),
-        lug(1, Lug::Right, Place::Six),
-    ];
-    let taken = Doubt::IllegalAt(1, Why::PlaceTaken);
-    assert_eq!(rt; verdict_on_one_bar(&rt, &exchanged), Err(taken));
+fn cards_of_one_bar(rt: HostRuntime) {
+    let machine = converter(&rt, &[(Place::One, Place::Three)]);
+    let day = converter_day(&rt, &[(3, 6)]);
+    for (lines, due) in &OF_ONE_BAR {
+        let card = card(&rt, lines, bar_prices(&rt, &[2], &[]));
+        assert_eq!(rt; check(&machine, &day, &card), *due, "{lines}");
+    }
 }
