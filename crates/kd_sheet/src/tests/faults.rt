@@ -9,14 +9,14 @@ use std::alloc::{AllocError, Global};
 use std::process::Abort;
 
 /// Bytes that are no machine file.
-const MACHINE_BYTES: [(&[u8], SheetFault); 3] = [
+static MACHINE_BYTES: [(&[u8], SheetFault); 3] = [
     (b"x =", NotToml),
     (b"\xff", NotToml),
     (b"x = 1", Missing(Key::Version)),
 ];
 
 /// Bytes that are no sheet.
-const SHEET_BYTES: [(&[u8], SheetFault); 6] = [
+static SHEET_BYTES: [(&[u8], SheetFault); 6] = [
     (b"x =", NotToml),
     (b"\xff", NotToml),
     (b"x = 1", Missing(Key::Day)),
@@ -28,7 +28,7 @@ const SHEET_BYTES: [(&[u8], SheetFault); 6] = [
 /// A machine file, a part of it, what stands in the part's place, and the fault that the file then has.
 type MachineCase = (&'static str, &'static str, &'static str, SheetFault);
 
-const VERSIONS_AND_MODELS: [MachineCase; 7] = [
+static VERSIONS_AND_MODELS: [MachineCase; 7] = [
     (M1, "version = 1", "version = 9223372036854775808", NotToml),
     (M1, "version = 1", "version = 3", BadValue(Key::Version)),
     (M1, "version = 1", "version = true", BadValue(Key::Version)),
@@ -38,7 +38,7 @@ const VERSIONS_AND_MODELS: [MachineCase; 7] = [
     (M4, "version = 2", "version = 1", UnknownModel),
 ];
 
-const REFLECTORS_AND_SLOTS: [MachineCase; 11] = [
+static REFLECTORS_AND_SLOTS: [MachineCase; 11] = [
     (M1, "reflector = \"B\"\n", "", Missing(Key::Reflector)),
     (M1, "\"B\"", "\"b\"", BadValue(Key::Reflector)),
     (
@@ -57,7 +57,7 @@ const REFLECTORS_AND_SLOTS: [MachineCase; 11] = [
     (M1, "\"II\"", "\"I\"", WheelTwice),
 ];
 
-const RINGS_LETTERS_AND_CABLES: [MachineCase; 10] = [
+static RINGS_LETTERS_AND_CABLES: [MachineCase; 10] = [
     (M1, "rings", "x", Missing(Key::Rings)),
     (
         M1,
@@ -105,7 +105,7 @@ const RINGS_LETTERS_AND_CABLES: [MachineCase; 10] = [
     (M1, "version = 1", "version = 1\ncables = ", NotToml),
 ];
 
-const PARTS_OF_A_CONVERTER: [MachineCase; 9] = [
+static PARTS_OF_A_CONVERTER: [MachineCase; 9] = [
     (M209, "letters", "x", Missing(Key::Letters)),
     (M209, "\"AAAAAA\"", "\"AAAAAR\"", BadValue(Key::Letters)),
     (M209, "pins", "x", Missing(Key::Pins)),
@@ -120,7 +120,7 @@ const PARTS_OF_A_CONVERTER: [MachineCase; 9] = [
 /// A part of the sheet, what stands in its place, and the fault that the sheet then has.
 type SheetCase = (&'static str, &'static str, SheetFault);
 
-const DAYS_AND_WHEELS: [SheetCase; 14] = [
+static DAYS_AND_WHEELS: [SheetCase; 14] = [
     ("day = 31", "day = 32", BadValue(Key::Day)),
     ("day = 31", "day = 0", BadValue(Key::Day)),
     ("day = 31", "day = 1", DayTwice(1)),
@@ -141,7 +141,7 @@ const DAYS_AND_WHEELS: [SheetCase; 14] = [
     ("\"WXYZ\"", "\"WXY\"", BadValue(Key::Window)),
 ];
 
-const PAIRS_GROUPS_AND_ROWS: [SheetCase; 11] = [
+static PAIRS_GROUPS_AND_ROWS: [SheetCase; 11] = [
     ("plugs = []", "x = []", Missing(Key::Plugs)),
     ("\"BC\", \"ED\"", "\"BC\", \"E\"", BadValue(Key::Plugs)),
     ("\"BC\", \"ED\"", "\"AB\", \"BC\"", LetterTwice),

@@ -7,7 +7,7 @@ use std::alloc::Global;
 use std::test::Fail;
 
 /// Each file beside the file that is written for its machine.
-const WRITTEN: [(&str, &str); 6] = [
+static WRITTEN: [(&str, &str); 6] = [
     (M1, M1_WRITTEN),
     (M1_WRITTEN, M1_WRITTEN),
     (TEN_CABLES, TEN_CABLES_WRITTEN),
@@ -17,7 +17,7 @@ const WRITTEN: [(&str, &str); 6] = [
 ];
 
 /// A file, a part of it, what stands in the part's place: another machine, whose file is written back the same.
-const WRITTEN_BACK: [(&str, &str, &str); 8] = [
+static WRITTEN_BACK: [(&str, &str, &str); 8] = [
     (M1_WRITTEN, "\"AAAAA\"\nl", "\"BBBAA\"\nl"),
     (M1_WRITTEN, "[\"\", \"\",", "[\"AB\", \"CD\","),
     (
@@ -37,7 +37,7 @@ const WRITTEN_BACK: [(&str, &str, &str); 8] = [
 ];
 
 /// What may stand for the version: 2 tells the same machine, and what no key speaks of is passed over.
-const VERSIONS: [&str; 2] = [
+static VERSIONS: [&str; 2] = [
     "version = 2",
     "x = [[[[[[[[[[[[[[[[[[[[[[[[[[[[[[[[[[[[[[[[[[[[[[[[[[[[[[[[[[[[[[[[]]]]]]]]]]]]]]]]]]]]]]]]]]]]]]]]]]]]]]]]]]]]]]]]]]]]]]]]]]]]]]]]\nversion = 1",
 ];
@@ -89,7 +89,7 @@ fn reads_either_version_and_unknown_keys(rt: HostRuntime) -> Result<(), Fail> {
 }
 
 /// The days of the sheet: the number, the model, the reflector, and how many pairs and groups there are.
-const DAYS: [(u8, Model, Option<Reflector>, Option<(usize, usize)>); 3] = [
+static DAYS: [(u8, Model, Option<Reflector>, Option<(usize, usize)>); 3] = [
     (1, Model::EnigmaI, Some(Reflector::B), Some((2, 4))),
     (9, Model::M209, None, None),
     (31, Model::M4, Some(Reflector::ThinC), Some((0, 0))),
@@ -116,7 +116,7 @@ fn reads_the_days_of_a_sheet(rt: HostRuntime) -> Result<(), Fail> {
 }
 
 /// The wheels of the days of rotors: the day, the slot, the wheel there, its ring, and the letter in its window.
-const WHEELS: [(u8, u8, Wheel, u8, u8); 7] = [
+static WHEELS: [(u8, u8, Wheel, u8, u8); 7] = [
     (1, 1, Wheel::I, b'A', b'A'),
     (1, 2, Wheel::II, b'Z', b'B'),
     (1, 3, Wheel::III, b'B', b'C'),
