@@ -5,7 +5,7 @@ use Rattle.kd_tables.specs.Tables.{reflector_of}
 use Rattle.kd_tables.specs.declared.reflector.Reflector.{Reflector}
 use Rattle.kd_tables.specs.declared.wheel.Wheel.{Wheel}
 use Rattle.kd_step.specs.Stepper.{IsStep, moved, next_letter, stands_at_notch}
-use Rattle.kd_step.proofs.Counting.{moved_there, length_moved}
+use Rattle.kd_step.proofs.Moved.{moved_there, length_moved}
 use Rattle.kd_enigma.specs.Around.{around, boarded}
 use Rattle.kd_enigma.specs.Cipher.{IsPlugboard, rotors}
 use Rattle.kd_enigma.specs.Rotor.{rotor}

@@ -1,2 +1,2 @@
 pub mod Steps
-pub mod Counting
+pub mod Moved

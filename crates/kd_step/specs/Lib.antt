@@ -1,2 +1,2 @@
 pub mod Stepper
-pub mod Countdown
+pub mod Notches

@@ -1,8 +1,8 @@
 //! The stepping of the wheels of a rotor machine.
 #![tactic(auto)]
 
-mod countdown;
 pub mod laws;
+mod notches;
 mod stepper;
 #[cfg(test)]
 mod tests;

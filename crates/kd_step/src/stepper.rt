@@ -1,7 +1,7 @@
 ghost use Rattle.std.specs.Prelude.{◌≡◌, ◌≤◌, length, map};
 ghost use Rattle.kd_step.specs.Stepper.{IsStep, moved, next_letter, window_after};
 
-use super::countdown::{countdown, counted_down, moving};
+use super::notches::{moving, notches};
 use kd_tables::{Letter, Wheel};
 use std::marker::Model;
 
@@ -10,20 +10,20 @@ use std::marker::Model;
 pub struct Stepper<const S: usize> {
     wheels: [Wheel; S],
     window: [Letter; S],
-    middle: Option<u8>,
-    right: Option<u8>,
+    middle: [bool; 26],
+    right: [bool; 26],
 }
 
 impl<const S: usize> Model for Stepper<S> {
     ghost use Rattle.std.specs.Prelude.{◌≡◌, ◌≤◌};
     ghost use Rattle.kd_step.specs.Stepper.{Stepping};
-    ghost use Rattle.kd_step.specs.Countdown.{Counts};
+    ghost use Rattle.kd_step.specs.Notches.{TellsNotches};
 
     ghost Value = { Stepping };
 
     ghost view = { λ s. record { wheels = s.wheels; window = s.window } };
 
-    ghost invariant = { λ s. (3 ≤ S) × (S ≤ 4) × Counts s.wheels s.window 1 s.middle × Counts s.wheels s.window 0 s.right };
+    ghost invariant = { λ s. (3 ≤ S) × (S ≤ 4) × TellsNotches s.wheels 1 s.middle × TellsNotches s.wheels 0 s.right };
 }
 
 impl<const S: usize> Stepper<S> {
@@ -33,8 +33,8 @@ impl<const S: usize> Stepper<S> {
         requires most { S ≤ 4 }
         ensures { result ≡ record { wheels = wheels.entry; window = window.entry } }
     {
-        let middle = countdown(wheels[S - 2], window[S - 2]);
-        let right = countdown(wheels[S - 1], window[S - 1]);
+        let middle = notches(wheels[S - 2]);
+        let right = notches(wheels[S - 1]);
         Stepper {
             wheels,
             window,
@@ -49,15 +49,9 @@ impl<const S: usize> Stepper<S> {
         ensures after { self.new.window ≡ window_after self.old.wheels self.old.window 1 }
         ensures wheels { self.new.wheels ≡ self.old.wheels }
     {
-        let moving = moving(self.middle, self.right);
-        let (middle, right) = (S - 2, S - 1);
-        self.middle = counted_down(
-            self.middle,
-            self.wheels[middle],
-            self.window[middle],
-            moving > 1,
-        );
-        self.right = counted_down(self.right, self.wheels[right], self.window[right], true);
+        let shown = &self.window[..];
+        let (middle, right) = (shown[S - 2].index(), shown[S - 1].index());
+        let moving = moving(self.middle[middle], self.right[right]);
         move_last(&mut self.window, moving);
     }
 
