@@ -11,6 +11,7 @@ use super::plugs::Plugs;
 use super::right_wheel::RightWheel;
 use super::rotor::Rotor;
 use kd_step::Stepper;
+use kd_step::laws::slow_wheels_move_together;
 use kd_tables::{Letter, Reflector, Wheel, reflecting};
 use std::marker::Model;
 
@@ -115,6 +116,7 @@ impl<const S: usize> Enigma<S> {
         ensures { self.new ≡ key_after self.old 1 }
     {
         tables_are_sound();
+        slow_wheels_move_together();
         let before = self.stepper.window();
         self.stepper.step();
         let window = self.stepper.window();

@@ -1,6 +1,6 @@
 -- The stepping of the wheels, by the letters that show in their windows. A place of a wheel is counted from the right,
 -- from 0: the right wheel, the middle wheel, the left wheel, and on the M4 the Greek wheel, which never moves.
-use Rattle.std.specs.Prelude.{◌≡◌, ◌↔◌, ℕ, zero, suc, ◌+◌, ◌-◌, ◌%◌, List, ◌++◌, length, take, drop, map, slice_get, slice_index, IsTrue, IsFalse, Bool, false, if◌then◌else◌}
+use Rattle.std.specs.Prelude.{◌≡◌, ◌↔◌, ℕ, zero, suc, ◌+◌, ◌-◌, ◌%◌, ◌≤◌, List, ◌++◌, length, take, drop, map, slice_get, slice_index, IsTrue, IsFalse, Bool, false, if◌then◌else◌}
 use Rattle.std.specs.Option.{option_map_or}
 use Rattle.kd_tables.specs.Tables.{is_notch}
 use Rattle.kd_tables.specs.declared.wheel.Wheel.{Wheel}
@@ -50,3 +50,10 @@ window_after wheels window (suc n) = next_window wheels (window_after wheels win
 -- a chain of so many steps leads to that window, and to no other
 abbrev pub ChainsEndInWindowAfter : Type 0
 ChainsEndInWindowAfter = (wheels : List Wheel) (first last : List ℕ) (n : ℕ) → LeadsInSteps wheels first n last ↔ (last ≡ window_after wheels first n)
+
+-- a step that leaves the letter of the middle wheel leaves all letters but the right wheel's
+abbrev pub SlowWheelsMoveTogether : Type 0
+SlowWheelsMoveTogether =
+    (wheels : List Wheel) (before after : List ℕ) → IsStep wheels before after → 3 ≤ length before
+    → slice_index after (length before - 2) ≡ slice_index before (length before - 2)
+    → take (length after - 1) after ≡ take (length before - 1) before

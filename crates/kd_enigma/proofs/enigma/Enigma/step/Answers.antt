@@ -4,7 +4,7 @@ use Rattle.kd_step.specs.Stepper.{IsStep}
 use Rattle.kd_enigma.specs.Around.{around}
 use Rattle.kd_enigma.specs.Through.{standing}
 use Rattle.kd_enigma.specs.Wired.{IsWired, key_in, slow}
-use Rattle.kd_enigma.proofs.Wiring.{path_made, slow_still}
+use Rattle.kd_enigma.proofs.Wiring.{path_made}
 use Rattle.kd_enigma.proofs.enigma.Enigma.step.Goals as goal
 use Rattle.kd_enigma.proofs.enigma.Enigma.step.Goals.{then-stands-stood, else-stands-stood}
 
@@ -33,7 +33,7 @@ invariant_of-self g c =
           let same : slice_index window (length before - 2) ≡ slice_index before (length before - 2) =
           same_there before window g.row.S c.index-before.result c.index-window.result c.index-stood.result c.index-stands.result (search rules) (search rules) (omega arith) c.index-stood.ensures.value c.index-stands.ensures.value w.if-stands-stood.true in
           w.self-is ∙ kept.around_slow ∙ ap (λ letters. around inside.reflecting (standing (slow inside.rotors) (slow letters))) (sym c.window-before.ensures)
-          ∙ ap (λ letters. around inside.reflecting (standing (slow inside.rotors) letters)) (sym (slow_still inside.stepper.wheels before window step (omega arith) same))
+          ∙ ap (λ letters. around inside.reflecting (standing (slow inside.rotors) letters)) (sym (c.slow_wheels_move_together.ensures inside.stepper.wheels before window step (omega arith) same))
       | else-stands-stood w ↦ w.self-is ∙ w.around_slow-self-inside.ensures
     ] in (
       subst (λ letters. IsWired inside.rotors inside.right (key_in (record { wheels = stepped.wheels; window = letters }) inside.rotors inside.reflector inside.right) inside.reflecting inner whole) c.window-window.ensures
