@@ -8,13 +8,13 @@ use Rattle.kd_tables.specs.declared.place.Place.{Place}
 use Rattle.kd_tables.specs.declared.lug.Lug.{Lug}
 use Rattle.kd_tables.specs.declared.lug.Lug.TheVariants.{Left, Right}
 use Rattle.kd_tables.specs.Permutation.{alphabet}
-use Rattle.kd_state.specs.declared.rotor_parts.RotorParts.{RotorParts}
-use Rattle.kd_state.specs.declared.pin_parts.PinParts.{PinParts}
-use Rattle.kd_state.specs.declared.parts.Parts.{Parts}
-use Rattle.kd_state.specs.declared.parts.Parts.TheVariants.{Rotor, Pin}
+use Rattle.kd_state.specs.declared.machine.rotor_parts.RotorParts.{RotorParts}
+use Rattle.kd_state.specs.declared.machine.pin_parts.PinParts.{PinParts}
+use Rattle.kd_state.specs.declared.machine.parts.Parts.{Parts}
+use Rattle.kd_state.specs.declared.machine.parts.Parts.TheVariants.{Rotor, Pin}
 use Rattle.kd_state.specs.declared.setting.Setting.{Setting}
 use Rattle.kd_state.specs.declared.setting.Setting.TheVariants.{Pull, Put, Seat, SeatReflector, RingTo, Turn, PinTo, LugTo}
-use Rattle.kd_state.specs.declared.why.Why.{Why}
+use Rattle.kd_state.specs.declared.setting.why.Why.{Why}
 use Rattle.kd_state.specs.Machine.{cable_letters}
 use Rattle.kd_state.specs.Setting.{has_letter, is_at, reasons, why_refused, cable_at, cable_without, cable_with, with_lug, with_lug_at, changed}
 use Rattle.kd_state.specs.Costs.{differ, unless_same, column_letters, cable_cost, lugs_moved, standings_as, bar_cost}

@@ -1,6 +1,6 @@
 -- What holds of cards.
 use Rattle.std.specs.Prelude.{◌≡◌, ℕ, List, length, pos, ◌+ℤ◌, ◌≤ℤ◌}
-use Rattle.kd_state.specs.declared.parts.Parts.{Parts}
+use Rattle.kd_state.specs.declared.machine.parts.Parts.{Parts}
 use Rattle.kd_state.specs.declared.setting.Setting.{Setting}
 use Rattle.kd_state.specs.Machine.{IsMachine}
 use Rattle.kd_state.specs.SheetDay.{Day, IsLegalDay}

@@ -1,9 +1,9 @@
 -- What becomes of settings that were read, and of a machine that was.
 use Rattle.std.proofs.Common.{◌≡◌, ◌⊎◌, ℕ, List, Result, Ok, Err, IfOk, IsErrAnd, IsFalse, MatchResult, inl, refl, subst, sym}
 use Rattle.kd_tables.specs.Writing.{TakesFront}
-use Rattle.kd_state.specs.declared.parts.Parts.{Parts}
+use Rattle.kd_state.specs.declared.machine.parts.Parts.{Parts}
 use Rattle.kd_state.specs.declared.setting.Setting.{Setting}
-use Rattle.kd_state.specs.declared.list.ListFault.{ListFault}
+use Rattle.kd_state.specs.declared.setting.list.ListFault.{ListFault}
 use Rattle.kd_state.specs.Setting.{Leads}
 use Rattle.kd_state.specs.Line.{IsList, IsListFault}
 use Rattle.kd_card.specs.declared.carrying.IllegalAt.{IllegalAt}

@@ -1,7 +1,7 @@
 -- The machine and the day that files say, and what is answered to them.
 use Rattle.std.proofs.Common.{◌≡◌, ◌⊎◌, ℕ, List, Option, Some, None, Result, Ok, Err, IsErrAnd, IsOkAnd, inl, inr, refl, sym, ap, ◌∙◌, subst}
 use Rattle.std.specs.Option.{ok_or}
-use Rattle.kd_state.specs.declared.parts.Parts.{Parts}
+use Rattle.kd_state.specs.declared.machine.parts.Parts.{Parts}
 use Rattle.kd_state.specs.SheetDay.{Day}
 use Rattle.kd_sheet.specs.declared.fault.SheetFault.{SheetFault}
 use Rattle.kd_sheet.specs.declared.fault.SheetFault.TheVariants as files

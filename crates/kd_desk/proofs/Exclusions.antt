@@ -1,8 +1,8 @@
 -- Settings that bytes say, and lines that a machine refuses.
 use Rattle.std.proofs.Common.{◌≡◌, Bool, List, [], ◌∷◌, ◌++◌, Some, None, IsTrue, IsFalse, sym, ◌∙◌, ap, subst}
-use Rattle.kd_state.specs.declared.parts.Parts.{Parts}
+use Rattle.kd_state.specs.declared.machine.parts.Parts.{Parts}
 use Rattle.kd_state.specs.declared.setting.Setting.{Setting}
-use Rattle.kd_state.specs.declared.why.Why.{Why}
+use Rattle.kd_state.specs.declared.setting.why.Why.{Why}
 use Rattle.kd_state.specs.Laws as lists
 use Rattle.kd_state.specs.Setting.{why_refused, Leads}
 use Rattle.kd_card.specs.Laws as cards

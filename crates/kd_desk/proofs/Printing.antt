@@ -2,7 +2,7 @@
 use Rattle.std.proofs.Common.{◌≡◌, ℕ, List, Result, Ok, Err, IsErrAnd, refl, subst}
 use Rattle.std.specs.Io.KnownBytes.{Appends}
 use Rattle.kd_tables.specs.Writing.{TakesFront}
-use Rattle.kd_state.specs.declared.parts.Parts.{Parts}
+use Rattle.kd_state.specs.declared.machine.parts.Parts.{Parts}
 use Rattle.kd_state.specs.declared.setting.Setting.{Setting}
 use Rattle.kd_state.specs.Machine.{IsMachine}
 use Rattle.kd_state.specs.SheetDay.{Day, IsLegalDay, day_number}

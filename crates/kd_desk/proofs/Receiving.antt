@@ -1,6 +1,6 @@
 -- What is received, and what is refused, by the laws on orders and forms.
 use Rattle.std.proofs.Common.{List, ℕ, Result, Ok, Err, inl, inr}
-use Rattle.kd_state.specs.declared.parts.Parts.{Parts}
+use Rattle.kd_state.specs.declared.machine.parts.Parts.{Parts}
 use Rattle.kd_state.specs.SheetDay.{Day, IsLegalDay}
 use Rattle.kd_form.specs.declared.fault.FormFault.{FormFault}
 use Rattle.kd_form.specs.FormText.{IsTextOf, IsReceiveFault}

@@ -1,8 +1,8 @@
 -- What holds of bytes that say settings, and of a machine that carries settings out.
 use Rattle.std.specs.Prelude.{◌≡◌, ℕ, List}
-use Rattle.kd_state.specs.declared.parts.Parts.{Parts}
+use Rattle.kd_state.specs.declared.machine.parts.Parts.{Parts}
 use Rattle.kd_state.specs.declared.setting.Setting.{Setting}
-use Rattle.kd_state.specs.declared.why.Why.{Why}
+use Rattle.kd_state.specs.declared.setting.why.Why.{Why}
 use Rattle.kd_state.specs.Setting.{Leads}
 use Rattle.kd_card.specs.Carrying.{IsFirstIllegal}
 use Rattle.kd_desk.specs.declared.fault.DeskFault.{DeskFault}

@@ -1,6 +1,6 @@
 -- What becomes of a message on a machine and a day of a sheet: of an order that is sent, or of a form that is received.
 use Rattle.std.specs.Prelude.{◌≡◌, ℕ, List, Result, Err}
-use Rattle.kd_state.specs.declared.parts.Parts.{Parts}
+use Rattle.kd_state.specs.declared.machine.parts.Parts.{Parts}
 use Rattle.kd_state.specs.SheetDay.{Day}
 use Rattle.kd_form.specs.declared.fault.FormFault.{FormFault}
 use Rattle.kd_form.specs.declared.fault.FormFault.TheVariants.{NoMemory}

@@ -1,6 +1,6 @@
 -- What the desk does with a machine and with bytes that say settings.
 use Rattle.std.specs.Prelude.{◌≡◌, ℕ, List, Result, Err}
-use Rattle.kd_state.specs.declared.parts.Parts.{Parts}
+use Rattle.kd_state.specs.declared.machine.parts.Parts.{Parts}
 use Rattle.kd_state.specs.declared.setting.Setting.{Setting}
 use Rattle.kd_state.specs.Setting.{Leads}
 use Rattle.kd_card.specs.declared.carrying.IllegalAt.{IllegalAt}

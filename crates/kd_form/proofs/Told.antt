@@ -1,7 +1,7 @@
 -- What `?` answers: the fault of what was called.
 use Rattle.std.proofs.Common.{◌≡◌, Result, Ok, Err, MatchResult, sym, ap, subst}
 use Rattle.std.specs.Result.{IsErrAnd}
-use Rattle.kd_state.specs.declared.parts.Parts.{Parts}
+use Rattle.kd_state.specs.declared.machine.parts.Parts.{Parts}
 use Rattle.kd_state.specs.SheetDay.{Day}
 use Rattle.kd_form.specs.declared.fault.FormFault.{FormFault}
 use Rattle.kd_form.specs.OnTheKey.{IsOnKey, IsKeyFault, IsRefusal, AnswersOnKey, OffKey, WithKey}

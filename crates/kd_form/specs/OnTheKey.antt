@@ -1,6 +1,6 @@
 -- A machine that is ready and on the day's key, and what is answered for any machine.
 use Rattle.std.specs.Prelude.{◌≡◌, ◌⊎◌, Result, Err, MatchResult}
-use Rattle.kd_state.specs.declared.parts.Parts.{Parts}
+use Rattle.kd_state.specs.declared.machine.parts.Parts.{Parts}
 use Rattle.kd_state.specs.SheetDay.{Day}
 use Rattle.kd_state.specs.OnKey.{OnKey}
 use Rattle.kd_state.specs.TwoCiphers.{IsReady}

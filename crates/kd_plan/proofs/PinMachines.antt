@@ -6,9 +6,9 @@ use Rattle.std.proofs.lemmas.List.Elements.{recursion_from_All}
 use Rattle.std.proofs.lemmas.List.Sorted.{IsPermutation-sym}
 use Rattle.kd_tables.specs.declared.place.Place.{Place}
 use Rattle.kd_tables.specs.Places.{reading_of, IsBefore, IsReading}
-use Rattle.kd_state.specs.declared.pin_parts.PinParts.{PinParts}
-use Rattle.kd_state.specs.declared.parts.Parts.{Parts}
-use Rattle.kd_state.specs.declared.parts.Parts.TheVariants.{Pin}
+use Rattle.kd_state.specs.declared.machine.pin_parts.PinParts.{PinParts}
+use Rattle.kd_state.specs.declared.machine.parts.Parts.{Parts}
+use Rattle.kd_state.specs.declared.machine.parts.Parts.TheVariants.{Pin}
 use Rattle.kd_state.specs.declared.setting.Setting.TheVariants.{Turn}
 use Rattle.kd_state.specs.Machine.{IsMachine}
 use Rattle.kd_state.specs.SheetDay.{PinDay, OfPins, IsLegalPinDay}

@@ -10,11 +10,11 @@ use Rattle.kd_tables.specs.declared.reflector.Reflector.{Reflector}
 use Rattle.kd_tables.specs.Rings.{ring_of}
 use Rattle.kd_tables.specs.Tables.{reflectors_of}
 use Rattle.kd_pins.specs.PinWheels.{pin_wheels}
-use Rattle.kd_state.specs.declared.rotor_parts.RotorParts.{RotorParts}
-use Rattle.kd_state.specs.declared.pin_parts.PinParts.{PinParts}
-use Rattle.kd_state.specs.declared.parts.Parts.{Parts}
-use Rattle.kd_state.specs.declared.parts.Parts.TheVariants.{Rotor, Pin}
-use Rattle.kd_state.specs.declared.sheet_wheel.SheetWheel.{SheetWheel}
+use Rattle.kd_state.specs.declared.machine.rotor_parts.RotorParts.{RotorParts}
+use Rattle.kd_state.specs.declared.machine.pin_parts.PinParts.{PinParts}
+use Rattle.kd_state.specs.declared.machine.parts.Parts.{Parts}
+use Rattle.kd_state.specs.declared.machine.parts.Parts.TheVariants.{Rotor, Pin}
+use Rattle.kd_state.specs.declared.sheet_day.rotor_entry.SheetWheel.{SheetWheel}
 use Rattle.kd_state.specs.declared.setting.Setting.{Setting}
 use Rattle.kd_state.specs.declared.setting.Setting.TheVariants.{Pull, Put, Seat, SeatReflector, RingTo, Turn, PinTo}
 use Rattle.kd_state.specs.Box.{same_wheel, same_reflector}

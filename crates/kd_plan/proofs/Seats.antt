@@ -6,12 +6,12 @@ use Rattle.std.proofs.lemmas.Bool.{false≢true, false_from_ne_true}
 use Rattle.std.proofs.lemmas.List.{append-nil, map-append, length-map}
 use Rattle.kd_tables.specs.declared.wheel.Wheel.{Wheel}
 use Rattle.kd_tables.specs.Tables.{IsAllowed, wheels_for}
-use Rattle.kd_state.specs.declared.rotor_parts.RotorParts.{RotorParts}
-use Rattle.kd_state.specs.declared.parts.Parts.{Parts}
-use Rattle.kd_state.specs.declared.parts.Parts.TheVariants.{Rotor}
+use Rattle.kd_state.specs.declared.machine.rotor_parts.RotorParts.{RotorParts}
+use Rattle.kd_state.specs.declared.machine.parts.Parts.{Parts}
+use Rattle.kd_state.specs.declared.machine.parts.Parts.TheVariants.{Rotor}
 use Rattle.kd_state.specs.declared.setting.Setting.{Setting}
 use Rattle.kd_state.specs.declared.setting.Setting.TheVariants.{Seat}
-use Rattle.kd_state.specs.declared.sheet_wheel.SheetWheel.{SheetWheel}
+use Rattle.kd_state.specs.declared.sheet_day.rotor_entry.SheetWheel.{SheetWheel}
 use Rattle.kd_state.specs.Box.{same_wheel}
 use Rattle.kd_state.specs.Machine.{AreAllowed}
 use Rattle.kd_state.specs.Setting.{why_refused, without}

@@ -1,6 +1,6 @@
 -- What holds of planned cards.
 use Rattle.std.specs.Prelude.{◌≡◌, ℕ, List, length}
-use Rattle.kd_state.specs.declared.parts.Parts.{Parts}
+use Rattle.kd_state.specs.declared.machine.parts.Parts.{Parts}
 use Rattle.kd_state.specs.declared.setting.Setting.{Setting}
 use Rattle.kd_state.specs.Machine.{IsMachine, model_of}
 use Rattle.kd_state.specs.SheetDay.{Day, IsLegalDay, day_model}

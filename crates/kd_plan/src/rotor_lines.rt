@@ -2,7 +2,7 @@
 ghost use Rattle.std.specs.Prelude.{◌≡◌, ◌+◌, ◌≤◌, ◌++◌, false, nat_eq, length, find, option_and_then};
 ghost use Rattle.std.specs.Option.{option_map_or};
 ghost use Rattle.arrayvec.specs.ArrayVec.{array_vec_len};
-ghost use Rattle.kd_state.specs.declared.parts.Parts.TheVariants.{Rotor};
+ghost use Rattle.kd_state.specs.declared.machine.parts.Parts.TheVariants.{Rotor};
 ghost use Rattle.kd_state.specs.Box.{same_wheel, same_reflector};
 ghost use Rattle.kd_state.specs.Machine.{ring_in, letter_in};
 ghost use Rattle.kd_plan.specs.Planned.{unless_so, seat_lines, reflector_lines, ring_lines, turn_lines};

@@ -7,7 +7,7 @@ use Rattle.std.proofs.lemmas.List.Sums.{sum_by-cons}
 use Rattle.std.proofs.lemmas.Option.{unwrap_or-slice_get, slice_get_past}
 use Rattle.kd_tables.specs.declared.place.Place.TheVariants.{One}
 use Rattle.kd_tables.specs.Permutation.{alphabet}
-use Rattle.kd_state.specs.declared.parts.Parts.TheVariants.{Rotor, Pin}
+use Rattle.kd_state.specs.declared.machine.parts.Parts.TheVariants.{Rotor, Pin}
 use Rattle.kd_state.specs.Machine.{cable_letters}
 use Rattle.kd_state.specs.Setting.{has_letter}
 use Rattle.kd_state.specs.SheetDay.{OfRotors, OfPins}

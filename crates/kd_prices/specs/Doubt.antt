@@ -1,7 +1,7 @@
 -- Why a card doesn't prove itself: the first doubt, in a fixed order. Lines are numbered among the settings, from 1, and so
 -- are the rows and columns of the table of costs.
 use Rattle.std.specs.Prelude.{◌≡◌, ◌≢◌, ◌⊎◌, ℕ, ◌+◌, ◌<◌, List, ◌∷◌, ◌++◌, length, pos}
-use Rattle.kd_state.specs.declared.parts.Parts.{Parts}
+use Rattle.kd_state.specs.declared.machine.parts.Parts.{Parts}
 use Rattle.kd_state.specs.declared.setting.Setting.{Setting}
 use Rattle.kd_state.specs.Machine.{model_of}
 use Rattle.kd_state.specs.Setting.{Leads}

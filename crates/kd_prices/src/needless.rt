@@ -1,6 +1,6 @@
 //! The lines of a card that put nothing right.
 ghost use Rattle.std.specs.Prelude.{◌≡◌, ◌↔◌, IsTrue, None, MatchOption};
-ghost use Rattle.kd_state.specs.declared.parts.Parts.{Parts};
+ghost use Rattle.kd_state.specs.declared.machine.parts.Parts.{Parts};
 ghost use Rattle.kd_state.specs.Setting.{why_refused, changed, Leads};
 ghost use Rattle.kd_card.specs.Proving as proving;
 ghost use Rattle.kd_card.specs.Proving.{IsNeeded, AreNeeded};

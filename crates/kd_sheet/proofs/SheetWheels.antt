@@ -6,7 +6,7 @@ use Rattle.std.proofs.lemmas.List.{take_more, take_more_set, length-take-le}
 use Rattle.std.proofs.lemmas.List.Elements.{All-take, recursion_from_All}
 use Rattle.kd_tables.specs.declared.wheel.Wheel.{Wheel}
 use Rattle.kd_state.specs.SheetDay.{seats}
-use Rattle.kd_state.specs.declared.sheet_wheel.SheetWheel.{SheetWheel}
+use Rattle.kd_state.specs.declared.sheet_day.rotor_entry.SheetWheel.{SheetWheel}
 use Rattle.kd_sheet.specs.SheetFile.{sheet_wheels}
 
 abbrev pub sheet_wheel : Wheel → ℕ → ℕ → SheetWheel

@@ -9,7 +9,7 @@ use Rattle.kd_tables.specs.declared.model.Model.{Model}
 use Rattle.kd_tables.specs.declared.model.Model.TheVariants.{M209}
 use Rattle.kd_tables.specs.declared.wheel.Wheel.{Wheel}
 use Rattle.kd_state.specs.SheetDay.{Day, OfRotors, OfPins}
-use Rattle.kd_state.specs.declared.sheet_wheel.SheetWheel.{SheetWheel}
+use Rattle.kd_state.specs.declared.sheet_day.rotor_entry.SheetWheel.{SheetWheel}
 use Rattle.kd_sheet.specs.Cables.{pairs_in}
 use Rattle.kd_sheet.specs.Document.{◌>>=◌, ◌>>◌, all_values, demand, document_of, given_earlier, value_at, text_at, list_of, items_in, items_at}
 use Rattle.kd_sheet.specs.Drum.{rows_in}

@@ -10,8 +10,8 @@ use Rattle.kd_tables.specs.declared.place.Place.TheVariants.{One, ZeroLeft, Two,
 use Rattle.kd_tables.specs.Places.{place_number, reading_of}
 use Rattle.kd_pins.specs.PinWheels.{pins_of}
 use Rattle.kd_drum.specs.Converter.{PinKey, acts_after, bars_met}
-use Rattle.kd_state.specs.declared.pin_parts.PinParts.{PinParts}
-use Rattle.kd_state.specs.declared.parts.Parts.TheVariants.{Rotor, Pin}
+use Rattle.kd_state.specs.declared.machine.pin_parts.PinParts.{PinParts}
+use Rattle.kd_state.specs.declared.machine.parts.Parts.TheVariants.{Rotor, Pin}
 use Rattle.kd_state.specs.Laws.{EngineIsTheMachine}
 use Rattle.kd_state.specs.Lugs.{lug_is_met, bars_moved}
 

@@ -20,14 +20,14 @@ use Rattle.kd_tables.specs.Tables.{box_of, wheels_for}
 use Rattle.kd_tables.specs.Rings.{ring_of, place_on}
 use Rattle.kd_pins.specs.declared.pin_set.PinSet.{PinSet}
 use Rattle.kd_pins.specs.PinWheels.{pins_of}
-use Rattle.kd_state.specs.declared.rotor_parts.RotorParts.{RotorParts}
-use Rattle.kd_state.specs.declared.pin_parts.PinParts.{PinParts}
-use Rattle.kd_state.specs.declared.parts.Parts.{Parts}
-use Rattle.kd_state.specs.declared.parts.Parts.TheVariants.{Rotor, Pin}
+use Rattle.kd_state.specs.declared.machine.rotor_parts.RotorParts.{RotorParts}
+use Rattle.kd_state.specs.declared.machine.pin_parts.PinParts.{PinParts}
+use Rattle.kd_state.specs.declared.machine.parts.Parts.{Parts}
+use Rattle.kd_state.specs.declared.machine.parts.Parts.TheVariants.{Rotor, Pin}
 use Rattle.kd_state.specs.declared.setting.Setting.{Setting}
 use Rattle.kd_state.specs.declared.setting.Setting.TheVariants.{Pull, Put, Seat, SeatReflector, RingTo, Turn, PinTo, LugTo}
-use Rattle.kd_state.specs.declared.why.Why.{Why}
-use Rattle.kd_state.specs.declared.why.Why.TheVariants.{NoSuchCable, NotThere, NoLooseEnd, SocketTaken, WheelNotAllowed, SlotEmpty, NotOnWheel, NoSuchBar, PlaceTaken, WouldPass}
+use Rattle.kd_state.specs.declared.setting.why.Why.{Why}
+use Rattle.kd_state.specs.declared.setting.why.Why.TheVariants.{NoSuchCable, NotThere, NoLooseEnd, SocketTaken, WheelNotAllowed, SlotEmpty, NotOnWheel, NoSuchBar, PlaceTaken, WouldPass}
 use Rattle.kd_state.specs.Box.{numbered, same_wheel, has_wheel, place_in_box}
 use Rattle.kd_state.specs.Pins.{wheel_pins, pin_at, pin_set, with_pin}
 use Rattle.kd_state.specs.Machine.{cable_letters, plugged_letters, ring_at, letter_at, AreCables, IsLegalRotor, IsLegalPin, IsMachine}

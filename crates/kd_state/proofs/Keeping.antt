@@ -19,14 +19,14 @@ use Rattle.kd_tables.specs.Tables.{box_of, slots_of, wheels_for, reflectors_of, 
 use Rattle.kd_tables.specs.Rings.{ring_of}
 use Rattle.kd_tables.specs.Places.{place_rank, IsBefore}
 use Rattle.kd_pins.specs.declared.pin_set.PinSet.{PinSet}
-use Rattle.kd_state.specs.declared.rotor_parts.RotorParts.{RotorParts}
-use Rattle.kd_state.specs.declared.pin_parts.PinParts.{PinParts}
-use Rattle.kd_state.specs.declared.parts.Parts.{Parts}
-use Rattle.kd_state.specs.declared.parts.Parts.TheVariants.{Rotor, Pin}
+use Rattle.kd_state.specs.declared.machine.rotor_parts.RotorParts.{RotorParts}
+use Rattle.kd_state.specs.declared.machine.pin_parts.PinParts.{PinParts}
+use Rattle.kd_state.specs.declared.machine.parts.Parts.{Parts}
+use Rattle.kd_state.specs.declared.machine.parts.Parts.TheVariants.{Rotor, Pin}
 use Rattle.kd_state.specs.declared.setting.Setting.{Setting}
 use Rattle.kd_state.specs.declared.setting.Setting.TheVariants.{Pull, Put, Seat, SeatReflector, RingTo, Turn, PinTo, LugTo}
-use Rattle.kd_state.specs.declared.why.Why.{Why}
-use Rattle.kd_state.specs.declared.why.Why.TheVariants.{NoSuchCable, NotThere, NoLooseEnd, SocketTaken, WheelNotAllowed, SlotEmpty, NotOnWheel, NoSuchBar, PlaceTaken, WouldPass}
+use Rattle.kd_state.specs.declared.setting.why.Why.{Why}
+use Rattle.kd_state.specs.declared.setting.why.Why.TheVariants.{NoSuchCable, NotThere, NoLooseEnd, SocketTaken, WheelNotAllowed, SlotEmpty, NotOnWheel, NoSuchBar, PlaceTaken, WouldPass}
 use Rattle.kd_state.specs.Box.{numbered, same_wheel, has_wheel, has_reflector, place_in_box}
 use Rattle.kd_state.specs.Pins.{with_pin}
 use Rattle.kd_state.specs.Machine.{cable_letters, plugged_letters, ordered, StandsAt, AreAllowed, AreApart, AreLetters, AreCables, AreOnWheels, HasAllPins, IsLegalRotor, IsLegalPin, IsMachine, cables_ordered}

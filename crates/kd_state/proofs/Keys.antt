@@ -10,11 +10,11 @@ use Rattle.kd_enigma.specs.Laws.{PairsMakeAPlugboard, SamePairsExchangeAlike}
 use Rattle.kd_enigma.specs.Laws as enigma
 use Rattle.kd_drum.specs.Converter.{PinKey, bars_met, converter_cipher}
 use Rattle.kd_drum.specs.Laws as drum
-use Rattle.kd_state.specs.declared.parts.Parts.{Parts}
-use Rattle.kd_state.specs.declared.parts.Parts.TheVariants.{Rotor, Pin}
-use Rattle.kd_state.specs.declared.rotor_parts.RotorParts.{RotorParts}
-use Rattle.kd_state.specs.declared.pin_parts.PinParts.{PinParts}
-use Rattle.kd_state.specs.declared.sheet_wheel.SheetWheel.{SheetWheel}
+use Rattle.kd_state.specs.declared.machine.parts.Parts.{Parts}
+use Rattle.kd_state.specs.declared.machine.parts.Parts.TheVariants.{Rotor, Pin}
+use Rattle.kd_state.specs.declared.machine.rotor_parts.RotorParts.{RotorParts}
+use Rattle.kd_state.specs.declared.machine.pin_parts.PinParts.{PinParts}
+use Rattle.kd_state.specs.declared.sheet_day.rotor_entry.SheetWheel.{SheetWheel}
 use Rattle.kd_state.specs.Laws.{TurnedEngineIsTheTurnedMachine, ReadingIsReady, ReadingIsItsCipher, OnKeyIsReady, OnKeyIsItsCipher, TurnedHasTheDaysCipher, EquallySetDecipher, TheDayDeciphersItself, TurnedIsOnKey, TurnedHasItsKey}
 use Rattle.kd_state.specs.Machine.{IsMachine, AreCables, ring_at, letter_at}
 use Rattle.kd_state.specs.OnKey.{OnKey, IsRotorOnKey, IsPinOnKey}

@@ -2,7 +2,7 @@
 use Rattle.std.proofs.Common.{◌≡◌, Bool, true, false, List, ◌∷◌, find, Option, None, refl, sym}
 use Rattle.std.specs.Option.{option_map}
 use Rattle.std.proofs.lemmas.Option.{none-some}
-use Rattle.kd_state.specs.declared.why.Why.{Why}
+use Rattle.kd_state.specs.declared.setting.why.Why.{Why}
 
 abbrev pub first_reason : List (Bool × Why) → Option Why
 first_reason reasons = option_map (λ reason. reason.1) (find (λ reason. reason.0) reasons)

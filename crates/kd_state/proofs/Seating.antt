@@ -8,10 +8,10 @@ use Rattle.std.proofs.lemmas.List.Elements.{All-from_recursion}
 use Rattle.std.proofs.lemmas.Option.{none-some, same_Some, slice_get-get_or}
 use Rattle.kd_tables.specs.declared.wheel.Wheel.{Wheel}
 use Rattle.kd_tables.specs.Permutation.{exchange}
-use Rattle.kd_state.specs.declared.parts.Parts.{Parts}
-use Rattle.kd_state.specs.declared.parts.Parts.TheVariants.{Rotor}
-use Rattle.kd_state.specs.declared.rotor_parts.RotorParts.{RotorParts}
-use Rattle.kd_state.specs.declared.sheet_wheel.SheetWheel.{SheetWheel}
+use Rattle.kd_state.specs.declared.machine.parts.Parts.{Parts}
+use Rattle.kd_state.specs.declared.machine.parts.Parts.TheVariants.{Rotor}
+use Rattle.kd_state.specs.declared.machine.rotor_parts.RotorParts.{RotorParts}
+use Rattle.kd_state.specs.declared.sheet_day.rotor_entry.SheetWheel.{SheetWheel}
 use Rattle.kd_state.specs.Box.{place_in_box}
 use Rattle.kd_state.specs.Machine.{IsLegalRotor, StandsAt, ring_at, letter_at}
 use Rattle.kd_state.specs.Seated.{wheel_with, seated_wheel, key_of_wheels}

@@ -17,8 +17,8 @@ use Rattle.kd_tables.specs.Tables.{wheel_text, reflector_text}
 use Rattle.kd_tables.specs.Places.{place_text, lug_text, places}
 use Rattle.kd_state.specs.Words.{IsWord, IsWithout, letter_text, line_of, words_of}
 use Rattle.kd_state.specs.Line.{keyword_text, setting_words, setting_line, pin_text, IsInRange, IsReadOff}
-use Rattle.kd_state.specs.declared.keyword.Keyword.{Keyword}
-use Rattle.kd_state.specs.declared.keyword.Keyword.TheVariants as keywords
+use Rattle.kd_state.specs.declared.setting.keyword.Keyword.{Keyword}
+use Rattle.kd_state.specs.declared.setting.keyword.Keyword.TheVariants as keywords
 use Rattle.kd_state.specs.declared.setting.Setting.{Setting}
 use Rattle.kd_state.specs.declared.setting.Setting.TheVariants.{Pull, Put, Seat, SeatReflector, RingTo, Turn, PinTo, LugTo}
 use Rattle.kd_state.proofs.WordLines.{word_by_test, numbers_are_words, letters_are_words, lines_split_into_words, lines_tell_words, parts_make_lines, words_make_one_line}

@@ -8,7 +8,7 @@ use Rattle.kd_state.specs.Words.{IsWithout, IsFirstPart}
 use Rattle.kd_state.specs.Line.{setting_line, list_text, IsInRange, IsList, BeginsWith, BeginsWithLine, BeginsWithNoLine}
 use Rattle.kd_state.specs.Laws.{TextsTellLists, ListsHaveNoFault, OneListFault}
 use Rattle.kd_state.specs.declared.setting.Setting.{Setting}
-use Rattle.kd_state.specs.declared.list.ListFault.TheVariants.{BadLine, TooMany}
+use Rattle.kd_state.specs.declared.setting.list.ListFault.TheVariants.{BadLine, TooMany}
 use Rattle.kd_state.proofs.WordLines.{texts_tell_first_parts}
 use Rattle.kd_state.proofs.SettingLines.{line_has_no_break, lines_tell_settings}
 

@@ -1,8 +1,8 @@
 -- What an entry of a key sheet says.
-use Rattle.kd_state.specs.declared.rotor_entry.RotorEntry.{RotorEntry}
-use Rattle.kd_state.specs.declared.pin_entry.PinEntry.{PinEntry}
-use Rattle.kd_state.specs.declared.entry.Entry.{Entry}
-use Rattle.kd_state.specs.declared.entry.Entry.TheVariants.{Rotor, Pin}
+use Rattle.kd_state.specs.declared.sheet_day.rotor_entry.RotorEntry.{RotorEntry}
+use Rattle.kd_state.specs.declared.sheet_day.pin_entry.PinEntry.{PinEntry}
+use Rattle.kd_state.specs.declared.sheet_day.entry.Entry.{Entry}
+use Rattle.kd_state.specs.declared.sheet_day.entry.Entry.TheVariants.{Rotor, Pin}
 use Rattle.kd_state.specs.SheetDay.{RotorDay, PinDay, Day, OfRotors, OfPins}
 
 -- the values of a day of a rotor model

@@ -6,10 +6,10 @@ use Rattle.kd_tables.specs.Places.{place_text, lug_text}
 use Rattle.kd_state.specs.Words.{letter_text, line_of}
 use Rattle.kd_state.specs.declared.setting.Setting.{Setting}
 use Rattle.kd_state.specs.declared.setting.Setting.TheVariants.{Pull, Put, Seat, SeatReflector, RingTo, Turn, PinTo, LugTo}
-use Rattle.kd_state.specs.declared.keyword.Keyword.{Keyword}
-use Rattle.kd_state.specs.declared.keyword.Keyword.TheVariants as keywords
-use Rattle.kd_state.specs.declared.list.ListFault.{ListFault}
-use Rattle.kd_state.specs.declared.list.ListFault.TheVariants.{BadLine, TooMany}
+use Rattle.kd_state.specs.declared.setting.keyword.Keyword.{Keyword}
+use Rattle.kd_state.specs.declared.setting.keyword.Keyword.TheVariants as keywords
+use Rattle.kd_state.specs.declared.setting.list.ListFault.{ListFault}
+use Rattle.kd_state.specs.declared.setting.list.ListFault.TheVariants.{BadLine, TooMany}
 
 -- ON for an effective pin
 abbrev pub pin_text : Bool → List ℕ

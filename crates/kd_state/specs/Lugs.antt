@@ -7,7 +7,7 @@ use Rattle.kd_tables.specs.Places.{place_number}
 use Rattle.kd_tables.specs.Rings.{ring_of, place_on}
 use Rattle.kd_pins.specs.PinWheel.{is_effective, place_past}
 use Rattle.kd_pins.specs.PinWheels.{pins_of, pins_on, offset_of, size_of}
-use Rattle.kd_state.specs.declared.pin_parts.PinParts.{PinParts}
+use Rattle.kd_state.specs.declared.machine.pin_parts.PinParts.{PinParts}
 
 -- the place of the letter that the wheel shows
 abbrev pub place_shown : PinParts → ℕ → ℕ

@@ -9,7 +9,7 @@ use Rattle.kd_tables.specs.Places.{IsReading}
 use Rattle.kd_tables.specs.Tables.{slots_of, reflectors_of}
 use Rattle.kd_pins.specs.declared.pin_set.PinSet.{PinSet}
 use Rattle.kd_enigma.specs.Plugs.{letters_plugged, NoLetterTwice}
-use Rattle.kd_state.specs.declared.sheet_wheel.SheetWheel.{SheetWheel}
+use Rattle.kd_state.specs.declared.sheet_day.rotor_entry.SheetWheel.{SheetWheel}
 use Rattle.kd_state.specs.Box.{numbered}
 use Rattle.kd_state.specs.Machine.{AreAllowed, AreApart, AreLetters, AreOnWheels, HasAllPins}
 

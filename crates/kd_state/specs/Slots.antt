@@ -1,7 +1,7 @@
 -- Three or four values, one for each slot.
 use Rattle.std.specs.Prelude.{◌≡◌, ◌==◌, List, length, if◌then◌else◌}
-use Rattle.kd_state.specs.declared.per_slot.Slots.{Slots}
-use Rattle.kd_state.specs.declared.per_slot.Slots.TheVariants.{Three, Four}
+use Rattle.kd_state.specs.declared.machine.per_slot.Slots.{Slots}
+use Rattle.kd_state.specs.declared.machine.per_slot.Slots.TheVariants.{Three, Four}
 
 -- the values, from the left
 abbrev pub slot_values : {T : Type 0} → Slots T → List T

@@ -8,9 +8,9 @@ use Rattle.kd_tables.specs.Places.{reading_of}
 use Rattle.kd_pins.specs.PinWheels.{pins_of}
 use Rattle.kd_enigma.specs.Cipher.{RotorKey, enigma_cipher, key_after, key_turned}
 use Rattle.kd_drum.specs.Converter.{PinKey, converter_cipher, pin_key_after, pin_key_turned}
-use Rattle.kd_state.specs.declared.rotor_parts.RotorParts.{RotorParts}
-use Rattle.kd_state.specs.declared.parts.Parts.{Parts}
-use Rattle.kd_state.specs.declared.parts.Parts.TheVariants.{Rotor, Pin}
+use Rattle.kd_state.specs.declared.machine.rotor_parts.RotorParts.{RotorParts}
+use Rattle.kd_state.specs.declared.machine.parts.Parts.{Parts}
+use Rattle.kd_state.specs.declared.machine.parts.Parts.TheVariants.{Rotor, Pin}
 use Rattle.kd_state.specs.Machine.{cable_letters, ring_at, letter_at, AreLetters, AreOnWheels}
 use Rattle.kd_state.specs.SheetDay.{Day, OfRotors, OfPins}
 use Rattle.kd_state.specs.Lugs.{lugs_cipher}

@@ -1,7 +1,7 @@
 -- Five, eight or ten values, one for each wheel of a box.
 use Rattle.std.specs.Prelude.{◌≡◌, ◌==◌, List, length, if◌then◌else◌}
-use Rattle.kd_state.specs.declared.per_wheel.Wheels.{Wheels}
-use Rattle.kd_state.specs.declared.per_wheel.Wheels.TheVariants.{Five, Eight, Ten}
+use Rattle.kd_state.specs.declared.machine.per_wheel.Wheels.{Wheels}
+use Rattle.kd_state.specs.declared.machine.per_wheel.Wheels.TheVariants.{Five, Eight, Ten}
 
 -- the values, in box order
 abbrev pub wheel_values : {T : Type 0} → Wheels T → List T

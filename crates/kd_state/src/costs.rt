@@ -1,3 +1,5 @@
+pub(crate) mod tables;
+
 ghost use Rattle.std.specs.Prelude.{◌≡◌, ◌≢◌, ◌≤◌, ◌∷◌, Some};
 ghost use Rattle.std.specs.Option.{option_to_list};
 ghost use Rattle.kd_tables.specs.Places.{place_rank};
@@ -6,7 +8,7 @@ ghost use Rattle.kd_state.specs.Setting.{has_letter, is_at};
 ghost use Rattle.kd_state.specs.Costs as costs;
 ghost use Rattle.kd_state.specs.Costs.{column_letters};
 
-use super::cable::{Cable, lies_in};
+use crate::machine::cable::{Cable, lies_in};
 use kd_tables::{Letter, Place, Reading, Standing};
 
 /// What it costs to make of a cable a pair, or nothing: how many letters lie in one of the two alone.

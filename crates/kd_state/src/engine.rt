@@ -7,10 +7,10 @@ ghost use Rattle.kd_drum.specs.Converter.{pin_key_turned};
 ghost use Rattle.kd_state.specs.Machine.{AreLetters, AreOnWheels};
 ghost use Rattle.kd_state.specs.TwoCiphers.{sheet_key};
 
-use super::entry::Entry;
-use super::facts::are_letters;
-use super::sheet_day::SheetDay;
-use super::sheet_wheel::SheetWheel;
+use crate::facts::are_letters;
+use crate::sheet_day::SheetDay;
+use crate::sheet_day::entry::Entry;
+use crate::sheet_day::rotor_entry::SheetWheel;
 use kd_drum::Converter;
 use kd_enigma::{Enigma, EnigmaKey, Plugs};
 use kd_pins::PinSet;

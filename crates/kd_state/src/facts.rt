@@ -6,9 +6,9 @@ ghost use Rattle.kd_state.specs.Line.{IsInRange};
 ghost use Rattle.kd_state.specs.Machine.{cable_letters, plugged_letters, AreLetters, HasAllPins};
 ghost use Rattle.kd_state.specs.SheetDay.{HasLetters};
 
-use super::cable::Cable;
-use super::setting::Setting;
-use super::sheet_wheel::SheetWheel;
+use crate::machine::cable::Cable;
+use crate::setting::Setting;
+use crate::sheet_day::rotor_entry::SheetWheel;
 use kd_pins::PinSet;
 use kd_tables::{Letter, Reading, Standing};
 

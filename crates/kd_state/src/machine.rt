@@ -1,9 +1,18 @@
+pub(crate) mod cable;
 mod carrying;
+mod on_key;
+pub(crate) mod parts;
+pub(crate) mod per_slot;
+pub(crate) mod per_wheel;
+pub(crate) mod pin_parts;
+pub(crate) mod pin_rings;
 mod readers;
+pub(crate) mod rotor_parts;
+pub(crate) mod seats;
 
-use super::parts::Parts;
-use super::pin_parts::PinParts;
-use super::rotor_parts::RotorParts;
+use parts::Parts;
+use pin_parts::PinParts;
+use rotor_parts::RotorParts;
 
 /// A machine as it stands on the desk.
 #[derive(Clone, Copy, Debug)]
@@ -12,7 +21,7 @@ pub struct Machine {
 }
 
 impl std::marker::Model for Machine {
-    ghost use Rattle.kd_state.specs.declared.parts.Parts.{Parts};
+    ghost use Rattle.kd_state.specs.declared.machine.parts.Parts.{Parts};
     ghost use Rattle.kd_state.specs.Machine.{IsMachine};
 
     ghost Value = { Parts };

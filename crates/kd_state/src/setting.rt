@@ -1,3 +1,10 @@
+pub(crate) mod keyword;
+mod line;
+pub(crate) mod list;
+mod pin_settings;
+mod rotor_settings;
+pub(crate) mod why;
+
 use kd_tables::{Letter, Lug, Place, Reflector, Wheel};
 
 /// One setting that an operator makes at a machine. Slots are counted from the left, from 1; cables, pin wheels and bars

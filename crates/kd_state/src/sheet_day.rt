@@ -1,12 +1,15 @@
-use super::counted::numbered;
-use super::entry::Entry;
-use super::per_slot::PerSlot;
-use super::pin_entry::PinEntry;
-use super::rotor_entry::RotorEntry;
-use super::sheet_wheel::SheetWheel;
+pub(crate) mod entry;
+pub(crate) mod pin_entry;
+pub(crate) mod rotor_entry;
+
+use crate::counted::numbered;
+use crate::machine::per_slot::PerSlot;
 use arrayvec::ArrayVec;
+use entry::Entry;
 use kd_pins::PinSet;
 use kd_tables::{Letter, Model, Reading, Reflector, Wheel};
+use pin_entry::PinEntry;
+use rotor_entry::{RotorEntry, SheetWheel};
 
 /// A day of a key sheet.
 #[derive(Debug, Drop)]

@@ -4,7 +4,7 @@ ghost use Rattle.kd_state.specs.Setting.{Carries, why_refused};
 use super::Machine;
 use crate::facts::is_in_range;
 use crate::setting::Setting;
-use crate::why::Illegal;
+use crate::setting::why::Illegal;
 
 impl Machine {
     /// Carries a setting out. If the machine refuses it, nothing changes, and the answer is the first reason that holds.

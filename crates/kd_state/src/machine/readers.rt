@@ -4,12 +4,12 @@ ghost use Rattle.kd_state.specs.Box.{place_in_box};
 ghost use Rattle.kd_state.specs.Machine.{model_of, slot_in, reflector_in, ring_in, letter_in, cable_in, pin_in, shown_in, standing_in};
 
 use super::Machine;
-use crate::cable::Cable;
 use crate::counted::numbered;
-use crate::parts::Parts;
-use crate::per_wheel::PerWheel;
-use crate::pin_rings::pin_at;
-use crate::seats::place_in_box;
+use crate::machine::cable::Cable;
+use crate::machine::parts::Parts;
+use crate::machine::per_wheel::PerWheel;
+use crate::machine::pin_rings::pin_at;
+use crate::machine::seats::place_in_box;
 use kd_tables::{Letter, Model, Reflector, Standing, Wheel};
 
 impl Machine {

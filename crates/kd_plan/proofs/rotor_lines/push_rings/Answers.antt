@@ -4,10 +4,10 @@ use Rattle.std.proofs.lemmas.List.{get_or_default}
 use Rattle.kd_plan.proofs.LineKinds.{ring_of_wheel}
 use Rattle.kd_tables.specs.declared.wheel.Wheel.TheVariants.{I}
 use Rattle.std.specs.Option.{option_map_or, option_and_then}
-use Rattle.kd_state.specs.declared.parts.Parts.{Parts}
+use Rattle.kd_state.specs.declared.machine.parts.Parts.{Parts}
 use Rattle.kd_state.specs.declared.setting.Setting.{Setting}
 use Rattle.kd_state.specs.declared.setting.Setting.TheVariants.{RingTo}
-use Rattle.kd_state.specs.declared.sheet_wheel.SheetWheel.{SheetWheel}
+use Rattle.kd_state.specs.declared.sheet_day.rotor_entry.SheetWheel.{SheetWheel}
 use Rattle.kd_state.specs.Machine.{ring_in}
 use Rattle.kd_plan.specs.Planned.{unless_so, ring_lines}
 use Rattle.kd_plan.proofs.LineKinds.{ring_wanted, wheel_found}

@@ -3,10 +3,10 @@ use Rattle.std.specs.Option.{option_to_list}
 use Rattle.kd_plan.proofs.LineKinds.{turn_of}
 use Rattle.kd_plan.proofs.Sides.{single_lines}
 use Rattle.std.specs.Option.{option_map_or}
-use Rattle.kd_state.specs.declared.parts.Parts.{Parts}
+use Rattle.kd_state.specs.declared.machine.parts.Parts.{Parts}
 use Rattle.kd_state.specs.declared.setting.Setting.{Setting}
 use Rattle.kd_state.specs.declared.setting.Setting.TheVariants.{Turn}
-use Rattle.kd_state.specs.declared.sheet_wheel.SheetWheel.{SheetWheel}
+use Rattle.kd_state.specs.declared.sheet_day.rotor_entry.SheetWheel.{SheetWheel}
 use Rattle.kd_state.specs.Machine.{letter_in}
 use Rattle.kd_plan.specs.Planned.{unless_so, turn_lines}
 use Rattle.kd_plan.proofs.Writing.{InTurn, turn, end}

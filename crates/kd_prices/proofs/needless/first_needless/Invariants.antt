@@ -1,5 +1,5 @@
 use Rattle.std.specs.Prelude.{take, drop}
-use Rattle.kd_state.specs.declared.parts.Parts.{Parts}
+use Rattle.kd_state.specs.declared.machine.parts.Parts.{Parts}
 use Rattle.kd_state.specs.Setting.{Leads}
 use Rattle.kd_card.specs.Proving.{AreNeeded}
 use Rattle.kd_prices.proofs.needless.first_needless.Given as goal

@@ -1,7 +1,7 @@
 use Rattle.std.proofs.Common.{◌∙◌, refl, sym, ap, subst, List, ℕ, map, Option, None, Contains}
 use Rattle.kd_tables.specs.declared.wheel.Wheel.{Wheel}
-use Rattle.kd_state.specs.declared.parts.Parts.{Parts}
-use Rattle.kd_state.specs.declared.sheet_wheel.SheetWheel.{SheetWheel}
+use Rattle.kd_state.specs.declared.machine.parts.Parts.{Parts}
+use Rattle.kd_state.specs.declared.sheet_day.rotor_entry.SheetWheel.{SheetWheel}
 use Rattle.kd_state.specs.Machine.{IsMachine}
 use Rattle.kd_state.specs.Seated.{seated_wheel, key_of_wheels}
 use Rattle.kd_state.specs.TwoCiphers.{OfWheels}

@@ -1,0 +1,6 @@
+use Rattle.std.specs.Prelude.{◌≡◌, map, take, length}
+use Rattle.kd_state.specs.Costs.{bar_cost}
+use Rattle.kd_state.proofs.costs.tables.costs_of_bar.Given as goal
+
+abbrev pub invariant-loop-row : goal.invariant-loop-row
+invariant-loop-row l = record { size : length l.costs ≡ 27; done : take l.row l.costs ≡ map (bar_cost l.bar) (take l.row l.rows) }

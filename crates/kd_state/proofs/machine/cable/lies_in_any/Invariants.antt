@@ -1,0 +1,7 @@
+use Rattle.std.proofs.Common.{◌≡◌, drop}
+use Rattle.kd_state.specs.Machine.{plugged_letters}
+use Rattle.kd_state.specs.Setting.{has_letter}
+use Rattle.kd_state.proofs.machine.cable.lies_in_any.Given as goal
+
+abbrev pub invariant-loop-cable : goal.invariant-loop-cable
+invariant-loop-cable l = has_letter (plugged_letters (drop l.cable-index l.cables)) l.letter ≡ has_letter (plugged_letters l.cables) l.letter

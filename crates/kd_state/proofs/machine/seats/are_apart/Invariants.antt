@@ -1,0 +1,7 @@
+use Rattle.std.proofs.Common.{◌≡◌, ◌<◌, ℕ}
+use Rattle.kd_tables.specs.declared.wheel.Wheel.{Wheel}
+use Rattle.kd_state.specs.Machine.{StandsAt}
+use Rattle.kd_state.proofs.machine.seats.are_apart.Given as goal
+
+abbrev pub invariant-loop-place : goal.invariant-loop-place
+invariant-loop-place l = (place other : ℕ) (wheel : Wheel) → place < l.place → other < l.place → StandsAt l.slots place wheel → StandsAt l.slots other wheel → place ≡ other

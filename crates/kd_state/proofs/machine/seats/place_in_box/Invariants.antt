@@ -1,0 +1,7 @@
+use Rattle.std.proofs.Common.{◌≡◌, ◌<◌, ℕ, false, get_or}
+use Rattle.kd_tables.specs.declared.wheel.Wheel.TheVariants.{I}
+use Rattle.kd_state.specs.Box.{same_wheel}
+use Rattle.kd_state.proofs.machine.seats.place_in_box.Given as goal
+
+abbrev pub invariant-loop-place : goal.invariant-loop-place
+invariant-loop-place l = (place : ℕ) → place < l.place → same_wheel l.wheel (get_or l.other-items place I) ≡ false

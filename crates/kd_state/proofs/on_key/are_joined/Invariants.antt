@@ -1,6 +1,0 @@
-use Rattle.std.specs.List.{AllWithin}
-use Rattle.kd_state.specs.OnKey.{IsJoined}
-use Rattle.kd_state.proofs.on_key.are_joined.Given as goal
-
-abbrev pub invariant-loop-pair : goal.invariant-loop-pair
-invariant-loop-pair l = AllWithin (IsJoined l.cables) l.pairs 0 l.pair-index

@@ -1,7 +1,0 @@
-use Rattle.std.specs.Prelude.{◌≡◌, map, take, length}
-use Rattle.kd_tables.specs.declared.place.Place.{Place}
-use Rattle.kd_tables.specs.Places.{reading_of}
-use Rattle.kd_state.proofs.pin_parts.readings_of.Given as goal
-
-abbrev pub invariant-loop-bar : goal.invariant-loop-bar
-invariant-loop-bar l = (length l.readings ≡ 27) × (take l.bar l.readings ≡ map (λ (bar : Place × Place). reading_of bar.0 bar.1) (take l.bar l.bars))

@@ -1,7 +1,0 @@
-use Rattle.std.proofs.Common.{◌≡◌, ◌<◌, ℕ}
-use Rattle.kd_tables.specs.declared.wheel.Wheel.{Wheel}
-use Rattle.kd_state.specs.Machine.{StandsAt}
-use Rattle.kd_state.proofs.seats.are_apart.Given as goal
-
-abbrev pub invariant-loop-place : goal.invariant-loop-place
-invariant-loop-place l = (place other : ℕ) (wheel : Wheel) → place < l.place → other < l.place → StandsAt l.slots place wheel → StandsAt l.slots other wheel → place ≡ other

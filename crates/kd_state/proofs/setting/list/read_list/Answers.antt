@@ -1,0 +1,15 @@
+use Rattle.std.proofs.Common.{◌∙◌, sym, [], ◌∷◌, ◌++◌, arith}
+use Rattle.std.proofs.lemmas.Bool.{eqb-true}
+use Rattle.std.proofs.lemmas.List.{length_push}
+use Rattle.kd_state.proofs.SettingLists.{one_more}
+use Rattle.kd_state.proofs.setting.list.read_list.Goals as goal
+
+pub returns-then-is_full : goal.returns-then-is_full
+returns-then-is_full c =
+    let settings = c.loop-rest.settings.items in
+    let full = eqb-true _ _ (sym c.is_full.ensures.value ∙ c.if-is_full.true) in (
+      settings ++ c.in-Some.setting ∷ [],
+      c.in-Some.after.now,
+      one_more c.args.text.now settings c.loop-rest.rest.now c.in-Some.setting c.in-Some.after.now c.loop-rest.invariant.begins c.in-Some.ensures,
+      omega (arith, full, length_push settings c.in-Some.setting),
+    )

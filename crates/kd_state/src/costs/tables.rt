@@ -1,0 +1,63 @@
+//! The tables of costs: what it costs to make of each cable each column, and of each bar each row.
+ghost use Rattle.std.specs.Prelude.{◌≡◌, ◌≤◌, None, length, map, slice_index_or};
+ghost use Rattle.kd_state.specs.Costs as costs;
+ghost use Rattle.kd_state.specs.Costs.{columns_of};
+
+use crate::costs::{bar_cost, cable_cost};
+use crate::machine::cable::Cable;
+use kd_tables::{Letter, Reading, Standing};
+
+/// The column at the place, counted from 0: the day's pairs in their order, and nothing behind the last one.
+pub fn column_at(pairs: &[(Letter, Letter)], place: usize) -> Option<(Letter, Letter)>
+    ensures { result ≡ slice_index_or (columns_of pairs.now) place None }
+{
+    pairs.get(place).copied()
+}
+
+/// What each cable costs at each column. There is a row for each cable, and in it a cost for each pair and then for each
+/// nothing; both are counted from 0.
+pub fn cable_costs(cables: &[Cable; 13], pairs: &[(Letter, Letter)]) -> [[u8; 13]; 13]
+    requires { length pairs.now ≤ 13 }
+    ensures { result ≡ costs.cable_costs cables.now pairs.now }
+{
+    let mut costs = [[0; 13]; 13];
+    for row in 0..13 {
+        costs[row] = costs_of_cable(&cables[row], pairs);
+    }
+    costs
+}
+
+/// What a cable costs at each column.
+fn costs_of_cable(cable: &Cable, pairs: &[(Letter, Letter)]) -> [u8; 13]
+    requires { length pairs.now ≤ 13 }
+    ensures { result ≡ map (costs.cable_cost cable.now) (columns_of pairs.now) }
+{
+    let mut costs = [0; 13];
+    for column in 0..13 {
+        costs[column] = cable_cost(*cable, column_at(pairs, column));
+    }
+    costs
+}
+
+/// What each bar costs at each of the sheet's rows. There is a row of the table for each bar, and in it a cost for each of
+/// the sheet's rows; both are counted from 0.
+pub fn bar_costs(bars: &[Standing; 27], rows: &[Reading; 27]) -> [[u8; 27]; 27]
+    ensures { result ≡ costs.bar_costs bars.now rows.now }
+{
+    let mut costs = [[0; 27]; 27];
+    for bar in 0..27 {
+        costs[bar] = costs_of_bar(bars[bar], rows);
+    }
+    costs
+}
+
+/// What a bar costs at each of the sheet's rows.
+fn costs_of_bar(bar: Standing, rows: &[Reading; 27]) -> [u8; 27]
+    ensures { result ≡ map (costs.bar_cost bar) rows.now }
+{
+    let mut costs = [0; 27];
+    for row in 0..27 {
+        costs[row] = bar_cost(bar, rows[row]);
+    }
+    costs
+}

@@ -1,0 +1,162 @@
+ghost use Rattle.std.specs.Prelude.{◌↔◌, IsTrue, IsPermutation, All};
+ghost use Rattle.kd_state.specs.Entry.{pin_values};
+ghost use Rattle.kd_state.specs.OnKey.{IsPinOnKey, AreThePairs, IsPaired, IsJoined, Joins, AreTheLetters};
+
+use crate::machine::Machine;
+use crate::machine::cable::Cable;
+use crate::machine::parts::Parts;
+use crate::machine::pin_parts::{PinParts, readings_of};
+use crate::machine::rotor_parts::RotorParts;
+use crate::sheet_day::SheetDay;
+use crate::sheet_day::entry::Entry;
+use crate::sheet_day::pin_entry::PinEntry;
+use crate::sheet_day::rotor_entry::{RotorEntry, SheetWheel};
+use kd_tables::{Letter, Reading};
+
+impl Machine {
+    ghost use Rattle.std.specs.Prelude.{◌≡◌, ◌↔◌, IsTrue, All, Some};
+    ghost use Rattle.kd_state.specs.Machine.{ring_in, letter_in};
+    ghost use Rattle.kd_state.specs.OnKey.{IsRotorOnKey, OnKey, ReadsAs, ShowsWindow};
+    ghost use Rattle.kd_state.specs.Entry.{rotor_values};
+
+    /// Whether the machine is set as the day says, whatever letters show.
+    pub fn on_key(&self, day: &SheetDay) -> bool
+        ensures { IsTrue result ↔ OnKey self.now day.now }
+    {
+        match (self.parts(), day.entry()) {
+            (Parts::Rotor(parts), Entry::Rotor(entry)) => self.is_rotor_on_key(parts, entry),
+            (Parts::Pin(parts), Entry::Pin(entry)) => is_pin_on_key(parts, entry),
+            _ => false,
+        }
+    }
+
+    /// Whether the machine is set as the day says, and shows the day's letters.
+    pub fn reads_as(&self, day: &SheetDay) -> bool
+        ensures { IsTrue result ↔ ReadsAs self.now day.now }
+    {
+        self.on_key(day) && self.shows_window(day)
+    }
+
+    /// Whether the letters that show are the day's.
+    fn shows_window(&self, day: &SheetDay) -> bool
+        ensures { IsTrue result ↔ ShowsWindow self.now day.now }
+    {
+        match (self.parts(), day.entry()) {
+            (Parts::Rotor(_), Entry::Rotor(entry)) => self.shows_letters(entry.wheels.as_slice()),
+            (Parts::Pin(parts), Entry::Pin(entry)) => parts.letters == entry.window,
+            _ => false,
+        }
+    }
+
+    /// Whether each slot has the day's wheel with the day's ring, and reflector and cables are the day's.
+    fn is_rotor_on_key(&self, parts: &RotorParts, entry: &RotorEntry) -> bool
+        requires { self.now ≡ Parts.Rotor parts.now }
+        ensures { IsTrue result ↔ IsRotorOnKey parts.now (rotor_values entry.now) }
+    {
+        let seats = entry.seats();
+        if parts.model != entry.model || parts.reflector != entry.reflector {
+            return false;
+        }
+        if parts.slots.as_slice() != seats.as_slice() {
+            return false;
+        }
+        if !self.has_rings(entry.wheels.as_slice()) {
+            return false;
+        }
+        are_the_pairs(&parts.cables, entry.pairs.as_slice())
+    }
+
+    /// Whether each wheel has its ring, wherever it lies.
+    fn has_rings(&self, wheels: &[SheetWheel]) -> bool
+        ensures { IsTrue result ↔ All (λ w. ring_in self.now w.wheel ≡ Some w.ring) wheels.now }
+    {
+        wheels
+            .iter()
+            .all(|seated| self.ring(seated.wheel) == Some(seated.ring))
+    }
+
+    /// Whether each wheel shows its letter, wherever it lies.
+    fn shows_letters(&self, wheels: &[SheetWheel]) -> bool
+        ensures { IsTrue result ↔ All (λ w. letter_in self.now w.wheel ≡ Some w.letter) wheels.now }
+    {
+        wheels
+            .iter()
+            .all(|seated| self.letter(seated.wheel) == Some(seated.letter))
+    }
+}
+
+/// Whether the pins are the day's, and the bars read as its rows.
+fn is_pin_on_key(parts: &PinParts, entry: &PinEntry) -> bool
+    ensures { IsTrue result ↔ IsPinOnKey parts.now (pin_values entry.now) }
+{
+    parts.pins.same(&entry.pins) && are_the_same(readings_of(&parts.bars), entry.rows)
+}
+
+/// Whether these are the same readings, each as often, whatever their order.
+fn are_the_same(readings: [Reading; 27], rows: [Reading; 27]) -> bool
+    ensures { IsTrue result ↔ IsPermutation readings rows }
+{
+    let (mut readings, mut rows) = (readings, rows);
+    readings.sort_unstable();
+    rows.sort_unstable();
+    readings == rows
+}
+
+/// Whether the cables that aren't empty are the pairs, whatever their order and that of the letters of a pair.
+fn are_the_pairs(cables: &[Cable], pairs: &[(Letter, Letter)]) -> bool
+    ensures { IsTrue result ↔ AreThePairs cables.now pairs.now }
+{
+    are_paired(cables, pairs) && are_joined(pairs, cables)
+}
+
+/// Whether each cable is empty or joins one of the pairs.
+fn are_paired(cables: &[Cable], pairs: &[(Letter, Letter)]) -> bool
+    ensures { IsTrue result ↔ All (IsPaired pairs.now) cables.now }
+{
+    cables.iter().all(|cable| is_paired(*cable, pairs))
+}
+
+/// Whether each pair is joined by one of the cables.
+fn are_joined(pairs: &[(Letter, Letter)], cables: &[Cable]) -> bool
+    ensures { IsTrue result ↔ All (IsJoined cables.now) pairs.now }
+{
+    for pair in pairs {
+        if !is_joined(cables, *pair) {
+            return false;
+        }
+    }
+    true
+}
+
+/// Whether the cable is empty, or joins one of the pairs.
+fn is_paired(cable: Cable, pairs: &[(Letter, Letter)]) -> bool
+    ensures { IsTrue result ↔ IsPaired pairs.now cable }
+{
+    cable == (None, None) || pairs.iter().any(|pair| joins(cable, *pair))
+}
+
+/// Whether one of the cables joins the pair.
+fn is_joined(cables: &[Cable], pair: (Letter, Letter)) -> bool
+    ensures { IsTrue result ↔ IsJoined cables.now pair }
+{
+    cables.iter().any(|cable| joins(*cable, pair))
+}
+
+/// Whether the cable's letters are those of the pair.
+fn joins(cable: Cable, pair: (Letter, Letter)) -> bool
+    ensures { IsTrue result ↔ Joins cable pair }
+{
+    match cable {
+        (Some(first), Some(second)) => are_the_letters(first, second, pair),
+        (Some(only), None) => are_the_letters(only, only, pair),
+        (None, Some(only)) => are_the_letters(only, only, pair),
+        (None, None) => false,
+    }
+}
+
+/// Whether the two letters are those of the pair, in either order.
+fn are_the_letters(one: Letter, other: Letter, pair: (Letter, Letter)) -> bool
+    ensures { IsTrue result ↔ AreTheLetters one other pair }
+{
+    (one, other) == pair || (other, one) == pair
+}

@@ -1,0 +1,29 @@
+ghost use Rattle.kd_state.specs.Machine.{IsLegal};
+ghost use Rattle.kd_state.specs.Setting.{Answers};
+
+use crate::machine::pin_parts::PinParts;
+use crate::machine::rotor_parts::RotorParts;
+use crate::setting::Setting;
+use crate::setting::why::Why;
+
+/// The parts of a machine as it stands on the desk.
+#[derive(Clone, Copy, Debug)]
+pub enum Parts {
+    /// An Enigma I, an M3 or an M4.
+    Rotor(RotorParts),
+    /// A Converter M-209.
+    Pin(PinParts),
+}
+
+impl Parts {
+    /// Carries a setting out.
+    pub(crate) fn carry(&mut self, setting: Setting) -> Result<(), Why>
+        requires { IsLegal self.old }
+        ensures { Answers self.old setting self.new result }
+    {
+        match self {
+            Parts::Rotor(parts) => parts.carry(setting),
+            Parts::Pin(parts) => parts.carry(setting),
+        }
+    }
+}

@@ -1,0 +1,118 @@
+ghost use Rattle.std.specs.Prelude.{◌≡◌, ◌⊎◌, ◌↔◌, ◌<◌, length, map, slice_set, IsSome, IfSome};
+ghost use Rattle.kd_state.specs.Setting.{without};
+
+use crate::machine::seats::is_wheel;
+use kd_tables::Wheel;
+use std::marker::Model;
+
+/// A value for each slot of a rotor machine, from the left: three or four.
+#[derive(Clone, Copy, Debug)]
+pub struct PerSlot<T> {
+    values: Slots<T>,
+}
+
+#[derive(Clone, Copy, Debug)]
+enum Slots<T> {
+    Three([T; 3]),
+    Four([T; 4]),
+}
+
+impl<T> Model for PerSlot<T> {
+    ghost use Rattle.std.specs.Prelude.{List};
+
+    ghost Value = { List T };
+
+    ghost use Rattle.kd_state.specs.Slots.{slot_values, HasSlots, slots_of_values};
+
+    ghost view = { λ p. slot_values p.values };
+
+    ghost invariant = { λ p. HasSlots p.values };
+
+    ghost inverse = { λ values. record { values = slots_of_values values } };
+}
+
+impl<T: Copy> PerSlot<T> {
+    /// These values, if there are three or four.
+    pub fn new(values: &[T]) -> Option<Self>
+        ensures exists { IsSome result ↔ ((length values.now ≡ 3) ⊎ (length values.now ≡ 4)) }
+        ensures value { IfSome result (λ slots. slots ≡ values.now) }
+    {
+        match values {
+            [left, middle, right] => Some(PerSlot {
+                values: Slots::Three([*left, *middle, *right]),
+            }),
+            [first, left, middle, right] => Some(PerSlot {
+                values: Slots::Four([*first, *left, *middle, *right]),
+            }),
+            _ => None,
+        }
+    }
+
+    /// How many values there are: three or four.
+    pub fn len(&self) -> usize
+        ensures value { result ≡ length self.now }
+        ensures either { (result ≡ 3) ⊎ (result ≡ 4) }
+    {
+        match &self.values {
+            Slots::Three(_) => 3,
+            Slots::Four(_) => 4,
+        }
+    }
+
+    /// The values, from the left.
+    pub fn as_slice(&self) -> &[T]
+        ensures value { result.now ≡ self.now }
+        ensures few { (length self.now ≡ 3) ⊎ (length self.now ≡ 4) }
+    {
+        match &self.values {
+            Slots::Three(values) => values,
+            Slots::Four(values) => values,
+        }
+    }
+
+    /// Puts a value in its place, counted from the left from 0.
+    pub fn set(&mut self, place: usize, value: T)
+        requires { place < length self.old }
+        ensures { self.new ≡ slice_set self.old place value }
+    {
+        match &mut self.values {
+            Slots::Three(values) => values[place] = value,
+            Slots::Four(values) => values[place] = value,
+        }
+    }
+}
+
+impl PerSlot<Option<Wheel>> {
+    ghost use Rattle.std.specs.Prelude.{◌≡◌, map};
+    ghost use Rattle.kd_state.specs.Setting.{without};
+
+    /// Takes the wheel out of the slot in which it stands, if it is there.
+    pub(crate) fn take_out(&mut self, wheel: Wheel)
+        ensures { self.new ≡ map (without wheel) self.old }
+    {
+        match &mut self.values {
+            Slots::Three(slots) => take_out(slots, wheel),
+            Slots::Four(slots) => take_out(slots, wheel),
+        }
+    }
+}
+
+/// Takes the wheel out of the slots.
+fn take_out(slots: &mut [Option<Wheel>], wheel: Wheel)
+    ensures { slots.new ≡ map (without wheel) slots.old }
+{
+    for seated in slots.iter_mut() {
+        *seated = left_in(*seated, wheel);
+    }
+}
+
+/// What is left in a slot once the wheel has been taken out, if it was there.
+fn left_in(seated: Option<Wheel>, wheel: Wheel) -> Option<Wheel>
+    ensures { result ≡ without wheel seated }
+{
+    if is_wheel(seated, wheel) {
+        None
+    } else {
+        seated
+    }
+}

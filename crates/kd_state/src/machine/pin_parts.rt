@@ -1,0 +1,53 @@
+ghost use Rattle.std.specs.Prelude.{◌≡◌, ◌↔◌, IsTrue, map};
+ghost use Rattle.kd_tables.specs.Places.{reading_of};
+ghost use Rattle.kd_state.specs.Machine.{IsLegalPin, AreOnWheels};
+
+use crate::facts::{are_all_pins, are_standings};
+use crate::machine::pin_rings::is_on_wheel;
+use kd_pins::PinSet;
+use kd_tables::{Letter, Reading, Standing};
+
+/// The parts of a Converter M-209 as it stands on the desk.
+#[derive(Clone, Copy, Debug)]
+pub struct PinParts {
+    /// Which pins of the six wheels are effective.
+    pub pins: PinSet,
+    /// The letter that each wheel shows, from wheel 1 to wheel 6.
+    pub letters: [Letter; 6],
+    /// Where the lugs of the bars 1 to 27 stand.
+    pub bars: [Standing; 27],
+}
+
+impl PinParts {
+    /// Whether the parts make a machine: each letter is on its wheel.
+    pub(crate) fn is_legal(&self) -> bool
+        ensures { IsTrue result ↔ IsLegalPin self.now }
+    {
+        are_all_pins(self.pins);
+        are_standings(&self.bars);
+        are_on_wheels(&self.letters)
+    }
+}
+
+/// Whether each letter is on its wheel.
+pub(crate) fn are_on_wheels(letters: &[Letter; 6]) -> bool
+    ensures { IsTrue result ↔ AreOnWheels letters.now }
+{
+    for (place, letter) in letters.iter().enumerate() {
+        if !is_on_wheel(place as u8 + 1, *letter) {
+            return false;
+        }
+    }
+    true
+}
+
+/// What the bars read as.
+pub(crate) fn readings_of(bars: &[Standing; 27]) -> [Reading; 27]
+    ensures { result ≡ map (λ bar. reading_of bar.0 bar.1) bars.now }
+{
+    let mut readings = [bars[0].reading(); 27];
+    for bar in 0..27 {
+        readings[bar] = bars[bar].reading();
+    }
+    readings
+}

@@ -1,0 +1,66 @@
+ghost use Rattle.std.specs.Prelude.{◌≡◌, ◌↔◌, IsTrue, length};
+ghost use Rattle.kd_tables.specs.Tables.{box_of};
+ghost use Rattle.kd_state.specs.Machine.{IsLegalRotor, AreLetters, cables_ordered};
+
+use crate::facts::{are_letters, are_plugged_letters};
+use crate::machine::cable::{self, Cable};
+use crate::machine::parts::Parts;
+use crate::machine::per_slot::PerSlot;
+use crate::machine::per_wheel::PerWheel;
+use crate::machine::seats;
+use kd_tables::{Letter, Model, Reflector, Wheel, allowed_reflector};
+
+/// The parts of a rotor machine as it stands on the desk.
+#[derive(Clone, Copy, Debug)]
+pub struct RotorParts {
+    pub model: Model,
+    /// A wheel or nothing for each slot, from the left.
+    pub slots: PerSlot<Option<Wheel>>,
+    pub reflector: Reflector,
+    /// A ring for each wheel of the box, seated or not, in box order: 01 is A.
+    pub rings: PerWheel<Letter>,
+    /// A window letter for each wheel of the box, seated or not, in box order.
+    pub letters: PerWheel<Letter>,
+    /// The letters in the cables 1 to 13.
+    pub cables: [Cable; 13],
+}
+
+impl RotorParts {
+    /// Whether the parts make a machine.
+    pub(crate) fn is_legal(&self) -> bool
+        ensures { IsTrue result ↔ IsLegalRotor self.now }
+    {
+        if !seats::are_legal(self.model, &self.slots) {
+            return false;
+        }
+        if !allowed_reflector(self.model, self.reflector) {
+            return false;
+        }
+        if !are_for_the_box(self.model, &self.rings) {
+            return false;
+        }
+        if !are_for_the_box(self.model, &self.letters) {
+            return false;
+        }
+        are_plugged_letters(&self.cables);
+        cable::are_apart(&self.cables)
+    }
+
+    /// The same parts, with the letters of each cable in order.
+    pub(crate) fn in_order(&self) -> RotorParts
+        ensures { Parts.Rotor result ≡ cables_ordered (Parts.Rotor self.now) }
+    {
+        let mut parts = *self;
+        cable::put_in_order(&mut parts.cables);
+        parts
+    }
+}
+
+/// Whether there is a letter for each wheel of the model's box.
+fn are_for_the_box(model: Model, letters: &PerWheel<Letter>) -> bool
+    ensures { IsTrue result ↔ AreLetters (length (box_of model)) letters.now }
+{
+    let letters = letters.as_slice();
+    are_letters(letters);
+    letters.len() == model.wheels().len()
+}

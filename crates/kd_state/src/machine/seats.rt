@@ -1,0 +1,104 @@
+//! The wheels in the slots.
+ghost use Rattle.std.specs.Prelude.{◌≡◌, ◌↔◌, ◌≤◌, IsTrue, IfSome, Some, Contains, length};
+ghost use Rattle.std.specs.Option.{SomeIff};
+ghost use Rattle.kd_tables.specs.Tables.{box_of, slots_of, IsAllowed};
+ghost use Rattle.kd_state.specs.Box.{place_in_box};
+ghost use Rattle.kd_state.specs.Machine.{AreAllowed, AreApart};
+
+use crate::machine::per_slot::PerSlot;
+use kd_tables::{Model, Wheel, allowed};
+
+/// The place of a wheel in the model's box, counted from 0.
+pub(crate) fn place_in_box(model: Model, wheel: Wheel) -> Option<usize>
+    ensures { SomeIff result (Contains (box_of model) wheel) (place_in_box model wheel) }
+{
+    for (place, other) in model.wheels().iter().enumerate() {
+        if *other == wheel {
+            return Some(place);
+        }
+    }
+    None
+}
+
+/// Whether there are as many slots as the model has, each wheel may stand in its slot, and none stands in two.
+pub(crate) fn are_legal(model: Model, slots: &PerSlot<Option<Wheel>>) -> bool
+    ensures { IsTrue result ↔ (length slots.now ≡ slots_of model) × AreAllowed model slots.now
+        × AreApart slots.now }
+{
+    let slots = slots.as_slice();
+    if slots.len() != usize::from(model.slots()) {
+        return false;
+    }
+    if !are_allowed(model, slots) {
+        return false;
+    }
+    are_apart(slots)
+}
+
+/// Whether each wheel may stand in its slot.
+fn are_allowed(model: Model, slots: &[Option<Wheel>]) -> bool
+    requires { length slots.now ≤ 4 }
+    ensures { IsTrue result ↔ AreAllowed model slots.now }
+{
+    for (place, seated) in slots.iter().enumerate() {
+        if !may_stand(model, place as u8 + 1, *seated) {
+            return false;
+        }
+    }
+    true
+}
+
+/// Whether the wheel that is seated in the slot, if any, may stand there.
+fn may_stand(model: Model, slot: u8, seated: Option<Wheel>) -> bool
+    ensures { IsTrue result ↔ IfSome seated (IsAllowed model slot) }
+{
+    match seated {
+        None => true,
+        Some(wheel) => allowed(model, slot, wheel),
+    }
+}
+
+/// Whether no wheel stands in two slots.
+fn are_apart(slots: &[Option<Wheel>]) -> bool
+    ensures { IsTrue result ↔ AreApart slots.now }
+{
+    for (place, seated) in slots.iter().enumerate() {
+        let (earlier, _) = slots.split_at(place);
+        if !is_nowhere_else(earlier, *seated) {
+            return false;
+        }
+    }
+    true
+}
+
+/// Whether the wheel that is seated, if any, stands in none of the other slots.
+fn is_nowhere_else(others: &[Option<Wheel>], seated: Option<Wheel>) -> bool
+    ensures { IsTrue result ↔ IfSome seated (λ wheel. ¬ (Contains others.now (Some wheel))) }
+{
+    match seated {
+        None => true,
+        Some(wheel) => !is_seated(others, wheel),
+    }
+}
+
+/// Whether the wheel stands in one of the slots.
+fn is_seated(slots: &[Option<Wheel>], wheel: Wheel) -> bool
+    ensures { IsTrue result ↔ Contains slots.now (Some wheel) }
+{
+    for seated in slots {
+        if is_wheel(*seated, wheel) {
+            return true;
+        }
+    }
+    false
+}
+
+/// Whether the wheel is the one that is seated.
+pub(crate) fn is_wheel(seated: Option<Wheel>, wheel: Wheel) -> bool
+    ensures { IsTrue result ↔ (seated ≡ Some wheel) }
+{
+    match seated {
+        None => false,
+        Some(other) => other == wheel,
+    }
+}

@@ -1,0 +1,49 @@
+ghost use Rattle.std.specs.Prelude.{MatchOption, MatchResult};
+ghost use Rattle.kd_state.specs.Line.{BeginsWithLine, BeginsWithNoLine, IsList, IsListFault};
+
+use crate::setting::Setting;
+use crate::words::split_once;
+use arrayvec::ArrayVec;
+use thiserror::Error;
+
+/// Why bytes are no list of settings.
+#[derive(Clone, Copy, Debug, PartialEq, Eq, Error)]
+pub enum ListFault {
+    /// The first line that is no setting's, or has no LF, counted from 1.
+    #[error("8 BadLine {0}")]
+    BadLine(usize),
+    /// There are more than 192 lines.
+    #[error("9 TooMany")]
+    TooMany,
+}
+
+/// The list of settings whose text this is: a line for each, with LF at its end, and at most 192 of them.
+pub fn read_list(text: &[u8]) -> Result<ArrayVec<Setting, 192>, ListFault>
+    ensures { MatchResult result
+        (λ settings. IsList text.now settings.items)
+        (IsListFault text.now) }
+{
+    let mut settings = ArrayVec::new();
+    let mut rest = text;
+    while !rest.is_empty() {
+        let Some((setting, after)) = split_setting(rest) else {
+            return Err(ListFault::BadLine(settings.len() + 1));
+        };
+        if settings.is_full() {
+            return Err(ListFault::TooMany);
+        }
+        settings.push(setting);
+        rest = after;
+    }
+    Ok(settings)
+}
+
+/// The setting whose line, with LF at its end, stands at the front of the text, and what follows.
+pub fn split_setting(text: &[u8]) -> Option<(Setting, &[u8])>
+    ensures { MatchOption result
+        (BeginsWithNoLine text.now)
+        (λ found. BeginsWithLine text.now found.0 found.1.now) }
+{
+    let (line, rest) = split_once(text, b'\n')?;
+    Some((Setting::from_line(line)?, rest))
+}

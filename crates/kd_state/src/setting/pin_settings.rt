@@ -1,0 +1,104 @@
+//! The settings of a Converter M-209. Each is carried out, or refused for the first reason that holds; then nothing
+//! changes.
+ghost use Rattle.kd_state.specs.Setting.{Answers, lug_place, other_lug, is_at, with_lug, Stands};
+ghost use Rattle.std.specs.Prelude.{◌≡◌, ◌↔◌, IsSome, IfSome};
+
+use crate::counted::{numbered, set_numbered};
+use crate::machine::parts::Parts;
+use crate::machine::pin_parts::PinParts;
+use crate::machine::pin_rings::{is_on_wheel, set_pin};
+use crate::setting::Setting;
+use crate::setting::why::Why;
+use kd_tables::{Letter, Lug, Place, Standing};
+
+impl PinParts {
+    /// Carries a setting out.
+    pub(crate) fn carry(&mut self, setting: Setting) -> Result<(), Why>
+        ensures { Answers (Parts.Pin self.old) setting (Parts.Pin self.new) result }
+    {
+        match setting {
+            Setting::Turn { slot, letter } => self.turn(slot, letter),
+            Setting::PinTo {
+                wheel,
+                letter,
+                effective,
+            } => self.pin_to(wheel, letter, effective),
+            Setting::LugTo { bar, lug, place } => self.lug_to(bar, lug, place),
+            _ => Err(Why::OtherModel),
+        }
+    }
+
+    /// Turns the wheel of that number until the letter shows.
+    fn turn(&mut self, wheel: u8, letter: Letter) -> Result<(), Why>
+        ensures { Answers (Parts.Pin self.old) (Setting.Turn wheel letter)
+            (Parts.Pin self.new) result }
+    {
+        let Some(_) = numbered(&self.letters, wheel) else {
+            return Err(Why::SlotEmpty);
+        };
+        if !is_on_wheel(wheel, letter) {
+            return Err(Why::NotOnWheel);
+        }
+        set_numbered(&mut self.letters, wheel, letter);
+        Ok(())
+    }
+
+    /// Makes the wheel's pin at the letter effective, or not.
+    fn pin_to(&mut self, wheel: u8, letter: Letter, effective: bool) -> Result<(), Why>
+        ensures { Answers (Parts.Pin self.old) (Setting.PinTo wheel letter effective)
+            (Parts.Pin self.new) result }
+    {
+        if !is_on_wheel(wheel, letter) {
+            return Err(Why::NotOnWheel);
+        }
+        set_pin(&mut self.pins, wheel, letter, effective);
+        Ok(())
+    }
+
+    /// Moves a lug of the bar to the place.
+    fn lug_to(&mut self, bar: u8, lug: Lug, place: Place) -> Result<(), Why>
+        ensures { Answers (Parts.Pin self.old) (Setting.LugTo bar lug place)
+            (Parts.Pin self.new) result }
+    {
+        let Some(standing) = numbered(&self.bars, bar) else {
+            return Err(Why::NoSuchBar);
+        };
+        let other = other_place(standing, lug);
+        if is_at(place, other) {
+            return Err(Why::PlaceTaken);
+        }
+        let Some(moved) = with_lug(standing, lug, place) else {
+            return Err(Why::WouldPass);
+        };
+        set_numbered(&mut self.bars, bar, moved);
+        Ok(())
+    }
+}
+
+/// Where the other lug of a bar stands.
+fn other_place(standing: Standing, lug: Lug) -> Place
+    ensures { result ≡ lug_place (other_lug lug) standing }
+{
+    match lug {
+        Lug::Left => standing.right(),
+        Lug::Right => standing.left(),
+    }
+}
+
+/// Whether two places are one.
+fn is_at(place: Place, other: Place) -> bool
+    ensures { result ≡ is_at place other }
+{
+    place == other
+}
+
+/// The standing with one of its lugs at the place, if the left one's place is before the right one's then.
+fn with_lug(standing: Standing, lug: Lug, place: Place) -> Option<Standing>
+    ensures exists { IsSome result ↔ Stands (with_lug lug place standing) }
+    ensures value { IfSome result (λ moved. moved ≡ with_lug lug place standing) }
+{
+    match lug {
+        Lug::Left => Standing::new(place, standing.right()),
+        Lug::Right => Standing::new(standing.left(), place),
+    }
+}

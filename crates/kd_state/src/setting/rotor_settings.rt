@@ -1,0 +1,118 @@
+//! The settings of a rotor machine. Each is carried out, or refused for the first reason that holds; then nothing changes.
+ghost use Rattle.kd_state.specs.Machine.{IsLegalRotor};
+ghost use Rattle.kd_state.specs.Setting.{Answers};
+
+use crate::counted::{numbered, set_numbered};
+use crate::machine::cable::{is_plugged, lies_in, lies_in_any, with, without};
+use crate::machine::parts::Parts;
+use crate::machine::rotor_parts::RotorParts;
+use crate::machine::seats::place_in_box;
+use crate::setting::Setting;
+use crate::setting::why::Why;
+use kd_tables::{Letter, Reflector, Wheel, allowed, allowed_reflector};
+
+impl RotorParts {
+    /// Carries a setting out.
+    pub(crate) fn carry(&mut self, setting: Setting) -> Result<(), Why>
+        requires { IsLegalRotor self.old }
+        ensures { Answers (Parts.Rotor self.old) setting (Parts.Rotor self.new) result }
+    {
+        match setting {
+            Setting::Pull { cable, letter } => self.pull(cable, letter),
+            Setting::Put { cable, letter } => self.put(cable, letter),
+            Setting::Seat { slot, wheel } => self.seat(slot, wheel),
+            Setting::SeatReflector { reflector } => self.seat_reflector(reflector),
+            Setting::RingTo { wheel, letter } => self.ring_to(wheel, letter),
+            Setting::Turn { slot, letter } => self.turn(slot, letter),
+            Setting::PinTo { .. } | Setting::LugTo { .. } => Err(Why::OtherModel),
+        }
+    }
+
+    /// Takes the letter out of the cable.
+    fn pull(&mut self, cable: u8, letter: Letter) -> Result<(), Why>
+        ensures { Answers (Parts.Rotor self.old) (Setting.Pull cable letter)
+            (Parts.Rotor self.new) result }
+    {
+        let Some(ends) = numbered(&self.cables, cable) else {
+            return Err(Why::NoSuchCable);
+        };
+        if !lies_in(&ends, letter) {
+            return Err(Why::NotThere);
+        }
+        let rest = without(&ends, letter);
+        set_numbered(&mut self.cables, cable, rest);
+        Ok(())
+    }
+
+    /// Puts the letter into the cable.
+    fn put(&mut self, cable: u8, letter: Letter) -> Result<(), Why>
+        ensures { Answers (Parts.Rotor self.old) (Setting.Put cable letter)
+            (Parts.Rotor self.new) result }
+    {
+        let Some(ends) = numbered(&self.cables, cable) else {
+            return Err(Why::NoSuchCable);
+        };
+        if is_plugged(&ends) {
+            return Err(Why::NoLooseEnd);
+        }
+        if lies_in_any(&self.cables, letter) {
+            return Err(Why::SocketTaken);
+        }
+        let both = with(&ends, letter);
+        set_numbered(&mut self.cables, cable, both);
+        Ok(())
+    }
+
+    /// Seats the wheel in the slot. It leaves the slot that held it, and the wheel that was there goes to the box.
+    fn seat(&mut self, slot: u8, wheel: Wheel) -> Result<(), Why>
+        requires { IsLegalRotor self.old }
+        ensures { Answers (Parts.Rotor self.old) (Setting.Seat slot wheel)
+            (Parts.Rotor self.new) result }
+    {
+        if !allowed(self.model, slot, wheel) {
+            return Err(Why::WheelNotAllowed);
+        }
+        self.slots.take_out(wheel);
+        self.slots.set(usize::from(slot) - 1, Some(wheel));
+        Ok(())
+    }
+
+    /// Changes the reflector.
+    fn seat_reflector(&mut self, reflector: Reflector) -> Result<(), Why>
+        ensures { Answers (Parts.Rotor self.old) (Setting.SeatReflector reflector)
+            (Parts.Rotor self.new) result }
+    {
+        if !allowed_reflector(self.model, reflector) {
+            return Err(Why::WheelNotAllowed);
+        }
+        self.reflector = reflector;
+        Ok(())
+    }
+
+    /// Sets the wheel's ring, and leaves its window letter.
+    fn ring_to(&mut self, wheel: Wheel, letter: Letter) -> Result<(), Why>
+        requires { IsLegalRotor self.old }
+        ensures { Answers (Parts.Rotor self.old) (Setting.RingTo wheel letter)
+            (Parts.Rotor self.new) result }
+    {
+        let Some(place) = place_in_box(self.model, wheel) else {
+            return Err(Why::WheelNotAllowed);
+        };
+        self.rings.set(place, letter);
+        Ok(())
+    }
+
+    /// Turns the wheel in the slot until the letter shows.
+    fn turn(&mut self, slot: u8, letter: Letter) -> Result<(), Why>
+        requires { IsLegalRotor self.old }
+        ensures { Answers (Parts.Rotor self.old) (Setting.Turn slot letter)
+            (Parts.Rotor self.new) result }
+    {
+        let Some(Some(wheel)) = numbered(self.slots.as_slice(), slot) else {
+            return Err(Why::SlotEmpty);
+        };
+        let place = place_in_box(self.model, wheel).unwrap();
+        self.letters.set(place, letter);
+        Ok(())
+    }
+}

@@ -1,0 +1,21 @@
+ghost use Rattle.std.specs.Prelude.{◌↔◌, IsTrue};
+ghost use Rattle.kd_state.specs.SheetDay.{IsDayNumber};
+
+use crate::sheet_day::pin_entry::PinEntry;
+use crate::sheet_day::rotor_entry::RotorEntry;
+
+/// An entry of a key sheet.
+#[derive(Debug, Drop)]
+pub enum Entry {
+    /// For an Enigma I, an M3 or an M4.
+    Rotor(RotorEntry),
+    /// For a Converter M-209.
+    Pin(PinEntry),
+}
+
+/// Whether there can be such a day of a month.
+pub(crate) fn is_day_number(day: u8) -> bool
+    ensures { IsTrue result ↔ IsDayNumber day }
+{
+    1 <= day && day <= 31
+}

@@ -1,0 +1,35 @@
+use crate::facts::{are_all_pins, are_letters, are_readings};
+use crate::machine::pin_parts::are_on_wheels;
+use crate::sheet_day::entry::is_day_number;
+use kd_pins::PinSet;
+use kd_tables::{Letter, Reading};
+
+/// A day of the Converter M-209.
+#[derive(Clone, Copy, Debug)]
+pub struct PinEntry {
+    pub day: u8,
+    /// What the bars are to read as.
+    pub rows: [Reading; 27],
+    /// Which pins are effective.
+    pub pins: PinSet,
+    /// The letter that each wheel shows, from wheel 1 to wheel 6.
+    pub window: [Letter; 6],
+    /// The two letters of the key list.
+    pub list: [Letter; 2],
+}
+
+impl PinEntry {
+    ghost use Rattle.std.specs.Prelude.{◌↔◌, IsTrue};
+    ghost use Rattle.kd_state.specs.SheetDay.{IsLegalPinDay};
+    ghost use Rattle.kd_state.specs.Entry.{pin_values};
+
+    /// Whether an accepted entry has these values.
+    pub(crate) fn is_legal(&self) -> bool
+        ensures { IsTrue result ↔ IsLegalPinDay (pin_values self.now) }
+    {
+        are_readings(&self.rows);
+        are_all_pins(self.pins);
+        are_letters(&self.list);
+        is_day_number(self.day) && are_on_wheels(&self.window)
+    }
+}

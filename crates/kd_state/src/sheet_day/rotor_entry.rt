@@ -1,0 +1,80 @@
+use crate::facts::{are_pair_letters, are_words, have_letters};
+use crate::machine::per_slot::PerSlot;
+use crate::machine::seats;
+use crate::sheet_day::entry::is_day_number;
+use arrayvec::ArrayVec;
+use kd_enigma::Plugs;
+use kd_tables::{Letter, Model, Reflector, Wheel, allowed_reflector};
+
+/// A wheel of a sheet's day, with its ring and the letter in its window.
+#[derive(Clone, Copy, Debug, PartialEq, Eq)]
+pub struct SheetWheel {
+    pub wheel: Wheel,
+    /// The ring: 01 is A.
+    pub ring: Letter,
+    /// The letter that shows in the window.
+    pub letter: Letter,
+}
+
+/// A day of a rotor model.
+#[derive(Debug, Drop)]
+pub struct RotorEntry {
+    pub day: u8,
+    pub model: Model,
+    pub reflector: Reflector,
+    /// A wheel for each slot, from the left.
+    pub wheels: PerSlot<SheetWheel>,
+    /// The pairs that are plugged, in the sheet's order.
+    pub pairs: ArrayVec<(Letter, Letter), 13>,
+    /// The groups of the day's messages.
+    pub groups: ArrayVec<[Letter; 3], 4>,
+}
+
+impl RotorEntry {
+    ghost use Rattle.std.specs.Prelude.{◌≡◌, ◌↔◌, IsTrue};
+    ghost use Rattle.kd_state.specs.SheetDay.{IsLegalRotorDay, AreSeated, seats};
+    ghost use Rattle.kd_state.specs.Entry.{rotor_values};
+
+    /// Whether an accepted entry has these values.
+    pub(crate) fn is_legal(&self) -> bool
+        ensures { IsTrue result ↔ IsLegalRotorDay (rotor_values self.now) }
+    {
+        let (pairs, groups) = (self.pairs.as_slice(), self.groups.as_slice());
+        have_letters(self.wheels.as_slice());
+        are_pair_letters(pairs);
+        are_words(groups);
+        is_day_number(self.day)
+            && allowed_reflector(self.model, self.reflector)
+            && self.are_seated()
+            && Plugs::from_pairs(pairs).is_ok()
+    }
+
+    /// Whether the wheels fill the model's slots, and each may stand in its own and in no other.
+    fn are_seated(&self) -> bool
+        ensures { IsTrue result ↔ AreSeated self.now.model (seats self.now.wheels) }
+    {
+        seats::are_legal(self.model, &self.seats())
+    }
+
+    /// The seats that the wheels take.
+    pub(crate) fn seats(&self) -> PerSlot<Option<Wheel>>
+        ensures { result ≡ seats self.now.wheels }
+    {
+        let _slots = self.wheels.len();
+        let seats = match self.wheels.as_slice() {
+            [first, left, middle, right] => PerSlot::new(&[
+                Some(first.wheel),
+                Some(left.wheel),
+                Some(middle.wheel),
+                Some(right.wheel),
+            ]),
+            [left, middle, right] => PerSlot::new(&[
+                Some(left.wheel),
+                Some(middle.wheel),
+                Some(right.wheel),
+            ]),
+            _ => None,
+        };
+        seats.unwrap()
+    }
+}
