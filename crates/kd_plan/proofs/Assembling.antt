@@ -16,7 +16,7 @@ use Rattle.kd_state.specs.declared.setting.Setting.{Setting}
 use Rattle.kd_state.specs.declared.setting.Setting.TheVariants.{SeatReflector}
 use Rattle.kd_state.specs.Box.{same_reflector}
 use Rattle.kd_state.specs.Machine.{IsMachine}
-use Rattle.kd_state.specs.SheetDay.{Day, OfRotors, OfPins, IsLegalDay, day_model, rotor_day, pin_day}
+use Rattle.kd_state.specs.SheetDay.{RotorDay, PinDay, OfRotors, OfPins, IsLegalRotorDay}
 use Rattle.kd_state.specs.Costs.{cable_cost, bar_cost, columns_of, cable_costs, bar_costs, cost_table}
 use Rattle.kd_card.specs.declared.prices.PriceParts.{PriceParts}
 use Rattle.kd_card.specs.Proving.{AreOfKind}
@@ -25,12 +25,6 @@ use Rattle.kd_assign.specs.Prices.{CostsAtMost}
 use Rattle.kd_plan.specs.Planned.{seat_lines, reflector_lines, ring_lines, turn_lines, pull_lines, put_lines, pin_lines, pin_turn_lines, lug_lines, planned_lines, IsPlanned}
 use Rattle.kd_plan.proofs.Bounds.{option_at_most, cable_cost_at_most, bar_cost_at_most, seats_at_most, rings_at_most, turns_at_most, pulls_at_most, puts_at_most, pins_at_most, pin_turns_at_most, all_lugs_at_most}
 use Rattle.kd_plan.proofs.Pricing.{AreSolved}
-
--- the letters that show on the day
-pub window_whole : (s : Day) (window : List ℕ) (place : ℕ) → IsLegalDay s → length window ≡ 6 → 6 ≤ place → IfSome (pin_day s) (λ s. take place window ≡ take place s.window) → IfSome (pin_day s) (λ s. window ≡ s.window)
-window_whole (OfRotors s) window place legal size le h = h
-window_whole (OfPins s) window place legal size le h =
-    sym (take_all place window (omega arith)) ∙ h ∙ take_all place s.window (omega (arith, legal.window.count))
 
 -- no cost is above the greatest
 module _ {A B : Type 0} (cost : A → B → ℕ) (most : ℕ) (h : (x : A) (y : B) → cost x y ≤ most) where
@@ -64,9 +58,8 @@ slots_at_most M3 = omega arith
 slots_at_most M4 = omega arith
 slots_at_most M209 = omega arith
 
-pub rotor_room : (m : RotorParts) (day : Day) (to : List ℕ) → IsMachine (Rotor m) → IsLegalDay day → length (planned_lines (Rotor m) day to) ≤ 192
-rotor_room m (OfPins s) to machine legal = omega arith
-rotor_room m (OfRotors s) to machine legal =
+pub rotor_room : (m : RotorParts) (s : RotorDay) (to : List ℕ) → IsMachine (Rotor m) → IsLegalRotorDay s → length (planned_lines (Rotor m) (OfRotors s) to) ≤ 192
+rotor_room m s to machine legal =
     let seats = seat_lines m.slots s.wheels in
     let reflector = reflector_lines m.reflector s.reflector in
     let rings = ring_lines m s.wheels in
@@ -97,9 +90,8 @@ ring_sizes : length (ring_of 1) + length (ring_of 2) + length (ring_of 3) + leng
 unfolding ring_of
 ring_sizes = refl
 
-pub pin_room : (m : PinParts) (day : Day) (to : List ℕ) → IsMachine (Pin m) → length (planned_lines (Pin m) day to) ≤ 192
-pin_room m (OfRotors s) to machine = omega arith
-pin_room m (OfPins s) to machine =
+pub pin_room : (m : PinParts) (s : PinDay) (to : List ℕ) → IsMachine (Pin m) → length (planned_lines (Pin m) (OfPins s) to) ≤ 192
+pin_room m s to machine =
     let pins = pin_lines m.pins s.pins in
     let turns = pin_turn_lines m.letters s.window in
     let lugs = lug_lines m.bars s.rows to in
@@ -116,22 +108,16 @@ pin_room m (OfPins s) to machine =
     )
 
 -- the card
-pub rotor_planned : (m : RotorParts) (day : Day) (pairs : List (ℕ × ℕ)) (costs : List (List ℕ)) (to : List ℕ) (settings : List Setting) (prices : PriceParts)
-    → m.model ≡ day_model day → Some pairs ≡ option_map (λ s. s.pairs) (rotor_day day) → costs ≡ cable_costs m.cables pairs → AreOfKind (Rotor m) prices
-    → length to ≡ 13 → IsOneToOne to → settings ≡ planned_lines (Rotor m) day to → AreSolved costs to prices → IsPlanned (Rotor m) day settings prices
-rotor_planned m (OfPins s) pairs costs to settings prices same e table kind size one_to_one lines solved = absurd cc
-rotor_planned m (OfRotors s) pairs costs to settings prices same e table kind size one_to_one lines solved =
-    let pair : pairs ≡ s.pairs = cc in
-    let whole : costs ≡ cost_table (Rotor m) (OfRotors s) = table ∙ ap (cable_costs m.cables) pair in
-    let solution = subst (λ costs. AreSolved costs to prices) whole solved in
+pub rotor_planned : (m : RotorParts) (s : RotorDay) (costs : List (List ℕ)) (to : List ℕ) (settings : List Setting) (prices : PriceParts)
+    → m.model ≡ s.model → costs ≡ cable_costs m.cables s.pairs → AreOfKind (Rotor m) prices → length to ≡ 13 → IsOneToOne to
+    → settings ≡ planned_lines (Rotor m) (OfRotors s) to → AreSolved costs to prices → IsPlanned (Rotor m) (OfRotors s) settings prices
+rotor_planned m s costs to settings prices same table kind size one_to_one lines solved =
+    let solution = subst (λ costs. AreSolved costs to prices) table solved in
     record { model = same; kind = kind; to = to; all_rows = size; one_to_one = one_to_one; lines = lines; fits = solution.fits; total = solution.total; zero = solution.zero }
 
-pub pin_planned : (m : PinParts) (day : Day) (rows : List (ℕ × ℕ)) (costs : List (List ℕ)) (to : List ℕ) (settings : List Setting) (prices : PriceParts)
-    → M209 ≡ day_model day → Some rows ≡ option_map (λ s. s.rows) (pin_day day) → costs ≡ bar_costs m.bars rows → AreOfKind (Pin m) prices
-    → length to ≡ 27 → IsOneToOne to → settings ≡ planned_lines (Pin m) day to → AreSolved costs to prices → IsPlanned (Pin m) day settings prices
-pin_planned m (OfRotors s) rows costs to settings prices same e table kind size one_to_one lines solved = absurd cc
-pin_planned m (OfPins s) rows costs to settings prices same e table kind size one_to_one lines solved =
-    let row : rows ≡ s.rows = cc in
-    let whole : costs ≡ cost_table (Pin m) (OfPins s) = table ∙ ap (bar_costs m.bars) row in
-    let solution = subst (λ costs. AreSolved costs to prices) whole solved in
-    record { model = same; kind = kind; to = to; all_rows = size; one_to_one = one_to_one; lines = lines; fits = solution.fits; total = solution.total; zero = solution.zero }
+pub pin_planned : (m : PinParts) (s : PinDay) (costs : List (List ℕ)) (to : List ℕ) (settings : List Setting) (prices : PriceParts)
+    → costs ≡ bar_costs m.bars s.rows → AreOfKind (Pin m) prices → length to ≡ 27 → IsOneToOne to
+    → settings ≡ planned_lines (Pin m) (OfPins s) to → AreSolved costs to prices → IsPlanned (Pin m) (OfPins s) settings prices
+pin_planned m s costs to settings prices table kind size one_to_one lines solved =
+    let solution = subst (λ costs. AreSolved costs to prices) table solved in
+    record { model = refl; kind = kind; to = to; all_rows = size; one_to_one = one_to_one; lines = lines; fits = solution.fits; total = solution.total; zero = solution.zero }

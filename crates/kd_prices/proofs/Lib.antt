@@ -2,5 +2,4 @@ pub mod Leading
 pub mod Doubts
 pub mod Rest
 pub mod CostTables
-pub mod LooseDays
 pub mod AlikePrices

@@ -4,11 +4,15 @@ ghost use Rattle.std.specs.Option.{option_map_or};
 ghost use Rattle.kd_pins.specs.PinWheels.{pins_of};
 ghost use Rattle.kd_state.specs.Box.{same_wheel, same_reflector};
 ghost use Rattle.kd_state.specs.Machine.{ring_in, letter_in};
+ghost use Rattle.kd_state.specs.SheetDay.{OfRotors, OfPins, IsLegalRotorDay};
+ghost use Rattle.kd_state.specs.Entry.{rotor_values, pin_values};
 ghost use Rattle.kd_state.specs.Costs as costs;
 ghost use Rattle.kd_state.specs.Costs.{differ, unless_same};
 
 use kd_pins::PinSet;
-use kd_state::{Machine, Parts, PinParts, RotorParts, SheetDay, SheetWheel};
+use kd_state::{
+    Entry, Machine, Parts, PinEntry, PinParts, RotorEntry, RotorParts, SheetDay, SheetWheel,
+};
 use kd_tables::{Letter, Reflector, Wheel};
 
 /// How many things differ: slots, the reflector, and rings and letters of the day's wheels, wherever they lie; or pins, and
@@ -17,24 +21,23 @@ pub(crate) fn loose_count(machine: &Machine, day: &SheetDay) -> usize
     ensures value { result ≡ costs.loose_count machine.now day.now }
     ensures few { result ≤ 137 }
 {
-    match machine.parts() {
-        Parts::Rotor(parts) => loose_in_rotors(machine, parts, day),
-        Parts::Pin(parts) => loose_in_pins(parts, day),
+    match (machine.parts(), day.entry()) {
+        (Parts::Rotor(parts), Entry::Rotor(entry)) => loose_in_rotors(machine, parts, entry),
+        (Parts::Pin(parts), Entry::Pin(entry)) => loose_in_pins(parts, entry),
+        _ => 0,
     }
 }
 
 /// How many slots, reflectors, rings and letters of a rotor machine differ.
-fn loose_in_rotors(machine: &Machine, parts: &RotorParts, day: &SheetDay) -> usize
-    requires { machine.now ≡ Parts.Rotor parts.now }
-    ensures value { result ≡ costs.loose_count machine.now day.now }
+fn loose_in_rotors(machine: &Machine, parts: &RotorParts, entry: &RotorEntry) -> usize
+    requires parts { machine.now ≡ Parts.Rotor parts.now }
+    requires legal { IsLegalRotorDay (rotor_values entry.now) }
+    ensures value { result ≡ costs.loose_count machine.now (OfRotors (rotor_values entry.now)) }
     ensures few { result ≤ 13 }
 {
-    let _model = day.model();
-    let (Some(wheels), Some(reflector)) = (day.wheels(), day.reflector()) else {
-        return 0;
-    };
+    let wheels = entry.wheels.as_slice();
     loose_slots(parts.slots.as_slice(), wheels)
-        + loose_reflector(parts.reflector, reflector)
+        + loose_reflector(parts.reflector, entry.reflector)
         + loose_rings(machine, wheels)
         + loose_letters(machine, wheels)
 }
@@ -108,14 +111,11 @@ fn is_letter(present: Option<Letter>, letter: Letter) -> bool
 }
 
 /// How many pins, and letters of pin wheels, of a Converter M-209 differ.
-fn loose_in_pins(parts: &PinParts, day: &SheetDay) -> usize
-    ensures value { result ≡ costs.loose_count (Parts.Pin parts.now) day.now }
+fn loose_in_pins(parts: &PinParts, entry: &PinEntry) -> usize
+    ensures value { result ≡ costs.loose_count (Parts.Pin parts.now) (OfPins (pin_values entry.now)) }
     ensures few { result ≤ 137 }
 {
-    let (Some(pins), Some(letters)) = (day.pins(), day.letters()) else {
-        return 0;
-    };
-    loose_pins(&parts.pins, &pins) + loose_shown(&parts.letters, &letters)
+    loose_pins(&parts.pins, &entry.pins) + loose_shown(&parts.letters, &entry.window)
 }
 
 /// How many pins differ.

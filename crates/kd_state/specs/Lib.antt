@@ -9,6 +9,7 @@ pub mod Words
 pub mod Line
 pub mod SheetDay
 pub mod Entry
+pub mod OneModel
 pub mod OnKey
 pub mod Lugs
 pub mod TwoCiphers

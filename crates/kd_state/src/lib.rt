@@ -17,6 +17,7 @@ pub use costs::tables::{bar_costs, cable_costs, column_at};
 pub use costs::{bar_cost, cable_cost, nearest_standing};
 pub use engine::{Engine, NotReady, own_engine};
 pub use machine::Machine;
+pub use machine::one_model::OneModel;
 pub use machine::parts::Parts;
 pub use machine::per_slot::PerSlot;
 pub use machine::per_wheel::PerWheel;
@@ -26,7 +27,9 @@ pub use setting::Setting;
 pub use setting::list::{ListFault, read_list, split_setting};
 pub use setting::why::{Illegal, Why};
 pub use sheet_day::SheetDay;
-pub use sheet_day::rotor_entry::SheetWheel;
+pub use sheet_day::entry::Entry;
+pub use sheet_day::pin_entry::PinEntry;
+pub use sheet_day::rotor_entry::{RotorEntry, SheetWheel};
 pub use words::{
     letter_of_text, number_of_text, push_letter, push_number, split_once, split_words,
 };

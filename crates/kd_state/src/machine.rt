@@ -1,6 +1,7 @@
 pub(crate) mod cable;
 mod carrying;
 mod on_key;
+pub(crate) mod one_model;
 pub(crate) mod parts;
 pub(crate) mod per_slot;
 pub(crate) mod per_wheel;

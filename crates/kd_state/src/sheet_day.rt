@@ -258,8 +258,8 @@ impl SheetDay {
         }
     }
 
-    /// The entry, which an accepted sheet can have.
-    pub(crate) fn entry(&self) -> &Entry
+    /// The values of the day, as its entry in the sheet has them.
+    pub fn entry(&self) -> &Entry
         ensures value { values_of result.now ≡ self.now }
         ensures legal { IsLegalDay self.now }
     {

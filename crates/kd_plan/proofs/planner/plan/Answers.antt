@@ -6,12 +6,13 @@ pub returns-clause-card : goal.returns-clause-card
 returns-clause-card c =
     let m = c.args.machine.now in
     let s = c.args.day.now in
-    let settings = c.planned_card-card.result.settings.items in
-    let prices = c.planned_card-card.result.prices in
-    let proves = c.planned_cards_prove_themselves.ensures m s settings prices c.parts-parts.ensures.legal c.model-2.ensures.legal c.planned_card-card.ensures in
+    let settings = c.in-Some.card.settings.items in
+    let prices = c.in-Some.card.prices in
+    let made = c.in-Some.ensures in
+    let proves = c.planned_cards_prove_themselves.ensures m s settings prices made.machine made.legal made.planned in
     record {
-      planned = c.planned_card-card.ensures;
+      planned = made.planned;
       leads = proves.leads;
       proves = proves;
-      shortest = c.proving_cards_are_shortest.ensures m s settings prices c.parts-parts.ensures.legal c.model-2.ensures.legal (subst ArePrices c.parts-prices.ensures.value c.parts-prices.ensures.are_prices) proves;
+      shortest = c.proving_cards_are_shortest.ensures m s settings prices made.machine made.legal (subst ArePrices c.parts-prices.ensures.value c.parts-prices.ensures.are_prices) proves;
     }

@@ -1,0 +1,13 @@
+-- A machine and a day of one model, taken apart.
+use Rattle.std.specs.Prelude.{◌≡◌}
+use Rattle.kd_state.specs.declared.machine.parts.Parts.{Parts}
+use Rattle.kd_state.specs.declared.machine.parts.Parts.TheVariants as parts
+use Rattle.kd_state.specs.declared.machine.one_model.OneModel.{OneModel}
+use Rattle.kd_state.specs.declared.machine.one_model.OneModel.TheVariants.{Rotor, Pin}
+use Rattle.kd_state.specs.SheetDay.{Day, OfRotors, OfPins}
+use Rattle.kd_state.specs.Entry.{rotor_values, pin_values}
+
+-- they have these parts and this entry, both of one rotor model, or both of the Converter M-209
+abbrev pub AreParted : Parts → Day → OneModel → Type 0
+AreParted m s (Rotor m_parts entry) = (m ≡ parts.Rotor m_parts.now) × (s ≡ OfRotors (rotor_values entry.now)) × (m_parts.now.model ≡ entry.now.model)
+AreParted m s (Pin m_parts entry) = (m ≡ parts.Pin m_parts.now) × (s ≡ OfPins (pin_values entry.now))
