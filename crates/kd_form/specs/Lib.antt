@@ -13,3 +13,5 @@ pub mod Receiving
 pub mod FormText
 pub mod Laws
 pub mod KeyPatterns
+pub mod Streams
+pub mod StreamSteps
