@@ -26,16 +26,15 @@ pub(crate) fn stream<M: MessageReader + Drop, R: Source, W: Sink>(
     let mut reader = M::start(day);
     let mut read = 0;
     while read < READ_LIMIT {
-        let count = read_next(&mut reader, day, source, sink, READ_LIMIT - read)?;
-        if count == 0 {
-            finish(&mut reader, day, sink)?;
-            return Ok(());
+        match read_next(&mut reader, day, source, sink, READ_LIMIT - read) {
+            Ok(0) => return Ok(finish(&mut reader, day, sink)?),
+            Ok(count) => read += count,
+            Err(stop) => return Err(FormFault::from(stop)),
         }
-        read += count;
     }
-    if is_at_end(source)? {
-        finish(&mut reader, day, sink)?;
-        return Ok(());
+    match is_at_end(source) {
+        Ok(true) => Ok(finish(&mut reader, day, sink)?),
+        Ok(false) => Err(FormFault::ReadTooLong),
+        Err(_) => Err(FormFault::Device),
     }
-    Err(FormFault::ReadTooLong)
 }

@@ -24,7 +24,10 @@ pub(crate) fn feed_all<M: MessageReader, W: Sink>(
     ensures failed { W.has_failed sink.new ≡ (W.has_failed sink.old || stops_at_device result) }
 {
     for byte in bytes {
-        feed_one(reader, day, *byte, sink)?;
+        match feed_one(reader, day, *byte, sink) {
+            Ok(()) => {}
+            Err(stop) => return Err(stop),
+        }
     }
     Ok(())
 }
@@ -45,8 +48,10 @@ fn feed_one<M: MessageReader, W: Sink>(
         Ok(()) => {}
         Err(fault) => return Err(Stop::Refused(fault)),
     }
-    put_all(sink, made.as_slice())?;
-    Ok(())
+    match put_all(sink, made.as_slice()) {
+        Ok(()) => Ok(()),
+        Err(_) => Err(Stop::Device),
+    }
 }
 
 /// Writes what is left of the message at its end.
@@ -61,10 +66,10 @@ pub(crate) fn finish<M: MessageReader, W: Sink>(
 {
     let mut made: Made = ArrayVec::new();
     let answer = reader.end(day, &mut made);
-    put_all(sink, made.as_slice())?;
-    match answer {
-        Ok(()) => Ok(()),
-        Err(fault) => Err(Stop::Refused(fault)),
+    match (put_all(sink, made.as_slice()), answer) {
+        (Ok(()), Ok(())) => Ok(()),
+        (Ok(()), Err(fault)) => Err(Stop::Refused(fault)),
+        (Err(_), _) => Err(Stop::Device),
     }
 }
 
@@ -102,6 +107,8 @@ fn read_into<M: MessageReader, R: Source, W: Sink>(
     let Ok(count) = source.get(buffer) else {
         return Err(Stop::Device);
     };
-    feed_all(reader, day, &buffer[..count], sink)?;
-    Ok(count)
+    match feed_all(reader, day, &buffer[..count], sink) {
+        Ok(()) => Ok(count),
+        Err(stop) => Err(stop),
+    }
 }

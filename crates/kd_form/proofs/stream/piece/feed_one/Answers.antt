@@ -1,0 +1,8 @@
+use Rattle.std.proofs.Common.{rules, ◌≡◌, ◌<◌, ◌≤◌, ◌||◌, [], ◌∷◌, length, ℕ, ◌+◌, ◌-◌, ◌*◌, ◌/◌, ◌%◌, Bool, true, false, nat_eq, nat_lt, List, ◌++◌, slice_index_or, slice_set, bit_and, bit_or, Fits, w8, w32, w64, Bor, MutBor}
+use Rattle.kd_tables.specs.Ports.{port}
+use Rattle.kd_form.specs.StreamSteps.{FeedsAll, ClosesAt, ReadsNext, stops_at_device}
+use Rattle.kd_form.proofs.stream.piece.feed_one.Goals as goal
+
+-- src/stream/piece.rt:36:1
+pub returns-in-Err-put_all-clause-fed : goal.returns-in-Err-put_all-clause-fed
+returns-in-Err-put_all-clause-fed g c = ?
