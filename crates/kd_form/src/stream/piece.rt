@@ -1,10 +1,11 @@
 //! A message, piece by piece.
 ghost use Rattle.std.specs.Prelude.{◌≡◌, ◌<◌, ◌≤◌, ◌||◌, [], ◌∷◌, length};
 ghost use Rattle.kd_tables.specs.Ports.{port};
-ghost use Rattle.kd_form.specs.StreamSteps.{FeedsAll, ClosesAt, ReadsNext, stops_at_device};
+ghost use Rattle.kd_form.specs.StreamSteps.{FeedsAll, ClosesAt, ClosesAs, ReadsNext, stops_at_device};
 
 use super::reader::{Made, MessageReader};
 use super::stop::Stop;
+use crate::fault::FormFault;
 use arrayvec::ArrayVec;
 use kd_state::SheetDay;
 use kd_tables::{Sink, Source, put_all};
@@ -70,6 +71,21 @@ pub(crate) fn finish<M: MessageReader, W: Sink>(
         (Ok(()), Ok(())) => Ok(()),
         (Ok(()), Err(fault)) => Err(Stop::Refused(fault)),
         (Err(_), _) => Err(Stop::Device),
+    }
+}
+
+/// The same, with the fault that is answered.
+pub(crate) fn close<M: MessageReader, W: Sink>(
+    reader: &mut M,
+    day: &SheetDay,
+    sink: &mut W,
+) -> Result<(), FormFault>
+    ensures { ClosesAs (M.message day.now) (M.holds day.now reader.old)
+        (port W.taken W.has_failed sink.old sink.new) result }
+{
+    match finish(reader, day, sink) {
+        Ok(()) => Ok(()),
+        Err(stop) => Err(FormFault::from(stop)),
     }
 }
 

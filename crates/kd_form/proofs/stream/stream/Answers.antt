@@ -1,44 +1,29 @@
-use Rattle.std.proofs.Common.{rules, ◌≡◌, ℕ, ◌+◌, ◌-◌, ◌*◌, ◌<◌, ◌≤◌, length, ◌/◌, ◌%◌, Bool, true, false, nat_eq, nat_lt, List, [], ◌∷◌, ◌++◌, slice_index_or, slice_set, bit_and, bit_or, Fits, w8, w32, w64, Bor, MutBor}
-use Rattle.kd_tables.specs.Ports.{port}
+use Rattle.std.proofs.Common.{◌≡◌, ℕ, Ok, Err, refl, sym, ap, subst, ◌∙◌, arith}
 use Rattle.kd_form.specs.Streams.{IsStreamed}
+use Rattle.kd_form.proofs.Streaming.{SoFar-nil, SoFar-read, SoFar-room, SoFar-at_end, SoFar-ended, at_end, IsStreamed-stopped, IsStreamed-closed, IsStreamed-too_long, IsStreamed-unread}
 use Rattle.kd_form.proofs.stream.stream.Goals as goal
 
--- src/stream.rt:28:5
 pub loop-read-init : goal.loop-read-init
-loop-read-init g c = ?
+loop-read-init g c = SoFar-nil _ _ _ _ _ _ c.start-reader.ensures
 
--- src/stream.rt:30:32
-pub returns-in_err-finish-in-Ok-eq0 : goal.returns-in_err-finish-in-Ok-eq0
-returns-in_err-finish-in-Ok-eq0 g c = ?
-
--- src/stream.rt:30:22
 pub returns-in-Ok-eq0 : goal.returns-in-Ok-eq0
-returns-in-Ok-eq0 g c = ?
+returns-in-Ok-eq0 g c =
+    IsStreamed-closed _ _ _ _ _ _ _ _ _ _ _ (SoFar-read _ _ _ _ _ _ _ _ _ _ _ _ _ _ _ _ _ c.loop-read.invariant refl _ c.in-Ok-eq0.ensures)
+    (SoFar-at_end _ _ _ _ _ _ _ _ _ _ _ _ _ _ _ _ _ c.loop-read.invariant refl _ c.in-Ok-eq0.field-0-test c.in-Ok-eq0.ensures) c.close.ensures
 
--- src/stream.rt:31:26
-pub overflow_add-read : goal.overflow_add-read
-overflow_add-read g c = ?
-
--- src/stream.rt:28:5
 pub loop-read-preserved : goal.loop-read-preserved
-loop-read-preserved g c = ?
+loop-read-preserved g c = SoFar-read _ _ _ _ _ _ _ _ _ _ _ _ _ _ _ _ _ c.loop-read.invariant refl c.in-Ok.count c.in-Ok.ensures
 
--- src/stream.rt:32:26
 pub returns-in-Err : goal.returns-in-Err
-returns-in-Err g c = ?
+returns-in-Err g c = IsStreamed-stopped _ _ _ _ _ _ _ _ _ _ _ _ _ _ _ _ _ c.loop-read.invariant refl c.in-Err.stop c.from.result c.from.ensures c.in-Err.ensures
 
--- src/stream.rt:36:24
-pub returns-in_err-finish-in-Ok-true : goal.returns-in_err-finish-in-Ok-true
-returns-in_err-finish-in-Ok-true g c = ?
-
--- src/stream.rt:25:1
 pub returns-in-Ok-true : goal.returns-in-Ok-true
-returns-in-Ok-true g c = ?
+returns-in-Ok-true g c =
+    IsStreamed-closed _ _ _ _ _ _ _ _ _ _ _
+    (SoFar-ended _ _ _ _ _ _ _ _ _ _ c.loop-read.invariant _ c.in-Ok-true.field-0-test c.in-Ok-true.ensures.ends c.in-Ok-true.ensures.failed)
+    (at_end _ _ _ c.in-Ok-true.field-0-test c.in-Ok-true.ensures.ends) c.close-in-Ok-true.ensures
 
--- src/stream.rt:25:1
 pub returns-in-Ok-false : goal.returns-in-Ok-false
-returns-in-Ok-false g c = ?
-
--- src/stream.rt:18:1
-pub returns : goal.returns
-returns g c = ?
+returns-in-Ok-false g c =
+    IsStreamed-too_long _ _ _ _ _ _ _ _ _ _ c.loop-read.invariant c.loop-read-test.false _ c.in-Ok-false.field-0-test c.in-Ok-false.ensures.ends
+    c.in-Ok-false.ensures.failed

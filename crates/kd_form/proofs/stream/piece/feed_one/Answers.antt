@@ -1,8 +1,9 @@
-use Rattle.std.proofs.Common.{rules, ◌≡◌, ◌<◌, ◌≤◌, ◌||◌, [], ◌∷◌, length, ℕ, ◌+◌, ◌-◌, ◌*◌, ◌/◌, ◌%◌, Bool, true, false, nat_eq, nat_lt, List, ◌++◌, slice_index_or, slice_set, bit_and, bit_or, Fits, w8, w32, w64, Bor, MutBor}
-use Rattle.kd_tables.specs.Ports.{port}
-use Rattle.kd_form.specs.StreamSteps.{FeedsAll, ClosesAt, ReadsNext, stops_at_device}
+use Rattle.std.proofs.Common.{◌++◌, sym, ap, subst}
+use Rattle.kd_tables.specs.Writing.{TakesFront}
+use Rattle.kd_form.proofs.Streaming.{fed_in_part}
 use Rattle.kd_form.proofs.stream.piece.feed_one.Goals as goal
 
--- src/stream/piece.rt:36:1
 pub returns-in-Err-put_all-clause-fed : goal.returns-in-Err-put_all-clause-fed
-returns-in-Err-put_all-clause-fed g c = ?
+returns-in-Err-put_all-clause-fed g c bytes text held =
+    fed_in_part _ _ _ text c.feed.new.made.items _ _ _ _ (c.in-Ok.ensures bytes text held)
+    (subst (TakesFront _ _) c.as_slice.ensures.value c.in-Err-put_all.ensures.text.front)
