@@ -1,19 +1,18 @@
 -- Bytes that are fed one after another, and reads that follow one another.
-use Rattle.std.proofs.Common.{◌≡◌, ℕ, ◌+◌, ◌-◌, ◌<◌, ◌≤◌, Bool, true, false, ◌||◌, inl, inr, List, [], ◌∷◌, ◌++◌, Option, Some, Result, Ok, Err, length, take, drop, IsTrue, refl, sym, ap, subst, ◌∙◌, append_assoc, append-nil, take-append-drop, length-append, arith}
+use Rattle.std.proofs.Common.{◌≡◌, ℕ, ◌+◌, ◌-◌, ◌^◌, ◌<◌, ◌≤◌, Bool, true, false, ◌||◌, List, [], ◌∷◌, ◌++◌, Option, Some, Result, Ok, Err, length, take, drop, IsTrue, refl, sym, ap, subst, ◌∙◌, append_assoc, append-nil, take-append-drop, length-append, arith}
 use Rattle.std.specs.Io.{StartsWith}
 use Rattle.std.specs.Io.KnownBytes.{Appends, Consumes, Keeps, IsAtEnd}
 use Rattle.std.proofs.KnownBytes.{Consumes-nil, Consumes-kept, Consumes-trans, Appends-nil, Appends-trans, starts_with_rest}
 use Rattle.std.proofs.Transfers.{starts_with_of_append}
 use Rattle.kd_tables.specs.declared.limit.TheConstants.{READ_LIMIT}
-use Rattle.kd_tables.specs.declared.writing.Device.{Device}
-use Rattle.kd_tables.specs.Ports.{Port, IsWell, FailsAlone, Ends}
+use Rattle.kd_tables.specs.Ports.{Port, IsWell, Ends}
 use Rattle.kd_tables.specs.Writing.{TakesFront}
 use Rattle.kd_form.specs.declared.fault.FormFault.{FormFault}
 use Rattle.kd_form.specs.declared.fault.FormFault.TheVariants as faults
 use Rattle.kd_form.specs.declared.stream.stop.Stop.{Stop}
 use Rattle.kd_form.specs.declared.stream.stop.Stop.TheVariants as stops
-use Rattle.kd_form.specs.Streams.{Message, IsOpen, IsRefused, Closes, IsDue, ByThen, ByTheEnd, Answers, Whole, Stands, AtEnd, TooLong, SourceFails, SinkFails, IsStreamed}
-use Rattle.kd_form.specs.StreamSteps.{Held, IsFrontOf, FedTo, IsFed, FeedsAll, EndsIn, IsClosed, ClosesAt, ClosesAs, WritesWhole, IsRead, ReadsNext, fault_of, answer_to, stops_at_device}
+use Rattle.kd_form.specs.Streams.{Message, IsOpen, IsRefused, IsDue, ByThen, ByTheEnd, Answers, Whole, Stands, AtEnd, TooLong, SourceFails, SinkFails, IsStreamed}
+use Rattle.kd_form.specs.StreamSteps.{Held, HasRoom, FedTo, IsFed, FeedsAll, EndsIn, ClosesAt, ClosesAs, WritesWhole, IsRead, ReadsNext, fault_of, answer_to, stops_at_device}
 
 -- what is known of a port, in its order
 abbrev pub over : Option (List ℕ) → Option (List ℕ) → Bool → Bool → Port
@@ -87,6 +86,21 @@ fed_next m old now new front next took taken wrote d e f answer before after byt
       fed = subst (λ b. FedTo m new b (text ++ (one.made ++ two.made)) answer) (append_assoc bytes front next)
           (subst (λ t. FedTo m new ((bytes ++ front) ++ next) t answer) (append_assoc text one.made two.made) two.fed);
     }
+
+-- ---- room for more bytes
+
+pub room_for : (m : Message) (holds : List ℕ → List ℕ → Type 0) (room less : ℕ) → less ≤ room → HasRoom m holds room → HasRoom m holds less
+room_for m holds room less few has = record { bytes = has.bytes; text = has.text; held = has.held; within = omega (arith, has.within, few) }
+
+-- behind the bytes that were fed
+pub room_less : (m : Message) (old new : List ℕ → List ℕ → Type 0) (more : List ℕ) (sink : Port) (room less : ℕ) → length more + less ≤ room → HasRoom m old room
+    → FeedsAll m old new more sink (Ok tt) → HasRoom m new less
+room_less m old new more sink room less few has fed =
+    let one = fed has.bytes has.text has.held in
+    record { bytes = has.bytes ++ more; text = has.text ++ one.made; held = one.fed; within = omega (arith, has.within, few, length-append has.bytes more) }
+
+pub room_at_first : (m : Message) (holds : List ℕ → List ℕ → Type 0) (room : ℕ) → room < 2 ^ 63 → Held m holds [] [] → HasRoom m holds room
+room_at_first m holds room few held = record { bytes = []; text = []; held = held; within = omega (arith, few) }
 
 refused_longer : (m : Message) (bytes more text : List ℕ) (fault : FormFault) → IsRefused m bytes text fault → IsRefused m (bytes ++ more) text fault
 refused_longer m bytes more text fault is = record {
@@ -341,3 +355,8 @@ module _ (m : Message) (holds : List ℕ → List ℕ → Type 0) (had has next 
     answers = SourceFails (omega (arith, before.counted, before.within)) before.held.open_yet
         (record { failed = failed_now b c up; well = before.well.1 }) refl;
   }
+
+pub room_after : (m : Message) (holds : List ℕ → List ℕ → Type 0) (source sink : Port) (count room : ℕ) → count + room ≤ READ_LIMIT → SoFar m holds source sink count
+    → HasRoom m holds room
+room_after m holds source sink count room few before =
+    record { bytes = before.read; text = before.text; held = before.held; within = omega (arith, few, before.counted) }

@@ -1,7 +1,7 @@
 //! A message, piece by piece.
 ghost use Rattle.std.specs.Prelude.{◌≡◌, ◌<◌, ◌≤◌, ◌||◌, [], ◌∷◌, length};
 ghost use Rattle.kd_tables.specs.Ports.{port};
-ghost use Rattle.kd_form.specs.StreamSteps.{FeedsAll, ClosesAt, ClosesAs, ReadsNext, stops_at_device};
+ghost use Rattle.kd_form.specs.StreamSteps.{HasRoom, FeedsAll, ClosesAt, ClosesAs, ReadsNext, stops_at_device};
 
 use super::reader::{Made, MessageReader};
 use super::stop::Stop;
@@ -20,6 +20,7 @@ pub(crate) fn feed_all<M: MessageReader, W: Sink>(
     bytes: &[u8],
     sink: &mut W,
 ) -> Result<(), Stop>
+    requires { HasRoom (M.message day.now) (M.holds day.now reader.old) (length bytes.now) }
     ensures fed { FeedsAll (M.message day.now) (M.holds day.now reader.old) (M.holds day.now reader.new)
         bytes.now (port W.taken W.has_failed sink.old sink.new) result }
     ensures failed { W.has_failed sink.new ≡ (W.has_failed sink.old || stops_at_device result) }
@@ -40,6 +41,7 @@ fn feed_one<M: MessageReader, W: Sink>(
     byte: u8,
     sink: &mut W,
 ) -> Result<(), Stop>
+    requires { HasRoom (M.message day.now) (M.holds day.now reader.old) 1 }
     ensures fed { FeedsAll (M.message day.now) (M.holds day.now reader.old) (M.holds day.now reader.new)
         (byte ∷ []) (port W.taken W.has_failed sink.old sink.new) result }
     ensures failed { W.has_failed sink.new ≡ (W.has_failed sink.old || stops_at_device result) }
@@ -61,6 +63,7 @@ pub(crate) fn finish<M: MessageReader, W: Sink>(
     day: &SheetDay,
     sink: &mut W,
 ) -> Result<(), Stop>
+    requires { HasRoom (M.message day.now) (M.holds day.now reader.old) 0 }
     ensures ended { ClosesAt (M.message day.now) (M.holds day.now reader.old)
         (port W.taken W.has_failed sink.old sink.new) result }
     ensures failed { W.has_failed sink.new ≡ (W.has_failed sink.old || stops_at_device result) }
@@ -80,6 +83,7 @@ pub(crate) fn close<M: MessageReader, W: Sink>(
     day: &SheetDay,
     sink: &mut W,
 ) -> Result<(), FormFault>
+    requires { HasRoom (M.message day.now) (M.holds day.now reader.old) 0 }
     ensures { ClosesAs (M.message day.now) (M.holds day.now reader.old)
         (port W.taken W.has_failed sink.old sink.new) result }
 {
@@ -98,7 +102,8 @@ pub(crate) fn read_next<M: MessageReader, R: Source, W: Sink>(
     sink: &mut W,
     room: usize,
 ) -> Result<usize, Stop>
-    requires { 0 < room }
+    requires some { 0 < room }
+    requires room { HasRoom (M.message day.now) (M.holds day.now reader.old) room }
     ensures { ReadsNext (M.message day.now) (M.holds day.now reader.old) (M.holds day.now reader.new) room
         (port R.remaining R.has_failed source.old source.new)
         (port W.taken W.has_failed sink.old sink.new) result }
@@ -115,7 +120,8 @@ fn read_into<M: MessageReader, R: Source, W: Sink>(
     sink: &mut W,
     buffer: &mut [u8],
 ) -> Result<usize, Stop>
-    requires { 0 < length buffer.now }
+    requires some { 0 < length buffer.now }
+    requires room { HasRoom (M.message day.now) (M.holds day.now reader.old) (length buffer.now) }
     ensures { ReadsNext (M.message day.now) (M.holds day.now reader.old) (M.holds day.now reader.new)
         (length buffer.old) (port R.remaining R.has_failed source.old source.new)
         (port W.taken W.has_failed sink.old sink.new) result }

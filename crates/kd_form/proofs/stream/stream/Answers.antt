@@ -1,6 +1,5 @@
-use Rattle.std.proofs.Common.{◌≡◌, ℕ, Ok, Err, refl, sym, ap, subst, ◌∙◌, arith}
-use Rattle.kd_form.specs.Streams.{IsStreamed}
-use Rattle.kd_form.proofs.Streaming.{SoFar-nil, SoFar-read, SoFar-room, SoFar-at_end, SoFar-ended, at_end, IsStreamed-stopped, IsStreamed-closed, IsStreamed-too_long, IsStreamed-unread}
+use Rattle.std.proofs.Common.{refl}
+use Rattle.kd_form.proofs.Streaming.{SoFar-nil, SoFar-read, SoFar-at_end, SoFar-ended, at_end, IsStreamed-stopped, IsStreamed-closed, IsStreamed-too_long}
 use Rattle.kd_form.proofs.stream.stream.Goals as goal
 
 pub loop-read-init : goal.loop-read-init

@@ -1,7 +1,7 @@
-use Rattle.std.proofs.Common.{◌≡◌, ℕ, ◌+◌, ◌<◌, ◌++◌, ◌∷◌, List, [], Ok, Err, suc, length, take, drop, get_or, sym, ap, subst, ◌∙◌, refl, append_assoc, take-append-drop}
+use Rattle.std.proofs.Common.{◌≡◌, ℕ, ◌<◌, ◌++◌, ◌∷◌, List, [], suc, length, take, drop, get_or, sym, ap, ◌∙◌, refl, append_assoc, take-append-drop, arith}
 use Rattle.std.proofs.lemmas.List.{take_more, take_all}
 use Rattle.std.proofs.Math.Seq.{drop-cons}
-use Rattle.kd_form.proofs.Streaming.{fed_none, fed_next, fed_whole, fed_up_to, still_well, well_now, flag_since}
+use Rattle.kd_form.proofs.Streaming.{fed_none, fed_next, fed_whole, fed_up_to, room_less, room_for, still_well, well_now, flag_since}
 use Rattle.kd_form.proofs.stream.piece.feed_all.Goals as goal
 
 up_to : (bytes : List ℕ) (place : ℕ) → place < length bytes → take place bytes ++ get_or bytes place 0 ∷ [] ++ drop (suc place) bytes ≡ bytes
@@ -9,7 +9,7 @@ up_to bytes place inside = append_assoc (take place bytes) (get_or bytes place 0
     ∙ ap (λ l. take place bytes ++ l) (sym (drop-cons bytes place 0 inside)) ∙ take-append-drop place bytes
 
 pub loop-byte-init : goal.loop-byte-init
-loop-byte-init g c = record { fed = fed_none _ _ _ _; well = refl }
+loop-byte-init g c = record { room = room_for _ _ _ _ (omega arith) c.requires; fed = fed_none _ _ _ _; well = refl }
 
 pub returns-in-Err-clause-fed : goal.returns-in-Err-clause-fed
 returns-in-Err-clause-fed g c =
@@ -21,6 +21,7 @@ returns-in-Err-clause-failed g c = flag_since _ _ _ _ c.loop-byte.invariant.well
 
 pub loop-byte-preserved : goal.loop-byte-preserved
 loop-byte-preserved g c = record {
+  room = room_less _ _ _ _ _ _ _ (omega (arith, c.loop-byte-test.true)) c.loop-byte.invariant.room c.in-Ok.ensures.fed;
   fed = fed_whole _ _ _ _ _ _ _ (sym (take_more c.args.bytes.now c.loop-byte.byte-index 0 c.loop-byte-test.true))
       (fed_next _ _ _ _ _ _ _ _ _ _ _ _ _ c.loop-byte.invariant.fed c.in-Ok.ensures.fed);
   well = well_now _ _ c.in-Ok.ensures.failed ∙ c.loop-byte.invariant.well;
@@ -32,3 +33,6 @@ returns-clause-fed g c =
 
 pub returns-clause-failed : goal.returns-clause-failed
 returns-clause-failed g c = still_well _ _ c.loop-byte.invariant.well
+
+pub feed_one-requires : goal.feed_one-requires
+feed_one-requires g c = room_for _ _ _ _ (omega (arith, c.loop-byte-test.true)) c.loop-byte.invariant.room
