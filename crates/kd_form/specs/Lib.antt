@@ -15,3 +15,5 @@ pub mod Laws
 pub mod KeyPatterns
 pub mod Streams
 pub mod StreamSteps
+pub mod SendStream
+pub mod SendSteps

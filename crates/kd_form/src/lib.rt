@@ -13,6 +13,7 @@ mod keys;
 pub mod laws;
 mod making;
 mod order;
+mod order_reader;
 mod pattern_line;
 mod reading;
 mod receiving;
