@@ -31,3 +31,4 @@ pub mod OneHeading
 pub mod OnePart
 pub mod OneText
 pub mod Streaming
+pub mod OrderHeads

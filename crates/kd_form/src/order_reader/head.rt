@@ -3,7 +3,7 @@ ghost use Rattle.std.specs.Prelude.{◌≡◌, ◌==◌, List, ℕ, [], ◌∷�
 ghost use Rattle.kd_form.specs.declared.order_reader.head.HeadStep.TheVariants.{Open, Bad};
 ghost use Rattle.kd_form.specs.SendSteps.{IsHeadRead, HeadIsRead};
 
-use crate::key_line::read_keys;
+use crate::key_line::{key_lines_are_short, read_keys};
 use crate::keys::Keys;
 use crate::order::is_key_line;
 use crate::pattern_line::read_pattern;
@@ -59,6 +59,7 @@ impl HeadReader {
             → HeadIsRead day.now self.new (order ++ byte ∷ []) result }
     {
         texts_tell_first_parts();
+        key_lines_are_short(day);
         self.line.push(byte);
         let line = self.line.as_slice();
         if is_key_line(line) && !self.keys.is_full() {
