@@ -32,3 +32,4 @@ pub mod OnePart
 pub mod OneText
 pub mod Streaming
 pub mod OrderHeads
+pub mod OrderParts
