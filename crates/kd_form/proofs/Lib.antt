@@ -33,3 +33,4 @@ pub mod OneText
 pub mod Streaming
 pub mod OrderHeads
 pub mod OrderParts
+pub mod OrderRead

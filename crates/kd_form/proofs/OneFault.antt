@@ -116,7 +116,7 @@ first_keys_fault s keys fault other a b =
     one_keys_fault s (length b.before + 1) b.unsuited fault other
     (subst (λ n. IsKeysFault s n b.unsuited fault) (ap (λ l. length l + 1) same.0) (subst (λ k. IsKeysFault s (length a.before + 1) k fault) same.1 a.is)) b.is
 
-no_keys_fault : (s : Day) (keys : List Keys) (fault : FormFault) → All (Suits s) keys → ¬ (IsFirstKeysFault s keys fault)
+pub no_keys_fault : (s : Day) (keys : List Keys) (fault : FormFault) → All (Suits s) keys → ¬ (IsFirstKeysFault s keys fault)
 no_keys_fault s keys fault all is =
     none_first (Suits s) (IsUnsuited s) (suits_or_not s) is.before is.unsuited is.others (subst (All (Suits s)) is.joined all) (length is.before + 1, fault, is.is)
 

@@ -18,7 +18,7 @@ use Rattle.kd_form.specs.SendStream.{CanBeWritten}
 use Rattle.kd_form.specs.SendSteps.{AreTaken}
 use Rattle.kd_form.proofs.Groups.{pieces-next, pieces-none}
 
-size_some : (s : Day) → 0 < part_size s
+pub size_some : (s : Day) → 0 < part_size s
 size_some (OfRotors s) = omega arith
 size_some (OfPins s) = omega arith
 

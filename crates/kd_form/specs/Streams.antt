@@ -4,6 +4,9 @@ use Rattle.std.specs.Io.{StartsWith}
 use Rattle.std.specs.Io.KnownBytes.{Appends, Consumes, IsAtEnd}
 use Rattle.kd_tables.specs.declared.limit.TheConstants.{READ_LIMIT}
 use Rattle.kd_tables.specs.Ports.{Port, IsWell, FailsAlone}
+use Rattle.kd_state.specs.declared.parts.Parts.{Parts}
+use Rattle.kd_state.specs.SheetDay.{Day}
+use Rattle.kd_form.specs.OnTheKey.{IsOnKey, IsKeyFault}
 use Rattle.kd_form.specs.declared.fault.FormFault.{FormFault}
 use Rattle.kd_form.specs.declared.fault.FormFault.TheVariants.{Device, ReadTooLong}
 
@@ -72,3 +75,9 @@ pub record IsStreamed (m : Message) (source sink : Port) (answer : Result (Unit 
 abbrev pub is_device : Result (Unit {0}) FormFault → Bool
 is_device (Err Device) = true
 is_device _ = false
+
+-- A machine that isn't ready and on the key is refused for that, and then nothing is read or written. With one that is, the
+-- message is read and written.
+pub data StreamsOnKey (m : Parts) (s : Day) (kind : Message) (source sink : Port) (answer : Result (Unit {0}) FormFault) : Type 0 where
+  OffKey : (fault : FormFault) → IsKeyFault m s fault → answer ≡ Err fault → StreamsOnKey m s kind source sink answer
+  WithKey : IsOnKey m s → IsStreamed kind source sink answer → StreamsOnKey m s kind source sink answer

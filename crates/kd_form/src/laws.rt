@@ -6,7 +6,8 @@ ghost use Rattle.kd_form.specs.Laws.{OrdersGiveLetters, FormsGiveTheirOrders};
 
 use super::form_part::split_part;
 use super::reading::read_part;
-use super::sending::read_order;
+use super::order_reader::OrderReader;
+use super::stream::whole::judge;
 use kd_state::SheetDay;
 use kd_state::laws::{
     numbers_and_letters_are_words, texts_tell_first_parts, the_day_deciphers_itself,
@@ -25,8 +26,8 @@ pub fn orders_have_one_answer()
 pub fn orders_have_an_answer(day: &SheetDay, order: &[u8])
     ensures { OrderIsAnswered day.now order.now }
 {
-    match read_order(day, order) {
-        Ok(_) => {}
+    match judge::<OrderReader>(day, order) {
+        Ok(()) => {}
         Err(_) => {}
     }
 }

@@ -26,4 +26,4 @@ mod text;
 
 pub use fault::FormFault;
 pub use receiving::receive;
-pub use sending::send;
+pub use sending::{send, send_stream};
