@@ -34,3 +34,4 @@ pub mod Streaming
 pub mod OrderHeads
 pub mod OrderParts
 pub mod OrderRead
+pub mod Failing

@@ -274,3 +274,24 @@ text_gap s keys w order sent made byte text allowed is none =
     (subst (λ o. AreTaken s keys w (text_letters s text.text ++ option_to_list o) (sent ++ made)) (sym is)
     (subst (λ ls. AreTaken s keys w ls (sent ++ made)) (sym (append-nil (text_letters s text.text)))
     (subst (AreTaken s keys w (text_letters s text.text)) (sym (ap (λ m. sent ++ m) none ∙ append-nil sent)) text.taken)))
+
+-- ---- what stands
+
+bad_longer : (text more : List ℕ) (place : ℕ) → IsBadAt text place → IsBadAt (text ++ more) place
+bad_longer text more place bad = record {
+  before = bad.before;
+  byte = bad.byte;
+  rest = bad.rest ++ more;
+  joined = ap (λ t. t ++ more) bad.joined ∙ append_assoc bad.before (bad.byte ∷ bad.rest) more;
+  size = bad.size;
+  allowed = bad.allowed;
+  bad = bad.bad;
+}
+
+is_longer : (s : Day) (order more : List ℕ) (keys : List Keys) (head text : List ℕ) → IsOrder s order keys head text → IsOrder s (order ++ more) keys head (text ++ more)
+is_longer s order more keys head text is = record { joined = ap (λ o. o ++ more) is.joined ∙ append_assoc head text more; is_head = is.is_head }
+
+pub stands_longer : (s : Day) (order more : List ℕ) (fault : FormFault) → StandsInOrder s order fault → StandsInOrder s (order ++ more) fault
+stands_longer s order more fault (InHead p h few e) = InHead p (fault_longer s order more p h few) (omega (arith, few, length-append order more)) e
+stands_longer s order more fault (InKeys ks hd t o k) = InKeys ks hd (t ++ more) (is_longer s order more ks hd t o) k
+stands_longer s order more fault (InText ks hd t n o su b e) = InText ks hd (t ++ more) n (is_longer s order more ks hd t o) su (bad_longer t more n b) e

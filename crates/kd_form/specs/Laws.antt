@@ -1,8 +1,8 @@
 -- What holds of orders and forms.
-use Rattle.std.specs.Prelude.{◌≡◌, ◌⊎◌, ℕ, List}
+use Rattle.std.specs.Prelude.{◌≡◌, ◌⊎◌, ℕ, List, ◌++◌}
 use Rattle.kd_state.specs.SheetDay.{Day, IsLegalDay}
 use Rattle.kd_form.specs.declared.fault.FormFault.{FormFault}
-use Rattle.kd_form.specs.Sending.{IsFormOf, HasForm, IsSendFault}
+use Rattle.kd_form.specs.Sending.{IsFormOf, HasForm, StandsInOrder, IsSendFault}
 use Rattle.kd_form.specs.FormText.{IsTextOf, IsReceiveFault, IsGivenOf}
 
 -- an order becomes one form at most
@@ -20,6 +20,11 @@ OrdersHaveOneFault = (s : Day) (order : List ℕ) (fault other : FormFault) → 
 -- and each order has an answer
 abbrev pub OrderIsAnswered : Day → List ℕ → Type 0
 OrderIsAnswered s order = HasForm s order ⊎ ((fault : FormFault) × IsSendFault s order fault)
+
+-- what stands in an order is its fault whatever follows it
+abbrev pub StandingOrdersAreRefused : Type 0
+StandingOrdersAreRefused =
+    (s : Day) (order more : List ℕ) (fault : FormFault) → StandsInOrder s order fault → IsSendFault s (order ++ more) fault
 
 -- a form becomes one text at most
 abbrev pub FormsBecomeOneText : Type 0

@@ -1,6 +1,7 @@
 //! What holds of orders and forms.
 ghost use Rattle.kd_form.specs.Laws.{OrderIsAnswered, FormIsAnswered};
 ghost use Rattle.kd_form.specs.Laws.{OrdersBecomeOneForm, OrdersHaveOneFault, SentOrdersHaveNoFault};
+ghost use Rattle.kd_form.specs.Laws.{StandingOrdersAreRefused};
 ghost use Rattle.kd_form.specs.Laws.{FormsBecomeOneText, FormsHaveOneFault, ReceivedFormsHaveNoFault};
 ghost use Rattle.kd_form.specs.Laws.{OrdersGiveLetters, FormsGiveTheirOrders};
 
@@ -30,6 +31,12 @@ pub fn orders_have_an_answer(day: &SheetDay, order: &[u8])
         Ok(()) => {}
         Err(_) => {}
     }
+}
+
+/// What an order is refused for whatever follows it, it is refused for with any bytes behind it.
+pub fn standing_orders_are_refused()
+    ensures { StandingOrdersAreRefused }
+{
 }
 
 /// A form becomes one text, or has one fault, and never both.
