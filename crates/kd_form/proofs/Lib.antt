@@ -8,7 +8,6 @@ pub mod Heads
 pub mod SortedAlike
 pub mod SuitedKeys
 pub mod TextLetters
-pub mod Sent
 pub mod PartLetters
 pub mod MadeParts
 pub mod GivenBack

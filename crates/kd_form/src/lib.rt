@@ -12,7 +12,6 @@ mod key_line;
 mod keys;
 pub mod laws;
 mod making;
-mod order;
 mod order_reader;
 mod pattern_line;
 mod reading;

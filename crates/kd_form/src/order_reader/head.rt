@@ -1,11 +1,10 @@
 //! The lines of an order up to its text, byte by byte.
-ghost use Rattle.std.specs.Prelude.{◌≡◌, ◌==◌, List, ℕ, [], ◌∷◌, ◌++◌, length, if◌then◌else◌};
+ghost use Rattle.std.specs.Prelude.{◌≡◌, ◌==◌, ◌↔◌, IsTrue, slice_index, List, ℕ, [], ◌∷◌, ◌++◌, length, if◌then◌else◌};
 ghost use Rattle.kd_form.specs.declared.order_reader.head.HeadStep.TheVariants.{Open, Bad};
 ghost use Rattle.kd_form.specs.SendSteps.{IsHeadRead, HeadIsRead};
 
 use crate::key_line::{key_lines_are_short, read_keys};
 use crate::keys::Keys;
-use crate::order::is_key_line;
 use crate::pattern_line::read_pattern;
 use arrayvec::ArrayVec;
 use kd_state::SheetDay;
@@ -77,6 +76,16 @@ impl HeadReader {
                 Err(place) => step_at(line, place),
             }
         }
+    }
+}
+
+/// Whether the bytes can only begin with a line of keys, by the first one.
+fn is_key_line(bytes: &[u8]) -> bool
+    ensures { IsTrue result ↔ (slice_index bytes.now 0 ≡ 80) }
+{
+    match bytes {
+        [b'P', ..] => true,
+        _ => false,
     }
 }
 
