@@ -13,3 +13,4 @@ pub mod Receiving
 pub mod FormText
 pub mod Laws
 pub mod KeyPatterns
+pub mod FormReading

@@ -18,6 +18,10 @@ pub record HasHeading (s : Day) (part : List ℕ) (h : Heading) (body : List ℕ
   pub ended : IsEnded (line_of (heading_words h)) line ⊎ ((line ≡ line_of (heading_words h)) × (body ≡ []))
   pub is_heading : IsHeading s h
 
+-- a body has as many letters as its heading says, and they become this text
+abbrev pub IsBodyText : Day → Heading → List ℕ → List ℕ → Type 0
+IsBodyText s h letters text = (length letters ≡ h.letters) × IsLettersText s h.indicator letters text
+
 -- the part is the one of that number, of so many, its body has as many letters as the heading says, and they become this text
 pub record IsPartRead (s : Day) (number parts : ℕ) (part text : List ℕ) : Type 0 where
   pub heading : Heading

@@ -1,12 +1,12 @@
 //! The line of a heading, read.
-ghost use Rattle.std.specs.Prelude.{◌≡◌, ◌≢◌, ◌⊎◌, ◌↔◌, ℕ, ◌^◌, ◌<◌, List, codes, decimal, map, IsTrue, MatchOption};
+ghost use Rattle.std.specs.Prelude.{◌≡◌, ◌≢◌, ◌⊎◌, ◌↔◌, ℕ, ◌^◌, ◌<◌, List, [], ◌∷◌, ◌++◌, codes, decimal, map, IsTrue, MatchOption};
 ghost use Rattle.kd_state.specs.Machine.{AreLetters};
 ghost use Rattle.kd_state.specs.Words.{line_of};
 ghost use Rattle.kd_form.specs.Keys.{letters_text};
 ghost use Rattle.kd_form.specs.Part.{fraction, indicator_words, heading_words};
-ghost use Rattle.kd_form.specs.FormParts.{IsFraction, AreFewLetters, IsLetterCount, IsHeading, AreHeadingWords, IsFirstLine};
+ghost use Rattle.kd_form.specs.Order.{IsEnded};
+ghost use Rattle.kd_form.specs.FormParts.{IsFraction, AreFewLetters, IsLetterCount, IsHeading, AreHeadingWords};
 ghost use Rattle.kd_form.specs.Reading.{HasIndicator};
-ghost use Rattle.kd_form.specs.Receiving.{HasHeading};
 
 use super::cipher::are_letters;
 use super::heading::{Heading, Indicator};
@@ -152,7 +152,7 @@ fn is_part(word: &[u8]) -> bool
 }
 
 /// The heading of the line, if a part of the day can have it.
-fn heading_of_line(day: &SheetDay, line: &[u8]) -> Option<Heading>
+pub(crate) fn heading_of_line(day: &SheetDay, line: &[u8]) -> Option<Heading>
     ensures { MatchOption result
         ((h : _) → IsHeading day.now h → line_of (heading_words h) ≢ line.now)
         (λ h. IsHeading day.now h × (line_of (heading_words h) ≡ line.now)) }
@@ -164,27 +164,14 @@ fn heading_of_line(day: &SheetDay, line: &[u8]) -> Option<Heading>
     heading_of_words(day, words.as_slice())
 }
 
-/// The heading of the part, and its body.
-pub(crate) fn read_heading<'a>(day: &SheetDay, part: &'a [u8]) -> Option<(Heading, &'a [u8])>
+/// The heading in a line that ends with LF, or with CR and LF: its LF is cut off.
+pub(crate) fn heading_of_ended(day: &SheetDay, line: &[u8]) -> Option<Heading>
     ensures { MatchOption result
-        ((h : _) (body : List ℕ) → ¬ HasHeading day.now part.now h body)
-        (λ found. HasHeading day.now part.now found.0 found.1.now) }
+        ((h : Heading) (ended : List ℕ) → IsHeading day.now h → IsEnded (line_of (heading_words h)) ended → ended ≢ line.now ++ 10 ∷ [])
+        (λ h. IsHeading day.now h × IsEnded (line_of (heading_words h)) (line.now ++ 10 ∷ [])) }
 {
-    texts_tell_first_parts();
-    let (line, body) = split_line(part);
-    let heading = heading_of_line(day, line)?;
-    Some((heading, body))
-}
-
-/// The first line without its end, and what follows it. The last line may lack its end.
-fn split_line(part: &[u8]) -> (&[u8], &[u8])
-    ensures { IsFirstLine part.now result.0.now result.1.now }
-{
-    match split_once(part, b'\n') {
-        Some((line, body)) => match line {
-            [text @ .., b'\r'] => (text, body),
-            _ => (line, body),
-        },
-        None => part.split_at(part.len()),
+    match line {
+        [text @ .., b'\r'] => heading_of_line(day, text),
+        _ => heading_of_line(day, line),
     }
 }

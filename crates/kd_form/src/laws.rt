@@ -4,8 +4,7 @@ ghost use Rattle.kd_form.specs.Laws.{OrdersBecomeOneForm, OrdersHaveOneFault, Se
 ghost use Rattle.kd_form.specs.Laws.{FormsBecomeOneText, FormsHaveOneFault, ReceivedFormsHaveNoFault};
 ghost use Rattle.kd_form.specs.Laws.{OrdersGiveLetters, FormsGiveTheirOrders};
 
-use super::form_part::split_part;
-use super::reading::read_part;
+use super::form_reader::FormReader;
 use super::sending::read_order;
 use kd_state::SheetDay;
 use kd_state::laws::{
@@ -45,22 +44,13 @@ pub fn forms_have_one_answer()
 pub fn forms_have_an_answer(day: &SheetDay, form: &[u8])
     ensures { FormIsAnswered day.now form.now }
 {
-    let mut expected = None;
-    let mut number = 1;
-    let mut rest = form;
-    loop {
-        let (part, after) = split_part(rest);
-        let read = match read_part(day, number, &expected, form.len() - rest.len(), part) {
-            Ok(read) => read,
-            Err(_) => return,
-        };
-        if after.is_empty() {
+    let mut reader = FormReader::new();
+    for (place, byte) in form.iter().enumerate() {
+        if reader.feed(day, place + 1, *byte).is_err() {
             return;
         }
-        expected = Some(read.parts);
-        number += 1;
-        rest = after;
     }
+    let _answer = reader.end(day);
 }
 
 /// An order that becomes a form gives letters, and its form becomes these: on the Converter M-209 with the X that fill the last

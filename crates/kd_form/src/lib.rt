@@ -4,7 +4,8 @@
 mod body;
 mod cipher;
 mod fault;
-mod form_part;
+mod form_reader;
+mod given;
 mod heading;
 mod heading_line;
 mod internal_key;
@@ -13,6 +14,7 @@ mod keys;
 pub mod laws;
 mod making;
 mod order;
+mod part_body;
 mod pattern_line;
 mod reading;
 mod receiving;

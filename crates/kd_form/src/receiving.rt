@@ -1,16 +1,12 @@
 //! The text that a form becomes.
-ghost use Rattle.std.specs.Prelude.{◌≡◌, ◌≤◌, length, MatchResult};
-ghost use Rattle.kd_form.specs.FormText.{given_byte, given_letters, IsFirstPartRead, IsTextOf, IsReceiveFault};
+ghost use Rattle.std.specs.Prelude.{MatchResult};
+ghost use Rattle.kd_form.specs.FormText.{IsFirstPartRead, IsTextOf, IsReceiveFault};
 ghost use Rattle.kd_form.specs.OnTheKey.{IsRefusal, AnswersOnKey};
 
 use super::fault::FormFault;
-use super::form_part::split_part;
-use super::reading::read_part;
+use super::form_reader::FormReader;
 use super::sending::check_machine;
-use super::text::blank_of;
-use arrayvec::ArrayVec;
 use kd_state::{Machine, SheetDay};
-use kd_tables::Letter;
 use std::alloc::Global;
 
 /// The text that the form becomes on a machine that is on the day's key: capital letters, on the Converter M-209 with a space
@@ -40,52 +36,13 @@ fn read_form_text(alloc: Global, day: &SheetDay, form: &[u8]) -> Result<Vec<u8>,
         (IsRefusal (IsReceiveFault day.now form.now) (IsFirstPartRead day.now form.now)) }
 {
     let mut text = Vec::new(alloc);
-    let mut expected = None;
-    let mut number = 1;
-    let mut rest = form;
-    loop {
-        let (part, after) = split_part(rest);
-        let read = match read_part(day, number, &expected, form.len() - rest.len(), part) {
-            Ok(read) => read,
-            Err(fault) => return Err(fault),
-        };
-        let given = given_letters(day, read.letters.as_slice());
-        if text.extend_from_slice(given.as_slice()).is_err() {
-            return Err(FormFault::NoMemory);
-        }
-        if after.is_empty() {
-            if read.parts != number {
-                return Err(FormFault::PartOrder);
-            }
-            break;
-        }
-        expected = Some(read.parts);
-        number += 1;
-        rest = after;
+    let mut reader = FormReader::new();
+    for (place, byte) in form.iter().enumerate() {
+        let made = reader.feed(day, place + 1, *byte)?;
+        text.extend_from_slice(made.as_slice())?;
     }
-    text.extend_from_slice(b"\n")?;
+    let (made, answer) = reader.end(day);
+    answer?;
+    text.extend_from_slice(made.as_slice())?;
     Ok(text)
-}
-
-/// The letters as they are given: on the Converter M-209 a space for each Z.
-fn given_letters(day: &SheetDay, letters: &[Letter]) -> ArrayVec<u8, 500>
-    requires { length letters.now ≤ 500 }
-    ensures { result.items ≡ given_letters day.now letters.now }
-{
-    let blank = blank_of(day);
-    let mut given = ArrayVec::new();
-    for letter in letters {
-        given.push(given_byte(&blank, *letter));
-    }
-    given
-}
-
-/// The byte that is given for a letter, where a space may stand for one.
-fn given_byte(blank: &Option<Letter>, letter: Letter) -> u8
-    ensures { result ≡ given_byte blank.now letter }
-{
-    match blank {
-        Some(blank) if *blank == letter => b' ',
-        _ => letter.byte(),
-    }
 }

@@ -1,0 +1,109 @@
+//! The body of a part of a form, as it comes.
+ghost use Rattle.std.specs.Prelude.{codes, ◌≡◌, ◌↔◌, ◌≤◌, ℕ, List, [], ◌∷◌, ◌++◌, length, take, IsTrue, MatchResult, None, Some};
+ghost use Rattle.std.specs.Option.{option_to_list};
+ghost use Rattle.kd_state.specs.Words.{line_of};
+ghost use Rattle.kd_form.specs.Order.{IsEnded};
+ghost use Rattle.kd_form.specs.Part.{heading_words};
+ghost use Rattle.kd_form.specs.Sending.{is_text_byte, letters_from};
+ghost use Rattle.kd_form.specs.FormParts.{IsHeading};
+ghost use Rattle.kd_form.specs.Receiving.{IsBodyText, IsBodyFault};
+ghost use Rattle.kd_form.specs.FormReading.{line_with, Begins, HoldsBody};
+
+use super::fault::FormFault;
+use super::heading::Heading;
+use super::reading::read_body;
+use arrayvec::ArrayVec;
+use kd_state::SheetDay;
+use kd_tables::Letter;
+
+/// One letter more than a body has at most, so that a longer one is told from it, and the four of `PART`, which may yet begin
+/// the next heading.
+const KEPT: usize = 525;
+
+/// The body of a part of a form, as far as it has come.
+#[derive(Drop)]
+pub(crate) struct PartBody {
+    /// What the part's heading says.
+    pub(crate) heading: Heading,
+    /// Its first letters.
+    pub(crate) letters: ArrayVec<Letter, KEPT>,
+    /// How many bytes of `PART ` its last line has, if it has no others.
+    pub(crate) begun: Option<usize>,
+}
+
+impl PartBody {
+    /// The body behind that heading, of which nothing has come.
+    pub(crate) fn new(heading: Heading) -> PartBody
+        ensures heading { result.heading ≡ heading }
+        ensures letters { result.letters.items ≡ [] }
+        ensures begun { result.begun ≡ Some 0 }
+    {
+        PartBody {
+            heading,
+            letters: ArrayVec::new(),
+            begun: Some(0),
+        }
+    }
+
+    /// Whether the byte is the first digit of the next heading.
+    pub(crate) fn ends_before(&self, byte: u8) -> bool
+        ensures { IsTrue result ↔ ((self.now.begun ≡ Some 5) × (48 ≤ byte) × (byte ≤ 57)) }
+    {
+        self.begun == Some(5) && byte.is_ascii_digit()
+    }
+
+    /// Takes a byte that may stand in a body.
+    pub(crate) fn push(&mut self, day: &SheetDay, byte: u8)
+        requires { IsTrue (is_text_byte byte) }
+        ensures { (part body : List ℕ) → HoldsBody day.now self.old part body
+            → HoldsBody day.now self.new (part ++ byte ∷ []) (body ++ byte ∷ []) }
+    {
+        let _day = day;
+        keep(&mut self.letters, Letter::from_byte(byte));
+        self.begun = next_begun(self.begun, byte);
+    }
+
+    /// The letters of the part's text. The last ones of the body, so many, are left out: those of the next heading.
+    pub(crate) fn read(
+        &self,
+        day: &SheetDay,
+        others: usize,
+    ) -> Result<ArrayVec<Letter, 500>, FormFault>
+        requires heading { IsHeading day.now self.now.heading }
+        requires some { others ≤ length self.now.letters.items }
+        requires few { others ≤ 4 }
+        ensures { (letters more : List ℕ) → length more ≡ others → self.now.letters.items ≡ take 525 (letters ++ more)
+            → MatchResult result
+                (λ text. IsBodyText day.now self.now.heading letters text.items)
+                (IsBodyFault day.now self.now.heading.part self.now.heading letters) }
+    {
+        let letters = self.letters.as_slice();
+        let (letters, _) = letters.split_at(letters.len() - others);
+        read_body(day, &self.heading, letters)
+    }
+}
+
+/// Appends the letter, if there is one and room for it.
+fn keep(letters: &mut ArrayVec<Letter, KEPT>, letter: Option<Letter>)
+    ensures { letters.new.items ≡ take 525 (letters.old.items ++ option_to_list letter) }
+{
+    if let Some(letter) = letter {
+        if !letters.is_full() {
+            letters.push(letter);
+        }
+    }
+}
+
+/// How many bytes of `PART ` a line has behind that byte, if it has no others.
+fn next_begun(begun: Option<usize>, byte: u8) -> Option<usize>
+    ensures { (line : List ℕ) → Begins line begun → Begins (line_with line byte) result }
+{
+    if byte == b'\n' {
+        return Some(0);
+    }
+    let count = begun?;
+    match b"PART ".get(count) {
+        Some(due) if *due == byte => Some(count + 1),
+        _ => None,
+    }
+}
