@@ -11,7 +11,7 @@ use Rattle.kd_card.specs.Carrying.{IsFirstIllegal}
 use Rattle.kd_sheet.specs.MachineText.{machine_text}
 use Rattle.kd_desk.specs.declared.fault.DeskFault.{DeskFault}
 use Rattle.kd_desk.specs.declared.fault.DeskFault.TheVariants as faults
-use Rattle.kd_desk.specs.Ports.{Port}
+use Rattle.kd_tables.specs.Ports.{Port}
 use Rattle.kd_desk.specs.RunApply.{Applies, NoSettings, RefusedLine, Carried}
 use Rattle.kd_desk.specs.Settings.{begins_as_card, AreSettings, OfList, IsSettingsFault, InList}
 use Rattle.kd_desk.proofs.Failing.{answered}

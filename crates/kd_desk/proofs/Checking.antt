@@ -16,7 +16,7 @@ use Rattle.kd_prices.specs.declared.doubt.Doubt.{Doubt}
 use Rattle.kd_prices.specs.Doubt.{IsDoubt}
 use Rattle.kd_desk.specs.declared.fault.DeskFault.{DeskFault}
 use Rattle.kd_desk.specs.declared.fault.DeskFault.TheVariants as faults
-use Rattle.kd_desk.specs.Ports.{Port}
+use Rattle.kd_tables.specs.Ports.{Port}
 use Rattle.kd_desk.specs.RunCheck.{Checks, NoCard, Doubtful, Shortest, verdict_text}
 use Rattle.kd_desk.proofs.Failing.{answered}
 

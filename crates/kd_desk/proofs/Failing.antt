@@ -1,6 +1,6 @@
 -- What a failed call leaves of its ports.
 use Rattle.std.proofs.Common.{◌≡◌, ℕ, Bool, true, false, ◌||◌, List, Option, Result, Ok, Err, IsErrAnd, IsTrue, sym, subst}
-use Rattle.kd_desk.specs.Ports.{Port}
+use Rattle.kd_tables.specs.Ports.{Port}
 
 -- what is known of a port, in its order
 abbrev pub over : Option (List ℕ) → Option (List ℕ) → Bool → Bool → Port

@@ -8,7 +8,8 @@ use Rattle.kd_form.specs.OnTheKey as form
 use Rattle.kd_desk.specs.declared.fault.DeskFault.{DeskFault}
 use Rattle.kd_desk.specs.declared.fault.DeskFault.TheVariants.{Message}
 use Rattle.kd_desk.specs.Messages.{Passes, LackedMemory, OffKey, Refused, Passed}
-use Rattle.kd_desk.specs.Ports.{Port, WritesText}
+use Rattle.kd_tables.specs.Ports.{Port}
+use Rattle.kd_desk.specs.Ports.{WritesText}
 
 module _ (m : Parts) (s : Day) (is_due : List ℕ → Type 0) (is_fault : FormFault → Type 0) (takes_memory : Type 0) (sink : Port) (answer : Result (Unit {0}) DeskFault)
     {T : Type 0} (items : T → List ℕ) where

@@ -13,7 +13,7 @@ use Rattle.kd_plan.specs.Planned.{Plans}
 use Rattle.kd_desk.specs.declared.fault.DeskFault.{DeskFault}
 use Rattle.kd_desk.specs.declared.fault.DeskFault.TheVariants as faults
 use Rattle.kd_desk.specs.Headline as headline
-use Rattle.kd_desk.specs.Ports.{Port}
+use Rattle.kd_tables.specs.Ports.{Port}
 use Rattle.kd_desk.specs.RunCard.{Prints, Card}
 use Rattle.kd_desk.proofs.Failing.{answered}
 

@@ -19,7 +19,7 @@ use Rattle.kd_desk.specs.CommandLine.{desk_grammar, files_of, IsOf, Says}
 use Rattle.kd_desk.specs.Desk.{command_over, AskFor, Does, DoesTask, CarriesOut, has_read}
 use Rattle.kd_desk.specs.OnDay.{OnDay}
 use Rattle.kd_desk.specs.Files.{Gives}
-use Rattle.kd_desk.specs.Ports.{Port}
+use Rattle.kd_tables.specs.Ports.{Port}
 use Rattle.kd_desk.proofs.SaidCommands.{same_command}
 
 -- what is known of files

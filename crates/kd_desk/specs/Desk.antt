@@ -19,7 +19,7 @@ use Rattle.kd_desk.specs.declared.files.fault.FileFault.TheVariants as files
 use Rattle.kd_desk.specs.declared.stop.Stop.{Stop}
 use Rattle.kd_desk.specs.declared.stop.Stop.TheVariants.{Usage, Unread, Refused}
 use Rattle.kd_desk.specs.Files.{content_of}
-use Rattle.kd_desk.specs.Ports.{Port, IsWell}
+use Rattle.kd_tables.specs.Ports.{Port, IsWell}
 use Rattle.kd_desk.specs.Messages.{Sends, Receives}
 use Rattle.kd_desk.specs.OnDay.{OnDay}
 use Rattle.kd_desk.specs.RunApply.{Applies}

@@ -9,7 +9,8 @@ use Rattle.kd_form.specs.OnTheKey.{IsOnKey, IsKeyFault}
 use Rattle.kd_form.specs.Sending.{IsFormOf, IsSendFault, HasForm}
 use Rattle.kd_desk.specs.declared.fault.DeskFault.{DeskFault}
 use Rattle.kd_desk.specs.declared.fault.DeskFault.TheVariants.{Message}
-use Rattle.kd_desk.specs.Ports.{Port, WritesText}
+use Rattle.kd_tables.specs.Ports.{Port}
+use Rattle.kd_desk.specs.Ports.{WritesText}
 
 -- What becomes of a message, for which such texts are due, and which has such faults: the machine isn't ready, or isn't
 -- on the day's key; or it is on the key, and memory ran out where the message takes some, or the message is refused, or a

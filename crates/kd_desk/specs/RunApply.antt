@@ -8,7 +8,8 @@ use Rattle.kd_card.specs.Carrying.{IsFirstIllegal}
 use Rattle.kd_sheet.specs.MachineText.{machine_text}
 use Rattle.kd_desk.specs.declared.fault.DeskFault.{DeskFault}
 use Rattle.kd_desk.specs.declared.fault.DeskFault.TheVariants.{Illegal}
-use Rattle.kd_desk.specs.Ports.{Port, WritesText}
+use Rattle.kd_tables.specs.Ports.{Port}
+use Rattle.kd_desk.specs.Ports.{WritesText}
 use Rattle.kd_desk.specs.Settings.{AreSettings, IsSettingsFault}
 
 -- What becomes of a machine and of bytes that say settings: they say none, for their fault; or the first line that the machine

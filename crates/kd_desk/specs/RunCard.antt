@@ -10,7 +10,8 @@ use Rattle.kd_plan.specs.Planned.{Plans}
 use Rattle.kd_desk.specs.declared.fault.DeskFault.{DeskFault}
 use Rattle.kd_desk.specs.declared.fault.DeskFault.TheVariants.{OtherModel}
 use Rattle.kd_desk.specs.Headline.{LeavesTheSheetsMachine, EquallySetDecipher}
-use Rattle.kd_desk.specs.Ports.{Port, WritesText}
+use Rattle.kd_tables.specs.Ports.{Port}
+use Rattle.kd_desk.specs.Ports.{WritesText}
 
 -- The text of a card for the day of that number was written, or a prefix of it where the device failed. The card is a planned one; its prices prove it,
 -- and no settings whatever that reach the day are fewer. Its settings, carried out, leave a machine that is ready and

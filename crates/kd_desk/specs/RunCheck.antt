@@ -12,7 +12,8 @@ use Rattle.kd_prices.specs.declared.doubt.Doubt.{Doubt}
 use Rattle.kd_prices.specs.Doubt.{IsDoubt}
 use Rattle.kd_desk.specs.declared.fault.DeskFault.{DeskFault}
 use Rattle.kd_desk.specs.declared.fault.DeskFault.TheVariants as faults
-use Rattle.kd_desk.specs.Ports.{Port, WritesText}
+use Rattle.kd_tables.specs.Ports.{Port}
+use Rattle.kd_desk.specs.Ports.{WritesText}
 
 -- the line that tells of a card that it is shortest, with the number of its settings
 abbrev pub verdict_text : ℕ → List ℕ

@@ -1,9 +1,9 @@
 -- What the steps do in which a text is typed. The contract of the whole does not speak of them.
-use Rattle.std.specs.Prelude.{◌≡◌, ◌⊎◌, ℕ, ◌+◌, ◌<◌, ◌≤◌, Bool, true, false, List, length, take, [], ◌∷◌, Option, Result, Ok, Err}
+use Rattle.std.specs.Prelude.{◌≡◌, ◌⊎◌, ℕ, ◌+◌, ◌<◌, ◌≤◌, List, length, take, [], Result, Ok, Err}
 use Rattle.std.specs.Io.KnownBytes.{Appends, Consumes, IsAtEnd}
 use Rattle.kd_state.specs.TwoCiphers.{EngineKey}
 use Rattle.kd_tables.specs.declared.writing.Device.{Device}
-use Rattle.kd_desk.specs.Ports.{Port, FailsAlone}
+use Rattle.kd_tables.specs.Ports.{Port, FailsAlone}
 use Rattle.kd_desk.specs.Typing.{AreAllowedBytes, IsFirstRefused, Lights, TypesPart, cipher_text}
 use Rattle.kd_desk.specs.declared.typing.step.Step.{Step}
 use Rattle.kd_desk.specs.declared.typing.step.Step.TheVariants.{Ended, Typed, Refused}
@@ -26,9 +26,3 @@ pub record StepTyped (key left : EngineKey) (room : ℕ) (source sink : Port) (a
   pub written : Appends sink.had sink.has text
   pub types : StepTypes key left source sink read text answer
   pub ended : answer ≡ Ok Ended → IsAtEnd source.has
-
--- Whether a source gave no byte more: it was at its end, or gave one, or failed.
-abbrev pub Ends : Option (List ℕ) → Option (List ℕ) → Result Bool Device → Type 0
-Ends had has (Ok true) = Consumes had has [] × IsAtEnd has
-Ends had has (Ok false) = (byte : ℕ) × Consumes had has (byte ∷ [])
-Ends had has (Err _) = Consumes had has []

@@ -6,7 +6,7 @@ ghost use Rattle.kd_desk.specs.Desk.{command_over, action_over, task_over, AskFo
 ghost use Rattle.kd_desk.specs.Desk.{StopsForMemory, has_read, is_stopped_before, is_stopped_by_port};
 ghost use Rattle.kd_desk.specs.Files.{Gives};
 ghost use Rattle.kd_desk.specs.OnDay.{OnDay};
-ghost use Rattle.kd_desk.specs.Ports.{Fail, port};
+ghost use Rattle.kd_tables.specs.Ports.{Fail, port};
 ghost use Rattle.kd_desk.specs.RunSteps.{is_device, is_refused_before};
 
 #[cfg(test)]

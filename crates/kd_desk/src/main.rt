@@ -8,7 +8,6 @@ mod fault;
 mod files;
 mod finding;
 mod laws;
-mod limit;
 mod messages;
 mod ports;
 mod run_apply;

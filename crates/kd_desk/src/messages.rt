@@ -1,6 +1,7 @@
 //! What orders and forms have in common.
 ghost use Rattle.std.specs.Prelude.{◌≡◌, ◌||◌, Err, MatchResult, IsTrue};
-ghost use Rattle.kd_desk.specs.Ports.{WritesText, port};
+ghost use Rattle.kd_tables.specs.Ports.{port};
+ghost use Rattle.kd_desk.specs.Ports.{WritesText};
 ghost use Rattle.kd_desk.specs.RunSteps.{is_refused_before, is_device};
 
 use crate::fault::DeskFault;

@@ -1,7 +1,7 @@
 ghost use Rattle.std.specs.Prelude.{◌≡◌, ◌⊎◌, ◌||◌, IfOk, IfErr, IsTrue};
 ghost use Rattle.kd_sheet.specs.MachineFile.{machine_of};
 ghost use Rattle.kd_desk.specs.declared.fault.DeskFault.TheVariants.{File};
-ghost use Rattle.kd_desk.specs.Ports.{port};
+ghost use Rattle.kd_tables.specs.Ports.{port};
 ghost use Rattle.kd_desk.specs.RunApply.{Applies};
 ghost use Rattle.kd_desk.specs.RunSteps.{LacksMemory, AnswersFault, is_device, is_refused_before};
 

@@ -1,7 +1,7 @@
 ghost use Rattle.std.specs.Prelude.{◌≡◌, ◌||◌, IsTrue};
 ghost use Rattle.kd_state.specs.SheetDay.{day_number};
 ghost use Rattle.kd_desk.specs.OnDay.{OnDay};
-ghost use Rattle.kd_desk.specs.Ports.{port};
+ghost use Rattle.kd_tables.specs.Ports.{port};
 ghost use Rattle.kd_desk.specs.RunCard.{Prints};
 ghost use Rattle.kd_desk.specs.RunSteps.{is_refused_before, is_device};
 

@@ -1,7 +1,7 @@
 ghost use Rattle.std.specs.Prelude.{◌≡◌, ◌||◌, is_err, IsTrue};
 ghost use Rattle.kd_tables.specs.Writing.{Writes};
 ghost use Rattle.kd_desk.specs.OnDay.{OnDay};
-ghost use Rattle.kd_desk.specs.Ports.{port};
+ghost use Rattle.kd_tables.specs.Ports.{port};
 ghost use Rattle.kd_desk.specs.RunCheck.{Checks, verdict_text};
 ghost use Rattle.kd_desk.specs.RunSteps.{is_refused_before, is_device};
 

@@ -2,7 +2,7 @@ ghost use Rattle.std.specs.Prelude.{◌≡◌, ◌⊎◌, IfOk, IfErr, IsTrue};
 ghost use Rattle.kd_desk.specs.declared.fault.DeskFault.TheVariants as faults;
 ghost use Rattle.kd_sheet.specs.MachineFile.{machine_of};
 ghost use Rattle.kd_state.specs.TwoCiphers.{IsReady, physical_key};
-ghost use Rattle.kd_desk.specs.Ports.{Fail, port};
+ghost use Rattle.kd_tables.specs.Ports.{Fail, port};
 ghost use Rattle.kd_desk.specs.Typing.{TypesLine};
 ghost use Rattle.kd_desk.specs.RunSteps.{LacksMemory, AnswersFault, is_device, is_refused_before};
 

@@ -1,17 +1,15 @@
 //! Typing a text on a machine.
-ghost use Rattle.std.specs.Prelude.{◌≡◌, ◌||◌, [], ◌∷◌, is_err};
-ghost use Rattle.kd_desk.specs.Ports.{Fail, port};
+ghost use Rattle.std.specs.Prelude.{[], ◌∷◌};
+ghost use Rattle.kd_tables.specs.Ports.{Fail, port};
 ghost use Rattle.kd_desk.specs.Typing.{IsTyped, fails_in_text};
-ghost use Rattle.kd_desk.specs.TypingSteps.{Ends};
 
 mod fault;
 mod piece;
 mod step;
 
-use crate::limit::READ_LIMIT;
 pub use fault::TextFault;
 use kd_state::{Engine, laws};
-use kd_tables::{Device, Sink, Source, put_all};
+use kd_tables::{READ_LIMIT, Sink, Source, is_at_end, put_all};
 use step::{Step, type_next};
 
 /// Types all that the source gives, and ends what it writes with a line feed.
@@ -54,17 +52,4 @@ fn type_text<R: Source, W: Sink>(
         return Ok(());
     }
     Err(TextFault::ReadTooLong)
-}
-
-/// Reads one byte more, and answers whether there was none.
-fn is_at_end<R: Source>(source: &mut R) -> Result<bool, Device>
-    ensures ends { Ends (R.remaining source.old) (R.remaining source.new) result }
-    ensures failed { R.has_failed source.new ≡ (R.has_failed source.old || is_err result) }
-{
-    let mut buffer = [0; 1];
-    match source.get(&mut buffer) {
-        Ok(0) => Ok(true),
-        Ok(_) => Ok(false),
-        Err(_) => Err(Device),
-    }
 }

@@ -14,3 +14,5 @@ pub mod FormText
 pub mod Laws
 pub mod KeyPatterns
 pub mod FormReading
+pub mod Streams
+pub mod StreamSteps

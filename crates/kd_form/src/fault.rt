@@ -7,6 +7,9 @@ pub enum FormFault {
     /// A slot of the machine is empty, or a cable has one letter.
     #[error("4 NotReady")]
     NotReady,
+    /// A read from the source or a write to the sink failed.
+    #[error("6 Device")]
+    Device,
     /// There was no memory for the form, or for the text.
     #[error("26 NoMemory")]
     NoMemory,
@@ -43,6 +46,9 @@ pub enum FormFault {
     /// The parts aren't numbered in order, say different numbers of parts, or one is missing.
     #[error("37 PartOrder")]
     PartOrder,
+    /// The source gives more bytes than are read of it.
+    #[error("38 ReadTooLong")]
+    ReadTooLong,
 }
 
 impl From<AllocError> for FormFault {

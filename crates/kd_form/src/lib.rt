@@ -19,6 +19,7 @@ mod pattern_line;
 mod reading;
 mod receiving;
 mod sending;
+mod stream;
 mod suiting;
 #[cfg(test)]
 mod tests;

@@ -2,9 +2,11 @@
 //! bars of the Converter M-209. Beside it the ports through which text comes and goes.
 #![tactic(auto)]
 
+mod ending;
 mod failed;
 pub mod laws;
 mod letter;
+mod limit;
 mod lug;
 mod memory_sink;
 mod memory_source;
@@ -23,8 +25,10 @@ mod tests;
 mod wheel;
 mod writing;
 
+pub use ending::is_at_end;
 pub use failed::Failed;
 pub use letter::Letter;
+pub use limit::READ_LIMIT;
 pub use lug::Lug;
 pub use memory_sink::MemorySink;
 pub use memory_source::MemorySource;

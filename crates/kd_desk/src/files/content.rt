@@ -2,7 +2,7 @@ ghost use Rattle.std.specs.Prelude.{◌≡◌, Some};
 ghost use Rattle.kd_desk.specs.Files.{content_of};
 
 use super::FileFault;
-use crate::limit::READ_LIMIT;
+use kd_tables::READ_LIMIT;
 use std::marker::Model;
 
 /// The bytes of a file: at most 1,048,576.
@@ -13,13 +13,13 @@ pub struct Content {
 
 impl Model for Content {
     ghost use Rattle.std.specs.Prelude.{ℕ, ◌≤◌, List, length};
-    ghost use Rattle.kd_desk.specs.Typing.{read_limit};
+    ghost use Rattle.kd_tables.specs.declared.limit.TheConstants.{READ_LIMIT};
 
     ghost Value = { List ℕ };
 
     ghost view = { λ content. content.bytes.items };
 
-    ghost invariant = { λ content. length content.bytes.items ≤ read_limit };
+    ghost invariant = { λ content. length content.bytes.items ≤ READ_LIMIT };
 }
 
 impl Content {

@@ -3,7 +3,7 @@ ghost use Rattle.kd_desk.specs.Files.{content_of, HasFailed};
 
 use super::asked::Asked;
 use super::{Content, FileFault, Files};
-use crate::limit::READ_LIMIT;
+use kd_tables::READ_LIMIT;
 use std::alloc::Global;
 use std::fs::File;
 use std::io::Read;

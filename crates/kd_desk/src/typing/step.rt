@@ -1,5 +1,5 @@
 ghost use Rattle.std.specs.Prelude.{◌<◌, ◌≤◌, is_err, length};
-ghost use Rattle.kd_desk.specs.Ports.{Fail, port};
+ghost use Rattle.kd_tables.specs.Ports.{Fail, port};
 ghost use Rattle.kd_desk.specs.TypingSteps.{StepTyped};
 
 use super::piece::{PIECE, allowed_front, type_piece};

@@ -1,6 +1,6 @@
 use Rattle.std.proofs.Common.{map, refl}
 use Rattle.kd_desk.specs.CommandLine.{named}
-use Rattle.kd_desk.specs.Ports.{port}
+use Rattle.kd_tables.specs.Ports.{port}
 use Rattle.kd_desk.specs.declared.stop.Stop.TheVariants.{Refused}
 use Rattle.kd_desk.proofs.Runs.{asked_all, asked_for, asked_yet, said_command, done, unread, err_is}
 use Rattle.kd_desk.proofs.desk.run_desk.Goals as goal

@@ -1,5 +1,5 @@
 use Rattle.kd_sheet.specs.MachineFile.{machine_of}
-use Rattle.kd_desk.specs.Ports.{port}
+use Rattle.kd_tables.specs.Ports.{port}
 use Rattle.kd_desk.specs.RunApply.{Applies}
 use Rattle.kd_desk.specs.RunSteps.{LacksMemory}
 use Rattle.kd_desk.proofs.Applying.{of_read}

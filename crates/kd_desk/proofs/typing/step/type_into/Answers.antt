@@ -1,7 +1,7 @@
 use Rattle.std.proofs.Common.{rules, ap, ◌<◌, length, take, inl, inr, refl, subst, ◌∙◌, [], arith, length-take-le}
 use Rattle.std.specs.Io.{StartsWith}
 use Rattle.std.proofs.KnownBytes.{Consumes-nil, Consumes-kept, Appends-nil}
-use Rattle.kd_desk.specs.Ports.{port}
+use Rattle.kd_tables.specs.Ports.{port}
 use Rattle.kd_desk.proofs.Failing.{failed_now, well_now}
 use Rattle.kd_desk.proofs.Fronts.{TypesFront-take, IsFirstRefused-behind}
 use Rattle.kd_desk.proofs.Texts.{StepTyped-answered}

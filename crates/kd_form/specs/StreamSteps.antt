@@ -1,0 +1,116 @@
+-- What the steps do in which a message is read as it comes. The contracts of the public calls do not speak of them.
+use Rattle.std.specs.Prelude.{◌≡◌, ◌⊎◌, ℕ, ◌+◌, ◌^◌, ◌<◌, ◌≤◌, Bool, true, false, List, [], ◌∷◌, ◌++◌, length, Option, None, Some, Result, Ok, Err, MatchResult}
+use Rattle.std.specs.Io.{StartsWith}
+use Rattle.std.specs.Io.KnownBytes.{Appends, Consumes, IsAtEnd}
+use Rattle.kd_tables.specs.declared.limit.TheConstants.{READ_LIMIT}
+use Rattle.kd_tables.specs.Ports.{Port, IsWell}
+use Rattle.kd_form.specs.declared.fault.FormFault.{FormFault}
+use Rattle.kd_form.specs.declared.fault.FormFault.TheVariants as faults
+use Rattle.kd_form.specs.declared.stream.stop.Stop.{Stop}
+use Rattle.kd_form.specs.declared.stream.stop.Stop.TheVariants.{Device, Refused}
+use Rattle.kd_form.specs.Streams.{Message, IsOpen, IsRefused, Closes, Answers}
+
+-- what a reader holds, and that nothing in the bytes is refused yet
+pub record Held (m : Message) (holds : List ℕ → List ℕ → Type 0) (bytes text : List ℕ) : Type 0 where
+  pub is : holds bytes text
+  pub open_yet : IsOpen m bytes text
+
+-- the reader was fed some bytes, and so many more can still be counted
+pub record IsReading (m : Message) (holds : List ℕ → List ℕ → Type 0) (more : ℕ) : Type 0 where
+  pub bytes : List ℕ
+  pub text : List ℕ
+  pub held : Held m holds bytes text
+  pub few : length bytes + more < 2 ^ 63
+
+-- With one byte more, of which this text was made, the reader holds that byte too; or the bytes are refused with it.
+abbrev pub Feeds : Message → (List ℕ → List ℕ → Type 0) → (List ℕ → List ℕ → Type 0) → ℕ → List ℕ → Result (Unit {0}) FormFault → Type 0
+Feeds m old new byte made answer =
+    (bytes text : List ℕ) → Held m old bytes text
+    → MatchResult answer (λ _. Held m new (bytes ++ byte ∷ []) (text ++ made)) (IsRefused m (bytes ++ byte ∷ []) text)
+
+-- at the end of the message this text was made
+abbrev pub Ends : Message → (List ℕ → List ℕ → Type 0) → List ℕ → Result (Unit {0}) FormFault → Type 0
+Ends m old made answer = (bytes text : List ℕ) → Held m old bytes text → Closes m bytes (text ++ made) answer
+
+-- the fault that is answered
+abbrev pub fault_of : Stop → FormFault
+fault_of Device = faults.Device
+fault_of (Refused fault) = fault
+
+-- whether a device failed
+abbrev pub stops_at_device : {T : Type 0} → Result T Stop → Bool
+stops_at_device (Err Device) = true
+stops_at_device _ = false
+
+-- ---- bytes, one after another
+
+-- a front of the text that was due by then
+pub record IsFrontOf (m : Message) (bytes text : List ℕ) : Type 0 where
+  pub front : List ℕ
+  pub due : List ℕ
+  pub of_bytes : StartsWith bytes front
+  pub open_yet : IsOpen m front due
+  pub of_due : StartsWith due text
+
+-- the reader holds the bytes; or they are refused; or the sink failed
+abbrev pub FedTo : Message → (List ℕ → List ℕ → Type 0) → List ℕ → List ℕ → Result (Unit {0}) Stop → Type 0
+FedTo m new bytes text (Ok _) = Held m new bytes text
+FedTo m new bytes text (Err (Refused fault)) = IsRefused m bytes text fault
+FedTo m new bytes text (Err Device) = IsFrontOf m bytes text
+
+-- the reader was fed further bytes, and what was made of them was written
+pub record IsFed (m : Message) (new : List ℕ → List ℕ → Type 0) (bytes text : List ℕ) (sink : Port) (answer : Result (Unit {0}) Stop) : Type 0 where
+  pub made : List ℕ
+  pub written : Appends sink.had sink.has made
+  pub fed : FedTo m new bytes (text ++ made) answer
+
+abbrev pub FeedsAll : Message → (List ℕ → List ℕ → Type 0) → (List ℕ → List ℕ → Type 0) → List ℕ → Port → Result (Unit {0}) Stop → Type 0
+FeedsAll m old new more sink answer = (bytes text : List ℕ) → Held m old bytes text → IsFed m new (bytes ++ more) text sink answer
+
+-- ---- the end
+
+-- the text was written whole, or a front of it where the sink failed
+abbrev pub EndsIn : Message → List ℕ → List ℕ → Result (Unit {0}) Stop → Type 0
+EndsIn m bytes text (Ok _) = Closes m bytes text (Ok tt)
+EndsIn m bytes text (Err (Refused fault)) = Closes m bytes text (Err fault)
+EndsIn m bytes text (Err Device) = (due : List ℕ) × (answer : Result (Unit {0}) FormFault) × Closes m bytes due answer × StartsWith due text
+
+pub record IsClosed (m : Message) (bytes text : List ℕ) (sink : Port) (answer : Result (Unit {0}) Stop) : Type 0 where
+  pub made : List ℕ
+  pub written : Appends sink.had sink.has made
+  pub ended : EndsIn m bytes (text ++ made) answer
+
+abbrev pub ClosesAt : Message → (List ℕ → List ℕ → Type 0) → Port → Result (Unit {0}) Stop → Type 0
+ClosesAt m old sink answer = (bytes text : List ℕ) → Held m old bytes text → IsClosed m bytes text sink answer
+
+-- ---- a read
+
+-- so many bytes were read and fed, and at the end of the source there are none; or the whole call answers
+abbrev pub ReadTo : Message → (List ℕ → List ℕ → Type 0) → Port → Port → List ℕ → List ℕ → List ℕ → Result ℕ Stop → Type 0
+ReadTo m new source sink bytes more text (Ok count) =
+    (count ≡ length more) × Held m new (bytes ++ more) text × (count ≡ 0 → IsAtEnd source.has) × IsWell source × IsWell sink
+ReadTo m new source sink bytes more text (Err stop) = Answers m source sink (bytes ++ more) text (Err (fault_of stop))
+
+pub record IsRead (m : Message) (new : List ℕ → List ℕ → Type 0) (bytes text : List ℕ) (room : ℕ) (source sink : Port) (answer : Result ℕ Stop) : Type 0 where
+  pub more : List ℕ
+  pub made : List ℕ
+  pub within : length more ≤ room
+  pub given : Consumes source.had source.has more
+  pub written : Appends sink.had sink.has made
+  pub read : ReadTo m new source sink bytes more (text ++ made) answer
+
+abbrev pub ReadsNext : Message → (List ℕ → List ℕ → Type 0) → (List ℕ → List ℕ → Type 0) → ℕ → Port → Port → Result ℕ Stop → Type 0
+ReadsNext m old new room source sink answer =
+    (bytes text : List ℕ) → Held m old bytes text → length bytes + room ≤ READ_LIMIT → IsRead m new bytes text room source sink answer
+
+-- ---- a whole message
+
+-- the message was written; or it is refused; or the sink failed
+abbrev pub WritesWhole : Message → List ℕ → Port → Result (Unit {0}) Stop → Type 0
+WritesWhole m bytes sink (Ok _) = (text : List ℕ) × m.becomes bytes text × Appends sink.had sink.has text
+WritesWhole m bytes sink (Err (Refused fault)) = m.refused bytes fault
+WritesWhole m bytes sink (Err Device) = Unit {0}
+
+-- the message becomes a text
+abbrev pub HasText : Message → List ℕ → Type 0
+HasText m bytes = (text : List ℕ) × m.becomes bytes text

@@ -1,0 +1,74 @@
+-- Orders and forms that are read as they come: what is answered, and what was written by then.
+use Rattle.std.specs.Prelude.{◌≡◌, ◌⊎◌, ℕ, ◌+◌, ◌≤◌, Bool, true, false, List, [], ◌∷◌, ◌++◌, length, Option, None, Some, Result, Ok, Err, MatchResult}
+use Rattle.std.specs.Io.{StartsWith}
+use Rattle.std.specs.Io.KnownBytes.{Appends, Consumes, IsAtEnd}
+use Rattle.kd_tables.specs.declared.limit.TheConstants.{READ_LIMIT}
+use Rattle.kd_tables.specs.Ports.{Port, IsWell, FailsAlone}
+use Rattle.kd_form.specs.declared.fault.FormFault.{FormFault}
+use Rattle.kd_form.specs.declared.fault.FormFault.TheVariants.{Device, ReadTooLong}
+
+-- A kind of message, over its bytes: the refusal that they show whatever follows them; the refusal of the whole message; what it
+-- becomes; and what is written before that refusal, or before more bytes are had, where there is none.
+pub record Message : Type 1 where
+  pub stands : List ℕ → FormFault → Type 0
+  pub refused : List ℕ → FormFault → Type 0
+  pub becomes : List ℕ → List ℕ → Type 0
+  pub before : Option FormFault → List ℕ → List ℕ → Type 0
+
+-- nothing in the bytes is refused yet, and this text is written by then
+pub record IsOpen (m : Message) (bytes text : List ℕ) : Type 0 where
+  pub unrefused : (fault : FormFault) → ¬ (m.stands bytes fault)
+  pub written : m.before None bytes text
+
+-- whatever follows the bytes, this is the refusal, and this text is written before it
+pub record IsRefused (m : Message) (bytes text : List ℕ) (fault : FormFault) : Type 0 where
+  pub stands : (more : List ℕ) → m.stands (bytes ++ more) fault
+  pub refused : (more : List ℕ) → m.refused (bytes ++ more) fault
+  pub written : (more : List ℕ) → m.before (Some fault) (bytes ++ more) text
+
+-- the bytes are the whole message, which becomes this text, or is refused when this text is written
+abbrev pub Closes : Message → List ℕ → List ℕ → Result (Unit {0}) FormFault → Type 0
+Closes m bytes text answer =
+    MatchResult answer (λ _. m.becomes bytes text) (λ fault. m.refused bytes fault × m.before (Some fault) bytes text)
+
+-- ---- the answer
+
+-- What would be written: by the time that a front of what was read had come; or by the end, if the source has ended.
+pub data IsDue (m : Message) (source : Port) (read text : List ℕ) : Type 0 where
+  ByThen : (front : List ℕ) → StartsWith read front → IsOpen m front text → IsDue m source read text
+  ByTheEnd : (answer : Result (Unit {0}) FormFault) → IsAtEnd source.has → Closes m read text answer → IsDue m source read text
+
+-- neither port failed in the call
+abbrev pub AreWell : Port → Port → Type 0
+AreWell source sink = IsWell source × IsWell sink
+
+-- What was read, no further than the limit, and what was written, by the answer: it was the whole message; a refusal stands,
+-- whatever follows; nothing stands, and the whole message is refused; or one byte more came than may; or a device failed, after
+-- all that was due by then where it was the source, and after a front of what was due where it was the sink.
+pub data Answers (m : Message) (source sink : Port) (read text : List ℕ) (answer : Result (Unit {0}) FormFault) : Type 0 where
+  Whole : length read ≤ READ_LIMIT → IsAtEnd source.has → m.becomes read text → AreWell source sink → answer ≡ Ok tt
+      → Answers m source sink read text answer
+  Stands : (fault : FormFault) → length read ≤ READ_LIMIT → m.stands read fault → m.before (Some fault) read text → AreWell source sink
+      → answer ≡ Err fault → Answers m source sink read text answer
+  AtEnd : (fault : FormFault) → length read ≤ READ_LIMIT → IsAtEnd source.has → ((other : FormFault) → ¬ (m.stands read other))
+      → m.refused read fault → m.before (Some fault) read text → AreWell source sink → answer ≡ Err fault
+      → Answers m source sink read text answer
+  TooLong : (front : List ℕ) (byte : ℕ) → read ≡ front ++ byte ∷ [] → length front ≡ READ_LIMIT → IsOpen m front text
+      → AreWell source sink → answer ≡ Err ReadTooLong → Answers m source sink read text answer
+  SourceFails : length read ≤ READ_LIMIT → IsOpen m read text → FailsAlone source sink → answer ≡ Err Device
+      → Answers m source sink read text answer
+  SinkFails : (due : List ℕ) → length read ≤ READ_LIMIT → IsDue m source read due → StartsWith due text → FailsAlone sink source
+      → answer ≡ Err Device → Answers m source sink read text answer
+
+-- The same of the bytes that a source had and has yet to give, and that a sink had taken and has taken.
+pub record IsStreamed (m : Message) (source sink : Port) (answer : Result (Unit {0}) FormFault) : Type 0 where
+  pub read : List ℕ
+  pub text : List ℕ
+  pub given : Consumes source.had source.has read
+  pub written : Appends sink.had sink.has text
+  pub answers : Answers m source sink read text answer
+
+-- whether the answer is that a device failed
+abbrev pub is_device : Result (Unit {0}) FormFault → Bool
+is_device (Err Device) = true
+is_device _ = false

@@ -1,0 +1,107 @@
+//! A message, piece by piece.
+ghost use Rattle.std.specs.Prelude.{◌≡◌, ◌<◌, ◌≤◌, ◌||◌, length};
+ghost use Rattle.kd_tables.specs.Ports.{port};
+ghost use Rattle.kd_form.specs.StreamSteps.{FeedsAll, ClosesAt, ReadsNext, stops_at_device};
+
+use super::reader::{Made, MessageReader};
+use super::stop::Stop;
+use arrayvec::ArrayVec;
+use kd_state::SheetDay;
+use kd_tables::{Sink, Source, put_all};
+
+/// How many bytes are read at once, at most.
+const PIECE: usize = 4096;
+
+/// Feeds the bytes to the reader, and writes what is made of them.
+pub(crate) fn feed_all<M: MessageReader, W: Sink>(
+    reader: &mut M,
+    day: &SheetDay,
+    bytes: &[u8],
+    sink: &mut W,
+) -> Result<(), Stop>
+    ensures fed { FeedsAll (M.message day.now) (M.holds day.now reader.old) (M.holds day.now reader.new)
+        bytes.now (port W.taken W.has_failed sink.old sink.new) result }
+    ensures failed { W.has_failed sink.new ≡ (W.has_failed sink.old || stops_at_device result) }
+{
+    for byte in bytes {
+        feed_one(reader, day, *byte, sink)?;
+    }
+    Ok(())
+}
+
+/// Feeds one byte to the reader, and writes what is made of it.
+fn feed_one<M: MessageReader, W: Sink>(
+    reader: &mut M,
+    day: &SheetDay,
+    byte: u8,
+    sink: &mut W,
+) -> Result<(), Stop>
+    ensures fed { FeedsAll (M.message day.now) (M.holds day.now reader.old) (M.holds day.now reader.new)
+        (byte ∷ []) (port W.taken W.has_failed sink.old sink.new) result }
+    ensures failed { W.has_failed sink.new ≡ (W.has_failed sink.old || stops_at_device result) }
+{
+    let mut made: Made = ArrayVec::new();
+    match reader.feed(day, byte, &mut made) {
+        Ok(()) => {}
+        Err(fault) => return Err(Stop::Refused(fault)),
+    }
+    put_all(sink, made.as_slice())?;
+    Ok(())
+}
+
+/// Writes what is left of the message at its end.
+pub(crate) fn finish<M: MessageReader, W: Sink>(
+    reader: &mut M,
+    day: &SheetDay,
+    sink: &mut W,
+) -> Result<(), Stop>
+    ensures ended { ClosesAt (M.message day.now) (M.holds day.now reader.old)
+        (port W.taken W.has_failed sink.old sink.new) result }
+    ensures failed { W.has_failed sink.new ≡ (W.has_failed sink.old || stops_at_device result) }
+{
+    let mut made: Made = ArrayVec::new();
+    let answer = reader.end(day, &mut made);
+    put_all(sink, made.as_slice())?;
+    match answer {
+        Ok(()) => Ok(()),
+        Err(fault) => Err(Stop::Refused(fault)),
+    }
+}
+
+/// Reads the next bytes, as many as there is room for at most, feeds them to the reader and writes what is made of them.
+/// There are none at the end of the source alone.
+pub(crate) fn read_next<M: MessageReader, R: Source, W: Sink>(
+    reader: &mut M,
+    day: &SheetDay,
+    source: &mut R,
+    sink: &mut W,
+    room: usize,
+) -> Result<usize, Stop>
+    requires { 0 < room }
+    ensures { ReadsNext (M.message day.now) (M.holds day.now reader.old) (M.holds day.now reader.new) room
+        (port R.remaining R.has_failed source.old source.new)
+        (port W.taken W.has_failed sink.old sink.new) result }
+{
+    let mut buffer = [0; PIECE];
+    read_into(reader, day, source, sink, &mut buffer[..room.min(PIECE)])
+}
+
+/// The same, through a buffer that has the room.
+fn read_into<M: MessageReader, R: Source, W: Sink>(
+    reader: &mut M,
+    day: &SheetDay,
+    source: &mut R,
+    sink: &mut W,
+    buffer: &mut [u8],
+) -> Result<usize, Stop>
+    requires { 0 < length buffer.now }
+    ensures { ReadsNext (M.message day.now) (M.holds day.now reader.old) (M.holds day.now reader.new)
+        (length buffer.old) (port R.remaining R.has_failed source.old source.new)
+        (port W.taken W.has_failed sink.old sink.new) result }
+{
+    let Ok(count) = source.get(buffer) else {
+        return Err(Stop::Device);
+    };
+    feed_all(reader, day, &buffer[..count], sink)?;
+    Ok(count)
+}

@@ -1,0 +1,69 @@
+//! The sinks of a message that is held whole.
+ghost use Rattle.std.specs.Prelude.{◌≡◌, [], false, Some, is_err};
+ghost use Rattle.kd_tables.specs.Ports.{Puts};
+
+use kd_tables::{Failed, Sink};
+use std::alloc::Global;
+
+/// A sink that keeps what it takes, and fails where memory is refused.
+#[derive(Drop)]
+pub(crate) struct Kept {
+    bytes: Vec<u8>,
+    failed: bool,
+}
+
+impl Kept {
+    /// One that has taken nothing.
+    pub(crate) fn new(alloc: Global) -> Self
+        ensures bytes { result.bytes.items ≡ [] }
+        ensures failed { result.failed ≡ false }
+    {
+        Kept {
+            bytes: Vec::new(alloc),
+            failed: false,
+        }
+    }
+
+    /// What it has taken.
+    pub(crate) fn into_bytes(self) -> Vec<u8>
+        ensures { result ≡ self.bytes }
+    {
+        self.bytes
+    }
+}
+
+impl Sink for Kept {
+    ghost taken = { λ s. Some s.bytes.items };
+
+    ghost has_failed = { λ s. s.failed };
+
+    fn put(&mut self, bytes: &[u8]) -> Result<usize, Failed> {
+        match self.bytes.extend_from_slice(bytes) {
+            Ok(()) => Ok(bytes.len()),
+            Err(_) => {
+                self.failed = true;
+                Err(Failed)
+            }
+        }
+    }
+
+    fn failed(&self) -> bool {
+        self.failed
+    }
+}
+
+/// A sink that takes everything, and keeps nothing.
+#[derive(Drop)]
+pub(crate) struct Nowhere;
+
+impl Sink for Nowhere {
+    ghost has_failed = { λ _. false };
+
+    fn put(&mut self, bytes: &[u8]) -> Result<usize, Failed> {
+        Ok(bytes.len())
+    }
+
+    fn failed(&self) -> bool {
+        false
+    }
+}

@@ -1,0 +1,62 @@
+//! A message that is held whole.
+ghost use Rattle.std.specs.Prelude.{◌≡◌, ◌||◌, MatchResult};
+ghost use Rattle.kd_tables.specs.Ports.{port};
+ghost use Rattle.kd_form.specs.OnTheKey.{IsRefusal};
+ghost use Rattle.kd_form.specs.StreamSteps.{WritesWhole, HasText, stops_at_device};
+
+use super::piece::{feed_all, finish};
+use super::reader::MessageReader;
+use super::sinks::{Kept, Nowhere};
+use super::stop::Stop;
+use crate::fault::FormFault;
+use kd_state::SheetDay;
+use kd_tables::Sink;
+use std::alloc::Global;
+
+/// What the message becomes. `NoMemory` is told only of one that becomes something.
+pub(crate) fn bytes_of<M: MessageReader + Drop>(
+    alloc: Global,
+    day: &SheetDay,
+    message: &[u8],
+) -> Result<Vec<u8>, FormFault>
+    ensures { MatchResult result
+        (λ text. (M.message day.now).becomes message.now text.items)
+        (IsRefusal ((M.message day.now).refused message.now) (HasText (M.message day.now) message.now)) }
+{
+    let mut kept = Kept::new(alloc);
+    match write_whole::<M, Kept>(day, message, &mut kept) {
+        Ok(()) => Ok(kept.into_bytes()),
+        Err(Stop::Refused(fault)) => Err(fault),
+        Err(Stop::Device) => {
+            judge::<M>(day, message)?;
+            Err(FormFault::NoMemory)
+        }
+    }
+}
+
+/// Refuses a message that becomes nothing.
+pub(crate) fn judge<M: MessageReader + Drop>(day: &SheetDay, message: &[u8]) -> Result<(), FormFault>
+    ensures { MatchResult result
+        (λ _. HasText (M.message day.now) message.now)
+        ((M.message day.now).refused message.now) }
+{
+    match write_whole::<M, Nowhere>(day, message, &mut Nowhere) {
+        Ok(()) => Ok(()),
+        Err(stop) => Err(FormFault::from(stop)),
+    }
+}
+
+/// Writes what the message becomes.
+fn write_whole<M: MessageReader + Drop, W: Sink>(
+    day: &SheetDay,
+    message: &[u8],
+    sink: &mut W,
+) -> Result<(), Stop>
+    ensures written { WritesWhole (M.message day.now) message.now
+        (port W.taken W.has_failed sink.old sink.new) result }
+    ensures failed { W.has_failed sink.new ≡ (W.has_failed sink.old || stops_at_device result) }
+{
+    let mut reader = M::start(day);
+    feed_all(&mut reader, day, message, sink)?;
+    finish(&mut reader, day, sink)
+}

@@ -1,0 +1,18 @@
+ghost use Rattle.std.specs.Prelude.{◌≡◌, ◌||◌, is_err};
+ghost use Rattle.kd_tables.specs.Ports.{Ends};
+
+use super::source::Source;
+use super::writing::Device;
+
+/// Reads one byte more, and answers whether there was none.
+pub fn is_at_end<R: Source>(source: &mut R) -> Result<bool, Device>
+    ensures ends { Ends (R.remaining source.old) (R.remaining source.new) result }
+    ensures failed { R.has_failed source.new ≡ (R.has_failed source.old || is_err result) }
+{
+    let mut buffer = [0; 1];
+    match source.get(&mut buffer) {
+        Ok(0) => Ok(true),
+        Ok(_) => Ok(false),
+        Err(_) => Err(Device),
+    }
+}
