@@ -1,7 +1,10 @@
 -- What the reader of a form holds while the form comes. The contract of the whole does not speak of it.
-use Rattle.std.specs.Prelude.{codes, ◌≡◌, ◌≢◌, ℕ, ◌+◌, ◌<◌, ◌≤◌, ◌==◌, List, [], ◌∷◌, ◌++◌, length, take, All, IsTrue, Option, Some, None, if◌then◌else◌}
+use Rattle.std.specs.Prelude.{codes, ◌≡◌, ◌≢◌, ◌⊎◌, ℕ, ◌+◌, ◌<◌, ◌≤◌, ◌==◌, List, [], ◌∷◌, ◌++◌, length, take, All, IsTrue, Option, Some, None, if◌then◌else◌}
 use Rattle.kd_state.specs.SheetDay.{Day}
 use Rattle.kd_state.specs.Words.{line_of, IsWithout}
+use Rattle.kd_form.specs.declared.fault.FormFault.{FormFault}
+use Rattle.kd_form.specs.declared.fault.FormFault.TheVariants.{BadHeading, PartOrder}
+use Rattle.kd_form.specs.declared.heading.Heading.{Heading}
 use Rattle.kd_form.specs.declared.form_reader.FormReader.{FormReader}
 use Rattle.kd_form.specs.declared.form_reader.Stage.{Stage}
 use Rattle.kd_form.specs.declared.form_reader.Stage.TheVariants as stages
@@ -10,7 +13,7 @@ use Rattle.kd_form.specs.Order.{IsEnded}
 use Rattle.kd_form.specs.Part.{heading_words}
 use Rattle.kd_form.specs.Sending.{is_text_byte, letters_from}
 use Rattle.kd_form.specs.FormParts.{BeginsHeading, IsHeading}
-use Rattle.kd_form.specs.Receiving.{IsExpected}
+use Rattle.kd_form.specs.Receiving.{HasHeading, IsExpected, IsPartRead, IsPartFault}
 use Rattle.kd_form.specs.FormText.{count_due, Turn, IsTextBeforeLast}
 
 -- ---- the last line
@@ -63,11 +66,29 @@ abbrev pub HoldsStage : Day → Stage → ℕ → Option ℕ → List ℕ → Ty
 HoldsStage s (stages.Heading line) number expected part = HoldsLine line.items part × (length part < 6 → number ≡ 1)
 HoldsStage s (stages.Body b) number expected part = HoldsPart s b number expected part
 
+-- the heading is the one that is due: of the part of that number, and of so many
+pub record IsHeadingDue (number : ℕ) (expected : Option ℕ) (found : Option Heading) (h : Heading) : Type 0 where
+  pub is : found ≡ Some h
+  pub numbered : h.part ≡ number
+  pub due : IsExpected expected h.parts
+
+-- there is no heading; or it isn't that one
+pub data IsHeadingOff (number : ℕ) (expected : Option ℕ) (found : Option Heading) (fault : FormFault) : Type 0 where
+  Missing : found ≡ None → fault ≡ BadHeading number → IsHeadingOff number expected found fault
+  Other : (h : Heading) → found ≡ Some h → (h.part ≢ number) ⊎ (¬ (IsExpected expected h.parts)) → fault ≡ PartOrder
+      → IsHeadingOff number expected found fault
+
 -- ---- the form
 
 -- the form, as far as it has come, has made this text; its last part is still to be read
 pub record HoldsForm (s : Day) (r : FormReader) (form text : List ℕ) : Type 0 where
   pub so_far : IsTextBeforeLast s form text
+  pub counted : r.position ≡ length form
   pub numbered : r.number ≡ length so_far.turn.before + 1
   pub due : r.expected ≡ count_due so_far.turn.before so_far.turn.count
   pub stage : HoldsStage s r.stage r.number r.expected so_far.turn.part
+
+-- the part is read as the last one of a form, of so many
+pub record IsLastText (s : Day) (number : ℕ) (expected : Option ℕ) (part : List ℕ) (parts : ℕ) (text : List ℕ) : Type 0 where
+  pub read : IsPartRead s number parts part text
+  pub due : IsExpected expected parts

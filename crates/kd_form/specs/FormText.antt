@@ -5,6 +5,7 @@ use Rattle.kd_form.specs.declared.fault.FormFault.{FormFault}
 use Rattle.kd_form.specs.declared.fault.FormFault.TheVariants.{BadHeading, PartOrder}
 use Rattle.kd_form.specs.declared.keys.Keys.{Keys}
 use Rattle.kd_form.specs.Making.{filled}
+use Rattle.kd_form.specs.Streams.{Message}
 use Rattle.kd_form.specs.Order.{IsOrder}
 use Rattle.kd_form.specs.Sending.{blank_of, text_letters}
 use Rattle.kd_form.specs.FormParts.{BeginsHeading, IsFirstOf}
@@ -109,6 +110,20 @@ pub record IsTextBeforeLast (s : Day) (form text : List ℕ) : Type 0 where
   pub turn : Turn s form
   pub last : turn.after ≡ []
   pub is : text ≡ given_letters s turn.letters
+
+-- what is written before the form is refused so, or before more of it has come
+abbrev pub IsTextBefore : Day → Option FormFault → List ℕ → List ℕ → Type 0
+IsTextBefore s None form text = IsTextBeforeLast s form text
+IsTextBefore s (Some fault) form text = IsRefusedForGood s form text fault ⊎ IsRefusedAtEnd s form text fault
+
+-- forms, as messages that are read as they come
+abbrev pub form_message : Day → Message
+form_message s = record {
+  stands = λ form fault. (text : List ℕ) × IsRefusedForGood s form text fault;
+  refused = IsReceiveFault s;
+  becomes = IsTextOf s;
+  before = IsTextBefore s;
+}
 
 -- ---- the text of an order
 

@@ -1,18 +1,21 @@
 //! A form, as it comes: one part of it is held at a time.
-ghost use Rattle.std.specs.Prelude.{◌≡◌, ◌≢◌, ◌⊎◌, ◌↔◌, ◌+◌, ℕ, List, [], ◌∷◌, ◌++◌, length, IsTrue, Some, None, MatchResult};
+ghost use Rattle.std.specs.Prelude.{codes, ◌≡◌, ◌≢◌, ◌⊎◌, ◌↔◌, ◌+◌, ◌≤◌, ℕ, List, [], ◌∷◌, ◌++◌, length, take, IsTrue, MatchResult};
 ghost use Rattle.kd_form.specs.declared.heading.Heading.{Heading};
-ghost use Rattle.kd_form.specs.Receiving.{IsExpected};
-ghost use Rattle.kd_form.specs.FormText.{IsTextOf, IsRefusedForGood, IsRefusedAtEnd};
-ghost use Rattle.kd_form.specs.FormReading.{HoldsForm};
+ghost use Rattle.kd_form.specs.Receiving.{IsExpected, IsPartFault};
+ghost use Rattle.kd_form.specs.FormText.{form_message};
+ghost use Rattle.kd_form.specs.FormReading.{MayBegin, IsHeadingDue, IsHeadingOff, HoldsStage, HoldsForm, IsLastText};
 
 use super::fault::FormFault;
 use super::given::given_letters;
 use super::heading::Heading;
-use super::heading_line::{heading_of_ended, heading_of_line};
+use super::heading_line::{heading_of_ended, heading_of_open};
+use super::keeping::keep;
 use super::part_body::PartBody;
+use super::stream::reader::{Made, MessageReader};
 use super::text::is_text_byte;
 use arrayvec::ArrayVec;
 use kd_state::SheetDay;
+use kd_state::laws::{numbers_and_letters_are_words, texts_tell_first_parts};
 use kd_tables::Letter;
 
 /// More bytes than the line of a heading has, with its end.
@@ -21,6 +24,8 @@ const LINE: usize = 64;
 /// What has come of a form and isn't written yet.
 #[derive(Drop)]
 pub(crate) struct FormReader {
+    /// How many bytes have come.
+    pub(crate) position: usize,
     /// Which part is read, counted from 1.
     pub(crate) number: u8,
     /// Of how many the form is, once one has been read.
@@ -38,31 +43,26 @@ pub(crate) enum Stage {
     Body(PartBody),
 }
 
-impl FormReader {
-    /// Before the form's first byte.
-    pub(crate) fn new() -> FormReader
-        ensures { (s : _) → HoldsForm s result [] [] }
-    {
+impl MessageReader for FormReader {
+    ghost message = { form_message };
+
+    ghost holds = { HoldsForm };
+
+    fn start(_day: &SheetDay) -> FormReader {
+        texts_tell_first_parts();
+        numbers_and_letters_are_words();
         FormReader {
+            position: 0,
             number: 1,
             expected: None,
             stage: Stage::Heading(ArrayVec::new()),
         }
     }
 
-    /// Takes the byte at that position of the form, counted from 1, and answers what can be written then.
-    pub(crate) fn feed(
-        &mut self,
-        day: &SheetDay,
-        position: usize,
-        byte: u8,
-    ) -> Result<ArrayVec<u8, 501>, FormFault>
-        requires { (form text : List ℕ) × HoldsForm day.now self.old form text }
-        ensures { (form text : List ℕ) → HoldsForm day.now self.old form text → position ≡ length form + 1
-            → MatchResult result
-                (λ made. HoldsForm day.now self.new (form ++ byte ∷ []) (text ++ made.items))
-                (IsRefusedForGood day.now (form ++ byte ∷ []) text) }
-    {
+    fn feed(&mut self, day: &SheetDay, byte: u8, made: &mut Made) -> Result<(), FormFault> {
+        texts_tell_first_parts();
+        numbers_and_letters_are_words();
+        self.position += 1;
         match &mut self.stage {
             Stage::Heading(line) => {
                 if !may_follow(line.as_slice(), byte) {
@@ -70,85 +70,88 @@ impl FormReader {
                 }
                 if byte != b'\n' {
                     keep(line, byte);
-                    return Ok(ArrayVec::new());
+                    return Ok(());
                 }
                 let heading = heading_of_ended(day, line.as_slice());
                 let heading = check_heading(self.number, &self.expected, heading)?;
                 self.stage = Stage::Body(PartBody::new(heading));
-                Ok(ArrayVec::new())
+                Ok(())
             }
             Stage::Body(body) => {
                 if body.ends_before(byte) {
                     let letters = body.read(day, 4)?;
+                    *made = given_letters(day, letters.as_slice());
                     self.expected = Some(body.heading.parts);
                     self.number = self.number.saturating_add(1);
                     self.stage = Stage::Heading(heading_from(byte));
-                    return Ok(given_letters(day, letters.as_slice()));
+                    return Ok(());
                 }
                 if !is_text_byte(byte) {
-                    return Err(FormFault::BadByte(position));
+                    return Err(FormFault::BadByte(self.position));
                 }
-                body.push(day, byte);
-                Ok(ArrayVec::new())
+                body.push(byte);
+                Ok(())
             }
         }
     }
 
-    /// The form ends: answers what can be written then, and the refusal, if there is one.
-    pub(crate) fn end(&mut self, day: &SheetDay) -> (ArrayVec<u8, 501>, Result<(), FormFault>)
-        requires { (form text : List ℕ) × HoldsForm day.now self.old form text }
-        ensures { (form text : List ℕ) → HoldsForm day.now self.old form text
-            → MatchResult result.1
-                (λ _. IsTextOf day.now form (text ++ result.0.items))
-                (IsRefusedAtEnd day.now form (text ++ result.0.items)) }
-    {
-        match self.last_text(day) {
-            Ok((parts, letters)) => {
-                let mut made = given_letters(day, letters.as_slice());
-                if parts != self.number {
-                    return (made, Err(FormFault::PartOrder));
-                }
-                made.push(b'\n');
-                (made, Ok(()))
-            }
-            Err(fault) => (ArrayVec::new(), Err(fault)),
+    fn end(&mut self, day: &SheetDay, made: &mut Made) -> Result<(), FormFault> {
+        let (parts, letters) = self.last_text(day)?;
+        *made = given_letters(day, letters.as_slice());
+        if parts != self.number {
+            return Err(FormFault::PartOrder);
         }
+        made.push(b'\n');
+        Ok(())
     }
+}
 
+impl FormReader {
     /// Of how many parts the last one is, and the letters of its text.
-    fn last_text(&self, day: &SheetDay) -> Result<(u8, ArrayVec<Letter, 500>), FormFault> {
+    fn last_text(&self, day: &SheetDay) -> Result<(u8, ArrayVec<Letter, 500>), FormFault>
+        requires { (part : List ℕ)
+            × HoldsStage day.now self.now.stage self.now.number self.now.expected part }
+        ensures { (part : List ℕ) → HoldsStage day.now self.now.stage self.now.number self.now.expected part
+            → MatchResult result
+                (λ found. IsLastText day.now self.now.number self.now.expected part found.0 found.1.items)
+                (λ fault. (start : ℕ) → IsPartFault day.now self.now.number self.now.expected start part fault) }
+    {
         match &self.stage {
             Stage::Heading(line) => {
-                let heading = heading_of_line(day, line.as_slice());
+                let heading = heading_of_open(day, line.as_slice());
                 let heading = check_heading(self.number, &self.expected, heading)?;
-                Ok((heading.parts, PartBody::new(heading).read(day, 0)?))
+                let letters = PartBody::new(heading).read(day, 0)?;
+                Ok((heading.parts, letters))
             }
-            Stage::Body(body) => Ok((body.heading.parts, body.read(day, 0)?)),
+            Stage::Body(body) => {
+                let letters = body.read(day, 0)?;
+                Ok((body.heading.parts, letters))
+            }
         }
     }
 }
 
-/// Whether the byte may follow these in the line of a heading: not if it is another one than up to the first digit.
-fn may_follow(line: &[u8], byte: u8) -> bool {
+/// Whether the byte may follow these in the line of a heading: up to its first digit, there is one byte or a digit.
+fn may_follow(line: &[u8], byte: u8) -> bool
+    ensures { (part : List ℕ) → line.now ≡ take 64 part → MayBegin part
+        → (IsTrue result ↔ MayBegin (part ++ byte ∷ [])) }
+{
     match b"PART ".get(line.len()) {
         Some(due) => *due == byte,
         None => line.len() > 5 || byte.is_ascii_digit(),
     }
 }
 
-/// Appends the byte, if there is room for it.
-fn keep(line: &mut ArrayVec<u8, LINE>, byte: u8) {
-    if !line.is_full() {
-        line.push(byte);
-    }
-}
-
 /// The first bytes of the line of a heading, up to its first digit.
-fn heading_from(digit: u8) -> ArrayVec<u8, LINE> {
+fn heading_from(digit: u8) -> ArrayVec<u8, LINE>
+    ensures { result.items ≡ codes "PART " ++ digit ∷ [] }
+{
     let mut line = ArrayVec::new();
-    for byte in b"PART " {
-        line.push(*byte);
-    }
+    line.push(b'P');
+    line.push(b'A');
+    line.push(b'R');
+    line.push(b'T');
+    line.push(b' ');
     line.push(digit);
     line
 }
@@ -158,7 +161,11 @@ fn check_heading(
     number: u8,
     expected: &Option<u8>,
     heading: Option<Heading>,
-) -> Result<Heading, FormFault> {
+) -> Result<Heading, FormFault>
+    ensures { MatchResult result
+        (IsHeadingDue number expected.now heading)
+        (IsHeadingOff number expected.now heading) }
+{
     let Some(heading) = heading else {
         return Err(FormFault::BadHeading(number));
     };

@@ -1,12 +1,14 @@
 //! The line of a heading, read.
-ghost use Rattle.std.specs.Prelude.{◌≡◌, ◌≢◌, ◌⊎◌, ◌↔◌, ℕ, ◌^◌, ◌<◌, List, [], ◌∷◌, ◌++◌, codes, decimal, map, IsTrue, MatchOption};
+ghost use Rattle.std.specs.Prelude.{◌≡◌, ◌≢◌, ◌⊎◌, ◌↔◌, ℕ, ◌^◌, ◌<◌, List, [], ◌∷◌, ◌++◌, codes, decimal, map, take, IsTrue, MatchOption};
 ghost use Rattle.kd_state.specs.Machine.{AreLetters};
-ghost use Rattle.kd_state.specs.Words.{line_of};
+ghost use Rattle.kd_state.specs.Words.{line_of, IsWithout};
+ghost use Rattle.kd_form.specs.declared.heading.Heading.{Heading};
 ghost use Rattle.kd_form.specs.Keys.{letters_text};
 ghost use Rattle.kd_form.specs.Part.{fraction, indicator_words, heading_words};
 ghost use Rattle.kd_form.specs.Order.{IsEnded};
 ghost use Rattle.kd_form.specs.FormParts.{IsFraction, AreFewLetters, IsLetterCount, IsHeading, AreHeadingWords};
 ghost use Rattle.kd_form.specs.Reading.{HasIndicator};
+ghost use Rattle.kd_form.specs.Receiving.{HasHeading};
 
 use super::cipher::are_letters;
 use super::heading::{Heading, Indicator};
@@ -152,7 +154,7 @@ fn is_part(word: &[u8]) -> bool
 }
 
 /// The heading of the line, if a part of the day can have it.
-pub(crate) fn heading_of_line(day: &SheetDay, line: &[u8]) -> Option<Heading>
+fn heading_of_line(day: &SheetDay, line: &[u8]) -> Option<Heading>
     ensures { MatchOption result
         ((h : _) → IsHeading day.now h → line_of (heading_words h) ≢ line.now)
         (λ h. IsHeading day.now h × (line_of (heading_words h) ≡ line.now)) }
@@ -164,12 +166,23 @@ pub(crate) fn heading_of_line(day: &SheetDay, line: &[u8]) -> Option<Heading>
     heading_of_words(day, words.as_slice())
 }
 
-/// The heading in a line that ends with LF, or with CR and LF: its LF is cut off.
-pub(crate) fn heading_of_ended(day: &SheetDay, line: &[u8]) -> Option<Heading>
-    ensures { MatchOption result
-        ((h : Heading) (ended : List ℕ) → IsHeading day.now h → IsEnded (line_of (heading_words h)) ended → ended ≢ line.now ++ 10 ∷ [])
-        (λ h. IsHeading day.now h × IsEnded (line_of (heading_words h)) (line.now ++ 10 ∷ [])) }
+/// The heading of a part of which no more has come than its first line, without an LF: of that the first 64 bytes are given.
+pub(crate) fn heading_of_open(day: &SheetDay, line: &[u8]) -> Option<Heading>
+    ensures { (part : List ℕ) → IsWithout 10 part → line.now ≡ take 64 part → MatchOption result
+        ((h : Heading) (body : List ℕ) → ¬ HasHeading day.now part h body)
+        (λ h. HasHeading day.now part h []) }
 {
+    let _slots = slots_of(day);
+    heading_of_line(day, line)
+}
+
+/// The same of a line that has its LF, which is not given. A CR before it belongs to the line's end.
+pub(crate) fn heading_of_ended(day: &SheetDay, line: &[u8]) -> Option<Heading>
+    ensures { (part : List ℕ) → IsWithout 10 part → line.now ≡ take 64 part → MatchOption result
+        ((h : Heading) (body : List ℕ) → ¬ HasHeading day.now (part ++ 10 ∷ []) h body)
+        (λ h. IsHeading day.now h × IsEnded (line_of (heading_words h)) (part ++ 10 ∷ [])) }
+{
+    let _slots = slots_of(day);
     match line {
         [text @ .., b'\r'] => heading_of_line(day, text),
         _ => heading_of_line(day, line),

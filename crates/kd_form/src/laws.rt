@@ -5,6 +5,7 @@ ghost use Rattle.kd_form.specs.Laws.{FormsBecomeOneText, FormsHaveOneFault, Rece
 ghost use Rattle.kd_form.specs.Laws.{OrdersGiveLetters, FormsGiveTheirOrders};
 
 use super::form_reader::FormReader;
+use super::stream::whole::judge;
 use super::sending::read_order;
 use kd_state::SheetDay;
 use kd_state::laws::{
@@ -44,13 +45,7 @@ pub fn forms_have_one_answer()
 pub fn forms_have_an_answer(day: &SheetDay, form: &[u8])
     ensures { FormIsAnswered day.now form.now }
 {
-    let mut reader = FormReader::new();
-    for (place, byte) in form.iter().enumerate() {
-        if reader.feed(day, place + 1, *byte).is_err() {
-            return;
-        }
-    }
-    let _answer = reader.end(day);
+    let _answer = judge::<FormReader>(day, form);
 }
 
 /// An order that becomes a form gives letters, and its form becomes these: on the Converter M-209 with the X that fill the last

@@ -9,6 +9,7 @@ mod given;
 mod heading;
 mod heading_line;
 mod internal_key;
+mod keeping;
 mod key_line;
 mod keys;
 pub mod laws;

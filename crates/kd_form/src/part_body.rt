@@ -11,6 +11,7 @@ ghost use Rattle.kd_form.specs.FormReading.{line_with, Begins, HoldsBody};
 
 use super::fault::FormFault;
 use super::heading::Heading;
+use super::keeping::keep;
 use super::reading::read_body;
 use arrayvec::ArrayVec;
 use kd_state::SheetDay;
@@ -53,13 +54,12 @@ impl PartBody {
     }
 
     /// Takes a byte that may stand in a body.
-    pub(crate) fn push(&mut self, day: &SheetDay, byte: u8)
+    pub(crate) fn push(&mut self, byte: u8)
         requires { IsTrue (is_text_byte byte) }
-        ensures { (part body : List ℕ) → HoldsBody day.now self.old part body
-            → HoldsBody day.now self.new (part ++ byte ∷ []) (body ++ byte ∷ []) }
+        ensures { (s : _) (part body : List ℕ) → HoldsBody s self.old part body
+            → HoldsBody s self.new (part ++ byte ∷ []) (body ++ byte ∷ []) }
     {
-        let _day = day;
-        keep(&mut self.letters, Letter::from_byte(byte));
+        keep_letter(&mut self.letters, Letter::from_byte(byte));
         self.begun = next_begun(self.begun, byte);
     }
 
@@ -72,7 +72,8 @@ impl PartBody {
         requires heading { IsHeading day.now self.now.heading }
         requires some { others ≤ length self.now.letters.items }
         requires few { others ≤ 4 }
-        ensures { (letters more : List ℕ) → length more ≡ others → self.now.letters.items ≡ take 525 (letters ++ more)
+        ensures { (letters more : List ℕ) → length more ≡ others
+            → self.now.letters.items ≡ take 525 (letters ++ more)
             → MatchResult result
                 (λ text. IsBodyText day.now self.now.heading letters text.items)
                 (IsBodyFault day.now self.now.heading.part self.now.heading letters) }
@@ -83,14 +84,13 @@ impl PartBody {
     }
 }
 
-/// Appends the letter, if there is one and room for it.
-fn keep(letters: &mut ArrayVec<Letter, KEPT>, letter: Option<Letter>)
-    ensures { letters.new.items ≡ take 525 (letters.old.items ++ option_to_list letter) }
+/// Keeps the letter, if there is one.
+fn keep_letter(letters: &mut ArrayVec<Letter, KEPT>, letter: Option<Letter>)
+    ensures { letters.old.items ≡ take 525 letters.old.items
+        → letters.new.items ≡ take 525 (letters.old.items ++ option_to_list letter) }
 {
     if let Some(letter) = letter {
-        if !letters.is_full() {
-            letters.push(letter);
-        }
+        keep(letters, letter);
     }
 }
 

@@ -6,6 +6,7 @@ ghost use Rattle.kd_form.specs.OnTheKey.{IsRefusal, AnswersOnKey};
 use super::fault::FormFault;
 use super::form_reader::FormReader;
 use super::sending::check_machine;
+use super::stream::whole::bytes_of;
 use kd_state::{Machine, SheetDay};
 use std::alloc::Global;
 
@@ -26,23 +27,5 @@ pub fn receive(
         (IsReceiveFault day.now form.now) (IsFirstPartRead day.now form.now) result }
 {
     check_machine(machine, day)?;
-    read_form_text(alloc, day, form)
-}
-
-/// The text that the form becomes.
-fn read_form_text(alloc: Global, day: &SheetDay, form: &[u8]) -> Result<Vec<u8>, FormFault>
-    ensures { MatchResult result
-        (λ text. IsTextOf day.now form.now text.items)
-        (IsRefusal (IsReceiveFault day.now form.now) (IsFirstPartRead day.now form.now)) }
-{
-    let mut text = Vec::new(alloc);
-    let mut reader = FormReader::new();
-    for (place, byte) in form.iter().enumerate() {
-        let made = reader.feed(day, place + 1, *byte)?;
-        text.extend_from_slice(made.as_slice())?;
-    }
-    let (made, answer) = reader.end(day);
-    answer?;
-    text.extend_from_slice(made.as_slice())?;
-    Ok(text)
+    bytes_of::<FormReader>(alloc, day, form)
 }
