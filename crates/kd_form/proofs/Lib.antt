@@ -14,13 +14,12 @@ pub mod MadeParts
 pub mod GivenBack
 pub mod OneOrder
 pub mod OneFault
-pub mod FormCuts
+pub mod Growing
 pub mod Fractions
 pub mod Numerals
 pub mod Spelled
 pub mod Headings
 pub mod FirstLines
-pub mod ReadParts
 pub mod Received
 pub mod Told
 pub mod Answered

@@ -1,7 +1,8 @@
 //! A form, as it comes: one part of it is held at a time.
 ghost use Rattle.std.specs.Prelude.{codes, ◌≡◌, ◌≢◌, ◌⊎◌, ◌↔◌, ◌+◌, ◌≤◌, ℕ, List, [], ◌∷◌, ◌++◌, length, take, IsTrue, MatchResult};
 ghost use Rattle.kd_form.specs.declared.heading.Heading.{Heading};
-ghost use Rattle.kd_form.specs.Receiving.{IsExpected, IsPartFault};
+ghost use Rattle.kd_form.specs.Receiving.{IsExpected, IsBodyText, IsBodyFault, IsPartFault};
+ghost use Rattle.kd_form.specs.FormParts.{IsHeading};
 ghost use Rattle.kd_form.specs.FormText.{form_message};
 ghost use Rattle.kd_form.specs.FormReading.{MayBegin, IsHeadingDue, IsHeadingOff, HoldsStage, HoldsForm, IsLastText};
 
@@ -73,36 +74,48 @@ impl MessageReader for FormReader {
                     return Ok(());
                 }
                 let heading = heading_of_ended(day, line.as_slice());
-                let heading = check_heading(self.number, &self.expected, heading)?;
-                self.stage = Stage::Body(PartBody::new(heading));
-                Ok(())
+                match check_heading(self.number, &self.expected, heading) {
+                    Ok(heading) => {
+                        self.stage = Stage::Body(PartBody::new(heading));
+                        Ok(())
+                    }
+                    Err(fault) => Err(fault),
+                }
             }
             Stage::Body(body) => {
-                if body.ends_before(byte) {
-                    let letters = body.read(day, 4)?;
-                    *made = given_letters(day, letters.as_slice());
-                    self.expected = Some(body.heading.parts);
-                    self.number = self.number.saturating_add(1);
-                    self.stage = Stage::Heading(heading_from(byte));
+                if !body.ends_before(byte) {
+                    if !is_text_byte(byte) {
+                        return Err(FormFault::BadByte(self.position));
+                    }
+                    body.push(byte);
                     return Ok(());
                 }
-                if !is_text_byte(byte) {
-                    return Err(FormFault::BadByte(self.position));
+                match body.read(day, 4) {
+                    Ok(letters) => {
+                        *made = given_letters(day, letters.as_slice());
+                        self.expected = Some(body.heading.parts);
+                        self.number = self.number.saturating_add(1);
+                        self.stage = Stage::Heading(heading_from(byte));
+                        Ok(())
+                    }
+                    Err(fault) => Err(fault),
                 }
-                body.push(byte);
-                Ok(())
             }
         }
     }
 
     fn end(&mut self, day: &SheetDay, made: &mut Made) -> Result<(), FormFault> {
-        let (parts, letters) = self.last_text(day)?;
-        *made = given_letters(day, letters.as_slice());
-        if parts != self.number {
-            return Err(FormFault::PartOrder);
+        match self.last_text(day) {
+            Ok((parts, letters)) => {
+                *made = given_letters(day, letters.as_slice());
+                if parts != self.number {
+                    return Err(FormFault::PartOrder);
+                }
+                made.push(b'\n');
+                Ok(())
+            }
+            Err(fault) => Err(fault),
         }
-        made.push(b'\n');
-        Ok(())
     }
 }
 
@@ -119,15 +132,28 @@ impl FormReader {
         match &self.stage {
             Stage::Heading(line) => {
                 let heading = heading_of_open(day, line.as_slice());
-                let heading = check_heading(self.number, &self.expected, heading)?;
-                let letters = PartBody::new(heading).read(day, 0)?;
-                Ok((heading.parts, letters))
+                match check_heading(self.number, &self.expected, heading) {
+                    Ok(heading) => read_last(day, &PartBody::new(heading)),
+                    Err(fault) => Err(fault),
+                }
             }
-            Stage::Body(body) => {
-                let letters = body.read(day, 0)?;
-                Ok((body.heading.parts, letters))
-            }
+            Stage::Body(body) => read_last(day, body),
         }
+    }
+}
+
+/// Of how many parts the one with that body is, and the letters of its text: it goes to the end of the form.
+fn read_last(day: &SheetDay, body: &PartBody) -> Result<(u8, ArrayVec<Letter, 500>), FormFault>
+    requires { IsHeading day.now body.now.heading }
+    ensures { (letters : List ℕ) → body.now.letters.items ≡ take 525 letters → MatchResult result
+        (λ found. (found.0 ≡ body.now.heading.parts)
+        × IsBodyText day.now body.now.heading letters found.1.items)
+        (IsBodyFault day.now body.now.heading.part body.now.heading letters) }
+{
+    let parts = body.heading.parts;
+    match body.read(day, 0) {
+        Ok(letters) => Ok((parts, letters)),
+        Err(fault) => Err(fault),
     }
 }
 

@@ -6,7 +6,7 @@ ghost use Rattle.kd_form.specs.declared.heading.Heading.{Heading};
 ghost use Rattle.kd_form.specs.Keys.{letters_text};
 ghost use Rattle.kd_form.specs.Part.{fraction, indicator_words, heading_words};
 ghost use Rattle.kd_form.specs.Order.{IsEnded};
-ghost use Rattle.kd_form.specs.FormParts.{IsFraction, AreFewLetters, IsLetterCount, IsHeading, AreHeadingWords};
+ghost use Rattle.kd_form.specs.FormParts.{IsFraction, AreFewLetters, IsLetterCount, IsHeading, AreHeadingWords, IsLineText};
 ghost use Rattle.kd_form.specs.Reading.{HasIndicator};
 ghost use Rattle.kd_form.specs.Receiving.{HasHeading};
 
@@ -182,9 +182,17 @@ pub(crate) fn heading_of_ended(day: &SheetDay, line: &[u8]) -> Option<Heading>
         ((h : Heading) (body : List ℕ) → ¬ HasHeading day.now (part ++ 10 ∷ []) h body)
         (λ h. IsHeading day.now h × IsEnded (line_of (heading_words h)) (part ++ 10 ∷ [])) }
 {
+    texts_tell_first_parts();
     let _slots = slots_of(day);
+    heading_of_line(day, without_return(line))
+}
+
+/// The line without the CR at its end, if it has one.
+fn without_return(line: &[u8]) -> &[u8]
+    ensures { IsLineText line.now result.now }
+{
     match line {
-        [text @ .., b'\r'] => heading_of_line(day, text),
-        _ => heading_of_line(day, line),
+        [text @ .., b'\r'] => text,
+        _ => line,
     }
 }

@@ -101,7 +101,9 @@ fn next_begun(begun: Option<usize>, byte: u8) -> Option<usize>
     if byte == b'\n' {
         return Some(0);
     }
-    let count = begun?;
+    let Some(count) = begun else {
+        return None;
+    };
     match b"PART ".get(count) {
         Some(due) if *due == byte => Some(count + 1),
         _ => None,

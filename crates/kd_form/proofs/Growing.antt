@@ -1,0 +1,115 @@
+-- Forms to which bytes are added.
+use Rattle.std.proofs.Common.{◌≡◌, ◌≢◌, ◌⊎◌, inl, inr, ℕ, ◌+◌, ◌-◌, ◌≤◌, ◌<◌, List, [], ◌∷◌, ◌++◌, length, drop, get_or, refl, sym, ap, subst, ◌∙◌, append_assoc, length-append, length-drop, arith}
+use Rattle.std.specs.Prelude.{codes, slice_index, All}
+use Rattle.std.proofs.Math.ListN.{get_or-append}
+use Rattle.std.proofs.Math.Seq.{get_or-append_seam, drop-append_seam}
+use Rattle.std.proofs.lemmas.Bool.{cases_lt}
+use Rattle.std.proofs.lemmas.List.{append-nil, drop-append-le, get_or-drop}
+use Rattle.std.proofs.lemmas.List.Elements.{All-get_or}
+use Rattle.kd_state.specs.SheetDay.{Day}
+use Rattle.kd_state.specs.Words.{IsWithout}
+use Rattle.kd_form.specs.FormParts.{BeginsHeading, IsFirstOf}
+use Rattle.kd_form.specs.FormText.{AreFirstParts, IsReadTo, Turn}
+
+pub no_break : (line after : List ℕ) (k : ℕ) → IsWithout 10 line → k < length line → get_or (line ++ 10 ∷ after) k 0 ≢ 10
+no_break line after k without inside is =
+    All-get_or (λ byte. byte ≢ 10) line k 0 inside without (sym (get_or-append line (10 ∷ after) 0 k inside) ∙ is)
+
+-- ---- where a heading begins
+
+pub heading_size : (bytes : List ℕ) → BeginsHeading bytes → 6 ≤ length bytes
+heading_size bytes begins = omega (arith, ap length begins.is)
+
+pub begins_more : (bytes more : List ℕ) → BeginsHeading bytes → BeginsHeading (bytes ++ more)
+begins_more bytes more begins = record {
+  digit = begins.digit;
+  rest = begins.rest ++ more;
+  is = ap (λ l. l ++ more) begins.is;
+  low = begins.low;
+  high = begins.high;
+}
+
+-- its first six bytes tell
+pub begins_front : (bytes more : List ℕ) → 6 ≤ length bytes → BeginsHeading (bytes ++ more) → BeginsHeading bytes
+begins_front (a ∷ b ∷ c ∷ d ∷ e ∷ f ∷ rest) more long begins =
+    let is : a ∷ b ∷ c ∷ d ∷ e ∷ f ∷ (rest ++ more) ≡ 80 ∷ 65 ∷ 82 ∷ 84 ∷ 32 ∷ begins.digit ∷ begins.rest = begins.is in
+    let one : a ≡ 80 = cc in
+    let two : b ≡ 65 = cc in
+    let three : c ≡ 82 = cc in
+    let four : d ≡ 84 = cc in
+    let five : e ≡ 32 = cc in
+    let six : f ≡ begins.digit = cc in
+    record { digit = f; rest = rest; is = cc; low = subst (λ x. 48 ≤ x) (sym six) begins.low; high = subst (λ x. x ≤ 57) (sym six) begins.high }
+begins_front [] more long begins = absurd (omega arith)
+begins_front (a ∷ []) more long begins = absurd (omega arith)
+begins_front (a ∷ b ∷ []) more long begins = absurd (omega arith)
+begins_front (a ∷ b ∷ c ∷ []) more long begins = absurd (omega arith)
+begins_front (a ∷ b ∷ c ∷ d ∷ []) more long begins = absurd (omega arith)
+begins_front (a ∷ b ∷ c ∷ d ∷ e ∷ []) more long begins = absurd (omega arith)
+
+-- ---- the first part of more bytes
+
+pub first_grows : (bytes part rest more : List ℕ) → IsFirstOf bytes part rest → rest ≢ [] → IsFirstOf (bytes ++ more) part (rest ++ more)
+first_grows bytes part rest more first some = elim first.ends [
+  | inl none ↦ absurd (some none)
+  | inr ended ↦
+      let size : length bytes ≡ length part + length rest = ap length first.joined ∙ length-append part rest in
+      let six : 6 ≤ length rest = heading_size rest ended.1 in
+      record {
+        joined = ap (λ l. l ++ more) first.joined ∙ append_assoc part rest more;
+        whole = λ place below is begins.
+            let inside : place + 1 ≤ length bytes = omega (arith, size) in
+            let within : place < length bytes = omega (arith, size) in
+            first.whole place below (sym (get_or-append bytes more 0 place within) ∙ is)
+            (begins_front (drop (place + 1) bytes) more (omega (arith, length-drop (place + 1) bytes, size, six))
+            (subst BeginsHeading (drop-append-le (place + 1) bytes more inside) begins));
+        ends = inr (get_or-append bytes more 0 (length part - 1) (omega (arith, size, six)) ∙ ended.0, begins_more rest more ended.1);
+      }
+]
+
+no_bytes : (front back : List ℕ) → front ++ back ≡ [] → back ≡ []
+no_bytes [] back none = none
+no_bytes (byte ∷ front) back none = cc
+
+nothing_left : (parts : List (List ℕ)) (bytes rest : List ℕ) → bytes ≡ [] → AreFirstParts parts bytes rest → rest ≡ []
+nothing_left [] bytes rest none same = sym same ∙ none
+nothing_left (part ∷ parts) bytes rest none (after, first, later) = nothing_left parts after rest (no_bytes part after (sym first.joined ∙ none)) later
+
+pub parts_grow : (parts : List (List ℕ)) (bytes rest more : List ℕ) → rest ≢ [] → AreFirstParts parts bytes rest
+    → AreFirstParts parts (bytes ++ more) (rest ++ more)
+parts_grow [] bytes rest more some same = ap (λ l. l ++ more) same
+parts_grow (part ∷ parts) bytes rest more some (after, first, later) = (
+  after ++ more,
+  first_grows bytes part after more first (λ none. some (nothing_left parts after rest none later)),
+  parts_grow parts after rest more some later,
+)
+
+turn_cut : (s : Day) (form more : List ℕ) (t : Turn s form) → AreFirstParts t.before (form ++ more) (t.rest ++ more)
+turn_cut s form more t = elim t.left [
+  | inl none ↦
+      let here : form ≡ t.rest = subst (λ (ps : List (List ℕ)). AreFirstParts ps form t.rest) none t.read.cut in
+      subst (λ (ps : List (List ℕ)). AreFirstParts ps (form ++ more) (t.rest ++ more)) (sym none) (ap (λ l. l ++ more) here)
+  | inr some ↦ parts_grow t.before form t.rest more some t.read.cut
+]
+
+-- ---- the part in turn
+
+-- the parts before it stay, and with more bytes another one may be the first of what they leave
+pub turn_with : (s : Day) (form more part after : List ℕ) (t : Turn s form) → more ≢ [] → IsFirstOf (t.rest ++ more) part after → Turn s (form ++ more)
+turn_with s form more part after t some first = record {
+  before = t.before;
+  count = t.count;
+  letters = t.letters;
+  rest = t.rest ++ more;
+  part = part;
+  after = after;
+  read = record { cut = turn_cut s form more t; read = t.read.read };
+  left = inr (λ none. some (no_bytes t.rest more none));
+  first = first;
+}
+
+pub same_start : (form rest more : List ℕ) → length (form ++ more) - length (rest ++ more) ≡ length form - length rest
+same_start form rest more = omega (arith, length-append form more, length-append rest more)
+
+pub last_rest : (s : Day) (form : List ℕ) (t : Turn s form) → t.after ≡ [] → t.rest ≡ t.part
+last_rest s form t last = t.first.joined ∙ ap (λ l. t.part ++ l) last ∙ append-nil t.part
