@@ -1,15 +1,16 @@
 -- Forms to which bytes are added.
-use Rattle.std.proofs.Common.{◌≡◌, ◌≢◌, ◌⊎◌, inl, inr, ℕ, ◌+◌, ◌-◌, ◌≤◌, ◌<◌, List, [], ◌∷◌, ◌++◌, length, drop, get_or, refl, sym, ap, subst, ◌∙◌, append_assoc, length-append, length-drop, arith}
+use Rattle.std.proofs.Common.{◌≡◌, ◌≢◌, ◌⊎◌, inl, inr, ℕ, ◌+◌, ◌-◌, ◌≤◌, ◌<◌, List, [], ◌∷◌, ◌++◌, length, take, drop, get_or, refl, sym, ap, subst, ◌∙◌, append_assoc, length-append, length-drop, arith}
 use Rattle.std.specs.Prelude.{codes, slice_index, All}
 use Rattle.std.proofs.Math.ListN.{get_or-append}
 use Rattle.std.proofs.Math.Seq.{get_or-append_seam, drop-append_seam}
 use Rattle.std.proofs.lemmas.Bool.{cases_lt}
-use Rattle.std.proofs.lemmas.List.{append-nil, drop-append-le, get_or-drop}
+use Rattle.std.proofs.lemmas.List.{append-nil, drop-append-le, take_all, length-take}
 use Rattle.std.proofs.lemmas.List.Elements.{All-get_or}
 use Rattle.kd_state.specs.SheetDay.{Day}
 use Rattle.kd_state.specs.Words.{IsWithout}
 use Rattle.kd_form.specs.FormParts.{BeginsHeading, IsFirstOf}
 use Rattle.kd_form.specs.FormText.{AreFirstParts, IsReadTo, Turn}
+use Rattle.kd_form.specs.FormReading.{MayBegin}
 
 pub no_break : (line after : List ℕ) (k : ℕ) → IsWithout 10 line → k < length line → get_or (line ++ 10 ∷ after) k 0 ≢ 10
 no_break line after k without inside is =
@@ -113,3 +114,53 @@ same_start form rest more = omega (arith, length-append form more, length-append
 
 pub last_rest : (s : Day) (form : List ℕ) (t : Turn s form) → t.after ≡ [] → t.rest ≡ t.part
 last_rest s form t last = t.first.joined ∙ ap (λ l. t.part ++ l) last ∙ append-nil t.part
+
+-- ---- a byte more of what may become a heading
+
+-- where the bytes may begin a heading, this byte may follow them exactly if they still may
+abbrev Follows : List ℕ → ℕ → Type 0 → Type 0
+Follows part byte fits = (fits → MayBegin (part ++ byte ∷ [])) × (MayBegin (part ++ byte ∷ []) → fits)
+
+may_begin : (part more : List ℕ) → part ++ more ≡ codes "PART 0" → MayBegin part
+may_begin part more same = (more, record { digit = 48; rest = []; is = same; low = omega arith; high = omega arith })
+
+pub due_follows : (part : List ℕ) (byte due : ℕ) → length part < 5 → due ≡ get_or (codes "PART ") (length part) 0 → MayBegin part
+    → Follows part byte (byte ≡ due)
+due_follows [] byte due few is may = (λ same. may_begin (byte ∷ []) (codes "ART 0") (cc), λ then_may. let all = then_may.1.is in cc)
+due_follows (a ∷ []) byte due few is may =
+    let had = may.1.is in
+    (λ same. may_begin (a ∷ byte ∷ []) (codes "RT 0") (cc), λ then_may. let all = then_may.1.is in cc)
+due_follows (a ∷ b ∷ []) byte due few is may =
+    let had = may.1.is in
+    (λ same. may_begin (a ∷ b ∷ byte ∷ []) (codes "T 0") (cc), λ then_may. let all = then_may.1.is in cc)
+due_follows (a ∷ b ∷ c ∷ []) byte due few is may =
+    let had = may.1.is in
+    (λ same. may_begin (a ∷ b ∷ c ∷ byte ∷ []) (codes " 0") (cc), λ then_may. let all = then_may.1.is in cc)
+due_follows (a ∷ b ∷ c ∷ d ∷ []) byte due few is may =
+    let had = may.1.is in
+    (λ same. may_begin (a ∷ b ∷ c ∷ d ∷ byte ∷ []) (codes "0") (cc), λ then_may. let all = then_may.1.is in cc)
+due_follows (a ∷ b ∷ c ∷ d ∷ e ∷ part) byte due few is may = absurd (omega arith)
+
+pub digit_follows : (part : List ℕ) (byte : ℕ) → length part ≡ 5 → MayBegin part → Follows part byte ((48 ≤ byte) × (byte ≤ 57))
+digit_follows (a ∷ b ∷ c ∷ d ∷ e ∷ []) byte size may =
+    let had = may.1.is in (
+      λ digit. ([], record { digit = byte; rest = []; is = cc; low = digit.0; high = digit.1 }),
+      λ then_may.
+          let same : byte ≡ then_may.1.digit = (let all = then_may.1.is in cc) in
+          (subst (λ x. 48 ≤ x) (sym same) then_may.1.low, subst (λ x. x ≤ 57) (sym same) then_may.1.high),
+    )
+digit_follows [] byte size may = absurd (omega arith)
+digit_follows (a ∷ []) byte size may = absurd (omega arith)
+digit_follows (a ∷ b ∷ []) byte size may = absurd (omega arith)
+digit_follows (a ∷ b ∷ c ∷ []) byte size may = absurd (omega arith)
+digit_follows (a ∷ b ∷ c ∷ d ∷ []) byte size may = absurd (omega arith)
+digit_follows (a ∷ b ∷ c ∷ d ∷ e ∷ f ∷ part) byte size may = absurd (omega arith)
+
+pub all_follow : (part : List ℕ) (byte : ℕ) → 6 ≤ length part → MayBegin part → MayBegin (part ++ byte ∷ [])
+all_follow part byte long may = ([], subst BeginsHeading (sym (append-nil (part ++ byte ∷ []))) (begins_more part (byte ∷ []) (begins_front part may.0 long may.1)))
+
+pub short_line : (part line : List ℕ) → line ≡ take 64 part → length line < 64 → line ≡ part
+short_line part line kept short = kept ∙ take_all 64 part (omega (arith, ap length kept, length-take 64 part))
+
+pub long_line : (part line : List ℕ) (few : ℕ) → line ≡ take 64 part → few ≤ 64 → few ≤ length line → few ≤ length part
+long_line part line few kept less long = omega (arith, ap length kept, length-take 64 part)

@@ -15,6 +15,7 @@ pub mod GivenBack
 pub mod OneOrder
 pub mod OneFault
 pub mod Growing
+pub mod Bodies
 pub mod Fractions
 pub mod Numerals
 pub mod Spelled

@@ -1,5 +1,5 @@
 -- What the reader of a form holds while the form comes. The contract of the whole does not speak of it.
-use Rattle.std.specs.Prelude.{codes, ◌≡◌, ◌≢◌, ◌⊎◌, ℕ, ◌+◌, ◌<◌, ◌≤◌, ◌==◌, List, [], ◌∷◌, ◌++◌, length, take, All, IsTrue, Option, Some, None, if◌then◌else◌}
+use Rattle.std.specs.Prelude.{codes, ◌≡◌, ◌≢◌, ◌⊎◌, ℕ, ◌+◌, ◌<◌, ◌≤◌, List, [], ◌∷◌, ◌++◌, length, take, All, IsTrue, Option, Some, None}
 use Rattle.kd_state.specs.SheetDay.{Day}
 use Rattle.kd_state.specs.Words.{line_of, IsWithout}
 use Rattle.kd_form.specs.declared.fault.FormFault.{FormFault}
@@ -18,9 +18,10 @@ use Rattle.kd_form.specs.FormText.{count_due, Turn, IsTextBeforeLast}
 
 -- ---- the last line
 
--- the line with a byte more, or the next line behind an LF
-abbrev pub line_with : List ℕ → ℕ → List ℕ
-line_with line byte = if byte == 10 then [] else line ++ byte ∷ []
+-- the last line with a byte more: nothing yet, behind an LF
+pub data IsNextLine (line : List ℕ) (byte : ℕ) (next : List ℕ) : Type 0 where
+  Broken : byte ≡ 10 → next ≡ [] → IsNextLine line byte next
+  Longer : byte ≢ 10 → next ≡ line ++ byte ∷ [] → IsNextLine line byte next
 
 -- how many bytes of those before a heading's first digit the line has, if it has no others
 abbrev pub Begins : List ℕ → Option ℕ → Type 0

@@ -11,7 +11,7 @@ use super::given::given_letters;
 use super::heading::Heading;
 use super::heading_line::{heading_of_ended, heading_of_open};
 use super::keeping::keep;
-use super::part_body::PartBody;
+use super::part_body::{PartBody, head_byte};
 use super::stream::reader::{Made, MessageReader};
 use super::text::is_text_byte;
 use arrayvec::ArrayVec;
@@ -162,8 +162,8 @@ fn may_follow(line: &[u8], byte: u8) -> bool
     ensures { (part : List ℕ) → line.now ≡ take 64 part → MayBegin part
         → (IsTrue result ↔ MayBegin (part ++ byte ∷ [])) }
 {
-    match b"PART ".get(line.len()) {
-        Some(due) => *due == byte,
+    match head_byte(line.len()) {
+        Some(due) => byte == due,
         None => line.len() > 5 || byte.is_ascii_digit(),
     }
 }

@@ -1,5 +1,5 @@
 //! The body of a part of a form, as it comes.
-ghost use Rattle.std.specs.Prelude.{codes, ◌≡◌, ◌↔◌, ◌≤◌, ℕ, List, [], ◌∷◌, ◌++◌, length, take, IsTrue, MatchResult, None, Some};
+ghost use Rattle.std.specs.Prelude.{codes, ◌≡◌, ◌↔◌, ◌<◌, ◌≤◌, ℕ, List, [], ◌∷◌, ◌++◌, length, take, slice_index, IsTrue, MatchResult, MatchOption, None, Some};
 ghost use Rattle.std.specs.Option.{option_to_list};
 ghost use Rattle.kd_state.specs.Words.{line_of};
 ghost use Rattle.kd_form.specs.Order.{IsEnded};
@@ -7,12 +7,13 @@ ghost use Rattle.kd_form.specs.Part.{heading_words};
 ghost use Rattle.kd_form.specs.Sending.{is_text_byte, letters_from};
 ghost use Rattle.kd_form.specs.FormParts.{IsHeading};
 ghost use Rattle.kd_form.specs.Receiving.{IsBodyText, IsBodyFault};
-ghost use Rattle.kd_form.specs.FormReading.{line_with, Begins, HoldsBody};
+ghost use Rattle.kd_form.specs.FormReading.{IsNextLine, Begins, HoldsBody};
 
 use super::fault::FormFault;
 use super::heading::Heading;
 use super::keeping::keep;
 use super::reading::read_body;
+use super::text::letter_of_byte;
 use arrayvec::ArrayVec;
 use kd_state::SheetDay;
 use kd_tables::Letter;
@@ -59,7 +60,7 @@ impl PartBody {
         ensures { (s : _) (part body : List ℕ) → HoldsBody s self.old part body
             → HoldsBody s self.new (part ++ byte ∷ []) (body ++ byte ∷ []) }
     {
-        keep_letter(&mut self.letters, Letter::from_byte(byte));
+        keep_letter(&mut self.letters, letter_of_byte(&None, byte));
         self.begun = next_begun(self.begun, byte);
     }
 
@@ -96,7 +97,7 @@ fn keep_letter(letters: &mut ArrayVec<Letter, KEPT>, letter: Option<Letter>)
 
 /// How many bytes of `PART ` a line has behind that byte, if it has no others.
 fn next_begun(begun: Option<usize>, byte: u8) -> Option<usize>
-    ensures { (line : List ℕ) → Begins line begun → Begins (line_with line byte) result }
+    ensures { (line next : List ℕ) → Begins line begun → IsNextLine line byte next → Begins next result }
 {
     if byte == b'\n' {
         return Some(0);
@@ -104,8 +105,24 @@ fn next_begun(begun: Option<usize>, byte: u8) -> Option<usize>
     let Some(count) = begun else {
         return None;
     };
-    match b"PART ".get(count) {
-        Some(due) if *due == byte => Some(count + 1),
+    let Some(due) = head_byte(count) else {
+        return None;
+    };
+    if byte == due { Some(count + 1) } else { None }
+}
+
+/// The byte at that place of the five with which a heading begins, before its first digit.
+pub(crate) fn head_byte(place: usize) -> Option<u8>
+    ensures { MatchOption result
+        (5 ≤ place)
+        (λ byte. (place < 5) × (byte ≡ slice_index (codes "PART ") place)) }
+{
+    match place {
+        0 => Some(b'P'),
+        1 => Some(b'A'),
+        2 => Some(b'R'),
+        3 => Some(b'T'),
+        4 => Some(b' '),
         _ => None,
     }
 }
