@@ -1,6 +1,6 @@
 -- Forms to which bytes are added.
-use Rattle.std.proofs.Common.{◌≡◌, ◌≢◌, ◌⊎◌, inl, inr, ℕ, ◌+◌, ◌-◌, ◌≤◌, ◌<◌, List, [], ◌∷◌, ◌++◌, length, take, drop, get_or, refl, sym, ap, subst, ◌∙◌, append_assoc, length-append, length-drop, arith}
-use Rattle.std.specs.Prelude.{codes, slice_index, All}
+use Rattle.std.proofs.Common.{rules, ◌≡◌, ◌≢◌, ◌⊎◌, inl, inr, ℕ, ◌+◌, ◌-◌, ◌≤◌, ◌<◌, List, [], ◌∷◌, ◌++◌, length, take, drop, get_or, refl, sym, ap, subst, ◌∙◌, append_assoc, length-append, length-drop, arith}
+use Rattle.std.specs.Prelude.{codes, slice_index, All, IsTrue, ◌==◌}
 use Rattle.std.proofs.Math.ListN.{get_or-append}
 use Rattle.std.proofs.Math.Seq.{get_or-append_seam, drop-append_seam}
 use Rattle.std.proofs.lemmas.Bool.{cases_lt}
@@ -164,3 +164,16 @@ short_line part line kept short = kept ∙ take_all 64 part (omega (arith, ap le
 
 pub long_line : (part line : List ℕ) (few : ℕ) → line ≡ take 64 part → few ≤ 64 → few ≤ length line → few ≤ length part
 long_line part line few kept less long = omega (arith, ap length kept, length-take 64 part)
+
+told_true : (a b : ℕ) → IsTrue (a == b) → a ≡ b
+told_true a b is = search rules
+
+true_told : (a b : ℕ) → a ≡ b → IsTrue (a == b)
+true_told a b same = search rules
+
+pub due_told : (part line : List ℕ) (byte due : ℕ) → line ≡ take 64 part → MayBegin part → (length line < 5) × (due ≡ get_or (codes "PART ") (length line) 0)
+    → (IsTrue (byte == due) → MayBegin (part ++ byte ∷ [])) × (MayBegin (part ++ byte ∷ []) → IsTrue (byte == due))
+due_told part line byte due kept may (few, is) =
+    let whole : line ≡ part = short_line part line kept (omega arith) in
+    let follows = due_follows part byte due (subst (λ (l : List ℕ). length l < 5) whole few) (is ∙ ap (λ (l : List ℕ). get_or (codes "PART ") (length l) 0) whole) may in
+    (λ told. follows.0 (told_true byte due told), λ then_may. true_told byte due (follows.1 then_may))

@@ -30,3 +30,4 @@ pub mod OneCut
 pub mod OneHeading
 pub mod OnePart
 pub mod OneText
+pub mod Streaming
