@@ -1,9 +1,5 @@
 -- What the steps do in which a message is read as it comes. The contracts of the public calls do not speak of them.
-<<<<<<< HEAD
-use Rattle.std.specs.Prelude.{◌≡◌, ◌⊎◌, ℕ, ◌+◌, ◌^◌, ◌<◌, ◌≤◌, Bool, true, false, List, [], ◌∷◌, ◌++◌, length, Option, None, Some, Result, Ok, Err, MatchResult}
-=======
 use Rattle.std.specs.Prelude.{◌≡◌, ℕ, ◌+◌, ◌^◌, ◌<◌, ◌≤◌, Bool, true, false, ◌||◌, List, [], ◌∷◌, ◌++◌, length, Result, Ok, Err, MatchResult}
->>>>>>> h1
 use Rattle.std.specs.Io.{StartsWith}
 use Rattle.std.specs.Io.KnownBytes.{Appends, Consumes, IsAtEnd}
 use Rattle.kd_tables.specs.declared.limit.TheConstants.{READ_LIMIT}
@@ -19,7 +15,13 @@ pub record Held (m : Message) (holds : List ℕ → List ℕ → Type 0) (bytes 
   pub is : holds bytes text
   pub open_yet : IsOpen m bytes text
 
-<<<<<<< HEAD
+-- the reader holds some bytes, and so many may follow them
+pub record HasRoom (m : Message) (holds : List ℕ → List ℕ → Type 0) (room : ℕ) : Type 0 where
+  pub bytes : List ℕ
+  pub text : List ℕ
+  pub held : Held m holds bytes text
+  pub within : length bytes + room < 2 ^ 63
+
 -- With one byte more, of which this text was made, the reader holds that byte too; or the bytes are refused with it.
 abbrev pub Feeds : Message → (List ℕ → List ℕ → Type 0) → (List ℕ → List ℕ → Type 0) → ℕ → List ℕ → Result (Unit {0}) FormFault → Type 0
 Feeds m old new byte made answer =
