@@ -72,7 +72,7 @@ no_bytes : (front back : List ℕ) → front ++ back ≡ [] → back ≡ []
 no_bytes [] back none = none
 no_bytes (byte ∷ front) back none = cc
 
-nothing_left : (parts : List (List ℕ)) (bytes rest : List ℕ) → bytes ≡ [] → AreFirstParts parts bytes rest → rest ≡ []
+pub nothing_left : (parts : List (List ℕ)) (bytes rest : List ℕ) → bytes ≡ [] → AreFirstParts parts bytes rest → rest ≡ []
 nothing_left [] bytes rest none same = sym same ∙ none
 nothing_left (part ∷ parts) bytes rest none (after, first, later) = nothing_left parts after rest (no_bytes part after (sym first.joined ∙ none)) later
 

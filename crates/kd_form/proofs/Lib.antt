@@ -29,5 +29,6 @@ pub mod PartTexts
 pub mod OneCut
 pub mod OneHeading
 pub mod OnePart
+pub mod FirstCuts
 pub mod OneText
 pub mod Streaming
