@@ -70,7 +70,7 @@ begins_otherwise line next byte count other begun wrong (Longer differs is) = λ
 take_again : (n : ℕ) (xs : List ℕ) → take n (take n xs) ≡ take n xs
 take_again n xs = take_all n (take n xs) (omega (arith, length-take n xs))
 
-take_kept : (n : ℕ) (xs ys : List ℕ) → take n (take n xs ++ ys) ≡ take n (xs ++ ys)
+pub take_kept : (n : ℕ) (xs ys : List ℕ) → take n (take n xs ++ ys) ≡ take n (xs ++ ys)
 take_kept n xs ys = elim (cases_lt n (length xs)) [
   | inl long ↦ take-append-le n (take n xs) ys (omega (arith, length-take n xs)) ∙ take_again n xs ∙ sym (take-append-le n xs ys (omega arith))
   | inr short ↦ ap (λ l. take n (l ++ ys)) (take_all n xs short)

@@ -1,16 +1,17 @@
 -- Forms to which bytes are added.
-use Rattle.std.proofs.Common.{rules, ◌≡◌, ◌≢◌, ◌⊎◌, inl, inr, ℕ, ◌+◌, ◌-◌, ◌≤◌, ◌<◌, List, [], ◌∷◌, ◌++◌, length, take, drop, get_or, refl, sym, ap, subst, ◌∙◌, append_assoc, length-append, length-drop, arith}
+use Rattle.std.proofs.Common.{rules, ◌≡◌, ◌≢◌, ◌⊎◌, inl, inr, ℕ, suc, ◌+◌, ◌-◌, ◌≤◌, ◌<◌, List, [], ◌∷◌, ◌++◌, length, take, drop, get_or, refl, sym, ap, subst, ◌∙◌, append_assoc, length-append, length-drop, arith}
 use Rattle.std.specs.Prelude.{codes, slice_index, All, IsTrue, ◌==◌}
 use Rattle.std.proofs.Math.ListN.{get_or-append}
-use Rattle.std.proofs.Math.Seq.{get_or-append_seam, drop-append_seam}
+use Rattle.std.proofs.Math.Seq.{get_or-append_seam, drop-cons}
 use Rattle.std.proofs.lemmas.Bool.{cases_lt}
-use Rattle.std.proofs.lemmas.List.{append-nil, drop-append-le, take_all, length-take}
-use Rattle.std.proofs.lemmas.List.Elements.{All-get_or}
+use Rattle.std.proofs.lemmas.List.{append-nil, drop-append-le, take_all, take-append-drop, length-take}
+use Rattle.std.proofs.lemmas.List.Elements.{All-get_or, All-cons, All-nil}
 use Rattle.kd_state.specs.SheetDay.{Day}
 use Rattle.kd_state.specs.Words.{IsWithout}
 use Rattle.kd_form.specs.FormParts.{BeginsHeading, IsFirstOf}
 use Rattle.kd_form.specs.FormText.{AreFirstParts, IsReadTo, Turn}
 use Rattle.kd_form.specs.FormReading.{MayBegin}
+use Rattle.kd_form.proofs.OneFault.{Shorter, Longer, fronts}
 
 pub no_break : (line after : List ℕ) (k : ℕ) → IsWithout 10 line → k < length line → get_or (line ++ 10 ∷ after) k 0 ≢ 10
 no_break line after k without inside is =
@@ -68,7 +69,7 @@ first_grows bytes part rest more first some = elim first.ends [
       }
 ]
 
-no_bytes : (front back : List ℕ) → front ++ back ≡ [] → back ≡ []
+pub no_bytes : (front back : List ℕ) → front ++ back ≡ [] → back ≡ []
 no_bytes [] back none = none
 no_bytes (byte ∷ front) back none = cc
 
@@ -85,7 +86,7 @@ parts_grow (part ∷ parts) bytes rest more some (after, first, later) = (
   parts_grow parts after rest more some later,
 )
 
-turn_cut : (s : Day) (form more : List ℕ) (t : Turn s form) → AreFirstParts t.before (form ++ more) (t.rest ++ more)
+pub turn_cut : (s : Day) (form more : List ℕ) (t : Turn s form) → AreFirstParts t.before (form ++ more) (t.rest ++ more)
 turn_cut s form more t = elim t.left [
   | inl none ↦
       let here : form ≡ t.rest = subst (λ (ps : List (List ℕ)). AreFirstParts ps form t.rest) none t.read.cut in
@@ -96,7 +97,7 @@ turn_cut s form more t = elim t.left [
 -- ---- the part in turn
 
 -- the parts before it stay, and with more bytes another one may be the first of what they leave
-pub turn_with : (s : Day) (form more part after : List ℕ) (t : Turn s form) → more ≢ [] → IsFirstOf (t.rest ++ more) part after → Turn s (form ++ more)
+abbrev pub turn_with : (s : Day) (form more part after : List ℕ) (t : Turn s form) → more ≢ [] → IsFirstOf (t.rest ++ more) part after → Turn s (form ++ more)
 turn_with s form more part after t some first = record {
   before = t.before;
   count = t.count;
@@ -177,3 +178,108 @@ due_told part line byte due kept may (few, is) =
     let whole : line ≡ part = short_line part line kept (omega arith) in
     let follows = due_follows part byte due (subst (λ (l : List ℕ). length l < 5) whole few) (is ∙ ap (λ (l : List ℕ). get_or (codes "PART ") (length l) 0) whole) may in
     (λ told. follows.0 (told_true byte due told), λ then_may. true_told byte due (follows.1 then_may))
+
+-- ---- a byte more of the last part
+
+place_within : (bytes : List ℕ) (byte place : ℕ) → place < length bytes → get_or (bytes ++ byte ∷ []) place 0 ≡ 10 → get_or bytes place 0 ≡ 10
+place_within bytes byte place inside is = sym (get_or-append bytes (byte ∷ []) 0 place inside) ∙ is
+
+whole_part : (bytes : List ℕ) → ((place : ℕ) → place + 1 < length bytes → get_or bytes place 0 ≡ 10 → ¬ (BeginsHeading (drop (place + 1) bytes)))
+    → IsFirstOf bytes bytes []
+whole_part bytes none = record { joined = sym (append-nil bytes); whole = none; ends = inl refl }
+
+-- without an LF there is no other line
+pub first_unbroken : (bytes : List ℕ) (byte : ℕ) → IsWithout 10 bytes → IsFirstOf (bytes ++ byte ∷ []) (bytes ++ byte ∷ []) []
+first_unbroken bytes byte unbroken = whole_part (bytes ++ byte ∷ []) (λ place below is. absurd (
+  let inside : place < length bytes = omega (arith, length-append bytes (byte ∷ [])) in
+  All-get_or (λ b. b ≢ 10) bytes place 0 inside unbroken (place_within bytes byte place inside is)))
+
+-- the last lines of the same bytes are the same
+same_last : (front tail other end : List ℕ) → IsWithout 10 tail → IsWithout 10 end → front ++ 10 ∷ tail ≡ other ++ 10 ∷ end → tail ≡ end
+same_last front tail other end without also same = elim (fronts front (10 ∷ tail) other (10 ∷ end) same) [
+  | Shorter [] longer left ↦ cc
+  | Shorter (byte ∷ more) longer left ↦
+      let all : tail ≡ more ++ 10 ∷ end = cc in
+      absurd (All-get_or (λ b. b ≢ 10) tail (length more) 0 (omega (arith, ap length all, length-append more (10 ∷ end))) without
+      (ap (λ l. get_or l (length more) 0) all ∙ get_or-append_seam more 10 end 0))
+  | Longer byte more longer left ↦
+      let all : end ≡ more ++ 10 ∷ tail = cc in
+      absurd (All-get_or (λ b. b ≢ 10) end (length more) 0 (omega (arith, ap length all, length-append more (10 ∷ tail))) also
+      (ap (λ l. get_or l (length more) 0) all ∙ get_or-append_seam more 10 tail 0))
+]
+
+pub head_unbroken : IsWithout 10 (codes "PART ")
+head_unbroken =
+    All-cons (λ b. b ≢ 10) 80 (65 ∷ 82 ∷ 84 ∷ 32 ∷ []) (λ e. omega arith) (All-cons (λ b. b ≢ 10) 65 (82 ∷ 84 ∷ 32 ∷ []) (λ e. omega arith)
+    (All-cons (λ b. b ≢ 10) 82 (84 ∷ 32 ∷ []) (λ e. omega arith) (All-cons (λ b. b ≢ 10) 84 (32 ∷ []) (λ e. omega arith)
+    (All-cons (λ b. b ≢ 10) 32 [] (λ e. omega arith) (All-nil (λ b. b ≢ 10))))))
+
+-- five bytes and one more that begin a heading
+last_digit : (bytes : List ℕ) (byte : ℕ) → length bytes < 6 → BeginsHeading (bytes ++ byte ∷ []) → (bytes ≡ codes "PART ") × (48 ≤ byte) × (byte ≤ 57)
+last_digit (a ∷ b ∷ c ∷ d ∷ e ∷ []) byte few begins =
+    let is : a ∷ b ∷ c ∷ d ∷ e ∷ byte ∷ [] ≡ 80 ∷ 65 ∷ 82 ∷ 84 ∷ 32 ∷ begins.digit ∷ begins.rest = begins.is in
+    let same : byte ≡ begins.digit = cc in
+    let one : a ≡ 80 = cc in
+    let two : b ≡ 65 = cc in
+    let three : c ≡ 82 = cc in
+    let four : d ≡ 84 = cc in
+    let five : e ≡ 32 = cc in
+    (cc, subst (λ x. 48 ≤ x) (sym same) begins.low, subst (λ x. x ≤ 57) (sym same) begins.high)
+last_digit [] byte few begins = absurd (omega (arith, ap length begins.is))
+last_digit (a ∷ []) byte few begins = absurd (omega (arith, ap length begins.is))
+last_digit (a ∷ b ∷ []) byte few begins = absurd (omega (arith, ap length begins.is))
+last_digit (a ∷ b ∷ c ∷ []) byte few begins = absurd (omega (arith, ap length begins.is))
+last_digit (a ∷ b ∷ c ∷ d ∷ []) byte few begins = absurd (omega (arith, ap length begins.is))
+last_digit (a ∷ b ∷ c ∷ d ∷ e ∷ f ∷ more) byte few begins = absurd (omega arith)
+
+next_place : (place : ℕ) → suc place ≡ place + 1
+next_place place = omega arith
+
+-- the bytes with an LF at that place
+at_place : (bytes : List ℕ) (place : ℕ) → place < length bytes → get_or bytes place 0 ≡ 10 → bytes ≡ take place bytes ++ 10 ∷ drop (place + 1) bytes
+at_place bytes place inside is =
+    sym (take-append-drop place bytes) ∙ ap (λ l. take place bytes ++ l) (drop-cons bytes place 0 inside) ∙ ap (λ b. take place bytes ++ b ∷ drop (suc place) bytes) is
+    ∙ ap (λ n. take place bytes ++ 10 ∷ drop n bytes) (next_place place)
+
+-- no heading begins in the last line, unless a digit stands behind its five bytes
+pub first_more : (bytes front tail : List ℕ) (byte : ℕ) → IsFirstOf bytes bytes [] → bytes ≡ front ++ 10 ∷ tail → IsWithout 10 tail
+    → ((tail ≡ codes "PART ") → (48 ≤ byte) → (byte ≤ 57) → ⊥) → IsFirstOf (bytes ++ byte ∷ []) (bytes ++ byte ∷ []) []
+first_more bytes front tail byte first lines unbroken not = whole_part (bytes ++ byte ∷ []) (λ place below is begins.
+  let inside : place < length bytes = omega (arith, length-append bytes (byte ∷ [])) in
+  let here : get_or bytes place 0 ≡ 10 = place_within bytes byte place inside is in
+  let left : BeginsHeading (drop (place + 1) bytes ++ byte ∷ []) = subst BeginsHeading (drop-append-le (place + 1) bytes (byte ∷ []) (omega arith)) begins in
+  elim (cases_lt (length (drop (place + 1) bytes)) 6) [
+    | inl short ↦
+        let digit = last_digit (drop (place + 1) bytes) byte short left in
+        not (same_last front tail (take place bytes) (codes "PART ") unbroken head_unbroken
+        (sym lines ∙ at_place bytes place inside here ∙ ap (λ l. take place bytes ++ 10 ∷ l) digit.0)) digit.1 digit.2
+    | inr long ↦
+        first.whole place (omega (arith, length-drop (place + 1) bytes)) here (begins_front (drop (place + 1) bytes) (byte ∷ []) long left)
+  ])
+
+-- the digit of a heading ends the part before it
+pub first_ends : (bytes part front : List ℕ) (digit : ℕ) → IsFirstOf bytes bytes [] → bytes ≡ part ++ codes "PART " → part ≡ front ++ 10 ∷ []
+    → 48 ≤ digit → digit ≤ 57 → IsFirstOf (bytes ++ digit ∷ []) part (codes "PART " ++ digit ∷ [])
+first_ends bytes part front digit first split broken low high =
+    let size : length bytes ≡ length part + 5 = ap length split ∙ length-append part (codes "PART ") in
+    let some : length part ≡ length front + 1 = ap length broken ∙ length-append front (10 ∷ []) in
+    record {
+      joined = ap (λ l. l ++ digit ∷ []) split ∙ append_assoc part (codes "PART ") (digit ∷ []);
+      whole = λ place below is begins.
+          let inside : place < length bytes = omega (arith, size) in
+          first.whole place (omega (arith, size)) (place_within bytes digit place inside is)
+          (begins_front (drop (place + 1) bytes) (digit ∷ []) (omega (arith, length-drop (place + 1) bytes, size))
+          (subst BeginsHeading (drop-append-le (place + 1) bytes (digit ∷ []) (omega (arith, size))) begins));
+      ends =
+          let last : length part - 1 ≡ length front = omega arith in
+          let there : (bytes ++ digit ∷ []) ≡ front ++ 10 ∷ (codes "PART " ++ digit ∷ []) =
+          ap (λ l. l ++ digit ∷ []) (split ∙ ap (λ l. l ++ codes "PART ") broken ∙ append_assoc front (10 ∷ []) (codes "PART "))
+          ∙ append_assoc front (10 ∷ codes "PART ") (digit ∷ []) in
+          inr (ap (λ n. get_or (bytes ++ digit ∷ []) n 0) last ∙ ap (λ l. get_or l (length front) 0) there
+          ∙ get_or-append_seam front 10 (codes "PART " ++ digit ∷ []) 0, record { digit = digit; rest = []; is = refl; low = low; high = high });
+    }
+
+pub rest_within : (parts : List (List ℕ)) (bytes rest : List ℕ) → AreFirstParts parts bytes rest → length rest ≤ length bytes
+rest_within [] bytes rest same = omega (arith, ap length same)
+rest_within (part ∷ parts) bytes rest (after, first, later) =
+    omega (arith, rest_within parts after rest later, ap length first.joined, length-append part after)

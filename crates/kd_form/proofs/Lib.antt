@@ -31,4 +31,6 @@ pub mod OneHeading
 pub mod OnePart
 pub mod FirstCuts
 pub mod OneText
+pub mod Standing
+pub mod FormSteps
 pub mod Streaming

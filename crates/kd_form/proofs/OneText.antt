@@ -1,7 +1,7 @@
 -- A form becomes one text, or has one fault.
 use Rattle.std.proofs.Common.{◌≡◌, ◌≢◌, ℕ, ◌+◌, ◌-◌, ◌<◌, ◌⊎◌, inl, inr, List, [], ◌∷◌, ◌++◌, length, refl, sym, ap, subst, ◌∙◌, arith}
 use Rattle.kd_state.specs.SheetDay.{Day}
-use Rattle.kd_state.specs.Words.{TextsTellFirstParts, NumbersAreWords}
+use Rattle.kd_state.specs.Words.{IsFirstPart, TextsTellFirstParts, NumbersAreWords}
 use Rattle.kd_form.specs.declared.fault.FormFault.{FormFault}
 use Rattle.kd_form.specs.declared.fault.FormFault.TheVariants.{BadHeading, PartOrder}
 use Rattle.kd_form.specs.FormParts.{BeginsHeading, IsFirstOf}
@@ -14,7 +14,6 @@ use Rattle.kd_form.proofs.OneHeading.{no_empty_heading, begins_there}
 use Rattle.kd_form.proofs.Growing.{begins_more, nothing_left}
 use Rattle.kd_form.proofs.FirstCuts.{FirstCut, first_cut}
 use Rattle.std.proofs.lemmas.List.{append-nil}
-use Rattle.std.specs.Prelude.{Contains}
 use Rattle.kd_form.proofs.OnePart.{one_text, read_or_refused, one_refusal}
 
 -- ---- parts that are read
@@ -184,7 +183,7 @@ unheaded s form fault numbers none is =
 fault_of : (s : Day) (form : List ℕ) (fault : FormFault) → NumbersAreWords → IsReceiveFault s form fault → IsFault s form fault
 fault_of s form fault numbers (text, inl (NoHeading none empty is)) = unheaded s form fault numbers none is
 fault_of s form fault numbers (text, inl (InWhole t some refused is)) = in_turn s form fault t refused
-fault_of s form fault numbers (text, inl (InLast t last broken refused is)) = in_turn s form fault t (inl refused)
+fault_of s form fault numbers (text, inl (InLast t line body last broken refused is)) = in_turn s form fault t (inl refused)
 fault_of s form fault numbers (text, inr (InPart t last refused is)) = in_turn s form fault t refused
 fault_of s form fault numbers (text, inr (TooFew parts count letters some read fewer is same)) = AtEnd parts count letters some read fewer is
 
@@ -248,7 +247,7 @@ begins_by_parts s form rest (part ∷ before) count letters numbers read may =
 
 -- its last part isn't whole, and isn't refused as far as it has come: then nothing refuses it for good
 pub nothing_stands : (s : Day) (form : List ℕ) (t : Turn s form) → TextsTellFirstParts → NumbersAreWords → t.after ≡ []
-    → MayBegin t.rest → ((fault : FormFault) → Contains t.part 10 → ¬ (IsRefusedEarly s form t fault))
+    → MayBegin t.rest → ((fault : FormFault) (line body : List ℕ) → IsFirstPart 10 t.part line body → ¬ (IsRefusedEarly s form t fault))
     → (text : List ℕ) (fault : FormFault) → ¬ (IsRefusedForGood s form text fault)
 nothing_stands s form t tell numbers last may early text fault (NoHeading none empty is) =
     let begins = begins_by_parts s form t.rest t.before t.count t.letters numbers t.read may in
@@ -257,13 +256,13 @@ nothing_stands s form t tell numbers last may early text fault (InWhole u some r
     let same = same_turn s form fault t u tell numbers last refused in
     let cut : IsFirstOf t.rest u.part u.after = subst (λ r. IsFirstOf r u.part u.after) (sym same.1) u.first in
     some ((one_cut t.rest u.part u.after t.part t.after cut t.first).1 ∙ last)
-nothing_stands s form t tell numbers last may early text fault (InLast u end broken refused is) =
+nothing_stands s form t tell numbers last may early text fault (InLast u line body end broken refused is) =
     let same = same_turn s form fault t u tell numbers last (inl refused) in
     let cut : IsFirstOf t.rest u.part u.after = subst (λ r. IsFirstOf r u.part u.after) (sym same.1) u.first in
     let part : u.part ≡ t.part = (one_cut t.rest u.part u.after t.part t.after cut t.first).0 in
     let read : ArePartsRead s 1 u.count t.before u.letters = subst (λ ps. ArePartsRead s 1 u.count ps u.letters) (sym same.0) u.read.read in
     let due : count_due t.before u.count ≡ count_due t.before t.count = due_alike s u.count t.count t.before u.letters t.letters tell numbers read t.read.read in
-    early fault (subst (λ p. Contains p 10) part broken)
+    early fault line body (subst (λ p. IsFirstPart 10 p line body) part broken)
     (subst (λ p. IsEarlyFault s (length t.before + 1) (count_due t.before t.count) (length form - length t.rest) p fault) part
     (subst (λ r. IsEarlyFault s (length t.before + 1) (count_due t.before t.count) (length form - length r) u.part fault) (sym same.1)
     (subst (λ d. IsEarlyFault s (length t.before + 1) d (length form - length u.rest) u.part fault) due

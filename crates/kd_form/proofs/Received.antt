@@ -52,7 +52,7 @@ pub record IsReadInTurn (s : Day) (form : List ℕ) (t : Turn s form) (parts : �
   pub read : IsPartRead s (length t.before + 1) parts t.part one
   pub due : IsExpected (count_due t.before t.count) parts
 
-read_on : (s : Day) (form : List ℕ) (t : Turn s form) (parts : ℕ) (one : List ℕ) → IsReadInTurn s form t parts one
+pub read_on : (s : Day) (form : List ℕ) (t : Turn s form) (parts : ℕ) (one : List ℕ) → IsReadInTurn s form t parts one
     → IsReadTo s form t.after (t.before ++ t.part ∷ []) parts (t.letters ++ one)
 read_on s form t parts one is = record {
   cut = first_parts_more t.before form t.rest t.part t.after t.read.cut t.first;
@@ -63,7 +63,7 @@ read_on s form t parts one is = record {
 }
 
 -- then the next one is in turn
-pub next_turn : (s : Day) (form : List ℕ) (t : Turn s form) (parts : ℕ) (one : List ℕ) → IsReadInTurn s form t parts one → t.after ≢ []
+abbrev pub next_turn : (s : Day) (form : List ℕ) (t : Turn s form) (parts : ℕ) (one : List ℕ) → IsReadInTurn s form t parts one → t.after ≢ []
     → IsFirstOf t.after t.after [] → Turn s form
 next_turn s form t parts one is left first = record {
   before = t.before ++ t.part ∷ [];
@@ -77,7 +77,7 @@ next_turn s form t parts one is left first = record {
   first = first;
 }
 
-pub first_turn : (s : Day) → Turn s []
+abbrev pub first_turn : (s : Day) → Turn s []
 first_turn s = record {
   before = [];
   count = 0;

@@ -1,6 +1,7 @@
 -- What a form becomes: a text, or the first fault. Parts are counted from 1.
-use Rattle.std.specs.Prelude.{◌≡◌, ◌≢◌, ◌⊎◌, ℕ, ◌+◌, ◌-◌, ◌<◌, ◌==◌, List, [], ◌∷◌, ◌++◌, length, map, Contains, Option, Some, None, if◌then◌else◌}
+use Rattle.std.specs.Prelude.{◌≡◌, ◌≢◌, ◌⊎◌, ℕ, ◌+◌, ◌-◌, ◌<◌, ◌==◌, List, [], ◌∷◌, ◌++◌, length, map, Option, Some, None, if◌then◌else◌}
 use Rattle.kd_state.specs.SheetDay.{Day, OfRotors, OfPins}
+use Rattle.kd_state.specs.Words.{IsFirstPart}
 use Rattle.kd_form.specs.declared.fault.FormFault.{FormFault}
 use Rattle.kd_form.specs.declared.fault.FormFault.TheVariants.{BadHeading, PartOrder}
 use Rattle.kd_form.specs.declared.keys.Keys.{Keys}
@@ -91,8 +92,8 @@ IsRefusedEarly s form t fault = IsEarlyFault s (length t.before + 1) (count_due 
 pub data IsRefusedForGood (s : Day) (form text : List ℕ) (fault : FormFault) : Type 0 where
   NoHeading : ((more : List ℕ) → ¬ (BeginsHeading (form ++ more))) → text ≡ [] → fault ≡ BadHeading 1 → IsRefusedForGood s form text fault
   InWhole : (t : Turn s form) → t.after ≢ [] → IsRefusedPart s form t fault → text ≡ given_letters s t.letters → IsRefusedForGood s form text fault
-  InLast : (t : Turn s form) → t.after ≡ [] → Contains t.part 10 → IsRefusedEarly s form t fault → text ≡ given_letters s t.letters
-      → IsRefusedForGood s form text fault
+  InLast : (t : Turn s form) (line body : List ℕ) → t.after ≡ [] → IsFirstPart 10 t.part line body → IsRefusedEarly s form t fault
+      → text ≡ given_letters s t.letters → IsRefusedForGood s form text fault
 
 -- The form is refused behind that text if it ends here: its last part is refused; or all parts are read, and are fewer than
 -- their headings say. Where the form is empty, its first part is refused.

@@ -94,7 +94,7 @@ impl MessageReader for FormReader {
                     Ok(letters) => {
                         *made = given_letters(day, letters.as_slice());
                         self.expected = Some(body.heading.parts);
-                        self.number = self.number.saturating_add(1);
+                        self.number += 1;
                         self.stage = Stage::Heading(heading_from(byte));
                         Ok(())
                     }
