@@ -1,5 +1,5 @@
 -- The reader of a form, byte by byte.
-use Rattle.std.proofs.Common.{◌≡◌, ◌≢◌, ◌⊎◌, inl, inr, ℕ, ◌+◌, ◌-◌, ◌<◌, ◌≤◌, List, [], ◌∷◌, ◌++◌, length, get_or, take, refl, sym, ap, subst, ◌∙◌, append_assoc, length-append, Option, Some, None, Result, Ok, Err, MatchResult, arith}
+use Rattle.std.proofs.Common.{◌≡◌, ◌≢◌, ◌⊎◌, inl, inr, ℕ, ◌+◌, ◌-◌, ◌<◌, ◌≤◌, List, [], ◌∷◌, ◌++◌, length, get_or, take, refl, sym, ap, subst, ◌∙◌, append_assoc, length-append, Option, Some, None, arith}
 use Rattle.std.specs.Prelude.{codes, All, IsTrue, IsFalse, MatchOption}
 use Rattle.std.proofs.lemmas.List.{append-nil, append_cancel_right, length-take}
 use Rattle.std.proofs.lemmas.List.Elements.{All-append, All-cons, All-nil, All-head, All-tail, filter_map-append}
@@ -50,7 +50,7 @@ one_part s r form text h =
     let rest : t.part ≡ t.rest = sym (last_rest s form t h.so_far.last) in
     subst (λ p. IsFirstOf t.rest p []) rest (subst (λ a. IsFirstOf t.rest t.part a) h.so_far.last t.first)
 
-body_heading : (s : Day) (b : PartBody) (part body : List ℕ) → HoldsBody s b part body → HasHeading s part b.heading body
+pub body_heading : (s : Day) (b : PartBody) (part body : List ℕ) → HoldsBody s b part body → HasHeading s part b.heading body
 body_heading s b part body holds = record { line = holds.line; joined = holds.joined; ended = inl holds.ended; is_heading = holds.is_heading }
 
 -- the line of its heading has ended
@@ -354,16 +354,11 @@ ended_turn : (s : Day) (r : FormReader) (form text : List ℕ) (byte : ℕ) (b :
 ended_turn s r form text byte b h there part low high =
     first_ends h.so_far.turn.rest part.whole there.holds.front byte (one_part s r form text h) part.split part.broken low high
 
-abbrev IsRead : {X : Type 0} → (X → List ℕ) → Day → PartBody → Result X FormFault → Type 0
-IsRead items s b answer =
-    (letters more : List ℕ) → length more ≡ 4 → b.letters.items ≡ take 525 (letters ++ more)
-    → MatchResult answer (λ x. IsBodyText s b.heading letters (items x)) (IsBodyFault s b.heading.part b.heading letters)
-
-pub part_refused : {X : Type 0} (items : X → List ℕ) (s : Day) (r : FormReader) (form text : List ℕ) (byte : ℕ) (b : PartBody) (fault : FormFault)
+pub part_refused : (s : Day) (r : FormReader) (form text : List ℕ) (byte : ℕ) (b : PartBody) (fault : FormFault)
     (h : HoldsForm s r form text) → r.stage ≡ stages.Body b → b.begun ≡ Some 5 → 48 ≤ byte → byte ≤ 57
     → ((letters more : List ℕ) → length more ≡ 4 → b.letters.items ≡ take 525 (letters ++ more) → IsBodyFault s b.heading.part b.heading letters fault)
     → IsRefusedForGood s (form ++ byte ∷ []) text fault
-part_refused items s r form text byte b fault h stage begun low high told =
+part_refused s r form text byte b fault h stage begun low high told =
     let t : Turn s form = h.so_far.turn in
     let there = in_line s r form text [] h (stages.Body b) stage in
     let part = settled s b t.rest there.body there.holds begun in

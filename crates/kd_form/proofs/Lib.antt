@@ -33,4 +33,5 @@ pub mod FirstCuts
 pub mod OneText
 pub mod Standing
 pub mod FormSteps
+pub mod FormEnds
 pub mod Streaming

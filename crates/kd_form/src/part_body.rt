@@ -57,7 +57,8 @@ impl PartBody {
     /// Takes a byte that may stand in a body.
     pub(crate) fn push(&mut self, byte: u8)
         requires { IsTrue (is_text_byte byte) }
-        ensures { (s : _) (part body : List ℕ) → HoldsBody s self.old part body
+        ensures heading { self.new.heading ≡ self.old.heading }
+        ensures body { (s : _) (part body : List ℕ) → HoldsBody s self.old part body
             → HoldsBody s self.new (part ++ byte ∷ []) (body ++ byte ∷ []) }
     {
         keep_letter(&mut self.letters, letter_of_byte(&None, byte));
