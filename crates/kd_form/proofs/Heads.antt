@@ -129,7 +129,7 @@ reading_none s order = record {
   only = λ others more head. (others, head, omega arith);
 }
 
-lines_more : (keys : List Keys) (k : Keys) (lines line : List ℕ) → AreKeyLines keys lines → IsKeyLine k line → AreKeyLines (keys ++ k ∷ []) (lines ++ line)
+pub lines_more : (keys : List Keys) (k : Keys) (lines line : List ℕ) → AreKeyLines keys lines → IsKeyLine k line → AreKeyLines (keys ++ k ∷ []) (lines ++ line)
 lines_more [] k lines line keyed ended =
     (line, [], ended, refl, ap (λ l. l ++ line) keyed ∙ sym (append-nil line))
 lines_more (first ∷ keys) k lines line (one, others, is, more, joined) ended =
@@ -196,7 +196,7 @@ no_key_line s (k ∷ others) rest after other byte place off next front head =
     (record { keys = k; of_the_day = All-head (AreKeys s) k others head.of_the_day; keyed = first.2 })
     (sym (append_assoc first.0 first.1 head.last) ∙ ap (λ l. l ++ head.last) (sym first.4) ∙ sym head.joined)
 
-text_line : (last : List ℕ) → IsEnded (codes "TEXT") last → IsPatternLine (codes "TEXT") last
+pub text_line : (last : List ℕ) → IsEnded (codes "TEXT") last → IsPatternLine (codes "TEXT") last
 text_line last ended = record { letters = []; are_letters = record { count = refl; within = All-nil (λ l. l < 26) }; ended = ended }
 
 no_text_line : (s : Day) (others keys : List Keys) (rest after other : List ℕ) (byte place : ℕ) (off : LineBreaksOff (IsPatternLine (codes "TEXT")) rest place)

@@ -35,3 +35,5 @@ pub mod Standing
 pub mod FormSteps
 pub mod FormEnds
 pub mod Streaming
+pub mod OrderHeads
+pub mod OrderParts

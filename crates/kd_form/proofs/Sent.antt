@@ -1,5 +1,5 @@
 -- Orders that are refused, and the parts of a form, one after another.
-use Rattle.std.proofs.Common.{◌≡◌, ◌≢◌, ℕ, suc, ◌+◌, ◌-◌, ◌<◌, ◌≤◌, List, [], ◌∷◌, ◌++◌, length, get_or, take, drop, refl, sym, ap, subst, ◌∙◌, append_assoc, length-append, length-drop, arith}
+use Rattle.std.proofs.Common.{◌≡◌, ◌≢◌, ℕ, suc, ◌+◌, ◌-◌, ◌<◌, ◌≤◌, inl, inr, List, [], ◌∷◌, ◌++◌, length, get_or, take, drop, refl, sym, ap, subst, ◌∙◌, append_assoc, length-append, length-drop, arith}
 use Rattle.std.specs.Prelude.{All, IsTrue, Option}
 use Rattle.std.specs.Int.{div_ceil}
 use Rattle.std.specs.Simd.{first_chunks}
@@ -23,14 +23,14 @@ IsRead s order keys text = (head : List ℕ) × IsOrder s order keys head text
 
 pub keys_refused : (s : Day) (order text : List ℕ) (keys shown : List Keys) (fault : FormFault) → IsRead s order keys text → shown ≡ keys
     → IsFirstKeysFault s shown fault → IsSendFault s order fault
-keys_refused s order text keys shown fault (head, is) same found = InKeys keys head text is (subst (λ ks. IsFirstKeysFault s ks fault) same found)
+keys_refused s order text keys shown fault (head, is) same found = inl (InKeys keys head text is (subst (λ ks. IsFirstKeysFault s ks fault) same found))
 
 pub byte_refused : (s : Day) (order text : List ℕ) (keys shown : List Keys) (place position : ℕ) → IsRead s order keys text → shown ≡ keys
     → All (Suits s) shown → IsBadAt text place → position ≡ length order - length text + place + 1 → IsSendFault s order (BadByte position)
 byte_refused s order text keys shown place position (head, is) same suited bad at =
     let all : length order ≡ length head + length text = ap length is.joined ∙ length-append head text in
     let there : position ≡ length head + place + 1 = omega arith in
-    InText keys head text place is (subst (All (Suits s)) same suited) bad (ap BadByte there)
+    inl (InText keys head text place is (subst (All (Suits s)) same suited) bad (ap BadByte there))
 
 nothing : (xs : List ℕ) → length xs ≡ 0 → xs ≡ []
 nothing [] none = refl
@@ -40,8 +40,8 @@ pub nothing_to_send : (s : Day) (order text : List ℕ) (keys shown : List Keys)
     → All (Suits s) shown → blank ≡ blank_of s → All (λ b. IsTrue (is_text_byte b)) text → count ≡ length (letters_from blank text) → count ≡ 0
     → IsSendFault s order EmptyText
 nothing_to_send s order text keys shown blank count (head, is) same suited told allowed counted none =
-    NoLetter keys head text is (subst (All (Suits s)) same suited) allowed
-    (nothing (text_letters s text) (sym (ap (λ b. length (letters_from b text)) told) ∙ sym counted ∙ none)) refl
+    inr (NoLetter keys head text is (subst (All (Suits s)) same suited) allowed
+    (nothing (text_letters s text) (sym (ap (λ b. length (letters_from b text)) told) ∙ sym counted ∙ none)) refl)
 
 something : (xs : List ℕ) (count : ℕ) → count ≡ length xs → count ≢ 0 → xs ≢ []
 something xs count counted some none = some (counted ∙ ap length none)
@@ -52,8 +52,8 @@ pub other_parts : (s : Day) (order text : List ℕ) (keys shown : List Keys) (bl
 other_parts s order text keys shown blank count size needed given (head, is) same suited told allowed counted some sized need are differ =
     let letters : count ≡ length (text_letters s text) = counted ∙ ap (λ b. length (letters_from b text)) told in
     let parts : needed ≡ parts_needed s (length (text_letters s text)) = need ∙ ap (div_ceil count) sized ∙ ap (λ n. div_ceil n (part_size s)) letters in
-    InParts keys head text is (subst (All (Suits s)) same suited) allowed (something (text_letters s text) count letters some)
-    (λ alike. differ (parts ∙ alike ∙ sym are)) (ap (λ n. PartKeys n given) parts ∙ ap (PartKeys (parts_needed s (length (text_letters s text)))) are)
+    inr (InParts keys head text is (subst (All (Suits s)) same suited) allowed (something (text_letters s text) count letters some)
+    (λ alike. differ (parts ∙ alike ∙ sym are)) (ap (λ n. PartKeys n given) parts ∙ ap (PartKeys (parts_needed s (length (text_letters s text)))) are))
 
 -- ---- part after part
 

@@ -16,3 +16,5 @@ pub mod KeyPatterns
 pub mod FormReading
 pub mod Streams
 pub mod StreamSteps
+pub mod SendStream
+pub mod SendSteps

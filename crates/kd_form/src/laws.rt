@@ -1,7 +1,7 @@
 //! What holds of orders and forms.
 ghost use Rattle.kd_form.specs.Laws.{OrderIsAnswered, FormIsAnswered};
 ghost use Rattle.kd_form.specs.Laws.{OrdersBecomeOneForm, OrdersHaveOneFault, SentOrdersHaveNoFault};
-ghost use Rattle.kd_form.specs.Laws.{FormsBecomeOneText, FormsHaveOneFault, ReceivedFormsHaveNoFault};
+ghost use Rattle.kd_form.specs.Laws.{FormsBecomeOneText, FormsHaveOneFault, ReceivedFormsHaveNoFault, FormsStayRefused};
 ghost use Rattle.kd_form.specs.Laws.{OrdersGiveLetters, FormsGiveTheirOrders};
 
 use super::form_reader::FormReader;
@@ -36,6 +36,14 @@ pub fn forms_have_one_answer()
     ensures text { FormsBecomeOneText }
     ensures fault { FormsHaveOneFault }
     ensures never_both { ReceivedFormsHaveNoFault }
+{
+    texts_tell_first_parts();
+    numbers_and_letters_are_words();
+}
+
+/// What refuses a form for good also refuses it with any bytes behind it.
+pub fn forms_stay_refused()
+    ensures { FormsStayRefused }
 {
     texts_tell_first_parts();
     numbers_and_letters_are_words();

@@ -15,6 +15,7 @@ mod keys;
 pub mod laws;
 mod making;
 mod order;
+mod order_reader;
 mod part_body;
 mod pattern_line;
 mod reading;
@@ -27,5 +28,5 @@ mod tests;
 mod text;
 
 pub use fault::FormFault;
-pub use receiving::receive;
+pub use receiving::{receive, receive_stream};
 pub use sending::send;

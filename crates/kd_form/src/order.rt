@@ -38,7 +38,7 @@ pub(crate) fn read_head<'a>(
 }
 
 /// Whether the bytes can only begin with a line of keys, by the first one.
-fn is_key_line(bytes: &[u8]) -> bool
+pub(crate) fn is_key_line(bytes: &[u8]) -> bool
     ensures { IsTrue result ↔ (slice_index bytes.now 0 ≡ 80) }
 {
     match bytes {

@@ -1,21 +1,24 @@
 //! The text that a form becomes.
-ghost use Rattle.std.specs.Prelude.{MatchResult};
-ghost use Rattle.kd_form.specs.FormText.{IsFirstPartRead, IsTextOf, IsReceiveFault};
-ghost use Rattle.kd_form.specs.OnTheKey.{IsRefusal, AnswersOnKey};
+ghost use Rattle.kd_tables.specs.Ports.{port};
+ghost use Rattle.kd_form.specs.FormText.{form_message, IsFirstPartRead, IsTextOf, IsReceiveFault};
+ghost use Rattle.kd_form.specs.OnTheKey.{AnswersOnKey};
+ghost use Rattle.kd_form.specs.Streams.{StreamsOnKey};
 
 use super::fault::FormFault;
 use super::form_reader::FormReader;
 use super::sending::check_machine;
+use super::stream::stream;
 use super::stream::whole::bytes_of;
 use kd_state::{Machine, SheetDay};
+use kd_tables::{Sink, Source};
 use std::alloc::Global;
 
 /// The text that the form becomes on a machine that is on the day's key: capital letters, on the Converter M-209 with a space
 /// for each Z, and LF.
 ///
 /// `NotReady` and `NotOnKey` come first, and then the form's first fault, part after part: `BadHeading`, `PartOrder`,
-/// `BadByte`, `CountWrong`, and what is wrong with its letters; at the end `PartOrder` again. `NoMemory` is told as soon as
-/// there is none, also of a form that has a fault in a later part; not before a part is read.
+/// `BadByte`, `CountWrong`, and what is wrong with its letters; at the end `PartOrder` again. `NoMemory` is told only of a form
+/// that becomes a text.
 pub fn receive(
     alloc: Global,
     machine: &Machine,
@@ -26,6 +29,30 @@ pub fn receive(
         (λ text. IsTextOf day.now form.now text.items)
         (IsReceiveFault day.now form.now) (IsFirstPartRead day.now form.now) result }
 {
-    check_machine(machine, day)?;
-    bytes_of::<FormReader>(alloc, day, form)
+    match check_machine(machine, day) {
+        Ok(()) => bytes_of::<FormReader>(alloc, day, form),
+        Err(fault) => Err(fault),
+    }
+}
+
+/// Reads a form from the source as it comes, and writes its text to the sink, part by part. No more than one part is held, and
+/// no memory is taken.
+///
+/// `NotReady` and `NotOnKey` come first, and nothing is read then. What refuses the form whatever follows is told as soon as it
+/// has come, and what refuses it at its end there, behind the texts of the parts before. `ReadTooLong` is told where more than
+/// `READ_LIMIT` bytes come, and `Device` where a get or a put fails.
+pub fn receive_stream<R: Source, W: Sink>(
+    machine: &Machine,
+    day: &SheetDay,
+    source: &mut R,
+    sink: &mut W,
+) -> Result<(), FormFault>
+    ensures { StreamsOnKey machine.now day.now (form_message day.now)
+        (port R.remaining R.has_failed source.old source.new)
+        (port W.taken W.has_failed sink.old sink.new) result }
+{
+    match check_machine(machine, day) {
+        Ok(()) => stream::<FormReader, R, W>(day, source, sink),
+        Err(fault) => Err(fault),
+    }
 }

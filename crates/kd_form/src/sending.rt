@@ -100,7 +100,7 @@ fn write_parts(
 }
 
 /// How many letters of the text a part has at most.
-fn part_size(day: &SheetDay) -> usize
+pub(crate) fn part_size(day: &SheetDay) -> usize
     ensures value { result ≡ part_size day.now }
     ensures some { 245 ≤ result }
     ensures few { result ≤ 500 }
