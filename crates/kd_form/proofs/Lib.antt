@@ -32,6 +32,7 @@ pub mod OnePart
 pub mod FirstCuts
 pub mod OneText
 pub mod Standing
+pub mod Failing
 pub mod FormSteps
 pub mod FormEnds
 pub mod Streaming

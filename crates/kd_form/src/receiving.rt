@@ -1,8 +1,8 @@
 //! The text that a form becomes.
-ghost use Rattle.kd_tables.specs.Ports.{port};
+ghost use Rattle.kd_tables.specs.Ports.{Fail, port};
 ghost use Rattle.kd_form.specs.FormText.{form_message, IsFirstPartRead, IsTextOf, IsReceiveFault};
 ghost use Rattle.kd_form.specs.OnTheKey.{AnswersOnKey};
-ghost use Rattle.kd_form.specs.Streams.{StreamsOnKey};
+ghost use Rattle.kd_form.specs.Streams.{StreamsOnKey, is_device};
 
 use super::fault::FormFault;
 use super::form_reader::FormReader;
@@ -47,9 +47,11 @@ pub fn receive_stream<R: Source, W: Sink>(
     source: &mut R,
     sink: &mut W,
 ) -> Result<(), FormFault>
-    ensures { StreamsOnKey machine.now day.now (form_message day.now)
+    ensures streamed { StreamsOnKey machine.now day.now (form_message day.now)
         (port R.remaining R.has_failed source.old source.new)
         (port W.taken W.has_failed sink.old sink.new) result }
+    ensures failed { Fail (port R.remaining R.has_failed source.old source.new)
+        (port W.taken W.has_failed sink.old sink.new) (is_device result) }
 {
     match check_machine(machine, day) {
         Ok(()) => stream::<FormReader, R, W>(day, source, sink),
