@@ -13,6 +13,7 @@ pub mod Receiving
 pub mod FormText
 pub mod Laws
 pub mod KeyPatterns
+pub mod FormReading
 pub mod Streams
 pub mod StreamSteps
 pub mod SendStream

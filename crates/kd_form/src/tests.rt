@@ -2,3 +2,4 @@ mod long_texts;
 mod receiving;
 mod samples;
 mod sending;
+mod streams;
