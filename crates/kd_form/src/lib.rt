@@ -28,4 +28,4 @@ mod text;
 
 pub use fault::FormFault;
 pub use receiving::{receive, receive_stream};
-pub use sending::send;
+pub use sending::{send, send_stream};

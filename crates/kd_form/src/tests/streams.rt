@@ -99,9 +99,9 @@ fn forms_are_received_as_they_come(rt: HostRuntime) {
 }
 
 /// A source that gives these bytes first, and then one byte for ever.
-struct Endless {
-    front: &'static [u8],
-    byte: u8,
+pub struct Endless {
+    pub front: &'static [u8],
+    pub byte: u8,
 }
 
 impl Source for Endless {
