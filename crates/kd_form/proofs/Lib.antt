@@ -38,4 +38,3 @@ pub mod Streaming
 pub mod OrderHeads
 pub mod OrderParts
 pub mod OrderRead
-pub mod Failing
