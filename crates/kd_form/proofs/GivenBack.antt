@@ -24,7 +24,7 @@ use Rattle.kd_form.proofs.Groups.{more_pieces, pieces-next, pieces-none}
 use Rattle.kd_form.proofs.MadeParts.{IsPiece, GivesBack, part_gives_back}
 use Rattle.kd_form.proofs.PartTexts.{part_has_heading, part_begins_heading, part_is_first}
 use Rattle.kd_form.proofs.OneOrder.{one_order}
-use Rattle.kd_form.proofs.Sent.{size_some}
+use Rattle.kd_form.proofs.OrderParts.{size_some}
 
 -- ---- the letters of a text are letters of the alphabet
 

@@ -17,7 +17,7 @@ use Rattle.kd_form.specs.FormParts.{IsHeading, BeginsHeading, IsFirstOf}
 use Rattle.kd_form.specs.Receiving.{HasHeading}
 use Rattle.kd_form.proofs.Fractions.{figures}
 use Rattle.kd_form.proofs.FirstLines.{IsPlain, plain_more, plain_part, plain_heading, without}
-use Rattle.kd_form.proofs.FormCuts.{no_break}
+use Rattle.kd_form.proofs.Growing.{no_break}
 use Rattle.kd_form.proofs.BodyTexts.{AreAllowed, AreLines, body_is_allowed, body_lines, line_before, lines_from}
 
 -- ---- the heading

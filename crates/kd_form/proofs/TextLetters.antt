@@ -35,7 +35,7 @@ how_many : (found : Option ℕ) → length (option_to_list found) ≡ (if is_som
 how_many None = refl
 how_many (Some letter) = refl
 
-at_most_one : (found : Option ℕ) → length (option_to_list found) ≤ 1
+pub at_most_one : (found : Option ℕ) → length (option_to_list found) ≤ 1
 at_most_one None = omega arith
 at_most_one (Some letter) = omega arith
 

@@ -1,10 +1,12 @@
 //! The line of a heading, read.
-ghost use Rattle.std.specs.Prelude.{◌≡◌, ◌≢◌, ◌⊎◌, ◌↔◌, ℕ, ◌^◌, ◌<◌, List, codes, decimal, map, IsTrue, MatchOption};
+ghost use Rattle.std.specs.Prelude.{◌≡◌, ◌≢◌, ◌⊎◌, ◌↔◌, ℕ, ◌^◌, ◌<◌, List, [], ◌∷◌, ◌++◌, codes, decimal, map, take, IsTrue, MatchOption};
 ghost use Rattle.kd_state.specs.Machine.{AreLetters};
-ghost use Rattle.kd_state.specs.Words.{line_of};
+ghost use Rattle.kd_state.specs.Words.{line_of, IsWithout};
+ghost use Rattle.kd_form.specs.declared.heading.Heading.{Heading};
 ghost use Rattle.kd_form.specs.Keys.{letters_text};
 ghost use Rattle.kd_form.specs.Part.{fraction, indicator_words, heading_words};
-ghost use Rattle.kd_form.specs.FormParts.{IsFraction, AreFewLetters, IsLetterCount, IsHeading, AreHeadingWords, IsFirstLine};
+ghost use Rattle.kd_form.specs.Order.{IsEnded};
+ghost use Rattle.kd_form.specs.FormParts.{IsFraction, AreFewLetters, IsLetterCount, IsHeading, AreHeadingWords, IsLineText};
 ghost use Rattle.kd_form.specs.Reading.{HasIndicator};
 ghost use Rattle.kd_form.specs.Receiving.{HasHeading};
 
@@ -164,27 +166,33 @@ fn heading_of_line(day: &SheetDay, line: &[u8]) -> Option<Heading>
     heading_of_words(day, words.as_slice())
 }
 
-/// The heading of the part, and its body.
-pub(crate) fn read_heading<'a>(day: &SheetDay, part: &'a [u8]) -> Option<(Heading, &'a [u8])>
-    ensures { MatchOption result
-        ((h : _) (body : List ℕ) → ¬ HasHeading day.now part.now h body)
-        (λ found. HasHeading day.now part.now found.0 found.1.now) }
+/// The heading of a part of which no more has come than its first line, without an LF: of that the first 64 bytes are given.
+pub(crate) fn heading_of_open(day: &SheetDay, line: &[u8]) -> Option<Heading>
+    ensures { (part : List ℕ) → IsWithout 10 part → line.now ≡ take 64 part → MatchOption result
+        ((h : Heading) (body : List ℕ) → ¬ HasHeading day.now part h body)
+        (λ h. HasHeading day.now part h []) }
 {
-    texts_tell_first_parts();
-    let (line, body) = split_line(part);
-    let heading = heading_of_line(day, line)?;
-    Some((heading, body))
+    let _slots = slots_of(day);
+    heading_of_line(day, line)
 }
 
-/// The first line without its end, and what follows it. The last line may lack its end.
-fn split_line(part: &[u8]) -> (&[u8], &[u8])
-    ensures { IsFirstLine part.now result.0.now result.1.now }
+/// The same of a line that has its LF, which is not given. A CR before it belongs to the line's end.
+pub(crate) fn heading_of_ended(day: &SheetDay, line: &[u8]) -> Option<Heading>
+    ensures { (part : List ℕ) → IsWithout 10 part → line.now ≡ take 64 part → MatchOption result
+        ((h : Heading) (body : List ℕ) → ¬ HasHeading day.now (part ++ 10 ∷ []) h body)
+        (λ h. IsHeading day.now h × IsEnded (line_of (heading_words h)) (part ++ 10 ∷ [])) }
 {
-    match split_once(part, b'\n') {
-        Some((line, body)) => match line {
-            [text @ .., b'\r'] => (text, body),
-            _ => (line, body),
-        },
-        None => part.split_at(part.len()),
+    texts_tell_first_parts();
+    let _slots = slots_of(day);
+    heading_of_line(day, without_return(line))
+}
+
+/// The line without the CR at its end, if it has one.
+fn without_return(line: &[u8]) -> &[u8]
+    ensures { IsLineText line.now result.now }
+{
+    match line {
+        [text @ .., b'\r'] => text,
+        _ => line,
     }
 }

@@ -67,7 +67,7 @@ fn push_letter(letters: &mut ArrayVec<Letter, 520>, letter: Option<Letter>)
 }
 
 /// The letter that a byte of the text gives, where a space stands for that.
-fn letter_of_byte(blank: &Option<Letter>, byte: u8) -> Option<Letter>
+pub(crate) fn letter_of_byte(blank: &Option<Letter>, byte: u8) -> Option<Letter>
     ensures { result ≡ letter_of_byte blank.now byte }
 {
     if byte == b' ' {

@@ -57,6 +57,9 @@ fn write_whole<M: MessageReader + Drop, W: Sink>(
     ensures failed { W.has_failed sink.new ≡ (W.has_failed sink.old || stops_at_device result) }
 {
     let mut reader = M::start(day);
-    feed_all(&mut reader, day, message, sink)?;
-    finish(&mut reader, day, sink)
+    prove!(message.len() < 1 << 63);
+    match feed_all(&mut reader, day, message, sink) {
+        Ok(()) => finish(&mut reader, day, sink),
+        Err(stop) => Err(stop),
+    }
 }
