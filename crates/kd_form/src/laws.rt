@@ -5,8 +5,8 @@ ghost use Rattle.kd_form.specs.Laws.{FormsBecomeOneText, FormsHaveOneFault, Rece
 ghost use Rattle.kd_form.specs.Laws.{OrdersGiveLetters, FormsGiveTheirOrders};
 
 use super::form_reader::FormReader;
-use super::stream::whole::judge;
 use super::sending::read_order;
+use super::stream::whole::judge;
 use kd_state::SheetDay;
 use kd_state::laws::{
     numbers_and_letters_are_words, texts_tell_first_parts, the_day_deciphers_itself,
