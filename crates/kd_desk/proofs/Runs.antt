@@ -12,7 +12,7 @@ use Rattle.kd_desk.specs.declared.stop.Stop.{Stop}
 use Rattle.kd_desk.specs.declared.stop.Stop.TheVariants.{Usage, Unread, ReadFailed, Refused}
 use Rattle.kd_desk.specs.CommandLine.{Named, desk_grammar, files_of, with_opened, IsOf, Says}
 use Rattle.kd_desk.specs.declared.command.Task.{Task}
-use Rattle.kd_desk.specs.Desk.{KnownCommand, KnownTask, command_over, AskFor, CarriesOut, DoesTask, IsDone, IsTaskDone, has_read}
+use Rattle.kd_desk.specs.Desk.{KnownCommand, KnownAction, KnownTask, command_over, AskFor, CarriesOut, DoesTask, IsDone, IsTaskDone, has_read}
 use Rattle.kd_desk.specs.OnDay.{OnDay}
 use Rattle.kd_desk.specs.Files.{Gives, IsReading, Opened}
 use Rattle.kd_tables.specs.Ports.{Port}
@@ -89,6 +89,13 @@ module _ (machine sheet : List ℕ) (number : ℕ) (sink : Port) where
   pub task_done : (one other : KnownTask) (answer : Result (Unit {0}) Stop) → one ≡ other
       → IsTaskDone machine sheet number other sink answer → IsTaskDone machine sheet number one sink answer
   task_done one other answer same done = subst (λ task. IsTaskDone machine sheet number task sink answer) (sym same) done
+
+-- a command of the same files and the same action does the same
+pub command_done : (source sink : Port) (answer : Result (Unit {0}) Stop) (machine same : List ℕ) (action other : KnownAction) → same ≡ machine → action ≡ other
+    → IsDone (record { machine = same; action = other }) source sink answer → IsDone (record { machine = machine; action = action }) source sink answer
+command_done source sink answer machine same action other is are done =
+    subst (λ m. IsDone (record { machine = m; action = action }) source sink answer) is
+    (subst (λ a. IsDone (record { machine = same; action = a }) source sink answer) (sym are) done)
 
 -- of a file that was not opened nothing is left
 pub nothing_left : Opened

@@ -1,14 +1,17 @@
--- What a stream answers, where more is said of its messages.
-use Rattle.std.proofs.Common.{ℕ, List, Option, Some, None, Result, Ok, Err}
+-- What a stream answers, where more is said of its messages, and what the desk makes of its refusals.
+use Rattle.std.proofs.Common.{◌≡◌, ℕ, Bool, List, Option, Some, None, Result, Ok, Err, IsTrue, refl, sym, subst}
 use Rattle.kd_state.specs.declared.machine.parts.Parts.{Parts}
 use Rattle.kd_state.specs.SheetDay.{Day}
 use Rattle.kd_form.specs.declared.fault.FormFault.{FormFault}
-use Rattle.kd_form.specs.OnTheKey.{StreamsOnKey, Off, On}
+use Rattle.kd_form.specs.declared.fault.FormFault.TheVariants as faults
+use Rattle.kd_form.specs.OnTheKey.{StreamsOnKey, Off, On, is_off_key}
+use Rattle.kd_form.specs.Streams as streams
 use Rattle.kd_form.specs.Streams.{Message, IsOpen, Closes, IsDue, ByThen, ByTheEnd, Answers, IsStreamed}
 use Rattle.kd_form.specs.Streams.{Whole, Stands, AtEnd, TooLong, SourceFails, SinkFails}
-use Rattle.kd_tables.specs.Ports.{Port}
+use Rattle.kd_tables.specs.Ports.{Port, Fail}
 use Rattle.kd_desk.specs.declared.fault.DeskFault.{DeskFault}
-use Rattle.kd_desk.specs.Messages.{IsStreamedOn}
+use Rattle.kd_desk.specs.Messages.{IsStreamedOn, fault_of_message}
+use Rattle.kd_desk.specs.RunSteps.{is_refused_before, is_device}
 
 -- what is so of a message by the first kind is so by the second, and the refusals that stand are the same
 pub record Implies (m n : Message) : Type 0 where
@@ -65,3 +68,23 @@ module _ (m n : Message) (more : Implies m n) where
     streamed = on_key parts s source sink is.told is.streamed;
     answers = is.answers;
   }
+
+-- ---- refusals
+
+is_off_key_of : (fault : FormFault) → IsTrue (is_refused_before (Err (fault_of_message fault))) → IsTrue (is_off_key (Err fault))
+is_off_key_of faults.Device before = before
+is_off_key_of faults.ReadTooLong before = before
+is_off_key_of _ before = before
+
+pub off_key : (fault : FormFault) (desk : DeskFault) → desk ≡ fault_of_message fault → IsTrue (is_refused_before (Err desk)) → IsTrue (is_off_key (Err fault))
+off_key fault desk is before = is_off_key_of fault (subst (λ f. IsTrue (is_refused_before (Err f))) is before)
+
+is_device_of : (fault : FormFault) → streams.is_device (Err fault) ≡ is_device (Err (fault_of_message fault))
+is_device_of faults.Device = refl
+is_device_of faults.ReadTooLong = refl
+is_device_of _ = refl
+
+pub fails_in_message : (source sink : Port) (fault : FormFault) (desk : DeskFault) → desk ≡ fault_of_message fault → Fail source sink (streams.is_device (Err fault))
+    → Fail source sink (is_device (Err desk))
+fails_in_message source sink fault desk is fails =
+    subst (λ f. Fail source sink (is_device (Err f))) (sym is) (subst (λ b. Fail source sink b) (is_device_of fault) fails)

@@ -15,7 +15,7 @@ pub returns-in-Check-clause-does : goal.returns-in-Check-clause-does
 returns-in-Check-clause-does g c =
     task_done _ _ _ _ _ (tasks.Check c.as_slice.result.now) _
     (ap (with_task_opened (opened g.O.Source.remaining g.O.Source.has_failed)) c.in-Check.is ∙ ap (λ card. tasks.Check card) (sym c.as_slice.ensures))
-    (record { left = nothing_left; told = c.run_check.result; does = c.run_check.ensures.checks; answers = c.after.ensures })
+    (record { left = nothing_left; told = c.run_check.result; does = c.run_check.ensures.checks; answers = c.after-in-Check.ensures })
 
 pub returns-in-Message-clause-does : goal.returns-in-Message-clause-does
 returns-in-Message-clause-does g c =
@@ -25,5 +25,5 @@ returns-in-Message-clause-does g c =
       left = known c.carry_message-done.new.file;
       told = c.carry_message-done.result;
       does = c.carry_message-done.ensures.does;
-      answers = c.after.ensures ∙ ap (λ failed. stop_after failed c.carry_message-done.result) c.failed.ensures;
+      answers = c.after-in-Message.ensures ∙ ap (λ failed. stop_after failed c.carry_message-done.result) c.failed.ensures;
     })
