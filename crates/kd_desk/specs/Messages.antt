@@ -6,9 +6,9 @@ use Rattle.kd_state.specs.SheetDay.{Day}
 use Rattle.kd_form.specs.declared.fault.FormFault.{FormFault}
 use Rattle.kd_form.specs.declared.fault.FormFault.TheVariants as message
 use Rattle.kd_form.specs.FormText.{IsTextOf, IsReceiveFault, IsGivenOf, form_message}
-use Rattle.kd_form.specs.OnTheKey.{StreamsOnKey}
-use Rattle.kd_form.specs.Sending.{IsFormOf, order_message}
-use Rattle.kd_form.specs.Streams.{Message}
+use Rattle.kd_form.specs.Sending.{IsFormOf}
+use Rattle.kd_form.specs.SendStream.{orders}
+use Rattle.kd_form.specs.Streams.{Message, StreamsOnKey}
 use Rattle.kd_desk.specs.declared.fault.DeskFault.{DeskFault}
 use Rattle.kd_desk.specs.declared.fault.DeskFault.TheVariants as faults
 use Rattle.kd_tables.specs.Ports.{Port}
@@ -31,7 +31,7 @@ pub record IsStreamedOn (m : Parts) (s : Day) (message : Message) (source sink :
 
 -- the form that the order becomes is written, or the order is refused
 abbrev pub Sends : Parts → Day → Port → Port → Result (Unit {0}) DeskFault → Type 0
-Sends m s order sink answer = IsStreamedOn m s (order_message s) order sink answer
+Sends m s order sink answer = IsStreamedOn m s (orders s) order sink answer
 
 -- it is the text that any order gives that has become this form
 abbrev pub GivesBack : Day → List ℕ → List ℕ → Type 0

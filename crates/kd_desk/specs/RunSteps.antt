@@ -3,7 +3,7 @@ use Rattle.std.specs.Prelude.{◌≡◌, ◌⊎◌, Bool, true, false, Result, O
 use Rattle.kd_sheet.specs.declared.fault.SheetFault.TheVariants.{NoMemory}
 use Rattle.kd_desk.specs.declared.fault.DeskFault.{DeskFault}
 use Rattle.kd_desk.specs.declared.fault.DeskFault.TheVariants.{File, Device, BadByte, ReadTooLong, Message}
-use Rattle.kd_form.specs.OnTheKey.{is_off_key}
+use Rattle.kd_form.specs.Streams.{is_off_key}
 
 -- the call ran out of memory while it read a file
 abbrev pub LacksMemory : Result (Unit {0}) DeskFault → Type 0

@@ -59,7 +59,7 @@ fn receive_form<R: Source, W: Sink>(
     // The laws speak of legal days, and a getter tells that this one is.
     let _legal_day = day.model();
     laws::forms_have_one_answer();
-    laws::refused_forms_stay_refused();
+    laws::forms_stay_refused();
     laws::forms_give_their_orders();
     read_form(machine, day, form, sink)
 }

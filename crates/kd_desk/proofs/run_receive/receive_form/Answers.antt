@@ -7,7 +7,7 @@ returns-clause-receives g c =
     let laws : Laws = record {
       one_text = c.forms_have_one_answer.ensures.text;
       no_fault = c.forms_have_one_answer.ensures.never_both;
-      stay = c.refused_forms_stay_refused.ensures;
+      stay = c.forms_stay_refused.ensures;
       letters = c.forms_give_their_orders.ensures.letters;
       back = c.forms_give_their_orders.ensures.back;
     } in
