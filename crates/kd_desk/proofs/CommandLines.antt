@@ -16,14 +16,11 @@ use Rattle.kd_desk.specs.declared.fault.DeskFault.TheVariants.{File}
 use Rattle.kd_sheet.specs.declared.fault.SheetFault.TheVariants.{NoMemory}
 use Rattle.kd_desk.specs.declared.stop.Stop.{Stop}
 use Rattle.kd_desk.specs.declared.stop.Stop.TheVariants.{Usage, Refused}
-use Rattle.kd_desk.specs.CommandLine.{desk_grammar, IsOf, Says}
+use Rattle.kd_desk.specs.CommandLine.{Named, desk_grammar, IsOf, Says}
 
--- a command with the texts of its files' names, and with the names as they were lent
-abbrev Named : Type 0
-Named = Command (List ℕ)
-
+-- a command with its files' names as they were lent
 abbrev Lent : Type 0
-Lent = Command (Bor (List ℕ))
+Lent = Command (Bor (List ℕ)) (Bor (List ℕ))
 
 -- what a getter of the matches reads, by their rows
 pub read_none : (found : Found) (id : List ℕ) (word : Option (Bor (List ℕ))) → option_map (λ s. s.now) word ≡ first_value found id → word ≡ None → first_of id (rows_of found) ≡ None

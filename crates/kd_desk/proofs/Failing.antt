@@ -1,6 +1,6 @@
 -- What a failed call leaves of its ports.
-use Rattle.std.proofs.Common.{◌≡◌, ℕ, Bool, true, false, ◌||◌, List, Option, Result, Ok, Err, IsErrAnd, IsTrue, sym, subst}
-use Rattle.kd_tables.specs.Ports.{Port}
+use Rattle.std.proofs.Common.{◌≡◌, ℕ, Bool, true, false, ◌||◌, List, Option, Result, Ok, Err, IsErrAnd, IsTrue, inr, sym, subst}
+use Rattle.kd_tables.specs.Ports.{Port, IsWell, Fail}
 
 -- what is known of a port, in its order
 abbrev pub over : Option (List ℕ) → Option (List ℕ) → Bool → Bool → Port
@@ -15,6 +15,11 @@ failed_now false after e = e
 pub well_now : (before after : Bool) → after ≡ (before || false) → after ≡ before
 well_now true after e = e
 well_now false after e = e
+
+-- a sink failed, or it did not, and the source was let be
+pub sink_fails : (source sink : Port) (failed : Bool) → IsWell source → sink.has_failed ≡ (sink.had_failed || failed) → Fail source sink failed
+sink_fails source sink false well is = (well, well_now sink.had_failed sink.has_failed is)
+sink_fails source sink true well is = inr (record { failed = failed_now sink.had_failed sink.has_failed is; well = well })
 
 -- what holds of the error that `?` makes
 pub answered : {T F : Type 0} (answer : Result T F) (fault : F) (P : Result T F → Type 0) → IsErrAnd answer (λ made. made ≡ fault) → P (Err fault) → P answer

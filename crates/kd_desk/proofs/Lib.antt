@@ -10,5 +10,5 @@ pub mod Texts
 mod Days
 mod Printing
 mod Checking
-mod Passing
 mod Receiving
+mod Streaming

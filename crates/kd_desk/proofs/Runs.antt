@@ -2,23 +2,19 @@
 use Rattle.std.proofs.Common.{◌≡◌, ◌≢◌, ℕ, suc, Bool, true, false, List, [], ◌∷◌, ◌++◌, take, Option, Some, None, IfSome, IsSomeAnd, Result, Ok, Err, IsErr, IsErrAnd, is_ok, refl, sym, ap, ◌∙◌, subst, inl, inr, append_assoc}
 use Rattle.std.proofs.lemmas.Bool.{false≢true}
 use Rattle.std.proofs.lemmas.List.{append-nil}
-use Rattle.std.specs.Result.{result_map_both}
 use Rattle.clap.specs.Words.{Row, subcommand_of}
 use Rattle.kd_sheet.specs.declared.fault.SheetFault.TheVariants.{NoMemory}
-use Rattle.kd_desk.specs.declared.command.Command.{Command}
 use Rattle.kd_desk.specs.declared.fault.DeskFault.{DeskFault}
 use Rattle.kd_desk.specs.declared.fault.DeskFault.TheVariants.{File}
 use Rattle.kd_desk.specs.declared.files.fault.FileFault.{FileFault}
 use Rattle.kd_desk.specs.declared.files.fault.FileFault.TheVariants as files
 use Rattle.kd_desk.specs.declared.stop.Stop.{Stop}
-use Rattle.kd_desk.specs.declared.stop.Stop.TheVariants.{Usage, Unread, Refused}
+use Rattle.kd_desk.specs.declared.stop.Stop.TheVariants.{Usage, Unread, ReadFailed, Refused}
+use Rattle.kd_desk.specs.CommandLine.{Named, desk_grammar, files_of, with_opened, IsOf, Says}
 use Rattle.kd_desk.specs.declared.command.Task.{Task}
-use Rattle.kd_desk.specs.declared.command.Task.TheVariants as tasks
-use Rattle.kd_desk.specs.declared.command.Work.{Work}
-use Rattle.kd_desk.specs.CommandLine.{desk_grammar, files_of, IsOf, Says}
-use Rattle.kd_desk.specs.Desk.{command_over, AskFor, Does, DoesTask, CarriesOut, has_read}
+use Rattle.kd_desk.specs.Desk.{KnownCommand, KnownAction, KnownTask, command_over, AskFor, CarriesOut, DoesTask, IsDone, IsTaskDone, has_read}
 use Rattle.kd_desk.specs.OnDay.{OnDay}
-use Rattle.kd_desk.specs.Files.{Gives}
+use Rattle.kd_desk.specs.Files.{Gives, IsReading, Opened}
 use Rattle.kd_tables.specs.Ports.{Port}
 use Rattle.kd_desk.proofs.SaidCommands.{same_command}
 
@@ -58,34 +54,52 @@ asks_no_more names old new all (Err fault) failed asks = record { number = asks.
 pub asked_all : (names old new : List (List ℕ)) (all : Bool) → AskFor names old new true → AskFor names old new all
 asked_all names old new all asks = record { number = asks.number; asked = asks.asked; whole = λ _. asks.whole refl }
 
+read_or_refused : {fault : DeskFault} → ReadFailed ≡ Refused fault → ⊥
+read_or_refused e = cc
+
 -- words that say nothing ask for nothing
 pub unsaid : (stop : Stop) → (stop ≢ Usage → stop ≡ Refused (File NoMemory)) → has_read (Err stop) ≡ false
 unsaid Usage is = refl
 unsaid (Unread fault) is = refl
+unsaid ReadFailed is = absurd (read_or_refused (is (λ usage. cc)))
 unsaid (Refused fault) is = ap (λ s. has_read (Err s)) (is (λ usage. cc))
 
 -- ---- what the words say
 
-said_by : (said : Option (List ℕ × List Row)) (one other : Command (List ℕ)) → IsSomeAnd said (λ x. IsOf x one) → IsSomeAnd said (λ x. IsOf x other) → one ≡ other
+said_by : (said : Option (List ℕ × List Row)) (one other : Named) → IsSomeAnd said (λ x. IsOf x one) → IsSomeAnd said (λ x. IsOf x other) → one ≡ other
 said_by None one other is are = absurd is
 said_by (Some said) one other is are = same_command said one other is are
 
 -- the words say one command
-pub said_command : (words : List (List ℕ)) (one other : Command (List ℕ)) → Says words one → Says words other → one ≡ other
+pub said_command : (words : List (List ℕ)) (one other : Named) → Says words one → Says words other → one ≡ other
 said_command words one other says same = said_by (subcommand_of desk_grammar words) one other says.said same.said
 
 -- what is so of a command is so of each that the words say
-pub asked_for : (one other : Command (List ℕ)) (old new : List (List ℕ)) (all : Bool) → one ≡ other → AskFor (files_of one) old new all → AskFor (files_of other) old new all
+pub asked_for : (one other : Named) (old new : List (List ℕ)) (all : Bool) → one ≡ other → AskFor (files_of one) old new all → AskFor (files_of other) old new all
 asked_for one other old new all same asks = subst (λ command. AskFor (files_of command) old new all) same asks
 
--- what a task does, by its kind
-pub does_task : (machine sheet : List ℕ) (number : ℕ) (one other : Task (List ℕ)) (sink : Port) (answer : Result (Unit {0}) DeskFault) → one ≡ other
-    → OnDay machine sheet number (DoesTask other number sink answer) answer → OnDay machine sheet number (DoesTask one number sink answer) answer
-does_task machine sheet number one other sink answer same does =
-    subst (λ task. OnDay machine sheet number (DoesTask task number sink answer) answer) (sym same) does
+-- ---- what is done
 
-pub on_file : (task : Task (List ℕ)) (work : Work) (file bytes : List ℕ) → task ≡ tasks.Work work file → bytes ≡ file → task ≡ tasks.Work work bytes
-on_file task work file bytes is same = is ∙ ap (λ b. tasks.Work work b) (sym same)
+-- a task that is another one does what that does
+module _ (machine sheet : List ℕ) (number : ℕ) (sink : Port) where
+  pub does_task : (one other : Task (List ℕ) Port) (answer : Result (Unit {0}) DeskFault) → one ≡ other
+      → OnDay machine sheet number (DoesTask other number sink answer) answer → OnDay machine sheet number (DoesTask one number sink answer) answer
+  does_task one other answer same does = subst (λ task. OnDay machine sheet number (DoesTask task number sink answer) answer) (sym same) does
+
+  pub task_done : (one other : KnownTask) (answer : Result (Unit {0}) Stop) → one ≡ other
+      → IsTaskDone machine sheet number other sink answer → IsTaskDone machine sheet number one sink answer
+  task_done one other answer same done = subst (λ task. IsTaskDone machine sheet number task sink answer) (sym same) done
+
+-- a command of the same files and the same action does the same
+pub command_done : (source sink : Port) (answer : Result (Unit {0}) Stop) (machine same : List ℕ) (action other : KnownAction) → same ≡ machine → action ≡ other
+    → IsDone (record { machine = same; action = other }) source sink answer → IsDone (record { machine = machine; action = action }) source sink answer
+command_done source sink answer machine same action other is are done =
+    subst (λ m. IsDone (record { machine = m; action = action }) source sink answer) is
+    (subst (λ a. IsDone (record { machine = same; action = a }) source sink answer) (sym are) done)
+
+-- of a file that was not opened nothing is left
+pub nothing_left : Opened
+nothing_left = record { bytes = None; failed = false }
 
 -- ---- what is answered
 
@@ -93,7 +107,7 @@ pub err_is : (answer : Result (Unit {0}) Stop) (stop : Stop) → IsErrAnd answer
 err_is (Ok x) stop made = absurd made
 err_is (Err other) stop made = ap Err made
 
-abbrev fails : FileFault → Result (Command (List ℕ)) FileFault
+abbrev fails : FileFault → Result KnownCommand FileFault
 fails fault = Err fault
 
 abbrev stopped : FileFault → Result (Unit {0}) Stop
@@ -105,40 +119,40 @@ asked_yet names old new answer fault made asks = subst (λ a. AskFor names old n
 
 module _ (source sink : Port) (answer : Result (Unit {0}) Stop) where
   unread_by : (fault other : FileFault) → fails fault ≡ fails other → answer ≡ Err (Unread fault) → answer ≡ Err (Unread other)
-  unread_by fault other is answers = answers ∙ subst (λ (r : Result (Command (List ℕ)) FileFault). IsErrAnd r (λ f. stopped fault ≡ stopped f)) is refl
+  unread_by fault other is answers = answers ∙ subst (λ (r : Result KnownCommand FileFault). IsErrAnd r (λ f. stopped fault ≡ stopped f)) is refl
 
-  file_refused : (meant : Result (Command (List ℕ)) FileFault) (fault : FileFault) → Gives meant (Err fault) → answer ≡ Err (Unread fault)
+  file_refused : (meant : Result KnownCommand FileFault) (fault : FileFault) → Gives meant (Err fault) → answer ≡ Err (Unread fault)
       → CarriesOut meant source sink answer
   file_refused (Ok command) fault (inl is) answers = cc
   file_refused (Ok command) fault (inr lacks) answers = inr (inr (unread_by fault files.NoMemory lacks answers))
   file_refused (Err other) fault (inl is) answers = inl (unread_by fault other is answers)
   file_refused (Err other) fault (inr lacks) answers = inr (inr (unread_by fault files.NoMemory lacks answers))
 
-  carried_out : (meant : Result (Command (List ℕ)) FileFault) (command : Command (List ℕ)) (told : Result (Unit {0}) DeskFault) → Gives meant (Ok command)
-      → Does command source sink told → answer ≡ result_map_both (λ done. done) Refused told → CarriesOut meant source sink answer
-  carried_out meant command told (inl is) does answers =
-      subst (λ r. CarriesOut r source sink answer) is (inl (record { told = told; does = does; answers = answers }))
-  carried_out meant command told (inr lacks) does answers = cc
+  carried_out : (meant : Result KnownCommand FileFault) (command : KnownCommand) → Gives meant (Ok command) → IsDone command source sink answer
+      → CarriesOut meant source sink answer
+  carried_out meant command (inl is) done = subst (λ r. CarriesOut r source sink answer) is (inl done)
+  carried_out meant command (inr lacks) done = cc
 
-  module _ (command : Command (List ℕ)) where
-    unread_of : (known : Known) (fault : FileFault) → IsErrAnd answer (λ made. made ≡ Unread fault) → IfSome known (λ held. Gives (command_over held command) (Err fault))
-        → IfSome known (λ held. CarriesOut (command_over held command) source sink answer)
-    unread_of None fault made gives = tt
-    unread_of (Some held) fault made gives = file_refused (command_over held command) fault gives (err_is answer (Unread fault) made)
+  -- whatever is known of files, for each command that is the one that was said
+  module _ (known : Known) (said command : Named) (same : said ≡ command) where
+    abbrev Meant : (List ℕ → Option (List ℕ)) → Type 0
+    Meant held = CarriesOut (command_over held command) source sink answer
 
-    done_of : (known : Known) (bytes : Command (List ℕ)) (told : Result (Unit {0}) DeskFault) → answer ≡ result_map_both (λ done. done) Refused told
-        → Does bytes source sink told → IfSome known (λ held. Gives (command_over held command) (Ok bytes))
-        → IfSome known (λ held. CarriesOut (command_over held command) source sink answer)
-    done_of None bytes told answers does gives = tt
-    done_of (Some held) bytes told answers does gives = carried_out (command_over held command) bytes told gives does answers
+    unread_of : (fault : FileFault) → answer ≡ Err (Unread fault) → (k : Known) → IfSome k (λ held. Gives (command_over held said) (Err fault)) → IfSome k Meant
+    unread_of fault answers None gives = tt
+    unread_of fault answers (Some held) gives =
+        file_refused (command_over held command) fault (subst (λ c. Gives (command_over held c) (Err fault)) same gives) answers
 
-  -- the same of whatever is known of files, for each command that is the one that was said
-  module _ (known : Known) (said command : Command (List ℕ)) (same : said ≡ command) where
     pub unread : (fault : FileFault) → IsErrAnd answer (λ made. made ≡ Unread fault) → IfSome known (λ held. Gives (command_over held said) (Err fault))
-        → IfSome known (λ held. CarriesOut (command_over held command) source sink answer)
-    unread fault made gives = unread_of command known fault made (subst (λ c. IfSome known (λ held. Gives (command_over held c) (Err fault))) same gives)
+        → IfSome known Meant
+    unread fault made gives = unread_of fault (err_is answer (Unread fault) made) known gives
 
-    pub done : (bytes : Command (List ℕ)) (told : Result (Unit {0}) DeskFault) → answer ≡ result_map_both (λ done. done) Refused told
-        → Does bytes source sink told → IfSome known (λ held. Gives (command_over held said) (Ok bytes))
-        → IfSome known (λ held. CarriesOut (command_over held command) source sink answer)
-    done bytes told answers does gives = done_of command known bytes told answers does (subst (λ c. IfSome known (λ held. Gives (command_over held c) (Ok bytes))) same gives)
+    done_of : (of_files : KnownCommand) → IsDone of_files source sink answer → (k : Known) → IfSome k (λ held. Gives (command_over held said) (Ok of_files))
+        → IfSome k Meant
+    done_of of_files done None gives = tt
+    done_of of_files done (Some held) gives =
+        carried_out (command_over held command) of_files (subst (λ c. Gives (command_over held c) (Ok of_files)) same gives) done
+
+    pub done : (of_files : KnownCommand) → IsDone of_files source sink answer → IfSome known (λ held. Gives (command_over held said) (Ok of_files))
+        → IfSome known Meant
+    done of_files is gives = done_of of_files is known gives

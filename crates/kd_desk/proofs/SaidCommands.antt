@@ -5,13 +5,11 @@ use Rattle.std.specs.Option.{option_and_then}
 use Rattle.std.proofs.lemmas.Option.{same_Some}
 use Rattle.std.proofs.lemmas.Fmt.{decimal_injective}
 use Rattle.clap.specs.Words.{Row, first_of}
-use Rattle.kd_desk.specs.declared.command.Command.{Command}
-use Rattle.kd_desk.specs.declared.command.Action.{Action}
 use Rattle.kd_desk.specs.declared.command.Action.TheVariants as actions
 use Rattle.kd_desk.specs.declared.command.Task.TheVariants as tasks
-use Rattle.kd_desk.specs.declared.command.Work.{Work}
-use Rattle.kd_desk.specs.declared.command.Work.TheVariants.{Check, Send, Receive}
-use Rattle.kd_desk.specs.CommandLine.{work_name, work_word, action_name, HaveDay, HasWords, IsActionOf, IsOf}
+use Rattle.kd_desk.specs.declared.command.Way.{Way}
+use Rattle.kd_desk.specs.declared.command.Way.TheVariants.{Send, Receive}
+use Rattle.kd_desk.specs.CommandLine.{Named, NamedAction, way_name, way_word, action_name, HaveDay, HasWords, IsActionOf, IsOf}
 use Rattle.kd_desk.proofs.CommandLines.{none_or_some}
 
 -- which command it is, without its files and its day
@@ -19,79 +17,96 @@ pub data Kind : Type 0 where
   typing : Kind
   applying : Kind
   printing : Kind
-  working : Work → Kind
+  checking : Kind
+  passing : Way → Kind
 
 abbrev pub kind_by : List ℕ → Option Kind
 kind_by name =
     if bytes_eq name (codes "type") then Some typing
     else if bytes_eq name (codes "apply") then Some applying
     else if bytes_eq name (codes "card") then Some printing
-    else if bytes_eq name (codes "check") then Some (working Check)
-    else if bytes_eq name (codes "send") then Some (working Send)
-    else if bytes_eq name (codes "receive") then Some (working Receive)
+    else if bytes_eq name (codes "check") then Some checking
+    else if bytes_eq name (codes "send") then Some (passing Send)
+    else if bytes_eq name (codes "receive") then Some (passing Receive)
     else None
 
-abbrev kind_of : Action (List ℕ) → Kind
+abbrev kind_of : NamedAction → Kind
 kind_of actions.Type = typing
 kind_of (actions.Apply list) = applying
 kind_of (actions.OnDay sheet day tasks.Card) = printing
-kind_of (actions.OnDay sheet day (tasks.Work work file)) = working work
+kind_of (actions.OnDay sheet day (tasks.Check card)) = checking
+kind_of (actions.OnDay sheet day (tasks.Message way file)) = passing way
 
-work_kind : (work : Work) → kind_by (work_name work) ≡ Some (working work)
-work_kind Check = refl
-work_kind Send = refl
-work_kind Receive = refl
+way_kind : (way : Way) → kind_by (way_name way) ≡ Some (passing way)
+way_kind Send = refl
+way_kind Receive = refl
 
-name_kind : (action : Action (List ℕ)) → kind_by (action_name action) ≡ Some (kind_of action)
+name_kind : (action : NamedAction) → kind_by (action_name action) ≡ Some (kind_of action)
 name_kind actions.Type = refl
 name_kind (actions.Apply list) = refl
 name_kind (actions.OnDay sheet day tasks.Card) = refl
-name_kind (actions.OnDay sheet day (tasks.Work work file)) = work_kind work
+name_kind (actions.OnDay sheet day (tasks.Check card)) = refl
+name_kind (actions.OnDay sheet day (tasks.Message way file)) = way_kind way
 
-kind_said : (said : List ℕ × List Row) (action : Action (List ℕ)) → IsActionOf said action → kind_by said.0 ≡ Some (kind_of action)
+kind_said : (said : List ℕ × List Row) (action : NamedAction) → IsActionOf said action → kind_by said.0 ≡ Some (kind_of action)
 kind_said said action is = ap kind_by is.name ∙ name_kind action
 
+-- what a sheet and a third file make, by the word that names the file
+abbrev with_third : List Row → List ℕ → (List ℕ → List ℕ → NamedAction) → Option NamedAction
+with_third rows word made = option_and_then (λ file. option_map (λ sheet. made sheet file) (first_of (codes "SHEET") rows)) (first_of word rows)
+
 -- the action of a kind with these words, on that day
-abbrev action_by : List Row → ℕ → Kind → Option (Action (List ℕ))
+abbrev action_by : List Row → ℕ → Kind → Option NamedAction
 action_by rows day typing = Some actions.Type
 action_by rows day applying = option_map (λ list. actions.Apply list) (first_of (codes "LIST") rows)
 action_by rows day printing = option_map (λ sheet. actions.OnDay sheet day tasks.Card) (first_of (codes "SHEET") rows)
-action_by rows day (working work) =
-    option_and_then (λ file. option_map (λ sheet. actions.OnDay sheet day (tasks.Work work file)) (first_of (codes "SHEET") rows)) (first_of (work_word work) rows)
+action_by rows day checking = with_third rows (codes "CARD") (λ sheet card. actions.OnDay sheet day (tasks.Check card))
+action_by rows day (passing way) = with_third rows (way_word way) (λ sheet file. actions.OnDay sheet day (tasks.Message way file))
+
+third_said : (rows : List Row) (word sheet file : List ℕ) (made : List ℕ → List ℕ → NamedAction) → first_of (codes "SHEET") rows ≡ Some sheet
+    → first_of word rows ≡ Some file → with_third rows word made ≡ Some (made sheet file)
+third_said rows word sheet file made is are =
+    ap (option_and_then (λ f. option_map (λ s. made s f) (first_of (codes "SHEET") rows))) are ∙ ap (option_map (λ s. made s file)) is
+
+none_third : (rows : List Row) (word : List ℕ) (made : List ℕ → List ℕ → NamedAction) → first_of word rows ≡ None → with_third rows word made ≡ None
+none_third rows word made none = ap (option_and_then (λ f. option_map (λ s. made s f) (first_of (codes "SHEET") rows))) none
 
 -- the day of an action, and 0 where it has none
-abbrev day_in : Action (List ℕ) → ℕ
+abbrev day_in : NamedAction → ℕ
 day_in actions.Type = 0
 day_in (actions.Apply list) = 0
 day_in (actions.OnDay sheet day task) = day
 
-action_said : (rows : List Row) (action : Action (List ℕ)) → HasWords rows action → action_by rows (day_in action) (kind_of action) ≡ Some action
+action_said : (rows : List Row) (action : NamedAction) → HasWords rows action → action_by rows (day_in action) (kind_of action) ≡ Some action
 action_said rows actions.Type words = refl
 action_said rows (actions.Apply list) words = ap (option_map (λ l. actions.Apply l)) words
 action_said rows (actions.OnDay sheet day tasks.Card) words = ap (option_map (λ s. actions.OnDay s day tasks.Card)) words.0.sheet_word
-action_said rows (actions.OnDay sheet day (tasks.Work work file)) words =
-    ap (option_and_then (λ f. option_map (λ s. actions.OnDay s day (tasks.Work work f)) (first_of (codes "SHEET") rows))) words.1
-    ∙ ap (option_map (λ s. actions.OnDay s day (tasks.Work work file))) words.0.sheet_word
+action_said rows (actions.OnDay sheet day (tasks.Check card)) words =
+    third_said rows (codes "CARD") sheet card (λ s f. actions.OnDay s day (tasks.Check f)) words.0.sheet_word words.1
+action_said rows (actions.OnDay sheet day (tasks.Message way file)) words =
+    third_said rows (way_word way) sheet file (λ s f. actions.OnDay s day (tasks.Message way f)) words.0.sheet_word words.1
 
 -- the word that says the day, and the word of 0 where there is none
 abbrev day_word : List Row → Kind → Option (List ℕ)
 day_word rows typing = Some (decimal 0)
 day_word rows applying = Some (decimal 0)
 day_word rows printing = first_of (codes "DAY") rows
-day_word rows (working work) = first_of (codes "DAY") rows
+day_word rows checking = first_of (codes "DAY") rows
+day_word rows (passing way) = first_of (codes "DAY") rows
 
-day_said : (rows : List Row) (action : Action (List ℕ)) → HasWords rows action → day_word rows (kind_of action) ≡ Some (decimal (day_in action))
+day_said : (rows : List Row) (action : NamedAction) → HasWords rows action → day_word rows (kind_of action) ≡ Some (decimal (day_in action))
 day_said rows actions.Type words = refl
 day_said rows (actions.Apply list) words = refl
 day_said rows (actions.OnDay sheet day tasks.Card) words = words.0.day_word
-day_said rows (actions.OnDay sheet day (tasks.Work work file)) words = words.0.day_word
+day_said rows (actions.OnDay sheet day (tasks.Check card)) words = words.0.day_word
+day_said rows (actions.OnDay sheet day (tasks.Message way file)) words = words.0.day_word
 
-is_small : (rows : List Row) (action : Action (List ℕ)) → HasWords rows action → day_in action < 2 ^ 64
+is_small : (rows : List Row) (action : NamedAction) → HasWords rows action → day_in action < 2 ^ 64
 is_small rows actions.Type words = omega arith
 is_small rows (actions.Apply list) words = omega arith
 is_small rows (actions.OnDay sheet day task) words = let month = words.0.of_month in omega (arith, month.last)
 
-same_action : (said : List ℕ × List Row) (one other : Action (List ℕ)) → IsActionOf said one → IsActionOf said other → one ≡ other
+same_action : (said : List ℕ × List Row) (one other : NamedAction) → IsActionOf said one → IsActionOf said other → one ≡ other
 same_action said one other is are =
     let kinds = same_Some _ _ (sym (kind_said said one is) ∙ kind_said said other are) in
     let days = decimal_injective (day_in one) (day_in other) (is_small said.1 one is.words) (is_small said.1 other are.words)
@@ -101,10 +116,10 @@ same_action said one other is are =
     ∙ action_said said.1 other are.words)
 
 -- no machine is named
-pub no_machine : (said : List ℕ × List Row) → first_of (codes "MACHINE") said.1 ≡ None → (command : Command (List ℕ)) → IsOf said command → ⊥
+pub no_machine : (said : List ℕ × List Row) → first_of (codes "MACHINE") said.1 ≡ None → (command : Named) → IsOf said command → ⊥
 no_machine said none command is = none_or_some _ command.machine none is.machine
 
-pub same_command : (said : List ℕ × List Row) (one other : Command (List ℕ)) → IsOf said one → IsOf said other → one ≡ other
+pub same_command : (said : List ℕ × List Row) (one other : Named) → IsOf said one → IsOf said other → one ≡ other
 same_command said one other is are =
     ap (λ machine. record { machine = machine; action = one.action }) (same_Some _ _ (sym is.machine ∙ are.machine))
     ∙ ap (λ action. record { machine = other.machine; action = action }) (same_action said one.action other.action is.action are.action)
@@ -112,41 +127,49 @@ same_command said one other is are =
 -- ---- words that aren't all there
 
 none_of_kind : (name : List ℕ) (rows : List Row) (kind : Kind) → kind_by name ≡ Some kind → ((day : ℕ) → action_by rows day kind ≡ None)
-    → (action : Action (List ℕ)) → IsActionOf (name, rows) action → ⊥
+    → (action : NamedAction) → IsActionOf (name, rows) action → ⊥
 none_of_kind name rows kind known none action is =
     let same : kind_of action ≡ kind = same_Some _ _ (sym (kind_said (name, rows) action is) ∙ known) in
     none_or_some _ action (ap (action_by rows (day_in action)) same ∙ none (day_in action)) (action_said rows action is.words)
 
-pub no_list : (rows : List Row) → first_of (codes "LIST") rows ≡ None → (action : Action (List ℕ)) → IsActionOf (codes "apply", rows) action → ⊥
+pub no_list : (rows : List Row) → first_of (codes "LIST") rows ≡ None → (action : NamedAction) → IsActionOf (codes "apply", rows) action → ⊥
 no_list rows none = none_of_kind (codes "apply") rows applying refl (λ day. ap (option_map (λ l. actions.Apply l)) none)
 
-pub no_file : (work : Work) (rows : List Row) → first_of (work_word work) rows ≡ None → (action : Action (List ℕ)) → IsActionOf (work_name work, rows) action → ⊥
-no_file work rows none = none_of_kind (work_name work) rows (working work) (work_kind work)
-    (λ day. ap (option_and_then (λ f. option_map (λ s. actions.OnDay s day (tasks.Work work f)) (first_of (codes "SHEET") rows))) none)
+pub no_card : (rows : List Row) → first_of (codes "CARD") rows ≡ None → (action : NamedAction) → IsActionOf (codes "check", rows) action → ⊥
+no_card rows none = none_of_kind (codes "check") rows checking refl (λ day. none_third rows (codes "CARD") (λ s f. actions.OnDay s day (tasks.Check f)) none)
+
+pub no_message : (way : Way) (rows : List Row) → first_of (way_word way) rows ≡ None → (action : NamedAction) → IsActionOf (way_name way, rows) action → ⊥
+no_message way rows none = none_of_kind (way_name way) rows (passing way) (way_kind way)
+    (λ day. none_third rows (way_word way) (λ s f. actions.OnDay s day (tasks.Message way f)) none)
 
 -- no day is named, and the command is one of those that want a day
 abbrev is_dated : Option Kind → Bool
 is_dated (Some printing) = true
-is_dated (Some (working work)) = true
+is_dated (Some checking) = true
+is_dated (Some (passing way)) = true
 is_dated _ = false
 
 not_dated : (b : Bool) → b ≡ true → b ≡ false → ⊥
 not_dated b is isn't = cc
 
 no_day : (name : List ℕ) (rows : List Row) → is_dated (kind_by name) ≡ true → ((sheet : List ℕ) (day : ℕ) → ¬ (HaveDay rows sheet day))
-    → (action : Action (List ℕ)) → IsActionOf (name, rows) action → ⊥
+    → (action : NamedAction) → IsActionOf (name, rows) action → ⊥
 no_day name rows dated none actions.Type is = not_dated _ dated (ap (λ n. is_dated (kind_by n)) is.name)
 no_day name rows dated none (actions.Apply list) is = not_dated _ dated (ap (λ n. is_dated (kind_by n)) is.name)
 no_day name rows dated none (actions.OnDay sheet day task) is = none sheet day is.words.0
 
 pub no_day_of_card : (rows : List Row) → ((sheet : List ℕ) (day : ℕ) → ¬ (HaveDay rows sheet day))
-    → (action : Action (List ℕ)) → IsActionOf (codes "card", rows) action → ⊥
+    → (action : NamedAction) → IsActionOf (codes "card", rows) action → ⊥
 no_day_of_card rows = no_day (codes "card") rows refl
 
-pub no_day_of_work : (work : Work) (rows : List Row) → ((sheet : List ℕ) (day : ℕ) → ¬ (HaveDay rows sheet day))
-    → (action : Action (List ℕ)) → IsActionOf (work_name work, rows) action → ⊥
-no_day_of_work work rows = no_day (work_name work) rows (ap is_dated (work_kind work))
+pub no_day_of_check : (rows : List Row) → ((sheet : List ℕ) (day : ℕ) → ¬ (HaveDay rows sheet day))
+    → (action : NamedAction) → IsActionOf (codes "check", rows) action → ⊥
+no_day_of_check rows = no_day (codes "check") rows refl
+
+pub no_day_of_message : (way : Way) (rows : List Row) → ((sheet : List ℕ) (day : ℕ) → ¬ (HaveDay rows sheet day))
+    → (action : NamedAction) → IsActionOf (way_name way, rows) action → ⊥
+no_day_of_message way rows = no_day (way_name way) rows (ap is_dated (way_kind way))
 
 -- a name of no command
-pub no_kind : (name : List ℕ) (rows : List Row) → kind_by name ≡ None → (action : Action (List ℕ)) → IsActionOf (name, rows) action → ⊥
+pub no_kind : (name : List ℕ) (rows : List Row) → kind_by name ≡ None → (action : NamedAction) → IsActionOf (name, rows) action → ⊥
 no_kind name rows none action is = none_or_some _ (kind_of action) none (kind_said (name, rows) action is)

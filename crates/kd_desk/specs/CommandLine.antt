@@ -1,5 +1,5 @@
 -- What the program's words say, by what clap makes of the desk's grammar.
-use Rattle.std.specs.Prelude.{codes, decimal, ◌≡◌, ℕ, true, false, List, [], ◌∷◌, ◌++◌, map, Some, IsSomeAnd}
+use Rattle.std.specs.Prelude.{codes, decimal, ◌≡◌, ℕ, true, false, List, [], ◌∷◌, ◌++◌, map, Option, Some, None, IsSomeAnd}
 use Rattle.std.specs.Borrow.{Bor}
 use Rattle.clap.specs.Words.{App, Row, Rule, Shape, first_of, fault_of, new_rule, subcommand_of}
 use Rattle.clap.specs.Simple.{new_shape}
@@ -9,8 +9,8 @@ use Rattle.kd_desk.specs.declared.command.Action.{Action}
 use Rattle.kd_desk.specs.declared.command.Action.TheVariants as actions
 use Rattle.kd_desk.specs.declared.command.Task.{Task}
 use Rattle.kd_desk.specs.declared.command.Task.TheVariants as tasks
-use Rattle.kd_desk.specs.declared.command.Work.{Work}
-use Rattle.kd_desk.specs.declared.command.Work.TheVariants.{Check, Send, Receive}
+use Rattle.kd_desk.specs.declared.command.Way.{Way}
+use Rattle.kd_desk.specs.declared.command.Way.TheVariants.{Send, Receive}
 
 -- a word that has to be there
 abbrev pub word_named : List ℕ → Rule
@@ -31,16 +31,14 @@ alone shape = record { top = shape; subs = [] }
 abbrev pub day_words : List (List ℕ)
 day_words = codes "MACHINE" ∷ codes "SHEET" ∷ codes "DAY" ∷ []
 
--- the name of a command that works on a third file, and the word that names the file
-abbrev pub work_name : Work → List ℕ
-work_name Check = codes "check"
-work_name Send = codes "send"
-work_name Receive = codes "receive"
+-- the name of the command by which a message goes this way, and the word that names its file
+abbrev pub way_name : Way → List ℕ
+way_name Send = codes "send"
+way_name Receive = codes "receive"
 
-abbrev pub work_word : Work → List ℕ
-work_word Check = codes "CARD"
-work_word Send = codes "ORDER"
-work_word Receive = codes "FORM"
+abbrev pub way_word : Way → List ℕ
+way_word Send = codes "ORDER"
+way_word Receive = codes "FORM"
 
 abbrev pub type_shape : Shape
 type_shape = command_shape (codes "type") (codes "MACHINE" ∷ [])
@@ -55,8 +53,11 @@ card_shape = command_shape (codes "card") day_words
 abbrev pub file_shape : List ℕ → List ℕ → Shape
 file_shape name word = command_shape name (day_words ++ word ∷ [])
 
-abbrev pub work_shape : Work → Shape
-work_shape work = file_shape (work_name work) (work_word work)
+abbrev pub check_shape : Shape
+check_shape = file_shape (codes "check") (codes "CARD")
+
+abbrev pub way_shape : Way → Shape
+way_shape way = file_shape (way_name way) (way_word way)
 
 unfoldable pub desk_grammar : App
 desk_grammar = record {
@@ -65,35 +66,78 @@ desk_grammar = record {
     disable_help_subcommand = true;
     is_leaf = false;
   };
-  subs = type_shape ∷ apply_shape ∷ card_shape ∷ work_shape Check ∷ work_shape Send ∷ work_shape Receive ∷ [];
+  subs = type_shape ∷ apply_shape ∷ card_shape ∷ check_shape ∷ way_shape Send ∷ way_shape Receive ∷ [];
 }
 
--- the same with other files: with their names as texts, or with their bytes
-abbrev pub with_task_files : {F G : Type 0} → (F → G) → Task F → Task G
-with_task_files f tasks.Card = tasks.Card
-with_task_files f (tasks.Work work file) = tasks.Work work (f file)
+-- ---- a command with other files
 
-abbrev pub with_files : {F G : Type 0} → (F → G) → Action F → Action G
-with_files f actions.Type = actions.Type
-with_files f (actions.Apply list) = actions.Apply (f list)
-with_files f (actions.OnDay sheet day task) = actions.OnDay (f sheet) day (with_task_files f task)
+-- with others in the place of those that are read whole, and of the one that is opened
+abbrev pub with_task_files : {F G O P : Type 0} → (F → G) → (O → P) → Task F O → Task G P
+with_task_files f g tasks.Card = tasks.Card
+with_task_files f g (tasks.Check card) = tasks.Check (f card)
+with_task_files f g (tasks.Message way file) = tasks.Message way (g file)
 
--- a command, or what is done, with the texts of names that were lent
-abbrev pub task_named : Task (Bor (List ℕ)) → Task (List ℕ)
-task_named task = with_task_files (λ name. name.now) task
+abbrev pub with_action_files : {F G O P : Type 0} → (F → G) → (O → P) → Action F O → Action G P
+with_action_files f g actions.Type = actions.Type
+with_action_files f g (actions.Apply list) = actions.Apply (f list)
+with_action_files f g (actions.OnDay sheet day task) = actions.OnDay (f sheet) day (with_task_files f g task)
 
-abbrev pub action_named : Action (Bor (List ℕ)) → Action (List ℕ)
-action_named action = with_files (λ name. name.now) action
+abbrev pub with_files : {F G O P : Type 0} → (F → G) → (O → P) → Command F O → Command G P
+with_files f g command = record { machine = f command.machine; action = with_action_files f g command.action }
 
-abbrev pub named : Command (Bor (List ℕ)) → Command (List ℕ)
-named command = record { machine = command.machine.now; action = action_named command.action }
+-- with the texts of names that were lent
+abbrev pub task_named : Task (Bor (List ℕ)) (Bor (List ℕ)) → Task (List ℕ) (List ℕ)
+task_named task = with_task_files (λ name. name.now) (λ name. name.now) task
+
+abbrev pub action_named : Action (Bor (List ℕ)) (Bor (List ℕ)) → Action (List ℕ) (List ℕ)
+action_named action = with_action_files (λ name. name.now) (λ name. name.now) action
+
+abbrev pub named : Command (Bor (List ℕ)) (Bor (List ℕ)) → Command (List ℕ) (List ℕ)
+named command = with_files (λ name. name.now) (λ name. name.now) command
+
+-- with another in the place of the one that is opened
+abbrev pub with_task_opened : {F O P : Type 0} → (O → P) → Task F O → Task F P
+with_task_opened g task = with_task_files (λ file. file) g task
+
+abbrev pub with_action_opened : {F O P : Type 0} → (O → P) → Action F O → Action F P
+with_action_opened g action = with_action_files (λ file. file) g action
+
+abbrev pub with_opened : {F O P : Type 0} → (O → P) → Command F O → Command F P
+with_opened g command = with_files (λ file. file) g command
+
+-- the file that is opened, where there is one
+abbrev pub task_opened : {F O : Type 0} → Task F O → Option O
+task_opened tasks.Card = None
+task_opened (tasks.Check card) = None
+task_opened (tasks.Message way file) = Some file
+
+abbrev pub action_opened : {F O : Type 0} → Action F O → Option O
+action_opened actions.Type = None
+action_opened (actions.Apply list) = None
+action_opened (actions.OnDay sheet day task) = task_opened task
+
+abbrev pub opened_by : {F O : Type 0} → Command F O → Option O
+opened_by command = action_opened command.action
+
+-- ---- what the words say
+
+-- a command whose files are known by their names
+abbrev pub Named : Type 0
+Named = Command (List ℕ) (List ℕ)
+
+abbrev pub NamedAction : Type 0
+NamedAction = Action (List ℕ) (List ℕ)
+
+abbrev pub NamedTask : Type 0
+NamedTask = Task (List ℕ) (List ℕ)
 
 -- the name of the command that does this
-abbrev pub task_name : Task (List ℕ) → List ℕ
+abbrev pub task_name : NamedTask → List ℕ
 task_name tasks.Card = codes "card"
-task_name (tasks.Work work file) = work_name work
+task_name (tasks.Check card) = codes "check"
+task_name (tasks.Message way file) = way_name way
 
-abbrev pub action_name : Action (List ℕ) → List ℕ
+abbrev pub action_name : NamedAction → List ℕ
 action_name actions.Type = codes "type"
 action_name (actions.Apply list) = codes "apply"
 action_name (actions.OnDay sheet day task) = task_name task
@@ -105,45 +149,47 @@ pub record HaveDay (rows : List Row) (sheet : List ℕ) (day : ℕ) : Type 0 whe
   pub of_month : IsDayNumber day
 
 -- the values of the words behind the machine's are those of what is done
-abbrev pub HasFile : List Row → Task (List ℕ) → Type 0
+abbrev pub HasFile : List Row → NamedTask → Type 0
 HasFile rows tasks.Card = Unit {0}
-HasFile rows (tasks.Work work file) = first_of (work_word work) rows ≡ Some file
+HasFile rows (tasks.Check card) = first_of (codes "CARD") rows ≡ Some card
+HasFile rows (tasks.Message way file) = first_of (way_word way) rows ≡ Some file
 
-abbrev pub HasWords : List Row → Action (List ℕ) → Type 0
+abbrev pub HasWords : List Row → NamedAction → Type 0
 HasWords rows actions.Type = Unit {0}
 HasWords rows (actions.Apply list) = first_of (codes "LIST") rows ≡ Some list
 HasWords rows (actions.OnDay sheet day task) = HaveDay rows sheet day × HasFile rows task
 
 -- a name and the values of words are those of what is done
-pub record IsActionOf (said : List ℕ × List Row) (action : Action (List ℕ)) : Type 0 where
+pub record IsActionOf (said : List ℕ × List Row) (action : NamedAction) : Type 0 where
   pub name : said.0 ≡ action_name action
   pub words : HasWords said.1 action
 
 -- they are those of the command, or of none
-pub record IsOf (said : List ℕ × List Row) (command : Command (List ℕ)) : Type 0 where
+pub record IsOf (said : List ℕ × List Row) (command : Named) : Type 0 where
   pub machine : first_of (codes "MACHINE") said.1 ≡ Some command.machine
   pub action : IsActionOf said command.action
 
 abbrev pub IsOfNone : List ℕ × List Row → Type 0
-IsOfNone said = (command : Command (List ℕ)) → ¬ (IsOf said command)
+IsOfNone said = (command : Named) → ¬ (IsOf said command)
 
 -- the words, the program's own name first, are taken by the grammar and say the command, or they say none
-pub record Says (words : List (List ℕ)) (command : Command (List ℕ)) : Type 0 where
+pub record Says (words : List (List ℕ)) (command : Named) : Type 0 where
   pub taken : fault_of desk_grammar words ≡ []
   pub said : IsSomeAnd (subcommand_of desk_grammar words) (λ said. IsOf said command)
 
 abbrev pub SaysNothing : List (List ℕ) → Type 0
-SaysNothing words = (command : Command (List ℕ)) → ¬ (Says words command)
+SaysNothing words = (command : Named) → ¬ (Says words command)
 
 -- the names of the files, in the order of the words
-abbrev pub task_files : Task (List ℕ) → List (List ℕ)
+abbrev pub task_files : NamedTask → List (List ℕ)
 task_files tasks.Card = []
-task_files (tasks.Work work file) = file ∷ []
+task_files (tasks.Check card) = card ∷ []
+task_files (tasks.Message way file) = file ∷ []
 
-abbrev pub action_files : Action (List ℕ) → List (List ℕ)
+abbrev pub action_files : NamedAction → List (List ℕ)
 action_files actions.Type = []
 action_files (actions.Apply list) = list ∷ []
 action_files (actions.OnDay sheet day task) = sheet ∷ task_files task
 
-abbrev pub files_of : Command (List ℕ) → List (List ℕ)
+abbrev pub files_of : Named → List (List ℕ)
 files_of command = command.machine ∷ action_files command.action

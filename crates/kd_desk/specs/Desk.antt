@@ -1,24 +1,25 @@
 -- What the program does: the command that its words say, on the files that they name.
-use Rattle.std.specs.Prelude.{◌≡◌, ◌⊎◌, ℕ, Bool, true, false, List, ◌++◌, take, Option, Result, Ok, Err, IfOk, IfErr, IsTrue}
-use Rattle.std.specs.Result.{result_map_both}
+use Rattle.std.specs.Prelude.{◌≡◌, ◌⊎◌, ℕ, Bool, true, false, List, ◌++◌, take, Option, None, Some, IfSome, Result, Ok, Err, IfOk, IfErr, IsTrue}
 use Rattle.kd_sheet.specs.declared.fault.SheetFault.TheVariants.{NoMemory}
 use Rattle.kd_sheet.specs.MachineFile.{machine_of}
 use Rattle.kd_state.specs.declared.machine.parts.Parts.{Parts}
 use Rattle.kd_state.specs.SheetDay.{Day}
 use Rattle.kd_state.specs.TwoCiphers.{IsReady, physical_key}
+use Rattle.kd_desk.specs.CommandLine.{Named, NamedAction, NamedTask, with_opened, with_task_opened, opened_by, task_opened}
 use Rattle.kd_desk.specs.declared.command.Command.{Command}
 use Rattle.kd_desk.specs.declared.command.Action.{Action}
 use Rattle.kd_desk.specs.declared.command.Action.TheVariants as actions
 use Rattle.kd_desk.specs.declared.command.Task.{Task}
 use Rattle.kd_desk.specs.declared.command.Task.TheVariants as tasks
-use Rattle.kd_desk.specs.declared.command.Work.TheVariants.{Check, Send, Receive}
+use Rattle.kd_desk.specs.declared.command.Way.TheVariants.{Send, Receive}
 use Rattle.kd_desk.specs.declared.fault.DeskFault.{DeskFault}
 use Rattle.kd_desk.specs.declared.fault.DeskFault.TheVariants.{File, NotReady}
 use Rattle.kd_desk.specs.declared.files.fault.FileFault.{FileFault}
 use Rattle.kd_desk.specs.declared.files.fault.FileFault.TheVariants as files
 use Rattle.kd_desk.specs.declared.stop.Stop.{Stop}
-use Rattle.kd_desk.specs.declared.stop.Stop.TheVariants.{Usage, Unread, Refused}
-use Rattle.kd_desk.specs.Files.{content_of}
+use Rattle.kd_desk.specs.declared.stop.Stop.TheVariants.{Usage, Unread, ReadFailed, Refused}
+use Rattle.kd_desk.specs.Files.{Opened, content_of, opening_of}
+use Rattle.kd_desk.specs.Stops.{stop_after}
 use Rattle.kd_tables.specs.Ports.{Port, IsWell}
 use Rattle.kd_desk.specs.Messages.{Sends, Receives}
 use Rattle.kd_desk.specs.OnDay.{OnDay}
@@ -28,27 +29,37 @@ use Rattle.kd_desk.specs.RunCheck.{Checks}
 use Rattle.kd_desk.specs.RunSteps.{LacksMemory, AnswersFault, is_refused_before, is_device}
 use Rattle.kd_desk.specs.Typing.{TypesLine}
 
--- a file's bytes go into what is made of them, or its fault stands for it
-abbrev pub with_bytes : {X Y : Type 0} → Result X FileFault → (X → Result Y FileFault) → Result Y FileFault
-with_bytes (Ok bytes) made = made bytes
-with_bytes (Err fault) made = Err fault
+-- a command with what is known of its files: the bytes of those that are read whole
+abbrev pub KnownTask : Type 0
+KnownTask = Task (List ℕ) Opened
 
--- a command with the bytes of its files in the place of their names, or the fault of the first that can't be had, in the
--- order of the words
-abbrev pub task_over : (List ℕ → Option (List ℕ)) → Task (List ℕ) → Result (Task (List ℕ)) FileFault
+abbrev pub KnownAction : Type 0
+KnownAction = Action (List ℕ) Opened
+
+abbrev pub KnownCommand : Type 0
+KnownCommand = Command (List ℕ) Opened
+
+-- what a file gives goes into what is made of it, or its fault stands for it
+abbrev pub with_file : {F X : Type 0} → Result F FileFault → (F → Result X FileFault) → Result X FileFault
+with_file (Ok file) made = made file
+with_file (Err fault) made = Err fault
+
+-- a command with what its files' names stand for, or the fault of the first that can't be had, in the order of the words
+abbrev pub task_over : (List ℕ → Option (List ℕ)) → NamedTask → Result KnownTask FileFault
 task_over held tasks.Card = Ok tasks.Card
-task_over held (tasks.Work work file) = with_bytes (content_of (held file)) (λ bytes. Ok (tasks.Work work bytes))
+task_over held (tasks.Check card) = with_file (content_of (held card)) (λ bytes. Ok (tasks.Check bytes))
+task_over held (tasks.Message way file) = with_file (opening_of (held file)) (λ known. Ok (tasks.Message way known))
 
-abbrev pub action_over : (List ℕ → Option (List ℕ)) → Action (List ℕ) → Result (Action (List ℕ)) FileFault
+abbrev pub action_over : (List ℕ → Option (List ℕ)) → NamedAction → Result KnownAction FileFault
 action_over held actions.Type = Ok actions.Type
-action_over held (actions.Apply list) = with_bytes (content_of (held list)) (λ bytes. Ok (actions.Apply bytes))
+action_over held (actions.Apply list) = with_file (content_of (held list)) (λ bytes. Ok (actions.Apply bytes))
 action_over held (actions.OnDay sheet day task) =
-    with_bytes (content_of (held sheet)) (λ bytes. with_bytes (task_over held task) (λ t. Ok (actions.OnDay bytes day t)))
+    with_file (content_of (held sheet)) (λ bytes. with_file (task_over held task) (λ t. Ok (actions.OnDay bytes day t)))
 
-abbrev pub command_over : (List ℕ → Option (List ℕ)) → Command (List ℕ) → Result (Command (List ℕ)) FileFault
+abbrev pub command_over : (List ℕ → Option (List ℕ)) → Named → Result KnownCommand FileFault
 command_over held command =
-    with_bytes (content_of (held command.machine))
-    (λ bytes. with_bytes (action_over held command.action) (λ a. Ok (record { machine = bytes; action = a })))
+    with_file (content_of (held command.machine))
+    (λ bytes. with_file (action_over held command.action) (λ a. Ok (record { machine = bytes; action = a })))
 
 -- The names behind the old ones are the first of these, each once and in their order; they are all, where this is so.
 pub record AskFor (names old new : List (List ℕ)) (all : Bool) : Type 0 where
@@ -72,36 +83,57 @@ pub record IsLeftAlone (p : Port) : Type 0 where
   pub bytes : p.has ≡ p.had
   pub well : IsWell p
 
--- what a task does with a machine and a day
-abbrev pub DoesTask : Task (List ℕ) → ℕ → Port → Result (Unit {0}) DeskFault → Parts → Day → Type 0
+-- what a task does with a machine and a day: a message's file is read as a source is
+abbrev pub DoesTask : Task (List ℕ) Port → ℕ → Port → Result (Unit {0}) DeskFault → Parts → Day → Type 0
 DoesTask tasks.Card number sink answer m s = Prints m s number sink answer
-DoesTask (tasks.Work Check card) number sink answer m s = Checks m s number card sink answer
-DoesTask (tasks.Work Send order) number sink answer m s = Sends m s order sink answer
-DoesTask (tasks.Work Receive form) number sink answer m s = Receives m s form sink answer
+DoesTask (tasks.Check card) number sink answer m s = Checks m s number card sink answer
+DoesTask (tasks.Message Send order) number sink answer m s = Sends m s order sink answer
+DoesTask (tasks.Message Receive form) number sink answer m s = Receives m s form sink answer
 
 -- what is done with the machine of a machine file: only typing looks at the source
-abbrev pub DoesAction : List ℕ → Action (List ℕ) → Port → Port → Result (Unit {0}) DeskFault → Type 0
+abbrev pub DoesAction : List ℕ → Action (List ℕ) Port → Port → Port → Result (Unit {0}) DeskFault → Type 0
 DoesAction machine actions.Type source sink answer = TypesOn machine source sink answer
 DoesAction machine (actions.Apply list) source sink answer = AppliesTo machine list sink answer × IsLeftAlone source
 DoesAction machine (actions.OnDay sheet day task) source sink answer =
     OnDay machine sheet day (DoesTask task day sink answer) answer × IsLeftAlone source
 
 -- what a command does, with the bytes of its files
-abbrev pub Does : Command (List ℕ) → Port → Port → Result (Unit {0}) DeskFault → Type 0
+abbrev pub Does : Command (List ℕ) Port → Port → Port → Result (Unit {0}) DeskFault → Type 0
 Does command source sink answer = DoesAction command.machine command.action source sink answer
+
+-- a file that was opened, from what was known of it before to what is known after
+abbrev pub read_to : Opened → Opened → Port
+read_to left file = record { had = file.bytes; has = left.bytes; had_failed = file.failed; has_failed = left.failed }
+
+-- whether a read of the file failed, where one is opened
+abbrev pub has_file_failed : Option Opened → Opened → Bool
+has_file_failed None left = false
+has_file_failed (Some file) left = left.failed
+
+-- no read of the file has failed yet, where one is opened
+abbrev pub IsUnfailed : {O : Type 0} → (O → Bool) → Option O → Type 0
+IsUnfailed failed file = IfSome file (λ f. failed f ≡ false)
 
 -- memory ran out, over the words or a file's bytes, or as a file was read
 abbrev pub StopsForMemory : Result (Unit {0}) Stop → Type 0
 StopsForMemory answer = (answer ≡ Err (Refused (File NoMemory))) ⊎ (answer ≡ Err (Unread files.NoMemory))
 
--- a command was carried out, and its refusal is the program's
-pub record IsDone (command : Command (List ℕ)) (source sink : Port) (answer : Result (Unit {0}) Stop) : Type 0 where
+-- A command was carried out, and what it answered stops the program, or ends it well. Of a file that it opened, this is left.
+pub record IsDone (command : KnownCommand) (source sink : Port) (answer : Result (Unit {0}) Stop) : Type 0 where
+  pub left : Opened
   pub told : Result (Unit {0}) DeskFault
-  pub does : Does command source sink told
-  pub answers : answer ≡ result_map_both (λ done. done) Refused told
+  pub does : Does (with_opened (read_to left) command) source sink told
+  pub answers : answer ≡ stop_after (has_file_failed (opened_by command) left) told
+
+-- the same of a task, with a machine file and a day of a sheet
+pub record IsTaskDone (machine sheet : List ℕ) (number : ℕ) (task : KnownTask) (sink : Port) (answer : Result (Unit {0}) Stop) : Type 0 where
+  pub left : Opened
+  pub told : Result (Unit {0}) DeskFault
+  pub does : OnDay machine sheet number (DoesTask (with_task_opened (read_to left) task) number sink told) told
+  pub answers : answer ≡ stop_after (has_file_failed (task_opened task) left) told
 
 -- A command was carried out, or it was refused for a file that can't be had; or memory ran out.
-abbrev pub CarriesOut : Result (Command (List ℕ)) FileFault → Port → Port → Result (Unit {0}) Stop → Type 0
+abbrev pub CarriesOut : Result KnownCommand FileFault → Port → Port → Result (Unit {0}) Stop → Type 0
 CarriesOut (Ok command) source sink answer = IsDone command source sink answer ⊎ StopsForMemory answer
 CarriesOut (Err fault) source sink answer = (answer ≡ Err (Unread fault)) ⊎ StopsForMemory answer
 
@@ -110,14 +142,15 @@ abbrev pub is_stopped_before : Result (Unit {0}) Stop → Bool
 is_stopped_before (Ok _) = false
 is_stopped_before (Err Usage) = true
 is_stopped_before (Err (Unread _)) = true
+is_stopped_before (Err ReadFailed) = false
 is_stopped_before (Err (Refused fault)) = is_refused_before (Err fault)
 
--- whether the program stopped at a source or a sink that failed
+-- whether the program stopped at a standard input or output that failed
 abbrev pub is_stopped_by_port : Result (Unit {0}) Stop → Bool
 is_stopped_by_port (Err (Refused fault)) = is_device (Err fault)
 is_stopped_by_port _ = false
 
--- whether all files of a command were read: none could not be had, and memory was found for the words
+-- whether all files of a command were had, and memory was found for the words
 abbrev pub has_read : Result (Unit {0}) Stop → Bool
 has_read (Err Usage) = false
 has_read (Err (Unread _)) = false

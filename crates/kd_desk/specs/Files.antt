@@ -1,5 +1,6 @@
--- What is read of a file.
-use Rattle.std.specs.Prelude.{◌≡◌, ◌⊎◌, ℕ, nat_le, List, length, Option, Some, None, Result, Ok, Err, find, bytes_eq, option_map, if◌then◌else◌}
+-- What is read of a file, and what is known of one that is opened.
+use Rattle.std.specs.Prelude.{◌≡◌, ◌⊎◌, ℕ, nat_le, Bool, false, List, length, Option, Some, None, Result, Ok, Err, find, bytes_eq, option_map, if◌then◌else◌}
+use Rattle.std.specs.Result.{result_map_both}
 use Rattle.std.specs.Borrow.{Bor}
 use Rattle.kd_tables.specs.declared.limit.TheConstants.{READ_LIMIT}
 use Rattle.kd_desk.specs.declared.files.fault.FileFault.{FileFault}
@@ -9,6 +10,19 @@ use Rattle.kd_desk.specs.declared.files.fault.FileFault.TheVariants.{NoMemory, D
 abbrev pub content_of : Option (List ℕ) → Result (List ℕ) FileFault
 content_of None = Err Device
 content_of (Some bytes) = if nat_le (length bytes) READ_LIMIT then Ok bytes else Err ReadTooLong
+
+-- what is known of a file that was opened: the bytes that it has yet to give, and whether a read of it has failed
+pub record Opened : Type 0 where
+  pub bytes : Option (List ℕ)
+  pub failed : Bool
+
+abbrev pub opened : {O : Type 0} → (O → Option (List ℕ)) → (O → Bool) → O → Opened
+opened bytes failed file = record { bytes = bytes file; failed = failed file }
+
+-- the file, opened, if it is there: all of its bytes are yet to come
+abbrev pub opening_of : Option (List ℕ) → Result Opened FileFault
+opening_of None = Err Device
+opening_of (Some bytes) = Ok (record { bytes = Some bytes; failed = false })
 
 -- the bytes of the first file of this name, among files that are names with bytes
 abbrev pub held_in : List (Bor (List ℕ) × Bor (List ℕ)) → List ℕ → Option (List ℕ)
@@ -21,3 +35,10 @@ Gives meant answer = (answer ≡ meant) ⊎ (answer ≡ Err NoMemory)
 -- a read failed, or memory ran out as the file was read
 abbrev pub HasFailed : {X : Type 0} → Result X FileFault → Type 0
 HasFailed answer = (answer ≡ Err Device) ⊎ (answer ≡ Err NoMemory)
+
+-- the same, by what is known of an opened file that is answered, or of the one that the answer holds
+abbrev pub IsOpening : {O : Type 0} → Result Opened FileFault → (O → Opened) → Result O FileFault → Type 0
+IsOpening meant known answer = result_map_both known (λ fault. fault) answer ≡ meant
+
+abbrev pub IsReading : {X Y : Type 0} → Result Y FileFault → (X → Y) → Result X FileFault → Type 0
+IsReading meant known answer = Gives meant (result_map_both known (λ fault. fault) answer)

@@ -1,34 +1,37 @@
 -- What becomes of a message on a machine and a day of a sheet: of an order that is sent, or of a form that is received.
-use Rattle.std.specs.Prelude.{◌≡◌, ℕ, List, Result, Err}
+use Rattle.std.specs.Prelude.{◌≡◌, List, ℕ, ◌++◌, Result}
+use Rattle.std.specs.Result.{result_map_both}
 use Rattle.kd_state.specs.declared.machine.parts.Parts.{Parts}
 use Rattle.kd_state.specs.SheetDay.{Day}
 use Rattle.kd_form.specs.declared.fault.FormFault.{FormFault}
-use Rattle.kd_form.specs.declared.fault.FormFault.TheVariants.{NoMemory}
-use Rattle.kd_form.specs.FormText.{IsTextOf, IsReceiveFault, IsFirstPartRead, IsGivenOf}
-use Rattle.kd_form.specs.OnTheKey.{IsOnKey, IsKeyFault}
-use Rattle.kd_form.specs.Sending.{IsFormOf, IsSendFault, HasForm}
+use Rattle.kd_form.specs.declared.fault.FormFault.TheVariants as message
+use Rattle.kd_form.specs.FormText.{IsTextOf, IsReceiveFault, IsGivenOf, form_message}
+use Rattle.kd_form.specs.Sending.{IsFormOf}
+use Rattle.kd_form.specs.SendStream.{orders}
+use Rattle.kd_form.specs.Streams.{Message, StreamsOnKey}
 use Rattle.kd_desk.specs.declared.fault.DeskFault.{DeskFault}
-use Rattle.kd_desk.specs.declared.fault.DeskFault.TheVariants.{Message}
+use Rattle.kd_desk.specs.declared.fault.DeskFault.TheVariants as faults
 use Rattle.kd_tables.specs.Ports.{Port}
-use Rattle.kd_desk.specs.Ports.{WritesText}
 
--- What becomes of a message, for which such texts are due, and which has such faults: the machine isn't ready, or isn't
--- on the day's key; or it is on the key, and memory ran out where the message takes some, or the message is refused, or a
--- text that is due is written.
-pub data Passes (m : Parts) (s : Day) (is_due : List ℕ → Type 0) (is_fault : FormFault → Type 0)
-    (takes_memory : Type 0) (sink : Port) (answer : Result (Unit {0}) DeskFault) : Type 0 where
-  OffKey : (fault : FormFault) → IsKeyFault m s fault → answer ≡ Err (Message fault)
-      → Passes m s is_due is_fault takes_memory sink answer
-  LackedMemory : IsOnKey m s → takes_memory → answer ≡ Err (Message NoMemory)
-      → Passes m s is_due is_fault takes_memory sink answer
-  Refused : IsOnKey m s → (fault : FormFault) → is_fault fault → answer ≡ Err (Message fault)
-      → Passes m s is_due is_fault takes_memory sink answer
-  Passed : IsOnKey m s → (text : List ℕ) → is_due text → WritesText text sink answer
-      → Passes m s is_due is_fault takes_memory sink answer
+-- the refusal of the desk that a message's fault is
+abbrev pub fault_of_message : FormFault → DeskFault
+fault_of_message message.Device = faults.Device
+fault_of_message message.ReadTooLong = faults.ReadTooLong
+fault_of_message fault = faults.Message fault
+
+-- the desk's answer to a message
+abbrev pub answer_to_message : Result (Unit {0}) FormFault → Result (Unit {0}) DeskFault
+answer_to_message answer = result_map_both (λ done. done) fault_of_message answer
+
+-- a message that was read as it came, and written part by part, is what the desk answers
+pub record IsStreamedOn (m : Parts) (s : Day) (message : Message) (source sink : Port) (answer : Result (Unit {0}) DeskFault) : Type 0 where
+  pub told : Result (Unit {0}) FormFault
+  pub streamed : StreamsOnKey m s message source sink told
+  pub answers : answer ≡ answer_to_message told
 
 -- the form that the order becomes is written, or the order is refused
-abbrev pub Sends : Parts → Day → List ℕ → Port → Result (Unit {0}) DeskFault → Type 0
-Sends m s order = Passes m s (IsFormOf s order) (IsSendFault s order) (HasForm s order)
+abbrev pub Sends : Parts → Day → Port → Port → Result (Unit {0}) DeskFault → Type 0
+Sends m s order sink answer = IsStreamedOn m s (orders s) order sink answer
 
 -- it is the text that any order gives that has become this form
 abbrev pub GivesBack : Day → List ℕ → List ℕ → Type 0
@@ -44,6 +47,19 @@ pub record IsGarbled (s : Day) (form : List ℕ) (fault : FormFault) : Type 0 wh
   pub is_fault : IsReceiveFault s form fault
   pub of_no_order : (order : List ℕ) → ¬ (IsFormOf s order form)
 
+-- the form has this fault whatever follows it, and no order has become a form that begins so
+pub record IsGarbledFront (s : Day) (form : List ℕ) (fault : FormFault) : Type 0 where
+  pub stands : (form_message s).stands form fault
+  pub of_no_order : (more order : List ℕ) → ¬ (IsFormOf s order (form ++ more))
+
+-- forms as messages, with what is so of the orders that have become them
+abbrev pub received_message : Day → Message
+received_message s = record (form_message s) {
+  stands = IsGarbledFront s;
+  refused = IsGarbled s;
+  becomes = IsReceived s;
+}
+
 -- the text that the form becomes is written, or the form is refused
-abbrev pub Receives : Parts → Day → List ℕ → Port → Result (Unit {0}) DeskFault → Type 0
-Receives m s form = Passes m s (IsReceived s form) (IsGarbled s form) (IsFirstPartRead s form)
+abbrev pub Receives : Parts → Day → Port → Port → Result (Unit {0}) DeskFault → Type 0
+Receives m s form sink answer = IsStreamedOn m s (received_message s) form sink answer

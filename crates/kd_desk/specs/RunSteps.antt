@@ -2,7 +2,8 @@
 use Rattle.std.specs.Prelude.{◌≡◌, ◌⊎◌, Bool, true, false, Result, Ok, Err}
 use Rattle.kd_sheet.specs.declared.fault.SheetFault.TheVariants.{NoMemory}
 use Rattle.kd_desk.specs.declared.fault.DeskFault.{DeskFault}
-use Rattle.kd_desk.specs.declared.fault.DeskFault.TheVariants.{File, Device, BadByte, ReadTooLong}
+use Rattle.kd_desk.specs.declared.fault.DeskFault.TheVariants.{File, Device, BadByte, ReadTooLong, Message}
+use Rattle.kd_form.specs.Streams.{is_off_key}
 
 -- the call ran out of memory while it read a file
 abbrev pub LacksMemory : Result (Unit {0}) DeskFault → Type 0
@@ -18,6 +19,7 @@ is_refused_before (Ok _) = false
 is_refused_before (Err Device) = false
 is_refused_before (Err (BadByte _)) = false
 is_refused_before (Err ReadTooLong) = false
+is_refused_before (Err (Message fault)) = is_off_key (Err fault)
 is_refused_before (Err _) = true
 
 -- whether a call failed by a device

@@ -2,7 +2,7 @@ ghost use Rattle.std.specs.Prelude.{◌≡◌, ◌≢◌, [], ◌∷◌, ℕ, Li
 ghost use Rattle.clap.specs.declared.builder.command.Command.{out-Command};
 ghost use Rattle.clap.specs.Words.{app_of, found_of, kind_of, rows_of, rule_of};
 ghost use Rattle.kd_state.specs.SheetDay.{IsDayNumber};
-ghost use Rattle.kd_desk.specs.CommandLine.{word_named, command_shape, alone, day_words, work_name, work_word, file_shape, desk_grammar};
+ghost use Rattle.kd_desk.specs.CommandLine.{word_named, command_shape, alone, day_words, way_name, way_word, file_shape, desk_grammar};
 ghost use Rattle.kd_desk.specs.CommandLine.{named, action_named, HaveDay, IsActionOf, IsOf, IsOfNone, Says, SaysNothing};
 
 #[cfg(test)]
@@ -17,18 +17,19 @@ use kd_sheet::SheetFault;
 use std::alloc::{AllocError, Global};
 use std::convert::AsStr;
 
-/// A command of the desk, with its files: their names, or their bytes.
+/// A command of the desk, with its files: those that are read whole, as `F`, and the one that is read as it comes, as `O`.
+/// Either is a name, or what the name stands for.
 #[derive(Clone, Copy, Debug, PartialEq, Eq, Drop)]
-pub struct Command<F> {
+pub struct Command<F, O> {
     /// The machine file.
     pub machine: F,
     /// What is done with the machine.
-    pub action: Action<F>,
+    pub action: Action<F, O>,
 }
 
 /// What is done with a machine.
 #[derive(Clone, Copy, Debug, PartialEq, Eq, Drop)]
-pub enum Action<F> {
+pub enum Action<F, O> {
     /// The standard input is typed on it.
     Type,
     /// The settings of this file are carried out on it, and its file is printed.
@@ -40,48 +41,53 @@ pub enum Action<F> {
         sheet: F,
         /// The day's number, from 1 to 31.
         day: u8,
-        task: Task<F>,
+        task: Task<F, O>,
     },
 }
 
 /// What is done with a machine and a day.
 #[derive(Clone, Copy, Debug, PartialEq, Eq, Drop)]
-pub enum Task<F> {
+pub enum Task<F, O> {
     /// The card that leads the machine to the day is printed.
     Card,
-    /// A third file is worked on.
-    Work(Work, F),
+    /// It is told of the card in this file whether its prices prove it shortest, from the machine to the day.
+    Check(F),
+    /// The message in this file goes this way, part by part.
+    Message(Way, O),
 }
 
-/// What is done with a third file, on a machine and a day.
+/// Which way a message goes.
 #[derive(Clone, Copy, Debug, PartialEq, Eq)]
-pub enum Work {
-    /// It is told of the card in it whether its prices prove it shortest, from the machine to the day.
-    Check,
-    /// The form is printed that the order in it becomes.
+pub enum Way {
+    /// The form is printed that an order becomes.
     Send,
-    /// The text is printed that the form in it becomes.
+    /// The text is printed that a form becomes.
     Receive,
 }
 
-impl Work {
-    /// The word of the grammar that names the file.
+impl Way {
+    /// The word of the grammar that names the message's file.
     fn word(self) -> &'static str
-        ensures { result.now ≡ work_word self }
+        ensures { result.now ≡ way_word self }
     {
         match self {
-            Work::Check => "CARD",
-            Work::Send => "ORDER",
-            Work::Receive => "FORM",
+            Way::Send => "ORDER",
+            Way::Receive => "FORM",
         }
     }
 }
+
+/// A command with the names of its files.
+pub type Named<'a> = Command<&'a str, &'a str>;
+
+/// What a command with these names does.
+pub type NamedAction<'a> = Action<&'a str, &'a str>;
 
 /// The command of the program's words, the program's own name first.
 ///
 /// A word that begins with `-` and is longer is a file name only after the word `--`, which counts once and behind the
 /// command's name. Other words than a command's are `Usage`. The only other error is want of memory.
-pub fn parse_words<'a, S: AsStr>(alloc: Global, words: &'a [S]) -> Result<Command<&'a str>, Stop>
+pub fn parse_words<'a, S: AsStr>(alloc: Global, words: &'a [S]) -> Result<Named<'a>, Stop>
     ensures said { IfOk result (λ command. Says (map S.text words.entry.now) (named command)) }
     ensures usage { result ≡ Err Stop.Usage → SaysNothing (map S.text words.entry.now) }
     ensures memory { IfErr result (λ stop. stop ≢ Stop.Usage
@@ -98,7 +104,7 @@ pub fn parse_words<'a, S: AsStr>(alloc: Global, words: &'a [S]) -> Result<Comman
 }
 
 /// The command of this name with these words.
-fn command_of<'a>(name: &str, words: &ArgMatches<'a>) -> Option<Command<&'a str>>
+fn command_of<'a>(name: &str, words: &ArgMatches<'a>) -> Option<Named<'a>>
     ensures said { IfSome result (λ command.
         IsOf (name.now, rows_of (found_of words.now)) (named command)) }
     ensures none { result ≡ None → IsOfNone (name.now, rows_of (found_of words.now)) }
@@ -109,7 +115,7 @@ fn command_of<'a>(name: &str, words: &ArgMatches<'a>) -> Option<Command<&'a str>
 }
 
 /// What a command of this name with these words does.
-fn action_of<'a>(name: &str, words: &ArgMatches<'a>) -> Option<Action<&'a str>>
+fn action_of<'a>(name: &str, words: &ArgMatches<'a>) -> Option<NamedAction<'a>>
     ensures said { IfSome result (λ action.
         IsActionOf (name.now, rows_of (found_of words.now)) (action_named action)) }
     ensures none { result ≡ None → (action : _)
@@ -119,15 +125,15 @@ fn action_of<'a>(name: &str, words: &ArgMatches<'a>) -> Option<Action<&'a str>>
         "type" => Some(Action::Type),
         "apply" => apply_of(words),
         "card" => card_of(words),
-        "check" => work_of(words, Work::Check),
-        "send" => work_of(words, Work::Send),
-        "receive" => work_of(words, Work::Receive),
+        "check" => check_of(words),
+        "send" => message_of(words, Way::Send),
+        "receive" => message_of(words, Way::Receive),
         _ => None,
     }
 }
 
 /// The carrying out of the settings that these words name.
-fn apply_of<'a>(words: &ArgMatches<'a>) -> Option<Action<&'a str>>
+fn apply_of<'a>(words: &ArgMatches<'a>) -> Option<NamedAction<'a>>
     ensures said { IfSome result (λ action.
         IsActionOf (codes "apply", rows_of (found_of words.now)) (action_named action)) }
     ensures none { result ≡ None → (action : _)
@@ -138,7 +144,7 @@ fn apply_of<'a>(words: &ArgMatches<'a>) -> Option<Action<&'a str>>
 }
 
 /// The card for the day that these words say, if it is one.
-fn card_of<'a>(words: &ArgMatches<'a>) -> Option<Action<&'a str>>
+fn card_of<'a>(words: &ArgMatches<'a>) -> Option<NamedAction<'a>>
     ensures said { IfSome result (λ action.
         IsActionOf (codes "card", rows_of (found_of words.now)) (action_named action)) }
     ensures none { result ≡ None → (action : _)
@@ -149,16 +155,29 @@ fn card_of<'a>(words: &ArgMatches<'a>) -> Option<Action<&'a str>>
     Some(Action::OnDay { sheet, day, task })
 }
 
-/// The work on a third file that these words say, if the day among them is one.
-fn work_of<'a>(words: &ArgMatches<'a>, work: Work) -> Option<Action<&'a str>>
+/// The check of a card that these words say, if the day among them is one.
+fn check_of<'a>(words: &ArgMatches<'a>) -> Option<NamedAction<'a>>
     ensures said { IfSome result (λ action.
-        IsActionOf (work_name work, rows_of (found_of words.now)) (action_named action)) }
+        IsActionOf (codes "check", rows_of (found_of words.now)) (action_named action)) }
     ensures none { result ≡ None → (action : _)
-        → ¬ (IsActionOf (work_name work, rows_of (found_of words.now)) action) }
+        → ¬ (IsActionOf (codes "check", rows_of (found_of words.now)) action) }
 {
     let (sheet, day) = day_of(words)?;
-    let file = words.get_str(work.word())?;
-    let task = Task::Work(work, file);
+    let card = words.get_str("CARD")?;
+    let task = Task::Check(card);
+    Some(Action::OnDay { sheet, day, task })
+}
+
+/// The message that these words say, going this way, if the day among them is one.
+fn message_of<'a>(words: &ArgMatches<'a>, way: Way) -> Option<NamedAction<'a>>
+    ensures said { IfSome result (λ action.
+        IsActionOf (way_name way, rows_of (found_of words.now)) (action_named action)) }
+    ensures none { result ≡ None → (action : _)
+        → ¬ (IsActionOf (way_name way, rows_of (found_of words.now)) action) }
+{
+    let (sheet, day) = day_of(words)?;
+    let file = words.get_str(way.word())?;
+    let task = Task::Message(way, file);
     Some(Action::OnDay { sheet, day, task })
 }
 

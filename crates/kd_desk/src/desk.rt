@@ -1,10 +1,11 @@
 //! The program, from its words to its bytes.
-ghost use Rattle.std.specs.Prelude.{◌≡◌, ◌≤◌, ◌⊎◌, ◌||◌, [], map, length, Err, IfSome, IsTrue, is_ok};
+ghost use Rattle.std.specs.Prelude.{◌≡◌, ◌≤◌, ◌⊎◌, ◌||◌, [], false, map, length, Err, IfSome, IfOk, IsTrue, is_ok};
 ghost use Rattle.kd_desk.specs.CommandLine.{named, action_named, task_named, files_of, action_files, task_files};
+ghost use Rattle.kd_desk.specs.CommandLine.{with_opened, with_action_opened, with_task_opened, opened_by, action_opened, task_opened};
 ghost use Rattle.kd_desk.specs.CommandLine.{Says, SaysNothing};
-ghost use Rattle.kd_desk.specs.Desk.{command_over, action_over, task_over, AskFor, CarriesOut, Does, DoesTask};
-ghost use Rattle.kd_desk.specs.Desk.{StopsForMemory, has_read, is_stopped_before, is_stopped_by_port};
-ghost use Rattle.kd_desk.specs.Files.{Gives};
+ghost use Rattle.kd_desk.specs.Desk.{command_over, action_over, task_over, AskFor, CarriesOut, DoesTask, IsDone, IsTaskDone};
+ghost use Rattle.kd_desk.specs.Desk.{StopsForMemory, IsUnfailed, has_read, is_stopped_before, is_stopped_by_port};
+ghost use Rattle.kd_desk.specs.Files.{Gives, IsReading, opened};
 ghost use Rattle.kd_desk.specs.OnDay.{OnDay};
 ghost use Rattle.kd_tables.specs.Ports.{Fail, port};
 ghost use Rattle.kd_desk.specs.RunSteps.{is_device, is_refused_before};
@@ -12,7 +13,7 @@ ghost use Rattle.kd_desk.specs.RunSteps.{is_device, is_refused_before};
 #[cfg(test)]
 mod tests;
 
-use crate::command::{Action, Command, Task, Work, parse_words};
+use crate::command::{Action, Command, Named, NamedAction, Task, Way, parse_words};
 use crate::fault::DeskFault;
 use crate::files::{Content, FileFault, Files};
 use crate::run_apply::run_apply;
@@ -28,8 +29,10 @@ use std::convert::AsStr;
 
 /// Carries out the command that the program's words say, the program's own name first, on the files that they name.
 ///
-/// Words that say no command are `Usage`. The files are read in the order of the words, each once and whole before the
-/// next, and the first that can't be had is `Unread`; then nothing is read from the source or written to the sink.
+/// Words that say no command are `Usage`. The files are taken in the order of the words, each once: an order and a form
+/// are opened, every other file is read whole before the next. The first that can't be had is `Unread`; then nothing is read
+/// from the source or written to the sink. An order or a form is read as the command is carried out, and where such a read
+/// fails, that is `ReadFailed`.
 pub fn run_desk<'n, S: AsStr, F: Files<'n>, R: Source, W: Sink>(
     alloc: Global,
     words: &'n [S],
@@ -54,20 +57,20 @@ pub fn run_desk<'n, S: AsStr, F: Files<'n>, R: Source, W: Sink>(
 {
     let command = parse_words(alloc, words)?;
     let command = read_files(alloc, command, files)?;
-    carry_out(alloc, &command, source, sink)?;
-    Ok(())
+    carry_out(alloc, command, source, sink)
 }
 
-/// The command with the bytes of its files in the place of their names. They are read in the order of the words, each
-/// whole before the next; or why the first that can't be had is refused.
+/// The command with what its files' names stand for. They are taken in the order of the words, each before the next; or why
+/// the first that can't be had is refused.
 fn read_files<'n, F: Files<'n>>(
     alloc: Global,
-    command: Command<&'n str>,
+    command: Named<'n>,
     files: &mut F,
-) -> Result<Command<Content>, FileFault>
+) -> Result<Command<Content, F::Opened>, FileFault>
     requires { F.asked files.old ≡ [] }
-    ensures read { IfSome (F.known files.old)
-        (λ held. Gives (command_over held (named command.entry)) result) }
+    ensures read { IfSome (F.known files.old) (λ held. IsReading (command_over held (named command.entry))
+        (with_opened (opened F.Opened.remaining F.Opened.has_failed)) result) }
+    ensures fresh { IfOk result (λ c. IsUnfailed F.Opened.has_failed (opened_by c)) }
     ensures asked { AskFor (files_of (named command.entry)) (F.asked files.old)
         (F.asked files.new) (is_ok result) }
 {
@@ -79,12 +82,13 @@ fn read_files<'n, F: Files<'n>>(
 /// The same of what is done with a machine.
 fn read_action<'n, F: Files<'n>>(
     alloc: Global,
-    action: Action<&'n str>,
+    action: NamedAction<'n>,
     files: &mut F,
-) -> Result<Action<Content>, FileFault>
+) -> Result<Action<Content, F::Opened>, FileFault>
     requires { length (F.asked files.old) ≤ 1 }
-    ensures read { IfSome (F.known files.old)
-        (λ held. Gives (action_over held (action_named action.entry)) result) }
+    ensures read { IfSome (F.known files.old) (λ held. IsReading (action_over held (action_named action.entry))
+        (with_action_opened (opened F.Opened.remaining F.Opened.has_failed)) result) }
+    ensures fresh { IfOk result (λ a. IsUnfailed F.Opened.has_failed (action_opened a)) }
     ensures asked { AskFor (action_files (action_named action.entry)) (F.asked files.old)
         (F.asked files.new) (is_ok result) }
     ensures same { F.known files.new ≡ F.known files.old }
@@ -106,89 +110,107 @@ fn read_action<'n, F: Files<'n>>(
 /// The same of what is done with a machine and a day.
 fn read_task<'n, F: Files<'n>>(
     alloc: Global,
-    task: Task<&'n str>,
+    task: Task<&'n str, &'n str>,
     files: &mut F,
-) -> Result<Task<Content>, FileFault>
+) -> Result<Task<Content, F::Opened>, FileFault>
     requires { length (F.asked files.old) ≤ 2 }
-    ensures read { IfSome (F.known files.old)
-        (λ held. Gives (task_over held (task_named task.entry)) result) }
+    ensures read { IfSome (F.known files.old) (λ held. IsReading (task_over held (task_named task.entry))
+        (with_task_opened (opened F.Opened.remaining F.Opened.has_failed)) result) }
+    ensures fresh { IfOk result (λ t. IsUnfailed F.Opened.has_failed (task_opened t)) }
     ensures asked { AskFor (task_files (task_named task.entry)) (F.asked files.old)
         (F.asked files.new) (is_ok result) }
     ensures same { F.known files.new ≡ F.known files.old }
 {
     match task {
         Task::Card => Ok(Task::Card),
-        Task::Work(work, file) => {
-            let file = files.read(alloc, file)?;
-            Ok(Task::Work(work, file))
+        Task::Check(card) => {
+            let card = files.read(alloc, card)?;
+            Ok(Task::Check(card))
+        }
+        Task::Message(way, file) => {
+            let file = files.open(file)?;
+            Ok(Task::Message(way, file))
         }
     }
 }
 
 /// Carries out a command on the bytes of its files.
-fn carry_out<R: Source, W: Sink>(
+fn carry_out<O: Source + Drop, R: Source, W: Sink>(
     alloc: Global,
-    command: &Command<Content>,
+    command: Command<Content, O>,
     source: &mut R,
     sink: &mut W,
-) -> Result<(), DeskFault>
-    ensures does { Does command.now (port R.remaining R.has_failed source.old source.new)
+) -> Result<(), Stop>
+    requires { IsUnfailed O.has_failed (opened_by command) }
+    ensures does { IsDone (with_opened (opened O.remaining O.has_failed) command)
+        (port R.remaining R.has_failed source.old source.new)
         (port W.taken W.has_failed sink.old sink.new) result }
-    ensures untouched { IsTrue (is_refused_before result)
+    ensures untouched { IsTrue (is_stopped_before result)
         → (source.new ≡ source.old) × (sink.new ≡ sink.old) }
     ensures failed { Fail (port R.remaining R.has_failed source.old source.new)
-        (port W.taken W.has_failed sink.old sink.new) (is_device result) }
+        (port W.taken W.has_failed sink.old sink.new) (is_stopped_by_port result) }
 {
-    let machine = command.machine.as_slice();
-    match &command.action {
-        Action::Type => run_type(alloc, machine, source, sink),
-        Action::Apply { list } => run_apply(alloc, machine, list.as_slice(), sink),
+    let Command { machine, action } = command;
+    let machine = machine.as_slice();
+    match action {
+        Action::Type => Stop::after(run_type(alloc, machine, source, sink), false),
+        Action::Apply { list } => {
+            Stop::after(run_apply(alloc, machine, list.as_slice(), sink), false)
+        }
         Action::OnDay { sheet, day, task } => {
-            carry_task(alloc, machine, sheet.as_slice(), *day, task, sink)
+            carry_task(alloc, machine, sheet.as_slice(), day, task, sink)
         }
     }
 }
 
 /// Does what is to be done with the machine and the day of this number.
-fn carry_task<W: Sink>(
+fn carry_task<O: Source + Drop, W: Sink>(
     alloc: Global,
     machine: &[u8],
     sheet: &[u8],
     number: u8,
-    task: &Task<Content>,
+    task: Task<Content, O>,
     sink: &mut W,
-) -> Result<(), DeskFault>
-    ensures does { OnDay machine.now sheet.now number
-        (DoesTask task.now number (port W.taken W.has_failed sink.old sink.new) result) result }
-    ensures untouched { IsTrue (is_refused_before result) → sink.new ≡ sink.old }
-    ensures failed { W.has_failed sink.new ≡ (W.has_failed sink.old || is_device result) }
+) -> Result<(), Stop>
+    requires { IsUnfailed O.has_failed (task_opened task) }
+    ensures does { IsTaskDone machine.now sheet.now number
+        (with_task_opened (opened O.remaining O.has_failed) task)
+        (port W.taken W.has_failed sink.old sink.new) result }
+    ensures untouched { IsTrue (is_stopped_before result) → sink.new ≡ sink.old }
+    ensures failed { W.has_failed sink.new ≡ (W.has_failed sink.old || is_stopped_by_port result) }
 {
     match task {
-        Task::Card => run_card(alloc, machine, sheet, number, sink),
-        Task::Work(work, file) => {
-            carry_work(alloc, machine, sheet, number, *work, file.as_slice(), sink)
+        Task::Card => Stop::after(run_card(alloc, machine, sheet, number, sink), false),
+        Task::Check(card) => {
+            Stop::after(run_check(alloc, machine, sheet, number, card.as_slice(), sink), false)
+        }
+        Task::Message(way, mut file) => {
+            let done = carry_message(alloc, machine, sheet, number, way, &mut file, sink);
+            Stop::after(done, file.failed())
         }
     }
 }
 
-/// Works on a third file, on the machine and the day of this number.
-fn carry_work<W: Sink>(
+/// Lets the message that the file gives go this way, on the machine and the day of this number.
+fn carry_message<O: Source, W: Sink>(
     alloc: Global,
     machine: &[u8],
     sheet: &[u8],
     number: u8,
-    work: Work,
-    file: &[u8],
+    way: Way,
+    file: &mut O,
     sink: &mut W,
 ) -> Result<(), DeskFault>
     ensures does { OnDay machine.now sheet.now number
-        (DoesTask (Task.Work work file.now) number (port W.taken W.has_failed sink.old sink.new) result) result }
-    ensures untouched { IsTrue (is_refused_before result) → sink.new ≡ sink.old }
-    ensures failed { W.has_failed sink.new ≡ (W.has_failed sink.old || is_device result) }
+        (DoesTask (Task.Message way (port O.remaining O.has_failed file.old file.new)) number
+            (port W.taken W.has_failed sink.old sink.new) result) result }
+    ensures untouched { IsTrue (is_refused_before result)
+        → (file.new ≡ file.old) × (sink.new ≡ sink.old) }
+    ensures failed { Fail (port O.remaining O.has_failed file.old file.new)
+        (port W.taken W.has_failed sink.old sink.new) (is_device result) }
 {
-    match work {
-        Work::Check => run_check(alloc, machine, sheet, number, file, sink),
-        Work::Send => run_send(alloc, machine, sheet, number, file, sink),
-        Work::Receive => run_receive(alloc, machine, sheet, number, file, sink),
+    match way {
+        Way::Send => run_send(alloc, machine, sheet, number, file, sink),
+        Way::Receive => run_receive(alloc, machine, sheet, number, file, sink),
     }
 }

@@ -38,7 +38,7 @@ pub enum DeskFault {
     /// A read or a write failed.
     #[error("{}", Device)]
     Device,
-    /// A byte that may not stand in a text. Bytes are counted from 1.
+    /// A byte that may not stand in a text that is typed. Bytes are counted from 1.
     #[error("28 BadByte {0}")]
     BadByte(usize),
     /// More bytes follow than are read.
@@ -138,12 +138,16 @@ impl From<Doubt> for DeskFault {
 
 impl From<FormFault> for DeskFault {
     ghost use Rattle.std.specs.Prelude.{◌≡◌};
-    ghost use Rattle.kd_desk.specs.declared.fault.DeskFault.TheVariants as faults;
+    ghost use Rattle.kd_desk.specs.Messages.{fault_of_message};
 
-    ghost from_gives = { λ fault desk. desk ≡ faults.Message fault };
+    ghost from_gives = { λ fault desk. desk ≡ fault_of_message fault };
 
     fn from(fault: FormFault) -> DeskFault {
-        DeskFault::Message(fault)
+        match fault {
+            FormFault::Device => DeskFault::Device,
+            FormFault::ReadTooLong => DeskFault::ReadTooLong,
+            fault => DeskFault::Message(fault),
+        }
     }
 }
 

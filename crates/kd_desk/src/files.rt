@@ -1,6 +1,6 @@
 //! The files that the program's words name.
-ghost use Rattle.std.specs.Prelude.{◌≡◌, ◌<◌, [], ◌∷◌, ◌++◌, ℕ, List, Option, None, IfSome, length};
-ghost use Rattle.kd_desk.specs.Files.{content_of, Gives};
+ghost use Rattle.std.specs.Prelude.{◌≡◌, ◌<◌, [], ◌∷◌, ◌++◌, ℕ, false, List, Option, None, IfSome, IfOk, length};
+ghost use Rattle.kd_desk.specs.Files.{content_of, opening_of, opened, Gives, IsOpening};
 
 mod asked;
 mod content;
@@ -13,11 +13,15 @@ mod tests;
 pub use content::Content;
 pub use fault::FileFault;
 pub use host::HostFiles;
+use kd_tables::Source;
 pub use memory::MemoryFiles;
 use std::alloc::Global;
 
 /// Files, each under its name. They keep the names that were asked for.
 pub trait Files<'n> {
+    /// A file that was opened, and is read as it comes.
+    type Opened: Source + Drop;
+
     /// The bytes that a name stands for, or none where there is no such file, if that is known.
     ghost known: { Self → Option (List ℕ → Option (List ℕ)) } = { λ _. None };
 
@@ -30,6 +34,16 @@ pub trait Files<'n> {
         requires { length (asked self.old) < 3 }
         ensures content { IfSome (known self.old)
             (λ held. Gives (content_of (held name.now)) result) }
+        ensures asked { asked self.new ≡ asked self.old ++ name.now ∷ [] }
+        ensures same { known self.new ≡ known self.old };
+
+    /// The file of this name, opened, with all of its bytes yet to come. One that can't be opened is `Device`. Three names may
+    /// be asked for.
+    fn open(&mut self, name: &'n str) -> Result<Self::Opened, FileFault>
+        requires { length (asked self.old) < 3 }
+        ensures opened { IfSome (known self.old) (λ held.
+            IsOpening (opening_of (held name.now)) (opened Self.Opened.remaining Self.Opened.has_failed) result) }
+        ensures fresh { IfOk result (λ file. Self.Opened.has_failed file ≡ false) }
         ensures asked { asked self.new ≡ asked self.old ++ name.now ∷ [] }
         ensures same { known self.new ≡ known self.old };
 }

@@ -8,7 +8,6 @@ mod fault;
 mod files;
 mod finding;
 mod laws;
-mod messages;
 mod ports;
 mod run_apply;
 mod run_card;

@@ -1,7 +1,8 @@
-ghost use Rattle.std.specs.Prelude.{◌≡◌, ◌||◌, IsTrue};
-ghost use Rattle.kd_desk.specs.Messages.{Receives};
+ghost use Rattle.std.specs.Prelude.{◌≡◌, IsTrue};
+ghost use Rattle.kd_desk.specs.Messages.{IsStreamedOn, Receives};
+ghost use Rattle.kd_form.specs.FormText.{form_message};
 ghost use Rattle.kd_desk.specs.OnDay.{OnDay};
-ghost use Rattle.kd_tables.specs.Ports.{port};
+ghost use Rattle.kd_tables.specs.Ports.{Fail, port};
 ghost use Rattle.kd_desk.specs.RunSteps.{is_refused_before, is_device};
 
 #[cfg(test)]
@@ -9,50 +10,77 @@ mod tests;
 
 use crate::fault::DeskFault;
 use crate::finding::find_day;
-use crate::messages::write_made;
-use kd_form::{laws, receive};
+use kd_form::{laws, receive_stream};
 use kd_state::{Machine, SheetDay};
-use kd_tables::Sink;
+use kd_tables::{Sink, Source};
 use std::alloc::Global;
 
 /// Writes the text that a form becomes on the machine of the machine file, if it is on the key of the sheet's day of this
-/// number.
+/// number. The form is read as it comes, and the text of a part is written as soon as the next part begins.
 ///
-/// The machine file's faults come first, then the sheet's, then `NoSuchDay`, then `NotReady` and `NotOnKey`, then the
-/// form's, and nothing is written where the call is refused for these. After `Device` a prefix of the text was written.
-pub fn run_receive<W: Sink>(
+/// The machine file's faults come first, then the sheet's, then `NoSuchDay`, then `NotReady` and `NotOnKey`, and nothing is
+/// read or written where the call is refused for these. Then come the form's faults, `ReadTooLong` where it has more than
+/// 1,048,576 bytes, and `Device` where a read or a write fails: the texts of the parts before are written by then, and after
+/// a write that failed a prefix of what was to be written.
+pub fn run_receive<R: Source, W: Sink>(
     alloc: Global,
     machine: &[u8],
     sheet: &[u8],
     number: u8,
-    form: &[u8],
+    form: &mut R,
     sink: &mut W,
 ) -> Result<(), DeskFault>
     ensures receives { OnDay machine.now sheet.now number
-        (λ m s. Receives m s form.now (port W.taken W.has_failed sink.old sink.new) result) result }
-    ensures untouched { IsTrue (is_refused_before result) → sink.new ≡ sink.old }
-    ensures failed { W.has_failed sink.new ≡ (W.has_failed sink.old || is_device result) }
+        (λ m s. Receives m s (port R.remaining R.has_failed form.old form.new)
+            (port W.taken W.has_failed sink.old sink.new) result) result }
+    ensures untouched { IsTrue (is_refused_before result)
+        → (form.new ≡ form.old) × (sink.new ≡ sink.old) }
+    ensures failed { Fail (port R.remaining R.has_failed form.old form.new)
+        (port W.taken W.has_failed sink.old sink.new) (is_device result) }
 {
     let (machine, day) = find_day(alloc, machine, sheet, number)?;
-    receive_form(alloc, &machine, &day, form, sink)
+    receive_form(&machine, &day, form, sink)
 }
 
 /// Writes the text that the form becomes on the machine and the day.
-fn receive_form<W: Sink>(
-    alloc: Global,
+fn receive_form<R: Source, W: Sink>(
     machine: &Machine,
     day: &SheetDay,
-    form: &[u8],
+    form: &mut R,
     sink: &mut W,
 ) -> Result<(), DeskFault>
-    ensures receives { Receives machine.now day.now form.now
+    ensures receives { Receives machine.now day.now (port R.remaining R.has_failed form.old form.new)
         (port W.taken W.has_failed sink.old sink.new) result }
-    ensures untouched { IsTrue (is_refused_before result) → sink.new ≡ sink.old }
-    ensures failed { W.has_failed sink.new ≡ (W.has_failed sink.old || is_device result) }
+    ensures untouched { IsTrue (is_refused_before result)
+        → (form.new ≡ form.old) × (sink.new ≡ sink.old) }
+    ensures failed { Fail (port R.remaining R.has_failed form.old form.new)
+        (port W.taken W.has_failed sink.old sink.new) (is_device result) }
 {
     // The laws speak of legal days, and a getter tells that this one is.
     let _legal_day = day.model();
     laws::forms_have_one_answer();
+    laws::forms_stay_refused();
     laws::forms_give_their_orders();
-    write_made(receive(alloc, machine, day, form), sink)
+    read_form(machine, day, form, sink)
+}
+
+/// The same, without what is so of the orders that have become the form.
+fn read_form<R: Source, W: Sink>(
+    machine: &Machine,
+    day: &SheetDay,
+    form: &mut R,
+    sink: &mut W,
+) -> Result<(), DeskFault>
+    ensures streamed { IsStreamedOn machine.now day.now (form_message day.now)
+        (port R.remaining R.has_failed form.old form.new)
+        (port W.taken W.has_failed sink.old sink.new) result }
+    ensures untouched { IsTrue (is_refused_before result)
+        → (form.new ≡ form.old) × (sink.new ≡ sink.old) }
+    ensures failed { Fail (port R.remaining R.has_failed form.old form.new)
+        (port W.taken W.has_failed sink.old sink.new) (is_device result) }
+{
+    match receive_stream(machine, day, form, sink) {
+        Ok(()) => Ok(()),
+        Err(fault) => Err(DeskFault::from(fault)),
+    }
 }

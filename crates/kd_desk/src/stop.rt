@@ -1,5 +1,5 @@
 ghost use Rattle.std.specs.Prelude.{◌≡◌};
-ghost use Rattle.kd_desk.specs.Stops.{exit_of};
+ghost use Rattle.kd_desk.specs.Stops.{exit_of, stop_after};
 
 use crate::fault::DeskFault;
 use crate::files::FileFault;
@@ -13,12 +13,29 @@ pub enum Stop {
     /// The words are no command of the desk.
     #[error("usage: desk COMMAND WORDS")]
     Usage,
-    /// A file that the words name can't be read.
+    /// A file that the words name can't be read whole, or can't be opened.
     #[error("refused {}", DeskFault::from(*.0))]
     Unread(FileFault),
+    /// A file was opened, and a read of it failed as the command was carried out.
+    #[error("refused {}", DeskFault::Device)]
+    ReadFailed,
     /// The command was refused.
     #[error("refused {0}")]
     Refused(DeskFault),
+}
+
+impl Stop {
+    /// What stops the program where a command that is carried out answers this, and a read of the file that it opened has
+    /// failed or hasn't.
+    pub fn after(done: Result<(), DeskFault>, file_failed: bool) -> Result<(), Stop>
+        ensures { result ≡ stop_after file_failed done }
+    {
+        match done {
+            Err(DeskFault::Device) if file_failed => Err(Stop::ReadFailed),
+            Err(fault) => Err(Stop::Refused(fault)),
+            Ok(()) => Ok(()),
+        }
+    }
 }
 
 /// How the program ends.

@@ -1,4 +1,4 @@
-use super::{Action, Command, Task, Work, parse_words};
+use super::{Action, Command, Task, Way, parse_words};
 use crate::stop::Stop;
 use std::alloc::Global;
 use std::process::Abort;
@@ -31,11 +31,11 @@ static APPLY: [(&[&str], &str, &str); 4] = [
 ];
 
 /// The name of a command with a day, how many words it has, and what it does.
-static ON_A_DAY: [(&str, usize, Task<&str>); 4] = [
+static ON_A_DAY: [(&str, usize, Task<&str, &str>); 4] = [
     ("card", 5, Task::Card),
-    ("check", 6, Task::Work(Work::Check, "x.txt")),
-    ("send", 6, Task::Work(Work::Send, "x.txt")),
-    ("receive", 6, Task::Work(Work::Receive, "x.txt")),
+    ("check", 6, Task::Check("x.txt")),
+    ("send", 6, Task::Message(Way::Send, "x.txt")),
+    ("receive", 6, Task::Message(Way::Receive, "x.txt")),
 ];
 
 /// Words for a day, and the day that they are.
@@ -87,7 +87,7 @@ static OTHERS: [&[&str]; 26] = [
 ];
 
 /// The words say this command, or none.
-fn say(rt: &impl Abort, alloc: Global, words: &[&str], command: Option<Command<&str>>) {
+fn say(rt: &impl Abort, alloc: Global, words: &[&str], command: Option<Command<&str, &str>>) {
     assert_eq!(rt; parse_words(alloc, words), command.ok_or(Stop::Usage));
 }
 

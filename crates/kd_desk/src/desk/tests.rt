@@ -1,10 +1,11 @@
 use super::run_desk;
 use crate::fault::DeskFault;
-use crate::files::{FileFault, MemoryFiles};
-use crate::samples::{EMPTY, FORM, MACHINE, MESSAGES, ORDER, SHEET, TEXT, WRITTEN};
+use crate::files::{Content, FileFault, Files, MemoryFiles};
+use crate::samples::{EMPTY, FORM, MACHINE, MESSAGES, OFF_KEY, ORDER, SHEET, TEXT, UNREADY, WRITTEN};
 use crate::stop::Exit;
-use crate::stop::Stop::{self, Refused, Unread, Usage};
+use crate::stop::Stop::{self, ReadFailed, Refused, Unread, Usage};
 use kd_card::IllegalAt;
+use kd_form::FormFault;
 use kd_sheet::SheetFault::NotToml;
 use kd_state::Why;
 use kd_tables::{MemorySink, MemorySource, Sink, Source};
@@ -169,8 +170,8 @@ static MISSING: [Case; 14] = [
     ),
 ];
 
-/// Where one file has a byte too much, and another one isn't there.
-static TOO_LONG: [Case; 4] = [
+/// Where one file has a byte too much, and another one isn't there. An order is opened with the others, and not read then.
+static TOO_LONG: [Case; 6] = [
     (&["desk", "type", "long"], Unread(FileFault::ReadTooLong)),
     (
         &["desk", "apply", "none", "long"],
@@ -184,7 +185,60 @@ static TOO_LONG: [Case; 4] = [
         &["desk", "check", "bad", "long", "1", "none"],
         Unread(FileFault::ReadTooLong),
     ),
+    (
+        &["desk", "send", "bad", "bad", "1", "none"],
+        Unread(FileFault::Device),
+    ),
+    (
+        &["desk", "send", "bad", "bad", "1", "long"],
+        Refused(DeskFault::File(NotToml)),
+    ),
 ];
+
+/// Why an order or a form that can't be read stops the program: behind the faults of the machine file and the sheet, of the
+/// day, and of the machine.
+static CUT_OFF: [Case; 10] = [
+    (&["desk", "send", "bad", "bad", "5", "f"], Refused(DeskFault::File(NotToml))),
+    (&["desk", "send", "empty", "bad", "5", "f"], Refused(DeskFault::File(NotToml))),
+    (&["desk", "send", "empty", "d.toml", "5", "f"], Refused(DeskFault::NoSuchDay)),
+    (
+        &["desk", "send", "empty", "d.toml", "17", "f"],
+        Refused(DeskFault::Message(FormFault::NotReady)),
+    ),
+    (
+        &["desk", "receive", "off", "d.toml", "17", "f"],
+        Refused(DeskFault::Message(FormFault::NotOnKey)),
+    ),
+    (&["desk", "send", "m.toml", "d.toml", "17", "f"], ReadFailed),
+    (&["desk", "receive", "m.toml", "d.toml", "17", "f"], ReadFailed),
+    (&["desk", "receive", "empty", "d.toml", "5", "f"], Refused(DeskFault::NoSuchDay)),
+    (
+        &["desk", "receive", "m.toml", "d.toml", "17", "none"],
+        Unread(FileFault::Device),
+    ),
+    (&["desk", "check", "m.toml", "d.toml", "5", "f"], Refused(DeskFault::NoSuchDay)),
+];
+
+/// Files that are read as those in memory are, and that can be opened, but then no byte be read of them.
+#[derive(Drop)]
+struct CutOff<'n> {
+    files: MemoryFiles<'n>,
+}
+
+impl<'n> Files<'n> for CutOff<'n> {
+    type Opened = MemorySource<'n>;
+
+    ghost asked = { λ s. s.files.asked };
+
+    fn read(&mut self, alloc: Global, name: &'n str) -> Result<Content, FileFault> {
+        self.files.read(alloc, name)
+    }
+
+    fn open(&mut self, name: &'n str) -> Result<MemorySource<'n>, FileFault> {
+        let _file = self.files.open(name)?;
+        Ok(MemorySource::new(b"", 1, Some(0)))
+    }
+}
 
 /// Each of the words stop the program, and nothing is read or written.
 fn are_stopped<'a>(rt: &impl Abort, alloc: Global, files: &'a [Held<'a>], cases: &'a [Case]) {
@@ -226,6 +280,61 @@ fn stops_where_a_file_is_too_long(rt: HostRuntime) -> Result<(), AllocError> {
 }
 
 #[test]
+fn stops_where_a_file_can_not_be_read_on(rt: HostRuntime) {
+    let held: [Held<'static>; 6] = [
+        ("m.toml", MACHINE.as_bytes()),
+        ("d.toml", MESSAGES.as_bytes()),
+        ("bad", b"x ="),
+        ("empty", UNREADY.as_bytes()),
+        ("off", OFF_KEY.as_bytes()),
+        ("f", b""),
+    ];
+    for (words, stop) in &CUT_OFF {
+        let mut files = CutOff {
+            files: MemoryFiles::new(&held),
+        };
+        let mut source = MemorySource::new(b"", 1, Some(0));
+        let mut sink = MemorySink::<8>::new(0);
+        let answer = run_desk(rt.alloc(), words, &mut files, &mut source, &mut sink);
+        assert_eq!(rt; answer, Err(*stop));
+        assert!(rt; !source.failed() && !sink.failed());
+    }
+}
+
+#[test]
+fn stops_where_the_output_fails(rt: HostRuntime) {
+    let words = &["desk", "send", "m.toml", "d.toml", "17", "o.txt"];
+    let files = files();
+    let ran = run(rt.alloc(), words, &files, MemorySource::new(b"", 1, None), 3);
+    assert_eq!(rt; ran.answer, Err(Refused(DeskFault::Device)));
+    assert_eq!(rt; ran.sink.taken(), b"PAR".as_slice());
+}
+
+/// So many bytes in an order without lines of keys and letters, and why it is refused.
+static LENGTHS: [(usize, DeskFault); 2] = [
+    (1_048_571, DeskFault::Message(FormFault::EmptyText)),
+    (1_048_572, DeskFault::ReadTooLong),
+];
+
+#[test]
+fn stops_where_an_order_is_too_long(rt: HostRuntime) -> Result<(), AllocError> {
+    for (spaces, fault) in &LENGTHS {
+        let mut order = Vec::from_slice(rt.alloc(), b"TEXT\n")?;
+        let blanks = vec![in rt.alloc(); b' '; *spaces]?;
+        order.extend_from_slice(blanks.as_slice())?;
+        let files = [
+            ("m.toml", MACHINE.as_bytes()),
+            ("d.toml", MESSAGES.as_bytes()),
+            ("o", order.as_slice()),
+        ];
+        let words = &["desk", "send", "m.toml", "d.toml", "17", "o"];
+        let ran = run(rt.alloc(), words, &files, MemorySource::new(b"", 1, None), 0);
+        assert_eq!(rt; ran.answer, Err(Refused(*fault)));
+    }
+    Ok(())
+}
+
+#[test]
 fn stops_where_the_text_does(rt: HostRuntime) {
     let source = MemorySource::new(b"AAa", 1, None);
     let files = files();
@@ -235,11 +344,12 @@ fn stops_where_the_text_does(rt: HostRuntime) {
 }
 
 /// An answer, its status, and the line that tells of it, if there is one.
-static EXITS: [(Result<(), Stop>, u8, &str); 6] = [
+static EXITS: [(Result<(), Stop>, u8, &str); 7] = [
     (Ok(()), 0, ""),
     (Err(Usage), 2, "usage: desk COMMAND WORDS"),
     (Err(Unread(FileFault::NoMemory)), 1, "refused 26 NoMemory"),
     (Err(Unread(FileFault::Device)), 1, "refused 6 Device"),
+    (Err(ReadFailed), 1, "refused 6 Device"),
     (
         Err(Unread(FileFault::ReadTooLong)),
         1,

@@ -1,7 +1,7 @@
 use std::alloc::AllocError;
 use std::io;
 
-/// Why a file can't be read whole.
+/// Why a file can't be read whole, or can't be opened.
 #[derive(Clone, Copy, Debug, PartialEq, Eq)]
 pub enum FileFault {
     /// Memory ran out as the file was read.

@@ -1,9 +1,10 @@
-ghost use Rattle.std.specs.Prelude.{◌≡◌, ◌⊎◌, [], Some, IfSome};
+ghost use Rattle.std.specs.Prelude.{◌≡◌, ◌⊎◌, [], false, Some, IfSome};
 ghost use Rattle.kd_desk.specs.Files.{content_of, HasFailed};
 
 use super::asked::Asked;
 use super::{Content, FileFault, Files};
-use kd_tables::READ_LIMIT;
+use crate::ports::ReaderSource;
+use kd_tables::{Failed, READ_LIMIT, Source};
 use std::alloc::Global;
 use std::fs::File;
 use std::io::Read;
@@ -28,12 +29,49 @@ impl<'n> HostFiles<'n> {
 }
 
 impl<'n> Files<'n> for HostFiles<'n> {
+    type Opened = HostFile;
+
     ghost asked = { λ s. s.asked };
 
     fn read(&mut self, alloc: Global, name: &'n str) -> Result<Content, FileFault> {
         self.asked.add(name);
         let file = File::open(self.rt, name)?;
         read_whole(alloc, file)
+    }
+
+    fn open(&mut self, name: &'n str) -> Result<HostFile, FileFault> {
+        self.asked.add(name);
+        let file = File::open(self.rt, name)?;
+        Ok(HostFile::new(file))
+    }
+}
+
+/// A file of the system that was opened. What it gives no contract says.
+#[derive(Drop)]
+pub struct HostFile {
+    source: ReaderSource<File>,
+}
+
+impl HostFile {
+    /// What this file gives.
+    fn new(file: File) -> Self
+        ensures { result.source.failed ≡ false }
+    {
+        HostFile {
+            source: ReaderSource::new(file),
+        }
+    }
+}
+
+impl Source for HostFile {
+    ghost has_failed = { λ s. s.source.failed };
+
+    fn get(&mut self, buffer: &mut [u8]) -> Result<usize, Failed> {
+        self.source.get(buffer)
+    }
+
+    fn failed(&self) -> bool {
+        self.source.failed()
     }
 }
 

@@ -3,7 +3,11 @@ ghost use Rattle.kd_desk.specs.Files.{held_in};
 
 use super::asked::Asked;
 use super::{Content, FileFault, Files};
+use kd_tables::MemorySource;
 use std::alloc::Global;
+
+/// How many bytes of an opened file are given at once, at most.
+const PIECE: usize = 4096;
 
 /// Files in memory: a name and the bytes of each.
 #[derive(Drop)]
@@ -37,6 +41,8 @@ impl<'n> Files<'n> for MemoryFiles<'n> {
     ghost use Rattle.std.specs.Prelude.{Some};
     ghost use Rattle.kd_desk.specs.Files.{held_in};
 
+    type Opened = MemorySource<'n>;
+
     ghost known = { λ s. Some (held_in s.files.now) };
 
     ghost asked = { λ s. s.asked };
@@ -45,5 +51,11 @@ impl<'n> Files<'n> for MemoryFiles<'n> {
         self.asked.add(name);
         let bytes = self.find(name).ok_or(FileFault::Device)?;
         Content::new(Vec::from_slice(alloc, bytes)?)
+    }
+
+    fn open(&mut self, name: &'n str) -> Result<MemorySource<'n>, FileFault> {
+        self.asked.add(name);
+        let bytes = self.find(name).ok_or(FileFault::Device)?;
+        Ok(MemorySource::new(bytes, PIECE, None))
     }
 }

@@ -1,5 +1,6 @@
 use super::host::read_whole;
 use super::{FileFault, Files, HostFiles};
+use kd_tables::Source;
 use std::fs;
 use std::io::{self, Read};
 use std::test::Fail;
@@ -44,8 +45,31 @@ fn reads_files_of_the_host(rt: HostRuntime) -> Result<(), Fail> {
     Ok(())
 }
 
+/// Whether an opened file gives this content, which is shorter than 8 bytes, and then ends.
+fn is_given(rt: &HostRuntime, name: &str, content: &str) -> Result<bool, Fail> {
+    fs::write(rt, name, content)?;
+    let mut files = HostFiles::new(rt);
+    let mut file = files.open(name)?;
+    let mut bytes = [0; 8];
+    let count = file.get(&mut bytes)?;
+    let left = file.get(&mut [0; 1])?;
+    fs::remove_file(rt, name)?;
+    let given = bytes.get(..count) == Some(content.as_bytes());
+    Ok(given && left == 0 && !file.failed())
+}
+
+#[test]
+fn opens_files_of_the_host(rt: HostRuntime) -> Result<(), Fail> {
+    for (name, content) in [("opened.txt", "AB C\n"), ("empty.txt", "")] {
+        assert!(rt; is_given(&rt, name, content)?);
+    }
+    Ok(())
+}
+
 #[test]
 fn a_file_that_is_not_there_is_a_failed_device(rt: HostRuntime) {
     let read = HostFiles::new(&rt).read(rt.alloc(), "no such file");
     assert_eq!(rt; read.err(), Some(FileFault::Device));
+    let opened = HostFiles::new(&rt).open("no such file");
+    assert_eq!(rt; opened.err(), Some(FileFault::Device));
 }

@@ -9,16 +9,28 @@ use kd_form::FormFault::{
     NotReady, PartOrder, WrongGroup,
 };
 use kd_sheet::SheetFault::NotToml;
-use kd_tables::MemorySink;
+use kd_tables::{MemorySink, MemorySource};
 use std::alloc::Global;
 use std::process::Abort;
 
-/// What becomes of a form, with so much room for the text.
-fn run(alloc: Global, machine: &str, sheet: &str, day: u8, form: &str, room: usize) -> Ran {
+/// What becomes of the form that the source gives, with so much room for the text.
+fn run(
+    alloc: Global,
+    machine: &str,
+    sheet: &str,
+    day: u8,
+    mut form: MemorySource<'_>,
+    room: usize,
+) -> Ran {
     let mut sink = MemorySink::new(room.min(4096));
-    let (machine, sheet, form) = (machine.as_bytes(), sheet.as_bytes(), form.as_bytes());
-    let answer = run_receive(alloc, machine, sheet, day, form, &mut sink);
+    let (machine, sheet) = (machine.as_bytes(), sheet.as_bytes());
+    let answer = run_receive(alloc, machine, sheet, day, &mut form, &mut sink);
     Ran { answer, sink }
+}
+
+/// A source of the form, in small pieces.
+fn form_of(form: &str) -> MemorySource<'_> {
+    MemorySource::new(form.as_bytes(), 7, None)
 }
 
 /// A machine, a day of the sheet, a form, and the text that it becomes.
@@ -33,16 +45,18 @@ static RECEIVED: [(&str, u8, &str, &str); 5] = [
 /// A machine, a sheet, a day, a form, and the fault.
 type Case = (&'static str, &'static str, u8, &'static str, DeskFault);
 
-static NO_KEY: [Case; 6] = [
-    ("=", "=", 5, "", File(NotToml)),
-    (MACHINE, "=", 5, "", File(NotToml)),
-    (UNREADY, MESSAGES, 5, "", NoSuchDay),
-    (UNREADY, MESSAGES, 17, "", Message(NotReady)),
-    (OFF_KEY, MESSAGES, 17, "", Message(NotOnKey)),
-    (MACHINE, MESSAGES, 15, "", Message(NotOnKey)),
+/// What comes before the form is read. A form that can't be read comes last.
+static NO_KEY: [(&str, &str, u8, DeskFault); 7] = [
+    ("=", "=", 5, File(NotToml)),
+    (MACHINE, "=", 5, File(NotToml)),
+    (UNREADY, MESSAGES, 5, NoSuchDay),
+    (UNREADY, MESSAGES, 17, Message(NotReady)),
+    (OFF_KEY, MESSAGES, 17, Message(NotOnKey)),
+    (MACHINE, MESSAGES, 15, Message(NotOnKey)),
+    (MACHINE, MESSAGES, 17, DeskFault::Device),
 ];
 
-static BAD_FORMS: [Case; 10] = [
+static BAD_FORMS: [Case; 9] = [
     (MACHINE, MESSAGES, 17, "", Message(BadHeading(1))),
     (
         MACHINE,
@@ -80,13 +94,6 @@ static BAD_FORMS: [Case; 10] = [
         Message(WrongGroup(1)),
     ),
     (
-        MACHINE,
-        MESSAGES,
-        17,
-        "PART 1/2 6 AAA BDZ\nQXUGZ B",
-        Message(PartOrder),
-    ),
-    (
         WITHOUT_PINS,
         MESSAGES,
         15,
@@ -109,23 +116,51 @@ static BAD_FORMS: [Case; 10] = [
     ),
 ];
 
+/// A form, the texts of its parts before it is refused, and the fault.
+static REFUSED_BEHIND: [(&str, &str, DeskFault); 4] = [
+    (
+        "PART 1/2 6 AAA BDZ\nQXUGZ B\n",
+        "A",
+        Message(PartOrder),
+    ),
+    (
+        "PART 1/2 6 AAA BDZ\nQXUGZ B\nPART 1/2 6 AAA BDZ\nQXUGZ B\n",
+        "A",
+        Message(PartOrder),
+    ),
+    (
+        "PART 1/2 7 AAA BDZ\nQXUGZ BD\nPART 2/2 6 AAA BDZ\nQXUGZ b\n",
+        "AA",
+        Message(BadByte(54)),
+    ),
+    (
+        "PART 1/2 7 AAA BDZ\nQXUGZ BD\nPART 2/2 6 AAA BDZ\nQXABC B\n",
+        "AA",
+        Message(WrongGroup(2)),
+    ),
+];
+
 /// Each of them is refused, and nothing is written.
 fn are_refused(rt: &impl Abort, alloc: Global, cases: &[Case]) {
     for (machine, sheet, day, form, fault) in cases {
-        run(alloc, machine, sheet, *day, form, 0).refused(rt, *fault);
+        run(alloc, machine, sheet, *day, form_of(form), 0).refused(rt, *fault);
     }
 }
 
 #[test]
 fn receives_forms(rt: HostRuntime) {
     for (machine, day, form, text) in &RECEIVED {
-        run(rt.alloc(), machine, MESSAGES, *day, form, 4096).ended(&rt, Ok(()), text.as_bytes());
+        let ran = run(rt.alloc(), machine, MESSAGES, *day, form_of(form), 4096);
+        ran.ended(&rt, Ok(()), text.as_bytes());
     }
 }
 
 #[test]
 fn receives_nothing_without_a_key(rt: HostRuntime) {
-    are_refused(&rt, rt.alloc(), &NO_KEY);
+    for (machine, sheet, day, fault) in &NO_KEY {
+        let form = MemorySource::new(b"", 1, Some(0));
+        run(rt.alloc(), machine, sheet, *day, form, 0).refused(&rt, *fault);
+    }
 }
 
 #[test]
@@ -134,10 +169,18 @@ fn refuses_a_form_and_writes_nothing(rt: HostRuntime) {
 }
 
 #[test]
+fn writes_the_parts_before_the_refused_one(rt: HostRuntime) {
+    for (form, text, fault) in &REFUSED_BEHIND {
+        let ran = run(rt.alloc(), MACHINE, MESSAGES, 17, form_of(form), 4096);
+        ran.ended(&rt, Err(*fault), text.as_bytes());
+    }
+}
+
+#[test]
 fn stops_where_the_sink_fails(rt: HostRuntime) {
     let text = TEXT.as_bytes();
     for room in 0..text.len() {
-        let ran = run(rt.alloc(), MACHINE, MESSAGES, 17, FORM, room);
+        let ran = run(rt.alloc(), MACHINE, MESSAGES, 17, form_of(FORM), room);
         ran.ended(&rt, Err(DeskFault::Device), &text[..room]);
     }
 }

@@ -8,16 +8,28 @@ use kd_form::FormFault::{
     BadByte, EmptyText, IndicatorSpent, KeyNotOnWheel, NotOnKey, NotReady, PartKeys, WrongGroup,
 };
 use kd_sheet::SheetFault::NotToml;
-use kd_tables::MemorySink;
+use kd_tables::{MemorySink, MemorySource};
 use std::alloc::Global;
 use std::process::Abort;
 
-/// What becomes of an order, with so much room for the form.
-fn run(alloc: Global, machine: &str, sheet: &str, day: u8, order: &str, room: usize) -> Ran {
+/// What becomes of the order that the source gives, with so much room for the form.
+fn run(
+    alloc: Global,
+    machine: &str,
+    sheet: &str,
+    day: u8,
+    mut order: MemorySource<'_>,
+    room: usize,
+) -> Ran {
     let mut sink = MemorySink::new(room.min(4096));
-    let (machine, sheet, order) = (machine.as_bytes(), sheet.as_bytes(), order.as_bytes());
-    let answer = run_send(alloc, machine, sheet, day, order, &mut sink);
+    let (machine, sheet) = (machine.as_bytes(), sheet.as_bytes());
+    let answer = run_send(alloc, machine, sheet, day, &mut order, &mut sink);
     Ran { answer, sink }
+}
+
+/// A source of the order, in small pieces.
+fn order_of(order: &str) -> MemorySource<'_> {
+    MemorySource::new(order.as_bytes(), 7, None)
 }
 
 /// A machine, a day of the sheet, an order, and the form that it becomes.
@@ -32,13 +44,15 @@ static SENT: [(&str, u8, &str, &str); 5] = [
 /// A machine, a sheet, a day, an order, and the fault.
 type Case = (&'static str, &'static str, u8, &'static str, DeskFault);
 
-static NO_KEY: [Case; 6] = [
-    ("=", "=", 5, "", File(NotToml)),
-    (MACHINE, "=", 5, "", File(NotToml)),
-    (UNREADY, MESSAGES, 5, "", NoSuchDay),
-    (UNREADY, MESSAGES, 17, "", Message(NotReady)),
-    (OFF_KEY, MESSAGES, 17, "", Message(NotOnKey)),
-    (MACHINE, MESSAGES, 15, "", Message(NotOnKey)),
+/// What comes before the order is read. An order that can't be read comes last.
+static NO_KEY: [(&str, &str, u8, DeskFault); 7] = [
+    ("=", "=", 5, File(NotToml)),
+    (MACHINE, "=", 5, File(NotToml)),
+    (UNREADY, MESSAGES, 5, NoSuchDay),
+    (UNREADY, MESSAGES, 17, Message(NotReady)),
+    (OFF_KEY, MESSAGES, 17, Message(NotOnKey)),
+    (MACHINE, MESSAGES, 15, Message(NotOnKey)),
+    (MACHINE, MESSAGES, 17, DeskFault::Device),
 ];
 
 /// 246 letters with one line of keys.
@@ -114,20 +128,24 @@ static BAD_ORDERS: [Case; 9] = [
 /// Each of them is refused, and nothing is written.
 fn are_refused(rt: &impl Abort, alloc: Global, cases: &[Case]) {
     for (machine, sheet, day, order, fault) in cases {
-        run(alloc, machine, sheet, *day, order, 0).refused(rt, *fault);
+        run(alloc, machine, sheet, *day, order_of(order), 0).refused(rt, *fault);
     }
 }
 
 #[test]
 fn sends_orders(rt: HostRuntime) {
     for (machine, day, order, form) in &SENT {
-        run(rt.alloc(), machine, MESSAGES, *day, order, 4096).ended(&rt, Ok(()), form.as_bytes());
+        let ran = run(rt.alloc(), machine, MESSAGES, *day, order_of(order), 4096);
+        ran.ended(&rt, Ok(()), form.as_bytes());
     }
 }
 
 #[test]
 fn sends_nothing_without_a_key(rt: HostRuntime) {
-    are_refused(&rt, rt.alloc(), &NO_KEY);
+    for (machine, sheet, day, fault) in &NO_KEY {
+        let order = MemorySource::new(b"", 1, Some(0));
+        run(rt.alloc(), machine, sheet, *day, order, 0).refused(&rt, *fault);
+    }
 }
 
 #[test]
@@ -139,7 +157,7 @@ fn refuses_an_order_and_writes_nothing(rt: HostRuntime) {
 fn stops_where_the_sink_fails(rt: HostRuntime) {
     let form = FORM.as_bytes();
     for room in 0..form.len() {
-        let ran = run(rt.alloc(), MACHINE, MESSAGES, 17, ORDER, room);
+        let ran = run(rt.alloc(), MACHINE, MESSAGES, 17, order_of(ORDER), room);
         ran.ended(&rt, Err(DeskFault::Device), &form[..room]);
     }
 }

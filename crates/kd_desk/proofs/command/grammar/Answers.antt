@@ -2,8 +2,8 @@ use Rattle.std.proofs.Common.{true, ap, ap₂, codes, ◌≡◌, ◌∙◌}
 use Rattle.std.proofs.lemmas.Result.{IfOk-weaker}
 use Rattle.clap.specs.Words.{App, app_of, new_app, with_subcommand}
 use Rattle.clap.specs.Simple.{app_of_fields}
-use Rattle.kd_desk.specs.declared.command.Work.TheVariants.{Check, Send}
-use Rattle.kd_desk.specs.CommandLine.{type_shape, card_shape, apply_shape, work_shape, desk_grammar}
+use Rattle.kd_desk.specs.declared.command.Way.TheVariants.{Send}
+use Rattle.kd_desk.specs.CommandLine.{type_shape, card_shape, apply_shape, check_shape, way_shape, desk_grammar}
 use Rattle.kd_desk.proofs.command.grammar.Goals as goal
 
 abbrev without_help : App → App
@@ -26,10 +26,10 @@ abbrev with_cards : App
 with_cards = with_subcommand with_lists card_shape
 
 abbrev with_checks : App
-with_checks = with_subcommand with_cards (work_shape Check)
+with_checks = with_subcommand with_cards check_shape
 
 abbrev with_orders : App
-with_orders = with_subcommand with_checks (work_shape Send)
+with_orders = with_subcommand with_checks (way_shape Send)
 
 pub returns : goal.returns
 unfolding desk_grammar

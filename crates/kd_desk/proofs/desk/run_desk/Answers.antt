@@ -1,8 +1,7 @@
-use Rattle.std.proofs.Common.{map, refl}
+use Rattle.std.proofs.Common.{map}
 use Rattle.kd_desk.specs.CommandLine.{named}
 use Rattle.kd_tables.specs.Ports.{port}
-use Rattle.kd_desk.specs.declared.stop.Stop.TheVariants.{Refused}
-use Rattle.kd_desk.proofs.Runs.{asked_all, asked_for, asked_yet, said_command, done, unread, err_is}
+use Rattle.kd_desk.proofs.Runs.{asked_all, asked_for, asked_yet, said_command, done, unread}
 use Rattle.kd_desk.proofs.desk.run_desk.Goals as goal
 
 pub returns-in_err-command-2-clause-carried : goal.returns-in_err-command-2-clause-carried
@@ -13,19 +12,12 @@ returns-in_err-command-2-clause-carried g c =
     c.from_residual-in_err-command-2.result _ said command (said_command words said command c.in_ok-command.ensures.said says) _
     c.from_residual-in_err-command-2.ensures.1 c.in_err-command-2.ensures.read
 
-pub returns-in_err-carry_out-clause-carried : goal.returns-in_err-carry_out-clause-carried
-returns-in_err-carry_out-clause-carried g c =
-    let said = named c.in_ok-command.command in
-    let words = map g.S.AsStr.text c.args.words.now in
-    λ command says. done _ _ c.from_residual-in_err-carry_out.result _ said command (said_command words said command c.in_ok-command.ensures.said says) _ _
-    (err_is _ (Refused _) c.from_residual-in_err-carry_out.ensures.1) c.in_err-carry_out.ensures.does c.in_ok-command-2.ensures.read
-
 pub returns-clause-carried : goal.returns-clause-carried
 returns-clause-carried g c =
     let said = named c.in_ok-command.command in
     let words = map g.S.AsStr.text c.args.words.now in
-    λ command says. done _ _ _ _ said command (said_command words said command c.in_ok-command.ensures.said says) _ _
-    refl c.in_ok-carry_out.ensures.does c.in_ok-command-2.ensures.read
+    λ command says. done _ _ c.carry_out.result _ said command (said_command words said command c.in_ok-command.ensures.said says) _
+    c.carry_out.ensures.does c.in_ok-command-2.ensures.read
 
 pub returns-in_err-command-2-clause-asked : goal.returns-in_err-command-2-clause-asked
 returns-in_err-command-2-clause-asked g c =
@@ -33,12 +25,6 @@ returns-in_err-command-2-clause-asked g c =
     let words = map g.S.AsStr.text c.args.words.now in
     λ command says. asked_for said command _ _ _ (said_command words said command c.in_ok-command.ensures.said says)
     (asked_yet _ _ _ _ _ c.from_residual-in_err-command-2.ensures.1 c.in_err-command-2.ensures.asked)
-
-pub returns-in_err-carry_out-clause-asked : goal.returns-in_err-carry_out-clause-asked
-returns-in_err-carry_out-clause-asked g c =
-    let said = named c.in_ok-command.command in
-    let words = map g.S.AsStr.text c.args.words.now in
-    λ command says. asked_for said command _ _ _ (said_command words said command c.in_ok-command.ensures.said says) (asked_all _ _ _ _ c.in_ok-command-2.ensures.asked)
 
 pub returns-clause-asked : goal.returns-clause-asked
 returns-clause-asked g c =
@@ -51,12 +37,6 @@ returns-in_err-command-2-clause-other_words g c = λ none. absurd (none (named c
 
 pub returns-in_err-command-2-clause-none_asked : goal.returns-in_err-command-2-clause-none_asked
 returns-in_err-command-2-clause-none_asked g c = λ none. absurd (none (named c.in_ok-command.command) c.in_ok-command.ensures.said)
-
-pub returns-in_err-carry_out-clause-other_words : goal.returns-in_err-carry_out-clause-other_words
-returns-in_err-carry_out-clause-other_words g c = λ none. absurd (none (named c.in_ok-command.command) c.in_ok-command.ensures.said)
-
-pub returns-in_err-carry_out-clause-none_asked : goal.returns-in_err-carry_out-clause-none_asked
-returns-in_err-carry_out-clause-none_asked g c = λ none. absurd (none (named c.in_ok-command.command) c.in_ok-command.ensures.said)
 
 pub returns-clause-other_words : goal.returns-clause-other_words
 returns-clause-other_words g c = λ none. absurd (none (named c.in_ok-command.command) c.in_ok-command.ensures.said)

@@ -1,0 +1,18 @@
+use Rattle.std.proofs.Common.{codes, refl, rules}
+use Rattle.clap.specs.Words.{found_of, rows_of}
+use Rattle.kd_desk.proofs.CommandLines.{read_none, read_some}
+use Rattle.kd_desk.proofs.SaidCommands.{no_day_of_check, no_card}
+use Rattle.kd_desk.proofs.command.check_of.Goals as goal
+
+pub returns-in_err-sheet-clause-none : goal.returns-in_err-sheet-clause-none
+returns-in_err-sheet-clause-none c = λ _. no_day_of_check (rows_of (found_of c.args.words.now)) (c.in_err-sheet.ensures.none refl)
+
+pub returns-in_err-card-clause-none : goal.returns-in_err-card-clause-none
+returns-in_err-card-clause-none c =
+    let found = found_of c.args.words.now in
+    λ _. no_card (rows_of found) (read_none found (codes "CARD") c.get_str.result c.get_str.ensures (search rules))
+
+pub returns-clause-said : goal.returns-clause-said
+returns-clause-said c =
+    let found = found_of c.args.words.now in
+    record { name = refl; words = (c.in_ok-sheet.ensures.said, read_some found (codes "CARD") c.get_str.result c.in_ok-card.card c.get_str.ensures (search rules)) }
