@@ -2,12 +2,13 @@
 use Rattle.std.proofs.Common.{◌≡◌, ℕ, ◌≤◌, ◌<◌, ◌+◌, ◌-◌, List, [], length, take, slice_index, IsTrue, IsFalse, refl, sym, ap, subst, length-take-le, arith}
 use Rattle.std.proofs.lemmas.List.Elements.{All-nil}
 use Rattle.std.specs.Io.{StartsWith}
+use Rattle.kd_tables.specs.Text.{is_text_byte}
 use Rattle.kd_state.specs.TwoCiphers.{EngineKey}
-use Rattle.kd_desk.specs.Typing.{may_be_typed, AreAllowedBytes, Lights, TypesFront, IsFirstRefused}
+use Rattle.kd_desk.specs.Typing.{AreAllowedBytes, Lights, TypesFront, IsFirstRefused}
 use Rattle.kd_desk.specs.TypingSteps.{IsAllowedFront}
 
 pub TypesFront-nil : (key : EngineKey) → TypesFront key [] []
-TypesFront-nil key = record { front = []; of_read = refl; allowed = All-nil (λ (byte : ℕ). IsTrue (may_be_typed byte)); written = refl }
+TypesFront-nil key = record { front = []; of_read = refl; allowed = All-nil (λ (byte : ℕ). IsTrue (is_text_byte byte)); written = refl }
 
 -- a front of the lamps of so many bytes
 pub TypesFront-take : (key left : EngineKey) (bytes lamps text : List ℕ) (n : ℕ) → IsAllowedFront bytes n
@@ -26,5 +27,5 @@ IsFirstRefused-behind bytes n within is =
     record {
       within = (omega arith, omega arith);
       before = subst (λ k. AreAllowedBytes (take k bytes)) (sym back) is.allowed;
-      here = subst (λ k. IsFalse (may_be_typed (slice_index bytes k))) (sym back) (is.next within);
+      here = subst (λ k. IsFalse (is_text_byte (slice_index bytes k))) (sym back) (is.next within);
     }

@@ -4,7 +4,8 @@ use Rattle.std.specs.Io.KnownBytes.{Appends, Consumes, IsAtEnd}
 use Rattle.kd_state.specs.TwoCiphers.{EngineKey}
 use Rattle.kd_tables.specs.declared.writing.Device.{Device}
 use Rattle.kd_tables.specs.Ports.{Port, FailsAlone}
-use Rattle.kd_desk.specs.Typing.{may_be_typed, AreAllowedBytes, IsFirstRefused, Lights, TypesPart, cipher_text}
+use Rattle.kd_tables.specs.Text.{is_text_byte}
+use Rattle.kd_desk.specs.Typing.{AreAllowedBytes, IsFirstRefused, Lights, TypesPart, cipher_text}
 use Rattle.kd_desk.specs.declared.typing.step.Step.{Step}
 use Rattle.kd_desk.specs.declared.typing.step.Step.TheVariants.{Ended, Typed, Refused}
 
@@ -31,4 +32,4 @@ pub record StepTyped (key left : EngineKey) (room : ℕ) (source sink : Port) (a
 pub record IsAllowedFront (bytes : List ℕ) (front : ℕ) : Type 0 where
   pub within : front ≤ length bytes
   pub allowed : AreAllowedBytes (take front bytes)
-  pub next : front < length bytes → IsFalse (may_be_typed (slice_index bytes front))
+  pub next : front < length bytes → IsFalse (is_text_byte (slice_index bytes front))

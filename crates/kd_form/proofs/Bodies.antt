@@ -6,6 +6,7 @@ use Rattle.std.proofs.Math.Seq.{take-append_seam, take-append-add, get_or-append
 use Rattle.std.proofs.lemmas.Bool.{cases_lt, cases_eq}
 use Rattle.std.proofs.lemmas.List.{append-nil, take_all, take_more, take-append-le, take-append-drop, length-take, length-take-le, get_or-take}
 use Rattle.std.proofs.lemmas.List.Elements.{filter_map-append, All-append, All-cons, All-nil}
+use Rattle.kd_tables.specs.Text.{is_text_byte}
 use Rattle.kd_state.specs.SheetDay.{Day}
 use Rattle.kd_state.specs.Words.{line_of, IsWithout}
 use Rattle.kd_form.specs.declared.fault.FormFault.{FormFault}
@@ -13,7 +14,7 @@ use Rattle.kd_form.specs.declared.heading.Heading.{Heading}
 use Rattle.kd_form.specs.declared.part_body.PartBody.{PartBody}
 use Rattle.kd_form.specs.Order.{IsEnded}
 use Rattle.kd_form.specs.Part.{heading_words}
-use Rattle.kd_form.specs.Sending.{is_text_byte, letter_of_byte, letters_from}
+use Rattle.kd_form.specs.Sending.{letter_of_byte, letters_from}
 use Rattle.kd_form.specs.FormParts.{IsHeading}
 use Rattle.kd_form.specs.Receiving.{IsBodyText, IsBodyFault, InCount, InLetters}
 use Rattle.kd_form.specs.FormReading.{IsNextLine, Broken, Longer, Begins, HoldsBody}

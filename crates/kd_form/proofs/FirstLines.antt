@@ -6,11 +6,11 @@ use Rattle.std.proofs.lemmas.Fmt.{digits_decimal, length-decimal-le}
 use Rattle.std.proofs.Math.Seq.{get_or-append_seam}
 use Rattle.std.proofs.lemmas.List.{append-nil, append_cancel_right, take_all, length-take, length-map}
 use Rattle.std.proofs.lemmas.List.Elements.{All-cons, All-nil, All-append, All-map, All-from_get_or, All-weaker, All-get_or}
+use Rattle.kd_tables.specs.Text.{letters_text}
 use Rattle.kd_state.specs.SheetDay.{Day, OfRotors, OfPins}
 use Rattle.kd_state.specs.Words.{line_of, IsWithout, TextsTellFirstParts}
 use Rattle.kd_form.specs.declared.heading.Heading.{Heading}
 use Rattle.kd_form.specs.declared.heading.Indicator.{Indicator}
-use Rattle.kd_form.specs.Keys.{letters_text}
 use Rattle.kd_form.specs.Part.{fraction, indicator_words, heading_words}
 use Rattle.kd_form.specs.Order.{IsEnded}
 use Rattle.kd_form.specs.KeyPatterns.{HasPins, HasSlots}

@@ -3,6 +3,7 @@ use Rattle.std.proofs.Common.{◌≡◌, ◌≢◌, ◌⊎◌, inl, inr, ℕ, �
 use Rattle.std.specs.Prelude.{All, IsTrue, MatchOption}
 use Rattle.std.proofs.lemmas.List.{append-nil}
 use Rattle.std.proofs.lemmas.List.Elements.{All-nil}
+use Rattle.kd_tables.specs.Text.{is_text_byte}
 use Rattle.kd_state.specs.SheetDay.{Day}
 use Rattle.kd_state.specs.Words.{IsWithout}
 use Rattle.kd_form.specs.declared.fault.FormFault.{FormFault}
@@ -12,7 +13,7 @@ use Rattle.kd_form.specs.declared.part_body.PartBody.{PartBody}
 use Rattle.kd_form.specs.declared.form_reader.FormReader.{FormReader}
 use Rattle.kd_form.specs.declared.form_reader.Stage.{Stage}
 use Rattle.kd_form.specs.declared.form_reader.Stage.TheVariants as stages
-use Rattle.kd_form.specs.Sending.{is_text_byte, letters_from}
+use Rattle.kd_form.specs.Sending.{letters_from}
 use Rattle.kd_form.specs.FormParts.{IsHeading}
 use Rattle.kd_form.specs.Receiving.{HasHeading, IsExpected, IsPartRead, IsBodyText, IsBodyFault, InHeading, InNumber, IsPartFault}
 use Rattle.kd_form.specs.FormText.{given_letters, count_due, Turn, IsRefusedAtEnd, InPart, form_message}

@@ -4,6 +4,7 @@ use Rattle.std.specs.Prelude.{codes, All, IsTrue, IsFalse, MatchOption}
 use Rattle.std.proofs.lemmas.List.{append-nil, append_cancel_right, length-take}
 use Rattle.std.proofs.lemmas.List.Elements.{All-append, All-cons, All-nil, All-head, All-tail, filter_map-append}
 use Rattle.std.proofs.lemmas.Bool.{false≢true, cases_lt}
+use Rattle.kd_tables.specs.Text.{is_text_byte}
 use Rattle.kd_state.specs.SheetDay.{Day}
 use Rattle.kd_state.specs.Words.{line_of, IsWithout, IsFirstPart, TextsTellFirstParts, NumbersAreWords}
 use Rattle.kd_form.specs.declared.fault.FormFault.{FormFault}
@@ -15,7 +16,7 @@ use Rattle.kd_form.specs.declared.form_reader.Stage.{Stage}
 use Rattle.kd_form.specs.declared.form_reader.Stage.TheVariants as stages
 use Rattle.kd_form.specs.Order.{IsEnded}
 use Rattle.kd_form.specs.Part.{heading_words}
-use Rattle.kd_form.specs.Sending.{is_text_byte, letter_of_byte, letters_from, IsBadAt}
+use Rattle.kd_form.specs.Sending.{letter_of_byte, letters_from, IsBadAt}
 use Rattle.kd_form.specs.FormParts.{BeginsHeading, IsFirstOf, IsHeading}
 use Rattle.kd_form.specs.Receiving.{HasHeading, IsExpected, IsPartRead, IsBodyText, IsBodyFault, IsEarlyFault, InHeading, InNumber, InBody, IsLateFault, IsPartFault}
 use Rattle.kd_form.specs.FormText.{ArePartsRead, IsReadTo, given_letters, count_due, Turn, IsTextBeforeLast, IsRefusedEarly, IsRefusedForGood, NoHeading, InWhole, InLast, form_message}

@@ -4,11 +4,11 @@ use Rattle.std.specs.Prelude.{codes, decimal, All, Option, Some, None, MatchOpti
 use Rattle.std.proofs.lemmas.Fmt.{decimal_injective}
 use Rattle.std.proofs.lemmas.List.{length-map}
 use Rattle.std.proofs.lemmas.List.Elements.{All-cons, All-nil, All-append, All-map}
+use Rattle.kd_tables.specs.Text.{letters_text}
 use Rattle.kd_state.specs.SheetDay.{Day, RotorDay, OfRotors, OfPins}
 use Rattle.kd_state.specs.Words.{line_of, words_of, IsWord, IsWithout, IsFirstPart, TextsTellFirstParts, NumbersAreWords, LinesSplitIntoWords, PartsMakeLines}
 use Rattle.kd_form.specs.declared.heading.Heading.{Heading}
 use Rattle.kd_form.specs.declared.heading.Indicator.{Indicator}
-use Rattle.kd_form.specs.Keys.{letters_text}
 use Rattle.kd_form.specs.Part.{fraction, indicator_words, heading_words}
 use Rattle.kd_form.specs.Reading.{HasIndicator}
 use Rattle.kd_form.specs.KeyPatterns.{HasSlots, HasPins}

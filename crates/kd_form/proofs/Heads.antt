@@ -4,11 +4,12 @@ use Rattle.std.specs.Prelude.{codes, All, ◌==◌}
 use Rattle.std.proofs.lemmas.Bool.Decides.{nat_tests}
 use Rattle.std.proofs.lemmas.List.{append-nil}
 use Rattle.std.proofs.lemmas.List.Elements.{All-append, All-cons, All-nil, All-push, All-head, All-tail, All-map}
+use Rattle.kd_tables.specs.Text.{letters_text}
 use Rattle.kd_state.specs.Words.{line_of, IsWithout, TextsTellFirstParts}
 use Rattle.kd_state.specs.SheetDay.{Day}
 use Rattle.kd_form.specs.declared.keys.Keys.{Keys}
 use Rattle.kd_form.specs.declared.keys.Keys.TheVariants.{Rotor, Pin}
-use Rattle.kd_form.specs.Keys.{letters_text, key_words, AreKeys}
+use Rattle.kd_form.specs.Keys.{key_words, AreKeys}
 use Rattle.kd_form.specs.Patterns.{IsPatternLine, BeginsWithPattern, LineBreaksOff}
 use Rattle.kd_form.specs.Order.{IsEnded, IsKeyLine, AreKeyLines, IsHead, IsOrder, IsHeadFault}
 use Rattle.kd_form.specs.KeyPatterns.{BeginsWithKeys, IsAnyKeyLine}

@@ -5,7 +5,6 @@ pub mod Parts
 pub mod Filled
 pub mod KeyLines
 pub mod Heads
-pub mod SortedAlike
 pub mod SuitedKeys
 pub mod TextLetters
 pub mod PartLetters
@@ -16,7 +15,6 @@ pub mod OneFault
 pub mod Growing
 pub mod Bodies
 pub mod Fractions
-pub mod Numerals
 pub mod Spelled
 pub mod Headings
 pub mod FirstLines

@@ -4,6 +4,7 @@ use Rattle.std.specs.Prelude.{All, IsTrue, IsFalse}
 use Rattle.std.proofs.lemmas.Bool.{false≢true}
 use Rattle.std.proofs.lemmas.List.{append-nil}
 use Rattle.std.proofs.lemmas.List.Elements.{All-head, All-tail}
+use Rattle.kd_tables.specs.Text.{is_text_byte}
 use Rattle.kd_state.specs.Words.{TextsTellFirstParts}
 use Rattle.kd_state.specs.SheetDay.{Day, OfRotors, OfPins}
 use Rattle.kd_form.specs.declared.fault.FormFault.{FormFault}
@@ -12,7 +13,7 @@ use Rattle.kd_form.specs.declared.keys.Keys.{Keys}
 use Rattle.kd_form.specs.declared.keys.Keys.TheVariants.{Rotor, Pin}
 use Rattle.kd_form.specs.Making.{Suits}
 use Rattle.kd_form.specs.Order.{IsHead, IsOrder, IsHeadFault}
-use Rattle.kd_form.specs.Sending.{is_text_byte, text_letters, parts_needed, IsBadAt, IsKeysFault, IsFirstKeysFault, StandsInOrder, EndsOrder, InHead, InKeys, InText, Cut, NoLetter, InParts, IsSendFault, CanBeSent, IsFormOf}
+use Rattle.kd_form.specs.Sending.{text_letters, parts_needed, IsBadAt, IsKeysFault, IsFirstKeysFault, StandsInOrder, EndsOrder, InHead, InKeys, InText, Cut, NoLetter, InParts, IsSendFault, CanBeSent, IsFormOf}
 use Rattle.kd_form.specs.Laws.{SentOrdersHaveNoFault, OrdersHaveOneFault}
 use Rattle.kd_form.proofs.OneOrder.{one_order}
 

@@ -5,11 +5,11 @@ use Rattle.std.specs.Int.{IsInRange}
 use Rattle.std.proofs.lemmas.Fmt.{decimal_injective, digits_decimal}
 use Rattle.std.proofs.Math.Seq.{drop-cons}
 use Rattle.std.proofs.lemmas.List.{append-nil}
+use Rattle.kd_tables.specs.Text.{letters_text}
 use Rattle.kd_state.specs.SheetDay.{Day, OfRotors, OfPins}
 use Rattle.kd_state.specs.Words.{line_of, IsWord, IsWithout, TextsTellFirstParts, NumbersAreWords}
 use Rattle.kd_form.specs.declared.heading.Heading.{Heading}
 use Rattle.kd_form.specs.declared.heading.Indicator.{Indicator}
-use Rattle.kd_form.specs.Keys.{letters_text}
 use Rattle.kd_form.specs.Order.{IsEnded}
 use Rattle.kd_form.specs.Part.{fraction, indicator_words, heading_words}
 use Rattle.kd_form.specs.Reading.{HasIndicator}

@@ -1,7 +1,8 @@
 -- A part of a form has one text, or one fault.
 use Rattle.std.proofs.Common.{◌≡◌, ◌≢◌, ℕ, ◌+◌, ◌-◌, ◌⊎◌, inl, inr, List, [], ◌∷◌, ◌++◌, length, get_or, drop, Result, Ok, Err, MatchResult, refl, sym, ap, subst, ◌∙◌, length-append, arith}
 use Rattle.std.specs.Prelude.{All, IsTrue, slice_index, Option, Some, None}
-use Rattle.kd_state.specs.SheetDay.{Day}
+use Rattle.kd_tables.specs.Text.{is_text_byte}
+use Rattle.kd_state.specs.SheetDay.{Day, AreOfADaysGroup}
 use Rattle.kd_state.specs.TwoCiphers.{sheet_key, IsWindow}
 use Rattle.kd_state.specs.Words.{TextsTellFirstParts, NumbersAreWords}
 use Rattle.kd_form.specs.declared.fault.FormFault.{FormFault}
@@ -10,8 +11,8 @@ use Rattle.kd_form.specs.declared.heading.Heading.{Heading}
 use Rattle.kd_form.specs.declared.heading.Indicator.{Indicator}
 use Rattle.kd_form.specs.declared.keys.PinKeys.{PinKeys}
 use Rattle.kd_form.specs.InternalKey.{IsInternalKey}
-use Rattle.kd_form.specs.Making.{cipher_from, AreOfADaysGroup, list_letters, enciphered_choice}
-use Rattle.kd_form.specs.Sending.{is_text_byte, letters_from, IsBadAt}
+use Rattle.kd_form.specs.Making.{cipher_from, list_letters, enciphered_choice}
+use Rattle.kd_form.specs.Sending.{letters_from, IsBadAt}
 use Rattle.kd_form.specs.Reading.{AreRotorLetters, message_key, IsRotorText, IsRotorFault, indicators_with, ArePinLetters, IsPinText, IsPinFault, InIndicators, InExternal, InList, InChoice, IsLettersText, IsLettersFault}
 use Rattle.kd_form.specs.Receiving.{HasHeading, IsExpected, IsPartRead, IsPartFault, IsBodyFault, InHeading, InNumber, InBody, InCount, InLetters}
 use Rattle.kd_form.proofs.OneOrder.{one_internal_key}

@@ -3,6 +3,7 @@ use Rattle.std.proofs.Common.{◌≡◌, ◌≢◌, ℕ, suc, ◌+◌, ◌*◌, 
 use Rattle.std.specs.Prelude.{All, MatchResult}
 use Rattle.std.proofs.lemmas.List.{take_all, drop_all}
 use Rattle.std.proofs.lemmas.List.Elements.{All-nil, All-push, filter_map-append}
+use Rattle.kd_tables.specs.Text.{is_text_byte}
 use Rattle.kd_state.specs.Words.{TextsTellFirstParts}
 use Rattle.kd_state.specs.SheetDay.{Day, OfRotors, OfPins}
 use Rattle.kd_form.specs.declared.fault.FormFault.{FormFault}
@@ -14,7 +15,7 @@ use Rattle.kd_form.specs.declared.order_reader.parts.PartWriter.{PartWriter}
 use Rattle.kd_form.specs.Part.{pieces}
 use Rattle.kd_form.specs.Making.{Suits, part_size}
 use Rattle.kd_form.specs.Order.{IsHead, IsOrder, IsHeadFault}
-use Rattle.kd_form.specs.Sending.{is_text_byte, blank_of, letter_of_byte, letters_from, text_letters, IsBadAt, IsFirstKeysFault, StandsInOrder, InHead, InKeys, InText, EndsOrder, Cut, NoLetter, InParts, IsSendFault, AreMadeTexts}
+use Rattle.kd_form.specs.Sending.{blank_of, letter_of_byte, letters_from, text_letters, IsBadAt, IsFirstKeysFault, StandsInOrder, InHead, InKeys, InText, EndsOrder, Cut, NoLetter, InParts, IsSendFault, AreMadeTexts}
 use Rattle.kd_form.specs.SendStream as stream
 use Rattle.kd_form.specs.SendStream.{IsAllowedFront, CanBeWritten, IsSentBefore, orders}
 use Rattle.kd_form.specs.SendSteps.{IsHeadRead, IsTextRead, AreSuitedKeys, AreTaken, IsLastTaken, IsFresh, IsOrderRead, OfHead, OfText}

@@ -6,11 +6,12 @@ use Rattle.std.proofs.Math.ListN.{get_or-append}
 use Rattle.std.proofs.lemmas.Bool.{cases_lt, false≢true}
 use Rattle.std.proofs.lemmas.List.{append-nil}
 use Rattle.std.proofs.lemmas.List.Elements.{All-head, All-tail, All-cons, All-nil}
+use Rattle.kd_tables.specs.Text.{is_text_byte}
 use Rattle.kd_state.specs.SheetDay.{Day}
 use Rattle.kd_state.specs.Words.{IsWithout, IsFirstPart, TextsTellFirstParts, NumbersAreWords}
 use Rattle.kd_form.specs.declared.fault.FormFault.{FormFault}
 use Rattle.kd_form.specs.declared.fault.FormFault.TheVariants.{BadByte}
-use Rattle.kd_form.specs.Sending.{is_text_byte, IsBadAt}
+use Rattle.kd_form.specs.Sending.{IsBadAt}
 use Rattle.kd_form.specs.FormParts.{BeginsHeading, IsFirstOf}
 use Rattle.kd_form.specs.Receiving.{IsEarlyFault, IsPartFault, InHeading, InNumber, InBody}
 use Rattle.kd_form.specs.FormText.{given_letters, count_due, Turn, IsRefusedEarly, IsRefusedPart, IsRefusedForGood, NoHeading, InWhole, InLast}

@@ -1,5 +1,6 @@
 -- What one part of a form becomes: the letters of its text, or a fault. Parts are counted from 1, positions in bytes from 1.
 use Rattle.std.specs.Prelude.{◌≡◌, ◌≢◌, ◌⊎◌, ℕ, ◌+◌, ◌-◌, List, [], ◌++◌, length, All, IsTrue, Option, Some, None}
+use Rattle.kd_tables.specs.Text.{is_text_byte}
 use Rattle.kd_state.specs.SheetDay.{Day}
 use Rattle.kd_state.specs.Words.{line_of}
 use Rattle.kd_form.specs.declared.fault.FormFault.{FormFault}
@@ -7,7 +8,7 @@ use Rattle.kd_form.specs.declared.fault.FormFault.TheVariants.{BadByte, BadHeadi
 use Rattle.kd_form.specs.declared.heading.Heading.{Heading}
 use Rattle.kd_form.specs.Order.{IsEnded}
 use Rattle.kd_form.specs.Part.{heading_words}
-use Rattle.kd_form.specs.Sending.{is_text_byte, letters_from, IsBadAt}
+use Rattle.kd_form.specs.Sending.{letters_from, IsBadAt}
 use Rattle.kd_form.specs.Reading.{IsLettersText, IsLettersFault}
 use Rattle.kd_form.specs.FormParts.{IsHeading}
 

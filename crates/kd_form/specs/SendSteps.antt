@@ -1,5 +1,6 @@
 -- What the reader of an order holds. The contracts of the public calls do not speak of it.
 use Rattle.std.specs.Prelude.{◌≡◌, ◌≢◌, ◌⊎◌, Result, Ok, Err, ℕ, ◌+◌, ◌*◌, ◌≤◌, List, [], ◌∷◌, ◌++◌, length, take, drop, All, IsTrue}
+use Rattle.kd_tables.specs.Text.{is_text_byte}
 use Rattle.kd_state.specs.Words.{IsWithout}
 use Rattle.kd_state.specs.SheetDay.{Day}
 use Rattle.kd_form.specs.declared.fault.FormFault.{FormFault}
@@ -15,7 +16,7 @@ use Rattle.kd_form.specs.Keys.{AreKeys}
 use Rattle.kd_form.specs.Part.{pieces}
 use Rattle.kd_form.specs.Making.{Suits, part_size}
 use Rattle.kd_form.specs.Order.{AreKeyLines, IsOrder, IsHeadFault}
-use Rattle.kd_form.specs.Sending.{is_text_byte, text_letters, parts_needed, AreMadeTexts}
+use Rattle.kd_form.specs.Sending.{text_letters, parts_needed, AreMadeTexts}
 use Rattle.kd_form.specs.SendStream.{CanBeWritten}
 
 -- whole lines of keys were read, and the front of another line, with which the order can't end

@@ -1,11 +1,12 @@
 -- An order that is sent as it comes. Parts are counted from 1.
 use Rattle.std.specs.Prelude.{◌≡◌, ◌⊎◌, ℕ, ◌*◌, ◌<◌, ◌≤◌, List, [], ◌∷◌, ◌++◌, length, take, All, IsTrue, IsFalse}
+use Rattle.kd_tables.specs.Text.{is_text_byte}
 use Rattle.kd_state.specs.SheetDay.{Day}
 use Rattle.kd_form.specs.declared.keys.Keys.{Keys}
 use Rattle.kd_form.specs.Part.{pieces}
 use Rattle.kd_form.specs.Making.{Suits, part_size}
 use Rattle.kd_form.specs.Order.{IsOrder}
-use Rattle.kd_form.specs.Sending.{is_text_byte, text_letters, StandsInOrder, IsSendFault, AreMadeTexts, IsFormOf}
+use Rattle.kd_form.specs.Sending.{text_letters, StandsInOrder, IsSendFault, AreMadeTexts, IsFormOf}
 use Rattle.kd_form.specs.Streams.{Message}
 
 -- the bytes of the text before the first that may not stand there

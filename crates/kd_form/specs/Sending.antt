@@ -1,26 +1,19 @@
 -- What an order becomes: a form, or the first fault. Parts are counted from 1, positions in bytes from 1.
 use Rattle.std.specs.Prelude.{◌≡◌, ◌≢◌, ℕ, ◌+◌, ◌-◌, ◌≤◌, ◌⊎◌, nat_le, Bool, ◌&&◌, ◌||◌, ◌==◌, List, [], ◌∷◌, ◌++◌, length, filter_map, All, IsTrue, IsFalse, Option, Some, None, if◌then◌else◌}
 use Rattle.std.specs.Int.{div_ceil}
+use Rattle.kd_tables.specs.Text.{is_capital, is_text_byte}
 use Rattle.kd_state.specs.Machine.{AreOnWheels}
-use Rattle.kd_state.specs.SheetDay.{Day, OfRotors, OfPins}
+use Rattle.kd_state.specs.SheetDay.{Day, OfRotors, OfPins, AreOfAGroup}
 use Rattle.kd_form.specs.declared.fault.FormFault.{FormFault}
 use Rattle.kd_form.specs.declared.fault.FormFault.TheVariants.{BadByte, EmptyText, PartKeys, KeyNotOnWheel, WrongGroup, IndicatorSpent}
 use Rattle.kd_form.specs.declared.keys.Keys.{Keys}
 use Rattle.kd_form.specs.declared.keys.Keys.TheVariants.{Rotor, Pin}
 use Rattle.kd_form.specs.InternalKey.{HaveRunOut}
 use Rattle.kd_form.specs.Part.{pieces}
-use Rattle.kd_form.specs.Making.{Suits, IsMadeText, AreOfAGroup, enciphered_choice, part_size}
+use Rattle.kd_form.specs.Making.{Suits, IsMadeText, enciphered_choice, part_size}
 use Rattle.kd_form.specs.Order.{IsOrder, IsHeadFault}
 
 -- ---- the text of an order
-
--- a capital letter
-abbrev pub is_capital : ℕ → Bool
-is_capital byte = nat_le 65 byte && nat_le byte 90
-
--- what a text may have: capital letters, spaces, CR and LF
-abbrev pub is_text_byte : ℕ → Bool
-is_text_byte byte = is_capital byte || (byte == 32 || (byte == 13 || byte == 10))
 
 -- the letter that a space stands for: Z on the Converter M-209, and none on a rotor machine
 abbrev pub blank_of : Day → Option ℕ

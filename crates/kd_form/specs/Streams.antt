@@ -4,7 +4,7 @@ use Rattle.std.specs.Io.{StartsWith}
 use Rattle.std.specs.Io.KnownBytes.{Appends, Consumes, IsAtEnd}
 use Rattle.kd_tables.specs.declared.limit.TheConstants.{READ_LIMIT}
 use Rattle.kd_tables.specs.Ports.{Port, IsWell, FailsAlone}
-use Rattle.kd_state.specs.declared.parts.Parts.{Parts}
+use Rattle.kd_state.specs.declared.machine.parts.Parts.{Parts}
 use Rattle.kd_state.specs.SheetDay.{Day}
 use Rattle.kd_form.specs.declared.fault.FormFault.{FormFault}
 use Rattle.kd_form.specs.declared.fault.FormFault.TheVariants.{Device, ReadTooLong}

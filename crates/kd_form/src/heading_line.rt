@@ -1,9 +1,9 @@
 //! The line of a heading, read.
 ghost use Rattle.std.specs.Prelude.{◌≡◌, ◌≢◌, ◌⊎◌, ◌↔◌, ℕ, ◌^◌, ◌<◌, List, [], ◌∷◌, ◌++◌, codes, decimal, map, take, IsTrue, MatchOption};
+ghost use Rattle.kd_tables.specs.Text.{letters_text};
 ghost use Rattle.kd_state.specs.Machine.{AreLetters};
 ghost use Rattle.kd_state.specs.Words.{line_of, IsWithout};
 ghost use Rattle.kd_form.specs.declared.heading.Heading.{Heading};
-ghost use Rattle.kd_form.specs.Keys.{letters_text};
 ghost use Rattle.kd_form.specs.Part.{fraction, indicator_words, heading_words};
 ghost use Rattle.kd_form.specs.Order.{IsEnded};
 ghost use Rattle.kd_form.specs.FormParts.{IsFraction, AreFewLetters, IsLetterCount, IsHeading, AreHeadingWords, IsLineText};
@@ -14,11 +14,11 @@ use super::cipher::are_letters;
 use super::heading::{Heading, Indicator};
 use super::key_line::slots_of;
 use arrayvec::ArrayVec;
-use itoa::Buffer;
 use kd_state::laws::{lines_tell_words, numbers_and_letters_are_words, texts_tell_first_parts};
-use kd_state::{PerSlot, SheetDay, number_of_text, split_once, split_words};
+use kd_state::{
+    PerSlot, SheetDay, number_of_text, split_once, split_words, wide_number_of_text,
+};
 use kd_tables::Letter;
-use std::str;
 
 /// Which part of how many the word says, if they are from 1 to 99.
 fn read_fraction(word: &[u8]) -> Option<(u8, u8)>
@@ -42,22 +42,11 @@ fn read_count(day: &SheetDay, word: &[u8]) -> Option<u16>
         ((count : ℕ) → IsLetterCount day.now count → decimal count ≢ word.now)
         (λ count. IsLetterCount day.now count × (decimal count ≡ word.now)) }
 {
-    let count = read_number(word)?;
+    let count = wide_number_of_text(word)?;
     if !is_letter_count(day, count) {
         return None;
     }
     Some(count)
-}
-
-/// The number that is written so: in decimal, without leading zeros and without a sign.
-fn read_number(word: &[u8]) -> Option<u16>
-    ensures { MatchOption result
-        ((count : ℕ) → count < 2 ^ 16 → decimal count ≢ word.now)
-        (λ count. decimal count ≡ word.now) }
-{
-    let count: u16 = str::from_utf8(word).ok()?.parse().ok()?;
-    let mut buffer = Buffer::new();
-    (buffer.format(count).as_bytes() == word).then_some(count)
 }
 
 /// The letters of the word, at most four.

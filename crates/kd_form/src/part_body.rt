@@ -1,10 +1,11 @@
 //! The body of a part of a form, as it comes.
 ghost use Rattle.std.specs.Prelude.{codes, ◌≡◌, ◌↔◌, ◌<◌, ◌≤◌, ℕ, List, [], ◌∷◌, ◌++◌, length, take, slice_index, IsTrue, MatchResult, MatchOption, None, Some};
 ghost use Rattle.std.specs.Option.{option_to_list};
+ghost use Rattle.kd_tables.specs.Text.{is_text_byte};
 ghost use Rattle.kd_state.specs.Words.{line_of};
 ghost use Rattle.kd_form.specs.Order.{IsEnded};
 ghost use Rattle.kd_form.specs.Part.{heading_words};
-ghost use Rattle.kd_form.specs.Sending.{is_text_byte, letters_from};
+ghost use Rattle.kd_form.specs.Sending.{letters_from};
 ghost use Rattle.kd_form.specs.FormParts.{IsHeading};
 ghost use Rattle.kd_form.specs.Receiving.{IsBodyText, IsBodyFault};
 ghost use Rattle.kd_form.specs.FormReading.{IsNextLine, Begins, HoldsBody};

@@ -10,7 +10,6 @@ use super::fault::FormFault;
 use super::heading::{Heading, Indicator};
 use super::key_line::{pin_keys, slots_of};
 use super::making::internal_key_of;
-use super::suiting::are_of_the_day;
 use arrayvec::ArrayVec;
 use kd_state::SheetDay;
 use kd_tables::Letter;
@@ -33,7 +32,7 @@ fn read_rotor_letters(
     let (fillers, rest) = letters.split_at(2);
     let (group, text) = rest.split_at(3);
     let group = <[Letter; 3]>::try_from(group).unwrap();
-    if !are_of_the_day(day, group) {
+    if !day.has_group(group) {
         return Err(FormFault::WrongGroup(part));
     }
     let key = enciphered::<4>(day, indicator.start.as_slice(), indicator.key.as_slice());

@@ -20,7 +20,6 @@ mod sink;
 mod source;
 mod standing;
 mod table;
-mod text;
 #[cfg(test)]
 mod tests;
 mod wheel;
@@ -41,6 +40,5 @@ pub use ring::{Ring, place_on_wheel, ring1, ring2, ring3, ring4, ring5, ring6};
 pub use sink::Sink;
 pub use source::Source;
 pub use standing::Standing;
-pub use text::is_text_byte;
 pub use wheel::{Wheel, notched, unwiring, wiring};
 pub use writing::{Device, put_all};

@@ -1,7 +1,7 @@
 ghost use Rattle.std.specs.Prelude.{◌≡◌, ◌<◌, ◌≤◌, ◌+◌, ◌++◌, take, length, IsTrue, IsFalse, [], ◌∷◌, option_to_list, MatchOption};
 ghost use Rattle.arrayvec.specs.ArrayVec.{array_vec_len};
-ghost use Rattle.kd_sheet.specs.MachineText.{letters_text};
-ghost use Rattle.kd_desk.specs.Typing.{may_be_typed, Lights, typed_letters};
+ghost use Rattle.kd_tables.specs.Text.{is_text_byte, letters_text};
+ghost use Rattle.kd_desk.specs.Typing.{Lights, typed_letters};
 ghost use Rattle.kd_desk.specs.TypingSteps.{IsAllowedFront};
 
 use arrayvec::ArrayVec;
@@ -14,8 +14,8 @@ pub const PIECE: usize = 4096;
 /// What a byte that may be typed gives: a letter, or nothing where it is a separator. None where the byte is not allowed.
 fn typed(byte: u8) -> Option<Option<Letter>>
     ensures { MatchOption result
-        (IsFalse (may_be_typed byte))
-        (λ letter. IsTrue (may_be_typed byte) × (typed_letters (byte ∷ []) ≡ option_to_list letter)) }
+        (IsFalse (is_text_byte byte))
+        (λ letter. IsTrue (is_text_byte byte) × (typed_letters (byte ∷ []) ≡ option_to_list letter)) }
 {
     match byte {
         b' ' | b'\r' | b'\n' => Some(None),
