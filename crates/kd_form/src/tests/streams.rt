@@ -99,6 +99,7 @@ fn forms_are_received_as_they_come(rt: HostRuntime) {
 }
 
 /// A source that gives these bytes first, and then one byte for ever.
+#[derive(Drop)]
 pub struct Endless {
     pub front: &'static [u8],
     pub byte: u8,
