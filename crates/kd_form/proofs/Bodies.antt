@@ -84,7 +84,7 @@ pub letters_kept : (old new body : List ℕ) (byte : ℕ) (letter : Option ℕ) 
 letters_kept old new body byte letter told more kept =
     more ∙ ap (λ l. take 525 (l ++ option_to_list letter)) kept ∙ take_kept 525 (letters_from None body) (option_to_list letter)
     ∙ ap (λ l. take 525 (letters_from None body ++ l))
-        (ap option_to_list told ∙ sym (append-nil (option_to_list (letter_of_byte None byte))) ∙ sym (letters_first None byte []))
+    (ap option_to_list told ∙ sym (append-nil (option_to_list (letter_of_byte None byte))) ∙ sym (letters_first None byte []))
     ∙ ap (take 525) (sym (filter_map-append (letter_of_byte None) body (byte ∷ [])))
 
 -- ---- a byte more
@@ -102,43 +102,43 @@ body_more s b new part body byte letter same told more next allowed holds =
     let heading : IsHeading s new.heading = subst (IsHeading s) (sym same) holds.is_heading in
     let all : All (λ b. IsTrue (is_text_byte b)) (body ++ byte ∷ []) =
     All-append (λ b. IsTrue (is_text_byte b)) body (byte ∷ []) holds.allowed
-        (All-cons (λ b. IsTrue (is_text_byte b)) byte [] allowed (All-nil (λ b. IsTrue (is_text_byte b)))) in
+    (All-cons (λ b. IsTrue (is_text_byte b)) byte [] allowed (All-nil (λ b. IsTrue (is_text_byte b)))) in
     let kept : new.letters.items ≡ take 525 (letters_from None (body ++ byte ∷ [])) =
     letters_kept b.letters.items new.letters.items body byte letter told (more (still_kept b.letters.items (letters_from None body) holds.kept)) holds.kept in
     elim (cases_eq byte 10) [
       | inl is ↦ record {
-          line = holds.line;
-          settled = body ++ byte ∷ [];
-          tail = [];
-          front = holds.front ++ 10 ∷ holds.tail;
-          joined = joined;
-          ended = ended;
-          is_heading = heading;
-          lines = sym (append-nil (body ++ byte ∷ []));
-          broken =
-              sym (append_assoc holds.line body (byte ∷ [])) ∙ ap (λ l. (holds.line ++ l) ++ byte ∷ []) holds.lines
-              ∙ ap (λ l. l ++ byte ∷ []) (sym (append_assoc holds.line holds.settled holds.tail) ∙ ap (λ l. l ++ holds.tail) holds.broken
-              ∙ append_assoc holds.front (10 ∷ []) holds.tail) ∙ ap (λ b. (holds.front ++ 10 ∷ holds.tail) ++ b ∷ []) is;
-          unbroken = All-nil (λ b. b ≢ 10);
-          marked = next holds.tail [] holds.marked (Broken is refl);
-          allowed = all;
-          kept = kept;
-        }
+        line = holds.line;
+        settled = body ++ byte ∷ [];
+        tail = [];
+        front = holds.front ++ 10 ∷ holds.tail;
+        joined = joined;
+        ended = ended;
+        is_heading = heading;
+        lines = sym (append-nil (body ++ byte ∷ []));
+        broken =
+            sym (append_assoc holds.line body (byte ∷ [])) ∙ ap (λ l. (holds.line ++ l) ++ byte ∷ []) holds.lines
+            ∙ ap (λ l. l ++ byte ∷ []) (sym (append_assoc holds.line holds.settled holds.tail) ∙ ap (λ l. l ++ holds.tail) holds.broken
+            ∙ append_assoc holds.front (10 ∷ []) holds.tail) ∙ ap (λ b. (holds.front ++ 10 ∷ holds.tail) ++ b ∷ []) is;
+        unbroken = All-nil (λ b. b ≢ 10);
+        marked = next holds.tail [] holds.marked (Broken is refl);
+        allowed = all;
+        kept = kept;
+      }
       | inr other ↦ record {
-          line = holds.line;
-          settled = holds.settled;
-          tail = holds.tail ++ byte ∷ [];
-          front = holds.front;
-          joined = joined;
-          ended = ended;
-          is_heading = heading;
-          lines = ap (λ l. l ++ byte ∷ []) holds.lines ∙ append_assoc holds.settled holds.tail (byte ∷ []);
-          broken = holds.broken;
-          unbroken = unbroken_more holds.tail byte other holds.unbroken;
-          marked = next holds.tail (holds.tail ++ byte ∷ []) holds.marked (Longer other refl);
-          allowed = all;
-          kept = kept;
-        }
+        line = holds.line;
+        settled = holds.settled;
+        tail = holds.tail ++ byte ∷ [];
+        front = holds.front;
+        joined = joined;
+        ended = ended;
+        is_heading = heading;
+        lines = ap (λ l. l ++ byte ∷ []) holds.lines ∙ append_assoc holds.settled holds.tail (byte ∷ []);
+        broken = holds.broken;
+        unbroken = unbroken_more holds.tail byte other holds.unbroken;
+        marked = next holds.tail (holds.tail ++ byte ∷ []) holds.marked (Longer other refl);
+        allowed = all;
+        kept = kept;
+      }
     ]
 
 -- ---- the letters of a whole body

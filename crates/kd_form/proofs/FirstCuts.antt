@@ -76,10 +76,10 @@ first_cut (byte ∷ bytes) =
     elim (cases_eq byte 10) [
       | inl is ↦ elim (begins_or_not bytes) [
         | inl begins ↦ record {
-            part = byte ∷ [];
-            rest = bytes;
-            first = record { joined = refl; whole = λ place below. absurd (omega arith); ends = inr (is, begins) };
-          }
+          part = byte ∷ [];
+          rest = bytes;
+          first = record { joined = refl; whole = λ place below. absurd (omega arith); ends = inr (is, begins) };
+        }
         | inr not ↦ record { part = byte ∷ more.part; rest = more.rest; first = one_byte_more byte bytes more.part more.rest more.first (λ e. not) }
       ]
       | inr other ↦ record { part = byte ∷ more.part; rest = more.rest; first = one_byte_more byte bytes more.part more.rest more.first (λ e. absurd (other e)) }

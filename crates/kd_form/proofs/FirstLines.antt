@@ -133,8 +133,15 @@ end_size s found count None has few is = omega arith
 end_size (OfPins s) found count (Some i) has few is = absurd is
 end_size (OfRotors s) found count (Some i) has few is =
     let wheels : length s.wheels ≤ 4 = few_wheels s found has in
-    omega (arith, length-append (decimal count) (32 ∷ (letters_text i.start ++ 32 ∷ letters_text i.key)),
-    length-append (letters_text i.start) (32 ∷ letters_text i.key), letters_size i.start, letters_size i.key, is.0.count, is.1.count)
+    omega (
+      arith,
+      length-append (decimal count) (32 ∷ (letters_text i.start ++ 32 ∷ letters_text i.key)),
+      length-append (letters_text i.start) (32 ∷ letters_text i.key),
+      letters_size i.start,
+      letters_size i.key,
+      is.0.count,
+      is.1.count,
+    )
 
 pub heading_length : (s : Day) (found : Option ℕ) (h : Heading) → MatchOption found (HasPins s) (HasSlots s) → IsHeading s h
     → length (line_of (heading_words h)) ≤ 50
@@ -143,8 +150,13 @@ heading_length s found h has is =
     let few : length (decimal h.letters) ≤ 3 = length-decimal-le 3 h.letters (omega arith) (omega (arith, at_most s h.letters is.letters)) (omega (arith, at_most s h.letters is.letters)) in
     let one : length (decimal h.part) ≤ 2 = length-decimal-le 2 h.part (omega arith) (omega (arith, is.number.in_order, is.number.few)) (omega (arith, is.number.in_order, is.number.few)) in
     let all : length (decimal h.parts) ≤ 2 = length-decimal-le 2 h.parts (omega arith) (omega (arith, is.number.few)) (omega (arith, is.number.few)) in
-    omega (arith, length-append (fraction h.part h.parts) (32 ∷ end), length-append (decimal h.part ++ codes "/") (decimal h.parts),
-    length-append (decimal h.part) (codes "/"), end_size s found h.letters h.indicator has few is.indicator)
+    omega (
+      arith,
+      length-append (fraction h.part h.parts) (32 ∷ end),
+      length-append (decimal h.part ++ codes "/") (decimal h.parts),
+      length-append (decimal h.part) (codes "/"),
+      end_size s found h.letters h.indicator has few is.indicator,
+    )
 
 -- a line of which less was kept than could be is whole
 whole_line : (part line : List ℕ) → line ≡ take 64 part → length line < 64 → line ≡ part

@@ -297,8 +297,16 @@ bad_byte s r form text byte b h stage not bad =
     let u : Turn s (form ++ byte ∷ []) = turn_with s form (byte ∷ []) part [] t (λ e. cc) (goes_on s b t.rest there.body byte there.holds (one_part s r form text h) not) in
     let start : ℕ = length (form ++ byte ∷ []) - length part in
     let place : r.position + 1 ≡ start + (length part - length body) + length there.body + 1 =
-    omega (arith, h.counted, rest_within t.before form t.rest t.read.cut, length-append form (byte ∷ []), length-append t.rest (byte ∷ []), length-append there.body (byte ∷ []),
-    ap length there.holds.joined, length-append there.holds.line there.body) in
+    omega (
+      arith,
+      h.counted,
+      rest_within t.before form t.rest t.read.cut,
+      length-append form (byte ∷ []),
+      length-append t.rest (byte ∷ []),
+      length-append there.body (byte ∷ []),
+      ap length there.holds.joined,
+      length-append there.holds.line there.body,
+    ) in
     InLast u ended.0 body refl (record {
       joined = ap (λ l. l ++ byte ∷ []) ended.1.joined ∙ append_assoc ended.0 (10 ∷ there.body) (byte ∷ []);
       without = ended.1.without;
@@ -344,8 +352,13 @@ pub four_letters : (s : Day) (r : FormReader) (form text : List ℕ) (b : PartBo
 four_letters s r form text b h stage begun =
     let there = in_line s r form text [] h (stages.Body b) stage in
     let part = settled s b h.so_far.turn.rest there.body there.holds begun in
-    omega (arith, ap length there.holds.kept, length-take 525 (letters_from None there.body), ap length part.letters,
-    length-append (letters_from None there.holds.settled) (letters_from None (codes "PART ")))
+    omega (
+      arith,
+      ap length there.holds.kept,
+      length-take 525 (letters_from None there.body),
+      ap length part.letters,
+      length-append (letters_from None there.holds.settled) (letters_from None (codes "PART ")),
+    )
 
 -- the turn of the part that has ended
 ended_turn : (s : Day) (r : FormReader) (form text : List ℕ) (byte : ℕ) (b : PartBody) (h : HoldsForm s r form text) (there : HoldsPart s b r.number r.expected h.so_far.turn.rest)

@@ -191,8 +191,8 @@ whole_part bytes none = record { joined = sym (append-nil bytes); whole = none; 
 -- without an LF there is no other line
 pub first_unbroken : (bytes : List ℕ) (byte : ℕ) → IsWithout 10 bytes → IsFirstOf (bytes ++ byte ∷ []) (bytes ++ byte ∷ []) []
 first_unbroken bytes byte unbroken = whole_part (bytes ++ byte ∷ []) (λ place below is. absurd (
-  let inside : place < length bytes = omega (arith, length-append bytes (byte ∷ [])) in
-  All-get_or (λ b. b ≢ 10) bytes place 0 inside unbroken (place_within bytes byte place inside is)))
+    let inside : place < length bytes = omega (arith, length-append bytes (byte ∷ [])) in
+    All-get_or (λ b. b ≢ 10) bytes place 0 inside unbroken (place_within bytes byte place inside is)))
 
 -- the last lines of the same bytes are the same
 same_last : (front tail other end : List ℕ) → IsWithout 10 tail → IsWithout 10 end → front ++ 10 ∷ tail ≡ other ++ 10 ∷ end → tail ≡ end
@@ -245,17 +245,17 @@ at_place bytes place inside is =
 pub first_more : (bytes front tail : List ℕ) (byte : ℕ) → IsFirstOf bytes bytes [] → bytes ≡ front ++ 10 ∷ tail → IsWithout 10 tail
     → ((tail ≡ codes "PART ") → (48 ≤ byte) → (byte ≤ 57) → ⊥) → IsFirstOf (bytes ++ byte ∷ []) (bytes ++ byte ∷ []) []
 first_more bytes front tail byte first lines unbroken not = whole_part (bytes ++ byte ∷ []) (λ place below is begins.
-  let inside : place < length bytes = omega (arith, length-append bytes (byte ∷ [])) in
-  let here : get_or bytes place 0 ≡ 10 = place_within bytes byte place inside is in
-  let left : BeginsHeading (drop (place + 1) bytes ++ byte ∷ []) = subst BeginsHeading (drop-append-le (place + 1) bytes (byte ∷ []) (omega arith)) begins in
-  elim (cases_lt (length (drop (place + 1) bytes)) 6) [
-    | inl short ↦
-        let digit = last_digit (drop (place + 1) bytes) byte short left in
-        not (same_last front tail (take place bytes) (codes "PART ") unbroken head_unbroken
-        (sym lines ∙ at_place bytes place inside here ∙ ap (λ l. take place bytes ++ 10 ∷ l) digit.0)) digit.1 digit.2
-    | inr long ↦
-        first.whole place (omega (arith, length-drop (place + 1) bytes)) here (begins_front (drop (place + 1) bytes) (byte ∷ []) long left)
-  ])
+    let inside : place < length bytes = omega (arith, length-append bytes (byte ∷ [])) in
+    let here : get_or bytes place 0 ≡ 10 = place_within bytes byte place inside is in
+    let left : BeginsHeading (drop (place + 1) bytes ++ byte ∷ []) = subst BeginsHeading (drop-append-le (place + 1) bytes (byte ∷ []) (omega arith)) begins in
+    elim (cases_lt (length (drop (place + 1) bytes)) 6) [
+      | inl short ↦
+          let digit = last_digit (drop (place + 1) bytes) byte short left in
+          not (same_last front tail (take place bytes) (codes "PART ") unbroken head_unbroken
+          (sym lines ∙ at_place bytes place inside here ∙ ap (λ l. take place bytes ++ 10 ∷ l) digit.0)) digit.1 digit.2
+      | inr long ↦
+          first.whole place (omega (arith, length-drop (place + 1) bytes)) here (begins_front (drop (place + 1) bytes) (byte ∷ []) long left)
+    ])
 
 -- the digit of a heading ends the part before it
 pub first_ends : (bytes part front : List ℕ) (digit : ℕ) → IsFirstOf bytes bytes [] → bytes ≡ part ++ codes "PART " → part ≡ front ++ 10 ∷ []
@@ -275,8 +275,11 @@ first_ends bytes part front digit first split broken low high =
           let there : (bytes ++ digit ∷ []) ≡ front ++ 10 ∷ (codes "PART " ++ digit ∷ []) =
           ap (λ l. l ++ digit ∷ []) (split ∙ ap (λ l. l ++ codes "PART ") broken ∙ append_assoc front (10 ∷ []) (codes "PART "))
           ∙ append_assoc front (10 ∷ codes "PART ") (digit ∷ []) in
-          inr (ap (λ n. get_or (bytes ++ digit ∷ []) n 0) last ∙ ap (λ l. get_or l (length front) 0) there
-          ∙ get_or-append_seam front 10 (codes "PART " ++ digit ∷ []) 0, record { digit = digit; rest = []; is = refl; low = low; high = high });
+          inr (
+            ap (λ n. get_or (bytes ++ digit ∷ []) n 0) last ∙ ap (λ l. get_or l (length front) 0) there
+                ∙ get_or-append_seam front 10 (codes "PART " ++ digit ∷ []) 0,
+            record { digit = digit; rest = []; is = refl; low = low; high = high },
+          );
     }
 
 pub rest_within : (parts : List (List ℕ)) (bytes rest : List ℕ) → AreFirstParts parts bytes rest → length rest ≤ length bytes

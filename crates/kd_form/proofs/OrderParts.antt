@@ -51,9 +51,13 @@ made_more s part parts [] k [] piece bytes one made is =
     let here : part + 0 ≡ part = omega arith in
     (one, [], subst (λ n. IsMadeText s n parts k piece one) here is, refl, ap (λ b. b ++ one) made ∙ sym (append-nil one))
 made_more s part parts (first ∷ keys) k (text ∷ texts) piece bytes one (begun, others, is_first, made, joined) is =
-    let behind : part + length (first ∷ keys) ≡ part + 1 + length keys = omega arith in
-    (begun, others ++ one, is_first, made_more s (part + 1) parts keys k texts piece others one made (subst (λ n. IsMadeText s n parts k piece one) behind is),
-      ap (λ b. b ++ one) joined ∙ append_assoc begun others one)
+    let behind : part + length (first ∷ keys) ≡ part + 1 + length keys = omega arith in (
+      begun,
+      others ++ one,
+      is_first,
+      made_more s (part + 1) parts keys k texts piece others one made (subst (λ n. IsMadeText s n parts k piece one) behind is),
+      ap (λ b. b ++ one) joined ∙ append_assoc begun others one,
+    )
 made_more s part parts [] k (text ∷ texts) piece bytes one made is = absurd made
 made_more s part parts (first ∷ keys) k [] piece bytes one made is = absurd made
 

@@ -28,7 +28,7 @@ early_as_well : (s : Day) (number : ℕ) (expected : Option ℕ) (start : ℕ) (
     → ((place : ℕ) → IsBadAt body place → IsBadAt other place) → IsEarlyFault s number expected start (line ++ 10 ∷ body) fault
     → IsEarlyFault s number expected start (line ++ 10 ∷ other) fault
 early_as_well s number expected start line body other fault tell unbroken bad (InHeading none is) = InHeading (λ h rest has.
-  none h body (ended_heading s line body h has.is_heading (heading_there s line other h rest tell unbroken has).0)) is
+    none h body (ended_heading s line body h has.is_heading (heading_there s line other h rest tell unbroken has).0)) is
 early_as_well s number expected start line body other fault tell unbroken bad (InNumber h rest has wrong is) =
     InNumber h other (ended_heading s line other h has.is_heading (heading_there s line body h rest tell unbroken has).0) wrong is
 early_as_well s number expected start line body other fault tell unbroken bad (InBody h rest place has numbered due at is) =
@@ -128,10 +128,10 @@ alike_shorter part line body cut rest more beyond byte first broken unbroken nex
       let good : All (λ b. IsTrue (is_text_byte b)) (byte ∷ beyond) = few_allowed (byte ∷ beyond) more few begins in
       elim (fronts (line ++ 10 ∷ []) body cut (byte ∷ beyond) (append_assoc line (10 ∷ []) body ∙ sym broken ∙ split)) [
         | Shorter other longer gone ↦ record {
-            other = other;
-            is = longer ∙ append_assoc line (10 ∷ []) other;
-            bad = λ place at. bad_in_less other (byte ∷ beyond) place good (subst (λ x. IsBadAt x place) gone at);
-          }
+          other = other;
+          is = longer ∙ append_assoc line (10 ∷ []) other;
+          bad = λ place at. bad_in_less other (byte ∷ beyond) place good (subst (λ x. IsBadAt x place) gone at);
+        }
         | Longer x beyond' longer gone ↦ absurd (
             let inside : length cut - 1 < length line = omega (arith, some, ap length longer, length-append line (10 ∷ []), length-append cut (x ∷ beyond')) in
             no_break line body (length cut - 1) unbroken inside (ap (λ l. get_or l (length cut - 1) 0) (sym broken) ∙ last))

@@ -52,7 +52,7 @@ abbrev pub IsEndRefusal : Day → List Keys → List ℕ → FormFault → Type 
 IsEndRefusal s keys letters fault =
     ((letters ≡ []) × (fault ≡ EmptyText))
     ⊎ ((letters ≢ []) × (parts_needed s (length letters) ≢ length keys)
-       × (fault ≡ PartKeys (parts_needed s (length letters)) (length keys)))
+    × (fault ≡ PartKeys (parts_needed s (length letters)) (length keys)))
 
 -- at the end the last part was made; or there is no letter, or another number of parts
 abbrev pub IsLastTaken : Day → List Keys → List ℕ → List ℕ → List ℕ → Result (Unit {0}) FormFault → Type 0

@@ -29,7 +29,7 @@ pub data IsSentBefore (s : Day) (order sent : List ℕ) : Type 0 where
   InText : (keys : List Keys) (head text front : List ℕ) (written : ℕ) → IsOrder s order keys head text → All (Suits s) keys
       → IsAllowedFront text front → CanBeWritten (part_size s) (length keys) (length (text_letters s front)) written
       → AreMadeTexts s 1 (length keys) (take written keys)
-          (pieces (part_size s) (take (part_size s * written) (text_letters s front))) sent
+      (pieces (part_size s) (take (part_size s * written) (text_letters s front))) sent
       → IsSentBefore s order sent
 
 -- orders, as messages that are read as they come

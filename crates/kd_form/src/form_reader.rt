@@ -126,8 +126,8 @@ impl FormReader {
             × HoldsStage day.now self.now.stage self.now.number self.now.expected part }
         ensures { (part : List ℕ) → HoldsStage day.now self.now.stage self.now.number self.now.expected part
             → MatchResult result
-                (λ found. IsLastText day.now self.now.number self.now.expected part found.0 found.1.items)
-                (λ fault. (start : ℕ) → IsPartFault day.now self.now.number self.now.expected start part fault) }
+            (λ found. IsLastText day.now self.now.number self.now.expected part found.0 found.1.items)
+            (λ fault. (start : ℕ) → IsPartFault day.now self.now.number self.now.expected start part fault) }
     {
         match &self.stage {
             Stage::Heading(line) => {

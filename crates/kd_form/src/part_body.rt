@@ -77,8 +77,8 @@ impl PartBody {
         ensures { (letters more : List ℕ) → length more ≡ others
             → self.now.letters.items ≡ take 525 (letters ++ more)
             → MatchResult result
-                (λ text. IsBodyText day.now self.now.heading letters text.items)
-                (IsBodyFault day.now self.now.heading.part self.now.heading letters) }
+            (λ text. IsBodyText day.now self.now.heading letters text.items)
+            (IsBodyFault day.now self.now.heading.part self.now.heading letters) }
     {
         let letters = self.letters.as_slice();
         let (letters, _) = letters.split_at(letters.len() - others);

@@ -94,7 +94,8 @@ impl PartWriter {
         let part = self.written + 1;
         let own = &keys[usize::from(self.written)];
         let text = make_part(day, part, keys.len() as u8, own, self.letters.as_slice());
-        made.try_extend_from_slice(text.as_str().as_bytes()).unwrap();
+        made.try_extend_from_slice(text.as_str().as_bytes())
+            .unwrap();
         self.letters.clear();
         self.written = part;
     }

@@ -35,7 +35,10 @@ pub(crate) fn bytes_of<M: MessageReader + Drop>(
 }
 
 /// Refuses a message that becomes nothing.
-pub(crate) fn judge<M: MessageReader + Drop>(day: &SheetDay, message: &[u8]) -> Result<(), FormFault>
+pub(crate) fn judge<M: MessageReader + Drop>(
+    day: &SheetDay,
+    message: &[u8],
+) -> Result<(), FormFault>
     ensures { MatchResult result
         (λ _. HasText (M.message day.now) message.now)
         ((M.message day.now).refused message.now) }
