@@ -112,7 +112,10 @@ fn a_part_is_out_when_keys_are_left(rt: HostRuntime) -> Result<(), Fail> {
         given: 3,
     };
     assert_eq!(rt; fault, Some(due));
-    assert!(rt; sink.taken().starts_with(b"PART 1/3 250 AAA BDZ\nQXUGZ BDZGO "));
+    assert!(rt;
+        sink.taken()
+            .starts_with(b"PART 1/3 250 AAA BDZ\nQXUGZ BDZGO ")
+    );
     assert_eq!(rt; sink.taken().len(), 321);
     Ok(())
 }
@@ -143,7 +146,10 @@ fn each_get_fails_in_turn(rt: HostRuntime) -> Result<(), Fail> {
     }
     let (sink, fault) = sent(&keyed, order.as_slice(), Some(42));
     assert_eq!(rt; fault, Some(FormFault::Device));
-    assert!(rt; sink.taken().starts_with(b"PART 1/2 250 AAA BDZ\nQXUGZ BDZGO "));
+    assert!(rt;
+        sink.taken()
+            .starts_with(b"PART 1/2 250 AAA BDZ\nQXUGZ BDZGO ")
+    );
     assert_eq!(rt; sink.taken().len(), 321);
     Ok(())
 }
