@@ -1,5 +1,5 @@
 -- Of which answers a device is the reason.
-use Rattle.std.proofs.Common.{◌≡◌, ◌≢◌, ◌⊎◌, inl, inr, ℕ, Bool, false, List, refl, sym, ap, subst, ◌∙◌, Option, Some, None, Result, Ok, Err}
+use Rattle.std.proofs.Common.{◌≡◌, ◌≢◌, inl, inr, ℕ, false, List, refl, sym, subst, Option, Some, None, Result, Ok, Err}
 use Rattle.kd_tables.specs.Ports.{Port, Fail}
 use Rattle.kd_state.specs.declared.machine.parts.Parts.{Parts}
 use Rattle.kd_state.specs.SheetDay.{Day, OfRotors, OfPins}
@@ -9,12 +9,12 @@ use Rattle.kd_form.specs.declared.keys.Keys.{Keys}
 use Rattle.kd_form.specs.declared.keys.Keys.TheVariants.{Rotor, Pin}
 use Rattle.kd_form.specs.declared.heading.Indicator.{Indicator}
 use Rattle.kd_form.specs.Reading.{IsLettersFault, InIndicators, InExternal, InList, InChoice}
-use Rattle.kd_form.specs.Receiving.{IsEarlyFault, InHeading, InNumber, InBody, IsBodyFault, InCount, InLetters, IsPartFault}
+use Rattle.kd_form.specs.Receiving.{InHeading, InNumber, InBody, InCount, InLetters, IsPartFault}
 use Rattle.kd_form.specs.FormText.{IsRefusedForGood, NoHeading, InWhole, InLast, IsRefusedAtEnd, InPart, TooFew, IsReceiveFault, form_message}
 use Rattle.kd_form.specs.OnTheKey.{IsKeyFault}
 use Rattle.kd_form.specs.Sending.{IsKeysFault, StandsInOrder, InHead, InKeys, InText, Cut, NoLetter, InParts, IsSendFault}
 use Rattle.kd_form.specs.SendStream.{orders}
-use Rattle.kd_form.specs.Streams.{Message, Answers, Whole, Stands, AtEnd, TooLong, SourceFails, SinkFails, IsStreamed, StreamsOnKey, Off, On, is_device}
+use Rattle.kd_form.specs.Streams.{Message, Answers, Whole, Stands, AtEnd, TooLong, SourceFails, SinkFails, is_device}
 
 not_device : (fault : FormFault) → fault ≢ Device → is_device (Err fault) ≡ false
 not_device Device other = absurd (other refl)

@@ -1,14 +1,14 @@
 -- The reader of a form, byte by byte.
-use Rattle.std.proofs.Common.{◌≡◌, ◌≢◌, ◌⊎◌, inl, inr, ℕ, ◌+◌, ◌-◌, ◌<◌, ◌≤◌, List, [], ◌∷◌, ◌++◌, length, get_or, take, refl, sym, ap, subst, ◌∙◌, append_assoc, length-append, Option, Some, None, arith}
+use Rattle.std.proofs.Common.{◌≡◌, ◌≢◌, inl, inr, ℕ, ◌+◌, ◌-◌, ◌<◌, ◌≤◌, List, [], ◌∷◌, ◌++◌, length, take, refl, sym, ap, subst, ◌∙◌, append_assoc, length-append, Option, Some, None, arith}
 use Rattle.std.specs.Prelude.{codes, All, IsTrue, IsFalse, MatchOption}
-use Rattle.std.proofs.lemmas.List.{append-nil, append_cancel_right, length-take}
+use Rattle.std.proofs.lemmas.List.{append-nil, length-take}
 use Rattle.std.proofs.lemmas.List.Elements.{All-append, All-cons, All-nil, All-head, All-tail, filter_map-append}
-use Rattle.std.proofs.lemmas.Bool.{false≢true, cases_lt}
+use Rattle.std.proofs.lemmas.Bool.{cases_lt}
 use Rattle.kd_tables.specs.Text.{is_text_byte}
 use Rattle.kd_state.specs.SheetDay.{Day}
 use Rattle.kd_state.specs.Words.{line_of, IsWithout, IsFirstPart, TextsTellFirstParts, NumbersAreWords}
 use Rattle.kd_form.specs.declared.fault.FormFault.{FormFault}
-use Rattle.kd_form.specs.declared.fault.FormFault.TheVariants.{BadByte, BadHeading, PartOrder}
+use Rattle.kd_form.specs.declared.fault.FormFault.TheVariants.{BadByte, BadHeading}
 use Rattle.kd_form.specs.declared.heading.Heading.{Heading}
 use Rattle.kd_form.specs.declared.part_body.PartBody.{PartBody}
 use Rattle.kd_form.specs.declared.form_reader.FormReader.{FormReader}
@@ -16,16 +16,16 @@ use Rattle.kd_form.specs.declared.form_reader.Stage.{Stage}
 use Rattle.kd_form.specs.declared.form_reader.Stage.TheVariants as stages
 use Rattle.kd_form.specs.Order.{IsEnded}
 use Rattle.kd_form.specs.Part.{heading_words}
-use Rattle.kd_form.specs.Sending.{letter_of_byte, letters_from, IsBadAt}
+use Rattle.kd_form.specs.Sending.{letter_of_byte, letters_from}
 use Rattle.kd_form.specs.FormParts.{BeginsHeading, IsFirstOf, IsHeading}
-use Rattle.kd_form.specs.Receiving.{HasHeading, IsExpected, IsPartRead, IsBodyText, IsBodyFault, IsEarlyFault, InHeading, InNumber, InBody, IsLateFault, IsPartFault}
-use Rattle.kd_form.specs.FormText.{ArePartsRead, IsReadTo, given_letters, count_due, Turn, IsTextBeforeLast, IsRefusedEarly, IsRefusedForGood, NoHeading, InWhole, InLast, form_message}
-use Rattle.kd_form.specs.FormReading.{Begins, MayBegin, HoldsLine, HoldsBody, HoldsPart, HoldsStage, HoldsForm, IsHeadingDue, IsHeadingOff, Missing, Other}
-use Rattle.kd_form.specs.Streams.{IsOpen, IsRefused}
+use Rattle.kd_form.specs.Receiving.{HasHeading, IsExpected, IsBodyText, IsBodyFault, IsEarlyFault, InHeading, InNumber, InBody}
+use Rattle.kd_form.specs.FormText.{ArePartsRead, IsReadTo, given_letters, count_due, Turn, IsRefusedForGood, NoHeading, InWhole, InLast, form_message}
+use Rattle.kd_form.specs.FormReading.{Begins, MayBegin, HoldsBody, HoldsPart, HoldsStage, HoldsForm, IsHeadingDue, IsHeadingOff, Missing, Other}
+use Rattle.kd_form.specs.Streams.{IsRefused}
 use Rattle.kd_form.specs.StreamSteps.{Held}
 use Rattle.kd_form.proofs.Bodies.{begins_nothing, take_kept}
 use Rattle.kd_form.proofs.FirstLines.{plain_heading, without, has_byte, ended_heading}
-use Rattle.kd_form.proofs.Growing.{all_follow, begins_more, first_unbroken, first_more, first_ends, head_unbroken, turn_with, last_rest, rest_within}
+use Rattle.kd_form.proofs.Growing.{all_follow, first_unbroken, first_more, first_ends, head_unbroken, turn_with, last_rest, rest_within}
 use Rattle.kd_form.proofs.Heads.{IsUpToBreak, up_to_break}
 use Rattle.kd_form.proofs.OneFault.{no_bad_byte}
 use Rattle.kd_form.proofs.OneHeading.{one_heading, begins_there}

@@ -1,6 +1,6 @@
 -- Forms to which bytes are added.
-use Rattle.std.proofs.Common.{rules, ◌≡◌, ◌≢◌, ◌⊎◌, inl, inr, ℕ, suc, ◌+◌, ◌-◌, ◌≤◌, ◌<◌, List, [], ◌∷◌, ◌++◌, length, take, drop, get_or, refl, sym, ap, subst, ◌∙◌, append_assoc, length-append, length-drop, arith}
-use Rattle.std.specs.Prelude.{codes, slice_index, All, IsTrue, ◌==◌}
+use Rattle.std.proofs.Common.{rules, ◌≡◌, ◌≢◌, inl, inr, ℕ, suc, ◌+◌, ◌-◌, ◌≤◌, ◌<◌, List, [], ◌∷◌, ◌++◌, length, take, drop, get_or, refl, sym, ap, subst, ◌∙◌, append_assoc, length-append, length-drop, arith}
+use Rattle.std.specs.Prelude.{codes, IsTrue, ◌==◌}
 use Rattle.std.proofs.Math.ListN.{get_or-append}
 use Rattle.std.proofs.Math.Seq.{get_or-append_seam, drop-cons}
 use Rattle.std.proofs.lemmas.Bool.{cases_lt}
@@ -9,7 +9,7 @@ use Rattle.std.proofs.lemmas.List.Elements.{All-get_or, All-cons, All-nil}
 use Rattle.kd_state.specs.SheetDay.{Day}
 use Rattle.kd_state.specs.Words.{IsWithout}
 use Rattle.kd_form.specs.FormParts.{BeginsHeading, IsFirstOf}
-use Rattle.kd_form.specs.FormText.{AreFirstParts, IsReadTo, Turn}
+use Rattle.kd_form.specs.FormText.{AreFirstParts, Turn}
 use Rattle.kd_form.specs.FormReading.{MayBegin}
 use Rattle.kd_form.proofs.OneFault.{Shorter, Longer, fronts}
 

@@ -12,7 +12,7 @@ use Rattle.kd_form.specs.declared.keys.Keys.TheVariants.{Rotor, Pin}
 use Rattle.kd_form.specs.Keys.{key_words, AreKeys}
 use Rattle.kd_form.specs.Patterns.{IsPatternLine, BeginsWithPattern, LineBreaksOff}
 use Rattle.kd_form.specs.Order.{IsEnded, IsKeyLine, AreKeyLines, IsHead, IsOrder, IsHeadFault}
-use Rattle.kd_form.specs.KeyPatterns.{BeginsWithKeys, IsAnyKeyLine}
+use Rattle.kd_form.specs.KeyPatterns.{IsAnyKeyLine}
 
 -- ---- one line
 

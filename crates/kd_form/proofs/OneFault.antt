@@ -1,5 +1,5 @@
 -- An order has a form, or one fault.
-use Rattle.std.proofs.Common.{◌≡◌, ◌≢◌, ℕ, ◌+◌, ◌≤◌, inl, inr, List, [], ◌∷◌, ◌++◌, length, refl, sym, ap, subst, ◌∙◌, append_assoc, arith}
+use Rattle.std.proofs.Common.{◌≡◌, ◌≢◌, ℕ, ◌+◌, inl, inr, List, [], ◌∷◌, ◌++◌, length, refl, sym, ap, subst, ◌∙◌, append_assoc, arith}
 use Rattle.std.specs.Prelude.{All, IsTrue, IsFalse}
 use Rattle.std.proofs.lemmas.Bool.{false≢true}
 use Rattle.std.proofs.lemmas.List.{append-nil}
@@ -13,7 +13,7 @@ use Rattle.kd_form.specs.declared.keys.Keys.{Keys}
 use Rattle.kd_form.specs.declared.keys.Keys.TheVariants.{Rotor, Pin}
 use Rattle.kd_form.specs.Making.{Suits}
 use Rattle.kd_form.specs.Order.{IsHead, IsOrder, IsHeadFault}
-use Rattle.kd_form.specs.Sending.{text_letters, parts_needed, IsBadAt, IsKeysFault, IsFirstKeysFault, StandsInOrder, EndsOrder, InHead, InKeys, InText, Cut, NoLetter, InParts, IsSendFault, CanBeSent, IsFormOf}
+use Rattle.kd_form.specs.Sending.{text_letters, parts_needed, IsBadAt, IsKeysFault, IsFirstKeysFault, StandsInOrder, InHead, InKeys, InText, Cut, NoLetter, InParts, IsSendFault, CanBeSent}
 use Rattle.kd_form.specs.Laws.{SentOrdersHaveNoFault, OrdersHaveOneFault}
 use Rattle.kd_form.proofs.OneOrder.{one_order}
 

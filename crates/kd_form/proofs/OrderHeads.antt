@@ -7,17 +7,17 @@ use Rattle.kd_state.specs.Words.{IsWithout, TextsTellFirstParts}
 use Rattle.kd_state.specs.SheetDay.{Day}
 use Rattle.kd_form.specs.declared.keys.Keys.{Keys}
 use Rattle.kd_form.specs.declared.order_reader.head.HeadReader.{HeadReader}
-use Rattle.kd_form.specs.Keys.{key_words, AreKeys}
+use Rattle.kd_form.specs.Keys.{AreKeys}
 use Rattle.kd_form.specs.Patterns.{filled_in, IsPatternLine, BeginsWithPattern, LineBreaksOff}
 use Rattle.kd_form.specs.KeyPatterns.{key_pattern, BeginsWithKeys, IsAnyKeyLine}
-use Rattle.kd_form.specs.Order.{IsEnded, IsKeyLine, AreKeyLines, IsHead, IsOrder, IsHeadFault}
+use Rattle.kd_form.specs.Order.{IsEnded, AreKeyLines, IsHead, IsOrder, IsHeadFault}
 use Rattle.kd_form.specs.declared.order_reader.head.HeadStep.{HeadStep}
 use Rattle.kd_form.specs.declared.order_reader.head.HeadStep.TheVariants.{Open, Bad}
 use Rattle.kd_form.specs.SendSteps.{IsHeadRead, HeadIsRead}
 use Rattle.kd_form.proofs.Filled.{length-filled}
 use Rattle.kd_form.proofs.FirstLines.{has_byte}
 use Rattle.kd_form.proofs.KeyLines.{as_form_line}
-use Rattle.kd_form.proofs.OneFault.{AreFronts, Shorter, Longer, fronts, no_head_fault}
+use Rattle.kd_form.proofs.OneFault.{Shorter, Longer, fronts}
 use Rattle.kd_form.proofs.Heads.{IsUpToBreak, up_to_break, key_line_unbroken, without_line, IsReadingHead, lines_more, order_read, key_fault, text_fault}
 
 -- ---- one line

@@ -1,11 +1,11 @@
 -- What the reader of an order shows: what is refused, and what is sent by then.
-use Rattle.std.proofs.Common.{◌≡◌, ◌≢◌, ℕ, suc, ◌+◌, ◌*◌, ◌^◌, ◌<◌, ◌≤◌, inl, inr, List, [], ◌∷◌, ◌++◌, Option, None, Some, Result, Ok, Err, length, take, drop, IsTrue, IsFalse, option_to_list, refl, sym, ap, subst, ◌∙◌, append_assoc, append-nil, length-append, arith}
+use Rattle.std.proofs.Common.{◌≡◌, ℕ, suc, ◌+◌, ◌*◌, ◌^◌, ◌<◌, ◌≤◌, inl, inr, List, [], ◌∷◌, ◌++◌, Option, None, Some, Result, Ok, Err, length, take, drop, IsTrue, IsFalse, option_to_list, refl, sym, ap, subst, ◌∙◌, append_assoc, append-nil, length-append, arith}
 use Rattle.std.specs.Prelude.{All, MatchResult}
 use Rattle.std.proofs.lemmas.List.{take_all, drop_all}
 use Rattle.std.proofs.lemmas.List.Elements.{All-nil, All-push, filter_map-append}
 use Rattle.kd_tables.specs.Text.{is_text_byte}
 use Rattle.kd_state.specs.Words.{TextsTellFirstParts}
-use Rattle.kd_state.specs.SheetDay.{Day, OfRotors, OfPins}
+use Rattle.kd_state.specs.SheetDay.{Day}
 use Rattle.kd_form.specs.declared.fault.FormFault.{FormFault}
 use Rattle.kd_form.specs.declared.fault.FormFault.TheVariants.{BadByte}
 use Rattle.kd_form.specs.declared.keys.Keys.{Keys}
@@ -15,11 +15,11 @@ use Rattle.kd_form.specs.declared.order_reader.parts.PartWriter.{PartWriter}
 use Rattle.kd_form.specs.Part.{pieces}
 use Rattle.kd_form.specs.Making.{Suits, part_size}
 use Rattle.kd_form.specs.Order.{IsHead, IsOrder, IsHeadFault}
-use Rattle.kd_form.specs.Sending.{blank_of, letter_of_byte, letters_from, text_letters, IsBadAt, IsFirstKeysFault, StandsInOrder, InHead, InKeys, InText, EndsOrder, Cut, NoLetter, InParts, IsSendFault, AreMadeTexts}
+use Rattle.kd_form.specs.Sending.{blank_of, letter_of_byte, letters_from, text_letters, IsBadAt, IsFirstKeysFault, StandsInOrder, InHead, InKeys, InText, Cut, NoLetter, InParts, IsSendFault, AreMadeTexts}
 use Rattle.kd_form.specs.SendStream as stream
 use Rattle.kd_form.specs.SendStream.{IsAllowedFront, CanBeWritten, IsSentBefore, orders}
 use Rattle.kd_form.specs.SendSteps.{IsHeadRead, IsTextRead, AreSuitedKeys, AreTaken, IsLastTaken, IsFresh, IsOrderRead, OfHead, OfText}
-use Rattle.kd_form.specs.Streams.{IsOpen, IsRefused, Closes}
+use Rattle.kd_form.specs.Streams.{IsRefused, Closes}
 use Rattle.kd_form.specs.StreamSteps.{Held}
 use Rattle.kd_form.proofs.Groups.{pieces-none}
 use Rattle.kd_form.proofs.OneFault.{no_head_fault, no_keys_fault, nothing_stands, nothing_stands_yet}
@@ -243,8 +243,13 @@ suited_keys s keys shown w order sent same text =
 letters_few : (blank : Option ℕ) (text : List ℕ) → length (letters_from blank text) ≤ length text
 letters_few blank [] = omega arith
 letters_few blank (byte ∷ text) =
-    omega (arith, letters_few blank text, ap length (letters_first blank byte text), length-append (option_to_list (letter_of_byte blank byte)) (letters_from blank text),
-    at_most_one (letter_of_byte blank byte))
+    omega (
+      arith,
+      letters_few blank text,
+      ap length (letters_first blank byte text),
+      length-append (option_to_list (letter_of_byte blank byte)) (letters_from blank text),
+      at_most_one (letter_of_byte blank byte),
+    )
 
 pub letters_short : (s : Day) (keys : List Keys) (w : PartWriter) (order sent : List ℕ) (text : IsTextRead s keys w order sent) → length order + 1 < 2 ^ 63
     → length (text_letters s text.text) < 2 ^ 63

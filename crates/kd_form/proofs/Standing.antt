@@ -1,7 +1,7 @@
 -- What refuses a form for good.
 use Rattle.std.proofs.Common.{◌≡◌, ◌≢◌, ◌⊎◌, inl, inr, ℕ, ◌+◌, ◌-◌, ◌<◌, ◌≤◌, List, [], ◌∷◌, ◌++◌, length, drop, get_or, refl, sym, ap, subst, ◌∙◌, append_assoc, length-append, Option, arith, rules}
-use Rattle.std.specs.Prelude.{codes, All, IsTrue, IsFalse}
-use Rattle.std.proofs.Math.Seq.{get_or-append_seam, drop-append_seam}
+use Rattle.std.specs.Prelude.{codes, All, IsTrue}
+use Rattle.std.proofs.Math.Seq.{drop-append_seam}
 use Rattle.std.proofs.Math.ListN.{get_or-append}
 use Rattle.std.proofs.lemmas.Bool.{cases_lt, false≢true}
 use Rattle.std.proofs.lemmas.List.{append-nil}
@@ -14,7 +14,7 @@ use Rattle.kd_form.specs.declared.fault.FormFault.TheVariants.{BadByte}
 use Rattle.kd_form.specs.Sending.{IsBadAt}
 use Rattle.kd_form.specs.FormParts.{BeginsHeading, IsFirstOf}
 use Rattle.kd_form.specs.Receiving.{IsEarlyFault, IsPartFault, InHeading, InNumber, InBody}
-use Rattle.kd_form.specs.FormText.{given_letters, count_due, Turn, IsRefusedEarly, IsRefusedPart, IsRefusedForGood, NoHeading, InWhole, InLast}
+use Rattle.kd_form.specs.FormText.{given_letters, count_due, Turn, IsRefusedEarly, IsRefusedForGood, NoHeading, InWhole, InLast}
 use Rattle.kd_form.specs.Laws.{FormsStayRefused}
 use Rattle.kd_form.proofs.FirstLines.{ended_heading, heading_there}
 use Rattle.kd_form.proofs.FirstCuts.{FirstCut, first_cut}

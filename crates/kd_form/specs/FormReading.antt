@@ -14,8 +14,8 @@ use Rattle.kd_form.specs.Order.{IsEnded}
 use Rattle.kd_form.specs.Part.{heading_words}
 use Rattle.kd_form.specs.Sending.{letters_from}
 use Rattle.kd_form.specs.FormParts.{BeginsHeading, IsHeading}
-use Rattle.kd_form.specs.Receiving.{HasHeading, IsExpected, IsPartRead, IsPartFault}
-use Rattle.kd_form.specs.FormText.{count_due, Turn, IsTextBeforeLast}
+use Rattle.kd_form.specs.Receiving.{IsExpected, IsPartRead}
+use Rattle.kd_form.specs.FormText.{count_due, IsTextBeforeLast}
 
 -- ---- the last line
 

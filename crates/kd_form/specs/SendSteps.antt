@@ -1,5 +1,5 @@
 -- What the reader of an order holds. The contracts of the public calls do not speak of it.
-use Rattle.std.specs.Prelude.{◌≡◌, ◌≢◌, ◌⊎◌, Result, Ok, Err, ℕ, ◌+◌, ◌*◌, ◌≤◌, List, [], ◌∷◌, ◌++◌, length, take, drop, All, IsTrue}
+use Rattle.std.specs.Prelude.{◌≡◌, ◌≢◌, ◌⊎◌, Result, Ok, Err, ℕ, ◌+◌, ◌*◌, ◌≤◌, List, [], ◌++◌, length, take, drop, All, IsTrue}
 use Rattle.kd_tables.specs.Text.{is_text_byte}
 use Rattle.kd_state.specs.Words.{IsWithout}
 use Rattle.kd_state.specs.SheetDay.{Day}

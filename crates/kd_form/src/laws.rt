@@ -35,8 +35,7 @@ pub fn orders_have_an_answer(day: &SheetDay, order: &[u8])
 /// What an order is refused for whatever follows it, it is refused for with any bytes behind it.
 pub fn orders_stay_refused()
     ensures { OrdersStayRefused }
-{
-}
+{}
 
 /// A form becomes one text, or has one fault, and never both.
 pub fn forms_have_one_answer()

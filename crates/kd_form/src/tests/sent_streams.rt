@@ -1,8 +1,7 @@
 //! Orders that are sent as they come.
 use super::samples::{KEYS, Keyed, M1, M4, keyed, order_of, with_one_pin, without_pins};
-use super::streams::Endless;
 use crate::{FormFault, send, send_stream};
-use kd_tables::{MemorySink, MemorySource};
+use kd_tables::{Failed, MemorySink, MemorySource, Source};
 use std::process::Abort;
 use std::test::Fail;
 
@@ -113,7 +112,10 @@ fn a_part_is_out_when_keys_are_left(rt: HostRuntime) -> Result<(), Fail> {
         given: 3,
     };
     assert_eq!(rt; fault, Some(due));
-    assert!(rt; sink.taken().starts_with(b"PART 1/3 250 AAA BDZ\nQXUGZ BDZGO "));
+    assert!(rt;
+        sink.taken()
+            .starts_with(b"PART 1/3 250 AAA BDZ\nQXUGZ BDZGO ")
+    );
     assert_eq!(rt; sink.taken().len(), 321);
     Ok(())
 }
@@ -144,28 +146,53 @@ fn each_get_fails_in_turn(rt: HostRuntime) -> Result<(), Fail> {
     }
     let (sink, fault) = sent(&keyed, order.as_slice(), Some(42));
     assert_eq!(rt; fault, Some(FormFault::Device));
-    assert!(rt; sink.taken().starts_with(b"PART 1/2 250 AAA BDZ\nQXUGZ BDZGO "));
+    assert!(rt;
+        sink.taken()
+            .starts_with(b"PART 1/2 250 AAA BDZ\nQXUGZ BDZGO ")
+    );
     assert_eq!(rt; sink.taken().len(), 321);
     Ok(())
 }
 
-/// Spaces without end, behind these bytes.
-static ENDLESS: [(&[u8], FormFault); 2] = [
-    (b"PART AAA AAA QX UGZ\nTEXT\n", FormFault::ReadTooLong),
-    (b"", FormFault::BadByte(1)),
-];
+/// A source that gives these bytes first, and then one byte for ever.
+#[derive(Drop)]
+struct Endless {
+    front: &'static [u8],
+    byte: u8,
+}
+
+impl Source for Endless {
+    ghost use Rattle.std.specs.Prelude.{false};
+
+    ghost has_failed = { λ _. false };
+
+    fn get(&mut self, buffer: &mut [u8]) -> Result<usize, Failed> {
+        for place in 0..buffer.len() {
+            buffer[place] = match self.front {
+                [first, rest @ ..] => {
+                    self.front = rest;
+                    *first
+                }
+                [] => self.byte,
+            };
+        }
+        Ok(buffer.len())
+    }
+
+    fn failed(&self) -> bool {
+        false
+    }
+}
 
 #[test]
-fn orders_without_end_are_cut(rt: HostRuntime) {
+fn an_order_of_spaces_without_end_is_refused_at_once(rt: HostRuntime) {
     let (machine, day) = &keyed(&rt, &M1);
-    for (front, fault) in &ENDLESS {
-        let mut source = Endless {
-            front: *front,
-            byte: b' ',
-        };
-        let mut sink = MemorySink::<64>::new(64);
-        let answer = send_stream(machine, day, &mut source, &mut sink);
-        assert_eq!(rt; answer.err(), Some(*fault));
-        assert!(rt; sink.taken().is_empty());
-    }
+    let mut source = Endless {
+        front: b"",
+        byte: b' ',
+    };
+    let mut sink = MemorySink::<64>::new(64);
+    let answer = send_stream(machine, day, &mut source, &mut sink);
+    assert_eq!(rt; answer.err(), Some(FormFault::BadByte(1)));
+    assert!(rt; sink.taken().is_empty());
 }

@@ -1,7 +1,7 @@
 //! Forms that are received as they come.
 use super::samples::{Keyed, M1, keyed};
 use crate::{FormFault, receive_stream};
-use kd_tables::{Failed, MemorySink, MemorySource, Source};
+use kd_tables::{MemorySink, MemorySource};
 use std::process::Abort;
 
 /// A form, the text that is written, and what the form is refused for then.
@@ -96,55 +96,4 @@ fn forms_are_received_as_they_come(rt: HostRuntime) {
     are_received(&rt, &keyed, &CASES, 1);
     are_received(&rt, &keyed, &CASES, 2);
     are_received(&rt, &keyed, &CASES, 7);
-}
-
-/// A source that gives these bytes first, and then one byte for ever.
-pub struct Endless {
-    pub front: &'static [u8],
-    pub byte: u8,
-}
-
-impl Source for Endless {
-    ghost use Rattle.std.specs.Prelude.{false};
-
-    ghost has_failed = { λ _. false };
-
-    fn get(&mut self, buffer: &mut [u8]) -> Result<usize, Failed> {
-        for place in 0..buffer.len() {
-            buffer[place] = match self.front {
-                [first, rest @ ..] => {
-                    self.front = rest;
-                    *first
-                }
-                [] => self.byte,
-            };
-        }
-        Ok(buffer.len())
-    }
-
-    fn failed(&self) -> bool {
-        false
-    }
-}
-
-/// What comes without end behind these bytes is cut at the limit.
-static ENDLESS: [(&[u8], u8, &[u8]); 3] = [
-    (b"PART 1/1 10 AAA BDZ", b' ', b""),
-    (b"PART 1/1 10 AAA BDZ\n", b' ', b""),
-    (b"PART 1/2 10 AAA BDZ\nQXUGZ BDZGO\nPART 2", b'2', b"AAAAA"),
-];
-
-#[test]
-fn forms_without_end_are_cut(rt: HostRuntime) {
-    let (machine, day) = &keyed(&rt, &M1);
-    for (front, byte, text) in &ENDLESS {
-        let mut source = Endless {
-            front: *front,
-            byte: *byte,
-        };
-        let mut sink = MemorySink::<64>::new(64);
-        let answer = receive_stream(machine, day, &mut source, &mut sink);
-        assert_eq!(rt; answer.err(), Some(FormFault::ReadTooLong));
-        assert_eq!(rt; sink.taken(), *text);
-    }
 }

@@ -1,4 +1,4 @@
-use Rattle.std.proofs.Common.{◌≡◌, ◌+◌, ◌++◌, append-nil, ap, sym, subst, ◌∙◌}
+use Rattle.std.proofs.Common.{◌+◌, ◌++◌, append-nil, ap, sym, subst, ◌∙◌}
 use Rattle.kd_form.specs.Sending.{text_letters}
 use Rattle.kd_form.specs.SendStream.{IsSentBefore}
 use Rattle.kd_form.proofs.OrderRead.{in_head, in_text, head_ends, text_ends, taken_as, last_by}
@@ -12,9 +12,10 @@ end-requires-clause-taken c =
 
 pub returns-in-Head : goal.returns-in-Head
 returns-in-Head c bytes text held =
-    let here = in_head c.args.day.now c.args.self.now bytes text held.is c.in-Head.is in
-    (head_ends c.args.day.now bytes text _ here.head.cut (ap (λ n. n + 1) here.counted),
-      subst (IsSentBefore c.args.day.now bytes) (sym (ap (λ m. text ++ m) c.requires.empty ∙ append-nil text)) held.open_yet.written)
+    let here = in_head c.args.day.now c.args.self.now bytes text held.is c.in-Head.is in (
+      head_ends c.args.day.now bytes text _ here.head.cut (ap (λ n. n + 1) here.counted),
+      subst (IsSentBefore c.args.day.now bytes) (sym (ap (λ m. text ++ m) c.requires.empty ∙ append-nil text)) held.open_yet.written,
+    )
 
 pub returns-in-Text : goal.returns-in-Text
 returns-in-Text c bytes text held =

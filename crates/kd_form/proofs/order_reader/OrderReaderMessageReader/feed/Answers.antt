@@ -1,4 +1,4 @@
-use Rattle.std.proofs.Common.{◌≡◌, ℕ, List, [], ◌∷◌, ◌++◌, Some, None, ◌+◌, refl, sym, ap, subst, ◌∙◌}
+use Rattle.std.proofs.Common.{[], ◌∷◌, ◌++◌, ◌+◌, refl, sym, ap, subst, ◌∙◌}
 use Rattle.std.specs.Prelude.{All}
 use Rattle.kd_form.specs.Keys.{AreKeys}
 use Rattle.kd_form.specs.declared.order_reader.Stage.TheVariants as stages
@@ -27,9 +27,12 @@ take-requires-in-Some-clause-keys c =
 pub take-requires-in-Some-clause-taken : goal.take-requires-in-Some-clause-taken
 take-requires-in-Some-clause-taken c =
     let room = c.requires.room in
-    let here = in_text c.args.day.now c.args.self.now room.bytes room.text room.held.is c.in-Text.is in
-    (text_letters c.args.day.now here.1.text, room.text, taken_as _ _ _ _ _ _ c.keys-in-Some.ensures here.1.taken,
-      letters_short c.args.day.now c.args.self.now.head.keys.items c.args.self.now.parts room.bytes room.text here.1 room.within)
+    let here = in_text c.args.day.now c.args.self.now room.bytes room.text room.held.is c.in-Text.is in (
+      text_letters c.args.day.now here.1.text,
+      room.text,
+      taken_as _ _ _ _ _ _ c.keys-in-Some.ensures here.1.taken,
+      letters_short c.args.day.now c.args.self.now.head.keys.items c.args.self.now.parts room.bytes room.text here.1 room.within,
+    )
 
 pub returns-in-Open : goal.returns-in-Open
 returns-in-Open c bytes text held =
