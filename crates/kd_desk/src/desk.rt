@@ -182,7 +182,10 @@ fn carry_task<O: Source + Drop, W: Sink>(
     match task {
         Task::Card => Stop::after(run_card(alloc, machine, sheet, number, sink), false),
         Task::Check(card) => {
-            Stop::after(run_check(alloc, machine, sheet, number, card.as_slice(), sink), false)
+            Stop::after(
+                run_check(alloc, machine, sheet, number, card.as_slice(), sink),
+                false,
+            )
         }
         Task::Message(way, mut file) => {
             let done = carry_message(alloc, machine, sheet, number, way, &mut file, sink);
@@ -203,7 +206,7 @@ fn carry_message<O: Source, W: Sink>(
 ) -> Result<(), DeskFault>
     ensures does { OnDay machine.now sheet.now number
         (DoesTask (Task.Message way (port O.remaining O.has_failed file.old file.new)) number
-            (port W.taken W.has_failed sink.old sink.new) result) result }
+        (port W.taken W.has_failed sink.old sink.new) result) result }
     ensures untouched { IsTrue (is_refused_before result)
         → (file.new ≡ file.old) × (sink.new ≡ sink.old) }
     ensures failed { Fail (port O.remaining O.has_failed file.old file.new)
