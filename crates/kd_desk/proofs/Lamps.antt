@@ -3,10 +3,9 @@ use Rattle.std.proofs.Common.{◌≡◌, ℕ, ◌+◌, ◌-◌, List, [], ◌++�
 use Rattle.std.proofs.lemmas.List.{map-append}
 use Rattle.std.proofs.lemmas.List.Elements.{filter-append}
 use Rattle.kd_tables.specs.Tables.{letters_of}
+use Rattle.kd_tables.specs.Text.{is_capital, letters_text}
 use Rattle.kd_state.specs.Laws.{CipherInTurn}
 use Rattle.kd_state.specs.TwoCiphers.{EngineKey, OfWheels, OfDrum, cipher, key_left}
-use Rattle.kd_sheet.specs.Letters.{is_capital}
-use Rattle.kd_sheet.specs.MachineText.{letters_text}
 use Rattle.kd_desk.specs.Typing.{typed_letters, cipher_text, Lights}
 
 pub typed-append : (first rest : List ℕ) → typed_letters (first ++ rest) ≡ typed_letters first ++ typed_letters rest

@@ -16,7 +16,8 @@ use Rattle.kd_tables.specs.declared.writing.Device.{Device}
 use Rattle.kd_tables.specs.Writing.{TakesFront}
 use Rattle.kd_tables.specs.Ports.{Port, IsWell, Ends}
 use Rattle.kd_tables.specs.declared.limit.TheConstants.{READ_LIMIT}
-use Rattle.kd_desk.specs.Typing.{may_be_typed, AreAllowedBytes, IsFirstRefused, cipher_text, TypesFront, IsTyped}
+use Rattle.kd_tables.specs.Text.{is_text_byte}
+use Rattle.kd_desk.specs.Typing.{AreAllowedBytes, IsFirstRefused, cipher_text, TypesFront, IsTyped}
 use Rattle.kd_desk.specs.TypingSteps.{StepTyped}
 use Rattle.kd_state.specs.Laws.{CipherInTurn}
 use Rattle.kd_desk.proofs.Lamps.{cipher_text-nil, Lights-behind}
@@ -47,9 +48,9 @@ IsFirstRefused-behind read bytes n allowed refused =
     record {
       within = (omega arith, omega (arith, refused.within.1, length-append read bytes));
       before = subst (λ k. AreAllowedBytes (take k (read ++ bytes))) (sym there) (subst AreAllowedBytes (sym (take-append-add read bytes n))
-          (All-append (λ (byte : ℕ). IsTrue (may_be_typed byte)) read (take n bytes) allowed (subst (λ k. AreAllowedBytes (take k bytes)) back refused.before)));
-      here = subst (λ k. IsFalse (may_be_typed (slice_index (read ++ bytes) k))) (sym there)
-          (subst (λ b. IsFalse (may_be_typed b)) (sym (get_or-append-add read bytes n 0)) (subst (λ k. IsFalse (may_be_typed (slice_index bytes k))) back refused.here));
+          (All-append (λ (byte : ℕ). IsTrue (is_text_byte byte)) read (take n bytes) allowed (subst (λ k. AreAllowedBytes (take k bytes)) back refused.before)));
+      here = subst (λ k. IsFalse (is_text_byte (slice_index (read ++ bytes) k))) (sym there)
+          (subst (λ b. IsFalse (is_text_byte b)) (sym (get_or-append-add read bytes n 0)) (subst (λ k. IsFalse (is_text_byte (slice_index bytes k))) back refused.here));
     }
 
 TypesFront-behind : (key now : EngineKey) (read text bytes lamps : List ℕ) → AreAllowedBytes read
@@ -57,7 +58,7 @@ TypesFront-behind : (key now : EngineKey) (read text bytes lamps : List ℕ) →
 TypesFront-behind key now read text bytes lamps allowed behind types = record {
   front = read ++ types.front;
   of_read = StartsWith-behind read bytes types.front types.of_read;
-  allowed = All-append (λ (byte : ℕ). IsTrue (may_be_typed byte)) read types.front allowed types.allowed;
+  allowed = All-append (λ (byte : ℕ). IsTrue (is_text_byte byte)) read types.front allowed types.allowed;
   written = subst (λ l. StartsWith l (text ++ lamps)) (sym (behind types.front)) (StartsWith-behind text (cipher_text now types.front) lamps types.written);
 }
 
@@ -70,7 +71,7 @@ SoFar-nil key had took a d = record {
   within = omega arith;
   given = Consumes-nil had;
   written = Appends-nil took;
-  allowed = All-nil (λ (byte : ℕ). IsTrue (may_be_typed byte));
+  allowed = All-nil (λ (byte : ℕ). IsTrue (is_text_byte byte));
   whole = sym (cipher_text-nil key);
   behind = λ more. refl;
   well = (refl, refl);
@@ -88,7 +89,7 @@ module _ (in_turn : CipherInTurn) (key now left : EngineKey) (had has next took 
     within = omega (arith, before.within, step.within, step.types.0, space);
     given = Consumes-trans had has next before.read step.read before.given step.given;
     written = Appends-trans took taken wrote before.text step.text before.written step.written;
-    allowed = All-append (λ (byte : ℕ). IsTrue (may_be_typed byte)) before.read step.read before.allowed step.types.2;
+    allowed = All-append (λ (byte : ℕ). IsTrue (is_text_byte byte)) before.read step.read before.allowed step.types.2;
     whole = ap (λ l. before.text ++ l) step.types.3.cipher ∙ sym (before.behind step.read);
     behind = λ more. ap (cipher_text key) (append_assoc before.read step.read more)
         ∙ before.behind (step.read ++ more)

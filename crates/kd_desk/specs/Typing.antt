@@ -6,30 +6,21 @@ use Rattle.std.specs.Io.KnownBytes.{Appends, Consumes, IsAtEnd}
 use Rattle.kd_tables.specs.declared.limit.TheConstants.{READ_LIMIT}
 use Rattle.kd_tables.specs.Tables.{letters_of}
 use Rattle.kd_state.specs.TwoCiphers.{EngineKey, cipher, key_left}
-use Rattle.kd_sheet.specs.Letters.{is_capital}
-use Rattle.kd_sheet.specs.MachineText.{letters_text}
 use Rattle.kd_tables.specs.Ports.{Port, FailsAlone}
+use Rattle.kd_tables.specs.Text.{is_capital, is_text_byte, letters_text}
 use Rattle.kd_desk.specs.declared.fault.DeskFault.{DeskFault}
 use Rattle.kd_desk.specs.declared.fault.DeskFault.TheVariants as faults
 use Rattle.kd_desk.specs.declared.typing.fault.TextFault.{TextFault}
 use Rattle.kd_desk.specs.declared.typing.fault.TextFault.TheVariants.{Device, BadByte, ReadTooLong}
 
--- a space, a carriage return or a line feed
-abbrev pub is_separator : ℕ → Bool
-is_separator byte = byte == 32 || (byte == 13 || byte == 10)
-
--- what may stand in a text that is typed: capital letters, and what separates them
-abbrev pub may_be_typed : ℕ → Bool
-may_be_typed byte = is_capital byte || is_separator byte
-
 abbrev pub AreAllowedBytes : List ℕ → Type 0
-AreAllowedBytes bytes = All (λ byte. IsTrue (may_be_typed byte)) bytes
+AreAllowedBytes bytes = All (λ byte. IsTrue (is_text_byte byte)) bytes
 
 -- the byte at the place, counted from 1, is the first that is not allowed
 pub record IsFirstRefused (bytes : List ℕ) (place : ℕ) : Type 0 where
   pub within : (1 ≤ place) × (place ≤ length bytes)
   pub before : AreAllowedBytes (take (place - 1) bytes)
-  pub here : IsFalse (may_be_typed (slice_index bytes (place - 1)))
+  pub here : IsFalse (is_text_byte (slice_index bytes (place - 1)))
 
 -- the letters among the bytes
 abbrev pub typed_letters : List ℕ → List ℕ

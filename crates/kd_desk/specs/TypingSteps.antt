@@ -1,9 +1,10 @@
 -- What the steps do in which a text is typed. The contract of the whole does not speak of them.
-use Rattle.std.specs.Prelude.{◌≡◌, ◌⊎◌, ℕ, ◌+◌, ◌<◌, ◌≤◌, List, length, take, [], Result, Ok, Err}
+use Rattle.std.specs.Prelude.{◌≡◌, ◌⊎◌, ℕ, ◌+◌, ◌<◌, ◌≤◌, List, length, take, slice_index, [], IsFalse, Result, Ok, Err}
 use Rattle.std.specs.Io.KnownBytes.{Appends, Consumes, IsAtEnd}
 use Rattle.kd_state.specs.TwoCiphers.{EngineKey}
 use Rattle.kd_tables.specs.declared.writing.Device.{Device}
 use Rattle.kd_tables.specs.Ports.{Port, FailsAlone}
+use Rattle.kd_tables.specs.Text.{is_text_byte}
 use Rattle.kd_desk.specs.Typing.{AreAllowedBytes, IsFirstRefused, Lights, TypesPart, cipher_text}
 use Rattle.kd_desk.specs.declared.typing.step.Step.{Step}
 use Rattle.kd_desk.specs.declared.typing.step.Step.TheVariants.{Ended, Typed, Refused}
@@ -26,3 +27,9 @@ pub record StepTyped (key left : EngineKey) (room : ℕ) (source sink : Port) (a
   pub written : Appends sink.had sink.has text
   pub types : StepTypes key left source sink read text answer
   pub ended : answer ≡ Ok Ended → IsAtEnd source.has
+
+-- so many bytes at the front are allowed, and the next one, if there is one, is not
+pub record IsAllowedFront (bytes : List ℕ) (front : ℕ) : Type 0 where
+  pub within : front ≤ length bytes
+  pub allowed : AreAllowedBytes (take front bytes)
+  pub next : front < length bytes → IsFalse (is_text_byte (slice_index bytes front))

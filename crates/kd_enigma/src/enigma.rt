@@ -117,16 +117,16 @@ impl<const S: usize> Enigma<S> {
     {
         tables_are_sound();
         slow_wheels_move_together();
-        let before = self.stepper.window();
+        let stood = self.stepper.shown(S - 2).index();
         self.stepper.step();
-        let window = self.stepper.window();
-        let (stood, stands) = (before[S - 2].index(), window[S - 2].index());
+        let stands = self.stepper.shown(S - 2).index();
         self.inner = if stands == stood {
             self.inner
         } else {
-            around_slow(&self.rotors, &window, self.reflecting)
+            around_slow(&self.rotors, &self.stepper.window(), self.reflecting)
         };
-        self.whole = self.right.enclosing(self.inner, window[S - 1]);
+        let right = self.stepper.shown(S - 1);
+        self.whole = self.right.enclosing(self.inner, right);
     }
 
     /// The letter that lights up for a letter while no wheel moves.

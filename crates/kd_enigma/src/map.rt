@@ -67,8 +67,8 @@ impl Map {
     }
 
     /// What the letter becomes.
-    pub(crate) fn at(self, letter: Letter) -> Letter
-        ensures { result ≡ slice_index self letter }
+    pub(crate) fn at(&self, letter: Letter) -> Letter
+        ensures { result ≡ slice_index self.now letter }
     {
         Letter::new(self.lanes[letter.index()]).unwrap()
     }

@@ -6,17 +6,11 @@ use Rattle.std.specs.Simd.{first_chunks}
 use Rattle.std.proofs.lemmas.Bool.{cases_eq}
 use Rattle.std.proofs.lemmas.List.Elements.{All-head, All-tail}
 use Rattle.kd_state.specs.SheetDay.{Day, OfRotors, OfPins}
-use Rattle.kd_form.specs.declared.fault.FormFault.TheVariants.{PartOrder}
 use Rattle.kd_form.specs.declared.keys.Keys.{Keys}
 use Rattle.kd_form.specs.declared.keys.Keys.TheVariants.{Rotor, Pin}
-use Rattle.kd_form.specs.FormParts.{IsFirstOf}
-use Rattle.kd_form.specs.FormText.{given_letters}
-use Rattle.kd_form.specs.Laws.{FormIsAnswered}
 use Rattle.kd_form.specs.Making.{Suits, IsMadeText, part_of, indicator_of, rotor_letters, pin_letters, part_size}
 use Rattle.kd_form.specs.Part.{part_text, pieces}
-use Rattle.kd_form.specs.Receiving.{IsExpected, IsPartRead}
 use Rattle.kd_form.specs.Sending.{text_letters, AreMadeTexts, CanBeSent, HasForm}
-use Rattle.kd_form.proofs.Received.{IsReceiving, too_few_parts, all_received}
 
 -- ---- orders
 
@@ -51,16 +45,3 @@ order_becomes_a_form s order text keys sent =
     let made = parts_are_made s 1 (length keys) keys (pieces (part_size s) letters)
     (length-first_chunks (part_size s) (div_ceil (length letters) (part_size s)) letters ∙ sent.counted) sent.suited in
     (made.0, record { keys = keys; text = text; sent = sent; made = made.1 })
-
--- ---- forms
-
--- after its last part a form is a text, or has too few parts
-pub form_ends : (s : Day) (form text rest part after one : List ℕ) (number parts : ℕ) (expected : Option ℕ) → IsReceiving s form text rest number expected
-    → IsFirstOf rest part after → IsPartRead s number parts part one → IsExpected expected parts → after ≡ [] → FormIsAnswered s form
-form_ends s form text rest part after one number parts expected so_far first is due none = elim (cases_eq parts number) [
-  | inl same ↦
-      let given : List ℕ = text ++ given_letters s one in
-      let whole : List ℕ = given ++ 10 ∷ [] in
-      inl (whole, all_received s form text given whole rest part after one number parts expected so_far first is due none same refl refl)
-  | inr differ ↦ inr (PartOrder, too_few_parts s form text rest part after one number parts expected so_far first is due none differ)
-]

@@ -7,10 +7,10 @@ use Rattle.std.proofs.lemmas.Bool.Decides.{nat_tests}
 use Rattle.std.proofs.lemmas.List.{append-nil, take-append-drop, drop-append-le}
 use Rattle.std.proofs.lemmas.List.Elements.{All-nil, All-cons, All-head, All-tail, All-append, All-push, All-take, All-drop, All-pop, All-map, All-weaker, filter_map-append}
 use Rattle.std.proofs.lemmas.List.Folds.{flat_map-map}
+use Rattle.kd_tables.specs.Text.{is_text_byte, letters_text}
 use Rattle.kd_state.specs.Words.{line_of}
-use Rattle.kd_form.specs.Keys.{letters_text}
 use Rattle.kd_form.specs.Part.{pieces, groups_of, with_line, body_text}
-use Rattle.kd_form.specs.Sending.{is_text_byte, letter_of_byte, letters_from}
+use Rattle.kd_form.specs.Sending.{letter_of_byte, letters_from}
 use Rattle.kd_form.proofs.Groups.{pieces-next, pieces-none}
 use Rattle.kd_form.proofs.TextLetters.{letters_first}
 

@@ -6,6 +6,7 @@ use Rattle.std.proofs.lemmas.Bool.{cases_lt}
 use Rattle.std.proofs.lemmas.Bool.Decides.{nat_tests}
 use Rattle.std.proofs.lemmas.List.{append-nil, take_all, drop_all, length-take, length-take-le, take-append-drop}
 use Rattle.std.proofs.lemmas.List.Elements.{All-nil, All-cons, All-head, All-tail, All-take, All-drop}
+use Rattle.kd_tables.specs.Text.{is_capital}
 use Rattle.kd_state.specs.Laws.{TheDayDeciphersItself}
 use Rattle.kd_state.specs.SheetDay.{Day, OfRotors, OfPins, IsLegalDay}
 use Rattle.kd_state.specs.Words.{TextsTellFirstParts}
@@ -18,13 +19,13 @@ use Rattle.kd_form.specs.Making.{Suits, part_size, filled}
 use Rattle.kd_form.specs.Part.{Part, part_text, pieces, body_text}
 use Rattle.kd_form.specs.Reading.{IsLettersText}
 use Rattle.kd_form.specs.Receiving.{IsPartRead}
-use Rattle.kd_form.specs.Sending.{is_capital, letter_of_byte, letters_from, text_letters, parts_needed, AreMadeTexts}
+use Rattle.kd_form.specs.Sending.{letter_of_byte, letters_from, text_letters, parts_needed, AreMadeTexts}
 use Rattle.kd_form.proofs.BodyTexts.{by_pieces, letters_of_body, body_is_allowed}
 use Rattle.kd_form.proofs.Groups.{more_pieces, pieces-next, pieces-none}
 use Rattle.kd_form.proofs.MadeParts.{IsPiece, GivesBack, part_gives_back}
 use Rattle.kd_form.proofs.PartTexts.{part_has_heading, part_begins_heading, part_is_first}
 use Rattle.kd_form.proofs.OneOrder.{one_order}
-use Rattle.kd_form.proofs.Sent.{size_some}
+use Rattle.kd_form.proofs.OrderParts.{size_some}
 
 -- ---- the letters of a text are letters of the alphabet
 

@@ -4,11 +4,11 @@ use Rattle.std.specs.Prelude.{codes, decimal, All, Option, Some, None, MatchOpti
 use Rattle.std.proofs.lemmas.Fmt.{decimal_injective}
 use Rattle.std.proofs.lemmas.List.{length-map}
 use Rattle.std.proofs.lemmas.List.Elements.{All-cons, All-nil, All-append, All-map}
+use Rattle.kd_tables.specs.Text.{letters_text}
 use Rattle.kd_state.specs.SheetDay.{Day, RotorDay, OfRotors, OfPins}
 use Rattle.kd_state.specs.Words.{line_of, words_of, IsWord, IsWithout, IsFirstPart, TextsTellFirstParts, NumbersAreWords, LinesSplitIntoWords, PartsMakeLines}
 use Rattle.kd_form.specs.declared.heading.Heading.{Heading}
 use Rattle.kd_form.specs.declared.heading.Indicator.{Indicator}
-use Rattle.kd_form.specs.Keys.{letters_text}
 use Rattle.kd_form.specs.Part.{fraction, indicator_words, heading_words}
 use Rattle.kd_form.specs.Reading.{HasIndicator}
 use Rattle.kd_form.specs.KeyPatterns.{HasSlots, HasPins}
@@ -68,6 +68,13 @@ some_slots s (Some slots) has =
     let count : length s.wheels ≡ slots = ap (λ d. length d.wheels) same ∙ sym has.count in
     elim has.either [ inl three ↦ omega arith | inr four ↦ omega arith ]
 
+pub few_wheels : (s : RotorDay) (found : Option ℕ) → MatchOption found (HasPins (OfRotors s)) (HasSlots (OfRotors s)) → length s.wheels ≤ 4
+few_wheels s None has = absurd (cc (has.is))
+few_wheels s (Some slots) has =
+    let same : s ≡ has.day = cc (has.is) in
+    let count : length s.wheels ≡ slots = ap (λ d. length d.wheels) same ∙ sym has.count in
+    elim has.either [ inl three ↦ omega arith | inr four ↦ omega arith ]
+
 are_indicator_words : (s : Day) (found : Option ℕ) (i : Option Indicator) → MatchOption found (HasPins s) (HasSlots s) → HasIndicator s i → All IsWord (indicator_words i)
 are_indicator_words (OfRotors s) found (Some i) has are =
     let some : 1 ≤ length s.wheels = some_slots s found has in
@@ -76,6 +83,10 @@ are_indicator_words (OfRotors s) found (Some i) has are =
 are_indicator_words (OfPins s) found None has are = All-nil IsWord
 are_indicator_words (OfRotors s) found None has are = absurd are
 are_indicator_words (OfPins s) found (Some i) has are = absurd are
+
+pub at_most : (s : Day) (count : ℕ) → IsLetterCount s count → count ≤ 520
+at_most (OfRotors s) count are = omega (arith, are.1)
+at_most (OfPins s) count are = are.1
 
 pub small_count : (s : Day) (count : ℕ) → IsLetterCount s count → count < 2 ^ 64
 small_count (OfRotors s) count are = omega (arith, are.1)

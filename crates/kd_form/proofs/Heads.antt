@@ -4,11 +4,12 @@ use Rattle.std.specs.Prelude.{codes, All, ◌==◌}
 use Rattle.std.proofs.lemmas.Bool.Decides.{nat_tests}
 use Rattle.std.proofs.lemmas.List.{append-nil}
 use Rattle.std.proofs.lemmas.List.Elements.{All-append, All-cons, All-nil, All-push, All-head, All-tail, All-map}
+use Rattle.kd_tables.specs.Text.{letters_text}
 use Rattle.kd_state.specs.Words.{line_of, IsWithout, TextsTellFirstParts}
 use Rattle.kd_state.specs.SheetDay.{Day}
 use Rattle.kd_form.specs.declared.keys.Keys.{Keys}
 use Rattle.kd_form.specs.declared.keys.Keys.TheVariants.{Rotor, Pin}
-use Rattle.kd_form.specs.Keys.{letters_text, key_words, AreKeys}
+use Rattle.kd_form.specs.Keys.{key_words, AreKeys}
 use Rattle.kd_form.specs.Patterns.{IsPatternLine, BeginsWithPattern, LineBreaksOff}
 use Rattle.kd_form.specs.Order.{IsEnded, IsKeyLine, AreKeyLines, IsHead, IsOrder, IsHeadFault}
 use Rattle.kd_form.specs.KeyPatterns.{BeginsWithKeys, IsAnyKeyLine}
@@ -119,35 +120,11 @@ pub record IsReadingHead (s : Day) (order rest : List ℕ) (keys : List Keys) : 
   pub only : (others : List Keys) (more : List ℕ) → IsHead s others (lines ++ more)
       → (after : List Keys) × IsHead s after more × (length others ≡ length keys + length after)
 
-pub reading_none : (s : Day) (order : List ℕ) → IsReadingHead s order order []
-reading_none s order = record {
-  lines = [];
-  joined = refl;
-  keyed = refl;
-  of_the_day = All-nil (AreKeys s);
-  few = omega arith;
-  only = λ others more head. (others, head, omega arith);
-}
-
-lines_more : (keys : List Keys) (k : Keys) (lines line : List ℕ) → AreKeyLines keys lines → IsKeyLine k line → AreKeyLines (keys ++ k ∷ []) (lines ++ line)
+pub lines_more : (keys : List Keys) (k : Keys) (lines line : List ℕ) → AreKeyLines keys lines → IsKeyLine k line → AreKeyLines (keys ++ k ∷ []) (lines ++ line)
 lines_more [] k lines line keyed ended =
     (line, [], ended, refl, ap (λ l. l ++ line) keyed ∙ sym (append-nil line))
 lines_more (first ∷ keys) k lines line (one, others, is, more, joined) ended =
     (one, others ++ line, is, lines_more keys k others line more ended, ap (λ l. l ++ line) joined ∙ append_assoc one others line)
-
-pub reading_more : (s : Day) (order rest after : List ℕ) (keys : List Keys) (k : Keys) → TextsTellFirstParts → length keys < 99
-    → IsReadingHead s order rest keys → BeginsWithKeys s rest k after → IsReadingHead s order after (keys ++ k ∷ [])
-reading_more s order rest after keys k tell room reading begins = record {
-  lines = reading.lines ++ begins.line;
-  joined = reading.joined ∙ ap (λ t. reading.lines ++ t) begins.joined ∙ sym (append_assoc reading.lines begins.line after);
-  keyed = lines_more keys k reading.lines begins.line reading.keyed begins.keyed;
-  of_the_day = All-push (AreKeys s) keys k reading.of_the_day begins.of_the_day;
-  few = omega (arith, length-append keys (k ∷ []));
-  only = λ others more head.
-      let behind = reading.only others (begins.line ++ more) (subst (IsHead s others) (append_assoc reading.lines begins.line more) head) in
-      let later = without_line s k begins.line more behind.0 tell begins.keyed behind.1 in
-      (later.0, later.1, behind.2 ∙ ap (λ n. length keys + n) later.2 ∙ omega (arith, length-append keys (k ∷ [])));
-}
 
 pub order_read : (s : Day) (order rest text letters : List ℕ) (keys : List Keys) → IsReadingHead s order rest keys → BeginsWithPattern (codes "TEXT") rest letters text
     → (head : List ℕ) × IsOrder s order keys head text
@@ -196,7 +173,7 @@ no_key_line s (k ∷ others) rest after other byte place off next front head =
     (record { keys = k; of_the_day = All-head (AreKeys s) k others head.of_the_day; keyed = first.2 })
     (sym (append_assoc first.0 first.1 head.last) ∙ ap (λ l. l ++ head.last) (sym first.4) ∙ sym head.joined)
 
-text_line : (last : List ℕ) → IsEnded (codes "TEXT") last → IsPatternLine (codes "TEXT") last
+pub text_line : (last : List ℕ) → IsEnded (codes "TEXT") last → IsPatternLine (codes "TEXT") last
 text_line last ended = record { letters = []; are_letters = record { count = refl; within = All-nil (λ l. l < 26) }; ended = ended }
 
 no_text_line : (s : Day) (others keys : List Keys) (rest after other : List ℕ) (byte place : ℕ) (off : LineBreaksOff (IsPatternLine (codes "TEXT")) rest place)
@@ -269,9 +246,3 @@ text_fault s order rest keys place position reading full off is = record {
 
 pub room_left : (full : Bool) (n : ℕ) → full ≡ (n == 99) → full ≡ false → n ≤ 99 → n < 99
 room_left full n told left few = grind (arith, nat_tests)
-
-pub reading_on : (s : Day) (order rest after other : List ℕ) (keys more : List Keys) (k : Keys) → after ≡ other → more ≡ keys ++ k ∷ [] → TextsTellFirstParts
-    → length keys < 99 → IsReadingHead s order rest keys → BeginsWithKeys s rest k after → IsReadingHead s order other more
-reading_on s order rest after other keys more k same put tell room reading begins =
-    subst (λ xs. IsReadingHead s order xs more) same
-    (subst (IsReadingHead s order after) (sym put) (reading_more s order rest after keys k tell room reading begins))

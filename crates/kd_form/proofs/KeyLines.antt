@@ -3,6 +3,7 @@ use Rattle.std.proofs.Common.{◌≡◌, ℕ, zero, suc, ◌+◌, ◌<◌, List,
 use Rattle.std.specs.Prelude.{codes, All}
 use Rattle.std.proofs.lemmas.List.{length-take-le, take-append-drop}
 use Rattle.std.proofs.lemmas.List.Elements.{All-append, All-take, All-drop, All-head, All-tail, All-cons}
+use Rattle.kd_tables.specs.Text.{letters_text}
 use Rattle.kd_state.specs.Words.{line_of}
 use Rattle.kd_state.specs.Machine.{AreLetters}
 use Rattle.kd_state.specs.SheetDay.{Day, OfRotors, OfPins}
@@ -10,7 +11,7 @@ use Rattle.kd_form.specs.declared.keys.Keys.{Keys}
 use Rattle.kd_form.specs.declared.keys.Keys.TheVariants.{Rotor, Pin}
 use Rattle.kd_form.specs.declared.keys.RotorKeys.{RotorKeys}
 use Rattle.kd_form.specs.declared.keys.PinKeys.{PinKeys}
-use Rattle.kd_form.specs.Keys.{letters_text, key_words, AreKeys, AreRotorKeys, ArePinKeys}
+use Rattle.kd_form.specs.Keys.{key_words, AreKeys, AreRotorKeys, ArePinKeys}
 use Rattle.kd_form.specs.Patterns.{filled_in, blanks, IsPatternLine, BeginsWithPattern, LineBreaksOff}
 use Rattle.kd_form.specs.Order.{IsEnded}
 use Rattle.kd_form.specs.KeyPatterns.{places_for, rotor_pattern, pin_pattern, key_pattern, key_letters, BeginsWithKeys, IsAnyKeyLine}

@@ -10,7 +10,7 @@ use Rattle.kd_form.proofs.OneFault.{Shorter, Longer, fronts}
 -- ---- the first part
 
 -- a part that another one follows has a byte: an LF stands at its end, and none at the head of a heading line
-some_byte : (bytes part rest : List ℕ) → bytes ≡ part ++ rest → slice_index bytes (length part - 1) ≡ 10 → BeginsHeading rest → 1 ≤ length part
+pub some_byte : (bytes part rest : List ℕ) → bytes ≡ part ++ rest → slice_index bytes (length part - 1) ≡ 10 → BeginsHeading rest → 1 ≤ length part
 some_byte bytes [] rest joined broken begins =
     absurd (let clash : 10 ≡ 80 = sym broken ∙ ap (λ bs. get_or bs 0 0) (joined ∙ begins.is) in omega arith)
 some_byte bytes (byte ∷ part) rest joined broken begins = omega arith

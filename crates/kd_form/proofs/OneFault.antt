@@ -1,20 +1,21 @@
 -- An order has a form, or one fault.
-use Rattle.std.proofs.Common.{◌≡◌, ℕ, ◌+◌, inl, inr, List, [], ◌∷◌, ◌++◌, length, refl, sym, ap, subst, ◌∙◌, append_assoc, arith}
+use Rattle.std.proofs.Common.{◌≡◌, ◌≢◌, ℕ, ◌+◌, ◌≤◌, inl, inr, List, [], ◌∷◌, ◌++◌, length, refl, sym, ap, subst, ◌∙◌, append_assoc, arith}
 use Rattle.std.specs.Prelude.{All, IsTrue, IsFalse}
 use Rattle.std.proofs.lemmas.Bool.{false≢true}
 use Rattle.std.proofs.lemmas.List.{append-nil}
 use Rattle.std.proofs.lemmas.List.Elements.{All-head, All-tail}
+use Rattle.kd_tables.specs.Text.{is_text_byte}
 use Rattle.kd_state.specs.Words.{TextsTellFirstParts}
 use Rattle.kd_state.specs.SheetDay.{Day, OfRotors, OfPins}
 use Rattle.kd_form.specs.declared.fault.FormFault.{FormFault}
-use Rattle.kd_form.specs.declared.fault.FormFault.TheVariants.{BadByte, PartKeys}
+use Rattle.kd_form.specs.declared.fault.FormFault.TheVariants.{BadByte, EmptyText, PartKeys}
 use Rattle.kd_form.specs.declared.keys.Keys.{Keys}
 use Rattle.kd_form.specs.declared.keys.Keys.TheVariants.{Rotor, Pin}
 use Rattle.kd_form.specs.Making.{Suits}
 use Rattle.kd_form.specs.Order.{IsHead, IsOrder, IsHeadFault}
-use Rattle.kd_form.specs.Sending.{is_text_byte, text_letters, parts_needed, IsBadAt, IsKeysFault, IsFirstKeysFault, IsSendFault, InHead, InKeys, InText, NoLetter, InParts, IsFormOf}
+use Rattle.kd_form.specs.Sending.{text_letters, parts_needed, IsBadAt, IsKeysFault, IsFirstKeysFault, StandsInOrder, EndsOrder, InHead, InKeys, InText, Cut, NoLetter, InParts, IsSendFault, CanBeSent, IsFormOf}
 use Rattle.kd_form.specs.Laws.{SentOrdersHaveNoFault, OrdersHaveOneFault}
-use Rattle.kd_form.proofs.OneOrder.{IsSameOrder, one_order}
+use Rattle.kd_form.proofs.OneOrder.{one_order}
 
 -- ---- two fronts of one list
 
@@ -116,7 +117,7 @@ first_keys_fault s keys fault other a b =
     one_keys_fault s (length b.before + 1) b.unsuited fault other
     (subst (λ n. IsKeysFault s n b.unsuited fault) (ap (λ l. length l + 1) same.0) (subst (λ k. IsKeysFault s (length a.before + 1) k fault) same.1 a.is)) b.is
 
-no_keys_fault : (s : Day) (keys : List Keys) (fault : FormFault) → All (Suits s) keys → ¬ (IsFirstKeysFault s keys fault)
+pub no_keys_fault : (s : Day) (keys : List Keys) (fault : FormFault) → All (Suits s) keys → ¬ (IsFirstKeysFault s keys fault)
 no_keys_fault s keys fault all is =
     none_first (Suits s) (IsUnsuited s) (suits_or_not s) is.before is.unsuited is.others (subst (All (Suits s)) is.joined all) (length is.before + 1, fault, is.is)
 
@@ -138,90 +139,101 @@ no_bad_byte text place all is =
 
 -- ---- one fault
 
-same_of : (s : Day) (order : List ℕ) (keys others : List Keys) (head other text more : List ℕ) → TextsTellFirstParts → IsOrder s order keys head text
-    → IsOrder s order others other more → IsSameOrder keys others head other text more
-same_of = one_order
+-- what is wrong in an order with these keys and this text
+data IsFound (s : Day) (keys : List Keys) (head text : List ℕ) (fault : FormFault) : Type 0 where
+  OfKeys : IsFirstKeysFault s keys fault → IsFound s keys head text fault
+  OfByte : (place : ℕ) → All (Suits s) keys → IsBadAt text place → fault ≡ BadByte (length head + place + 1) → IsFound s keys head text fault
+  OfNone : All (Suits s) keys → All (λ x. IsTrue (is_text_byte x)) text → text_letters s text ≡ [] → fault ≡ EmptyText → IsFound s keys head text fault
+  OfCount : All (Suits s) keys → All (λ x. IsTrue (is_text_byte x)) text → text_letters s text ≢ []
+      → parts_needed s (length (text_letters s text)) ≢ length keys
+      → fault ≡ PartKeys (parts_needed s (length (text_letters s text))) (length keys) → IsFound s keys head text fault
 
-suited_too : (s : Day) (keys others : List Keys) (head other text more : List ℕ) (fault : FormFault) → IsSameOrder keys others head other text more
-    → IsFirstKeysFault s keys fault → ¬ (All (Suits s) others)
-suited_too s keys others head other text more fault same found suited = no_keys_fault s keys fault (subst (All (Suits s)) (sym same.keys_are) suited) found
+found_alike : (s : Day) (order : List ℕ) (keys others : List Keys) (head other text more : List ℕ) (fault : FormFault) → TextsTellFirstParts
+    → IsOrder s order keys head text → IsOrder s order others other more → IsFound s others other more fault → IsFound s keys head text fault
+found_alike s order keys others head other text more fault tell o q is =
+    let same = one_order s order others keys other head more text tell q o in
+    subst (λ ks. IsFound s ks head text fault) same.keys_are
+    (subst (λ h. IsFound s others h text fault) same.head_is (subst (λ t. IsFound s others other t fault) same.text_is is))
 
-allowed_too : (keys others : List Keys) (head other text more : List ℕ) (place : ℕ) → IsSameOrder keys others head other text more → IsBadAt text place
-    → ¬ (All (λ x. IsTrue (is_text_byte x)) more)
-allowed_too keys others head other text more place same bad allowed =
-    no_bad_byte text place (subst (All (λ x. IsTrue (is_text_byte x))) (sym same.text_is) allowed) bad
+found : (tell : TextsTellFirstParts) (s : Day) (order : List ℕ) (keys : List Keys) (head text : List ℕ) (fault : FormFault) → IsOrder s order keys head text
+    → IsSendFault s order fault → IsFound s keys head text fault
+found tell s order keys head text fault o (inl (InHead p h few e)) = absurd (no_head_fault s order keys head text p tell o h)
+found tell s order keys head text fault o (inl (InKeys ks hd t q k)) = found_alike s order keys ks head hd text t fault tell o q (OfKeys k)
+found tell s order keys head text fault o (inl (InText ks hd t n q su b e)) = found_alike s order keys ks head hd text t fault tell o q (OfByte n su b e)
+found tell s order keys head text fault o (inr (Cut h e)) = absurd (no_head_fault s order keys head text (length order + 1) tell o h)
+found tell s order keys head text fault o (inr (NoLetter ks hd t q su al none e)) = found_alike s order keys ks head hd text t fault tell o q (OfNone su al none e)
+found tell s order keys head text fault o (inr (InParts ks hd t q su al some differ e)) =
+    found_alike s order keys ks head hd text t fault tell o q (OfCount su al some differ e)
 
-parts_alike : (s : Day) (keys others : List Keys) (head other text more : List ℕ) → IsSameOrder keys others head other text more
-    → PartKeys (parts_needed s (length (text_letters s text))) (length keys) ≡ PartKeys (parts_needed s (length (text_letters s more))) (length others)
-parts_alike s keys others head other text more same =
-    ap (λ t. PartKeys (parts_needed s (length (text_letters s t))) (length keys)) same.text_is
-    ∙ ap (λ ks. PartKeys (parts_needed s (length (text_letters s more))) (length ks)) same.keys_are
+one_found : (s : Day) (keys : List Keys) (head text : List ℕ) (fault other : FormFault) → IsFound s keys head text fault → IsFound s keys head text other → fault ≡ other
+one_found s keys head text fault other (OfKeys k) (OfKeys l) = first_keys_fault s keys fault other k l
+one_found s keys head text fault other (OfKeys k) (OfByte m sv c f) = absurd (no_keys_fault s keys fault sv k)
+one_found s keys head text fault other (OfKeys k) (OfNone sv am nil f) = absurd (no_keys_fault s keys fault sv k)
+one_found s keys head text fault other (OfKeys k) (OfCount sv am any part f) = absurd (no_keys_fault s keys fault sv k)
+one_found s keys head text fault other (OfByte n su b e) (OfKeys l) = absurd (no_keys_fault s keys other su l)
+one_found s keys head text fault other (OfByte n su b e) (OfByte m sv c f) = e ∙ ap (λ x. BadByte (length head + x + 1)) (one_bad_byte text n m b c) ∙ sym f
+one_found s keys head text fault other (OfByte n su b e) (OfNone sv am nil f) = absurd (no_bad_byte text n am b)
+one_found s keys head text fault other (OfByte n su b e) (OfCount sv am any part f) = absurd (no_bad_byte text n am b)
+one_found s keys head text fault other (OfNone su al none e) (OfKeys l) = absurd (no_keys_fault s keys other su l)
+one_found s keys head text fault other (OfNone su al none e) (OfByte m sv c f) = absurd (no_bad_byte text m al c)
+one_found s keys head text fault other (OfNone su al none e) (OfNone sv am nil f) = e ∙ sym f
+one_found s keys head text fault other (OfNone su al none e) (OfCount sv am any part f) = absurd (any none)
+one_found s keys head text fault other (OfCount su al some differ e) (OfKeys l) = absurd (no_keys_fault s keys other su l)
+one_found s keys head text fault other (OfCount su al some differ e) (OfByte m sv c f) = absurd (no_bad_byte text m al c)
+one_found s keys head text fault other (OfCount su al some differ e) (OfNone sv am nil f) = absurd (some nil)
+one_found s keys head text fault other (OfCount su al some differ e) (OfCount sv am any part f) = e ∙ sym f
 
-bad_alike : (keys others : List Keys) (head other text more : List ℕ) (place next : ℕ) → IsSameOrder keys others head other text more → IsBadAt text place
-    → IsBadAt more next → BadByte (length head + place + 1) ≡ BadByte (length other + next + 1)
-bad_alike keys others head other text more place next same bad also =
-    let here : place ≡ next = one_bad_byte text place next bad (subst (λ t. IsBadAt t next) (sym same.text_is) also) in
-    ap (λ h. BadByte (length h + place + 1)) same.head_is ∙ ap (λ n. BadByte (length other + n + 1)) here
+-- a fault in the head is the only one
+only_head : (tell : TextsTellFirstParts) (s : Day) (order : List ℕ) (position : ℕ) (other : FormFault) → IsHeadFault s order position → IsSendFault s order other
+    → BadByte position ≡ other
+only_head tell s order position other h (inl (InHead q i few f)) = ap BadByte (one_place s order position q h i) ∙ sym f
+only_head tell s order position other h (inl (InKeys ks hd t o k)) = absurd (no_head_fault s order ks hd t position tell o h)
+only_head tell s order position other h (inl (InText ks hd t n o su b f)) = absurd (no_head_fault s order ks hd t position tell o h)
+only_head tell s order position other h (inr (Cut i f)) = ap BadByte (one_place s order position (length order + 1) h i) ∙ sym f
+only_head tell s order position other h (inr (NoLetter ks hd t o su al none f)) = absurd (no_head_fault s order ks hd t position tell o h)
+only_head tell s order position other h (inr (InParts ks hd t o su al some differ f)) = absurd (no_head_fault s order ks hd t position tell o h)
 
 orders_have_one : (tell : TextsTellFirstParts) (s : Day) (order : List ℕ) (fault other : FormFault) → IsSendFault s order fault → IsSendFault s order other → fault ≡ other
-orders_have_one tell s order fault other (InHead p h e) (InHead q i f) = e ∙ ap BadByte (one_place s order p q h i) ∙ sym f
-orders_have_one tell s order fault other (InHead p h e) (InKeys ks hd t o k) = absurd (no_head_fault s order ks hd t p tell o h)
-orders_have_one tell s order fault other (InHead p h e) (InText ks hd t n o su b f) = absurd (no_head_fault s order ks hd t p tell o h)
-orders_have_one tell s order fault other (InHead p h e) (NoLetter ks hd t o su al none f) = absurd (no_head_fault s order ks hd t p tell o h)
-orders_have_one tell s order fault other (InHead p h e) (InParts ks hd t o su al some differ f) = absurd (no_head_fault s order ks hd t p tell o h)
-orders_have_one tell s order fault other (InKeys ks hd t o k) (InHead p h e) = absurd (no_head_fault s order ks hd t p tell o h)
-orders_have_one tell s order fault other (InKeys ks hd t o k) (InKeys ls ge u q l) =
-    let same = same_of s order ks ls hd ge t u tell o q in
-    first_keys_fault s ks fault other k (subst (λ xs. IsFirstKeysFault s xs other) (sym same.keys_are) l)
-orders_have_one tell s order fault other (InKeys ks hd t o k) (InText ls ge u n q su b f) =
-    absurd (suited_too s ks ls hd ge t u fault (same_of s order ks ls hd ge t u tell o q) k su)
-orders_have_one tell s order fault other (InKeys ks hd t o k) (NoLetter ls ge u q su al none f) =
-    absurd (suited_too s ks ls hd ge t u fault (same_of s order ks ls hd ge t u tell o q) k su)
-orders_have_one tell s order fault other (InKeys ks hd t o k) (InParts ls ge u q su al some differ f) =
-    absurd (suited_too s ks ls hd ge t u fault (same_of s order ks ls hd ge t u tell o q) k su)
-orders_have_one tell s order fault other (InText ks hd t n o su b e) (InHead p h f) = absurd (no_head_fault s order ks hd t p tell o h)
-orders_have_one tell s order fault other (InText ks hd t n o su b e) (InKeys ls ge u q l) =
-    absurd (suited_too s ls ks ge hd u t other (same_of s order ls ks ge hd u t tell q o) l su)
-orders_have_one tell s order fault other (InText ks hd t n o su b e) (InText ls ge u m q sv c f) =
-    e ∙ bad_alike ks ls hd ge t u n m (same_of s order ks ls hd ge t u tell o q) b c ∙ sym f
-orders_have_one tell s order fault other (InText ks hd t n o su b e) (NoLetter ls ge u q sv al none f) =
-    absurd (allowed_too ks ls hd ge t u n (same_of s order ks ls hd ge t u tell o q) b al)
-orders_have_one tell s order fault other (InText ks hd t n o su b e) (InParts ls ge u q sv al some differ f) =
-    absurd (allowed_too ks ls hd ge t u n (same_of s order ks ls hd ge t u tell o q) b al)
-orders_have_one tell s order fault other (NoLetter ks hd t o su al none e) (InHead p h f) = absurd (no_head_fault s order ks hd t p tell o h)
-orders_have_one tell s order fault other (NoLetter ks hd t o su al none e) (InKeys ls ge u q l) =
-    absurd (suited_too s ls ks ge hd u t other (same_of s order ls ks ge hd u t tell q o) l su)
-orders_have_one tell s order fault other (NoLetter ks hd t o su al none e) (InText ls ge u m q sv c f) =
-    absurd (allowed_too ls ks ge hd u t m (same_of s order ls ks ge hd u t tell q o) c al)
-orders_have_one tell s order fault other (NoLetter ks hd t o su al none e) (NoLetter ls ge u q sv am nil f) = e ∙ sym f
-orders_have_one tell s order fault other (NoLetter ks hd t o su al none e) (InParts ls ge u q sv am some differ f) =
-    absurd (some (ap (text_letters s) (sym (same_of s order ks ls hd ge t u tell o q).text_is) ∙ none))
-orders_have_one tell s order fault other (InParts ks hd t o su al some differ e) (InHead p h f) = absurd (no_head_fault s order ks hd t p tell o h)
-orders_have_one tell s order fault other (InParts ks hd t o su al some differ e) (InKeys ls ge u q l) =
-    absurd (suited_too s ls ks ge hd u t other (same_of s order ls ks ge hd u t tell q o) l su)
-orders_have_one tell s order fault other (InParts ks hd t o su al some differ e) (InText ls ge u m q sv c f) =
-    absurd (allowed_too ls ks ge hd u t m (same_of s order ls ks ge hd u t tell q o) c al)
-orders_have_one tell s order fault other (InParts ks hd t o su al some differ e) (NoLetter ls ge u q sv am nil f) =
-    absurd (some (ap (text_letters s) (same_of s order ks ls hd ge t u tell o q).text_is ∙ nil))
-orders_have_one tell s order fault other (InParts ks hd t o su al some differ e) (InParts ls ge u q sv am any part f) =
-    e ∙ parts_alike s ks ls hd ge t u (same_of s order ks ls hd ge t u tell o q) ∙ sym f
+orders_have_one tell s order fault other (inl (InHead p h few e)) b = e ∙ only_head tell s order p other h b
+orders_have_one tell s order fault other (inl (InKeys ks hd t o k)) b = one_found s ks hd t fault other (OfKeys k) (found tell s order ks hd t other o b)
+orders_have_one tell s order fault other (inl (InText ks hd t n o su b e)) c = one_found s ks hd t fault other (OfByte n su b e) (found tell s order ks hd t other o c)
+orders_have_one tell s order fault other (inr (Cut h e)) b = e ∙ only_head tell s order (length order + 1) other h b
+orders_have_one tell s order fault other (inr (NoLetter ks hd t o su al none e)) b =
+    one_found s ks hd t fault other (OfNone su al none e) (found tell s order ks hd t other o b)
+orders_have_one tell s order fault other (inr (InParts ks hd t o su al some differ e)) b =
+    one_found s ks hd t fault other (OfCount su al some differ e) (found tell s order ks hd t other o b)
 
 pub orders_have_one_fault : TextsTellFirstParts → OrdersHaveOneFault
 orders_have_one_fault tell = orders_have_one tell
 
 -- ---- no fault of an order that is sent
 
-sent_fault : (tell : TextsTellFirstParts) (s : Day) (order form : List ℕ) (fault : FormFault) → IsFormOf s order form → ¬ (IsSendFault s order fault)
-sent_fault tell s order form fault a (InHead p h e) = no_head_fault s order a.keys a.sent.head a.text p tell a.sent.is_order h
-sent_fault tell s order form fault a (InKeys ks hd t o k) =
-    suited_too s ks a.keys hd a.sent.head t a.text fault (same_of s order ks a.keys hd a.sent.head t a.text tell o a.sent.is_order) k a.sent.suited
-sent_fault tell s order form fault a (InText ks hd t n o su b e) =
-    allowed_too ks a.keys hd a.sent.head t a.text n (same_of s order ks a.keys hd a.sent.head t a.text tell o a.sent.is_order) b a.sent.allowed
-sent_fault tell s order form fault a (NoLetter ks hd t o su al none e) =
-    a.sent.some (ap (text_letters s) (sym (same_of s order ks a.keys hd a.sent.head t a.text tell o a.sent.is_order).text_is) ∙ none)
-sent_fault tell s order form fault a (InParts ks hd t o su al some differ e) =
-    let same = same_of s order ks a.keys hd a.sent.head t a.text tell o a.sent.is_order in
-    differ (ap (λ x. parts_needed s (length (text_letters s x))) same.text_is ∙ a.sent.counted ∙ sym (ap length same.keys_are))
+found_in_sent : (s : Day) (order : List ℕ) (keys : List Keys) (text head : List ℕ) (fault : FormFault) → CanBeSent s order keys text → ¬ (IsFound s keys head text fault)
+found_in_sent s order keys text head fault sent (OfKeys k) = no_keys_fault s keys fault sent.suited k
+found_in_sent s order keys text head fault sent (OfByte n su b e) = no_bad_byte text n sent.allowed b
+found_in_sent s order keys text head fault sent (OfNone su al none e) = sent.some none
+found_in_sent s order keys text head fault sent (OfCount su al some differ e) = differ sent.counted
 
 pub sent_orders_have_no_fault : TextsTellFirstParts → SentOrdersHaveNoFault
-sent_orders_have_no_fault tell = sent_fault tell
+sent_orders_have_no_fault tell s order form fault a is =
+    found_in_sent s order a.keys a.text a.sent.head fault a.sent (found tell s order a.keys a.sent.head a.text fault a.sent.is_order is)
+
+-- ---- nothing stands
+
+-- in an order whose keys suit and whose text is allowed so far
+pub nothing_stands : TextsTellFirstParts → (s : Day) (order : List ℕ) (keys : List Keys) (head text : List ℕ) (fault : FormFault) → IsOrder s order keys head text
+    → All (Suits s) keys → All (λ x. IsTrue (is_text_byte x)) text → ¬ (StandsInOrder s order fault)
+nothing_stands tell s order keys head text fault o suited allowed (InHead p h few e) = no_head_fault s order keys head text p tell o h
+nothing_stands tell s order keys head text fault o suited allowed (InKeys ks hd t q k) =
+    let same = one_order s order keys ks head hd text t tell o q in
+    no_keys_fault s ks fault (subst (All (Suits s)) same.keys_are suited) k
+nothing_stands tell s order keys head text fault o suited allowed (InText ks hd t n q su b e) =
+    let same = one_order s order keys ks head hd text t tell o q in
+    no_bad_byte t n (subst (All (λ x. IsTrue (is_text_byte x))) same.text_is allowed) b
+
+-- and in one that ends in its head
+pub nothing_stands_yet : TextsTellFirstParts → (s : Day) (order : List ℕ) (fault : FormFault) → IsHeadFault s order (length order + 1) → ¬ (StandsInOrder s order fault)
+nothing_stands_yet tell s order fault cut (InHead p h few e) =
+    let same : length order + 1 ≡ p = one_place s order (length order + 1) p cut h in omega arith
+nothing_stands_yet tell s order fault cut (InKeys ks hd t o k) = no_head_fault s order ks hd t (length order + 1) tell o cut
+nothing_stands_yet tell s order fault cut (InText ks hd t n o su b e) = no_head_fault s order ks hd t (length order + 1) tell o cut

@@ -1,21 +1,23 @@
 -- A part has one heading, and one body.
-use Rattle.std.proofs.Common.{◌≡◌, ℕ, ◌^◌, ◌<◌, ◌⊎◌, inl, inr, List, [], ◌∷◌, ◌++◌, get_or, refl, sym, ap, subst, ◌∙◌, append_assoc, arith}
+use Rattle.std.proofs.Common.{◌≡◌, ◌≢◌, ℕ, ◌^◌, ◌<◌, ◌≤◌, ◌⊎◌, inl, inr, List, [], ◌∷◌, ◌++◌, length, drop, get_or, refl, sym, ap, subst, ◌∙◌, append_assoc, arith}
 use Rattle.std.specs.Prelude.{codes, decimal, Option, Some, None}
-use Rattle.std.proofs.lemmas.Fmt.{decimal_injective}
+use Rattle.std.specs.Int.{IsInRange}
+use Rattle.std.proofs.lemmas.Fmt.{decimal_injective, digits_decimal}
+use Rattle.std.proofs.Math.Seq.{drop-cons}
 use Rattle.std.proofs.lemmas.List.{append-nil}
+use Rattle.kd_tables.specs.Text.{letters_text}
 use Rattle.kd_state.specs.SheetDay.{Day, OfRotors, OfPins}
 use Rattle.kd_state.specs.Words.{line_of, IsWord, IsWithout, TextsTellFirstParts, NumbersAreWords}
 use Rattle.kd_form.specs.declared.heading.Heading.{Heading}
 use Rattle.kd_form.specs.declared.heading.Indicator.{Indicator}
-use Rattle.kd_form.specs.Keys.{letters_text}
 use Rattle.kd_form.specs.Order.{IsEnded}
 use Rattle.kd_form.specs.Part.{fraction, indicator_words, heading_words}
 use Rattle.kd_form.specs.Reading.{HasIndicator}
-use Rattle.kd_form.specs.FormParts.{IsFraction, IsLetterCount, IsHeading}
+use Rattle.kd_form.specs.FormParts.{BeginsHeading, IsFraction, IsLetterCount, IsHeading}
 use Rattle.kd_form.specs.Receiving.{HasHeading}
 use Rattle.kd_form.proofs.Heads.{IsUpToBreak, up_to_break}
 use Rattle.kd_form.proofs.OneOrder.{same_letters, behind_part, letters_spaceless, same_front, same_text}
-use Rattle.kd_form.proofs.Fractions.{strokeless}
+use Rattle.kd_form.proofs.Fractions.{figures, strokeless}
 use Rattle.kd_form.proofs.Headings.{same_fraction, fraction_word, small_count}
 use Rattle.kd_form.proofs.FirstLines.{plain_heading, without, has_byte}
 
@@ -132,3 +134,39 @@ no_empty_heading s h body has =
     let first : get_or (has.line ++ body) 0 0 ≡ 80 = first_of_heading h has.line body has.ended in
     let none : get_or (has.line ++ body) 0 0 ≡ 0 = ap (λ (bs : List ℕ). get_or bs 0 0) (sym has.joined) in
     omega arith
+
+not_empty : (xs : List ℕ) → xs ≢ [] → 0 < length xs
+not_empty [] some = absurd (some refl)
+not_empty (x ∷ xs) some = omega arith
+
+-- a part with a heading begins with PART, a space and a digit
+number_begins : (number : ℕ) → NumbersAreWords → number < 2 ^ 64 → (digit : ℕ) × (rest : List ℕ) × (decimal number ≡ digit ∷ rest) × (48 ≤ digit) × (digit ≤ 57)
+number_begins number numbers small =
+    let word : IsWord (decimal number) = numbers number small in
+    let some : 0 < length (decimal number) = not_empty (decimal number) word.filled in
+    let figure : IsInRange 48 57 (get_or (decimal number) 0 0) = digits_decimal figures number small 0 some in
+    (get_or (decimal number) 0 0, drop 1 (decimal number), drop-cons (decimal number) 0 0 some, figure.0, figure.1)
+
+words_begin : (h : Heading) (more : List ℕ) → NumbersAreWords → h.part < 2 ^ 64 → BeginsHeading (line_of (heading_words h) ++ more)
+words_begin h more numbers small =
+    let found = number_begins h.part numbers small in
+    let end : List ℕ = line_of (decimal h.letters ∷ indicator_words h.indicator) in
+    record {
+      digit = found.0;
+      rest = (((found.1 ++ codes "/") ++ decimal h.parts) ++ 32 ∷ end) ++ more;
+      is = ap (λ n. ((codes "PART" ++ 32 ∷ (((n ++ codes "/") ++ decimal h.parts) ++ 32 ∷ end))) ++ more) found.2;
+      low = found.3;
+      high = found.4;
+    }
+
+pub begins_there : (s : Day) (part : List ℕ) (h : Heading) (body : List ℕ) → NumbersAreWords → HasHeading s part h body → BeginsHeading part
+begins_there s part h body numbers has =
+    let small : h.part < 2 ^ 64 = omega (arith, has.is_heading.number.in_order, has.is_heading.number.few) in
+    let text : List ℕ = line_of (heading_words h) in
+    elim has.ended [
+      | inl ended ↦ elim ended [
+        | inl short ↦ subst BeginsHeading (sym (has.joined ∙ ap (λ l. l ++ body) short ∙ append_assoc text (10 ∷ []) body)) (words_begin h (10 ∷ body) numbers small)
+        | inr long ↦ subst BeginsHeading (sym (has.joined ∙ ap (λ l. l ++ body) long ∙ append_assoc text (13 ∷ 10 ∷ []) body)) (words_begin h (13 ∷ 10 ∷ body) numbers small)
+      ]
+      | inr bare ↦ subst BeginsHeading (sym (has.joined ∙ ap (λ l. l ++ body) bare.0)) (words_begin h body numbers small)
+    ]

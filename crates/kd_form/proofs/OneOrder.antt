@@ -4,6 +4,7 @@ use Rattle.std.specs.Prelude.{codes, All, slice_index, None}
 use Rattle.std.proofs.Math.Seq.{get_or-append_seam}
 use Rattle.std.proofs.lemmas.List.{append_cancel_left, append_cancel_right}
 use Rattle.std.proofs.lemmas.List.Elements.{All-append, All-cons, All-nil, All-head, All-tail, All-map, All-get_or}
+use Rattle.kd_tables.specs.Text.{letters_text}
 use Rattle.kd_state.specs.Words.{line_of, IsWithout, TextsTellFirstParts}
 use Rattle.kd_state.specs.SheetDay.{Day, OfRotors, OfPins}
 use Rattle.kd_form.specs.declared.keys.Keys.{Keys}
@@ -11,7 +12,7 @@ use Rattle.kd_form.specs.declared.keys.Keys.TheVariants.{Rotor, Pin}
 use Rattle.kd_form.specs.declared.keys.RotorKeys.{RotorKeys}
 use Rattle.kd_form.specs.declared.keys.PinKeys.{PinKeys}
 use Rattle.kd_form.specs.InternalKey.{ComesFirst, IsInternalKey}
-use Rattle.kd_form.specs.Keys.{letters_text, key_words, AreKeys}
+use Rattle.kd_form.specs.Keys.{key_words, AreKeys}
 use Rattle.kd_form.specs.Order.{IsEnded, AreKeyLines, IsOrder}
 use Rattle.kd_form.specs.Making.{IsMadeText, part_of, pin_letters, enciphered_choice}
 use Rattle.kd_form.specs.Part.{part_text, pieces}

@@ -1,7 +1,8 @@
 -- A part of a form has one text, or one fault.
 use Rattle.std.proofs.Common.{◌≡◌, ◌≢◌, ℕ, ◌+◌, ◌-◌, ◌⊎◌, inl, inr, List, [], ◌∷◌, ◌++◌, length, get_or, drop, Result, Ok, Err, MatchResult, refl, sym, ap, subst, ◌∙◌, length-append, arith}
 use Rattle.std.specs.Prelude.{All, IsTrue, slice_index, Option, Some, None}
-use Rattle.kd_state.specs.SheetDay.{Day}
+use Rattle.kd_tables.specs.Text.{is_text_byte}
+use Rattle.kd_state.specs.SheetDay.{Day, AreOfADaysGroup}
 use Rattle.kd_state.specs.TwoCiphers.{sheet_key, IsWindow}
 use Rattle.kd_state.specs.Words.{TextsTellFirstParts, NumbersAreWords}
 use Rattle.kd_form.specs.declared.fault.FormFault.{FormFault}
@@ -10,10 +11,10 @@ use Rattle.kd_form.specs.declared.heading.Heading.{Heading}
 use Rattle.kd_form.specs.declared.heading.Indicator.{Indicator}
 use Rattle.kd_form.specs.declared.keys.PinKeys.{PinKeys}
 use Rattle.kd_form.specs.InternalKey.{IsInternalKey}
-use Rattle.kd_form.specs.Making.{cipher_from, AreOfADaysGroup, list_letters, enciphered_choice}
-use Rattle.kd_form.specs.Sending.{is_text_byte, letters_from, IsBadAt}
+use Rattle.kd_form.specs.Making.{cipher_from, list_letters, enciphered_choice}
+use Rattle.kd_form.specs.Sending.{letters_from, IsBadAt}
 use Rattle.kd_form.specs.Reading.{AreRotorLetters, message_key, IsRotorText, IsRotorFault, indicators_with, ArePinLetters, IsPinText, IsPinFault, InIndicators, InExternal, InList, InChoice, IsLettersText, IsLettersFault}
-use Rattle.kd_form.specs.Receiving.{HasHeading, IsExpected, IsPartRead, IsPartFault, InHeading, InNumber, InBody, InCount, InLetters}
+use Rattle.kd_form.specs.Receiving.{HasHeading, IsExpected, IsPartRead, IsPartFault, IsBodyFault, InHeading, InNumber, InBody, InCount, InLetters}
 use Rattle.kd_form.proofs.OneOrder.{one_internal_key}
 use Rattle.kd_form.proofs.OneFault.{one_bad_byte, no_bad_byte}
 use Rattle.kd_form.proofs.OneHeading.{one_heading}
@@ -230,10 +231,15 @@ only_part s number expected start part tell numbers =
     (λ x. only_judged ((x.0.part ≡ number) × IsExpected expected x.0.parts) (Err PartOrder) (IsBodyAnswer s number start part x)
     (only_body s number start part x))
 
+count_answer : (s : Day) (number : ℕ) (h : Heading) (body : List ℕ) (fault : FormFault) → IsBodyFault s number h (letters_from None body) fault
+    → IsCountAnswer s number h body (Err fault)
+count_answer s number h body fault (InCount other is) = inl (other, ap Err is)
+count_answer s number h body fault (InLetters counted is) = inr (counted, is)
+
 part_fault : (s : Day) (number : ℕ) (expected : Option ℕ) (start : ℕ) (part : List ℕ) (fault : FormFault) → IsPartFault s number expected start part fault
     → IsPartAnswer s number expected start part (Err fault)
-part_fault s number expected start part fault (InHeading none is) = inl (λ x has. none x.0 x.1 has, ap Err is)
-part_fault s number expected start part fault (InNumber h body has other is) = inr (
+part_fault s number expected start part fault (inl (InHeading none is)) = inl (λ x has. none x.0 x.1 has, ap Err is)
+part_fault s number expected start part fault (inl (InNumber h body has other is)) = inr (
   (h, body),
   has,
   inl (
@@ -241,12 +247,10 @@ part_fault s number expected start part fault (InNumber h body has other is) = i
     ap Err is,
   ),
 )
-part_fault s number expected start part fault (InBody h body place has numbered of_so_many bad is) =
+part_fault s number expected start part fault (inl (InBody h body place has numbered of_so_many bad is)) =
     inr ((h, body), has, inr ((numbered, of_so_many), inl (place, bad, ap Err is)))
-part_fault s number expected start part fault (InCount h body has numbered of_so_many allowed other is) =
-    inr ((h, body), has, inr ((numbered, of_so_many), inr (allowed, inl (other, ap Err is))))
-part_fault s number expected start part fault (InLetters h body has numbered of_so_many allowed counted is) =
-    inr ((h, body), has, inr ((numbered, of_so_many), inr (allowed, inr (counted, is))))
+part_fault s number expected start part fault (inr a) =
+    inr ((a.heading, a.body), a.has, inr ((a.numbered, a.due), inr (a.allowed, count_answer s number a.heading a.body fault a.found)))
 
 part_read : (s : Day) (number : ℕ) (expected : Option ℕ) (start : ℕ) (part : List ℕ) (parts : ℕ) (text : List ℕ) → IsPartRead s number parts part text
     → IsExpected expected parts → IsPartAnswer s number expected start part (Ok text)

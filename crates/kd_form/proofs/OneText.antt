@@ -1,14 +1,19 @@
 -- A form becomes one text, or has one fault.
-use Rattle.std.proofs.Common.{◌≡◌, ◌≢◌, ℕ, ◌+◌, ◌-◌, ◌⊎◌, inl, inr, List, [], ◌∷◌, ◌++◌, length, refl, sym, ap, subst, ◌∙◌, arith}
+use Rattle.std.proofs.Common.{◌≡◌, ◌≢◌, ℕ, ◌+◌, ◌-◌, ◌<◌, ◌⊎◌, inl, inr, List, [], ◌∷◌, ◌++◌, length, refl, sym, ap, subst, ◌∙◌, arith}
 use Rattle.kd_state.specs.SheetDay.{Day}
-use Rattle.kd_state.specs.Words.{TextsTellFirstParts, NumbersAreWords}
+use Rattle.kd_state.specs.Words.{IsFirstPart, TextsTellFirstParts, NumbersAreWords}
 use Rattle.kd_form.specs.declared.fault.FormFault.{FormFault}
-use Rattle.kd_form.specs.FormParts.{IsFirstOf}
-use Rattle.kd_form.specs.Receiving.{HasHeading, IsExpected, IsPartRead, IsPartFault}
-use Rattle.kd_form.specs.FormText.{AreFirstParts, ArePartsRead, IsReadTo, given_text, IsTextOf, count_due, IsReceiveFault, InPart, AtEnd}
+use Rattle.kd_form.specs.declared.fault.FormFault.TheVariants.{BadHeading, PartOrder}
+use Rattle.kd_form.specs.FormParts.{BeginsHeading, IsFirstOf}
+use Rattle.kd_form.specs.Receiving.{HasHeading, IsExpected, IsPartRead, IsEarlyFault, IsPartFault, InHeading}
+use Rattle.kd_form.specs.FormText.{AreFirstParts, ArePartsRead, IsReadTo, given_text, IsTextOf, count_due, Turn, IsRefusedPart, IsRefusedEarly, IsRefusedForGood, NoHeading, InWhole, InLast, InPart, TooFew, IsReceiveFault}
+use Rattle.kd_form.specs.FormReading.{MayBegin}
 use Rattle.kd_form.specs.Laws.{FormsBecomeOneText, ReceivedFormsHaveNoFault, FormsHaveOneFault}
 use Rattle.kd_form.proofs.OneCut.{one_cut, empty_part, Alike, Further, Before, cuts}
-use Rattle.kd_form.proofs.OneHeading.{no_empty_heading}
+use Rattle.kd_form.proofs.OneHeading.{no_empty_heading, begins_there}
+use Rattle.kd_form.proofs.Growing.{begins_more, nothing_left}
+use Rattle.kd_form.proofs.FirstCuts.{FirstCut, first_cut}
+use Rattle.std.proofs.lemmas.List.{append-nil}
 use Rattle.kd_form.proofs.OnePart.{one_text, read_or_refused, one_refusal}
 
 -- ---- parts that are read
@@ -148,32 +153,117 @@ one_refused s form rest more before others count other fault found tell numbers 
 
 -- ---- one fault
 
-have_one_fault : (tell : TextsTellFirstParts) (numbers : NumbersAreWords) (s : Day) (form : List ℕ) (fault other : FormFault) → IsReceiveFault s form fault
-    → IsReceiveFault s form other → fault ≡ other
-have_one_fault tell numbers s form fault other (InPart before count letters rest part after read left first refused) (InPart others number more next part' after' also left' first' is) =
-    one_refused s form rest next before others count number fault other tell numbers
-    (record { letters = letters; part = part; after = after; read = read; left = left; first = first; refused = refused })
-    (record { letters = more; part = part'; after = after'; read = also; left = left'; first = first'; refused = is })
-have_one_fault tell numbers s form fault other (InPart before count letters rest part after read left first refused) (AtEnd parts number more some whole fewer is) =
-    absurd (whole_not_refused s form rest parts before count number more fault tell numbers some whole
-    (record { letters = letters; part = part; after = after; read = read; left = left; first = first; refused = refused }))
-have_one_fault tell numbers s form fault other (AtEnd parts number more some whole fewer is) (InPart before count letters rest part after read left first refused) =
-    absurd (whole_not_refused s form rest parts before count number more other tell numbers some whole
-    (record { letters = letters; part = part; after = after; read = read; left = left; first = first; refused = refused }))
-have_one_fault tell numbers s form fault other (AtEnd parts count letters some whole fewer is) (AtEnd others number more some' whole' fewer' also) = is ∙ sym also
+-- the form is refused at a part, or all parts are read and are too few
+data IsFault (s : Day) (form : List ℕ) (fault : FormFault) : Type 0 where
+  AtPart : (rest : List ℕ) (before : List (List ℕ)) (count : ℕ) → IsRefusedAt s form rest before count fault → IsFault s form fault
+  AtEnd : (parts : List (List ℕ)) (count : ℕ) (letters : List ℕ) → parts ≢ [] → IsReadTo s form [] parts count letters → length parts < count
+      → fault ≡ PartOrder → IsFault s form fault
+
+in_turn : (s : Day) (form : List ℕ) (fault : FormFault) (t : Turn s form) → IsRefusedPart s form t fault → IsFault s form fault
+in_turn s form fault t refused =
+    AtPart t.rest t.before t.count
+    (record { letters = t.letters; part = t.part; after = t.after; read = t.read; left = t.left; first = t.first; refused = refused })
+
+-- where no heading begins the form, its first part has none
+unheaded : (s : Day) (form : List ℕ) (fault : FormFault) → NumbersAreWords → ((more : List ℕ) → ¬ (BeginsHeading (form ++ more))) → fault ≡ BadHeading 1
+    → IsFault s form fault
+unheaded s form fault numbers none is =
+    let cut : FirstCut form = first_cut form in
+    AtPart form [] 0 (record {
+      letters = [];
+      part = cut.part;
+      after = cut.rest;
+      read = record { cut = refl; read = refl };
+      left = inl refl;
+      first = cut.first;
+      refused = inl (InHeading (λ h body has. none [] (subst BeginsHeading (sym cut.first.joined ∙ sym (append-nil form))
+          (begins_more cut.part cut.rest (begins_there s cut.part h body numbers has)))) is);
+    })
+
+fault_of : (s : Day) (form : List ℕ) (fault : FormFault) → NumbersAreWords → IsReceiveFault s form fault → IsFault s form fault
+fault_of s form fault numbers (text, inl (NoHeading none empty is)) = unheaded s form fault numbers none is
+fault_of s form fault numbers (text, inl (InWhole t some refused is)) = in_turn s form fault t refused
+fault_of s form fault numbers (text, inl (InLast t line body last broken refused is)) = in_turn s form fault t (inl refused)
+fault_of s form fault numbers (text, inr (InPart t last refused is)) = in_turn s form fault t refused
+fault_of s form fault numbers (text, inr (TooFew parts count letters some read fewer is same)) = AtEnd parts count letters some read fewer is
+
+one_fault : (tell : TextsTellFirstParts) (numbers : NumbersAreWords) (s : Day) (form : List ℕ) (fault other : FormFault) → IsFault s form fault
+    → IsFault s form other → fault ≡ other
+one_fault tell numbers s form fault other (AtPart rest before count at) (AtPart next others number also) =
+    one_refused s form rest next before others count number fault other tell numbers at also
+one_fault tell numbers s form fault other (AtPart rest before count at) (AtEnd parts number more some whole fewer is) =
+    absurd (whole_not_refused s form rest parts before count number more fault tell numbers some whole at)
+one_fault tell numbers s form fault other (AtEnd parts number more some whole fewer is) (AtPart rest before count at) =
+    absurd (whole_not_refused s form rest parts before count number more other tell numbers some whole at)
+one_fault tell numbers s form fault other (AtEnd parts count letters some whole fewer is) (AtEnd others number more some' whole' fewer' also) = is ∙ sym also
 
 pub forms_have_one_fault : TextsTellFirstParts → NumbersAreWords → FormsHaveOneFault
-forms_have_one_fault tell numbers = have_one_fault tell numbers
+forms_have_one_fault tell numbers s form fault other a b =
+    one_fault tell numbers s form fault other (fault_of s form fault numbers a) (fault_of s form other numbers b)
 
-have_no_fault : (tell : TextsTellFirstParts) (numbers : NumbersAreWords) (s : Day) (form text : List ℕ) (fault : FormFault) → IsTextOf s form text
-    → ¬ (IsReceiveFault s form fault)
-have_no_fault tell numbers s form text fault a (InPart before count letters rest part after read left first refused) =
-    whole_not_refused s form rest a.parts before count (length a.parts) a.letters fault tell numbers a.some a.read
-    (record { letters = letters; part = part; after = after; read = read; left = left; first = first; refused = refused })
-have_no_fault tell numbers s form text fault a (AtEnd parts count letters some whole fewer is) =
+no_fault : (tell : TextsTellFirstParts) (numbers : NumbersAreWords) (s : Day) (form text : List ℕ) (fault : FormFault) → IsTextOf s form text
+    → ¬ (IsFault s form fault)
+no_fault tell numbers s form text fault a (AtPart rest before count at) =
+    whole_not_refused s form rest a.parts before count (length a.parts) a.letters fault tell numbers a.some a.read at
+no_fault tell numbers s form text fault a (AtEnd parts count letters some whole fewer is) =
     let same : AreReadAlike a.parts parts (length a.parts) count a.letters letters =
     read_alike s form a.parts parts (length a.parts) count a.letters letters tell numbers a.some a.read whole in
     omega (arith, ap length same.parts_are, same.count_is, fewer)
 
 pub received_forms_have_no_fault : TextsTellFirstParts → NumbersAreWords → ReceivedFormsHaveNoFault
-received_forms_have_no_fault tell numbers = have_no_fault tell numbers
+received_forms_have_no_fault tell numbers s form text fault a b = no_fault tell numbers s form text fault a (fault_of s form fault numbers b)
+
+-- ---- a form of which no more has come
+
+not_empty : (before : List (List ℕ)) (part : List ℕ) (behind : List (List ℕ)) → before ++ part ∷ behind ≢ []
+not_empty [] part behind none = cc
+not_empty (p ∷ before) part behind none = cc
+
+-- where the last part is in turn, only it can be refused
+same_turn : (s : Day) (form : List ℕ) (fault : FormFault) (t u : Turn s form) → TextsTellFirstParts → NumbersAreWords → t.after ≡ []
+    → IsRefusedPart s form u fault → (t.before ≡ u.before) × (t.rest ≡ u.rest)
+same_turn s form fault t u tell numbers last refused = elim (cuts form t.before u.before t.rest u.rest t.read.cut u.read.cut) [
+  | Alike same left ↦ (same, left)
+  | Further part behind further (after, first, later) ↦
+      let none : after ≡ [] = (one_cut t.rest part after t.part t.after first t.first).1 ∙ last in
+      let left : u.rest ≡ [] = nothing_left behind after u.rest none later in
+      absurd (elim u.left [
+        | inl empty ↦ not_empty t.before part behind (sym further ∙ empty)
+        | inr some ↦ some left
+      ])
+  | Before part behind further cut ↦ absurd (not_refused s form u.rest u.before u.count fault part behind t.count t.letters t.rest tell numbers cut
+      (subst (λ ps. ArePartsRead s 1 t.count ps t.letters) further t.read.read)
+      (record { letters = u.letters; part = u.part; after = u.after; read = u.read; left = u.left; first = u.first; refused = refused }))
+]
+
+begins_by_parts : (s : Day) (form rest : List ℕ) (before : List (List ℕ)) (count : ℕ) (letters : List ℕ) → NumbersAreWords → IsReadTo s form rest before count letters
+    → MayBegin rest → (more : List ℕ) × BeginsHeading (form ++ more)
+begins_by_parts s form rest [] count letters numbers read may = (may.0, subst (λ l. BeginsHeading (l ++ may.0)) (sym read.cut) may.1)
+begins_by_parts s form rest (part ∷ before) count letters numbers read may =
+    let cut = read.cut in
+    let is = read.read in
+    let there : BeginsHeading part = begins_there s part is.2.heading is.2.body numbers is.2.has in
+    ([], subst BeginsHeading (sym (cut.1.joined) ∙ sym (append-nil form)) (begins_more part cut.0 there))
+
+-- its last part isn't whole, and isn't refused as far as it has come: then nothing refuses it for good
+pub nothing_stands : (s : Day) (form : List ℕ) (t : Turn s form) → TextsTellFirstParts → NumbersAreWords → t.after ≡ []
+    → MayBegin t.rest → ((fault : FormFault) (line body : List ℕ) → IsFirstPart 10 t.part line body → ¬ (IsRefusedEarly s form t fault))
+    → (text : List ℕ) (fault : FormFault) → ¬ (IsRefusedForGood s form text fault)
+nothing_stands s form t tell numbers last may early text fault (NoHeading none empty is) =
+    let begins = begins_by_parts s form t.rest t.before t.count t.letters numbers t.read may in
+    none begins.0 begins.1
+nothing_stands s form t tell numbers last may early text fault (InWhole u some refused is) =
+    let same = same_turn s form fault t u tell numbers last refused in
+    let cut : IsFirstOf t.rest u.part u.after = subst (λ r. IsFirstOf r u.part u.after) (sym same.1) u.first in
+    some ((one_cut t.rest u.part u.after t.part t.after cut t.first).1 ∙ last)
+nothing_stands s form t tell numbers last may early text fault (InLast u line body end broken refused is) =
+    let same = same_turn s form fault t u tell numbers last (inl refused) in
+    let cut : IsFirstOf t.rest u.part u.after = subst (λ r. IsFirstOf r u.part u.after) (sym same.1) u.first in
+    let part : u.part ≡ t.part = (one_cut t.rest u.part u.after t.part t.after cut t.first).0 in
+    let read : ArePartsRead s 1 u.count t.before u.letters = subst (λ ps. ArePartsRead s 1 u.count ps u.letters) (sym same.0) u.read.read in
+    let due : count_due t.before u.count ≡ count_due t.before t.count = due_alike s u.count t.count t.before u.letters t.letters tell numbers read t.read.read in
+    early fault line body (subst (λ p. IsFirstPart 10 p line body) part broken)
+    (subst (λ p. IsEarlyFault s (length t.before + 1) (count_due t.before t.count) (length form - length t.rest) p fault) part
+    (subst (λ r. IsEarlyFault s (length t.before + 1) (count_due t.before t.count) (length form - length r) u.part fault) (sym same.1)
+    (subst (λ d. IsEarlyFault s (length t.before + 1) d (length form - length u.rest) u.part fault) due
+    (subst (λ ps. IsEarlyFault s (length ps + 1) (count_due ps u.count) (length form - length u.rest) u.part fault) (sym same.0) refused))))

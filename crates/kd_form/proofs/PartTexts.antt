@@ -9,15 +9,15 @@ use Rattle.std.proofs.lemmas.Bool.Decides.{nat_tests}
 use Rattle.std.proofs.lemmas.Fmt.{decimal_nonempty, digits_decimal}
 use Rattle.std.proofs.lemmas.List.{drop-append-le}
 use Rattle.std.proofs.lemmas.List.Elements.{All-nil, All-cons, All-get_or}
+use Rattle.kd_tables.specs.Text.{is_text_byte}
 use Rattle.kd_state.specs.SheetDay.{Day}
 use Rattle.kd_state.specs.Words.{line_of, IsWithout}
 use Rattle.kd_form.specs.Part.{Part, indicator_words, heading_words, body_text, part_text}
-use Rattle.kd_form.specs.Sending.{is_text_byte}
 use Rattle.kd_form.specs.FormParts.{IsHeading, BeginsHeading, IsFirstOf}
 use Rattle.kd_form.specs.Receiving.{HasHeading}
 use Rattle.kd_form.proofs.Fractions.{figures}
 use Rattle.kd_form.proofs.FirstLines.{IsPlain, plain_more, plain_part, plain_heading, without}
-use Rattle.kd_form.proofs.FormCuts.{no_break}
+use Rattle.kd_form.proofs.Growing.{no_break}
 use Rattle.kd_form.proofs.BodyTexts.{AreAllowed, AreLines, body_is_allowed, body_lines, line_before, lines_from}
 
 -- ---- the heading

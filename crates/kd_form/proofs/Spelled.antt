@@ -4,7 +4,7 @@ use Rattle.std.specs.Prelude.{◌==◌}
 use Rattle.std.proofs.lemmas.Bool.{eqb-true}
 use Rattle.std.proofs.lemmas.List.{length-map, take_more, map-append, take_all}
 use Rattle.std.proofs.lemmas.List.Elements.{All-get_or}
-use Rattle.kd_form.specs.Keys.{letters_text}
+use Rattle.kd_tables.specs.Text.{letters_text}
 use Rattle.kd_form.specs.FormParts.{AreFewLetters}
 
 pub record AreSpelled (word : List ℕ) (index : ℕ) (letters : List ℕ) : Type 0 where

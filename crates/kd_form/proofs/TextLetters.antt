@@ -7,7 +7,8 @@ use mir.Val.{bool_byte}
 use Rattle.std.proofs.Math.Seq.{drop-cons}
 use Rattle.std.proofs.lemmas.List.{append-nil, take_all, drop_all, length-take-le, take-append-drop, take_more, take-append-le, drop_at}
 use Rattle.std.proofs.lemmas.List.Elements.{All-more, filter_map-append}
-use Rattle.kd_form.specs.Sending.{is_text_byte, letter_of_byte, letters_from, IsBadAt}
+use Rattle.kd_tables.specs.Text.{is_text_byte}
+use Rattle.kd_form.specs.Sending.{letter_of_byte, letters_from, IsBadAt}
 
 one_option : (found : Option ℕ) (rest : List ℕ) → cons_option found rest ≡ option_to_list found ++ rest
 one_option None rest = refl
@@ -35,7 +36,7 @@ how_many : (found : Option ℕ) → length (option_to_list found) ≡ (if is_som
 how_many None = refl
 how_many (Some letter) = refl
 
-at_most_one : (found : Option ℕ) → length (option_to_list found) ≤ 1
+pub at_most_one : (found : Option ℕ) → length (option_to_list found) ≤ 1
 at_most_one None = omega arith
 at_most_one (Some letter) = omega arith
 

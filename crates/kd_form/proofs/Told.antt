@@ -1,5 +1,5 @@
 -- What `?` answers: the fault of what was called.
-use Rattle.std.proofs.Common.{◌≡◌, Result, Ok, Err, MatchResult, sym, ap, subst}
+use Rattle.std.proofs.Common.{◌≡◌, inl, inr, Result, Ok, Err, MatchResult, sym, ap, subst}
 use Rattle.std.specs.Result.{IsErrAnd}
 use Rattle.kd_state.specs.declared.machine.parts.Parts.{Parts}
 use Rattle.kd_state.specs.SheetDay.{Day}
@@ -25,3 +25,9 @@ pub refused : {X : Type 0} (m : Parts) (s : Day) (is_due : X → Type 0) (is_fau
     → IsRefusal is_fault takes_memory fault → AnswersOnKey m s is_due is_fault takes_memory answer
 refused m s is_due is_fault takes_memory answer fault told on is =
     WithKey on (matched is_due (IsRefusal is_fault takes_memory) answer fault told is)
+
+-- where memory is taken for one reason, it is taken for a wider one
+pub takes_memory_as_well : {X : Type 0} (is_due : X → Type 0) (is_fault : FormFault → Type 0) (one other : Type 0) (answer : Result X FormFault)
+    → (one → other) → MatchResult answer is_due (IsRefusal is_fault one) → MatchResult answer is_due (IsRefusal is_fault other)
+takes_memory_as_well is_due is_fault one other (Ok due) wider told = told
+takes_memory_as_well is_due is_fault one other (Err fault) wider told = elim told [ inl taken ↦ inl (wider taken.0, taken.1) | inr found ↦ inr found ]

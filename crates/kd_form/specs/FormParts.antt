@@ -1,7 +1,6 @@
 -- The parts of a form: a heading line, and all lines up to the next. Places are counted from 0.
 use Rattle.std.specs.Prelude.{codes, ◌≡◌, ◌≢◌, ◌⊎◌, ℕ, ◌+◌, ◌-◌, ◌%◌, ◌<◌, ◌≤◌, List, [], ◌∷◌, ◌++◌, length, drop, slice_index, All, Option, MatchOption}
 use Rattle.kd_state.specs.SheetDay.{Day, OfRotors, OfPins}
-use Rattle.kd_state.specs.Words.{IsWithout, IsFirstPart}
 use Rattle.kd_form.specs.declared.heading.Heading.{Heading}
 use Rattle.kd_form.specs.Part.{heading_words}
 use Rattle.kd_form.specs.Reading.{HasIndicator}
@@ -50,8 +49,7 @@ pub record AreFewLetters (letters : List ℕ) : Type 0 where
   pub few : length letters ≤ 4
   pub within : All (λ letter. letter < 26) letters
 
--- the first line without its end, and what follows it
-pub data IsFirstLine (bytes line rest : List ℕ) : Type 0 where
-  WithLf : IsFirstPart 10 bytes line rest → ((front : List ℕ) → line ≢ front ++ 13 ∷ []) → IsFirstLine bytes line rest
-  WithCr : IsFirstPart 10 bytes (line ++ 13 ∷ []) rest → IsFirstLine bytes line rest
-  WithoutEnd : IsWithout 10 bytes → line ≡ bytes → rest ≡ [] → IsFirstLine bytes line rest
+-- the line without the CR at its end, if it has one
+pub data IsLineText (line text : List ℕ) : Type 0 where
+  WithReturn : line ≡ text ++ 13 ∷ [] → IsLineText line text
+  WithoutReturn : text ≡ line → ((front : List ℕ) → line ≢ front ++ 13 ∷ []) → IsLineText line text

@@ -1,14 +1,16 @@
 -- What a form becomes: a text, or the first fault. Parts are counted from 1.
 use Rattle.std.specs.Prelude.{◌≡◌, ◌≢◌, ◌⊎◌, ℕ, ◌+◌, ◌-◌, ◌<◌, ◌==◌, List, [], ◌∷◌, ◌++◌, length, map, Option, Some, None, if◌then◌else◌}
 use Rattle.kd_state.specs.SheetDay.{Day, OfRotors, OfPins}
+use Rattle.kd_state.specs.Words.{IsFirstPart}
 use Rattle.kd_form.specs.declared.fault.FormFault.{FormFault}
-use Rattle.kd_form.specs.declared.fault.FormFault.TheVariants.{PartOrder}
+use Rattle.kd_form.specs.declared.fault.FormFault.TheVariants.{BadHeading, PartOrder}
 use Rattle.kd_form.specs.declared.keys.Keys.{Keys}
 use Rattle.kd_form.specs.Making.{filled}
+use Rattle.kd_form.specs.Streams.{Message}
 use Rattle.kd_form.specs.Order.{IsOrder}
 use Rattle.kd_form.specs.Sending.{blank_of, text_letters}
-use Rattle.kd_form.specs.FormParts.{IsFirstOf}
-use Rattle.kd_form.specs.Receiving.{IsPartRead, IsPartFault}
+use Rattle.kd_form.specs.FormParts.{BeginsHeading, IsFirstOf}
+use Rattle.kd_form.specs.Receiving.{IsPartRead, IsEarlyFault, IsPartFault}
 
 -- the bytes begin with these parts, and this follows them
 abbrev pub AreFirstParts : List (List ℕ) → List ℕ → List ℕ → Type 0
@@ -66,15 +68,63 @@ abbrev pub count_due : List (List ℕ) → ℕ → Option ℕ
 count_due [] count = None
 count_due (part ∷ parts) count = Some count
 
--- The first of the reasons: a part is refused, and those before it are read; or all parts are read, and are fewer than their
--- headings say. Where the form is empty, its first part is.
-pub data IsReceiveFault (s : Day) (form : List ℕ) (fault : FormFault) : Type 0 where
-  InPart : (before : List (List ℕ)) (count : ℕ) (letters rest part after : List ℕ)
-      → IsReadTo s form rest before count letters → (before ≡ []) ⊎ (rest ≢ []) → IsFirstOf rest part after
-      → IsPartFault s (length before + 1) (count_due before count) (length form - length rest) part fault
-      → IsReceiveFault s form fault
-  AtEnd : (parts : List (List ℕ)) (count : ℕ) (letters : List ℕ) → parts ≢ []
-      → IsReadTo s form [] parts count letters → length parts < count → fault ≡ PartOrder → IsReceiveFault s form fault
+-- The part of the form whose turn it is, and what follows it: it is the first of what the parts that are read leave.
+pub record Turn (s : Day) (form : List ℕ) : Type 0 where
+  pub before : List (List ℕ)
+  pub count : ℕ
+  pub letters : List ℕ
+  pub rest : List ℕ
+  pub part : List ℕ
+  pub after : List ℕ
+  pub read : IsReadTo s form rest before count letters
+  pub left : (before ≡ []) ⊎ (rest ≢ [])
+  pub first : IsFirstOf rest part after
+
+-- that part is refused: whole, or as far as it shows early
+abbrev pub IsRefusedPart : (s : Day) (form : List ℕ) → Turn s form → FormFault → Type 0
+IsRefusedPart s form t fault = IsPartFault s (length t.before + 1) (count_due t.before t.count) (length form - length t.rest) t.part fault
+
+abbrev pub IsRefusedEarly : (s : Day) (form : List ℕ) → Turn s form → FormFault → Type 0
+IsRefusedEarly s form t fault = IsEarlyFault s (length t.before + 1) (count_due t.before t.count) (length form - length t.rest) t.part fault
+
+-- The form is refused behind that text, whatever follows: a heading line neither begins it nor may yet do so; a whole part is
+-- refused, as the next one has begun; or the last part is, for what shows early, and the line of its heading has ended.
+pub data IsRefusedForGood (s : Day) (form text : List ℕ) (fault : FormFault) : Type 0 where
+  NoHeading : ((more : List ℕ) → ¬ (BeginsHeading (form ++ more))) → text ≡ [] → fault ≡ BadHeading 1 → IsRefusedForGood s form text fault
+  InWhole : (t : Turn s form) → t.after ≢ [] → IsRefusedPart s form t fault → text ≡ given_letters s t.letters → IsRefusedForGood s form text fault
+  InLast : (t : Turn s form) (line body : List ℕ) → t.after ≡ [] → IsFirstPart 10 t.part line body → IsRefusedEarly s form t fault
+      → text ≡ given_letters s t.letters → IsRefusedForGood s form text fault
+
+-- The form is refused behind that text if it ends here: its last part is refused; or all parts are read, and are fewer than
+-- their headings say. Where the form is empty, its first part is refused.
+pub data IsRefusedAtEnd (s : Day) (form text : List ℕ) (fault : FormFault) : Type 0 where
+  InPart : (t : Turn s form) → t.after ≡ [] → IsRefusedPart s form t fault → text ≡ given_letters s t.letters → IsRefusedAtEnd s form text fault
+  TooFew : (parts : List (List ℕ)) (count : ℕ) (letters : List ℕ) → parts ≢ [] → IsReadTo s form [] parts count letters → length parts < count
+      → fault ≡ PartOrder → text ≡ given_letters s letters → IsRefusedAtEnd s form text fault
+
+-- the form is refused: for good, or at its end
+abbrev pub IsReceiveFault : Day → List ℕ → FormFault → Type 0
+IsReceiveFault s form fault = (text : List ℕ) × (IsRefusedForGood s form text fault ⊎ IsRefusedAtEnd s form text fault)
+
+-- the text of the parts before the last one
+pub record IsTextBeforeLast (s : Day) (form text : List ℕ) : Type 0 where
+  pub turn : Turn s form
+  pub last : turn.after ≡ []
+  pub is : text ≡ given_letters s turn.letters
+
+-- what is written before the form is refused so, or before more of it has come
+abbrev pub IsTextBefore : Day → Option FormFault → List ℕ → List ℕ → Type 0
+IsTextBefore s None form text = IsTextBeforeLast s form text
+IsTextBefore s (Some fault) form text = IsRefusedForGood s form text fault ⊎ IsRefusedAtEnd s form text fault
+
+-- forms, as messages that are read as they come
+abbrev pub form_message : Day → Message
+form_message s = record {
+  stands = λ form fault. (text : List ℕ) × IsRefusedForGood s form text fault;
+  refused = IsReceiveFault s;
+  becomes = IsTextOf s;
+  before = IsTextBefore s;
+}
 
 -- ---- the text of an order
 

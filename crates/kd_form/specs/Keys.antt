@@ -1,15 +1,12 @@
 -- The keys that an order gives for a part, and the words of the line that gives them.
 use Rattle.std.specs.Prelude.{codes, ℕ, ◌+◌, ◌<◌, List, [], ◌∷◌, length, map}
+use Rattle.kd_tables.specs.Text.{letters_text}
 use Rattle.kd_state.specs.Machine.{AreLetters}
 use Rattle.kd_state.specs.SheetDay.{Day, OfRotors, OfPins}
 use Rattle.kd_form.specs.declared.keys.Keys.{Keys}
 use Rattle.kd_form.specs.declared.keys.Keys.TheVariants.{Rotor, Pin}
 use Rattle.kd_form.specs.declared.keys.RotorKeys.{RotorKeys}
 use Rattle.kd_form.specs.declared.keys.PinKeys.{PinKeys}
-
--- letters as they are written: as capital letters
-abbrev pub letters_text : List ℕ → List ℕ
-letters_text letters = map (λ letter. letter + 65) letters
 
 -- the words of the line
 abbrev pub key_words : Keys → List (List ℕ)

@@ -1,9 +1,9 @@
 -- What holds of orders and forms.
-use Rattle.std.specs.Prelude.{◌≡◌, ◌⊎◌, ℕ, List}
+use Rattle.std.specs.Prelude.{◌≡◌, ◌⊎◌, ℕ, List, ◌++◌}
 use Rattle.kd_state.specs.SheetDay.{Day, IsLegalDay}
 use Rattle.kd_form.specs.declared.fault.FormFault.{FormFault}
-use Rattle.kd_form.specs.Sending.{IsFormOf, HasForm, IsSendFault}
-use Rattle.kd_form.specs.FormText.{IsTextOf, IsReceiveFault, IsGivenOf}
+use Rattle.kd_form.specs.Sending.{IsFormOf, HasForm, StandsInOrder, IsSendFault}
+use Rattle.kd_form.specs.FormText.{IsTextOf, IsRefusedForGood, IsReceiveFault, IsGivenOf}
 
 -- an order becomes one form at most
 abbrev pub OrdersBecomeOneForm : Type 0
@@ -21,6 +21,11 @@ OrdersHaveOneFault = (s : Day) (order : List ℕ) (fault other : FormFault) → 
 abbrev pub OrderIsAnswered : Day → List ℕ → Type 0
 OrderIsAnswered s order = HasForm s order ⊎ ((fault : FormFault) × IsSendFault s order fault)
 
+-- what stands in an order is its fault whatever follows it
+abbrev pub OrdersStayRefused : Type 0
+OrdersStayRefused =
+    (s : Day) (order more : List ℕ) (fault : FormFault) → StandsInOrder s order fault → IsSendFault s (order ++ more) fault
+
 -- a form becomes one text at most
 abbrev pub FormsBecomeOneText : Type 0
 FormsBecomeOneText =
@@ -36,6 +41,12 @@ abbrev pub FormsHaveOneFault : Type 0
 FormsHaveOneFault =
     (s : Day) (form : List ℕ) (fault other : FormFault) → IsReceiveFault s form fault → IsReceiveFault s form other
     → fault ≡ other
+
+-- and what refuses a form for good also refuses it with any bytes behind it
+abbrev pub FormsStayRefused : Type 0
+FormsStayRefused =
+    (s : Day) (form more text : List ℕ) (fault : FormFault) → IsRefusedForGood s form text fault
+    → IsRefusedForGood s (form ++ more) text fault
 
 -- and each form has an answer
 abbrev pub FormIsAnswered : Day → List ℕ → Type 0

@@ -13,5 +13,8 @@ pub mod Receiving
 pub mod FormText
 pub mod Laws
 pub mod KeyPatterns
+pub mod FormReading
 pub mod Streams
 pub mod StreamSteps
+pub mod SendStream
+pub mod SendSteps

@@ -1,7 +1,7 @@
 -- What part of a form becomes of a piece of text and its keys.
 use Rattle.std.specs.Prelude.{◌≡◌, ℕ, ◌-◌, ◌%◌, List, [], ◌∷◌, ◌++◌, length, Any, IsPermutation, Option, Some, None, replicate}
 use Rattle.kd_state.specs.Machine.{AreOnWheels}
-use Rattle.kd_state.specs.SheetDay.{Day, OfRotors, OfPins}
+use Rattle.kd_state.specs.SheetDay.{Day, OfRotors, OfPins, AreOfAGroup}
 use Rattle.kd_state.specs.TwoCiphers.{cipher, key_with_window, sheet_key}
 use Rattle.kd_form.specs.declared.keys.Keys.{Keys}
 use Rattle.kd_form.specs.declared.keys.Keys.TheVariants.{Rotor, Pin}
@@ -14,15 +14,6 @@ use Rattle.kd_form.specs.Part.{Part, part_text}
 -- what the day's own machine makes of a text, if it shows these letters first
 abbrev pub cipher_from : Day → List ℕ → List ℕ → List ℕ
 cipher_from s window text = cipher (key_with_window (sheet_key s) window) text
-
--- the letters are those of one of the groups, in any order
-abbrev pub AreOfAGroup : List (List ℕ) → List ℕ → Type 0
-AreOfAGroup groups letters = Any (λ group. IsPermutation group letters) groups
-
--- and the group is one of the day's, which has groups on a rotor machine
-abbrev pub AreOfADaysGroup : Day → List ℕ → Type 0
-AreOfADaysGroup (OfRotors s) letters = AreOfAGroup s.groups letters
-AreOfADaysGroup (OfPins s) letters = ⊥
 
 -- the two letters of the sheet's list, which the Converter M-209 has
 abbrev pub list_letters : Day → List ℕ

@@ -3,10 +3,10 @@ use Rattle.std.specs.Prelude.{codes, decimal, ℕ, List, [], ◌∷◌, ◌++◌
 use Rattle.std.specs.List.{flat_map}
 use Rattle.std.specs.Int.{div_ceil}
 use Rattle.std.specs.Simd.{first_chunks}
+use Rattle.kd_tables.specs.Text.{letters_text}
 use Rattle.kd_state.specs.Words.{line_of}
 use Rattle.kd_form.specs.declared.heading.Heading.{Heading}
 use Rattle.kd_form.specs.declared.heading.Indicator.{Indicator}
-use Rattle.kd_form.specs.Keys.{letters_text}
 
 -- the letters in pieces of so many, of which the last may be shorter
 abbrev pub pieces : ℕ → List ℕ → List (List ℕ)

@@ -1,14 +1,14 @@
 -- What the letters of a part's body become: the letters of its text, or a fault. Parts are counted from 1.
 use Rattle.std.specs.Prelude.{◌≡◌, ◌≢◌, ◌⊎◌, ℕ, List, ◌∷◌, ◌++◌, length, slice_index, Option, Some, None}
 use Rattle.kd_state.specs.Machine.{AreLetters}
-use Rattle.kd_state.specs.SheetDay.{Day, OfRotors, OfPins}
+use Rattle.kd_state.specs.SheetDay.{Day, OfRotors, OfPins, AreOfADaysGroup}
 use Rattle.kd_state.specs.TwoCiphers.{sheet_key, IsWindow}
 use Rattle.kd_form.specs.declared.fault.FormFault.{FormFault}
 use Rattle.kd_form.specs.declared.fault.FormFault.TheVariants.{KeyNotOnWheel, WrongGroup, IndicatorSpent, IndicatorsDiffer}
 use Rattle.kd_form.specs.declared.keys.PinKeys.{PinKeys}
 use Rattle.kd_form.specs.declared.heading.Indicator.{Indicator}
 use Rattle.kd_form.specs.InternalKey.{IsInternalKey, HaveRunOut}
-use Rattle.kd_form.specs.Making.{cipher_from, AreOfADaysGroup, list_letters, enciphered_choice}
+use Rattle.kd_form.specs.Making.{cipher_from, list_letters, enciphered_choice}
 
 -- ---- rotor machines
 

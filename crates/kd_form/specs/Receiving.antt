@@ -1,5 +1,6 @@
 -- What one part of a form becomes: the letters of its text, or a fault. Parts are counted from 1, positions in bytes from 1.
 use Rattle.std.specs.Prelude.{◌≡◌, ◌≢◌, ◌⊎◌, ℕ, ◌+◌, ◌-◌, List, [], ◌++◌, length, All, IsTrue, Option, Some, None}
+use Rattle.kd_tables.specs.Text.{is_text_byte}
 use Rattle.kd_state.specs.SheetDay.{Day}
 use Rattle.kd_state.specs.Words.{line_of}
 use Rattle.kd_form.specs.declared.fault.FormFault.{FormFault}
@@ -7,7 +8,7 @@ use Rattle.kd_form.specs.declared.fault.FormFault.TheVariants.{BadByte, BadHeadi
 use Rattle.kd_form.specs.declared.heading.Heading.{Heading}
 use Rattle.kd_form.specs.Order.{IsEnded}
 use Rattle.kd_form.specs.Part.{heading_words}
-use Rattle.kd_form.specs.Sending.{is_text_byte, letters_from, IsBadAt}
+use Rattle.kd_form.specs.Sending.{letters_from, IsBadAt}
 use Rattle.kd_form.specs.Reading.{IsLettersText, IsLettersFault}
 use Rattle.kd_form.specs.FormParts.{IsHeading}
 
@@ -17,6 +18,10 @@ pub record HasHeading (s : Day) (part : List ℕ) (h : Heading) (body : List ℕ
   pub joined : part ≡ line ++ body
   pub ended : IsEnded (line_of (heading_words h)) line ⊎ ((line ≡ line_of (heading_words h)) × (body ≡ []))
   pub is_heading : IsHeading s h
+
+-- a body has as many letters as its heading says, and they become this text
+abbrev pub IsBodyText : Day → Heading → List ℕ → List ℕ → Type 0
+IsBodyText s h letters text = (length letters ≡ h.letters) × IsLettersText s h.indicator letters text
 
 -- the part is the one of that number, of so many, its body has as many letters as the heading says, and they become this text
 pub record IsPartRead (s : Day) (number parts : ℕ) (part text : List ℕ) : Type 0 where
@@ -34,18 +39,31 @@ abbrev pub IsExpected : Option ℕ → ℕ → Type 0
 IsExpected None parts = Unit {0}
 IsExpected (Some first) parts = first ≡ parts
 
--- The first of the reasons, for a part before which so many bytes of the form stand: it has no heading; it isn't the one of that
--- number, or the number of parts is another one; a byte of the body may not stand there; its letters are more or fewer; or
--- they are refused.
-pub data IsPartFault (s : Day) (number : ℕ) (expected : Option ℕ) (start : ℕ) (part : List ℕ) (fault : FormFault) : Type 0 where
-  InHeading : ((h : Heading) (body : List ℕ) → ¬ (HasHeading s part h body)) → fault ≡ BadHeading number → IsPartFault s number expected start part fault
+-- The first of the reasons that show as soon as they have come, for a part before which so many bytes of the form stand: it
+-- has no heading; it isn't the one of that number, or the number of parts is another one; or a byte of the body may not stand
+-- there.
+pub data IsEarlyFault (s : Day) (number : ℕ) (expected : Option ℕ) (start : ℕ) (part : List ℕ) (fault : FormFault) : Type 0 where
+  InHeading : ((h : Heading) (body : List ℕ) → ¬ (HasHeading s part h body)) → fault ≡ BadHeading number → IsEarlyFault s number expected start part fault
   InNumber : (h : Heading) (body : List ℕ) → HasHeading s part h body → (h.part ≢ number) ⊎ (¬ (IsExpected expected h.parts)) → fault ≡ PartOrder
-      → IsPartFault s number expected start part fault
+      → IsEarlyFault s number expected start part fault
   InBody : (h : Heading) (body : List ℕ) (place : ℕ) → HasHeading s part h body → h.part ≡ number → IsExpected expected h.parts → IsBadAt body place
-      → fault ≡ BadByte (start + (length part - length body) + place + 1) → IsPartFault s number expected start part fault
-  InCount : (h : Heading) (body : List ℕ) → HasHeading s part h body → h.part ≡ number → IsExpected expected h.parts
-      → All (λ b. IsTrue (is_text_byte b)) body → length (letters_from None body) ≢ h.letters → fault ≡ CountWrong number
-      → IsPartFault s number expected start part fault
-  InLetters : (h : Heading) (body : List ℕ) → HasHeading s part h body → h.part ≡ number → IsExpected expected h.parts
-      → All (λ b. IsTrue (is_text_byte b)) body → length (letters_from None body) ≡ h.letters
-      → IsLettersFault s number h.indicator (letters_from None body) fault → IsPartFault s number expected start part fault
+      → fault ≡ BadByte (start + (length part - length body) + place + 1) → IsEarlyFault s number expected start part fault
+
+-- the letters of a body are more or fewer than its heading says; or they are refused
+pub data IsBodyFault (s : Day) (number : ℕ) (h : Heading) (letters : List ℕ) (fault : FormFault) : Type 0 where
+  InCount : length letters ≢ h.letters → fault ≡ CountWrong number → IsBodyFault s number h letters fault
+  InLetters : length letters ≡ h.letters → IsLettersFault s number h.indicator letters fault → IsBodyFault s number h letters fault
+
+-- the reasons that only a whole part has: its letters are refused
+pub record IsLateFault (s : Day) (number : ℕ) (expected : Option ℕ) (part : List ℕ) (fault : FormFault) : Type 0 where
+  pub heading : Heading
+  pub body : List ℕ
+  pub has : HasHeading s part heading body
+  pub numbered : heading.part ≡ number
+  pub due : IsExpected expected heading.parts
+  pub allowed : All (λ b. IsTrue (is_text_byte b)) body
+  pub found : IsBodyFault s number heading (letters_from None body) fault
+
+-- the first of all reasons
+abbrev pub IsPartFault : Day → ℕ → Option ℕ → ℕ → List ℕ → FormFault → Type 0
+IsPartFault s number expected start part fault = IsEarlyFault s number expected start part fault ⊎ IsLateFault s number expected part fault

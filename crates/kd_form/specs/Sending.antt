@@ -1,26 +1,19 @@
 -- What an order becomes: a form, or the first fault. Parts are counted from 1, positions in bytes from 1.
-use Rattle.std.specs.Prelude.{◌≡◌, ◌≢◌, ℕ, ◌+◌, ◌-◌, ◌⊎◌, nat_le, Bool, ◌&&◌, ◌||◌, ◌==◌, List, [], ◌∷◌, ◌++◌, length, filter_map, All, IsTrue, IsFalse, Option, Some, None, if◌then◌else◌}
+use Rattle.std.specs.Prelude.{◌≡◌, ◌≢◌, ℕ, ◌+◌, ◌-◌, ◌≤◌, ◌⊎◌, nat_le, Bool, ◌&&◌, ◌||◌, ◌==◌, List, [], ◌∷◌, ◌++◌, length, filter_map, All, IsTrue, IsFalse, Option, Some, None, if◌then◌else◌}
 use Rattle.std.specs.Int.{div_ceil}
+use Rattle.kd_tables.specs.Text.{is_capital, is_text_byte}
 use Rattle.kd_state.specs.Machine.{AreOnWheels}
-use Rattle.kd_state.specs.SheetDay.{Day, OfRotors, OfPins}
+use Rattle.kd_state.specs.SheetDay.{Day, OfRotors, OfPins, AreOfAGroup}
 use Rattle.kd_form.specs.declared.fault.FormFault.{FormFault}
 use Rattle.kd_form.specs.declared.fault.FormFault.TheVariants.{BadByte, EmptyText, PartKeys, KeyNotOnWheel, WrongGroup, IndicatorSpent}
 use Rattle.kd_form.specs.declared.keys.Keys.{Keys}
 use Rattle.kd_form.specs.declared.keys.Keys.TheVariants.{Rotor, Pin}
 use Rattle.kd_form.specs.InternalKey.{HaveRunOut}
 use Rattle.kd_form.specs.Part.{pieces}
-use Rattle.kd_form.specs.Making.{Suits, IsMadeText, AreOfAGroup, enciphered_choice, part_size}
+use Rattle.kd_form.specs.Making.{Suits, IsMadeText, enciphered_choice, part_size}
 use Rattle.kd_form.specs.Order.{IsOrder, IsHeadFault}
 
 -- ---- the text of an order
-
--- a capital letter
-abbrev pub is_capital : ℕ → Bool
-is_capital byte = nat_le 65 byte && nat_le byte 90
-
--- what a text may have: capital letters, spaces, CR and LF
-abbrev pub is_text_byte : ℕ → Bool
-is_text_byte byte = is_capital byte || (byte == 32 || (byte == 13 || byte == 10))
 
 -- the letter that a space stands for: Z on the Converter M-209, and none on a rotor machine
 abbrev pub blank_of : Day → Option ℕ
@@ -72,18 +65,29 @@ pub record IsFirstKeysFault (s : Day) (keys : List Keys) (fault : FormFault) : T
   pub suited : All (Suits s) before
   pub is : IsKeysFault s (length before + 1) unsuited fault
 
--- The first of the reasons: in the lines up to the text; in the keys; in the bytes of the text; there is no letter; there
--- are not as many lines of keys as parts.
-pub data IsSendFault (s : Day) (order : List ℕ) (fault : FormFault) : Type 0 where
-  InHead : (position : ℕ) → IsHeadFault s order position → fault ≡ BadByte position → IsSendFault s order fault
-  InKeys : (keys : List Keys) (head text : List ℕ) → IsOrder s order keys head text → IsFirstKeysFault s keys fault → IsSendFault s order fault
-  InText : (keys : List Keys) (head text : List ℕ) (place : ℕ) → IsOrder s order keys head text → All (Suits s) keys → IsBadAt text place
-      → fault ≡ BadByte (length head + place + 1) → IsSendFault s order fault
+-- The refusal that an order shows, whatever follows it: in the lines up to the text; in the keys; or in the bytes of the text.
+pub data StandsInOrder (s : Day) (order : List ℕ) (fault : FormFault) : Type 0 where
+  InHead : (position : ℕ) → IsHeadFault s order position → position ≤ length order → fault ≡ BadByte position
+      → StandsInOrder s order fault
+  InKeys : (keys : List Keys) (head text : List ℕ) → IsOrder s order keys head text → IsFirstKeysFault s keys fault
+      → StandsInOrder s order fault
+  InText : (keys : List Keys) (head text : List ℕ) (place : ℕ) → IsOrder s order keys head text → All (Suits s) keys
+      → IsBadAt text place → fault ≡ BadByte (length head + place + 1) → StandsInOrder s order fault
+
+-- The refusal of an order at its end, in which nothing is refused before: it ends in the lines up to its text; there is no
+-- letter; or there are not as many lines of keys as parts.
+pub data EndsOrder (s : Day) (order : List ℕ) (fault : FormFault) : Type 0 where
+  Cut : IsHeadFault s order (length order + 1) → fault ≡ BadByte (length order + 1) → EndsOrder s order fault
   NoLetter : (keys : List Keys) (head text : List ℕ) → IsOrder s order keys head text → All (Suits s) keys
-      → All (λ b. IsTrue (is_text_byte b)) text → text_letters s text ≡ [] → fault ≡ EmptyText → IsSendFault s order fault
+      → All (λ b. IsTrue (is_text_byte b)) text → text_letters s text ≡ [] → fault ≡ EmptyText → EndsOrder s order fault
   InParts : (keys : List Keys) (head text : List ℕ) → IsOrder s order keys head text → All (Suits s) keys
-      → All (λ b. IsTrue (is_text_byte b)) text → text_letters s text ≢ [] → parts_needed s (length (text_letters s text)) ≢ length keys
-      → fault ≡ PartKeys (parts_needed s (length (text_letters s text))) (length keys) → IsSendFault s order fault
+      → All (λ b. IsTrue (is_text_byte b)) text → text_letters s text ≢ []
+      → parts_needed s (length (text_letters s text)) ≢ length keys
+      → fault ≡ PartKeys (parts_needed s (length (text_letters s text))) (length keys) → EndsOrder s order fault
+
+-- the first of the reasons
+abbrev pub IsSendFault : Day → List ℕ → FormFault → Type 0
+IsSendFault s order fault = StandsInOrder s order fault ⊎ EndsOrder s order fault
 
 -- ---- the form
 

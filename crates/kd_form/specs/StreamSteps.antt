@@ -1,5 +1,5 @@
 -- What the steps do in which a message is read as it comes. The contracts of the public calls do not speak of them.
-use Rattle.std.specs.Prelude.{◌≡◌, ◌⊎◌, ℕ, ◌+◌, ◌<◌, ◌≤◌, Bool, true, false, List, [], ◌∷◌, ◌++◌, length, Option, None, Some, Result, Ok, Err, MatchResult}
+use Rattle.std.specs.Prelude.{◌≡◌, ℕ, ◌+◌, ◌^◌, ◌<◌, ◌≤◌, Bool, true, false, ◌||◌, List, [], ◌∷◌, ◌++◌, length, Result, Ok, Err, MatchResult}
 use Rattle.std.specs.Io.{StartsWith}
 use Rattle.std.specs.Io.KnownBytes.{Appends, Consumes, IsAtEnd}
 use Rattle.kd_tables.specs.declared.limit.TheConstants.{READ_LIMIT}
@@ -14,6 +14,13 @@ use Rattle.kd_form.specs.Streams.{Message, IsOpen, IsRefused, Closes, Answers}
 pub record Held (m : Message) (holds : List ℕ → List ℕ → Type 0) (bytes text : List ℕ) : Type 0 where
   pub is : holds bytes text
   pub open_yet : IsOpen m bytes text
+
+-- the reader holds some bytes, and so many may follow them
+pub record HasRoom (m : Message) (holds : List ℕ → List ℕ → Type 0) (room : ℕ) : Type 0 where
+  pub bytes : List ℕ
+  pub text : List ℕ
+  pub held : Held m holds bytes text
+  pub within : length bytes + room < 2 ^ 63
 
 -- With one byte more, of which this text was made, the reader holds that byte too; or the bytes are refused with it.
 abbrev pub Feeds : Message → (List ℕ → List ℕ → Type 0) → (List ℕ → List ℕ → Type 0) → ℕ → List ℕ → Result (Unit {0}) FormFault → Type 0
@@ -75,6 +82,17 @@ pub record IsClosed (m : Message) (bytes text : List ℕ) (sink : Port) (answer 
 
 abbrev pub ClosesAt : Message → (List ℕ → List ℕ → Type 0) → Port → Result (Unit {0}) Stop → Type 0
 ClosesAt m old sink answer = (bytes text : List ℕ) → Held m old bytes text → IsClosed m bytes text sink answer
+
+-- the same, with the fault that is answered
+abbrev pub answer_to : Result (Unit {0}) Stop → Result (Unit {0}) FormFault
+answer_to (Ok _) = Ok tt
+answer_to (Err stop) = Err (fault_of stop)
+
+pub record ClosesAs (m : Message) (old : List ℕ → List ℕ → Type 0) (sink : Port) (answer : Result (Unit {0}) FormFault) : Type 0 where
+  pub told : Result (Unit {0}) Stop
+  pub ended : ClosesAt m old sink told
+  pub failed : sink.has_failed ≡ (sink.had_failed || stops_at_device told)
+  pub answers : answer ≡ answer_to told
 
 -- ---- a read
 

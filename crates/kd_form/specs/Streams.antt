@@ -1,11 +1,14 @@
 -- Orders and forms that are read as they come: what is answered, and what was written by then.
-use Rattle.std.specs.Prelude.{◌≡◌, ◌⊎◌, ℕ, ◌+◌, ◌≤◌, Bool, true, false, List, [], ◌∷◌, ◌++◌, length, Option, None, Some, Result, Ok, Err, MatchResult}
+use Rattle.std.specs.Prelude.{◌≡◌, ℕ, ◌≤◌, Bool, true, false, List, [], ◌∷◌, ◌++◌, length, Option, None, Some, Result, Ok, Err, MatchResult}
 use Rattle.std.specs.Io.{StartsWith}
 use Rattle.std.specs.Io.KnownBytes.{Appends, Consumes, IsAtEnd}
 use Rattle.kd_tables.specs.declared.limit.TheConstants.{READ_LIMIT}
 use Rattle.kd_tables.specs.Ports.{Port, IsWell, FailsAlone}
+use Rattle.kd_state.specs.declared.machine.parts.Parts.{Parts}
+use Rattle.kd_state.specs.SheetDay.{Day}
 use Rattle.kd_form.specs.declared.fault.FormFault.{FormFault}
 use Rattle.kd_form.specs.declared.fault.FormFault.TheVariants.{Device, ReadTooLong}
+use Rattle.kd_form.specs.OnTheKey.{IsOnKey, IsKeyFault}
 
 -- A kind of message, over its bytes: the refusal that they show whatever follows them; the refusal of the whole message; what it
 -- becomes; and what is written before that refusal, or before more bytes are had, where there is none.
@@ -72,3 +75,16 @@ pub record IsStreamed (m : Message) (source sink : Port) (answer : Result (Unit 
 abbrev pub is_device : Result (Unit {0}) FormFault → Bool
 is_device (Err Device) = true
 is_device _ = false
+
+-- ---- on the key
+
+-- nothing was read, or written, and nothing failed
+pub record IsLeft (p : Port) : Type 0 where
+  pub has : p.has ≡ p.had
+  pub well : IsWell p
+
+-- A machine that isn't ready and on the key is refused for that, and the ports are left. With one that is, the message is read and
+-- written.
+pub data StreamsOnKey (m : Parts) (s : Day) (message : Message) (source sink : Port) (answer : Result (Unit {0}) FormFault) : Type 0 where
+  Off : (fault : FormFault) → IsKeyFault m s fault → answer ≡ Err fault → IsLeft source → IsLeft sink → StreamsOnKey m s message source sink answer
+  On : IsOnKey m s → IsStreamed message source sink answer → StreamsOnKey m s message source sink answer

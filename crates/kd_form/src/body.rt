@@ -1,7 +1,7 @@
 //! How the letters of a part are written.
 ghost use Rattle.std.specs.Prelude.{◌≡◌, ◌+◌, ◌*◌, ◌≤◌, [], ◌++◌, length};
 ghost use Rattle.arrayvec.specs.ArrayString.{array_string_len};
-ghost use Rattle.kd_form.specs.Keys.{letters_text};
+ghost use Rattle.kd_tables.specs.Text.{letters_text};
 ghost use Rattle.kd_form.specs.Part.{body_text, groups_of, with_line};
 
 use arrayvec::ArrayString;

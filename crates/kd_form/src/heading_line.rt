@@ -1,10 +1,12 @@
 //! The line of a heading, read.
-ghost use Rattle.std.specs.Prelude.{◌≡◌, ◌≢◌, ◌⊎◌, ◌↔◌, ℕ, ◌^◌, ◌<◌, List, codes, decimal, map, IsTrue, MatchOption};
+ghost use Rattle.std.specs.Prelude.{◌≡◌, ◌≢◌, ◌⊎◌, ◌↔◌, ℕ, ◌^◌, ◌<◌, List, [], ◌∷◌, ◌++◌, codes, decimal, map, take, IsTrue, MatchOption};
+ghost use Rattle.kd_tables.specs.Text.{letters_text};
 ghost use Rattle.kd_state.specs.Machine.{AreLetters};
-ghost use Rattle.kd_state.specs.Words.{line_of};
-ghost use Rattle.kd_form.specs.Keys.{letters_text};
+ghost use Rattle.kd_state.specs.Words.{line_of, IsWithout};
+ghost use Rattle.kd_form.specs.declared.heading.Heading.{Heading};
 ghost use Rattle.kd_form.specs.Part.{fraction, indicator_words, heading_words};
-ghost use Rattle.kd_form.specs.FormParts.{IsFraction, AreFewLetters, IsLetterCount, IsHeading, AreHeadingWords, IsFirstLine};
+ghost use Rattle.kd_form.specs.Order.{IsEnded};
+ghost use Rattle.kd_form.specs.FormParts.{IsFraction, AreFewLetters, IsLetterCount, IsHeading, AreHeadingWords, IsLineText};
 ghost use Rattle.kd_form.specs.Reading.{HasIndicator};
 ghost use Rattle.kd_form.specs.Receiving.{HasHeading};
 
@@ -12,11 +14,11 @@ use super::cipher::are_letters;
 use super::heading::{Heading, Indicator};
 use super::key_line::slots_of;
 use arrayvec::ArrayVec;
-use itoa::Buffer;
 use kd_state::laws::{lines_tell_words, numbers_and_letters_are_words, texts_tell_first_parts};
-use kd_state::{PerSlot, SheetDay, number_of_text, split_once, split_words};
+use kd_state::{
+    PerSlot, SheetDay, number_of_text, split_once, split_words, wide_number_of_text,
+};
 use kd_tables::Letter;
-use std::str;
 
 /// Which part of how many the word says, if they are from 1 to 99.
 fn read_fraction(word: &[u8]) -> Option<(u8, u8)>
@@ -40,22 +42,11 @@ fn read_count(day: &SheetDay, word: &[u8]) -> Option<u16>
         ((count : ℕ) → IsLetterCount day.now count → decimal count ≢ word.now)
         (λ count. IsLetterCount day.now count × (decimal count ≡ word.now)) }
 {
-    let count = read_number(word)?;
+    let count = wide_number_of_text(word)?;
     if !is_letter_count(day, count) {
         return None;
     }
     Some(count)
-}
-
-/// The number that is written so: in decimal, without leading zeros and without a sign.
-fn read_number(word: &[u8]) -> Option<u16>
-    ensures { MatchOption result
-        ((count : ℕ) → count < 2 ^ 16 → decimal count ≢ word.now)
-        (λ count. decimal count ≡ word.now) }
-{
-    let count: u16 = str::from_utf8(word).ok()?.parse().ok()?;
-    let mut buffer = Buffer::new();
-    (buffer.format(count).as_bytes() == word).then_some(count)
 }
 
 /// The letters of the word, at most four.
@@ -164,27 +155,33 @@ fn heading_of_line(day: &SheetDay, line: &[u8]) -> Option<Heading>
     heading_of_words(day, words.as_slice())
 }
 
-/// The heading of the part, and its body.
-pub(crate) fn read_heading<'a>(day: &SheetDay, part: &'a [u8]) -> Option<(Heading, &'a [u8])>
-    ensures { MatchOption result
-        ((h : _) (body : List ℕ) → ¬ HasHeading day.now part.now h body)
-        (λ found. HasHeading day.now part.now found.0 found.1.now) }
+/// The heading of a part of which no more has come than its first line, without an LF: of that the first 64 bytes are given.
+pub(crate) fn heading_of_open(day: &SheetDay, line: &[u8]) -> Option<Heading>
+    ensures { (part : List ℕ) → IsWithout 10 part → line.now ≡ take 64 part → MatchOption result
+        ((h : Heading) (body : List ℕ) → ¬ HasHeading day.now part h body)
+        (λ h. HasHeading day.now part h []) }
 {
-    texts_tell_first_parts();
-    let (line, body) = split_line(part);
-    let heading = heading_of_line(day, line)?;
-    Some((heading, body))
+    let _slots = slots_of(day);
+    heading_of_line(day, line)
 }
 
-/// The first line without its end, and what follows it. The last line may lack its end.
-fn split_line(part: &[u8]) -> (&[u8], &[u8])
-    ensures { IsFirstLine part.now result.0.now result.1.now }
+/// The same of a line that has its LF, which is not given. A CR before it belongs to the line's end.
+pub(crate) fn heading_of_ended(day: &SheetDay, line: &[u8]) -> Option<Heading>
+    ensures { (part : List ℕ) → IsWithout 10 part → line.now ≡ take 64 part → MatchOption result
+        ((h : Heading) (body : List ℕ) → ¬ HasHeading day.now (part ++ 10 ∷ []) h body)
+        (λ h. IsHeading day.now h × IsEnded (line_of (heading_words h)) (part ++ 10 ∷ [])) }
 {
-    match split_once(part, b'\n') {
-        Some((line, body)) => match line {
-            [text @ .., b'\r'] => (text, body),
-            _ => (line, body),
-        },
-        None => part.split_at(part.len()),
+    texts_tell_first_parts();
+    let _slots = slots_of(day);
+    heading_of_line(day, without_return(line))
+}
+
+/// The line without the CR at its end, if it has one.
+fn without_return(line: &[u8]) -> &[u8]
+    ensures { IsLineText line.now result.now }
+{
+    match line {
+        [text @ .., b'\r'] => text,
+        _ => line,
     }
 }

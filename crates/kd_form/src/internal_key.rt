@@ -5,7 +5,7 @@ ghost use Rattle.kd_form.specs.InternalKey.{IsInternalKey, HaveRunOut};
 ghost use Rattle.kd_form.specs.Striking.{IsNextOnWheel, NoneIsOnWheel};
 
 use arrayvec::ArrayVec;
-use kd_tables::{Letter, ring1, ring2, ring3, ring4, ring5, ring6};
+use kd_tables::{Letter, place_on_wheel};
 
 /// The letters for the six wheels, taken in order from these: one that isn't on the wheel in turn is struck out. None where
 /// the letters run out.
@@ -45,16 +45,7 @@ fn next_on_wheel(wheel: u8, letters: &[Letter]) -> Option<(Letter, &[Letter])>
 
 /// Whether the letter is on the wheel of that number.
 fn is_on_wheel(wheel: u8, letter: Letter) -> bool
-    requires { (1 ≤ wheel) × (wheel ≤ 6) }
     ensures { IsTrue result ↔ Contains (ring_of wheel) letter }
 {
-    match wheel {
-        1 => ring1().place_of(letter).is_some(),
-        2 => ring2().place_of(letter).is_some(),
-        3 => ring3().place_of(letter).is_some(),
-        4 => ring4().place_of(letter).is_some(),
-        5 => ring5().place_of(letter).is_some(),
-        6 => ring6().place_of(letter).is_some(),
-        _ => unreachable!(),
-    }
+    place_on_wheel(wheel, letter).is_some()
 }

@@ -1,5 +1,5 @@
 //! The line of an order that gives the keys of a part.
-ghost use Rattle.std.specs.Prelude.{◌≡◌, ◌≤◌, ◌+◌, ◌⊎◌, ◌++◌, ◌∷◌, MatchOption, MatchResult};
+ghost use Rattle.std.specs.Prelude.{◌≡◌, ◌≤◌, ◌+◌, ◌⊎◌, List, ℕ, ◌++◌, ◌∷◌, length, MatchOption, MatchResult};
 ghost use Rattle.kd_state.specs.Machine.{AreLetters};
 ghost use Rattle.kd_form.specs.Keys.{AreKeys, AreRotorKeys, ArePinKeys};
 ghost use Rattle.kd_form.specs.Patterns.{blanks, LineBreaksOff};
@@ -26,12 +26,20 @@ pub(crate) fn read_keys<'a>(day: &SheetDay, bytes: &'a [u8]) -> Result<(Keys, &'
 fn key_pattern(day: &SheetDay) -> &'static [u8]
     ensures pattern { result.now ≡ key_pattern day.now }
     ensures few { blanks (key_pattern day.now) ≤ 13 }
+    ensures short { length (key_pattern day.now) ≤ 21 }
 {
     match slots_of(day) {
         Some(3) => b"PART ___ ___ __ ___",
         Some(_) => b"PART ____ ____ __ ___",
         None => b"PART _ ______",
     }
+}
+
+/// No line of keys is longer than 23 bytes, with its end.
+pub(crate) fn key_lines_are_short(day: &SheetDay)
+    ensures { (line : List ℕ) → IsAnyKeyLine day.now line → length line ≤ 23 }
+{
+    let _pattern = key_pattern(day);
 }
 
 /// How many slots the day's machine has; none on the Converter M-209.

@@ -1,12 +1,13 @@
 //! What holds of orders and forms.
 ghost use Rattle.kd_form.specs.Laws.{OrderIsAnswered, FormIsAnswered};
 ghost use Rattle.kd_form.specs.Laws.{OrdersBecomeOneForm, OrdersHaveOneFault, SentOrdersHaveNoFault};
-ghost use Rattle.kd_form.specs.Laws.{FormsBecomeOneText, FormsHaveOneFault, ReceivedFormsHaveNoFault};
+ghost use Rattle.kd_form.specs.Laws.{OrdersStayRefused};
+ghost use Rattle.kd_form.specs.Laws.{FormsBecomeOneText, FormsHaveOneFault, ReceivedFormsHaveNoFault, FormsStayRefused};
 ghost use Rattle.kd_form.specs.Laws.{OrdersGiveLetters, FormsGiveTheirOrders};
 
-use super::form_part::split_part;
-use super::reading::read_part;
-use super::sending::read_order;
+use super::form_reader::FormReader;
+use super::order_reader::OrderReader;
+use super::stream::whole::judge;
 use kd_state::SheetDay;
 use kd_state::laws::{
     numbers_and_letters_are_words, texts_tell_first_parts, the_day_deciphers_itself,
@@ -25,10 +26,16 @@ pub fn orders_have_one_answer()
 pub fn orders_have_an_answer(day: &SheetDay, order: &[u8])
     ensures { OrderIsAnswered day.now order.now }
 {
-    match read_order(day, order) {
-        Ok(_) => {}
+    match judge::<OrderReader>(day, order) {
+        Ok(()) => {}
         Err(_) => {}
     }
+}
+
+/// What an order is refused for whatever follows it, it is refused for with any bytes behind it.
+pub fn orders_stay_refused()
+    ensures { OrdersStayRefused }
+{
 }
 
 /// A form becomes one text, or has one fault, and never both.
@@ -41,26 +48,19 @@ pub fn forms_have_one_answer()
     numbers_and_letters_are_words();
 }
 
+/// What refuses a form for good also refuses it with any bytes behind it.
+pub fn forms_stay_refused()
+    ensures { FormsStayRefused }
+{
+    texts_tell_first_parts();
+    numbers_and_letters_are_words();
+}
+
 /// Every form has an answer. To see it, the form is read.
 pub fn forms_have_an_answer(day: &SheetDay, form: &[u8])
     ensures { FormIsAnswered day.now form.now }
 {
-    let mut expected = None;
-    let mut number = 1;
-    let mut rest = form;
-    loop {
-        let (part, after) = split_part(rest);
-        let read = match read_part(day, number, &expected, form.len() - rest.len(), part) {
-            Ok(read) => read,
-            Err(_) => return,
-        };
-        if after.is_empty() {
-            return;
-        }
-        expected = Some(read.parts);
-        number += 1;
-        rest = after;
-    }
+    let _answer = judge::<FormReader>(day, form);
 }
 
 /// An order that becomes a form gives letters, and its form becomes these: on the Converter M-209 with the X that fill the last

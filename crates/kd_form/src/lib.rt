@@ -4,15 +4,18 @@
 mod body;
 mod cipher;
 mod fault;
-mod form_part;
+mod form_reader;
+mod given;
 mod heading;
 mod heading_line;
 mod internal_key;
+mod keeping;
 mod key_line;
 mod keys;
 pub mod laws;
 mod making;
-mod order;
+mod order_reader;
+mod part_body;
 mod pattern_line;
 mod reading;
 mod receiving;
@@ -24,5 +27,5 @@ mod tests;
 mod text;
 
 pub use fault::FormFault;
-pub use receiving::receive;
-pub use sending::send;
+pub use receiving::{receive, receive_stream};
+pub use sending::{send, send_stream};

@@ -2,17 +2,14 @@
 ghost use Rattle.std.specs.Prelude.{◌≡◌, ◌+◌, ◌^◌, ◌<◌, ◌≤◌, ◌↔◌, Some, length, IsTrue, MatchResult};
 ghost use Rattle.kd_form.specs.Reading.{HasIndicator, IsLettersText, IsLettersFault, IsRotorText, IsRotorFault, IsPinText, IsPinFault};
 ghost use Rattle.kd_form.specs.KeyPatterns.{HasPins};
-ghost use Rattle.kd_form.specs.FormParts.{IsLetterCount};
-ghost use Rattle.kd_form.specs.Receiving.{IsExpected, IsPartRead, IsPartFault};
+ghost use Rattle.kd_form.specs.FormParts.{IsHeading, IsLetterCount};
+ghost use Rattle.kd_form.specs.Receiving.{IsBodyText, IsBodyFault};
 
 use super::cipher::{are_letters, enciphered, is_window};
 use super::fault::FormFault;
-use super::heading::Indicator;
-use super::heading_line::read_heading;
+use super::heading::{Heading, Indicator};
 use super::key_line::{pin_keys, slots_of};
 use super::making::internal_key_of;
-use super::suiting::are_of_the_day;
-use super::text::{count_letters, take_piece};
 use arrayvec::ArrayVec;
 use kd_state::SheetDay;
 use kd_tables::Letter;
@@ -35,7 +32,7 @@ fn read_rotor_letters(
     let (fillers, rest) = letters.split_at(2);
     let (group, text) = rest.split_at(3);
     let group = <[Letter; 3]>::try_from(group).unwrap();
-    if !are_of_the_day(day, group) {
+    if !day.has_group(group) {
         return Err(FormFault::WrongGroup(part));
     }
     let key = enciphered::<4>(day, indicator.start.as_slice(), indicator.key.as_slice());
@@ -107,62 +104,19 @@ fn read_letters(
     }
 }
 
-/// What a part is read as: of how many parts it is, and the letters of its text.
-#[derive(Drop)]
-pub(crate) struct PartText {
-    pub(crate) parts: u8,
-    pub(crate) letters: ArrayVec<Letter, 500>,
-}
-
-/// The text of the part of that number, before which so many bytes of the form stand. The first part says of how many parts
-/// the form is.
-pub(crate) fn read_part(
+/// The letters of the text of a part that has this heading and these letters in its body, or more than a body has.
+pub(crate) fn read_body(
     day: &SheetDay,
-    number: u8,
-    expected: &Option<u8>,
-    start: usize,
-    part: &[u8],
-) -> Result<PartText, FormFault>
-    requires { start + length part.now < 2 ^ 63 }
+    heading: &Heading,
+    letters: &[Letter],
+) -> Result<ArrayVec<Letter, 500>, FormFault>
+    requires { IsHeading day.now heading.now }
     ensures { MatchResult result
-        (λ read. IsPartRead day.now number read.parts part.now read.letters.items
-        × IsExpected expected.now read.parts)
-        (IsPartFault day.now number expected.now start part.now) }
+        (λ text. IsBodyText day.now heading.now letters.now text.items)
+        (IsBodyFault day.now heading.now.part heading.now letters.now) }
 {
-    let Some((heading, body)) = read_heading(day, part) else {
-        return Err(FormFault::BadHeading(number));
-    };
-    if heading.part != number {
-        return Err(FormFault::PartOrder);
+    if letters.len() != heading.letters {
+        return Err(FormFault::CountWrong(heading.part));
     }
-    if !is_expected(expected, heading.parts) {
-        return Err(FormFault::PartOrder);
-    }
-    let count = match count_letters(None, body) {
-        Ok(count) => count,
-        Err(place) => {
-            return Err(FormFault::BadByte(start + (part.len() - body.len()) + place + 1));
-        }
-    };
-    if count != heading.letters {
-        return Err(FormFault::CountWrong(number));
-    }
-    let (letters, _) = take_piece(None, 520, body);
-    match read_letters(day, number, &heading.indicator, letters.as_slice()) {
-        Ok(letters) => Ok(PartText {
-            parts: heading.parts,
-            letters,
-        }),
-        Err(fault) => Err(fault),
-    }
-}
-
-/// Whether the number of parts is the first part's, if there was one.
-fn is_expected(expected: &Option<u8>, parts: u8) -> bool
-    ensures { IsTrue result ↔ IsExpected expected.now parts }
-{
-    match expected {
-        Some(first) => *first == parts,
-        None => true,
-    }
+    read_letters(day, heading.part, &heading.indicator, letters)
 }

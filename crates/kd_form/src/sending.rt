@@ -1,20 +1,19 @@
 //! The form that an order becomes.
-ghost use Rattle.std.specs.Prelude.{◌≡◌, ◌≤◌, length, All, IfOk, MatchResult};
-ghost use Rattle.kd_form.specs.Keys.{AreKeys};
-ghost use Rattle.kd_form.specs.Part.{pieces};
-ghost use Rattle.kd_form.specs.Making.{Suits, part_size};
-ghost use Rattle.kd_form.specs.Sending.{parts_needed, text_letters, IsSendFault, CanBeSent, AreMadeTexts, IsFormOf, HasForm};
+ghost use Rattle.std.specs.Prelude.{◌≡◌, ◌≤◌, MatchResult};
+ghost use Rattle.kd_tables.specs.Ports.{Fail, port};
+ghost use Rattle.kd_form.specs.Making.{part_size};
+ghost use Rattle.kd_form.specs.Sending.{IsSendFault, IsFormOf, HasForm};
+ghost use Rattle.kd_form.specs.SendStream.{orders};
+ghost use Rattle.kd_form.specs.Streams.{StreamsOnKey, is_device};
 ghost use Rattle.kd_form.specs.OnTheKey.{IsOnKey, IsKeyFault, AnswersOnKey};
 
 use super::fault::FormFault;
-use super::keys::Keys;
-use super::making::make_part;
-use super::order::read_head;
-use super::suiting::check_keys;
-use super::text::{blank_of, count_letters, take_piece};
-use arrayvec::ArrayVec;
+use super::order_reader::OrderReader;
+use super::stream::stream;
+use super::stream::whole::bytes_of;
 use kd_state::{Machine, SheetDay};
-use std::alloc::{AllocError, Global};
+use kd_tables::{Sink, Source};
+use std::alloc::Global;
 
 /// The form that the order becomes on a machine that is on the day's key.
 ///
@@ -30,77 +29,41 @@ pub fn send(
         (λ form. IsFormOf day.now order.now form.items)
         (IsSendFault day.now order.now) (HasForm day.now order.now) result }
 {
-    check_machine(machine, day)?;
-    let (keys, text) = read_order(day, order)?;
-    let form = write_parts(alloc, day, keys.as_slice(), text)?;
-    Ok(form)
+    match check_machine(machine, day) {
+        Ok(()) => bytes_of::<OrderReader>(alloc, day, order),
+        Err(fault) => Err(fault),
+    }
 }
 
-/// The keys and the text of an order that can be sent.
-pub(crate) fn read_order<'a>(
+/// Reads an order from the source as it comes, and writes the form that it becomes on a machine that is on the day's key, part
+/// by part. It holds one part, and takes no memory.
+///
+/// `NotReady` and `NotOnKey` come first, and then nothing is read or written. What the bytes show whatever follows comes before
+/// `Device` and `ReadTooLong`; what the end of the order shows comes at the end of the source. A part is written once a letter
+/// has come for the next one, so a part may be out when the order is refused. At most 1,048,576 bytes are read, and one more to
+/// see that there are more.
+pub fn send_stream<R: Source, W: Sink>(
+    machine: &Machine,
     day: &SheetDay,
-    order: &'a [u8],
-) -> Result<(ArrayVec<Keys, 99>, &'a [u8]), FormFault>
-    ensures { MatchResult result
-        (λ found. CanBeSent day.now order.now found.0.items found.1.now)
-        (IsSendFault day.now order.now) }
+    source: &mut R,
+    sink: &mut W,
+) -> Result<(), FormFault>
+    ensures streamed { StreamsOnKey machine.now day.now (orders day.now)
+        (port R.remaining R.has_failed source.old source.new)
+        (port W.taken W.has_failed sink.old sink.new) result }
+    ensures off_key { ¬ (IsOnKey machine.now day.now)
+        → (source.new ≡ source.old) × (sink.new ≡ sink.old) }
+    ensures failed { Fail (port R.remaining R.has_failed source.old source.new)
+        (port W.taken W.has_failed sink.old sink.new) (is_device result) }
 {
-    let (keys, text) = match read_head(day, order) {
-        Ok(found) => found,
-        Err(position) => return Err(FormFault::BadByte(position)),
-    };
-    match check_keys(day, keys.as_slice()) {
-        Ok(()) => {}
-        Err(fault) => return Err(fault),
+    match check_machine(machine, day) {
+        Ok(()) => stream::<OrderReader, R, W>(day, source, sink),
+        Err(fault) => Err(fault),
     }
-    let letters = match count_letters(blank_of(day), text) {
-        Ok(letters) => letters,
-        Err(place) => {
-            return Err(FormFault::BadByte(order.len() - text.len() + place + 1));
-        }
-    };
-    if letters == 0 {
-        return Err(FormFault::EmptyText);
-    }
-    let needed = letters.div_ceil(part_size(day));
-    let given = keys.len();
-    if needed != given {
-        return Err(FormFault::PartKeys { needed, given });
-    }
-    Ok((keys, text))
-}
-
-/// The parts of the form, one after another.
-fn write_parts(
-    alloc: Global,
-    day: &SheetDay,
-    keys: &[Keys],
-    text: &[u8],
-) -> Result<Vec<u8>, AllocError>
-    requires keys { All (AreKeys day.now) keys.now }
-    requires suited { All (Suits day.now) keys.now }
-    requires few { length keys.now ≤ 99 }
-    requires counted { parts_needed day.now (length (text_letters day.now text.now))
-        ≡ length keys.now }
-    ensures { let letters = text_letters day.now text.now in IfOk result (λ form.
-        AreMadeTexts day.now 1 (length keys.now) keys.now (pieces (part_size day.now) letters) form.items) }
-{
-    let parts = keys.len() as u8;
-    let mut part = 1;
-    let mut rest = text;
-    let mut form = Vec::new(alloc);
-    for keys in keys {
-        let (letters, after) = take_piece(blank_of(day), part_size(day), rest);
-        let one = make_part(day, part, parts, keys, letters.as_slice());
-        form.extend_from_slice(one.as_str().as_bytes())?;
-        part += 1;
-        rest = after;
-    }
-    Ok(form)
 }
 
 /// How many letters of the text a part has at most.
-fn part_size(day: &SheetDay) -> usize
+pub(crate) fn part_size(day: &SheetDay) -> usize
     ensures value { result ≡ part_size day.now }
     ensures some { 245 ≤ result }
     ensures few { result ≤ 500 }

@@ -11,7 +11,7 @@ pub(crate) mod whole;
 use super::fault::FormFault;
 use kd_state::SheetDay;
 use kd_tables::{READ_LIMIT, Sink, Source, is_at_end};
-use piece::{finish, read_next};
+use piece::{close, read_next};
 use reader::MessageReader;
 
 /// Reads a message from the source to its end, and writes what becomes of it, part by part.
@@ -26,16 +26,15 @@ pub(crate) fn stream<M: MessageReader + Drop, R: Source, W: Sink>(
     let mut reader = M::start(day);
     let mut read = 0;
     while read < READ_LIMIT {
-        let count = read_next(&mut reader, day, source, sink, READ_LIMIT - read)?;
-        if count == 0 {
-            finish(&mut reader, day, sink)?;
-            return Ok(());
+        match read_next(&mut reader, day, source, sink, READ_LIMIT - read) {
+            Ok(0) => return close(&mut reader, day, sink),
+            Ok(count) => read += count,
+            Err(stop) => return Err(FormFault::from(stop)),
         }
-        read += count;
     }
-    if is_at_end(source)? {
-        finish(&mut reader, day, sink)?;
-        return Ok(());
+    match is_at_end(source) {
+        Ok(true) => close(&mut reader, day, sink),
+        Ok(false) => Err(FormFault::ReadTooLong),
+        Err(_) => Err(FormFault::Device),
     }
-    Err(FormFault::ReadTooLong)
 }

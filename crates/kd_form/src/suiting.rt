@@ -1,7 +1,7 @@
 //! Whether the keys of an order suit the day.
-ghost use Rattle.std.specs.Prelude.{◌↔◌, ◌≤◌, length, All, IsPermutation, IsTrue, MatchResult};
+ghost use Rattle.std.specs.Prelude.{◌≤◌, length, All, MatchResult};
 ghost use Rattle.kd_form.specs.Keys.{AreKeys};
-ghost use Rattle.kd_form.specs.Making.{Suits, AreOfADaysGroup};
+ghost use Rattle.kd_form.specs.Making.{Suits};
 ghost use Rattle.kd_form.specs.Sending.{IsKeysFault, IsFirstKeysFault};
 
 use super::cipher::is_window;
@@ -9,7 +9,6 @@ use super::fault::FormFault;
 use super::keys::{Keys, PinKeys};
 use super::making::internal_key_of;
 use kd_state::SheetDay;
-use kd_tables::Letter;
 
 /// Refuses the first keys that don't suit the day.
 pub(crate) fn check_keys(day: &SheetDay, keys: &[Keys]) -> Result<(), FormFault>
@@ -38,7 +37,7 @@ fn check_part(day: &SheetDay, part: u8, keys: &Keys) -> Result<(), FormFault>
 {
     match keys {
         Keys::Rotor(keys) => {
-            if are_of_the_day(day, keys.group) {
+            if day.has_group(keys.group) {
                 Ok(())
             } else {
                 Err(FormFault::WrongGroup(part))
@@ -62,24 +61,4 @@ fn check_pin_keys(day: &SheetDay, part: u8, keys: &PinKeys) -> Result<(), FormFa
         Some(_) => Ok(()),
         None => Err(FormFault::IndicatorSpent(part)),
     }
-}
-
-/// Whether the letters are those of one of the day's groups, in any order.
-pub(crate) fn are_of_the_day(day: &SheetDay, letters: [Letter; 3]) -> bool
-    ensures { IsTrue result ↔ AreOfADaysGroup day.now letters }
-{
-    match day.groups() {
-        Some(groups) => groups.iter().any(|group| are_reordered(*group, letters)),
-        None => false,
-    }
-}
-
-/// Whether these are the same letters, each as often, in any order.
-fn are_reordered(group: [Letter; 3], letters: [Letter; 3]) -> bool
-    ensures { IsTrue result ↔ IsPermutation group letters }
-{
-    let (mut group, mut letters) = (group, letters);
-    group.sort_unstable();
-    letters.sort_unstable();
-    group == letters
 }

@@ -1,7 +1,8 @@
 //! The text of an order: capital letters and spaces, with line ends anywhere.
 ghost use Rattle.std.specs.Prelude.{◌≡◌, ◌+◌, ◌≤◌, ◌<◌, ◌++◌, length, take, drop, All, IsTrue, MatchResult};
 ghost use Rattle.std.specs.Option.{option_to_list};
-ghost use Rattle.kd_form.specs.Sending.{blank_of, is_text_byte, letter_of_byte, letters_from, IsBadAt};
+ghost use Rattle.kd_tables.specs.Text.{is_text_byte};
+ghost use Rattle.kd_form.specs.Sending.{blank_of, letter_of_byte, letters_from, IsBadAt};
 
 use arrayvec::ArrayVec;
 use kd_state::SheetDay;
@@ -67,7 +68,7 @@ fn push_letter(letters: &mut ArrayVec<Letter, 520>, letter: Option<Letter>)
 }
 
 /// The letter that a byte of the text gives, where a space stands for that.
-fn letter_of_byte(blank: &Option<Letter>, byte: u8) -> Option<Letter>
+pub(crate) fn letter_of_byte(blank: &Option<Letter>, byte: u8) -> Option<Letter>
     ensures { result ≡ letter_of_byte blank.now byte }
 {
     if byte == b' ' {

@@ -4,9 +4,10 @@ use Rattle.std.specs.List.{concat}
 use Rattle.std.proofs.lemmas.List.{append_assoc, append-nil}
 use Rattle.kd_tables.specs.declared.wheel.Wheel.{Wheel}
 use Rattle.kd_tables.specs.Tables.{reflector_text}
+use Rattle.kd_tables.specs.Text.{letters_text}
 use Rattle.kd_state.specs.declared.machine.rotor_parts.RotorParts.{RotorParts}
 use Rattle.kd_state.specs.declared.machine.parts.Parts.TheVariants.{Rotor}
-use Rattle.kd_sheet.specs.MachineText.{quoted, listed, key_line, letters_text, seat_text, cable_text, head_lines, machine_text}
+use Rattle.kd_sheet.specs.MachineText.{quoted, listed, key_line, seat_text, cable_text, head_lines, machine_text}
 use Rattle.kd_sheet.specs.declared.key.Key.TheVariants as keys
 
 concat-push : (lines : List (List ℕ)) (line : List ℕ) → concat (lines ++ line ∷ []) ≡ concat lines ++ line

@@ -4,11 +4,12 @@ use Rattle.std.specs.List.{list_all, filter_map, flat_map}
 use Rattle.std.specs.Option.{option_and_then, option_map_or}
 use Rattle.toml.specs.Data.{Data, Members, get_member, as_str}
 use Rattle.kd_tables.specs.Tables.{letters_of}
+use Rattle.kd_tables.specs.Text.{is_capital}
 use Rattle.kd_state.specs.Setting.{has_letter}
 use Rattle.kd_state.specs.TwoCiphers.{both_ends}
 use Rattle.kd_sheet.specs.Document.{◌>>=◌, ◌>>◌, all_values, demand, given_earlier, value_at, items_in}
 use Rattle.kd_sheet.specs.Key.{key_name}
-use Rattle.kd_sheet.specs.Letters.{is_capital, capital_letters}
+use Rattle.kd_sheet.specs.Letters.{capital_letters}
 use Rattle.kd_sheet.specs.declared.key.Key.{Key}
 use Rattle.kd_sheet.specs.declared.key.Key.TheVariants as keys
 use Rattle.kd_sheet.specs.declared.fault.SheetFault.{SheetFault}

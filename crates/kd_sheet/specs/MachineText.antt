@@ -8,6 +8,7 @@ use Rattle.kd_tables.specs.Tables.{model_text, reflector_text, wheel_text}
 use Rattle.kd_tables.specs.declared.model.Model.{Model}
 use Rattle.kd_tables.specs.declared.model.Model.TheVariants.{M4, M209}
 use Rattle.kd_tables.specs.declared.wheel.Wheel.{Wheel}
+use Rattle.kd_tables.specs.Text.{letters_text}
 use Rattle.kd_pins.specs.declared.pin_set.PinSet.{PinSet}
 use Rattle.kd_state.specs.Machine.{cable_letters}
 use Rattle.kd_state.specs.declared.machine.rotor_parts.RotorParts.{RotorParts}
@@ -29,10 +30,6 @@ listed texts = codes "[" ++ join_by quoted (codes ", ") texts ++ codes "]"
 -- a line with a key and its value
 abbrev pub key_line : Key → List ℕ → List ℕ
 key_line key value = key_name key ++ codes " = " ++ value ++ codes "\n"
-
--- the capital letters of letters
-abbrev pub letters_text : List ℕ → List ℕ
-letters_text letters = map (λ letter. letter + 65) letters
 
 -- the version in which a file with the model is written
 abbrev pub version_of : Model → ℕ

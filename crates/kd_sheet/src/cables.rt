@@ -3,9 +3,9 @@ ghost use Rattle.std.specs.Prelude.{◌≡◌, ◌≤◌, ◌<◌, ◌&&◌, nat
 ghost use Rattle.std.specs.List.{IsDistinct};
 ghost use Rattle.std.specs.Option.{option_map};
 ghost use Rattle.toml.specs.View.{view, table_view};
+ghost use Rattle.kd_tables.specs.Text.{is_capital};
 ghost use Rattle.kd_state.specs.Machine.{cable_letters, plugged_letters, AreCables};
 ghost use Rattle.kd_state.specs.Setting.{has_letter};
-ghost use Rattle.kd_sheet.specs.Letters.{is_capital};
 ghost use Rattle.kd_sheet.specs.Cables.{may_have, plugged_letters_in, letters_of_item, are_new, cable_of, cable_for, thirteen_of, all_cables_in, cables_in};
 
 use super::document::{find_at, items_in};

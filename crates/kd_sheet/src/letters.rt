@@ -1,8 +1,9 @@
 //! Texts of capital letters.
 ghost use Rattle.std.specs.Prelude.{◌≡◌, ◌-◌, ◌<◌, length, All, None, Some, IfSome, if◌then◌else◌};
 ghost use Rattle.kd_tables.specs.Tables.{box_of, slots_of};
+ghost use Rattle.kd_tables.specs.Text.{is_capital};
 ghost use Rattle.kd_state.specs.Machine.{AreLetters};
-ghost use Rattle.kd_sheet.specs.Letters.{is_capital, capital_letters};
+ghost use Rattle.kd_sheet.specs.Letters.{capital_letters};
 
 use kd_state::{PerSlot, PerWheel};
 use kd_tables::{Letter, Model};

@@ -4,8 +4,9 @@ ghost use Rattle.std.specs.List.{concat};
 ghost use Rattle.arrayvec.specs.ArrayString.{array_string_len};
 ghost use Rattle.kd_tables.specs.Places.{figure};
 ghost use Rattle.kd_tables.specs.Writing.{Writes};
+ghost use Rattle.kd_tables.specs.Text.{letters_text};
 ghost use Rattle.kd_state.specs.Machine.{IsLegalRotor, IsLegalPin};
-ghost use Rattle.kd_sheet.specs.MachineText.{letters_text, version_of, pin_text, pins_text, pin_texts, head_lines, machine_text};
+ghost use Rattle.kd_sheet.specs.MachineText.{version_of, pin_text, pins_text, pin_texts, head_lines, machine_text};
 
 use super::item_text::Item;
 use super::key::Key;

@@ -15,18 +15,6 @@ use Rattle.kd_state.specs.Setting.{has_letter}
 use Rattle.kd_state.proofs.Slots.{is_numbered, numbered_at}
 use Rattle.kd_state.proofs.Wheels.{first_within, first_nowhere}
 
--- there are six wheels
-pub no_ring : (wheel : ℕ) → wheel ≢ 1 → wheel ≢ 2 → wheel ≢ 3 → wheel ≢ 4 → wheel ≢ 5 → wheel ≢ 6 → ring_of wheel ≡ []
-unfolding ring_of
-no_ring zero a b c d e f = refl
-no_ring (suc zero) a b c d e f = absurd (a refl)
-no_ring (suc (suc zero)) a b c d e f = absurd (b refl)
-no_ring (suc (suc (suc zero))) a b c d e f = absurd (c refl)
-no_ring (suc (suc (suc (suc zero)))) a b c d e f = absurd (d refl)
-no_ring (suc (suc (suc (suc (suc zero))))) a b c d e f = absurd (e refl)
-no_ring (suc (suc (suc (suc (suc (suc zero)))))) a b c d e f = absurd (f refl)
-no_ring (suc (suc (suc (suc (suc (suc (suc wheel))))))) a b c d e f = refl
-
 -- the letter is one of these, and has a place then
 pub has_letter-Decides : (letters : List ℕ) (letter : ℕ) → Decides (has_letter letters letter) (Contains letters letter)
 has_letter-Decides letters letter =

@@ -1,5 +1,5 @@
 -- A day of a key sheet: an entry's values, and which values an accepted entry has.
-use Rattle.std.specs.Prelude.{◌≡◌, ℕ, ◌<◌, ◌≤◌, List, length, map, All, Contains, Option, Some, None}
+use Rattle.std.specs.Prelude.{◌≡◌, ℕ, ◌<◌, ◌≤◌, List, length, map, All, Any, Contains, IsPermutation, Option, Some, None}
 use Rattle.std.specs.Option.{option_map}
 use Rattle.kd_tables.specs.declared.model.Model.{Model}
 use Rattle.kd_tables.specs.declared.model.Model.TheVariants.{M209}
@@ -111,3 +111,12 @@ sheet_wheel (OfPins s) slot = None
 abbrev pub shown_letter : Day → ℕ → Option ℕ
 shown_letter (OfRotors s) slot = option_map (λ w. w.letter) (numbered s.wheels slot)
 shown_letter (OfPins s) wheel = numbered s.window wheel
+
+-- the letters are those of one of the groups, in any order
+abbrev pub AreOfAGroup : List (List ℕ) → List ℕ → Type 0
+AreOfAGroup groups letters = Any (λ group. IsPermutation group letters) groups
+
+-- and the group is one of the day's, which has groups on a rotor machine
+abbrev pub AreOfADaysGroup : Day → List ℕ → Type 0
+AreOfADaysGroup (OfRotors s) letters = AreOfAGroup s.groups letters
+AreOfADaysGroup (OfPins s) letters = ⊥

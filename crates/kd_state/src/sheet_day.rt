@@ -29,9 +29,9 @@ impl std::marker::Model for SheetDay {
 }
 
 impl SheetDay {
-    ghost use Rattle.std.specs.Prelude.{◌≡◌, ◌↔◌, ◌≤◌, length, IsSome, IfSome};
+    ghost use Rattle.std.specs.Prelude.{◌≡◌, ◌↔◌, ◌≤◌, length, IsTrue, IsSome, IfSome};
     ghost use Rattle.std.specs.Option.{option_copied, option_map};
-    ghost use Rattle.kd_state.specs.SheetDay.{OfRotors, OfPins, IsLegalDay, IsLegalRotorDay, IsLegalPinDay, IsDayNumber};
+    ghost use Rattle.kd_state.specs.SheetDay.{OfRotors, OfPins, IsLegalDay, IsLegalRotorDay, IsLegalPinDay, IsDayNumber, AreOfADaysGroup};
     ghost use Rattle.kd_state.specs.SheetDay.{day_number, day_model, rotor_day, pin_day, sheet_wheel, shown_letter};
     ghost use Rattle.kd_state.specs.Entry.{values_of};
 
@@ -205,6 +205,16 @@ impl SheetDay {
         match &self.entry {
             Entry::Rotor(entry) => Some(entry.groups.as_slice()),
             Entry::Pin(_) => None,
+        }
+    }
+
+    /// Whether these are the letters of one of the day's groups, in any order; no letters are on the Converter M-209.
+    pub fn has_group(&self, letters: [Letter; 3]) -> bool
+        ensures { IsTrue result ↔ AreOfADaysGroup self.now letters }
+    {
+        match &self.entry {
+            Entry::Rotor(entry) => entry.has_group(letters),
+            Entry::Pin(_) => false,
         }
     }
 

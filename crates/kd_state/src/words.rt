@@ -40,15 +40,28 @@ pub fn split_words<const N: usize>(line: &[u8]) -> Option<ArrayVec<&[u8], N>>
     Some(words)
 }
 
-/// The number that is written so: in decimal, without leading zeros and without a sign.
+/// The number below 65,536 that is written so: in decimal, without leading zeros and without a sign.
+pub fn wide_number_of_text(text: &[u8]) -> Option<u16>
+    ensures { MatchOption result
+        ((number : ℕ) → number < 2 ^ 16 → decimal number ≢ text.now)
+        (λ number. decimal number ≡ text.now) }
+{
+    let number: u16 = str::from_utf8(text).ok()?.parse().ok()?;
+    let mut buffer = Buffer::new();
+    (buffer.format(number).as_bytes() == text).then_some(number)
+}
+
+/// The number below 256 that is written so.
 pub fn number_of_text(text: &[u8]) -> Option<u8>
     ensures { MatchOption result
         ((number : ℕ) → number < 2 ^ 8 → decimal number ≢ text.now)
         (λ number. decimal number ≡ text.now) }
 {
-    let number: u8 = str::from_utf8(text).ok()?.parse().ok()?;
-    let mut buffer = Buffer::new();
-    (buffer.format(number).as_bytes() == text).then_some(number)
+    let number = wide_number_of_text(text)?;
+    if number > 255 {
+        return None;
+    }
+    Some(number as u8)
 }
 
 /// The letter that is written so: as one capital letter.

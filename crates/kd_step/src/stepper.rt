@@ -1,7 +1,7 @@
-ghost use Rattle.std.specs.Prelude.{◌≡◌, ◌≤◌, length, map};
+ghost use Rattle.std.specs.Prelude.{◌≡◌, ◌<◌, ◌≤◌, length, map, slice_index};
 ghost use Rattle.kd_step.specs.Stepper.{IsStep, moved, next_letter, window_after};
 
-use super::notches::{moving, notches};
+use super::notches::notches;
 use kd_tables::{Letter, Wheel};
 use std::marker::Model;
 
@@ -51,8 +51,11 @@ impl<const S: usize> Stepper<S> {
     {
         let shown = &self.window[..];
         let (middle, right) = (shown[S - 2].index(), shown[S - 1].index());
-        let moving = moving(self.middle[middle], self.right[right]);
-        move_last(&mut self.window, moving);
+        match (self.middle[middle], self.right[right]) {
+            (true, _) => move_last(&mut self.window, 3),
+            (_, true) => move_last(&mut self.window, 2),
+            _ => move_last(&mut self.window, 1),
+        }
     }
 
     /// The letters that show, from the left.
@@ -61,6 +64,16 @@ impl<const S: usize> Stepper<S> {
     {
         let Stepper { window, .. } = self;
         *window
+    }
+
+    /// The letter that shows in a slot, counted from the left, from 0.
+    pub fn shown(&self, slot: usize) -> Letter
+        requires { slot < S }
+        ensures value { result ≡ slice_index self.now.window slot }
+        ensures size { length self.now.window ≡ S }
+    {
+        let Stepper { window, .. } = self;
+        window[slot]
     }
 }
 

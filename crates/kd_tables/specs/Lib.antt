@@ -1,5 +1,6 @@
 pub mod Permutation
 pub mod Tables
+pub mod Text
 pub mod Rings
 pub mod Places
 pub mod WiringText

@@ -36,7 +36,7 @@ pub use model::{Model, allowed, allowed_reflector, in_box};
 pub use place::Place;
 pub use reading::Reading;
 pub use reflector::{Reflector, reflecting};
-pub use ring::{Ring, ring1, ring2, ring3, ring4, ring5, ring6};
+pub use ring::{Ring, place_on_wheel, ring1, ring2, ring3, ring4, ring5, ring6};
 pub use sink::Sink;
 pub use source::Source;
 pub use standing::Standing;

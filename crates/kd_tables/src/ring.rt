@@ -1,4 +1,4 @@
-ghost use Rattle.std.specs.Prelude.{◌≡◌, ◌↔◌, ◌<◌, slice_index, Contains, Some, IsSome, IfSome};
+ghost use Rattle.std.specs.Prelude.{◌≡◌, ◌↔◌, ◌<◌, ◌≤◌, length, slice_index, Contains, Some, IsSome, IfSome};
 ghost use Rattle.kd_tables.specs.Rings.{ring_of, place_on, IsRing};
 
 use super::letter::Letter;
@@ -111,5 +111,24 @@ pub fn ring6() -> Ring<17>
 {
     Ring {
         letters: ring(b"ABCDEFGHIJKLMNOPQ"),
+    }
+}
+
+/// The place of a letter on the wheel of this number, counted from 0: none where it isn't on the wheel, or where there is no
+/// such wheel. The wheels are counted from 1 to 6.
+pub fn place_on_wheel(wheel: u8, letter: Letter) -> Option<usize>
+    ensures value { result ≡ place_on (ring_of wheel) letter }
+    ensures exists { IsSome result ↔ Contains (ring_of wheel) letter }
+    ensures wheel { IsSome result → (1 ≤ wheel) × (wheel ≤ 6) }
+    ensures within { IfSome result (λ place. place < length (ring_of wheel)) }
+{
+    match wheel {
+        1 => ring1().place_of(letter),
+        2 => ring2().place_of(letter),
+        3 => ring3().place_of(letter),
+        4 => ring4().place_of(letter),
+        5 => ring5().place_of(letter),
+        6 => ring6().place_of(letter),
+        _ => None,
     }
 }

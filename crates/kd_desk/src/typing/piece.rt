@@ -1,6 +1,8 @@
-ghost use Rattle.std.specs.Prelude.{◌≡◌, ◌<◌, ◌≤◌, take, length, slice_index, IsFalse, [], ◌∷◌, option_to_list};
-ghost use Rattle.kd_sheet.specs.MachineText.{letters_text};
-ghost use Rattle.kd_desk.specs.Typing.{may_be_typed, AreAllowedBytes, Lights, typed_letters};
+ghost use Rattle.std.specs.Prelude.{◌≡◌, ◌<◌, ◌≤◌, ◌+◌, ◌++◌, take, length, IsTrue, IsFalse, [], ◌∷◌, option_to_list, MatchOption};
+ghost use Rattle.arrayvec.specs.ArrayVec.{array_vec_len};
+ghost use Rattle.kd_tables.specs.Text.{is_text_byte, letters_text};
+ghost use Rattle.kd_desk.specs.Typing.{Lights, typed_letters};
+ghost use Rattle.kd_desk.specs.TypingSteps.{IsAllowedFront};
 
 use arrayvec::ArrayVec;
 use kd_state::Engine;
@@ -9,47 +11,43 @@ use kd_tables::Letter;
 /// How many bytes are read at once, at most.
 pub const PIECE: usize = 4096;
 
-/// Whether the byte is a capital letter or a separator: a space, a carriage return or a line feed.
-fn may_be_typed(byte: u8) -> bool
-    ensures { result ≡ may_be_typed byte }
+/// What a byte that may be typed gives: a letter, or nothing where it is a separator. None where the byte is not allowed.
+fn typed(byte: u8) -> Option<Option<Letter>>
+    ensures { MatchOption result
+        (IsFalse (is_text_byte byte))
+        (λ letter. IsTrue (is_text_byte byte) × (typed_letters (byte ∷ []) ≡ option_to_list letter)) }
 {
-    byte.is_ascii_uppercase() || matches!(byte, b' ' | b'\r' | b'\n')
-}
-
-/// How many allowed bytes stand before the first that is not.
-pub fn allowed_front(bytes: &[u8]) -> usize
-    ensures within { result ≤ length bytes.now }
-    ensures front { AreAllowedBytes (take result bytes.now) }
-    ensures next { result < length bytes.now
-        → IsFalse (may_be_typed (slice_index bytes.now result)) }
-{
-    for (place, byte) in bytes.iter().enumerate() {
-        if !may_be_typed(*byte) {
-            return place;
-        }
+    match byte {
+        b' ' | b'\r' | b'\n' => Some(None),
+        _ => Some(Some(Letter::from_byte(byte)?)),
     }
-    bytes.len()
 }
 
-/// The letter of a byte that is a capital letter's.
-fn letter_of(byte: u8) -> Option<Letter>
-    ensures { typed_letters (byte ∷ []) ≡ option_to_list result }
+/// Appends the letter, if there is one.
+fn push_letter(letters: &mut ArrayVec<Letter, PIECE>, letter: Option<Letter>)
+    requires { array_vec_len letters.old < PIECE }
+    ensures items { letters.new.items ≡ letters.old.items ++ option_to_list letter }
+    ensures room { array_vec_len letters.new ≤ array_vec_len letters.old + 1 }
 {
-    Letter::from_byte(byte)
+    if let Some(letter) = letter {
+        letters.push(letter);
+    }
 }
 
-/// The letters among the bytes.
-fn letters_among(bytes: &[u8]) -> ArrayVec<Letter, PIECE>
+/// The letters among the bytes, up to the first byte that is not allowed, and how many bytes stand before that one.
+fn letters_among(bytes: &[u8]) -> (ArrayVec<Letter, PIECE>, usize)
     requires { length bytes.now ≤ PIECE }
-    ensures { result.items ≡ typed_letters bytes.now }
+    ensures front { IsAllowedFront bytes.now result.1 }
+    ensures letters { result.0.items ≡ typed_letters (take result.1 bytes.now) }
 {
     let mut letters = ArrayVec::new();
-    for byte in bytes {
-        if let Some(letter) = letter_of(*byte) {
-            letters.push(letter);
-        }
+    for (place, byte) in bytes.iter().enumerate() {
+        let Some(letter) = typed(*byte) else {
+            return (letters, place);
+        };
+        push_letter(&mut letters, letter);
     }
-    letters
+    (letters, bytes.len())
 }
 
 /// The lamps of these letters, as capital letters.
@@ -64,12 +62,14 @@ fn lamps_of(letters: &[Letter]) -> ArrayVec<u8, PIECE>
     lamps
 }
 
-/// Presses the key of each letter among the bytes, and answers the lamps that light up, as capital letters.
-pub fn type_piece(engine: &mut Engine, bytes: &[u8]) -> ArrayVec<u8, PIECE>
+/// Presses the key of each letter among the bytes, up to the first byte that is not allowed. The lamps that light up, as
+/// capital letters, and how many bytes stand before that one.
+pub fn type_piece(engine: &mut Engine, bytes: &[u8]) -> (ArrayVec<u8, PIECE>, usize)
     requires { length bytes.now ≤ PIECE }
-    ensures { Lights engine.old engine.new bytes.now result.items }
+    ensures front { IsAllowedFront bytes.now result.1 }
+    ensures lights { Lights engine.old engine.new (take result.1 bytes.now) result.0.items }
 {
-    let mut letters = letters_among(bytes);
+    let (mut letters, front) = letters_among(bytes);
     engine.run(&mut letters);
-    lamps_of(&letters)
+    (lamps_of(&letters), front)
 }

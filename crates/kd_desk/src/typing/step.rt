@@ -2,7 +2,7 @@ ghost use Rattle.std.specs.Prelude.{◌<◌, ◌≤◌, is_err, length};
 ghost use Rattle.kd_tables.specs.Ports.{Fail, port};
 ghost use Rattle.kd_desk.specs.TypingSteps.{StepTyped};
 
-use super::piece::{PIECE, allowed_front, type_piece};
+use super::piece::{PIECE, type_piece};
 use kd_state::Engine;
 use kd_tables::{Device, Sink, Source, put_all};
 
@@ -56,9 +56,7 @@ fn type_into<R: Source, W: Sink>(
     if count == 0 {
         return Ok(Step::Ended);
     }
-    let bytes = &buffer[..count];
-    let front = allowed_front(bytes);
-    let lamps = type_piece(engine, &bytes[..front]);
+    let (lamps, front) = type_piece(engine, &buffer[..count]);
     put_all(sink, &lamps)?;
     if front < count {
         return Ok(Step::Refused(front));

@@ -1,10 +1,11 @@
 //! A message, piece by piece.
 ghost use Rattle.std.specs.Prelude.{◌≡◌, ◌<◌, ◌≤◌, ◌||◌, [], ◌∷◌, length};
 ghost use Rattle.kd_tables.specs.Ports.{port};
-ghost use Rattle.kd_form.specs.StreamSteps.{FeedsAll, ClosesAt, ReadsNext, stops_at_device};
+ghost use Rattle.kd_form.specs.StreamSteps.{HasRoom, FeedsAll, ClosesAt, ClosesAs, ReadsNext, stops_at_device};
 
 use super::reader::{Made, MessageReader};
 use super::stop::Stop;
+use crate::fault::FormFault;
 use arrayvec::ArrayVec;
 use kd_state::SheetDay;
 use kd_tables::{Sink, Source, put_all};
@@ -19,12 +20,16 @@ pub(crate) fn feed_all<M: MessageReader, W: Sink>(
     bytes: &[u8],
     sink: &mut W,
 ) -> Result<(), Stop>
+    requires { HasRoom (M.message day.now) (M.holds day.now reader.old) (length bytes.now) }
     ensures fed { FeedsAll (M.message day.now) (M.holds day.now reader.old) (M.holds day.now reader.new)
         bytes.now (port W.taken W.has_failed sink.old sink.new) result }
     ensures failed { W.has_failed sink.new ≡ (W.has_failed sink.old || stops_at_device result) }
 {
     for byte in bytes {
-        feed_one(reader, day, *byte, sink)?;
+        match feed_one(reader, day, *byte, sink) {
+            Ok(()) => {}
+            Err(stop) => return Err(stop),
+        }
     }
     Ok(())
 }
@@ -36,6 +41,7 @@ fn feed_one<M: MessageReader, W: Sink>(
     byte: u8,
     sink: &mut W,
 ) -> Result<(), Stop>
+    requires { HasRoom (M.message day.now) (M.holds day.now reader.old) 1 }
     ensures fed { FeedsAll (M.message day.now) (M.holds day.now reader.old) (M.holds day.now reader.new)
         (byte ∷ []) (port W.taken W.has_failed sink.old sink.new) result }
     ensures failed { W.has_failed sink.new ≡ (W.has_failed sink.old || stops_at_device result) }
@@ -45,8 +51,10 @@ fn feed_one<M: MessageReader, W: Sink>(
         Ok(()) => {}
         Err(fault) => return Err(Stop::Refused(fault)),
     }
-    put_all(sink, made.as_slice())?;
-    Ok(())
+    match put_all(sink, made.as_slice()) {
+        Ok(()) => Ok(()),
+        Err(_) => Err(Stop::Device),
+    }
 }
 
 /// Writes what is left of the message at its end.
@@ -55,16 +63,33 @@ pub(crate) fn finish<M: MessageReader, W: Sink>(
     day: &SheetDay,
     sink: &mut W,
 ) -> Result<(), Stop>
+    requires { HasRoom (M.message day.now) (M.holds day.now reader.old) 0 }
     ensures ended { ClosesAt (M.message day.now) (M.holds day.now reader.old)
         (port W.taken W.has_failed sink.old sink.new) result }
     ensures failed { W.has_failed sink.new ≡ (W.has_failed sink.old || stops_at_device result) }
 {
     let mut made: Made = ArrayVec::new();
     let answer = reader.end(day, &mut made);
-    put_all(sink, made.as_slice())?;
-    match answer {
+    match (put_all(sink, made.as_slice()), answer) {
+        (Ok(()), Ok(())) => Ok(()),
+        (Ok(()), Err(fault)) => Err(Stop::Refused(fault)),
+        (Err(_), _) => Err(Stop::Device),
+    }
+}
+
+/// The same, with the fault that is answered.
+pub(crate) fn close<M: MessageReader, W: Sink>(
+    reader: &mut M,
+    day: &SheetDay,
+    sink: &mut W,
+) -> Result<(), FormFault>
+    requires { HasRoom (M.message day.now) (M.holds day.now reader.old) 0 }
+    ensures { ClosesAs (M.message day.now) (M.holds day.now reader.old)
+        (port W.taken W.has_failed sink.old sink.new) result }
+{
+    match finish(reader, day, sink) {
         Ok(()) => Ok(()),
-        Err(fault) => Err(Stop::Refused(fault)),
+        Err(stop) => Err(FormFault::from(stop)),
     }
 }
 
@@ -77,7 +102,8 @@ pub(crate) fn read_next<M: MessageReader, R: Source, W: Sink>(
     sink: &mut W,
     room: usize,
 ) -> Result<usize, Stop>
-    requires { 0 < room }
+    requires some { 0 < room }
+    requires room { HasRoom (M.message day.now) (M.holds day.now reader.old) room }
     ensures { ReadsNext (M.message day.now) (M.holds day.now reader.old) (M.holds day.now reader.new) room
         (port R.remaining R.has_failed source.old source.new)
         (port W.taken W.has_failed sink.old sink.new) result }
@@ -94,7 +120,8 @@ fn read_into<M: MessageReader, R: Source, W: Sink>(
     sink: &mut W,
     buffer: &mut [u8],
 ) -> Result<usize, Stop>
-    requires { 0 < length buffer.now }
+    requires some { 0 < length buffer.now }
+    requires room { HasRoom (M.message day.now) (M.holds day.now reader.old) (length buffer.now) }
     ensures { ReadsNext (M.message day.now) (M.holds day.now reader.old) (M.holds day.now reader.new)
         (length buffer.old) (port R.remaining R.has_failed source.old source.new)
         (port W.taken W.has_failed sink.old sink.new) result }
@@ -102,6 +129,8 @@ fn read_into<M: MessageReader, R: Source, W: Sink>(
     let Ok(count) = source.get(buffer) else {
         return Err(Stop::Device);
     };
-    feed_all(reader, day, &buffer[..count], sink)?;
-    Ok(count)
+    match feed_all(reader, day, &buffer[..count], sink) {
+        Ok(()) => Ok(count),
+        Err(stop) => Err(stop),
+    }
 }

@@ -2,7 +2,7 @@
 ghost use Rattle.std.specs.Prelude.{◌≡◌, List, ℕ, []};
 ghost use Rattle.kd_state.specs.SheetDay.{Day};
 ghost use Rattle.kd_form.specs.Streams.{Message};
-ghost use Rattle.kd_form.specs.StreamSteps.{Held, Feeds, Ends};
+ghost use Rattle.kd_form.specs.StreamSteps.{Held, HasRoom, Feeds, Ends};
 
 use crate::fault::FormFault;
 use crate::making::LONGEST;
@@ -26,12 +26,14 @@ pub(crate) trait MessageReader {
 
     /// Takes the next byte, and tells what can be written now. It may be fed no more once a byte was refused.
     fn feed(&mut self, day: &SheetDay, byte: u8, made: &mut Made) -> Result<(), FormFault>
-        requires { made.old.items ≡ [] }
+        requires room { HasRoom (message day.now) (holds day.now self.old) 1 }
+        requires empty { made.old.items ≡ [] }
         ensures { Feeds (message day.now) (holds day.now self.old) (holds day.now self.new) byte
             made.new.items result };
 
     /// Tells what is left to be written at the end, also where the message is refused there.
     fn end(&mut self, day: &SheetDay, made: &mut Made) -> Result<(), FormFault>
-        requires { made.old.items ≡ [] }
+        requires room { HasRoom (message day.now) (holds day.now self.old) 0 }
+        requires empty { made.old.items ≡ [] }
         ensures { Ends (message day.now) (holds day.now self.old) made.new.items result };
 }

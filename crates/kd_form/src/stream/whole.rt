@@ -35,7 +35,10 @@ pub(crate) fn bytes_of<M: MessageReader + Drop>(
 }
 
 /// Refuses a message that becomes nothing.
-pub(crate) fn judge<M: MessageReader + Drop>(day: &SheetDay, message: &[u8]) -> Result<(), FormFault>
+pub(crate) fn judge<M: MessageReader + Drop>(
+    day: &SheetDay,
+    message: &[u8],
+) -> Result<(), FormFault>
     ensures { MatchResult result
         (λ _. HasText (M.message day.now) message.now)
         ((M.message day.now).refused message.now) }
@@ -57,6 +60,9 @@ fn write_whole<M: MessageReader + Drop, W: Sink>(
     ensures failed { W.has_failed sink.new ≡ (W.has_failed sink.old || stops_at_device result) }
 {
     let mut reader = M::start(day);
-    feed_all(&mut reader, day, message, sink)?;
-    finish(&mut reader, day, sink)
+    prove!(message.len() < 1 << 63);
+    match feed_all(&mut reader, day, message, sink) {
+        Ok(()) => finish(&mut reader, day, sink),
+        Err(stop) => Err(stop),
+    }
 }

@@ -1,31 +1,17 @@
 //! The letters and the pins of the Converter's six wheels, by the wheels' numbers.
-ghost use Rattle.std.specs.Prelude.{◌≡◌, slice_get, slice_set, unwrap_or, IsSome};
+ghost use Rattle.std.specs.Prelude.{◌≡◌, ◌≤◌, slice_get, slice_set, unwrap_or, IsSome, IsTrue};
 ghost use Rattle.std.specs.Option.{option_and_then};
 ghost use Rattle.kd_tables.specs.Rings.{ring_of, place_on};
 ghost use Rattle.kd_state.specs.Pins.{pin_at, with_pin};
 ghost use Rattle.kd_state.specs.Setting.{has_letter};
 
 use kd_pins::PinSet;
-use kd_tables::{Letter, Ring, ring1, ring2, ring3, ring4, ring5, ring6};
-
-/// The place of the letter on the wheel of that number, counted from 0, if it is on it.
-fn place_on_wheel(wheel: u8, letter: Letter) -> Option<usize>
-    ensures { result ≡ place_on (ring_of wheel) letter }
-{
-    match wheel {
-        1 => ring1().place_of(letter),
-        2 => ring2().place_of(letter),
-        3 => ring3().place_of(letter),
-        4 => ring4().place_of(letter),
-        5 => ring5().place_of(letter),
-        6 => ring6().place_of(letter),
-        _ => None,
-    }
-}
+use kd_tables::{Letter, Ring, place_on_wheel, ring1, ring2, ring3, ring4, ring5, ring6};
 
 /// Whether the letter is on the wheel of that number.
 pub(crate) fn is_on_wheel(wheel: u8, letter: Letter) -> bool
-    ensures { result ≡ has_letter (ring_of wheel) letter }
+    ensures value { result ≡ has_letter (ring_of wheel) letter }
+    ensures wheel { IsTrue result → (1 ≤ wheel) × (wheel ≤ 6) }
 {
     place_on_wheel(wheel, letter).is_some()
 }
@@ -55,7 +41,8 @@ fn pin_on<const N: usize>(ring: &Ring<N>, pins: &[bool; N], letter: Letter) -> O
 
 /// Makes the pin at the letter effective or not on the wheel of that number, which has the letter.
 pub(crate) fn set_pin(pins: &mut PinSet, wheel: u8, letter: Letter, effective: bool)
-    requires { IsSome (place_on (ring_of wheel) letter) }
+    requires wheel { (1 ≤ wheel) × (wheel ≤ 6) }
+    requires there { IsSome (place_on (ring_of wheel) letter) }
     ensures { pins.new ≡ with_pin pins.old wheel letter effective }
 {
     match wheel {

@@ -1,3 +1,5 @@
+ghost use Rattle.std.specs.Prelude.{◌↔◌, IsPermutation, IsTrue};
+
 use crate::facts::{are_pair_letters, are_words, have_letters};
 use crate::machine::per_slot::PerSlot;
 use crate::machine::seats;
@@ -32,7 +34,7 @@ pub struct RotorEntry {
 
 impl RotorEntry {
     ghost use Rattle.std.specs.Prelude.{◌≡◌, ◌↔◌, IsTrue};
-    ghost use Rattle.kd_state.specs.SheetDay.{IsLegalRotorDay, AreSeated, seats};
+    ghost use Rattle.kd_state.specs.SheetDay.{IsLegalRotorDay, AreSeated, AreOfAGroup, seats};
     ghost use Rattle.kd_state.specs.Entry.{rotor_values};
 
     /// Whether an accepted entry has these values.
@@ -77,4 +79,24 @@ impl RotorEntry {
         };
         seats.unwrap()
     }
+
+    /// Whether these are the letters of one of the groups, in any order.
+    pub(crate) fn has_group(&self, letters: [Letter; 3]) -> bool
+        ensures { IsTrue result ↔ AreOfAGroup self.now.groups.items letters }
+    {
+        self.groups
+            .as_slice()
+            .iter()
+            .any(|group| are_reordered(*group, letters))
+    }
+}
+
+/// Whether these are the same letters, each as often, in any order.
+fn are_reordered(group: [Letter; 3], letters: [Letter; 3]) -> bool
+    ensures { IsTrue result ↔ IsPermutation group letters }
+{
+    let (mut group, mut letters) = (group, letters);
+    group.sort_unstable();
+    letters.sort_unstable();
+    group == letters
 }

@@ -1,5 +1,12 @@
-use Rattle.kd_form.proofs.Told.{off_key}
+use Rattle.std.proofs.Common.{refl}
+use Rattle.kd_form.specs.OnTheKey.{OffKey, WithKey}
+use Rattle.kd_form.proofs.Received.{begins_with_a_part}
+use Rattle.kd_form.proofs.Told.{takes_memory_as_well}
 use Rattle.kd_form.proofs.receiving.receive.Goals as goal
 
-pub returns-in_err-check_machine : goal.returns-in_err-check_machine
-returns-in_err-check_machine c = off_key _ _ _ _ _ c.from_residual.result _ c.from_residual.ensures.1 c.in_err-check_machine.ensures
+pub returns-in-Ok : goal.returns-in-Ok
+returns-in-Ok c =
+    WithKey c.in-Ok.ensures (takes_memory_as_well _ _ _ _ c.bytes_of.result (λ has. begins_with_a_part c.args.day.now c.args.form.now has.0 has.1) c.bytes_of.ensures)
+
+pub returns-in-Err : goal.returns-in-Err
+returns-in-Err c = OffKey c.in-Err.fault c.in-Err.ensures refl

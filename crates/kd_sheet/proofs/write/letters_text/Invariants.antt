@@ -1,5 +1,5 @@
 use Rattle.std.proofs.Common.{◌≡◌, take}
-use Rattle.kd_sheet.specs.MachineText.{letters_text}
+use Rattle.kd_tables.specs.Text.{letters_text}
 use Rattle.kd_sheet.proofs.write.letters_text.Given as goal
 
 abbrev pub invariant-loop-letter : goal.invariant-loop-letter

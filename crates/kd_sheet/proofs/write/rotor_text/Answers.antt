@@ -1,5 +1,5 @@
 use Rattle.std.proofs.Common.{ap, ◌∙◌}
-use Rattle.kd_sheet.specs.MachineText.{letters_text}
+use Rattle.kd_tables.specs.Text.{letters_text}
 use Rattle.kd_sheet.proofs.FileLines.{rotor_joined}
 use Rattle.kd_sheet.proofs.write.rotor_text.Goals as goal
 

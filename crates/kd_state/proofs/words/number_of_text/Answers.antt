@@ -1,26 +1,7 @@
-use Rattle.std.proofs.Common.{◌∙◌, sym, subst, Decides, ◌≡◌}
-use Rattle.std.specs.Str.Parse.{ParsesUnsigned}
-use Rattle.std.proofs.lemmas.Bool.Decides.{Decides-eqb}
-use Rattle.std.proofs.lemmas.Slice.Eq.{slice_eq-Decides}
-use Rattle.kd_state.proofs.WordLines.{no_text, no_number, only_number, ok_part}
+use Rattle.std.proofs.Common.{◌∙◌, sym, arith}
+use Rattle.std.proofs.lemmas.Fmt.{decimal_injective}
 use Rattle.kd_state.proofs.words.number_of_text.Goals as goal
 
-pub returns-in_err-ok : goal.returns-in_err-ok
-returns-in_err-ok c =
-    rw c.from_residual.ensures
-    (no_text c.args.text.now c.from_utf8.result _ _ c.from_utf8.ensures.cases (sym c.ok.ensures.value ∙ c.in_err-ok.was))
-
-pub returns-in_err-number : goal.returns-in_err-number
-returns-in_err-number c =
-    let text = ok_part c.from_utf8.result c.in_ok-ok.field-0 _ _ c.from_utf8.ensures.cases c.in_ok-ok.ensures.value in
-    let parsed = subst (λ bs. ParsesUnsigned 8 10 bs c.parse.result) text.0 c.parse.ensures.value.0 in
-    rw c.from_residual-in_err-number.ensures (no_number c.args.text.now c.parse.result parsed (sym c.ok-2.ensures.value ∙ c.in_err-number.was))
-
-pub returns : goal.returns
-returns c =
-    let text = ok_part c.from_utf8.result c.in_ok-ok.field-0 _ _ c.from_utf8.ensures.cases c.in_ok-ok.ensures.value in
-    let parsed = subst (λ bs. ParsesUnsigned 8 10 bs c.parse.result) text.0 c.parse.ensures.value.0 in
-    let compared = slice_eq-Decides Decides-eqb c.as_bytes.result.now c.args.text.now c.eq.result c.eq.ensures in
-    let decided = subst (λ bs. Decides c.eq.result (bs ≡ c.args.text.now)) (c.as_bytes.ensures.value ∙ c.format.ensures.text) compared in
-    rw c.then_some.ensures
-    (only_number c.args.text.now c.parse.result c.in_ok-number.number c.eq.result parsed (sym c.in_ok-number.ensures.value) decided)
+pub returns-then-number-gt255 : goal.returns-then-number-gt255
+returns-then-number-gt255 c = λ number small is.
+    absurd (omega (arith, decimal_injective number c.in_ok-number.number (omega arith) (omega arith) (is ∙ sym c.in_ok-number.ensures), c.if-number-gt255.true))

@@ -1,6 +1,6 @@
 use Rattle.std.proofs.Common.{◌≡◌, ◌≤◌, take}
 use Rattle.arrayvec.specs.ArrayVec.{array_vec_len}
-use Rattle.kd_sheet.specs.MachineText.{letters_text}
+use Rattle.kd_tables.specs.Text.{letters_text}
 use Rattle.kd_desk.proofs.typing.piece.lamps_of.Given as goal
 
 -- the lamps of the letters so far are there

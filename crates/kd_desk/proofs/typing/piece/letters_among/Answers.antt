@@ -1,28 +1,21 @@
-use Rattle.std.proofs.Common.{◌≡◌, ◌≤◌, ◌+◌, ◌++◌, ◌∷◌, [], sym, ap, subst, ◌∙◌, get_or, take, option_to_list, append-nil, arith}
+use Rattle.std.proofs.Common.{ℕ, ◌++◌, ◌∷◌, [], take, get_or, option_to_list, IsTrue, sym, ap, subst, ◌∙◌, arith}
 use Rattle.std.proofs.lemmas.List.{take_more}
-use Rattle.arrayvec.specs.ArrayVec.{array_vec_len}
-use Rattle.kd_desk.specs.Typing.{typed_letters}
+use Rattle.std.proofs.lemmas.List.Elements.{All-push}
+use Rattle.kd_tables.specs.Text.{is_text_byte}
+use Rattle.kd_desk.specs.Typing.{AreAllowedBytes, typed_letters}
 use Rattle.kd_desk.proofs.Lamps.{typed-append}
 use Rattle.kd_desk.proofs.typing.piece.letters_among.Goals as goal
-use Rattle.kd_desk.proofs.typing.piece.letters_among.Goals.{in-Some, in_default}
 
-pub loop-byte-preserved : goal.loop-byte-preserved
-loop-byte-preserved c =
-    let bytes = c.args.bytes.now in
-    let n = c.loop-byte.byte-index in
-    let byte = get_or bytes n 0 in
-    let pushed : c.match-letter_of.letters.items ≡ c.loop-byte.letters.items ++ option_to_list c.letter_of.result =
-    elim c.match-letter_of.branch [
-      | in-Some w ↦ ap (λ v. v.items) w.letters-is ∙ w.push.ensures.items ∙ ap (λ r. c.loop-byte.letters.items ++ option_to_list r) (sym w.in-Some.is)
-      | in_default w ↦ ap (λ v. v.items) w.letters-is ∙ sym (append-nil c.loop-byte.letters.items) ∙ ap (λ r. c.loop-byte.letters.items ++ option_to_list r) (sym w.in_default.is)
-    ] in
+pub loop-place-preserved : goal.loop-place-preserved
+loop-place-preserved c =
+    let front = take c.loop-place.place c.args.bytes.now in
+    let byte = get_or c.args.bytes.now c.loop-place.place 0 in
+    let more = take_more c.args.bytes.now c.loop-place.place 0 c.loop-place-test.true in
     record {
-      letters = pushed ∙ ap (λ l. l ++ option_to_list c.letter_of.result) c.loop-byte.invariant.letters
-          ∙ ap (λ l. typed_letters (take n bytes) ++ l) (sym c.letter_of.ensures)
-          ∙ sym (typed-append (take n bytes) (byte ∷ []))
-          ∙ ap typed_letters (sym (take_more bytes n 0 c.loop-byte-test.true));
-      room = elim c.match-letter_of.branch [
-        | in-Some w ↦ subst (λ l. array_vec_len l ≤ n + 1) (sym w.letters-is) (omega (arith, w.push.ensures.len, c.loop-byte.invariant.room))
-        | in_default w ↦ subst (λ l. array_vec_len l ≤ n + 1) (sym w.letters-is) (omega (arith, c.loop-byte.invariant.room))
-      ];
+      allowed = subst AreAllowedBytes (sym more) (All-push (λ (byte : ℕ). IsTrue (is_text_byte byte)) front byte c.loop-place.invariant.allowed c.in-Some.ensures.0);
+      letters = c.push_letter.ensures.items ∙ ap (λ l. l ++ option_to_list c.in-Some.letter) c.loop-place.invariant.letters
+          ∙ ap (λ l. typed_letters front ++ l) (sym c.in-Some.ensures.1)
+          ∙ sym (typed-append front (byte ∷ []))
+          ∙ ap typed_letters (sym more);
+      room = omega (arith, c.push_letter.ensures.room, c.loop-place.invariant.room);
     }

@@ -36,8 +36,8 @@ returns-in_err-put_all-clause-typed g c =
       written = failed.2;
       types = inr (record {
         fails = record { failed = failed_now _ _ put.failed; well = well_now _ _ c.in-Ok.ensures.failed };
-        front = TypesFront-take c.args.engine.now c.type_piece-lamps.new.engine bytes c.type_piece-lamps.result.items front c.allowed_front-front.result
-            c.allowed_front-front.ensures.within c.allowed_front-front.ensures.front c.type_piece-lamps.ensures starts;
+        front = TypesFront-take c.args.engine.now c.type_piece-lamps.new.engine bytes c.type_piece-lamps.result.0.items front c.type_piece-lamps.result.1
+            c.type_piece-lamps.ensures.front c.type_piece-lamps.ensures.lights starts;
       });
       ended = search rules;
     })
@@ -46,7 +46,7 @@ pub returns-then-front-count-clause-typed : goal.returns-then-front-count-clause
 returns-then-front-count-clause-typed g c =
     let got = c.in-Ok.ensures.bytes in
     let bytes = take c.in-Ok.count c.get.new.buffer in
-    let front = c.allowed_front-front.result in
+    let front = c.type_piece-lamps.result.1 in
     let inside : front < length bytes = omega (arith, c.if-front-count.true, length-take-le c.in-Ok.count c.get.new.buffer got.within) in
     record {
       read = bytes;
@@ -55,8 +55,8 @@ returns-then-front-count-clause-typed g c =
       given = got.given;
       written = c.in_ok-put_all.ensures.text.whole;
       types = (
-        IsFirstRefused-behind bytes front inside c.allowed_front-front.ensures.front (c.allowed_front-front.ensures.next inside),
-        c.deref.ensures.0 ∙ c.type_piece-lamps.ensures.cipher,
+        IsFirstRefused-behind bytes front inside c.type_piece-lamps.ensures.front,
+        c.deref.ensures.0 ∙ c.type_piece-lamps.ensures.lights.cipher,
       );
       ended = search rules;
     }

@@ -5,7 +5,7 @@ use Rattle.kd_state.proofs.machine.pin_parts.are_on_wheels.Goals as goal
 pub loop-place-preserved : goal.loop-place-preserved
 loop-place-preserved c =
     below_more _ _ c.loop-place.invariant
-    (on_wheel c.args.letters.now c.loop-place.place _ (omega arith) (sym c.is_on_wheel.ensures ∙ c.if-not-is_on_wheel.false))
+    (on_wheel c.args.letters.now c.loop-place.place _ (omega arith) (sym c.is_on_wheel.ensures.value ∙ c.if-not-is_on_wheel.false))
 
 pub returns : goal.returns
 returns c = (λ _. each_on_wheel c.args.letters.now (search rules) (λ place below. c.loop-place.invariant place (omega arith)), λ _. search rules)
@@ -13,5 +13,5 @@ returns c = (λ _. each_on_wheel c.args.letters.now (search rules) (λ place bel
 pub returns-then-not-is_on_wheel : goal.returns-then-not-is_on_wheel
 returns-then-not-is_on_wheel c = (
   λ e. absurd (cc e),
-  λ on. absurd (off_wheel c.args.letters.now c.loop-place.place _ (omega arith) on (sym c.is_on_wheel.ensures ∙ c.if-not-is_on_wheel.true)),
+  λ on. absurd (off_wheel c.args.letters.now c.loop-place.place _ (omega arith) on (sym c.is_on_wheel.ensures.value ∙ c.if-not-is_on_wheel.true)),
 )

@@ -1,0 +1,288 @@
+-- Forms to which bytes are added.
+use Rattle.std.proofs.Common.{rules, ◌≡◌, ◌≢◌, ◌⊎◌, inl, inr, ℕ, suc, ◌+◌, ◌-◌, ◌≤◌, ◌<◌, List, [], ◌∷◌, ◌++◌, length, take, drop, get_or, refl, sym, ap, subst, ◌∙◌, append_assoc, length-append, length-drop, arith}
+use Rattle.std.specs.Prelude.{codes, slice_index, All, IsTrue, ◌==◌}
+use Rattle.std.proofs.Math.ListN.{get_or-append}
+use Rattle.std.proofs.Math.Seq.{get_or-append_seam, drop-cons}
+use Rattle.std.proofs.lemmas.Bool.{cases_lt}
+use Rattle.std.proofs.lemmas.List.{append-nil, drop-append-le, take_all, take-append-drop, length-take}
+use Rattle.std.proofs.lemmas.List.Elements.{All-get_or, All-cons, All-nil}
+use Rattle.kd_state.specs.SheetDay.{Day}
+use Rattle.kd_state.specs.Words.{IsWithout}
+use Rattle.kd_form.specs.FormParts.{BeginsHeading, IsFirstOf}
+use Rattle.kd_form.specs.FormText.{AreFirstParts, IsReadTo, Turn}
+use Rattle.kd_form.specs.FormReading.{MayBegin}
+use Rattle.kd_form.proofs.OneFault.{Shorter, Longer, fronts}
+
+pub no_break : (line after : List ℕ) (k : ℕ) → IsWithout 10 line → k < length line → get_or (line ++ 10 ∷ after) k 0 ≢ 10
+no_break line after k without inside is =
+    All-get_or (λ byte. byte ≢ 10) line k 0 inside without (sym (get_or-append line (10 ∷ after) 0 k inside) ∙ is)
+
+-- ---- where a heading begins
+
+pub heading_size : (bytes : List ℕ) → BeginsHeading bytes → 6 ≤ length bytes
+heading_size bytes begins = omega (arith, ap length begins.is)
+
+pub begins_more : (bytes more : List ℕ) → BeginsHeading bytes → BeginsHeading (bytes ++ more)
+begins_more bytes more begins = record {
+  digit = begins.digit;
+  rest = begins.rest ++ more;
+  is = ap (λ l. l ++ more) begins.is;
+  low = begins.low;
+  high = begins.high;
+}
+
+-- its first six bytes tell
+pub begins_front : (bytes more : List ℕ) → 6 ≤ length bytes → BeginsHeading (bytes ++ more) → BeginsHeading bytes
+begins_front (a ∷ b ∷ c ∷ d ∷ e ∷ f ∷ rest) more long begins =
+    let is : a ∷ b ∷ c ∷ d ∷ e ∷ f ∷ (rest ++ more) ≡ 80 ∷ 65 ∷ 82 ∷ 84 ∷ 32 ∷ begins.digit ∷ begins.rest = begins.is in
+    let one : a ≡ 80 = cc in
+    let two : b ≡ 65 = cc in
+    let three : c ≡ 82 = cc in
+    let four : d ≡ 84 = cc in
+    let five : e ≡ 32 = cc in
+    let six : f ≡ begins.digit = cc in
+    record { digit = f; rest = rest; is = cc; low = subst (λ x. 48 ≤ x) (sym six) begins.low; high = subst (λ x. x ≤ 57) (sym six) begins.high }
+begins_front [] more long begins = absurd (omega arith)
+begins_front (a ∷ []) more long begins = absurd (omega arith)
+begins_front (a ∷ b ∷ []) more long begins = absurd (omega arith)
+begins_front (a ∷ b ∷ c ∷ []) more long begins = absurd (omega arith)
+begins_front (a ∷ b ∷ c ∷ d ∷ []) more long begins = absurd (omega arith)
+begins_front (a ∷ b ∷ c ∷ d ∷ e ∷ []) more long begins = absurd (omega arith)
+
+-- ---- the first part of more bytes
+
+pub first_grows : (bytes part rest more : List ℕ) → IsFirstOf bytes part rest → rest ≢ [] → IsFirstOf (bytes ++ more) part (rest ++ more)
+first_grows bytes part rest more first some = elim first.ends [
+  | inl none ↦ absurd (some none)
+  | inr ended ↦
+      let size : length bytes ≡ length part + length rest = ap length first.joined ∙ length-append part rest in
+      let six : 6 ≤ length rest = heading_size rest ended.1 in
+      record {
+        joined = ap (λ l. l ++ more) first.joined ∙ append_assoc part rest more;
+        whole = λ place below is begins.
+            let inside : place + 1 ≤ length bytes = omega (arith, size) in
+            let within : place < length bytes = omega (arith, size) in
+            first.whole place below (sym (get_or-append bytes more 0 place within) ∙ is)
+            (begins_front (drop (place + 1) bytes) more (omega (arith, length-drop (place + 1) bytes, size, six))
+            (subst BeginsHeading (drop-append-le (place + 1) bytes more inside) begins));
+        ends = inr (get_or-append bytes more 0 (length part - 1) (omega (arith, size, six)) ∙ ended.0, begins_more rest more ended.1);
+      }
+]
+
+pub no_bytes : (front back : List ℕ) → front ++ back ≡ [] → back ≡ []
+no_bytes [] back none = none
+no_bytes (byte ∷ front) back none = cc
+
+pub nothing_left : (parts : List (List ℕ)) (bytes rest : List ℕ) → bytes ≡ [] → AreFirstParts parts bytes rest → rest ≡ []
+nothing_left [] bytes rest none same = sym same ∙ none
+nothing_left (part ∷ parts) bytes rest none (after, first, later) = nothing_left parts after rest (no_bytes part after (sym first.joined ∙ none)) later
+
+pub parts_grow : (parts : List (List ℕ)) (bytes rest more : List ℕ) → rest ≢ [] → AreFirstParts parts bytes rest
+    → AreFirstParts parts (bytes ++ more) (rest ++ more)
+parts_grow [] bytes rest more some same = ap (λ l. l ++ more) same
+parts_grow (part ∷ parts) bytes rest more some (after, first, later) = (
+  after ++ more,
+  first_grows bytes part after more first (λ none. some (nothing_left parts after rest none later)),
+  parts_grow parts after rest more some later,
+)
+
+pub turn_cut : (s : Day) (form more : List ℕ) (t : Turn s form) → AreFirstParts t.before (form ++ more) (t.rest ++ more)
+turn_cut s form more t = elim t.left [
+  | inl none ↦
+      let here : form ≡ t.rest = subst (λ (ps : List (List ℕ)). AreFirstParts ps form t.rest) none t.read.cut in
+      subst (λ (ps : List (List ℕ)). AreFirstParts ps (form ++ more) (t.rest ++ more)) (sym none) (ap (λ l. l ++ more) here)
+  | inr some ↦ parts_grow t.before form t.rest more some t.read.cut
+]
+
+-- ---- the part in turn
+
+-- the parts before it stay, and with more bytes another one may be the first of what they leave
+abbrev pub turn_with : (s : Day) (form more part after : List ℕ) (t : Turn s form) → more ≢ [] → IsFirstOf (t.rest ++ more) part after → Turn s (form ++ more)
+turn_with s form more part after t some first = record {
+  before = t.before;
+  count = t.count;
+  letters = t.letters;
+  rest = t.rest ++ more;
+  part = part;
+  after = after;
+  read = record { cut = turn_cut s form more t; read = t.read.read };
+  left = inr (λ none. some (no_bytes t.rest more none));
+  first = first;
+}
+
+pub same_start : (form rest more : List ℕ) → length (form ++ more) - length (rest ++ more) ≡ length form - length rest
+same_start form rest more = omega (arith, length-append form more, length-append rest more)
+
+pub last_rest : (s : Day) (form : List ℕ) (t : Turn s form) → t.after ≡ [] → t.rest ≡ t.part
+last_rest s form t last = t.first.joined ∙ ap (λ l. t.part ++ l) last ∙ append-nil t.part
+
+-- ---- a byte more of what may become a heading
+
+-- where the bytes may begin a heading, this byte may follow them exactly if they still may
+abbrev Follows : List ℕ → ℕ → Type 0 → Type 0
+Follows part byte fits = (fits → MayBegin (part ++ byte ∷ [])) × (MayBegin (part ++ byte ∷ []) → fits)
+
+may_begin : (part more : List ℕ) → part ++ more ≡ codes "PART 0" → MayBegin part
+may_begin part more same = (more, record { digit = 48; rest = []; is = same; low = omega arith; high = omega arith })
+
+pub due_follows : (part : List ℕ) (byte due : ℕ) → length part < 5 → due ≡ get_or (codes "PART ") (length part) 0 → MayBegin part
+    → Follows part byte (byte ≡ due)
+due_follows [] byte due few is may = (λ same. may_begin (byte ∷ []) (codes "ART 0") (cc), λ then_may. let all = then_may.1.is in cc)
+due_follows (a ∷ []) byte due few is may =
+    let had = may.1.is in
+    (λ same. may_begin (a ∷ byte ∷ []) (codes "RT 0") (cc), λ then_may. let all = then_may.1.is in cc)
+due_follows (a ∷ b ∷ []) byte due few is may =
+    let had = may.1.is in
+    (λ same. may_begin (a ∷ b ∷ byte ∷ []) (codes "T 0") (cc), λ then_may. let all = then_may.1.is in cc)
+due_follows (a ∷ b ∷ c ∷ []) byte due few is may =
+    let had = may.1.is in
+    (λ same. may_begin (a ∷ b ∷ c ∷ byte ∷ []) (codes " 0") (cc), λ then_may. let all = then_may.1.is in cc)
+due_follows (a ∷ b ∷ c ∷ d ∷ []) byte due few is may =
+    let had = may.1.is in
+    (λ same. may_begin (a ∷ b ∷ c ∷ d ∷ byte ∷ []) (codes "0") (cc), λ then_may. let all = then_may.1.is in cc)
+due_follows (a ∷ b ∷ c ∷ d ∷ e ∷ part) byte due few is may = absurd (omega arith)
+
+pub digit_follows : (part : List ℕ) (byte : ℕ) → length part ≡ 5 → MayBegin part → Follows part byte ((48 ≤ byte) × (byte ≤ 57))
+digit_follows (a ∷ b ∷ c ∷ d ∷ e ∷ []) byte size may =
+    let had = may.1.is in (
+      λ digit. ([], record { digit = byte; rest = []; is = cc; low = digit.0; high = digit.1 }),
+      λ then_may.
+          let same : byte ≡ then_may.1.digit = (let all = then_may.1.is in cc) in
+          (subst (λ x. 48 ≤ x) (sym same) then_may.1.low, subst (λ x. x ≤ 57) (sym same) then_may.1.high),
+    )
+digit_follows [] byte size may = absurd (omega arith)
+digit_follows (a ∷ []) byte size may = absurd (omega arith)
+digit_follows (a ∷ b ∷ []) byte size may = absurd (omega arith)
+digit_follows (a ∷ b ∷ c ∷ []) byte size may = absurd (omega arith)
+digit_follows (a ∷ b ∷ c ∷ d ∷ []) byte size may = absurd (omega arith)
+digit_follows (a ∷ b ∷ c ∷ d ∷ e ∷ f ∷ part) byte size may = absurd (omega arith)
+
+pub all_follow : (part : List ℕ) (byte : ℕ) → 6 ≤ length part → MayBegin part → MayBegin (part ++ byte ∷ [])
+all_follow part byte long may = ([], subst BeginsHeading (sym (append-nil (part ++ byte ∷ []))) (begins_more part (byte ∷ []) (begins_front part may.0 long may.1)))
+
+pub short_line : (part line : List ℕ) → line ≡ take 64 part → length line < 64 → line ≡ part
+short_line part line kept short = kept ∙ take_all 64 part (omega (arith, ap length kept, length-take 64 part))
+
+pub long_line : (part line : List ℕ) (few : ℕ) → line ≡ take 64 part → few ≤ 64 → few ≤ length line → few ≤ length part
+long_line part line few kept less long = omega (arith, ap length kept, length-take 64 part)
+
+told_true : (a b : ℕ) → IsTrue (a == b) → a ≡ b
+told_true a b is = search rules
+
+true_told : (a b : ℕ) → a ≡ b → IsTrue (a == b)
+true_told a b same = search rules
+
+pub due_told : (part line : List ℕ) (byte due : ℕ) → line ≡ take 64 part → MayBegin part → (length line < 5) × (due ≡ get_or (codes "PART ") (length line) 0)
+    → (IsTrue (byte == due) → MayBegin (part ++ byte ∷ [])) × (MayBegin (part ++ byte ∷ []) → IsTrue (byte == due))
+due_told part line byte due kept may (few, is) =
+    let whole : line ≡ part = short_line part line kept (omega arith) in
+    let follows = due_follows part byte due (subst (λ (l : List ℕ). length l < 5) whole few) (is ∙ ap (λ (l : List ℕ). get_or (codes "PART ") (length l) 0) whole) may in
+    (λ told. follows.0 (told_true byte due told), λ then_may. true_told byte due (follows.1 then_may))
+
+-- ---- a byte more of the last part
+
+place_within : (bytes : List ℕ) (byte place : ℕ) → place < length bytes → get_or (bytes ++ byte ∷ []) place 0 ≡ 10 → get_or bytes place 0 ≡ 10
+place_within bytes byte place inside is = sym (get_or-append bytes (byte ∷ []) 0 place inside) ∙ is
+
+whole_part : (bytes : List ℕ) → ((place : ℕ) → place + 1 < length bytes → get_or bytes place 0 ≡ 10 → ¬ (BeginsHeading (drop (place + 1) bytes)))
+    → IsFirstOf bytes bytes []
+whole_part bytes none = record { joined = sym (append-nil bytes); whole = none; ends = inl refl }
+
+-- without an LF there is no other line
+pub first_unbroken : (bytes : List ℕ) (byte : ℕ) → IsWithout 10 bytes → IsFirstOf (bytes ++ byte ∷ []) (bytes ++ byte ∷ []) []
+first_unbroken bytes byte unbroken = whole_part (bytes ++ byte ∷ []) (λ place below is. absurd (
+    let inside : place < length bytes = omega (arith, length-append bytes (byte ∷ [])) in
+    All-get_or (λ b. b ≢ 10) bytes place 0 inside unbroken (place_within bytes byte place inside is)))
+
+-- the last lines of the same bytes are the same
+same_last : (front tail other end : List ℕ) → IsWithout 10 tail → IsWithout 10 end → front ++ 10 ∷ tail ≡ other ++ 10 ∷ end → tail ≡ end
+same_last front tail other end without also same = elim (fronts front (10 ∷ tail) other (10 ∷ end) same) [
+  | Shorter [] longer left ↦ cc
+  | Shorter (byte ∷ more) longer left ↦
+      let all : tail ≡ more ++ 10 ∷ end = cc in
+      absurd (All-get_or (λ b. b ≢ 10) tail (length more) 0 (omega (arith, ap length all, length-append more (10 ∷ end))) without
+      (ap (λ l. get_or l (length more) 0) all ∙ get_or-append_seam more 10 end 0))
+  | Longer byte more longer left ↦
+      let all : end ≡ more ++ 10 ∷ tail = cc in
+      absurd (All-get_or (λ b. b ≢ 10) end (length more) 0 (omega (arith, ap length all, length-append more (10 ∷ tail))) also
+      (ap (λ l. get_or l (length more) 0) all ∙ get_or-append_seam more 10 tail 0))
+]
+
+pub head_unbroken : IsWithout 10 (codes "PART ")
+head_unbroken =
+    All-cons (λ b. b ≢ 10) 80 (65 ∷ 82 ∷ 84 ∷ 32 ∷ []) (λ e. omega arith) (All-cons (λ b. b ≢ 10) 65 (82 ∷ 84 ∷ 32 ∷ []) (λ e. omega arith)
+    (All-cons (λ b. b ≢ 10) 82 (84 ∷ 32 ∷ []) (λ e. omega arith) (All-cons (λ b. b ≢ 10) 84 (32 ∷ []) (λ e. omega arith)
+    (All-cons (λ b. b ≢ 10) 32 [] (λ e. omega arith) (All-nil (λ b. b ≢ 10))))))
+
+-- five bytes and one more that begin a heading
+last_digit : (bytes : List ℕ) (byte : ℕ) → length bytes < 6 → BeginsHeading (bytes ++ byte ∷ []) → (bytes ≡ codes "PART ") × (48 ≤ byte) × (byte ≤ 57)
+last_digit (a ∷ b ∷ c ∷ d ∷ e ∷ []) byte few begins =
+    let is : a ∷ b ∷ c ∷ d ∷ e ∷ byte ∷ [] ≡ 80 ∷ 65 ∷ 82 ∷ 84 ∷ 32 ∷ begins.digit ∷ begins.rest = begins.is in
+    let same : byte ≡ begins.digit = cc in
+    let one : a ≡ 80 = cc in
+    let two : b ≡ 65 = cc in
+    let three : c ≡ 82 = cc in
+    let four : d ≡ 84 = cc in
+    let five : e ≡ 32 = cc in
+    (cc, subst (λ x. 48 ≤ x) (sym same) begins.low, subst (λ x. x ≤ 57) (sym same) begins.high)
+last_digit [] byte few begins = absurd (omega (arith, ap length begins.is))
+last_digit (a ∷ []) byte few begins = absurd (omega (arith, ap length begins.is))
+last_digit (a ∷ b ∷ []) byte few begins = absurd (omega (arith, ap length begins.is))
+last_digit (a ∷ b ∷ c ∷ []) byte few begins = absurd (omega (arith, ap length begins.is))
+last_digit (a ∷ b ∷ c ∷ d ∷ []) byte few begins = absurd (omega (arith, ap length begins.is))
+last_digit (a ∷ b ∷ c ∷ d ∷ e ∷ f ∷ more) byte few begins = absurd (omega arith)
+
+next_place : (place : ℕ) → suc place ≡ place + 1
+next_place place = omega arith
+
+-- the bytes with an LF at that place
+at_place : (bytes : List ℕ) (place : ℕ) → place < length bytes → get_or bytes place 0 ≡ 10 → bytes ≡ take place bytes ++ 10 ∷ drop (place + 1) bytes
+at_place bytes place inside is =
+    sym (take-append-drop place bytes) ∙ ap (λ l. take place bytes ++ l) (drop-cons bytes place 0 inside) ∙ ap (λ b. take place bytes ++ b ∷ drop (suc place) bytes) is
+    ∙ ap (λ n. take place bytes ++ 10 ∷ drop n bytes) (next_place place)
+
+-- no heading begins in the last line, unless a digit stands behind its five bytes
+pub first_more : (bytes front tail : List ℕ) (byte : ℕ) → IsFirstOf bytes bytes [] → bytes ≡ front ++ 10 ∷ tail → IsWithout 10 tail
+    → ((tail ≡ codes "PART ") → (48 ≤ byte) → (byte ≤ 57) → ⊥) → IsFirstOf (bytes ++ byte ∷ []) (bytes ++ byte ∷ []) []
+first_more bytes front tail byte first lines unbroken not = whole_part (bytes ++ byte ∷ []) (λ place below is begins.
+    let inside : place < length bytes = omega (arith, length-append bytes (byte ∷ [])) in
+    let here : get_or bytes place 0 ≡ 10 = place_within bytes byte place inside is in
+    let left : BeginsHeading (drop (place + 1) bytes ++ byte ∷ []) = subst BeginsHeading (drop-append-le (place + 1) bytes (byte ∷ []) (omega arith)) begins in
+    elim (cases_lt (length (drop (place + 1) bytes)) 6) [
+      | inl short ↦
+          let digit = last_digit (drop (place + 1) bytes) byte short left in
+          not (same_last front tail (take place bytes) (codes "PART ") unbroken head_unbroken
+          (sym lines ∙ at_place bytes place inside here ∙ ap (λ l. take place bytes ++ 10 ∷ l) digit.0)) digit.1 digit.2
+      | inr long ↦
+          first.whole place (omega (arith, length-drop (place + 1) bytes)) here (begins_front (drop (place + 1) bytes) (byte ∷ []) long left)
+    ])
+
+-- the digit of a heading ends the part before it
+pub first_ends : (bytes part front : List ℕ) (digit : ℕ) → IsFirstOf bytes bytes [] → bytes ≡ part ++ codes "PART " → part ≡ front ++ 10 ∷ []
+    → 48 ≤ digit → digit ≤ 57 → IsFirstOf (bytes ++ digit ∷ []) part (codes "PART " ++ digit ∷ [])
+first_ends bytes part front digit first split broken low high =
+    let size : length bytes ≡ length part + 5 = ap length split ∙ length-append part (codes "PART ") in
+    let some : length part ≡ length front + 1 = ap length broken ∙ length-append front (10 ∷ []) in
+    record {
+      joined = ap (λ l. l ++ digit ∷ []) split ∙ append_assoc part (codes "PART ") (digit ∷ []);
+      whole = λ place below is begins.
+          let inside : place < length bytes = omega (arith, size) in
+          first.whole place (omega (arith, size)) (place_within bytes digit place inside is)
+          (begins_front (drop (place + 1) bytes) (digit ∷ []) (omega (arith, length-drop (place + 1) bytes, size))
+          (subst BeginsHeading (drop-append-le (place + 1) bytes (digit ∷ []) (omega (arith, size))) begins));
+      ends =
+          let last : length part - 1 ≡ length front = omega arith in
+          let there : (bytes ++ digit ∷ []) ≡ front ++ 10 ∷ (codes "PART " ++ digit ∷ []) =
+          ap (λ l. l ++ digit ∷ []) (split ∙ ap (λ l. l ++ codes "PART ") broken ∙ append_assoc front (10 ∷ []) (codes "PART "))
+          ∙ append_assoc front (10 ∷ codes "PART ") (digit ∷ []) in
+          inr (
+            ap (λ n. get_or (bytes ++ digit ∷ []) n 0) last ∙ ap (λ l. get_or l (length front) 0) there
+                ∙ get_or-append_seam front 10 (codes "PART " ++ digit ∷ []) 0,
+            record { digit = digit; rest = []; is = refl; low = low; high = high },
+          );
+    }
+
+pub rest_within : (parts : List (List ℕ)) (bytes rest : List ℕ) → AreFirstParts parts bytes rest → length rest ≤ length bytes
+rest_within [] bytes rest same = omega (arith, ap length same)
+rest_within (part ∷ parts) bytes rest (after, first, later) =
+    omega (arith, rest_within parts after rest later, ap length first.joined, length-append part after)

@@ -1,0 +1,193 @@
+-- What refuses a form for good.
+use Rattle.std.proofs.Common.{◌≡◌, ◌≢◌, ◌⊎◌, inl, inr, ℕ, ◌+◌, ◌-◌, ◌<◌, ◌≤◌, List, [], ◌∷◌, ◌++◌, length, drop, get_or, refl, sym, ap, subst, ◌∙◌, append_assoc, length-append, Option, arith, rules}
+use Rattle.std.specs.Prelude.{codes, All, IsTrue, IsFalse}
+use Rattle.std.proofs.Math.Seq.{get_or-append_seam, drop-append_seam}
+use Rattle.std.proofs.Math.ListN.{get_or-append}
+use Rattle.std.proofs.lemmas.Bool.{cases_lt, false≢true}
+use Rattle.std.proofs.lemmas.List.{append-nil}
+use Rattle.std.proofs.lemmas.List.Elements.{All-head, All-tail, All-cons, All-nil}
+use Rattle.kd_tables.specs.Text.{is_text_byte}
+use Rattle.kd_state.specs.SheetDay.{Day}
+use Rattle.kd_state.specs.Words.{IsWithout, IsFirstPart, TextsTellFirstParts, NumbersAreWords}
+use Rattle.kd_form.specs.declared.fault.FormFault.{FormFault}
+use Rattle.kd_form.specs.declared.fault.FormFault.TheVariants.{BadByte}
+use Rattle.kd_form.specs.Sending.{IsBadAt}
+use Rattle.kd_form.specs.FormParts.{BeginsHeading, IsFirstOf}
+use Rattle.kd_form.specs.Receiving.{IsEarlyFault, IsPartFault, InHeading, InNumber, InBody}
+use Rattle.kd_form.specs.FormText.{given_letters, count_due, Turn, IsRefusedEarly, IsRefusedPart, IsRefusedForGood, NoHeading, InWhole, InLast}
+use Rattle.kd_form.specs.Laws.{FormsStayRefused}
+use Rattle.kd_form.proofs.FirstLines.{ended_heading, heading_there}
+use Rattle.kd_form.proofs.FirstCuts.{FirstCut, first_cut}
+use Rattle.kd_form.proofs.Growing.{begins_front, first_grows, last_rest, no_break, same_start, turn_with}
+use Rattle.kd_form.proofs.OneCut.{some_byte}
+use Rattle.kd_form.proofs.OneFault.{Shorter, Longer, fronts}
+
+-- ---- one line more or less behind the line of the heading
+
+-- what shows early rests on the heading's line, and on a bad byte of the body
+early_as_well : (s : Day) (number : ℕ) (expected : Option ℕ) (start : ℕ) (line body other : List ℕ) (fault : FormFault) → TextsTellFirstParts → IsWithout 10 line
+    → ((place : ℕ) → IsBadAt body place → IsBadAt other place) → IsEarlyFault s number expected start (line ++ 10 ∷ body) fault
+    → IsEarlyFault s number expected start (line ++ 10 ∷ other) fault
+early_as_well s number expected start line body other fault tell unbroken bad (InHeading none is) = InHeading (λ h rest has.
+    none h body (ended_heading s line body h has.is_heading (heading_there s line other h rest tell unbroken has).0)) is
+early_as_well s number expected start line body other fault tell unbroken bad (InNumber h rest has wrong is) =
+    InNumber h other (ended_heading s line other h has.is_heading (heading_there s line body h rest tell unbroken has).0) wrong is
+early_as_well s number expected start line body other fault tell unbroken bad (InBody h rest place has numbered due at is) =
+    let there = heading_there s line body h rest tell unbroken has in
+    let same : (start + (length (line ++ 10 ∷ body) - length rest)) + place + 1 ≡ (start + (length (line ++ 10 ∷ other) - length other)) + place + 1 =
+    omega (arith, ap length there.1, length-append line (10 ∷ body), length-append line (10 ∷ other)) in
+    InBody h other place (ended_heading s line other h has.is_heading there.0) numbered due (bad place (subst (λ x. IsBadAt x place) there.1 at)) (is ∙ ap BadByte same)
+
+bad_in_more : (body more : List ℕ) (place : ℕ) → IsBadAt body place → IsBadAt (body ++ more) place
+bad_in_more body more place at = record {
+  before = at.before;
+  byte = at.byte;
+  rest = at.rest ++ more;
+  joined = ap (λ l. l ++ more) at.joined ∙ append_assoc at.before (at.byte ∷ at.rest) more;
+  size = at.size;
+  allowed = at.allowed;
+  bad = at.bad;
+}
+
+good_there : (front : List ℕ) (byte : ℕ) (rest : List ℕ) → All (λ b. IsTrue (is_text_byte b)) (front ++ byte ∷ rest) → IsTrue (is_text_byte byte)
+good_there [] byte rest all = All-head (λ b. IsTrue (is_text_byte b)) byte rest all
+good_there (x ∷ front) byte rest all = good_there front byte rest (All-tail (λ b. IsTrue (is_text_byte b)) x (front ++ byte ∷ rest) all)
+
+bad_in_less : (body more : List ℕ) (place : ℕ) → All (λ b. IsTrue (is_text_byte b)) more → IsBadAt (body ++ more) place → IsBadAt body place
+bad_in_less body more place good at = elim (fronts body more at.before (at.byte ∷ at.rest) at.joined) [
+  | Shorter beyond longer left ↦
+      absurd (false≢true (sym at.bad ∙ good_there beyond at.byte at.rest (subst (All (λ b. IsTrue (is_text_byte b))) left good)))
+  | Longer x beyond longer left ↦
+      let same : at.byte ≡ x = cc in
+      record {
+        before = at.before;
+        byte = at.byte;
+        rest = beyond;
+        joined = longer ∙ ap (λ y. at.before ++ y ∷ beyond) (sym same);
+        size = at.size;
+        allowed = at.allowed;
+        bad = at.bad;
+      }
+]
+
+head_allowed : All (λ b. IsTrue (is_text_byte b)) (codes "PART ")
+head_allowed =
+    let P : ℕ → Type 0 = λ (b : ℕ). IsTrue (is_text_byte b) in
+    All-cons P 80 (65 ∷ 82 ∷ 84 ∷ 32 ∷ []) (search rules) (All-cons P 65 (82 ∷ 84 ∷ 32 ∷ []) (search rules)
+    (All-cons P 82 (84 ∷ 32 ∷ []) (search rules) (All-cons P 84 (32 ∷ []) (search rules) (All-cons P 32 [] (search rules) (All-nil P)))))
+
+All-before : (xs ys : List ℕ) → All (λ b. IsTrue (is_text_byte b)) (xs ++ ys) → All (λ b. IsTrue (is_text_byte b)) xs
+All-before [] ys all = All-nil (λ b. IsTrue (is_text_byte b))
+All-before (x ∷ xs) ys all =
+    All-cons (λ b. IsTrue (is_text_byte b)) x xs (All-head (λ b. IsTrue (is_text_byte b)) x (xs ++ ys) all)
+    (All-before xs ys (All-tail (λ b. IsTrue (is_text_byte b)) x (xs ++ ys) all))
+
+-- fewer than six bytes of what begins a heading may stand in a body
+few_allowed : (bytes more : List ℕ) → length bytes < 6 → BeginsHeading (bytes ++ more) → All (λ b. IsTrue (is_text_byte b)) bytes
+few_allowed bytes more few begins = elim (fronts bytes more (codes "PART ") (begins.digit ∷ begins.rest) begins.is) [
+  | Shorter beyond longer left ↦ All-before bytes beyond (subst (All (λ b. IsTrue (is_text_byte b))) longer head_allowed)
+  | Longer x beyond longer left ↦ absurd (omega (arith, ap length longer))
+]
+
+-- ---- the last part, with more bytes
+
+-- its heading's line, and a body in which the same bytes are bad
+record IsAlike (part : List ℕ) (line body : List ℕ) : Type 0 where
+  other : List ℕ
+  is : part ≡ line ++ 10 ∷ other
+  bad : (place : ℕ) → IsBadAt body place → IsBadAt other place
+
+-- the part goes on
+alike_longer : (part line body cut beyond : List ℕ) → part ≡ line ++ 10 ∷ body → cut ≡ part ++ beyond → IsAlike cut line body
+alike_longer part line body cut beyond broken longer = record {
+  other = body ++ beyond;
+  is = longer ∙ ap (λ l. l ++ beyond) broken ∙ append_assoc line (10 ∷ body) beyond;
+  bad = λ place at. bad_in_more body beyond place at;
+}
+
+too_few : (bytes more : List ℕ) → ¬ (BeginsHeading bytes) → BeginsHeading (bytes ++ more) → length bytes < 6
+too_few bytes more none begins = elim (cases_lt (length bytes) 6) [ inl short ↦ short | inr long ↦ absurd (none (begins_front bytes more long begins)) ]
+
+whole_size : (n : ℕ) → 1 ≤ n → n - 1 + 1 ≡ n
+whole_size n some = omega arith
+
+-- or its last bytes begin the next heading
+alike_shorter : (part line body cut rest more beyond : List ℕ) (byte : ℕ) → IsFirstOf part part [] → part ≡ line ++ 10 ∷ body → IsWithout 10 line
+    → IsFirstOf (part ++ more) cut rest → part ≡ cut ++ byte ∷ beyond → rest ≡ byte ∷ (beyond ++ more) → IsAlike cut line body
+alike_shorter part line body cut rest more beyond byte first broken unbroken next split left = elim next.ends [
+  | inl none ↦ cc
+  | inr ended ↦
+      let some : 1 ≤ length cut = some_byte (part ++ more) cut rest next.joined ended.0 ended.1 in
+      let size : length part ≡ length cut + length (byte ∷ beyond) = ap length split ∙ length-append cut (byte ∷ beyond) in
+      let last : get_or part (length cut - 1) 0 ≡ 10 = sym (get_or-append part more 0 (length cut - 1) (omega (arith, size))) ∙ ended.0 in
+      let behind : drop (length cut - 1 + 1) part ≡ byte ∷ beyond =
+      ap (λ n. drop n part) (whole_size (length cut) some) ∙ ap (drop (length cut)) split ∙ drop-append_seam cut (byte ∷ beyond) in
+      let none : ¬ (BeginsHeading (byte ∷ beyond)) =
+      (λ begins. first.whole (length cut - 1) (omega (arith, size)) last (subst BeginsHeading (sym behind) begins)) in
+      let begins : BeginsHeading ((byte ∷ beyond) ++ more) = subst BeginsHeading left ended.1 in
+      let few : length (byte ∷ beyond) < 6 = too_few (byte ∷ beyond) more none begins in
+      let good : All (λ b. IsTrue (is_text_byte b)) (byte ∷ beyond) = few_allowed (byte ∷ beyond) more few begins in
+      elim (fronts (line ++ 10 ∷ []) body cut (byte ∷ beyond) (append_assoc line (10 ∷ []) body ∙ sym broken ∙ split)) [
+        | Shorter other longer gone ↦ record {
+          other = other;
+          is = longer ∙ append_assoc line (10 ∷ []) other;
+          bad = λ place at. bad_in_less other (byte ∷ beyond) place good (subst (λ x. IsBadAt x place) gone at);
+        }
+        | Longer x beyond' longer gone ↦ absurd (
+            let inside : length cut - 1 < length line = omega (arith, some, ap length longer, length-append line (10 ∷ []), length-append cut (x ∷ beyond')) in
+            no_break line body (length cut - 1) unbroken inside (ap (λ l. get_or l (length cut - 1) 0) (sym broken) ∙ last))
+      ]
+]
+
+alike : (part line body cut rest more : List ℕ) → IsFirstOf part part [] → part ≡ line ++ 10 ∷ body → IsWithout 10 line → IsFirstOf (part ++ more) cut rest
+    → IsAlike cut line body
+alike part line body cut rest more first broken unbroken next = elim (fronts part more cut rest next.joined) [
+  | Shorter beyond longer left ↦ alike_longer part line body cut beyond broken longer
+  | Longer byte beyond longer left ↦ alike_shorter part line body cut rest more beyond byte first broken unbroken next longer left
+]
+
+-- ---- with more bytes behind it
+
+nothing_or_some : (xs : List ℕ) → (xs ≡ []) ⊎ (xs ≢ [])
+nothing_or_some [] = inl refl
+nothing_or_some (x ∷ xs) = inr (λ none. cc)
+
+last_stays : (s : Day) (form more text line body : List ℕ) (fault : FormFault) (t : Turn s form) → TextsTellFirstParts → more ≢ [] → t.after ≡ []
+    → IsFirstPart 10 t.part line body → IsRefusedEarly s form t fault → text ≡ given_letters s t.letters → IsRefusedForGood s (form ++ more) text fault
+last_stays s form more text line body fault t tell some last broken early is =
+    let rest : t.rest ≡ t.part = last_rest s form t last in
+    let first : IsFirstOf t.rest t.rest [] = subst (λ p. IsFirstOf t.rest p []) (sym rest) (subst (λ a. IsFirstOf t.rest t.part a) last t.first) in
+    let split : t.rest ≡ line ++ 10 ∷ body = rest ∙ broken.joined in
+    let cut : FirstCut (t.rest ++ more) = first_cut (t.rest ++ more) in
+    let u : Turn s (form ++ more) = turn_with s form more cut.part cut.rest t some cut.first in
+    let same : IsAlike cut.part line body = alike t.rest line body cut.part cut.rest more first split broken.without cut.first in
+    let start : ℕ = length (form ++ more) - length (t.rest ++ more) in
+    let found : IsEarlyFault s (length t.before + 1) (count_due t.before t.count) start cut.part fault =
+    subst (λ p. IsEarlyFault s (length t.before + 1) (count_due t.before t.count) start p fault) (sym same.is)
+    (early_as_well s (length t.before + 1) (count_due t.before t.count) start line body same.other fault tell broken.without same.bad
+    (subst (λ p. IsEarlyFault s (length t.before + 1) (count_due t.before t.count) start p fault) broken.joined
+    (subst (λ n. IsEarlyFault s (length t.before + 1) (count_due t.before t.count) n t.part fault) (sym (same_start form t.rest more)) early))) in
+    elim (nothing_or_some cut.rest) [
+      | inl none ↦ InLast u line same.other none (record { joined = same.is; without = broken.without }) found is
+      | inr left ↦ InWhole u left (inl found) is
+    ]
+
+no_front : (front back : List ℕ) → front ++ back ≡ [] → front ≡ []
+no_front [] back none = refl
+no_front (x ∷ front) back none = cc
+
+some_more : (s : Day) (form more text : List ℕ) (fault : FormFault) → TextsTellFirstParts → more ≢ [] → IsRefusedForGood s form text fault
+    → IsRefusedForGood s (form ++ more) text fault
+some_more s form more text fault tell some (NoHeading none empty is) =
+    NoHeading (λ other begins. none (more ++ other) (subst BeginsHeading (append_assoc form more other) begins)) empty is
+some_more s form more text fault tell some (InWhole t left refused is) =
+    let u : Turn s (form ++ more) = turn_with s form more t.part (t.after ++ more) t some (first_grows t.rest t.part t.after more t.first left) in
+    InWhole u (λ none. left (no_front t.after more none))
+    (subst (λ n. IsPartFault s (length t.before + 1) (count_due t.before t.count) n t.part fault) (sym (same_start form t.rest more)) refused) is
+some_more s form more text fault tell some (InLast t line body last broken early is) = last_stays s form more text line body fault t tell some last broken early is
+
+pub stays_refused : TextsTellFirstParts → NumbersAreWords → FormsStayRefused
+stays_refused tell numbers s form more text fault found = elim (nothing_or_some more) [
+  | inl none ↦ subst (λ b. IsRefusedForGood s b text fault) (sym (append-nil form) ∙ ap (λ l. form ++ l) (sym none)) found
+  | inr some ↦ some_more s form more text fault tell some found
+]

@@ -1,0 +1,362 @@
+-- Bytes that are fed one after another, and reads that follow one another.
+use Rattle.std.proofs.Common.{◌≡◌, ℕ, ◌+◌, ◌-◌, ◌^◌, ◌<◌, ◌≤◌, Bool, true, false, ◌||◌, List, [], ◌∷◌, ◌++◌, Option, Some, Result, Ok, Err, length, take, drop, IsTrue, refl, sym, ap, subst, ◌∙◌, append_assoc, append-nil, take-append-drop, length-append, arith}
+use Rattle.std.specs.Io.{StartsWith}
+use Rattle.std.specs.Io.KnownBytes.{Appends, Consumes, Keeps, IsAtEnd}
+use Rattle.std.proofs.KnownBytes.{Consumes-nil, Consumes-kept, Consumes-trans, Appends-nil, Appends-trans, starts_with_rest}
+use Rattle.std.proofs.Transfers.{starts_with_of_append}
+use Rattle.kd_tables.specs.declared.limit.TheConstants.{READ_LIMIT}
+use Rattle.kd_tables.specs.Ports.{Port, IsWell, Ends}
+use Rattle.kd_tables.specs.Writing.{TakesFront}
+use Rattle.kd_form.specs.declared.fault.FormFault.{FormFault}
+use Rattle.kd_form.specs.declared.fault.FormFault.TheVariants as faults
+use Rattle.kd_form.specs.declared.stream.stop.Stop.{Stop}
+use Rattle.kd_form.specs.declared.stream.stop.Stop.TheVariants as stops
+use Rattle.kd_form.specs.Streams.{Message, IsOpen, IsRefused, IsDue, ByThen, ByTheEnd, Answers, Whole, Stands, AtEnd, TooLong, SourceFails, SinkFails, IsStreamed}
+use Rattle.kd_form.specs.StreamSteps.{Held, HasRoom, FedTo, IsFed, FeedsAll, EndsIn, ClosesAt, ClosesAs, WritesWhole, IsRead, ReadsNext, fault_of, answer_to, stops_at_device}
+
+-- what is known of a port, in its order
+abbrev pub over : Option (List ℕ) → Option (List ℕ) → Bool → Bool → Port
+over had has before after = record { had = had; has = has; had_failed = before; has_failed = after }
+
+-- a failed call leaves the flag up
+failed_now : (before after : Bool) → after ≡ (before || true) → IsTrue after
+failed_now true after e = e
+failed_now false after e = e
+
+-- a call that did not fail leaves the flag as it was
+pub well_now : (before after : Bool) → after ≡ (before || false) → after ≡ before
+well_now true after e = e
+well_now false after e = e
+
+pub still_well : (before after : Bool) → after ≡ before → after ≡ (before || false)
+still_well true after e = e
+still_well false after e = e
+
+-- a flag since an earlier time, since which it wasn't raised
+pub flag_since : (before between after stops : Bool) → between ≡ before → after ≡ (between || stops) → after ≡ (before || stops)
+flag_since before between after stops same now = now ∙ ap (λ b. b || stops) same
+
+all_of_it : (xs : List ℕ) → StartsWith xs xs
+all_of_it xs = starts_with_of_append xs xs [] (sym (append-nil xs))
+
+front_of_made : (text made : List ℕ) (count : ℕ) → StartsWith (text ++ made) (text ++ take count made)
+front_of_made text made count =
+    starts_with_of_append (text ++ made) (text ++ take count made) (drop count made)
+    (ap (λ l. text ++ l) (sym (take-append-drop count made)) ∙ sym (append_assoc text (take count made) (drop count made)))
+
+starts_longer : (bytes more front : List ℕ) → StartsWith bytes front → StartsWith (bytes ++ more) front
+starts_longer bytes more front starts =
+    let rest = starts_with_rest bytes front starts in
+    starts_with_of_append (bytes ++ more) front (drop (length front) bytes ++ more) (ap (λ l. l ++ more) rest ∙ append_assoc front (drop (length front) bytes) more)
+
+-- ---- byte after byte
+
+-- what was made of a byte was put in part
+pub fed_in_part : (m : Message) (new : List ℕ → List ℕ → Type 0) (bytes text made : List ℕ) (took wrote : Option (List ℕ)) (d f : Bool)
+    → Held m new bytes (text ++ made) → TakesFront took wrote made → IsFed m new bytes text (over took wrote d f) (Err stops.Device)
+fed_in_part m new bytes text made took wrote d f held part = record {
+  made = take part.0 made;
+  written = part.2;
+  fed = record {
+    front = bytes;
+    due = text ++ made;
+    of_bytes = all_of_it bytes;
+    open_yet = held.open_yet;
+    of_due = front_of_made text made part.0;
+  };
+}
+
+pub fed_none : (m : Message) (old : List ℕ → List ℕ → Type 0) (took : Option (List ℕ)) (d : Bool) → FeedsAll m old old [] (over took took d d) (Ok tt)
+fed_none m old took d bytes text held = record {
+  made = [];
+  written = Appends-nil took;
+  fed = subst (λ b. Held m old b (text ++ [])) (sym (append-nil bytes)) (subst (Held m old bytes) (sym (append-nil text)) held);
+}
+
+-- one byte more
+pub fed_next : (m : Message) (old now new : List ℕ → List ℕ → Type 0) (front next : List ℕ) (took taken wrote : Option (List ℕ)) (d e f : Bool)
+    (answer : Result (Unit {0}) Stop) → FeedsAll m old now front (over took taken d e) (Ok tt) → FeedsAll m now new next (over taken wrote e f) answer
+    → FeedsAll m old new (front ++ next) (over took wrote d f) answer
+fed_next m old now new front next took taken wrote d e f answer before after bytes text held =
+    let one = before bytes text held in
+    let two = after (bytes ++ front) (text ++ one.made) one.fed in
+    record {
+      made = one.made ++ two.made;
+      written = Appends-trans took taken wrote one.made two.made one.written two.written;
+      fed = subst (λ b. FedTo m new b (text ++ (one.made ++ two.made)) answer) (append_assoc bytes front next)
+          (subst (λ t. FedTo m new ((bytes ++ front) ++ next) t answer) (append_assoc text one.made two.made) two.fed);
+    }
+
+-- ---- room for more bytes
+
+pub room_for : (m : Message) (holds : List ℕ → List ℕ → Type 0) (room less : ℕ) → less ≤ room → HasRoom m holds room → HasRoom m holds less
+room_for m holds room less few has = record { bytes = has.bytes; text = has.text; held = has.held; within = omega (arith, has.within, few) }
+
+-- behind the bytes that were fed
+pub room_less : (m : Message) (old new : List ℕ → List ℕ → Type 0) (more : List ℕ) (sink : Port) (room less : ℕ) → length more + less ≤ room → HasRoom m old room
+    → FeedsAll m old new more sink (Ok tt) → HasRoom m new less
+room_less m old new more sink room less few has fed =
+    let one = fed has.bytes has.text has.held in
+    record { bytes = has.bytes ++ more; text = has.text ++ one.made; held = one.fed; within = omega (arith, has.within, few, length-append has.bytes more) }
+
+pub room_at_first : (m : Message) (holds : List ℕ → List ℕ → Type 0) (room : ℕ) → room < 2 ^ 63 → Held m holds [] [] → HasRoom m holds room
+room_at_first m holds room few held = record { bytes = []; text = []; held = held; within = omega (arith, few) }
+
+refused_longer : (m : Message) (bytes more text : List ℕ) (fault : FormFault) → IsRefused m bytes text fault → IsRefused m (bytes ++ more) text fault
+refused_longer m bytes more text fault is = record {
+  stands = λ rest. subst (λ b. m.stands b fault) (sym (append_assoc bytes more rest)) (is.stands (more ++ rest));
+  refused = λ rest. subst (λ b. m.refused b fault) (sym (append_assoc bytes more rest)) (is.refused (more ++ rest));
+  written = λ rest. subst (λ b. m.before (Some fault) b text) (sym (append_assoc bytes more rest)) (is.written (more ++ rest));
+}
+
+fed_longer : (m : Message) (new : List ℕ → List ℕ → Type 0) (bytes more text : List ℕ) (stop : Stop) → FedTo m new bytes text (Err stop)
+    → FedTo m new (bytes ++ more) text (Err stop)
+fed_longer m new bytes more text (stops.Refused fault) is = refused_longer m bytes more text fault is
+fed_longer m new bytes more text stops.Device is = record {
+  front = is.front;
+  due = is.due;
+  of_bytes = starts_longer bytes more is.front is.of_bytes;
+  open_yet = is.open_yet;
+  of_due = is.of_due;
+}
+
+-- the same of bytes that are the same
+pub fed_whole : (m : Message) (old new : List ℕ → List ℕ → Type 0) (front whole : List ℕ) (sink : Port) (answer : Result (Unit {0}) Stop) → front ≡ whole
+    → FeedsAll m old new front sink answer → FeedsAll m old new whole sink answer
+fed_whole m old new front whole sink answer same fed = subst (λ all. FeedsAll m old new all sink answer) same fed
+
+-- once it stopped, it says so of all bytes
+pub fed_up_to : (m : Message) (old new : List ℕ → List ℕ → Type 0) (front more : List ℕ) (sink : Port) (stop : Stop) → FeedsAll m old new front sink (Err stop)
+    → FeedsAll m old new (front ++ more) sink (Err stop)
+fed_up_to m old new front more sink stop fed bytes text held =
+    let one = fed bytes text held in
+    record {
+      made = one.made;
+      written = one.written;
+      fed = subst (λ b. FedTo m new b (text ++ one.made) (Err stop)) (append_assoc bytes front more)
+          (fed_longer m new (bytes ++ front) more (text ++ one.made) stop one.fed);
+    }
+
+-- ---- a read
+
+-- the source failed
+pub read_failed : (m : Message) (new : List ℕ → List ℕ → Type 0) (bytes text : List ℕ) (room : ℕ) (had has took : Option (List ℕ)) (a c d : Bool)
+    → Held m new bytes text → length bytes + room ≤ READ_LIMIT → Keeps had has → c ≡ (a || true)
+    → IsRead m new bytes text room (over had has a c) (over took took d d) (Err stops.Device)
+read_failed m new bytes text room had has took a c d held few kept up = record {
+  more = [];
+  made = [];
+  within = omega arith;
+  given = Consumes-kept had had has [] (Consumes-nil had) kept;
+  written = Appends-nil took;
+  read = SourceFails (omega (arith, length-append bytes []))
+      (subst (λ b. IsOpen m b (text ++ [])) (sym (append-nil bytes)) (subst (IsOpen m bytes) (sym (append-nil text)) held.open_yet))
+      (record { failed = failed_now a c up; well = refl }) refl;
+}
+
+-- what was fed of a read stopped
+fed_answers : (m : Message) (new : List ℕ → List ℕ → Type 0) (read text : List ℕ) (source : Port) (took wrote : Option (List ℕ)) (d f : Bool) (stop : Stop)
+    → length read ≤ READ_LIMIT → IsWell source → FedTo m new read text (Err stop) → f ≡ (d || stops_at_device {T = Unit {0}} (Err stop))
+    → Answers m source (over took wrote d f) read text (Err (fault_of stop))
+fed_answers m new read text source took wrote d f (stops.Refused fault) few well is up =
+    Stands fault few (subst (λ b. m.stands b fault) (append-nil read) (is.stands []))
+    (subst (λ b. m.before (Some fault) b text) (append-nil read) (is.written [])) (well, well_now d f up) refl
+fed_answers m new read text source took wrote d f stops.Device few well is up =
+    SinkFails is.due few (ByThen is.front is.of_bytes is.open_yet) is.of_due (record { failed = failed_now d f up; well = well }) refl
+
+pub read_stopped : (m : Message) (old new : List ℕ → List ℕ → Type 0) (bytes text more : List ℕ) (room : ℕ) (had has took wrote : Option (List ℕ)) (a c d f : Bool) (stop : Stop)
+    → Held m old bytes text → length bytes + room ≤ READ_LIMIT → length more ≤ room → Consumes had has more → c ≡ (a || false)
+    → FeedsAll m old new more (over took wrote d f) (Err stop) → f ≡ (d || stops_at_device {T = Unit {0}} (Err stop))
+    → IsRead m new bytes text room (over had has a c) (over took wrote d f) (Err stop)
+read_stopped m old new bytes text more room had has took wrote a c d f stop held few inside given well fed up =
+    let one = fed bytes text held in
+    record {
+      more = more;
+      made = one.made;
+      within = inside;
+      given = given;
+      written = one.written;
+      read = fed_answers m new (bytes ++ more) (text ++ one.made) (over had has a c) took wrote d f stop
+          (omega (arith, length-append bytes more, few, inside)) (well_now a c well) one.fed up;
+    }
+
+-- ---- read after read
+
+-- so many bytes were read, the reader holds them, and no port failed
+pub record SoFar (m : Message) (holds : List ℕ → List ℕ → Type 0) (source sink : Port) (count : ℕ) : Type 0 where
+  pub read : List ℕ
+  pub text : List ℕ
+  pub counted : length read ≡ count
+  pub within : count ≤ READ_LIMIT
+  pub given : Consumes source.had source.has read
+  pub written : Appends sink.had sink.has text
+  pub held : Held m holds read text
+  pub well : IsWell source × IsWell sink
+
+pub SoFar-nil : (m : Message) (holds : List ℕ → List ℕ → Type 0) (had took : Option (List ℕ)) (a d : Bool) → Held m holds [] []
+    → SoFar m holds (over had had a a) (over took took d d) 0
+SoFar-nil m holds had took a d held = record {
+  read = [];
+  text = [];
+  counted = refl;
+  within = omega arith;
+  given = Consumes-nil had;
+  written = Appends-nil took;
+  held = held;
+  well = (refl, refl);
+}
+
+-- the ports since an earlier time, since which they didn't fail
+due_since : (m : Message) (had has next : Option (List ℕ)) (a b c : Bool) (read due : List ℕ) → IsDue m (over has next b c) read due → IsDue m (over had next a c) read due
+due_since m had has next a b c read due (ByThen front starts open') = ByThen front starts open'
+due_since m had has next a b c read due (ByTheEnd answer ended closes) = ByTheEnd answer ended closes
+
+answers_since : (m : Message) (had has next took taken wrote : Option (List ℕ)) (a b c d e f : Bool) (read text : List ℕ) (answer : Result (Unit {0}) FormFault)
+    → b ≡ a → e ≡ d → Answers m (over has next b c) (over taken wrote e f) read text answer → Answers m (over had next a c) (over took wrote d f) read text answer
+answers_since m had has next took taken wrote a b c d e f read text answer p q (Whole few ended becomes well is) = Whole few ended becomes (well.0 ∙ p, well.1 ∙ q) is
+answers_since m had has next took taken wrote a b c d e f read text answer p q (Stands fault few stands before well is) = Stands fault few stands before (well.0 ∙ p, well.1 ∙ q) is
+answers_since m had has next took taken wrote a b c d e f read text answer p q (AtEnd fault few ended none refused before well is) =
+    AtEnd fault few ended none refused before (well.0 ∙ p, well.1 ∙ q) is
+answers_since m had has next took taken wrote a b c d e f read text answer p q (TooLong front byte joined full open' well is) =
+    TooLong front byte joined full open' (well.0 ∙ p, well.1 ∙ q) is
+answers_since m had has next took taken wrote a b c d e f read text answer p q (SourceFails few open' fails is) =
+    SourceFails few open' (record { failed = fails.failed; well = fails.well ∙ q }) is
+answers_since m had has next took taken wrote a b c d e f read text answer p q (SinkFails due few is_due starts fails is) =
+    SinkFails due few (due_since m had has next a b c read due is_due) starts (record { failed = fails.failed; well = fails.well ∙ p }) is
+
+-- A step behind what was read, by what is known of the ports at the start, between and behind it.
+module _ (m : Message) (old new : List ℕ → List ℕ → Type 0) (had has next took taken wrote : Option (List ℕ)) (a b c d e f : Bool) (count room : ℕ)
+    (before : SoFar m old (over had has a b) (over took taken d e) count) (space : room ≡ READ_LIMIT - count) where
+  pub SoFar-read : (n : ℕ) → ReadsNext m old new room (over has next b c) (over taken wrote e f) (Ok n) → SoFar m new (over had next a c) (over took wrote d f) (count + n)
+  SoFar-read n reads =
+      let step = reads before.read before.text before.held (omega (arith, before.counted, before.within, space)) in
+      record {
+        read = before.read ++ step.more;
+        text = before.text ++ step.made;
+        counted = length-append before.read step.more ∙ omega (arith, before.counted, step.read.0);
+        within = omega (arith, before.within, step.within, step.read.0, space);
+        given = Consumes-trans had has next before.read step.more before.given step.given;
+        written = Appends-trans took taken wrote before.text step.made before.written step.written;
+        held = step.read.1;
+        well = (step.read.3 ∙ before.well.0, step.read.4 ∙ before.well.1);
+      }
+
+  pub SoFar-room : (n : ℕ) → ReadsNext m old new room (over has next b c) (over taken wrote e f) (Ok n) → count + n ≤ READ_LIMIT
+  SoFar-room n reads =
+      let step = reads before.read before.text before.held (omega (arith, before.counted, before.within, space)) in
+      omega (arith, before.within, step.within, step.read.0, space)
+
+  pub SoFar-at_end : (n : ℕ) → n ≡ 0 → ReadsNext m old new room (over has next b c) (over taken wrote e f) (Ok n) → IsAtEnd next
+  SoFar-at_end n none reads =
+      let step = reads before.read before.text before.held (omega (arith, before.counted, before.within, space)) in
+      step.read.2 none
+
+  stopped : (stop : Stop) → ReadsNext m old new room (over has next b c) (over taken wrote e f) (Err stop)
+      → IsStreamed m (over had next a c) (over took wrote d f) (Err (fault_of stop))
+  stopped stop reads =
+      let step = reads before.read before.text before.held (omega (arith, before.counted, before.within, space)) in
+      record {
+        read = before.read ++ step.more;
+        text = before.text ++ step.made;
+        given = Consumes-trans had has next before.read step.more before.given step.given;
+        written = Appends-trans took taken wrote before.text step.made before.written step.written;
+        answers = answers_since m had has next took taken wrote a b c d e f (before.read ++ step.more) (before.text ++ step.made) (Err (fault_of stop))
+            before.well.0 before.well.1 step.read;
+      }
+
+  pub IsStreamed-stopped : (stop : Stop) (fault : FormFault) → fault ≡ fault_of stop → ReadsNext m old new room (over has next b c) (over taken wrote e f) (Err stop)
+      → IsStreamed m (over had next a c) (over took wrote d f) (Err fault)
+  IsStreamed-stopped stop fault is reads =
+      subst (λ told. IsStreamed m (over had next a c) (over took wrote d f) (Err told)) (sym is) (stopped stop reads)
+
+-- ---- the end
+
+-- a whole message: what was fed of it stopped
+pub whole_stopped : (m : Message) (old new : List ℕ → List ℕ → Type 0) (bytes : List ℕ) (sink : Port) (stop : Stop) → Held m old [] []
+    → FeedsAll m old new bytes sink (Err stop) → WritesWhole m bytes sink (Err stop)
+whole_stopped m old new bytes sink (stops.Refused fault) held fed = subst (λ b. m.refused b fault) (append-nil bytes) ((fed [] [] held).fed.refused [])
+whole_stopped m old new bytes sink stops.Device held fed = tt
+
+whole_answer : (m : Message) (bytes text : List ℕ) (sink : Port) (answer : Result (Unit {0}) Stop) → Appends sink.had sink.has text → EndsIn m bytes text answer
+    → WritesWhole m bytes sink answer
+whole_answer m bytes text sink (Ok done) written ends = (text, ends, written)
+whole_answer m bytes text sink (Err (stops.Refused fault)) written ends = ends.0
+whole_answer m bytes text sink (Err stops.Device) written ends = tt
+
+-- it was fed whole, and ended
+pub whole_ended : (m : Message) (old new : List ℕ → List ℕ → Type 0) (bytes : List ℕ) (took taken wrote : Option (List ℕ)) (d e f : Bool) (answer : Result (Unit {0}) Stop)
+    → Held m old [] [] → FeedsAll m old new bytes (over took taken d e) (Ok tt) → ClosesAt m new (over taken wrote e f) answer
+    → WritesWhole m bytes (over took wrote d f) answer
+whole_ended m old new bytes took taken wrote d e f answer held fed closes =
+    let one = fed [] [] held in
+    let two = closes bytes one.made one.fed in
+    whole_answer m bytes (one.made ++ two.made) (over took wrote d f) answer (Appends-trans took taken wrote one.made two.made one.written two.written) two.ended
+
+closed : (m : Message) (holds : List ℕ → List ℕ → Type 0) (read text made : List ℕ) (source : Port) (took taken wrote : Option (List ℕ)) (d e f : Bool)
+    (told : Result (Unit {0}) Stop) → Held m holds read text → length read ≤ READ_LIMIT → IsAtEnd source.has → IsWell source → e ≡ d
+    → EndsIn m read (text ++ made) told → f ≡ (e || stops_at_device told) → Answers m source (over took wrote d f) read (text ++ made) (answer_to told)
+closed m holds read text made source took taken wrote d e f (Ok done) held few ended well same ends up =
+    Whole few ended ends (well, well_now e f up ∙ same) refl
+closed m holds read text made source took taken wrote d e f (Err (stops.Refused fault)) held few ended well same ends up =
+    AtEnd fault few ended held.open_yet.unrefused ends.0 ends.1 (well, well_now e f up ∙ same) refl
+closed m holds read text made source took taken wrote d e f (Err stops.Device) held few ended well same ends up =
+    SinkFails ends.0 few (ByTheEnd ends.1 ended ends.2) ends.3 (record { failed = failed_now e f up; well = well }) refl
+
+pub IsStreamed-closed : (m : Message) (holds : List ℕ → List ℕ → Type 0) (source : Port) (took taken wrote : Option (List ℕ)) (d e f : Bool) (count : ℕ)
+    (answer : Result (Unit {0}) FormFault) → SoFar m holds source (over took taken d e) count → IsAtEnd source.has
+    → ClosesAs m holds (over taken wrote e f) answer → IsStreamed m source (over took wrote d f) answer
+IsStreamed-closed m holds source took taken wrote d e f count answer before ended closes =
+    let one = closes.ended before.read before.text before.held in
+    let few : length before.read ≤ READ_LIMIT = omega (arith, before.counted, before.within) in
+    record {
+      read = before.read;
+      text = before.text ++ one.made;
+      given = before.given;
+      written = Appends-trans took taken wrote before.text one.made before.written one.written;
+      answers = subst (Answers m source (over took wrote d f) before.read (before.text ++ one.made)) (sym closes.answers)
+          (closed m holds before.read before.text one.made source took taken wrote d e f closes.told before.held few ended before.well.0 before.well.1 one.ended closes.failed);
+    }
+
+pub at_end : (has next : Option (List ℕ)) (end : Bool) → end ≡ true → Ends has next (Ok end) → IsAtEnd next
+at_end has next end is ends = (subst (λ b. Ends has next (Ok b)) is ends).1
+
+-- As much as may be read was read, and one byte more was asked for.
+module _ (m : Message) (holds : List ℕ → List ℕ → Type 0) (had has next : Option (List ℕ)) (sink : Port) (a b c : Bool) (count : ℕ)
+    (before : SoFar m holds (over had has a b) sink count) where
+  pub SoFar-ended : (end : Bool) → end ≡ true → Ends has next (Ok end) → c ≡ (b || false) → SoFar m holds (over had next a c) sink count
+  SoFar-ended end is ends well = let none = (subst (λ b. Ends has next (Ok b)) is ends).0 in record {
+    read = before.read;
+    text = before.text;
+    counted = before.counted;
+    within = before.within;
+    given = subst (Consumes had next) (append-nil before.read) (Consumes-trans had has next before.read [] before.given none);
+    written = before.written;
+    held = before.held;
+    well = (well_now b c well ∙ before.well.0, before.well.1);
+  }
+
+  pub IsStreamed-too_long : READ_LIMIT ≤ count → (end : Bool) → end ≡ false → Ends has next (Ok end) → c ≡ (b || false)
+      → IsStreamed m (over had next a c) sink (Err faults.ReadTooLong)
+  IsStreamed-too_long full end more met well = let ends = subst (λ b. Ends has next (Ok b)) more met in record {
+    read = before.read ++ ends.0 ∷ [];
+    text = before.text;
+    given = Consumes-trans had has next before.read (ends.0 ∷ []) before.given ends.1;
+    written = before.written;
+    answers = TooLong before.read ends.0 refl (omega (arith, before.counted, before.within, full)) before.held.open_yet
+        (well_now b c well ∙ before.well.0, before.well.1) refl;
+  }
+
+  pub IsStreamed-unread : Consumes has next [] → c ≡ (b || true) → IsStreamed m (over had next a c) sink (Err faults.Device)
+  IsStreamed-unread none up = record {
+    read = before.read;
+    text = before.text;
+    given = subst (Consumes had next) (append-nil before.read) (Consumes-trans had has next before.read [] before.given none);
+    written = before.written;
+    answers = SourceFails (omega (arith, before.counted, before.within)) before.held.open_yet
+        (record { failed = failed_now b c up; well = before.well.1 }) refl;
+  }
+
+pub room_after : (m : Message) (holds : List ℕ → List ℕ → Type 0) (source sink : Port) (count room : ℕ) → count + room ≤ READ_LIMIT → SoFar m holds source sink count
+    → HasRoom m holds room
+room_after m holds source sink count room few before =
+    record { bytes = before.read; text = before.text; held = before.held; within = omega (arith, few, before.counted) }

@@ -1,0 +1,6 @@
+use Rattle.std.proofs.Common.{inl}
+use Rattle.kd_form.proofs.OrderRead.{stands_longer}
+use Rattle.kd_form.proofs.laws.orders_stay_refused.Goals as goal
+
+pub returns : goal.returns
+returns c s order more fault stands = inl (stands_longer s order more fault stands)

@@ -1,0 +1,13 @@
+use Rattle.std.proofs.Common.{refl}
+use Rattle.kd_form.specs.Streams.{Off}
+use Rattle.kd_form.proofs.Failing.{fails, of_forms, off_key_fails}
+use Rattle.kd_form.proofs.receiving.receive_stream.Goals as goal
+
+pub returns-in-Ok-clause-failed : goal.returns-in-Ok-clause-failed
+returns-in-Ok-clause-failed g c = fails _ _ _ _ _ _ (of_forms c.args.day.now) c.stream.ensures.answers
+
+pub returns-in-Err-clause-streamed : goal.returns-in-Err-clause-streamed
+returns-in-Err-clause-streamed g c = Off c.in-Err.fault c.in-Err.ensures refl (record { has = refl; well = refl }) (record { has = refl; well = refl })
+
+pub returns-in-Err-clause-failed : goal.returns-in-Err-clause-failed
+returns-in-Err-clause-failed g c = off_key_fails c.args.machine.now c.args.day.now _ _ c.in-Err.fault c.in-Err.ensures (refl, refl)

@@ -1,0 +1,14 @@
+use Rattle.std.proofs.Common.{refl}
+use Rattle.kd_form.specs.Streams.{Off}
+use Rattle.kd_form.proofs.Failing.{fails, of_orders, off_key_fails}
+use Rattle.kd_form.proofs.sending.send_stream.Goals as goal
+
+pub returns-in-Err-clause-streamed : goal.returns-in-Err-clause-streamed
+returns-in-Err-clause-streamed g c =
+    Off c.in-Err.fault c.in-Err.ensures refl (record { has = refl; well = refl }) (record { has = refl; well = refl })
+
+pub returns-in-Err-clause-failed : goal.returns-in-Err-clause-failed
+returns-in-Err-clause-failed g c = off_key_fails _ _ _ _ c.in-Err.fault c.in-Err.ensures (refl, refl)
+
+pub returns-in-Ok-clause-failed : goal.returns-in-Ok-clause-failed
+returns-in-Ok-clause-failed g c = fails _ _ _ _ _ _ (of_orders c.args.day.now) c.stream.ensures.answers

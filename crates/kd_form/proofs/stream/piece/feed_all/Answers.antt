@@ -1,0 +1,38 @@
+use Rattle.std.proofs.Common.{◌≡◌, ℕ, ◌<◌, ◌++◌, ◌∷◌, List, [], suc, length, take, drop, get_or, sym, ap, ◌∙◌, refl, append_assoc, take-append-drop, arith}
+use Rattle.std.proofs.lemmas.List.{take_more, take_all}
+use Rattle.std.proofs.Math.Seq.{drop-cons}
+use Rattle.kd_form.proofs.Streaming.{fed_none, fed_next, fed_whole, fed_up_to, room_less, room_for, still_well, well_now, flag_since}
+use Rattle.kd_form.proofs.stream.piece.feed_all.Goals as goal
+
+up_to : (bytes : List ℕ) (place : ℕ) → place < length bytes → take place bytes ++ get_or bytes place 0 ∷ [] ++ drop (suc place) bytes ≡ bytes
+up_to bytes place inside = append_assoc (take place bytes) (get_or bytes place 0 ∷ []) (drop (suc place) bytes)
+    ∙ ap (λ l. take place bytes ++ l) (sym (drop-cons bytes place 0 inside)) ∙ take-append-drop place bytes
+
+pub loop-byte-init : goal.loop-byte-init
+loop-byte-init g c = record { room = room_for _ _ _ _ (omega arith) c.requires; fed = fed_none _ _ _ _; well = refl }
+
+pub returns-in-Err-clause-fed : goal.returns-in-Err-clause-fed
+returns-in-Err-clause-fed g c =
+    fed_whole _ _ _ _ _ _ _ (up_to c.args.bytes.now c.loop-byte.byte-index c.loop-byte-test.true)
+    (fed_up_to _ _ _ _ _ _ _ (fed_next _ _ _ _ _ _ _ _ _ _ _ _ _ c.loop-byte.invariant.fed c.in-Err.ensures.fed))
+
+pub returns-in-Err-clause-failed : goal.returns-in-Err-clause-failed
+returns-in-Err-clause-failed g c = flag_since _ _ _ _ c.loop-byte.invariant.well c.in-Err.ensures.failed
+
+pub loop-byte-preserved : goal.loop-byte-preserved
+loop-byte-preserved g c = record {
+  room = room_less _ _ _ _ _ _ _ (omega (arith, c.loop-byte-test.true)) c.loop-byte.invariant.room c.in-Ok.ensures.fed;
+  fed = fed_whole _ _ _ _ _ _ _ (sym (take_more c.args.bytes.now c.loop-byte.byte-index 0 c.loop-byte-test.true))
+      (fed_next _ _ _ _ _ _ _ _ _ _ _ _ _ c.loop-byte.invariant.fed c.in-Ok.ensures.fed);
+  well = well_now _ _ c.in-Ok.ensures.failed ∙ c.loop-byte.invariant.well;
+}
+
+pub returns-clause-fed : goal.returns-clause-fed
+returns-clause-fed g c =
+    fed_whole _ _ _ _ _ _ _ (take_all c.loop-byte.byte-index c.args.bytes.now c.loop-byte-test.false) c.loop-byte.invariant.fed
+
+pub returns-clause-failed : goal.returns-clause-failed
+returns-clause-failed g c = still_well _ _ c.loop-byte.invariant.well
+
+pub feed_one-requires : goal.feed_one-requires
+feed_one-requires g c = room_for _ _ _ _ (omega (arith, c.loop-byte-test.true)) c.loop-byte.invariant.room

@@ -1,0 +1,14 @@
+use Rattle.std.proofs.Common.{◌-◌}
+use Rattle.kd_tables.specs.Ports.{port}
+use Rattle.kd_tables.specs.declared.limit.TheConstants.{READ_LIMIT}
+use Rattle.kd_form.proofs.Streaming.{SoFar}
+use Rattle.kd_form.proofs.stream.stream.Given as goal
+
+-- what was read so far is held, and nothing failed
+abbrev pub invariant-loop-read : goal.invariant-loop-read
+invariant-loop-read g l =
+    SoFar (g.M.MessageReader.message l.day) (g.M.MessageReader.holds l.day l.reader)
+    (port g.R.Source.remaining g.R.Source.has_failed l.fn.source l.source) (port g.W.Sink.taken g.W.Sink.has_failed l.fn.sink l.sink) l.read
+
+abbrev pub decreases-loop-read : goal.decreases-loop-read
+decreases-loop-read g l = READ_LIMIT - l.read

@@ -1,0 +1,212 @@
+//! A form, as it comes: one part of it is held at a time.
+ghost use Rattle.std.specs.Prelude.{codes, ◌≡◌, ◌≢◌, ◌⊎◌, ◌↔◌, ◌+◌, ◌≤◌, ℕ, List, [], ◌∷◌, ◌++◌, length, take, IsTrue, MatchResult};
+ghost use Rattle.kd_form.specs.declared.heading.Heading.{Heading};
+ghost use Rattle.kd_form.specs.Receiving.{IsExpected, IsBodyText, IsBodyFault, IsPartFault};
+ghost use Rattle.kd_form.specs.FormParts.{IsHeading};
+ghost use Rattle.kd_form.specs.FormText.{form_message};
+ghost use Rattle.kd_form.specs.FormReading.{MayBegin, IsHeadingDue, IsHeadingOff, HoldsStage, HoldsForm, IsLastText};
+
+use super::fault::FormFault;
+use super::given::given_letters;
+use super::heading::Heading;
+use super::heading_line::{heading_of_ended, heading_of_open};
+use super::keeping::keep;
+use super::part_body::{PartBody, head_byte};
+use super::stream::reader::{Made, MessageReader};
+use super::text::is_text_byte;
+use arrayvec::ArrayVec;
+use kd_state::SheetDay;
+use kd_state::laws::{numbers_and_letters_are_words, texts_tell_first_parts};
+use kd_tables::Letter;
+
+/// More bytes than the line of a heading has, with its end.
+const LINE: usize = 64;
+
+/// What has come of a form and isn't written yet.
+#[derive(Drop)]
+pub(crate) struct FormReader {
+    /// How many bytes have come.
+    pub(crate) position: usize,
+    /// Which part is read, counted from 1.
+    pub(crate) number: u8,
+    /// Of how many the form is, once one has been read.
+    pub(crate) expected: Option<u8>,
+    /// What has come of it.
+    pub(crate) stage: Stage,
+}
+
+/// What has come of a part.
+#[derive(Drop)]
+pub(crate) enum Stage {
+    /// The first bytes of the line of its heading.
+    Heading(ArrayVec<u8, LINE>),
+    /// Its heading, and what has come of its body.
+    Body(PartBody),
+}
+
+impl MessageReader for FormReader {
+    ghost message = { form_message };
+
+    ghost holds = { HoldsForm };
+
+    fn start(_day: &SheetDay) -> FormReader {
+        texts_tell_first_parts();
+        numbers_and_letters_are_words();
+        FormReader {
+            position: 0,
+            number: 1,
+            expected: None,
+            stage: Stage::Heading(ArrayVec::new()),
+        }
+    }
+
+    fn feed(&mut self, day: &SheetDay, byte: u8, made: &mut Made) -> Result<(), FormFault> {
+        texts_tell_first_parts();
+        numbers_and_letters_are_words();
+        self.position += 1;
+        match &mut self.stage {
+            Stage::Heading(line) => {
+                if !may_follow(line.as_slice(), byte) {
+                    return Err(FormFault::BadHeading(self.number));
+                }
+                if byte != b'\n' {
+                    keep(line, byte);
+                    return Ok(());
+                }
+                let heading = heading_of_ended(day, line.as_slice());
+                match check_heading(self.number, &self.expected, heading) {
+                    Ok(heading) => {
+                        self.stage = Stage::Body(PartBody::new(heading));
+                        Ok(())
+                    }
+                    Err(fault) => Err(fault),
+                }
+            }
+            Stage::Body(body) => {
+                if !body.ends_before(byte) {
+                    if !is_text_byte(byte) {
+                        return Err(FormFault::BadByte(self.position));
+                    }
+                    body.push(byte);
+                    return Ok(());
+                }
+                match body.read(day, 4) {
+                    Ok(letters) => {
+                        *made = given_letters(day, letters.as_slice());
+                        self.expected = Some(body.heading.parts);
+                        self.number += 1;
+                        self.stage = Stage::Heading(heading_from(byte));
+                        Ok(())
+                    }
+                    Err(fault) => Err(fault),
+                }
+            }
+        }
+    }
+
+    fn end(&mut self, day: &SheetDay, made: &mut Made) -> Result<(), FormFault> {
+        match self.last_text(day) {
+            Ok((parts, letters)) => {
+                *made = given_letters(day, letters.as_slice());
+                if parts != self.number {
+                    return Err(FormFault::PartOrder);
+                }
+                made.push(b'\n');
+                Ok(())
+            }
+            Err(fault) => Err(fault),
+        }
+    }
+}
+
+impl FormReader {
+    /// Of how many parts the last one is, and the letters of its text.
+    fn last_text(&self, day: &SheetDay) -> Result<(u8, ArrayVec<Letter, 500>), FormFault>
+        requires { (part : List ℕ)
+            × HoldsStage day.now self.now.stage self.now.number self.now.expected part }
+        ensures { (part : List ℕ) → HoldsStage day.now self.now.stage self.now.number self.now.expected part
+            → MatchResult result
+            (λ found. IsLastText day.now self.now.number self.now.expected part found.0 found.1.items)
+            (λ fault. (start : ℕ) → IsPartFault day.now self.now.number self.now.expected start part fault) }
+    {
+        match &self.stage {
+            Stage::Heading(line) => {
+                let heading = heading_of_open(day, line.as_slice());
+                match check_heading(self.number, &self.expected, heading) {
+                    Ok(heading) => read_last(day, &PartBody::new(heading)),
+                    Err(fault) => Err(fault),
+                }
+            }
+            Stage::Body(body) => read_last(day, body),
+        }
+    }
+}
+
+/// Of how many parts the one with that body is, and the letters of its text: it goes to the end of the form.
+fn read_last(day: &SheetDay, body: &PartBody) -> Result<(u8, ArrayVec<Letter, 500>), FormFault>
+    requires { IsHeading day.now body.now.heading }
+    ensures { (letters : List ℕ) → body.now.letters.items ≡ take 525 letters → MatchResult result
+        (λ found. (found.0 ≡ body.now.heading.parts)
+        × IsBodyText day.now body.now.heading letters found.1.items)
+        (IsBodyFault day.now body.now.heading.part body.now.heading letters) }
+{
+    let parts = body.heading.parts;
+    match body.read(day, 0) {
+        Ok(letters) => Ok((parts, letters)),
+        Err(fault) => Err(fault),
+    }
+}
+
+/// Whether the byte may follow these in the line of a heading: up to its first digit, there is one byte or a digit.
+fn may_follow(line: &[u8], byte: u8) -> bool
+    ensures { (part : List ℕ) → line.now ≡ take 64 part → MayBegin part
+        → (IsTrue result ↔ MayBegin (part ++ byte ∷ [])) }
+{
+    match head_byte(line.len()) {
+        Some(due) => byte == due,
+        None => line.len() > 5 || byte.is_ascii_digit(),
+    }
+}
+
+/// The first bytes of the line of a heading, up to its first digit.
+fn heading_from(digit: u8) -> ArrayVec<u8, LINE>
+    ensures { result.items ≡ codes "PART " ++ digit ∷ [] }
+{
+    let mut line = ArrayVec::new();
+    line.push(b'P');
+    line.push(b'A');
+    line.push(b'R');
+    line.push(b'T');
+    line.push(b' ');
+    line.push(digit);
+    line
+}
+
+/// Refuses what isn't the heading of the part of that number, where the form is to have so many.
+fn check_heading(
+    number: u8,
+    expected: &Option<u8>,
+    heading: Option<Heading>,
+) -> Result<Heading, FormFault>
+    ensures { MatchResult result
+        (IsHeadingDue number expected.now heading)
+        (IsHeadingOff number expected.now heading) }
+{
+    let Some(heading) = heading else {
+        return Err(FormFault::BadHeading(number));
+    };
+    if heading.part != number || !is_expected(expected, heading.parts) {
+        return Err(FormFault::PartOrder);
+    }
+    Ok(heading)
+}
+
+/// Whether the number of parts is the first part's, if there was one.
+fn is_expected(expected: &Option<u8>, parts: u8) -> bool
+    ensures { IsTrue result ↔ IsExpected expected.now parts }
+{
+    match expected {
+        Some(first) => *first == parts,
+        None => true,
+    }
+}

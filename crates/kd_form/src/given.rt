@@ -1,0 +1,31 @@
+//! The letters of a text as they are given.
+ghost use Rattle.std.specs.Prelude.{◌≡◌, ◌≤◌, length};
+ghost use Rattle.kd_form.specs.FormText.{given_byte, given_letters};
+
+use super::text::blank_of;
+use arrayvec::ArrayVec;
+use kd_state::SheetDay;
+use kd_tables::Letter;
+
+/// The letters as they are given: on the Converter M-209 a space for each Z.
+pub(crate) fn given_letters<const N: usize>(day: &SheetDay, letters: &[Letter]) -> ArrayVec<u8, N>
+    requires { length letters.now ≤ N }
+    ensures { result.items ≡ given_letters day.now letters.now }
+{
+    let blank = blank_of(day);
+    let mut given = ArrayVec::new();
+    for letter in letters {
+        given.push(given_byte(&blank, *letter));
+    }
+    given
+}
+
+/// The byte that is given for a letter, where a space may stand for one.
+fn given_byte(blank: &Option<Letter>, letter: Letter) -> u8
+    ensures { result ≡ given_byte blank.now letter }
+{
+    match blank {
+        Some(blank) if *blank == letter => b' ',
+        _ => letter.byte(),
+    }
+}

@@ -1,0 +1,83 @@
+//! An order, byte by byte.
+ghost use Rattle.std.specs.Prelude.{◌≡◌, [], ◌∷◌, ◌++◌};
+
+pub(crate) mod head;
+pub(crate) mod parts;
+
+use crate::fault::FormFault;
+use crate::stream::reader::{Made, MessageReader};
+use crate::suiting::check_keys;
+use crate::text::{blank_of, is_text_byte, letter_of_byte};
+use head::{HeadReader, HeadStep};
+use kd_state::SheetDay;
+use kd_state::laws::texts_tell_first_parts;
+use parts::PartWriter;
+
+/// What reads an order, and writes its parts.
+#[derive(Drop)]
+pub(crate) struct OrderReader {
+    /// How many bytes were read.
+    read: usize,
+    stage: Stage,
+    head: HeadReader,
+    parts: PartWriter,
+}
+
+/// Where in an order the next byte stands.
+#[derive(Clone, Copy, Debug, PartialEq, Eq)]
+pub(crate) enum Stage {
+    /// In the lines up to its text.
+    Head,
+    /// In its text.
+    Text,
+}
+
+impl MessageReader for OrderReader {
+    ghost use Rattle.kd_form.specs.SendStream.{orders};
+    ghost use Rattle.kd_form.specs.SendSteps.{IsOrderRead};
+
+    ghost message = { λ day. orders day };
+
+    ghost holds = { λ day reader order sent. IsOrderRead day reader order sent };
+
+    fn start(_day: &SheetDay) -> Self {
+        texts_tell_first_parts();
+        OrderReader {
+            read: 0,
+            stage: Stage::Head,
+            head: HeadReader::new(),
+            parts: PartWriter::new(),
+        }
+    }
+
+    fn feed(&mut self, day: &SheetDay, byte: u8, made: &mut Made) -> Result<(), FormFault> {
+        texts_tell_first_parts();
+        self.read += 1;
+        match self.stage {
+            Stage::Head => match self.head.take(day, byte) {
+                HeadStep::Open => Ok(()),
+                HeadStep::Bad => Err(FormFault::BadByte(self.read)),
+                HeadStep::Text => {
+                    self.stage = Stage::Text;
+                    check_keys(day, self.head.keys())
+                }
+            },
+            Stage::Text => {
+                if !is_text_byte(byte) {
+                    return Err(FormFault::BadByte(self.read));
+                }
+                if let Some(letter) = letter_of_byte(&blank_of(day), byte) {
+                    self.parts.take(day, self.head.keys(), letter, made);
+                }
+                Ok(())
+            }
+        }
+    }
+
+    fn end(&mut self, day: &SheetDay, made: &mut Made) -> Result<(), FormFault> {
+        match self.stage {
+            Stage::Head => Err(FormFault::BadByte(self.read + 1)),
+            Stage::Text => self.parts.end(day, self.head.keys(), made),
+        }
+    }
+}

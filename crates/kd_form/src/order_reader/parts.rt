@@ -1,0 +1,102 @@
+//! The letters of an order's text, and the parts that are made of them.
+ghost use Rattle.std.specs.Prelude.{◌≡◌, ◌<◌, ◌≤◌, ◌+◌, ◌^◌, List, ℕ, [], ◌∷◌, ◌++◌, length, Some, slice_get};
+ghost use Rattle.kd_form.specs.declared.keys.Keys.{Keys};
+ghost use Rattle.kd_form.specs.Making.{IsMadeText, part_size};
+ghost use Rattle.kd_form.specs.SendSteps.{AreSuitedKeys, AreTaken, IsLastTaken, IsFresh};
+
+use crate::fault::FormFault;
+use crate::keys::Keys;
+use crate::making::make_part;
+use crate::sending::part_size;
+use crate::stream::reader::Made;
+use arrayvec::ArrayVec;
+use kd_state::SheetDay;
+use kd_tables::Letter;
+
+/// What takes the letters of an order's text, and makes parts of them.
+#[derive(Drop)]
+pub(crate) struct PartWriter {
+    /// The letters that aren't in a part yet, as far as a part has room.
+    letters: ArrayVec<Letter, 500>,
+    /// How many letters the text has so far.
+    count: usize,
+    /// How many parts were made.
+    written: u8,
+}
+
+impl PartWriter {
+    /// One that has taken nothing.
+    pub(crate) fn new() -> Self
+        ensures { IsFresh result }
+    {
+        PartWriter {
+            letters: ArrayVec::new(),
+            count: 0,
+            written: 0,
+        }
+    }
+
+    /// Takes the next letter. Where it shows that a part is full and another one follows, that part is made.
+    pub(crate) fn take(&mut self, day: &SheetDay, keys: &[Keys], letter: Letter, made: &mut Made)
+        requires keys { AreSuitedKeys day.now keys.now }
+        requires taken { (letters sent : List ℕ) × AreTaken day.now keys.now self.old letters sent
+            × (length letters < 2 ^ 63) }
+        requires empty { made.old.items ≡ [] }
+        ensures { (letters sent : List ℕ) → AreTaken day.now keys.now self.old letters sent
+            → AreTaken day.now keys.now self.new (letters ++ letter ∷ []) (sent ++ made.new.items) }
+    {
+        self.count += 1;
+        if self.letters.len() < part_size(day) {
+            self.letters.push(letter);
+        } else if usize::from(self.written) + 1 < keys.len() {
+            self.write(day, keys, made);
+            self.letters.push(letter);
+        }
+    }
+
+    /// Makes the last part, at the end of the text.
+    pub(crate) fn end(
+        &mut self,
+        day: &SheetDay,
+        keys: &[Keys],
+        made: &mut Made,
+    ) -> Result<(), FormFault>
+        requires keys { AreSuitedKeys day.now keys.now }
+        requires taken { (letters sent : List ℕ) × AreTaken day.now keys.now self.old letters sent }
+        requires empty { made.old.items ≡ [] }
+        ensures { (letters sent : List ℕ) → AreTaken day.now keys.now self.old letters sent
+            → IsLastTaken day.now keys.now letters sent made.new.items result }
+    {
+        if self.count == 0 {
+            return Err(FormFault::EmptyText);
+        }
+        let needed = self.count.div_ceil(part_size(day));
+        let given = keys.len();
+        if needed != given {
+            return Err(FormFault::PartKeys { needed, given });
+        }
+        self.write(day, keys, made);
+        Ok(())
+    }
+
+    /// Makes a part of the letters that are kept.
+    fn write(&mut self, day: &SheetDay, keys: &[Keys], made: &mut Made)
+        requires keys { AreSuitedKeys day.now keys.now }
+        requires another { self.old.written < length keys.now }
+        requires few { length self.old.letters.items ≤ part_size day.now }
+        requires empty { made.old.items ≡ [] }
+        ensures made { (k : Keys) × (slice_get keys.now self.old.written ≡ Some k)
+            × IsMadeText day.now (self.old.written + 1) (length keys.now) k self.old.letters.items made.new.items }
+        ensures letters { self.new.letters.items ≡ [] }
+        ensures count { self.new.count ≡ self.old.count }
+        ensures written { self.new.written ≡ self.old.written + 1 }
+    {
+        let part = self.written + 1;
+        let own = &keys[usize::from(self.written)];
+        let text = make_part(day, part, keys.len() as u8, own, self.letters.as_slice());
+        made.try_extend_from_slice(text.as_str().as_bytes())
+            .unwrap();
+        self.letters.clear();
+        self.written = part;
+    }
+}

@@ -1,0 +1,130 @@
+//! The body of a part of a form, as it comes.
+ghost use Rattle.std.specs.Prelude.{codes, ◌≡◌, ◌↔◌, ◌<◌, ◌≤◌, ℕ, List, [], ◌∷◌, ◌++◌, length, take, slice_index, IsTrue, MatchResult, MatchOption, None, Some};
+ghost use Rattle.std.specs.Option.{option_to_list};
+ghost use Rattle.kd_tables.specs.Text.{is_text_byte};
+ghost use Rattle.kd_state.specs.Words.{line_of};
+ghost use Rattle.kd_form.specs.Order.{IsEnded};
+ghost use Rattle.kd_form.specs.Part.{heading_words};
+ghost use Rattle.kd_form.specs.Sending.{letters_from};
+ghost use Rattle.kd_form.specs.FormParts.{IsHeading};
+ghost use Rattle.kd_form.specs.Receiving.{IsBodyText, IsBodyFault};
+ghost use Rattle.kd_form.specs.FormReading.{IsNextLine, Begins, HoldsBody};
+
+use super::fault::FormFault;
+use super::heading::Heading;
+use super::keeping::keep;
+use super::reading::read_body;
+use super::text::letter_of_byte;
+use arrayvec::ArrayVec;
+use kd_state::SheetDay;
+use kd_tables::Letter;
+
+/// One letter more than a body has at most, so that a longer one is told from it, and the four of `PART`, which may yet begin
+/// the next heading.
+const KEPT: usize = 525;
+
+/// The body of a part of a form, as far as it has come.
+#[derive(Drop)]
+pub(crate) struct PartBody {
+    /// What the part's heading says.
+    pub(crate) heading: Heading,
+    /// Its first letters.
+    pub(crate) letters: ArrayVec<Letter, KEPT>,
+    /// How many bytes of `PART ` its last line has, if it has no others.
+    pub(crate) begun: Option<usize>,
+}
+
+impl PartBody {
+    /// The body behind that heading, of which nothing has come.
+    pub(crate) fn new(heading: Heading) -> PartBody
+        ensures heading { result.heading ≡ heading }
+        ensures letters { result.letters.items ≡ [] }
+        ensures begun { result.begun ≡ Some 0 }
+    {
+        PartBody {
+            heading,
+            letters: ArrayVec::new(),
+            begun: Some(0),
+        }
+    }
+
+    /// Whether the byte is the first digit of the next heading.
+    pub(crate) fn ends_before(&self, byte: u8) -> bool
+        ensures { IsTrue result ↔ ((self.now.begun ≡ Some 5) × (48 ≤ byte) × (byte ≤ 57)) }
+    {
+        self.begun == Some(5) && byte.is_ascii_digit()
+    }
+
+    /// Takes a byte that may stand in a body.
+    pub(crate) fn push(&mut self, byte: u8)
+        requires { IsTrue (is_text_byte byte) }
+        ensures heading { self.new.heading ≡ self.old.heading }
+        ensures body { (s : _) (part body : List ℕ) → HoldsBody s self.old part body
+            → HoldsBody s self.new (part ++ byte ∷ []) (body ++ byte ∷ []) }
+    {
+        keep_letter(&mut self.letters, letter_of_byte(&None, byte));
+        self.begun = next_begun(self.begun, byte);
+    }
+
+    /// The letters of the part's text. The last ones of the body, so many, are left out: those of the next heading.
+    pub(crate) fn read(
+        &self,
+        day: &SheetDay,
+        others: usize,
+    ) -> Result<ArrayVec<Letter, 500>, FormFault>
+        requires heading { IsHeading day.now self.now.heading }
+        requires some { others ≤ length self.now.letters.items }
+        requires few { others ≤ 4 }
+        ensures { (letters more : List ℕ) → length more ≡ others
+            → self.now.letters.items ≡ take 525 (letters ++ more)
+            → MatchResult result
+            (λ text. IsBodyText day.now self.now.heading letters text.items)
+            (IsBodyFault day.now self.now.heading.part self.now.heading letters) }
+    {
+        let letters = self.letters.as_slice();
+        let (letters, _) = letters.split_at(letters.len() - others);
+        read_body(day, &self.heading, letters)
+    }
+}
+
+/// Keeps the letter, if there is one.
+fn keep_letter(letters: &mut ArrayVec<Letter, KEPT>, letter: Option<Letter>)
+    ensures { letters.old.items ≡ take 525 letters.old.items
+        → letters.new.items ≡ take 525 (letters.old.items ++ option_to_list letter) }
+{
+    if let Some(letter) = letter {
+        keep(letters, letter);
+    }
+}
+
+/// How many bytes of `PART ` a line has behind that byte, if it has no others.
+fn next_begun(begun: Option<usize>, byte: u8) -> Option<usize>
+    ensures { (line next : List ℕ) → Begins line begun → IsNextLine line byte next → Begins next result }
+{
+    if byte == b'\n' {
+        return Some(0);
+    }
+    let Some(count) = begun else {
+        return None;
+    };
+    let Some(due) = head_byte(count) else {
+        return None;
+    };
+    if byte == due { Some(count + 1) } else { None }
+}
+
+/// The byte at that place of the five with which a heading begins, before its first digit.
+pub(crate) fn head_byte(place: usize) -> Option<u8>
+    ensures { MatchOption result
+        (5 ≤ place)
+        (λ byte. (place < 5) × (byte ≡ slice_index (codes "PART ") place)) }
+{
+    match place {
+        0 => Some(b'P'),
+        1 => Some(b'A'),
+        2 => Some(b'R'),
+        3 => Some(b'T'),
+        4 => Some(b' '),
+        _ => None,
+    }
+}
