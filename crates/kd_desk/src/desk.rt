@@ -68,7 +68,8 @@ fn read_files<'n, F: Files<'n>>(
     files: &mut F,
 ) -> Result<Command<Content, F::Opened>, FileFault>
     requires { F.asked files.old ≡ [] }
-    ensures read { IfSome (F.known files.old) (λ held. IsReading (command_over held (named command.entry))
+    ensures read { IfSome (F.known files.old) (λ held.
+        IsReading (command_over held (named command.entry))
         (with_opened (opened F.Opened.remaining F.Opened.has_failed)) result) }
     ensures fresh { IfOk result (λ c. IsUnfailed F.Opened.has_failed (opened_by c)) }
     ensures asked { AskFor (files_of (named command.entry)) (F.asked files.old)
@@ -86,7 +87,8 @@ fn read_action<'n, F: Files<'n>>(
     files: &mut F,
 ) -> Result<Action<Content, F::Opened>, FileFault>
     requires { length (F.asked files.old) ≤ 1 }
-    ensures read { IfSome (F.known files.old) (λ held. IsReading (action_over held (action_named action.entry))
+    ensures read { IfSome (F.known files.old) (λ held.
+        IsReading (action_over held (action_named action.entry))
         (with_action_opened (opened F.Opened.remaining F.Opened.has_failed)) result) }
     ensures fresh { IfOk result (λ a. IsUnfailed F.Opened.has_failed (action_opened a)) }
     ensures asked { AskFor (action_files (action_named action.entry)) (F.asked files.old)
@@ -114,7 +116,8 @@ fn read_task<'n, F: Files<'n>>(
     files: &mut F,
 ) -> Result<Task<Content, F::Opened>, FileFault>
     requires { length (F.asked files.old) ≤ 2 }
-    ensures read { IfSome (F.known files.old) (λ held. IsReading (task_over held (task_named task.entry))
+    ensures read { IfSome (F.known files.old) (λ held.
+        IsReading (task_over held (task_named task.entry))
         (with_task_opened (opened F.Opened.remaining F.Opened.has_failed)) result) }
     ensures fresh { IfOk result (λ t. IsUnfailed F.Opened.has_failed (task_opened t)) }
     ensures asked { AskFor (task_files (task_named task.entry)) (F.asked files.old)
