@@ -5,7 +5,7 @@ use Rattle.kd_state.specs.SheetDay.{Day}
 use Rattle.kd_form.specs.declared.fault.FormFault.{FormFault}
 use Rattle.kd_form.specs.declared.fault.FormFault.TheVariants as faults
 use Rattle.kd_form.specs.Streams as streams
-use Rattle.kd_form.specs.Streams.{Message, IsOpen, Closes, IsDue, ByThen, ByTheEnd, Answers, IsStreamed, StreamsOnKey, OffKey, WithKey}
+use Rattle.kd_form.specs.Streams.{Message, IsOpen, Closes, IsDue, ByThen, ByTheEnd, Answers, IsStreamed, StreamsOnKey, Off, On}
 use Rattle.kd_form.specs.Streams.{Whole, Stands, AtEnd, TooLong, SourceFails, SinkFails, is_off_key}
 use Rattle.kd_tables.specs.Ports.{Port, Fail}
 use Rattle.kd_desk.specs.declared.fault.DeskFault.{DeskFault}
@@ -57,8 +57,8 @@ module _ (m n : Message) (more : Implies m n) where
 
   on_key : (parts : Parts) (s : Day) (source sink : Port) (answer : Result (Unit {0}) FormFault) → StreamsOnKey parts s m source sink answer
       → StreamsOnKey parts s n source sink answer
-  on_key parts s source sink answer (OffKey fault off told) = OffKey fault off told
-  on_key parts s source sink answer (WithKey on is) = WithKey on (streamed source sink answer is)
+  on_key parts s source sink answer (Off fault off told left kept) = Off fault off told left kept
+  on_key parts s source sink answer (On on is) = On on (streamed source sink answer is)
 
   pub says : (parts : Parts) (s : Day) (source sink : Port) (answer : Result (Unit {0}) DeskFault) → IsStreamedOn parts s m source sink answer
       → IsStreamedOn parts s n source sink answer

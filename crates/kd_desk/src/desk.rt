@@ -68,7 +68,8 @@ fn read_files<'n, F: Files<'n>>(
     files: &mut F,
 ) -> Result<Command<Content, F::Opened>, FileFault>
     requires { F.asked files.old ≡ [] }
-    ensures read { IfSome (F.known files.old) (λ held. IsReading (command_over held (named command.entry))
+    ensures read { IfSome (F.known files.old) (λ held.
+        IsReading (command_over held (named command.entry))
         (with_opened (opened F.Opened.remaining F.Opened.has_failed)) result) }
     ensures fresh { IfOk result (λ c. IsUnfailed F.Opened.has_failed (opened_by c)) }
     ensures asked { AskFor (files_of (named command.entry)) (F.asked files.old)
@@ -86,7 +87,8 @@ fn read_action<'n, F: Files<'n>>(
     files: &mut F,
 ) -> Result<Action<Content, F::Opened>, FileFault>
     requires { length (F.asked files.old) ≤ 1 }
-    ensures read { IfSome (F.known files.old) (λ held. IsReading (action_over held (action_named action.entry))
+    ensures read { IfSome (F.known files.old) (λ held.
+        IsReading (action_over held (action_named action.entry))
         (with_action_opened (opened F.Opened.remaining F.Opened.has_failed)) result) }
     ensures fresh { IfOk result (λ a. IsUnfailed F.Opened.has_failed (action_opened a)) }
     ensures asked { AskFor (action_files (action_named action.entry)) (F.asked files.old)
@@ -114,7 +116,8 @@ fn read_task<'n, F: Files<'n>>(
     files: &mut F,
 ) -> Result<Task<Content, F::Opened>, FileFault>
     requires { length (F.asked files.old) ≤ 2 }
-    ensures read { IfSome (F.known files.old) (λ held. IsReading (task_over held (task_named task.entry))
+    ensures read { IfSome (F.known files.old) (λ held.
+        IsReading (task_over held (task_named task.entry))
         (with_task_opened (opened F.Opened.remaining F.Opened.has_failed)) result) }
     ensures fresh { IfOk result (λ t. IsUnfailed F.Opened.has_failed (task_opened t)) }
     ensures asked { AskFor (task_files (task_named task.entry)) (F.asked files.old)
@@ -182,7 +185,10 @@ fn carry_task<O: Source + Drop, W: Sink>(
     match task {
         Task::Card => Stop::after(run_card(alloc, machine, sheet, number, sink), false),
         Task::Check(card) => {
-            Stop::after(run_check(alloc, machine, sheet, number, card.as_slice(), sink), false)
+            Stop::after(
+                run_check(alloc, machine, sheet, number, card.as_slice(), sink),
+                false,
+            )
         }
         Task::Message(way, mut file) => {
             let done = carry_message(alloc, machine, sheet, number, way, &mut file, sink);
@@ -203,7 +209,7 @@ fn carry_message<O: Source, W: Sink>(
 ) -> Result<(), DeskFault>
     ensures does { OnDay machine.now sheet.now number
         (DoesTask (Task.Message way (port O.remaining O.has_failed file.old file.new)) number
-            (port W.taken W.has_failed sink.old sink.new) result) result }
+        (port W.taken W.has_failed sink.old sink.new) result) result }
     ensures untouched { IsTrue (is_refused_before result)
         → (file.new ≡ file.old) × (sink.new ≡ sink.old) }
     ensures failed { Fail (port O.remaining O.has_failed file.old file.new)

@@ -42,7 +42,8 @@ pub trait Files<'n> {
     fn open(&mut self, name: &'n str) -> Result<Self::Opened, FileFault>
         requires { length (asked self.old) < 3 }
         ensures opened { IfSome (known self.old) (λ held.
-            IsOpening (opening_of (held name.now)) (opened Self.Opened.remaining Self.Opened.has_failed) result) }
+            IsOpening (opening_of (held name.now))
+            (opened Self.Opened.remaining Self.Opened.has_failed) result) }
         ensures fresh { IfOk result (λ file. Self.Opened.has_failed file ≡ false) }
         ensures asked { asked self.new ≡ asked self.old ++ name.now ∷ [] }
         ensures same { known self.new ≡ known self.old };

@@ -32,7 +32,7 @@ pub fn run_receive<R: Source, W: Sink>(
 ) -> Result<(), DeskFault>
     ensures receives { OnDay machine.now sheet.now number
         (λ m s. Receives m s (port R.remaining R.has_failed form.old form.new)
-            (port W.taken W.has_failed sink.old sink.new) result) result }
+        (port W.taken W.has_failed sink.old sink.new) result) result }
     ensures untouched { IsTrue (is_refused_before result)
         → (form.new ≡ form.old) × (sink.new ≡ sink.old) }
     ensures failed { Fail (port R.remaining R.has_failed form.old form.new)

@@ -31,7 +31,7 @@ pub fn run_send<R: Source, W: Sink>(
 ) -> Result<(), DeskFault>
     ensures sends { OnDay machine.now sheet.now number
         (λ m s. Sends m s (port R.remaining R.has_failed order.old order.new)
-            (port W.taken W.has_failed sink.old sink.new) result) result }
+        (port W.taken W.has_failed sink.old sink.new) result) result }
     ensures untouched { IsTrue (is_refused_before result)
         → (order.new ≡ order.old) × (sink.new ≡ sink.old) }
     ensures failed { Fail (port R.remaining R.has_failed order.old order.new)

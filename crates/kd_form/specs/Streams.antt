@@ -7,7 +7,7 @@ use Rattle.kd_tables.specs.Ports.{Port, IsWell, FailsAlone}
 use Rattle.kd_state.specs.declared.machine.parts.Parts.{Parts}
 use Rattle.kd_state.specs.SheetDay.{Day}
 use Rattle.kd_form.specs.declared.fault.FormFault.{FormFault}
-use Rattle.kd_form.specs.declared.fault.FormFault.TheVariants.{Device, ReadTooLong}
+use Rattle.kd_form.specs.declared.fault.FormFault.TheVariants.{NotReady, Device, NotOnKey, ReadTooLong}
 use Rattle.kd_form.specs.OnTheKey.{IsOnKey, IsKeyFault}
 
 -- A kind of message, over its bytes: the refusal that they show whatever follows them; the refusal of the whole message; what it
@@ -77,6 +77,12 @@ is_device (Err Device) = true
 is_device _ = false
 
 -- ---- on the key
+
+-- whether the answer is that the machine isn't ready, or isn't on the key
+abbrev pub is_off_key : Result (Unit {0}) FormFault → Bool
+is_off_key (Err NotReady) = true
+is_off_key (Err NotOnKey) = true
+is_off_key _ = false
 
 -- nothing was read, or written, and nothing failed
 pub record IsLeft (p : Port) : Type 0 where

@@ -1,8 +1,9 @@
 //! The text that a form becomes.
+ghost use Rattle.std.specs.Prelude.{◌≡◌, IsTrue};
 ghost use Rattle.kd_tables.specs.Ports.{Fail, port};
 ghost use Rattle.kd_form.specs.FormText.{form_message, IsFirstPartRead, IsTextOf, IsReceiveFault};
 ghost use Rattle.kd_form.specs.OnTheKey.{AnswersOnKey};
-ghost use Rattle.kd_form.specs.Streams.{StreamsOnKey, is_device};
+ghost use Rattle.kd_form.specs.Streams.{StreamsOnKey, is_device, is_off_key};
 
 use super::fault::FormFault;
 use super::form_reader::FormReader;
@@ -50,6 +51,8 @@ pub fn receive_stream<R: Source, W: Sink>(
     ensures streamed { StreamsOnKey machine.now day.now (form_message day.now)
         (port R.remaining R.has_failed source.old source.new)
         (port W.taken W.has_failed sink.old sink.new) result }
+    ensures untouched { IsTrue (is_off_key result)
+        → (source.new ≡ source.old) × (sink.new ≡ sink.old) }
     ensures failed { Fail (port R.remaining R.has_failed source.old source.new)
         (port W.taken W.has_failed sink.old sink.new) (is_device result) }
 {

@@ -1,10 +1,10 @@
 //! The form that an order becomes.
-ghost use Rattle.std.specs.Prelude.{◌≡◌, ◌≤◌, MatchResult};
+ghost use Rattle.std.specs.Prelude.{◌≡◌, ◌≤◌, IsTrue, MatchResult};
 ghost use Rattle.kd_tables.specs.Ports.{Fail, port};
 ghost use Rattle.kd_form.specs.Making.{part_size};
 ghost use Rattle.kd_form.specs.Sending.{IsSendFault, IsFormOf, HasForm};
 ghost use Rattle.kd_form.specs.SendStream.{orders};
-ghost use Rattle.kd_form.specs.Streams.{StreamsOnKey, is_device};
+ghost use Rattle.kd_form.specs.Streams.{StreamsOnKey, is_device, is_off_key};
 ghost use Rattle.kd_form.specs.OnTheKey.{IsOnKey, IsKeyFault, AnswersOnKey};
 
 use super::fault::FormFault;
@@ -51,7 +51,7 @@ pub fn send_stream<R: Source, W: Sink>(
     ensures streamed { StreamsOnKey machine.now day.now (orders day.now)
         (port R.remaining R.has_failed source.old source.new)
         (port W.taken W.has_failed sink.old sink.new) result }
-    ensures off_key { ¬ (IsOnKey machine.now day.now)
+    ensures untouched { IsTrue (is_off_key result)
         → (source.new ≡ source.old) × (sink.new ≡ sink.old) }
     ensures failed { Fail (port R.remaining R.has_failed source.old source.new)
         (port W.taken W.has_failed sink.old sink.new) (is_device result) }

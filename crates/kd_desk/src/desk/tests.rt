@@ -1,7 +1,9 @@
 use super::run_desk;
 use crate::fault::DeskFault;
 use crate::files::{Content, FileFault, Files, MemoryFiles};
-use crate::samples::{EMPTY, FORM, MACHINE, MESSAGES, OFF_KEY, ORDER, SHEET, TEXT, UNREADY, WRITTEN};
+use crate::samples::{
+    EMPTY, FORM, MACHINE, MESSAGES, OFF_KEY, ORDER, SHEET, TEXT, UNREADY, WRITTEN,
+};
 use crate::stop::Exit;
 use crate::stop::Stop::{self, ReadFailed, Refused, Unread, Usage};
 use kd_card::IllegalAt;
@@ -198,9 +200,18 @@ static TOO_LONG: [Case; 6] = [
 /// Why an order or a form that can't be read stops the program: behind the faults of the machine file and the sheet, of the
 /// day, and of the machine.
 static CUT_OFF: [Case; 10] = [
-    (&["desk", "send", "bad", "bad", "5", "f"], Refused(DeskFault::File(NotToml))),
-    (&["desk", "send", "empty", "bad", "5", "f"], Refused(DeskFault::File(NotToml))),
-    (&["desk", "send", "empty", "d.toml", "5", "f"], Refused(DeskFault::NoSuchDay)),
+    (
+        &["desk", "send", "bad", "bad", "5", "f"],
+        Refused(DeskFault::File(NotToml)),
+    ),
+    (
+        &["desk", "send", "empty", "bad", "5", "f"],
+        Refused(DeskFault::File(NotToml)),
+    ),
+    (
+        &["desk", "send", "empty", "d.toml", "5", "f"],
+        Refused(DeskFault::NoSuchDay),
+    ),
     (
         &["desk", "send", "empty", "d.toml", "17", "f"],
         Refused(DeskFault::Message(FormFault::NotReady)),
@@ -210,13 +221,22 @@ static CUT_OFF: [Case; 10] = [
         Refused(DeskFault::Message(FormFault::NotOnKey)),
     ),
     (&["desk", "send", "m.toml", "d.toml", "17", "f"], ReadFailed),
-    (&["desk", "receive", "m.toml", "d.toml", "17", "f"], ReadFailed),
-    (&["desk", "receive", "empty", "d.toml", "5", "f"], Refused(DeskFault::NoSuchDay)),
+    (
+        &["desk", "receive", "m.toml", "d.toml", "17", "f"],
+        ReadFailed,
+    ),
+    (
+        &["desk", "receive", "empty", "d.toml", "5", "f"],
+        Refused(DeskFault::NoSuchDay),
+    ),
     (
         &["desk", "receive", "m.toml", "d.toml", "17", "none"],
         Unread(FileFault::Device),
     ),
-    (&["desk", "check", "m.toml", "d.toml", "5", "f"], Refused(DeskFault::NoSuchDay)),
+    (
+        &["desk", "check", "m.toml", "d.toml", "5", "f"],
+        Refused(DeskFault::NoSuchDay),
+    ),
 ];
 
 /// Files that are read as those in memory are, and that can be opened, but then no byte be read of them.
@@ -279,6 +299,31 @@ fn stops_where_a_file_is_too_long(rt: HostRuntime) -> Result<(), AllocError> {
     Ok(())
 }
 
+/// What becomes of the words with these files, of which the opened ones can't be read.
+fn run_cut_off<'a>(alloc: Global, words: &'a [&'a str], files: &'a [Held<'a>]) -> Ran<'a> {
+    let mut files = CutOff {
+        files: MemoryFiles::new(files),
+    };
+    let mut source = MemorySource::new(b"a", 1, Some(0));
+    let mut sink = MemorySink::new(0);
+    let answer = run_desk(alloc, words, &mut files, &mut source, &mut sink);
+    Ran {
+        answer,
+        source,
+        sink,
+    }
+}
+
+/// The words stop the program so, and nothing is read or written.
+fn are_cut_off<'a>(rt: &impl Abort, alloc: Global, files: &'a [Held<'a>], cases: &'a [Case]) {
+    for (words, stop) in cases {
+        let ran = run_cut_off(alloc, words, files);
+        assert_eq!(rt; ran.answer, Err(*stop));
+        assert!(rt; !ran.source.failed());
+        assert!(rt; !ran.sink.failed());
+    }
+}
+
 #[test]
 fn stops_where_a_file_can_not_be_read_on(rt: HostRuntime) {
     let held: [Held<'static>; 6] = [
@@ -289,23 +334,20 @@ fn stops_where_a_file_can_not_be_read_on(rt: HostRuntime) {
         ("off", OFF_KEY.as_bytes()),
         ("f", b""),
     ];
-    for (words, stop) in &CUT_OFF {
-        let mut files = CutOff {
-            files: MemoryFiles::new(&held),
-        };
-        let mut source = MemorySource::new(b"", 1, Some(0));
-        let mut sink = MemorySink::<8>::new(0);
-        let answer = run_desk(rt.alloc(), words, &mut files, &mut source, &mut sink);
-        assert_eq!(rt; answer, Err(*stop));
-        assert!(rt; !source.failed() && !sink.failed());
-    }
+    are_cut_off(&rt, rt.alloc(), &held, &CUT_OFF);
 }
 
 #[test]
 fn stops_where_the_output_fails(rt: HostRuntime) {
     let words = &["desk", "send", "m.toml", "d.toml", "17", "o.txt"];
     let files = files();
-    let ran = run(rt.alloc(), words, &files, MemorySource::new(b"", 1, None), 3);
+    let ran = run(
+        rt.alloc(),
+        words,
+        &files,
+        MemorySource::new(b"", 1, None),
+        3,
+    );
     assert_eq!(rt; ran.answer, Err(Refused(DeskFault::Device)));
     assert_eq!(rt; ran.sink.taken(), b"PAR".as_slice());
 }
@@ -328,7 +370,13 @@ fn stops_where_an_order_is_too_long(rt: HostRuntime) -> Result<(), AllocError> {
             ("o", order.as_slice()),
         ];
         let words = &["desk", "send", "m.toml", "d.toml", "17", "o"];
-        let ran = run(rt.alloc(), words, &files, MemorySource::new(b"", 1, None), 0);
+        let ran = run(
+            rt.alloc(),
+            words,
+            &files,
+            MemorySource::new(b"", 1, None),
+            0,
+        );
         assert_eq!(rt; ran.answer, Err(Refused(*fault)));
     }
     Ok(())

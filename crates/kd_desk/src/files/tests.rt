@@ -66,10 +66,17 @@ fn opens_files_of_the_host(rt: HostRuntime) -> Result<(), Fail> {
     Ok(())
 }
 
+/// Why a file of this name can't be read, and why it can't be opened.
+fn faults(rt: &HostRuntime, name: &str) -> (Option<FileFault>, Option<FileFault>) {
+    let mut files = HostFiles::new(rt);
+    let read = files.read(rt.alloc(), name).err();
+    let opened = files.open(name).err();
+    (read, opened)
+}
+
 #[test]
 fn a_file_that_is_not_there_is_a_failed_device(rt: HostRuntime) {
-    let read = HostFiles::new(&rt).read(rt.alloc(), "no such file");
-    assert_eq!(rt; read.err(), Some(FileFault::Device));
-    let opened = HostFiles::new(&rt).open("no such file");
-    assert_eq!(rt; opened.err(), Some(FileFault::Device));
+    let (read, opened) = faults(&rt, "no such file");
+    assert_eq!(rt; read, Some(FileFault::Device));
+    assert_eq!(rt; opened, Some(FileFault::Device));
 }

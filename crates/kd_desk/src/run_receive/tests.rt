@@ -118,11 +118,7 @@ static BAD_FORMS: [Case; 9] = [
 
 /// A form, the texts of its parts before it is refused, and the fault.
 static REFUSED_BEHIND: [(&str, &str, DeskFault); 4] = [
-    (
-        "PART 1/2 6 AAA BDZ\nQXUGZ B\n",
-        "A",
-        Message(PartOrder),
-    ),
+    ("PART 1/2 6 AAA BDZ\nQXUGZ B\n", "A", Message(PartOrder)),
     (
         "PART 1/2 6 AAA BDZ\nQXUGZ B\nPART 1/2 6 AAA BDZ\nQXUGZ B\n",
         "A",

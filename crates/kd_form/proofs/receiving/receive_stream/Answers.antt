@@ -1,6 +1,7 @@
-use Rattle.std.proofs.Common.{refl}
+use Rattle.std.proofs.Common.{refl, sym, ◌∙◌}
+use Rattle.std.proofs.lemmas.Bool.{false≢true}
 use Rattle.kd_form.specs.Streams.{Off}
-use Rattle.kd_form.proofs.Failing.{fails, of_forms, off_key_fails}
+use Rattle.kd_form.proofs.Failing.{fails, own, of_forms, off_key_fails}
 use Rattle.kd_form.proofs.receiving.receive_stream.Goals as goal
 
 pub returns-in-Ok-clause-failed : goal.returns-in-Ok-clause-failed
@@ -11,3 +12,6 @@ returns-in-Err-clause-streamed g c = Off c.in-Err.fault c.in-Err.ensures refl (r
 
 pub returns-in-Err-clause-failed : goal.returns-in-Err-clause-failed
 returns-in-Err-clause-failed g c = off_key_fails c.args.machine.now c.args.day.now _ _ c.in-Err.fault c.in-Err.ensures (refl, refl)
+
+pub returns-in-Ok-clause-untouched : goal.returns-in-Ok-clause-untouched
+returns-in-Ok-clause-untouched g c = λ off. absurd (false≢true (sym (own _ _ _ _ _ _ (of_forms c.args.day.now) c.stream.ensures.answers) ∙ off))

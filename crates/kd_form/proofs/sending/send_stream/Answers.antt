@@ -1,6 +1,7 @@
-use Rattle.std.proofs.Common.{refl}
+use Rattle.std.proofs.Common.{refl, sym, ◌∙◌}
+use Rattle.std.proofs.lemmas.Bool.{false≢true}
 use Rattle.kd_form.specs.Streams.{Off}
-use Rattle.kd_form.proofs.Failing.{fails, of_orders, off_key_fails}
+use Rattle.kd_form.proofs.Failing.{fails, own, of_orders, off_key_fails}
 use Rattle.kd_form.proofs.sending.send_stream.Goals as goal
 
 pub returns-in-Err-clause-streamed : goal.returns-in-Err-clause-streamed
@@ -12,3 +13,6 @@ returns-in-Err-clause-failed g c = off_key_fails _ _ _ _ c.in-Err.fault c.in-Err
 
 pub returns-in-Ok-clause-failed : goal.returns-in-Ok-clause-failed
 returns-in-Ok-clause-failed g c = fails _ _ _ _ _ _ (of_orders c.args.day.now) c.stream.ensures.answers
+
+pub returns-in-Ok-clause-untouched : goal.returns-in-Ok-clause-untouched
+returns-in-Ok-clause-untouched g c = λ off. absurd (false≢true (sym (own _ _ _ _ _ _ (of_orders c.args.day.now) c.stream.ensures.answers) ∙ off))
