@@ -41,6 +41,7 @@ static struct run {
     int from_there_on;     /* whether those behind it are refused too */
     int byte_by_byte;      /* whether reads and writes move one byte */
     long calls[KINDS];     /* how many calls of each kind came */
+    long reads_before;     /* the reads before the last open */
     long letters;          /* the letters that standard input gave before the refused call */
     int status;            /* as `waitpid` tells it */
     size_t out, err;       /* how many bytes were written to standard output and standard error */
@@ -87,6 +88,7 @@ int open(const char *name, int flags, ...)
     mode_t mode = flags & O_CREAT ? va_arg(more, mode_t) : 0;
     va_end(more);
     if (is_refused(OPEN)) return errno = EACCES, -1;
+    if (in_child) run->reads_before = run->calls[READ];
     return syscall(SYS_openat, AT_FDCWD, name, flags, mode);
 }
 
@@ -205,10 +207,10 @@ static int begin(enum kind kind, long number, int from_there_on, int byte_by_byt
     return 0;
 }
 
-/* Refuses the first, the second, .. call of a kind, until one that never comes. True in a child. */
-static int refuse_each(enum kind kind, int from_there_on, int byte_by_byte)
+/* Refuses a call of a kind, the next one, .. until one that never comes. True in a child. */
+static int refuse_each(enum kind kind, long first, int from_there_on, int byte_by_byte)
 {
-    for (long number = 1;; number++) {
+    for (long number = first;; number++) {
         if (begin(kind, number, from_there_on, byte_by_byte)) return 1;
         if (!has_refused()) break;
         judge(is_right(run), "another answer than is due");
@@ -218,24 +220,25 @@ static int refuse_each(enum kind kind, int from_there_on, int byte_by_byte)
     return 0;
 }
 
-/* How many reads, of one byte each, are refused one by one: of longer files only the reads as they are. */
-#define MOST_READS 1000
+/* How many reads, of one byte each, are refused one by one: of longer files only the reads as they are. They are those of
+   the last file that is opened and of standard input, since files are read whole, but for the last one. */
+#define MOST_READS 600
 
 static int go_through(void)
 {
-    long reads;
+    long first, reads;
     if (begin(NOTHING, 0, 0, 0)) return 1;
     memcpy(own, run, sizeof *run);
     judge(WIFEXITED(own->status) && own->calls[MEMORY] > 0 && own->out + own->err > 0, "the calls don't come here");
     if (begin(NOTHING, 0, 0, 1)) return 1;
     judge(is_own(run), "not the own answer");
-    reads = run->calls[READ];
+    first = run->reads_before + 1, reads = run->calls[READ] - run->reads_before;
     for (int from_there_on = 0; from_there_on < 2; from_there_on++) {
         for (enum kind kind = MEMORY; kind <= ERROR_LINE; kind++)
-            if (refuse_each(kind, from_there_on, 0)) return 1;
-        if (refuse_each(WRITE, from_there_on, 1)) return 1;
+            if (refuse_each(kind, 1, from_there_on, 0)) return 1;
     }
-    return reads <= MOST_READS && refuse_each(READ, 0, 1);
+    if (refuse_each(WRITE, 1, 0, 1)) return 1;
+    return reads <= MOST_READS && refuse_each(READ, first, 0, 1);
 }
 
 static void *shared(void)
