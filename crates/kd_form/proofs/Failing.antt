@@ -10,7 +10,7 @@ use Rattle.kd_form.specs.declared.keys.Keys.TheVariants.{Rotor, Pin}
 use Rattle.kd_form.specs.declared.heading.Heading.{Heading}
 use Rattle.kd_form.specs.declared.heading.Indicator.{Indicator}
 use Rattle.kd_form.specs.Reading.{IsLettersFault, InIndicators, InExternal, InList, InChoice}
-use Rattle.kd_form.specs.Receiving.{InHeading, InNumber, InBody, InCount, InLetters, IsPartFault}
+use Rattle.kd_form.specs.Receiving.{InHeading, InNumber, InBody, IsBodyFault, InCount, InLetters, IsPartFault}
 use Rattle.kd_form.specs.FormText.{IsRefusedForGood, NoHeading, InWhole, InLast, IsRefusedAtEnd, InPart, TooFew, IsReceiveFault, form_message}
 use Rattle.kd_form.specs.OnTheKey.{IsKeyFault}
 use Rattle.kd_form.specs.Sending.{IsKeysFault, StandsInOrder, InHead, InKeys, InText, Cut, NoLetter, InParts, IsSendFault}
