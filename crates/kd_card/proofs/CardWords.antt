@@ -12,7 +12,9 @@ use Rattle.kd_state.specs.Words.{IsWord, NumbersAreWords}
 use Rattle.kd_card.specs.declared.prices.PriceParts.{PriceParts}
 use Rattle.kd_card.specs.declared.prices.PriceParts.TheVariants.{Cables, Bars}
 use Rattle.kd_card.specs.Prices.{price_sum, AreWithinReach, ArePrices}
-use Rattle.kd_card.specs.CardText.{Kind, OfCables, OfBars, row_word, column_word, head_words, settings_words, price_words}
+use Rattle.kd_card.specs.declared.group.Group.{Group}
+use Rattle.kd_card.specs.declared.group.Group.TheVariants.{OfCables, OfBars}
+use Rattle.kd_card.specs.CardText.{row_word, column_word, head_words, settings_words, price_words}
 use Rattle.kd_card.specs.CardFault.{IsDigit, IsNumberText, IsSignedText}
 use Rattle.kd_card.proofs.Lines.{is_above, bytes_above}
 
@@ -46,11 +48,11 @@ head_is_words numbers day small =
 pub settings_is_words : NumbersAreWords → (number : ℕ) → number ≤ 192 → All IsWord (settings_words number)
 settings_is_words numbers number small = All-from_recursion IsWord (settings_words number) (word_by_test _ _ refl, (numbers number (omega arith), tt))
 
-pub row_is_word : (kind : Kind) → IsWord (row_word kind)
+pub row_is_word : (kind : Group) → IsWord (row_word kind)
 row_is_word OfCables = word_by_test _ _ refl
 row_is_word OfBars = word_by_test _ _ refl
 
-pub column_is_word : (kind : Kind) → IsWord (column_word kind)
+pub column_is_word : (kind : Group) → IsWord (column_word kind)
 column_is_word OfCables = word_by_test _ _ refl
 column_is_word OfBars = word_by_test _ _ refl
 

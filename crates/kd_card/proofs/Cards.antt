@@ -9,7 +9,8 @@ use Rattle.kd_card.specs.declared.prices.PriceParts.TheVariants.{Cables, Bars}
 use Rattle.kd_card.specs.declared.fault.CardFault.{CardFault}
 use Rattle.kd_card.specs.declared.fault.CardFault.TheVariants.{TooMany, Trailing}
 use Rattle.kd_card.specs.Prices.{price_sum, how_many}
-use Rattle.kd_card.specs.CardText.{Kind, kind_of, row_word, head_words, settings_words, sum_words, IsCard}
+use Rattle.kd_card.specs.declared.group.Group.{Group}
+use Rattle.kd_card.specs.CardText.{group_of, row_word, head_words, settings_words, sum_words, IsCard}
 use Rattle.kd_card.specs.CardFault.{price_count, with_line, ToSettings, ToNumber, ToRows, ToColumns, IsNumberText, IsSignedText, IsValueFault, IsPricesFault, AreRows, AreColumns, IsCardFault, AtSettings, AtNumber, AtRows, AtColumns, AtSum, AtEnd}
 use Rattle.kd_card.specs.Reading.{BeginsWithHead, BeginsWithSettings, BeginsWithPrices, BeginsWithBoth, LacksBoth, InRows, InColumns}
 use Rattle.kd_card.proofs.Lines.{card_in_lines}
@@ -30,7 +31,7 @@ to_number bytes day body xs rest after count head list counted e = record {
   few = list.few;
 }
 
-to_rows : (bytes : List ℕ) (day : ℕ) (xs : List Setting) (kind : Kind) (rows : List ℤ) (rest after : List ℕ) → ToNumber bytes day xs rest
+to_rows : (bytes : List ℕ) (day : ℕ) (xs : List Setting) (kind : Group) (rows : List ℤ) (rest after : List ℕ) → ToNumber bytes day xs rest
     → BeginsWithPrices rest (row_word kind) rows after → length rows ≡ price_count kind → ToRows bytes day xs kind rows after
 to_rows bytes day xs kind rows rest after to line count = record {
   before = subst (ToNumber bytes day xs) line.text to;
@@ -38,7 +39,7 @@ to_rows bytes day xs kind rows rest after to line count = record {
   reach = line.reach;
 }
 
-pub as_many : (prices : PriceParts) → how_many prices ≡ price_count (kind_of prices)
+pub as_many : (prices : PriceParts) → how_many prices ≡ price_count (group_of prices)
 as_many (Cables row col) = refl
 as_many (Bars row col) = refl
 

@@ -16,7 +16,7 @@ use Rattle.kd_state.specs.Words.{words_of, line_of, IsWithout, IsFirstPart, Text
 use Rattle.kd_state.specs.Line.{setting_words, setting_line, list_text, IsInRange, BeginsWith, BeginsWithLine}
 use Rattle.kd_card.specs.declared.prices.PriceParts.{PriceParts}
 use Rattle.kd_card.specs.Prices.{row_prices, column_prices, price_sum}
-use Rattle.kd_card.specs.CardText.{kind_of, row_word, column_word, head_words, settings_words, price_words, sum_words, lines_text, card_text}
+use Rattle.kd_card.specs.CardText.{group_of, row_word, column_word, head_words, settings_words, price_words, sum_words, lines_text, card_text}
 use Rattle.kd_card.specs.CardFault.{with_line, IsDigit, IsNumberText, IsSignedText}
 
 -- ---- writing
@@ -62,22 +62,22 @@ four_lines a b c d =
 abbrev pub text_behind : ℕ → PriceParts → List ℕ
 text_behind count prices =
     with_line (settings_words count)
-    (with_line (price_words (row_word (kind_of prices)) (row_prices prices))
-    (with_line (price_words (column_word (kind_of prices)) (column_prices prices)) (with_line (sum_words (price_sum prices)) [])))
+    (with_line (price_words (row_word (group_of prices)) (row_prices prices))
+    (with_line (price_words (column_word (group_of prices)) (column_prices prices)) (with_line (sum_words (price_sum prices)) [])))
 
 pub card_in_lines : (day : ℕ) (xs : List Setting) (prices : PriceParts)
     → card_text day xs prices ≡ with_line (head_words day) (list_text xs ++ text_behind (length xs) prices)
 card_in_lines day xs prices =
     let behind : List (List (List ℕ)) =
     settings_words (length xs)
-    ∷ price_words (row_word (kind_of prices)) (row_prices prices)
-    ∷ price_words (column_word (kind_of prices)) (column_prices prices)
+    ∷ price_words (row_word (group_of prices)) (row_prices prices)
+    ∷ price_words (column_word (group_of prices)) (column_prices prices)
     ∷ sum_words (price_sum prices)
     ∷ [] in
     one_line (head_words day) (map setting_words xs ++ behind)
     ∙ ap (with_line (head_words day)) (settings_and_more xs behind ∙ ap (λ t. list_text xs ++ t)
-    (four_lines (settings_words (length xs)) (price_words (row_word (kind_of prices)) (row_prices prices))
-    (price_words (column_word (kind_of prices)) (column_prices prices)) (sum_words (price_sum prices))))
+    (four_lines (settings_words (length xs)) (price_words (row_word (group_of prices)) (row_prices prices))
+    (price_words (column_word (group_of prices)) (column_prices prices)) (sum_words (price_sum prices))))
 
 nested : (head list count rows columns sum : List ℕ)
     → (((([] ++ (head ++ 10 ∷ [])) ++ list) ++ (count ++ 10 ∷ [])) ++ (rows ++ 10 ∷ (columns ++ 10 ∷ []))) ++ (sum ++ 10 ∷ [])
@@ -86,27 +86,27 @@ nested head list count rows columns sum = simp append_assoc
 
 pub parts_make_card : (day : ℕ) (xs : List Setting) (prices : PriceParts)
     → (((([] ++ with_line (head_words day) []) ++ list_text xs) ++ with_line (settings_words (length xs)) [])
-    ++ with_line (price_words (row_word (kind_of prices)) (row_prices prices)) (with_line (price_words (column_word (kind_of prices)) (column_prices prices)) []))
+    ++ with_line (price_words (row_word (group_of prices)) (row_prices prices)) (with_line (price_words (column_word (group_of prices)) (column_prices prices)) []))
     ++ with_line (sum_words (price_sum prices)) []
     ≡ card_text day xs prices
 parts_make_card day xs prices =
     nested (line_of (head_words day)) (list_text xs) (line_of (settings_words (length xs)))
-    (line_of (price_words (row_word (kind_of prices)) (row_prices prices)))
-    (line_of (price_words (column_word (kind_of prices)) (column_prices prices)))
+    (line_of (price_words (row_word (group_of prices)) (row_prices prices)))
+    (line_of (price_words (column_word (group_of prices)) (column_prices prices)))
     (line_of (sum_words (price_sum prices)))
     ∙ sym (card_in_lines day xs prices)
 
 abbrev written_text : ℕ → List Setting → ℕ → PriceParts → ℤ → List ℕ
 written_text day ys count prices sum =
     (((([] ++ with_line (head_words day) []) ++ list_text ys) ++ with_line (settings_words count) [])
-    ++ with_line (price_words (row_word (kind_of prices)) (row_prices prices)) (with_line (price_words (column_word (kind_of prices)) (column_prices prices)) []))
+    ++ with_line (price_words (row_word (group_of prices)) (row_prices prices)) (with_line (price_words (column_word (group_of prices)) (column_prices prices)) []))
     ++ with_line (sum_words sum) []
 
 pub written : (day count : ℕ) (xs ys : List Setting) (prices : PriceParts) (sum : ℤ) (empty head list number lines whole : List ℕ) → empty ≡ []
     → head ≡ empty ++ with_line (head_words day) [] → list ≡ head ++ list_text ys → number ≡ list ++ with_line (settings_words count) []
     → lines
     ≡ number
-    ++ with_line (price_words (row_word (kind_of prices)) (row_prices prices)) (with_line (price_words (column_word (kind_of prices)) (column_prices prices)) [])
+    ++ with_line (price_words (row_word (group_of prices)) (row_prices prices)) (with_line (price_words (column_word (group_of prices)) (column_prices prices)) [])
     → whole ≡ lines ++ with_line (sum_words sum) [] → ys ≡ xs → count ≡ length xs → sum ≡ price_sum prices → whole ≡ card_text day xs prices
 written day count xs ys prices sum empty head list number lines whole a b c d e f same counted summed =
     let text : whole ≡ written_text day ys count prices sum = cc in

@@ -16,7 +16,9 @@ use Rattle.kd_card.specs.declared.prices.PriceParts.TheVariants.{Cables, Bars}
 use Rattle.kd_card.specs.declared.fault.CardFault.{CardFault}
 use Rattle.kd_card.specs.declared.fault.CardFault.TheVariants.{BadHead, BadLine, TooMany, PriceMissing, Trailing}
 use Rattle.kd_card.specs.Prices.{row_prices, column_prices, price_sum, AreWithinReach, ArePrices}
-use Rattle.kd_card.specs.CardText.{Kind, OfCables, OfBars, kind_of, row_word, column_word, head_words, settings_words, price_words, sum_words, IsCard}
+use Rattle.kd_card.specs.declared.group.Group.{Group}
+use Rattle.kd_card.specs.declared.group.Group.TheVariants.{OfCables, OfBars}
+use Rattle.kd_card.specs.CardText.{group_of, row_word, column_word, head_words, settings_words, price_words, sum_words, IsCard}
 use Rattle.kd_card.specs.CardFault.{price_count, with_line, IsNumberText, IsSignedText, IsPriceText, IsCountFault, ToSettings, ToNumber, ToRows, ToColumns, HasWords, IsValueFault, OtherValue, NoValue, IsPricesFault, NoLine, NoEnd, OtherWord, OtherPrices, AreRows, AreColumns, IsCardFault, AtHead, AtSettings, AtNumber, AtRows, AtColumns, AtSum, AtEnd}
 use Rattle.kd_card.specs.Reading.{BeginsWithHead, BeginsWithSettings, BeginsWithPrices}
 use Rattle.kd_card.specs.Laws.{TextsTellCards, CardsHaveNoFault, OneCardFault}
@@ -97,16 +99,16 @@ SumSays day xs prices rest =
     Step (λ (more : List ℕ). rest ≡ with_line (sum_words (price_sum prices)) more)
     (IsValueFault IsSignedText (codes "SUM") (signed_decimal (price_sum prices)) (length xs + 5) rest) (EndSays day xs prices)
 
-abbrev BehindColumns : ℕ → List Setting → Kind → List ℤ → PriceLine → Verdict → Type 0
+abbrev BehindColumns : ℕ → List Setting → Group → List ℤ → PriceLine → Verdict → Type 0
 BehindColumns day xs kind rows line v =
-    (prices : PriceParts) × ArePrices prices × (kind_of prices ≡ kind) × (row_prices prices ≡ rows) × (column_prices prices ≡ line.1)
+    (prices : PriceParts) × ArePrices prices × (group_of prices ≡ kind) × (row_prices prices ≡ rows) × (column_prices prices ≡ line.1)
     × SumSays day xs prices line.2 v
 
-abbrev ColumnsSay : ℕ → List Setting → Kind → List ℤ → List ℕ → Verdict → Type 0
+abbrev ColumnsSay : ℕ → List Setting → Group → List ℤ → List ℕ → Verdict → Type 0
 ColumnsSay day xs kind rows rest = LineSays (AreColumns kind) (length xs + 4) rest (BehindColumns day xs kind rows)
 
 abbrev BehindRows : ℕ → List Setting → PriceLine → Verdict → Type 0
-BehindRows day xs line v = (kind : Kind) × (line.0 ≡ row_word kind) × ColumnsSay day xs kind line.1 line.2 v
+BehindRows day xs line v = (kind : Group) × (line.0 ≡ row_word kind) × ColumnsSay day xs kind line.1 line.2 v
 
 abbrev RowsSay : ℕ → List Setting → List ℕ → Verdict → Type 0
 RowsSay day xs rest = LineSays AreRows (length xs + 3) rest (BehindRows day xs)
@@ -145,13 +147,13 @@ same_prices (p ∷ ps) (q ∷ qs) a b e =
     let others : ps ≡ qs = same_prices ps qs a.1 b.1 tails in
     cc
 
-same_kind : (kind other : Kind) → row_word kind ≡ row_word other → kind ≡ other
+same_kind : (kind other : Group) → row_word kind ≡ row_word other → kind ≡ other
 same_kind OfCables OfCables e = refl
 same_kind OfBars OfBars e = refl
 same_kind OfCables OfBars e = absurd (omega (arith, ap (λ t. get_or t 0 0) e))
 same_kind OfBars OfCables e = absurd (omega (arith, ap (λ t. get_or t 0 0) e))
 
-same_parts : (prices others : PriceParts) → kind_of prices ≡ kind_of others → row_prices prices ≡ row_prices others
+same_parts : (prices others : PriceParts) → group_of prices ≡ group_of others → row_prices prices ≡ row_prices others
     → column_prices prices ≡ column_prices others → prices ≡ others
 same_parts (Cables a b) (Cables c d) kind rows columns = cc
 same_parts (Bars a b) (Bars c d) kind rows columns = cc
@@ -385,12 +387,12 @@ module _ (k : Known) where
       (unbroken_by_test (codes "SUM") refl) (signed_text (price_sum prices) (price_sum_is_small prices are)))
       (λ more e. only_end day xs prices more)
 
-  behind_columns : (day : ℕ) (xs : List Setting) (kind : Kind) (rows : List ℤ) (line : PriceLine) → IsOnly (BehindColumns day xs kind rows line)
+  behind_columns : (day : ℕ) (xs : List Setting) (kind : Group) (rows : List ℤ) (line : PriceLine) → IsOnly (BehindColumns day xs kind rows line)
   behind_columns day xs kind rows line v w (prices, are, is, ps, qs, a) (others, also, is_too, rs, ss, b) =
       let same : prices ≡ others = same_parts prices others (is ∙ sym is_too) (ps ∙ sym rs) (qs ∙ sym ss) in
       only_sum day xs others line.2 also v w (subst (λ p. SumSays day xs p line.2 v) same a) b
 
-  only_columns : (day : ℕ) (xs : List Setting) (kind : Kind) (rows : List ℤ) (rest : List ℕ) → IsOnly (ColumnsSay day xs kind rows rest)
+  only_columns : (day : ℕ) (xs : List Setting) (kind : Group) (rows : List ℤ) (rest : List ℕ) → IsOnly (ColumnsSay day xs kind rows rest)
   only_columns day xs kind rows rest =
       only_line (AreColumns kind) (length xs + 4) rest (BehindColumns day xs kind rows) (λ first number other due also. due.1 ∙ sym also.1)
       (behind_columns day xs kind rows)
@@ -426,7 +428,7 @@ module _ (k : Known) where
   at_rows bytes day xs rest v to says =
       at_number bytes day xs (with_line (settings_words (length xs)) rest) v to.before to.few (number_ends (length xs) rest to.few) (Found rest refl says)
 
-  at_columns : (bytes : List ℕ) (day : ℕ) (xs : List Setting) (kind : Kind) (rows : List ℤ) (rest : List ℕ) (v : Verdict) → ToRows bytes day xs kind rows rest
+  at_columns : (bytes : List ℕ) (day : ℕ) (xs : List Setting) (kind : Group) (rows : List ℤ) (rest : List ℕ) (v : Verdict) → ToRows bytes day xs kind rows rest
       → ColumnsSay day xs kind rows rest v → CardSays bytes v
   at_columns bytes day xs kind rows rest v to says =
       at_rows bytes day xs (with_line (price_words (row_word kind) rows) rest) v to.before
@@ -437,7 +439,7 @@ module _ (k : Known) where
       → SumSays day xs prices rest v → CardSays bytes v
   at_sum bytes day xs prices rest v to says =
       let are = to.are_prices in
-      let kind = kind_of prices in
+      let kind = group_of prices in
       let columns = with_line (price_words (column_word kind) (column_prices prices)) rest in
       at_columns bytes day xs kind (row_prices prices) columns v to.before
       (found_in_line (AreColumns kind) (length xs + 4) columns (BehindColumns day xs kind (row_prices prices)) (column_word kind) (column_prices prices) rest v
