@@ -14,8 +14,8 @@ use Rattle.kd_card.specs.declared.fault.CardFault.TheVariants.{BadLine, PriceMis
 use Rattle.kd_card.specs.Prices.{AreWithinReach}
 use Rattle.kd_card.specs.declared.group.Group.{Group}
 use Rattle.kd_card.specs.declared.group.Group.TheVariants.{OfCables, OfBars}
-use Rattle.kd_card.specs.CardText.{row_word, price_words}
-use Rattle.kd_card.specs.CardFault.{with_line, price_count, IsPriceText, HasWords, IsCountFault, IsPricesFault, NoLine, NoEnd, OtherWord, OtherPrices, AreRows}
+use Rattle.kd_card.specs.CardText.{row_word, price_count, price_words}
+use Rattle.kd_card.specs.CardFault.{with_line, IsPriceText, HasWords, IsCountFault, IsPricesFault, NoLine, NoEnd, OtherWord, OtherPrices, AreRows}
 use Rattle.kd_card.specs.Reading.{BeginsWithPrices}
 use Rattle.kd_card.proofs.Lines.{words_of_first, words_of_last}
 

@@ -143,7 +143,7 @@ floor_behind floor (kind ∷ kinds) = floor_behind (look_rank kind.look + 1) kin
 pub record BeginsWithKinds (name : Name) (bytes : List ℕ) (kinds : List PricedKind) (rest : List ℕ) : Type 0 where
   pub lines : bytes ≡ kinds_text kinds ++ rest
   pub called : AreCalled name kinds
-  pub kinds : AreKinds 0 kinds
+  pub in_order : AreKinds 0 kinds
 
 -- A group of kinds is due. A line of it is bad; or it ends, and its kinds aren't of so many things.
 pub data IsGroupFault (name : Name) (number line : ℕ) (bytes : List ℕ) (fault : CardFault) : Type 0 where

@@ -51,15 +51,15 @@ price_count OfBars = 27
 -- kinds of things of that name, in order and each once, and of so many things together
 pub record IsGroup (name : Name) (number : ℕ) (kinds : List PricedKind) : Type 0 where
   pub called : AreCalled name kinds
-  pub kinds : AreKinds 0 kinds
+  pub in_order : AreKinds 0 kinds
   pub count : counted kinds ≡ number
 
 -- the prices are those of these kinds
 pub record HaveKinds (group : Group) (rows columns : List PricedKind) (prices : PriceParts) : Type 0 where
-  pub group : group_of prices ≡ group
+  pub of_group : group_of prices ≡ group
   pub version : version_of prices ≡ ByKind
-  pub rows : row_kinds prices ≡ rows
-  pub columns : column_kinds prices ≡ columns
+  pub row_kinds : row_kinds prices ≡ rows
+  pub column_kinds : column_kinds prices ≡ columns
 
 -- the words of the head: 1 before prices by number, 2 before prices by kind
 abbrev pub version_text : Version → List ℕ

@@ -31,7 +31,7 @@ pub record BeginsWithPrices (bytes word : List ℕ) (prices : List ℤ) (rest : 
 
 -- the lines of these prices, of that version
 pub record BeginsWithAll (bytes : List ℕ) (version : Version) (prices : PriceParts) (rest : List ℕ) : Type 0 where
-  pub version : version_of prices ≡ version
+  pub of_version : version_of prices ≡ version
   pub text : bytes ≡ lines_text (price_lines prices) ++ rest
   pub are_prices : ArePrices prices
   pub ends : EndsPrices prices rest

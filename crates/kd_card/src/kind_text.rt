@@ -127,7 +127,7 @@ pub(crate) fn read_kinds<'a>(
     loop {
         match next_kind(rest, name, floor, at) {
             Ok(Some((kind, after))) => {
-                keep(&mut kinds, kind);
+                keep(&mut kinds, &kind);
                 floor = kind.look.rank() + 1;
                 total += usize::from(kind.count);
                 rest = after;
@@ -145,11 +145,11 @@ pub(crate) fn read_kinds<'a>(
 }
 
 /// Keeps the kind, if there is room for it.
-fn keep(kinds: &mut ArrayVec<PricedKind, 27>, kind: PricedKind)
-    ensures { kinds.new.items ≡ take 27 (kinds.old.items ++ kind ∷ []) }
+fn keep(kinds: &mut ArrayVec<PricedKind, 27>, kind: &PricedKind)
+    ensures { kinds.new.items ≡ take 27 (kinds.old.items ++ kind.now ∷ []) }
 {
     if !kinds.is_full() {
-        kinds.push(kind);
+        kinds.push(*kind);
     }
 }
 

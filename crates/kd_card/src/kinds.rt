@@ -1,5 +1,6 @@
 //! Kinds: things that are alike, how many there are of them, and the price that each of them has.
 ghost use Rattle.std.specs.Prelude.{◌≡◌, ◌≢◌, ◌↔◌, ◌+◌, ◌*◌, ◌<◌, ◌≤◌, length, map, fold, unsigned_abs, ◌+ℤ◌, IsTrue, MatchOption};
+ghost use Rattle.kd_card.specs.declared.look.Name.{Name};
 ghost use Rattle.kd_card.specs.Kinds.{look_name, look_rank, counted, prices_of_kinds, IsPricedKind, AreKinds, AreCalled};
 
 use super::look::{Look, Name};

@@ -1,5 +1,5 @@
 //! What alike things have in common, and its text.
-ghost use Rattle.std.specs.Prelude.{◌≡◌, ◌≢◌, ◌↔◌, ◌<◌, ◌≤◌, IsTrue, MatchOption, Some};
+ghost use Rattle.std.specs.Prelude.{◌≡◌, ◌≢◌, ◌↔◌, ◌+◌, ◌<◌, ◌≤◌, IsTrue, MatchOption, Some};
 ghost use Rattle.kd_state.specs.Words.{letter_text};
 ghost use Rattle.kd_state.specs.Machine.{cable_letters};
 ghost use Rattle.kd_state.specs.Costs.{column_letters};
@@ -93,8 +93,8 @@ impl Look {
             Look::Cable((one, other)) => text_of_letters(one, other),
             Look::Pair(None) => text_of_letters(None, None),
             Look::Pair(Some((one, other))) => text_of_letters(Some(one), Some(other)),
-            Look::Bar(standing) => standing.text(),
-            Look::Row(reading) => reading.text(),
+            Look::Bar(standing) => text_of_standing(standing),
+            Look::Row(reading) => text_of_reading(reading),
         }
     }
 
@@ -232,6 +232,20 @@ fn text_of_letters(one: Option<Letter>, other: Option<Letter>) -> ArrayString<8>
         }
     }
     text
+}
+
+/// The text of a standing.
+fn text_of_standing(standing: Standing) -> ArrayString<8>
+    ensures { result.bytes ≡ look_text (Look.Bar standing) }
+{
+    standing.text()
+}
+
+/// The text of a reading.
+fn text_of_reading(reading: Reading) -> ArrayString<8>
+    ensures { result.bytes ≡ look_text (Look.Row reading) }
+{
+    reading.text()
 }
 
 /// The cable's letters of that text.

@@ -1,0 +1,160 @@
+-- Both groups of kinds: their lines, and the prices that they tell.
+use Rattle.std.proofs.Common.{◌≡◌, ◌≢◌, ℕ, List, [], ◌∷◌, ◌++◌, map, get_or, Option, None, refl, sym, ap, ◌∙◌, append_assoc, arith}
+use Rattle.std.specs.List.{flat_map}
+use Rattle.std.proofs.lemmas.List.Concat.{flat_map-append}
+use Rattle.std.proofs.lemmas.List.Folds.{flat_map-map}
+use Rattle.arrayvec.specs.ArrayVec.{ArrayVec}
+use Rattle.kd_tables.specs.declared.place.Place.{Place}
+use Rattle.kd_tables.specs.declared.place.Place.TheVariants.{One}
+use Rattle.kd_state.specs.Words.{line_of}
+use Rattle.kd_card.specs.declared.look.Look.{Look}
+use Rattle.kd_card.specs.declared.look.Look.TheVariants.{Cable, Pair, Bar, Row}
+use Rattle.kd_card.specs.declared.look.Name.{Name}
+use Rattle.kd_card.specs.declared.look.Name.TheVariants as names
+use Rattle.kd_card.specs.declared.kinds.PricedKind.{PricedKind}
+use Rattle.kd_card.specs.declared.kinds.CableKind.{CableKind}
+use Rattle.kd_card.specs.declared.kinds.PairKind.{PairKind}
+use Rattle.kd_card.specs.declared.kinds.BarKind.{BarKind}
+use Rattle.kd_card.specs.declared.kinds.RowKind.{RowKind}
+use Rattle.kd_card.specs.declared.group.Group.{Group}
+use Rattle.kd_card.specs.declared.group.Group.TheVariants.{OfCables, OfBars}
+use Rattle.kd_card.specs.declared.prices.PriceParts.{PriceParts}
+use Rattle.kd_card.specs.declared.prices.PriceParts.TheVariants.{Cables, Bars, CableKinds, BarKinds}
+use Rattle.kd_card.specs.declared.prices.Version.TheVariants.{ByNumber, ByKind}
+use Rattle.kd_card.specs.Kinds.{name_text, kind_words, kinds_text, counted, cable_kind, pair_kind, bar_kind, row_kind, AreCalled}
+use Rattle.kd_card.specs.Prices.{version_of, row_kinds, column_kinds, ArePrices}
+use Rattle.kd_card.specs.CardText.{group_of, row_name, column_name, price_count, lines_text}
+use Rattle.kd_card.specs.CardFault.{with_line, IsNextKind}
+use Rattle.kd_card.proofs.KindPrices.{row_count, column_count}
+
+-- no kind follows
+abbrev pub HasNoNext : Name → ℕ → List ℕ → Type 0
+HasNoNext name floor bytes = (kind : PricedKind) (rest : List ℕ) → ¬ (IsNextKind name floor bytes kind rest)
+
+pub text_of_more_kinds : (kind : PricedKind) (kinds : List PricedKind) (rest : List ℕ)
+    → kinds_text (kind ∷ kinds) ++ rest ≡ with_line (kind_words kind) (kinds_text kinds ++ rest)
+text_of_more_kinds kind kinds rest =
+    append_assoc (line_of (kind_words kind) ++ 10 ∷ []) (kinds_text kinds) rest
+    ∙ append_assoc (line_of (kind_words kind)) (10 ∷ []) (kinds_text kinds ++ rest)
+
+text_in_lines : (kinds : List PricedKind) → lines_text (map kind_words kinds) ≡ kinds_text kinds
+text_in_lines kinds = flat_map-map (λ words. line_of words ++ 10 ∷ []) kind_words kinds
+
+pub lines_of_kinds : (rows columns : List PricedKind) (rest : List ℕ)
+    → lines_text (map kind_words rows ++ map kind_words columns) ++ rest ≡ kinds_text rows ++ (kinds_text columns ++ rest)
+lines_of_kinds rows columns rest =
+    ap (λ t. t ++ rest) (flat_map-append (λ words. line_of words ++ 10 ∷ []) (map kind_words rows) (map kind_words columns))
+    ∙ append_assoc (lines_text (map kind_words rows)) (lines_text (map kind_words columns)) rest
+    ∙ ap (λ t. t ++ (lines_text (map kind_words columns) ++ rest)) (text_in_lines rows)
+    ∙ ap (λ t. kinds_text rows ++ (t ++ rest)) (text_in_lines columns)
+
+pub other_name : (group : Group) → name_text (column_name group) ≢ name_text (row_name group)
+other_name OfCables e = omega (arith, ap (λ t. get_or t 0 0) e)
+other_name OfBars e = omega (arith, ap (λ t. get_or t 0 0) e)
+
+-- both groups are called as they should be, and of as many things
+pub record AreGroups (prices : PriceParts) : Type 0 where
+  pub rows_called : AreCalled (row_name (group_of prices)) (row_kinds prices)
+  pub columns_called : AreCalled (column_name (group_of prices)) (column_kinds prices)
+  pub row_count : counted (row_kinds prices) ≡ price_count (group_of prices)
+  pub column_count : counted (column_kinds prices) ≡ price_count (group_of prices)
+
+cables_called : (kinds : List CableKind) → AreCalled names.Cable (map cable_kind kinds)
+cables_called [] = tt
+cables_called (kind ∷ kinds) = (refl, cables_called kinds)
+
+pairs_called : (kinds : List PairKind) → AreCalled names.Pair (map pair_kind kinds)
+pairs_called [] = tt
+pairs_called (kind ∷ kinds) = (refl, pairs_called kinds)
+
+bars_called : (kinds : List BarKind) → AreCalled names.Bar (map bar_kind kinds)
+bars_called [] = tt
+bars_called (kind ∷ kinds) = (refl, bars_called kinds)
+
+rows_called : (kinds : List RowKind) → AreCalled names.Row (map row_kind kinds)
+rows_called [] = tt
+rows_called (kind ∷ kinds) = (refl, rows_called kinds)
+
+pub cable_groups : (row : ArrayVec CableKind) (col : ArrayVec PairKind) → ArePrices (CableKinds row col) → AreGroups (CableKinds row col)
+cable_groups row col are = record {
+  rows_called = cables_called row.items;
+  columns_called = pairs_called col.items;
+  row_count = row_count (CableKinds row col) refl are;
+  column_count = column_count (CableKinds row col) refl are;
+}
+
+pub bar_groups : (row : ArrayVec BarKind) (col : ArrayVec RowKind) → ArePrices (BarKinds row col) → AreGroups (BarKinds row col)
+bar_groups row col are = record {
+  rows_called = bars_called row.items;
+  columns_called = rows_called col.items;
+  row_count = row_count (BarKinds row col) refl are;
+  column_count = column_count (BarKinds row col) refl are;
+}
+
+-- ---- kinds tell the prices
+
+undone : {A B : Type 0} (there : A → B) (back : B → A) → ((x : A) → back (there x) ≡ x) → (xs : List A) → map back (map there xs) ≡ xs
+undone there back leads [] = refl
+undone there back leads (x ∷ xs) =
+    let first : back (there x) ≡ x = leads x in
+    let others : map back (map there xs) ≡ xs = undone there back leads xs in
+    cc
+
+told : {A B : Type 0} (there : A → B) (back : B → A) → ((x : A) → back (there x) ≡ x) → (xs ys : List A) → map there xs ≡ map there ys → xs ≡ ys
+told there back leads xs ys e = sym (undone there back leads xs) ∙ ap (map back) e ∙ undone there back leads ys
+
+abbrev ends_in : Look → Option ℕ × Option ℕ
+ends_in (Cable ends) = ends
+ends_in (Pair pair) = (None, None)
+ends_in (Bar standing) = (None, None)
+ends_in (Row numbers) = (None, None)
+
+abbrev pair_in : Look → Option (ℕ × ℕ)
+pair_in (Pair pair) = pair
+pair_in (Cable ends) = None
+pair_in (Bar standing) = None
+pair_in (Row numbers) = None
+
+abbrev standing_in : Look → Place × Place
+standing_in (Bar standing) = standing
+standing_in (Cable ends) = (One, One)
+standing_in (Pair pair) = (One, One)
+standing_in (Row numbers) = (One, One)
+
+abbrev reading_in : Look → ℕ × ℕ
+reading_in (Row numbers) = numbers
+reading_in (Cable ends) = (0, 0)
+reading_in (Pair pair) = (0, 0)
+reading_in (Bar standing) = (0, 0)
+
+cables_told : (xs ys : List CableKind) → map cable_kind xs ≡ map cable_kind ys → xs ≡ ys
+cables_told = told cable_kind (λ k. record { ends = ends_in k.look; count = k.count; price = k.price }) (λ x. refl)
+
+pairs_told : (xs ys : List PairKind) → map pair_kind xs ≡ map pair_kind ys → xs ≡ ys
+pairs_told = told pair_kind (λ k. record { pair = pair_in k.look; count = k.count; price = k.price }) (λ x. refl)
+
+bars_told : (xs ys : List BarKind) → map bar_kind xs ≡ map bar_kind ys → xs ≡ ys
+bars_told = told bar_kind (λ k. record { standing = standing_in k.look; count = k.count; price = k.price }) (λ x. refl)
+
+rows_told : (xs ys : List RowKind) → map row_kind xs ≡ map row_kind ys → xs ≡ ys
+rows_told = told row_kind (λ k. record { reading = reading_in k.look; count = k.count; price = k.price }) (λ x. refl)
+
+same_items : {T : Type 0} (a b : ArrayVec T) → a.items ≡ b.items → a ≡ b
+same_items {T} a b e = let make : List T → ArrayVec T = λ items. record { items = items } in ap make e
+
+pub same_kind_parts : (prices others : PriceParts) → version_of prices ≡ ByKind → version_of others ≡ ByKind → group_of prices ≡ group_of others
+    → row_kinds prices ≡ row_kinds others → column_kinds prices ≡ column_kinds others → prices ≡ others
+same_kind_parts (CableKinds a b) (CableKinds c d) by also group rows columns =
+    let r : a ≡ c = same_items a c (cables_told a.items c.items rows) in
+    let s : b ≡ d = same_items b d (pairs_told b.items d.items columns) in
+    cc
+same_kind_parts (BarKinds a b) (BarKinds c d) by also group rows columns =
+    let r : a ≡ c = same_items a c (bars_told a.items c.items rows) in
+    let s : b ≡ d = same_items b d (rows_told b.items d.items columns) in
+    cc
+same_kind_parts (CableKinds a b) (BarKinds c d) by also group rows columns = cc
+same_kind_parts (BarKinds a b) (CableKinds c d) by also group rows columns = cc
+same_kind_parts (Cables a b) others by also group rows columns = cc
+same_kind_parts (Bars a b) others by also group rows columns = cc
+same_kind_parts prices (Cables c d) by also group rows columns = cc
+same_kind_parts prices (Bars c d) by also group rows columns = cc
