@@ -122,7 +122,7 @@ small_sum rows columns r c few fewer =
     (recursion_from_All (λ price. unsigned_abs price ≤ 9999) (rows ++ columns) (All-append (λ price. unsigned_abs price ≤ 9999) rows columns r c)) in
     omega (arith, bound, length-append rows columns, few, fewer)
 
-few_prices : (prices : PriceParts) → how_many prices ≤ 27
+pub few_prices : (prices : PriceParts) → how_many prices ≤ 27
 few_prices (Cables row col) = omega arith
 few_prices (Bars row col) = omega arith
 few_prices (CableKinds row col) = omega arith

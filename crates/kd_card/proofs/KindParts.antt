@@ -1,5 +1,6 @@
 -- Both groups of kinds: their lines, and the prices that they tell.
-use Rattle.std.proofs.Common.{◌≡◌, ◌≢◌, ℕ, List, [], ◌∷◌, ◌++◌, map, get_or, Option, None, refl, sym, ap, ◌∙◌, append_assoc, arith}
+use Rattle.std.proofs.Common.{◌≡◌, ◌≢◌, ℕ, List, [], ◌∷◌, ◌++◌, map, get_or, length, Option, None, refl, sym, ap, subst, ◌∙◌, ◌+◌, append_assoc, length-append, arith}
+use Rattle.std.proofs.lemmas.List.{length-map}
 use Rattle.std.specs.List.{flat_map}
 use Rattle.std.proofs.lemmas.List.Concat.{flat_map-append}
 use Rattle.std.proofs.lemmas.List.Folds.{flat_map-map}
@@ -21,11 +22,12 @@ use Rattle.kd_card.specs.declared.group.Group.TheVariants.{OfCables, OfBars}
 use Rattle.kd_card.specs.declared.prices.PriceParts.{PriceParts}
 use Rattle.kd_card.specs.declared.prices.PriceParts.TheVariants.{Cables, Bars, CableKinds, BarKinds}
 use Rattle.kd_card.specs.declared.prices.Version.TheVariants.{ByNumber, ByKind}
-use Rattle.kd_card.specs.Kinds.{name_text, kind_words, kinds_text, counted, cable_kind, pair_kind, bar_kind, row_kind, AreCalled}
+use Rattle.kd_card.specs.Kinds.{name_text, kind_words, kinds_text, counted, cable_kind, pair_kind, bar_kind, row_kind, AreKinds, AreCalled}
 use Rattle.kd_card.specs.Prices.{version_of, row_kinds, column_kinds, ArePrices}
-use Rattle.kd_card.specs.CardText.{group_of, row_name, column_name, price_count, lines_text}
-use Rattle.kd_card.specs.CardFault.{with_line, IsNextKind}
-use Rattle.kd_card.proofs.KindPrices.{row_count, column_count}
+use Rattle.kd_card.specs.CardText.{group_of, row_name, column_name, price_count, lines_text, price_lines, IsGroup, HaveKinds}
+use Rattle.kd_card.specs.Reading.{BeginsWithAll}
+use Rattle.kd_card.specs.CardFault.{with_line, IsNextKind, EndsGroup, EndsPrices, BeginsWithGroup}
+use Rattle.kd_card.proofs.KindPrices.{are_prices, row_count, column_count}
 
 -- no kind follows
 abbrev pub HasNoNext : Name → ℕ → List ℕ → Type 0
@@ -158,3 +160,59 @@ same_kind_parts (Cables a b) others by also group rows columns = cc
 same_kind_parts (Bars a b) others by also group rows columns = cc
 same_kind_parts prices (Cables c d) by also group rows columns = cc
 same_kind_parts prices (Bars c d) by also group rows columns = cc
+
+-- ---- prices of two groups
+
+pub group_of_cables : (group : Group) (rows columns : List PricedKind) (a : ArrayVec CableKind) (b : ArrayVec PairKind) → group ≡ OfCables
+    → map cable_kind a.items ≡ rows → map pair_kind b.items ≡ columns → IsGroup (row_name group) (price_count group) rows
+    → IsGroup (column_name group) (price_count group) columns → ArePrices (CableKinds a b) × HaveKinds group rows columns (CableKinds a b)
+group_of_cables group rows columns a b is r c x y =
+    let many : price_count group ≡ 13 = ap price_count is in (
+      are_prices (CableKinds a b) 13 refl refl (subst (AreKinds 0) (sym r) x.in_order, ap counted r ∙ x.count ∙ many)
+      (subst (AreKinds 0) (sym c) y.in_order, ap counted c ∙ y.count ∙ many),
+      record { of_group = sym is; version = refl; row_kinds = r; column_kinds = c },
+    )
+
+pub group_of_bars : (group : Group) (rows columns : List PricedKind) (a : ArrayVec BarKind) (b : ArrayVec RowKind) → group ≡ OfBars
+    → map bar_kind a.items ≡ rows → map row_kind b.items ≡ columns → IsGroup (row_name group) (price_count group) rows
+    → IsGroup (column_name group) (price_count group) columns → ArePrices (BarKinds a b) × HaveKinds group rows columns (BarKinds a b)
+group_of_bars group rows columns a b is r c x y =
+    let many : price_count group ≡ 27 = ap price_count is in (
+      are_prices (BarKinds a b) 27 refl refl (subst (AreKinds 0) (sym r) x.in_order, ap counted r ∙ x.count ∙ many)
+      (subst (AreKinds 0) (sym c) y.in_order, ap counted c ∙ y.count ∙ many),
+      record { of_group = sym is; version = refl; row_kinds = r; column_kinds = c },
+    )
+
+lines_behind_groups : (prices : PriceParts) → version_of prices ≡ ByKind → (rest : List ℕ)
+    → lines_text (price_lines prices) ++ rest ≡ kinds_text (row_kinds prices) ++ (kinds_text (column_kinds prices) ++ rest)
+lines_behind_groups (CableKinds a b) by rest = lines_of_kinds (map cable_kind a.items) (map pair_kind b.items) rest
+lines_behind_groups (BarKinds a b) by rest = lines_of_kinds (map bar_kind a.items) (map row_kind b.items) rest
+lines_behind_groups (Cables a b) by rest = cc
+lines_behind_groups (Bars a b) by rest = cc
+
+ends_behind : (prices : PriceParts) → version_of prices ≡ ByKind → (rest : List ℕ) → EndsGroup (column_name (group_of prices)) rest → EndsPrices prices rest
+ends_behind (CableKinds a b) by rest ends = ends
+ends_behind (BarKinds a b) by rest ends = ends
+ends_behind (Cables a b) by rest ends = tt
+ends_behind (Bars a b) by rest ends = tt
+
+pub all_groups : (group : Group) (rows columns : List PricedKind) (bytes rest after : List ℕ) (prices : PriceParts)
+    → BeginsWithGroup (row_name group) (price_count group) bytes rows rest → BeginsWithGroup (column_name group) (price_count group) rest columns after
+    → HaveKinds group rows columns prices → ArePrices prices → BeginsWithAll bytes ByKind prices after
+all_groups group rows columns bytes rest after prices r c have are = record {
+  of_version = have.version;
+  text =
+      r.begins.lines ∙ ap (λ t. kinds_text rows ++ t) c.begins.lines ∙ ap (λ ks. kinds_text ks ++ (kinds_text columns ++ after)) (sym have.row_kinds)
+      ∙ ap (λ ks. kinds_text (row_kinds prices) ++ (kinds_text ks ++ after)) (sym have.column_kinds) ∙ sym (lines_behind_groups prices have.version after);
+  are_prices = are;
+  ends = ends_behind prices have.version after (subst (λ g. EndsGroup (column_name g) after) (sym have.of_group) c.ends);
+}
+
+-- the lines of kinds are as many as the kinds
+pub line_count_is : (prices : PriceParts) → version_of prices ≡ ByKind → length (price_lines prices) ≡ length (row_kinds prices) + length (column_kinds prices)
+line_count_is (CableKinds a b) by =
+    omega (arith, length-append (map kind_words (map cable_kind a.items)) (map kind_words (map pair_kind b.items)), length-map (map cable_kind a.items) kind_words, length-map (map pair_kind b.items) kind_words)
+line_count_is (BarKinds a b) by =
+    omega (arith, length-append (map kind_words (map bar_kind a.items)) (map kind_words (map row_kind b.items)), length-map (map bar_kind a.items) kind_words, length-map (map row_kind b.items) kind_words)
+line_count_is (Cables a b) by = cc
+line_count_is (Bars a b) by = cc

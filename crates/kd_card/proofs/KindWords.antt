@@ -56,7 +56,7 @@ undo_rank p = elim p as (λ p. rank_back (place_rank p) ≡ p) [ One ↦ refl | 
 same_rank : (p q : Place) → place_rank p ≡ place_rank q → p ≡ q
 same_rank p q e = sym (undo_rank p) ∙ ap rank_back e ∙ undo_rank q
 
-low_rank : (p : Place) → place_rank p < 8
+pub low_rank : (p : Place) → place_rank p < 8
 low_rank p = elim p as (λ p. place_rank p < 8) [ One ↦ omega arith | ZeroLeft ↦ omega arith | Two ↦ omega arith | Three ↦ omega arith | Four ↦ omega arith | Five ↦ omega arith | ZeroRight ↦ omega arith | Six ↦ omega arith ]
 
 place_test : (p : Place) → is_above 45 (place_text p) ≡ true

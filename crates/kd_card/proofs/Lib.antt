@@ -7,6 +7,8 @@ pub mod CardWords
 pub mod KindWords
 pub mod KindPrices
 pub mod KindParts
+pub mod KindLists
+pub mod KindReading
 pub mod OneCard
 pub mod Counts
 pub mod Cables

@@ -189,6 +189,12 @@ pub same_named : TextsTellFirstParts → (text name number rest : List ℕ) → 
 same_named tells text name number rest test first value more without e =
     (same_value tells 10 text name number value rest more first (named text name value more (unbroken_by_test name test) without e)).0
 
+-- the same of a name that has no LF
+pub same_behind : TextsTellFirstParts → (text name number rest : List ℕ) → IsWithout 10 name → IsFirstPart 10 text (name ++ number) rest
+    → (value more : List ℕ) → IsWithout 10 value → text ≡ name ++ (value ++ 10 ∷ more) → number ≡ value
+same_behind tells text name number rest plain first value more without e =
+    (same_value tells 10 text name number value rest more first (named text name value more plain without e)).0
+
 -- ---- the words of a line
 
 spaceless : (word : List ℕ) → IsWithout 32 word → All (λ b. eqb b 32 ≡ false) word

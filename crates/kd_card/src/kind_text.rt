@@ -13,7 +13,11 @@ use super::look::{Look, Name};
 use super::price_text::price_of_text;
 use arrayvec::{ArrayString, ArrayVec};
 use itoa::Buffer;
+use kd_state::laws::{lines_tell_words, numbers_and_letters_are_words, texts_tell_first_parts};
 use kd_state::{number_of_text, push_number, split_once, split_words};
+
+/// No group has more kinds in order, each once: their ranks are below 703.
+const MOST: usize = 704;
 
 /// The first word of a line.
 fn first_word(line: &[u8]) -> &[u8]
@@ -90,6 +94,9 @@ fn next_kind(
             (λ found. IsNextKind name floor text.now found.0 found.1.now))
         (IsBadKind name floor line text.now) }
 {
+    lines_tell_words();
+    texts_tell_first_parts();
+    numbers_and_letters_are_words();
     if text.is_empty() {
         return Ok(None);
     }
@@ -112,7 +119,7 @@ pub(crate) fn read_kinds<'a>(
     name: Name,
     number: usize,
     line: usize,
-) -> Result<(ArrayVec<PricedKind, 27>, &'a [u8]), CardFault>
+) -> Result<(ArrayVec<PricedKind, MOST>, &'a [u8]), CardFault>
     requires few { number ≤ 27 }
     requires near { line < 300 }
     ensures { MatchResult result
@@ -124,32 +131,24 @@ pub(crate) fn read_kinds<'a>(
     let mut floor = 0;
     let mut total = 0;
     let mut at = line;
-    loop {
-        match next_kind(rest, name, floor, at) {
-            Ok(Some((kind, after))) => {
-                keep(&mut kinds, &kind);
-                floor = kind.look.rank() + 1;
-                total += usize::from(kind.count);
-                rest = after;
-                at += 1;
-            }
-            Ok(None) => break,
+    'kind: loop {
+        let next = match next_kind(rest, name, floor, at) {
+            Ok(next) => next,
             Err(fault) => return Err(fault),
-        }
+        };
+        let Some((kind, after)) = next else {
+            break 'kind;
+        };
+        floor = kind.look.rank() + 1;
+        total += usize::from(kind.count);
+        kinds.push(kind);
+        rest = after;
+        at += 1;
     }
     if total == number {
         Ok((kinds, rest))
     } else {
         Err(CardFault::PriceMissing)
-    }
-}
-
-/// Keeps the kind, if there is room for it.
-fn keep(kinds: &mut ArrayVec<PricedKind, 27>, kind: &PricedKind)
-    ensures { kinds.new.items ≡ take 27 (kinds.old.items ++ kind.now ∷ []) }
-{
-    if !kinds.is_full() {
-        kinds.push(*kind);
     }
 }
 

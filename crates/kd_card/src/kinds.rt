@@ -1,6 +1,7 @@
 //! Kinds: things that are alike, how many there are of them, and the price that each of them has.
-ghost use Rattle.std.specs.Prelude.{◌≡◌, ◌≢◌, ◌↔◌, ◌+◌, ◌*◌, ◌<◌, ◌≤◌, length, map, fold, unsigned_abs, ◌+ℤ◌, IsTrue, MatchOption};
+ghost use Rattle.std.specs.Prelude.{◌≡◌, ◌≢◌, ◌↔◌, ◌+◌, ◌*◌, ◌<◌, ◌≤◌, length, map, fold, unsigned_abs, pos, ◌+ℤ◌, ◌*ℤ◌, IsTrue, MatchOption};
 ghost use Rattle.kd_card.specs.declared.look.Name.{Name};
+ghost use Rattle.kd_card.specs.declared.kinds.PricedKind.{PricedKind};
 ghost use Rattle.kd_card.specs.Kinds.{look_name, look_rank, counted, prices_of_kinds, IsPricedKind, AreKinds, AreCalled};
 
 use super::look::{Look, Name};
@@ -130,8 +131,8 @@ pub(crate) trait AsKind: Copy + Default {
         ensures { result ≡ kind self.now };
 
     /// The kind of such things that this one is; none where it is one of other things.
-    fn of_kind(kind: PricedKind) -> Option<Self>
-        ensures { MatchOption result (look_name kind.look ≢ name) (λ own. Self.kind own ≡ kind) };
+    fn of_kind(any: PricedKind) -> Option<Self>
+        ensures { MatchOption result (look_name any.look ≢ name) (λ own. kind own ≡ any) };
 }
 
 impl AsKind for CableKind {
@@ -150,8 +151,8 @@ impl AsKind for CableKind {
         }
     }
 
-    fn of_kind(kind: PricedKind) -> Option<Self> {
-        let PricedKind { look, count, price } = kind;
+    fn of_kind(any: PricedKind) -> Option<Self> {
+        let PricedKind { look, count, price } = any;
         match look {
             Look::Cable(ends) => Some(CableKind { ends, count, price }),
             _ => None,
@@ -175,8 +176,8 @@ impl AsKind for PairKind {
         }
     }
 
-    fn of_kind(kind: PricedKind) -> Option<Self> {
-        let PricedKind { look, count, price } = kind;
+    fn of_kind(any: PricedKind) -> Option<Self> {
+        let PricedKind { look, count, price } = any;
         match look {
             Look::Pair(pair) => Some(PairKind { pair, count, price }),
             _ => None,
@@ -200,8 +201,8 @@ impl AsKind for BarKind {
         }
     }
 
-    fn of_kind(kind: PricedKind) -> Option<Self> {
-        let PricedKind { look, count, price } = kind;
+    fn of_kind(any: PricedKind) -> Option<Self> {
+        let PricedKind { look, count, price } = any;
         match look {
             Look::Bar(standing) => Some(BarKind { standing, count, price }),
             _ => None,
@@ -225,8 +226,8 @@ impl AsKind for RowKind {
         }
     }
 
-    fn of_kind(kind: PricedKind) -> Option<Self> {
-        let PricedKind { look, count, price } = kind;
+    fn of_kind(any: PricedKind) -> Option<Self> {
+        let PricedKind { look, count, price } = any;
         match look {
             Look::Row(reading) => Some(RowKind { reading, count, price }),
             _ => None,
@@ -268,6 +269,14 @@ fn own_kind<K: AsKind>(kind: PricedKind) -> K
 }
 
 impl PricedKind {
+    /// The price of all things of the kind together.
+    fn price_of_all(&self) -> i32
+        requires { unsigned_abs self.now.price ≤ 9999 }
+        ensures { result ≡ pos self.now.count *ℤ self.now.price }
+    {
+        i32::from(self.count) * i32::from(self.price)
+    }
+
     /// Whether the kind may stand on a card, behind kinds that all have lower ranks than this one.
     fn may_follow(&self, floor: usize) -> bool
         ensures { IsTrue result ↔ (IsPricedKind self.now × (floor ≤ look_rank self.now.look)) }
@@ -305,7 +314,7 @@ pub(crate) fn sum_of_kinds(sum: i32, kinds: &[PricedKind]) -> i32
 {
     let mut total = sum;
     for kind in kinds {
-        total += i32::from(kind.count) * i32::from(kind.price);
+        total += kind.price_of_all();
     }
     total
 }

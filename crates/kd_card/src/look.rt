@@ -1,5 +1,5 @@
 //! What alike things have in common, and its text.
-ghost use Rattle.std.specs.Prelude.{◌≡◌, ◌≢◌, ◌↔◌, ◌+◌, ◌<◌, ◌≤◌, IsTrue, MatchOption, Some};
+ghost use Rattle.std.specs.Prelude.{◌≡◌, ◌≢◌, ◌↔◌, ℕ, ◌+◌, ◌<◌, ◌≤◌, IsTrue, MatchOption, Some};
 ghost use Rattle.kd_state.specs.Words.{letter_text};
 ghost use Rattle.kd_state.specs.Machine.{cable_letters};
 ghost use Rattle.kd_state.specs.Costs.{column_letters};
@@ -90,9 +90,8 @@ impl Look {
         ensures { result.bytes ≡ look_text self }
     {
         match self {
-            Look::Cable((one, other)) => text_of_letters(one, other),
-            Look::Pair(None) => text_of_letters(None, None),
-            Look::Pair(Some((one, other))) => text_of_letters(Some(one), Some(other)),
+            Look::Cable(ends) => text_of_ends(ends),
+            Look::Pair(pair) => text_of_pair(pair),
             Look::Bar(standing) => text_of_standing(standing),
             Look::Row(reading) => text_of_reading(reading),
         }
@@ -234,6 +233,24 @@ fn text_of_letters(one: Option<Letter>, other: Option<Letter>) -> ArrayString<8>
     text
 }
 
+/// The letters in a cable, or `-` for none.
+fn text_of_ends(ends: Ends) -> ArrayString<8>
+    ensures { result.bytes ≡ look_text (Look.Cable ends) }
+{
+    let (one, other) = ends;
+    text_of_letters(one, other)
+}
+
+/// The letters of a pair, or `-` for nothing.
+fn text_of_pair(pair: Option<(Letter, Letter)>) -> ArrayString<8>
+    ensures { result.bytes ≡ look_text (Look.Pair pair) }
+{
+    match pair {
+        None => text_of_letters(None, None),
+        Some((one, other)) => text_of_letters(Some(one), Some(other)),
+    }
+}
+
 /// The text of a standing.
 fn text_of_standing(standing: Standing) -> ArrayString<8>
     ensures { result.bytes ≡ look_text (Look.Bar standing) }
@@ -281,7 +298,7 @@ fn pair_of_text(text: &[u8]) -> Option<Option<(Letter, Letter)>>
 /// The two letters of these capital letters, if the first comes before the second.
 fn two_letters(one: u8, other: u8) -> Option<(Letter, Letter)>
     ensures { MatchOption result
-        ((letters : _) → letters.0 < letters.1 → letters.1 < 26 → one ≡ letters.0 + 65 → other ≢ letters.1 + 65)
+        ((first second : ℕ) → first < second → second < 26 → one ≡ first + 65 → other ≢ second + 65)
         (λ letters. (letters.0 < letters.1) × (letters.1 < 26) × (one ≡ letters.0 + 65) × (other ≡ letters.1 + 65)) }
 {
     let one = Letter::from_byte(one)?;

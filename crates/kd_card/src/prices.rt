@@ -122,7 +122,8 @@ impl Prices {
     pub(crate) fn of_groups(group: Group, rows: &[PricedKind], columns: &[PricedKind]) -> Self
         requires rows { IsGroup (row_name group) (price_count group) rows.now }
         requires columns { IsGroup (column_name group) (price_count group) columns.now }
-        ensures { HaveKinds group rows.now columns.now result }
+        ensures kinds { HaveKinds group rows.now columns.now result }
+        ensures are_prices { ArePrices result }
     {
         let parts = match group {
             Group::OfCables => PriceParts::CableKinds(own_kinds(rows), own_kinds(columns)),
@@ -189,21 +190,22 @@ impl Prices {
         match &self.parts {
             PriceParts::Cables(rows, columns) => sum_onto(sum_onto(0, rows), columns),
             PriceParts::Bars(rows, columns) => sum_onto(sum_onto(0, rows), columns),
-            PriceParts::CableKinds(..) | PriceParts::BarKinds(..) => self.sum_by_kind(),
+            PriceParts::CableKinds(..) | PriceParts::BarKinds(..) => self.parts.sum_by_kind(),
         }
     }
+}
 
+impl PriceParts {
     /// The sum of the prices by kind, each as often as there are things of the kind.
     fn sum_by_kind(&self) -> i32
-        requires { version_of self.now ≡ Version.ByKind }
+        requires kinds { version_of self.now ≡ Version.ByKind }
+        requires prices { ArePrices self.now }
         ensures { result ≡ price_sum self.now }
     {
         let rows = sum_of_kinds(0, self.row_kinds().as_slice());
         sum_of_kinds(rows, self.column_kinds().as_slice())
     }
-}
 
-impl PriceParts {
     /// The same prices once more.
     fn copied(&self) -> Self
         requires { ArePrices self.now }

@@ -2,7 +2,7 @@
 ghost use Rattle.std.specs.Prelude.{◌≡◌, ◌≢◌, ℕ, ◌+◌, ◌<◌, ◌≤◌, ◌↔◌, ◌++◌, List, [], ◌∷◌, length, codes, decimal, slice_index, IsTrue, MatchOption, MatchResult};
 ghost use Rattle.std.specs.Fmt.{signed_decimal};
 ghost use Rattle.kd_state.specs.declared.setting.Setting.{Setting};
-ghost use Rattle.kd_state.specs.Words.{line_of, IsFirstPart};
+ghost use Rattle.kd_state.specs.Words.{line_of, IsWithout, IsFirstPart};
 ghost use Rattle.kd_state.specs.Line.{BeginsWith, BeginsWithLine, BeginsWithNoLine};
 ghost use Rattle.kd_state.specs.SheetDay.{IsDayNumber};
 ghost use Rattle.kd_card.specs.CardText.{IsCard, version_text, settings_words, sum_words};
@@ -86,7 +86,8 @@ fn read_head_of(text: &[u8], version: Version) -> Option<(u8, &[u8])>
 
 /// What stands before the day in the head of a card.
 fn head_front(version: Version) -> &'static [u8]
-    ensures { (day : List ℕ) → line_of (codes "CARD" ∷ version_text version ∷ codes "DAY" ∷ day ∷ []) ≡ result.now ++ day }
+    ensures front { (day : List ℕ) → line_of (codes "CARD" ∷ version_text version ∷ codes "DAY" ∷ day ∷ []) ≡ result.now ++ day }
+    ensures unbroken { IsWithout 10 result.now }
 {
     match version {
         Version::ByNumber => b"CARD 1 DAY ",
