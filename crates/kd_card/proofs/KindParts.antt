@@ -1,6 +1,6 @@
 -- Both groups of kinds: their lines, and the prices that they tell.
-use Rattle.std.proofs.Common.{◌≡◌, ◌≢◌, ℕ, List, [], ◌∷◌, ◌++◌, map, get_or, length, Option, None, refl, sym, ap, subst, ◌∙◌, ◌+◌, append_assoc, length-append, arith}
-use Rattle.std.proofs.lemmas.List.{length-map}
+use Rattle.std.proofs.Common.{◌≡◌, ◌≢◌, ℕ, List, [], ◌∷◌, ◌++◌, map, get_or, length, Option, None, refl, sym, ap, subst, ◌∙◌, ◌+◌, ◌≤◌, fold, ℤ, pos, ◌+ℤ◌, append_assoc, length-append, arith}
+use Rattle.std.proofs.lemmas.List.{append-nil, length-map}
 use Rattle.std.specs.List.{flat_map}
 use Rattle.std.proofs.lemmas.List.Concat.{flat_map-append}
 use Rattle.std.proofs.lemmas.List.Folds.{flat_map-map}
@@ -22,12 +22,13 @@ use Rattle.kd_card.specs.declared.group.Group.TheVariants.{OfCables, OfBars}
 use Rattle.kd_card.specs.declared.prices.PriceParts.{PriceParts}
 use Rattle.kd_card.specs.declared.prices.PriceParts.TheVariants.{Cables, Bars, CableKinds, BarKinds}
 use Rattle.kd_card.specs.declared.prices.Version.TheVariants.{ByNumber, ByKind}
-use Rattle.kd_card.specs.Kinds.{name_text, kind_words, kinds_text, counted, cable_kind, pair_kind, bar_kind, row_kind, AreKinds, AreCalled}
-use Rattle.kd_card.specs.Prices.{version_of, row_kinds, column_kinds, ArePrices}
+use Rattle.kd_card.specs.Kinds.{name_text, kind_words, kinds_text, counted, prices_of_kinds, cable_kind, pair_kind, bar_kind, row_kind, AreKinds, AreCalled}
+use Rattle.kd_card.specs.Prices.{version_of, row_kinds, column_kinds, column_prices, price_sum, ArePrices}
 use Rattle.kd_card.specs.CardText.{group_of, row_name, column_name, price_count, lines_text, price_lines, IsGroup, HaveKinds}
 use Rattle.kd_card.specs.Reading.{BeginsWithAll}
-use Rattle.kd_card.specs.CardFault.{with_line, IsNextKind, EndsGroup, EndsPrices, BeginsWithGroup}
-use Rattle.kd_card.proofs.KindPrices.{are_prices, row_count, column_count}
+use Rattle.kd_card.specs.CardFault.{with_line, IsNextKind, EndsGroup, EndsPrices, BeginsWithGroup, IsGroupFault}
+use Rattle.kd_card.specs.declared.fault.CardFault.{CardFault}
+use Rattle.kd_card.proofs.KindPrices.{are_prices, rows_of, columns_of, row_count, column_count}
 
 -- no kind follows
 abbrev pub HasNoNext : Name → ℕ → List ℕ → Type 0
@@ -216,3 +217,53 @@ line_count_is (BarKinds a b) by =
     omega (arith, length-append (map kind_words (map bar_kind a.items)) (map kind_words (map row_kind b.items)), length-map (map bar_kind a.items) kind_words, length-map (map row_kind b.items) kind_words)
 line_count_is (Cables a b) by = cc
 line_count_is (Bars a b) by = cc
+
+-- ---- names and numbers that are known
+
+pub begins_as : (name other : Name) (number count : ℕ) (bytes : List ℕ) (kinds : List PricedKind) (rest : List ℕ) → name ≡ other → number ≡ count
+    → BeginsWithGroup name number bytes kinds rest → BeginsWithGroup other count bytes kinds rest
+begins_as name other number count bytes kinds rest same also begins =
+    subst (λ n. BeginsWithGroup other n bytes kinds rest) also (subst (λ n. BeginsWithGroup n number bytes kinds rest) same begins)
+
+pub kinds_as : (name : Name) (number : ℕ) (bytes : List ℕ) (kinds other : List PricedKind) (rest : List ℕ) → other ≡ kinds
+    → BeginsWithGroup name number bytes kinds rest → BeginsWithGroup name number bytes other rest
+kinds_as name number bytes kinds other rest same begins = subst (λ ks. BeginsWithGroup name number bytes ks rest) (sym same) begins
+
+pub fault_as : (name other : Name) (number count line at : ℕ) (bytes : List ℕ) (fault : CardFault) → name ≡ other → number ≡ count → line ≡ at
+    → IsGroupFault name number line bytes fault → IsGroupFault other count at bytes fault
+fault_as name other number count line at bytes fault same also there wrong =
+    subst (λ l. IsGroupFault other count l bytes fault) there
+    (subst (λ n. IsGroupFault other n line bytes fault) also (subst (λ n. IsGroupFault n number line bytes fault) same wrong))
+
+pub group_as : (name : Name) (number : ℕ) (bytes : List ℕ) (kinds : List PricedKind) (rest : List ℕ) → BeginsWithGroup name number bytes kinds rest
+    → IsGroup name number kinds
+group_as name number bytes kinds rest begins = record { called = begins.begins.called; in_order = begins.begins.in_order; count = begins.count }
+
+pub few_prices_of : (group : Group) → price_count group ≤ 27
+few_prices_of OfCables = omega arith
+few_prices_of OfBars = omega arith
+
+-- the sum, group by group
+fold-append : (sum : ℤ) (xs ys : List ℤ) → fold (λ sum price. sum +ℤ price) sum (xs ++ ys) ≡ fold (λ sum price. sum +ℤ price) (fold (λ sum price. sum +ℤ price) sum xs) ys
+fold-append sum [] ys = refl
+fold-append sum (x ∷ xs) ys = fold-append (sum +ℤ x) xs ys
+
+pub sum_is : (prices : PriceParts) (rows columns : List PricedKind) (first whole : ℤ) → version_of prices ≡ ByKind → rows ≡ row_kinds prices → columns ≡ column_kinds prices
+    → first ≡ fold (λ sum price. sum +ℤ price) (pos 0) (prices_of_kinds rows) → whole ≡ fold (λ sum price. sum +ℤ price) first (prices_of_kinds columns)
+    → whole ≡ price_sum prices
+sum_is prices rows columns first whole by r c a b =
+    b ∙ ap (λ f. fold (λ sum price. sum +ℤ price) f (prices_of_kinds columns)) a
+    ∙ ap (λ ks. fold (λ sum price. sum +ℤ price) (fold (λ sum price. sum +ℤ price) (pos 0) (prices_of_kinds rows)) (prices_of_kinds ks)) c
+    ∙ ap (λ ks. fold (λ sum price. sum +ℤ price) (fold (λ sum price. sum +ℤ price) (pos 0) (prices_of_kinds ks)) (prices_of_kinds (column_kinds prices))) r
+    ∙ sym (fold-append (pos 0) (prices_of_kinds (row_kinds prices)) (prices_of_kinds (column_kinds prices)))
+    ∙ sym (ap (λ rows. fold (λ sum price. sum +ℤ price) (pos 0) (rows ++ column_prices prices)) (rows_of prices by)
+    ∙ ap (λ columns. fold (λ sum price. sum +ℤ price) (pos 0) (prices_of_kinds (row_kinds prices) ++ columns)) (columns_of prices by))
+
+pub pushed : (prices : PriceParts) (a b d : List ℕ) (rows columns : List PricedKind) → version_of prices ≡ ByKind → b ≡ a ++ kinds_text rows
+    → d ≡ b ++ kinds_text columns → rows ≡ row_kinds prices → columns ≡ column_kinds prices → d ≡ a ++ lines_text (price_lines prices)
+pushed prices a b d rows columns by e f r c =
+    f ∙ ap (λ t. t ++ kinds_text columns) e ∙ append_assoc a (kinds_text rows) (kinds_text columns)
+    ∙ ap (λ ks. a ++ (kinds_text ks ++ kinds_text columns)) r ∙ ap (λ ks. a ++ (kinds_text (row_kinds prices) ++ kinds_text ks)) c
+    ∙ ap (λ t. a ++ (kinds_text (row_kinds prices) ++ t)) (sym (append-nil (kinds_text (column_kinds prices))))
+    ∙ ap (λ t. a ++ t) (sym (lines_behind_groups prices by []))
+    ∙ ap (λ t. a ++ t) (append-nil (lines_text (price_lines prices)))

@@ -36,13 +36,13 @@ few_kinds floor (kind ∷ kinds) are =
     omega (arith, some, few_kinds (look_rank kind.look + 1) kinds are.2)
 
 -- prices by kind that may stand on a card
-rows_of : (parts : PriceParts) → version_of parts ≡ ByKind → row_prices parts ≡ prices_of_kinds (row_kinds parts)
+pub rows_of : (parts : PriceParts) → version_of parts ≡ ByKind → row_prices parts ≡ prices_of_kinds (row_kinds parts)
 rows_of (CableKinds row col) by = refl
 rows_of (BarKinds row col) by = refl
 rows_of (Cables row col) by = cc
 rows_of (Bars row col) by = cc
 
-columns_of : (parts : PriceParts) → version_of parts ≡ ByKind → column_prices parts ≡ prices_of_kinds (column_kinds parts)
+pub columns_of : (parts : PriceParts) → version_of parts ≡ ByKind → column_prices parts ≡ prices_of_kinds (column_kinds parts)
 columns_of (CableKinds row col) by = refl
 columns_of (BarKinds row col) by = refl
 columns_of (Cables row col) by = cc

@@ -5,7 +5,7 @@ use super::look::Name;
 
 /// What the prices of a card are of.
 #[derive(Clone, Copy, Debug, PartialEq, Eq)]
-pub(crate) enum Group {
+pub enum Group {
     /// Of cables, and of pairs and nothings.
     OfCables,
     /// Of bars, and of the sheet's rows.
@@ -34,7 +34,7 @@ impl Group {
     }
 
     /// How many rows there are, and how many columns.
-    pub(crate) fn number(self) -> usize
+    pub fn number(self) -> usize
         ensures { result ≡ price_count self }
     {
         match self {

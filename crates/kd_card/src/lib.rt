@@ -19,6 +19,7 @@ mod write;
 pub use card::Card;
 pub use carrying::{IllegalAt, carry_all};
 pub use fault::CardFault;
+pub use group::Group;
 pub use kinds::{BarKind, CableKind, PairKind, PricedKind, RowKind};
 pub use look::Look;
 pub use prices::{PriceParts, Prices};

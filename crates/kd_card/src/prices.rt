@@ -119,7 +119,7 @@ impl Prices {
     }
 
     /// The prices of these kinds of rows and columns of a group.
-    pub(crate) fn of_groups(group: Group, rows: &[PricedKind], columns: &[PricedKind]) -> Self
+    pub fn of_groups(group: Group, rows: &[PricedKind], columns: &[PricedKind]) -> Self
         requires rows { IsGroup (row_name group) (price_count group) rows.now }
         requires columns { IsGroup (column_name group) (price_count group) columns.now }
         ensures kinds { HaveKinds group rows.now columns.now result }
