@@ -148,7 +148,7 @@ shortest_by_number told m s settings prices machine legal are_prices h others re
 -- prices by number that may stand on a card
 expanded_are_prices : (m : Parts) (s : Day) (prices numbered : PriceParts) → ArePrices prices → Expands m s prices numbered → ArePrices numbered
 expanded_are_prices m s prices numbered are (Same by same) = subst ArePrices same are
-expanded_are_prices m s prices numbered are (Expanded by other group also rows columns) = also
+expanded_are_prices m s prices numbered are (Expanded by other group here also rows columns) = also
 
 pub proving_cards_are_shortest : Told → ProvingCardsAreShortest
 proving_cards_are_shortest told m s settings prices machine legal are_prices h =

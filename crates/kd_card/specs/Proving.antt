@@ -1,6 +1,6 @@
 -- A card that proves itself: it leads the machine to the day, and its prices show that no list of settings that does is
 -- shorter.
-use Rattle.std.specs.Prelude.{◌≡◌, ℕ, ◌+◌, ◌<◌, ◌≤◌, nat_eq, Bool, true, false, List, [], ◌∷◌, length, map, slice_index_or, count_by, All, Any, ℤ, pos, IsFalse, Option, Some, None}
+use Rattle.std.specs.Prelude.{◌≡◌, ℕ, ◌+◌, ◌<◌, ◌≤◌, nat_eq, Bool, true, false, List, [], ◌∷◌, length, map, slice_index_or, count_by, All, ◌⊎◌, ℤ, pos, IsFalse, Option, Some, None}
 use Rattle.kd_tables.specs.Places.{in_order}
 use Rattle.kd_state.specs.declared.parts.Parts.{Parts}
 use Rattle.kd_state.specs.declared.parts.Parts.TheVariants.{Rotor, Pin}
@@ -84,6 +84,11 @@ pub record HasPrice (look : Look) (due : ℤ) (kind : PricedKind) : Type 0 where
   pub alike : look_rank kind.look ≡ look_rank look
   pub price : kind.price ≡ due
 
+-- one of the kinds is such
+abbrev pub IsPriced : Look → ℤ → List PricedKind → Type 0
+IsPriced look price [] = ⊥
+IsPriced look price (kind ∷ kinds) = HasPrice look price kind ⊎ IsPriced look price kinds
+
 -- there are as many things that look like the kind as it says
 pub record HasCount (looks : List Look) (kind : PricedKind) : Type 0 where
   pub count : kind.count ≡ alike_count kind.look looks
@@ -91,13 +96,13 @@ pub record HasCount (looks : List Look) (kind : PricedKind) : Type 0 where
 -- there is a price for each thing, that of its kind; and the kinds are those of the things, with as many as there are
 pub record AreExpanded (looks : List Look) (kinds : List PricedKind) (prices : List ℤ) : Type 0 where
   pub number : length prices ≡ length looks
-  pub each : (place : ℕ) → place < length looks → Any (HasPrice (look_at looks place) (price_at prices place)) kinds
+  pub each : (place : ℕ) → place < length looks → IsPriced (look_at looks place) (price_at prices place) kinds
   pub counts : All (HasCount looks) kinds
 
 -- prices by number are what they mean, and prices by kind mean a price for each cable or bar, pair or row
 pub data Expands (m : Parts) (s : Day) (prices numbered : PriceParts) : Type 0 where
   Same : version_of prices ≡ ByNumber → prices ≡ numbered → Expands m s prices numbered
-  Expanded : version_of prices ≡ ByKind → version_of numbered ≡ ByNumber → group_of prices ≡ group_of numbered → ArePrices numbered
+  Expanded : version_of prices ≡ ByKind → version_of numbered ≡ ByNumber → group_of prices ≡ group_of numbered → ArePrices prices → ArePrices numbered
       → AreExpanded (row_looks m) (row_kinds prices) (row_prices numbered)
       → AreExpanded (column_looks s) (column_kinds prices) (column_prices numbered) → Expands m s prices numbered
 

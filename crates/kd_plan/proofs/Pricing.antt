@@ -9,7 +9,8 @@ use Rattle.kd_state.specs.declared.pin_parts.PinParts.{PinParts}
 use Rattle.kd_state.specs.declared.parts.Parts.TheVariants.{Rotor, Pin}
 use Rattle.kd_card.specs.declared.prices.PriceParts.{PriceParts}
 use Rattle.kd_card.specs.declared.prices.PriceParts.TheVariants.{Cables, Bars}
-use Rattle.kd_card.specs.Prices.{ArePrices, how_many, row_prices, column_prices}
+use Rattle.kd_card.specs.Prices.{ArePrices, how_many, row_kinds, column_kinds, row_prices, column_prices}
+use Rattle.kd_card.specs.Kinds.{AreKinds}
 use Rattle.kd_card.specs.Prices as card
 use Rattle.kd_card.specs.Proving.{AreOfKind}
 use Rattle.kd_assign.specs.Assignment.{assignment_cost}
@@ -19,13 +20,15 @@ pub made : {X : Type 0} (o : Option X) (P : Type 0) (Q : X → Type 0) → Match
 made None P Q h p = absurd (h p)
 made (Some x) P Q h p = refl
 
-pub prices_of : (prices : PriceParts) (most : ℕ) → most ≤ 9999 → length (row_prices prices) ≡ how_many prices → length (column_prices prices) ≡ how_many prices
+pub prices_of : (prices : PriceParts) (most : ℕ) → most ≤ 9999 → row_kinds prices ≡ [] → column_kinds prices ≡ [] → length (row_prices prices) ≡ how_many prices → length (column_prices prices) ≡ how_many prices
     → All (λ price. unsigned_abs price ≤ most) (row_prices prices) → All (λ price. unsigned_abs price ≤ most) (column_prices prices) → ArePrices prices
-prices_of prices most le rows columns row_bound column_bound = record {
+prices_of prices most le no_rows no_columns rows columns row_bound column_bound = record {
   rows = rows;
   columns = columns;
   row_reach = λ k d lt. omega (arith, row_bound k d lt);
   column_reach = λ k d lt. omega (arith, column_bound k d lt);
+  row_kinds = subst (AreKinds 0) (sym no_rows) tt;
+  column_kinds = subst (AreKinds 0) (sym no_columns) tt;
 }
 
 -- prices of 0

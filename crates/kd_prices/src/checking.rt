@@ -11,6 +11,7 @@ use super::fitting::{Cell, first_too_high};
 use super::laws::a_card_is_in_one_doubt_at_most;
 use super::needless::{first_needless, is_priced};
 use kd_card::{Card, PriceParts, Prices, carry_all};
+use kd_state::laws::a_setting_is_refused_or_carried;
 use kd_state::{Machine, Parts, Setting, SheetDay, bar_costs, cable_costs};
 
 /// Whether the card proves itself, whoever made it: its lines lead the machine to the day, and its prices show that no
@@ -42,7 +43,7 @@ fn check_by_number(
     ensures proves { IsOk result ↔ ProvesByNumber machine.now day.now settings.now prices.now }
     ensures doubt { IfErr result (IsDoubtByNumber machine.now day.now settings.now prices.now) }
 {
-    a_card_is_in_one_doubt_at_most();
+    a_setting_is_refused_or_carried();
     let reached = match carry_all(machine, settings) {
         Ok(reached) => reached,
         Err(illegal) => {

@@ -1,7 +1,7 @@
 //! Prices by kind, written out as prices by number for a machine and a day.
-ghost use Rattle.std.specs.Prelude.{◌≡◌, ◌↔◌, ◌≤◌, length, map, All, Any, IsTrue, MatchOption};
+ghost use Rattle.std.specs.Prelude.{◌≡◌, ◌↔◌, ◌≤◌, length, map, All, ℤ, List, IsTrue, MatchOption};
 ghost use Rattle.kd_card.specs.Proving as proving;
-ghost use Rattle.kd_card.specs.Proving.{HasPrice, HasCount, AreExpanded, Expands};
+ghost use Rattle.kd_card.specs.Proving.{IsPriced, HasCount, AreExpanded, Expands};
 ghost use Rattle.kd_prices.specs.Doubt.{AreOfOneModel};
 
 use super::looks::{bar_looks, cable_looks, pair_looks, row_looks};
@@ -41,7 +41,7 @@ pub(crate) fn expanded(machine: &Machine, day: &SheetDay, prices: &Prices) -> Op
 /// numbers of them.
 fn priced<const N: usize>(looks: &[Look; N], kinds: &[PricedKind]) -> Option<[i16; N]>
     ensures { MatchOption result
-        ((prices : _) → ¬ (AreExpanded looks.now kinds.now prices))
+        ((prices : List ℤ) → ¬ (AreExpanded looks.now kinds.now prices))
         (λ prices. AreExpanded looks.now kinds.now prices) }
 {
     if !are_counted(looks, kinds) {
@@ -75,13 +75,12 @@ pub(crate) fn alike_count(look: Look, looks: &[Look]) -> usize
 /// The price of the kind that looks so.
 fn price_of(look: Look, kinds: &[PricedKind]) -> Option<i16>
     ensures { MatchOption result
-        ((price : _) → ¬ (Any (HasPrice look price) kinds.now))
-        (λ price. Any (HasPrice look price) kinds.now) }
+        ((price : ℤ) → ¬ (IsPriced look price kinds.now))
+        (λ price. IsPriced look price kinds.now) }
 {
-    for kind in kinds {
-        if kind.look.rank() == look.rank() {
-            return Some(kind.price);
-        }
+    match kinds {
+        [] => None,
+        [kind, ..] if kind.look.rank() == look.rank() => Some(kind.price),
+        [_, others @ ..] => price_of(look, others),
     }
-    None
 }

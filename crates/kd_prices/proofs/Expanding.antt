@@ -1,0 +1,93 @@
+-- Prices mean one list of prices by number at most, and those are of the same model.
+use Rattle.std.proofs.Common.{◌≡◌, ℕ, ◌+◌, ◌<◌, ◌≤◌, inl, inr, List, [], ◌∷◌, length, get_or, refl, sym, ap, ◌∙◌, subst, arith, ℤ, pos}
+use Rattle.std.proofs.lemmas.List.{ext_get_or}
+use Rattle.kd_state.specs.declared.parts.Parts.{Parts}
+use Rattle.kd_state.specs.declared.parts.Parts.TheVariants.{Rotor, Pin}
+use Rattle.kd_state.specs.declared.setting.Setting.{Setting}
+use Rattle.kd_state.specs.SheetDay.{Day}
+use Rattle.kd_card.specs.declared.look.Look.{Look}
+use Rattle.kd_card.specs.declared.kinds.PricedKind.{PricedKind}
+use Rattle.kd_card.specs.declared.prices.PriceParts.{PriceParts}
+use Rattle.kd_card.specs.declared.prices.PriceParts.TheVariants.{Cables, Bars, CableKinds, BarKinds}
+use Rattle.kd_card.specs.declared.prices.Version.TheVariants.{ByNumber, ByKind}
+use Rattle.kd_card.specs.Kinds.{look_rank, AreKinds}
+use Rattle.kd_card.specs.Prices.{version_of, row_prices, column_prices, price_at}
+use Rattle.kd_card.specs.CardText.{group_of}
+use Rattle.kd_card.specs.Proving.{AreOfKind, IsPriced, look_at, AreExpanded, Expands, Same, Expanded, group_of_machine, Proves}
+use Rattle.kd_prices.specs.Doubt.{AreOfOneModel, AreNumbered}
+
+above : (floor : ℕ) (kinds : List PricedKind) (look : Look) (price : ℤ) → AreKinds floor kinds → IsPriced look price kinds → floor ≤ look_rank look
+above floor [] look price are priced = absurd priced
+above floor (kind ∷ kinds) look price are (inl has) = let low = are.1 in omega (arith, low, has.alike)
+above floor (kind ∷ kinds) look price are (inr later) = let low = are.1 in omega (arith, low, above (look_rank kind.look + 1) kinds look price are.2 later)
+
+one_price : (floor : ℕ) (kinds : List PricedKind) (look : Look) (price other : ℤ) → AreKinds floor kinds → IsPriced look price kinds → IsPriced look other kinds
+    → price ≡ other
+one_price floor [] look price other are a b = absurd a
+one_price floor (kind ∷ kinds) look price other are (inl a) (inl b) = sym a.price ∙ b.price
+one_price floor (kind ∷ kinds) look price other are (inl a) (inr b) = absurd (omega (arith, a.alike, above (look_rank kind.look + 1) kinds look other are.2 b))
+one_price floor (kind ∷ kinds) look price other are (inr a) (inl b) = absurd (omega (arith, b.alike, above (look_rank kind.look + 1) kinds look price are.2 a))
+one_price floor (kind ∷ kinds) look price other are (inr a) (inr b) = one_price (look_rank kind.look + 1) kinds look price other are.2 a b
+
+same_expansion : (looks : List Look) (kinds : List PricedKind) (prices others : List ℤ) → AreKinds 0 kinds → AreExpanded looks kinds prices
+    → AreExpanded looks kinds others → prices ≡ others
+same_expansion looks kinds prices others are a b =
+    let number = a.number in
+    ext_get_or (pos 0) prices others (a.number ∙ sym b.number)
+    (λ i inside. one_price 0 kinds (look_at looks i) (price_at prices i) (price_at others i) are (a.each i (omega (arith, number, inside)))
+    (b.each i (omega (arith, number, inside))))
+
+same_parts : (prices others : PriceParts) → version_of prices ≡ ByNumber → version_of others ≡ ByNumber → group_of prices ≡ group_of others
+    → row_prices prices ≡ row_prices others → column_prices prices ≡ column_prices others → prices ≡ others
+same_parts (Cables a b) (Cables c d) by also group rows columns = cc
+same_parts (Bars a b) (Bars c d) by also group rows columns = cc
+same_parts (Cables a b) (Bars c d) by also group rows columns = cc
+same_parts (Bars a b) (Cables c d) by also group rows columns = cc
+same_parts (CableKinds a b) others by also group rows columns = cc
+same_parts (BarKinds a b) others by also group rows columns = cc
+same_parts prices (CableKinds c d) by also group rows columns = cc
+same_parts prices (BarKinds c d) by also group rows columns = cc
+
+pub one_expansion : (m : Parts) (s : Day) (prices numbered other : PriceParts) → Expands m s prices numbered → Expands m s prices other → numbered ≡ other
+one_expansion m s prices numbered other (Same by e) (Same also f) = sym e ∙ f
+one_expansion m s prices numbered other (Same by e) (Expanded also be group are good rows columns) = let both : ByNumber ≡ ByKind = sym by ∙ also in cc
+one_expansion m s prices numbered other (Expanded by be group are good rows columns) (Same also f) = let both : ByKind ≡ ByNumber = sym by ∙ also in cc
+one_expansion m s prices numbered other (Expanded by be group are good rows columns) (Expanded also bee same fit fine more further) =
+    same_parts numbered other be bee (sym group ∙ same) (same_expansion _ _ _ _ are.row_kinds rows more) (same_expansion _ _ _ _ are.column_kinds columns further)
+
+-- ---- models
+
+group_is : (m : Parts) (prices : PriceParts) → AreOfKind m prices → group_of prices ≡ group_of_machine m
+group_is (Rotor m) (Cables a b) kind = refl
+group_is (Pin m) (Bars a b) kind = refl
+group_is (Rotor m) (Bars a b) kind = absurd kind
+group_is (Rotor m) (CableKinds a b) kind = absurd kind
+group_is (Rotor m) (BarKinds a b) kind = absurd kind
+group_is (Pin m) (Cables a b) kind = absurd kind
+group_is (Pin m) (CableKinds a b) kind = absurd kind
+group_is (Pin m) (BarKinds a b) kind = absurd kind
+
+kind_is : (m : Parts) (prices : PriceParts) → version_of prices ≡ ByNumber → group_of prices ≡ group_of_machine m → AreOfKind m prices
+kind_is (Rotor m) (Cables a b) by group = tt
+kind_is (Pin m) (Bars a b) by group = tt
+kind_is (Rotor m) (Bars a b) by group = cc
+kind_is (Rotor m) (CableKinds a b) by group = cc
+kind_is (Rotor m) (BarKinds a b) by group = cc
+kind_is (Pin m) (Cables a b) by group = cc
+kind_is (Pin m) (CableKinds a b) by group = cc
+kind_is (Pin m) (BarKinds a b) by group = cc
+
+same_group : (m : Parts) (s : Day) (prices numbered : PriceParts) → Expands m s prices numbered → (version_of numbered ≡ ByNumber) × (group_of prices ≡ group_of numbered)
+same_group m s prices numbered (Same by e) = (ap version_of (sym e) ∙ by, ap group_of e)
+same_group m s prices numbered (Expanded by be group are good rows columns) = (be, group)
+
+pub of_one_model : (m : Parts) (s : Day) (settings : List Setting) (prices : PriceParts) → Proves m s settings prices → AreOfOneModel m s prices
+of_one_model m s settings prices h = record {
+  model = h.proves.model;
+  group = (same_group m s prices h.numbered h.expands).1 ∙ group_is m h.numbered h.proves.kind;
+}
+
+pub are_numbered : (m : Parts) (s : Day) (prices numbered : PriceParts) → AreOfOneModel m s prices → Expands m s prices numbered → AreNumbered m s numbered
+are_numbered m s prices numbered model expands =
+    let same = same_group m s prices numbered expands in
+    record { model = model.model; kind = kind_is m numbered same.0 (sym same.1 ∙ model.group) }
