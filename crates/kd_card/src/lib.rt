@@ -22,6 +22,6 @@ pub use fault::CardFault;
 pub use group::Group;
 pub use kinds::{BarKind, CableKind, PairKind, PricedKind, RowKind};
 pub use look::Look;
-pub use prices::{PriceParts, Prices};
+pub use prices::{PriceParts, Prices, Version};
 pub use read::read_card;
 pub use write::write_card;

@@ -13,7 +13,7 @@ use std::marker::Model;
 
 /// What the prices of a card are by.
 #[derive(Clone, Copy, Debug, PartialEq, Eq)]
-pub(crate) enum Version {
+pub enum Version {
     /// Each cable, pair, bar or row has a price of its own.
     ByNumber,
     /// Each kind of them has one.

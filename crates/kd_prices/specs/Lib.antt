@@ -1,5 +1,4 @@
 pub mod Doubt
 pub mod Fitting
 pub mod Alike
-pub mod Kinds
 pub mod Laws

@@ -78,9 +78,11 @@ fn price_of(look: Look, kinds: &[PricedKind]) -> Option<i16>
         ((price : ℤ) → ¬ (IsPriced look price kinds.now))
         (λ price. IsPriced look price kinds.now) }
 {
-    match kinds {
-        [] => None,
-        [kind, ..] if kind.look.rank() == look.rank() => Some(kind.price),
-        [_, others @ ..] => price_of(look, others),
+    let rank = look.rank();
+    for kind in kinds {
+        if kind.look.rank() == rank {
+            return Some(kind.price);
+        }
     }
+    None
 }

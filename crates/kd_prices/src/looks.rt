@@ -2,6 +2,7 @@
 ghost use Rattle.std.specs.Prelude.{◌≡◌, ◌≤◌, length, map, None};
 ghost use Rattle.kd_card.specs.declared.look.Look.TheVariants as look;
 ghost use Rattle.kd_card.specs.Proving.{pair_in_order};
+ghost use Rattle.kd_tables.specs.Places.{in_order};
 ghost use Rattle.kd_state.specs.Costs.{columns_of};
 
 use kd_card::Look;
@@ -37,8 +38,18 @@ fn in_order(pair: Option<(Letter, Letter)>) -> Option<(Letter, Letter)>
 {
     match pair {
         None => None,
-        Some((one, other)) if one.index() <= other.index() => Some((one, other)),
-        Some((one, other)) => Some((other, one)),
+        Some((one, other)) => Some(letters_in_order(one, other)),
+    }
+}
+
+/// The two letters in alphabetical order.
+fn letters_in_order(one: Letter, other: Letter) -> (Letter, Letter)
+    ensures { result ≡ in_order one other }
+{
+    if one.index() <= other.index() {
+        (one, other)
+    } else {
+        (other, one)
     }
 }
 

@@ -1,6 +1,6 @@
 -- Prices mean one list of prices by number at most, and those are of the same model.
-use Rattle.std.proofs.Common.{◌≡◌, ℕ, ◌+◌, ◌<◌, ◌≤◌, inl, inr, List, [], ◌∷◌, length, get_or, refl, sym, ap, ◌∙◌, subst, arith, ℤ, pos}
-use Rattle.std.proofs.lemmas.List.{ext_get_or}
+use Rattle.std.proofs.Common.{◌≡◌, ◌≢◌, ◌⊎◌, ℕ, ◌+◌, ◌<◌, ◌≤◌, inl, inr, List, [], ◌∷◌, ◌++◌, length, get_or, take, drop, append_assoc, refl, sym, ap, ◌∙◌, subst, arith, ℤ, pos}
+use Rattle.std.proofs.lemmas.List.{ext_get_or, take_more, take-append-drop}
 use Rattle.kd_state.specs.declared.parts.Parts.{Parts}
 use Rattle.kd_state.specs.declared.parts.Parts.TheVariants.{Rotor, Pin}
 use Rattle.kd_state.specs.declared.setting.Setting.{Setting}
@@ -13,7 +13,7 @@ use Rattle.kd_card.specs.declared.prices.Version.TheVariants.{ByNumber, ByKind}
 use Rattle.kd_card.specs.Kinds.{look_rank, AreKinds}
 use Rattle.kd_card.specs.Prices.{version_of, row_prices, column_prices, price_at}
 use Rattle.kd_card.specs.CardText.{group_of}
-use Rattle.kd_card.specs.Proving.{AreOfKind, IsPriced, look_at, AreExpanded, Expands, Same, Expanded, group_of_machine, Proves}
+use Rattle.kd_card.specs.Proving.{AreOfKind, HasPrice, IsPriced, look_at, AreExpanded, Expands, Same, Expanded, group_of_machine, Proves}
 use Rattle.kd_prices.specs.Doubt.{AreOfOneModel, AreNumbered}
 
 above : (floor : ℕ) (kinds : List PricedKind) (look : Look) (price : ℤ) → AreKinds floor kinds → IsPriced look price kinds → floor ≤ look_rank look
@@ -91,3 +91,29 @@ pub are_numbered : (m : Parts) (s : Day) (prices numbered : PriceParts) → AreO
 are_numbered m s prices numbered model expands =
     let same = same_group m s prices numbered expands in
     record { model = model.model; kind = kind_is m numbered same.0 (sym same.1 ∙ model.group) }
+
+-- ---- a kind among others
+
+pub priced_here : (look : Look) (price : ℤ) (front : List PricedKind) (kind : PricedKind) (behind : List PricedKind) → HasPrice look price kind
+    → IsPriced look price (front ++ (kind ∷ behind))
+priced_here look price [] kind behind has = inl has
+priced_here look price (first ∷ front) kind behind has = inr (priced_here look price front kind behind has)
+
+pub priced_before : (look : Look) (price : ℤ) (front : List PricedKind) (kind : PricedKind) → IsPriced look price (front ++ kind ∷ [])
+    → IsPriced look price front ⊎ HasPrice look price kind
+priced_before look price [] kind (inl has) = inr has
+priced_before look price [] kind (inr none) = absurd none
+priced_before look price (first ∷ front) kind (inl has) = inl (inl has)
+priced_before look price (first ∷ front) kind (inr later) = elim (priced_before look price front kind later) [ inl before ↦ inl (inr before) | inr has ↦ inr has ]
+
+pub at_place : (kinds : List PricedKind) (i : ℕ) (kind : PricedKind) → i < length kinds → kind ≡ get_or kinds i kind
+    → kinds ≡ take i kinds ++ (kind ∷ drop (i + 1) kinds)
+at_place kinds i kind inside is =
+    sym (take-append-drop (i + 1) kinds) ∙ ap (λ front. front ++ drop (i + 1) kinds) (take_more kinds i kind inside)
+    ∙ append_assoc (take i kinds) (get_or kinds i kind ∷ []) (drop (i + 1) kinds) ∙ ap (λ k. take i kinds ++ (k ∷ drop (i + 1) kinds)) (sym is)
+
+pub none_more : (look : Look) (kinds : List PricedKind) (i : ℕ) (kind : PricedKind) → i < length kinds → kind ≡ get_or kinds i kind
+    → ((price : ℤ) → ¬ (IsPriced look price (take i kinds))) → look_rank kind.look ≢ look_rank look → (price : ℤ) → ¬ (IsPriced look price (take (i + 1) kinds))
+none_more look kinds i kind inside is none differs price priced =
+    let next = take_more kinds i kind inside ∙ ap (λ k. take i kinds ++ k ∷ []) (sym is) in
+    elim (priced_before look price (take i kinds) kind (subst (IsPriced look price) next priced)) [ inl before ↦ none price before | inr has ↦ differs has.alike ]
