@@ -1,19 +1,32 @@
 -- Prices mean one list of prices by number at most, and those are of the same model.
-use Rattle.std.proofs.Common.{◌≡◌, ◌≢◌, ◌⊎◌, ℕ, ◌+◌, ◌<◌, ◌≤◌, inl, inr, List, [], ◌∷◌, ◌++◌, length, get_or, take, drop, append_assoc, refl, sym, ap, ◌∙◌, subst, arith, ℤ, pos}
-use Rattle.std.proofs.lemmas.List.{ext_get_or, take_more, take-append-drop}
+use Rattle.std.proofs.Common.{◌≡◌, ◌≢◌, ◌⊎◌, ℕ, ◌+◌, ◌<◌, ◌≤◌, inl, inr, List, [], ◌∷◌, ◌++◌, length, get_or, take, drop, append_assoc, refl, sym, ap, ◌∙◌, subst, arith, ℤ, pos, unsigned_abs, Option, Some, None, MatchOption, map, Result, Ok, Err, set}
+use Rattle.std.specs.Prelude.{IfErr}
+use Rattle.std.proofs.lemmas.Bool.{cases_lt}
+use Rattle.std.proofs.lemmas.List.Elements.{All-from_get_or}
+use Rattle.kd_card.specs.declared.look.Look.TheVariants.{Cable, Pair, Bar, Row}
+use Rattle.std.specs.Option.{option_map}
+use Rattle.arrayvec.specs.ArrayVec.{ArrayVec}
+use Rattle.kd_card.specs.declared.kinds.CableKind.{CableKind}
+use Rattle.kd_card.specs.declared.kinds.PairKind.{PairKind}
+use Rattle.kd_card.specs.declared.kinds.BarKind.{BarKind}
+use Rattle.kd_card.specs.declared.kinds.RowKind.{RowKind}
+use Rattle.kd_state.specs.declared.rotor_parts.RotorParts.{RotorParts}
+use Rattle.kd_state.specs.declared.pin_parts.PinParts.{PinParts}
+use Rattle.kd_state.specs.Costs.{columns_of}
+use Rattle.std.proofs.lemmas.List.{ext_get_or, take_more, take-append-drop, get_or_default, get_or-set_same, get_or-set_other}
 use Rattle.kd_state.specs.declared.parts.Parts.{Parts}
 use Rattle.kd_state.specs.declared.parts.Parts.TheVariants.{Rotor, Pin}
 use Rattle.kd_state.specs.declared.setting.Setting.{Setting}
-use Rattle.kd_state.specs.SheetDay.{Day}
+use Rattle.kd_state.specs.SheetDay.{RotorDay, PinDay, Day, OfRotors, OfPins, rotor_day, pin_day}
 use Rattle.kd_card.specs.declared.look.Look.{Look}
 use Rattle.kd_card.specs.declared.kinds.PricedKind.{PricedKind}
 use Rattle.kd_card.specs.declared.prices.PriceParts.{PriceParts}
 use Rattle.kd_card.specs.declared.prices.PriceParts.TheVariants.{Cables, Bars, CableKinds, BarKinds}
 use Rattle.kd_card.specs.declared.prices.Version.TheVariants.{ByNumber, ByKind}
 use Rattle.kd_card.specs.Kinds.{look_rank, AreKinds}
-use Rattle.kd_card.specs.Prices.{version_of, row_prices, column_prices, price_at}
+use Rattle.kd_card.specs.Prices.{version_of, row_kinds, column_kinds, ArePrices, row_prices, column_prices, price_at, AreWithinReach}
 use Rattle.kd_card.specs.CardText.{group_of}
-use Rattle.kd_card.specs.Proving.{AreOfKind, HasPrice, IsPriced, look_at, AreExpanded, Expands, Same, Expanded, group_of_machine, Proves}
+use Rattle.kd_card.specs.Proving.{AreOfKind, row_looks, pair_in_order, HasPrice, IsPriced, look_at, AreExpanded, Expands, Same, Expanded, group_of_machine, Proves}
 use Rattle.kd_prices.specs.Doubt.{AreOfOneModel, AreNumbered}
 
 above : (floor : ℕ) (kinds : List PricedKind) (look : Look) (price : ℤ) → AreKinds floor kinds → IsPriced look price kinds → floor ≤ look_rank look
@@ -117,3 +130,87 @@ pub none_more : (look : Look) (kinds : List PricedKind) (i : ℕ) (kind : Priced
 none_more look kinds i kind inside is none differs price priced =
     let next = take_more kinds i kind inside ∙ ap (λ k. take i kinds ++ k ∷ []) (sym is) in
     elim (priced_before look price (take i kinds) kind (subst (IsPriced look price) next priced)) [ inl before ↦ none price before | inr has ↦ differs has.alike ]
+
+-- ---- prices found
+
+pub no_expansion : (looks : List Look) (kinds : List PricedKind) (i : ℕ) (look : Look) → i < length looks → look ≡ get_or looks i look
+    → ((price : ℤ) → ¬ (IsPriced look price kinds)) → (prices : List ℤ) → ¬ (AreExpanded looks kinds prices)
+no_expansion looks kinds i look inside is none prices e =
+    none (price_at prices i)
+    (subst (λ l. IsPriced l (price_at prices i) kinds) (get_or_default looks i (Pair None) look inside ∙ sym is) (e.each i inside))
+
+pub one_more_price : (looks : List Look) (kinds : List PricedKind) (prices : List ℤ) (i : ℕ) (look : Look) (price : ℤ) → i < length looks → i < length prices
+    → look ≡ get_or looks i look → IsPriced look price kinds → ((place : ℕ) → place < i → IsPriced (look_at looks place) (price_at prices place) kinds)
+    → (place : ℕ) → place < i + 1 → IsPriced (look_at looks place) (price_at (set prices i price) place) kinds
+one_more_price looks kinds prices i look price inside within is here before place near =
+    elim (cases_lt place i) [
+      | inl lt ↦ subst (λ p. IsPriced (look_at looks place) p kinds) (sym (get_or-set_other prices i place price (pos 0) (λ e. omega (arith, e, lt)))) (before place lt)
+      | inr ge ↦
+          let same : place ≡ i = omega arith in
+          subst (λ k. IsPriced (look_at looks k) (price_at (set prices i price) k) kinds) (sym same)
+          (subst (λ p. IsPriced (look_at looks i) p kinds) (sym (get_or-set_same prices i price (pos 0) within))
+          (subst (λ l. IsPriced l price kinds) (is ∙ get_or_default looks i look (Pair None) inside) here))
+    ]
+
+priced_within : (floor : ℕ) (kinds : List PricedKind) (look : Look) (price : ℤ) → AreKinds floor kinds → IsPriced look price kinds → unsigned_abs price ≤ 9999
+priced_within floor [] look price are none = absurd none
+priced_within floor (kind ∷ kinds) look price are (inl has) = subst (λ p. unsigned_abs p ≤ 9999) has.price are.0.reach
+priced_within floor (kind ∷ kinds) look price are (inr later) = priced_within (look_rank kind.look + 1) kinds look price are.2 later
+
+pub expanded_within : (looks : List Look) (kinds : List PricedKind) (prices : List ℤ) → AreKinds 0 kinds → AreExpanded looks kinds prices → AreWithinReach prices
+expanded_within looks kinds prices are e =
+    let number = e.number in
+    All-from_get_or (λ price. unsigned_abs price ≤ 9999) prices (pos 0)
+    (λ i inside. priced_within 0 kinds (look_at looks i) (price_at prices i) are (e.each i (omega (arith, number, inside))))
+
+pub if_err : {T E : Type 0} (r : Result T E) (P Q : E → Type 0) → ((e : E) → P e → Q e) → IfErr r P → IfErr r Q
+if_err (Ok x) P Q leads h = h
+if_err (Err e) P Q leads h = leads e h
+
+-- ---- both groups
+
+good_cables : (rows columns : List ℤ) → length rows ≡ 13 → length columns ≡ 13 → AreWithinReach rows → AreWithinReach columns → ArePrices (Cables rows columns)
+good_cables rows columns a b r c = record { rows = a; columns = b; row_reach = r; column_reach = c; row_kinds = tt; column_kinds = tt }
+
+good_bars : (rows columns : List ℤ) → length rows ≡ 27 → length columns ≡ 27 → AreWithinReach rows → AreWithinReach columns → ArePrices (Bars rows columns)
+good_bars rows columns a b r c = record { rows = a; columns = b; row_reach = r; column_reach = c; row_kinds = tt; column_kinds = tt }
+
+abbrev pub Means : Parts → Day → PriceParts → Option PriceParts → Type 0
+Means machine s prices r = MatchOption r ((numbered : PriceParts) → ¬ (Expands machine s prices numbered)) (λ numbered. Expands machine s prices numbered)
+
+told : (machine : Parts) (s : Day) (prices numbered : PriceParts) (r : Option PriceParts) → ArePrices numbered → Expands machine s prices numbered
+    → MatchOption r (¬ (ArePrices numbered)) (λ p. p ≡ numbered) → Means machine s prices r
+told machine s prices numbered None good expands h = absurd (h good)
+told machine s prices numbered (Some p) good expands h = subst (Expands machine s prices) (sym h) expands
+
+pub cables_told : (machine : Parts) (s : Day) (prices : PriceParts) (m : RotorParts) (a : ArrayVec CableKind) (b : ArrayVec PairKind) (pairs : List (ℕ × ℕ))
+    (rows columns : List ℤ) (r : Option PriceParts) → machine ≡ Rotor m → prices ≡ CableKinds a b → ArePrices prices
+    → Some pairs ≡ option_map (λ (d : RotorDay). d.pairs) (rotor_day s) → length rows ≡ 13 → length columns ≡ 13
+    → AreExpanded (map (λ ends. Cable ends) m.cables) (row_kinds prices) rows
+    → AreExpanded (map (λ column. Pair (pair_in_order column)) (columns_of pairs)) (column_kinds prices) columns
+    → MatchOption r (¬ (ArePrices (Cables rows columns))) (λ p. p ≡ Cables rows columns) → Means machine s prices r
+cables_told machine (OfRotors d) prices m a b pairs rows columns r em ep are es x y e f h =
+    let same : pairs ≡ d.pairs = cc in
+    let good = good_cables rows columns x y (expanded_within _ _ rows are.row_kinds e) (expanded_within _ _ columns are.column_kinds f) in
+    told machine (OfRotors d) prices (Cables rows columns) r good
+    (Expanded (ap version_of ep) refl (ap group_of ep) are good (subst (λ n. AreExpanded (row_looks n) (row_kinds prices) rows) (sym em) e)
+    (subst (λ ps. AreExpanded (map (λ column. Pair (pair_in_order column)) (columns_of ps)) (column_kinds prices) columns) same f)) h
+cables_told machine (OfPins d) prices m a b pairs rows columns r em ep are es x y e f h = cc
+
+pub bars_told : (machine : Parts) (s : Day) (prices : PriceParts) (m : PinParts) (a : ArrayVec BarKind) (b : ArrayVec RowKind) (wanted : List (ℕ × ℕ))
+    (rows columns : List ℤ) (r : Option PriceParts) → machine ≡ Pin m → prices ≡ BarKinds a b → ArePrices prices
+    → Some wanted ≡ option_map (λ (d : PinDay). d.rows) (pin_day s) → length rows ≡ 27 → length columns ≡ 27
+    → AreExpanded (map (λ standing. Bar standing) m.bars) (row_kinds prices) rows
+    → AreExpanded (map (λ numbers. Row numbers) wanted) (column_kinds prices) columns
+    → MatchOption r (¬ (ArePrices (Bars rows columns))) (λ p. p ≡ Bars rows columns) → Means machine s prices r
+bars_told machine (OfPins d) prices m a b wanted rows columns r em ep are es x y e f h =
+    let same : wanted ≡ d.rows = cc in
+    let good = good_bars rows columns x y (expanded_within _ _ rows are.row_kinds e) (expanded_within _ _ columns are.column_kinds f) in
+    told machine (OfPins d) prices (Bars rows columns) r good
+    (Expanded (ap version_of ep) refl (ap group_of ep) are good (subst (λ n. AreExpanded (row_looks n) (row_kinds prices) rows) (sym em) e)
+    (subst (λ ps. AreExpanded (map (λ numbers. Row numbers) ps) (column_kinds prices) columns) same f)) h
+bars_told machine (OfRotors d) prices m a b wanted rows columns r em ep are es x y e f h = cc
+
+pub lists_told : (looks others : List Look) (kinds more : List PricedKind) (prices : List ℤ) → looks ≡ others → kinds ≡ more → AreExpanded looks kinds prices
+    → AreExpanded others more prices
+lists_told looks others kinds more prices e f h = subst (λ ks. AreExpanded others ks prices) f (subst (λ ls. AreExpanded ls kinds prices) e h)

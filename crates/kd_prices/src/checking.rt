@@ -39,7 +39,8 @@ fn check_by_number(
     settings: &[Setting],
     prices: &Prices,
 ) -> Result<(), Doubt>
-    requires { AreNumbered machine.now day.now prices.now }
+    requires numbered { AreNumbered machine.now day.now prices.now }
+    requires few { length settings.now ≤ 192 }
     ensures proves { IsOk result ↔ ProvesByNumber machine.now day.now settings.now prices.now }
     ensures doubt { IfErr result (IsDoubtByNumber machine.now day.now settings.now prices.now) }
 {

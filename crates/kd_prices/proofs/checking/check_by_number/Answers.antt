@@ -24,19 +24,17 @@ returns-in-Some-first_needless-clause-proves c =
     let m = c.args.machine.now in
     let s = c.args.day.now in
     let line = c.in-Some-first_needless.line in
-    let items = c.as_slice-settings.ensures.value in
     let fits : Fits (cost_table m s) c.args.prices.now = search rules in
     let count = c.priced_count.result in
-    let few : count < 2 ^ 31 = omega (arith, c.priced_count.ensures.few, c.as_slice-settings.ensures.fits) in
+    let few : count < 2 ^ 31 = omega (arith, c.priced_count.ensures.few, c.requires.few) in
     let small : SFits w32 c.sum.result = search rules in
     let same : c.sum.result ≡ pos count = sym (to_z-of_z w32 c.sum.result small) ∙ ap (to_z w32) c.if-sum-priced_count.false ∙ to_z_pos w32 count few in
-    let sum : price_sum c.args.prices.now ≡ pos (priced_count c.args.settings.now) =
-    sym c.sum.ensures ∙ same ∙ ap pos c.priced_count.ensures.value ∙ ap (λ xs. pos (priced_count xs)) items in
+    let sum : price_sum c.args.prices.now ≡ pos (priced_count c.args.settings.now) = sym c.sum.ensures ∙ same ∙ ap pos c.priced_count.ensures.value in
     let doubt : IsDoubtByNumber m s c.args.settings.now c.args.prices.now (NeedlessLine line) = (
-      c.if-not-are_of_one_model.ensures.0 refl,
-      (c.in-Ok.reached, subst (λ xs. Leads m xs c.in-Ok.reached) items c.in-Ok.ensures.carried, c.if-not-reads_as.ensures.0 refl),
+      c.requires.numbered,
+      (c.in-Ok.reached, c.in-Ok.ensures.carried, c.if-not-reads_as.ensures.0 refl),
       fits,
       sum,
-      subst (λ xs. IsFirstNeedless m s xs line) items c.in-Some-first_needless.ensures,
+      c.in-Some-first_needless.ensures,
     ) in
     not_proved_by_number c.a_setting_is_refused_or_carried.ensures.lists_to_one _ _ _ _ (NeedlessLine line) doubt
