@@ -8,8 +8,10 @@ use Rattle.kd_state.specs.declared.rotor_parts.RotorParts.{RotorParts}
 use Rattle.kd_state.specs.declared.pin_parts.PinParts.{PinParts}
 use Rattle.kd_state.specs.declared.parts.Parts.TheVariants.{Rotor, Pin}
 use Rattle.kd_card.specs.declared.prices.PriceParts.{PriceParts}
-use Rattle.kd_card.specs.declared.prices.PriceParts.TheVariants.{Cables, Bars}
-use Rattle.kd_card.specs.Prices.{ArePrices, how_many, row_kinds, column_kinds, row_prices, column_prices}
+use Rattle.kd_card.specs.declared.prices.PriceParts.TheVariants.{Cables, Bars, CableKinds, BarKinds}
+use Rattle.kd_card.specs.declared.prices.Version.TheVariants.{ByNumber}
+use Rattle.kd_state.specs.declared.parts.Parts.{Parts}
+use Rattle.kd_card.specs.Prices.{ArePrices, version_of, how_many, row_kinds, column_kinds, row_prices, column_prices}
 use Rattle.kd_card.specs.Kinds.{AreKinds}
 use Rattle.kd_card.specs.Prices as card
 use Rattle.kd_card.specs.Proving.{AreOfKind}
@@ -107,3 +109,14 @@ cables_kind m prices false row col row' col' e = subst (AreOfKind (Rotor m)) (sy
 pub bars_kind : (m : PinParts) (prices : PriceParts) (b : Bool) (row col row' col' : List ℤ) → prices ≡ (if b then Bars row col else Bars row' col') → AreOfKind (Pin m) prices
 bars_kind m prices true row col row' col' e = subst (AreOfKind (Pin m)) (sym e) tt
 bars_kind m prices false row col row' col' e = subst (AreOfKind (Pin m)) (sym e) tt
+
+-- so they are by number
+pub by_number : (m : Parts) (prices : PriceParts) → AreOfKind m prices → version_of prices ≡ ByNumber
+by_number (Rotor m) (Cables row col) kind = refl
+by_number (Pin m) (Bars row col) kind = refl
+by_number (Rotor m) (Bars row col) kind = absurd kind
+by_number (Rotor m) (CableKinds row col) kind = absurd kind
+by_number (Rotor m) (BarKinds row col) kind = absurd kind
+by_number (Pin m) (Cables row col) kind = absurd kind
+by_number (Pin m) (CableKinds row col) kind = absurd kind
+by_number (Pin m) (BarKinds row col) kind = absurd kind
