@@ -193,7 +193,7 @@ sums_on sum total more kinds i kind inside is are few small value bound product 
       fits_signed_from_abs w32 more (omega (arith, here, most)),
       fits_signed_from_abs w32 (total +ℤ more) (omega (arith, both, here, bound, small, few, counts, before)),
       ap (λ t. t +ℤ more) value ∙ ap (λ m. fold (λ sum price. sum +ℤ price) sum (prices_of_kinds (take i kinds)) +ℤ m) product
-      ∙ sym (more_sum sum (take i kinds) kind) ∙ sym (ap (λ ks. fold (λ sum price. sum +ℤ price) sum (prices_of_kinds ks)) next),
+          ∙ sym (more_sum sum (take i kinds) kind) ∙ sym (ap (λ ks. fold (λ sum price. sum +ℤ price) sum (prices_of_kinds ks)) next),
       omega (arith, both, here, bound, counts),
     )
 

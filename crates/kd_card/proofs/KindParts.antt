@@ -170,7 +170,7 @@ pub group_of_cables : (group : Group) (rows columns : List PricedKind) (a : Arra
 group_of_cables group rows columns a b is r c x y =
     let many : price_count group ≡ 13 = ap price_count is in (
       are_prices (CableKinds a b) 13 refl refl (subst (AreKinds 0) (sym r) x.in_order, ap counted r ∙ x.count ∙ many)
-      (subst (AreKinds 0) (sym c) y.in_order, ap counted c ∙ y.count ∙ many),
+          (subst (AreKinds 0) (sym c) y.in_order, ap counted c ∙ y.count ∙ many),
       record { of_group = sym is; version = refl; row_kinds = r; column_kinds = c },
     )
 
@@ -180,7 +180,7 @@ pub group_of_bars : (group : Group) (rows columns : List PricedKind) (a : ArrayV
 group_of_bars group rows columns a b is r c x y =
     let many : price_count group ≡ 27 = ap price_count is in (
       are_prices (BarKinds a b) 27 refl refl (subst (AreKinds 0) (sym r) x.in_order, ap counted r ∙ x.count ∙ many)
-      (subst (AreKinds 0) (sym c) y.in_order, ap counted c ∙ y.count ∙ many),
+          (subst (AreKinds 0) (sym c) y.in_order, ap counted c ∙ y.count ∙ many),
       record { of_group = sym is; version = refl; row_kinds = r; column_kinds = c },
     )
 

@@ -90,8 +90,8 @@ fn next_kind(
 ) -> Result<Option<(PricedKind, &[u8])>, CardFault>
     ensures { MatchResult result
         (λ next. MatchOption next
-            (EndsGroup name text.now)
-            (λ found. IsNextKind name floor text.now found.0 found.1.now))
+        (EndsGroup name text.now)
+        (λ found. IsNextKind name floor text.now found.0 found.1.now))
         (IsBadKind name floor line text.now) }
 {
     lines_tell_words();

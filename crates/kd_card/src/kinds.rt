@@ -204,7 +204,11 @@ impl AsKind for BarKind {
     fn of_kind(any: PricedKind) -> Option<Self> {
         let PricedKind { look, count, price } = any;
         match look {
-            Look::Bar(standing) => Some(BarKind { standing, count, price }),
+            Look::Bar(standing) => Some(BarKind {
+                standing,
+                count,
+                price,
+            }),
             _ => None,
         }
     }
@@ -229,7 +233,11 @@ impl AsKind for RowKind {
     fn of_kind(any: PricedKind) -> Option<Self> {
         let PricedKind { look, count, price } = any;
         match look {
-            Look::Row(reading) => Some(RowKind { reading, count, price }),
+            Look::Row(reading) => Some(RowKind {
+                reading,
+                count,
+                price,
+            }),
             _ => None,
         }
     }

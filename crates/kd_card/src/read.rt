@@ -136,11 +136,7 @@ fn read_count(text: &[u8], count: usize) -> Result<&[u8], CardFault>
 }
 
 /// The prices at the front of the text, in lines of which the first is that of this number, and what follows.
-fn read_prices(
-    text: &[u8],
-    version: Version,
-    line: usize,
-) -> Result<(Prices, &[u8]), CardFault>
+fn read_prices(text: &[u8], version: Version, line: usize) -> Result<(Prices, &[u8]), CardFault>
     requires { line < 200 }
     ensures { MatchResult result
         (λ found. BeginsWithAll text.now version found.0 found.1.now)
@@ -182,7 +178,10 @@ fn read_kinded(text: &[u8], line: usize) -> Result<(Prices, &[u8]), CardFault>
     let number = group.number();
     let (rows, rest) = read_kinds(text, group.row_name(), number, line)?;
     let (columns, rest) = read_kinds(rest, group.column_name(), number, line + rows.len())?;
-    Ok((Prices::of_groups(group, rows.as_slice(), columns.as_slice()), rest))
+    Ok((
+        Prices::of_groups(group, rows.as_slice(), columns.as_slice()),
+        rest,
+    ))
 }
 
 /// Whether the prices can only be those of bars, by the first letter of their line.

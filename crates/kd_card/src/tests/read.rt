@@ -1,5 +1,6 @@
 use super::samples::{
-    ALIKE_BARS, BAR_KINDS, EMPTY_KINDS, HALF_CABLES, NO_SETTINGS, ONE_LUG, TWO_CABLE_KINDS, TWO_CABLES,
+    ALIKE_BARS, BAR_KINDS, EMPTY_KINDS, HALF_CABLES, NO_SETTINGS, ONE_LUG, TWO_CABLE_KINDS,
+    TWO_CABLES,
 };
 use crate::{CardFault, read_card, write_card};
 use arrayvec::ArrayString;
@@ -246,7 +247,10 @@ fn kinds_are_in_order_and_counted(rt: HostRuntime) {
 fn with_kinds(number: u8, last: &str) -> ArrayString<4096> {
     let mut text = ArrayString::new();
     let _room = text.try_push_str("CARD 2 DAY 8\nSETTINGS 0\n");
-    for letter in b"BCDEFGHIJKLMNOPQRSTUVWXYZ".iter().take(usize::from(number)) {
+    for letter in b"BCDEFGHIJKLMNOPQRSTUVWXYZ"
+        .iter()
+        .take(usize::from(number))
+    {
         let _room = text.try_push_str("CABLE A");
         let _room = text.try_push(char::from(*letter));
         let _room = text.try_push_str(" 1 0\n");
