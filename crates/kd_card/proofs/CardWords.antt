@@ -10,15 +10,19 @@ use Rattle.std.proofs.lemmas.List.Elements.{All-cons, All-map, All-weaker, All-a
 use Rattle.std.proofs.lemmas.Str.Parse.{IsNumeralModel, numerals_by_value, tells_by_index}
 use Rattle.kd_state.specs.Words.{IsWord, NumbersAreWords}
 use Rattle.kd_card.specs.declared.prices.PriceParts.{PriceParts}
-use Rattle.kd_card.specs.declared.prices.PriceParts.TheVariants.{Cables, Bars}
-use Rattle.kd_card.specs.Prices.{price_sum, AreWithinReach, ArePrices}
-use Rattle.kd_card.specs.CardText.{Kind, OfCables, OfBars, row_word, column_word, head_words, settings_words, price_words}
+use Rattle.kd_card.specs.declared.prices.PriceParts.TheVariants.{Cables, Bars, CableKinds, BarKinds}
+use Rattle.kd_card.specs.declared.prices.Version.{Version}
+use Rattle.kd_card.specs.declared.prices.Version.TheVariants.{ByNumber, ByKind}
+use Rattle.kd_card.specs.Prices.{row_prices, column_prices, how_many, price_sum, AreWithinReach, ArePrices}
+use Rattle.kd_card.specs.declared.group.Group.{Group}
+use Rattle.kd_card.specs.declared.group.Group.TheVariants.{OfCables, OfBars}
+use Rattle.kd_card.specs.CardText.{row_word, column_word, version_text, head_words, settings_words, price_words, sum_words}
 use Rattle.kd_card.specs.CardFault.{IsDigit, IsNumberText, IsSignedText}
 use Rattle.kd_card.proofs.Lines.{is_above, bytes_above}
 
 -- ---- words
 
-word_by_bytes : (word : List ℕ) → word ≢ [] → All (λ b. 32 < b) word → IsWord word
+pub word_by_bytes : (word : List ℕ) → word ≢ [] → All (λ b. 32 < b) word → IsWord word
 word_by_bytes word filled a = record {
   filled = filled;
   spaceless = All-weaker (λ b. 32 < b) (λ b. b ≢ 32) (λ b above space. omega (arith, above, space)) word a;
@@ -39,18 +43,26 @@ pub signed_word : NumbersAreWords → (z : ℤ) → unsigned_abs z < 2 ^ 64 → 
 signed_word numbers (pos n) small = numbers n small
 signed_word numbers (negsuc n) small = below_zero (decimal (suc n)) (numbers (suc n) small)
 
-pub head_is_words : NumbersAreWords → (day : ℕ) → day ≤ 31 → All IsWord (head_words day)
-head_is_words numbers day small =
-    All-from_recursion IsWord (head_words day) (word_by_test _ _ refl, (word_by_test _ _ refl, (word_by_test _ _ refl, (numbers day (omega arith), tt))))
+version_is_word : (version : Version) → IsWord (version_text version)
+version_is_word ByNumber = word_by_test _ _ refl
+version_is_word ByKind = word_by_test _ _ refl
+
+pub head_is_words : NumbersAreWords → (version : Version) (day : ℕ) → day ≤ 31 → All IsWord (head_words version day)
+head_is_words numbers version day small =
+    All-from_recursion IsWord (head_words version day)
+    (word_by_test _ _ refl, (version_is_word version, (word_by_test _ _ refl, (numbers day (omega arith), tt))))
 
 pub settings_is_words : NumbersAreWords → (number : ℕ) → number ≤ 192 → All IsWord (settings_words number)
 settings_is_words numbers number small = All-from_recursion IsWord (settings_words number) (word_by_test _ _ refl, (numbers number (omega arith), tt))
 
-pub row_is_word : (kind : Kind) → IsWord (row_word kind)
+pub sum_is_words : NumbersAreWords → (sum : ℤ) → unsigned_abs sum < 2 ^ 64 → All IsWord (sum_words sum)
+sum_is_words numbers sum near = All-from_recursion IsWord (sum_words sum) (word_by_test _ _ refl, (signed_word numbers sum near, tt))
+
+pub row_is_word : (kind : Group) → IsWord (row_word kind)
 row_is_word OfCables = word_by_test _ _ refl
 row_is_word OfBars = word_by_test _ _ refl
 
-pub column_is_word : (kind : Kind) → IsWord (column_word kind)
+pub column_is_word : (kind : Group) → IsWord (column_word kind)
 column_is_word OfCables = word_by_test _ _ refl
 column_is_word OfBars = word_by_test _ _ refl
 
@@ -110,8 +122,15 @@ small_sum rows columns r c few fewer =
     (recursion_from_All (λ price. unsigned_abs price ≤ 9999) (rows ++ columns) (All-append (λ price. unsigned_abs price ≤ 9999) rows columns r c)) in
     omega (arith, bound, length-append rows columns, few, fewer)
 
+pub few_prices : (prices : PriceParts) → how_many prices ≤ 27
+few_prices (Cables row col) = omega arith
+few_prices (Bars row col) = omega arith
+few_prices (CableKinds row col) = omega arith
+few_prices (BarKinds row col) = omega arith
+
 pub price_sum_is_small : (prices : PriceParts) → ArePrices prices → unsigned_abs (price_sum prices) < 2 ^ 64
-price_sum_is_small (Cables rows columns) p =
-    let r = p.rows in let c = p.columns in small_sum rows columns p.row_reach p.column_reach (omega (arith, r)) (omega (arith, c))
-price_sum_is_small (Bars rows columns) p =
-    let r = p.rows in let c = p.columns in small_sum rows columns p.row_reach p.column_reach (omega (arith, r)) (omega (arith, c))
+price_sum_is_small prices p =
+    let r = p.rows in
+    let c = p.columns in
+    let few = few_prices prices in
+    small_sum (row_prices prices) (column_prices prices) p.row_reach p.column_reach (omega (arith, r, few)) (omega (arith, c, few))

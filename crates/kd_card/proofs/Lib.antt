@@ -4,6 +4,11 @@ pub mod PriceTexts
 pub mod PriceLines
 pub mod Cards
 pub mod CardWords
+pub mod KindWords
+pub mod KindPrices
+pub mod KindParts
+pub mod KindLists
+pub mod KindReading
 pub mod OneCard
 pub mod Counts
 pub mod Cables

@@ -15,8 +15,9 @@ use Rattle.kd_state.specs.declared.setting.Setting.{Setting}
 use Rattle.kd_state.specs.Words.{words_of, line_of, IsWithout, IsFirstPart, TextsTellFirstParts}
 use Rattle.kd_state.specs.Line.{setting_words, setting_line, list_text, IsInRange, BeginsWith, BeginsWithLine}
 use Rattle.kd_card.specs.declared.prices.PriceParts.{PriceParts}
-use Rattle.kd_card.specs.Prices.{row_prices, column_prices, price_sum}
-use Rattle.kd_card.specs.CardText.{kind_of, row_word, column_word, head_words, settings_words, price_words, sum_words, lines_text, card_text}
+use Rattle.kd_card.specs.declared.prices.Version.{Version}
+use Rattle.kd_card.specs.Prices.{version_of, price_sum}
+use Rattle.kd_card.specs.CardText.{head_words, settings_words, price_words, sum_words, lines_text, price_lines, card_text}
 use Rattle.kd_card.specs.CardFault.{with_line, IsDigit, IsNumberText, IsSignedText}
 
 -- ---- writing
@@ -46,6 +47,9 @@ all_prices front word prices =
 
 -- ---- a card's text, line by line
 
+lines_nested : (a b rest : List ℕ) → ((a ++ 10 ∷ []) ++ ((b ++ 10 ∷ []) ++ [])) ++ rest ≡ a ++ 10 ∷ (b ++ 10 ∷ rest)
+lines_nested a b rest = simp (append_assoc, append-nil)
+
 one_line : (words : List (List ℕ)) (lines : List (List (List ℕ))) → lines_text (words ∷ lines) ≡ with_line words (lines_text lines)
 one_line words lines = append_assoc (line_of words) (10 ∷ []) (lines_text lines)
 
@@ -54,64 +58,58 @@ settings_and_more xs lines =
     flat_map-append (λ words. line_of words ++ 10 ∷ []) (map setting_words xs) lines
     ∙ ap (λ t. t ++ lines_text lines) (flat_map-map (λ words. line_of words ++ 10 ∷ []) setting_words xs)
 
-four_lines : (a b c d : List (List ℕ)) → lines_text (a ∷ b ∷ c ∷ d ∷ []) ≡ with_line a (with_line b (with_line c (with_line d [])))
-four_lines a b c d =
-    one_line a (b ∷ c ∷ d ∷ []) ∙ ap (with_line a) (one_line b (c ∷ d ∷ []) ∙ ap (with_line b) (one_line c (d ∷ []) ∙ ap (with_line c) (one_line d [])))
-
 -- what stands behind the settings
 abbrev pub text_behind : ℕ → PriceParts → List ℕ
-text_behind count prices =
-    with_line (settings_words count)
-    (with_line (price_words (row_word (kind_of prices)) (row_prices prices))
-    (with_line (price_words (column_word (kind_of prices)) (column_prices prices)) (with_line (sum_words (price_sum prices)) [])))
+text_behind count prices = with_line (settings_words count) (lines_text (price_lines prices) ++ with_line (sum_words (price_sum prices)) [])
+
+lines_behind : (number : List (List ℕ)) (lines : List (List (List ℕ))) (sum : List (List ℕ))
+    → lines_text (number ∷ (lines ++ sum ∷ [])) ≡ with_line number (lines_text lines ++ with_line sum [])
+lines_behind number lines sum =
+    one_line number (lines ++ sum ∷ [])
+    ∙ ap (with_line number) (flat_map-append (λ words. line_of words ++ 10 ∷ []) lines (sum ∷ []) ∙ ap (λ t. lines_text lines ++ t) (one_line sum []))
 
 pub card_in_lines : (day : ℕ) (xs : List Setting) (prices : PriceParts)
-    → card_text day xs prices ≡ with_line (head_words day) (list_text xs ++ text_behind (length xs) prices)
+    → card_text day xs prices ≡ with_line (head_words (version_of prices) day) (list_text xs ++ text_behind (length xs) prices)
 card_in_lines day xs prices =
-    let behind : List (List (List ℕ)) =
-    settings_words (length xs)
-    ∷ price_words (row_word (kind_of prices)) (row_prices prices)
-    ∷ price_words (column_word (kind_of prices)) (column_prices prices)
-    ∷ sum_words (price_sum prices)
-    ∷ [] in
-    one_line (head_words day) (map setting_words xs ++ behind)
-    ∙ ap (with_line (head_words day)) (settings_and_more xs behind ∙ ap (λ t. list_text xs ++ t)
-    (four_lines (settings_words (length xs)) (price_words (row_word (kind_of prices)) (row_prices prices))
-    (price_words (column_word (kind_of prices)) (column_prices prices)) (sum_words (price_sum prices))))
+    let number : List (List ℕ) = settings_words (length xs) in
+    let sum : List (List ℕ) = sum_words (price_sum prices) in
+    let lines : List (List (List ℕ)) = price_lines prices in
+    one_line (head_words (version_of prices) day) ((map setting_words xs ++ (number ∷ lines)) ++ (sum ∷ []))
+    ∙ ap (with_line (head_words (version_of prices) day)) (ap lines_text (append_assoc (map setting_words xs) (number ∷ lines) (sum ∷ []))
+    ∙ settings_and_more xs (number ∷ (lines ++ sum ∷ []))
+    ∙ ap (λ t. list_text xs ++ t) (lines_behind number lines sum))
 
-nested : (head list count rows columns sum : List ℕ)
-    → (((([] ++ (head ++ 10 ∷ [])) ++ list) ++ (count ++ 10 ∷ [])) ++ (rows ++ 10 ∷ (columns ++ 10 ∷ []))) ++ (sum ++ 10 ∷ [])
-    ≡ head ++ 10 ∷ (list ++ (count ++ 10 ∷ (rows ++ 10 ∷ (columns ++ 10 ∷ (sum ++ 10 ∷ [])))))
-nested head list count rows columns sum = simp append_assoc
+nested : (head list count prices sum : List ℕ)
+    → (((([] ++ (head ++ 10 ∷ [])) ++ list) ++ (count ++ 10 ∷ [])) ++ prices) ++ (sum ++ 10 ∷ [])
+    ≡ head ++ 10 ∷ (list ++ (count ++ 10 ∷ (prices ++ (sum ++ 10 ∷ []))))
+nested head list count prices sum = simp append_assoc
 
-pub parts_make_card : (day : ℕ) (xs : List Setting) (prices : PriceParts)
-    → (((([] ++ with_line (head_words day) []) ++ list_text xs) ++ with_line (settings_words (length xs)) [])
-    ++ with_line (price_words (row_word (kind_of prices)) (row_prices prices)) (with_line (price_words (column_word (kind_of prices)) (column_prices prices)) []))
-    ++ with_line (sum_words (price_sum prices)) []
-    ≡ card_text day xs prices
+abbrev written_text : Version → ℕ → List Setting → ℕ → PriceParts → ℤ → List ℕ
+written_text version day ys count prices sum =
+    (((([] ++ with_line (head_words version day) []) ++ list_text ys) ++ with_line (settings_words count) []) ++ lines_text (price_lines prices))
+    ++ with_line (sum_words sum) []
+
+parts_make_card : (day : ℕ) (xs : List Setting) (prices : PriceParts)
+    → written_text (version_of prices) day xs (length xs) prices (price_sum prices) ≡ card_text day xs prices
 parts_make_card day xs prices =
-    nested (line_of (head_words day)) (list_text xs) (line_of (settings_words (length xs)))
-    (line_of (price_words (row_word (kind_of prices)) (row_prices prices)))
-    (line_of (price_words (column_word (kind_of prices)) (column_prices prices)))
+    nested (line_of (head_words (version_of prices) day)) (list_text xs) (line_of (settings_words (length xs))) (lines_text (price_lines prices))
     (line_of (sum_words (price_sum prices)))
     ∙ sym (card_in_lines day xs prices)
 
-abbrev written_text : ℕ → List Setting → ℕ → PriceParts → ℤ → List ℕ
-written_text day ys count prices sum =
-    (((([] ++ with_line (head_words day) []) ++ list_text ys) ++ with_line (settings_words count) [])
-    ++ with_line (price_words (row_word (kind_of prices)) (row_prices prices)) (with_line (price_words (column_word (kind_of prices)) (column_prices prices)) []))
-    ++ with_line (sum_words sum) []
+pub written : (version : Version) (day count : ℕ) (xs ys : List Setting) (prices : PriceParts) (sum : ℤ) (empty head list number lines whole : List ℕ)
+    → empty ≡ [] → head ≡ empty ++ with_line (head_words version day) [] → list ≡ head ++ list_text ys
+    → number ≡ list ++ with_line (settings_words count) [] → lines ≡ number ++ lines_text (price_lines prices)
+    → whole ≡ lines ++ with_line (sum_words sum) [] → version ≡ version_of prices → ys ≡ xs → count ≡ length xs → sum ≡ price_sum prices
+    → whole ≡ card_text day xs prices
+written version day count xs ys prices sum empty head list number lines whole a b c d e f by same counted summed =
+    let text : whole ≡ written_text version day ys count prices sum = cc in
+    text ∙ ap (λ v. written_text v day ys count prices sum) by ∙ ap (λ zs. written_text (version_of prices) day zs count prices sum) same
+    ∙ ap (λ n. written_text (version_of prices) day xs n prices sum) counted
+    ∙ ap (λ s. written_text (version_of prices) day xs (length xs) prices s) summed ∙ parts_make_card day xs prices
 
-pub written : (day count : ℕ) (xs ys : List Setting) (prices : PriceParts) (sum : ℤ) (empty head list number lines whole : List ℕ) → empty ≡ []
-    → head ≡ empty ++ with_line (head_words day) [] → list ≡ head ++ list_text ys → number ≡ list ++ with_line (settings_words count) []
-    → lines
-    ≡ number
-    ++ with_line (price_words (row_word (kind_of prices)) (row_prices prices)) (with_line (price_words (column_word (kind_of prices)) (column_prices prices)) [])
-    → whole ≡ lines ++ with_line (sum_words sum) [] → ys ≡ xs → count ≡ length xs → sum ≡ price_sum prices → whole ≡ card_text day xs prices
-written day count xs ys prices sum empty head list number lines whole a b c d e f same counted summed =
-    let text : whole ≡ written_text day ys count prices sum = cc in
-    text ∙ ap (λ zs. written_text day zs count prices sum) same ∙ ap (λ n. written_text day xs n prices sum) counted
-    ∙ ap (λ s. written_text day xs (length xs) prices s) summed ∙ parts_make_card day xs prices
+-- two lines, and what follows them
+pub two_lines : (a b : List (List ℕ)) (rest : List ℕ) → lines_text (a ∷ b ∷ []) ++ rest ≡ with_line a (with_line b rest)
+two_lines a b rest = lines_nested (line_of a) (line_of b) rest
 
 -- one more setting's line
 pub text_of_more : (x : Setting) (xs : List Setting) (rest : List ℕ) → list_text (x ∷ xs) ++ rest ≡ setting_line x ++ 10 ∷ (list_text xs ++ rest)
@@ -190,6 +188,12 @@ pub same_named : TextsTellFirstParts → (text name number rest : List ℕ) → 
     → (value more : List ℕ) → IsWithout 10 value → text ≡ name ++ (value ++ 10 ∷ more) → number ≡ value
 same_named tells text name number rest test first value more without e =
     (same_value tells 10 text name number value rest more first (named text name value more (unbroken_by_test name test) without e)).0
+
+-- the same of a name that has no LF
+pub same_behind : TextsTellFirstParts → (text name number rest : List ℕ) → IsWithout 10 name → IsFirstPart 10 text (name ++ number) rest
+    → (value more : List ℕ) → IsWithout 10 value → text ≡ name ++ (value ++ 10 ∷ more) → number ≡ value
+same_behind tells text name number rest plain first value more without e =
+    (same_value tells 10 text name number value rest more first (named text name value more plain without e)).0
 
 -- ---- the words of a line
 

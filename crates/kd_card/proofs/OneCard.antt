@@ -1,5 +1,5 @@
 -- Bytes are one card, or have one fault.
-use Rattle.std.proofs.Common.{codes, ◌≡◌, ◌≢◌, ℕ, ◌+◌, ◌*◌, ◌≤◌, inl, inr, List, [], ◌∷◌, ◌++◌, length, map, get_or, drop, decimal, Result, Ok, Err, refl, sym, ap, subst, ◌∙◌, arith, ℤ, unsigned_abs, length-append}
+use Rattle.std.proofs.Common.{codes, ◌≡◌, ◌≢◌, ℕ, ◌+◌, ◌*◌, ◌^◌, ◌<◌, ◌≤◌, inl, inr, List, [], ◌∷◌, ◌++◌, length, map, get_or, drop, decimal, Result, Ok, Err, refl, sym, ap, subst, ◌∙◌, arith, ℤ, unsigned_abs, length-append}
 use Rattle.std.specs.List.{All, AllByRecursion}
 use Rattle.std.specs.Fmt.{signed_decimal}
 use Rattle.std.proofs.lemmas.Fmt.{decimal_injective, signed_decimal_injective}
@@ -12,19 +12,30 @@ use Rattle.kd_state.specs.Line.{setting_words, setting_line, list_text, IsInRang
 use Rattle.kd_state.specs.SheetDay.{IsDayNumber}
 use Rattle.kd_state.specs.Laws.{SettingsHaveWords, LinesTellSettings}
 use Rattle.kd_card.specs.declared.prices.PriceParts.{PriceParts}
-use Rattle.kd_card.specs.declared.prices.PriceParts.TheVariants.{Cables, Bars}
+use Rattle.kd_card.specs.declared.prices.PriceParts.TheVariants.{Cables, Bars, CableKinds, BarKinds}
+use Rattle.kd_card.specs.declared.prices.Version.{Version}
+use Rattle.kd_card.specs.declared.prices.Version.TheVariants.{ByNumber, ByKind}
+use Rattle.kd_card.specs.declared.group.Group.{Group}
+use Rattle.kd_card.specs.declared.group.Group.TheVariants.{OfCables, OfBars}
+use Rattle.kd_card.specs.declared.look.Look.{Look}
+use Rattle.kd_card.specs.declared.look.Name.{Name}
+use Rattle.kd_card.specs.declared.kinds.PricedKind.{PricedKind}
 use Rattle.kd_card.specs.declared.fault.CardFault.{CardFault}
 use Rattle.kd_card.specs.declared.fault.CardFault.TheVariants.{BadHead, BadLine, TooMany, PriceMissing, Trailing}
-use Rattle.kd_card.specs.Prices.{row_prices, column_prices, price_sum, AreWithinReach, ArePrices}
-use Rattle.kd_card.specs.CardText.{Kind, OfCables, OfBars, kind_of, row_word, column_word, head_words, settings_words, price_words, sum_words, IsCard}
-use Rattle.kd_card.specs.CardFault.{price_count, with_line, IsNumberText, IsSignedText, IsPriceText, IsCountFault, ToSettings, ToNumber, ToRows, ToColumns, HasWords, IsValueFault, OtherValue, NoValue, IsPricesFault, NoLine, NoEnd, OtherWord, OtherPrices, AreRows, AreColumns, IsCardFault, AtHead, AtSettings, AtNumber, AtRows, AtColumns, AtSum, AtEnd}
+use Rattle.kd_card.specs.Kinds.{look_name, look_rank, name_text, kind_words, kinds_text, counted, cable_kind, pair_kind, bar_kind, row_kind, IsPricedKind, AreKinds, AreCalled}
+use Rattle.kd_card.specs.Prices.{version_of, row_kinds, column_kinds, row_prices, column_prices, price_sum, AreWithinReach, ArePrices}
+use Rattle.kd_card.specs.CardText.{group_of, row_word, column_word, row_name, column_name, price_count, version_text, head_words, settings_words, price_words, sum_words, HaveKinds, IsCard}
+use Rattle.kd_card.specs.CardFault.{with_line, sum_line, IsNumberText, IsSignedText, IsPriceText, IsCountFault, ToSettings, ToNumber, ToRows, ToPrices, HasWords, IsValueFault, OtherValue, NoValue, IsPricesFault, NoLine, NoEnd, OtherWord, OtherPrices, AreRows, AreColumns, BeginsWithWord, BeginsWithName, IsUnended, EndsGroup, AtNothing, AtOther, IsNextKind, IsBadKind, Unended, NoKind, floor_behind, BeginsWithKinds, IsGroupFault, AtKind, AtCount, BeginsWithGroup, LacksGroup, NoGroup, NoGroupEnd, OtherGroup, EndsPrices, IsCardFault, AtHead, AtSettings, AtNumber, AtRows, AtColumns, AtGroup, AtRowKinds, AtColumnKinds, AtSum, AtEnd}
 use Rattle.kd_card.specs.Reading.{BeginsWithHead, BeginsWithSettings, BeginsWithPrices}
 use Rattle.kd_card.specs.Laws.{TextsTellCards, CardsHaveNoFault, OneCardFault}
-use Rattle.kd_card.proofs.Lines.{text_of_more, no_first_part, same_first_part, unbroken_by_test, unbroken_number, unbroken_signed}
+use Rattle.kd_card.proofs.Lines.{text_of_more, two_lines, no_first_part, same_first_part, unbroken_by_test, unbroken_number, unbroken_signed}
 use Rattle.kd_card.proofs.PriceTexts.{small}
 use Rattle.kd_card.proofs.PriceLines.{all_price_texts}
-use Rattle.kd_card.proofs.Cards.{as_many, goes_to_columns}
-use Rattle.kd_card.proofs.CardWords.{head_is_words, settings_is_words, row_is_word, column_is_word, prices_are_words, number_text, signed_text, price_sum_is_small}
+use Rattle.kd_card.proofs.Cards.{goes_to_prices}
+use Rattle.kd_card.proofs.CardWords.{head_is_words, settings_is_words, sum_is_words, row_is_word, column_is_word, prices_are_words, number_text, signed_text, price_sum_is_small}
+use Rattle.kd_card.proofs.KindWords.{kind_is_words}
+use Rattle.kd_card.proofs.KindWords.{same_kind as known_kind}
+use Rattle.kd_card.proofs.KindParts.{AreGroups, HasNoNext, cable_groups, bar_groups, other_name, lines_of_kinds, text_of_more_kinds, same_kind_parts}
 
 -- what is known of lines and settings
 pub record Known : Type 0 where
@@ -95,39 +106,68 @@ EndSays day xs prices rest =
 abbrev SumSays : ℕ → List Setting → PriceParts → List ℕ → Verdict → Type 0
 SumSays day xs prices rest =
     Step (λ (more : List ℕ). rest ≡ with_line (sum_words (price_sum prices)) more)
-    (IsValueFault IsSignedText (codes "SUM") (signed_decimal (price_sum prices)) (length xs + 5) rest) (EndSays day xs prices)
+    (IsValueFault IsSignedText (codes "SUM") (signed_decimal (price_sum prices)) (sum_line xs prices) rest) (EndSays day xs prices)
 
-abbrev BehindColumns : ℕ → List Setting → Kind → List ℤ → PriceLine → Verdict → Type 0
-BehindColumns day xs kind rows line v =
-    (prices : PriceParts) × ArePrices prices × (kind_of prices ≡ kind) × (row_prices prices ≡ rows) × (column_prices prices ≡ line.1)
-    × SumSays day xs prices line.2 v
+abbrev BehindColumns : ℕ → List Setting → Group → List ℤ → PriceLine → Verdict → Type 0
+BehindColumns day xs group rows line v =
+    (prices : PriceParts) × ArePrices prices × (version_of prices ≡ ByNumber) × (group_of prices ≡ group) × (row_prices prices ≡ rows)
+    × (column_prices prices ≡ line.1) × SumSays day xs prices line.2 v
 
-abbrev ColumnsSay : ℕ → List Setting → Kind → List ℤ → List ℕ → Verdict → Type 0
-ColumnsSay day xs kind rows rest = LineSays (AreColumns kind) (length xs + 4) rest (BehindColumns day xs kind rows)
+abbrev ColumnsSay : ℕ → List Setting → Group → List ℤ → List ℕ → Verdict → Type 0
+ColumnsSay day xs group rows rest = LineSays (AreColumns group) (length xs + 4) rest (BehindColumns day xs group rows)
 
 abbrev BehindRows : ℕ → List Setting → PriceLine → Verdict → Type 0
-BehindRows day xs line v = (kind : Kind) × (line.0 ≡ row_word kind) × ColumnsSay day xs kind line.1 line.2 v
+BehindRows day xs line v = (group : Group) × (line.0 ≡ row_word group) × ColumnsSay day xs group line.1 line.2 v
 
 abbrev RowsSay : ℕ → List Setting → List ℕ → Verdict → Type 0
 RowsSay day xs rest = LineSays AreRows (length xs + 3) rest (BehindRows day xs)
 
-abbrev NumberSays : ℕ → List Setting → List ℕ → Verdict → Type 0
-NumberSays day xs rest =
+-- kinds, and what follows their lines
+abbrev KindLines : Type 0
+KindLines = List PricedKind × List ℕ
+
+abbrev BehindColumnKinds : ℕ → List Setting → Group → List PricedKind → KindLines → Verdict → Type 0
+BehindColumnKinds day xs group rows found v =
+    (prices : PriceParts) × ArePrices prices × HaveKinds group rows found.0 prices × SumSays day xs prices found.1 v
+
+abbrev GroupSays : Name → ℕ → ℕ → List ℕ → (KindLines → Verdict → Type 0) → Verdict → Type 0
+GroupSays name number line rest =
+    Step (λ (found : KindLines). BeginsWithGroup name number rest found.0 found.1) (IsGroupFault name number line rest)
+
+abbrev ColumnKindsSay : ℕ → List Setting → Group → KindLines → Verdict → Type 0
+ColumnKindsSay day xs group rows =
+    GroupSays (column_name group) (price_count group) (length xs + 3 + length rows.0) rows.1 (BehindColumnKinds day xs group rows.0)
+
+abbrev RowKindsSay : ℕ → List Setting → List ℕ → Group → Verdict → Type 0
+RowKindsSay day xs rest group = GroupSays (row_name group) (price_count group) (length xs + 3) rest (ColumnKindsSay day xs group)
+
+abbrev KindsSay : ℕ → List Setting → List ℕ → Verdict → Type 0
+KindsSay day xs rest =
+    Step (λ (group : Group). BeginsWithName (row_name group) rest) (LacksGroup (length xs + 3) rest) (RowKindsSay day xs rest)
+
+abbrev PricesSay : Version → ℕ → List Setting → List ℕ → Verdict → Type 0
+PricesSay ByNumber day xs rest = RowsSay day xs rest
+PricesSay ByKind day xs rest = KindsSay day xs rest
+
+abbrev NumberSays : Version → ℕ → List Setting → List ℕ → Verdict → Type 0
+NumberSays version day xs rest =
     Step (λ (more : List ℕ). rest ≡ with_line (settings_words (length xs)) more)
-    (IsValueFault IsNumberText (codes "SETTINGS") (decimal (length xs)) (length xs + 2) rest) (RowsSay day xs)
+    (IsValueFault IsNumberText (codes "SETTINGS") (decimal (length xs)) (length xs + 2) rest) (PricesSay version day xs)
 
 abbrev AreTooMany : List ℕ → CardFault → Type 0
 AreTooMany body fault = (xs : List Setting) × (rest : List ℕ) × BeginsWith body xs rest × (length xs ≡ 193) × (fault ≡ TooMany)
 
-abbrev SettingsSay : ℕ → List ℕ → Verdict → Type 0
-SettingsSay day body =
-    Step (λ (list : List Setting × List ℕ). BeginsWithSettings body list.0 list.1) (AreTooMany body) (λ list. NumberSays day list.0 list.1)
+abbrev SettingsSay : Version → ℕ → List ℕ → Verdict → Type 0
+SettingsSay version day body =
+    Step (λ (list : List Setting × List ℕ). BeginsWithSettings body list.0 list.1) (AreTooMany body) (λ list. NumberSays version day list.0 list.1)
 
 abbrev IsNoHead : List ℕ → CardFault → Type 0
-IsNoHead bytes fault = ((day : ℕ) (rest : List ℕ) → IsDayNumber day → bytes ≢ with_line (head_words day) rest) × (fault ≡ BadHead)
+IsNoHead bytes fault =
+    ((version : Version) (day : ℕ) (rest : List ℕ) → IsDayNumber day → bytes ≢ with_line (head_words version day) rest) × (fault ≡ BadHead)
 
 abbrev CardSays : List ℕ → Verdict → Type 0
-CardSays bytes = Step (λ (head : ℕ × List ℕ). BeginsWithHead bytes head.0 head.1) (IsNoHead bytes) (λ head. SettingsSay head.0 head.1)
+CardSays bytes =
+    Step (λ (head : Version × ℕ × List ℕ). BeginsWithHead bytes head.0 head.1 head.2) (IsNoHead bytes) (λ head. SettingsSay head.0 head.1 head.2)
 
 -- ---- prices, kinds and first words
 
@@ -145,21 +185,35 @@ same_prices (p ∷ ps) (q ∷ qs) a b e =
     let others : ps ≡ qs = same_prices ps qs a.1 b.1 tails in
     cc
 
-same_kind : (kind other : Kind) → row_word kind ≡ row_word other → kind ≡ other
+same_kind : (kind other : Group) → row_word kind ≡ row_word other → kind ≡ other
 same_kind OfCables OfCables e = refl
 same_kind OfBars OfBars e = refl
 same_kind OfCables OfBars e = absurd (omega (arith, ap (λ t. get_or t 0 0) e))
 same_kind OfBars OfCables e = absurd (omega (arith, ap (λ t. get_or t 0 0) e))
 
-same_parts : (prices others : PriceParts) → kind_of prices ≡ kind_of others → row_prices prices ≡ row_prices others
-    → column_prices prices ≡ column_prices others → prices ≡ others
-same_parts (Cables a b) (Cables c d) kind rows columns = cc
-same_parts (Bars a b) (Bars c d) kind rows columns = cc
-same_parts (Cables a b) (Bars c d) kind rows columns = cc
-same_parts (Bars a b) (Cables c d) kind rows columns = cc
+same_parts : (prices others : PriceParts) → version_of prices ≡ ByNumber → version_of others ≡ ByNumber → group_of prices ≡ group_of others
+    → row_prices prices ≡ row_prices others → column_prices prices ≡ column_prices others → prices ≡ others
+same_parts (Cables a b) (Cables c d) by also group rows columns = cc
+same_parts (Bars a b) (Bars c d) by also group rows columns = cc
+same_parts (Cables a b) (Bars c d) by also group rows columns = cc
+same_parts (Bars a b) (Cables c d) by also group rows columns = cc
+same_parts (CableKinds a b) others by also group rows columns = cc
+same_parts (BarKinds a b) others by also group rows columns = cc
+same_parts prices (CableKinds c d) by also group rows columns = cc
+same_parts prices (BarKinds c d) by also group rows columns = cc
 
-known_head : (day other : ℕ) → day ≤ 31 → other ≤ 31 → head_words day ≡ head_words other → day ≡ other
-known_head day other a b e = let same : decimal day ≡ decimal other = cc in decimal_injective day other (omega arith) (omega arith) same
+known_version : (version other : Version) → version_text version ≡ version_text other → version ≡ other
+known_version ByNumber ByNumber e = refl
+known_version ByKind ByKind e = refl
+known_version ByNumber ByKind e = absurd (omega (arith, ap (λ t. get_or t 0 0) e))
+known_version ByKind ByNumber e = absurd (omega (arith, ap (λ t. get_or t 0 0) e))
+
+known_head : (version by : Version) (day other : ℕ) → day ≤ 31 → other ≤ 31 → head_words version day ≡ head_words by other
+    → (version ≡ by) × (day ≡ other)
+known_head version by day other a b e =
+    let version_same : version_text version ≡ version_text by = cc in
+    let same : decimal day ≡ decimal other = cc in
+    (known_version version by version_same, decimal_injective day other (omega arith) (omega arith) same)
 
 -- the first and the third letter of the first word tell SETTINGS from the words of settings
 abbrev first_and_third : List (List ℕ) → ℕ
@@ -224,21 +278,25 @@ module _ (k : Known) where
 
   -- ---- the head and the settings
 
-  one_head : (bytes : List ℕ) (head other : ℕ × List ℕ) → BeginsWithHead bytes head.0 head.1 → BeginsWithHead bytes other.0 other.1 → head ≡ other
-  one_head bytes (day, rest) (other, more) a b =
+  one_head : (bytes : List ℕ) (head other : Version × ℕ × List ℕ) → BeginsWithHead bytes head.0 head.1 head.2
+      → BeginsWithHead bytes other.0 other.1 other.2 → head ≡ other
+  one_head bytes (version, day, rest) (by, other, more) a b =
       let last = a.of_month.last in
       let most = b.of_month.last in
       let line =
-      same_line (head_words day) (head_words other) rest more (head_is_words k.numbers day last) (head_is_words k.numbers other most) (sym a.text ∙ b.text) in
-      let days : day ≡ other = known_head day other last most line.0 in
+      same_line (head_words version day) (head_words by other) rest more (head_is_words k.numbers version day last) (head_is_words k.numbers by other most)
+      (sym a.text ∙ b.text) in
+      let known = known_head version by day other last most line.0 in
+      let versions : version ≡ by = known.0 in
+      let days : day ≡ other = known.1 in
       let rests : rest ≡ more = line.1 in
       cc
 
-  head_is_sure : (bytes : List ℕ) → IsSure (λ (head : ℕ × List ℕ). BeginsWithHead bytes head.0 head.1) (IsNoHead bytes)
+  head_is_sure : (bytes : List ℕ) → IsSure (λ (head : Version × ℕ × List ℕ). BeginsWithHead bytes head.0 head.1 head.2) (IsNoHead bytes)
   head_is_sure bytes = record {
     one = one_head bytes;
     reason = λ fault other a b. a.1 ∙ sym b.1;
-    either = λ head fault a none. none.0 head.0 head.1 a.of_month a.text;
+    either = λ head fault a none. none.0 head.0 head.1 head.2 a.of_month a.text;
   }
 
   one_list : (body : List ℕ) (list other : List Setting × List ℕ) → BeginsWithSettings body list.0 list.1 → BeginsWithSettings body other.0 other.1 → list ≡ other
@@ -381,83 +439,348 @@ module _ (k : Known) where
   only_sum : (day : ℕ) (xs : List Setting) (prices : PriceParts) (rest : List ℕ) → ArePrices prices → IsOnly (SumSays day xs prices rest)
   only_sum day xs prices rest are =
       only_step
-      (value_is_sure IsSignedText (codes "SUM") (signed_decimal (price_sum prices)) (length xs + 5) rest unbroken_signed
+      (value_is_sure IsSignedText (codes "SUM") (signed_decimal (price_sum prices)) (sum_line xs prices) rest unbroken_signed
       (unbroken_by_test (codes "SUM") refl) (signed_text (price_sum prices) (price_sum_is_small prices are)))
       (λ more e. only_end day xs prices more)
 
-  behind_columns : (day : ℕ) (xs : List Setting) (kind : Kind) (rows : List ℤ) (line : PriceLine) → IsOnly (BehindColumns day xs kind rows line)
-  behind_columns day xs kind rows line v w (prices, are, is, ps, qs, a) (others, also, is_too, rs, ss, b) =
-      let same : prices ≡ others = same_parts prices others (is ∙ sym is_too) (ps ∙ sym rs) (qs ∙ sym ss) in
+  behind_columns : (day : ℕ) (xs : List Setting) (group : Group) (rows : List ℤ) (line : PriceLine) → IsOnly (BehindColumns day xs group rows line)
+  behind_columns day xs group rows line v w (prices, are, by, is, ps, qs, a) (others, also, by_too, is_too, rs, ss, b) =
+      let same : prices ≡ others = same_parts prices others by by_too (is ∙ sym is_too) (ps ∙ sym rs) (qs ∙ sym ss) in
       only_sum day xs others line.2 also v w (subst (λ p. SumSays day xs p line.2 v) same a) b
 
-  only_columns : (day : ℕ) (xs : List Setting) (kind : Kind) (rows : List ℤ) (rest : List ℕ) → IsOnly (ColumnsSay day xs kind rows rest)
-  only_columns day xs kind rows rest =
-      only_line (AreColumns kind) (length xs + 4) rest (BehindColumns day xs kind rows) (λ first number other due also. due.1 ∙ sym also.1)
-      (behind_columns day xs kind rows)
+  only_columns : (day : ℕ) (xs : List Setting) (group : Group) (rows : List ℤ) (rest : List ℕ) → IsOnly (ColumnsSay day xs group rows rest)
+  only_columns day xs group rows rest =
+      only_line (AreColumns group) (length xs + 4) rest (BehindColumns day xs group rows) (λ first number other due also. due.1 ∙ sym also.1)
+      (behind_columns day xs group rows)
 
   behind_rows : (day : ℕ) (xs : List Setting) (line : PriceLine) → IsOnly (BehindRows day xs line)
-  behind_rows day xs line v w (kind, is, a) (other, also, b) =
-      only_columns day xs other line.1 line.2 v w (subst (λ q. ColumnsSay day xs q line.1 line.2 v) (same_kind kind other (sym is ∙ also)) a) b
+  behind_rows day xs line v w (group, is, a) (other, also, b) =
+      only_columns day xs other line.1 line.2 v w (subst (λ q. ColumnsSay day xs q line.1 line.2 v) (same_kind group other (sym is ∙ also)) a) b
 
   only_rows : (day : ℕ) (xs : List Setting) (rest : List ℕ) → IsOnly (RowsSay day xs rest)
   only_rows day xs rest = only_line AreRows (length xs + 3) rest (BehindRows day xs) one_number_of_rows (behind_rows day xs)
 
-  only_number : (day : ℕ) (xs : List Setting) (rest : List ℕ) → length xs ≤ 192 → IsOnly (NumberSays day xs rest)
-  only_number day xs rest few =
+  -- ---- kinds
+
+  same_kind_line : (kind other : PricedKind) (rest more : List ℕ) → IsPricedKind kind → IsPricedKind other
+      → with_line (kind_words kind) rest ≡ with_line (kind_words other) more → (kind ≡ other) × (rest ≡ more)
+  same_kind_line kind other rest more a b e =
+      let line =
+      same_line (kind_words kind) (kind_words other) rest more (kind_is_words k.numbers kind a) (kind_is_words k.numbers other b) e in
+      (known_kind k.first_parts kind other a b line.0, line.1)
+
+  kinds_end : (name : Name) (floor : ℕ) (xs ys : List PricedKind) (rest more : List ℕ) → AreCalled name xs → AreCalled name ys → AreKinds floor xs
+      → AreKinds floor ys → HasNoNext name (floor_behind floor xs) rest → HasNoNext name (floor_behind floor ys) more
+      → kinds_text xs ++ rest ≡ kinds_text ys ++ more → (xs ≡ ys) × (rest ≡ more)
+  kinds_end name floor [] [] rest more c d a b none nor e = (refl, e)
+  kinds_end name floor [] (y ∷ ys) rest more c d a b none nor e =
+      absurd (none y (kinds_text ys ++ more) (record { called = d.0; good = b.0; above = b.1; line = e ∙ text_of_more_kinds y ys more }))
+  kinds_end name floor (x ∷ xs) [] rest more c d a b none nor e =
+      absurd (nor x (kinds_text xs ++ rest) (record { called = c.0; good = a.0; above = a.1; line = sym e ∙ text_of_more_kinds x xs rest }))
+  kinds_end name floor (x ∷ xs) (y ∷ ys) rest more c d a b none nor e =
+      let first =
+      same_kind_line x y (kinds_text xs ++ rest) (kinds_text ys ++ more) a.0 b.0 (sym (text_of_more_kinds x xs rest) ∙ e ∙ text_of_more_kinds y ys more) in
+      let heads : x ≡ y = first.0 in
+      let rank : Look → ℕ = λ look. look_rank look + 1 in
+      let above : AreKinds (look_rank x.look + 1) ys = subst (λ z. AreKinds (look_rank z.look + 1) ys) (sym heads) b.2 in
+      let behind : HasNoNext name (floor_behind (look_rank x.look + 1) ys) more =
+      subst (λ z. HasNoNext name (floor_behind (look_rank z.look + 1) ys) more) (sym heads) nor in
+      let tails = kinds_end name (look_rank x.look + 1) xs ys rest more c.1 d.1 a.2 above none behind first.1 in
+      let others : xs ≡ ys = tails.0 in
+      (cc, tails.1)
+
+  -- the first line of a kind begins with its name
+  kind_begins : (name : Name) (bytes : List ℕ) (kind : PricedKind) (rest : List ℕ) → IsPricedKind kind → look_name kind.look ≡ name
+      → bytes ≡ with_line (kind_words kind) rest → BeginsWithName name bytes
+  kind_begins name bytes kind rest good called e =
+      let words = kind_is_words k.numbers kind good in
+      let whole : HasWords bytes (kind_words kind) rest = record {
+        line = line_of (kind_words kind);
+        first = record { joined = e; without = k.one_line (kind_words kind) words };
+        parts = k.split (kind_words kind) (λ none. cc) words;
+      } in
+      record { behind = drop 1 (kind_words kind); rest = rest; has = subst (λ n. HasWords bytes (name_text n ∷ drop 1 (kind_words kind)) rest) called whole }
+
+  one_word : (bytes word other : List ℕ) → BeginsWithWord word bytes → BeginsWithWord other bytes → word ≡ other
+  one_word bytes word other a b =
+      let same = one_line_of_words bytes (word ∷ a.behind, a.rest) (other ∷ b.behind, b.rest) a.has b.has in
+      ap (λ (found : List (List ℕ) × List ℕ). get_or found.0 0 []) same
+
+  some_word : (bytes word : List ℕ) → BeginsWithWord word bytes → bytes ≢ []
+  some_word bytes word begins none = not_empty begins.has.line begins.rest (sym begins.has.first.joined ∙ none)
+
+  ended_word : (bytes word : List ℕ) → IsUnended bytes → ¬ (BeginsWithWord word bytes)
+  ended_word bytes word unended begins = no_first_part 10 bytes begins.has.line begins.rest unended.unended begins.has.first
+
+  end_has_no_next : (name : Name) (floor : ℕ) (bytes : List ℕ) → EndsGroup name bytes → HasNoNext name floor bytes
+  end_has_no_next name floor bytes (AtNothing none) kind rest next =
+      some_word bytes (name_text name) (kind_begins name bytes kind rest next.good next.called next.line) none
+  end_has_no_next name floor bytes (AtOther word begins differs) kind rest next =
+      differs (one_word bytes word (name_text name) begins (kind_begins name bytes kind rest next.good next.called next.line))
+
+  bad_has_no_next : (name : Name) (floor line : ℕ) (bytes : List ℕ) (fault : CardFault) → IsBadKind name floor line bytes fault → HasNoNext name floor bytes
+  bad_has_no_next name floor line bytes fault (Unended unended is) kind rest next =
+      ended_word bytes (name_text name) unended (kind_begins name bytes kind rest next.good next.called next.line)
+  bad_has_no_next name floor line bytes fault (NoKind begins none is) kind rest next = none kind rest next
+
+  end_or_bad : (name : Name) (floor line : ℕ) (bytes : List ℕ) (fault : CardFault) → EndsGroup name bytes → ¬ (IsBadKind name floor line bytes fault)
+  end_or_bad name floor line bytes fault (AtNothing none) (Unended unended is) = unended.some none
+  end_or_bad name floor line bytes fault (AtNothing none) (NoKind begins nor is) = some_word bytes (name_text name) begins none
+  end_or_bad name floor line bytes fault (AtOther word other differs) (Unended unended is) = ended_word bytes word unended other
+  end_or_bad name floor line bytes fault (AtOther word other differs) (NoKind begins nor is) = differs (one_word bytes word (name_text name) other begins)
+
+  bad_line : (name : Name) (floor line : ℕ) (bytes : List ℕ) (fault : CardFault) → IsBadKind name floor line bytes fault → fault ≡ BadLine line
+  bad_line name floor line bytes fault (Unended unended is) = is
+  bad_line name floor line bytes fault (NoKind begins none is) = is
+
+  same_kinds : (name : Name) (bytes : List ℕ) (xs ys : List PricedKind) (rest more : List ℕ) → BeginsWithKinds name bytes xs rest
+      → BeginsWithKinds name bytes ys more → HasNoNext name (floor_behind 0 xs) rest → HasNoNext name (floor_behind 0 ys) more → (xs ≡ ys) × (rest ≡ more)
+  same_kinds name bytes xs ys rest more a b none nor =
+      kinds_end name 0 xs ys rest more a.called b.called a.in_order b.in_order none nor (sym a.lines ∙ b.lines)
+
+  -- a group's kinds end, and then there is no bad line
+  no_bad_group : (name : Name) (line : ℕ) (bytes : List ℕ) (xs ys : List PricedKind) (rest more : List ℕ) (fault : CardFault)
+      → BeginsWithKinds name bytes xs rest → EndsGroup name rest → BeginsWithKinds name bytes ys more → ¬ (IsBadKind name (floor_behind 0 ys) line more fault)
+  no_bad_group name line bytes xs ys rest more fault a ends b bad =
+      let same =
+      same_kinds name bytes xs ys rest more a b (end_has_no_next name (floor_behind 0 xs) rest ends)
+      (bad_has_no_next name (floor_behind 0 ys) line more fault bad) in
+      end_or_bad name (floor_behind 0 ys) line more fault (subst (EndsGroup name) same.1 ends) bad
+
+  module _ (name : Name) (number line : ℕ) (bytes : List ℕ) where
+    one_group : (found other : KindLines) → BeginsWithGroup name number bytes found.0 found.1 → BeginsWithGroup name number bytes other.0 other.1 → found ≡ other
+    one_group (xs, rest) (ys, more) a b =
+        let same =
+        same_kinds name bytes xs ys rest more a.begins b.begins (end_has_no_next name (floor_behind 0 xs) rest a.ends)
+        (end_has_no_next name (floor_behind 0 ys) more b.ends) in
+        let kinds : xs ≡ ys = same.0 in
+        let rests : rest ≡ more = same.1 in
+        cc
+
+    one_group_fault : (fault other : CardFault) → IsGroupFault name number line bytes fault → IsGroupFault name number line bytes other → fault ≡ other
+    one_group_fault fault other (AtKind xs rest a bad) (AtKind ys more b worse) =
+        let same =
+        same_kinds name bytes xs ys rest more a b (bad_has_no_next name (floor_behind 0 xs) (line + length xs) rest fault bad)
+        (bad_has_no_next name (floor_behind 0 ys) (line + length ys) more other worse) in
+        bad_line name (floor_behind 0 xs) (line + length xs) rest fault bad ∙ ap (λ zs. BadLine (line + length zs)) same.0
+        ∙ sym (bad_line name (floor_behind 0 ys) (line + length ys) more other worse)
+    one_group_fault fault other (AtKind xs rest a bad) (AtCount ys more b ends differs is) =
+        absurd (no_bad_group name (line + length xs) bytes ys xs more rest fault b ends a bad)
+    one_group_fault fault other (AtCount xs rest a ends differs is) (AtKind ys more b bad) =
+        absurd (no_bad_group name (line + length ys) bytes xs ys rest more other a ends b bad)
+    one_group_fault fault other (AtCount xs rest a ends differs is) (AtCount ys more b stops apart also) = is ∙ sym also
+
+    group_or_fault : (found : KindLines) (fault : CardFault) → BeginsWithGroup name number bytes found.0 found.1 → ¬ (IsGroupFault name number line bytes fault)
+    group_or_fault (xs, rest) fault a (AtKind ys more b bad) = no_bad_group name (line + length ys) bytes xs ys rest more fault a.begins a.ends b bad
+    group_or_fault (xs, rest) fault a (AtCount ys more b ends differs is) =
+        let same =
+        same_kinds name bytes xs ys rest more a.begins b (end_has_no_next name (floor_behind 0 xs) rest a.ends)
+        (end_has_no_next name (floor_behind 0 ys) more ends) in
+        differs (ap counted (sym same.0) ∙ a.count)
+
+    group_is_sure : IsSure (λ (found : KindLines). BeginsWithGroup name number bytes found.0 found.1) (IsGroupFault name number line bytes)
+    group_is_sure = record { one = one_group; reason = one_group_fault; either = group_or_fault }
+
+  known_group : (group other : Group) → name_text (row_name group) ≡ name_text (row_name other) → group ≡ other
+  known_group OfCables OfCables e = refl
+  known_group OfBars OfBars e = refl
+  known_group OfCables OfBars e = absurd (omega (arith, ap (λ t. get_or t 0 0) e))
+  known_group OfBars OfCables e = absurd (omega (arith, ap (λ t. get_or t 0 0) e))
+
+  one_lack : (line : ℕ) (bytes : List ℕ) (fault other : CardFault) → LacksGroup line bytes fault → LacksGroup line bytes other → fault ≡ other
+  one_lack line bytes fault other (NoGroup none is) (NoGroup nor also) = is ∙ sym also
+  one_lack line bytes fault other (NoGroup none is) (NoGroupEnd unended also) = absurd (unended.some none)
+  one_lack line bytes fault other (NoGroup none is) (OtherGroup word begins differs also) = is ∙ sym also
+  one_lack line bytes fault other (NoGroupEnd unended is) (NoGroup none also) = absurd (unended.some none)
+  one_lack line bytes fault other (NoGroupEnd unended is) (NoGroupEnd unclosed also) = is ∙ sym also
+  one_lack line bytes fault other (NoGroupEnd unended is) (OtherGroup word begins differs also) = absurd (ended_word bytes word unended begins)
+  one_lack line bytes fault other (OtherGroup word begins differs is) (NoGroup none also) = is ∙ sym also
+  one_lack line bytes fault other (OtherGroup word begins differs is) (NoGroupEnd unended also) = absurd (ended_word bytes word unended begins)
+  one_lack line bytes fault other (OtherGroup word begins differs is) (OtherGroup second starts apart also) = is ∙ sym also
+
+  begins_or_lacks : (line : ℕ) (bytes : List ℕ) (group : Group) (fault : CardFault) → BeginsWithName (row_name group) bytes → ¬ (LacksGroup line bytes fault)
+  begins_or_lacks line bytes group fault begins (NoGroup none is) = some_word bytes (name_text (row_name group)) begins none
+  begins_or_lacks line bytes group fault begins (NoGroupEnd unended is) = ended_word bytes (name_text (row_name group)) unended begins
+  begins_or_lacks line bytes group fault begins (OtherGroup word other differs is) = differs group (one_word bytes word (name_text (row_name group)) other begins)
+
+  first_group_is_sure : (line : ℕ) (bytes : List ℕ) → IsSure (λ (group : Group). BeginsWithName (row_name group) bytes) (LacksGroup line bytes)
+  first_group_is_sure line bytes = record {
+    one = λ group other a b. known_group group other (one_word bytes (name_text (row_name group)) (name_text (row_name other)) a b);
+    reason = one_lack line bytes;
+    either = begins_or_lacks line bytes;
+  }
+
+  behind_column_kinds : (day : ℕ) (xs : List Setting) (group : Group) (rows : List PricedKind) (found : KindLines) → IsOnly (BehindColumnKinds day xs group rows found)
+  behind_column_kinds day xs group rows found v w (prices, are, is, a) (others, also, is_too, b) =
+      let same : prices ≡ others =
+      same_kind_parts prices others is.version is_too.version (is.of_group ∙ sym is_too.of_group) (is.row_kinds ∙ sym is_too.row_kinds)
+      (is.column_kinds ∙ sym is_too.column_kinds) in
+      only_sum day xs others found.1 also v w (subst (λ p. SumSays day xs p found.1 v) same a) b
+
+  only_kinds : (day : ℕ) (xs : List Setting) (rest : List ℕ) → IsOnly (KindsSay day xs rest)
+  only_kinds day xs rest =
+      only_step (first_group_is_sure (length xs + 3) rest)
+      (λ group begins. only_step (group_is_sure (row_name group) (price_count group) (length xs + 3) rest)
+      (λ rows found. only_step (group_is_sure (column_name group) (price_count group) (length xs + 3 + length rows.0) rows.1)
+      (λ columns also. behind_column_kinds day xs group rows.0 columns)))
+
+  only_prices : (version : Version) (day : ℕ) (xs : List Setting) (rest : List ℕ) → IsOnly (PricesSay version day xs rest)
+  only_prices ByNumber day xs rest = only_rows day xs rest
+  only_prices ByKind day xs rest = only_kinds day xs rest
+
+  only_number : (version : Version) (day : ℕ) (xs : List Setting) (rest : List ℕ) → length xs ≤ 192 → IsOnly (NumberSays version day xs rest)
+  only_number version day xs rest few =
       only_step
       (value_is_sure IsNumberText (codes "SETTINGS") (decimal (length xs)) (length xs + 2) rest unbroken_number
       (unbroken_by_test (codes "SETTINGS") refl) (number_text (length xs) (omega (arith, few))))
-      (λ more e. only_rows day xs more)
+      (λ more e. only_prices version day xs more)
 
   only_card : (bytes : List ℕ) → IsOnly (CardSays bytes)
   only_card bytes =
       only_step (head_is_sure bytes)
-      (λ head found. only_step (settings_are_sure head.1) (λ list begins. only_number head.0 list.0 list.1 begins.few))
+      (λ head found. only_step (settings_are_sure head.2) (λ list begins. only_number head.0 head.1 list.0 list.1 begins.few))
 
   -- ---- what is said of bytes that are a card up to a step
 
-  at_number : (bytes : List ℕ) (day : ℕ) (xs : List Setting) (rest : List ℕ) (v : Verdict) → ToSettings bytes day xs rest → length xs ≤ 192
-      → BeginsWithNoLine rest → NumberSays day xs rest v → CardSays bytes v
-  at_number bytes day xs rest v to few none says =
-      Found (day, list_text xs ++ rest) (record { text = to.text; of_month = to.of_month })
+  at_number : (bytes : List ℕ) (version : Version) (day : ℕ) (xs : List Setting) (rest : List ℕ) (v : Verdict) → ToSettings bytes version day xs rest
+      → length xs ≤ 192 → BeginsWithNoLine rest → NumberSays version day xs rest v → CardSays bytes v
+  at_number bytes version day xs rest v to few none says =
+      Found (version, day, list_text xs ++ rest) (record { text = to.text; of_month = to.of_month })
       (Found (xs, rest) (record { lines = record { lines = refl; in_range = to.in_range }; few = few; none_more = none }) says)
 
-  at_rows : (bytes : List ℕ) (day : ℕ) (xs : List Setting) (rest : List ℕ) (v : Verdict) → ToNumber bytes day xs rest → RowsSay day xs rest v → CardSays bytes v
-  at_rows bytes day xs rest v to says =
-      at_number bytes day xs (with_line (settings_words (length xs)) rest) v to.before to.few (number_ends (length xs) rest to.few) (Found rest refl says)
+  at_prices : (bytes : List ℕ) (version : Version) (day : ℕ) (xs : List Setting) (rest : List ℕ) (v : Verdict) → ToNumber bytes version day xs rest
+      → PricesSay version day xs rest v → CardSays bytes v
+  at_prices bytes version day xs rest v to says =
+      at_number bytes version day xs (with_line (settings_words (length xs)) rest) v to.before to.few (number_ends (length xs) rest to.few) (Found rest refl says)
 
-  at_columns : (bytes : List ℕ) (day : ℕ) (xs : List Setting) (kind : Kind) (rows : List ℤ) (rest : List ℕ) (v : Verdict) → ToRows bytes day xs kind rows rest
-      → ColumnsSay day xs kind rows rest v → CardSays bytes v
-  at_columns bytes day xs kind rows rest v to says =
-      at_rows bytes day xs (with_line (price_words (row_word kind) rows) rest) v to.before
-      (found_in_line AreRows (length xs + 3) (with_line (price_words (row_word kind) rows) rest) (BehindRows day xs) (row_word kind) rows rest v
-      (row_is_word kind) (kind, refl, to.count) (record { text = refl; reach = to.reach }) (kind, refl, says))
+  at_columns : (bytes : List ℕ) (day : ℕ) (xs : List Setting) (group : Group) (rows : List ℤ) (rest : List ℕ) (v : Verdict) → ToRows bytes day xs group rows rest
+      → ColumnsSay day xs group rows rest v → CardSays bytes v
+  at_columns bytes day xs group rows rest v to says =
+      at_prices bytes ByNumber day xs (with_line (price_words (row_word group) rows) rest) v to.before
+      (found_in_line AreRows (length xs + 3) (with_line (price_words (row_word group) rows) rest) (BehindRows day xs) (row_word group) rows rest v
+      (row_is_word group) (group, refl, to.count) (record { text = refl; reach = to.reach }) (group, refl, says))
 
-  at_sum : (bytes : List ℕ) (day : ℕ) (xs : List Setting) (prices : PriceParts) (rest : List ℕ) (v : Verdict) → ToColumns bytes day xs prices rest
+  -- two lines of prices, and what they are followed by
+  at_numbered_sum : (bytes : List ℕ) (day : ℕ) (xs : List Setting) (prices : PriceParts) (rest : List ℕ) (v : Verdict) → version_of prices ≡ ByNumber
+      → ToNumber bytes ByNumber day xs (with_line (price_words (row_word (group_of prices)) (row_prices prices))
+      (with_line (price_words (column_word (group_of prices)) (column_prices prices)) rest))
+      → ArePrices prices → length (row_prices prices) ≡ price_count (group_of prices) → length (column_prices prices) ≡ price_count (group_of prices)
       → SumSays day xs prices rest v → CardSays bytes v
-  at_sum bytes day xs prices rest v to says =
-      let are = to.are_prices in
-      let kind = kind_of prices in
-      let columns = with_line (price_words (column_word kind) (column_prices prices)) rest in
-      at_columns bytes day xs kind (row_prices prices) columns v to.before
-      (found_in_line (AreColumns kind) (length xs + 4) columns (BehindColumns day xs kind (row_prices prices)) (column_word kind) (column_prices prices) rest v
-      (column_is_word kind) (refl, are.columns ∙ as_many prices) (record { text = refl; reach = are.column_reach }) (prices, are, refl, refl, refl, says))
+  at_numbered_sum bytes day xs prices rest v by to are rows_count columns_count says =
+      let group = group_of prices in
+      let columns = with_line (price_words (column_word group) (column_prices prices)) rest in
+      at_columns bytes day xs group (row_prices prices) columns v (record { before = to; count = rows_count; reach = are.row_reach })
+      (found_in_line (AreColumns group) (length xs + 4) columns (BehindColumns day xs group (row_prices prices)) (column_word group) (column_prices prices) rest v
+      (column_is_word group) (refl, columns_count) (record { text = refl; reach = are.column_reach }) (prices, are, by, refl, refl, refl, says))
+
+  -- a group of kinds begins with their name
+  group_begins : (name : Name) (number : ℕ) (bytes : List ℕ) (kinds : List PricedKind) (rest : List ℕ) → 0 < number → AreCalled name kinds → AreKinds 0 kinds
+      → counted kinds ≡ number → bytes ≡ kinds_text kinds ++ rest → BeginsWithName name bytes
+  group_begins name number bytes [] rest some called are count e = absurd (omega (arith, some, count))
+  group_begins name number bytes (kind ∷ kinds) rest some called are count e =
+      kind_begins name bytes kind (kinds_text kinds ++ rest) are.0 called.0 (e ∙ text_of_more_kinds kind kinds rest)
+
+  at_row_kinds : (bytes : List ℕ) (day : ℕ) (xs : List Setting) (group : Group) (kinds : List ℕ) (v : Verdict) → ToNumber bytes ByKind day xs kinds
+      → BeginsWithName (row_name group) kinds → RowKindsSay day xs kinds group v → CardSays bytes v
+  at_row_kinds bytes day xs group kinds v to begins says = at_prices bytes ByKind day xs kinds v to (Found group begins says)
+
+  some_prices : (group : Group) → 0 < price_count group
+  some_prices OfCables = omega arith
+  some_prices OfBars = omega arith
+
+  at_column_kinds : (bytes : List ℕ) (day : ℕ) (xs : List Setting) (group : Group) (rows : List PricedKind) (kinds rest : List ℕ) (v : Verdict)
+      → ToNumber bytes ByKind day xs kinds → BeginsWithGroup (row_name group) (price_count group) kinds rows rest
+      → ColumnKindsSay day xs group (rows, rest) v → CardSays bytes v
+  at_column_kinds bytes day xs group rows kinds rest v to found says =
+      at_row_kinds bytes day xs group kinds v to
+      (group_begins (row_name group) (price_count group) kinds rows rest (some_prices group) found.begins.called found.begins.in_order found.count found.begins.lines)
+      (Found (rows, rest) found says)
+
+  -- two groups of kinds, and what they are followed by
+  at_kinds_sum : (bytes : List ℕ) (day : ℕ) (xs : List Setting) (prices : PriceParts) (rest : List ℕ) (v : Verdict) → version_of prices ≡ ByKind
+      → ToNumber bytes ByKind day xs (kinds_text (row_kinds prices) ++ (kinds_text (column_kinds prices) ++ rest)) → ArePrices prices
+      → AreGroups prices → EndsGroup (column_name (group_of prices)) rest → SumSays day xs prices rest v → CardSays bytes v
+  at_kinds_sum bytes day xs prices rest v by to are groups ends says =
+      let group = group_of prices in
+      let columns = kinds_text (column_kinds prices) ++ rest in
+      let begins =
+      group_begins (column_name group) (price_count group) columns (column_kinds prices) rest (some_prices group) groups.columns_called are.column_kinds
+      groups.column_count refl in
+      at_column_kinds bytes day xs group (row_kinds prices) (kinds_text (row_kinds prices) ++ columns) columns v to
+      (record {
+        begins = record { lines = refl; called = groups.rows_called; in_order = are.row_kinds };
+        ends = AtOther (name_text (column_name group)) begins (other_name group);
+        count = groups.row_count;
+      })
+      (Found (column_kinds prices, rest)
+      (record {
+        begins = record { lines = refl; called = groups.columns_called; in_order = are.column_kinds };
+        ends = ends;
+        count = groups.column_count;
+      }) (prices, are, record { of_group = refl; version = by; row_kinds = refl; column_kinds = refl }, says))
+
+  at_sum : (bytes : List ℕ) (day : ℕ) (xs : List Setting) (prices : PriceParts) (rest : List ℕ) (v : Verdict) → ToPrices bytes day xs prices rest
+      → SumSays day xs prices rest v → CardSays bytes v
+  at_sum bytes day xs (Cables row col) rest v to says =
+      at_numbered_sum bytes day xs (Cables row col) rest v refl
+      (subst (ToNumber bytes ByNumber day xs) (two_lines (price_words (row_word OfCables) row) (price_words (column_word OfCables) col) rest) to.before)
+      to.are_prices to.are_prices.rows to.are_prices.columns says
+  at_sum bytes day xs (Bars row col) rest v to says =
+      at_numbered_sum bytes day xs (Bars row col) rest v refl
+      (subst (ToNumber bytes ByNumber day xs) (two_lines (price_words (row_word OfBars) row) (price_words (column_word OfBars) col) rest) to.before)
+      to.are_prices to.are_prices.rows to.are_prices.columns says
+  at_sum bytes day xs (CableKinds row col) rest v to says =
+      at_kinds_sum bytes day xs (CableKinds row col) rest v refl
+      (subst (ToNumber bytes ByKind day xs) (lines_of_kinds (map cable_kind row.items) (map pair_kind col.items) rest) to.before)
+      to.are_prices (cable_groups row col to.are_prices) to.ends says
+  at_sum bytes day xs (BarKinds row col) rest v to says =
+      at_kinds_sum bytes day xs (BarKinds row col) rest v refl
+      (subst (ToNumber bytes ByKind day xs) (lines_of_kinds (map bar_kind row.items) (map row_kind col.items) rest) to.before)
+      to.are_prices (bar_groups row col to.are_prices) to.ends says
+
+  -- the line of the sum ends the kinds
+  sum_begins : (sum : ℤ) (rest : List ℕ) → unsigned_abs sum < 2 ^ 64 → BeginsWithWord (codes "SUM") (with_line (sum_words sum) rest)
+  sum_begins sum rest near =
+      let words = sum_is_words k.numbers sum near in
+      record {
+        behind = drop 1 (sum_words sum);
+        rest = rest;
+        has = record {
+          line = line_of (sum_words sum);
+          first = record { joined = refl; without = k.one_line (sum_words sum) words };
+          parts = k.split (sum_words sum) (λ none. cc) words;
+        };
+      }
+
+  sum_ends : (prices : PriceParts) (sum : ℤ) (rest : List ℕ) → unsigned_abs sum < 2 ^ 64 → EndsPrices prices (with_line (sum_words sum) rest)
+  sum_ends (Cables row col) sum rest near = tt
+  sum_ends (Bars row col) sum rest near = tt
+  sum_ends (CableKinds row col) sum rest near =
+      AtOther (codes "SUM") (sum_begins sum rest near) (λ e. omega (arith, ap (λ t. get_or t 0 0) e))
+  sum_ends (BarKinds row col) sum rest near =
+      AtOther (codes "SUM") (sum_begins sum rest near) (λ e. omega (arith, ap (λ t. get_or t 0 0) e))
 
   card_says : (bytes : List ℕ) (day : ℕ) (xs : List Setting) (prices : PriceParts) → IsCard bytes day xs prices → CardSays bytes (Ok (day, xs, prices))
   card_says bytes day xs prices card =
       let sum = with_line (sum_words (price_sum prices)) [] in
-      at_sum bytes day xs prices sum (Ok (day, xs, prices)) (goes_to_columns bytes day xs prices card) (Found [] refl (Found tt refl refl))
+      let ends = sum_ends prices (price_sum prices) [] (price_sum_is_small prices card.are_prices) in
+      at_sum bytes day xs prices sum (Ok (day, xs, prices)) (goes_to_prices bytes day xs prices card ends) (Found [] refl (Found tt refl refl))
 
   fault_says : (bytes : List ℕ) (fault : CardFault) → IsCardFault bytes fault → CardSays bytes (Err fault)
   fault_says bytes fault (AtHead none is) = Refused fault (none, is) refl
-  fault_says bytes fault (AtSettings day xs rest to many is) =
-      Found (day, list_text xs ++ rest) (record { text = to.text; of_month = to.of_month })
+  fault_says bytes fault (AtSettings version day xs rest to many is) =
+      Found (version, day, list_text xs ++ rest) (record { text = to.text; of_month = to.of_month })
       (Refused fault (xs, rest, record { lines = refl; in_range = to.in_range }, many, is) refl)
-  fault_says bytes fault (AtNumber day xs rest to few none wrong) = at_number bytes day xs rest (Err fault) to few none (Refused fault wrong refl)
-  fault_says bytes fault (AtRows day xs rest to wrong) = at_rows bytes day xs rest (Err fault) to (fault_in_line AreRows (length xs + 3) rest (BehindRows day xs) fault wrong)
-  fault_says bytes fault (AtColumns day xs kind rows rest to wrong) =
-      at_columns bytes day xs kind rows rest (Err fault) to
-      (fault_in_line (AreColumns kind) (length xs + 4) rest (BehindColumns day xs kind rows) fault wrong)
+  fault_says bytes fault (AtNumber version day xs rest to few none wrong) = at_number bytes version day xs rest (Err fault) to few none (Refused fault wrong refl)
+  fault_says bytes fault (AtRows day xs rest to wrong) =
+      at_prices bytes ByNumber day xs rest (Err fault) to (fault_in_line AreRows (length xs + 3) rest (BehindRows day xs) fault wrong)
+  fault_says bytes fault (AtColumns day xs group rows rest to wrong) =
+      at_columns bytes day xs group rows rest (Err fault) to
+      (fault_in_line (AreColumns group) (length xs + 4) rest (BehindColumns day xs group rows) fault wrong)
+  fault_says bytes fault (AtGroup day xs rest to wrong) = at_prices bytes ByKind day xs rest (Err fault) to (Refused fault wrong refl)
+  fault_says bytes fault (AtRowKinds day xs group rest to begins wrong) = at_row_kinds bytes day xs group rest (Err fault) to begins (Refused fault wrong refl)
+  fault_says bytes fault (AtColumnKinds day xs group rows kinds rest to found wrong) =
+      at_column_kinds bytes day xs group rows kinds rest (Err fault) to found (Refused fault wrong refl)
   fault_says bytes fault (AtSum day xs prices rest to wrong) = at_sum bytes day xs prices rest (Err fault) to (Refused fault wrong refl)
   fault_says bytes fault (AtEnd day xs prices rest to some is) =
       at_sum bytes day xs prices (with_line (sum_words (price_sum prices)) rest) (Err fault) to (Found rest refl (Refused fault (some, is) refl))

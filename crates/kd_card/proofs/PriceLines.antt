@@ -12,8 +12,10 @@ use Rattle.kd_state.specs.Words.{words_of, line_of, IsWithout, IsFirstPart}
 use Rattle.kd_card.specs.declared.fault.CardFault.{CardFault}
 use Rattle.kd_card.specs.declared.fault.CardFault.TheVariants.{BadLine, PriceMissing}
 use Rattle.kd_card.specs.Prices.{AreWithinReach}
-use Rattle.kd_card.specs.CardText.{Kind, OfCables, OfBars, row_word, price_words}
-use Rattle.kd_card.specs.CardFault.{with_line, price_count, IsPriceText, HasWords, IsCountFault, IsPricesFault, NoLine, NoEnd, OtherWord, OtherPrices, AreRows}
+use Rattle.kd_card.specs.declared.group.Group.{Group}
+use Rattle.kd_card.specs.declared.group.Group.TheVariants.{OfCables, OfBars}
+use Rattle.kd_card.specs.CardText.{row_word, price_count, price_words}
+use Rattle.kd_card.specs.CardFault.{with_line, IsPriceText, HasWords, IsCountFault, IsPricesFault, NoLine, NoEnd, OtherWord, OtherPrices, AreRows}
 use Rattle.kd_card.specs.Reading.{BeginsWithPrices}
 use Rattle.kd_card.proofs.Lines.{words_of_first, words_of_last}
 
@@ -94,11 +96,11 @@ text_begins text first words rest b bs has same =
     ap (λ t. get_or t 0 0) (has.first.joined ∙ ap (λ l. l ++ 10 ∷ rest) line) ∙ line_begins b bs words rest
 
 -- bars where the text begins with B
-abbrev pub IsKindOf : Kind → List ℕ → Type 0
+abbrev pub IsKindOf : Group → List ℕ → Type 0
 IsKindOf OfBars text = get_or text 0 0 ≡ 66
 IsKindOf OfCables text = get_or text 0 0 ≢ 66
 
-same_kind : (kind other : Kind) (text first : List ℕ) (words : List (List ℕ)) (rest : List ℕ) → IsKindOf kind text → HasWords text (first ∷ words) rest
+same_kind : (kind other : Group) (text first : List ℕ) (words : List (List ℕ)) (rest : List ℕ) → IsKindOf kind text → HasWords text (first ∷ words) rest
     → first ≡ row_word other → first ≡ row_word kind
 same_kind OfCables OfCables text first words rest is has e = e
 same_kind OfBars OfBars text first words rest is has e = e
@@ -106,7 +108,7 @@ same_kind OfBars OfCables text first words rest is has e =
     let begins : get_or text 0 0 ≡ 67 = text_begins text first words rest 67 _ has e in absurd (omega (arith, is, begins))
 same_kind OfCables OfBars text first words rest is has e = absurd (is (text_begins text first words rest 66 _ has e))
 
-pub rows_fault : (kind : Kind) (line : ℕ) (text : List ℕ) (fault : CardFault) → IsKindOf kind text
+pub rows_fault : (kind : Group) (line : ℕ) (text : List ℕ) (fault : CardFault) → IsKindOf kind text
     → IsPricesFault (IsDue (row_word kind) (price_count kind)) line text fault → IsPricesFault AreRows line text fault
 rows_fault kind line text fault is (NoLine none f) = NoLine none f
 rows_fault kind line text fault is (NoEnd some without f) = NoEnd some without f

@@ -17,7 +17,7 @@ use Rattle.kd_card.specs.CardFault.{IsPriceText}
 use Rattle.kd_card.proofs.Lines.{words_of_first, words_of_last}
 use Rattle.std.proofs.lemmas.Fmt.{parse-signed_decimal, IsAscii-signed, length-decimal-le}
 
-fits : (p : ℤ) → unsigned_abs p ≤ 9999 → FitsSigned w16 p
+pub fits : (p : ℤ) → unsigned_abs p ≤ 9999 → FitsSigned w16 p
 fits p within = fits_signed_from_abs w16 p (omega (arith, within))
 
 pub small : (p : ℤ) → unsigned_abs p ≤ 9999 → mag p < 2 ^ 63

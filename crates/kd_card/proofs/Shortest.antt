@@ -18,9 +18,10 @@ use Rattle.kd_state.specs.Setting.{Carries, Leads, changed}
 use Rattle.kd_state.specs.SheetDay.{RotorDay, PinDay, Day, OfRotors, OfPins, day_model, IsLegalDay}
 use Rattle.kd_state.specs.OnKey.{ReadsAs}
 use Rattle.kd_state.specs.Costs.{cable_cost, bar_cost, columns_of, cost_table, loose_count}
-use Rattle.kd_card.specs.declared.prices.PriceParts.TheVariants.{Cables, Bars}
+use Rattle.kd_card.specs.declared.prices.PriceParts.{PriceParts}
+use Rattle.kd_card.specs.declared.prices.PriceParts.TheVariants.{Cables, Bars, CableKinds, BarKinds}
 use Rattle.kd_card.specs.Prices.{ArePrices, Fits, price_sum}
-use Rattle.kd_card.specs.Proving.{is_priced, priced_count, IsNeeded, AreNeeded}
+use Rattle.kd_card.specs.Proving.{is_priced, priced_count, IsNeeded, AreNeeded, Expands, Same, Expanded, ProvesByNumber, IsShortest}
 use Rattle.kd_card.specs.Laws.{FittingPricesBoundLists, ProvingCardsAreAsLong, ProvingCardsAreShortest}
 use Rattle.kd_card.proofs.Duality.{fold_of_both, prices_with-IsPermutation, prices_with-zip, pairing_cost, fitting_prices, FitAll-IsPermutation, fit_all}
 use Rattle.kd_card.proofs.Counts.{count_by-cons, once_of_distinct}
@@ -114,6 +115,10 @@ fitting_prices_bound_lists told (Pin m) (OfRotors s) (Bars row column) settings 
 fitting_prices_bound_lists told (Pin m) (OfPins s) (Bars row column) settings machine legal prices kind fits (Rotor n, leads, reads) = absurd reads.key
 fitting_prices_bound_lists told (Rotor m) s (Bars row column) settings machine legal prices kind fits reached = absurd kind
 fitting_prices_bound_lists told (Pin m) s (Cables row column) settings machine legal prices kind fits reached = absurd kind
+fitting_prices_bound_lists told (Rotor m) s (CableKinds row column) settings machine legal prices kind fits reached = absurd kind
+fitting_prices_bound_lists told (Rotor m) s (BarKinds row column) settings machine legal prices kind fits reached = absurd kind
+fitting_prices_bound_lists told (Pin m) s (CableKinds row column) settings machine legal prices kind fits reached = absurd kind
+fitting_prices_bound_lists told (Pin m) s (BarKinds row column) settings machine legal prices kind fits reached = absurd kind
 
 -- Where each setting is needed, there are as many as loose things and those that change a cable or a bar.
 needed_one : (m : Parts) (s : Day) (x : Setting) (b : Bool) → is_priced x ≡ b → IsNeeded m s x → loose_count m s + cond b 1 0 ≡ loose_count (changed m x) s + 1
@@ -133,8 +138,18 @@ proving_cards_are_as_long m s settings prices h =
     let none = nothing_loose h.leads.0 s h.leads.2 in
     omega (arith, ints)
 
-pub proving_cards_are_shortest : Told → ProvingCardsAreShortest
-proving_cards_are_shortest told m s settings prices machine legal are_prices h others reached =
+shortest_by_number : Told → (m : Parts) (s : Day) (settings : List Setting) (prices : PriceParts) → IsMachine m → IsLegalDay s → ArePrices prices
+    → ProvesByNumber m s settings prices → IsShortest m s settings
+shortest_by_number told m s settings prices machine legal are_prices h others reached =
     let long = proving_cards_are_as_long m s settings prices h in
     let below = fitting_prices_bound_lists told m s prices others machine legal are_prices h.kind h.fits reached in
     omega (arith, ints)
+
+-- prices by number that may stand on a card
+expanded_are_prices : (m : Parts) (s : Day) (prices numbered : PriceParts) → ArePrices prices → Expands m s prices numbered → ArePrices numbered
+expanded_are_prices m s prices numbered are (Same by same) = subst ArePrices same are
+expanded_are_prices m s prices numbered are (Expanded by other group here also rows columns) = also
+
+pub proving_cards_are_shortest : Told → ProvingCardsAreShortest
+proving_cards_are_shortest told m s settings prices machine legal are_prices h =
+    shortest_by_number told m s settings h.numbered machine legal (expanded_are_prices m s prices h.numbered are_prices h.expands) h.proves

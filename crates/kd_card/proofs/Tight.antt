@@ -16,9 +16,9 @@ use Rattle.kd_state.specs.SheetDay.{RotorDay, PinDay, Day, OfRotors, OfPins, IsL
 use Rattle.kd_state.specs.OnKey.{ReadsAs}
 use Rattle.kd_state.specs.Costs.{cable_cost, bar_cost, columns_of, cost_table}
 use Rattle.kd_card.specs.declared.prices.PriceParts.{PriceParts}
-use Rattle.kd_card.specs.declared.prices.PriceParts.TheVariants.{Cables, Bars}
+use Rattle.kd_card.specs.declared.prices.PriceParts.TheVariants.{Cables, Bars, CableKinds, BarKinds}
 use Rattle.kd_card.specs.Prices.{ArePrices, AreTight}
-use Rattle.kd_card.specs.Proving.{is_priced, priced_count, Proves}
+use Rattle.kd_card.specs.Proving.{is_priced, priced_count, ProvesByNumber}
 use Rattle.kd_card.specs.Laws.{ProvingPricesAreTight}
 use Rattle.kd_card.proofs.Duality.{sum_of, fold_of_both, prices_with, prices_with-IsPermutation, prices_with-zip, pairing_cost, FitAll, without_first, fitting_prices, FitAll-IsPermutation, fit_all}
 use Rattle.kd_card.proofs.Counts.{count_by-cons, once_of_distinct}
@@ -126,7 +126,7 @@ module _ {A B : Type 0} (cost : A → B → ℕ) (number : ℕ) (rows : List A) 
         (there.0, place, tight_where there.0 j place lt here)
 
 rotors_tight : Told → (m n : RotorParts) (s : RotorDay) (row column : List ℤ) (settings : List Setting) → IsMachine (Rotor m) → IsLegalDay (OfRotors s) → ArePrices (Cables row column)
-    → Proves (Rotor m) (OfRotors s) settings (Cables row column) → Leads (Rotor m) settings (Rotor n) → ReadsAs (Rotor n) (OfRotors s) → AreTight (cost_table (Rotor m) (OfRotors s)) (Cables row column)
+    → ProvesByNumber (Rotor m) (OfRotors s) settings (Cables row column) → Leads (Rotor m) settings (Rotor n) → ReadsAs (Rotor n) (OfRotors s) → AreTight (cost_table (Rotor m) (OfRotors s)) (Cables row column)
 rotors_tight told m n s row column settings machine legal prices proves leads reads =
     let at_first = machines_have_all (Rotor m) machine.legal in
     let at_last = list_keeps (Rotor m) (Rotor n) settings leads at_first in
@@ -149,7 +149,7 @@ rotors_tight told m n s row column settings machine legal prices proves leads re
     }
 
 pins_tight : (m n : PinParts) (s : PinDay) (row column : List ℤ) (settings : List Setting) → IsMachine (Pin m) → IsLegalDay (OfPins s) → ArePrices (Bars row column)
-    → Proves (Pin m) (OfPins s) settings (Bars row column) → Leads (Pin m) settings (Pin n) → ReadsAs (Pin n) (OfPins s) → AreTight (cost_table (Pin m) (OfPins s)) (Bars row column)
+    → ProvesByNumber (Pin m) (OfPins s) settings (Bars row column) → Leads (Pin m) settings (Pin n) → ReadsAs (Pin n) (OfPins s) → AreTight (cost_table (Pin m) (OfPins s)) (Bars row column)
 pins_tight m n s row column settings machine legal prices proves leads reads =
     let at_first = machines_have_all (Pin m) machine.legal in
     let at_last = list_keeps (Pin m) (Pin n) settings leads at_first in
@@ -170,7 +170,7 @@ pins_tight m n s row column settings machine legal prices proves leads reads =
       row_of = row_for bar_cost 27 m.bars row s.rows column pairing.beside (One, One) (0, 0) square;
     }
 
-reached_tight : Told → (m n : Parts) (s : Day) (settings : List Setting) (prices : PriceParts) → IsMachine m → IsLegalDay s → ArePrices prices → Proves m s settings prices
+reached_tight : Told → (m n : Parts) (s : Day) (settings : List Setting) (prices : PriceParts) → IsMachine m → IsLegalDay s → ArePrices prices → ProvesByNumber m s settings prices
     → Leads m settings n → ReadsAs n s → AreTight (cost_table m s) prices
 reached_tight told (Rotor m) (Rotor n) (OfRotors s) settings (Cables row column) machine legal are_prices h leads reads = rotors_tight told m n s row column settings machine legal are_prices h leads reads
 reached_tight told (Pin m) (Pin n) (OfPins s) settings (Bars row column) machine legal are_prices h leads reads = pins_tight m n s row column settings machine legal are_prices h leads reads
@@ -182,6 +182,10 @@ reached_tight told m (Pin n) (OfRotors s) settings prices machine legal are_pric
 reached_tight told m (Rotor n) (OfPins s) settings prices machine legal are_prices h leads reads = absurd reads.key
 reached_tight told (Rotor m) n s settings (Bars row column) machine legal are_prices h leads reads = absurd h.kind
 reached_tight told (Pin m) n s settings (Cables row column) machine legal are_prices h leads reads = absurd h.kind
+reached_tight told (Rotor m) n s settings (CableKinds row column) machine legal are_prices h leads reads = absurd h.kind
+reached_tight told (Rotor m) n s settings (BarKinds row column) machine legal are_prices h leads reads = absurd h.kind
+reached_tight told (Pin m) n s settings (CableKinds row column) machine legal are_prices h leads reads = absurd h.kind
+reached_tight told (Pin m) n s settings (BarKinds row column) machine legal are_prices h leads reads = absurd h.kind
 
 pub proving_prices_are_tight : Told → ProvingPricesAreTight
 proving_prices_are_tight told m s settings prices machine legal are_prices h = reached_tight told m h.leads.0 s settings prices machine legal are_prices h h.leads.1 h.leads.2

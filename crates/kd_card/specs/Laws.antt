@@ -7,10 +7,12 @@ use Rattle.kd_state.specs.SheetDay.{Day, IsLegalDay}
 use Rattle.kd_state.specs.Costs.{cost_table, loose_count}
 use Rattle.kd_card.specs.declared.prices.PriceParts.{PriceParts}
 use Rattle.kd_card.specs.declared.fault.CardFault.{CardFault}
+use Rattle.kd_card.specs.declared.look.Look.{Look}
+use Rattle.kd_card.specs.Kinds.{look_name, look_rank, IsInForm}
 use Rattle.kd_card.specs.Prices.{Fits, price_sum, ArePrices, AreTight}
 use Rattle.kd_card.specs.CardText.{IsCard}
 use Rattle.kd_card.specs.CardFault.{IsCardFault}
-use Rattle.kd_card.specs.Proving.{AreOfKind, Proves, IsShortest, LeadsToTheDay}
+use Rattle.kd_card.specs.Proving.{AreOfKind, ProvesByNumber, Proves, IsShortest, LeadsToTheDay}
 
 -- Where prices fit, no settings whatever that lead the machine to the day are fewer than the loose things and the sum of
 -- the prices.
@@ -20,10 +22,11 @@ FittingPricesBoundLists =
     → Fits (cost_table m s) prices → LeadsToTheDay m s settings
     → (pos (loose_count m s) +ℤ price_sum prices) ≤ℤ pos (length settings)
 
--- a card that proves itself has as many lines as there are loose things and prices in sum, and is shortest
+-- a card that proves itself by number has as many lines as there are loose things and prices in sum; and each that proves
+-- itself is shortest
 abbrev pub ProvingCardsAreAsLong : Type 0
 ProvingCardsAreAsLong =
-    (m : Parts) (s : Day) (settings : List Setting) (prices : PriceParts) → Proves m s settings prices
+    (m : Parts) (s : Day) (settings : List Setting) (prices : PriceParts) → ProvesByNumber m s settings prices
     → pos (length settings) ≡ (pos (loose_count m s) +ℤ price_sum prices)
 
 abbrev pub ProvingCardsAreShortest : Type 0
@@ -31,11 +34,15 @@ ProvingCardsAreShortest =
     (m : Parts) (s : Day) (settings : List Setting) (prices : PriceParts) → IsMachine m → IsLegalDay s → ArePrices prices → Proves m s settings prices
     → IsShortest m s settings
 
--- in a card that proves itself each row's price is as high as it can be at some column, and each column's at some row
+-- in a card that proves itself by number each row's price is as high as it can be at some column, and each column's at some row
 abbrev pub ProvingPricesAreTight : Type 0
 ProvingPricesAreTight =
-    (m : Parts) (s : Day) (settings : List Setting) (prices : PriceParts) → IsMachine m → IsLegalDay s → ArePrices prices → Proves m s settings prices
+    (m : Parts) (s : Day) (settings : List Setting) (prices : PriceParts) → IsMachine m → IsLegalDay s → ArePrices prices → ProvesByNumber m s settings prices
     → AreTight (cost_table m s) prices
+
+-- the rank of a look in its one form tells the look, among those of one name
+abbrev pub RanksTellLooks : Type 0
+RanksTellLooks = (look other : Look) → look_name look ≡ look_name other → IsInForm look → IsInForm other → look_rank look ≡ look_rank other → look ≡ other
 
 -- no two cards have one text, a card has no fault, and bytes have one at most
 abbrev pub TextsTellCards : Type 0

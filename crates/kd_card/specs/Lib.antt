@@ -1,3 +1,4 @@
+pub mod Kinds
 pub mod Prices
 pub mod Carrying
 pub mod CardText

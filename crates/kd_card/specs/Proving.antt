@@ -1,20 +1,29 @@
 -- A card that proves itself: it leads the machine to the day, and its prices show that no list of settings that does is
 -- shorter.
-use Rattle.std.specs.Prelude.{◌≡◌, ℕ, ◌+◌, ◌≤◌, Bool, true, false, List, [], ◌∷◌, length, count_by, pos, IsFalse}
+use Rattle.std.specs.Prelude.{◌≡◌, ℕ, ◌+◌, ◌<◌, ◌≤◌, nat_eq, Bool, true, false, List, [], ◌∷◌, length, map, slice_index_or, count_by, All, ◌⊎◌, ℤ, pos, IsFalse, Option, Some, None}
+use Rattle.kd_tables.specs.Places.{in_order}
 use Rattle.kd_state.specs.declared.machine.parts.Parts.{Parts}
 use Rattle.kd_state.specs.declared.machine.parts.Parts.TheVariants.{Rotor, Pin}
 use Rattle.kd_state.specs.declared.setting.Setting.{Setting}
 use Rattle.kd_state.specs.declared.setting.Setting.TheVariants.{Pull, Put, Seat, SeatReflector, RingTo, Turn, PinTo, LugTo}
 use Rattle.kd_state.specs.Machine.{model_of}
 use Rattle.kd_state.specs.Setting.{Leads, changed}
-use Rattle.kd_state.specs.SheetDay.{Day, day_model}
+use Rattle.kd_state.specs.SheetDay.{Day, OfRotors, OfPins, day_model}
 use Rattle.kd_state.specs.OnKey.{ReadsAs}
-use Rattle.kd_state.specs.Costs.{cost_table, loose_count}
+use Rattle.kd_state.specs.Costs.{columns_of, cost_table, loose_count}
 use Rattle.kd_card.specs.declared.prices.PriceParts.{PriceParts}
 use Rattle.kd_card.specs.declared.prices.PriceParts.TheVariants.{Cables, Bars}
-use Rattle.kd_card.specs.Prices.{Fits, price_sum}
+use Rattle.kd_card.specs.declared.prices.Version.TheVariants.{ByNumber, ByKind}
+use Rattle.kd_card.specs.declared.group.Group.{Group}
+use Rattle.kd_card.specs.declared.group.Group.TheVariants.{OfCables, OfBars}
+use Rattle.kd_card.specs.declared.look.Look.{Look}
+use Rattle.kd_card.specs.declared.look.Look.TheVariants.{Cable, Pair, Bar, Row}
+use Rattle.kd_card.specs.declared.kinds.PricedKind.{PricedKind}
+use Rattle.kd_card.specs.Kinds.{look_rank}
+use Rattle.kd_card.specs.Prices.{version_of, row_kinds, column_kinds, row_prices, column_prices, price_at, price_sum, Fits, ArePrices}
+use Rattle.kd_card.specs.CardText.{group_of}
 
--- the prices are those of the machine's kind: of cables for a rotor machine, and of bars for a Converter M-209
+-- the prices are by number, and those of the machine's kind: of cables for a rotor machine, and of bars for a Converter M-209
 abbrev pub AreOfKind : Parts → PriceParts → Type 0
 AreOfKind (Rotor m) (Cables row col) = Unit {0}
 AreOfKind (Pin m) (Bars row col) = Unit {0}
@@ -48,14 +57,76 @@ AreNeeded m s (x ∷ xs) = IsNeeded m s x × AreNeeded (changed m x) s xs
 abbrev pub LeadsToTheDay : Parts → Day → List Setting → Type 0
 LeadsToTheDay m s settings = (n : Parts) × Leads m settings n × ReadsAs n s
 
--- the card proves itself
-pub record Proves (m : Parts) (s : Day) (settings : List Setting) (prices : PriceParts) : Type 0 where
+-- ---- prices by kind mean prices by number
+
+-- what the machine's cables or bars look like, and the day's pairs and nothings or rows
+abbrev pub row_looks : Parts → List Look
+row_looks (Rotor m) = map (λ ends. Cable ends) m.cables
+row_looks (Pin m) = map (λ standing. Bar standing) m.bars
+
+abbrev pub pair_in_order : Option (ℕ × ℕ) → Option (ℕ × ℕ)
+pair_in_order None = None
+pair_in_order (Some pair) = Some (in_order pair.0 pair.1)
+
+abbrev pub column_looks : Day → List Look
+column_looks (OfRotors s) = map (λ column. Pair (pair_in_order column)) (columns_of s.pairs)
+column_looks (OfPins s) = map (λ numbers. Row numbers) s.rows
+
+abbrev pub look_at : List Look → ℕ → Look
+look_at looks place = slice_index_or looks place (Pair None)
+
+-- how many of the looks are this one: looks of one name are told by their ranks
+abbrev pub alike_count : Look → List Look → ℕ
+alike_count look looks = count_by (λ other. nat_eq (look_rank other) (look_rank look)) looks
+
+-- the kind is of things that look so, and has this price
+pub record HasPrice (look : Look) (due : ℤ) (kind : PricedKind) : Type 0 where
+  pub alike : look_rank kind.look ≡ look_rank look
+  pub price : kind.price ≡ due
+
+-- one of the kinds is such
+abbrev pub IsPriced : Look → ℤ → List PricedKind → Type 0
+IsPriced look price [] = ⊥
+IsPriced look price (kind ∷ kinds) = HasPrice look price kind ⊎ IsPriced look price kinds
+
+-- there are as many things that look like the kind as it says
+pub record HasCount (looks : List Look) (kind : PricedKind) : Type 0 where
+  pub count : kind.count ≡ alike_count kind.look looks
+
+-- there is a price for each thing, that of its kind; and the kinds are those of the things, with as many as there are
+pub record AreExpanded (looks : List Look) (kinds : List PricedKind) (prices : List ℤ) : Type 0 where
+  pub number : length prices ≡ length looks
+  pub each : (place : ℕ) → place < length looks → IsPriced (look_at looks place) (price_at prices place) kinds
+  pub counts : All (HasCount looks) kinds
+
+-- prices by number are what they mean, and prices by kind mean a price for each cable or bar, pair or row
+pub data Expands (m : Parts) (s : Day) (prices numbered : PriceParts) : Type 0 where
+  Same : version_of prices ≡ ByNumber → prices ≡ numbered → Expands m s prices numbered
+  Expanded : version_of prices ≡ ByKind → version_of numbered ≡ ByNumber → group_of prices ≡ group_of numbered → ArePrices prices → ArePrices numbered
+      → AreExpanded (row_looks m) (row_kinds prices) (row_prices numbered)
+      → AreExpanded (column_looks s) (column_kinds prices) (column_prices numbered) → Expands m s prices numbered
+
+-- what prices the machine has: of cables or of bars, by number or by kind
+abbrev pub group_of_machine : Parts → Group
+group_of_machine (Rotor m) = OfCables
+group_of_machine (Pin m) = OfBars
+
+-- ---- the card proves itself
+
+-- its prices are by number, and prove it
+pub record ProvesByNumber (m : Parts) (s : Day) (settings : List Setting) (prices : PriceParts) : Type 0 where
   pub model : model_of m ≡ day_model s
   pub kind : AreOfKind m prices
   pub leads : LeadsToTheDay m s settings
   pub fits : Fits (cost_table m s) prices
   pub sum : price_sum prices ≡ pos (priced_count settings)
   pub needed : AreNeeded m s settings
+
+-- its prices mean such prices by number
+pub record Proves (m : Parts) (s : Day) (settings : List Setting) (prices : PriceParts) : Type 0 where
+  pub numbered : PriceParts
+  pub expands : Expands m s prices numbered
+  pub proves : ProvesByNumber m s settings numbered
 
 -- no settings whatever that lead the machine to the day are fewer
 abbrev pub IsShortest : Parts → Day → List Setting → Type 0

@@ -1,17 +1,21 @@
 -- What the steps of reading a card find at the front of the bytes.
-use Rattle.std.specs.Prelude.{◌≡◌, ℕ, ◌+◌, ◌≤◌, List, length, ℤ}
+use Rattle.std.specs.Prelude.{◌≡◌, ℕ, ◌+◌, ◌≤◌, List, ◌++◌, length, ℤ}
 use Rattle.kd_state.specs.declared.setting.Setting.{Setting}
 use Rattle.kd_state.specs.Line.{BeginsWith, BeginsWithNoLine}
 use Rattle.kd_state.specs.SheetDay.{IsDayNumber}
 use Rattle.kd_card.specs.declared.prices.PriceParts.{PriceParts}
+use Rattle.kd_card.specs.declared.prices.Version.{Version}
+use Rattle.kd_card.specs.declared.prices.Version.TheVariants.{ByNumber, ByKind}
+use Rattle.kd_card.specs.declared.group.Group.{Group}
+use Rattle.kd_card.specs.declared.kinds.PricedKind.{PricedKind}
 use Rattle.kd_card.specs.declared.fault.CardFault.{CardFault}
-use Rattle.kd_card.specs.Prices.{row_prices, column_prices, AreWithinReach, ArePrices}
-use Rattle.kd_card.specs.CardText.{Kind, kind_of, row_word, column_word, head_words, price_words}
-use Rattle.kd_card.specs.CardFault.{price_count, with_line, IsPricesFault, AreRows, AreColumns}
+use Rattle.kd_card.specs.Prices.{version_of, AreWithinReach, ArePrices}
+use Rattle.kd_card.specs.CardText.{row_word, column_word, row_name, column_name, price_count, head_words, price_words, lines_text, price_lines}
+use Rattle.kd_card.specs.CardFault.{with_line, IsPricesFault, AreRows, AreColumns, BeginsWithName, BeginsWithGroup, IsGroupFault, LacksGroup, EndsPrices}
 
 -- a card's head
-pub record BeginsWithHead (bytes : List ℕ) (day : ℕ) (rest : List ℕ) : Type 0 where
-  pub text : bytes ≡ with_line (head_words day) rest
+pub record BeginsWithHead (bytes : List ℕ) (version : Version) (day : ℕ) (rest : List ℕ) : Type 0 where
+  pub text : bytes ≡ with_line (head_words version day) rest
   pub of_month : IsDayNumber day
 
 -- all settings, up to a line that is none
@@ -25,16 +29,21 @@ pub record BeginsWithPrices (bytes word : List ℕ) (prices : List ℤ) (rest : 
   pub text : bytes ≡ with_line (price_words word prices) rest
   pub reach : AreWithinReach prices
 
--- both lines of prices
-pub record BeginsWithBoth (bytes : List ℕ) (prices : PriceParts) (rest : List ℕ) : Type 0 where
-  pub text :
-      let kind = kind_of prices in
-      let columns = with_line (price_words (column_word kind) (column_prices prices)) rest in
-      bytes ≡ with_line (price_words (row_word kind) (row_prices prices)) columns
+-- the lines of these prices, of that version
+pub record BeginsWithAll (bytes : List ℕ) (version : Version) (prices : PriceParts) (rest : List ℕ) : Type 0 where
+  pub of_version : version_of prices ≡ version
+  pub text : bytes ≡ lines_text (price_lines prices) ++ rest
   pub are_prices : ArePrices prices
+  pub ends : EndsPrices prices rest
 
--- one of both isn't what is due
-pub data LacksBoth (line : ℕ) (bytes : List ℕ) (fault : CardFault) : Type 0 where
-  InRows : IsPricesFault AreRows line bytes fault → LacksBoth line bytes fault
-  InColumns : (kind : Kind) (rows : List ℤ) (rest : List ℕ) → BeginsWithPrices bytes (row_word kind) rows rest → length rows ≡ price_count kind
-      → IsPricesFault (AreColumns kind) (line + 1) rest fault → LacksBoth line bytes fault
+-- one of the two lines of prices by number isn't what is due, or one of the two groups of kinds
+pub data LacksPrices (line : ℕ) (bytes : List ℕ) (version : Version) (fault : CardFault) : Type 0 where
+  InRows : version ≡ ByNumber → IsPricesFault AreRows line bytes fault → LacksPrices line bytes version fault
+  InColumns : version ≡ ByNumber → (group : Group) (rows : List ℤ) (rest : List ℕ) → BeginsWithPrices bytes (row_word group) rows rest
+      → length rows ≡ price_count group → IsPricesFault (AreColumns group) (line + 1) rest fault → LacksPrices line bytes version fault
+  InGroup : version ≡ ByKind → LacksGroup line bytes fault → LacksPrices line bytes version fault
+  InRowKinds : version ≡ ByKind → (group : Group) → BeginsWithName (row_name group) bytes
+      → IsGroupFault (row_name group) (price_count group) line bytes fault → LacksPrices line bytes version fault
+  InColumnKinds : version ≡ ByKind → (group : Group) (rows : List PricedKind) (rest : List ℕ)
+      → BeginsWithGroup (row_name group) (price_count group) bytes rows rest
+      → IsGroupFault (column_name group) (price_count group) (line + length rows) rest fault → LacksPrices line bytes version fault

@@ -1,5 +1,5 @@
 //! What holds of cards.
-ghost use Rattle.kd_card.specs.Laws.{TextsTellCards, CardsHaveNoFault, OneCardFault};
+ghost use Rattle.kd_card.specs.Laws.{RanksTellLooks, TextsTellCards, CardsHaveNoFault, OneCardFault};
 ghost use Rattle.kd_card.specs.Laws.{FittingPricesBoundLists, ProvingCardsAreAsLong, ProvingCardsAreShortest, ProvingPricesAreTight};
 
 use kd_state::laws::{
@@ -32,7 +32,12 @@ pub fn fitting_prices_bound_lists()
     columns_are_the_pairs();
 }
 
-/// A card that proves itself has as many settings as there are loose things and prices in sum.
+/// Looks of one name, each in its one form, are told by their ranks.
+pub fn ranks_tell_looks()
+    ensures { RanksTellLooks }
+{}
+
+/// A card that proves itself by number has as many settings as there are loose things and prices in sum.
 pub fn proving_cards_are_as_long()
     ensures { ProvingCardsAreAsLong }
 {}
@@ -46,7 +51,7 @@ pub fn proving_cards_are_shortest()
     columns_are_the_pairs();
 }
 
-/// In a card that proves itself each row's price and some column's are together the cost where they meet, and so are each
+/// In a card that proves itself by number each row's price and some column's are together the cost where they meet, and so are each
 /// column's and some row's.
 pub fn proving_prices_are_tight()
     ensures { ProvingPricesAreTight }

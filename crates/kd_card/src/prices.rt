@@ -1,17 +1,37 @@
-ghost use Rattle.std.specs.Prelude.{◌≡◌, ◌↔◌, ◌+◌, ◌*◌, ◌≤◌, length, fold, unsigned_abs, ◌+ℤ◌, IsTrue, MatchOption};
-ghost use Rattle.kd_card.specs.Prices.{price_sum, AreWithinReach, ArePrices};
+ghost use Rattle.std.specs.Prelude.{◌≡◌, ◌↔◌, ◌+◌, ◌*◌, ◌<◌, ◌≤◌, length, fold, unsigned_abs, ◌+ℤ◌, IsTrue, MatchOption};
+ghost use Rattle.kd_card.specs.Kinds.{counted, AreKinds, AreCalled};
+ghost use Rattle.kd_card.specs.Prices.{price_sum, how_many, version_of, row_kinds, column_kinds, AreWithinReach, ArePrices};
+ghost use Rattle.kd_card.specs.CardText.{row_name, column_name, price_count, price_lines, IsGroup, HaveKinds};
 
+use super::group::Group;
+use super::kinds::{
+    AsKind, BarKind, CableKind, PairKind, PricedKind, RowKind, are_kinds, kinds_of, own_kinds,
+    sum_of_kinds,
+};
+use arrayvec::ArrayVec;
 use std::marker::Model;
 
-/// The prices of a card: of the cables and of the pairs and nothings, or of the bars and of the sheet's rows.
-#[derive(Clone, Copy, Debug)]
+/// What the prices of a card are by.
+#[derive(Clone, Copy, Debug, PartialEq, Eq)]
+pub enum Version {
+    /// Each cable, pair, bar or row has a price of its own.
+    ByNumber,
+    /// Each kind of them has one.
+    ByKind,
+}
+
+/// The prices of a card: of the cables and of the pairs and nothings, or of the bars and of the sheet's rows; or of the kinds
+/// of each.
+#[derive(Debug, Drop)]
 pub enum PriceParts {
     Cables([i16; 13], [i16; 13]),
     Bars([i16; 27], [i16; 27]),
+    CableKinds(ArrayVec<CableKind, 13>, ArrayVec<PairKind, 13>),
+    BarKinds(ArrayVec<BarKind, 27>, ArrayVec<RowKind, 27>),
 }
 
 /// The prices of a card, each from -9999 to 9999.
-#[derive(Clone, Copy, Debug)]
+#[derive(Debug, Drop)]
 pub struct Prices {
     parts: PriceParts,
 }
@@ -57,6 +77,82 @@ impl Prices {
         }
     }
 
+    /// The prices of the kinds of cables, and of the kinds of pairs and nothings; none where a kind isn't in the form in which
+    /// it is written, or the kinds of a group aren't in order, each once, or aren't of 13 things together, or a price is
+    /// below -9999 or above 9999.
+    pub fn cable_kinds(cables: &[CableKind], pairs: &[PairKind]) -> Option<Self>
+        ensures { MatchOption result
+            (¬ (ArePrices (PriceParts.CableKinds (record { items = cables.now }) (record { items = pairs.now }))))
+            (λ prices. prices ≡ PriceParts.CableKinds (record { items = cables.now }) (record { items = pairs.now })) }
+    {
+        let cables = copied(cables)?;
+        let pairs = copied(pairs)?;
+        Prices::of_kinds(PriceParts::CableKinds(cables, pairs), 13)
+    }
+
+    /// The prices of the kinds of bars, and of the kinds of the sheet's rows; none where a kind isn't in the form in which it
+    /// is written, or the kinds of a group aren't in order, each once, or aren't of 27 things together, or a price is below
+    /// -9999 or above 9999.
+    pub fn bar_kinds(bars: &[BarKind], rows: &[RowKind]) -> Option<Self>
+        ensures { MatchOption result
+            (¬ (ArePrices (PriceParts.BarKinds (record { items = bars.now }) (record { items = rows.now }))))
+            (λ prices. prices ≡ PriceParts.BarKinds (record { items = bars.now }) (record { items = rows.now })) }
+    {
+        let bars = copied(bars)?;
+        let rows = copied(rows)?;
+        Prices::of_kinds(PriceParts::BarKinds(bars, rows), 27)
+    }
+
+    /// The prices of these kinds, if the kinds of both groups are in order, each once, and of so many things.
+    fn of_kinds(parts: PriceParts, number: usize) -> Option<Self>
+        requires kinds { version_of parts ≡ Version.ByKind }
+        requires number { number ≡ how_many parts }
+        ensures { MatchOption result (¬ (ArePrices parts)) (λ prices. prices ≡ parts) }
+    {
+        if !are_kinds(parts.row_kinds().as_slice(), number) {
+            return None;
+        }
+        if !are_kinds(parts.column_kinds().as_slice(), number) {
+            return None;
+        }
+        Some(Prices::of_parts(parts))
+    }
+
+    /// The prices of these kinds of rows and columns of a group.
+    pub fn of_groups(group: Group, rows: &[PricedKind], columns: &[PricedKind]) -> Self
+        requires rows { IsGroup (row_name group) (price_count group) rows.now }
+        requires columns { IsGroup (column_name group) (price_count group) columns.now }
+        ensures kinds { HaveKinds group rows.now columns.now result }
+        ensures are_prices { ArePrices result }
+    {
+        let parts = match group {
+            Group::OfCables => PriceParts::CableKinds(own_kinds(rows), own_kinds(columns)),
+            Group::OfBars => PriceParts::BarKinds(own_kinds(rows), own_kinds(columns)),
+        };
+        Prices::of_parts(parts)
+    }
+
+    /// What the prices are by.
+    pub(crate) fn version(&self) -> Version
+        ensures { result ≡ version_of self.now }
+    {
+        match self.parts {
+            PriceParts::Cables(..) | PriceParts::Bars(..) => Version::ByNumber,
+            PriceParts::CableKinds(..) | PriceParts::BarKinds(..) => Version::ByKind,
+        }
+    }
+
+    /// How many lines of a card the prices take.
+    pub(crate) fn line_count(&self) -> usize
+        ensures value { result ≡ length (price_lines self.now) }
+        ensures few { result ≤ 54 }
+    {
+        match self.version() {
+            Version::ByNumber => 2,
+            Version::ByKind => self.row_kinds().len() + self.column_kinds().len(),
+        }
+    }
+
     /// The prices that these are.
     pub(crate) fn of_parts(parts: PriceParts) -> Self
         requires { ArePrices parts }
@@ -65,22 +161,85 @@ impl Prices {
         Prices { parts }
     }
 
-    /// The prices, row by row and column by column.
+    /// The prices, row by row and column by column, or kind by kind.
     pub fn parts(&self) -> PriceParts
         ensures value { result ≡ self.now }
         ensures are_prices { ArePrices result }
     {
-        self.parts
+        self.parts.copied()
+    }
+
+    /// The kinds of the cables, or of the bars; none for prices by number.
+    pub fn row_kinds(&self) -> ArrayVec<PricedKind, 27>
+        ensures { result.items ≡ row_kinds self.now }
+    {
+        self.parts.row_kinds()
+    }
+
+    /// The kinds of the pairs and nothings, or of the sheet's rows; none for prices by number.
+    pub fn column_kinds(&self) -> ArrayVec<PricedKind, 27>
+        ensures { result.items ≡ column_kinds self.now }
+    {
+        self.parts.column_kinds()
     }
 
     /// The sum of all prices.
     pub fn sum(&self) -> i32
         ensures { result ≡ price_sum self.now }
     {
-        let Prices { parts } = *self;
-        match parts {
-            PriceParts::Cables(rows, columns) => sum_onto(sum_onto(0, &rows), &columns),
-            PriceParts::Bars(rows, columns) => sum_onto(sum_onto(0, &rows), &columns),
+        match &self.parts {
+            PriceParts::Cables(rows, columns) => sum_onto(sum_onto(0, rows), columns),
+            PriceParts::Bars(rows, columns) => sum_onto(sum_onto(0, rows), columns),
+            PriceParts::CableKinds(..) | PriceParts::BarKinds(..) => self.parts.sum_by_kind(),
+        }
+    }
+}
+
+impl PriceParts {
+    /// The sum of the prices by kind, each as often as there are things of the kind.
+    fn sum_by_kind(&self) -> i32
+        requires kinds { version_of self.now ≡ Version.ByKind }
+        requires prices { ArePrices self.now }
+        ensures { result ≡ price_sum self.now }
+    {
+        let rows = sum_of_kinds(0, self.row_kinds().as_slice());
+        sum_of_kinds(rows, self.column_kinds().as_slice())
+    }
+
+    /// The same prices once more.
+    fn copied(&self) -> Self
+        requires { ArePrices self.now }
+        ensures { result ≡ self.now }
+    {
+        match self {
+            PriceParts::Cables(cables, pairs) => PriceParts::Cables(*cables, *pairs),
+            PriceParts::Bars(bars, rows) => PriceParts::Bars(*bars, *rows),
+            PriceParts::CableKinds(cables, pairs) => {
+                PriceParts::CableKinds(copy_of(cables), copy_of(pairs))
+            }
+            PriceParts::BarKinds(bars, rows) => PriceParts::BarKinds(copy_of(bars), copy_of(rows)),
+        }
+    }
+
+    /// The kinds of the cables, or of the bars.
+    fn row_kinds(&self) -> ArrayVec<PricedKind, 27>
+        ensures { result.items ≡ row_kinds self.now }
+    {
+        match self {
+            PriceParts::Cables(..) | PriceParts::Bars(..) => ArrayVec::new(),
+            PriceParts::CableKinds(cables, _) => kinds_of(cables.as_slice()),
+            PriceParts::BarKinds(bars, _) => kinds_of(bars.as_slice()),
+        }
+    }
+
+    /// The kinds of the pairs and nothings, or of the sheet's rows.
+    fn column_kinds(&self) -> ArrayVec<PricedKind, 27>
+        ensures { result.items ≡ column_kinds self.now }
+    {
+        match self {
+            PriceParts::Cables(..) | PriceParts::Bars(..) => ArrayVec::new(),
+            PriceParts::CableKinds(_, pairs) => kinds_of(pairs.as_slice()),
+            PriceParts::BarKinds(_, rows) => kinds_of(rows.as_slice()),
         }
     }
 }
@@ -105,4 +264,18 @@ fn sum_onto(sum: i32, prices: &[i16]) -> i32
         total += i32::from(*price);
     }
     total
+}
+
+/// The elements, if there is room for them.
+fn copied<K: Copy + Default, const N: usize>(kinds: &[K]) -> Option<ArrayVec<K, N>>
+    ensures { MatchOption result (N < length kinds.now) (λ copy. copy.items ≡ kinds.now) }
+{
+    ArrayVec::try_from(kinds).ok()
+}
+
+/// The same elements once more.
+fn copy_of<K: Copy + Default, const N: usize>(kinds: &ArrayVec<K, N>) -> ArrayVec<K, N>
+    ensures { result.items ≡ kinds.now.items }
+{
+    copied(kinds.as_slice()).unwrap()
 }

@@ -1,18 +1,19 @@
 //! Cards, read off their text.
-ghost use Rattle.std.specs.Prelude.{◌≡◌, ◌≢◌, ℕ, ◌+◌, ◌<◌, ◌≤◌, ◌↔◌, ◌++◌, List, length, codes, decimal, slice_index, IsTrue, MatchOption, MatchResult};
+ghost use Rattle.std.specs.Prelude.{◌≡◌, ◌≢◌, ℕ, ◌+◌, ◌<◌, ◌≤◌, ◌↔◌, ◌++◌, List, [], ◌∷◌, length, codes, decimal, slice_index, IsTrue, MatchOption, MatchResult};
 ghost use Rattle.std.specs.Fmt.{signed_decimal};
 ghost use Rattle.kd_state.specs.declared.setting.Setting.{Setting};
-ghost use Rattle.kd_state.specs.Words.{IsFirstPart};
+ghost use Rattle.kd_state.specs.Words.{line_of, IsWithout, IsFirstPart};
 ghost use Rattle.kd_state.specs.Line.{BeginsWith, BeginsWithLine, BeginsWithNoLine};
 ghost use Rattle.kd_state.specs.SheetDay.{IsDayNumber};
-ghost use Rattle.kd_card.specs.CardText.{IsCard, head_words, settings_words, sum_words};
+ghost use Rattle.kd_card.specs.CardText.{IsCard, version_text, settings_words, sum_words};
 ghost use Rattle.kd_card.specs.CardFault.{with_line, IsNumberText, IsSignedText, IsValueFault, IsPricesFault, IsCardFault};
-ghost use Rattle.kd_card.specs.Reading.{BeginsWithHead, BeginsWithSettings, BeginsWithPrices, BeginsWithBoth, LacksBoth};
+ghost use Rattle.kd_card.specs.Reading.{BeginsWithHead, BeginsWithSettings, BeginsWithPrices, BeginsWithAll, LacksPrices};
 
 use super::card::Card;
 use super::fault::CardFault;
+use super::kind_text::{first_group, read_kinds};
 use super::price_text::{is_number_text, is_signed_text, prices_of_text};
-use super::prices::{PriceParts, Prices};
+use super::prices::{PriceParts, Prices, Version};
 use arrayvec::ArrayVec;
 use itoa::Buffer;
 use kd_state::laws::{numbers_and_letters_are_words, texts_tell_first_parts};
@@ -24,7 +25,7 @@ pub fn read_card(text: &[u8]) -> Result<(u8, Card), CardFault>
         (λ found. IsCard text.now found.0 found.1.settings.items found.1.prices)
         (IsCardFault text.now) }
 {
-    let Some((day, rest)) = read_head(text) else {
+    let Some((version, day, rest)) = read_head(text) else {
         return Err(CardFault::BadHead);
     };
     let Some((settings, rest)) = read_settings(rest) else {
@@ -32,11 +33,11 @@ pub fn read_card(text: &[u8]) -> Result<(u8, Card), CardFault>
     };
     let count = settings.len();
     let rest = read_count(rest, count)?;
-    let (prices, rest) = match read_prices(rest, count + 3) {
+    let (prices, rest) = match read_prices(rest, version, count + 3) {
         Ok(found) => found,
         Err(fault) => return Err(fault),
     };
-    let rest = read_sum(rest, prices.sum(), count + 5)?;
+    let rest = read_sum(rest, prices.sum(), count + 3 + prices.line_count())?;
     if !rest.is_empty() {
         return Err(CardFault::Trailing);
     }
@@ -54,20 +55,44 @@ fn split_value<'a>(text: &'a [u8], name: &[u8]) -> Option<(&'a [u8], &'a [u8])>
     Some((line.strip_prefix(name)?, rest))
 }
 
-/// The day of the card whose head is the first line, and what follows that line.
-fn read_head(text: &[u8]) -> Option<(u8, &[u8])>
+/// What the prices are by, and the day, of the card whose head is the first line; and what follows that line.
+fn read_head(text: &[u8]) -> Option<(Version, u8, &[u8])>
     ensures { MatchOption result
-        ((day : ℕ) (rest : List ℕ) → ¬ (BeginsWithHead text.now day rest))
-        (λ found. BeginsWithHead text.now found.0 found.1.now) }
+        ((version : _) (day : ℕ) (rest : List ℕ) → ¬ (BeginsWithHead text.now version day rest))
+        (λ found. BeginsWithHead text.now found.0 found.1 found.2.now) }
+{
+    if let Some((day, rest)) = read_head_of(text, Version::ByNumber) {
+        return Some((Version::ByNumber, day, rest));
+    }
+    let (day, rest) = read_head_of(text, Version::ByKind)?;
+    Some((Version::ByKind, day, rest))
+}
+
+/// The day of the card of that version whose head is the first line, and what follows that line.
+fn read_head_of(text: &[u8], version: Version) -> Option<(u8, &[u8])>
+    ensures { MatchOption result
+        ((day : ℕ) (rest : List ℕ) → ¬ (BeginsWithHead text.now version day rest))
+        (λ found. BeginsWithHead text.now version found.0 found.1.now) }
 {
     texts_tell_first_parts();
     numbers_and_letters_are_words();
-    let (day, rest) = split_value(text, b"CARD 1 DAY ")?;
+    let (day, rest) = split_value(text, head_front(version))?;
     let day = number_of_text(day)?;
     if day < 1 || day > 31 {
         return None;
     }
     Some((day, rest))
+}
+
+/// What stands before the day in the head of a card.
+fn head_front(version: Version) -> &'static [u8]
+    ensures front { (day : List ℕ) → line_of (codes "CARD" ∷ version_text version ∷ codes "DAY" ∷ day ∷ []) ≡ result.now ++ day }
+    ensures unbroken { IsWithout 10 result.now }
+{
+    match version {
+        Version::ByNumber => b"CARD 1 DAY ",
+        Version::ByKind => b"CARD 2 DAY ",
+    }
 }
 
 /// The settings whose lines stand at the front of the text, up to the first line that is none, and what follows them; none
@@ -110,12 +135,25 @@ fn read_count(text: &[u8], count: usize) -> Result<&[u8], CardFault>
     Err(CardFault::CountWrong)
 }
 
-/// The prices of the two lines at the front of the text, of which the first is that of this number, and what follows.
-fn read_prices(text: &[u8], line: usize) -> Result<(Prices, &[u8]), CardFault>
+/// The prices at the front of the text, in lines of which the first is that of this number, and what follows.
+fn read_prices(text: &[u8], version: Version, line: usize) -> Result<(Prices, &[u8]), CardFault>
     requires { line < 200 }
     ensures { MatchResult result
-        (λ found. BeginsWithBoth text.now found.0 found.1.now)
-        (LacksBoth line text.now) }
+        (λ found. BeginsWithAll text.now version found.0 found.1.now)
+        (LacksPrices line text.now version) }
+{
+    match version {
+        Version::ByNumber => read_numbered(text, line),
+        Version::ByKind => read_kinded(text, line),
+    }
+}
+
+/// The prices of the two lines at the front of the text, of which the first is that of this number, and what follows.
+fn read_numbered(text: &[u8], line: usize) -> Result<(Prices, &[u8]), CardFault>
+    requires { line < 200 }
+    ensures { MatchResult result
+        (λ found. BeginsWithAll text.now Version.ByNumber found.0 found.1.now)
+        (LacksPrices line text.now Version.ByNumber) }
 {
     if is_of_bars(text) {
         let (bars, rest) = read_price_line::<27>(text, b"BARS", line)?;
@@ -126,6 +164,24 @@ fn read_prices(text: &[u8], line: usize) -> Result<(Prices, &[u8]), CardFault>
         let (pairs, rest) = read_price_line::<13>(rest, b"PAIRS", line + 1)?;
         Ok((Prices::of_parts(PriceParts::Cables(cables, pairs)), rest))
     }
+}
+
+/// The prices of the two groups of kinds at the front of the text, of which the first line is that of this number, and what
+/// follows.
+fn read_kinded(text: &[u8], line: usize) -> Result<(Prices, &[u8]), CardFault>
+    requires { line < 200 }
+    ensures { MatchResult result
+        (λ found. BeginsWithAll text.now Version.ByKind found.0 found.1.now)
+        (LacksPrices line text.now Version.ByKind) }
+{
+    let group = first_group(text, line)?;
+    let number = group.number();
+    let (rows, rest) = read_kinds(text, group.row_name(), number, line)?;
+    let (columns, rest) = read_kinds(rest, group.column_name(), number, line + rows.len())?;
+    Ok((
+        Prices::of_groups(group, rows.as_slice(), columns.as_slice()),
+        rest,
+    ))
 }
 
 /// Whether the prices can only be those of bars, by the first letter of their line.

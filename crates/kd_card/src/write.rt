@@ -6,19 +6,20 @@ ghost use Rattle.arrayvec.specs.ArrayString.{array_string_len};
 ghost use Rattle.kd_tables.specs.Writing.{Writes};
 ghost use Rattle.kd_state.specs.Line.{list_text, IsInRange};
 ghost use Rattle.kd_state.specs.SheetDay.{IsDayNumber};
-ghost use Rattle.kd_card.specs.Prices.{row_prices, column_prices, price_sum, AreWithinReach, ArePrices};
-ghost use Rattle.kd_card.specs.CardText.{card_text, kind_of, row_word, column_word, head_words, settings_words, price_words, sum_words, IsCard};
+ghost use Rattle.kd_card.specs.Prices.{price_sum, AreWithinReach, ArePrices};
+ghost use Rattle.kd_card.specs.CardText.{card_text, head_words, settings_words, price_words, sum_words, lines_text, price_lines, IsCard};
 ghost use Rattle.kd_card.specs.CardFault.{with_line};
 
 use super::card::Card;
-use super::prices::{PriceParts, Prices};
+use super::kind_text::push_kinds;
+use super::prices::{PriceParts, Prices, Version};
 use arrayvec::ArrayString;
 use itoa::Buffer;
 use kd_state::{Setting, push_number};
 use kd_tables::{Device, Sink, put_all};
 
-/// No text of a card is longer: the head, 192 settings and their number, twice 27 prices and their sum.
-const LONGEST: usize = 5120;
+/// No text of a card is longer: the head, 192 settings and their number, twice 27 prices or kinds, and their sum.
+const LONGEST: usize = 6144;
 
 /// Writes the text of the card for that day. A sink that fails has taken a prefix of it.
 pub fn write_card<W: Sink>(sink: &mut W, day: u8, card: &Card) -> Result<(), Device>
@@ -40,7 +41,7 @@ fn text_of(day: u8, card: &Card) -> ArrayString<LONGEST>
     ensures few { length card.now.settings.items ≤ 192 }
 {
     let mut text = ArrayString::new();
-    push_head(&mut text, day);
+    push_head(&mut text, card.prices.version(), day);
     push_settings(&mut text, card.settings.as_slice());
     push_count(&mut text, card.settings.len());
     push_prices(&mut text, &card.prices);
@@ -49,12 +50,15 @@ fn text_of(day: u8, card: &Card) -> ArrayString<LONGEST>
 }
 
 /// Appends the head.
-fn push_head<const N: usize>(text: &mut ArrayString<N>, day: u8)
+fn push_head<const N: usize>(text: &mut ArrayString<N>, version: Version, day: u8)
     requires { array_string_len text.old + 15 ≤ N }
-    ensures bytes { text.new.bytes ≡ text.old.bytes ++ with_line (head_words day) [] }
+    ensures bytes { text.new.bytes ≡ text.old.bytes ++ with_line (head_words version day) [] }
     ensures len { array_string_len text.new ≤ array_string_len text.old + 15 }
 {
-    text.push_str("CARD 1 DAY ");
+    match version {
+        Version::ByNumber => text.push_str("CARD 1 DAY "),
+        Version::ByKind => text.push_str("CARD 2 DAY "),
+    }
     push_number(text, day);
     text.push_str("\n");
 }
@@ -94,14 +98,11 @@ fn push_count<const N: usize>(text: &mut ArrayString<N>, count: usize)
     text.push_str("\n");
 }
 
-/// Appends the two lines of prices.
+/// Appends the lines of the prices.
 fn push_prices<const N: usize>(text: &mut ArrayString<N>, prices: &Prices)
-    requires { array_string_len text.old + 400 ≤ N }
-    ensures bytes { let kind = kind_of prices.now in
-        let rows = price_words (row_word kind) (row_prices prices.now) in
-        let columns = price_words (column_word kind) (column_prices prices.now) in
-        text.new.bytes ≡ text.old.bytes ++ with_line rows (with_line columns []) }
-    ensures len { array_string_len text.new ≤ array_string_len text.old + 400 }
+    requires { array_string_len text.old + 1296 ≤ N }
+    ensures bytes { text.new.bytes ≡ text.old.bytes ++ lines_text (price_lines prices.now) }
+    ensures len { array_string_len text.new ≤ array_string_len text.old + 1296 }
 {
     match prices.parts() {
         PriceParts::Cables(cables, pairs) => {
@@ -111,6 +112,10 @@ fn push_prices<const N: usize>(text: &mut ArrayString<N>, prices: &Prices)
         PriceParts::Bars(bars, rows) => {
             push_price_line(text, "BARS", &bars);
             push_price_line(text, "ROWS", &rows);
+        }
+        PriceParts::CableKinds(..) | PriceParts::BarKinds(..) => {
+            push_kinds(text, prices.row_kinds().as_slice());
+            push_kinds(text, prices.column_kinds().as_slice());
         }
     }
 }

@@ -23,7 +23,7 @@ use Rattle.kd_state.specs.Machine.{IsMachine, model_of, ring_at, letter_at}
 use Rattle.kd_state.specs.SheetDay.{RotorDay, PinDay, Day, OfRotors, OfPins, IsLegalDay, IsLegalRotorDay, IsLegalPinDay, day_model}
 use Rattle.kd_state.specs.Costs.{differ, columns_of, cable_cost, bar_cost, cost_table}
 use Rattle.kd_card.specs.declared.prices.PriceParts.{PriceParts}
-use Rattle.kd_card.specs.Proving.{priced_count, Proves}
+use Rattle.kd_card.specs.Proving.{priced_count, ProvesByNumber}
 use Rattle.kd_assign.specs.Assignment.{assignment_cost}
 use Rattle.kd_plan.specs.Planned.{unless_so, seat_lines, reflector_lines, in_box_order, ring_lines, turn_lines, letters_apart, pull_lines, put_lines, pin_lines, pin_turn_lines, target_of, lugs_to, lug_lines, planned_lines, table_size, IsPlanned}
 use Rattle.kd_plan.specs.Laws.{PlannedLinesLead, PlannedCardsProve}
@@ -155,7 +155,7 @@ total told (Pin m) (OfPins s) to machine legal same pairing = pin_total m s to m
 total told (Rotor m) (OfPins s) to machine legal same pairing = absurd (no_rotors m.model m.reflector same machine.legal.reflector)
 total told (Pin m) (OfRotors s) to machine legal same pairing = absurd (no_rotors s.model s.reflector (sym same) legal.reflector)
 
-proves : Told → (m : Parts) (s : Day) (settings : List Setting) (prices : PriceParts) (h : IsPlanned m s settings prices) → IsMachine m → IsLegalDay s → Proves m s (planned_lines m s h.to) prices
+proves : Told → (m : Parts) (s : Day) (settings : List Setting) (prices : PriceParts) (h : IsPlanned m s settings prices) → IsMachine m → IsLegalDay s → ProvesByNumber m s (planned_lines m s h.to) prices
 proves told m s settings prices h machine legal =
     let pairing = pairing_of (table_size m) h.to h.all_rows h.one_to_one in
     let there = reaches told m s h.to machine legal h.model pairing in
@@ -169,4 +169,4 @@ proves told m s settings prices h machine legal =
     }
 
 pub planned_cards_prove : Told → PlannedCardsProve
-planned_cards_prove told m s settings prices machine legal h = subst (λ lines. Proves m s lines prices) (sym h.lines) (proves told m s settings prices h machine legal)
+planned_cards_prove told m s settings prices machine legal h = subst (λ lines. ProvesByNumber m s lines prices) (sym h.lines) (proves told m s settings prices h machine legal)

@@ -8,8 +8,11 @@ use Rattle.kd_state.specs.declared.machine.rotor_parts.RotorParts.{RotorParts}
 use Rattle.kd_state.specs.declared.machine.pin_parts.PinParts.{PinParts}
 use Rattle.kd_state.specs.declared.machine.parts.Parts.TheVariants.{Rotor, Pin}
 use Rattle.kd_card.specs.declared.prices.PriceParts.{PriceParts}
-use Rattle.kd_card.specs.declared.prices.PriceParts.TheVariants.{Cables, Bars}
-use Rattle.kd_card.specs.Prices.{ArePrices, how_many, row_prices, column_prices}
+use Rattle.kd_card.specs.declared.prices.PriceParts.TheVariants.{Cables, Bars, CableKinds, BarKinds}
+use Rattle.kd_card.specs.declared.prices.Version.TheVariants.{ByNumber}
+use Rattle.kd_state.specs.declared.machine.parts.Parts.{Parts}
+use Rattle.kd_card.specs.Prices.{ArePrices, version_of, how_many, row_kinds, column_kinds, row_prices, column_prices}
+use Rattle.kd_card.specs.Kinds.{AreKinds}
 use Rattle.kd_card.specs.Prices as card
 use Rattle.kd_card.specs.Proving.{AreOfKind}
 use Rattle.kd_assign.specs.Assignment.{assignment_cost}
@@ -19,13 +22,15 @@ pub made : {X : Type 0} (o : Option X) (P : Type 0) (Q : X → Type 0) → Match
 made None P Q h p = absurd (h p)
 made (Some x) P Q h p = refl
 
-pub prices_of : (prices : PriceParts) (most : ℕ) → most ≤ 9999 → length (row_prices prices) ≡ how_many prices → length (column_prices prices) ≡ how_many prices
+pub prices_of : (prices : PriceParts) (most : ℕ) → most ≤ 9999 → row_kinds prices ≡ [] → column_kinds prices ≡ [] → length (row_prices prices) ≡ how_many prices → length (column_prices prices) ≡ how_many prices
     → All (λ price. unsigned_abs price ≤ most) (row_prices prices) → All (λ price. unsigned_abs price ≤ most) (column_prices prices) → ArePrices prices
-prices_of prices most le rows columns row_bound column_bound = record {
+prices_of prices most le no_rows no_columns rows columns row_bound column_bound = record {
   rows = rows;
   columns = columns;
   row_reach = λ k d lt. omega (arith, row_bound k d lt);
   column_reach = λ k d lt. omega (arith, column_bound k d lt);
+  row_kinds = subst (AreKinds 0) (sym no_rows) tt;
+  column_kinds = subst (AreKinds 0) (sym no_columns) tt;
 }
 
 -- prices of 0
@@ -104,3 +109,14 @@ cables_kind m prices false row col row' col' e = subst (AreOfKind (Rotor m)) (sy
 pub bars_kind : (m : PinParts) (prices : PriceParts) (b : Bool) (row col row' col' : List ℤ) → prices ≡ (if b then Bars row col else Bars row' col') → AreOfKind (Pin m) prices
 bars_kind m prices true row col row' col' e = subst (AreOfKind (Pin m)) (sym e) tt
 bars_kind m prices false row col row' col' e = subst (AreOfKind (Pin m)) (sym e) tt
+
+-- so they are by number
+pub by_number : (m : Parts) (prices : PriceParts) → AreOfKind m prices → version_of prices ≡ ByNumber
+by_number (Rotor m) (Cables row col) kind = refl
+by_number (Pin m) (Bars row col) kind = refl
+by_number (Rotor m) (Bars row col) kind = absurd kind
+by_number (Rotor m) (CableKinds row col) kind = absurd kind
+by_number (Rotor m) (BarKinds row col) kind = absurd kind
+by_number (Pin m) (Cables row col) kind = absurd kind
+by_number (Pin m) (CableKinds row col) kind = absurd kind
+by_number (Pin m) (BarKinds row col) kind = absurd kind

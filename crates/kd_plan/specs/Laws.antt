@@ -5,7 +5,7 @@ use Rattle.kd_state.specs.declared.setting.Setting.{Setting}
 use Rattle.kd_state.specs.Machine.{IsMachine, model_of}
 use Rattle.kd_state.specs.SheetDay.{Day, IsLegalDay, day_model}
 use Rattle.kd_card.specs.declared.prices.PriceParts.{PriceParts}
-use Rattle.kd_card.specs.Proving.{LeadsToTheDay, Proves}
+use Rattle.kd_card.specs.Proving.{LeadsToTheDay, ProvesByNumber}
 use Rattle.kd_assign.specs.Assignment.{IsOneToOne}
 use Rattle.kd_plan.specs.Planned.{IsPlanned, planned_lines, table_size}
 
@@ -19,4 +19,4 @@ PlannedLinesLead =
 abbrev pub PlannedCardsProve : Type 0
 PlannedCardsProve =
     (m : Parts) (s : Day) (settings : List Setting) (prices : PriceParts) → IsMachine m → IsLegalDay s → IsPlanned m s settings prices
-    → Proves m s settings prices
+    → ProvesByNumber m s settings prices

@@ -28,7 +28,7 @@ use Rattle.kd_state.specs.SheetDay.{Day, OfRotors, OfPins, day_model}
 use Rattle.kd_state.specs.Costs.{differ, column_letters, columns_of, nearest_standing, cost_table}
 use Rattle.kd_card.specs.declared.prices.PriceParts.{PriceParts}
 use Rattle.kd_card.specs.Prices.{row_prices, column_prices, Fits, price_sum}
-use Rattle.kd_card.specs.Proving.{AreOfKind, LeadsToTheDay, Proves, IsShortest}
+use Rattle.kd_card.specs.Proving.{AreOfKind, LeadsToTheDay, ProvesByNumber, IsShortest}
 use Rattle.kd_assign.specs.Assignment.{IsOneToOne, assignment_cost}
 
 -- the setting, where it is not so already
@@ -140,5 +140,5 @@ pub record IsPlanned (m : Parts) (s : Day) (settings : List Setting) (prices : P
 pub record Plans (m : Parts) (s : Day) (settings : List Setting) (prices : PriceParts) : Type 0 where
   pub planned : IsPlanned m s settings prices
   pub leads : LeadsToTheDay m s settings
-  pub proves : Proves m s settings prices
+  pub proves : ProvesByNumber m s settings prices
   pub shortest : IsShortest m s settings

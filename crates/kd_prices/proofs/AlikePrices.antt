@@ -15,7 +15,7 @@ use Rattle.kd_state.specs.OnKey.{SameLetters}
 use Rattle.kd_state.specs.Laws.{TestsTellLetters, ThirteenColumns, ColumnsAreThePairs}
 use Rattle.kd_state.specs.Costs.{differ, column_letters, cable_cost, bar_cost, columns_of}
 use Rattle.kd_card.specs.declared.prices.PriceParts.{PriceParts}
-use Rattle.kd_card.specs.declared.prices.PriceParts.TheVariants.{Cables, Bars}
+use Rattle.kd_card.specs.declared.prices.PriceParts.TheVariants.{Cables, Bars, CableKinds, BarKinds}
 use Rattle.kd_card.specs.Prices.{row_prices, column_prices, how_many, price_at, cost_at, Fits, AreTight}
 use Rattle.kd_card.specs.Laws.{ProvingPricesAreTight}
 use Rattle.kd_prices.specs.Laws.{AlikePricesAreEqual}
@@ -103,3 +103,7 @@ alike_prices_are_equal told (Rotor m) (OfPins s) settings prices machine legal a
 alike_prices_are_equal told (Pin m) (OfRotors s) settings prices machine legal are_prices h = absurd (no_rotors s.model s.reflector (sym h.model) legal.reflector)
 alike_prices_are_equal told (Rotor m) (OfRotors s) settings (Bars row column) machine legal are_prices h = absurd h.kind
 alike_prices_are_equal told (Pin m) (OfPins s) settings (Cables row column) machine legal are_prices h = absurd h.kind
+alike_prices_are_equal told (Rotor m) (OfRotors s) settings (CableKinds row column) machine legal are_prices h = absurd h.kind
+alike_prices_are_equal told (Rotor m) (OfRotors s) settings (BarKinds row column) machine legal are_prices h = absurd h.kind
+alike_prices_are_equal told (Pin m) (OfPins s) settings (CableKinds row column) machine legal are_prices h = absurd h.kind
+alike_prices_are_equal told (Pin m) (OfPins s) settings (BarKinds row column) machine legal are_prices h = absurd h.kind

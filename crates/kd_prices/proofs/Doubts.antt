@@ -13,11 +13,12 @@ use Rattle.kd_state.specs.Laws.{LeadsToOne}
 use Rattle.kd_card.specs.declared.prices.PriceParts.{PriceParts}
 use Rattle.kd_card.specs.Prices.{Fits, price_sum}
 use Rattle.kd_card.specs.Carrying.{IsFirstIllegal}
-use Rattle.kd_card.specs.Proving.{AreNeeded, LeadsToTheDay, Proves, priced_count}
+use Rattle.kd_card.specs.Proving.{AreNeeded, LeadsToTheDay, Proves, ProvesByNumber, priced_count}
 use Rattle.kd_prices.specs.declared.doubt.Doubt.{Doubt}
-use Rattle.kd_prices.specs.declared.doubt.Doubt.TheVariants.{OtherModel, IllegalAt, NotTheSheet, PriceTooHigh, SumDiffers, NeedlessLine}
-use Rattle.kd_prices.specs.Doubt.{AreOfOneModel, IsFirstWithout, IsFirstNeedless, IsDoubt}
+use Rattle.kd_prices.specs.declared.doubt.Doubt.TheVariants.{OtherModel, PriceMissing, IllegalAt, NotTheSheet, PriceTooHigh, SumDiffers, NeedlessLine}
+use Rattle.kd_prices.specs.Doubt.{AreOfOneModel, IsFirstWithout, IsFirstNeedless, IsDoubtByNumber, IsDoubt, OfModels, OfKinds, OfNumbers}
 use Rattle.kd_prices.specs.Laws.{ProvingCardsAreInNoDoubt, OneDoubt}
+use Rattle.kd_prices.proofs.Meaning.{one_expansion, of_one_model}
 use Rattle.kd_prices.proofs.Leading.{needed_at, not_refused}
 
 -- Two places in one list: they are the same, or the one lies in front of the other.
@@ -81,15 +82,17 @@ module _ (one : LeadsToOne) (m : Parts) (s : Day) (settings : List Setting) (pri
 
   -- what a doubt denies
   abbrev Denied : Doubt → Type 0
-  Denied OtherModel = AreOfOneModel m s prices
+  Denied OtherModel = Unit {0}
+  Denied PriceMissing = Unit {0}
   Denied (IllegalAt line why) = (n : Parts) × Leads m settings n
   Denied NotTheSheet = LeadsToTheDay m s settings
   Denied (PriceTooHigh i j) = Fits (cost_table m s) prices
   Denied SumDiffers = price_sum prices ≡ pos (priced_count settings)
   Denied (NeedlessLine line) = AreNeeded m s settings
 
-  denies : (doubt : Doubt) → IsDoubt m s settings prices doubt → ¬ (Denied doubt)
-  denies OtherModel h other = h other
+  denies : (doubt : Doubt) → IsDoubtByNumber m s settings prices doubt → ¬ (Denied doubt)
+  denies OtherModel h other = h
+  denies PriceMissing h other = h
   denies (IllegalAt line why) h leads =
       not_refused one m h.1.between leads.0 h.1.front h.1.rest h.1.setting why h.1.leads h.1.refused (subst (λ settings. Leads m settings leads.0) h.1.split leads.1)
   denies NotTheSheet h reached =
@@ -103,6 +106,7 @@ module _ (one : LeadsToOne) (m : Parts) (s : Day) (settings : List Setting) (pri
   -- the place of a doubt in their order
   abbrev rank : Doubt → ℕ
   rank OtherModel = 0
+  rank PriceMissing = 0
   rank (IllegalAt line why) = 1
   rank NotTheSheet = 2
   rank (PriceTooHigh i j) = 3
@@ -111,6 +115,7 @@ module _ (one : LeadsToOne) (m : Parts) (s : Day) (settings : List Setting) (pri
 
   rank_most : (doubt : Doubt) → rank doubt ≤ 5
   rank_most OtherModel = omega arith
+  rank_most PriceMissing = omega arith
   rank_most (IllegalAt line why) = omega arith
   rank_most NotTheSheet = omega arith
   rank_most (PriceTooHigh i j) = omega arith
@@ -118,12 +123,7 @@ module _ (one : LeadsToOne) (m : Parts) (s : Day) (settings : List Setting) (pri
   rank_most (NeedlessLine line) = omega arith
 
   -- a later doubt is one of a card of which the earlier don't hold
-  passed : (doubt later : Doubt) → rank doubt < rank later → IsDoubt m s settings prices later → Denied doubt
-  passed OtherModel (IllegalAt line why) lt h = h.0
-  passed OtherModel NotTheSheet lt h = h.0
-  passed OtherModel (PriceTooHigh i j) lt h = h.0
-  passed OtherModel SumDiffers lt h = h.0
-  passed OtherModel (NeedlessLine line) lt h = h.0
+  passed : (doubt later : Doubt) → rank doubt < rank later → IsDoubtByNumber m s settings prices later → Denied doubt
   passed (IllegalAt line why) NotTheSheet lt h = (h.1.0, h.1.1)
   passed (IllegalAt line why) (PriceTooHigh i j) lt h = (h.1.0, h.1.1)
   passed (IllegalAt line why) SumDiffers lt h = (h.1.0, h.1.1)
@@ -134,10 +134,17 @@ module _ (one : LeadsToOne) (m : Parts) (s : Day) (settings : List Setting) (pri
   passed (PriceTooHigh i j) SumDiffers lt h = h.2
   passed (PriceTooHigh i j) (NeedlessLine line) lt h = h.2
   passed SumDiffers (NeedlessLine line) lt h = h.3
+  passed OtherModel later lt h = tt
+  passed PriceMissing later lt h = tt
+  passed doubt OtherModel lt h = absurd h
+  passed doubt PriceMissing lt h = absurd h
   passed doubt later lt h = absurd (omega (arith, rank_most later))
 
-  same_rank : (doubt other : Doubt) → rank doubt ≡ rank other → IsDoubt m s settings prices doubt → IsDoubt m s settings prices other → doubt ≡ other
-  same_rank OtherModel OtherModel e h k = refl
+  same_rank : (doubt other : Doubt) → rank doubt ≡ rank other → IsDoubtByNumber m s settings prices doubt → IsDoubtByNumber m s settings prices other → doubt ≡ other
+  same_rank OtherModel other e h k = absurd h
+  same_rank PriceMissing other e h k = absurd h
+  same_rank doubt OtherModel e h k = absurd k
+  same_rank doubt PriceMissing e h k = absurd k
   same_rank (IllegalAt line why) (IllegalAt other reason) e h k = let same = one_illegal line other why reason h.1 k.1 in cc
   same_rank NotTheSheet NotTheSheet e h k = refl
   same_rank (PriceTooHigh i j) (PriceTooHigh row column) e h k =
@@ -149,8 +156,9 @@ module _ (one : LeadsToOne) (m : Parts) (s : Day) (settings : List Setting) (pri
   same_rank (NeedlessLine line) (NeedlessLine other) e h k = ap NeedlessLine (one_needless line other h.4 k.4)
   same_rank doubt other e h k = absurd (omega arith)
 
-pub one_doubt : LeadsToOne → OneDoubt
-one_doubt one m s settings prices doubt other h k =
+one_by_number : LeadsToOne → (m : Parts) (s : Day) (settings : List Setting) (prices : PriceParts) (doubt other : Doubt)
+    → IsDoubtByNumber m s settings prices doubt → IsDoubtByNumber m s settings prices other → doubt ≡ other
+one_by_number one m s settings prices doubt other h k =
     elim (cases_lt (rank one m s settings prices doubt) (rank one m s settings prices other)) [
       | inl lt ↦ absurd (denies one m s settings prices doubt h (passed one m s settings prices doubt other lt k))
       | inr le ↦ elim (cases_lt (rank one m s settings prices other) (rank one m s settings prices doubt)) [
@@ -159,18 +167,46 @@ one_doubt one m s settings prices doubt other h k =
       ]
     ]
 
-pub in_no_doubt : LeadsToOne → ProvingCardsAreInNoDoubt
-in_no_doubt one m s settings prices doubt proves h = denies one m s settings prices doubt h (denied doubt)
+pub none_by_number : LeadsToOne → (m : Parts) (s : Day) (settings : List Setting) (prices : PriceParts) (doubt : Doubt)
+    → ProvesByNumber m s settings prices → ¬ (IsDoubtByNumber m s settings prices doubt)
+none_by_number one m s settings prices doubt proves h = denies one m s settings prices doubt h (denied doubt)
   where
     denied : (doubt : Doubt) → Denied one m s settings prices doubt
-    denied OtherModel = record { model = proves.model; kind = proves.kind }
+    denied OtherModel = tt
+    denied PriceMissing = tt
     denied (IllegalAt line why) = (proves.leads.0, proves.leads.1)
     denied NotTheSheet = proves.leads
     denied (PriceTooHigh i j) = proves.fits
     denied SumDiffers = proves.sum
     denied (NeedlessLine line) = proves.needed
 
+-- ---- prices of either version
+
+pub one_doubt : LeadsToOne → OneDoubt
+one_doubt one m s settings prices doubt other (OfModels none e) (OfModels nor f) = e ∙ sym f
+one_doubt one m s settings prices doubt other (OfModels none e) (OfKinds model nor f) = absurd (none model)
+one_doubt one m s settings prices doubt other (OfModels none e) (OfNumbers model numbered expands h) = absurd (none model)
+one_doubt one m s settings prices doubt other (OfKinds model none e) (OfModels nor f) = absurd (nor model)
+one_doubt one m s settings prices doubt other (OfKinds model none e) (OfKinds also nor f) = e ∙ sym f
+one_doubt one m s settings prices doubt other (OfKinds model none e) (OfNumbers also numbered expands h) = absurd (none numbered expands)
+one_doubt one m s settings prices doubt other (OfNumbers model numbered expands h) (OfModels nor f) = absurd (nor model)
+one_doubt one m s settings prices doubt other (OfNumbers model numbered expands h) (OfKinds also nor f) = absurd (nor numbered expands)
+one_doubt one m s settings prices doubt other (OfNumbers model numbered expands h) (OfNumbers also second means k) =
+    one_by_number one m s settings second doubt other
+    (subst (λ p. IsDoubtByNumber m s settings p doubt) (one_expansion m s prices numbered second expands means) h) k
+
+pub in_no_doubt : LeadsToOne → ProvingCardsAreInNoDoubt
+in_no_doubt one m s settings prices doubt proves (OfModels none e) = none (of_one_model m s settings prices proves)
+in_no_doubt one m s settings prices doubt proves (OfKinds model none e) = none proves.numbered proves.expands
+in_no_doubt one m s settings prices doubt proves (OfNumbers model numbered expands h) =
+    none_by_number one m s settings numbered doubt
+    (subst (ProvesByNumber m s settings) (one_expansion m s prices proves.numbered numbered proves.expands expands) proves.proves) h
+
 -- a card that is in a doubt doesn't prove itself
 pub not_proved : ProvingCardsAreInNoDoubt → (m : Parts) (s : Day) (settings : List Setting) (prices : PriceParts) (doubt : Doubt) → IsDoubt m s settings prices doubt
     → IsTrue false ↔ Proves m s settings prices
 not_proved none m s settings prices doubt h = (λ e. absurd (false≢true e), λ proves. absurd (none m s settings prices doubt proves h))
+
+pub not_proved_by_number : LeadsToOne → (m : Parts) (s : Day) (settings : List Setting) (prices : PriceParts) (doubt : Doubt)
+    → IsDoubtByNumber m s settings prices doubt → IsTrue false ↔ ProvesByNumber m s settings prices
+not_proved_by_number one m s settings prices doubt h = (λ e. absurd (false≢true e), λ proves. absurd (none_by_number one m s settings prices doubt proves h))

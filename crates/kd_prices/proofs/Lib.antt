@@ -1,4 +1,5 @@
 pub mod Leading
+pub mod Meaning
 pub mod Doubts
 pub mod Rest
 pub mod CostTables

@@ -9,7 +9,7 @@ use Rattle.kd_prices.proofs.Leading.{leads_join, leads_on}
 
 pub rest_is_shortest : LeadsToOne → ProvingCardsAreShortest → RestIsShortest
 rest_is_shortest one shortest m between s settings prices lines machine legal are_prices proves within leads =
-    let whole = proves.leads in
+    let whole = proves.proves.leads in
     record {
       leads = (whole.0, leads_on one m between whole.0 (take lines settings) (drop lines settings) leads (subst (λ xs. Leads m xs whole.0) (sym (take-append-drop lines settings)) whole.1), whole.2);
       shortest = λ others reached.

@@ -10,13 +10,19 @@ use Rattle.kd_state.specs.OnKey.{ReadsAs}
 use Rattle.kd_state.specs.Costs.{cost_table}
 use Rattle.kd_card.specs.declared.prices.PriceParts.{PriceParts}
 use Rattle.kd_card.specs.Prices.{Fits, FitsAt, how_many, price_sum}
+use Rattle.kd_card.specs.CardText.{group_of}
 use Rattle.kd_card.specs.Carrying.{IsFirstIllegal}
-use Rattle.kd_card.specs.Proving.{AreOfKind, IsNeeded, AreNeeded, LeadsToTheDay, priced_count}
+use Rattle.kd_card.specs.Proving.{AreOfKind, Expands, group_of_machine, IsNeeded, AreNeeded, LeadsToTheDay, priced_count}
 use Rattle.kd_prices.specs.declared.doubt.Doubt.{Doubt}
-use Rattle.kd_prices.specs.declared.doubt.Doubt.TheVariants.{OtherModel, IllegalAt, NotTheSheet, PriceTooHigh, SumDiffers, NeedlessLine}
+use Rattle.kd_prices.specs.declared.doubt.Doubt.TheVariants.{OtherModel, PriceMissing, IllegalAt, NotTheSheet, PriceTooHigh, SumDiffers, NeedlessLine}
 
 -- machine, day and prices are of one kind
 pub record AreOfOneModel (m : Parts) (s : Day) (prices : PriceParts) : Type 0 where
+  pub model : model_of m ≡ day_model s
+  pub group : group_of prices ≡ group_of_machine m
+
+-- machine, day and prices are of one kind, and the prices are by number
+pub record AreNumbered (m : Parts) (s : Day) (prices : PriceParts) : Type 0 where
   pub model : model_of m ≡ day_model s
   pub kind : AreOfKind m prices
 
@@ -47,16 +53,25 @@ pub record IsFirstNeedless (m : Parts) (s : Day) (settings : List Setting) (line
   pub needed : AreNeeded m s front
   pub needless : ¬ (IsNeeded between s setting)
 
--- the first doubt: those before it don't hold
-abbrev pub IsDoubt : Parts → Day → List Setting → PriceParts → Doubt → Type 0
-IsDoubt m s settings prices OtherModel = ¬ (AreOfOneModel m s prices)
-IsDoubt m s settings prices (IllegalAt line why) = AreOfOneModel m s prices × IsFirstIllegal m settings line why
-IsDoubt m s settings prices NotTheSheet = AreOfOneModel m s prices × ((n : Parts) × Leads m settings n × ¬ (ReadsAs n s))
-IsDoubt m s settings prices (PriceTooHigh i j) =
-    AreOfOneModel m s prices × LeadsToTheDay m s settings
+-- the first doubt of prices by number: those before it don't hold
+abbrev pub IsDoubtByNumber : Parts → Day → List Setting → PriceParts → Doubt → Type 0
+IsDoubtByNumber m s settings prices OtherModel = ⊥
+IsDoubtByNumber m s settings prices PriceMissing = ⊥
+IsDoubtByNumber m s settings prices (IllegalAt line why) = AreNumbered m s prices × IsFirstIllegal m settings line why
+IsDoubtByNumber m s settings prices NotTheSheet = AreNumbered m s prices × ((n : Parts) × Leads m settings n × ¬ (ReadsAs n s))
+IsDoubtByNumber m s settings prices (PriceTooHigh i j) =
+    AreNumbered m s prices × LeadsToTheDay m s settings
     × ((row : ℕ) × (column : ℕ) × (i ≡ row + 1) × (j ≡ column + 1) × IsFirstTooHigh (cost_table m s) prices row column)
-IsDoubt m s settings prices SumDiffers =
-    AreOfOneModel m s prices × LeadsToTheDay m s settings × Fits (cost_table m s) prices × (price_sum prices ≢ pos (priced_count settings))
-IsDoubt m s settings prices (NeedlessLine line) =
-    AreOfOneModel m s prices × LeadsToTheDay m s settings × Fits (cost_table m s) prices × (price_sum prices ≡ pos (priced_count settings))
+IsDoubtByNumber m s settings prices SumDiffers =
+    AreNumbered m s prices × LeadsToTheDay m s settings × Fits (cost_table m s) prices × (price_sum prices ≢ pos (priced_count settings))
+IsDoubtByNumber m s settings prices (NeedlessLine line) =
+    AreNumbered m s prices × LeadsToTheDay m s settings × Fits (cost_table m s) prices × (price_sum prices ≡ pos (priced_count settings))
     × IsFirstNeedless m s settings line
+
+-- The first doubt: machine, day and prices are of different models; or the prices mean none for the machine and the day; or
+-- it is that of the prices by number that they mean.
+pub data IsDoubt (m : Parts) (s : Day) (settings : List Setting) (prices : PriceParts) (doubt : Doubt) : Type 0 where
+  OfModels : ¬ (AreOfOneModel m s prices) → doubt ≡ OtherModel → IsDoubt m s settings prices doubt
+  OfKinds : AreOfOneModel m s prices → ((numbered : PriceParts) → ¬ (Expands m s prices numbered)) → doubt ≡ PriceMissing → IsDoubt m s settings prices doubt
+  OfNumbers : AreOfOneModel m s prices → (numbered : PriceParts) → Expands m s prices numbered → IsDoubtByNumber m s settings numbered doubt
+      → IsDoubt m s settings prices doubt

@@ -7,7 +7,7 @@ use Rattle.kd_state.specs.Setting.{Leads}
 use Rattle.kd_state.specs.SheetDay.{Day, IsLegalDay}
 use Rattle.kd_card.specs.declared.prices.PriceParts.{PriceParts}
 use Rattle.kd_card.specs.Prices.{row_prices, column_prices, how_many, price_at, ArePrices}
-use Rattle.kd_card.specs.Proving.{LeadsToTheDay, Proves, IsShortest}
+use Rattle.kd_card.specs.Proving.{LeadsToTheDay, ProvesByNumber, Proves, IsShortest}
 use Rattle.kd_prices.specs.declared.doubt.Doubt.{Doubt}
 use Rattle.kd_prices.specs.Doubt.{IsDoubt}
 use Rattle.kd_prices.specs.Alike.{StandAlike, ReadAlike}
@@ -44,8 +44,8 @@ pub record AreEqualWhereAlike (m : Parts) (s : Day) (prices : PriceParts) : Type
       (place other : ℕ) → place < how_many prices → other < how_many prices → ReadAlike s place other
       → price_at (column_prices prices) place ≡ price_at (column_prices prices) other
 
--- In a card that proves itself, what is alike has equal prices.
+-- In a card that proves itself by number, what is alike has equal prices.
 abbrev pub AlikePricesAreEqual : Type 0
 AlikePricesAreEqual =
-    (m : Parts) (s : Day) (settings : List Setting) (prices : PriceParts) → IsMachine m → IsLegalDay s → ArePrices prices → Proves m s settings prices
+    (m : Parts) (s : Day) (settings : List Setting) (prices : PriceParts) → IsMachine m → IsLegalDay s → ArePrices prices → ProvesByNumber m s settings prices
     → AreEqualWhereAlike m s prices

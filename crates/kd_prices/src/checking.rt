@@ -1,14 +1,17 @@
 ghost use Rattle.std.specs.Prelude.{◌≡◌, ◌↔◌, ◌≤◌, length, IsTrue, IsOk, IfErr, MatchOption};
 ghost use Rattle.kd_state.specs.Costs.{cost_table};
 ghost use Rattle.kd_card.specs.Prices.{Fits};
-ghost use Rattle.kd_card.specs.Proving.{AreOfKind, Proves, priced_count};
-ghost use Rattle.kd_prices.specs.Doubt.{AreOfOneModel, IsDoubt, IsFirstTooHigh};
+ghost use Rattle.kd_card.specs.CardText.{group_of};
+ghost use Rattle.kd_card.specs.Proving.{Proves, ProvesByNumber, group_of_machine, priced_count};
+ghost use Rattle.kd_prices.specs.Doubt.{AreOfOneModel, AreNumbered, IsDoubt, IsDoubtByNumber, IsFirstTooHigh};
 
 use super::doubt::Doubt;
+use super::expanding::expanded;
 use super::fitting::{Cell, first_too_high};
 use super::laws::a_card_is_in_one_doubt_at_most;
 use super::needless::{first_needless, is_priced};
 use kd_card::{Card, PriceParts, Prices, carry_all};
+use kd_state::laws::a_setting_is_refused_or_carried;
 use kd_state::{Machine, Parts, Setting, SheetDay, bar_costs, cable_costs};
 
 /// Whether the card proves itself, whoever made it: its lines lead the machine to the day, and its prices show that no
@@ -20,10 +23,28 @@ pub fn check(machine: &Machine, day: &SheetDay, card: &Card) -> Result<(), Doubt
         (IsDoubt machine.now day.now card.now.settings.items card.now.prices) }
 {
     a_card_is_in_one_doubt_at_most();
-    let settings = card.settings.as_slice();
     if !are_of_one_model(machine, day, &card.prices) {
         return Err(Doubt::OtherModel);
     }
+    let Some(numbered) = expanded(machine, day, &card.prices) else {
+        return Err(Doubt::PriceMissing);
+    };
+    check_by_number(machine, day, card.settings.as_slice(), &numbered)
+}
+
+/// Whether settings and prices by number prove themselves, or the first doubt.
+fn check_by_number(
+    machine: &Machine,
+    day: &SheetDay,
+    settings: &[Setting],
+    prices: &Prices,
+) -> Result<(), Doubt>
+    requires numbered { AreNumbered machine.now day.now prices.now }
+    requires few { length settings.now ≤ 192 }
+    ensures proves { IsOk result ↔ ProvesByNumber machine.now day.now settings.now prices.now }
+    ensures doubt { IfErr result (IsDoubtByNumber machine.now day.now settings.now prices.now) }
+{
+    a_setting_is_refused_or_carried();
     let reached = match carry_all(machine, settings) {
         Ok(reached) => reached,
         Err(illegal) => {
@@ -33,10 +54,10 @@ pub fn check(machine: &Machine, day: &SheetDay, card: &Card) -> Result<(), Doubt
     if !reached.reads_as(day) {
         return Err(Doubt::NotTheSheet);
     }
-    if let Some(cell) = too_high(machine, day, &card.prices) {
+    if let Some(cell) = too_high(machine, day, prices) {
         return Err(Doubt::PriceTooHigh(cell.row as u8 + 1, cell.column as u8 + 1));
     }
-    if card.prices.sum() != priced_count(settings) as i32 {
+    if prices.sum() != priced_count(settings) as i32 {
         return Err(Doubt::SumDiffers);
     }
     match first_needless(machine, day, settings) {
@@ -46,7 +67,7 @@ pub fn check(machine: &Machine, day: &SheetDay, card: &Card) -> Result<(), Doubt
 }
 
 /// Whether machine and day are of one model, and the prices of their kind.
-fn are_of_one_model(machine: &Machine, day: &SheetDay, prices: &Prices) -> bool
+pub(crate) fn are_of_one_model(machine: &Machine, day: &SheetDay, prices: &Prices) -> bool
     ensures { IsTrue result ↔ AreOfOneModel machine.now day.now prices.now }
 {
     machine.model() == day.model() && are_of_kind(machine, prices)
@@ -54,17 +75,18 @@ fn are_of_one_model(machine: &Machine, day: &SheetDay, prices: &Prices) -> bool
 
 /// Whether the prices are of cables for a rotor machine, and of bars for a Converter M-209.
 fn are_of_kind(machine: &Machine, prices: &Prices) -> bool
-    ensures { IsTrue result ↔ AreOfKind machine.now prices.now }
+    ensures { IsTrue result ↔ (group_of prices.now ≡ group_of_machine machine.now) }
 {
-    matches!(
-        (machine.parts(), prices.parts()),
-        (Parts::Rotor(_), PriceParts::Cables(..)) | (Parts::Pin(_), PriceParts::Bars(..))
-    )
+    match (machine.parts(), prices.parts()) {
+        (Parts::Rotor(_), PriceParts::Cables(..) | PriceParts::CableKinds(..)) => true,
+        (Parts::Pin(_), PriceParts::Bars(..) | PriceParts::BarKinds(..)) => true,
+        _ => false,
+    }
 }
 
 /// The first row and column whose prices are together above what the machine's cable or bar costs there.
 fn too_high(machine: &Machine, day: &SheetDay, prices: &Prices) -> Option<Cell>
-    requires { AreOfOneModel machine.now day.now prices.now }
+    requires { AreNumbered machine.now day.now prices.now }
     ensures { let costs = cost_table machine.now day.now in
         MatchOption result (Fits costs prices.now) (λ cell. IsFirstTooHigh costs prices.now cell.row cell.column) }
 {

@@ -8,6 +8,10 @@ pub enum Doubt {
     /// Machine and day are of different models, or the prices are of the other kind.
     #[error("5 OtherModel")]
     OtherModel,
+    /// The prices are by kind, and the kinds, or how many there are of each, aren't those of the machine's cables or bars, and
+    /// of the day's pairs and nothings or rows.
+    #[error("10 PriceMissing")]
+    PriceMissing,
     /// The line is the first that the machine refuses in its turn, for this reason.
     #[error("{}", IllegalAt {line: *.0, why: *.1})]
     IllegalAt(usize, Why),

@@ -3,8 +3,10 @@
 
 mod checking;
 mod doubt;
+mod expanding;
 mod fitting;
 pub mod laws;
+mod looks;
 mod loose;
 mod needless;
 #[cfg(test)]

@@ -1,3 +1,4 @@
 mod cables;
+mod kinds;
 mod lugs;
 mod samples;

@@ -1,4 +1,7 @@
-use super::samples::{NO_SETTINGS, ONE_LUG, TWO_CABLES};
+use super::samples::{
+    ALIKE_BARS, BAR_KINDS, EMPTY_KINDS, HALF_CABLES, NO_SETTINGS, ONE_LUG, TWO_CABLE_KINDS,
+    TWO_CABLES,
+};
 use crate::{CardFault, read_card, write_card};
 use arrayvec::ArrayString;
 use kd_tables::MemorySink;
@@ -34,7 +37,16 @@ fn is_refused(rt: &impl Abort, card: &str, old: &str, words: &[&str], due: CardF
 }
 
 /// Cards, and their days.
-static CARDS: [(&str, u8); 3] = [(TWO_CABLES, 8), (ONE_LUG, 9), (NO_SETTINGS, 11)];
+static CARDS: [(&str, u8); 8] = [
+    (TWO_CABLES, 8),
+    (ONE_LUG, 9),
+    (NO_SETTINGS, 11),
+    (TWO_CABLE_KINDS, 8),
+    (BAR_KINDS, 9),
+    (EMPTY_KINDS, 11),
+    (ALIKE_BARS, 13),
+    (HALF_CABLES, 31),
+];
 
 #[test]
 fn cards_are_read(rt: HostRuntime) {
@@ -55,7 +67,7 @@ static HEADS: [&str; 12] = [
     "CARD 1 DAY +8",
     "CARD 1 DAY 264",
     "CARD 1 DAY",
-    "CARD 2 DAY 8",
+    "CARD 3 DAY 8",
     "CARD  1 DAY 8",
     "card 1 day 8",
     " CARD 1 DAY 8",
@@ -182,6 +194,84 @@ static PRICE_LINES: [Case; 14] = [
 #[test]
 fn a_line_of_prices_has_its_word_and_number(rt: HostRuntime) {
     are_refused(&rt, TWO_CABLES, &PRICE_LINES);
+}
+
+/// Lines of kinds that aren't due, in a card of cables.
+static CABLE_LINES: [Case; 21] = [
+    ("CABLE AB", "BAR 1-2", CardFault::PriceMissing),
+    ("CABLE AB", "PAIR AB", CardFault::PriceMissing),
+    ("CABLE AB", "CABLES AB", CardFault::PriceMissing),
+    ("CABLE AB 1 2", "CABLE", CardFault::BadLine(7)),
+    ("CABLE AB 1 2", "CABLE ", CardFault::BadLine(7)),
+    ("CABLE AB 1 2", "CABLE AB 1", CardFault::BadLine(7)),
+    ("CABLE AB 1 2", "CABLE AB 1 2 ", CardFault::BadLine(7)),
+    ("CABLE AB 1 2", "CABLE AB 1 +2", CardFault::BadLine(7)),
+    ("CABLE AB 1 2", "CABLE AB 1 10000", CardFault::BadLine(7)),
+    ("CABLE AB 1 2", "CABLE AB 0 2", CardFault::BadLine(7)),
+    ("CABLE AB 1 2", "CABLE AB 256 2", CardFault::BadLine(7)),
+    ("CABLE AB 1 2", "CABLE AB 255 2", CardFault::PriceMissing),
+    ("CABLE AB", "CABLE BA", CardFault::BadLine(7)),
+    ("CABLE AB", "CABLE AA", CardFault::BadLine(7)),
+    ("CABLE AB", "CABLE ABC", CardFault::BadLine(7)),
+    ("CABLE AB", "CABLE -", CardFault::BadLine(8)),
+    ("CABLE AB", "CABLE CD", CardFault::BadLine(8)),
+    ("CABLE AB", "CABLE EF", CardFault::BadLine(8)),
+    ("PAIR -", "PAIR BC", CardFault::BadLine(12)),
+    ("PAIR BC", "PAIR B", CardFault::BadLine(10)),
+    ("PAIR BC", "ROW 1-2", CardFault::PriceMissing),
+];
+
+/// Lines of kinds that aren't due, in a card of bars.
+static BAR_LINES: [Case; 8] = [
+    (
+        "BAR 0L-3 1 1\nBAR 0L-0R 25 0",
+        "BAR 0L-0R 25 0\nBAR 0L-3 1 1",
+        CardFault::BadLine(5),
+    ),
+    ("BAR 0L-0R 25", "BAR 0L-0R 24", CardFault::PriceMissing),
+    ("ROW 0-0 25", "ROW 0-0 26", CardFault::PriceMissing),
+    ("ROW 0-0", "ROW 1-1", CardFault::BadLine(7)),
+    ("ROW 3-6", "ROW 6-3", CardFault::BadLine(9)),
+    ("BAR 0L-3", "BAR 3-0L", CardFault::BadLine(4)),
+    ("ROW 3-6 1 0\n", "", CardFault::PriceMissing),
+    ("SUM 1", "SUM 2", CardFault::CountWrong),
+];
+
+#[test]
+fn kinds_are_in_order_and_counted(rt: HostRuntime) {
+    are_refused(&rt, TWO_CABLE_KINDS, &CABLE_LINES);
+    are_refused(&rt, BAR_KINDS, &BAR_LINES);
+}
+
+/// So many cables of two letters each, in order, and then another line.
+fn with_kinds(number: u8, last: &str) -> ArrayString<4096> {
+    let mut text = ArrayString::new();
+    let _room = text.try_push_str("CARD 2 DAY 8\nSETTINGS 0\n");
+    for letter in b"BCDEFGHIJKLMNOPQRSTUVWXYZ"
+        .iter()
+        .take(usize::from(number))
+    {
+        let _room = text.try_push_str("CABLE A");
+        let _room = text.try_push(char::from(*letter));
+        let _room = text.try_push_str(" 1 0\n");
+    }
+    let _room = text.try_push_str(last);
+    text
+}
+
+#[test]
+fn a_group_is_read_to_its_end(rt: HostRuntime) {
+    for (number, last, due) in [
+        (12, "PAIR - 13 0\n", CardFault::PriceMissing),
+        (13, "PAIR - 13 0\n", CardFault::BadLine(17)),
+        (14, "PAIR - 13 0\n", CardFault::PriceMissing),
+        (25, "CABLE AZ 1 0\n", CardFault::BadLine(28)),
+        (25, "CABLE B 1 0", CardFault::BadLine(28)),
+        (25, "CABLE - 1 0\n", CardFault::PriceMissing),
+    ] {
+        let fault = read_card(with_kinds(number, last).as_str().as_bytes()).err();
+        assert!(rt; fault == Some(due));
+    }
 }
 
 /// Other sums, one of a hundred figures.

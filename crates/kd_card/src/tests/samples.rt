@@ -31,6 +31,66 @@ PAIRS 0 0 0 0 0 0 0 0 0 0 0 0 0
 SUM 0
 ";
 
+/// Two cables change places, and the prices are by kind.
+pub(super) const TWO_CABLE_KINDS: &str = "CARD 2 DAY 8
+PULL 1 A
+PULL 2 C
+PUT 1 C
+PUT 2 E
+SETTINGS 4
+CABLE AB 1 2
+CABLE CD 1 2
+CABLE - 11 0
+PAIR BC 1 0
+PAIR DE 1 0
+PAIR - 11 0
+SUM 4
+";
+
+/// One lug is moved, and the prices are by kind.
+pub(super) const BAR_KINDS: &str = "CARD 2 DAY 9
+LUG 1 R 6
+SETTINGS 1
+BAR 0L-3 1 1
+BAR 0L-0R 25 0
+BAR 3-0R 1 1
+ROW 0-0 25 0
+ROW 0-3 1 -1
+ROW 3-6 1 0
+SUM 1
+";
+
+/// Nothing has to be done, and the prices are by kind.
+pub(super) const EMPTY_KINDS: &str = "CARD 2 DAY 11
+SETTINGS 0
+CABLE - 13 0
+PAIR - 13 0
+SUM 0
+";
+
+/// All bars stand alike, and all rows read alike.
+pub(super) const ALIKE_BARS: &str = "CARD 2 DAY 13
+SETTINGS 0
+BAR 1-2 27 2
+ROW 3-4 27 0
+SUM 54
+";
+
+/// A cable with one letter comes before those of two that begin with it.
+pub(super) const HALF_CABLES: &str = "CARD 2 DAY 31
+SETTINGS 0
+CABLE A 1 -9999
+CABLE AB 1 9999
+CABLE B 1 0
+CABLE BC 1 0
+CABLE YZ 1 0
+CABLE Z 1 0
+CABLE - 7 0
+PAIR AB 12 0
+PAIR YZ 1 -12
+SUM -12
+";
+
 /// Prices that are these in front, and then 0.
 fn padded<const N: usize>(front: &[i16]) -> [i16; N] {
     let mut prices = [0; N];

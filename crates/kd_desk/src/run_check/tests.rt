@@ -253,5 +253,6 @@ fn with_price(parts: PriceParts, place: usize, step: i16) -> Option<Prices> {
             *rows.get_mut(place)? = price;
             Prices::bars(rows, columns)
         }
+        PriceParts::CableKinds(..) | PriceParts::BarKinds(..) => None,
     }
 }

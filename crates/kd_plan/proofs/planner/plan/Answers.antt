@@ -1,4 +1,6 @@
-use Rattle.std.proofs.Common.{subst}
+use Rattle.std.proofs.Common.{refl, subst}
+use Rattle.kd_card.specs.Proving.{Same}
+use Rattle.kd_plan.proofs.Pricing.{by_number}
 use Rattle.kd_card.specs.Prices.{ArePrices}
 use Rattle.kd_plan.proofs.planner.plan.Goals as goal
 
@@ -14,5 +16,6 @@ returns-clause-card c =
       planned = made.planned;
       leads = proves.leads;
       proves = proves;
-      shortest = c.proving_cards_are_shortest.ensures m s settings prices made.machine made.legal (subst ArePrices c.parts-prices.ensures.value c.parts-prices.ensures.are_prices) proves;
+      shortest = c.proving_cards_are_shortest.ensures m s settings prices made.machine made.legal (subst ArePrices c.parts-prices.ensures.value c.parts-prices.ensures.are_prices)
+          (record { numbered = prices; expands = Same (by_number m prices proves.kind) refl; proves = proves });
     }

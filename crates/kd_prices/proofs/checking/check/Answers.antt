@@ -1,45 +1,29 @@
-use Rattle.std.proofs.Common.{◌≡◌, ◌<◌, ◌^◌, pos, SFits, w32, to_z, rules, arith, refl, sym, ap, ◌∙◌, subst}
-use Rattle.std.proofs.lemmas.Int.{to_z-of_z, to_z_pos}
-use Rattle.kd_prices.specs.declared.doubt.Doubt.TheVariants.{IllegalAt, NotTheSheet, NeedlessLine}
-use Rattle.kd_prices.specs.Doubt.{IsDoubt, IsFirstNeedless}
-use Rattle.kd_state.specs.Setting.{Leads}
-use Rattle.kd_state.specs.Costs.{cost_table}
-use Rattle.kd_card.specs.Prices.{Fits, price_sum}
-use Rattle.kd_card.specs.Proving.{priced_count}
-use Rattle.kd_prices.proofs.Doubts.{not_proved}
+use Rattle.std.proofs.Common.{sym, subst}
+use Rattle.kd_card.specs.Proving.{ProvesByNumber}
+use Rattle.kd_prices.specs.Doubt.{IsDoubt, IsDoubtByNumber, OfNumbers}
+use Rattle.kd_prices.proofs.Meaning.{one_expansion, are_numbered, if_err}
 use Rattle.kd_prices.proofs.checking.check.Goals as goal
 
-pub returns-in-Err-clause-proves : goal.returns-in-Err-clause-proves
-returns-in-Err-clause-proves c =
-    let card = c.args.card.now in
-    let doubt : IsDoubt c.args.machine.now c.args.day.now card.settings.items card.prices (IllegalAt c.in-Err.illegal.line c.in-Err.illegal.why) = search rules in
-    not_proved c.a_card_is_in_one_doubt_at_most.ensures.none _ _ _ _ (IllegalAt c.in-Err.illegal.line c.in-Err.illegal.why) doubt
+pub check_by_number-requires-clause-numbered : goal.check_by_number-requires-clause-numbered
+check_by_number-requires-clause-numbered c =
+    are_numbered c.args.machine.now c.args.day.now c.args.card.now.prices c.in-Some.numbered (c.are_of_one_model.ensures.0 c.if-not-are_of_one_model.false) c.in-Some.ensures
 
-pub returns-then-not-reads_as-clause-proves : goal.returns-then-not-reads_as-clause-proves
-returns-then-not-reads_as-clause-proves c =
-    let card = c.args.card.now in
-    let doubt : IsDoubt c.args.machine.now c.args.day.now card.settings.items card.prices NotTheSheet = search rules in
-    not_proved c.a_card_is_in_one_doubt_at_most.ensures.none _ _ _ _ NotTheSheet doubt
+pub returns-clause-proves : goal.returns-clause-proves
+returns-clause-proves c =
+    let settings = c.as_slice.ensures.value in (
+      λ ok. record {
+        numbered = c.in-Some.numbered;
+        expands = c.in-Some.ensures;
+        proves = subst (λ xs. ProvesByNumber c.args.machine.now c.args.day.now xs c.in-Some.numbered) settings (c.check_by_number.ensures.proves.0 ok);
+      },
+      λ h. c.check_by_number.ensures.proves.1
+          (subst (λ xs. ProvesByNumber c.args.machine.now c.args.day.now xs c.in-Some.numbered) (sym settings)
+          (subst (ProvesByNumber c.args.machine.now c.args.day.now c.args.card.now.settings.items)
+          (one_expansion c.args.machine.now c.args.day.now c.args.card.now.prices h.numbered c.in-Some.numbered h.expands c.in-Some.ensures) h.proves)),
+    )
 
-pub returns-in-Some-first_needless-clause-proves : goal.returns-in-Some-first_needless-clause-proves
-returns-in-Some-first_needless-clause-proves c =
-    let m = c.args.machine.now in
-    let s = c.args.day.now in
-    let card = c.args.card.now in
-    let line = c.in-Some-first_needless.line in
-    let items = c.as_slice-settings.ensures.value in
-    let fits : Fits (cost_table m s) card.prices = search rules in
-    let count = c.priced_count.result in
-    let few : count < 2 ^ 31 = omega (arith, c.priced_count.ensures.few, c.as_slice-settings.ensures.fits) in
-    let small : SFits w32 c.sum.result = search rules in
-    let same : c.sum.result ≡ pos count = sym (to_z-of_z w32 c.sum.result small) ∙ ap (to_z w32) c.if-sum-priced_count.false ∙ to_z_pos w32 count few in
-    let sum : price_sum card.prices ≡ pos (priced_count card.settings.items) =
-    sym c.sum.ensures ∙ same ∙ ap pos c.priced_count.ensures.value ∙ ap (λ xs. pos (priced_count xs)) items in
-    let doubt : IsDoubt m s card.settings.items card.prices (NeedlessLine line) = (
-      c.if-not-are_of_one_model.ensures.0 refl,
-      (c.in-Ok.reached, subst (λ xs. Leads m xs c.in-Ok.reached) items c.in-Ok.ensures.carried, c.if-not-reads_as.ensures.0 refl),
-      fits,
-      sum,
-      subst (λ xs. IsFirstNeedless m s xs line) items c.in-Some-first_needless.ensures,
-    ) in
-    not_proved c.a_card_is_in_one_doubt_at_most.ensures.none _ _ _ _ (NeedlessLine line) doubt
+pub returns-clause-doubt : goal.returns-clause-doubt
+returns-clause-doubt c =
+    if_err c.check_by_number.result _ _
+    (λ doubt h. OfNumbers (c.are_of_one_model.ensures.0 c.if-not-are_of_one_model.false) c.in-Some.numbered c.in-Some.ensures
+    (subst (λ xs. IsDoubtByNumber c.args.machine.now c.args.day.now xs c.in-Some.numbered doubt) c.as_slice.ensures.value h)) c.check_by_number.ensures.doubt

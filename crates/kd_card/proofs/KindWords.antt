@@ -1,0 +1,244 @@
+-- The words of kinds' lines, and the looks that they tell.
+use Rattle.std.proofs.Common.{codes, ◌≡◌, ◌≢◌, ℕ, ◌+◌, ◌*◌, ◌^◌, ◌<◌, ◌≤◌, eqb, cond, Bool, true, List, [], ◌∷◌, ◌++◌, length, map, get_or, decimal, ℤ, Option, Some, None, refl, sym, ap, ◌∙◌, append_assoc, length-append, arith, unsigned_abs}
+use Rattle.std.specs.List.{All, find}
+use Rattle.std.specs.Option.{unwrap_or}
+use Rattle.std.specs.Str.{bytes_eq}
+use Rattle.std.specs.Fmt.{signed_decimal}
+use Rattle.std.proofs.lemmas.Fmt.{decimal_injective, signed_decimal_injective}
+use Rattle.std.proofs.lemmas.List.Elements.{All-append, All-weaker, All-from_recursion}
+use Rattle.kd_tables.specs.declared.place.Place.{Place}
+use Rattle.kd_tables.specs.declared.place.Place.TheVariants.{One, ZeroLeft, Two, Three, Four, Five, ZeroRight, Six}
+use Rattle.kd_tables.specs.Places.{place_text, place_rank, places, standing_text, reading_text, IsBefore, IsReading}
+use Rattle.kd_state.specs.Words.{IsWord, IsWithout, NumbersAreWords, TextsTellFirstParts}
+use Rattle.kd_card.specs.declared.look.Look.{Look}
+use Rattle.kd_card.specs.declared.look.Look.TheVariants.{Cable, Pair, Bar, Row}
+use Rattle.kd_card.specs.declared.look.Name.{Name}
+use Rattle.kd_card.specs.declared.look.Name.TheVariants as names
+use Rattle.kd_card.specs.declared.kinds.PricedKind.{PricedKind}
+use Rattle.kd_card.specs.Kinds.{look_name, name_text, look_text, look_rank, ends_rank, pair_rank, kind_words, AreEnds, IsPairInOrder, IsInForm, IsPricedKind}
+use Rattle.kd_card.specs.Laws.{RanksTellLooks}
+use Rattle.kd_card.proofs.Lines.{is_above, bytes_above}
+use Rattle.kd_card.proofs.CardWords.{word_by_bytes, word_by_test, signed_word}
+use Rattle.kd_card.proofs.PriceTexts.{small}
+
+-- ---- names and places by their texts
+
+name_back : ℕ → Name
+name_back first = cond (eqb first 67) names.Cable (cond (eqb first 80) names.Pair (cond (eqb first 66) names.Bar names.Row))
+
+undo_name : (n : Name) → name_back (get_or (name_text n) 0 0) ≡ n
+unfolding name_back
+undo_name names.Cable = refl
+undo_name names.Pair = refl
+undo_name names.Bar = refl
+undo_name names.Row = refl
+
+pub same_name : (n m : Name) → name_text n ≡ name_text m → n ≡ m
+same_name n m e = sym (undo_name n) ∙ ap (λ t. name_back (get_or t 0 0)) e ∙ undo_name m
+
+place_back : List ℕ → Place
+place_back text = unwrap_or (find (λ p. bytes_eq (place_text p) text) places) One
+
+undo_place : (p : Place) → place_back (place_text p) ≡ p
+unfolding place_back
+undo_place p = elim p as (λ p. place_back (place_text p) ≡ p) [ One ↦ refl | ZeroLeft ↦ refl | Two ↦ refl | Three ↦ refl | Four ↦ refl | Five ↦ refl | ZeroRight ↦ refl | Six ↦ refl ]
+
+same_place : (p q : Place) → place_text p ≡ place_text q → p ≡ q
+same_place p q e = sym (undo_place p) ∙ ap place_back e ∙ undo_place q
+
+rank_back : ℕ → Place
+rank_back rank = get_or places rank One
+
+undo_rank : (p : Place) → rank_back (place_rank p) ≡ p
+unfolding rank_back
+undo_rank p = elim p as (λ p. rank_back (place_rank p) ≡ p) [ One ↦ refl | ZeroLeft ↦ refl | Two ↦ refl | Three ↦ refl | Four ↦ refl | Five ↦ refl | ZeroRight ↦ refl | Six ↦ refl ]
+
+same_rank : (p q : Place) → place_rank p ≡ place_rank q → p ≡ q
+same_rank p q e = sym (undo_rank p) ∙ ap rank_back e ∙ undo_rank q
+
+pub low_rank : (p : Place) → place_rank p < 8
+low_rank p = elim p as (λ p. place_rank p < 8) [ One ↦ omega arith | ZeroLeft ↦ omega arith | Two ↦ omega arith | Three ↦ omega arith | Four ↦ omega arith | Five ↦ omega arith | ZeroRight ↦ omega arith | Six ↦ omega arith ]
+
+place_test : (p : Place) → is_above 45 (place_text p) ≡ true
+place_test p = elim p as (λ p. is_above 45 (place_text p) ≡ true) [ One ↦ refl | ZeroLeft ↦ refl | Two ↦ refl | Three ↦ refl | Four ↦ refl | Five ↦ refl | ZeroRight ↦ refl | Six ↦ refl ]
+
+place_above : (p : Place) → All (λ b. 45 < b) (place_text p)
+place_above p = All-from_recursion (λ b. 45 < b) (place_text p) (bytes_above 45 (place_text p) (place_test p))
+
+-- ---- words
+
+name_is_word : (n : Name) → IsWord (name_text n)
+name_is_word names.Cable = word_by_test _ _ refl
+name_is_word names.Pair = word_by_test _ _ refl
+name_is_word names.Bar = word_by_test _ _ refl
+name_is_word names.Row = word_by_test _ _ refl
+
+one_byte : (b : ℕ) → 32 < b → IsWord (b ∷ [])
+one_byte b above = word_by_bytes (b ∷ []) (λ none. cc) (All-from_recursion (λ b. 32 < b) (b ∷ []) (above, tt))
+
+two_bytes : (b c : ℕ) → 32 < b → 32 < c → IsWord (b ∷ c ∷ [])
+two_bytes b c above also = word_by_bytes (b ∷ c ∷ []) (λ none. cc) (All-from_recursion (λ b. 32 < b) (b ∷ c ∷ []) (above, (also, tt)))
+
+standing_above : (left right : Place) → All (λ b. 32 < b) (standing_text (left, right))
+standing_above left right =
+    let near : (p : Place) → All (λ b. 32 < b) (place_text p) =
+    λ p. All-weaker (λ b. 45 < b) (λ b. 32 < b) (λ b above. omega (arith, above)) (place_text p) (place_above p) in
+    All-append (λ b. 32 < b) (place_text left ++ codes "-") (place_text right)
+    (All-append (λ b. 32 < b) (place_text left) (codes "-") (near left) (All-from_recursion (λ b. 32 < b) (codes "-") (omega arith, tt))) (near right)
+
+some_standing : (left right : Place) → standing_text (left, right) ≢ []
+some_standing left right none =
+    omega (arith, ap length none, length-append (place_text left ++ codes "-") (place_text right), length-append (place_text left) (codes "-"))
+
+look_is_word : (look : Look) → IsWord (look_text look)
+look_is_word (Cable (None, None)) = word_by_test _ _ refl
+look_is_word (Cable (None, Some other)) = one_byte (other + 65) (omega arith)
+look_is_word (Cable (Some one, None)) = one_byte (one + 65) (omega arith)
+look_is_word (Cable (Some one, Some other)) = two_bytes (one + 65) (other + 65) (omega arith) (omega arith)
+look_is_word (Pair None) = word_by_test _ _ refl
+look_is_word (Pair (Some (one, other))) = two_bytes (one + 65) (other + 65) (omega arith) (omega arith)
+look_is_word (Bar (left, right)) = word_by_bytes (standing_text (left, right)) (some_standing left right) (standing_above left right)
+look_is_word (Row (one, other)) =
+    word_by_bytes (reading_text (one, other)) (λ none. cc)
+    (All-from_recursion (λ b. 32 < b) ((one + 48) ∷ 45 ∷ (other + 48) ∷ []) (omega arith, (omega arith, (omega arith, tt))))
+
+pub kind_is_words : NumbersAreWords → (kind : PricedKind) → IsPricedKind kind → All IsWord (kind_words kind)
+kind_is_words numbers kind good =
+    let most = good.most in
+    let reach = good.reach in
+    All-from_recursion IsWord (kind_words kind)
+    (name_is_word (look_name kind.look), (look_is_word kind.look, (numbers kind.count (omega (arith, most)), (signed_word numbers kind.price (omega (arith, reach)), tt))))
+
+-- ---- looks by their texts
+
+same_ends : (a b c d : Option ℕ) → AreEnds a b → AreEnds c d → look_text (Cable (a, b)) ≡ look_text (Cable (c, d)) → Cable (a, b) ≡ Cable (c, d)
+same_ends None None None None x y e = refl
+same_ends None None (Some c) None x y e = absurd (omega (arith, ap (λ t. get_or t 0 0) e))
+same_ends None None (Some c) (Some d) x y e = absurd (omega (arith, ap length e))
+same_ends (Some a) None None None x y e = absurd (omega (arith, ap (λ t. get_or t 0 0) e))
+same_ends (Some a) None (Some c) None x y e = let same : a ≡ c = omega (arith, ap (λ t. get_or t 0 0) e) in cc
+same_ends (Some a) None (Some c) (Some d) x y e = absurd (omega (arith, ap length e))
+same_ends (Some a) (Some b) None None x y e = absurd (omega (arith, ap length e))
+same_ends (Some a) (Some b) (Some c) None x y e = absurd (omega (arith, ap length e))
+same_ends (Some a) (Some b) (Some c) (Some d) x y e =
+    let one : a ≡ c = omega (arith, ap (λ t. get_or t 0 0) e) in
+    let other : b ≡ d = omega (arith, ap (λ t. get_or t 1 0) e) in
+    cc
+same_ends None (Some b) c d x y e = absurd x
+same_ends a b None (Some d) x y e = absurd y
+
+same_pair : (a b : Option (ℕ × ℕ)) → look_text (Pair a) ≡ look_text (Pair b) → Pair a ≡ Pair b
+same_pair None None e = refl
+same_pair None (Some (c, d)) e = absurd (omega (arith, ap length e))
+same_pair (Some (a, b)) None e = absurd (omega (arith, ap length e))
+same_pair (Some (a, b)) (Some (c, d)) e =
+    let one : a ≡ c = omega (arith, ap (λ t. get_or t 0 0) e) in
+    let other : b ≡ d = omega (arith, ap (λ t. get_or t 1 0) e) in
+    cc
+
+place_without : (p : Place) → IsWithout 45 (place_text p)
+place_without p = All-weaker (λ b. 45 < b) (λ b. b ≢ 45) (λ b above same. omega (arith, above, same)) (place_text p) (place_above p)
+
+same_standing : TextsTellFirstParts → (a b c d : Place) → look_text (Bar (a, b)) ≡ look_text (Bar (c, d)) → Bar (a, b) ≡ Bar (c, d)
+same_standing tells a b c d e =
+    let parts : (place_text a ≡ place_text c) × (place_text b ≡ place_text d) =
+    tells 45 (place_text a) (place_text c) (place_text b) (place_text d) (place_without a) (place_without c)
+    (sym (append_assoc (place_text a) (codes "-") (place_text b)) ∙ e ∙ append_assoc (place_text c) (codes "-") (place_text d)) in
+    let left : a ≡ c = same_place a c parts.0 in
+    let right : b ≡ d = same_place b d parts.1 in
+    cc
+
+same_reading : (a b c d : ℕ) → look_text (Row (a, b)) ≡ look_text (Row (c, d)) → Row (a, b) ≡ Row (c, d)
+same_reading a b c d e =
+    let one : a ≡ c = omega (arith, ap (λ t. get_or t 0 0) e) in
+    let other : b ≡ d = omega (arith, ap (λ t. get_or t 2 0) e) in
+    cc
+
+pub same_look : TextsTellFirstParts → (look other : Look) → look_name look ≡ look_name other → IsInForm look → IsInForm other
+    → look_text look ≡ look_text other → look ≡ other
+same_look tells (Cable (a, b)) (Cable (c, d)) named x y e = same_ends a b c d x y e
+same_look tells (Pair a) (Pair b) named x y e = same_pair a b e
+same_look tells (Bar (a, b)) (Bar (c, d)) named x y e = same_standing tells a b c d e
+same_look tells (Row (a, b)) (Row (c, d)) named x y e = same_reading a b c d e
+same_look tells (Cable a) (Pair b) named x y e = cc
+same_look tells (Cable a) (Bar b) named x y e = cc
+same_look tells (Cable a) (Row b) named x y e = cc
+same_look tells (Pair a) (Cable b) named x y e = cc
+same_look tells (Pair a) (Bar b) named x y e = cc
+same_look tells (Pair a) (Row b) named x y e = cc
+same_look tells (Bar a) (Cable b) named x y e = cc
+same_look tells (Bar a) (Pair b) named x y e = cc
+same_look tells (Bar a) (Row b) named x y e = cc
+same_look tells (Row a) (Cable b) named x y e = cc
+same_look tells (Row a) (Pair b) named x y e = cc
+same_look tells (Row a) (Bar b) named x y e = cc
+
+pub same_kind : TextsTellFirstParts → (kind other : PricedKind) → IsPricedKind kind → IsPricedKind other → kind_words kind ≡ kind_words other → kind ≡ other
+same_kind tells kind other a b e =
+    let most = a.most in
+    let also = b.most in
+    let names : look_name kind.look ≡ look_name other.look = same_name (look_name kind.look) (look_name other.look) (ap (λ w. get_or w 0 []) e) in
+    let looks : kind.look ≡ other.look = same_look tells kind.look other.look names a.form b.form (ap (λ w. get_or w 1 []) e) in
+    let counts : kind.count ≡ other.count =
+    decimal_injective kind.count other.count (omega (arith, most)) (omega (arith, also)) (ap (λ w. get_or w 2 []) e) in
+    let prices : kind.price ≡ other.price =
+    signed_decimal_injective kind.price other.price (small kind.price a.reach) (small other.price b.reach) (ap (λ w. get_or w 3 []) e) in
+    let make : Look → ℕ → ℤ → PricedKind = λ look count price. record { look = look; count = count; price = price } in
+    ap (λ look. make look kind.count kind.price) looks ∙ ap (λ count. make other.look count kind.price) counts ∙ ap (make other.look other.count) prices
+
+-- ---- looks by their ranks
+
+ranked_ends : (a b c d : Option ℕ) → AreEnds a b → AreEnds c d → ends_rank a b ≡ ends_rank c d → Cable (a, b) ≡ Cable (c, d)
+ranked_ends None None None None x y e = refl
+ranked_ends None None (Some c) None x y e = absurd (omega (arith, e, y))
+ranked_ends None None (Some c) (Some d) x y e = absurd (omega (arith, e, y.0, y.1))
+ranked_ends (Some a) None None None x y e = absurd (omega (arith, e, x))
+ranked_ends (Some a) None (Some c) None x y e = let same : a ≡ c = omega (arith, e) in cc
+ranked_ends (Some a) None (Some c) (Some d) x y e = absurd (omega (arith, e, y.0, y.1))
+ranked_ends (Some a) (Some b) None None x y e = absurd (omega (arith, e, x.0, x.1))
+ranked_ends (Some a) (Some b) (Some c) None x y e = absurd (omega (arith, e, x.0, x.1))
+ranked_ends (Some a) (Some b) (Some c) (Some d) x y e =
+    let one : a ≡ c = omega (arith, e, x.0, x.1, y.0, y.1) in
+    let other : b ≡ d = omega (arith, e, x.0, x.1, y.0, y.1) in
+    cc
+ranked_ends None (Some b) c d x y e = absurd x
+ranked_ends a b None (Some d) x y e = absurd y
+
+ranked_pair : (a b : Option (ℕ × ℕ)) → IsPairInOrder a → IsPairInOrder b → pair_rank a ≡ pair_rank b → Pair a ≡ Pair b
+ranked_pair None None x y e = refl
+ranked_pair None (Some (c, d)) x y e = absurd (omega (arith, e, y.0, y.1))
+ranked_pair (Some (a, b)) None x y e = absurd (omega (arith, e, x.0, x.1))
+ranked_pair (Some (a, b)) (Some (c, d)) x y e =
+    let one : a ≡ c = omega (arith, e, x.0, x.1, y.0, y.1) in
+    let other : b ≡ d = omega (arith, e, x.0, x.1, y.0, y.1) in
+    cc
+
+ranked_standing : (a b c d : Place) → look_rank (Bar (a, b)) ≡ look_rank (Bar (c, d)) → Bar (a, b) ≡ Bar (c, d)
+ranked_standing a b c d e =
+    let left : a ≡ c = same_rank a c (omega (arith, e, low_rank a, low_rank b, low_rank c, low_rank d)) in
+    let right : b ≡ d = same_rank b d (omega (arith, e, low_rank a, low_rank b, low_rank c, low_rank d)) in
+    cc
+
+ranked_reading : (a b c d : ℕ) → b ≤ 6 → d ≤ 6 → look_rank (Row (a, b)) ≡ look_rank (Row (c, d)) → Row (a, b) ≡ Row (c, d)
+ranked_reading a b c d x y e =
+    let one : a ≡ c = omega (arith, e) in
+    let other : b ≡ d = omega (arith, e) in
+    cc
+
+pub ranks_tell_looks : RanksTellLooks
+ranks_tell_looks (Cable (a, b)) (Cable (c, d)) named x y e = ranked_ends a b c d x y e
+ranks_tell_looks (Pair a) (Pair b) named x y e = ranked_pair a b x y e
+ranks_tell_looks (Bar (a, b)) (Bar (c, d)) named x y e = ranked_standing a b c d e
+ranks_tell_looks (Row (a, b)) (Row (c, d)) named x y e = ranked_reading a b c d x.within y.within e
+ranks_tell_looks (Cable a) (Pair b) named x y e = cc
+ranks_tell_looks (Cable a) (Bar b) named x y e = cc
+ranks_tell_looks (Cable a) (Row b) named x y e = cc
+ranks_tell_looks (Pair a) (Cable b) named x y e = cc
+ranks_tell_looks (Pair a) (Bar b) named x y e = cc
+ranks_tell_looks (Pair a) (Row b) named x y e = cc
+ranks_tell_looks (Bar a) (Cable b) named x y e = cc
+ranks_tell_looks (Bar a) (Pair b) named x y e = cc
+ranks_tell_looks (Bar a) (Row b) named x y e = cc
+ranks_tell_looks (Row a) (Cable b) named x y e = cc
+ranks_tell_looks (Row a) (Pair b) named x y e = cc
+ranks_tell_looks (Row a) (Bar b) named x y e = cc

@@ -1,0 +1,6 @@
+use Rattle.std.proofs.Common.{[]}
+use Rattle.kd_card.proofs.KindReading.{no_count}
+use Rattle.kd_card.proofs.kind_text.kind_of_parts.Goals as goal
+
+pub returns-then-count-eq0 : goal.returns-then-count-eq0
+returns-then-count-eq0 c = no_count c.args.name [] c.args.look.now c.args.count.now c.args.price.now c.in_ok-count.count c.in_ok-count.ensures c.if-count-eq0.true

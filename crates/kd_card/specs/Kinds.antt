@@ -1,0 +1,145 @@
+-- Kinds: what is alike among cables, pairs, bars or rows, how many there are of it, and the price that each of them has.
+use Rattle.std.specs.Prelude.{codes, decimal, ◌≡◌, ℕ, ◌+◌, ◌*◌, ◌<◌, ◌≤◌, List, [], ◌∷◌, ◌++◌, length, map, replicate, flat_map, ℤ, unsigned_abs, Option, Some, None}
+use Rattle.std.specs.Fmt.{signed_decimal}
+use Rattle.kd_tables.specs.declared.place.Place.{Place}
+use Rattle.kd_tables.specs.Places.{place_rank, standing_text, reading_text, IsBefore, IsReading}
+use Rattle.kd_state.specs.Words.{letter_text, line_of}
+use Rattle.kd_state.specs.Machine.{cable_letters}
+use Rattle.kd_state.specs.Costs.{column_letters}
+use Rattle.kd_card.specs.declared.look.Look.{Look}
+use Rattle.kd_card.specs.declared.look.Look.TheVariants.{Cable, Pair, Bar, Row}
+use Rattle.kd_card.specs.declared.look.Name.{Name}
+use Rattle.kd_card.specs.declared.look.Name.TheVariants as names
+use Rattle.kd_card.specs.declared.kinds.PricedKind.{PricedKind}
+use Rattle.kd_card.specs.declared.kinds.CableKind.{CableKind}
+use Rattle.kd_card.specs.declared.kinds.PairKind.{PairKind}
+use Rattle.kd_card.specs.declared.kinds.BarKind.{BarKind}
+use Rattle.kd_card.specs.declared.kinds.RowKind.{RowKind}
+
+-- ---- looks
+
+-- what the thing is called
+abbrev pub look_name : Look → Name
+look_name (Cable ends) = names.Cable
+look_name (Pair pair) = names.Pair
+look_name (Bar standing) = names.Bar
+look_name (Row numbers) = names.Row
+
+abbrev pub name_text : Name → List ℕ
+name_text names.Cable = codes "CABLE"
+name_text names.Pair = codes "PAIR"
+name_text names.Bar = codes "BAR"
+name_text names.Row = codes "ROW"
+
+-- letters as they are written, - for none
+abbrev pub letters_text : List ℕ → List ℕ
+letters_text [] = codes "-"
+letters_text (letter ∷ letters) = flat_map letter_text (letter ∷ letters)
+
+abbrev pub look_text : Look → List ℕ
+look_text (Cable ends) = letters_text (cable_letters ends)
+look_text (Pair pair) = letters_text (column_letters pair)
+look_text (Bar standing) = standing_text standing
+look_text (Row numbers) = reading_text numbers
+
+-- a cable's letters are in order, a single one first; and so are a pair's
+abbrev pub AreEnds : Option ℕ → Option ℕ → Type 0
+AreEnds None None = Unit {0}
+AreEnds None (Some other) = ⊥
+AreEnds (Some one) None = one < 26
+AreEnds (Some one) (Some other) = (one < other) × (other < 26)
+
+abbrev pub IsPairInOrder : Option (ℕ × ℕ) → Type 0
+IsPairInOrder None = Unit {0}
+IsPairInOrder (Some pair) = (pair.0 < pair.1) × (pair.1 < 26)
+
+-- what it says is in the one form in which it is written
+abbrev pub IsInForm : Look → Type 0
+IsInForm (Cable ends) = AreEnds ends.0 ends.1
+IsInForm (Pair pair) = IsPairInOrder pair
+IsInForm (Bar standing) = IsBefore standing.0 standing.1
+IsInForm (Row numbers) = IsReading numbers
+
+-- Looks of one name are in the order of these ranks: letters as in a dictionary, and behind them the empty cable or
+-- nothing; standings by the left place, and then by the right one; readings by the smaller number, and then by the larger.
+abbrev pub ends_rank : Option ℕ → Option ℕ → ℕ
+ends_rank None other = 702
+ends_rank (Some one) None = one * 27
+ends_rank (Some one) (Some other) = one * 27 + other + 1
+
+abbrev pub pair_rank : Option (ℕ × ℕ) → ℕ
+pair_rank None = 676
+pair_rank (Some pair) = pair.0 * 26 + pair.1
+
+abbrev pub standing_rank : Place × Place → ℕ
+standing_rank standing = place_rank standing.0 * 8 + place_rank standing.1
+
+abbrev pub reading_rank : ℕ × ℕ → ℕ
+reading_rank numbers = numbers.0 * 7 + numbers.1
+
+abbrev pub look_rank : Look → ℕ
+look_rank (Cable ends) = ends_rank ends.0 ends.1
+look_rank (Pair pair) = pair_rank pair
+look_rank (Bar standing) = standing_rank standing
+look_rank (Row numbers) = reading_rank numbers
+
+-- a thing of that name has this look, and the look this text
+pub record HasLook (name : Name) (text : List ℕ) (look : Look) : Type 0 where
+  pub called : look_name look ≡ name
+  pub form : IsInForm look
+  pub written : look_text look ≡ text
+
+-- ---- kinds
+
+-- a kind that may stand on a card
+pub record IsPricedKind (kind : PricedKind) : Type 0 where
+  pub form : IsInForm kind.look
+  pub some : 1 ≤ kind.count
+  pub most : kind.count ≤ 255
+  pub reach : unsigned_abs kind.price ≤ 9999
+
+-- the kinds are in order, each once, from that rank on
+abbrev pub AreKinds : ℕ → List PricedKind → Type 0
+AreKinds floor [] = Unit {0}
+AreKinds floor (kind ∷ kinds) = IsPricedKind kind × (floor ≤ look_rank kind.look) × AreKinds (look_rank kind.look + 1) kinds
+
+-- all are of things of that name
+abbrev pub AreCalled : Name → List PricedKind → Type 0
+AreCalled name [] = Unit {0}
+AreCalled name (kind ∷ kinds) = (look_name kind.look ≡ name) × AreCalled name kinds
+
+-- how many things the kinds are of
+abbrev pub counted : List PricedKind → ℕ
+counted [] = 0
+counted (kind ∷ kinds) = kind.count + counted kinds
+
+-- a price for each of these things
+abbrev pub prices_of_kinds : List PricedKind → List ℤ
+prices_of_kinds kinds = flat_map (λ kind. replicate kind.count kind.price) kinds
+
+-- the words of a kind's line: the name, what it looks like, how many there are, and the price
+abbrev pub kind_words : PricedKind → List (List ℕ)
+kind_words kind = name_text (look_name kind.look) ∷ look_text kind.look ∷ decimal kind.count ∷ signed_decimal kind.price ∷ []
+
+-- a kind of things of that name has these words
+pub record HasKindWords (name : Name) (words : List (List ℕ)) (kind : PricedKind) : Type 0 where
+  pub called : look_name kind.look ≡ name
+  pub good : IsPricedKind kind
+  pub written : kind_words kind ≡ words
+
+-- a line for each kind, with LF at its end
+abbrev pub kinds_text : List PricedKind → List ℕ
+kinds_text kinds = flat_map (λ kind. line_of (kind_words kind) ++ 10 ∷ []) kinds
+
+-- kinds of cables, pairs, bars and rows, as kinds of whatever things
+abbrev pub cable_kind : CableKind → PricedKind
+cable_kind kind = record { look = Cable kind.ends; count = kind.count; price = kind.price }
+
+abbrev pub pair_kind : PairKind → PricedKind
+pair_kind kind = record { look = Pair kind.pair; count = kind.count; price = kind.price }
+
+abbrev pub bar_kind : BarKind → PricedKind
+bar_kind kind = record { look = Bar kind.standing; count = kind.count; price = kind.price }
+
+abbrev pub row_kind : RowKind → PricedKind
+row_kind kind = record { look = Row kind.reading; count = kind.count; price = kind.price }

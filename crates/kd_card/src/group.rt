@@ -1,0 +1,45 @@
+ghost use Rattle.std.specs.Prelude.{◌≡◌};
+ghost use Rattle.kd_card.specs.CardText.{row_name, column_name, price_count};
+
+use super::look::Name;
+
+/// What the prices of a card are of.
+#[derive(Clone, Copy, Debug, PartialEq, Eq)]
+pub enum Group {
+    /// Of cables, and of pairs and nothings.
+    OfCables,
+    /// Of bars, and of the sheet's rows.
+    OfBars,
+}
+
+impl Group {
+    /// What the rows of the table of costs are called.
+    pub(crate) fn row_name(self) -> Name
+        ensures { result ≡ row_name self }
+    {
+        match self {
+            Group::OfCables => Name::Cable,
+            Group::OfBars => Name::Bar,
+        }
+    }
+
+    /// What its columns are called.
+    pub(crate) fn column_name(self) -> Name
+        ensures { result ≡ column_name self }
+    {
+        match self {
+            Group::OfCables => Name::Pair,
+            Group::OfBars => Name::Row,
+        }
+    }
+
+    /// How many rows there are, and how many columns.
+    pub fn number(self) -> usize
+        ensures { result ≡ price_count self }
+    {
+        match self {
+            Group::OfCables => 13,
+            Group::OfBars => 27,
+        }
+    }
+}

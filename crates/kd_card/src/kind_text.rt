@@ -1,0 +1,183 @@
+//! The lines of kinds: one for each cable, pair, bar or row that is unlike the others.
+ghost use Rattle.std.specs.Prelude.{◌≡◌, ◌≢◌, ◌+◌, ◌*◌, ◌<◌, ◌≤◌, [], ◌∷◌, ◌++◌, length, take, All, MatchOption, MatchResult};
+ghost use Rattle.arrayvec.specs.ArrayString.{array_string_len};
+ghost use Rattle.kd_state.specs.Words.{words_of};
+ghost use Rattle.kd_card.specs.Kinds.{name_text, kinds_text, HasKindWords, IsPricedKind};
+ghost use Rattle.kd_card.specs.CardText.{row_name};
+ghost use Rattle.kd_card.specs.CardFault.{IsFirstWord, BeginsWithName, LacksGroup, EndsGroup, IsNextKind, IsBadKind, BeginsWithGroup, IsGroupFault};
+
+use super::fault::CardFault;
+use super::group::Group;
+use super::kinds::PricedKind;
+use super::look::{Look, Name};
+use super::price_text::price_of_text;
+use arrayvec::{ArrayString, ArrayVec};
+use itoa::Buffer;
+use kd_state::laws::{lines_tell_words, numbers_and_letters_are_words, texts_tell_first_parts};
+use kd_state::{number_of_text, push_number, split_once, split_words};
+
+/// No group has more kinds in order, each once: their ranks are below 703.
+const MOST: usize = 704;
+
+/// The first word of a line.
+fn first_word(line: &[u8]) -> &[u8]
+    ensures { IsFirstWord line.now result.now }
+{
+    match split_once(line, b' ') {
+        Some((first, _)) => first,
+        None => line,
+    }
+}
+
+/// Whether prices are of cables or of bars, by the first word of their first line, which is that of this number.
+pub(crate) fn first_group(text: &[u8], line: usize) -> Result<Group, CardFault>
+    ensures { MatchResult result
+        (λ group. BeginsWithName (row_name group) text.now)
+        (LacksGroup line text.now) }
+{
+    if text.is_empty() {
+        return Err(CardFault::PriceMissing);
+    }
+    let Some((words, _)) = split_once(text, b'\n') else {
+        return Err(CardFault::BadLine(line));
+    };
+    let first = first_word(words);
+    if first == Name::Cable.text().as_bytes() {
+        Ok(Group::OfCables)
+    } else if first == Name::Bar.text().as_bytes() {
+        Ok(Group::OfBars)
+    } else {
+        Err(CardFault::PriceMissing)
+    }
+}
+
+/// The kind of things of that name whose line this is.
+fn kind_of_line(name: Name, line: &[u8]) -> Option<PricedKind>
+    requires { IsFirstWord line.now (name_text name) }
+    ensures { MatchOption result
+        ((kind : _) → ¬ (HasKindWords name (words_of line.now) kind))
+        (λ kind. HasKindWords name (words_of line.now) kind) }
+{
+    let words = split_words::<4>(line)?;
+    match words.as_slice() {
+        [_, look, count, price] => kind_of_parts(name, look, count, price),
+        _ => None,
+    }
+}
+
+/// The kind, of things of that name, of this look, count and price.
+fn kind_of_parts(name: Name, look: &[u8], count: &[u8], price: &[u8]) -> Option<PricedKind>
+    ensures { MatchOption result
+        ((kind : _) → ¬ (HasKindWords name (name_text name ∷ look.now ∷ count.now ∷ price.now ∷ []) kind))
+        (λ kind. HasKindWords name (name_text name ∷ look.now ∷ count.now ∷ price.now ∷ []) kind) }
+{
+    let look = Look::from_text(name, look)?;
+    let count = number_of_text(count)?;
+    let price = price_of_text(price)?;
+    if count == 0 {
+        return None;
+    }
+    Some(PricedKind { look, count, price })
+}
+
+/// The next kind of a group of things of that name, and what follows its line; none where the group ends. Its rank has to be
+/// at least this one, and its line has this number.
+fn next_kind(
+    text: &[u8],
+    name: Name,
+    floor: usize,
+    line: usize,
+) -> Result<Option<(PricedKind, &[u8])>, CardFault>
+    ensures { MatchResult result
+        (λ next. MatchOption next
+        (EndsGroup name text.now)
+        (λ found. IsNextKind name floor text.now found.0 found.1.now))
+        (IsBadKind name floor line text.now) }
+{
+    lines_tell_words();
+    texts_tell_first_parts();
+    numbers_and_letters_are_words();
+    if text.is_empty() {
+        return Ok(None);
+    }
+    let Some((words, rest)) = split_once(text, b'\n') else {
+        return Err(CardFault::BadLine(line));
+    };
+    if first_word(words) != name.text().as_bytes() {
+        return Ok(None);
+    }
+    match kind_of_line(name, words) {
+        Some(kind) if floor <= kind.look.rank() => Ok(Some((kind, rest))),
+        _ => Err(CardFault::BadLine(line)),
+    }
+}
+
+/// The kinds of a group of things of that name, in lines of which the first is that of this number, and what follows them.
+/// They are in order, each once, and of so many things together.
+pub(crate) fn read_kinds<'a>(
+    text: &'a [u8],
+    name: Name,
+    number: usize,
+    line: usize,
+) -> Result<(ArrayVec<PricedKind, MOST>, &'a [u8]), CardFault>
+    requires few { number ≤ 27 }
+    requires near { line < 300 }
+    ensures { MatchResult result
+        (λ found. BeginsWithGroup name number text.now found.0.items found.1.now)
+        (IsGroupFault name number line text.now) }
+{
+    let mut kinds = ArrayVec::new();
+    let mut rest = text;
+    let mut floor = 0;
+    let mut total = 0;
+    let mut at = line;
+    'kind: loop {
+        let next = match next_kind(rest, name, floor, at) {
+            Ok(next) => next,
+            Err(fault) => return Err(fault),
+        };
+        let Some((kind, after)) = next else {
+            break 'kind;
+        };
+        floor = kind.look.rank() + 1;
+        total += usize::from(kind.count);
+        kinds.push(kind);
+        rest = after;
+        at += 1;
+    }
+    if total == number {
+        Ok((kinds, rest))
+    } else {
+        Err(CardFault::PriceMissing)
+    }
+}
+
+/// Appends a line for each kind.
+pub(crate) fn push_kinds<const N: usize>(text: &mut ArrayString<N>, kinds: &[PricedKind])
+    requires room { array_string_len text.old + 24 * length kinds.now ≤ N }
+    requires kinds { All IsPricedKind kinds.now }
+    ensures bytes { text.new.bytes ≡ text.old.bytes ++ kinds_text kinds.now }
+    ensures len { array_string_len text.new ≤ array_string_len text.old + 24 * length kinds.now }
+{
+    for kind in kinds {
+        push_kind(text, kind);
+    }
+}
+
+/// Appends the line of the kind.
+fn push_kind<const N: usize>(text: &mut ArrayString<N>, kind: &PricedKind)
+    requires room { array_string_len text.old + 24 ≤ N }
+    requires kind { IsPricedKind kind.now }
+    ensures bytes { text.new.bytes ≡ text.old.bytes ++ kinds_text (kind.now ∷ []) }
+    ensures len { array_string_len text.new ≤ array_string_len text.old + 24 }
+{
+    let mut buffer = Buffer::new();
+    text.push_str(kind.look.name().text());
+    text.push_str(" ");
+    text.push_str(kind.look.text().as_str());
+    text.push_str(" ");
+    push_number(text, kind.count);
+    text.push_str(" ");
+    text.push_str(buffer.format(kind.price));
+    text.push_str("\n");
+}

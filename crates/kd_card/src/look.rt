@@ -1,0 +1,329 @@
+//! What alike things have in common, and its text.
+ghost use Rattle.std.specs.Prelude.{◌≡◌, ◌≢◌, ◌↔◌, ℕ, ◌+◌, ◌<◌, ◌≤◌, IsTrue, MatchOption, Some};
+ghost use Rattle.kd_state.specs.Words.{letter_text};
+ghost use Rattle.kd_state.specs.Machine.{cable_letters};
+ghost use Rattle.kd_state.specs.Costs.{column_letters};
+ghost use Rattle.kd_tables.specs.Places as places;
+ghost use Rattle.kd_card.specs.Kinds.{name_text, look_name, look_text, look_rank, letters_text, standing_rank, reading_rank, AreEnds, IsPairInOrder, IsInForm, HasLook};
+
+use arrayvec::ArrayString;
+use kd_tables::{Letter, Place, Reading, Standing};
+
+/// The letters in a cable: none, one, or two in alphabetical order.
+type Ends = (Option<Letter>, Option<Letter>);
+
+/// What things are called in the lines of a card.
+#[derive(Clone, Copy, Debug, PartialEq, Eq)]
+pub(crate) enum Name {
+    Cable,
+    Pair,
+    Bar,
+    Row,
+}
+
+impl Name {
+    /// The first word of a kind's line.
+    pub(crate) fn text(self) -> &'static str
+        ensures { result.now ≡ name_text self }
+    {
+        match self {
+            Name::Cable => "CABLE",
+            Name::Pair => "PAIR",
+            Name::Bar => "BAR",
+            Name::Row => "ROW",
+        }
+    }
+}
+
+/// What alike things have in common: the letters of a cable, those of a pair or of nothing, how a bar stands, or how a row
+/// reads.
+#[derive(Clone, Copy, Debug)]
+pub enum Look {
+    /// A cable's letters: a single one comes first, two are in alphabetical order.
+    Cable((Option<Letter>, Option<Letter>)),
+    /// A pair's letters in alphabetical order, or nothing.
+    Pair(Option<(Letter, Letter)>),
+    Bar(Standing),
+    Row(Reading),
+}
+
+impl Look {
+    /// What a thing of that look is called.
+    pub(crate) fn name(self) -> Name
+        ensures { result ≡ look_name self }
+    {
+        match self {
+            Look::Cable(_) => Name::Cable,
+            Look::Pair(_) => Name::Pair,
+            Look::Bar(_) => Name::Bar,
+            Look::Row(_) => Name::Row,
+        }
+    }
+
+    /// Whether letters are in the one order in which they are written.
+    pub(crate) fn is_in_form(self) -> bool
+        ensures { IsTrue result ↔ IsInForm self }
+    {
+        match self {
+            Look::Cable(ends) => are_ends(ends),
+            Look::Pair(pair) => is_in_order(pair),
+            Look::Bar(standing) => is_a_standing(standing),
+            Look::Row(reading) => is_a_reading(reading),
+        }
+    }
+
+    /// Where it stands among all looks of its name, in the order of a card's lines.
+    pub fn rank(self) -> usize
+        ensures value { result ≡ look_rank self }
+        ensures few { IsInForm self → result < 703 }
+    {
+        match self {
+            Look::Cable(ends) => ends_rank(ends),
+            Look::Pair(pair) => pair_rank(pair),
+            Look::Bar(standing) => bar_rank(standing),
+            Look::Row(reading) => row_rank(reading),
+        }
+    }
+
+    /// How the look is written.
+    pub(crate) fn text(self) -> ArrayString<8>
+        ensures { result.bytes ≡ look_text self }
+    {
+        match self {
+            Look::Cable(ends) => text_of_ends(ends),
+            Look::Pair(pair) => text_of_pair(pair),
+            Look::Bar(standing) => text_of_standing(standing),
+            Look::Row(reading) => text_of_reading(reading),
+        }
+    }
+
+    /// The look of that text, of a thing of that name.
+    pub(crate) fn from_text(name: Name, text: &[u8]) -> Option<Self>
+        ensures { MatchOption result
+            ((look : _) → ¬ (HasLook name text.now look))
+            (λ look. HasLook name text.now look) }
+    {
+        match name {
+            Name::Cable => Some(Look::Cable(ends_of_text(text)?)),
+            Name::Pair => Some(Look::Pair(pair_of_text(text)?)),
+            Name::Bar => Some(Look::Bar(standing_of_text(text)?)),
+            Name::Row => Some(Look::Row(reading_of_text(text)?)),
+        }
+    }
+}
+
+/// Whether a cable's letters are in order.
+fn are_ends(ends: Ends) -> bool
+    ensures { IsTrue result ↔ AreEnds ends.0 ends.1 }
+{
+    match ends {
+        (None, None) => true,
+        (Some(letter), None) => letter.index() < 26,
+        (None, Some(_)) => false,
+        (Some(one), Some(other)) => is_before(one, other),
+    }
+}
+
+/// Whether the first letter comes before the second in the alphabet.
+fn is_before(one: Letter, other: Letter) -> bool
+    ensures { IsTrue result ↔ ((one < other) × (other < 26)) }
+{
+    one.index() < other.index()
+}
+
+/// Whether a pair's letters are in order.
+fn is_in_order(pair: Option<(Letter, Letter)>) -> bool
+    ensures { IsTrue result ↔ IsPairInOrder pair }
+{
+    match pair {
+        None => true,
+        Some((one, other)) => is_before(one, other),
+    }
+}
+
+/// Each standing has its left lug before its right one.
+fn is_a_standing(standing: Standing) -> bool
+    ensures answer { IsTrue result }
+    ensures standing { places.IsBefore standing.0 standing.1 }
+{
+    let _after = standing.right();
+    true
+}
+
+/// Each reading has two numbers that differ, or are both 0.
+fn is_a_reading(reading: Reading) -> bool
+    ensures answer { IsTrue result }
+    ensures reading { places.IsReading reading }
+{
+    let _numbers = reading.numbers();
+    true
+}
+
+/// Where a cable's letters stand among all that a cable may have.
+fn ends_rank(ends: Ends) -> usize
+    ensures value { result ≡ look_rank (Look.Cable ends) }
+    ensures few { result < 703 }
+{
+    match ends {
+        (None, _) => 702,
+        (Some(letter), None) => letter.index() * 27,
+        (Some(one), Some(other)) => one.index() * 27 + other.index() + 1,
+    }
+}
+
+/// Where a pair stands among all pairs and nothing.
+fn pair_rank(pair: Option<(Letter, Letter)>) -> usize
+    ensures value { result ≡ look_rank (Look.Pair pair) }
+    ensures few { result < 703 }
+{
+    match pair {
+        None => 676,
+        Some((one, other)) => one.index() * 26 + other.index(),
+    }
+}
+
+/// Where a standing stands among all.
+fn bar_rank(standing: Standing) -> usize
+    ensures value { result ≡ standing_rank standing }
+    ensures few { result < 703 }
+{
+    place_rank(standing.left()) * 8 + place_rank(standing.right())
+}
+
+/// How many places of a bar lie to the left of this one.
+fn place_rank(place: Place) -> usize
+    ensures value { result ≡ places.place_rank place }
+    ensures few { result < 8 }
+{
+    match place {
+        Place::One => 0,
+        Place::ZeroLeft => 1,
+        Place::Two => 2,
+        Place::Three => 3,
+        Place::Four => 4,
+        Place::Five => 5,
+        Place::ZeroRight => 6,
+        Place::Six => 7,
+    }
+}
+
+/// Where a reading stands among all.
+fn row_rank(reading: Reading) -> usize
+    ensures value { result ≡ reading_rank reading }
+    ensures few { result < 703 }
+{
+    let (smaller, larger) = reading.numbers();
+    usize::from(smaller) * 7 + usize::from(larger)
+}
+
+/// The letters that are there, or `-` for none.
+fn text_of_letters(one: Option<Letter>, other: Option<Letter>) -> ArrayString<8>
+    ensures { result.bytes ≡ letters_text (cable_letters (one, other)) }
+{
+    let mut text = ArrayString::new();
+    match (one, other) {
+        (None, None) => text.push('-'),
+        (Some(letter), None) => text.push(char::from(letter.byte())),
+        (None, Some(letter)) => text.push(char::from(letter.byte())),
+        (Some(one), Some(other)) => {
+            text.push(char::from(one.byte()));
+            text.push(char::from(other.byte()));
+        }
+    }
+    text
+}
+
+/// The letters in a cable, or `-` for none.
+fn text_of_ends(ends: Ends) -> ArrayString<8>
+    ensures { result.bytes ≡ look_text (Look.Cable ends) }
+{
+    let (one, other) = ends;
+    text_of_letters(one, other)
+}
+
+/// The letters of a pair, or `-` for nothing.
+fn text_of_pair(pair: Option<(Letter, Letter)>) -> ArrayString<8>
+    ensures { result.bytes ≡ look_text (Look.Pair pair) }
+{
+    match pair {
+        None => text_of_letters(None, None),
+        Some((one, other)) => text_of_letters(Some(one), Some(other)),
+    }
+}
+
+/// The text of a standing.
+fn text_of_standing(standing: Standing) -> ArrayString<8>
+    ensures { result.bytes ≡ look_text (Look.Bar standing) }
+{
+    standing.text()
+}
+
+/// The text of a reading.
+fn text_of_reading(reading: Reading) -> ArrayString<8>
+    ensures { result.bytes ≡ look_text (Look.Row reading) }
+{
+    reading.text()
+}
+
+/// The cable's letters of that text.
+fn ends_of_text(text: &[u8]) -> Option<Ends>
+    ensures { MatchOption result
+        ((ends : _) → ¬ (HasLook Name.Cable text.now (Look.Cable ends)))
+        (λ ends. HasLook Name.Cable text.now (Look.Cable ends)) }
+{
+    match text {
+        [b'-'] => Some((None, None)),
+        [letter] => Some((Some(Letter::from_byte(*letter)?), None)),
+        [one, other] => {
+            let (one, other) = two_letters(*one, *other)?;
+            Some((Some(one), Some(other)))
+        }
+        _ => None,
+    }
+}
+
+/// The pair, or nothing, of that text.
+fn pair_of_text(text: &[u8]) -> Option<Option<(Letter, Letter)>>
+    ensures { MatchOption result
+        ((pair : _) → ¬ (HasLook Name.Pair text.now (Look.Pair pair)))
+        (λ pair. HasLook Name.Pair text.now (Look.Pair pair)) }
+{
+    match text {
+        [b'-'] => Some(None),
+        [one, other] => Some(Some(two_letters(*one, *other)?)),
+        _ => None,
+    }
+}
+
+/// The two letters of these capital letters, if the first comes before the second.
+fn two_letters(one: u8, other: u8) -> Option<(Letter, Letter)>
+    ensures { MatchOption result
+        ((first second : ℕ) → first < second → second < 26 → one ≡ first + 65 → other ≢ second + 65)
+        (λ letters. (letters.0 < letters.1) × (letters.1 < 26) × (one ≡ letters.0 + 65) × (other ≡ letters.1 + 65)) }
+{
+    let one = Letter::from_byte(one)?;
+    let other = Letter::from_byte(other)?;
+    is_before(one, other).then_some((one, other))
+}
+
+/// The standing of that text.
+fn standing_of_text(text: &[u8]) -> Option<Standing>
+    ensures { MatchOption result
+        ((standing : _) → ¬ (HasLook Name.Bar text.now (Look.Bar standing)))
+        (λ standing. HasLook Name.Bar text.now (Look.Bar standing)) }
+{
+    let standing = Standing::from_text(text)?;
+    let _after = standing.right();
+    Some(standing)
+}
+
+/// The reading of that text.
+fn reading_of_text(text: &[u8]) -> Option<Reading>
+    ensures { MatchOption result
+        ((reading : _) → ¬ (HasLook Name.Row text.now (Look.Row reading)))
+        (λ reading. HasLook Name.Row text.now (Look.Row reading)) }
+{
+    let reading = Reading::from_text(text)?;
+    let _numbers = reading.numbers();
+    Some(reading)
+}

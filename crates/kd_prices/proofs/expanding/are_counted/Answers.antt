@@ -1,0 +1,25 @@
+use Rattle.std.proofs.Common.{◌∙◌, sym, refl, subst, arith}
+use Rattle.std.proofs.lemmas.Bool.{false≢true}
+use Rattle.std.proofs.lemmas.List.{take_all}
+use Rattle.std.proofs.lemmas.List.Elements.{All-more, All-same, All-nil}
+use Rattle.kd_card.specs.Proving.{HasCount}
+use Rattle.kd_prices.proofs.expanding.are_counted.Goals as goal
+
+pub returns-then-not-is_counted : goal.returns-then-not-is_counted
+returns-then-not-is_counted c = (
+  λ e. absurd (false≢true e),
+  λ all.
+      let here = subst (HasCount c.args.looks.now) (sym c.kind-item.is) (all c.loop-kind.kind-index c.kind-item.result (omega arith)) in
+      absurd (false≢true (sym c.if-not-is_counted.true ∙ c.is_counted.ensures.1 here)),
+)
+
+pub loop-kind-preserved : goal.loop-kind-preserved
+loop-kind-preserved c =
+    All-more (HasCount c.args.looks.now) c.args.kinds.now c.loop-kind.kind-index c.kind-item.result (omega arith) c.loop-kind.invariant
+    (subst (HasCount c.args.looks.now) c.kind-item.is (c.is_counted.ensures.0 c.if-not-is_counted.false))
+
+pub returns : goal.returns
+returns c = (
+  λ e. All-same (HasCount c.args.looks.now) _ _ (sym (take_all c.loop-kind.kind-index c.args.kinds.now (omega arith))) c.loop-kind.invariant,
+  λ all. refl,
+)

@@ -1,0 +1,10 @@
+use Rattle.std.specs.Prelude.{◌≡◌, ℕ, ◌<◌, length}
+use Rattle.kd_card.specs.Prices.{price_at}
+use Rattle.kd_card.specs.Proving.{IsPriced, look_at}
+use Rattle.kd_prices.proofs.expanding.priced.Given as goal
+
+abbrev pub invariant-loop-place : goal.invariant-loop-place
+invariant-loop-place g l = record {
+  size : length l.prices ≡ g.row.N;
+  done : (place : ℕ) → place < l.place → IsPriced (look_at l.looks place) (price_at l.prices place) l.kinds;
+}

@@ -1,0 +1,9 @@
+use Rattle.std.specs.Prelude.{◌≡◌, map, take, length}
+use Rattle.kd_card.specs.declared.look.Look.TheVariants.{Bar}
+use Rattle.kd_prices.proofs.looks.bar_looks.Given as goal
+
+abbrev pub invariant-loop-place : goal.invariant-loop-place
+invariant-loop-place l = record {
+  size : length l.looks ≡ 27;
+  done : take l.place l.looks ≡ map (λ standing. Bar standing) (take l.place l.bars);
+}

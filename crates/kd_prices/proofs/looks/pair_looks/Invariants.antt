@@ -1,0 +1,11 @@
+use Rattle.std.specs.Prelude.{◌≡◌, map, take, length}
+use Rattle.kd_card.specs.declared.look.Look.TheVariants.{Pair}
+use Rattle.kd_card.specs.Proving.{pair_in_order}
+use Rattle.kd_state.specs.Costs.{columns_of}
+use Rattle.kd_prices.proofs.looks.pair_looks.Given as goal
+
+abbrev pub invariant-loop-place : goal.invariant-loop-place
+invariant-loop-place l = record {
+  size : length l.looks ≡ 13;
+  done : take l.place l.looks ≡ map (λ column. Pair (pair_in_order column)) (take l.place (columns_of l.pairs));
+}
