@@ -231,7 +231,7 @@ fn prices_are_fixed(rt: &impl Abort, machine: &Machine, day: &SheetDay) -> Resul
     let parts = card.prices.parts();
     for place in 0..27 {
         for step in [-1, 1] {
-            if let Some(prices) = with_price(parts, place, step) {
+            if let Some(prices) = with_price(&parts, place, step) {
                 card.prices = prices;
                 assert!(rt; check(machine, day, &card).is_err());
             }
@@ -241,17 +241,19 @@ fn prices_are_fixed(rt: &impl Abort, machine: &Machine, day: &SheetDay) -> Resul
 }
 
 /// The prices with a step added to that of a row.
-fn with_price(parts: PriceParts, place: usize, step: i16) -> Option<Prices> {
+fn with_price(parts: &PriceParts, place: usize, step: i16) -> Option<Prices> {
     match parts {
-        PriceParts::Cables(mut rows, columns) => {
+        PriceParts::Cables(rows, columns) => {
+            let mut rows = *rows;
             let price = rows.get(place)?.checked_add(step)?;
             *rows.get_mut(place)? = price;
-            Prices::cables(rows, columns)
+            Prices::cables(rows, *columns)
         }
-        PriceParts::Bars(mut rows, columns) => {
+        PriceParts::Bars(rows, columns) => {
+            let mut rows = *rows;
             let price = rows.get(place)?.checked_add(step)?;
             *rows.get_mut(place)? = price;
-            Prices::bars(rows, columns)
+            Prices::bars(rows, *columns)
         }
         PriceParts::CableKinds(..) | PriceParts::BarKinds(..) => None,
     }

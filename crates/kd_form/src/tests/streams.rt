@@ -1,4 +1,6 @@
 //! Forms that are received as they come.
+ghost use Rattle.std.specs.Prelude.{◌≤◌};
+
 use super::samples::{Keyed, M1, keyed};
 use crate::{FormFault, receive_stream};
 use kd_tables::{MemorySink, MemorySource};
@@ -80,7 +82,9 @@ static CASES: [Case; 12] = [
 ];
 
 /// The forms are received so from a source that gives so many bytes at once.
-fn are_received(rt: &impl Abort, (machine, day): &Keyed, cases: &[Case], piece: usize) {
+fn are_received(rt: &impl Abort, (machine, day): &Keyed, cases: &[Case], piece: usize)
+    requires { 1 ≤ piece }
+{
     for case in cases {
         let mut source = MemorySource::new(case.form, piece, None);
         let mut sink = MemorySink::<64>::new(64);
