@@ -160,6 +160,12 @@ static int keeps(const struct run *r)
     return 0;
 }
 
+/* Whether the refused write was the last one, so that no byte came behind those before it. */
+static int stops(const struct run *r)
+{
+    return r->calls[WRITE] == r->number && (!r->byte_by_byte || r->out == (size_t)r->number - 1);
+}
+
 static int is_right(const struct run *r)
 {
     const char *device = "refused 6 Device\n";
@@ -167,7 +173,7 @@ static int is_right(const struct run *r)
     case MEMORY: return is_own(r) || (refuses(r, "refused 26 NoMemory\n") && r->out == 0);
     case OPEN: return refuses(r, device) && r->out == 0;
     case READ: return refuses(r, device) && is_prefix(r) && keeps(r);
-    case WRITE: return refuses(r, device) && is_prefix(r) && r->calls[WRITE] == r->number && (!r->byte_by_byte || r->out == (size_t)r->number - 1);
+    case WRITE: return refuses(r, device) && is_prefix(r) && stops(r);
     case ERROR_LINE: return answers(r, WEXITSTATUS(own->status), own->err_bytes, r->err) && r->err < own->err && is_own_out(r);
     default: return is_own(r);
     }
@@ -175,6 +181,7 @@ static int is_right(const struct run *r)
 
 static long passed, failed;
 
+/* A line for a run that failed; of a command only the first few. */
 static void tell(const char *what)
 {
     char line[300];
@@ -207,7 +214,7 @@ static int begin(enum kind kind, long number, int from_there_on, int byte_by_byt
     return 0;
 }
 
-/* Refuses a call of a kind, the next one, .. until one that never comes. True in a child. */
+/* Refuses the calls of a kind one after another, from the first that is named to one that never comes. True in a child. */
 static int refuse_each(enum kind kind, long first, int from_there_on, int byte_by_byte)
 {
     for (long number = first;; number++) {
