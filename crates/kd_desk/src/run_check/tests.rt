@@ -226,12 +226,12 @@ fn no_price_of_a_card_can_be_changed(rt: HostRuntime) -> Result<(), Fail> {
 
 /// The planner's card proves itself, and with one price changed by one it doesn't.
 fn prices_are_fixed(rt: &impl Abort, machine: &Machine, day: &SheetDay) -> Result<(), Fail> {
+    let planned = plan(machine, day)?;
     let mut card = plan(machine, day)?;
     assert_eq!(rt; check(machine, day, &card), Ok(()));
-    let parts = card.prices.parts();
     for place in 0..27 {
         for step in [-1, 1] {
-            if let Some(prices) = with_price(&parts, place, step) {
+            if let Some(prices) = with_price(planned.prices.parts(), place, step) {
                 card.prices = prices;
                 assert!(rt; check(machine, day, &card).is_err());
             }
@@ -241,19 +241,17 @@ fn prices_are_fixed(rt: &impl Abort, machine: &Machine, day: &SheetDay) -> Resul
 }
 
 /// The prices with a step added to that of a row.
-fn with_price(parts: &PriceParts, place: usize, step: i16) -> Option<Prices> {
+fn with_price(parts: PriceParts, place: usize, step: i16) -> Option<Prices> {
     match parts {
-        PriceParts::Cables(rows, columns) => {
-            let mut rows = *rows;
+        PriceParts::Cables(mut rows, columns) => {
             let price = rows.get(place)?.checked_add(step)?;
             *rows.get_mut(place)? = price;
-            Prices::cables(rows, *columns)
+            Prices::cables(rows, columns)
         }
-        PriceParts::Bars(rows, columns) => {
-            let mut rows = *rows;
+        PriceParts::Bars(mut rows, columns) => {
             let price = rows.get(place)?.checked_add(step)?;
             *rows.get_mut(place)? = price;
-            Prices::bars(rows, *columns)
+            Prices::bars(rows, columns)
         }
         PriceParts::CableKinds(..) | PriceParts::BarKinds(..) => None,
     }

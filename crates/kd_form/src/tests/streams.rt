@@ -1,6 +1,4 @@
 //! Forms that are received as they come.
-ghost use Rattle.std.specs.Prelude.{◌≤◌};
-
 use super::samples::{Keyed, M1, keyed};
 use crate::{FormFault, receive_stream};
 use kd_tables::{MemorySink, MemorySource};
@@ -82,11 +80,9 @@ static CASES: [Case; 12] = [
 ];
 
 /// The forms are received so from a source that gives so many bytes at once.
-fn are_received(rt: &impl Abort, (machine, day): &Keyed, cases: &[Case], piece: usize)
-    requires { 1 ≤ piece }
-{
+fn are_received(rt: &impl Abort, (machine, day): &Keyed, cases: &[Case], piece: usize) {
     for case in cases {
-        let mut source = MemorySource::new(case.form, piece, None);
+        let mut source = MemorySource::new(case.form, piece.max(1), None);
         let mut sink = MemorySink::<64>::new(64);
         let answer = receive_stream(machine, day, &mut source, &mut sink);
         assert_eq!(rt; answer.err(), case.fault);
