@@ -36,7 +36,7 @@ static CASES: [(Enigma, &str); 4] = [
 fn are_zero(card: &Card) -> bool {
     match card.prices.parts() {
         PriceParts::Cables(cables, pairs) => cables == [0; 13] && pairs == [0; 13],
-        PriceParts::Bars(..) => false,
+        _ => false,
     }
 }
 
