@@ -64,7 +64,7 @@ static REFUSED: [Case; 10] = [
     (MACHINE, "SEAT", List(BadLine(1))),
     (MACHINE, "TURN 4 B\nSEAT", List(BadLine(2))),
     (MACHINE, "CARD\n", List(BadLine(1))),
-    (MACHINE, "CARD 2 DAY 8\n", Card(CardFault::BadHead)),
+    (MACHINE, "CARD 3 DAY 8\n", Card(CardFault::BadHead)),
     (MACHINE, CUT, Card(CardFault::BadLine(9))),
     (
         MACHINE,

@@ -51,7 +51,7 @@ static UNREAD: [(&str, &str, u8, &str, DeskFault); 4] = [
 
 /// What is changed of the card of the eleventh day, and the fault that it then has on another day.
 static BAD_CARDS: [(Change, DeskFault); 6] = [
-    (["CARD 1", "CARD 2"], Card(BadHead)),
+    (["CARD 1", "CARD 3"], Card(BadHead)),
     (["SUM 0\n", "SUM"], Card(BadLine(5))),
     (["CABLES", "CABLE"], Card(PriceMissing)),
     (["SETTINGS 0", "SETTINGS 1"], Card(CountWrong)),
