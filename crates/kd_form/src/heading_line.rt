@@ -15,9 +15,7 @@ use super::heading::{Heading, Indicator};
 use super::key_line::slots_of;
 use arrayvec::ArrayVec;
 use kd_state::laws::{lines_tell_words, numbers_and_letters_are_words, texts_tell_first_parts};
-use kd_state::{
-    PerSlot, SheetDay, number_of_text, split_once, split_words, wide_number_of_text,
-};
+use kd_state::{PerSlot, SheetDay, number_of_text, split_once, split_words, wide_number_of_text};
 use kd_tables::Letter;
 
 /// Which part of how many the word says, if they are from 1 to 99.

@@ -17,7 +17,8 @@ use kd_assign::{Solution, assign};
 use kd_card::Card;
 use kd_card::laws::proving_cards_are_shortest;
 use kd_state::{
-    Machine, OneModel, Parts, PinEntry, PinParts, RotorEntry, RotorParts, SheetDay, bar_costs, cable_costs,
+    Machine, OneModel, Parts, PinEntry, PinParts, RotorEntry, RotorParts, SheetDay, bar_costs,
+    cable_costs,
 };
 
 /// The card that leads the machine to the day by the fewest settings. Which of several shortest ones it is isn't promised,

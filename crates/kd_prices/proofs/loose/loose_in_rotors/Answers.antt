@@ -18,6 +18,6 @@ returns-clause-value c =
     let wheels = c.args.entry.now.wheels in
     let seated = c.loose_slots.result + c.loose_reflector.result in
     let here : (seated + c.loose_rings.result + c.loose_letters.result)
-        ≡ seated + others ring_in (λ w. w.ring) c.args.machine.now wheels + others letter_in (λ w. w.letter) c.args.machine.now wheels = cc in
+    ≡ seated + others ring_in (λ w. w.ring) c.args.machine.now wheels + others letter_in (λ w. w.letter) c.args.machine.now wheels = cc in
     here ∙ subst (λ m. seated + others ring_in (λ w. w.ring) m wheels + others letter_in (λ w. w.letter) m wheels ≡ loose_count m (OfRotors (rotor_values c.args.entry.now)))
     (sym c.requires.parts) cc
