@@ -105,7 +105,8 @@ fn rotor_settings(
     requires machine { IsMachine (Parts.Rotor parts.now) }
     requires legal { IsLegalDay (OfRotors (rotor_values entry.now)) }
     requires model { parts.now.model ≡ entry.now.model }
-    requires room { length (planned_lines (Parts.Rotor parts.now) (OfRotors (rotor_values entry.now)) to.now) ≤ 192 }
+    requires room { length (planned_lines (Parts.Rotor parts.now)
+        (OfRotors (rotor_values entry.now)) to.now) ≤ 192 }
     ensures { result.items
         ≡ planned_lines (Parts.Rotor parts.now) (OfRotors (rotor_values entry.now)) to.now }
 {
@@ -125,7 +126,8 @@ fn rotor_settings(
 fn pin_settings(parts: &PinParts, entry: &PinEntry, to: &[u8; 27]) -> Settings
     requires legal { IsLegalDay (OfPins (pin_values entry.now)) }
     requires within { All (λ j. j < 27) to.now }
-    requires room { length (planned_lines (Parts.Pin parts.now) (OfPins (pin_values entry.now)) to.now) ≤ 192 }
+    requires room { length (planned_lines (Parts.Pin parts.now)
+        (OfPins (pin_values entry.now)) to.now) ≤ 192 }
     ensures { result.items
         ≡ planned_lines (Parts.Pin parts.now) (OfPins (pin_values entry.now)) to.now }
 {
