@@ -1,5 +1,5 @@
 -- What a card that was planned and written promises.
-use Rattle.std.proofs.Common.{◌≡◌, ℕ, List, Result, Ok, Err, IsErrAnd, refl, subst}
+use Rattle.std.proofs.Common.{◌≡◌, ℕ, List, Result, Ok, Err, IsErrAnd, refl, sym, subst}
 use Rattle.std.specs.Io.KnownBytes.{Appends}
 use Rattle.kd_tables.specs.Writing.{TakesFront}
 use Rattle.kd_state.specs.declared.machine.parts.Parts.{Parts}
@@ -7,13 +7,16 @@ use Rattle.kd_state.specs.declared.setting.Setting.{Setting}
 use Rattle.kd_state.specs.Machine.{IsMachine}
 use Rattle.kd_state.specs.SheetDay.{Day, IsLegalDay, day_number}
 use Rattle.kd_state.specs.Laws.{ListsKeepMachines, ReadingIsReady, ReadingIsItsCipher, EquallySetDecipher}
+use Rattle.kd_card.specs.declared.card.Card as declared
 use Rattle.kd_card.specs.declared.prices.PriceParts.{PriceParts}
 use Rattle.kd_card.specs.CardText.{IsCard}
 use Rattle.kd_plan.specs.Planned.{Plans}
+use Rattle.kd_prices.specs.Kinds.{IsByKind}
 use Rattle.kd_desk.specs.declared.fault.DeskFault.{DeskFault}
 use Rattle.kd_desk.specs.declared.fault.DeskFault.TheVariants as faults
 use Rattle.kd_desk.specs.Headline as headline
 use Rattle.kd_tables.specs.Ports.{Port}
+use Rattle.kd_desk.specs.Ports.{WritesText}
 use Rattle.kd_desk.specs.RunCard.{Prints, Card}
 use Rattle.kd_desk.proofs.Failing.{answered}
 
@@ -25,9 +28,9 @@ pub record Laws : Type 0 where
   pub decipher : EquallySetDecipher
 
 module _ (laws : Laws) (m : Parts) (s : Day) (is_machine : IsMachine m) (legal : IsLegalDay s) where
-  leaves : (text settings : List _) (prices : PriceParts) → Plans m s settings prices → IsCard text (day_number s) settings prices
-      → headline.LeavesTheSheetsMachine m s settings
-  leaves text settings prices plans card =
+  leaves : (text settings : List _) (numbered prices : PriceParts) → Plans m s settings numbered
+      → IsCard text (day_number s) settings prices → headline.LeavesTheSheetsMachine m s settings
+  leaves text settings numbered prices plans card =
       let n = plans.leads.0 in
       let machine = laws.keep m n settings is_machine card.in_range plans.leads.1 in (
         n,
@@ -44,40 +47,40 @@ module _ (laws : Laws) (m : Parts) (s : Day) (is_machine : IsMachine m) (legal :
   decipher one other text set are =
       laws.decipher one other s text set.machine set.other_machine legal set.on_key set.other_on_key set.letters are
 
-  pub whole : (settings : List Setting) (prices : PriceParts) (text : List ℕ) (day : ℕ) (sink : Port) → Plans m s settings prices
-      → day ≡ day_number s → IsCard text day settings prices → Appends sink.had sink.has text → Prints m s (day_number s) sink (Ok (tt {0}))
-  whole settings prices text day sink plans number card taken =
-      let dated = subst (λ d. IsCard text d settings prices) number card in
-      Card (record {
-        settings = settings;
-        prices = prices;
-        plans = plans;
-        leaves = leaves text settings prices plans dated;
-        deciphers = decipher;
-        text = text;
-        card = dated;
-        written = record { written = record { whole = taken; front = tt }; device = tt };
-      })
+  -- the card that was planned and the same one with prices by kind
+  module _ (planned card : declared.Card) (plans : Plans m s planned.settings.items planned.prices) (kinds : IsByKind m s planned card) where
+    same : Plans m s card.settings.items planned.prices
+    same = subst (λ settings. Plans m s settings planned.prices) (sym kinds.settings) plans
 
-  part_of : (settings : List Setting) (prices : PriceParts) (text : List ℕ) (sink : Port) → Plans m s settings prices
-      → IsCard text (day_number s) settings prices → TakesFront sink.had sink.has text → Prints m s (day_number s) sink (Err faults.Device)
-  part_of settings prices text sink plans card taken =
-      Card (record {
-        settings = settings;
-        prices = prices;
-        plans = plans;
-        leaves = leaves text settings prices plans card;
-        deciphers = decipher;
-        text = text;
-        card = card;
-        written = record { written = record { whole = tt; front = taken }; device = refl };
-      })
+    written : (text : List ℕ) (day : ℕ) (sink : Port) (answer : Result (Unit {0}) DeskFault) → day ≡ day_number s
+        → IsCard text day card.settings.items card.prices → WritesText text sink answer → Prints m s (day_number s) sink answer
+    written text day sink answer number is_card takes =
+        let dated = subst (λ d. IsCard text d card.settings.items card.prices) number is_card in
+        Card (record {
+          settings = card.settings.items;
+          numbered = planned.prices;
+          plans = same;
+          prices = card.prices;
+          version = kinds.kinds;
+          proves = record { numbered = planned.prices; expands = kinds.expands; proves = same.proves };
+          leaves = leaves text card.settings.items planned.prices card.prices same dated;
+          deciphers = decipher;
+          text = text;
+          card = dated;
+          written = takes;
+        })
 
-  pub part : (settings : List Setting) (prices : PriceParts) (text : List ℕ) (day : ℕ) (sink : Port) (answer : Result (Unit {0}) DeskFault) → Plans m s settings prices
-      → day ≡ day_number s → IsCard text day settings prices → TakesFront sink.had sink.has text → IsErrAnd answer (λ made. made ≡ faults.Device) → Prints m s (day_number s) sink answer
-  part settings prices text day sink answer plans number card taken made =
-      answered answer faults.Device (Prints m s (day_number s) sink) made
-      (part_of settings prices text sink plans (subst (λ d. IsCard text d settings prices) number card) taken)
+    pub whole : (text : List ℕ) (day : ℕ) (sink : Port) → day ≡ day_number s → IsCard text day card.settings.items card.prices
+        → Appends sink.had sink.has text → Prints m s (day_number s) sink (Ok (tt {0}))
+    whole text day sink number is_card taken =
+        written text day sink (Ok tt) number is_card (record { written = record { whole = taken; front = tt }; device = tt })
+
+    pub part : (text : List ℕ) (day : ℕ) (sink : Port) (answer : Result (Unit {0}) DeskFault) → day ≡ day_number s
+        → IsCard text day card.settings.items card.prices → TakesFront sink.had sink.has text
+        → IsErrAnd answer (λ made. made ≡ faults.Device) → Prints m s (day_number s) sink answer
+    part text day sink answer number is_card taken made =
+        answered answer faults.Device (Prints m s (day_number s) sink) made
+        (written text day sink (Err faults.Device) number is_card (record { written = record { whole = tt; front = taken }; device = refl }))
 
 pub printed_for : (m : Parts) (s : Day) (number asked : ℕ) (sink : Port) (answer : Result (Unit {0}) DeskFault) → number ≡ asked
     → Prints m s number sink answer → Prints m s asked sink answer

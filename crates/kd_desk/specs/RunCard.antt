@@ -5,7 +5,10 @@ use Rattle.kd_state.specs.declared.setting.Setting.{Setting}
 use Rattle.kd_state.specs.Machine.{model_of}
 use Rattle.kd_state.specs.SheetDay.{Day, day_model}
 use Rattle.kd_card.specs.declared.prices.PriceParts.{PriceParts}
+use Rattle.kd_card.specs.declared.prices.Version.TheVariants.{ByKind}
 use Rattle.kd_card.specs.CardText.{IsCard}
+use Rattle.kd_card.specs.Prices.{version_of}
+use Rattle.kd_card.specs.Proving.{Proves}
 use Rattle.kd_plan.specs.Planned.{Plans}
 use Rattle.kd_desk.specs.declared.fault.DeskFault.{DeskFault}
 use Rattle.kd_desk.specs.declared.fault.DeskFault.TheVariants.{OtherModel}
@@ -13,13 +16,17 @@ use Rattle.kd_desk.specs.Headline.{LeavesTheSheetsMachine, EquallySetDecipher}
 use Rattle.kd_tables.specs.Ports.{Port}
 use Rattle.kd_desk.specs.Ports.{WritesText}
 
--- The text of a card for the day of that number was written, or a prefix of it where the device failed. The card is a planned one; its prices prove it,
--- and no settings whatever that reach the day are fewer. Its settings, carried out, leave a machine that is ready and
--- enciphers as the day's own; and what a machine on the day's key enciphers an equally set one deciphers.
+-- The text of a card for the day of that number was written, or a prefix of it where the device failed. The card is a
+-- planned one, with a price for each kind; what these prices mean proves it, and no settings whatever that reach the day
+-- are fewer. Its settings, carried out, leave a machine that is ready and enciphers as the day's own; and what a machine on
+-- the day's key enciphers an equally set one deciphers.
 pub record WritesCard (m : Parts) (s : Day) (number : ℕ) (sink : Port) (answer : Result (Unit {0}) DeskFault) : Type 0 where
   pub settings : List Setting
+  pub numbered : PriceParts
+  pub plans : Plans m s settings numbered
   pub prices : PriceParts
-  pub plans : Plans m s settings prices
+  pub version : version_of prices ≡ ByKind
+  pub proves : Proves m s settings prices
   pub leaves : LeavesTheSheetsMachine m s settings
   pub deciphers : EquallySetDecipher s
   pub text : List ℕ

@@ -1,4 +1,6 @@
 ghost use Rattle.std.specs.Prelude.{◌≡◌, ◌||◌, IsTrue};
+ghost use Rattle.kd_card.specs.Proving.{ProvesByNumber};
+ghost use Rattle.kd_prices.specs.Kinds.{IsByKind};
 ghost use Rattle.kd_state.specs.SheetDay.{day_number};
 ghost use Rattle.kd_desk.specs.OnDay.{OnDay};
 ghost use Rattle.kd_tables.specs.Ports.{port};
@@ -10,8 +12,10 @@ mod tests;
 
 use crate::fault::DeskFault;
 use crate::finding::find_day;
-use kd_card::write_card;
+use kd_card::{Card, write_card};
 use kd_plan::plan;
+use kd_prices::by_kind;
+use kd_prices::laws::alike_prices_are_equal;
 use kd_state::{Machine, SheetDay, laws};
 use kd_tables::Sink;
 use std::alloc::Global;
@@ -48,7 +52,16 @@ fn print_card<W: Sink>(machine: &Machine, day: &SheetDay, sink: &mut W) -> Resul
     laws::settings_keep_machines();
     laws::reading_as_the_day_is_its_cipher();
     laws::equally_set_machines_decipher();
-    let card = plan(machine, day)?;
+    let card = in_kinds(machine, day, &plan(machine, day)?);
     write_card(sink, day.day(), &card)?;
     Ok(())
+}
+
+/// The same card with a price for each kind.
+fn in_kinds(machine: &Machine, day: &SheetDay, card: &Card) -> Card
+    requires { ProvesByNumber machine.now day.now card.now.settings.items card.now.prices }
+    ensures { IsByKind machine.now day.now card.now result }
+{
+    alike_prices_are_equal();
+    by_kind(machine, day, card).unwrap()
 }

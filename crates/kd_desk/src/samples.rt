@@ -114,7 +114,7 @@ bars = [
 ]
 ";
 
-/// A card that leads a machine with the cables AB and CD to the pairs BC and DE.
+/// A card that leads a machine with the cables AB and CD to the pairs BC and DE, with prices by number, and by kind.
 pub const CARD: &str = "CARD 1 DAY 8
 PULL 1 A
 PULL 2 C
@@ -123,6 +123,21 @@ PUT 2 E
 SETTINGS 4
 CABLES 2 2 0 0 0 0 0 0 0 0 0 0 0
 PAIRS 0 0 0 0 0 0 0 0 0 0 0 0 0
+SUM 4
+";
+
+pub const CARD_BY_KIND: &str = "CARD 2 DAY 8
+PULL 1 A
+PULL 2 C
+PUT 1 C
+PUT 2 E
+SETTINGS 4
+CABLE AB 1 2
+CABLE CD 1 2
+CABLE - 11 0
+PAIR BC 1 0
+PAIR DE 1 0
+PAIR - 11 0
 SUM 4
 ";
 
@@ -179,7 +194,7 @@ bars = [
 ]
 ";
 
-/// The card that moves one lug of it.
+/// The card that moves one lug of it, with prices by number, and by kind.
 pub const ONE_LUG: &str = "CARD 1 DAY 9
 LUG 1 R 6
 SETTINGS 1
@@ -188,16 +203,35 @@ ROWS -1 0 0 0 0 0 0 0 0 0 0 0 0 0 0 0 0 0 0 0 0 0 0 0 0 0 0
 SUM 1
 ";
 
+pub const ONE_LUG_BY_KIND: &str = "CARD 2 DAY 9
+LUG 1 R 6
+SETTINGS 1
+BAR 0L-3 1 1
+BAR 0L-0R 25 0
+BAR 3-0R 1 1
+ROW 0-0 25 0
+ROW 0-3 1 -1
+ROW 3-6 1 0
+SUM 1
+";
+
 /// Both lugs of its first bar have to move, on a day whose first row is 3-6 and whose others are 0-0.
 pub const LUGS_IN_TURN: Change = ["\"3-0R\", \"0L-3\"", "\"1-3\", \"0L-0R\""];
 
 pub const ROWS_IN_TURN: Change = ["\"0-3\", \"3-6\"", "\"3-6\", \"0-0\""];
 
-/// The card of a machine that is the day's already.
+/// The card of a machine that is the day's already, with prices by number, and by kind.
 pub const EMPTY: &str = "CARD 1 DAY 11
 SETTINGS 0
 CABLES 0 0 0 0 0 0 0 0 0 0 0 0 0
 PAIRS 0 0 0 0 0 0 0 0 0 0 0 0 0
+SUM 0
+";
+
+pub const EMPTY_BY_KIND: &str = "CARD 2 DAY 11
+SETTINGS 0
+CABLE - 13 0
+PAIR - 13 0
 SUM 0
 ";
 

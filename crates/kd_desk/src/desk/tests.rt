@@ -2,7 +2,7 @@ use super::run_desk;
 use crate::fault::DeskFault;
 use crate::files::{Content, FileFault, Files, MemoryFiles};
 use crate::samples::{
-    EMPTY, FORM, MACHINE, MESSAGES, OFF_KEY, ORDER, SHEET, TEXT, UNREADY, WRITTEN,
+    EMPTY, EMPTY_BY_KIND, FORM, MACHINE, MESSAGES, OFF_KEY, ORDER, SHEET, TEXT, UNREADY, WRITTEN,
 };
 use crate::stop::Exit;
 use crate::stop::Stop::{self, ReadFailed, Refused, Unread, Usage};
@@ -74,7 +74,7 @@ static DONE: [(&[&str], &str); 7] = [
     (&["desk", "type", "m.toml"], "BDZGO\n"),
     (&["desk", "apply", "m.toml", "c.txt"], WRITTEN),
     (&["desk", "apply", "m.toml", "l.txt"], TURNED),
-    (&["desk", "card", "m.toml", "s.toml", "11"], EMPTY),
+    (&["desk", "card", "m.toml", "s.toml", "11"], EMPTY_BY_KIND),
     (
         &["desk", "check", "m.toml", "s.toml", "11", "c.txt"],
         "SHORTEST 0\n",

@@ -1,6 +1,6 @@
 use super::run_apply;
 use crate::fault::DeskFault::{self, Card, File, Illegal, List};
-use crate::samples::{CARD, Change, M4, MACHINE, PLUGGED, Ran, SAME, TEN_CABLES, WRITTEN};
+use crate::samples::{CARD, CARD_BY_KIND, Change, M4, MACHINE, PLUGGED, Ran, SAME, TEN_CABLES, WRITTEN};
 use kd_card::{CardFault, IllegalAt};
 use kd_sheet::SheetFault::NotToml;
 use kd_state::ListFault::BadLine;
@@ -25,7 +25,7 @@ const CARRIED: Change = [
 /// A machine, a list, and how the file differs that is then written.
 type Applied = (&'static str, Change, &'static str, &'static str, Change);
 
-static APPLIED: [Applied; 5] = [
+static APPLIED: [Applied; 6] = [
     (
         MACHINE,
         SAME,
@@ -35,6 +35,7 @@ static APPLIED: [Applied; 5] = [
     ),
     (MACHINE, SAME, "", WRITTEN, SAME),
     (MACHINE, PLUGGED, CARD, WRITTEN, CARRIED),
+    (MACHINE, PLUGGED, CARD_BY_KIND, WRITTEN, CARRIED),
     (M4, SAME, "", M4, ["\"VX\"", "\"VX\", \"\", \"\", \"\""]),
     (
         MACHINE,

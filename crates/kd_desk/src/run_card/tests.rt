@@ -1,7 +1,7 @@
 use super::run_card;
 use crate::fault::DeskFault::{self, File, NoSuchDay, OtherModel};
 use crate::samples::{
-    Change, EMPTY, LUGS_IN_TURN, M4_AS_ENIGMA, MACHINE, PLUGGED, ROWS_IN_TURN, Ran, SAME, SHEET,
+    Change, EMPTY_BY_KIND, LUGS_IN_TURN, M4_AS_ENIGMA, MACHINE, PLUGGED, ROWS_IN_TURN, Ran, SAME, SHEET,
     TWO_BARS,
 };
 use kd_sheet::Key;
@@ -23,7 +23,7 @@ fn run(alloc: Global, machine: &str, sheet: &str, day: u8, room: usize) -> Ran {
 type Case = (&'static str, Change, Change, u8, &'static str, &'static str);
 
 /// What stands behind the number of settings in a card that moves no cable.
-const PRICES: &str = "CABLES 0 0 0 0 0 0 0 0 0 0 0 0 0\nPAIRS 0 0 0 0 0 0 0 0 0 0 0 0 0\nSUM 0\n";
+const PRICES: &str = "CABLE - 13 0\nPAIR - 13 0\nSUM 0\n";
 
 /// A machine that differs from the day only in ways that leave the cipher as it is.
 const CANCELLING: Change = [
@@ -37,7 +37,7 @@ static WITHOUT_PRICES: [Case; 6] = [
         SAME,
         SAME,
         11,
-        "CARD 1 DAY 11\nSETTINGS 0\n",
+        "CARD 2 DAY 11\nSETTINGS 0\n",
         PRICES,
     ),
     (
@@ -45,7 +45,7 @@ static WITHOUT_PRICES: [Case; 6] = [
         CANCELLING,
         ["day = 11", "day = 12"],
         12,
-        "CARD 1 DAY 12\nRING I A\nTURN 1 A\nSETTINGS 2\n",
+        "CARD 2 DAY 12\nRING I A\nTURN 1 A\nSETTINGS 2\n",
         PRICES,
     ),
     (
@@ -53,7 +53,7 @@ static WITHOUT_PRICES: [Case; 6] = [
         ["\"I\", \"II\"", "\"II\", \"I\""],
         ["day = 11", "day = 16"],
         16,
-        "CARD 1 DAY 16\nSEAT 1 I\nSEAT 2 II\nSETTINGS 2\n",
+        "CARD 2 DAY 16\nSEAT 1 I\nSEAT 2 II\nSETTINGS 2\n",
         PRICES,
     ),
     (
@@ -61,7 +61,7 @@ static WITHOUT_PRICES: [Case; 6] = [
         ["\"I\", \"II\"", "\"\", \"I\""],
         ["day = 11", "day = 1"],
         1,
-        "CARD 1 DAY 1\nSEAT 1 I\nSEAT 2 II\nSETTINGS 2\n",
+        "CARD 2 DAY 1\nSEAT 1 I\nSEAT 2 II\nSETTINGS 2\n",
         PRICES,
     ),
     (
@@ -69,7 +69,7 @@ static WITHOUT_PRICES: [Case; 6] = [
         ["\"B\"", "\"C\""],
         ["day = 11", "day = 31"],
         31,
-        "CARD 1 DAY 31\nREFLECTOR B\nSETTINGS 1\n",
+        "CARD 2 DAY 31\nREFLECTOR B\nSETTINGS 1\n",
         PRICES,
     ),
     (
@@ -77,7 +77,7 @@ static WITHOUT_PRICES: [Case; 6] = [
         SAME,
         SAME,
         30,
-        "CARD 1 DAY 30\nSEAT 1 Gamma\nREFLECTOR c\nSETTINGS 2\n",
+        "CARD 2 DAY 30\nSEAT 1 Gamma\nREFLECTOR c\nSETTINGS 2\n",
         PRICES,
     ),
 ];
@@ -88,7 +88,7 @@ static WITH_PRICES: [Case; 6] = [
         PLUGGED,
         SAME,
         8,
-        "CARD 1 DAY 8\nPULL 1 A\nPULL 2 C\nPUT 1 C\nPUT 2 E\nSETTINGS 4\nCABLES ",
+        "CARD 2 DAY 8\nPULL 1 A\nPULL 2 C\nPUT 1 C\nPUT 2 E\nSETTINGS 4\nCABLE ",
         "\nSUM 4\n",
     ),
     (
@@ -96,7 +96,7 @@ static WITH_PRICES: [Case; 6] = [
         ["version = 1", "version = 1\ncables = [\"B\", \"D\"]"],
         SAME,
         8,
-        "CARD 1 DAY 8\nPUT 1 C\nPUT 2 E\nSETTINGS 2\nCABLES ",
+        "CARD 2 DAY 8\nPUT 1 C\nPUT 2 E\nSETTINGS 2\nCABLE ",
         "\nSUM 2\n",
     ),
     (
@@ -104,7 +104,7 @@ static WITH_PRICES: [Case; 6] = [
         ["version = 1", "version = 1\ncables = [\"C\"]"],
         ["\"BC\", \"DE\"", "\"CF\""],
         8,
-        "CARD 1 DAY 8\nPUT 1 F\nSETTINGS 1\nCABLES ",
+        "CARD 2 DAY 8\nPUT 1 F\nSETTINGS 1\nCABLE ",
         "\nSUM 1\n",
     ),
     (
@@ -112,7 +112,7 @@ static WITH_PRICES: [Case; 6] = [
         SAME,
         SAME,
         9,
-        "CARD 1 DAY 9\nLUG 1 R 6\nSETTINGS 1\nBARS ",
+        "CARD 2 DAY 9\nLUG 1 R 6\nSETTINGS 1\nBAR ",
         "\nSUM 1\n",
     ),
     (
@@ -120,7 +120,7 @@ static WITH_PRICES: [Case; 6] = [
         ["\"3-0R\", \"0L-3\"", "\"0L-3\", \"3-0R\""],
         SAME,
         9,
-        "CARD 1 DAY 9\nLUG 2 R 6\nSETTINGS 1\nBARS ",
+        "CARD 2 DAY 9\nLUG 2 R 6\nSETTINGS 1\nBAR ",
         "\nSUM 1\n",
     ),
     (
@@ -128,7 +128,7 @@ static WITH_PRICES: [Case; 6] = [
         LUGS_IN_TURN,
         ROWS_IN_TURN,
         9,
-        "CARD 1 DAY 9\nLUG 1 R 6\nLUG 1 L 3\nSETTINGS 2\nBARS ",
+        "CARD 2 DAY 9\nLUG 1 R 6\nLUG 1 L 3\nSETTINGS 2\nBAR ",
         "\nSUM 2\n",
     ),
 ];
@@ -199,7 +199,7 @@ list = \"QV\"
 ";
 
 /// How often a text stands in the card.
-static LARGEST: [(&str, usize); 16] = [
+static LARGEST: [(&str, usize); 17] = [
     ("\n", 196),
     ("\nPIN ", 131),
     ("\nPIN 1 ", 26),
@@ -212,13 +212,14 @@ static LARGEST: [(&str, usize); 16] = [
     ("\nTURN ", 6),
     ("\nLUG ", 54),
     (" R 4\nLUG ", 27),
-    ("CARD 1 DAY 13\nPIN 1 A ON\nPIN 1 B ON\n", 1),
+    ("CARD 2 DAY 13\nPIN 1 A ON\nPIN 1 B ON\n", 1),
     ("\nPIN 6 Q ON\nTURN 1 A\nTURN 2 A\n", 1),
     (
         "\nTURN 6 A\nLUG 1 R 4\nLUG 1 L 3\nLUG 2 R 4\nLUG 2 L 3\n",
         1,
     ),
-    ("\nLUG 27 R 4\nLUG 27 L 3\nSETTINGS 191\nBARS ", 1),
+    ("\nROW 3-4 27 ", 1),
+    ("\nLUG 27 R 4\nLUG 27 L 3\nSETTINGS 191\nBAR 1-2 27 ", 1),
 ];
 
 #[test]
@@ -271,12 +272,12 @@ fn refuses_the_first_fault_and_writes_nothing(rt: HostRuntime) {
 }
 
 /// The card of two settings of the machine whose differences cancel.
-const TWO_SETTINGS: &str = "CARD 1 DAY 11
+const TWO_SETTINGS: &str = "CARD 2 DAY 11
 RING I A
 TURN 1 A
 SETTINGS 2
-CABLES 0 0 0 0 0 0 0 0 0 0 0 0 0
-PAIRS 0 0 0 0 0 0 0 0 0 0 0 0 0
+CABLE - 13 0
+PAIR - 13 0
 SUM 0
 ";
 
@@ -284,7 +285,7 @@ SUM 0
 fn stops_where_the_sink_fails(rt: HostRuntime) -> Result<(), AllocError> {
     let [old, new] = CANCELLING;
     let cancelling = MACHINE.replace(rt.alloc(), old, new)?;
-    for (machine, card) in [(MACHINE, EMPTY), (cancelling.as_str(), TWO_SETTINGS)] {
+    for (machine, card) in [(MACHINE, EMPTY_BY_KIND), (cancelling.as_str(), TWO_SETTINGS)] {
         let card = card.as_bytes();
         for room in 0..card.len() {
             let ran = run(rt.alloc(), machine, SHEET, 11, room);

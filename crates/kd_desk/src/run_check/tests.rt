@@ -1,7 +1,7 @@
 use super::run_check;
 use crate::fault::DeskFault::{self, Card, Doubtful, File, NoSuchDay, OtherDay};
 use crate::samples::{
-    CARD, Change, EMPTY, LUGS_IN_TURN, M4_AS_ENIGMA, MACHINE, ONE_LUG, PLUGGED, ROWS_IN_TURN, Ran,
+    CARD, CARD_BY_KIND, Change, EMPTY, LUGS_IN_TURN, M4_AS_ENIGMA, MACHINE, ONE_LUG, ONE_LUG_BY_KIND, PLUGGED, ROWS_IN_TURN, Ran,
     SAME, SHEET, TWO_BARS,
 };
 use kd_card::CardFault::{BadHead, BadLine, CountWrong, PriceMissing, TooMany, Trailing};
@@ -34,10 +34,12 @@ const NOTHING: Change = ["SETTINGS", "SETTINGS"];
 const EXCHANGED: Change = ["PULL 1 A\nPULL 2 C\n", "PULL 2 C\nPULL 1 A\n"];
 
 /// A machine, what is changed of it, a day, a card, what is changed of it, and what is told.
-static SHORTEST: [(&str, Change, u8, &str, Change, &str); 4] = [
+static SHORTEST: [(&str, Change, u8, &str, Change, &str); 6] = [
     (MACHINE, PLUGGED, 8, CARD, NOTHING, "SHORTEST 4\n"),
     (MACHINE, PLUGGED, 8, CARD, EXCHANGED, "SHORTEST 4\n"),
+    (MACHINE, PLUGGED, 8, CARD_BY_KIND, EXCHANGED, "SHORTEST 4\n"),
     (TWO_BARS, SAME, 9, ONE_LUG, NOTHING, "SHORTEST 1\n"),
+    (TWO_BARS, SAME, 9, ONE_LUG_BY_KIND, NOTHING, "SHORTEST 1\n"),
     (MACHINE, SAME, 11, EMPTY, NOTHING, "SHORTEST 0\n"),
 ];
 
