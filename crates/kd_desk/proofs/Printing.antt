@@ -61,7 +61,7 @@ module _ (laws : Laws) (m : Parts) (s : Day) (is_machine : IsMachine m) (legal :
           numbered = planned.prices;
           plans = same;
           prices = card.prices;
-          version = kinds.kinds;
+          version = kinds.version;
           proves = record { numbered = planned.prices; expands = kinds.expands; proves = same.proves };
           leaves = leaves text card.settings.items planned.prices card.prices same dated;
           deciphers = decipher;
