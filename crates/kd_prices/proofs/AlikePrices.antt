@@ -61,10 +61,10 @@ cost_alike letters cable other column same =
     alphabet
 
 -- what is the same in two places
-same_at : {X : Type 0} (xs : List X) (i k : ℕ) (d : X) → slice_get xs i ≡ slice_get xs k → get_or xs i d ≡ get_or xs k d
+pub same_at : {X : Type 0} (xs : List X) (i k : ℕ) (d : X) → slice_get xs i ≡ slice_get xs k → get_or xs i d ≡ get_or xs k d
 same_at xs i k d e = sym (unwrap_or-slice_get xs i d) ∙ ap (λ found. unwrap_or found d) e ∙ unwrap_or-slice_get xs k d
 
-nothing_at : ColumnsAreThePairs → (pairs : List (ℕ × ℕ)) (place : ℕ) → length pairs ≤ place → get_or (columns_of pairs) place None ≡ None
+pub nothing_at : ColumnsAreThePairs → (pairs : List (ℕ × ℕ)) (place : ℕ) → length pairs ≤ place → get_or (columns_of pairs) place None ≡ None
 nothing_at columns pairs place past = columns pairs place ∙ slice_get_past pairs place past
 
 -- what the laws of kd_card and kd_state say

@@ -4,3 +4,5 @@ pub mod Doubts
 pub mod Rest
 pub mod CostTables
 pub mod AlikePrices
+pub mod Grouping
+pub mod Likeness

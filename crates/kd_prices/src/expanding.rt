@@ -39,7 +39,7 @@ pub(crate) fn expanded(machine: &Machine, day: &SheetDay, prices: &Prices) -> Op
 
 /// A price for each of the things that look so, that of its kind; none where the kinds aren't theirs, or there are other
 /// numbers of them.
-fn priced<const N: usize>(looks: &[Look; N], kinds: &[PricedKind]) -> Option<[i16; N]>
+pub(crate) fn priced<const N: usize>(looks: &[Look; N], kinds: &[PricedKind]) -> Option<[i16; N]>
     ensures { MatchOption result
         ((prices : List ℤ) → ¬ (AreExpanded looks.now kinds.now prices))
         (λ prices. AreExpanded looks.now kinds.now prices) }

@@ -5,6 +5,7 @@ mod checking;
 mod doubt;
 mod expanding;
 mod fitting;
+mod kinds;
 pub mod laws;
 mod looks;
 mod loose;
@@ -14,3 +15,4 @@ mod tests;
 
 pub use checking::check;
 pub use doubt::Doubt;
+pub use kinds::by_kind;

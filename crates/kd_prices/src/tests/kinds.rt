@@ -1,9 +1,9 @@
 //! Prices by kind.
-use super::samples::{converter, converter_day, enigma, enigma_day};
-use crate::{Doubt, check};
-use kd_card::read_card;
+use super::samples::{bar_prices, cable_prices, card, converter, converter_day, enigma, enigma_day};
+use crate::{Doubt, by_kind, check};
+use kd_card::{read_card, write_card};
 use kd_state::{Machine, SheetDay};
-use kd_tables::Place;
+use kd_tables::{MemorySink, Place};
 use std::process::Abort;
 
 /// One lug is moved.
@@ -71,7 +71,29 @@ fn cards_by_kind_are_checked(rt: HostRuntime) {
     is_said(&rt, &machine, &day, ONE_LUG, Ok(()));
     is_said(&rt, &machine, &day, OTHER_BAR, Err(Doubt::PriceMissing));
     is_said(&rt, &machine, &day, TWO_CABLES, Err(Doubt::OtherModel));
+}
+
+#[test]
+fn cards_become_cards_by_kind(rt: HostRuntime) {
+    let machine = converter(&rt, &TWO_BARS);
+    let day = converter_day(&rt, &TWO_ROWS);
+    let numbered = card(&rt, "LUG 1 R 6\n", bar_prices(&rt, &[1, 1], &[-1]));
+    let other = by_kind(&machine, &day, &numbered).expect(&rt, "a card");
+    let mut sink = MemorySink::<512>::new(512);
+    assert!(rt; write_card(&mut sink, 9, &other).is_ok());
+    assert_eq!(rt; sink.taken(), ONE_LUG.as_bytes());
+    assert!(rt; by_kind(&machine, &day, &other).is_none());
+}
+
+#[test]
+fn cables_become_kinds(rt: HostRuntime) {
     let machine = enigma(&rt, &[*b"AB", *b"CD"]);
     let day = enigma_day(&rt, &[*b"BC", *b"DE"]);
-    is_said(&rt, &machine, &day, TWO_CABLES, Ok(()));
+    let numbered = card(&rt, "PULL 1 A\nPULL 2 C\nPUT 1 C\nPUT 2 E\n", cable_prices(&rt, &[2, 2], &[]));
+    let other = by_kind(&machine, &day, &numbered).expect(&rt, "a card");
+    let mut sink = MemorySink::<512>::new(512);
+    assert!(rt; write_card(&mut sink, 8, &other).is_ok());
+    assert_eq!(rt; sink.taken(), TWO_CABLES.as_bytes());
+    let differing = card(&rt, "", cable_prices(&rt, &[2, 2, 1], &[]));
+    assert!(rt; by_kind(&machine, &day, &differing).is_none());
 }

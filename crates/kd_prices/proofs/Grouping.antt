@@ -1,0 +1,205 @@
+-- Things grouped into kinds, rank by rank.
+use Rattle.std.proofs.Common.{◌≡◌, ◌≢◌, ℕ, zero, suc, ◌+◌, ◌<◌, ◌≤◌, inl, inr, Bool, true, false, cond, eqb, ltb, List, [], ◌∷◌, ◌++◌, length, count_by, append_assoc, length-append, refl, sym, ap, ◌∙◌, subst, arith, ℤ, pos, unsigned_abs, Some, None}
+use Rattle.std.specs.List.{All}
+use Rattle.std.proofs.lemmas.Bool.{cases_lt, lt-ltb, ne_eqb, eq-eqb}
+use Rattle.std.proofs.lemmas.Bool.Decides.{nat_tests}
+use Rattle.std.proofs.lemmas.List.{append-nil}
+use Rattle.std.proofs.lemmas.List.Elements.{All-nil, All-push, All-head, All-tail, All-get_or, All-from_get_or, All-weaker}
+use Rattle.std.proofs.lemmas.List.Sums.{sum_by-cons, sum_by-le, count_by-le-length, get_or-le-sum_by}
+use Rattle.kd_card.specs.declared.look.Look.{Look}
+use Rattle.kd_card.specs.declared.look.Look.TheVariants.{Cable, Pair, Bar, Row}
+use Rattle.kd_tables.specs.declared.place.Place.{Place}
+use Rattle.kd_tables.specs.declared.place.Place.TheVariants.{One}
+use Rattle.kd_tables.specs.Places.{place_rank}
+use Rattle.kd_card.specs.declared.kinds.PricedKind.{PricedKind}
+use Rattle.kd_card.specs.Kinds.{look_name, look_rank, counted, IsInForm, IsPricedKind, AreKinds, AreCalled}
+use Rattle.kd_card.specs.Prices.{price_at, AreWithinReach}
+use Rattle.kd_card.specs.Proving.{look_at, alike_count, IsPriced, HasCount, AreExpanded}
+use Rattle.kd_prices.specs.Kinds.{AreAlikePriced, IsKindAt, AreKindsOf}
+use Rattle.kd_prices.proofs.Meaning.{priced_here}
+
+-- ---- how many things are of ranks
+
+abbrev below : ℕ → Look → Bool
+below rank look = ltb (look_rank look) rank
+
+abbrev of_rank : ℕ → Look → Bool
+of_rank rank look = eqb (look_rank look) rank
+
+one_more : (r rank : ℕ) → cond {A = ℕ} (ltb r (rank + 1)) 1 0 ≡ cond (ltb r rank) 1 0 + cond (eqb r rank) 1 0
+one_more r rank = grind (arith, nat_tests)
+
+count_more : (rank : ℕ) (looks : List Look) → count_by (below (rank + 1)) looks ≡ count_by (below rank) looks + count_by (of_rank rank) looks
+count_more rank [] = omega arith
+count_more rank (look ∷ looks) =
+    let sum = sum_by-cons (λ l. cond {A = ℕ} (below (rank + 1) l) 1 0) look looks in
+    let so_far = sum_by-cons (λ l. cond {A = ℕ} (below rank l) 1 0) look looks in
+    let here = sum_by-cons (λ l. cond {A = ℕ} (of_rank rank l) 1 0) look looks in
+    omega (arith, one_more (look_rank look) rank, count_more rank looks)
+
+none_counted : (p : Look → Bool) (looks : List Look) → ((place : ℕ) → place < length looks → p (look_at looks place) ≡ false) → count_by p looks ≡ 0
+none_counted p looks none =
+    let few = sum_by-le (λ l. cond {A = ℕ} (p l) 1 0) 0 looks
+        (All-from_get_or (λ l. cond {A = ℕ} (p l) 1 0 ≤ 0) looks (Pair None) (λ i inside. rw (none i inside) (omega arith))) in
+    omega arith
+
+all_counted : (p : Look → Bool) (looks : List Look) → All (λ l. p l ≡ true) looks → count_by p looks ≡ length looks
+all_counted p [] all = refl
+all_counted p (look ∷ looks) all =
+    let sum = sum_by-cons (λ l. cond {A = ℕ} (p l) 1 0) look looks in
+    let here = ap (λ b. cond {A = ℕ} b 1 0) (All-head (λ l. p l ≡ true) look looks all) in
+    omega (arith, all_counted p looks (All-tail (λ l. p l ≡ true) look looks all))
+
+some_counted : (looks : List Look) (place : ℕ) → place < length looks → 1 ≤ alike_count (look_at looks place) looks
+some_counted looks place inside =
+    let look = look_at looks place in
+    let few = get_or-le-sum_by (λ l. cond {A = ℕ} (of_rank (look_rank look) l) 1 0) looks place (Pair None) inside in
+    let here = ap (λ b. cond {A = ℕ} b 1 0) (eq-eqb (look_rank look) (look_rank look) refl) in
+    omega arith
+
+-- ---- all ranks are below 703
+
+low_place : (place : Place) → place_rank place < 8
+low_place One = omega arith
+low_place _ = omega arith
+
+low_look : (look : Look) → IsInForm look → look_rank look < 703
+low_look (Cable (None, other)) form = omega arith
+low_look (Cable (Some one, None)) form = omega (arith, form)
+low_look (Cable (Some one, Some other)) form = omega (arith, form.0, form.1)
+low_look (Pair None) form = omega arith
+low_look (Pair (Some (one, other))) form = omega (arith, form.0, form.1)
+low_look (Bar (left, right)) form = omega (arith, low_place left, low_place right)
+low_look (Row (one, other)) form = let order = form.ordered in let within = form.within in omega (arith, order, within)
+
+-- ---- one more kind at the end
+
+from_lower : (floor : ℕ) (kinds : List PricedKind) → AreKinds (floor + 1) kinds → AreKinds floor kinds
+from_lower floor [] are = tt
+from_lower floor (kind ∷ kinds) are = let above = are.1 in (are.0, omega (arith, above), are.2)
+
+more_called : (sample : Look) (kinds : List PricedKind) (kind : PricedKind) → AreCalled (look_name sample) kinds → look_name kind.look ≡ look_name sample
+    → AreCalled (look_name sample) (kinds ++ kind ∷ [])
+more_called sample [] kind called this = (this, tt)
+more_called sample (first ∷ kinds) kind called this = (called.0, more_called sample kinds kind called.1 this)
+
+more_counted : (kinds : List PricedKind) (kind : PricedKind) → counted (kinds ++ kind ∷ []) ≡ counted kinds + kind.count
+more_counted [] kind = omega arith
+more_counted (first ∷ kinds) kind = omega (arith, more_counted kinds kind)
+
+priced_still : (look : Look) (price : ℤ) (kinds more : List PricedKind) → IsPriced look price kinds → IsPriced look price (kinds ++ more)
+priced_still look price (kind ∷ kinds) more (inl has) = inl has
+priced_still look price (kind ∷ kinds) more (inr later) = inr (priced_still look price kinds more later)
+priced_still look price [] more none = absurd none
+
+few_kinds : (floor : ℕ) (kinds : List PricedKind) → AreKinds floor kinds → length kinds ≤ counted kinds
+few_kinds floor [] are = omega arith
+few_kinds floor (kind ∷ kinds) are =
+    let some = are.0.some in omega (arith, some, few_kinds (look_rank kind.look + 1) kinds are.2)
+
+-- ---- rank by rank
+
+-- the kinds are those of all things below that rank, and each has the price of one of its things
+pub record AreGrouped (looks : List Look) (prices : List ℤ) (rank : ℕ) (kinds : List PricedKind) : Type 0 where
+  pub in_order : (more : List PricedKind) → AreKinds rank more → AreKinds 0 (kinds ++ more)
+  pub called : (sample : Look) → All (λ look. look_name look ≡ look_name sample) looks → AreCalled (look_name sample) kinds
+  pub count : counted kinds ≡ count_by (below rank) looks
+  pub counts : All (HasCount looks) kinds
+  pub each :
+      AreAlikePriced looks prices → (place : ℕ) → place < length looks → look_rank (look_at looks place) < rank
+      → IsPriced (look_at looks place) (price_at prices place) kinds
+
+pub grouped_none : (looks : List Look) (prices : List ℤ) → AreGrouped looks prices 0 []
+grouped_none looks prices = record {
+  in_order = λ more are. are;
+  called = λ sample all. tt;
+  count = sym (none_counted (below 0) looks (λ place inside. grind (arith, nat_tests)));
+  counts = All-nil (HasCount looks);
+  each = λ alike place inside low. absurd (omega arith);
+}
+
+-- no thing has the rank
+pub grouped_past : (looks : List Look) (prices : List ℤ) (rank : ℕ) (kinds : List PricedKind)
+    → ((place : ℕ) → place < length looks → look_rank (look_at looks place) ≢ rank) → AreGrouped looks prices rank kinds
+    → AreGrouped looks prices (rank + 1) kinds
+grouped_past looks prices rank kinds none so_far =
+    let count = so_far.count in
+    let nothing = none_counted (of_rank rank) looks (λ place inside. ne_eqb (look_rank (look_at looks place)) rank (none place inside)) in
+    record {
+      in_order = λ more are. so_far.in_order more (from_lower rank more are);
+      called = so_far.called;
+      count = omega (arith, count_more rank looks);
+      counts = so_far.counts;
+      each = λ alike place inside low. let away = none place inside in so_far.each alike place inside (omega arith);
+    }
+
+-- a kind more: at most 27 things, each in its form and with a price that may stand on a card
+module _ (looks : List Look) (prices : List ℤ) (few : length looks ≤ 27) (each : length prices ≡ length looks) (form : All IsInForm looks) (reach : AreWithinReach prices)
+    (rank place : ℕ) (kinds : List PricedKind) (kind : PricedKind) (ranked : look_rank (look_at looks place) ≡ rank) (is : IsKindAt looks prices place kind)
+    (so_far : AreGrouped looks prices rank kinds) where
+  good_kind : IsPricedKind kind
+  good_kind =
+      let inside = is.inside in
+      let count = is.count in
+      let some = subst (λ look. 1 ≤ alike_count look looks) (sym is.look) (some_counted looks place inside) in
+      let most = count_by-le-length (of_rank (look_rank kind.look)) looks in
+      record {
+        form = subst IsInForm (sym is.look) (All-get_or IsInForm looks place (Pair None) inside form);
+        some = omega arith;
+        most = omega arith;
+        reach = subst (λ price. unsigned_abs price ≤ 9999) (sym is.price) (All-get_or (λ price. unsigned_abs price ≤ 9999) prices place (pos 0) (omega arith) reach);
+      }
+
+  pub grouped_more : AreGrouped looks prices (rank + 1) (kinds ++ kind ∷ [])
+  grouped_more =
+      let count = so_far.count in
+      let here = is.count in
+      let same : look_rank kind.look ≡ rank = ap look_rank is.look ∙ ranked in
+      let these = ap (λ r. count_by (of_rank r) looks) same in
+      record {
+        in_order = λ more are.
+            subst (AreKinds 0) (sym (append_assoc kinds (kind ∷ []) more))
+            (so_far.in_order (kind ∷ more) (good_kind, omega arith, subst (λ r. AreKinds (r + 1) more) (sym same) are));
+        called = λ sample all.
+            more_called sample kinds kind (so_far.called sample all)
+            (ap look_name is.look ∙ All-get_or (λ look. look_name look ≡ look_name sample) looks place (Pair None) is.inside all);
+        count = omega (arith, more_counted kinds kind, count_more rank looks);
+        counts = All-push (HasCount looks) kinds kind so_far.counts (record { count = is.count });
+        each = λ alike other inside low.
+            elim (cases_lt (look_rank (look_at looks other)) rank) [
+              | inl lower ↦ priced_still (look_at looks other) (price_at prices other) kinds (kind ∷ []) (so_far.each alike other inside lower)
+              | inr high ↦
+                  let equal : look_rank (look_at looks other) ≡ rank = omega arith in
+                  priced_here (look_at looks other) (price_at prices other) kinds kind []
+                  (record { alike = same ∙ sym equal; price = is.price ∙ alike place other is.inside inside (ranked ∙ sym equal) })
+            ];
+      }
+
+  pub room : length kinds < 27
+  room =
+      let all = kinds ++ kind ∷ [] in
+      let count = grouped_more.count in
+      let short = few_kinds 0 all (subst (AreKinds 0) (append-nil all) (grouped_more.in_order [] tt)) in
+      let most = count_by-le-length (below (rank + 1)) looks in
+      omega (arith, length-append kinds (kind ∷ []))
+
+-- the end: all ranks are passed
+module _ (looks : List Look) (prices : List ℤ) (rank : ℕ) (kinds : List PricedKind) (past : 703 ≤ rank) (form : All IsInForm looks)
+    (grouped : AreGrouped looks prices rank kinds) where
+  low : All (λ look. look_rank look < rank) looks
+  low = All-weaker IsInForm (λ look. look_rank look < rank) (λ look in_form. omega (arith, low_look look in_form)) looks form
+
+  pub all_kinds : AreKindsOf looks kinds
+  all_kinds = record {
+    in_order = subst (AreKinds 0) (append-nil kinds) (grouped.in_order [] tt);
+    count = grouped.count
+        ∙ all_counted (below rank) looks (All-weaker (λ look. look_rank look < rank) (λ look. below rank look ≡ true) (λ look. lt-ltb (look_rank look) rank) looks low);
+    called = grouped.called;
+  }
+
+  pub all_expanded : length prices ≡ length looks → AreAlikePriced looks prices → AreExpanded looks kinds prices
+  all_expanded each alike = record {
+    number = each;
+    each = λ place inside. grouped.each alike place inside (All-get_or (λ look. look_rank look < rank) looks place (Pair None) inside low);
+    counts = grouped.counts;
+  }

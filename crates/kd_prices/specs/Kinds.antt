@@ -1,0 +1,57 @@
+-- Cards that can have one price for each kind.
+use Rattle.std.specs.Prelude.{◌≡◌, ℕ, ◌<◌, List, length, All, ℤ}
+use Rattle.kd_state.specs.declared.machine.parts.Parts.{Parts}
+use Rattle.kd_state.specs.SheetDay.{Day}
+use Rattle.kd_card.specs.declared.card.Card.{Card}
+use Rattle.kd_card.specs.declared.look.Look.{Look}
+use Rattle.kd_card.specs.declared.kinds.PricedKind.{PricedKind}
+use Rattle.kd_card.specs.declared.prices.PriceParts.{PriceParts}
+use Rattle.kd_card.specs.declared.prices.Version.TheVariants.{ByKind}
+use Rattle.kd_card.specs.Kinds.{look_name, look_rank, counted, AreKinds, AreCalled}
+use Rattle.kd_card.specs.Prices.{version_of, price_at}
+use Rattle.kd_card.specs.Proving.{look_at, alike_count, AreExpanded, Expands}
+use Rattle.kd_prices.specs.Doubt.{AreNumbered}
+use Rattle.kd_prices.specs.Laws.{AreEqualWhereAlike}
+
+-- machine, day and prices are of one kind, the prices are by number, and what is alike has equal prices
+pub record CanBeByKind (m : Parts) (s : Day) (prices : PriceParts) : Type 0 where
+  pub numbered : AreNumbered m s prices
+  pub equal : AreEqualWhereAlike m s prices
+
+-- the prices by kind mean these prices by number, which can be by kind
+pub record AreByKind (m : Parts) (s : Day) (prices by_kind : PriceParts) : Type 0 where
+  pub can : CanBeByKind m s prices
+  pub version : version_of by_kind ≡ ByKind
+  pub expands : Expands m s by_kind prices
+
+-- the other card has the same settings, and prices by kind that mean the card's own
+pub record IsByKind (m : Parts) (s : Day) (card other : Card) : Type 0 where
+  pub settings : other.settings.items ≡ card.settings.items
+  pub version : version_of other.prices ≡ ByKind
+  pub expands : Expands m s other.prices card.prices
+
+-- ---- whatever things; the contracts of the crate's public calls don't speak of it
+
+-- things of one rank have equal prices
+abbrev pub AreAlikePriced : List Look → List ℤ → Type 0
+AreAlikePriced looks prices =
+    (place other : ℕ) → place < length looks → other < length looks → look_rank (look_at looks place) ≡ look_rank (look_at looks other)
+    → price_at prices place ≡ price_at prices other
+
+-- the kind of the thing at that place: its look, how many look so, and its price
+pub record IsKindAt (looks : List Look) (prices : List ℤ) (place : ℕ) (kind : PricedKind) : Type 0 where
+  pub inside : place < length looks
+  pub look : kind.look ≡ look_at looks place
+  pub count : kind.count ≡ alike_count kind.look looks
+  pub price : kind.price ≡ price_at prices place
+
+-- the kinds are in order, each once, they are of so many things as look so, and are called as these are
+pub record AreKindsOf (looks : List Look) (kinds : List PricedKind) : Type 0 where
+  pub in_order : AreKinds 0 kinds
+  pub count : counted kinds ≡ length looks
+  pub called : (sample : Look) → All (λ look. look_name look ≡ look_name sample) looks → AreCalled (look_name sample) kinds
+
+-- and they have the prices of the things
+pub record AreWithPrices (looks : List Look) (prices : List ℤ) (kinds : List PricedKind) : Type 0 where
+  pub good : AreKindsOf looks kinds
+  pub expanded : AreExpanded looks kinds prices

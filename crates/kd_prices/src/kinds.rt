@@ -1,0 +1,119 @@
+//! Cards with one price for each kind.
+ghost use Rattle.std.specs.Prelude.{◌≡◌, ◌≢◌, ◌↔◌, ℕ, ◌<◌, ◌≤◌, length, All, IfSome, IsSome, MatchOption};
+ghost use Rattle.kd_card.specs.Kinds.{look_rank, IsInForm};
+ghost use Rattle.kd_card.specs.Prices.{AreWithinReach};
+ghost use Rattle.kd_card.specs.Proving.{look_at, AreExpanded};
+ghost use Rattle.kd_prices.specs.Kinds.{CanBeByKind, IsByKind, AreByKind, AreAlikePriced, IsKindAt, AreKindsOf, AreWithPrices};
+
+use super::expanding::{alike_count, priced};
+use super::looks::{bar_looks, cable_looks, pair_looks, row_looks};
+use arrayvec::ArrayVec;
+use kd_card::laws::ranks_tell_looks;
+use kd_card::{Card, Group, Look, PriceParts, PricedKind, Prices};
+use kd_state::laws::columns_are_the_pairs;
+use kd_state::{Machine, OneModel, Setting, SheetDay};
+
+/// All ranks of looks are below this.
+const RANKS: usize = 703;
+
+/// The same card with one price for each kind of cables or bars, and for each of pairs and nothings or rows; `check` expands
+/// these prices to the card's own. None where machine, day and prices are of different models, where the prices are by kind
+/// already, or where two things that are alike have different prices. In a card by number that proves itself they haven't.
+pub fn by_kind(machine: &Machine, day: &SheetDay, card: &Card) -> Option<Card>
+    ensures some { IsSome result ↔ CanBeByKind machine.now day.now card.now.prices }
+    ensures card { IfSome result (λ other. IsByKind machine.now day.now card.now other) }
+{
+    let prices = prices_by_kind(machine, day, &card.prices)?;
+    let settings = copied(&card.settings);
+    Some(Card { settings, prices })
+}
+
+/// The same settings once more.
+fn copied(settings: &ArrayVec<Setting, 192>) -> ArrayVec<Setting, 192>
+    ensures { result.items ≡ settings.now.items }
+{
+    ArrayVec::try_from(settings.as_slice()).unwrap()
+}
+
+/// The same prices by kind.
+fn prices_by_kind(machine: &Machine, day: &SheetDay, prices: &Prices) -> Option<Prices>
+    ensures { MatchOption result
+        (¬ (CanBeByKind machine.now day.now prices.now))
+        (AreByKind machine.now day.now prices.now) }
+{
+    ranks_tell_looks();
+    columns_are_the_pairs();
+    match (machine.of_one_model(day)?, prices.parts()) {
+        (OneModel::Rotor(parts, entry), PriceParts::Cables(cables, pairs)) => {
+            let rows = kinds_of(&cable_looks(&parts.cables), &cables)?;
+            let columns = kinds_of(&pair_looks(entry.pairs.as_slice()), &pairs)?;
+            Some(Prices::of_groups(Group::OfCables, rows.as_slice(), columns.as_slice()))
+        }
+        (OneModel::Pin(parts, entry), PriceParts::Bars(bars, sheet)) => {
+            let rows = kinds_of(&bar_looks(&parts.bars), &bars)?;
+            let columns = kinds_of(&row_looks(&entry.rows), &sheet)?;
+            Some(Prices::of_groups(Group::OfBars, rows.as_slice(), columns.as_slice()))
+        }
+        _ => None,
+    }
+}
+
+/// The kinds of the things that look so and have these prices, in order; none where two that are alike have different prices.
+fn kinds_of<const N: usize>(looks: &[Look; N], prices: &[i16; N]) -> Option<ArrayVec<PricedKind, 27>>
+    requires few { N ≤ 27 }
+    requires form { All IsInForm looks.now }
+    requires reach { AreWithinReach prices.now }
+    ensures { MatchOption result
+        (¬ (AreAlikePriced looks.now prices.now))
+        (λ kinds. AreWithPrices looks.now prices.now kinds.items) }
+{
+    let kinds = first_kinds(looks, prices);
+    if priced(looks, kinds.as_slice())? == *prices {
+        Some(kinds)
+    } else {
+        None
+    }
+}
+
+/// The kinds of the things that look so, in order, each with the price of the first of its things.
+fn first_kinds(looks: &[Look], prices: &[i16]) -> ArrayVec<PricedKind, 27>
+    requires few { length looks.now ≤ 27 }
+    requires each { length prices.now ≡ length looks.now }
+    requires form { All IsInForm looks.now }
+    requires reach { AreWithinReach prices.now }
+    ensures kinds { AreKindsOf looks.now result.items }
+    ensures expanded { AreAlikePriced looks.now prices.now
+        → AreExpanded looks.now result.items prices.now }
+{
+    let mut kinds = ArrayVec::new();
+    for rank in 0..RANKS {
+        if let Some(place) = place_of(rank, looks) {
+            kinds.push(kind_at(place, looks, prices));
+        }
+    }
+    kinds
+}
+
+/// The first place of a look with that rank, counted from 0.
+fn place_of(rank: usize, looks: &[Look]) -> Option<usize>
+    ensures { MatchOption result
+        ((place : ℕ) → place < length looks.now → look_rank (look_at looks.now place) ≢ rank)
+        (λ place. (place < length looks.now) × (look_rank (look_at looks.now place) ≡ rank)) }
+{
+    looks.iter().position(|look| look.rank() == rank)
+}
+
+/// The kind of the thing at that place, with the thing's price.
+fn kind_at(place: usize, looks: &[Look], prices: &[i16]) -> PricedKind
+    requires place { place < length looks.now }
+    requires few { length looks.now ≤ 27 }
+    requires each { length prices.now ≡ length looks.now }
+    ensures { IsKindAt looks.now prices.now place result }
+{
+    let count = alike_count(looks[place], looks) as u8;
+    PricedKind {
+        look: looks[place],
+        count,
+        price: prices[place],
+    }
+}
