@@ -20,7 +20,8 @@ use Rattle.kd_desk.specs.declared.stop.Stop.{Stop}
 use Rattle.kd_desk.specs.declared.stop.Stop.TheVariants.{Usage, Unread, ReadFailed, Refused}
 use Rattle.kd_desk.specs.Files.{Opened, content_of, opening_of}
 use Rattle.kd_desk.specs.Stops.{stop_after}
-use Rattle.kd_tables.specs.Ports.{Port, IsWell}
+use Rattle.kd_tables.specs.Ports.{Port}
+use Rattle.kd_form.specs.Streams.{IsLeft}
 use Rattle.kd_desk.specs.Messages.{Sends, Receives}
 use Rattle.kd_desk.specs.OnDay.{OnDay}
 use Rattle.kd_desk.specs.RunApply.{Applies}
@@ -78,11 +79,6 @@ pub record AppliesTo (machine list : List ℕ) (sink : Port) (answer : Result (U
   pub refused : IfErr (machine_of machine) (λ fault. AnswersFault answer (File fault))
   pub applied : IfOk (machine_of machine) (λ m. Applies m list sink answer ⊎ LacksMemory answer)
 
--- nobody looked at the port
-pub record IsLeftAlone (p : Port) : Type 0 where
-  pub bytes : p.has ≡ p.had
-  pub well : IsWell p
-
 -- what a task does with a machine and a day: a message's file is read as a source is
 abbrev pub DoesTask : Task (List ℕ) Port → ℕ → Port → Result (Unit {0}) DeskFault → Parts → Day → Type 0
 DoesTask tasks.Card number sink answer m s = Prints m s number sink answer
@@ -93,9 +89,9 @@ DoesTask (tasks.Message Receive form) number sink answer m s = Receives m s form
 -- what is done with the machine of a machine file: only typing looks at the source
 abbrev pub DoesAction : List ℕ → Action (List ℕ) Port → Port → Port → Result (Unit {0}) DeskFault → Type 0
 DoesAction machine actions.Type source sink answer = TypesOn machine source sink answer
-DoesAction machine (actions.Apply list) source sink answer = AppliesTo machine list sink answer × IsLeftAlone source
+DoesAction machine (actions.Apply list) source sink answer = AppliesTo machine list sink answer × IsLeft source
 DoesAction machine (actions.OnDay sheet day task) source sink answer =
-    OnDay machine sheet day (DoesTask task day sink answer) answer × IsLeftAlone source
+    OnDay machine sheet day (DoesTask task day sink answer) answer × IsLeft source
 
 -- what a command does, with the bytes of its files
 abbrev pub Does : Command (List ℕ) Port → Port → Port → Result (Unit {0}) DeskFault → Type 0

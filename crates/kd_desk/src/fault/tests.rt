@@ -7,7 +7,7 @@ use kd_state::{ListFault, Why};
 use std::test::Fail;
 
 /// A refusal, and its text.
-static REFUSALS: [(DeskFault, &str); 44] = [
+static REFUSALS: [(DeskFault, &str); 45] = [
     (DeskFault::File(SheetFault::LetterTwice), "1 LetterTwice"),
     (DeskFault::NotReady, "4 NotReady"),
     (DeskFault::OtherModel, "5 OtherModel"),
@@ -43,6 +43,7 @@ static REFUSALS: [(DeskFault, &str); 44] = [
     (DeskFault::NoSuchDay, "39 NoSuchDay"),
     (DeskFault::OtherDay, "40 OtherDay"),
     (DeskFault::Doubtful(Doubt::OtherModel), "5 OtherModel"),
+    (DeskFault::Doubtful(Doubt::PriceMissing), "10 PriceMissing"),
     (
         DeskFault::Doubtful(Doubt::IllegalAt(2, Why::PlaceTaken)),
         "13 IllegalAt 2 PlaceTaken",

@@ -26,7 +26,7 @@ returns-in-Apply-clause-does g c =
     (record {
       left = nothing_left;
       told = c.run_apply.result;
-      does = (record { refused = run.refused; applied = run.applied }, record { bytes = refl; well = refl });
+      does = (record { refused = run.refused; applied = run.applied }, record { has = refl; well = refl });
       answers = c.after-in-Apply.ensures;
     })
 
