@@ -15,8 +15,8 @@ use Rattle.kd_card.specs.declared.kinds.PricedKind.{PricedKind}
 use Rattle.kd_card.specs.Kinds.{look_name, look_rank, counted, IsInForm, IsPricedKind, AreKinds, AreCalled}
 use Rattle.kd_card.specs.Prices.{price_at, AreWithinReach}
 use Rattle.kd_card.specs.Proving.{look_at, alike_count, IsPriced, HasCount, AreExpanded}
-use Rattle.kd_prices.specs.Kinds.{AreAlikePriced, IsKindAt, AreKindsOf}
-use Rattle.kd_prices.proofs.Meaning.{priced_here}
+use Rattle.kd_prices.specs.Kinds.{AreAlikePriced, IsKindAt, AreKindsOf, AreWithPrices}
+use Rattle.kd_prices.proofs.Meaning.{one_price, priced_here}
 
 -- ---- how many things are of ranks
 
@@ -203,3 +203,16 @@ module _ (looks : List Look) (prices : List ℤ) (rank : ℕ) (kinds : List Pric
     each = λ place inside. grouped.each alike place inside (All-get_or (λ look. look_rank look < rank) looks place (Pair None) inside low);
     counts = grouped.counts;
   }
+
+-- ---- what has one price for each kind has equal prices where it is alike
+
+priced_alike : (look other : Look) (price : ℤ) (kinds : List PricedKind) → look_rank look ≡ look_rank other → IsPriced look price kinds → IsPriced other price kinds
+priced_alike look other price [] same none = absurd none
+priced_alike look other price (kind ∷ kinds) same (inl has) = inl (record { alike = has.alike ∙ same; price = has.price })
+priced_alike look other price (kind ∷ kinds) same (inr later) = inr (priced_alike look other price kinds same later)
+
+pub alike_priced : (looks : List Look) (prices : List ℤ) (kinds : List PricedKind) → AreWithPrices looks prices kinds → AreAlikePriced looks prices
+alike_priced looks prices kinds with_prices = λ place other inside within same.
+    one_price 0 kinds (look_at looks other) (price_at prices place) (price_at prices other) with_prices.good.in_order
+    (priced_alike (look_at looks place) (look_at looks other) (price_at prices place) kinds same (with_prices.expanded.each place inside))
+    (with_prices.expanded.each other within)
