@@ -78,10 +78,10 @@ from_lower : (floor : ℕ) (kinds : List PricedKind) → AreKinds (floor + 1) ki
 from_lower floor [] are = tt
 from_lower floor (kind ∷ kinds) are = let above = are.1 in (are.0, omega (arith, above), are.2)
 
-more_called : (sample : Look) (kinds : List PricedKind) (kind : PricedKind) → AreCalled (look_name sample) kinds → look_name kind.look ≡ look_name sample
-    → AreCalled (look_name sample) (kinds ++ kind ∷ [])
-more_called sample [] kind called this = (this, tt)
-more_called sample (first ∷ kinds) kind called this = (called.0, more_called sample kinds kind called.1 this)
+more_called : (name : _) (kinds : List PricedKind) (kind : PricedKind) → AreCalled name kinds → look_name kind.look ≡ name
+    → AreCalled name (kinds ++ kind ∷ [])
+more_called name [] kind called this = (this, tt)
+more_called name (first ∷ kinds) kind called this = (called.0, more_called name kinds kind called.1 this)
 
 more_counted : (kinds : List PricedKind) (kind : PricedKind) → counted (kinds ++ kind ∷ []) ≡ counted kinds + kind.count
 more_counted [] kind = omega arith
@@ -102,7 +102,7 @@ few_kinds floor (kind ∷ kinds) are =
 -- the kinds are those of all things below that rank, and each has the price of one of its things
 pub record AreGrouped (looks : List Look) (prices : List ℤ) (rank : ℕ) (kinds : List PricedKind) : Type 0 where
   pub in_order : (more : List PricedKind) → AreKinds rank more → AreKinds 0 (kinds ++ more)
-  pub called : (sample : Look) → All (λ look. look_name look ≡ look_name sample) looks → AreCalled (look_name sample) kinds
+  pub called : (name : _) → All (λ look. look_name look ≡ name) looks → AreCalled name kinds
   pub count : counted kinds ≡ count_by (below rank) looks
   pub counts : All (HasCount looks) kinds
   pub each :
@@ -112,7 +112,7 @@ pub record AreGrouped (looks : List Look) (prices : List ℤ) (rank : ℕ) (kind
 pub grouped_none : (looks : List Look) (prices : List ℤ) → AreGrouped looks prices 0 []
 grouped_none looks prices = record {
   in_order = λ more are. are;
-  called = λ sample all. tt;
+  called = λ name all. tt;
   count = sym (none_counted (below 0) looks (λ place inside. grind (arith, nat_tests)));
   counts = All-nil (HasCount looks);
   each = λ alike place inside low. absurd (omega arith);
@@ -160,9 +160,9 @@ module _ (looks : List Look) (prices : List ℤ) (few : length looks ≤ 27) (ea
         in_order = λ more are.
             subst (AreKinds 0) (sym (append_assoc kinds (kind ∷ []) more))
             (so_far.in_order (kind ∷ more) (good_kind, omega arith, subst (λ r. AreKinds (r + 1) more) (sym same) are));
-        called = λ sample all.
-            more_called sample kinds kind (so_far.called sample all)
-            (ap look_name is.look ∙ All-get_or (λ look. look_name look ≡ look_name sample) looks place (Pair None) is.inside all);
+        called = λ name all.
+            more_called name kinds kind (so_far.called name all)
+            (ap look_name is.look ∙ All-get_or (λ look. look_name look ≡ name) looks place (Pair None) is.inside all);
         count = omega (arith, more_counted kinds kind, count_more rank looks);
         counts = All-push (HasCount looks) kinds kind so_far.counts (record { count = is.count });
         each = λ alike other inside low.
