@@ -1,5 +1,5 @@
 -- Things grouped into kinds, rank by rank.
-use Rattle.std.proofs.Common.{◌≡◌, ◌≢◌, ℕ, zero, suc, ◌+◌, ◌<◌, ◌≤◌, inl, inr, Bool, true, false, cond, eqb, ltb, List, [], ◌∷◌, ◌++◌, length, count_by, append_assoc, length-append, refl, sym, ap, ◌∙◌, subst, arith, ℤ, pos, unsigned_abs, Some, None}
+use Rattle.std.proofs.Common.{◌≡◌, ◌≢◌, ℕ, ◌+◌, ◌<◌, ◌≤◌, inl, inr, Bool, true, false, cond, eqb, ltb, List, [], ◌∷◌, ◌++◌, length, count_by, append_assoc, length-append, refl, sym, ap, ◌∙◌, subst, arith, ℤ, pos, unsigned_abs, Some, None}
 use Rattle.std.specs.List.{All}
 use Rattle.std.proofs.lemmas.Bool.{cases_lt, lt-ltb, ne_eqb, eq-eqb}
 use Rattle.std.proofs.lemmas.Bool.Decides.{nat_tests}
@@ -40,7 +40,7 @@ count_more rank (look ∷ looks) =
 none_counted : (p : Look → Bool) (looks : List Look) → ((place : ℕ) → place < length looks → p (look_at looks place) ≡ false) → count_by p looks ≡ 0
 none_counted p looks none =
     let few = sum_by-le (λ l. cond {A = ℕ} (p l) 1 0) 0 looks
-        (All-from_get_or (λ l. cond {A = ℕ} (p l) 1 0 ≤ 0) looks (Pair None) (λ i inside. rw (none i inside) (omega arith))) in
+    (All-from_get_or (λ l. cond {A = ℕ} (p l) 1 0 ≤ 0) looks (Pair None) (λ i inside. rw (none i inside) (omega arith))) in
     omega arith
 
 all_counted : (p : Look → Bool) (looks : List Look) → All (λ l. p l ≡ true) looks → count_by p looks ≡ length looks

@@ -80,7 +80,7 @@ group_is (Pin m) (Cables a b) kind = absurd kind
 group_is (Pin m) (CableKinds a b) kind = absurd kind
 group_is (Pin m) (BarKinds a b) kind = absurd kind
 
-kind_is : (m : Parts) (prices : PriceParts) → version_of prices ≡ ByNumber → group_of prices ≡ group_of_machine m → AreOfKind m prices
+pub kind_is : (m : Parts) (prices : PriceParts) → version_of prices ≡ ByNumber → group_of prices ≡ group_of_machine m → AreOfKind m prices
 kind_is (Rotor m) (Cables a b) by group = tt
 kind_is (Pin m) (Bars a b) by group = tt
 kind_is (Rotor m) (Bars a b) by group = cc

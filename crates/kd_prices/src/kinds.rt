@@ -82,7 +82,10 @@ fn of_group<const N: usize>(
 }
 
 /// The kinds of the things that look so and have these prices, in order; none where two that are alike have different prices.
-fn kinds_of<const N: usize>(looks: &[Look; N], prices: &[i16; N]) -> Option<ArrayVec<PricedKind, 27>>
+fn kinds_of<const N: usize>(
+    looks: &[Look; N],
+    prices: &[i16; N],
+) -> Option<ArrayVec<PricedKind, 27>>
     requires few { N ≤ 27 }
     requires form { All IsInForm looks.now }
     requires reach { AreWithinReach prices.now }
