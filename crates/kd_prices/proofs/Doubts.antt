@@ -16,7 +16,7 @@ use Rattle.kd_card.specs.Carrying.{IsFirstIllegal}
 use Rattle.kd_card.specs.Proving.{AreNeeded, LeadsToTheDay, Proves, ProvesByNumber, priced_count}
 use Rattle.kd_prices.specs.declared.doubt.Doubt.{Doubt}
 use Rattle.kd_prices.specs.declared.doubt.Doubt.TheVariants.{OtherModel, PriceMissing, IllegalAt, NotTheSheet, PriceTooHigh, SumDiffers, NeedlessLine}
-use Rattle.kd_prices.specs.Doubt.{AreOfOneModel, IsFirstWithout, IsFirstNeedless, IsDoubtByNumber, IsDoubt, OfModels, OfKinds, OfNumbers}
+use Rattle.kd_prices.specs.Doubt.{IsFirstWithout, IsFirstNeedless, IsDoubtByNumber, IsDoubt, OfModels, OfKinds, OfNumbers}
 use Rattle.kd_prices.specs.Laws.{ProvingCardsAreInNoDoubt, OneDoubt}
 use Rattle.kd_prices.proofs.Meaning.{one_expansion, of_one_model}
 use Rattle.kd_prices.proofs.Leading.{needed_at, not_refused}

@@ -1,5 +1,5 @@
 -- Things grouped into kinds, rank by rank.
-use Rattle.std.proofs.Common.{◌≡◌, ◌≢◌, ℕ, zero, suc, ◌+◌, ◌<◌, ◌≤◌, inl, inr, Bool, true, false, cond, eqb, ltb, List, [], ◌∷◌, ◌++◌, length, count_by, append_assoc, length-append, refl, sym, ap, ◌∙◌, subst, arith, ℤ, pos, unsigned_abs, Some, None}
+use Rattle.std.proofs.Common.{◌≡◌, ◌≢◌, ℕ, ◌+◌, ◌<◌, ◌≤◌, inl, inr, Bool, true, false, cond, eqb, ltb, List, [], ◌∷◌, ◌++◌, length, count_by, append_assoc, length-append, refl, sym, ap, ◌∙◌, subst, arith, ℤ, pos, unsigned_abs, Some, None}
 use Rattle.std.specs.List.{All}
 use Rattle.std.proofs.lemmas.Bool.{cases_lt, lt-ltb, ne_eqb, eq-eqb}
 use Rattle.std.proofs.lemmas.Bool.Decides.{nat_tests}
@@ -15,8 +15,8 @@ use Rattle.kd_card.specs.declared.kinds.PricedKind.{PricedKind}
 use Rattle.kd_card.specs.Kinds.{look_name, look_rank, counted, IsInForm, IsPricedKind, AreKinds, AreCalled}
 use Rattle.kd_card.specs.Prices.{price_at, AreWithinReach}
 use Rattle.kd_card.specs.Proving.{look_at, alike_count, IsPriced, HasCount, AreExpanded}
-use Rattle.kd_prices.specs.Kinds.{AreAlikePriced, IsKindAt, AreKindsOf}
-use Rattle.kd_prices.proofs.Meaning.{priced_here}
+use Rattle.kd_prices.specs.Kinds.{AreAlikePriced, IsKindAt, AreKindsOf, AreWithPrices}
+use Rattle.kd_prices.proofs.Meaning.{one_price, priced_here}
 
 -- ---- how many things are of ranks
 
@@ -40,7 +40,7 @@ count_more rank (look ∷ looks) =
 none_counted : (p : Look → Bool) (looks : List Look) → ((place : ℕ) → place < length looks → p (look_at looks place) ≡ false) → count_by p looks ≡ 0
 none_counted p looks none =
     let few = sum_by-le (λ l. cond {A = ℕ} (p l) 1 0) 0 looks
-        (All-from_get_or (λ l. cond {A = ℕ} (p l) 1 0 ≤ 0) looks (Pair None) (λ i inside. rw (none i inside) (omega arith))) in
+    (All-from_get_or (λ l. cond {A = ℕ} (p l) 1 0 ≤ 0) looks (Pair None) (λ i inside. rw (none i inside) (omega arith))) in
     omega arith
 
 all_counted : (p : Look → Bool) (looks : List Look) → All (λ l. p l ≡ true) looks → count_by p looks ≡ length looks
@@ -78,10 +78,10 @@ from_lower : (floor : ℕ) (kinds : List PricedKind) → AreKinds (floor + 1) ki
 from_lower floor [] are = tt
 from_lower floor (kind ∷ kinds) are = let above = are.1 in (are.0, omega (arith, above), are.2)
 
-more_called : (sample : Look) (kinds : List PricedKind) (kind : PricedKind) → AreCalled (look_name sample) kinds → look_name kind.look ≡ look_name sample
-    → AreCalled (look_name sample) (kinds ++ kind ∷ [])
-more_called sample [] kind called this = (this, tt)
-more_called sample (first ∷ kinds) kind called this = (called.0, more_called sample kinds kind called.1 this)
+more_called : (name : _) (kinds : List PricedKind) (kind : PricedKind) → AreCalled name kinds → look_name kind.look ≡ name
+    → AreCalled name (kinds ++ kind ∷ [])
+more_called name [] kind called this = (this, tt)
+more_called name (first ∷ kinds) kind called this = (called.0, more_called name kinds kind called.1 this)
 
 more_counted : (kinds : List PricedKind) (kind : PricedKind) → counted (kinds ++ kind ∷ []) ≡ counted kinds + kind.count
 more_counted [] kind = omega arith
@@ -102,7 +102,7 @@ few_kinds floor (kind ∷ kinds) are =
 -- the kinds are those of all things below that rank, and each has the price of one of its things
 pub record AreGrouped (looks : List Look) (prices : List ℤ) (rank : ℕ) (kinds : List PricedKind) : Type 0 where
   pub in_order : (more : List PricedKind) → AreKinds rank more → AreKinds 0 (kinds ++ more)
-  pub called : (sample : Look) → All (λ look. look_name look ≡ look_name sample) looks → AreCalled (look_name sample) kinds
+  pub called : (name : _) → All (λ look. look_name look ≡ name) looks → AreCalled name kinds
   pub count : counted kinds ≡ count_by (below rank) looks
   pub counts : All (HasCount looks) kinds
   pub each :
@@ -112,7 +112,7 @@ pub record AreGrouped (looks : List Look) (prices : List ℤ) (rank : ℕ) (kind
 pub grouped_none : (looks : List Look) (prices : List ℤ) → AreGrouped looks prices 0 []
 grouped_none looks prices = record {
   in_order = λ more are. are;
-  called = λ sample all. tt;
+  called = λ name all. tt;
   count = sym (none_counted (below 0) looks (λ place inside. grind (arith, nat_tests)));
   counts = All-nil (HasCount looks);
   each = λ alike place inside low. absurd (omega arith);
@@ -160,9 +160,9 @@ module _ (looks : List Look) (prices : List ℤ) (few : length looks ≤ 27) (ea
         in_order = λ more are.
             subst (AreKinds 0) (sym (append_assoc kinds (kind ∷ []) more))
             (so_far.in_order (kind ∷ more) (good_kind, omega arith, subst (λ r. AreKinds (r + 1) more) (sym same) are));
-        called = λ sample all.
-            more_called sample kinds kind (so_far.called sample all)
-            (ap look_name is.look ∙ All-get_or (λ look. look_name look ≡ look_name sample) looks place (Pair None) is.inside all);
+        called = λ name all.
+            more_called name kinds kind (so_far.called name all)
+            (ap look_name is.look ∙ All-get_or (λ look. look_name look ≡ name) looks place (Pair None) is.inside all);
         count = omega (arith, more_counted kinds kind, count_more rank looks);
         counts = All-push (HasCount looks) kinds kind so_far.counts (record { count = is.count });
         each = λ alike other inside low.
@@ -203,3 +203,16 @@ module _ (looks : List Look) (prices : List ℤ) (rank : ℕ) (kinds : List Pric
     each = λ place inside. grouped.each alike place inside (All-get_or (λ look. look_rank look < rank) looks place (Pair None) inside low);
     counts = grouped.counts;
   }
+
+-- ---- what has one price for each kind has equal prices where it is alike
+
+priced_alike : (look other : Look) (price : ℤ) (kinds : List PricedKind) → look_rank look ≡ look_rank other → IsPriced look price kinds → IsPriced other price kinds
+priced_alike look other price [] same none = absurd none
+priced_alike look other price (kind ∷ kinds) same (inl has) = inl (record { alike = has.alike ∙ same; price = has.price })
+priced_alike look other price (kind ∷ kinds) same (inr later) = inr (priced_alike look other price kinds same later)
+
+pub alike_priced : (looks : List Look) (prices : List ℤ) (kinds : List PricedKind) → AreWithPrices looks prices kinds → AreAlikePriced looks prices
+alike_priced looks prices kinds with_prices = λ place other inside within same.
+    one_price 0 kinds (look_at looks other) (price_at prices place) (price_at prices other) with_prices.good.in_order
+    (priced_alike (look_at looks place) (look_at looks other) (price_at prices place) kinds same (with_prices.expanded.each place inside))
+    (with_prices.expanded.each other within)

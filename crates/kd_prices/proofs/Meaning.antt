@@ -34,7 +34,7 @@ above floor [] look price are priced = absurd priced
 above floor (kind ∷ kinds) look price are (inl has) = let low = are.1 in omega (arith, low, has.alike)
 above floor (kind ∷ kinds) look price are (inr later) = let low = are.1 in omega (arith, low, above (look_rank kind.look + 1) kinds look price are.2 later)
 
-one_price : (floor : ℕ) (kinds : List PricedKind) (look : Look) (price other : ℤ) → AreKinds floor kinds → IsPriced look price kinds → IsPriced look other kinds
+pub one_price : (floor : ℕ) (kinds : List PricedKind) (look : Look) (price other : ℤ) → AreKinds floor kinds → IsPriced look price kinds → IsPriced look other kinds
     → price ≡ other
 one_price floor [] look price other are a b = absurd a
 one_price floor (kind ∷ kinds) look price other are (inl a) (inl b) = sym a.price ∙ b.price
@@ -42,7 +42,7 @@ one_price floor (kind ∷ kinds) look price other are (inl a) (inr b) = absurd (
 one_price floor (kind ∷ kinds) look price other are (inr a) (inl b) = absurd (omega (arith, b.alike, above (look_rank kind.look + 1) kinds look price are.2 a))
 one_price floor (kind ∷ kinds) look price other are (inr a) (inr b) = one_price (look_rank kind.look + 1) kinds look price other are.2 a b
 
-same_expansion : (looks : List Look) (kinds : List PricedKind) (prices others : List ℤ) → AreKinds 0 kinds → AreExpanded looks kinds prices
+pub same_expansion : (looks : List Look) (kinds : List PricedKind) (prices others : List ℤ) → AreKinds 0 kinds → AreExpanded looks kinds prices
     → AreExpanded looks kinds others → prices ≡ others
 same_expansion looks kinds prices others are a b =
     let number = a.number in
@@ -80,7 +80,7 @@ group_is (Pin m) (Cables a b) kind = absurd kind
 group_is (Pin m) (CableKinds a b) kind = absurd kind
 group_is (Pin m) (BarKinds a b) kind = absurd kind
 
-kind_is : (m : Parts) (prices : PriceParts) → version_of prices ≡ ByNumber → group_of prices ≡ group_of_machine m → AreOfKind m prices
+pub kind_is : (m : Parts) (prices : PriceParts) → version_of prices ≡ ByNumber → group_of prices ≡ group_of_machine m → AreOfKind m prices
 kind_is (Rotor m) (Cables a b) by group = tt
 kind_is (Pin m) (Bars a b) by group = tt
 kind_is (Rotor m) (Bars a b) by group = cc

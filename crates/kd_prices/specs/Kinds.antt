@@ -7,8 +7,10 @@ use Rattle.kd_card.specs.declared.look.Look.{Look}
 use Rattle.kd_card.specs.declared.kinds.PricedKind.{PricedKind}
 use Rattle.kd_card.specs.declared.prices.PriceParts.{PriceParts}
 use Rattle.kd_card.specs.declared.prices.Version.TheVariants.{ByKind}
-use Rattle.kd_card.specs.Kinds.{look_name, look_rank, counted, AreKinds, AreCalled}
-use Rattle.kd_card.specs.Prices.{version_of, price_at}
+use Rattle.kd_card.specs.Kinds.{look_name, look_rank, counted, IsInForm, AreKinds, AreCalled}
+use Rattle.kd_card.specs.declared.group.Group.{Group}
+use Rattle.kd_card.specs.Prices.{version_of, row_kinds, column_kinds, price_at, ArePrices}
+use Rattle.kd_card.specs.CardText.{group_of}
 use Rattle.kd_card.specs.Proving.{look_at, alike_count, AreExpanded, Expands}
 use Rattle.kd_prices.specs.Doubt.{AreNumbered}
 use Rattle.kd_prices.specs.Laws.{AreEqualWhereAlike}
@@ -49,9 +51,23 @@ pub record IsKindAt (looks : List Look) (prices : List ℤ) (place : ℕ) (kind 
 pub record AreKindsOf (looks : List Look) (kinds : List PricedKind) : Type 0 where
   pub in_order : AreKinds 0 kinds
   pub count : counted kinds ≡ length looks
-  pub called : (sample : Look) → All (λ look. look_name look ≡ look_name sample) looks → AreCalled (look_name sample) kinds
+  pub called : (name : _) → All (λ look. look_name look ≡ name) looks → AreCalled name kinds
 
 -- and they have the prices of the things
 pub record AreWithPrices (looks : List Look) (prices : List ℤ) (kinds : List PricedKind) : Type 0 where
   pub good : AreKindsOf looks kinds
   pub expanded : AreExpanded looks kinds prices
+
+-- so many things that are called so, each look in its form
+pub record AreThings (name : _) (number : ℕ) (looks : List Look) : Type 0 where
+  pub count : length looks ≡ number
+  pub called : All (λ look. look_name look ≡ name) looks
+  pub form : All IsInForm looks
+
+-- prices by kind of a group, with the kinds of its rows and of its columns
+pub record AreOfGroup (group : Group) (rows columns : List Look) (row column : List ℤ) (prices : PriceParts) : Type 0 where
+  pub of_group : group_of prices ≡ group
+  pub version : version_of prices ≡ ByKind
+  pub are_prices : ArePrices prices
+  pub row_kinds : AreWithPrices rows row (row_kinds prices)
+  pub column_kinds : AreWithPrices columns column (column_kinds prices)

@@ -2,8 +2,9 @@
 ghost use Rattle.std.specs.Prelude.{◌≡◌, ◌≢◌, ◌↔◌, ℕ, ◌<◌, ◌≤◌, length, All, IfSome, IsSome, MatchOption};
 ghost use Rattle.kd_card.specs.Kinds.{look_rank, IsInForm};
 ghost use Rattle.kd_card.specs.Prices.{AreWithinReach};
+ghost use Rattle.kd_card.specs.CardText.{row_name, column_name, price_count};
 ghost use Rattle.kd_card.specs.Proving.{look_at, AreExpanded};
-ghost use Rattle.kd_prices.specs.Kinds.{CanBeByKind, IsByKind, AreByKind, AreAlikePriced, IsKindAt, AreKindsOf, AreWithPrices};
+ghost use Rattle.kd_prices.specs.Kinds.{CanBeByKind, IsByKind, AreByKind, AreAlikePriced, IsKindAt, AreKindsOf, AreWithPrices, AreThings, AreOfGroup};
 
 use super::expanding::{alike_count, priced};
 use super::looks::{bar_looks, cable_looks, pair_looks, row_looks};
@@ -45,21 +46,46 @@ fn prices_by_kind(machine: &Machine, day: &SheetDay, prices: &Prices) -> Option<
     columns_are_the_pairs();
     match (machine.of_one_model(day)?, prices.parts()) {
         (OneModel::Rotor(parts, entry), PriceParts::Cables(cables, pairs)) => {
-            let rows = kinds_of(&cable_looks(&parts.cables), &cables)?;
-            let columns = kinds_of(&pair_looks(entry.pairs.as_slice()), &pairs)?;
-            Some(Prices::of_groups(Group::OfCables, rows.as_slice(), columns.as_slice()))
+            let rows = cable_looks(&parts.cables);
+            let columns = pair_looks(entry.pairs.as_slice());
+            of_group(Group::OfCables, &rows, &cables, &columns, &pairs)
         }
         (OneModel::Pin(parts, entry), PriceParts::Bars(bars, sheet)) => {
-            let rows = kinds_of(&bar_looks(&parts.bars), &bars)?;
-            let columns = kinds_of(&row_looks(&entry.rows), &sheet)?;
-            Some(Prices::of_groups(Group::OfBars, rows.as_slice(), columns.as_slice()))
+            let rows = bar_looks(&parts.bars);
+            let columns = row_looks(&entry.rows);
+            of_group(Group::OfBars, &rows, &bars, &columns, &sheet)
         }
         _ => None,
     }
 }
 
+/// The prices by kind of a group whose rows and columns look so and have these prices; none where two that are alike have
+/// different prices.
+fn of_group<const N: usize>(
+    group: Group,
+    rows: &[Look; N],
+    row_prices: &[i16; N],
+    columns: &[Look; N],
+    column_prices: &[i16; N],
+) -> Option<Prices>
+    requires rows { AreThings (row_name group) (price_count group) rows.now }
+    requires columns { AreThings (column_name group) (price_count group) columns.now }
+    requires row_reach { AreWithinReach row_prices.now }
+    requires column_reach { AreWithinReach column_prices.now }
+    ensures { MatchOption result
+        (¬ (AreAlikePriced rows.now row_prices.now × AreAlikePriced columns.now column_prices.now))
+        (AreOfGroup group rows.now columns.now row_prices.now column_prices.now) }
+{
+    let rows = kinds_of(rows, row_prices)?;
+    let columns = kinds_of(columns, column_prices)?;
+    Some(Prices::of_groups(group, rows.as_slice(), columns.as_slice()))
+}
+
 /// The kinds of the things that look so and have these prices, in order; none where two that are alike have different prices.
-fn kinds_of<const N: usize>(looks: &[Look; N], prices: &[i16; N]) -> Option<ArrayVec<PricedKind, 27>>
+fn kinds_of<const N: usize>(
+    looks: &[Look; N],
+    prices: &[i16; N],
+) -> Option<ArrayVec<PricedKind, 27>>
     requires few { N ≤ 27 }
     requires form { All IsInForm looks.now }
     requires reach { AreWithinReach prices.now }

@@ -1,5 +1,7 @@
 //! Prices by kind.
-use super::samples::{bar_prices, cable_prices, card, converter, converter_day, enigma, enigma_day};
+use super::samples::{
+    bar_prices, cable_prices, card, converter, converter_day, enigma, enigma_day,
+};
 use crate::{Doubt, by_kind, check};
 use kd_card::{read_card, write_card};
 use kd_state::{Machine, SheetDay};
@@ -89,7 +91,11 @@ fn cards_become_cards_by_kind(rt: HostRuntime) {
 fn cables_become_kinds(rt: HostRuntime) {
     let machine = enigma(&rt, &[*b"AB", *b"CD"]);
     let day = enigma_day(&rt, &[*b"BC", *b"DE"]);
-    let numbered = card(&rt, "PULL 1 A\nPULL 2 C\nPUT 1 C\nPUT 2 E\n", cable_prices(&rt, &[2, 2], &[]));
+    let numbered = card(
+        &rt,
+        "PULL 1 A\nPULL 2 C\nPUT 1 C\nPUT 2 E\n",
+        cable_prices(&rt, &[2, 2], &[]),
+    );
     let other = by_kind(&machine, &day, &numbered).expect(&rt, "a card");
     let mut sink = MemorySink::<512>::new(512);
     assert!(rt; write_card(&mut sink, 8, &other).is_ok());

@@ -1,6 +1,6 @@
 use Rattle.std.proofs.Common.{sym, subst}
 use Rattle.kd_card.specs.Proving.{ProvesByNumber}
-use Rattle.kd_prices.specs.Doubt.{IsDoubt, IsDoubtByNumber, OfNumbers}
+use Rattle.kd_prices.specs.Doubt.{IsDoubtByNumber, OfNumbers}
 use Rattle.kd_prices.proofs.Meaning.{one_expansion, are_numbered, if_err}
 use Rattle.kd_prices.proofs.checking.check.Goals as goal
 

@@ -1,7 +1,6 @@
 use Rattle.std.proofs.Common.{rules, ◌∙◌, ap, sym, subst}
 use Rattle.std.specs.Option.{option_copied}
 use Rattle.kd_card.specs.Prices.{ArePrices}
-use Rattle.kd_card.specs.Proving.{AreExpanded}
 use Rattle.kd_prices.proofs.Meaning.{cables_told, bars_told, lists_told}
 use Rattle.kd_prices.proofs.expanding.expanded.Goals as goal
 
