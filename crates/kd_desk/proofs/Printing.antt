@@ -3,7 +3,6 @@ use Rattle.std.proofs.Common.{◌≡◌, ℕ, List, Result, Ok, Err, IsErrAnd, r
 use Rattle.std.specs.Io.KnownBytes.{Appends}
 use Rattle.kd_tables.specs.Writing.{TakesFront}
 use Rattle.kd_state.specs.declared.machine.parts.Parts.{Parts}
-use Rattle.kd_state.specs.declared.setting.Setting.{Setting}
 use Rattle.kd_state.specs.Machine.{IsMachine}
 use Rattle.kd_state.specs.SheetDay.{Day, IsLegalDay, day_number}
 use Rattle.kd_state.specs.Laws.{ListsKeepMachines, ReadingIsReady, ReadingIsItsCipher, EquallySetDecipher}

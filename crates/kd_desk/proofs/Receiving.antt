@@ -1,5 +1,5 @@
 -- What is received, and what is refused, by the laws on orders and forms.
-use Rattle.std.proofs.Common.{◌⊎◌, List, ℕ, ◌++◌, inl, inr}
+use Rattle.std.proofs.Common.{List, ℕ, ◌++◌, inl}
 use Rattle.kd_state.specs.SheetDay.{Day, IsLegalDay}
 use Rattle.kd_form.specs.declared.fault.FormFault.{FormFault}
 use Rattle.kd_form.specs.FormText.{IsTextOf, IsReceiveFault, form_message}

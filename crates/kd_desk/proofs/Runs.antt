@@ -10,11 +10,11 @@ use Rattle.kd_desk.specs.declared.files.fault.FileFault.{FileFault}
 use Rattle.kd_desk.specs.declared.files.fault.FileFault.TheVariants as files
 use Rattle.kd_desk.specs.declared.stop.Stop.{Stop}
 use Rattle.kd_desk.specs.declared.stop.Stop.TheVariants.{Usage, Unread, ReadFailed, Refused}
-use Rattle.kd_desk.specs.CommandLine.{Named, desk_grammar, files_of, with_opened, IsOf, Says}
+use Rattle.kd_desk.specs.CommandLine.{Named, desk_grammar, files_of, IsOf, Says}
 use Rattle.kd_desk.specs.declared.command.Task.{Task}
 use Rattle.kd_desk.specs.Desk.{KnownCommand, KnownAction, KnownTask, command_over, AskFor, CarriesOut, DoesTask, IsDone, IsTaskDone, has_read}
 use Rattle.kd_desk.specs.OnDay.{OnDay}
-use Rattle.kd_desk.specs.Files.{Gives, IsReading, Opened}
+use Rattle.kd_desk.specs.Files.{Gives, Opened}
 use Rattle.kd_tables.specs.Ports.{Port}
 use Rattle.kd_desk.proofs.SaidCommands.{same_command}
 

@@ -62,6 +62,9 @@ fn in_kinds(machine: &Machine, day: &SheetDay, card: &Card) -> Card
     requires { ProvesByNumber machine.now day.now card.now.settings.items card.now.prices }
     ensures { IsByKind machine.now day.now card.now result }
 {
+    let _legal_day = day.model();
+    let _legal_machine = machine.parts();
+    let _prices = card.prices.parts();
     alike_prices_are_equal();
     by_kind(machine, day, card).unwrap()
 }

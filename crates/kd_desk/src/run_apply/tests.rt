@@ -1,6 +1,8 @@
 use super::run_apply;
 use crate::fault::DeskFault::{self, Card, File, Illegal, List};
-use crate::samples::{CARD, CARD_BY_KIND, Change, M4, MACHINE, PLUGGED, Ran, SAME, TEN_CABLES, WRITTEN};
+use crate::samples::{
+    CARD, CARD_BY_KIND, Change, M4, MACHINE, PLUGGED, Ran, SAME, TEN_CABLES, WRITTEN,
+};
 use kd_card::{CardFault, IllegalAt};
 use kd_sheet::SheetFault::NotToml;
 use kd_state::ListFault::BadLine;

@@ -1,8 +1,8 @@
 use super::run_card;
 use crate::fault::DeskFault::{self, File, NoSuchDay, OtherModel};
 use crate::samples::{
-    Change, EMPTY_BY_KIND, LUGS_IN_TURN, M4_AS_ENIGMA, MACHINE, PLUGGED, ROWS_IN_TURN, Ran, SAME, SHEET,
-    TWO_BARS,
+    Change, EMPTY_BY_KIND, LUGS_IN_TURN, M4_AS_ENIGMA, MACHINE, PLUGGED, ROWS_IN_TURN, Ran, SAME,
+    SHEET, TWO_BARS,
 };
 use kd_sheet::Key;
 use kd_sheet::SheetFault::{BadRow, BadValue, Missing, NotToml};
@@ -285,7 +285,10 @@ SUM 0
 fn stops_where_the_sink_fails(rt: HostRuntime) -> Result<(), AllocError> {
     let [old, new] = CANCELLING;
     let cancelling = MACHINE.replace(rt.alloc(), old, new)?;
-    for (machine, card) in [(MACHINE, EMPTY_BY_KIND), (cancelling.as_str(), TWO_SETTINGS)] {
+    for (machine, card) in [
+        (MACHINE, EMPTY_BY_KIND),
+        (cancelling.as_str(), TWO_SETTINGS),
+    ] {
         let card = card.as_bytes();
         for room in 0..card.len() {
             let ran = run(rt.alloc(), machine, SHEET, 11, room);

@@ -1,8 +1,8 @@
 use super::run_check;
 use crate::fault::DeskFault::{self, Card, Doubtful, File, NoSuchDay, OtherDay};
 use crate::samples::{
-    CARD, CARD_BY_KIND, Change, EMPTY, LUGS_IN_TURN, M4_AS_ENIGMA, MACHINE, ONE_LUG, ONE_LUG_BY_KIND, PLUGGED, ROWS_IN_TURN, Ran,
-    SAME, SHEET, TWO_BARS,
+    CARD, CARD_BY_KIND, Change, EMPTY, LUGS_IN_TURN, M4_AS_ENIGMA, MACHINE, ONE_LUG,
+    ONE_LUG_BY_KIND, PLUGGED, ROWS_IN_TURN, Ran, SAME, SHEET, TWO_BARS,
 };
 use kd_card::CardFault::{BadHead, BadLine, CountWrong, PriceMissing, TooMany, Trailing};
 use kd_card::{PriceParts, Prices};

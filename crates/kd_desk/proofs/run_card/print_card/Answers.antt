@@ -10,7 +10,7 @@ returns-in_err-write_card-clause-prints g c =
       cipher = c.reading_as_the_day_is_its_cipher.ensures.cipher;
       decipher = c.equally_set_machines_decipher.ensures;
     } in
-    part laws _ _ (search rules) (search rules) _ _ c.in_ok-card.ensures.card c.in_kinds.ensures _ _ _ _ c.day.ensures.value c.in_err-write_card.ensures.card c.in_err-write_card.ensures.text.front c.from_residual-in_err-write_card.ensures.1
+    part laws _ _ (search rules) (search rules) _ _ c.in_ok-plan.ensures.card c.in_kinds-card.ensures _ _ _ _ c.day.ensures.value c.in_err-write_card.ensures.card c.in_err-write_card.ensures.text.front c.from_residual-in_err-write_card.ensures.1
 
 pub returns-clause-prints : goal.returns-clause-prints
 returns-clause-prints g c =
@@ -20,4 +20,4 @@ returns-clause-prints g c =
       cipher = c.reading_as_the_day_is_its_cipher.ensures.cipher;
       decipher = c.equally_set_machines_decipher.ensures;
     } in
-    whole laws _ _ (search rules) (search rules) _ _ c.in_ok-card.ensures.card c.in_kinds.ensures _ _ _ c.day.ensures.value c.in_ok-write_card.ensures.card c.in_ok-write_card.ensures.text.whole
+    whole laws _ _ (search rules) (search rules) _ _ c.in_ok-plan.ensures.card c.in_kinds-card.ensures _ _ _ c.day.ensures.value c.in_ok-write_card.ensures.card c.in_ok-write_card.ensures.text.whole
