@@ -5,7 +5,8 @@ use Rattle.kd_prices.proofs.kinds.first_kinds.Goals.{in-Some, in_default}
 
 pub loop-rank-init : goal.loop-rank-init
 loop-rank-init c =
-    subst (AreGrouped c.args.looks.now c.args.prices.now 0) (sym c.new-kinds.ensures) (grouped_none c.args.looks.now c.args.prices.now)
+    subst (AreGrouped c.args.looks.now c.args.prices.now 0) (sym c.new-kinds.ensures)
+    (grouped_none c.args.looks.now c.args.prices.now)
 
 pub push-requires : goal.push-requires
 push-requires c = (
@@ -31,9 +32,11 @@ loop-rank-preserved c =
 
 pub returns-clause-kinds : goal.returns-clause-kinds
 returns-clause-kinds c =
-    all_kinds c.args.looks.now c.args.prices.now c.loop-rank.rank c.loop-rank.kinds.items (omega arith) c.requires.form c.loop-rank.invariant
+    all_kinds c.args.looks.now c.args.prices.now c.loop-rank.rank c.loop-rank.kinds.items
+    (omega arith) c.requires.form c.loop-rank.invariant
 
 pub returns-clause-expanded : goal.returns-clause-expanded
 returns-clause-expanded c =
-    all_expanded c.args.looks.now c.args.prices.now c.loop-rank.rank c.loop-rank.kinds.items (omega arith) c.requires.form c.loop-rank.invariant
+    all_expanded c.args.looks.now c.args.prices.now c.loop-rank.rank c.loop-rank.kinds.items
+    (omega arith) c.requires.form c.loop-rank.invariant
     c.requires.each

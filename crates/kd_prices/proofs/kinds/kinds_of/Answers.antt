@@ -21,4 +21,5 @@ returns-else-eq g c = λ alike.
     let same = same_expansion c.args.looks.now kinds c.in_ok-priced.field-0 c.args.prices.now c.first_kinds-kinds.ensures.kinds.in_order
     (subst (λ kinds. AreExpanded c.args.looks.now kinds c.in_ok-priced.field-0) c.as_slice.ensures.value c.in_ok-priced.ensures)
     (c.first_kinds-kinds.ensures.expanded alike) in
-    false≢true (sym c.if-eq.false ∙ (slice_eq-Decides Decides-int_eq c.in_ok-priced.field-0 c.args.prices.now c.eq.result c.eq.ensures).1 same)
+    false≢true (sym c.if-eq.false ∙
+    (slice_eq-Decides Decides-int_eq c.in_ok-priced.field-0 c.args.prices.now c.eq.result c.eq.ensures).1 same)
