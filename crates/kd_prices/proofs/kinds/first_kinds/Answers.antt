@@ -11,8 +11,8 @@ loop-rank-init c =
 pub push-requires : goal.push-requires
 push-requires c = (
   omega arith,
-  room c.args.looks.now c.args.prices.now c.requires.few c.requires.each c.requires.form c.requires.reach c.loop-rank.rank c.in-Some.place
-      c.loop-rank.kinds.items c.kind_at.result c.in-Some.ensures.1 c.kind_at.ensures c.loop-rank.invariant,
+  room c.args.looks.now c.args.prices.now c.requires.few c.requires.each c.requires.form c.requires.reach c.loop-rank.rank
+      c.in-Some.place c.loop-rank.kinds.items c.kind_at.result c.in-Some.ensures.1 c.kind_at.ensures c.loop-rank.invariant,
 )
 
 pub loop-rank-preserved : goal.loop-rank-preserved
@@ -23,8 +23,8 @@ loop-rank-preserved c =
     elim c.match-place_of.branch [
       | in-Some w ↦
           subst (AreGrouped looks prices (rank + 1)) (sym (ap (λ kinds. kinds.items) w.kinds-is ∙ w.push.ensures.items))
-          (grouped_more looks prices c.requires.few c.requires.each c.requires.form c.requires.reach rank w.in-Some.place c.loop-rank.kinds.items
-          w.kind_at.result w.in-Some.ensures.1 w.kind_at.ensures c.loop-rank.invariant)
+          (grouped_more looks prices c.requires.few c.requires.each c.requires.form c.requires.reach rank w.in-Some.place
+          c.loop-rank.kinds.items w.kind_at.result w.in-Some.ensures.1 w.kind_at.ensures c.loop-rank.invariant)
       | in_default w ↦
           subst (AreGrouped looks prices (rank + 1)) (sym (ap (λ kinds. kinds.items) w.kinds-is))
           (grouped_past looks prices rank c.loop-rank.kinds.items w.in_default.ensures c.loop-rank.invariant)

@@ -40,7 +40,12 @@ of_group-requires-in-Pin-Bars c =
 pub returns-in-Rotor-Cables : goal.returns-in-Rotor-Cables
 returns-in-Rotor-Cables c =
     let apart = subst (AreParted c.args.machine.now c.args.day.now) c.in-Rotor-Cables.is-0 c.in_ok-parts.ensures.parted in
-    by_kind_told (record { ranks = c.ranks_tell_looks.ensures; thirteen = c.columns_are_the_pairs.ensures.count; columns = c.columns_are_the_pairs.ensures.pairs })
+    by_kind_told
+    (record {
+      ranks = c.ranks_tell_looks.ensures;
+      thirteen = c.columns_are_the_pairs.ensures.count;
+      columns = c.columns_are_the_pairs.ensures.pairs;
+    })
     OfCables _ _ _ _ _ _ _ _ c.of_group.result apart.0 apart.1 (sym c.parts.ensures.value ∙ c.in-Rotor-Cables.is-1)
     (record {
       machine = subst IsMachine apart.0 c.of_one_model.ensures.machine;
@@ -59,7 +64,12 @@ returns-in-Rotor-Cables c =
 pub returns-in-Pin-Bars : goal.returns-in-Pin-Bars
 returns-in-Pin-Bars c =
     let apart = subst (AreParted c.args.machine.now c.args.day.now) c.in-Pin-Bars.is-0 c.in_ok-parts.ensures.parted in
-    by_kind_told (record { ranks = c.ranks_tell_looks.ensures; thirteen = c.columns_are_the_pairs.ensures.count; columns = c.columns_are_the_pairs.ensures.pairs })
+    by_kind_told
+    (record {
+      ranks = c.ranks_tell_looks.ensures;
+      thirteen = c.columns_are_the_pairs.ensures.count;
+      columns = c.columns_are_the_pairs.ensures.pairs;
+    })
     OfBars _ _ _ _ _ _ _ _ c.of_group-in-Pin-Bars.result apart.0 apart.1
     (sym c.parts.ensures.value ∙ c.in-Pin-Bars.is-1)
     (record {
