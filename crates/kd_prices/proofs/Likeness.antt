@@ -1,9 +1,9 @@
 -- Things that stand or read alike have looks of one rank, and looks of one rank are of such things.
-use Rattle.std.proofs.Common.{◌≡◌, ◌⊎◌, ◌↔◌, ℕ, zero, suc, ◌-◌, ◌<◌, ◌≤◌, min, max, false, eqb, inl, inr, List, [], ◌∷◌, ◌++◌, length, get_or, map, replicate, Contains, Option, Some, None, MatchOption, unwrap_or, slice_get, refl, sym, ap, ◌∙◌, subst, arith}
-use Rattle.std.specs.List.{All, AllByRecursion, IsDistinct}
-use Rattle.std.proofs.lemmas.Bool.{cases_lt, lt-leb, eqb-false}
+use Rattle.std.proofs.Common.{◌≡◌, ◌⊎◌, ◌↔◌, ℕ, zero, suc, ◌<◌, ◌≤◌, min, max, false, eqb, inl, inr, List, [], ◌∷◌, length, get_or, map, Contains, Option, Some, None, MatchOption, unwrap_or, slice_get, refl, sym, ap, ◌∙◌, subst, arith, ℤ}
+use Rattle.std.specs.List.{AllByRecursion, IsDistinct}
+use Rattle.std.proofs.lemmas.Bool.{eqb-false}
 use Rattle.std.proofs.lemmas.List.{get_or-map, length-map}
-use Rattle.std.proofs.lemmas.List.Elements.{All-from_recursion, recursion_from_All, All-map, All-get_or}
+use Rattle.std.proofs.lemmas.List.Elements.{All-get_or}
 use Rattle.std.proofs.lemmas.Option.{slice_get-get_or}
 use Rattle.kd_tables.specs.declared.place.Place.{Place}
 use Rattle.kd_tables.specs.declared.place.Place.TheVariants.{One}
@@ -11,7 +11,7 @@ use Rattle.kd_tables.specs.Places.{in_order}
 use Rattle.kd_enigma.specs.Plugs.{letters_plugged, NoLetterTwice}
 use Rattle.kd_state.specs.declared.machine.parts.Parts.{Parts}
 use Rattle.kd_state.specs.declared.machine.parts.Parts.TheVariants.{Rotor, Pin}
-use Rattle.kd_state.specs.Machine.{cable_letters, plugged_letters, ordered, IsMachine, model_of}
+use Rattle.kd_state.specs.Machine.{cable_letters, IsMachine, model_of}
 use Rattle.kd_state.specs.SheetDay.{Day, OfRotors, OfPins, IsLegalDay, day_model}
 use Rattle.kd_state.specs.OnKey.{SameLetters}
 use Rattle.kd_state.specs.Costs.{columns_of}
@@ -20,12 +20,11 @@ use Rattle.kd_card.specs.declared.look.Look.{Look}
 use Rattle.kd_card.specs.declared.look.Look.TheVariants.{Cable, Pair, Bar, Row}
 use Rattle.kd_card.specs.Kinds.{look_name, look_rank, AreEnds, IsInForm}
 use Rattle.kd_card.specs.declared.group.Group.{Group}
-use Rattle.kd_card.specs.declared.group.Group.TheVariants.{OfCables, OfBars}
 use Rattle.kd_card.specs.declared.prices.PriceParts.{PriceParts}
 use Rattle.kd_card.specs.declared.prices.PriceParts.TheVariants.{Cables, Bars, CableKinds, BarKinds}
 use Rattle.kd_card.specs.declared.prices.Version.TheVariants.{ByNumber}
 use Rattle.kd_card.specs.Prices.{version_of, row_kinds, column_kinds, row_prices, column_prices, how_many, price_at, ArePrices}
-use Rattle.kd_card.specs.CardText.{group_of, row_name, column_name, price_count}
+use Rattle.kd_card.specs.CardText.{group_of, price_count}
 use Rattle.kd_card.specs.Proving.{row_looks, column_looks, pair_in_order, look_at, group_of_machine, Expanded}
 use Rattle.kd_card.specs.Laws.{RanksTellLooks}
 use Rattle.kd_prices.specs.Alike.{StandAlike, ReadAlike}
@@ -34,78 +33,8 @@ use Rattle.kd_prices.specs.Doubt.{AreNumbered}
 use Rattle.kd_prices.specs.Kinds.{CanBeByKind, AreByKind, AreAlikePriced, AreThings, AreOfGroup}
 use Rattle.kd_prices.proofs.Meaning.{kind_is}
 use Rattle.kd_prices.proofs.Grouping.{alike_priced}
+use Rattle.kd_prices.proofs.Things.{pair_look, rows_are_things, group_of_day, columns_are_things}
 use Rattle.kd_prices.proofs.AlikePrices.{same_at, nothing_at}
-
--- ---- what the looks are
-
-abbrev in_each_order : List (Option ℕ × Option ℕ) → List (Option ℕ × Option ℕ)
-in_each_order cables = map (λ cable. ordered cable.0 cable.1) cables
-
-two_ordered : (a b : ℕ) → ordered (Some a) (Some b) ≡ (Some a, Some b) → eqb a b ≡ false → a < b
-two_ordered a b e apart =
-    elim (cases_lt b a) [
-      | inl less ↦
-          let swapped : ordered (Some a) (Some b) ≡ (Some b, Some a) = rw (lt-leb a b less) refl in
-          let same : b ≡ a = ap (λ ends. unwrap_or ends.0 a) (sym swapped ∙ e) in
-          absurd (omega arith)
-      | inr le ↦ omega (arith, eqb-false a b apart)
-    ]
-
-abbrev first_end : Option ℕ × Option ℕ → Option ℕ
-first_end ends = ends.0
-
-cables_in_form : (cables : List (Option ℕ × Option ℕ)) → in_each_order cables ≡ cables
-    → AllByRecursion (λ letter. letter < 26) (plugged_letters cables)
-    → IsDistinct eqb (plugged_letters cables) → AllByRecursion IsInForm (map (λ ends. Cable ends) cables)
-unfolding IsDistinct
-cables_in_form [] e within apart = tt
-cables_in_form ((None, None) ∷ cables) e within apart = (tt, cables_in_form cables (cc) within apart)
-cables_in_form ((None, Some b) ∷ cables) e within apart = let none : Some b ≡ None = ap
-    (λ (plugged : List (Option ℕ × Option ℕ)). first_end (get_or plugged 0 (None, None))) e in cc
-cables_in_form ((Some a, None) ∷ cables) e within apart = (within.0, cables_in_form cables (cc) within.1 apart.1)
-cables_in_form ((Some a, Some b) ∷ cables) e within apart = (
-  (two_ordered a b (cc) apart.0.0, within.1.0),
-  cables_in_form cables (cc) within.1.1 apart.1.1,
-)
-
-abbrev cables_of : Parts → List (Option ℕ × Option ℕ)
-cables_of (Rotor m) = m.cables
-cables_of (Pin m) = []
-
-abbrev pair_look : Option (ℕ × ℕ) → Look
-pair_look column = Pair (pair_in_order column)
-
-nothings_in_form : (n : ℕ) → AllByRecursion IsInForm (map pair_look (replicate n None))
-nothings_in_form zero = tt
-nothings_in_form (suc n) = (tt, nothings_in_form n)
-
-pairs_in_form : (n : ℕ) (pairs : List (ℕ × ℕ)) → AllByRecursion (λ letter. letter < 26) (letters_plugged pairs)
-    → NoLetterTwice pairs
-    → AllByRecursion IsInForm (map pair_look (map Some pairs ++ replicate n None))
-unfolding IsDistinct
-pairs_in_form n [] within apart = nothings_in_form n
-pairs_in_form n ((a, b) ∷ pairs) within apart =
-    let one = within.0 in
-    let other = within.1.0 in (
-      (omega (arith, eqb-false a b apart.0.0), omega arith),
-      pairs_in_form n pairs within.1.1 apart.1.1,
-    )
-
-pub rows_in_form : (m : Parts) → IsMachine m → All IsInForm (row_looks m)
-rows_in_form (Rotor m) machine =
-    let cables = machine.legal.cables in
-    All-from_recursion IsInForm (row_looks (Rotor m))
-    (cables_in_form m.cables (ap cables_of machine.cables)
-    (recursion_from_All (λ letter. letter < 26) (plugged_letters m.cables) cables.within) cables.apart)
-rows_in_form (Pin m) machine = All-map IsInForm (λ standing. Bar standing) m.bars machine.legal.apart
-
-pub columns_in_form : (s : Day) → IsLegalDay s → All IsInForm (column_looks s)
-columns_in_form (OfRotors s) legal =
-    let pairs = legal.pairs in
-    All-from_recursion IsInForm (column_looks (OfRotors s))
-    (pairs_in_form (13 - length s.pairs) s.pairs
-    (recursion_from_All (λ letter. letter < 26) (letters_plugged s.pairs) pairs.within) pairs.apart)
-columns_in_form (OfPins s) legal = All-map IsInForm (λ numbers. Row numbers) s.rows legal.rows
 
 -- ---- cables with the same letters
 
@@ -215,37 +144,6 @@ module _ {X : Type 0} (f : X → Look) (xs : List X) (d : X) where
       ap look_rank (listed_at i inside) ∙ ap (λ x. look_rank (f x)) (same_at xs i k d same)
       ∙ sym (ap look_rank (listed_at k within))
 
--- the things of a machine, and of a day
-pub rows_are_things : (m : Parts) → IsMachine m
-    → AreThings (row_name (group_of_machine m)) (price_count (group_of_machine m)) (row_looks m)
-rows_are_things (Rotor m) machine = record {
-  count = length-map m.cables (λ ends. Cable ends) ∙ machine.legal.cables.count;
-  called = All-map (λ look. look_name look ≡ row_name OfCables) (λ ends. Cable ends) m.cables (λ k d inside. refl);
-  form = rows_in_form (Rotor m) machine;
-}
-rows_are_things (Pin m) machine = record {
-  count = length-map m.bars (λ standing. Bar standing) ∙ machine.legal.bars;
-  called = All-map (λ look. look_name look ≡ row_name OfBars) (λ standing. Bar standing) m.bars (λ k d inside. refl);
-  form = rows_in_form (Pin m) machine;
-}
-
-abbrev pub group_of_day : Day → Group
-group_of_day (OfRotors s) = OfCables
-group_of_day (OfPins s) = OfBars
-
-pub columns_are_things : ThirteenColumns → (s : Day) → IsLegalDay s
-    → AreThings (column_name (group_of_day s)) (price_count (group_of_day s)) (column_looks s)
-columns_are_things thirteen (OfRotors s) legal = record {
-  count = length-map (columns_of s.pairs) pair_look ∙ thirteen s.pairs legal.pairs.few;
-  called = All-map (λ look. look_name look ≡ column_name OfCables) pair_look (columns_of s.pairs) (λ k d inside. refl);
-  form = columns_in_form (OfRotors s) legal;
-}
-columns_are_things thirteen (OfPins s) legal = record {
-  count = length-map s.rows (λ numbers. Row numbers) ∙ legal.count;
-  called = All-map (λ look. look_name look ≡ column_name OfBars) (λ numbers. Row numbers) s.rows (λ k d inside. refl);
-  form = columns_in_form (OfPins s) legal;
-}
-
 -- what the laws of kd_card and kd_state say
 pub record RanksTold : Type 0 where
   pub ranks : RanksTellLooks
@@ -332,6 +230,11 @@ size_of (Bars a b) = refl
 size_of (CableKinds a b) = refl
 size_of (BarKinds a b) = refl
 
+-- what is answered of a group
+abbrev Answers : Group → List Look → List Look → List ℤ → List ℤ → Option PriceParts → Type 0
+Answers group rows columns row column r =
+    MatchOption r (¬ (AreAlikePriced rows row × AreAlikePriced columns column)) (AreOfGroup group rows columns row column)
+
 -- machine, day and prices by number are of one model, and of this group
 pub record AreOfOneGroup (group : Group) (m : Parts) (s : Day) (prices : PriceParts) : Type 0 where
   pub machine : IsMachine m
@@ -357,9 +260,7 @@ module _ (told : RanksTold) (group : Group) (m : Parts) (s : Day) (prices : Pric
   numbered = record { model = one.model; kind = kind_is m prices one.version (one.of_prices ∙ sym one.of_machine) }
 
   answered : (r : Option PriceParts)
-      → MatchOption r (¬ (AreAlikePriced (row_looks m) (row_prices prices) × AreAlikePriced (column_looks s)
-      (column_prices prices)))
-      (AreOfGroup group (row_looks m) (column_looks s) (row_prices prices) (column_prices prices))
+      → Answers group (row_looks m) (column_looks s) (row_prices prices) (column_prices prices) r
       → MatchOption r (¬ (CanBeByKind m s prices)) (AreByKind m s prices)
   answered None h = λ can. h (looks_priced told m s prices one.machine one.legal many_rows many_columns can.equal)
   answered (Some other) h = record {
@@ -367,8 +268,7 @@ module _ (told : RanksTold) (group : Group) (m : Parts) (s : Day) (prices : Pric
       numbered = numbered;
       equal = alike_equal told m s prices one.machine one.legal many_rows many_columns (
         alike_priced (row_looks m) (row_prices prices) (row_kinds other) h.row_kinds,
-        alike_priced (column_looks s)
-            (column_prices prices) (column_kinds other) h.column_kinds,
+        alike_priced (column_looks s) (column_prices prices) (column_kinds other) h.column_kinds,
       );
     };
     version = h.version;
@@ -380,8 +280,7 @@ pub by_kind_told : RanksTold → (group : Group) (m n : Parts) (s d : Day) (pric
     (rows columns : List Look) (r : Option PriceParts)
     → m ≡ n → s ≡ d → prices ≡ numbered → AreOfOneGroup group n d numbered → rows ≡ row_looks n
     → columns ≡ column_looks d
-    → MatchOption r (¬ (AreAlikePriced rows (row_prices numbered) × AreAlikePriced columns (column_prices numbered)))
-    (AreOfGroup group rows columns (row_prices numbered) (column_prices numbered))
+    → Answers group rows columns (row_prices numbered) (column_prices numbered) r
     → MatchOption r (¬ (CanBeByKind m s prices)) (AreByKind m s prices)
 by_kind_told told group m n s d prices numbered rows columns r em es ep one a b h = rw (em, es, ep)
     (answered told group n d numbered one r (rw (a, b) at h))

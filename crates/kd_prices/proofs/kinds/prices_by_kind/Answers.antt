@@ -10,7 +10,8 @@ use Rattle.kd_card.specs.Prices.{ArePrices}
 use Rattle.kd_card.specs.CardText.{row_name, column_name}
 use Rattle.kd_card.specs.Proving.{pair_in_order}
 use Rattle.kd_prices.specs.Kinds.{AreThings}
-use Rattle.kd_prices.proofs.Likeness.{rows_are_things, columns_are_things, by_kind_told}
+use Rattle.kd_prices.proofs.Things.{rows_are_things, columns_are_things}
+use Rattle.kd_prices.proofs.Likeness.{by_kind_told}
 use Rattle.kd_prices.proofs.kinds.prices_by_kind.Goals as goal
 
 pub of_group-requires : goal.of_group-requires
