@@ -29,7 +29,8 @@ of_rank rank look = eqb (look_rank look) rank
 one_more : (r rank : ℕ) → cond {A = ℕ} (ltb r (rank + 1)) 1 0 ≡ cond (ltb r rank) 1 0 + cond (eqb r rank) 1 0
 one_more r rank = grind (arith, nat_tests)
 
-count_more : (rank : ℕ) (looks : List Look) → count_by (below (rank + 1)) looks ≡ count_by (below rank) looks + count_by (of_rank rank) looks
+count_more : (rank : ℕ) (looks : List Look)
+    → count_by (below (rank + 1)) looks ≡ count_by (below rank) looks + count_by (of_rank rank) looks
 count_more rank [] = omega arith
 count_more rank (look ∷ looks) =
     let sum = sum_by-cons (λ l. cond {A = ℕ} (below (rank + 1) l) 1 0) look looks in
@@ -37,10 +38,12 @@ count_more rank (look ∷ looks) =
     let here = sum_by-cons (λ l. cond {A = ℕ} (of_rank rank l) 1 0) look looks in
     omega (arith, one_more (look_rank look) rank, count_more rank looks)
 
-none_counted : (p : Look → Bool) (looks : List Look) → ((place : ℕ) → place < length looks → p (look_at looks place) ≡ false) → count_by p looks ≡ 0
+none_counted : (p : Look → Bool) (looks : List Look)
+    → ((place : ℕ) → place < length looks → p (look_at looks place) ≡ false) → count_by p looks ≡ 0
 none_counted p looks none =
     let few = sum_by-le (λ l. cond {A = ℕ} (p l) 1 0) 0 looks
-    (All-from_get_or (λ l. cond {A = ℕ} (p l) 1 0 ≤ 0) looks (Pair None) (λ i inside. rw (none i inside) (omega arith))) in
+    (All-from_get_or (λ l. cond {A = ℕ} (p l) 1 0 ≤ 0) looks (Pair None)
+    (λ i inside. rw (none i inside) (omega arith))) in
     omega arith
 
 all_counted : (p : Look → Bool) (looks : List Look) → All (λ l. p l ≡ true) looks → count_by p looks ≡ length looks
@@ -78,7 +81,8 @@ from_lower : (floor : ℕ) (kinds : List PricedKind) → AreKinds (floor + 1) ki
 from_lower floor [] are = tt
 from_lower floor (kind ∷ kinds) are = let above = are.1 in (are.0, omega (arith, above), are.2)
 
-more_called : (name : _) (kinds : List PricedKind) (kind : PricedKind) → AreCalled name kinds → look_name kind.look ≡ name
+more_called : (name : _) (kinds : List PricedKind) (kind : PricedKind) → AreCalled name kinds
+    → look_name kind.look ≡ name
     → AreCalled name (kinds ++ kind ∷ [])
 more_called name [] kind called this = (this, tt)
 more_called name (first ∷ kinds) kind called this = (called.0, more_called name kinds kind called.1 this)
@@ -87,7 +91,8 @@ more_counted : (kinds : List PricedKind) (kind : PricedKind) → counted (kinds 
 more_counted [] kind = omega arith
 more_counted (first ∷ kinds) kind = omega (arith, more_counted kinds kind)
 
-priced_still : (look : Look) (price : ℤ) (kinds more : List PricedKind) → IsPriced look price kinds → IsPriced look price (kinds ++ more)
+priced_still : (look : Look) (price : ℤ) (kinds more : List PricedKind) → IsPriced look price kinds
+    → IsPriced look price (kinds ++ more)
 priced_still look price (kind ∷ kinds) more (inl has) = inl has
 priced_still look price (kind ∷ kinds) more (inr later) = inr (priced_still look price kinds more later)
 priced_still look price [] more none = absurd none
@@ -124,7 +129,8 @@ pub grouped_past : (looks : List Look) (prices : List ℤ) (rank : ℕ) (kinds :
     → AreGrouped looks prices (rank + 1) kinds
 grouped_past looks prices rank kinds none so_far =
     let count = so_far.count in
-    let nothing = none_counted (of_rank rank) looks (λ place inside. ne_eqb (look_rank (look_at looks place)) rank (none place inside)) in
+    let nothing = none_counted (of_rank rank) looks
+    (λ place inside. ne_eqb (look_rank (look_at looks place)) rank (none place inside)) in
     record {
       in_order = λ more are. so_far.in_order more (from_lower rank more are);
       called = so_far.called;
@@ -134,8 +140,10 @@ grouped_past looks prices rank kinds none so_far =
     }
 
 -- a kind more: at most 27 things, each in its form and with a price that may stand on a card
-module _ (looks : List Look) (prices : List ℤ) (few : length looks ≤ 27) (each : length prices ≡ length looks) (form : All IsInForm looks) (reach : AreWithinReach prices)
-    (rank place : ℕ) (kinds : List PricedKind) (kind : PricedKind) (ranked : look_rank (look_at looks place) ≡ rank) (is : IsKindAt looks prices place kind)
+module _ (looks : List Look) (prices : List ℤ) (few : length looks ≤ 27) (each : length prices ≡ length looks)
+    (form : All IsInForm looks) (reach : AreWithinReach prices)
+    (rank place : ℕ) (kinds : List PricedKind) (kind : PricedKind) (ranked : look_rank (look_at looks place) ≡ rank)
+    (is : IsKindAt looks prices place kind)
     (so_far : AreGrouped looks prices rank kinds) where
   good_kind : IsPricedKind kind
   good_kind =
@@ -147,7 +155,8 @@ module _ (looks : List Look) (prices : List ℤ) (few : length looks ≤ 27) (ea
         form = subst IsInForm (sym is.look) (All-get_or IsInForm looks place (Pair None) inside form);
         some = omega arith;
         most = omega arith;
-        reach = subst (λ price. unsigned_abs price ≤ 9999) (sym is.price) (All-get_or (λ price. unsigned_abs price ≤ 9999) prices place (pos 0) (omega arith) reach);
+        reach = subst (λ price. unsigned_abs price ≤ 9999) (sym is.price)
+            (All-get_or (λ price. unsigned_abs price ≤ 9999) prices place (pos 0) (omega arith) reach);
       }
 
   pub grouped_more : AreGrouped looks prices (rank + 1) (kinds ++ kind ∷ [])
@@ -167,11 +176,16 @@ module _ (looks : List Look) (prices : List ℤ) (few : length looks ≤ 27) (ea
         counts = All-push (HasCount looks) kinds kind so_far.counts (record { count = is.count });
         each = λ alike other inside low.
             elim (cases_lt (look_rank (look_at looks other)) rank) [
-              | inl lower ↦ priced_still (look_at looks other) (price_at prices other) kinds (kind ∷ []) (so_far.each alike other inside lower)
+              | inl lower ↦ priced_still (look_at looks other) (price_at prices other) kinds (kind ∷ [])
+                  (so_far.each alike other inside lower)
               | inr high ↦
                   let equal : look_rank (look_at looks other) ≡ rank = omega arith in
                   priced_here (look_at looks other) (price_at prices other) kinds kind []
-                  (record { alike = same ∙ sym equal; price = is.price ∙ alike place other is.inside inside (ranked ∙ sym equal) })
+                  (record {
+                    alike = same ∙ sym equal;
+                    price = is.price
+                        ∙ alike place other is.inside inside (ranked ∙ sym equal);
+                  })
             ];
       }
 
@@ -184,35 +198,44 @@ module _ (looks : List Look) (prices : List ℤ) (few : length looks ≤ 27) (ea
       omega (arith, length-append kinds (kind ∷ []))
 
 -- the end: all ranks are passed
-module _ (looks : List Look) (prices : List ℤ) (rank : ℕ) (kinds : List PricedKind) (past : 703 ≤ rank) (form : All IsInForm looks)
+module _ (looks : List Look) (prices : List ℤ) (rank : ℕ) (kinds : List PricedKind) (past : 703 ≤ rank)
+    (form : All IsInForm looks)
     (grouped : AreGrouped looks prices rank kinds) where
   low : All (λ look. look_rank look < rank) looks
-  low = All-weaker IsInForm (λ look. look_rank look < rank) (λ look in_form. omega (arith, low_look look in_form)) looks form
+  low = All-weaker IsInForm (λ look. look_rank look < rank)
+      (λ look in_form. omega (arith, low_look look in_form)) looks form
 
   pub all_kinds : AreKindsOf looks kinds
   all_kinds = record {
     in_order = subst (AreKinds 0) (append-nil kinds) (grouped.in_order [] tt);
     count = grouped.count
-        ∙ all_counted (below rank) looks (All-weaker (λ look. look_rank look < rank) (λ look. below rank look ≡ true) (λ look. lt-ltb (look_rank look) rank) looks low);
+        ∙ all_counted (below rank) looks
+        (All-weaker (λ look. look_rank look < rank) (λ look. below rank look ≡ true)
+        (λ look. lt-ltb (look_rank look) rank) looks low);
     called = grouped.called;
   }
 
   pub all_expanded : length prices ≡ length looks → AreAlikePriced looks prices → AreExpanded looks kinds prices
   all_expanded each alike = record {
     number = each;
-    each = λ place inside. grouped.each alike place inside (All-get_or (λ look. look_rank look < rank) looks place (Pair None) inside low);
+    each = λ place inside. grouped.each alike place inside
+        (All-get_or (λ look. look_rank look < rank) looks place (Pair None) inside low);
     counts = grouped.counts;
   }
 
 -- ---- what has one price for each kind has equal prices where it is alike
 
-priced_alike : (look other : Look) (price : ℤ) (kinds : List PricedKind) → look_rank look ≡ look_rank other → IsPriced look price kinds → IsPriced other price kinds
+priced_alike : (look other : Look) (price : ℤ) (kinds : List PricedKind) → look_rank look ≡ look_rank other
+    → IsPriced look price kinds → IsPriced other price kinds
 priced_alike look other price [] same none = absurd none
-priced_alike look other price (kind ∷ kinds) same (inl has) = inl (record { alike = has.alike ∙ same; price = has.price })
+priced_alike look other price (kind ∷ kinds) same (inl has) = inl
+    (record { alike = has.alike ∙ same; price = has.price })
 priced_alike look other price (kind ∷ kinds) same (inr later) = inr (priced_alike look other price kinds same later)
 
-pub alike_priced : (looks : List Look) (prices : List ℤ) (kinds : List PricedKind) → AreWithPrices looks prices kinds → AreAlikePriced looks prices
+pub alike_priced : (looks : List Look) (prices : List ℤ) (kinds : List PricedKind) → AreWithPrices looks prices kinds
+    → AreAlikePriced looks prices
 alike_priced looks prices kinds with_prices = λ place other inside within same.
     one_price 0 kinds (look_at looks other) (price_at prices place) (price_at prices other) with_prices.good.in_order
-    (priced_alike (look_at looks place) (look_at looks other) (price_at prices place) kinds same (with_prices.expanded.each place inside))
+    (priced_alike (look_at looks place) (look_at looks other) (price_at prices place) kinds same
+    (with_prices.expanded.each place inside))
     (with_prices.expanded.each other within)

@@ -5,4 +5,5 @@ pub mod Rest
 pub mod CostTables
 pub mod AlikePrices
 pub mod Grouping
+pub mod Things
 pub mod Likeness

@@ -37,8 +37,8 @@ pub record IsByKind (m : Parts) (s : Day) (card other : Card) : Type 0 where
 -- things of one rank have equal prices
 abbrev pub AreAlikePriced : List Look → List ℤ → Type 0
 AreAlikePriced looks prices =
-    (place other : ℕ) → place < length looks → other < length looks → look_rank (look_at looks place) ≡ look_rank (look_at looks other)
-    → price_at prices place ≡ price_at prices other
+    (place other : ℕ) → place < length looks → other < length looks
+    → look_rank (look_at looks place) ≡ look_rank (look_at looks other) → price_at prices place ≡ price_at prices other
 
 -- the kind of the thing at that place: its look, how many look so, and its price
 pub record IsKindAt (looks : List Look) (prices : List ℤ) (place : ℕ) (kind : PricedKind) : Type 0 where
@@ -65,7 +65,8 @@ pub record AreThings (name : _) (number : ℕ) (looks : List Look) : Type 0 wher
   pub form : All IsInForm looks
 
 -- prices by kind of a group, with the kinds of its rows and of its columns
-pub record AreOfGroup (group : Group) (rows columns : List Look) (row column : List ℤ) (prices : PriceParts) : Type 0 where
+pub record AreOfGroup (group : Group) (rows columns : List Look) (row column : List ℤ)
+    (prices : PriceParts) : Type 0 where
   pub of_group : group_of prices ≡ group
   pub version : version_of prices ≡ ByKind
   pub are_prices : ArePrices prices

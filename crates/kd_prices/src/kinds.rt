@@ -1,10 +1,12 @@
 //! Cards with one price for each kind.
-ghost use Rattle.std.specs.Prelude.{◌≡◌, ◌≢◌, ◌↔◌, ℕ, ◌<◌, ◌≤◌, length, All, IfSome, IsSome, MatchOption};
+ghost use Rattle.std.specs.Prelude.{◌≡◌, ◌≢◌, ◌↔◌, ℕ, ◌<◌, ◌≤◌, length, All};
+ghost use Rattle.std.specs.Prelude.{IfSome, IsSome, MatchOption};
 ghost use Rattle.kd_card.specs.Kinds.{look_rank, IsInForm};
 ghost use Rattle.kd_card.specs.Prices.{AreWithinReach};
 ghost use Rattle.kd_card.specs.CardText.{row_name, column_name, price_count};
 ghost use Rattle.kd_card.specs.Proving.{look_at, AreExpanded};
-ghost use Rattle.kd_prices.specs.Kinds.{CanBeByKind, IsByKind, AreByKind, AreAlikePriced, IsKindAt, AreKindsOf, AreWithPrices, AreThings, AreOfGroup};
+ghost use Rattle.kd_prices.specs.Kinds.{CanBeByKind, IsByKind, AreByKind, AreAlikePriced};
+ghost use Rattle.kd_prices.specs.Kinds.{IsKindAt, AreKindsOf, AreWithPrices, AreThings, AreOfGroup};
 
 use super::expanding::{alike_count, priced};
 use super::looks::{bar_looks, cable_looks, pair_looks, row_looks};
@@ -17,9 +19,10 @@ use kd_state::{Machine, OneModel, Setting, SheetDay};
 /// All ranks of looks are below this.
 const RANKS: usize = 703;
 
-/// The same card with one price for each kind of cables or bars, and for each of pairs and nothings or rows; `check` expands
-/// these prices to the card's own. None where machine, day and prices are of different models, where the prices are by kind
-/// already, or where two things that are alike have different prices. In a card by number that proves itself they haven't.
+/// The same card with one price for each kind of cables or bars, and for each of pairs and nothings or rows; `check`
+/// expands these prices to the card's own. None where machine, day and prices are of different models, where the
+/// prices are by kind already, or where two things that are alike have different prices; in a card by number that
+/// proves itself they haven't.
 pub fn by_kind(machine: &Machine, day: &SheetDay, card: &Card) -> Option<Card>
     ensures some { IsSome result ↔ CanBeByKind machine.now day.now card.now.prices }
     ensures card { IfSome result (λ other. IsByKind machine.now day.now card.now other) }
@@ -36,7 +39,7 @@ fn copied(settings: &ArrayVec<Setting, 192>) -> ArrayVec<Setting, 192>
     ArrayVec::try_from(settings.as_slice()).unwrap()
 }
 
-/// The same prices by kind.
+/// The same prices by kind, if they can be.
 fn prices_by_kind(machine: &Machine, day: &SheetDay, prices: &Prices) -> Option<Prices>
     ensures { MatchOption result
         (¬ (CanBeByKind machine.now day.now prices.now))
@@ -59,8 +62,8 @@ fn prices_by_kind(machine: &Machine, day: &SheetDay, prices: &Prices) -> Option<
     }
 }
 
-/// The prices by kind of a group whose rows and columns look so and have these prices; none where two that are alike have
-/// different prices.
+/// The prices by kind of a group whose rows and columns look so and have these prices; none where two that are alike
+/// have different prices.
 fn of_group<const N: usize>(
     group: Group,
     rows: &[Look; N],
@@ -81,7 +84,8 @@ fn of_group<const N: usize>(
     Some(Prices::of_groups(group, rows.as_slice(), columns.as_slice()))
 }
 
-/// The kinds of the things that look so and have these prices, in order; none where two that are alike have different prices.
+/// The kinds of the things that look so and have these prices, in order; none where two that are alike have different
+/// prices.
 fn kinds_of<const N: usize>(
     looks: &[Look; N],
     prices: &[i16; N],

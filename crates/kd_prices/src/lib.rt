@@ -1,4 +1,4 @@
-//! The check of a card: whether it proves itself, or the first doubt.
+//! The check of a card: whether it proves itself, or the first doubt; and the same card with one price for each kind.
 #![tactic(auto)]
 
 mod checking;

@@ -85,6 +85,8 @@ fn cards_become_cards_by_kind(rt: HostRuntime) {
     assert!(rt; write_card(&mut sink, 9, &other).is_ok());
     assert_eq!(rt; sink.taken(), ONE_LUG.as_bytes());
     assert!(rt; by_kind(&machine, &day, &other).is_none());
+    let differing = card(&rt, "", bar_prices(&rt, &[1, 1, 1], &[-1]));
+    assert!(rt; by_kind(&machine, &day, &differing).is_none());
 }
 
 #[test]
@@ -100,6 +102,4 @@ fn cables_become_kinds(rt: HostRuntime) {
     let mut sink = MemorySink::<512>::new(512);
     assert!(rt; write_card(&mut sink, 8, &other).is_ok());
     assert_eq!(rt; sink.taken(), TWO_CABLES.as_bytes());
-    let differing = card(&rt, "", cable_prices(&rt, &[2, 2, 1], &[]));
-    assert!(rt; by_kind(&machine, &day, &differing).is_none());
 }

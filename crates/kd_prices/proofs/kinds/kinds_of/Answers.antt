@@ -8,17 +8,22 @@ use Rattle.kd_prices.proofs.kinds.kinds_of.Goals as goal
 
 pub returns-then-eq : goal.returns-then-eq
 returns-then-eq g c =
-    let same = (slice_eq-Decides Decides-int_eq c.in_ok-priced.field-0 c.args.prices.now c.eq.result c.eq.ensures).0 c.if-eq.true in
+    let looks = c.args.looks.now in
+    let found = c.in_ok-priced.field-0 in
+    let told = slice_eq-Decides Decides-int_eq found c.args.prices.now c.eq.result c.eq.ensures in
+    let meant = subst (λ kinds. AreExpanded looks kinds found) c.as_slice.ensures.value c.in_ok-priced.ensures in
     record {
       good = c.first_kinds-kinds.ensures.kinds;
-      expanded = subst (AreExpanded c.args.looks.now c.first_kinds-kinds.result.items) same
-          (subst (λ kinds. AreExpanded c.args.looks.now kinds c.in_ok-priced.field-0) c.as_slice.ensures.value c.in_ok-priced.ensures);
+      expanded = subst (AreExpanded looks c.first_kinds-kinds.result.items) (told.0 c.if-eq.true) meant;
     }
 
 pub returns-else-eq : goal.returns-else-eq
 returns-else-eq g c = λ alike.
-    let kinds = c.first_kinds-kinds.result.items in
-    let same = same_expansion c.args.looks.now kinds c.in_ok-priced.field-0 c.args.prices.now c.first_kinds-kinds.ensures.kinds.in_order
-    (subst (λ kinds. AreExpanded c.args.looks.now kinds c.in_ok-priced.field-0) c.as_slice.ensures.value c.in_ok-priced.ensures)
-    (c.first_kinds-kinds.ensures.expanded alike) in
-    false≢true (sym c.if-eq.false ∙ (slice_eq-Decides Decides-int_eq c.in_ok-priced.field-0 c.args.prices.now c.eq.result c.eq.ensures).1 same)
+    let looks = c.args.looks.now in
+    let prices = c.args.prices.now in
+    let found = c.in_ok-priced.field-0 in
+    let told = slice_eq-Decides Decides-int_eq found prices c.eq.result c.eq.ensures in
+    let meant = subst (λ kinds. AreExpanded looks kinds found) c.as_slice.ensures.value c.in_ok-priced.ensures in
+    let first = c.first_kinds-kinds.ensures in
+    let same = same_expansion looks c.first_kinds-kinds.result.items found prices first.kinds.in_order meant (first.expanded alike) in
+    false≢true (sym c.if-eq.false ∙ told.1 same)

@@ -1,0 +1,114 @@
+-- What a machine's cables or bars look like, and a day's pairs and nothings or rows: so many, called so, each in its form.
+use Rattle.std.proofs.Common.{◌≡◌, ℕ, zero, suc, ◌-◌, ◌<◌, false, eqb, inl, inr, List, [], ◌∷◌, ◌++◌, length, get_or, map, replicate, Option, Some, None, unwrap_or, refl, sym, ap, ◌∙◌, arith}
+use Rattle.std.specs.List.{AllByRecursion, IsDistinct}
+use Rattle.std.proofs.lemmas.Bool.{cases_lt, lt-leb, eqb-false}
+use Rattle.std.proofs.lemmas.List.{length-map}
+use Rattle.std.proofs.lemmas.List.Elements.{All-from_recursion, recursion_from_All, All-map}
+use Rattle.kd_enigma.specs.Plugs.{letters_plugged, NoLetterTwice}
+use Rattle.kd_state.specs.declared.machine.parts.Parts.{Parts}
+use Rattle.kd_state.specs.declared.machine.parts.Parts.TheVariants.{Rotor, Pin}
+use Rattle.kd_state.specs.Machine.{plugged_letters, ordered, IsMachine}
+use Rattle.kd_state.specs.SheetDay.{Day, OfRotors, OfPins, IsLegalDay}
+use Rattle.kd_state.specs.Costs.{columns_of}
+use Rattle.kd_state.specs.Laws.{ThirteenColumns}
+use Rattle.kd_card.specs.declared.look.Look.{Look}
+use Rattle.kd_card.specs.declared.look.Look.TheVariants.{Cable, Pair, Bar, Row}
+use Rattle.kd_card.specs.Kinds.{look_name, IsInForm}
+use Rattle.kd_card.specs.declared.group.Group.{Group}
+use Rattle.kd_card.specs.declared.group.Group.TheVariants.{OfCables, OfBars}
+use Rattle.kd_card.specs.CardText.{row_name, column_name, price_count}
+use Rattle.kd_card.specs.Proving.{row_looks, column_looks, pair_in_order, group_of_machine}
+use Rattle.kd_prices.specs.Kinds.{AreThings}
+
+abbrev in_each_order : List (Option ℕ × Option ℕ) → List (Option ℕ × Option ℕ)
+in_each_order cables = map (λ cable. ordered cable.0 cable.1) cables
+
+two_ordered : (a b : ℕ) → ordered (Some a) (Some b) ≡ (Some a, Some b) → eqb a b ≡ false → a < b
+two_ordered a b e apart =
+    elim (cases_lt b a) [
+      | inl less ↦
+          let swapped : ordered (Some a) (Some b) ≡ (Some b, Some a) = rw (lt-leb a b less) refl in
+          let same : b ≡ a = ap (λ ends. unwrap_or ends.0 a) (sym swapped ∙ e) in
+          absurd (omega arith)
+      | inr le ↦ omega (arith, eqb-false a b apart)
+    ]
+
+abbrev first_end : Option ℕ × Option ℕ → Option ℕ
+first_end ends = ends.0
+
+cables_in_form : (cables : List (Option ℕ × Option ℕ)) → in_each_order cables ≡ cables
+    → AllByRecursion (λ letter. letter < 26) (plugged_letters cables)
+    → IsDistinct eqb (plugged_letters cables) → AllByRecursion IsInForm (map (λ ends. Cable ends) cables)
+unfolding IsDistinct
+cables_in_form [] e within apart = tt
+cables_in_form ((None, None) ∷ cables) e within apart = (tt, cables_in_form cables (cc) within apart)
+cables_in_form ((None, Some b) ∷ cables) e within apart = let none : Some b ≡ None = ap
+    (λ (plugged : List (Option ℕ × Option ℕ)). first_end (get_or plugged 0 (None, None))) e in cc
+cables_in_form ((Some a, None) ∷ cables) e within apart = (within.0, cables_in_form cables (cc) within.1 apart.1)
+cables_in_form ((Some a, Some b) ∷ cables) e within apart = (
+  (two_ordered a b (cc) apart.0.0, within.1.0),
+  cables_in_form cables (cc) within.1.1 apart.1.1,
+)
+
+abbrev cables_of : Parts → List (Option ℕ × Option ℕ)
+cables_of (Rotor m) = m.cables
+cables_of (Pin m) = []
+
+abbrev pub pair_look : Option (ℕ × ℕ) → Look
+pair_look column = Pair (pair_in_order column)
+
+nothings_in_form : (n : ℕ) → AllByRecursion IsInForm (map pair_look (replicate n None))
+nothings_in_form zero = tt
+nothings_in_form (suc n) = (tt, nothings_in_form n)
+
+pairs_in_form : (n : ℕ) (pairs : List (ℕ × ℕ)) → AllByRecursion (λ letter. letter < 26) (letters_plugged pairs)
+    → NoLetterTwice pairs
+    → AllByRecursion IsInForm (map pair_look (map Some pairs ++ replicate n None))
+unfolding IsDistinct
+pairs_in_form n [] within apart = nothings_in_form n
+pairs_in_form n ((a, b) ∷ pairs) within apart =
+    let one = within.0 in
+    let other = within.1.0 in (
+      (omega (arith, eqb-false a b apart.0.0), omega arith),
+      pairs_in_form n pairs within.1.1 apart.1.1,
+    )
+
+-- the things of a machine, and of a day
+pub rows_are_things : (m : Parts) → IsMachine m
+    → AreThings (row_name (group_of_machine m)) (price_count (group_of_machine m)) (row_looks m)
+rows_are_things (Rotor m) machine =
+    let cables = machine.legal.cables in
+    record {
+      count = length-map m.cables (λ ends. Cable ends) ∙ cables.count;
+      called = All-map (λ look. look_name look ≡ row_name OfCables) (λ ends. Cable ends) m.cables (λ k d inside. refl);
+      form = All-from_recursion IsInForm (row_looks (Rotor m))
+          (cables_in_form m.cables (ap cables_of machine.cables)
+          (recursion_from_All (λ letter. letter < 26) (plugged_letters m.cables) cables.within) cables.apart);
+    }
+rows_are_things (Pin m) machine = record {
+  count = length-map m.bars (λ standing. Bar standing) ∙ machine.legal.bars;
+  called = All-map (λ look. look_name look ≡ row_name OfBars) (λ standing. Bar standing) m.bars (λ k d inside. refl);
+  form = All-map IsInForm (λ standing. Bar standing) m.bars machine.legal.apart;
+}
+
+abbrev pub group_of_day : Day → Group
+group_of_day (OfRotors s) = OfCables
+group_of_day (OfPins s) = OfBars
+
+pub columns_are_things : ThirteenColumns → (s : Day) → IsLegalDay s
+    → AreThings (column_name (group_of_day s)) (price_count (group_of_day s)) (column_looks s)
+columns_are_things thirteen (OfRotors s) legal =
+    let pairs = legal.pairs in
+    record {
+      count = length-map (columns_of s.pairs) pair_look ∙ thirteen s.pairs pairs.few;
+      called = All-map (λ look. look_name look ≡ column_name OfCables) pair_look (columns_of s.pairs)
+          (λ k d inside. refl);
+      form = All-from_recursion IsInForm (column_looks (OfRotors s))
+          (pairs_in_form (13 - length s.pairs) s.pairs
+          (recursion_from_All (λ letter. letter < 26) (letters_plugged s.pairs) pairs.within) pairs.apart);
+    }
+columns_are_things thirteen (OfPins s) legal = record {
+  count = length-map s.rows (λ numbers. Row numbers) ∙ legal.count;
+  called = All-map (λ look. look_name look ≡ column_name OfBars) (λ numbers. Row numbers) s.rows (λ k d inside. refl);
+  form = All-map IsInForm (λ numbers. Row numbers) s.rows legal.rows;
+}
