@@ -16,7 +16,7 @@ use Rattle.kd_card.specs.Prices.{version_of, price_sum}
 use Rattle.kd_card.specs.CardText.{row_word, column_word, price_count, head_words, settings_words, price_words, sum_words, lines_text, price_lines, IsCard}
 use Rattle.kd_card.specs.CardFault.{with_line, sum_line, ToSettings, ToNumber, ToRows, ToPrices, IsNumberText, IsSignedText, IsValueFault, IsPricesFault, AreColumns, EndsPrices, IsCardFault, AtSettings, AtNumber, AtRows, AtColumns, AtGroup, AtRowKinds, AtColumnKinds, AtSum, AtEnd}
 use Rattle.kd_card.specs.Reading.{BeginsWithHead, BeginsWithSettings, BeginsWithPrices, BeginsWithAll, LacksPrices, InRows, InColumns, InGroup, InRowKinds, InColumnKinds}
-use Rattle.kd_card.proofs.Lines.{card_in_lines, two_lines}
+use Rattle.kd_card.proofs.Lines.{card_in_lines, card_and_more, two_lines}
 
 to_settings : (bytes : List ℕ) (version : Version) (day : ℕ) (body : List ℕ) (xs : List Setting) (rest : List ℕ)
     → BeginsWithHead bytes version day body → BeginsWith body xs rest → ToSettings bytes version day xs rest
@@ -143,11 +143,16 @@ pub nothing : (bytes : List ℕ) → eqb (length bytes) 0 ≡ true → bytes ≡
 nothing [] e = refl
 nothing (byte ∷ bytes) e = absurd (omega (arith, eqb-true (length (byte ∷ bytes)) 0 e))
 
-pub goes_to_prices : (bytes : List ℕ) (day : ℕ) (xs : List Setting) (prices : PriceParts) → IsCard bytes day xs prices
-    → EndsPrices prices (with_line (sum_words (price_sum prices)) []) → ToPrices bytes day xs prices (with_line (sum_words (price_sum prices)) [])
-goes_to_prices bytes day xs prices card ends = record {
+-- a card that these bytes follow
+pub goes_to_prices : (bytes text rest : List ℕ) (day : ℕ) (xs : List Setting) (prices : PriceParts) → bytes ≡ text ++ rest → IsCard text day xs prices
+    → EndsPrices prices (with_line (sum_words (price_sum prices)) rest) → ToPrices bytes day xs prices (with_line (sum_words (price_sum prices)) rest)
+goes_to_prices bytes text rest day xs prices e card ends = record {
   before = record {
-    before = record { text = card.text ∙ card_in_lines day xs prices; of_month = card.of_month; in_range = card.in_range };
+    before = record {
+      text = e ∙ ap (λ t. t ++ rest) card.text ∙ card_and_more day xs prices rest;
+      of_month = card.of_month;
+      in_range = card.in_range;
+    };
     few = card.few;
   };
   are_prices = card.are_prices;

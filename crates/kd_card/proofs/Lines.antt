@@ -79,6 +79,19 @@ card_in_lines day xs prices =
     ∙ settings_and_more xs (number ∷ (lines ++ sum ∷ []))
     ∙ ap (λ t. list_text xs ++ t) (lines_behind number lines sum))
 
+nested_more : (head list count prices sum rest : List ℕ)
+    → (head ++ 10 ∷ (list ++ (count ++ 10 ∷ (prices ++ (sum ++ 10 ∷ []))))) ++ rest ≡ head ++ 10 ∷ (list ++ (count ++ 10 ∷ (prices ++ (sum ++ 10 ∷ rest))))
+nested_more head list count prices sum rest = simp append_assoc
+
+pub card_and_more : (day : ℕ) (xs : List Setting) (prices : PriceParts) (rest : List ℕ)
+    → card_text day xs prices ++ rest
+    ≡ with_line (head_words (version_of prices) day) (list_text xs ++ with_line (settings_words (length xs))
+    (lines_text (price_lines prices) ++ with_line (sum_words (price_sum prices)) rest))
+card_and_more day xs prices rest =
+    ap (λ t. t ++ rest) (card_in_lines day xs prices)
+    ∙ nested_more (line_of (head_words (version_of prices) day)) (list_text xs) (line_of (settings_words (length xs))) (lines_text (price_lines prices))
+    (line_of (sum_words (price_sum prices))) rest
+
 nested : (head list count prices sum : List ℕ)
     → (((([] ++ (head ++ 10 ∷ [])) ++ list) ++ (count ++ 10 ∷ [])) ++ prices) ++ (sum ++ 10 ∷ [])
     ≡ head ++ 10 ∷ (list ++ (count ++ 10 ∷ (prices ++ (sum ++ 10 ∷ []))))

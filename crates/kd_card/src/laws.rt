@@ -1,5 +1,6 @@
 //! What holds of cards.
-ghost use Rattle.kd_card.specs.Laws.{RanksTellLooks, TextsTellCards, CardsHaveNoFault, OneCardFault};
+ghost use Rattle.kd_card.specs.Laws.{RanksTellLooks, TextsTellCards, NoCardBeginsAnother};
+ghost use Rattle.kd_card.specs.Laws.{CardsHaveNoFault, OneCardFault};
 ghost use Rattle.kd_card.specs.Laws.{FittingPricesBoundLists, ProvingCardsAreAsLong, ProvingCardsAreShortest, ProvingPricesAreTight};
 
 use kd_state::laws::{
@@ -8,10 +9,11 @@ use kd_state::laws::{
     texts_tell_first_parts,
 };
 
-/// No two cards have one text, and a card's text has no fault. So it is not the front of another card's text either. Bytes
-/// that are no card have one fault.
+/// No two cards have one text, and no card's text is the front of another card's. A card's text has no fault, and bytes that
+/// are no card have one.
 pub fn no_two_cards_have_one_text()
     ensures card { TextsTellCards }
+    ensures front { NoCardBeginsAnother }
     ensures no_fault { CardsHaveNoFault }
     ensures one_fault { OneCardFault }
 {

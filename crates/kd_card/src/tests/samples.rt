@@ -91,6 +91,46 @@ PAIR YZ 1 -12
 SUM -12
 ";
 
+/// The highest price of a bar, and the lowest of a row: their sum is 0.
+pub(super) const HIGHEST: &str = "CARD 1 DAY 9
+LUG 1 R 6
+SETTINGS 1
+BARS 9999 0 0 0 0 0 0 0 0 0 0 0 0 0 0 0 0 0 0 0 0 0 0 0 0 0 0
+ROWS -9999 0 0 0 0 0 0 0 0 0 0 0 0 0 0 0 0 0 0 0 0 0 0 0 0 0 0
+SUM 0
+";
+
+/// A card's text, its day, and the numbers of the lines with the number of settings and with the sum.
+pub(super) struct Sample {
+    pub(super) text: &'static str,
+    pub(super) day: u8,
+    pub(super) count_line: usize,
+    pub(super) sum_line: usize,
+}
+
+/// The card of this text and day, with these lines.
+const fn sample(text: &'static str, day: u8, count_line: usize, sum_line: usize) -> Sample {
+    Sample {
+        text,
+        day,
+        count_line,
+        sum_line,
+    }
+}
+
+/// Cards of both versions, of cables and of bars.
+pub(super) static CARDS: [Sample; 9] = [
+    sample(TWO_CABLES, 8, 6, 9),
+    sample(ONE_LUG, 9, 3, 6),
+    sample(NO_SETTINGS, 11, 2, 5),
+    sample(HIGHEST, 9, 3, 6),
+    sample(TWO_CABLE_KINDS, 8, 6, 13),
+    sample(BAR_KINDS, 9, 3, 10),
+    sample(EMPTY_KINDS, 11, 2, 5),
+    sample(ALIKE_BARS, 13, 2, 5),
+    sample(HALF_CABLES, 31, 2, 12),
+];
+
 /// Prices that are these in front, and then 0.
 fn padded<const N: usize>(front: &[i16]) -> [i16; N] {
     let mut prices = [0; N];

@@ -1,6 +1,9 @@
-use super::samples::{NO_SETTINGS, ONE_LUG, TWO_CABLES, no_settings, one_lug, two_cables};
-use crate::{Card, write_card};
+use super::samples::{
+    CARDS, NO_SETTINGS, ONE_LUG, Sample, TWO_CABLES, no_settings, one_lug, two_cables,
+};
+use crate::{read_card, write_card};
 use kd_tables::{Device, MemorySink};
+use std::process::Abort;
 
 #[test]
 fn cards_are_written(rt: HostRuntime) {
@@ -18,13 +21,22 @@ fn cards_are_written(rt: HostRuntime) {
     }
 }
 
+/// A sink with less room than the card's text has taken a front of it that fills the room.
+fn fronts_are_taken(rt: &impl Abort, sample: &Sample) {
+    let text = sample.text.as_bytes();
+    let Ok((day, card)) = read_card(text) else {
+        panic!(rt; "a card");
+    };
+    for (room, _) in text.iter().enumerate() {
+        let mut sink = MemorySink::<512>::new(room.min(512));
+        assert_eq!(rt; write_card(&mut sink, day, &card), Err(Device));
+        assert_eq!(rt; sink.taken(), &text[..room]);
+    }
+}
+
 #[test]
 fn a_sink_that_fails_has_taken_a_front(rt: HostRuntime) {
-    let card = two_cables().expect(&rt, "prices");
-    let text = TWO_CABLES.as_bytes();
-    for limit in 0..text.len() {
-        let mut sink = MemorySink::<512>::new(limit);
-        assert_eq!(rt; write_card(&mut sink, 8, &card), Err(Device));
-        assert_eq!(rt; sink.taken(), &text[..limit]);
+    for sample in &CARDS {
+        fronts_are_taken(&rt, sample);
     }
 }
