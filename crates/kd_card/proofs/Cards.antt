@@ -7,12 +7,12 @@ use Rattle.kd_state.specs.Line.{BeginsWith}
 use Rattle.kd_card.specs.declared.prices.PriceParts.{PriceParts}
 use Rattle.kd_card.specs.declared.prices.PriceParts.TheVariants.{Cables, Bars}
 use Rattle.kd_card.specs.declared.prices.Version.{Version}
-use Rattle.kd_card.specs.declared.prices.Version.TheVariants.{ByNumber, ByKind}
+use Rattle.kd_card.specs.declared.prices.Version.TheVariants.{ByNumber}
 use Rattle.kd_card.specs.declared.group.Group.{Group}
 use Rattle.kd_card.specs.declared.group.Group.TheVariants.{OfCables, OfBars}
 use Rattle.kd_card.specs.declared.fault.CardFault.{CardFault}
 use Rattle.kd_card.specs.declared.fault.CardFault.TheVariants.{TooMany, Trailing}
-use Rattle.kd_card.specs.Prices.{version_of, price_sum}
+use Rattle.kd_card.specs.Prices.{price_sum}
 use Rattle.kd_card.specs.CardText.{row_word, column_word, price_count, head_words, settings_words, price_words, sum_words, lines_text, price_lines, IsCard}
 use Rattle.kd_card.specs.CardFault.{with_line, sum_line, ToSettings, ToNumber, ToRows, ToPrices, IsNumberText, IsSignedText, IsValueFault, IsPricesFault, AreColumns, EndsPrices, IsCardFault, AtSettings, AtNumber, AtRows, AtColumns, AtGroup, AtRowKinds, AtColumnKinds, AtSum, AtEnd}
 use Rattle.kd_card.specs.Reading.{BeginsWithHead, BeginsWithSettings, BeginsWithPrices, BeginsWithAll, LacksPrices, InRows, InColumns, InGroup, InRowKinds, InColumnKinds}

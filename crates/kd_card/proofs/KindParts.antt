@@ -1,7 +1,6 @@
 -- Both groups of kinds: their lines, and the prices that they tell.
 use Rattle.std.proofs.Common.{◌≡◌, ◌≢◌, ℕ, List, [], ◌∷◌, ◌++◌, map, get_or, length, Option, None, refl, sym, ap, subst, ◌∙◌, ◌+◌, ◌≤◌, fold, ℤ, pos, ◌+ℤ◌, append_assoc, length-append, arith}
 use Rattle.std.proofs.lemmas.List.{append-nil, length-map}
-use Rattle.std.specs.List.{flat_map}
 use Rattle.std.proofs.lemmas.List.Concat.{flat_map-append}
 use Rattle.std.proofs.lemmas.List.Folds.{flat_map-map}
 use Rattle.arrayvec.specs.ArrayVec.{ArrayVec}
@@ -21,7 +20,7 @@ use Rattle.kd_card.specs.declared.group.Group.{Group}
 use Rattle.kd_card.specs.declared.group.Group.TheVariants.{OfCables, OfBars}
 use Rattle.kd_card.specs.declared.prices.PriceParts.{PriceParts}
 use Rattle.kd_card.specs.declared.prices.PriceParts.TheVariants.{Cables, Bars, CableKinds, BarKinds}
-use Rattle.kd_card.specs.declared.prices.Version.TheVariants.{ByNumber, ByKind}
+use Rattle.kd_card.specs.declared.prices.Version.TheVariants.{ByKind}
 use Rattle.kd_card.specs.Kinds.{name_text, kind_words, kinds_text, counted, prices_of_kinds, cable_kind, pair_kind, bar_kind, row_kind, AreKinds, AreCalled}
 use Rattle.kd_card.specs.Prices.{version_of, row_kinds, column_kinds, column_prices, price_sum, ArePrices}
 use Rattle.kd_card.specs.CardText.{group_of, row_name, column_name, price_count, lines_text, price_lines, IsGroup, HaveKinds}

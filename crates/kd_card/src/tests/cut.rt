@@ -5,20 +5,19 @@ use arrayvec::ArrayVec;
 use std::process::Abort;
 
 /// What the card is refused for that is one up to here, where its first word stands in the last line, or doesn't.
-fn fault_behind(sample: &Sample, front: &[u8], has_word: bool) -> CardFault {
+fn fault_behind((_, _, lines): &Sample, front: &[u8], has_word: bool) -> CardFault {
+    let (count, sum) = *lines;
     match front.split(|byte| *byte == b'\n').count() {
         1 => CardFault::BadHead,
-        line if line > sample.sum_line => CardFault::Trailing,
-        line if line > sample.count_line && line < sample.sum_line && !has_word => {
-            CardFault::PriceMissing
-        }
+        line if line > sum => CardFault::Trailing,
+        line if line > count && line < sum && !has_word => CardFault::PriceMissing,
         line => CardFault::BadLine(line),
     }
 }
 
 /// Each front of the card is refused. It has no more than whole lines, or ends within a line that is due.
 fn fronts_are_refused(rt: &impl Abort, sample: &Sample) {
-    let text = sample.text.as_bytes();
+    let text = sample.0.as_bytes();
     for (length, _) in text.iter().enumerate() {
         let front = &text[..length];
         let due = fault_behind(sample, front, !front.ends_with(b"\n"));
@@ -45,12 +44,16 @@ fn with_byte(text: &[u8], place: usize, byte: u8) -> ArrayVec<u8, 512> {
 
 /// Whether a space stands behind the last LF.
 fn has_space(front: &[u8]) -> bool {
-    front.iter().rev().find(|byte| matches!(**byte, b' ' | b'\n')) == Some(&b' ')
+    front
+        .iter()
+        .rev()
+        .find(|byte| matches!(**byte, b' ' | b'\n'))
+        == Some(&b' ')
 }
 
 /// The byte FF in the place of each byte of the card, or behind the last one, is refused at its line.
 fn other_bytes_are_refused(rt: &impl Abort, sample: &Sample) {
-    let text = sample.text.as_bytes();
+    let text = sample.0.as_bytes();
     for place in 0..=text.len() {
         let front = text.get(..place).unwrap_or(&[]);
         let due = fault_behind(sample, front, has_space(front));

@@ -1,4 +1,4 @@
-use super::samples::{BAR_KINDS, CARDS, ONE_LUG, Sample, TWO_CABLE_KINDS, TWO_CABLES};
+use super::samples::{BAR_KINDS, CARDS, ONE_LUG, TWO_CABLE_KINDS, TWO_CABLES};
 use crate::{CardFault, read_card, write_card};
 use arrayvec::ArrayString;
 use kd_tables::MemorySink;
@@ -35,7 +35,7 @@ fn is_refused(rt: &impl Abort, card: &str, old: &str, words: &[&str], due: CardF
 
 #[test]
 fn cards_are_read(rt: HostRuntime) {
-    for Sample { text, day, .. } in &CARDS {
+    for (text, day, _) in &CARDS {
         let mut sink = MemorySink::<512>::new(512);
         if let Ok((found, card)) = read_card(text.as_bytes()) {
             assert!(rt; found == *day && write_card(&mut sink, *day, &card).is_ok());

@@ -101,34 +101,19 @@ SUM 0
 ";
 
 /// A card's text, its day, and the numbers of the lines with the number of settings and with the sum.
-pub(super) struct Sample {
-    pub(super) text: &'static str,
-    pub(super) day: u8,
-    pub(super) count_line: usize,
-    pub(super) sum_line: usize,
-}
-
-/// The card of this text and day, with these lines.
-const fn sample(text: &'static str, day: u8, count_line: usize, sum_line: usize) -> Sample {
-    Sample {
-        text,
-        day,
-        count_line,
-        sum_line,
-    }
-}
+pub(super) type Sample = (&'static str, u8, (usize, usize));
 
 /// Cards of both versions, of cables and of bars.
 pub(super) static CARDS: [Sample; 9] = [
-    sample(TWO_CABLES, 8, 6, 9),
-    sample(ONE_LUG, 9, 3, 6),
-    sample(NO_SETTINGS, 11, 2, 5),
-    sample(HIGHEST, 9, 3, 6),
-    sample(TWO_CABLE_KINDS, 8, 6, 13),
-    sample(BAR_KINDS, 9, 3, 10),
-    sample(EMPTY_KINDS, 11, 2, 5),
-    sample(ALIKE_BARS, 13, 2, 5),
-    sample(HALF_CABLES, 31, 2, 12),
+    (TWO_CABLES, 8, (6, 9)),
+    (ONE_LUG, 9, (3, 6)),
+    (NO_SETTINGS, 11, (2, 5)),
+    (HIGHEST, 9, (3, 6)),
+    (TWO_CABLE_KINDS, 8, (6, 13)),
+    (BAR_KINDS, 9, (3, 10)),
+    (EMPTY_KINDS, 11, (2, 5)),
+    (ALIKE_BARS, 13, (2, 5)),
+    (HALF_CABLES, 31, (2, 12)),
 ];
 
 /// Prices that are these in front, and then 0.

@@ -23,7 +23,7 @@ fn cards_are_written(rt: HostRuntime) {
 
 /// A sink with less room than the card's text has taken a front of it that fills the room.
 fn fronts_are_taken(rt: &impl Abort, sample: &Sample) {
-    let text = sample.text.as_bytes();
+    let text = sample.0.as_bytes();
     let Ok((day, card)) = read_card(text) else {
         panic!(rt; "a card");
     };
