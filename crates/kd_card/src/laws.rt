@@ -1,8 +1,8 @@
 //! What holds of cards.
 ghost use Rattle.kd_card.specs.Laws.{RanksTellLooks, TextsTellCards, NoCardBeginsAnother};
-ghost use Rattle.kd_card.specs.Laws.{CardsHaveNoFault, OneCardFault};
-ghost use Rattle.kd_card.specs.Laws.{FittingPricesBoundLists, ProvingCardsAreAsLong};
-ghost use Rattle.kd_card.specs.Laws.{ProvingCardsAreShortest, ProvingPricesAreTight};
+ghost use Rattle.kd_card.specs.Laws.{CardsHaveNoFault, OneCardFault, FittingPricesBoundLists};
+ghost use Rattle.kd_card.specs.Laws.{ProvingCardsAreAsLong, ProvingCardsAreShortest};
+ghost use Rattle.kd_card.specs.Laws.{ProvingPricesAreTight};
 
 use kd_state::laws::{
     columns_are_the_pairs, lines_tell_words, no_two_settings_have_one_line,

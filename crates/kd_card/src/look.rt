@@ -1,8 +1,6 @@
 //! What alike things have in common, and its text.
-ghost use Rattle.std.specs.Prelude.{◌≡◌, ◌≢◌, ◌↔◌, ℕ, ◌+◌, ◌<◌, ◌≤◌, IsTrue, MatchOption, Some};
-ghost use Rattle.kd_state.specs.Words.{letter_text};
+ghost use Rattle.std.specs.Prelude.{◌≡◌, ◌≢◌, ◌↔◌, ℕ, ◌+◌, ◌<◌, IsTrue, MatchOption, Some};
 ghost use Rattle.kd_state.specs.Machine.{cable_letters};
-ghost use Rattle.kd_state.specs.Costs.{column_letters};
 ghost use Rattle.kd_tables.specs.Places as places;
 ghost use Rattle.kd_card.specs.Kinds.{name_text, look_name, look_text, look_rank, letters_text};
 ghost use Rattle.kd_card.specs.Kinds.{standing_rank, reading_rank, AreEnds, IsPairInOrder};

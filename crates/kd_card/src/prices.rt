@@ -1,6 +1,5 @@
 ghost use Rattle.std.specs.Prelude.{◌≡◌, ◌↔◌, ◌+◌, ◌*◌, ◌<◌, ◌≤◌, length, fold, unsigned_abs, ◌+ℤ◌};
 ghost use Rattle.std.specs.Prelude.{IsTrue, MatchOption};
-ghost use Rattle.kd_card.specs.Kinds.{counted, AreKinds, AreCalled};
 ghost use Rattle.kd_card.specs.Prices.{price_sum, how_many, version_of, row_kinds, column_kinds};
 ghost use Rattle.kd_card.specs.Prices.{AreWithinReach, ArePrices};
 ghost use Rattle.kd_card.specs.CardText.{row_name, column_name, price_count, price_lines, IsGroup};

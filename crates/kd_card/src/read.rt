@@ -1,17 +1,15 @@
 //! Cards, read off their text.
-ghost use Rattle.std.specs.Prelude.{◌≡◌, ◌≢◌, ℕ, ◌+◌, ◌<◌, ◌≤◌, ◌↔◌, ◌++◌, List, [], ◌∷◌, length};
-ghost use Rattle.std.specs.Prelude.{codes, decimal, slice_index, IsTrue, MatchOption, MatchResult};
+ghost use Rattle.std.specs.Prelude.{◌≡◌, ℕ, ◌+◌, ◌<◌, ◌≤◌, ◌↔◌, ◌++◌, List, codes, decimal};
+ghost use Rattle.std.specs.Prelude.{slice_index, IsTrue, MatchOption, MatchResult};
 ghost use Rattle.std.specs.Fmt.{signed_decimal};
 ghost use Rattle.kd_state.specs.declared.setting.Setting.{Setting};
-ghost use Rattle.kd_state.specs.Words.{line_of, IsWithout, IsFirstPart};
-ghost use Rattle.kd_state.specs.Line.{BeginsWith, BeginsWithLine, BeginsWithNoLine};
-ghost use Rattle.kd_state.specs.SheetDay.{IsDayNumber};
-ghost use Rattle.kd_card.specs.CardText.{IsCard, version_text, settings_words, sum_words};
+ghost use Rattle.kd_state.specs.Words.{IsWithout, IsFirstPart};
+ghost use Rattle.kd_card.specs.CardText.{IsCard, settings_words, sum_words};
 ghost use Rattle.kd_card.specs.CardFault.{with_line, IsNumberText, IsSignedText, IsValueFault};
 ghost use Rattle.kd_card.specs.CardFault.{IsPricesFault, IsCardFault};
 ghost use Rattle.kd_card.specs.Reading.{BeginsWithHead, IsHeadFront, BeginsWithTooMany};
-ghost use Rattle.kd_card.specs.Reading.{BeginsWithSettings};
-ghost use Rattle.kd_card.specs.Reading.{BeginsWithPrices, BeginsWithAll, LacksPrices};
+ghost use Rattle.kd_card.specs.Reading.{BeginsWithSettings, BeginsWithPrices, BeginsWithAll};
+ghost use Rattle.kd_card.specs.Reading.{LacksPrices};
 
 use super::card::Card;
 use super::fault::CardFault;
