@@ -1,7 +1,6 @@
-use super::samples::{BAR_KINDS, CARDS, ONE_LUG, TWO_CABLE_KINDS, TWO_CABLES};
-use crate::{CardFault, read_card, write_card};
+use super::samples::{BAR_KINDS, ONE_LUG, TWO_CABLE_KINDS, TWO_CABLES};
+use crate::{CardFault, read_card};
 use arrayvec::ArrayString;
-use kd_tables::MemorySink;
 use std::process::Abort;
 
 /// The text with other words in place of the first such ones.
@@ -30,17 +29,6 @@ fn is_refused(rt: &impl Abort, card: &str, old: &str, words: &[&str], due: CardF
     for new in words {
         let fault = read_card(changed(card, old, new).as_str().as_bytes()).err();
         assert!(rt; fault == Some(due), "{new}");
-    }
-}
-
-#[test]
-fn cards_are_read(rt: HostRuntime) {
-    for (text, day, _) in &CARDS {
-        let mut sink = MemorySink::<512>::new(512);
-        if let Ok((found, card)) = read_card(text.as_bytes()) {
-            assert!(rt; found == *day && write_card(&mut sink, *day, &card).is_ok());
-        }
-        assert_eq!(rt; sink.taken(), text.as_bytes());
     }
 }
 
