@@ -5,18 +5,16 @@ use Rattle.std.proofs.lemmas.Bool.{eqb-true}
 use Rattle.kd_state.specs.declared.setting.Setting.{Setting}
 use Rattle.kd_state.specs.Line.{BeginsWith}
 use Rattle.kd_card.specs.declared.prices.PriceParts.{PriceParts}
-use Rattle.kd_card.specs.declared.prices.PriceParts.TheVariants.{Cables, Bars}
 use Rattle.kd_card.specs.declared.prices.Version.{Version}
-use Rattle.kd_card.specs.declared.prices.Version.TheVariants.{ByNumber, ByKind}
+use Rattle.kd_card.specs.declared.prices.Version.TheVariants.{ByNumber}
 use Rattle.kd_card.specs.declared.group.Group.{Group}
-use Rattle.kd_card.specs.declared.group.Group.TheVariants.{OfCables, OfBars}
 use Rattle.kd_card.specs.declared.fault.CardFault.{CardFault}
 use Rattle.kd_card.specs.declared.fault.CardFault.TheVariants.{TooMany, Trailing}
-use Rattle.kd_card.specs.Prices.{version_of, price_sum}
-use Rattle.kd_card.specs.CardText.{row_word, column_word, price_count, head_words, settings_words, price_words, sum_words, lines_text, price_lines, IsCard}
+use Rattle.kd_card.specs.Prices.{price_sum}
+use Rattle.kd_card.specs.CardText.{row_word, price_count, head_words, settings_words, sum_words, lines_text, price_lines, IsCard}
 use Rattle.kd_card.specs.CardFault.{with_line, sum_line, ToSettings, ToNumber, ToRows, ToPrices, IsNumberText, IsSignedText, IsValueFault, IsPricesFault, AreColumns, EndsPrices, IsCardFault, AtSettings, AtNumber, AtRows, AtColumns, AtGroup, AtRowKinds, AtColumnKinds, AtSum, AtEnd}
 use Rattle.kd_card.specs.Reading.{BeginsWithHead, BeginsWithSettings, BeginsWithPrices, BeginsWithAll, LacksPrices, InRows, InColumns, InGroup, InRowKinds, InColumnKinds}
-use Rattle.kd_card.proofs.Lines.{card_in_lines, two_lines}
+use Rattle.kd_card.proofs.Lines.{card_in_lines, card_and_more}
 
 to_settings : (bytes : List ℕ) (version : Version) (day : ℕ) (body : List ℕ) (xs : List Setting) (rest : List ℕ)
     → BeginsWithHead bytes version day body → BeginsWith body xs rest → ToSettings bytes version day xs rest
@@ -50,27 +48,6 @@ to_prices bytes version day xs prices rest after to all = record {
   before = subst (λ v. ToNumber bytes v day xs (lines_text (price_lines prices) ++ after)) (sym all.of_version) (subst (ToNumber bytes version day xs) all.text to);
   are_prices = all.are_prices;
   ends = all.ends;
-}
-
--- both lines of prices by number
-pub all_bars : (bytes rest after : List ℕ) (rows columns : List ℤ) → BeginsWithPrices bytes (row_word OfBars) rows rest
-    → BeginsWithPrices rest (column_word OfBars) columns after → length rows ≡ 27 → length columns ≡ 27
-    → BeginsWithAll bytes ByNumber (Bars rows columns) after
-all_bars bytes rest after rows columns r c a b = record {
-  of_version = refl;
-  text = r.text ∙ ap (with_line (price_words (row_word OfBars) rows)) c.text ∙ sym (two_lines (price_words (row_word OfBars) rows) (price_words (column_word OfBars) columns) after);
-  are_prices = record { rows = a; columns = b; row_reach = r.reach; column_reach = c.reach; row_kinds = tt; column_kinds = tt };
-  ends = tt;
-}
-
-pub all_cables : (bytes rest after : List ℕ) (rows columns : List ℤ) → BeginsWithPrices bytes (row_word OfCables) rows rest
-    → BeginsWithPrices rest (column_word OfCables) columns after → length rows ≡ 13 → length columns ≡ 13
-    → BeginsWithAll bytes ByNumber (Cables rows columns) after
-all_cables bytes rest after rows columns r c a b = record {
-  of_version = refl;
-  text = r.text ∙ ap (with_line (price_words (row_word OfCables) rows)) c.text ∙ sym (two_lines (price_words (row_word OfCables) rows) (price_words (column_word OfCables) columns) after);
-  are_prices = record { rows = a; columns = b; row_reach = r.reach; column_reach = c.reach; row_kinds = tt; column_kinds = tt };
-  ends = tt;
 }
 
 -- ---- faults
@@ -143,11 +120,16 @@ pub nothing : (bytes : List ℕ) → eqb (length bytes) 0 ≡ true → bytes ≡
 nothing [] e = refl
 nothing (byte ∷ bytes) e = absurd (omega (arith, eqb-true (length (byte ∷ bytes)) 0 e))
 
-pub goes_to_prices : (bytes : List ℕ) (day : ℕ) (xs : List Setting) (prices : PriceParts) → IsCard bytes day xs prices
-    → EndsPrices prices (with_line (sum_words (price_sum prices)) []) → ToPrices bytes day xs prices (with_line (sum_words (price_sum prices)) [])
-goes_to_prices bytes day xs prices card ends = record {
+-- a card that these bytes follow
+pub goes_to_prices : (bytes text rest : List ℕ) (day : ℕ) (xs : List Setting) (prices : PriceParts) → bytes ≡ text ++ rest → IsCard text day xs prices
+    → EndsPrices prices (with_line (sum_words (price_sum prices)) rest) → ToPrices bytes day xs prices (with_line (sum_words (price_sum prices)) rest)
+goes_to_prices bytes text rest day xs prices e card ends = record {
   before = record {
-    before = record { text = card.text ∙ card_in_lines day xs prices; of_month = card.of_month; in_range = card.in_range };
+    before = record {
+      text = e ∙ ap (λ t. t ++ rest) card.text ∙ card_and_more day xs prices rest;
+      of_month = card.of_month;
+      in_range = card.in_range;
+    };
     few = card.few;
   };
   are_prices = card.are_prices;

@@ -1,7 +1,6 @@
 -- Both groups of kinds: their lines, and the prices that they tell.
-use Rattle.std.proofs.Common.{◌≡◌, ◌≢◌, ℕ, List, [], ◌∷◌, ◌++◌, map, get_or, length, Option, None, refl, sym, ap, subst, ◌∙◌, ◌+◌, ◌≤◌, fold, ℤ, pos, ◌+ℤ◌, append_assoc, length-append, arith}
-use Rattle.std.proofs.lemmas.List.{append-nil, length-map}
-use Rattle.std.specs.List.{flat_map}
+use Rattle.std.proofs.Common.{◌≡◌, ◌≢◌, ℕ, List, [], ◌∷◌, ◌++◌, map, get_or, Option, None, refl, sym, ap, subst, ◌∙◌, ◌≤◌, fold, ℤ, pos, ◌+ℤ◌, append_assoc, arith}
+use Rattle.std.proofs.lemmas.List.{append-nil}
 use Rattle.std.proofs.lemmas.List.Concat.{flat_map-append}
 use Rattle.std.proofs.lemmas.List.Folds.{flat_map-map}
 use Rattle.arrayvec.specs.ArrayVec.{ArrayVec}
@@ -21,7 +20,7 @@ use Rattle.kd_card.specs.declared.group.Group.{Group}
 use Rattle.kd_card.specs.declared.group.Group.TheVariants.{OfCables, OfBars}
 use Rattle.kd_card.specs.declared.prices.PriceParts.{PriceParts}
 use Rattle.kd_card.specs.declared.prices.PriceParts.TheVariants.{Cables, Bars, CableKinds, BarKinds}
-use Rattle.kd_card.specs.declared.prices.Version.TheVariants.{ByNumber, ByKind}
+use Rattle.kd_card.specs.declared.prices.Version.TheVariants.{ByKind}
 use Rattle.kd_card.specs.Kinds.{name_text, kind_words, kinds_text, counted, prices_of_kinds, cable_kind, pair_kind, bar_kind, row_kind, AreKinds, AreCalled}
 use Rattle.kd_card.specs.Prices.{version_of, row_kinds, column_kinds, column_prices, price_sum, ArePrices}
 use Rattle.kd_card.specs.CardText.{group_of, row_name, column_name, price_count, lines_text, price_lines, IsGroup, HaveKinds}
@@ -208,15 +207,6 @@ all_groups group rows columns bytes rest after prices r c have are = record {
   are_prices = are;
   ends = ends_behind prices have.version after (subst (λ g. EndsGroup (column_name g) after) (sym have.of_group) c.ends);
 }
-
--- the lines of kinds are as many as the kinds
-pub line_count_is : (prices : PriceParts) → version_of prices ≡ ByKind → length (price_lines prices) ≡ length (row_kinds prices) + length (column_kinds prices)
-line_count_is (CableKinds a b) by =
-    omega (arith, length-append (map kind_words (map cable_kind a.items)) (map kind_words (map pair_kind b.items)), length-map (map cable_kind a.items) kind_words, length-map (map pair_kind b.items) kind_words)
-line_count_is (BarKinds a b) by =
-    omega (arith, length-append (map kind_words (map bar_kind a.items)) (map kind_words (map row_kind b.items)), length-map (map bar_kind a.items) kind_words, length-map (map row_kind b.items) kind_words)
-line_count_is (Cables a b) by = cc
-line_count_is (Bars a b) by = cc
 
 -- ---- names and numbers that are known
 

@@ -1,13 +1,12 @@
 -- The prices of kinds, one for each thing.
-use Rattle.std.proofs.Common.{◌≡◌, ℕ, ◌+◌, ◌*◌, ◌<◌, ◌≤◌, List, [], ◌∷◌, ◌++◌, length, map, replicate, fold, refl, sym, ap, subst, ◌∙◌, length-append, arith, ℤ, pos, ◌+ℤ◌, unsigned_abs}
-use Rattle.std.specs.List.{All, flat_map}
+use Rattle.std.proofs.Common.{◌≡◌, ℕ, ◌+◌, ◌≤◌, List, [], ◌∷◌, length, replicate, refl, sym, ap, subst, ◌∙◌, length-append, arith, ℤ, unsigned_abs}
 use Rattle.std.proofs.lemmas.List.{get_or-replicate, length-replicate}
 use Rattle.std.proofs.lemmas.List.Elements.{All-append, All-nil}
 use Rattle.kd_card.specs.declared.kinds.PricedKind.{PricedKind}
 use Rattle.kd_card.specs.declared.prices.PriceParts.{PriceParts}
 use Rattle.kd_card.specs.declared.prices.PriceParts.TheVariants.{Cables, Bars, CableKinds, BarKinds}
-use Rattle.kd_card.specs.declared.prices.Version.TheVariants.{ByNumber, ByKind}
-use Rattle.kd_card.specs.Kinds.{look_rank, counted, prices_of_kinds, IsPricedKind, AreKinds}
+use Rattle.kd_card.specs.declared.prices.Version.TheVariants.{ByKind}
+use Rattle.kd_card.specs.Kinds.{look_rank, counted, prices_of_kinds, AreKinds}
 use Rattle.kd_card.specs.Prices.{version_of, how_many, row_kinds, column_kinds, row_prices, column_prices, AreWithinReach, ArePrices}
 
 pub length_of_kinds : (kinds : List PricedKind) → length (prices_of_kinds kinds) ≡ counted kinds

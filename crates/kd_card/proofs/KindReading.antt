@@ -1,11 +1,10 @@
 -- A line of a group, read.
-use Rattle.std.proofs.Common.{codes, ◌≡◌, ◌≢◌, ℕ, ◌+◌, ◌^◌, ◌<◌, ◌≤◌, Bool, true, false, List, [], ◌∷◌, ◌++◌, length, map, get_or, decimal, Option, Some, None, MatchOption, Bor, ℤ, refl, sym, ap, subst, ◌∙◌, append_assoc, arith}
-use Rattle.std.specs.List.{All}
+use Rattle.std.proofs.Common.{◌≡◌, ◌≢◌, ℕ, ◌+◌, ◌<◌, ◌≤◌, List, [], ◌∷◌, ◌++◌, length, map, get_or, decimal, Option, Some, None, Bor, sym, ap, ◌∙◌, append_assoc, arith}
 use Rattle.std.proofs.lemmas.Fmt.{decimal_injective}
 use Rattle.std.specs.Fmt.{signed_decimal}
 use Rattle.std.proofs.lemmas.List.{append-nil}
 use Rattle.std.proofs.lemmas.List.Splits.{join_with_byte-slice_split}
-use Rattle.kd_state.specs.Words.{words_of, line_of, IsWord, IsWithout, IsFirstPart, LinesSplitIntoWords, WordsMakeOneLine, TextsTellFirstParts, NumbersAreWords}
+use Rattle.kd_state.specs.Words.{words_of, line_of, IsFirstPart, LinesSplitIntoWords, WordsMakeOneLine, TextsTellFirstParts, NumbersAreWords}
 use Rattle.kd_card.specs.declared.group.Group.{Group}
 use Rattle.kd_card.specs.declared.group.Group.TheVariants.{OfCables, OfBars}
 use Rattle.kd_card.specs.declared.look.Look.TheVariants.{Cable, Pair}
@@ -14,7 +13,7 @@ use Rattle.kd_card.specs.declared.look.Name.TheVariants as names
 use Rattle.kd_card.specs.declared.kinds.PricedKind.{PricedKind}
 use Rattle.kd_card.specs.Kinds.{name_text, look_name, look_text, look_rank, kind_words, kinds_text, HasLook, HasKindWords}
 use Rattle.kd_card.specs.CardText.{row_name}
-use Rattle.kd_card.specs.CardFault.{with_line, HasWords, IsFirstWord, BeginsWithWord, IsNextKind}
+use Rattle.kd_card.specs.CardFault.{IsFirstWord, BeginsWithWord, IsNextKind}
 use Rattle.kd_card.proofs.Lines.{same_first_part}
 use Rattle.kd_card.proofs.KindWords.{kind_is_words, same_kind}
 

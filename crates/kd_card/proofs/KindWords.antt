@@ -1,14 +1,13 @@
 -- The words of kinds' lines, and the looks that they tell.
-use Rattle.std.proofs.Common.{codes, ◌≡◌, ◌≢◌, ℕ, ◌+◌, ◌*◌, ◌^◌, ◌<◌, ◌≤◌, eqb, cond, Bool, true, List, [], ◌∷◌, ◌++◌, length, map, get_or, decimal, ℤ, Option, Some, None, refl, sym, ap, ◌∙◌, append_assoc, length-append, arith, unsigned_abs}
+use Rattle.std.proofs.Common.{codes, ◌≡◌, ◌≢◌, ℕ, ◌+◌, ◌<◌, ◌≤◌, eqb, cond, true, List, [], ◌∷◌, ◌++◌, length, get_or, ℤ, Option, Some, None, refl, sym, ap, ◌∙◌, append_assoc, length-append, arith}
 use Rattle.std.specs.List.{All, find}
 use Rattle.std.specs.Option.{unwrap_or}
 use Rattle.std.specs.Str.{bytes_eq}
-use Rattle.std.specs.Fmt.{signed_decimal}
 use Rattle.std.proofs.lemmas.Fmt.{decimal_injective, signed_decimal_injective}
 use Rattle.std.proofs.lemmas.List.Elements.{All-append, All-weaker, All-from_recursion}
 use Rattle.kd_tables.specs.declared.place.Place.{Place}
 use Rattle.kd_tables.specs.declared.place.Place.TheVariants.{One, ZeroLeft, Two, Three, Four, Five, ZeroRight, Six}
-use Rattle.kd_tables.specs.Places.{place_text, place_rank, places, standing_text, reading_text, IsBefore, IsReading}
+use Rattle.kd_tables.specs.Places.{place_text, place_rank, places, standing_text, reading_text}
 use Rattle.kd_state.specs.Words.{IsWord, IsWithout, NumbersAreWords, TextsTellFirstParts}
 use Rattle.kd_card.specs.declared.look.Look.{Look}
 use Rattle.kd_card.specs.declared.look.Look.TheVariants.{Cable, Pair, Bar, Row}

@@ -1,12 +1,12 @@
 -- Lines of words, as they are written and as they are split.
-use Rattle.std.proofs.Common.{◌≡◌, ◌≢◌, ℕ, ◌+◌, ◌<◌, Bool, true, false, ◌&&◌, eqb, ltb, List, [], ◌∷◌, ◌++◌, length, map, get_or, take, drop, inl, inr, refl, sym, ap, subst, ◌∙◌, append_assoc, length-append, arith, ℤ}
+use Rattle.std.proofs.Common.{◌≡◌, ◌≢◌, ℕ, ◌<◌, Bool, true, false, ◌&&◌, eqb, ltb, List, [], ◌∷◌, ◌++◌, length, map, get_or, take, drop, inl, inr, refl, sym, ap, subst, ◌∙◌, append_assoc, length-append, arith, ℤ}
 use Rattle.std.specs.List.{All, AllByRecursion, flat_map}
 use Rattle.std.specs.Fmt.{signed_decimal}
 use Rattle.std.specs.Cmp.Lexicographic.{same_text, other_text}
 use Rattle.std.proofs.Math.Seq.{take-append_seam}
 use lib.Pointwise.{pointwise}
 use Rattle.std.proofs.lemmas.Bool.{ne_eqb, ltb-true, false≢true}
-use Rattle.std.proofs.lemmas.List.{append-nil, append_cancel_left, get_or_at, take_more, take-append-drop}
+use Rattle.std.proofs.lemmas.List.{append-nil, append_cancel_left, get_or_at, take-append-drop}
 use Rattle.std.proofs.lemmas.List.Concat.{flat_map-append}
 use Rattle.std.proofs.lemmas.List.Elements.{All-weaker, All-cons, All-append, All-push, All-from_recursion}
 use Rattle.std.proofs.lemmas.List.Folds.{flat_map-map}
@@ -28,17 +28,6 @@ behind_spaces prices = flat_map (λ price. 32 ∷ signed_decimal price) prices
 line_of_prices : (word : List ℕ) (prices : List ℤ) → line_of (price_words word prices) ≡ word ++ behind_spaces prices
 line_of_prices word [] = sym (append-nil word)
 line_of_prices word (price ∷ prices) = ap (λ text. word ++ 32 ∷ text) (line_of_prices (signed_decimal price) prices)
-
-pub one_more_price : (front word : List ℕ) (prices : List ℤ) (i : ℕ) (d : ℤ) → i < length prices
-    → (front ++ (word ++ behind_spaces (take i prices))) ++ (32 ∷ signed_decimal (get_or prices i d)) ≡ front ++ (word ++ behind_spaces (take (i + 1) prices))
-one_more_price front word prices i d inside =
-    let price : ℤ = get_or prices i d in
-    let text : ℤ → List ℕ = λ p. 32 ∷ signed_decimal p in
-    append_assoc front (word ++ behind_spaces (take i prices)) (text price)
-    ∙ ap (λ t. front ++ t) (append_assoc word (behind_spaces (take i prices)) (text price)
-    ∙ ap (λ t. word ++ t) (ap (λ t. behind_spaces (take i prices) ++ t) (sym (append-nil (text price)))
-    ∙ sym (flat_map-append text (take i prices) (price ∷ []))
-    ∙ ap behind_spaces (sym (take_more prices i d inside))))
 
 pub all_prices : (front word : List ℕ) (prices : List ℤ)
     → (front ++ (word ++ behind_spaces prices)) ++ 10 ∷ [] ≡ front ++ with_line (price_words word prices) []
@@ -78,6 +67,19 @@ card_in_lines day xs prices =
     ∙ ap (with_line (head_words (version_of prices) day)) (ap lines_text (append_assoc (map setting_words xs) (number ∷ lines) (sum ∷ []))
     ∙ settings_and_more xs (number ∷ (lines ++ sum ∷ []))
     ∙ ap (λ t. list_text xs ++ t) (lines_behind number lines sum))
+
+nested_more : (head list count prices sum rest : List ℕ)
+    → (head ++ 10 ∷ (list ++ (count ++ 10 ∷ (prices ++ (sum ++ 10 ∷ []))))) ++ rest ≡ head ++ 10 ∷ (list ++ (count ++ 10 ∷ (prices ++ (sum ++ 10 ∷ rest))))
+nested_more head list count prices sum rest = simp append_assoc
+
+pub card_and_more : (day : ℕ) (xs : List Setting) (prices : PriceParts) (rest : List ℕ)
+    → card_text day xs prices ++ rest
+    ≡ with_line (head_words (version_of prices) day) (list_text xs ++ with_line (settings_words (length xs))
+    (lines_text (price_lines prices) ++ with_line (sum_words (price_sum prices)) rest))
+card_and_more day xs prices rest =
+    ap (λ t. t ++ rest) (card_in_lines day xs prices)
+    ∙ nested_more (line_of (head_words (version_of prices) day)) (list_text xs) (line_of (settings_words (length xs))) (lines_text (price_lines prices))
+    (line_of (sum_words (price_sum prices))) rest
 
 nested : (head list count prices sum : List ℕ)
     → (((([] ++ (head ++ 10 ∷ [])) ++ list) ++ (count ++ 10 ∷ [])) ++ prices) ++ (sum ++ 10 ∷ [])
@@ -179,10 +181,6 @@ unbroken_signed text s = elim s [ inl n ↦ unbroken_number text n | inr n ↦ s
 
 named : (text name value rest : List ℕ) → IsWithout 10 name → IsWithout 10 value → text ≡ name ++ (value ++ 10 ∷ rest) → IsFirstPart 10 text (name ++ value) rest
 named text name value rest a b e = record { joined = e ∙ sym (append_assoc name value (10 ∷ rest)); without = All-append (λ c. c ≢ 10) name value a b }
-
-pub no_such_value : (text name : List ℕ) → is_above 10 name ≡ true → ((value rest : List ℕ) → ¬ (IsFirstPart 10 text (name ++ value) rest))
-    → (value more : List ℕ) → IsWithout 10 value → text ≢ name ++ (value ++ 10 ∷ more)
-no_such_value text name test none value more without e = none value more (named text name value more (unbroken_by_test name test) without e)
 
 pub same_named : TextsTellFirstParts → (text name number rest : List ℕ) → is_above 10 name ≡ true → IsFirstPart 10 text (name ++ number) rest
     → (value more : List ℕ) → IsWithout 10 value → text ≡ name ++ (value ++ 10 ∷ more) → number ≡ value

@@ -3,12 +3,12 @@ use Rattle.std.proofs.Common.{codes, ◌≡◌, ◌≢◌, ℕ, ◌+◌, ◌*◌
 use Rattle.std.specs.List.{All, AllByRecursion}
 use Rattle.std.specs.Fmt.{signed_decimal}
 use Rattle.std.proofs.lemmas.Fmt.{decimal_injective, signed_decimal_injective}
-use Rattle.std.proofs.lemmas.List.{append_cancel_left, length-map}
+use Rattle.std.proofs.lemmas.List.{append-nil, append_cancel_left, length-map}
 use Rattle.std.proofs.lemmas.List.Elements.{All-cons, All-append, recursion_from_All}
 use Rattle.kd_state.specs.declared.setting.Setting.{Setting}
 use Rattle.kd_state.specs.declared.setting.Setting.TheVariants.{Pull, Put, Seat, SeatReflector, RingTo, Turn, PinTo, LugTo}
 use Rattle.kd_state.specs.Words.{words_of, line_of, IsWord, IsWithout, LinesTellWords, LinesSplitIntoWords, WordsMakeOneLine, TextsTellFirstParts, NumbersAreWords}
-use Rattle.kd_state.specs.Line.{setting_words, setting_line, list_text, IsInRange, BeginsWith, BeginsWithNoLine}
+use Rattle.kd_state.specs.Line.{setting_words, setting_line, list_text, IsInRange, BeginsWithNoLine}
 use Rattle.kd_state.specs.SheetDay.{IsDayNumber}
 use Rattle.kd_state.specs.Laws.{SettingsHaveWords, LinesTellSettings}
 use Rattle.kd_card.specs.declared.prices.PriceParts.{PriceParts}
@@ -25,9 +25,9 @@ use Rattle.kd_card.specs.declared.fault.CardFault.TheVariants.{BadHead, BadLine,
 use Rattle.kd_card.specs.Kinds.{look_name, look_rank, name_text, kind_words, kinds_text, counted, cable_kind, pair_kind, bar_kind, row_kind, IsPricedKind, AreKinds, AreCalled}
 use Rattle.kd_card.specs.Prices.{version_of, row_kinds, column_kinds, row_prices, column_prices, price_sum, AreWithinReach, ArePrices}
 use Rattle.kd_card.specs.CardText.{group_of, row_word, column_word, row_name, column_name, price_count, version_text, head_words, settings_words, price_words, sum_words, HaveKinds, IsCard}
-use Rattle.kd_card.specs.CardFault.{with_line, sum_line, IsNumberText, IsSignedText, IsPriceText, IsCountFault, ToSettings, ToNumber, ToRows, ToPrices, HasWords, IsValueFault, OtherValue, NoValue, IsPricesFault, NoLine, NoEnd, OtherWord, OtherPrices, AreRows, AreColumns, BeginsWithWord, BeginsWithName, IsUnended, EndsGroup, AtNothing, AtOther, IsNextKind, IsBadKind, Unended, NoKind, floor_behind, BeginsWithKinds, IsGroupFault, AtKind, AtCount, BeginsWithGroup, LacksGroup, NoGroup, NoGroupEnd, OtherGroup, EndsPrices, IsCardFault, AtHead, AtSettings, AtNumber, AtRows, AtColumns, AtGroup, AtRowKinds, AtColumnKinds, AtSum, AtEnd}
-use Rattle.kd_card.specs.Reading.{BeginsWithHead, BeginsWithSettings, BeginsWithPrices}
-use Rattle.kd_card.specs.Laws.{TextsTellCards, CardsHaveNoFault, OneCardFault}
+use Rattle.kd_card.specs.CardFault.{with_line, sum_line, IsNumberText, IsSignedText, IsPriceText, IsCountFault, ToSettings, ToNumber, ToRows, ToPrices, HasWords, IsValueFault, OtherValue, NoValue, IsPricesFault, NoLine, NoEnd, OtherWord, OtherPrices, AreRows, AreColumns, BeginsWithWord, BeginsWithName, IsUnended, EndsGroup, AtNothing, AtOther, IsBadKind, Unended, NoKind, floor_behind, BeginsWithKinds, IsGroupFault, AtKind, AtCount, BeginsWithGroup, LacksGroup, NoGroup, NoGroupEnd, OtherGroup, EndsPrices, IsCardFault, AtHead, AtSettings, AtNumber, AtRows, AtColumns, AtGroup, AtRowKinds, AtColumnKinds, AtSum, AtEnd}
+use Rattle.kd_card.specs.Reading.{BeginsWithHead, BeginsWithTooMany, BeginsWithSettings, BeginsWithPrices}
+use Rattle.kd_card.specs.Laws.{TextsTellCards, NoCardBeginsAnother, CardsHaveNoFault, OneCardFault}
 use Rattle.kd_card.proofs.Lines.{text_of_more, two_lines, no_first_part, same_first_part, unbroken_by_test, unbroken_number, unbroken_signed}
 use Rattle.kd_card.proofs.PriceTexts.{small}
 use Rattle.kd_card.proofs.PriceLines.{all_price_texts}
@@ -155,7 +155,7 @@ NumberSays version day xs rest =
     (IsValueFault IsNumberText (codes "SETTINGS") (decimal (length xs)) (length xs + 2) rest) (PricesSay version day xs)
 
 abbrev AreTooMany : List ℕ → CardFault → Type 0
-AreTooMany body fault = (xs : List Setting) × (rest : List ℕ) × BeginsWith body xs rest × (length xs ≡ 193) × (fault ≡ TooMany)
+AreTooMany body fault = BeginsWithTooMany body × (fault ≡ TooMany)
 
 abbrev SettingsSay : Version → ℕ → List ℕ → Verdict → Type 0
 SettingsSay version day body =
@@ -309,7 +309,7 @@ module _ (k : Known) where
       cc
 
   not_too_many : (body : List ℕ) (list : List Setting × List ℕ) (fault : CardFault) → BeginsWithSettings body list.0 list.1 → ¬ (AreTooMany body fault)
-  not_too_many body (xs, rest) fault a (ys, more, b, many, is) =
+  not_too_many body (xs, rest) fault a ((ys, more, b, many), is) =
       let few = a.few in
       let most =
       (lists_end xs ys rest more (recursion_from_All IsInRange xs a.lines.in_range) (recursion_from_All IsInRange ys b.in_range) a.none_more
@@ -319,7 +319,7 @@ module _ (k : Known) where
   settings_are_sure : (body : List ℕ) → IsSure (λ (list : List Setting × List ℕ). BeginsWithSettings body list.0 list.1) (AreTooMany body)
   settings_are_sure body = record {
     one = one_list body;
-    reason = λ fault other a b. a.4 ∙ sym b.4;
+    reason = λ fault other a b. a.1 ∙ sym b.1;
     either = not_too_many body;
   }
 
@@ -760,17 +760,21 @@ module _ (k : Known) where
   sum_ends (BarKinds row col) sum rest near =
       AtOther (codes "SUM") (sum_begins sum rest near) (λ e. omega (arith, ap (λ t. get_or t 0 0) e))
 
+  to_end : (bytes text rest : List ℕ) (day : ℕ) (xs : List Setting) (prices : PriceParts) → bytes ≡ text ++ rest → IsCard text day xs prices
+      → ToPrices bytes day xs prices (with_line (sum_words (price_sum prices)) rest)
+  to_end bytes text rest day xs prices e card =
+      goes_to_prices bytes text rest day xs prices e card (sum_ends prices (price_sum prices) rest (price_sum_is_small prices card.are_prices))
+
   card_says : (bytes : List ℕ) (day : ℕ) (xs : List Setting) (prices : PriceParts) → IsCard bytes day xs prices → CardSays bytes (Ok (day, xs, prices))
   card_says bytes day xs prices card =
-      let sum = with_line (sum_words (price_sum prices)) [] in
-      let ends = sum_ends prices (price_sum prices) [] (price_sum_is_small prices card.are_prices) in
-      at_sum bytes day xs prices sum (Ok (day, xs, prices)) (goes_to_prices bytes day xs prices card ends) (Found [] refl (Found tt refl refl))
+      at_sum bytes day xs prices (with_line (sum_words (price_sum prices)) []) (Ok (day, xs, prices))
+      (to_end bytes bytes [] day xs prices (sym (append-nil bytes)) card) (Found [] refl (Found tt refl refl))
 
   fault_says : (bytes : List ℕ) (fault : CardFault) → IsCardFault bytes fault → CardSays bytes (Err fault)
   fault_says bytes fault (AtHead none is) = Refused fault (none, is) refl
   fault_says bytes fault (AtSettings version day xs rest to many is) =
       Found (version, day, list_text xs ++ rest) (record { text = to.text; of_month = to.of_month })
-      (Refused fault (xs, rest, record { lines = refl; in_range = to.in_range }, many, is) refl)
+      (Refused fault ((xs, rest, record { lines = refl; in_range = to.in_range }, many), is) refl)
   fault_says bytes fault (AtNumber version day xs rest to few none wrong) = at_number bytes version day xs rest (Err fault) to few none (Refused fault wrong refl)
   fault_says bytes fault (AtRows day xs rest to wrong) =
       at_prices bytes ByNumber day xs rest (Err fault) to (fault_in_line AreRows (length xs + 3) rest (BehindRows day xs) fault wrong)
@@ -799,6 +803,13 @@ module _ (k : Known) where
       let none : ◌≡◌ {A = Verdict} (Ok (day, xs, prices)) (Err fault) =
       only_card bytes (Ok (day, xs, prices)) (Err fault) (card_says bytes day xs prices a) (fault_says bytes fault b) in
       cc
+
+  pub no_card_begins_another : NoCardBeginsAnother
+  no_card_begins_another text [] day other xs ys prices others a b = refl
+  no_card_begins_another text (byte ∷ rest) day other xs ys prices others a b =
+      let more = byte ∷ rest in
+      absurd (cards_have_no_fault (text ++ more) other ys others Trailing b
+      (AtEnd day xs prices more (to_end (text ++ more) text more day xs prices refl a) (λ none. cc) refl))
 
   pub one_card_fault : OneCardFault
   one_card_fault bytes fault other a b =

@@ -1,5 +1,5 @@
 -- Kinds: what is alike among cables, pairs, bars or rows, how many there are of it, and the price that each of them has.
-use Rattle.std.specs.Prelude.{codes, decimal, ◌≡◌, ℕ, ◌+◌, ◌*◌, ◌<◌, ◌≤◌, List, [], ◌∷◌, ◌++◌, length, map, replicate, flat_map, ℤ, unsigned_abs, Option, Some, None}
+use Rattle.std.specs.Prelude.{codes, decimal, ◌≡◌, ℕ, ◌+◌, ◌*◌, ◌<◌, ◌≤◌, List, [], ◌∷◌, ◌++◌, replicate, flat_map, ℤ, unsigned_abs, Option, Some, None}
 use Rattle.std.specs.Fmt.{signed_decimal}
 use Rattle.kd_tables.specs.declared.place.Place.{Place}
 use Rattle.kd_tables.specs.Places.{place_rank, standing_text, reading_text, IsBefore, IsReading}

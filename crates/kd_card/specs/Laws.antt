@@ -1,5 +1,5 @@
 -- What holds of cards.
-use Rattle.std.specs.Prelude.{◌≡◌, ℕ, List, length, pos, ◌+ℤ◌, ◌≤ℤ◌}
+use Rattle.std.specs.Prelude.{◌≡◌, ℕ, List, [], ◌++◌, length, pos, ◌+ℤ◌, ◌≤ℤ◌}
 use Rattle.kd_state.specs.declared.machine.parts.Parts.{Parts}
 use Rattle.kd_state.specs.declared.setting.Setting.{Setting}
 use Rattle.kd_state.specs.Machine.{IsMachine}
@@ -44,12 +44,18 @@ ProvingPricesAreTight =
 abbrev pub RanksTellLooks : Type 0
 RanksTellLooks = (look other : Look) → look_name look ≡ look_name other → IsInForm look → IsInForm other → look_rank look ≡ look_rank other → look ≡ other
 
--- no two cards have one text, a card has no fault, and bytes have one at most
+-- no two cards have one text, and where a card's text stands in front of another's it is all of it
 abbrev pub TextsTellCards : Type 0
 TextsTellCards =
     (bytes : List ℕ) (day other : ℕ) (xs ys : List Setting) (prices others : PriceParts) → IsCard bytes day xs prices → IsCard bytes other ys others
     → (day ≡ other) × (xs ≡ ys) × (prices ≡ others)
 
+abbrev pub NoCardBeginsAnother : Type 0
+NoCardBeginsAnother =
+    (text rest : List ℕ) (day other : ℕ) (xs ys : List Setting) (prices others : PriceParts) → IsCard text day xs prices
+    → IsCard (text ++ rest) other ys others → rest ≡ []
+
+-- a card has no fault, and bytes have one at most
 abbrev pub CardsHaveNoFault : Type 0
 CardsHaveNoFault = (bytes : List ℕ) (day : ℕ) (xs : List Setting) (prices : PriceParts) (fault : CardFault) → IsCard bytes day xs prices → ¬ (IsCardFault bytes fault)
 

@@ -1,6 +1,7 @@
 -- What the steps of reading a card find at the front of the bytes.
-use Rattle.std.specs.Prelude.{◌≡◌, ℕ, ◌+◌, ◌≤◌, List, ◌++◌, length, ℤ}
+use Rattle.std.specs.Prelude.{codes, ◌≡◌, ℕ, ◌+◌, ◌≤◌, List, [], ◌∷◌, ◌++◌, length, ℤ}
 use Rattle.kd_state.specs.declared.setting.Setting.{Setting}
+use Rattle.kd_state.specs.Words.{line_of}
 use Rattle.kd_state.specs.Line.{BeginsWith, BeginsWithNoLine}
 use Rattle.kd_state.specs.SheetDay.{IsDayNumber}
 use Rattle.kd_card.specs.declared.prices.PriceParts.{PriceParts}
@@ -10,13 +11,21 @@ use Rattle.kd_card.specs.declared.group.Group.{Group}
 use Rattle.kd_card.specs.declared.kinds.PricedKind.{PricedKind}
 use Rattle.kd_card.specs.declared.fault.CardFault.{CardFault}
 use Rattle.kd_card.specs.Prices.{version_of, AreWithinReach, ArePrices}
-use Rattle.kd_card.specs.CardText.{row_word, column_word, row_name, column_name, price_count, head_words, price_words, lines_text, price_lines}
+use Rattle.kd_card.specs.CardText.{row_word, row_name, column_name, price_count, version_text, head_words, price_words, lines_text, price_lines}
 use Rattle.kd_card.specs.CardFault.{with_line, IsPricesFault, AreRows, AreColumns, BeginsWithName, BeginsWithGroup, IsGroupFault, LacksGroup, EndsPrices}
 
 -- a card's head
 pub record BeginsWithHead (bytes : List ℕ) (version : Version) (day : ℕ) (rest : List ℕ) : Type 0 where
   pub text : bytes ≡ with_line (head_words version day) rest
   pub of_month : IsDayNumber day
+
+-- this stands before the day in such a head
+abbrev pub IsHeadFront : Version → List ℕ → Type 0
+IsHeadFront version front = (day : List ℕ) → line_of (codes "CARD" ∷ version_text version ∷ codes "DAY" ∷ day ∷ []) ≡ front ++ day
+
+-- one setting more than a card may have
+abbrev pub BeginsWithTooMany : List ℕ → Type 0
+BeginsWithTooMany bytes = (settings : List Setting) × (rest : List ℕ) × BeginsWith bytes settings rest × (length settings ≡ 193)
 
 -- all settings, up to a line that is none
 pub record BeginsWithSettings (bytes : List ℕ) (settings : List Setting) (rest : List ℕ) : Type 0 where

@@ -1,10 +1,12 @@
 //! The lines of kinds: one for each cable, pair, bar or row that is unlike the others.
-ghost use Rattle.std.specs.Prelude.{◌≡◌, ◌≢◌, ◌+◌, ◌*◌, ◌<◌, ◌≤◌, [], ◌∷◌, ◌++◌, length, take, All, MatchOption, MatchResult};
+ghost use Rattle.std.specs.Prelude.{◌≡◌, ◌+◌, ◌*◌, ◌<◌, ◌≤◌, [], ◌∷◌, ◌++◌, length, All};
+ghost use Rattle.std.specs.Prelude.{MatchOption, MatchResult};
 ghost use Rattle.arrayvec.specs.ArrayString.{array_string_len};
 ghost use Rattle.kd_state.specs.Words.{words_of};
 ghost use Rattle.kd_card.specs.Kinds.{name_text, kinds_text, HasKindWords, IsPricedKind};
 ghost use Rattle.kd_card.specs.CardText.{row_name};
-ghost use Rattle.kd_card.specs.CardFault.{IsFirstWord, BeginsWithName, LacksGroup, EndsGroup, IsNextKind, IsBadKind, BeginsWithGroup, IsGroupFault};
+ghost use Rattle.kd_card.specs.CardFault.{IsFirstWord, BeginsWithName, LacksGroup, EndsGroup};
+ghost use Rattle.kd_card.specs.CardFault.{IsNextKind, IsBadKind, BeginsWithGroup, IsGroupFault};
 
 use super::fault::CardFault;
 use super::group::Group;
@@ -67,9 +69,10 @@ fn kind_of_line(name: Name, line: &[u8]) -> Option<PricedKind>
 
 /// The kind, of things of that name, of this look, count and price.
 fn kind_of_parts(name: Name, look: &[u8], count: &[u8], price: &[u8]) -> Option<PricedKind>
-    ensures { MatchOption result
-        ((kind : _) → ¬ (HasKindWords name (name_text name ∷ look.now ∷ count.now ∷ price.now ∷ []) kind))
-        (λ kind. HasKindWords name (name_text name ∷ look.now ∷ count.now ∷ price.now ∷ []) kind) }
+    ensures { let words = name_text name ∷ look.now ∷ count.now ∷ price.now ∷ [] in
+        MatchOption result
+        ((kind : _) → ¬ (HasKindWords name words kind))
+        (λ kind. HasKindWords name words kind) }
 {
     let look = Look::from_text(name, look)?;
     let count = number_of_text(count)?;
@@ -80,8 +83,8 @@ fn kind_of_parts(name: Name, look: &[u8], count: &[u8], price: &[u8]) -> Option<
     Some(PricedKind { look, count, price })
 }
 
-/// The next kind of a group of things of that name, and what follows its line; none where the group ends. Its rank has to be
-/// at least this one, and its line has this number.
+/// The next kind of a group of things of that name, and what follows its line; none where the group ends. Its rank has
+/// to be at least this one, and its line has this number.
 fn next_kind(
     text: &[u8],
     name: Name,
@@ -112,8 +115,8 @@ fn next_kind(
     }
 }
 
-/// The kinds of a group of things of that name, in lines of which the first is that of this number, and what follows them.
-/// They are in order, each once, and of so many things together.
+/// The kinds of a group of things of that name, in lines of which the first is that of this number, and what follows
+/// them. They are in order, each once, and of so many things together.
 pub(crate) fn read_kinds<'a>(
     text: &'a [u8],
     name: Name,

@@ -1,8 +1,10 @@
 //! Kinds: things that are alike, how many there are of them, and the price that each of them has.
-ghost use Rattle.std.specs.Prelude.{◌≡◌, ◌≢◌, ◌↔◌, ◌+◌, ◌*◌, ◌<◌, ◌≤◌, length, map, fold, unsigned_abs, pos, ◌+ℤ◌, ◌*ℤ◌, IsTrue, MatchOption};
+ghost use Rattle.std.specs.Prelude.{◌≡◌, ◌≢◌, ◌↔◌, ◌+◌, ◌*◌, ◌<◌, ◌≤◌, length, map, fold};
+ghost use Rattle.std.specs.Prelude.{unsigned_abs, pos, ◌+ℤ◌, ◌*ℤ◌, IsTrue, MatchOption};
 ghost use Rattle.kd_card.specs.declared.look.Name.{Name};
 ghost use Rattle.kd_card.specs.declared.kinds.PricedKind.{PricedKind};
-ghost use Rattle.kd_card.specs.Kinds.{look_name, look_rank, counted, prices_of_kinds, IsPricedKind, AreKinds, AreCalled};
+ghost use Rattle.kd_card.specs.Kinds.{look_name, look_rank, counted, prices_of_kinds, IsPricedKind};
+ghost use Rattle.kd_card.specs.Kinds.{AreKinds, AreCalled};
 
 use super::look::{Look, Name};
 use arrayvec::ArrayVec;

@@ -1,6 +1,8 @@
 //! What holds of cards.
-ghost use Rattle.kd_card.specs.Laws.{RanksTellLooks, TextsTellCards, CardsHaveNoFault, OneCardFault};
-ghost use Rattle.kd_card.specs.Laws.{FittingPricesBoundLists, ProvingCardsAreAsLong, ProvingCardsAreShortest, ProvingPricesAreTight};
+ghost use Rattle.kd_card.specs.Laws.{RanksTellLooks, TextsTellCards, NoCardBeginsAnother};
+ghost use Rattle.kd_card.specs.Laws.{CardsHaveNoFault, OneCardFault, FittingPricesBoundLists};
+ghost use Rattle.kd_card.specs.Laws.{ProvingCardsAreAsLong, ProvingCardsAreShortest};
+ghost use Rattle.kd_card.specs.Laws.{ProvingPricesAreTight};
 
 use kd_state::laws::{
     columns_are_the_pairs, lines_tell_words, no_two_settings_have_one_line,
@@ -8,10 +10,11 @@ use kd_state::laws::{
     texts_tell_first_parts,
 };
 
-/// No two cards have one text, and a card's text has no fault. So it is not the front of another card's text either. Bytes
-/// that are no card have one fault.
+/// No two cards have one text, and no card's text is the front of another card's. A card's text has no fault, and bytes
+/// that are no card have one.
 pub fn no_two_cards_have_one_text()
     ensures card { TextsTellCards }
+    ensures front { NoCardBeginsAnother }
     ensures no_fault { CardsHaveNoFault }
     ensures one_fault { OneCardFault }
 {
@@ -51,8 +54,8 @@ pub fn proving_cards_are_shortest()
     columns_are_the_pairs();
 }
 
-/// In a card that proves itself by number each row's price and some column's are together the cost where they meet, and so are each
-/// column's and some row's.
+/// In a card that proves itself by number each row's price and some column's are together the cost where they meet, and
+/// so are each column's and some row's.
 pub fn proving_prices_are_tight()
     ensures { ProvingPricesAreTight }
 {

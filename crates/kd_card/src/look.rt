@@ -1,10 +1,10 @@
 //! What alike things have in common, and its text.
-ghost use Rattle.std.specs.Prelude.{◌≡◌, ◌≢◌, ◌↔◌, ℕ, ◌+◌, ◌<◌, ◌≤◌, IsTrue, MatchOption, Some};
-ghost use Rattle.kd_state.specs.Words.{letter_text};
+ghost use Rattle.std.specs.Prelude.{◌≡◌, ◌≢◌, ◌↔◌, ℕ, ◌+◌, ◌<◌, IsTrue, MatchOption, Some};
 ghost use Rattle.kd_state.specs.Machine.{cable_letters};
-ghost use Rattle.kd_state.specs.Costs.{column_letters};
 ghost use Rattle.kd_tables.specs.Places as places;
-ghost use Rattle.kd_card.specs.Kinds.{name_text, look_name, look_text, look_rank, letters_text, standing_rank, reading_rank, AreEnds, IsPairInOrder, IsInForm, HasLook};
+ghost use Rattle.kd_card.specs.Kinds.{name_text, look_name, look_text, look_rank, letters_text};
+ghost use Rattle.kd_card.specs.Kinds.{standing_rank, reading_rank, AreEnds, IsPairInOrder};
+ghost use Rattle.kd_card.specs.Kinds.{IsInForm, HasLook};
 
 use arrayvec::ArrayString;
 use kd_tables::{Letter, Place, Reading, Standing};
@@ -35,8 +35,8 @@ impl Name {
     }
 }
 
-/// What alike things have in common: the letters of a cable, those of a pair or of nothing, how a bar stands, or how a row
-/// reads.
+/// What alike things have in common: the letters of a cable, those of a pair or of nothing, how a bar stands, or how a
+/// row reads.
 #[derive(Clone, Copy, Debug)]
 pub enum Look {
     /// A cable's letters: a single one comes first, two are in alphabetical order.
@@ -299,7 +299,8 @@ fn pair_of_text(text: &[u8]) -> Option<Option<(Letter, Letter)>>
 fn two_letters(one: u8, other: u8) -> Option<(Letter, Letter)>
     ensures { MatchOption result
         ((first second : ℕ) → first < second → second < 26 → one ≡ first + 65 → other ≢ second + 65)
-        (λ letters. (letters.0 < letters.1) × (letters.1 < 26) × (one ≡ letters.0 + 65) × (other ≡ letters.1 + 65)) }
+        (λ letters. (letters.0 < letters.1) × (letters.1 < 26)
+        × (one ≡ letters.0 + 65) × (other ≡ letters.1 + 65)) }
 {
     let one = Letter::from_byte(one)?;
     let other = Letter::from_byte(other)?;

@@ -1,5 +1,6 @@
 //! Prices and numbers as they are written.
-ghost use Rattle.std.specs.Prelude.{◌≡◌, ◌≢◌, ◌↔◌, ◌≤◌, ℤ, map, length, unsigned_abs, All, IsTrue, MatchOption, MatchResult, IfOk};
+ghost use Rattle.std.specs.Prelude.{◌≡◌, ◌≢◌, ◌↔◌, ◌≤◌, ℤ, map, length, unsigned_abs, All, IsTrue};
+ghost use Rattle.std.specs.Prelude.{MatchOption, MatchResult, IfOk};
 ghost use Rattle.std.specs.Fmt.{signed_decimal};
 ghost use Rattle.kd_state.specs.Words.{words_of};
 ghost use Rattle.kd_card.specs.Prices.{AreWithinReach};
@@ -92,9 +93,10 @@ fn are_prices(text: &[u8]) -> bool
 fn prices_of_words<const N: usize>(words: &[&[u8]]) -> Option<ArrayVec<i16, N>>
     requires room { length words.now ≤ N }
     requires few { N ≤ 27 }
-    ensures { MatchOption result
-        (¬ (All IsPriceText (map (λ word. word.now) words.now)))
-        (λ prices. (map (λ word. word.now) words.now ≡ map signed_decimal prices.items) × AreWithinReach prices.items) }
+    ensures { let texts = map (λ word. word.now) words.now in
+        MatchOption result
+        (¬ (All IsPriceText texts))
+        (λ prices. (texts ≡ map signed_decimal prices.items) × AreWithinReach prices.items) }
 {
     let mut prices = ArrayVec::new();
     for word in words {

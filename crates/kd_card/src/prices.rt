@@ -1,7 +1,9 @@
-ghost use Rattle.std.specs.Prelude.{◌≡◌, ◌↔◌, ◌+◌, ◌*◌, ◌<◌, ◌≤◌, length, fold, unsigned_abs, ◌+ℤ◌, IsTrue, MatchOption};
-ghost use Rattle.kd_card.specs.Kinds.{counted, AreKinds, AreCalled};
-ghost use Rattle.kd_card.specs.Prices.{price_sum, how_many, version_of, row_kinds, column_kinds, AreWithinReach, ArePrices};
-ghost use Rattle.kd_card.specs.CardText.{row_name, column_name, price_count, price_lines, IsGroup, HaveKinds};
+ghost use Rattle.std.specs.Prelude.{◌≡◌, ◌↔◌, ◌+◌, ◌*◌, ◌<◌, ◌≤◌, length, fold, unsigned_abs, ◌+ℤ◌};
+ghost use Rattle.std.specs.Prelude.{IsTrue, MatchOption};
+ghost use Rattle.kd_card.specs.Prices.{price_sum, how_many, version_of, row_kinds, column_kinds};
+ghost use Rattle.kd_card.specs.Prices.{AreWithinReach, ArePrices};
+ghost use Rattle.kd_card.specs.CardText.{row_name, column_name, price_count, price_lines, IsGroup};
+ghost use Rattle.kd_card.specs.CardText.{HaveKinds};
 
 use super::group::Group;
 use super::kinds::{
@@ -20,8 +22,8 @@ pub enum Version {
     ByKind,
 }
 
-/// The prices of a card: of the cables and of the pairs and nothings, or of the bars and of the sheet's rows; or of the kinds
-/// of each.
+/// The prices of a card: of the cables and of the pairs and nothings, or of the bars and of the sheet's rows; or of the
+/// kinds of each.
 #[derive(Debug, Drop)]
 pub enum PriceParts {
     Cables([i16; 13], [i16; 13]),
@@ -77,26 +79,26 @@ impl Prices {
         }
     }
 
-    /// The prices of the kinds of cables, and of the kinds of pairs and nothings; none where a kind isn't in the form in which
-    /// it is written, or the kinds of a group aren't in order, each once, or aren't of 13 things together, or a price is
-    /// below -9999 or above 9999.
+    /// The prices of the kinds of cables, and of the kinds of pairs and nothings; none where a kind isn't in the form
+    /// in which it is written, or the kinds of a group aren't in order, each once, or aren't of 13 things together, or
+    /// a price is below -9999 or above 9999.
     pub fn cable_kinds(cables: &[CableKind], pairs: &[PairKind]) -> Option<Self>
-        ensures { MatchOption result
-            (¬ (ArePrices (PriceParts.CableKinds (record { items = cables.now }) (record { items = pairs.now }))))
-            (λ prices. prices ≡ PriceParts.CableKinds (record { items = cables.now }) (record { items = pairs.now })) }
+        ensures { let parts =
+            PriceParts.CableKinds (record { items = cables.now }) (record { items = pairs.now }) in
+            MatchOption result (¬ (ArePrices parts)) (λ prices. prices ≡ parts) }
     {
         let cables = copied(cables)?;
         let pairs = copied(pairs)?;
         Prices::of_kinds(PriceParts::CableKinds(cables, pairs), 13)
     }
 
-    /// The prices of the kinds of bars, and of the kinds of the sheet's rows; none where a kind isn't in the form in which it
-    /// is written, or the kinds of a group aren't in order, each once, or aren't of 27 things together, or a price is below
-    /// -9999 or above 9999.
+    /// The prices of the kinds of bars, and of the kinds of the sheet's rows; none where a kind isn't in the form in
+    /// which it is written, or the kinds of a group aren't in order, each once, or aren't of 27 things together, or a
+    /// price is below -9999 or above 9999.
     pub fn bar_kinds(bars: &[BarKind], rows: &[RowKind]) -> Option<Self>
-        ensures { MatchOption result
-            (¬ (ArePrices (PriceParts.BarKinds (record { items = bars.now }) (record { items = rows.now }))))
-            (λ prices. prices ≡ PriceParts.BarKinds (record { items = bars.now }) (record { items = rows.now })) }
+        ensures { let parts =
+            PriceParts.BarKinds (record { items = bars.now }) (record { items = rows.now }) in
+            MatchOption result (¬ (ArePrices parts)) (λ prices. prices ≡ parts) }
     {
         let bars = copied(bars)?;
         let rows = copied(rows)?;

@@ -1,13 +1,15 @@
 //! Cards, read off their text.
-ghost use Rattle.std.specs.Prelude.{◌≡◌, ◌≢◌, ℕ, ◌+◌, ◌<◌, ◌≤◌, ◌↔◌, ◌++◌, List, [], ◌∷◌, length, codes, decimal, slice_index, IsTrue, MatchOption, MatchResult};
+ghost use Rattle.std.specs.Prelude.{◌≡◌, ℕ, ◌+◌, ◌<◌, ◌≤◌, ◌↔◌, ◌++◌, List, codes, decimal};
+ghost use Rattle.std.specs.Prelude.{slice_index, IsTrue, MatchOption, MatchResult};
 ghost use Rattle.std.specs.Fmt.{signed_decimal};
 ghost use Rattle.kd_state.specs.declared.setting.Setting.{Setting};
-ghost use Rattle.kd_state.specs.Words.{line_of, IsWithout, IsFirstPart};
-ghost use Rattle.kd_state.specs.Line.{BeginsWith, BeginsWithLine, BeginsWithNoLine};
-ghost use Rattle.kd_state.specs.SheetDay.{IsDayNumber};
-ghost use Rattle.kd_card.specs.CardText.{IsCard, version_text, settings_words, sum_words};
-ghost use Rattle.kd_card.specs.CardFault.{with_line, IsNumberText, IsSignedText, IsValueFault, IsPricesFault, IsCardFault};
-ghost use Rattle.kd_card.specs.Reading.{BeginsWithHead, BeginsWithSettings, BeginsWithPrices, BeginsWithAll, LacksPrices};
+ghost use Rattle.kd_state.specs.Words.{IsWithout, IsFirstPart};
+ghost use Rattle.kd_card.specs.CardText.{IsCard, settings_words, sum_words};
+ghost use Rattle.kd_card.specs.CardFault.{with_line, IsNumberText, IsSignedText, IsValueFault};
+ghost use Rattle.kd_card.specs.CardFault.{IsPricesFault, IsCardFault};
+ghost use Rattle.kd_card.specs.Reading.{BeginsWithHead, IsHeadFront, BeginsWithTooMany};
+ghost use Rattle.kd_card.specs.Reading.{BeginsWithSettings, BeginsWithPrices, BeginsWithAll};
+ghost use Rattle.kd_card.specs.Reading.{LacksPrices};
 
 use super::card::Card;
 use super::fault::CardFault;
@@ -86,7 +88,7 @@ fn read_head_of(text: &[u8], version: Version) -> Option<(u8, &[u8])>
 
 /// What stands before the day in the head of a card.
 fn head_front(version: Version) -> &'static [u8]
-    ensures front { (day : List ℕ) → line_of (codes "CARD" ∷ version_text version ∷ codes "DAY" ∷ day ∷ []) ≡ result.now ++ day }
+    ensures front { IsHeadFront version result.now }
     ensures unbroken { IsWithout 10 result.now }
 {
     match version {
@@ -95,11 +97,11 @@ fn head_front(version: Version) -> &'static [u8]
     }
 }
 
-/// The settings whose lines stand at the front of the text, up to the first line that is none, and what follows them; none
-/// where there are more than 192.
+/// The settings whose lines stand at the front of the text, up to the first line that is none, and what follows them;
+/// none where there are more than 192.
 fn read_settings(text: &[u8]) -> Option<(ArrayVec<Setting, 192>, &[u8])>
     ensures { MatchOption result
-        ((many : List Setting) × (rest : List ℕ) × BeginsWith text.now many rest × (length many ≡ 193))
+        (BeginsWithTooMany text.now)
         (λ found. BeginsWithSettings text.now found.0.items found.1.now) }
 {
     let mut settings = ArrayVec::new();
@@ -166,8 +168,8 @@ fn read_numbered(text: &[u8], line: usize) -> Result<(Prices, &[u8]), CardFault>
     }
 }
 
-/// The prices of the two groups of kinds at the front of the text, of which the first line is that of this number, and what
-/// follows.
+/// The prices of the two groups of kinds at the front of the text, of which the first line is that of this number, and
+/// what follows.
 fn read_kinded(text: &[u8], line: usize) -> Result<(Prices, &[u8]), CardFault>
     requires { line < 200 }
     ensures { MatchResult result

@@ -1,3 +1,4 @@
+mod cut;
 mod prices;
 mod read;
 mod samples;

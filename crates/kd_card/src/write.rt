@@ -1,13 +1,14 @@
 //! The text of a card, written to a sink.
-ghost use Rattle.std.specs.Prelude.{◌≡◌, ◌+◌, ◌*◌, ◌≤◌, ◌||◌, [], ◌∷◌, ◌++◌, length, decimal, is_err, unsigned_abs, All};
-ghost use Rattle.std.specs.List.{flat_map};
+ghost use Rattle.std.specs.Prelude.{◌≡◌, ◌+◌, ◌*◌, ◌≤◌, ◌||◌, [], ◌∷◌, ◌++◌, length, is_err};
+ghost use Rattle.std.specs.Prelude.{unsigned_abs, All};
 ghost use Rattle.std.specs.Fmt.{signed_decimal};
 ghost use Rattle.arrayvec.specs.ArrayString.{array_string_len};
 ghost use Rattle.kd_tables.specs.Writing.{Writes};
 ghost use Rattle.kd_state.specs.Line.{list_text, IsInRange};
 ghost use Rattle.kd_state.specs.SheetDay.{IsDayNumber};
-ghost use Rattle.kd_card.specs.Prices.{price_sum, AreWithinReach, ArePrices};
-ghost use Rattle.kd_card.specs.CardText.{card_text, head_words, settings_words, price_words, sum_words, lines_text, price_lines, IsCard};
+ghost use Rattle.kd_card.specs.Prices.{AreWithinReach};
+ghost use Rattle.kd_card.specs.CardText.{card_text, head_words, settings_words, price_words};
+ghost use Rattle.kd_card.specs.CardText.{sum_words, lines_text, price_lines, IsCard};
 ghost use Rattle.kd_card.specs.CardFault.{with_line};
 
 use super::card::Card;

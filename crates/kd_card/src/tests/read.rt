@@ -1,10 +1,6 @@
-use super::samples::{
-    ALIKE_BARS, BAR_KINDS, EMPTY_KINDS, HALF_CABLES, NO_SETTINGS, ONE_LUG, TWO_CABLE_KINDS,
-    TWO_CABLES,
-};
-use crate::{CardFault, read_card, write_card};
+use super::samples::{BAR_KINDS, ONE_LUG, TWO_CABLE_KINDS, TWO_CABLES};
+use crate::{CardFault, read_card};
 use arrayvec::ArrayString;
-use kd_tables::MemorySink;
 use std::process::Abort;
 
 /// The text with other words in place of the first such ones.
@@ -33,29 +29,6 @@ fn is_refused(rt: &impl Abort, card: &str, old: &str, words: &[&str], due: CardF
     for new in words {
         let fault = read_card(changed(card, old, new).as_str().as_bytes()).err();
         assert!(rt; fault == Some(due), "{new}");
-    }
-}
-
-/// Cards, and their days.
-static CARDS: [(&str, u8); 8] = [
-    (TWO_CABLES, 8),
-    (ONE_LUG, 9),
-    (NO_SETTINGS, 11),
-    (TWO_CABLE_KINDS, 8),
-    (BAR_KINDS, 9),
-    (EMPTY_KINDS, 11),
-    (ALIKE_BARS, 13),
-    (HALF_CABLES, 31),
-];
-
-#[test]
-fn cards_are_read(rt: HostRuntime) {
-    for (text, due) in &CARDS {
-        let mut sink = MemorySink::<512>::new(512);
-        if let Ok((day, card)) = read_card(text.as_bytes()) {
-            assert!(rt; day == *due && write_card(&mut sink, day, &card).is_ok());
-        }
-        assert_eq!(rt; sink.taken(), text.as_bytes());
     }
 }
 
@@ -294,25 +267,4 @@ fn the_sum_of_the_prices_is_added_up(rt: HostRuntime) {
     is_refused(&rt, TWO_CABLES, "SUM 4", &OTHER_SUMS, CardFault::CountWrong);
     is_refused(&rt, TWO_CABLES, "SUM 4", &NO_SUMS, CardFault::BadLine(9));
     is_refused(&rt, TWO_CABLES, "SUM 4\n", &TRAILING, CardFault::Trailing);
-}
-
-/// What the card in which two cables change places is refused for when it is cut here.
-fn cut_fault(front: &[u8]) -> CardFault {
-    let lines = front.iter().filter(|byte| **byte == b'\n').count();
-    let is_whole = front.ends_with(b"\n");
-    match lines {
-        0 => CardFault::BadHead,
-        6 | 7 if is_whole => CardFault::PriceMissing,
-        1..=8 => CardFault::BadLine(lines + 1),
-        _ => CardFault::Trailing,
-    }
-}
-
-#[test]
-fn a_card_that_is_cut_is_refused(rt: HostRuntime) {
-    let text = TWO_CABLES.as_bytes();
-    for end in 0..text.len() {
-        let front = &text[..end];
-        assert!(rt; read_card(front).err() == Some(cut_fault(front)));
-    }
 }

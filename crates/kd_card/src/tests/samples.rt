@@ -91,6 +91,31 @@ PAIR YZ 1 -12
 SUM -12
 ";
 
+/// The highest price of a bar, and the lowest of a row: their sum is 0.
+pub(super) const HIGHEST: &str = "CARD 1 DAY 9
+LUG 1 R 6
+SETTINGS 1
+BARS 9999 0 0 0 0 0 0 0 0 0 0 0 0 0 0 0 0 0 0 0 0 0 0 0 0 0 0
+ROWS -9999 0 0 0 0 0 0 0 0 0 0 0 0 0 0 0 0 0 0 0 0 0 0 0 0 0 0
+SUM 0
+";
+
+/// A card's text, its day, and the numbers of the lines with the number of settings and with the sum.
+pub(super) type Sample = (&'static str, u8, (usize, usize));
+
+/// Cards of both versions, of cables and of bars.
+pub(super) static CARDS: [Sample; 9] = [
+    (TWO_CABLES, 8, (6, 9)),
+    (ONE_LUG, 9, (3, 6)),
+    (NO_SETTINGS, 11, (2, 5)),
+    (HIGHEST, 9, (3, 6)),
+    (TWO_CABLE_KINDS, 8, (6, 13)),
+    (BAR_KINDS, 9, (3, 10)),
+    (EMPTY_KINDS, 11, (2, 5)),
+    (ALIKE_BARS, 13, (2, 5)),
+    (HALF_CABLES, 31, (2, 12)),
+];
+
 /// Prices that are these in front, and then 0.
 fn padded<const N: usize>(front: &[i16]) -> [i16; N] {
     let mut prices = [0; N];

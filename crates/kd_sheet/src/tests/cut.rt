@@ -1,6 +1,7 @@
-//! Files that are cut at each place.
+//! Files that are cut at each place, and files with a byte there that stands in no text.
 use super::samples::M1_WRITTEN;
-use crate::{read_machine, read_sheet};
+use crate::{SheetFault, read_machine, read_sheet};
+use arrayvec::ArrayVec;
 use std::alloc::Global;
 use std::process::Abort;
 
@@ -44,5 +45,39 @@ fn is_read_whole(rt: &impl Abort, alloc: Global, sheet: &[u8]) {
 fn a_sheet_is_read_where_it_is_whole(rt: HostRuntime) {
     for sheet in &SHEETS {
         is_read_whole(&rt, rt.alloc(), sheet.as_bytes());
+    }
+}
+
+/// The text with a byte FF at that place, behind the last one too.
+fn with_other_byte(text: &[u8], place: usize) -> ArrayVec<u8, 1024> {
+    let mut other = ArrayVec::new();
+    let behind = text.get(place..).unwrap_or(&[]).get(1..).unwrap_or(&[]);
+    for part in [text.get(..place).unwrap_or(&[]), b"\xff", behind] {
+        let _room = other.try_extend_from_slice(part);
+    }
+    other
+}
+
+#[test]
+fn a_machine_file_is_text(rt: HostRuntime) {
+    for place in 0..=M1_WRITTEN.len() {
+        let file = with_other_byte(M1_WRITTEN.as_bytes(), place);
+        let fault = read_machine(rt.alloc(), file.as_slice()).err();
+        assert_eq!(rt; fault, Some(SheetFault::NotToml), "{place}");
+    }
+}
+
+/// No sheet with a byte FF in it is read.
+fn is_text(rt: &impl Abort, alloc: Global, sheet: &[u8]) {
+    for place in 0..=sheet.len() {
+        let fault = read_sheet(alloc, with_other_byte(sheet, place).as_slice()).err();
+        assert_eq!(rt; fault, Some(SheetFault::NotToml), "{place}");
+    }
+}
+
+#[test]
+fn a_sheet_is_text(rt: HostRuntime) {
+    for sheet in &SHEETS {
+        is_text(&rt, rt.alloc(), sheet.as_bytes());
     }
 }

@@ -1,9 +1,10 @@
 //! Files that are read, and machines that are written.
 use super::samples::{M1, M1_WRITTEN, M4, M209, SHEET, TEN_CABLES, TEN_CABLES_WRITTEN};
-use crate::{read_machine, read_sheet, write_machine};
+use crate::{SheetFault, read_machine, read_sheet, write_machine};
 use kd_state::SheetDay;
 use kd_tables::{Device, Letter, MemorySink, Model, Reflector, Wheel};
 use std::alloc::Global;
+use std::process::Abort;
 use std::test::Fail;
 
 /// Each file beside the file that is written for its machine.
@@ -69,14 +70,21 @@ fn writes_other_machines_back(rt: HostRuntime) -> Result<(), Fail> {
     Ok(())
 }
 
-#[test]
-fn tells_that_the_sink_failed(rt: HostRuntime) -> Result<(), Fail> {
-    let machine = read_machine(rt.alloc(), M1.as_bytes())?;
-    let text = M1_WRITTEN.as_bytes();
-    for (room, _) in text.iter().enumerate() {
-        let mut sink = MemorySink::<1024>::new(room);
+/// A sink with less room than the machine's file has taken a front of it that fills the room.
+fn fronts_are_taken(rt: &impl Abort, alloc: Global, file: &[u8]) -> Result<(), SheetFault> {
+    let machine = read_machine(alloc, file)?;
+    for (room, _) in file.iter().enumerate() {
+        let mut sink = MemorySink::<1024>::new(room.min(1024));
         assert_eq!(rt; write_machine(&mut sink, &machine), Err(Device));
-        assert_eq!(rt; sink.taken(), &text[..room]);
+        assert_eq!(rt; sink.taken(), &file[..room]);
+    }
+    Ok(())
+}
+
+#[test]
+fn tells_that_the_sink_failed(rt: HostRuntime) -> Result<(), SheetFault> {
+    for (_, written) in &WRITTEN {
+        fronts_are_taken(&rt, rt.alloc(), written.as_bytes())?;
     }
     Ok(())
 }
@@ -153,11 +161,19 @@ fn reads_a_day_of_the_converter(rt: HostRuntime) -> Result<(), Fail> {
     Ok(())
 }
 
+/// Sheets without days. What no key speaks of is passed over.
+static WITHOUT_DAYS: [&str; 2] = [
+    "day = []\n",
+    "day = []\nx = [[[[[[[[[[[[[[[[[[[[[[[[[[[[[[[[[[[[[[[[[[[[[[[[[[[[[[[[[[[[[[[[]]]]]]]]]]]]]]]]]]]]]]]]]]]]]]]]]]]]]]]]]]]]]]]]]]]]]]]]]]]]]]]]\n",
+];
+
 #[test]
 fn reads_a_sheet_without_days(rt: HostRuntime) -> Result<(), Fail> {
-    let sheet = read_sheet(rt.alloc(), b"day = []\n")?;
-    for number in 0..=255 {
-        assert!(rt; sheet.day(number).is_none());
+    for text in &WITHOUT_DAYS {
+        let sheet = read_sheet(rt.alloc(), text.as_bytes())?;
+        for number in 0..=255 {
+            assert!(rt; sheet.day(number).is_none());
+        }
     }
     Ok(())
 }

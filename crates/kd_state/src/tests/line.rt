@@ -3,89 +3,52 @@ use crate::Setting;
 use kd_tables::{Lug, Place, Reflector, Wheel};
 use std::process::Abort;
 
-/// Each form of setting beside its line.
-fn written(rt: &impl Abort) -> [(Setting, &'static str); 10] {
-    let [a, c, p] = letters(rt, b"ACP");
+/// Settings of machines with rotors, beside their lines.
+fn of_rotors(rt: &impl Abort) -> [(Setting, &'static str); 6] {
+    let [a, c] = letters(rt, b"AC");
+    let (cable, wheel, reflector) = (3, Wheel::IV, Reflector::B);
     [
-        (
-            Setting::Seat {
-                slot: 1,
-                wheel: Wheel::IV,
-            },
-            "SEAT 1 IV",
-        ),
-        (
-            Setting::SeatReflector {
-                reflector: Reflector::B,
-            },
-            "REFLECTOR B",
-        ),
-        (
-            Setting::RingTo {
-                wheel: Wheel::IV,
-                letter: c,
-            },
-            "RING IV C",
-        ),
+        (Setting::Seat { slot: 1, wheel }, "SEAT 1 IV"),
+        (Setting::SeatReflector { reflector }, "REFLECTOR B"),
+        (Setting::RingTo { wheel, letter: c }, "RING IV C"),
         (Setting::Turn { slot: 1, letter: a }, "TURN 1 A"),
-        (
-            Setting::Pull {
-                cable: 3,
-                letter: a,
-            },
-            "PULL 3 A",
-        ),
-        (
-            Setting::Put {
-                cable: 3,
-                letter: c,
-            },
-            "PUT 3 C",
-        ),
-        (
-            Setting::PinTo {
-                wheel: 1,
-                letter: p,
-                effective: true,
-            },
-            "PIN 1 P ON",
-        ),
-        (
-            Setting::PinTo {
-                wheel: 1,
-                letter: p,
-                effective: false,
-            },
-            "PIN 1 P OFF",
-        ),
-        (
-            Setting::LugTo {
-                bar: 3,
-                lug: Lug::Left,
-                place: Place::ZeroRight,
-            },
-            "LUG 3 L 0R",
-        ),
-        (
-            Setting::LugTo {
-                bar: 3,
-                lug: Lug::Right,
-                place: Place::Six,
-            },
-            "LUG 3 R 6",
-        ),
+        (Setting::Pull { cable, letter: a }, "PULL 3 A"),
+        (Setting::Put { cable, letter: c }, "PUT 3 C"),
     ]
+}
+
+/// Settings of a Converter, beside their lines.
+fn of_the_converter(rt: &impl Abort) -> [(Setting, &'static str); 4] {
+    let [letter] = letters(rt, b"P");
+    let pin = |effective| Setting::PinTo {
+        wheel: 1,
+        letter,
+        effective,
+    };
+    let lug = |lug, place| Setting::LugTo { bar: 3, lug, place };
+    [
+        (pin(true), "PIN 1 P ON"),
+        (pin(false), "PIN 1 P OFF"),
+        (lug(Lug::Left, Place::ZeroRight), "LUG 3 L 0R"),
+        (lug(Lug::Right, Place::Six), "LUG 3 R 6"),
+    ]
+}
+
+/// Each of the settings has its line, and the line is that setting's.
+fn have_lines(rt: &impl Abort, cases: &[(Setting, &str)]) {
+    for (setting, line) in cases {
+        assert_eq!(rt; setting.line().as_str(), *line);
+        assert!(rt;
+            Setting::from_line(line.as_bytes()) == Some(*setting),
+            "{line}"
+        );
+    }
 }
 
 #[test]
 fn settings_and_their_lines(rt: HostRuntime) {
-    for (setting, line) in written(&rt) {
-        assert_eq!(rt; setting.line().as_str(), line);
-        assert!(rt;
-            Setting::from_line(line.as_bytes()) == Some(setting),
-            "{line}"
-        );
-    }
+    have_lines(&rt, &of_rotors(&rt));
+    have_lines(&rt, &of_the_converter(&rt));
 }
 
 /// Lines of no setting.

@@ -1,6 +1,6 @@
 use Rattle.std.proofs.Common.{◌∙◌, ◌≡◌, ap, refl, w16, to_z, of_z}
 use Rattle.std.specs.Fmt.{signed_decimal}
-use Rattle.std.proofs.lemmas.Int.{to_z-of_z, fits_signed_from_abs}
+use Rattle.std.proofs.lemmas.Int.{to_z-of_z}
 use Rattle.kd_card.specs.Kinds.{name_text}
 use Rattle.kd_card.proofs.KindReading.{written_kind}
 use Rattle.kd_card.proofs.PriceTexts.{fits}

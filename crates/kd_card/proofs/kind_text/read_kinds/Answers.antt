@@ -1,5 +1,5 @@
-use Rattle.std.proofs.Common.{◌∙◌, ◌<◌, [], length, ap, refl, sym, arith}
-use Rattle.kd_card.proofs.KindLists.{some_told, none_told, reads_on, shorter, walk_bounds, all_kept, bad_kind, bad_count}
+use Rattle.std.proofs.Common.{◌<◌, [], length, ap, refl, arith}
+use Rattle.kd_card.proofs.KindLists.{some_told, none_told, reads_on, walk_bounds, all_kept, bad_kind, bad_count}
 use Rattle.kd_card.proofs.kind_text.read_kinds.Goals as goal
 
 pub kind-init : goal.kind-init

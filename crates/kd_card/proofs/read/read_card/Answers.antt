@@ -1,4 +1,4 @@
-use Rattle.std.proofs.Common.{rules, ◌+◌, ◌∙◌, eqb, length, sym, ap, refl, FitsSigned, w32, arith}
+use Rattle.std.proofs.Common.{rules, ◌∙◌, eqb, length, sym, ap, refl, FitsSigned, w32, arith}
 use Rattle.std.proofs.lemmas.Bool.{false≢true}
 use Rattle.std.proofs.lemmas.Int.{to_z-of_z}
 use Rattle.std.proofs.lemmas.Result.{err_from_is_err_and}

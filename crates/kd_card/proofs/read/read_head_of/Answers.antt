@@ -1,7 +1,7 @@
-use Rattle.std.proofs.Common.{rules, ◌≡◌, ◌∙◌, ◌++◌, ◌∷◌, ℕ, List, ap, sym, refl, append_assoc, decimal, arith}
+use Rattle.std.proofs.Common.{rules, ◌≡◌, ◌∙◌, ◌++◌, ◌∷◌, ℕ, List, ap, sym, append_assoc, decimal, arith}
 use Rattle.std.proofs.lemmas.Fmt.{decimal_injective}
 use Rattle.kd_state.specs.Words.{line_of}
-use Rattle.kd_card.specs.CardText.{version_text, head_words}
+use Rattle.kd_card.specs.CardText.{head_words}
 use Rattle.kd_card.specs.declared.prices.Version.{Version}
 use Rattle.kd_card.specs.CardFault.{with_line}
 use Rattle.kd_card.proofs.Lines.{same_behind}

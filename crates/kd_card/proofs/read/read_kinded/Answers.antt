@@ -1,6 +1,6 @@
-use Rattle.std.proofs.Common.{◌∙◌, ◌+◌, ap, sym, refl, subst, arith}
+use Rattle.std.proofs.Common.{◌+◌, ap, sym, refl, subst, arith}
 use Rattle.std.proofs.lemmas.Result.{err_from_is_err_and}
-use Rattle.kd_card.specs.CardText.{price_count, IsGroup}
+use Rattle.kd_card.specs.CardText.{IsGroup}
 use Rattle.kd_card.specs.Reading.{InGroup, InRowKinds, InColumnKinds}
 use Rattle.kd_card.proofs.KindPrices.{few_kinds}
 use Rattle.kd_card.proofs.KindParts.{all_groups, begins_as, kinds_as, fault_as, group_as, few_prices_of}

@@ -3,7 +3,6 @@ use Rattle.std.proofs.lemmas.Bool.{false≢true}
 use Rattle.std.proofs.lemmas.Result.{err_from_is_err_and}
 use Rattle.kd_card.specs.declared.group.Group.TheVariants.{OfCables, OfBars}
 use Rattle.kd_card.specs.Reading.{InRows, InColumns}
-use Rattle.kd_card.proofs.Cards.{all_bars, all_cables}
 use Rattle.kd_card.proofs.PriceLines.{rows_fault}
 use Rattle.kd_card.proofs.read.read_numbered.Goals as goal
 

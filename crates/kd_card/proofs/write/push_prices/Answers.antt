@@ -1,4 +1,4 @@
-use Rattle.std.proofs.Common.{rules, ◌≡◌, ◌∙◌, inl, inr, All, ap, sym, subst, arith}
+use Rattle.std.proofs.Common.{rules, ◌≡◌, ◌∙◌, inl, inr, All, ap, sym, subst}
 use Rattle.kd_card.specs.declared.prices.Version.TheVariants.{ByKind}
 use Rattle.kd_card.specs.Kinds.{IsPricedKind}
 use Rattle.kd_card.specs.Prices.{version_of, row_kinds, column_kinds, ArePrices}

@@ -1,7 +1,6 @@
-use Rattle.std.proofs.Common.{rules, ◌≡◌, ◌∙◌, ◌*◌, ◌≤◌, ap, sym, subst, unsigned_abs, FitsSigned, w32, arith}
+use Rattle.std.proofs.Common.{rules, ◌∙◌, ◌≤◌, ap, sym, subst, FitsSigned, w32, arith}
 use Rattle.std.proofs.lemmas.Int.{to_z-of_z}
 use Rattle.kd_card.specs.Kinds.{counted, AreKinds}
-use Rattle.kd_card.specs.Prices.{row_kinds, column_kinds, how_many}
 use Rattle.kd_card.proofs.CardWords.{few_prices}
 use Rattle.kd_card.proofs.KindPrices.{row_count, column_count}
 use Rattle.kd_card.proofs.KindParts.{sum_is}

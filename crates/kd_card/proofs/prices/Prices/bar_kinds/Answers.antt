@@ -1,4 +1,4 @@
-use Rattle.std.proofs.Common.{◌≡◌, ◌≤◌, length, map, refl, arith}
+use Rattle.std.proofs.Common.{map, refl, arith}
 use Rattle.std.proofs.lemmas.List.{length-map}
 use Rattle.kd_card.specs.declared.prices.PriceParts.TheVariants.{BarKinds}
 use Rattle.kd_card.specs.Kinds.{bar_kind, row_kind}

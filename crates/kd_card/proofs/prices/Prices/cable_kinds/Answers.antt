@@ -1,4 +1,4 @@
-use Rattle.std.proofs.Common.{◌≡◌, ◌≤◌, length, map, refl, arith}
+use Rattle.std.proofs.Common.{map, refl, arith}
 use Rattle.std.proofs.lemmas.List.{length-map}
 use Rattle.kd_card.specs.declared.prices.PriceParts.TheVariants.{CableKinds}
 use Rattle.kd_card.specs.Kinds.{cable_kind, pair_kind}

@@ -1,4 +1,4 @@
-use Rattle.std.proofs.Common.{◌≡◌, ◌∙◌, ◌≤◌, length, ap, sym, subst, arith}
+use Rattle.std.proofs.Common.{◌∙◌, ◌≤◌, length, sym, subst, arith}
 use Rattle.kd_card.specs.CardText.{row_name, column_name, price_count, IsGroup, HaveKinds}
 use Rattle.kd_card.specs.Prices.{ArePrices}
 use Rattle.kd_card.proofs.KindPrices.{few_kinds}
