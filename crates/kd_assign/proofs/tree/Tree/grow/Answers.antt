@@ -57,50 +57,26 @@ nearest_column-column-requires g c =
 pub raise_rows-requires : goal.raise_rows-requires
 raise_rows-requires g c =
     let nearest = leaving g (goal.at.raise_rows-requires g c).After-nearest_column-column in
-    let fits = to_z-of_z w16 (slack_at c.args.nearest.now.slack c.nearest_column-column.result) (search rules) in (
-      search rules,
-      (
-        search rules,
-        (
-          search rules,
-          (
-            c.requires.growing.sound.small.row_low,
-            (
-              λ i h. raised_at_most c.requires.costs c.requires.growing nearest fits i,
-              (by_low c.requires.costs c.requires.growing nearest fits, search rules),
-            ),
-          ),
-        ),
-      ),
-    )
+    let fits = to_z-of_z w16 (slack_at c.args.nearest.now.slack c.nearest_column-column.result) (search rules) in
+    let low = by_low c.requires.costs c.requires.growing nearest fits in
+    let small = c.requires.growing.sound.small.row_low in
+    let high = raised_at_most c.requires.costs c.requires.growing nearest fits in
+    (search rules, (search rules, (search rules, (small, (λ i h. high i, (low, search rules))))))
 
 pub lower_columns-requires : goal.lower_columns-requires
 lower_columns-requires g c =
     let nearest = leaving g (goal.at.lower_columns-requires g c).After-nearest_column-column in
-    let fits = to_z-of_z w16 (slack_at c.args.nearest.now.slack c.nearest_column-column.result) (search rules) in (
-      search rules,
-      (
-        search rules,
-        (
-          λ j h. lowered_at_least c.requires.costs c.requires.growing nearest fits j,
-          (c.requires.growing.sound.small.col_high, by_low c.requires.costs c.requires.growing nearest fits),
-        ),
-      ),
-    )
+    let fits = to_z-of_z w16 (slack_at c.args.nearest.now.slack c.nearest_column-column.result) (search rules) in
+    let low = by_low c.requires.costs c.requires.growing nearest fits in
+    let deep = lowered_at_least c.requires.costs c.requires.growing nearest fits in
+    (search rules, (search rules, (λ j h. deep j, (c.requires.growing.sound.small.col_high, low))))
 
 pub lower_slacks-requires : goal.lower_slacks-requires
 lower_slacks-requires g c =
     let nearest = leaving g (goal.at.lower_slacks-requires g c).After-nearest_column-column in
-    let fits = to_z-of_z w16 (slack_at c.args.nearest.now.slack c.nearest_column-column.result) (search rules) in (
-      search rules,
-      (
-        search rules,
-        (
-          λ j h outside. rw fits (c.nearest_column-column.ensures.least j (omega arith) outside),
-          by_low c.requires.costs c.requires.growing nearest fits,
-        ),
-      ),
-    )
+    let fits = to_z-of_z w16 (slack_at c.args.nearest.now.slack c.nearest_column-column.result) (search rules) in
+    let low = by_low c.requires.costs c.requires.growing nearest fits in
+    (search rules, (search rules, (λ j h outside. rw fits (c.nearest_column-column.ensures.least j (omega arith) outside), low)))
 
 pub join-requires : goal.join-requires
 join-requires g c =
