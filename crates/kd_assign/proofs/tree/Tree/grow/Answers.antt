@@ -59,9 +59,10 @@ raise_rows-requires g c =
     let nearest = leaving g (goal.at.raise_rows-requires g c).After-nearest_column-column in
     let fits = to_z-of_z w16 (slack_at c.args.nearest.now.slack c.nearest_column-column.result) (search rules) in
     let low = by_low c.requires.costs c.requires.growing nearest fits in
+    let rows = c.requires.growing.partial.in_range in
     let small = c.requires.growing.sound.small.row_low in
     let high = raised_at_most c.requires.costs c.requires.growing nearest fits in
-    (search rules, (search rules, (search rules, (small, (λ i h. high i, (low, search rules))))))
+    (search rules, (search rules, (search rules, (small, (λ i h. high i, (low, λ i j h. omega (arith, rows i j h)))))))
 
 pub lower_columns-requires : goal.lower_columns-requires
 lower_columns-requires g c =
