@@ -1,6 +1,7 @@
 -- Prices that move with a tree, and a tree that gains an edge.
-use Rattle.std.proofs.Common.{◌≡◌, ◌≢◌, ℕ, suc, ◌<◌, ◌≤◌, List, [], length, get_or, set, true, false, cond, eqb, Option, Some, None, ◌⊎◌, inl, inr, ℤ, pos, neg_ℤ, ◌+ℤ◌, ◌-ℤ◌, ◌≤ℤ◌, refl, ap, sym, ◌∙◌, subst, arith}
-use Rattle.std.proofs.lemmas.Bool.{cases_eq, cases_lt, cases_Bool, eqb-true, eq-eqb, ne_eqb, false≢true, cond-true, cond-false, or_cases, or_right}
+use Rattle.std.proofs.Common.{◌≡◌, ◌≢◌, ℕ, suc, ◌<◌, ◌≤◌, List, [], length, get_or, set, Bool, true, false, cond, eqb, Option, Some, None, ◌⊎◌, inl, inr, ℤ, pos, neg_ℤ, ◌+ℤ◌, ◌-ℤ◌, ◌≤ℤ◌, refl, ap, sym, ◌∙◌, arith}
+use Rattle.std.proofs.lemmas.Bool.Decides.{nat_tests}
+use Rattle.std.proofs.lemmas.Bool.{false_from_ne_true, cases_eq, cases_lt, eqb-true, eq-eqb, ne_eqb, false≢true, cond-true, cond-false, or_cases, or_right}
 use Rattle.std.proofs.lemmas.Int.{ints}
 use Rattle.std.proofs.lemmas.List.{get_or_past, get_or-set_same, get_or-set_other, length-set}
 use Rattle.std.proofs.lemmas.Option.{same_Some}
@@ -47,21 +48,15 @@ LeadsToRoot-set to reached root from end top h outside paths first = record {
   leads_on = λ i j edge. elim (written reached end (Some from) j i h edge) [
     | inl here ↦ elim first [
       | inl same ↦ inl (sym (same_Some from i here.1) ∙ same)
-      | inr on ↦ inr (on.0, rw (same_Some from i here.1) at on.1, reached_still reached end from outside on.0 on.2, omega (arith, on.3, order_stays on.0 (is_other on.0 on.2), order_last j here.0))
+      | inr on ↦ inr (on.0, rw (same_Some from i here.1) at on.1, reached_still reached end from outside on.0 on.2, (let other = is_other on.0 on.2 in grind (arith, nat_tests, on.3, here.0)))
     ]
     | inr there ↦ elim (paths.leads_on i j there.1) [
       | inl same ↦ inl same
-      | inr on ↦ inr (on.0, on.1, reached_still reached end from outside on.0 on.2, omega (arith, on.3, order_stays on.0 (is_other on.0 on.2), order_stays j there.0))
+      | inr on ↦ inr (on.0, on.1, reached_still reached end from outside on.0 on.2, (let other = is_other on.0 on.2 in grind (arith, nat_tests, on.3, there.0)))
     ]
   ];
 }
   where
-    order_last : (j : ℕ) → j ≡ end → order_with paths.order end top j ≡ top
-    order_last j same = rw (eq-eqb j end same) refl
-
-    order_stays : (j : ℕ) → j ≢ end → order_with paths.order end top j ≡ paths.order j
-    order_stays j other = rw (ne_eqb j end other) refl
-
     is_other : (j : ℕ) → has_column reached j ≡ true → j ≢ end
     is_other j reaches same = false≢true (sym outside ∙ rw same at reaches)
 
@@ -90,23 +85,34 @@ pub AreMoved-none : (to : List (Option ℕ)) (root : ℕ) (reached : List (Optio
 AreMoved-none to root reached by row col slacks rows columns none = record {
   rows = rows;
   columns = columns;
-  raised = λ i h. elim (cases_Bool (has_row to root reached i)) [
-    | inl has ↦ rw (cond-true _ _ _ has) (omega (arith, ints))
-    | inr misses ↦ rw (cond-false _ _ _ misses) refl
-  ];
-  lowered = λ j h. elim (cases_Bool (has_column reached j)) [
-    | inl has ↦ rw (cond-true _ _ _ has) (omega (arith, ints))
-    | inr misses ↦ rw (cond-false _ _ _ misses) refl
-  ];
+  raised = λ i h. grind (arith, ints);
+  lowered = λ j h. grind (arith, ints);
   fallen = λ j h misses. omega (arith, ints);
 }
 
-module _ (cost : List (List ℕ)) (row col : List ℤ) (to : List (Option ℕ)) (root : ℕ) (reached : List (Option ℕ))
-    (costs : CostsAtMost 4 cost) (growing : IsGrowing cost row col to root reached) where
-  -- the tree has its root
-  pub has_root : has_row to root reached root ≡ true
-  has_root = rw (eq-eqb root root refl) refl
+-- what holds of a row's price and a column's, as they move
+module _ (r c by k : ℤ) where
+  moves_tight : (p q : Bool) → p ≡ q → (r +ℤ c) ≡ k → (cond p (r +ℤ by) r +ℤ cond q (c -ℤ by) c) ≡ k
+  moves_tight true true same tight = omega (arith, ints)
+  moves_tight false false same tight = tight
+  moves_tight true false same tight = absurd (false≢true (sym same))
+  moves_tight false true same tight = absurd (false≢true same)
 
+  moves_fit : (p q : Bool) → pos 0 ≤ℤ by → (r +ℤ c) ≤ℤ k → (p ≡ true → q ≡ false → by ≤ℤ ((k -ℤ r) -ℤ c))
+      → (cond p (r +ℤ by) r +ℤ cond q (c -ℤ by) c) ≤ℤ k
+  moves_fit true true low fits least = omega (arith, ints)
+  moves_fit true false low fits least = omega (arith, ints, least refl refl)
+  moves_fit false q low fits least = grind (arith, ints)
+
+module _ (p : Bool) (x by x' : ℤ) (low : pos 0 ≤ℤ by) where
+  rises_little : x' ≡ cond p (x +ℤ by) x → pos 0 ≤ℤ x → x ≤ℤ pos 4 → (p ≡ true → (x +ℤ by) ≤ℤ pos 4) → (pos 0 ≤ℤ x') × (x' ≤ℤ pos 4)
+  rises_little is at_least at_most high = (grind (arith, ints), grind (arith, ints))
+
+  falls_little : x' ≡ cond p (x -ℤ by) x → neg_ℤ (pos 4) ≤ℤ x → x ≤ℤ pos 0 → (p ≡ true → neg_ℤ (pos 4) ≤ℤ (x -ℤ by)) → (neg_ℤ (pos 4) ≤ℤ x') × (x' ≤ℤ pos 0)
+  falls_little is at_least at_most deep = (grind (arith, ints), grind (arith, ints))
+
+module _ {cost : List (List ℕ)} {row col : List ℤ} {to : List (Option ℕ)} {root : ℕ} {reached : List (Option ℕ)}
+    (costs : CostsAtMost 4 cost) (growing : IsGrowing cost row col to root reached) where
   -- the tree has a row just where it has the row's column
   has_row_at : (i j : ℕ) → Has to i j → has_row to root reached i ≡ has_column reached j
   has_row_at i j h = elim (cases_eq i root) [
@@ -116,36 +122,32 @@ module _ (cost : List (List ℕ)) (row col : List ℤ) (to : List (Option ℕ)) 
 
   -- a free column is outside of the tree
   pub not_reached : (j : ℕ) → (IsTaken to j → ⊥) → has_column reached j ≡ false
-  not_reached j free = elim (cases_Bool (has_column reached j)) [ inl reaches ↦ absurd (free (growing.taken j reaches)) | inr misses ↦ misses ]
+  not_reached j free = false_from_ne_true (has_column reached j) (λ reaches. free (growing.taken j reaches))
 
   -- both ends of an edge of the tree are in the tree
   has_ends : (i j : ℕ) → Has reached j i → (has_row to root reached i ≡ true) × (has_column reached j ≡ true)
-  has_ends i j h = (elim (growing.tree.paths.leads_on i j h) [ inl same ↦ rw same has_root | inr on ↦ has_row_at i on.0 on.1 ∙ on.2 ], rw h refl)
+  has_ends i j h = (elim (growing.tree.paths.leads_on i j h) [ inl same ↦ rw (eq-eqb i root same) refl | inr on ↦ has_row_at i on.0 on.1 ∙ on.2 ], rw h refl)
 
   -- a row of the tree is the root, or has a column of the tree
-  row_of_tree : (i : ℕ) → has_row to root reached i ≡ true →
-      (i ≡ root) ⊎ ((j : ℕ) × Has to i j × (has_column reached j ≡ true))
+  row_of_tree : (i : ℕ) → has_row to root reached i ≡ true → (i ≡ root) ⊎ ((j : ℕ) × Has to i j × (has_column reached j ≡ true))
   row_of_tree i h = elim (or_cases (eqb i root) (has_column_of reached (get_or to i None)) h) [
     | inl is_root ↦ inl (eqb-true i root is_root)
     | inr other ↦ inr (column_given reached (get_or to i None) other)
   ]
 
-  -- a row of the tree is a row of the table
+  -- its rows and columns are rows and columns of the table
   row_in_range : (i : ℕ) → has_row to root reached i ≡ true → i < length to
-  row_in_range i h =
-      let root_in_range = growing.root_in_range in
-      elim (row_of_tree i h) [ inl same ↦ omega arith | inr on ↦ (let in_list = within to i on.0 on.1 in omega arith) ]
+  row_in_range i h = grind (arith, row_of_tree i h, growing.root_in_range, within to i)
 
-  -- a column of the tree is a column of the table
   column_in_range : (j : ℕ) → has_column reached j ≡ true → j < length to
-  column_in_range j has = let holder = growing.taken j has in let in_list = growing.partial.in_range holder.0 j holder.1 in omega arith
+  column_in_range j has = let holder = growing.taken j has in growing.partial.in_range holder.0 j holder.1
 
   -- the nearest column, and the row that is nearest to it, are the ends of the nearest edge
-  pub is_nearest : (near : List ℕ) (slacks : List ℤ) → AreNearest cost row col to root reached near slacks →
+  pub is_nearest : {near : List ℕ} {slacks : List ℤ} → AreNearest cost row col to root reached near slacks →
       (end : ℕ) → end < length reached → has_column reached end ≡ false →
       ((j : ℕ) → j < length reached → has_column reached j ≡ false → slack_at slacks end ≤ℤ slack_at slacks j) →
       IsNearest cost row col to root reached (get_or near end 0) end (slack_at slacks end)
-  is_nearest near slacks kept end within outside least = record {
+  is_nearest kept end within outside least = record {
     inside = kept.inside end within outside;
     within = within;
     outside = outside;
@@ -154,24 +156,19 @@ module _ (cost : List (List ℕ)) (row col : List ℤ) (to : List (Option ℕ)) 
   }
 
   -- the prices move by the slack of the nearest edge
-  module _ (from end : ℕ) (slack by : ℤ) (nearest : IsNearest cost row col to root reached from end slack) (by_is : by ≡ slack) where
-    -- the nearest edge, and by how much the prices move
-    leaving : IsNearest cost row col to root reached from end by
-    leaving = subst (IsNearest cost row col to root reached from end) (sym by_is) nearest
-
-    end_in_range : end < length to
-    end_in_range = rw (← growing.tree.places) leaving.within
-
+  module _ {from end : ℕ} {slack by : ℤ} (nearest : IsNearest cost row col to root reached from end slack) (by_is : by ≡ slack) where
     -- the prices fit, so no slack is negative
     pub by_low : pos 0 ≤ℤ by
-    by_low = omega (arith, ints, growing.sound.fits from end (rw growing.sound.rows (row_in_range from leaving.inside)) (rw growing.sound.columns end_in_range), leaving.slack_is)
+    by_low =
+        let in_range : end < length to = rw (← growing.tree.places) nearest.within in
+        omega (arith, ints, growing.sound.fits from end (rw growing.sound.rows (row_in_range from nearest.inside)) (rw growing.sound.columns in_range), nearest.slack_is)
 
     -- the free column has the price 0, so that no row's price comes above the highest cost
     pub raised_at_most : (i : ℕ) → has_row to root reached i ≡ true → (price_at row i +ℤ by) ≤ℤ pos 4
     raised_at_most i has =
         let j = growing.free.0 in
         let free_in_range : j < length to = growing.free.1 in
-        omega (arith, ints, leaving.least i j (rw growing.tree.places free_in_range) has (not_reached j growing.free.2), growing.sound.free j growing.free.2, cost_at_most cost costs i j)
+        omega (arith, ints, nearest.least i j (rw growing.tree.places free_in_range) has (not_reached j growing.free.2), growing.sound.free j growing.free.2, cost_at_most cost costs i j)
 
     -- the row that has a column of the tree is raised as the column is lowered
     pub lowered_at_least : (j : ℕ) → has_column reached j ≡ true → neg_ℤ (pos 4) ≤ℤ (price_at col j -ℤ by)
@@ -180,72 +177,42 @@ module _ (cost : List (List ℕ)) (row col : List ℤ) (to : List (Option ℕ)) 
         let i = holder.0 in
         omega (arith, ints, growing.sound.tight i j holder.1, raised_at_most i (has_row_at i j holder.1 ∙ has))
 
-    module _ (slacks row' col' slacks' : List ℤ) (moved : AreMoved to root reached by row col slacks row' col' slacks') where
-      -- what is in the tree moves, and what is outside stays
-      row_moves : (i : ℕ) → has_row to root reached i ≡ true → price_at row' i ≡ price_at row i +ℤ by
-      row_moves i has = moved.raised i (row_in_range i has) ∙ cond-true _ _ _ has
-
-      row_stays : (i : ℕ) → has_row to root reached i ≡ false → price_at row' i ≡ price_at row i
-      row_stays i has = elim (cases_lt i (length to)) [
-        | inl lt ↦ moved.raised i lt ∙ cond-false _ _ _ has
-        | inr past ↦ get_or_past row' i (pos 0) (rw moved.rows past) ∙ sym (get_or_past row i (pos 0) (rw growing.sound.rows past))
+    module _ {slacks row' col' slacks' : List ℤ} (moved : AreMoved to root reached by row col slacks row' col' slacks') where
+      -- what is in the tree moves, and what is outside stays, also past the end
+      row_is : (i : ℕ) → price_at row' i ≡ cond (has_row to root reached i) (price_at row i +ℤ by) (price_at row i)
+      row_is i = elim (cases_lt i (length to)) [
+        | inl lt ↦ moved.raised i lt
+        | inr past ↦ rw (false_from_ne_true (has_row to root reached i) (λ has. let lt = row_in_range i has in absurd (omega arith)))
+            (get_or_past row' i (pos 0) (rw moved.rows past) ∙ sym (get_or_past row i (pos 0) (rw growing.sound.rows past)))
       ]
 
-      column_moves : (j : ℕ) → j < length to → has_column reached j ≡ true → price_at col' j ≡ price_at col j -ℤ by
-      column_moves j h has = moved.lowered j h ∙ cond-true _ _ _ has
-
-      column_stays : (j : ℕ) → has_column reached j ≡ false → price_at col' j ≡ price_at col j
-      column_stays j has = elim (cases_lt j (length to)) [
-        | inl lt ↦ moved.lowered j lt ∙ cond-false _ _ _ has
-        | inr past ↦ get_or_past col' j (pos 0) (rw moved.columns past) ∙ sym (get_or_past col j (pos 0) (rw growing.sound.columns past))
+      column_is : (j : ℕ) → price_at col' j ≡ cond (has_column reached j) (price_at col j -ℤ by) (price_at col j)
+      column_is j = elim (cases_lt j (length to)) [
+        | inl lt ↦ moved.lowered j lt
+        | inr past ↦ rw (false_from_ne_true (has_column reached j) (λ has. let lt = column_in_range j has in absurd (omega arith)))
+            (get_or_past col' j (pos 0) (rw moved.columns past) ∙ sym (get_or_past col j (pos 0) (rw growing.sound.columns past)))
       ]
 
       -- an edge stays tight where both of its ends move, or neither
-      tight_still : (i j : ℕ) → j < length to → has_row to root reached i ≡ has_column reached j →
-          IsTight cost row col i j → IsTight cost row' col' i j
-      tight_still i j h same tight = elim (cases_Bool (has_column reached j)) [
-        | inl reaches ↦ omega (arith, ints, row_moves i (same ∙ reaches), column_moves j h reaches)
-        | inr misses ↦ omega (arith, ints, row_stays i (same ∙ misses), column_stays j misses)
-      ]
+      tight_still : (i j : ℕ) → has_row to root reached i ≡ has_column reached j → IsTight cost row col i j → IsTight cost row' col' i j
+      tight_still i j same tight =
+          rw (row_is i, column_is j) (moves_tight (price_at row i) (price_at col j) by (pos (cost_at cost i j)) (has_row to root reached i) (has_column reached j) same tight)
 
       -- the least slack leaves room at every edge out of the tree
       fits_still : Fits cost row' col'
       fits_still i j h h' =
-          let in_rows : i < length to = rw (← moved.rows) h in
           let in_columns : j < length to = rw (← moved.columns) h' in
-          let fits = growing.sound.fits i j (rw growing.sound.rows in_rows) (rw growing.sound.columns in_columns) in
-          let low = by_low in
-          elim (cases_Bool (has_row to root reached i)) [
-            | inl inside' ↦ elim (cases_Bool (has_column reached j)) [
-              | inl reaches ↦ omega (arith, ints, row_moves i inside', column_moves j in_columns reaches)
-              | inr misses ↦ omega (arith, ints, row_moves i inside', column_stays j misses, leaving.least i j (rw growing.tree.places in_columns) inside' misses)
-            ]
-            | inr outside ↦ elim (cases_Bool (has_column reached j)) [
-              | inl reaches ↦ omega (arith, ints, row_stays i outside, column_moves j in_columns reaches)
-              | inr misses ↦ omega (arith, ints, row_stays i outside, column_stays j misses)
-            ]
-          ]
+          let fits = growing.sound.fits i j (rw (growing.sound.rows, ← moved.rows) h) (rw growing.sound.columns in_columns) in
+          let room : has_row to root reached i ≡ true → has_column reached j ≡ false → by ≤ℤ slack_of cost row col i j =
+          λ inside misses. rw by_is (nearest.least i j (rw growing.tree.places in_columns) inside misses) in
+          rw (row_is i, column_is j) (moves_fit (price_at row i) (price_at col j) by (pos (cost_at cost i j)) (has_row to root reached i) (has_column reached j) by_low fits room)
 
       -- the prices stay small
       row_small : (i : ℕ) → (pos 0 ≤ℤ price_at row' i) × (price_at row' i ≤ℤ pos 4)
-      row_small i =
-          let low = by_low in
-          let was_low = growing.sound.small.row_low i in
-          let was_high = growing.sound.small.row_high i in
-          elim (cases_Bool (has_row to root reached i)) [
-            | inl has ↦ (omega (arith, ints, row_moves i has), omega (arith, ints, row_moves i has, raised_at_most i has))
-            | inr misses ↦ (omega (arith, ints, row_stays i misses), omega (arith, ints, row_stays i misses))
-          ]
+      row_small i = rises_little (has_row to root reached i) (price_at row i) by (price_at row' i) by_low (row_is i) (growing.sound.small.row_low i) (growing.sound.small.row_high i) (raised_at_most i)
 
       column_small : (j : ℕ) → (neg_ℤ (pos 4) ≤ℤ price_at col' j) × (price_at col' j ≤ℤ pos 0)
-      column_small j =
-          let low = by_low in
-          let was_low = growing.sound.small.col_low j in
-          let was_high = growing.sound.small.col_high j in
-          elim (cases_Bool (has_column reached j)) [
-            | inl has ↦ (let moves = column_moves j (column_in_range j has) has in (omega (arith, ints, lowered_at_least j has), omega (arith, ints)))
-            | inr misses ↦ (omega (arith, ints, column_stays j misses), omega (arith, ints, column_stays j misses))
-          ]
+      column_small j = falls_little (has_column reached j) (price_at col j) by (price_at col' j) by_low (column_is j) (growing.sound.small.col_low j) (growing.sound.small.col_high j) (lowered_at_least j)
 
       -- so what held of the prices before the move holds after it
       pub sound_still : IsSound cost row' col' to
@@ -253,27 +220,21 @@ module _ (cost : List (List ℕ)) (row col : List ℤ) (to : List (Option ℕ)) 
         rows = moved.rows;
         columns = moved.columns;
         fits = fits_still;
-        tight = λ i j h. tight_still i j ((growing.partial.in_range i j h)) (has_row_at i j h) (growing.sound.tight i j h);
+        tight = λ i j h. tight_still i j (has_row_at i j h) (growing.sound.tight i j h);
         small = record {
           row_low = λ i. (row_small i).0;
           row_high = λ i. (row_small i).1;
           col_low = λ j. (column_small j).0;
           col_high = λ j. (column_small j).1;
         };
-        free = λ j free. column_stays j (not_reached j free) ∙ growing.sound.free j free;
+        free = λ j free. column_is j ∙ cond-false _ _ _ (not_reached j free) ∙ growing.sound.free j free;
       }
 
-      -- the nearest edge has become tight
-      end_is_tight : IsTight cost row' col' from end
-      end_is_tight = omega (arith, ints, row_moves from leaving.inside, column_stays end leaving.outside, leaving.slack_is)
-
-      -- and so is every edge of the tree
+      -- the nearest edge has become tight, and so is every edge of the tree
       edges_tight : (i j : ℕ) → Has (set reached end (Some from)) j i → IsTight cost row' col' i j
-      edges_tight i j edge = elim (written reached end (Some from) j i leaving.within edge) [
-        | inl here ↦ rw (here.0, ← same_Some from i here.1) end_is_tight
-        | inr there ↦
-            let ends = has_ends i j there.1 in
-            tight_still i j (column_in_range j ends.1) (ends.0 ∙ sym ends.1) (growing.tree.tight i j there.1)
+      edges_tight i j edge = elim (written reached end (Some from) j i nearest.within edge) [
+        | inl here ↦ rw (here.0, ← same_Some from i here.1) (omega (arith, ints, row_is from ∙ cond-true _ _ _ nearest.inside, column_is end ∙ cond-false _ _ _ nearest.outside, nearest.slack_is))
+        | inr there ↦ (let ends = has_ends i j there.1 in tight_still i j (ends.0 ∙ sym ends.1) (growing.tree.tight i j there.1))
       ]
 
       -- the tree with that edge is a tree
@@ -281,9 +242,9 @@ module _ (cost : List (List ℕ)) (row col : List ℤ) (to : List (Option ℕ)) 
       grown = record {
         places = length-set reached end (Some from) ∙ growing.tree.places;
         tight = edges_tight;
-        paths = elim (row_of_tree from leaving.inside) [
-          | inl same ↦ LeadsToRoot-set to reached root from end 0 leaving.within leaving.outside growing.tree.paths (inl same)
-          | inr on ↦ LeadsToRoot-set to reached root from end (suc (growing.tree.paths.order on.0)) leaving.within leaving.outside growing.tree.paths (inr (on.0, on.1, on.2, omega arith))
+        paths = elim (row_of_tree from nearest.inside) [
+          | inl same ↦ LeadsToRoot-set to reached root from end 0 nearest.within nearest.outside growing.tree.paths (inl same)
+          | inr on ↦ LeadsToRoot-set to reached root from end (suc (growing.tree.paths.order on.0)) nearest.within nearest.outside growing.tree.paths (inr (on.0, on.1, on.2, omega arith))
         ];
       }
 
@@ -293,12 +254,12 @@ module _ (cost : List (List ℕ)) (row col : List ℤ) (to : List (Option ℕ)) 
         row_still : (i : ℕ) → has_row to root reached i ≡ true → has_row to root (set reached end (Some from)) i ≡ true
         row_still i has = elim (row_of_tree i has) [
           | inl same ↦ rw (eq-eqb i root same) refl
-          | inr on ↦ or_right (eqb i root) _ (rw on.1 (reached_still reached end from leaving.outside on.0 on.2))
+          | inr on ↦ or_right (eqb i root) _ (rw on.1 (reached_still reached end from nearest.outside on.0 on.2))
         ]
 
         -- and it has this one
         holder_joins : has_row to root (set reached end (Some from)) holder ≡ true
-        holder_joins = or_right (eqb holder root) _ (rw (holds, get_or-set_same reached end (Some from) None leaving.within) refl)
+        holder_joins = or_right (eqb holder root) _ (rw (holds, get_or-set_same reached end (Some from) None nearest.within) refl)
 
         -- and no further one
         row_old_or_new : (i : ℕ) → has_row to root (set reached end (Some from)) i ≡ true →
@@ -316,29 +277,25 @@ module _ (cost : List (List ℕ)) (row col : List ℤ) (to : List (Option ℕ)) 
         -- outside of the tree slacks fall as prices move
         slack_moves : (i j : ℕ) → has_row to root reached i ≡ true → has_column reached j ≡ false →
             slack_of cost row' col' i j ≡ slack_of cost row col i j -ℤ by
-        slack_moves i j has misses = omega (arith, ints, row_moves i has, column_stays j misses)
+        slack_moves i j has misses = omega (arith, ints, row_is i ∙ cond-true _ _ _ has, column_is j ∙ cond-false _ _ _ misses)
 
         -- what was kept is lowered, and compared with the row that joins
-        pub nearest_still : (near near' : List ℕ) (slacks'' : List ℤ) →
+        pub nearest_still : {near near' : List ℕ} {slacks'' : List ℤ} →
             AreNearest cost row col to root reached near slacks →
             ((j : ℕ) → j < length reached → has_column (set reached end (Some from)) j ≡ false →
             IsCompared cost row' col' holder j near slacks' near' slacks'') →
             AreNearest cost row' col' to root (set reached end (Some from)) near' slacks''
-        nearest_still near near' slacks'' kept compared = record {
-          inside = λ j h misses.
-              let now = compared j (in_tree j h) misses in
-              elim now.one [
-                | inl was ↦ rw was.0 (row_still _ (kept.inside j (in_tree j h) (missed j misses)))
-                | inr is ↦ rw is.0 holder_joins
-              ];
-          slack_is = λ j h misses.
-              let now = compared j (in_tree j h) misses in
-              elim now.one [
-                | inl was ↦ rw (was.0, was.1) (moved.fallen j (in_tree j h) (missed j misses)
-                    ∙ ap (λ s. s -ℤ by) (kept.slack_is j (in_tree j h) (missed j misses))
-                    ∙ sym (slack_moves (get_or near j 0) j (kept.inside j (in_tree j h) (missed j misses)) (missed j misses)))
-                | inr is ↦ rw (is.0, is.1) refl
-              ];
+        nearest_still {near = near} kept compared = record {
+          inside = λ j h misses. elim (compared j (in_tree j h) misses).one [
+            | inl was ↦ rw was.0 (row_still _ (kept.inside j (in_tree j h) (missed j misses)))
+            | inr is ↦ rw is.0 holder_joins
+          ];
+          slack_is = λ j h misses. elim (compared j (in_tree j h) misses).one [
+            | inl was ↦ rw (was.0, was.1) (moved.fallen j (in_tree j h) (missed j misses)
+                ∙ ap (λ s. s -ℤ by) (kept.slack_is j (in_tree j h) (missed j misses))
+                ∙ sym (slack_moves (get_or near j 0) j (kept.inside j (in_tree j h) (missed j misses)) (missed j misses)))
+            | inr is ↦ rw (is.0, is.1) refl
+          ];
           least = λ i j h has misses.
               let now = compared j (in_tree j h) misses in
               elim (row_old_or_new i has) [
@@ -351,10 +308,7 @@ module _ (cost : List (List ℕ)) (row col : List ℤ) (to : List (Option ℕ)) 
             in_tree j h = rw (length-set reached end (Some from)) at h
 
             missed : (j : ℕ) → has_column (set reached end (Some from)) j ≡ false → has_column reached j ≡ false
-            missed j misses = elim (cases_Bool (has_column reached j)) [
-              | inl has ↦ absurd (false≢true (sym misses ∙ reached_still reached end from leaving.outside j has))
-              | inr not ↦ not
-            ]
+            missed j misses = false_from_ne_true (has_column reached j) (λ has. false≢true (sym misses ∙ reached_still reached end from nearest.outside j has))
 
 -- what was taken is taken after the turn, and each edge is an old one or one of the tree
 pub IsSound-turned : (cost : List (List ℕ)) (row col : List ℤ) (before after : List (Option ℕ)) (root : ℕ) (reached : List (Option ℕ)) →

@@ -1,333 +1,272 @@
--- A cable that is pulled and put until it has the letters of a column.
-use Rattle.std.proofs.Common.{◌≡◌, ◌≢◌, ℕ, zero, suc, ◌+◌, ◌<◌, nat_eq, nat_le, Bool, true, false, not, ◌&&◌, ◌||◌, cond, ◌⊎◌, inl, inr, List, [], ◌∷◌, filter, Option, Some, None, refl, sym, ap, ◌∙◌, subst, arith}
-use Rattle.std.specs.List.{AllByRecursion, range_with_len}
-use Rattle.std.proofs.lemmas.Bool.{false≢true, ne_eqb, eq-eqb, eqb-true}
+-- PULL and PUT: each cable loses the letters that its column hasn't, and then takes those that it lacks. That goes by how
+-- often a letter stands among others.
+use Rattle.std.proofs.Common.{◌≡◌, ℕ, suc, ◌+◌, ◌-◌, ◌<◌, ◌≤◌, nat_eq, nat_lt, Bool, false, not, cond, List, [], ◌∷◌, ◌++◌, filter, get_or, length, map, zip, count_by, Option, Some, None, refl, ap, ◌∙◌, arith}
+use Rattle.std.specs.List.{AllByRecursion, enumerate_from, flat_map}
+use Rattle.std.specs.Option.{option_to_list}
+use Rattle.std.proofs.lemmas.Bool.{lt-ltb}
+use Rattle.std.proofs.lemmas.Bool.Decides.{nat_tests}
+use Rattle.std.proofs.lemmas.Grind.{flat_map-append}
+use Rattle.std.proofs.lemmas.List.Sums.{sum_by-append, sum_by-cons}
 use Rattle.kd_tables.specs.Permutation.{alphabet}
-use Rattle.kd_state.specs.Machine.{cable_letters}
+use Rattle.kd_state.specs.declared.machine.rotor_parts.RotorParts.{RotorParts}
+use Rattle.kd_state.specs.declared.machine.parts.Parts.{Parts}
+use Rattle.kd_state.specs.declared.machine.parts.Parts.TheVariants.{Rotor}
+use Rattle.kd_state.specs.declared.setting.Setting.{Setting}
+use Rattle.kd_state.specs.declared.setting.Setting.TheVariants.{Pull, Put}
+use Rattle.kd_state.specs.Machine.{cable_letters, plugged_letters}
 use Rattle.kd_state.specs.Setting.{has_letter, is_plugged, cable_without, cable_with}
-use Rattle.kd_state.specs.Costs.{column_letters}
-use Rattle.kd_plan.specs.Planned.{letters_apart}
-use Rattle.kd_plan.proofs.Lists.{Differ}
+use Rattle.kd_state.specs.SheetDay.{Day}
+use Rattle.kd_state.specs.Costs.{column_letters, columns_of}
+use Rattle.kd_plan.specs.declared.cable_lines.Work.{Work}
+use Rattle.kd_plan.specs.declared.cable_lines.Work.TheVariants as works
+use Rattle.kd_plan.specs.CableWork.{is_moved, work_setting, cable_work, work_lines}
+use Rattle.kd_plan.specs.Planned.{unless_so, lies_apart, letters_apart}
+use Rattle.kd_plan.proofs.Carrying.{Led, led_none, led_cons, priced, lines_from, EachLeads}
+use Rattle.kd_plan.proofs.Lists.{seam_get, seam_set}
 
--- the letter lies in the cable, and in the column
-abbrev pub in_cable : Option ℕ × Option ℕ → ℕ → Bool
-in_cable cable letter = has_letter (cable_letters cable) letter
+abbrev pub Cable : Type 0
+Cable = Option ℕ × Option ℕ
 
-abbrev pub in_column : Option (ℕ × ℕ) → ℕ → Bool
-in_column column letter = has_letter (column_letters column) letter
+abbrev pub Column : Type 0
+Column = Option (ℕ × ℕ)
 
--- its two letters differ
-abbrev pub Apart : Option ℕ × Option ℕ → Type 0
-Apart (Some a, Some b) = a ≢ b
-Apart (Some a, None) = Unit {0}
-Apart (None, other) = Unit {0}
+-- how often the letter stands among these
+abbrev pub times : ℕ → List ℕ → ℕ
+times y letters = count_by (λ other. nat_eq other y) letters
 
--- tests
-pub or_false : (p : Bool) → (p || false) ≡ p
-or_false true = refl
-or_false false = refl
+pub times-cons : (y x : ℕ) (xs : List ℕ) → times y (x ∷ xs) ≡ cond (nat_eq x y) 1 0 + times y xs
+times-cons y x xs = sum_by-cons (λ other. cond (nat_eq other y) 1 0) x xs
 
-one_of : (p q : Bool) → (p || (q || false)) ≡ true → (p ≡ true) ⊎ (q ≡ true)
-one_of true q e = inl refl
-one_of false true e = inr refl
-one_of false false e = absurd (false≢true e)
+pub times-append : (y : ℕ) (xs ys : List ℕ) → times y (xs ++ ys) ≡ times y xs + times y ys
+times-append y xs ys = sum_by-append (λ other. cond (nat_eq other y) 1 0) xs ys
 
-without_first : (p q : Bool) → (p ≡ true → q ≡ true → ⊥) → (q || false) ≡ ((p || (q || false)) && not p)
-without_first true true h = absurd (h refl refl)
-without_first true false h = refl
-without_first false true h = refl
-without_first false false h = refl
+pub has_times : (xs : List ℕ) (y : ℕ) → has_letter xs y ≡ nat_lt 0 (times y xs)
+has_times [] y = refl
+has_times (x ∷ xs) y = grind (arith, nat_tests, times-cons y x xs, has_times xs y)
 
-without_second : (p q : Bool) → (p ≡ true → q ≡ true → ⊥) → (p || false) ≡ ((p || (q || false)) && not q)
-without_second true true h = absurd (h refl refl)
-without_second true false h = refl
-without_second false true h = refl
-without_second false false h = refl
+times-filter : (p : ℕ → Bool) (xs : List ℕ) (y : ℕ) → times y (filter p xs) ≡ cond (p y) (times y xs) 0
+times-filter p [] y = grind arith
+times-filter p (x ∷ xs) y = grind (arith, nat_tests, times-cons y x xs, times-cons y x (filter p xs), times-filter p xs y)
 
-without_only : (p : Bool) → false ≡ ((p || false) && not p)
-without_only true = refl
-without_only false = refl
+-- letters of the alphabet, none of them twice
+abbrev pub ArePlain : List ℕ → Type 0
+ArePlain letters = (y : ℕ) → (times y letters ≤ 1) × (times y letters ≤ times y alphabet)
 
-pub false_of : (b : Bool) → (b ≡ true → ⊥) → b ≡ false
-false_of true h = absurd (h refl)
-false_of false h = refl
+-- A letter is pulled, and put.
+pulled : (x y : ℕ) (cable : Cable) → 0 < times x (cable_letters cable)
+    → times y (cable_letters (cable_without x cable)) + times y (x ∷ []) ≡ times y (cable_letters cable)
+pulled x y (None, None) h = omega arith
+pulled x y (None, Some b) h = grind (arith, nat_tests)
+pulled x y (Some a, None) h = grind (arith, nat_tests)
+pulled x y (Some a, Some b) h = grind (arith, nat_tests)
 
-not_both : (a b y : ℕ) → a ≢ b → nat_eq a y ≡ true → nat_eq b y ≡ true → ⊥
-not_both a b y h e f = h (eqb-true a y e ∙ sym (eqb-true b y f))
+put : (x y : ℕ) (cable : Cable) → is_plugged cable ≡ false
+    → times y (cable_letters (cable_with x cable)) ≡ times y (cable_letters cable) + times y (x ∷ [])
+put x y (None, None) loose = omega arith
+put x y (None, Some b) loose = grind (arith, nat_tests)
+put x y (Some a, None) loose = grind (arith, nat_tests)
+put x y (Some a, Some b) loose = grind arith
 
-pub only_letter : (a x : ℕ) → (nat_eq a x || false) ≡ true → a ≡ x
-only_letter a x e = eqb-true a x (sym (or_false (nat_eq a x)) ∙ e)
+-- a cable whose letters are those of a column, and not all of them, has a loose end: a column has no three letters
+loose_end : (x : ℕ) (cable : Cable) (column : Column)
+    → ((y : ℕ) → times y (cable_letters cable) + times y (x ∷ []) ≤ times y (column_letters column)) → is_plugged cable ≡ false
+loose_end x (None, b) column h = refl
+loose_end x (Some a, None) column h = refl
+loose_end x (Some a, Some b) None h = grind (arith, nat_tests, h a)
+loose_end x (Some a, Some b) (Some pair) h = grind (arith, nat_tests, h a, h b, h x)
 
--- A letter is pulled.
-pulled_pair : (t : Bool) (x y a b : ℕ) → nat_eq x a ≡ t → a ≢ b → has_letter (a ∷ b ∷ []) x ≡ true
-    → in_cable (cond t (Some b, None) (Some a, None)) y ≡ (has_letter (a ∷ b ∷ []) y && not (nat_eq x y))
-pulled_pair true x y a b e h among =
-    without_first (nat_eq a y) (nat_eq b y) (not_both a b y h) ∙ ap (λ l. has_letter (a ∷ b ∷ []) y && not (nat_eq l y)) (sym (eqb-true x a e))
-pulled_pair false x y a b e h among =
-    elim (one_of (nat_eq a x) (nat_eq b x) among) [
-      | inl first ↦ absurd (false≢true (sym e ∙ eq-eqb x a (sym (eqb-true a x first))))
-      | inr second ↦ without_second (nat_eq a y) (nat_eq b y) (not_both a b y h) ∙ ap (λ l. has_letter (a ∷ b ∷ []) y && not (nat_eq l y)) (eqb-true b x second)
-    ]
-
-pub pulled : (x y : ℕ) (cable : Option ℕ × Option ℕ) → Apart cable → in_cable cable x ≡ true → in_cable (cable_without x cable) y ≡ (in_cable cable y && not (nat_eq x y))
-pulled x y (None, None) h among = absurd (false≢true among)
-pulled x y (None, Some b) h among = without_only (nat_eq b y) ∙ ap (λ l. (nat_eq b y || false) && not (nat_eq l y)) (only_letter b x among)
-pulled x y (Some a, None) h among =
-    let same = only_letter a x among in
-    ap (λ t. in_cable (cond t (None, None) (Some a, None)) y) (eq-eqb x a (sym same)) ∙ without_only (nat_eq a y) ∙ ap (λ l. (nat_eq a y || false) && not (nat_eq l y)) same
-pulled x y (Some a, Some b) h among = pulled_pair (nat_eq x a) x y a b refl h among
-
-apart_single : (t : Bool) (a : Option ℕ) (b : Option ℕ) → Apart (cond t (b, None) (a, None))
-apart_single true a None = tt
-apart_single true a (Some b) = tt
-apart_single false None b = tt
-apart_single false (Some a) b = tt
-
-pub apart_pulled : (x : ℕ) (cable : Option ℕ × Option ℕ) → Apart (cable_without x cable)
-apart_pulled x (None, other) = tt
-apart_pulled x (Some a, other) = apart_single (nat_eq x a) (Some a) other
-
--- A letter is put.
-beside : (t : Bool) (a x y : ℕ) → in_cable (cond t (Some a, Some x) (Some x, Some a)) y ≡ ((nat_eq a y || false) || nat_eq x y)
-beside true a x y = in_front (nat_eq a y) (nat_eq x y)
-  where
-    in_front : (p q : Bool) → (p || (q || false)) ≡ ((p || false) || q)
-    in_front true q = refl
-    in_front false true = refl
-    in_front false false = refl
-beside false a x y = behind (nat_eq a y) (nat_eq x y)
-  where
-    behind : (p q : Bool) → (q || (p || false)) ≡ ((p || false) || q)
-    behind true true = refl
-    behind true false = refl
-    behind false true = refl
-    behind false false = refl
-
-pub put : (x y : ℕ) (cable : Option ℕ × Option ℕ) → is_plugged cable ≡ false → in_cable (cable_with x cable) y ≡ (in_cable cable y || nat_eq x y)
-put x y (None, None) loose = or_false (nat_eq x y)
-put x y (None, Some b) loose = beside (nat_le b x) b x y
-put x y (Some a, None) loose = beside (nat_le a x) a x y
-put x y (Some a, Some b) loose = absurd (false≢true (sym loose))
-
-apart_beside : (t : Bool) (a x : ℕ) → a ≢ x → Apart (cond t (Some a, Some x) (Some x, Some a))
-apart_beside true a x h = h
-apart_beside false a x h = λ e. h (sym e)
-
-other_letter : (a x : ℕ) → (nat_eq a x || false) ≡ false → a ≢ x
-other_letter a x e same = false≢true (sym e ∙ or_false (nat_eq a x) ∙ eq-eqb a x same)
-
-pub apart_put : (x : ℕ) (cable : Option ℕ × Option ℕ) → is_plugged cable ≡ false → in_cable cable x ≡ false → Apart (cable_with x cable)
-apart_put x (None, None) loose out = tt
-apart_put x (None, Some b) loose out = apart_beside (nat_le b x) b x (other_letter b x out)
-apart_put x (Some a, None) loose out = apart_beside (nat_le a x) a x (other_letter a x out)
-apart_put x (Some a, Some b) loose out = absurd (false≢true (sym loose))
-
--- A cable whose letters lie in a column, and not all of the column's, has a loose end: a column has no three letters.
-not_three : (column : Option (ℕ × ℕ)) (a b x : ℕ) → in_column column a ≡ true → in_column column b ≡ true → in_column column x ≡ true → a ≢ b → a ≢ x → b ≢ x → ⊥
-not_three None a b x p q r ab ax bx = false≢true p
-not_three (Some pair) a b x p q r ab ax bx =
-    let one : (y : ℕ) → in_column (Some pair) y ≡ true → (pair.0 ≡ y) ⊎ (pair.1 ≡ y) = λ y e. elim (one_of (nat_eq pair.0 y) (nat_eq pair.1 y) e) [
-      | inl f ↦ inl (eqb-true pair.0 y f)
-      | inr f ↦ inr (eqb-true pair.1 y f)
-    ] in
-    elim (one a p) [
-      | inl ua ↦ elim (one b q) [
-        | inl ub ↦ ab (sym ua ∙ ub)
-        | inr vb ↦ elim (one x r) [ inl ux ↦ ax (sym ua ∙ ux) | inr vx ↦ bx (sym vb ∙ vx) ]
-      ]
-      | inr va ↦ elim (one b q) [
-        | inl ub ↦ elim (one x r) [ inl ux ↦ bx (sym ub ∙ ux) | inr vx ↦ ax (sym va ∙ vx) ]
-        | inr vb ↦ ab (sym va ∙ vb)
-      ]
-    ]
-
-abbrev pub LiesIn : Option ℕ × Option ℕ → Option (ℕ × ℕ) → Type 0
-LiesIn cable column = (y : ℕ) → in_cable cable y ≡ true → in_column column y ≡ true
-
-pub loose_end : (x : ℕ) (cable : Option ℕ × Option ℕ) (column : Option (ℕ × ℕ)) → Apart cable → LiesIn cable column → in_cable cable x ≡ false → in_column column x ≡ true → is_plugged cable ≡ false
-loose_end x (None, None) column h lies out among = refl
-loose_end x (None, Some b) column h lies out among = refl
-loose_end x (Some a, None) column h lies out among = refl
-loose_end x (Some a, Some b) column h lies out among =
-    absurd (not_three column a b x (lies a (first a b)) (lies b (second a b)) among h (λ e. first_other a b x out e) (λ e. second_other a b x out e))
-  where
-    first : (a b : ℕ) → in_cable (Some a, Some b) a ≡ true
-    first a b = ap (λ t. t || (nat_eq b a || false)) (eq-eqb a a refl)
-
-    or_true : (p : Bool) → (p || (true || false)) ≡ true
-    or_true true = refl
-    or_true false = refl
-
-    second : (a b : ℕ) → in_cable (Some a, Some b) b ≡ true
-    second a b = ap (λ t. nat_eq a b || (t || false)) (eq-eqb b b refl) ∙ or_true (nat_eq a b)
-
-    first_other : (a b x : ℕ) → in_cable (Some a, Some b) x ≡ false → a ≡ x → ⊥
-    first_other a b x out e = false≢true (sym out ∙ subst (λ y. in_cable (Some a, Some b) y ≡ true) e (first a b))
-
-    second_other : (a b x : ℕ) → in_cable (Some a, Some b) x ≡ false → b ≡ x → ⊥
-    second_other a b x out e = false≢true (sym out ∙ subst (λ y. in_cable (Some a, Some b) y ≡ true) e (second a b))
-
--- Letters of a cable that may all be pulled, and what is left.
-pub record ArePullable (cable : Option ℕ × Option ℕ) (xs : List ℕ) : Type 0 where
-  pub apart : Apart cable
-  pub differ : Differ xs
-  pub among : AllByRecursion (λ x. in_cable cable x ≡ true) xs
-
-abbrev pub pulled_all : List ℕ → Option ℕ × Option ℕ → Option ℕ × Option ℕ
+-- letters that are pulled from a cable one after another, and letters that are put
+abbrev pub pulled_all : List ℕ → Cable → Cable
 pulled_all [] cable = cable
 pulled_all (x ∷ xs) cable = pulled_all xs (cable_without x cable)
 
-still_among : (x : ℕ) (cable : Option ℕ × Option ℕ) (xs : List ℕ) → Apart cable → in_cable cable x ≡ true → AllByRecursion (λ y. x ≢ y) xs → AllByRecursion (λ y. in_cable cable y ≡ true) xs
-    → AllByRecursion (λ y. in_cable (cable_without x cable) y ≡ true) xs
-still_among x cable [] h here away among = tt
-still_among x cable (y ∷ ys) h here away among = (
-  pulled x y cable h here ∙ ap (λ t. t && not (nat_eq x y)) among.0 ∙ ap not (ne_eqb x y away.0),
-  still_among x cable ys h here away.1 among.1,
-)
-
-pub pullable_next : (cable : Option ℕ × Option ℕ) (x : ℕ) (xs : List ℕ) → ArePullable cable (x ∷ xs) → ArePullable (cable_without x cable) xs
-pullable_next cable x xs h = record {
-  apart = apart_pulled x cable;
-  differ = h.differ.1;
-  among = still_among x cable xs h.apart h.among.0 h.differ.0 h.among.1;
-}
-
-neither : (p q r : Bool) → ((p && not q) && not r) ≡ (p && not (q || r))
-neither true true r = refl
-neither true false r = refl
-neither false q r = refl
-
-and_true : (p : Bool) → p ≡ (p && true)
-and_true true = refl
-and_true false = refl
-
-pub left_in : (cable : Option ℕ × Option ℕ) (xs : List ℕ) (y : ℕ) → ArePullable cable xs → in_cable (pulled_all xs cable) y ≡ (in_cable cable y && not (has_letter xs y))
-left_in cable [] y h = and_true (in_cable cable y)
-left_in cable (x ∷ xs) y h =
-    left_in (cable_without x cable) xs y (pullable_next cable x xs h)
-    ∙ ap (λ t. t && not (has_letter xs y)) (pulled x y cable h.apart h.among.0) ∙ neither (in_cable cable y) (nat_eq x y) (has_letter xs y)
-
-pub apart_left : (cable : Option ℕ × Option ℕ) (xs : List ℕ) → ArePullable cable xs → Apart (pulled_all xs cable)
-apart_left cable [] h = h.apart
-apart_left cable (x ∷ xs) h = apart_left (cable_without x cable) xs (pullable_next cable x xs h)
-
--- Letters of a column that may all be put, and what the cable has then.
-pub record ArePuttable (cable : Option ℕ × Option ℕ) (column : Option (ℕ × ℕ)) (xs : List ℕ) : Type 0 where
-  pub apart : Apart cable
-  pub lies : LiesIn cable column
-  pub differ : Differ xs
-  pub out : AllByRecursion (λ x. in_cable cable x ≡ false) xs
-  pub among : AllByRecursion (λ x. in_column column x ≡ true) xs
-
-abbrev pub put_all : List ℕ → Option ℕ × Option ℕ → Option ℕ × Option ℕ
+abbrev pub put_all : List ℕ → Cable → Cable
 put_all [] cable = cable
 put_all (x ∷ xs) cable = put_all xs (cable_with x cable)
 
-pub puttable_loose : (cable : Option ℕ × Option ℕ) (column : Option (ℕ × ℕ)) (x : ℕ) (xs : List ℕ) → ArePuttable cable column (x ∷ xs) → is_plugged cable ≡ false
-puttable_loose cable column x xs h = loose_end x cable column h.apart h.lies h.out.0 h.among.0
+-- they lie in the cable; and they don't, and are the column's
+abbrev ArePullable : List ℕ → Cable → Type 0
+ArePullable xs cable = (y : ℕ) → times y xs ≤ times y (cable_letters cable)
 
-still_out : (x : ℕ) (cable : Option ℕ × Option ℕ) (xs : List ℕ) → is_plugged cable ≡ false → AllByRecursion (λ y. x ≢ y) xs → AllByRecursion (λ y. in_cable cable y ≡ false) xs
-    → AllByRecursion (λ y. in_cable (cable_with x cable) y ≡ false) xs
-still_out x cable [] loose away out = tt
-still_out x cable (y ∷ ys) loose away out = (
-  put x y cable loose ∙ ap (λ t. t || nat_eq x y) out.0 ∙ ne_eqb x y away.0,
-  still_out x cable ys loose away.1 out.1,
-)
+abbrev ArePuttable : List ℕ → Cable → Column → Type 0
+ArePuttable xs cable column = (y : ℕ) → times y (cable_letters cable) + times y xs ≤ times y (column_letters column)
 
-either_of : (p q : Bool) → (p || q) ≡ true → (p ≡ true) ⊎ (q ≡ true)
-either_of true q e = inl refl
-either_of false q e = inr e
+pullable_first : (x : ℕ) (xs : List ℕ) (cable : Cable) → ArePullable (x ∷ xs) cable → 0 < times x (cable_letters cable)
+pullable_first x xs cable h = grind (arith, nat_tests, times-cons x x xs, h x)
 
-pub puttable_next : (cable : Option ℕ × Option ℕ) (column : Option (ℕ × ℕ)) (x : ℕ) (xs : List ℕ) → ArePuttable cable column (x ∷ xs) → ArePuttable (cable_with x cable) column xs
-puttable_next cable column x xs h =
-    let loose = puttable_loose cable column x xs h in
-    record {
-      apart = apart_put x cable loose h.out.0;
-      lies = λ y e. elim (either_of (in_cable cable y) (nat_eq x y) (sym (put x y cable loose) ∙ e)) [
-        | inl there ↦ h.lies y there
-        | inr same ↦ subst (λ l. in_column column l ≡ true) (eqb-true x y same) h.among.0
-      ];
-      differ = h.differ.1;
-      out = still_out x cable xs loose h.differ.0 h.out.1;
-      among = h.among.1;
-    }
+pullable_next : (x : ℕ) (xs : List ℕ) (cable : Cable) → ArePullable (x ∷ xs) cable → ArePullable xs (cable_without x cable)
+pullable_next x xs cable h y = omega (arith, times-cons y x xs, h y, pulled x y cable (pullable_first x xs cable h))
 
-or_assoc : (p q r : Bool) → ((p || q) || r) ≡ (p || (q || r))
-or_assoc true q r = refl
-or_assoc false q r = refl
+left_in : (xs : List ℕ) (cable : Cable) (y : ℕ) → ArePullable xs cable
+    → times y (cable_letters (pulled_all xs cable)) + times y xs ≡ times y (cable_letters cable)
+left_in [] cable y h = omega arith
+left_in (x ∷ xs) cable y h =
+    omega (arith, times-cons y x xs, pulled x y cable (pullable_first x xs cable h), left_in xs (cable_without x cable) y (pullable_next x xs cable h))
 
-pub now_in : (cable : Option ℕ × Option ℕ) (column : Option (ℕ × ℕ)) (xs : List ℕ) (y : ℕ) → ArePuttable cable column xs → in_cable (put_all xs cable) y ≡ (in_cable cable y || has_letter xs y)
-now_in cable column [] y h = sym (or_false (in_cable cable y))
-now_in cable column (x ∷ xs) y h =
-    now_in (cable_with x cable) column xs y (puttable_next cable column x xs h)
-    ∙ ap (λ t. t || has_letter xs y) (put x y cable (puttable_loose cable column x xs h)) ∙ or_assoc (in_cable cable y) (nat_eq x y) (has_letter xs y)
+puttable_loose : (x : ℕ) (xs : List ℕ) (cable : Cable) (column : Column) → ArePuttable (x ∷ xs) cable column → is_plugged cable ≡ false
+puttable_loose x xs cable column h = loose_end x cable column (λ y. omega (arith, times-cons y x xs, h y))
 
--- The letters apart: different ones, those that pass the test.
-above : (a b number : ℕ) → a < b → AllByRecursion (λ k. a ≢ k) (range_with_len b number)
-above a b zero lt = tt
-above a b (suc number) lt = (λ e. omega arith, above a (b + 1) number (omega arith))
+puttable_next : (x : ℕ) (xs : List ℕ) (cable : Cable) (column : Column) → ArePuttable (x ∷ xs) cable column
+    → ArePuttable xs (cable_with x cable) column
+puttable_next x xs cable column h y = omega (arith, times-cons y x xs, h y, put x y cable (puttable_loose x xs cable column h))
 
-differ_range : (a number : ℕ) → Differ (range_with_len a number)
-differ_range a zero = tt
-differ_range a (suc number) = (above a (a + 1) number (omega arith), differ_range (a + 1) number)
+now_in : (xs : List ℕ) (cable : Cable) (column : Column) (y : ℕ) → ArePuttable xs cable column
+    → times y (cable_letters (put_all xs cable)) ≡ times y (cable_letters cable) + times y xs
+now_in [] cable column y h = omega arith
+now_in (x ∷ xs) cable column y h =
+    omega (
+      arith,
+      times-cons y x xs,
+      put x y cable (puttable_loose x xs cable column h),
+      now_in xs (cable_with x cable) column y (puttable_next x xs cable column h),
+    )
 
-module _ (p : ℕ → Bool) where
-  kept_all_cond : (P : ℕ → Type 0) (b : Bool) (x : ℕ) (xs : List ℕ) → P x → AllByRecursion P xs → AllByRecursion P (cond b (x ∷ xs) xs)
-  kept_all_cond P true x xs h hs = (h, hs)
-  kept_all_cond P false x xs h hs = hs
+-- a cable beside the column that it is paired with, and all cables
+abbrev pub Beside : Type 0
+Beside = Cable × Column
 
-  kept_all : (P : ℕ → Type 0) (xs : List ℕ) → AllByRecursion P xs → AllByRecursion P (filter p xs)
-  kept_all P [] h = tt
-  kept_all P (x ∷ xs) h = kept_all_cond P (p x) x (filter p xs) h.0 (kept_all P xs h.1)
+abbrev pub column_at : List (ℕ × ℕ) → ℕ → Column
+column_at pairs j = get_or (columns_of pairs) j None
 
-  differ_cond : (b : Bool) (x : ℕ) (xs : List ℕ) → AllByRecursion (λ k. x ≢ k) xs → Differ xs → Differ (cond b (x ∷ xs) xs)
-  differ_cond true x xs h d = (h, d)
-  differ_cond false x xs h d = d
+abbrev pub besides : List Cable → List (ℕ × ℕ) → List ℕ → List Beside
+besides cables pairs to = zip cables (map (column_at pairs) to)
 
-  differ_filter : (xs : List ℕ) → Differ xs → Differ (filter p xs)
-  differ_filter [] h = tt
-  differ_filter (x ∷ xs) h = differ_cond (p x) x (filter p xs) (kept_all (λ k. x ≢ k) xs h.0) (differ_filter xs h.1)
+pub record IsPluggable (z : Beside) : Type 0 where
+  pub cable : ArePlain (cable_letters z.0)
+  pub column : ArePlain (column_letters z.1)
 
-  passing_cond : (b : Bool) (x : ℕ) (xs : List ℕ) → p x ≡ b → AllByRecursion (λ y. p y ≡ true) xs → AllByRecursion (λ y. p y ≡ true) (cond b (x ∷ xs) xs)
-  passing_cond true x xs e h = (e, h)
-  passing_cond false x xs e h = h
+-- the letters to be pulled and to be put, and the cable after each
+abbrev pub pulls : Beside → List ℕ
+pulls z = letters_apart (cable_letters z.0) (column_letters z.1)
 
-  passing : (xs : List ℕ) → AllByRecursion (λ y. p y ≡ true) (filter p xs)
-  passing [] = tt
-  passing (x ∷ xs) = passing_cond (p x) x (filter p xs) refl (passing xs)
+abbrev pub puts : Beside → List ℕ
+puts z = letters_apart (column_letters z.1) (cable_letters z.0)
 
-  has_filter_cond : (b t : Bool) (x y : ℕ) (kept xs : List ℕ) → p x ≡ b → nat_eq x y ≡ t → has_letter kept y ≡ (has_letter xs y && p y)
-      → has_letter (cond b (x ∷ kept) kept) y ≡ ((t || has_letter xs y) && p y)
-  has_filter_cond true true x y kept xs e f h = ap (λ t. t || has_letter kept y) f ∙ sym e ∙ ap p (eqb-true x y f)
-  has_filter_cond true false x y kept xs e f h = ap (λ t. t || has_letter kept y) f ∙ h
-  has_filter_cond false true x y kept xs e f h =
-      let none : p y ≡ false = ap p (sym (eqb-true x y f)) ∙ e in
-      h ∙ ap (λ b. has_letter xs y && b) none ∙ and_false (has_letter xs y) ∙ sym none
-    where
-      and_false : (b : Bool) → (b && false) ≡ false
-      and_false true = refl
-      and_false false = refl
-  has_filter_cond false false x y kept xs e f h = h
+abbrev pub present : Beside → Cable
+present z = z.0
 
-  has_filter : (xs : List ℕ) (y : ℕ) → has_letter (filter p xs) y ≡ (has_letter xs y && p y)
-  has_filter [] y = refl
-  has_filter (x ∷ xs) y = has_filter_cond (p x) (nat_eq x y) x y (filter p xs) xs refl refl (has_filter xs y)
+abbrev pub once_pulled : Beside → Cable
+once_pulled z = pulled_all (pulls z) z.0
 
-pub apart_differ : (xs ys : List ℕ) → Differ (letters_apart xs ys)
-apart_differ xs ys = differ_filter (λ letter. has_letter xs letter && not (has_letter ys letter)) alphabet (differ_range 0 26)
+abbrev pub once_put : Beside → Cable
+once_put z = put_all (puts z) (once_pulled z)
 
-both_of : (p q : Bool) → (p && not q) ≡ true → (p ≡ true) × (q ≡ false)
-both_of true false e = (refl, refl)
-both_of true true e = absurd (false≢true e)
-both_of false q e = absurd (false≢true e)
+apart_times : (xs ys : List ℕ) (y : ℕ) → ArePlain xs → times y (letters_apart xs ys) ≡ times y xs - times y ys
+apart_times xs ys y h = grind (arith, nat_tests, times-filter (lies_apart xs ys) alphabet y, has_times xs y, has_times ys y, h y)
 
-split : (p q : ℕ → Bool) (xs : List ℕ) → AllByRecursion (λ y. (p y && not (q y)) ≡ true) xs → AllByRecursion (λ y. p y ≡ true) xs × AllByRecursion (λ y. q y ≡ false) xs
-split p q [] h = (tt, tt)
-split p q (x ∷ xs) h = let here = both_of (p x) (q x) h.0 in let rest = split p q xs h.1 in ((here.0, rest.0), (here.1, rest.1))
+module _ (z : Beside) (h : IsPluggable z) where
+  pullable : ArePullable (pulls z) z.0
+  pullable y = omega (arith, apart_times (cable_letters z.0) (column_letters z.1) y h.cable)
 
-pub apart_among : (xs ys : List ℕ) → AllByRecursion (λ y. has_letter xs y ≡ true) (letters_apart xs ys) × AllByRecursion (λ y. has_letter ys y ≡ false) (letters_apart xs ys)
-apart_among xs ys =
-    split (has_letter xs) (has_letter ys) (letters_apart xs ys) (passing (λ letter. has_letter xs letter && not (has_letter ys letter)) alphabet)
+  pulled_lies : (y : ℕ) → times y (cable_letters (once_pulled z)) ≤ times y (column_letters z.1)
+  pulled_lies y = omega (arith, left_in (pulls z) z.0 y pullable, apart_times (cable_letters z.0) (column_letters z.1) y h.cable)
 
-pub has_apart : (xs ys : List ℕ) (y : ℕ) → has_letter (letters_apart xs ys) y ≡ (has_letter alphabet y && (has_letter xs y && not (has_letter ys y)))
-has_apart xs ys y = has_filter (λ letter. has_letter xs letter && not (has_letter ys letter)) alphabet y
+  put_is : (y : ℕ) → times y (cable_letters (once_pulled z)) + times y (puts z) ≡ times y (column_letters z.1)
+  put_is y =
+      omega (
+        arith,
+        left_in (pulls z) z.0 y pullable,
+        apart_times (cable_letters z.0) (column_letters z.1) y h.cable,
+        apart_times (column_letters z.1) (cable_letters z.0) y h.column,
+      )
+
+  puttable : ArePuttable (puts z) (once_pulled z) z.1
+  puttable y = omega (arith, put_is y)
+
+  -- in the end the cable has the column's letters
+  pub has_column : (y : ℕ) → times y (cable_letters (once_put z)) ≡ times y (column_letters z.1)
+  has_column y = now_in (puts z) (once_pulled z) z.1 y puttable ∙ put_is y
+
+-- how often the letter stands in the columns
+abbrev pub in_columns : ℕ → List Beside → ℕ
+in_columns y zs = times y (flat_map (λ (z : Beside). column_letters z.1) zs)
+
+-- the lines of a cable, and those of all cables
+abbrev pub work_beside : Work → ℕ → Beside → List Setting
+work_beside work number z = cable_work work number (cable_letters z.0) (column_letters z.1)
+
+abbrev pub work_of_letter : Work → ℕ → List ℕ → List ℕ → ℕ → ℕ → List Setting
+work_of_letter work cable letters others number letter = option_to_list (unless_so (not (is_moved work letters others letter)) (work_setting work cable letter))
+
+numbered_lines : (f : ℕ → List ℕ → List ℕ → List Setting) (pairs : List (ℕ × ℕ)) (cables : List Cable) (to : List ℕ) (number : ℕ)
+    → flat_map (λ (cable : ℕ × (List ℕ × List ℕ)). f cable.0 cable.1.0 cable.1.1)
+    (enumerate_from number (zip (map cable_letters cables) (map (λ j. column_letters (column_at pairs j)) to)))
+    ≡ lines_from (λ n (z : Beside). f n (cable_letters z.0) (column_letters z.1)) number (besides cables pairs to)
+numbered_lines f pairs [] to number = refl
+numbered_lines f pairs (cable ∷ cables) [] number = refl
+numbered_lines f pairs (cable ∷ cables) (j ∷ to) number =
+    ap (λ lines. f number (cable_letters cable) (column_letters (column_at pairs j)) ++ lines) (numbered_lines f pairs cables to (number + 1))
+
+pub lines_beside : (work : Work) (cables : List Cable) (pairs : List (ℕ × ℕ)) (to : List ℕ)
+    → work_lines work cables pairs to ≡ lines_from (work_beside work) 1 (besides cables pairs to)
+lines_beside works.Pull cables pairs to = numbered_lines (cable_work works.Pull) pairs cables to 1
+lines_beside works.Put cables pairs to = numbered_lines (cable_work works.Put) pairs cables to 1
+
+module _ (s : Day) (m : RotorParts) where
+  abbrev pub with_cables : List Cable → Parts
+  with_cables cables = Rotor (record m { cables = cables })
+
+  pulls_led : (front back : List Cable) (xs : List ℕ) (cable : Cable) → ArePullable xs cable
+      → Led s (with_cables (front ++ cable ∷ back)) (map (Pull (suc (length front))) xs) (with_cables (front ++ pulled_all xs cable ∷ back))
+  pulls_led front back [] cable h = led_none refl
+  pulls_led front back (x ∷ xs) cable h =
+      let has = has_times (cable_letters cable) x ∙ lt-ltb 0 (times x (cable_letters cable)) (pullable_first x xs cable h) in
+      led_cons (rw (seam_get front cable back, has) refl) priced
+      (rw (seam_get front cable back) (ap with_cables (seam_set front cable back (cable_without x cable))))
+      (pulls_led front back xs (cable_without x cable) (pullable_next x xs cable h))
+
+  pub pulls_each : (front : List Cable) (zs : List Beside) → AllByRecursion IsPluggable zs
+      → EachLeads s with_cables present once_pulled (work_beside works.Pull) front zs
+  pulls_each front [] h = tt
+  pulls_each front (z ∷ zs) h =
+      (pulls_led front (map present zs) (pulls z) z.0 (pullable z h.0), pulls_each (front ++ once_pulled z ∷ []) zs h.1)
+
+  -- a letter that is to be put lies nowhere yet
+  socket_free : (front back : List Cable) (x : ℕ) (xs : List ℕ) (cable : Cable) (column : Column) → ArePuttable (x ∷ xs) cable column
+      → times x (plugged_letters front) + times x (column_letters column) + times x (plugged_letters back) ≤ 1
+      → has_letter (plugged_letters (front ++ cable ∷ back)) x ≡ false
+  socket_free front back x xs cable column h few =
+      rw flat_map-append
+      grind (
+        arith,
+        nat_tests,
+        has_times (plugged_letters front ++ plugged_letters (cable ∷ back)) x,
+        times-append x (plugged_letters front) (plugged_letters (cable ∷ back)),
+        times-append x (cable_letters cable) (plugged_letters back),
+        times-cons x x xs,
+        h x,
+      )
+
+  puts_led : (front back : List Cable) (column : Column) (xs : List ℕ) (cable : Cable) → ArePuttable xs cable column
+      → ((y : ℕ) → times y (plugged_letters front) + times y (column_letters column) + times y (plugged_letters back) ≤ 1)
+      → Led s (with_cables (front ++ cable ∷ back)) (map (Put (suc (length front))) xs) (with_cables (front ++ put_all xs cable ∷ back))
+  puts_led front back column [] cable h few = led_none refl
+  puts_led front back column (x ∷ xs) cable h few =
+      led_cons (rw (seam_get front cable back, puttable_loose x xs cable column h, socket_free front back x xs cable column h (few x)) refl) priced
+      (rw (seam_get front cable back) (ap with_cables (seam_set front cable back (cable_with x cable))))
+      (puts_led front back column xs (cable_with x cable) (puttable_next x xs cable column h) few)
+
+  -- the cables that are only pulled have no more than their columns' letters
+  behind : (y : ℕ) (zs : List Beside) → AllByRecursion IsPluggable zs → times y (plugged_letters (map once_pulled zs)) ≤ in_columns y zs
+  behind y [] h = omega arith
+  behind y (z ∷ zs) h =
+      omega (
+        arith,
+        times-append y (cable_letters (once_pulled z)) (plugged_letters (map once_pulled zs)),
+        times-append y (column_letters z.1) (flat_map (λ (z : Beside). column_letters z.1) zs),
+        pulled_lies z h.0 y,
+        behind y zs h.1,
+      )
+
+  pub puts_each : (front : List Cable) (zs : List Beside) → AllByRecursion IsPluggable zs
+      → ((y : ℕ) → times y (plugged_letters front) + in_columns y zs ≤ 1) → EachLeads s with_cables once_pulled once_put (work_beside works.Put) front zs
+  puts_each front [] h few = tt
+  puts_each front (z ∷ zs) h few =
+      let parts : (y : ℕ) → in_columns y (z ∷ zs) ≡ times y (column_letters z.1) + in_columns y zs =
+      λ y. times-append y (column_letters z.1) (flat_map (λ (z : Beside). column_letters z.1) zs) in
+      let next : (y : ℕ) → times y (plugged_letters (front ++ once_put z ∷ [])) + in_columns y zs ≤ 1 =
+      λ y. rw flat_map-append
+      (omega (arith, times-append y (plugged_letters front) (plugged_letters (once_put z ∷ [])), times-append y (cable_letters (once_put z)) [], has_column z h.0 y, parts y, few y)) in (
+        puts_led front (map once_pulled zs) z.1 (puts z) (once_pulled z) (puttable z h.0) (λ y. omega (arith, few y, parts y, behind y zs h.1)),
+        puts_each (front ++ once_put z ∷ []) zs h.1 next,
+      )

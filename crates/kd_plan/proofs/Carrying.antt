@@ -1,44 +1,56 @@
 -- Settings carried out one after another, each of them allowed and needed.
-use Rattle.std.proofs.Common.{◌≡◌, ℕ, suc, ◌+◌, true, List, [], ◌∷◌, ◌++◌, length, map, None, refl, sym, ap, ◌∙◌, subst, arith, append_assoc, length-append}
+use Rattle.std.proofs.Common.{◌≡◌, ℕ, suc, ◌+◌, Bool, true, false, List, [], ◌∷◌, ◌++◌, length, map, None, refl, sym, subst, arith, append_assoc, length-append}
+use Rattle.std.specs.Prelude.{IsFalse}
+use Rattle.std.specs.Option.{option_to_list}
 use Rattle.std.proofs.lemmas.Bool.{false≢true}
-use Rattle.std.proofs.lemmas.List.{append-nil, map-append}
 use Rattle.kd_state.specs.declared.machine.parts.Parts.{Parts}
 use Rattle.kd_state.specs.declared.setting.Setting.{Setting}
 use Rattle.kd_state.specs.Setting.{why_refused, changed, Leads}
 use Rattle.kd_state.specs.SheetDay.{Day}
 use Rattle.kd_state.specs.OnKey.{ReadsAs}
+use Rattle.kd_state.specs.Costs.{loose_count}
 use Rattle.kd_card.specs.Proving.{is_priced, IsNeeded, AreNeeded}
+use Rattle.kd_plan.specs.Planned.{unless_so}
 
 -- the settings lead from one machine to the other, and each is needed in its turn
 pub record Led (s : Day) (m : Parts) (xs : List Setting) (n : Parts) : Type 0 where
   pub leads : Leads m xs n
   pub needed : AreNeeded m s xs
 
-pub led_none : (s : Day) (m n : Parts) → n ≡ m → Led s m [] n
-led_none s m n e = record { leads = e; needed = tt }
-
-pub led_cons : (s : Day) (m n : Parts) (x : Setting) (xs : List Setting) → why_refused m x ≡ None → IsNeeded m s x → Led s (changed m x) xs n → Led s m (x ∷ xs) n
-led_cons s m n x xs allowed needed rest = record {
-  leads = (changed m x, record { allowed = allowed; made = refl }, rest.leads);
-  needed = (needed, rest.needed);
-}
-
--- a setting of a cable or a bar is needed
-pub priced_needed : (s : Day) (m : Parts) (x : Setting) → is_priced x ≡ true → IsNeeded m s x
-priced_needed s m x e = λ unpriced. absurd (false≢true (sym unpriced ∙ e))
-
-pub led_append : (s : Day) (m k n : Parts) (xs ys : List Setting) → Led s m xs k → Led s k ys n → Led s m (xs ++ ys) n
-led_append s m k n [] ys first second = subst (λ from. Led s from ys n) first.leads second
-led_append s m k n (x ∷ xs) ys first second =
-    led_cons s m n x (xs ++ ys) first.leads.1.allowed first.needed.0
-    (led_append s (changed m x) k n xs ys
-    (record { leads = subst (λ between. Leads between xs k) first.leads.1.made first.leads.2; needed = first.needed.1 }) second)
-
 -- what the lines lead to
 pub record Reaches (s : Day) (m : Parts) (settings : List Setting) : Type 0 where
   pub end : Parts
   pub led : Led s m settings end
   pub reads : ReadsAs end s
+
+module _ {s : Day} where
+  pub led_none : {m n : Parts} → n ≡ m → Led s m [] n
+  led_none e = record { leads = e; needed = tt }
+
+  pub led_cons : {m k n : Parts} {x : Setting} {xs : List Setting} → why_refused m x ≡ None → IsNeeded m s x → changed m x ≡ k
+      → Led s k xs n → Led s m (x ∷ xs) n
+  led_cons {m = m} {n = n} {x = x} {xs = xs} allowed needed made rest =
+      let after = subst (λ k. Led s k xs n) (sym made) rest in
+      record { leads = (changed m x, record { allowed = allowed; made = refl }, after.leads); needed = (needed, after.needed) }
+
+  pub led_append : (xs ys : List Setting) {m k n : Parts} → Led s m xs k → Led s k ys n → Led s m (xs ++ ys) n
+  led_append [] ys {n = n} first second = subst (λ from. Led s from ys n) first.leads second
+  led_append (x ∷ xs) ys {k = k} first second =
+      let carried = first.leads.1 in
+      led_cons carried.allowed first.needed.0 refl
+      (led_append xs ys (record { leads = subst (λ m. Leads m xs k) carried.made first.leads.2; needed = first.needed.1 }) second)
+
+  -- a setting that is left out where things are so already
+  pub led_unless : (so : Bool) (m n : Parts) (x : Setting) → (so ≡ true → n ≡ m) → changed m x ≡ n
+      → (so ≡ false → why_refused m x ≡ None)
+      → (so ≡ false → IsFalse (is_priced x) → loose_count m s ≡ loose_count n s + 1) → Led s m (option_to_list (unless_so so x)) n
+  led_unless true m n x same made allowed needed = led_none (same refl)
+  led_unless false m n x same made allowed needed =
+      led_cons (allowed refl) (λ unpriced. subst (λ k. loose_count m s ≡ loose_count k s + 1) (sym made) (needed refl unpriced)) made (led_none refl)
+
+-- a setting of a cable or a bar is needed
+pub priced : {P : Type 0} → true ≡ false → P
+priced e = absurd (false≢true (sym e))
 
 -- the settings of things side by side, each by its number
 abbrev pub lines_from : {Z : Type 0} → (ℕ → Z → List Setting) → ℕ → List Z → List Setting
@@ -48,22 +60,16 @@ lines_from lines number (z ∷ zs) = lines number z ++ lines_from lines (number 
 -- Things side by side, each with settings of its own that change it alone: before and after them the machine is made of
 -- what the things are before and after.
 module _ {Z A : Type 0} (s : Day) (put : List A → Parts) (before after : Z → A) (lines : ℕ → Z → List Setting) where
-  abbrev pub LeadsEach : List Z → Type 0
-  LeadsEach zs = (done rest : List Z) (z : Z) → done ++ z ∷ rest ≡ zs
-      → Led s (put (map after done ++ before z ∷ map before rest)) (lines (suc (length done)) z) (put (map after done ++ after z ∷ map before rest))
+  -- the lines of each, behind those that are done
+  abbrev pub EachLeads : List A → List Z → Type 0
+  EachLeads front [] = Unit {0}
+  EachLeads front (z ∷ zs) =
+      Led s (put (front ++ before z ∷ map before zs)) (lines (suc (length front)) z) (put (front ++ after z ∷ map before zs))
+      × EachLeads (front ++ after z ∷ []) zs
 
-  pub cells_from : (zs done rest : List Z) (number : ℕ) → done ++ rest ≡ zs → number ≡ suc (length done) → LeadsEach zs
-      → Led s (put (map after done ++ map before rest)) (lines_from lines number rest) (put (map after zs))
-  cells_from zs done [] number e at each =
-      led_none s (put (map after done ++ [])) (put (map after zs))
-      (ap put (ap (map after) (sym e ∙ append-nil done) ∙ sym (append-nil (map after done))))
-  cells_from zs done (z ∷ rest) number e at each =
-      let next = cells_from zs (done ++ z ∷ []) rest (number + 1) (append_assoc done (z ∷ []) rest ∙ e) (omega (arith, length-append done (z ∷ []))) each in
-      let seam : map after (done ++ z ∷ []) ++ map before rest ≡ map after done ++ after z ∷ map before rest =
-      ap (λ front. front ++ map before rest) (map-append after done (z ∷ [])) ∙ append_assoc (map after done) (after z ∷ []) (map before rest) in
-      led_append s (put (map after done ++ before z ∷ map before rest)) (put (map after done ++ after z ∷ map before rest)) (put (map after zs)) (lines number z) (lines_from lines (number + 1) rest)
-      (subst (λ k. Led s (put (map after done ++ before z ∷ map before rest)) (lines k z) (put (map after done ++ after z ∷ map before rest))) (sym at) (each done rest z e))
-      (subst (λ cells. Led s (put cells) (lines_from lines (number + 1) rest) (put (map after zs))) seam next)
-
-  pub cells_led : (zs : List Z) → LeadsEach zs → Led s (put (map before zs)) (lines_from lines 1 zs) (put (map after zs))
-  cells_led zs each = cells_from zs [] zs 1 refl refl each
+  pub cells_led : (front : List A) (zs : List Z) (number : ℕ) → number ≡ suc (length front) → EachLeads front zs
+      → Led s (put (front ++ map before zs)) (lines_from lines number zs) (put (front ++ map after zs))
+  cells_led front [] number e each = led_none refl
+  cells_led front (z ∷ zs) number e each =
+      let rest = cells_led (front ++ after z ∷ []) zs (number + 1) (omega (arith, length-append front (after z ∷ []))) each.1 in
+      led_append (lines number z) (lines_from lines (number + 1) zs) (rw e each.0) (simp append_assoc at rest)

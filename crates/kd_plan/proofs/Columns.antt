@@ -1,220 +1,162 @@
 -- The cables of a machine beside the columns of a day, one to one: no letter lies in two columns, and cables with the letters
 -- of their columns are the day's pairs.
-use Rattle.std.proofs.Common.{◌≡◌, ◌≢◌, ℕ, zero, suc, ◌+◌, ◌<◌, ◌≤◌, nat_eq, Bool, true, false, ◌||◌, inl, inr, List, [], ◌∷◌, ◌++◌, length, get_or, map, zip, Any, Contains, IsPermutation, Option, Some, None, slice_get, refl, sym, ap, ◌∙◌, subst, arith}
-use Rattle.std.specs.List.{AllByRecursion, range_with_len}
-use Rattle.std.proofs.lemmas.Bool.{false≢true, eq-eqb, eqb-true}
-use Rattle.std.proofs.lemmas.Bool.Decides.{eqb_tells}
-use Rattle.std.proofs.lemmas.List.{length-map, get_or_default}
-use Rattle.std.proofs.lemmas.List.Elements.{All-from_recursion, recursion_from_All}
-use Rattle.std.proofs.lemmas.List.Sorted.{Contains-permutation}
+use Rattle.std.proofs.Common.{◌≡◌, ℕ, zero, suc, ◌+◌, ◌<◌, ◌≤◌, nat_eq, nat_lt, false, List, [], ◌∷◌, ◌++◌, length, get_or, map, zip, replicate, All, Contains, IsPermutation, Some, None, refl, sym, ap, ◌∙◌, subst, arith}
+use Rattle.std.specs.List.{AllByRecursion, IsDistinct, flat_map, range_with_len, sum_by}
+use Rattle.std.proofs.lemmas.Bool.Decides.{nat_tests}
+use Rattle.std.proofs.lemmas.Grind.{flat_map-append}
+use Rattle.std.proofs.lemmas.List.{length-map, get_or_default, get_or-map}
+use Rattle.std.proofs.lemmas.List.Elements.{All-from_recursion, All-map, recursion_from_All}
+use Rattle.std.proofs.lemmas.List.Folds.{flat_map-map}
+use Rattle.std.proofs.lemmas.List.Sorted.{Contains-permutation, sum_by-IsPermutation}
+use Rattle.std.proofs.lemmas.List.Sums.{sum_by-cons}
 use Rattle.std.proofs.lemmas.Option.{slice_get_within, slice_get-get_or, get_or_from_slice_get}
-use Rattle.std.proofs.lemmas.Map.Made.{AllPairs-from_IsDistinct}
-use Rattle.kd_tables.specs.Permutation.{alphabet}
+use Rattle.std.proofs.lemmas.Slice.Zip.{length-zip, get_or-zip, firsts-zip, seconds-zip}
 use Rattle.kd_enigma.specs.Plugs.{letters_plugged}
 use Rattle.kd_state.specs.Machine.{cable_letters, plugged_letters, AreCables}
-use Rattle.kd_state.specs.Setting.{has_letter}
 use Rattle.kd_state.specs.SheetDay.{ArePairs}
-use Rattle.kd_state.specs.OnKey.{Joins, IsPaired, IsJoined, AreThePairs}
-use Rattle.kd_state.specs.Costs.{columns_of}
-use Rattle.kd_plan.proofs.Cables.{or_false, in_cable, in_column, Apart}
-use Rattle.kd_plan.proofs.Days.{all_of_each}
-use Rattle.kd_plan.proofs.Lists.{all_front, all_back, Differ, differ_of_pairs, EachTwo, paired, IsPairing}
+use Rattle.kd_state.specs.OnKey.{Joins, IsPaired, AreThePairs}
+use Rattle.kd_state.specs.Costs.{column_letters, columns_of}
+use Rattle.kd_plan.proofs.Cables.{Cable, Column, Beside, column_at, besides, times, times-cons, times-append, has_times, ArePlain, IsPluggable, in_columns, present, once_put, has_column}
+use Rattle.kd_plan.proofs.Lists.{paired, IsPairing}
 use Rattle.kd_plan.proofs.Told.{Told}
-use Rattle.kd_plan.proofs.Sides.{first_of}
-use Rattle.kd_plan.proofs.Plugging.{Beside, IsPluggable, ColumnsApart, present, once_put, has_column}
 
--- a letter among these has what they all have
-of_has : (P : ℕ → Type 0) (letters : List ℕ) (letter : ℕ) → AllByRecursion P letters → has_letter letters letter ≡ true → P letter
-of_has P [] letter h e = absurd (false≢true e)
-of_has P (other ∷ letters) letter h e =
-    elim (eqb_tells other letter) [
-      | inl same ↦ subst P same.1 h.0
-      | inr away ↦ of_has P letters letter h.1 (sym (ap (λ b. b || has_letter letters letter) away.0) ∙ e)
-    ]
+-- letters of the alphabet that differ
+in_alphabet : (y a number : ℕ) → a ≤ y → y < a + number → 0 < times y (range_with_len a number)
+in_alphabet y a zero le lt = absurd (omega arith)
+in_alphabet y a (suc number) le lt = grind (arith, nat_tests, times-cons y a (range_with_len (a + 1) number), in_alphabet y (a + 1) number)
 
-in_range : (a number letter : ℕ) → a ≤ letter → letter < a + number → has_letter (range_with_len a number) letter ≡ true
-in_range a zero letter le lt = absurd (omega arith)
-in_range a (suc number) letter le lt =
-    elim (eqb_tells a letter) [
-      | inl same ↦ ap (λ b. b || has_letter (range_with_len (a + 1) number) letter) same.0
-      | inr away ↦ ap (λ b. b || has_letter (range_with_len (a + 1) number) letter) away.0 ∙ in_range (a + 1) number letter (above a letter le away.1) (omega arith)
-    ]
-  where
-    above : (a letter : ℕ) → a ≤ letter → a ≢ letter → a + 1 ≤ letter
-    above a letter le away = omega (arith, away)
+none_times : (x : ℕ) (xs : List ℕ) → AllByRecursion (λ y. nat_eq x y ≡ false) xs → times x xs ≡ 0
+none_times x [] h = refl
+none_times x (y ∷ xs) h = grind (arith, nat_tests, times-cons x y xs, none_times x xs h.1)
 
-abbrev pub AllBelow : List ℕ → Type 0
-AllBelow letters = AllByRecursion (λ letter. letter < 26) letters
+distinct_times : (xs : List ℕ) → IsDistinct nat_eq xs → AllByRecursion (λ x. x < 26) xs → (y : ℕ) → (times y xs ≤ 1) × (0 < times y xs → y < 26)
+unfolding IsDistinct
+distinct_times [] h within y = (omega arith, λ lt. absurd (omega arith))
+distinct_times (x ∷ xs) h within y =
+    let rest = distinct_times xs h.1 within.1 y in
+    (grind (arith, nat_tests, times-cons y x xs, none_times x xs h.0), λ lt. grind (arith, nat_tests, times-cons y x xs, rest.1))
 
-in_alphabet : (letters : List ℕ) (letter : ℕ) → AllBelow letters → has_letter letters letter ≡ true → has_letter alphabet letter ≡ true
-in_alphabet letters letter h e = in_range 0 26 letter (omega arith) (of_has (λ letter. letter < 26) letters letter h e)
+plain : (xs : List ℕ) → IsDistinct nat_eq xs → All (λ x. x < 26) xs → ArePlain xs
+plain xs h within y =
+    let told = distinct_times xs h (recursion_from_All (λ x. x < 26) xs within) y in
+    (told.0, grind (arith, told.0, told.1, in_alphabet y 0 26))
 
--- both parts of letters that differ
-differ_front : (xs ys : List ℕ) → Differ (xs ++ ys) → Differ xs
-differ_front [] ys h = tt
-differ_front (x ∷ xs) ys h = (all_front (λ k. x ≢ k) xs ys h.0, differ_front xs ys h.1)
-
-differ_back : (xs ys : List ℕ) → Differ (xs ++ ys) → Differ ys
-differ_back [] ys h = h
-differ_back (x ∷ xs) ys h = differ_back xs ys h.1
-
--- cables of a machine
-apart_of : (cable : Option ℕ × Option ℕ) → Differ (cable_letters cable) → Apart cable
-apart_of (None, None) h = tt
-apart_of (None, Some b) h = tt
-apart_of (Some a, None) h = tt
-apart_of (Some a, Some b) h = h.0.0
-
-record IsCable (cable : Option ℕ × Option ℕ) : Type 0 where
-  apart : Apart cable
-  within : AllBelow (cable_letters cable)
-
-all_cables : (cables : List (Option ℕ × Option ℕ)) → AllBelow (plugged_letters cables) → Differ (plugged_letters cables) → AllByRecursion IsCable cables
-all_cables [] within apart = tt
-all_cables (cable ∷ cables) within apart = (
-  record { apart = apart_of cable (differ_front (cable_letters cable) (plugged_letters cables) apart); within = all_front (λ letter. letter < 26) (cable_letters cable) (plugged_letters cables) within },
-  all_cables cables (all_back (λ letter. letter < 26) (cable_letters cable) (plugged_letters cables) within) (differ_back (cable_letters cable) (plugged_letters cables) apart),
+plain_parts : (xs ys : List ℕ) → ArePlain (xs ++ ys) → ArePlain xs × ArePlain ys
+plain_parts xs ys h = (
+  λ y. (omega (arith, h y, times-append y xs ys), omega (arith, h y, times-append y xs ys)),
+  λ y. (omega (arith, h y, times-append y xs ys), omega (arith, h y, times-append y xs ys)),
 )
 
--- columns of a day
-abbrev pub column_at : List (Option (ℕ × ℕ)) → ℕ → Option (ℕ × ℕ)
-column_at columns j = get_or columns j None
+all_pluggable : (cables : List Cable) (columns : List Column) → ArePlain (plugged_letters cables) → ArePlain (flat_map column_letters columns)
+    → AllByRecursion IsPluggable (zip cables columns)
+all_pluggable [] columns h k = tt
+all_pluggable (cable ∷ cables) [] h k = tt
+all_pluggable (cable ∷ cables) (column ∷ columns) h k =
+    let first = plain_parts (cable_letters cable) (plugged_letters cables) h in
+    let second = plain_parts (column_letters column) (flat_map column_letters columns) k in
+    (record { cable = first.0; column = second.0 }, all_pluggable cables columns first.1 second.1)
 
-plugged_of : (pairs : List (ℕ × ℕ)) (j letter : ℕ) → in_column (slice_get pairs j) letter ≡ true → has_letter (letters_plugged pairs) letter ≡ true
-plugged_of [] j letter e = absurd (false≢true e)
-plugged_of (pair ∷ pairs) zero letter e = more (nat_eq pair.0 letter) (nat_eq pair.1 letter) (has_letter (letters_plugged pairs) letter) e
-  where
-    more : (p q r : Bool) → (p || (q || false)) ≡ true → (p || (q || r)) ≡ true
-    more true q r e = refl
-    more false true r e = refl
-    more false false r e = absurd (false≢true e)
-plugged_of (pair ∷ pairs) (suc j) letter e =
-    later (nat_eq pair.0 letter) (nat_eq pair.1 letter) (has_letter (letters_plugged pairs) letter) (plugged_of pairs j letter e)
-  where
-    later : (p q r : Bool) → r ≡ true → (p || (q || r)) ≡ true
-    later true q r e = refl
-    later false true r e = refl
-    later false false r e = e
+-- the letters of a day's columns are those of its pairs, and in another order they stand in them as often
+times-flat_map : (y : ℕ) (columns : List Column) → times y (flat_map column_letters columns) ≡ sum_by (λ c. times y (column_letters c)) columns
+times-flat_map y [] = refl
+times-flat_map y (column ∷ columns) =
+    omega (
+      arith,
+      times-append y (column_letters column) (flat_map column_letters columns),
+      sum_by-cons (λ c. times y (column_letters c)) column columns,
+      times-flat_map y columns,
+    )
 
-first_away : (pair : ℕ × ℕ) (pairs : List (ℕ × ℕ)) (letter : ℕ) → Differ (pair.0 ∷ pair.1 ∷ letters_plugged pairs) → in_column (Some pair) letter ≡ true → has_letter (letters_plugged pairs) letter ≡ true → ⊥
-first_away pair pairs letter h e later =
-    elim (eqb_tells pair.0 letter) [
-      | inl first ↦ of_has (λ k. pair.0 ≢ k) (letters_plugged pairs) letter h.0.1 later first.1
-      | inr away ↦ of_has (λ k. pair.1 ≢ k) (letters_plugged pairs) letter h.1.0 later
-          (eqb-true pair.1 letter (sym (or_false (nat_eq pair.1 letter)) ∙ sym (ap (λ b. b || (nat_eq pair.1 letter || false)) away.0) ∙ e))
-    ]
+no_columns : (n : ℕ) → flat_map column_letters (replicate n None) ≡ []
+no_columns zero = refl
+no_columns (suc n) = no_columns n
 
-columns_apart : (pairs : List (ℕ × ℕ)) (j k letter : ℕ) → Differ (letters_plugged pairs) → j ≢ k
-    → in_column (slice_get pairs j) letter ≡ true → in_column (slice_get pairs k) letter ≡ true → ⊥
-columns_apart [] j k letter h away e f = false≢true e
-columns_apart (pair ∷ pairs) zero zero letter h away e f = away refl
-columns_apart (pair ∷ pairs) zero (suc k) letter h away e f = first_away pair pairs letter h e (plugged_of pairs k letter f)
-columns_apart (pair ∷ pairs) (suc j) zero letter h away e f = first_away pair pairs letter h f (plugged_of pairs j letter e)
-columns_apart (pair ∷ pairs) (suc j) (suc k) letter h away e f = columns_apart pairs j k letter h.1.1 (λ same. away (ap suc same)) e f
+letters_of_columns : (pairs : List (ℕ × ℕ)) → flat_map column_letters (columns_of pairs) ≡ letters_plugged pairs ++ []
+letters_of_columns pairs =
+    rw (flat_map-append, no_columns) (ap (λ xs. xs ++ []) (flat_map-map column_letters (λ pair. Some pair) pairs))
 
 -- a cable with the letters of its column is empty, or has a pair's letters
-no_letters : (letters : List ℕ) → ((letter : ℕ) → has_letter letters letter ≡ false) → letters ≡ []
+no_letters : (xs : List ℕ) → ((y : ℕ) → times y xs ≡ 0) → xs ≡ []
 no_letters [] h = refl
-no_letters (letter ∷ letters) h = absurd (false≢true (sym (h letter) ∙ ap (λ b. b || has_letter letters letter) (eq-eqb letter letter refl)))
+no_letters (x ∷ xs) h = absurd (grind (arith, nat_tests, times-cons x x xs, h x))
 
-one_pair : Told → (pairs : List (ℕ × ℕ)) (cable : Option ℕ × Option ℕ) (column : Option (ℕ × ℕ)) → ((letter : ℕ) → in_cable cable letter ≡ in_column column letter)
-    → ((pair : ℕ × ℕ) → column ≡ Some pair → Contains pairs pair) → cable_letters cable ≢ [] → Any (Joins cable) pairs
-one_pair told pairs cable None same known some = absurd (some (no_letters (cable_letters cable) same))
-one_pair told pairs cable (Some pair) same known some =
-    let there = known pair refl in
-    (there.0, pair, there.1, there.2, record { letters = (told.letters (cable_letters cable) (pair.0 ∷ pair.1 ∷ [])).1 same })
+module _ (told : Told) (pairs : List (ℕ × ℕ)) where
+  joins : (z : Beside) (pair : ℕ × ℕ) → IsPluggable z → z.1 ≡ Some pair → Joins (once_put z) pair
+  joins z pair h e =
+      let due = pair.0 ∷ pair.1 ∷ [] in
+      let same : (y : ℕ) → times y (cable_letters (once_put z)) ≡ times y due = λ y. has_column z h y ∙ ap (λ c. times y (column_letters c)) e in
+      record { letters = (told.letters (cable_letters (once_put z)) due).1 (λ y. has_times (cable_letters (once_put z)) y ∙ ap (nat_lt 0) (same y) ∙ sym (has_times due y)) }
 
-module _ (told : Told) (pairs : List (ℕ × ℕ)) (legal : ArePairs pairs) where
-  abbrev pub column : ℕ → Option (ℕ × ℕ)
-  column j = column_at (columns_of pairs) j
+  is_paired : (z : Beside) (column : Column) → z.1 ≡ column → ((pair : ℕ × ℕ) → column ≡ Some pair → Contains pairs pair) → IsPluggable z
+      → IsPaired pairs (once_put z)
+  is_paired z None e known h =
+      record { joins = λ some. absurd (some (no_letters (cable_letters (once_put z)) (λ y. has_column z h y ∙ ap (λ c. times y (column_letters c)) e))) }
+  is_paired z (Some pair) e known h = let there = known pair refl in record { joins = λ some. (there.0, pair, there.1, there.2, joins z pair h e) }
 
-  in_pair : (j letter : ℕ) → in_column (column j) letter ≡ true → in_column (slice_get pairs j) letter ≡ true
-  in_pair j letter e = sym (ap (λ column. in_column column letter) (told.columns pairs j)) ∙ e
-
-  pair_of : (j : ℕ) (pair : ℕ × ℕ) → column j ≡ Some pair → Contains pairs pair
+  pair_of : (j : ℕ) (pair : ℕ × ℕ) → column_at pairs j ≡ Some pair → Contains pairs pair
   pair_of j pair e =
       let here = sym (told.columns pairs j) ∙ e in
       (j, slice_get_within pairs j pair here, get_or_from_slice_get pairs j pair pair here)
 
-  column_of : (pair : ℕ × ℕ) → Contains pairs pair → Contains (columns_of pairs) (Some pair)
-  column_of pair c =
-      let within : c.0 < length (columns_of pairs) = omega (arith, c.1, told.thirteen pairs legal.few, legal.few) in
-      let there = slice_get-get_or pairs c.0 pair c.1 ∙ ap Some c.2 in
-      (c.0, within, get_or_default (columns_of pairs) c.0 (Some pair) None within ∙ told.columns pairs c.0 ∙ there)
+  module _ (legal : ArePairs pairs) (cables : List Cable) (to : List ℕ) (are : AreCables cables) (pairing : IsPairing 13 to) where
+    abbrev beside : List Beside
+    beside = besides cables pairs to
 
-  pairs_differ : Differ (letters_plugged pairs)
-  pairs_differ = differ_of_pairs (letters_plugged pairs) (AllPairs-from_IsDistinct (λ a b. (eqb-true a b, eq-eqb a b)) (letters_plugged pairs) legal.apart)
+    sizes : length (map (column_at pairs) to) ≡ length cables
+    sizes = omega (arith, are.count, pairing.count, length-map to (column_at pairs))
 
-  column_within : (j letter : ℕ) → in_column (column j) letter ≡ true → has_letter alphabet letter ≡ true
-  column_within j letter e =
-      in_alphabet (letters_plugged pairs) letter (recursion_from_All (λ letter. letter < 26) (letters_plugged pairs) legal.within) (plugged_of pairs j letter (in_pair j letter e))
+    all_columns : IsPermutation (columns_of pairs) (map (column_at pairs) to)
+    all_columns = paired None (columns_of pairs) to (subst (λ n. IsPairing n to) (sym (told.thirteen pairs legal.few)) pairing)
 
-  all_pluggable : (cables : List (Option ℕ × Option ℕ)) (to : List ℕ) → AllByRecursion IsCable cables → AllByRecursion IsPluggable (zip cables (map column to))
-  all_pluggable [] to h = tt
-  all_pluggable (cable ∷ cables) [] h = tt
-  all_pluggable (cable ∷ cables) (j ∷ to) h = (
-    record { apart = h.0.apart; cable_within = λ letter e. in_alphabet (cable_letters cable) letter h.0.within e; column_within = column_within j },
-    all_pluggable cables to h.1,
-  )
-
-  away_from : (j : ℕ) (cable : Option ℕ × Option ℕ) (cables : List (Option ℕ × Option ℕ)) (to : List ℕ) → AllByRecursion (λ k. j ≢ k) to → AllByRecursion (ColumnsApart (cable, column j)) (zip cables (map column to))
-  away_from j cable [] to h = tt
-  away_from j cable (other ∷ cables) [] h = tt
-  away_from j cable (other ∷ cables) (k ∷ to) h =
-      (λ letter e f. columns_apart pairs j k letter pairs_differ h.0 (in_pair j letter e) (in_pair k letter f), away_from j cable cables to h.1)
-
-  two_apart : (cables : List (Option ℕ × Option ℕ)) (to : List ℕ) → Differ to → EachTwo ColumnsApart (zip cables (map column to))
-  two_apart [] to h = tt
-  two_apart (cable ∷ cables) [] h = tt
-  two_apart (cable ∷ cables) (j ∷ to) h = (away_from j cable cables to h.0, two_apart cables to h.1)
-
-  pairs_of_all : (cables : List (Option ℕ × Option ℕ)) (to : List ℕ) → AllByRecursion IsPluggable (zip cables (map column to))
-      → AllByRecursion (IsPaired pairs) (map once_put (zip cables (map column to)))
-  pairs_of_all [] to h = tt
-  pairs_of_all (cable ∷ cables) [] h = tt
-  pairs_of_all (cable ∷ cables) (j ∷ to) h = (
-    record { joins = one_pair told pairs (once_put (cable, column j)) (column j) (λ letter. has_column (cable, column j) letter h.0) (pair_of j) },
-    pairs_of_all cables to h.1,
-  )
-
-  cable_of : (pair : ℕ × ℕ) (cables : List (Option ℕ × Option ℕ)) (columns : List (Option (ℕ × ℕ))) (k : ℕ) → length cables ≡ length columns → k < length columns → get_or columns k (Some pair) ≡ Some pair
-      → AllByRecursion IsPluggable (zip cables columns) → Any (λ cable. Joins cable pair) (map once_put (zip cables columns))
-  cable_of pair [] [] k size lt e h = absurd (omega arith)
-  cable_of pair (cable ∷ cables) (other ∷ columns) zero size lt e h = (
-    zero,
-    once_put (cable, other),
-    omega arith,
-    refl,
-    record { letters = (told.letters (cable_letters (once_put (cable, other))) (pair.0 ∷ pair.1 ∷ [])).1 (λ letter. has_column (cable, other) letter h.0 ∙ ap (λ column. in_column column letter) e) },
-  )
-  cable_of pair (cable ∷ cables) (other ∷ columns) (suc k) size lt e h =
-      let later = cable_of pair cables columns k (omega arith) (omega arith) e h.1 in
-      (suc later.0, later.1, omega (arith, later.2), later.3, later.4)
-  cable_of pair [] (other ∷ columns) k size lt e h = absurd (omega arith)
-  cable_of pair (cable ∷ cables) [] k size lt e h = absurd (omega arith)
-
-  -- the cables of a machine, beside their columns
-  module _ (cables : List (Option ℕ × Option ℕ)) (to : List ℕ) (are : AreCables cables) (pairing : IsPairing 13 to) where
-    abbrev pub beside : List Beside
-    beside = zip cables (map column to)
+    column_times : (y : ℕ) → times y (flat_map column_letters (map (column_at pairs) to)) ≡ times y (letters_plugged pairs)
+    column_times y =
+        omega (
+          arith,
+          times-flat_map y (map (column_at pairs) to),
+          times-flat_map y (columns_of pairs),
+          sum_by-IsPermutation (λ c. times y (column_letters c)) (columns_of pairs) (map (column_at pairs) to) all_columns,
+          ap (times y) (letters_of_columns pairs),
+          times-append y (letters_plugged pairs) [],
+        )
 
     pub are_pluggable : AllByRecursion IsPluggable beside
     are_pluggable =
-        all_pluggable cables to (all_cables cables (recursion_from_All (λ letter. letter < 26) (plugged_letters cables) are.within) (differ_of_pairs (plugged_letters cables) (AllPairs-from_IsDistinct (λ a b. (eqb-true a b, eq-eqb a b)) (plugged_letters cables) are.apart)))
+        all_pluggable cables (map (column_at pairs) to) (plain (plugged_letters cables) are.apart are.within)
+        (λ y. rw column_times (plain (letters_plugged pairs) legal.apart legal.within y))
 
-    pub are_apart : EachTwo ColumnsApart beside
-    are_apart = two_apart cables to (differ_of_pairs to pairing.apart)
+    pub few_columns : (y : ℕ) → in_columns y beside ≤ 1
+    few_columns y =
+        let same = sym (flat_map-map column_letters (λ (z : Beside). z.1) beside) ∙ ap (flat_map column_letters) (seconds-zip cables (map (column_at pairs) to) sizes) in
+        omega (arith, ap (times y) same, column_times y, (plain (letters_plugged pairs) legal.apart legal.within y).0)
 
     pub same_cables : map present beside ≡ cables
-    same_cables = first_of cables (map column to) (omega (arith, are.count, pairing.count, length-map to column))
+    same_cables = firsts-zip cables (map (column_at pairs) to) sizes
 
-    pub all_columns : IsPermutation (columns_of pairs) (map column to)
-    all_columns = paired None (columns_of pairs) to (subst (λ n. IsPairing n to) (sym (told.thirteen pairs legal.few)) pairing)
+    column_is : (k : ℕ) (z : Beside) → k < length beside → (get_or beside k z).1 ≡ get_or (map (column_at pairs) to) k z.1
+    column_is k z lt =
+        ap (λ (z : Beside). z.1) (get_or-zip cables (map (column_at pairs) to) k z (omega (arith, length-zip cables (map (column_at pairs) to))) (omega (arith, length-zip cables (map (column_at pairs) to))))
 
     pub are_the_pairs : AreThePairs (map once_put beside) pairs
     are_the_pairs = record {
-      pair = All-from_recursion (IsPaired pairs) (map once_put beside) (pairs_of_all cables to are_pluggable);
-      cable = all_of_each (IsJoined (map once_put beside)) pairs (λ pair c.
-          let there = Contains-permutation (columns_of pairs) (map column to) (Some pair) all_columns (column_of pair c) in
-          record { joins = cable_of pair cables (map column to) there.0 (omega (arith, are.count, pairing.count, length-map to column)) there.1 there.2 are_pluggable });
+      pair = All-map (IsPaired pairs) once_put beside (λ k z lt.
+          let at = column_is k z lt ∙ get_or-map (column_at pairs) to k 0 z.1 (omega (arith, length-zip cables (map (column_at pairs) to), length-map to (column_at pairs))) in
+          is_paired (get_or beside k z) (column_at pairs (get_or to k 0)) at (pair_of (get_or to k 0)) (All-from_recursion IsPluggable beside are_pluggable k z lt));
+      cable = λ i d lt.
+          let pair = get_or pairs i d in
+          let within : i < length (columns_of pairs) = omega (arith, lt, told.thirteen pairs legal.few, legal.few) in
+          let there : Contains (map (column_at pairs) to) (Some pair) =
+          Contains-permutation (columns_of pairs) (map (column_at pairs) to) (Some pair) all_columns
+          (i, within, get_or_default (columns_of pairs) i (Some pair) None within ∙ told.columns pairs i ∙ slice_get-get_or pairs i d lt) in
+          let k = there.0 in
+          let z : Beside = get_or beside k ((None, None), Some pair) in
+          let in_list : k < length beside = omega (arith, there.1, length-zip cables (map (column_at pairs) to), sizes) in
+          record {
+            joins = (
+              k,
+              once_put z,
+              omega (arith, length-map beside once_put, in_list),
+              get_or-map once_put beside k ((None, None), Some pair) (once_put z) in_list,
+              joins z pair (All-from_recursion IsPluggable beside are_pluggable k ((None, None), Some pair) in_list) (column_is k ((None, None), Some pair) in_list ∙ there.2),
+            );
+          };
     }

@@ -2,46 +2,28 @@
 use Rattle.std.proofs.Common.{◌≡◌, ◌≢◌, ℕ, zero, suc, ◌+◌, ◌<◌, Bool, true, false, ◌||◌, cond, List, [], ◌∷◌, ◌++◌, length, get_or, filter_map, find, All, Contains, Option, Some, None, slice_get, refl, sym, ap, ◌∙◌, subst, arith, append_assoc, length-append}
 use Rattle.std.specs.List.{AllByRecursion, cons_option, enumerate_from}
 use Rattle.std.proofs.lemmas.Bool.{false≢true}
-use Rattle.std.proofs.lemmas.List.{get_or_default}
+use Rattle.std.proofs.lemmas.List.Elements.{All-contains, All-from_recursion, Contains-get_or, recursion_from_All}
 use Rattle.kd_tables.specs.declared.model.Model.{Model}
 use Rattle.kd_tables.specs.declared.wheel.Wheel.{Wheel}
 use Rattle.kd_tables.specs.Tables.{box_of}
 use Rattle.kd_state.specs.declared.sheet_day.rotor_entry.SheetWheel.{SheetWheel}
 use Rattle.kd_state.specs.Box.{same_wheel, has_wheel, place_in_box}
 use Rattle.kd_state.specs.SheetDay.{seats, AreSeated}
-use Rattle.kd_plan.proofs.Lists.{EachTwo, each_two_of_pairs}
+use Rattle.kd_plan.proofs.Lists.{EachTwo, each_two_of_pairs, found}
 use Rattle.kd_plan.proofs.Seats.{OtherWheels, seat_of}
 use Rattle.kd_plan.proofs.Told.{Told}
 use Rattle.kd_plan.proofs.Wheels.{same_wheel_self, AreApartAt, place_of, NoneTwice}
 
 -- elements by their places
-pub all_of_each : {X : Type 0} (P : X → Type 0) (xs : List X) → ((x : X) → Contains xs x → P x) → All P xs
-all_of_each P xs h = λ k d lt. h (get_or xs k d) (k, lt, get_or_default xs k (get_or xs k d) d lt)
-
 pub recursion_of_each : {X : Type 0} (P : X → Type 0) (xs : List X) → ((x : X) → Contains xs x → P x) → AllByRecursion P xs
-recursion_of_each P [] h = tt
-recursion_of_each P (x ∷ xs) h = (h x (zero, omega arith, refl), recursion_of_each P xs (λ y c. h y (suc c.0, omega (arith, c.1), c.2)))
-
-each_of_recursion : {X : Type 0} (P : X → Type 0) (xs : List X) (k : ℕ) (x : X) → AllByRecursion P xs → k < length xs → get_or xs k x ≡ x → P x
-each_of_recursion P [] k x h lt e = absurd (omega arith)
-each_of_recursion P (y ∷ xs) zero x h lt e = subst P e h.0
-each_of_recursion P (y ∷ xs) (suc k) x h lt e = each_of_recursion P xs k x h.1 (omega arith) e
+recursion_of_each P xs h = recursion_from_All P xs (λ k d lt. h (get_or xs k d) (Contains-get_or xs k d lt))
 
 pub at_element : {X : Type 0} (P : X → Type 0) (xs : List X) (x : X) → AllByRecursion P xs → Contains xs x → P x
-at_element P xs x h c = each_of_recursion P xs c.0 x h c.1 c.2
+at_element P xs x h c = All-contains P xs x (All-from_recursion P xs h) c
 
 -- no two of a day's wheels are one
 pub each_two : Told → (model : Model) (wheels : List SheetWheel) → AreSeated model (seats wheels) → EachTwo OtherWheels wheels
 each_two told model wheels h = each_two_of_pairs OtherWheels wheels (λ i j d before within same. told.days model wheels h i j d before within (ap (place_in_box model) same))
-
--- what is found passes the test and is there
-found_cond : {X : Type 0} (b : Bool) (p : X → Bool) (y x : X) (xs : List X) → p y ≡ b → cond b (Some y) (find p xs) ≡ Some x → (find p xs ≡ Some x → (p x ≡ true) × Contains xs x) → (p x ≡ true) × Contains (y ∷ xs) x
-found_cond true p y x xs is e next = let same : y ≡ x = cc in (ap p (sym same) ∙ is, (zero, omega arith, same))
-found_cond false p y x xs is e next = let later = next e in (later.0, (suc later.1.0, omega (arith, later.1.1), later.1.2))
-
-pub found : {X : Type 0} (p : X → Bool) (xs : List X) (x : X) → find p xs ≡ Some x → (p x ≡ true) × Contains xs x
-found p [] x e = cc
-found p (y ∷ xs) x e = found_cond (p y) p y x xs refl e (found p xs x)
 
 module _ (model : Model) (wheels : List SheetWheel) where
   abbrev the_one : Wheel → Option SheetWheel
@@ -126,9 +108,9 @@ found_itself told model (v ∷ wheels) w apart c = itself_cond told (same_wheel 
 pub all_of_order : Told → (P : SheetWheel → Type 0) (model : Model) (wheels : List SheetWheel) → AreApartAt (place_of model) wheels → AllByRecursion (λ w. Contains (box_of model) w.wheel) wheels
     → AllByRecursion P (in_order model wheels (box_of model)) → All P wheels
 all_of_order told P model wheels apart boxed h =
-    all_of_each P wheels (λ w c.
+    All-from_recursion P wheels (recursion_of_each P wheels (λ w c.
     let box = at_element (λ (w : SheetWheel). Contains (box_of model) w.wheel) wheels w boxed c in
-    of_order model wheels P (box_of model) box.0 w h box.1 box.2 (found_itself told model wheels w apart c))
+    of_order model wheels P (box_of model) box.0 w h box.1 box.2 (found_itself told model wheels w apart c)))
 
 -- The wheels by their slots.
 pub record StandsThere (wheels : List SheetWheel) (n : ℕ × SheetWheel) : Type 0 where

@@ -115,8 +115,7 @@ module _ {X : Type 0} (place target : X → ℕ) where
     set_cond false letters x xs e count h apart next =
         let after = set letters (place x) (target x) in
         let rest = next after (length-set letters (place x) (target x) ∙ count) in
-        let led = led_cons s (put letters) (put rest.end) (line x) (lines_for after xs) (h.allowed letters count) (h.needed letters count e)
-        (subst (λ k. Led s k (lines_for after xs) (put rest.end)) (h.made letters count) rest.led) in
+        let led = led_cons (h.allowed letters count) (h.needed letters count e) (sym (h.made letters count)) rest.led in
         record {
           end = rest.end;
           led = rw e (subst (λ xs. Led s (put letters) (line x ∷ xs) (put rest.end)) (same_lines letters (place x) (target x) xs apart.0) led);
@@ -125,6 +124,6 @@ module _ {X : Type 0} (place target : X → ℕ) where
         }
 
     pub all_set : (letters : List ℕ) (xs : List X) → length letters ≡ size → AllByRecursion SetsIts xs → AreApartAt place xs → AreSet letters xs
-    all_set letters [] count h apart = record { end = letters; led = led_none s (put letters) (put letters) refl; done = tt; kept = λ p away. refl }
+    all_set letters [] count h apart = record { end = letters; led = led_none refl; done = tt; kept = λ p away. refl }
     all_set letters (x ∷ xs) count h apart =
         set_cond (right letters x) letters x xs refl count h.0 apart (λ letters count. all_set letters xs count h.1 apart.1)

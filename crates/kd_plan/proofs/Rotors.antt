@@ -1,7 +1,6 @@
 -- The planned lines of a rotor machine lead to the day, and each is needed.
-use Rattle.std.proofs.Common.{◌≡◌, ℕ, ◌+◌, Bool, true, false, List, [], ◌++◌, length, set, map, Contains, Option, Some, None, unwrap_or, slice_get, refl, sym, ap, ◌∙◌, subst, arith}
+use Rattle.std.proofs.Common.{◌≡◌, ℕ, ◌+◌, List, [], length, set, map, Contains, Some, None, unwrap_or, slice_get, refl, sym, ap, ◌∙◌, subst, arith}
 use Rattle.std.specs.List.{AllByRecursion, enumerate_from}
-use Rattle.std.specs.Option.{option_to_list}
 use Rattle.std.proofs.lemmas.List.{length-map}
 use Rattle.std.proofs.lemmas.List.Elements.{All-from_recursion}
 use Rattle.kd_tables.specs.Tables.{box_of, slots_of, reflectors_of}
@@ -9,35 +8,33 @@ use Rattle.kd_state.specs.declared.machine.rotor_parts.RotorParts.{RotorParts}
 use Rattle.kd_state.specs.declared.machine.parts.Parts.{Parts}
 use Rattle.kd_state.specs.declared.machine.parts.Parts.TheVariants.{Rotor}
 use Rattle.kd_state.specs.declared.setting.Setting.{Setting}
-use Rattle.kd_state.specs.declared.setting.Setting.TheVariants.{Pull, Put, SeatReflector, RingTo, Turn}
+use Rattle.kd_state.specs.declared.setting.Setting.TheVariants.{SeatReflector, RingTo, Turn}
 use Rattle.kd_state.specs.declared.sheet_day.rotor_entry.SheetWheel.{SheetWheel}
 use Rattle.kd_state.specs.Box.{same_reflector, numbered}
 use Rattle.kd_state.specs.Machine.{IsMachine}
 use Rattle.kd_state.specs.Setting.{with_letter, changed}
 use Rattle.kd_state.specs.SheetDay.{RotorDay, OfRotors, seats, AreSeated, IsLegalRotorDay}
 use Rattle.kd_state.specs.Costs.{unless_same, loose_count}
-use Rattle.kd_plan.specs.Planned.{unless_so, seat_lines, reflector_lines, ring_lines, turn_lines, pull_lines, put_lines, letters_apart, planned_lines}
-use Rattle.kd_plan.proofs.Carrying.{Reaches, Led, led_none, led_cons, led_append, lines_from, cells_led}
-use Rattle.kd_plan.proofs.Columns.{column, beside, are_pluggable, are_apart, same_cables, are_the_pairs}
+use Rattle.kd_plan.specs.Planned.{seat_lines, reflector_lines, ring_lines, turn_lines, pull_lines, put_lines, planned_lines}
+use Rattle.kd_plan.proofs.Carrying.{Reaches, Led, led_unless, led_append, lines_from, cells_led}
+use Rattle.kd_plan.proofs.Columns.{are_pluggable, few_columns, same_cables, are_the_pairs}
 use Rattle.kd_plan.proofs.Days.{at_element, recursion_of_each, each_two, in_order, order_among, order_apart, all_of_order, StandsThere, numbered as by_slots, numbered_apart, from_numbered}
 use Rattle.kd_plan.proofs.Letters.{SetsIts, AreSet, all_set, one_fewer}
 use Rattle.kd_plan.proofs.Lists.{IsPairing}
-use Rattle.kd_plan.proofs.Plugging.{Beside, present, once_pulled, once_put, with_cables, pulls_of, puts_of, pulls_each, puts_each, numbered_lines}
+use Rattle.kd_plan.proofs.Cables.{Cable, Beside, besides, IsPluggable, present, once_pulled, once_put, with_cables, work_beside, lines_beside, pulls_each, puts_each}
+use Rattle.kd_plan.specs.declared.cable_lines.Work.TheVariants as works
 use Rattle.kd_plan.proofs.Seats.{seats_led}
 use Rattle.kd_plan.proofs.Told.{Told}
 use Rattle.kd_plan.proofs.Wheels.{same_reflector_self, has_wheel_of, has_reflector_of, AreApartAt, place_of, wheels_apart, box_none_twice, wheels_boxed}
 
 -- REFLECTOR
-reflector_led : Told → (b : Bool) (m : RotorParts) (s : RotorDay) → same_reflector m.reflector s.reflector ≡ b → Contains (reflectors_of m.model) s.reflector
-    → Led (OfRotors s) (Rotor m) (option_to_list (unless_so b (SeatReflector s.reflector))) (Rotor (record m { reflector = s.reflector }))
-reflector_led told true m s e h =
-    led_none (OfRotors s) (Rotor m) (Rotor (record m { reflector = s.reflector })) (ap (λ r. Rotor (record m { reflector = r })) (sym ((told.reflectors m.reflector s.reflector).0 e)))
-reflector_led told false m s e h =
+reflector_led : Told → (m : RotorParts) (s : RotorDay) → Contains (reflectors_of m.model) s.reflector
+    → Led (OfRotors s) (Rotor m) (reflector_lines m.reflector s.reflector) (Rotor (record m { reflector = s.reflector }))
+reflector_led told m s h =
     let has = has_reflector_of (reflectors_of m.model) s.reflector h in
-    let now = ap unless_same e in
-    let then_so = ap unless_same (same_reflector_self s.reflector) in
-    let end = Rotor (record m { reflector = s.reflector }) in
-    led_cons (OfRotors s) (Rotor m) end (SeatReflector s.reflector) [] (rw has refl) (λ unpriced. omega (arith, now, then_so)) (led_none (OfRotors s) end end refl)
+    led_unless (same_reflector m.reflector s.reflector) (Rotor m) (Rotor (record m { reflector = s.reflector })) (SeatReflector s.reflector)
+    (λ so. ap (λ r. Rotor (record m { reflector = r })) (sym ((told.reflectors m.reflector s.reflector).0 so))) refl
+    (λ wrong. rw has refl) (λ wrong unpriced. omega (arith, ap unless_same wrong, ap unless_same (same_reflector_self s.reflector)))
 
 module _ (told : Told) (m : RotorParts) (s : RotorDay) where
   -- The machine after the lines of each kind.
@@ -124,7 +121,7 @@ module _ (told : Told) (m : RotorParts) (s : RotorDay) where
 
     reflector_reaches : Led (OfRotors s) (Rotor after_seats) (reflector_lines m.reflector s.reflector) (Rotor after_reflector)
     reflector_reaches =
-        reflector_led told (same_reflector m.reflector s.reflector) after_seats s refl (subst (λ model. Contains (reflectors_of model) s.reflector) (sym same) legal.reflector)
+        reflector_led told after_seats s (subst (λ model. Contains (reflectors_of model) s.reflector) (sym same) legal.reflector)
 
     rings_set : AreSet (place_of m.model) ring_wanted (OfRotors s) with_rings (length (box_of m.model)) ring_line m.rings (in_order m.model s.wheels (box_of m.model))
     rings_set =
@@ -146,41 +143,32 @@ module _ (told : Told) (m : RotorParts) (s : RotorDay) where
     turned = after_turns rings_set.end turns_set.end
 
     abbrev zs : List Beside
-    zs = beside told s.pairs legal.pairs m.cables to machine.legal.cables pairing
+    zs = besides m.cables s.pairs to
 
-    abbrev plugged : List (Option ℕ × Option ℕ) → Parts
+    abbrev plugged : List Cable → Parts
     plugged cables = with_cables (OfRotors s) turned cables
+
+    pluggable : AllByRecursion IsPluggable zs
+    pluggable = are_pluggable told s.pairs legal.pairs m.cables to machine.legal.cables pairing
 
     pulls_reach : Led (OfRotors s) (Rotor turned) (pull_lines m.cables s.pairs to) (plugged (map once_pulled zs))
     pulls_reach =
-        subst (λ lines. Led (OfRotors s) (Rotor turned) lines (plugged (map once_pulled zs)))
-        (sym (numbered_lines (λ n letters others. map (Pull n) (letters_apart letters others)) (column told s.pairs legal.pairs) m.cables to 1))
-        (subst (λ cables. Led (OfRotors s) (plugged cables) (lines_from (pulls_of (OfRotors s) turned) 1 zs) (plugged (map once_pulled zs)))
-        (same_cables told s.pairs legal.pairs m.cables to machine.legal.cables pairing)
-        (cells_led (OfRotors s) plugged present once_pulled (pulls_of (OfRotors s) turned) zs
-        (pulls_each (OfRotors s) turned zs (are_pluggable told s.pairs legal.pairs m.cables to machine.legal.cables pairing))))
+        let led = cells_led (OfRotors s) plugged present once_pulled (work_beside works.Pull) [] zs 1 refl (pulls_each (OfRotors s) turned [] zs pluggable) in
+        subst (λ lines. Led (OfRotors s) (Rotor turned) lines (plugged (map once_pulled zs))) (sym (lines_beside works.Pull m.cables s.pairs to))
+        (subst (λ cables. Led (OfRotors s) (plugged cables) (lines_from (work_beside works.Pull) 1 zs) (plugged (map once_pulled zs)))
+        (same_cables told s.pairs legal.pairs m.cables to machine.legal.cables pairing) led)
 
     puts_reach : Led (OfRotors s) (plugged (map once_pulled zs)) (put_lines m.cables s.pairs to) (plugged (map once_put zs))
     puts_reach =
-        subst (λ lines. Led (OfRotors s) (plugged (map once_pulled zs)) lines (plugged (map once_put zs)))
-        (sym (numbered_lines (λ n letters others. map (Put n) (letters_apart others letters)) (column told s.pairs legal.pairs) m.cables to 1))
-        (cells_led (OfRotors s) plugged once_pulled once_put (puts_of (OfRotors s) turned) zs
-        (puts_each (OfRotors s) turned zs (are_pluggable told s.pairs legal.pairs m.cables to machine.legal.cables pairing) (are_apart told s.pairs legal.pairs m.cables to machine.legal.cables pairing)))
+        subst (λ lines. Led (OfRotors s) (plugged (map once_pulled zs)) lines (plugged (map once_put zs))) (sym (lines_beside works.Put m.cables s.pairs to))
+        (cells_led (OfRotors s) plugged once_pulled once_put (work_beside works.Put) [] zs 1 refl
+        (puts_each (OfRotors s) turned [] zs pluggable (λ y. omega (arith, few_columns told s.pairs legal.pairs m.cables to machine.legal.cables pairing y))))
 
     all_led : Led (OfRotors s) (Rotor m) (planned_lines (Rotor m) (OfRotors s) to) (plugged (map once_put zs))
     all_led =
-        let day = OfRotors s in
-        let end = plugged (map once_put zs) in
-        let seats = seat_lines m.slots s.wheels in
-        let reflector = reflector_lines m.reflector s.reflector in
-        let rings = ring_lines m s.wheels in
-        let turns = turn_lines m s.wheels in
-        let pulls = pull_lines m.cables s.pairs to in
-        let two = led_append day (Rotor m) (Rotor after_seats) (Rotor after_reflector) seats reflector seats_reach reflector_reaches in
-        let three = led_append day (Rotor m) (Rotor after_reflector) (with_rings rings_set.end) (seats ++ reflector) rings two rings_set.led in
-        let four = led_append day (Rotor m) (with_rings rings_set.end) (Rotor turned) (seats ++ reflector ++ rings) turns three turns_set.led in
-        let five = led_append day (Rotor m) (Rotor turned) (plugged (map once_pulled zs)) (seats ++ reflector ++ rings ++ turns) pulls four pulls_reach in
-        led_append day (Rotor m) (plugged (map once_pulled zs)) end (seats ++ reflector ++ rings ++ turns ++ pulls) (put_lines m.cables s.pairs to) five puts_reach
+        let rings : Led (OfRotors s) (Rotor after_reflector) (ring_lines m s.wheels) (with_rings rings_set.end) = rings_set.led in
+        let turns : Led (OfRotors s) (with_rings rings_set.end) (turn_lines m s.wheels) (Rotor turned) = turns_set.led in
+        led_append _ _ (led_append _ _ (led_append _ _ (led_append _ _ (led_append _ _ seats_reach reflector_reaches) rings) turns) pulls_reach) puts_reach
 
     pub rotors_reach : Reaches (OfRotors s) (Rotor m) (planned_lines (Rotor m) (OfRotors s) to)
     rotors_reach = record {

@@ -146,14 +146,14 @@ module _ (told : NamesTellWheels) where
         let further = seat_lines_from (number + 1) slots rest in
         let then_so = subst (λ lines. Led (OfRotors s) (with_slots (seats (done ++ w ∷ []) ++ map (without w.wheel) slots)) lines end)
         (same_lines w.wheel slots rest (number + 1) (beside_back OtherWheels done w rest two)) (next (map (without w.wheel) slots) (length-map slots (without w.wheel))) in
-        let led = led_cons (OfRotors s) here end line further (seat_allowed (seats done ++ now ∷ slots) done rest w e) (seat_needed done rest w now slots e is)
-        (subst (λ all. Led (OfRotors s) (with_slots all) further end) (seated_behind done w now slots (beside_front OtherWheels done w rest two)) then_so) in
+        let led : Led (OfRotors s) here (line ∷ further) end = led_cons (seat_allowed (seats done ++ now ∷ slots) done rest w e) (seat_needed done rest w now slots e is)
+        (ap with_slots (sym (seated_behind done w now slots (beside_front OtherWheels done w rest two)))) then_so in
         rw is (subst (λ n. Led (OfRotors s) here (Seat n w.wheel ∷ further) end) (sym at) led)
 
     seats_from : (done rest : List SheetWheel) (slots : List (Option Wheel)) (number : ℕ) → done ++ rest ≡ s.wheels → length slots ≡ length rest → number ≡ suc (length done)
         → Led (OfRotors s) (with_slots (seats done ++ slots)) (seat_lines_from number slots rest) (with_slots (seats s.wheels))
     seats_from done [] [] number e size at =
-        led_none (OfRotors s) (with_slots (seats done ++ [])) (with_slots (seats s.wheels)) (ap with_slots (ap seats (sym e ∙ append-nil done) ∙ sym (append-nil (seats done))))
+        led_none (ap with_slots (ap seats (sym e ∙ append-nil done) ∙ sym (append-nil (seats done))))
     seats_from done (w ∷ rest) (now ∷ slots) number e size at =
         seat_cond (holds now w) done rest w now slots number (with_slots (seats s.wheels)) e refl at
         (λ others same. seats_from (done ++ w ∷ []) rest others (number + 1) (append_assoc done (w ∷ []) rest ∙ e) (omega arith) (omega (arith, length-append done (w ∷ []))))

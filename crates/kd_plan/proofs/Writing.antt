@@ -1,50 +1,159 @@
--- Lines that are written one after another: what is written, and the lines of what is left, are all.
-use Rattle.std.proofs.Common.{◌≡◌, ℕ, ◌+◌, ◌<◌, ◌≤◌, Bool, true, false, not, if◌then◌else◌, zip, List, [], ◌∷◌, ◌++◌, length, get_or, drop, map, filter, filter_map, Option, Some, None, refl, sym, ap, ◌∙◌, arith, append_assoc, length-append}
-use Rattle.std.specs.List.{cons_option}
-use Rattle.std.specs.Option.{option_and_then, option_to_list}
-use Rattle.std.proofs.lemmas.List.{append-nil, drop_more, drop_all, get_or_default}
-use Rattle.std.proofs.lemmas.Slice.Zip.{get_or-zip}
+-- The lines of each kind, thing by thing, and lines that are written one after another.
+use Rattle.std.proofs.Common.{◌≡◌, ℕ, ◌+◌, ◌<◌, ◌≤◌, nat_eq, min, Bool, true, false, not, cond, zip, List, [], ◌∷◌, ◌++◌, length, get_or, drop, map, filter, filter_map, find, Option, Some, None, refl, sym, ap, ◌∙◌, arith, append_assoc, length-append}
+use Rattle.std.specs.List.{cons_option, enumerate_from, flat_map}
+use Rattle.std.specs.Option.{option_and_then, option_map_or, option_to_list}
+use Rattle.std.proofs.lemmas.List.{append-nil, drop_more, drop_all, get_or_default, get_or-map, length-map}
+use Rattle.std.proofs.lemmas.Slice.Zip.{get_or-zip, length-zip}
+use Rattle.kd_tables.specs.declared.place.Place.{Place}
+use Rattle.kd_tables.specs.declared.wheel.Wheel.{Wheel}
+use Rattle.kd_tables.specs.Tables.{box_of}
+use Rattle.kd_state.specs.declared.machine.rotor_parts.RotorParts.{RotorParts}
+use Rattle.kd_state.specs.declared.sheet_day.rotor_entry.SheetWheel.{SheetWheel}
 use Rattle.kd_state.specs.declared.setting.Setting.{Setting}
-use Rattle.kd_plan.specs.Planned.{unless_so}
+use Rattle.kd_state.specs.declared.setting.Setting.TheVariants.{Seat, RingTo, Turn, PinTo}
+use Rattle.kd_state.specs.Box.{same_wheel}
+use Rattle.kd_state.specs.Machine.{ring_at, letter_at}
+use Rattle.kd_state.specs.Costs.{differ}
+use Rattle.kd_plan.specs.Planned.{unless_so, seat_lines, ring_lines, turn_lines, pin_on, wheel_pin_lines, pin_turn_lines, lug_lines}
+use Rattle.kd_plan.proofs.Bars.{BarRow, lugs_of}
 use Rattle.kd_plan.proofs.Carrying.{lines_from}
-use Rattle.kd_plan.proofs.Sides.{one_line}
 
-module _ {Z : Type 0} (lines : ℕ → Z → List Setting) (zs : List Z) where
-  -- the lines of the things from a place on, counted from 0
-  abbrev pub left_from : ℕ → List Setting
-  left_from place = lines_from lines (place + 1) (drop place zs)
+-- from lines of all things to lines of one after another
+pub one_line : (line : Option Setting) (xs ys : List Setting) → xs ≡ ys → cons_option line xs ≡ option_to_list line ++ ys
+one_line None xs ys e = e
+one_line (Some x) xs ys e = ap (λ l. x ∷ l) e
 
-  one_more : (place : ℕ) (z : Z) → place < length zs → get_or zs place z ≡ z → left_from place ≡ lines (place + 1) z ++ left_from (place + 1)
-  one_more place z lt at = ap (lines_from lines (place + 1)) (drop_more zs place z lt) ∙ ap (λ one. lines (place + 1) one ++ left_from (place + 1)) at
+first_found : {Y : Type 0} (f : Y → Option Setting) (o : Option Y) (ys : List Y)
+    → filter_map f (cons_option o ys) ≡ option_to_list (option_and_then f o) ++ filter_map f ys
+first_found f None ys = refl
+first_found f (Some y) ys = one_line (f y) _ _ refl
 
-  -- A turn: there is room for the next line, and when it is written, it and what is left are still all.
-  pub record InTurn (items old all line : List Setting) (place : ℕ) : Type 0 where
-    pub room : length old + length all ≤ 192 → length items + length line ≤ 192
-    pub next : (after : List Setting) → after ≡ items ++ line → after ++ left_from (place + 1) ≡ old ++ all
+module _ {X : Type 0} where
+  flat_lines : (f : ℕ × X → List Setting) (xs : List X) (number : ℕ) → flat_map f (enumerate_from number xs) ≡ lines_from (λ n x. f (n, x)) number xs
+  flat_lines f [] number = refl
+  flat_lines f (x ∷ xs) number = ap (λ lines. f (number, x) ++ lines) (flat_lines f xs (number + 1))
 
-  module _ (items old all : List Setting) (place : ℕ) (written : items ++ left_from place ≡ old ++ all) where
-    pub turn : (z : Z) (line : List Setting) → place < length zs → get_or zs place z ≡ z → line ≡ lines (place + 1) z → InTurn items old all line place
-    turn z line lt at same = record {
-      room = λ few.
-          omega (
-            arith,
-            ap length written,
-            length-append items (left_from place),
-            length-append old all,
-            ap length (one_more place z lt at),
-            length-append (lines (place + 1) z) (left_from (place + 1)),
-            ap length same,
-          );
-      next = λ after e.
-          ap (λ xs. xs ++ left_from (place + 1)) (e ∙ ap (λ xs. items ++ xs) same)
-          ∙ append_assoc items (lines (place + 1) z) (left_from (place + 1))
-          ∙ ap (λ xs. items ++ xs) (sym (one_more place z lt at))
-          ∙ written;
-    }
+  single_lines : (f : ℕ × X → Option Setting) (xs : List X) (number : ℕ)
+      → filter_map f (enumerate_from number xs) ≡ lines_from (λ n x. option_to_list (f (n, x))) number xs
+  single_lines f [] number = refl
+  single_lines f (x ∷ xs) number = one_line (f (number, x)) _ _ (single_lines f xs (number + 1))
 
-    -- no line is left
-    pub end : length zs ≤ place → items ≡ old ++ all
-    end le = sym (append-nil items) ∙ ap (λ xs. items ++ xs) (sym (ap (lines_from lines (place + 1)) (drop_all place zs le))) ∙ written
+  lines_of_map : (f : X → Option Setting) (xs : List X) (number : ℕ) → filter_map f xs ≡ lines_from (λ n x. option_to_list (f x)) number xs
+  lines_of_map f [] number = refl
+  lines_of_map f (x ∷ xs) number = one_line (f x) _ _ (lines_of_map f xs (number + 1))
+
+  lines_of_found : {Y : Type 0} (f : Y → Option Setting) (find : X → Option Y) (xs : List X) (number : ℕ)
+      → filter_map f (filter_map find xs) ≡ lines_from (λ n x. option_to_list (option_and_then f (find x))) number xs
+  lines_of_found f find [] number = refl
+  lines_of_found f find (x ∷ xs) number =
+      first_found f (find x) (filter_map find xs) ∙ ap (λ lines. option_to_list (option_and_then f (find x)) ++ lines) (lines_of_found f find xs (number + 1))
+
+  first_kept : (b : Bool) (line : X → Setting) (x : X) (xs : List X) → map line (cond b (x ∷ xs) xs) ≡ option_to_list (unless_so (not b) (line x)) ++ map line xs
+  first_kept true line x xs = refl
+  first_kept false line x xs = refl
+
+  pub lines_of_kept : (p : X → Bool) (line : X → Setting) (xs : List X) (number : ℕ)
+      → map line (filter p xs) ≡ lines_from (λ n x. option_to_list (unless_so (not (p x)) (line x))) number xs
+  lines_of_kept p line [] number = refl
+  lines_of_kept p line (x ∷ xs) number =
+      first_kept (p x) line x (filter p xs) ∙ ap (λ lines. option_to_list (unless_so (not (p x)) (line x)) ++ lines) (lines_of_kept p line xs (number + 1))
+
+-- the lines of each kind
+abbrev pub seat_of : ℕ → Option Wheel × SheetWheel → List Setting
+seat_of number z = option_to_list (unless_so (option_map_or (same_wheel z.1.wheel) z.0 false) (Seat number z.1.wheel))
+
+pub seat_lines_are : (slots : List (Option Wheel)) (wheels : List SheetWheel) → seat_lines slots wheels ≡ lines_from seat_of 1 (zip slots wheels)
+seat_lines_are slots wheels = single_lines _ (zip slots wheels) 1
+
+abbrev pub wheel_found : List SheetWheel → Wheel → Option SheetWheel
+wheel_found wheels wheel = find (λ w. same_wheel wheel w.wheel) wheels
+
+abbrev pub ring_wanted : RotorParts → SheetWheel → Option Setting
+ring_wanted m w = unless_so (option_map_or (nat_eq w.ring) (ring_at m w.wheel) false) (RingTo w.wheel w.ring)
+
+abbrev pub ring_of_wheel : RotorParts → List SheetWheel → ℕ → Wheel → List Setting
+ring_of_wheel m wheels number wheel = option_to_list (option_and_then (ring_wanted m) (wheel_found wheels wheel))
+
+pub ring_lines_are : (m : RotorParts) (wheels : List SheetWheel) → ring_lines m wheels ≡ lines_from (ring_of_wheel m wheels) 1 (box_of m.model)
+ring_lines_are m wheels = lines_of_found (ring_wanted m) (wheel_found wheels) (box_of m.model) 1
+
+abbrev pub turn_of : RotorParts → ℕ → SheetWheel → List Setting
+turn_of m number w = option_to_list (unless_so (option_map_or (nat_eq w.letter) (letter_at m w.wheel) false) (Turn number w.letter))
+
+pub turn_lines_are : (m : RotorParts) (wheels : List SheetWheel) → turn_lines m wheels ≡ lines_from (turn_of m) 1 wheels
+turn_lines_are m wheels = single_lines _ wheels 1
+
+abbrev pub pin_wanted : ℕ → List ℕ → List Bool → List Bool → ℕ → Option Setting
+pin_wanted wheel ring now wanted letter =
+    unless_so (not (differ (pin_on ring now letter) (pin_on ring wanted letter))) (PinTo wheel letter (pin_on ring wanted letter))
+
+abbrev pub pin_of : ℕ → List ℕ → List Bool → List Bool → ℕ → ℕ → List Setting
+pin_of wheel ring now wanted number letter = option_to_list (pin_wanted wheel ring now wanted letter)
+
+pub wheel_pin_lines_are : (wheel : ℕ) (ring : List ℕ) (now wanted : List Bool)
+    → wheel_pin_lines wheel ring now wanted ≡ lines_from (pin_of wheel ring now wanted) 1 ring
+wheel_pin_lines_are wheel ring now wanted = lines_of_map (pin_wanted wheel ring now wanted) ring 1
+
+abbrev pub pin_turn_of : ℕ → ℕ × ℕ → List Setting
+pin_turn_of number z = option_to_list (unless_so (nat_eq z.0 z.1) (Turn number z.1))
+
+pub pin_turn_lines_are : (letters window : List ℕ) → pin_turn_lines letters window ≡ lines_from pin_turn_of 1 (zip letters window)
+pin_turn_lines_are letters window = single_lines _ (zip letters window) 1
+
+-- a row of the day by its place, and the bars beside their rows
+abbrev pub row_at : List (ℕ × ℕ) → ℕ → ℕ × ℕ
+row_at rows j = get_or rows j (0, 0)
+
+abbrev pub bars_beside : List (Place × Place) → List (ℕ × ℕ) → List ℕ → List BarRow
+bars_beside bars rows to = zip bars (map (row_at rows) to)
+
+pub lug_lines_are : (bars : List (Place × Place)) (rows : List (ℕ × ℕ)) (to : List ℕ) → lug_lines bars rows to ≡ lines_from lugs_of 1 (bars_beside bars rows to)
+lug_lines_are bars rows to = flat_lines _ (bars_beside bars rows to) 1
+
+-- the lines of the things from a place on, counted from 0
+abbrev left_from : {Z : Type 0} → (ℕ → Z → List Setting) → List Z → ℕ → List Setting
+left_from lines zs place = lines_from lines (place + 1) (drop place zs)
+
+-- what was written so far, and the lines of what is left, are all
+pub record IsWriting {Z : Type 0} (lines : ℕ → Z → List Setting) (zs : List Z) (old all items : List Setting) (place : ℕ) : Type 0 where
+  pub written : items ++ left_from lines zs place ≡ old ++ all
+
+-- the line at a place
+pub record IsLine {Z : Type 0} (lines : ℕ → Z → List Setting) (zs : List Z) (place : ℕ) (line : List Setting) : Type 0 where
+  pub parts : left_from lines zs place ≡ line ++ left_from lines zs (place + 1)
+
+module _ {Z : Type 0} {lines : ℕ → Z → List Setting} {zs : List Z} where
+  pub begins : (old all : List Setting) → all ≡ lines_from lines 1 zs → IsWriting lines zs old all old 0
+  begins old all e = record { written = ap (λ xs. old ++ xs) (sym e) }
+
+  pub is_line : {place : ℕ} {line : List Setting} (z : Z) → place < length zs → get_or zs place z ≡ z → line ≡ lines (place + 1) z → IsLine lines zs place line
+  is_line {place = place} z lt at e = record {
+    parts = ap (lines_from lines (place + 1)) (drop_more zs place z lt) ∙ ap (λ one. lines (place + 1) one ++ left_from lines zs (place + 1)) at
+        ∙ ap (λ one. one ++ left_from lines zs (place + 1)) (sym e);
+  }
+
+  pub room : {old all items line : List Setting} {place : ℕ} → IsWriting lines zs old all items place → IsLine lines zs place line
+      → length old + length all ≤ 192 → length items + length line ≤ 192
+  room {old = old} {all = all} {items = items} {line = line} {place = place} h next few =
+      omega (
+        arith,
+        ap length h.written,
+        ap length next.parts,
+        length-append items (left_from lines zs place),
+        length-append old all,
+        length-append line (left_from lines zs (place + 1)),
+      )
+
+  pub writes : {old all items line after : List Setting} {place : ℕ} → IsWriting lines zs old all items place → IsLine lines zs place line
+      → after ≡ items ++ line → IsWriting lines zs old all after (place + 1)
+  writes {items = items} {line = line} {place = place} h next e = record {
+    written = ap (λ xs. xs ++ left_from lines zs (place + 1)) e ∙ append_assoc items line (left_from lines zs (place + 1))
+        ∙ ap (λ xs. items ++ xs) (sym next.parts) ∙ h.written;
+  }
+
+  pub ends : {old all items : List Setting} {place : ℕ} → IsWriting lines zs old all items place → length zs ≤ place → items ≡ old ++ all
+  ends {items = items} {place = place} h le =
+      sym (append-nil items) ∙ ap (λ xs. items ++ xs) (sym (ap (lines_from lines (place + 1)) (drop_all place zs le))) ∙ h.written
 
 -- things side by side, by their place
 pub beside_at : {A B : Type 0} (xs : List A) (ys : List B) (place : ℕ) (x dx : A) (y dy : B) → place < length xs → place < length ys
@@ -54,29 +163,13 @@ beside_at xs ys place x dx y dy lt lt' e e' =
     ∙ ap (λ a. (a, get_or ys place y)) (get_or_default xs place x dx lt ∙ sym e)
     ∙ ap (λ b. (x, b)) (get_or_default ys place y dy lt' ∙ sym e')
 
--- lines of things that have no number
-pub lines_of_map : {X : Type 0} (f : X → Option Setting) (xs : List X) (number : ℕ) → filter_map f xs ≡ lines_from (λ n x. option_to_list (f x)) number xs
-lines_of_map f [] number = refl
-lines_of_map f (x ∷ xs) number = one_line (f x) (filter_map f xs) (lines_from (λ n x. option_to_list (f x)) (number + 1) xs) (lines_of_map f xs (number + 1))
+-- and each beside what is chosen for it
+module _ {A B : Type 0} (xs : List A) (f : ℕ → B) (to : List ℕ) where
+  pub chosen_length : length (zip xs (map f to)) ≡ min (length xs) (length to)
+  chosen_length = length-zip xs (map f to) ∙ ap (min (length xs)) (length-map to f)
 
-first_found : {X : Type 0} (f : X → Option Setting) (found : Option X) (xs : List X) → filter_map f (cons_option found xs) ≡ cons_option (option_and_then f found) (filter_map f xs)
-first_found f None xs = refl
-first_found f (Some x) xs = refl
-
-pub lines_of_found : {X Y : Type 0} (f : Y → Option Setting) (find : X → Option Y) (xs : List X) (number : ℕ)
-    → filter_map f (filter_map find xs) ≡ lines_from (λ n x. option_to_list (option_and_then f (find x))) number xs
-lines_of_found f find [] number = refl
-lines_of_found f find (x ∷ xs) number =
-    first_found f (find x) (filter_map find xs)
-    ∙ one_line (option_and_then f (find x)) (filter_map f (filter_map find xs)) (lines_from (λ n x. option_to_list (option_and_then f (find x))) (number + 1) xs) (lines_of_found f find xs (number + 1))
-
-first_kept : {X : Type 0} (b : Bool) (line : X → Setting) (x : X) (xs : List X) → map line (if b then x ∷ xs else xs) ≡ cons_option (unless_so (not b) (line x)) (map line xs)
-first_kept true line x xs = refl
-first_kept false line x xs = refl
-
-pub lines_of_kept : {X : Type 0} (p : X → Bool) (line : X → Setting) (xs : List X) (number : ℕ)
-    → map line (filter p xs) ≡ lines_from (λ n x. option_to_list (unless_so (not (p x)) (line x))) number xs
-lines_of_kept p line [] number = refl
-lines_of_kept p line (x ∷ xs) number =
-    first_kept (p x) line x (filter p xs)
-    ∙ one_line (unless_so (not (p x)) (line x)) (map line (filter p xs)) (lines_from (λ n x. option_to_list (unless_so (not (p x)) (line x))) (number + 1) xs) (lines_of_kept p line xs (number + 1))
+  pub chosen_at : (place j : ℕ) (x : A) (y : B) → place < length xs → place < length to → j ≡ get_or to place 0 → y ≡ f j
+      → get_or (zip xs (map f to)) place (get_or xs place x, y) ≡ (get_or xs place x, y)
+  chosen_at place j x y within inside at is =
+      beside_at xs (map f to) place (get_or xs place x) x y y within (omega (arith, inside, length-map to f)) refl
+      (is ∙ ap f at ∙ sym (get_or-map f to place 0 y inside))

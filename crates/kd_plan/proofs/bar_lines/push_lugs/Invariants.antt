@@ -1,9 +1,8 @@
-use Rattle.std.proofs.Common.{◌≡◌, ◌++◌, zip, map}
 use Rattle.kd_plan.specs.Planned.{lug_lines}
-use Rattle.kd_plan.proofs.LineKinds.{lugs_of_bar}
-use Rattle.kd_plan.proofs.PinMachines.{row_at}
-use Rattle.kd_plan.proofs.Writing.{left_from}
+use Rattle.kd_plan.proofs.Bars.{lugs_of}
+use Rattle.kd_plan.proofs.Writing.{bars_beside, IsWriting}
 use Rattle.kd_plan.proofs.bar_lines.push_lugs.Given as goal
 
 abbrev pub invariant-loop-place : goal.invariant-loop-place
-invariant-loop-place l = l.settings.items ++ left_from lugs_of_bar (zip l.bars (map (row_at l.rows) l.to)) l.place ≡ l.initial.settings.items ++ lug_lines l.bars l.rows l.to
+invariant-loop-place l =
+    IsWriting lugs_of (bars_beside l.bars l.rows l.to) l.initial.settings.items (lug_lines l.bars l.rows l.to) l.settings.items l.place

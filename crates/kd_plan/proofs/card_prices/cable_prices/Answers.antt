@@ -1,9 +1,10 @@
 use Rattle.std.proofs.Common.{rules, refl, arith}
+use Rattle.std.proofs.lemmas.Bool.{some_since}
 use Rattle.kd_card.specs.declared.prices.PriceParts.TheVariants.{Cables}
-use Rattle.kd_plan.proofs.Pricing.{made, prices_of}
+use Rattle.kd_plan.proofs.Pricing.{prices_of}
 use Rattle.kd_plan.proofs.card_prices.cable_prices.Goals as goal
 
 pub unwrap-requires-else-total-eq0 : goal.unwrap-requires-else-total-eq0
 unwrap-requires-else-total-eq0 c =
-    made c.cables-else-total-eq0.result _ _ c.cables-else-total-eq0.ensures
-    (prices_of (Cables c.args.cables c.args.pairs) 52 (omega arith) refl refl (search rules) (search rules) c.requires.cables c.requires.pairs)
+    some_since _ _ _ c.cables-else-total-eq0.ensures
+    (λ none. none (prices_of (Cables c.args.cables c.args.pairs) 52 (omega arith) refl refl (search rules) (search rules) c.requires.cables c.requires.pairs))

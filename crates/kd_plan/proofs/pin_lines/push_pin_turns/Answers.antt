@@ -1,36 +1,28 @@
-use Rattle.std.proofs.Common.{◌++◌, zip, get_or, refl, sym, ap, arith}
+use Rattle.std.proofs.Common.{zip, get_or, refl, ap, arith}
 use Rattle.std.specs.Option.{option_to_list}
 use Rattle.std.proofs.lemmas.Slice.Zip.{length-zip}
-use Rattle.kd_plan.proofs.LineKinds.{pin_turn_of}
-use Rattle.kd_plan.proofs.Sides.{single_lines}
-use Rattle.kd_plan.proofs.Writing.{turn, end, beside_at}
+use Rattle.kd_plan.proofs.Writing.{pin_turn_of, pin_turn_lines_are, IsLine, begins, is_line, room, writes, ends, beside_at}
 use Rattle.kd_plan.proofs.pin_lines.push_pin_turns.Goals as goal
+use Rattle.kd_plan.proofs.pin_lines.push_pin_turns.Goals.{After-pin_turn_line}
 
 pub loop-place-init : goal.loop-place-init
-loop-place-init c = ap (λ lines. c.args.settings.now.items ++ lines) (sym (single_lines _ (zip c.args.letters.now c.args.window.now) 1))
+loop-place-init c = begins _ _ (pin_turn_lines_are c.args.letters.now c.args.window.now)
+
+next : (c : After-pin_turn_line) → IsLine pin_turn_of (zip c.args.letters.now c.args.window.now) c.loop-place.place (option_to_list c.pin_turn_line.result)
+next c =
+    let letters = c.args.letters.now in
+    let window = c.args.window.now in
+    let place = c.loop-place.place in
+    let now = c.index-letters-place.result in
+    let due = c.index-window-place.result in
+    is_line (get_or letters place now, get_or window place due) (omega (arith, length-zip letters window))
+    (beside_at letters window place _ now _ due (omega arith) (omega arith) refl refl) (ap option_to_list c.pin_turn_line.ensures)
 
 pub push_line-requires : goal.push_line-requires
-push_line-requires c =
-    (turn pin_turn_of (zip c.args.letters.now c.args.window.now) c.loop-place.settings.items c.args.settings.now.items _ c.loop-place.place
-    c.loop-place.invariant
-    (get_or c.args.letters.now c.loop-place.place c.index-letters-place.result, get_or c.args.window.now c.loop-place.place c.index-window-place.result)
-    _
-    (omega (arith, length-zip c.args.letters.now c.args.window.now))
-    (beside_at c.args.letters.now c.args.window.now c.loop-place.place _ c.index-letters-place.result _ c.index-window-place.result (omega arith) (omega arith) refl refl)
-    (ap option_to_list c.pin_turn_line.ensures)).room (omega (arith, c.requires))
+push_line-requires c = room c.loop-place.invariant (next (goal.at.push_line-requires c).After-pin_turn_line) (omega (arith, c.requires))
 
 pub loop-place-preserved : goal.loop-place-preserved
-loop-place-preserved c =
-    (turn pin_turn_of (zip c.args.letters.now c.args.window.now) c.loop-place.settings.items c.args.settings.now.items _ c.loop-place.place
-    c.loop-place.invariant
-    (get_or c.args.letters.now c.loop-place.place c.index-letters-place.result, get_or c.args.window.now c.loop-place.place c.index-window-place.result)
-    _
-    (omega (arith, length-zip c.args.letters.now c.args.window.now))
-    (beside_at c.args.letters.now c.args.window.now c.loop-place.place _ c.index-letters-place.result _ c.index-window-place.result (omega arith) (omega arith) refl refl)
-    (ap option_to_list c.pin_turn_line.ensures)).next _ c.push_line.ensures
+loop-place-preserved c = writes c.loop-place.invariant (next (goal.at.loop-place-preserved c).After-pin_turn_line) c.push_line.ensures
 
 pub returns : goal.returns
-returns c =
-    end pin_turn_of (zip c.args.letters.now c.args.window.now) c.loop-place.settings.items c.args.settings.now.items _ c.loop-place.place
-    c.loop-place.invariant
-    (omega (arith, length-zip c.args.letters.now c.args.window.now))
+returns c = ends c.loop-place.invariant (omega (arith, length-zip c.args.letters.now c.args.window.now))

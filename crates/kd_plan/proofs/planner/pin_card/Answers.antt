@@ -1,12 +1,18 @@
-use Rattle.std.proofs.Common.{rules, arith}
+use Rattle.std.proofs.Common.{List, ℤ, pos, nat_eq, replicate, rules, refl, sym, subst, arith}
+use Rattle.std.proofs.lemmas.Bool.{cond_both}
+use Rattle.kd_state.specs.declared.machine.parts.Parts.TheVariants.{Pin}
 use Rattle.kd_state.specs.Entry.{pin_values}
-use Rattle.kd_plan.proofs.Assembling.{bar_costs_at_most, pin_room, pin_planned}
-use Rattle.kd_plan.proofs.Pricing.{bars_solved, bars_kind}
+use Rattle.kd_state.specs.SheetDay.{OfPins}
+use Rattle.kd_card.specs.declared.prices.PriceParts.TheVariants.{Bars}
+use Rattle.kd_card.specs.Proving.{AreOfKind}
+use Rattle.kd_plan.proofs.Assembling.{bar_costs_at_most, pin_room, planned}
+use Rattle.kd_plan.proofs.Pricing.{solved, zeros_all}
 use Rattle.kd_plan.proofs.planner.pin_card.Goals as goal
 
 pub assign-total-requires : goal.assign-total-requires
 assign-total-requires c =
-    (omega arith, (omega arith, (omega arith, (omega arith, (omega arith, bar_costs_at_most c.bar_costs-costs.result c.args.parts.now.bars c.args.entry.now.rows c.bar_costs-costs.ensures)))))
+    let costs = bar_costs_at_most c.bar_costs-costs.result c.args.parts.now.bars c.args.entry.now.rows c.bar_costs-costs.ensures in
+    (omega arith, (omega arith, (omega arith, (omega arith, (omega arith, costs)))))
 
 pub pin_settings-settings-requires-clause-room : goal.pin_settings-settings-requires-clause-room
 pin_settings-settings-requires-clause-room c = pin_room c.args.parts.now (pin_values c.args.entry.now) _ c.requires.machine
@@ -15,12 +21,16 @@ pub returns : goal.returns
 returns c =
     let solution = c.assign-total.result in
     let told = c.assign-total.ensures in
-    let prices = c.bar_prices-prices.result in
-    let solved = bars_solved c.bar_costs-costs.result solution.to solution.row solution.col solution.total prices (search rules) (search rules) told.fits told.price_sum told.cost c.bar_prices-prices.ensures in
-    pin_planned c.args.parts.now (pin_values c.args.entry.now) c.bar_costs-costs.result solution.to _ prices
+    let none : List ℤ = replicate 27 (pos 0) in
+    let zeros = Bars none none in
+    let others = Bars solution.row solution.col in
+    let chosen = c.bar_prices-prices.ensures in
+    planned (Pin c.args.parts.now) (OfPins (pin_values c.args.entry.now)) c.bar_costs-costs.result solution.to _ c.bar_prices-prices.result
+    refl
     c.bar_costs-costs.ensures
-    (bars_kind c.args.parts.now prices _ _ _ _ _ c.bar_prices-prices.ensures)
+    (subst (AreOfKind (Pin c.args.parts.now)) (sym chosen) (cond_both (nat_eq solution.total 0) zeros others (AreOfKind (Pin c.args.parts.now)) (λ e. tt) (λ e. tt)))
     (search rules)
     told.one_to_one
     c.pin_settings-settings.ensures
-    solved
+    (solved c.bar_costs-costs.result solution.to solution.total zeros others _ refl refl refl (zeros_all 54)
+    (search rules) (search rules) told.fits told.price_sum told.cost chosen)

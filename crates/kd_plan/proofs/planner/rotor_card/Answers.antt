@@ -1,13 +1,20 @@
-use Rattle.std.proofs.Common.{rules, arith, ap, ◌∙◌}
+use Rattle.std.proofs.Common.{List, ℤ, pos, nat_eq, replicate, rules, refl, sym, ap, ◌∙◌, subst, arith}
+use Rattle.std.proofs.lemmas.Bool.{cond_both}
+use Rattle.kd_state.specs.declared.machine.parts.Parts.TheVariants.{Rotor}
 use Rattle.kd_state.specs.Entry.{rotor_values}
+use Rattle.kd_state.specs.SheetDay.{OfRotors}
 use Rattle.kd_state.specs.Costs.{cable_costs}
-use Rattle.kd_plan.proofs.Assembling.{cable_costs_at_most, rotor_room, rotor_planned}
-use Rattle.kd_plan.proofs.Pricing.{cables_solved, cables_kind}
+use Rattle.kd_card.specs.declared.prices.PriceParts.TheVariants.{Cables}
+use Rattle.kd_card.specs.Proving.{AreOfKind}
+use Rattle.kd_plan.proofs.Assembling.{cable_costs_at_most, rotor_room, planned}
+use Rattle.kd_plan.proofs.Pricing.{solved, zeros_all}
 use Rattle.kd_plan.proofs.planner.rotor_card.Goals as goal
 
 pub assign-total-requires : goal.assign-total-requires
 assign-total-requires c =
-    (omega arith, (omega arith, (omega arith, (omega arith, (omega arith, cable_costs_at_most c.cable_costs-costs.result c.args.parts.now.cables c.args.entry.now.pairs.items (c.cable_costs-costs.ensures ∙ ap (cable_costs c.args.parts.now.cables) c.as_slice.ensures.value))))))
+    let table = c.cable_costs-costs.ensures ∙ ap (cable_costs c.args.parts.now.cables) c.as_slice.ensures.value in
+    let costs = cable_costs_at_most c.cable_costs-costs.result c.args.parts.now.cables c.args.entry.now.pairs.items table in
+    (omega arith, (omega arith, (omega arith, (omega arith, (omega arith, costs)))))
 
 pub rotor_settings-settings-requires-clause-room : goal.rotor_settings-settings-requires-clause-room
 rotor_settings-settings-requires-clause-room c = rotor_room c.args.parts.now (rotor_values c.args.entry.now) _ c.requires.machine c.requires.legal
@@ -16,13 +23,16 @@ pub returns : goal.returns
 returns c =
     let solution = c.assign-total.result in
     let told = c.assign-total.ensures in
-    let prices = c.cable_prices-prices.result in
-    let solved = cables_solved c.cable_costs-costs.result solution.to solution.row solution.col solution.total prices (search rules) (search rules) told.fits told.price_sum told.cost c.cable_prices-prices.ensures in
-    rotor_planned c.args.parts.now (rotor_values c.args.entry.now) c.cable_costs-costs.result solution.to _ prices
+    let none : List ℤ = replicate 13 (pos 0) in
+    let zeros = Cables none none in
+    let others = Cables solution.row solution.col in
+    let chosen = c.cable_prices-prices.ensures in
+    planned (Rotor c.args.parts.now) (OfRotors (rotor_values c.args.entry.now)) c.cable_costs-costs.result solution.to _ c.cable_prices-prices.result
     c.requires.model
     (c.cable_costs-costs.ensures ∙ ap (cable_costs c.args.parts.now.cables) c.as_slice.ensures.value)
-    (cables_kind c.args.parts.now prices _ _ _ _ _ c.cable_prices-prices.ensures)
+    (subst (AreOfKind (Rotor c.args.parts.now)) (sym chosen) (cond_both (nat_eq solution.total 0) zeros others (AreOfKind (Rotor c.args.parts.now)) (λ e. tt) (λ e. tt)))
     (search rules)
     told.one_to_one
     c.rotor_settings-settings.ensures
-    solved
+    (solved c.cable_costs-costs.result solution.to solution.total zeros others _ refl refl refl (zeros_all 26)
+    (search rules) (search rules) told.fits told.price_sum told.cost chosen)

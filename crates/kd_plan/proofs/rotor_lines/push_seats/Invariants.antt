@@ -1,8 +1,7 @@
-use Rattle.std.proofs.Common.{◌≡◌, ◌++◌, zip}
+use Rattle.std.proofs.Common.{zip}
 use Rattle.kd_plan.specs.Planned.{seat_lines}
-use Rattle.kd_plan.proofs.LineKinds.{seat_of}
-use Rattle.kd_plan.proofs.Writing.{left_from}
+use Rattle.kd_plan.proofs.Writing.{seat_of, IsWriting}
 use Rattle.kd_plan.proofs.rotor_lines.push_seats.Given as goal
 
 abbrev pub invariant-loop-place : goal.invariant-loop-place
-invariant-loop-place l = l.settings.items ++ left_from seat_of (zip l.slots l.wheels) l.place ≡ l.initial.settings.items ++ seat_lines l.slots l.wheels
+invariant-loop-place l = IsWriting seat_of (zip l.slots l.wheels) l.initial.settings.items (seat_lines l.slots l.wheels) l.settings.items l.place

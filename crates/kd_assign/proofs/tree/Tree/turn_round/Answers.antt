@@ -5,12 +5,12 @@ use Rattle.kd_assign.proofs.tree.Tree.turn_round.Goals as goal
 pub bounds-to-row : goal.bounds-to-row
 bounds-to-row g c =
     let so_far = c.loop-row.invariant in
-    let within = row_in_range _ _ _ _ _ _ _ so_far.turning (sym c.take.ensures.value ∙ c.in-Some.is) in
+    let within = row_in_range _ so_far.turning (sym c.take.ensures.value ∙ c.in-Some.is) in
     omega arith
 
 pub offset_bounds-to-row : goal.offset_bounds-to-row
 offset_bounds-to-row g c =
-    let within = row_in_range _ _ _ _ _ _ _ c.loop-row.invariant.turning (sym c.take.ensures.value ∙ c.in-Some.is) in
+    let within = row_in_range _ c.loop-row.invariant.turning (sym c.take.ensures.value ∙ c.in-Some.is) in
     search rules
 
 pub loop-row-preserved : goal.loop-row-preserved
@@ -19,20 +19,20 @@ loop-row-preserved g c =
     record {
       to_len = search rules;
       reached_len = search rules;
-      turning = rw (c.replace.ensures.after, c.take.ensures.after) (turns _ _ _ _ _ _ _ so_far.turning (sym c.take.ensures.value ∙ c.in-Some.is) _ (sym c.replace.ensures.value ∙ c.in-Some-replace.is));
+      turning = rw (c.replace.ensures.after, c.take.ensures.after) (turns _ so_far.turning (sym c.take.ensures.value ∙ c.in-Some.is) _ (sym c.replace.ensures.value ∙ c.in-Some-replace.is));
     }
 
 pub returns-in-None-clause-partial : goal.returns-in-None-clause-partial
-returns-in-None-clause-partial g c = rw c.replace.ensures.after (partial_still _ _ _ _ _ _ _ c.loop-row.invariant.turning (sym c.take.ensures.value ∙ c.in-Some.is))
+returns-in-None-clause-partial g c = rw c.replace.ensures.after (partial_still _ c.loop-row.invariant.turning (sym c.take.ensures.value ∙ c.in-Some.is))
 
 pub returns-in-None-clause-edges : goal.returns-in-None-clause-edges
-returns-in-None-clause-edges g c = rw c.replace.ensures.after (edges_still _ _ _ _ _ _ _ c.loop-row.invariant.turning (sym c.take.ensures.value ∙ c.in-Some.is))
+returns-in-None-clause-edges g c = rw c.replace.ensures.after (edges_still _ c.loop-row.invariant.turning (sym c.take.ensures.value ∙ c.in-Some.is))
 
 pub returns-in-None-clause-kept : goal.returns-in-None-clause-kept
-returns-in-None-clause-kept g c = rw c.replace.ensures.after (kept_at_end _ _ _ _ _ _ _ c.loop-row.invariant.turning (sym c.take.ensures.value ∙ c.in-Some.is) (sym c.replace.ensures.value ∙ c.in-None.is))
+returns-in-None-clause-kept g c = rw c.replace.ensures.after (kept_at_end _ c.loop-row.invariant.turning (sym c.take.ensures.value ∙ c.in-Some.is) (sym c.replace.ensures.value ∙ c.in-None.is))
 
 pub returns-in-None-clause-count : goal.returns-in-None-clause-count
-returns-in-None-clause-count g c = rw c.replace.ensures.after (count_at_end _ _ _ _ _ _ _ c.loop-row.invariant.turning (sym c.take.ensures.value ∙ c.in-Some.is) (sym c.replace.ensures.value ∙ c.in-None.is))
+returns-in-None-clause-count g c = rw c.replace.ensures.after (count_at_end _ c.loop-row.invariant.turning (sym c.take.ensures.value ∙ c.in-Some.is) (sym c.replace.ensures.value ∙ c.in-None.is))
 
 pub returns-in-None-clause-others : goal.returns-in-None-clause-others
-returns-in-None-clause-others g c = rw c.replace.ensures.after (others_at_end _ _ _ _ _ _ _ c.loop-row.invariant.turning (sym c.take.ensures.value ∙ c.in-Some.is) (sym c.replace.ensures.value ∙ c.in-None.is))
+returns-in-None-clause-others g c = rw c.replace.ensures.after (others_at_end _ c.loop-row.invariant.turning (sym c.take.ensures.value ∙ c.in-Some.is) (sym c.replace.ensures.value ∙ c.in-None.is))

@@ -1,0 +1,267 @@
+-- How many lines there are, and how many of them the prices speak of: as many as the pairing costs.
+use Rattle.std.proofs.Common.{◌≡◌, ℕ, zero, suc, ◌+◌, ◌*◌, ◌<◌, ◌≤◌, nat_eq, nat_lt, min, Bool, true, false, not, ◌&&◌, cond, List, [], ◌∷◌, ◌++◌, length, get_or, map, zip, filter_map, fold, count_by, Option, Some, None, refl, sym, ◌∙◌, subst, arith, length-append}
+use Rattle.std.specs.List.{AllByRecursion, cons_option, enumerate_from, flat_map, range_with_len, sum_by}
+use Rattle.std.specs.Option.{option_map_or, option_to_list}
+use Rattle.std.proofs.lemmas.Bool.{cond_both}
+use Rattle.std.proofs.lemmas.Bool.Decides.{nat_tests}
+use Rattle.std.proofs.lemmas.List.{get_or-map, length-map}
+use Rattle.std.proofs.lemmas.List.FromFn.{length-enumerate_from}
+use Rattle.std.proofs.lemmas.List.Sums.{sum_by-append, sum_by-cons, sum_by-le-sum_by, length-filter}
+use Rattle.std.proofs.lemmas.Slice.Zip.{length-zip}
+use Rattle.kd_tables.specs.declared.place.Place.{Place}
+use Rattle.kd_tables.specs.declared.wheel.Wheel.{Wheel}
+use Rattle.kd_tables.specs.Rings.{ring_of}
+use Rattle.kd_tables.specs.Tables.{box_of}
+use Rattle.kd_pins.specs.PinWheels.{pin_wheels}
+use Rattle.kd_tables.specs.declared.lug.Lug.{Lug}
+use Rattle.kd_tables.specs.declared.lug.Lug.TheVariants.{Left, Right}
+use Rattle.kd_tables.specs.Permutation.{alphabet}
+use Rattle.kd_tables.specs.Places.{place_rank}
+use Rattle.kd_state.specs.declared.setting.Setting.{Setting}
+use Rattle.kd_state.specs.declared.setting.Setting.TheVariants.{Pull, Put, Seat, SeatReflector, RingTo, Turn, PinTo, LugTo}
+use Rattle.kd_state.specs.declared.machine.rotor_parts.RotorParts.{RotorParts}
+use Rattle.kd_state.specs.declared.machine.pin_parts.PinParts.{PinParts}
+use Rattle.kd_state.specs.declared.machine.parts.Parts.TheVariants.{Rotor, Pin}
+use Rattle.kd_state.specs.declared.sheet_day.rotor_entry.SheetWheel.{SheetWheel}
+use Rattle.kd_state.specs.Box.{same_wheel, same_reflector}
+use Rattle.kd_state.specs.SheetDay.{RotorDay, PinDay, OfRotors, OfPins}
+use Rattle.kd_state.specs.Pins.{wheel_pins}
+use Rattle.kd_state.specs.Machine.{cable_letters, ring_at, letter_at}
+use Rattle.kd_state.specs.Setting.{has_letter, is_at}
+use Rattle.kd_state.specs.Costs.{differ, lies_in_one, unless_same, column_letters, cable_cost, bar_cost, standings_as, lugs_moved}
+use Rattle.kd_card.specs.Proving.{is_priced, priced_count}
+use Rattle.kd_assign.specs.Assignment.{assignment_cost}
+use Rattle.kd_plan.specs.Planned.{unless_so, in_box_order, pin_on, wheel_pin_lines, pin_lines, lugs_to, planned_lines}
+use Rattle.kd_plan.proofs.Cables.{Cable, Column, Beside, times, times-cons, times-append, has_times, pulls, puts, besides, work_beside, lines_beside}
+use Rattle.kd_plan.proofs.Bars.{BarRow, to_stand, lugs_of}
+use Rattle.kd_plan.proofs.Carrying.{lines_from}
+use Rattle.kd_plan.proofs.Writing.{wheel_found, bars_beside, lug_lines_are}
+use Rattle.kd_plan.specs.declared.cable_lines.Work.TheVariants as works
+
+-- so many lines at most, and so many of cables and bars
+pub record AreCounted (lines : List Setting) (most cost : ℕ) : Type 0 where
+  pub few : length lines ≤ most
+  pub priced : priced_count lines ≡ cost
+
+counted_as : {a p : ℕ} {xs ys : List Setting} → xs ≡ ys → AreCounted ys a p → AreCounted xs a p
+counted_as {a = a} {p = p} e h = subst (λ lines. AreCounted lines a p) (sym e) h
+
+pub counted-append : {a b p q : ℕ} (xs ys : List Setting) → AreCounted xs a p → AreCounted ys b q → AreCounted (xs ++ ys) (a + b) (p + q)
+counted-append xs ys h k = record {
+  few = omega (arith, length-append xs ys, h.few, k.few);
+  priced = omega (arith, sum_by-append (λ x. cond (is_priced x) 1 0) xs ys, h.priced, k.priced);
+}
+
+priced-cons : (x : Setting) (xs : List Setting) → priced_count (x ∷ xs) ≡ cond (is_priced x) 1 0 + priced_count xs
+priced-cons x xs = sum_by-cons (λ x. cond (is_priced x) 1 0) x xs
+
+-- lines of other things
+pub counted_unless : (so : Bool) (x : Setting) → is_priced x ≡ false → AreCounted (option_to_list (unless_so so x)) 1 0
+counted_unless true x e = record { few = omega arith; priced = refl }
+counted_unless false x e = record { few = omega arith; priced = rw e refl }
+
+one_at_most : {Y : Type 0} (o : Option Y) (ys : List Y) → length (cons_option o ys) ≤ length ys + 1
+one_at_most None ys = omega arith
+one_at_most (Some y) ys = omega arith
+
+pub found_at_most : {X Y : Type 0} (f : X → Option Y) (xs : List X) → length (filter_map f xs) ≤ length xs
+found_at_most f [] = omega arith
+found_at_most f (x ∷ xs) = omega (arith, one_at_most (f x) (filter_map f xs), found_at_most f xs)
+
+one_unpriced : (so : Bool) (x : Setting) (xs : List Setting) → is_priced x ≡ false → priced_count (cons_option (unless_so so x) xs) ≡ priced_count xs
+one_unpriced true x xs e = refl
+one_unpriced false x xs e = rw priced-cons (rw e (omega arith))
+
+none_priced : {X : Type 0} (so : X → Bool) (line : X → Setting) (xs : List X) → ((x : X) → is_priced (line x) ≡ false)
+    → priced_count (filter_map (λ x. unless_so (so x) (line x)) xs) ≡ 0
+none_priced so line [] h = refl
+none_priced so line (x ∷ xs) h = one_unpriced (so x) (line x) _ (h x) ∙ none_priced so line xs h
+
+pub counted_lines : {X : Type 0} (so : X → Bool) (line : X → Setting) (xs : List X) (most : ℕ) → ((x : X) → is_priced (line x) ≡ false) → length xs ≤ most
+    → AreCounted (filter_map (λ x. unless_so (so x) (line x)) xs) most 0
+counted_lines so line xs most h le =
+    record { few = omega (arith, found_at_most (λ x. unless_so (so x) (line x)) xs); priced = none_priced so line xs h }
+
+-- lines of cables and of bars
+pub counted_from : {Z : Type 0} (lines : ℕ → Z → List Setting) (f : Z → ℕ) → ((number : ℕ) (z : Z) → AreCounted (lines number z) (f z) (f z))
+    → (zs : List Z) (number : ℕ) → AreCounted (lines_from lines number zs) (sum_by f zs) (sum_by f zs)
+counted_from lines f h [] number = record { few = omega arith; priced = refl }
+counted_from lines f h (z ∷ zs) number =
+    rw sum_by-cons (counted-append (lines number z) (lines_from lines (number + 1) zs) (h number z) (counted_from lines f h zs (number + 1)))
+
+all_priced : (line : ℕ → Setting) (xs : List ℕ) → ((x : ℕ) → is_priced (line x) ≡ true) → priced_count (map line xs) ≡ length xs
+all_priced line [] h = refl
+all_priced line (x ∷ xs) h = rw (priced-cons, h x, all_priced line xs h) (omega arith)
+
+pub counted_map : (line : ℕ → Setting) (xs : List ℕ) → ((x : ℕ) → is_priced (line x) ≡ true) → AreCounted (map line xs) (length xs) (length xs)
+counted_map line xs h = record { few = omega (arith, length-map xs line); priced = all_priced line xs h }
+
+-- a cable's letters are pulled and put as many as its column costs, and 4 at most
+one_letter : (p q : Bool) → cond {A = ℕ} (p && not q) 1 0 + cond (q && not p) 1 0 ≡ cond (differ p q) 1 0
+one_letter p q = grind arith
+
+apart_count : (p q : ℕ → Bool) (xs : List ℕ)
+    → count_by (λ l. p l && not (q l)) xs + count_by (λ l. q l && not (p l)) xs ≡ count_by (λ l. differ (p l) (q l)) xs
+apart_count p q [] = refl
+apart_count p q (x ∷ xs) =
+    omega (
+      arith,
+      sum_by-cons (λ l. cond (p l && not (q l)) 1 0) x xs,
+      sum_by-cons (λ l. cond (q l && not (p l)) 1 0) x xs,
+      sum_by-cons (λ l. cond (differ (p l) (q l)) 1 0) x xs,
+      one_letter (p x) (q x),
+      apart_count p q xs,
+    )
+
+pub cable_lines : (z : Beside) → length (pulls z) + length (puts z) ≡ cable_cost z.0 z.1
+cable_lines z =
+    let held = has_letter (cable_letters z.0) in
+    let due = has_letter (column_letters z.1) in
+    omega (
+      arith,
+      length-filter (λ l. held l && not (due l)) alphabet,
+      length-filter (λ l. due l && not (held l)) alphabet,
+      apart_count held due alphabet,
+    )
+
+past : (x a number : ℕ) → x < a → count_by (nat_eq x) (range_with_len a number) ≡ 0
+past x a zero lt = refl
+past x a (suc number) lt =
+    grind (arith, nat_tests, sum_by-cons (λ y. cond (nat_eq x y) 1 0) a (range_with_len (a + 1) number), past x (a + 1) number)
+
+once : (x a number : ℕ) → count_by (nat_eq x) (range_with_len a number) ≤ 1
+once x a zero = omega arith
+once x a (suc number) =
+    grind (arith, nat_tests, sum_by-cons (λ y. cond (nat_eq x y) 1 0) a (range_with_len (a + 1) number), past x (a + 1) number, once x (a + 1) number)
+
+two_sums : {X : Type 0} (f g : X → ℕ) (xs : List X) → sum_by (λ x. f x + g x) xs ≡ sum_by f xs + sum_by g xs
+two_sums f g [] = refl
+two_sums f g (x ∷ xs) = omega (arith, sum_by-cons (λ x. f x + g x) x xs, sum_by-cons f x xs, sum_by-cons g x xs, two_sums f g xs)
+
+all_times : (xs : List ℕ) → sum_by (λ y. times y xs) alphabet ≤ length xs
+all_times [] = omega arith
+all_times (x ∷ xs) =
+    let one : ℕ → ℕ = λ y. cond (nat_eq x y) 1 0 in
+    let parts = sum_by-le-sum_by (λ y. times y (x ∷ xs)) (λ y. one y + times y xs) alphabet (λ y. omega (arith, times-cons y x xs)) in
+    omega (arith, parts, two_sums one (λ y. times y xs) alphabet, once x 0 26, all_times xs)
+
+pub cable_cost_at_most : (cable : Cable) (column : Column) → cable_cost cable column ≤ 4
+cable_cost_at_most cable column =
+    let all = cable_letters cable ++ column_letters column in
+    let each : (y : ℕ) → cond {A = ℕ} (lies_in_one cable column y) 1 0 ≤ times y all = λ y.
+    grind (arith, nat_tests, has_times (cable_letters cable) y, has_times (column_letters column) y, times-append y (cable_letters cable) (column_letters column)) in
+    omega (
+      arith,
+      sum_by-le-sum_by (λ y. cond (lies_in_one cable column y) 1 0) (λ y. times y all) alphabet each,
+      all_times all,
+      length-append (cable_letters cable) (column_letters column),
+      ends cable,
+      two column,
+    )
+  where
+    ends : (cable : Cable) → length (cable_letters cable) ≤ 2
+    ends (None, b) = grind arith
+    ends (Some a, None) = omega arith
+    ends (Some a, Some b) = omega arith
+
+    two : (column : Column) → length (column_letters column) ≤ 2
+    two None = omega arith
+    two (Some pair) = omega arith
+
+-- a bar's lines are as many as lugs are moved
+one_lug : (so : Bool) (number : ℕ) (lug : Lug) (place : Place)
+    → AreCounted (option_to_list (unless_so so (LugTo number lug place))) (unless_same so) (unless_same so)
+one_lug true number lug place = record { few = omega arith; priced = refl }
+one_lug false number lug place = record { few = omega arith; priced = refl }
+
+pub counted_lugs : (number : ℕ) (bar target : Place × Place) → AreCounted (lugs_to number bar target) (lugs_moved bar target) (lugs_moved bar target)
+counted_lugs number bar target =
+    let left = option_to_list (unless_so (is_at bar.0 target.0) (LugTo number Left target.0)) in
+    let right = option_to_list (unless_so (is_at bar.1 target.1) (LugTo number Right target.1)) in
+    let moved = lugs_moved bar target in
+    let first = one_lug (is_at bar.0 target.0) number Left target.0 in
+    let second = one_lug (is_at bar.1 target.1) number Right target.1 in
+    cond_both (nat_lt (place_rank target.0) (place_rank bar.1)) (left ++ right) (right ++ left) (λ lines. AreCounted lines moved moved)
+    (λ e. counted-append left right first second)
+    (λ e. let both = counted-append right left second first in record { few = omega (arith, both.few); priced = omega (arith, both.priced) })
+
+least_at_most : (n : ℕ) (xs : List ℕ) → fold min n xs ≤ n
+least_at_most n [] = omega arith
+least_at_most n (x ∷ xs) = omega (arith, least_at_most (min n x) xs)
+
+pub bar_cost_at_most : (bar : Place × Place) (row : ℕ × ℕ) → bar_cost bar row ≤ 4
+bar_cost_at_most bar row = omega (arith, least_at_most 2 (map (lugs_moved bar) (standings_as row)))
+
+-- what a pairing costs, by the table
+pub table_cost : {A B : Type 0} (cost : A → B → ℕ) (columns : List B) (d : B) (all : List A) (to : List ℕ) → length all ≡ length to
+    → AllByRecursion (λ j. j < length columns) to
+    → assignment_cost (map (λ x. map (cost x) columns) all) to ≡ sum_by (λ (z : A × B). cost z.0 z.1) (zip all (map (λ j. get_or columns j d) to))
+table_cost cost columns d [] [] size within = refl
+table_cost {A = A} {B = B} cost columns d (x ∷ all) (j ∷ to) size within =
+    omega (
+      arith,
+      sum_by-cons (λ (z : A × B). cost z.0 z.1) (x, get_or columns j d) (zip all (map (λ j. get_or columns j d) to)),
+      get_or-map (cost x) columns j d 0 within.0,
+      table_cost cost columns d all to (omega arith) within.1,
+    )
+table_cost cost columns d _ _ size within = absurd (omega arith)
+
+-- All planned lines of a rotor machine.
+module _ (m : RotorParts) (s : RotorDay) (to : List ℕ) where
+  abbrev cables : List Beside
+  cables = besides m.cables s.pairs to
+
+  cable_sums : (zs : List Beside) → sum_by (λ z. length (pulls z)) zs + sum_by (λ z. length (puts z)) zs ≡ sum_by (λ z. cable_cost z.0 z.1) zs
+  cable_sums [] = refl
+  cable_sums (z ∷ zs) =
+      omega (
+        arith,
+        sum_by-cons (λ z. length (pulls z)) z zs,
+        sum_by-cons (λ z. length (puts z)) z zs,
+        sum_by-cons (λ (z : Beside). cable_cost z.0 z.1) z zs,
+        cable_lines z,
+        cable_sums zs,
+      )
+
+  pub rotor_counted : AreCounted (planned_lines (Rotor m) (OfRotors s) to) (2 * length s.wheels + 1 + length (box_of m.model) + sum_by (λ z. cable_cost z.0 z.1) cables)
+      (sum_by (λ z. cable_cost z.0 z.1) cables)
+  rotor_counted =
+      let seats = counted_lines (λ (slot : ℕ × (Option Wheel × SheetWheel)). option_map_or (same_wheel slot.1.1.wheel) slot.1.0 false) (λ slot. Seat slot.0 slot.1.1.wheel)
+      (enumerate_from 1 (zip m.slots s.wheels)) (length s.wheels) (λ slot. refl) (omega (arith, length-enumerate_from 1 (zip m.slots s.wheels), length-zip m.slots s.wheels)) in
+      let reflector = counted_unless (same_reflector m.reflector s.reflector) (SeatReflector s.reflector) refl in
+      let rings = counted_lines (λ (w : SheetWheel). option_map_or (nat_eq w.ring) (ring_at m w.wheel) false) (λ w. RingTo w.wheel w.ring)
+      (in_box_order m.model s.wheels) (length (box_of m.model)) (λ w. refl) (found_at_most (wheel_found s.wheels) (box_of m.model)) in
+      let turns = counted_lines (λ (slot : ℕ × SheetWheel). option_map_or (nat_eq slot.1.letter) (letter_at m slot.1.wheel) false) (λ slot. Turn slot.0 slot.1.letter)
+      (enumerate_from 1 s.wheels) (length s.wheels) (λ slot. refl) (omega (arith, length-enumerate_from 1 s.wheels)) in
+      let pulled = counted_from (work_beside works.Pull) (λ z. length (pulls z)) (λ n z. counted_map (Pull n) (pulls z) (λ x. refl)) cables 1 in
+      let put = counted_from (work_beside works.Put) (λ z. length (puts z)) (λ n z. counted_map (Put n) (puts z) (λ x. refl)) cables 1 in
+      let all = counted-append _ _ (counted-append _ _ (counted-append _ _ (counted-append _ _ (counted-append _ _ seats reflector) rings) turns)
+      (counted_as (lines_beside works.Pull m.cables s.pairs to) pulled)) (counted_as (lines_beside works.Put m.cables s.pairs to) put) in
+      record { few = omega (arith, all.few, cable_sums cables); priced = omega (arith, all.priced, cable_sums cables) }
+
+-- And of a Converter M-209.
+counted_flat : (lines : ℕ → List Setting) (most : ℕ → ℕ) → ((n : ℕ) → AreCounted (lines n) (most n) 0) → (ns : List ℕ)
+    → AreCounted (flat_map lines ns) (sum_by most ns) 0
+counted_flat lines most h [] = record { few = omega arith; priced = refl }
+counted_flat lines most h (n ∷ ns) = rw sum_by-cons (counted-append (lines n) (flat_map lines ns) (h n) (counted_flat lines most h ns))
+
+all_pins : sum_by (λ n. length (ring_of n)) pin_wheels ≡ 131
+unfolding ring_of
+all_pins = refl
+
+module _ (m : PinParts) (s : PinDay) (to : List ℕ) where
+  abbrev bars : List BarRow
+  bars = bars_beside m.bars s.rows to
+
+  pub pin_counted : AreCounted (planned_lines (Pin m) (OfPins s) to) (131 + length m.letters + sum_by (λ z. lugs_moved z.0 (to_stand z)) bars)
+      (sum_by (λ z. lugs_moved z.0 (to_stand z)) bars)
+  pin_counted =
+      let wheel : (n : ℕ) → AreCounted (wheel_pin_lines n (ring_of n) (wheel_pins m.pins n) (wheel_pins s.pins n)) (length (ring_of n)) 0 = λ n.
+      counted_lines (λ letter. not (differ (pin_on (ring_of n) (wheel_pins m.pins n) letter) (pin_on (ring_of n) (wheel_pins s.pins n) letter)))
+      (λ letter. PinTo n letter (pin_on (ring_of n) (wheel_pins s.pins n) letter)) (ring_of n) (length (ring_of n)) (λ letter. refl) (omega arith) in
+      let pins = counted_flat (λ n. wheel_pin_lines n (ring_of n) (wheel_pins m.pins n) (wheel_pins s.pins n)) (λ n. length (ring_of n)) wheel pin_wheels in
+      let turns = counted_lines (λ (z : ℕ × (ℕ × ℕ)). nat_eq z.1.0 z.1.1) (λ z. Turn z.0 z.1.1) (enumerate_from 1 (zip m.letters s.window)) (length m.letters) (λ z. refl)
+      (omega (arith, length-enumerate_from 1 (zip m.letters s.window), length-zip m.letters s.window)) in
+      let lugs = counted_from lugs_of (λ z. lugs_moved z.0 (to_stand z)) (λ n z. counted_lugs n z.0 (to_stand z)) bars 1 in
+      let all = counted-append _ _ (counted-append (pin_lines m.pins s.pins) _ pins turns) (counted_as (lug_lines_are m.bars s.rows to) lugs) in
+      record { few = omega (arith, all.few, all_pins); priced = omega (arith, all.priced) }
