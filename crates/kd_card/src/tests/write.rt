@@ -21,7 +21,7 @@ fn cards_are_written(rt: HostRuntime) {
     }
 }
 
-/// The card is read. A sink takes as much of its text as there is room for, and the answer is Ok where that is all of it.
+/// The card is read. A sink takes as much of its text as there is room for, and the answer is Ok where that is all.
 fn is_read_and_written(rt: &impl Abort, (text, due, _): &Sample) {
     let text = text.as_bytes();
     let Ok((day, card)) = read_card(text) else {

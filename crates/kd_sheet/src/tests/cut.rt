@@ -5,8 +5,8 @@ use arrayvec::ArrayVec;
 use std::alloc::Global;
 use std::process::Abort;
 
-/// The lengths at which the file of the machine is whole: before its line of cables, which may be absent, and at its end, each
-/// without LF and with it.
+/// The lengths at which the file of the machine is whole: before its line of cables, which may be absent, and at its end,
+/// each without LF and with it.
 static WHOLE_LENGTHS: [usize; 4] = [107, 108, 169, 170];
 
 /// A sheet of one day for each model. Each ends with a key that has to be there.

@@ -9,16 +9,14 @@ use std::alloc::{AllocError, Global};
 use std::process::Abort;
 
 /// Bytes that are no machine file.
-static MACHINE_BYTES: [(&[u8], SheetFault); 3] = [
+static MACHINE_BYTES: [(&[u8], SheetFault); 2] = [
     (b"x =", NotToml),
-    (b"\xff", NotToml),
     (b"x = 1", Missing(Key::Version)),
 ];
 
 /// Bytes that are no sheet.
-static SHEET_BYTES: [(&[u8], SheetFault); 6] = [
+static SHEET_BYTES: [(&[u8], SheetFault); 5] = [
     (b"x =", NotToml),
-    (b"\xff", NotToml),
     (b"x = 1", Missing(Key::Day)),
     (b"day = 3", BadValue(Key::Day)),
     (b"day = [3]", BadValue(Key::Day)),

@@ -40,7 +40,8 @@ static WRITTEN_BACK: [(&str, &str, &str); 8] = [
 /// What may stand for the version: 2 tells the same machine, and what no key speaks of is passed over.
 static VERSIONS: [&str; 2] = [
     "version = 2",
-    "x = [[[[[[[[[[[[[[[[[[[[[[[[[[[[[[[[[[[[[[[[[[[[[[[[[[[[[[[[[[[[[[[[]]]]]]]]]]]]]]]]]]]]]]]]]]]]]]]]]]]]]]]]]]]]]]]]]]]]]]]]]]]]]]]]\nversion = 1",
+    "x = [[[[[[[[[[[[[[[[[[[[[[[[[[[[[[[[[[[[[[[[[[[[[[[[[[[[[[[[[[[[[[[[
+]]]]]]]]]]]]]]]]]]]]]]]]]]]]]]]]]]]]]]]]]]]]]]]]]]]]]]]]]]]]]]]]\nversion = 1",
 ];
 
 /// The file that is written for the file's machine.
@@ -164,7 +165,8 @@ fn reads_a_day_of_the_converter(rt: HostRuntime) -> Result<(), Fail> {
 /// Sheets without days. What no key speaks of is passed over.
 static WITHOUT_DAYS: [&str; 2] = [
     "day = []\n",
-    "day = []\nx = [[[[[[[[[[[[[[[[[[[[[[[[[[[[[[[[[[[[[[[[[[[[[[[[[[[[[[[[[[[[[[[[]]]]]]]]]]]]]]]]]]]]]]]]]]]]]]]]]]]]]]]]]]]]]]]]]]]]]]]]]]]]]]]]\n",
+    "day = []\nx = [[[[[[[[[[[[[[[[[[[[[[[[[[[[[[[[[[[[[[[[[[[[[[[[[[[[[[[[[[[[[[[[
+]]]]]]]]]]]]]]]]]]]]]]]]]]]]]]]]]]]]]]]]]]]]]]]]]]]]]]]]]]]]]]]]\n",
 ];
 
 #[test]
