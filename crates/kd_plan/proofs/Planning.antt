@@ -16,13 +16,12 @@ use Rattle.kd_card.specs.Proving.{priced_count, ProvesByNumber}
 use Rattle.kd_assign.specs.Assignment.{assignment_cost}
 use Rattle.kd_plan.specs.Planned.{planned_lines, table_size}
 use Rattle.kd_plan.specs.Laws.{PlannedLinesLead, PlannedCardsProve}
-use Rattle.kd_plan.proofs.Bars.{BarRow, IsMovable, to_stand}
+use Rattle.kd_plan.proofs.Bars.{BarRow, IsMovable, to_stand, is_target}
 use Rattle.kd_plan.proofs.Carrying.{Reaches}
 use Rattle.kd_plan.proofs.Counts.{rotor_counted, pin_counted, table_cost}
 use Rattle.kd_plan.proofs.Lists.{IsPairing, pairing_of}
 use Rattle.kd_plan.proofs.PinMachines.{are_movable, pin_machines_reach}
 use Rattle.kd_plan.proofs.Rotors.{rotors_reach}
-use Rattle.kd_plan.proofs.Targets.{is_target}
 use Rattle.kd_plan.proofs.Told.{Told}
 
 -- the bars are moved by as many lugs as their rows cost

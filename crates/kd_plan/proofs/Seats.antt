@@ -1,5 +1,5 @@
 -- SEAT, one slot after another: a slot that is right already is never emptied, since the day's wheels differ.
-use Rattle.std.proofs.Common.{◌≡◌, ◌≢◌, ℕ, suc, ◌+◌, ◌-◌, Bool, true, false, not, cond, List, [], ◌∷◌, ◌++◌, length, map, set, zip, filter_map, count_by, Option, Some, None, slice_get, refl, sym, ap, ◌∙◌, subst, arith, append_assoc, length-append}
+use Rattle.std.proofs.Common.{◌≡◌, ◌≢◌, ℕ, suc, ◌+◌, ◌-◌, Bool, true, false, not, cond, List, [], ◌∷◌, ◌++◌, length, map, set, zip, filter_map, count_by, Option, Some, None, refl, sym, ap, ◌∙◌, subst, arith, append_assoc, length-append}
 use Rattle.std.specs.List.{AllByRecursion, enumerate_from}
 use Rattle.std.specs.Option.{option_map_or}
 use Rattle.std.proofs.lemmas.Bool.{false≢true, false_from_ne_true}
@@ -23,7 +23,7 @@ use Rattle.kd_plan.specs.Planned.{unless_so}
 use Rattle.kd_plan.proofs.Carrying.{Led, led_none, led_cons}
 use Rattle.kd_plan.proofs.Letters.{count_by-cons}
 use Rattle.kd_plan.proofs.Lists.{seam_set, EachTwo, beside_back, beside_front}
-use Rattle.kd_plan.proofs.Wheels.{same_wheel_self, has_wheel_of}
+use Rattle.kd_plan.proofs.Wheels.{same_wheel_self, has_wheel_of, OtherWheels, seat_of}
 
 -- the slot holds the day's wheel
 abbrev pub holds : Option Wheel → SheetWheel → Bool
@@ -31,9 +31,6 @@ holds seated w = option_map_or (same_wheel w.wheel) seated false
 
 abbrev wrong_slot : Option Wheel × SheetWheel → Bool
 wrong_slot slot = not (holds slot.0 slot.1)
-
-abbrev pub OtherWheels : SheetWheel → SheetWheel → Type 0
-OtherWheels w v = w.wheel ≢ v.wheel
 
 -- the lines of slots from a number on
 abbrev pub seat_lines_from : ℕ → List (Option Wheel) → List SheetWheel → List Setting
@@ -53,13 +50,6 @@ seated_at slot wheel slots = set (map (without wheel) slots) (slot - 1) (Some wh
 
 more_seats : (done : List SheetWheel) (w : SheetWheel) (slots : List (Option Wheel)) → seats (done ++ w ∷ []) ++ slots ≡ seats done ++ Some w.wheel ∷ slots
 more_seats done w slots = ap (λ front. front ++ slots) (map-append (λ (v : SheetWheel). Some v.wheel) done (w ∷ [])) ∙ append_assoc (seats done) (Some w.wheel ∷ []) slots
-
-seat_behind : (done rest : List SheetWheel) (w : SheetWheel) → slice_get (seats (done ++ w ∷ rest)) (length done) ≡ Some (Some w.wheel)
-seat_behind [] rest w = refl
-seat_behind (v ∷ done) rest w = seat_behind done rest w
-
-pub seat_of : (wheels done rest : List SheetWheel) (w : SheetWheel) → done ++ w ∷ rest ≡ wheels → slice_get (seats wheels) (length done) ≡ Some (Some w.wheel)
-seat_of wheels done rest w e = subst (λ all. slice_get (seats all) (length done) ≡ Some (Some w.wheel)) e (seat_behind done rest w)
 
 module _ (told : NamesTellWheels) where
   -- two wheels that differ are told apart
