@@ -13,6 +13,7 @@ use Rattle.kd_state.specs.SheetDay.{Day}
 use Rattle.kd_card.specs.Proving.{IsNeeded}
 use Rattle.kd_plan.specs.Planned.{unless_so}
 use Rattle.kd_plan.proofs.Carrying.{Led, led_none, led_cons}
+use Rattle.kd_plan.proofs.Lists.{is_number}
 use Rattle.kd_plan.proofs.Wheels.{AreApartAt}
 
 -- one more element to count
@@ -72,10 +73,6 @@ module _ {X : Type 0} (place target : X → ℕ) where
       let rest = one_fewer letters xs k x (omega arith) e h.1 within is in
       omega arith
 
-  right_is : (x : X) (seen : Option ℕ) → option_map_or (nat_eq (target x)) seen false ≡ true → seen ≡ Some (target x)
-  right_is x None e = absurd (false≢true e)
-  right_is x (Some l) e = ap Some (sym (eqb-true (target x) l e))
-
   -- Lines of a machine in which the list stands.
   module _ (s : Day) (put : List ℕ → Parts) (size : ℕ) (line : X → Setting) where
     abbrev pub lines_for : List ℕ → List X → List Setting
@@ -106,7 +103,7 @@ module _ {X : Type 0} (place target : X → ℕ) where
         record {
           end = rest.end;
           led = rw e rest.led;
-          done = (rest.kept (place x) apart.0 ∙ right_is x (slice_get letters (place x)) e, rest.done);
+          done = (rest.kept (place x) apart.0 ∙ is_number (slice_get letters (place x)) (target x) e, rest.done);
           kept = λ p away. rest.kept p away.1;
         }
     set_cond false letters x xs e count h apart next =

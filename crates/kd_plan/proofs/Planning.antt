@@ -27,14 +27,7 @@ use Rattle.kd_plan.proofs.Told.{Told}
 -- the bars are moved by as many lugs as their rows cost
 least_moved : (zs : List BarRow) → AllByRecursion IsMovable zs → sum_by (λ z. lugs_moved z.0 (to_stand z)) zs ≡ sum_by (λ z. bar_cost z.0 z.1) zs
 least_moved [] h = refl
-least_moved (z ∷ zs) h =
-    omega (
-      arith,
-      sum_by-cons (λ (z : BarRow). lugs_moved z.0 (to_stand z)) z zs,
-      sum_by-cons (λ (z : BarRow). bar_cost z.0 z.1) z zs,
-      (is_target z.0 z.1 h.0.reading).moved,
-      least_moved zs h.1,
-    )
+least_moved (z ∷ zs) h = simp sum_by-cons (omega (arith, (is_target z.0 z.1 h.0.reading).moved, least_moved zs h.1))
 
 -- What the lines lead to, and how many of them the prices speak of.
 record IsGood (m : Parts) (s : Day) (to : List ℕ) : Type 0 where
