@@ -1,32 +1,27 @@
 -- While some row has no column, some column is free.
-use Rattle.std.proofs.Common.{◌≡◌, ◌≢◌, ℕ, zero, suc, ◌<◌, List, [], ◌∷◌, length, get_or, set, All, true, cond, Option, Some, None, is_some, count_by, ◌⊎◌, inl, inr, refl, sym, ◌∙◌, arith}
-use Rattle.std.proofs.lemmas.Bool.{cases_eq, cases_lt, false≢true}
-use Rattle.std.proofs.lemmas.List.{get_or-set_other, get_or_past}
-use Rattle.std.proofs.lemmas.Option.{none-some, same_Some}
+use Rattle.std.proofs.Common.{◌≡◌, ◌≢◌, ℕ, zero, suc, ◌<◌, List, length, get_or, set, All, Bool, true, false, eqb, cond, Option, Some, None, is_some, count_by, ◌⊎◌, inl, inr, refl, sym, ap, ◌∙◌, arith}
+use Rattle.std.specs.List.{list_any}
+use Rattle.std.specs.Option.{option_map_or}
+use Rattle.std.proofs.lemmas.Bool.{cases_Bool, cases_eq, cases_lt, eq-eqb, eqb-true, false≢true}
+use Rattle.std.proofs.lemmas.List.Folds.{Any-from_list_any, list_any_at}
+use Rattle.std.proofs.lemmas.List.{get_or_default, get_or-set_other, get_or_past}
+use Rattle.std.proofs.lemmas.Option.{same_Some}
 use Rattle.kd_assign.specs.Partial.{HasNone, IsTaken}
 use Rattle.kd_assign.specs.Tree.{has_column}
 use Rattle.kd_assign.proofs.Places.{within, unwritten, count-set}
 
--- whether a place has a number
-has_or_not : (given : Option ℕ) (j : ℕ) → (given ≡ Some j) ⊎ (given ≢ Some j)
-has_or_not None j = inr (none-some j)
-has_or_not (Some k) j = elim (cases_eq k j) [ inl same ↦ inl (rw same refl) | inr other ↦ inr (λ same. other (same_Some k j same)) ]
-
 -- whether a column is taken
+is_number : (given : Option ℕ) (j : ℕ) → option_map_or (eqb j) given false ≡ true → given ≡ Some j
+is_number None j e = absurd (false≢true e)
+is_number (Some k) j e = ap Some (sym (eqb-true j k e))
+
 taken_or_free : (to : List (Option ℕ)) (j : ℕ) → IsTaken to j ⊎ (IsTaken to j → ⊥)
-taken_or_free [] j = inr (λ taken. none-some j taken.1)
-taken_or_free (given ∷ to) j =
-    elim (has_or_not given j) [
-      | inl here ↦ inl (zero, here)
-      | inr other ↦ elim (taken_or_free to j) [
-        | inl there ↦ inl (suc there.0, there.1)
-        | inr free ↦ inr (nowhere other free)
-      ]
+taken_or_free to j =
+    let has : Option ℕ → Bool = λ given. option_map_or (eqb j) given false in
+    elim (cases_Bool (list_any has to)) [
+      | inl some ↦ (let any = Any-from_list_any has to some in inl (any.0, get_or_default to any.0 None any.1 any.2 ∙ any.3 ∙ is_number any.1 j any.4))
+      | inr none ↦ inr (λ taken. false≢true (sym none ∙ list_any_at has to taken.0 None (within to taken.0 j taken.1) (ap has taken.1 ∙ eq-eqb j j refl)))
     ]
-  where
-    nowhere : (given ≢ Some j) → (IsTaken to j → ⊥) → IsTaken (given ∷ to) j → ⊥
-    nowhere other free (zero, h) = other h
-    nowhere other free (suc i, h) = free (i, h)
 
 -- fewer than n columns are taken, so one of the first n is free
 pub free_column : (n : ℕ) (to : List (Option ℕ)) → count_by is_some to < n → (j : ℕ) × (j < n) × (IsTaken to j → ⊥)

@@ -1,6 +1,8 @@
 -- Sums of prices over one-to-one assignments.
-use Rattle.std.proofs.Common.{◌≡◌, ◌≢◌, ℕ, zero, suc, ◌+◌, ◌<◌, ◌≤◌, List, [], ◌∷◌, ◌++◌, length, get_or, take, map, All, AllPairs, ◌⊎◌, inl, inr, ℤ, pos, ◌+ℤ◌, ◌≤ℤ◌, remove, refl, ap, ◌∙◌, arith, add-one}
-use Rattle.std.proofs.lemmas.Bool.{cases_eq, cases_lt}
+use Rattle.std.proofs.Common.{◌≡◌, ◌≢◌, ℕ, zero, suc, ◌+◌, ◌<◌, ◌≤◌, List, [], ◌∷◌, ◌++◌, length, get_or, take, map, All, AllPairs, ◌⊎◌, inl, inr, ℤ, eqb, false, pos, ◌+ℤ◌, ◌≤ℤ◌, remove, refl, sym, ap, ◌∙◌, arith, add-one}
+use Rattle.std.specs.List.{list_any}
+use Rattle.std.proofs.lemmas.Bool.{cases_Bool, cases_lt, eqb-true, eqb-false, false_from_ne_true, false≢true}
+use Rattle.std.proofs.lemmas.List.Folds.{Any-from_list_any, list_any_at}
 use Rattle.std.proofs.lemmas.Int.{ints}
 use Rattle.std.proofs.lemmas.List.{get_or_default, take_all, take_more}
 use Rattle.std.proofs.lemmas.List.Edits.{length-remove, get_or-remove_below, get_or-remove_above}
@@ -25,17 +27,13 @@ sum_of-map-remove f (x ∷ xs) (suc k) h = let e = sum_of-map-remove f xs k (ome
 -- where a number stands, if it does
 place_or_none : (xs : List ℕ) (m : ℕ) →
     ((k : ℕ) × (k < length xs) × (get_or xs k 0 ≡ m)) ⊎ ((k : ℕ) → k < length xs → get_or xs k 0 ≢ m)
-place_or_none [] m = inr (λ k h. absurd (omega arith))
-place_or_none (x ∷ xs) m =
-    elim (cases_eq x m) [
-      | inl e ↦ inl (zero, omega arith, e)
-      | inr ne ↦ elim (place_or_none xs m) [ inl p ↦ inl (suc p.0, omega arith, p.2) | inr none ↦ inr (nowhere ne none) ]
+place_or_none xs m =
+    let none : ((k : ℕ) → k < length xs → eqb m (get_or xs k 0) ≡ false) → (k : ℕ) → k < length xs → get_or xs k 0 ≢ m =
+    λ h k lt e. eqb-false m (get_or xs k 0) (h k lt) (sym e) in
+    elim (cases_Bool (list_any (eqb m) xs)) [
+      | inl has ↦ (let any = Any-from_list_any (eqb m) xs has in inl (any.0, any.2, get_or_default xs any.0 0 any.1 any.2 ∙ any.3 ∙ sym (eqb-true m any.1 any.4)))
+      | inr misses ↦ inr (none (λ k lt. false_from_ne_true (eqb m (get_or xs k 0)) (λ e. false≢true (sym misses ∙ list_any_at (eqb m) xs k 0 lt e))))
     ]
-  where
-    nowhere : (x ≢ m) → ((k : ℕ) → k < length xs → get_or xs k 0 ≢ m) → (k : ℕ) → k < length (x ∷ xs) →
-        get_or (x ∷ xs) k 0 ≢ m
-    nowhere ne none zero h = ne
-    nowhere ne none (suc k) h = none k (omega arith)
 
 -- distinct numbers up to m are below m once m is taken out
 below-remove : (xs : List ℕ) (k m : ℕ) → k < length xs → get_or xs k 0 ≡ m → All (λ j. j < suc m) xs →

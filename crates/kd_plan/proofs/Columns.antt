@@ -60,12 +60,7 @@ all_pluggable (cable ∷ cables) (column ∷ columns) h k =
 times-flat_map : (y : ℕ) (columns : List Column) → times y (flat_map column_letters columns) ≡ sum_by (λ c. times y (column_letters c)) columns
 times-flat_map y [] = refl
 times-flat_map y (column ∷ columns) =
-    omega (
-      arith,
-      times-append y (column_letters column) (flat_map column_letters columns),
-      sum_by-cons (λ c. times y (column_letters c)) column columns,
-      times-flat_map y columns,
-    )
+    simp sum_by-cons (omega (arith, times-append y (column_letters column) (flat_map column_letters columns), times-flat_map y columns))
 
 no_columns : (n : ℕ) → flat_map column_letters (replicate n None) ≡ []
 no_columns zero = refl

@@ -100,18 +100,13 @@ counted_map line xs h = record { few = omega (arith, length-map xs line); priced
 one_letter : (p q : Bool) → cond {A = ℕ} (p && not q) 1 0 + cond (q && not p) 1 0 ≡ cond (differ p q) 1 0
 one_letter p q = grind arith
 
+sums_add : {X : Type 0} (f g h : X → ℕ) → ((x : X) → f x + g x ≡ h x) → (xs : List X) → sum_by f xs + sum_by g xs ≡ sum_by h xs
+sums_add f g h e [] = refl
+sums_add f g h e (x ∷ xs) = simp sum_by-cons (omega (arith, e x, sums_add f g h e xs))
+
 apart_count : (p q : ℕ → Bool) (xs : List ℕ)
     → count_by (λ l. p l && not (q l)) xs + count_by (λ l. q l && not (p l)) xs ≡ count_by (λ l. differ (p l) (q l)) xs
-apart_count p q [] = refl
-apart_count p q (x ∷ xs) =
-    omega (
-      arith,
-      sum_by-cons (λ l. cond (p l && not (q l)) 1 0) x xs,
-      sum_by-cons (λ l. cond (q l && not (p l)) 1 0) x xs,
-      sum_by-cons (λ l. cond (differ (p l) (q l)) 1 0) x xs,
-      one_letter (p x) (q x),
-      apart_count p q xs,
-    )
+apart_count p q xs = sums_add _ _ _ (λ l. one_letter (p l) (q l)) xs
 
 pub cable_lines : (z : Beside) → length (pulls z) + length (puts z) ≡ cable_cost z.0 z.1
 cable_lines z =
@@ -134,16 +129,12 @@ once x a zero = omega arith
 once x a (suc number) =
     grind (arith, nat_tests, sum_by-cons (λ y. cond (nat_eq x y) 1 0) a (range_with_len (a + 1) number), past x (a + 1) number, once x (a + 1) number)
 
-two_sums : {X : Type 0} (f g : X → ℕ) (xs : List X) → sum_by (λ x. f x + g x) xs ≡ sum_by f xs + sum_by g xs
-two_sums f g [] = refl
-two_sums f g (x ∷ xs) = omega (arith, sum_by-cons (λ x. f x + g x) x xs, sum_by-cons f x xs, sum_by-cons g x xs, two_sums f g xs)
-
 all_times : (xs : List ℕ) → sum_by (λ y. times y xs) alphabet ≤ length xs
 all_times [] = omega arith
 all_times (x ∷ xs) =
     let one : ℕ → ℕ = λ y. cond (nat_eq x y) 1 0 in
     let parts = sum_by-le-sum_by (λ y. times y (x ∷ xs)) (λ y. one y + times y xs) alphabet (λ y. omega (arith, times-cons y x xs)) in
-    omega (arith, parts, two_sums one (λ y. times y xs) alphabet, once x 0 26, all_times xs)
+    omega (arith, parts, sums_add one (λ y. times y xs) (λ y. one y + times y xs) (λ y. refl) alphabet, once x 0 26, all_times xs)
 
 pub cable_cost_at_most : (cable : Cable) (column : Column) → cable_cost cable column ≤ 4
 cable_cost_at_most cable column =
@@ -197,13 +188,8 @@ pub table_cost : {A B : Type 0} (cost : A → B → ℕ) (columns : List B) (d :
     → AllByRecursion (λ j. j < length columns) to
     → assignment_cost (map (λ x. map (cost x) columns) all) to ≡ sum_by (λ (z : A × B). cost z.0 z.1) (zip all (map (λ j. get_or columns j d) to))
 table_cost cost columns d [] [] size within = refl
-table_cost {A = A} {B = B} cost columns d (x ∷ all) (j ∷ to) size within =
-    omega (
-      arith,
-      sum_by-cons (λ (z : A × B). cost z.0 z.1) (x, get_or columns j d) (zip all (map (λ j. get_or columns j d) to)),
-      get_or-map (cost x) columns j d 0 within.0,
-      table_cost cost columns d all to (omega arith) within.1,
-    )
+table_cost cost columns d (x ∷ all) (j ∷ to) size within =
+    simp sum_by-cons (omega (arith, get_or-map (cost x) columns j d 0 within.0, table_cost cost columns d all to (omega arith) within.1))
 table_cost cost columns d _ _ size within = absurd (omega arith)
 
 -- All planned lines of a rotor machine.
@@ -211,17 +197,8 @@ module _ (m : RotorParts) (s : RotorDay) (to : List ℕ) where
   abbrev cables : List Beside
   cables = besides m.cables s.pairs to
 
-  cable_sums : (zs : List Beside) → sum_by (λ z. length (pulls z)) zs + sum_by (λ z. length (puts z)) zs ≡ sum_by (λ z. cable_cost z.0 z.1) zs
-  cable_sums [] = refl
-  cable_sums (z ∷ zs) =
-      omega (
-        arith,
-        sum_by-cons (λ z. length (pulls z)) z zs,
-        sum_by-cons (λ z. length (puts z)) z zs,
-        sum_by-cons (λ (z : Beside). cable_cost z.0 z.1) z zs,
-        cable_lines z,
-        cable_sums zs,
-      )
+  cable_sums : sum_by (λ z. length (pulls z)) cables + sum_by (λ z. length (puts z)) cables ≡ sum_by (λ z. cable_cost z.0 z.1) cables
+  cable_sums = sums_add _ _ (λ z. cable_cost z.0 z.1) cable_lines cables
 
   pub rotor_counted : AreCounted (planned_lines (Rotor m) (OfRotors s) to) (2 * length s.wheels + 1 + length (box_of m.model) + sum_by (λ z. cable_cost z.0 z.1) cables)
       (sum_by (λ z. cable_cost z.0 z.1) cables)
@@ -237,7 +214,7 @@ module _ (m : RotorParts) (s : RotorDay) (to : List ℕ) where
       let put = counted_from (work_beside works.Put) (λ z. length (puts z)) (λ n z. counted_map (Put n) (puts z) (λ x. refl)) cables 1 in
       let all = counted-append _ _ (counted-append _ _ (counted-append _ _ (counted-append _ _ (counted-append _ _ seats reflector) rings) turns)
       (counted_as (lines_beside works.Pull m.cables s.pairs to) pulled)) (counted_as (lines_beside works.Put m.cables s.pairs to) put) in
-      record { few = omega (arith, all.few, cable_sums cables); priced = omega (arith, all.priced, cable_sums cables) }
+      record { few = omega (arith, all.few, cable_sums); priced = omega (arith, all.priced, cable_sums) }
 
 -- And of a Converter M-209.
 counted_flat : (lines : ℕ → List Setting) (most : ℕ → ℕ) → ((n : ℕ) → AreCounted (lines n) (most n) 0) → (ns : List ℕ)

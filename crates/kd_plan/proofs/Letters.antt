@@ -3,7 +3,8 @@ use Rattle.std.proofs.Common.{◌≡◌, ◌≢◌, ℕ, zero, suc, ◌+◌, ◌
 use Rattle.std.specs.List.{AllByRecursion}
 use Rattle.std.specs.Option.{option_map_or}
 use Rattle.std.proofs.lemmas.Bool.{false≢true, eq-eqb, eqb-true}
-use Rattle.std.proofs.lemmas.List.{length-set}
+use Rattle.std.proofs.lemmas.List.{get_or-set_same, length-set}
+use Rattle.std.proofs.lemmas.Option.{slice_get-get_or}
 use Rattle.std.proofs.lemmas.List.Sums.{sum_by-cons}
 use Rattle.kd_state.specs.declared.machine.parts.Parts.{Parts}
 use Rattle.kd_state.specs.declared.setting.Setting.{Setting}
@@ -12,6 +13,7 @@ use Rattle.kd_state.specs.SheetDay.{Day}
 use Rattle.kd_card.specs.Proving.{IsNeeded}
 use Rattle.kd_plan.specs.Planned.{unless_so}
 use Rattle.kd_plan.proofs.Carrying.{Led, led_none, led_cons}
+use Rattle.kd_plan.proofs.Lists.{is_number}
 use Rattle.kd_plan.proofs.Wheels.{AreApartAt}
 
 -- one more element to count
@@ -20,16 +22,12 @@ count_by-cons p x xs = sum_by-cons (λ y. cond (p y) 1 0) x xs
 
 -- a list with one place set
 slice_get-set_other : {X : Type 0} (xs : List X) (p q : ℕ) (v : X) → q ≢ p → slice_get (set xs p v) q ≡ slice_get xs q
-slice_get-set_other [] p q v h = refl
 slice_get-set_other (x ∷ xs) zero zero v h = absurd (h refl)
-slice_get-set_other (x ∷ xs) zero (suc q) v h = refl
-slice_get-set_other (x ∷ xs) (suc p) zero v h = refl
 slice_get-set_other (x ∷ xs) (suc p) (suc q) v h = slice_get-set_other xs p q v (λ e. h (ap suc e))
+slice_get-set_other _ _ _ v h = refl
 
 slice_get-set_same : {X : Type 0} (xs : List X) (p : ℕ) (v : X) → p < length xs → slice_get (set xs p v) p ≡ Some v
-slice_get-set_same [] p v lt = absurd (omega arith)
-slice_get-set_same (x ∷ xs) zero v lt = refl
-slice_get-set_same (x ∷ xs) (suc p) v lt = slice_get-set_same xs p v (omega arith)
+slice_get-set_same xs p v lt = slice_get-get_or (set xs p v) p v (omega (arith, length-set xs p v)) ∙ ap Some (get_or-set_same xs p v v lt)
 
 module _ {X : Type 0} (place target : X → ℕ) where
   -- the number at the element's place is its own
@@ -75,10 +73,6 @@ module _ {X : Type 0} (place target : X → ℕ) where
       let rest = one_fewer letters xs k x (omega arith) e h.1 within is in
       omega arith
 
-  right_is : (x : X) (seen : Option ℕ) → option_map_or (nat_eq (target x)) seen false ≡ true → seen ≡ Some (target x)
-  right_is x None e = absurd (false≢true e)
-  right_is x (Some l) e = ap Some (sym (eqb-true (target x) l e))
-
   -- Lines of a machine in which the list stands.
   module _ (s : Day) (put : List ℕ → Parts) (size : ℕ) (line : X → Setting) where
     abbrev pub lines_for : List ℕ → List X → List Setting
@@ -109,7 +103,7 @@ module _ {X : Type 0} (place target : X → ℕ) where
         record {
           end = rest.end;
           led = rw e rest.led;
-          done = (rest.kept (place x) apart.0 ∙ right_is x (slice_get letters (place x)) e, rest.done);
+          done = (rest.kept (place x) apart.0 ∙ is_number (slice_get letters (place x)) (target x) e, rest.done);
           kept = λ p away. rest.kept p away.1;
         }
     set_cond false letters x xs e count h apart next =

@@ -6,14 +6,11 @@ pub mod Columns
 pub mod Wheels
 pub mod Letters
 pub mod Seats
-pub mod Days
 pub mod Rotors
-pub mod Targets
 pub mod Bars
 pub mod Writing
 pub mod Pins
 pub mod PinMachines
 pub mod Counts
 pub mod Planning
-pub mod Pricing
 pub mod Assembling

@@ -1,6 +1,8 @@
 -- Numbers that are one to one, and lists with one element in the middle.
-use Rattle.std.proofs.Common.{◌≡◌, ◌≢◌, ℕ, zero, suc, ◌+◌, ◌-◌, ◌<◌, List, [], ◌∷◌, ◌++◌, length, get_or, set, slice_get, map, zip, find, Bool, true, Some, remove, All, AllPairs, Contains, IsPermutation, refl, sym, ap, ◌∙◌, subst, arith}
+use Rattle.std.proofs.Common.{◌≡◌, ◌≢◌, ℕ, zero, suc, ◌+◌, ◌-◌, ◌<◌, List, [], ◌∷◌, ◌++◌, length, get_or, set, slice_get, map, zip, find, nat_eq, Bool, true, false, Option, Some, None, remove, All, AllPairs, Contains, IsPermutation, refl, sym, ap, ◌∙◌, subst, arith}
 use Rattle.std.specs.List.{AllByRecursion, range_with_len, sum_by}
+use Rattle.std.specs.Option.{option_map_or}
+use Rattle.std.proofs.lemmas.Bool.{eqb-true, false≢true}
 use Rattle.std.proofs.lemmas.List.{set_at}
 use Rattle.std.proofs.lemmas.List.Edits.{length-remove}
 use Rattle.std.proofs.lemmas.List.Elements.{recursion_from_All}
@@ -52,6 +54,11 @@ paired d xs to h =
     subst (λ all. IsPermutation all (map (λ j. get_or xs j d) to)) (sym (fill_by_all (λ j. get_or xs j d) xs (length xs) d refl (λ k lt. refl)))
     (IsPermutation-map (λ j. get_or xs j d) places to order)
 
+-- a number that is found where one is sought
+pub is_number : (seen : Option ℕ) (n : ℕ) → option_map_or (nat_eq n) seen false ≡ true → seen ≡ Some n
+is_number None n e = absurd (false≢true e)
+is_number (Some other) n e = ap Some (sym (eqb-true n other e))
+
 -- what is found passes the test and is there
 pub found : {X : Type 0} (p : X → Bool) (xs : List X) (x : X) → find p xs ≡ Some x → (p x ≡ true) × Contains xs x
 found p xs x e =
@@ -84,14 +91,8 @@ module _ {X : Type 0} where
   -- beside a list that is as it should be up to there: what is added up falls by one with it
   pub one_less : (f : X × X → ℕ) (front back due : List X) (now next wanted : X) → f (now, wanted) ≡ f (next, wanted) + 1
       → sum_by f (zip (front ++ now ∷ back) (front ++ wanted ∷ due)) ≡ sum_by f (zip (front ++ next ∷ back) (front ++ wanted ∷ due)) + 1
-  one_less f [] back due now next wanted e = omega (arith, sum_by-cons f (now, wanted) (zip back due), sum_by-cons f (next, wanted) (zip back due))
-  one_less f (x ∷ front) back due now next wanted e =
-      omega (
-        arith,
-        sum_by-cons f (x, x) (zip (front ++ now ∷ back) (front ++ wanted ∷ due)),
-        sum_by-cons f (x, x) (zip (front ++ next ∷ back) (front ++ wanted ∷ due)),
-        one_less f front back due now next wanted e,
-      )
+  one_less f [] back due now next wanted e = simp sum_by-cons (omega (arith, e))
+  one_less f (x ∷ front) back due now next wanted e = simp sum_by-cons (omega (arith, one_less f front back due now next wanted e))
 
   all_at : (P : X → Type 0) (front : List X) (x : X) (back : List X) → AllByRecursion P (front ++ x ∷ back) → P x
   all_at P [] x back h = h.0

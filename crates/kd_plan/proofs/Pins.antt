@@ -21,7 +21,7 @@ use Rattle.kd_state.specs.SheetDay.{PinDay, OfPins}
 use Rattle.kd_state.specs.Costs.{differ, loose_pins, loose_count}
 use Rattle.kd_plan.specs.Planned.{unless_so, pin_on, pin_lines, wheel_pin_lines}
 use Rattle.kd_plan.proofs.Carrying.{Led, led_unless, lines_from, EachLeads, cells_led}
-use Rattle.kd_plan.proofs.Lists.{seam_get, seam_set, one_less}
+use Rattle.kd_plan.proofs.Lists.{is_number, seam_get, seam_set, one_less}
 use Rattle.kd_plan.proofs.Writing.{one_line, pin_turn_of}
 
 -- each letter of a pin wheel stands at its own place
@@ -32,15 +32,11 @@ all_found : agree_below (λ number. agree_below (place_found number) (λ place. 
 unfolding ring_of place_found
 all_found = refl
 
-is_place : (seen : Option ℕ) (place : ℕ) → option_map_or (nat_eq place) seen false ≡ true → seen ≡ Some place
-is_place None place e = absurd (false≢true e)
-is_place (Some other) place e = ap Some (sym (eqb-true place other e))
-
 place_of_letter : (number place : ℕ) → number < 7 → place < length (ring_of number) → place_on (ring_of number) (get_or (ring_of number) place 0) ≡ Some place
 unfolding place_found
 place_of_letter number place lt within =
     let all = agree_below_at (λ number. agree_below (place_found number) (λ place. true) (length (ring_of number))) (λ number. true) 7 number all_found lt in
-    is_place (place_on (ring_of number) (get_or (ring_of number) place 0)) place
+    is_number (place_on (ring_of number) (get_or (ring_of number) place 0)) place
     (agree_below_at (place_found number) (λ place. true) (length (ring_of number)) place all within)
 
 -- six wheels

@@ -16,26 +16,18 @@ use Rattle.kd_card.specs.Proving.{priced_count, ProvesByNumber}
 use Rattle.kd_assign.specs.Assignment.{assignment_cost}
 use Rattle.kd_plan.specs.Planned.{planned_lines, table_size}
 use Rattle.kd_plan.specs.Laws.{PlannedLinesLead, PlannedCardsProve}
-use Rattle.kd_plan.proofs.Bars.{BarRow, IsMovable, to_stand}
+use Rattle.kd_plan.proofs.Bars.{BarRow, IsMovable, to_stand, is_target}
 use Rattle.kd_plan.proofs.Carrying.{Reaches}
 use Rattle.kd_plan.proofs.Counts.{rotor_counted, pin_counted, table_cost}
 use Rattle.kd_plan.proofs.Lists.{IsPairing, pairing_of}
 use Rattle.kd_plan.proofs.PinMachines.{are_movable, pin_machines_reach}
 use Rattle.kd_plan.proofs.Rotors.{rotors_reach}
-use Rattle.kd_plan.proofs.Targets.{is_target}
 use Rattle.kd_plan.proofs.Told.{Told}
 
 -- the bars are moved by as many lugs as their rows cost
 least_moved : (zs : List BarRow) → AllByRecursion IsMovable zs → sum_by (λ z. lugs_moved z.0 (to_stand z)) zs ≡ sum_by (λ z. bar_cost z.0 z.1) zs
 least_moved [] h = refl
-least_moved (z ∷ zs) h =
-    omega (
-      arith,
-      sum_by-cons (λ (z : BarRow). lugs_moved z.0 (to_stand z)) z zs,
-      sum_by-cons (λ (z : BarRow). bar_cost z.0 z.1) z zs,
-      (is_target z.0 z.1 h.0.reading).moved,
-      least_moved zs h.1,
-    )
+least_moved (z ∷ zs) h = simp sum_by-cons (omega (arith, (is_target z.0 z.1 h.0.reading).moved, least_moved zs h.1))
 
 -- What the lines lead to, and how many of them the prices speak of.
 record IsGood (m : Parts) (s : Day) (to : List ℕ) : Type 0 where

@@ -18,14 +18,13 @@ use Rattle.kd_state.specs.Costs.{unless_same, loose_count}
 use Rattle.kd_plan.specs.Planned.{seat_lines, reflector_lines, ring_lines, turn_lines, pull_lines, put_lines, planned_lines}
 use Rattle.kd_plan.proofs.Carrying.{Reaches, Led, led_unless, led_append, lines_from, cells_led}
 use Rattle.kd_plan.proofs.Columns.{are_pluggable, few_columns, same_cables, are_the_pairs}
-use Rattle.kd_plan.proofs.Days.{at_element, recursion_of_each, each_two, in_order, order_among, order_apart, all_of_order, StandsThere, numbered as by_slots, numbered_apart, from_numbered}
+use Rattle.kd_plan.proofs.Wheels.{at_element, recursion_of_each, each_two, in_order, order_among, order_apart, all_of_order, StandsThere, numbered as by_slots, numbered_apart, from_numbered, same_reflector_self, has_wheel_of, has_reflector_of, AreApartAt, place_of, wheels_apart, box_none_twice, wheels_boxed}
 use Rattle.kd_plan.proofs.Letters.{SetsIts, AreSet, all_set, one_fewer}
 use Rattle.kd_plan.proofs.Lists.{IsPairing}
 use Rattle.kd_plan.proofs.Cables.{Cable, Beside, besides, IsPluggable, present, once_pulled, once_put, with_cables, work_beside, lines_beside, pulls_each, puts_each}
 use Rattle.kd_plan.specs.declared.cable_lines.Work.TheVariants as works
 use Rattle.kd_plan.proofs.Seats.{seats_led}
 use Rattle.kd_plan.proofs.Told.{Told}
-use Rattle.kd_plan.proofs.Wheels.{same_reflector_self, has_wheel_of, has_reflector_of, AreApartAt, place_of, wheels_apart, box_none_twice, wheels_boxed}
 
 -- REFLECTOR
 reflector_led : Told → (m : RotorParts) (s : RotorDay) → Contains (reflectors_of m.model) s.reflector

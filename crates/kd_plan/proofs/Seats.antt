@@ -1,8 +1,8 @@
 -- SEAT, one slot after another: a slot that is right already is never emptied, since the day's wheels differ.
-use Rattle.std.proofs.Common.{◌≡◌, ◌≢◌, ℕ, suc, ◌+◌, ◌-◌, Bool, true, false, not, cond, List, [], ◌∷◌, ◌++◌, length, map, set, zip, filter_map, count_by, Option, Some, None, slice_get, refl, sym, ap, ◌∙◌, subst, arith, append_assoc, length-append}
+use Rattle.std.proofs.Common.{◌≡◌, ◌≢◌, ℕ, suc, ◌+◌, ◌-◌, Bool, true, false, not, cond, inl, inr, List, [], ◌∷◌, ◌++◌, length, map, set, zip, filter_map, count_by, Option, Some, None, refl, sym, ap, ◌∙◌, subst, arith, append_assoc, length-append}
 use Rattle.std.specs.List.{AllByRecursion, enumerate_from}
 use Rattle.std.specs.Option.{option_map_or}
-use Rattle.std.proofs.lemmas.Bool.{false≢true, false_from_ne_true}
+use Rattle.std.proofs.lemmas.Bool.{cases_Bool, cond_both, false≢true, false_from_ne_true}
 use Rattle.std.proofs.lemmas.List.{append-nil, map-append, length-map}
 use Rattle.kd_tables.specs.declared.wheel.Wheel.{Wheel}
 use Rattle.kd_tables.specs.Tables.{IsAllowed, wheels_for}
@@ -23,7 +23,7 @@ use Rattle.kd_plan.specs.Planned.{unless_so}
 use Rattle.kd_plan.proofs.Carrying.{Led, led_none, led_cons}
 use Rattle.kd_plan.proofs.Letters.{count_by-cons}
 use Rattle.kd_plan.proofs.Lists.{seam_set, EachTwo, beside_back, beside_front}
-use Rattle.kd_plan.proofs.Wheels.{same_wheel_self, has_wheel_of}
+use Rattle.kd_plan.proofs.Wheels.{same_wheel_self, has_wheel_of, OtherWheels, seat_of}
 
 -- the slot holds the day's wheel
 abbrev pub holds : Option Wheel → SheetWheel → Bool
@@ -31,9 +31,6 @@ holds seated w = option_map_or (same_wheel w.wheel) seated false
 
 abbrev wrong_slot : Option Wheel × SheetWheel → Bool
 wrong_slot slot = not (holds slot.0 slot.1)
-
-abbrev pub OtherWheels : SheetWheel → SheetWheel → Type 0
-OtherWheels w v = w.wheel ≢ v.wheel
 
 -- the lines of slots from a number on
 abbrev pub seat_lines_from : ℕ → List (Option Wheel) → List SheetWheel → List Setting
@@ -54,26 +51,17 @@ seated_at slot wheel slots = set (map (without wheel) slots) (slot - 1) (Some wh
 more_seats : (done : List SheetWheel) (w : SheetWheel) (slots : List (Option Wheel)) → seats (done ++ w ∷ []) ++ slots ≡ seats done ++ Some w.wheel ∷ slots
 more_seats done w slots = ap (λ front. front ++ slots) (map-append (λ (v : SheetWheel). Some v.wheel) done (w ∷ [])) ∙ append_assoc (seats done) (Some w.wheel ∷ []) slots
 
-seat_behind : (done rest : List SheetWheel) (w : SheetWheel) → slice_get (seats (done ++ w ∷ rest)) (length done) ≡ Some (Some w.wheel)
-seat_behind [] rest w = refl
-seat_behind (v ∷ done) rest w = seat_behind done rest w
-
-pub seat_of : (wheels done rest : List SheetWheel) (w : SheetWheel) → done ++ w ∷ rest ≡ wheels → slice_get (seats wheels) (length done) ≡ Some (Some w.wheel)
-seat_of wheels done rest w e = subst (λ all. slice_get (seats all) (length done) ≡ Some (Some w.wheel)) e (seat_behind done rest w)
-
 module _ (told : NamesTellWheels) where
   -- two wheels that differ are told apart
   differs : (wheel other : Wheel) → wheel ≢ other → same_wheel wheel other ≡ false
   differs wheel other h = false_from_ne_true (same_wheel wheel other) (λ e. h ((told wheel other).0 e))
 
   -- a slot that loses a wheel held no other one
-  holds_without_cond : (b : Bool) (wheel other : Wheel) (w : SheetWheel) → same_wheel wheel other ≡ b → wheel ≢ w.wheel → holds (cond b None (Some other)) w ≡ same_wheel w.wheel other
-  holds_without_cond true wheel other w e h = sym (differs w.wheel other (λ same. h ((told wheel other).0 e ∙ sym same)))
-  holds_without_cond false wheel other w e h = refl
-
   holds_without : (wheel : Wheel) (seated : Option Wheel) (w : SheetWheel) → wheel ≢ w.wheel → holds (without wheel seated) w ≡ holds seated w
   holds_without wheel None w h = refl
-  holds_without wheel (Some other) w h = holds_without_cond (same_wheel wheel other) wheel other w refl h
+  holds_without wheel (Some other) w h =
+      cond_both (same_wheel wheel other) None (Some other) (λ left. holds left w ≡ same_wheel w.wheel other)
+      (λ e. sym (differs w.wheel other (λ same. h ((told wheel other).0 e ∙ sym same)))) (λ e. refl)
 
   holds_is : (seated : Option Wheel) (w : SheetWheel) → holds seated w ≡ true → seated ≡ Some w.wheel
   holds_is None w e = absurd (false≢true e)
@@ -82,17 +70,15 @@ module _ (told : NamesTellWheels) where
   -- nothing changes for slots of other wheels
   same_lines : (wheel : Wheel) (slots : List (Option Wheel)) (wheels : List SheetWheel) (number : ℕ) → AllByRecursion (λ v. wheel ≢ v.wheel) wheels
       → seat_lines_from number (map (without wheel) slots) wheels ≡ seat_lines_from number slots wheels
-  same_lines wheel [] wheels number h = refl
-  same_lines wheel (now ∷ slots) [] number h = refl
   same_lines wheel (now ∷ slots) (w ∷ wheels) number h = rw (holds_without wheel now w h.0, same_lines wheel slots wheels (number + 1) h.1) refl
+  same_lines wheel _ _ number h = refl
 
   same_count : (wheel : Wheel) (slots : List (Option Wheel)) (wheels : List SheetWheel) → AllByRecursion (λ v. wheel ≢ v.wheel) wheels
       → count_by wrong_slot (zip (map (without wheel) slots) wheels) ≡ count_by wrong_slot (zip slots wheels)
-  same_count wheel [] wheels h = refl
-  same_count wheel (now ∷ slots) [] h = refl
   same_count wheel (now ∷ slots) (w ∷ wheels) h =
       let head = ap (λ b. cond {A = ℕ} (not b) 1 0) (holds_without wheel now w h.0) in
       omega (arith, count_by-cons wrong_slot (without wheel now, w) (zip (map (without wheel) slots) wheels), count_by-cons wrong_slot (now, w) (zip slots wheels), same_count wheel slots wheels h.1)
+  same_count wheel _ _ h = refl
 
   seats_without : (wheel : Wheel) (done : List SheetWheel) → AllByRecursion (λ v. v.wheel ≢ wheel) done → map (without wheel) (seats done) ≡ seats done
   seats_without wheel [] h = refl
@@ -133,32 +119,30 @@ module _ (told : NamesTellWheels) where
         ∙ done_right (done ++ w ∷ []) (map (without w.wheel) slots) rest ∙ same_count w.wheel slots rest (beside_back OtherWheels done w rest two) in
         omega (arith, before, head, one, after)
 
-    seat_cond : (b : Bool) (done rest : List SheetWheel) (w : SheetWheel) (now : Option Wheel) (slots : List (Option Wheel)) (number : ℕ) (end : Parts) → done ++ w ∷ rest ≡ s.wheels → holds now w ≡ b → number ≡ suc (length done)
+    seat_led : (done rest : List SheetWheel) (w : SheetWheel) (now : Option Wheel) (slots : List (Option Wheel)) (number : ℕ) (end : Parts) → done ++ w ∷ rest ≡ s.wheels → number ≡ suc (length done)
         → ((others : List (Option Wheel)) → length others ≡ length slots → Led (OfRotors s) (with_slots (seats (done ++ w ∷ []) ++ others)) (seat_lines_from (number + 1) others rest) end)
         → Led (OfRotors s) (with_slots (seats done ++ now ∷ slots)) (seat_lines_from number (now ∷ slots) (w ∷ rest)) end
-    seat_cond true done rest w now slots number end e is at next =
-        rw is (subst (λ all. Led (OfRotors s) (with_slots all) (seat_lines_from (number + 1) slots rest) end)
-        (more_seats done w slots ∙ ap (λ seated. seats done ++ seated ∷ slots) (sym (holds_is now w is))) (next slots refl))
-    seat_cond false done rest w now slots number end e is at next =
+    seat_led done rest w now slots number end e at next =
         let two = subst (EachTwo OtherWheels) (sym e) apart in
         let here = with_slots (seats done ++ now ∷ slots) in
-        let line = Seat (suc (length done)) w.wheel in
         let further = seat_lines_from (number + 1) slots rest in
-        let then_so = subst (λ lines. Led (OfRotors s) (with_slots (seats (done ++ w ∷ []) ++ map (without w.wheel) slots)) lines end)
-        (same_lines w.wheel slots rest (number + 1) (beside_back OtherWheels done w rest two)) (next (map (without w.wheel) slots) (length-map slots (without w.wheel))) in
-        let led : Led (OfRotors s) here (line ∷ further) end = led_cons (seat_allowed (seats done ++ now ∷ slots) done rest w e) (seat_needed done rest w now slots e is)
-        (ap with_slots (sym (seated_behind done w now slots (beside_front OtherWheels done w rest two)))) then_so in
-        rw is (subst (λ n. Led (OfRotors s) here (Seat n w.wheel ∷ further) end) (sym at) led)
+        elim (cases_Bool (holds now w)) [
+          | inl is ↦ rw is (subst (λ all. Led (OfRotors s) (with_slots all) further end)
+              (more_seats done w slots ∙ ap (λ seated. seats done ++ seated ∷ slots) (sym (holds_is now w is))) (next slots refl))
+          | inr other ↦
+              let then_so = rw (same_lines w.wheel slots rest (number + 1) (beside_back OtherWheels done w rest two)) at (next (map (without w.wheel) slots) (length-map slots (without w.wheel))) in
+              rw other (subst (λ n. Led (OfRotors s) here (Seat n w.wheel ∷ further) end) (sym at) (led_cons (seat_allowed (seats done ++ now ∷ slots) done rest w e) (seat_needed done rest w now slots e other)
+              (ap with_slots (sym (seated_behind done w now slots (beside_front OtherWheels done w rest two)))) then_so))
+        ]
 
     seats_from : (done rest : List SheetWheel) (slots : List (Option Wheel)) (number : ℕ) → done ++ rest ≡ s.wheels → length slots ≡ length rest → number ≡ suc (length done)
         → Led (OfRotors s) (with_slots (seats done ++ slots)) (seat_lines_from number slots rest) (with_slots (seats s.wheels))
     seats_from done [] [] number e size at =
         led_none (ap with_slots (ap seats (sym e ∙ append-nil done) ∙ sym (append-nil (seats done))))
     seats_from done (w ∷ rest) (now ∷ slots) number e size at =
-        seat_cond (holds now w) done rest w now slots number (with_slots (seats s.wheels)) e refl at
+        seat_led done rest w now slots number (with_slots (seats s.wheels)) e at
         (λ others same. seats_from (done ++ w ∷ []) rest others (number + 1) (append_assoc done (w ∷ []) rest ∙ e) (omega arith) (omega (arith, length-append done (w ∷ []))))
-    seats_from done [] (now ∷ slots) number e size at = absurd (omega arith)
-    seats_from done (w ∷ rest) [] number e size at = absurd (omega arith)
+    seats_from done _ _ number e size at = absurd (omega arith)
 
     pub seats_led : length m.slots ≡ length s.wheels → Led (OfRotors s) (Rotor m) (seat_lines_from 1 m.slots s.wheels) (with_slots (seats s.wheels))
     seats_led size = seats_from [] s.wheels m.slots 1 refl size refl

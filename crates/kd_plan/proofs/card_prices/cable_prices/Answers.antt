@@ -1,7 +1,7 @@
 use Rattle.std.proofs.Common.{rules, refl, arith}
 use Rattle.std.proofs.lemmas.Bool.{some_since}
 use Rattle.kd_card.specs.declared.prices.PriceParts.TheVariants.{Cables}
-use Rattle.kd_plan.proofs.Pricing.{prices_of}
+use Rattle.kd_plan.proofs.Assembling.{prices_of}
 use Rattle.kd_plan.proofs.card_prices.cable_prices.Goals as goal
 
 pub unwrap-requires-else-total-eq0 : goal.unwrap-requires-else-total-eq0

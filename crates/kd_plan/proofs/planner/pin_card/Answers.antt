@@ -5,8 +5,7 @@ use Rattle.kd_state.specs.Entry.{pin_values}
 use Rattle.kd_state.specs.SheetDay.{OfPins}
 use Rattle.kd_card.specs.declared.prices.PriceParts.TheVariants.{Bars}
 use Rattle.kd_card.specs.Proving.{AreOfKind}
-use Rattle.kd_plan.proofs.Assembling.{bar_costs_at_most, pin_room, planned}
-use Rattle.kd_plan.proofs.Pricing.{solved, zeros_all}
+use Rattle.kd_plan.proofs.Assembling.{bar_costs_at_most, pin_room, planned, solved, zeros_all}
 use Rattle.kd_plan.proofs.planner.pin_card.Goals as goal
 
 pub assign-total-requires : goal.assign-total-requires

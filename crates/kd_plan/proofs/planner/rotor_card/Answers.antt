@@ -6,8 +6,7 @@ use Rattle.kd_state.specs.SheetDay.{OfRotors}
 use Rattle.kd_state.specs.Costs.{cable_costs}
 use Rattle.kd_card.specs.declared.prices.PriceParts.TheVariants.{Cables}
 use Rattle.kd_card.specs.Proving.{AreOfKind}
-use Rattle.kd_plan.proofs.Assembling.{cable_costs_at_most, rotor_room, planned}
-use Rattle.kd_plan.proofs.Pricing.{solved, zeros_all}
+use Rattle.kd_plan.proofs.Assembling.{cable_costs_at_most, rotor_room, planned, solved, zeros_all}
 use Rattle.kd_plan.proofs.planner.rotor_card.Goals as goal
 
 pub assign-total-requires : goal.assign-total-requires
