@@ -54,7 +54,7 @@ fn written(alloc: Global, file: &str) -> Result<MemorySink<1024>, Fail> {
 
 #[test]
 fn writes_what_was_read(rt: HostRuntime) -> Result<(), Fail> {
-    for (file, text) in WRITTEN {
+    for (file, text) in &WRITTEN {
         let sink = written(rt.alloc(), file)?;
         assert_eq!(rt; sink.taken(), text.as_bytes());
     }
@@ -63,7 +63,7 @@ fn writes_what_was_read(rt: HostRuntime) -> Result<(), Fail> {
 
 #[test]
 fn writes_other_machines_back(rt: HostRuntime) -> Result<(), Fail> {
-    for (file, old, new) in WRITTEN_BACK {
+    for (file, old, new) in &WRITTEN_BACK {
         let text = file.replace(rt.alloc(), old, new)?;
         let sink = written(rt.alloc(), text.as_str())?;
         assert_eq!(rt; sink.taken(), text.as_bytes());
@@ -92,7 +92,7 @@ fn tells_that_the_sink_failed(rt: HostRuntime) -> Result<(), SheetFault> {
 
 #[test]
 fn reads_either_version_and_unknown_keys(rt: HostRuntime) -> Result<(), Fail> {
-    for version in VERSIONS {
+    for version in &VERSIONS {
         let text = M1.replace(rt.alloc(), "version = 1", version)?;
         let sink = written(rt.alloc(), text.as_str())?;
         assert_eq!(rt; sink.taken(), M1_WRITTEN.as_bytes());
