@@ -43,28 +43,6 @@ pub begins_no_more : (line next : List ℕ) (byte : ℕ) → byte ≢ 10 → Beg
 begins_no_more line next byte other none (Broken is empty) = absurd (other is)
 begins_no_more line next byte other none (Longer differs is) = λ count same. none (length line) (front_of line byte count (sym is ∙ same))
 
-pub begins_more : (line next : List ℕ) (byte count : ℕ) → byte ≢ 10 → Begins line (Some count) → count < 5 → byte ≡ get_or (codes "PART ") count 0
-    → IsNextLine line byte next → Begins next (Some (count + 1))
-begins_more line next byte count other begun few due (Broken is empty) = absurd (other is)
-begins_more line next byte count other begun few due (Longer differs is) = (
-  omega arith,
-  is ∙ ap (λ l. l ++ byte ∷ []) begun.1 ∙ ap (λ b. take count (codes "PART ") ++ b ∷ []) due ∙ sym (take_more (codes "PART ") count 0 few),
-)
-
--- no byte stands behind the last of the five, and none but the one that is due before
-pub begins_otherwise : (line next : List ℕ) (byte count : ℕ) → byte ≢ 10 → Begins line (Some count) → (count < 5 → byte ≢ get_or (codes "PART ") count 0)
-    → IsNextLine line byte next → Begins next None
-begins_otherwise line next byte count other begun wrong (Broken is empty) = absurd (other is)
-begins_otherwise line next byte count other begun wrong (Longer differs is) = λ more same.
-    let all : line ++ byte ∷ [] ≡ take more (codes "PART ") = sym is ∙ same in
-    let size : length line ≡ count = ap length begun.1 ∙ length-take-le count (codes "PART ") begun.0 in
-    let room : count + 1 ≡ length (take more (codes "PART ")) = omega (arith, size, ap length all, length-append line (byte ∷ [])) in
-    let few : count < more = omega (arith, room, length-take more (codes "PART ")) in
-    let within : count < 5 = omega (arith, room, length-take more (codes "PART ")) in
-    wrong within
-    (sym (get_or-append_seam line byte [] 0) ∙ ap (λ n. get_or (line ++ byte ∷ []) n 0) size ∙ ap (λ l. get_or l count 0) all
-    ∙ get_or-take more (codes "PART ") count 0 few)
-
 -- ---- the letters
 
 -- kept up to a length, once more

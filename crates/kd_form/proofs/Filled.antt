@@ -107,9 +107,6 @@ pub record IsFilling (pattern bytes : List ℕ) (place : ℕ) (letters : List �
   pub within : All (λ l. l < 26) letters
   pub filled : filled_in (take place pattern) letters ≡ take place bytes
 
-pub filling_none : (pattern bytes : List ℕ) → IsFilling pattern bytes 0 []
-filling_none pattern bytes = record { inside = omega arith; counted = refl; within = All-nil (λ l. l < 26); filled = refl }
-
 one_letter : (b : Bool) (mark byte : ℕ) → (if b then nat_le 65 byte && nat_le byte 90 else byte == mark) ≡ true
     → (length (if b then (byte - 65) ∷ [] else []) ≡ (if b then 0 + 1 else 0))
     × All (λ l. l < 26) (if b then (byte - 65) ∷ [] else [])

@@ -101,11 +101,6 @@ pub heading_of_due : (s : Day) (number : ℕ) (expected : Option ℕ) (part : Li
     → IsHeadingDue number expected found h → IsHeading s h
 heading_of_due s number expected part found h open_by due = (there_is s part found h open_by due.is).is_heading
 
-pub heading_of_body : (s : Day) (number : ℕ) (expected : Option ℕ) (part : List ℕ) (b : PartBody) (stage : Stage) → HoldsStage s stage number expected part
-    → stage ≡ stages.Body b → IsHeading s b.heading
-heading_of_body s number expected part b stage held is =
-    let there : HoldsPart s b number expected part = subst (λ st. HoldsStage s st number expected part) is held in there.holds.is_heading
-
 -- ---- the whole form
 
 in_turn : (s : Day) (r : FormReader) (form text one : List ℕ) (parts : ℕ) (h : HoldsForm s r form text) → IsLastText s r.number r.expected h.so_far.turn.part parts one

@@ -142,29 +142,11 @@ due_follows (a ∷ b ∷ c ∷ d ∷ []) byte due few is may =
     (λ same. may_begin (a ∷ b ∷ c ∷ d ∷ byte ∷ []) (codes "0") (cc), λ then_may. let all = then_may.1.is in cc)
 due_follows (a ∷ b ∷ c ∷ d ∷ e ∷ part) byte due few is may = absurd (omega arith)
 
-pub digit_follows : (part : List ℕ) (byte : ℕ) → length part ≡ 5 → MayBegin part → Follows part byte ((48 ≤ byte) × (byte ≤ 57))
-digit_follows (a ∷ b ∷ c ∷ d ∷ e ∷ []) byte size may =
-    let had = may.1.is in (
-      λ digit. ([], record { digit = byte; rest = []; is = cc; low = digit.0; high = digit.1 }),
-      λ then_may.
-          let same : byte ≡ then_may.1.digit = (let all = then_may.1.is in cc) in
-          (subst (λ x. 48 ≤ x) (sym same) then_may.1.low, subst (λ x. x ≤ 57) (sym same) then_may.1.high),
-    )
-digit_follows [] byte size may = absurd (omega arith)
-digit_follows (a ∷ []) byte size may = absurd (omega arith)
-digit_follows (a ∷ b ∷ []) byte size may = absurd (omega arith)
-digit_follows (a ∷ b ∷ c ∷ []) byte size may = absurd (omega arith)
-digit_follows (a ∷ b ∷ c ∷ d ∷ []) byte size may = absurd (omega arith)
-digit_follows (a ∷ b ∷ c ∷ d ∷ e ∷ f ∷ part) byte size may = absurd (omega arith)
-
 pub all_follow : (part : List ℕ) (byte : ℕ) → 6 ≤ length part → MayBegin part → MayBegin (part ++ byte ∷ [])
 all_follow part byte long may = ([], subst BeginsHeading (sym (append-nil (part ++ byte ∷ []))) (begins_more part (byte ∷ []) (begins_front part may.0 long may.1)))
 
 pub short_line : (part line : List ℕ) → line ≡ take 64 part → length line < 64 → line ≡ part
 short_line part line kept short = kept ∙ take_all 64 part (omega (arith, ap length kept, length-take 64 part))
-
-pub long_line : (part line : List ℕ) (few : ℕ) → line ≡ take 64 part → few ≤ 64 → few ≤ length line → few ≤ length part
-long_line part line few kept less long = omega (arith, ap length kept, length-take 64 part)
 
 told_true : (a b : ℕ) → IsTrue (a == b) → a ≡ b
 told_true a b is = search rules

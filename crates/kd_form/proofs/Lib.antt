@@ -20,7 +20,6 @@ pub mod Headings
 pub mod FirstLines
 pub mod Received
 pub mod Told
-pub mod Answered
 pub mod BodyTexts
 pub mod PartTexts
 pub mod OneCut

@@ -11,24 +11,6 @@ pub record AreSpelled (word : List ℕ) (index : ℕ) (letters : List ℕ) : Typ
   pub size : length letters ≡ index
   pub spelled : letters_text letters ≡ take index word
 
-pub spelled_none : (word : List ℕ) → AreSpelled word 0 []
-spelled_none word = record { size = refl; spelled = refl }
-
-pub spelled_more : (word letters more : List ℕ) (index letter byte : ℕ) → index < length word → AreSpelled word index letters → get_or word index 0 ≡ byte
-    → byte ≡ letter + 65 → more ≡ letters ++ letter ∷ [] → AreSpelled word (index + 1) more
-spelled_more word letters more index letter byte inside before read told put = record {
-  size = omega (arith, ap length put, length-append letters (letter ∷ []), before.size);
-  spelled = ap letters_text put ∙ map-append (λ l. l + 65) letters (letter ∷ []) ∙ ap (λ t. t ++ (letter + 65) ∷ []) before.spelled
-      ∙ ap (λ b. take index word ++ b ∷ []) (sym told ∙ sym read) ∙ sym (take_more word index 0 inside);
-}
-
-pub too_long : (word letters others : List ℕ) (index : ℕ) (full : Bool) → index < length word → AreSpelled word index letters → full ≡ (length letters == 4)
-    → full ≡ true → AreFewLetters others → letters_text others ≢ word
-too_long word letters others index full inside before told yes' are same =
-    let four : length letters ≡ 4 = eqb-true _ _ (sym told ∙ yes') in
-    let long : length others ≡ length word = sym (length-map others (λ l. l + 65)) ∙ ap length same in
-    omega (arith, are.few, before.size)
-
 text_at : (letters : List ℕ) (i : ℕ) → i < length letters → get_or (letters_text letters) i 0 ≡ get_or letters i 0 + 65
 text_at [] i inside = absurd (omega arith)
 text_at (l ∷ letters) zero inside = refl
@@ -42,6 +24,3 @@ capital_at word others index inside are same =
     let small : get_or others index 0 < 26 = All-get_or (λ l. l < 26) others index 0 within are.within in
     let byte : get_or word index 0 ≡ get_or others index 0 + 65 = ap (λ w. get_or w index 0) (sym same) ∙ text_at others index within in
     (omega arith, omega arith)
-
-pub all_spelled : (word letters : List ℕ) (index : ℕ) → length word ≤ index → AreSpelled word index letters → letters_text letters ≡ word
-all_spelled word letters index over spelled = spelled.spelled ∙ take_all index word over

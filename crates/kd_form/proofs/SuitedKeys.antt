@@ -16,9 +16,6 @@ pub record AreSuited (s : Day) (keys : List Keys) (part index : ℕ) : Type 0 wh
   pub counted : part ≡ index + 1
   pub suited : All (Suits s) (take index keys)
 
-pub suited_none : (s : Day) (keys : List Keys) → AreSuited s keys 1 0
-suited_none s keys = record { counted = refl; suited = All-nil (Suits s) }
-
 pub suited_more : (s : Day) (keys : List Keys) (part index : ℕ) (k : Keys) → index < length keys → get_or keys index k ≡ k → AreSuited s keys part index
     → Suits s k → AreSuited s keys (part + 1) (index + 1)
 suited_more s keys part index k inside is before suits = record {
