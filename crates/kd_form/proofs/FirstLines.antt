@@ -17,29 +17,16 @@ use Rattle.kd_form.specs.KeyPatterns.{HasPins, HasSlots}
 use Rattle.kd_form.specs.Reading.{HasIndicator}
 use Rattle.kd_form.specs.FormParts.{IsHeading, IsLineText, WithReturn, WithoutReturn}
 use Rattle.kd_form.specs.Receiving.{HasHeading}
+use Rattle.kd_form.proofs.Plain.{IsPlain, plain_text, plain_letters, plain_more, without}
 use Rattle.kd_form.proofs.Fractions.{figures}
 use Rattle.kd_form.proofs.Headings.{at_most, small_count, few_wheels}
 
 -- ---- no byte of a heading's line is below the space
 
-abbrev pub IsPlain : List ℕ → Type 0
-IsPlain text = All (λ byte. 32 ≤ byte) text
-
 plain_number : (number : ℕ) → number < 2 ^ 64 → IsPlain (decimal number)
 plain_number number small =
     All-from_get_or (λ b. 32 ≤ b) (decimal number) 0
     (λ i inside. let figure : IsInRange 48 57 (get_or (decimal number) i 0) = digits_decimal figures number small i inside in omega (arith, figure.0))
-
-plain_letters : (letters : List ℕ) → IsPlain (letters_text letters)
-plain_letters letters = All-map (λ b. 32 ≤ b) (λ l. l + 65) letters (λ k d inside. omega arith)
-
-pub plain_more : (word text : List ℕ) → IsPlain word → IsPlain text → IsPlain (word ++ 32 ∷ text)
-plain_more word text one other = All-append (λ b. 32 ≤ b) word (32 ∷ text) one (All-cons (λ b. 32 ≤ b) 32 text (omega arith) other)
-
-pub plain_part : IsPlain (codes "PART")
-plain_part =
-    All-cons (λ b. 32 ≤ b) 80 (65 ∷ 82 ∷ 84 ∷ []) (omega arith) (All-cons (λ b. 32 ≤ b) 65 (82 ∷ 84 ∷ []) (omega arith)
-    (All-cons (λ b. 32 ≤ b) 82 (84 ∷ []) (omega arith) (All-cons (λ b. 32 ≤ b) 84 [] (omega arith) (All-nil (λ b. 32 ≤ b)))))
 
 plain_fraction : (part parts : ℕ) → part < 2 ^ 64 → parts < 2 ^ 64 → IsPlain (fraction part parts)
 plain_fraction part parts small few =
@@ -55,13 +42,10 @@ plain_end count (Some i) small =
 
 pub plain_heading : (s : Day) (h : Heading) → IsHeading s h → IsPlain (line_of (heading_words h))
 plain_heading s h is =
-    plain_more (codes "PART") (fraction h.part h.parts ++ 32 ∷ line_of (decimal h.letters ∷ indicator_words h.indicator)) plain_part
+    plain_more (codes "PART") (fraction h.part h.parts ++ 32 ∷ line_of (decimal h.letters ∷ indicator_words h.indicator)) (plain_text (codes "PART") refl)
     (plain_more (fraction h.part h.parts) (line_of (decimal h.letters ∷ indicator_words h.indicator))
     (plain_fraction h.part h.parts (omega (arith, is.number.in_order, is.number.few)) (omega (arith, is.number.few)))
     (plain_end h.letters h.indicator (small_count s h.letters is.letters)))
-
-pub without : (byte : ℕ) (text : List ℕ) → byte < 32 → IsPlain text → IsWithout byte text
-without byte text low plain = All-weaker (λ b. 32 ≤ b) (λ b. b ≢ byte) (λ b above same. omega (arith, above, same)) text plain
 
 pub has_byte : (byte : ℕ) (before rest : List ℕ) → ¬ (IsWithout byte (before ++ byte ∷ rest))
 has_byte byte before rest none =

@@ -18,14 +18,15 @@ use Rattle.kd_form.specs.Order.{IsEnded}
 use Rattle.kd_form.specs.Part.{heading_words}
 use Rattle.kd_form.specs.Sending.{letter_of_byte, letters_from}
 use Rattle.kd_form.specs.FormParts.{BeginsHeading, IsFirstOf, IsHeading}
-use Rattle.kd_form.specs.Receiving.{HasHeading, IsExpected, IsBodyText, IsBodyFault, IsEarlyFault, InHeading, InNumber, InBody}
+use Rattle.kd_form.specs.Receiving.{HasHeading, IsExpected, IsBodyFault, IsEarlyFault, InHeading, InNumber, InBody}
 use Rattle.kd_form.specs.FormText.{ArePartsRead, IsReadTo, given_letters, count_due, Turn, IsRefusedForGood, NoHeading, InWhole, InLast, form_message}
-use Rattle.kd_form.specs.FormReading.{Begins, MayBegin, HoldsBody, HoldsPart, HoldsStage, HoldsForm, IsHeadingDue, IsHeadingOff, Missing, Other}
+use Rattle.kd_form.specs.FormReading.{IsBodyGiven, Begins, MayBegin, HoldsBody, HoldsPart, HoldsStage, HoldsForm, IsHeadingDue, IsHeadingOff, Missing, Other}
 use Rattle.kd_form.specs.Streams.{IsRefused}
 use Rattle.kd_form.specs.StreamSteps.{Held}
 use Rattle.kd_form.proofs.Bodies.{begins_nothing, take_kept}
-use Rattle.kd_form.proofs.FirstLines.{plain_heading, without, has_byte, ended_heading}
-use Rattle.kd_form.proofs.Growing.{all_follow, first_unbroken, first_more, first_ends, head_unbroken, turn_with, last_rest, rest_within}
+use Rattle.kd_form.proofs.Plain.{All-front, without, head_unbroken}
+use Rattle.kd_form.proofs.FirstLines.{plain_heading, has_byte, ended_heading}
+use Rattle.kd_form.proofs.Growing.{all_follow, first_unbroken, first_more, first_ends, turn_with, last_rest, rest_within}
 use Rattle.kd_form.proofs.Heads.{IsUpToBreak, up_to_break}
 use Rattle.kd_form.proofs.OneFault.{no_bad_byte}
 use Rattle.kd_form.proofs.OneHeading.{one_heading, begins_there}
@@ -316,10 +317,6 @@ bad_byte s r form text byte b h stage not bad =
     (there.numbered ∙ h.numbered) (subst (λ e. IsExpected e b.heading.parts) h.due there.due)
     (record { before = there.body; byte = byte; rest = []; joined = refl; size = refl; allowed = there.holds.allowed; bad = bad }) (ap BadByte place)) h.so_far.is
 
-All-front : (P : ℕ → Type 0) (xs ys : List ℕ) → All P (xs ++ ys) → All P xs
-All-front P [] ys all = All-nil P
-All-front P (x ∷ xs) ys all = All-cons P x xs (All-head P x (xs ++ ys) all) (All-front P xs ys (All-tail P x (xs ++ ys) all))
-
 -- ---- the part ends, as a digit stands behind the five bytes of a heading
 
 -- its body without these, and their letters
@@ -388,18 +385,19 @@ part_refused s r form text byte b fault h stage begun low high told =
       found = subst (λ n. IsBodyFault s n b.heading (letters_from None there.holds.settled) fault) (there.numbered ∙ h.numbered) found;
     })) h.so_far.is
 
-pub part_read : (s : Day) (r new : FormReader) (form text made one : List ℕ) (byte : ℕ) (b : PartBody) (line : _) (h : HoldsForm s r form text) → r.stage ≡ stages.Body b
+pub part_read : (s : Day) (r new : FormReader) (form text made : List ℕ) (byte : ℕ) (b : PartBody) (line : _) (h : HoldsForm s r form text) → r.stage ≡ stages.Body b
     → b.begun ≡ Some 5 → 48 ≤ byte → byte ≤ 57
-    → ((letters more : List ℕ) → length more ≡ 4 → b.letters.items ≡ take 525 (letters ++ more) → IsBodyText s b.heading letters one)
-    → made ≡ given_letters s one → new.position ≡ r.position + 1 → new.number ≡ r.number + 1 → new.expected ≡ Some b.heading.parts
+    → ((letters more : List ℕ) → length more ≡ 4 → b.letters.items ≡ take 525 (letters ++ more)
+    → IsBodyGiven s b.heading letters made) → new.position ≡ r.position + 1 → new.number ≡ r.number + 1 → new.expected ≡ Some b.heading.parts
     → new.stage ≡ stages.Heading line → line.items ≡ codes "PART " ++ byte ∷ [] → HoldsForm s new (form ++ byte ∷ []) (text ++ made)
-part_read s r new form text made one byte b line h stage begun low high told given position number expected now begins =
+part_read s r new form text made byte b line h stage begun low high told position number expected now begins =
     let t : Turn s form = h.so_far.turn in
     let there = in_line s r form text [] h (stages.Body b) stage in
     let part = settled s b t.rest there.body there.holds begun in
     let head : List ℕ = codes "PART " ++ byte ∷ [] in
     let u : Turn s (form ++ byte ∷ []) = turn_with s form (byte ∷ []) part.whole head t (λ e. cc) (ended_turn s r form text byte b h there part low high) in
     let found = told (letters_from None there.holds.settled) (letters_from None (codes "PART ")) refl (there.holds.kept ∙ ap (take 525) part.letters) in
+    let one : List ℕ = found.0 in
     let is : IsReadInTurn s (form ++ byte ∷ []) u b.heading.parts one = record {
       read = record {
         heading = b.heading;
@@ -408,8 +406,8 @@ part_read s r new form text made one byte b line h stage begun low high told giv
         numbered = there.numbered ∙ h.numbered;
         so_many = refl;
         allowed = part.allowed;
-        counted = found.0;
-        read = found.1;
+        counted = found.1.0;
+        read = found.1.1;
       };
       due = subst (λ e. IsExpected e b.heading.parts) h.due there.due;
     } in
@@ -419,7 +417,7 @@ part_read s r new form text made one byte b line h stage begun low high told giv
       so_far = record {
         turn = v;
         last = refl;
-        is = ap (λ l. l ++ made) h.so_far.is ∙ ap (λ l. given_letters s t.letters ++ l) given ∙ sym (given_more s t.letters one);
+        is = ap (λ l. l ++ made) h.so_far.is ∙ ap (λ l. given_letters s t.letters ++ l) found.2 ∙ sym (given_more s t.letters one);
       };
       counted = position ∙ ap (λ n. n + 1) h.counted ∙ sym (length-append form (byte ∷ []));
       numbered = number ∙ ap (λ n. n + 1) (h.numbered ∙ sym (length-append t.before (part.whole ∷ [])));

@@ -11,6 +11,7 @@ use Rattle.kd_state.specs.Words.{IsWithout}
 use Rattle.kd_form.specs.FormParts.{BeginsHeading, IsFirstOf}
 use Rattle.kd_form.specs.FormText.{AreFirstParts, Turn}
 use Rattle.kd_form.specs.FormReading.{MayBegin}
+use Rattle.kd_form.proofs.Plain.{head_unbroken}
 use Rattle.kd_form.proofs.OneFault.{Shorter, Longer, fronts}
 
 pub no_break : (line after : List ℕ) (k : ℕ) → IsWithout 10 line → k < length line → get_or (line ++ 10 ∷ after) k 0 ≢ 10
@@ -189,12 +190,6 @@ same_last front tail other end without also same = elim (fronts front (10 ∷ ta
       absurd (All-get_or (λ b. b ≢ 10) end (length more) 0 (omega (arith, ap length all, length-append more (10 ∷ tail))) also
       (ap (λ l. get_or l (length more) 0) all ∙ get_or-append_seam more 10 tail 0))
 ]
-
-pub head_unbroken : IsWithout 10 (codes "PART ")
-head_unbroken =
-    All-cons (λ b. b ≢ 10) 80 (65 ∷ 82 ∷ 84 ∷ 32 ∷ []) (λ e. omega arith) (All-cons (λ b. b ≢ 10) 65 (82 ∷ 84 ∷ 32 ∷ []) (λ e. omega arith)
-    (All-cons (λ b. b ≢ 10) 82 (84 ∷ 32 ∷ []) (λ e. omega arith) (All-cons (λ b. b ≢ 10) 84 (32 ∷ []) (λ e. omega arith)
-    (All-cons (λ b. b ≢ 10) 32 [] (λ e. omega arith) (All-nil (λ b. b ≢ 10))))))
 
 -- five bytes and one more that begin a heading
 last_digit : (bytes : List ℕ) (byte : ℕ) → length bytes < 6 → BeginsHeading (bytes ++ byte ∷ []) → (bytes ≡ codes "PART ") × (48 ≤ byte) × (byte ≤ 57)

@@ -13,36 +13,9 @@ use Rattle.kd_form.specs.Keys.{key_words, AreKeys}
 use Rattle.kd_form.specs.Patterns.{IsPatternLine, BeginsWithPattern, LineBreaksOff}
 use Rattle.kd_form.specs.Order.{IsEnded, IsKeyLine, AreKeyLines, IsHead, IsOrder, IsHeadFault}
 use Rattle.kd_form.specs.KeyPatterns.{IsAnyKeyLine}
+use Rattle.kd_form.proofs.Plain.{key_line_without}
 
 -- ---- one line
-
-letters_unbroken : (letters : List ℕ) → IsWithout 10 (letters_text letters)
-letters_unbroken letters = All-map (λ byte. byte ≢ 10) (λ letter. letter + 65) letters (λ k d inside e. omega arith)
-
-behind_space : (text : List ℕ) → IsWithout 10 text → IsWithout 10 (32 ∷ text)
-behind_space text without = All-cons (λ byte. byte ≢ 10) 32 text (λ e. omega arith) without
-
-part_unbroken : IsWithout 10 (codes "PART")
-part_unbroken =
-    All-cons (λ byte. byte ≢ 10) 80 (65 ∷ 82 ∷ 84 ∷ []) (λ e. omega arith) (All-cons (λ byte. byte ≢ 10) 65 (82 ∷ 84 ∷ []) (λ e. omega arith)
-    (All-cons (λ byte. byte ≢ 10) 82 (84 ∷ []) (λ e. omega arith) (All-cons (λ byte. byte ≢ 10) 84 [] (λ e. omega arith) (All-nil (λ byte. byte ≢ 10)))))
-
-words_joined : (word text : List ℕ) → IsWithout 10 word → IsWithout 10 text → IsWithout 10 (word ++ 32 ∷ text)
-words_joined word text one other = All-append (λ byte. byte ≢ 10) word (32 ∷ text) one (behind_space text other)
-
-pub key_line_unbroken : (k : Keys) → IsWithout 10 (line_of (key_words k))
-key_line_unbroken (Rotor k) =
-    let fillers : IsWithout 10 (letters_text k.fillers ++ 32 ∷ letters_text k.group) =
-    words_joined (letters_text k.fillers) (letters_text k.group) (letters_unbroken k.fillers) (letters_unbroken k.group) in
-    let key : IsWithout 10 (letters_text k.key ++ 32 ∷ (letters_text k.fillers ++ 32 ∷ letters_text k.group)) =
-    words_joined (letters_text k.key) (letters_text k.fillers ++ 32 ∷ letters_text k.group) (letters_unbroken k.key) fillers in
-    let start : IsWithout 10 (letters_text k.start ++ 32 ∷ (letters_text k.key ++ 32 ∷ (letters_text k.fillers ++ 32 ∷ letters_text k.group))) =
-    words_joined (letters_text k.start) (letters_text k.key ++ 32 ∷ (letters_text k.fillers ++ 32 ∷ letters_text k.group)) (letters_unbroken k.start) key in
-    words_joined (codes "PART") (letters_text k.start ++ 32 ∷ (letters_text k.key ++ 32 ∷ (letters_text k.fillers ++ 32 ∷ letters_text k.group))) part_unbroken start
-key_line_unbroken (Pin k) =
-    let external : IsWithout 10 (letters_text (k.chosen ∷ []) ++ 32 ∷ letters_text k.external) =
-    words_joined (letters_text (k.chosen ∷ [])) (letters_text k.external) (letters_unbroken (k.chosen ∷ [])) (letters_unbroken k.external) in
-    words_joined (codes "PART") (letters_text (k.chosen ∷ []) ++ 32 ∷ letters_text k.external) part_unbroken external
 
 -- what stands before the LF of a line
 pub record IsUpToBreak (line : List ℕ) : Type 0 where
@@ -60,12 +33,14 @@ up_to_break text line unbroken ended = elim ended [
   }
 ]
 
--- two lines at the front of the same bytes are one
-pub same_line : (line other rest more : List ℕ) → TextsTellFirstParts → IsUpToBreak line → IsUpToBreak other → line ++ rest ≡ other ++ more → rest ≡ more
-same_line line other rest more tell a b same =
+-- two lines at the front of the same bytes are one, and so is what follows
+pub same_front : (line other rest more : List ℕ) → TextsTellFirstParts → IsUpToBreak line → IsUpToBreak other → line ++ rest ≡ other ++ more
+    → (line ≡ other) × (rest ≡ more)
+same_front line other rest more tell a b same =
     let one : line ++ rest ≡ a.text ++ 10 ∷ rest = ap (λ l. l ++ rest) a.is ∙ append_assoc a.text (10 ∷ []) rest in
     let two : other ++ more ≡ b.text ++ 10 ∷ more = ap (λ l. l ++ more) b.is ∙ append_assoc b.text (10 ∷ []) more in
-    (tell 10 a.text b.text rest more a.unbroken b.unbroken (sym one ∙ same ∙ two)).1
+    let both = tell 10 a.text b.text rest more a.unbroken b.unbroken (sym one ∙ same ∙ two) in
+    (a.is ∙ ap (λ t. t ++ 10 ∷ []) both.0 ∙ sym b.is, both.1)
 
 pub key_first : (k : Keys) (line more : List ℕ) → IsKeyLine k line → get_or (line ++ more) 0 0 ≡ 80
 key_first (Rotor k) line more ended = elim ended [ inl short ↦ ap (λ l. get_or (l ++ more) 0 0) short | inr long ↦ ap (λ l. get_or (l ++ more) 0 0) long ]
@@ -73,6 +48,9 @@ key_first (Pin k) line more ended = elim ended [ inl short ↦ ap (λ l. get_or 
 
 pub text_first : (last : List ℕ) → IsEnded (codes "TEXT") last → get_or last 0 0 ≡ 84
 text_first last ended = elim ended [ inl short ↦ ap (λ l. get_or l 0 0) short | inr long ↦ ap (λ l. get_or l 0 0) long ]
+
+pub text_front : (last text : List ℕ) → IsEnded (codes "TEXT") last → get_or (last ++ text) 0 0 ≡ 84
+text_front last text ended = elim ended [ inl short ↦ ap (λ l. get_or (l ++ text) 0 0) short | inr long ↦ ap (λ l. get_or (l ++ text) 0 0) long ]
 
 -- ---- heads that begin with a line
 
@@ -99,8 +77,8 @@ without_line s k line more (other ∷ others) tell ended head =
       record {
         lines = first.1;
         last = head.last;
-        joined = same_line line first.0 more (first.1 ++ head.last) tell (up_to_break _ line (key_line_unbroken k) ended)
-            (up_to_break _ first.0 (key_line_unbroken other) first.2) same;
+        joined = (same_front line first.0 more (first.1 ++ head.last) tell (up_to_break _ line (key_line_without 10 k (omega arith)) ended)
+            (up_to_break _ first.0 (key_line_without 10 other (omega arith)) first.2) same).1;
         keyed = first.3;
         ended = head.ended;
         of_the_day = All-tail (AreKeys s) other others head.of_the_day;

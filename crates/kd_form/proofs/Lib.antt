@@ -1,3 +1,4 @@
+pub mod Plain
 pub mod Groups
 pub mod Picking
 pub mod Ciphers

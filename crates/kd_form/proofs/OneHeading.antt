@@ -15,11 +15,12 @@ use Rattle.kd_form.specs.Part.{fraction, indicator_words, heading_words}
 use Rattle.kd_form.specs.Reading.{HasIndicator}
 use Rattle.kd_form.specs.FormParts.{BeginsHeading, IsFraction, IsLetterCount, IsHeading}
 use Rattle.kd_form.specs.Receiving.{HasHeading}
-use Rattle.kd_form.proofs.Heads.{IsUpToBreak, up_to_break}
-use Rattle.kd_form.proofs.OneOrder.{same_letters, behind_part, letters_spaceless, same_front, same_text}
+use Rattle.kd_form.proofs.Heads.{IsUpToBreak, up_to_break, same_front}
+use Rattle.kd_form.proofs.OneOrder.{same_letters, behind_part, letters_spaceless, same_text}
 use Rattle.kd_form.proofs.Fractions.{figures, strokeless}
 use Rattle.kd_form.proofs.Headings.{same_fraction, fraction_word, small_count}
-use Rattle.kd_form.proofs.FirstLines.{plain_heading, without, has_byte}
+use Rattle.kd_form.proofs.Plain.{without}
+use Rattle.kd_form.proofs.FirstLines.{plain_heading, has_byte}
 
 -- ---- the words of the line
 

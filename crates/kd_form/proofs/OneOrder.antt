@@ -19,7 +19,8 @@ use Rattle.kd_form.specs.Part.{part_text, pieces}
 use Rattle.kd_form.specs.Sending.{AreMadeTexts, text_letters}
 use Rattle.kd_form.specs.Making.{part_size}
 use Rattle.kd_form.specs.Laws.{OrdersBecomeOneForm}
-use Rattle.kd_form.proofs.Heads.{IsUpToBreak, up_to_break, key_line_unbroken, key_first}
+use Rattle.kd_form.proofs.Plain.{key_line_without, text_unbroken}
+use Rattle.kd_form.proofs.Heads.{up_to_break, same_front, key_first, text_front}
 
 -- ---- the internal key
 
@@ -115,40 +116,6 @@ not_longer text other without same =
     All-get_or (λ byte. byte ≢ 13) other (length text) 0 inside without
     (ap (λ t. get_or t (length text) 0) (sym same) ∙ get_or-append_seam text 13 [] 0)
 
-letters_uncarried : (letters : List ℕ) → IsWithout 13 (letters_text letters)
-letters_uncarried letters = All-map (λ byte. byte ≢ 13) (λ letter. letter + 65) letters (λ k d inside e. omega arith)
-
-uncarried_more : (word text : List ℕ) → IsWithout 13 word → IsWithout 13 text → IsWithout 13 (word ++ 32 ∷ text)
-uncarried_more word text one other = All-append (λ byte. byte ≢ 13) word (32 ∷ text) one (All-cons (λ byte. byte ≢ 13) 32 text (λ e. omega arith) other)
-
-part_uncarried : IsWithout 13 (codes "PART")
-part_uncarried =
-    All-cons (λ byte. byte ≢ 13) 80 (65 ∷ 82 ∷ 84 ∷ []) (λ e. omega arith) (All-cons (λ byte. byte ≢ 13) 65 (82 ∷ 84 ∷ []) (λ e. omega arith)
-    (All-cons (λ byte. byte ≢ 13) 82 (84 ∷ []) (λ e. omega arith) (All-cons (λ byte. byte ≢ 13) 84 [] (λ e. omega arith) (All-nil (λ byte. byte ≢ 13)))))
-
-key_line_uncarried : (k : Keys) → IsWithout 13 (line_of (key_words k))
-key_line_uncarried (Rotor k) =
-    let fillers : IsWithout 13 (letters_text k.fillers ++ 32 ∷ letters_text k.group) =
-    uncarried_more (letters_text k.fillers) (letters_text k.group) (letters_uncarried k.fillers) (letters_uncarried k.group) in
-    let key : IsWithout 13 (letters_text k.key ++ 32 ∷ (letters_text k.fillers ++ 32 ∷ letters_text k.group)) =
-    uncarried_more (letters_text k.key) (letters_text k.fillers ++ 32 ∷ letters_text k.group) (letters_uncarried k.key) fillers in
-    let start : IsWithout 13 (letters_text k.start ++ 32 ∷ (letters_text k.key ++ 32 ∷ (letters_text k.fillers ++ 32 ∷ letters_text k.group))) =
-    uncarried_more (letters_text k.start) (letters_text k.key ++ 32 ∷ (letters_text k.fillers ++ 32 ∷ letters_text k.group)) (letters_uncarried k.start) key in
-    uncarried_more (codes "PART") (letters_text k.start ++ 32 ∷ (letters_text k.key ++ 32 ∷ (letters_text k.fillers ++ 32 ∷ letters_text k.group))) part_uncarried start
-key_line_uncarried (Pin k) =
-    let external : IsWithout 13 (letters_text (k.chosen ∷ []) ++ 32 ∷ letters_text k.external) =
-    uncarried_more (letters_text (k.chosen ∷ [])) (letters_text k.external) (letters_uncarried (k.chosen ∷ [])) (letters_uncarried k.external) in
-    uncarried_more (codes "PART") (letters_text (k.chosen ∷ []) ++ 32 ∷ letters_text k.external) part_uncarried external
-
--- two lines at the front of the same bytes are one, and so is what follows
-pub same_front : (line other rest more : List ℕ) → TextsTellFirstParts → IsUpToBreak line → IsUpToBreak other → line ++ rest ≡ other ++ more
-    → (line ≡ other) × (rest ≡ more)
-same_front line other rest more tell a b same =
-    let one : line ++ rest ≡ a.text ++ 10 ∷ rest = ap (λ l. l ++ rest) a.is ∙ append_assoc a.text (10 ∷ []) rest in
-    let two : other ++ more ≡ b.text ++ 10 ∷ more = ap (λ l. l ++ more) b.is ∙ append_assoc b.text (10 ∷ []) more in
-    let both = tell 10 a.text b.text rest more a.unbroken b.unbroken (sym one ∙ same ∙ two) in
-    (a.is ∙ ap (λ t. t ++ 10 ∷ []) both.0 ∙ sym b.is, both.1)
-
 longer_end : (text : List ℕ) → text ++ 13 ∷ 10 ∷ [] ≡ (text ++ 13 ∷ []) ++ 10 ∷ []
 longer_end text = sym (append_assoc text (13 ∷ []) (10 ∷ []))
 
@@ -166,17 +133,6 @@ same_text text other line one two a b = elim a [
 
 -- ---- one order
 
-text_unbroken : IsWithout 10 (codes "TEXT")
-text_unbroken =
-    All-cons (λ byte. byte ≢ 10) 84 (69 ∷ 88 ∷ 84 ∷ []) (λ e. omega arith) (All-cons (λ byte. byte ≢ 10) 69 (88 ∷ 84 ∷ []) (λ e. omega arith)
-    (All-cons (λ byte. byte ≢ 10) 88 (84 ∷ []) (λ e. omega arith) (All-cons (λ byte. byte ≢ 10) 84 [] (λ e. omega arith) (All-nil (λ byte. byte ≢ 10)))))
-
-first_of_text : (last text : List ℕ) → IsEnded (codes "TEXT") last → get_or (last ++ text) 0 0 ≡ 84
-first_of_text last text ended = elim ended [
-  | inl short ↦ ap (λ l. get_or (l ++ text) 0 0) short
-  | inr long ↦ ap (λ l. get_or (l ++ text) 0 0) long
-]
-
 pub record IsSameOrder (keys others : List Keys) (head other text more : List ℕ) : Type 0 where
   pub keys_are : keys ≡ others
   pub head_is : head ≡ other
@@ -191,22 +147,22 @@ one_head s [] [] lines last lines' last' text more tell all alls keyed also ende
     let both = same_front last last' text more tell (up_to_break (codes "TEXT") last text_unbroken ended) (up_to_break (codes "TEXT") last' text_unbroken end) front in
     record { keys_are = refl; head_is = ap (λ l. l ++ last) keyed ∙ both.0 ∙ ap (λ l. l ++ last') (sym also); text_is = both.1 }
 one_head s [] (k ∷ others) lines last lines' last' text more tell all alls keyed (line, rest, is, later, joined) ended end same =
-    absurd (let clash : 84 ≡ 80 = sym (first_of_text last text ended)
+    absurd (let clash : 84 ≡ 80 = sym (text_front last text ended)
     ∙ ap (λ t. get_or t 0 0) (ap (λ l. l ++ (last ++ text)) (sym keyed) ∙ same ∙ ap (λ l. l ++ (last' ++ more)) joined ∙ append_assoc line rest (last' ++ more))
     ∙ key_first k line (rest ++ (last' ++ more)) is in omega arith)
 one_head s (k ∷ keys) [] lines last lines' last' text more tell all alls (line, rest, is, later, joined) also ended end same =
-    absurd (let clash : 84 ≡ 80 = sym (first_of_text last' more end)
+    absurd (let clash : 84 ≡ 80 = sym (text_front last' more end)
     ∙ ap (λ t. get_or t 0 0) (ap (λ l. l ++ (last' ++ more)) (sym also) ∙ sym same ∙ ap (λ l. l ++ (last ++ text)) joined ∙ append_assoc line rest (last ++ text))
     ∙ key_first k line (rest ++ (last ++ text)) is in omega arith)
 one_head s (k ∷ keys) (k' ∷ others) lines last lines' last' text more tell all alls (line, rest, is, later, joined) (line', rest', is', later', joined') ended end same =
     let front : line ++ (rest ++ (last ++ text)) ≡ line' ++ (rest' ++ (last' ++ more)) =
     sym (append_assoc line rest (last ++ text)) ∙ ap (λ l. l ++ (last ++ text)) (sym joined) ∙ same ∙ ap (λ l. l ++ (last' ++ more)) joined'
     ∙ append_assoc line' rest' (last' ++ more) in
-    let both = same_front line line' (rest ++ (last ++ text)) (rest' ++ (last' ++ more)) tell (up_to_break _ line (key_line_unbroken k) is)
-    (up_to_break _ line' (key_line_unbroken k') is') front in
+    let both = same_front line line' (rest ++ (last ++ text)) (rest' ++ (last' ++ more)) tell (up_to_break _ line (key_line_without 10 k (omega arith)) is)
+    (up_to_break _ line' (key_line_without 10 k' (omega arith)) is') front in
     let behind = one_head s keys others rest last rest' last' text more tell (All-tail (AreKeys s) k keys all) (All-tail (AreKeys s) k' others alls) later later' ended end both.1 in
     let words : line_of (key_words k) ≡ line_of (key_words k') =
-    same_text (line_of (key_words k)) (line_of (key_words k')) line' (key_line_uncarried k) (key_line_uncarried k')
+    same_text (line_of (key_words k)) (line_of (key_words k')) line' (key_line_without 13 k (omega arith)) (key_line_without 13 k' (omega arith))
     (subst (IsEnded (line_of (key_words k))) both.0 is) is' in
     let one : k ≡ k' = same_keys s k k' tell (All-head (AreKeys s) k keys all) (All-head (AreKeys s) k' others alls) words in
     record {

@@ -15,10 +15,11 @@ use Rattle.kd_form.specs.declared.order_reader.head.HeadStep.{HeadStep}
 use Rattle.kd_form.specs.declared.order_reader.head.HeadStep.TheVariants.{Open, Bad}
 use Rattle.kd_form.specs.SendSteps.{IsHeadRead, HeadIsRead}
 use Rattle.kd_form.proofs.Filled.{length-filled}
+use Rattle.kd_form.proofs.Plain.{All-front, key_line_without, text_unbroken}
 use Rattle.kd_form.proofs.FirstLines.{has_byte}
 use Rattle.kd_form.proofs.KeyLines.{as_form_line}
 use Rattle.kd_form.proofs.OneFault.{Shorter, Longer, fronts}
-use Rattle.kd_form.proofs.Heads.{IsUpToBreak, up_to_break, key_line_unbroken, without_line, IsReadingHead, lines_more, order_read, key_fault, text_fault}
+use Rattle.kd_form.proofs.Heads.{IsUpToBreak, up_to_break, without_line, IsReadingHead, lines_more, order_read, key_fault, text_fault}
 
 -- ---- one line
 
@@ -32,10 +33,6 @@ pub short_line : (s : Day) → length (key_pattern s) ≤ 21 → (line : List �
 short_line s few line is =
     let form = as_form_line s line is in
     ended_length (filled_in (key_pattern s) form.letters) line 21 form.ended (omega (arith, few, length-filled (key_pattern s) form.letters))
-
-All-front : (P : ℕ → Type 0) (xs ys : List ℕ) → All P (xs ++ ys) → All P xs
-All-front P [] ys all = All-nil P
-All-front P (x ∷ xs) ys all = All-cons P x xs (All-head P x (xs ++ ys) all) (All-front P xs ys (All-tail P x (xs ++ ys) all))
 
 last_only : (more rest : List ℕ) (byte : ℕ) → byte ∷ [] ≡ more ++ 10 ∷ rest → rest ≡ []
 last_only [] rest byte same = cc
@@ -67,12 +64,7 @@ front_unbroken line bytes more up joined missing =
     ]
 
 key_up : (s : Day) (line : List ℕ) → IsAnyKeyLine s line → IsUpToBreak line
-key_up s line is = up_to_break _ line (key_line_unbroken is.keys) is.keyed
-
-text_unbroken : IsWithout 10 (codes "TEXT")
-text_unbroken =
-    All-cons (λ byte. byte ≢ 10) 84 (69 ∷ 88 ∷ 84 ∷ []) (λ e. omega arith) (All-cons (λ byte. byte ≢ 10) 69 (88 ∷ 84 ∷ []) (λ e. omega arith)
-    (All-cons (λ byte. byte ≢ 10) 88 (84 ∷ []) (λ e. omega arith) (All-cons (λ byte. byte ≢ 10) 84 [] (λ e. omega arith) (All-nil (λ byte. byte ≢ 10)))))
+key_up s line is = up_to_break _ line (key_line_without 10 is.keys (omega arith)) is.keyed
 
 text_up : (letters line : List ℕ) → IsEnded (filled_in (codes "TEXT") letters) line → IsUpToBreak line
 text_up letters line ended = up_to_break (codes "TEXT") line text_unbroken ended
@@ -149,7 +141,7 @@ pub keys_taken : (s : Day) (h next : HeadReader) (order rest : List ℕ) (byte :
     → BeginsWithKeys s (h.line.items ++ byte ∷ []) k rest → next.keys.items ≡ h.keys.items ++ k ∷ [] → next.line.items ≡ []
     → IsHeadRead s next (order ++ byte ∷ [])
 keys_taken s h next order rest byte k is room begins put cleared =
-    let up = up_to_break _ begins.line (key_line_unbroken k) begins.keyed in
+    let up = up_to_break _ begins.line (key_line_without 10 k (omega arith)) begins.keyed in
     let none : rest ≡ [] = line_ends begins.line h.line.items rest byte is.unbroken up begins.joined in
     let whole : order ++ byte ∷ [] ≡ is.lines ++ begins.line =
     ap (λ o. o ++ byte ∷ []) is.joined ∙ append_assoc is.lines h.line.items (byte ∷ [])

@@ -16,7 +16,8 @@ use Rattle.kd_form.specs.Part.{Part, indicator_words, heading_words, body_text, 
 use Rattle.kd_form.specs.FormParts.{IsHeading, BeginsHeading, IsFirstOf}
 use Rattle.kd_form.specs.Receiving.{HasHeading}
 use Rattle.kd_form.proofs.Fractions.{figures}
-use Rattle.kd_form.proofs.FirstLines.{IsPlain, plain_more, plain_part, plain_heading, without}
+use Rattle.kd_form.proofs.Plain.{IsPlain, plain_more, plain_text, without}
+use Rattle.kd_form.proofs.FirstLines.{plain_heading}
 use Rattle.kd_form.proofs.Growing.{no_break}
 use Rattle.kd_form.proofs.BodyTexts.{AreAllowed, AreLines, body_is_allowed, body_lines, line_before, lines_from}
 
@@ -62,7 +63,7 @@ no_mark : (lines rest : List ℕ) → AreAllowed lines → ¬ (BeginsHeading ((l
 no_mark lines rest allowed begins =
     let mark : List ℕ = codes "PART" ++ 32 ∷ (begins.digit ∷ []) in
     let plain : IsPlain mark =
-    plain_more (codes "PART") (begins.digit ∷ []) plain_part (All-cons (λ b. 32 ≤ b) begins.digit [] (omega (arith, begins.low)) (All-nil (λ b. 32 ≤ b))) in
+    plain_more (codes "PART") (begins.digit ∷ []) (plain_text (codes "PART") refl) (All-cons (λ b. 32 ≤ b) begins.digit [] (omega (arith, begins.low)) (All-nil (λ b. 32 ≤ b))) in
     let same : lines ++ 10 ∷ rest ≡ mark ++ begins.rest = sym (append_assoc lines (10 ∷ []) rest) ∙ begins.is in
     elim (cases_lt (length lines) 6) [
       | inl short ↦

@@ -16,6 +16,8 @@ use Rattle.kd_form.specs.FormParts.{BeginsHeading, IsFirstOf}
 use Rattle.kd_form.specs.Receiving.{IsEarlyFault, IsPartFault, InHeading, InNumber, InBody}
 use Rattle.kd_form.specs.FormText.{given_letters, count_due, Turn, IsRefusedEarly, IsRefusedForGood, NoHeading, InWhole, InLast}
 use Rattle.kd_form.specs.Laws.{FormsStayRefused}
+use Rattle.std.proofs.lemmas.List.Sums.{AllPass-from_list_all}
+use Rattle.kd_form.proofs.Plain.{All-front}
 use Rattle.kd_form.proofs.FirstLines.{ended_heading, heading_there}
 use Rattle.kd_form.proofs.FirstCuts.{FirstCut, first_cut}
 use Rattle.kd_form.proofs.Growing.{begins_front, first_grows, last_rest, no_break, same_start, turn_with}
@@ -71,21 +73,12 @@ bad_in_less body more place good at = elim (fronts body more at.before (at.byte 
 ]
 
 head_allowed : All (λ b. IsTrue (is_text_byte b)) (codes "PART ")
-head_allowed =
-    let P : ℕ → Type 0 = λ (b : ℕ). IsTrue (is_text_byte b) in
-    All-cons P 80 (65 ∷ 82 ∷ 84 ∷ 32 ∷ []) (search rules) (All-cons P 65 (82 ∷ 84 ∷ 32 ∷ []) (search rules)
-    (All-cons P 82 (84 ∷ 32 ∷ []) (search rules) (All-cons P 84 (32 ∷ []) (search rules) (All-cons P 32 [] (search rules) (All-nil P)))))
-
-All-before : (xs ys : List ℕ) → All (λ b. IsTrue (is_text_byte b)) (xs ++ ys) → All (λ b. IsTrue (is_text_byte b)) xs
-All-before [] ys all = All-nil (λ b. IsTrue (is_text_byte b))
-All-before (x ∷ xs) ys all =
-    All-cons (λ b. IsTrue (is_text_byte b)) x xs (All-head (λ b. IsTrue (is_text_byte b)) x (xs ++ ys) all)
-    (All-before xs ys (All-tail (λ b. IsTrue (is_text_byte b)) x (xs ++ ys) all))
+head_allowed = AllPass-from_list_all is_text_byte (codes "PART ") refl
 
 -- fewer than six bytes of what begins a heading may stand in a body
 few_allowed : (bytes more : List ℕ) → length bytes < 6 → BeginsHeading (bytes ++ more) → All (λ b. IsTrue (is_text_byte b)) bytes
 few_allowed bytes more few begins = elim (fronts bytes more (codes "PART ") (begins.digit ∷ begins.rest) begins.is) [
-  | Shorter beyond longer left ↦ All-before bytes beyond (subst (All (λ b. IsTrue (is_text_byte b))) longer head_allowed)
+  | Shorter beyond longer left ↦ All-front (λ b. IsTrue (is_text_byte b)) bytes beyond (subst (All (λ b. IsTrue (is_text_byte b))) longer head_allowed)
   | Longer x beyond longer left ↦ absurd (omega (arith, ap length longer))
 ]
 

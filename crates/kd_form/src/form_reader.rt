@@ -90,9 +90,8 @@ impl MessageReader for FormReader {
                     body.push(byte);
                     return Ok(());
                 }
-                match body.read(day, 4) {
-                    Ok(letters) => {
-                        *made = given_letters(day, letters.as_slice());
+                match body.give(day, 4, made) {
+                    Ok(()) => {
                         self.expected = Some(body.heading.parts);
                         self.number += 1;
                         self.stage = Stage::Heading(heading_from(byte));

@@ -8,12 +8,14 @@ ghost use Rattle.kd_form.specs.Part.{heading_words};
 ghost use Rattle.kd_form.specs.Sending.{letters_from};
 ghost use Rattle.kd_form.specs.FormParts.{IsHeading};
 ghost use Rattle.kd_form.specs.Receiving.{IsBodyText, IsBodyFault};
-ghost use Rattle.kd_form.specs.FormReading.{IsNextLine, Begins, HoldsBody};
+ghost use Rattle.kd_form.specs.FormReading.{IsNextLine, Begins, HoldsBody, IsBodyGiven};
 
 use super::fault::FormFault;
+use super::given::given_letters;
 use super::heading::Heading;
 use super::keeping::keep;
 use super::reading::read_body;
+use super::stream::reader::Made;
 use super::text::letter_of_byte;
 use arrayvec::ArrayVec;
 use kd_state::SheetDay;
@@ -84,6 +86,33 @@ impl PartBody {
         let letters = self.letters.as_slice();
         let (letters, _) = letters.split_at(letters.len() - others);
         read_body(day, &self.heading, letters)
+    }
+
+    /// Tells the same letters as they are given. It stands apart, as the bytes before the last one have no room to be made
+    /// for them.
+    #[inline(never)]
+    pub(crate) fn give(
+        &self,
+        day: &SheetDay,
+        others: usize,
+        made: &mut Made,
+    ) -> Result<(), FormFault>
+        requires heading { IsHeading day.now self.now.heading }
+        requires some { others ≤ length self.now.letters.items }
+        requires few { others ≤ 4 }
+        ensures { (letters more : List ℕ) → length more ≡ others
+            → self.now.letters.items ≡ take 525 (letters ++ more)
+            → MatchResult result
+            (λ _. IsBodyGiven day.now self.now.heading letters made.new.items)
+            (IsBodyFault day.now self.now.heading.part self.now.heading letters) }
+    {
+        match self.read(day, others) {
+            Ok(letters) => {
+                *made = given_letters(day, letters.as_slice());
+                Ok(())
+            }
+            Err(fault) => Err(fault),
+        }
     }
 }
 

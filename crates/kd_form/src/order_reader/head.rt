@@ -51,7 +51,8 @@ impl HeadReader {
         self.keys.as_slice()
     }
 
-    /// Takes the next byte.
+    /// Takes the next byte. It stands apart, as a byte of the text would make room for what this one keeps.
+    #[inline(never)]
     pub(crate) fn take(&mut self, day: &SheetDay, byte: u8) -> HeadStep
         requires { (order : List ℕ) × IsHeadRead day.now self.old order }
         ensures { (order : List ℕ) → IsHeadRead day.now self.old order

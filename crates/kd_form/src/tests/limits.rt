@@ -19,6 +19,7 @@ impl Source for Filler {
 
     fn get(&mut self, buffer: &mut [u8]) -> Result<usize, Failed> {
         let count = buffer.len().min(self.left);
+        self.left -= count;
         for place in 0..count {
             buffer[place] = match self.front {
                 [first, rest @ ..] => {
@@ -28,7 +29,6 @@ impl Source for Filler {
                 [] => self.byte,
             };
         }
-        self.left -= count;
         Ok(count)
     }
 
