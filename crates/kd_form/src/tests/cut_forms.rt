@@ -27,7 +27,13 @@ static OF_1941: [Case; 2] = [
 ];
 
 /// Both calls answer so.
-fn answers(rt: &impl Abort, alloc: Global, (machine, day): &Keyed, form: &[u8], (_, text, fault): &Case) {
+fn answers(
+    rt: &impl Abort,
+    alloc: Global,
+    (machine, day): &Keyed,
+    form: &[u8],
+    (_, text, fault): &Case,
+) {
     let mut source = MemorySource::new(form, 7, None);
     let mut sink = MemorySink::<64>::new(64);
     let answer = receive_stream(machine, day, &mut source, &mut sink);

@@ -18,7 +18,10 @@ fn each_get_of_an_order_fails_in_turn(rt: HostRuntime) -> Result<(), Fail> {
         if gets < 42 {
             assert!(rt; sink.taken().is_empty());
         } else {
-            assert!(rt; sink.taken().starts_with(b"PART 1/2 250 AAA BDZ\nQXUGZ BDZGO "));
+            assert!(rt;
+                sink.taken()
+                    .starts_with(b"PART 1/2 250 AAA BDZ\nQXUGZ BDZGO ")
+            );
             assert_eq!(rt; sink.taken().len(), 321);
         }
     }

@@ -1,6 +1,6 @@
 use super::samples::{
-    Keyed, M1, M1_OF_1941, M1_OFF_KEY, M1_UNREADY, M1_WITH_ANOTHER_GROUP, M4, M4_OF_1942, MESSAGE, keyed,
-    with_one_pin, without_pins,
+    Keyed, M1, M1_OF_1941, M1_OFF_KEY, M1_UNREADY, M1_WITH_ANOTHER_GROUP, M4, M4_OF_1942, MESSAGE,
+    keyed, with_one_pin, without_pins,
 };
 use crate::{FormFault, receive};
 use std::alloc::Global;

@@ -356,4 +356,5 @@ pub const MESSAGE: &[u8] = b"PART 1/1 179 WXC KCH\n\
     INQMA TLPIF SVKDA SCTAC DPBOP VHJK\n";
 
 /// A form of two parts, each with the text AAAAA.
-pub const TWO_PARTS: &[u8] = b"PART 1/2 10 AAA BDZ\nQXUGZ BDZGO\nPART 2/2 10 AAA BDZ\nQXUGZ BDZGO\n";
+pub const TWO_PARTS: &[u8] =
+    b"PART 1/2 10 AAA BDZ\nQXUGZ BDZGO\nPART 2/2 10 AAA BDZ\nQXUGZ BDZGO\n";
