@@ -1,14 +1,17 @@
 -- Lines of a pattern, mark by mark.
 use Rattle.std.proofs.Common.{◌≡◌, ◌≢◌, ℕ, zero, suc, ◌+◌, ◌-◌, ◌<◌, ◌≤◌, ◌⊎◌, inl, inr, Bool, true, false, List, [], ◌∷◌, ◌++◌, length, get_or, take, drop, replicate, refl, sym, ap, subst, ◌∙◌, append_assoc, length-append, length-drop, arith}
 use Rattle.std.proofs.Math.ListN.{get_or-append}
-use Rattle.std.proofs.Math.Seq.{get_or-append_seam}
+use Rattle.std.proofs.Math.Seq.{drop-append_seam}
 use Rattle.std.specs.Prelude.{◌==◌, nat_le, nat_lt, ◌&&◌, slice_index, All, if◌then◌else◌}
 use Rattle.std.proofs.lemmas.Bool.Decides.{nat_tests}
 use Rattle.std.proofs.lemmas.Bool.{false≢true}
 use Rattle.std.proofs.lemmas.List.{take_more, take-append-drop, length-replicate, length-take-le, get_or-append-add, take_all, get_or_default, get_or-drop}
 use Rattle.std.proofs.lemmas.List.Elements.{All-append, All-cons, All-nil, All-head, All-tail, All-replicate}
 use Rattle.kd_state.specs.Machine.{AreLetters}
-use Rattle.kd_form.specs.Patterns.{filled_in, blanks, fits, letters_at, IsPatternLine, BeginsWithPattern, LineBreaksOff, EndsBefore, EndBreaksOff}
+use Rattle.kd_form.specs.declared.pattern_line.Unread.{Unread}
+use Rattle.kd_form.specs.declared.pattern_line.Unread.TheVariants.{Open, Off}
+use Rattle.kd_form.specs.Order.{IsEnded}
+use Rattle.kd_form.specs.Patterns.{filled_in, blanks, fits, letters_at, IsFilledLine, IsPatternLine, BreaksOff}
 
 -- ---- patterns joined
 
@@ -196,180 +199,103 @@ then_ended pattern bytes letters place filling = record {
 not_empty : (text : List ℕ) (byte : ℕ) → text ++ byte ∷ [] ≢ []
 not_empty text byte none = absurd (let gone : length (text ++ byte ∷ []) ≡ 0 = ap length none in omega (arith, length-append text (byte ∷ [])))
 
--- what stands at a place in a line that begins with the pattern
-in_line : (pattern letters line other ending : List ℕ) (i : ℕ) → i < length pattern → line ≡ filled_in pattern letters ++ ending
-    → get_or (line ++ other) i 0 ≡ get_or (filled_in pattern letters) i 0
-in_line pattern letters line other ending i inside is =
-    let within : i < length (filled_in pattern letters) = omega (arith, length-filled pattern letters) in
-    let longer : i < length (filled_in pattern letters ++ ending) = omega (arith, length-append (filled_in pattern letters) ending) in
-    ap (λ l. get_or (l ++ other) i 0) is ∙ get_or-append (filled_in pattern letters ++ ending) other 0 i longer
-    ∙ get_or-append (filled_in pattern letters) ending 0 i within
+-- what stands at a place in a line of the pattern
+in_line : (pattern letters line ending : List ℕ) (i : ℕ) → i < length pattern → line ≡ filled_in pattern letters ++ ending
+    → get_or line i 0 ≡ get_or (filled_in pattern letters) i 0
+in_line pattern letters line ending i inside is =
+    ap (λ l. get_or l i 0) is ∙ get_or-append (filled_in pattern letters) ending 0 i (omega (arith, length-filled pattern letters))
 
-line_fits : (pattern line other : List ℕ) (i : ℕ) → i < length pattern → IsPatternLine pattern line → fits (get_or pattern i 0) (get_or (line ++ other) i 0) ≡ true
-line_fits pattern line other i inside is = elim is.ended [
-  | inl short ↦ ap (fits (get_or pattern i 0)) (in_line pattern is.letters line other (10 ∷ []) i inside short)
+line_fits : (pattern line : List ℕ) (i : ℕ) → i < length pattern → IsPatternLine pattern line → fits (get_or pattern i 0) (get_or line i 0) ≡ true
+line_fits pattern line i inside is = elim is.ended [
+  | inl short ↦ ap (fits (get_or pattern i 0)) (in_line pattern is.letters line (10 ∷ []) i inside short)
       ∙ filled-fits pattern is.letters i inside is.are_letters.within is.are_letters.count
-  | inr long ↦ ap (fits (get_or pattern i 0)) (in_line pattern is.letters line other (13 ∷ 10 ∷ []) i inside long)
+  | inr long ↦ ap (fits (get_or pattern i 0)) (in_line pattern is.letters line (13 ∷ 10 ∷ []) i inside long)
       ∙ filled-fits pattern is.letters i inside is.are_letters.within is.are_letters.count
 ]
 
-at_seam : (before others : List ℕ) (byte place : ℕ) → place ≡ length before → get_or (before ++ byte ∷ others) place 0 ≡ byte
-at_seam before others byte place size = ap (λ i. get_or (before ++ byte ∷ others) i 0) size ∙ get_or-append_seam before byte others 0
+-- the bytes end where the next mark is due
+pub line_open : (pattern bytes letters : List ℕ) (place : ℕ) → IsFilling pattern bytes place letters → false ≡ nat_lt place (length bytes)
+    → BreaksOff (IsPatternLine pattern) bytes Open
+line_open pattern bytes letters place filling past =
+    let beyond : length bytes ≤ place = grind (arith, nat_tests) in
+    let more : List ℕ = rest_of_line pattern place ++ 10 ∷ [] in (
+      more,
+      not_empty (rest_of_line pattern place) 10,
+      subst (λ b. IsPatternLine pattern (b ++ more)) (take_all place bytes beyond) (then_ended pattern bytes letters place filling),
+    )
 
-pub broken_off : (pattern bytes letters : List ℕ) (place : ℕ) → IsFilling pattern bytes place letters → place < length pattern
-    → ((byte : ℕ) (after : List ℕ) → drop place bytes ≡ byte ∷ after → fits (get_or pattern place 0) byte ≡ false)
-    → LineBreaksOff (IsPatternLine pattern) bytes place
-broken_off pattern bytes letters place filling below unfit =
-    let size : place ≡ length (take place bytes) = sym (length-take-le place bytes filling.inside) in
-    record {
-      before = take place bytes;
-      rest = drop place bytes;
-      joined = sym (take-append-drop place bytes);
-      size = size;
-      more = rest_of_line pattern place ++ 10 ∷ [];
-      missing = not_empty (rest_of_line pattern place) 10;
-      begins = then_ended pattern bytes letters place filling;
-      stops = λ byte after line other others next is same.
-          let there : get_or (line ++ other) place 0 ≡ byte = ap (λ t. get_or t place 0) same ∙ at_seam (take place bytes) others byte place size in
-          let fit : fits (get_or pattern place 0) byte ≡ true = ap (fits (get_or pattern place 0)) (sym there) ∙ line_fits pattern line other place below is in
-          false≢true (sym (unfit byte after next) ∙ fit);
-    }
+-- a byte doesn't fit its mark
+pub line_off : (pattern bytes : List ℕ) (place : ℕ) → place < length pattern → place < length bytes
+    → fits (get_or pattern place 0) (get_or bytes place 0) ≡ false → BreaksOff (IsPatternLine pattern) bytes Off
+line_off pattern bytes place below inside unfit = λ more line. false≢true (sym unfit
+    ∙ ap (fits (get_or pattern place 0)) (sym (get_or-append bytes more 0 place inside)) ∙ line_fits pattern (bytes ++ more) place below line)
 
 -- ---- the end of the line
 
-whole_line : (pattern bytes letters : List ℕ) (place : ℕ) → IsFilling pattern bytes place letters → place ≡ length pattern
-    → (filled_in pattern letters ≡ take (length pattern) bytes) × AreLetters (blanks pattern) letters
-whole_line pattern bytes letters place filling all =
-    let whole : take place pattern ≡ pattern = take_all place pattern (omega arith) in (
-      sym (ap (λ f. filled_in f letters) whole) ∙ filling.filled ∙ ap (λ n. take n bytes) all,
-      record { count = filling.counted ∙ ap blanks whole; within = filling.within },
-    )
+ended_behind : (front tail : List ℕ) → IsEnded [] tail → IsEnded front (front ++ tail)
+ended_behind front tail ended = elim ended [ inl short ↦ inl (ap (λ t. front ++ t) short) | inr long ↦ inr (ap (λ t. front ++ t) long) ]
 
-pub line_read : (pattern bytes letters tail rest : List ℕ) (place : ℕ) → IsFilling pattern bytes place letters → place ≡ length pattern
-    → tail ≡ drop (length pattern) bytes → EndsBefore tail rest → BeginsWithPattern pattern bytes letters rest
-line_read pattern bytes letters tail rest place filling all cut ends =
-    let line = whole_line pattern bytes letters place filling all in
-    let parts : bytes ≡ filled_in pattern letters ++ tail =
-    sym (take-append-drop (length pattern) bytes) ∙ ap (λ t. t ++ drop (length pattern) bytes) (sym line.0) ∙ ap (λ t. filled_in pattern letters ++ t) (sym cut) in
-    elim ends [
-      | inl short ↦ record {
-        line = filled_in pattern letters ++ 10 ∷ [];
-        joined = parts ∙ ap (λ t. filled_in pattern letters ++ t) short ∙ sym (append_assoc (filled_in pattern letters) (10 ∷ []) rest);
-        are_letters = line.1;
-        ended = inl refl;
-      }
-      | inr long ↦ record {
-        line = filled_in pattern letters ++ 13 ∷ 10 ∷ [];
-        joined = parts ∙ ap (λ t. filled_in pattern letters ++ t) long ∙ sym (append_assoc (filled_in pattern letters) (13 ∷ 10 ∷ []) rest);
-        are_letters = line.1;
-        ended = inr refl;
-      }
-    ]
+behind_pattern : (pattern letters others tail ending : List ℕ) → filled_in pattern letters ++ tail ≡ filled_in pattern others ++ ending → tail ≡ ending
+behind_pattern pattern letters others tail ending same =
+    let seam : (ls ys : List ℕ) → drop (length pattern) (filled_in pattern ls ++ ys) ≡ ys = λ (ls ys : List ℕ).
+    subst (λ n. drop n (filled_in pattern ls ++ ys) ≡ ys) (length-filled pattern ls) (drop-append_seam (filled_in pattern ls) ys) in
+    sym (seam letters tail) ∙ ap (drop (length pattern)) same ∙ seam others ending
 
-behind_form : (pattern letters line other ending : List ℕ) (j : ℕ) → line ≡ filled_in pattern letters ++ ending
-    → get_or (line ++ other) (length pattern + j) 0 ≡ get_or (ending ++ other) j 0
-behind_form pattern letters line other ending j is =
-    ap (λ l. get_or (l ++ other) (length pattern + j) 0) is
-    ∙ ap (λ t. get_or t (length pattern + j) 0) (append_assoc (filled_in pattern letters) ending other)
-    ∙ ap (λ n. get_or (filled_in pattern letters ++ (ending ++ other)) (n + j) 0) (sym (length-filled pattern letters))
-    ∙ get_or-append-add (filled_in pattern letters) (ending ++ other) j 0
+-- the pattern is filled, and this follows
+module _ (pattern bytes letters tail : List ℕ) (place : ℕ) (filling : IsFilling pattern bytes place letters) (all : place ≡ length pattern)
+    (cut : tail ≡ drop (length pattern) bytes) where
+  are_all : AreLetters (blanks pattern) letters
+  are_all = record { count = filling.counted ∙ ap blanks (take_all place pattern (omega arith)); within = filling.within }
 
-at_end : (pattern line other : List ℕ) → IsPatternLine pattern line → (get_or (line ++ other) (length pattern + 0) 0 ≡ 10)
-    ⊎ ((get_or (line ++ other) (length pattern + 0) 0 ≡ 13) × (get_or (line ++ other) (length pattern + 1) 0 ≡ 10))
-at_end pattern line other is = elim is.ended [
-  | inl short ↦ inl (behind_form pattern is.letters line other (10 ∷ []) 0 short)
-  | inr long ↦ inr (behind_form pattern is.letters line other (13 ∷ 10 ∷ []) 0 long, behind_form pattern is.letters line other (13 ∷ 10 ∷ []) 1 long)
-]
+  parts : bytes ≡ filled_in pattern letters ++ tail
+  parts =
+      sym (take-append-drop (length pattern) bytes) ∙ ap (λ n. take n bytes ++ drop (length pattern) bytes) (sym all)
+      ∙ ap (λ t. t ++ drop (length pattern) bytes) (sym filling.filled ∙ ap (λ f. filled_in f letters) (take_all place pattern (omega arith)))
+      ∙ ap (λ t. filled_in pattern letters ++ t) (sym cut)
 
-seam_byte : (line other before others : List ℕ) (byte place i : ℕ) → line ++ other ≡ before ++ byte ∷ others → place ≡ length before → i ≡ place
-    → get_or (line ++ other) i 0 ≡ byte
-seam_byte line other before others byte place i same size is =
-    ap (λ k. get_or (line ++ other) k 0) is ∙ ap (λ t. get_or t place 0) same ∙ at_seam before others byte place size
+  longer : (more : List ℕ) → bytes ++ more ≡ filled_in pattern letters ++ (tail ++ more)
+  longer more = ap (λ b. b ++ more) parts ∙ append_assoc (filled_in pattern letters) tail more
 
-no_end : (pattern bytes letters tail : List ℕ) (place : ℕ) → IsFilling pattern bytes place letters → place ≡ length pattern
-    → tail ≡ drop (length pattern) bytes → ((rest : List ℕ) → (tail ≢ 10 ∷ rest) × (tail ≢ 13 ∷ rest))
-    → LineBreaksOff (IsPatternLine pattern) bytes (length pattern + 0)
-no_end pattern bytes letters tail place filling all cut none =
-    let line = whole_line pattern bytes letters place filling all in
-    let size : length pattern + 0 ≡ length (take (length pattern) bytes) = omega (arith, length-take-le (length pattern) bytes (omega (arith, filling.inside))) in
+  pub line_read : IsEnded [] tail → IsFilledLine pattern letters bytes
+  line_read ended = record {
+    are_letters = are_all;
+    ended = subst (IsEnded (filled_in pattern letters)) (sym parts) (ended_behind (filled_in pattern letters) tail ended);
+  }
+
+  pub line_broken : (why : Unread) → BreaksOff (IsEnded []) tail why → BreaksOff (IsPatternLine pattern) bytes why
+  line_broken Open (more, some, ended) = (
+    more,
+    some,
     record {
-      before = take (length pattern) bytes;
-      rest = drop (length pattern) bytes;
-      joined = sym (take-append-drop (length pattern) bytes);
-      size = size;
-      more = 10 ∷ [];
-      missing = not_empty [] 10;
-      begins = record { letters = letters; are_letters = line.1; ended = inl (ap (λ t. t ++ 10 ∷ []) (sym line.0)) };
-      stops = λ byte after found other others next is same.
-          let there : get_or (found ++ other) (length pattern + 0) 0 ≡ byte =
-          seam_byte found other (take (length pattern) bytes) others byte (length pattern + 0) (length pattern + 0) same size refl in
-          elim (at_end pattern found other is) [
-            | inl short ↦ (none after).0 (cut ∙ next ∙ ap (λ b. b ∷ after) (sym there ∙ short))
-            | inr long ↦ (none after).1 (cut ∙ next ∙ ap (λ b. b ∷ after) (sym there ∙ long.0))
-          ];
-    }
+      letters = letters;
+      are_letters = are_all;
+      ended = subst (IsEnded (filled_in pattern letters)) (sym (longer more)) (ended_behind (filled_in pattern letters) (tail ++ more) ended);
+    },
+  )
+  line_broken Off none = λ more is. none more (elim is.ended [
+    | inl short ↦ inl (behind_pattern pattern letters is.letters (tail ++ more) (10 ∷ []) (sym (longer more) ∙ short))
+    | inr long ↦ inr (behind_pattern pattern letters is.letters (tail ++ more) (13 ∷ 10 ∷ []) (sym (longer more) ∙ long))
+  ])
 
-half_end : (pattern bytes letters tail after : List ℕ) (place : ℕ) → IsFilling pattern bytes place letters → place ≡ length pattern
-    → tail ≡ drop (length pattern) bytes → tail ≡ 13 ∷ after → ((rest : List ℕ) → after ≢ 10 ∷ rest)
-    → LineBreaksOff (IsPatternLine pattern) bytes (length pattern + 1)
-half_end pattern bytes letters tail after place filling all cut half none =
-    let line = whole_line pattern bytes letters place filling all in
-    let size : length pattern ≡ length (take (length pattern) bytes) = omega (arith, length-take-le (length pattern) bytes (omega (arith, filling.inside))) in
-    let before : List ℕ = take (length pattern) bytes ++ 13 ∷ [] in
-    let longer : length pattern + 1 ≡ length before = omega (arith, length-append (take (length pattern) bytes) (13 ∷ [])) in
-    record {
-      before = before;
-      rest = after;
-      joined = sym (take-append-drop (length pattern) bytes) ∙ ap (λ t. take (length pattern) bytes ++ t) (sym cut ∙ half)
-          ∙ sym (append_assoc (take (length pattern) bytes) (13 ∷ []) after);
-      size = longer;
-      more = 10 ∷ [];
-      missing = not_empty [] 10;
-      begins = record {
-        letters = letters;
-        are_letters = line.1;
-        ended = inr (append_assoc (take (length pattern) bytes) (13 ∷ []) (10 ∷ []) ∙ ap (λ t. t ++ 13 ∷ 10 ∷ []) (sym line.0));
-      };
-      stops = λ byte next found other others follows is same.
-          let there : get_or (found ++ other) (length pattern + 1) 0 ≡ byte = seam_byte found other before others byte (length pattern + 1) (length pattern + 1) same longer refl in
-          let same_before : found ++ other ≡ take (length pattern) bytes ++ 13 ∷ (byte ∷ others) = same ∙ append_assoc (take (length pattern) bytes) (13 ∷ []) (byte ∷ others) in
-          let return : get_or (found ++ other) (length pattern + 0) 0 ≡ 13 =
-          seam_byte found other (take (length pattern) bytes) (byte ∷ others) 13 (length pattern) (length pattern + 0) same_before size (omega arith) in
-          elim (at_end pattern found other is) [
-            | inl short ↦ absurd (omega arith)
-            | inr long ↦ none next (follows ∙ ap (λ b. b ∷ next) (sym there ∙ long.1))
-          ];
-    }
+-- of the end nothing is there, or its CR
+pub end_open : (bytes : List ℕ) → length bytes < 2 → (1 ≤ length bytes → get_or bytes 0 0 ≡ 13) → BreaksOff (IsEnded []) bytes Open
+end_open [] few first = (10 ∷ [], (λ none. cc), inl refl)
+end_open (a ∷ []) few first = let same : a ≡ 13 = first (omega arith) in (10 ∷ [], (λ none. cc), inr cc)
+end_open (a ∷ b ∷ bytes) few first = absurd (omega arith)
 
-pub line_broken : (pattern bytes letters tail : List ℕ) (place at : ℕ) → IsFilling pattern bytes place letters → place ≡ length pattern
-    → tail ≡ drop (length pattern) bytes → EndBreaksOff tail at → LineBreaksOff (IsPatternLine pattern) bytes (length pattern + at)
-line_broken pattern bytes letters tail place at filling all cut broken = elim broken [
-  | inl none ↦ subst (λ n. LineBreaksOff (IsPatternLine pattern) bytes (length pattern + n)) (sym none.0) (no_end pattern bytes letters tail place filling all cut none.1)
-  | inr half ↦
-      subst (λ n. LineBreaksOff (IsPatternLine pattern) bytes (length pattern + n)) (sym half.0)
-      (half_end pattern bytes letters tail half.1.0 place filling all cut half.1.1 half.1.2)
+pub end_off : (bytes more : List ℕ) → 3 ≤ length bytes → ¬ (IsEnded [] (bytes ++ more))
+end_off bytes more long ended = elim ended [
+  | inl short ↦ omega (arith, ap length short, length-append bytes more)
+  | inr both ↦ omega (arith, ap length both, length-append bytes more)
 ]
 
 -- ---- what a read tells
-
-pub nothing_past : (bytes after : List ℕ) (place byte : ℕ) → false ≡ nat_lt place (length bytes) → drop place bytes ≡ byte ∷ after → ⊥
-nothing_past bytes after place byte past next =
-    let beyond : length bytes ≤ place = grind (arith, nat_tests) in
-    let some : length (drop place bytes) ≡ suc (length after) = ap length next in
-    omega (arith, length-drop place bytes)
 
 pub read_inside : (bytes : List ℕ) (place : ℕ) → true ≡ nat_lt place (length bytes) → place < length bytes
 read_inside bytes place inside = grind (arith, nat_tests)
 
 pub read_at : (bytes : List ℕ) (place byte : ℕ) → true ≡ nat_lt place (length bytes) → byte ≡ get_or bytes place byte → get_or bytes place 0 ≡ byte
 read_at bytes place byte inside is = get_or_default bytes place 0 byte (read_inside bytes place inside) ∙ sym is
-
-pub unfit_next : (bytes after : List ℕ) (place mark byte other : ℕ) → get_or bytes place 0 ≡ byte → fits mark byte ≡ false → drop place bytes ≡ other ∷ after
-    → fits mark other ≡ false
-unfit_next bytes after place mark byte other read unfit next =
-    let first : get_or bytes (place + 0) 0 ≡ other = sym (get_or-drop place bytes 0 0) ∙ ap (λ xs. get_or xs 0 0) next in
-    let same : get_or bytes (place + 0) 0 ≡ get_or bytes place 0 = ap (λ i. get_or bytes i 0) (omega arith) in
-    ap (fits mark) (sym first ∙ same ∙ read) ∙ unfit
 
 pub whole_tail : (pattern bytes : List ℕ) → take (length bytes - length pattern) (drop (length pattern) bytes) ≡ drop (length pattern) bytes
 whole_tail pattern bytes = take_all (length bytes - length pattern) (drop (length pattern) bytes) (omega (arith, length-drop (length pattern) bytes))

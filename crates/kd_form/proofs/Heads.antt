@@ -10,7 +10,7 @@ use Rattle.kd_state.specs.SheetDay.{Day}
 use Rattle.kd_form.specs.declared.keys.Keys.{Keys}
 use Rattle.kd_form.specs.declared.keys.Keys.TheVariants.{Rotor, Pin}
 use Rattle.kd_form.specs.Keys.{key_words, AreKeys}
-use Rattle.kd_form.specs.Patterns.{IsPatternLine, BeginsWithPattern, LineBreaksOff}
+use Rattle.kd_form.specs.Patterns.{IsPatternLine}
 use Rattle.kd_form.specs.Order.{IsEnded, IsKeyLine, AreKeyLines, IsHead, IsOrder, IsHeadFault}
 use Rattle.kd_form.specs.KeyPatterns.{IsAnyKeyLine}
 use Rattle.kd_form.proofs.Plain.{key_line_without}
@@ -58,12 +58,12 @@ no_lines : (lines last bytes : List ℕ) → lines ≡ [] → bytes ≡ lines ++
 no_lines lines last bytes none joined = joined ∙ ap (λ l. l ++ last) none
 
 -- the first byte of a head tells whether a line of keys comes first
-head_first : (s : Day) (k : Keys) (others : List Keys) (bytes : List ℕ) → IsHead s (k ∷ others) bytes → get_or bytes 0 0 ≡ 80
-head_first s k others bytes head =
+pub key_line_first : (s : Day) (k : Keys) (others : List Keys) (bytes : List ℕ) → IsHead s (k ∷ others) bytes → get_or bytes 0 0 ≡ 80
+key_line_first s k others bytes head =
     let first = head.keyed in
     ap (λ b. get_or b 0 0) (head.joined ∙ ap (λ l. l ++ head.last) first.4 ∙ append_assoc first.0 first.1 head.last) ∙ key_first k first.0 (first.1 ++ head.last) first.2
 
-text_only : (s : Day) (bytes : List ℕ) → IsHead s [] bytes → IsEnded (codes "TEXT") bytes
+pub text_only : (s : Day) (bytes : List ℕ) → IsHead s [] bytes → IsEnded (codes "TEXT") bytes
 text_only s bytes head = subst (IsEnded (codes "TEXT")) (sym (no_lines head.lines head.last bytes head.keyed head.joined)) head.ended
 
 pub without_line : (s : Day) (k : Keys) (line more : List ℕ) (others : List Keys) → TextsTellFirstParts → IsKeyLine k line → IsHead s others (line ++ more)
@@ -89,81 +89,29 @@ without_line s k line more (other ∷ others) tell ended head =
 
 -- ---- line after line
 
-pub record IsReadingHead (s : Day) (order rest : List ℕ) (keys : List Keys) : Type 0 where
-  pub lines : List ℕ
-  pub joined : order ≡ lines ++ rest
-  pub keyed : AreKeyLines keys lines
-  pub of_the_day : All (AreKeys s) keys
-  pub few : length keys ≤ 99
-  pub only : (others : List Keys) (more : List ℕ) → IsHead s others (lines ++ more)
-      → (after : List Keys) × IsHead s after more × (length others ≡ length keys + length after)
-
 pub lines_more : (keys : List Keys) (k : Keys) (lines line : List ℕ) → AreKeyLines keys lines → IsKeyLine k line → AreKeyLines (keys ++ k ∷ []) (lines ++ line)
 lines_more [] k lines line keyed ended =
     (line, [], ended, refl, ap (λ l. l ++ line) keyed ∙ sym (append-nil line))
 lines_more (first ∷ keys) k lines line (one, others, is, more, joined) ended =
     (one, others ++ line, is, lines_more keys k others line more ended, ap (λ l. l ++ line) joined ∙ append_assoc one others line)
 
-pub order_read : (s : Day) (order rest text letters : List ℕ) (keys : List Keys) → IsReadingHead s order rest keys → BeginsWithPattern (codes "TEXT") rest letters text
-    → (head : List ℕ) × IsOrder s order keys head text
-order_read s order rest text letters keys reading begins = (
-  reading.lines ++ begins.line,
-  record {
-    joined = reading.joined ∙ ap (λ t. reading.lines ++ t) begins.joined ∙ sym (append_assoc reading.lines begins.line text);
-    is_head = record {
-      lines = reading.lines;
-      last = begins.line;
-      joined = refl;
-      keyed = reading.keyed;
-      ended = begins.ended;
-      of_the_day = reading.of_the_day;
-      few = reading.few;
-    };
-  },
-)
+-- ---- where an order goes on
 
--- ---- where no order goes on
-
-some_more : (text more : List ℕ) → text ≢ [] → text ++ more ≢ []
+pub some_more : (text more : List ℕ) → text ≢ [] → text ++ more ≢ []
 some_more [] more some none = some refl
 some_more (x ∷ text) more some none = absurd (let gone : length (x ∷ (text ++ more)) ≡ 0 = ap length none in omega arith)
 
-front_byte : (before after other : List ℕ) (byte : ℕ) → get_or (before ++ byte ∷ after) 0 0 ≡ get_or (before ++ byte ∷ other) 0 0
+pub front_byte : (before after other : List ℕ) (byte : ℕ) → get_or (before ++ byte ∷ after) 0 0 ≡ get_or (before ++ byte ∷ other) 0 0
 front_byte [] after other byte = refl
 front_byte (x ∷ before) after other byte = refl
-
-place_in_order : (order lines rest before more : List ℕ) (place position : ℕ) → order ≡ lines ++ rest → rest ≡ before ++ more → place ≡ length before
-    → position ≡ length order - length rest + place + 1 → position ≡ length (lines ++ before) + 1
-place_in_order order lines rest before more place position joined cut size is =
-    let all : length order ≡ length lines + length rest = ap length joined ∙ length-append lines rest in
-    omega (arith, length-append lines before)
 
 four : (lines before more last : List ℕ) → (lines ++ before) ++ (more ++ last) ≡ (lines ++ (before ++ more)) ++ last
 four lines before more last = simp append_assoc
 
-no_key_line : (s : Day) (others : List Keys) (rest after other : List ℕ) (byte place : ℕ) (off : LineBreaksOff (IsAnyKeyLine s) rest place)
-    → off.rest ≡ byte ∷ after → get_or (off.before ++ byte ∷ other) 0 0 ≡ 80 → ¬ (IsHead s others (off.before ++ byte ∷ other))
-no_key_line s [] rest after other byte place off next front head =
-    absurd (let clash : 80 ≡ 84 = sym front ∙ text_first _ (text_only s _ head) in omega arith)
-no_key_line s (k ∷ others) rest after other byte place off next front head =
-    let first = head.keyed in
-    off.stops byte after first.0 (first.1 ++ head.last) other next
-    (record { keys = k; of_the_day = All-head (AreKeys s) k others head.of_the_day; keyed = first.2 })
-    (sym (append_assoc first.0 first.1 head.last) ∙ ap (λ l. l ++ head.last) (sym first.4) ∙ sym head.joined)
-
 pub text_line : (last : List ℕ) → IsEnded (codes "TEXT") last → IsPatternLine (codes "TEXT") last
 text_line last ended = record { letters = []; are_letters = record { count = refl; within = All-nil (λ l. l < 26) }; ended = ended }
 
-no_text_line : (s : Day) (others keys : List Keys) (rest after other : List ℕ) (byte place : ℕ) (off : LineBreaksOff (IsPatternLine (codes "TEXT")) rest place)
-    → off.rest ≡ byte ∷ after → get_or (off.before ++ byte ∷ other) 0 0 ≡ get_or rest 0 0 → (get_or rest 0 0 ≡ 80 → length keys ≡ 99)
-    → length keys + length others ≤ 99 → ¬ (IsHead s others (off.before ++ byte ∷ other))
-no_text_line s [] keys rest after other byte place off next front full few head =
-    off.stops byte after (off.before ++ byte ∷ other) [] other next (text_line _ (text_only s _ head)) (append-nil (off.before ++ byte ∷ other))
-no_text_line s (k ∷ others) keys rest after other byte place off next front full few head =
-    let all : length keys ≡ 99 = full (sym front ∙ head_first s k others _ head) in
-    omega arith
-
-keys_begin : (s : Day) (k : Keys) (keys : List Keys) (lines before more : List ℕ) → length keys < 99 → AreKeyLines keys lines → All (AreKeys s) keys
+pub keys_begin : (s : Day) (k : Keys) (keys : List Keys) (lines before more : List ℕ) → length keys < 99 → AreKeyLines keys lines → All (AreKeys s) keys
     → AreKeys s k → IsKeyLine k (before ++ more) → IsHead s (keys ++ k ∷ []) ((lines ++ before) ++ (more ++ codes "TEXT\n"))
 keys_begin s k keys lines before more room keyed all are ended = record {
   lines = lines ++ (before ++ more);
@@ -173,51 +121,6 @@ keys_begin s k keys lines before more room keyed all are ended = record {
   ended = inl refl;
   of_the_day = All-push (AreKeys s) keys k all are;
   few = omega (arith, length-append keys (k ∷ []));
-}
-
-pub key_fault : (s : Day) (order rest : List ℕ) (keys : List Keys) (place position : ℕ) → IsReadingHead s order rest keys → length keys < 99
-    → get_or rest 0 0 ≡ 80 → LineBreaksOff (IsAnyKeyLine s) rest place → position ≡ length order - length rest + place + 1 → IsHeadFault s order position
-key_fault s order rest keys place position reading room first off is = record {
-  before = reading.lines ++ off.before;
-  rest = off.rest;
-  joined = reading.joined ∙ ap (λ t. reading.lines ++ t) off.joined ∙ sym (append_assoc reading.lines off.before off.rest);
-  size = place_in_order order reading.lines rest off.before off.rest place position reading.joined off.joined off.size is;
-  keys = keys ++ off.begins.keys ∷ [];
-  more = off.more ++ codes "TEXT\n";
-  missing = some_more off.more (codes "TEXT\n") off.missing;
-  begins = keys_begin s off.begins.keys keys reading.lines off.before off.more room reading.keyed reading.of_the_day off.begins.of_the_day off.begins.keyed;
-  stops = λ byte after others other next head.
-      let behind = reading.only others (off.before ++ byte ∷ other) (subst (IsHead s others) (append_assoc reading.lines off.before (byte ∷ other)) head) in
-      let front : get_or (off.before ++ byte ∷ other) 0 0 ≡ 80 =
-      front_byte off.before other after byte ∙ ap (λ t. get_or (off.before ++ t) 0 0) (sym next) ∙ ap (λ t. get_or t 0 0) (sym off.joined) ∙ first in
-      no_key_line s behind.0 rest after other byte place off next front behind.1;
-}
-
-pub text_fault : (s : Day) (order rest : List ℕ) (keys : List Keys) (place position : ℕ) → IsReadingHead s order rest keys
-    → (get_or rest 0 0 ≡ 80 → length keys ≡ 99) → LineBreaksOff (IsPatternLine (codes "TEXT")) rest place → position ≡ length order - length rest + place + 1
-    → IsHeadFault s order position
-text_fault s order rest keys place position reading full off is = record {
-  before = reading.lines ++ off.before;
-  rest = off.rest;
-  joined = reading.joined ∙ ap (λ t. reading.lines ++ t) off.joined ∙ sym (append_assoc reading.lines off.before off.rest);
-  size = place_in_order order reading.lines rest off.before off.rest place position reading.joined off.joined off.size is;
-  keys = keys;
-  more = off.more;
-  missing = off.missing;
-  begins = record {
-    lines = reading.lines;
-    last = off.before ++ off.more;
-    joined = append_assoc reading.lines off.before off.more;
-    keyed = reading.keyed;
-    ended = off.begins.ended;
-    of_the_day = reading.of_the_day;
-    few = reading.few;
-  };
-  stops = λ byte after others other next head.
-      let behind = reading.only others (off.before ++ byte ∷ other) (subst (IsHead s others) (append_assoc reading.lines off.before (byte ∷ other)) head) in
-      let front : get_or (off.before ++ byte ∷ other) 0 0 ≡ get_or rest 0 0 =
-      front_byte off.before other after byte ∙ ap (λ t. get_or (off.before ++ t) 0 0) (sym next) ∙ ap (λ t. get_or t 0 0) (sym off.joined) in
-      no_text_line s behind.0 keys rest after other byte place off next front full (omega (arith, behind.2, head.few)) behind.1;
 }
 
 -- ---- as the loop finds it

@@ -12,9 +12,11 @@ use Rattle.kd_form.specs.declared.keys.Keys.TheVariants.{Rotor, Pin}
 use Rattle.kd_form.specs.declared.keys.RotorKeys.{RotorKeys}
 use Rattle.kd_form.specs.declared.keys.PinKeys.{PinKeys}
 use Rattle.kd_form.specs.Keys.{key_words, AreKeys, AreRotorKeys, ArePinKeys}
-use Rattle.kd_form.specs.Patterns.{filled_in, blanks, IsPatternLine, BeginsWithPattern, LineBreaksOff}
-use Rattle.kd_form.specs.Order.{IsEnded}
-use Rattle.kd_form.specs.KeyPatterns.{places_for, rotor_pattern, pin_pattern, key_pattern, key_letters, BeginsWithKeys, IsAnyKeyLine}
+use Rattle.kd_form.specs.declared.pattern_line.Unread.{Unread}
+use Rattle.kd_form.specs.declared.pattern_line.Unread.TheVariants.{Open, Off}
+use Rattle.kd_form.specs.Patterns.{filled_in, blanks, IsFilledLine, IsPatternLine, BreaksOff}
+use Rattle.kd_form.specs.Order.{IsEnded, IsKeyLine}
+use Rattle.kd_form.specs.KeyPatterns.{places_for, rotor_pattern, pin_pattern, key_pattern, key_letters, IsAnyKeyLine}
 use Rattle.kd_form.proofs.Filled.{filled-append, blanks-append}
 
 -- ---- words of letters
@@ -129,24 +131,12 @@ as_form_line s line is = record {
   ended = subst (λ text. IsEnded text line) (sym (key_line s is.keys is.of_the_day)) is.keyed;
 }
 
-pub breaks_alike : (P Q : List ℕ → Type 0) (bytes : List ℕ) (place : ℕ) → ((line : List ℕ) → P line → Q line) → ((line : List ℕ) → Q line → P line)
-    → LineBreaksOff P bytes place → LineBreaksOff Q bytes place
-breaks_alike P Q bytes place to back off = record {
-  before = off.before;
-  rest = off.rest;
-  joined = off.joined;
-  size = off.size;
-  more = off.more;
-  missing = off.missing;
-  begins = to (off.before ++ off.more) off.begins;
-  stops = λ byte after line other others next is. off.stops byte after line other others next (back line is);
-}
+pub breaks_alike : (P Q : List ℕ → Type 0) (bytes : List ℕ) (why : Unread) → ((line : List ℕ) → P line → Q line) → ((line : List ℕ) → Q line → P line)
+    → BreaksOff P bytes why → BreaksOff Q bytes why
+breaks_alike P Q bytes Open to back (more, some, is) = (more, some, to (bytes ++ more) is)
+breaks_alike P Q bytes Off to back none = λ more is. none more (back (bytes ++ more) is)
 
-pub keys_read : (s : Day) (bytes letters rest : List ℕ) (k : Keys) → BeginsWithPattern (key_pattern s) bytes letters rest → key_letters k ≡ letters → AreKeys s k
-    → BeginsWithKeys s bytes k rest
-keys_read s bytes letters rest k begins told are = record {
-  line = begins.line;
-  joined = begins.joined;
-  of_the_day = are;
-  keyed = subst (λ text. IsEnded text begins.line) (ap (filled_in (key_pattern s)) (sym told) ∙ key_line s k are) begins.ended;
-}
+pub keys_read : (s : Day) (bytes letters : List ℕ) (k : Keys) → IsFilledLine (key_pattern s) letters bytes → key_letters k ≡ letters → AreKeys s k
+    → AreKeys s k × IsKeyLine k bytes
+keys_read s bytes letters k filled told are =
+    (are, subst (λ text. IsEnded text bytes) (ap (filled_in (key_pattern s)) (sym told) ∙ key_line s k are) filled.ended)
