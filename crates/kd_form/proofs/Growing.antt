@@ -34,21 +34,11 @@ begins_more bytes more begins = record {
 
 -- its first six bytes tell
 pub begins_front : (bytes more : List ℕ) → 6 ≤ length bytes → BeginsHeading (bytes ++ more) → BeginsHeading bytes
-begins_front (a ∷ b ∷ c ∷ d ∷ e ∷ f ∷ rest) more long begins =
-    let is : a ∷ b ∷ c ∷ d ∷ e ∷ f ∷ (rest ++ more) ≡ 80 ∷ 65 ∷ 82 ∷ 84 ∷ 32 ∷ begins.digit ∷ begins.rest = begins.is in
-    let one : a ≡ 80 = cc in
-    let two : b ≡ 65 = cc in
-    let three : c ≡ 82 = cc in
-    let four : d ≡ 84 = cc in
-    let five : e ≡ 32 = cc in
-    let six : f ≡ begins.digit = cc in
-    record { digit = f; rest = rest; is = cc; low = subst (λ x. 48 ≤ x) (sym six) begins.low; high = subst (λ x. x ≤ 57) (sym six) begins.high }
-begins_front [] more long begins = absurd (omega arith)
-begins_front (a ∷ []) more long begins = absurd (omega arith)
-begins_front (a ∷ b ∷ []) more long begins = absurd (omega arith)
-begins_front (a ∷ b ∷ c ∷ []) more long begins = absurd (omega arith)
-begins_front (a ∷ b ∷ c ∷ d ∷ []) more long begins = absurd (omega arith)
-begins_front (a ∷ b ∷ c ∷ d ∷ e ∷ []) more long begins = absurd (omega arith)
+begins_front bytes more long begins = elim (fronts bytes more (codes "PART " ++ begins.digit ∷ []) begins.rest begins.is) [
+  | Shorter [] longer left ↦ record { digit = begins.digit; rest = []; is = sym (longer ∙ append-nil bytes); low = begins.low; high = begins.high }
+  | Shorter (x ∷ beyond) longer left ↦ absurd (omega (arith, ap length longer, length-append bytes (x ∷ beyond)))
+  | Longer x beyond longer left ↦ record { digit = begins.digit; rest = x ∷ beyond; is = longer; low = begins.low; high = begins.high }
+]
 
 -- ---- the first part of more bytes
 
@@ -193,21 +183,13 @@ same_last front tail other end without also same = elim (fronts front (10 ∷ ta
 
 -- five bytes and one more that begin a heading
 last_digit : (bytes : List ℕ) (byte : ℕ) → length bytes < 6 → BeginsHeading (bytes ++ byte ∷ []) → (bytes ≡ codes "PART ") × (48 ≤ byte) × (byte ≤ 57)
-last_digit (a ∷ b ∷ c ∷ d ∷ e ∷ []) byte few begins =
-    let is : a ∷ b ∷ c ∷ d ∷ e ∷ byte ∷ [] ≡ 80 ∷ 65 ∷ 82 ∷ 84 ∷ 32 ∷ begins.digit ∷ begins.rest = begins.is in
-    let same : byte ≡ begins.digit = cc in
-    let one : a ≡ 80 = cc in
-    let two : b ≡ 65 = cc in
-    let three : c ≡ 82 = cc in
-    let four : d ≡ 84 = cc in
-    let five : e ≡ 32 = cc in
-    (cc, subst (λ x. 48 ≤ x) (sym same) begins.low, subst (λ x. x ≤ 57) (sym same) begins.high)
-last_digit [] byte few begins = absurd (omega (arith, ap length begins.is))
-last_digit (a ∷ []) byte few begins = absurd (omega (arith, ap length begins.is))
-last_digit (a ∷ b ∷ []) byte few begins = absurd (omega (arith, ap length begins.is))
-last_digit (a ∷ b ∷ c ∷ []) byte few begins = absurd (omega (arith, ap length begins.is))
-last_digit (a ∷ b ∷ c ∷ d ∷ []) byte few begins = absurd (omega (arith, ap length begins.is))
-last_digit (a ∷ b ∷ c ∷ d ∷ e ∷ f ∷ more) byte few begins = absurd (omega arith)
+last_digit bytes byte few begins = elim (fronts bytes (byte ∷ []) (codes "PART ") (begins.digit ∷ begins.rest) begins.is) [
+  | Shorter [] longer left ↦
+      let same : begins.digit ≡ byte = ap (λ l. get_or l 0 0) (sym left) in
+      (sym (longer ∙ append-nil bytes), subst (λ x. 48 ≤ x) same begins.low, subst (λ x. x ≤ 57) same begins.high)
+  | Shorter (x ∷ beyond) longer left ↦ absurd (omega (arith, ap length left, length-append (x ∷ beyond) (begins.digit ∷ begins.rest)))
+  | Longer x beyond longer left ↦ absurd (omega (arith, ap length longer))
+]
 
 next_place : (place : ℕ) → suc place ≡ place + 1
 next_place place = omega arith
