@@ -1,10 +1,10 @@
 -- The body of a part, byte by byte.
-use Rattle.std.proofs.Common.{◌≡◌, ◌≢◌, ◌⊎◌, inl, inr, ℕ, ◌+◌, ◌-◌, ◌<◌, ◌≤◌, List, [], ◌∷◌, ◌++◌, length, get_or, take, drop, refl, sym, ap, subst, ◌∙◌, append_assoc, length-append, Result, Ok, Err, MatchResult, arith}
+use Rattle.std.proofs.Common.{◌≡◌, ◌≢◌, ◌⊎◌, inl, inr, ℕ, ◌+◌, ◌-◌, ◌≤◌, List, [], ◌∷◌, ◌++◌, length, take, drop, refl, sym, ap, subst, ◌∙◌, append_assoc, length-append, Result, Ok, Err, MatchResult, arith}
 use Rattle.std.specs.Prelude.{codes, All, IsTrue, Option, Some, None}
 use Rattle.std.specs.Option.{option_to_list}
-use Rattle.std.proofs.Math.Seq.{take-append_seam, get_or-append_seam}
+use Rattle.std.proofs.Math.Seq.{take-append_seam}
 use Rattle.std.proofs.lemmas.Bool.{cases_lt, cases_eq}
-use Rattle.std.proofs.lemmas.List.{append-nil, take_all, take_more, take-append-le, take-append-drop, length-take, length-take-le, get_or-take}
+use Rattle.std.proofs.lemmas.List.{append-nil, take_all, take-append-le, take-append-drop, length-take, length-take-le}
 use Rattle.std.proofs.lemmas.List.Elements.{filter_map-append, All-append, All-cons, All-nil}
 use Rattle.kd_tables.specs.Text.{is_text_byte}
 use Rattle.kd_state.specs.SheetDay.{Day}

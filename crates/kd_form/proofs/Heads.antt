@@ -1,18 +1,16 @@
 -- An order up to its text, line by line.
-use Rattle.std.proofs.Common.{◌≡◌, ◌≢◌, ℕ, suc, ◌+◌, ◌-◌, ◌<◌, ◌≤◌, inl, inr, List, [], ◌∷◌, ◌++◌, length, get_or, refl, sym, ap, subst, ◌∙◌, append_assoc, length-append, arith, Bool, false}
+use Rattle.std.proofs.Common.{◌≡◌, ◌≢◌, ℕ, suc, ◌<◌, ◌≤◌, inl, inr, List, [], ◌∷◌, ◌++◌, length, get_or, refl, sym, ap, subst, ◌∙◌, append_assoc, length-append, arith, Bool, false}
 use Rattle.std.specs.Prelude.{codes, All, ◌==◌}
 use Rattle.std.proofs.lemmas.Bool.Decides.{nat_tests}
 use Rattle.std.proofs.lemmas.List.{append-nil}
-use Rattle.std.proofs.lemmas.List.Elements.{All-append, All-cons, All-nil, All-push, All-head, All-tail, All-map}
-use Rattle.kd_tables.specs.Text.{letters_text}
-use Rattle.kd_state.specs.Words.{line_of, IsWithout, TextsTellFirstParts}
+use Rattle.std.proofs.lemmas.List.Elements.{All-nil, All-push, All-tail}
+use Rattle.kd_state.specs.Words.{IsWithout, TextsTellFirstParts}
 use Rattle.kd_state.specs.SheetDay.{Day}
 use Rattle.kd_form.specs.declared.keys.Keys.{Keys}
 use Rattle.kd_form.specs.declared.keys.Keys.TheVariants.{Rotor, Pin}
-use Rattle.kd_form.specs.Keys.{key_words, AreKeys}
+use Rattle.kd_form.specs.Keys.{AreKeys}
 use Rattle.kd_form.specs.Patterns.{IsPatternLine}
-use Rattle.kd_form.specs.Order.{IsEnded, IsKeyLine, AreKeyLines, IsHead, IsOrder, IsHeadFault}
-use Rattle.kd_form.specs.KeyPatterns.{IsAnyKeyLine}
+use Rattle.kd_form.specs.Order.{IsEnded, IsKeyLine, AreKeyLines, IsHead}
 use Rattle.kd_form.proofs.Plain.{key_line_without}
 
 -- ---- one line

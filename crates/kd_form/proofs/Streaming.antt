@@ -12,7 +12,7 @@ use Rattle.kd_form.specs.declared.fault.FormFault.TheVariants as faults
 use Rattle.kd_form.specs.declared.stream.stop.Stop.{Stop}
 use Rattle.kd_form.specs.declared.stream.stop.Stop.TheVariants as stops
 use Rattle.kd_form.specs.Streams.{Message, IsOpen, IsRefused, IsDue, ByThen, ByTheEnd, Answers, Whole, Stands, AtEnd, TooLong, SourceFails, SinkFails, IsStreamed}
-use Rattle.kd_form.specs.StreamSteps.{Held, HasRoom, FedTo, IsFed, FeedsAll, EndsIn, ClosesAt, ClosesAs, WritesWhole, IsRead, ReadsNext, fault_of, answer_to, stops_at_device}
+use Rattle.kd_form.specs.StreamSteps.{Held, HasRoom, FedTo, IsFed, FeedsAll, EndsIn, ClosesAs, WritesWhole, IsRead, ReadsNext, fault_of, answer_to, stops_at_device}
 
 -- what is known of a port, in its order
 abbrev pub over : Option (List ℕ) → Option (List ℕ) → Bool → Bool → Port

@@ -1,14 +1,9 @@
 -- The letters of a text, byte by byte.
-use Rattle.std.proofs.Common.{◌≡◌, ℕ, suc, ◌+◌, ◌<◌, ◌≤◌, Bool, true, false, List, [], ◌∷◌, ◌++◌, length, get_or, take, drop, refl, sym, ap, ◌∙◌, append_assoc, length-append, arith}
-use Rattle.std.specs.Prelude.{All, IsTrue, Option, Some, None, if◌then◌else◌}
-use Rattle.std.specs.Option.{option_to_list, is_some}
+use Rattle.std.proofs.Common.{◌≡◌, ℕ, ◌≤◌, List, ◌∷◌, ◌++◌, length, refl, arith}
+use Rattle.std.specs.Prelude.{Option, Some, None}
+use Rattle.std.specs.Option.{option_to_list}
 use Rattle.std.specs.List.{cons_option}
-use mir.Val.{bool_byte}
-use Rattle.std.proofs.Math.Seq.{drop-cons}
-use Rattle.std.proofs.lemmas.List.{append-nil, take_all, drop_all, length-take-le, take-append-drop, take_more, take-append-le, drop_at}
-use Rattle.std.proofs.lemmas.List.Elements.{All-more, filter_map-append}
-use Rattle.kd_tables.specs.Text.{is_text_byte}
-use Rattle.kd_form.specs.Sending.{letter_of_byte, letters_from, IsBadAt}
+use Rattle.kd_form.specs.Sending.{letter_of_byte, letters_from}
 
 one_option : (found : Option ℕ) (rest : List ℕ) → cons_option found rest ≡ option_to_list found ++ rest
 one_option None rest = refl

@@ -1,10 +1,7 @@
 -- What `?` answers: the fault of what was called.
-use Rattle.std.proofs.Common.{◌≡◌, inl, inr, Result, Ok, Err, MatchResult, sym, ap, subst}
-use Rattle.std.specs.Result.{IsErrAnd}
-use Rattle.kd_state.specs.declared.machine.parts.Parts.{Parts}
-use Rattle.kd_state.specs.SheetDay.{Day}
+use Rattle.std.proofs.Common.{inl, inr, Result, Ok, Err, MatchResult}
 use Rattle.kd_form.specs.declared.fault.FormFault.{FormFault}
-use Rattle.kd_form.specs.OnTheKey.{IsOnKey, IsKeyFault, IsRefusal, AnswersOnKey, OffKey, WithKey}
+use Rattle.kd_form.specs.OnTheKey.{IsRefusal}
 
 -- where memory is taken for one reason, it is taken for a wider one
 pub takes_memory_as_well : {X : Type 0} (is_due : X → Type 0) (is_fault : FormFault → Type 0) (one other : Type 0) (answer : Result X FormFault)

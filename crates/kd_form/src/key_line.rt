@@ -1,11 +1,13 @@
 //! The line of an order that gives the keys of a part.
-ghost use Rattle.std.specs.Prelude.{◌≡◌, ◌≤◌, ◌+◌, ◌⊎◌, List, ℕ, ◌++◌, ◌∷◌, length, MatchOption, MatchResult, ◌<◌, []};
+ghost use Rattle.std.specs.Prelude.{◌≡◌, ◌≤◌, ◌+◌, ◌⊎◌, List, ℕ, ◌++◌, ◌∷◌, length, MatchOption};
+ghost use Rattle.std.specs.Prelude.{MatchResult, ◌<◌, []};
 ghost use Rattle.kd_state.specs.Machine.{AreLetters};
 ghost use Rattle.kd_form.specs.Keys.{AreKeys, AreRotorKeys, ArePinKeys};
 ghost use Rattle.kd_form.specs.declared.keys.Keys.{Keys};
 ghost use Rattle.kd_form.specs.Order.{IsKeyLine};
 ghost use Rattle.kd_form.specs.Patterns.{blanks, BreaksOff};
-ghost use Rattle.kd_form.specs.KeyPatterns.{key_pattern, key_letters, IsAnyKeyLine, HasSlots, HasPins};
+ghost use Rattle.kd_form.specs.KeyPatterns.{key_pattern, key_letters, IsAnyKeyLine, HasSlots};
+ghost use Rattle.kd_form.specs.KeyPatterns.{HasPins};
 
 use super::keys::{Keys, PinKeys, RotorKeys};
 use super::pattern_line::{Unread, read_pattern};

@@ -1,5 +1,7 @@
 //! The body of a part of a form, as it comes.
-ghost use Rattle.std.specs.Prelude.{codes, ◌≡◌, ◌↔◌, ◌<◌, ◌≤◌, ℕ, List, [], ◌∷◌, ◌++◌, length, take, slice_index, IsTrue, MatchResult, MatchOption, None, Some};
+ghost use Rattle.std.specs.Prelude.{codes, ◌≡◌, ◌↔◌, ◌<◌, ◌≤◌, ℕ, List, [], ◌∷◌, ◌++◌, length};
+ghost use Rattle.std.specs.Prelude.{take, slice_index, IsTrue, MatchResult, MatchOption, None};
+ghost use Rattle.std.specs.Prelude.{Some};
 ghost use Rattle.std.specs.Option.{option_to_list};
 ghost use Rattle.kd_tables.specs.Text.{is_text_byte};
 ghost use Rattle.kd_state.specs.Words.{line_of};
@@ -128,7 +130,8 @@ fn keep_letter(letters: &mut ArrayVec<Letter, KEPT>, letter: Option<Letter>)
 
 /// How many bytes of `PART ` a line has behind that byte, if it has no others.
 fn next_begun(begun: Option<usize>, byte: u8) -> Option<usize>
-    ensures { (line next : List ℕ) → Begins line begun → IsNextLine line byte next → Begins next result }
+    ensures { (line next : List ℕ) → Begins line begun → IsNextLine line byte next
+        → Begins next result }
 {
     if byte == b'\n' {
         return Some(0);

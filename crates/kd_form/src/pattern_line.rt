@@ -3,7 +3,8 @@ ghost use Rattle.std.specs.Prelude.{◌≡◌, ◌≤◌, ◌<◌, [], ◌++◌,
 ghost use Rattle.std.specs.Bool.{OnTrue, OnFalse};
 ghost use Rattle.arrayvec.specs.ArrayVec.{array_vec_len};
 ghost use Rattle.kd_form.specs.Order.{IsEnded};
-ghost use Rattle.kd_form.specs.Patterns.{blanks, fits, letters_at, IsFilledLine, IsPatternLine, BreaksOff};
+ghost use Rattle.kd_form.specs.Patterns.{blanks, fits, letters_at, IsFilledLine, IsPatternLine};
+ghost use Rattle.kd_form.specs.Patterns.{BreaksOff};
 
 use arrayvec::ArrayVec;
 use kd_tables::Letter;

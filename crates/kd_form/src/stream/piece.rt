@@ -1,7 +1,8 @@
 //! A message, piece by piece.
 ghost use Rattle.std.specs.Prelude.{◌≡◌, ◌<◌, ◌≤◌, ◌||◌, [], ◌∷◌, length, OnOk};
 ghost use Rattle.kd_tables.specs.Ports.{port};
-ghost use Rattle.kd_form.specs.StreamSteps.{HasRoom, FeedsAll, ClosesAt, ClosesAs, ReadsNext, stops_at_device};
+ghost use Rattle.kd_form.specs.StreamSteps.{HasRoom, FeedsAll, ClosesAt, ClosesAs, ReadsNext};
+ghost use Rattle.kd_form.specs.StreamSteps.{stops_at_device};
 
 use super::reader::{Made, MessageReader};
 use super::stop::Stop;
@@ -21,7 +22,8 @@ pub(crate) fn feed_all<M: MessageReader, W: Sink>(
     sink: &mut W,
 ) -> Result<(), Stop>
     requires { HasRoom (M.message day.now) (M.holds day.now reader.old) (length bytes.now) }
-    ensures fed { FeedsAll (M.message day.now) (M.holds day.now reader.old) (M.holds day.now reader.new)
+    ensures fed { FeedsAll (M.message day.now)
+        (M.holds day.now reader.old) (M.holds day.now reader.new)
         bytes.now (port W.taken W.has_failed sink.old sink.new) result }
     ensures failed { W.has_failed sink.new ≡ (W.has_failed sink.old || stops_at_device result) }
 {
@@ -45,7 +47,8 @@ fn feed_one<M: MessageReader, W: Sink>(
 ) -> Result<(), Stop>
     requires room { HasRoom (M.message day.now) (M.holds day.now reader.old) 1 }
     requires empty { made.old.items ≡ [] }
-    ensures fed { FeedsAll (M.message day.now) (M.holds day.now reader.old) (M.holds day.now reader.new)
+    ensures fed { FeedsAll (M.message day.now)
+        (M.holds day.now reader.old) (M.holds day.now reader.new)
         (byte ∷ []) (port W.taken W.has_failed sink.old sink.new) result }
     ensures failed { W.has_failed sink.new ≡ (W.has_failed sink.old || stops_at_device result) }
     ensures emptied { OnOk result (made.new.items ≡ []) }
@@ -110,7 +113,8 @@ pub(crate) fn read_next<M: MessageReader, R: Source, W: Sink>(
 ) -> Result<usize, Stop>
     requires some { 0 < room }
     requires room { HasRoom (M.message day.now) (M.holds day.now reader.old) room }
-    ensures { ReadsNext (M.message day.now) (M.holds day.now reader.old) (M.holds day.now reader.new) room
+    ensures { ReadsNext (M.message day.now)
+        (M.holds day.now reader.old) (M.holds day.now reader.new) room
         (port R.remaining R.has_failed source.old source.new)
         (port W.taken W.has_failed sink.old sink.new) result }
 {
@@ -128,7 +132,8 @@ fn read_into<M: MessageReader, R: Source, W: Sink>(
 ) -> Result<usize, Stop>
     requires some { 0 < length buffer.now }
     requires room { HasRoom (M.message day.now) (M.holds day.now reader.old) (length buffer.now) }
-    ensures { ReadsNext (M.message day.now) (M.holds day.now reader.old) (M.holds day.now reader.new)
+    ensures { ReadsNext (M.message day.now)
+        (M.holds day.now reader.old) (M.holds day.now reader.new)
         (length buffer.old) (port R.remaining R.has_failed source.old source.new)
         (port W.taken W.has_failed sink.old sink.new) result }
 {
