@@ -12,7 +12,7 @@ use Rattle.kd_form.specs.FormParts.{BeginsHeading, IsFirstOf}
 use Rattle.kd_form.specs.FormText.{AreFirstParts, Turn}
 use Rattle.kd_form.specs.FormReading.{MayBegin}
 use Rattle.kd_form.proofs.Plain.{head_unbroken}
-use Rattle.kd_form.proofs.OneFault.{Shorter, Longer, fronts}
+use Rattle.kd_form.proofs.OneOrder.{Shorter, Longer, fronts}
 
 pub no_break : (line after : List ℕ) (k : ℕ) → IsWithout 10 line → k < length line → get_or (line ++ 10 ∷ after) k 0 ≢ 10
 no_break line after k without inside is =

@@ -1,7 +1,7 @@
 use Rattle.std.proofs.Common.{◌∙◌, subst}
 use Rattle.kd_form.specs.Patterns.{IsFilledLine, IsPatternLine, BreaksOff}
 use Rattle.kd_form.specs.KeyPatterns.{IsAnyKeyLine, key_pattern}
-use Rattle.kd_form.proofs.KeyLines.{keys_read, breaks_alike, as_key_line, as_form_line}
+use Rattle.kd_form.proofs.Lines.{keys_read, breaks_alike, as_key_line, as_form_line}
 use Rattle.kd_form.proofs.key_line.read_keys.Goals as goal
 
 pub returns-in-Ok : goal.returns-in-Ok

@@ -1,5 +1,5 @@
 use Rattle.std.proofs.Common.{arith}
-use Rattle.kd_form.proofs.Filled.{end_open, end_off}
+use Rattle.kd_form.proofs.Lines.{end_open, end_off}
 use Rattle.kd_form.proofs.pattern_line.read_end.Goals as goal
 
 pub returns-in-empty : goal.returns-in-empty

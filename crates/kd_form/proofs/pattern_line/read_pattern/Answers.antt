@@ -1,6 +1,6 @@
 use Rattle.std.proofs.Common.{◌∙◌, sym, ap, refl, arith}
 use Rattle.kd_form.specs.Patterns.{fits}
-use Rattle.kd_form.proofs.Filled.{filling_more, letter_room, line_open, line_off, line_read, line_broken, read_inside, read_at, whole_tail}
+use Rattle.kd_form.proofs.Lines.{filling_more, letter_room, line_open, line_off, line_read, line_broken, read_inside, read_at, whole_tail}
 use Rattle.kd_form.proofs.pattern_line.read_pattern.Goals as goal
 
 pub take_letter-requires : goal.take_letter-requires

@@ -1,4 +1,4 @@
-use Rattle.kd_form.proofs.Bodies.{body_more}
+use Rattle.kd_form.proofs.FormSteps.{body_more}
 use Rattle.kd_form.proofs.part_body.PartBody.push.Goals as goal
 use Rattle.std.proofs.Common.{refl}
 

@@ -5,8 +5,8 @@ use Rattle.kd_form.specs.Order.{IsEnded, IsKeyLine}
 use Rattle.kd_form.specs.KeyPatterns.{IsAnyKeyLine}
 use Rattle.kd_form.specs.Patterns.{IsPatternLine, BreaksOff}
 use Rattle.kd_form.specs.SendSteps.{HeadIsRead}
-use Rattle.kd_form.proofs.Heads.{room_left}
-use Rattle.kd_form.proofs.OrderHeads.{keys_taken, text_taken, key_step, text_step}
+use Rattle.kd_form.proofs.Lines.{room_left}
+use Rattle.kd_form.proofs.OrderSteps.{keys_taken, text_taken, key_step, text_step}
 use Rattle.kd_form.proofs.order_reader.head.HeadReader.take.Goals as goal
 use Rattle.kd_form.proofs.order_reader.head.HeadReader.take.Goals.{else-is_key_line-via-then-is_key_line+else-not-is_full, else-is_key_line-via-else-is_key_line}
 

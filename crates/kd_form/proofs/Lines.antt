@@ -1,17 +1,32 @@
--- Lines of a pattern, mark by mark.
+-- The lines of an order up to its text.
 use Rattle.std.proofs.Common.{◌≡◌, ◌≢◌, ℕ, zero, suc, ◌+◌, ◌-◌, ◌<◌, ◌≤◌, inl, inr, Bool, true, false, List, [], ◌∷◌, ◌++◌, length, get_or, take, drop, replicate, refl, sym, ap, subst, ◌∙◌, append_assoc, length-append, length-drop, arith}
 use Rattle.std.proofs.Math.ListN.{get_or-append}
-use Rattle.std.proofs.Math.Seq.{drop-append_seam}
-use Rattle.std.specs.Prelude.{◌==◌, nat_le, nat_lt, ◌&&◌, slice_index, All, if◌then◌else◌}
+use Rattle.std.proofs.Math.Seq.{drop-append_seam, drop-cons}
+use Rattle.std.specs.Prelude.{◌==◌, nat_le, nat_lt, ◌&&◌, slice_index, All, if◌then◌else◌, codes}
 use Rattle.std.proofs.lemmas.Bool.Decides.{nat_tests}
 use Rattle.std.proofs.lemmas.Bool.{false≢true}
-use Rattle.std.proofs.lemmas.List.{take_more, take-append-drop, length-replicate, take_all, get_or_default}
-use Rattle.std.proofs.lemmas.List.Elements.{All-append, All-cons, All-nil, All-head, All-tail, All-replicate}
+use Rattle.std.proofs.lemmas.List.{take_more, take-append-drop, length-replicate, take_all, get_or_default, length-take-le, append-nil}
+use Rattle.std.proofs.lemmas.List.Elements.{All-append, All-cons, All-nil, All-head, All-tail, All-replicate, All-take, All-drop, All-more, All-push}
 use Rattle.kd_state.specs.Machine.{AreLetters}
 use Rattle.kd_form.specs.declared.pattern_line.Unread.{Unread}
 use Rattle.kd_form.specs.declared.pattern_line.Unread.TheVariants.{Open, Off}
-use Rattle.kd_form.specs.Order.{IsEnded}
+use Rattle.kd_form.specs.Order.{IsEnded, IsKeyLine, AreKeyLines, IsHead}
 use Rattle.kd_form.specs.Patterns.{filled_in, blanks, fits, letters_at, IsFilledLine, IsPatternLine, BreaksOff}
+use Rattle.kd_tables.specs.Text.{letters_text}
+use Rattle.kd_state.specs.Words.{line_of, IsWithout, TextsTellFirstParts}
+use Rattle.kd_state.specs.SheetDay.{Day, OfRotors, OfPins}
+use Rattle.kd_form.specs.declared.keys.Keys.{Keys}
+use Rattle.kd_form.specs.declared.keys.Keys.TheVariants.{Rotor, Pin}
+use Rattle.kd_form.specs.declared.keys.RotorKeys.{RotorKeys}
+use Rattle.kd_form.specs.declared.keys.PinKeys.{PinKeys}
+use Rattle.kd_form.specs.Keys.{key_words, AreKeys, AreRotorKeys, ArePinKeys}
+use Rattle.kd_form.specs.KeyPatterns.{places_for, rotor_pattern, pin_pattern, key_pattern, key_letters, IsAnyKeyLine}
+use Rattle.kd_form.specs.declared.fault.FormFault.{FormFault}
+use Rattle.kd_form.specs.Making.{Suits}
+use Rattle.kd_form.specs.Sending.{IsKeysFault, IsFirstKeysFault}
+use Rattle.kd_form.proofs.Plain.{key_line_without}
+
+-- -------- lines of a pattern, mark by mark
 
 -- ---- patterns joined
 
@@ -299,3 +314,275 @@ read_at bytes place byte inside is = get_or_default bytes place 0 byte (read_ins
 
 pub whole_tail : (pattern bytes : List ℕ) → take (length bytes - length pattern) (drop (length pattern) bytes) ≡ drop (length pattern) bytes
 whole_tail pattern bytes = take_all (length bytes - length pattern) (drop (length pattern) bytes) (omega (arith, length-drop (length pattern) bytes))
+
+-- -------- lines of keys, as forms with letters
+
+-- ---- words of letters
+
+blanks-places : (n : ℕ) → blanks (places_for n) ≡ n
+blanks-places zero = refl
+blanks-places (suc n) = ap (λ m. m + 1) (blanks-places n) ∙ omega arith
+
+filled-places : (n : ℕ) (letters : List ℕ) → length letters ≡ n → filled_in (places_for n) letters ≡ letters_text letters
+filled-places zero [] count = refl
+filled-places zero (l ∷ letters) count = absurd (omega arith)
+filled-places (suc n) [] count = absurd (omega arith)
+filled-places (suc n) (l ∷ letters) count = ap (λ text. (l + 65) ∷ text) (filled-places n letters (omega arith))
+
+filled_word : (n : ℕ) (letters other more : List ℕ) → length letters ≡ n
+    → filled_in (places_for n ++ other) (letters ++ more) ≡ letters_text letters ++ filled_in other more
+filled_word n letters other more count =
+    filled-append (places_for n) other letters more (count ∙ sym (blanks-places n))
+    ∙ ap (λ text. text ++ filled_in other more) (filled-places n letters count)
+
+rotor_line : (slots : ℕ) (k : RotorKeys) → AreRotorKeys slots k → filled_in (rotor_pattern slots) (key_letters (Rotor k)) ≡ line_of (key_words (Rotor k))
+rotor_line slots k are =
+    let last : filled_in (places_for 3) k.group ≡ letters_text k.group = filled-places 3 k.group are.group.count in
+    let fillers : filled_in (places_for 2 ++ 32 ∷ places_for 3) (k.fillers ++ k.group) ≡ letters_text k.fillers ++ 32 ∷ letters_text k.group =
+    filled_word 2 k.fillers (32 ∷ places_for 3) k.group are.fillers.count ∙ ap (λ t. letters_text k.fillers ++ 32 ∷ t) last in
+    let key : filled_in (places_for slots ++ 32 ∷ (places_for 2 ++ 32 ∷ places_for 3)) (k.key ++ (k.fillers ++ k.group))
+    ≡ letters_text k.key ++ 32 ∷ (letters_text k.fillers ++ 32 ∷ letters_text k.group) =
+    filled_word slots k.key (32 ∷ (places_for 2 ++ 32 ∷ places_for 3)) (k.fillers ++ k.group) are.key.count ∙ ap (λ t. letters_text k.key ++ 32 ∷ t) fillers in
+    ap (λ t. codes "PART " ++ t) (filled_word slots k.start (32 ∷ (places_for slots ++ 32 ∷ (places_for 2 ++ 32 ∷ places_for 3))) (k.key ++ (k.fillers ++ k.group)) are.start.count
+    ∙ ap (λ t. letters_text k.start ++ 32 ∷ t) key)
+
+pin_line : (k : PinKeys) → ArePinKeys k → filled_in pin_pattern (key_letters (Pin k)) ≡ line_of (key_words (Pin k))
+pin_line k are = ap (λ t. codes "PART " ++ (k.chosen + 65) ∷ 32 ∷ t) (filled-places 6 k.external are.external.count)
+
+pub key_line : (s : Day) (k : Keys) → AreKeys s k → filled_in (key_pattern s) (key_letters k) ≡ line_of (key_words k)
+key_line (OfRotors s) (Rotor k) are = rotor_line (length s.wheels) k are
+key_line (OfPins s) (Pin k) are = pin_line k are
+key_line (OfRotors s) (Pin k) are = absurd are
+key_line (OfPins s) (Rotor k) are = absurd are
+
+-- ---- how many letters
+
+pub rotor_blanks : (slots : ℕ) → blanks (rotor_pattern slots) ≡ slots + slots + 5
+rotor_blanks slots =
+    blanks-append (places_for slots) (32 ∷ (places_for slots ++ 32 ∷ (places_for 2 ++ 32 ∷ places_for 3)))
+    ∙ ap (λ n. n + blanks (places_for slots ++ 32 ∷ (places_for 2 ++ 32 ∷ places_for 3))) (blanks-places slots)
+    ∙ ap (λ n. slots + n) (blanks-append (places_for slots) (32 ∷ (places_for 2 ++ 32 ∷ places_for 3)) ∙ ap (λ n. n + 5) (blanks-places slots))
+    ∙ omega arith
+
+-- ---- any letters make keys
+
+keys_exist : (s : Day) (letters : List ℕ) → AreLetters (blanks (key_pattern s)) letters → (k : Keys) × AreKeys s k × (key_letters k ≡ letters)
+keys_exist (OfRotors s) letters are =
+    let slots : ℕ = length s.wheels in
+    let others : List ℕ = drop slots letters in
+    let last : List ℕ = drop slots others in
+    let total : length letters ≡ slots + slots + 5 = are.count ∙ rotor_blanks slots in
+    let fewer : length others ≡ slots + 5 = omega (arith, length-drop slots letters) in
+    let five : length last ≡ 5 = omega (arith, length-drop slots others) in
+    let within_others : All (λ n. n < 26) others = All-drop (λ n. n < 26) slots letters are.within in
+    let within_last : All (λ n. n < 26) last = All-drop (λ n. n < 26) slots others within_others in (
+      Rotor (record { start = take slots letters; key = take slots others; fillers = take 2 last; group = drop 2 last }),
+      record {
+        start = record { count = length-take-le slots letters (omega arith); within = All-take (λ n. n < 26) slots letters are.within };
+        key = record { count = length-take-le slots others (omega arith); within = All-take (λ n. n < 26) slots others within_others };
+        fillers = record { count = length-take-le 2 last (omega arith); within = All-take (λ n. n < 26) 2 last within_last };
+        group = record { count = omega (arith, length-drop 2 last); within = All-drop (λ n. n < 26) 2 last within_last };
+      },
+      ap (λ t. take slots letters ++ (take slots others ++ t)) (take-append-drop 2 last)
+          ∙ ap (λ t. take slots letters ++ t) (take-append-drop slots others) ∙ take-append-drop slots letters,
+    )
+keys_exist (OfPins s) [] are = absurd (omega (arith, are.count))
+keys_exist (OfPins s) (l ∷ letters) are = (
+  Pin (record { chosen = l; external = letters }),
+  record {
+    chosen = All-head (λ n. n < 26) l letters are.within;
+    external = record { count = omega (arith, are.count); within = All-tail (λ n. n < 26) l letters are.within };
+  },
+  refl,
+)
+
+pub as_key_line : (s : Day) (line : List ℕ) → IsPatternLine (key_pattern s) line → IsAnyKeyLine s line
+as_key_line s line is =
+    let made = keys_exist s is.letters is.are_letters in
+    record {
+      keys = made.0;
+      of_the_day = made.1;
+      keyed = subst (λ text. IsEnded text line) (ap (filled_in (key_pattern s)) (sym made.2) ∙ key_line s made.0 made.1) is.ended;
+    }
+
+letters_of_keys : (s : Day) (k : Keys) → AreKeys s k → AreLetters (blanks (key_pattern s)) (key_letters k)
+letters_of_keys (OfRotors s) (Rotor k) are = record {
+  count =
+      let all : length (k.start ++ (k.key ++ (k.fillers ++ k.group))) ≡ length k.start + (length k.key + (length k.fillers + length k.group)) =
+      length-append k.start (k.key ++ (k.fillers ++ k.group)) ∙ ap (λ n. length k.start + n) (length-append k.key (k.fillers ++ k.group)
+      ∙ ap (λ n. length k.key + n) (length-append k.fillers k.group)) in
+      all ∙ omega (arith, are.start.count, are.key.count, are.fillers.count, are.group.count) ∙ sym (rotor_blanks (length s.wheels));
+  within = All-append (λ n. n < 26) k.start _ are.start.within
+      (All-append (λ n. n < 26) k.key _ are.key.within (All-append (λ n. n < 26) k.fillers k.group are.fillers.within are.group.within));
+}
+letters_of_keys (OfPins s) (Pin k) are = record {
+  count = ap suc are.external.count;
+  within = All-cons (λ n. n < 26) k.chosen k.external are.chosen are.external.within;
+}
+letters_of_keys (OfRotors s) (Pin k) are = absurd are
+letters_of_keys (OfPins s) (Rotor k) are = absurd are
+
+pub as_form_line : (s : Day) (line : List ℕ) → IsAnyKeyLine s line → IsPatternLine (key_pattern s) line
+as_form_line s line is = record {
+  letters = key_letters is.keys;
+  are_letters = letters_of_keys s is.keys is.of_the_day;
+  ended = subst (λ text. IsEnded text line) (sym (key_line s is.keys is.of_the_day)) is.keyed;
+}
+
+pub breaks_alike : (P Q : List ℕ → Type 0) (bytes : List ℕ) (why : Unread) → ((line : List ℕ) → P line → Q line) → ((line : List ℕ) → Q line → P line)
+    → BreaksOff P bytes why → BreaksOff Q bytes why
+breaks_alike P Q bytes Open to back (more, some, is) = (more, some, to (bytes ++ more) is)
+breaks_alike P Q bytes Off to back none = λ more is. none more (back (bytes ++ more) is)
+
+pub keys_read : (s : Day) (bytes letters : List ℕ) (k : Keys) → IsFilledLine (key_pattern s) letters bytes → key_letters k ≡ letters → AreKeys s k
+    → AreKeys s k × IsKeyLine k bytes
+keys_read s bytes letters k filled told are =
+    (are, subst (λ text. IsEnded text bytes) (ap (filled_in (key_pattern s)) (sym told) ∙ key_line s k are) filled.ended)
+
+-- -------- keys that suit the day, and those that don't
+
+-- ---- one part after another
+
+pub record AreSuited (s : Day) (keys : List Keys) (part index : ℕ) : Type 0 where
+  pub counted : part ≡ index + 1
+  pub suited : All (Suits s) (take index keys)
+
+pub suited_more : (s : Day) (keys : List Keys) (part index : ℕ) (k : Keys) → index < length keys → get_or keys index k ≡ k → AreSuited s keys part index
+    → Suits s k → AreSuited s keys (part + 1) (index + 1)
+suited_more s keys part index k inside is before suits = record {
+  counted = omega (arith, before.counted);
+  suited = All-more (Suits s) keys index k inside before.suited (subst (Suits s) (sym is) suits);
+}
+
+pub suited_all : (s : Day) (keys : List Keys) (part index : ℕ) → length keys ≤ index → AreSuited s keys part index → All (Suits s) keys
+suited_all s keys part index over are = subst (All (Suits s)) (take_all index keys over) are.suited
+
+pub unsuited : (s : Day) (keys : List Keys) (part index : ℕ) (k : Keys) (fault : FormFault) → index < length keys → get_or keys index k ≡ k
+    → AreSuited s keys part index → IsKeysFault s part k fault → IsFirstKeysFault s keys fault
+unsuited s keys part index k fault inside is before found =
+    let number : part ≡ length (take index keys) + 1 = omega (arith, before.counted, length-take-le index keys (omega arith)) in
+    let next : suc index ≡ index + 1 = omega arith in
+    record {
+      before = take index keys;
+      unsuited = k;
+      others = drop (index + 1) keys;
+      joined = sym (take-append-drop index keys) ∙ ap (λ ks. take index keys ++ ks) (drop-cons keys index k inside ∙ ap (λ x. x ∷ drop (suc index) keys) is
+          ∙ ap (λ n. k ∷ drop n keys) next);
+      suited = before.suited;
+      is = subst (λ n. IsKeysFault s n k fault) number found;
+    }
+
+-- -------- an order up to its text, line by line
+
+-- ---- one line
+
+-- what stands before the LF of a line
+pub record IsUpToBreak (line : List ℕ) : Type 0 where
+  pub text : List ℕ
+  pub unbroken : IsWithout 10 text
+  pub is : line ≡ text ++ 10 ∷ []
+
+pub up_to_break : (text line : List ℕ) → IsWithout 10 text → IsEnded text line → IsUpToBreak line
+up_to_break text line unbroken ended = elim ended [
+  | inl short ↦ record { text = text; unbroken = unbroken; is = short }
+  | inr long ↦ record {
+    text = text ++ 13 ∷ [];
+    unbroken = All-push (λ byte. byte ≢ 10) text 13 unbroken (λ e. omega arith);
+    is = long ∙ sym (append_assoc text (13 ∷ []) (10 ∷ []));
+  }
+]
+
+-- two lines at the front of the same bytes are one, and so is what follows
+pub same_front : (line other rest more : List ℕ) → TextsTellFirstParts → IsUpToBreak line → IsUpToBreak other → line ++ rest ≡ other ++ more
+    → (line ≡ other) × (rest ≡ more)
+same_front line other rest more tell a b same =
+    let one : line ++ rest ≡ a.text ++ 10 ∷ rest = ap (λ l. l ++ rest) a.is ∙ append_assoc a.text (10 ∷ []) rest in
+    let two : other ++ more ≡ b.text ++ 10 ∷ more = ap (λ l. l ++ more) b.is ∙ append_assoc b.text (10 ∷ []) more in
+    let both = tell 10 a.text b.text rest more a.unbroken b.unbroken (sym one ∙ same ∙ two) in
+    (a.is ∙ ap (λ t. t ++ 10 ∷ []) both.0 ∙ sym b.is, both.1)
+
+pub key_first : (k : Keys) (line more : List ℕ) → IsKeyLine k line → get_or (line ++ more) 0 0 ≡ 80
+key_first (Rotor k) line more ended = elim ended [ inl short ↦ ap (λ l. get_or (l ++ more) 0 0) short | inr long ↦ ap (λ l. get_or (l ++ more) 0 0) long ]
+key_first (Pin k) line more ended = elim ended [ inl short ↦ ap (λ l. get_or (l ++ more) 0 0) short | inr long ↦ ap (λ l. get_or (l ++ more) 0 0) long ]
+
+pub text_first : (last : List ℕ) → IsEnded (codes "TEXT") last → get_or last 0 0 ≡ 84
+text_first last ended = elim ended [ inl short ↦ ap (λ l. get_or l 0 0) short | inr long ↦ ap (λ l. get_or l 0 0) long ]
+
+pub text_front : (last text : List ℕ) → IsEnded (codes "TEXT") last → get_or (last ++ text) 0 0 ≡ 84
+text_front last text ended = elim ended [ inl short ↦ ap (λ l. get_or (l ++ text) 0 0) short | inr long ↦ ap (λ l. get_or (l ++ text) 0 0) long ]
+
+-- ---- heads that begin with a line
+
+no_lines : (lines last bytes : List ℕ) → lines ≡ [] → bytes ≡ lines ++ last → bytes ≡ last
+no_lines lines last bytes none joined = joined ∙ ap (λ l. l ++ last) none
+
+-- the first byte of a head tells whether a line of keys comes first
+pub key_line_first : (s : Day) (k : Keys) (others : List Keys) (bytes : List ℕ) → IsHead s (k ∷ others) bytes → get_or bytes 0 0 ≡ 80
+key_line_first s k others bytes head =
+    let first = head.keyed in
+    ap (λ b. get_or b 0 0) (head.joined ∙ ap (λ l. l ++ head.last) first.4 ∙ append_assoc first.0 first.1 head.last) ∙ key_first k first.0 (first.1 ++ head.last) first.2
+
+pub text_only : (s : Day) (bytes : List ℕ) → IsHead s [] bytes → IsEnded (codes "TEXT") bytes
+text_only s bytes head = subst (IsEnded (codes "TEXT")) (sym (no_lines head.lines head.last bytes head.keyed head.joined)) head.ended
+
+pub without_line : (s : Day) (k : Keys) (line more : List ℕ) (others : List Keys) → TextsTellFirstParts → IsKeyLine k line → IsHead s others (line ++ more)
+    → (after : List Keys) × IsHead s after more × (length others ≡ suc (length after))
+without_line s k line more [] tell ended head =
+    absurd (let clash : 80 ≡ 84 = sym (key_first k line more ended) ∙ text_first (line ++ more) (text_only s (line ++ more) head) in omega arith)
+without_line s k line more (other ∷ others) tell ended head =
+    let first = head.keyed in
+    let same : line ++ more ≡ first.0 ++ (first.1 ++ head.last) = head.joined ∙ ap (λ l. l ++ head.last) first.4 ∙ append_assoc first.0 first.1 head.last in (
+      others,
+      record {
+        lines = first.1;
+        last = head.last;
+        joined = (same_front line first.0 more (first.1 ++ head.last) tell (up_to_break _ line (key_line_without 10 k (omega arith)) ended)
+            (up_to_break _ first.0 (key_line_without 10 other (omega arith)) first.2) same).1;
+        keyed = first.3;
+        ended = head.ended;
+        of_the_day = All-tail (AreKeys s) other others head.of_the_day;
+        few = omega (arith, head.few);
+      },
+      refl,
+    )
+
+-- ---- line after line
+
+pub lines_more : (keys : List Keys) (k : Keys) (lines line : List ℕ) → AreKeyLines keys lines → IsKeyLine k line → AreKeyLines (keys ++ k ∷ []) (lines ++ line)
+lines_more [] k lines line keyed ended =
+    (line, [], ended, refl, ap (λ l. l ++ line) keyed ∙ sym (append-nil line))
+lines_more (first ∷ keys) k lines line (one, others, is, more, joined) ended =
+    (one, others ++ line, is, lines_more keys k others line more ended, ap (λ l. l ++ line) joined ∙ append_assoc one others line)
+
+-- ---- where an order goes on
+
+pub some_more : (text more : List ℕ) → text ≢ [] → text ++ more ≢ []
+some_more [] more some none = some refl
+some_more (x ∷ text) more some none = absurd (let gone : length (x ∷ (text ++ more)) ≡ 0 = ap length none in omega arith)
+
+pub front_byte : (before after other : List ℕ) (byte : ℕ) → get_or (before ++ byte ∷ after) 0 0 ≡ get_or (before ++ byte ∷ other) 0 0
+front_byte [] after other byte = refl
+front_byte (x ∷ before) after other byte = refl
+
+four : (lines before more last : List ℕ) → (lines ++ before) ++ (more ++ last) ≡ (lines ++ (before ++ more)) ++ last
+four lines before more last = simp append_assoc
+
+pub text_line : (last : List ℕ) → IsEnded (codes "TEXT") last → IsPatternLine (codes "TEXT") last
+text_line last ended = record { letters = []; are_letters = record { count = refl; within = All-nil (λ l. l < 26) }; ended = ended }
+
+pub keys_begin : (s : Day) (k : Keys) (keys : List Keys) (lines before more : List ℕ) → length keys < 99 → AreKeyLines keys lines → All (AreKeys s) keys
+    → AreKeys s k → IsKeyLine k (before ++ more) → IsHead s (keys ++ k ∷ []) ((lines ++ before) ++ (more ++ codes "TEXT\n"))
+keys_begin s k keys lines before more room keyed all are ended = record {
+  lines = lines ++ (before ++ more);
+  last = codes "TEXT\n";
+  joined = four lines before more (codes "TEXT\n");
+  keyed = lines_more keys k lines (before ++ more) keyed ended;
+  ended = inl refl;
+  of_the_day = All-push (AreKeys s) keys k all are;
+  few = omega (arith, length-append keys (k ∷ []));
+}
+
+-- ---- as the loop finds it
+
+pub room_left : (full : Bool) (n : ℕ) → full ≡ (n == 99) → full ≡ false → n ≤ 99 → n < 99
+room_left full n told left few = grind (arith, nat_tests)
