@@ -11,7 +11,7 @@ use Rattle.kd_state.specs.Words.{IsWithout}
 use Rattle.kd_form.specs.FormParts.{BeginsHeading, IsFirstOf}
 use Rattle.kd_form.specs.FormText.{AreFirstParts, Turn}
 use Rattle.kd_form.specs.FormReading.{MayBegin}
-use Rattle.kd_form.proofs.Plain.{head_unbroken}
+use Rattle.kd_form.proofs.Plain.{head_unbroken, nothing_more, whole_line}
 use Rattle.kd_form.proofs.OneOrder.{Shorter, Longer, fronts}
 
 pub no_break : (line after : List ℕ) (k : ℕ) → IsWithout 10 line → k < length line → get_or (line ++ 10 ∷ after) k 0 ≢ 10
@@ -60,13 +60,9 @@ first_grows bytes part rest more first some = elim first.ends [
       }
 ]
 
-pub no_bytes : (front back : List ℕ) → front ++ back ≡ [] → back ≡ []
-no_bytes [] back none = none
-no_bytes (byte ∷ front) back none = cc
-
 pub nothing_left : (parts : List (List ℕ)) (bytes rest : List ℕ) → bytes ≡ [] → AreFirstParts parts bytes rest → rest ≡ []
 nothing_left [] bytes rest none same = sym same ∙ none
-nothing_left (part ∷ parts) bytes rest none (after, first, later) = nothing_left parts after rest (no_bytes part after (sym first.joined ∙ none)) later
+nothing_left (part ∷ parts) bytes rest none (after, first, later) = nothing_left parts after rest (nothing_more part after (sym first.joined ∙ none)) later
 
 pub parts_grow : (parts : List (List ℕ)) (bytes rest more : List ℕ) → rest ≢ [] → AreFirstParts parts bytes rest
     → AreFirstParts parts (bytes ++ more) (rest ++ more)
@@ -97,7 +93,7 @@ turn_with s form more part after t some first = record {
   part = part;
   after = after;
   read = record { cut = turn_cut s form more t; read = t.read.read };
-  left = inr (λ none. some (no_bytes t.rest more none));
+  left = inr (λ none. some (nothing_more t.rest more none));
   first = first;
 }
 
@@ -136,9 +132,6 @@ due_follows (a ∷ b ∷ c ∷ d ∷ e ∷ part) byte due few is may = absurd (o
 pub all_follow : (part : List ℕ) (byte : ℕ) → 6 ≤ length part → MayBegin part → MayBegin (part ++ byte ∷ [])
 all_follow part byte long may = ([], subst BeginsHeading (sym (append-nil (part ++ byte ∷ []))) (begins_more part (byte ∷ []) (begins_front part may.0 long may.1)))
 
-pub short_line : (part line : List ℕ) → line ≡ take 64 part → length line < 64 → line ≡ part
-short_line part line kept short = kept ∙ take_all 64 part (omega (arith, ap length kept, length-take 64 part))
-
 told_true : (a b : ℕ) → IsTrue (a == b) → a ≡ b
 told_true a b is = search rules
 
@@ -148,7 +141,7 @@ true_told a b same = search rules
 pub due_told : (part line : List ℕ) (byte due : ℕ) → line ≡ take 64 part → MayBegin part → (length line < 5) × (due ≡ get_or (codes "PART ") (length line) 0)
     → (IsTrue (byte == due) → MayBegin (part ++ byte ∷ [])) × (MayBegin (part ++ byte ∷ []) → IsTrue (byte == due))
 due_told part line byte due kept may (few, is) =
-    let whole : line ≡ part = short_line part line kept (omega arith) in
+    let whole : line ≡ part = whole_line part line kept (omega arith) in
     let follows = due_follows part byte due (subst (λ (l : List ℕ). length l < 5) whole few) (is ∙ ap (λ (l : List ℕ). get_or (codes "PART ") (length l) 0) whole) may in
     (λ told. follows.0 (told_true byte due told), λ then_may. true_told byte due (follows.1 then_may))
 

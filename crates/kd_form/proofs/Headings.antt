@@ -19,7 +19,7 @@ use Rattle.kd_form.specs.KeyPatterns.{HasSlots, HasPins}
 use Rattle.std.proofs.Math.Seq.{get_or-append_seam, drop-cons}
 use Rattle.kd_form.specs.Order.{IsEnded}
 use Rattle.kd_form.specs.Receiving.{HasHeading}
-use Rattle.kd_form.proofs.Plain.{IsPlain, plain_text, plain_letters, plain_more, without}
+use Rattle.kd_form.proofs.Plain.{IsPlain, plain_text, plain_letters, plain_more, without, whole_line}
 use Rattle.kd_form.proofs.Lines.{IsUpToBreak, up_to_break, same_front}
 use Rattle.kd_form.proofs.OneOrder.{same_letters, behind_part, letters_spaceless, same_text}
 
@@ -293,10 +293,6 @@ heading_length s found h has is =
       length-append (decimal h.part) (codes "/"),
       end_size s found h.letters h.indicator has few is.indicator,
     )
-
--- a line of which less was kept than could be is whole
-whole_line : (part line : List ℕ) → line ≡ take 64 part → length line < 64 → line ≡ part
-whole_line part line kept short = kept ∙ take_all 64 part (omega (arith, ap length kept, length-take 64 part))
 
 short_part : (part line : List ℕ) → line ≡ take 64 part → length part < 64 → line ≡ part
 short_part part line kept short = kept ∙ take_all 64 part (omega arith)

@@ -9,7 +9,6 @@ pub mod OneOrder
 pub mod Growing
 pub mod Headings
 pub mod Received
-pub mod Told
 pub mod PartTexts
 pub mod OneCut
 pub mod OneText

@@ -18,7 +18,7 @@ use Rattle.kd_form.specs.Making.{IsMadeText, part_of, pin_letters, enciphered_ch
 use Rattle.kd_form.specs.Part.{part_text, pieces}
 use Rattle.kd_form.specs.Sending.{AreMadeTexts, text_letters, parts_needed, IsBadAt, IsKeysFault, IsFirstKeysFault, StandsInOrder, InHead, InKeys, InText, Cut, NoLetter, InParts, IsSendFault, CanBeSent}
 use Rattle.kd_form.specs.Laws.{OrdersBecomeOneForm, SentOrdersHaveNoFault, OrdersHaveOneFault}
-use Rattle.kd_form.proofs.Plain.{key_line_without, text_unbroken}
+use Rattle.kd_form.proofs.Plain.{key_line_without, text_unbroken, nothing_more}
 use Rattle.kd_form.proofs.Lines.{up_to_break, same_front, key_first, text_front}
 use Rattle.std.proofs.lemmas.Bool.{false≢true}
 use Rattle.kd_form.specs.declared.fault.FormFault.{FormFault}
@@ -236,10 +236,6 @@ none_first P Q apart (y ∷ before) x rest all is = none_first P Q apart before 
 
 -- ---- faults in the head
 
-nothing_more : (some more : List ℕ) → some ++ more ≡ [] → more ≡ []
-nothing_more [] more none = none
-nothing_more (x ∷ some) more none = absurd (let gone : length (x ∷ (some ++ more)) ≡ 0 = ap length none in omega arith)
-
 pub no_head_fault : (s : Day) (order : List ℕ) (keys : List Keys) (head text : List ℕ) (position : ℕ) → TextsTellFirstParts → IsOrder s order keys head text
     → ¬ (IsHeadFault s order position)
 no_head_fault s order keys head text position tell is fault =
@@ -312,6 +308,17 @@ one_bad_byte text place other a b =
     let same = same_first (λ x. IsTrue (is_text_byte x)) (λ x. IsFalse (is_text_byte x)) allowed_or_not a.before a.byte a.rest b.before b.byte b.rest
     a.allowed a.bad b.allowed b.bad (sym a.joined ∙ b.joined) in
     a.size ∙ ap length same.0 ∙ sym b.size
+
+pub bad_longer : (text more : List ℕ) (place : ℕ) → IsBadAt text place → IsBadAt (text ++ more) place
+bad_longer text more place bad = record {
+  before = bad.before;
+  byte = bad.byte;
+  rest = bad.rest ++ more;
+  joined = ap (λ t. t ++ more) bad.joined ∙ append_assoc bad.before (bad.byte ∷ bad.rest) more;
+  size = bad.size;
+  allowed = bad.allowed;
+  bad = bad.bad;
+}
 
 pub no_bad_byte : (text : List ℕ) (place : ℕ) → All (λ x. IsTrue (is_text_byte x)) text → ¬ (IsBadAt text place)
 no_bad_byte text place all is =

@@ -27,9 +27,9 @@ use Rattle.kd_form.specs.Patterns.{filled_in, IsPatternLine, BreaksOff}
 use Rattle.kd_form.specs.KeyPatterns.{key_pattern, IsAnyKeyLine}
 use Rattle.kd_form.specs.Order.{IsEnded, IsKeyLine, AreKeyLines, IsHead, IsOrder, IsHeadFault}
 use Rattle.kd_form.proofs.Lines.{length-filled, as_form_line, IsUpToBreak, up_to_break, without_line, lines_more, some_more, front_byte, text_first, text_only, text_line, keys_begin, key_line_first}
-use Rattle.kd_form.proofs.Plain.{All-front, key_line_without, text_unbroken}
+use Rattle.kd_form.proofs.Plain.{All-front, key_line_without, text_unbroken, nothing_more}
 use Rattle.kd_form.proofs.Headings.{has_byte}
-use Rattle.kd_form.proofs.OneOrder.{Shorter, Longer, fronts, no_head_fault, no_keys_fault, nothing_stands, nothing_stands_yet, one_order}
+use Rattle.kd_form.proofs.OneOrder.{Shorter, Longer, fronts, no_head_fault, no_keys_fault, nothing_stands, nothing_stands_yet, one_order, bad_longer}
 use Rattle.kd_tables.specs.Text.{is_text_byte}
 use Rattle.kd_form.specs.declared.fault.FormFault.{FormFault}
 use Rattle.kd_form.specs.declared.fault.FormFault.TheVariants.{BadByte}
@@ -204,16 +204,12 @@ short_line s few line is =
 tail_is : {x : ℕ} {xs : List ℕ} → 10 ∷ [] ≡ x ∷ xs → [] ≡ xs
 tail_is same = cc
 
-none_left : (between more : List ℕ) → between ++ more ≡ [] → more ≡ []
-none_left [] more none = none
-none_left (x ∷ between) more none = absurd (let gone : length (x ∷ (between ++ more)) ≡ 0 = ap length none in omega arith)
-
 -- what begins a line, and isn't one yet, has no end of a line
 front_unbroken : (line bytes more : List ℕ) → IsUpToBreak line → line ≡ bytes ++ more → more ≢ [] → IsWithout 10 bytes
 front_unbroken line bytes more up joined missing =
     elim (fronts bytes more up.text (10 ∷ []) (sym joined ∙ up.is)) [
       | Shorter between longer left ↦ All-front (λ b. b ≢ 10) bytes between (subst (IsWithout 10) longer up.unbroken)
-      | Longer x between longer left ↦ absurd (missing (none_left between more (sym (tail_is left))))
+      | Longer x between longer left ↦ absurd (missing (nothing_more between more (sym (tail_is left))))
     ]
 
 -- ---- heads
@@ -662,17 +658,6 @@ text_gap s keys w order sent made byte text allowed is none =
     (subst (AreTaken s keys w (text_letters s text.text)) (sym (ap (λ m. sent ++ m) none ∙ append-nil sent)) text.taken)))
 
 -- ---- what stands
-
-bad_longer : (text more : List ℕ) (place : ℕ) → IsBadAt text place → IsBadAt (text ++ more) place
-bad_longer text more place bad = record {
-  before = bad.before;
-  byte = bad.byte;
-  rest = bad.rest ++ more;
-  joined = ap (λ t. t ++ more) bad.joined ∙ append_assoc bad.before (bad.byte ∷ bad.rest) more;
-  size = bad.size;
-  allowed = bad.allowed;
-  bad = bad.bad;
-}
 
 is_longer : (s : Day) (order more : List ℕ) (keys : List Keys) (head text : List ℕ) → IsOrder s order keys head text → IsOrder s (order ++ more) keys head (text ++ more)
 is_longer s order more keys head text is = record { joined = ap (λ o. o ++ more) is.joined ∙ append_assoc head text more; is_head = is.is_head }

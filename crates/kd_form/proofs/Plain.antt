@@ -1,9 +1,9 @@
 -- Text in which no byte is below the space, and bytes that a text is without.
-use Rattle.std.proofs.Common.{◌≡◌, ◌≢◌, ℕ, ◌+◌, ◌≤◌, ◌<◌, true, List, [], ◌∷◌, ◌++◌, refl, subst, length-append, arith}
+use Rattle.std.proofs.Common.{◌≡◌, ◌≢◌, ℕ, ◌+◌, ◌≤◌, ◌<◌, true, List, [], ◌∷◌, ◌++◌, refl, subst, length-append, arith, take, ap, ◌∙◌, length}
 use Rattle.std.specs.Prelude.{codes, All, nat_le, IsTrue}
 use Rattle.std.specs.List.{list_all}
 use Rattle.std.proofs.lemmas.Bool.Decides.{nat_tests}
-use Rattle.std.proofs.lemmas.List.{get_or_append_left}
+use Rattle.std.proofs.lemmas.List.{get_or_append_left, take_all, length-take}
 use Rattle.std.proofs.lemmas.List.Sums.{AllPass-from_list_all}
 use Rattle.std.proofs.lemmas.List.Elements.{All-append, All-cons, All-map, All-weaker}
 use Rattle.kd_tables.specs.Text.{letters_text}
@@ -53,3 +53,11 @@ text_unbroken = without 10 (codes "TEXT") (omega arith) (plain_text (codes "TEXT
 
 pub head_unbroken : IsWithout 10 (codes "PART ")
 head_unbroken = without 10 (codes "PART ") (omega arith) (plain_text (codes "PART ") refl)
+
+-- a line of which less was kept than could be is whole
+pub whole_line : (part line : List ℕ) → line ≡ take 64 part → length line < 64 → line ≡ part
+whole_line part line kept short = kept ∙ take_all 64 part (omega (arith, ap length kept, length-take 64 part))
+
+pub nothing_more : (some more : List ℕ) → some ++ more ≡ [] → more ≡ []
+nothing_more [] more none = none
+nothing_more (x ∷ some) more none = cc

@@ -31,7 +31,7 @@ use Rattle.kd_form.proofs.Plain.{All-front}
 use Rattle.kd_form.proofs.Headings.{ended_heading, heading_there}
 use Rattle.kd_form.proofs.OneCut.{FirstCut, first_cut, some_byte}
 use Rattle.kd_form.proofs.Growing.{begins_front, first_grows, last_rest, no_break, same_start, turn_with}
-use Rattle.kd_form.proofs.OneOrder.{Shorter, Longer, fronts}
+use Rattle.kd_form.proofs.OneOrder.{Shorter, Longer, fronts, bad_longer}
 
 -- -------- of which answers a device is the reason, or the machine
 
@@ -164,17 +164,6 @@ early_as_well s number expected start line body other fault tell unbroken bad (I
     omega (arith, ap length there.1, length-append line (10 ∷ body), length-append line (10 ∷ other)) in
     InBody h other place (ended_heading s line other h has.is_heading there.0) numbered due (bad place (subst (λ x. IsBadAt x place) there.1 at)) (is ∙ ap BadByte same)
 
-bad_in_more : (body more : List ℕ) (place : ℕ) → IsBadAt body place → IsBadAt (body ++ more) place
-bad_in_more body more place at = record {
-  before = at.before;
-  byte = at.byte;
-  rest = at.rest ++ more;
-  joined = ap (λ l. l ++ more) at.joined ∙ append_assoc at.before (at.byte ∷ at.rest) more;
-  size = at.size;
-  allowed = at.allowed;
-  bad = at.bad;
-}
-
 good_there : (front : List ℕ) (byte : ℕ) (rest : List ℕ) → All (λ b. IsTrue (is_text_byte b)) (front ++ byte ∷ rest) → IsTrue (is_text_byte byte)
 good_there [] byte rest all = All-head (λ b. IsTrue (is_text_byte b)) byte rest all
 good_there (x ∷ front) byte rest all = good_there front byte rest (All-tail (λ b. IsTrue (is_text_byte b)) x (front ++ byte ∷ rest) all)
@@ -219,7 +208,7 @@ alike_longer : (part line body cut beyond : List ℕ) → part ≡ line ++ 10 �
 alike_longer part line body cut beyond broken longer = record {
   other = body ++ beyond;
   is = longer ∙ ap (λ l. l ++ beyond) broken ∙ append_assoc line (10 ∷ body) beyond;
-  bad = λ place at. bad_in_more body beyond place at;
+  bad = λ place at. bad_longer body beyond place at;
 }
 
 too_few : (bytes more : List ℕ) → ¬ (BeginsHeading bytes) → BeginsHeading (bytes ++ more) → length bytes < 6

@@ -13,10 +13,6 @@ one_option (Some letter) rest = refl
 pub letters_first : (blank : Option ℕ) (byte : ℕ) (text : List ℕ) → letters_from blank (byte ∷ text) ≡ option_to_list (letter_of_byte blank byte) ++ letters_from blank text
 letters_first blank byte text = one_option (letter_of_byte blank byte) (letters_from blank text)
 
--- ---- counting
-
 pub at_most_one : (found : Option ℕ) → length (option_to_list found) ≤ 1
 at_most_one None = omega arith
 at_most_one (Some letter) = omega arith
-
--- ---- taking a piece
