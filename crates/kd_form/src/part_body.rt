@@ -67,7 +67,7 @@ impl PartBody {
             → HoldsBody s self.new (part ++ byte ∷ []) (body ++ byte ∷ []) }
     {
         keep_letter(&mut self.letters, letter_of_byte(&None, byte));
-        self.begun = next_begun(self.begun, byte);
+        mark(&mut self.begun, byte);
     }
 
     /// The letters of the part's text. The last ones of the body, so many, are left out: those of the next heading.
@@ -126,6 +126,17 @@ fn keep_letter(letters: &mut ArrayVec<Letter, KEPT>, letter: Option<Letter>)
     if let Some(letter) = letter {
         keep(letters, letter);
     }
+}
+
+/// Marks the byte. Where it changes nothing, nothing is written, and the next byte needn't wait for it.
+fn mark(begun: &mut Option<usize>, byte: u8)
+    ensures { (line next : List ℕ) → Begins line begun.old → IsNextLine line byte next
+        → Begins next begun.new }
+{
+    if begun.is_none() && byte != b'\n' {
+        return;
+    }
+    *begun = next_begun(*begun, byte);
 }
 
 /// How many bytes of `PART ` a line has behind that byte, if it has no others.
