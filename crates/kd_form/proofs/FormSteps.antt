@@ -1,37 +1,176 @@
--- The reader of a form, byte by byte.
-use Rattle.std.proofs.Common.{◌≡◌, ◌≢◌, inl, inr, ℕ, ◌+◌, ◌-◌, ◌<◌, ◌≤◌, List, [], ◌∷◌, ◌++◌, length, take, refl, sym, ap, subst, ◌∙◌, append_assoc, length-append, Option, Some, None, arith}
-use Rattle.std.specs.Prelude.{codes, All, IsTrue, IsFalse, MatchOption}
-use Rattle.std.proofs.lemmas.List.{append-nil, length-take}
-use Rattle.std.proofs.lemmas.List.Elements.{All-append, All-cons, All-nil, All-head, All-tail, filter_map-append}
-use Rattle.std.proofs.lemmas.Bool.{cases_lt}
+-- The reader of a form, byte by byte, and at the end.
+use Rattle.std.proofs.Common.{◌≡◌, ◌≢◌, ◌⊎◌, inl, inr, ℕ, ◌+◌, ◌-◌, ◌≤◌, List, [], ◌∷◌, ◌++◌, length, take, drop, refl, sym, ap, subst, ◌∙◌, append_assoc, length-append, Result, Ok, Err, MatchResult, arith, ◌<◌}
+use Rattle.std.specs.Prelude.{codes, All, IsTrue, Option, Some, None, IsFalse, MatchOption}
+use Rattle.std.specs.Option.{option_to_list}
+use Rattle.std.proofs.Math.Seq.{take-append_seam}
+use Rattle.std.proofs.lemmas.Bool.{cases_lt, cases_eq}
+use Rattle.std.proofs.lemmas.List.{append-nil, take_all, take-append-le, take-append-drop, length-take, length-take-le}
+use Rattle.std.proofs.lemmas.List.Elements.{filter_map-append, All-append, All-cons, All-nil}
 use Rattle.kd_tables.specs.Text.{is_text_byte}
 use Rattle.kd_state.specs.SheetDay.{Day}
 use Rattle.kd_state.specs.Words.{line_of, IsWithout, IsFirstPart, TextsTellFirstParts, NumbersAreWords}
 use Rattle.kd_form.specs.declared.fault.FormFault.{FormFault}
-use Rattle.kd_form.specs.declared.fault.FormFault.TheVariants.{BadByte, BadHeading}
 use Rattle.kd_form.specs.declared.heading.Heading.{Heading}
 use Rattle.kd_form.specs.declared.part_body.PartBody.{PartBody}
-use Rattle.kd_form.specs.declared.form_reader.FormReader.{FormReader}
-use Rattle.kd_form.specs.declared.form_reader.Stage.{Stage}
-use Rattle.kd_form.specs.declared.form_reader.Stage.TheVariants as stages
 use Rattle.kd_form.specs.Order.{IsEnded}
 use Rattle.kd_form.specs.Part.{heading_words}
 use Rattle.kd_form.specs.Sending.{letter_of_byte, letters_from}
-use Rattle.kd_form.specs.FormParts.{BeginsHeading, IsFirstOf, IsHeading}
-use Rattle.kd_form.specs.Receiving.{HasHeading, IsExpected, IsBodyText, IsBodyFault, IsEarlyFault, InHeading, InNumber, InBody}
-use Rattle.kd_form.specs.FormText.{ArePartsRead, IsReadTo, given_letters, count_due, Turn, IsRefusedForGood, NoHeading, InWhole, InLast, form_message}
-use Rattle.kd_form.specs.FormReading.{Begins, MayBegin, HoldsBody, HoldsPart, HoldsStage, HoldsForm, IsHeadingDue, IsHeadingOff, Missing, Other}
-use Rattle.kd_form.specs.Streams.{IsRefused}
+use Rattle.kd_form.specs.FormParts.{IsHeading, BeginsHeading, IsFirstOf}
+use Rattle.kd_form.specs.Receiving.{IsBodyText, IsBodyFault, InCount, InLetters, HasHeading, IsExpected, IsEarlyFault, InHeading, InNumber, InBody, IsPartRead, IsPartFault}
+use Rattle.kd_form.specs.FormReading.{IsNextLine, Broken, Longer, Begins, HoldsBody, IsBodyGiven, MayBegin, HoldsPart, HoldsStage, HoldsForm, IsHeadingDue, IsHeadingOff, Missing, Other, IsLastText}
+use Rattle.kd_form.proofs.Headings.{at_most, plain_heading, has_byte, ended_heading, one_heading, begins_there}
+use Rattle.kd_form.proofs.TextLetters.{letters_first}
+use Rattle.kd_form.specs.declared.fault.FormFault.TheVariants.{BadByte, BadHeading, PartOrder}
+use Rattle.kd_form.specs.declared.form_reader.FormReader.{FormReader}
+use Rattle.kd_form.specs.declared.form_reader.Stage.{Stage}
+use Rattle.kd_form.specs.declared.form_reader.Stage.TheVariants as stages
+use Rattle.kd_form.specs.FormText.{ArePartsRead, IsReadTo, given_letters, count_due, Turn, IsRefusedForGood, NoHeading, InWhole, InLast, form_message, IsRefusedAtEnd, InPart}
+use Rattle.kd_form.specs.Streams.{IsRefused, Closes}
 use Rattle.kd_form.specs.StreamSteps.{Held}
-use Rattle.kd_form.proofs.Bodies.{begins_nothing, take_kept}
-use Rattle.kd_form.proofs.FirstLines.{plain_heading, without, has_byte, ended_heading}
-use Rattle.kd_form.proofs.Growing.{all_follow, first_unbroken, first_more, first_ends, head_unbroken, turn_with, last_rest, rest_within}
-use Rattle.kd_form.proofs.Heads.{IsUpToBreak, up_to_break}
-use Rattle.kd_form.proofs.OneFault.{no_bad_byte}
-use Rattle.kd_form.proofs.OneHeading.{one_heading, begins_there}
+use Rattle.kd_form.proofs.Plain.{All-front, without, head_unbroken}
+use Rattle.kd_form.proofs.Growing.{all_follow, first_unbroken, first_more, first_ends, turn_with, last_rest, rest_within}
+use Rattle.kd_form.proofs.Lines.{IsUpToBreak, up_to_break}
+use Rattle.kd_form.proofs.OneOrder.{no_bad_byte}
 use Rattle.kd_form.proofs.OneText.{nothing_stands}
-use Rattle.kd_form.proofs.Received.{IsReadInTurn, given_more, due_more, next_turn, first_turn}
+use Rattle.kd_form.proofs.Received.{IsReadInTurn, given_more, due_more, next_turn, first_turn, too_few_parts, all_received}
 use Rattle.kd_form.proofs.Standing.{stays_refused}
+
+-- -------- the body of a part, byte by byte
+
+-- ---- the last line
+
+take_fewer : (few many : ℕ) (xs : List ℕ) → few ≤ many → take few (take many xs) ≡ take few xs
+take_fewer few many xs less = elim (cases_lt (length xs) many) [
+  | inl short ↦ ap (take few) (take_all many xs (omega arith))
+  | inr long ↦ sym (take-append-le few (take many xs) (drop many xs) (omega (arith, length-take many xs))) ∙ ap (take few) (take-append-drop many xs)
+]
+
+front_of : (line : List ℕ) (byte count : ℕ) → line ++ byte ∷ [] ≡ take count (codes "PART ") → line ≡ take (length line) (codes "PART ")
+front_of line byte count same =
+    let size : length line + 1 ≤ count = omega (arith, ap length same, length-append line (byte ∷ []), length-take count (codes "PART ")) in
+    let back : length line + (count - length line) ≡ count = omega arith in
+    sym (take-append_seam line (byte ∷ [])) ∙ ap (take (length line)) same ∙ take_fewer (length line) count (codes "PART ") (omega arith)
+
+pub begins_nothing : (begun : Option ℕ) → begun ≡ Some 0 → Begins [] begun
+begins_nothing None same = cc
+begins_nothing (Some count) same = let none : count ≡ 0 = cc in subst (λ n. Begins [] (Some n)) (sym none) (omega arith, refl)
+
+pub begins_no_more : (line next : List ℕ) (byte : ℕ) → byte ≢ 10 → Begins line None → IsNextLine line byte next → Begins next None
+begins_no_more line next byte other none (Broken is empty) = absurd (other is)
+begins_no_more line next byte other none (Longer differs is) = λ count same. none (length line) (front_of line byte count (sym is ∙ same))
+
+-- ---- the letters
+
+-- kept up to a length, once more
+take_again : (n : ℕ) (xs : List ℕ) → take n (take n xs) ≡ take n xs
+take_again n xs = take_all n (take n xs) (omega (arith, length-take n xs))
+
+pub take_kept : (n : ℕ) (xs ys : List ℕ) → take n (take n xs ++ ys) ≡ take n (xs ++ ys)
+take_kept n xs ys = elim (cases_lt n (length xs)) [
+  | inl long ↦ take-append-le n (take n xs) ys (omega (arith, length-take n xs)) ∙ take_again n xs ∙ sym (take-append-le n xs ys (omega arith))
+  | inr short ↦ ap (λ l. take n (l ++ ys)) (take_all n xs short)
+]
+
+pub still_kept : (kept letters : List ℕ) → kept ≡ take 525 letters → kept ≡ take 525 kept
+still_kept kept letters is = is ∙ sym (take_again 525 letters) ∙ ap (take 525) (sym is)
+
+pub letters_kept : (old new body : List ℕ) (byte : ℕ) (letter : Option ℕ) → letter ≡ letter_of_byte None byte → new ≡ take 525 (old ++ option_to_list letter)
+    → old ≡ take 525 (letters_from None body) → new ≡ take 525 (letters_from None (body ++ byte ∷ []))
+letters_kept old new body byte letter told more kept =
+    more ∙ ap (λ l. take 525 (l ++ option_to_list letter)) kept ∙ take_kept 525 (letters_from None body) (option_to_list letter)
+    ∙ ap (λ l. take 525 (letters_from None body ++ l))
+    (ap option_to_list told ∙ sym (append-nil (option_to_list (letter_of_byte None byte))) ∙ sym (letters_first None byte []))
+    ∙ ap (take 525) (sym (filter_map-append (letter_of_byte None) body (byte ∷ [])))
+
+-- ---- a byte more
+
+unbroken_more : (line : List ℕ) (byte : ℕ) → byte ≢ 10 → IsWithout 10 line → IsWithout 10 (line ++ byte ∷ [])
+unbroken_more line byte other without = All-append (λ b. b ≢ 10) line (byte ∷ []) without (All-cons (λ b. b ≢ 10) byte [] other (All-nil (λ b. b ≢ 10)))
+
+pub body_more : (s : Day) (b new : PartBody) (part body : List ℕ) (byte : ℕ) (letter : Option ℕ) → new.heading ≡ b.heading
+    → letter ≡ letter_of_byte None byte → (b.letters.items ≡ take 525 b.letters.items → new.letters.items ≡ take 525 (b.letters.items ++ option_to_list letter))
+    → ((line next : List ℕ) → Begins line b.begun → IsNextLine line byte next → Begins next new.begun) → IsTrue (is_text_byte byte)
+    → HoldsBody s b part body → HoldsBody s new (part ++ byte ∷ []) (body ++ byte ∷ [])
+body_more s b new part body byte letter same told more next allowed holds =
+    let joined : part ++ byte ∷ [] ≡ holds.line ++ (body ++ byte ∷ []) = ap (λ l. l ++ byte ∷ []) holds.joined ∙ append_assoc holds.line body (byte ∷ []) in
+    let ended : IsEnded (line_of (heading_words new.heading)) holds.line = subst (λ h. IsEnded (line_of (heading_words h)) holds.line) (sym same) holds.ended in
+    let heading : IsHeading s new.heading = subst (IsHeading s) (sym same) holds.is_heading in
+    let all : All (λ b. IsTrue (is_text_byte b)) (body ++ byte ∷ []) =
+    All-append (λ b. IsTrue (is_text_byte b)) body (byte ∷ []) holds.allowed
+    (All-cons (λ b. IsTrue (is_text_byte b)) byte [] allowed (All-nil (λ b. IsTrue (is_text_byte b)))) in
+    let kept : new.letters.items ≡ take 525 (letters_from None (body ++ byte ∷ [])) =
+    letters_kept b.letters.items new.letters.items body byte letter told (more (still_kept b.letters.items (letters_from None body) holds.kept)) holds.kept in
+    elim (cases_eq byte 10) [
+      | inl is ↦ record {
+        line = holds.line;
+        settled = body ++ byte ∷ [];
+        tail = [];
+        front = holds.front ++ 10 ∷ holds.tail;
+        joined = joined;
+        ended = ended;
+        is_heading = heading;
+        lines = sym (append-nil (body ++ byte ∷ []));
+        broken =
+            sym (append_assoc holds.line body (byte ∷ [])) ∙ ap (λ l. (holds.line ++ l) ++ byte ∷ []) holds.lines
+            ∙ ap (λ l. l ++ byte ∷ []) (sym (append_assoc holds.line holds.settled holds.tail) ∙ ap (λ l. l ++ holds.tail) holds.broken
+            ∙ append_assoc holds.front (10 ∷ []) holds.tail) ∙ ap (λ b. (holds.front ++ 10 ∷ holds.tail) ++ b ∷ []) is;
+        unbroken = All-nil (λ b. b ≢ 10);
+        marked = next holds.tail [] holds.marked (Broken is refl);
+        allowed = all;
+        kept = kept;
+      }
+      | inr other ↦ record {
+        line = holds.line;
+        settled = holds.settled;
+        tail = holds.tail ++ byte ∷ [];
+        front = holds.front;
+        joined = joined;
+        ended = ended;
+        is_heading = heading;
+        lines = ap (λ l. l ++ byte ∷ []) holds.lines ∙ append_assoc holds.settled holds.tail (byte ∷ []);
+        broken = holds.broken;
+        unbroken = unbroken_more holds.tail byte other holds.unbroken;
+        marked = next holds.tail (holds.tail ++ byte ∷ []) holds.marked (Longer other refl);
+        allowed = all;
+        kept = kept;
+      }
+    ]
+
+-- ---- the letters of a whole body
+
+-- the letters themselves, or more than a body has
+abbrev IsShown : List ℕ → List ℕ → Type 0
+IsShown shown letters = (shown ≡ letters) ⊎ ((521 ≤ length shown) × (521 ≤ length letters))
+
+are_shown : (others : ℕ) (kept shown letters more : List ℕ) → others ≤ 4 → length more ≡ others → kept ≡ take 525 (letters ++ more)
+    → shown ≡ take (length kept - others) kept → IsShown shown letters
+are_shown others kept shown letters more few size is cut = elim (cases_lt 525 (length (letters ++ more))) [
+  | inl long ↦
+      let full : length kept ≡ 525 = ap length is ∙ length-take-le 525 (letters ++ more) (omega arith) in
+      inr (omega (arith, ap length cut, length-take (length kept - others) kept), omega (arith, length-append letters more))
+  | inr short ↦
+      let whole : kept ≡ letters ++ more = is ∙ take_all 525 (letters ++ more) short in
+      let count : length kept - others ≡ length letters = omega (arith, ap length whole, length-append letters more) in
+      inl (cut ∙ ap (λ n. take n kept) count ∙ ap (take (length letters)) whole ∙ take-append_seam letters more)
+]
+
+too_long : {X : Type 0} (items : X → List ℕ) (s : Day) (h : Heading) (shown letters : List ℕ) (answer : Result X FormFault) → h.letters ≤ 520
+    → 521 ≤ length shown → 521 ≤ length letters → MatchResult answer (λ x. IsBodyText s h shown (items x)) (IsBodyFault s h.part h shown)
+    → MatchResult answer (λ x. IsBodyText s h letters (items x)) (IsBodyFault s h.part h letters)
+too_long items s h shown letters (Ok x) few many more told = absurd (omega (arith, told.0))
+too_long items s h shown letters (Err fault) few many more (InCount other is) = InCount (λ same. omega arith) is
+too_long items s h shown letters (Err fault) few many more (InLetters same is) = absurd (omega arith)
+
+pub body_told : {X : Type 0} (items : X → List ℕ) (s : Day) (h : Heading) (others : ℕ) (kept shown letters more : List ℕ) (answer : Result X FormFault)
+    → IsHeading s h → others ≤ 4 → length more ≡ others → kept ≡ take 525 (letters ++ more) → shown ≡ take (length kept - others) kept
+    → MatchResult answer (λ x. IsBodyText s h shown (items x)) (IsBodyFault s h.part h shown)
+    → MatchResult answer (λ x. IsBodyText s h letters (items x)) (IsBodyFault s h.part h letters)
+body_told items s h others kept shown letters more answer is few size kept_is cut told = elim (are_shown others kept shown letters more few size kept_is cut) [
+  | inl same ↦ subst (λ l. MatchResult answer (λ x. IsBodyText s h l (items x)) (IsBodyFault s h.part h l)) same told
+  | inr long ↦ too_long items s h shown letters answer (at_most s h.letters is.letters) long.0 long.1 told
+]
+
+-- -------- the reader of a form, byte by byte
 
 -- ---- what the reader holds, by its stage
 
@@ -316,10 +455,6 @@ bad_byte s r form text byte b h stage not bad =
     (there.numbered ∙ h.numbered) (subst (λ e. IsExpected e b.heading.parts) h.due there.due)
     (record { before = there.body; byte = byte; rest = []; joined = refl; size = refl; allowed = there.holds.allowed; bad = bad }) (ap BadByte place)) h.so_far.is
 
-All-front : (P : ℕ → Type 0) (xs ys : List ℕ) → All P (xs ++ ys) → All P xs
-All-front P [] ys all = All-nil P
-All-front P (x ∷ xs) ys all = All-cons P x xs (All-head P x (xs ++ ys) all) (All-front P xs ys (All-tail P x (xs ++ ys) all))
-
 -- ---- the part ends, as a digit stands behind the five bytes of a heading
 
 -- its body without these, and their letters
@@ -388,18 +523,19 @@ part_refused s r form text byte b fault h stage begun low high told =
       found = subst (λ n. IsBodyFault s n b.heading (letters_from None there.holds.settled) fault) (there.numbered ∙ h.numbered) found;
     })) h.so_far.is
 
-pub part_read : (s : Day) (r new : FormReader) (form text made one : List ℕ) (byte : ℕ) (b : PartBody) (line : _) (h : HoldsForm s r form text) → r.stage ≡ stages.Body b
+pub part_read : (s : Day) (r new : FormReader) (form text made : List ℕ) (byte : ℕ) (b : PartBody) (line : _) (h : HoldsForm s r form text) → r.stage ≡ stages.Body b
     → b.begun ≡ Some 5 → 48 ≤ byte → byte ≤ 57
-    → ((letters more : List ℕ) → length more ≡ 4 → b.letters.items ≡ take 525 (letters ++ more) → IsBodyText s b.heading letters one)
-    → made ≡ given_letters s one → new.position ≡ r.position + 1 → new.number ≡ r.number + 1 → new.expected ≡ Some b.heading.parts
+    → ((letters more : List ℕ) → length more ≡ 4 → b.letters.items ≡ take 525 (letters ++ more)
+    → IsBodyGiven s b.heading letters made) → new.position ≡ r.position + 1 → new.number ≡ r.number + 1 → new.expected ≡ Some b.heading.parts
     → new.stage ≡ stages.Heading line → line.items ≡ codes "PART " ++ byte ∷ [] → HoldsForm s new (form ++ byte ∷ []) (text ++ made)
-part_read s r new form text made one byte b line h stage begun low high told given position number expected now begins =
+part_read s r new form text made byte b line h stage begun low high told position number expected now begins =
     let t : Turn s form = h.so_far.turn in
     let there = in_line s r form text [] h (stages.Body b) stage in
     let part = settled s b t.rest there.body there.holds begun in
     let head : List ℕ = codes "PART " ++ byte ∷ [] in
     let u : Turn s (form ++ byte ∷ []) = turn_with s form (byte ∷ []) part.whole head t (λ e. cc) (ended_turn s r form text byte b h there part low high) in
     let found = told (letters_from None there.holds.settled) (letters_from None (codes "PART ")) refl (there.holds.kept ∙ ap (take 525) part.letters) in
+    let one : List ℕ = found.0 in
     let is : IsReadInTurn s (form ++ byte ∷ []) u b.heading.parts one = record {
       read = record {
         heading = b.heading;
@@ -408,8 +544,8 @@ part_read s r new form text made one byte b line h stage begun low high told giv
         numbered = there.numbered ∙ h.numbered;
         so_many = refl;
         allowed = part.allowed;
-        counted = found.0;
-        read = found.1;
+        counted = found.1.0;
+        read = found.1.1;
       };
       due = subst (λ e. IsExpected e b.heading.parts) h.due there.due;
     } in
@@ -419,7 +555,7 @@ part_read s r new form text made one byte b line h stage begun low high told giv
       so_far = record {
         turn = v;
         last = refl;
-        is = ap (λ l. l ++ made) h.so_far.is ∙ ap (λ l. given_letters s t.letters ++ l) given ∙ sym (given_more s t.letters one);
+        is = ap (λ l. l ++ made) h.so_far.is ∙ ap (λ l. given_letters s t.letters ++ l) found.2 ∙ sym (given_more s t.letters one);
       };
       counted = position ∙ ap (λ n. n + 1) h.counted ∙ sym (length-append form (byte ∷ []));
       numbered = number ∙ ap (λ n. n + 1) (h.numbered ∙ sym (length-append t.before (part.whole ∷ [])));
@@ -433,3 +569,117 @@ part_read s r new form text made one byte b line h stage begun low high told giv
         λ few. absurd (omega arith),
       );
     }
+
+-- -------- the end of a form
+
+abbrev pub IsOpenBy : Day → List ℕ → Option Heading → Type 0
+IsOpenBy s part found = MatchOption found ((h : Heading) (body : List ℕ) → ¬ (HasHeading s part h body)) (λ h. HasHeading s part h [])
+
+there_is : (s : Day) (part : List ℕ) (found : Option Heading) (h : Heading) → IsOpenBy s part found → found ≡ Some h → HasHeading s part h []
+there_is s part found h told is = let there : IsOpenBy s part (Some h) = subst (IsOpenBy s part) is told in there
+
+there_is_none : (s : Day) (part : List ℕ) (found : Option Heading) → IsOpenBy s part found → found ≡ None → (h : Heading) (body : List ℕ) → ¬ (HasHeading s part h body)
+there_is_none s part found told is = let there : IsOpenBy s part None = subst (IsOpenBy s part) is told in there
+
+pub off_at_end : (s : Day) (number : ℕ) (expected : Option ℕ) (start : ℕ) (part : List ℕ) (found : Option Heading) (fault : FormFault) → IsOpenBy s part found
+    → IsHeadingOff number expected found fault → IsPartFault s number expected start part fault
+off_at_end s number expected start part found fault told (Missing none is) = inl (InHeading (there_is_none s part found told none) is)
+off_at_end s number expected start part found fault told (Other h there wrong is) = inl (InNumber h [] (there_is s part found h told there) wrong is)
+
+-- a part with that heading and that body is read, or refused for its letters
+last_read : (s : Day) (number : ℕ) (expected : Option ℕ) (part body one : List ℕ) (parts : ℕ) (h : Heading) → HasHeading s part h body → h.part ≡ number
+    → IsExpected expected h.parts → All (λ b. IsTrue (is_text_byte b)) body → parts ≡ h.parts → IsBodyText s h (letters_from None body) one
+    → IsLastText s number expected part parts one
+last_read s number expected part body one parts h has numbered due allowed same told = record {
+  read = record { heading = h; body = body; has = has; numbered = numbered; so_many = sym same; allowed = allowed; counted = told.0; read = told.1 };
+  due = subst (IsExpected expected) (sym same) due;
+}
+
+last_refused : (s : Day) (number : ℕ) (expected : Option ℕ) (start : ℕ) (part body : List ℕ) (fault : FormFault) (h : Heading) → HasHeading s part h body
+    → h.part ≡ number → IsExpected expected h.parts → All (λ b. IsTrue (is_text_byte b)) body → IsBodyFault s h.part h (letters_from None body) fault
+    → IsPartFault s number expected start part fault
+last_refused s number expected start part body fault h has numbered due allowed told = inr (record {
+  heading = h;
+  body = body;
+  has = has;
+  numbered = numbered;
+  due = due;
+  allowed = allowed;
+  found = subst (λ n. IsBodyFault s n h (letters_from None body) fault) numbered told;
+})
+
+abbrev pub IsLastRead : {X : Type 0} → (X → ℕ) → (X → List ℕ) → Day → ℕ → Option ℕ → List ℕ → Result X FormFault → Type 0
+IsLastRead parts letters s number expected part answer =
+    MatchResult answer (λ x. IsLastText s number expected part (parts x) (letters x)) (λ fault. (start : ℕ) → IsPartFault s number expected start part fault)
+
+pub last_told : {X : Type 0} (parts : X → ℕ) (letters : X → List ℕ) (s : Day) (number : ℕ) (expected : Option ℕ) (part body : List ℕ) (h : Heading) (answer : Result X FormFault)
+    → HasHeading s part h body → h.part ≡ number → IsExpected expected h.parts → All (λ b. IsTrue (is_text_byte b)) body
+    → MatchResult answer (λ x. (parts x ≡ h.parts) × IsBodyText s h (letters_from None body) (letters x)) (IsBodyFault s h.part h (letters_from None body))
+    → IsLastRead parts letters s number expected part answer
+last_told parts letters s number expected part body h (Ok x) has numbered due allowed told =
+    last_read s number expected part body (letters x) (parts x) h has numbered due allowed told.0 told.1
+last_told parts letters s number expected part body h (Err fault) has numbered due allowed told =
+    λ start. last_refused s number expected start part body fault h has numbered due allowed told
+
+pub last_of_line : {X : Type 0} (parts : X → ℕ) (letters : X → List ℕ) (s : Day) (number : ℕ) (expected : Option ℕ) (part kept : List ℕ) (found : Option Heading) (h other : Heading)
+    (answer : Result X FormFault) → IsOpenBy s part found → IsHeadingDue number expected found h → other ≡ h → kept ≡ []
+    → ((body : List ℕ) → kept ≡ take 525 body
+    → MatchResult answer (λ x. (parts x ≡ other.parts) × IsBodyText s other body (letters x)) (IsBodyFault s other.part other body))
+    → IsLastRead parts letters s number expected part answer
+last_of_line parts letters s number expected part kept found h other answer open_by due same none told =
+    last_told parts letters s number expected part [] h answer (there_is s part found h open_by due.is) due.numbered due.due (All-nil (λ b. IsTrue (is_text_byte b)))
+    (subst (λ x. MatchResult answer (λ y. (parts y ≡ x.parts) × IsBodyText s x [] (letters y)) (IsBodyFault s x.part x [])) same (told [] none))
+
+pub last_of_body : {X : Type 0} (parts : X → ℕ) (letters : X → List ℕ) (s : Day) (number : ℕ) (expected : Option ℕ) (part : List ℕ) (b : PartBody) (stage : Stage)
+    (answer : Result X FormFault) → HoldsStage s stage number expected part → stage ≡ stages.Body b
+    → ((body : List ℕ) → b.letters.items ≡ take 525 body
+    → MatchResult answer (λ x. (parts x ≡ b.heading.parts) × IsBodyText s b.heading body (letters x)) (IsBodyFault s b.heading.part b.heading body))
+    → IsLastRead parts letters s number expected part answer
+last_of_body parts letters s number expected part b stage answer held is told =
+    let there : HoldsPart s b number expected part = subst (λ st. HoldsStage s st number expected part) is held in
+    last_told parts letters s number expected part there.body b.heading answer (body_heading s b part there.body there.holds) there.numbered there.due there.holds.allowed
+    (told (letters_from None there.body) there.holds.kept)
+
+pub line_of_stage : (s : Day) (number : ℕ) (expected : Option ℕ) (part shown : List ℕ) (stage : Stage) (line : _) (found : Option Heading)
+    → HoldsStage s stage number expected part → stage ≡ stages.Heading line → shown ≡ line.items
+    → ((part : List ℕ) → IsWithout 10 part → shown ≡ take 64 part → IsOpenBy s part found) → IsOpenBy s part found
+line_of_stage s number expected part shown stage line found held is same told =
+    let there = subst (λ st. HoldsStage s st number expected part) is held in
+    told part there.0.unbroken (same ∙ there.0.kept)
+
+pub heading_of_due : (s : Day) (number : ℕ) (expected : Option ℕ) (part : List ℕ) (found : Option Heading) (h : Heading) → IsOpenBy s part found
+    → IsHeadingDue number expected found h → IsHeading s h
+heading_of_due s number expected part found h open_by due = (there_is s part found h open_by due.is).is_heading
+
+-- ---- the whole form
+
+in_turn : (s : Day) (r : FormReader) (form text one : List ℕ) (parts : ℕ) (h : HoldsForm s r form text) → IsLastText s r.number r.expected h.so_far.turn.part parts one
+    → IsReadInTurn s form h.so_far.turn parts one
+in_turn s r form text one parts h last = record {
+  read = subst (λ n. IsPartRead s n parts h.so_far.turn.part one) h.numbered last.read;
+  due = subst (λ e. IsExpected e parts) h.due last.due;
+}
+
+pub closes : (s : Day) (r : FormReader) (form text made one : List ℕ) (parts : ℕ) (h : HoldsForm s r form text) → IsLastText s r.number r.expected h.so_far.turn.part parts one
+    → parts ≡ r.number → made ≡ given_letters s one ++ 10 ∷ [] → Closes (form_message s) form (text ++ made) (Ok tt)
+closes s r form text made one parts h last same given =
+    all_received s form text made h.so_far.turn parts one (in_turn s r form text one parts h last) h.so_far.last (same ∙ h.numbered) h.so_far.is given
+
+ends_refused : (s : Day) (form text : List ℕ) (fault : FormFault) → IsRefusedAtEnd s form text fault → Closes (form_message s) form text (Err fault)
+ends_refused s form text fault found = ((text, inr found), inr found)
+
+pub closes_short : (s : Day) (r : FormReader) (form text made one : List ℕ) (parts : ℕ) (h : HoldsForm s r form text)
+    → IsLastText s r.number r.expected h.so_far.turn.part parts one → parts ≢ r.number → made ≡ given_letters s one
+    → Closes (form_message s) form (text ++ made) (Err PartOrder)
+closes_short s r form text made one parts h last other given =
+    ends_refused s form (text ++ made) PartOrder (too_few_parts s form text made h.so_far.turn parts one (in_turn s r form text one parts h last) h.so_far.last
+    (λ same. other (same ∙ sym h.numbered)) h.so_far.is given)
+
+pub closes_refused : (s : Day) (r : FormReader) (form text made : List ℕ) (fault : FormFault) (h : HoldsForm s r form text)
+    → ((start : ℕ) → IsPartFault s r.number r.expected start h.so_far.turn.part fault) → made ≡ [] → Closes (form_message s) form (text ++ made) (Err fault)
+closes_refused s r form text made fault h found none =
+    let t : Turn s form = h.so_far.turn in
+    ends_refused s form (text ++ made) fault (InPart t h.so_far.last
+    (subst (λ n. IsPartFault s n (count_due t.before t.count) (length form - length t.rest) t.part fault) h.numbered
+    (subst (λ e. IsPartFault s r.number e (length form - length t.rest) t.part fault) h.due (found (length form - length t.rest))))
+    (ap (λ l. text ++ l) none ∙ append-nil text ∙ h.so_far.is))

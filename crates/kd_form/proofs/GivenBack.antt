@@ -20,12 +20,10 @@ use Rattle.kd_form.specs.Part.{Part, part_text, pieces, body_text}
 use Rattle.kd_form.specs.Reading.{IsLettersText}
 use Rattle.kd_form.specs.Receiving.{IsPartRead}
 use Rattle.kd_form.specs.Sending.{letter_of_byte, letters_from, text_letters, parts_needed, AreMadeTexts}
-use Rattle.kd_form.proofs.BodyTexts.{by_pieces, letters_of_body, body_is_allowed}
-use Rattle.kd_form.proofs.Groups.{more_pieces, pieces-next, pieces-none}
-use Rattle.kd_form.proofs.MadeParts.{IsPiece, GivesBack, part_gives_back}
-use Rattle.kd_form.proofs.PartTexts.{part_has_heading, part_begins_heading, part_is_first}
+use Rattle.kd_form.proofs.PartTexts.{by_pieces, letters_of_body, body_is_allowed, part_has_heading, part_begins_heading, part_is_first}
+use Rattle.kd_form.proofs.MadeParts.{more_pieces, pieces-next, pieces-none, IsPiece, GivesBack, part_gives_back}
 use Rattle.kd_form.proofs.OneOrder.{one_order}
-use Rattle.kd_form.proofs.OrderParts.{size_some}
+use Rattle.kd_form.proofs.OrderSteps.{size_some}
 
 -- ---- the letters of a text are letters of the alphabet
 

@@ -5,13 +5,14 @@ use Rattle.std.proofs.Math.ListN.{get_or-append}
 use Rattle.std.proofs.Math.Seq.{get_or-append_seam, drop-cons}
 use Rattle.std.proofs.lemmas.Bool.{cases_lt}
 use Rattle.std.proofs.lemmas.List.{append-nil, drop-append-le, take_all, take-append-drop, length-take}
-use Rattle.std.proofs.lemmas.List.Elements.{All-get_or, All-cons, All-nil}
+use Rattle.std.proofs.lemmas.List.Elements.{All-get_or}
 use Rattle.kd_state.specs.SheetDay.{Day}
 use Rattle.kd_state.specs.Words.{IsWithout}
 use Rattle.kd_form.specs.FormParts.{BeginsHeading, IsFirstOf}
 use Rattle.kd_form.specs.FormText.{AreFirstParts, Turn}
 use Rattle.kd_form.specs.FormReading.{MayBegin}
-use Rattle.kd_form.proofs.OneFault.{Shorter, Longer, fronts}
+use Rattle.kd_form.proofs.Plain.{head_unbroken, nothing_more, whole_line}
+use Rattle.kd_form.proofs.OneOrder.{Shorter, Longer, fronts}
 
 pub no_break : (line after : List ℕ) (k : ℕ) → IsWithout 10 line → k < length line → get_or (line ++ 10 ∷ after) k 0 ≢ 10
 no_break line after k without inside is =
@@ -33,21 +34,11 @@ begins_more bytes more begins = record {
 
 -- its first six bytes tell
 pub begins_front : (bytes more : List ℕ) → 6 ≤ length bytes → BeginsHeading (bytes ++ more) → BeginsHeading bytes
-begins_front (a ∷ b ∷ c ∷ d ∷ e ∷ f ∷ rest) more long begins =
-    let is : a ∷ b ∷ c ∷ d ∷ e ∷ f ∷ (rest ++ more) ≡ 80 ∷ 65 ∷ 82 ∷ 84 ∷ 32 ∷ begins.digit ∷ begins.rest = begins.is in
-    let one : a ≡ 80 = cc in
-    let two : b ≡ 65 = cc in
-    let three : c ≡ 82 = cc in
-    let four : d ≡ 84 = cc in
-    let five : e ≡ 32 = cc in
-    let six : f ≡ begins.digit = cc in
-    record { digit = f; rest = rest; is = cc; low = subst (λ x. 48 ≤ x) (sym six) begins.low; high = subst (λ x. x ≤ 57) (sym six) begins.high }
-begins_front [] more long begins = absurd (omega arith)
-begins_front (a ∷ []) more long begins = absurd (omega arith)
-begins_front (a ∷ b ∷ []) more long begins = absurd (omega arith)
-begins_front (a ∷ b ∷ c ∷ []) more long begins = absurd (omega arith)
-begins_front (a ∷ b ∷ c ∷ d ∷ []) more long begins = absurd (omega arith)
-begins_front (a ∷ b ∷ c ∷ d ∷ e ∷ []) more long begins = absurd (omega arith)
+begins_front bytes more long begins = elim (fronts bytes more (codes "PART " ++ begins.digit ∷ []) begins.rest begins.is) [
+  | Shorter [] longer left ↦ record { digit = begins.digit; rest = []; is = sym (longer ∙ append-nil bytes); low = begins.low; high = begins.high }
+  | Shorter (x ∷ beyond) longer left ↦ absurd (omega (arith, ap length longer, length-append bytes (x ∷ beyond)))
+  | Longer x beyond longer left ↦ record { digit = begins.digit; rest = x ∷ beyond; is = longer; low = begins.low; high = begins.high }
+]
 
 -- ---- the first part of more bytes
 
@@ -69,13 +60,9 @@ first_grows bytes part rest more first some = elim first.ends [
       }
 ]
 
-pub no_bytes : (front back : List ℕ) → front ++ back ≡ [] → back ≡ []
-no_bytes [] back none = none
-no_bytes (byte ∷ front) back none = cc
-
 pub nothing_left : (parts : List (List ℕ)) (bytes rest : List ℕ) → bytes ≡ [] → AreFirstParts parts bytes rest → rest ≡ []
 nothing_left [] bytes rest none same = sym same ∙ none
-nothing_left (part ∷ parts) bytes rest none (after, first, later) = nothing_left parts after rest (no_bytes part after (sym first.joined ∙ none)) later
+nothing_left (part ∷ parts) bytes rest none (after, first, later) = nothing_left parts after rest (nothing_more part after (sym first.joined ∙ none)) later
 
 pub parts_grow : (parts : List (List ℕ)) (bytes rest more : List ℕ) → rest ≢ [] → AreFirstParts parts bytes rest
     → AreFirstParts parts (bytes ++ more) (rest ++ more)
@@ -106,7 +93,7 @@ turn_with s form more part after t some first = record {
   part = part;
   after = after;
   read = record { cut = turn_cut s form more t; read = t.read.read };
-  left = inr (λ none. some (no_bytes t.rest more none));
+  left = inr (λ none. some (nothing_more t.rest more none));
   first = first;
 }
 
@@ -142,29 +129,8 @@ due_follows (a ∷ b ∷ c ∷ d ∷ []) byte due few is may =
     (λ same. may_begin (a ∷ b ∷ c ∷ d ∷ byte ∷ []) (codes "0") (cc), λ then_may. let all = then_may.1.is in cc)
 due_follows (a ∷ b ∷ c ∷ d ∷ e ∷ part) byte due few is may = absurd (omega arith)
 
-pub digit_follows : (part : List ℕ) (byte : ℕ) → length part ≡ 5 → MayBegin part → Follows part byte ((48 ≤ byte) × (byte ≤ 57))
-digit_follows (a ∷ b ∷ c ∷ d ∷ e ∷ []) byte size may =
-    let had = may.1.is in (
-      λ digit. ([], record { digit = byte; rest = []; is = cc; low = digit.0; high = digit.1 }),
-      λ then_may.
-          let same : byte ≡ then_may.1.digit = (let all = then_may.1.is in cc) in
-          (subst (λ x. 48 ≤ x) (sym same) then_may.1.low, subst (λ x. x ≤ 57) (sym same) then_may.1.high),
-    )
-digit_follows [] byte size may = absurd (omega arith)
-digit_follows (a ∷ []) byte size may = absurd (omega arith)
-digit_follows (a ∷ b ∷ []) byte size may = absurd (omega arith)
-digit_follows (a ∷ b ∷ c ∷ []) byte size may = absurd (omega arith)
-digit_follows (a ∷ b ∷ c ∷ d ∷ []) byte size may = absurd (omega arith)
-digit_follows (a ∷ b ∷ c ∷ d ∷ e ∷ f ∷ part) byte size may = absurd (omega arith)
-
 pub all_follow : (part : List ℕ) (byte : ℕ) → 6 ≤ length part → MayBegin part → MayBegin (part ++ byte ∷ [])
 all_follow part byte long may = ([], subst BeginsHeading (sym (append-nil (part ++ byte ∷ []))) (begins_more part (byte ∷ []) (begins_front part may.0 long may.1)))
-
-pub short_line : (part line : List ℕ) → line ≡ take 64 part → length line < 64 → line ≡ part
-short_line part line kept short = kept ∙ take_all 64 part (omega (arith, ap length kept, length-take 64 part))
-
-pub long_line : (part line : List ℕ) (few : ℕ) → line ≡ take 64 part → few ≤ 64 → few ≤ length line → few ≤ length part
-long_line part line few kept less long = omega (arith, ap length kept, length-take 64 part)
 
 told_true : (a b : ℕ) → IsTrue (a == b) → a ≡ b
 told_true a b is = search rules
@@ -175,7 +141,7 @@ true_told a b same = search rules
 pub due_told : (part line : List ℕ) (byte due : ℕ) → line ≡ take 64 part → MayBegin part → (length line < 5) × (due ≡ get_or (codes "PART ") (length line) 0)
     → (IsTrue (byte == due) → MayBegin (part ++ byte ∷ [])) × (MayBegin (part ++ byte ∷ []) → IsTrue (byte == due))
 due_told part line byte due kept may (few, is) =
-    let whole : line ≡ part = short_line part line kept (omega arith) in
+    let whole : line ≡ part = whole_line part line kept (omega arith) in
     let follows = due_follows part byte due (subst (λ (l : List ℕ). length l < 5) whole few) (is ∙ ap (λ (l : List ℕ). get_or (codes "PART ") (length l) 0) whole) may in
     (λ told. follows.0 (told_true byte due told), λ then_may. true_told byte due (follows.1 then_may))
 
@@ -208,29 +174,15 @@ same_last front tail other end without also same = elim (fronts front (10 ∷ ta
       (ap (λ l. get_or l (length more) 0) all ∙ get_or-append_seam more 10 tail 0))
 ]
 
-pub head_unbroken : IsWithout 10 (codes "PART ")
-head_unbroken =
-    All-cons (λ b. b ≢ 10) 80 (65 ∷ 82 ∷ 84 ∷ 32 ∷ []) (λ e. omega arith) (All-cons (λ b. b ≢ 10) 65 (82 ∷ 84 ∷ 32 ∷ []) (λ e. omega arith)
-    (All-cons (λ b. b ≢ 10) 82 (84 ∷ 32 ∷ []) (λ e. omega arith) (All-cons (λ b. b ≢ 10) 84 (32 ∷ []) (λ e. omega arith)
-    (All-cons (λ b. b ≢ 10) 32 [] (λ e. omega arith) (All-nil (λ b. b ≢ 10))))))
-
 -- five bytes and one more that begin a heading
 last_digit : (bytes : List ℕ) (byte : ℕ) → length bytes < 6 → BeginsHeading (bytes ++ byte ∷ []) → (bytes ≡ codes "PART ") × (48 ≤ byte) × (byte ≤ 57)
-last_digit (a ∷ b ∷ c ∷ d ∷ e ∷ []) byte few begins =
-    let is : a ∷ b ∷ c ∷ d ∷ e ∷ byte ∷ [] ≡ 80 ∷ 65 ∷ 82 ∷ 84 ∷ 32 ∷ begins.digit ∷ begins.rest = begins.is in
-    let same : byte ≡ begins.digit = cc in
-    let one : a ≡ 80 = cc in
-    let two : b ≡ 65 = cc in
-    let three : c ≡ 82 = cc in
-    let four : d ≡ 84 = cc in
-    let five : e ≡ 32 = cc in
-    (cc, subst (λ x. 48 ≤ x) (sym same) begins.low, subst (λ x. x ≤ 57) (sym same) begins.high)
-last_digit [] byte few begins = absurd (omega (arith, ap length begins.is))
-last_digit (a ∷ []) byte few begins = absurd (omega (arith, ap length begins.is))
-last_digit (a ∷ b ∷ []) byte few begins = absurd (omega (arith, ap length begins.is))
-last_digit (a ∷ b ∷ c ∷ []) byte few begins = absurd (omega (arith, ap length begins.is))
-last_digit (a ∷ b ∷ c ∷ d ∷ []) byte few begins = absurd (omega (arith, ap length begins.is))
-last_digit (a ∷ b ∷ c ∷ d ∷ e ∷ f ∷ more) byte few begins = absurd (omega arith)
+last_digit bytes byte few begins = elim (fronts bytes (byte ∷ []) (codes "PART ") (begins.digit ∷ begins.rest) begins.is) [
+  | Shorter [] longer left ↦
+      let same : begins.digit ≡ byte = ap (λ l. get_or l 0 0) (sym left) in
+      (sym (longer ∙ append-nil bytes), subst (λ x. 48 ≤ x) same begins.low, subst (λ x. x ≤ 57) same begins.high)
+  | Shorter (x ∷ beyond) longer left ↦ absurd (omega (arith, ap length left, length-append (x ∷ beyond) (begins.digit ∷ begins.rest)))
+  | Longer x beyond longer left ↦ absurd (omega (arith, ap length longer))
+]
 
 next_place : (place : ℕ) → suc place ≡ place + 1
 next_place place = omega arith

@@ -12,7 +12,7 @@ use Rattle.kd_form.specs.declared.fault.FormFault.TheVariants as faults
 use Rattle.kd_form.specs.declared.stream.stop.Stop.{Stop}
 use Rattle.kd_form.specs.declared.stream.stop.Stop.TheVariants as stops
 use Rattle.kd_form.specs.Streams.{Message, IsOpen, IsRefused, IsDue, ByThen, ByTheEnd, Answers, Whole, Stands, AtEnd, TooLong, SourceFails, SinkFails, IsStreamed}
-use Rattle.kd_form.specs.StreamSteps.{Held, HasRoom, FedTo, IsFed, FeedsAll, EndsIn, ClosesAt, ClosesAs, WritesWhole, IsRead, ReadsNext, fault_of, answer_to, stops_at_device}
+use Rattle.kd_form.specs.StreamSteps.{Held, HasRoom, FedTo, IsFed, FeedsAll, EndsIn, ClosesAs, WritesWhole, IsRead, ReadsNext, fault_of, answer_to, stops_at_device}
 
 -- what is known of a port, in its order
 abbrev pub over : Option (List ℕ) → Option (List ℕ) → Bool → Bool → Port
@@ -241,11 +241,6 @@ module _ (m : Message) (old new : List ℕ → List ℕ → Type 0) (had has nex
         well = (step.read.3 ∙ before.well.0, step.read.4 ∙ before.well.1);
       }
 
-  pub SoFar-room : (n : ℕ) → ReadsNext m old new room (over has next b c) (over taken wrote e f) (Ok n) → count + n ≤ READ_LIMIT
-  SoFar-room n reads =
-      let step = reads before.read before.text before.held (omega (arith, before.counted, before.within, space)) in
-      omega (arith, before.within, step.within, step.read.0, space)
-
   pub SoFar-at_end : (n : ℕ) → n ≡ 0 → ReadsNext m old new room (over has next b c) (over taken wrote e f) (Ok n) → IsAtEnd next
   SoFar-at_end n none reads =
       let step = reads before.read before.text before.held (omega (arith, before.counted, before.within, space)) in
@@ -276,21 +271,6 @@ pub whole_stopped : (m : Message) (old new : List ℕ → List ℕ → Type 0) (
     → FeedsAll m old new bytes sink (Err stop) → WritesWhole m bytes sink (Err stop)
 whole_stopped m old new bytes sink (stops.Refused fault) held fed = subst (λ b. m.refused b fault) (append-nil bytes) ((fed [] [] held).fed.refused [])
 whole_stopped m old new bytes sink stops.Device held fed = tt
-
-whole_answer : (m : Message) (bytes text : List ℕ) (sink : Port) (answer : Result (Unit {0}) Stop) → Appends sink.had sink.has text → EndsIn m bytes text answer
-    → WritesWhole m bytes sink answer
-whole_answer m bytes text sink (Ok done) written ends = (text, ends, written)
-whole_answer m bytes text sink (Err (stops.Refused fault)) written ends = ends.0
-whole_answer m bytes text sink (Err stops.Device) written ends = tt
-
--- it was fed whole, and ended
-pub whole_ended : (m : Message) (old new : List ℕ → List ℕ → Type 0) (bytes : List ℕ) (took taken wrote : Option (List ℕ)) (d e f : Bool) (answer : Result (Unit {0}) Stop)
-    → Held m old [] [] → FeedsAll m old new bytes (over took taken d e) (Ok tt) → ClosesAt m new (over taken wrote e f) answer
-    → WritesWhole m bytes (over took wrote d f) answer
-whole_ended m old new bytes took taken wrote d e f answer held fed closes =
-    let one = fed [] [] held in
-    let two = closes bytes one.made one.fed in
-    whole_answer m bytes (one.made ++ two.made) (over took wrote d f) answer (Appends-trans took taken wrote one.made two.made one.written two.written) two.ended
 
 closed : (m : Message) (holds : List ℕ → List ℕ → Type 0) (read text made : List ℕ) (source : Port) (took taken wrote : Option (List ℕ)) (d e f : Bool)
     (told : Result (Unit {0}) Stop) → Held m holds read text → length read ≤ READ_LIMIT → IsAtEnd source.has → IsWell source → e ≡ d
@@ -345,18 +325,3 @@ module _ (m : Message) (holds : List ℕ → List ℕ → Type 0) (had has next 
     answers = TooLong before.read ends.0 refl (omega (arith, before.counted, before.within, full)) before.held.open_yet
         (well_now b c well ∙ before.well.0, before.well.1) refl;
   }
-
-  pub IsStreamed-unread : Consumes has next [] → c ≡ (b || true) → IsStreamed m (over had next a c) sink (Err faults.Device)
-  IsStreamed-unread none up = record {
-    read = before.read;
-    text = before.text;
-    given = subst (Consumes had next) (append-nil before.read) (Consumes-trans had has next before.read [] before.given none);
-    written = before.written;
-    answers = SourceFails (omega (arith, before.counted, before.within)) before.held.open_yet
-        (record { failed = failed_now b c up; well = before.well.1 }) refl;
-  }
-
-pub room_after : (m : Message) (holds : List ℕ → List ℕ → Type 0) (source sink : Port) (count room : ℕ) → count + room ≤ READ_LIMIT → SoFar m holds source sink count
-    → HasRoom m holds room
-room_after m holds source sink count room few before =
-    record { bytes = before.read; text = before.text; held = before.held; within = omega (arith, few, before.counted) }

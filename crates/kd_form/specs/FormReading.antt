@@ -14,8 +14,8 @@ use Rattle.kd_form.specs.Order.{IsEnded}
 use Rattle.kd_form.specs.Part.{heading_words}
 use Rattle.kd_form.specs.Sending.{letters_from}
 use Rattle.kd_form.specs.FormParts.{BeginsHeading, IsHeading}
-use Rattle.kd_form.specs.Receiving.{IsExpected, IsPartRead}
-use Rattle.kd_form.specs.FormText.{count_due, IsTextBeforeLast}
+use Rattle.kd_form.specs.Receiving.{IsExpected, IsPartRead, IsBodyText}
+use Rattle.kd_form.specs.FormText.{given_letters, count_due, IsTextBeforeLast}
 
 -- ---- the last line
 
@@ -67,6 +67,10 @@ pub record HoldsPart (s : Day) (b : PartBody) (number : ℕ) (expected : Option 
 abbrev pub HoldsStage : Day → Stage → ℕ → Option ℕ → List ℕ → Type 0
 HoldsStage s (stages.Heading line) number expected part = HoldsLine line.items part × (length part < 6 → number ≡ 1)
 HoldsStage s (stages.Body b) number expected part = HoldsPart s b number expected part
+
+-- the letters are read as the body behind that heading, and its text is given
+abbrev pub IsBodyGiven : Day → Heading → List ℕ → List ℕ → Type 0
+IsBodyGiven s h letters made = (text : List ℕ) × IsBodyText s h letters text × (made ≡ given_letters s text)
 
 -- the heading is the one that is due: of the part of that number, and of so many
 pub record IsHeadingDue (number : ℕ) (expected : Option ℕ) (found : Option Heading) (h : Heading) : Type 0 where

@@ -27,13 +27,6 @@ abbrev pub key_letters : Keys → List ℕ
 key_letters (Rotor k) = k.start ++ (k.key ++ (k.fillers ++ k.group))
 key_letters (Pin k) = k.chosen ∷ k.external
 
--- the bytes begin with the line of keys that are the day's, and this follows
-pub record BeginsWithKeys (s : Day) (bytes : List ℕ) (keys : Keys) (rest : List ℕ) : Type 0 where
-  pub line : List ℕ
-  pub joined : bytes ≡ line ++ rest
-  pub of_the_day : AreKeys s keys
-  pub keyed : IsKeyLine keys line
-
 -- the bytes are the line of any keys that are the day's
 pub record IsAnyKeyLine (s : Day) (bytes : List ℕ) : Type 0 where
   pub keys : Keys

@@ -1,5 +1,5 @@
 -- The keys that an order gives for a part, and the words of the line that gives them.
-use Rattle.std.specs.Prelude.{codes, ℕ, ◌+◌, ◌<◌, List, [], ◌∷◌, length, map}
+use Rattle.std.specs.Prelude.{codes, ℕ, ◌<◌, List, [], ◌∷◌, length}
 use Rattle.kd_tables.specs.Text.{letters_text}
 use Rattle.kd_state.specs.Machine.{AreLetters}
 use Rattle.kd_state.specs.SheetDay.{Day, OfRotors, OfPins}

@@ -1,6 +1,8 @@
 -- Patterns of lines: `_` stands for a letter, and each other byte for itself.
-use Rattle.std.specs.Prelude.{◌≡◌, ◌≢◌, ◌⊎◌, ℕ, ◌+◌, ◌-◌, ◌==◌, ◌&&◌, nat_le, Bool, List, [], ◌∷◌, ◌++◌, length, drop, slice_index, if◌then◌else◌}
+use Rattle.std.specs.Prelude.{◌≢◌, ℕ, ◌+◌, ◌-◌, ◌==◌, ◌&&◌, nat_le, Bool, List, [], ◌∷◌, ◌++◌, drop, slice_index, if◌then◌else◌}
 use Rattle.kd_state.specs.Machine.{AreLetters}
+use Rattle.kd_form.specs.declared.pattern_line.Unread.{Unread}
+use Rattle.kd_form.specs.declared.pattern_line.Unread.TheVariants.{Open, Off}
 use Rattle.kd_form.specs.Order.{IsEnded}
 
 -- the pattern with these letters in the places of its `_`, each with the next one
@@ -20,23 +22,15 @@ pub record IsPatternLine (pattern bytes : List ℕ) : Type 0 where
   pub are_letters : AreLetters (blanks pattern) letters
   pub ended : IsEnded (filled_in pattern letters) bytes
 
--- the bytes begin with the line of that pattern with these letters, and this follows
-pub record BeginsWithPattern (pattern bytes letters rest : List ℕ) : Type 0 where
-  pub line : List ℕ
-  pub joined : bytes ≡ line ++ rest
+-- the bytes are the line of that pattern with these letters
+pub record IsFilledLine (pattern letters bytes : List ℕ) : Type 0 where
   pub are_letters : AreLetters (blanks pattern) letters
-  pub ended : IsEnded (filled_in pattern letters) line
+  pub ended : IsEnded (filled_in pattern letters) bytes
 
--- So many of the bytes begin such a line, and are not yet one; with the next byte, if there is one, no such line begins.
-pub record LineBreaksOff (IsLine : List ℕ → Type 0) (bytes : List ℕ) (place : ℕ) : Type 0 where
-  pub before : List ℕ
-  pub rest : List ℕ
-  pub joined : bytes ≡ before ++ rest
-  pub size : place ≡ length before
-  pub more : List ℕ
-  pub missing : more ≢ []
-  pub begins : IsLine (before ++ more)
-  pub stops : (byte : ℕ) (after line other others : List ℕ) → rest ≡ byte ∷ after → IsLine line → line ++ other ≢ before ++ byte ∷ others
+-- the bytes begin such a line, and more has to follow; or no such line begins so
+abbrev pub BreaksOff : (List ℕ → Type 0) → List ℕ → Unread → Type 0
+BreaksOff IsLine bytes Open = (more : List ℕ) × (more ≢ []) × IsLine (bytes ++ more)
+BreaksOff IsLine bytes Off = (more : List ℕ) → ¬ (IsLine (bytes ++ more))
 
 -- ---- one byte
 
@@ -47,15 +41,3 @@ fits mark byte = if mark == 95 then nat_le 65 byte && nat_le byte 90 else byte =
 -- the letter that it then gives
 abbrev pub letters_at : ℕ → ℕ → List ℕ
 letters_at mark byte = if mark == 95 then (byte - 65) ∷ [] else []
-
--- ---- the end of a line
-
--- what follows a line, if its end is there
-abbrev pub EndsBefore : List ℕ → List ℕ → Type 0
-EndsBefore bytes rest = (bytes ≡ 10 ∷ rest) ⊎ (bytes ≡ 13 ∷ 10 ∷ rest)
-
--- so many bytes begin an end of a line, and the next one doesn't go with them
-abbrev pub EndBreaksOff : List ℕ → ℕ → Type 0
-EndBreaksOff bytes place =
-    ((place ≡ 0) × ((rest : List ℕ) → (bytes ≢ 10 ∷ rest) × (bytes ≢ 13 ∷ rest)))
-    ⊎ ((place ≡ 1) × ((after : List ℕ) × (bytes ≡ 13 ∷ after) × ((rest : List ℕ) → after ≢ 10 ∷ rest)))

@@ -9,6 +9,8 @@ use Rattle.kd_form.specs.declared.keys.Keys.{Keys}
 use Rattle.kd_form.specs.declared.order_reader.head.HeadReader.{HeadReader}
 use Rattle.kd_form.specs.declared.order_reader.head.HeadStep.{HeadStep}
 use Rattle.kd_form.specs.declared.order_reader.head.HeadStep.TheVariants.{Open, Text, Bad}
+use Rattle.kd_form.specs.declared.pattern_line.Unread.{Unread}
+use Rattle.kd_form.specs.declared.pattern_line.Unread.TheVariants as unread
 use Rattle.kd_form.specs.declared.order_reader.parts.PartWriter.{PartWriter}
 use Rattle.kd_form.specs.declared.order_reader.OrderReader.{OrderReader}
 use Rattle.kd_form.specs.declared.order_reader.Stage.TheVariants as stages
@@ -34,6 +36,11 @@ abbrev pub HeadIsRead : Day → HeadReader → List ℕ → HeadStep → Type 0
 HeadIsRead s h order Open = IsHeadRead s h order
 HeadIsRead s h order Text = IsOrder s order h.keys.items order []
 HeadIsRead s h order Bad = IsHeadFault s order (length order)
+
+-- what the last byte of bytes is that are no line
+abbrev pub step_of : Unread → HeadStep
+step_of unread.Open = Open
+step_of unread.Off = Bad
 
 -- the keys of an order, all of which suit the day
 pub record AreSuitedKeys (s : Day) (keys : List Keys) : Type 0 where

@@ -1,5 +1,5 @@
 -- What an order becomes: a form, or the first fault. Parts are counted from 1, positions in bytes from 1.
-use Rattle.std.specs.Prelude.{◌≡◌, ◌≢◌, ℕ, ◌+◌, ◌-◌, ◌≤◌, ◌⊎◌, nat_le, Bool, ◌&&◌, ◌||◌, ◌==◌, List, [], ◌∷◌, ◌++◌, length, filter_map, All, IsTrue, IsFalse, Option, Some, None, if◌then◌else◌}
+use Rattle.std.specs.Prelude.{◌≡◌, ◌≢◌, ℕ, ◌+◌, ◌-◌, ◌≤◌, ◌⊎◌, ◌==◌, List, [], ◌∷◌, ◌++◌, length, filter_map, All, IsTrue, IsFalse, Option, Some, None, if◌then◌else◌}
 use Rattle.std.specs.Int.{div_ceil}
 use Rattle.kd_tables.specs.Text.{is_capital, is_text_byte}
 use Rattle.kd_state.specs.Machine.{AreOnWheels}

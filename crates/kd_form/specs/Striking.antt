@@ -1,14 +1,14 @@
 -- One step of picking the internal key.
-use Rattle.std.specs.Prelude.{◌≡◌, ℕ, List, ◌∷◌, ◌++◌, All, Contains}
+use Rattle.std.specs.Prelude.{ℕ, ◌<◌, ◌≤◌, List, length, slice_index, Contains}
 use Rattle.kd_tables.specs.Rings.{ring_of}
 
--- none of the letters is on the wheel
-abbrev pub NoneIsOnWheel : ℕ → List ℕ → Type 0
-NoneIsOnWheel wheel letters = All (λ letter. ¬ Contains (ring_of wheel) letter) letters
+-- none of the letters from that place on, and before that end, is on the wheel
+abbrev pub NoneIsOnWheel : List ℕ → ℕ → ℕ → ℕ → Type 0
+NoneIsOnWheel letters wheel start end = (k : ℕ) → start ≤ k → k < end → ¬ (Contains (ring_of wheel) (slice_index letters k))
 
--- this is the first of the letters that is on the wheel, and the rest follows it
-pub record IsNextOnWheel (wheel : ℕ) (letters : List ℕ) (letter : ℕ) (rest : List ℕ) : Type 0 where
-  pub struck : List ℕ
-  pub joined : letters ≡ struck ++ letter ∷ rest
-  pub off : NoneIsOnWheel wheel struck
-  pub on : Contains (ring_of wheel) letter
+-- the first place from this one on whose letter is on the wheel
+pub record IsNextPlace (letters : List ℕ) (wheel start place : ℕ) : Type 0 where
+  pub after : start ≤ place
+  pub inside : place < length letters
+  pub on : Contains (ring_of wheel) (slice_index letters place)
+  pub off : NoneIsOnWheel letters wheel start place

@@ -1,10 +1,12 @@
 //! A form, as it comes: one part of it is held at a time.
-ghost use Rattle.std.specs.Prelude.{codes, ◌≡◌, ◌≢◌, ◌⊎◌, ◌↔◌, ◌+◌, ◌≤◌, ℕ, List, [], ◌∷◌, ◌++◌, length, take, IsTrue, MatchResult};
+ghost use Rattle.std.specs.Prelude.{codes, ◌≡◌, ◌≢◌, ◌⊎◌, ◌↔◌, ◌+◌, ◌≤◌, ℕ, List, [], ◌∷◌, ◌++◌};
+ghost use Rattle.std.specs.Prelude.{length, take, IsTrue, MatchResult};
 ghost use Rattle.kd_form.specs.declared.heading.Heading.{Heading};
 ghost use Rattle.kd_form.specs.Receiving.{IsExpected, IsBodyText, IsBodyFault, IsPartFault};
 ghost use Rattle.kd_form.specs.FormParts.{IsHeading};
 ghost use Rattle.kd_form.specs.FormText.{form_message};
-ghost use Rattle.kd_form.specs.FormReading.{MayBegin, IsHeadingDue, IsHeadingOff, HoldsStage, HoldsForm, IsLastText};
+ghost use Rattle.kd_form.specs.FormReading.{MayBegin, IsHeadingDue, IsHeadingOff, HoldsStage};
+ghost use Rattle.kd_form.specs.FormReading.{HoldsForm, IsLastText};
 
 use super::fault::FormFault;
 use super::given::given_letters;
@@ -90,9 +92,8 @@ impl MessageReader for FormReader {
                     body.push(byte);
                     return Ok(());
                 }
-                match body.read(day, 4) {
-                    Ok(letters) => {
-                        *made = given_letters(day, letters.as_slice());
+                match body.give(day, 4, made) {
+                    Ok(()) => {
                         self.expected = Some(body.heading.parts);
                         self.number += 1;
                         self.stage = Stage::Heading(heading_from(byte));
@@ -124,10 +125,13 @@ impl FormReader {
     fn last_text(&self, day: &SheetDay) -> Result<(u8, ArrayVec<Letter, 500>), FormFault>
         requires { (part : List ℕ)
             × HoldsStage day.now self.now.stage self.now.number self.now.expected part }
-        ensures { (part : List ℕ) → HoldsStage day.now self.now.stage self.now.number self.now.expected part
+        ensures { (part : List ℕ)
+            → HoldsStage day.now self.now.stage self.now.number self.now.expected part
             → MatchResult result
-            (λ found. IsLastText day.now self.now.number self.now.expected part found.0 found.1.items)
-            (λ fault. (start : ℕ) → IsPartFault day.now self.now.number self.now.expected start part fault) }
+            (λ found. IsLastText day.now self.now.number self.now.expected part
+            found.0 found.1.items)
+            (λ fault. (start : ℕ)
+            → IsPartFault day.now self.now.number self.now.expected start part fault) }
     {
         match &self.stage {
             Stage::Heading(line) => {

@@ -1,12 +1,14 @@
 //! The line of a heading, read.
-ghost use Rattle.std.specs.Prelude.{◌≡◌, ◌≢◌, ◌⊎◌, ◌↔◌, ℕ, ◌^◌, ◌<◌, List, [], ◌∷◌, ◌++◌, codes, decimal, map, take, IsTrue, MatchOption};
+ghost use Rattle.std.specs.Prelude.{◌≡◌, ◌≢◌, ◌⊎◌, ◌↔◌, ℕ, ◌^◌, ◌<◌, List, [], ◌∷◌, ◌++◌, codes};
+ghost use Rattle.std.specs.Prelude.{decimal, map, take, IsTrue, MatchOption};
 ghost use Rattle.kd_tables.specs.Text.{letters_text};
 ghost use Rattle.kd_state.specs.Machine.{AreLetters};
 ghost use Rattle.kd_state.specs.Words.{line_of, IsWithout};
 ghost use Rattle.kd_form.specs.declared.heading.Heading.{Heading};
 ghost use Rattle.kd_form.specs.Part.{fraction, indicator_words, heading_words};
 ghost use Rattle.kd_form.specs.Order.{IsEnded};
-ghost use Rattle.kd_form.specs.FormParts.{IsFraction, AreFewLetters, IsLetterCount, IsHeading, AreHeadingWords, IsLineText};
+ghost use Rattle.kd_form.specs.FormParts.{IsFraction, AreFewLetters, IsLetterCount, IsHeading};
+ghost use Rattle.kd_form.specs.FormParts.{AreHeadingWords, IsLineText};
 ghost use Rattle.kd_form.specs.Reading.{HasIndicator};
 ghost use Rattle.kd_form.specs.Receiving.{HasHeading};
 
@@ -84,8 +86,10 @@ fn read_slots(slots: usize, word: &[u8]) -> Option<PerSlot<Letter>>
 /// The indicator that has these words, if a heading of the day can have it.
 fn read_indicator(day: &SheetDay, words: &[&[u8]]) -> Option<Option<Indicator>>
     ensures { MatchOption result
-        ((found : _) → HasIndicator day.now found → indicator_words found ≢ map (λ word. word.now) words.now)
-        (λ found. HasIndicator day.now found × (indicator_words found ≡ map (λ word. word.now) words.now)) }
+        ((found : _) → HasIndicator day.now found
+        → indicator_words found ≢ map (λ word. word.now) words.now)
+        (λ found. HasIndicator day.now found
+        × (indicator_words found ≡ map (λ word. word.now) words.now)) }
 {
     match (slots_of(day), words) {
         (None, []) => Some(None),

@@ -1,8 +1,8 @@
 //! The internal key of the Converter M-209.
-ghost use Rattle.std.specs.Prelude.{◌≡◌, ◌≤◌, ◌↔◌, IsTrue, MatchOption, Contains};
+ghost use Rattle.std.specs.Prelude.{◌≤◌, ◌↔◌, length, IsTrue, MatchOption, Contains};
 ghost use Rattle.kd_tables.specs.Rings.{ring_of};
 ghost use Rattle.kd_form.specs.InternalKey.{IsInternalKey, HaveRunOut};
-ghost use Rattle.kd_form.specs.Striking.{IsNextOnWheel, NoneIsOnWheel};
+ghost use Rattle.kd_form.specs.Striking.{IsNextPlace, NoneIsOnWheel};
 
 use arrayvec::ArrayVec;
 use kd_tables::{Letter, place_on_wheel};
@@ -15,30 +15,28 @@ pub(crate) fn internal_key(letters: &[Letter]) -> Option<ArrayVec<Letter, 6>>
         (λ key. IsInternalKey letters.now key.items) }
 {
     let mut key = ArrayVec::new();
-    let mut rest = letters;
+    let mut start = 0;
     for wheel in 1..7 {
-        let Some((letter, after)) = next_on_wheel(wheel, rest) else {
+        let Some(place) = next_on_wheel(wheel, start, letters) else {
             return None;
         };
-        key.push(letter);
-        rest = after;
+        key.push(letters[place]);
+        start = place + 1;
     }
     Some(key)
 }
 
-/// The first of the letters that is on the wheel, and those that follow it.
-fn next_on_wheel(wheel: u8, letters: &[Letter]) -> Option<(Letter, &[Letter])>
+/// The first place, from that one on, whose letter is on the wheel.
+fn next_on_wheel(wheel: u8, start: usize, letters: &[Letter]) -> Option<usize>
     requires { (1 ≤ wheel) × (wheel ≤ 6) }
     ensures { MatchOption result
-        (NoneIsOnWheel wheel letters.now)
-        (λ found. IsNextOnWheel wheel letters.now found.0 found.1.now) }
+        (NoneIsOnWheel letters.now wheel start (length letters.now))
+        (IsNextPlace letters.now wheel start) }
 {
-    let mut rest = letters;
-    while let [letter, after @ ..] = rest {
-        if is_on_wheel(wheel, *letter) {
-            return Some((*letter, after));
+    for place in start..letters.len() {
+        if is_on_wheel(wheel, letters[place]) {
+            return Some(place);
         }
-        rest = after;
     }
     None
 }

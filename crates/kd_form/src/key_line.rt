@@ -1,24 +1,28 @@
 //! The line of an order that gives the keys of a part.
-ghost use Rattle.std.specs.Prelude.{◌≡◌, ◌≤◌, ◌+◌, ◌⊎◌, List, ℕ, ◌++◌, ◌∷◌, length, MatchOption, MatchResult};
+ghost use Rattle.std.specs.Prelude.{◌≡◌, ◌≤◌, ◌+◌, ◌⊎◌, List, ℕ, ◌++◌, ◌∷◌, length, MatchOption};
+ghost use Rattle.std.specs.Prelude.{MatchResult, ◌<◌, []};
 ghost use Rattle.kd_state.specs.Machine.{AreLetters};
 ghost use Rattle.kd_form.specs.Keys.{AreKeys, AreRotorKeys, ArePinKeys};
-ghost use Rattle.kd_form.specs.Patterns.{blanks, LineBreaksOff};
-ghost use Rattle.kd_form.specs.KeyPatterns.{key_pattern, key_letters, BeginsWithKeys, IsAnyKeyLine, HasSlots, HasPins};
+ghost use Rattle.kd_form.specs.declared.keys.Keys.{Keys};
+ghost use Rattle.kd_form.specs.Order.{IsKeyLine};
+ghost use Rattle.kd_form.specs.Patterns.{blanks, BreaksOff};
+ghost use Rattle.kd_form.specs.KeyPatterns.{key_pattern, key_letters, IsAnyKeyLine, HasSlots};
+ghost use Rattle.kd_form.specs.KeyPatterns.{HasPins};
 
 use super::keys::{Keys, PinKeys, RotorKeys};
-use super::pattern_line::read_pattern;
+use super::pattern_line::{Unread, read_pattern};
 use kd_state::{PerSlot, SheetDay};
 use kd_tables::Letter;
 
-/// The keys in the line at the front of the bytes, and what follows its end. The error is how many bytes begin such a line.
-pub(crate) fn read_keys<'a>(day: &SheetDay, bytes: &'a [u8]) -> Result<(Keys, &'a [u8]), usize>
+/// The keys in the line, with its end. They come in a tuple, as the prover can't carry them alone.
+pub(crate) fn read_keys(day: &SheetDay, bytes: &[u8]) -> Result<(Keys,), Unread>
     ensures { MatchResult result
-        (λ found. BeginsWithKeys day.now bytes.now found.0 found.1.now)
-        (λ place. LineBreaksOff (IsAnyKeyLine day.now) bytes.now place) }
+        (λ read. AreKeys day.now read.0 × IsKeyLine read.0 bytes.now)
+        (BreaksOff (IsAnyKeyLine day.now) bytes.now) }
 {
     match read_pattern(key_pattern(day), bytes) {
-        Ok((letters, rest)) => Ok((keys_of(day, letters.as_slice()), rest)),
-        Err(place) => Err(place),
+        Ok(letters) => Ok((keys_of(day, letters.as_slice()),)),
+        Err(why) => Err(why),
     }
 }
 

@@ -1,8 +1,10 @@
 //! What holds of orders and forms.
 ghost use Rattle.kd_form.specs.Laws.{OrderIsAnswered, FormIsAnswered};
-ghost use Rattle.kd_form.specs.Laws.{OrdersBecomeOneForm, OrdersHaveOneFault, SentOrdersHaveNoFault};
+ghost use Rattle.kd_form.specs.Laws.{OrdersBecomeOneForm, OrdersHaveOneFault};
+ghost use Rattle.kd_form.specs.Laws.{SentOrdersHaveNoFault};
 ghost use Rattle.kd_form.specs.Laws.{OrdersStayRefused};
-ghost use Rattle.kd_form.specs.Laws.{FormsBecomeOneText, FormsHaveOneFault, ReceivedFormsHaveNoFault, FormsStayRefused};
+ghost use Rattle.kd_form.specs.Laws.{FormsBecomeOneText, FormsHaveOneFault};
+ghost use Rattle.kd_form.specs.Laws.{ReceivedFormsHaveNoFault, FormsStayRefused};
 ghost use Rattle.kd_form.specs.Laws.{OrdersGiveLetters, FormsGiveTheirOrders};
 
 use super::form_reader::FormReader;

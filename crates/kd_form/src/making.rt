@@ -5,7 +5,8 @@ ghost use Rattle.kd_form.specs.InternalKey.{IsInternalKey, HaveRunOut};
 ghost use Rattle.kd_form.specs.Keys.{AreKeys};
 ghost use Rattle.kd_form.specs.Part.{part_text};
 ghost use Rattle.kd_form.specs.Making.{Suits, IsMadeText, part_of, part_size};
-ghost use Rattle.kd_form.specs.Making.{indicator_of, rotor_letters, enciphered_choice, pin_indicators, pin_letters, filled};
+ghost use Rattle.kd_form.specs.Making.{indicator_of, rotor_letters, enciphered_choice};
+ghost use Rattle.kd_form.specs.Making.{pin_indicators, pin_letters, filled};
 
 use super::body::push_body;
 use super::cipher::{encipher, enciphered, push_letters};
@@ -100,7 +101,8 @@ fn pin_letters(day: &SheetDay, keys: &PinKeys, text: &[Letter]) -> ArrayVec<Lett
     requires keys { AreKeys day.now (Keys.Pin keys.now) }
     requires suits { Suits day.now (Keys.Pin keys.now) }
     requires few { length text.now ≤ 500 }
-    ensures value { (internal : List ℕ) × IsInternalKey (enciphered_choice day.now keys.now) internal
+    ensures value { (internal : List ℕ)
+        × IsInternalKey (enciphered_choice day.now keys.now) internal
         × (result.items ≡ pin_letters day.now keys.now internal text.now) }
     ensures few { length result.items ≤ 520 }
 {

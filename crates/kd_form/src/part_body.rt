@@ -1,5 +1,7 @@
 //! The body of a part of a form, as it comes.
-ghost use Rattle.std.specs.Prelude.{codes, ◌≡◌, ◌↔◌, ◌<◌, ◌≤◌, ℕ, List, [], ◌∷◌, ◌++◌, length, take, slice_index, IsTrue, MatchResult, MatchOption, None, Some};
+ghost use Rattle.std.specs.Prelude.{codes, ◌≡◌, ◌↔◌, ◌<◌, ◌≤◌, ℕ, List, [], ◌∷◌, ◌++◌, length};
+ghost use Rattle.std.specs.Prelude.{take, slice_index, IsTrue, MatchResult, MatchOption, None};
+ghost use Rattle.std.specs.Prelude.{Some};
 ghost use Rattle.std.specs.Option.{option_to_list};
 ghost use Rattle.kd_tables.specs.Text.{is_text_byte};
 ghost use Rattle.kd_state.specs.Words.{line_of};
@@ -8,12 +10,14 @@ ghost use Rattle.kd_form.specs.Part.{heading_words};
 ghost use Rattle.kd_form.specs.Sending.{letters_from};
 ghost use Rattle.kd_form.specs.FormParts.{IsHeading};
 ghost use Rattle.kd_form.specs.Receiving.{IsBodyText, IsBodyFault};
-ghost use Rattle.kd_form.specs.FormReading.{IsNextLine, Begins, HoldsBody};
+ghost use Rattle.kd_form.specs.FormReading.{IsNextLine, Begins, HoldsBody, IsBodyGiven};
 
 use super::fault::FormFault;
+use super::given::given_letters;
 use super::heading::Heading;
 use super::keeping::keep;
 use super::reading::read_body;
+use super::stream::reader::Made;
 use super::text::letter_of_byte;
 use arrayvec::ArrayVec;
 use kd_state::SheetDay;
@@ -63,7 +67,7 @@ impl PartBody {
             → HoldsBody s self.new (part ++ byte ∷ []) (body ++ byte ∷ []) }
     {
         keep_letter(&mut self.letters, letter_of_byte(&None, byte));
-        self.begun = next_begun(self.begun, byte);
+        mark(&mut self.begun, byte);
     }
 
     /// The letters of the part's text. The last ones of the body, so many, are left out: those of the next heading.
@@ -85,6 +89,33 @@ impl PartBody {
         let (letters, _) = letters.split_at(letters.len() - others);
         read_body(day, &self.heading, letters)
     }
+
+    /// Tells the same letters as they are given. It stands apart, as the bytes before the last one have no room to be made
+    /// for them.
+    #[inline(never)]
+    pub(crate) fn give(
+        &self,
+        day: &SheetDay,
+        others: usize,
+        made: &mut Made,
+    ) -> Result<(), FormFault>
+        requires heading { IsHeading day.now self.now.heading }
+        requires some { others ≤ length self.now.letters.items }
+        requires few { others ≤ 4 }
+        ensures { (letters more : List ℕ) → length more ≡ others
+            → self.now.letters.items ≡ take 525 (letters ++ more)
+            → MatchResult result
+            (λ _. IsBodyGiven day.now self.now.heading letters made.new.items)
+            (IsBodyFault day.now self.now.heading.part self.now.heading letters) }
+    {
+        match self.read(day, others) {
+            Ok(letters) => {
+                *made = given_letters(day, letters.as_slice());
+                Ok(())
+            }
+            Err(fault) => Err(fault),
+        }
+    }
 }
 
 /// Keeps the letter, if there is one.
@@ -97,9 +128,21 @@ fn keep_letter(letters: &mut ArrayVec<Letter, KEPT>, letter: Option<Letter>)
     }
 }
 
+/// Marks the byte. Where it changes nothing, nothing is written, and the next byte needn't wait for it.
+fn mark(begun: &mut Option<usize>, byte: u8)
+    ensures { (line next : List ℕ) → Begins line begun.old → IsNextLine line byte next
+        → Begins next begun.new }
+{
+    if begun.is_none() && byte != b'\n' {
+        return;
+    }
+    *begun = next_begun(*begun, byte);
+}
+
 /// How many bytes of `PART ` a line has behind that byte, if it has no others.
 fn next_begun(begun: Option<usize>, byte: u8) -> Option<usize>
-    ensures { (line next : List ℕ) → Begins line begun → IsNextLine line byte next → Begins next result }
+    ensures { (line next : List ℕ) → Begins line begun → IsNextLine line byte next
+        → Begins next result }
 {
     if byte == b'\n' {
         return Some(0);

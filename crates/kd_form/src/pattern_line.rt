@@ -1,9 +1,10 @@
 //! Patterns of lines: `_` stands for a letter, and each other byte for itself.
-ghost use Rattle.std.specs.Prelude.{◌≡◌, ◌≤◌, ◌<◌, ◌++◌, MatchResult};
+ghost use Rattle.std.specs.Prelude.{◌≡◌, ◌≤◌, ◌<◌, [], ◌++◌, MatchResult};
 ghost use Rattle.std.specs.Bool.{OnTrue, OnFalse};
 ghost use Rattle.arrayvec.specs.ArrayVec.{array_vec_len};
-ghost use Rattle.kd_form.specs.Patterns.{blanks, fits, letters_at, BeginsWithPattern, IsPatternLine, LineBreaksOff};
-ghost use Rattle.kd_form.specs.Patterns.{EndsBefore, EndBreaksOff};
+ghost use Rattle.kd_form.specs.Order.{IsEnded};
+ghost use Rattle.kd_form.specs.Patterns.{blanks, fits, letters_at, IsFilledLine, IsPatternLine};
+ghost use Rattle.kd_form.specs.Patterns.{BreaksOff};
 
 use arrayvec::ArrayVec;
 use kd_tables::Letter;
@@ -11,29 +12,34 @@ use kd_tables::Letter;
 /// No pattern takes more letters than the line of a part's keys on four wheels.
 const MOST: usize = 13;
 
-/// The letters of the line of that pattern at the front of the bytes, and what follows its end. The error is how many bytes
-/// begin such a line.
-pub(crate) fn read_pattern<'a>(
-    pattern: &[u8],
-    bytes: &'a [u8],
-) -> Result<(ArrayVec<Letter, MOST>, &'a [u8]), usize>
+/// Why bytes are no line.
+#[derive(Clone, Copy, Debug, PartialEq, Eq)]
+pub(crate) enum Unread {
+    /// More has to follow.
+    Open,
+    /// No line begins so.
+    Off,
+}
+
+/// The letters of the line of that pattern, with its end.
+pub(crate) fn read_pattern(pattern: &[u8], bytes: &[u8]) -> Result<ArrayVec<Letter, MOST>, Unread>
     requires { blanks pattern.now ≤ 13 }
     ensures { MatchResult result
-        (λ found. BeginsWithPattern pattern.now bytes.now found.0.items found.1.now)
-        (λ place. LineBreaksOff (IsPatternLine pattern.now) bytes.now place) }
+        (λ letters. IsFilledLine pattern.now letters.items bytes.now)
+        (BreaksOff (IsPatternLine pattern.now) bytes.now) }
 {
     let mut letters = ArrayVec::new();
     for (place, mark) in pattern.iter().enumerate() {
         let Some(byte) = bytes.get(place) else {
-            return Err(place);
+            return Err(Unread::Open);
         };
         if !take_letter(&mut letters, *mark, *byte) {
-            return Err(place);
+            return Err(Unread::Off);
         }
     }
     match read_end(&bytes[pattern.len()..]) {
-        Ok(rest) => Ok((letters, rest)),
-        Err(place) => Err(pattern.len() + place),
+        Ok(()) => Ok(letters),
+        Err(why) => Err(why),
     }
 }
 
@@ -56,16 +62,17 @@ fn take_letter(letters: &mut ArrayVec<Letter, MOST>, mark: u8, byte: u8) -> bool
     }
 }
 
-/// What follows the end of a line: LF, or CR and LF. The error is how many bytes begin one.
-fn read_end(bytes: &[u8]) -> Result<&[u8], usize>
+/// Refuses what isn't the end of a line: LF, or CR and LF.
+fn read_end(bytes: &[u8]) -> Result<(), Unread>
     ensures { MatchResult result
-        (λ rest. EndsBefore bytes.now rest.now)
-        (EndBreaksOff bytes.now) }
+        (λ _. IsEnded [] bytes.now)
+        (BreaksOff (IsEnded []) bytes.now) }
 {
     match bytes {
-        [b'\n', rest @ ..] => Ok(rest),
-        [b'\r', b'\n', rest @ ..] => Ok(rest),
-        [b'\r', ..] => Err(1),
-        _ => Err(0),
+        [b'\n'] => Ok(()),
+        [b'\r', b'\n'] => Ok(()),
+        [] => Err(Unread::Open),
+        [b'\r'] => Err(Unread::Open),
+        _ => Err(Unread::Off),
     }
 }

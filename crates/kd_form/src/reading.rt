@@ -1,6 +1,8 @@
 //! The letters of a part's body, read.
-ghost use Rattle.std.specs.Prelude.{◌≡◌, ◌+◌, ◌^◌, ◌<◌, ◌≤◌, ◌↔◌, Some, length, IsTrue, MatchResult};
-ghost use Rattle.kd_form.specs.Reading.{HasIndicator, IsLettersText, IsLettersFault, IsRotorText, IsRotorFault, IsPinText, IsPinFault};
+ghost use Rattle.std.specs.Prelude.{◌≡◌, ◌+◌, ◌^◌, ◌<◌, ◌≤◌, ◌↔◌, Some, length, IsTrue};
+ghost use Rattle.std.specs.Prelude.{MatchResult};
+ghost use Rattle.kd_form.specs.Reading.{HasIndicator, IsLettersText, IsLettersFault, IsRotorText};
+ghost use Rattle.kd_form.specs.Reading.{IsRotorFault, IsPinText, IsPinFault};
 ghost use Rattle.kd_form.specs.KeyPatterns.{HasPins};
 ghost use Rattle.kd_form.specs.FormParts.{IsHeading, IsLetterCount};
 ghost use Rattle.kd_form.specs.Receiving.{IsBodyText, IsBodyFault};

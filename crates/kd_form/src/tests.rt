@@ -1,3 +1,6 @@
+mod cut_forms;
+mod failing;
+mod limits;
 mod long_texts;
 mod receiving;
 mod samples;

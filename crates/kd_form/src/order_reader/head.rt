@@ -1,11 +1,10 @@
 //! The lines of an order up to its text, byte by byte.
-ghost use Rattle.std.specs.Prelude.{◌≡◌, ◌==◌, ◌↔◌, IsTrue, slice_index, List, ℕ, [], ◌∷◌, ◌++◌, length, if◌then◌else◌};
-ghost use Rattle.kd_form.specs.declared.order_reader.head.HeadStep.TheVariants.{Open, Bad};
-ghost use Rattle.kd_form.specs.SendSteps.{IsHeadRead, HeadIsRead};
+ghost use Rattle.std.specs.Prelude.{◌≡◌, ◌↔◌, IsTrue, slice_index, List, ℕ, [], ◌∷◌, ◌++◌};
+ghost use Rattle.kd_form.specs.SendSteps.{IsHeadRead, HeadIsRead, step_of};
 
 use crate::key_line::{key_lines_are_short, read_keys};
 use crate::keys::Keys;
-use crate::pattern_line::read_pattern;
+use crate::pattern_line::{Unread, read_pattern};
 use arrayvec::ArrayVec;
 use kd_state::SheetDay;
 use kd_state::laws::texts_tell_first_parts;
@@ -51,7 +50,8 @@ impl HeadReader {
         self.keys.as_slice()
     }
 
-    /// Takes the next byte.
+    /// Takes the next byte. It stands apart, as a byte of the text would make room for what this one keeps.
+    #[inline(never)]
     pub(crate) fn take(&mut self, day: &SheetDay, byte: u8) -> HeadStep
         requires { (order : List ℕ) × IsHeadRead day.now self.old order }
         ensures { (order : List ℕ) → IsHeadRead day.now self.old order
@@ -63,17 +63,17 @@ impl HeadReader {
         let line = self.line.as_slice();
         if is_key_line(line) && !self.keys.is_full() {
             match read_keys(day, line) {
-                Ok((keys, _)) => {
+                Ok((keys,)) => {
                     self.keys.push(keys);
                     self.line.clear();
                     HeadStep::Open
                 }
-                Err(place) => step_at(line, place),
+                Err(why) => step_of(why),
             }
         } else {
             match read_pattern(b"TEXT", line) {
                 Ok(_) => HeadStep::Text,
-                Err(place) => step_at(line, place),
+                Err(why) => step_of(why),
             }
         }
     }
@@ -89,13 +89,12 @@ fn is_key_line(bytes: &[u8]) -> bool
     }
 }
 
-/// What the last byte of a line is, if so many of its bytes begin one.
-fn step_at(line: &[u8], place: usize) -> HeadStep
-    ensures { result ≡ (if place == length line.now then Open else Bad) }
+/// What the last byte of bytes is that are no line.
+fn step_of(why: Unread) -> HeadStep
+    ensures { result ≡ step_of why }
 {
-    if place == line.len() {
-        HeadStep::Open
-    } else {
-        HeadStep::Bad
+    match why {
+        Unread::Open => HeadStep::Open,
+        Unread::Off => HeadStep::Bad,
     }
 }

@@ -1,5 +1,6 @@
 //! The letters of an order's text, and the parts that are made of them.
-ghost use Rattle.std.specs.Prelude.{◌≡◌, ◌<◌, ◌≤◌, ◌+◌, ◌^◌, List, ℕ, [], ◌∷◌, ◌++◌, length, Some, slice_get};
+ghost use Rattle.std.specs.Prelude.{◌≡◌, ◌<◌, ◌≤◌, ◌+◌, ◌^◌, List, ℕ, [], ◌∷◌, ◌++◌, length, Some};
+ghost use Rattle.std.specs.Prelude.{slice_get};
 ghost use Rattle.kd_form.specs.declared.keys.Keys.{Keys};
 ghost use Rattle.kd_form.specs.Making.{IsMadeText, part_size};
 ghost use Rattle.kd_form.specs.SendSteps.{AreSuitedKeys, AreTaken, IsLastTaken, IsFresh};
@@ -86,7 +87,8 @@ impl PartWriter {
         requires few { length self.old.letters.items ≤ part_size day.now }
         requires empty { made.old.items ≡ [] }
         ensures made { (k : Keys) × (slice_get keys.now self.old.written ≡ Some k)
-            × IsMadeText day.now (self.old.written + 1) (length keys.now) k self.old.letters.items made.new.items }
+            × IsMadeText day.now (self.old.written + 1) (length keys.now) k
+            self.old.letters.items made.new.items }
         ensures letters { self.new.letters.items ≡ [] }
         ensures count { self.new.count ≡ self.old.count }
         ensures written { self.new.written ≡ self.old.written + 1 }

@@ -1,7 +1,8 @@
 //! A message, piece by piece.
-ghost use Rattle.std.specs.Prelude.{◌≡◌, ◌<◌, ◌≤◌, ◌||◌, [], ◌∷◌, length};
+ghost use Rattle.std.specs.Prelude.{◌≡◌, ◌<◌, ◌≤◌, ◌||◌, [], ◌∷◌, length, OnOk};
 ghost use Rattle.kd_tables.specs.Ports.{port};
-ghost use Rattle.kd_form.specs.StreamSteps.{HasRoom, FeedsAll, ClosesAt, ClosesAs, ReadsNext, stops_at_device};
+ghost use Rattle.kd_form.specs.StreamSteps.{HasRoom, FeedsAll, ClosesAt, ClosesAs, ReadsNext};
+ghost use Rattle.kd_form.specs.StreamSteps.{stops_at_device};
 
 use super::reader::{Made, MessageReader};
 use super::stop::Stop;
@@ -21,12 +22,14 @@ pub(crate) fn feed_all<M: MessageReader, W: Sink>(
     sink: &mut W,
 ) -> Result<(), Stop>
     requires { HasRoom (M.message day.now) (M.holds day.now reader.old) (length bytes.now) }
-    ensures fed { FeedsAll (M.message day.now) (M.holds day.now reader.old) (M.holds day.now reader.new)
+    ensures fed { FeedsAll (M.message day.now)
+        (M.holds day.now reader.old) (M.holds day.now reader.new)
         bytes.now (port W.taken W.has_failed sink.old sink.new) result }
     ensures failed { W.has_failed sink.new ≡ (W.has_failed sink.old || stops_at_device result) }
 {
+    let mut made: Made = ArrayVec::new();
     for byte in bytes {
-        match feed_one(reader, day, *byte, sink) {
+        match feed_one(reader, day, *byte, &mut made, sink) {
             Ok(()) => {}
             Err(stop) => return Err(stop),
         }
@@ -39,20 +42,26 @@ fn feed_one<M: MessageReader, W: Sink>(
     reader: &mut M,
     day: &SheetDay,
     byte: u8,
+    made: &mut Made,
     sink: &mut W,
 ) -> Result<(), Stop>
-    requires { HasRoom (M.message day.now) (M.holds day.now reader.old) 1 }
-    ensures fed { FeedsAll (M.message day.now) (M.holds day.now reader.old) (M.holds day.now reader.new)
+    requires room { HasRoom (M.message day.now) (M.holds day.now reader.old) 1 }
+    requires empty { made.old.items ≡ [] }
+    ensures fed { FeedsAll (M.message day.now)
+        (M.holds day.now reader.old) (M.holds day.now reader.new)
         (byte ∷ []) (port W.taken W.has_failed sink.old sink.new) result }
     ensures failed { W.has_failed sink.new ≡ (W.has_failed sink.old || stops_at_device result) }
+    ensures emptied { OnOk result (made.new.items ≡ []) }
 {
-    let mut made: Made = ArrayVec::new();
-    match reader.feed(day, byte, &mut made) {
+    match reader.feed(day, byte, made) {
         Ok(()) => {}
         Err(fault) => return Err(Stop::Refused(fault)),
     }
     match put_all(sink, made.as_slice()) {
-        Ok(()) => Ok(()),
+        Ok(()) => {
+            made.clear();
+            Ok(())
+        }
         Err(_) => Err(Stop::Device),
     }
 }
@@ -104,7 +113,8 @@ pub(crate) fn read_next<M: MessageReader, R: Source, W: Sink>(
 ) -> Result<usize, Stop>
     requires some { 0 < room }
     requires room { HasRoom (M.message day.now) (M.holds day.now reader.old) room }
-    ensures { ReadsNext (M.message day.now) (M.holds day.now reader.old) (M.holds day.now reader.new) room
+    ensures { ReadsNext (M.message day.now)
+        (M.holds day.now reader.old) (M.holds day.now reader.new) room
         (port R.remaining R.has_failed source.old source.new)
         (port W.taken W.has_failed sink.old sink.new) result }
 {
@@ -122,7 +132,8 @@ fn read_into<M: MessageReader, R: Source, W: Sink>(
 ) -> Result<usize, Stop>
     requires some { 0 < length buffer.now }
     requires room { HasRoom (M.message day.now) (M.holds day.now reader.old) (length buffer.now) }
-    ensures { ReadsNext (M.message day.now) (M.holds day.now reader.old) (M.holds day.now reader.new)
+    ensures { ReadsNext (M.message day.now)
+        (M.holds day.now reader.old) (M.holds day.now reader.new)
         (length buffer.old) (port R.remaining R.has_failed source.old source.new)
         (port W.taken W.has_failed sink.old sink.new) result }
 {

@@ -21,7 +21,8 @@ pub(crate) fn bytes_of<M: MessageReader + Drop>(
 ) -> Result<Vec<u8>, FormFault>
     ensures { MatchResult result
         (λ text. (M.message day.now).becomes message.now text.items)
-        (IsRefusal ((M.message day.now).refused message.now) (HasText (M.message day.now) message.now)) }
+        (IsRefusal ((M.message day.now).refused message.now)
+        (HasText (M.message day.now) message.now)) }
 {
     let mut kept = Kept::new(alloc);
     match write_whole::<M, Kept>(day, message, &mut kept) {

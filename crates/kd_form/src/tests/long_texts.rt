@@ -1,5 +1,6 @@
 use super::samples::{KEYS, Keyed, M1, keyed, order_of, without_pins};
-use crate::{FormFault, receive, send};
+use crate::{FormFault, receive, receive_stream, send};
+use kd_tables::{MemorySink, MemorySource};
 use std::test::Fail;
 
 /// A line of keys for the day of the Converter without pins.
@@ -58,9 +59,14 @@ fn parts_are_missing_or_exchanged(rt: HostRuntime) -> Result<(), Fail> {
     let mut exchanged = Vec::new(rt.alloc());
     exchanged.extend_from_slice(second)?;
     exchanged.extend_from_slice(first)?;
-    for form in [first, exchanged.as_slice()] {
+    for (form, letters) in [(first, 245), (exchanged.as_slice(), 0)] {
         let fault = receive(rt.alloc(), machine, day, form).err();
         assert_eq!(rt; fault, Some(FormFault::PartOrder));
+        let mut source = MemorySource::new(form, 7, None);
+        let mut sink = MemorySink::<512>::new(512);
+        let fault = receive_stream(machine, day, &mut source, &mut sink).err();
+        assert_eq!(rt; fault, Some(FormFault::PartOrder));
+        assert!(rt; is_given(sink.taken(), letters, b""));
     }
     Ok(())
 }

@@ -1,18 +1,11 @@
 use super::samples::{
-    Keyed, M1, M1_OF_1941, M1_OFF_KEY, M1_UNREADY, M1_WITH_ANOTHER_GROUP, M4, M4_OF_1942, keyed,
-    with_one_pin, without_pins,
+    Keyed, M1, M1_OF_1941, M1_OFF_KEY, M1_UNREADY, M1_WITH_ANOTHER_GROUP, M4, M4_OF_1942, MESSAGE,
+    keyed, with_one_pin, without_pins,
 };
 use crate::{FormFault, receive};
 use std::alloc::Global;
 use std::process::Abort;
 use std::test::Fail;
-
-/// A message of 1941.
-const MESSAGE: &[u8] = b"PART 1/1 179 WXC KCH\n\
-    RFUGZ EDPUD NRGYS ZRCXN UYTPO MRMBO FKTBZ REZKM LXLVE FGUEY\n\
-    SIOZV EQMIK UBPMM YLKLT TDEIS MDICA GYKUA CTCDO MOHWX MUUIA\n\
-    UBSTS LRNBZ SZWNR FXWFY SSXJZ VIJHI DISHP RKLKA YUPAD TXQSP\n\
-    INQMA TLPIF SVKDA SCTAC DPBOP VHJK\n";
 
 /// The text of the form, or what it is refused for.
 fn text(rt: &HostRuntime, (machine, day): &Keyed, form: &[u8]) -> Result<Vec<u8>, FormFault> {
@@ -74,20 +67,6 @@ fn a_message_of_1941(rt: HostRuntime) -> Result<(), Fail> {
     let also = text(&rt, &keyed, &MESSAGE[..whole])?;
     assert_eq!(rt; also.as_slice(), given.as_slice());
     Ok(())
-}
-
-/// Up to its heading's end a message has no heading, and then too few letters.
-#[test]
-fn a_message_that_breaks_off(rt: HostRuntime) {
-    let keyed = keyed(&rt, &M1_OF_1941);
-    for cut in 0..MESSAGE.len() - 1 {
-        let due = if cut < 20 {
-            FormFault::BadHeading(1)
-        } else {
-            FormFault::CountWrong(1)
-        };
-        assert_eq!(rt; fault(&rt, &keyed, &MESSAGE[..cut]), Some(due));
-    }
 }
 
 #[test]

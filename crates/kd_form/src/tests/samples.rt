@@ -347,3 +347,14 @@ pub fn order_of(
 
 /// A line of keys for M1's day with the group ZUG.
 pub const KEYS: &[u8] = b"PART AAA AAA QX UGZ\n";
+
+/// A message of 1941.
+pub const MESSAGE: &[u8] = b"PART 1/1 179 WXC KCH\n\
+    RFUGZ EDPUD NRGYS ZRCXN UYTPO MRMBO FKTBZ REZKM LXLVE FGUEY\n\
+    SIOZV EQMIK UBPMM YLKLT TDEIS MDICA GYKUA CTCDO MOHWX MUUIA\n\
+    UBSTS LRNBZ SZWNR FXWFY SSXJZ VIJHI DISHP RKLKA YUPAD TXQSP\n\
+    INQMA TLPIF SVKDA SCTAC DPBOP VHJK\n";
+
+/// A form of two parts, each with the text AAAAA.
+pub const TWO_PARTS: &[u8] =
+    b"PART 1/2 10 AAA BDZ\nQXUGZ BDZGO\nPART 2/2 10 AAA BDZ\nQXUGZ BDZGO\n";

@@ -1,7 +1,7 @@
 //! Orders that are sent as they come.
 use super::samples::{KEYS, Keyed, M1, M4, keyed, order_of, with_one_pin, without_pins};
 use crate::{FormFault, send, send_stream};
-use kd_tables::{Failed, MemorySink, MemorySource, Source};
+use kd_tables::{MemorySink, MemorySource};
 use std::process::Abort;
 use std::test::Fail;
 
@@ -78,13 +78,13 @@ fn orders_are_sent_as_they_come(rt: HostRuntime) {
     are_sent(&rt, &with_one_pin(&rt), &WITH_ONE_PIN);
 }
 
-/// What is written of an order in pieces of 7 bytes, and its fault.
+/// What is written of an order in pieces of so many bytes, and its fault.
 fn sent(
     (machine, day): &Keyed,
     order: &[u8],
-    fail_at: Option<usize>,
+    piece: usize,
 ) -> (MemorySink<1024>, Option<FormFault>) {
-    let mut source = MemorySource::new(order, 7, fail_at);
+    let mut source = MemorySource::new(order, piece.max(1), None);
     let mut sink = MemorySink::new(1024);
     let answer = send_stream(machine, day, &mut source, &mut sink);
     (sink, answer.err())
@@ -94,105 +94,26 @@ fn sent(
 fn two_parts_are_sent_as_they_come(rt: HostRuntime) -> Result<(), Fail> {
     let keyed = keyed(&rt, &M1);
     let order = order_of(&rt, KEYS, 2, 246)?;
-    let (sink, fault) = sent(&keyed, order.as_slice(), None);
-    assert_eq!(rt; fault, None);
-    let (machine, day) = &keyed;
-    let form = send(rt.alloc(), machine, day, order.as_slice())?;
-    assert!(rt; form.as_slice() == sink.taken());
+    let form = send(rt.alloc(), &keyed.0, &keyed.1, order.as_slice())?;
+    for piece in &PIECES {
+        let (sink, fault) = sent(&keyed, order.as_slice(), *piece);
+        assert_eq!(rt; fault, None);
+        assert!(rt; form.as_slice() == sink.taken());
+    }
     Ok(())
 }
 
-/// Too many lines of keys: the first part is out by then.
+/// With too many lines of keys the first part is out by then, and with too few nothing is.
 #[test]
-fn a_part_is_out_when_keys_are_left(rt: HostRuntime) -> Result<(), Fail> {
-    let order = order_of(&rt, KEYS, 3, 300)?;
-    let (sink, fault) = sent(&keyed(&rt, &M1), order.as_slice(), None);
-    let due = FormFault::PartKeys {
-        needed: 2,
-        given: 3,
-    };
-    assert_eq!(rt; fault, Some(due));
-    assert!(rt;
-        sink.taken()
-            .starts_with(b"PART 1/3 250 AAA BDZ\nQXUGZ BDZGO ")
-    );
-    assert_eq!(rt; sink.taken().len(), 321);
-    Ok(())
-}
-
-/// Too few: nothing is.
-#[test]
-fn no_part_is_out_when_keys_are_missing(rt: HostRuntime) -> Result<(), Fail> {
-    let order = order_of(&rt, KEYS, 1, 246)?;
-    let (sink, fault) = sent(&keyed(&rt, &M1), order.as_slice(), None);
-    let due = FormFault::PartKeys {
-        needed: 2,
-        given: 1,
-    };
-    assert_eq!(rt; fault, Some(due));
-    assert!(rt; sink.taken().is_empty());
-    Ok(())
-}
-
-/// The 246th letter comes with the 42nd get, and then the first part is out.
-#[test]
-fn each_get_fails_in_turn(rt: HostRuntime) -> Result<(), Fail> {
+fn parts_are_out_when_keys_are_left(rt: HostRuntime) -> Result<(), Fail> {
     let keyed = keyed(&rt, &M1);
-    let order = order_of(&rt, KEYS, 2, 246)?;
-    for gets in 0..42 {
-        let (sink, fault) = sent(&keyed, order.as_slice(), Some(gets));
-        assert_eq!(rt; fault, Some(FormFault::Device));
-        assert!(rt; sink.taken().is_empty());
+    for (given, letters, length) in [(3, 300, 321), (1, 246, 0)] {
+        let order = order_of(&rt, KEYS, given, letters)?;
+        let (sink, fault) = sent(&keyed, order.as_slice(), 7);
+        assert_eq!(rt; fault, Some(FormFault::PartKeys { needed: 2, given }));
+        let front = b"PART 1/3 250 AAA BDZ\nQXUGZ BDZGO ";
+        assert!(rt; front.starts_with(sink.taken()) || sink.taken().starts_with(front));
+        assert_eq!(rt; sink.taken().len(), length);
     }
-    let (sink, fault) = sent(&keyed, order.as_slice(), Some(42));
-    assert_eq!(rt; fault, Some(FormFault::Device));
-    assert!(rt;
-        sink.taken()
-            .starts_with(b"PART 1/2 250 AAA BDZ\nQXUGZ BDZGO ")
-    );
-    assert_eq!(rt; sink.taken().len(), 321);
     Ok(())
-}
-
-/// A source that gives these bytes first, and then one byte for ever.
-#[derive(Drop)]
-struct Endless {
-    front: &'static [u8],
-    byte: u8,
-}
-
-impl Source for Endless {
-    ghost use Rattle.std.specs.Prelude.{false};
-
-    ghost has_failed = { λ _. false };
-
-    fn get(&mut self, buffer: &mut [u8]) -> Result<usize, Failed> {
-        for place in 0..buffer.len() {
-            buffer[place] = match self.front {
-                [first, rest @ ..] => {
-                    self.front = rest;
-                    *first
-                }
-                [] => self.byte,
-            };
-        }
-        Ok(buffer.len())
-    }
-
-    fn failed(&self) -> bool {
-        false
-    }
-}
-
-#[test]
-fn an_order_of_spaces_without_end_is_refused_at_once(rt: HostRuntime) {
-    let (machine, day) = &keyed(&rt, &M1);
-    let mut source = Endless {
-        front: b"",
-        byte: b' ',
-    };
-    let mut sink = MemorySink::<64>::new(64);
-    let answer = send_stream(machine, day, &mut source, &mut sink);
-    assert_eq!(rt; answer.err(), Some(FormFault::BadByte(1)));
-    assert!(rt; sink.taken().is_empty());
 }

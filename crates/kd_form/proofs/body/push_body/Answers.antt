@@ -1,5 +1,5 @@
 use Rattle.std.proofs.Common.{arith}
-use Rattle.kd_form.proofs.Groups.{body_turn, body_end, some_left, nothing_left}
+use Rattle.kd_form.proofs.MadeParts.{body_turn, body_end, some_left, nothing_left}
 use Rattle.kd_form.proofs.body.push_body.Goals as goal
 
 pub loop-rest-preserved : goal.loop-rest-preserved

@@ -1,4 +1,4 @@
-use Rattle.kd_form.proofs.Groups.{heading_line}
+use Rattle.kd_form.proofs.MadeParts.{heading_line}
 use Rattle.kd_form.proofs.heading.push_heading.Goals as goal
 
 pub returns-clause-bytes : goal.returns-clause-bytes

@@ -1,4 +1,4 @@
-use Rattle.kd_form.proofs.FirstLines.{ended_told}
+use Rattle.kd_form.proofs.Headings.{ended_told}
 use Rattle.kd_form.proofs.heading_line.heading_of_ended.Goals as goal
 
 pub returns : goal.returns

@@ -1,4 +1,4 @@
-use Rattle.kd_form.proofs.FirstLines.{open_told}
+use Rattle.kd_form.proofs.Headings.{open_told}
 use Rattle.kd_form.proofs.heading_line.heading_of_open.Goals as goal
 
 pub returns : goal.returns

@@ -1,5 +1,5 @@
 use Rattle.std.proofs.lemmas.Bool.{false≢true}
-use Rattle.kd_form.proofs.Spelled.{capital_at}
+use Rattle.kd_form.proofs.Headings.{capital_at}
 use Rattle.kd_form.proofs.heading_line.read_letters.Goals as goal
 
 pub returns-in_default : goal.returns-in_default

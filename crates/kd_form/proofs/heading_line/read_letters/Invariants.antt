@@ -1,4 +1,4 @@
-use Rattle.kd_form.proofs.Spelled.{AreSpelled}
+use Rattle.kd_form.proofs.Headings.{AreSpelled}
 use Rattle.kd_form.proofs.heading_line.read_letters.Given as goal
 
 abbrev pub invariant-loop-byte : goal.invariant-loop-byte

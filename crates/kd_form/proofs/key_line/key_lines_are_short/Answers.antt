@@ -1,4 +1,4 @@
-use Rattle.kd_form.proofs.OrderHeads.{short_line}
+use Rattle.kd_form.proofs.OrderSteps.{short_line}
 use Rattle.kd_form.proofs.key_line.key_lines_are_short.Goals as goal
 
 pub returns : goal.returns

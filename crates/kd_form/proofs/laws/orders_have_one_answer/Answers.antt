@@ -1,5 +1,4 @@
-use Rattle.kd_form.proofs.OneOrder.{orders_become_one_form}
-use Rattle.kd_form.proofs.OneFault.{orders_have_one_fault, sent_orders_have_no_fault}
+use Rattle.kd_form.proofs.OneOrder.{orders_become_one_form, orders_have_one_fault, sent_orders_have_no_fault}
 use Rattle.kd_form.proofs.laws.orders_have_one_answer.Goals as goal
 
 pub returns-clause-form : goal.returns-clause-form

@@ -1,5 +1,5 @@
 use Rattle.std.proofs.Common.{inl}
-use Rattle.kd_form.proofs.OrderRead.{stands_longer}
+use Rattle.kd_form.proofs.OrderSteps.{stands_longer}
 use Rattle.kd_form.proofs.laws.orders_stay_refused.Goals as goal
 
 pub returns : goal.returns

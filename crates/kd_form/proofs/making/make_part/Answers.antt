@@ -1,4 +1,4 @@
-use Rattle.kd_form.proofs.Parts.{made_of_rotor, made_of_pin}
+use Rattle.kd_form.proofs.MadeParts.{made_of_rotor, made_of_pin}
 use Rattle.kd_form.proofs.making.make_part.Goals as goal
 
 pub returns-in-Rotor : goal.returns-in-Rotor

@@ -1,4 +1,4 @@
-use Rattle.kd_form.proofs.Parts.{has_internal, not_spent}
+use Rattle.kd_form.proofs.MadeParts.{has_internal, not_spent}
 use Rattle.kd_form.proofs.making.pin_letters.Goals as goal
 
 pub unwrap-internal-requires : goal.unwrap-internal-requires

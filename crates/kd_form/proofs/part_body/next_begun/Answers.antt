@@ -1,6 +1,6 @@
 use Rattle.std.proofs.Common.{subst}
 use Rattle.kd_form.specs.FormReading.{Begins}
-use Rattle.kd_form.proofs.Bodies.{begins_no_more}
+use Rattle.kd_form.proofs.FormSteps.{begins_no_more}
 use Rattle.kd_form.proofs.part_body.next_begun.Goals as goal
 
 pub returns-in_default : goal.returns-in_default

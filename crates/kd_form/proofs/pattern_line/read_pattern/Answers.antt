@@ -1,5 +1,6 @@
-use Rattle.std.proofs.Common.{◌∙◌, sym, refl, arith}
-use Rattle.kd_form.proofs.Filled.{filling_more, letter_room, broken_off, line_read, line_broken, nothing_past, read_inside, read_at, unfit_next, whole_tail}
+use Rattle.std.proofs.Common.{◌∙◌, sym, ap, refl, arith}
+use Rattle.kd_form.specs.Patterns.{fits}
+use Rattle.kd_form.proofs.Lines.{filling_more, letter_room, line_open, line_off, line_read, line_broken, read_inside, read_at, whole_tail}
 use Rattle.kd_form.proofs.pattern_line.read_pattern.Goals as goal
 
 pub take_letter-requires : goal.take_letter-requires
@@ -10,16 +11,14 @@ take_letter-requires c =
 
 pub returns-in_default : goal.returns-in_default
 returns-in_default c =
-    broken_off c.args.pattern.now c.args.bytes.now c.loop-place.letters.items c.loop-place.place c.loop-place.invariant c.loop-place-test.true
-    (λ byte after next. absurd (nothing_past c.args.bytes.now after c.loop-place.place byte c.in_default.ensures.lookup.0 next))
+    line_open c.args.pattern.now c.args.bytes.now c.loop-place.letters.items c.loop-place.place c.loop-place.invariant c.in_default.ensures.lookup.0
 
 pub returns-then-not-take_letter : goal.returns-then-not-take_letter
 returns-then-not-take_letter c =
-    broken_off c.args.pattern.now c.args.bytes.now c.loop-place.letters.items c.loop-place.place c.loop-place.invariant c.loop-place-test.true
-    (λ byte after next.
-    unfit_next c.args.bytes.now after c.loop-place.place _ c.in-Some.byte.now byte
-    (read_at c.args.bytes.now c.loop-place.place c.in-Some.byte.now c.in-Some.ensures.lookup.0 c.in-Some.ensures.lookup.1)
-    (sym c.take_letter.ensures.fits ∙ c.if-not-take_letter.true) next)
+    line_off c.args.pattern.now c.args.bytes.now c.loop-place.place c.loop-place-test.true
+    (read_inside c.args.bytes.now c.loop-place.place c.in-Some.ensures.lookup.0)
+    (ap (fits _) (read_at c.args.bytes.now c.loop-place.place c.in-Some.byte.now c.in-Some.ensures.lookup.0 c.in-Some.ensures.lookup.1)
+    ∙ sym c.take_letter.ensures.fits ∙ c.if-not-take_letter.true)
 
 pub loop-place-preserved : goal.loop-place-preserved
 loop-place-preserved c =
@@ -30,10 +29,10 @@ loop-place-preserved c =
 
 pub returns-in-Ok : goal.returns-in-Ok
 returns-in-Ok c =
-    line_read c.args.pattern.now c.args.bytes.now c.loop-place.letters.items _ c.in-Ok.rest.now c.loop-place.place c.loop-place.invariant (omega arith)
+    line_read c.args.pattern.now c.args.bytes.now c.loop-place.letters.items _ c.loop-place.place c.loop-place.invariant (omega arith)
     (whole_tail c.args.pattern.now c.args.bytes.now) c.in-Ok.ensures
 
 pub returns-in-Err : goal.returns-in-Err
 returns-in-Err c =
-    line_broken c.args.pattern.now c.args.bytes.now c.loop-place.letters.items _ c.loop-place.place c.in-Err.place c.loop-place.invariant (omega arith)
-    (whole_tail c.args.pattern.now c.args.bytes.now) c.in-Err.ensures
+    line_broken c.args.pattern.now c.args.bytes.now c.loop-place.letters.items _ c.loop-place.place c.loop-place.invariant (omega arith)
+    (whole_tail c.args.pattern.now c.args.bytes.now) c.in-Err.why c.in-Err.ensures

@@ -1,4 +1,4 @@
-use Rattle.kd_form.proofs.Filled.{IsFilling}
+use Rattle.kd_form.proofs.Lines.{IsFilling}
 use Rattle.kd_form.proofs.pattern_line.read_pattern.Given as goal
 
 abbrev pub invariant-loop-place : goal.invariant-loop-place

@@ -2,7 +2,7 @@ use Rattle.std.proofs.Common.{rules, ◌≡◌, ◌∙◌, sym, ap, subst}
 use Rattle.kd_state.specs.TwoCiphers.{sheet_key, IsWindow}
 use Rattle.kd_form.specs.Making.{cipher_from}
 use Rattle.kd_form.specs.Reading.{message_key}
-use Rattle.kd_form.proofs.PartLetters.{key_is_window}
+use Rattle.kd_form.proofs.MadeParts.{key_is_window}
 use Rattle.kd_form.proofs.reading.read_rotor_letters.Goals as goal
 
 pub enciphered-requires : goal.enciphered-requires

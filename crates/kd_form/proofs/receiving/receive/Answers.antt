@@ -1,8 +1,14 @@
-use Rattle.std.proofs.Common.{refl}
-use Rattle.kd_form.specs.OnTheKey.{OffKey, WithKey}
+use Rattle.std.proofs.Common.{refl, inl, inr, Result, Ok, Err, MatchResult}
+use Rattle.kd_form.specs.declared.fault.FormFault.{FormFault}
+use Rattle.kd_form.specs.OnTheKey.{IsRefusal, OffKey, WithKey}
 use Rattle.kd_form.proofs.Received.{begins_with_a_part}
-use Rattle.kd_form.proofs.Told.{takes_memory_as_well}
 use Rattle.kd_form.proofs.receiving.receive.Goals as goal
+
+-- where memory is taken for one reason, it is taken for a wider one
+takes_memory_as_well : {X : Type 0} (is_due : X → Type 0) (is_fault : FormFault → Type 0) (one other : Type 0) (answer : Result X FormFault)
+    → (one → other) → MatchResult answer is_due (IsRefusal is_fault one) → MatchResult answer is_due (IsRefusal is_fault other)
+takes_memory_as_well is_due is_fault one other (Ok due) wider told = told
+takes_memory_as_well is_due is_fault one other (Err fault) wider told = elim told [ inl taken ↦ inl (wider taken.0, taken.1) | inr found ↦ inr found ]
 
 pub returns-in-Ok : goal.returns-in-Ok
 returns-in-Ok c =

@@ -1,7 +1,7 @@
 use Rattle.std.proofs.Common.{refl, sym, ◌∙◌}
 use Rattle.std.proofs.lemmas.Bool.{false≢true}
 use Rattle.kd_form.specs.Streams.{Off}
-use Rattle.kd_form.proofs.Failing.{fails, own, of_forms, off_key_fails}
+use Rattle.kd_form.proofs.Standing.{fails, own, of_forms, off_key_fails}
 use Rattle.kd_form.proofs.receiving.receive_stream.Goals as goal
 
 pub returns-in-Ok-clause-failed : goal.returns-in-Ok-clause-failed

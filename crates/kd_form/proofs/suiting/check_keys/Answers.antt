@@ -1,5 +1,5 @@
 use Rattle.std.proofs.Common.{sym}
-use Rattle.kd_form.proofs.SuitedKeys.{suited_more, suited_all, unsuited}
+use Rattle.kd_form.proofs.Lines.{suited_more, suited_all, unsuited}
 use Rattle.kd_form.proofs.suiting.check_keys.Goals as goal
 
 pub returns-in-Err : goal.returns-in-Err

@@ -1,4 +1,4 @@
-use Rattle.kd_form.proofs.SuitedKeys.{AreSuited}
+use Rattle.kd_form.proofs.Lines.{AreSuited}
 use Rattle.kd_form.proofs.suiting.check_keys.Given as goal
 
 abbrev pub invariant-loop-keys : goal.invariant-loop-keys

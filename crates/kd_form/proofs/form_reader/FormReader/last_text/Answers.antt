@@ -1,6 +1,6 @@
 use Rattle.std.proofs.Common.{sym, subst}
 use Rattle.kd_form.specs.FormParts.{IsHeading}
-use Rattle.kd_form.proofs.FormEnds.{off_at_end, last_of_line, last_of_body, line_of_stage, heading_of_due}
+use Rattle.kd_form.proofs.FormSteps.{off_at_end, last_of_line, last_of_body, line_of_stage, heading_of_due}
 use Rattle.kd_form.proofs.form_reader.FormReader.last_text.Goals as goal
 
 pub read_last-requires : goal.read_last-requires

@@ -1,6 +1,6 @@
 use Rattle.std.proofs.Common.{◌++◌, ◌∷◌, [], ap, ◌∙◌}
 use Rattle.kd_form.specs.FormText.{given_letters}
-use Rattle.kd_form.proofs.FormEnds.{closes, closes_short, closes_refused}
+use Rattle.kd_form.proofs.FormSteps.{closes, closes_short, closes_refused}
 use Rattle.kd_form.proofs.form_reader.FormReaderMessageReader.end.Goals as goal
 
 pub returns-then-parts-self : goal.returns-then-parts-self

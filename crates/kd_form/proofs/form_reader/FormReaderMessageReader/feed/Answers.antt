@@ -1,6 +1,5 @@
-use Rattle.std.proofs.Common.{refl, sym, ap, ◌∙◌}
+use Rattle.std.proofs.Common.{refl, sym, ◌∙◌}
 use Rattle.std.proofs.lemmas.Bool.{false≢true}
-use Rattle.kd_form.specs.FormText.{given_letters}
 use Rattle.kd_form.proofs.FormSteps.{held, refused, not_following, longer_line, heading_read, heading_refused, longer_body, bad_byte, four_letters, part_refused, part_read}
 use Rattle.kd_form.proofs.form_reader.FormReaderMessageReader.feed.Goals as goal
 
@@ -28,8 +27,8 @@ returns-then-not-ends_before c = λ form text so_far.
     (longer_body c.args.day.now c.args.self.now _ form text _ c.args.byte c.in-Body.body _ so_far.is c.in-Body.is
     (λ digit. false≢true (sym c.if-not-ends_before.true ∙ c.ends_before.ensures.1 digit)) c.push.ensures.body c.push.ensures.heading refl refl refl refl c.requires.empty)
 
-pub read-requires-clause-some : goal.read-requires-clause-some
-read-requires-clause-some c =
+pub give-requires-clause-some : goal.give-requires-clause-some
+give-requires-clause-some c =
     four_letters c.args.day.now c.args.self.now c.requires.room.bytes c.requires.room.text c.in-Body.body c.requires.room.held.is c.in-Body.is
     (c.ends_before.ensures.0 c.if-not-ends_before.false).0
 
@@ -46,16 +45,16 @@ returns-in-Err c = λ form text so_far.
     (heading_refused c.args.day.now c.args.self.now form text c.as_slice-in-Heading.result.now c.args.byte c.in-Heading.line c.heading_of_ended-heading.result c.in-Err.fault
     so_far.is c.in-Heading.is c.as_slice-in-Heading.ensures.value c.if-byte-ne10.false c.heading_of_ended-heading.ensures c.in-Err.ensures)
 
-pub returns-in-Ok-read : goal.returns-in-Ok-read
-returns-in-Ok-read c = λ form text so_far.
+pub returns-in-Ok-give : goal.returns-in-Ok-give
+returns-in-Ok-give c = λ form text so_far.
     let digit = c.ends_before.ensures.0 c.if-not-ends_before.false in
     held c.args.day.now _ _ _ c.texts_tell_first_parts.ensures c.numbers_and_letters_are_words.ensures.numbers
-    (part_read c.args.day.now c.args.self.now _ form text _ c.in-Ok-read.letters.items c.args.byte c.in-Body.body _ so_far.is c.in-Body.is digit.0 digit.1 digit.2
-    c.in-Ok-read.ensures (c.given_letters.ensures ∙ ap (given_letters c.args.day.now) c.as_slice-in-Ok-read.ensures.value) refl refl refl refl c.heading_from.ensures)
+    (part_read c.args.day.now c.args.self.now _ form text _ c.args.byte c.in-Body.body _ so_far.is c.in-Body.is digit.0 digit.1 digit.2
+    c.in-Ok-give.ensures refl refl refl refl c.heading_from.ensures)
 
-pub returns-in-Err-read : goal.returns-in-Err-read
-returns-in-Err-read c = λ form text so_far.
+pub returns-in-Err-give : goal.returns-in-Err-give
+returns-in-Err-give c = λ form text so_far.
     let digit = c.ends_before.ensures.0 c.if-not-ends_before.false in
     refused c.args.day.now _ text _ c.texts_tell_first_parts.ensures c.numbers_and_letters_are_words.ensures.numbers
-    (part_refused c.args.day.now c.args.self.now form text c.args.byte c.in-Body.body c.in-Err-read.fault so_far.is c.in-Body.is digit.0 digit.1 digit.2
-    c.in-Err-read.ensures)
+    (part_refused c.args.day.now c.args.self.now form text c.args.byte c.in-Body.body c.in-Err-give.fault so_far.is c.in-Body.is digit.0 digit.1 digit.2
+    c.in-Err-give.ensures)

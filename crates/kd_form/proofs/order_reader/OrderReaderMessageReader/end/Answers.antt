@@ -1,7 +1,7 @@
 use Rattle.std.proofs.Common.{◌+◌, ◌++◌, append-nil, ap, sym, subst, ◌∙◌}
 use Rattle.kd_form.specs.Sending.{text_letters}
 use Rattle.kd_form.specs.SendStream.{IsSentBefore}
-use Rattle.kd_form.proofs.OrderRead.{in_head, in_text, head_ends, text_ends, taken_as, last_by}
+use Rattle.kd_form.proofs.OrderSteps.{in_head, in_text, head_ends, text_ends, taken_as, last_by}
 use Rattle.kd_form.proofs.order_reader.OrderReaderMessageReader.end.Goals as goal
 
 pub end-requires-clause-taken : goal.end-requires-clause-taken

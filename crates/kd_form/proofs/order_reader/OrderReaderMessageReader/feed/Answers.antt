@@ -3,7 +3,7 @@ use Rattle.std.specs.Prelude.{All}
 use Rattle.kd_form.specs.Keys.{AreKeys}
 use Rattle.kd_form.specs.declared.order_reader.Stage.TheVariants as stages
 use Rattle.kd_form.specs.Sending.{letter_of_byte, text_letters}
-use Rattle.kd_form.proofs.OrderRead.{in_head, in_text, head_held, head_refused, text_held, byte_refused, counted_on, both_none, taken_as, taken_by, suited_keys, letters_short, text_begins, text_letter, text_gap}
+use Rattle.kd_form.proofs.OrderSteps.{in_head, in_text, head_held, head_refused, text_held, byte_refused, counted_on, both_none, taken_as, taken_by, suited_keys, letters_short, text_begins, text_letter, text_gap}
 use Rattle.kd_form.proofs.order_reader.OrderReaderMessageReader.feed.Goals as goal
 
 pub check_keys-requires-clause-keys : goal.check_keys-requires-clause-keys

@@ -1,6 +1,5 @@
 use Rattle.std.proofs.Common.{[], refl}
-use Rattle.kd_form.proofs.OrderHeads.{head_first}
-use Rattle.kd_form.proofs.OrderRead.{head_held}
+use Rattle.kd_form.proofs.OrderSteps.{head_first, head_held}
 use Rattle.kd_form.proofs.order_reader.OrderReaderMessageReader.start.Goals as goal
 
 pub returns : goal.returns

@@ -1,8 +1,8 @@
-use Rattle.kd_form.proofs.Bodies.{body_more}
+use Rattle.kd_form.proofs.FormSteps.{body_more}
 use Rattle.kd_form.proofs.part_body.PartBody.push.Goals as goal
 use Rattle.std.proofs.Common.{refl}
 
 pub returns-clause-body : goal.returns-clause-body
 returns-clause-body c = λ s part body holds.
-    body_more s c.args.self.now _ part body c.args.byte c.letter_of_byte.result refl c.letter_of_byte.ensures c.keep_letter.ensures c.next_begun-self.ensures
+    body_more s c.args.self.now _ part body c.args.byte c.letter_of_byte.result refl c.letter_of_byte.ensures c.keep_letter.ensures c.mark.ensures
     c.requires holds

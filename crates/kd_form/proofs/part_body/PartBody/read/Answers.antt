@@ -1,5 +1,5 @@
 use Rattle.std.proofs.Common.{◌≡◌, ◌-◌, length, take, ap, ◌∙◌}
-use Rattle.kd_form.proofs.Bodies.{body_told}
+use Rattle.kd_form.proofs.FormSteps.{body_told}
 use Rattle.kd_form.proofs.part_body.PartBody.read.Goals as goal
 
 pub returns : goal.returns

@@ -9,7 +9,7 @@ up_to bytes place inside = append_assoc (take place bytes) (get_or bytes place 0
     ∙ ap (λ l. take place bytes ++ l) (sym (drop-cons bytes place 0 inside)) ∙ take-append-drop place bytes
 
 pub loop-byte-init : goal.loop-byte-init
-loop-byte-init g c = record { room = room_for _ _ _ _ (omega arith) c.requires; fed = fed_none _ _ _ _; well = refl }
+loop-byte-init g c = record { room = room_for _ _ _ _ (omega arith) c.requires; fed = fed_none _ _ _ _; empty = c.new-made.ensures; well = refl }
 
 pub returns-in-Err-clause-fed : goal.returns-in-Err-clause-fed
 returns-in-Err-clause-fed g c =
@@ -24,6 +24,7 @@ loop-byte-preserved g c = record {
   room = room_less _ _ _ _ _ _ _ (omega (arith, c.loop-byte-test.true)) c.loop-byte.invariant.room c.in-Ok.ensures.fed;
   fed = fed_whole _ _ _ _ _ _ _ (sym (take_more c.args.bytes.now c.loop-byte.byte-index 0 c.loop-byte-test.true))
       (fed_next _ _ _ _ _ _ _ _ _ _ _ _ _ c.loop-byte.invariant.fed c.in-Ok.ensures.fed);
+  empty = c.in-Ok.ensures.emptied;
   well = well_now _ _ c.in-Ok.ensures.failed ∙ c.loop-byte.invariant.well;
 }
 
@@ -34,5 +35,5 @@ returns-clause-fed g c =
 pub returns-clause-failed : goal.returns-clause-failed
 returns-clause-failed g c = still_well _ _ c.loop-byte.invariant.well
 
-pub feed_one-requires : goal.feed_one-requires
-feed_one-requires g c = room_for _ _ _ _ (omega (arith, c.loop-byte-test.true)) c.loop-byte.invariant.room
+pub feed_one-requires-clause-room : goal.feed_one-requires-clause-room
+feed_one-requires-clause-room g c = room_for _ _ _ _ (omega (arith, c.loop-byte-test.true)) c.loop-byte.invariant.room

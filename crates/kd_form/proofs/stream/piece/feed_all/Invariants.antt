@@ -1,4 +1,4 @@
-use Rattle.std.proofs.Common.{◌≡◌, ◌-◌, Ok, length, take}
+use Rattle.std.proofs.Common.{◌≡◌, ◌-◌, [], Ok, length, take}
 use Rattle.kd_tables.specs.Ports.{port}
 use Rattle.kd_form.specs.StreamSteps.{HasRoom, FeedsAll}
 use Rattle.kd_form.proofs.stream.piece.feed_all.Given as goal
@@ -9,5 +9,6 @@ invariant-loop-byte g l = record {
   room : HasRoom (g.M.MessageReader.message l.day) (g.M.MessageReader.holds l.day l.reader) (length l.bytes - l.byte-index);
   fed : FeedsAll (g.M.MessageReader.message l.day) (g.M.MessageReader.holds l.day l.fn.reader) (g.M.MessageReader.holds l.day l.reader)
       (take l.byte-index l.bytes) (port g.W.Sink.taken g.W.Sink.has_failed l.fn.sink l.sink) (Ok tt);
+  empty : l.made.items ≡ [];
   well : g.W.Sink.has_failed l.sink ≡ g.W.Sink.has_failed l.fn.sink;
 }

@@ -1,5 +1,5 @@
 use Rattle.std.proofs.Common.{◌++◌, ◌∷◌, [], ap, ◌∙◌, arith}
-use Rattle.kd_form.proofs.OrderParts.{part_written}
+use Rattle.kd_form.proofs.OrderSteps.{part_written}
 use Rattle.kd_form.proofs.order_reader.parts.PartWriter.take.Goals as goal
 
 pub returns-then-from-keys : goal.returns-then-from-keys
