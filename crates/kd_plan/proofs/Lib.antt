@@ -1,4 +1,3 @@
-pub mod Told
 pub mod Lists
 pub mod Carrying
 pub mod Cables
