@@ -20,7 +20,7 @@ use Rattle.kd_plan.proofs.Bars.{BarRow, IsMovable, to_stand, is_target}
 use Rattle.kd_plan.proofs.Carrying.{Reaches}
 use Rattle.kd_plan.proofs.Counts.{rotor_counted, pin_counted, table_cost}
 use Rattle.kd_plan.proofs.Lists.{IsPairing, pairing_of}
-use Rattle.kd_plan.proofs.PinMachines.{are_movable, pin_machines_reach}
+use Rattle.kd_plan.proofs.Pins.{are_movable, pin_machines_reach}
 use Rattle.kd_plan.proofs.Rotors.{rotors_reach}
 use Rattle.kd_plan.specs.Told.{Told}
 
