@@ -1,6 +1,6 @@
 -- The rotors of seated wheels, slot by slot.
 use Rattle.std.proofs.Common.{◌≡◌, ℕ, zero, suc, ◌+◌, ◌-◌, ◌<◌, ◌≤◌, List, [], ◌∷◌, ◌++◌, length, map, take, drop, get_or, slice_get, Some, refl, sym, ap, ◌∙◌, arith, add-one}
-use Rattle.std.proofs.lemmas.List.{take_more, take_all}
+use Rattle.std.proofs.lemmas.List.{drop_all, take_more, take_all}
 use Rattle.std.proofs.lemmas.Option.{get_or_from_slice_get}
 use Rattle.std.proofs.Math.Seq.{drop-cons}
 use Rattle.kd_enigma.specs.Around.{around, enclosed}
@@ -19,10 +19,9 @@ length-standing (s ∷ seated) (letter ∷ window) e = ap suc (length-standing s
 standing-at : (seated : List SeatedWheel) (window : List ℕ) (slot : ℕ) (s : SeatedWheel) (letter : ℕ) (d : List ℕ) → length seated ≡ length window → slot < length window
     → get_or (standing seated window) slot d ≡ rotor (get_or seated slot s).wheel (get_or seated slot s).ring (get_or window slot letter)
 unfolding rotors
-standing-at [] window slot s letter d e lt = absurd (omega arith)
-standing-at (t ∷ seated) [] slot s letter d e lt = absurd (omega arith)
 standing-at (t ∷ seated) (w ∷ window) zero s letter d e lt = refl
 standing-at (t ∷ seated) (w ∷ window) (suc slot) s letter d e lt = standing-at seated window slot s letter d (omega arith) (omega arith)
+standing-at _ _ slot s letter d e lt = absurd (omega arith)
 
 -- the wheel in a slot, as it is read
 standing_in : (seated : List SeatedWheel) (window : List ℕ) (slot : ℕ) (s : SeatedWheel) (letter : ℕ) → length seated ≡ length window → slot < length window
@@ -41,15 +40,9 @@ around_more seated window slot s shown core e lt is_s is_shown =
     ∙ ap (λ w. around (enclosed core w) (drop (suc slot) ws)) (sym (standing_in seated window slot s shown e lt is_s is_shown))
     ∙ sym (ap (around core) (drop-cons ws slot [] (omega (arith, length-standing seated window e))))
 
-drop_all : (ps : List (List ℕ)) (n : ℕ) → length ps ≤ n → drop n ps ≡ []
-drop_all [] zero h = refl
-drop_all [] (suc n) h = refl
-drop_all (p ∷ ps) zero h = absurd (omega arith)
-drop_all (p ∷ ps) (suc n) h = drop_all ps n (omega arith)
-
 pub around_none : (seated : List SeatedWheel) (window : List ℕ) (slot : ℕ) (core : List ℕ) → length seated ≡ length window → length seated ≤ slot
     → around core (drop slot (standing seated window)) ≡ core
-around_none seated window slot core e h = ap (around core) (drop_all (standing seated window) slot (omega (arith, length-standing seated window e)))
+around_none seated window slot core e h = ap (around core) (drop_all slot (standing seated window) (omega (arith, length-standing seated window e)))
 
 standing-take : (n : ℕ) (seated : List SeatedWheel) (window : List ℕ) → standing (take n seated) (take n window) ≡ take n (standing seated window)
 unfolding rotors

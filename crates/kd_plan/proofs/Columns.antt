@@ -18,7 +18,7 @@ use Rattle.kd_state.specs.OnKey.{Joins, IsPaired, AreThePairs}
 use Rattle.kd_state.specs.Costs.{column_letters, columns_of}
 use Rattle.kd_plan.proofs.Cables.{Cable, Column, Beside, column_at, besides, times, times-cons, times-append, has_times, ArePlain, IsPluggable, in_columns, present, once_put, has_column}
 use Rattle.kd_plan.proofs.Lists.{paired, IsPairing}
-use Rattle.kd_plan.proofs.Told.{Told}
+use Rattle.kd_plan.specs.Told.{Told}
 
 -- letters of the alphabet that differ
 in_alphabet : (y a number : ℕ) → a ≤ y → y < a + number → 0 < times y (range_with_len a number)

@@ -1,4 +1,3 @@
-pub mod Told
 pub mod Lists
 pub mod Carrying
 pub mod Cables
@@ -10,7 +9,6 @@ pub mod Rotors
 pub mod Bars
 pub mod Writing
 pub mod Pins
-pub mod PinMachines
 pub mod Counts
 pub mod Planning
 pub mod Assembling

@@ -1,9 +1,10 @@
--- PIN and TURN of a Converter M-209: wheel after wheel, and on each wheel letter after letter.
-use Rattle.std.proofs.Common.{◌≡◌, ℕ, zero, suc, ◌+◌, ◌<◌, nat_eq, Bool, true, false, not, cond, List, [], ◌∷◌, ◌++◌, length, get_or, map, zip, sum, filter_map, count_by, Option, Some, None, refl, sym, ap, ◌∙◌, arith, append_assoc, length-append}
-use Rattle.std.specs.List.{sum_by}
+-- PIN and TURN of a Converter M-209: wheel after wheel, and on each wheel letter after letter. All its planned lines lead to
+-- the day, and each is needed.
+use Rattle.std.proofs.Common.{◌≡◌, ℕ, zero, suc, ◌+◌, ◌<◌, nat_eq, Bool, true, false, not, cond, List, [], ◌∷◌, ◌++◌, length, get_or, map, zip, sum, filter_map, count_by, Some, refl, sym, ap, ◌∙◌, arith, append_assoc, length-append, All, IsPermutation, subst}
+use Rattle.std.specs.List.{sum_by, AllByRecursion}
 use Rattle.std.specs.Option.{option_map_or, option_to_list}
-use Rattle.std.proofs.lemmas.Bool.{agree_below, agree_below_at, false≢true, eq-eqb, eqb-true}
-use Rattle.std.proofs.lemmas.List.{set_at, get_or_at}
+use Rattle.std.proofs.lemmas.Bool.{agree_below, agree_below_at, eq-eqb, eqb-true}
+use Rattle.std.proofs.lemmas.List.{set_at, get_or_at, length-map}
 use Rattle.std.proofs.lemmas.List.Folds.{list_any_at}
 use Rattle.std.proofs.lemmas.List.Sums.{sum-map}
 use Rattle.std.proofs.lemmas.Option.{unwrap_or-slice_get}
@@ -15,14 +16,20 @@ use Rattle.kd_state.specs.declared.machine.parts.Parts.TheVariants.{Pin}
 use Rattle.kd_state.specs.declared.setting.Setting.{Setting}
 use Rattle.kd_state.specs.declared.setting.Setting.TheVariants.{PinTo, Turn}
 use Rattle.kd_state.specs.Pins.{pin_set, with_pin}
-use Rattle.kd_state.specs.Machine.{HasAllPins, AreOnWheels}
+use Rattle.kd_state.specs.Machine.{HasAllPins, AreOnWheels, IsMachine}
 use Rattle.kd_state.specs.Setting.{has_letter}
-use Rattle.kd_state.specs.SheetDay.{PinDay, OfPins}
+use Rattle.kd_state.specs.SheetDay.{PinDay, OfPins, IsLegalPinDay}
 use Rattle.kd_state.specs.Costs.{differ, loose_pins, loose_count}
-use Rattle.kd_plan.specs.Planned.{unless_so, pin_on, pin_lines, wheel_pin_lines}
-use Rattle.kd_plan.proofs.Carrying.{Led, led_unless, lines_from, EachLeads, cells_led}
-use Rattle.kd_plan.proofs.Lists.{is_number, seam_get, seam_set, one_less}
-use Rattle.kd_plan.proofs.Writing.{one_line, pin_turn_of}
+use Rattle.kd_plan.specs.Planned.{unless_so, pin_on, pin_lines, wheel_pin_lines, pin_turn_lines, lug_lines, planned_lines}
+use Rattle.kd_plan.proofs.Carrying.{Led, led_unless, lines_from, EachLeads, cells_led, Reaches, led_append}
+use Rattle.kd_plan.proofs.Lists.{is_number, seam_get, seam_set, one_less, paired, IsPairing}
+use Rattle.kd_plan.proofs.Writing.{one_line, pin_turn_of, row_at, bars_beside, lug_lines_are, pin_turn_lines_are}
+use Rattle.std.proofs.lemmas.List.Elements.{recursion_from_All}
+use Rattle.std.proofs.lemmas.List.Sorted.{IsPermutation-sym}
+use Rattle.std.proofs.lemmas.Slice.Zip.{firsts-zip, seconds-zip}
+use Rattle.kd_tables.specs.declared.place.Place.{Place}
+use Rattle.kd_tables.specs.Places.{reading_of, IsBefore, IsReading}
+use Rattle.kd_plan.proofs.Bars.{BarRow, IsMovable, now_stands, to_stand, with_bars, lugs_of, lugs_each, rows_read}
 
 -- each letter of a pin wheel stands at its own place
 place_found : ℕ → ℕ → Bool
@@ -228,3 +235,57 @@ module _ (m : PinParts) (s : PinDay) where
             (λ wrong unpriced. turn_needed front (map shown zs) (map wanted zs) z.0 z.1 e wrong),
         turns_each (front ++ z.1 ∷ []) zs (append_assoc front (z.1 ∷ []) (map wanted zs) ∙ e) on,
       )
+
+-- ---- all lines
+
+movable : (bars : List (Place × Place)) (rows : List (ℕ × ℕ)) (to : List ℕ) → AllByRecursion (λ bar. IsBefore bar.0 bar.1) bars → All IsReading rows
+    → AllByRecursion (λ j. j < length rows) to → AllByRecursion IsMovable (bars_beside bars rows to)
+movable [] rows to stand reading within = tt
+movable (bar ∷ bars) rows [] stand reading within = tt
+movable (bar ∷ bars) rows (j ∷ to) stand reading within =
+    (record { stands = stand.0; reading = reading j (0, 0) within.0 }, movable bars rows to stand.1 reading within.1)
+
+module _ (m : PinParts) (s : PinDay) (to : List ℕ) (machine : IsMachine (Pin m)) (legal : IsLegalPinDay s) (pairing : IsPairing 27 to) where
+  abbrev after_pins : PinParts
+  after_pins = record m { pins = s.pins }
+
+  abbrev after_turns : PinParts
+  after_turns = record m { pins = s.pins; letters = s.window }
+
+  abbrev zs : List BarRow
+  zs = bars_beside m.bars s.rows to
+
+  turns_reach : Led (OfPins s) (Pin after_pins) (pin_turn_lines m.letters s.window) (Pin after_turns)
+  turns_reach =
+      let letters = zip m.letters s.window in
+      let size : length s.window ≡ length m.letters = legal.window.count ∙ sym machine.legal.letters.count in
+      let due = seconds-zip m.letters s.window size in
+      let led = cells_led (OfPins s) (with_shown after_pins s) shown wanted pin_turn_of [] letters 1 refl (turns_each after_pins s [] letters due legal.window) in
+      rw pin_turn_lines_are (rw (firsts-zip m.letters s.window size, due) at led)
+
+  sizes : length (map (row_at s.rows) to) ≡ length m.bars
+  sizes = length-map to (row_at s.rows) ∙ pairing.count ∙ sym machine.legal.bars
+
+  pub are_movable : AllByRecursion IsMovable zs
+  are_movable =
+      movable m.bars s.rows to (recursion_from_All (λ (bar : Place × Place). IsBefore bar.0 bar.1) m.bars machine.legal.apart) legal.rows
+      (rw legal.count (recursion_from_All (λ j. j < 27) to pairing.within))
+
+  lugs_reach : Led (OfPins s) (Pin after_turns) (lug_lines m.bars s.rows to) (with_bars (OfPins s) after_turns (map to_stand zs))
+  lugs_reach =
+      let led = cells_led (OfPins s) (with_bars (OfPins s) after_turns) now_stands to_stand lugs_of [] zs 1 refl (lugs_each (OfPins s) after_turns [] zs are_movable) in
+      rw lug_lines_are (rw (firsts-zip m.bars (map (row_at s.rows) to) sizes) at led)
+
+  rows_are : IsPermutation (map (λ (bar : Place × Place). reading_of bar.0 bar.1) (map to_stand zs)) s.rows
+  rows_are =
+      let order = paired (0, 0) s.rows to (subst (λ n. IsPairing n to) (sym legal.count) pairing) in
+      let rows = rows_read zs are_movable ∙ seconds-zip m.bars (map (row_at s.rows) to) sizes in
+      rw rows (IsPermutation-sym s.rows (map (row_at s.rows) to) order)
+
+  pub pin_machines_reach : Reaches (OfPins s) (Pin m) (planned_lines (Pin m) (OfPins s) to)
+  pin_machines_reach = record {
+    end = with_bars (OfPins s) after_turns (map to_stand zs);
+    led = led_append (pin_lines m.pins s.pins ++ pin_turn_lines m.letters s.window) (lug_lines m.bars s.rows to)
+        (led_append (pin_lines m.pins s.pins) (pin_turn_lines m.letters s.window) (pins_reach m s machine.legal.pins legal.pins) turns_reach) lugs_reach;
+    reads = record { key = record { pins = refl; rows = rows_are }; window = refl };
+  }

@@ -20,9 +20,9 @@ use Rattle.kd_plan.proofs.Bars.{BarRow, IsMovable, to_stand, is_target}
 use Rattle.kd_plan.proofs.Carrying.{Reaches}
 use Rattle.kd_plan.proofs.Counts.{rotor_counted, pin_counted, table_cost}
 use Rattle.kd_plan.proofs.Lists.{IsPairing, pairing_of}
-use Rattle.kd_plan.proofs.PinMachines.{are_movable, pin_machines_reach}
+use Rattle.kd_plan.proofs.Pins.{are_movable, pin_machines_reach}
 use Rattle.kd_plan.proofs.Rotors.{rotors_reach}
-use Rattle.kd_plan.proofs.Told.{Told}
+use Rattle.kd_plan.specs.Told.{Told}
 
 -- the bars are moved by as many lugs as their rows cost
 least_moved : (zs : List BarRow) → AllByRecursion IsMovable zs → sum_by (λ z. lugs_moved z.0 (to_stand z)) zs ≡ sum_by (λ z. bar_cost z.0 z.1) zs

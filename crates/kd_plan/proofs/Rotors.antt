@@ -24,7 +24,7 @@ use Rattle.kd_plan.proofs.Lists.{IsPairing}
 use Rattle.kd_plan.proofs.Cables.{Cable, Beside, besides, IsPluggable, present, once_pulled, once_put, with_cables, work_beside, lines_beside, pulls_each, puts_each}
 use Rattle.kd_plan.specs.declared.cable_lines.Work.TheVariants as works
 use Rattle.kd_plan.proofs.Seats.{seats_led}
-use Rattle.kd_plan.proofs.Told.{Told}
+use Rattle.kd_plan.specs.Told.{Told}
 
 -- REFLECTOR
 reflector_led : Told → (m : RotorParts) (s : RotorDay) → Contains (reflectors_of m.model) s.reflector

@@ -13,7 +13,7 @@ use Rattle.kd_state.specs.declared.sheet_day.rotor_entry.SheetWheel.{SheetWheel}
 use Rattle.kd_state.specs.Box.{same_wheel, same_reflector, has_wheel, has_reflector, place_in_box}
 use Rattle.kd_state.specs.Machine.{StandsAt, AreAllowed}
 use Rattle.kd_state.specs.SheetDay.{seats, AreSeated}
-use Rattle.kd_plan.proofs.Told.{Told}
+use Rattle.kd_plan.specs.Told.{Told}
 use Rattle.kd_plan.proofs.Lists.{EachTwo, each_two_of_pairs, found}
 use Rattle.std.proofs.lemmas.List.Elements.{All-contains, All-from_recursion, Contains-get_or, recursion_from_All}
 

@@ -1,3 +1,4 @@
 pub mod Planned
 pub mod CableWork
 pub mod Laws
+pub mod Told

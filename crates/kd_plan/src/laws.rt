@@ -1,5 +1,6 @@
 //! What holds of planned cards.
 ghost use Rattle.kd_plan.specs.Laws.{PlannedCardsProve, PlannedLinesLead};
+ghost use Rattle.kd_plan.specs.Told.{Told};
 
 use kd_state::laws::{
     columns_are_the_pairs, names_tell_parts, places_tell_wheels, tests_tell_letters,
@@ -9,16 +10,20 @@ use kd_state::laws::{
 pub fn planned_lines_lead_to_the_day()
     ensures { PlannedLinesLead }
 {
-    names_tell_parts();
-    places_tell_wheels();
-    tests_tell_letters();
-    columns_are_the_pairs();
+    laws_are_told();
 }
 
 /// A planned card proves itself: prices that fit and add up to what its pairing costs show that no list of settings that
 /// leads to the day is shorter.
 pub fn planned_cards_prove_themselves()
     ensures { PlannedCardsProve }
+{
+    laws_are_told();
+}
+
+/// The laws that both stand on, told once.
+fn laws_are_told()
+    ensures { Told }
 {
     names_tell_parts();
     places_tell_wheels();

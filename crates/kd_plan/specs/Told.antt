@@ -1,4 +1,4 @@
--- What the laws of kd_state say, as far as the proofs of this crate need it.
+-- What the laws of kd_state say, as far as this crate's own laws stand on it.
 use Rattle.kd_state.specs.Laws.{NamesTellWheels, NamesTellReflectors, AllowedWheelsLieInTheBox, WheelsHavePlaces, PlacesTellWheels, DaysWheelsHaveTheirPlaces}
 use Rattle.kd_state.specs.Laws.{TestsTellLetters, ThirteenColumns, ColumnsAreThePairs}
 
