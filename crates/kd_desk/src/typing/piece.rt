@@ -1,4 +1,5 @@
-ghost use Rattle.std.specs.Prelude.{◌≡◌, ◌<◌, ◌≤◌, ◌+◌, ◌++◌, take, length, IsTrue, IsFalse, [], ◌∷◌, option_to_list, MatchOption};
+ghost use Rattle.std.specs.Bool.{OnTrue};
+ghost use Rattle.std.specs.Prelude.{◌≡◌, All, ◌<◌, ◌≤◌, ◌+◌, ◌++◌, take, length, IsTrue, IsFalse, [], ◌∷◌, option_to_list, MatchOption};
 ghost use Rattle.arrayvec.specs.ArrayVec.{array_vec_len};
 ghost use Rattle.kd_tables.specs.Text.{is_text_byte, letters_text};
 ghost use Rattle.kd_desk.specs.Typing.{Lights, typed_letters};
@@ -34,13 +35,43 @@ fn push_letter(letters: &mut ArrayVec<Letter, PIECE>, letter: Option<Letter>)
     }
 }
 
+/// Reads bytes as capital letters, many at a time. False where one is something else; the letters then say nothing.
+fn read_letters(bytes: &[u8], letters: &mut [Letter]) -> bool
+    requires { length letters.old ≡ length bytes.now }
+    ensures read { OnTrue result (letters_text letters.new ≡ bytes.now) }
+    ensures within { OnTrue result (All (λ letter. letter < 26) letters.new) }
+{
+    let mut all = true;
+    for (place, byte) in bytes.iter().enumerate() {
+        let letter = Letter::from_byte(*byte).unwrap_or(Letter::A);
+        all &= letter.byte() == *byte;
+        letters[place] = letter;
+    }
+    all
+}
+
+/// Writes letters as capital letters, many at a time.
+fn write_letters(letters: &[Letter], bytes: &mut [u8])
+    requires { length bytes.old ≡ length letters.now }
+    ensures { bytes.new ≡ letters_text letters.now }
+{
+    for (place, letter) in letters.iter().enumerate() {
+        bytes[place] = letter.byte();
+    }
+}
+
 /// The letters among the bytes, up to the first byte that is not allowed, and how many bytes stand before that one.
 fn letters_among(bytes: &[u8]) -> (ArrayVec<Letter, PIECE>, usize)
     requires { length bytes.now ≤ PIECE }
     ensures front { IsAllowedFront bytes.now result.1 }
     ensures letters { result.0.items ≡ typed_letters (take result.1 bytes.now) }
 {
-    let mut letters = ArrayVec::new();
+    let mut letters = ArrayVec::from([Letter::A; PIECE]);
+    letters.truncate(bytes.len());
+    if read_letters(bytes, &mut letters) {
+        return (letters, bytes.len());
+    }
+    letters.clear();
     for (place, byte) in bytes.iter().enumerate() {
         let Some(letter) = typed(*byte) else {
             return (letters, place);
@@ -55,10 +86,9 @@ fn lamps_of(letters: &[Letter]) -> ArrayVec<u8, PIECE>
     requires { length letters.now ≤ PIECE }
     ensures { result.items ≡ letters_text letters.now }
 {
-    let mut lamps = ArrayVec::new();
-    for letter in letters {
-        lamps.push(letter.byte());
-    }
+    let mut lamps = ArrayVec::from([0; PIECE]);
+    lamps.truncate(letters.len());
+    write_letters(letters, &mut lamps);
     lamps
 }
 

@@ -1,9 +1,11 @@
-use Rattle.std.proofs.Common.{ℕ, ◌++◌, ◌∷◌, [], take, get_or, option_to_list, IsTrue, sym, ap, subst, ◌∙◌, arith}
-use Rattle.std.proofs.lemmas.List.{take_more}
+use Rattle.std.proofs.Common.{rules, ℕ, ◌++◌, ◌∷◌, [], take, get_or, option_to_list, IsTrue, sym, ap, subst, drop, length, ◌≡◌, ◌∙◌, arith}
+use Rattle.std.proofs.lemmas.List.{take_more, take_all}
 use Rattle.std.proofs.lemmas.List.Elements.{All-push}
+use Rattle.std.proofs.Math.Seq.{take-append_seam}
+use Rattle.arrayvec.specs.ArrayVec.{array_vec_len}
 use Rattle.kd_tables.specs.Text.{is_text_byte}
 use Rattle.kd_desk.specs.Typing.{AreAllowedBytes, typed_letters}
-use Rattle.kd_desk.proofs.Lamps.{typed-append}
+use Rattle.kd_desk.proofs.Lamps.{typed-append, written_typed}
 use Rattle.kd_desk.proofs.typing.piece.letters_among.Goals as goal
 
 pub loop-place-preserved : goal.loop-place-preserved
@@ -19,3 +21,19 @@ loop-place-preserved c =
           ∙ ap typed_letters (sym more);
       room = omega (arith, c.push_letter.ensures.room, c.loop-place.invariant.room);
     }
+
+pub returns-then-read_letters-clause-front : goal.returns-then-read_letters-clause-front
+returns-then-read_letters-clause-front c =
+    let typed = written_typed c.read_letters.new.letters c.if-read_letters.ensures.within in
+    record {
+      within = omega arith;
+      allowed = rw (take_all (length c.args.bytes.now) c.args.bytes.now (omega arith)) (subst AreAllowedBytes c.if-read_letters.ensures.read typed.0);
+      next = λ more. absurd (omega arith);
+    }
+
+pub returns-then-read_letters-clause-letters : goal.returns-then-read_letters-clause-letters
+returns-then-read_letters-clause-letters c =
+    let typed = written_typed c.read_letters.new.letters c.if-read_letters.ensures.within in
+    let size : array_vec_len c.truncate.new.self ≡ length c.read_letters.new.letters = search rules in
+    ap (λ n. take n (c.read_letters.new.letters ++ drop (length c.read_letters.new.letters) c.truncate.new.self.items)) size ∙ take-append_seam c.read_letters.new.letters _
+    ∙ sym typed.1 ∙ ap typed_letters (c.if-read_letters.ensures.read ∙ sym (take_all (length c.args.bytes.now) c.args.bytes.now (omega arith)))
