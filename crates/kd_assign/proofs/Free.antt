@@ -19,8 +19,11 @@ taken_or_free : (to : List (Option ℕ)) (j : ℕ) → IsTaken to j ⊎ (IsTaken
 taken_or_free to j =
     let has : Option ℕ → Bool = λ given. option_map_or (eqb j) given false in
     elim (cases_Bool (list_any has to)) [
-      | inl some ↦ (let any = Any-from_list_any has to some in inl (any.0, get_or_default to any.0 None any.1 any.2 ∙ any.3 ∙ is_number any.1 j any.4))
-      | inr none ↦ inr (λ taken. false≢true (sym none ∙ list_any_at has to taken.0 None (within to taken.0 j taken.1) (ap has taken.1 ∙ eq-eqb j j refl)))
+      | inl some ↦
+          let any = Any-from_list_any has to some in
+          inl (any.0, get_or_default to any.0 None any.1 any.2 ∙ any.3 ∙ is_number any.1 j any.4)
+      | inr none ↦ inr (λ taken. false≢true (sym none
+          ∙ list_any_at has to taken.0 None (within to taken.0 j taken.1) (ap has taken.1 ∙ eq-eqb j j refl)))
     ]
 
 -- fewer than n columns are taken, so one of the first n is free

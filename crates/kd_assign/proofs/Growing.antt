@@ -48,11 +48,16 @@ LeadsToRoot-set to reached root from end top h outside paths first = record {
   leads_on = λ i j edge. elim (written reached end (Some from) j i h edge) [
     | inl here ↦ elim first [
       | inl same ↦ inl (sym (same_Some from i here.1) ∙ same)
-      | inr on ↦ inr (on.0, rw (same_Some from i here.1) at on.1, reached_still reached end from outside on.0 on.2, (let other = is_other on.0 on.2 in grind (arith, nat_tests, on.3, here.0)))
+      | inr on ↦
+          let other = is_other on.0 on.2 in
+          let same = rw (same_Some from i here.1) at on.1 in
+          inr (on.0, same, reached_still reached end from outside on.0 on.2, grind (arith, nat_tests, on.3, here.0))
     ]
     | inr there ↦ elim (paths.leads_on i j there.1) [
       | inl same ↦ inl same
-      | inr on ↦ inr (on.0, on.1, reached_still reached end from outside on.0 on.2, (let other = is_other on.0 on.2 in grind (arith, nat_tests, on.3, there.0)))
+      | inr on ↦
+          let other = is_other on.0 on.2 in
+          inr (on.0, on.1, reached_still reached end from outside on.0 on.2, grind (arith, nat_tests, on.3, there.0))
     ]
   ];
 }
@@ -105,10 +110,12 @@ module _ (r c by k : ℤ) where
   moves_fit false q low fits least = grind (arith, ints)
 
 module _ (p : Bool) (x by x' : ℤ) (low : pos 0 ≤ℤ by) where
-  rises_little : x' ≡ cond p (x +ℤ by) x → pos 0 ≤ℤ x → x ≤ℤ pos 4 → (p ≡ true → (x +ℤ by) ≤ℤ pos 4) → (pos 0 ≤ℤ x') × (x' ≤ℤ pos 4)
+  rises_little : x' ≡ cond p (x +ℤ by) x → pos 0 ≤ℤ x → x ≤ℤ pos 4 → (p ≡ true → (x +ℤ by) ≤ℤ pos 4)
+      → (pos 0 ≤ℤ x') × (x' ≤ℤ pos 4)
   rises_little is at_least at_most high = (grind (arith, ints), grind (arith, ints))
 
-  falls_little : x' ≡ cond p (x -ℤ by) x → neg_ℤ (pos 4) ≤ℤ x → x ≤ℤ pos 0 → (p ≡ true → neg_ℤ (pos 4) ≤ℤ (x -ℤ by)) → (neg_ℤ (pos 4) ≤ℤ x') × (x' ≤ℤ pos 0)
+  falls_little : x' ≡ cond p (x -ℤ by) x → neg_ℤ (pos 4) ≤ℤ x → x ≤ℤ pos 0 → (p ≡ true → neg_ℤ (pos 4) ≤ℤ (x -ℤ by))
+      → (neg_ℤ (pos 4) ≤ℤ x') × (x' ≤ℤ pos 0)
   falls_little is at_least at_most deep = (grind (arith, ints), grind (arith, ints))
 
 module _ {cost : List (List ℕ)} {row col : List ℤ} {to : List (Option ℕ)} {root : ℕ} {reached : List (Option ℕ)}
@@ -126,10 +133,15 @@ module _ {cost : List (List ℕ)} {row col : List ℤ} {to : List (Option ℕ)} 
 
   -- both ends of an edge of the tree are in the tree
   has_ends : (i j : ℕ) → Has reached j i → (has_row to root reached i ≡ true) × (has_column reached j ≡ true)
-  has_ends i j h = (elim (growing.tree.paths.leads_on i j h) [ inl same ↦ rw (eq-eqb i root same) refl | inr on ↦ has_row_at i on.0 on.1 ∙ on.2 ], rw h refl)
+  has_ends i j h =
+      let row = elim (growing.tree.paths.leads_on i j h) as (λ _. has_row to root reached i ≡ true) [
+        | inl same ↦ rw (eq-eqb i root same) refl
+        | inr on ↦ has_row_at i on.0 on.1 ∙ on.2
+      ] in (row, rw h refl)
 
   -- a row of the tree is the root, or has a column of the tree
-  row_of_tree : (i : ℕ) → has_row to root reached i ≡ true → (i ≡ root) ⊎ ((j : ℕ) × Has to i j × (has_column reached j ≡ true))
+  row_of_tree : (i : ℕ) → has_row to root reached i ≡ true
+      → (i ≡ root) ⊎ ((j : ℕ) × Has to i j × (has_column reached j ≡ true))
   row_of_tree i h = elim (or_cases (eqb i root) (has_column_of reached (get_or to i None)) h) [
     | inl is_root ↦ inl (eqb-true i root is_root)
     | inr other ↦ inr (column_given reached (get_or to i None) other)
@@ -194,9 +206,12 @@ module _ {cost : List (List ℕ)} {row col : List ℤ} {to : List (Option ℕ)} 
       ]
 
       -- an edge stays tight where both of its ends move, or neither
-      tight_still : (i j : ℕ) → has_row to root reached i ≡ has_column reached j → IsTight cost row col i j → IsTight cost row' col' i j
+      tight_still : (i j : ℕ) → has_row to root reached i ≡ has_column reached j → IsTight cost row col i j
+          → IsTight cost row' col' i j
       tight_still i j same tight =
-          rw (row_is i, column_is j) (moves_tight (price_at row i) (price_at col j) by (pos (cost_at cost i j)) (has_row to root reached i) (has_column reached j) same tight)
+          rw (row_is i, column_is j)
+          (moves_tight (price_at row i) (price_at col j) by (pos (cost_at cost i j))
+          (has_row to root reached i) (has_column reached j) same tight)
 
       -- the least slack leaves room at every edge out of the tree
       fits_still : Fits cost row' col'
@@ -205,14 +220,22 @@ module _ {cost : List (List ℕ)} {row col : List ℤ} {to : List (Option ℕ)} 
           let fits = growing.sound.fits i j (rw (growing.sound.rows, ← moved.rows) h) (rw growing.sound.columns in_columns) in
           let room : has_row to root reached i ≡ true → has_column reached j ≡ false → by ≤ℤ slack_of cost row col i j =
           λ inside misses. rw by_is (nearest.least i j (rw growing.tree.places in_columns) inside misses) in
-          rw (row_is i, column_is j) (moves_fit (price_at row i) (price_at col j) by (pos (cost_at cost i j)) (has_row to root reached i) (has_column reached j) by_low fits room)
+          rw (row_is i, column_is j)
+          (moves_fit (price_at row i) (price_at col j) by (pos (cost_at cost i j))
+          (has_row to root reached i) (has_column reached j) by_low fits room)
 
       -- the prices stay small
       row_small : (i : ℕ) → (pos 0 ≤ℤ price_at row' i) × (price_at row' i ≤ℤ pos 4)
-      row_small i = rises_little (has_row to root reached i) (price_at row i) by (price_at row' i) by_low (row_is i) (growing.sound.small.row_low i) (growing.sound.small.row_high i) (raised_at_most i)
+      row_small i =
+          let small = growing.sound.small in
+          rises_little (has_row to root reached i) (price_at row i) by (price_at row' i) by_low
+          (row_is i) (small.row_low i) (small.row_high i) (raised_at_most i)
 
       column_small : (j : ℕ) → (neg_ℤ (pos 4) ≤ℤ price_at col' j) × (price_at col' j ≤ℤ pos 0)
-      column_small j = falls_little (has_column reached j) (price_at col j) by (price_at col' j) by_low (column_is j) (growing.sound.small.col_low j) (growing.sound.small.col_high j) (lowered_at_least j)
+      column_small j =
+          let small = growing.sound.small in
+          falls_little (has_column reached j) (price_at col j) by (price_at col' j) by_low
+          (column_is j) (small.col_low j) (small.col_high j) (lowered_at_least j)
 
       -- so what held of the prices before the move holds after it
       pub sound_still : IsSound cost row' col' to
@@ -233,8 +256,12 @@ module _ {cost : List (List ℕ)} {row col : List ℤ} {to : List (Option ℕ)} 
       -- the nearest edge has become tight, and so is every edge of the tree
       edges_tight : (i j : ℕ) → Has (set reached end (Some from)) j i → IsTight cost row' col' i j
       edges_tight i j edge = elim (written reached end (Some from) j i nearest.within edge) [
-        | inl here ↦ rw (here.0, ← same_Some from i here.1) (omega (arith, ints, row_is from ∙ cond-true _ _ _ nearest.inside, column_is end ∙ cond-false _ _ _ nearest.outside, nearest.slack_is))
-        | inr there ↦ (let ends = has_ends i j there.1 in tight_still i j (ends.0 ∙ sym ends.1) (growing.tree.tight i j there.1))
+        | inl here ↦
+            let raised = row_is from ∙ cond-true _ _ _ nearest.inside in
+            let kept = column_is end ∙ cond-false _ _ _ nearest.outside in
+            rw (here.0, ← same_Some from i here.1) (omega (arith, ints, raised, kept, nearest.slack_is))
+        | inr there ↦
+            let ends = has_ends i j there.1 in tight_still i j (ends.0 ∙ sym ends.1) (growing.tree.tight i j there.1)
       ]
 
       -- the tree with that edge is a tree
@@ -277,7 +304,8 @@ module _ {cost : List (List ℕ)} {row col : List ℤ} {to : List (Option ℕ)} 
         -- outside of the tree slacks fall as prices move
         slack_moves : (i j : ℕ) → has_row to root reached i ≡ true → has_column reached j ≡ false →
             slack_of cost row' col' i j ≡ slack_of cost row col i j -ℤ by
-        slack_moves i j has misses = omega (arith, ints, row_is i ∙ cond-true _ _ _ has, column_is j ∙ cond-false _ _ _ misses)
+        slack_moves i j has misses =
+            omega (arith, ints, row_is i ∙ cond-true _ _ _ has, column_is j ∙ cond-false _ _ _ misses)
 
         -- what was kept is lowered, and compared with the row that joins
         pub nearest_still : {near near' : List ℕ} {slacks'' : List ℤ} →
@@ -308,7 +336,8 @@ module _ {cost : List (List ℕ)} {row col : List ℤ} {to : List (Option ℕ)} 
             in_tree j h = rw (length-set reached end (Some from)) at h
 
             missed : (j : ℕ) → has_column (set reached end (Some from)) j ≡ false → has_column reached j ≡ false
-            missed j misses = false_from_ne_true (has_column reached j) (λ has. false≢true (sym misses ∙ reached_still reached end from nearest.outside j has))
+            missed j misses = false_from_ne_true (has_column reached j)
+                (λ has. false≢true (sym misses ∙ reached_still reached end from nearest.outside j has))
 
 -- what was taken is taken after the turn, and each edge is an old one or one of the tree
 pub IsSound-turned : (cost : List (List ℕ)) (row col : List ℤ) (before after : List (Option ℕ)) (root : ℕ) (reached : List (Option ℕ)) →

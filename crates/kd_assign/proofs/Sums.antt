@@ -31,8 +31,11 @@ place_or_none xs m =
     let none : ((k : ℕ) → k < length xs → eqb m (get_or xs k 0) ≡ false) → (k : ℕ) → k < length xs → get_or xs k 0 ≢ m =
     λ h k lt e. eqb-false m (get_or xs k 0) (h k lt) (sym e) in
     elim (cases_Bool (list_any (eqb m) xs)) [
-      | inl has ↦ (let any = Any-from_list_any (eqb m) xs has in inl (any.0, any.2, get_or_default xs any.0 0 any.1 any.2 ∙ any.3 ∙ sym (eqb-true m any.1 any.4)))
-      | inr misses ↦ inr (none (λ k lt. false_from_ne_true (eqb m (get_or xs k 0)) (λ e. false≢true (sym misses ∙ list_any_at (eqb m) xs k 0 lt e))))
+      | inl has ↦
+          let any = Any-from_list_any (eqb m) xs has in
+          inl (any.0, any.2, get_or_default xs any.0 0 any.1 any.2 ∙ any.3 ∙ sym (eqb-true m any.1 any.4))
+      | inr misses ↦ inr (none (λ k lt. false_from_ne_true (eqb m (get_or xs k 0))
+          (λ e. false≢true (sym misses ∙ list_any_at (eqb m) xs k 0 lt e))))
     ]
 
 -- distinct numbers up to m are below m once m is taken out

@@ -30,9 +30,13 @@ pub record Turning (before tree : List (Option ℕ)) (root : ℕ) (to reached : 
 pub IsPartial-set : (to : List (Option ℕ)) (row column : ℕ) → row < length to → column < length to →
     IsPartial to → (IsTaken to column → ⊥) → IsPartial (set to row (Some column))
 IsPartial-set to row column within_row within_column partial free = record {
-  in_range = λ i j h. grind (arith, length-set {A = Option ℕ}, written to row (Some column) i j within_row h, partial.in_range i j);
+  in_range = λ i j h.
+      grind (arith, length-set {A = Option ℕ}, written to row (Some column) i j within_row h, partial.in_range i j);
   distinct = λ i k j h e.
-      grind (arith, written to row (Some column) i j within_row h, written to row (Some column) k j within_row e, partial.distinct i k j, λ (l : ℕ) (taken : Has to l column). free (l, taken));
+      let free_of = λ (l : ℕ) (taken : Has to l column). free (l, taken) in
+      let one = written to row (Some column) i j within_row h in
+      let other = written to row (Some column) k j within_row e in
+      grind (arith, one, other, partial.distinct i k j, free_of);
 }
 
 module _ {before tree : List (Option ℕ)} {root : ℕ} {to reached : List (Option ℕ)} {column : ℕ} (row : ℕ)
@@ -54,7 +58,8 @@ module _ {before tree : List (Option ℕ)} {root : ℕ} {to reached : List (Opti
 
   -- each edge is an old one or one of the tree
   pub edges_still : (i j : ℕ) → Has (set to row (Some column)) i j → Has before i j ⊎ Has tree j i
-  edges_still i j h = grind (arith, written to row (Some column) i j row_in_range h, turning.fewer row column next, turning.edges i j)
+  edges_still i j h =
+      grind (arith, written to row (Some column) i j row_in_range h, turning.fewer row column next, turning.edges i j)
 
   -- each column that was taken is taken, or the row has it
   kept_or_left : (j : ℕ) → IsTaken before j → IsTaken (set to row (Some column)) j ⊎ Has to row j
@@ -77,11 +82,13 @@ module _ {before tree : List (Option ℕ)} {root : ℕ} {to reached : List (Opti
 
     -- one row more has a column
     pub count_at_end : count_by is_some (set to row (Some column)) ≡ count_by is_some before + 1
-    count_at_end = let was : ◌≡◌ {A = ℕ} (cond (is_some (get_or to row None)) 1 0) 0 = rw last refl in omega (arith, count_now)
+    count_at_end =
+        let was : ◌≡◌ {A = ℕ} (cond (is_some (get_or to row None)) 1 0) 0 = rw last refl in omega (arith, count_now)
 
     -- no row but the root gained a column
     pub others_at_end : (i : ℕ) → i ≢ root → HasNone before i → HasNone (set to row (Some column)) i
-    others_at_end i other none = unwritten to row (Some column) None i (λ same. grind (arith, leads_on, vacant_or to row)) (turning.others i none)
+    others_at_end i other none =
+        unwritten to row (Some column) None i (λ same. grind (arith, leads_on, vacant_or to row)) (turning.others i none)
 
   -- another row takes the column, and leaves its own
   module _ (left : ℕ) (leaves : Has to row left) where
@@ -90,11 +97,16 @@ module _ {before tree : List (Option ℕ)} {root : ℕ} {to reached : List (Opti
     row_is_not_root same = vacant_or to root left turning.vacant (rw same at leaves)
 
     earlier : (has_column reached left ≡ true) × (turning.path.order left < turning.path.order column)
-    earlier = elim leads_on [ inl same ↦ absurd (row_is_not_root same) | inr on ↦ rw (same_number to row left on.0 leaves on.1) (on.2, on.3) ]
+    earlier = elim leads_on [
+      | inl same ↦ absurd (row_is_not_root same)
+      | inr on ↦ rw (same_number to row left on.0 leaves on.1) (on.2, on.3)
+    ]
 
     -- a column that comes earlier is in what is left of the tree
-    reached_still : (j : ℕ) → turning.path.order j < turning.path.order column → has_column reached j ≡ true → has_column (set reached column None) j ≡ true
-    reached_still j lt h = let other : j ≢ column = λ same. let same_order = ap turning.path.order same in omega arith in rw get_or-set_other h
+    reached_still : (j : ℕ) → turning.path.order j < turning.path.order column → has_column reached j ≡ true
+        → has_column (set reached column None) j ≡ true
+    reached_still j lt h =
+        let other : j ≢ column = λ same. let same_order = ap turning.path.order same in omega arith in rw get_or-set_other h
 
     -- what is still in the tree was in it
     in_tree_before : (i j : ℕ) → Has (set reached column None) j i → Has reached j i
@@ -106,8 +118,10 @@ module _ {before tree : List (Option ℕ)} {root : ℕ} {to reached : List (Opti
       leads_on = λ i j upto h. elim (turning.path.leads_on i j (omega (arith, earlier.1)) (in_tree_before i j h)) [
         | inl same ↦ inl same
         | inr on ↦
-            let other : i ≢ row = λ same. let same_order = ap turning.path.order (same_number to row on.0 left (rw same at on.1) leaves) in omega (arith, on.3) in
-            inr (on.0, unwritten to row (Some column) (Some on.0) i other on.1, reached_still on.0 (omega (arith, on.3, earlier.1)) on.2, on.3)
+            let other : i ≢ row = λ same.
+            let same_order = ap turning.path.order (same_number to row on.0 left (rw same at on.1) leaves) in omega (arith, on.3) in
+            let before = reached_still on.0 (omega (arith, on.3, earlier.1)) on.2 in
+            inr (on.0, unwritten to row (Some column) (Some on.0) i other on.1, before, on.3)
       ];
     }
 
@@ -117,13 +131,22 @@ module _ {before tree : List (Option ℕ)} {root : ℕ} {to reached : List (Opti
       partial = partial_still;
       root_in_range = rw length-set turning.root_in_range;
       vacant = unwritten to row (Some column) None root (λ same. row_is_not_root (sym same)) turning.vacant;
-      free = λ taken. grind (arith, written to row (Some column) taken.0 left row_in_range taken.1, turning.partial.distinct taken.0 row left, λ (l : ℕ) (has : Has to l column). turning.free (l, has));
+      free = λ taken.
+          let free_of = λ (l : ℕ) (has : Has to l column). turning.free (l, has) in
+          let there = written to row (Some column) taken.0 left row_in_range taken.1 in
+          grind (arith, there, turning.partial.distinct taken.0 row left, free_of);
       in_range = rw length-set (turning.partial.in_range row left leaves);
       here = reached_still left earlier.1 earlier.0;
       path = path_goes_on;
       fewer = λ i j h. turning.fewer i j (in_tree_before i j h);
       edges = edges_still;
-      kept = λ j taken. elim (kept_or_left j taken) [ inl still ↦ inl still | inr has ↦ inr (same_number to row j left has leaves) ];
-      count = (let was : ◌≡◌ {A = ℕ} (cond (is_some (get_or to row None)) 1 0) 1 = rw leaves refl in omega (arith, count_now));
-      others = λ i none. unwritten to row (Some column) None i (λ same. vacant_or to i left (turning.others i none) (rw same leaves)) (turning.others i none);
+      kept = λ j taken. elim (kept_or_left j taken) [
+        | inl still ↦ inl still
+        | inr has ↦ inr (same_number to row j left has leaves)
+      ];
+      count =
+          (let was : ◌≡◌ {A = ℕ} (cond (is_some (get_or to row None)) 1 0) 1 = rw leaves refl in omega (arith, count_now));
+      others = λ i none.
+          let still = turning.others i none in
+          unwritten to row (Some column) None i (λ same. vacant_or to i left still (rw same leaves)) still;
     }
