@@ -66,6 +66,7 @@ fn letters_among(bytes: &[u8]) -> (ArrayVec<Letter, PIECE>, usize)
     ensures front { IsAllowedFront bytes.now result.1 }
     ensures letters { result.0.items ≡ typed_letters (take result.1 bytes.now) }
 {
+    // Most pieces have nothing but letters, and are read without a look at each byte by itself.
     let mut letters = ArrayVec::from([Letter::A; PIECE]);
     letters.truncate(bytes.len());
     if read_letters(bytes, &mut letters) {
