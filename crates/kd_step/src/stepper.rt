@@ -86,11 +86,11 @@ fn move_last(window: &mut [Letter], count: usize)
     advance(&mut window[first..]);
 }
 
-/// Moves each letter one on, with A after Z. The next key press waits for it, and a division would take the longest.
+/// Moves each letter one on.
 fn advance(letters: &mut [Letter])
     ensures { letters.new ≡ map next_letter letters.old }
 {
     for letter in letters.iter_mut() {
-        *letter = Letter::new(letter.index() as u8 + 1).unwrap_or(Letter::A);
+        *letter = letter.next();
     }
 }

@@ -65,13 +65,17 @@ impl Letter {
         self.index + b'A'
     }
 
-    /// The letter after this one, with A after Z.
+    /// The letter after this one, with A after Z. A compare is quicker than a division, and each key press waits for it.
     pub const fn next(self) -> Letter
         ensures value { result ≡ (self + 1) % 26 }
         ensures within { result < 26 }
     {
-        Letter {
-            index: (self.index + 1) % 26,
+        if self.index < 25 {
+            Letter {
+                index: self.index + 1,
+            }
+        } else {
+            Letter::A
         }
     }
 
