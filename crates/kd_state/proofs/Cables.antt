@@ -5,15 +5,9 @@ use Rattle.std.specs.List.Sorted.{IsPermutation}
 use Rattle.std.specs.Option.{option_to_list, is_none}
 use Rattle.std.proofs.lemmas.Bool.{true≢false, both_ways, cond_both, eqb-true, eqb-false, ne_eqb, eq-eqb, or_parts, or_from, cases_Bool, leb-false, le-leb, and_parts, and_from, not-true}
 use Rattle.std.proofs.lemmas.List.{append_assoc, drop_more}
-use Rattle.std.proofs.lemmas.List.Folds.{list_any-append}
 use Rattle.std.proofs.lemmas.List.Sorted.{IsPermutation-refl, IsPermutation-trans, IsPermutation-append_comm, IsPermutation-append_left, IsPermutation-append, IsPermutation-append_right}
 use Rattle.kd_state.specs.Machine.{cable_letters, plugged_letters, ordered}
 use Rattle.kd_state.specs.Setting.{has_letter, are_new, cable_without, cable_with}
-
--- a letter lies in a cable of these exactly where it is one of their letters
-pub has_letter_cons : (cable : Option ℕ × Option ℕ) (cables : List (Option ℕ × Option ℕ)) (letter : ℕ)
-    → has_letter (plugged_letters (cable ∷ cables)) letter ≡ (has_letter (cable_letters cable) letter || has_letter (plugged_letters cables) letter)
-has_letter_cons cable cables letter = list_any-append (λ other. nat_eq other letter) (cable_letters cable) (plugged_letters cables)
 
 pub eqb_flips : (x y : ℕ) → nat_eq x y ≡ nat_eq y x
 eqb_flips x y = elim (cases_Bool (nat_eq x y)) [

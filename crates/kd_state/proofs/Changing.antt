@@ -415,16 +415,10 @@ told (Rotor m) (Seat slot wheel) h allowed = told_seat m slot wheel h.legal allo
 told (Rotor m) (SeatReflector reflector) h allowed = told_reflector m reflector
 told (Rotor m) (RingTo wheel letter) h allowed = told_ring m wheel letter h.legal allowed
 told (Rotor m) (Turn slot letter) h allowed = told_turn m slot letter h.legal allowed
-told (Rotor m) (PinTo wheel letter effective) h allowed = absurd (none-some _ (sym allowed))
-told (Rotor m) (LugTo bar lug place) h allowed = absurd (none-some _ (sym allowed))
 told (Pin m) (Turn wheel letter) h allowed = told_shown m wheel letter allowed
 told (Pin m) (PinTo wheel letter effective) h allowed = told_pin m wheel letter effective h.legal allowed
 told (Pin m) (LugTo bar lug place) h allowed = told_lug m bar lug place allowed
-told (Pin m) (Pull cable letter) h allowed = absurd (none-some _ (sym allowed))
-told (Pin m) (Put cable letter) h allowed = absurd (none-some _ (sym allowed))
-told (Pin m) (Seat slot wheel) h allowed = absurd (none-some _ (sym allowed))
-told (Pin m) (SeatReflector reflector) h allowed = absurd (none-some _ (sym allowed))
-told (Pin m) (RingTo wheel letter) h allowed = absurd (none-some _ (sym allowed))
+told m x h allowed = absurd (none-some _ (sym allowed))
 
 pub settings_are_told : SettingsAreTold
 settings_are_told m n x h carried = subst (Makes m x) (sym carried.made) (told m x h carried.allowed)

@@ -17,10 +17,6 @@ none_below letter first (suc number) below =
     let rest = none_below letter (first + 1) number (omega arith) in
     omega (arith, count_by-cons (λ other. nat_eq letter other) first (range_with_len (first + 1) number), here, rest)
 
-at_most_one : (same : Bool) → once same ≤ 1
-at_most_one true = omega arith
-at_most_one false = omega arith
-
 counted_once_by : (letter first number : ℕ) (same : Bool) → nat_eq letter first ≡ same
     → count_by (λ other. nat_eq letter other) (range_with_len (first + 1) number) ≤ 1
     → (same ≡ true → count_by (λ other. nat_eq letter other) (range_with_len (first + 1) number) ≡ 0)

@@ -309,16 +309,10 @@ keep (Rotor m) (Seat slot wheel) h r allowed = keep_seat m slot wheel h allowed
 keep (Rotor m) (SeatReflector reflector) h r allowed = keep_reflector m reflector h allowed
 keep (Rotor m) (RingTo wheel letter) h r allowed = keep_ring m wheel letter r h
 keep (Rotor m) (Turn slot letter) h r allowed = keep_turn m slot letter r.1 h
-keep (Rotor m) (PinTo wheel letter effective) h r allowed = h
-keep (Rotor m) (LugTo bar lug place) h r allowed = h
 keep (Pin m) (Turn wheel letter) h r allowed = keep_shown m wheel letter h.legal allowed
 keep (Pin m) (PinTo wheel letter effective) h r allowed = keep_pin m wheel letter effective h.legal allowed
 keep (Pin m) (LugTo bar lug place) h r allowed = keep_lug m bar lug place h.legal allowed
-keep (Pin m) (Pull cable letter) h r allowed = h
-keep (Pin m) (Put cable letter) h r allowed = h
-keep (Pin m) (Seat slot wheel) h r allowed = h
-keep (Pin m) (SeatReflector reflector) h r allowed = h
-keep (Pin m) (RingTo wheel letter) h r allowed = h
+keep m x h r allowed = h
 
 pub settings_keep_machines : (m n : Parts) (x : Setting) → IsMachine m → IsInRange x → Carries m x n → IsMachine n
 settings_keep_machines m n x h r carried = subst IsMachine (sym carried.made) (keep m x h r carried.allowed)

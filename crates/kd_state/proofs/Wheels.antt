@@ -30,15 +30,7 @@ wheel_named text =
 wheel_named-text : (wheel : Wheel) → wheel_named (wheel_text wheel) ≡ wheel
 unfolding wheel_named
 wheel_named-text I = refl
-wheel_named-text II = refl
-wheel_named-text III = refl
-wheel_named-text IV = refl
-wheel_named-text V = refl
-wheel_named-text VI = refl
-wheel_named-text VII = refl
-wheel_named-text VIII = refl
-wheel_named-text Beta = refl
-wheel_named-text Gamma = refl
+wheel_named-text wheel = refl
 
 -- the reflector of a name
 reflector_named : List ℕ → Reflector
@@ -150,9 +142,6 @@ placed M209 slot wheel h = absurd (omega (arith, h.1))
 
 pub lacks_wheel : (wheels : List Wheel) (wheel : Wheel) → ¬ (Contains wheels wheel) → has_wheel wheels wheel ≡ false
 lacks_wheel wheels wheel h = false_from_ne_true _ (λ e. h ((has_wheel-Decides wheels wheel).0 e))
-
-pub lacks_reflector : (reflectors : List Reflector) (reflector : Reflector) → ¬ (Contains reflectors reflector) → has_reflector reflectors reflector ≡ false
-lacks_reflector reflectors reflector h = false_from_ne_true _ (λ e. h ((has_reflector-Decides reflectors reflector).0 e))
 
 -- what `==` of the program says of a wheel of the box
 pub same_tested : (wheel other : Wheel) (b : Bool) → sameb the_type other wheel ≡ b → same_wheel wheel other ≡ b
