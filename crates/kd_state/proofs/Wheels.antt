@@ -3,10 +3,9 @@ use Rattle.std.proofs.Common.{◌≡◌, ◌≢◌, ℕ, ◌<◌, ◌≤◌, nat
 use Rattle.std.specs.Prelude.{codes}
 use Rattle.std.specs.List.{list_any, position_or_len}
 use Rattle.std.specs.Str.{bytes_eq}
-use Rattle.std.proofs.lemmas.Bool.{false_from_ne_true, and_parts, leb-true, eqb-true, both_ways}
+use Rattle.std.proofs.lemmas.Bool.{false_from_ne_true, and_parts, leb-true, eqb-true}
 use Rattle.std.proofs.lemmas.Bool.Decides.{Decides-by_or, Decides-like}
 use Rattle.std.proofs.lemmas.List.Elements.{Decides-contains, Contains-append_left, Contains-append_right, Contains-get_or}
-use Rattle.std.proofs.lemmas.List.{get_or_default}
 use Rattle.std.proofs.lemmas.List.Sums.{position_or_len_is}
 use denote.Enum.Bare.{sameb, same_true, same_false}
 use Rattle.kd_tables.specs.contracts.wheel.Wheel.{the_type}
@@ -155,9 +154,3 @@ found_in_box model wheel place within before here = (
   subst (Contains (box_of model)) (sym ((same_wheel-Decides wheel (get_or (box_of model) place I)).0 here)) (Contains-get_or (box_of model) place I within),
   sym (position_or_len_is (same_wheel wheel) (box_of model) place I (omega arith) before (λ _. here)),
 )
-
-pub not_in_box : (model : Model) (wheel : Wheel) → ((k : ℕ) → k < length (box_of model) → same_wheel wheel (get_or (box_of model) k I) ≡ false) → ¬ (Contains (box_of model) wheel)
-not_in_box model wheel none h =
-    let within : h.0 < length (box_of model) = h.1 in
-    let there : get_or (box_of model) h.0 I ≡ wheel = get_or_default (box_of model) h.0 I wheel within ∙ h.2 in
-    both_ways _ (none h.0 within) ((same_wheel-Decides wheel (get_or (box_of model) h.0 I)).1 (sym there))
