@@ -53,9 +53,8 @@ two_ordered false letter other e = rw e (IsPermutation-append_comm (letter ∷ [
 
 pub ordered_moves : (one other : Option ℕ) → IsPermutation (cable_letters (one, other)) (cable_letters (ordered one other))
 ordered_moves None None = IsPermutation-refl []
-ordered_moves None (Some other) = IsPermutation-refl (other ∷ [])
-ordered_moves (Some letter) None = IsPermutation-refl (letter ∷ [])
 ordered_moves (Some letter) (Some other) = two_ordered (nat_le letter other) letter other refl
+ordered_moves one other = IsPermutation-refl (cable_letters (one, other))
 
 abbrev pub all_ordered : List (Option ℕ × Option ℕ) → List (Option ℕ × Option ℕ)
 all_ordered cables = map (λ cable. ordered cable.0 cable.1) cables
@@ -75,9 +74,8 @@ two_again false letter other e =
 
 pub ordered_again : (one other : Option ℕ) → ordered (ordered one other).0 (ordered one other).1 ≡ ordered one other
 ordered_again None None = refl
-ordered_again None (Some other) = refl
-ordered_again (Some letter) None = refl
 ordered_again (Some letter) (Some other) = two_again (nat_le letter other) letter other refl
+ordered_again one other = refl
 
 pub all_ordered_again : (cables : List (Option ℕ × Option ℕ)) → all_ordered (all_ordered cables) ≡ all_ordered cables
 all_ordered_again [] = refl

@@ -239,9 +239,8 @@ told_letter m slot letter wheel l here =
     )
 
 is_seated : (held : Option (Option Wheel)) → is_none (unwrap_or held None) ≡ false → (wheel : Wheel) × (held ≡ Some (Some wheel))
-is_seated None e = absurd (false≢true (sym e))
-is_seated (Some None) e = absurd (false≢true (sym e))
 is_seated (Some (Some wheel)) e = (wheel, refl)
+is_seated held e = absurd (false≢true (sym e))
 
 told_turn : (m : RotorParts) (slot letter : ℕ) → IsLegalRotor m → why_refused (Rotor m) (Turn slot letter) ≡ None → Makes (Rotor m) (Turn slot letter) (changed (Rotor m) (Turn slot letter))
 told_turn m slot letter l allowed =
@@ -270,13 +269,8 @@ told_shown m wheel letter allowed =
 
 -- six lists are the pins that are made of them
 six_lists : (pins : PinSet) (place : ℕ) (list : List Bool) → pins_of (pin_set (set (pins_of pins) place list)) ≡ set (pins_of pins) place list
-six_lists pins zero list = refl
-six_lists pins (suc zero) list = refl
-six_lists pins (suc (suc zero)) list = refl
-six_lists pins (suc (suc (suc zero))) list = refl
-six_lists pins (suc (suc (suc (suc zero)))) list = refl
 six_lists pins (suc (suc (suc (suc (suc zero))))) list = refl
-six_lists pins (suc (suc (suc (suc (suc (suc place)))))) list = refl
+six_lists pins place list = refl
 
 has_list : (found : Option (List Bool)) → 0 < length (unwrap_or found []) → (list : List Bool) × (found ≡ Some list)
 has_list None more = absurd (omega arith)

@@ -49,8 +49,7 @@ differ_counts p q (x ∷ xs) =
   where
     differ_once : (a b : Bool) → once (differ a b) ≤ once a + once b
     differ_once true true = omega arith
-    differ_once true false = omega arith
-    differ_once false b = omega arith
+    differ_once a b = omega arith
 
 -- at most as many letters of the alphabet lie in a list as it has
 at_most_all : (letters : List ℕ) → count_by (has_letter letters) alphabet ≤ length letters
@@ -70,9 +69,8 @@ cable_cost_at_most cable column =
 
 cable_holds_two : (cable : Option ℕ × Option ℕ) → length (cable_letters cable) ≤ 2
 cable_holds_two (None, None) = omega arith
-cable_holds_two (None, Some b) = omega arith
-cable_holds_two (Some a, None) = omega arith
 cable_holds_two (Some a, Some b) = omega arith
+cable_holds_two cable = omega arith
 
 column_holds_two : (column : Option (ℕ × ℕ)) → length (column_letters column) ≤ 2
 column_holds_two None = omega arith

@@ -3,7 +3,7 @@ use Rattle.std.proofs.Common.{◌≡◌, ◌≢◌, ℕ, zero, suc, ◌+◌, ◌
 use Rattle.std.specs.List.{IsDistinct}
 use Rattle.std.specs.List.Sorted.{IsPermutation}
 use Rattle.std.specs.Option.{is_none, option_map_or, option_or}
-use Rattle.std.proofs.lemmas.Bool.{cases_eq, cases_order, lt-ltb, not-false, false≢true, ltb-false, eqb-false}
+use Rattle.std.proofs.lemmas.Bool.{cases_eq, lt-ltb, not-false, false≢true, ltb-false, eqb-false}
 use Rattle.std.proofs.lemmas.List.{length-set, map-set, length-map}
 use Rattle.std.proofs.lemmas.List.Elements.{All-set, All-tail, All-cons}
 use Rattle.std.proofs.lemmas.List.Sorted.{All-permutation}
@@ -189,25 +189,20 @@ shown_set letters wheel letter on first h = record {
 
 pins_set : (pins : PinSet) (wheel letter : ℕ) (effective : Bool) → Contains (ring_of wheel) letter → HasAllPins pins → HasAllPins (with_pin pins wheel letter effective)
 unfolding ring_of
-pins_set pins zero letter effective on h = absurd (omega (arith, on.1))
 pins_set pins (suc zero) letter effective on h = all_pins _ (length-set _ _ _ ∙ h 1) (h 2) (h 3) (h 4) (h 5) (h 6)
 pins_set pins (suc (suc zero)) letter effective on h = all_pins _ (h 1) (length-set _ _ _ ∙ h 2) (h 3) (h 4) (h 5) (h 6)
 pins_set pins (suc (suc (suc zero))) letter effective on h = all_pins _ (h 1) (h 2) (length-set _ _ _ ∙ h 3) (h 4) (h 5) (h 6)
 pins_set pins (suc (suc (suc (suc zero)))) letter effective on h = all_pins _ (h 1) (h 2) (h 3) (length-set _ _ _ ∙ h 4) (h 5) (h 6)
 pins_set pins (suc (suc (suc (suc (suc zero))))) letter effective on h = all_pins _ (h 1) (h 2) (h 3) (h 4) (length-set _ _ _ ∙ h 5) (h 6)
 pins_set pins (suc (suc (suc (suc (suc (suc zero)))))) letter effective on h = all_pins _ (h 1) (h 2) (h 3) (h 4) (h 5) (length-set _ _ _ ∙ h 6)
-pins_set pins (suc (suc (suc (suc (suc (suc (suc wheel))))))) letter effective on h = absurd (omega (arith, on.1))
+pins_set pins wheel letter effective on h = absurd (omega (arith, on.1))
 
 still_before : (lug : Lug) (place : Place) (bar : Place × Place) → is_at place (lug_place (other_lug lug) bar) ≡ false → lies_beyond lug place (lug_place (other_lug lug) bar) ≡ false
     → IsBefore (with_lug lug place bar).0 (with_lug lug place bar).1
 still_before Left place bar apart within =
-    let ne = eqb-false (place_rank place) (place_rank bar.1) apart in
-    let le = ltb-false (place_rank bar.1) (place_rank place) within in
-    omega (arith, le, ne)
+    omega (arith, ltb-false (place_rank bar.1) (place_rank place) within, eqb-false (place_rank place) (place_rank bar.1) apart)
 still_before Right place bar apart within =
-    let ne = eqb-false (place_rank place) (place_rank bar.0) apart in
-    let le = ltb-false (place_rank place) (place_rank bar.0) within in
-    omega (arith, le, ne)
+    omega (arith, ltb-false (place_rank place) (place_rank bar.0) within, eqb-false (place_rank place) (place_rank bar.0) apart)
 
 -- ---- settings, one by one
 
@@ -338,17 +333,9 @@ ordered_parts m l = rotor_machine (record m { cables = all_ordered m.cables })
 -- a lug that would pass the other one
 beyond_of_not : (lug : Lug) (place : Place) (bar : Place × Place) → is_at place (lug_place (other_lug lug) bar) ≡ false → ¬ (IsBefore (with_lug lug place bar).0 (with_lug lug place bar).1) → lies_beyond lug place (lug_place (other_lug lug) bar) ≡ true
 beyond_of_not Left place bar apart not_before =
-    let ne = eqb-false (place_rank place) (place_rank bar.1) apart in
-    elim (cases_order (place_rank place) (place_rank bar.1)) [
-      | inl e ↦ absurd (ne e)
-      | inr other ↦ elim other [ inl less ↦ absurd (not_before less) | inr more ↦ lt-ltb (place_rank bar.1) (place_rank place) more ]
-    ]
+    lt-ltb _ _ (omega (arith, eqb-false (place_rank place) (place_rank bar.1) apart, not_before))
 beyond_of_not Right place bar apart not_before =
-    let ne = eqb-false (place_rank place) (place_rank bar.0) apart in
-    elim (cases_order (place_rank place) (place_rank bar.0)) [
-      | inl e ↦ absurd (ne e)
-      | inr other ↦ elim other [ inl less ↦ lt-ltb (place_rank place) (place_rank bar.0) less | inr more ↦ absurd (not_before more) ]
-    ]
+    lt-ltb _ _ (omega (arith, eqb-false (place_rank place) (place_rank bar.0) apart, not_before))
 
 pub would_pass : (m : PinParts) (bar : ℕ) (lug : Lug) (place : Place) (standing : Place × Place) → numbered m.bars bar ≡ Some standing
     → is_at place (lug_place (other_lug lug) standing) ≡ false → ¬ (IsBefore (with_lug lug place standing).0 (with_lug lug place standing).1) → why_refused (Pin m) (LugTo bar lug place) ≡ Some WouldPass

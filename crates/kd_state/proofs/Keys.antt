@@ -41,8 +41,7 @@ rotor_ready m s legal h = record { slots = all_seated m.slots s.wheels h.slots; 
 pub on_key_ready : OnKeyIsReady
 on_key_ready (Rotor m) (OfRotors s) machine legal h = rotor_ready m s legal h
 on_key_ready (Pin m) (OfPins s) machine legal h = tt
-on_key_ready (Rotor m) (OfPins s) machine legal h = absurd h
-on_key_ready (Pin m) (OfRotors s) machine legal h = absurd h
+on_key_ready m s machine legal h = absurd h
 
 pub reading_ready : ReadingIsReady
 reading_ready m s machine legal h = on_key_ready m s machine legal h.key
@@ -74,8 +73,7 @@ module _ (alike : SamePairsExchangeAlike) where
       ap (λ pins. converter_cipher (record { pins = pins_of pins; letters = m.letters; rows = map (λ bar. reading_of bar.0 bar.1) m.bars }) text) h.pins
       ∙ ap (λ letters. converter_cipher (record { pins = pins_of s.pins; letters = letters; rows = map (λ bar. reading_of bar.0 bar.1) m.bars }) text) shows
       ∙ converter_alike (pins_of s.pins) window (map (λ bar. reading_of bar.0 bar.1) m.bars) s.rows text h.rows
-  key_on_key (Rotor m) (OfPins s) window text machine legal h shows = absurd h
-  key_on_key (Pin m) (OfRotors s) window text machine legal h shows = absurd h
+  key_on_key m s window text machine legal h shows = absurd h
 
   cipher_on_key : (m : Parts) (s : Day) (window text : List ℕ) → IsCabled m → IsLegalDay s → OnKey m s → window_of m ≡ window
       → physical_cipher m text ≡ cipher (key_with_window (sheet_key s) window) text
@@ -90,8 +88,7 @@ module _ (alike : SamePairsExchangeAlike) where
       (ap (filter_map (letter_at m)) (wheels_of_slots m s.wheels h.key.slots)
       ∙ read_all (letter_at m) (λ w. w.letter) s.wheels (recursion_from_All (λ (w : SheetWheel). letter_at m w.wheel ≡ Some w.letter) s.wheels h.window))
   reading_cipher (Pin m) (OfPins s) text machine legal h = cipher_on_key (Pin m) (OfPins s) s.window text tt legal h.key h.window
-  reading_cipher (Rotor m) (OfPins s) text machine legal h = absurd h.key
-  reading_cipher (Pin m) (OfRotors s) text machine legal h = absurd h.key
+  reading_cipher m s text machine legal h = absurd h.key
 
   -- what one enciphers the other deciphers
   module _ (board : PairsMakeAPlugboard) (enigma_twice : enigma.TwiceGivesBack) (drum_twice : drum.TwiceGivesBack) where
@@ -128,8 +125,7 @@ turned_rotor_key m n window e shows =
 pub turned_key : TurnedHasItsKey
 turned_key (Rotor m) (Rotor n) window turned = turned_rotor_key m n window turned.0 turned.1
 turned_key (Pin m) (Pin n) window turned = ap (λ (k : PinParts). physical_key (Pin k)) turned
-turned_key (Rotor m) (Pin n) window turned = absurd turned
-turned_key (Pin m) (Rotor n) window turned = absurd turned
+turned_key m n window turned = absurd turned
 
 -- so an engine with the machine's key, turned to other letters, enciphers as the turned machine
 pub turned_engine : TurnedEngineIsTheTurnedMachine
@@ -138,14 +134,12 @@ turned_engine m n window text turned = ap (λ key. cipher key text) (sym (turned
 turned_cabled : (m n : Parts) (window : List ℕ) → IsTurned m window n → IsCabled m → IsCabled n
 turned_cabled (Rotor m) (Rotor n) window turned h = subst (λ (k : RotorParts). AreCables k.cables) (sym turned.0) h
 turned_cabled (Pin m) (Pin n) window turned h = tt
-turned_cabled (Rotor m) (Pin n) window turned h = absurd turned
-turned_cabled (Pin m) (Rotor n) window turned h = absurd turned
+turned_cabled m n window turned h = absurd turned
 
 turned_window : (m n : Parts) (window : List ℕ) → IsTurned m window n → window_of n ≡ window
 turned_window (Rotor m) (Rotor n) window turned = turned.1
 turned_window (Pin m) (Pin n) window turned = ap (λ (k : PinParts). k.letters) turned
-turned_window (Rotor m) (Pin n) window turned = absurd turned
-turned_window (Pin m) (Rotor n) window turned = absurd turned
+turned_window m n window turned = absurd turned
 
 pub turned_cipher : SamePairsExchangeAlike → TurnedHasTheDaysCipher
 turned_cipher alike m n s window text machine legal h turned =

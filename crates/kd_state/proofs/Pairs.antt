@@ -13,9 +13,8 @@ letters_more : (one other : Option ℕ) (cables : List (Option ℕ × Option ℕ
     → plugged_letters cables ≡ letters_plugged (pairs_of cables)
     → cable_letters (one, other) ++ plugged_letters cables ≡ letters_plugged (cons_option (both_ends one other) (pairs_of cables))
 letters_more None None cables h e = e
-letters_more None (Some letter) cables h e = absurd (h refl)
-letters_more (Some letter) None cables h e = absurd (h refl)
 letters_more (Some letter) (Some other) cables h e = ap (λ letters. letter ∷ other ∷ letters) e
+letters_more one other cables h e = absurd (h refl)
 
 letters_of_pairs : (cables : List (Option ℕ × Option ℕ)) → AllByRecursion (λ cable. length (cable_letters cable) ≢ 1) cables → plugged_letters cables ≡ letters_plugged (pairs_of cables)
 letters_of_pairs [] h = refl

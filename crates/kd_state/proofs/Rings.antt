@@ -56,11 +56,10 @@ off_wheel letters place d within on h =
 -- arrays of these lengths are all the pins
 pub all_pins : (pins : PinSet) → length pins.w1 ≡ 26 → length pins.w2 ≡ 25 → length pins.w3 ≡ 23 → length pins.w4 ≡ 21 → length pins.w5 ≡ 19 → length pins.w6 ≡ 17 → HasAllPins pins
 unfolding ring_of
-all_pins pins a b c d e f zero = refl
 all_pins pins a b c d e f (suc zero) = a
 all_pins pins a b c d e f (suc (suc zero)) = b
 all_pins pins a b c d e f (suc (suc (suc zero))) = c
 all_pins pins a b c d e f (suc (suc (suc (suc zero)))) = d
 all_pins pins a b c d e f (suc (suc (suc (suc (suc zero))))) = e
 all_pins pins a b c d e f (suc (suc (suc (suc (suc (suc zero)))))) = f
-all_pins pins a b c d e f (suc (suc (suc (suc (suc (suc (suc wheel))))))) = refl
+all_pins pins a b c d e f wheel = refl

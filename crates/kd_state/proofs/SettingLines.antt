@@ -1,14 +1,13 @@
 -- The words of settings' lines: no two settings have the same, and those of a form are all that begin with its word.
-use Rattle.std.proofs.Common.{◌≡◌, ◌≢◌, ℕ, ◌+◌, ◌*◌, ◌^◌, ◌<◌, ◌≤◌, length, get_or, Bool, true, false, List, [], ◌∷◌, find, unwrap_or, Option, Some, None, MatchOption, refl, sym, ap, ◌∙◌, arith}
+use Rattle.std.proofs.Common.{◌≡◌, ◌≢◌, ℕ, ◌+◌, ◌*◌, ◌^◌, ◌<◌, ◌≤◌, length, get_or, Bool, true, false, List, [], ◌∷◌, Option, Some, None, MatchOption, refl, sym, ap, ◌∙◌, arith}
 use Rattle.std.specs.List.{All, AllByRecursion}
 use Rattle.std.specs.Fmt.{decimal}
-use Rattle.std.specs.Str.{bytes_eq}
 use Rattle.std.proofs.lemmas.Fmt.{decimal_injective}
 use Rattle.std.proofs.lemmas.List.Elements.{All-from_recursion}
 use Rattle.kd_tables.specs.declared.wheel.Wheel.{Wheel}
-use Rattle.kd_tables.specs.declared.wheel.Wheel.TheVariants.{I, II, III, IV, V, VI, VII, VIII, Beta, Gamma}
+use Rattle.kd_tables.specs.declared.wheel.Wheel.TheVariants.{I}
 use Rattle.kd_tables.specs.declared.reflector.Reflector.{Reflector}
-use Rattle.kd_tables.specs.declared.reflector.Reflector.TheVariants.{A, B, C, ThinB, ThinC}
+use Rattle.kd_tables.specs.declared.reflector.Reflector.TheVariants.{A}
 use Rattle.kd_tables.specs.declared.place.Place.{Place}
 use Rattle.kd_tables.specs.declared.place.Place.TheVariants.{One}
 use Rattle.kd_tables.specs.declared.lug.Lug.{Lug}
@@ -21,30 +20,10 @@ use Rattle.kd_state.specs.declared.setting.keyword.Keyword.{Keyword}
 use Rattle.kd_state.specs.declared.setting.keyword.Keyword.TheVariants as keywords
 use Rattle.kd_state.specs.declared.setting.Setting.{Setting}
 use Rattle.kd_state.specs.declared.setting.Setting.TheVariants.{Pull, Put, Seat, SeatReflector, RingTo, Turn, PinTo, LugTo}
+use Rattle.kd_state.proofs.Wheels.{named, told, one_wheel, one_reflector}
 use Rattle.kd_state.proofs.WordLines.{word_by_test, numbers_are_words, letters_are_words, lines_split_into_words, lines_tell_words, parts_make_lines, words_make_one_line}
 
 -- ---- names: each is a word, and no two are the same
-
-abbrev named : {T : Type 0} → (T → List ℕ) → List T → T → List ℕ → T
-named name all d text = unwrap_or (find (λ x. bytes_eq (name x) text) all) d
-
-told : {T : Type 0} (name : T → List ℕ) (back : List ℕ → T) → ((x : T) → back (name x) ≡ x) → (x y : T) → name x ≡ name y → x ≡ y
-told name back undone x y e = sym (undone x) ∙ ap back e ∙ undone y
-
-wheels : List Wheel
-wheels = I ∷ II ∷ III ∷ IV ∷ V ∷ VI ∷ VII ∷ VIII ∷ Beta ∷ Gamma ∷ []
-
-same_wheel : (x y : Wheel) → wheel_text x ≡ wheel_text y → x ≡ y
-unfolding wheels
-same_wheel = told wheel_text (named wheel_text wheels I) (λ x. elim x as (λ w. named wheel_text wheels I (wheel_text w) ≡ w) [ I ↦ refl | _ ↦ refl ])
-
-reflectors : List Reflector
-reflectors = A ∷ B ∷ C ∷ ThinB ∷ ThinC ∷ []
-
-same_reflector : (x y : Reflector) → reflector_text x ≡ reflector_text y → x ≡ y
-unfolding reflectors
-same_reflector =
-    told reflector_text (named reflector_text reflectors A) (λ x. elim x as (λ r. named reflector_text reflectors A (reflector_text r) ≡ r) [ A ↦ refl | _ ↦ refl ])
 
 same_place : (x y : Place) → place_text x ≡ place_text y → x ≡ y
 same_place = told place_text (named place_text places One) (λ x. elim x as (λ p. named place_text places One (place_text p) ≡ p) [ One ↦ refl | _ ↦ refl ])
@@ -108,9 +87,9 @@ first_and_third words = get_or (get_or words 0 []) 0 0 * 256 + get_or (get_or wo
 pub same_settings : (x y : Setting) → IsInRange x → IsInRange y → setting_words x ≡ setting_words y → x ≡ y
 same_settings (Pull c l) (Pull d m) r s e = let n = same_number c d r.0 s.0 (cc) in let k = same_letter l m (cc) in cc
 same_settings (Put c l) (Put d m) r s e = let n = same_number c d r.0 s.0 (cc) in let k = same_letter l m (cc) in cc
-same_settings (Seat c w) (Seat d v) r s e = let n = same_number c d r s (cc) in let k = same_wheel w v (cc) in cc
-same_settings (SeatReflector a) (SeatReflector b) r s e = let n = same_reflector a b (cc) in cc
-same_settings (RingTo w l) (RingTo v m) r s e = let n = same_wheel w v (cc) in let k = same_letter l m (cc) in cc
+same_settings (Seat c w) (Seat d v) r s e = let n = same_number c d r s (cc) in let k = one_wheel w v (cc) in cc
+same_settings (SeatReflector a) (SeatReflector b) r s e = let n = one_reflector a b (cc) in cc
+same_settings (RingTo w l) (RingTo v m) r s e = let n = one_wheel w v (cc) in let k = same_letter l m (cc) in cc
 same_settings (Turn c l) (Turn d m) r s e = let n = same_number c d r.0 s.0 (cc) in let k = same_letter l m (cc) in cc
 same_settings (PinTo c l p) (PinTo d m q) r s e =
     let n = same_number c d r.0 s.0 (cc) in let k = same_letter l m (cc) in let o = same_pin p q (cc) in cc

@@ -7,13 +7,9 @@ use Rattle.kd_state.specs.Costs.{place_at, across, standings_as}
 pub of_zero_and : (number : ℕ) → 1 ≤ number → number ≤ 6
     → standings_as (0, number) ≡ across ZeroLeft (place_at number) ∷ across (place_at number) ZeroRight ∷ []
 unfolding standings_as
-of_zero_and (suc zero) first last = refl
-of_zero_and (suc (suc zero)) first last = refl
-of_zero_and (suc (suc (suc zero))) first last = refl
-of_zero_and (suc (suc (suc (suc zero)))) first last = refl
-of_zero_and (suc (suc (suc (suc (suc zero))))) first last = refl
-of_zero_and (suc (suc (suc (suc (suc (suc zero)))))) first last = refl
-of_zero_and number first last = absurd (omega arith)
+of_zero_and zero first last = absurd (omega arith)
+of_zero_and (suc (suc (suc (suc (suc (suc (suc number))))))) first last = absurd (omega arith)
+of_zero_and number first last = refl
 
 pub of_two : (smaller larger : ℕ) → 1 ≤ smaller → smaller < larger → larger ≤ 6
     → standings_as (smaller, larger) ≡ across (place_at smaller) (place_at larger) ∷ []
