@@ -17,8 +17,7 @@ use Rattle.kd_state.specs.Box.{has_wheel, has_reflector}
 use Rattle.kd_state.specs.Machine.{IsMachine}
 use Rattle.kd_state.specs.Setting.{why_refused, changed, Carries, Leads}
 use Rattle.kd_state.specs.Line.{IsInRange}
-use Rattle.kd_state.proofs.Keeping.{settings_keep_machines}
-use Rattle.kd_state.proofs.Reasons.{none_holds}
+use Rattle.kd_state.proofs.Keeping.{settings_keep_machines, none_holds}
 use Rattle.kd_state.proofs.Wheels.{has_wheel-Decides, has_reflector-Decides}
 
 pub lists_keep_machines : (m n : Parts) (xs : List Setting) → IsMachine m → All IsInRange xs → Leads m xs n → IsMachine n

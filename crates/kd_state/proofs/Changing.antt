@@ -35,12 +35,10 @@ use Rattle.kd_state.specs.Setting.{has_letter, cable_at, seated_in, is_plugged, 
 use Rattle.kd_state.specs.Changes.{Thing, TheSlot, TheReflector, TheRing, TheLetter, TheCable, ThePin, TheShown, TheBar, IsKept, SetsOnly, Turns, TakesOut, PutsIn, MovesLug, Makes, IsSeatOf}
 use Rattle.kd_state.specs.Laws.{SettingsAreTold}
 use Rattle.kd_state.proofs.Cables.{set_moves, without_moves, with_moves, eqb_flips, absent_of_free}
-use Rattle.kd_state.proofs.Keeping.{not_none}
-use Rattle.kd_state.proofs.Places.{places_tell_wheels}
-use Rattle.kd_state.proofs.Reasons.{none_holds}
+use Rattle.kd_state.proofs.Keeping.{not_none, none_holds}
+use Rattle.kd_state.proofs.Wheels.{places_tell_wheels, has_wheel-Decides, same_wheel-Decides, same_wheel_self, same_wheel_differs, placed, place_within, place_nowhere}
 use Rattle.kd_state.proofs.Rings.{has_letter-Decides, is_some-place_on}
 use Rattle.kd_state.proofs.Slots.{is_numbered, set_here, set_other, numbered_here, numbered_other, seated_in_box}
-use Rattle.kd_state.proofs.Wheels.{has_wheel-Decides, same_wheel-Decides, same_wheel_self, same_wheel_differs, placed, place_within, place_nowhere}
 
 -- a thing that isn't touched is kept
 abbrev Keeps : (Thing → Type 0) → Parts → Parts → Thing → Type 0

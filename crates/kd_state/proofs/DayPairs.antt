@@ -1,15 +1,34 @@
 -- Cables that are a day's pairs exchange the same letters as the pairs.
-use Rattle.std.proofs.Common.{◌≡◌, ◌≢◌, ◌↔◌, ◌⊎◌, ℕ, zero, suc, ◌<◌, nat_eq, List, [], ◌∷◌, length, get_or, All, Any, Contains, Option, Some, None, inl, inr, refl, sym, ap, ◌∙◌, subst, arith}
-use Rattle.std.specs.List.{cons_option, IsDistinct}
+use Rattle.std.proofs.Common.{◌≡◌, ◌≢◌, ◌↔◌, ◌⊎◌, ℕ, zero, suc, ◌<◌, nat_eq, List, [], ◌∷◌, length, get_or, All, Any, Contains, Option, Some, None, inl, inr, refl, sym, ap, ◌∙◌, subst, arith, ◌++◌, filter_map}
+use Rattle.std.specs.List.{cons_option, IsDistinct, AllByRecursion}
 use Rattle.std.proofs.lemmas.Bool.{eqb-false}
-use Rattle.std.proofs.lemmas.List.Elements.{All-contains}
+use Rattle.std.proofs.lemmas.List.Elements.{All-contains, recursion_from_All, All-nil, All-cons, All-head, All-tail}
 use Rattle.std.proofs.lemmas.Option.{none-some, same_Some}
 use Rattle.kd_enigma.specs.Plugs.{letters_plugged, NoLetterTwice}
 use Rattle.kd_enigma.specs.Plugs as plugs
-use Rattle.kd_state.specs.Machine.{cable_letters}
+use Rattle.kd_state.specs.Machine.{cable_letters, plugged_letters, AreCables}
 use Rattle.kd_state.specs.OnKey.{SameLetters, IsPaired, IsJoined, AreThePairs}
 use Rattle.kd_state.specs.TwoCiphers.{both_ends}
-use Rattle.kd_state.proofs.Pairs.{pairs_of}
+
+-- ---- the pairs that whole cables exchange
+
+abbrev pub pairs_of : List (Option ℕ × Option ℕ) → List (ℕ × ℕ)
+pairs_of cables = filter_map (λ cable. both_ends cable.0 cable.1) cables
+
+letters_more : (one other : Option ℕ) (cables : List (Option ℕ × Option ℕ)) → length (cable_letters (one, other)) ≢ 1
+    → plugged_letters cables ≡ letters_plugged (pairs_of cables)
+    → cable_letters (one, other) ++ plugged_letters cables ≡ letters_plugged (cons_option (both_ends one other) (pairs_of cables))
+letters_more None None cables h e = e
+letters_more (Some letter) (Some other) cables h e = ap (λ letters. letter ∷ other ∷ letters) e
+letters_more one other cables h e = absurd (h refl)
+
+letters_of_pairs : (cables : List (Option ℕ × Option ℕ)) → AllByRecursion (λ cable. length (cable_letters cable) ≢ 1) cables → plugged_letters cables ≡ letters_plugged (pairs_of cables)
+letters_of_pairs [] h = refl
+letters_of_pairs (cable ∷ cables) h = letters_more cable.0 cable.1 cables h.0 (letters_of_pairs cables h.1)
+
+pub no_letter_twice : (cables : List (Option ℕ × Option ℕ)) → AreCables cables → All (λ cable. length (cable_letters cable) ≢ 1) cables → NoLetterTwice (pairs_of cables)
+no_letter_twice cables h whole =
+    subst (IsDistinct nat_eq) (letters_of_pairs cables (recursion_from_All (λ (cable : Option ℕ × Option ℕ). length (cable_letters cable) ≢ 1) cables whole)) h.apart
 
 -- one of two, and of one
 pub of_two : (a b x : ℕ) → Contains (a ∷ b ∷ []) x → (x ≡ a) ⊎ (x ≡ b)
@@ -148,3 +167,20 @@ module _ (cables : List (Option ℕ × Option ℕ)) (pairs : List (ℕ × ℕ)) 
     λ joins. elim joins [ inl one ↦ cable_pair x y one | inr other ↦ swapped (cable_pair y x other) ],
     λ joins. elim joins [ inl one ↦ day_pair x y one | inr other ↦ swapped (day_pair y x other) ],
   )
+
+-- ---- the letters of pairs, and of cables
+
+-- the pair is of letters of the alphabet
+pub record IsPair (pair : ℕ × ℕ) : Type 0 where
+  pub one : pair.0 < 26
+  pub other : pair.1 < 26
+
+abbrev IsWithin : ℕ → Type 0
+IsWithin letter = letter < 26
+
+pub all_plugged_within : (pairs : List (ℕ × ℕ)) → All IsPair pairs → All (λ letter. letter < 26) (letters_plugged pairs)
+all_plugged_within [] each = All-nil IsWithin
+all_plugged_within (pair ∷ pairs) each =
+    let first : IsPair pair = All-head IsPair pair pairs each in
+    All-cons IsWithin pair.0 (pair.1 ∷ letters_plugged pairs) first.one
+    (All-cons IsWithin pair.1 (letters_plugged pairs) first.other (all_plugged_within pairs (All-tail IsPair pair pairs each)))

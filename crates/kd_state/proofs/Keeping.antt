@@ -1,8 +1,8 @@
 -- A setting that is carried out makes a machine of a machine.
-use Rattle.std.proofs.Common.{◌≡◌, ◌≢◌, ℕ, zero, suc, ◌+◌, ◌-◌, ◌<◌, ◌≤◌, nat_eq, Bool, true, false, not, cond, List, [], ◌∷◌, length, map, set, All, Contains, Option, Some, None, slice_get, refl, sym, ap, ◌∙◌, inl, inr, subst, arith}
+use Rattle.std.proofs.Common.{◌≡◌, ◌≢◌, ℕ, zero, suc, ◌+◌, ◌-◌, ◌<◌, ◌≤◌, nat_eq, Bool, true, false, not, cond, List, [], ◌∷◌, length, map, set, All, Contains, Option, Some, None, slice_get, refl, sym, ap, ◌∙◌, inl, inr, subst, arith, find}
 use Rattle.std.specs.List.{IsDistinct}
 use Rattle.std.specs.List.Sorted.{IsPermutation}
-use Rattle.std.specs.Option.{is_none, option_map_or, option_or}
+use Rattle.std.specs.Option.{is_none, option_map_or, option_or, option_map}
 use Rattle.std.proofs.lemmas.Bool.{cases_eq, lt-ltb, not-false, false≢true, ltb-false, eqb-false}
 use Rattle.std.proofs.lemmas.List.{length-set, map-set, length-map}
 use Rattle.std.proofs.lemmas.List.Elements.{All-set, All-tail, All-cons}
@@ -33,10 +33,19 @@ use Rattle.kd_state.specs.Machine.{cable_letters, plugged_letters, ordered, Stan
 use Rattle.kd_state.specs.Setting.{has_letter, cable_at, seated_in, is_plugged, cable_without, cable_with, without, with_letter, with_lug, lug_place, other_lug, other_place, is_at, lies_beyond, why_refused, changed, Carries}
 use Rattle.kd_state.specs.Line.{IsInRange}
 use Rattle.kd_state.proofs.Cables.{all_ordered, all_ordered_move, all_ordered_again, ordered_again, without_ordered, without_moves, with_moves, set_moves, eqb_flips, free_of_absent}
-use Rattle.kd_state.proofs.Reasons.{none_holds}
 use Rattle.kd_state.proofs.Rings.{all_pins, has_letter-Decides}
 use Rattle.kd_state.proofs.Slots.{is_numbered, numbered_at, set_other}
 use Rattle.kd_state.proofs.Wheels.{has_wheel-Decides, has_reflector-Decides, same_wheel-Decides, placed}
+
+-- ---- the first reason that holds, for which a setting is refused
+
+abbrev pub first_reason : List (Bool × Why) → Option Why
+first_reason reasons = option_map (λ reason. reason.1) (find (λ reason. reason.0) reasons)
+
+-- where no reason holds, the first doesn't, and none of the others
+pub none_holds : (holds : Bool) (why : Why) (rest : List (Bool × Why)) → first_reason ((holds, why) ∷ rest) ≡ None → (holds ≡ false) × (first_reason rest ≡ None)
+none_holds true why rest e = absurd (none-some why (sym e))
+none_holds false why rest e = (refl, e)
 
 -- what is there
 pub not_none : {X : Type 0} (found : Option X) → is_none found ≡ false → (x : X) × (found ≡ Some x)

@@ -13,9 +13,8 @@ use Rattle.kd_state.specs.Box.{place_in_box}
 use Rattle.kd_state.specs.Laws.{MachinesCanBeTurned}
 use Rattle.kd_state.specs.Machine.{StandsAt, AreApart, AreLetters, AreOnWheels, IsMachine}
 use Rattle.kd_state.specs.TwoCiphers.{IsTurned, seated_wheels}
-use Rattle.kd_state.proofs.Places.{places_tell_wheels}
+use Rattle.kd_state.proofs.Wheels.{places_tell_wheels, placed, place_within}
 use Rattle.kd_state.proofs.Slots.{set_here, set_other}
-use Rattle.kd_state.proofs.Wheels.{placed, place_within}
 
 -- letters put in their places, one for each wheel
 module _ (place : Wheel → ℕ) where

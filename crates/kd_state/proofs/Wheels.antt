@@ -1,11 +1,11 @@
 -- Wheels and reflectors by their names, and where the wheels of the box may stand.
-use Rattle.std.proofs.Common.{find, unwrap_or, ◌≡◌, ◌≢◌, ℕ, ◌<◌, ◌≤◌, nat_le, ◌==◌, Bool, true, false, ◌||◌, cond, List, [], ◌∷◌, length, get_or, Contains, Decides, refl, sym, ap, ◌∙◌, subst, arith}
+use Rattle.std.proofs.Common.{find, unwrap_or, ◌≡◌, ◌≢◌, ℕ, ◌<◌, ◌≤◌, nat_le, ◌==◌, Bool, true, false, ◌||◌, cond, List, [], ◌∷◌, length, get_or, Contains, Decides, refl, sym, ap, ◌∙◌, subst, arith, ◌+◌, Some}
 use Rattle.std.specs.List.{list_any, position_or_len}
 use Rattle.std.specs.Str.{bytes_eq}
 use Rattle.std.proofs.lemmas.Bool.{false_from_ne_true, and_parts, leb-true, eqb-true}
 use Rattle.std.proofs.lemmas.Bool.Decides.{Decides-by_or, Decides-like}
 use Rattle.std.proofs.lemmas.List.Elements.{Decides-contains, Contains-append_left, Contains-append_right, Contains-get_or}
-use Rattle.std.proofs.lemmas.List.Sums.{position_or_len_is}
+use Rattle.std.proofs.lemmas.List.Sums.{position_or_len_is, passes_at_first}
 use denote.Enum.Bare.{sameb, same_true, same_false}
 use Rattle.kd_tables.specs.contracts.wheel.Wheel.{the_type}
 use Rattle.std.proofs.lemmas.Slice.Eq.{bytes_eq-Decides}
@@ -17,6 +17,12 @@ use Rattle.kd_tables.specs.declared.reflector.Reflector.{Reflector}
 use Rattle.kd_tables.specs.declared.reflector.Reflector.TheVariants as reflectors
 use Rattle.kd_tables.specs.Tables.{box_of, slots_of, wheels_for, wheel_text, reflector_text, lies_in, IsAllowed}
 use Rattle.kd_state.specs.Box.{same_wheel, same_reflector, has_wheel, has_reflector, place_in_box}
+use Rattle.std.specs.Option.{option_map}
+use Rattle.std.proofs.lemmas.Option.{slice_get-map, slice_get-get_or}
+use Rattle.kd_state.specs.declared.sheet_day.rotor_entry.SheetWheel.{SheetWheel}
+use Rattle.kd_state.specs.Machine.{StandsAt}
+use Rattle.kd_state.specs.SheetDay.{seats}
+use Rattle.kd_state.specs.Laws.{AllowedWheelsLieInTheBox, PlacesTellWheels, DaysWheelsHaveTheirPlaces}
 
 -- a name tells what has it, where it is found again by the name
 abbrev pub named : {T : Type 0} → (T → List ℕ) → List T → T → List ℕ → T
@@ -147,3 +153,29 @@ found_in_box model wheel place within before here = (
   subst (Contains (box_of model)) (sym ((same_wheel-Decides wheel (get_or (box_of model) place I)).0 here)) (Contains-get_or (box_of model) place I within),
   sym (position_or_len_is (same_wheel wheel) (box_of model) place I (omega arith) before (λ _. here)),
 )
+
+-- ---- the wheels of the box, and those of a day, have places of their own in it
+
+pub allowed_in_box : AllowedWheelsLieInTheBox
+allowed_in_box model slot wheel h = (placed model slot wheel h).in_box
+
+-- what stands at a wheel's place is the wheel
+at_its_place : (model : Model) (wheel : Wheel) → Contains (box_of model) wheel → wheel ≡ get_or (box_of model) (place_in_box model wheel) I
+at_its_place model wheel h =
+    (same_wheel-Decides wheel (get_or (box_of model) (place_in_box model wheel) I)).0 (passes_at_first (same_wheel wheel) (box_of model) I (place_within model wheel h))
+
+pub places_tell_wheels : PlacesTellWheels
+places_tell_wheels model wheel other h k e = at_its_place model wheel h ∙ ap (λ place. get_or (box_of model) place I) e ∙ sym (at_its_place model other k)
+
+seated : (wheels : List SheetWheel) (i : ℕ) (d : SheetWheel) → i < length wheels → StandsAt (seats wheels) i (get_or wheels i d).wheel
+seated wheels i d lt = slice_get-map (λ w. Some w.wheel) wheels i ∙ ap (option_map (λ w. Some w.wheel)) (slice_get-get_or wheels i d lt)
+
+pub days_wheels_have_their_places : DaysWheelsHaveTheirPlaces
+days_wheels_have_their_places model wheels h i j d before within same =
+    let first = seated wheels i d (omega arith) in
+    let second = seated wheels j d within in
+    let wheel = places_tell_wheels model (get_or wheels i d).wheel (get_or wheels j d).wheel
+    (allowed_in_box model (i + 1) (get_or wheels i d).wheel (h.allowed i (get_or wheels i d).wheel first))
+    (allowed_in_box model (j + 1) (get_or wheels j d).wheel (h.allowed j (get_or wheels j d).wheel second)) same in
+    let one = h.apart i j (get_or wheels j d).wheel (subst (StandsAt (seats wheels) i) wheel first) second in
+    omega arith

@@ -1,6 +1,6 @@
 use Rattle.std.specs.Prelude.{length}
 use Rattle.std.proofs.lemmas.List.Elements.{All-from_all_within, AllWithin-upto}
-use Rattle.kd_state.proofs.Plugged.{IsPair, all_plugged_within}
+use Rattle.kd_state.proofs.DayPairs.{IsPair, all_plugged_within}
 use Rattle.kd_state.proofs.facts.are_pair_letters.Goals as goal
 
 pub returns : goal.returns

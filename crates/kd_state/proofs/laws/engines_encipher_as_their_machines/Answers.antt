@@ -1,5 +1,4 @@
-use Rattle.kd_state.proofs.BarsMoved.{engine_cipher}
-use Rattle.kd_state.proofs.Keys.{turned_engine}
+use Rattle.kd_state.proofs.Keys.{engine_cipher, turned_engine}
 use Rattle.kd_state.proofs.laws.engines_encipher_as_their_machines.Goals as goal
 
 pub returns : goal.returns
