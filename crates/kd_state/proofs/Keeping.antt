@@ -267,10 +267,15 @@ keep_ring m wheel letter within h =
     let l = h.legal in
     rotor_machine _ (record { slots = l.slots; allowed = l.allowed; apart = l.apart; reflector = l.reflector; rings = letters_set _ m.rings (place_in_box m.model wheel) letter within l.rings; letters = l.letters; cables = l.cables }) (in_their_order m h.cables)
 
+pub with_letters : (m : RotorParts) (letters : List ℕ) → IsMachine (Rotor m) → AreLetters (length (box_of m.model)) letters
+    → IsMachine (Rotor (record m { letters = letters }))
+with_letters m letters h are =
+    let l = h.legal in
+    rotor_machine _ (record { slots = l.slots; allowed = l.allowed; apart = l.apart; reflector = l.reflector; rings = l.rings; letters = are; cables = l.cables }) (in_their_order m h.cables)
+
 keep_turn : (m : RotorParts) (slot letter : ℕ) → letter < 26 → IsMachine (Rotor m) → IsMachine (changed (Rotor m) (Turn slot letter))
 keep_turn m slot letter within h =
-    let l = h.legal in
-    rotor_machine _ (record { slots = l.slots; allowed = l.allowed; apart = l.apart; reflector = l.reflector; rings = l.rings; letters = turned_letters m (seated_in m slot) letter within l.letters; cables = l.cables }) (in_their_order m h.cables)
+    with_letters m _ h (turned_letters m (seated_in m slot) letter within h.legal.letters)
 
 pin_machine : (m : PinParts) → IsLegalPin m → IsMachine (Pin m)
 pin_machine m legal = record { legal = legal; cables = refl }

@@ -4,7 +4,6 @@ pub mod Slots
 pub mod Rings
 pub mod WordLines
 pub mod SettingLines
-pub mod SettingLists
 mod CountedLetters
 pub mod Columns
 mod DayPairs
