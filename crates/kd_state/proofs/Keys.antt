@@ -27,7 +27,7 @@ use Rattle.std.proofs.lemmas.Bool.{cases_lt}
 use Rattle.std.proofs.Math.Nat.{min-eq_left, min-eq_right, max-eq_left, max-eq_right}
 use Rattle.std.proofs.lemmas.List.Sums.{sum_by-cons}
 use Rattle.kd_tables.specs.declared.place.Place.{Place}
-use Rattle.kd_tables.specs.declared.place.Place.TheVariants.{One, ZeroLeft, Two, Three, Four, Five, ZeroRight, Six}
+use Rattle.kd_tables.specs.declared.place.Place.TheVariants.{One}
 use Rattle.kd_state.specs.Lugs.{lug_is_met, bars_moved}
 
 -- ---- the bars that a Converter's wheels meet are as many as its readings say
@@ -55,7 +55,7 @@ pin_key m = record { pins = pins_of m.pins; letters = m.letters; rows = map (λ 
 lug_met : (m : PinParts) (count : ℕ) (place : Place) → lug_is_met m count place ≡ acts_after (pin_key m) count (place_number place)
 lug_met m count place =
     elim place as (λ place. lug_is_met m count place ≡ acts_after (pin_key m) count (place_number place))
-    [ One ↦ refl | ZeroLeft ↦ refl | Two ↦ refl | Three ↦ refl | Four ↦ refl | Five ↦ refl | ZeroRight ↦ refl | Six ↦ refl ]
+    [ One ↦ refl | _ ↦ refl ]
 
 bar_met : (m : PinParts) (count : ℕ) (bar : Place × Place)
     → (lug_is_met m count bar.0 || lug_is_met m count bar.1)
