@@ -2,7 +2,7 @@
 use Rattle.std.proofs.Common.{◌≡◌, ◌≢◌, ◌↔◌, ◌⊎◌, ℕ, zero, suc, ◌<◌, nat_eq, List, [], ◌∷◌, length, get_or, All, Any, Contains, Option, Some, None, inl, inr, refl, sym, ap, ◌∙◌, subst, arith, ◌++◌, filter_map}
 use Rattle.std.specs.List.{cons_option, IsDistinct, AllByRecursion}
 use Rattle.std.proofs.lemmas.Bool.{eqb-false}
-use Rattle.std.proofs.lemmas.List.Elements.{All-contains, recursion_from_All, All-nil, All-cons, All-head, All-tail}
+use Rattle.std.proofs.lemmas.List.Elements.{All-contains, recursion_from_All}
 use Rattle.std.proofs.lemmas.Option.{none-some, same_Some}
 use Rattle.kd_enigma.specs.Plugs.{letters_plugged, NoLetterTwice}
 use Rattle.kd_enigma.specs.Plugs as plugs
@@ -167,20 +167,3 @@ module _ (cables : List (Option ℕ × Option ℕ)) (pairs : List (ℕ × ℕ)) 
     λ joins. elim joins [ inl one ↦ cable_pair x y one | inr other ↦ swapped (cable_pair y x other) ],
     λ joins. elim joins [ inl one ↦ day_pair x y one | inr other ↦ swapped (day_pair y x other) ],
   )
-
--- ---- the letters of pairs, and of cables
-
--- the pair is of letters of the alphabet
-pub record IsPair (pair : ℕ × ℕ) : Type 0 where
-  pub one : pair.0 < 26
-  pub other : pair.1 < 26
-
-abbrev IsWithin : ℕ → Type 0
-IsWithin letter = letter < 26
-
-pub all_plugged_within : (pairs : List (ℕ × ℕ)) → All IsPair pairs → All (λ letter. letter < 26) (letters_plugged pairs)
-all_plugged_within [] each = All-nil IsWithin
-all_plugged_within (pair ∷ pairs) each =
-    let first : IsPair pair = All-head IsPair pair pairs each in
-    All-cons IsWithin pair.0 (pair.1 ∷ letters_plugged pairs) first.one
-    (All-cons IsWithin pair.1 (letters_plugged pairs) first.other (all_plugged_within pairs (All-tail IsPair pair pairs each)))
