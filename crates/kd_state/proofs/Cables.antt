@@ -5,15 +5,9 @@ use Rattle.std.specs.List.Sorted.{IsPermutation}
 use Rattle.std.specs.Option.{option_to_list, is_none}
 use Rattle.std.proofs.lemmas.Bool.{true≢false, both_ways, cond_both, eqb-true, eqb-false, ne_eqb, eq-eqb, or_parts, or_from, cases_Bool, leb-false, le-leb, and_parts, and_from, not-true}
 use Rattle.std.proofs.lemmas.List.{append_assoc, drop_more}
-use Rattle.std.proofs.lemmas.List.Folds.{list_any-append}
 use Rattle.std.proofs.lemmas.List.Sorted.{IsPermutation-refl, IsPermutation-trans, IsPermutation-append_comm, IsPermutation-append_left, IsPermutation-append, IsPermutation-append_right}
 use Rattle.kd_state.specs.Machine.{cable_letters, plugged_letters, ordered}
 use Rattle.kd_state.specs.Setting.{has_letter, are_new, cable_without, cable_with}
-
--- a letter lies in a cable of these exactly where it is one of their letters
-pub has_letter_cons : (cable : Option ℕ × Option ℕ) (cables : List (Option ℕ × Option ℕ)) (letter : ℕ)
-    → has_letter (plugged_letters (cable ∷ cables)) letter ≡ (has_letter (cable_letters cable) letter || has_letter (plugged_letters cables) letter)
-has_letter_cons cable cables letter = list_any-append (λ other. nat_eq other letter) (cable_letters cable) (plugged_letters cables)
 
 pub eqb_flips : (x y : ℕ) → nat_eq x y ≡ nat_eq y x
 eqb_flips x y = elim (cases_Bool (nat_eq x y)) [
@@ -59,9 +53,8 @@ two_ordered false letter other e = rw e (IsPermutation-append_comm (letter ∷ [
 
 pub ordered_moves : (one other : Option ℕ) → IsPermutation (cable_letters (one, other)) (cable_letters (ordered one other))
 ordered_moves None None = IsPermutation-refl []
-ordered_moves None (Some other) = IsPermutation-refl (other ∷ [])
-ordered_moves (Some letter) None = IsPermutation-refl (letter ∷ [])
 ordered_moves (Some letter) (Some other) = two_ordered (nat_le letter other) letter other refl
+ordered_moves one other = IsPermutation-refl (cable_letters (one, other))
 
 abbrev pub all_ordered : List (Option ℕ × Option ℕ) → List (Option ℕ × Option ℕ)
 all_ordered cables = map (λ cable. ordered cable.0 cable.1) cables
@@ -81,9 +74,8 @@ two_again false letter other e =
 
 pub ordered_again : (one other : Option ℕ) → ordered (ordered one other).0 (ordered one other).1 ≡ ordered one other
 ordered_again None None = refl
-ordered_again None (Some other) = refl
-ordered_again (Some letter) None = refl
 ordered_again (Some letter) (Some other) = two_again (nat_le letter other) letter other refl
+ordered_again one other = refl
 
 pub all_ordered_again : (cables : List (Option ℕ × Option ℕ)) → all_ordered (all_ordered cables) ≡ all_ordered cables
 all_ordered_again [] = refl

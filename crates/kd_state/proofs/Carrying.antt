@@ -1,5 +1,5 @@
 -- Settings and lists of them, refused and carried out.
-use Rattle.std.proofs.Common.{◌≡◌, ◌↔◌, ℕ, not, List, [], ◌∷◌, All, Contains, Option, Some, None, MatchOption, refl, sym, ◌∙◌, subst}
+use Rattle.std.proofs.Common.{Bool, Decides, ◌≡◌, ◌↔◌, ℕ, not, List, [], ◌∷◌, All, Contains, Option, Some, None, MatchOption, refl, sym, ◌∙◌, subst}
 use Rattle.std.proofs.lemmas.Bool.{not-false}
 use Rattle.std.proofs.lemmas.List.Elements.{All-head, All-tail}
 use Rattle.std.proofs.lemmas.Option.{none-some}
@@ -13,12 +13,10 @@ use Rattle.kd_state.specs.declared.setting.Setting.{Setting}
 use Rattle.kd_state.specs.declared.setting.Setting.TheVariants.{Seat, SeatReflector, RingTo}
 use Rattle.kd_state.specs.declared.setting.why.Why.{Why}
 use Rattle.kd_state.specs.declared.setting.why.Why.TheVariants.{WheelNotAllowed}
-use Rattle.kd_state.specs.Box.{has_wheel, has_reflector}
 use Rattle.kd_state.specs.Machine.{IsMachine}
 use Rattle.kd_state.specs.Setting.{why_refused, changed, Carries, Leads}
 use Rattle.kd_state.specs.Line.{IsInRange}
-use Rattle.kd_state.proofs.Keeping.{settings_keep_machines}
-use Rattle.kd_state.proofs.Reasons.{none_holds}
+use Rattle.kd_state.proofs.Keeping.{first_reason, settings_keep_machines, none_holds}
 use Rattle.kd_state.proofs.Wheels.{has_wheel-Decides, has_reflector-Decides}
 
 pub lists_keep_machines : (m n : Parts) (xs : List Setting) → IsMachine m → All IsInRange xs → Leads m xs n → IsMachine n
@@ -41,23 +39,18 @@ leads_to_one m n o [] one other = one ∙ sym other
 leads_to_one m n o (x ∷ xs) one other =
     leads_to_one one.0 n o xs one.2 (subst (λ (between : Parts). Leads between xs o) (carries_to_one m other.0 one.0 x other.1 one.1) other.2)
 
+-- a refusal by a test of the tables alone
+by_the_tables : {P : Type 0} (may : Bool) → Decides may P → (first_reason ((not may, WheelNotAllowed) ∷ []) ≡ None) ↔ P
+by_the_tables may tells = (
+  λ e. tells.0 (not-false may (none_holds (not may) WheelNotAllowed [] e).0),
+  λ h. rw (tells.1 h) refl,
+)
+
 pub seats_by_the_tables : (m : RotorParts) (slot : ℕ) (wheel : Wheel) → (why_refused (Rotor m) (Seat slot wheel) ≡ None) ↔ IsAllowed m.model slot wheel
-seats_by_the_tables m slot wheel =
-    let tells = has_wheel-Decides (wheels_for m.model slot) wheel in (
-      λ e. tells.0 (not-false _ (none_holds (not (has_wheel (wheels_for m.model slot) wheel)) WheelNotAllowed [] e).0),
-      λ h. rw (tells.1 h) refl,
-    )
+seats_by_the_tables m slot wheel = by_the_tables _ (has_wheel-Decides (wheels_for m.model slot) wheel)
 
 pub reflectors_by_the_tables : (m : RotorParts) (reflector : Reflector) → (why_refused (Rotor m) (SeatReflector reflector) ≡ None) ↔ Contains (reflectors_of m.model) reflector
-reflectors_by_the_tables m reflector =
-    let tells = has_reflector-Decides (reflectors_of m.model) reflector in (
-      λ e. tells.0 (not-false _ (none_holds (not (has_reflector (reflectors_of m.model) reflector)) WheelNotAllowed [] e).0),
-      λ h. rw (tells.1 h) refl,
-    )
+reflectors_by_the_tables m reflector = by_the_tables _ (has_reflector-Decides (reflectors_of m.model) reflector)
 
 pub rings_by_the_tables : (m : RotorParts) (wheel : Wheel) (letter : ℕ) → (why_refused (Rotor m) (RingTo wheel letter) ≡ None) ↔ Contains (box_of m.model) wheel
-rings_by_the_tables m wheel letter =
-    let tells = has_wheel-Decides (box_of m.model) wheel in (
-      λ e. tells.0 (not-false _ (none_holds (not (has_wheel (box_of m.model) wheel)) WheelNotAllowed [] e).0),
-      λ h. rw (tells.1 h) refl,
-    )
+rings_by_the_tables m wheel letter = by_the_tables _ (has_wheel-Decides (box_of m.model) wheel)

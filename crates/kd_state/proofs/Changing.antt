@@ -30,58 +30,19 @@ use Rattle.kd_state.specs.declared.setting.why.Why.{Why}
 use Rattle.kd_state.specs.declared.setting.why.Why.TheVariants.{NoSuchCable, NotThere, NoLooseEnd, SocketTaken, WheelNotAllowed, SlotEmpty, NotOnWheel, NoSuchBar, PlaceTaken, WouldPass}
 use Rattle.kd_state.specs.Box.{numbered, same_wheel, has_wheel, place_in_box}
 use Rattle.kd_state.specs.Pins.{wheel_pins, pin_at, pin_set, with_pin}
-use Rattle.kd_state.specs.Machine.{cable_letters, plugged_letters, ring_at, letter_at, AreCables, IsLegalRotor, IsLegalPin, IsMachine}
+use Rattle.kd_state.specs.Machine.{cable_letters, plugged_letters, AreCables, IsLegalRotor, IsLegalPin, IsMachine}
 use Rattle.kd_state.specs.Setting.{has_letter, cable_at, seated_in, is_plugged, cable_without, cable_with, without, with_letter, with_lug, with_lug_at, lug_place, other_lug, other_place, is_at, lies_beyond, why_refused, changed}
-use Rattle.kd_state.specs.Changes.{Thing, TheSlot, TheReflector, TheRing, TheLetter, TheCable, ThePin, TheShown, TheBar, IsKept, KeepsAllBut, SetsOnly, Turns, TakesOut, PutsIn, MovesLug, Makes}
+use Rattle.kd_state.specs.Changes.{Thing, TheSlot, TheReflector, TheRing, TheLetter, TheCable, ThePin, TheShown, TheBar, IsKept, SetsOnly, Turns, TakesOut, PutsIn, MovesLug, Makes, IsSeatOf}
 use Rattle.kd_state.specs.Laws.{SettingsAreTold}
 use Rattle.kd_state.proofs.Cables.{set_moves, without_moves, with_moves, eqb_flips, absent_of_free}
-use Rattle.kd_state.proofs.Keeping.{not_none}
-use Rattle.kd_state.proofs.Places.{places_tell_wheels}
-use Rattle.kd_state.proofs.Reasons.{none_holds}
+use Rattle.kd_state.proofs.Keeping.{not_none, none_holds}
+use Rattle.kd_state.proofs.Wheels.{places_tell_wheels, has_wheel-Decides, same_wheel-Decides, same_wheel_self, same_wheel_differs, placed, place_within, place_nowhere}
 use Rattle.kd_state.proofs.Rings.{has_letter-Decides, is_some-place_on}
 use Rattle.kd_state.proofs.Slots.{is_numbered, set_here, set_other, numbered_here, numbered_other, seated_in_box}
-use Rattle.kd_state.proofs.Wheels.{has_wheel-Decides, same_wheel-Decides, same_wheel_self, same_wheel_differs, placed, place_within, place_nowhere}
 
--- ---- what is kept
-
-record KeepsRotor (IsTouched : Thing → Type 0) (m n : RotorParts) : Type 0 where
-  model : n.model ≡ m.model
-  slots : (slot : ℕ) → ¬ (IsTouched (TheSlot slot)) → numbered n.slots slot ≡ numbered m.slots slot
-  reflector : ¬ (IsTouched TheReflector) → n.reflector ≡ m.reflector
-  rings : (wheel : Wheel) → ¬ (IsTouched (TheRing wheel)) → ring_at n wheel ≡ ring_at m wheel
-  letters : (wheel : Wheel) → ¬ (IsTouched (TheLetter wheel)) → letter_at n wheel ≡ letter_at m wheel
-  cables : (cable : ℕ) → ¬ (IsTouched (TheCable cable)) → numbered n.cables cable ≡ numbered m.cables cable
-
-rotor_kept : (IsTouched : Thing → Type 0) (m n : RotorParts) → KeepsRotor IsTouched m n → (thing : Thing) → ¬ (IsTouched thing) → IsKept (Rotor m) (Rotor n) thing
-rotor_kept IsTouched m n h (TheSlot slot) free = h.slots slot free
-rotor_kept IsTouched m n h TheReflector free = ap Some (h.reflector free)
-rotor_kept IsTouched m n h (TheRing wheel) free = h.rings wheel free
-rotor_kept IsTouched m n h (TheLetter wheel) free = h.letters wheel free
-rotor_kept IsTouched m n h (TheCable cable) free = h.cables cable free
-rotor_kept IsTouched m n h (ThePin wheel letter) free = refl
-rotor_kept IsTouched m n h (TheShown wheel) free = refl
-rotor_kept IsTouched m n h (TheBar bar) free = refl
-
-keeps_rotor : (IsTouched : Thing → Type 0) (m n : RotorParts) → KeepsRotor IsTouched m n → KeepsAllBut IsTouched (Rotor m) (Rotor n)
-keeps_rotor IsTouched m n h = record { model = h.model; others = rotor_kept IsTouched m n h }
-
-record KeepsPin (IsTouched : Thing → Type 0) (m n : PinParts) : Type 0 where
-  pins : (wheel letter : ℕ) → ¬ (IsTouched (ThePin wheel letter)) → pin_at n.pins wheel letter ≡ pin_at m.pins wheel letter
-  shown : (wheel : ℕ) → ¬ (IsTouched (TheShown wheel)) → numbered n.letters wheel ≡ numbered m.letters wheel
-  bars : (bar : ℕ) → ¬ (IsTouched (TheBar bar)) → numbered n.bars bar ≡ numbered m.bars bar
-
-pin_kept : (IsTouched : Thing → Type 0) (m n : PinParts) → KeepsPin IsTouched m n → (thing : Thing) → ¬ (IsTouched thing) → IsKept (Pin m) (Pin n) thing
-pin_kept IsTouched m n h (TheSlot slot) free = refl
-pin_kept IsTouched m n h TheReflector free = refl
-pin_kept IsTouched m n h (TheRing wheel) free = refl
-pin_kept IsTouched m n h (TheLetter wheel) free = refl
-pin_kept IsTouched m n h (TheCable cable) free = refl
-pin_kept IsTouched m n h (ThePin wheel letter) free = h.pins wheel letter free
-pin_kept IsTouched m n h (TheShown wheel) free = h.shown wheel free
-pin_kept IsTouched m n h (TheBar bar) free = h.bars bar free
-
-keeps_pin : (IsTouched : Thing → Type 0) (m n : PinParts) → KeepsPin IsTouched m n → KeepsAllBut IsTouched (Pin m) (Pin n)
-keeps_pin IsTouched m n h = record { model = refl; others = pin_kept IsTouched m n h }
+-- a thing that isn't touched is kept
+abbrev Keeps : (Thing → Type 0) → Parts → Parts → Thing → Type 0
+Keeps IsTouched m n thing = ¬ (IsTouched thing) → IsKept m n thing
 
 -- ---- cables
 
@@ -135,14 +96,13 @@ put_into letter cable loose other =
 
 keeps_cables : (m : RotorParts) (cable : ℕ) (new : Option ℕ × Option ℕ) → 1 ≤ cable
     → SetsOnly (TheCable cable) (Rotor m) (Rotor (record m { cables = set m.cables (cable - 1) new }))
-keeps_cables m cable new first = keeps_rotor _ m (record m { cables = set m.cables (cable - 1) new }) (record {
+keeps_cables m cable new first = record {
   model = refl;
-  slots = λ _ _. refl;
-  reflector = λ _. refl;
-  rings = λ _ _. refl;
-  letters = λ _ _. refl;
-  cables = λ other free. numbered_other m.cables cable other new first (λ e. free (ap TheCable e));
-})
+  others = λ thing. elim thing as (Keeps (λ t. t ≡ TheCable cable) (Rotor m) (Rotor (record m { cables = set m.cables (cable - 1) new }))) [
+    | TheCable other ↦ λ free. numbered_other m.cables cable other new first (λ e. free (ap TheCable e))
+    | _ ↦ λ _. refl
+  ];
+}
 
 told_pull : (m : RotorParts) (cable letter : ℕ) → IsLegalRotor m → why_refused (Rotor m) (Pull cable letter) ≡ None → Makes (Rotor m) (Pull cable letter) (changed (Rotor m) (Pull cable letter))
 told_pull m cable letter l allowed =
@@ -213,27 +173,25 @@ told_seat m slot wheel l allowed =
       here = numbered_here left slot (Some wheel) at.first within;
       only = λ other e. elim (cases_eq other slot) [ inl same ↦ same | inr ne ↦ absurd (not_left wheel (numbered m.slots other) (sym (other_is other ne) ∙ e)) ];
       left = λ held ne e. other_is held ne ∙ ap (option_map (without wheel)) e ∙ ap Some (taken_from wheel);
-      others = keeps_rotor _ m (record m { slots = set left (slot - 1) (Some wheel) }) (record {
+      others = record {
         model = refl;
-        slots = λ other free. other_is other (λ e. free (inl (ap TheSlot e))) ∙ not_held wheel (numbered m.slots other) (λ e. free (inr (other, refl, e)));
-        reflector = λ _. refl;
-        rings = λ _ _. refl;
-        letters = λ _ _. refl;
-        cables = λ _ _. refl;
-      });
+        others = λ thing. elim thing as (Keeps (IsSeatOf (Rotor m) slot wheel) (Rotor m) (Rotor (record m { slots = set left (slot - 1) (Some wheel) }))) [
+          | TheSlot other ↦ λ free. other_is other (λ e. free (inl (ap TheSlot e))) ∙ not_held wheel (numbered m.slots other) (λ e. free (inr (other, refl, e)))
+          | _ ↦ λ _. refl
+        ];
+      };
     }
 
 told_reflector : (m : RotorParts) (reflector : Reflector) → Makes (Rotor m) (SeatReflector reflector) (changed (Rotor m) (SeatReflector reflector))
 told_reflector m reflector = (
   refl,
-  keeps_rotor _ m (record m { reflector = reflector }) (record {
+  record {
     model = refl;
-    slots = λ _ _. refl;
-    reflector = λ free. absurd (free refl);
-    rings = λ _ _. refl;
-    letters = λ _ _. refl;
-    cables = λ _ _. refl;
-  }),
+    others = λ thing. elim thing as (Keeps (λ t. t ≡ TheReflector) (Rotor m) (Rotor (record m { reflector = reflector }))) [
+      | TheReflector ↦ λ free. absurd (free refl)
+      | _ ↦ λ _. refl
+    ];
+  },
 )
 
 -- ---- rings and window letters
@@ -252,14 +210,13 @@ told_ring m wheel letter l allowed =
     let boxed = (has_wheel-Decides (box_of m.model) wheel).0 (not-false _ first.0) in
     let place = place_in_box m.model wheel in (
       set_here m.rings place letter (omega (arith, place_within m.model wheel boxed, l.rings.count)),
-      keeps_rotor _ m (record m { rings = set m.rings place letter }) (record {
+      record {
         model = refl;
-        slots = λ _ _. refl;
-        reflector = λ _. refl;
-        rings = λ other free. set_other m.rings place (place_in_box m.model other) letter (places_differ m.model wheel other boxed (λ e. free (ap TheRing e)));
-        letters = λ _ _. refl;
-        cables = λ _ _. refl;
-      }),
+        others = λ thing. elim thing as (Keeps (λ t. t ≡ TheRing wheel) (Rotor m) (Rotor (record m { rings = set m.rings place letter }))) [
+          | TheRing other ↦ λ free. set_other m.rings place (place_in_box m.model other) letter (places_differ m.model wheel other boxed (λ e. free (ap TheRing e)))
+          | _ ↦ λ _. refl
+        ];
+      },
     )
 
 told_letter : (m : RotorParts) (slot letter : ℕ) (wheel : Wheel) → IsLegalRotor m → numbered m.slots slot ≡ Some (Some wheel)
@@ -270,20 +227,18 @@ told_letter m slot letter wheel l here =
       wheel,
       here,
       set_here m.letters place letter (omega (arith, place_within m.model wheel boxed, l.letters.count)),
-      keeps_rotor _ m (record m { letters = set m.letters place letter }) (record {
+      record {
         model = refl;
-        slots = λ _ _. refl;
-        reflector = λ _. refl;
-        rings = λ _ _. refl;
-        letters = λ other free. set_other m.letters place (place_in_box m.model other) letter (places_differ m.model wheel other boxed (λ e. free (ap TheLetter e)));
-        cables = λ _ _. refl;
-      }),
+        others = λ thing. elim thing as (Keeps (λ t. t ≡ TheLetter wheel) (Rotor m) (Rotor (record m { letters = set m.letters place letter }))) [
+          | TheLetter other ↦ λ free. set_other m.letters place (place_in_box m.model other) letter (places_differ m.model wheel other boxed (λ e. free (ap TheLetter e)))
+          | _ ↦ λ _. refl
+        ];
+      },
     )
 
 is_seated : (held : Option (Option Wheel)) → is_none (unwrap_or held None) ≡ false → (wheel : Wheel) × (held ≡ Some (Some wheel))
-is_seated None e = absurd (false≢true (sym e))
-is_seated (Some None) e = absurd (false≢true (sym e))
 is_seated (Some (Some wheel)) e = (wheel, refl)
+is_seated held e = absurd (false≢true (sym e))
 
 told_turn : (m : RotorParts) (slot letter : ℕ) → IsLegalRotor m → why_refused (Rotor m) (Turn slot letter) ≡ None → Makes (Rotor m) (Turn slot letter) (changed (Rotor m) (Turn slot letter))
 told_turn m slot letter l allowed =
@@ -301,22 +256,19 @@ told_shown m wheel letter allowed =
     let found = not_none (numbered m.letters wheel) first.0 in
     let at = is_numbered m.letters wheel found.0 found.1 in (
       numbered_here m.letters wheel letter at.first at.last,
-      keeps_pin _ m (record m { letters = set m.letters (wheel - 1) letter }) (record {
-        pins = λ _ _ _. refl;
-        shown = λ other free. numbered_other m.letters wheel other letter at.first (λ e. free (ap TheShown e));
-        bars = λ _ _. refl;
-      }),
+      record {
+        model = refl;
+        others = λ thing. elim thing as (Keeps (λ t. t ≡ TheShown wheel) (Pin m) (Pin (record m { letters = set m.letters (wheel - 1) letter }))) [
+          | TheShown other ↦ λ free. numbered_other m.letters wheel other letter at.first (λ e. free (ap TheShown e))
+          | _ ↦ λ _. refl
+        ];
+      },
     )
 
 -- six lists are the pins that are made of them
 six_lists : (pins : PinSet) (place : ℕ) (list : List Bool) → pins_of (pin_set (set (pins_of pins) place list)) ≡ set (pins_of pins) place list
-six_lists pins zero list = refl
-six_lists pins (suc zero) list = refl
-six_lists pins (suc (suc zero)) list = refl
-six_lists pins (suc (suc (suc zero))) list = refl
-six_lists pins (suc (suc (suc (suc zero)))) list = refl
 six_lists pins (suc (suc (suc (suc (suc zero))))) list = refl
-six_lists pins (suc (suc (suc (suc (suc (suc place)))))) list = refl
+six_lists pins place list = refl
 
 has_list : (found : Option (List Bool)) → 0 < length (unwrap_or found []) → (list : List Bool) × (found ≡ Some list)
 has_list None more = absurd (omega arith)
@@ -362,16 +314,18 @@ told_pin m wheel letter effective l allowed =
     λ other ne. ap (λ lists. unwrap_or (numbered lists other) []) (six_lists m.pins (wheel - 1) new)
     ∙ ap (λ found. unwrap_or found []) (numbered_other (pins_of m.pins) wheel other new at.first ne) in (
       rw (here, place.1) (set_here old place.0 effective many),
-      keeps_pin _ m (record m { pins = with_pin m.pins wheel letter effective }) (record {
-        pins = λ turned other free. elim (cases_eq turned wheel) [
-          | inl e ↦ subst (λ w. pin_at (with_pin m.pins wheel letter effective) w other ≡ pin_at m.pins w other) (sym e)
-              (ap (λ list. option_and_then (slice_get list) (place_on (ring_of wheel) other)) here
-              ∙ other_pin (ring_of wheel) old letter other place.0 effective (place_on (ring_of wheel) other) place.1 refl (λ f. free (ap (λ w. ThePin w other) e ∙ ap (ThePin wheel) f)))
-          | inr ne ↦ ap (λ list. option_and_then (slice_get list) (place_on (ring_of turned) other)) (there turned ne)
+      record {
+        model = refl;
+        others = λ thing. elim thing as (Keeps (λ t. t ≡ ThePin wheel letter) (Pin m) (Pin (record m { pins = with_pin m.pins wheel letter effective }))) [
+          | ThePin turned other ↦ λ free. elim (cases_eq turned wheel) [
+            | inl e ↦ subst (λ w. pin_at (with_pin m.pins wheel letter effective) w other ≡ pin_at m.pins w other) (sym e)
+                (ap (λ list. option_and_then (slice_get list) (place_on (ring_of wheel) other)) here
+                ∙ other_pin (ring_of wheel) old letter other place.0 effective (place_on (ring_of wheel) other) place.1 refl (λ f. free (ap (λ w. ThePin w other) e ∙ ap (ThePin wheel) f)))
+            | inr ne ↦ ap (λ list. option_and_then (slice_get list) (place_on (ring_of turned) other)) (there turned ne)
+          ]
+          | _ ↦ λ _. refl
         ];
-        shown = λ _ _. refl;
-        bars = λ _ _. refl;
-      }),
+      },
     )
 
 lug_there : (lug : Lug) (place : Place) (bar : Place × Place) → lug_place lug (with_lug lug place bar) ≡ place
@@ -397,11 +351,13 @@ told_lug m bar lug place allowed =
       other = ap (option_map (lug_place (other_lug lug))) now ∙ ap Some (other_there lug place found.0) ∙ ap (option_map (lug_place (other_lug lug))) (sym found.1);
     }
     in
-    let kept : SetsOnly (TheBar bar) (Pin m) (Pin (record m { bars = bars })) = keeps_pin _ m (record m { bars = bars }) (record {
-      pins = λ _ _ _. refl;
-      shown = λ _ _. refl;
-      bars = λ other free. numbered_other m.bars bar other new at.first (λ e. free (ap TheBar e));
-    })
+    let kept : SetsOnly (TheBar bar) (Pin m) (Pin (record m { bars = bars })) = record {
+      model = refl;
+      others = λ thing. elim thing as (Keeps (λ t. t ≡ TheBar bar) (Pin m) (Pin (record m { bars = bars }))) [
+        | TheBar other ↦ λ free. numbered_other m.bars bar other new at.first (λ e. free (ap TheBar e))
+        | _ ↦ λ _. refl
+      ];
+    }
     in
     let all : with_lug_at m bar lug place ≡ bars = ap (λ found. option_map_or (λ standing. set m.bars (bar - 1) (with_lug lug place standing)) found m.bars) found.1 in
     subst (λ bars. Makes (Pin m) (LugTo bar lug place) (Pin (record m { bars = bars }))) (sym all) (moved, kept)
@@ -415,16 +371,10 @@ told (Rotor m) (Seat slot wheel) h allowed = told_seat m slot wheel h.legal allo
 told (Rotor m) (SeatReflector reflector) h allowed = told_reflector m reflector
 told (Rotor m) (RingTo wheel letter) h allowed = told_ring m wheel letter h.legal allowed
 told (Rotor m) (Turn slot letter) h allowed = told_turn m slot letter h.legal allowed
-told (Rotor m) (PinTo wheel letter effective) h allowed = absurd (none-some _ (sym allowed))
-told (Rotor m) (LugTo bar lug place) h allowed = absurd (none-some _ (sym allowed))
 told (Pin m) (Turn wheel letter) h allowed = told_shown m wheel letter allowed
 told (Pin m) (PinTo wheel letter effective) h allowed = told_pin m wheel letter effective h.legal allowed
 told (Pin m) (LugTo bar lug place) h allowed = told_lug m bar lug place allowed
-told (Pin m) (Pull cable letter) h allowed = absurd (none-some _ (sym allowed))
-told (Pin m) (Put cable letter) h allowed = absurd (none-some _ (sym allowed))
-told (Pin m) (Seat slot wheel) h allowed = absurd (none-some _ (sym allowed))
-told (Pin m) (SeatReflector reflector) h allowed = absurd (none-some _ (sym allowed))
-told (Pin m) (RingTo wheel letter) h allowed = absurd (none-some _ (sym allowed))
+told m x h allowed = absurd (none-some _ (sym allowed))
 
 pub settings_are_told : SettingsAreTold
 settings_are_told m n x h carried = subst (Makes m x) (sym carried.made) (told m x h carried.allowed)

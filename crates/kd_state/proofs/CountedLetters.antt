@@ -17,10 +17,6 @@ none_below letter first (suc number) below =
     let rest = none_below letter (first + 1) number (omega arith) in
     omega (arith, count_by-cons (λ other. nat_eq letter other) first (range_with_len (first + 1) number), here, rest)
 
-at_most_one : (same : Bool) → once same ≤ 1
-at_most_one true = omega arith
-at_most_one false = omega arith
-
 counted_once_by : (letter first number : ℕ) (same : Bool) → nat_eq letter first ≡ same
     → count_by (λ other. nat_eq letter other) (range_with_len (first + 1) number) ≤ 1
     → (same ≡ true → count_by (λ other. nat_eq letter other) (range_with_len (first + 1) number) ≡ 0)
@@ -53,8 +49,7 @@ differ_counts p q (x ∷ xs) =
   where
     differ_once : (a b : Bool) → once (differ a b) ≤ once a + once b
     differ_once true true = omega arith
-    differ_once true false = omega arith
-    differ_once false b = omega arith
+    differ_once a b = omega arith
 
 -- at most as many letters of the alphabet lie in a list as it has
 at_most_all : (letters : List ℕ) → count_by (has_letter letters) alphabet ≤ length letters
@@ -74,9 +69,8 @@ cable_cost_at_most cable column =
 
 cable_holds_two : (cable : Option ℕ × Option ℕ) → length (cable_letters cable) ≤ 2
 cable_holds_two (None, None) = omega arith
-cable_holds_two (None, Some b) = omega arith
-cable_holds_two (Some a, None) = omega arith
 cable_holds_two (Some a, Some b) = omega arith
+cable_holds_two cable = omega arith
 
 column_holds_two : (column : Option (ℕ × ℕ)) → length (column_letters column) ≤ 2
 column_holds_two None = omega arith

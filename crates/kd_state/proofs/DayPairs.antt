@@ -1,23 +1,42 @@
 -- Cables that are a day's pairs exchange the same letters as the pairs.
-use Rattle.std.proofs.Common.{◌≡◌, ◌≢◌, ◌↔◌, ◌⊎◌, ℕ, zero, suc, ◌<◌, nat_eq, List, [], ◌∷◌, length, get_or, All, Any, Contains, Option, Some, None, inl, inr, refl, sym, ap, ◌∙◌, subst, arith}
-use Rattle.std.specs.List.{cons_option, IsDistinct}
+use Rattle.std.proofs.Common.{◌≡◌, ◌≢◌, ◌↔◌, ◌⊎◌, ℕ, zero, suc, ◌<◌, nat_eq, List, [], ◌∷◌, length, get_or, All, Any, Contains, Option, Some, None, inl, inr, refl, sym, ap, ◌∙◌, subst, arith, ◌++◌, filter_map}
+use Rattle.std.specs.List.{cons_option, IsDistinct, AllByRecursion}
 use Rattle.std.proofs.lemmas.Bool.{eqb-false}
-use Rattle.std.proofs.lemmas.List.Elements.{All-contains}
+use Rattle.std.proofs.lemmas.List.Elements.{All-contains, recursion_from_All}
 use Rattle.std.proofs.lemmas.Option.{none-some, same_Some}
 use Rattle.kd_enigma.specs.Plugs.{letters_plugged, NoLetterTwice}
 use Rattle.kd_enigma.specs.Plugs as plugs
-use Rattle.kd_state.specs.Machine.{cable_letters}
+use Rattle.kd_state.specs.Machine.{cable_letters, plugged_letters, AreCables}
 use Rattle.kd_state.specs.OnKey.{SameLetters, IsPaired, IsJoined, AreThePairs}
 use Rattle.kd_state.specs.TwoCiphers.{both_ends}
-use Rattle.kd_state.proofs.Pairs.{pairs_of}
+
+-- ---- the pairs that whole cables exchange
+
+abbrev pub pairs_of : List (Option ℕ × Option ℕ) → List (ℕ × ℕ)
+pairs_of cables = filter_map (λ cable. both_ends cable.0 cable.1) cables
+
+letters_more : (one other : Option ℕ) (cables : List (Option ℕ × Option ℕ)) → length (cable_letters (one, other)) ≢ 1
+    → plugged_letters cables ≡ letters_plugged (pairs_of cables)
+    → cable_letters (one, other) ++ plugged_letters cables ≡ letters_plugged (cons_option (both_ends one other) (pairs_of cables))
+letters_more None None cables h e = e
+letters_more (Some letter) (Some other) cables h e = ap (λ letters. letter ∷ other ∷ letters) e
+letters_more one other cables h e = absurd (h refl)
+
+letters_of_pairs : (cables : List (Option ℕ × Option ℕ)) → AllByRecursion (λ cable. length (cable_letters cable) ≢ 1) cables → plugged_letters cables ≡ letters_plugged (pairs_of cables)
+letters_of_pairs [] h = refl
+letters_of_pairs (cable ∷ cables) h = letters_more cable.0 cable.1 cables h.0 (letters_of_pairs cables h.1)
+
+pub no_letter_twice : (cables : List (Option ℕ × Option ℕ)) → AreCables cables → All (λ cable. length (cable_letters cable) ≢ 1) cables → NoLetterTwice (pairs_of cables)
+no_letter_twice cables h whole =
+    subst (IsDistinct nat_eq) (letters_of_pairs cables (recursion_from_All (λ (cable : Option ℕ × Option ℕ). length (cable_letters cable) ≢ 1) cables whole)) h.apart
 
 -- one of two, and of one
-of_two : (a b x : ℕ) → Contains (a ∷ b ∷ []) x → (x ≡ a) ⊎ (x ≡ b)
+pub of_two : (a b x : ℕ) → Contains (a ∷ b ∷ []) x → (x ≡ a) ⊎ (x ≡ b)
 of_two a b x (zero, below, is) = inl (sym is)
 of_two a b x (suc zero, below, is) = inr (sym is)
 of_two a b x (suc (suc k), below, is) = absurd (omega arith)
 
-of_one : (a x : ℕ) → Contains (a ∷ []) x → x ≡ a
+pub of_one : (a x : ℕ) → Contains (a ∷ []) x → x ≡ a
 of_one a x (zero, below, is) = sym is
 of_one a x (suc k, below, is) = absurd (omega arith)
 
@@ -42,11 +61,9 @@ same_two a b p q same =
 -- the pairs of cables
 from_pairs_more : (one other : Option ℕ) (cables : List (Option ℕ × Option ℕ)) (pair : ℕ × ℕ) → Contains (cons_option (both_ends one other) (pairs_of cables)) pair
     → (both_ends one other ≡ Some pair) ⊎ Contains (pairs_of cables) pair
-from_pairs_more None None cables pair there = inr there
-from_pairs_more None (Some other) cables pair there = inr there
-from_pairs_more (Some one) None cables pair there = inr there
 from_pairs_more (Some one) (Some other) cables pair (zero, below, is) = inl (ap Some is)
 from_pairs_more (Some one) (Some other) cables pair (suc k, below, is) = inr (k, omega arith, is)
+from_pairs_more one other cables pair there = inr there
 
 pub from_pairs : (cables : List (Option ℕ × Option ℕ)) (pair : ℕ × ℕ) → Contains (pairs_of cables) pair
     → (cable : Option ℕ × Option ℕ) × Contains cables cable × (both_ends cable.0 cable.1 ≡ Some pair)
@@ -58,16 +75,13 @@ from_pairs (cable ∷ cables) pair there = elim (from_pairs_more cable.0 cable.1
 
 into_pairs_here : (one other : Option ℕ) (cables : List (Option ℕ × Option ℕ)) (pair : ℕ × ℕ) → both_ends one other ≡ Some pair
     → Contains (cons_option (both_ends one other) (pairs_of cables)) pair
-into_pairs_here None other cables pair is = absurd (none-some pair is)
-into_pairs_here (Some one) None cables pair is = absurd (none-some pair is)
 into_pairs_here (Some one) (Some other) cables pair is = (0, omega arith, same_Some (one, other) pair is)
+into_pairs_here one other cables pair is = absurd (none-some pair is)
 
 into_pairs_later : (one other : Option ℕ) (cables : List (Option ℕ × Option ℕ)) (pair : ℕ × ℕ) → Contains (pairs_of cables) pair
     → Contains (cons_option (both_ends one other) (pairs_of cables)) pair
-into_pairs_later None None cables pair there = there
-into_pairs_later None (Some other) cables pair there = there
-into_pairs_later (Some one) None cables pair there = there
 into_pairs_later (Some one) (Some other) cables pair there = (suc there.0, omega (arith, there.1), there.2)
+into_pairs_later one other cables pair there = there
 
 pub into_pairs : (cables : List (Option ℕ × Option ℕ)) (k : ℕ) (d : Option ℕ × Option ℕ) (pair : ℕ × ℕ) → k < length cables
     → both_ends (get_or cables k d).0 (get_or cables k d).1 ≡ Some pair → Contains (pairs_of cables) pair
@@ -91,9 +105,8 @@ one_letter pairs letter letters apart is there =
     apart_at pairs there.0 pair apart there.2 (ap (λ (p : ℕ × ℕ). p.0) there.3 ∙ first ∙ sym second ∙ sym (ap (λ (p : ℕ × ℕ). p.1) there.3))
 
 lone : (letters : List ℕ) → length letters ≡ 1 → (letter : ℕ) × (letters ≡ letter ∷ [])
-lone [] e = absurd (omega arith)
 lone (letter ∷ []) e = (letter, refl)
-lone (letter ∷ other ∷ letters) e = absurd (omega arith)
+lone letters e = absurd (omega arith)
 
 whole_cable : (pairs : List (ℕ × ℕ)) (cable : Option ℕ × Option ℕ) → NoLetterTwice pairs → IsPaired pairs cable → length (cable_letters cable) ≢ 1
 whole_cable pairs cable apart paired one =
@@ -106,15 +119,13 @@ whole_cables cables pairs apart h = λ k d below. whole_cable pairs (get_or cabl
 
 -- a cable of two letters
 two_ends : (one other : Option ℕ) (pair : ℕ × ℕ) → both_ends one other ≡ Some pair → cable_letters (one, other) ≡ pair.0 ∷ pair.1 ∷ []
-two_ends None other pair is = absurd (none-some pair is)
-two_ends (Some one) None pair is = absurd (none-some pair is)
 two_ends (Some one) (Some other) pair is = ap (λ (p : ℕ × ℕ). p.0 ∷ p.1 ∷ []) (same_Some (one, other) pair is)
+two_ends one other pair is = absurd (none-some pair is)
 
 both_plugged : (one other : Option ℕ) (letter : ℕ) → length (cable_letters (one, other)) ≢ 1 → Contains (cable_letters (one, other)) letter → (pair : ℕ × ℕ) × (both_ends one other ≡ Some pair)
 both_plugged None None letter whole there = absurd (omega (arith, there.1))
-both_plugged None (Some other) letter whole there = absurd (whole refl)
-both_plugged (Some one) None letter whole there = absurd (whole refl)
 both_plugged (Some one) (Some other) letter whole there = ((one, other), refl)
+both_plugged one other letter whole there = absurd (whole refl)
 
 -- in either order
 either_way : (pairs : List (ℕ × ℕ)) (pair : ℕ × ℕ) (x y : ℕ) → Contains pairs pair → ((pair.0 ≡ x) × (pair.1 ≡ y)) ⊎ ((pair.0 ≡ y) × (pair.1 ≡ x)) → plugs.Joins pairs x y

@@ -1,17 +1,9 @@
 -- When a cable's letters are a pair's.
-use Rattle.std.specs.Prelude.{◌≡◌, ◌⊎◌, ◌↔◌, ℕ, [], ◌∷◌, Contains, Option, Some, None}
-use Rattle.std.proofs.Common.{zero, suc, refl, sym, subst, ◌∙◌, inl, inr, arith}
+use Rattle.std.specs.Prelude.{◌≡◌, ◌↔◌, ℕ, [], ◌∷◌, Contains, Option, Some, None}
+use Rattle.std.proofs.Common.{refl, sym, subst, inl, inr, arith}
 use Rattle.kd_state.specs.Machine.{cable_letters}
 use Rattle.kd_state.specs.OnKey.{AreTheLetters, Joins, SameLetters}
-
-one_of_two : (a b x : ℕ) → Contains (a ∷ b ∷ []) x → (a ≡ x) ⊎ (b ≡ x)
-one_of_two a b x (zero, below, is) = inl is
-one_of_two a b x (suc zero, below, is) = inr is
-one_of_two a b x (suc (suc k), below, is) = absurd (omega arith)
-
-only_one : (a x : ℕ) → Contains (a ∷ []) x → a ≡ x
-only_one a x (zero, below, is) = is
-only_one a x (suc k, below, is) = absurd (omega arith)
+use Rattle.kd_state.proofs.DayPairs.{of_one, of_two, same_two}
 
 none_there : (x : ℕ) → Contains {X = ℕ} [] x → ⊥
 none_there x (k, below, is) = absurd (omega arith)
@@ -23,9 +15,9 @@ second_there : (a b : ℕ) → Contains (a ∷ b ∷ []) b
 second_there a b = (1, omega arith, refl)
 
 other_order : (a b x : ℕ) → Contains (a ∷ b ∷ []) x → Contains (b ∷ a ∷ []) x
-other_order a b x there = elim (one_of_two a b x there) [
-  | inl is ↦ subst (Contains (b ∷ a ∷ [])) is (second_there b a)
-  | inr is ↦ subst (Contains (b ∷ a ∷ [])) is (first_there b a)
+other_order a b x there = elim (of_two a b x there) [
+  | inl is ↦ subst (Contains (b ∷ a ∷ [])) (sym is) (second_there b a)
+  | inr is ↦ subst (Contains (b ∷ a ∷ [])) (sym is) (first_there b a)
 ]
 
 -- a cable with these letters
@@ -44,38 +36,27 @@ two_in_order a b (p, q) (inr same) = record {
 }
 
 letters_joined : (a b : ℕ) (pair : ℕ × ℕ) → Joins (Some a, Some b) pair → AreTheLetters a b pair
-letters_joined a b (p, q) joined =
-    let p_there : (a ≡ p) ⊎ (b ≡ p) = one_of_two a b p ((joined.letters p).1 (first_there p q)) in
-    let q_there : (a ≡ q) ⊎ (b ≡ q) = one_of_two a b q ((joined.letters q).1 (second_there p q)) in
-    let a_there : (p ≡ a) ⊎ (q ≡ a) = one_of_two p q a ((joined.letters a).0 (first_there a b)) in
-    let b_there : (p ≡ b) ⊎ (q ≡ b) = one_of_two p q b ((joined.letters b).0 (second_there a b)) in
-    elim p_there [
-      | inl at ↦ elim q_there [
-        | inl aq ↦ elim b_there [ inl pb ↦ inl (at, sym pb ∙ sym at ∙ aq) | inr qb ↦ inl (at, sym qb) ]
-        | inr bq ↦ inl (at, bq)
-      ]
-      | inr bp ↦ elim q_there [
-        | inl aq ↦ inr (bp, aq)
-        | inr bq ↦ elim a_there [ inl pa ↦ inr (bp, sym pa ∙ sym bp ∙ bq) | inr qa ↦ inr (bp, sym qa) ]
-      ]
-    ]
+letters_joined a b (p, q) joined = elim (same_two a b p q joined.letters) [
+  | inl same ↦ inl (sym same.0, sym same.1)
+  | inr same ↦ inr (sym same.0, sym same.1)
+]
 
 one_in_pair : (a : ℕ) (pair : ℕ × ℕ) → AreTheLetters a a pair → Joins (Some a, None) pair
 one_in_pair a pair same =
     let both = two_in_order a a pair same in
     record {
       letters = λ letter. (
-        λ there. (both.letters letter).0 (subst (Contains (a ∷ a ∷ [])) (only_one a letter there) (first_there a a)),
-        λ there. elim (one_of_two a a letter ((both.letters letter).1 there)) [
-          | inl is ↦ subst (Contains (a ∷ [])) is (0, omega arith, refl)
-          | inr is ↦ subst (Contains (a ∷ [])) is (0, omega arith, refl)
+        λ there. (both.letters letter).0 (subst (Contains (a ∷ a ∷ [])) (sym (of_one a letter there)) (first_there a a)),
+        λ there. elim (of_two a a letter ((both.letters letter).1 there)) [
+          | inl is ↦ subst (Contains (a ∷ [])) (sym is) (0, omega arith, refl)
+          | inr is ↦ subst (Contains (a ∷ [])) (sym is) (0, omega arith, refl)
         ],
       );
     }
 
 one_joined : (a : ℕ) (pair : ℕ × ℕ) → Joins (Some a, None) pair → AreTheLetters a a pair
 one_joined a (p, q) joined =
-    inl (only_one a p ((joined.letters p).1 (first_there p q)), only_one a q ((joined.letters q).1 (second_there p q)))
+    inl (sym (of_one a p ((joined.letters p).1 (first_there p q))), sym (of_one a q ((joined.letters q).1 (second_there p q))))
 
 -- what a cable joins, by what lies in its ends
 pub joins_two : (cable : Option ℕ × Option ℕ) (pair : ℕ × ℕ) (a b : ℕ) → cable.0 ≡ Some a → cable.1 ≡ Some b

@@ -1,9 +1,9 @@
 -- A setting that is carried out makes a machine of a machine.
-use Rattle.std.proofs.Common.{◌≡◌, ◌≢◌, ℕ, zero, suc, ◌+◌, ◌-◌, ◌<◌, ◌≤◌, nat_eq, Bool, true, false, not, cond, List, [], ◌∷◌, length, map, set, All, Contains, Option, Some, None, slice_get, refl, sym, ap, ◌∙◌, inl, inr, subst, arith}
+use Rattle.std.proofs.Common.{◌≡◌, ◌≢◌, ℕ, zero, suc, ◌+◌, ◌-◌, ◌<◌, ◌≤◌, nat_eq, Bool, true, false, not, cond, List, [], ◌∷◌, length, map, set, All, Contains, Option, Some, None, slice_get, refl, sym, ap, ◌∙◌, inl, inr, subst, arith, find}
 use Rattle.std.specs.List.{IsDistinct}
 use Rattle.std.specs.List.Sorted.{IsPermutation}
-use Rattle.std.specs.Option.{is_none, option_map_or, option_or}
-use Rattle.std.proofs.lemmas.Bool.{cases_eq, cases_order, lt-ltb, not-false, false≢true, ltb-false, eqb-false}
+use Rattle.std.specs.Option.{is_none, option_map_or, option_or, option_map}
+use Rattle.std.proofs.lemmas.Bool.{cases_eq, lt-ltb, not-false, false≢true, ltb-false, eqb-false}
 use Rattle.std.proofs.lemmas.List.{length-set, map-set, length-map}
 use Rattle.std.proofs.lemmas.List.Elements.{All-set, All-tail, All-cons}
 use Rattle.std.proofs.lemmas.List.Sorted.{All-permutation}
@@ -33,10 +33,19 @@ use Rattle.kd_state.specs.Machine.{cable_letters, plugged_letters, ordered, Stan
 use Rattle.kd_state.specs.Setting.{has_letter, cable_at, seated_in, is_plugged, cable_without, cable_with, without, with_letter, with_lug, lug_place, other_lug, other_place, is_at, lies_beyond, why_refused, changed, Carries}
 use Rattle.kd_state.specs.Line.{IsInRange}
 use Rattle.kd_state.proofs.Cables.{all_ordered, all_ordered_move, all_ordered_again, ordered_again, without_ordered, without_moves, with_moves, set_moves, eqb_flips, free_of_absent}
-use Rattle.kd_state.proofs.Reasons.{none_holds}
 use Rattle.kd_state.proofs.Rings.{all_pins, has_letter-Decides}
 use Rattle.kd_state.proofs.Slots.{is_numbered, numbered_at, set_other}
 use Rattle.kd_state.proofs.Wheels.{has_wheel-Decides, has_reflector-Decides, same_wheel-Decides, placed}
+
+-- ---- the first reason that holds, for which a setting is refused
+
+abbrev pub first_reason : List (Bool × Why) → Option Why
+first_reason reasons = option_map (λ reason. reason.1) (find (λ reason. reason.0) reasons)
+
+-- where no reason holds, the first doesn't, and none of the others
+pub none_holds : (holds : Bool) (why : Why) (rest : List (Bool × Why)) → first_reason ((holds, why) ∷ rest) ≡ None → (holds ≡ false) × (first_reason rest ≡ None)
+none_holds true why rest e = absurd (none-some why (sym e))
+none_holds false why rest e = (refl, e)
 
 -- what is there
 pub not_none : {X : Type 0} (found : Option X) → is_none found ≡ false → (x : X) × (found ≡ Some x)
@@ -189,25 +198,20 @@ shown_set letters wheel letter on first h = record {
 
 pins_set : (pins : PinSet) (wheel letter : ℕ) (effective : Bool) → Contains (ring_of wheel) letter → HasAllPins pins → HasAllPins (with_pin pins wheel letter effective)
 unfolding ring_of
-pins_set pins zero letter effective on h = absurd (omega (arith, on.1))
 pins_set pins (suc zero) letter effective on h = all_pins _ (length-set _ _ _ ∙ h 1) (h 2) (h 3) (h 4) (h 5) (h 6)
 pins_set pins (suc (suc zero)) letter effective on h = all_pins _ (h 1) (length-set _ _ _ ∙ h 2) (h 3) (h 4) (h 5) (h 6)
 pins_set pins (suc (suc (suc zero))) letter effective on h = all_pins _ (h 1) (h 2) (length-set _ _ _ ∙ h 3) (h 4) (h 5) (h 6)
 pins_set pins (suc (suc (suc (suc zero)))) letter effective on h = all_pins _ (h 1) (h 2) (h 3) (length-set _ _ _ ∙ h 4) (h 5) (h 6)
 pins_set pins (suc (suc (suc (suc (suc zero))))) letter effective on h = all_pins _ (h 1) (h 2) (h 3) (h 4) (length-set _ _ _ ∙ h 5) (h 6)
 pins_set pins (suc (suc (suc (suc (suc (suc zero)))))) letter effective on h = all_pins _ (h 1) (h 2) (h 3) (h 4) (h 5) (length-set _ _ _ ∙ h 6)
-pins_set pins (suc (suc (suc (suc (suc (suc (suc wheel))))))) letter effective on h = absurd (omega (arith, on.1))
+pins_set pins wheel letter effective on h = absurd (omega (arith, on.1))
 
 still_before : (lug : Lug) (place : Place) (bar : Place × Place) → is_at place (lug_place (other_lug lug) bar) ≡ false → lies_beyond lug place (lug_place (other_lug lug) bar) ≡ false
     → IsBefore (with_lug lug place bar).0 (with_lug lug place bar).1
 still_before Left place bar apart within =
-    let ne = eqb-false (place_rank place) (place_rank bar.1) apart in
-    let le = ltb-false (place_rank bar.1) (place_rank place) within in
-    omega (arith, le, ne)
+    omega (arith, ltb-false (place_rank bar.1) (place_rank place) within, eqb-false (place_rank place) (place_rank bar.1) apart)
 still_before Right place bar apart within =
-    let ne = eqb-false (place_rank place) (place_rank bar.0) apart in
-    let le = ltb-false (place_rank place) (place_rank bar.0) within in
-    omega (arith, le, ne)
+    omega (arith, ltb-false (place_rank place) (place_rank bar.0) within, eqb-false (place_rank place) (place_rank bar.0) apart)
 
 -- ---- settings, one by one
 
@@ -263,10 +267,15 @@ keep_ring m wheel letter within h =
     let l = h.legal in
     rotor_machine _ (record { slots = l.slots; allowed = l.allowed; apart = l.apart; reflector = l.reflector; rings = letters_set _ m.rings (place_in_box m.model wheel) letter within l.rings; letters = l.letters; cables = l.cables }) (in_their_order m h.cables)
 
+pub with_letters : (m : RotorParts) (letters : List ℕ) → IsMachine (Rotor m) → AreLetters (length (box_of m.model)) letters
+    → IsMachine (Rotor (record m { letters = letters }))
+with_letters m letters h are =
+    let l = h.legal in
+    rotor_machine _ (record { slots = l.slots; allowed = l.allowed; apart = l.apart; reflector = l.reflector; rings = l.rings; letters = are; cables = l.cables }) (in_their_order m h.cables)
+
 keep_turn : (m : RotorParts) (slot letter : ℕ) → letter < 26 → IsMachine (Rotor m) → IsMachine (changed (Rotor m) (Turn slot letter))
 keep_turn m slot letter within h =
-    let l = h.legal in
-    rotor_machine _ (record { slots = l.slots; allowed = l.allowed; apart = l.apart; reflector = l.reflector; rings = l.rings; letters = turned_letters m (seated_in m slot) letter within l.letters; cables = l.cables }) (in_their_order m h.cables)
+    with_letters m _ h (turned_letters m (seated_in m slot) letter within h.legal.letters)
 
 pin_machine : (m : PinParts) → IsLegalPin m → IsMachine (Pin m)
 pin_machine m legal = record { legal = legal; cables = refl }
@@ -309,16 +318,10 @@ keep (Rotor m) (Seat slot wheel) h r allowed = keep_seat m slot wheel h allowed
 keep (Rotor m) (SeatReflector reflector) h r allowed = keep_reflector m reflector h allowed
 keep (Rotor m) (RingTo wheel letter) h r allowed = keep_ring m wheel letter r h
 keep (Rotor m) (Turn slot letter) h r allowed = keep_turn m slot letter r.1 h
-keep (Rotor m) (PinTo wheel letter effective) h r allowed = h
-keep (Rotor m) (LugTo bar lug place) h r allowed = h
 keep (Pin m) (Turn wheel letter) h r allowed = keep_shown m wheel letter h.legal allowed
 keep (Pin m) (PinTo wheel letter effective) h r allowed = keep_pin m wheel letter effective h.legal allowed
 keep (Pin m) (LugTo bar lug place) h r allowed = keep_lug m bar lug place h.legal allowed
-keep (Pin m) (Pull cable letter) h r allowed = h
-keep (Pin m) (Put cable letter) h r allowed = h
-keep (Pin m) (Seat slot wheel) h r allowed = h
-keep (Pin m) (SeatReflector reflector) h r allowed = h
-keep (Pin m) (RingTo wheel letter) h r allowed = h
+keep m x h r allowed = h
 
 pub settings_keep_machines : (m n : Parts) (x : Setting) → IsMachine m → IsInRange x → Carries m x n → IsMachine n
 settings_keep_machines m n x h r carried = subst IsMachine (sym carried.made) (keep m x h r carried.allowed)
@@ -344,17 +347,9 @@ ordered_parts m l = rotor_machine (record m { cables = all_ordered m.cables })
 -- a lug that would pass the other one
 beyond_of_not : (lug : Lug) (place : Place) (bar : Place × Place) → is_at place (lug_place (other_lug lug) bar) ≡ false → ¬ (IsBefore (with_lug lug place bar).0 (with_lug lug place bar).1) → lies_beyond lug place (lug_place (other_lug lug) bar) ≡ true
 beyond_of_not Left place bar apart not_before =
-    let ne = eqb-false (place_rank place) (place_rank bar.1) apart in
-    elim (cases_order (place_rank place) (place_rank bar.1)) [
-      | inl e ↦ absurd (ne e)
-      | inr other ↦ elim other [ inl less ↦ absurd (not_before less) | inr more ↦ lt-ltb (place_rank bar.1) (place_rank place) more ]
-    ]
+    lt-ltb _ _ (omega (arith, eqb-false (place_rank place) (place_rank bar.1) apart, not_before))
 beyond_of_not Right place bar apart not_before =
-    let ne = eqb-false (place_rank place) (place_rank bar.0) apart in
-    elim (cases_order (place_rank place) (place_rank bar.0)) [
-      | inl e ↦ absurd (ne e)
-      | inr other ↦ elim other [ inl less ↦ lt-ltb (place_rank place) (place_rank bar.0) less | inr more ↦ absurd (not_before more) ]
-    ]
+    lt-ltb _ _ (omega (arith, eqb-false (place_rank place) (place_rank bar.0) apart, not_before))
 
 pub would_pass : (m : PinParts) (bar : ℕ) (lug : Lug) (place : Place) (standing : Place × Place) → numbered m.bars bar ≡ Some standing
     → is_at place (lug_place (other_lug lug) standing) ≡ false → ¬ (IsBefore (with_lug lug place standing).0 (with_lug lug place standing).1) → why_refused (Pin m) (LugTo bar lug place) ≡ Some WouldPass

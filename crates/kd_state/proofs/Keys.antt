@@ -1,29 +1,77 @@
 -- The key of a machine that is on the key of a day, and its cipher.
-use Rattle.std.proofs.Common.{◌≡◌, ℕ, ◌+◌, ◌-◌, ◌%◌, Bool, List, map, filter_map, Some, refl, sym, ap, ◌∙◌, subst}
+use Rattle.std.proofs.Common.{◌≡◌, ℕ, ◌+◌, ◌-◌, ◌%◌, Bool, List, map, filter_map, Some, refl, sym, ap, ◌∙◌, subst, ◌≤◌, min, max, ◌||◌, cond, [], ◌∷◌, inl, inr, arith}
 use Rattle.std.specs.Prelude.{IsPermutation}
-use Rattle.std.specs.List.{enumerate_from}
+use Rattle.std.specs.List.{enumerate_from, count_by}
 use Rattle.std.proofs.lemmas.List.Elements.{recursion_from_All}
 use Rattle.std.proofs.lemmas.List.Sorted.{sum_by-IsPermutation}
-use Rattle.kd_tables.specs.Places.{reading_of}
+use Rattle.kd_tables.specs.Places.{reading_of, place_number}
 use Rattle.kd_pins.specs.PinWheels.{pins_of}
 use Rattle.kd_enigma.specs.Laws.{PairsMakeAPlugboard, SamePairsExchangeAlike}
 use Rattle.kd_enigma.specs.Laws as enigma
-use Rattle.kd_drum.specs.Converter.{PinKey, bars_met, converter_cipher}
+use Rattle.kd_drum.specs.Converter.{PinKey, bars_met, converter_cipher, acts_after}
 use Rattle.kd_drum.specs.Laws as drum
 use Rattle.kd_state.specs.declared.machine.parts.Parts.{Parts}
 use Rattle.kd_state.specs.declared.machine.parts.Parts.TheVariants.{Rotor, Pin}
 use Rattle.kd_state.specs.declared.machine.rotor_parts.RotorParts.{RotorParts}
 use Rattle.kd_state.specs.declared.machine.pin_parts.PinParts.{PinParts}
 use Rattle.kd_state.specs.declared.sheet_day.rotor_entry.SheetWheel.{SheetWheel}
-use Rattle.kd_state.specs.Laws.{TurnedEngineIsTheTurnedMachine, ReadingIsReady, ReadingIsItsCipher, OnKeyIsReady, OnKeyIsItsCipher, TurnedHasTheDaysCipher, EquallySetDecipher, TheDayDeciphersItself, TurnedIsOnKey, TurnedHasItsKey}
+use Rattle.kd_state.specs.Laws.{TurnedEngineIsTheTurnedMachine, ReadingIsReady, ReadingIsItsCipher, OnKeyIsReady, OnKeyIsItsCipher, TurnedHasTheDaysCipher, EquallySetDecipher, TheDayDeciphersItself, TurnedIsOnKey, TurnedHasItsKey, EngineIsTheMachine}
 use Rattle.kd_state.specs.Machine.{IsMachine, AreCables, ring_at, letter_at}
 use Rattle.kd_state.specs.OnKey.{OnKey, IsRotorOnKey, IsPinOnKey}
 use Rattle.kd_state.specs.SheetDay.{RotorDay, Day, OfRotors, OfPins, IsLegalDay, IsLegalRotorDay}
 use Rattle.kd_state.specs.TwoCiphers.{EngineKey, OfWheels, cipher, key_with_window, IsRotorReady, window_of, plugged_pairs, physical_key, physical_cipher, sheet_key, IsTurned}
-use Rattle.kd_state.proofs.BarsMoved.{engine_cipher}
-use Rattle.kd_state.proofs.DayPairs.{whole_cables, pairs_joined}
-use Rattle.kd_state.proofs.Pairs.{no_letter_twice}
+use Rattle.kd_state.proofs.DayPairs.{whole_cables, pairs_joined, no_letter_twice}
 use Rattle.kd_state.proofs.Seating.{all_seated, read_all, wheels_of_slots}
+use Rattle.std.proofs.Math.Bool.{or_comm}
+use Rattle.std.proofs.lemmas.Bool.{cases_lt}
+use Rattle.std.proofs.Math.Nat.{min-eq_left, min-eq_right, max-eq_left, max-eq_right}
+use Rattle.std.proofs.lemmas.List.Sums.{sum_by-cons}
+use Rattle.kd_tables.specs.declared.place.Place.{Place}
+use Rattle.kd_tables.specs.declared.place.Place.TheVariants.{One}
+use Rattle.kd_state.specs.Lugs.{lug_is_met, bars_moved}
+
+-- ---- the bars that a Converter's wheels meet are as many as its readings say
+
+-- a pair counts the same in either order
+in_either_order : (met : ℕ → Bool) (a b : ℕ) → (met a || met b) ≡ (met (min a b) || met (max a b))
+in_either_order met a b =
+    elim (cases_lt a b) [
+      | inl less ↦ let le : a ≤ b = omega arith in ap (λ (p : ℕ × ℕ). met p.0 || met p.1) (λ i. (sym (min-eq_left le) i, sym (max-eq_right le) i))
+      | inr le ↦ or_comm (met a) (met b) ∙ ap (λ (p : ℕ × ℕ). met p.0 || met p.1) (λ i. (sym (min-eq_right le) i, sym (max-eq_left le) i))
+    ]
+
+-- elements of another list that pass as often
+counted : {X Y : Type 0} (p : Y → Bool) (f : X → Y) (xs : List X) → count_by (λ x. p (f x)) xs ≡ count_by p (map f xs)
+counted p f [] = refl
+counted p f (x ∷ xs) =
+    sum_by-cons (λ x. cond (p (f x)) 1 0) x xs
+    ∙ ap (λ n. cond (p (f x)) 1 0 + n) (counted p f xs)
+    ∙ sym (sum_by-cons (λ y. cond (p y) 1 0) (f x) (map f xs))
+
+abbrev pin_key : PinParts → PinKey
+pin_key m = record { pins = pins_of m.pins; letters = m.letters; rows = map (λ bar. reading_of bar.0 bar.1) m.bars }
+
+-- a lug is met exactly where the wheel of its place's number acts
+lug_met : (m : PinParts) (count : ℕ) (place : Place) → lug_is_met m count place ≡ acts_after (pin_key m) count (place_number place)
+lug_met m count place =
+    elim place as (λ place. lug_is_met m count place ≡ acts_after (pin_key m) count (place_number place))
+    [ One ↦ refl | _ ↦ refl ]
+
+bar_met : (m : PinParts) (count : ℕ) (bar : Place × Place)
+    → (lug_is_met m count bar.0 || lug_is_met m count bar.1)
+    ≡ (acts_after (pin_key m) count (reading_of bar.0 bar.1).0 || acts_after (pin_key m) count (reading_of bar.0 bar.1).1)
+bar_met m count bar =
+    (λ i. lug_met m count bar.0 i || lug_met m count bar.1 i)
+    ∙ in_either_order (acts_after (pin_key m) count) (place_number bar.0) (place_number bar.1)
+
+moved_as_met : (m : PinParts) (count : ℕ) → bars_met (pin_key m) count ≡ bars_moved m count
+moved_as_met m count =
+    sym (counted (λ (row : ℕ × ℕ). acts_after (pin_key m) count row.0 || acts_after (pin_key m) count row.1) (λ (bar : Place × Place). reading_of bar.0 bar.1) m.bars)
+    ∙ (λ i. count_by (λ bar. sym (bar_met m count bar) i) m.bars)
+
+pub engine_cipher : EngineIsTheMachine
+engine_cipher (Rotor m) text = refl
+engine_cipher (Pin m) text = λ i. map (λ (numbered : ℕ × ℕ). (25 + moved_as_met m numbered.0 i - numbered.1) % 26) (enumerate_from 0 text)
 
 -- the cables of a rotor machine have no letter twice
 abbrev IsCabled : Parts → Type 0
@@ -41,8 +89,7 @@ rotor_ready m s legal h = record { slots = all_seated m.slots s.wheels h.slots; 
 pub on_key_ready : OnKeyIsReady
 on_key_ready (Rotor m) (OfRotors s) machine legal h = rotor_ready m s legal h
 on_key_ready (Pin m) (OfPins s) machine legal h = tt
-on_key_ready (Rotor m) (OfPins s) machine legal h = absurd h
-on_key_ready (Pin m) (OfRotors s) machine legal h = absurd h
+on_key_ready m s machine legal h = absurd h
 
 pub reading_ready : ReadingIsReady
 reading_ready m s machine legal h = on_key_ready m s machine legal h.key
@@ -74,8 +121,7 @@ module _ (alike : SamePairsExchangeAlike) where
       ap (λ pins. converter_cipher (record { pins = pins_of pins; letters = m.letters; rows = map (λ bar. reading_of bar.0 bar.1) m.bars }) text) h.pins
       ∙ ap (λ letters. converter_cipher (record { pins = pins_of s.pins; letters = letters; rows = map (λ bar. reading_of bar.0 bar.1) m.bars }) text) shows
       ∙ converter_alike (pins_of s.pins) window (map (λ bar. reading_of bar.0 bar.1) m.bars) s.rows text h.rows
-  key_on_key (Rotor m) (OfPins s) window text machine legal h shows = absurd h
-  key_on_key (Pin m) (OfRotors s) window text machine legal h shows = absurd h
+  key_on_key m s window text machine legal h shows = absurd h
 
   cipher_on_key : (m : Parts) (s : Day) (window text : List ℕ) → IsCabled m → IsLegalDay s → OnKey m s → window_of m ≡ window
       → physical_cipher m text ≡ cipher (key_with_window (sheet_key s) window) text
@@ -90,8 +136,7 @@ module _ (alike : SamePairsExchangeAlike) where
       (ap (filter_map (letter_at m)) (wheels_of_slots m s.wheels h.key.slots)
       ∙ read_all (letter_at m) (λ w. w.letter) s.wheels (recursion_from_All (λ (w : SheetWheel). letter_at m w.wheel ≡ Some w.letter) s.wheels h.window))
   reading_cipher (Pin m) (OfPins s) text machine legal h = cipher_on_key (Pin m) (OfPins s) s.window text tt legal h.key h.window
-  reading_cipher (Rotor m) (OfPins s) text machine legal h = absurd h.key
-  reading_cipher (Pin m) (OfRotors s) text machine legal h = absurd h.key
+  reading_cipher m s text machine legal h = absurd h.key
 
   -- what one enciphers the other deciphers
   module _ (board : PairsMakeAPlugboard) (enigma_twice : enigma.TwiceGivesBack) (drum_twice : drum.TwiceGivesBack) where
@@ -128,8 +173,7 @@ turned_rotor_key m n window e shows =
 pub turned_key : TurnedHasItsKey
 turned_key (Rotor m) (Rotor n) window turned = turned_rotor_key m n window turned.0 turned.1
 turned_key (Pin m) (Pin n) window turned = ap (λ (k : PinParts). physical_key (Pin k)) turned
-turned_key (Rotor m) (Pin n) window turned = absurd turned
-turned_key (Pin m) (Rotor n) window turned = absurd turned
+turned_key m n window turned = absurd turned
 
 -- so an engine with the machine's key, turned to other letters, enciphers as the turned machine
 pub turned_engine : TurnedEngineIsTheTurnedMachine
@@ -138,14 +182,12 @@ turned_engine m n window text turned = ap (λ key. cipher key text) (sym (turned
 turned_cabled : (m n : Parts) (window : List ℕ) → IsTurned m window n → IsCabled m → IsCabled n
 turned_cabled (Rotor m) (Rotor n) window turned h = subst (λ (k : RotorParts). AreCables k.cables) (sym turned.0) h
 turned_cabled (Pin m) (Pin n) window turned h = tt
-turned_cabled (Rotor m) (Pin n) window turned h = absurd turned
-turned_cabled (Pin m) (Rotor n) window turned h = absurd turned
+turned_cabled m n window turned h = absurd turned
 
 turned_window : (m n : Parts) (window : List ℕ) → IsTurned m window n → window_of n ≡ window
 turned_window (Rotor m) (Rotor n) window turned = turned.1
 turned_window (Pin m) (Pin n) window turned = ap (λ (k : PinParts). k.letters) turned
-turned_window (Rotor m) (Pin n) window turned = absurd turned
-turned_window (Pin m) (Rotor n) window turned = absurd turned
+turned_window m n window turned = absurd turned
 
 pub turned_cipher : SamePairsExchangeAlike → TurnedHasTheDaysCipher
 turned_cipher alike m n s window text machine legal h turned =

@@ -1,5 +1,5 @@
 -- The letters and the pins of the six pin wheels.
-use Rattle.std.proofs.Common.{◌≡◌, ◌≢◌, ℕ, zero, suc, ◌+◌, ◌-◌, ◌<◌, ◌≤◌, nat_eq, true, false, List, [], length, get_or, Contains, Decides, Some, refl, sym, ◌∙◌, inl, inr, subst, arith}
+use Rattle.std.proofs.Common.{◌≡◌, ℕ, zero, suc, ◌+◌, ◌-◌, ◌<◌, ◌≤◌, nat_eq, true, false, List, length, get_or, Contains, Decides, Some, refl, sym, ◌∙◌, inl, inr, subst, arith, slice_index}
 use Rattle.std.specs.List.{position_or_len}
 use Rattle.std.specs.Option.{is_some}
 use Rattle.std.proofs.lemmas.Bool.{cases_Bool, lt-ltb, le-ltb, both_ways}
@@ -14,6 +14,7 @@ use Rattle.kd_state.specs.Machine.{HasAllPins, AreOnWheels}
 use Rattle.kd_state.specs.Setting.{has_letter}
 use Rattle.kd_state.proofs.Slots.{is_numbered, numbered_at}
 use Rattle.kd_state.proofs.Wheels.{first_within, first_nowhere}
+use Rattle.kd_drum.specs.Converter.{OnWheels}
 
 -- the letter is one of these, and has a place then
 pub has_letter-Decides : (letters : List ℕ) (letter : ℕ) → Decides (has_letter letters letter) (Contains letters letter)
@@ -56,11 +57,24 @@ off_wheel letters place d within on h =
 -- arrays of these lengths are all the pins
 pub all_pins : (pins : PinSet) → length pins.w1 ≡ 26 → length pins.w2 ≡ 25 → length pins.w3 ≡ 23 → length pins.w4 ≡ 21 → length pins.w5 ≡ 19 → length pins.w6 ≡ 17 → HasAllPins pins
 unfolding ring_of
-all_pins pins a b c d e f zero = refl
 all_pins pins a b c d e f (suc zero) = a
 all_pins pins a b c d e f (suc (suc zero)) = b
 all_pins pins a b c d e f (suc (suc (suc zero))) = c
 all_pins pins a b c d e f (suc (suc (suc (suc zero)))) = d
 all_pins pins a b c d e f (suc (suc (suc (suc (suc zero))))) = e
 all_pins pins a b c d e f (suc (suc (suc (suc (suc (suc zero)))))) = f
-all_pins pins a b c d e f (suc (suc (suc (suc (suc (suc (suc wheel))))))) = refl
+all_pins pins a b c d e f wheel = refl
+
+-- ---- six letters, each on its wheel: wheel by wheel, and place by place
+
+pub are_on_wheels : (letters : List ℕ) → length letters ≡ 6 → OnWheels letters → AreOnWheels letters
+are_on_wheels letters six on = each_on_wheel letters six (λ place below.
+    let same : place + 1 - 1 ≡ place = omega arith in
+    subst (λ k. Contains (ring_of (place + 1)) (slice_index letters k)) same (on (place + 1) (omega arith) (omega arith)))
+
+pub stand_on_wheels : (letters : List ℕ) → AreOnWheels letters → OnWheels letters
+stand_on_wheels letters on zero low high = absurd (omega arith)
+stand_on_wheels letters on (suc place) low high =
+    let same : suc place - 1 ≡ place = omega arith in
+    subst (λ k. Contains (ring_of (suc place)) (slice_index letters k)) (sym same)
+    (on.each (suc place) (slice_index letters place) (slice_get-get_or letters place 0 (omega (arith, on.count))))

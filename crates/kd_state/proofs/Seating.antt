@@ -32,11 +32,10 @@ record IsSeat (m : RotorParts) (seat : Option Wheel) (w : SheetWheel) : Type 0 w
 
 seat_with : (m : RotorParts) (wheel : Wheel) (ring letter : Option ℕ) (w : SheetWheel) → ring_at m wheel ≡ ring → letter_at m wheel ≡ letter
     → Some w ≡ wheel_with wheel ring letter → IsSeat m (Some wheel) w
-seat_with m wheel None letter w r l e = absurd (none-some w (sym e))
-seat_with m wheel (Some ring) None w r l e = absurd (none-some w (sym e))
 seat_with m wheel (Some ring) (Some letter) w r l e =
     let made : SheetWheel = record { wheel = wheel; ring = ring; letter = letter } in
     subst (IsSeat m (Some wheel)) (sym (same_Some w made e)) (record { wheel = refl; ring = r; letter = l })
+seat_with m wheel ring letter w r l e = absurd (none-some w (sym e))
 
 is_seat : (m : RotorParts) (seat : Option Wheel) (w : SheetWheel) → Some w ≡ seated_wheel (Rotor m) seat → IsSeat m seat w
 is_seat m None w e = absurd (none-some w (sym e))
@@ -44,8 +43,6 @@ is_seat m (Some wheel) w e = seat_with m wheel (ring_at m wheel) (letter_at m wh
 
 pub are_seats : (m : RotorParts) (slots : List (Option Wheel)) (wheels : List SheetWheel) → map Some wheels ≡ map (seated_wheel (Rotor m)) slots → AreSeats m slots wheels
 are_seats m [] [] e = record { slots = refl; rings = tt; letters = tt }
-are_seats m [] (w ∷ wheels) e = cc
-are_seats m (seat ∷ slots) [] e = cc
 are_seats m (seat ∷ slots) (w ∷ wheels) e =
     let first : Some w ≡ seated_wheel (Rotor m) seat = cc in
     let others : map Some wheels ≡ map (seated_wheel (Rotor m)) slots = cc in
@@ -56,6 +53,7 @@ are_seats m (seat ∷ slots) (w ∷ wheels) e =
       rings = (here.ring, rest.rings);
       letters = (here.letter, rest.letters);
     }
+are_seats m slots wheels e = cc
 
 -- filled slots
 pub wheels_seated : (wheels : List SheetWheel) → filter_map (λ (seated : Option Wheel). seated) (seats wheels) ≡ map (λ w. w.wheel) wheels

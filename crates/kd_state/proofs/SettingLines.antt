@@ -1,50 +1,33 @@
 -- The words of settings' lines: no two settings have the same, and those of a form are all that begin with its word.
-use Rattle.std.proofs.Common.{◌≡◌, ◌≢◌, ℕ, ◌+◌, ◌*◌, ◌^◌, ◌<◌, ◌≤◌, length, get_or, Bool, true, false, List, [], ◌∷◌, find, unwrap_or, Option, Some, None, MatchOption, refl, sym, ap, ◌∙◌, arith}
+use Rattle.std.proofs.Common.{◌≡◌, ◌≢◌, ℕ, ◌+◌, ◌*◌, ◌^◌, ◌<◌, ◌≤◌, length, get_or, Bool, true, false, List, [], ◌∷◌, Option, Some, None, MatchOption, refl, sym, ap, ◌∙◌, arith, ◌⊎◌, inl, inr, ◌++◌, append_assoc, length-append}
 use Rattle.std.specs.List.{All, AllByRecursion}
 use Rattle.std.specs.Fmt.{decimal}
-use Rattle.std.specs.Str.{bytes_eq}
 use Rattle.std.proofs.lemmas.Fmt.{decimal_injective}
-use Rattle.std.proofs.lemmas.List.Elements.{All-from_recursion}
+use Rattle.std.proofs.lemmas.List.Elements.{All-from_recursion, All-push, recursion_from_All}
 use Rattle.kd_tables.specs.declared.wheel.Wheel.{Wheel}
-use Rattle.kd_tables.specs.declared.wheel.Wheel.TheVariants.{I, II, III, IV, V, VI, VII, VIII, Beta, Gamma}
+use Rattle.kd_tables.specs.declared.wheel.Wheel.TheVariants.{I}
 use Rattle.kd_tables.specs.declared.reflector.Reflector.{Reflector}
-use Rattle.kd_tables.specs.declared.reflector.Reflector.TheVariants.{A, B, C, ThinB, ThinC}
+use Rattle.kd_tables.specs.declared.reflector.Reflector.TheVariants.{A}
 use Rattle.kd_tables.specs.declared.place.Place.{Place}
 use Rattle.kd_tables.specs.declared.place.Place.TheVariants.{One}
 use Rattle.kd_tables.specs.declared.lug.Lug.{Lug}
 use Rattle.kd_tables.specs.declared.lug.Lug.TheVariants.{Left, Right}
 use Rattle.kd_tables.specs.Tables.{wheel_text, reflector_text}
 use Rattle.kd_tables.specs.Places.{place_text, lug_text, places}
-use Rattle.kd_state.specs.Words.{IsWord, IsWithout, letter_text, line_of, words_of}
-use Rattle.kd_state.specs.Line.{keyword_text, setting_words, setting_line, pin_text, IsInRange, IsReadOff}
+use Rattle.kd_state.specs.Words.{IsWord, IsWithout, letter_text, line_of, words_of, IsFirstPart}
+use Rattle.kd_state.specs.Line.{keyword_text, setting_words, setting_line, pin_text, IsInRange, IsReadOff, list_text, IsList, BeginsWith, BeginsWithLine, BeginsWithNoLine}
 use Rattle.kd_state.specs.declared.setting.keyword.Keyword.{Keyword}
 use Rattle.kd_state.specs.declared.setting.keyword.Keyword.TheVariants as keywords
 use Rattle.kd_state.specs.declared.setting.Setting.{Setting}
 use Rattle.kd_state.specs.declared.setting.Setting.TheVariants.{Pull, Put, Seat, SeatReflector, RingTo, Turn, PinTo, LugTo}
-use Rattle.kd_state.proofs.WordLines.{word_by_test, numbers_are_words, letters_are_words, lines_split_into_words, lines_tell_words, parts_make_lines, words_make_one_line}
+use Rattle.kd_state.proofs.Wheels.{named, told, one_wheel, one_reflector}
+use Rattle.kd_state.proofs.WordLines.{word_by_test, numbers_are_words, letters_are_words, lines_split_into_words, lines_tell_words, parts_make_lines, words_make_one_line, texts_tell_first_parts}
+use Rattle.std.proofs.lemmas.List.{append-nil, get_or_at}
+use Rattle.std.proofs.lemmas.List.Concat.{flat_map-append}
+use Rattle.kd_state.specs.Laws.{TextsTellLists, ListsHaveNoFault, OneListFault}
+use Rattle.kd_state.specs.declared.setting.list.ListFault.TheVariants.{BadLine, TooMany}
 
 -- ---- names: each is a word, and no two are the same
-
-abbrev named : {T : Type 0} → (T → List ℕ) → List T → T → List ℕ → T
-named name all d text = unwrap_or (find (λ x. bytes_eq (name x) text) all) d
-
-told : {T : Type 0} (name : T → List ℕ) (back : List ℕ → T) → ((x : T) → back (name x) ≡ x) → (x y : T) → name x ≡ name y → x ≡ y
-told name back undone x y e = sym (undone x) ∙ ap back e ∙ undone y
-
-wheels : List Wheel
-wheels = I ∷ II ∷ III ∷ IV ∷ V ∷ VI ∷ VII ∷ VIII ∷ Beta ∷ Gamma ∷ []
-
-same_wheel : (x y : Wheel) → wheel_text x ≡ wheel_text y → x ≡ y
-unfolding wheels
-same_wheel = told wheel_text (named wheel_text wheels I) (λ x. elim x as (λ w. named wheel_text wheels I (wheel_text w) ≡ w) [ I ↦ refl | _ ↦ refl ])
-
-reflectors : List Reflector
-reflectors = A ∷ B ∷ C ∷ ThinB ∷ ThinC ∷ []
-
-same_reflector : (x y : Reflector) → reflector_text x ≡ reflector_text y → x ≡ y
-unfolding reflectors
-same_reflector =
-    told reflector_text (named reflector_text reflectors A) (λ x. elim x as (λ r. named reflector_text reflectors A (reflector_text r) ≡ r) [ A ↦ refl | _ ↦ refl ])
 
 same_place : (x y : Place) → place_text x ≡ place_text y → x ≡ y
 same_place = told place_text (named place_text places One) (λ x. elim x as (λ p. named place_text places One (place_text p) ≡ p) [ One ↦ refl | _ ↦ refl ])
@@ -108,9 +91,9 @@ first_and_third words = get_or (get_or words 0 []) 0 0 * 256 + get_or (get_or wo
 pub same_settings : (x y : Setting) → IsInRange x → IsInRange y → setting_words x ≡ setting_words y → x ≡ y
 same_settings (Pull c l) (Pull d m) r s e = let n = same_number c d r.0 s.0 (cc) in let k = same_letter l m (cc) in cc
 same_settings (Put c l) (Put d m) r s e = let n = same_number c d r.0 s.0 (cc) in let k = same_letter l m (cc) in cc
-same_settings (Seat c w) (Seat d v) r s e = let n = same_number c d r s (cc) in let k = same_wheel w v (cc) in cc
-same_settings (SeatReflector a) (SeatReflector b) r s e = let n = same_reflector a b (cc) in cc
-same_settings (RingTo w l) (RingTo v m) r s e = let n = same_wheel w v (cc) in let k = same_letter l m (cc) in cc
+same_settings (Seat c w) (Seat d v) r s e = let n = same_number c d r s (cc) in let k = one_wheel w v (cc) in cc
+same_settings (SeatReflector a) (SeatReflector b) r s e = let n = one_reflector a b (cc) in cc
+same_settings (RingTo w l) (RingTo v m) r s e = let n = one_wheel w v (cc) in let k = same_letter l m (cc) in cc
 same_settings (Turn c l) (Turn d m) r s e = let n = same_number c d r.0 s.0 (cc) in let k = same_letter l m (cc) in cc
 same_settings (PinTo c l p) (PinTo d m q) r s e =
     let n = same_number c d r.0 s.0 (cc) in let k = same_letter l m (cc) in let o = same_pin p q (cc) in cc
@@ -153,3 +136,126 @@ line_has_no_break x r = words_make_one_line (setting_words x) (setting_words_are
 pub lines_tell_settings : (x y : Setting) → IsInRange x → IsInRange y → setting_line x ≡ setting_line y → x ≡ y
 lines_tell_settings x y r s e =
     same_settings x y r s (lines_tell_words (setting_words x) (setting_words y) (setting_words_are_words x r) (setting_words_are_words y s) e)
+
+-- ---- lists of settings are told by their texts, and a text that is none has one fault
+
+-- ---- one line at the front
+
+same_first : (x y : Setting) (rest more : List ℕ) → IsInRange x → IsInRange y → setting_line x ++ 10 ∷ rest ≡ setting_line y ++ 10 ∷ more → (x ≡ y) × (rest ≡ more)
+same_first x y rest more r s e =
+    let parts : (setting_line x ≡ setting_line y) × (rest ≡ more) =
+    texts_tell_first_parts 10 (setting_line x) (setting_line y) rest more (line_has_no_break x r) (line_has_no_break y s) e in
+    (lines_tell_settings x y r s parts.0, parts.1)
+
+text_of_more : (x : Setting) (xs : List Setting) (rest : List ℕ) → list_text (x ∷ xs) ++ rest ≡ setting_line x ++ 10 ∷ (list_text xs ++ rest)
+text_of_more x xs rest =
+    append_assoc (setting_line x ++ 10 ∷ []) (list_text xs) rest ∙ append_assoc (setting_line x) (10 ∷ []) (list_text xs ++ rest)
+
+not_none : (x : Setting) (rest : List ℕ) → setting_line x ++ 10 ∷ rest ≢ []
+not_none x rest e = omega (arith, length-append (setting_line x) (10 ∷ rest), ap length e)
+
+-- ---- of two lists at the front of one text the one goes on where the other ends
+
+record GoesOn (xs ys : List Setting) (rest more : List ℕ) : Type 0 where
+  added : List Setting
+  longer : ys ≡ xs ++ added
+  text : rest ≡ list_text added ++ more
+  in_range : AllByRecursion IsInRange added
+
+further : (x y : Setting) (xs ys : List Setting) (rest more : List ℕ) → x ≡ y → GoesOn xs ys rest more → GoesOn (x ∷ xs) (y ∷ ys) rest more
+further x y xs ys rest more same g = record { added = g.added; longer = let l = g.longer in cc; text = g.text; in_range = g.in_range }
+
+one_goes_on : (xs ys : List Setting) (rest more : List ℕ) → AllByRecursion IsInRange xs → AllByRecursion IsInRange ys
+    → list_text xs ++ rest ≡ list_text ys ++ more → GoesOn xs ys rest more ⊎ GoesOn ys xs more rest
+one_goes_on [] ys rest more r s e = inl (record { added = ys; longer = refl; text = e; in_range = s })
+one_goes_on (x ∷ xs) [] rest more r s e = inr (record { added = x ∷ xs; longer = refl; text = sym e; in_range = r })
+one_goes_on (x ∷ xs) (y ∷ ys) rest more r s e =
+    let first : (x ≡ y) × (list_text xs ++ rest ≡ list_text ys ++ more) =
+    same_first x y (list_text xs ++ rest) (list_text ys ++ more) r.0 s.0 (sym (text_of_more x xs rest) ∙ e ∙ text_of_more y ys more) in
+    elim (one_goes_on xs ys rest more r.1 s.1 first.1) [
+      | inl g ↦ inl (further x y xs ys rest more first.0 g)
+      | inr g ↦ inr (further y x ys xs more rest (sym first.0) g)
+    ]
+
+ends_with : (xs ys : List Setting) (rest more : List ℕ) → BeginsWithNoLine rest → (zs : List Setting) → ys ≡ xs ++ zs → rest ≡ list_text zs ++ more
+    → AllByRecursion IsInRange zs → (xs ≡ ys) × (rest ≡ more)
+ends_with xs ys rest more none [] longer text r = (sym (longer ∙ append-nil xs), text)
+ends_with xs ys rest more none (z ∷ zs) longer text r = absurd (none z (list_text zs ++ more) r.0 (text ∙ text_of_more z zs more))
+
+-- where no line follows, nothing goes on
+ends : (xs ys : List Setting) (rest more : List ℕ) → BeginsWithNoLine rest → GoesOn xs ys rest more → (xs ≡ ys) × (rest ≡ more)
+ends xs ys rest more none g = ends_with xs ys rest more none g.added g.longer g.text g.in_range
+
+nothing_begins : BeginsWithNoLine []
+nothing_begins x rest r e = not_none x rest (sym e)
+
+-- ---- what is read, line by line
+
+pub one_more : (bytes : List ℕ) (xs : List Setting) (rest : List ℕ) (x : Setting) (after : List ℕ) → BeginsWith bytes xs rest → BeginsWithLine rest x after
+    → BeginsWith bytes (xs ++ x ∷ []) after
+one_more bytes xs rest x after b l = record {
+  lines =
+      b.lines ∙ ap (λ more. list_text xs ++ more) (l.line ∙ sym (text_of_more x [] after))
+      ∙ sym (append_assoc (list_text xs) (list_text (x ∷ [])) after)
+      ∙ ap (λ text. text ++ after) (sym (flat_map-append (λ y. setting_line y ++ 10 ∷ []) xs (x ∷ [])));
+  in_range = All-push IsInRange xs x b.in_range l.in_range;
+}
+
+pub no_line_without_break : (bytes : List ℕ) → IsWithout 10 bytes → BeginsWithNoLine bytes
+no_line_without_break bytes without x rest r e =
+    without (length (setting_line x)) 0 (omega (arith, length-append (setting_line x) (10 ∷ rest), ap length e))
+    (ap (λ t. get_or t (length (setting_line x)) 0) e ∙ get_or_at (setting_line x) 10 rest 0 (length (setting_line x)) refl)
+
+pub no_line_by_first : (bytes line rest : List ℕ) → IsFirstPart 10 bytes line rest → ((x : Setting) → IsInRange x → setting_line x ≢ line) → BeginsWithNoLine bytes
+no_line_by_first bytes line rest first none x other r e =
+    let parts : (line ≡ setting_line x) × (rest ≡ other) =
+    texts_tell_first_parts 10 line (setting_line x) rest other first.without (line_has_no_break x r) (sym first.joined ∙ e) in
+    none x r (sym parts.0)
+
+-- ---- laws
+
+begins : (bytes : List ℕ) (xs : List Setting) → IsList bytes xs → BeginsWith bytes xs []
+begins bytes xs l = record { lines = l.text ∙ sym (append-nil (list_text xs)); in_range = l.in_range }
+
+both : (bytes : List ℕ) (xs ys : List Setting) (rest more : List ℕ) → BeginsWith bytes xs rest → BeginsWith bytes ys more
+    → GoesOn xs ys rest more ⊎ GoesOn ys xs more rest
+both bytes xs ys rest more a b =
+    one_goes_on xs ys rest more (recursion_from_All IsInRange xs a.in_range) (recursion_from_All IsInRange ys b.in_range) (sym a.lines ∙ b.lines)
+
+-- two lists after which no line follows are one
+same_end : (bytes : List ℕ) (xs ys : List Setting) (rest more : List ℕ) → BeginsWith bytes xs rest → BeginsWith bytes ys more
+    → BeginsWithNoLine rest → BeginsWithNoLine more → (xs ≡ ys) × (rest ≡ more)
+same_end bytes xs ys rest more a b none nor = elim (both bytes xs ys rest more a b) [
+  | inl g ↦ ends xs ys rest more none g
+  | inr g ↦ let same : (ys ≡ xs) × (more ≡ rest) = ends ys xs more rest nor g in (sym same.0, sym same.1)
+]
+
+-- and no list is longer
+not_longer : (bytes : List ℕ) (xs ys : List Setting) (rest more : List ℕ) → BeginsWith bytes xs rest → BeginsWith bytes ys more
+    → BeginsWithNoLine rest → length ys ≤ length xs
+not_longer bytes xs ys rest more a b none = elim (both bytes xs ys rest more a b) [
+  | inl g ↦ let same = ends xs ys rest more none g in omega (arith, ap length same.0)
+  | inr g ↦ let longer = g.longer in omega (arith, ap length longer, length-append ys g.added)
+]
+
+pub texts_tell_lists : TextsTellLists
+texts_tell_lists bytes xs ys a b = (same_end bytes xs ys [] [] (begins bytes xs a) (begins bytes ys b) nothing_begins nothing_begins).0
+
+pub lists_have_no_fault : ListsHaveNoFault
+lists_have_no_fault bytes xs (BadLine line) a f =
+    f.5 (sym (same_end bytes xs f.0 [] f.1 (begins bytes xs a) f.2 nothing_begins f.6).1)
+lists_have_no_fault bytes xs TooMany a f =
+    let most = not_longer bytes xs f.0 [] f.1 (begins bytes xs a) f.2 nothing_begins in
+    let few = a.few in
+    omega (arith, most, few, f.3)
+
+pub one_list_fault : OneListFault
+one_list_fault bytes (BadLine line) (BadLine other) f g =
+    let same = same_end bytes f.0 g.0 f.1 g.1 f.2 g.2 f.6 g.6 in
+    let lines : line ≡ other = omega (arith, f.4, g.4, ap length same.0) in
+    ap BadLine lines
+one_list_fault bytes (BadLine line) TooMany f g =
+    let most = not_longer bytes f.0 g.0 f.1 g.1 f.2 g.2 f.6 in absurd (omega (arith, most, f.3, g.3))
+one_list_fault bytes TooMany (BadLine line) f g =
+    let most = not_longer bytes g.0 f.0 g.1 f.1 g.2 f.2 g.6 in absurd (omega (arith, most, g.3, f.3))
+one_list_fault bytes TooMany TooMany f g = refl

@@ -34,11 +34,9 @@ set_here (first ∷ xs) zero x below = refl
 set_here (first ∷ xs) (suc place) x below = set_here xs place x (omega arith)
 
 pub set_other : {X : Type 0} (xs : List X) (place at : ℕ) (x : X) → at ≢ place → slice_get (set xs place x) at ≡ slice_get xs at
-set_other [] place at x h = refl
 set_other (first ∷ xs) zero zero x h = absurd (h refl)
-set_other (first ∷ xs) zero (suc at) x h = refl
-set_other (first ∷ xs) (suc place) zero x h = refl
 set_other (first ∷ xs) (suc place) (suc at) x h = set_other xs place at x (λ e. h (ap suc e))
+set_other xs place at x h = refl
 
 pub numbered_here : {X : Type 0} (xs : List X) (number : ℕ) (x : X) → 1 ≤ number → number ≤ length xs → numbered (set xs (number - 1) x) number ≡ Some x
 numbered_here xs zero x first last = absurd (omega arith)

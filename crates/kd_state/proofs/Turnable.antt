@@ -13,9 +13,9 @@ use Rattle.kd_state.specs.Box.{place_in_box}
 use Rattle.kd_state.specs.Laws.{MachinesCanBeTurned}
 use Rattle.kd_state.specs.Machine.{StandsAt, AreApart, AreLetters, AreOnWheels, IsMachine}
 use Rattle.kd_state.specs.TwoCiphers.{IsTurned, seated_wheels}
-use Rattle.kd_state.proofs.Places.{places_tell_wheels}
+use Rattle.kd_state.proofs.Wheels.{places_tell_wheels, placed, place_within}
+use Rattle.kd_state.proofs.Keeping.{with_letters}
 use Rattle.kd_state.proofs.Slots.{set_here, set_other}
-use Rattle.kd_state.proofs.Wheels.{placed, place_within}
 
 -- letters put in their places, one for each wheel
 module _ (place : Wheel → ℕ) where
@@ -85,19 +85,6 @@ places_apart model (Some wheel ∷ slots) apart boxed = (
       (subst (StandsAt slots k) (places_tell_wheels model other wheel (boxed (suc k) other at) (boxed zero wheel refl) e) at))),
   places_apart model slots (λ j k other a b. one_less j k (apart (suc j) (suc k) other a b)) (λ k. boxed (suc k)),
 )
-
-cables_of : Parts → List (Option ℕ × Option ℕ)
-cables_of (Rotor m) = m.cables
-cables_of (Pin m) = []
-
-with_letters : (m : RotorParts) (letters : List ℕ) → IsMachine (Rotor m) → AreLetters (length (box_of m.model)) letters → IsMachine (Rotor (record m { letters = letters }))
-unfolding cables_of
-with_letters m letters machine are =
-    let legal = machine.legal in
-    record {
-      legal = record { slots = legal.slots; allowed = legal.allowed; apart = legal.apart; reflector = legal.reflector; rings = legal.rings; letters = are; cables = legal.cables };
-      cables = ap (λ cables. Rotor (record m { letters = letters; cables = cables })) (ap cables_of machine.cables);
-    }
 
 turned_rotor : (m : RotorParts) (window : List ℕ) → IsMachine (Rotor m) → AreLetters (length (seated_wheels m)) window
     → (n : Parts) × IsTurned (Rotor m) window n × IsMachine n

@@ -1,68 +1,61 @@
 -- Wheels and reflectors by their names, and where the wheels of the box may stand.
-use Rattle.std.proofs.Common.{◌≡◌, ◌≢◌, ℕ, ◌<◌, ◌≤◌, nat_le, ◌==◌, Bool, true, false, ◌||◌, cond, List, [], ◌∷◌, length, get_or, Contains, Decides, refl, sym, ap, ◌∙◌, subst, arith}
-use Rattle.std.specs.Prelude.{codes}
+use Rattle.std.proofs.Common.{find, unwrap_or, ◌≡◌, ◌≢◌, ℕ, ◌<◌, ◌≤◌, nat_le, ◌==◌, Bool, true, false, ◌||◌, cond, List, [], ◌∷◌, length, get_or, Contains, Decides, refl, sym, ap, ◌∙◌, subst, arith, ◌+◌, Some}
 use Rattle.std.specs.List.{list_any, position_or_len}
 use Rattle.std.specs.Str.{bytes_eq}
-use Rattle.std.proofs.lemmas.Bool.{false_from_ne_true, and_parts, leb-true, eqb-true, both_ways}
+use Rattle.std.proofs.lemmas.Bool.{false_from_ne_true, and_parts, leb-true, eqb-true}
 use Rattle.std.proofs.lemmas.Bool.Decides.{Decides-by_or, Decides-like}
 use Rattle.std.proofs.lemmas.List.Elements.{Decides-contains, Contains-append_left, Contains-append_right, Contains-get_or}
-use Rattle.std.proofs.lemmas.List.{get_or_default}
-use Rattle.std.proofs.lemmas.List.Sums.{position_or_len_is}
+use Rattle.std.proofs.lemmas.List.Sums.{position_or_len_is, passes_at_first}
 use denote.Enum.Bare.{sameb, same_true, same_false}
 use Rattle.kd_tables.specs.contracts.wheel.Wheel.{the_type}
 use Rattle.std.proofs.lemmas.Slice.Eq.{bytes_eq-Decides}
 use Rattle.kd_tables.specs.declared.model.Model.{Model}
-use Rattle.kd_tables.specs.declared.model.Model.TheVariants.{EnigmaI, M3, M4, M209}
+use Rattle.kd_tables.specs.declared.model.Model.TheVariants.{M4, M209}
 use Rattle.kd_tables.specs.declared.wheel.Wheel.{Wheel}
 use Rattle.kd_tables.specs.declared.wheel.Wheel.TheVariants.{I, II, III, IV, V, VI, VII, VIII, Beta, Gamma}
 use Rattle.kd_tables.specs.declared.reflector.Reflector.{Reflector}
 use Rattle.kd_tables.specs.declared.reflector.Reflector.TheVariants as reflectors
 use Rattle.kd_tables.specs.Tables.{box_of, slots_of, wheels_for, wheel_text, reflector_text, lies_in, IsAllowed}
 use Rattle.kd_state.specs.Box.{same_wheel, same_reflector, has_wheel, has_reflector, place_in_box}
+use Rattle.std.specs.Option.{option_map}
+use Rattle.std.proofs.lemmas.Option.{slice_get-map, slice_get-get_or}
+use Rattle.kd_state.specs.declared.sheet_day.rotor_entry.SheetWheel.{SheetWheel}
+use Rattle.kd_state.specs.Machine.{StandsAt}
+use Rattle.kd_state.specs.SheetDay.{seats}
+use Rattle.kd_state.specs.Laws.{AllowedWheelsLieInTheBox, PlacesTellWheels, DaysWheelsHaveTheirPlaces}
 
--- the wheel of a name
-wheel_named : List ℕ → Wheel
-wheel_named text =
-    cond (bytes_eq text (codes "I")) I (cond (bytes_eq text (codes "II")) II (cond (bytes_eq text (codes "III")) III
-    (cond (bytes_eq text (codes "IV")) IV (cond (bytes_eq text (codes "V")) V (cond (bytes_eq text (codes "VI")) VI
-    (cond (bytes_eq text (codes "VII")) VII (cond (bytes_eq text (codes "VIII")) VIII (cond (bytes_eq text (codes "Beta")) Beta Gamma))))))))
+-- a name tells what has it, where it is found again by the name
+abbrev pub named : {T : Type 0} → (T → List ℕ) → List T → T → List ℕ → T
+named name all d text = unwrap_or (find (λ x. bytes_eq (name x) text) all) d
 
-wheel_named-text : (wheel : Wheel) → wheel_named (wheel_text wheel) ≡ wheel
-unfolding wheel_named
-wheel_named-text I = refl
-wheel_named-text II = refl
-wheel_named-text III = refl
-wheel_named-text IV = refl
-wheel_named-text V = refl
-wheel_named-text VI = refl
-wheel_named-text VII = refl
-wheel_named-text VIII = refl
-wheel_named-text Beta = refl
-wheel_named-text Gamma = refl
+pub told : {T : Type 0} (name : T → List ℕ) (back : List ℕ → T) → ((x : T) → back (name x) ≡ x) → (x y : T) → name x ≡ name y → x ≡ y
+told name back undone x y e = sym (undone x) ∙ ap back e ∙ undone y
 
--- the reflector of a name
-reflector_named : List ℕ → Reflector
-reflector_named text =
-    cond (bytes_eq text (codes "A")) reflectors.A (cond (bytes_eq text (codes "B")) reflectors.B (cond (bytes_eq text (codes "C")) reflectors.C
-    (cond (bytes_eq text (codes "b")) reflectors.ThinB reflectors.ThinC)))
+wheels : List Wheel
+wheels = I ∷ II ∷ III ∷ IV ∷ V ∷ VI ∷ VII ∷ VIII ∷ Beta ∷ Gamma ∷ []
 
-reflector_named-text : (reflector : Reflector) → reflector_named (reflector_text reflector) ≡ reflector
-unfolding reflector_named
-reflector_named-text reflectors.A = refl
-reflector_named-text reflectors.B = refl
-reflector_named-text reflectors.C = refl
-reflector_named-text reflectors.ThinB = refl
-reflector_named-text reflectors.ThinC = refl
+pub one_wheel : (x y : Wheel) → wheel_text x ≡ wheel_text y → x ≡ y
+unfolding wheels
+one_wheel = told wheel_text (named wheel_text wheels I) (λ x. elim x as (λ w. named wheel_text wheels I (wheel_text w) ≡ w) [ I ↦ refl | _ ↦ refl ])
+
+all_reflectors : List Reflector
+all_reflectors = reflectors.A ∷ reflectors.B ∷ reflectors.C ∷ reflectors.ThinB ∷ reflectors.ThinC ∷ []
+
+pub one_reflector : (x y : Reflector) → reflector_text x ≡ reflector_text y → x ≡ y
+unfolding all_reflectors
+one_reflector =
+    told reflector_text (named reflector_text all_reflectors reflectors.A)
+    (λ x. elim x as (λ r. named reflector_text all_reflectors reflectors.A (reflector_text r) ≡ r) [ reflectors.A ↦ refl | _ ↦ refl ])
 
 -- no two wheels have one name, and no two reflectors
 pub same_wheel-Decides : (wheel other : Wheel) → Decides (same_wheel wheel other) (wheel ≡ other)
 same_wheel-Decides wheel other =
-    Decides-like _ (λ e. sym (wheel_named-text wheel) ∙ ap wheel_named e ∙ wheel_named-text other) (ap wheel_text)
+    Decides-like _ (one_wheel wheel other) (ap wheel_text)
     (bytes_eq-Decides (wheel_text wheel) (wheel_text other))
 
 pub same_reflector-Decides : (reflector other : Reflector) → Decides (same_reflector reflector other) (reflector ≡ other)
 same_reflector-Decides reflector other =
-    Decides-like _ (λ e. sym (reflector_named-text reflector) ∙ ap reflector_named e ∙ reflector_named-text other) (ap reflector_text)
+    Decides-like _ (one_reflector reflector other) (ap reflector_text)
     (bytes_eq-Decides (reflector_text reflector) (reflector_text other))
 
 pub same_wheel_self : (wheel : Wheel) → same_wheel wheel wheel ≡ true
@@ -139,20 +132,14 @@ placed_in_m4 false slot wheel e h =
     record { first = omega (arith, within.0); last = within.1; in_box = Contains-append_left (wheels_for M4 2) (wheels_for M4 1) wheel parts.1 }
 
 pub placed : (model : Model) (slot : ℕ) (wheel : Wheel) → IsAllowed model slot wheel → IsPlaced model slot wheel
-placed EnigmaI slot wheel h =
-    let parts = in_some (lies_in 1 3 slot) (box_of EnigmaI) wheel h in
-    placed_in_three EnigmaI slot wheel refl parts.0 parts.1
-placed M3 slot wheel h =
-    let parts = in_some (lies_in 1 3 slot) (box_of M3) wheel h in
-    placed_in_three M3 slot wheel refl parts.0 parts.1
 placed M4 slot wheel h = placed_in_m4 (slot == 1) slot wheel refl h
 placed M209 slot wheel h = absurd (omega (arith, h.1))
+placed model slot wheel h =
+    let parts = in_some (lies_in 1 3 slot) (box_of model) wheel h in
+    placed_in_three model slot wheel refl parts.0 parts.1
 
 pub lacks_wheel : (wheels : List Wheel) (wheel : Wheel) → ¬ (Contains wheels wheel) → has_wheel wheels wheel ≡ false
 lacks_wheel wheels wheel h = false_from_ne_true _ (λ e. h ((has_wheel-Decides wheels wheel).0 e))
-
-pub lacks_reflector : (reflectors : List Reflector) (reflector : Reflector) → ¬ (Contains reflectors reflector) → has_reflector reflectors reflector ≡ false
-lacks_reflector reflectors reflector h = false_from_ne_true _ (λ e. h ((has_reflector-Decides reflectors reflector).0 e))
 
 -- what `==` of the program says of a wheel of the box
 pub same_tested : (wheel other : Wheel) (b : Bool) → sameb the_type other wheel ≡ b → same_wheel wheel other ≡ b
@@ -167,8 +154,28 @@ found_in_box model wheel place within before here = (
   sym (position_or_len_is (same_wheel wheel) (box_of model) place I (omega arith) before (λ _. here)),
 )
 
-pub not_in_box : (model : Model) (wheel : Wheel) → ((k : ℕ) → k < length (box_of model) → same_wheel wheel (get_or (box_of model) k I) ≡ false) → ¬ (Contains (box_of model) wheel)
-not_in_box model wheel none h =
-    let within : h.0 < length (box_of model) = h.1 in
-    let there : get_or (box_of model) h.0 I ≡ wheel = get_or_default (box_of model) h.0 I wheel within ∙ h.2 in
-    both_ways _ (none h.0 within) ((same_wheel-Decides wheel (get_or (box_of model) h.0 I)).1 (sym there))
+-- ---- the wheels of the box, and those of a day, have places of their own in it
+
+pub allowed_in_box : AllowedWheelsLieInTheBox
+allowed_in_box model slot wheel h = (placed model slot wheel h).in_box
+
+-- what stands at a wheel's place is the wheel
+at_its_place : (model : Model) (wheel : Wheel) → Contains (box_of model) wheel → wheel ≡ get_or (box_of model) (place_in_box model wheel) I
+at_its_place model wheel h =
+    (same_wheel-Decides wheel (get_or (box_of model) (place_in_box model wheel) I)).0 (passes_at_first (same_wheel wheel) (box_of model) I (place_within model wheel h))
+
+pub places_tell_wheels : PlacesTellWheels
+places_tell_wheels model wheel other h k e = at_its_place model wheel h ∙ ap (λ place. get_or (box_of model) place I) e ∙ sym (at_its_place model other k)
+
+seated : (wheels : List SheetWheel) (i : ℕ) (d : SheetWheel) → i < length wheels → StandsAt (seats wheels) i (get_or wheels i d).wheel
+seated wheels i d lt = slice_get-map (λ w. Some w.wheel) wheels i ∙ ap (option_map (λ w. Some w.wheel)) (slice_get-get_or wheels i d lt)
+
+pub days_wheels_have_their_places : DaysWheelsHaveTheirPlaces
+days_wheels_have_their_places model wheels h i j d before within same =
+    let first = seated wheels i d (omega arith) in
+    let second = seated wheels j d within in
+    let wheel = places_tell_wheels model (get_or wheels i d).wheel (get_or wheels j d).wheel
+    (allowed_in_box model (i + 1) (get_or wheels i d).wheel (h.allowed i (get_or wheels i d).wheel first))
+    (allowed_in_box model (j + 1) (get_or wheels j d).wheel (h.allowed j (get_or wheels j d).wheel second)) same in
+    let one = h.apart i j (get_or wheels j d).wheel (subst (StandsAt (seats wheels) i) wheel first) second in
+    omega arith

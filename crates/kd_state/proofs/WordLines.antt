@@ -92,9 +92,6 @@ appended words more word e = ap (map (λ (w : Bor (List ℕ)). w.now)) e ∙ map
 pub record AreTaken (line rest : List ℕ) (taken : List (List ℕ)) : Type 0 where
   pub joined : taken ++ words_of rest ≡ words_of line
 
-pub none_taken : (line : List ℕ) → AreTaken line line []
-none_taken line = record { joined = refl }
-
 pub one_more_taken : (line text word rest : List ℕ) (taken : List (List ℕ)) → AreTaken line text taken → IsFirstPart 32 text word rest
     → AreTaken line rest (taken ++ word ∷ [])
 one_more_taken line text word rest taken a first = record {

@@ -13,8 +13,8 @@ key_in_turn : wheels.KeyInTurn → drum.KeyInTurn → KeyInTurn
 key_in_turn of_wheels of_drum (OfWheels key) m n = ap OfWheels (of_wheels key m n)
 key_in_turn of_wheels of_drum (OfDrum key) m n = ap OfDrum (of_drum key m n)
 
-pub returns-clause-cipher : goal.returns-clause-cipher
-returns-clause-cipher c = cipher_in_turn c.pieces_are_enciphered_in_turn.ensures.cipher c.pieces_are_enciphered_in_turn-2.ensures.cipher
-
-pub returns-clause-after : goal.returns-clause-after
-returns-clause-after c = key_in_turn c.pieces_are_enciphered_in_turn.ensures.after c.pieces_are_enciphered_in_turn-2.ensures.after
+pub returns : goal.returns
+returns c = record {
+  cipher = cipher_in_turn c.pieces_are_enciphered_in_turn.ensures.cipher c.pieces_are_enciphered_in_turn-2.ensures.cipher;
+  after = key_in_turn c.pieces_are_enciphered_in_turn.ensures.after c.pieces_are_enciphered_in_turn-2.ensures.after;
+}

@@ -1,5 +1,4 @@
-use Rattle.kd_state.proofs.Wheels.{place_within}
-use Rattle.kd_state.proofs.Places.{allowed_in_box, places_tell_wheels, days_wheels_have_their_places}
+use Rattle.kd_state.proofs.Wheels.{place_within, allowed_in_box, places_tell_wheels, days_wheels_have_their_places}
 use Rattle.kd_state.proofs.laws.places_tell_wheels.Goals as goal
 
 pub returns : goal.returns

@@ -1,4 +1,4 @@
-use Rattle.kd_state.proofs.SettingLists.{texts_tell_lists, lists_have_no_fault, one_list_fault}
+use Rattle.kd_state.proofs.SettingLines.{texts_tell_lists, lists_have_no_fault, one_list_fault}
 use Rattle.kd_state.proofs.laws.texts_tell_lists.Goals as goal
 
 pub returns : goal.returns

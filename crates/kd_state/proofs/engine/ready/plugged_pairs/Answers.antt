@@ -4,7 +4,7 @@ use Rattle.std.specs.Option.{option_to_list}
 use Rattle.std.proofs.lemmas.List.{take_more}
 use Rattle.std.proofs.lemmas.List.Elements.{filter_map-append}
 use Rattle.kd_state.specs.TwoCiphers.{both_ends}
-use Rattle.kd_state.proofs.Pairs.{pairs_of}
+use Rattle.kd_state.proofs.DayPairs.{pairs_of}
 use Rattle.kd_state.proofs.engine.ready.plugged_pairs.Goals as goal
 
 if_there : (pair : Option (ℕ × ℕ)) → option_to_list pair ≡ cons_option pair []

@@ -1,6 +1,6 @@
 use Rattle.std.proofs.Common.{◌∙◌, sym, subst}
 use Rattle.kd_enigma.specs.Plugs.{NoLetterTwice}
-use Rattle.kd_state.proofs.Pairs.{no_letter_twice}
+use Rattle.kd_state.proofs.DayPairs.{no_letter_twice}
 use Rattle.kd_state.proofs.engine.ready.plugs_of.Goals as goal
 
 pub unwrap-requires : goal.unwrap-requires

@@ -1,12 +1,8 @@
-use Rattle.std.proofs.Common.{Bool, ◌≡◌, true, false, refl, rules, not, sym, ap, ◌∙◌, subst}
-use Rattle.std.proofs.lemmas.Bool.{false≢true, iff_false}
+use Rattle.std.proofs.Common.{rules, not, sym, ap, ◌∙◌, subst}
+use Rattle.std.proofs.lemmas.Bool.{false≢true, iff_false, not-false}
 use Rattle.kd_state.specs.OnKey.{AreThePairs}
 use Rattle.kd_state.proofs.OnKey.{seats_Decides, rings_read}
 use Rattle.kd_state.proofs.machine.Machine.is_rotor_on_key.Goals as goal
-
-by_not : (b : Bool) → not b ≡ false → b ≡ true
-by_not true h = refl
-by_not false h = sym h
 
 pub returns-then-ne-3 : goal.returns-then-ne-3
 returns-then-ne-3 c = (
@@ -29,7 +25,7 @@ returns c =
     let read = rings_read c.args.self.now c.args.parts.now c.as_slice-3.result.now c.args.entry.now.wheels c.requires c.as_slice-3.ensures.value in (
       λ yes. record {
         model = search rules;
-        slots = sym c.as_slice.ensures.value ∙ (seats_Decides c.as_slice.result.now c.as_slice-2.result.now).0 (by_not _ (sym c.ne-2.ensures ∙ c.if-ne-3.false)) ∙ c.as_slice-2.ensures.value ∙ c.seats-seats.ensures;
+        slots = sym c.as_slice.ensures.value ∙ (seats_Decides c.as_slice.result.now c.as_slice-2.result.now).0 (not-false _ (sym c.ne-2.ensures ∙ c.if-ne-3.false)) ∙ c.as_slice-2.ensures.value ∙ c.seats-seats.ensures;
         rings = read.0 (c.has_rings.ensures.0 c.if-not-has_rings.false);
         reflector = search rules;
         cables = subst (λ pairs. AreThePairs c.args.parts.now.cables pairs) c.as_slice-4.ensures.value (c.are_the_pairs.ensures.0 yes);

@@ -1,7 +1,7 @@
-use Rattle.std.proofs.Common.{◌∙◌, ◌≡◌, true, false, length, get_or, arith, sym, ap, below_more}
+use Rattle.std.proofs.Common.{below_more, false, ◌∙◌, ◌≡◌, true, length, get_or, arith, sym, ap}
 use Rattle.kd_tables.specs.declared.wheel.Wheel.TheVariants.{I}
 use Rattle.kd_state.specs.Box.{same_wheel}
-use Rattle.kd_state.proofs.Wheels.{same_tested, found_in_box, not_in_box}
+use Rattle.kd_state.proofs.Wheels.{same_tested, found_in_box}
 use Rattle.kd_state.proofs.machine.seats.place_in_box.Goals as goal
 
 pub loop-place-preserved : goal.loop-place-preserved
@@ -13,8 +13,3 @@ returns-then-eq c =
     let is = c.wheels-other-items.ensures in
     let here : same_wheel c.args.wheel (get_or box c.loop-place.place I) ≡ true = same_tested c.args.wheel _ true (sym c.eq.ensures ∙ c.if-eq.true) in
     found_in_box c.args.model c.args.wheel c.loop-place.place (omega (arith, ap length is)) (λ k below. rw (sym is) (c.loop-place.invariant k below)) (rw (sym is) here)
-
-pub returns : goal.returns
-returns c =
-    let is = c.wheels-other-items.ensures in
-    not_in_box c.args.model c.args.wheel (λ k below. rw (sym is) (c.loop-place.invariant k (omega (arith, ap length is))))
