@@ -36,7 +36,9 @@ impl<const S: usize> Model for Enigma<S> {
 
     ghost view = { λ e. key_in e.stepper e.rotors e.reflector e.right };
 
-    ghost invariant = { λ e. IsWired e.rotors e.right (key_in e.stepper e.rotors e.reflector e.right) e.reflecting e.inner e.whole × (3 ≤ S) × (S ≤ 4) };
+    ghost invariant = { λ e.
+        IsWired e.rotors e.right (key_in e.stepper e.rotors e.reflector e.right)
+        e.reflecting e.inner e.whole × (3 ≤ S) × (S ≤ 4) };
 }
 
 impl<const S: usize> Enigma<S> {
