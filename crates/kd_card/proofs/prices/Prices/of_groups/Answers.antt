@@ -1,5 +1,5 @@
-use Rattle.std.proofs.Common.{◌∙◌, ◌≤◌, length, sym, subst, arith}
-use Rattle.kd_card.specs.CardText.{row_name, column_name, price_count, IsGroup, HaveKinds}
+use Rattle.std.proofs.Common.{◌≤◌, length, sym, subst, arith}
+use Rattle.kd_card.specs.CardText.{row_name, column_name, price_count, IsGroup}
 use Rattle.kd_card.specs.Prices.{ArePrices}
 use Rattle.kd_card.proofs.KindPrices.{few_kinds}
 use Rattle.kd_card.proofs.KindParts.{group_of_cables, group_of_bars}
@@ -43,15 +43,4 @@ of_parts-requires c =
       | in-OfBars w ↦
           subst ArePrices (sym w.parts-is)
           (group_of_bars c.args.group c.args.rows.now c.args.columns.now _ _ w.in-OfBars.is w.own_kinds-in-OfBars.ensures w.own_kinds-in-OfBars-2.ensures c.requires.rows c.requires.columns).0
-    ]
-
-pub returns-clause-kinds : goal.returns-clause-kinds
-returns-clause-kinds c =
-    elim c.match-group.branch [
-      | in-OfCables w ↦
-          subst (HaveKinds c.args.group c.args.rows.now c.args.columns.now) (sym (c.of_parts.ensures ∙ w.parts-is))
-          (group_of_cables c.args.group c.args.rows.now c.args.columns.now _ _ w.in-OfCables.is w.own_kinds.ensures w.own_kinds-in-OfCables.ensures c.requires.rows c.requires.columns).1
-      | in-OfBars w ↦
-          subst (HaveKinds c.args.group c.args.rows.now c.args.columns.now) (sym (c.of_parts.ensures ∙ w.parts-is))
-          (group_of_bars c.args.group c.args.rows.now c.args.columns.now _ _ w.in-OfBars.is w.own_kinds-in-OfBars.ensures w.own_kinds-in-OfBars-2.ensures c.requires.rows c.requires.columns).1
     ]
