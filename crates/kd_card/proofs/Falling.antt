@@ -13,13 +13,13 @@ use Rattle.kd_state.specs.declared.machine.pin_parts.PinParts.{PinParts}
 use Rattle.kd_state.specs.declared.machine.parts.Parts.{Parts}
 use Rattle.kd_state.specs.declared.machine.parts.Parts.TheVariants.{Rotor, Pin}
 use Rattle.kd_state.specs.declared.setting.Setting.{Setting}
-use Rattle.kd_state.specs.declared.setting.Setting.TheVariants.{Pull, Put, Seat, SeatReflector, RingTo, Turn, PinTo, LugTo}
+use Rattle.kd_state.specs.declared.setting.Setting.TheVariants.{Pull, Put, LugTo}
 use Rattle.kd_state.specs.declared.setting.why.Why.{Why}
 use Rattle.kd_state.specs.Machine.{cable_letters}
 use Rattle.kd_state.specs.Setting.{has_letter, is_at, reasons, why_refused, cable_at, cable_without, cable_with, with_lug, with_lug_at, changed}
 use Rattle.kd_state.specs.Costs.{differ, unless_same, column_letters, cable_cost, lugs_moved, standings_as, bar_cost}
 use Rattle.kd_card.specs.Proving.{is_priced}
-use Rattle.kd_card.proofs.Counts.{count_by-cons, once_in_alphabet}
+use Rattle.kd_card.proofs.Counts.{count_by-cons, at_most_one, once_in_alphabet}
 use Rattle.kd_card.proofs.Cables.{SameBut, same_but, same_but-sym, pulled, put}
 use Rattle.kd_card.proofs.Duality.{pairing_cost}
 
@@ -28,19 +28,9 @@ pairing_cost-set : {A B : Type 0} (cost : A → B → ℕ) (rows : List A) (ws :
     → ((column : B) → cost (get_or rows i d) column ≤ cost row column + 1) → pairing_cost cost rows ws ≤ pairing_cost cost (set rows i row) ws + 1
 pairing_cost-set cost [] ws i row d h = omega arith
 pairing_cost-set cost (now ∷ rows) [] zero row d h = omega arith
-pairing_cost-set cost (now ∷ rows) [] (suc i) row d h = omega arith
 pairing_cost-set cost (now ∷ rows) (w ∷ ws) zero row d h = omega (arith, h w.0)
 pairing_cost-set cost (now ∷ rows) (w ∷ ws) (suc i) row d h = omega (arith, pairing_cost-set cost rows ws i row d h)
-
-one_more : (a b t : Bool) → cond {A = ℕ} (differ a b) 1 0 ≤ cond (differ t b) 1 0 + 1
-one_more true true true = omega arith
-one_more true true false = omega arith
-one_more true false true = omega arith
-one_more true false false = omega arith
-one_more false true true = omega arith
-one_more false true false = omega arith
-one_more false false true = omega arith
-one_more false false false = omega arith
+pairing_cost-set cost rows ws i row d h = omega arith
 
 counted_apart : (letters others wanted : List ℕ) (x : ℕ) → SameBut x letters others → (alphabet : List ℕ)
     → count_by (λ letter. differ (has_letter letters letter) (has_letter wanted letter)) alphabet
@@ -54,7 +44,7 @@ counted_apart letters others wanted x same (letter ∷ alphabet) =
     elim (same letter) [
       | inl e ↦ let head = ap (λ b. cond {A = ℕ} (differ b (has_letter wanted letter)) 1 0) e in omega arith
       | inr e ↦
-          let most = one_more (has_letter letters letter) (has_letter wanted letter) (has_letter others letter) in
+          let most = at_most_one (differ (has_letter letters letter) (has_letter wanted letter)) in
           let head : cond {A = ℕ} (nat_eq x letter) 1 0 ≡ 1 = rw e refl in
           omega arith
     ]
@@ -143,17 +133,5 @@ pub falls : (m : Parts) (x : Setting) (columns : List (Option (ℕ × ℕ) × �
     → paired_cost m columns rows ≤ paired_cost (changed m x) columns rows + cond (is_priced x) 1 0
 falls (Rotor m) (Pull cable letter) columns rows e = pull_falls m cable letter columns e
 falls (Rotor m) (Put cable letter) columns rows e = put_falls m cable letter columns e
-falls (Rotor m) (Seat slot wheel) columns rows e = omega arith
-falls (Rotor m) (SeatReflector reflector) columns rows e = omega arith
-falls (Rotor m) (RingTo wheel letter) columns rows e = omega arith
-falls (Rotor m) (Turn slot letter) columns rows e = omega arith
-falls (Rotor m) (PinTo wheel letter effective) columns rows e = omega arith
-falls (Rotor m) (LugTo bar lug place) columns rows e = omega arith
-falls (Pin m) (Pull cable letter) columns rows e = omega arith
-falls (Pin m) (Put cable letter) columns rows e = omega arith
-falls (Pin m) (Seat slot wheel) columns rows e = omega arith
-falls (Pin m) (SeatReflector reflector) columns rows e = omega arith
-falls (Pin m) (RingTo wheel letter) columns rows e = omega arith
-falls (Pin m) (Turn wheel letter) columns rows e = omega arith
-falls (Pin m) (PinTo wheel letter effective) columns rows e = omega arith
 falls (Pin m) (LugTo bar lug place) columns rows e = lug_falls m bar lug place rows
+falls m x columns rows e = omega arith

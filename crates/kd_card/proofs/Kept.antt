@@ -15,7 +15,7 @@ use Rattle.kd_state.specs.declared.machine.pin_parts.PinParts.{PinParts}
 use Rattle.kd_state.specs.declared.machine.parts.Parts.{Parts}
 use Rattle.kd_state.specs.declared.machine.parts.Parts.TheVariants.{Rotor, Pin}
 use Rattle.kd_state.specs.declared.setting.Setting.{Setting}
-use Rattle.kd_state.specs.declared.setting.Setting.TheVariants.{Pull, Put, Seat, SeatReflector, RingTo, Turn, PinTo, LugTo}
+use Rattle.kd_state.specs.declared.setting.Setting.TheVariants.{Pull, Put, LugTo}
 use Rattle.kd_state.specs.Box.{numbered}
 use Rattle.kd_state.specs.Machine.{cable_letters, plugged_letters, IsLegal}
 use Rattle.kd_state.specs.Setting.{is_at, lies_beyond, other_lug, lug_place, reasons, why_refused, cable_at, cable_without, cable_with, with_lug, with_lug_at, changed, Leads}
@@ -113,20 +113,8 @@ setting_keeps (Rotor m) (Pull cable letter) e h =
     record { count = length-set m.cables (cable - 1) (cable_without letter (cable_at m cable)) ∙ h.count; once = pull_keeps m cable letter e h.once }
 setting_keeps (Rotor m) (Put cable letter) e h =
     record { count = length-set m.cables (cable - 1) (cable_with letter (cable_at m cable)) ∙ h.count; once = put_keeps m cable letter e h.once }
-setting_keeps (Rotor m) (Seat slot wheel) e h = h
-setting_keeps (Rotor m) (SeatReflector reflector) e h = h
-setting_keeps (Rotor m) (RingTo wheel letter) e h = h
-setting_keeps (Rotor m) (Turn slot letter) e h = h
-setting_keeps (Rotor m) (PinTo wheel letter effective) e h = h
-setting_keeps (Rotor m) (LugTo bar lug place) e h = h
-setting_keeps (Pin m) (Pull cable letter) e h = h
-setting_keeps (Pin m) (Put cable letter) e h = h
-setting_keeps (Pin m) (Seat slot wheel) e h = h
-setting_keeps (Pin m) (SeatReflector reflector) e h = h
-setting_keeps (Pin m) (RingTo wheel letter) e h = h
-setting_keeps (Pin m) (Turn wheel letter) e h = h
-setting_keeps (Pin m) (PinTo wheel letter effective) e h = h
 setting_keeps (Pin m) (LugTo bar lug place) e h = lug_keeps m bar lug place e h
+setting_keeps m x e h = h
 
 pub list_keeps : (m n : Parts) (xs : List Setting) → Leads m xs n → HasAll m → HasAll n
 list_keeps m n [] leads h = subst HasAll (sym leads) h

@@ -19,9 +19,9 @@ use Rattle.kd_card.specs.declared.kinds.RowKind.{RowKind}
 use Rattle.kd_card.specs.declared.group.Group.{Group}
 use Rattle.kd_card.specs.declared.group.Group.TheVariants.{OfCables, OfBars}
 use Rattle.kd_card.specs.declared.prices.PriceParts.{PriceParts}
-use Rattle.kd_card.specs.declared.prices.PriceParts.TheVariants.{Cables, Bars, CableKinds, BarKinds}
+use Rattle.kd_card.specs.declared.prices.PriceParts.TheVariants.{CableKinds, BarKinds}
 use Rattle.kd_card.specs.declared.prices.Version.TheVariants.{ByKind}
-use Rattle.kd_card.specs.Kinds.{name_text, kind_words, kinds_text, counted, prices_of_kinds, cable_kind, pair_kind, bar_kind, row_kind, AreKinds, AreCalled}
+use Rattle.kd_card.specs.Kinds.{look_name, name_text, kind_words, kinds_text, counted, prices_of_kinds, cable_kind, pair_kind, bar_kind, row_kind, AreKinds, AreCalled}
 use Rattle.kd_card.specs.Prices.{version_of, row_kinds, column_kinds, column_prices, price_sum, ArePrices}
 use Rattle.kd_card.specs.CardText.{group_of, row_name, column_name, price_count, lines_text, price_lines, IsGroup, HaveKinds}
 use Rattle.kd_card.specs.Reading.{BeginsWithAll}
@@ -61,34 +61,23 @@ pub record AreGroups (prices : PriceParts) : Type 0 where
   pub row_count : counted (row_kinds prices) ≡ price_count (group_of prices)
   pub column_count : counted (column_kinds prices) ≡ price_count (group_of prices)
 
-cables_called : (kinds : List CableKind) → AreCalled names.Cable (map cable_kind kinds)
-cables_called [] = tt
-cables_called (kind ∷ kinds) = (refl, cables_called kinds)
-
-pairs_called : (kinds : List PairKind) → AreCalled names.Pair (map pair_kind kinds)
-pairs_called [] = tt
-pairs_called (kind ∷ kinds) = (refl, pairs_called kinds)
-
-bars_called : (kinds : List BarKind) → AreCalled names.Bar (map bar_kind kinds)
-bars_called [] = tt
-bars_called (kind ∷ kinds) = (refl, bars_called kinds)
-
-rows_called : (kinds : List RowKind) → AreCalled names.Row (map row_kind kinds)
-rows_called [] = tt
-rows_called (kind ∷ kinds) = (refl, rows_called kinds)
+all_called : {K : Type 0} (priced : K → PricedKind) (name : Name) → ((kind : K) → look_name (priced kind).look ≡ name) → (kinds : List K)
+    → AreCalled name (map priced kinds)
+all_called priced name called [] = tt
+all_called priced name called (kind ∷ kinds) = (called kind, all_called priced name called kinds)
 
 pub cable_groups : (row : ArrayVec CableKind) (col : ArrayVec PairKind) → ArePrices (CableKinds row col) → AreGroups (CableKinds row col)
 cable_groups row col are = record {
-  rows_called = cables_called row.items;
-  columns_called = pairs_called col.items;
+  rows_called = all_called cable_kind names.Cable (λ kind. refl) row.items;
+  columns_called = all_called pair_kind names.Pair (λ kind. refl) col.items;
   row_count = row_count (CableKinds row col) refl are;
   column_count = column_count (CableKinds row col) refl are;
 }
 
 pub bar_groups : (row : ArrayVec BarKind) (col : ArrayVec RowKind) → ArePrices (BarKinds row col) → AreGroups (BarKinds row col)
 bar_groups row col are = record {
-  rows_called = bars_called row.items;
-  columns_called = rows_called col.items;
+  rows_called = all_called bar_kind names.Bar (λ kind. refl) row.items;
+  columns_called = all_called row_kind names.Row (λ kind. refl) col.items;
   row_count = row_count (BarKinds row col) refl are;
   column_count = column_count (BarKinds row col) refl are;
 }
@@ -107,27 +96,19 @@ told there back leads xs ys e = sym (undone there back leads xs) ∙ ap (map bac
 
 abbrev ends_in : Look → Option ℕ × Option ℕ
 ends_in (Cable ends) = ends
-ends_in (Pair pair) = (None, None)
-ends_in (Bar standing) = (None, None)
-ends_in (Row numbers) = (None, None)
+ends_in look = (None, None)
 
 abbrev pair_in : Look → Option (ℕ × ℕ)
 pair_in (Pair pair) = pair
-pair_in (Cable ends) = None
-pair_in (Bar standing) = None
-pair_in (Row numbers) = None
+pair_in look = None
 
 abbrev standing_in : Look → Place × Place
 standing_in (Bar standing) = standing
-standing_in (Cable ends) = (One, One)
-standing_in (Pair pair) = (One, One)
-standing_in (Row numbers) = (One, One)
+standing_in look = (One, One)
 
 abbrev reading_in : Look → ℕ × ℕ
 reading_in (Row numbers) = numbers
-reading_in (Cable ends) = (0, 0)
-reading_in (Pair pair) = (0, 0)
-reading_in (Bar standing) = (0, 0)
+reading_in look = (0, 0)
 
 cables_told : (xs ys : List CableKind) → map cable_kind xs ≡ map cable_kind ys → xs ≡ ys
 cables_told = told cable_kind (λ k. record { ends = ends_in k.look; count = k.count; price = k.price }) (λ x. refl)
@@ -154,12 +135,7 @@ same_kind_parts (BarKinds a b) (BarKinds c d) by also group rows columns =
     let r : a ≡ c = same_items a c (bars_told a.items c.items rows) in
     let s : b ≡ d = same_items b d (rows_told b.items d.items columns) in
     cc
-same_kind_parts (CableKinds a b) (BarKinds c d) by also group rows columns = cc
-same_kind_parts (BarKinds a b) (CableKinds c d) by also group rows columns = cc
-same_kind_parts (Cables a b) others by also group rows columns = cc
-same_kind_parts (Bars a b) others by also group rows columns = cc
-same_kind_parts prices (Cables c d) by also group rows columns = cc
-same_kind_parts prices (Bars c d) by also group rows columns = cc
+same_kind_parts prices others by also group rows columns = cc
 
 -- ---- prices of two groups
 
@@ -187,14 +163,12 @@ lines_behind_groups : (prices : PriceParts) → version_of prices ≡ ByKind →
     → lines_text (price_lines prices) ++ rest ≡ kinds_text (row_kinds prices) ++ (kinds_text (column_kinds prices) ++ rest)
 lines_behind_groups (CableKinds a b) by rest = lines_of_kinds (map cable_kind a.items) (map pair_kind b.items) rest
 lines_behind_groups (BarKinds a b) by rest = lines_of_kinds (map bar_kind a.items) (map row_kind b.items) rest
-lines_behind_groups (Cables a b) by rest = cc
-lines_behind_groups (Bars a b) by rest = cc
+lines_behind_groups prices by rest = cc
 
 ends_behind : (prices : PriceParts) → version_of prices ≡ ByKind → (rest : List ℕ) → EndsGroup (column_name (group_of prices)) rest → EndsPrices prices rest
 ends_behind (CableKinds a b) by rest ends = ends
 ends_behind (BarKinds a b) by rest ends = ends
-ends_behind (Cables a b) by rest ends = tt
-ends_behind (Bars a b) by rest ends = tt
+ends_behind prices by rest ends = tt
 
 pub all_groups : (group : Group) (rows columns : List PricedKind) (bytes rest after : List ℕ) (prices : PriceParts)
     → BeginsWithGroup (row_name group) (price_count group) bytes rows rest → BeginsWithGroup (column_name group) (price_count group) rest columns after

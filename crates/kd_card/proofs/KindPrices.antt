@@ -4,7 +4,7 @@ use Rattle.std.proofs.lemmas.List.{get_or-replicate, length-replicate}
 use Rattle.std.proofs.lemmas.List.Elements.{All-append, All-nil}
 use Rattle.kd_card.specs.declared.kinds.PricedKind.{PricedKind}
 use Rattle.kd_card.specs.declared.prices.PriceParts.{PriceParts}
-use Rattle.kd_card.specs.declared.prices.PriceParts.TheVariants.{Cables, Bars, CableKinds, BarKinds}
+use Rattle.kd_card.specs.declared.prices.PriceParts.TheVariants.{CableKinds, BarKinds}
 use Rattle.kd_card.specs.declared.prices.Version.TheVariants.{ByKind}
 use Rattle.kd_card.specs.Kinds.{look_rank, counted, prices_of_kinds, AreKinds}
 use Rattle.kd_card.specs.Prices.{version_of, how_many, row_kinds, column_kinds, row_prices, column_prices, AreWithinReach, ArePrices}
@@ -38,14 +38,12 @@ few_kinds floor (kind ∷ kinds) are =
 pub rows_of : (parts : PriceParts) → version_of parts ≡ ByKind → row_prices parts ≡ prices_of_kinds (row_kinds parts)
 rows_of (CableKinds row col) by = refl
 rows_of (BarKinds row col) by = refl
-rows_of (Cables row col) by = cc
-rows_of (Bars row col) by = cc
+rows_of parts by = cc
 
 pub columns_of : (parts : PriceParts) → version_of parts ≡ ByKind → column_prices parts ≡ prices_of_kinds (column_kinds parts)
 columns_of (CableKinds row col) by = refl
 columns_of (BarKinds row col) by = refl
-columns_of (Cables row col) by = cc
-columns_of (Bars row col) by = cc
+columns_of parts by = cc
 
 pub are_prices : (parts : PriceParts) (number : ℕ) → version_of parts ≡ ByKind → number ≡ how_many parts
     → AreKinds 0 (row_kinds parts) × (counted (row_kinds parts) ≡ number)

@@ -28,9 +28,7 @@ name_back first = cond (eqb first 67) names.Cable (cond (eqb first 80) names.Pai
 undo_name : (n : Name) → name_back (get_or (name_text n) 0 0) ≡ n
 unfolding name_back
 undo_name names.Cable = refl
-undo_name names.Pair = refl
-undo_name names.Bar = refl
-undo_name names.Row = refl
+undo_name n = refl
 
 pub same_name : (n m : Name) → name_text n ≡ name_text m → n ≡ m
 same_name n m e = sym (undo_name n) ∙ ap (λ t. name_back (get_or t 0 0)) e ∙ undo_name m
@@ -68,9 +66,7 @@ place_above p = All-from_recursion (λ b. 45 < b) (place_text p) (bytes_above 45
 
 name_is_word : (n : Name) → IsWord (name_text n)
 name_is_word names.Cable = word_by_test _ _ refl
-name_is_word names.Pair = word_by_test _ _ refl
-name_is_word names.Bar = word_by_test _ _ refl
-name_is_word names.Row = word_by_test _ _ refl
+name_is_word n = word_by_test _ _ refl
 
 one_byte : (b : ℕ) → 32 < b → IsWord (b ∷ [])
 one_byte b above = word_by_bytes (b ∷ []) (λ none. cc) (All-from_recursion (λ b. 32 < b) (b ∷ []) (above, tt))
@@ -113,18 +109,15 @@ kind_is_words numbers kind good =
 same_ends : (a b c d : Option ℕ) → AreEnds a b → AreEnds c d → look_text (Cable (a, b)) ≡ look_text (Cable (c, d)) → Cable (a, b) ≡ Cable (c, d)
 same_ends None None None None x y e = refl
 same_ends None None (Some c) None x y e = absurd (omega (arith, ap (λ t. get_or t 0 0) e))
-same_ends None None (Some c) (Some d) x y e = absurd (omega (arith, ap length e))
 same_ends (Some a) None None None x y e = absurd (omega (arith, ap (λ t. get_or t 0 0) e))
 same_ends (Some a) None (Some c) None x y e = let same : a ≡ c = omega (arith, ap (λ t. get_or t 0 0) e) in cc
-same_ends (Some a) None (Some c) (Some d) x y e = absurd (omega (arith, ap length e))
-same_ends (Some a) (Some b) None None x y e = absurd (omega (arith, ap length e))
-same_ends (Some a) (Some b) (Some c) None x y e = absurd (omega (arith, ap length e))
 same_ends (Some a) (Some b) (Some c) (Some d) x y e =
     let one : a ≡ c = omega (arith, ap (λ t. get_or t 0 0) e) in
     let other : b ≡ d = omega (arith, ap (λ t. get_or t 1 0) e) in
     cc
 same_ends None (Some b) c d x y e = absurd x
 same_ends a b None (Some d) x y e = absurd y
+same_ends a b c d x y e = absurd (omega (arith, ap length e))
 
 same_pair : (a b : Option (ℕ × ℕ)) → look_text (Pair a) ≡ look_text (Pair b) → Pair a ≡ Pair b
 same_pair None None e = refl
@@ -159,18 +152,7 @@ same_look tells (Cable (a, b)) (Cable (c, d)) named x y e = same_ends a b c d x 
 same_look tells (Pair a) (Pair b) named x y e = same_pair a b e
 same_look tells (Bar (a, b)) (Bar (c, d)) named x y e = same_standing tells a b c d e
 same_look tells (Row (a, b)) (Row (c, d)) named x y e = same_reading a b c d e
-same_look tells (Cable a) (Pair b) named x y e = cc
-same_look tells (Cable a) (Bar b) named x y e = cc
-same_look tells (Cable a) (Row b) named x y e = cc
-same_look tells (Pair a) (Cable b) named x y e = cc
-same_look tells (Pair a) (Bar b) named x y e = cc
-same_look tells (Pair a) (Row b) named x y e = cc
-same_look tells (Bar a) (Cable b) named x y e = cc
-same_look tells (Bar a) (Pair b) named x y e = cc
-same_look tells (Bar a) (Row b) named x y e = cc
-same_look tells (Row a) (Cable b) named x y e = cc
-same_look tells (Row a) (Pair b) named x y e = cc
-same_look tells (Row a) (Bar b) named x y e = cc
+same_look tells look other named x y e = cc
 
 pub same_kind : TextsTellFirstParts → (kind other : PricedKind) → IsPricedKind kind → IsPricedKind other → kind_words kind ≡ kind_words other → kind ≡ other
 same_kind tells kind other a b e =
@@ -229,15 +211,4 @@ ranks_tell_looks (Cable (a, b)) (Cable (c, d)) named x y e = ranked_ends a b c d
 ranks_tell_looks (Pair a) (Pair b) named x y e = ranked_pair a b x y e
 ranks_tell_looks (Bar (a, b)) (Bar (c, d)) named x y e = ranked_standing a b c d e
 ranks_tell_looks (Row (a, b)) (Row (c, d)) named x y e = ranked_reading a b c d x.within y.within e
-ranks_tell_looks (Cable a) (Pair b) named x y e = cc
-ranks_tell_looks (Cable a) (Bar b) named x y e = cc
-ranks_tell_looks (Cable a) (Row b) named x y e = cc
-ranks_tell_looks (Pair a) (Cable b) named x y e = cc
-ranks_tell_looks (Pair a) (Bar b) named x y e = cc
-ranks_tell_looks (Pair a) (Row b) named x y e = cc
-ranks_tell_looks (Bar a) (Cable b) named x y e = cc
-ranks_tell_looks (Bar a) (Pair b) named x y e = cc
-ranks_tell_looks (Bar a) (Row b) named x y e = cc
-ranks_tell_looks (Row a) (Cable b) named x y e = cc
-ranks_tell_looks (Row a) (Pair b) named x y e = cc
-ranks_tell_looks (Row a) (Bar b) named x y e = cc
+ranks_tell_looks look other named x y e = cc

@@ -156,8 +156,7 @@ all_empty : (cables : List (Option ℕ × Option ℕ)) (number : ℕ) → length
 all_empty [] zero e h = tt
 all_empty (cable ∷ cables) (suc number) e h =
     (empty_costs_nothing cable (h cable (zero, omega arith, refl)), all_empty cables number (omega arith) (λ other among. h other (in_rest cable other cables among)))
-all_empty [] (suc number) e h = absurd (omega arith)
-all_empty (cable ∷ cables) zero e h = absurd (omega arith)
+all_empty cables number e h = absurd (omega arith)
 
 -- the cables in an order in which each costs nothing at its column
 pub matched : Told → (cables : List (Option ℕ × Option ℕ)) (pairs : List (ℕ × ℕ)) (nothings : ℕ) → length cables ≡ length pairs + nothings → AreMatched cables pairs
@@ -183,17 +182,15 @@ pub record FreePairing {A B : Type 0} (cost : A → B → ℕ) (rows : List A) (
 
 module _ {A B : Type 0} (cost : A → B → ℕ) where
   free_of_all : (rows : List A) (ws : List (B × ℤ)) → AllZip (λ row w. cost row w.0 ≡ 0) rows ws → pairing_cost cost rows ws ≡ 0
-  free_of_all [] ws h = refl
-  free_of_all (row ∷ rows) [] h = refl
   free_of_all (row ∷ rows) (w ∷ ws) h = omega (arith, h.0, free_of_all rows ws h.1)
+  free_of_all rows ws h = refl
 
 with_prices : {A B : Type 0} (R : A → B → Type 0) (xs : List A) (columns : List B) (prices : List ℤ) → length columns ≡ length prices → AllZip R xs columns
     → AllZip (λ x (w : B × ℤ). R x w.0) xs (zip columns prices)
 with_prices R [] [] prices e h = tt
 with_prices R (x ∷ xs) (column ∷ columns) (price ∷ prices) e h = (h.0, with_prices R xs columns prices (omega arith) h.1)
 with_prices R (x ∷ xs) (column ∷ columns) [] e h = absurd (omega arith)
-with_prices R [] (column ∷ columns) prices e h = absurd h
-with_prices R (x ∷ xs) [] prices e h = absurd h
+with_prices R xs columns prices e h = absurd h
 
 matched_of_pairs : (cables : List (Option ℕ × Option ℕ)) (pairs : List (ℕ × ℕ)) → CablesAreOnce cables → AreOnce (letters_plugged pairs) → AreThePairs cables pairs → AreMatched cables pairs
 matched_of_pairs cables pairs once pairs_once h =
@@ -256,8 +253,7 @@ free_rows : (bars : List (Place × Place)) (ws : List ((ℕ × ℕ) × ℤ)) →
     → AllZip (λ bar (w : (ℕ × ℕ) × ℤ). bar_cost bar w.0 ≡ 0) bars ws
 free_rows [] [] stand h = tt
 free_rows (bar ∷ bars) (w ∷ ws) stand h = (subst (λ row. bar_cost bar row ≡ 0) h.0 (own_row bar.0 bar.1 stand.0), free_rows bars ws stand.1 h.1)
-free_rows [] (w ∷ ws) stand h = absurd h
-free_rows (bar ∷ bars) [] stand h = absurd h
+free_rows bars ws stand h = absurd h
 
 pub bars_paired : (bars : List (Place × Place)) (rows : List (ℕ × ℕ)) (prices : List ℤ) → HasBars bars → length rows ≡ length prices → IsPermutation (map (λ bar. reading_of bar.0 bar.1) bars) rows
     → FreePairing bar_cost bars rows prices

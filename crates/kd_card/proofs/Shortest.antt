@@ -19,7 +19,7 @@ use Rattle.kd_state.specs.SheetDay.{RotorDay, PinDay, Day, OfRotors, OfPins, day
 use Rattle.kd_state.specs.OnKey.{ReadsAs}
 use Rattle.kd_state.specs.Costs.{cable_cost, bar_cost, columns_of, cost_table, loose_count}
 use Rattle.kd_card.specs.declared.prices.PriceParts.{PriceParts}
-use Rattle.kd_card.specs.declared.prices.PriceParts.TheVariants.{Cables, Bars, CableKinds, BarKinds}
+use Rattle.kd_card.specs.declared.prices.PriceParts.TheVariants.{Cables, Bars}
 use Rattle.kd_card.specs.Prices.{ArePrices, Fits, price_sum}
 use Rattle.kd_card.specs.Proving.{is_priced, priced_count, IsNeeded, AreNeeded, Expands, Same, Expanded, ProvesByNumber, IsShortest}
 use Rattle.kd_card.specs.Laws.{FittingPricesBoundLists, ProvingCardsAreAsLong, ProvingCardsAreShortest}
@@ -109,16 +109,9 @@ fitting_prices_bound_lists told (Rotor m) (OfPins s) (Cables row column) setting
     absurd (no_rotors m.model m.reflector (sym (model_of-list (Rotor m) (Pin n) settings leads)) machine.legal.reflector)
 fitting_prices_bound_lists told (Pin m) (OfRotors s) (Bars row column) settings machine legal prices kind fits (Rotor n, leads, reads) =
     absurd (no_rotors s.model s.reflector (sym reads.key.model ∙ model_of-list (Pin m) (Rotor n) settings leads) legal.reflector)
-fitting_prices_bound_lists told (Rotor m) (OfRotors s) (Cables row column) settings machine legal prices kind fits (Pin n, leads, reads) = absurd reads.key
-fitting_prices_bound_lists told (Rotor m) (OfPins s) (Cables row column) settings machine legal prices kind fits (Rotor n, leads, reads) = absurd reads.key
-fitting_prices_bound_lists told (Pin m) (OfRotors s) (Bars row column) settings machine legal prices kind fits (Pin n, leads, reads) = absurd reads.key
-fitting_prices_bound_lists told (Pin m) (OfPins s) (Bars row column) settings machine legal prices kind fits (Rotor n, leads, reads) = absurd reads.key
-fitting_prices_bound_lists told (Rotor m) s (Bars row column) settings machine legal prices kind fits reached = absurd kind
-fitting_prices_bound_lists told (Pin m) s (Cables row column) settings machine legal prices kind fits reached = absurd kind
-fitting_prices_bound_lists told (Rotor m) s (CableKinds row column) settings machine legal prices kind fits reached = absurd kind
-fitting_prices_bound_lists told (Rotor m) s (BarKinds row column) settings machine legal prices kind fits reached = absurd kind
-fitting_prices_bound_lists told (Pin m) s (CableKinds row column) settings machine legal prices kind fits reached = absurd kind
-fitting_prices_bound_lists told (Pin m) s (BarKinds row column) settings machine legal prices kind fits reached = absurd kind
+fitting_prices_bound_lists told m (OfRotors s) prices settings machine legal are_prices kind fits (Pin n, leads, reads) = absurd reads.key
+fitting_prices_bound_lists told m (OfPins s) prices settings machine legal are_prices kind fits (Rotor n, leads, reads) = absurd reads.key
+fitting_prices_bound_lists told m s prices settings machine legal are_prices kind fits reached = absurd kind
 
 -- Where each setting is needed, there are as many as loose things and those that change a cable or a bar.
 needed_one : (m : Parts) (s : Day) (x : Setting) (b : Bool) → is_priced x ≡ b → IsNeeded m s x → loose_count m s + cond b 1 0 ≡ loose_count (changed m x) s + 1

@@ -16,7 +16,7 @@ use Rattle.kd_state.specs.SheetDay.{RotorDay, PinDay, Day, OfRotors, OfPins, IsL
 use Rattle.kd_state.specs.OnKey.{ReadsAs}
 use Rattle.kd_state.specs.Costs.{cable_cost, bar_cost, columns_of, cost_table}
 use Rattle.kd_card.specs.declared.prices.PriceParts.{PriceParts}
-use Rattle.kd_card.specs.declared.prices.PriceParts.TheVariants.{Cables, Bars, CableKinds, BarKinds}
+use Rattle.kd_card.specs.declared.prices.PriceParts.TheVariants.{Cables, Bars}
 use Rattle.kd_card.specs.Prices.{ArePrices, AreTight}
 use Rattle.kd_card.specs.Proving.{is_priced, priced_count, ProvesByNumber}
 use Rattle.kd_card.specs.Laws.{ProvingPricesAreTight}
@@ -41,8 +41,7 @@ zip_at : {B : Type 0} (columns : List B) (prices : List ℤ) (j : ℕ) (b : B) �
     → get_or (zip columns prices) j (b, pos 0) ≡ (get_or columns j b, get_or prices j (pos 0))
 zip_at (column ∷ columns) (price ∷ prices) zero b e lt = refl
 zip_at (column ∷ columns) (price ∷ prices) (suc j) b e lt = zip_at columns prices j b (omega arith) (omega arith)
-zip_at [] prices j b e lt = absurd (omega arith)
-zip_at (column ∷ columns) [] j b e lt = absurd (omega arith)
+zip_at columns prices j b e lt = absurd (omega arith)
 
 module _ {A B : Type 0} (cost : A → B → ℕ) where
   -- a row's price and the column's beside it are together the cost
@@ -59,9 +58,7 @@ module _ {A B : Type 0} (cost : A → B → ℕ) where
   tight_at (row ∷ rows) (price ∷ prices) (v ∷ ws) (suc i) a w e f h sum lt =
       let head = h.0.0 in
       tight_at rows prices ws i a w (omega arith) (omega arith) (without_first cost rows prices v ws h.1) (omega (arith, ints)) (omega arith)
-  tight_at [] prices ws i a w e f h sum lt = absurd (omega arith)
-  tight_at (row ∷ rows) [] ws i a w e f h sum lt = absurd (omega arith)
-  tight_at (row ∷ rows) (price ∷ prices) [] i a w e f h sum lt = absurd (omega arith)
+  tight_at rows prices ws i a w e f h sum lt = absurd (omega arith)
 
   -- a read of the table
   table_at : (rows : List A) (columns : List B) (i j : ℕ) (a : A) (b : B) → i < length rows → j < length columns
@@ -180,12 +177,7 @@ reached_tight told (Pin m) (Rotor n) (OfRotors s) settings (Bars row column) mac
     absurd (no_rotors s.model s.reflector (sym reads.key.model ∙ model_of-list (Pin m) (Rotor n) settings leads) legal.reflector)
 reached_tight told m (Pin n) (OfRotors s) settings prices machine legal are_prices h leads reads = absurd reads.key
 reached_tight told m (Rotor n) (OfPins s) settings prices machine legal are_prices h leads reads = absurd reads.key
-reached_tight told (Rotor m) n s settings (Bars row column) machine legal are_prices h leads reads = absurd h.kind
-reached_tight told (Pin m) n s settings (Cables row column) machine legal are_prices h leads reads = absurd h.kind
-reached_tight told (Rotor m) n s settings (CableKinds row column) machine legal are_prices h leads reads = absurd h.kind
-reached_tight told (Rotor m) n s settings (BarKinds row column) machine legal are_prices h leads reads = absurd h.kind
-reached_tight told (Pin m) n s settings (CableKinds row column) machine legal are_prices h leads reads = absurd h.kind
-reached_tight told (Pin m) n s settings (BarKinds row column) machine legal are_prices h leads reads = absurd h.kind
+reached_tight told m n s settings prices machine legal are_prices h leads reads = absurd h.kind
 
 pub proving_prices_are_tight : Told → ProvingPricesAreTight
 proving_prices_are_tight told m s settings prices machine legal are_prices h = reached_tight told m h.leads.0 s settings prices machine legal are_prices h h.leads.1 h.leads.2
