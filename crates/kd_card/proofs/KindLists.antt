@@ -16,7 +16,7 @@ use Rattle.kd_state.specs.Words.{line_of}
 use Rattle.kd_card.specs.declared.fault.CardFault.{CardFault}
 use Rattle.kd_card.specs.declared.fault.CardFault.TheVariants.{PriceMissing}
 use Rattle.kd_card.specs.CardFault.{floor_behind, IsNextKind, IsBadKind, EndsGroup, BeginsWithKinds, BeginsWithGroup, IsGroupFault, AtKind, AtCount}
-use Rattle.kd_card.proofs.KindParts.{text_of_more_kinds}
+use Rattle.kd_card.proofs.KindPrices.{text_of_more_kinds}
 use Rattle.kd_card.proofs.KindWords.{low_rank}
 
 -- ---- one more kind at the end

@@ -29,13 +29,10 @@ use Rattle.kd_card.specs.CardFault.{with_line, sum_line, IsNumberText, IsSignedT
 use Rattle.kd_card.specs.Reading.{BeginsWithHead, BeginsWithTooMany, BeginsWithSettings, BeginsWithPrices}
 use Rattle.kd_card.specs.Laws.{TextsTellCards, NoCardBeginsAnother, CardsHaveNoFault, OneCardFault}
 use Rattle.kd_card.proofs.Lines.{text_of_more, two_lines, no_first_part, same_first_part, unbroken_by_test, unbroken_number, unbroken_signed}
-use Rattle.kd_card.proofs.PriceTexts.{small}
-use Rattle.kd_card.proofs.PriceLines.{all_price_texts}
-use Rattle.kd_card.proofs.Cards.{goes_to_prices}
-use Rattle.kd_card.proofs.CardWords.{head_is_words, settings_is_words, sum_is_words, row_is_word, column_is_word, prices_are_words, number_text, signed_text, price_sum_is_small}
-use Rattle.kd_card.proofs.KindWords.{kind_is_words}
-use Rattle.kd_card.proofs.KindWords.{same_kind as known_kind}
-use Rattle.kd_card.proofs.KindParts.{AreGroups, HasNoNext, cable_groups, bar_groups, other_name, lines_of_kinds, text_of_more_kinds, same_kind_parts}
+use Rattle.kd_card.proofs.PriceTexts.{small, all_price_texts}
+use Rattle.kd_card.proofs.CardWords.{goes_to_prices, head_is_words, settings_is_words, sum_is_words, row_is_word, column_is_word, prices_are_words, number_text, signed_text, price_sum_is_small}
+use Rattle.kd_card.proofs.KindWords.{kind_is_words, same_kind as known_kind}
+use Rattle.kd_card.proofs.KindPrices.{AreGroups, HasNoNext, cable_groups, bar_groups, other_name, lines_of_kinds, text_of_more_kinds, same_kind_parts}
 
 -- what is known of lines and settings
 pub record Known : Type 0 where

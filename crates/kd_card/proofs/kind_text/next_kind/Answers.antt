@@ -5,7 +5,7 @@ use Rattle.std.proofs.lemmas.Bool.Decides.{Decides-eqb}
 use Rattle.std.proofs.lemmas.Slice.Eq.{slice_eq-Decides}
 use Rattle.kd_card.specs.Kinds.{name_text}
 use Rattle.kd_card.specs.CardFault.{BeginsWithWord, AtOther, NoKind}
-use Rattle.kd_card.proofs.KindReading.{Laws, begins, none_next, low_next}
+use Rattle.kd_card.proofs.KindWords.{Laws, begins, none_next, low_next}
 use Rattle.kd_card.proofs.kind_text.next_kind.Goals as goal
 use Rattle.kd_card.proofs.kind_text.next_kind.Goals.{in_default-kind_of_line-via-in-Some-kind_of_line+else-floor-rank, in_default-kind_of_line-via-in_default-kind_of_line}
 

@@ -2,7 +2,7 @@ use Rattle.std.proofs.Common.{◌∙◌, ◌≡◌, ap, refl, w16, to_z, of_z}
 use Rattle.std.specs.Fmt.{signed_decimal}
 use Rattle.std.proofs.lemmas.Int.{to_z-of_z}
 use Rattle.kd_card.specs.Kinds.{name_text}
-use Rattle.kd_card.proofs.KindReading.{written_kind}
+use Rattle.kd_card.proofs.KindWords.{written_kind}
 use Rattle.kd_card.proofs.PriceTexts.{fits}
 use Rattle.kd_card.proofs.kind_text.push_kind.Goals as goal
 

@@ -1,8 +1,7 @@
 use Rattle.std.proofs.Common.{◌+◌, ap, refl, arith}
 use Rattle.std.proofs.lemmas.Result.{err_from_is_err_and}
 use Rattle.kd_card.specs.Reading.{InGroup, InRowKinds, InColumnKinds}
-use Rattle.kd_card.proofs.KindPrices.{few_kinds}
-use Rattle.kd_card.proofs.KindParts.{all_groups, begins_as, kinds_as, fault_as, few_prices_of}
+use Rattle.kd_card.proofs.KindPrices.{few_kinds, all_groups, begins_as, kinds_as, fault_as, few_prices_of}
 use Rattle.kd_card.proofs.read.read_kinded.Goals as goal
 
 pub returns-in_err-group : goal.returns-in_err-group

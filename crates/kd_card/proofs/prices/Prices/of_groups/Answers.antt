@@ -1,8 +1,7 @@
 use Rattle.std.proofs.Common.{◌≤◌, length, sym, subst, arith}
 use Rattle.kd_card.specs.CardText.{row_name, column_name, price_count, IsGroup}
 use Rattle.kd_card.specs.Prices.{ArePrices}
-use Rattle.kd_card.proofs.KindPrices.{few_kinds}
-use Rattle.kd_card.proofs.KindParts.{group_of_cables, group_of_bars}
+use Rattle.kd_card.proofs.KindPrices.{few_kinds, group_of_cables, group_of_bars}
 use Rattle.kd_card.proofs.prices.Prices.of_groups.Goals as goal
 use Rattle.kd_card.proofs.prices.Prices.of_groups.Goals.{in-OfCables, in-OfBars}
 
