@@ -10,7 +10,7 @@ use Rattle.std.proofs.lemmas.List.Elements.{All-cons, All-map, All-weaker, All-a
 use Rattle.std.proofs.lemmas.Str.Parse.{IsNumeralModel, numerals_by_value, tells_by_index}
 use Rattle.kd_state.specs.Words.{IsWord, NumbersAreWords}
 use Rattle.kd_card.specs.declared.prices.PriceParts.{PriceParts}
-use Rattle.kd_card.specs.declared.prices.PriceParts.TheVariants.{Cables, Bars, CableKinds, BarKinds}
+use Rattle.kd_card.specs.declared.prices.PriceParts.TheVariants.{Cables}
 use Rattle.kd_card.specs.declared.prices.Version.{Version}
 use Rattle.kd_card.specs.declared.prices.Version.TheVariants.{ByNumber, ByKind}
 use Rattle.kd_card.specs.Prices.{row_prices, column_prices, how_many, price_sum, AreWithinReach, ArePrices}
@@ -130,9 +130,7 @@ small_sum rows columns r c few fewer =
 
 pub few_prices : (prices : PriceParts) → how_many prices ≤ 27
 few_prices (Cables row col) = omega arith
-few_prices (Bars row col) = omega arith
-few_prices (CableKinds row col) = omega arith
-few_prices (BarKinds row col) = omega arith
+few_prices prices = omega arith
 
 pub price_sum_is_small : (prices : PriceParts) → ArePrices prices → unsigned_abs (price_sum prices) < 2 ^ 64
 price_sum_is_small prices p =

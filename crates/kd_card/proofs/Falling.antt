@@ -19,8 +19,7 @@ use Rattle.kd_state.specs.Machine.{cable_letters, plugged_letters, IsLegal}
 use Rattle.kd_state.specs.Setting.{has_letter, is_at, reasons, why_refused, cable_at, cable_without, cable_with, with_lug, with_lug_at, changed, lies_beyond, other_lug, lug_place, Leads}
 use Rattle.kd_state.specs.Costs.{differ, unless_same, column_letters, cable_cost, lugs_moved, standings_as, bar_cost}
 use Rattle.kd_card.specs.Proving.{is_priced}
-use Rattle.kd_card.proofs.Counts.{count_by-cons, at_most_one, once_in_alphabet, times, times-append, AreOnce, once_of_distinct, once_more}
-use Rattle.kd_card.proofs.Cables.{SameBut, same_but, same_but-sym, pulled, put, times_more}
+use Rattle.kd_card.proofs.Counts.{count_by-cons, at_most_one, once_in_alphabet, times, times-append, AreOnce, once_of_distinct, once_more, SameBut, same_but, same_but-sym, pulled, put, times_more}
 use Rattle.kd_card.proofs.Duality.{pairing_cost}
 use Rattle.std.proofs.lemmas.Bool.{eqb-false, ltb-false}
 use Rattle.std.proofs.lemmas.List.Elements.{All-set}

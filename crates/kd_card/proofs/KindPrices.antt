@@ -264,7 +264,7 @@ few_prices_of OfCables = omega arith
 few_prices_of OfBars = omega arith
 
 -- the sum, group by group
-fold-append : (sum : ℤ) (xs ys : List ℤ) → fold (λ sum price. sum +ℤ price) sum (xs ++ ys) ≡ fold (λ sum price. sum +ℤ price) (fold (λ sum price. sum +ℤ price) sum xs) ys
+pub fold-append : (sum : ℤ) (xs ys : List ℤ) → fold (λ sum price. sum +ℤ price) sum (xs ++ ys) ≡ fold (λ sum price. sum +ℤ price) (fold (λ sum price. sum +ℤ price) sum xs) ys
 fold-append sum [] ys = refl
 fold-append sum (x ∷ xs) ys = fold-append (sum +ℤ x) xs ys
 

@@ -284,11 +284,7 @@ pub four_words : (name : Name) (line : List ℕ) (items : List (Bor (List ℕ)))
 four_words name line (w ∷ x ∷ y ∷ z ∷ []) a b d are first four =
     let head : w.now ≡ name_text name = ap (λ ws. get_or ws 0 []) (are ∙ first.words) in
     ap (λ n. n ∷ x.now ∷ y.now ∷ z.now ∷ []) (sym head) ∙ are
-four_words name line [] a b d are first four = absurd (omega (arith, four))
-four_words name line (w ∷ []) a b d are first four = absurd (omega (arith, four))
-four_words name line (w ∷ x ∷ []) a b d are first four = absurd (omega (arith, four))
-four_words name line (w ∷ x ∷ y ∷ []) a b d are first four = absurd (omega (arith, four))
-four_words name line (w ∷ x ∷ y ∷ z ∷ v ∷ more) a b d are first four = absurd (omega (arith, four))
+four_words name line items a b d are first four = absurd (omega (arith, four))
 
 -- ---- two bytes that aren't letters in order
 
@@ -296,11 +292,10 @@ abbrev NoLetters : List ℕ → ℕ → ℕ → Type 0
 NoLetters text a b = (first second : ℕ) → first < second → second < 26 → get_or text 0 a ≡ first + 65 → get_or text 1 b ≢ second + 65
 
 pub no_ends : (text : List ℕ) (a b : ℕ) → length text ≡ 2 → NoLetters text a b → (ends : Option ℕ × Option ℕ) → ¬ (HasLook names.Cable text (Cable ends))
-no_ends text a b two none (None, None) has = omega (arith, two, ap length has.written)
-no_ends text a b two none (Some one, None) has = omega (arith, two, ap length has.written)
 no_ends text a b two none (None, Some other) has = has.form
 no_ends text a b two none (Some one, Some other) has =
     none one other has.form.0 has.form.1 (ap (λ t. get_or t 0 a) (sym has.written)) (ap (λ t. get_or t 1 b) (sym has.written))
+no_ends text a b two none ends has = omega (arith, two, ap length has.written)
 
 pub no_pair : (text : List ℕ) (a b : ℕ) → length text ≡ 2 → NoLetters text a b → (pair : Option (ℕ × ℕ)) → ¬ (HasLook names.Pair text (Pair pair))
 no_pair text a b two none None has = omega (arith, two, ap length has.written)

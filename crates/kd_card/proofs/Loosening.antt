@@ -36,7 +36,6 @@ use Rattle.kd_card.proofs.Falling.{unless_same_at_most, one_less}
 
 -- one of two lists that stand side by side is changed at a place
 zip_set_lowers : {X Y : Type 0} (p : X × Y → Bool) (xs : List X) (ys : List Y) (i : ℕ) (v : X) → count_by p (zip xs ys) ≤ count_by p (zip (set xs i v) ys) + 1
-zip_set_lowers p (x ∷ xs) [] zero v = omega arith
 zip_set_lowers p (x ∷ xs) (y ∷ ys) zero v =
     omega (arith, count_by-cons p (x, y) (zip xs ys), count_by-cons p (v, y) (zip xs ys), at_most_one (p (x, y)))
 zip_set_lowers p (x ∷ xs) (y ∷ ys) (suc i) v =

@@ -20,8 +20,14 @@ use Rattle.kd_state.specs.OnKey.{SameLetters, IsPaired, IsJoined, AreThePairs}
 use Rattle.kd_state.specs.Costs.{differ, cable_cost, standings_as, bar_cost, columns_of}
 use Rattle.kd_card.proofs.Duality.{pairing_cost, reordered}
 use Rattle.kd_card.proofs.Counts.{count_by-cons, times, times-append, AreOnce}
-use Rattle.kd_card.proofs.Told.{Told}
 use Rattle.kd_card.proofs.Falling.{CablesAreOnce, HasCables, HasBars, Stands}
+use Rattle.kd_state.specs.Laws.{DaysWheelsHaveTheirPlaces, TestsTellLetters, ThirteenColumns}
+
+-- What the laws of kd_state say, as far as the proofs of this crate need it.
+pub record Told : Type 0 where
+  pub places : DaysWheelsHaveTheirPlaces
+  pub letters : TestsTellLetters
+  pub thirteen : ThirteenColumns
 
 -- a cable with the letters of its column costs nothing
 none_differ : (xs ys : List ℕ) → ((letter : ℕ) → has_letter xs letter ≡ has_letter ys letter) → (letters : List ℕ) → count_by (λ letter. differ (has_letter xs letter) (has_letter ys letter)) letters ≡ 0

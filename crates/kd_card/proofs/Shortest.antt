@@ -27,8 +27,7 @@ use Rattle.kd_card.proofs.Duality.{fold_of_both, prices_with-IsPermutation, pric
 use Rattle.kd_card.proofs.Counts.{count_by-cons, once_of_distinct}
 use Rattle.kd_card.proofs.Falling.{paired_cost, falls, machines_have_all, list_keeps}
 use Rattle.kd_card.proofs.Loosening.{lowers, leaves, model_of-changed, nothing_loose}
-use Rattle.kd_card.proofs.Pairing.{cables_paired, bars_paired}
-use Rattle.kd_card.proofs.Told.{Told}
+use Rattle.kd_card.proofs.Pairing.{cables_paired, bars_paired, Told}
 use Rattle.std.proofs.lemmas.List.{get_or_default, get_or-map}
 use Rattle.kd_tables.specs.declared.place.Place.TheVariants.{One}
 
