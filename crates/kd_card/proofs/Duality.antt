@@ -122,10 +122,9 @@ module _ {A B : Type 0} (cost : A → B → ℕ) where
       let head = h.0.0 in
       let rest = fitting_prices rows prices ws (omega arith) (without_first rows prices w ws h.1) in
       omega (arith, ints)
-  fitting_prices (row ∷ rows) prices [] e h = absurd (omega arith)
-  fitting_prices [] prices (w ∷ ws) e h = absurd (omega arith)
   fitting_prices [] (price ∷ prices) [] e h = absurd h
   fitting_prices (row ∷ rows) [] (w ∷ ws) e h = absurd h
+  fitting_prices rows prices ws e h = absurd (omega arith)
 
   -- prices that fit, fit in whatever order the columns are
   pub FitAll-IsPermutation : (rows : List A) (prices : List ℤ) (ws zs : List (B × ℤ)) → IsPermutation ws zs → FitAll rows prices ws → FitAll rows prices zs

@@ -30,8 +30,6 @@ use Rattle.kd_state.specs.Box.{numbered}
 -- one row is changed
 pairing_cost-set : {A B : Type 0} (cost : A → B → ℕ) (rows : List A) (ws : List (B × ℤ)) (i : ℕ) (row d : A)
     → ((column : B) → cost (get_or rows i d) column ≤ cost row column + 1) → pairing_cost cost rows ws ≤ pairing_cost cost (set rows i row) ws + 1
-pairing_cost-set cost [] ws i row d h = omega arith
-pairing_cost-set cost (now ∷ rows) [] zero row d h = omega arith
 pairing_cost-set cost (now ∷ rows) (w ∷ ws) zero row d h = omega (arith, h w.0)
 pairing_cost-set cost (now ∷ rows) (w ∷ ws) (suc i) row d h = omega (arith, pairing_cost-set cost rows ws i row d h)
 pairing_cost-set cost rows ws i row d h = omega arith

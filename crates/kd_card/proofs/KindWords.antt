@@ -128,12 +128,11 @@ same_ends a b c d x y e = absurd (omega (arith, ap length e))
 
 same_pair : (a b : Option (ℕ × ℕ)) → look_text (Pair a) ≡ look_text (Pair b) → Pair a ≡ Pair b
 same_pair None None e = refl
-same_pair None (Some (c, d)) e = absurd (omega (arith, ap length e))
-same_pair (Some (a, b)) None e = absurd (omega (arith, ap length e))
 same_pair (Some (a, b)) (Some (c, d)) e =
     let one : a ≡ c = omega (arith, ap (λ t. get_or t 0 0) e) in
     let other : b ≡ d = omega (arith, ap (λ t. get_or t 1 0) e) in
     cc
+same_pair a b e = absurd (omega (arith, ap length e))
 
 place_without : (p : Place) → IsWithout 45 (place_text p)
 place_without p = All-weaker (λ b. 45 < b) (λ b. b ≢ 45) (λ b above same. omega (arith, above, same)) (place_text p) (place_above p)
@@ -183,14 +182,13 @@ ranked_ends None None (Some c) (Some d) x y e = absurd (omega (arith, e, y.0, y.
 ranked_ends (Some a) None None None x y e = absurd (omega (arith, e, x))
 ranked_ends (Some a) None (Some c) None x y e = let same : a ≡ c = omega (arith, e) in cc
 ranked_ends (Some a) None (Some c) (Some d) x y e = absurd (omega (arith, e, y.0, y.1))
-ranked_ends (Some a) (Some b) None None x y e = absurd (omega (arith, e, x.0, x.1))
-ranked_ends (Some a) (Some b) (Some c) None x y e = absurd (omega (arith, e, x.0, x.1))
 ranked_ends (Some a) (Some b) (Some c) (Some d) x y e =
     let one : a ≡ c = omega (arith, e, x.0, x.1, y.0, y.1) in
     let other : b ≡ d = omega (arith, e, x.0, x.1, y.0, y.1) in
     cc
 ranked_ends None (Some b) c d x y e = absurd x
 ranked_ends a b None (Some d) x y e = absurd y
+ranked_ends a b c d x y e = absurd (omega (arith, e, x.0, x.1))
 
 ranked_pair : (a b : Option (ℕ × ℕ)) → IsPairInOrder a → IsPairInOrder b → pair_rank a ≡ pair_rank b → Pair a ≡ Pair b
 ranked_pair None None x y e = refl

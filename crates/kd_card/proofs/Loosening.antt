@@ -44,7 +44,6 @@ zip_set_lowers p xs ys i v = omega arith
 
 -- Letters of which one is set: of things at different places at most one is right then that was not.
 slice_get-set_other : {X : Type 0} (xs : List X) (p q : ℕ) (v : X) → q ≢ p → slice_get (set xs p v) q ≡ slice_get xs q
-slice_get-set_other [] p q v h = refl
 slice_get-set_other (x ∷ xs) zero zero v h = absurd (h refl)
 slice_get-set_other (x ∷ xs) (suc p) (suc q) v h = slice_get-set_other xs p q v (λ e. h (ap suc e))
 slice_get-set_other xs p q v h = refl
@@ -127,8 +126,6 @@ abbrev differing : List Bool × List Bool → ℕ
 differing wheel = count_by (λ (pin : Bool × Bool). differ pin.0 pin.1) (zip wheel.0 wheel.1)
 
 wheel_set_lowers : (xss yss : List (List Bool)) (i p : ℕ) (effective : Bool) → sum (map differing (zip xss yss)) ≤ sum (map differing (zip (set xss i (set (get_or xss i []) p effective)) yss)) + 1
-wheel_set_lowers [] yss i p effective = omega arith
-wheel_set_lowers (xs ∷ xss) [] zero p effective = omega arith
 wheel_set_lowers (xs ∷ xss) (ys ∷ yss) zero p effective =
     omega (
       arith,

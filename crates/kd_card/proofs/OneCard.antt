@@ -174,13 +174,12 @@ same_price p q a b e = signed_decimal_injective p q (small p a) (small q b) e
 same_prices : (ps qs : List ℤ) → AllByRecursion (λ p. unsigned_abs p ≤ 9999) ps → AllByRecursion (λ p. unsigned_abs p ≤ 9999) qs
     → map signed_decimal ps ≡ map signed_decimal qs → ps ≡ qs
 same_prices [] [] a b e = refl
-same_prices [] (q ∷ qs) a b e = absurd (omega (arith, ap length e))
-same_prices (p ∷ ps) [] a b e = absurd (omega (arith, ap length e))
 same_prices (p ∷ ps) (q ∷ qs) a b e =
     let first : p ≡ q = same_price p q a.0 b.0 (cc) in
     let tails : map signed_decimal ps ≡ map signed_decimal qs = cc in
     let others : ps ≡ qs = same_prices ps qs a.1 b.1 tails in
     cc
+same_prices ps qs a b e = absurd (omega (arith, ap length e))
 
 same_kind : (kind other : Group) → row_word kind ≡ row_word other → kind ≡ other
 same_kind OfCables OfCables e = refl

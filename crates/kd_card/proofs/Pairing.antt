@@ -153,9 +153,8 @@ module _ (cables rest : List (Option ℕ × Option ℕ)) (cable : Option ℕ × 
 -- without pairs all cables are empty
 empty_costs_nothing : (cable : Option ℕ × Option ℕ) → (cable_letters cable ≢ [] → ⊥) → CostsNothing cable None
 empty_costs_nothing (None, None) h = none_differ [] [] (λ letter. refl) alphabet
-empty_costs_nothing (None, Some b) h = absurd (h (λ e. cc))
 empty_costs_nothing (Some a, None) h = absurd (h (λ e. cc))
-empty_costs_nothing (Some a, Some b) h = absurd (h (λ e. cc))
+empty_costs_nothing cable h = absurd (h (λ e. cc))
 
 all_empty : (cables : List (Option ℕ × Option ℕ)) (number : ℕ) → length cables ≡ number → ((cable : Option ℕ × Option ℕ) → Contains cables cable → cable_letters cable ≢ [] → ⊥)
     → AllZip CostsNothing cables (replicate number None)

@@ -1,5 +1,5 @@
 -- Prices by their texts.
-use Rattle.std.proofs.Common.{◌≡◌, ◌≢◌, ℕ, suc, ◌^◌, ◌<◌, ◌≤◌, Bool, true, false, List, [], ◌∷◌, length, map, get_or, Option, Some, None, MatchOption, Result, Ok, Err, MatchResult, Decides, Bor, ◌↔◌, IsTrue, is_some, refl, sym, ap, subst, ◌∙◌, arith, ℤ, pos, negsuc, unsigned_abs, FitsSigned, w16, inl, inr, ◌++◌}
+use Rattle.std.proofs.Common.{◌≡◌, ◌≢◌, ℕ, suc, ◌^◌, ◌<◌, ◌≤◌, Bool, true, false, List, [], ◌∷◌, length, map, get_or, Option, Some, None, MatchOption, Result, Ok, Err, MatchResult, Decides, Bor, ◌↔◌, IsTrue, is_some, refl, sym, ap, subst, ◌∙◌, arith, ℤ, pos, negsuc, unsigned_abs, FitsSigned, w16, to_z, of_z, inl, inr, ◌++◌}
 use Rattle.std.specs.Bool.{then_some}
 use Rattle.std.specs.Result.{result_ok}
 use Rattle.std.specs.Int.Signed.{mag}
@@ -9,7 +9,7 @@ use Rattle.std.specs.Fmt.{signed_decimal}
 use Rattle.std.specs.List.{All}
 use Rattle.std.proofs.lemmas.Bool.{false≢true}
 use Rattle.std.proofs.lemmas.Str.{IsUtf8-from_ascii}
-use Rattle.std.proofs.lemmas.Int.{fits_signed_from_abs}
+use Rattle.std.proofs.lemmas.Int.{fits_signed_from_abs, to_z-of_z}
 use Rattle.std.proofs.lemmas.List.{get_or-map, length-map}
 use Rattle.std.proofs.lemmas.List.Elements.{All-cons, recursion_from_All, All-from_recursion, All-nil, All-map, All-weaker}
 use Rattle.kd_state.specs.Words.{words_of, IsWithout, IsFirstPart, line_of}
@@ -29,13 +29,20 @@ use Rattle.kd_card.specs.Reading.{BeginsWithPrices}
 pub fits : (p : ℤ) → unsigned_abs p ≤ 9999 → FitsSigned w16 p
 fits p within = fits_signed_from_abs w16 p (omega (arith, within))
 
+-- a price that is written from its 16 bits
+pub written_price : (text : List ℕ) (p : ℤ) → text ≡ signed_decimal (to_z w16 (of_z w16 p)) → unsigned_abs p ≤ 9999 → text ≡ signed_decimal p
+written_price text p e within = e ∙ ap signed_decimal (to_z-of_z w16 p (fits p within))
+
 pub small : (p : ℤ) → unsigned_abs p ≤ 9999 → mag p < 2 ^ 63
 small (pos n) within = omega arith
 small (negsuc n) within = omega arith
 
-pub short_price : (p : ℤ) → unsigned_abs p ≤ 9999 → length (signed_decimal p) ≤ 5
+short_price : (p : ℤ) → unsigned_abs p ≤ 9999 → length (signed_decimal p) ≤ 5
 short_price (pos n) within = omega (arith, length-decimal-le 4 n (omega arith) (omega arith) (omega arith))
 short_price (negsuc n) within = omega (arith, length-decimal-le 4 (suc n) (omega arith) (omega arith) (omega arith))
+
+pub short_text : (text : List ℕ) (p : ℤ) → text ≡ signed_decimal (to_z w16 (of_z w16 p)) → unsigned_abs p ≤ 9999 → length text ≤ 5
+short_text text p e within = omega (arith, ap length (written_price text p e within), short_price p within)
 
 pub no_text : {S E : Type 0} (bs : List ℕ) (r : Result S E) (P : S → Type 0) (Q : E → Type 0)
     → MatchResult r P (λ e. ¬ (IsUtf8 bs) × Q e) → result_ok r ≡ None → (price : ℤ) → unsigned_abs price ≤ 9999 → signed_decimal price ≢ bs
