@@ -195,25 +195,17 @@ same_kind_parts prices others by also group rows columns = cc
 
 -- ---- prices of two groups
 
-pub group_of_cables : (group : Group) (rows columns : List PricedKind) (a : ArrayVec CableKind) (b : ArrayVec PairKind) → group ≡ OfCables
-    → map cable_kind a.items ≡ rows → map pair_kind b.items ≡ columns → IsGroup (row_name group) (price_count group) rows
-    → IsGroup (column_name group) (price_count group) columns → ArePrices (CableKinds a b) × HaveKinds group rows columns (CableKinds a b)
-group_of_cables group rows columns a b is r c x y =
-    let many : price_count group ≡ 13 = ap price_count is in (
-      are_prices (CableKinds a b) 13 refl refl (subst (AreKinds 0) (sym r) x.in_order, ap counted r ∙ x.count ∙ many)
-          (subst (AreKinds 0) (sym c) y.in_order, ap counted c ∙ y.count ∙ many),
-      record { of_group = sym is; version = refl; row_kinds = r; column_kinds = c },
-    )
+pub group_fits : (name : Name) (number : ℕ) (kinds : List PricedKind) → IsGroup name number kinds → AreCalled name kinds × (length kinds ≤ number)
+group_fits name number kinds group = let count = group.count in (group.called, omega (arith, few_kinds 0 kinds group.in_order, count))
 
-pub group_of_bars : (group : Group) (rows columns : List PricedKind) (a : ArrayVec BarKind) (b : ArrayVec RowKind) → group ≡ OfBars
-    → map bar_kind a.items ≡ rows → map row_kind b.items ≡ columns → IsGroup (row_name group) (price_count group) rows
-    → IsGroup (column_name group) (price_count group) columns → ArePrices (BarKinds a b) × HaveKinds group rows columns (BarKinds a b)
-group_of_bars group rows columns a b is r c x y =
-    let many : price_count group ≡ 27 = ap price_count is in (
-      are_prices (BarKinds a b) 27 refl refl (subst (AreKinds 0) (sym r) x.in_order, ap counted r ∙ x.count ∙ many)
-          (subst (AreKinds 0) (sym c) y.in_order, ap counted c ∙ y.count ∙ many),
-      record { of_group = sym is; version = refl; row_kinds = r; column_kinds = c },
-    )
+pub of_two_groups : (group : Group) (rows columns : List PricedKind) (prices : PriceParts) → version_of prices ≡ ByKind → group_of prices ≡ group
+    → price_count group ≡ how_many prices → row_kinds prices ≡ rows → column_kinds prices ≡ columns → IsGroup (row_name group) (price_count group) rows
+    → IsGroup (column_name group) (price_count group) columns → ArePrices prices × HaveKinds group rows columns prices
+of_two_groups group rows columns prices by is many r c x y = (
+  are_prices prices (price_count group) by many (subst (AreKinds 0) (sym r) x.in_order, ap counted r ∙ x.count)
+      (subst (AreKinds 0) (sym c) y.in_order, ap counted c ∙ y.count),
+  record { of_group = is; version = by; row_kinds = r; column_kinds = c },
+)
 
 lines_behind_groups : (prices : PriceParts) → version_of prices ≡ ByKind → (rest : List ℕ)
     → lines_text (price_lines prices) ++ rest ≡ kinds_text (row_kinds prices) ++ (kinds_text (column_kinds prices) ++ rest)
