@@ -7,6 +7,7 @@ use Rattle.std.proofs.Math.Nat.{mul-le-mul_left}
 use Rattle.std.proofs.lemmas.Int.{ints, unsigned_abs-mul, fits_signed_from_abs}
 use Rattle.std.proofs.lemmas.List.{append-nil, take_more, take-append-drop}
 use Rattle.std.proofs.lemmas.List.Concat.{flat_map-append}
+use Rattle.std.proofs.lemmas.List.Sums.{fold-append}
 use Rattle.kd_card.specs.declared.look.Look.{Look}
 use Rattle.kd_card.specs.declared.look.Look.TheVariants.{Cable, Pair, Bar, Row}
 use Rattle.kd_card.specs.declared.look.Name.{Name}
@@ -16,7 +17,7 @@ use Rattle.kd_state.specs.Words.{line_of}
 use Rattle.kd_card.specs.declared.fault.CardFault.{CardFault}
 use Rattle.kd_card.specs.declared.fault.CardFault.TheVariants.{PriceMissing}
 use Rattle.kd_card.specs.CardFault.{floor_behind, IsNextKind, IsBadKind, EndsGroup, BeginsWithKinds, BeginsWithGroup, IsGroupFault, AtKind, AtCount}
-use Rattle.kd_card.proofs.KindPrices.{fold-append, text_of_more_kinds}
+use Rattle.kd_card.proofs.KindPrices.{text_of_more_kinds}
 use Rattle.kd_card.proofs.KindWords.{low_rank}
 
 -- ---- one more kind at the end
@@ -104,7 +105,7 @@ more_sum sum kinds kind =
     let copies : List ℤ = replicate kind.count kind.price in
     ap (fold (λ sum price. sum +ℤ price) sum)
     (flat_map-append (λ (k : PricedKind). replicate k.count k.price) kinds (kind ∷ []) ∙ ap (λ xs. prices_of_kinds kinds ++ xs) (append-nil copies))
-    ∙ fold-append sum (prices_of_kinds kinds) copies
+    ∙ fold-append _ sum (prices_of_kinds kinds) copies
     ∙ fold_of_copies (fold (λ sum price. sum +ℤ price) sum (prices_of_kinds kinds)) kind.count kind.price
 
 pub product_bound : (count : ℕ) (price : ℤ) → unsigned_abs price ≤ 9999 → unsigned_abs (pos count *ℤ price) ≤ 9999 * count

@@ -10,6 +10,7 @@ use Rattle.kd_card.specs.Kinds.{look_rank, counted, prices_of_kinds, AreKinds, l
 use Rattle.kd_card.specs.Prices.{version_of, how_many, row_kinds, column_kinds, row_prices, column_prices, AreWithinReach, ArePrices, price_sum}
 use Rattle.std.proofs.lemmas.List.Concat.{flat_map-append}
 use Rattle.std.proofs.lemmas.List.Folds.{flat_map-map}
+use Rattle.std.proofs.lemmas.List.Sums.{fold-append}
 use Rattle.arrayvec.specs.ArrayVec.{ArrayVec}
 use Rattle.kd_tables.specs.declared.place.Place.{Place}
 use Rattle.kd_tables.specs.declared.place.Place.TheVariants.{One}
@@ -166,30 +167,22 @@ abbrev reading_in : Look → ℕ × ℕ
 reading_in (Row numbers) = numbers
 reading_in look = (0, 0)
 
-cables_told : (xs ys : List CableKind) → map cable_kind xs ≡ map cable_kind ys → xs ≡ ys
-cables_told = told cable_kind (λ k. record { ends = ends_in k.look; count = k.count; price = k.price }) (λ x. refl)
-
-pairs_told : (xs ys : List PairKind) → map pair_kind xs ≡ map pair_kind ys → xs ≡ ys
-pairs_told = told pair_kind (λ k. record { pair = pair_in k.look; count = k.count; price = k.price }) (λ x. refl)
-
-bars_told : (xs ys : List BarKind) → map bar_kind xs ≡ map bar_kind ys → xs ≡ ys
-bars_told = told bar_kind (λ k. record { standing = standing_in k.look; count = k.count; price = k.price }) (λ x. refl)
-
-rows_told : (xs ys : List RowKind) → map row_kind xs ≡ map row_kind ys → xs ≡ ys
-rows_told = told row_kind (λ k. record { reading = reading_in k.look; count = k.count; price = k.price }) (λ x. refl)
-
 same_items : {T : Type 0} (a b : ArrayVec T) → a.items ≡ b.items → a ≡ b
 same_items {T} a b e = let make : List T → ArrayVec T = λ items. record { items = items } in ap make e
 
 pub same_kind_parts : (prices others : PriceParts) → version_of prices ≡ ByKind → version_of others ≡ ByKind → group_of prices ≡ group_of others
     → row_kinds prices ≡ row_kinds others → column_kinds prices ≡ column_kinds others → prices ≡ others
 same_kind_parts (CableKinds a b) (CableKinds c d) by also group rows columns =
-    let r : a ≡ c = same_items a c (cables_told a.items c.items rows) in
-    let s : b ≡ d = same_items b d (pairs_told b.items d.items columns) in
+    let r : a ≡ c = same_items a c
+    (told cable_kind (λ k. record { ends = ends_in k.look; count = k.count; price = k.price }) (λ x. refl) a.items c.items rows) in
+    let s : b ≡ d = same_items b d
+    (told pair_kind (λ k. record { pair = pair_in k.look; count = k.count; price = k.price }) (λ x. refl) b.items d.items columns) in
     cc
 same_kind_parts (BarKinds a b) (BarKinds c d) by also group rows columns =
-    let r : a ≡ c = same_items a c (bars_told a.items c.items rows) in
-    let s : b ≡ d = same_items b d (rows_told b.items d.items columns) in
+    let r : a ≡ c = same_items a c
+    (told bar_kind (λ k. record { standing = standing_in k.look; count = k.count; price = k.price }) (λ x. refl) a.items c.items rows) in
+    let s : b ≡ d = same_items b d
+    (told row_kind (λ k. record { reading = reading_in k.look; count = k.count; price = k.price }) (λ x. refl) b.items d.items columns) in
     cc
 same_kind_parts prices others by also group rows columns = cc
 
@@ -256,10 +249,6 @@ few_prices_of OfCables = omega arith
 few_prices_of OfBars = omega arith
 
 -- the sum, group by group
-pub fold-append : (sum : ℤ) (xs ys : List ℤ) → fold (λ sum price. sum +ℤ price) sum (xs ++ ys) ≡ fold (λ sum price. sum +ℤ price) (fold (λ sum price. sum +ℤ price) sum xs) ys
-fold-append sum [] ys = refl
-fold-append sum (x ∷ xs) ys = fold-append (sum +ℤ x) xs ys
-
 pub sum_is : (prices : PriceParts) (rows columns : List PricedKind) (first whole : ℤ) → version_of prices ≡ ByKind → rows ≡ row_kinds prices → columns ≡ column_kinds prices
     → first ≡ fold (λ sum price. sum +ℤ price) (pos 0) (prices_of_kinds rows) → whole ≡ fold (λ sum price. sum +ℤ price) first (prices_of_kinds columns)
     → whole ≡ price_sum prices
@@ -267,7 +256,7 @@ sum_is prices rows columns first whole by r c a b =
     b ∙ ap (λ f. fold (λ sum price. sum +ℤ price) f (prices_of_kinds columns)) a
     ∙ ap (λ ks. fold (λ sum price. sum +ℤ price) (fold (λ sum price. sum +ℤ price) (pos 0) (prices_of_kinds rows)) (prices_of_kinds ks)) c
     ∙ ap (λ ks. fold (λ sum price. sum +ℤ price) (fold (λ sum price. sum +ℤ price) (pos 0) (prices_of_kinds ks)) (prices_of_kinds (column_kinds prices))) r
-    ∙ sym (fold-append (pos 0) (prices_of_kinds (row_kinds prices)) (prices_of_kinds (column_kinds prices)))
+    ∙ sym (fold-append _ (pos 0) (prices_of_kinds (row_kinds prices)) (prices_of_kinds (column_kinds prices)))
     ∙ sym (ap (λ rows. fold (λ sum price. sum +ℤ price) (pos 0) (rows ++ column_prices prices)) (rows_of prices by)
     ∙ ap (λ columns. fold (λ sum price. sum +ℤ price) (pos 0) (prices_of_kinds (row_kinds prices) ++ columns)) (columns_of prices by))
 

@@ -28,6 +28,7 @@ use Rattle.kd_state.specs.Machine.{model_of, ring_at, letter_at}
 use Rattle.kd_state.specs.Setting.{why_refused, cable_at, cable_without, cable_with, seated_in, without, with_letter, with_lug_at, changed}
 use Rattle.kd_state.specs.SheetDay.{RotorDay, PinDay, Day, OfRotors, OfPins, seats, IsLegalDay, day_model}
 use Rattle.kd_state.specs.OnKey.{ReadsAs}
+use Rattle.kd_state.proofs.Slots.{set_other}
 use Rattle.kd_state.specs.Laws.{DaysWheelsHaveTheirPlaces}
 use Rattle.kd_state.specs.Costs.{differ, unless_same, loose_slots, loose_reflector, loose_rings, loose_letters, loose_pins, loose_pin_letters, loose_count}
 use Rattle.kd_card.specs.Proving.{is_priced}
@@ -43,17 +44,12 @@ zip_set_lowers p (x ∷ xs) (y ∷ ys) (suc i) v =
 zip_set_lowers p xs ys i v = omega arith
 
 -- Letters of which one is set: of things at different places at most one is right then that was not.
-slice_get-set_other : {X : Type 0} (xs : List X) (p q : ℕ) (v : X) → q ≢ p → slice_get (set xs p v) q ≡ slice_get xs q
-slice_get-set_other (x ∷ xs) zero zero v h = absurd (h refl)
-slice_get-set_other (x ∷ xs) (suc p) (suc q) v h = slice_get-set_other xs p q v (λ e. h (ap suc e))
-slice_get-set_other xs p q v h = refl
-
 module _ {X : Type 0} (place target : X → ℕ) where
   abbrev wrong : List ℕ → X → Bool
   wrong letters x = not (option_map_or (nat_eq (target x)) (slice_get letters (place x)) false)
 
   same_elsewhere : (letters : List ℕ) (p l : ℕ) (x : X) → place x ≢ p → wrong (set letters p l) x ≡ wrong letters x
-  same_elsewhere letters p l x away = ap (λ seen. not (option_map_or (nat_eq (target x)) seen false)) (slice_get-set_other letters p (place x) l away)
+  same_elsewhere letters p l x away = ap (λ seen. not (option_map_or (nat_eq (target x)) seen false)) (set_other letters p (place x) l away)
 
   other_places : (letters : List ℕ) (p l : ℕ) (xs : List X) → AllByRecursion (λ y. place y ≢ p) xs → count_by (wrong (set letters p l)) xs ≡ count_by (wrong letters) xs
   other_places letters p l [] h = refl
