@@ -148,8 +148,10 @@ undone there back leads (x ∷ xs) =
     let others : map back (map there xs) ≡ xs = undone there back leads xs in
     cc
 
-told : {A B : Type 0} (there : A → B) (back : B → A) → ((x : A) → back (there x) ≡ x) → (xs ys : List A) → map there xs ≡ map there ys → xs ≡ ys
-told there back leads xs ys e = sym (undone there back leads xs) ∙ ap (map back) e ∙ undone there back leads ys
+told : {A B : Type 0} (there : A → B) (back : B → A) → ((x : A) → back (there x) ≡ x) → (a b : ArrayVec A) → map there a.items ≡ map there b.items → a ≡ b
+told {A} there back leads a b e =
+    let make : List A → ArrayVec A = λ items. record { items = items } in
+    ap make (sym (undone there back leads a.items) ∙ ap (map back) e ∙ undone there back leads b.items)
 
 abbrev ends_in : Look → Option ℕ × Option ℕ
 ends_in (Cable ends) = ends
@@ -167,22 +169,19 @@ abbrev reading_in : Look → ℕ × ℕ
 reading_in (Row numbers) = numbers
 reading_in look = (0, 0)
 
-same_items : {T : Type 0} (a b : ArrayVec T) → a.items ≡ b.items → a ≡ b
-same_items {T} a b e = let make : List T → ArrayVec T = λ items. record { items = items } in ap make e
-
 pub same_kind_parts : (prices others : PriceParts) → version_of prices ≡ ByKind → version_of others ≡ ByKind → group_of prices ≡ group_of others
     → row_kinds prices ≡ row_kinds others → column_kinds prices ≡ column_kinds others → prices ≡ others
 same_kind_parts (CableKinds a b) (CableKinds c d) by also group rows columns =
-    let r : a ≡ c = same_items a c
-    (told cable_kind (λ k. record { ends = ends_in k.look; count = k.count; price = k.price }) (λ x. refl) a.items c.items rows) in
-    let s : b ≡ d = same_items b d
-    (told pair_kind (λ k. record { pair = pair_in k.look; count = k.count; price = k.price }) (λ x. refl) b.items d.items columns) in
+    let r : a ≡ c =
+    told cable_kind (λ k. record { ends = ends_in k.look; count = k.count; price = k.price }) (λ x. refl) a c rows in
+    let s : b ≡ d =
+    told pair_kind (λ k. record { pair = pair_in k.look; count = k.count; price = k.price }) (λ x. refl) b d columns in
     cc
 same_kind_parts (BarKinds a b) (BarKinds c d) by also group rows columns =
-    let r : a ≡ c = same_items a c
-    (told bar_kind (λ k. record { standing = standing_in k.look; count = k.count; price = k.price }) (λ x. refl) a.items c.items rows) in
-    let s : b ≡ d = same_items b d
-    (told row_kind (λ k. record { reading = reading_in k.look; count = k.count; price = k.price }) (λ x. refl) b.items d.items columns) in
+    let r : a ≡ c =
+    told bar_kind (λ k. record { standing = standing_in k.look; count = k.count; price = k.price }) (λ x. refl) a c rows in
+    let s : b ≡ d =
+    told row_kind (λ k. record { reading = reading_in k.look; count = k.count; price = k.price }) (λ x. refl) b d columns in
     cc
 same_kind_parts prices others by also group rows columns = cc
 
