@@ -34,6 +34,10 @@ pairing_cost-set cost (now ∷ rows) (w ∷ ws) zero row d h = omega (arith, h w
 pairing_cost-set cost (now ∷ rows) (w ∷ ws) (suc i) row d h = omega (arith, pairing_cost-set cost rows ws i row d h)
 pairing_cost-set cost rows ws i row d h = omega arith
 
+pub not_differing : (b : Bool) → differ b b ≡ false
+not_differing true = refl
+not_differing false = refl
+
 counted_apart : (letters others wanted : List ℕ) (x : ℕ) → SameBut x letters others → (alphabet : List ℕ)
     → count_by (λ letter. differ (has_letter letters letter) (has_letter wanted letter)) alphabet
     ≤ count_by (λ letter. differ (has_letter others letter) (has_letter wanted letter)) alphabet + count_by (nat_eq x) alphabet

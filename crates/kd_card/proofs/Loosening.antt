@@ -33,7 +33,7 @@ use Rattle.kd_state.specs.Laws.{DaysWheelsHaveTheirPlaces}
 use Rattle.kd_state.specs.Costs.{differ, unless_same, loose_slots, loose_reflector, loose_rings, loose_letters, loose_pins, loose_pin_letters, loose_count}
 use Rattle.kd_card.specs.Proving.{is_priced}
 use Rattle.kd_card.proofs.Counts.{count_by-cons, at_most_one}
-use Rattle.kd_card.proofs.Falling.{unless_same_at_most, one_less}
+use Rattle.kd_card.proofs.Falling.{unless_same_at_most, one_less, not_differing}
 
 -- one of two lists that stand side by side is changed at a place
 zip_set_lowers : {X Y : Type 0} (p : X × Y → Bool) (xs : List X) (ys : List Y) (i : ℕ) (v : X) → count_by p (zip xs ys) ≤ count_by p (zip (set xs i v) ys) + 1
@@ -212,10 +212,6 @@ rotor_not_loose n s h =
     let rings : loose_rings n s ≡ 0 = none_wrong (λ w. ring_at n w.wheel) (λ w. w.ring) s.wheels (recursion_from_All (λ (w : SheetWheel). ring_at n w.wheel ≡ Some w.ring) s.wheels h.key.rings) in
     let letters : loose_letters n s ≡ 0 = none_wrong (λ w. letter_at n w.wheel) (λ w. w.letter) s.wheels (recursion_from_All (λ (w : SheetWheel). letter_at n w.wheel ≡ Some w.letter) s.wheels h.window) in
     omega (arith, slots, reflector, rings, letters)
-
-not_differing : (b : Bool) → differ b b ≡ false
-not_differing true = refl
-not_differing false = refl
 
 no_pin_wrong : (pins : List Bool) → differing (pins, pins) ≡ 0
 no_pin_wrong [] = refl

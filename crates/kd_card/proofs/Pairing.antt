@@ -1,6 +1,6 @@
 -- On a machine that reads as the day the cables can be paired with the day's pairs and nothings, and the bars with its rows,
 -- each with one that costs nothing.
-use Rattle.std.proofs.Common.{◌≡◌, ◌≢◌, ℕ, zero, suc, ◌+◌, ◌-◌, ◌<◌, ◌≤◌, ◌==◌, nat_eq, nat_lt, Bool, true, false, not, ◌||◌, cond, ◌⊎◌, inl, inr, List, [], ◌∷◌, ◌++◌, length, get_or, map, zip, replicate, Contains, IsPermutation, count_by, remove, Option, Some, None, ℤ, refl, sym, ap, ◌∙◌, subst, arith}
+use Rattle.std.proofs.Common.{◌≡◌, ◌≢◌, ℕ, zero, suc, ◌+◌, ◌-◌, ◌<◌, ◌≤◌, ◌==◌, nat_eq, nat_lt, Bool, true, not, ◌||◌, cond, ◌⊎◌, inl, inr, List, [], ◌∷◌, ◌++◌, length, get_or, map, zip, replicate, Contains, IsPermutation, count_by, remove, Option, Some, None, ℤ, refl, sym, ap, ◌∙◌, subst, arith}
 use Rattle.std.specs.List.{AllByRecursion, AllZip, flat_map, list_all}
 use Rattle.std.specs.List as lists
 use Rattle.std.proofs.lemmas.Bool.{false≢true, eq-eqb, lt-ltb}
@@ -20,7 +20,7 @@ use Rattle.kd_state.specs.OnKey.{SameLetters, IsPaired, IsJoined, AreThePairs}
 use Rattle.kd_state.specs.Costs.{differ, cable_cost, standings_as, bar_cost, columns_of}
 use Rattle.kd_card.proofs.Duality.{pairing_cost, reordered}
 use Rattle.kd_card.proofs.Counts.{count_by-cons, times, times-append, AreOnce}
-use Rattle.kd_card.proofs.Falling.{CablesAreOnce, HasCables, HasBars, Stands}
+use Rattle.kd_card.proofs.Falling.{CablesAreOnce, HasCables, HasBars, Stands, not_differing}
 use Rattle.kd_state.specs.Laws.{DaysWheelsHaveTheirPlaces, TestsTellLetters, ThirteenColumns}
 
 -- What the laws of kd_state say, as far as the proofs of this crate need it.
@@ -34,11 +34,7 @@ none_differ : (xs ys : List ℕ) → ((letter : ℕ) → has_letter xs letter �
 none_differ xs ys same [] = refl
 none_differ xs ys same (letter ∷ letters) =
     count_by-cons (λ letter. differ (has_letter xs letter) (has_letter ys letter)) letter letters
-    ∙ rw (same letter, unlike (has_letter ys letter), none_differ xs ys same letters) refl
-  where
-    unlike : (b : Bool) → differ b b ≡ false
-    unlike true = refl
-    unlike false = refl
+    ∙ rw (same letter, not_differing (has_letter ys letter), none_differ xs ys same letters) refl
 
 abbrev CostsNothing : Option ℕ × Option ℕ → Option (ℕ × ℕ) → Type 0
 CostsNothing cable column = cable_cost cable column ≡ 0
