@@ -150,7 +150,8 @@ walk_bounds kinds floor total walked =
     let sum = walked.total_is in
     (omega (arith, few, so_far, sum), omega (arith, short, so_far), omega (arith, low, so_far))
 
-pub good_at : (kinds : List PricedKind) (i : ℕ) (kind : PricedKind) → i < length kinds → kind ≡ get_or kinds i kind → AreKinds 0 kinds
+pub good_at : (kinds : List PricedKind) (i : ℕ) (kind : PricedKind) → i < length kinds → kind ≡ get_or kinds i kind
+    → AreKinds 0 kinds
     → IsPricedKind kind × (floor_behind 0 (take i kinds) ≤ look_rank kind.look)
 good_at kinds i kind inside is are =
     let split = at_place kinds i kind inside ∙ ap (λ k. take i kinds ++ (k ∷ drop (i + 1) kinds)) (sym is) in
@@ -160,7 +161,8 @@ good_at kinds i kind inside is are =
 pub stumbles : (kinds : List PricedKind) (i floor total : ℕ) (kind : PricedKind) → i < length kinds → kind ≡ get_or kinds i kind
     → Walked (take i kinds) floor total → AreKinds 0 kinds → IsPricedKind kind × (floor ≤ look_rank kind.look)
 stumbles kinds i floor total kind inside is walked are =
-    subst (λ f. IsPricedKind kind × (f ≤ look_rank kind.look)) (sym walked.floor_is) (good_at kinds i kind inside is are)
+    subst (λ f. IsPricedKind kind × (f ≤ look_rank kind.look)) (sym walked.floor_is)
+    (good_at kinds i kind inside is are)
 
 -- the sum goes on by the price of all things of a kind
 abbrev pub SumsOn : ℤ → ℤ → ℤ → List PricedKind → ℕ → Type 0

@@ -118,7 +118,8 @@ pub record AreGroups (prices : PriceParts) : Type 0 where
   pub row_count : counted (row_kinds prices) ≡ price_count (group_of prices)
   pub column_count : counted (column_kinds prices) ≡ price_count (group_of prices)
 
-all_called : {K : Type 0} (priced : K → PricedKind) (name : Name) → ((kind : K) → look_name (priced kind).look ≡ name) → (kinds : List K)
+all_called : {K : Type 0} (priced : K → PricedKind) (name : Name) → ((kind : K)
+    → look_name (priced kind).look ≡ name) → (kinds : List K)
     → AreCalled name (map priced kinds)
 all_called priced name called [] = tt
 all_called priced name called (kind ∷ kinds) = (called kind, all_called priced name called kinds)
@@ -148,7 +149,8 @@ undone there back leads (x ∷ xs) =
     let others : map back (map there xs) ≡ xs = undone there back leads xs in
     cc
 
-told : {A B : Type 0} (there : A → B) (back : B → A) → ((x : A) → back (there x) ≡ x) → (a b : ArrayVec A) → map there a.items ≡ map there b.items → a ≡ b
+told : {A B : Type 0} (there : A → B) (back : B → A) → ((x : A) → back (there x) ≡ x) → (a b : ArrayVec A)
+    → map there a.items ≡ map there b.items → a ≡ b
 told {A} there back leads a b e =
     let make : List A → ArrayVec A = λ items. record { items = items } in
     ap make (sym (undone there back leads a.items) ∙ ap (map back) e ∙ undone there back leads b.items)
@@ -179,19 +181,25 @@ same_kind_parts (CableKinds a b) (CableKinds c d) by also group rows columns =
     cc
 same_kind_parts (BarKinds a b) (BarKinds c d) by also group rows columns =
     let r : a ≡ c =
-    told bar_kind (λ k. record { standing = standing_in k.look; count = k.count; price = k.price }) (λ x. refl) a c rows in
+    told bar_kind (λ k. record { standing =
+        standing_in k.look; count = k.count; price = k.price }) (λ x. refl) a c rows in
     let s : b ≡ d =
-    told row_kind (λ k. record { reading = reading_in k.look; count = k.count; price = k.price }) (λ x. refl) b d columns in
+    told row_kind (λ k. record { reading =
+        reading_in k.look; count = k.count; price = k.price }) (λ x. refl) b d columns in
     cc
 same_kind_parts prices others by also group rows columns = cc
 
 -- ---- prices of two groups
 
-pub group_fits : (name : Name) (number : ℕ) (kinds : List PricedKind) → IsGroup name number kinds → AreCalled name kinds × (length kinds ≤ number)
-group_fits name number kinds group = let count = group.count in (group.called, omega (arith, few_kinds 0 kinds group.in_order, count))
+pub group_fits : (name : Name) (number : ℕ) (kinds : List PricedKind) → IsGroup name number kinds
+    → AreCalled name kinds × (length kinds ≤ number)
+group_fits name number kinds group =
+    let count = group.count in (group.called, omega (arith, few_kinds 0 kinds group.in_order, count))
 
-pub of_two_groups : (group : Group) (rows columns : List PricedKind) (prices : PriceParts) → version_of prices ≡ ByKind → group_of prices ≡ group
-    → price_count group ≡ how_many prices → row_kinds prices ≡ rows → column_kinds prices ≡ columns → IsGroup (row_name group) (price_count group) rows
+pub of_two_groups : (group : Group) (rows columns : List PricedKind) (prices : PriceParts)
+    → version_of prices ≡ ByKind → group_of prices ≡ group
+    → price_count group ≡ how_many prices → row_kinds prices ≡ rows → column_kinds prices ≡ columns
+    → IsGroup (row_name group) (price_count group) rows
     → IsGroup (column_name group) (price_count group) columns → ArePrices prices × HaveKinds group rows columns prices
 of_two_groups group rows columns prices by is many r c x y = (
   are_prices prices (price_count group) by many (subst (AreKinds 0) (sym r) x.in_order, ap counted r ∙ x.count)

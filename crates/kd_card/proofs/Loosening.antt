@@ -49,7 +49,8 @@ module _ {X : Type 0} (place target : X → ℕ) where
   wrong letters x = not (option_map_or (nat_eq (target x)) (slice_get letters (place x)) false)
 
   same_elsewhere : (letters : List ℕ) (p l : ℕ) (x : X) → place x ≢ p → wrong (set letters p l) x ≡ wrong letters x
-  same_elsewhere letters p l x away = ap (λ seen. not (option_map_or (nat_eq (target x)) seen false)) (set_other letters p (place x) l away)
+  same_elsewhere letters p l x away =
+      ap (λ seen. not (option_map_or (nat_eq (target x)) seen false)) (set_other letters p (place x) l away)
 
   other_places : (letters : List ℕ) (p l : ℕ) (xs : List X) → AllByRecursion (λ y. place y ≢ p) xs → count_by (wrong (set letters p l)) xs ≡ count_by (wrong letters) xs
   other_places letters p l [] h = refl

@@ -30,7 +30,8 @@ pub fits : (p : ℤ) → unsigned_abs p ≤ 9999 → FitsSigned w16 p
 fits p within = fits_signed_from_abs w16 p (omega (arith, within))
 
 -- a price that is written from its 16 bits
-pub written_price : (text : List ℕ) (p : ℤ) → text ≡ signed_decimal (to_z w16 (of_z w16 p)) → unsigned_abs p ≤ 9999 → text ≡ signed_decimal p
+pub written_price : (text : List ℕ) (p : ℤ) → text ≡ signed_decimal (to_z w16 (of_z w16 p)) → unsigned_abs p ≤ 9999
+    → text ≡ signed_decimal p
 written_price text p e within = e ∙ ap signed_decimal (to_z-of_z w16 p (fits p within))
 
 pub small : (p : ℤ) → unsigned_abs p ≤ 9999 → mag p < 2 ^ 63
@@ -41,7 +42,8 @@ short_price : (p : ℤ) → unsigned_abs p ≤ 9999 → length (signed_decimal p
 short_price (pos n) within = omega (arith, length-decimal-le 4 n (omega arith) (omega arith) (omega arith))
 short_price (negsuc n) within = omega (arith, length-decimal-le 4 (suc n) (omega arith) (omega arith) (omega arith))
 
-pub short_text : (text : List ℕ) (p : ℤ) → text ≡ signed_decimal (to_z w16 (of_z w16 p)) → unsigned_abs p ≤ 9999 → length text ≤ 5
+pub short_text : (text : List ℕ) (p : ℤ) → text ≡ signed_decimal (to_z w16 (of_z w16 p)) → unsigned_abs p ≤ 9999
+    → length text ≤ 5
 short_text text p e within = omega (arith, ap length (written_price text p e within), short_price p within)
 
 pub no_text : {S E : Type 0} (bs : List ℕ) (r : Result S E) (P : S → Type 0) (Q : E → Type 0)

@@ -109,8 +109,10 @@ fitting_prices_bound_lists told (Rotor m) (OfPins s) (Cables row column) setting
     absurd (no_rotors m.model m.reflector (sym (model_of-list (Rotor m) (Pin n) settings leads)) machine.legal.reflector)
 fitting_prices_bound_lists told (Pin m) (OfRotors s) (Bars row column) settings machine legal prices kind fits (Rotor n, leads, reads) =
     absurd (no_rotors s.model s.reflector (sym reads.key.model ∙ model_of-list (Pin m) (Rotor n) settings leads) legal.reflector)
-fitting_prices_bound_lists told m (OfRotors s) prices settings machine legal are_prices kind fits (Pin n, leads, reads) = absurd reads.key
-fitting_prices_bound_lists told m (OfPins s) prices settings machine legal are_prices kind fits (Rotor n, leads, reads) = absurd reads.key
+fitting_prices_bound_lists told m (OfRotors s) prices settings machine legal are_prices kind fits (Pin n, leads, reads) =
+    absurd reads.key
+fitting_prices_bound_lists told m (OfPins s) prices settings machine legal are_prices kind fits (Rotor n, leads, reads) =
+    absurd reads.key
 fitting_prices_bound_lists told m s prices settings machine legal are_prices kind fits reached = absurd kind
 
 -- Where each setting is needed, there are as many as loose things and those that change a cable or a bar.

@@ -27,7 +27,8 @@ parted [] place x within = absurd (omega arith)
 parted (y ∷ xs) zero x within = refl
 parted (y ∷ xs) (suc place) x within = ap (λ rest. y ∷ rest) (parted xs place x (omega arith))
 
-stops_at : (m n : Parts) (xs : List Setting) (place : ℕ) (x : Setting) (why : Why) → place < length xs → get_or xs place x ≡ x
+stops_at : (m n : Parts) (xs : List Setting) (place : ℕ) (x : Setting) (why : Why) → place < length xs
+    → get_or xs place x ≡ x
     → Leads m (take place xs) n → why_refused n x ≡ Some why → IsFirstIllegal m xs (place + 1) why
 stops_at m n xs place x why within is leads refused = record {
   front = take place xs;
