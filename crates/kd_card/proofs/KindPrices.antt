@@ -118,8 +118,8 @@ pub record AreGroups (prices : PriceParts) : Type 0 where
   pub row_count : counted (row_kinds prices) ≡ price_count (group_of prices)
   pub column_count : counted (column_kinds prices) ≡ price_count (group_of prices)
 
-all_called : {K : Type 0} (priced : K → PricedKind) (name : Name) → ((kind : K)
-    → look_name (priced kind).look ≡ name) → (kinds : List K)
+all_called : {K : Type 0} (priced : K → PricedKind) (name : Name)
+    → ((kind : K) → look_name (priced kind).look ≡ name) → (kinds : List K)
     → AreCalled name (map priced kinds)
 all_called priced name called [] = tt
 all_called priced name called (kind ∷ kinds) = (called kind, all_called priced name called kinds)
@@ -181,11 +181,11 @@ same_kind_parts (CableKinds a b) (CableKinds c d) by also group rows columns =
     cc
 same_kind_parts (BarKinds a b) (BarKinds c d) by also group rows columns =
     let r : a ≡ c =
-    told bar_kind (λ k. record { standing =
-        standing_in k.look; count = k.count; price = k.price }) (λ x. refl) a c rows in
+    told bar_kind (λ k. record { standing = standing_in k.look; count = k.count; price = k.price }) (λ x. refl)
+    a c rows in
     let s : b ≡ d =
-    told row_kind (λ k. record { reading =
-        reading_in k.look; count = k.count; price = k.price }) (λ x. refl) b d columns in
+    told row_kind (λ k. record { reading = reading_in k.look; count = k.count; price = k.price }) (λ x. refl)
+    b d columns in
     cc
 same_kind_parts prices others by also group rows columns = cc
 

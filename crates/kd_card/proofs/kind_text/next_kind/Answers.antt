@@ -25,8 +25,8 @@ returns-in_default-kind_of_line c =
     } in
     let same = slice_eq-Decides Decides-eqb c.first_word.result.now c.as_bytes.result.now (pointwise eqb c.first_word.result.now c.as_bytes.result.now) refl in
     let word : c.first_word.result.now ≡ name_text c.args.name =
-    same.0 (not-false (pointwise eqb c.first_word.result.now c.as_bytes.result.now) (sym c.ne.ensures
-    ∙ c.if-ne.false)) ∙ c.as_bytes.ensures.value ∙ c.text.ensures in
+    same.0 (not-false (pointwise eqb c.first_word.result.now c.as_bytes.result.now)
+    (sym c.ne.ensures ∙ c.if-ne.false)) ∙ c.as_bytes.ensures.value ∙ c.text.ensures in
     NoKind
     (subst (λ w. BeginsWithWord w c.args.text.now) word
     (begins c.args.text.now c.in-Some.words.now c.in-Some.rest.now c.first_word.result.now c.in-Some.ensures c.first_word.ensures))
