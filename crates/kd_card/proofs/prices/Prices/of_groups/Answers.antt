@@ -6,24 +6,32 @@ use Rattle.kd_card.proofs.prices.Prices.of_groups.Goals as goal
 use Rattle.kd_card.proofs.prices.Prices.of_groups.Goals.{in-OfCables, in-OfBars}
 
 pub own_kinds-requires : goal.own_kinds-requires
-own_kinds-requires c =
-    (omega arith, group_fits _ _ c.args.rows.now
-    (subst (λ g. IsGroup (row_name g) (price_count g) c.args.rows.now) c.in-OfCables.is c.requires.rows))
+own_kinds-requires c = (
+  omega arith,
+  group_fits _ _ c.args.rows.now
+      (subst (λ g. IsGroup (row_name g) (price_count g) c.args.rows.now) c.in-OfCables.is c.requires.rows),
+)
 
 pub own_kinds-requires-in-OfCables : goal.own_kinds-requires-in-OfCables
-own_kinds-requires-in-OfCables c =
-    (omega arith, group_fits _ _ c.args.columns.now
-    (subst (λ g. IsGroup (column_name g) (price_count g) c.args.columns.now) c.in-OfCables.is c.requires.columns))
+own_kinds-requires-in-OfCables c = (
+  omega arith,
+  group_fits _ _ c.args.columns.now
+      (subst (λ g. IsGroup (column_name g) (price_count g) c.args.columns.now) c.in-OfCables.is c.requires.columns),
+)
 
 pub own_kinds-requires-in-OfBars : goal.own_kinds-requires-in-OfBars
-own_kinds-requires-in-OfBars c =
-    (omega arith, group_fits _ _ c.args.rows.now
-    (subst (λ g. IsGroup (row_name g) (price_count g) c.args.rows.now) c.in-OfBars.is c.requires.rows))
+own_kinds-requires-in-OfBars c = (
+  omega arith,
+  group_fits _ _ c.args.rows.now
+      (subst (λ g. IsGroup (row_name g) (price_count g) c.args.rows.now) c.in-OfBars.is c.requires.rows),
+)
 
 pub own_kinds-requires-in-OfBars-2 : goal.own_kinds-requires-in-OfBars-2
-own_kinds-requires-in-OfBars-2 c =
-    (omega arith, group_fits _ _ c.args.columns.now
-    (subst (λ g. IsGroup (column_name g) (price_count g) c.args.columns.now) c.in-OfBars.is c.requires.columns))
+own_kinds-requires-in-OfBars-2 c = (
+  omega arith,
+  group_fits _ _ c.args.columns.now
+      (subst (λ g. IsGroup (column_name g) (price_count g) c.args.columns.now) c.in-OfBars.is c.requires.columns),
+)
 
 pub of_parts-requires : goal.of_parts-requires
 of_parts-requires c =
