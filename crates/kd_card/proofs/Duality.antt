@@ -50,8 +50,7 @@ module _ {B : Type 0} where
   pub prices_with-zip : (columns : List B) (prices : List ℤ) → length columns ≡ length prices → prices_with (zip columns prices) ≡ sum_of prices
   prices_with-zip [] [] e = refl
   prices_with-zip (column ∷ columns) (price ∷ prices) e = let rest = prices_with-zip columns prices (omega arith) in omega (arith, ints)
-  prices_with-zip [] (price ∷ prices) e = absurd (omega arith)
-  prices_with-zip (column ∷ columns) [] e = absurd (omega arith)
+  prices_with-zip columns prices e = absurd (omega arith)
 
 -- Things of two kinds that stand side by side, each with its like.
 module _ {A C : Type 0} (R : A → C → Type 0) where
@@ -59,8 +58,7 @@ module _ {A C : Type 0} (R : A → C → Type 0) where
   side_by_side-set [] [] i x y h r = tt
   side_by_side-set (a ∷ xs) (c ∷ ys) zero x y h r = (r, h.1)
   side_by_side-set (a ∷ xs) (c ∷ ys) (suc i) x y h r = (h.0, side_by_side-set xs ys i x y h.1 r)
-  side_by_side-set [] (c ∷ ys) i x y h r = absurd h
-  side_by_side-set (a ∷ xs) [] i x y h r = absurd h
+  side_by_side-set xs ys i x y h r = absurd h
 
   side_by_side_at : (xs : List A) (ys : List C) (i : ℕ) (d : A) (e : C) → AllZip R xs ys → i < length xs → R (get_or xs i d) (get_or ys i e)
   side_by_side_at [] ys i d e h lt = absurd (omega arith)
@@ -71,8 +69,7 @@ module _ {A C : Type 0} (R : A → C → Type 0) where
   pub side_by_side_length : (xs : List A) (ys : List C) → AllZip R xs ys → length xs ≡ length ys
   side_by_side_length [] [] h = refl
   side_by_side_length (a ∷ xs) (c ∷ ys) h = let e = side_by_side_length xs ys h.1 in omega arith
-  side_by_side_length [] (c ∷ ys) h = absurd h
-  side_by_side_length (a ∷ xs) [] h = absurd h
+  side_by_side_length xs ys h = absurd h
 
   -- in the order of the first kind
   abbrev pub Reordered : List C → List A → Type 0
@@ -84,8 +81,7 @@ module _ {A C : Type 0} (R : A → C → Type 0) where
       let first = side_by_side-set (a ∷ xs) (c ∷ zs) i (get_or (a ∷ xs) j a) (get_or (c ∷ zs) j c) h (side_by_side_at (a ∷ xs) (c ∷ zs) j a c h hj) in
       side_by_side-set (set (a ∷ xs) i (get_or (a ∷ xs) j a)) (set (c ∷ zs) i (get_or (c ∷ zs) j c)) j (get_or (a ∷ xs) i a) (get_or (c ∷ zs) i c) first
       (side_by_side_at (a ∷ xs) (c ∷ zs) i a c h hi)
-  side_by_side-swap [] (c ∷ zs) i j hi hj h = absurd h
-  side_by_side-swap (a ∷ xs) [] i j hi hj h = absurd h
+  side_by_side-swap xs zs i j hi hj h = absurd h
 
   -- where the first kind is put in another order, so can the second be
   pub reordered : (xs others : List A) (ys : List C) → IsPermutation xs others → AllZip R xs ys → Reordered ys others
@@ -117,8 +113,7 @@ module _ {A B : Type 0} (cost : A → B → ℕ) where
   pub without_first : (rows : List A) (prices : List ℤ) (w : B × ℤ) (ws : List (B × ℤ)) → FitAll rows prices (w ∷ ws) → FitAll rows prices ws
   without_first [] [] w ws h = tt
   without_first (row ∷ rows) (price ∷ prices) w ws h = (h.0.1, without_first rows prices w ws h.1)
-  without_first [] (price ∷ prices) w ws h = h
-  without_first (row ∷ rows) [] w ws h = h
+  without_first rows prices w ws h = h
 
   pub fitting_prices : (rows : List A) (prices : List ℤ) (ws : List (B × ℤ)) → length rows ≡ length ws → FitAll rows prices ws
       → (sum_of prices +ℤ prices_with ws) ≤ℤ pos (pairing_cost rows ws)
@@ -127,10 +122,9 @@ module _ {A B : Type 0} (cost : A → B → ℕ) where
       let head = h.0.0 in
       let rest = fitting_prices rows prices ws (omega arith) (without_first rows prices w ws h.1) in
       omega (arith, ints)
-  fitting_prices (row ∷ rows) prices [] e h = absurd (omega arith)
-  fitting_prices [] prices (w ∷ ws) e h = absurd (omega arith)
   fitting_prices [] (price ∷ prices) [] e h = absurd h
   fitting_prices (row ∷ rows) [] (w ∷ ws) e h = absurd h
+  fitting_prices rows prices ws e h = absurd (omega arith)
 
   -- prices that fit, fit in whatever order the columns are
   pub FitAll-IsPermutation : (rows : List A) (prices : List ℤ) (ws zs : List (B × ℤ)) → IsPermutation ws zs → FitAll rows prices ws → FitAll rows prices zs
@@ -139,18 +133,15 @@ module _ {A B : Type 0} (cost : A → B → ℕ) where
     recursion_from_All (FitTogether row price) zs (All-permutation (FitTogether row price) ws zs order (All-from_recursion (FitTogether row price) ws h.0)),
     FitAll-IsPermutation rows prices ws zs order h.1,
   )
-  FitAll-IsPermutation [] (price ∷ prices) ws zs order h = h
-  FitAll-IsPermutation (row ∷ rows) [] ws zs order h = h
+  FitAll-IsPermutation rows prices ws zs order h = h
 
   -- from prices that fit place by place
   fit_row : (row : A) (price : ℤ) (columns : List B) (prices : List ℤ) → length columns ≡ length prices
       → ((j : ℕ) → j < length columns → (price +ℤ get_or prices j (pos 0)) ≤ℤ pos (get_or (map (cost row) columns) j 0))
       → AllByRecursion (FitTogether row price) (zip columns prices)
-  fit_row row price [] [] e fits = tt
   fit_row row price (column ∷ columns) (other ∷ prices) e fits =
       (fits zero (omega arith), fit_row row price columns prices (omega arith) (λ j lt. fits (suc j) (omega arith)))
-  fit_row row price [] (other ∷ prices) e fits = tt
-  fit_row row price (column ∷ columns) [] e fits = tt
+  fit_row row price columns prices e fits = tt
 
   pub fit_all : (rows : List A) (row_prices : List ℤ) (columns : List B) (prices : List ℤ) → length rows ≡ length row_prices → length columns ≡ length prices
       → ((i j : ℕ) → i < length rows → j < length columns
@@ -159,5 +150,4 @@ module _ {A B : Type 0} (cost : A → B → ℕ) where
   fit_all [] [] columns prices e f fits = tt
   fit_all (row ∷ rows) (price ∷ row_prices) columns prices e f fits =
       (fit_row row price columns prices f (λ j lt. fits zero j (omega arith) lt), fit_all rows row_prices columns prices (omega arith) f (λ i j lt. fits (suc i) j (omega arith)))
-  fit_all [] (price ∷ row_prices) columns prices e f fits = absurd (omega arith)
-  fit_all (row ∷ rows) [] columns prices e f fits = absurd (omega arith)
+  fit_all rows row_prices columns prices e f fits = absurd (omega arith)

@@ -1,6 +1,6 @@
 -- What a pairing of cables with pairs, or of bars with rows, costs falls by at most one with each setting that changes a
 -- cable or a bar, and doesn't change with the others.
-use Rattle.std.proofs.Common.{◌≡◌, ℕ, zero, suc, ◌+◌, ◌-◌, ◌≤◌, nat_eq, min, Bool, true, false, cond, inl, inr, List, [], ◌∷◌, get_or, set, map, fold, find, count_by, Option, Some, None, unwrap_or, slice_get, ℤ, refl, sym, ap, ◌∙◌, subst, arith}
+use Rattle.std.proofs.Common.{◌≡◌, ℕ, zero, suc, ◌+◌, ◌-◌, ◌≤◌, nat_eq, min, Bool, true, false, cond, inl, inr, List, [], ◌∷◌, get_or, set, map, fold, find, count_by, Option, Some, None, unwrap_or, slice_get, ℤ, refl, sym, ap, ◌∙◌, subst, arith, length, All}
 use Rattle.std.specs.List.{AllByRecursion}
 use Rattle.std.specs.Option.{option_map, option_map_or}
 use Rattle.std.proofs.lemmas.Option.{unwrap_or-slice_get}
@@ -13,34 +13,30 @@ use Rattle.kd_state.specs.declared.machine.pin_parts.PinParts.{PinParts}
 use Rattle.kd_state.specs.declared.machine.parts.Parts.{Parts}
 use Rattle.kd_state.specs.declared.machine.parts.Parts.TheVariants.{Rotor, Pin}
 use Rattle.kd_state.specs.declared.setting.Setting.{Setting}
-use Rattle.kd_state.specs.declared.setting.Setting.TheVariants.{Pull, Put, Seat, SeatReflector, RingTo, Turn, PinTo, LugTo}
+use Rattle.kd_state.specs.declared.setting.Setting.TheVariants.{Pull, Put, LugTo}
 use Rattle.kd_state.specs.declared.setting.why.Why.{Why}
-use Rattle.kd_state.specs.Machine.{cable_letters}
-use Rattle.kd_state.specs.Setting.{has_letter, is_at, reasons, why_refused, cable_at, cable_without, cable_with, with_lug, with_lug_at, changed}
+use Rattle.kd_state.specs.Machine.{cable_letters, plugged_letters, IsLegal}
+use Rattle.kd_state.specs.Setting.{has_letter, is_at, reasons, why_refused, cable_at, cable_without, cable_with, with_lug, with_lug_at, changed, lies_beyond, other_lug, lug_place, Leads}
 use Rattle.kd_state.specs.Costs.{differ, unless_same, column_letters, cable_cost, lugs_moved, standings_as, bar_cost}
 use Rattle.kd_card.specs.Proving.{is_priced}
-use Rattle.kd_card.proofs.Counts.{count_by-cons, once_in_alphabet}
-use Rattle.kd_card.proofs.Cables.{SameBut, same_but, same_but-sym, pulled, put}
+use Rattle.kd_card.proofs.Counts.{count_by-cons, at_most_one, once_in_alphabet, times, times-append, AreOnce, once_of_distinct, once_more, SameBut, same_but, same_but-sym, pulled, put, times_more}
 use Rattle.kd_card.proofs.Duality.{pairing_cost}
+use Rattle.std.proofs.lemmas.Bool.{eqb-false, ltb-false}
+use Rattle.std.proofs.lemmas.List.Elements.{All-set}
+use Rattle.std.proofs.lemmas.List.{length-set}
+use Rattle.kd_tables.specs.Places.{place_rank, IsBefore}
+use Rattle.kd_state.specs.Box.{numbered}
 
 -- one row is changed
 pairing_cost-set : {A B : Type 0} (cost : A → B → ℕ) (rows : List A) (ws : List (B × ℤ)) (i : ℕ) (row d : A)
     → ((column : B) → cost (get_or rows i d) column ≤ cost row column + 1) → pairing_cost cost rows ws ≤ pairing_cost cost (set rows i row) ws + 1
-pairing_cost-set cost [] ws i row d h = omega arith
-pairing_cost-set cost (now ∷ rows) [] zero row d h = omega arith
-pairing_cost-set cost (now ∷ rows) [] (suc i) row d h = omega arith
 pairing_cost-set cost (now ∷ rows) (w ∷ ws) zero row d h = omega (arith, h w.0)
 pairing_cost-set cost (now ∷ rows) (w ∷ ws) (suc i) row d h = omega (arith, pairing_cost-set cost rows ws i row d h)
+pairing_cost-set cost rows ws i row d h = omega arith
 
-one_more : (a b t : Bool) → cond {A = ℕ} (differ a b) 1 0 ≤ cond (differ t b) 1 0 + 1
-one_more true true true = omega arith
-one_more true true false = omega arith
-one_more true false true = omega arith
-one_more true false false = omega arith
-one_more false true true = omega arith
-one_more false true false = omega arith
-one_more false false true = omega arith
-one_more false false false = omega arith
+pub not_differing : (b : Bool) → differ b b ≡ false
+not_differing true = refl
+not_differing false = refl
 
 counted_apart : (letters others wanted : List ℕ) (x : ℕ) → SameBut x letters others → (alphabet : List ℕ)
     → count_by (λ letter. differ (has_letter letters letter) (has_letter wanted letter)) alphabet
@@ -54,7 +50,7 @@ counted_apart letters others wanted x same (letter ∷ alphabet) =
     elim (same letter) [
       | inl e ↦ let head = ap (λ b. cond {A = ℕ} (differ b (has_letter wanted letter)) 1 0) e in omega arith
       | inr e ↦
-          let most = one_more (has_letter letters letter) (has_letter wanted letter) (has_letter others letter) in
+          let most = at_most_one (differ (has_letter letters letter) (has_letter wanted letter)) in
           let head : cond {A = ℕ} (nat_eq x letter) 1 0 ≡ 1 = rw e refl in
           omega arith
     ]
@@ -143,17 +139,104 @@ pub falls : (m : Parts) (x : Setting) (columns : List (Option (ℕ × ℕ) × �
     → paired_cost m columns rows ≤ paired_cost (changed m x) columns rows + cond (is_priced x) 1 0
 falls (Rotor m) (Pull cable letter) columns rows e = pull_falls m cable letter columns e
 falls (Rotor m) (Put cable letter) columns rows e = put_falls m cable letter columns e
-falls (Rotor m) (Seat slot wheel) columns rows e = omega arith
-falls (Rotor m) (SeatReflector reflector) columns rows e = omega arith
-falls (Rotor m) (RingTo wheel letter) columns rows e = omega arith
-falls (Rotor m) (Turn slot letter) columns rows e = omega arith
-falls (Rotor m) (PinTo wheel letter effective) columns rows e = omega arith
-falls (Rotor m) (LugTo bar lug place) columns rows e = omega arith
-falls (Pin m) (Pull cable letter) columns rows e = omega arith
-falls (Pin m) (Put cable letter) columns rows e = omega arith
-falls (Pin m) (Seat slot wheel) columns rows e = omega arith
-falls (Pin m) (SeatReflector reflector) columns rows e = omega arith
-falls (Pin m) (RingTo wheel letter) columns rows e = omega arith
-falls (Pin m) (Turn wheel letter) columns rows e = omega arith
-falls (Pin m) (PinTo wheel letter effective) columns rows e = omega arith
 falls (Pin m) (LugTo bar lug place) columns rows e = lug_falls m bar lug place rows
+falls m x columns rows e = omega arith
+
+-- ---- what settings keep
+
+-- one cable is changed
+times-set : (letter k : ℕ) (cables : List (Option ℕ × Option ℕ)) (place : ℕ) (now d : Option ℕ × Option ℕ)
+    → times letter (cable_letters now) ≤ times letter (cable_letters (get_or cables place d)) + k → times letter (plugged_letters (set cables place now)) ≤ times letter (plugged_letters cables) + k
+times-set letter k [] place now d h = omega arith
+times-set letter k (cable ∷ cables) zero now d h =
+    omega (arith, times-append letter (cable_letters cable) (plugged_letters cables), times-append letter (cable_letters now) (plugged_letters cables))
+times-set letter k (cable ∷ cables) (suc place) now d h =
+    omega (
+      arith,
+      times-append letter (cable_letters cable) (plugged_letters cables),
+      times-append letter (cable_letters cable) (plugged_letters (set cables place now)),
+      times-set letter k cables place now d h,
+    )
+
+-- no letter in two places, one setting later
+abbrev pub CablesAreOnce : List (Option ℕ × Option ℕ) → Type 0
+CablesAreOnce cables = AreOnce (plugged_letters cables)
+
+pull_keeps : (m : RotorParts) (cable letter : ℕ) → why_refused (Rotor m) (Pull cable letter) ≡ None → CablesAreOnce m.cables → CablesAreOnce (set m.cables (cable - 1) (cable_without letter (cable_at m cable)))
+pull_keeps m zero letter e once l = cc
+pull_keeps m (suc place) letter e once l =
+    let was = cable_at m (suc place) in
+    let now = cable_without letter was in
+    let here = ap (λ cable. times l (cable_letters cable)) (unwrap_or-slice_get m.cables place (None, None)) in
+    let less : times l (cable_letters now) ≤ times l (cable_letters was) = elim (pulled letter was) [
+      | inl same ↦ omega (arith, ap (times l) same)
+      | inr more ↦ omega (arith, times_more l more.0 (cable_letters now) (cable_letters was) more.1)
+    ] in
+    rw (one_less place) (omega (arith, once l, times-set l 0 m.cables place now (None, None) (omega arith)))
+
+put_keeps : (m : RotorParts) (cable letter : ℕ) → why_refused (Rotor m) (Put cable letter) ≡ None → CablesAreOnce m.cables → CablesAreOnce (set m.cables (cable - 1) (cable_with letter (cable_at m cable)))
+put_keeps m zero letter e once l = cc
+put_keeps m (suc place) letter e once l =
+    let reasons = none_of_them (reasons (Rotor m) (Put (suc place) letter)) e in
+    let was = cable_at m (suc place) in
+    let now = cable_with letter was in
+    let here = ap (λ cable. times l (cable_letters cable)) (unwrap_or-slice_get m.cables place (None, None)) in
+    let more = times_more l letter (cable_letters was) (cable_letters now) (put letter was reasons.1.0) in
+    rw (one_less place)
+    (omega (arith, once_more l letter (plugged_letters m.cables) once reasons.1.1.0, times-set l (times l (letter ∷ [])) m.cables place now (None, None) (omega arith)))
+
+-- each bar's left lug stands before its right one, one setting later
+abbrev pub Stands : Place × Place → Type 0
+Stands bar = IsBefore bar.0 bar.1
+
+stands_again : (lug : Lug) (place : Place) (standing : Place × Place) → is_at place (lug_place (other_lug lug) standing) ≡ false → lies_beyond lug place (lug_place (other_lug lug) standing) ≡ false
+    → Stands (with_lug lug place standing)
+stands_again Left place standing apart within = omega (arith, eqb-false (place_rank place) (place_rank standing.1) apart, ltb-false (place_rank standing.1) (place_rank place) within)
+stands_again Right place standing apart within = omega (arith, eqb-false (place_rank place) (place_rank standing.0) apart, ltb-false (place_rank place) (place_rank standing.0) within)
+
+bars_keep : (bars : List (Place × Place)) (i : ℕ) (lug : Lug) (place : Place) (found : Option (Place × Place))
+    → option_map_or (is_at place) (option_map (lug_place (other_lug lug)) found) false ≡ false → option_map_or (lies_beyond lug place) (option_map (lug_place (other_lug lug)) found) false ≡ false
+    → All Stands bars → All Stands (option_map_or (λ standing. set bars i (with_lug lug place standing)) found bars)
+bars_keep bars i lug place None apart within h = h
+bars_keep bars i lug place (Some standing) apart within h = All-set Stands bars i (with_lug lug place standing) (stands_again lug place standing apart within) h
+
+bars_keep_length : (bars : List (Place × Place)) (i : ℕ) (lug : Lug) (place : Place) (found : Option (Place × Place)) → length (option_map_or (λ standing. set bars i (with_lug lug place standing)) found bars) ≡ length bars
+bars_keep_length bars i lug place None = refl
+bars_keep_length bars i lug place (Some standing) = length-set bars i (with_lug lug place standing)
+
+-- What holds of a machine's cables, or bars, and is kept by every setting.
+pub record HasCables (cables : List (Option ℕ × Option ℕ)) : Type 0 where
+  pub count : length cables ≡ 13
+  pub once : CablesAreOnce cables
+
+pub record HasBars (bars : List (Place × Place)) : Type 0 where
+  pub count : length bars ≡ 27
+  pub stand : All Stands bars
+
+abbrev pub HasAll : Parts → Type 0
+HasAll (Rotor m) = HasCables m.cables
+HasAll (Pin m) = HasBars m.bars
+
+pub machines_have_all : (m : Parts) → IsLegal m → HasAll m
+machines_have_all (Rotor m) h = record { count = h.cables.count; once = once_of_distinct (plugged_letters m.cables) h.cables.apart }
+machines_have_all (Pin m) h = record { count = h.bars; stand = h.apart }
+
+lug_keeps : (m : PinParts) (bar : ℕ) (lug : Lug) (place : Place) → why_refused (Pin m) (LugTo bar lug place) ≡ None → HasBars m.bars → HasBars (with_lug_at m bar lug place)
+lug_keeps m bar lug place e h =
+    let reasons = none_of_them (reasons (Pin m) (LugTo bar lug place)) e in
+    record {
+      count = bars_keep_length m.bars (bar - 1) lug place (numbered m.bars bar) ∙ h.count;
+      stand = bars_keep m.bars (bar - 1) lug place (numbered m.bars bar) reasons.1.0 reasons.1.1.0 h.stand;
+    }
+
+setting_keeps : (m : Parts) (x : Setting) → why_refused m x ≡ None → HasAll m → HasAll (changed m x)
+setting_keeps (Rotor m) (Pull cable letter) e h =
+    record { count = length-set m.cables (cable - 1) (cable_without letter (cable_at m cable)) ∙ h.count; once = pull_keeps m cable letter e h.once }
+setting_keeps (Rotor m) (Put cable letter) e h =
+    record { count = length-set m.cables (cable - 1) (cable_with letter (cable_at m cable)) ∙ h.count; once = put_keeps m cable letter e h.once }
+setting_keeps (Pin m) (LugTo bar lug place) e h = lug_keeps m bar lug place e h
+setting_keeps m x e h = h
+
+pub list_keeps : (m n : Parts) (xs : List Setting) → Leads m xs n → HasAll m → HasAll n
+list_keeps m n [] leads h = subst HasAll (sym leads) h
+list_keeps m n (x ∷ xs) leads h = list_keeps leads.0 n xs leads.2 (subst HasAll (sym leads.1.made) (setting_keeps m x leads.1.allowed h))

@@ -7,6 +7,7 @@ use Rattle.std.proofs.Math.Nat.{mul-le-mul_left}
 use Rattle.std.proofs.lemmas.Int.{ints, unsigned_abs-mul, fits_signed_from_abs}
 use Rattle.std.proofs.lemmas.List.{append-nil, take_more, take-append-drop}
 use Rattle.std.proofs.lemmas.List.Concat.{flat_map-append}
+use Rattle.std.proofs.lemmas.List.Sums.{fold-append}
 use Rattle.kd_card.specs.declared.look.Look.{Look}
 use Rattle.kd_card.specs.declared.look.Look.TheVariants.{Cable, Pair, Bar, Row}
 use Rattle.kd_card.specs.declared.look.Name.{Name}
@@ -16,7 +17,7 @@ use Rattle.kd_state.specs.Words.{line_of}
 use Rattle.kd_card.specs.declared.fault.CardFault.{CardFault}
 use Rattle.kd_card.specs.declared.fault.CardFault.TheVariants.{PriceMissing}
 use Rattle.kd_card.specs.CardFault.{floor_behind, IsNextKind, IsBadKind, EndsGroup, BeginsWithKinds, BeginsWithGroup, IsGroupFault, AtKind, AtCount}
-use Rattle.kd_card.proofs.KindParts.{text_of_more_kinds}
+use Rattle.kd_card.proofs.KindPrices.{text_of_more_kinds}
 use Rattle.kd_card.proofs.KindWords.{low_rank}
 
 -- ---- one more kind at the end
@@ -97,10 +98,6 @@ fold_of_copies sum zero price = let none = zero-*ℤ price in omega (arith, ints
 fold_of_copies sum (suc count) price =
     let more = suc_ℤ-*ℤ (pos count) price in let rest = fold_of_copies (sum +ℤ price) count price in omega (arith, ints, more, rest)
 
-fold-append : (sum : ℤ) (xs ys : List ℤ) → fold (λ sum price. sum +ℤ price) sum (xs ++ ys) ≡ fold (λ sum price. sum +ℤ price) (fold (λ sum price. sum +ℤ price) sum xs) ys
-fold-append sum [] ys = refl
-fold-append sum (x ∷ xs) ys = fold-append (sum +ℤ x) xs ys
-
 pub more_sum : (sum : ℤ) (kinds : List PricedKind) (kind : PricedKind)
     → fold (λ sum price. sum +ℤ price) sum (prices_of_kinds (kinds ++ kind ∷ []))
     ≡ (fold (λ sum price. sum +ℤ price) sum (prices_of_kinds kinds) +ℤ (pos kind.count *ℤ kind.price))
@@ -108,7 +105,7 @@ more_sum sum kinds kind =
     let copies : List ℤ = replicate kind.count kind.price in
     ap (fold (λ sum price. sum +ℤ price) sum)
     (flat_map-append (λ (k : PricedKind). replicate k.count k.price) kinds (kind ∷ []) ∙ ap (λ xs. prices_of_kinds kinds ++ xs) (append-nil copies))
-    ∙ fold-append sum (prices_of_kinds kinds) copies
+    ∙ fold-append _ sum (prices_of_kinds kinds) copies
     ∙ fold_of_copies (fold (λ sum price. sum +ℤ price) sum (prices_of_kinds kinds)) kind.count kind.price
 
 pub product_bound : (count : ℕ) (price : ℤ) → unsigned_abs price ≤ 9999 → unsigned_abs (pos count *ℤ price) ≤ 9999 * count
@@ -153,20 +150,19 @@ walk_bounds kinds floor total walked =
     let sum = walked.total_is in
     (omega (arith, few, so_far, sum), omega (arith, short, so_far), omega (arith, low, so_far))
 
+pub good_at : (kinds : List PricedKind) (i : ℕ) (kind : PricedKind) → i < length kinds → kind ≡ get_or kinds i kind
+    → AreKinds 0 kinds
+    → IsPricedKind kind × (floor_behind 0 (take i kinds) ≤ look_rank kind.look)
+good_at kinds i kind inside is are =
+    let split = at_place kinds i kind inside ∙ ap (λ k. take i kinds ++ (k ∷ drop (i + 1) kinds)) (sym is) in
+    kind_within 0 (take i kinds) kind (drop (i + 1) kinds) (subst (AreKinds 0) split are)
+
 -- a kind that may not follow
 pub stumbles : (kinds : List PricedKind) (i floor total : ℕ) (kind : PricedKind) → i < length kinds → kind ≡ get_or kinds i kind
     → Walked (take i kinds) floor total → AreKinds 0 kinds → IsPricedKind kind × (floor ≤ look_rank kind.look)
 stumbles kinds i floor total kind inside is walked are =
-    let split = at_place kinds i kind inside ∙ ap (λ k. take i kinds ++ (k ∷ drop (i + 1) kinds)) (sym is) in
-    let within = kind_within 0 (take i kinds) kind (drop (i + 1) kinds) (subst (AreKinds 0) split are) in
-    let so_far = walked.floor_is in
-    let above = within.1 in
-    (within.0, omega (arith, above, so_far))
-
-pub good_at : (kinds : List PricedKind) (i : ℕ) (kind : PricedKind) → i < length kinds → kind ≡ get_or kinds i kind → AreKinds 0 kinds → IsPricedKind kind
-good_at kinds i kind inside is are =
-    let split = at_place kinds i kind inside ∙ ap (λ k. take i kinds ++ (k ∷ drop (i + 1) kinds)) (sym is) in
-    (kind_within 0 (take i kinds) kind (drop (i + 1) kinds) (subst (AreKinds 0) split are)).0
+    subst (λ f. IsPricedKind kind × (f ≤ look_rank kind.look)) (sym walked.floor_is)
+    (good_at kinds i kind inside is are)
 
 -- the sum goes on by the price of all things of a kind
 abbrev pub SumsOn : ℤ → ℤ → ℤ → List PricedKind → ℕ → Type 0
@@ -182,7 +178,7 @@ sums_on sum total more kinds i kind inside is are few small value bound product 
     let next = one_more kinds i kind inside is in
     let counts = ap counted next ∙ more_counted (take i kinds) kind in
     let before = counted_before kinds (i + 1) in
-    let good = good_at kinds i kind inside is are in
+    let good = (good_at kinds i kind inside is are).0 in
     let here : unsigned_abs more ≤ 9999 * kind.count = subst (λ z. unsigned_abs z ≤ 9999 * kind.count) (sym product) (product_bound kind.count kind.price good.reach) in
     let most = good.most in
     let both : unsigned_abs (total +ℤ more) ≤ unsigned_abs total + unsigned_abs more = omega (arith, ints) in (

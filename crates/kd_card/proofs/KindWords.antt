@@ -1,5 +1,5 @@
 -- The words of kinds' lines, and the looks that they tell.
-use Rattle.std.proofs.Common.{codes, ◌≡◌, ◌≢◌, ℕ, ◌+◌, ◌<◌, ◌≤◌, eqb, cond, true, List, [], ◌∷◌, ◌++◌, length, get_or, ℤ, Option, Some, None, refl, sym, ap, ◌∙◌, append_assoc, length-append, arith}
+use Rattle.std.proofs.Common.{codes, ◌≡◌, ◌≢◌, ℕ, ◌+◌, ◌<◌, ◌≤◌, eqb, cond, true, List, [], ◌∷◌, ◌++◌, length, get_or, ℤ, Option, Some, None, refl, sym, ap, ◌∙◌, append_assoc, length-append, arith, map, decimal, Bor}
 use Rattle.std.specs.List.{All, find}
 use Rattle.std.specs.Option.{unwrap_or}
 use Rattle.std.specs.Str.{bytes_eq}
@@ -8,17 +8,24 @@ use Rattle.std.proofs.lemmas.List.Elements.{All-append, All-weaker, All-from_rec
 use Rattle.kd_tables.specs.declared.place.Place.{Place}
 use Rattle.kd_tables.specs.declared.place.Place.TheVariants.{One, ZeroLeft, Two, Three, Four, Five, ZeroRight, Six}
 use Rattle.kd_tables.specs.Places.{place_text, place_rank, places, standing_text, reading_text}
-use Rattle.kd_state.specs.Words.{IsWord, IsWithout, NumbersAreWords, TextsTellFirstParts}
+use Rattle.kd_state.specs.Words.{IsWord, IsWithout, NumbersAreWords, TextsTellFirstParts, words_of, line_of, IsFirstPart, LinesSplitIntoWords, WordsMakeOneLine}
 use Rattle.kd_card.specs.declared.look.Look.{Look}
 use Rattle.kd_card.specs.declared.look.Look.TheVariants.{Cable, Pair, Bar, Row}
 use Rattle.kd_card.specs.declared.look.Name.{Name}
 use Rattle.kd_card.specs.declared.look.Name.TheVariants as names
 use Rattle.kd_card.specs.declared.kinds.PricedKind.{PricedKind}
-use Rattle.kd_card.specs.Kinds.{look_name, name_text, look_text, look_rank, ends_rank, pair_rank, kind_words, AreEnds, IsPairInOrder, IsInForm, IsPricedKind}
+use Rattle.kd_card.specs.Kinds.{look_name, name_text, look_text, look_rank, ends_rank, pair_rank, kind_words, AreEnds, IsPairInOrder, IsInForm, IsPricedKind, kinds_text, HasLook, HasKindWords}
 use Rattle.kd_card.specs.Laws.{RanksTellLooks}
-use Rattle.kd_card.proofs.Lines.{is_above, bytes_above}
+use Rattle.kd_card.proofs.Lines.{is_above, bytes_above, same_first_part}
 use Rattle.kd_card.proofs.CardWords.{word_by_bytes, word_by_test, signed_word}
 use Rattle.kd_card.proofs.PriceTexts.{small}
+use Rattle.std.specs.Fmt.{signed_decimal}
+use Rattle.std.proofs.lemmas.List.{append-nil}
+use Rattle.std.proofs.lemmas.List.Splits.{join_with_byte-slice_split}
+use Rattle.kd_card.specs.declared.group.Group.{Group}
+use Rattle.kd_card.specs.declared.group.Group.TheVariants.{OfCables, OfBars}
+use Rattle.kd_card.specs.CardText.{row_name}
+use Rattle.kd_card.specs.CardFault.{IsFirstWord, BeginsWithWord, IsNextKind}
 
 -- ---- names and places by their texts
 
@@ -28,9 +35,7 @@ name_back first = cond (eqb first 67) names.Cable (cond (eqb first 80) names.Pai
 undo_name : (n : Name) → name_back (get_or (name_text n) 0 0) ≡ n
 unfolding name_back
 undo_name names.Cable = refl
-undo_name names.Pair = refl
-undo_name names.Bar = refl
-undo_name names.Row = refl
+undo_name n = refl
 
 pub same_name : (n m : Name) → name_text n ≡ name_text m → n ≡ m
 same_name n m e = sym (undo_name n) ∙ ap (λ t. name_back (get_or t 0 0)) e ∙ undo_name m
@@ -68,9 +73,7 @@ place_above p = All-from_recursion (λ b. 45 < b) (place_text p) (bytes_above 45
 
 name_is_word : (n : Name) → IsWord (name_text n)
 name_is_word names.Cable = word_by_test _ _ refl
-name_is_word names.Pair = word_by_test _ _ refl
-name_is_word names.Bar = word_by_test _ _ refl
-name_is_word names.Row = word_by_test _ _ refl
+name_is_word n = word_by_test _ _ refl
 
 one_byte : (b : ℕ) → 32 < b → IsWord (b ∷ [])
 one_byte b above = word_by_bytes (b ∷ []) (λ none. cc) (All-from_recursion (λ b. 32 < b) (b ∷ []) (above, tt))
@@ -113,27 +116,23 @@ kind_is_words numbers kind good =
 same_ends : (a b c d : Option ℕ) → AreEnds a b → AreEnds c d → look_text (Cable (a, b)) ≡ look_text (Cable (c, d)) → Cable (a, b) ≡ Cable (c, d)
 same_ends None None None None x y e = refl
 same_ends None None (Some c) None x y e = absurd (omega (arith, ap (λ t. get_or t 0 0) e))
-same_ends None None (Some c) (Some d) x y e = absurd (omega (arith, ap length e))
 same_ends (Some a) None None None x y e = absurd (omega (arith, ap (λ t. get_or t 0 0) e))
 same_ends (Some a) None (Some c) None x y e = let same : a ≡ c = omega (arith, ap (λ t. get_or t 0 0) e) in cc
-same_ends (Some a) None (Some c) (Some d) x y e = absurd (omega (arith, ap length e))
-same_ends (Some a) (Some b) None None x y e = absurd (omega (arith, ap length e))
-same_ends (Some a) (Some b) (Some c) None x y e = absurd (omega (arith, ap length e))
 same_ends (Some a) (Some b) (Some c) (Some d) x y e =
     let one : a ≡ c = omega (arith, ap (λ t. get_or t 0 0) e) in
     let other : b ≡ d = omega (arith, ap (λ t. get_or t 1 0) e) in
     cc
 same_ends None (Some b) c d x y e = absurd x
 same_ends a b None (Some d) x y e = absurd y
+same_ends a b c d x y e = absurd (omega (arith, ap length e))
 
 same_pair : (a b : Option (ℕ × ℕ)) → look_text (Pair a) ≡ look_text (Pair b) → Pair a ≡ Pair b
 same_pair None None e = refl
-same_pair None (Some (c, d)) e = absurd (omega (arith, ap length e))
-same_pair (Some (a, b)) None e = absurd (omega (arith, ap length e))
 same_pair (Some (a, b)) (Some (c, d)) e =
     let one : a ≡ c = omega (arith, ap (λ t. get_or t 0 0) e) in
     let other : b ≡ d = omega (arith, ap (λ t. get_or t 1 0) e) in
     cc
+same_pair a b e = absurd (omega (arith, ap length e))
 
 place_without : (p : Place) → IsWithout 45 (place_text p)
 place_without p = All-weaker (λ b. 45 < b) (λ b. b ≢ 45) (λ b above same. omega (arith, above, same)) (place_text p) (place_above p)
@@ -159,18 +158,7 @@ same_look tells (Cable (a, b)) (Cable (c, d)) named x y e = same_ends a b c d x 
 same_look tells (Pair a) (Pair b) named x y e = same_pair a b e
 same_look tells (Bar (a, b)) (Bar (c, d)) named x y e = same_standing tells a b c d e
 same_look tells (Row (a, b)) (Row (c, d)) named x y e = same_reading a b c d e
-same_look tells (Cable a) (Pair b) named x y e = cc
-same_look tells (Cable a) (Bar b) named x y e = cc
-same_look tells (Cable a) (Row b) named x y e = cc
-same_look tells (Pair a) (Cable b) named x y e = cc
-same_look tells (Pair a) (Bar b) named x y e = cc
-same_look tells (Pair a) (Row b) named x y e = cc
-same_look tells (Bar a) (Cable b) named x y e = cc
-same_look tells (Bar a) (Pair b) named x y e = cc
-same_look tells (Bar a) (Row b) named x y e = cc
-same_look tells (Row a) (Cable b) named x y e = cc
-same_look tells (Row a) (Pair b) named x y e = cc
-same_look tells (Row a) (Bar b) named x y e = cc
+same_look tells look other named x y e = cc
 
 pub same_kind : TextsTellFirstParts → (kind other : PricedKind) → IsPricedKind kind → IsPricedKind other → kind_words kind ≡ kind_words other → kind ≡ other
 same_kind tells kind other a b e =
@@ -194,14 +182,13 @@ ranked_ends None None (Some c) (Some d) x y e = absurd (omega (arith, e, y.0, y.
 ranked_ends (Some a) None None None x y e = absurd (omega (arith, e, x))
 ranked_ends (Some a) None (Some c) None x y e = let same : a ≡ c = omega (arith, e) in cc
 ranked_ends (Some a) None (Some c) (Some d) x y e = absurd (omega (arith, e, y.0, y.1))
-ranked_ends (Some a) (Some b) None None x y e = absurd (omega (arith, e, x.0, x.1))
-ranked_ends (Some a) (Some b) (Some c) None x y e = absurd (omega (arith, e, x.0, x.1))
 ranked_ends (Some a) (Some b) (Some c) (Some d) x y e =
     let one : a ≡ c = omega (arith, e, x.0, x.1, y.0, y.1) in
     let other : b ≡ d = omega (arith, e, x.0, x.1, y.0, y.1) in
     cc
 ranked_ends None (Some b) c d x y e = absurd x
 ranked_ends a b None (Some d) x y e = absurd y
+ranked_ends a b c d x y e = absurd (omega (arith, e, x.0, x.1))
 
 ranked_pair : (a b : Option (ℕ × ℕ)) → IsPairInOrder a → IsPairInOrder b → pair_rank a ≡ pair_rank b → Pair a ≡ Pair b
 ranked_pair None None x y e = refl
@@ -229,15 +216,104 @@ ranks_tell_looks (Cable (a, b)) (Cable (c, d)) named x y e = ranked_ends a b c d
 ranks_tell_looks (Pair a) (Pair b) named x y e = ranked_pair a b x y e
 ranks_tell_looks (Bar (a, b)) (Bar (c, d)) named x y e = ranked_standing a b c d e
 ranks_tell_looks (Row (a, b)) (Row (c, d)) named x y e = ranked_reading a b c d x.within y.within e
-ranks_tell_looks (Cable a) (Pair b) named x y e = cc
-ranks_tell_looks (Cable a) (Bar b) named x y e = cc
-ranks_tell_looks (Cable a) (Row b) named x y e = cc
-ranks_tell_looks (Pair a) (Cable b) named x y e = cc
-ranks_tell_looks (Pair a) (Bar b) named x y e = cc
-ranks_tell_looks (Pair a) (Row b) named x y e = cc
-ranks_tell_looks (Bar a) (Cable b) named x y e = cc
-ranks_tell_looks (Bar a) (Pair b) named x y e = cc
-ranks_tell_looks (Bar a) (Row b) named x y e = cc
-ranks_tell_looks (Row a) (Cable b) named x y e = cc
-ranks_tell_looks (Row a) (Pair b) named x y e = cc
-ranks_tell_looks (Row a) (Bar b) named x y e = cc
+ranks_tell_looks look other named x y e = cc
+
+-- ---- a line of a group, read
+
+pub begins : (text words rest first : List ℕ) → IsFirstPart 10 text words rest → IsFirstWord words first → BeginsWithWord first text
+begins text words rest first ends f = record { behind = f.behind; rest = rest; has = record { line = words; first = ends; parts = f.words } }
+
+pub no_group : (first : List ℕ) → first ≢ name_text names.Cable → first ≢ name_text names.Bar → (group : Group) → first ≢ name_text (row_name group)
+no_group first a b OfCables = a
+no_group first a b OfBars = b
+
+pub no_count : (name : Name) (words : List (List ℕ)) (look count price : List ℕ) (number : ℕ) → decimal number ≡ count → number ≡ 0
+    → (kind : PricedKind) → ¬ (HasKindWords name (name_text name ∷ look ∷ count ∷ price ∷ []) kind)
+no_count name words look count price number text none kind has =
+    let most = has.good.most in
+    let some = has.good.some in
+    let same : decimal kind.count ≡ count = ap (λ w. get_or w 2 []) has.written in
+    let is : kind.count ≡ 0 = decimal_injective kind.count 0 (omega (arith, most)) (omega arith) (same ∙ sym text ∙ ap decimal none) in
+    omega (arith, some, is)
+
+pub next_is : (name : Name) (floor : ℕ) (text words rest : List ℕ) (kind : PricedKind) → IsFirstPart 10 text words rest
+    → HasKindWords name (words_of words) kind → floor ≤ look_rank kind.look → IsNextKind name floor text kind rest
+next_is name floor text words rest kind ends has above =
+    let line : words ≡ line_of (kind_words kind) = sym (join_with_byte-slice_split 32 words) ∙ ap line_of (sym has.written) in
+    record { called = has.called; good = has.good; above = above; line = ends.joined ∙ ap (λ l. l ++ 10 ∷ rest) line }
+
+-- what the laws of lines say
+pub record Laws : Type 0 where
+  pub first_parts : TextsTellFirstParts
+  pub split : LinesSplitIntoWords
+  pub one_line : WordsMakeOneLine
+  pub numbers : NumbersAreWords
+
+words_are : Laws → (name : Name) (floor : ℕ) (text words rest : List ℕ) (kind : PricedKind) (more : List ℕ) → IsFirstPart 10 text words rest
+    → IsNextKind name floor text kind more → HasKindWords name (words_of words) kind
+words_are laws name floor text words rest kind more ends next =
+    let all = kind_is_words laws.numbers kind next.good in
+    let same =
+    same_first_part laws.first_parts 10 text words (line_of (kind_words kind)) rest more ends
+    (record { joined = next.line; without = laws.one_line (kind_words kind) all }) in
+    record {
+      called = next.called;
+      good = next.good;
+      written = sym (laws.split (kind_words kind) (λ none. cc) all) ∙ ap words_of (sym same.0);
+    }
+
+pub none_next : Laws → (name : Name) (floor : ℕ) (text words rest : List ℕ) → IsFirstPart 10 text words rest
+    → ((kind : PricedKind) → ¬ (HasKindWords name (words_of words) kind)) → (kind : PricedKind) (more : List ℕ) → ¬ (IsNextKind name floor text kind more)
+none_next laws name floor text words rest ends none kind more next = none kind (words_are laws name floor text words rest kind more ends next)
+
+pub low_next : Laws → (name : Name) (floor rank : ℕ) (text words rest : List ℕ) (kind : PricedKind) → IsFirstPart 10 text words rest
+    → HasKindWords name (words_of words) kind → rank ≡ look_rank kind.look → rank < floor → (other : PricedKind) (more : List ℕ)
+    → ¬ (IsNextKind name floor text other more)
+low_next laws name floor rank text words rest kind ends has ranked low other more next =
+    let also = words_are laws name floor text words rest other more ends next in
+    let same : kind ≡ other = same_kind laws.first_parts kind other has.good next.good (has.written ∙ sym also.written) in
+    let above = next.above in
+    omega (arith, above, low, ranked, ap (λ (k : PricedKind). look_rank k.look) same)
+
+-- four words
+pub four_words : (name : Name) (line : List ℕ) (items : List (Bor (List ℕ))) (a b d : Bor (List ℕ)) → map (λ (word : Bor (List ℕ)). word.now) items ≡ words_of line
+    → IsFirstWord line (name_text name) → length items ≡ 4
+    → name_text name ∷ (get_or items 1 a).now ∷ (get_or items 2 b).now ∷ (get_or items 3 d).now ∷ [] ≡ words_of line
+four_words name line (w ∷ x ∷ y ∷ z ∷ []) a b d are first four =
+    let head : w.now ≡ name_text name = ap (λ ws. get_or ws 0 []) (are ∙ first.words) in
+    ap (λ n. n ∷ x.now ∷ y.now ∷ z.now ∷ []) (sym head) ∙ are
+four_words name line items a b d are first four = absurd (omega (arith, four))
+
+-- ---- two bytes that aren't letters in order
+
+abbrev NoLetters : List ℕ → ℕ → ℕ → Type 0
+NoLetters text a b = (first second : ℕ) → first < second → second < 26 → get_or text 0 a ≡ first + 65 → get_or text 1 b ≢ second + 65
+
+pub no_ends : (text : List ℕ) (a b : ℕ) → length text ≡ 2 → NoLetters text a b → (ends : Option ℕ × Option ℕ) → ¬ (HasLook names.Cable text (Cable ends))
+no_ends text a b two none (None, Some other) has = has.form
+no_ends text a b two none (Some one, Some other) has =
+    none one other has.form.0 has.form.1 (ap (λ t. get_or t 0 a) (sym has.written)) (ap (λ t. get_or t 1 b) (sym has.written))
+no_ends text a b two none ends has = omega (arith, two, ap length has.written)
+
+pub no_pair : (text : List ℕ) (a b : ℕ) → length text ≡ 2 → NoLetters text a b → (pair : Option (ℕ × ℕ)) → ¬ (HasLook names.Pair text (Pair pair))
+no_pair text a b two none None has = omega (arith, two, ap length has.written)
+no_pair text a b two none (Some (one, other)) has =
+    none one other has.form.0 has.form.1 (ap (λ t. get_or t 0 a) (sym has.written)) (ap (λ t. get_or t 1 b) (sym has.written))
+
+-- ---- a line, written
+
+line_in_pieces : (front name look count price : List ℕ)
+    → (((((((front ++ name) ++ 32 ∷ []) ++ look) ++ 32 ∷ []) ++ count) ++ 32 ∷ []) ++ price) ++ 10 ∷ []
+    ≡ front ++ (((name ++ 32 ∷ (look ++ 32 ∷ (count ++ 32 ∷ price))) ++ 10 ∷ []) ++ [])
+line_in_pieces front name look count price = simp (append_assoc, append-nil)
+
+pub written_kind : (kind : PricedKind) (a b d e f g h i j name look count price : List ℕ) → b ≡ a ++ name → d ≡ b ++ 32 ∷ [] → e ≡ d ++ look → f ≡ e ++ 32 ∷ []
+    → g ≡ f ++ count → h ≡ g ++ 32 ∷ [] → i ≡ h ++ price → j ≡ i ++ 10 ∷ [] → name ≡ name_text (look_name kind.look) → look ≡ look_text kind.look
+    → count ≡ decimal kind.count → price ≡ signed_decimal kind.price → j ≡ a ++ kinds_text (kind ∷ [])
+written_kind kind a b d e f g h i j name look count price p q r s t u v w n l c z =
+    let whole : j ≡ (((((((a ++ name) ++ 32 ∷ []) ++ look) ++ 32 ∷ []) ++ count) ++ 32 ∷ []) ++ price) ++ 10 ∷ [] = cc in
+    whole ∙ line_in_pieces a name look count price
+    ∙ ap (λ x. a ++ (((x ++ 32 ∷ (look ++ 32 ∷ (count ++ 32 ∷ price))) ++ 10 ∷ []) ++ [])) n
+    ∙ ap (λ x. a ++ (((name_text (look_name kind.look) ++ 32 ∷ (x ++ 32 ∷ (count ++ 32 ∷ price))) ++ 10 ∷ []) ++ [])) l
+    ∙ ap (λ x. a ++ (((name_text (look_name kind.look) ++ 32 ∷ (look_text kind.look ++ 32 ∷ (x ++ 32 ∷ price))) ++ 10 ∷ []) ++ [])) c
+    ∙ ap (λ x. a ++ (((name_text (look_name kind.look) ++ 32 ∷ (look_text kind.look ++ 32 ∷ (decimal kind.count ++ 32 ∷ x))) ++ 10 ∷ []) ++ [])) z

@@ -1,22 +1,13 @@
-pub mod Told
 pub mod Lines
 pub mod PriceTexts
-pub mod PriceLines
-pub mod Cards
 pub mod CardWords
 pub mod KindWords
 pub mod KindPrices
-pub mod KindParts
 pub mod KindLists
-pub mod KindReading
 pub mod OneCard
 pub mod Counts
-pub mod Cables
 pub mod Duality
 pub mod Falling
 pub mod Loosening
-pub mod Kept
 pub mod Pairing
 pub mod Shortest
-mod Carried
-pub mod Tight

@@ -28,36 +28,29 @@ use Rattle.kd_state.specs.Machine.{model_of, ring_at, letter_at}
 use Rattle.kd_state.specs.Setting.{why_refused, cable_at, cable_without, cable_with, seated_in, without, with_letter, with_lug_at, changed}
 use Rattle.kd_state.specs.SheetDay.{RotorDay, PinDay, Day, OfRotors, OfPins, seats, IsLegalDay, day_model}
 use Rattle.kd_state.specs.OnKey.{ReadsAs}
+use Rattle.kd_state.proofs.Slots.{set_other}
 use Rattle.kd_state.specs.Laws.{DaysWheelsHaveTheirPlaces}
 use Rattle.kd_state.specs.Costs.{differ, unless_same, loose_slots, loose_reflector, loose_rings, loose_letters, loose_pins, loose_pin_letters, loose_count}
 use Rattle.kd_card.specs.Proving.{is_priced}
 use Rattle.kd_card.proofs.Counts.{count_by-cons, at_most_one}
-use Rattle.kd_card.proofs.Falling.{unless_same_at_most, one_less}
+use Rattle.kd_card.proofs.Falling.{unless_same_at_most, one_less, not_differing}
 
 -- one of two lists that stand side by side is changed at a place
 zip_set_lowers : {X Y : Type 0} (p : X × Y → Bool) (xs : List X) (ys : List Y) (i : ℕ) (v : X) → count_by p (zip xs ys) ≤ count_by p (zip (set xs i v) ys) + 1
-zip_set_lowers p [] ys i v = omega arith
-zip_set_lowers p (x ∷ xs) [] zero v = omega arith
-zip_set_lowers p (x ∷ xs) [] (suc i) v = omega arith
 zip_set_lowers p (x ∷ xs) (y ∷ ys) zero v =
     omega (arith, count_by-cons p (x, y) (zip xs ys), count_by-cons p (v, y) (zip xs ys), at_most_one (p (x, y)))
 zip_set_lowers p (x ∷ xs) (y ∷ ys) (suc i) v =
     omega (arith, count_by-cons p (x, y) (zip xs ys), count_by-cons p (x, y) (zip (set xs i v) ys), zip_set_lowers p xs ys i v)
+zip_set_lowers p xs ys i v = omega arith
 
 -- Letters of which one is set: of things at different places at most one is right then that was not.
-slice_get-set_other : {X : Type 0} (xs : List X) (p q : ℕ) (v : X) → q ≢ p → slice_get (set xs p v) q ≡ slice_get xs q
-slice_get-set_other [] p q v h = refl
-slice_get-set_other (x ∷ xs) zero zero v h = absurd (h refl)
-slice_get-set_other (x ∷ xs) zero (suc q) v h = refl
-slice_get-set_other (x ∷ xs) (suc p) zero v h = refl
-slice_get-set_other (x ∷ xs) (suc p) (suc q) v h = slice_get-set_other xs p q v (λ e. h (ap suc e))
-
 module _ {X : Type 0} (place target : X → ℕ) where
   abbrev wrong : List ℕ → X → Bool
   wrong letters x = not (option_map_or (nat_eq (target x)) (slice_get letters (place x)) false)
 
   same_elsewhere : (letters : List ℕ) (p l : ℕ) (x : X) → place x ≢ p → wrong (set letters p l) x ≡ wrong letters x
-  same_elsewhere letters p l x away = ap (λ seen. not (option_map_or (nat_eq (target x)) seen false)) (slice_get-set_other letters p (place x) l away)
+  same_elsewhere letters p l x away =
+      ap (λ seen. not (option_map_or (nat_eq (target x)) seen false)) (set_other letters p (place x) l away)
 
   other_places : (letters : List ℕ) (p l : ℕ) (xs : List X) → AllByRecursion (λ y. place y ≢ p) xs → count_by (wrong (set letters p l)) xs ≡ count_by (wrong letters) xs
   other_places letters p l [] h = refl
@@ -118,24 +111,18 @@ module _ (m : RotorParts) (s : RotorDay) (apart : HaveTheirPlaces m.model s.whee
   turned_lowers (Some wheel) letter = omega (arith, set_lowers place (λ (w : SheetWheel). w.letter) m.letters (place_in_box m.model wheel) letter s.wheels apart)
 
   rotor_lowers : (x : Setting) → loose_count (Rotor m) (OfRotors s) ≤ loose_count (changed (Rotor m) x) (OfRotors s) + cond (is_priced x) 0 1
-  rotor_lowers (Pull cable letter) = omega arith
-  rotor_lowers (Put cable letter) = omega arith
   rotor_lowers (Seat slot wheel) =
       omega (arith, without_raises wheel m.slots s.wheels, zip_set_lowers wrong_slot (map (without wheel) m.slots) s.wheels (slot - 1) (Some wheel))
   rotor_lowers (SeatReflector reflector) = omega (arith, unless_same_at_most (same_reflector m.reflector s.reflector))
   rotor_lowers (RingTo wheel letter) = omega (arith, set_lowers place (λ (w : SheetWheel). w.ring) m.rings (place_in_box m.model wheel) letter s.wheels apart)
   rotor_lowers (Turn slot letter) = turned_lowers (seated_in m slot) letter
-  rotor_lowers (PinTo wheel letter effective) = omega arith
-  rotor_lowers (LugTo bar lug place) = omega arith
+  rotor_lowers x = omega arith
 
 -- a pin is set
 abbrev differing : List Bool × List Bool → ℕ
 differing wheel = count_by (λ (pin : Bool × Bool). differ pin.0 pin.1) (zip wheel.0 wheel.1)
 
 wheel_set_lowers : (xss yss : List (List Bool)) (i p : ℕ) (effective : Bool) → sum (map differing (zip xss yss)) ≤ sum (map differing (zip (set xss i (set (get_or xss i []) p effective)) yss)) + 1
-wheel_set_lowers [] yss i p effective = omega arith
-wheel_set_lowers (xs ∷ xss) [] zero p effective = omega arith
-wheel_set_lowers (xs ∷ xss) [] (suc i) p effective = omega arith
 wheel_set_lowers (xs ∷ xss) (ys ∷ yss) zero p effective =
     omega (
       arith,
@@ -150,15 +137,11 @@ wheel_set_lowers (xs ∷ xss) (ys ∷ yss) (suc i) p effective =
       sum_by-cons (λ n. n) (differing (xs, ys)) (map differing (zip (set xss i (set (get_or xss i []) p effective)) yss)),
       wheel_set_lowers xss yss i p effective,
     )
+wheel_set_lowers xss yss i p effective = omega arith
 
 pins_of-set : (pins : PinSet) (i : ℕ) (new : List Bool) → pins_of (pin_set (set (pins_of pins) i new)) ≡ set (pins_of pins) i new
-pins_of-set pins zero new = refl
-pins_of-set pins (suc zero) new = refl
-pins_of-set pins (suc (suc zero)) new = refl
-pins_of-set pins (suc (suc (suc zero))) new = refl
-pins_of-set pins (suc (suc (suc (suc zero)))) new = refl
 pins_of-set pins (suc (suc (suc (suc (suc zero))))) new = refl
-pins_of-set pins (suc (suc (suc (suc (suc (suc i)))))) new = refl
+pins_of-set pins i new = refl
 
 pin_lowers : (m : PinParts) (s : PinDay) (wheel letter : ℕ) (effective : Bool) → why_refused (Pin m) (PinTo wheel letter effective) ≡ None
     → loose_pins m s ≤ loose_pins (record m { pins = with_pin m.pins wheel letter effective }) s + 1
@@ -173,41 +156,22 @@ pin_lowers m s (suc wheel) letter effective e =
     subst (λ pins. loose_pins m s ≤ sum (map differing (zip pins (pins_of s.pins))) + 1) (sym all) (wheel_set_lowers (pins_of m.pins) (pins_of s.pins) wheel place effective)
 
 pin_machine_lowers : (m : PinParts) (s : PinDay) (x : Setting) → why_refused (Pin m) x ≡ None → loose_count (Pin m) (OfPins s) ≤ loose_count (changed (Pin m) x) (OfPins s) + cond (is_priced x) 0 1
-pin_machine_lowers m s (Pull cable letter) e = omega arith
-pin_machine_lowers m s (Put cable letter) e = omega arith
-pin_machine_lowers m s (Seat slot wheel) e = omega arith
-pin_machine_lowers m s (SeatReflector reflector) e = omega arith
-pin_machine_lowers m s (RingTo wheel letter) e = omega arith
 pin_machine_lowers m s (Turn wheel letter) e =
     omega (arith, zip_set_lowers (λ (letter : ℕ × ℕ). not (nat_eq letter.0 letter.1)) m.letters s.window (wheel - 1) letter)
 pin_machine_lowers m s (PinTo wheel letter effective) e = omega (arith, pin_lowers m s wheel letter effective e)
-pin_machine_lowers m s (LugTo bar lug place) e = omega arith
+pin_machine_lowers m s x e = omega arith
 
 -- whatever the setting and the machine
 pub lowers : DaysWheelsHaveTheirPlaces → (m : Parts) (s : Day) (x : Setting) → IsLegalDay s → model_of m ≡ day_model s → why_refused m x ≡ None → loose_count m s ≤ loose_count (changed m x) s + cond (is_priced x) 0 1
 lowers places (Rotor m) (OfRotors s) x h same e = rotor_lowers m s (subst (λ model. HaveTheirPlaces model s.wheels) (sym same) (places s.model s.wheels h.wheels)) x
 lowers places (Pin m) (OfPins s) x h same e = pin_machine_lowers m s x e
-lowers places (Rotor m) (OfPins s) x h same e = omega arith
-lowers places (Pin m) (OfRotors s) x h same e = omega arith
+lowers places m s x h same e = omega arith
 
 -- no setting makes another model of a machine, and those of cables and bars leave what is loose
 pub model_of-changed : (m : Parts) (x : Setting) → model_of (changed m x) ≡ model_of m
 model_of-changed (Rotor m) (Pull cable letter) = refl
-model_of-changed (Rotor m) (Put cable letter) = refl
-model_of-changed (Rotor m) (Seat slot wheel) = refl
-model_of-changed (Rotor m) (SeatReflector reflector) = refl
-model_of-changed (Rotor m) (RingTo wheel letter) = refl
-model_of-changed (Rotor m) (Turn slot letter) = refl
-model_of-changed (Rotor m) (PinTo wheel letter effective) = refl
-model_of-changed (Rotor m) (LugTo bar lug place) = refl
 model_of-changed (Pin m) (Pull cable letter) = refl
-model_of-changed (Pin m) (Put cable letter) = refl
-model_of-changed (Pin m) (Seat slot wheel) = refl
-model_of-changed (Pin m) (SeatReflector reflector) = refl
-model_of-changed (Pin m) (RingTo wheel letter) = refl
-model_of-changed (Pin m) (Turn wheel letter) = refl
-model_of-changed (Pin m) (PinTo wheel letter effective) = refl
-model_of-changed (Pin m) (LugTo bar lug place) = refl
+model_of-changed m x = refl
 
 other_cables : (m : RotorParts) (cables : List (Option ℕ × Option ℕ)) (s : Day) → loose_count (Rotor (record m { cables = cables })) s ≡ loose_count (Rotor m) s
 other_cables m cables (OfRotors s) = refl
@@ -224,11 +188,7 @@ leaves (Rotor m) s (LugTo bar lug place) e = refl
 leaves (Pin m) s (Pull cable letter) e = refl
 leaves (Pin m) s (Put cable letter) e = refl
 leaves (Pin m) s (LugTo bar lug place) e = other_bars m (with_lug_at m bar lug place) s
-leaves m s (Seat slot wheel) e = absurd (false≢true e)
-leaves m s (SeatReflector reflector) e = absurd (false≢true e)
-leaves m s (RingTo wheel letter) e = absurd (false≢true e)
-leaves m s (Turn slot letter) e = absurd (false≢true e)
-leaves m s (PinTo wheel letter effective) e = absurd (false≢true e)
+leaves m s x e = absurd (false≢true e)
 
 -- a machine that reads as the day has nothing loose
 itself : (name : List ℕ) → bytes_eq name name ≡ true
@@ -254,10 +214,6 @@ rotor_not_loose n s h =
     let letters : loose_letters n s ≡ 0 = none_wrong (λ w. letter_at n w.wheel) (λ w. w.letter) s.wheels (recursion_from_All (λ (w : SheetWheel). letter_at n w.wheel ≡ Some w.letter) s.wheels h.window) in
     omega (arith, slots, reflector, rings, letters)
 
-not_differing : (b : Bool) → differ b b ≡ false
-not_differing true = refl
-not_differing false = refl
-
 no_pin_wrong : (pins : List Bool) → differing (pins, pins) ≡ 0
 no_pin_wrong [] = refl
 no_pin_wrong (pin ∷ pins) =
@@ -281,5 +237,4 @@ pin_not_loose n s h =
 pub nothing_loose : (n : Parts) (s : Day) → ReadsAs n s → loose_count n s ≡ 0
 nothing_loose (Rotor n) (OfRotors s) h = rotor_not_loose n s h
 nothing_loose (Pin n) (OfPins s) h = pin_not_loose n s h
-nothing_loose (Rotor n) (OfPins s) h = refl
-nothing_loose (Pin n) (OfRotors s) h = refl
+nothing_loose n s h = refl

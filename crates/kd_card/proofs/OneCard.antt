@@ -6,7 +6,7 @@ use Rattle.std.proofs.lemmas.Fmt.{decimal_injective, signed_decimal_injective}
 use Rattle.std.proofs.lemmas.List.{append-nil, append_cancel_left, length-map}
 use Rattle.std.proofs.lemmas.List.Elements.{All-cons, All-append, recursion_from_All}
 use Rattle.kd_state.specs.declared.setting.Setting.{Setting}
-use Rattle.kd_state.specs.declared.setting.Setting.TheVariants.{Pull, Put, Seat, SeatReflector, RingTo, Turn, PinTo, LugTo}
+use Rattle.kd_state.specs.declared.setting.Setting.TheVariants.{Pull}
 use Rattle.kd_state.specs.Words.{words_of, line_of, IsWord, IsWithout, LinesTellWords, LinesSplitIntoWords, WordsMakeOneLine, TextsTellFirstParts, NumbersAreWords}
 use Rattle.kd_state.specs.Line.{setting_words, setting_line, list_text, IsInRange, BeginsWithNoLine}
 use Rattle.kd_state.specs.SheetDay.{IsDayNumber}
@@ -29,13 +29,10 @@ use Rattle.kd_card.specs.CardFault.{with_line, sum_line, IsNumberText, IsSignedT
 use Rattle.kd_card.specs.Reading.{BeginsWithHead, BeginsWithTooMany, BeginsWithSettings, BeginsWithPrices}
 use Rattle.kd_card.specs.Laws.{TextsTellCards, NoCardBeginsAnother, CardsHaveNoFault, OneCardFault}
 use Rattle.kd_card.proofs.Lines.{text_of_more, two_lines, no_first_part, same_first_part, unbroken_by_test, unbroken_number, unbroken_signed}
-use Rattle.kd_card.proofs.PriceTexts.{small}
-use Rattle.kd_card.proofs.PriceLines.{all_price_texts}
-use Rattle.kd_card.proofs.Cards.{goes_to_prices}
-use Rattle.kd_card.proofs.CardWords.{head_is_words, settings_is_words, sum_is_words, row_is_word, column_is_word, prices_are_words, number_text, signed_text, price_sum_is_small}
-use Rattle.kd_card.proofs.KindWords.{kind_is_words}
-use Rattle.kd_card.proofs.KindWords.{same_kind as known_kind}
-use Rattle.kd_card.proofs.KindParts.{AreGroups, HasNoNext, cable_groups, bar_groups, other_name, lines_of_kinds, text_of_more_kinds, same_kind_parts}
+use Rattle.kd_card.proofs.PriceTexts.{small, all_price_texts}
+use Rattle.kd_card.proofs.CardWords.{goes_to_prices, head_is_words, settings_is_words, sum_is_words, row_is_word, column_is_word, prices_are_words, number_text, signed_text, price_sum_is_small}
+use Rattle.kd_card.proofs.KindWords.{kind_is_words, same_kind as known_kind}
+use Rattle.kd_card.proofs.KindPrices.{AreGroups, HasNoNext, cable_groups, bar_groups, other_name, lines_of_kinds, text_of_more_kinds, same_kind_parts}
 
 -- what is known of lines and settings
 pub record Known : Type 0 where
@@ -177,36 +174,28 @@ same_price p q a b e = signed_decimal_injective p q (small p a) (small q b) e
 same_prices : (ps qs : List ℤ) → AllByRecursion (λ p. unsigned_abs p ≤ 9999) ps → AllByRecursion (λ p. unsigned_abs p ≤ 9999) qs
     → map signed_decimal ps ≡ map signed_decimal qs → ps ≡ qs
 same_prices [] [] a b e = refl
-same_prices [] (q ∷ qs) a b e = absurd (omega (arith, ap length e))
-same_prices (p ∷ ps) [] a b e = absurd (omega (arith, ap length e))
 same_prices (p ∷ ps) (q ∷ qs) a b e =
     let first : p ≡ q = same_price p q a.0 b.0 (cc) in
     let tails : map signed_decimal ps ≡ map signed_decimal qs = cc in
     let others : ps ≡ qs = same_prices ps qs a.1 b.1 tails in
     cc
+same_prices ps qs a b e = absurd (omega (arith, ap length e))
 
 same_kind : (kind other : Group) → row_word kind ≡ row_word other → kind ≡ other
 same_kind OfCables OfCables e = refl
 same_kind OfBars OfBars e = refl
-same_kind OfCables OfBars e = absurd (omega (arith, ap (λ t. get_or t 0 0) e))
-same_kind OfBars OfCables e = absurd (omega (arith, ap (λ t. get_or t 0 0) e))
+same_kind kind other e = absurd (omega (arith, ap (λ t. get_or t 0 0) e))
 
 same_parts : (prices others : PriceParts) → version_of prices ≡ ByNumber → version_of others ≡ ByNumber → group_of prices ≡ group_of others
     → row_prices prices ≡ row_prices others → column_prices prices ≡ column_prices others → prices ≡ others
 same_parts (Cables a b) (Cables c d) by also group rows columns = cc
 same_parts (Bars a b) (Bars c d) by also group rows columns = cc
-same_parts (Cables a b) (Bars c d) by also group rows columns = cc
-same_parts (Bars a b) (Cables c d) by also group rows columns = cc
-same_parts (CableKinds a b) others by also group rows columns = cc
-same_parts (BarKinds a b) others by also group rows columns = cc
-same_parts prices (CableKinds c d) by also group rows columns = cc
-same_parts prices (BarKinds c d) by also group rows columns = cc
+same_parts prices others by also group rows columns = cc
 
 known_version : (version other : Version) → version_text version ≡ version_text other → version ≡ other
 known_version ByNumber ByNumber e = refl
 known_version ByKind ByKind e = refl
-known_version ByNumber ByKind e = absurd (omega (arith, ap (λ t. get_or t 0 0) e))
-known_version ByKind ByNumber e = absurd (omega (arith, ap (λ t. get_or t 0 0) e))
+known_version version other e = absurd (omega (arith, ap (λ t. get_or t 0 0) e))
 
 known_head : (version by : Version) (day other : ℕ) → day ≤ 31 → other ≤ 31 → head_words version day ≡ head_words by other
     → (version ≡ by) × (day ≡ other)
@@ -221,13 +210,7 @@ first_and_third words = get_or (get_or words 0 []) 0 0 * 256 + get_or (get_or wo
 
 no_setting : (x : Setting) → first_and_third (setting_words x) ≢ 21332
 no_setting (Pull c l) e = omega (arith, e)
-no_setting (Put c l) e = omega (arith, e)
-no_setting (Seat s w) e = omega (arith, e)
-no_setting (SeatReflector r) e = omega (arith, e)
-no_setting (RingTo w l) e = omega (arith, e)
-no_setting (Turn s l) e = omega (arith, e)
-no_setting (PinTo w l p) e = omega (arith, e)
-no_setting (LugTo b l p) e = omega (arith, e)
+no_setting x e = omega (arith, e)
 
 -- how many prices are due behind a word
 abbrev IsOneNumber : (List ℕ → ℕ → Type 0) → Type 0
@@ -584,8 +567,7 @@ module _ (k : Known) where
   known_group : (group other : Group) → name_text (row_name group) ≡ name_text (row_name other) → group ≡ other
   known_group OfCables OfCables e = refl
   known_group OfBars OfBars e = refl
-  known_group OfCables OfBars e = absurd (omega (arith, ap (λ t. get_or t 0 0) e))
-  known_group OfBars OfCables e = absurd (omega (arith, ap (λ t. get_or t 0 0) e))
+  known_group group other e = absurd (omega (arith, ap (λ t. get_or t 0 0) e))
 
   one_lack : (line : ℕ) (bytes : List ℕ) (fault other : CardFault) → LacksGroup line bytes fault → LacksGroup line bytes other → fault ≡ other
   one_lack line bytes fault other (NoGroup none is) (NoGroup nor also) = is ∙ sym also
@@ -755,9 +737,7 @@ module _ (k : Known) where
   sum_ends : (prices : PriceParts) (sum : ℤ) (rest : List ℕ) → unsigned_abs sum < 2 ^ 64 → EndsPrices prices (with_line (sum_words sum) rest)
   sum_ends (Cables row col) sum rest near = tt
   sum_ends (Bars row col) sum rest near = tt
-  sum_ends (CableKinds row col) sum rest near =
-      AtOther (codes "SUM") (sum_begins sum rest near) (λ e. omega (arith, ap (λ t. get_or t 0 0) e))
-  sum_ends (BarKinds row col) sum rest near =
+  sum_ends prices sum rest near =
       AtOther (codes "SUM") (sum_begins sum rest near) (λ e. omega (arith, ap (λ t. get_or t 0 0) e))
 
   to_end : (bytes text rest : List ℕ) (day : ℕ) (xs : List Setting) (prices : PriceParts) → bytes ≡ text ++ rest → IsCard text day xs prices

@@ -1,6 +1,6 @@
 -- On a machine that reads as the day the cables can be paired with the day's pairs and nothings, and the bars with its rows,
 -- each with one that costs nothing.
-use Rattle.std.proofs.Common.{◌≡◌, ◌≢◌, ℕ, zero, suc, ◌+◌, ◌-◌, ◌<◌, ◌≤◌, ◌==◌, nat_eq, nat_lt, Bool, true, false, not, ◌||◌, cond, ◌⊎◌, inl, inr, List, [], ◌∷◌, ◌++◌, length, get_or, map, zip, replicate, Contains, IsPermutation, count_by, remove, Option, Some, None, ℤ, refl, sym, ap, ◌∙◌, subst, arith}
+use Rattle.std.proofs.Common.{◌≡◌, ◌≢◌, ℕ, zero, suc, ◌+◌, ◌-◌, ◌<◌, ◌≤◌, ◌==◌, nat_eq, nat_lt, Bool, true, not, ◌||◌, cond, ◌⊎◌, inl, inr, List, [], ◌∷◌, ◌++◌, length, get_or, map, zip, replicate, Contains, IsPermutation, count_by, remove, Option, Some, None, ℤ, refl, sym, ap, ◌∙◌, subst, arith}
 use Rattle.std.specs.List.{AllByRecursion, AllZip, flat_map, list_all}
 use Rattle.std.specs.List as lists
 use Rattle.std.proofs.lemmas.Bool.{false≢true, eq-eqb, lt-ltb}
@@ -20,19 +20,21 @@ use Rattle.kd_state.specs.OnKey.{SameLetters, IsPaired, IsJoined, AreThePairs}
 use Rattle.kd_state.specs.Costs.{differ, cable_cost, standings_as, bar_cost, columns_of}
 use Rattle.kd_card.proofs.Duality.{pairing_cost, reordered}
 use Rattle.kd_card.proofs.Counts.{count_by-cons, times, times-append, AreOnce}
-use Rattle.kd_card.proofs.Told.{Told}
-use Rattle.kd_card.proofs.Kept.{CablesAreOnce, HasCables, HasBars, Stands}
+use Rattle.kd_card.proofs.Falling.{CablesAreOnce, HasCables, HasBars, Stands, not_differing}
+use Rattle.kd_state.specs.Laws.{DaysWheelsHaveTheirPlaces, TestsTellLetters, ThirteenColumns}
+
+-- What the laws of kd_state say, as far as the proofs of this crate need it.
+pub record Told : Type 0 where
+  pub places : DaysWheelsHaveTheirPlaces
+  pub letters : TestsTellLetters
+  pub thirteen : ThirteenColumns
 
 -- a cable with the letters of its column costs nothing
 none_differ : (xs ys : List ℕ) → ((letter : ℕ) → has_letter xs letter ≡ has_letter ys letter) → (letters : List ℕ) → count_by (λ letter. differ (has_letter xs letter) (has_letter ys letter)) letters ≡ 0
 none_differ xs ys same [] = refl
 none_differ xs ys same (letter ∷ letters) =
     count_by-cons (λ letter. differ (has_letter xs letter) (has_letter ys letter)) letter letters
-    ∙ rw (same letter, unlike (has_letter ys letter), none_differ xs ys same letters) refl
-  where
-    unlike : (b : Bool) → differ b b ≡ false
-    unlike true = refl
-    unlike false = refl
+    ∙ rw (same letter, not_differing (has_letter ys letter), none_differ xs ys same letters) refl
 
 abbrev CostsNothing : Option ℕ × Option ℕ → Option (ℕ × ℕ) → Type 0
 CostsNothing cable column = cable_cost cable column ≡ 0
@@ -147,17 +149,15 @@ module _ (cables rest : List (Option ℕ × Option ℕ)) (cable : Option ℕ × 
 -- without pairs all cables are empty
 empty_costs_nothing : (cable : Option ℕ × Option ℕ) → (cable_letters cable ≢ [] → ⊥) → CostsNothing cable None
 empty_costs_nothing (None, None) h = none_differ [] [] (λ letter. refl) alphabet
-empty_costs_nothing (None, Some b) h = absurd (h (λ e. cc))
 empty_costs_nothing (Some a, None) h = absurd (h (λ e. cc))
-empty_costs_nothing (Some a, Some b) h = absurd (h (λ e. cc))
+empty_costs_nothing cable h = absurd (h (λ e. cc))
 
 all_empty : (cables : List (Option ℕ × Option ℕ)) (number : ℕ) → length cables ≡ number → ((cable : Option ℕ × Option ℕ) → Contains cables cable → cable_letters cable ≢ [] → ⊥)
     → AllZip CostsNothing cables (replicate number None)
 all_empty [] zero e h = tt
 all_empty (cable ∷ cables) (suc number) e h =
     (empty_costs_nothing cable (h cable (zero, omega arith, refl)), all_empty cables number (omega arith) (λ other among. h other (in_rest cable other cables among)))
-all_empty [] (suc number) e h = absurd (omega arith)
-all_empty (cable ∷ cables) zero e h = absurd (omega arith)
+all_empty cables number e h = absurd (omega arith)
 
 -- the cables in an order in which each costs nothing at its column
 pub matched : Told → (cables : List (Option ℕ × Option ℕ)) (pairs : List (ℕ × ℕ)) (nothings : ℕ) → length cables ≡ length pairs + nothings → AreMatched cables pairs
@@ -183,17 +183,15 @@ pub record FreePairing {A B : Type 0} (cost : A → B → ℕ) (rows : List A) (
 
 module _ {A B : Type 0} (cost : A → B → ℕ) where
   free_of_all : (rows : List A) (ws : List (B × ℤ)) → AllZip (λ row w. cost row w.0 ≡ 0) rows ws → pairing_cost cost rows ws ≡ 0
-  free_of_all [] ws h = refl
-  free_of_all (row ∷ rows) [] h = refl
   free_of_all (row ∷ rows) (w ∷ ws) h = omega (arith, h.0, free_of_all rows ws h.1)
+  free_of_all rows ws h = refl
 
 with_prices : {A B : Type 0} (R : A → B → Type 0) (xs : List A) (columns : List B) (prices : List ℤ) → length columns ≡ length prices → AllZip R xs columns
     → AllZip (λ x (w : B × ℤ). R x w.0) xs (zip columns prices)
 with_prices R [] [] prices e h = tt
 with_prices R (x ∷ xs) (column ∷ columns) (price ∷ prices) e h = (h.0, with_prices R xs columns prices (omega arith) h.1)
 with_prices R (x ∷ xs) (column ∷ columns) [] e h = absurd (omega arith)
-with_prices R [] (column ∷ columns) prices e h = absurd h
-with_prices R (x ∷ xs) [] prices e h = absurd h
+with_prices R xs columns prices e h = absurd h
 
 matched_of_pairs : (cables : List (Option ℕ × Option ℕ)) (pairs : List (ℕ × ℕ)) → CablesAreOnce cables → AreOnce (letters_plugged pairs) → AreThePairs cables pairs → AreMatched cables pairs
 matched_of_pairs cables pairs once pairs_once h =
@@ -256,8 +254,7 @@ free_rows : (bars : List (Place × Place)) (ws : List ((ℕ × ℕ) × ℤ)) →
     → AllZip (λ bar (w : (ℕ × ℕ) × ℤ). bar_cost bar w.0 ≡ 0) bars ws
 free_rows [] [] stand h = tt
 free_rows (bar ∷ bars) (w ∷ ws) stand h = (subst (λ row. bar_cost bar row ≡ 0) h.0 (own_row bar.0 bar.1 stand.0), free_rows bars ws stand.1 h.1)
-free_rows [] (w ∷ ws) stand h = absurd h
-free_rows (bar ∷ bars) [] stand h = absurd h
+free_rows bars ws stand h = absurd h
 
 pub bars_paired : (bars : List (Place × Place)) (rows : List (ℕ × ℕ)) (prices : List ℤ) → HasBars bars → length rows ≡ length prices → IsPermutation (map (λ bar. reading_of bar.0 bar.1) bars) rows
     → FreePairing bar_cost bars rows prices

@@ -3,7 +3,7 @@ use Rattle.std.proofs.lemmas.Bool.{false≢true}
 use Rattle.std.proofs.lemmas.Bool.Decides.{Decides-eqb}
 use Rattle.std.proofs.lemmas.Slice.Eq.{slice_eq-Decides}
 use Rattle.kd_card.specs.CardFault.{OtherGroup}
-use Rattle.kd_card.proofs.KindReading.{begins, no_group}
+use Rattle.kd_card.proofs.KindWords.{begins, no_group}
 use Rattle.kd_card.proofs.kind_text.first_group.Goals as goal
 
 pub returns-else-eq-2 : goal.returns-else-eq-2

@@ -1,7 +1,7 @@
 use Rattle.std.proofs.Common.{◌∙◌, ap, map, subst, MatchOption, length, Bor, List, ℕ, ◌≡◌, arith}
 use Rattle.kd_card.specs.declared.kinds.PricedKind.{PricedKind}
 use Rattle.kd_card.specs.Kinds.{HasKindWords}
-use Rattle.kd_card.proofs.KindReading.{four_words}
+use Rattle.kd_card.proofs.KindWords.{four_words}
 use Rattle.kd_card.proofs.kind_text.kind_of_line.Goals as goal
 
 pub returns-in-len4 : goal.returns-in-len4

@@ -1,5 +1,5 @@
 use Rattle.std.proofs.Common.{[]}
-use Rattle.kd_card.proofs.KindReading.{no_count}
+use Rattle.kd_card.proofs.KindWords.{no_count}
 use Rattle.kd_card.proofs.kind_text.kind_of_parts.Goals as goal
 
 pub returns-then-count-eq0 : goal.returns-then-count-eq0

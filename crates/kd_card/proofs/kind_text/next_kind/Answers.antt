@@ -1,30 +1,19 @@
-use Rattle.std.proofs.Common.{◌≡◌, ◌∙◌, sym, refl, ap, subst, not, Bool, true, false, eqb, arith}
+use Rattle.std.proofs.Common.{◌≡◌, ◌∙◌, sym, refl, ap, subst, not, eqb, arith}
 use lib.Pointwise.{pointwise}
-use Rattle.std.proofs.lemmas.Bool.{false≢true}
+use Rattle.std.proofs.lemmas.Bool.{false≢true, not-false}
 use Rattle.std.proofs.lemmas.Bool.Decides.{Decides-eqb}
 use Rattle.std.proofs.lemmas.Slice.Eq.{slice_eq-Decides}
 use Rattle.kd_card.specs.Kinds.{name_text}
 use Rattle.kd_card.specs.CardFault.{BeginsWithWord, AtOther, NoKind}
-use Rattle.kd_card.proofs.KindReading.{Laws, begins, next_is, none_next, low_next}
+use Rattle.kd_card.proofs.KindWords.{Laws, begins, none_next, low_next}
 use Rattle.kd_card.proofs.kind_text.next_kind.Goals as goal
 use Rattle.kd_card.proofs.kind_text.next_kind.Goals.{in_default-kind_of_line-via-in-Some-kind_of_line+else-floor-rank, in_default-kind_of_line-via-in_default-kind_of_line}
-
-not_false : (b : Bool) → not b ≡ false → b ≡ true
-not_false true e = refl
-not_false false e = absurd (false≢true (sym e))
 
 pub returns-then-ne : goal.returns-then-ne
 returns-then-ne c =
     let same = slice_eq-Decides Decides-eqb c.first_word.result.now c.as_bytes.result.now (pointwise eqb c.first_word.result.now c.as_bytes.result.now) refl in
     AtOther c.first_word.result.now (begins c.args.text.now c.in-Some.words.now c.in-Some.rest.now c.first_word.result.now c.in-Some.ensures c.first_word.ensures)
     (λ e. false≢true (sym (c.ne.ensures ∙ ap not (same.1 (e ∙ sym c.text.ensures ∙ sym c.as_bytes.ensures.value))) ∙ c.if-ne.true))
-
-pub returns-in-Some-kind_of_line : goal.returns-in-Some-kind_of_line
-returns-in-Some-kind_of_line c =
-    let ranked = c.rank.ensures.value in
-    let above = c.if-floor-rank.true in
-    next_is c.args.name c.args.floor c.args.text.now c.in-Some.words.now c.in-Some.rest.now c.in-Some-kind_of_line.kind c.in-Some.ensures
-    c.in-Some-kind_of_line.ensures (omega (arith, ranked, above))
 
 pub returns-in_default-kind_of_line : goal.returns-in_default-kind_of_line
 returns-in_default-kind_of_line c =
@@ -36,7 +25,8 @@ returns-in_default-kind_of_line c =
     } in
     let same = slice_eq-Decides Decides-eqb c.first_word.result.now c.as_bytes.result.now (pointwise eqb c.first_word.result.now c.as_bytes.result.now) refl in
     let word : c.first_word.result.now ≡ name_text c.args.name =
-    same.0 (not_false (pointwise eqb c.first_word.result.now c.as_bytes.result.now) (sym c.ne.ensures ∙ c.if-ne.false)) ∙ c.as_bytes.ensures.value ∙ c.text.ensures in
+    same.0 (not-false (pointwise eqb c.first_word.result.now c.as_bytes.result.now)
+    (sym c.ne.ensures ∙ c.if-ne.false)) ∙ c.as_bytes.ensures.value ∙ c.text.ensures in
     NoKind
     (subst (λ w. BeginsWithWord w c.args.text.now) word
     (begins c.args.text.now c.in-Some.words.now c.in-Some.rest.now c.first_word.result.now c.in-Some.ensures c.first_word.ensures))

@@ -1,15 +1,12 @@
-use Rattle.std.proofs.Common.{◌∙◌, ◌≡◌, ap, refl, w16, to_z, of_z}
-use Rattle.std.specs.Fmt.{signed_decimal}
-use Rattle.std.proofs.lemmas.Int.{to_z-of_z}
+use Rattle.std.proofs.Common.{◌∙◌, ap, refl}
 use Rattle.kd_card.specs.Kinds.{name_text}
-use Rattle.kd_card.proofs.KindReading.{written_kind}
-use Rattle.kd_card.proofs.PriceTexts.{fits}
+use Rattle.kd_card.proofs.KindWords.{written_kind}
+use Rattle.kd_card.proofs.PriceTexts.{written_price}
 use Rattle.kd_card.proofs.kind_text.push_kind.Goals as goal
 
 pub returns-clause-bytes : goal.returns-clause-bytes
 returns-clause-bytes g c =
-    let price : c.format.result.now ≡ signed_decimal (to_z w16 (of_z w16 c.args.kind.now.price)) = c.format.ensures.text in
     written_kind c.args.kind.now c.args.text.now.bytes _ _ _ _ _ _ _ _ _ _ _ _ c.push_str.ensures.bytes c.push_str-2.ensures.bytes c.push_str-3.ensures.bytes
     c.push_str-4.ensures.bytes c.push_number.ensures.bytes c.push_str-5.ensures.bytes c.push_str-6.ensures.bytes c.push_str-7.ensures.bytes
     (c.text.ensures ∙ ap name_text c.name.ensures) (c.as_str.ensures.value ∙ c.text-2.ensures) refl
-    (price ∙ ap signed_decimal (to_z-of_z w16 c.args.kind.now.price (fits c.args.kind.now.price c.requires.kind.reach)))
+    (written_price _ c.args.kind.now.price c.format.ensures.text c.requires.kind.reach)

@@ -1,15 +1,6 @@
-use Rattle.std.proofs.Common.{◌<◌, [], length, ap, refl, arith}
+use Rattle.std.proofs.Common.{◌<◌, length, ap, arith}
 use Rattle.kd_card.proofs.KindLists.{some_told, none_told, reads_on, walk_bounds, all_kept, bad_kind, bad_count}
 use Rattle.kd_card.proofs.kind_text.read_kinds.Goals as goal
-
-pub kind-init : goal.kind-init
-kind-init c = record {
-  all = [];
-  begins = record { lines = refl; called = tt; in_order = tt };
-  walked = record { in_order = tt; floor_is = refl; total_is = refl };
-  at_is = omega arith;
-  kept_is = c.new-kinds.ensures;
-}
 
 pub returns-in-Err : goal.returns-in-Err
 returns-in-Err c = bad_kind c.args.name c.args.line c.args.number c.args.text.now c.kind.rest.now c.kind.floor c.kind.total c.kind.at c.kind.kinds.items c.in-Err.fault c.kind.invariant c.in-Err.ensures

@@ -1,10 +1,7 @@
-use Rattle.std.proofs.Common.{◌∙◌, sym, refl, arith}
+use Rattle.std.proofs.Common.{◌∙◌, sym, arith}
 use Rattle.std.proofs.lemmas.Bool.{false≢true}
 use Rattle.kd_card.proofs.KindLists.{walks_on, walk_bounds, stumbles}
 use Rattle.kd_card.proofs.kinds.are_kinds.Goals as goal
-
-pub loop-kind-init : goal.loop-kind-init
-loop-kind-init c = record { in_order = tt; floor_is = refl; total_is = refl }
 
 pub returns-then-not-may_follow : goal.returns-then-not-may_follow
 returns-then-not-may_follow c = (

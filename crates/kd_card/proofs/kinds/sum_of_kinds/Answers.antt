@@ -4,7 +4,9 @@ use Rattle.kd_card.proofs.KindLists.{good_at, sums_on}
 use Rattle.kd_card.proofs.kinds.sum_of_kinds.Goals as goal
 
 pub price_of_all-total-requires : goal.price_of_all-total-requires
-price_of_all-total-requires c = (good_at c.args.kinds.now c.loop-kind.kind-index c.kind-item.result (omega arith) c.kind-item.is c.requires.kinds).reach
+price_of_all-total-requires c =
+    (good_at c.args.kinds.now c.loop-kind.kind-index c.kind-item.result
+    (omega arith) c.kind-item.is c.requires.kinds).0.reach
 
 pub overflow_add-total : goal.overflow_add-total
 overflow_add-total c =

@@ -1,4 +1,4 @@
-use Rattle.kd_card.proofs.Tight.{proving_prices_are_tight}
+use Rattle.kd_card.proofs.Shortest.{proving_prices_are_tight}
 use Rattle.kd_card.proofs.laws.proving_prices_are_tight.Goals as goal
 
 pub returns : goal.returns

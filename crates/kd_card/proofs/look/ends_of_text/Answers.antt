@@ -1,5 +1,5 @@
 use Rattle.std.proofs.Common.{arith}
-use Rattle.kd_card.proofs.KindReading.{no_ends}
+use Rattle.kd_card.proofs.KindWords.{no_ends}
 use Rattle.kd_card.proofs.look.ends_of_text.Goals as goal
 
 pub returns-in_err-one-in-len2 : goal.returns-in_err-one-in-len2

@@ -1,5 +1,5 @@
 use Rattle.std.proofs.Common.{arith}
-use Rattle.kd_card.proofs.KindReading.{no_pair}
+use Rattle.kd_card.proofs.KindWords.{no_pair}
 use Rattle.kd_card.proofs.look.pair_of_text.Goals as goal
 
 pub returns-in_err-two_letters-in-len2 : goal.returns-in_err-two_letters-in-len2

@@ -1,5 +1,5 @@
 use Rattle.std.proofs.lemmas.Bool.{false≢true}
-use Rattle.kd_card.proofs.PriceLines.{bad_words, other_count}
+use Rattle.kd_card.proofs.PriceTexts.{bad_words, other_count}
 use Rattle.kd_card.proofs.price_text.prices_of_text.Goals as goal
 
 pub returns-in_default-prices_of_words-clause-value : goal.returns-in_default-prices_of_words-clause-value

@@ -3,7 +3,7 @@ use Rattle.std.proofs.lemmas.Bool.{false≢true}
 use Rattle.std.proofs.lemmas.Int.{to_z-of_z}
 use Rattle.std.proofs.lemmas.Result.{err_from_is_err_and}
 use Rattle.kd_card.specs.CardFault.{AtHead}
-use Rattle.kd_card.proofs.Cards.{to_number, to_prices, too_many, other_number, no_prices, other_sum, more, no_more, nothing}
+use Rattle.kd_card.proofs.CardWords.{to_number, to_prices, too_many, other_number, no_prices, other_sum, more, no_more, nothing}
 use Rattle.kd_card.proofs.read.read_card.Goals as goal
 
 pub returns-in_default : goal.returns-in_default

@@ -1,9 +1,7 @@
-use Rattle.std.proofs.Common.{◌+◌, ap, sym, refl, subst, arith}
+use Rattle.std.proofs.Common.{◌+◌, ap, refl, arith}
 use Rattle.std.proofs.lemmas.Result.{err_from_is_err_and}
-use Rattle.kd_card.specs.CardText.{IsGroup}
 use Rattle.kd_card.specs.Reading.{InGroup, InRowKinds, InColumnKinds}
-use Rattle.kd_card.proofs.KindPrices.{few_kinds}
-use Rattle.kd_card.proofs.KindParts.{all_groups, begins_as, kinds_as, fault_as, group_as, few_prices_of}
+use Rattle.kd_card.proofs.KindPrices.{few_kinds, all_groups, begins_as, kinds_as, fault_as, few_prices_of}
 use Rattle.kd_card.proofs.read.read_kinded.Goals as goal
 
 pub returns-in_err-group : goal.returns-in_err-group
@@ -30,16 +28,6 @@ read_kinds-requires-2-clause-near c =
     let begins = begins_as _ _ _ _ _ _ _ c.row_name.ensures c.number-number.ensures c.in_ok-rows.ensures in
     let count = begins.count in
     omega (arith, near, count, few_kinds 0 c.in_ok-rows.rows.items begins.begins.in_order, few_prices_of c.in_ok-group.group, c.len.ensures.value)
-
-pub of_groups-requires-clause-rows : goal.of_groups-requires-clause-rows
-of_groups-requires-clause-rows c =
-    subst (IsGroup _ _) (sym c.as_slice.ensures.value)
-    (group_as _ _ _ _ _ (begins_as _ _ _ _ _ _ _ c.row_name.ensures c.number-number.ensures c.in_ok-rows.ensures))
-
-pub of_groups-requires-clause-columns : goal.of_groups-requires-clause-columns
-of_groups-requires-clause-columns c =
-    subst (IsGroup _ _) (sym c.as_slice-2.ensures.value)
-    (group_as _ _ _ _ _ (begins_as _ _ _ _ _ _ _ c.column_name.ensures c.number-number.ensures c.in_ok-columns.ensures))
 
 pub returns : goal.returns
 returns c =

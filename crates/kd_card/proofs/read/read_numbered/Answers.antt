@@ -3,7 +3,7 @@ use Rattle.std.proofs.lemmas.Bool.{false≢true}
 use Rattle.std.proofs.lemmas.Result.{err_from_is_err_and}
 use Rattle.kd_card.specs.declared.group.Group.TheVariants.{OfCables, OfBars}
 use Rattle.kd_card.specs.Reading.{InRows, InColumns}
-use Rattle.kd_card.proofs.PriceLines.{rows_fault}
+use Rattle.kd_card.proofs.PriceTexts.{rows_fault}
 use Rattle.kd_card.proofs.read.read_numbered.Goals as goal
 
 pub returns-in_err-bars : goal.returns-in_err-bars

@@ -2,7 +2,7 @@ use Rattle.std.proofs.Common.{◌∙◌, sym}
 use Rattle.std.proofs.lemmas.Bool.{false≢true}
 use Rattle.std.proofs.lemmas.Bool.Decides.{Decides-eqb}
 use Rattle.std.proofs.lemmas.Slice.Eq.{slice_eq-Decides}
-use Rattle.kd_card.proofs.PriceLines.{word_alone, other_word, other_prices, read_line}
+use Rattle.kd_card.proofs.PriceTexts.{word_alone, other_word, other_prices, read_line}
 use Rattle.kd_card.proofs.read.read_price_line.Goals as goal
 
 pub returns-in_default-split_once : goal.returns-in_default-split_once

@@ -3,7 +3,7 @@ use Rattle.kd_card.specs.declared.prices.Version.TheVariants.{ByKind}
 use Rattle.kd_card.specs.Kinds.{IsPricedKind}
 use Rattle.kd_card.specs.Prices.{version_of, row_kinds, column_kinds, ArePrices}
 use Rattle.kd_card.proofs.KindLists.{all_kinds}
-use Rattle.kd_card.proofs.KindParts.{pushed}
+use Rattle.kd_card.proofs.KindPrices.{pushed}
 use Rattle.kd_card.proofs.write.push_prices.Goals as goal
 
 pub push_kinds-requires : goal.push_kinds-requires

@@ -1,20 +1,13 @@
-use Rattle.std.proofs.Common.{rules, ◌∙◌, ◌≤◌, ap, sym, subst, FitsSigned, w32, arith}
+use Rattle.std.proofs.Common.{rules, ◌∙◌, ◌≤◌, ap, FitsSigned, w32, arith}
 use Rattle.std.proofs.lemmas.Int.{to_z-of_z}
-use Rattle.kd_card.specs.Kinds.{counted, AreKinds}
+use Rattle.kd_card.specs.Kinds.{counted}
 use Rattle.kd_card.proofs.CardWords.{few_prices}
-use Rattle.kd_card.proofs.KindPrices.{row_count, column_count}
-use Rattle.kd_card.proofs.KindParts.{sum_is}
+use Rattle.kd_card.proofs.KindPrices.{row_count, column_count, sum_is}
 use Rattle.kd_card.proofs.prices.PriceParts.sum_by_kind.Goals as goal
-
-pub sum_of_kinds-rows-requires-clause-kinds : goal.sum_of_kinds-rows-requires-clause-kinds
-sum_of_kinds-rows-requires-clause-kinds c = subst (AreKinds 0) (sym (c.as_slice.ensures.value ∙ c.row_kinds.ensures)) c.requires.prices.row_kinds
 
 pub sum_of_kinds-rows-requires-clause-few : goal.sum_of_kinds-rows-requires-clause-few
 sum_of_kinds-rows-requires-clause-few c =
     omega (arith, ap counted (c.as_slice.ensures.value ∙ c.row_kinds.ensures), row_count c.args.self.now c.requires.kinds c.requires.prices, few_prices c.args.self.now)
-
-pub sum_of_kinds-requires-clause-kinds : goal.sum_of_kinds-requires-clause-kinds
-sum_of_kinds-requires-clause-kinds c = subst (AreKinds 0) (sym (c.as_slice-2.ensures.value ∙ c.column_kinds.ensures)) c.requires.prices.column_kinds
 
 pub sum_of_kinds-requires-clause-few : goal.sum_of_kinds-requires-clause-few
 sum_of_kinds-requires-clause-few c =
