@@ -28,7 +28,6 @@ use Rattle.kd_state.specs.Machine.{model_of, ring_at, letter_at}
 use Rattle.kd_state.specs.Setting.{why_refused, cable_at, cable_without, cable_with, seated_in, without, with_letter, with_lug_at, changed}
 use Rattle.kd_state.specs.SheetDay.{RotorDay, PinDay, Day, OfRotors, OfPins, seats, IsLegalDay, day_model}
 use Rattle.kd_state.specs.OnKey.{ReadsAs}
-use Rattle.kd_state.proofs.Slots.{set_other}
 use Rattle.kd_state.specs.Laws.{DaysWheelsHaveTheirPlaces}
 use Rattle.kd_state.specs.Costs.{differ, unless_same, loose_slots, loose_reflector, loose_rings, loose_letters, loose_pins, loose_pin_letters, loose_count}
 use Rattle.kd_card.specs.Proving.{is_priced}
@@ -44,6 +43,11 @@ zip_set_lowers p (x ∷ xs) (y ∷ ys) (suc i) v =
 zip_set_lowers p xs ys i v = omega arith
 
 -- Letters of which one is set: of things at different places at most one is right then that was not.
+set_other : {X : Type 0} (xs : List X) (place at : ℕ) (x : X) → at ≢ place → slice_get (set xs place x) at ≡ slice_get xs at
+set_other (first ∷ xs) zero zero x h = absurd (h refl)
+set_other (first ∷ xs) (suc place) (suc at) x h = set_other xs place at x (λ e. h (ap suc e))
+set_other xs place at x h = refl
+
 module _ {X : Type 0} (place target : X → ℕ) where
   abbrev wrong : List ℕ → X → Bool
   wrong letters x = not (option_map_or (nat_eq (target x)) (slice_get letters (place x)) false)
