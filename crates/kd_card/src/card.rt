@@ -1,10 +1,9 @@
 use super::prices::Prices;
-use arrayvec::ArrayVec;
-use kd_state::Setting;
+use kd_state::Settings;
 
 /// A card: the settings in their order, and the prices that prove them fewest.
 #[derive(Debug, Drop)]
 pub struct Card {
-    pub settings: ArrayVec<Setting, 192>,
+    pub settings: Settings,
     pub prices: Prices,
 }

@@ -19,7 +19,7 @@ use super::prices::{PriceParts, Prices, Version};
 use arrayvec::ArrayVec;
 use itoa::Buffer;
 use kd_state::laws::{numbers_and_letters_are_words, texts_tell_first_parts};
-use kd_state::{Setting, number_of_text, split_once, split_setting};
+use kd_state::{Settings, number_of_text, split_once, split_setting};
 
 /// The card whose text this is, and its day.
 pub fn read_card(text: &[u8]) -> Result<(u8, Card), CardFault>
@@ -99,7 +99,7 @@ fn head_front(version: Version) -> &'static [u8]
 
 /// The settings whose lines stand at the front of the text, up to the first line that is none, and what follows them;
 /// none where there are more than 192.
-fn read_settings(text: &[u8]) -> Option<(ArrayVec<Setting, 192>, &[u8])>
+fn read_settings(text: &[u8]) -> Option<(Settings, &[u8])>
     ensures { MatchOption result
         (BeginsWithTooMany text.now)
         (λ found. BeginsWithSettings text.now found.0.items found.1.now) }

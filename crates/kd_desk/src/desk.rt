@@ -43,7 +43,8 @@ pub fn run_desk<'n, S: AsStr, F: Files<'n>, R: Source, W: Sink>(
     requires { F.asked files.old ≡ [] }
     ensures carried { (command : _) → Says (map S.text words.entry.now) command
         → IfSome (F.known files.old) (λ held. CarriesOut (command_over held command)
-        (port R.remaining R.has_failed source.old source.new) (port W.taken W.has_failed sink.old sink.new) result) }
+        (port R.remaining R.has_failed source.old source.new)
+        (port W.taken W.has_failed sink.old sink.new) result) }
     ensures asked { (command : _) → Says (map S.text words.entry.now) command
         → AskFor (files_of command) (F.asked files.old) (F.asked files.new) (has_read result) }
     ensures usage { result ≡ Err Stop.Usage → SaysNothing (map S.text words.entry.now) }

@@ -3,16 +3,15 @@ ghost use Rattle.std.specs.Prelude.{MatchResult};
 ghost use Rattle.kd_desk.specs.Settings.{AreSettings, IsSettingsFault};
 
 use crate::fault::DeskFault;
-use arrayvec::ArrayVec;
 use kd_card::{Card, read_card};
-use kd_state::{Setting, read_list};
+use kd_state::{Settings, read_list};
 
 /// How a card begins.
 const CARD: &[u8] = b"CARD ";
 
 /// The settings that the bytes say: those of a card, where they begin as one, whatever its day and its prices; else those
 /// of a list, a line for each.
-pub fn read_settings(bytes: &[u8]) -> Result<ArrayVec<Setting, 192>, DeskFault>
+pub fn read_settings(bytes: &[u8]) -> Result<Settings, DeskFault>
     ensures { MatchResult result
         (λ settings. AreSettings bytes.now settings.items)
         (IsSettingsFault bytes.now) }

@@ -21,7 +21,19 @@ impl<const S: usize> std::marker::Model for EnigmaKey<S> {
 
     ghost Value = { RotorKey };
 
-    ghost view = { λ k. record { wheels = k.wheels; rings = k.rings; window = k.window; reflector = k.reflector; plugs = k.plugs } };
+    ghost view = { λ k. record {
+      wheels = k.wheels;
+      rings = k.rings;
+      window = k.window;
+      reflector = k.reflector;
+      plugs = k.plugs;
+    } };
 
-    ghost inverse = { λ k. record { wheels = k.wheels; rings = k.rings; window = k.window; reflector = k.reflector; plugs = k.plugs } };
+    ghost inverse = { λ k. record {
+      wheels = k.wheels;
+      rings = k.rings;
+      window = k.window;
+      reflector = k.reflector;
+      plugs = k.plugs;
+    } };
 }

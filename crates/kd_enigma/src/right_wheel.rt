@@ -27,9 +27,16 @@ impl Model for RightWheel {
 
     ghost view = { λ r. record { wheel = r.wheel; ring = r.ring; plugs = r.plugs } };
 
-    ghost invariant = { λ r. (r.inward ≡ board_inward r.plugs r.wheel r.ring) × (r.outward ≡ board_outward r.plugs r.wheel r.ring) };
+    ghost invariant = { λ r. (r.inward ≡ board_inward r.plugs r.wheel r.ring)
+        × (r.outward ≡ board_outward r.plugs r.wheel r.ring) };
 
-    ghost inverse = { λ s. record { wheel = s.wheel; ring = s.ring; plugs = s.plugs; inward = board_inward s.plugs s.wheel s.ring; outward = board_outward s.plugs s.wheel s.ring } };
+    ghost inverse = { λ s. record {
+      wheel = s.wheel;
+      ring = s.ring;
+      plugs = s.plugs;
+      inward = board_inward s.plugs s.wheel s.ring;
+      outward = board_outward s.plugs s.wheel s.ring;
+    } };
 }
 
 impl RightWheel {

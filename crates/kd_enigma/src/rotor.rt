@@ -26,9 +26,15 @@ impl Model for Rotor {
 
     ghost view = { λ r. record { wheel = r.wheel; ring = r.ring } };
 
-    ghost invariant = { λ r. (r.inward ≡ inward_of r.wheel r.ring) × (r.outward ≡ outward_of r.wheel r.ring) };
+    ghost invariant = { λ r. (r.inward ≡ inward_of r.wheel r.ring)
+        × (r.outward ≡ outward_of r.wheel r.ring) };
 
-    ghost inverse = { λ s. record { wheel = s.wheel; ring = s.ring; inward = inward_of s.wheel s.ring; outward = outward_of s.wheel s.ring } };
+    ghost inverse = { λ s. record {
+      wheel = s.wheel;
+      ring = s.ring;
+      inward = inward_of s.wheel s.ring;
+      outward = outward_of s.wheel s.ring;
+    } };
 }
 
 impl Rotor {

@@ -28,7 +28,13 @@ impl<const N: usize> Model for PinWheel<N> {
 
     ghost view = { λ w. record { ring = w.ring; offset = w.offset; pins = w.pins; place = w.place } };
 
-    ghost invariant = { λ w. IsWheel N (record { ring = w.ring; offset = w.offset; pins = w.pins; place = w.place }) × (N ≤ 26) };
+    ghost invariant = { λ w. IsWheel N (record {
+      ring = w.ring;
+      offset = w.offset;
+      pins = w.pins;
+      place = w.place;
+    })
+        × (N ≤ 26) };
 
     ghost inverse = { λ w. record { ring = w.ring; offset = w.offset; pins = w.pins; place = w.place } };
 }

@@ -4,8 +4,8 @@ ghost use Rattle.arrayvec.specs.ArrayVec.{array_vec_len};
 ghost use Rattle.kd_state.specs.Setting.{is_at};
 ghost use Rattle.kd_plan.specs.Planned.{unless_so, lugs_to, lug_lines};
 
-use super::lines::{Settings, push_line};
-use kd_state::{Setting, nearest_standing};
+use super::lines::push_line;
+use kd_state::{Setting, Settings, nearest_standing};
 use kd_tables::{Lug, Place, Reading, Standing};
 
 /// Appends LUG for each lug that has to move, so that each bar reads as the row that it is paired with.

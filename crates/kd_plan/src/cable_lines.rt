@@ -7,8 +7,8 @@ ghost use Rattle.kd_state.specs.Costs.{column_letters};
 ghost use Rattle.kd_plan.specs.Planned.{unless_so};
 ghost use Rattle.kd_plan.specs.CableWork.{is_moved, work_setting, cable_work, work_lines};
 
-use super::lines::{Settings, push_line};
-use kd_state::{Setting, column_at};
+use super::lines::push_line;
+use kd_state::{Setting, Settings, column_at};
 use kd_tables::Letter;
 
 /// The letters in a cable: none, one or two.

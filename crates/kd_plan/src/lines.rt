@@ -3,11 +3,7 @@ ghost use Rattle.std.specs.Prelude.{◌≡◌, ◌+◌, ◌≤◌, ◌++◌, len
 ghost use Rattle.std.specs.Option.{option_to_list};
 ghost use Rattle.arrayvec.specs.ArrayVec.{array_vec_len};
 
-use arrayvec::ArrayVec;
-use kd_state::Setting;
-
-/// The settings of a card.
-pub(crate) type Settings = ArrayVec<Setting, 192>;
+use kd_state::{Setting, Settings};
 
 /// Appends a line, if there is one.
 pub(crate) fn push_line(settings: &mut Settings, line: Option<Setting>)

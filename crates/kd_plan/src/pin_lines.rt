@@ -4,9 +4,9 @@ ghost use Rattle.arrayvec.specs.ArrayVec.{array_vec_len};
 ghost use Rattle.kd_state.specs.Costs.{differ};
 ghost use Rattle.kd_plan.specs.Planned.{unless_so, wheel_pin_lines, pin_lines, pin_turn_lines};
 
-use super::lines::{Settings, push_line};
+use super::lines::push_line;
 use kd_pins::PinSet;
-use kd_state::Setting;
+use kd_state::{Setting, Settings};
 use kd_tables::{Letter, Ring, ring1, ring2, ring3, ring4, ring5, ring6};
 
 /// Appends PIN for each pin that isn't as the day has it, wheel by wheel.

@@ -8,7 +8,6 @@ use super::bar_lines::push_lugs;
 use super::cable_lines::{Work, push_cables};
 use super::card_prices::{bar_prices, cable_prices};
 use super::laws::planned_cards_prove_themselves;
-use super::lines::Settings;
 use super::other_model::OtherModel;
 use super::pin_lines::{push_pin_turns, push_pins};
 use super::rotor_lines::{push_reflector, push_rings, push_seats, push_turns};
@@ -17,8 +16,8 @@ use kd_assign::{Solution, assign};
 use kd_card::Card;
 use kd_card::laws::proving_cards_are_shortest;
 use kd_state::{
-    Machine, OneModel, Parts, PinEntry, PinParts, RotorEntry, RotorParts, SheetDay, bar_costs,
-    cable_costs,
+    Machine, OneModel, Parts, PinEntry, PinParts, RotorEntry, RotorParts, Settings, SheetDay,
+    bar_costs, cable_costs,
 };
 
 /// The card that leads the machine to the day by the fewest settings. Which of several shortest ones it is isn't promised,

@@ -7,8 +7,8 @@ ghost use Rattle.kd_state.specs.Box.{same_wheel, same_reflector};
 ghost use Rattle.kd_state.specs.Machine.{ring_in, letter_in};
 ghost use Rattle.kd_plan.specs.Planned.{unless_so, seat_lines, reflector_lines, ring_lines, turn_lines};
 
-use super::lines::{Settings, push_line};
-use kd_state::{Machine, RotorParts, Setting, SheetWheel};
+use super::lines::push_line;
+use kd_state::{Machine, RotorParts, Setting, Settings, SheetWheel};
 use kd_tables::{Reflector, Wheel};
 
 /// Appends SEAT for each slot that doesn't hold the day's wheel.

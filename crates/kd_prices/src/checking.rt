@@ -88,7 +88,8 @@ fn are_of_kind(machine: &Machine, prices: &Prices) -> bool
 fn too_high(machine: &Machine, day: &SheetDay, prices: &Prices) -> Option<Cell>
     requires { AreNumbered machine.now day.now prices.now }
     ensures { let costs = cost_table machine.now day.now in
-        MatchOption result (Fits costs prices.now) (λ cell. IsFirstTooHigh costs prices.now cell.row cell.column) }
+        MatchOption result (Fits costs prices.now)
+        (λ cell. IsFirstTooHigh costs prices.now cell.row cell.column) }
 {
     let _model = day.model();
     match (machine.parts(), prices.parts()) {

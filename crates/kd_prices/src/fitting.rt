@@ -33,7 +33,7 @@ fn first_column_too_high(costs: &[u8], price: i16, columns: &[i16]) -> Option<us
     requires { length costs.now ≡ length columns.now }
     ensures { MatchOption result
         ((j : ℕ) → j < length columns.now → IsWithin costs.now price columns.now j)
-        (λ column. IsFirstPlaceWithout (IsWithin costs.now price columns.now) (length columns.now) column) }
+        (IsFirstPlaceWithout (IsWithin costs.now price columns.now) (length columns.now)) }
 {
     for (column, other) in columns.iter().enumerate() {
         if !is_at_most(price, *other, costs[column]) {

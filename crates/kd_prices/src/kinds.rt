@@ -14,7 +14,7 @@ use arrayvec::ArrayVec;
 use kd_card::laws::ranks_tell_looks;
 use kd_card::{Card, Group, Look, PriceParts, PricedKind, Prices};
 use kd_state::laws::columns_are_the_pairs;
-use kd_state::{Machine, OneModel, Setting, SheetDay};
+use kd_state::{Machine, OneModel, Settings, SheetDay};
 
 /// All ranks of looks are below this.
 const RANKS: usize = 703;
@@ -33,7 +33,7 @@ pub fn by_kind(machine: &Machine, day: &SheetDay, card: &Card) -> Option<Card>
 }
 
 /// The same settings once more.
-fn copied(settings: &ArrayVec<Setting, 192>) -> ArrayVec<Setting, 192>
+fn copied(settings: &Settings) -> Settings
     ensures { result.items ≡ settings.now.items }
 {
     ArrayVec::try_from(settings.as_slice()).unwrap()

@@ -120,7 +120,8 @@ fn loose_in_pins(parts: &PinParts, entry: &PinEntry) -> usize
 
 /// How many pins differ.
 fn loose_pins(pins: &PinSet, others: &PinSet) -> usize
-    ensures value { result ≡ sum (map (λ wheel. count_by (λ pin. differ pin.0 pin.1) (zip wheel.0 wheel.1))
+    ensures value { result ≡ sum (map
+        (λ wheel. count_by (λ pin. differ pin.0 pin.1) (zip wheel.0 wheel.1))
         (zip (pins_of pins.now) (pins_of others.now))) }
     ensures few { result ≤ 131 }
 {

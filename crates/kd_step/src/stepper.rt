@@ -23,7 +23,8 @@ impl<const S: usize> Model for Stepper<S> {
 
     ghost view = { λ s. record { wheels = s.wheels; window = s.window } };
 
-    ghost invariant = { λ s. (3 ≤ S) × (S ≤ 4) × TellsNotches s.wheels 1 s.middle × TellsNotches s.wheels 0 s.right };
+    ghost invariant = { λ s. (3 ≤ S) × (S ≤ 4)
+        × TellsNotches s.wheels 1 s.middle × TellsNotches s.wheels 0 s.right };
 }
 
 impl<const S: usize> Stepper<S> {

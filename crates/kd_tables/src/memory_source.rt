@@ -21,7 +21,12 @@ impl<'a> Model for MemorySource<'a> {
 
     ghost Value = { MemoryBytes };
 
-    ghost view = { λ s. record { rest = s.rest.now; piece = s.piece; gets_left = s.gets_left; failed = s.failed } };
+    ghost view = { λ s. record {
+      rest = s.rest.now;
+      piece = s.piece;
+      gets_left = s.gets_left;
+      failed = s.failed;
+    } };
 
     ghost invariant = { λ s. 1 ≤ s.piece };
 }
@@ -31,7 +36,12 @@ impl<'a> MemorySource<'a> {
     /// number `fail_at` on. Gets are counted from 0.
     pub fn new(bytes: &'a [u8], piece: usize, fail_at: Option<usize>) -> Self
         requires { 1 ≤ piece }
-        ensures { result ≡ record { rest = bytes.now; piece = piece; gets_left = fail_at; failed = false } }
+        ensures { result ≡ record {
+          rest = bytes.now;
+          piece = piece;
+          gets_left = fail_at;
+          failed = false;
+        } }
     {
         MemorySource {
             rest: bytes,

@@ -195,7 +195,9 @@ static CABLE_LINES: [Case; 21] = [
 ];
 
 /// Lines of kinds that aren't due, in a card of bars.
-static BAR_LINES: [Case; 8] = [
+static BAR_LINES: [Case; 10] = [
+    ("BAR 0L-3 1 1", "BAR 0L-3 1 +1", CardFault::BadLine(4)),
+    ("BAR 0L-3 1 1", "BAR 0L-3 1 01", CardFault::BadLine(4)),
     (
         "BAR 0L-3 1 1\nBAR 0L-0R 25 0",
         "BAR 0L-0R 25 0\nBAR 0L-3 1 1",

@@ -34,6 +34,20 @@ ROW 3-6 1 0
 SUM 1
 ";
 
+/// A line more than is needed, and prices with the right sum that pretend it isn't.
+const TWO_LUGS: &str = "CARD 2 DAY 9
+LUG 2 R 6
+LUG 2 L 3
+SETTINGS 2
+BAR 0L-3 1 0
+BAR 0L-0R 25 0
+BAR 3-0R 1 2
+ROW 0-0 25 0
+ROW 0-3 1 0
+ROW 3-6 1 0
+SUM 2
+";
+
 /// Two cables change places.
 const TWO_CABLES: &str = "CARD 2 DAY 8
 PULL 1 A
@@ -50,6 +64,34 @@ PAIR - 11 0
 SUM 4
 ";
 
+/// The same with its first two lines exchanged.
+const TWO_CABLES_IN_TURN: &str = "CARD 2 DAY 8
+PULL 2 C
+PULL 1 A
+PUT 1 C
+PUT 2 E
+SETTINGS 4
+CABLE AB 1 2
+CABLE CD 1 2
+CABLE - 11 0
+PAIR BC 1 0
+PAIR DE 1 0
+PAIR - 11 0
+SUM 4
+";
+
+/// No line, and prices that say none is needed.
+const NO_LINE: &str = "CARD 2 DAY 8
+SETTINGS 0
+CABLE AB 1 0
+CABLE CD 1 0
+CABLE - 11 0
+PAIR BC 1 0
+PAIR DE 1 0
+PAIR - 11 0
+SUM 0
+";
+
 static TWO_BARS: [(Place, Place); 2] = [
     (Place::Three, Place::ZeroRight),
     (Place::ZeroLeft, Place::Three),
@@ -57,12 +99,32 @@ static TWO_BARS: [(Place, Place); 2] = [
 
 static TWO_ROWS: [(u8, u8); 2] = [(0, 3), (3, 6)];
 
-/// The check says that of the card's text.
-fn is_said(rt: &impl Abort, machine: &Machine, day: &SheetDay, text: &str, due: Result<(), Doubt>) {
-    if let Ok((_, card)) = read_card(text.as_bytes()) {
-        assert!(rt; check(machine, day, &card) == due);
-    } else {
-        assert!(rt; false);
+/// Texts of cards for the Converter on which the first two bars differ, and what the check says of them.
+static LUGS: [(&str, Result<(), Doubt>); 4] = [
+    (ONE_LUG, Ok(())),
+    (OTHER_BAR, Err(Doubt::PriceMissing)),
+    (TWO_LUGS, Err(Doubt::PriceTooHigh(1, 1))),
+    (TWO_CABLES, Err(Doubt::OtherModel)),
+];
+
+/// Texts of cards for the Enigma on which two cables do, and what the check says of them.
+static CABLES: [(&str, Result<(), Doubt>); 4] = [
+    (TWO_CABLES, Ok(())),
+    (TWO_CABLES_IN_TURN, Ok(())),
+    (NO_LINE, Err(Doubt::NotTheSheet)),
+    (ONE_LUG, Err(Doubt::OtherModel)),
+];
+
+/// The check says that of each text.
+fn are_said(
+    rt: &impl Abort,
+    machine: &Machine,
+    day: &SheetDay,
+    cases: &[(&str, Result<(), Doubt>)],
+) {
+    for (text, due) in cases {
+        let said = read_card(text.as_bytes()).map(|(_, card)| check(machine, day, &card));
+        assert!(rt; said == Ok(*due), "{text}");
     }
 }
 
@@ -70,9 +132,10 @@ fn is_said(rt: &impl Abort, machine: &Machine, day: &SheetDay, text: &str, due: 
 fn cards_by_kind_are_checked(rt: HostRuntime) {
     let machine = converter(&rt, &TWO_BARS);
     let day = converter_day(&rt, &TWO_ROWS);
-    is_said(&rt, &machine, &day, ONE_LUG, Ok(()));
-    is_said(&rt, &machine, &day, OTHER_BAR, Err(Doubt::PriceMissing));
-    is_said(&rt, &machine, &day, TWO_CABLES, Err(Doubt::OtherModel));
+    are_said(&rt, &machine, &day, &LUGS);
+    let machine = enigma(&rt, &[*b"AB", *b"CD"]);
+    let day = enigma_day(&rt, &[*b"BC", *b"DE"]);
+    are_said(&rt, &machine, &day, &CABLES);
 }
 
 #[test]

@@ -6,6 +6,9 @@ use crate::words::split_once;
 use arrayvec::ArrayVec;
 use thiserror::Error;
 
+/// The settings of a list or of a card, in their order: at most 192.
+pub type Settings = ArrayVec<Setting, 192>;
+
 /// Why bytes are no list of settings.
 #[derive(Clone, Copy, Debug, PartialEq, Eq, Error)]
 pub enum ListFault {
@@ -18,7 +21,7 @@ pub enum ListFault {
 }
 
 /// The list of settings whose text this is: a line for each, with LF at its end, and at most 192 of them.
-pub fn read_list(text: &[u8]) -> Result<ArrayVec<Setting, 192>, ListFault>
+pub fn read_list(text: &[u8]) -> Result<Settings, ListFault>
     ensures { MatchResult result
         (λ settings. IsList text.now settings.items)
         (IsListFault text.now) }
