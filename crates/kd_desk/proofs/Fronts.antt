@@ -7,9 +7,6 @@ use Rattle.kd_state.specs.TwoCiphers.{EngineKey}
 use Rattle.kd_desk.specs.Typing.{AreAllowedBytes, Lights, TypesFront, IsFirstRefused}
 use Rattle.kd_desk.specs.TypingSteps.{IsAllowedFront}
 
-pub TypesFront-nil : (key : EngineKey) → TypesFront key [] []
-TypesFront-nil key = record { front = []; of_read = refl; allowed = All-nil (λ (byte : ℕ). IsTrue (is_text_byte byte)); written = refl }
-
 -- a front of the lamps of so many bytes
 pub TypesFront-take : (key left : EngineKey) (bytes lamps text : List ℕ) (n : ℕ) → IsAllowedFront bytes n
     → Lights key left (take n bytes) lamps → StartsWith lamps text → TypesFront key bytes text

@@ -24,18 +24,6 @@ Known = Option (List ℕ → Option (List ℕ))
 
 -- ---- the names that are asked for
 
-pub asks_for_none : (old : List (List ℕ)) (all : Bool) → AskFor [] old old all
-asks_for_none old all = record { number = 0; asked = sym (append-nil old); whole = λ _. sym (append-nil old) }
-
-pub asks_yet : (names old : List (List ℕ)) → AskFor names old old false
-asks_yet names old = record { number = 0; asked = sym (append-nil old); whole = λ none. absurd (false≢true none) }
-
-pub asks_for_first : (name : List ℕ) (names old new : List (List ℕ)) → new ≡ old ++ name ∷ [] → AskFor (name ∷ names) old new false
-asks_for_first name names old new is = record { number = 1; asked = is; whole = λ none. absurd (false≢true none) }
-
-pub asks_for_it : (name : List ℕ) (old new : List (List ℕ)) (all : Bool) → new ≡ old ++ name ∷ [] → AskFor (name ∷ []) old new all
-asks_for_it name old new all is = record { number = 1; asked = is; whole = λ _. is }
-
 pub asks_on : (name : List ℕ) (names old new newer : List (List ℕ)) (all : Bool) → new ≡ old ++ name ∷ [] → AskFor names new newer all
     → AskFor (name ∷ names) old newer all
 asks_on name names old new newer all is more =
@@ -53,16 +41,6 @@ asks_no_more names old new all (Err fault) failed asks = record { number = asks.
 
 pub asked_all : (names old new : List (List ℕ)) (all : Bool) → AskFor names old new true → AskFor names old new all
 asked_all names old new all asks = record { number = asks.number; asked = asks.asked; whole = λ _. asks.whole refl }
-
-read_or_refused : {fault : DeskFault} → ReadFailed ≡ Refused fault → ⊥
-read_or_refused e = cc
-
--- words that say nothing ask for nothing
-pub unsaid : (stop : Stop) → (stop ≢ Usage → stop ≡ Refused (File NoMemory)) → has_read (Err stop) ≡ false
-unsaid Usage is = refl
-unsaid (Unread fault) is = refl
-unsaid ReadFailed is = absurd (read_or_refused (is (λ usage. cc)))
-unsaid (Refused fault) is = ap (λ s. has_read (Err s)) (is (λ usage. cc))
 
 -- ---- what the words say
 

@@ -171,5 +171,3 @@ pub no_day_of_message : (way : Way) (rows : List Row) → ((sheet : List ℕ) (d
 no_day_of_message way rows = no_day (way_name way) rows (ap is_dated (way_kind way))
 
 -- a name of no command
-pub no_kind : (name : List ℕ) (rows : List Row) → kind_by name ≡ None → (action : NamedAction) → IsActionOf (name, rows) action → ⊥
-no_kind name rows none action is = none_or_some _ (kind_of action) none (kind_said (name, rows) action is)

@@ -197,11 +197,6 @@ IsTyped-end_failed key end source took taken wrote d e f typed well failed up =
     }
 
 -- what ends a text comes only behind a whole one
-pub IsTyped-unended : (key : EngineKey) (end : List ℕ) (source sink : Port) (fault : TextFault) → IsTyped key [] source sink (Err fault) → IsTyped key end source sink (Err fault)
-IsTyped-unended key end source sink texts.Device typed = record { read = typed.read; text = typed.text; given = typed.given; written = typed.written; types = typed.types; ended = tt }
-IsTyped-unended key end source sink (texts.BadByte place) typed = record { read = typed.read; text = typed.text; given = typed.given; written = typed.written; types = typed.types; ended = tt }
-IsTyped-unended key end source sink texts.ReadTooLong typed = record { read = typed.read; text = typed.text; given = typed.given; written = typed.written; types = typed.types; ended = tt }
-
 -- the error that `?` makes
 pub IsTyped-answered : (key : EngineKey) (end : List ℕ) (source sink : Port) (answer : Result (Unit {0}) TextFault) (fault : TextFault)
     → IsErrAnd answer (λ made. made ≡ fault) → IsTyped key end source sink (Err fault) → IsTyped key end source sink answer
