@@ -169,5 +169,3 @@ no_day_of_check rows = no_day (codes "check") rows refl
 pub no_day_of_message : (way : Way) (rows : List Row) → ((sheet : List ℕ) (day : ℕ) → ¬ (HaveDay rows sheet day))
     → (action : NamedAction) → IsActionOf (way_name way, rows) action → ⊥
 no_day_of_message way rows = no_day (way_name way) rows (ap is_dated (way_kind way))
-
--- a name of no command

@@ -196,7 +196,6 @@ IsTyped-end_failed key end source took taken wrote d e f typed well failed up =
       ended = tt;
     }
 
--- what ends a text comes only behind a whole one
 -- the error that `?` makes
 pub IsTyped-answered : (key : EngineKey) (end : List ℕ) (source sink : Port) (answer : Result (Unit {0}) TextFault) (fault : TextFault)
     → IsErrAnd answer (λ made. made ≡ fault) → IsTyped key end source sink (Err fault) → IsTyped key end source sink answer
