@@ -1,13 +1,13 @@
-use Rattle.std.proofs.Common.{◌∙◌, sym, ap, refl, arith}
+use Rattle.std.proofs.Common.{◌∙◌, sym, ap, refl, arith, length}
+use Rattle.std.proofs.lemmas.List.{take_rest}
 use Rattle.kd_form.specs.Patterns.{fits}
-use Rattle.kd_form.proofs.Lines.{filling_more, letter_room, line_open, line_off, line_read, line_broken, read_inside, read_at, whole_tail}
+use Rattle.kd_form.proofs.Lines.{filling_more, letter_room, line_open, line_off, line_read, line_broken, read_inside, read_at}
 use Rattle.kd_form.proofs.pattern_line.read_pattern.Goals as goal
 
 pub take_letter-requires : goal.take_letter-requires
 take_letter-requires c =
     λ blank.
-    letter_room c.args.pattern.now c.args.bytes.now c.loop-place.letters.items c.loop-place.place _ c.loop-place.invariant c.loop-place-test.true refl
-    c.requires blank
+    letter_room c.args.pattern.now c.args.bytes.now c.loop-place.letters.items c.loop-place.place c.loop-place.invariant c.loop-place-test.true c.requires blank
 
 pub returns-in_default : goal.returns-in_default
 returns-in_default c =
@@ -30,9 +30,9 @@ loop-place-preserved c =
 pub returns-in-Ok : goal.returns-in-Ok
 returns-in-Ok c =
     line_read c.args.pattern.now c.args.bytes.now c.loop-place.letters.items _ c.loop-place.place c.loop-place.invariant (omega arith)
-    (whole_tail c.args.pattern.now c.args.bytes.now) c.in-Ok.ensures
+    (take_rest c.args.bytes.now (length c.args.pattern.now)) c.in-Ok.ensures
 
 pub returns-in-Err : goal.returns-in-Err
 returns-in-Err c =
     line_broken c.args.pattern.now c.args.bytes.now c.loop-place.letters.items _ c.loop-place.place c.loop-place.invariant (omega arith)
-    (whole_tail c.args.pattern.now c.args.bytes.now) c.in-Err.why c.in-Err.ensures
+    (take_rest c.args.bytes.now (length c.args.pattern.now)) c.in-Err.why c.in-Err.ensures
