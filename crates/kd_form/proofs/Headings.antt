@@ -234,8 +234,16 @@ end_size : (s : Day) (found : Option ℕ) (count : ℕ) (i : Option Indicator) �
 end_size s found count None has few is = omega arith
 end_size (OfPins s) found count (Some i) has few is = absurd is
 end_size (OfRotors s) found count (Some i) has few is =
-    omega (arith, length-append (decimal count) (32 ∷ (letters_text i.start ++ 32 ∷ letters_text i.key)), length-append (letters_text i.start) (32 ∷ letters_text i.key),
-    length-map i.start (λ l. l + 65), length-map i.key (λ l. l + 65), is.0.count, is.1.count, slots_are s found has)
+    omega (
+      arith,
+      length-append (decimal count) (32 ∷ (letters_text i.start ++ 32 ∷ letters_text i.key)),
+      length-append (letters_text i.start) (32 ∷ letters_text i.key),
+      length-map i.start (λ l. l + 65),
+      length-map i.key (λ l. l + 65),
+      is.0.count,
+      is.1.count,
+      slots_are s found has,
+    )
 
 heading_length : (s : Day) (found : Option ℕ) (h : Heading) → MatchOption found (HasPins s) (HasSlots s) → IsHeading s h
     → length (line_of (heading_words h)) ≤ 50
@@ -245,9 +253,13 @@ heading_length s found h has is =
     let few : length (decimal h.letters) ≤ 3 = length-decimal-le 3 h.letters (omega arith) (omega arith) small.letters in
     let one : length (decimal h.part) ≤ 2 = length-decimal-le 2 h.part (omega arith) (omega (arith, is.number.in_order, is.number.few)) small.part in
     let all : length (decimal h.parts) ≤ 2 = length-decimal-le 2 h.parts (omega arith) (omega (arith, is.number.few)) small.parts in
-    omega (arith, length-append (fraction h.part h.parts) (32 ∷ line_of (decimal h.letters ∷ indicator_words h.indicator)),
-    length-append (decimal h.part ++ codes "/") (decimal h.parts), length-append (decimal h.part) (codes "/"),
-    end_size s found h.letters h.indicator has few is.indicator)
+    omega (
+      arith,
+      length-append (fraction h.part h.parts) (32 ∷ line_of (decimal h.letters ∷ indicator_words h.indicator)),
+      length-append (decimal h.part ++ codes "/") (decimal h.parts),
+      length-append (decimal h.part) (codes "/"),
+      end_size s found h.letters h.indicator has few is.indicator,
+    )
 
 short_part : (part line : List ℕ) → line ≡ take 64 part → length part < 64 → line ≡ part
 short_part part line kept short = kept ∙ take_all 64 part (omega arith)
@@ -284,7 +296,7 @@ ended_text words line text free (inr long) cut =
 pub ended_told : (s : Day) (found : Option ℕ) (part line text : List ℕ) (answer : Option Heading) → TextsTellFirstParts
     → MatchOption found (HasPins s) (HasSlots s) → IsLineText line text → IsTold s answer text → IsWithout 10 part → line ≡ take 64 part
     → MatchOption answer ((h : Heading) (body : List ℕ) → ¬ (HasHeading s (part ++ 10 ∷ []) h body))
-      (λ h. IsHeading s h × IsEnded (line_of (heading_words h)) (part ++ 10 ∷ []))
+    (λ h. IsHeading s h × IsEnded (line_of (heading_words h)) (part ++ 10 ∷ []))
 ended_told s found part line text None tell has cut told unbroken kept = λ h body there.
     let words : List ℕ = line_of (heading_words h) in
     let ended = (heading_there s part [] h body tell unbroken there).0 in

@@ -145,8 +145,13 @@ line_open pattern bytes letters place filling past =
       record {
         letters = letters ++ others;
         are_letters = record {
-          count = omega (arith, length-append letters others, length-replicate {A = ℕ} (blanks rest) 0, filling.counted,
-              sym (blanks-append (take place pattern) rest) ∙ ap blanks whole);
+          count = omega (
+            arith,
+            length-append letters others,
+            length-replicate {A = ℕ} (blanks rest) 0,
+            filling.counted,
+            sym (blanks-append (take place pattern) rest) ∙ ap blanks whole,
+          );
           within = All-append (λ l. l < 26) letters others filling.within (All-replicate (λ l. l < 26) (blanks rest) 0 (omega arith));
         };
         ended = inl (sym (append_assoc bytes (filled_in rest others) (10 ∷ [])) ∙ ap (λ t. t ++ 10 ∷ []) (sym line));
@@ -256,8 +261,12 @@ key_line _ _ are = absurd are
 
 rotor_blanks : (slots : ℕ) → blanks (rotor_pattern slots) ≡ slots + (slots + (2 + 3))
 rotor_blanks slots =
-    omega (arith, blanks-append (places_for slots) (32 ∷ (places_for slots ++ 32 ∷ (places_for 2 ++ 32 ∷ places_for 3))), blanks-places slots,
-    blanks-append (places_for slots) (32 ∷ (places_for 2 ++ 32 ∷ places_for 3)))
+    omega (
+      arith,
+      blanks-append (places_for slots) (32 ∷ (places_for slots ++ 32 ∷ (places_for 2 ++ 32 ∷ places_for 3))),
+      blanks-places slots,
+      blanks-append (places_for slots) (32 ∷ (places_for 2 ++ 32 ∷ places_for 3)),
+    )
 
 letters_joined : {m n : ℕ} {one other : List ℕ} → AreLetters m one → AreLetters n other → AreLetters (m + n) (one ++ other)
 letters_joined {one = one} {other = other} a b = record {

@@ -143,10 +143,20 @@ module _ (s : Day) (tell : TextsTellFirstParts) (numbers : NumbersAreWords) wher
       inr ((h, body), has, inl (λ both. elim other [ inl part ↦ part both.0 | inr parts ↦ parts both.1 ], ap Err is))
   part_fault (inl (InBody h body place has numbered due bad is)) = inr ((h, body), has, inr ((numbered, due), inl (place, bad, ap Err is)))
   part_fault (inr a) =
-      inr ((a.heading, a.body), a.has, inr ((a.numbered, a.due), inr (a.allowed, elim a.found [
-        | InCount other is ↦ inl (other, ap Err is)
-        | InLetters counted is ↦ inr (counted, is)
-      ])))
+      inr (
+        (a.heading, a.body),
+        a.has,
+        inr (
+          (a.numbered, a.due),
+          inr (
+            a.allowed,
+            elim a.found [
+              | InCount other is ↦ inl (other, ap Err is)
+              | InLetters counted is ↦ inr (counted, is)
+            ],
+          ),
+        ),
+      )
 
   part_read : {number parts : ℕ} {part text : List ℕ} → (expected : Option ℕ) (start : ℕ) → IsPartRead s number parts part text → IsExpected expected parts
       → IsPartAnswer number expected start part (Ok text)
@@ -293,7 +303,7 @@ unheaded s form fault numbers none is =
       left = inl refl;
       first = cut.first;
     }) (inl (InHeading (λ h body has. none [] (subst BeginsHeading (sym cut.first.joined ∙ sym (append-nil form))
-        (begins_more cut.part cut.rest (begins_there s cut.part h body numbers has)))) is))
+    (begins_more cut.part cut.rest (begins_there s cut.part h body numbers has)))) is))
 
 fault_of : (s : Day) (form : List ℕ) (fault : FormFault) → NumbersAreWords → IsReceiveFault s form fault → IsFault s form fault
 fault_of s form fault numbers (text, inl (NoHeading none empty is)) = unheaded s form fault numbers none is
