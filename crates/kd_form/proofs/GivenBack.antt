@@ -20,7 +20,7 @@ use Rattle.kd_form.specs.Part.{Part, part_text, pieces, body_text}
 use Rattle.kd_form.specs.Reading.{IsLettersText}
 use Rattle.kd_form.specs.Receiving.{IsPartRead}
 use Rattle.kd_form.specs.Sending.{letter_of_byte, letters_from, text_letters, parts_needed, AreMadeTexts}
-use Rattle.kd_form.proofs.PartTexts.{by_pieces, letters_of_body, body_is_allowed, part_has_heading, part_begins_heading, part_is_first}
+use Rattle.kd_form.proofs.PartTexts.{by_pieces, gives_body, part_has_heading, part_begins_heading, part_is_first}
 use Rattle.kd_form.proofs.MadeParts.{more_pieces, pieces-next, pieces-none, IsPiece, GivesBack, part_gives_back}
 use Rattle.kd_form.proofs.OneOrder.{one_order}
 use Rattle.kd_form.proofs.OrderSteps.{size_some}
@@ -110,16 +110,16 @@ are_pieces s =
 part_is_read : (s : Day) (part parts : ℕ) (text : List ℕ) (made : Part) → GivesBack s part parts text made
     → IsPartRead s part parts (part_text made) text
 part_is_read s part parts text made back =
-    let letters : letters_from None (body_text made.body) ≡ made.body = letters_of_body made.body back.within in
+    let given = gives_body made.body back.within in
     record {
       heading = made.heading;
       body = body_text made.body;
       has = part_has_heading s made back.is_heading;
       numbered = back.numbered;
       so_many = back.so_many;
-      allowed = body_is_allowed made.body back.within;
-      counted = ap length letters ∙ back.counted;
-      read = subst (λ ls. IsLettersText s made.heading.indicator ls text) (sym letters) back.read;
+      allowed = given.allowed;
+      counted = ap length given.gives ∙ back.counted;
+      read = subst (λ ls. IsLettersText s made.heading.indicator ls text) (sym given.gives) back.read;
     }
 
 -- the form is nothing but parts, which are read as the letters of the pieces
