@@ -1,12 +1,11 @@
 -- The form that an order becomes gives the order's letters back.
-use Rattle.std.proofs.Common.{◌≡◌, ◌≢◌, ℕ, ◌+◌, ◌-◌, ◌%◌, ◌<◌, ◌≤◌, ◌⊎◌, inl, inr, Bool, true, false, List, [], ◌∷◌, ◌++◌, length, take, drop, replicate, refl, sym, ap, subst, ◌∙◌, append_assoc, length-append, arith}
-use Rattle.std.specs.Prelude.{All, Option, Some, None, IfSome, if◌then◌else◌, ◌==◌}
+use Rattle.std.proofs.Common.{◌≡◌, ◌≢◌, ℕ, ◌+◌, ◌-◌, ◌%◌, ◌<◌, ◌≤◌, ◌⊎◌, inl, inr, List, [], ◌∷◌, ◌++◌, length, take, drop, replicate, refl, sym, ap, subst, ◌∙◌, append_assoc, length-append, arith}
+use Rattle.std.specs.Prelude.{All, Option, Some, None, IfSome}
 use Rattle.std.specs.List.{flat_map, cons_option}
 use Rattle.std.proofs.lemmas.Bool.{cases_lt}
 use Rattle.std.proofs.lemmas.Bool.Decides.{nat_tests}
 use Rattle.std.proofs.lemmas.List.{append-nil, take_all, drop_all, length-take, length-take-le, take-append-drop}
 use Rattle.std.proofs.lemmas.List.Elements.{All-nil, All-cons, All-head, All-tail, All-take, All-drop}
-use Rattle.kd_tables.specs.Text.{is_capital}
 use Rattle.kd_state.specs.Laws.{TheDayDeciphersItself}
 use Rattle.kd_state.specs.SheetDay.{Day, OfRotors, OfPins, IsLegalDay}
 use Rattle.kd_state.specs.Words.{TextsTellFirstParts}
@@ -27,14 +26,9 @@ use Rattle.kd_form.proofs.OrderSteps.{size_some}
 
 -- ---- the letters of a text are letters of the alphabet
 
-choice_within : (capital space : Bool) (blank : Option ℕ) (byte : ℕ) → (capital ≡ true → byte ≤ 90) → IfSome blank (λ letter. letter < 26)
-    → IfSome (if capital then Some (byte - 65) else if space then blank else None) (λ letter. letter < 26)
-choice_within true space blank byte last less = omega (arith, last refl)
-choice_within false true blank byte last less = less
-choice_within false false blank byte last less = tt
-
-capital_last : (byte : ℕ) → is_capital byte ≡ true → byte ≤ 90
-capital_last byte capital = grind (arith, nat_tests)
+letter_within : (blank : Option ℕ) (byte : ℕ) → IfSome blank (λ letter. letter < 26) → IfSome (letter_of_byte blank byte) (λ letter. letter < 26)
+letter_within None byte less = grind (arith, nat_tests)
+letter_within (Some letter) byte less = grind (arith, nat_tests)
 
 found_within : (found : Option ℕ) (letters : List ℕ) → IfSome found (λ letter. letter < 26) → All (λ letter. letter < 26) letters
     → All (λ letter. letter < 26) (cons_option found letters)
@@ -44,8 +38,7 @@ found_within (Some letter) letters less within = All-cons (λ l. l < 26) letter 
 letters_within : (blank : Option ℕ) (text : List ℕ) → IfSome blank (λ letter. letter < 26) → All (λ letter. letter < 26) (letters_from blank text)
 letters_within blank [] less = All-nil (λ letter. letter < 26)
 letters_within blank (byte ∷ text) less =
-    found_within (letter_of_byte blank byte) (letters_from blank text)
-    (choice_within (is_capital byte) (byte == 32) blank byte (capital_last byte) less) (letters_within blank text less)
+    found_within (letter_of_byte blank byte) (letters_from blank text) (letter_within blank byte less) (letters_within blank text less)
 
 text_letters_within : (s : Day) (text : List ℕ) → All (λ letter. letter < 26) (text_letters s text)
 text_letters_within (OfRotors s) text = letters_within None text tt
@@ -135,8 +128,6 @@ parts_are_given_back : (s : Day) (part parts : ℕ) (keys : List Keys) (pieces :
     → AreMadeTexts s part parts keys pieces form → AreGivenBack s part parts (length keys) pieces form
 parts_are_given_back s part parts [] [] form decipher legal are suited all first last few made =
     record { texts = []; counted = refl; begins = inl made; cut = made; read = refl }
-parts_are_given_back s part parts [] (piece ∷ pieces) form decipher legal are suited all first last few made = absurd made
-parts_are_given_back s part parts (k ∷ keys) [] form decipher legal are suited all first last few made = absurd made
 parts_are_given_back s part parts (k ∷ keys) (piece ∷ pieces) form decipher legal are suited all first last few (one, more, (made, makes, written), others, joined) =
     let rest : AreGivenBack s (part + 1) parts (length keys) pieces more =
     parts_are_given_back s (part + 1) parts keys pieces more decipher legal (All-tail (AreKeys s) k keys are) (All-tail (Suits s) k keys suited)
@@ -156,6 +147,7 @@ parts_are_given_back s part parts (k ∷ keys) (piece ∷ pieces) form decipher 
       );
       read = (sent_letters s piece, flat_map (sent_letters s) pieces, part_is_read s part parts (sent_letters s piece) made back, rest.read, refl);
     }
+parts_are_given_back s part parts _ _ form decipher legal are suited all first last few made = absurd made
 
 -- ---- the whole form
 

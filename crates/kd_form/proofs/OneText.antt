@@ -14,7 +14,7 @@ use Rattle.kd_form.specs.InternalKey.{IsInternalKey}
 use Rattle.kd_form.specs.Making.{cipher_from, list_letters, enciphered_choice}
 use Rattle.kd_form.specs.Sending.{letters_from, IsBadAt}
 use Rattle.kd_form.specs.Reading.{AreRotorLetters, message_key, IsRotorText, IsRotorFault, indicators_with, ArePinLetters, IsPinText, IsPinFault, InIndicators, InExternal, InList, InChoice, IsLettersText, IsLettersFault}
-use Rattle.kd_form.specs.Receiving.{HasHeading, IsExpected, IsPartRead, IsPartFault, InHeading, InNumber, InBody, InCount, InLetters, IsEarlyFault}
+use Rattle.kd_form.specs.Receiving.{HasHeading, IsExpected, IsPartRead, IsPartFault, InHeading, InNumber, InBody, InCount, InLetters, IsEarlyFault, IsBodyFault}
 use Rattle.kd_form.proofs.Plain.{same_sized}
 use Rattle.kd_form.proofs.OneOrder.{IsCaught, only_this, only_either, only_found, only_judged, only_caught, one_internal_key, one_bad_byte, no_bad_byte, IsFound, IsJudged, IsOnly}
 use Rattle.kd_form.proofs.Headings.{one_heading, no_empty_heading, begins_there}
@@ -136,27 +136,18 @@ module _ (s : Day) (tell : TextsTellFirstParts) (numbers : NumbersAreWords) wher
       only_sought (λ x y a b. let same = one_heading s part x.0 y.0 x.1 y.1 tell numbers a b in λ i. (same.0 i, same.1 i))
       (λ x. only_judged (only_caught (one_bad_byte x.1) (no_bad_byte x.1) (only_judged (only_letters s number x.0.indicator (letters_from None x.1)))))
 
+  count_answer : {number : ℕ} {h : Heading} {letters : List ℕ} {fault : FormFault} → IsBodyFault s number h letters fault
+      → IsJudged (length letters ≡ h.letters) (Err (CountWrong number)) (IsLettersAnswer s number h.indicator letters) (Err fault)
+  count_answer (InCount other is) = inl (other, ap Err is)
+  count_answer (InLetters counted is) = inr (counted, is)
+
   part_fault : {number : ℕ} {expected : Option ℕ} {start : ℕ} {part : List ℕ} {fault : FormFault} → IsPartFault s number expected start part fault
       → IsPartAnswer number expected start part (Err fault)
   part_fault (inl (InHeading none is)) = inl (λ x has. none x.0 x.1 has, ap Err is)
   part_fault (inl (InNumber h body has other is)) =
       inr ((h, body), has, inl (λ both. elim other [ inl part ↦ part both.0 | inr parts ↦ parts both.1 ], ap Err is))
   part_fault (inl (InBody h body place has numbered due bad is)) = inr ((h, body), has, inr ((numbered, due), inl (place, bad, ap Err is)))
-  part_fault (inr a) =
-      inr (
-        (a.heading, a.body),
-        a.has,
-        inr (
-          (a.numbered, a.due),
-          inr (
-            a.allowed,
-            elim a.found [
-              | InCount other is ↦ inl (other, ap Err is)
-              | InLetters counted is ↦ inr (counted, is)
-            ],
-          ),
-        ),
-      )
+  part_fault (inr a) = inr ((a.heading, a.body), a.has, inr ((a.numbered, a.due), inr (a.allowed, count_answer a.found)))
 
   part_read : {number parts : ℕ} {part text : List ℕ} → (expected : Option ℕ) (start : ℕ) → IsPartRead s number parts part text → IsExpected expected parts
       → IsPartAnswer number expected start part (Ok text)

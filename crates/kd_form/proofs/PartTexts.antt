@@ -1,24 +1,23 @@
 -- The text of a part: its letters in groups and lines.
-use Rattle.std.proofs.Common.{◌≡◌, ℕ, zero, suc, ◌+◌, ◌-◌, ◌<◌, ◌≤◌, ◌⊎◌, inl, inr, List, [], ◌∷◌, ◌++◌, length, take, drop, refl, sym, ap, subst, ◌∙◌, append_assoc, length-append, length-drop, arith, get_or, ◌≢◌, map}
-use Rattle.std.specs.Prelude.{All, IsTrue, Some, None, codes, slice_index, false}
+use Rattle.std.proofs.Common.{◌≡◌, ℕ, zero, suc, ◌+◌, ◌-◌, ◌<◌, ◌≤◌, ◌⊎◌, inl, List, [], ◌∷◌, ◌++◌, length, take, drop, refl, sym, ap, subst, ◌∙◌, append_assoc, length-drop, arith, get_or, ◌≢◌, map}
+use Rattle.std.specs.Prelude.{All, IsTrue, Some, None, codes, false}
 use Rattle.std.specs.List.{flat_map, cons_option}
 use Rattle.std.proofs.lemmas.Bool.Decides.{nat_tests}
-use Rattle.std.proofs.lemmas.List.{append-nil, take-append-drop, drop-append-le}
+use Rattle.std.proofs.lemmas.List.{append-nil, take-append-drop}
 use Rattle.std.proofs.lemmas.List.Elements.{All-nil, All-cons, All-head, All-tail, All-append, All-push, All-take, All-drop, filter_map-append, All-get_or}
 use Rattle.kd_tables.specs.Text.{is_text_byte, letters_text}
 use Rattle.kd_state.specs.Words.{line_of, IsWithout}
 use Rattle.kd_form.specs.Part.{pieces, groups_of, with_line, body_text, Part, heading_words, part_text}
 use Rattle.kd_form.specs.Sending.{letter_of_byte, letters_from}
 use Rattle.kd_form.proofs.MadeParts.{pieces-next, pieces-none}
-use Rattle.std.proofs.Math.Seq.{get_or-append_seam, drop-append-add}
-use Rattle.std.proofs.lemmas.Bool.{cases_lt, false≢true}
+use Rattle.std.proofs.lemmas.Bool.{false≢true}
 use Rattle.kd_state.specs.SheetDay.{Day}
 use Rattle.kd_form.specs.FormParts.{IsHeading, BeginsHeading, IsFirstOf}
 use Rattle.kd_form.specs.Receiving.{HasHeading}
 use Rattle.kd_form.proofs.Headings.{plain_heading, words_begin, has_byte}
 use Rattle.kd_form.proofs.OneOrder.{Shorter, Longer, fronts}
 use Rattle.kd_form.proofs.Plain.{head_unbroken, without}
-use Rattle.kd_form.proofs.Growing.{no_break}
+use Rattle.kd_form.proofs.OneCut.{break_is_first, one_byte_more}
 
 -- -------- the body of a part as it is written: the letters that it gives, its bytes, and its lines
 
@@ -112,23 +111,13 @@ gives_body =
 
 -- ---- the lines of a body
 
--- nothing, or a text with LF at its end
-abbrev pub AreLines : List ℕ → Type 0
-AreLines text = (text ≡ []) ⊎ ((lines : List ℕ) × (text ≡ lines ++ 10 ∷ []))
-
-pub line_before : (line text : List ℕ) → AreLines text → (lines : List ℕ) × (line ++ 10 ∷ text ≡ lines ++ 10 ∷ [])
-line_before line text (inl none) = (line, ap (λ t. line ++ 10 ∷ t) none)
-line_before line text (inr (lines, is)) = (line ++ 10 ∷ lines, ap (λ t. line ++ 10 ∷ t) is ∙ sym (append_assoc line (10 ∷ lines) (10 ∷ [])))
-
-are_lines : (items : List (List ℕ)) → AreLines (flat_map (λ line. with_line (groups_of line) []) items)
-are_lines [] = inl refl
-are_lines (item ∷ items) =
-    let text : List ℕ = flat_map (λ line. with_line (groups_of line) []) items in
-    let all = line_before (line_of (groups_of item)) text (are_lines items) in
-    inr (all.0, append_assoc (line_of (groups_of item)) (10 ∷ []) text ∙ all.1)
-
-pub body_lines : (letters : List ℕ) → AreLines (body_text letters)
-body_lines letters = are_lines (pieces 50 letters)
+-- behind an LF they end in LF
+lines_end : (items : List (List ℕ)) → (front : List ℕ) × (10 ∷ flat_map (λ line. with_line (groups_of line) []) items ≡ front ++ 10 ∷ [])
+lines_end [] = ([], refl)
+lines_end (item ∷ items) =
+    let line : List ℕ = line_of (groups_of item) in
+    let (front, is) = lines_end items in
+    (10 ∷ (line ++ front), ap (λ t. 10 ∷ t) (append_assoc line (10 ∷ []) _ ∙ ap (λ t. line ++ t) is ∙ sym (append_assoc line front (10 ∷ []))))
 
 -- -------- a part as it is written: its heading, and where it ends in what it begins
 
@@ -166,51 +155,29 @@ no_mark lines rest allowed begins = elim (fronts (lines ++ 10 ∷ []) rest (code
       false≢true (sym (no_figure begins.digit begins.low begins.high) ∙ ap is_text_byte (sym figure) ∙ stands)
 ]
 
--- what follows an LF of the part
-behind_line : (line body rest : List ℕ) (place offset : ℕ) → place + 1 ≡ length line + suc offset → offset ≤ length body
-    → drop (place + 1) ((line ++ 10 ∷ body) ++ rest) ≡ drop offset body ++ rest
-behind_line line body rest place offset is inside =
-    ap (drop (place + 1)) (append_assoc line (10 ∷ body) rest) ∙ ap (λ n. drop n (line ++ 10 ∷ (body ++ rest))) is
-    ∙ drop-append-add line (10 ∷ (body ++ rest)) (suc offset) ∙ drop-append-le offset body rest inside
-
--- no line behind the first does
-no_line_begins : (line body rest : List ℕ) (place : ℕ) → IsWithout 10 line → AreAllowed body → AreLines body → place + 1 < length (line ++ 10 ∷ body)
-    → slice_index ((line ++ 10 ∷ body) ++ rest) place ≡ 10 → ¬ (BeginsHeading (drop (place + 1) ((line ++ 10 ∷ body) ++ rest)))
-no_line_begins line body rest place unbroken allowed lines below is begins = elim (cases_lt place (length line)) [
-  | inl before ↦ no_break line (body ++ rest) place unbroken before (ap (λ t. get_or t place 0) (sym (append_assoc line (10 ∷ body) rest)) ∙ is)
-  | inr from ↦
-      let offset : ℕ = place - length line in
-      let inside : offset < length body = omega (arith, length-append line (10 ∷ body)) in
-      let here : drop (place + 1) ((line ++ 10 ∷ body) ++ rest) ≡ drop offset body ++ rest = behind_line line body rest place offset (omega arith) (omega arith) in
-      elim lines [
-        | inl none ↦ omega (arith, ap length none)
-        | inr (front, ends) ↦
-            let within : offset ≤ length front = omega (arith, ap length ends, length-append front (10 ∷ [])) in
-            let left : drop offset body ≡ drop offset front ++ 10 ∷ [] = ap (drop offset) ends ∙ drop-append-le offset front (10 ∷ []) within in
-            no_mark (drop offset front) rest (subst AreAllowed left (All-drop (λ b. IsTrue (is_text_byte b)) offset body allowed))
-            (subst BeginsHeading (here ∙ ap (λ t. t ++ rest) left) begins)
-      ]
-]
-
 -- ---- where a part ends
 
-last_byte : (text lines rest : List ℕ) → text ≡ lines ++ 10 ∷ [] → slice_index (text ++ rest) (length text - 1) ≡ 10
-last_byte text lines rest is =
-    let last : length text - 1 ≡ length lines = omega (arith, ap length is, length-append lines (10 ∷ [])) in
-    ap (λ t. get_or (t ++ rest) (length text - 1) 0) is ∙ ap (λ t. get_or t (length text - 1) 0) (append_assoc lines (10 ∷ []) rest)
-    ∙ ap (λ n. get_or (lines ++ 10 ∷ rest) n 0) last ∙ get_or-append_seam lines 10 rest 0
+-- what ends in LF
+ending_is_first : (front rest : List ℕ) → AreAllowed (front ++ 10 ∷ []) → (rest ≡ []) ⊎ BeginsHeading rest
+    → IsFirstOf ((front ++ 10 ∷ []) ++ rest) (front ++ 10 ∷ []) rest
+ending_is_first [] rest allowed follows = break_is_first rest follows
+ending_is_first (byte ∷ front) rest allowed follows =
+    let behind = All-tail (λ b. IsTrue (is_text_byte b)) byte (front ++ 10 ∷ []) allowed in
+    one_byte_more byte ((front ++ 10 ∷ []) ++ rest) (front ++ 10 ∷ []) rest (ending_is_first front rest behind follows) (λ is. no_mark front rest behind)
+
+-- and that behind a line
+line_is_first : (line text rest : List ℕ) → IsWithout 10 line → IsFirstOf (text ++ rest) text rest → IsFirstOf ((line ++ text) ++ rest) (line ++ text) rest
+line_is_first [] text rest unbroken first = first
+line_is_first (byte ∷ line) text rest unbroken first =
+    one_byte_more byte ((line ++ text) ++ rest) (line ++ text) rest (line_is_first line text rest (All-tail (λ b. b ≢ 10) byte line unbroken) first)
+    (λ is. absurd (All-head (λ b. b ≢ 10) byte line unbroken is))
 
 -- a written part is the first part of what it begins, if nothing follows it, or another heading
 pub part_is_first : (s : Day) (made : Part) (rest : List ℕ) → IsHeading s made.heading → All (λ letter. letter < 26) made.body
     → (rest ≡ []) ⊎ BeginsHeading rest → IsFirstOf (part_text made ++ rest) (part_text made) rest
 part_is_first s made rest is are follows =
     let line : List ℕ = line_of (heading_words made.heading) in
-    let lines : AreLines (body_text made.body) = body_lines made.body in
-    let whole = line_before line (body_text made.body) lines in
-    record {
-      joined = refl;
-      whole = λ place.
-          no_line_begins line (body_text made.body) rest place (without 10 line (omega arith) (plain_heading s made.heading is))
-          (gives_body made.body are).allowed lines;
-      ends = elim follows [ inl none ↦ inl none | inr begins ↦ inr (last_byte (part_text made) whole.0 rest whole.1, begins) ];
-    }
+    let (front, ends) = lines_end (pieces 50 made.body) in
+    let allowed = All-cons (λ b. IsTrue (is_text_byte b)) 10 (body_text made.body) refl (gives_body made.body are).allowed in
+    line_is_first line (10 ∷ body_text made.body) rest (without 10 line (omega arith) (plain_heading s made.heading is))
+    (subst (λ t. IsFirstOf (t ++ rest) t rest) (sym ends) (ending_is_first front rest (subst AreAllowed ends allowed) follows))
