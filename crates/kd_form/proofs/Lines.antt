@@ -1,11 +1,12 @@
 -- The lines of an order up to its text.
 use Rattle.std.proofs.Common.{◌≡◌, ◌≢◌, ℕ, zero, suc, ◌+◌, ◌-◌, ◌<◌, ◌≤◌, inl, inr, Bool, true, false, List, [], ◌∷◌, ◌++◌, length, get_or, take, drop, replicate, refl, sym, ap, subst, ◌∙◌, append_assoc, length-append, length-drop, arith}
 use Rattle.std.proofs.Math.ListN.{get_or-append}
+use Rattle.std.specs.List.{AllWithin}
 use Rattle.std.specs.Prelude.{◌==◌, nat_le, nat_lt, ◌&&◌, slice_index, All, codes}
 use Rattle.std.proofs.lemmas.Bool.Decides.{nat_tests}
 use Rattle.std.proofs.lemmas.Bool.{false≢true, cases_Bool}
-use Rattle.std.proofs.lemmas.List.{take_more, take-append-drop, length-replicate, take_all, get_or_default, length-take-le, append-nil, drop_more}
-use Rattle.std.proofs.lemmas.List.Elements.{All-append, All-cons, All-nil, All-head, All-tail, All-replicate, All-take, All-drop, All-more, All-push, All-get_or}
+use Rattle.std.proofs.lemmas.List.{get_or-take, drop_all, take_more, take-append-drop, length-replicate, take_all, get_or_default, length-take-le, append-nil, drop_more}
+use Rattle.std.proofs.lemmas.List.Elements.{All-append, All-cons, All-nil, All-head, All-tail, All-replicate, All-take, All-drop, All-push}
 use Rattle.kd_state.specs.Machine.{AreLetters}
 use Rattle.kd_form.specs.declared.pattern_line.Unread.{Unread}
 use Rattle.kd_form.specs.declared.pattern_line.Unread.TheVariants.{Open, Off}
@@ -22,31 +23,12 @@ use Rattle.kd_form.specs.KeyPatterns.{places_for, rotor_pattern, key_pattern, ke
 use Rattle.kd_form.specs.declared.fault.FormFault.{FormFault}
 use Rattle.kd_form.specs.Making.{Suits}
 use Rattle.kd_form.specs.Sending.{IsKeysFault, IsFirstKeysFault}
+use Rattle.kd_form.proofs.Ciphers.{letter_read}
 use Rattle.kd_form.proofs.Plain.{IsPlain, plain_keys, same_sized, same_front}
 
 -- -------- lines of a pattern, mark by mark
 
--- ---- patterns joined
-
-pub blanks-append : (pattern other : List ℕ) → blanks (pattern ++ other) ≡ blanks pattern + blanks other
-blanks-append [] other = omega arith
-blanks-append (mark ∷ pattern) other = let more = blanks-append pattern other in grind (arith, nat_tests)
-
--- the letters of a place and of those behind it
-some_letter : (n : ℕ) (letters : List ℕ) → length letters ≡ n + 1 → (letters ≡ slice_index letters 0 ∷ drop 1 letters) × (length (drop 1 letters) ≡ n)
-some_letter n [] count = absurd (omega arith)
-some_letter n (l ∷ letters) count = (refl, omega arith)
-
-pub filled-append : (pattern other letters more : List ℕ) → length letters ≡ blanks pattern
-    → filled_in (pattern ++ other) (letters ++ more) ≡ filled_in pattern letters ++ filled_in other more
-filled-append [] other [] more count = refl
-filled-append [] other (l ∷ letters) more count = absurd (omega arith)
-filled-append (mark ∷ pattern) other letters more count = elim (cases_Bool (mark == 95)) [
-  | inl blank ↦
-      let some = some_letter (blanks pattern) letters (rw blank at count) in
-      rw (blank, some.0) (ap (λ text. (slice_index letters 0 + 65) ∷ text) (filled-append pattern other (drop 1 letters) more some.1))
-  | inr other_mark ↦ rw other_mark (ap (λ text. mark ∷ text) (filled-append pattern other letters more (rw other_mark at count)))
-]
+-- ---- each byte of a line fits its mark
 
 pub length-filled : (pattern letters : List ℕ) → length (filled_in pattern letters) ≡ length pattern
 length-filled [] letters = refl
@@ -55,68 +37,68 @@ length-filled (mark ∷ pattern) letters = elim (cases_Bool (mark == 95)) [
   | inr other ↦ rw other (ap suc (length-filled pattern letters))
 ]
 
--- ---- each byte of a line fits its mark
-
 capital : (l : ℕ) → l < 26 → (nat_le 65 (l + 65) && nat_le (l + 65) 90) ≡ true
 capital l less = grind (arith, nat_tests)
 
 same_byte : (byte : ℕ) → (byte == byte) ≡ true
 same_byte byte = grind (arith, nat_tests)
 
-pub filled-fits : (pattern letters : List ℕ) (i : ℕ) → i < length pattern → AreLetters (blanks pattern) letters
+filled-fits : (pattern letters : List ℕ) (i : ℕ) → i < length pattern → All (λ l. l < 26) letters
     → fits (get_or pattern i 0) (get_or (filled_in pattern letters) i 0) ≡ true
-filled-fits [] letters i inside are = absurd (omega arith)
-filled-fits (mark ∷ pattern) letters zero inside are = elim (cases_Bool (mark == 95)) [
-  | inl blank ↦
-      let some = some_letter (blanks pattern) letters (rw blank at are.count) in
-      rw blank (capital (slice_index letters 0) (All-get_or (λ l. l < 26) letters 0 0 (omega (arith, ap length some.0)) are.within))
+filled-fits [] letters i inside within = absurd (omega arith)
+filled-fits (mark ∷ pattern) letters zero inside within = elim (cases_Bool (mark == 95)) [
+  | inl blank ↦ rw blank (capital (slice_index letters 0) (letter_read letters 0 within))
   | inr other ↦ rw other (same_byte mark)
 ]
-filled-fits (mark ∷ pattern) letters (suc i) inside are = elim (cases_Bool (mark == 95)) [
-  | inl blank ↦
-      let some = some_letter (blanks pattern) letters (rw blank at are.count) in
-      rw blank (filled-fits pattern (drop 1 letters) i (omega arith) (record { count = some.1; within = All-drop (λ l. l < 26) 1 letters are.within }))
-  | inr other ↦ rw other (filled-fits pattern letters i (omega arith) (record { count = rw other at are.count; within = are.within }))
+filled-fits (mark ∷ pattern) letters (suc i) inside within = elim (cases_Bool (mark == 95)) [
+  | inl blank ↦ rw blank (filled-fits pattern (drop 1 letters) i (omega arith) (All-drop (λ l. l < 26) 1 letters within))
+  | inr other ↦ rw other (filled-fits pattern letters i (omega arith) within)
 ]
 
 -- ---- reading mark by mark
 
+-- So far these letters fill the pattern: any letters behind them fill what is left of it.
 pub record IsFilling (pattern bytes : List ℕ) (place : ℕ) (letters : List ℕ) : Type 0 where
   pub inside : place ≤ length bytes
-  pub counted : length letters ≡ blanks (take place pattern)
+  pub counted : length letters + blanks (drop place pattern) ≡ blanks pattern
   pub within : All (λ l. l < 26) letters
-  pub filled : filled_in (take place pattern) letters ≡ take place bytes
+  pub filled : (more : List ℕ) → filled_in pattern (letters ++ more) ≡ take place bytes ++ filled_in (drop place pattern) more
 
-in_range : (byte : ℕ) → (nat_le 65 byte && nat_le byte 90) ≡ true → (65 ≤ byte) × (byte ≤ 90)
-in_range byte told = grind (arith, nat_tests)
-
-same_mark : (mark byte : ℕ) → (byte == mark) ≡ true → mark ≡ byte
-same_mark mark byte told = grind (arith, nat_tests)
-
-one_letter : (mark byte : ℕ) → fits mark byte ≡ true
-    → AreLetters (blanks (mark ∷ [])) (letters_at mark byte) × (filled_in (mark ∷ []) (letters_at mark byte) ≡ byte ∷ [])
-one_letter mark byte fit = elim (cases_Bool (mark == 95)) [
+one_letter : (mark byte : ℕ) (pattern : List ℕ) → fits mark byte ≡ true
+    → (length (letters_at mark byte) + blanks pattern ≡ blanks (mark ∷ pattern)) × All (λ l. l < 26) (letters_at mark byte)
+    × ((more : List ℕ) → filled_in (mark ∷ pattern) (letters_at mark byte ++ more) ≡ byte ∷ filled_in pattern more)
+one_letter mark byte pattern fit = elim (cases_Bool (mark == 95)) [
   | inl blank ↦
-      let range : (65 ≤ byte) × (byte ≤ 90) = in_range byte (rw blank at fit) in
+      let told = rw blank at fit in
+      let range : (65 ≤ byte) × (byte ≤ 90) = grind (arith, nat_tests) in
       let back : byte - 65 + 65 ≡ byte = omega arith in
-      rw blank (record { count = refl; within = All-cons (λ l. l < 26) (byte - 65) [] (omega arith) (All-nil (λ l. l < 26)) }, ap (λ b. b ∷ []) back)
+      rw blank (omega arith, All-cons (λ l. l < 26) (byte - 65) [] (omega arith) (All-nil (λ l. l < 26)), λ more. ap (λ b. b ∷ filled_in pattern more) back)
   | inr other ↦
-      rw other (record { count = refl; within = All-nil (λ l. l < 26) }, ap (λ b. b ∷ []) (same_mark mark byte (rw other at fit)))
+      let told = rw other at fit in
+      let same : mark ≡ byte = grind (arith, nat_tests) in
+      rw other (omega arith, All-nil (λ l. l < 26), λ more. ap (λ b. b ∷ filled_in pattern more) same)
 ]
 
 pub filling_more : (pattern bytes letters more : List ℕ) (place mark byte : ℕ) → IsFilling pattern bytes place letters → place < length pattern → place < length bytes
     → get_or pattern place 0 ≡ mark → get_or bytes place 0 ≡ byte → fits mark byte ≡ true → more ≡ letters ++ letters_at mark byte
     → IsFilling pattern bytes (place + 1) more
 filling_more pattern bytes letters more place mark byte filling below inside marked read fit put =
-    let one = one_letter mark byte fit in
-    let longer : take (place + 1) pattern ≡ take place pattern ++ mark ∷ [] = take_more pattern place 0 below ∙ ap (λ m. take place pattern ++ m ∷ []) marked in
+    let rest : List ℕ = drop (place + 1) pattern in
+    let (counts, within, fills) = one_letter mark byte rest fit in
+    let left : drop place pattern ≡ mark ∷ rest = drop_more pattern place 0 below ∙ ap (λ m. m ∷ rest) marked in
     let further : take (place + 1) bytes ≡ take place bytes ++ byte ∷ [] = take_more bytes place 0 inside ∙ ap (λ b. take place bytes ++ b ∷ []) read in
-    let joined = filled-append (take place pattern) (mark ∷ []) letters (letters_at mark byte) filling.counted in
     rw put (record {
       inside = omega arith;
-      counted = rw longer (omega (arith, length-append letters (letters_at mark byte), filling.counted, one.0.count, blanks-append (take place pattern) (mark ∷ [])));
-      within = All-append (λ l. l < 26) letters (letters_at mark byte) filling.within one.0.within;
-      filled = cc (longer, further, joined, filling.filled, one.1);
+      counted = omega (arith, length-append letters (letters_at mark byte), filling.counted, counts, ap blanks left);
+      within = All-append (λ l. l < 26) letters (letters_at mark byte) filling.within within;
+      filled = λ after. cc (
+        append_assoc letters (letters_at mark byte) after,
+        filling.filled (letters_at mark byte ++ after),
+        left,
+        fills after,
+        further,
+        append_assoc (take place bytes) (byte ∷ []) (filled_in rest after),
+      );
     })
 
 -- ---- where the bytes don't go on as a line
@@ -125,36 +107,26 @@ pub letter_room : (pattern bytes letters : List ℕ) (place : ℕ) → IsFilling
     → get_or pattern place 0 ≡ 95 → length letters < 13
 letter_room pattern bytes letters place filling below few blank =
     let rest : List ℕ = drop (place + 1) pattern in
-    let whole : take place pattern ++ 95 ∷ rest ≡ pattern =
-    ap (λ r. take place pattern ++ r) (ap (λ m. m ∷ rest) (sym blank) ∙ sym (drop_more pattern place 0 below)) ∙ take-append-drop place pattern in
-    omega (arith, filling.counted, sym (blanks-append (take place pattern) (95 ∷ rest)) ∙ ap blanks whole)
+    let left : drop place pattern ≡ 95 ∷ rest = drop_more pattern place 0 below ∙ ap (λ m. m ∷ rest) blank in
+    omega (arith, filling.counted, ap blanks left)
 
 -- the bytes end where the next mark is due: a line goes on with the letter A in each place that is left
 pub line_open : (pattern bytes letters : List ℕ) (place : ℕ) → IsFilling pattern bytes place letters → false ≡ nat_lt place (length bytes)
     → BreaksOff (IsPatternLine pattern) bytes Open
 line_open pattern bytes letters place filling past =
     let beyond : length bytes ≤ place = grind (arith, nat_tests) in
-    let rest : List ℕ = drop place pattern in
-    let others : List ℕ = replicate (blanks rest) 0 in
-    let whole : take place pattern ++ rest ≡ pattern = take-append-drop place pattern in
-    let line : filled_in pattern (letters ++ others) ≡ bytes ++ filled_in rest others =
-    ap (λ p. filled_in p (letters ++ others)) (sym whole) ∙ filled-append (take place pattern) rest letters others filling.counted
-    ∙ ap (λ t. t ++ filled_in rest others) (filling.filled ∙ take_all place bytes beyond) in (
-      filled_in rest others ++ 10 ∷ [],
-      λ none. omega (arith, ap length none, length-append (filled_in rest others) (10 ∷ [])),
+    let others : List ℕ = replicate (blanks (drop place pattern)) 0 in
+    let rest : List ℕ = filled_in (drop place pattern) others in
+    let line : filled_in pattern (letters ++ others) ≡ bytes ++ rest = filling.filled others ∙ ap (λ b. b ++ rest) (take_all place bytes beyond) in (
+      rest ++ 10 ∷ [],
+      λ none. omega (arith, ap length none, length-append rest (10 ∷ [])),
       record {
         letters = letters ++ others;
         are_letters = record {
-          count = omega (
-            arith,
-            length-append letters others,
-            length-replicate {A = ℕ} (blanks rest) 0,
-            filling.counted,
-            sym (blanks-append (take place pattern) rest) ∙ ap blanks whole,
-          );
-          within = All-append (λ l. l < 26) letters others filling.within (All-replicate (λ l. l < 26) (blanks rest) 0 (omega arith));
+          count = omega (arith, length-append letters others, length-replicate {A = ℕ} (blanks (drop place pattern)) 0, filling.counted);
+          within = All-append (λ l. l < 26) letters others filling.within (All-replicate (λ l. l < 26) (blanks (drop place pattern)) 0 (omega arith));
         };
-        ended = inl (sym (append_assoc bytes (filled_in rest others) (10 ∷ [])) ∙ ap (λ t. t ++ 10 ∷ []) (sym line));
+        ended = inl (sym (append_assoc bytes rest (10 ∷ [])) ∙ ap (λ t. t ++ 10 ∷ []) (sym line));
       },
     )
 
@@ -172,7 +144,7 @@ line_fits : (pattern line : List ℕ) (i : ℕ) → i < length pattern → IsPat
 line_fits pattern line i inside is =
     let text : List ℕ = filled_in pattern is.letters in
     let (tail, ended, joined) = ended_tail text line is.ended in
-    rw (joined, get_or-append text tail 0 i (omega (arith, length-filled pattern is.letters))) (filled-fits pattern is.letters i inside is.are_letters)
+    rw (joined, get_or-append text tail 0 i (omega (arith, length-filled pattern is.letters))) (filled-fits pattern is.letters i inside is.are_letters.within)
 
 -- a byte doesn't fit its mark
 pub line_off : (pattern bytes : List ℕ) (place : ℕ) → place < length pattern → place < length bytes
@@ -183,14 +155,17 @@ line_off pattern bytes place below inside unfit = λ more line. false≢true (sy
 -- the pattern is filled, and this follows
 module _ (pattern bytes letters tail : List ℕ) (place : ℕ) (filling : IsFilling pattern bytes place letters) (all : place ≡ length pattern)
     (cut : tail ≡ drop (length pattern) bytes) where
+  none_left : drop place pattern ≡ []
+  none_left = drop_all place pattern (omega arith)
+
   line_with : (more : List ℕ) → bytes ++ more ≡ filled_in pattern letters ++ (tail ++ more)
   line_with more =
-      ap (λ b. b ++ more) (sym (take-append-drop place bytes) ∙ cc (all, cut, filling.filled, take_all place pattern (omega arith)))
-      ∙ append_assoc (filled_in pattern letters) tail more
+      let whole : filled_in pattern letters ≡ take place bytes = cc (filling.filled [], none_left, append-nil letters, append-nil (take place bytes)) in
+      ap (λ b. b ++ more) (sym (take-append-drop place bytes) ∙ cc (all, cut, whole)) ∙ append_assoc (filled_in pattern letters) tail more
 
   line_ends : (more : List ℕ) → IsEnded [] (tail ++ more) → IsFilledLine pattern letters (bytes ++ more)
   line_ends more ended = record {
-    are_letters = record { count = filling.counted ∙ ap blanks (take_all place pattern (omega arith)); within = filling.within };
+    are_letters = record { count = omega (arith, filling.counted, ap blanks none_left); within = filling.within };
     ended = rw (line_with more) (ended_behind (filled_in pattern letters) (tail ++ more) ended);
   }
 
@@ -230,9 +205,9 @@ read_at bytes place byte inside is = get_or_default bytes place 0 byte (read_ins
 
 -- ---- words of letters
 
-blanks-places : (n : ℕ) → blanks (places_for n) ≡ n
-blanks-places zero = refl
-blanks-places (suc n) = ap (λ m. m + 1) (blanks-places n) ∙ omega arith
+blanks-places : (n : ℕ) (other : List ℕ) → blanks (places_for n ++ other) ≡ n + blanks other
+blanks-places zero other = omega arith
+blanks-places (suc n) other = ap (λ m. m + 1) (blanks-places n other) ∙ omega arith
 
 filled-places : (n : ℕ) (letters : List ℕ) → length letters ≡ n → filled_in (places_for n) letters ≡ letters_text letters
 filled-places zero [] count = refl
@@ -241,9 +216,9 @@ filled-places _ _ count = absurd (omega arith)
 
 filled_word : (n : ℕ) (letters other more : List ℕ) → length letters ≡ n
     → filled_in (places_for n ++ other) (letters ++ more) ≡ letters_text letters ++ filled_in other more
-filled_word n letters other more count =
-    filled-append (places_for n) other letters more (count ∙ sym (blanks-places n))
-    ∙ ap (λ text. text ++ filled_in other more) (filled-places n letters count)
+filled_word zero [] other more count = refl
+filled_word (suc n) (l ∷ letters) other more count = ap (λ text. (l + 65) ∷ text) (filled_word n letters other more (omega arith))
+filled_word _ _ other more count = absurd (omega arith)
 
 rotor_line : (slots : ℕ) (k : RotorKeys) → AreRotorKeys slots k → filled_in (rotor_pattern slots) (key_letters (Rotor k)) ≡ line_of (key_words (Rotor k))
 rotor_line slots k are =
@@ -261,12 +236,8 @@ key_line _ _ are = absurd are
 
 rotor_blanks : (slots : ℕ) → blanks (rotor_pattern slots) ≡ slots + (slots + (2 + 3))
 rotor_blanks slots =
-    omega (
-      arith,
-      blanks-append (places_for slots) (32 ∷ (places_for slots ++ 32 ∷ (places_for 2 ++ 32 ∷ places_for 3))),
-      blanks-places slots,
-      blanks-append (places_for slots) (32 ∷ (places_for 2 ++ 32 ∷ places_for 3)),
-    )
+    let last : List ℕ = 32 ∷ (places_for 2 ++ 32 ∷ places_for 3) in
+    blanks-places slots (32 ∷ (places_for slots ++ last)) ∙ ap (λ n. slots + n) (blanks-places slots last)
 
 letters_joined : {m n : ℕ} {one other : List ℕ} → AreLetters m one → AreLetters n other → AreLetters (m + n) (one ++ other)
 letters_joined {one = one} {other = other} a b = record {
@@ -345,17 +316,7 @@ keys_read s bytes letters k filled told are =
 
 pub record AreSuited (s : Day) (keys : List Keys) (part index : ℕ) : Type 0 where
   pub counted : part ≡ index + 1
-  pub suited : All (Suits s) (take index keys)
-
-pub suited_more : (s : Day) (keys : List Keys) (part index : ℕ) (k : Keys) → index < length keys → get_or keys index k ≡ k → AreSuited s keys part index
-    → Suits s k → AreSuited s keys (part + 1) (index + 1)
-suited_more s keys part index k inside is before suits = record {
-  counted = omega (arith, before.counted);
-  suited = All-more (Suits s) keys index k inside before.suited (subst (Suits s) (sym is) suits);
-}
-
-pub suited_all : (s : Day) (keys : List Keys) (part index : ℕ) → length keys ≤ index → AreSuited s keys part index → All (Suits s) keys
-suited_all s keys part index over are = subst (All (Suits s)) (take_all index keys over) are.suited
+  pub suited : AllWithin (Suits s) keys 0 index
 
 pub unsuited : (s : Day) (keys : List Keys) (part index : ℕ) (k : Keys) (fault : FormFault) → index < length keys → get_or keys index k ≡ k
     → AreSuited s keys part index → IsKeysFault s part k fault → IsFirstKeysFault s keys fault
@@ -366,7 +327,7 @@ unsuited s keys part index k fault inside is before found =
       unsuited = k;
       others = drop (index + 1) keys;
       joined = sym (take-append-drop index keys) ∙ ap (λ ks. take index keys ++ ks) (drop_more keys index k inside ∙ ap (λ x. x ∷ drop (index + 1) keys) is);
-      suited = before.suited;
+      suited = λ k d below. subst (Suits s) (sym (get_or-take index keys k d (omega (arith, number)))) (before.suited k d (omega arith) (omega (arith, number)));
       is = subst (λ n. IsKeysFault s n k fault) number found;
     }
 
