@@ -55,17 +55,17 @@ one_number number found byte rest more small little low same =
     (omega arith) (omega arith) same in
     (decimal_injective number found small little both.0, ap (drop 1) both.1)
 
-pub fraction_parts : (word one other : List ℕ) (part parts : ℕ) → TextsTellFirstParts → part < 2 ^ 8 → IsFirstPart 47 word one other → fraction part parts ≡ word
+pub fraction_parts : (word one other : List ℕ) (part parts : ℕ) → TextsTellFirstParts → IsFraction part parts → IsFirstPart 47 word one other → fraction part parts ≡ word
     → (decimal part ≡ one) × (decimal parts ≡ other)
-fraction_parts word one other part parts tell small first is =
+fraction_parts word one other part parts tell number first is =
     tell 47 (decimal part) one (decimal parts) other
-    (All-weaker (λ b. 48 ≤ b) (λ b. b ≢ 47) (λ b above same. omega (arith, above, same)) (decimal part) (number_from part (omega arith))) first.without
+    (All-weaker (λ b. 48 ≤ b) (λ b. b ≢ 47) (λ b above same. omega (arith, above, same)) (decimal part) (number_from part (omega (arith, number.in_order, number.few)))) first.without
     (sym (append_assoc (decimal part) (codes "/") (decimal parts)) ∙ is ∙ first.joined)
 
 pub same_fraction : (word one other : List ℕ) (part parts found last : ℕ) → TextsTellFirstParts → IsFraction part parts → found < 2 ^ 8 → last < 2 ^ 8
     → IsFirstPart 47 word one other → decimal found ≡ one → decimal last ≡ other → fraction part parts ≡ word → (part ≡ found) × (parts ≡ last)
 same_fraction word one other part parts found last tell number small few first read also is =
-    let both = fraction_parts word one other part parts tell (omega (arith, number.in_order, number.few)) first is in (
+    let both = fraction_parts word one other part parts tell number first is in (
       decimal_injective part found (omega (arith, number.in_order, number.few)) (omega arith) (both.0 ∙ sym read),
       decimal_injective parts last (omega (arith, number.few)) (omega arith) (both.1 ∙ sym also),
     )

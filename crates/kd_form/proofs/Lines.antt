@@ -300,10 +300,10 @@ as_form_line s line is = record {
   ended = subst (λ text. IsEnded text line) (sym (key_line s is.keys is.of_the_day)) is.keyed;
 }
 
-pub breaks_alike : (P Q : List ℕ → Type 0) (bytes : List ℕ) (why : Unread) → ((line : List ℕ) → P line → Q line) → ((line : List ℕ) → Q line → P line)
+pub breaks_alike : {P Q : List ℕ → Type 0} (bytes : List ℕ) (why : Unread) → ((line : List ℕ) → P line → Q line) → ((line : List ℕ) → Q line → P line)
     → BreaksOff P bytes why → BreaksOff Q bytes why
-breaks_alike P Q bytes Open to back (more, some, is) = (more, some, to (bytes ++ more) is)
-breaks_alike P Q bytes Off to back none = λ more is. none more (back (bytes ++ more) is)
+breaks_alike bytes Open to back (more, some, is) = (more, some, to (bytes ++ more) is)
+breaks_alike bytes Off to back none = λ more is. none more (back (bytes ++ more) is)
 
 pub keys_read : (s : Day) (bytes letters : List ℕ) (k : Keys) → IsFilledLine (key_pattern s) letters bytes → key_letters k ≡ letters → AreKeys s k
     → AreKeys s k × IsKeyLine k bytes

@@ -3,6 +3,4 @@ use Rattle.kd_form.proofs.Lines.{unsuited}
 use Rattle.kd_form.proofs.suiting.check_keys.Goals as goal
 
 pub returns-in-Err : goal.returns-in-Err
-returns-in-Err c =
-    unsuited c.args.day.now c.args.keys.now c.loop-keys.part c.loop-keys.keys-index c.keys-item.result c.in-Err.fault c.loop-keys-test.true
-    (sym c.keys-item.is) c.loop-keys.invariant c.in-Err.ensures
+returns-in-Err c = unsuited _ _ _ _ c.keys-item.result c.in-Err.fault c.loop-keys-test.true (sym c.keys-item.is) c.loop-keys.invariant c.in-Err.ensures
