@@ -1,6 +1,5 @@
 -- The line of a heading: its words, its first bytes, and that a part has one.
-use Rattle.std.proofs.Common.{◌≡◌, ◌≢◌, ℕ, ◌^◌, ◌<◌, List, length, get_or, sym, ◌∙◌, append_assoc, arith, ◌+◌, ◌≤◌, [], ◌∷◌, take, refl, ap, inl, inr, ◌++◌, length-append, subst, drop}
-use Rattle.std.specs.Prelude.{codes, decimal, All, Option, Some, None, MatchOption, if◌then◌else◌, ◌==◌, slice_index}
+use Rattle.std.proofs.Common.{◌≡◌, ◌≢◌, ℕ, ◌^◌, ◌<◌, List, length, get_or, sym, ◌∙◌, append_assoc, arith, ◌+◌, ◌≤◌, [], ◌∷◌, take, refl, ap, inl, inr, ◌++◌, length-append, subst, drop, codes, decimal, All, Option, Some, None, MatchOption, if◌then◌else◌, ◌==◌, slice_index}
 use Rattle.std.specs.Int.{IsInRange}
 use Rattle.std.specs.Str.Parse.{digits_value}
 use Rattle.std.proofs.lemmas.Fmt.{digits_decimal, decimal_injective, length-decimal-le, decimal_nonempty}

@@ -1,6 +1,5 @@
 -- A form becomes one text, or has one fault.
-use Rattle.std.proofs.Common.{◌≡◌, ◌≢◌, ℕ, ◌+◌, ◌-◌, ◌⊎◌, inl, inr, List, [], ◌∷◌, ◌++◌, length, get_or, drop, Result, Ok, Err, MatchResult, refl, sym, ap, subst, ◌∙◌, length-append, arith, ◌<◌}
-use Rattle.std.specs.Prelude.{All, IsTrue, slice_index, Option, Some, None}
+use Rattle.std.proofs.Common.{◌≡◌, ◌≢◌, ℕ, ◌+◌, ◌-◌, ◌⊎◌, inl, inr, List, [], ◌∷◌, ◌++◌, length, get_or, drop, Result, Ok, Err, MatchResult, refl, sym, ap, subst, ◌∙◌, length-append, arith, ◌<◌, All, IsTrue, slice_index, Option, Some, None, append-nil}
 use Rattle.kd_tables.specs.Text.{is_text_byte}
 use Rattle.kd_state.specs.SheetDay.{Day, AreOfADaysGroup}
 use Rattle.kd_state.specs.TwoCiphers.{sheet_key, IsWindow}
@@ -24,7 +23,6 @@ use Rattle.kd_form.specs.FormReading.{MayBegin}
 use Rattle.kd_form.specs.Laws.{FormsBecomeOneText, ReceivedFormsHaveNoFault, FormsHaveOneFault}
 use Rattle.kd_form.proofs.OneCut.{one_cut, empty_part, Alike, Further, Before, cuts, FirstCut, first_cut}
 use Rattle.kd_form.proofs.Growing.{begins_more, nothing_left}
-use Rattle.std.proofs.lemmas.List.{append-nil}
 
 -- -------- a part of a form has one text, or one fault
 

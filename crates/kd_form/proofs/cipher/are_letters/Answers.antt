@@ -1,5 +1,4 @@
-use Rattle.std.proofs.Common.{◌<◌, arith, sym, subst, ℕ}
-use Rattle.std.proofs.lemmas.List.{take_all}
+use Rattle.std.proofs.Common.{◌<◌, arith, sym, subst, ℕ, take_all}
 use Rattle.std.proofs.lemmas.List.Elements.{All-more, All-same}
 use Rattle.kd_form.proofs.cipher.are_letters.Goals as goal
 
