@@ -172,14 +172,13 @@ heading_told s found line words shown (Some h) numbers splits joins has are same
 plain_end : (count : ℕ) (i : Option Indicator) → count < 2 ^ 64 → IsPlain (line_of (decimal count ∷ indicator_words i))
 plain_end count None small = lower 48 32 (decimal count) (omega arith) (number_from count small)
 plain_end count (Some i) small =
-    plain_more (decimal count) (letters_text i.start ++ 32 ∷ letters_text i.key) (lower 48 32 (decimal count) (omega arith) (number_from count small))
-    (plain_more (letters_text i.start) (letters_text i.key) (plain_letters i.start) (plain_letters i.key))
+    plain_more (decimal count) _ (lower 48 32 (decimal count) (omega arith) (number_from count small))
+    (plain_more (letters_text i.start) _ (plain_letters i.start) (plain_letters i.key))
 
 pub plain_heading : (s : Day) (h : Heading) → IsHeading s h → IsPlain (line_of (heading_words h))
 plain_heading s h is =
     let small : IsSmall h = are_small s h is in
-    plain_more (codes "PART") (fraction h.part h.parts ++ 32 ∷ line_of (decimal h.letters ∷ indicator_words h.indicator)) (plain_text (codes "PART") refl)
-    (plain_more (fraction h.part h.parts) (line_of (decimal h.letters ∷ indicator_words h.indicator))
+    plain_more (codes "PART") _ (plain_text (codes "PART") refl) (plain_more (fraction h.part h.parts) _
     (lower 47 32 (fraction h.part h.parts) (omega arith) (fraction_from h.part h.parts small.part small.parts)) (plain_end h.letters h.indicator small.letters))
 
 free_heading : (s : Day) (h : Heading) (byte : ℕ) → byte < 32 → IsHeading s h → IsWithout byte (line_of (heading_words h))
@@ -233,16 +232,7 @@ end_size : (s : Day) (found : Option ℕ) (count : ℕ) (i : Option Indicator) �
 end_size s found count None has few is = omega arith
 end_size (OfPins s) found count (Some i) has few is = absurd is
 end_size (OfRotors s) found count (Some i) has few is =
-    omega (
-      arith,
-      length-append (decimal count) (32 ∷ (letters_text i.start ++ 32 ∷ letters_text i.key)),
-      length-append (letters_text i.start) (32 ∷ letters_text i.key),
-      length-map i.start (λ l. l + 65),
-      length-map i.key (λ l. l + 65),
-      is.0.count,
-      is.1.count,
-      slots_are s found has,
-    )
+    omega (arith, length-append {A = ℕ}, length-map i.start (λ l. l + 65), length-map i.key (λ l. l + 65), is.0.count, is.1.count, slots_are s found has)
 
 heading_length : (s : Day) (found : Option ℕ) (h : Heading) → MatchOption found (HasPins s) (HasSlots s) → IsHeading s h
     → length (line_of (heading_words h)) ≤ 50
@@ -252,13 +242,7 @@ heading_length s found h has is =
     let few : length (decimal h.letters) ≤ 3 = length-decimal-le 3 h.letters (omega arith) (omega arith) small.letters in
     let one : length (decimal h.part) ≤ 2 = length-decimal-le 2 h.part (omega arith) (omega (arith, is.number.in_order, is.number.few)) small.part in
     let all : length (decimal h.parts) ≤ 2 = length-decimal-le 2 h.parts (omega arith) (omega (arith, is.number.few)) small.parts in
-    omega (
-      arith,
-      length-append (fraction h.part h.parts) (32 ∷ line_of (decimal h.letters ∷ indicator_words h.indicator)),
-      length-append (decimal h.part ++ codes "/") (decimal h.parts),
-      length-append (decimal h.part) (codes "/"),
-      end_size s found h.letters h.indicator has few is.indicator,
-    )
+    omega (arith, length-append {A = ℕ}, end_size s found h.letters h.indicator has few is.indicator)
 
 short_part : (part line : List ℕ) → line ≡ take 64 part → length part < 64 → line ≡ part
 short_part part line kept short = kept ∙ take_all 64 part (omega arith)

@@ -1,5 +1,5 @@
 -- A form becomes one text, or has one fault.
-use Rattle.std.proofs.Common.{◌≡◌, ◌≢◌, ℕ, ◌+◌, ◌-◌, ◌⊎◌, inl, inr, List, [], ◌∷◌, ◌++◌, length, get_or, drop, Result, Ok, Err, MatchResult, refl, sym, ap, subst, ◌∙◌, length-append, arith, ◌<◌, All, IsTrue, slice_index, Option, Some, None, append-nil}
+use Rattle.std.proofs.Common.{◌≡◌, ◌≢◌, ℕ, ◌+◌, ◌-◌, ◌⊎◌, inl, inr, List, [], ◌∷◌, ◌++◌, length, get_or, drop, Result, Ok, Err, MatchResult, refl, sym, ap, subst, ◌∙◌, length-append, arith, All, IsTrue, slice_index, Option, Some, None, append-nil}
 use Rattle.kd_tables.specs.Text.{is_text_byte}
 use Rattle.kd_state.specs.SheetDay.{Day, AreOfADaysGroup}
 use Rattle.kd_state.specs.TwoCiphers.{sheet_key, IsWindow}
@@ -190,6 +190,11 @@ module _ (s : Day) (tell : TextsTellFirstParts) (numbers : NumbersAreWords) wher
   due_alike [] count other letters more a b = refl
   due_alike (part ∷ before) count other letters more a b = ap Some (one_text a.2 b.2).0
 
+  count_alike : (parts : List (List ℕ)) (count other : ℕ) (letters more : List ℕ) → parts ≢ [] → ArePartsRead s 1 count parts letters
+      → ArePartsRead s 1 other parts more → count ≡ other
+  count_alike [] count other letters more some a b = absurd (some refl)
+  count_alike (part ∷ parts) count other letters more some a b = (one_text a.2 b.2).0
+
   -- no part is read where nothing is left
   none_left : (count : ℕ) (before : List (List ℕ)) (part : List ℕ) (behind : List (List ℕ)) (rest letters : List ℕ) → AreFirstParts (part ∷ behind) [] rest
       → ¬ (ArePartsRead s 1 count (before ++ part ∷ behind) letters)
@@ -199,12 +204,11 @@ module _ (s : Day) (tell : TextsTellFirstParts) (numbers : NumbersAreWords) wher
 
   -- ---- forms that are read to their end
 
-  read_alike : (form : List ℕ) (parts others : List (List ℕ)) (count other : ℕ) (letters more : List ℕ) → IsReadTo s form [] parts count letters
-      → IsReadTo s form [] others other more → (parts ≡ others) × (count_due parts count ≡ count_due others other) × (letters ≡ more)
-  read_alike form parts others count other letters more a b = elim (cuts form parts others [] [] a.cut b.cut) [
+  read_alike : (form : List ℕ) (x y : List (List ℕ) × ℕ × List ℕ) → (x.0 ≢ []) × IsReadTo s form [] x.0 x.1 x.2 → (y.0 ≢ []) × IsReadTo s form [] y.0 y.1 y.2 → x ≡ y
+  read_alike form (parts, count, letters) (others, other, more) (some, a) (any, b) = elim (cuts form parts others [] [] a.cut b.cut) [
     | Alike same left ↦
         let also : ArePartsRead s 1 other parts more = rw same b.read in
-        (same, due_alike parts count other letters more a.read also ∙ ap (λ ps. count_due ps other) same, letters_alike 1 count other parts letters more a.read also)
+        λ i. (same i, count_alike parts count other letters more some a.read also i, letters_alike 1 count other parts letters more a.read also i)
     | Further part behind further cut ↦ absurd (none_left other parts part behind [] more cut (rw further at b.read))
     | Before part behind further cut ↦ absurd (none_left count others part behind [] letters cut (rw further at a.read))
   ]
@@ -268,68 +272,66 @@ module _ (s : Day) (tell : TextsTellFirstParts) (numbers : NumbersAreWords) wher
       | Before part behind further cut ↦ absurd (not_refused u fault part behind t.count t.letters t.rest cut (rw further at t.read.read) refused)
     ]
 
--- ---- one fault
+    -- ---- one answer
 
--- the form is refused at a part, or all parts are read and are too few
-data IsFault (s : Day) (form : List ℕ) (fault : FormFault) : Type 0 where
-  AtPart : (t : Turn s form) → IsRefusedPart s form t fault → IsFault s form fault
-  AtEnd : (parts : List (List ℕ)) (count : ℕ) (letters : List ℕ) → parts ≢ [] → IsReadTo s form [] parts count letters → length parts < count
-      → fault ≡ PartOrder → IsFault s form fault
+    -- refused at a part; or all parts are read, and are too few or make the text
+    abbrev IsFormAnswer : Answer → Type 0
+    IsFormAnswer v =
+        ((t : Turn s form) × (fault : FormFault) × IsRefusedPart s form t fault × (v ≡ Err fault))
+        ⊎ IsFound (λ (x : List (List ℕ) × ℕ × List ℕ). (x.0 ≢ []) × IsReadTo s form [] x.0 x.1 x.2)
+        (λ x. IsJudged (x.1 ≡ length x.0) (Err PartOrder) (λ w. w ≡ Ok (given_text s x.2))) v
 
--- where no heading begins the form, its first part has none
-unheaded : (s : Day) (form : List ℕ) (fault : FormFault) → NumbersAreWords → ((more : List ℕ) → ¬ (BeginsHeading (form ++ more))) → fault ≡ BadHeading 1
-    → IsFault s form fault
-unheaded s form fault numbers none is =
-    let cut : FirstCut form = first_cut form in
-    AtPart (record {
-      before = [];
-      count = 0;
-      letters = [];
-      rest = form;
-      part = cut.part;
-      after = cut.rest;
-      read = record { cut = refl; read = refl };
-      left = inl refl;
-      first = cut.first;
-    }) (inl (InHeading (λ h body has. none [] (subst BeginsHeading (sym cut.first.joined ∙ sym (append-nil form))
-    (begins_more cut.part cut.rest (begins_there s cut.part h body numbers has)))) is))
+    only_form : IsOnly IsFormAnswer
+    only_form =
+        only_either (λ v w (t, fault, at, is) (u, found, also, it). is ∙ ap Err (one_refused t u fault found at also) ∙ sym it)
+        (only_found (read_alike form) (λ x. only_judged only_this))
+        (λ v w a b. whole_not_refused b.0.0 b.0.1 b.0.2 a.0 a.1 b.1.0 b.1.1 a.2)
 
-fault_of : (s : Day) (form : List ℕ) (fault : FormFault) → NumbersAreWords → IsReceiveFault s form fault → IsFault s form fault
-fault_of s form fault numbers (text, inl (NoHeading none empty is)) = unheaded s form fault numbers none is
-fault_of s form fault numbers (text, inl (InWhole t some refused is)) = AtPart t refused
-fault_of s form fault numbers (text, inl (InLast t line body last broken refused is)) = AtPart t (inl refused)
-fault_of s form fault numbers (text, inr (InPart t last refused is)) = AtPart t refused
-fault_of s form fault numbers (text, inr (TooFew parts count letters some read fewer is same)) = AtEnd parts count letters some read fewer is
+    text_answer : (text : List ℕ) → IsTextOf s form text → IsFormAnswer (Ok text)
+    text_answer text a = inr ((a.parts, length a.parts, a.letters), (a.some, a.read), inr (refl, ap Ok a.is))
 
-one_fault : (tell : TextsTellFirstParts) (numbers : NumbersAreWords) (s : Day) (form : List ℕ) (fault other : FormFault) → IsFault s form fault
-    → IsFault s form other → fault ≡ other
-one_fault tell numbers s form fault other (AtPart t at) (AtPart u also) = one_refused s tell numbers form t u fault other at also
-one_fault tell numbers s form fault other (AtPart t at) (AtEnd parts count letters some whole fewer is) =
-    absurd (whole_not_refused s tell numbers form parts count letters t fault some whole at)
-one_fault tell numbers s form fault other (AtEnd parts count letters some whole fewer is) (AtPart t at) =
-    absurd (whole_not_refused s tell numbers form parts count letters t other some whole at)
-one_fault tell numbers s form fault other (AtEnd parts count letters some whole fewer is) (AtEnd others number more any all less also) = is ∙ sym also
+    -- where no heading begins the form, its first part has none
+    unheaded : (fault : FormFault) → ((more : List ℕ) → ¬ (BeginsHeading (form ++ more))) → fault ≡ BadHeading 1 → IsFormAnswer (Err fault)
+    unheaded fault none is =
+        let cut : FirstCut form = first_cut form in
+        let turn : Turn s form = record {
+          before = [];
+          count = 0;
+          letters = [];
+          rest = form;
+          part = cut.part;
+          after = cut.rest;
+          read = record { cut = refl; read = refl };
+          left = inl refl;
+          first = cut.first;
+        } in
+        inl (
+          turn,
+          fault,
+          inl (InHeading (λ h body has. none [] (subst BeginsHeading (sym cut.first.joined ∙ sym (append-nil form))
+              (begins_more cut.part cut.rest (begins_there s cut.part h body numbers has)))) is),
+          refl,
+        )
+
+    fault_answer : (fault : FormFault) → IsReceiveFault s form fault → IsFormAnswer (Err fault)
+    fault_answer fault (text, inl (NoHeading none empty is)) = unheaded fault none is
+    fault_answer fault (text, inl (InWhole t some refused is)) = inl (t, fault, refused, refl)
+    fault_answer fault (text, inl (InLast t line body last broken refused is)) = inl (t, fault, inl refused, refl)
+    fault_answer fault (text, inr (InPart t last refused is)) = inl (t, fault, refused, refl)
+    fault_answer fault (text, inr (TooFew parts count letters some read fewer is same)) =
+        inr ((parts, count, letters), (some, read), inl (λ all. omega (arith, all, fewer), ap Err is))
 
 pub forms_become_one_text : TextsTellFirstParts → NumbersAreWords → FormsBecomeOneText
 forms_become_one_text tell numbers s form text other a b =
-    let same = read_alike s tell numbers form a.parts b.parts (length a.parts) (length b.parts) a.letters b.letters a.read b.read in
-    a.is ∙ ap (given_text s) same.2 ∙ sym b.is
+    let same : Ok text ≡ Ok other = only_form s tell numbers form _ _ (text_answer s tell numbers form text a) (text_answer s tell numbers form other b) in cc
 
 pub forms_have_one_fault : TextsTellFirstParts → NumbersAreWords → FormsHaveOneFault
 forms_have_one_fault tell numbers s form fault other a b =
-    one_fault tell numbers s form fault other (fault_of s form fault numbers a) (fault_of s form other numbers b)
-
-no_fault : (tell : TextsTellFirstParts) (numbers : NumbersAreWords) (s : Day) (form text : List ℕ) (fault : FormFault) → IsTextOf s form text
-    → ¬ (IsFault s form fault)
-no_fault tell numbers s form text fault a (AtPart t at) =
-    whole_not_refused s tell numbers form a.parts (length a.parts) a.letters t fault a.some a.read at
-no_fault tell numbers s form text fault a (AtEnd [] count letters some whole fewer is) = some refl
-no_fault tell numbers s form text fault a (AtEnd (part ∷ parts) count letters some whole fewer is) =
-    let same = read_alike s tell numbers form a.parts (part ∷ parts) (length a.parts) count a.letters letters a.read whole in
-    let due : length (part ∷ parts) ≡ count = cc (rw (same.0) at same.1) in omega arith
+    let same : Err fault ≡ Err other = only_form s tell numbers form _ _ (fault_answer s tell numbers form fault a) (fault_answer s tell numbers form other b) in cc
 
 pub received_forms_have_no_fault : TextsTellFirstParts → NumbersAreWords → ReceivedFormsHaveNoFault
-received_forms_have_no_fault tell numbers s form text fault a b = no_fault tell numbers s form text fault a (fault_of s form fault numbers b)
+received_forms_have_no_fault tell numbers s form text fault a b =
+    let clash : Ok text ≡ Err fault = only_form s tell numbers form _ _ (text_answer s tell numbers form text a) (fault_answer s tell numbers form fault b) in cc
 
 -- ---- a form of which no more has come
 
