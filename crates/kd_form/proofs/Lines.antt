@@ -5,7 +5,7 @@ use Rattle.std.specs.List.{AllWithin}
 use Rattle.std.proofs.lemmas.Bool.Decides.{nat_tests}
 use Rattle.std.proofs.lemmas.Bool.{false≢true, cases_Bool}
 use Rattle.std.proofs.lemmas.List.{get_or-take, drop_all, take_more, take-append-drop, length-replicate, take_all, get_or_default, length-take-le, append-nil, drop_more}
-use Rattle.std.proofs.lemmas.List.Elements.{All-append, All-cons, All-nil, All-head, All-tail, All-replicate, All-take, All-drop, All-push}
+use Rattle.std.proofs.lemmas.List.Elements.{All-append, All-cons, All-nil, All-tail, All-replicate, All-take, All-drop, All-push}
 use Rattle.kd_state.specs.Machine.{AreLetters}
 use Rattle.kd_form.specs.declared.pattern_line.Unread.{Unread}
 use Rattle.kd_form.specs.declared.pattern_line.Unread.TheVariants.{Open, Off}
@@ -265,14 +265,8 @@ keys_exist (OfRotors s) letters are =
       simp take-append-drop,
     )
 keys_exist (OfPins s) [] are = absurd (omega (arith, are.count))
-keys_exist (OfPins s) (l ∷ letters) are = (
-  Pin (record { chosen = l; external = letters }),
-  record {
-    chosen = All-head (λ n. n < 26) l letters are.within;
-    external = record { count = omega (arith, are.count); within = All-tail (λ n. n < 26) l letters are.within };
-  },
-  refl,
-)
+keys_exist (OfPins s) (l ∷ letters) are =
+    (Pin (record { chosen = l; external = letters }), record { chosen = letter_read (l ∷ letters) 0 are.within; external = (letters_cut 1 6 (l ∷ letters) are).1 }, refl)
 
 pub as_key_line : (s : Day) (line : List ℕ) → IsPatternLine (key_pattern s) line → IsAnyKeyLine s line
 as_key_line s line is =

@@ -15,6 +15,7 @@ use Rattle.kd_form.specs.Sending.{letters_from, IsBadAt}
 use Rattle.kd_form.specs.Reading.{AreRotorLetters, message_key, IsRotorText, IsRotorFault, indicators_with, ArePinLetters, IsPinText, IsPinFault, InIndicators, InExternal, InList, InChoice, IsLettersText, IsLettersFault}
 use Rattle.kd_form.specs.Receiving.{HasHeading, IsExpected, IsPartRead, IsPartFault, InHeading, InNumber, InBody, InCount, InLetters, IsEarlyFault, IsBodyFault}
 use Rattle.kd_form.proofs.Plain.{same_sized}
+use Rattle.kd_form.proofs.Received.{turn_at_start}
 use Rattle.kd_form.proofs.OneOrder.{IsCaught, only_this, only_either, only_found, only_judged, only_caught, one_internal_key, one_bad_byte, no_bad_byte, IsFound, IsJudged, IsOnly}
 use Rattle.kd_form.proofs.Headings.{one_heading, no_empty_heading, begins_there}
 use Rattle.kd_form.specs.FormParts.{BeginsHeading}
@@ -294,24 +295,9 @@ module _ (s : Day) (tell : TextsTellFirstParts) (numbers : NumbersAreWords) wher
     unheaded : (fault : FormFault) → ((more : List ℕ) → ¬ (BeginsHeading (form ++ more))) → fault ≡ BadHeading 1 → IsFormAnswer (Err fault)
     unheaded fault none is =
         let cut : FirstCut form = first_cut form in
-        let turn : Turn s form = record {
-          before = [];
-          count = 0;
-          letters = [];
-          rest = form;
-          part = cut.part;
-          after = cut.rest;
-          read = record { cut = refl; read = refl };
-          left = inl refl;
-          first = cut.first;
-        } in
-        inl (
-          turn,
-          fault,
-          inl (InHeading (λ h body has. none [] (subst BeginsHeading (sym cut.first.joined ∙ sym (append-nil form))
-              (begins_more cut.part cut.rest (begins_there s cut.part h body numbers has)))) is),
-          refl,
-        )
+        let headless : (h : Heading) (body : List ℕ) → ¬ (HasHeading s cut.part h body) = λ h body has.
+        none [] (subst BeginsHeading (sym cut.first.joined ∙ sym (append-nil form)) (begins_more cut.part cut.rest (begins_there s cut.part h body numbers has))) in
+        inl (turn_at_start s form cut.part cut.rest cut.first, fault, inl (InHeading headless is), refl)
 
     fault_answer : (fault : FormFault) → IsReceiveFault s form fault → IsFormAnswer (Err fault)
     fault_answer fault (text, inl (NoHeading none empty is)) = unheaded fault none is

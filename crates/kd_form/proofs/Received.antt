@@ -76,18 +76,22 @@ next_turn s form t parts one is left first = record {
   first = first;
 }
 
-abbrev pub first_turn : (s : Day) → Turn s []
-first_turn s = record {
+-- and at the start the first one is
+abbrev pub turn_at_start : (s : Day) (form part after : List ℕ) → IsFirstOf form part after → Turn s form
+turn_at_start s form part after first = record {
   before = [];
   count = 0;
   letters = [];
-  rest = [];
-  part = [];
-  after = [];
+  rest = form;
+  part = part;
+  after = after;
   read = record { cut = refl; read = refl };
   left = inl refl;
-  first = record { joined = refl; whole = λ place below. absurd (omega arith); ends = inl refl };
+  first = first;
 }
+
+abbrev pub first_turn : (s : Day) → Turn s []
+first_turn s = turn_at_start s [] [] [] (record { joined = refl; whole = λ place below. absurd (omega arith); ends = inl refl })
 
 -- ---- at the end
 
