@@ -73,7 +73,8 @@ sent_pieces : (s : Day) (letters : List ℕ) → flat_map (sent_letters s) (piec
 sent_pieces s =
     by_pieces (part_size s) (λ letters. flat_map (sent_letters s) (pieces (part_size s) letters) ≡ sent_letters s letters) (size_some s)
     (rw (pieces-none (part_size s) (size_some s)) (nothing_sent s))
-    (λ letters some rest. rw (pieces-next (part_size s) letters (size_some s) some) (ap (λ t. sent_letters s (take (part_size s) letters) ++ t) rest ∙ sent_joined s letters))
+    (λ letters some rest. rw (pieces-next (part_size s) letters (size_some s) some)
+    (ap (λ t. sent_letters s (take (part_size s) letters) ++ t) rest ∙ sent_joined s letters))
 
 are_pieces : (s : Day) (letters : List ℕ) → All (λ letter. letter < 26) letters → All (IsPiece s) (pieces (part_size s) letters)
 are_pieces s =

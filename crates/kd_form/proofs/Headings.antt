@@ -54,8 +54,8 @@ one_number number found byte rest more small little low same =
     (omega arith) (omega arith) same in
     (decimal_injective number found small little both.0, ap (drop 1) both.1)
 
-pub fraction_parts : (word one other : List ℕ) (part parts : ℕ) → TextsTellFirstParts → IsFraction part parts → IsFirstPart 47 word one other → fraction part parts ≡ word
-    → (decimal part ≡ one) × (decimal parts ≡ other)
+pub fraction_parts : (word one other : List ℕ) (part parts : ℕ) → TextsTellFirstParts → IsFraction part parts → IsFirstPart 47 word one other
+    → fraction part parts ≡ word → (decimal part ≡ one) × (decimal parts ≡ other)
 fraction_parts word one other part parts tell number first is =
     tell 47 (decimal part) one (decimal parts) other
     (All-weaker (λ b. 48 ≤ b) (λ b. b ≢ 47) (λ b above same. omega (arith, above, same)) (decimal part) (number_from part (omega (arith, number.in_order, number.few)))) first.without
@@ -111,7 +111,9 @@ a_word text some from = record {
 }
 
 letters_word : (letters : List ℕ) → 1 ≤ length letters → IsWord (letters_text letters)
-letters_word letters some = a_word (letters_text letters) (omega (arith, length-map letters (λ l. l + 65))) (lower 65 33 (letters_text letters) (omega arith) (letters_from letters))
+letters_word letters some =
+    a_word (letters_text letters) (omega (arith, length-map letters (λ l. l + 65)))
+    (lower 65 33 (letters_text letters) (omega arith) (letters_from letters))
 
 fraction_word : (part parts : ℕ) → part < 2 ^ 64 → parts < 2 ^ 64 → IsWord (fraction part parts)
 fraction_word part parts small few =

@@ -17,7 +17,7 @@ use Rattle.kd_state.specs.SheetDay.{Day, OfRotors, OfPins}
 use Rattle.kd_form.specs.declared.keys.Keys.{Keys}
 use Rattle.kd_form.specs.declared.keys.Keys.TheVariants.{Rotor, Pin}
 use Rattle.kd_form.specs.declared.keys.RotorKeys.{RotorKeys}
-use Rattle.kd_form.specs.Keys.{key_words, AreKeys, AreRotorKeys}
+use Rattle.kd_form.specs.Keys.{key_words, AreKeys, AreRotorKeys, ArePinKeys}
 use Rattle.kd_form.specs.KeyPatterns.{places_for, rotor_pattern, key_pattern, key_letters, IsAnyKeyLine}
 use Rattle.kd_form.specs.declared.fault.FormFault.{FormFault}
 use Rattle.kd_form.specs.Making.{Suits}
@@ -266,7 +266,9 @@ keys_exist (OfRotors s) letters are =
     )
 keys_exist (OfPins s) [] are = absurd (omega (arith, are.count))
 keys_exist (OfPins s) (l ∷ letters) are =
-    (Pin (record { chosen = l; external = letters }), record { chosen = letter_read (l ∷ letters) 0 are.within; external = (letters_cut 1 6 (l ∷ letters) are).1 }, refl)
+    let known : ArePinKeys (record { chosen = l; external = letters }) =
+    record { chosen = letter_read (l ∷ letters) 0 are.within; external = (letters_cut 1 6 (l ∷ letters) are).1 } in
+    (Pin (record { chosen = l; external = letters }), known, refl)
 
 pub as_key_line : (s : Day) (line : List ℕ) → IsPatternLine (key_pattern s) line → IsAnyKeyLine s line
 as_key_line s line is =

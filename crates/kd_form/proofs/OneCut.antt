@@ -27,8 +27,7 @@ not_beyond bytes part rest other more beyond byte a b longer left = elim a.ends 
   | inr ended ↦
       let some : 1 ≤ length part = some_byte bytes part rest a.joined ended.0 ended.1 in
       let last : length part - 1 + 1 ≡ length part = omega arith in
-      let behind : drop (length part - 1 + 1) bytes ≡ rest =
-      ap (λ n. drop n bytes) last ∙ ap (drop (length part)) a.joined ∙ drop-append_seam part rest in
+      let behind : drop (length part - 1 + 1) bytes ≡ rest = rw (last, a.joined) (drop-append_seam part rest) in
       b.whole (length part - 1) (omega (arith, ap length longer, length-append part (byte ∷ beyond))) ended.0 (subst BeginsHeading (sym behind) ended.1)
 ]
 

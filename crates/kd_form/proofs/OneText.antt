@@ -191,11 +191,6 @@ module _ (s : Day) (tell : TextsTellFirstParts) (numbers : NumbersAreWords) wher
   due_alike [] count other letters more a b = refl
   due_alike (part ∷ before) count other letters more a b = ap Some (one_text a.2 b.2).0
 
-  count_alike : (parts : List (List ℕ)) (count other : ℕ) (letters more : List ℕ) → parts ≢ [] → ArePartsRead s 1 count parts letters
-      → ArePartsRead s 1 other parts more → count ≡ other
-  count_alike [] count other letters more some a b = absurd (some refl)
-  count_alike (part ∷ parts) count other letters more some a b = (one_text a.2 b.2).0
-
   -- no part is read where nothing is left
   none_left : (count : ℕ) (before : List (List ℕ)) (part : List ℕ) (behind : List (List ℕ)) (rest letters : List ℕ) → AreFirstParts (part ∷ behind) [] rest
       → ¬ (ArePartsRead s 1 count (before ++ part ∷ behind) letters)
@@ -206,12 +201,14 @@ module _ (s : Day) (tell : TextsTellFirstParts) (numbers : NumbersAreWords) wher
   -- ---- forms that are read to their end
 
   read_alike : (form : List ℕ) (x y : List (List ℕ) × ℕ × List ℕ) → (x.0 ≢ []) × IsReadTo s form [] x.0 x.1 x.2 → (y.0 ≢ []) × IsReadTo s form [] y.0 y.1 y.2 → x ≡ y
-  read_alike form (parts, count, letters) (others, other, more) (some, a) (any, b) = elim (cuts form parts others [] [] a.cut b.cut) [
+  read_alike form ([], count, letters) (others, other, more) (some, a) (any, b) = absurd (some refl)
+  read_alike form (first ∷ parts, count, letters) (others, other, more) (some, a) (any, b) = elim (cuts form (first ∷ parts) others [] [] a.cut b.cut) [
     | Alike same left ↦
-        let also : ArePartsRead s 1 other parts more = rw same b.read in
-        λ i. (same i, count_alike parts count other letters more some a.read also i, letters_alike 1 count other parts letters more a.read also i)
-    | Further part behind further cut ↦ absurd (none_left other parts part behind [] more cut (rw further at b.read))
-    | Before part behind further cut ↦ absurd (none_left count others part behind [] letters cut (rw further at a.read))
+        let also = subst (λ ps. ArePartsRead s 1 other ps more) (sym same) b.read in
+        let is = a.read in
+        λ i. (same i, (one_text is.2 also.2).0 i, letters_alike 1 count other (first ∷ parts) letters more is also i)
+    | Further part behind further cut ↦ absurd (none_left other (first ∷ parts) part behind [] more cut (rw further at b.read))
+    | Before part behind further cut ↦ absurd (none_left count others part behind [] letters cut (subst (λ ps. ArePartsRead s 1 count ps letters) further a.read))
   ]
 
   -- ---- forms of which a part is refused

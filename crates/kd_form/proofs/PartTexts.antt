@@ -87,14 +87,16 @@ gives_words word letters (next ∷ words) more a b = gives_after 32 word letters
 
 -- where a piece in front of others gives its letters and theirs, all pieces give all letters
 gives_pieces : (size : ℕ) (whole : List (List ℕ) → List ℕ) → 0 < size → whole [] ≡ []
-    → ((piece : List ℕ) (others : List (List ℕ)) (more : List ℕ) → AreOfTheAlphabet piece → Gives (whole others) more → Gives (whole (piece ∷ others)) (piece ++ more))
+    → ((piece : List ℕ) (others : List (List ℕ)) (more : List ℕ) → AreOfTheAlphabet piece → Gives (whole others) more
+    → Gives (whole (piece ∷ others)) (piece ++ more))
     → (letters : List ℕ) → AreOfTheAlphabet letters → Gives (whole (pieces size letters)) letters
 gives_pieces size whole large none step =
     by_pieces size (λ letters. AreOfTheAlphabet letters → Gives (whole (pieces size letters)) letters) large
     (λ are. rw (pieces-none size large, none) gives_none)
     (λ letters some rest are.
     rw (pieces-next size letters large some) (subst (Gives (whole (take size letters ∷ pieces size (drop size letters)))) (take-append-drop size letters)
-    (step (take size letters) (pieces size (drop size letters)) (drop size letters) (All-take (λ l. l < 26) size letters are) (rest (All-drop (λ l. l < 26) size letters are)))))
+    (step (take size letters) (pieces size (drop size letters)) (drop size letters) (All-take (λ l. l < 26) size letters are)
+    (rest (All-drop (λ l. l < 26) size letters are)))))
 
 gives_line : (line : List ℕ) → AreOfTheAlphabet line → Gives (line_of (groups_of line)) line
 gives_line =
@@ -149,7 +151,8 @@ no_mark lines rest allowed begins = elim (fronts (lines ++ 10 ∷ []) rest (code
       (All-push (λ b. b ≢ 10) (codes "PART ") begins.digit head_unbroken (omega (arith, begins.low))))
   | Longer byte more longer left ↦
       let figure : get_or (lines ++ 10 ∷ []) 5 0 ≡ begins.digit = ap (λ t. get_or t 5 0) longer in
-      let stands : IsTrue (is_text_byte (get_or (lines ++ 10 ∷ []) 5 0)) = All-get_or (λ b. IsTrue (is_text_byte b)) (lines ++ 10 ∷ []) 5 0 (omega (arith, ap length longer)) allowed in
+      let stands : IsTrue (is_text_byte (get_or (lines ++ 10 ∷ []) 5 0)) =
+      All-get_or (λ b. IsTrue (is_text_byte b)) (lines ++ 10 ∷ []) 5 0 (omega (arith, ap length longer)) allowed in
       false≢true (sym (no_figure begins.digit begins.low begins.high) ∙ ap is_text_byte (sym figure) ∙ stands)
 ]
 

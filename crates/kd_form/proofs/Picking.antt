@@ -38,7 +38,8 @@ module _ (letters : List ℕ) (wheel start place : ℕ) (next : IsNextPlace lett
     | inr from ↦ (from, earlier letters (wheel + 1) (other + 1) (place + 1) others (omega arith) more)
   ]
 
-  first_step : (places others : List ℕ) → IsFirstPick letters (wheel + 1) (place + 1) places → Picks letters wheel start others → ComesFirst (place ∷ places) others
+  first_step : (places others : List ℕ) → IsFirstPick letters (wheel + 1) (place + 1) places → Picks letters wheel start others
+      → ComesFirst (place ∷ places) others
   first_step places [] first picks = omega arith
   first_step places (other ∷ others) first picks =
       let from = from_next other others picks in
@@ -127,7 +128,10 @@ key_picked letters start done picking =
       picked = record {
         rising = all.0;
         taken = picking.taken;
-        on_wheels = rw picking.taken (record { count = omega (arith, length-map picking.places (λ p. slice_index letters p), all.1); each = each_picked letters picking.places all.2 });
+        on_wheels = rw picking.taken (record {
+          count = omega (arith, length-map picking.places (λ p. slice_index letters p), all.1);
+          each = each_picked letters picking.places all.2;
+        });
       };
       first = λ others other are. rw (append-nil picking.places) at (best.first others (picks_from_picked letters others other are));
     }
