@@ -25,9 +25,6 @@ use Rattle.kd_form.proofs.OrderSteps.{size_some}
 
 -- ---- the letters of a text are letters of the alphabet
 
-letter_within : (blank : Option ℕ) (byte : ℕ) → IfSome blank (λ letter. letter < 26) → IfSome (letter_of_byte blank byte) (λ letter. letter < 26)
-letter_within blank byte less = grind (arith, nat_tests)
-
 found_within : (found : Option ℕ) (letters : List ℕ) → IfSome found (λ letter. letter < 26) → All (λ letter. letter < 26) letters
     → All (λ letter. letter < 26) (cons_option found letters)
 found_within None letters less within = within
@@ -36,7 +33,7 @@ found_within (Some letter) letters less within = All-cons (λ l. l < 26) letter 
 letters_within : (blank : Option ℕ) (text : List ℕ) → IfSome blank (λ letter. letter < 26) → All (λ letter. letter < 26) (letters_from blank text)
 letters_within blank [] less = All-nil (λ letter. letter < 26)
 letters_within blank (byte ∷ text) less =
-    found_within (letter_of_byte blank byte) (letters_from blank text) (letter_within blank byte less) (letters_within blank text less)
+    found_within (letter_of_byte blank byte) (letters_from blank text) (grind (arith, nat_tests)) (letters_within blank text less)
 
 text_letters_within : (s : Day) (text : List ℕ) → All (λ letter. letter < 26) (text_letters s text)
 text_letters_within (OfRotors s) text = letters_within None text tt

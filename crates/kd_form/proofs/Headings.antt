@@ -246,16 +246,13 @@ heading_length s found h has is =
     let all : length (decimal h.parts) ≤ 2 = length-decimal-le 2 h.parts (omega arith) (omega (arith, is.number.few)) small.parts in
     omega (arith, length-append {A = ℕ}, end_size s found h.letters h.indicator has few is.indicator)
 
-short_part : (part line : List ℕ) → line ≡ take 64 part → length part < 64 → line ≡ part
-short_part part line kept short = kept ∙ take_all 64 part (omega arith)
-
 pub open_told : (s : Day) (found : Option ℕ) (part line : List ℕ) (answer : Option Heading) → MatchOption found (HasPins s) (HasSlots s) → IsTold s answer line
     → IsWithout 10 part → line ≡ take 64 part
     → MatchOption answer ((h : Heading) (body : List ℕ) → ¬ (HasHeading s part h body)) (λ h. HasHeading s part h [])
 open_told s found part line None has told unbroken kept = λ h body there.
     let is : line_of (heading_words h) ≡ part = bare_heading s part h body unbroken there in
     let size : length (line_of (heading_words h)) ≤ 50 = heading_length s found h has there.is_heading in
-    told h there.is_heading (is ∙ sym (short_part part line kept (omega (arith, ap length is))))
+    told h there.is_heading (is ∙ sym (kept ∙ take_all 64 part (omega (arith, ap length is))))
 open_told s found part line (Some h) has told unbroken kept =
     let size : length (line_of (heading_words h)) ≤ 50 = heading_length s found h has told.0 in
     let whole : line ≡ part = whole_line part line kept (omega (arith, ap length told.1)) in
@@ -286,7 +283,7 @@ ended_told s found part line text None tell has cut told unbroken kept = λ h bo
     let words : List ℕ = line_of (heading_words h) in
     let ended = (heading_there s part [] h body tell unbroken there).0 in
     let size : length words ≤ 50 = heading_length s found h has there.is_heading in
-    let whole : line ≡ part = short_part part line kept (omega (arith, ended_size words part ended)) in
+    let whole : line ≡ part = kept ∙ take_all 64 part (omega (arith, ended_size words part ended)) in
     told h there.is_heading (ended_text words line text (free_heading s h 13 (omega arith) there.is_heading)
     (subst (λ l. IsEnded words (l ++ 10 ∷ [])) (sym whole) ended) cut)
 ended_told s found part line text (Some h) tell has cut told unbroken kept =

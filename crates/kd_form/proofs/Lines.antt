@@ -1,5 +1,5 @@
 -- The lines of an order up to its text.
-use Rattle.std.proofs.Common.{◌≡◌, ◌≢◌, ℕ, zero, suc, ◌+◌, ◌-◌, ◌<◌, ◌≤◌, inl, inr, Bool, true, false, List, [], ◌∷◌, ◌++◌, length, get_or, take, drop, replicate, refl, sym, ap, subst, ◌∙◌, append_assoc, length-append, length-drop, arith, ◌==◌, nat_le, nat_lt, ◌&&◌, slice_index, All, codes}
+use Rattle.std.proofs.Common.{◌≡◌, ◌≢◌, ℕ, zero, suc, ◌+◌, ◌-◌, ◌<◌, ◌≤◌, inl, inr, Bool, true, false, List, [], ◌∷◌, ◌++◌, length, get_or, take, drop, replicate, refl, sym, ap, subst, ◌∙◌, append_assoc, length-append, length-drop, arith, ◌==◌, nat_lt, All, codes}
 use Rattle.std.proofs.Math.ListN.{get_or-append}
 use Rattle.std.specs.List.{AllWithin}
 use Rattle.std.proofs.lemmas.Bool.Decides.{nat_tests}
@@ -36,18 +36,12 @@ length-filled (mark ∷ pattern) letters = elim (cases_Bool (mark == 95)) [
   | inr other ↦ rw other (ap suc (length-filled pattern letters))
 ]
 
-capital : (l : ℕ) → l < 26 → (nat_le 65 (l + 65) && nat_le (l + 65) 90) ≡ true
-capital l less = grind (arith, nat_tests)
-
-same_byte : (byte : ℕ) → (byte == byte) ≡ true
-same_byte byte = grind (arith, nat_tests)
-
 filled-fits : (pattern letters : List ℕ) (i : ℕ) → i < length pattern → All (λ l. l < 26) letters
     → fits (get_or pattern i 0) (get_or (filled_in pattern letters) i 0) ≡ true
 filled-fits [] letters i inside within = absurd (omega arith)
 filled-fits (mark ∷ pattern) letters zero inside within = elim (cases_Bool (mark == 95)) [
-  | inl blank ↦ rw blank (capital (slice_index letters 0) (letter_read letters 0 within))
-  | inr other ↦ rw other (same_byte mark)
+  | inl blank ↦ let less = letter_read letters 0 within in rw blank (grind (arith, nat_tests))
+  | inr other ↦ rw other (grind (arith, nat_tests))
 ]
 filled-fits (mark ∷ pattern) letters (suc i) inside within = elim (cases_Bool (mark == 95)) [
   | inl blank ↦ rw blank (filled-fits pattern (drop 1 letters) i (omega arith) (All-drop (λ l. l < 26) 1 letters within))

@@ -46,10 +46,11 @@ pub data AreCuts (parts others : List (List ℕ)) (rest more : List ℕ) : Type 
   Further : (part : List ℕ) (behind : List (List ℕ)) → others ≡ parts ++ part ∷ behind → AreFirstParts (part ∷ behind) rest more → AreCuts parts others rest more
   Before : (part : List ℕ) (behind : List (List ℕ)) → parts ≡ others ++ part ∷ behind → AreFirstParts (part ∷ behind) more rest → AreCuts parts others rest more
 
-cuts_more : (part : List ℕ) (parts others : List (List ℕ)) (rest more : List ℕ) → AreCuts parts others rest more → AreCuts (part ∷ parts) (part ∷ others) rest more
-cuts_more part parts others rest more (Alike same left) = Alike (ap (λ ps. part ∷ ps) same) left
-cuts_more part parts others rest more (Further next behind further cut) = Further next behind (ap (λ ps. part ∷ ps) further) cut
-cuts_more part parts others rest more (Before next behind further cut) = Before next behind (ap (λ ps. part ∷ ps) further) cut
+cuts_more : (part other : List ℕ) (parts others : List (List ℕ)) (rest more : List ℕ) → part ≡ other → AreCuts parts others rest more
+    → AreCuts (part ∷ parts) (other ∷ others) rest more
+cuts_more part other parts others rest more one (Alike same left) = Alike (cc) left
+cuts_more part other parts others rest more one (Further next behind further cut) = Further next behind (cc) cut
+cuts_more part other parts others rest more one (Before next behind further cut) = Before next behind (cc) cut
 
 pub cuts : (bytes : List ℕ) (parts others : List (List ℕ)) (rest more : List ℕ) → AreFirstParts parts bytes rest → AreFirstParts others bytes more
     → AreCuts parts others rest more
@@ -58,8 +59,7 @@ cuts bytes [] (other ∷ others) rest more a b = Further other others refl (subs
 cuts bytes (part ∷ parts) [] rest more a b = Before part parts refl (subst (λ bs. AreFirstParts (part ∷ parts) bs rest) b a)
 cuts bytes (part ∷ parts) (other ∷ others) rest more (after, first, later) (next, also, latter) =
     let same = one_cut bytes part after other next first also in
-    subst (λ p. AreCuts (part ∷ parts) (p ∷ others) rest more) same.0
-    (cuts_more part parts others rest more (cuts after parts others rest more later (subst (λ bs. AreFirstParts others bs more) (sym same.1) latter)))
+    cuts_more part other parts others rest more same.0 (cuts after parts others rest more later (subst (λ bs. AreFirstParts others bs more) (sym same.1) latter))
 
 -- the first part of nothing is empty
 pub empty_part : (part after : List ℕ) → IsFirstOf [] part after → part ≡ []

@@ -56,21 +56,18 @@ gives_both one other letters more a b = record {
 gives_none : Gives [] []
 gives_none = record { allowed = All-nil (λ b. IsTrue (is_text_byte b)); gives = refl }
 
-allowed_letter : (letter : ℕ) → letter < 26 → IsTrue (is_text_byte (letter + 65))
-allowed_letter letter less = grind (arith, nat_tests)
-
-letter_of_capital : (letter : ℕ) → letter < 26 → letter_of_byte None (letter + 65) ≡ Some letter
-letter_of_capital letter less =
+letter_told : (letter : ℕ) → letter < 26 → IsTrue (is_text_byte (letter + 65)) × (letter_of_byte None (letter + 65) ≡ Some letter)
+letter_told letter less =
     let back : letter + 65 - 65 ≡ letter = omega arith in
-    grind (arith, nat_tests)
+    (grind (arith, nat_tests), grind (arith, nat_tests))
 
 gives_word : (letters : List ℕ) → AreOfTheAlphabet letters → Gives (letters_text letters) letters
 gives_word [] are = gives_none
 gives_word (l ∷ letters) are =
-    let less : l < 26 = All-head (λ x. x < 26) l letters are in
+    let told = letter_told l (All-head (λ x. x < 26) l letters are) in
     gives_both ((l + 65) ∷ []) (letters_text letters) (l ∷ []) letters (record {
-      allowed = All-cons (λ b. IsTrue (is_text_byte b)) (l + 65) [] (allowed_letter l less) (All-nil (λ b. IsTrue (is_text_byte b)));
-      gives = ap (λ found. cons_option found []) (letter_of_capital l less);
+      allowed = All-cons (λ b. IsTrue (is_text_byte b)) (l + 65) [] told.0 (All-nil (λ b. IsTrue (is_text_byte b)));
+      gives = ap (λ found. cons_option found []) told.1;
     }) (gives_word letters (All-tail (λ x. x < 26) l letters are))
 
 -- a byte between words or behind them

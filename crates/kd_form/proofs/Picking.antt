@@ -1,7 +1,7 @@
 -- The first of all rising places is found by striking out: letter by letter, and wheel by wheel.
-use Rattle.std.proofs.Common.{◌≡◌, ℕ, zero, suc, ◌+◌, ◌<◌, ◌≤◌, inl, inr, List, [], ◌∷◌, ◌++◌, length, map, get_or, refl, sym, ap, subst, ◌∙◌, append_assoc, length-append, arith, slice_index, slice_get, Some, Contains}
+use Rattle.std.proofs.Common.{◌≡◌, ℕ, zero, suc, ◌+◌, ◌<◌, ◌≤◌, inl, inr, List, [], ◌∷◌, ◌++◌, length, map, refl, sym, ap, subst, ◌∙◌, append_assoc, length-append, arith, slice_index, slice_get, Some, Contains}
 use Rattle.std.proofs.lemmas.Bool.{cases_lt, cases_eq}
-use Rattle.std.proofs.lemmas.List.{get_or_default, append-nil, map_push, length-map}
+use Rattle.std.proofs.lemmas.List.{append-nil, map_push, length-map}
 use Rattle.kd_tables.specs.Rings.{ring_of}
 use Rattle.kd_state.specs.Box.{numbered}
 use Rattle.kd_form.specs.InternalKey.{AreRising, ComesFirst, ArePicked, IsInternalKey, HaveRunOut}
@@ -151,7 +151,3 @@ off_more letters wheel start place before off k after below on = elim (cases_eq 
   | inl same ↦ off (subst (λ i. Contains (ring_of wheel) (slice_index letters i)) same on)
   | inr apart ↦ before k after (omega (arith, below, apart)) on
 ]
-
--- the letter at a place, as it is read
-pub letter_at : (letters : List ℕ) (place letter : ℕ) → place < length letters → letter ≡ get_or letters place letter → letter ≡ slice_index letters place
-letter_at letters place letter inside is = is ∙ get_or_default letters place letter 0 inside

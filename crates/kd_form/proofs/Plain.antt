@@ -33,12 +33,9 @@ same_front P (x ∷ front) (y ∷ other) rest more all alls off none same =
 abbrev pub IsPlain : List ℕ → Type 0
 IsPlain text = All (λ byte. 32 ≤ byte) text
 
-from_test : (byte : ℕ) → IsTrue (nat_le 32 byte) → 32 ≤ byte
-from_test byte told = grind (arith, nat_tests)
-
 -- of a text that is written out, by a test
 pub plain_text : (text : List ℕ) → list_all (λ b. nat_le 32 b) text ≡ true → IsPlain text
-plain_text text passes = All-weaker (λ b. IsTrue (nat_le 32 b)) (λ b. 32 ≤ b) from_test text (AllPass-from_list_all (λ b. nat_le 32 b) text passes)
+plain_text text passes = All-weaker (λ b. IsTrue (nat_le 32 b)) (λ b. 32 ≤ b) (λ b told. grind (arith, nat_tests)) text (AllPass-from_list_all (λ b. nat_le 32 b) text passes)
 
 pub plain_letters : (letters : List ℕ) → IsPlain (letters_text letters)
 plain_letters letters = All-map (λ b. 32 ≤ b) (λ l. l + 65) letters (λ k d inside. omega arith)

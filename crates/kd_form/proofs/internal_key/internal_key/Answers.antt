@@ -1,5 +1,6 @@
 use Rattle.std.proofs.Common.{rules, [], ◌∷◌, ◌++◌, ◌+◌, ◌≡◌, ◌∙◌, sym, ap, subst, arith}
-use Rattle.kd_form.proofs.Picking.{IsPicking, picking_none, picking_more, key_picked, run_out, picked_count, letter_at}
+use Rattle.std.proofs.lemmas.List.{get_or_read}
+use Rattle.kd_form.proofs.Picking.{IsPicking, picking_none, picking_more, key_picked, run_out, picked_count}
 use Rattle.kd_form.proofs.internal_key.internal_key.Goals as goal
 
 pub loop-wheel-init : goal.loop-wheel-init
@@ -15,7 +16,7 @@ push-requires c =
 
 pub loop-wheel-preserved : goal.loop-wheel-preserved
 loop-wheel-preserved c =
-    let put = c.push.ensures.items ∙ ap (λ l. c.loop-wheel.key.items ++ l ∷ []) (letter_at _ _ _ c.in-Some.ensures.inside c.index-letters-place.is) in
+    let put = c.push.ensures.items ∙ ap (λ l. c.loop-wheel.key.items ++ l ∷ []) (get_or_read _ _ _ c.in-Some.ensures.inside c.index-letters-place.is 0) in
     rw put (picking_more _ _ _ _ _ (omega arith) c.loop-wheel.invariant c.in-Some.ensures)
 
 pub returns : goal.returns
