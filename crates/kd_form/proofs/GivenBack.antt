@@ -1,17 +1,15 @@
 -- The form that an order becomes gives the order's letters back.
-use Rattle.std.proofs.Common.{◌≡◌, ◌≢◌, ℕ, ◌+◌, ◌-◌, ◌%◌, ◌<◌, ◌≤◌, ◌⊎◌, inl, inr, Bool, true, false, List, [], ◌∷◌, ◌++◌, length, take, drop, replicate, refl, sym, ap, subst, ◌∙◌, append_assoc, length-append, arith}
-use Rattle.std.specs.Prelude.{All, Option, Some, None, IfSome, if◌then◌else◌, ◌==◌}
+use Rattle.std.proofs.Common.{◌≡◌, ◌≢◌, ℕ, ◌+◌, ◌-◌, ◌%◌, ◌<◌, ◌≤◌, ◌⊎◌, inl, inr, List, [], ◌∷◌, ◌++◌, length, take, drop, replicate, refl, sym, ap, subst, ◌∙◌, append_assoc, length-append, arith, All, Option, Some, None, IfSome}
 use Rattle.std.specs.List.{flat_map, cons_option}
 use Rattle.std.proofs.lemmas.Bool.{cases_lt}
 use Rattle.std.proofs.lemmas.Bool.Decides.{nat_tests}
 use Rattle.std.proofs.lemmas.List.{append-nil, take_all, drop_all, length-take, length-take-le, take-append-drop}
 use Rattle.std.proofs.lemmas.List.Elements.{All-nil, All-cons, All-head, All-tail, All-take, All-drop}
-use Rattle.kd_tables.specs.Text.{is_capital}
 use Rattle.kd_state.specs.Laws.{TheDayDeciphersItself}
 use Rattle.kd_state.specs.SheetDay.{Day, OfRotors, OfPins, IsLegalDay}
 use Rattle.kd_state.specs.Words.{TextsTellFirstParts}
 use Rattle.kd_form.specs.declared.keys.Keys.{Keys}
-use Rattle.kd_form.specs.FormParts.{BeginsHeading, IsFirstOf}
+use Rattle.kd_form.specs.FormParts.{BeginsHeading}
 use Rattle.kd_form.specs.FormText.{AreFirstParts, ArePartsRead, given_text, sent_letters}
 use Rattle.kd_form.specs.Keys.{AreKeys}
 use Rattle.kd_form.specs.Laws.{OrdersGiveLetters, FormsGiveTheirOrders}
@@ -20,21 +18,12 @@ use Rattle.kd_form.specs.Part.{Part, part_text, pieces, body_text}
 use Rattle.kd_form.specs.Reading.{IsLettersText}
 use Rattle.kd_form.specs.Receiving.{IsPartRead}
 use Rattle.kd_form.specs.Sending.{letter_of_byte, letters_from, text_letters, parts_needed, AreMadeTexts}
-use Rattle.kd_form.proofs.PartTexts.{by_pieces, letters_of_body, body_is_allowed, part_has_heading, part_begins_heading, part_is_first}
+use Rattle.kd_form.proofs.PartTexts.{by_pieces, gives_body, part_has_heading, part_begins_heading, part_is_first}
 use Rattle.kd_form.proofs.MadeParts.{more_pieces, pieces-next, pieces-none, IsPiece, GivesBack, part_gives_back}
 use Rattle.kd_form.proofs.OneOrder.{one_order}
 use Rattle.kd_form.proofs.OrderSteps.{size_some}
 
 -- ---- the letters of a text are letters of the alphabet
-
-choice_within : (capital space : Bool) (blank : Option ℕ) (byte : ℕ) → (capital ≡ true → byte ≤ 90) → IfSome blank (λ letter. letter < 26)
-    → IfSome (if capital then Some (byte - 65) else if space then blank else None) (λ letter. letter < 26)
-choice_within true space blank byte last less = omega (arith, last refl)
-choice_within false true blank byte last less = less
-choice_within false false blank byte last less = tt
-
-capital_last : (byte : ℕ) → is_capital byte ≡ true → byte ≤ 90
-capital_last byte capital = grind (arith, nat_tests)
 
 found_within : (found : Option ℕ) (letters : List ℕ) → IfSome found (λ letter. letter < 26) → All (λ letter. letter < 26) letters
     → All (λ letter. letter < 26) (cons_option found letters)
@@ -44,8 +33,7 @@ found_within (Some letter) letters less within = All-cons (λ l. l < 26) letter 
 letters_within : (blank : Option ℕ) (text : List ℕ) → IfSome blank (λ letter. letter < 26) → All (λ letter. letter < 26) (letters_from blank text)
 letters_within blank [] less = All-nil (λ letter. letter < 26)
 letters_within blank (byte ∷ text) less =
-    found_within (letter_of_byte blank byte) (letters_from blank text)
-    (choice_within (is_capital byte) (byte == 32) blank byte (capital_last byte) less) (letters_within blank text less)
+    found_within (letter_of_byte blank byte) (letters_from blank text) (grind (arith, nat_tests)) (letters_within blank text less)
 
 text_letters_within : (s : Day) (text : List ℕ) → All (λ letter. letter < 26) (text_letters s text)
 text_letters_within (OfRotors s) text = letters_within None text tt
@@ -57,16 +45,13 @@ text_letters_within (OfPins s) text = letters_within (Some 25) text (omega arith
 filled_behind : (front rest : List ℕ) → length front % 5 ≡ 0 → filled front ++ filled rest ≡ filled (front ++ rest)
 filled_behind front rest whole =
     let none : (5 - length front % 5) % 5 ≡ 0 = omega arith in
-    let joined : length (front ++ rest) ≡ length front + length rest = length-append front rest in
-    let alike : (5 - length rest % 5) % 5 ≡ (5 - length (front ++ rest) % 5) % 5 = omega arith in
+    let alike : (5 - length rest % 5) % 5 ≡ (5 - length (front ++ rest) % 5) % 5 = omega (arith, length-append front rest) in
     ap (λ n. (front ++ replicate n 23) ++ filled rest) none ∙ ap (λ t. t ++ filled rest) (append-nil front)
     ∙ sym (append_assoc front rest (replicate ((5 - length rest % 5) % 5) 23)) ∙ ap (λ n. (front ++ rest) ++ replicate n 23) alike
 
 filled_pieces : (letters : List ℕ) → filled (take 500 letters) ++ filled (drop 500 letters) ≡ filled letters
 filled_pieces letters = elim (cases_lt (length letters) 500) [
-  | inl short ↦
-      ap (λ t. filled t ++ filled (drop 500 letters)) (take_all 500 letters (omega arith))
-      ∙ ap (λ t. filled letters ++ filled t) (drop_all 500 letters (omega arith)) ∙ append-nil (filled letters)
+  | inl short ↦ rw (take_all 500 letters (omega arith), drop_all 500 letters (omega arith)) (append-nil (filled letters))
   | inr long ↦
       filled_behind (take 500 letters) (drop 500 letters) (ap (λ n. n % 5) (length-take-le 500 letters long)) ∙ ap filled (take-append-drop 500 letters)
 ]
@@ -84,42 +69,35 @@ nothing_sent (OfPins s) = refl
 sent_pieces : (s : Day) (letters : List ℕ) → flat_map (sent_letters s) (pieces (part_size s) letters) ≡ sent_letters s letters
 sent_pieces s =
     by_pieces (part_size s) (λ letters. flat_map (sent_letters s) (pieces (part_size s) letters) ≡ sent_letters s letters) (size_some s)
-    (ap (flat_map (sent_letters s)) (pieces-none (part_size s) (size_some s)) ∙ nothing_sent s)
-    (λ letters some rest.
-    ap (flat_map (sent_letters s)) (pieces-next (part_size s) letters (size_some s) some)
-    ∙ ap (λ t. sent_letters s (take (part_size s) letters) ++ t) rest ∙ sent_joined s letters)
-
-first_piece : (s : Day) (letters : List ℕ) → 0 < length letters → All (λ letter. letter < 26) letters → IsPiece s (take (part_size s) letters)
-first_piece s letters some within = record {
-  some = omega (arith, size_some s, length-take (part_size s) letters);
-  few = omega (arith, length-take (part_size s) letters);
-  within = All-take (λ letter. letter < 26) (part_size s) letters within;
-}
+    (rw (pieces-none (part_size s) (size_some s)) (nothing_sent s))
+    (λ letters some rest. rw (pieces-next (part_size s) letters (size_some s) some)
+    (ap (λ t. sent_letters s (take (part_size s) letters) ++ t) rest ∙ sent_joined s letters))
 
 are_pieces : (s : Day) (letters : List ℕ) → All (λ letter. letter < 26) letters → All (IsPiece s) (pieces (part_size s) letters)
 are_pieces s =
     by_pieces (part_size s) (λ letters. All (λ letter. letter < 26) letters → All (IsPiece s) (pieces (part_size s) letters)) (size_some s)
-    (λ within. subst (All (IsPiece s)) (sym (pieces-none (part_size s) (size_some s))) (All-nil (IsPiece s)))
-    (λ letters some rest within.
-    subst (All (IsPiece s)) (sym (pieces-next (part_size s) letters (size_some s) some))
-    (All-cons (IsPiece s) (take (part_size s) letters) (pieces (part_size s) (drop (part_size s) letters)) (first_piece s letters some within)
-    (rest (All-drop (λ letter. letter < 26) (part_size s) letters within))))
+    (λ within. rw (pieces-none (part_size s) (size_some s)) (All-nil (IsPiece s)))
+    (λ letters some rest within. rw (pieces-next (part_size s) letters (size_some s) some) (All-cons (IsPiece s) (take (part_size s) letters) _ (record {
+      some = omega (arith, size_some s, length-take (part_size s) letters);
+      few = omega (arith, length-take (part_size s) letters);
+      within = All-take (λ letter. letter < 26) (part_size s) letters within;
+    }) (rest (All-drop (λ letter. letter < 26) (part_size s) letters within))))
 
 -- ---- part after part
 
 part_is_read : (s : Day) (part parts : ℕ) (text : List ℕ) (made : Part) → GivesBack s part parts text made
     → IsPartRead s part parts (part_text made) text
 part_is_read s part parts text made back =
-    let letters : letters_from None (body_text made.body) ≡ made.body = letters_of_body made.body back.within in
+    let given = gives_body made.body back.within in
     record {
       heading = made.heading;
       body = body_text made.body;
       has = part_has_heading s made back.is_heading;
       numbered = back.numbered;
       so_many = back.so_many;
-      allowed = body_is_allowed made.body back.within;
-      counted = ap length letters ∙ back.counted;
-      read = subst (λ ls. IsLettersText s made.heading.indicator ls text) (sym letters) back.read;
+      allowed = given.allowed;
+      counted = ap length given.gives ∙ back.counted;
+      read = subst (λ ls. IsLettersText s made.heading.indicator ls text) (sym given.gives) back.read;
     }
 
 -- the form is nothing but parts, which are read as the letters of the pieces
@@ -135,8 +113,6 @@ parts_are_given_back : (s : Day) (part parts : ℕ) (keys : List Keys) (pieces :
     → AreMadeTexts s part parts keys pieces form → AreGivenBack s part parts (length keys) pieces form
 parts_are_given_back s part parts [] [] form decipher legal are suited all first last few made =
     record { texts = []; counted = refl; begins = inl made; cut = made; read = refl }
-parts_are_given_back s part parts [] (piece ∷ pieces) form decipher legal are suited all first last few made = absurd made
-parts_are_given_back s part parts (k ∷ keys) [] form decipher legal are suited all first last few made = absurd made
 parts_are_given_back s part parts (k ∷ keys) (piece ∷ pieces) form decipher legal are suited all first last few (one, more, (made, makes, written), others, joined) =
     let rest : AreGivenBack s (part + 1) parts (length keys) pieces more =
     parts_are_given_back s (part + 1) parts keys pieces more decipher legal (All-tail (AreKeys s) k keys are) (All-tail (Suits s) k keys suited)
@@ -144,28 +120,21 @@ parts_are_given_back s part parts (k ∷ keys) (piece ∷ pieces) form decipher 
     let back : GivesBack s part parts (sent_letters s piece) made =
     part_gives_back s part parts k piece made decipher legal (All-head (AreKeys s) k keys are) (All-head (Suits s) k keys suited)
     (record { first = first; in_order = omega arith; few = few }) (All-head (IsPiece s) piece pieces all) makes in
-    let whole : form ≡ part_text made ++ more = joined ∙ ap (λ t. t ++ more) written in
-    record {
+    rw (joined, written) (record {
       texts = part_text made ∷ rest.texts;
       counted = omega (arith, rest.counted);
-      begins = inr (subst BeginsHeading (sym whole) (part_begins_heading s made more back.is_heading));
-      cut = (
-        more,
-        subst (λ f. IsFirstOf f (part_text made) more) (sym whole) (part_is_first s made more back.is_heading back.within rest.begins),
-        rest.cut,
-      );
+      begins = inr (part_begins_heading s made more back.is_heading);
+      cut = (more, part_is_first s made more back.is_heading back.within rest.begins, rest.cut);
       read = (sent_letters s piece, flat_map (sent_letters s) pieces, part_is_read s part parts (sent_letters s piece) made back, rest.read, refl);
-    }
+    })
+parts_are_given_back s part parts _ _ form decipher legal are suited all first last few made = absurd made
 
 -- ---- the whole form
 
-has_letters : (letters : List ℕ) → letters ≢ [] → 0 < length letters
-has_letters [] some = absurd (some refl)
-has_letters (letter ∷ letters) some = omega arith
-
 some_parts : (s : Day) (letters : List ℕ) (texts : List (List ℕ)) → letters ≢ [] → length texts ≡ parts_needed s (length letters) → texts ≢ []
-some_parts s letters texts some needed none =
-    omega (arith, needed, ap length none, more_pieces (part_size s) (length letters) (size_some s) (has_letters letters some))
+some_parts s [] texts some needed none = some refl
+some_parts s (letter ∷ letters) texts some needed none =
+    omega (arith, needed, ap length none, more_pieces (part_size s) (length (letter ∷ letters)) (size_some s) (omega arith))
 
 pub orders_give_letters : OrdersGiveLetters
 orders_give_letters s order form is = (
@@ -185,10 +154,6 @@ forms_give_their_orders decipher tell s order form given legal is due =
       parts = back.texts;
       letters = sent;
       some = some_parts s letters back.texts is.sent.some (back.counted ∙ sym is.sent.counted);
-      read = record {
-        cut = back.cut;
-        read = subst (λ n. ArePartsRead s 1 n back.texts sent) (sym back.counted)
-            (subst (ArePartsRead s 1 (length is.keys) back.texts) (sent_pieces s letters) back.read);
-      };
+      read = record { cut = back.cut; read = rw back.counted (subst (ArePartsRead s 1 (length is.keys) back.texts) (sent_pieces s letters) back.read) };
       is = due.is ∙ ap (λ t. given_text s (sent_letters s (text_letters s t))) (sym same.text_is);
     }

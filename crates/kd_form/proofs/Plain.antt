@@ -1,11 +1,10 @@
--- Text in which no byte is below the space, and bytes that a text is without.
-use Rattle.std.proofs.Common.{◌≡◌, ◌≢◌, ℕ, ◌+◌, ◌≤◌, ◌<◌, true, List, [], ◌∷◌, ◌++◌, refl, subst, length-append, arith, take, ap, ◌∙◌, length}
-use Rattle.std.specs.Prelude.{codes, All, nat_le, IsTrue}
+-- Fronts of a list that are told by what they have; text in which no byte is below the space, and bytes that a text is without.
+use Rattle.std.proofs.Common.{◌≡◌, ◌≢◌, ℕ, ◌+◌, ◌≤◌, ◌<◌, true, List, [], ◌∷◌, ◌++◌, refl, subst, length-append, arith, take, ap, ◌∙◌, length, sym, codes, All, nat_le, IsTrue}
 use Rattle.std.specs.List.{list_all}
 use Rattle.std.proofs.lemmas.Bool.Decides.{nat_tests}
 use Rattle.std.proofs.lemmas.List.{get_or_append_left, take_all, length-take}
 use Rattle.std.proofs.lemmas.List.Sums.{AllPass-from_list_all}
-use Rattle.std.proofs.lemmas.List.Elements.{All-append, All-cons, All-map, All-weaker}
+use Rattle.std.proofs.lemmas.List.Elements.{All-append, All-cons, All-map, All-weaker, All-head, All-tail}
 use Rattle.kd_tables.specs.Text.{letters_text}
 use Rattle.kd_state.specs.Words.{line_of, IsWithout}
 use Rattle.kd_form.specs.declared.keys.Keys.{Keys}
@@ -16,15 +15,27 @@ use Rattle.kd_form.specs.Keys.{key_words}
 pub All-front : (P : ℕ → Type 0) (xs ys : List ℕ) → All P (xs ++ ys) → All P xs
 All-front P xs ys all k d inside = subst P (get_or_append_left xs ys d k inside) (all k d (omega (arith, length-append xs ys)))
 
+-- the list begins with nothing that has the property
+abbrev pub IsOff : {X : Type 0} → (X → Type 0) → List X → Type 0
+IsOff P [] = Unit {0}
+IsOff P (x ∷ xs) = ¬ (P x)
+
+-- two fronts of one list whose items have a property, up to one that hasn't, are the same
+pub same_front : {X : Type 0} (P : X → Type 0) (front other rest more : List X) → All P front → All P other → IsOff P rest → IsOff P more
+    → front ++ rest ≡ other ++ more → (front ≡ other) × (rest ≡ more)
+same_front P [] [] rest more all alls off none same = (refl, same)
+same_front P [] (y ∷ other) rest more all alls off none same = absurd (subst (IsOff P) same off (All-head P y other alls))
+same_front P (x ∷ front) [] rest more all alls off none same = absurd (subst (IsOff P) (sym same) none (All-head P x front all))
+same_front P (x ∷ front) (y ∷ other) rest more all alls off none same =
+    let both = same_front P front other rest more (All-tail P x front all) (All-tail P y other alls) off none (cc) in
+    (cc, both.1)
+
 abbrev pub IsPlain : List ℕ → Type 0
 IsPlain text = All (λ byte. 32 ≤ byte) text
 
-from_test : (byte : ℕ) → IsTrue (nat_le 32 byte) → 32 ≤ byte
-from_test byte told = grind (arith, nat_tests)
-
 -- of a text that is written out, by a test
 pub plain_text : (text : List ℕ) → list_all (λ b. nat_le 32 b) text ≡ true → IsPlain text
-plain_text text passes = All-weaker (λ b. IsTrue (nat_le 32 b)) (λ b. 32 ≤ b) from_test text (AllPass-from_list_all (λ b. nat_le 32 b) text passes)
+plain_text text passes = All-weaker (λ b. IsTrue (nat_le 32 b)) (λ b. 32 ≤ b) (λ b told. grind (arith, nat_tests)) text (AllPass-from_list_all (λ b. nat_le 32 b) text passes)
 
 pub plain_letters : (letters : List ℕ) → IsPlain (letters_text letters)
 plain_letters letters = All-map (λ b. 32 ≤ b) (λ l. l + 65) letters (λ k d inside. omega arith)
@@ -32,15 +43,13 @@ plain_letters letters = All-map (λ b. 32 ≤ b) (λ l. l + 65) letters (λ k d 
 pub plain_more : (word text : List ℕ) → IsPlain word → IsPlain text → IsPlain (word ++ 32 ∷ text)
 plain_more word text one other = All-append (λ b. 32 ≤ b) word (32 ∷ text) one (All-cons (λ b. 32 ≤ b) 32 text (omega arith) other)
 
-plain_keys : (k : Keys) → IsPlain (line_of (key_words k))
+pub plain_keys : (k : Keys) → IsPlain (line_of (key_words k))
 plain_keys (Rotor k) =
-    plain_more (codes "PART") (line_of (letters_text k.start ∷ letters_text k.key ∷ letters_text k.fillers ∷ letters_text k.group ∷ [])) (plain_text (codes "PART") refl)
-    (plain_more (letters_text k.start) (line_of (letters_text k.key ∷ letters_text k.fillers ∷ letters_text k.group ∷ [])) (plain_letters k.start)
-    (plain_more (letters_text k.key) (line_of (letters_text k.fillers ∷ letters_text k.group ∷ [])) (plain_letters k.key)
-    (plain_more (letters_text k.fillers) (letters_text k.group) (plain_letters k.fillers) (plain_letters k.group))))
+    plain_more (codes "PART") _ (plain_text (codes "PART") refl) (plain_more (letters_text k.start) _ (plain_letters k.start)
+    (plain_more (letters_text k.key) _ (plain_letters k.key) (plain_more (letters_text k.fillers) _ (plain_letters k.fillers) (plain_letters k.group))))
 plain_keys (Pin k) =
-    plain_more (codes "PART") (line_of (letters_text (k.chosen ∷ []) ∷ letters_text k.external ∷ [])) (plain_text (codes "PART") refl)
-    (plain_more (letters_text (k.chosen ∷ [])) (letters_text k.external) (plain_letters (k.chosen ∷ [])) (plain_letters k.external))
+    plain_more (codes "PART") ((k.chosen + 65) ∷ 32 ∷ letters_text k.external) (plain_text (codes "PART") refl)
+    (plain_more (letters_text (k.chosen ∷ [])) _ (plain_letters (k.chosen ∷ [])) (plain_letters k.external))
 
 pub without : (byte : ℕ) (text : List ℕ) → byte < 32 → IsPlain text → IsWithout byte text
 without byte text low plain = All-weaker (λ b. 32 ≤ b) (λ b. b ≢ byte) (λ b above same. omega (arith, above, same)) text plain
@@ -48,8 +57,11 @@ without byte text low plain = All-weaker (λ b. 32 ≤ b) (λ b. b ≢ byte) (λ
 pub key_line_without : (byte : ℕ) (k : Keys) → byte < 32 → IsWithout byte (line_of (key_words k))
 key_line_without byte k low = without byte (line_of (key_words k)) low (plain_keys k)
 
+pub text_plain : IsPlain (codes "TEXT")
+text_plain = plain_text (codes "TEXT") refl
+
 pub text_unbroken : IsWithout 10 (codes "TEXT")
-text_unbroken = without 10 (codes "TEXT") (omega arith) (plain_text (codes "TEXT") refl)
+text_unbroken = without 10 (codes "TEXT") (omega arith) text_plain
 
 pub head_unbroken : IsWithout 10 (codes "PART ")
 head_unbroken = without 10 (codes "PART ") (omega arith) (plain_text (codes "PART ") refl)
@@ -57,6 +69,12 @@ head_unbroken = without 10 (codes "PART ") (omega arith) (plain_text (codes "PAR
 -- a line of which less was kept than could be is whole
 pub whole_line : (part line : List ℕ) → line ≡ take 64 part → length line < 64 → line ≡ part
 whole_line part line kept short = kept ∙ take_all 64 part (omega (arith, ap length kept, length-take 64 part))
+
+-- fronts of one size are told by their list
+pub same_sized : (first other rest more : List ℕ) → length first ≡ length other → first ++ rest ≡ other ++ more → (first ≡ other) × (rest ≡ more)
+same_sized [] [] rest more sizes same = (refl, same)
+same_sized (x ∷ first) (y ∷ other) rest more sizes same = let both = same_sized first other rest more (omega arith) (cc) in (cc, both.1)
+same_sized _ _ rest more sizes same = absurd (omega arith)
 
 pub nothing_more : (some more : List ℕ) → some ++ more ≡ [] → more ≡ []
 nothing_more [] more none = none

@@ -17,16 +17,10 @@ first_parts_more (p ∷ before) form rest part after (next, is, cut) first = (ne
 parts_read_more : (s : Day) (number count : ℕ) (before : List (List ℕ)) (letters part one : List ℕ) → ArePartsRead s number count before letters
     → IsPartRead s (number + length before) count part one → ArePartsRead s number count (before ++ part ∷ []) (letters ++ one)
 parts_read_more s number count [] letters part one none read =
-    let here : number + 0 ≡ number = omega arith in
-    (one, [], subst (λ n. IsPartRead s n count part one) here read, refl, ap (λ l. l ++ one) none ∙ sym (append-nil one))
+    (one, [], subst (λ n. IsPartRead s n count part one) (omega arith) read, refl, ap (λ l. l ++ one) none ∙ sym (append-nil one))
 parts_read_more s number count (p ∷ before) letters part one (first, more, is, others, joined) read =
-    let here : number + length (p ∷ before) ≡ number + 1 + length before = omega arith in (
-      first,
-      more ++ one,
-      is,
-      parts_read_more s (number + 1) count before more part one others (subst (λ n. IsPartRead s n count part one) here read),
-      ap (λ l. l ++ one) joined ∙ append_assoc first more one,
-    )
+    let later = parts_read_more s (number + 1) count before more part one others (subst (λ n. IsPartRead s n count part one) (omega arith) read) in
+    (first, more ++ one, is, later, ap (λ l. l ++ one) joined ∙ append_assoc first more one)
 
 -- the parts so far are of as many as the next one says
 of_so_many : (s : Day) (before : List (List ℕ)) (count parts : ℕ) (letters : List ℕ) → IsExpected (count_due before count) parts
@@ -42,7 +36,7 @@ due_more [] part parts = refl
 due_more (p ∷ before) part parts = refl
 
 some_parts : (before : List (List ℕ)) (part : List ℕ) → before ++ part ∷ [] ≢ []
-some_parts before part none = absurd (let size : length before + 1 ≡ 0 = sym (length-append before (part ∷ [])) ∙ ap length none in omega arith)
+some_parts before part none = omega (arith, length-append before (part ∷ []), ap length none)
 
 -- ---- the part in turn, which is read
 
@@ -56,9 +50,8 @@ pub read_on : (s : Day) (form : List ℕ) (t : Turn s form) (parts : ℕ) (one :
 read_on s form t parts one is = record {
   cut = first_parts_more t.before form t.rest t.part t.after t.read.cut t.first;
   read =
-      let here : length t.before + 1 ≡ 1 + length t.before = omega arith in
       parts_read_more s 1 parts t.before t.letters t.part one (of_so_many s t.before t.count parts t.letters is.due t.read.read)
-      (subst (λ n. IsPartRead s n parts t.part one) here is.read);
+      (subst (λ n. IsPartRead s n parts t.part one) (omega arith) is.read);
 }
 
 -- then the next one is in turn
@@ -76,18 +69,22 @@ next_turn s form t parts one is left first = record {
   first = first;
 }
 
-abbrev pub first_turn : (s : Day) → Turn s []
-first_turn s = record {
+-- and at the start the first one is
+abbrev pub turn_at_start : (s : Day) (form part after : List ℕ) → IsFirstOf form part after → Turn s form
+turn_at_start s form part after first = record {
   before = [];
   count = 0;
   letters = [];
-  rest = [];
-  part = [];
-  after = [];
+  rest = form;
+  part = part;
+  after = after;
   read = record { cut = refl; read = refl };
   left = inl refl;
-  first = record { joined = refl; whole = λ place below. absurd (omega arith); ends = inl refl };
+  first = first;
 }
+
+abbrev pub first_turn : (s : Day) → Turn s []
+first_turn s = turn_at_start s [] [] [] (record { joined = refl; whole = λ place below. absurd (omega arith); ends = inl refl })
 
 -- ---- at the end
 

@@ -1,5 +1,6 @@
-use Rattle.std.proofs.Common.{◌<◌, All, take}
+use Rattle.std.proofs.Common.{◌<◌}
+use Rattle.std.specs.List.{AllWithin}
 use Rattle.kd_form.proofs.cipher.are_letters.Given as goal
 
 abbrev pub invariant-loop-letter : goal.invariant-loop-letter
-invariant-loop-letter l = All (λ letter. letter < 26) (take l.letter-index l.letters)
+invariant-loop-letter l = AllWithin (λ letter. letter < 26) l.letters 0 l.letter-index

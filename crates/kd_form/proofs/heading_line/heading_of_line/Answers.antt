@@ -4,12 +4,10 @@ use Rattle.kd_form.proofs.heading_line.heading_of_line.Goals as goal
 
 pub returns-in_err-words : goal.returns-in_err-words
 returns-in_err-words c =
-    rw c.from_residual.ensures
-    (λ h is. too_many_words c.args.day.now c.slots_of-slots.result h c.args.line.now c.numbers_and_letters_are_words.ensures.numbers c.lines_tell_words.ensures.split
+    rw c.from_residual.ensures (λ h is. too_many_words _ _ h _ c.numbers_and_letters_are_words.ensures.numbers c.lines_tell_words.ensures.split
     c.slots_of-slots.ensures is c.in_err-words.ensures)
 
 pub returns : goal.returns
 returns c =
-    heading_told c.args.day.now c.slots_of-slots.result c.args.line.now _ _ c.heading_of_words.result c.numbers_and_letters_are_words.ensures.numbers
-    c.lines_tell_words.ensures.split c.lines_tell_words.ensures.joined c.slots_of-slots.ensures c.in_ok-words.ensures
-    (ap (map (λ word. word.now)) c.as_slice.ensures.value) c.heading_of_words.ensures
+    heading_told _ _ _ _ _ _ c.numbers_and_letters_are_words.ensures.numbers c.lines_tell_words.ensures.split c.lines_tell_words.ensures.joined
+    c.slots_of-slots.ensures c.in_ok-words.ensures (ap (map (λ word. word.now)) c.as_slice.ensures.value) c.heading_of_words.ensures

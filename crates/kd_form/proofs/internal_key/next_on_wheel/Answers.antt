@@ -1,15 +1,13 @@
-use Rattle.std.proofs.Common.{sym, subst, ◌∙◌, arith}
-use Rattle.std.specs.Prelude.{Contains}
+use Rattle.std.proofs.Common.{sym, ◌∙◌, arith}
 use Rattle.std.proofs.lemmas.Bool.{false≢true}
-use Rattle.kd_tables.specs.Rings.{ring_of}
-use Rattle.kd_form.proofs.Picking.{off_more, letter_at}
+use Rattle.std.proofs.lemmas.List.{get_or_read}
+use Rattle.kd_form.proofs.Picking.{off_more}
 use Rattle.kd_form.proofs.internal_key.next_on_wheel.Goals as goal
 
 pub loop-place-preserved : goal.loop-place-preserved
 loop-place-preserved c =
-    off_more c.args.letters.now c.args.wheel c.args.start c.loop-place.place c.loop-place.invariant
-    (λ on. false≢true (sym c.if-is_on_wheel.false ∙ c.is_on_wheel.ensures.1 (subst (Contains (ring_of c.args.wheel))
-    (sym (letter_at c.args.letters.now c.loop-place.place c.index-letters-place.result c.loop-place-test.true c.index-letters-place.is)) on)))
+    off_more _ _ _ _ c.loop-place.invariant
+    (λ on. false≢true (sym c.if-is_on_wheel.false ∙ c.is_on_wheel.ensures.1 (rw (get_or_read _ _ _ c.loop-place-test.true c.index-letters-place.is 0) on)))
 
 pub returns : goal.returns
 returns c = λ k after below. c.loop-place.invariant k after (omega (arith, below, c.loop-place-test.false))

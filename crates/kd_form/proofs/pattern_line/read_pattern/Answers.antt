@@ -1,38 +1,29 @@
-use Rattle.std.proofs.Common.{◌∙◌, sym, ap, refl, arith}
+use Rattle.std.proofs.Common.{◌∙◌, sym, ap, refl, arith, length}
+use Rattle.std.proofs.lemmas.List.{take_rest}
 use Rattle.kd_form.specs.Patterns.{fits}
-use Rattle.kd_form.proofs.Lines.{filling_more, letter_room, line_open, line_off, line_read, line_broken, read_inside, read_at, whole_tail}
+use Rattle.kd_form.proofs.Lines.{filling_more, letter_room, line_open, line_off, line_read, line_broken, read_inside, read_at}
 use Rattle.kd_form.proofs.pattern_line.read_pattern.Goals as goal
 
 pub take_letter-requires : goal.take_letter-requires
-take_letter-requires c =
-    λ blank.
-    letter_room c.args.pattern.now c.args.bytes.now c.loop-place.letters.items c.loop-place.place _ c.loop-place.invariant c.loop-place-test.true refl
-    c.requires blank
+take_letter-requires c = letter_room _ _ _ _ c.loop-place.invariant c.loop-place-test.true c.requires
 
 pub returns-in_default : goal.returns-in_default
-returns-in_default c =
-    line_open c.args.pattern.now c.args.bytes.now c.loop-place.letters.items c.loop-place.place c.loop-place.invariant c.in_default.ensures.lookup.0
+returns-in_default c = line_open _ _ _ _ c.loop-place.invariant c.in_default.ensures.lookup.0
 
 pub returns-then-not-take_letter : goal.returns-then-not-take_letter
 returns-then-not-take_letter c =
-    line_off c.args.pattern.now c.args.bytes.now c.loop-place.place c.loop-place-test.true
-    (read_inside c.args.bytes.now c.loop-place.place c.in-Some.ensures.lookup.0)
-    (ap (fits _) (read_at c.args.bytes.now c.loop-place.place c.in-Some.byte.now c.in-Some.ensures.lookup.0 c.in-Some.ensures.lookup.1)
-    ∙ sym c.take_letter.ensures.fits ∙ c.if-not-take_letter.true)
+    line_off _ _ c.loop-place.place c.loop-place-test.true (read_inside _ _ c.in-Some.ensures.lookup.0)
+    (ap (fits _) (read_at _ _ _ c.in-Some.ensures.lookup.0 c.in-Some.ensures.lookup.1) ∙ sym c.take_letter.ensures.fits ∙ c.if-not-take_letter.true)
 
 pub loop-place-preserved : goal.loop-place-preserved
 loop-place-preserved c =
-    filling_more c.args.pattern.now c.args.bytes.now c.loop-place.letters.items _ c.loop-place.place _ c.in-Some.byte.now c.loop-place.invariant
-    c.loop-place-test.true (read_inside c.args.bytes.now c.loop-place.place c.in-Some.ensures.lookup.0) refl
-    (read_at c.args.bytes.now c.loop-place.place c.in-Some.byte.now c.in-Some.ensures.lookup.0 c.in-Some.ensures.lookup.1)
-    (sym c.take_letter.ensures.fits ∙ c.if-not-take_letter.false) c.if-not-take_letter.ensures.taken
+    filling_more _ _ _ _ _ _ _ c.loop-place.invariant c.loop-place-test.true (read_inside _ _ c.in-Some.ensures.lookup.0) refl
+    (read_at _ _ _ c.in-Some.ensures.lookup.0 c.in-Some.ensures.lookup.1) (sym c.take_letter.ensures.fits ∙ c.if-not-take_letter.false)
+    c.if-not-take_letter.ensures.taken
 
 pub returns-in-Ok : goal.returns-in-Ok
-returns-in-Ok c =
-    line_read c.args.pattern.now c.args.bytes.now c.loop-place.letters.items _ c.loop-place.place c.loop-place.invariant (omega arith)
-    (whole_tail c.args.pattern.now c.args.bytes.now) c.in-Ok.ensures
+returns-in-Ok c = line_read _ _ _ _ _ c.loop-place.invariant (omega arith) (take_rest c.args.bytes.now (length c.args.pattern.now)) c.in-Ok.ensures
 
 pub returns-in-Err : goal.returns-in-Err
 returns-in-Err c =
-    line_broken c.args.pattern.now c.args.bytes.now c.loop-place.letters.items _ c.loop-place.place c.loop-place.invariant (omega arith)
-    (whole_tail c.args.pattern.now c.args.bytes.now) c.in-Err.why c.in-Err.ensures
+    line_broken _ _ _ _ _ c.loop-place.invariant (omega arith) (take_rest c.args.bytes.now (length c.args.pattern.now)) c.in-Err.why c.in-Err.ensures

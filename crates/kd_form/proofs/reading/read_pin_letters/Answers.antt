@@ -7,17 +7,14 @@ use Rattle.kd_form.proofs.reading.read_pin_letters.Goals.{After-is_window}
 
 pub returns-then-not-are_the_same : goal.returns-then-not-are_the_same
 returns-then-not-are_the_same c =
-    indicators_differ c.args.day.now c.args.part c.args.letters.now c.split_at.result.0.now c.split_at-2.result.0.now c.split_at-2.result.1.now
-    (three_parts c.args.letters.now c.split_at.result.0.now c.split_at.result.1.now c.split_at-2.result.0.now c.split_at-2.result.1.now _
-    c.requires.some c.split_at.ensures.front c.split_at.ensures.back refl c.split_at-2.ensures.front c.split_at-2.ensures.back)
+    indicators_differ _ _ _ _ _ _
+    (three_parts _ _ _ _ _ _ c.requires.some c.split_at.ensures.front c.split_at.ensures.back refl c.split_at-2.ensures.front c.split_at-2.ensures.back)
     (λ same. false≢true (sym c.if-not-are_the_same.true ∙ c.are_the_same.ensures.1 same))
 
 pub returns-then-ne : goal.returns-then-ne
 returns-then-ne c =
-    first_two_differ c.args.day.now c.args.part c.args.letters.now c.split_at.result.0.now c.split_at-3.result.0.now c.split_at-3.result.1.now
-    c.split_at-4.result.0.now c.split_at-2.result.0.now c.split_at-2.result.1.now c.pin_keys-keys.result
-    (three_parts c.args.letters.now c.split_at.result.0.now c.split_at.result.1.now c.split_at-2.result.0.now c.split_at-2.result.1.now _
-    c.requires.some c.split_at.ensures.front c.split_at.ensures.back refl c.split_at-2.ensures.front c.split_at-2.ensures.back)
+    first_two_differ _ _ _ _ _ _ _ _ _ c.pin_keys-keys.result
+    (three_parts _ _ _ _ _ _ c.requires.some c.split_at.ensures.front c.split_at.ensures.back refl c.split_at-2.ensures.front c.split_at-2.ensures.back)
     c.split_at-3.ensures.front c.split_at-3.ensures.back c.split_at-4.ensures.front c.pin_keys-keys.ensures.letters
     (λ same. not_same c.index-twice-0.result c.pin_keys-keys.result.chosen (sym c.ne.ensures ∙ c.if-ne.true)
     (sym (first_read c.split_at-3.result.0.now c.index-twice-0.result (omega (arith, c.split_at-3.ensures.front_len)) c.index-twice-0.is) ∙ same))
@@ -25,10 +22,8 @@ returns-then-ne c =
 -- the letters are indicators, a text, and the indicators again
 are_whole : (c : After-is_window) → ArePinLetters c.args.letters.now c.pin_keys-keys.result c.split_at-4.result.1.now c.split_at-2.result.0.now
 are_whole c =
-    pin_letters_are c.args.letters.now c.split_at.result.0.now c.split_at-3.result.0.now c.split_at-3.result.1.now
-    c.split_at-4.result.0.now c.split_at-4.result.1.now c.split_at-2.result.0.now c.split_at-2.result.1.now c.pin_keys-keys.result
-    (three_parts c.args.letters.now c.split_at.result.0.now c.split_at.result.1.now c.split_at-2.result.0.now c.split_at-2.result.1.now _
-    c.requires.some c.split_at.ensures.front c.split_at.ensures.back refl c.split_at-2.ensures.front c.split_at-2.ensures.back)
+    pin_letters_are _ _ _ _ _ _ _ _ _
+    (three_parts _ _ _ _ _ _ c.requires.some c.split_at.ensures.front c.split_at.ensures.back refl c.split_at-2.ensures.front c.split_at-2.ensures.back)
     (c.are_the_same.ensures.0 c.if-not-are_the_same.false)
     c.split_at-3.ensures.front c.split_at-3.ensures.back c.split_at-4.ensures.front c.split_at-4.ensures.back c.pin_keys-keys.ensures.letters
     c.pin_keys-keys.ensures.keys.external.count
@@ -37,20 +32,15 @@ are_whole c =
 
 pub returns-then-not-is_window : goal.returns-then-not-is_window
 returns-then-not-is_window c =
-    InExternal c.pin_keys-keys.result c.split_at-4.result.1.now c.split_at-2.result.0.now (are_whole (goal.at.returns-then-not-is_window c).After-is_window)
+    InExternal _ _ _ (are_whole (goal.at.returns-then-not-is_window c).After-is_window)
     (λ window. false≢true (sym c.if-not-is_window.true ∙ c.is_window.ensures.1 window)) refl
 
 pub returns-then-not-are_the_same-2 : goal.returns-then-not-are_the_same-2
 returns-then-not-are_the_same-2 c =
-    InList c.pin_keys-keys.result c.split_at-4.result.1.now c.split_at-2.result.0.now (are_whole (goal.at.returns-then-not-are_the_same-2 c).After-is_window)
-    (c.is_window.ensures.0 c.if-not-is_window.false)
-    (λ same. false≢true (sym c.if-not-are_the_same-2.true ∙ c.are_the_same-2.ensures.1
-    (same ∙ sym (list_told c.args.day.now c.list.result c.unwrap-due.result c.list.ensures c.unwrap-due.ensures)))) refl
+    InList _ _ _ (are_whole (goal.at.returns-then-not-are_the_same-2 c).After-is_window) (c.is_window.ensures.0 c.if-not-is_window.false)
+    (λ same. false≢true (sym c.if-not-are_the_same-2.true ∙ c.are_the_same-2.ensures.1 (same ∙ sym (list_told _ _ _ c.list.ensures c.unwrap-due.ensures)))) refl
 
 pub returns-in-None : goal.returns-in-None
 returns-in-None c =
-    InChoice c.pin_keys-keys.result c.split_at-2.result.0.now
-    (subst (λ list. ArePinLetters c.args.letters.now c.pin_keys-keys.result list c.split_at-2.result.0.now)
-    (c.are_the_same-2.ensures.0 c.if-not-are_the_same-2.false ∙ list_told c.args.day.now c.list.result c.unwrap-due.result c.list.ensures c.unwrap-due.ensures)
-    (are_whole (goal.at.returns-in-None c).After-is_window))
-    (c.is_window.ensures.0 c.if-not-is_window.false) c.in-None.ensures refl
+    let list = c.are_the_same-2.ensures.0 c.if-not-are_the_same-2.false ∙ list_told _ _ _ c.list.ensures c.unwrap-due.ensures in
+    InChoice _ _ (rw list at (are_whole (goal.at.returns-in-None c).After-is_window)) (c.is_window.ensures.0 c.if-not-is_window.false) c.in-None.ensures refl

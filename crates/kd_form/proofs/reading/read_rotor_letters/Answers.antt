@@ -1,16 +1,13 @@
 use Rattle.std.proofs.Common.{rules, ◌≡◌, ◌∙◌, sym, ap, subst}
 use Rattle.kd_state.specs.TwoCiphers.{sheet_key, IsWindow}
 use Rattle.kd_form.specs.Making.{cipher_from}
-use Rattle.kd_form.specs.Reading.{message_key}
 use Rattle.kd_form.proofs.MadeParts.{key_is_window}
 use Rattle.kd_form.proofs.reading.read_rotor_letters.Goals as goal
 
 pub enciphered-requires : goal.enciphered-requires
 enciphered-requires c =
-    let told : c.enciphered-key.result.items ≡ message_key c.args.day.now c.args.indicator.now =
-    c.enciphered-key.ensures.text ∙ ap (λ window. cipher_from c.args.day.now window c.as_slice-2.result.now) c.as_slice.ensures.value
+    let told = c.enciphered-key.ensures.text ∙ ap (λ window. cipher_from c.args.day.now window c.as_slice-2.result.now) c.as_slice.ensures.value
     ∙ ap (cipher_from c.args.day.now c.args.indicator.now.start) c.as_slice-2.ensures.value in
-    let window : IsWindow (sheet_key c.args.day.now) c.enciphered-key.result.items =
-    key_is_window c.args.day.now c.args.indicator.now c.enciphered-key.result.items c.requires.indicator told c.enciphered-key.ensures.letters in
-    let shown : IsWindow (sheet_key c.args.day.now) c.as_slice-3.result.now = subst (IsWindow (sheet_key c.args.day.now)) (sym c.as_slice-3.ensures.value) window in
+    let window = key_is_window c.args.day.now c.args.indicator.now c.enciphered-key.result.items c.requires.indicator told c.enciphered-key.ensures.letters in
+    let shown : IsWindow (sheet_key c.args.day.now) c.as_slice-3.result.now = rw (c.as_slice-3.ensures.value) window in
     search rules

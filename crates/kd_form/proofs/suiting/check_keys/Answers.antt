@@ -1,16 +1,6 @@
 use Rattle.std.proofs.Common.{sym}
-use Rattle.kd_form.proofs.Lines.{suited_more, suited_all, unsuited}
+use Rattle.kd_form.proofs.Lines.{unsuited}
 use Rattle.kd_form.proofs.suiting.check_keys.Goals as goal
 
 pub returns-in-Err : goal.returns-in-Err
-returns-in-Err c =
-    unsuited c.args.day.now c.args.keys.now c.loop-keys.part c.loop-keys.keys-index c.keys-item.result c.in-Err.fault c.loop-keys-test.true
-    (sym c.keys-item.is) c.loop-keys.invariant c.in-Err.ensures
-
-pub loop-keys-preserved : goal.loop-keys-preserved
-loop-keys-preserved c =
-    suited_more c.args.day.now c.args.keys.now c.loop-keys.part c.loop-keys.keys-index c.keys-item.result c.loop-keys-test.true
-    (sym c.keys-item.is) c.loop-keys.invariant c.in-Ok.ensures
-
-pub returns : goal.returns
-returns c = suited_all c.args.day.now c.args.keys.now c.loop-keys.part c.loop-keys.keys-index c.loop-keys-test.false c.loop-keys.invariant
+returns-in-Err c = unsuited _ _ _ _ c.keys-item.result c.in-Err.fault c.loop-keys-test.true (sym c.keys-item.is) c.loop-keys.invariant c.in-Err.ensures
