@@ -15,13 +15,13 @@ use Rattle.kd_form.specs.FormText.{IsRefusedForGood, NoHeading, InWhole, InLast,
 use Rattle.kd_form.specs.OnTheKey.{IsKeyFault}
 use Rattle.kd_form.specs.Sending.{IsKeysFault, StandsInOrder, InHead, InKeys, InText, Cut, NoLetter, InParts, IsSendFault, IsBadAt}
 use Rattle.kd_form.specs.SendStream.{orders}
-use Rattle.kd_form.specs.Streams.{Message, Answers, Whole, Stands, AtEnd, TooLong, SourceFails, SinkFails, is_device, is_off_key}
+use Rattle.kd_form.specs.Streams.{Message, Answers, Whole, Stands, AtEnd, TooLong, SourceFails, SinkFails, AreWell, is_device, is_off_key}
 use Rattle.std.specs.Prelude.{codes, All, IsTrue}
 use Rattle.std.proofs.Math.Seq.{drop-append_seam}
 use Rattle.std.proofs.Math.ListN.{get_or-append}
 use Rattle.std.proofs.lemmas.Bool.{cases_lt, false≢true}
-use Rattle.std.proofs.lemmas.List.{append-nil}
-use Rattle.std.proofs.lemmas.List.Elements.{All-head, All-tail}
+use Rattle.std.proofs.lemmas.List.{append-nil, nil_from_length}
+use Rattle.std.proofs.lemmas.List.Elements.{All-same}
 use Rattle.kd_tables.specs.Text.{is_text_byte}
 use Rattle.kd_state.specs.Words.{IsWithout, IsFirstPart, TextsTellFirstParts, NumbersAreWords}
 use Rattle.kd_form.specs.FormParts.{BeginsHeading, IsFirstOf}
@@ -30,8 +30,8 @@ use Rattle.std.proofs.lemmas.List.Sums.{AllPass-from_list_all}
 use Rattle.kd_form.proofs.Plain.{All-front}
 use Rattle.kd_form.proofs.Headings.{ended_heading, heading_there}
 use Rattle.kd_form.proofs.OneCut.{FirstCut, first_cut, some_byte}
-use Rattle.kd_form.proofs.Growing.{begins_front, first_grows, last_rest, no_break, same_start, turn_with}
-use Rattle.kd_form.proofs.OneOrder.{Shorter, Longer, fronts, bad_longer}
+use Rattle.kd_form.proofs.Growing.{begins_front, first_grows, last_rest, last_whole, no_break, same_start, turn_with}
+use Rattle.kd_form.proofs.OneOrder.{Shorter, Longer, fronts, bad_longer, no_bad_byte}
 
 -- -------- of which answers a device is the reason, or the machine
 
@@ -42,45 +42,33 @@ is_foreign Device = true
 is_foreign NotOnKey = true
 is_foreign _ = false
 
-not_device : (fault : FormFault) → is_foreign fault ≡ false → is_device (Err fault) ≡ false
-not_device Device own = cc
-not_device _ own = refl
-
-not_off_key : (fault : FormFault) → is_foreign fault ≡ false → is_off_key (Err fault) ≡ false
-not_off_key NotReady own = cc
-not_off_key NotOnKey own = cc
-not_off_key _ own = refl
-
 -- what refuses a message is its own
 pub record IsOfMessage (m : Message) : Type 0 where
   pub standing : (bytes : List ℕ) (fault : FormFault) → m.stands bytes fault → is_foreign fault ≡ false
   pub whole : (bytes : List ℕ) (fault : FormFault) → m.refused bytes fault → is_foreign fault ≡ false
 
-told : (source sink : Port) (answer other : Result (Unit {0}) FormFault) → answer ≡ other → Fail source sink (is_device other) → Fail source sink (is_device answer)
-told source sink answer other is fails = subst (λ a. Fail source sink (is_device a)) (sym is) fails
+-- a device failed exactly where the answer says so, and the machine isn't the reason
+abbrev pub IsToldOf : Port → Port → Result (Unit {0}) FormFault → Type 0
+IsToldOf source sink answer = Fail source sink (is_device answer) × (is_off_key answer ≡ false)
 
-well : (source sink : Port) (answer : Result (Unit {0}) FormFault) (fault : FormFault) → answer ≡ Err fault → is_foreign fault ≡ false → Fail source sink false
-    → Fail source sink (is_device answer)
-well source sink answer fault is own are_well = told source sink answer (Err fault) is (subst (Fail source sink) (sym (not_device fault own)) are_well)
+told_of : (source sink : Port) (fault : FormFault) → is_foreign fault ≡ false → AreWell source sink → IsToldOf source sink (Err fault)
+told_of source sink NotReady own well = cc
+told_of source sink Device own well = cc
+told_of source sink NotOnKey own well = cc
+told_of source sink _ own well = (well, refl)
 
-pub fails : (m : Message) (source sink : Port) (read text : List ℕ) (answer : Result (Unit {0}) FormFault) → IsOfMessage m → Answers m source sink read text answer
-    → Fail source sink (is_device answer)
-fails m source sink read text answer of (Whole few ended becomes are_well is) = told source sink answer (Ok tt) is are_well
-fails m source sink read text answer of (Stands fault few stands before are_well is) = well source sink answer fault is (of.standing read fault stands) are_well
-fails m source sink read text answer of (AtEnd fault few ended none refused before are_well is) = well source sink answer fault is (of.whole read fault refused) are_well
-fails m source sink read text answer of (TooLong front byte joined size open_yet are_well is) = told source sink answer _ is are_well
-fails m source sink read text answer of (SourceFails few open_yet alone is) = told source sink answer (Err Device) is (inl alone)
-fails m source sink read text answer of (SinkFails due few is_due front alone is) = told source sink answer (Err Device) is (inr alone)
+pub answered : (m : Message) (source sink : Port) (read text : List ℕ) (answer : Result (Unit {0}) FormFault) → IsOfMessage m → Answers m source sink read text answer
+    → IsToldOf source sink answer
+answered m source sink read text answer of (Whole few ended becomes well is) = rw is (well, refl)
+answered m source sink read text answer of (Stands fault few stands before well is) = rw is (told_of source sink fault (of.standing read fault stands) well)
+answered m source sink read text answer of (AtEnd fault few ended none refused before well is) = rw is (told_of source sink fault (of.whole read fault refused) well)
+answered m source sink read text answer of (TooLong front byte joined size open_yet well is) = rw is (well, refl)
+answered m source sink read text answer of (SourceFails few open_yet alone is) = rw is (inl alone, refl)
+answered m source sink read text answer of (SinkFails due few is_due front alone is) = rw is (inr alone, refl)
 
--- no message is refused for its machine
-pub own : (m : Message) (source sink : Port) (read text : List ℕ) (answer : Result (Unit {0}) FormFault) → IsOfMessage m → Answers m source sink read text answer
-    → is_off_key answer ≡ false
-own m source sink read text answer of (Whole few ended becomes are_well is) = ap is_off_key is
-own m source sink read text answer of (Stands fault few stands before are_well is) = ap is_off_key is ∙ not_off_key fault (of.standing read fault stands)
-own m source sink read text answer of (AtEnd fault few ended none refused before are_well is) = ap is_off_key is ∙ not_off_key fault (of.whole read fault refused)
-own m source sink read text answer of (TooLong front byte joined size open_yet are_well is) = ap is_off_key is
-own m source sink read text answer of (SourceFails few open_yet alone is) = ap is_off_key is
-own m source sink read text answer of (SinkFails due few is_due front alone is) = ap is_off_key is
+pub off_key : (m : Parts) (s : Day) (source sink : Port) (fault : FormFault) → IsKeyFault m s fault → AreWell source sink → Fail source sink (is_device (Err fault))
+off_key m s source sink fault (inl unready) well = rw unready.1 well
+off_key m s source sink fault (inr other) well = rw other.2 well
 
 -- ---- orders
 
@@ -140,12 +128,6 @@ whole_fault s form fault (text, inr found) = at_end s form text fault found
 pub of_forms : (s : Day) → IsOfMessage (form_message s)
 of_forms s = record { standing = λ form fault found. for_good s form found.0 fault found.1; whole = λ form fault found. whole_fault s form fault found }
 
--- ---- off the key
-
-pub off_key_fails : (m : Parts) (s : Day) (source sink : Port) (fault : FormFault) → IsKeyFault m s fault → Fail source sink false → Fail source sink (is_device (Err fault))
-off_key_fails m s source sink fault (inl unready) are_well = told source sink (Err fault) (Err NotReady) (ap Err unready.1) are_well
-off_key_fails m s source sink fault (inr other) are_well = told source sink (Err fault) (Err NotOnKey) (ap Err other.2) are_well
-
 -- -------- what refuses a form for good
 
 -- ---- one line more or less behind the line of the heading
@@ -164,34 +146,35 @@ early_as_well s number expected start line body other fault tell unbroken bad (I
     omega (arith, ap length there.1, length-append line (10 ∷ body), length-append line (10 ∷ other)) in
     InBody h other place (ended_heading s line other h has.is_heading there.0) numbered due (bad place (subst (λ x. IsBadAt x place) there.1 at)) (is ∙ ap BadByte same)
 
-good_there : (front : List ℕ) (byte : ℕ) (rest : List ℕ) → All (λ b. IsTrue (is_text_byte b)) (front ++ byte ∷ rest) → IsTrue (is_text_byte byte)
-good_there [] byte rest all = All-head (λ b. IsTrue (is_text_byte b)) byte rest all
-good_there (x ∷ front) byte rest all = good_there front byte rest (All-tail (λ b. IsTrue (is_text_byte b)) x (front ++ byte ∷ rest) all)
-
 bad_in_less : (body more : List ℕ) (place : ℕ) → All (λ b. IsTrue (is_text_byte b)) more → IsBadAt (body ++ more) place → IsBadAt body place
 bad_in_less body more place good at = elim (fronts body more at.before (at.byte ∷ at.rest) at.joined) [
-  | Shorter beyond longer left ↦
-      absurd (false≢true (sym at.bad ∙ good_there beyond at.byte at.rest (subst (All (λ b. IsTrue (is_text_byte b))) left good)))
+  | Shorter beyond longer left ↦ absurd (no_bad_byte more (length beyond) good (record {
+      before = beyond;
+      byte = at.byte;
+      rest = at.rest;
+      joined = left;
+      size = refl;
+      allowed = All-front (λ b. IsTrue (is_text_byte b)) beyond (at.byte ∷ at.rest) (rw left at good);
+      bad = at.bad;
+    }))
   | Longer x beyond longer left ↦
       let same : at.byte ≡ x = cc in
       record {
         before = at.before;
-        byte = at.byte;
+        byte = x;
         rest = beyond;
-        joined = longer ∙ ap (λ y. at.before ++ y ∷ beyond) (sym same);
+        joined = longer;
         size = at.size;
         allowed = at.allowed;
-        bad = at.bad;
+        bad = rw same at at.bad;
       }
 ]
-
-head_allowed : All (λ b. IsTrue (is_text_byte b)) (codes "PART ")
-head_allowed = AllPass-from_list_all is_text_byte (codes "PART ") refl
 
 -- fewer than six bytes of what begins a heading may stand in a body
 few_allowed : (bytes more : List ℕ) → length bytes < 6 → BeginsHeading (bytes ++ more) → All (λ b. IsTrue (is_text_byte b)) bytes
 few_allowed bytes more few begins = elim (fronts bytes more (codes "PART ") (begins.digit ∷ begins.rest) begins.is) [
-  | Shorter beyond longer left ↦ All-front (λ b. IsTrue (is_text_byte b)) bytes beyond (subst (All (λ b. IsTrue (is_text_byte b))) longer head_allowed)
+  | Shorter beyond longer left ↦
+      All-front (λ b. IsTrue (is_text_byte b)) bytes beyond (All-same (λ b. IsTrue (is_text_byte b)) (bytes ++ beyond) (codes "PART ") (sym longer) (AllPass-from_list_all is_text_byte (codes "PART ") refl))
   | Longer x beyond longer left ↦ absurd (omega (arith, ap length longer))
 ]
 
@@ -211,12 +194,6 @@ alike_longer part line body cut beyond broken longer = record {
   bad = λ place at. bad_longer body beyond place at;
 }
 
-too_few : (bytes more : List ℕ) → ¬ (BeginsHeading bytes) → BeginsHeading (bytes ++ more) → length bytes < 6
-too_few bytes more none begins = elim (cases_lt (length bytes) 6) [ inl short ↦ short | inr long ↦ absurd (none (begins_front bytes more long begins)) ]
-
-whole_size : (n : ℕ) → 1 ≤ n → n - 1 + 1 ≡ n
-whole_size n some = omega arith
-
 -- or its last bytes begin the next heading
 alike_shorter : (part line body cut rest more beyond : List ℕ) (byte : ℕ) → IsFirstOf part part [] → part ≡ line ++ 10 ∷ body → IsWithout 10 line
     → IsFirstOf (part ++ more) cut rest → part ≡ cut ++ byte ∷ beyond → rest ≡ byte ∷ (beyond ++ more) → IsAlike cut line body
@@ -226,18 +203,18 @@ alike_shorter part line body cut rest more beyond byte first broken unbroken nex
       let some : 1 ≤ length cut = some_byte (part ++ more) cut rest next.joined ended.0 ended.1 in
       let size : length part ≡ length cut + length (byte ∷ beyond) = ap length split ∙ length-append cut (byte ∷ beyond) in
       let last : get_or part (length cut - 1) 0 ≡ 10 = sym (get_or-append part more 0 (length cut - 1) (omega (arith, size))) ∙ ended.0 in
-      let behind : drop (length cut - 1 + 1) part ≡ byte ∷ beyond =
-      ap (λ n. drop n part) (whole_size (length cut) some) ∙ ap (drop (length cut)) split ∙ drop-append_seam cut (byte ∷ beyond) in
-      let none : ¬ (BeginsHeading (byte ∷ beyond)) =
-      (λ begins. first.whole (length cut - 1) (omega (arith, size)) last (subst BeginsHeading (sym behind) begins)) in
-      let begins : BeginsHeading ((byte ∷ beyond) ++ more) = subst BeginsHeading left ended.1 in
-      let few : length (byte ∷ beyond) < 6 = too_few (byte ∷ beyond) more none begins in
-      let good : All (λ b. IsTrue (is_text_byte b)) (byte ∷ beyond) = few_allowed (byte ∷ beyond) more few begins in
+      let at_end : length cut - 1 + 1 ≡ length cut = omega (arith, some) in
+      let behind : drop (length cut - 1 + 1) part ≡ byte ∷ beyond = rw at_end (ap (drop (length cut)) split ∙ drop-append_seam cut (byte ∷ beyond)) in
+      let begins : BeginsHeading ((byte ∷ beyond) ++ more) = rw left at ended.1 in
+      let few : length (byte ∷ beyond) < 6 = elim (cases_lt (length (byte ∷ beyond)) 6) [
+        | inl short ↦ short
+        | inr long ↦ absurd (first.whole (length cut - 1) (omega (arith, size)) last (rw behind (begins_front (byte ∷ beyond) more long begins)))
+      ] in
       elim (fronts (line ++ 10 ∷ []) body cut (byte ∷ beyond) (append_assoc line (10 ∷ []) body ∙ sym broken ∙ split)) [
         | Shorter other longer gone ↦ record {
           other = other;
           is = longer ∙ append_assoc line (10 ∷ []) other;
-          bad = λ place at. bad_in_less other (byte ∷ beyond) place good (subst (λ x. IsBadAt x place) gone at);
+          bad = λ place at. bad_in_less other (byte ∷ beyond) place (few_allowed (byte ∷ beyond) more few begins) (rw gone at at);
         }
         | Longer x beyond' longer gone ↦ absurd (
             let inside : length cut - 1 < length line = omega (arith, some, ap length longer, length-append line (10 ∷ []), length-append cut (x ∷ beyond')) in
@@ -261,39 +238,30 @@ nothing_or_some (x ∷ xs) = inr (λ none. cc)
 last_stays : (s : Day) (form more text line body : List ℕ) (fault : FormFault) (t : Turn s form) → TextsTellFirstParts → more ≢ [] → t.after ≡ []
     → IsFirstPart 10 t.part line body → IsRefusedEarly s form t fault → text ≡ given_letters s t.letters → IsRefusedForGood s (form ++ more) text fault
 last_stays s form more text line body fault t tell some last broken early is =
-    let rest : t.rest ≡ t.part = last_rest s form t last in
-    let first : IsFirstOf t.rest t.rest [] = subst (λ p. IsFirstOf t.rest p []) (sym rest) (subst (λ a. IsFirstOf t.rest t.part a) last t.first) in
-    let split : t.rest ≡ line ++ 10 ∷ body = rest ∙ broken.joined in
     let cut : FirstCut (t.rest ++ more) = first_cut (t.rest ++ more) in
     let u : Turn s (form ++ more) = turn_with s form more cut.part cut.rest t some cut.first in
-    let same : IsAlike cut.part line body = alike t.rest line body cut.part cut.rest more first split broken.without cut.first in
+    let same : IsAlike cut.part line body =
+    alike t.rest line body cut.part cut.rest more (last_whole s form t last) (last_rest s form t last ∙ broken.joined) broken.without cut.first in
     let start : ℕ = length (form ++ more) - length (t.rest ++ more) in
     let found : IsEarlyFault s (length t.before + 1) (count_due t.before t.count) start cut.part fault =
-    subst (λ p. IsEarlyFault s (length t.before + 1) (count_due t.before t.count) start p fault) (sym same.is)
-    (early_as_well s (length t.before + 1) (count_due t.before t.count) start line body same.other fault tell broken.without same.bad
-    (subst (λ p. IsEarlyFault s (length t.before + 1) (count_due t.before t.count) start p fault) broken.joined
-    (subst (λ n. IsEarlyFault s (length t.before + 1) (count_due t.before t.count) n t.part fault) (sym (same_start form t.rest more)) early))) in
+    rw same.is (early_as_well s (length t.before + 1) (count_due t.before t.count) start line body same.other fault tell broken.without same.bad
+    (rw broken.joined at (rw (← same_start form t.rest more) at early))) in
     elim (nothing_or_some cut.rest) [
       | inl none ↦ InLast u line same.other none (record { joined = same.is; without = broken.without }) found is
       | inr left ↦ InWhole u left (inl found) is
     ]
 
-no_front : (front back : List ℕ) → front ++ back ≡ [] → front ≡ []
-no_front [] back none = refl
-no_front (x ∷ front) back none = cc
-
 some_more : (s : Day) (form more text : List ℕ) (fault : FormFault) → TextsTellFirstParts → more ≢ [] → IsRefusedForGood s form text fault
     → IsRefusedForGood s (form ++ more) text fault
 some_more s form more text fault tell some (NoHeading none empty is) =
-    NoHeading (λ other begins. none (more ++ other) (subst BeginsHeading (append_assoc form more other) begins)) empty is
+    NoHeading (λ other begins. none (more ++ other) (rw (append_assoc form more other) at begins)) empty is
 some_more s form more text fault tell some (InWhole t left refused is) =
     let u : Turn s (form ++ more) = turn_with s form more t.part (t.after ++ more) t some (first_grows t.rest t.part t.after more t.first left) in
-    InWhole u (λ none. left (no_front t.after more none))
-    (subst (λ n. IsPartFault s (length t.before + 1) (count_due t.before t.count) n t.part fault) (sym (same_start form t.rest more)) refused) is
+    InWhole u (λ none. left (nil_from_length t.after (omega (arith, ap length none, length-append t.after more)))) (rw (same_start form t.rest more) refused) is
 some_more s form more text fault tell some (InLast t line body last broken early is) = last_stays s form more text line body fault t tell some last broken early is
 
 pub stays_refused : TextsTellFirstParts → NumbersAreWords → FormsStayRefused
 stays_refused tell numbers s form more text fault found = elim (nothing_or_some more) [
-  | inl none ↦ subst (λ b. IsRefusedForGood s b text fault) (sym (append-nil form) ∙ ap (λ l. form ++ l) (sym none)) found
+  | inl none ↦ rw (none, append-nil form) found
   | inr some ↦ some_more s form more text fault tell some found
 ]

@@ -32,10 +32,6 @@ pub still_well : (before after : Bool) → after ≡ before → after ≡ (befor
 still_well true after e = e
 still_well false after e = e
 
--- a flag since an earlier time, since which it wasn't raised
-pub flag_since : (before between after stops : Bool) → between ≡ before → after ≡ (between || stops) → after ≡ (before || stops)
-flag_since before between after stops same now = now ∙ ap (λ b. b || stops) same
-
 all_of_it : (xs : List ℕ) → StartsWith xs xs
 all_of_it xs = starts_with_of_append xs xs [] (sym (append-nil xs))
 
@@ -98,9 +94,6 @@ pub room_less : (m : Message) (old new : List ℕ → List ℕ → Type 0) (more
 room_less m old new more sink room less few has fed =
     let one = fed has.bytes has.text has.held in
     record { bytes = has.bytes ++ more; text = has.text ++ one.made; held = one.fed; within = omega (arith, has.within, few, length-append has.bytes more) }
-
-pub room_at_first : (m : Message) (holds : List ℕ → List ℕ → Type 0) (room : ℕ) → room < 2 ^ 63 → Held m holds [] [] → HasRoom m holds room
-room_at_first m holds room few held = record { bytes = []; text = []; held = held; within = omega (arith, few) }
 
 refused_longer : (m : Message) (bytes more text : List ℕ) (fault : FormFault) → IsRefused m bytes text fault → IsRefused m (bytes ++ more) text fault
 refused_longer m bytes more text fault is = record {
@@ -207,10 +200,6 @@ SoFar-nil m holds had took a d held = record {
 }
 
 -- the ports since an earlier time, since which they didn't fail
-due_since : (m : Message) (had has next : Option (List ℕ)) (a b c : Bool) (read due : List ℕ) → IsDue m (over has next b c) read due → IsDue m (over had next a c) read due
-due_since m had has next a b c read due (ByThen front starts open') = ByThen front starts open'
-due_since m had has next a b c read due (ByTheEnd answer ended closes) = ByTheEnd answer ended closes
-
 answers_since : (m : Message) (had has next took taken wrote : Option (List ℕ)) (a b c d e f : Bool) (read text : List ℕ) (answer : Result (Unit {0}) FormFault)
     → b ≡ a → e ≡ d → Answers m (over has next b c) (over taken wrote e f) read text answer → Answers m (over had next a c) (over took wrote d f) read text answer
 answers_since m had has next took taken wrote a b c d e f read text answer p q (Whole few ended becomes well is) = Whole few ended becomes (well.0 ∙ p, well.1 ∙ q) is
@@ -221,48 +210,43 @@ answers_since m had has next took taken wrote a b c d e f read text answer p q (
     TooLong front byte joined full open' (well.0 ∙ p, well.1 ∙ q) is
 answers_since m had has next took taken wrote a b c d e f read text answer p q (SourceFails few open' fails is) =
     SourceFails few open' (record { failed = fails.failed; well = fails.well ∙ q }) is
-answers_since m had has next took taken wrote a b c d e f read text answer p q (SinkFails due few is_due starts fails is) =
-    SinkFails due few (due_since m had has next a b c read due is_due) starts (record { failed = fails.failed; well = fails.well ∙ p }) is
+answers_since m had has next took taken wrote a b c d e f read text answer p q (SinkFails due few (ByThen front begins open') starts fails is) =
+    SinkFails due few (ByThen front begins open') starts (record { failed = fails.failed; well = fails.well ∙ p }) is
+answers_since m had has next took taken wrote a b c d e f read text answer p q (SinkFails due few (ByTheEnd told ended closes) starts fails is) =
+    SinkFails due few (ByTheEnd told ended closes) starts (record { failed = fails.failed; well = fails.well ∙ p }) is
 
 -- A step behind what was read, by what is known of the ports at the start, between and behind it.
 module _ (m : Message) (old new : List ℕ → List ℕ → Type 0) (had has next took taken wrote : Option (List ℕ)) (a b c d e f : Bool) (count room : ℕ)
     (before : SoFar m old (over had has a b) (over took taken d e) count) (space : room ≡ READ_LIMIT - count) where
-  pub SoFar-read : (n : ℕ) → ReadsNext m old new room (over has next b c) (over taken wrote e f) (Ok n) → SoFar m new (over had next a c) (over took wrote d f) (count + n)
+  pub SoFar-read : (n : ℕ) → ReadsNext m old new room (over has next b c) (over taken wrote e f) (Ok n)
+      → SoFar m new (over had next a c) (over took wrote d f) (count + n) × (n ≡ 0 → IsAtEnd next)
   SoFar-read n reads =
-      let step = reads before.read before.text before.held (omega (arith, before.counted, before.within, space)) in
-      record {
-        read = before.read ++ step.more;
-        text = before.text ++ step.made;
-        counted = length-append before.read step.more ∙ omega (arith, before.counted, step.read.0);
-        within = omega (arith, before.within, step.within, step.read.0, space);
-        given = Consumes-trans had has next before.read step.more before.given step.given;
-        written = Appends-trans took taken wrote before.text step.made before.written step.written;
-        held = step.read.1;
-        well = (step.read.3 ∙ before.well.0, step.read.4 ∙ before.well.1);
-      }
-
-  pub SoFar-at_end : (n : ℕ) → n ≡ 0 → ReadsNext m old new room (over has next b c) (over taken wrote e f) (Ok n) → IsAtEnd next
-  SoFar-at_end n none reads =
-      let step = reads before.read before.text before.held (omega (arith, before.counted, before.within, space)) in
-      step.read.2 none
-
-  stopped : (stop : Stop) → ReadsNext m old new room (over has next b c) (over taken wrote e f) (Err stop)
-      → IsStreamed m (over had next a c) (over took wrote d f) (Err (fault_of stop))
-  stopped stop reads =
-      let step = reads before.read before.text before.held (omega (arith, before.counted, before.within, space)) in
-      record {
-        read = before.read ++ step.more;
-        text = before.text ++ step.made;
-        given = Consumes-trans had has next before.read step.more before.given step.given;
-        written = Appends-trans took taken wrote before.text step.made before.written step.written;
-        answers = answers_since m had has next took taken wrote a b c d e f (before.read ++ step.more) (before.text ++ step.made) (Err (fault_of stop))
-            before.well.0 before.well.1 step.read;
-      }
+      let step = reads before.read before.text before.held (omega (arith, before.counted, before.within, space)) in (
+        record {
+          read = before.read ++ step.more;
+          text = before.text ++ step.made;
+          counted = length-append before.read step.more ∙ omega (arith, before.counted, step.read.0);
+          within = omega (arith, before.within, step.within, step.read.0, space);
+          given = Consumes-trans had has next before.read step.more before.given step.given;
+          written = Appends-trans took taken wrote before.text step.made before.written step.written;
+          held = step.read.1;
+          well = (step.read.3 ∙ before.well.0, step.read.4 ∙ before.well.1);
+        },
+        step.read.2,
+      )
 
   pub IsStreamed-stopped : (stop : Stop) (fault : FormFault) → fault ≡ fault_of stop → ReadsNext m old new room (over has next b c) (over taken wrote e f) (Err stop)
       → IsStreamed m (over had next a c) (over took wrote d f) (Err fault)
   IsStreamed-stopped stop fault is reads =
-      subst (λ told. IsStreamed m (over had next a c) (over took wrote d f) (Err told)) (sym is) (stopped stop reads)
+      let step = reads before.read before.text before.held (omega (arith, before.counted, before.within, space)) in
+      record {
+        read = before.read ++ step.more;
+        text = before.text ++ step.made;
+        given = Consumes-trans had has next before.read step.more before.given step.given;
+        written = Appends-trans took taken wrote before.text step.made before.written step.written;
+        answers = rw is (answers_since m had has next took taken wrote a b c d e f (before.read ++ step.more) (before.text ++ step.made) (Err (fault_of stop))
+            before.well.0 before.well.1 step.read);
+      }
 
 -- ---- the end
 
@@ -297,23 +281,23 @@ IsStreamed-closed m holds source took taken wrote d e f count answer before ende
           (closed m holds before.read before.text one.made source took taken wrote d e f closes.told before.held few ended before.well.0 before.well.1 one.ended closes.failed);
     }
 
-pub at_end : (has next : Option (List ℕ)) (end : Bool) → end ≡ true → Ends has next (Ok end) → IsAtEnd next
-at_end has next end is ends = (subst (λ b. Ends has next (Ok b)) is ends).1
-
 -- As much as may be read was read, and one byte more was asked for.
 module _ (m : Message) (holds : List ℕ → List ℕ → Type 0) (had has next : Option (List ℕ)) (sink : Port) (a b c : Bool) (count : ℕ)
     (before : SoFar m holds (over had has a b) sink count) where
-  pub SoFar-ended : (end : Bool) → end ≡ true → Ends has next (Ok end) → c ≡ (b || false) → SoFar m holds (over had next a c) sink count
-  SoFar-ended end is ends well = let none = (subst (λ b. Ends has next (Ok b)) is ends).0 in record {
-    read = before.read;
-    text = before.text;
-    counted = before.counted;
-    within = before.within;
-    given = subst (Consumes had next) (append-nil before.read) (Consumes-trans had has next before.read [] before.given none);
-    written = before.written;
-    held = before.held;
-    well = (well_now b c well ∙ before.well.0, before.well.1);
-  }
+  pub SoFar-ended : (end : Bool) → end ≡ true → Ends has next (Ok end) → c ≡ (b || false) → SoFar m holds (over had next a c) sink count × IsAtEnd next
+  SoFar-ended end is ends well = let none = subst (λ b. Ends has next (Ok b)) is ends in (
+    record {
+      read = before.read;
+      text = before.text;
+      counted = before.counted;
+      within = before.within;
+      given = subst (Consumes had next) (append-nil before.read) (Consumes-trans had has next before.read [] before.given none.0);
+      written = before.written;
+      held = before.held;
+      well = (well_now b c well ∙ before.well.0, before.well.1);
+    },
+    none.1,
+  )
 
   pub IsStreamed-too_long : READ_LIMIT ≤ count → (end : Bool) → end ≡ false → Ends has next (Ok end) → c ≡ (b || false)
       → IsStreamed m (over had next a c) sink (Err faults.ReadTooLong)
