@@ -73,22 +73,13 @@ off_key m s source sink fault (inr other) well = rw other.2 well
 -- ---- orders
 
 keys_fault : (s : Day) (part : ℕ) (k : Keys) (fault : FormFault) → IsKeysFault s part k fault → is_foreign fault ≡ false
-keys_fault (OfRotors s) part (Rotor k) fault found = ap is_foreign found.1
-keys_fault (OfPins s) part (Pin k) fault (inl off) = ap is_foreign off.1
-keys_fault (OfPins s) part (Pin k) fault (inr spent) = ap is_foreign spent.2
-keys_fault (OfRotors s) part (Pin k) fault found = absurd found
-keys_fault (OfPins s) part (Rotor k) fault found = absurd found
+keys_fault s part k fault found = grind arith
 
 standing_order : (s : Day) (order : List ℕ) (fault : FormFault) → StandsInOrder s order fault → is_foreign fault ≡ false
-standing_order s order fault (InHead p h few is) = ap is_foreign is
-standing_order s order fault (InKeys ks hd t o k) = keys_fault s _ k.unsuited fault k.is
-standing_order s order fault (InText ks hd t n o su b is) = ap is_foreign is
+standing_order s order fault found = grind (arith, keys_fault)
 
 whole_order : (s : Day) (order : List ℕ) (fault : FormFault) → IsSendFault s order fault → is_foreign fault ≡ false
-whole_order s order fault (inl stands) = standing_order s order fault stands
-whole_order s order fault (inr (Cut h is)) = ap is_foreign is
-whole_order s order fault (inr (NoLetter ks hd t o su al none is)) = ap is_foreign is
-whole_order s order fault (inr (InParts ks hd t o su al some differ is)) = ap is_foreign is
+whole_order s order fault found = grind (arith, standing_order)
 
 pub of_orders : (s : Day) → IsOfMessage (orders s)
 of_orders s = record { standing = standing_order s; whole = whole_order s }
@@ -96,30 +87,19 @@ of_orders s = record { standing = standing_order s; whole = whole_order s }
 -- ---- forms
 
 letters_fault : (s : Day) (part : ℕ) (i : Option Indicator) (letters : List ℕ) (fault : FormFault) → IsLettersFault s part i letters fault → is_foreign fault ≡ false
-letters_fault s part (Some i) letters fault found = ap is_foreign found.is
-letters_fault s part None letters fault (InIndicators first text last joined front back differ is) = ap is_foreign is
-letters_fault s part None letters fault (InExternal k list text are off is) = ap is_foreign is
-letters_fault s part None letters fault (InList k list text are on other is) = ap is_foreign is
-letters_fault s part None letters fault (InChoice k text are on spent is) = ap is_foreign is
+letters_fault s part i letters fault found = grind arith
 
 body_fault : (s : Day) (number : ℕ) (h : Heading) (letters : List ℕ) (fault : FormFault) → IsBodyFault s number h letters fault → is_foreign fault ≡ false
-body_fault s number h letters fault (InCount other is) = ap is_foreign is
-body_fault s number h letters fault (InLetters counted found) = letters_fault s number h.indicator letters fault found
+body_fault s number h letters fault found = grind (arith, letters_fault)
 
 part_fault : (s : Day) (number : ℕ) (expected : Option ℕ) (start : ℕ) (part : List ℕ) (fault : FormFault) → IsPartFault s number expected start part fault → is_foreign fault ≡ false
-part_fault s number expected start part fault (inl (InHeading none is)) = ap is_foreign is
-part_fault s number expected start part fault (inl (InNumber h body has other is)) = ap is_foreign is
-part_fault s number expected start part fault (inl (InBody h body place has numbered due bad is)) = ap is_foreign is
-part_fault s number expected start part fault (inr late) = body_fault s number late.heading _ fault late.found
+part_fault s number expected start part fault found = grind (arith, body_fault)
 
 for_good : (s : Day) (form text : List ℕ) (fault : FormFault) → IsRefusedForGood s form text fault → is_foreign fault ≡ false
-for_good s form text fault (NoHeading none empty is) = ap is_foreign is
-for_good s form text fault (InWhole t some refused is) = part_fault s _ _ _ t.part fault refused
-for_good s form text fault (InLast t line body last broken early is) = part_fault s _ _ _ t.part fault (inl early)
+for_good s form text fault found = grind (arith, part_fault)
 
 at_end : (s : Day) (form text : List ℕ) (fault : FormFault) → IsRefusedAtEnd s form text fault → is_foreign fault ≡ false
-at_end s form text fault (InPart t last refused is) = part_fault s _ _ _ t.part fault refused
-at_end s form text fault (TooFew parts count letters some read fewer is same) = ap is_foreign is
+at_end s form text fault found = grind (arith, part_fault)
 
 whole_fault : (s : Day) (form : List ℕ) (fault : FormFault) → IsReceiveFault s form fault → is_foreign fault ≡ false
 whole_fault s form fault (text, inl found) = for_good s form text fault found
