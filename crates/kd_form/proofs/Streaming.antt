@@ -20,17 +20,14 @@ over had has before after = record { had = had; has = has; had_failed = before; 
 
 -- a failed call leaves the flag up
 failed_now : (before after : Bool) → after ≡ (before || true) → IsTrue after
-failed_now true after e = e
-failed_now false after e = e
+failed_now x0 after e = grind arith
 
 -- a call that did not fail leaves the flag as it was
 pub well_now : (before after : Bool) → after ≡ (before || false) → after ≡ before
-well_now true after e = e
-well_now false after e = e
+well_now x0 after e = grind arith
 
 pub still_well : (before after : Bool) → after ≡ before → after ≡ (before || false)
-still_well true after e = e
-still_well false after e = e
+still_well x0 after e = grind arith
 
 all_of_it : (xs : List ℕ) → StartsWith xs xs
 all_of_it xs = starts_with_of_append xs xs [] (sym (append-nil xs))
@@ -285,19 +282,7 @@ IsStreamed-closed m holds source took taken wrote d e f count answer before ende
 module _ (m : Message) (holds : List ℕ → List ℕ → Type 0) (had has next : Option (List ℕ)) (sink : Port) (a b c : Bool) (count : ℕ)
     (before : SoFar m holds (over had has a b) sink count) where
   pub SoFar-ended : (end : Bool) → end ≡ true → Ends has next (Ok end) → c ≡ (b || false) → SoFar m holds (over had next a c) sink count × IsAtEnd next
-  SoFar-ended end is ends well = let none = subst (λ b. Ends has next (Ok b)) is ends in (
-    record {
-      read = before.read;
-      text = before.text;
-      counted = before.counted;
-      within = before.within;
-      given = subst (Consumes had next) (append-nil before.read) (Consumes-trans had has next before.read [] before.given none.0);
-      written = before.written;
-      held = before.held;
-      well = (well_now b c well ∙ before.well.0, before.well.1);
-    },
-    none.1,
-  )
+  SoFar-ended end is ends well = grind arith
 
   pub IsStreamed-too_long : READ_LIMIT ≤ count → (end : Bool) → end ≡ false → Ends has next (Ok end) → c ≡ (b || false)
       → IsStreamed m (over had next a c) sink (Err faults.ReadTooLong)
