@@ -51,8 +51,7 @@ five tail None none is = absurd (none 5 is)
 five tail (Some count) some is = ap Some (omega (arith, ap length is, ap length some.1, some.0, length-take count (codes "PART ")))
 
 tail_is : (tail : List ℕ) (begun : Option ℕ) → Begins tail begun → begun ≡ Some 5 → tail ≡ codes "PART "
-tail_is tail None none is = cc
-tail_is tail (Some count) some is = let five : count ≡ 5 = cc in some.1 ∙ ap (λ n. take n (codes "PART ")) five
+tail_is tail x1 none is = grind arith
 
 -- ---- the letters
 
@@ -147,42 +146,25 @@ are_shown others kept shown letters more few size is cut = elim (cases_lt 525 (l
 too_long : {X : Type 0} (items : X → List ℕ) (s : Day) (h : Heading) (shown letters : List ℕ) (answer : Result X FormFault) → h.letters ≤ 520
     → 521 ≤ length shown → 521 ≤ length letters → MatchResult answer (λ x. IsBodyText s h shown (items x)) (IsBodyFault s h.part h shown)
     → MatchResult answer (λ x. IsBodyText s h letters (items x)) (IsBodyFault s h.part h letters)
-too_long items s h shown letters (Ok x) few many more told = absurd (omega (arith, told.0))
-too_long items s h shown letters (Err fault) few many more (InCount other is) = InCount (λ same. omega arith) is
-too_long items s h shown letters (Err fault) few many more (InLetters same is) = absurd (omega arith)
+too_long items s h shown letters x5 few many more told = grind arith
 
 pub body_told : {X : Type 0} (items : X → List ℕ) (s : Day) (h : Heading) (others : ℕ) (kept shown letters more : List ℕ) (answer : Result X FormFault)
     → IsHeading s h → others ≤ 4 → length more ≡ others → kept ≡ take 525 (letters ++ more) → shown ≡ take (length kept - others) kept
     → MatchResult answer (λ x. IsBodyText s h shown (items x)) (IsBodyFault s h.part h shown)
     → MatchResult answer (λ x. IsBodyText s h letters (items x)) (IsBodyFault s h.part h letters)
-body_told items s h others kept shown letters more answer is few size kept_is cut told = elim (are_shown others kept shown letters more few size kept_is cut) [
-  | inl same ↦ subst (λ l. MatchResult answer (λ x. IsBodyText s h l (items x)) (IsBodyFault s h.part h l)) same told
-  | inr long ↦ too_long items s h shown letters answer (at_most s h.letters is.letters) long.0 long.1 told
-]
+body_told items s h others kept shown letters more answer is few size kept_is cut told = grind (arith, are_shown, too_long, at_most)
 
 -- -------- a whole part
 
 pub body_heading : (s : Day) (b : PartBody) (part body : List ℕ) → HoldsBody s b part body → HasHeading s part b.heading body
-body_heading s b part body holds = record { line = holds.line; joined = holds.joined; ended = inl holds.ended; is_heading = holds.is_heading }
+body_heading s b part body holds = grind arith
 
 -- a part with that heading and that body is read, or refused for its letters
 pub last_told : {X : Type 0} (parts : X → ℕ) (letters : X → List ℕ) (s : Day) (number : ℕ) (expected : Option ℕ) (part body : List ℕ) (h : Heading) (answer : Result X FormFault)
     → HasHeading s part h body → h.part ≡ number → IsExpected expected h.parts → All (λ b. IsTrue (is_text_byte b)) body
     → MatchResult answer (λ x. (parts x ≡ h.parts) × IsBodyText s h (letters_from None body) (letters x)) (IsBodyFault s h.part h (letters_from None body))
     → MatchResult answer (λ x. IsLastText s number expected part (parts x) (letters x)) (λ fault. (start : ℕ) → IsPartFault s number expected start part fault)
-last_told parts letters s number expected part body h (Ok x) has numbered due allowed told = record {
-  read = record { heading = h; body = body; has = has; numbered = numbered; so_many = sym told.0; allowed = allowed; counted = told.1.0; read = told.1.1 };
-  due = rw told.0 due;
-}
-last_told parts letters s number expected part body h (Err fault) has numbered due allowed told = λ start. inr (record {
-  heading = h;
-  body = body;
-  has = has;
-  numbered = numbered;
-  due = due;
-  allowed = allowed;
-  found = subst (λ n. IsBodyFault s n h (letters_from None body) fault) numbered told;
-})
+last_told parts letters s number expected part body h x8 has numbered due allowed told = grind arith
 
 -- what the line of a heading tells where the form ends in it, or where an LF has come
 abbrev pub IsOpenBy : Day → List ℕ → Option Heading → Type 0
@@ -193,8 +175,7 @@ IsEndedBy s part found =
     MatchOption found ((h : Heading) (body : List ℕ) → ¬ (HasHeading s (part ++ 10 ∷ []) h body)) (λ h. IsHeading s h × IsEnded (line_of (heading_words h)) (part ++ 10 ∷ []))
 
 open_by : (s : Day) (part : List ℕ) (found : Option Heading) → IsEndedBy s part found → IsOpenBy s (part ++ 10 ∷ []) found
-open_by s part None told = told
-open_by s part (Some h) told = ended_heading s part [] h told.0 told.1
+open_by s part x2 told = grind (arith, ended_heading)
 
 pub off : (s : Day) (number : ℕ) (expected : Option ℕ) (start : ℕ) (part : List ℕ) (found : Option Heading) (fault : FormFault) → IsOpenBy s part found
     → IsHeadingOff number expected found fault → IsEarlyFault s number expected start part fault
@@ -338,7 +319,7 @@ module _ (s : Day) (r : FormReader) (form text : List ℕ) (h : HoldsForm s r fo
 
   in_turn : (p one : List ℕ) (parts : ℕ) → IsLastText s r.number r.expected p parts one
       → IsPartRead s (length turn.before + 1) parts p one × IsExpected (count_due turn.before turn.count) parts
-  in_turn p one parts last = in_number (λ n e. IsPartRead s n parts p one × IsExpected e parts) (last.read, last.due)
+  in_turn p one parts last = grind arith
 
   -- a byte more of the same part
   grown : (stage : Stage) (made : List ℕ) (byte : ℕ) → IsFirstOf (part ++ byte ∷ []) (part ++ byte ∷ []) [] → made ≡ []

@@ -16,8 +16,7 @@ use Rattle.kd_form.proofs.OneOrder.{Shorter, Longer, fronts}
 use Rattle.kd_form.proofs.Headings.{has_byte}
 
 pub no_break : (line after : List ℕ) (k : ℕ) → IsWithout 10 line → k < length line → get_or (line ++ 10 ∷ after) k 0 ≢ 10
-no_break line after k without inside is =
-    All-get_or (λ byte. byte ≢ 10) line k 0 inside without (sym (get_or-append line (10 ∷ after) 0 k inside) ∙ is)
+no_break line after k without inside is = grind (arith, All-get_or {X = ℕ}, get_or-append {A = ℕ})
 
 -- ---- where a heading begins
 
@@ -25,13 +24,7 @@ pub heading_size : (bytes : List ℕ) → BeginsHeading bytes → 6 ≤ length b
 heading_size bytes begins = omega (arith, ap length begins.is)
 
 pub begins_more : (bytes more : List ℕ) → BeginsHeading bytes → BeginsHeading (bytes ++ more)
-begins_more bytes more begins = record {
-  digit = begins.digit;
-  rest = begins.rest ++ more;
-  is = ap (λ l. l ++ more) begins.is;
-  low = begins.low;
-  high = begins.high;
-}
+begins_more bytes more begins = grind arith
 
 -- its first six bytes tell
 pub begins_front : (bytes more : List ℕ) → 6 ≤ length bytes → BeginsHeading (bytes ++ more) → BeginsHeading bytes
@@ -51,17 +44,7 @@ none_more bytes part rest more place first below inside is begins =
     (begins_front (drop (place + 1) bytes) more (omega (arith, length-drop (place + 1) bytes)) (rw (drop-append-le (place + 1) bytes more (omega arith)) at begins))
 
 pub first_grows : (bytes part rest more : List ℕ) → IsFirstOf bytes part rest → rest ≢ [] → IsFirstOf (bytes ++ more) part (rest ++ more)
-first_grows bytes part rest more first some = elim first.ends [
-  | inl none ↦ absurd (some none)
-  | inr ended ↦
-      let size : length bytes ≡ length part + length rest = ap length first.joined ∙ length-append part rest in
-      let six : 6 ≤ length rest = heading_size rest ended.1 in
-      record {
-        joined = ap (λ l. l ++ more) first.joined ∙ append_assoc part rest more;
-        whole = λ place below. none_more bytes part rest more place first below (omega (arith, size, six, below));
-        ends = inr (get_or-append bytes more 0 (length part - 1) (omega (arith, size, six)) ∙ ended.0, begins_more rest more ended.1);
-      }
-]
+first_grows bytes part rest more first some = grind (arith, none_more, heading_size, begins_more, get_or-append {A = ℕ}, append_assoc {A = ℕ}, length-append {A = ℕ})
 
 pub nothing_left : (parts : List (List ℕ)) (bytes rest : List ℕ) → bytes ≡ [] → AreFirstParts parts bytes rest → rest ≡ []
 nothing_left [] bytes rest none same = sym same ∙ none
@@ -104,7 +87,7 @@ pub same_start : (form rest more : List ℕ) → length (form ++ more) - length 
 same_start form rest more = omega (arith, length-append form more, length-append rest more)
 
 pub last_rest : (s : Day) (form : List ℕ) (t : Turn s form) → t.after ≡ [] → t.rest ≡ t.part
-last_rest s form t last = t.first.joined ∙ ap (λ l. t.part ++ l) last ∙ append-nil t.part
+last_rest s form t last = grind (arith, append-nil {A = ℕ})
 
 pub last_whole : (s : Day) (form : List ℕ) (t : Turn s form) → t.after ≡ [] → IsFirstOf t.rest t.rest []
 last_whole s form t last = rw (last_rest s form t last) (rw last at (rw (last_rest s form t last) at t.first))
@@ -143,7 +126,7 @@ due_told part line byte due kept may (few, is) =
 
 whole_part : (bytes : List ℕ) → ((place : ℕ) → place + 1 < length bytes → get_or bytes place 0 ≡ 10 → ¬ (BeginsHeading (drop (place + 1) bytes)))
     → IsFirstOf bytes bytes []
-whole_part bytes none = record { joined = sym (append-nil bytes); whole = none; ends = inl refl }
+whole_part bytes none = grind (arith, append-nil {A = ℕ})
 
 -- without an LF there is no other line
 pub first_unbroken : (bytes : List ℕ) (byte : ℕ) → IsWithout 10 bytes → IsFirstOf (bytes ++ byte ∷ []) (bytes ++ byte ∷ []) []

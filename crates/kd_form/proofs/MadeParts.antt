@@ -36,16 +36,7 @@ pub no_piece : (size : ℕ) → 0 < size → div_ceil 0 size ≡ 0
 no_piece size large = rw (div-eq_of_lt large, mod-eq_of_lt large) refl
 
 pub more_pieces : (size n : ℕ) → 0 < size → 0 < n → div_ceil n size ≡ div_ceil (n - size) size + 1
-more_pieces size n large some = elim (cases_lt n size) [
-  | inl small ↦
-      let gone : n - size ≡ 0 = omega arith in
-      rw (gone, no_piece size large, div-eq_of_lt small, mod-eq_of_lt small) (omega arith)
-  | inr full ↦
-      let back : size + (n - size) ≡ n = omega arith in
-      let times : n / size ≡ (n - size) / size + 1 = rw back at (add-div_left (n - size) large) in
-      let left : n % size ≡ (n - size) % size = rw back at (add-mod_left size (n - size)) in
-      rw (times, left) (omega arith)
-]
+more_pieces size n large some = grind arith
 
 pub pieces-next : (size : ℕ) (letters : List ℕ) → 0 < size → 0 < length letters
     → pieces size letters ≡ take size letters ∷ pieces size (drop size letters)
@@ -126,8 +117,7 @@ body_end initial text rest done before = cc (append-nil text, body-none)
 -- ---- the test whether anything is left
 
 pub some_left : (empty : Bool) (xs : List ℕ) → empty ≡ (length xs == 0) → empty ≡ false → 0 < length xs
-some_left empty [] told filled = absurd (false≢true (sym filled ∙ told))
-some_left empty (x ∷ xs) told filled = omega arith
+some_left empty x1 told filled = grind arith
 
 pub nothing_left : (empty : Bool) (xs : List ℕ) → empty ≡ (length xs == 0) → empty ≡ true → xs ≡ []
 nothing_left empty [] told gone = refl
@@ -172,24 +162,18 @@ made_of_pin s part parts keys k text letters shown bytes is (internal, first, ma
 -- ---- the internal key is there where the keys suit the day
 
 pub has_internal : (s : Day) (k : PinKeys) → Suits s (Pin k) → (internal : List ℕ) × IsInternalKey (enciphered_choice s k) internal
-has_internal (OfRotors s) k suits = absurd suits
-has_internal (OfPins s) k suits = suits.1
+has_internal x0 k suits = grind arith
 
 pub not_spent : {X : Type 0} (found : Option X) (items : X → List ℕ) (letters : List ℕ)
     → MatchOption found (HaveRunOut letters) (λ key. IsInternalKey letters (items key)) → (internal : List ℕ) × IsInternalKey letters internal → IsSome found
-not_spent None items letters spent (internal, first) = absurd (spent first.places internal first.picked)
-not_spent (Some key) items letters told internal = refl
+not_spent x0 items letters spent x4 = grind arith
 
 -- -------- the letters of a part's body, taken apart
 
 -- the deciphered message key is a window
 pub key_is_window : (s : Day) (i : Indicator) (key : List ℕ) → HasIndicator s (Some i) → key ≡ message_key s i → All (λ l. l < 26) key
     → IsWindow (sheet_key s) key
-key_is_window (OfRotors s) i key has is within = record {
-  count = ap length is ∙ length-cipher_from (OfRotors s) i.start i.key ∙ has.1.count ∙ sym (length-map s.wheels (λ w. w.wheel));
-  within = within;
-}
-key_is_window (OfPins s) i key has is within = absurd has
+key_is_window x0 i key has is within = grind (arith, length-cipher_from, length-map)
 
 -- ---- indicators
 
@@ -201,27 +185,16 @@ pub record AreThree (letters first text last : List ℕ) : Type 0 where
 
 pub three_parts : (letters first rest text last : List ℕ) (n : ℕ) → 20 ≤ length letters → first ≡ take 10 letters → rest ≡ drop 10 letters
     → n ≡ length rest - 10 → text ≡ take n rest → last ≡ drop n rest → AreThree letters first text last
-three_parts letters first rest text last n long front others count middle back = record {
-  joined = cc (take-append-drop 10 letters, take-append-drop n rest);
-  front = ap length front ∙ length-take-le 10 letters (omega arith);
-  back = omega (arith, ap length back, length-drop n rest, ap length others, length-drop 10 letters);
-}
+three_parts letters first rest text last n long front others count middle back = grind (arith, take-append-drop {A = ℕ}, length-take-le {A = ℕ}, length-drop {A = ℕ})
 
 pub whole_indicators : (first twice others key list : List ℕ) (k : PinKeys) → length first ≡ 10 → twice ≡ take 1 first → others ≡ drop 1 first
     → key ≡ take 7 others → list ≡ drop 7 others → key ≡ k.chosen ∷ k.external → get_or twice 0 0 ≡ k.chosen → first ≡ indicators_with k list
-whole_indicators [] twice others key list k ten one more front back are same = absurd (omega arith)
-whole_indicators (x ∷ first) twice others key list k ten one more front back are same = cc (take-append-drop 7 others)
+whole_indicators x0 twice others key list k ten one more front back are same = grind arith
 
 pub pin_letters_are : (letters first twice others key list text last : List ℕ) (k : PinKeys) → AreThree letters first text last → first ≡ last
     → twice ≡ take 1 first → others ≡ drop 1 first → key ≡ take 7 others → list ≡ drop 7 others → key ≡ k.chosen ∷ k.external
     → length k.external ≡ 6 → get_or twice 0 0 ≡ k.chosen → ArePinLetters letters k list text
-pin_letters_are letters first twice others key list text last k three same one more front back are six begins =
-    let whole : first ≡ indicators_with k list = whole_indicators first twice others key list k three.front one more front back are begins in
-    record {
-      joined = cc (three.joined, whole, same);
-      six = six;
-      two = omega (arith, ap length back, length-drop 7 others, ap length more, length-drop 1 first, three.front);
-    }
+pin_letters_are letters first twice others key list text last k three same one more front back are six begins = grind arith
 
 pub indicators_differ : (s : Day) (part : ℕ) (letters first text last : List ℕ) → AreThree letters first text last → first ≢ last
     → IsPinFault s part letters (IndicatorsDiffer part)
@@ -229,9 +202,7 @@ indicators_differ s part letters first text last three differ = InIndicators fir
 
 first_two : (first twice others key : List ℕ) (chosen : ℕ) (external : List ℕ) → length first ≡ 10 → twice ≡ take 1 first → others ≡ drop 1 first
     → key ≡ take 7 others → key ≡ chosen ∷ external → get_or twice 0 0 ≢ chosen → slice_index first 0 ≢ slice_index first 1
-first_two [] twice others key chosen external ten one more front are differ same = absurd (omega arith)
-first_two (x ∷ []) twice others key chosen external ten one more front are differ same = absurd (omega arith)
-first_two (x ∷ y ∷ first) twice others key chosen external ten one more front are differ same = differ (cc)
+first_two x0 twice others key chosen external ten one more front are differ same = grind arith
 
 pub first_two_differ : (s : Day) (part : ℕ) (letters first twice others key text last : List ℕ) (k : PinKeys) → AreThree letters first text last
     → twice ≡ take 1 first → others ≡ drop 1 first → key ≡ take 7 others → key ≡ k.chosen ∷ k.external → get_or twice 0 0 ≢ k.chosen
@@ -252,8 +223,7 @@ pub the_same : (read chosen : ℕ) → not (read == chosen) ≡ false → read �
 the_same read chosen differ = grind (arith, nat_tests)
 
 pub list_told : (s : Day) (found : Option (List ℕ)) (due : List ℕ) → found ≡ option_map (λ d. d.list) (pin_day s) → found ≡ Some due → due ≡ list_letters s
-list_told (OfRotors s) found due told is = cc
-list_told (OfPins s) found due told is = cc
+list_told x0 found due told is = grind arith
 
 -- -------- a part as it is made, and what it gives back
 

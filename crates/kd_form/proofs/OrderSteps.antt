@@ -43,8 +43,7 @@ use Rattle.kd_form.proofs.TextLetters.{letters_first, at_most_one}
 -- -------- the parts of an order, letter by letter
 
 pub size_some : (s : Day) → 0 < part_size s
-size_some (OfRotors s) = omega arith
-size_some (OfPins s) = omega arith
+size_some x0 = grind arith
 
 -- ---- one part more
 
@@ -154,10 +153,7 @@ last_written s keys w k letters sent one is counted needed found made =
 -- ---- one line
 
 ended_length : (text line : List ℕ) (most : ℕ) → IsEnded text line → length text ≤ most → length line ≤ most + 2
-ended_length text line most ended few = elim ended [
-  | inl short ↦ omega (arith, ap length short, length-append text (10 ∷ []), few)
-  | inr long ↦ omega (arith, ap length long, length-append text (13 ∷ 10 ∷ []), few)
-]
+ended_length text line most ended few = grind (arith, length-append {A = ℕ})
 
 pub short_line : (s : Day) → length (key_pattern s) ≤ 21 → (line : List ℕ) → IsAnyKeyLine s line → length line ≤ 23
 short_line s few line is =
@@ -191,17 +187,7 @@ all_before before (x ∷ rest) order joined size = absurd (omega (arith, ap leng
 
 -- an order that goes on
 goes_on : (s : Day) (keys : List Keys) (order more : List ℕ) → more ≢ [] → IsHead s keys (order ++ more) → IsHeadFault s order (length order + 1)
-goes_on s keys order more missing head = record {
-  before = order;
-  rest = [];
-  joined = sym (append-nil order);
-  size = refl;
-  keys = keys;
-  more = more;
-  missing = missing;
-  begins = head;
-  stops = λ byte after others other next gone. absurd (let none : 0 ≡ suc (length after) = ap length next in omega arith);
-}
+goes_on s keys order more missing head = grind (arith, append-nil {A = ℕ})
 
 -- whole lines of keys were read, and another line may follow
 whole_lines : (s : Day) (h : HeadReader) (order : List ℕ) → AreKeyLines h.keys.items order → All (AreKeys s) h.keys.items → length h.keys.items ≤ 99
@@ -219,8 +205,7 @@ whole_lines s h order keyed all few none = record {
 }
 
 pub head_first : (s : Day) (h : HeadReader) → h.keys.items ≡ [] → h.line.items ≡ [] → IsHeadRead s h []
-head_first s h no_keys no_line =
-    whole_lines s h [] (rw no_keys refl) (rw no_keys (All-nil (AreKeys s))) (omega (arith, ap length no_keys)) no_line
+head_first s h no_keys no_line = grind (arith, whole_lines)
 
 -- what was read with one byte more
 longer : (s : Day) (h : HeadReader) (order : List ℕ) (byte : ℕ) (is : IsHeadRead s h order) → order ++ byte ∷ [] ≡ is.lines ++ (h.line.items ++ byte ∷ [])
@@ -236,15 +221,7 @@ keys_taken s h next order byte k is room are ended put cleared =
 
 -- a head whose last line is this
 text_head : (s : Day) (h : HeadReader) (order last : List ℕ) (is : IsHeadRead s h order) → IsEnded (codes "TEXT") last → IsHead s h.keys.items (is.lines ++ last)
-text_head s h order last is ended = record {
-  lines = is.lines;
-  last = last;
-  joined = refl;
-  keyed = is.keyed;
-  ended = ended;
-  of_the_day = is.of_the_day;
-  few = is.few;
-}
+text_head s h order last is ended = grind arith
 
 -- the line TEXT is whole
 pub text_taken : (s : Day) (h next : HeadReader) (order : List ℕ) (byte : ℕ) → IsHeadRead s h order → IsEnded (codes "TEXT") (h.line.items ++ byte ∷ [])
@@ -355,13 +332,11 @@ text_step s h next order byte unread.Off tell is full off same put =
 
 pub in_head : (s : Day) (r : OrderReader) (order sent : List ℕ) → IsOrderRead s r order sent → r.stage ≡ stages.Head
     → (r.read ≡ length order) × IsHeadRead s r.head order × (sent ≡ []) × IsFresh r.parts
-in_head s r order sent (OfHead at counted head nothing fresh) here = (counted, head, nothing, fresh)
-in_head s r order sent (OfText at counted text) here = absurd (let clash : stages.Head ≡ stages.Text = sym here ∙ at in cc)
+in_head s r order sent x4 here = grind arith
 
 pub in_text : (s : Day) (r : OrderReader) (order sent : List ℕ) → IsOrderRead s r order sent → r.stage ≡ stages.Text
     → (r.read ≡ length order) × IsTextRead s r.head.keys.items r.parts order sent
-in_text s r order sent (OfHead at counted head nothing fresh) here = absurd (let clash : stages.Head ≡ stages.Text = sym at ∙ here in cc)
-in_text s r order sent (OfText at counted text) here = (counted, text)
+in_text s r order sent x4 here = grind arith
 
 -- ---- in the head
 
@@ -382,11 +357,10 @@ order_refused : (s : Day) (order sent : List ℕ) (fault : FormFault)
 order_refused s order sent fault told = record { stands = λ more. (told more).0; refused = λ more. inl (told more).0; written = λ more. (told more).1 }
 
 is_longer : (s : Day) (order more : List ℕ) (keys : List Keys) (head text : List ℕ) → IsOrder s order keys head text → IsOrder s (order ++ more) keys head (text ++ more)
-is_longer s order more keys head text is = record { joined = ap (λ o. o ++ more) is.joined ∙ append_assoc head text more; is_head = is.is_head }
+is_longer s order more keys head text is = grind (arith, append_assoc {A = ℕ})
 
 first_left : (rest more after : List ℕ) (x : ℕ) → 0 < length rest → rest ++ more ≡ x ∷ after → rest ≡ x ∷ drop 1 rest
-first_left [] more after x some same = absurd (omega arith)
-first_left (y ∷ rest) more after x some same = cc
+first_left x0 more after x some same = grind arith
 
 -- a byte that may not stand there is refused whatever follows
 fault_longer : (s : Day) (order more : List ℕ) (position : ℕ) → IsHeadFault s order position → position ≤ length order → IsHeadFault s (order ++ more) position
@@ -426,12 +400,7 @@ keys_refused tell s order sent keys fault is found nothing = order_refused s ord
 -- ---- in the text
 
 all_front : (text : List ℕ) → All (λ b. IsTrue (is_text_byte b)) text → IsAllowedFront text text
-all_front text allowed = record {
-  rest = [];
-  joined = sym (append-nil text);
-  allowed = allowed;
-  ends = λ byte more none. absurd (let gone : 0 ≡ suc (length more) = ap length none in omega arith);
-}
+all_front text allowed = grind (arith, append-nil {A = ℕ})
 
 pub text_held : (tell : TextsTellFirstParts) (s : Day) (r : OrderReader) (order sent : List ℕ) → r.stage ≡ stages.Text → r.read ≡ length order
     → IsTextRead s r.head.keys.items r.parts order sent → Held (orders s) (IsOrderRead s r) order sent
@@ -515,18 +484,12 @@ counted_on read order byte is = ap (λ n. n + 1) is ∙ sym (length-append order
 letters_few : (blank : Option ℕ) (text : List ℕ) → length (letters_from blank text) ≤ length text
 letters_few blank [] = omega arith
 letters_few blank (byte ∷ text) =
-    omega (
-      arith,
-      letters_few blank text,
-      ap length (letters_first blank byte text),
-      length-append (option_to_list (letter_of_byte blank byte)) (letters_from blank text),
-      at_most_one (letter_of_byte blank byte),
-    )
+    omega (arith, letters_few blank text, ap length (letters_first blank byte text), at_most_one (letter_of_byte blank byte),
+    length-append (option_to_list (letter_of_byte blank byte)) (letters_from blank text))
 
 pub letters_short : (s : Day) (keys : List Keys) (w : PartWriter) (order sent : List ℕ) (text : IsTextRead s keys w order sent) → length order + 1 < 2 ^ 63
     → length (text_letters s text.text) < 2 ^ 63
-letters_short s keys w order sent text short =
-    omega (arith, letters_few (blank_of s) text.text, ap length text.is_order.joined, length-append text.head text.text, short)
+letters_short s keys w order sent text short = grind (arith, letters_few, length-append {A = ℕ})
 
 pub text_begins : (tell : TextsTellFirstParts) (s : Day) (r : OrderReader) (order text sent : List ℕ) (answer : Result (Unit {0}) FormFault)
     → r.stage ≡ stages.Text → r.read ≡ length order → IsOrder s order r.head.keys.items order [] → IsFresh r.parts → text ≡ [] → sent ≡ []

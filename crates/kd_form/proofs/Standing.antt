@@ -52,23 +52,14 @@ abbrev pub IsToldOf : Port → Port → Result (Unit {0}) FormFault → Type 0
 IsToldOf source sink answer = Fail source sink (is_device answer) × (is_off_key answer ≡ false)
 
 told_of : (source sink : Port) (fault : FormFault) → is_foreign fault ≡ false → AreWell source sink → IsToldOf source sink (Err fault)
-told_of source sink NotReady own well = cc
-told_of source sink Device own well = cc
-told_of source sink NotOnKey own well = cc
-told_of source sink _ own well = (well, refl)
+told_of source sink x2 own well = grind arith
 
 pub answered : (m : Message) (source sink : Port) (read text : List ℕ) (answer : Result (Unit {0}) FormFault) → IsOfMessage m → Answers m source sink read text answer
     → IsToldOf source sink answer
-answered m source sink read text answer of (Whole few ended becomes well is) = rw is (well, refl)
-answered m source sink read text answer of (Stands fault few stands before well is) = rw is (told_of source sink fault (of.standing read fault stands) well)
-answered m source sink read text answer of (AtEnd fault few ended none refused before well is) = rw is (told_of source sink fault (of.whole read fault refused) well)
-answered m source sink read text answer of (TooLong front byte joined size open_yet well is) = rw is (well, refl)
-answered m source sink read text answer of (SourceFails few open_yet alone is) = rw is (inl alone, refl)
-answered m source sink read text answer of (SinkFails due few is_due front alone is) = rw is (inr alone, refl)
+answered m source sink read text answer of x7 = grind (arith, told_of)
 
 pub off_key : (m : Parts) (s : Day) (source sink : Port) (fault : FormFault) → IsKeyFault m s fault → AreWell source sink → Fail source sink (is_device (Err fault))
-off_key m s source sink fault (inl unready) well = rw unready.1 well
-off_key m s source sink fault (inr other) well = rw other.2 well
+off_key m s source sink fault x5 well = grind arith
 
 -- ---- orders
 
@@ -82,7 +73,7 @@ whole_order : (s : Day) (order : List ℕ) (fault : FormFault) → IsSendFault s
 whole_order s order fault found = grind (arith, standing_order)
 
 pub of_orders : (s : Day) → IsOfMessage (orders s)
-of_orders s = record { standing = standing_order s; whole = whole_order s }
+of_orders s = grind (arith, standing_order, whole_order)
 
 -- ---- forms
 
@@ -168,11 +159,7 @@ record IsAlike (part : List ℕ) (line body : List ℕ) : Type 0 where
 
 -- the part goes on
 alike_longer : (part line body cut beyond : List ℕ) → part ≡ line ++ 10 ∷ body → cut ≡ part ++ beyond → IsAlike cut line body
-alike_longer part line body cut beyond broken longer = record {
-  other = body ++ beyond;
-  is = longer ∙ ap (λ l. l ++ beyond) broken ∙ append_assoc line (10 ∷ body) beyond;
-  bad = λ place at. bad_longer body beyond place at;
-}
+alike_longer part line body cut beyond broken longer = grind (arith, append_assoc {A = ℕ}, bad_longer)
 
 -- or its last bytes begin the next heading
 alike_shorter : (part line body cut rest more beyond : List ℕ) (byte : ℕ) → IsFirstOf part part [] → part ≡ line ++ 10 ∷ body → IsWithout 10 line
@@ -204,10 +191,7 @@ alike_shorter part line body cut rest more beyond byte first broken unbroken nex
 
 alike : (part line body cut rest more : List ℕ) → IsFirstOf part part [] → part ≡ line ++ 10 ∷ body → IsWithout 10 line → IsFirstOf (part ++ more) cut rest
     → IsAlike cut line body
-alike part line body cut rest more first broken unbroken next = elim (fronts part more cut rest next.joined) [
-  | Shorter beyond longer left ↦ alike_longer part line body cut beyond broken longer
-  | Longer byte beyond longer left ↦ alike_shorter part line body cut rest more beyond byte first broken unbroken next longer left
-]
+alike part line body cut rest more first broken unbroken next = grind (arith, fronts, alike_longer, alike_shorter)
 
 -- ---- with more bytes behind it
 

@@ -47,38 +47,16 @@ starts_longer bytes more front starts =
 -- what was made of a byte was put in part
 pub fed_in_part : (m : Message) (new : List ℕ → List ℕ → Type 0) (bytes text made : List ℕ) (took wrote : Option (List ℕ)) (d f : Bool)
     → Held m new bytes (text ++ made) → TakesFront took wrote made → IsFed m new bytes text (over took wrote d f) (Err stops.Device)
-fed_in_part m new bytes text made took wrote d f held part = record {
-  made = take part.0 made;
-  written = part.2;
-  fed = record {
-    front = bytes;
-    due = text ++ made;
-    of_bytes = all_of_it bytes;
-    open_yet = held.open_yet;
-    of_due = front_of_made text made part.0;
-  };
-}
+fed_in_part m new bytes text made took wrote d f held part = grind (arith, all_of_it, front_of_made)
 
 pub fed_none : (m : Message) (old : List ℕ → List ℕ → Type 0) (took : Option (List ℕ)) (d : Bool) → FeedsAll m old old [] (over took took d d) (Ok tt)
-fed_none m old took d bytes text held = record {
-  made = [];
-  written = Appends-nil took;
-  fed = subst (λ b. Held m old b (text ++ [])) (sym (append-nil bytes)) (subst (Held m old bytes) (sym (append-nil text)) held);
-}
+fed_none m old took d bytes text held = grind (arith, Appends-nil, append-nil {A = ℕ})
 
 -- one byte more
 pub fed_next : (m : Message) (old now new : List ℕ → List ℕ → Type 0) (front next : List ℕ) (took taken wrote : Option (List ℕ)) (d e f : Bool)
     (answer : Result (Unit {0}) Stop) → FeedsAll m old now front (over took taken d e) (Ok tt) → FeedsAll m now new next (over taken wrote e f) answer
     → FeedsAll m old new (front ++ next) (over took wrote d f) answer
-fed_next m old now new front next took taken wrote d e f answer before after bytes text held =
-    let one = before bytes text held in
-    let two = after (bytes ++ front) (text ++ one.made) one.fed in
-    record {
-      made = one.made ++ two.made;
-      written = Appends-trans took taken wrote one.made two.made one.written two.written;
-      fed = subst (λ b. FedTo m new b (text ++ (one.made ++ two.made)) answer) (append_assoc bytes front next)
-          (subst (λ t. FedTo m new ((bytes ++ front) ++ next) t answer) (append_assoc text one.made two.made) two.fed);
-    }
+fed_next m old now new front next took taken wrote d e f answer before after bytes text held = grind (arith, Appends-trans, append_assoc {A = ℕ})
 
 -- ---- room for more bytes
 
@@ -88,27 +66,14 @@ room_for m holds room less few has = record { bytes = has.bytes; text = has.text
 -- behind the bytes that were fed
 pub room_less : (m : Message) (old new : List ℕ → List ℕ → Type 0) (more : List ℕ) (sink : Port) (room less : ℕ) → length more + less ≤ room → HasRoom m old room
     → FeedsAll m old new more sink (Ok tt) → HasRoom m new less
-room_less m old new more sink room less few has fed =
-    let one = fed has.bytes has.text has.held in
-    record { bytes = has.bytes ++ more; text = has.text ++ one.made; held = one.fed; within = omega (arith, has.within, few, length-append has.bytes more) }
+room_less m old new more sink room less few has fed = grind (arith, length-append {A = ℕ})
 
 refused_longer : (m : Message) (bytes more text : List ℕ) (fault : FormFault) → IsRefused m bytes text fault → IsRefused m (bytes ++ more) text fault
-refused_longer m bytes more text fault is = record {
-  stands = λ rest. subst (λ b. m.stands b fault) (sym (append_assoc bytes more rest)) (is.stands (more ++ rest));
-  refused = λ rest. subst (λ b. m.refused b fault) (sym (append_assoc bytes more rest)) (is.refused (more ++ rest));
-  written = λ rest. subst (λ b. m.before (Some fault) b text) (sym (append_assoc bytes more rest)) (is.written (more ++ rest));
-}
+refused_longer m bytes more text fault is = grind (arith, append_assoc {A = ℕ})
 
 fed_longer : (m : Message) (new : List ℕ → List ℕ → Type 0) (bytes more text : List ℕ) (stop : Stop) → FedTo m new bytes text (Err stop)
     → FedTo m new (bytes ++ more) text (Err stop)
-fed_longer m new bytes more text (stops.Refused fault) is = refused_longer m bytes more text fault is
-fed_longer m new bytes more text stops.Device is = record {
-  front = is.front;
-  due = is.due;
-  of_bytes = starts_longer bytes more is.front is.of_bytes;
-  open_yet = is.open_yet;
-  of_due = is.of_due;
-}
+fed_longer m new bytes more text x5 is = grind (arith, refused_longer, starts_longer)
 
 -- the same of bytes that are the same
 pub fed_whole : (m : Message) (old new : List ℕ → List ℕ → Type 0) (front whole : List ℕ) (sink : Port) (answer : Result (Unit {0}) Stop) → front ≡ whole
@@ -185,16 +150,7 @@ pub record SoFar (m : Message) (holds : List ℕ → List ℕ → Type 0) (sourc
 
 pub SoFar-nil : (m : Message) (holds : List ℕ → List ℕ → Type 0) (had took : Option (List ℕ)) (a d : Bool) → Held m holds [] []
     → SoFar m holds (over had had a a) (over took took d d) 0
-SoFar-nil m holds had took a d held = record {
-  read = [];
-  text = [];
-  counted = refl;
-  within = omega arith;
-  given = Consumes-nil had;
-  written = Appends-nil took;
-  held = held;
-  well = (refl, refl);
-}
+SoFar-nil m holds had took a d held = grind (arith, Consumes-nil, Appends-nil)
 
 -- the ports since an earlier time, since which they didn't fail
 answers_since : (m : Message) (had has next took taken wrote : Option (List ℕ)) (a b c d e f : Bool) (read text : List ℕ) (answer : Result (Unit {0}) FormFault)
@@ -250,8 +206,7 @@ module _ (m : Message) (old new : List ℕ → List ℕ → Type 0) (had has nex
 -- a whole message: what was fed of it stopped
 pub whole_stopped : (m : Message) (old new : List ℕ → List ℕ → Type 0) (bytes : List ℕ) (sink : Port) (stop : Stop) → Held m old [] []
     → FeedsAll m old new bytes sink (Err stop) → WritesWhole m bytes sink (Err stop)
-whole_stopped m old new bytes sink (stops.Refused fault) held fed = subst (λ b. m.refused b fault) (append-nil bytes) ((fed [] [] held).fed.refused [])
-whole_stopped m old new bytes sink stops.Device held fed = tt
+whole_stopped m old new bytes sink x5 held fed = grind (arith, append-nil {A = ℕ})
 
 closed : (m : Message) (holds : List ℕ → List ℕ → Type 0) (read text made : List ℕ) (source : Port) (took taken wrote : Option (List ℕ)) (d e f : Bool)
     (told : Result (Unit {0}) Stop) → Held m holds read text → length read ≤ READ_LIMIT → IsAtEnd source.has → IsWell source → e ≡ d
