@@ -51,7 +51,7 @@ five tail None none is = absurd (none 5 is)
 five tail (Some count) some is = ap Some (omega (arith, ap length is, ap length some.1, some.0, length-take count (codes "PART ")))
 
 tail_is : (tail : List ℕ) (begun : Option ℕ) → Begins tail begun → begun ≡ Some 5 → tail ≡ codes "PART "
-tail_is tail x1 none is = grind arith
+tail_is tail begun marked is = grind arith
 
 -- ---- the letters
 
@@ -146,7 +146,7 @@ are_shown others kept shown letters more few size is cut = elim (cases_lt 525 (l
 too_long : {X : Type 0} (items : X → List ℕ) (s : Day) (h : Heading) (shown letters : List ℕ) (answer : Result X FormFault) → h.letters ≤ 520
     → 521 ≤ length shown → 521 ≤ length letters → MatchResult answer (λ x. IsBodyText s h shown (items x)) (IsBodyFault s h.part h shown)
     → MatchResult answer (λ x. IsBodyText s h letters (items x)) (IsBodyFault s h.part h letters)
-too_long items s h shown letters x5 few many more told = grind arith
+too_long items s h shown letters answer few many more told = grind arith
 
 pub body_told : {X : Type 0} (items : X → List ℕ) (s : Day) (h : Heading) (others : ℕ) (kept shown letters more : List ℕ) (answer : Result X FormFault)
     → IsHeading s h → others ≤ 4 → length more ≡ others → kept ≡ take 525 (letters ++ more) → shown ≡ take (length kept - others) kept
@@ -164,7 +164,7 @@ pub last_told : {X : Type 0} (parts : X → ℕ) (letters : X → List ℕ) (s :
     → HasHeading s part h body → h.part ≡ number → IsExpected expected h.parts → All (λ b. IsTrue (is_text_byte b)) body
     → MatchResult answer (λ x. (parts x ≡ h.parts) × IsBodyText s h (letters_from None body) (letters x)) (IsBodyFault s h.part h (letters_from None body))
     → MatchResult answer (λ x. IsLastText s number expected part (parts x) (letters x)) (λ fault. (start : ℕ) → IsPartFault s number expected start part fault)
-last_told parts letters s number expected part body h x8 has numbered due allowed told = grind arith
+last_told parts letters s number expected part body h answer has numbered due allowed told = grind arith
 
 -- what the line of a heading tells where the form ends in it, or where an LF has come
 abbrev pub IsOpenBy : Day → List ℕ → Option Heading → Type 0
@@ -175,7 +175,7 @@ IsEndedBy s part found =
     MatchOption found ((h : Heading) (body : List ℕ) → ¬ (HasHeading s (part ++ 10 ∷ []) h body)) (λ h. IsHeading s h × IsEnded (line_of (heading_words h)) (part ++ 10 ∷ []))
 
 open_by : (s : Day) (part : List ℕ) (found : Option Heading) → IsEndedBy s part found → IsOpenBy s (part ++ 10 ∷ []) found
-open_by s part x2 told = grind (arith, ended_heading)
+open_by s part found told = grind (arith, ended_heading)
 
 pub off : (s : Day) (number : ℕ) (expected : Option ℕ) (start : ℕ) (part : List ℕ) (found : Option Heading) (fault : FormFault) → IsOpenBy s part found
     → IsHeadingOff number expected found fault → IsEarlyFault s number expected start part fault

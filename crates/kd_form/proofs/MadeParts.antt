@@ -117,7 +117,7 @@ body_end initial text rest done before = cc (append-nil text, body-none)
 -- ---- the test whether anything is left
 
 pub some_left : (empty : Bool) (xs : List ℕ) → empty ≡ (length xs == 0) → empty ≡ false → 0 < length xs
-some_left empty x1 told filled = grind arith
+some_left empty xs told filled = grind arith
 
 pub nothing_left : (empty : Bool) (xs : List ℕ) → empty ≡ (length xs == 0) → empty ≡ true → xs ≡ []
 nothing_left empty [] told gone = refl
@@ -162,18 +162,18 @@ made_of_pin s part parts keys k text letters shown bytes is (internal, first, ma
 -- ---- the internal key is there where the keys suit the day
 
 pub has_internal : (s : Day) (k : PinKeys) → Suits s (Pin k) → (internal : List ℕ) × IsInternalKey (enciphered_choice s k) internal
-has_internal x0 k suits = grind arith
+has_internal s k suits = grind arith
 
 pub not_spent : {X : Type 0} (found : Option X) (items : X → List ℕ) (letters : List ℕ)
     → MatchOption found (HaveRunOut letters) (λ key. IsInternalKey letters (items key)) → (internal : List ℕ) × IsInternalKey letters internal → IsSome found
-not_spent x0 items letters spent x4 = grind arith
+not_spent found items letters told internal = grind arith
 
 -- -------- the letters of a part's body, taken apart
 
 -- the deciphered message key is a window
 pub key_is_window : (s : Day) (i : Indicator) (key : List ℕ) → HasIndicator s (Some i) → key ≡ message_key s i → All (λ l. l < 26) key
     → IsWindow (sheet_key s) key
-key_is_window x0 i key has is within = grind (arith, length-cipher_from, length-map)
+key_is_window s i key has is within = grind (arith, length-cipher_from, length-map)
 
 -- ---- indicators
 
@@ -189,7 +189,7 @@ three_parts letters first rest text last n long front others count middle back =
 
 pub whole_indicators : (first twice others key list : List ℕ) (k : PinKeys) → length first ≡ 10 → twice ≡ take 1 first → others ≡ drop 1 first
     → key ≡ take 7 others → list ≡ drop 7 others → key ≡ k.chosen ∷ k.external → get_or twice 0 0 ≡ k.chosen → first ≡ indicators_with k list
-whole_indicators x0 twice others key list k ten one more front back are same = grind arith
+whole_indicators first twice others key list k ten one more front back are same = grind arith
 
 pub pin_letters_are : (letters first twice others key list text last : List ℕ) (k : PinKeys) → AreThree letters first text last → first ≡ last
     → twice ≡ take 1 first → others ≡ drop 1 first → key ≡ take 7 others → list ≡ drop 7 others → key ≡ k.chosen ∷ k.external
@@ -202,7 +202,7 @@ indicators_differ s part letters first text last three differ = InIndicators fir
 
 first_two : (first twice others key : List ℕ) (chosen : ℕ) (external : List ℕ) → length first ≡ 10 → twice ≡ take 1 first → others ≡ drop 1 first
     → key ≡ take 7 others → key ≡ chosen ∷ external → get_or twice 0 0 ≢ chosen → slice_index first 0 ≢ slice_index first 1
-first_two x0 twice others key chosen external ten one more front are differ same = grind arith
+first_two first twice others key chosen external ten one more front are differ same = grind arith
 
 pub first_two_differ : (s : Day) (part : ℕ) (letters first twice others key text last : List ℕ) (k : PinKeys) → AreThree letters first text last
     → twice ≡ take 1 first → others ≡ drop 1 first → key ≡ take 7 others → key ≡ k.chosen ∷ k.external → get_or twice 0 0 ≢ k.chosen
@@ -223,7 +223,7 @@ pub the_same : (read chosen : ℕ) → not (read == chosen) ≡ false → read �
 the_same read chosen differ = grind (arith, nat_tests)
 
 pub list_told : (s : Day) (found : Option (List ℕ)) (due : List ℕ) → found ≡ option_map (λ d. d.list) (pin_day s) → found ≡ Some due → due ≡ list_letters s
-list_told x0 found due told is = grind arith
+list_told s found due told is = grind arith
 
 -- -------- a part as it is made, and what it gives back
 

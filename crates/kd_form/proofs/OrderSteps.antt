@@ -43,7 +43,7 @@ use Rattle.kd_form.proofs.TextLetters.{letters_first, at_most_one}
 -- -------- the parts of an order, letter by letter
 
 pub size_some : (s : Day) → 0 < part_size s
-size_some x0 = grind arith
+size_some s = grind arith
 
 -- ---- one part more
 
@@ -332,11 +332,11 @@ text_step s h next order byte unread.Off tell is full off same put =
 
 pub in_head : (s : Day) (r : OrderReader) (order sent : List ℕ) → IsOrderRead s r order sent → r.stage ≡ stages.Head
     → (r.read ≡ length order) × IsHeadRead s r.head order × (sent ≡ []) × IsFresh r.parts
-in_head s r order sent x4 here = grind arith
+in_head s r order sent is here = grind arith
 
 pub in_text : (s : Day) (r : OrderReader) (order sent : List ℕ) → IsOrderRead s r order sent → r.stage ≡ stages.Text
     → (r.read ≡ length order) × IsTextRead s r.head.keys.items r.parts order sent
-in_text s r order sent x4 here = grind arith
+in_text s r order sent is here = grind arith
 
 -- ---- in the head
 
@@ -360,7 +360,7 @@ is_longer : (s : Day) (order more : List ℕ) (keys : List Keys) (head text : Li
 is_longer s order more keys head text is = grind (arith, append_assoc {A = ℕ})
 
 first_left : (rest more after : List ℕ) (x : ℕ) → 0 < length rest → rest ++ more ≡ x ∷ after → rest ≡ x ∷ drop 1 rest
-first_left x0 more after x some same = grind arith
+first_left rest more after x some same = grind arith
 
 -- a byte that may not stand there is refused whatever follows
 fault_longer : (s : Day) (order more : List ℕ) (position : ℕ) → IsHeadFault s order position → position ≤ length order → IsHeadFault s (order ++ more) position

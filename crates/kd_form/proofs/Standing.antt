@@ -52,14 +52,14 @@ abbrev pub IsToldOf : Port → Port → Result (Unit {0}) FormFault → Type 0
 IsToldOf source sink answer = Fail source sink (is_device answer) × (is_off_key answer ≡ false)
 
 told_of : (source sink : Port) (fault : FormFault) → is_foreign fault ≡ false → AreWell source sink → IsToldOf source sink (Err fault)
-told_of source sink x2 own well = grind arith
+told_of source sink fault own well = grind arith
 
 pub answered : (m : Message) (source sink : Port) (read text : List ℕ) (answer : Result (Unit {0}) FormFault) → IsOfMessage m → Answers m source sink read text answer
     → IsToldOf source sink answer
-answered m source sink read text answer of x7 = grind (arith, told_of)
+answered m source sink read text answer of answers = grind (arith, told_of)
 
 pub off_key : (m : Parts) (s : Day) (source sink : Port) (fault : FormFault) → IsKeyFault m s fault → AreWell source sink → Fail source sink (is_device (Err fault))
-off_key m s source sink fault x5 well = grind arith
+off_key m s source sink fault off well = grind arith
 
 -- ---- orders
 

@@ -20,14 +20,14 @@ over had has before after = record { had = had; has = has; had_failed = before; 
 
 -- a failed call leaves the flag up
 failed_now : (before after : Bool) → after ≡ (before || true) → IsTrue after
-failed_now x0 after e = grind arith
+failed_now before after e = grind arith
 
 -- a call that did not fail leaves the flag as it was
 pub well_now : (before after : Bool) → after ≡ (before || false) → after ≡ before
-well_now x0 after e = grind arith
+well_now before after e = grind arith
 
 pub still_well : (before after : Bool) → after ≡ before → after ≡ (before || false)
-still_well x0 after e = grind arith
+still_well before after e = grind arith
 
 all_of_it : (xs : List ℕ) → StartsWith xs xs
 all_of_it xs = starts_with_of_append xs xs [] (sym (append-nil xs))
@@ -73,7 +73,7 @@ refused_longer m bytes more text fault is = grind (arith, append_assoc {A = ℕ}
 
 fed_longer : (m : Message) (new : List ℕ → List ℕ → Type 0) (bytes more text : List ℕ) (stop : Stop) → FedTo m new bytes text (Err stop)
     → FedTo m new (bytes ++ more) text (Err stop)
-fed_longer m new bytes more text x5 is = grind (arith, refused_longer, starts_longer)
+fed_longer m new bytes more text stop is = grind (arith, refused_longer, starts_longer)
 
 -- the same of bytes that are the same
 pub fed_whole : (m : Message) (old new : List ℕ → List ℕ → Type 0) (front whole : List ℕ) (sink : Port) (answer : Result (Unit {0}) Stop) → front ≡ whole
@@ -153,19 +153,16 @@ pub SoFar-nil : (m : Message) (holds : List ℕ → List ℕ → Type 0) (had to
 SoFar-nil m holds had took a d held = grind (arith, Consumes-nil, Appends-nil)
 
 -- the ports since an earlier time, since which they didn't fail
-answers_since : (m : Message) (had has next took taken wrote : Option (List ℕ)) (a b c d e f : Bool) (read text : List ℕ) (answer : Result (Unit {0}) FormFault)
+answers_since : {m : Message} {had has next took taken wrote : Option (List ℕ)} {a b c d e f : Bool} {read text : List ℕ} {answer : Result (Unit {0}) FormFault}
     → b ≡ a → e ≡ d → Answers m (over has next b c) (over taken wrote e f) read text answer → Answers m (over had next a c) (over took wrote d f) read text answer
-answers_since m had has next took taken wrote a b c d e f read text answer p q (Whole few ended becomes well is) = Whole few ended becomes (well.0 ∙ p, well.1 ∙ q) is
-answers_since m had has next took taken wrote a b c d e f read text answer p q (Stands fault few stands before well is) = Stands fault few stands before (well.0 ∙ p, well.1 ∙ q) is
-answers_since m had has next took taken wrote a b c d e f read text answer p q (AtEnd fault few ended none refused before well is) =
-    AtEnd fault few ended none refused before (well.0 ∙ p, well.1 ∙ q) is
-answers_since m had has next took taken wrote a b c d e f read text answer p q (TooLong front byte joined full open' well is) =
-    TooLong front byte joined full open' (well.0 ∙ p, well.1 ∙ q) is
-answers_since m had has next took taken wrote a b c d e f read text answer p q (SourceFails few open' fails is) =
-    SourceFails few open' (record { failed = fails.failed; well = fails.well ∙ q }) is
-answers_since m had has next took taken wrote a b c d e f read text answer p q (SinkFails due few (ByThen front begins open') starts fails is) =
+answers_since p q (Whole few ended becomes well is) = Whole few ended becomes (well.0 ∙ p, well.1 ∙ q) is
+answers_since p q (Stands fault few stands before well is) = Stands fault few stands before (well.0 ∙ p, well.1 ∙ q) is
+answers_since p q (AtEnd fault few ended none refused before well is) = AtEnd fault few ended none refused before (well.0 ∙ p, well.1 ∙ q) is
+answers_since p q (TooLong front byte joined full open' well is) = TooLong front byte joined full open' (well.0 ∙ p, well.1 ∙ q) is
+answers_since p q (SourceFails few open' fails is) = SourceFails few open' (record { failed = fails.failed; well = fails.well ∙ q }) is
+answers_since p q (SinkFails due few (ByThen front begins open') starts fails is) =
     SinkFails due few (ByThen front begins open') starts (record { failed = fails.failed; well = fails.well ∙ p }) is
-answers_since m had has next took taken wrote a b c d e f read text answer p q (SinkFails due few (ByTheEnd told ended closes) starts fails is) =
+answers_since p q (SinkFails due few (ByTheEnd told ended closes) starts fails is) =
     SinkFails due few (ByTheEnd told ended closes) starts (record { failed = fails.failed; well = fails.well ∙ p }) is
 
 -- A step behind what was read, by what is known of the ports at the start, between and behind it.
@@ -197,8 +194,7 @@ module _ (m : Message) (old new : List ℕ → List ℕ → Type 0) (had has nex
         text = before.text ++ step.made;
         given = Consumes-trans had has next before.read step.more before.given step.given;
         written = Appends-trans took taken wrote before.text step.made before.written step.written;
-        answers = rw is (answers_since m had has next took taken wrote a b c d e f (before.read ++ step.more) (before.text ++ step.made) (Err (fault_of stop))
-            before.well.0 before.well.1 step.read);
+        answers = rw is (answers_since before.well.0 before.well.1 step.read);
       }
 
 -- ---- the end
@@ -206,7 +202,7 @@ module _ (m : Message) (old new : List ℕ → List ℕ → Type 0) (had has nex
 -- a whole message: what was fed of it stopped
 pub whole_stopped : (m : Message) (old new : List ℕ → List ℕ → Type 0) (bytes : List ℕ) (sink : Port) (stop : Stop) → Held m old [] []
     → FeedsAll m old new bytes sink (Err stop) → WritesWhole m bytes sink (Err stop)
-whole_stopped m old new bytes sink x5 held fed = grind (arith, append-nil {A = ℕ})
+whole_stopped m old new bytes sink stop held fed = grind (arith, append-nil {A = ℕ})
 
 closed : (m : Message) (holds : List ℕ → List ℕ → Type 0) (read text made : List ℕ) (source : Port) (took taken wrote : Option (List ℕ)) (d e f : Bool)
     (told : Result (Unit {0}) Stop) → Held m holds read text → length read ≤ READ_LIMIT → IsAtEnd source.has → IsWell source → e ≡ d
