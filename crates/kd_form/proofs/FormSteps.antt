@@ -1,7 +1,5 @@
 -- The reader of a form, byte by byte, and at the end.
-use Rattle.std.proofs.Common.{◌≡◌, ◌≢◌, ◌⊎◌, inl, inr, ℕ, ◌+◌, ◌-◌, ◌≤◌, List, [], ◌∷◌, ◌++◌, length, take, drop, refl, sym, ap, subst, ◌∙◌, append_assoc, length-append, Result, Ok, Err, MatchResult, arith, ◌<◌}
-use Rattle.std.specs.Prelude.{codes, All, IsTrue, Option, Some, None, IsFalse, MatchOption}
-use Rattle.std.specs.Option.{option_to_list}
+use Rattle.std.proofs.Common.{◌≡◌, ◌≢◌, ◌⊎◌, inl, inr, ℕ, ◌+◌, ◌-◌, ◌≤◌, List, [], ◌∷◌, ◌++◌, length, take, drop, refl, sym, ap, subst, ◌∙◌, append_assoc, length-append, Result, Ok, Err, MatchResult, arith, ◌<◌, codes, All, IsTrue, Option, Some, None, IsFalse, MatchOption, option_to_list}
 use Rattle.std.proofs.Math.Seq.{take-append_seam}
 use Rattle.std.proofs.lemmas.Bool.{cases_lt, cases_eq}
 use Rattle.std.proofs.lemmas.List.{append-nil, take_all, take-take, take-append-le, take-append-drop, length-take, length-take-le}
@@ -41,10 +39,7 @@ use Rattle.kd_form.proofs.Standing.{stays_refused}
 -- ---- the last line
 
 pub begins_no_more : (line next : List ℕ) (byte : ℕ) → byte ≢ 10 → Begins line None → IsNextLine line byte next → Begins next None
-begins_no_more line next byte other none (Broken is empty) = absurd (other is)
-begins_no_more line next byte other none (Longer differs is) = λ count same.
-    let size : length line ≤ count = omega (arith, ap length (sym is ∙ same), length-append line (byte ∷ []), length-take count (codes "PART ")) in
-    none (length line) (sym (take-append_seam line (byte ∷ [])) ∙ ap (take (length line)) (sym is ∙ same) ∙ take-take (length line) count (codes "PART ") size)
+begins_no_more line next byte other none is = grind (arith, Broken, Longer, length-append {A = ℕ}, length-take {A = ℕ}, take-append_seam {A = ℕ}, take-take {A = ℕ})
 
 five : (tail : List ℕ) (begun : Option ℕ) → Begins tail begun → tail ≡ codes "PART " → begun ≡ Some 5
 five tail None none is = absurd (none 5 is)
@@ -57,10 +52,7 @@ tail_is tail begun marked is = grind arith
 
 -- kept up to a length, once more
 take_kept : (n : ℕ) (xs ys : List ℕ) → take n (take n xs ++ ys) ≡ take n (xs ++ ys)
-take_kept n xs ys = elim (cases_lt n (length xs)) [
-  | inl long ↦ take-append-le n (take n xs) ys (omega (arith, length-take n xs)) ∙ take-take n n xs (omega arith) ∙ sym (take-append-le n xs ys (omega arith))
-  | inr short ↦ ap (λ l. take n (l ++ ys)) (take_all n xs short)
-]
+take_kept n xs ys = grind (arith, cases_lt, take-append-le {A = ℕ}, length-take {A = ℕ}, take-take {A = ℕ}, take_all {A = ℕ})
 
 letters_kept : (old body : List ℕ) (byte : ℕ) → old ≡ take 525 (letters_from None body)
     → take 525 (old ++ option_to_list (letter_of_byte None byte)) ≡ take 525 (letters_from None (body ++ byte ∷ []))
@@ -127,12 +119,9 @@ body_more s b new part body byte letter same told more next allowed holds =
 
 -- ---- the letters of a whole body
 
--- the letters themselves, or more than a body has
-abbrev IsShown : List ℕ → List ℕ → Type 0
-IsShown shown letters = (shown ≡ letters) ⊎ ((521 ≤ length shown) × (521 ≤ length letters))
-
+-- the letters themselves are shown, or more than a body has
 are_shown : (others : ℕ) (kept shown letters more : List ℕ) → others ≤ 4 → length more ≡ others → kept ≡ take 525 (letters ++ more)
-    → shown ≡ take (length kept - others) kept → IsShown shown letters
+    → shown ≡ take (length kept - others) kept → (shown ≡ letters) ⊎ ((521 ≤ length shown) × (521 ≤ length letters))
 are_shown others kept shown letters more few size is cut = elim (cases_lt 525 (length (letters ++ more))) [
   | inl long ↦
       let full : length kept ≡ 525 = ap length is ∙ length-take-le 525 (letters ++ more) (omega arith) in
@@ -268,10 +257,7 @@ IsDigitDue b byte = (b.begun ≡ Some 5) × (48 ≤ byte) × (byte ≤ 57)
 -- where none does, the part goes on
 goes_on : (s : Day) (b : PartBody) (part body : List ℕ) (byte : ℕ) → HoldsBody s b part body → IsFirstOf part part [] → ¬ (IsDigitDue b byte)
     → IsFirstOf (part ++ byte ∷ []) (part ++ byte ∷ []) []
-goes_on s b part body byte holds first not =
-    first_more part holds.front holds.tail byte first
-    (cc (holds.joined, holds.lines, append_assoc holds.line holds.settled holds.tail, holds.broken, append_assoc holds.front (10 ∷ []) holds.tail)) holds.unbroken
-    (λ tail low high. not (five holds.tail b.begun holds.marked tail, low, high))
+goes_on s b part body byte holds first not = grind (arith, first_more, append_assoc {A = ℕ}, five)
 
 -- the body without these five bytes, and their letters
 record Settled (s : Day) (b : PartBody) (part body : List ℕ) (holds : HoldsBody s b part body) : Type 0 where
@@ -339,15 +325,7 @@ module _ (s : Day) (r : FormReader) (form text : List ℕ) (h : HoldsForm s r fo
   -- no heading begins with that byte
   pub not_following : (line : ArrayVec ℕ) (byte : ℕ) → r.stage ≡ stages.Heading line → ¬ (MayBegin (part ++ byte ∷ []))
       → IsRefusedForGood s (form ++ byte ∷ []) text (BadHeading r.number)
-  not_following line byte stage none =
-      let there = in_stage (stages.Heading line) stage in
-      let one : r.number ≡ 1 = there.1 (elim (cases_lt (length part) 6) [
-        | inl short ↦ short
-        | inr long ↦ absurd (none (all_follow part byte long there.0.begins))
-      ]) in
-      let before = nothing_before s form part turn.before turn.count turn.letters (sym one ∙ h.numbered) turn.read in
-      NoHeading (λ more begins. none (more, subst (λ l. BeginsHeading ((l ++ byte ∷ []) ++ more)) before.0 begins))
-      (h.so_far.is ∙ ap (given_letters s) before.1) (ap BadHeading one)
+  not_following line byte stage none = grind (arith, in_stage, cases_lt, all_follow, nothing_before, NoHeading)
 
   pub longer_line : (line next : ArrayVec ℕ) (made : List ℕ) (byte : ℕ) → r.stage ≡ stages.Heading line → byte ≢ 10 → MayBegin (part ++ byte ∷ [])
       → next.items ≡ take 64 (line.items ++ byte ∷ []) → made ≡ [] → HoldsForm s (behind r (stages.Heading next)) (form ++ byte ∷ []) (text ++ made)

@@ -1,6 +1,5 @@
 -- Forms to which bytes are added.
-use Rattle.std.proofs.Common.{rules, ◌≡◌, ◌≢◌, inl, inr, ℕ, suc, ◌+◌, ◌-◌, ◌≤◌, ◌<◌, List, [], ◌∷◌, ◌++◌, length, take, drop, get_or, refl, sym, ap, subst, ◌∙◌, append_assoc, length-append, length-drop, arith}
-use Rattle.std.specs.Prelude.{codes, IsTrue, ◌==◌}
+use Rattle.std.proofs.Common.{rules, ◌≡◌, ◌≢◌, inl, inr, ℕ, suc, ◌+◌, ◌-◌, ◌≤◌, ◌<◌, List, [], ◌∷◌, ◌++◌, length, take, drop, get_or, refl, sym, ap, subst, ◌∙◌, append_assoc, length-append, length-drop, arith, codes, IsTrue, ◌==◌}
 use Rattle.std.proofs.Math.ListN.{get_or-append}
 use Rattle.std.proofs.Math.Seq.{get_or-append_seam, take-append_seam}
 use Rattle.std.proofs.lemmas.Bool.{cases_lt}
@@ -39,9 +38,7 @@ begins_front bytes more long begins = elim (fronts bytes more (codes "PART " ++ 
 -- an LF among the bytes isn't the end of another line of their first part, also where more than a heading's first bytes follow
 none_more : (bytes part rest more : List ℕ) (place : ℕ) → IsFirstOf bytes part rest → place + 1 < length part → place + 7 ≤ length bytes
     → get_or (bytes ++ more) place 0 ≡ 10 → ¬ (BeginsHeading (drop (place + 1) (bytes ++ more)))
-none_more bytes part rest more place first below inside is begins =
-    first.whole place below (sym (get_or-append bytes more 0 place (omega arith)) ∙ is)
-    (begins_front (drop (place + 1) bytes) more (omega (arith, length-drop (place + 1) bytes)) (rw (drop-append-le (place + 1) bytes more (omega arith)) at begins))
+none_more bytes part rest more place first below inside is begins = grind (arith, get_or-append {A = ℕ}, begins_front, length-drop {A = ℕ}, drop-append-le {A = ℕ})
 
 pub first_grows : (bytes part rest more : List ℕ) → IsFirstOf bytes part rest → rest ≢ [] → IsFirstOf (bytes ++ more) part (rest ++ more)
 first_grows bytes part rest more first some = grind (arith, none_more, heading_size, begins_more, get_or-append {A = ℕ}, append_assoc {A = ℕ}, length-append {A = ℕ})
@@ -60,12 +57,7 @@ parts_grow (part ∷ parts) bytes rest more some (after, first, later) = (
 )
 
 pub turn_cut : (s : Day) (form more : List ℕ) (t : Turn s form) → AreFirstParts t.before (form ++ more) (t.rest ++ more)
-turn_cut s form more t = elim t.left [
-  | inl none ↦
-      let here : form ≡ t.rest = subst (λ (ps : List (List ℕ)). AreFirstParts ps form t.rest) none t.read.cut in
-      subst (λ (ps : List (List ℕ)). AreFirstParts ps (form ++ more) (t.rest ++ more)) (sym none) (ap (λ l. l ++ more) here)
-  | inr some ↦ parts_grow t.before form t.rest more some t.read.cut
-]
+turn_cut s form more t = grind (arith, parts_grow)
 
 -- ---- the part in turn
 
@@ -130,9 +122,7 @@ whole_part bytes none = grind (arith, append-nil {A = ℕ})
 
 -- without an LF there is no other line
 pub first_unbroken : (bytes : List ℕ) (byte : ℕ) → IsWithout 10 bytes → IsFirstOf (bytes ++ byte ∷ []) (bytes ++ byte ∷ []) []
-first_unbroken bytes byte unbroken = whole_part (bytes ++ byte ∷ []) (λ place below is.
-    let inside : place < length bytes = omega (arith, length-append bytes (byte ∷ [])) in
-    absurd (All-get_or (λ b. b ≢ 10) bytes place 0 inside unbroken (sym (get_or-append bytes (byte ∷ []) 0 place inside) ∙ is)))
+first_unbroken bytes byte unbroken = grind (arith, whole_part, length-append {A = ℕ}, All-get_or, get_or-append {A = ℕ})
 
 -- the last lines of the same bytes are the same
 same_last : (front tail other end : List ℕ) → IsWithout 10 tail → IsWithout 10 end → front ++ 10 ∷ tail ≡ other ++ 10 ∷ end → tail ≡ end

@@ -1,6 +1,5 @@
 -- How a part of a form is made.
-use Rattle.std.proofs.Common.{◌≡◌, ℕ, suc, ◌+◌, ◌-◌, ◌/◌, ◌%◌, ◌<◌, inl, inr, List, [], ◌∷◌, ◌++◌, length, map, take, drop, refl, sym, ap, ◌∙◌, append_assoc, length-drop, add-one, arith, min, Bool, true, false, subst, ◌≢◌, ◌≤◌, get_or, replicate, length-append}
-use Rattle.std.specs.Prelude.{◌==◌, codes, decimal, Option, Some, None, MatchOption, IsSome, All, slice_index, not}
+use Rattle.std.proofs.Common.{◌≡◌, ℕ, suc, ◌+◌, ◌-◌, ◌/◌, ◌%◌, ◌<◌, inl, inr, List, [], ◌∷◌, ◌++◌, length, map, take, drop, refl, sym, ap, ◌∙◌, append_assoc, length-drop, add-one, arith, min, Bool, true, false, subst, ◌≢◌, ◌≤◌, get_or, replicate, length-append, ◌==◌, codes, decimal, Option, Some, None, MatchOption, IsSome, All, slice_index, not, option_map}
 use Rattle.std.specs.Int.{div_ceil}
 use Rattle.std.specs.Simd.{first_chunks}
 use Rattle.std.specs.List.{flat_map, join_with_byte}
@@ -23,7 +22,6 @@ use Rattle.kd_state.specs.TwoCiphers.{sheet_key, IsWindow}
 use Rattle.kd_form.specs.declared.fault.FormFault.TheVariants.{IndicatorsDiffer}
 use Rattle.kd_form.specs.Reading.{HasIndicator, message_key, indicators_with, ArePinLetters, IsPinFault, InIndicators, IsLettersText}
 use Rattle.kd_form.proofs.Ciphers.{length-cipher_from, letters-cipher_from}
-use Rattle.std.specs.Option.{option_map}
 use Rattle.std.proofs.lemmas.List.Elements.{All-append, All-cons, All-replicate}
 use Rattle.kd_state.specs.Laws.{TheDayDeciphersItself}
 use Rattle.kd_form.specs.FormParts.{IsFraction, IsHeading}
@@ -40,10 +38,7 @@ more_pieces size n large some = grind arith
 
 pub pieces-next : (size : ℕ) (letters : List ℕ) → 0 < size → 0 < length letters
     → pieces size letters ≡ take size letters ∷ pieces size (drop size letters)
-pieces-next size letters large some =
-    let count : div_ceil (length letters) size ≡ suc (div_ceil (length (drop size letters)) size) =
-    more_pieces size (length letters) large some ∙ ap (λ m. div_ceil m size + 1) (sym (length-drop size letters)) ∙ add-one _ in
-    ap (λ n. first_chunks size n letters) count
+pieces-next size letters large some = grind (arith, more_pieces, length-drop {A = ℕ}, add-one)
 
 pub pieces-none : (size : ℕ) → 0 < size → pieces size [] ≡ []
 pieces-none size large = ap (λ n. first_chunks size n []) (no_piece size large)
@@ -63,9 +58,7 @@ groups-none = ap (λ groups. behind_spaces (map letters_text groups)) (pieces-no
 -- a whole line
 pub line-first : (letters : List ℕ) → 0 < length letters
     → with_line (groups_of letters) [] ≡ (letters_text (take 5 letters) ++ behind_spaces (groups_of (drop 5 letters))) ++ 10 ∷ []
-line-first letters some =
-    ap (λ groups. join_with_byte 32 (map letters_text groups) ++ 10 ∷ []) (pieces-next 5 letters (omega arith) some)
-    ∙ ap (λ text. text ++ 10 ∷ []) (line-of_groups (letters_text (take 5 letters)) (groups_of (drop 5 letters)))
+line-first letters some = grind (arith, pieces-next, line-of_groups)
 
 -- the first line of the body, and the others
 pub body-next : (letters : List ℕ) → 0 < length letters
@@ -88,21 +81,13 @@ fitting-drop n m xs is = let same : n ≡ min m (length xs) = omega arith in rw 
 pub line_turn : (initial text spaced written rest group after : List ℕ) (k : ℕ) → k ≡ min (length rest) 5 → 0 < length rest
     → group ≡ take k rest → after ≡ drop k rest → spaced ≡ text ++ 32 ∷ [] → written ≡ spaced ++ letters_text group
     → text ++ behind_spaces (groups_of rest) ≡ initial → written ++ behind_spaces (groups_of after) ≡ initial
-line_turn initial text spaced written rest group after k is some first others space put before =
-    let letters : List ℕ = letters_text (take 5 rest) in
-    let more : List ℕ = behind_spaces (groups_of (drop 5 rest)) in
-    cc (fitting-take k 5 rest is, fitting-drop k 5 rest is, groups-next rest some, append_assoc (text ++ 32 ∷ []) letters more,
-    append_assoc text (32 ∷ []) (letters ++ more))
+line_turn initial text spaced written rest group after k is some first others space put before = grind (arith, fitting-take, fitting-drop, groups-next, append_assoc {A = ℕ})
 
 pub line_end : (text begun written whole letters group after rest : List ℕ) (k : ℕ) → k ≡ min (length letters) 5 → 0 < length letters
     → group ≡ take k letters → after ≡ drop k letters → begun ≡ text ++ letters_text group
     → written ++ behind_spaces (groups_of rest) ≡ begun ++ behind_spaces (groups_of after) → rest ≡ [] → whole ≡ written ++ 10 ∷ []
     → whole ≡ text ++ with_line (groups_of letters) []
-line_end text begun written whole letters group after rest k is some first others put before done last =
-    let front : List ℕ = letters_text (take 5 letters) in
-    let more : List ℕ = behind_spaces (groups_of (drop 5 letters)) in
-    cc (fitting-take k 5 letters is, fitting-drop k 5 letters is, groups-none, append-nil written, line-first letters some, append_assoc text front more,
-    append_assoc text (front ++ more) (10 ∷ []))
+line_end text begun written whole letters group after rest k is some first others put before done last = grind (arith, fitting-take, fitting-drop, groups-none, append-nil {A = ℕ}, line-first, append_assoc {A = ℕ})
 
 pub body_turn : (initial text written rest line after : List ℕ) (k : ℕ) → k ≡ min (length rest) 50 → 0 < length rest → line ≡ take k rest
     → after ≡ drop k rest → written ≡ text ++ with_line (groups_of line) [] → text ++ body_text rest ≡ initial
@@ -134,10 +119,7 @@ pub heading_line : (front whole : List ℕ) (h : Heading)
     → whole ≡ (((((((front ++ codes "PART ") ++ decimal h.part) ++ codes "/") ++ decimal h.parts) ++ codes " ") ++ decimal h.letters)
     ++ behind_spaces (indicator_words h.indicator)) ++ codes "\n"
     → whole ≡ front ++ with_line (heading_words h) []
-heading_line front whole h written =
-    written ∙ parts_of_heading front (decimal h.part) (decimal h.parts) (decimal h.letters) (behind_spaces (indicator_words h.indicator))
-    ∙ ap (λ t. front ++ ((codes "PART" ++ 32 ∷ (fraction h.part h.parts ++ 32 ∷ t)) ++ 10 ∷ []))
-    (sym (line-of_groups (decimal h.letters) (indicator_words h.indicator)))
+heading_line front whole h written = grind (arith, parts_of_heading, line-of_groups)
 
 -- -------- what is made of a part, as its text is put together
 

@@ -1,12 +1,11 @@
 -- The reader of an order, byte by byte, and at the end.
-use Rattle.std.proofs.Common.{◌≡◌, ◌≢◌, ℕ, zero, suc, ◌+◌, ◌-◌, ◌*◌, length-take, ◌<◌, ◌≤◌, inl, inr, List, [], ◌∷◌, ◌++◌, Some, length, take, drop, refl, sym, ap, subst, ◌∙◌, append_assoc, append-nil, length-append, length-drop, take-append-drop, arith, get_or, ◌^◌, Option, None, Result, Ok, Err, IsTrue, IsFalse, option_to_list}
-use Rattle.std.specs.Prelude.{slice_get, codes, All, MatchResult}
+use Rattle.std.proofs.Common.{◌≡◌, ◌≢◌, ℕ, zero, suc, ◌+◌, ◌-◌, ◌*◌, length-take, ◌<◌, ◌≤◌, inl, inr, List, [], ◌∷◌, ◌++◌, Some, length, take, drop, refl, sym, ap, subst, ◌∙◌, append_assoc, append-nil, length-append, length-drop, take-append-drop, arith, get_or, ◌^◌, Option, None, Result, Ok, Err, IsTrue, IsFalse, option_to_list, slice_get, codes, All, MatchResult}
 use Rattle.std.specs.Int.{div_ceil}
 use Rattle.std.proofs.Math.Seq.{take-append_seam}
 use Rattle.std.proofs.lemmas.Bool.{cases_lt}
 use Rattle.std.proofs.Math.Nat.{mul_comm, le_of_mul-le-mul_left}
 use Rattle.std.proofs.lemmas.Grind.{div_ceil_times}
-use Rattle.std.proofs.lemmas.List.{take_all, drop_all, drop_at, take_at, drop-take, drop-drop, take-take, take_more, length-take-le}
+use Rattle.std.proofs.lemmas.List.{nil_from_length, take_all, drop_all, drop_at, take_at, drop-take, drop-drop, take-take, take_more, length-take-le}
 use Rattle.std.proofs.lemmas.Option.{slice_get_within, get_or_from_slice_get}
 use Rattle.kd_state.specs.SheetDay.{Day, OfRotors, OfPins}
 use Rattle.kd_form.specs.declared.keys.Keys.{Keys}
@@ -179,10 +178,6 @@ only_behind s tell (k ∷ keys) lines (line, rest, ended, keyed, joined) others 
     let behind = only_behind s tell keys rest keyed one.0 more one.1 in
     (behind.0, behind.1, one.2 ∙ omega (arith, behind.2))
 
-all_before : (before rest order : List ℕ) → order ≡ before ++ rest → length order + 1 ≡ length before + 1 → before ≡ order
-all_before before [] order joined size = sym (append-nil before) ∙ sym joined
-all_before before (x ∷ rest) order joined size = absurd (omega (arith, ap length joined, length-append before (x ∷ rest), size))
-
 -- ---- with one byte more
 
 -- an order that goes on
@@ -252,7 +247,8 @@ line_bad : (s : Day) (h : HeadReader) (order : List ℕ) (byte : ℕ) → TextsT
     → ((others : List Keys) (other : List ℕ) → length h.keys.items + length others ≤ 99 → ¬ (IsHead s others (h.line.items ++ byte ∷ other)))
     → IsHeadFault s (order ++ byte ∷ []) (length (order ++ byte ∷ []))
 line_bad s h order byte tell is off =
-    let whole : is.cut.before ≡ order = all_before is.cut.before is.cut.rest order is.cut.joined is.cut.size in
+    let none : is.cut.rest ≡ [] = nil_from_length is.cut.rest (omega (arith, ap length is.cut.joined, length-append is.cut.before is.cut.rest, is.cut.size)) in
+    let whole : is.cut.before ≡ order = cc (is.cut.joined, append-nil is.cut.before) in
     record {
       before = order;
       rest = byte ∷ [];

@@ -1,5 +1,5 @@
 -- What refuses a form: its parts, one after another, and for good.
-use Rattle.std.proofs.Common.{◌≡◌, inl, inr, ℕ, Bool, true, false, List, refl, sym, ap, subst, ◌∙◌, Option, Some, None, Result, Ok, Err, ◌≢◌, ◌⊎◌, ◌+◌, ◌-◌, ◌<◌, ◌≤◌, [], ◌∷◌, ◌++◌, length, drop, get_or, append_assoc, length-append, arith}
+use Rattle.std.proofs.Common.{◌≡◌, inl, inr, ℕ, Bool, true, false, List, refl, sym, ap, subst, ◌∙◌, Option, Some, None, Result, Ok, Err, ◌≢◌, ◌⊎◌, ◌+◌, ◌-◌, ◌<◌, ◌≤◌, [], ◌∷◌, ◌++◌, length, drop, get_or, append_assoc, length-append, arith, codes, All, IsTrue}
 use Rattle.kd_tables.specs.Ports.{Port, Fail}
 use Rattle.kd_state.specs.declared.machine.parts.Parts.{Parts}
 use Rattle.kd_state.specs.SheetDay.{Day, OfRotors, OfPins}
@@ -16,7 +16,6 @@ use Rattle.kd_form.specs.OnTheKey.{IsKeyFault}
 use Rattle.kd_form.specs.Sending.{IsKeysFault, StandsInOrder, InHead, InKeys, InText, Cut, NoLetter, InParts, IsSendFault, IsBadAt}
 use Rattle.kd_form.specs.SendStream.{orders}
 use Rattle.kd_form.specs.Streams.{Message, Answers, Whole, Stands, AtEnd, TooLong, SourceFails, SinkFails, AreWell, is_device, is_off_key}
-use Rattle.std.specs.Prelude.{codes, All, IsTrue}
 use Rattle.std.proofs.Math.Seq.{drop-append_seam}
 use Rattle.std.proofs.Math.ListN.{get_or-append}
 use Rattle.std.proofs.lemmas.Bool.{cases_lt, false≢true}
@@ -93,8 +92,7 @@ at_end : (s : Day) (form text : List ℕ) (fault : FormFault) → IsRefusedAtEnd
 at_end s form text fault found = grind (arith, part_fault)
 
 whole_fault : (s : Day) (form : List ℕ) (fault : FormFault) → IsReceiveFault s form fault → is_foreign fault ≡ false
-whole_fault s form fault (text, inl found) = for_good s form text fault found
-whole_fault s form fault (text, inr found) = at_end s form text fault found
+whole_fault s form fault found = grind (arith, for_good, at_end)
 
 pub of_forms : (s : Day) → IsOfMessage (form_message s)
 of_forms s = record { standing = λ form fault found. for_good s form found.0 fault found.1; whole = λ form fault found. whole_fault s form fault found }

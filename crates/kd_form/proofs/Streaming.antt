@@ -33,9 +33,7 @@ all_of_it : (xs : List ℕ) → StartsWith xs xs
 all_of_it xs = starts_with_of_append xs xs [] (sym (append-nil xs))
 
 front_of_made : (text made : List ℕ) (count : ℕ) → StartsWith (text ++ made) (text ++ take count made)
-front_of_made text made count =
-    starts_with_of_append (text ++ made) (text ++ take count made) (drop count made)
-    (ap (λ l. text ++ l) (sym (take-append-drop count made)) ∙ sym (append_assoc text (take count made) (drop count made)))
+front_of_made text made count = grind (arith, starts_with_of_append, take-append-drop {A = ℕ}, append_assoc {A = ℕ})
 
 starts_longer : (bytes more front : List ℕ) → StartsWith bytes front → StartsWith (bytes ++ more) front
 starts_longer bytes more front starts =
@@ -170,20 +168,7 @@ module _ (m : Message) (old new : List ℕ → List ℕ → Type 0) (had has nex
     (before : SoFar m old (over had has a b) (over took taken d e) count) (space : room ≡ READ_LIMIT - count) where
   pub SoFar-read : (n : ℕ) → ReadsNext m old new room (over has next b c) (over taken wrote e f) (Ok n)
       → SoFar m new (over had next a c) (over took wrote d f) (count + n) × (n ≡ 0 → IsAtEnd next)
-  SoFar-read n reads =
-      let step = reads before.read before.text before.held (omega (arith, before.counted, before.within, space)) in (
-        record {
-          read = before.read ++ step.more;
-          text = before.text ++ step.made;
-          counted = length-append before.read step.more ∙ omega (arith, before.counted, step.read.0);
-          within = omega (arith, before.within, step.within, step.read.0, space);
-          given = Consumes-trans had has next before.read step.more before.given step.given;
-          written = Appends-trans took taken wrote before.text step.made before.written step.written;
-          held = step.read.1;
-          well = (step.read.3 ∙ before.well.0, step.read.4 ∙ before.well.1);
-        },
-        step.read.2,
-      )
+  SoFar-read n reads = grind (arith, length-append {A = ℕ}, Consumes-trans, Appends-trans)
 
   pub IsStreamed-stopped : (stop : Stop) (fault : FormFault) → fault ≡ fault_of stop → ReadsNext m old new room (over has next b c) (over taken wrote e f) (Err stop)
       → IsStreamed m (over had next a c) (over took wrote d f) (Err fault)

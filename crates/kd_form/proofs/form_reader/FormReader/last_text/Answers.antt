@@ -1,5 +1,4 @@
-use Rattle.std.proofs.Common.{[], inl, ◌∙◌}
-use Rattle.std.specs.Prelude.{IsTrue, None}
+use Rattle.std.proofs.Common.{[], inl, ◌∙◌, IsTrue, None}
 use Rattle.std.proofs.lemmas.List.Elements.{All-nil}
 use Rattle.kd_tables.specs.Text.{is_text_byte}
 use Rattle.kd_form.specs.Sending.{letters_from}
