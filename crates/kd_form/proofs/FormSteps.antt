@@ -132,16 +132,11 @@ are_shown others kept shown letters more few size is cut = elim (cases_lt 525 (l
       inl (cut ∙ ap (λ n. take n kept) count ∙ ap (take (length letters)) whole ∙ take-append_seam letters more)
 ]
 
-too_long : {X : Type 0} (items : X → List ℕ) (s : Day) (h : Heading) (shown letters : List ℕ) (answer : Result X FormFault) → h.letters ≤ 520
-    → 521 ≤ length shown → 521 ≤ length letters → MatchResult answer (λ x. IsBodyText s h shown (items x)) (IsBodyFault s h.part h shown)
-    → MatchResult answer (λ x. IsBodyText s h letters (items x)) (IsBodyFault s h.part h letters)
-too_long items s h shown letters answer few many more told = grind arith
-
 pub body_told : {X : Type 0} (items : X → List ℕ) (s : Day) (h : Heading) (others : ℕ) (kept shown letters more : List ℕ) (answer : Result X FormFault)
     → IsHeading s h → others ≤ 4 → length more ≡ others → kept ≡ take 525 (letters ++ more) → shown ≡ take (length kept - others) kept
     → MatchResult answer (λ x. IsBodyText s h shown (items x)) (IsBodyFault s h.part h shown)
     → MatchResult answer (λ x. IsBodyText s h letters (items x)) (IsBodyFault s h.part h letters)
-body_told items s h others kept shown letters more answer is few size kept_is cut told = grind (arith, are_shown, too_long, at_most)
+body_told items s h others kept shown letters more answer is few size kept_is cut told = grind (arith, are_shown, at_most)
 
 -- -------- a whole part
 

@@ -82,7 +82,7 @@ pub last_rest : (s : Day) (form : List ℕ) (t : Turn s form) → t.after ≡ []
 last_rest s form t last = grind (arith, append-nil {A = ℕ})
 
 pub last_whole : (s : Day) (form : List ℕ) (t : Turn s form) → t.after ≡ [] → IsFirstOf t.rest t.rest []
-last_whole s form t last = rw (last_rest s form t last) (rw last at (rw (last_rest s form t last) at t.first))
+last_whole s form t last = grind (arith, last_rest, append-nil {A = ℕ})
 
 -- ---- a byte more of what may become a heading
 

@@ -50,52 +50,18 @@ pub record IsOfMessage (m : Message) : Type 0 where
 abbrev pub IsToldOf : Port → Port → Result (Unit {0}) FormFault → Type 0
 IsToldOf source sink answer = Fail source sink (is_device answer) × (is_off_key answer ≡ false)
 
-told_of : (source sink : Port) (fault : FormFault) → is_foreign fault ≡ false → AreWell source sink → IsToldOf source sink (Err fault)
-told_of source sink fault own well = grind arith
-
 pub answered : (m : Message) (source sink : Port) (read text : List ℕ) (answer : Result (Unit {0}) FormFault) → IsOfMessage m → Answers m source sink read text answer
     → IsToldOf source sink answer
-answered m source sink read text answer of answers = grind (arith, told_of)
+answered m source sink read text answer of answers = grind arith
 
 pub off_key : (m : Parts) (s : Day) (source sink : Port) (fault : FormFault) → IsKeyFault m s fault → AreWell source sink → Fail source sink (is_device (Err fault))
 off_key m s source sink fault off well = grind arith
 
--- ---- orders
-
-keys_fault : (s : Day) (part : ℕ) (k : Keys) (fault : FormFault) → IsKeysFault s part k fault → is_foreign fault ≡ false
-keys_fault s part k fault found = grind arith
-
-standing_order : (s : Day) (order : List ℕ) (fault : FormFault) → StandsInOrder s order fault → is_foreign fault ≡ false
-standing_order s order fault found = grind (arith, keys_fault)
-
-whole_order : (s : Day) (order : List ℕ) (fault : FormFault) → IsSendFault s order fault → is_foreign fault ≡ false
-whole_order s order fault found = grind (arith, standing_order)
-
 pub of_orders : (s : Day) → IsOfMessage (orders s)
-of_orders s = grind (arith, standing_order, whole_order)
-
--- ---- forms
-
-letters_fault : (s : Day) (part : ℕ) (i : Option Indicator) (letters : List ℕ) (fault : FormFault) → IsLettersFault s part i letters fault → is_foreign fault ≡ false
-letters_fault s part i letters fault found = grind arith
-
-body_fault : (s : Day) (number : ℕ) (h : Heading) (letters : List ℕ) (fault : FormFault) → IsBodyFault s number h letters fault → is_foreign fault ≡ false
-body_fault s number h letters fault found = grind (arith, letters_fault)
-
-part_fault : (s : Day) (number : ℕ) (expected : Option ℕ) (start : ℕ) (part : List ℕ) (fault : FormFault) → IsPartFault s number expected start part fault → is_foreign fault ≡ false
-part_fault s number expected start part fault found = grind (arith, body_fault)
-
-for_good : (s : Day) (form text : List ℕ) (fault : FormFault) → IsRefusedForGood s form text fault → is_foreign fault ≡ false
-for_good s form text fault found = grind (arith, part_fault)
-
-at_end : (s : Day) (form text : List ℕ) (fault : FormFault) → IsRefusedAtEnd s form text fault → is_foreign fault ≡ false
-at_end s form text fault found = grind (arith, part_fault)
-
-whole_fault : (s : Day) (form : List ℕ) (fault : FormFault) → IsReceiveFault s form fault → is_foreign fault ≡ false
-whole_fault s form fault found = grind (arith, for_good, at_end)
+of_orders s = grind arith
 
 pub of_forms : (s : Day) → IsOfMessage (form_message s)
-of_forms s = record { standing = λ form fault found. for_good s form found.0 fault found.1; whole = λ form fault found. whole_fault s form fault found }
+of_forms s = grind arith
 
 -- -------- what refuses a form for good
 

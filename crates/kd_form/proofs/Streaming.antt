@@ -32,9 +32,6 @@ still_well before after e = grind arith
 all_of_it : (xs : List ℕ) → StartsWith xs xs
 all_of_it xs = starts_with_of_append xs xs [] (sym (append-nil xs))
 
-front_of_made : (text made : List ℕ) (count : ℕ) → StartsWith (text ++ made) (text ++ take count made)
-front_of_made text made count = grind (arith, starts_with_of_append, take-append-drop {A = ℕ}, append_assoc {A = ℕ})
-
 starts_longer : (bytes more front : List ℕ) → StartsWith bytes front → StartsWith (bytes ++ more) front
 starts_longer bytes more front starts =
     let rest = starts_with_rest bytes front starts in
@@ -45,7 +42,7 @@ starts_longer bytes more front starts =
 -- what was made of a byte was put in part
 pub fed_in_part : (m : Message) (new : List ℕ → List ℕ → Type 0) (bytes text made : List ℕ) (took wrote : Option (List ℕ)) (d f : Bool)
     → Held m new bytes (text ++ made) → TakesFront took wrote made → IsFed m new bytes text (over took wrote d f) (Err stops.Device)
-fed_in_part m new bytes text made took wrote d f held part = grind (arith, all_of_it, front_of_made)
+fed_in_part m new bytes text made took wrote d f held part = grind (arith, all_of_it, starts_with_of_append, take-append-drop {A = ℕ}, append_assoc {A = ℕ})
 
 pub fed_none : (m : Message) (old : List ℕ → List ℕ → Type 0) (took : Option (List ℕ)) (d : Bool) → FeedsAll m old old [] (over took took d d) (Ok tt)
 fed_none m old took d bytes text held = grind (arith, Appends-nil, append-nil {A = ℕ})
@@ -66,12 +63,9 @@ pub room_less : (m : Message) (old new : List ℕ → List ℕ → Type 0) (more
     → FeedsAll m old new more sink (Ok tt) → HasRoom m new less
 room_less m old new more sink room less few has fed = grind (arith, length-append {A = ℕ})
 
-refused_longer : (m : Message) (bytes more text : List ℕ) (fault : FormFault) → IsRefused m bytes text fault → IsRefused m (bytes ++ more) text fault
-refused_longer m bytes more text fault is = grind (arith, append_assoc {A = ℕ})
-
 fed_longer : (m : Message) (new : List ℕ → List ℕ → Type 0) (bytes more text : List ℕ) (stop : Stop) → FedTo m new bytes text (Err stop)
     → FedTo m new (bytes ++ more) text (Err stop)
-fed_longer m new bytes more text stop is = grind (arith, refused_longer, starts_longer)
+fed_longer m new bytes more text stop is = grind (arith, starts_longer, append_assoc {A = ℕ})
 
 -- the same of bytes that are the same
 pub fed_whole : (m : Message) (old new : List ℕ → List ℕ → Type 0) (front whole : List ℕ) (sink : Port) (answer : Result (Unit {0}) Stop) → front ≡ whole
