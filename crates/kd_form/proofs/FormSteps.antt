@@ -1,9 +1,9 @@
 -- The reader of a form, byte by byte, and at the end.
-use Rattle.std.proofs.Common.{◌≡◌, ◌≢◌, ◌⊎◌, inl, inr, ℕ, ◌+◌, ◌-◌, ◌≤◌, List, [], ◌∷◌, ◌++◌, length, take, drop, refl, sym, ap, subst, ◌∙◌, append_assoc, length-append, Result, Ok, Err, MatchResult, arith, ◌<◌, codes, All, IsTrue, Option, Some, None, IsFalse, MatchOption, option_to_list}
+use Rattle.std.proofs.Common.{[], ◌≡◌, ◌≢◌, ◌⊎◌, inl, inr, ℕ, ◌+◌, ◌-◌, ◌≤◌, List, ◌∷◌, ◌++◌, length, take, refl, sym, ap, subst, ◌∙◌, append_assoc, length-append, Result, Ok, Err, MatchResult, arith, codes, All, IsTrue, Option, Some, None, IsFalse, MatchOption, option_to_list}
 use Rattle.std.proofs.Math.Seq.{take-append_seam}
 use Rattle.std.proofs.lemmas.Bool.{cases_lt, cases_eq}
-use Rattle.std.proofs.lemmas.List.{append-nil, take_all, take-take, take-append-le, take-append-drop, length-take, length-take-le}
-use Rattle.std.proofs.lemmas.List.Elements.{filter_map-append, All-append, All-cons, All-nil, All-push}
+use Rattle.std.proofs.lemmas.List.{append-nil, take_all, take-take, take-append-le, length-take, length-take-le}
+use Rattle.std.proofs.lemmas.List.Elements.{filter_map-append, All-nil, All-push}
 use Rattle.arrayvec.specs.ArrayVec.{ArrayVec}
 use Rattle.kd_tables.specs.Text.{is_text_byte}
 use Rattle.kd_state.specs.SheetDay.{Day}
@@ -15,7 +15,7 @@ use Rattle.kd_form.specs.Order.{IsEnded}
 use Rattle.kd_form.specs.Part.{heading_words}
 use Rattle.kd_form.specs.Sending.{letter_of_byte, letters_from}
 use Rattle.kd_form.specs.FormParts.{IsHeading, BeginsHeading, IsFirstOf}
-use Rattle.kd_form.specs.Receiving.{IsBodyText, IsBodyFault, InCount, InLetters, HasHeading, IsExpected, IsEarlyFault, InHeading, InNumber, InBody, IsPartRead, IsPartFault}
+use Rattle.kd_form.specs.Receiving.{IsBodyText, IsBodyFault, HasHeading, IsExpected, IsEarlyFault, InHeading, InNumber, InBody, IsPartRead, IsPartFault}
 use Rattle.kd_form.specs.FormReading.{IsNextLine, Broken, Longer, Begins, HoldsBody, IsBodyGiven, MayBegin, HoldsPart, HoldsStage, HoldsForm, IsHeadingDue, IsHeadingOff, Missing, Other, IsLastText}
 use Rattle.kd_form.proofs.Headings.{at_most, plain_heading, has_byte, ended_heading, one_heading, begins_there}
 use Rattle.kd_form.proofs.TextLetters.{letters_first}
@@ -23,7 +23,7 @@ use Rattle.kd_form.specs.declared.fault.FormFault.TheVariants.{BadByte, BadHeadi
 use Rattle.kd_form.specs.declared.form_reader.FormReader.{FormReader}
 use Rattle.kd_form.specs.declared.form_reader.Stage.{Stage}
 use Rattle.kd_form.specs.declared.form_reader.Stage.TheVariants as stages
-use Rattle.kd_form.specs.FormText.{ArePartsRead, IsReadTo, given_letters, count_due, Turn, IsRefusedForGood, NoHeading, InWhole, InLast, form_message, IsRefusedAtEnd, InPart}
+use Rattle.kd_form.specs.FormText.{IsReadTo, given_letters, count_due, Turn, IsRefusedForGood, NoHeading, InWhole, InLast, form_message, IsRefusedAtEnd, InPart}
 use Rattle.kd_form.specs.Streams.{IsRefused, Closes}
 use Rattle.kd_form.specs.StreamSteps.{Held}
 use Rattle.kd_form.proofs.Plain.{All-front, without, head_unbroken}
@@ -31,7 +31,7 @@ use Rattle.kd_form.proofs.Growing.{all_follow, first_unbroken, first_more, first
 use Rattle.kd_form.proofs.Lines.{IsUpToBreak, up_to_break}
 use Rattle.kd_form.proofs.OneOrder.{no_bad_byte}
 use Rattle.kd_form.proofs.OneText.{nothing_stands}
-use Rattle.kd_form.proofs.Received.{IsReadInTurn, given_more, due_more, next_turn, first_turn, too_few_parts, all_received}
+use Rattle.kd_form.proofs.Received.{given_more, due_more, next_turn, first_turn, too_few_parts, all_received}
 use Rattle.kd_form.proofs.Standing.{stays_refused}
 
 -- -------- the body of a part, byte by byte

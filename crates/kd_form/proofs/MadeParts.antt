@@ -1,10 +1,10 @@
 -- How a part of a form is made.
-use Rattle.std.proofs.Common.{◌≡◌, ℕ, suc, ◌+◌, ◌-◌, ◌/◌, ◌%◌, ◌<◌, inl, inr, List, [], ◌∷◌, ◌++◌, length, map, take, drop, refl, sym, ap, ◌∙◌, append_assoc, length-drop, add-one, arith, min, Bool, true, false, subst, ◌≢◌, ◌≤◌, get_or, replicate, length-append, ◌==◌, codes, decimal, Option, Some, None, MatchOption, IsSome, All, slice_index, not, option_map}
+use Rattle.std.proofs.Common.{[], ◌≡◌, ℕ, ◌+◌, ◌-◌, ◌%◌, ◌<◌, inl, inr, List, ◌∷◌, ◌++◌, length, map, take, drop, refl, sym, ap, ◌∙◌, append_assoc, length-drop, add-one, arith, min, Bool, true, false, subst, ◌≢◌, ◌≤◌, get_or, replicate, length-append, ◌==◌, codes, decimal, Option, Some, None, MatchOption, IsSome, All, slice_index, not, option_map}
 use Rattle.std.specs.Int.{div_ceil}
 use Rattle.std.specs.Simd.{first_chunks}
 use Rattle.std.specs.List.{flat_map, join_with_byte}
-use Rattle.std.proofs.Math.Nat.{add-div_left, add-mod_left, div-eq_of_lt, mod-eq_of_lt}
-use Rattle.std.proofs.lemmas.Bool.{cases_lt, eqb-true, false≢true}
+use Rattle.std.proofs.Math.Nat.{div-eq_of_lt, mod-eq_of_lt}
+use Rattle.std.proofs.lemmas.Bool.{eqb-true, false≢true}
 use Rattle.std.proofs.lemmas.List.{append-nil, take_min, drop_min, length-take-le, length-map, take-append-drop, get_or_default, length-replicate}
 use Rattle.kd_tables.specs.Text.{letters_text}
 use Rattle.kd_form.specs.declared.heading.Heading.{Heading}
@@ -238,11 +238,7 @@ rotor_part_back s part parts k piece decipher legal are suits fraction is =
     let key : cipher_from day k.start (cipher_from day k.start k.key) ≡ k.key = decipher day k.start k.key legal are.key.within in
     let text : cipher_from day k.key enciphered ≡ piece = decipher day k.key piece legal is.within in
     record {
-      is_heading = record {
-        number = fraction;
-        letters = (omega (arith, is.some), omega (arith, is.few));
-        indicator = (are.start, record { count = length-cipher_from day k.start k.key ∙ are.key.count; within = letters-cipher_from day k.start k.key });
-      };
+      is_heading = grind (arith, count, length-cipher_from day k.start k.key, letters-cipher_from day k.start k.key);
       numbered = refl;
       so_many = refl;
       within = All-append (λ letter. letter < 26) (k.fillers ++ k.group) enciphered
@@ -278,11 +274,7 @@ pin_part_back s part parts k internal piece decipher legal are suits first fract
     let inner : All (λ letter. letter < 26) (filled piece) =
     All-append (λ letter. letter < 26) piece (replicate more 23) is.within (All-replicate (λ letter. letter < 26) more 23 (omega arith)) in
     record {
-      is_heading = record {
-        number = fraction;
-        letters = (omega (arith, is.some), omega (arith, is.few), omega arith);
-        indicator = tt;
-      };
+      is_heading = grind (arith, count, groups);
       numbered = refl;
       so_many = refl;
       within = All-append (λ letter. letter < 26) (indicators ++ enciphered) indicators

@@ -1,20 +1,19 @@
 -- The reader of an order, byte by byte, and at the end.
-use Rattle.std.proofs.Common.{◌≡◌, ◌≢◌, ℕ, zero, suc, ◌+◌, ◌-◌, ◌*◌, length-take, ◌<◌, ◌≤◌, inl, inr, List, [], ◌∷◌, ◌++◌, Some, length, take, drop, refl, sym, ap, subst, ◌∙◌, append_assoc, append-nil, length-append, length-drop, take-append-drop, arith, get_or, ◌^◌, Option, None, Result, Ok, Err, IsTrue, IsFalse, option_to_list, slice_get, codes, All, MatchResult}
+use Rattle.std.proofs.Common.{[], ◌≡◌, ◌≢◌, ℕ, zero, suc, ◌+◌, ◌-◌, ◌*◌, length-take, ◌<◌, ◌≤◌, inl, inr, List, ◌∷◌, ◌++◌, Some, length, take, drop, refl, sym, ap, subst, ◌∙◌, append_assoc, append-nil, length-append, length-drop, arith, get_or, ◌^◌, Option, Result, Ok, Err, IsTrue, IsFalse, option_to_list, slice_get, codes, All, MatchResult}
 use Rattle.std.specs.Int.{div_ceil}
-use Rattle.std.proofs.Math.Seq.{take-append_seam}
 use Rattle.std.proofs.lemmas.Bool.{cases_lt}
-use Rattle.std.proofs.Math.Nat.{mul_comm, le_of_mul-le-mul_left}
+use Rattle.std.proofs.Math.Nat.{le_of_mul-le-mul_left}
 use Rattle.std.proofs.lemmas.Grind.{div_ceil_times}
 use Rattle.std.proofs.lemmas.List.{nil_from_length, take_all, drop_all, drop_at, take_at, drop-take, drop-drop, take-take, take_more, length-take-le}
 use Rattle.std.proofs.lemmas.Option.{slice_get_within, get_or_from_slice_get}
-use Rattle.kd_state.specs.SheetDay.{Day, OfRotors, OfPins}
+use Rattle.kd_state.specs.SheetDay.{Day}
 use Rattle.kd_form.specs.declared.keys.Keys.{Keys}
 use Rattle.kd_form.specs.declared.order_reader.parts.PartWriter.{PartWriter}
 use Rattle.kd_form.specs.Part.{pieces}
 use Rattle.kd_form.specs.Making.{IsMadeText, part_size, Suits}
-use Rattle.kd_form.specs.Sending.{parts_needed, AreMadeTexts, blank_of, letter_of_byte, letters_from, text_letters, IsBadAt, IsFirstKeysFault, StandsInOrder, InHead, InKeys, InText, Cut, NoLetter, InParts, IsSendFault}
+use Rattle.kd_form.specs.Sending.{parts_needed, AreMadeTexts, blank_of, letter_of_byte, letters_from, text_letters, IsFirstKeysFault, StandsInOrder, InHead, InKeys, InText, NoLetter, InParts}
 use Rattle.kd_form.specs.SendStream.{CanBeWritten, IsAllowedFront, IsSentBefore, orders}
-use Rattle.kd_form.specs.SendSteps.{AreTaken, IsHeadRead, HeadIsRead, step_of, IsTextRead, AreSuitedKeys, IsLastTaken, IsFresh, IsOrderRead, OfHead, OfText}
+use Rattle.kd_form.specs.SendSteps.{AreTaken, IsHeadRead, HeadIsRead, step_of, IsTextRead, IsLastTaken, IsFresh, IsOrderRead, OfHead, OfText}
 use Rattle.kd_form.proofs.MadeParts.{pieces-next, pieces-none}
 use Rattle.std.proofs.lemmas.List.Elements.{All-nil, All-push, All-head, filter_map-append}
 use Rattle.kd_state.specs.Words.{IsWithout, TextsTellFirstParts}

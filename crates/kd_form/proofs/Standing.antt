@@ -1,24 +1,19 @@
 -- What refuses a form: its parts, one after another, and for good.
-use Rattle.std.proofs.Common.{◌≡◌, inl, inr, ℕ, Bool, true, false, List, refl, sym, ap, subst, ◌∙◌, Option, Some, None, Result, Ok, Err, ◌≢◌, ◌⊎◌, ◌+◌, ◌-◌, ◌<◌, ◌≤◌, [], ◌∷◌, ◌++◌, length, drop, get_or, append_assoc, length-append, arith, codes, All, IsTrue}
+use Rattle.std.proofs.Common.{[], ◌≡◌, inl, inr, ℕ, Bool, true, false, List, refl, sym, ap, subst, ◌∙◌, Option, Result, Err, ◌≢◌, ◌⊎◌, ◌+◌, ◌-◌, ◌<◌, ◌≤◌, ◌∷◌, ◌++◌, length, drop, get_or, append_assoc, length-append, arith, codes, All, IsTrue}
 use Rattle.kd_tables.specs.Ports.{Port, Fail}
 use Rattle.kd_state.specs.declared.machine.parts.Parts.{Parts}
-use Rattle.kd_state.specs.SheetDay.{Day, OfRotors, OfPins}
+use Rattle.kd_state.specs.SheetDay.{Day}
 use Rattle.kd_form.specs.declared.fault.FormFault.{FormFault}
 use Rattle.kd_form.specs.declared.fault.FormFault.TheVariants.{NotReady, Device, NotOnKey, BadByte}
-use Rattle.kd_form.specs.declared.keys.Keys.{Keys}
-use Rattle.kd_form.specs.declared.keys.Keys.TheVariants.{Rotor, Pin}
-use Rattle.kd_form.specs.declared.heading.Heading.{Heading}
-use Rattle.kd_form.specs.declared.heading.Indicator.{Indicator}
-use Rattle.kd_form.specs.Reading.{IsLettersFault, InIndicators, InExternal, InList, InChoice}
-use Rattle.kd_form.specs.Receiving.{InHeading, InNumber, InBody, IsBodyFault, InCount, InLetters, IsPartFault, IsEarlyFault}
-use Rattle.kd_form.specs.FormText.{IsRefusedForGood, NoHeading, InWhole, InLast, IsRefusedAtEnd, InPart, TooFew, IsReceiveFault, form_message, given_letters, count_due, Turn, IsRefusedEarly}
+use Rattle.kd_form.specs.Receiving.{InHeading, InNumber, InBody, IsEarlyFault}
+use Rattle.kd_form.specs.FormText.{IsRefusedForGood, NoHeading, InWhole, InLast, form_message, given_letters, count_due, Turn, IsRefusedEarly}
 use Rattle.kd_form.specs.OnTheKey.{IsKeyFault}
-use Rattle.kd_form.specs.Sending.{IsKeysFault, StandsInOrder, InHead, InKeys, InText, Cut, NoLetter, InParts, IsSendFault, IsBadAt}
+use Rattle.kd_form.specs.Sending.{IsBadAt}
 use Rattle.kd_form.specs.SendStream.{orders}
-use Rattle.kd_form.specs.Streams.{Message, Answers, Whole, Stands, AtEnd, TooLong, SourceFails, SinkFails, AreWell, is_device, is_off_key}
+use Rattle.kd_form.specs.Streams.{Message, Answers, AreWell, is_device, is_off_key}
 use Rattle.std.proofs.Math.Seq.{drop-append_seam}
 use Rattle.std.proofs.Math.ListN.{get_or-append}
-use Rattle.std.proofs.lemmas.Bool.{cases_lt, false≢true}
+use Rattle.std.proofs.lemmas.Bool.{cases_lt}
 use Rattle.std.proofs.lemmas.List.{append-nil, nil_from_length}
 use Rattle.std.proofs.lemmas.List.Elements.{All-same}
 use Rattle.kd_tables.specs.Text.{is_text_byte}
@@ -92,17 +87,7 @@ bad_in_less body more place good at = elim (fronts body more at.before (at.byte 
       allowed = All-front (λ b. IsTrue (is_text_byte b)) beyond (at.byte ∷ at.rest) (rw left at good);
       bad = at.bad;
     }))
-  | Longer x beyond longer left ↦
-      let same : at.byte ≡ x = cc in
-      record {
-        before = at.before;
-        byte = x;
-        rest = beyond;
-        joined = longer;
-        size = at.size;
-        allowed = at.allowed;
-        bad = rw same at at.bad;
-      }
+  | Longer x beyond longer left ↦ grind arith
 ]
 
 -- fewer than six bytes of what begins a heading may stand in a body

@@ -1,4 +1,4 @@
-use Rattle.std.proofs.Common.{◌+◌, ◌++◌, append-nil, ap, inr}
+use Rattle.std.proofs.Common.{◌+◌, append-nil, ap, inr}
 use Rattle.kd_form.specs.declared.fault.FormFault.TheVariants.{BadByte}
 use Rattle.kd_form.specs.Sending.{text_letters, Cut}
 use Rattle.kd_form.proofs.OrderSteps.{in_head, in_text, text_ends}
