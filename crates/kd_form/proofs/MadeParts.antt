@@ -110,16 +110,11 @@ nothing_left empty (x ∷ xs) told gone = absurd (let none : length (x ∷ xs) �
 
 -- ---- the line of a heading
 
-parts_of_heading : (front part parts count words : List ℕ)
-    → (((((((front ++ codes "PART ") ++ part) ++ codes "/") ++ parts) ++ codes " ") ++ count) ++ words) ++ codes "\n"
-    ≡ front ++ ((codes "PART" ++ 32 ∷ (((part ++ codes "/") ++ parts) ++ 32 ∷ (count ++ words))) ++ 10 ∷ [])
-parts_of_heading front part parts count words = simp append_assoc
-
 pub heading_line : (front whole : List ℕ) (h : Heading)
     → whole ≡ (((((((front ++ codes "PART ") ++ decimal h.part) ++ codes "/") ++ decimal h.parts) ++ codes " ") ++ decimal h.letters)
     ++ behind_spaces (indicator_words h.indicator)) ++ codes "\n"
     → whole ≡ front ++ with_line (heading_words h) []
-heading_line front whole h written = grind (arith, parts_of_heading, line-of_groups)
+heading_line front whole h written = grind (arith, append_assoc {A = ℕ}, line-of_groups)
 
 -- -------- what is made of a part, as its text is put together
 

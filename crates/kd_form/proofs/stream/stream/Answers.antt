@@ -7,8 +7,8 @@ loop-read-init g c = SoFar-nil _ _ _ _ _ _ c.start-reader.ensures
 
 pub returns-in-Ok-eq0 : goal.returns-in-Ok-eq0
 returns-in-Ok-eq0 g c =
-    let read = SoFar-read _ _ _ _ _ _ _ _ _ _ _ _ _ _ _ _ _ c.loop-read.invariant refl _ c.in-Ok-eq0.ensures in
-    IsStreamed-closed _ _ _ _ _ _ _ _ _ _ _ read.0 (read.1 c.in-Ok-eq0.field-0-test) c.close.ensures
+    IsStreamed-closed _ _ _ _ _ _ _ _ _ _ _ (SoFar-read _ _ _ _ _ _ _ _ _ _ _ _ _ _ _ _ _ c.loop-read.invariant refl _ c.in-Ok-eq0.ensures).0
+    ((SoFar-read _ _ _ _ _ _ _ _ _ _ _ _ _ _ _ _ _ c.loop-read.invariant refl _ c.in-Ok-eq0.ensures).1 c.in-Ok-eq0.field-0-test) c.close.ensures
 
 pub loop-read-preserved : goal.loop-read-preserved
 loop-read-preserved g c = (SoFar-read _ _ _ _ _ _ _ _ _ _ _ _ _ _ _ _ _ c.loop-read.invariant refl c.in-Ok.count c.in-Ok.ensures).0
@@ -18,8 +18,10 @@ returns-in-Err g c = IsStreamed-stopped _ _ _ _ _ _ _ _ _ _ _ _ _ _ _ _ _ c.loop
 
 pub returns-in-Ok-true : goal.returns-in-Ok-true
 returns-in-Ok-true g c =
-    let ended = SoFar-ended _ _ _ _ _ _ _ _ _ _ c.loop-read.invariant _ c.in-Ok-true.field-0-test c.in-Ok-true.ensures.ends c.in-Ok-true.ensures.failed in
-    IsStreamed-closed _ _ _ _ _ _ _ _ _ _ _ ended.0 ended.1 c.close-in-Ok-true.ensures
+    IsStreamed-closed _ _ _ _ _ _ _ _ _ _ _
+    (SoFar-ended _ _ _ _ _ _ _ _ _ _ c.loop-read.invariant _ c.in-Ok-true.field-0-test c.in-Ok-true.ensures.ends c.in-Ok-true.ensures.failed).0
+    (SoFar-ended _ _ _ _ _ _ _ _ _ _ c.loop-read.invariant _ c.in-Ok-true.field-0-test c.in-Ok-true.ensures.ends c.in-Ok-true.ensures.failed).1
+    c.close-in-Ok-true.ensures
 
 pub returns-in-Ok-false : goal.returns-in-Ok-false
 returns-in-Ok-false g c =
