@@ -29,34 +29,20 @@ use Rattle.kd_form.proofs.OneOrder.{Shorter, Longer, fronts, bad_longer, no_bad_
 
 -- -------- of which answers a device is the reason, or the machine
 
--- whether no message has the fault of itself: a device's, or the machine's
-abbrev is_foreign : FormFault → Bool
-is_foreign NotReady = true
-is_foreign Device = true
-is_foreign NotOnKey = true
-is_foreign _ = false
-
--- what refuses a message is its own
-pub record IsOfMessage (m : Message) : Type 0 where
-  pub standing : (bytes : List ℕ) (fault : FormFault) → m.stands bytes fault → is_foreign fault ≡ false
-  pub whole : (bytes : List ℕ) (fault : FormFault) → m.refused bytes fault → is_foreign fault ≡ false
-
 -- a device failed exactly where the answer says so, and the machine isn't the reason
 abbrev pub IsToldOf : Port → Port → Result (Unit {0}) FormFault → Type 0
 IsToldOf source sink answer = Fail source sink (is_device answer) × (is_off_key answer ≡ false)
 
-pub answered : (m : Message) (source sink : Port) (read text : List ℕ) (answer : Result (Unit {0}) FormFault) → IsOfMessage m → Answers m source sink read text answer
+pub order_told : (s : Day) (source sink : Port) (read text : List ℕ) (answer : Result (Unit {0}) FormFault) → Answers (orders s) source sink read text answer
     → IsToldOf source sink answer
-answered m source sink read text answer of answers = grind arith
+order_told s source sink read text answer answers = grind arith
+
+pub form_told : (s : Day) (source sink : Port) (read text : List ℕ) (answer : Result (Unit {0}) FormFault) → Answers (form_message s) source sink read text answer
+    → IsToldOf source sink answer
+form_told s source sink read text answer answers = grind arith
 
 pub off_key : (m : Parts) (s : Day) (source sink : Port) (fault : FormFault) → IsKeyFault m s fault → AreWell source sink → Fail source sink (is_device (Err fault))
 off_key m s source sink fault off well = grind arith
-
-pub of_orders : (s : Day) → IsOfMessage (orders s)
-of_orders s = grind arith
-
-pub of_forms : (s : Day) → IsOfMessage (form_message s)
-of_forms s = grind arith
 
 -- -------- what refuses a form for good
 

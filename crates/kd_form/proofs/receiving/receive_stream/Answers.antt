@@ -1,7 +1,7 @@
 use Rattle.std.proofs.Common.{refl, sym, ◌∙◌}
 use Rattle.std.proofs.lemmas.Bool.{false≢true}
 use Rattle.kd_form.specs.Streams.{Off}
-use Rattle.kd_form.proofs.Standing.{answered, of_forms, off_key}
+use Rattle.kd_form.proofs.Standing.{form_told, off_key}
 use Rattle.kd_form.proofs.receiving.receive_stream.Goals as goal
 
 pub returns-in-Err-clause-streamed : goal.returns-in-Err-clause-streamed
@@ -11,7 +11,7 @@ pub returns-in-Err-clause-failed : goal.returns-in-Err-clause-failed
 returns-in-Err-clause-failed g c = off_key _ _ _ _ c.in-Err.fault c.in-Err.ensures (refl, refl)
 
 pub returns-in-Ok-clause-failed : goal.returns-in-Ok-clause-failed
-returns-in-Ok-clause-failed g c = (answered _ _ _ _ _ _ (of_forms c.args.day.now) c.stream.ensures.answers).0
+returns-in-Ok-clause-failed g c = (form_told _ _ _ _ _ _ c.stream.ensures.answers).0
 
 pub returns-in-Ok-clause-untouched : goal.returns-in-Ok-clause-untouched
-returns-in-Ok-clause-untouched g c = λ off. absurd (false≢true (sym (answered _ _ _ _ _ _ (of_forms c.args.day.now) c.stream.ensures.answers).1 ∙ off))
+returns-in-Ok-clause-untouched g c = λ off. absurd (false≢true (sym (form_told _ _ _ _ _ _ c.stream.ensures.answers).1 ∙ off))
