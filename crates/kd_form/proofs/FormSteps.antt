@@ -398,8 +398,7 @@ module _ (s : Day) (r : FormReader) (form text : List ℕ) (h : HoldsForm s r fo
       let u : Turn s (form ++ byte ∷ []) =
       turn_with s form (byte ∷ []) (part ++ byte ∷ []) [] turn (some_byte byte) (goes_on s b part there.body byte there.holds one_part not) in
       let place : r.position + 1 ≡ (length (form ++ byte ∷ []) - length (part ++ byte ∷ [])) + (length (part ++ byte ∷ []) - length body) + length there.body + 1 =
-      omega (arith, h.counted, rest_within turn.before form part turn.read.cut, length-append form (byte ∷ []), length-append part (byte ∷ []),
-      length-append there.body (byte ∷ []), ap length there.holds.joined, length-append there.holds.line there.body) in
+      omega (arith, h.counted, rest_within turn.before form part turn.read.cut, length-append {A = ℕ}, ap length there.holds.joined) in
       InLast u ended.0 body refl (record {
         joined = ap (λ l. l ++ byte ∷ []) ended.1.joined ∙ append_assoc ended.0 (10 ∷ there.body) (byte ∷ []);
         without = ended.1.without;
@@ -422,8 +421,7 @@ module _ (s : Day) (r : FormReader) (form text : List ℕ) (h : HoldsForm s r fo
 
     pub four_letters : 4 ≤ length b.letters.items
     four_letters =
-        omega (arith, ap length there.holds.kept, length-take 525 (letters_from None there.body), ap length ended.letters,
-        length-append (letters_from None there.holds.settled) (letters_from None (codes "PART ")))
+        omega (arith, ap length there.holds.kept, length-take {A = ℕ}, ap length ended.letters, length-append {A = ℕ})
 
     abbrev ended_turn : Turn s (form ++ byte ∷ [])
     ended_turn =

@@ -168,8 +168,14 @@ first_ends bytes part front digit first split broken low high =
       joined = ap (λ l. l ++ digit ∷ []) split ∙ append_assoc part (codes "PART ") (digit ∷ []);
       whole = λ place below. none_more bytes bytes [] (digit ∷ []) place first (omega (arith, size, below)) (omega (arith, size, below));
       ends = inr (
-        cc (last, split, broken, append_assoc front (10 ∷ []) (codes "PART "), append_assoc front (10 ∷ codes "PART ") (digit ∷ []),
-        get_or-append_seam front 10 (codes "PART " ++ digit ∷ []) 0),
+        cc (
+          last,
+          split,
+          broken,
+          append_assoc front (10 ∷ []) (codes "PART "),
+          append_assoc front (10 ∷ codes "PART ") (digit ∷ []),
+          get_or-append_seam front 10 (codes "PART " ++ digit ∷ []) 0,
+        ),
         record { digit = digit; rest = []; is = refl; low = low; high = high },
       );
     }

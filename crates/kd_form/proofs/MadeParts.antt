@@ -93,8 +93,12 @@ pub body_turn : (initial text written rest line after : List ℕ) (k : ℕ) → 
     → after ≡ drop k rest → written ≡ text ++ with_line (groups_of line) [] → text ++ body_text rest ≡ initial
     → written ++ body_text after ≡ initial
 body_turn initial text written rest line after k is some first others put before =
-    cc (fitting-take k 50 rest is, fitting-drop k 50 rest is, body-next rest some,
-    append_assoc text (with_line (groups_of (take 50 rest)) []) (body_text (drop 50 rest)))
+    cc (
+      fitting-take k 50 rest is,
+      fitting-drop k 50 rest is,
+      body-next rest some,
+      append_assoc text (with_line (groups_of (take 50 rest)) []) (body_text (drop 50 rest)),
+    )
 
 pub body_end : (initial text rest : List ℕ) → rest ≡ [] → text ++ body_text rest ≡ initial → text ≡ initial
 body_end initial text rest done before = cc (append-nil text, body-none)
@@ -133,8 +137,11 @@ pub made_of_pin : (s : Day) (part parts : ℕ) (keys : Keys) (k : PinKeys) (text
     → (internal : List ℕ) × IsInternalKey (enciphered_choice s k) internal × (letters ≡ pin_letters s k internal text) → shown ≡ letters
     → bytes ≡ part_text (part_of part parts None shown) → IsMadeText s part parts keys text bytes
 made_of_pin s part parts keys k text letters shown bytes is (internal, first, made) same written =
-    rw is (part_of part parts None (pin_letters s k internal text), (internal, first, refl),
-    written ∙ ap (λ ls. part_text (part_of part parts None ls)) (same ∙ made))
+    rw is (
+      part_of part parts None (pin_letters s k internal text),
+      (internal, first, refl),
+      written ∙ ap (λ ls. part_text (part_of part parts None ls)) (same ∙ made),
+    )
 
 -- ---- the internal key is there where the keys suit the day
 
@@ -228,8 +235,7 @@ rotor_part_back s part parts k piece decipher legal are suits fraction is =
     let day : Day = OfRotors s in
     let enciphered : List ℕ = cipher_from day k.key piece in
     let count : length (rotor_letters day k piece) ≡ 5 + length piece =
-    omega (arith, length-append (k.fillers ++ k.group) enciphered, length-append k.fillers k.group, length-cipher_from day k.key piece, are.fillers.count,
-    are.group.count) in
+    omega (arith, length-append {A = ℕ}, length-cipher_from day k.key piece, are.fillers.count, are.group.count) in
     let key : cipher_from day k.start (cipher_from day k.start k.key) ≡ k.key = decipher day k.start k.key legal are.key.within in
     let text : cipher_from day k.key enciphered ≡ piece = decipher day k.key piece legal is.within in
     record {
@@ -260,8 +266,15 @@ pin_part_back s part parts k internal piece decipher legal are suits first fract
     let more : ℕ = (5 - length piece % 5) % 5 in
     let groups : length (filled piece) ≡ length piece + more = omega (arith, length-append piece (replicate more 23), length-replicate {A = ℕ} more 23) in
     let count : length (pin_letters day k internal piece) ≡ 20 + length (filled piece) =
-    omega (arith, length-append (indicators ++ enciphered) indicators, length-append indicators enciphered, length-cipher_from day internal (filled piece),
-    length-append k.external (list_letters day), are.external.count, legal.list.count) in
+    omega (
+      arith,
+      length-append (indicators ++ enciphered) indicators,
+      length-append indicators enciphered,
+      length-cipher_from day internal (filled piece),
+      length-append k.external (list_letters day),
+      are.external.count,
+      legal.list.count,
+    ) in
     let outer : All (λ letter. letter < 26) indicators =
     All-cons (λ letter. letter < 26) k.chosen (k.chosen ∷ k.external ++ list_letters day) are.chosen
     (All-cons (λ letter. letter < 26) k.chosen (k.external ++ list_letters day) are.chosen

@@ -55,9 +55,15 @@ pieces_more size (suc k) letters large some few =
     let more : size * suc k ≡ size + size * k = omega arith in
     let fewer : length (drop size letters) + size ≡ length letters = omega (arith, length-drop size letters) in
     let inside : 0 < length (take (size + size * k) letters) = omega (arith, length-take-le (size + size * k) letters (omega arith)) in
-    cc (more, pieces-next size letters large (omega arith), pieces_more size k (drop size letters) large (omega arith) (omega arith),
-    pieces-next size (take (size + size * k) letters) large inside, take-take size (size + size * k) letters (omega arith), drop-take size (size * k) letters,
-    drop-drop (size * k) size letters)
+    cc (
+      more,
+      pieces-next size letters large (omega arith),
+      pieces_more size k (drop size letters) large (omega arith) (omega arith),
+      pieces-next size (take (size + size * k) letters) large inside,
+      take-take size (size + size * k) letters (omega arith),
+      drop-take size (size * k) letters,
+      drop-drop (size * k) size letters,
+    )
 
 made_more : (s : Day) (part parts : ℕ) (keys : List Keys) (k : Keys) (texts : List (List ℕ)) (piece bytes one : List ℕ) → AreMadeTexts s part parts keys texts bytes
     → IsMadeText s (part + length keys) parts k piece one → AreMadeTexts s part parts (keys ++ k ∷ []) (texts ++ piece ∷ []) (bytes ++ one)
@@ -407,6 +413,7 @@ text_held tell s r order sent here size text = record {
         text.taken.written text.taken.made;
   };
 }
+
 text_begun : (s : Day) (keys : List Keys) (w : PartWriter) (order sent : List ℕ) → IsOrder s order keys order [] → All (Suits s) keys → IsFresh w → sent ≡ []
     → IsTextRead s keys w order sent
 text_begun s keys w order sent is suited fresh nothing = record {
@@ -479,8 +486,8 @@ counted_on read order byte is = ap (λ n. n + 1) is ∙ sym (length-append order
 letters_few : (blank : Option ℕ) (text : List ℕ) → length (letters_from blank text) ≤ length text
 letters_few blank [] = omega arith
 letters_few blank (byte ∷ text) =
-    omega (arith, letters_few blank text, ap length (letters_first blank byte text), at_most_one (letter_of_byte blank byte),
-    length-append (option_to_list (letter_of_byte blank byte)) (letters_from blank text))
+    let first = ap length (letters_first blank byte text) in
+    omega (arith, letters_few blank text, first, at_most_one (letter_of_byte blank byte), length-append {A = ℕ})
 
 pub letters_short : (s : Day) (keys : List Keys) (w : PartWriter) (order sent : List ℕ) (text : IsTextRead s keys w order sent) → length order + 1 < 2 ^ 63
     → length (text_letters s text.text) < 2 ^ 63

@@ -1,16 +1,16 @@
 -- What refuses a form: its parts, one after another, and for good.
-use Rattle.std.proofs.Common.{[], ◌≡◌, inl, inr, ℕ, Bool, true, false, List, refl, sym, ap, subst, ◌∙◌, Option, Result, Err, ◌≢◌, ◌⊎◌, ◌+◌, ◌-◌, ◌<◌, ◌≤◌, ◌∷◌, ◌++◌, length, drop, get_or, append_assoc, length-append, arith, codes, All, IsTrue}
+use Rattle.std.proofs.Common.{[], ◌≡◌, inl, inr, ℕ, false, List, refl, sym, ap, subst, ◌∙◌, Option, Result, Err, ◌≢◌, ◌⊎◌, ◌+◌, ◌-◌, ◌<◌, ◌≤◌, ◌∷◌, ◌++◌, length, drop, get_or, append_assoc, length-append, arith, codes, All, IsTrue}
 use Rattle.kd_tables.specs.Ports.{Port, Fail}
 use Rattle.kd_state.specs.declared.machine.parts.Parts.{Parts}
 use Rattle.kd_state.specs.SheetDay.{Day}
 use Rattle.kd_form.specs.declared.fault.FormFault.{FormFault}
-use Rattle.kd_form.specs.declared.fault.FormFault.TheVariants.{NotReady, Device, NotOnKey, BadByte}
+use Rattle.kd_form.specs.declared.fault.FormFault.TheVariants.{BadByte}
 use Rattle.kd_form.specs.Receiving.{InHeading, InNumber, InBody, IsEarlyFault}
 use Rattle.kd_form.specs.FormText.{IsRefusedForGood, NoHeading, InWhole, InLast, form_message, given_letters, count_due, Turn, IsRefusedEarly}
 use Rattle.kd_form.specs.OnTheKey.{IsKeyFault}
 use Rattle.kd_form.specs.Sending.{IsBadAt}
 use Rattle.kd_form.specs.SendStream.{orders}
-use Rattle.kd_form.specs.Streams.{Message, Answers, AreWell, is_device, is_off_key}
+use Rattle.kd_form.specs.Streams.{Answers, AreWell, is_device, is_off_key}
 use Rattle.std.proofs.Math.Seq.{drop-append_seam}
 use Rattle.std.proofs.Math.ListN.{get_or-append}
 use Rattle.std.proofs.lemmas.Bool.{cases_lt}
@@ -65,14 +65,14 @@ early_as_well s number expected start line body other fault tell unbroken bad (I
 bad_in_less : (body more : List ℕ) (place : ℕ) → All (λ b. IsTrue (is_text_byte b)) more → IsBadAt (body ++ more) place → IsBadAt body place
 bad_in_less body more place good at = elim (fronts body more at.before (at.byte ∷ at.rest) at.joined) [
   | Shorter beyond longer left ↦ absurd (no_bad_byte more (length beyond) good (record {
-      before = beyond;
-      byte = at.byte;
-      rest = at.rest;
-      joined = left;
-      size = refl;
-      allowed = All-front (λ b. IsTrue (is_text_byte b)) beyond (at.byte ∷ at.rest) (rw left at good);
-      bad = at.bad;
-    }))
+    before = beyond;
+    byte = at.byte;
+    rest = at.rest;
+    joined = left;
+    size = refl;
+    allowed = All-front (λ b. IsTrue (is_text_byte b)) beyond (at.byte ∷ at.rest) (rw left at good);
+    bad = at.bad;
+  }))
   | Longer x beyond longer left ↦ grind arith
 ]
 
