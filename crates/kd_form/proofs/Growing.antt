@@ -1,10 +1,9 @@
 -- Forms to which bytes are added.
-use Rattle.std.proofs.Common.{rules, ◌≡◌, ◌≢◌, inl, inr, ℕ, suc, ◌+◌, ◌-◌, ◌≤◌, ◌<◌, List, [], ◌∷◌, ◌++◌, length, take, drop, get_or, refl, sym, ap, subst, ◌∙◌, append_assoc, length-append, length-drop, arith}
-use Rattle.std.specs.Prelude.{codes, IsTrue, ◌==◌}
+use Rattle.std.proofs.Common.{[], rules, ◌≡◌, ◌≢◌, inl, inr, ℕ, ◌+◌, ◌-◌, ◌≤◌, ◌<◌, List, ◌∷◌, ◌++◌, length, take, drop, get_or, refl, sym, ap, subst, ◌∙◌, append_assoc, length-append, length-drop, arith, codes, IsTrue, ◌==◌}
 use Rattle.std.proofs.Math.ListN.{get_or-append}
-use Rattle.std.proofs.Math.Seq.{get_or-append_seam, drop-cons}
+use Rattle.std.proofs.Math.Seq.{get_or-append_seam, take-append_seam}
 use Rattle.std.proofs.lemmas.Bool.{cases_lt}
-use Rattle.std.proofs.lemmas.List.{append-nil, drop-append-le, take_all, take-append-drop, length-take}
+use Rattle.std.proofs.lemmas.List.{append-nil, drop_more, take-append-le, drop-append-le, take-append-drop}
 use Rattle.std.proofs.lemmas.List.Elements.{All-get_or}
 use Rattle.kd_state.specs.SheetDay.{Day}
 use Rattle.kd_state.specs.Words.{IsWithout}
@@ -13,10 +12,10 @@ use Rattle.kd_form.specs.FormText.{AreFirstParts, Turn}
 use Rattle.kd_form.specs.FormReading.{MayBegin}
 use Rattle.kd_form.proofs.Plain.{head_unbroken, nothing_more, whole_line}
 use Rattle.kd_form.proofs.OneOrder.{Shorter, Longer, fronts}
+use Rattle.kd_form.proofs.Headings.{has_byte}
 
 pub no_break : (line after : List ℕ) (k : ℕ) → IsWithout 10 line → k < length line → get_or (line ++ 10 ∷ after) k 0 ≢ 10
-no_break line after k without inside is =
-    All-get_or (λ byte. byte ≢ 10) line k 0 inside without (sym (get_or-append line (10 ∷ after) 0 k inside) ∙ is)
+no_break line after k without inside is = grind (arith, All-get_or {X = ℕ}, get_or-append {A = ℕ})
 
 -- ---- where a heading begins
 
@@ -24,13 +23,7 @@ pub heading_size : (bytes : List ℕ) → BeginsHeading bytes → 6 ≤ length b
 heading_size bytes begins = omega (arith, ap length begins.is)
 
 pub begins_more : (bytes more : List ℕ) → BeginsHeading bytes → BeginsHeading (bytes ++ more)
-begins_more bytes more begins = record {
-  digit = begins.digit;
-  rest = begins.rest ++ more;
-  is = ap (λ l. l ++ more) begins.is;
-  low = begins.low;
-  high = begins.high;
-}
+begins_more bytes more begins = grind arith
 
 -- its first six bytes tell
 pub begins_front : (bytes more : List ℕ) → 6 ≤ length bytes → BeginsHeading (bytes ++ more) → BeginsHeading bytes
@@ -42,23 +35,13 @@ begins_front bytes more long begins = elim (fronts bytes more (codes "PART " ++ 
 
 -- ---- the first part of more bytes
 
+-- an LF among the bytes isn't the end of another line of their first part, also where more than a heading's first bytes follow
+none_more : (bytes part rest more : List ℕ) (place : ℕ) → IsFirstOf bytes part rest → place + 1 < length part → place + 7 ≤ length bytes
+    → get_or (bytes ++ more) place 0 ≡ 10 → ¬ (BeginsHeading (drop (place + 1) (bytes ++ more)))
+none_more bytes part rest more place first below inside is begins = grind (arith, get_or-append {A = ℕ}, begins_front, length-drop {A = ℕ}, drop-append-le {A = ℕ})
+
 pub first_grows : (bytes part rest more : List ℕ) → IsFirstOf bytes part rest → rest ≢ [] → IsFirstOf (bytes ++ more) part (rest ++ more)
-first_grows bytes part rest more first some = elim first.ends [
-  | inl none ↦ absurd (some none)
-  | inr ended ↦
-      let size : length bytes ≡ length part + length rest = ap length first.joined ∙ length-append part rest in
-      let six : 6 ≤ length rest = heading_size rest ended.1 in
-      record {
-        joined = ap (λ l. l ++ more) first.joined ∙ append_assoc part rest more;
-        whole = λ place below is begins.
-            let inside : place + 1 ≤ length bytes = omega (arith, size) in
-            let within : place < length bytes = omega (arith, size) in
-            first.whole place below (sym (get_or-append bytes more 0 place within) ∙ is)
-            (begins_front (drop (place + 1) bytes) more (omega (arith, length-drop (place + 1) bytes, size, six))
-            (subst BeginsHeading (drop-append-le (place + 1) bytes more inside) begins));
-        ends = inr (get_or-append bytes more 0 (length part - 1) (omega (arith, size, six)) ∙ ended.0, begins_more rest more ended.1);
-      }
-]
+first_grows bytes part rest more first some = grind (arith, none_more, heading_size, begins_more, get_or-append {A = ℕ}, append_assoc {A = ℕ}, length-append {A = ℕ})
 
 pub nothing_left : (parts : List (List ℕ)) (bytes rest : List ℕ) → bytes ≡ [] → AreFirstParts parts bytes rest → rest ≡ []
 nothing_left [] bytes rest none same = sym same ∙ none
@@ -74,12 +57,7 @@ parts_grow (part ∷ parts) bytes rest more some (after, first, later) = (
 )
 
 pub turn_cut : (s : Day) (form more : List ℕ) (t : Turn s form) → AreFirstParts t.before (form ++ more) (t.rest ++ more)
-turn_cut s form more t = elim t.left [
-  | inl none ↦
-      let here : form ≡ t.rest = subst (λ (ps : List (List ℕ)). AreFirstParts ps form t.rest) none t.read.cut in
-      subst (λ (ps : List (List ℕ)). AreFirstParts ps (form ++ more) (t.rest ++ more)) (sym none) (ap (λ l. l ++ more) here)
-  | inr some ↦ parts_grow t.before form t.rest more some t.read.cut
-]
+turn_cut s form more t = grind (arith, parts_grow)
 
 -- ---- the part in turn
 
@@ -101,77 +79,57 @@ pub same_start : (form rest more : List ℕ) → length (form ++ more) - length 
 same_start form rest more = omega (arith, length-append form more, length-append rest more)
 
 pub last_rest : (s : Day) (form : List ℕ) (t : Turn s form) → t.after ≡ [] → t.rest ≡ t.part
-last_rest s form t last = t.first.joined ∙ ap (λ l. t.part ++ l) last ∙ append-nil t.part
+last_rest s form t last = grind (arith, append-nil {A = ℕ})
+
+pub last_whole : (s : Day) (form : List ℕ) (t : Turn s form) → t.after ≡ [] → IsFirstOf t.rest t.rest []
+last_whole s form t last = grind (arith, last_rest, append-nil {A = ℕ})
 
 -- ---- a byte more of what may become a heading
-
--- where the bytes may begin a heading, this byte may follow them exactly if they still may
-abbrev Follows : List ℕ → ℕ → Type 0 → Type 0
-Follows part byte fits = (fits → MayBegin (part ++ byte ∷ [])) × (MayBegin (part ++ byte ∷ []) → fits)
-
-may_begin : (part more : List ℕ) → part ++ more ≡ codes "PART 0" → MayBegin part
-may_begin part more same = (more, record { digit = 48; rest = []; is = same; low = omega arith; high = omega arith })
-
-pub due_follows : (part : List ℕ) (byte due : ℕ) → length part < 5 → due ≡ get_or (codes "PART ") (length part) 0 → MayBegin part
-    → Follows part byte (byte ≡ due)
-due_follows [] byte due few is may = (λ same. may_begin (byte ∷ []) (codes "ART 0") (cc), λ then_may. let all = then_may.1.is in cc)
-due_follows (a ∷ []) byte due few is may =
-    let had = may.1.is in
-    (λ same. may_begin (a ∷ byte ∷ []) (codes "RT 0") (cc), λ then_may. let all = then_may.1.is in cc)
-due_follows (a ∷ b ∷ []) byte due few is may =
-    let had = may.1.is in
-    (λ same. may_begin (a ∷ b ∷ byte ∷ []) (codes "T 0") (cc), λ then_may. let all = then_may.1.is in cc)
-due_follows (a ∷ b ∷ c ∷ []) byte due few is may =
-    let had = may.1.is in
-    (λ same. may_begin (a ∷ b ∷ c ∷ byte ∷ []) (codes " 0") (cc), λ then_may. let all = then_may.1.is in cc)
-due_follows (a ∷ b ∷ c ∷ d ∷ []) byte due few is may =
-    let had = may.1.is in
-    (λ same. may_begin (a ∷ b ∷ c ∷ d ∷ byte ∷ []) (codes "0") (cc), λ then_may. let all = then_may.1.is in cc)
-due_follows (a ∷ b ∷ c ∷ d ∷ e ∷ part) byte due few is may = absurd (omega arith)
 
 pub all_follow : (part : List ℕ) (byte : ℕ) → 6 ≤ length part → MayBegin part → MayBegin (part ++ byte ∷ [])
 all_follow part byte long may = ([], subst BeginsHeading (sym (append-nil (part ++ byte ∷ []))) (begins_more part (byte ∷ []) (begins_front part may.0 long may.1)))
 
-told_true : (a b : ℕ) → IsTrue (a == b) → a ≡ b
-told_true a b is = search rules
-
-true_told : (a b : ℕ) → a ≡ b → IsTrue (a == b)
-true_told a b same = search rules
-
+-- where the bytes may begin a heading, this byte may follow them exactly if it is the one that is due
 pub due_told : (part line : List ℕ) (byte due : ℕ) → line ≡ take 64 part → MayBegin part → (length line < 5) × (due ≡ get_or (codes "PART ") (length line) 0)
     → (IsTrue (byte == due) → MayBegin (part ++ byte ∷ [])) × (MayBegin (part ++ byte ∷ []) → IsTrue (byte == due))
 due_told part line byte due kept may (few, is) =
     let whole : line ≡ part = whole_line part line kept (omega arith) in
-    let follows = due_follows part byte due (subst (λ (l : List ℕ). length l < 5) whole few) (is ∙ ap (λ (l : List ℕ). get_or (codes "PART ") (length l) 0) whole) may in
-    (λ told. follows.0 (told_true byte due told), λ then_may. true_told byte due (follows.1 then_may))
+    let n : ℕ = length part in
+    let few : n < 5 = omega (arith, ap length whole) in
+    let head : List ℕ = codes "PART 0" in
+    let front : part ≡ take n head =
+    sym (take-append_seam part may.0) ∙ ap (take n) may.1.is ∙ take-append-le n (codes "PART ") (may.1.digit ∷ may.1.rest) (omega arith)
+    ∙ sym (take-append-le n (codes "PART ") (codes "0") (omega arith)) in
+    let here : due ≡ get_or head n 0 = is ∙ ap (λ (l : List ℕ). get_or (codes "PART ") (length l) 0) whole ∙ sym (get_or-append (codes "PART ") (codes "0") 0 n (omega arith)) in (
+      λ told.
+          let same : byte ≡ due = search rules in
+          let joined : (part ++ byte ∷ []) ++ drop (n + 1) head ≡ head =
+          cc (append_assoc part (byte ∷ []) (drop (n + 1) head), drop_more head n 0 (omega arith), take-append-drop n head, front, here, same) in
+          (drop (n + 1) head, record { digit = 48; rest = []; is = joined; low = omega arith; high = omega arith }),
+      λ then_may.
+          let same : byte ≡ due =
+          sym (ap (λ l. get_or l n 0) (append_assoc part (byte ∷ []) then_may.0) ∙ get_or-append_seam part byte then_may.0 0)
+          ∙ ap (λ l. get_or l n 0) then_may.1.is ∙ get_or-append (codes "PART ") (then_may.1.digit ∷ then_may.1.rest) 0 n (omega arith)
+          ∙ sym (get_or-append (codes "PART ") (codes "0") 0 n (omega arith)) ∙ sym here in
+          search rules,
+    )
 
 -- ---- a byte more of the last part
 
-place_within : (bytes : List ℕ) (byte place : ℕ) → place < length bytes → get_or (bytes ++ byte ∷ []) place 0 ≡ 10 → get_or bytes place 0 ≡ 10
-place_within bytes byte place inside is = sym (get_or-append bytes (byte ∷ []) 0 place inside) ∙ is
-
 whole_part : (bytes : List ℕ) → ((place : ℕ) → place + 1 < length bytes → get_or bytes place 0 ≡ 10 → ¬ (BeginsHeading (drop (place + 1) bytes)))
     → IsFirstOf bytes bytes []
-whole_part bytes none = record { joined = sym (append-nil bytes); whole = none; ends = inl refl }
+whole_part bytes none = grind (arith, append-nil {A = ℕ})
 
 -- without an LF there is no other line
 pub first_unbroken : (bytes : List ℕ) (byte : ℕ) → IsWithout 10 bytes → IsFirstOf (bytes ++ byte ∷ []) (bytes ++ byte ∷ []) []
-first_unbroken bytes byte unbroken = whole_part (bytes ++ byte ∷ []) (λ place below is. absurd (
-    let inside : place < length bytes = omega (arith, length-append bytes (byte ∷ [])) in
-    All-get_or (λ b. b ≢ 10) bytes place 0 inside unbroken (place_within bytes byte place inside is)))
+first_unbroken bytes byte unbroken = grind (arith, whole_part, length-append {A = ℕ}, All-get_or, get_or-append {A = ℕ})
 
 -- the last lines of the same bytes are the same
 same_last : (front tail other end : List ℕ) → IsWithout 10 tail → IsWithout 10 end → front ++ 10 ∷ tail ≡ other ++ 10 ∷ end → tail ≡ end
 same_last front tail other end without also same = elim (fronts front (10 ∷ tail) other (10 ∷ end) same) [
   | Shorter [] longer left ↦ cc
-  | Shorter (byte ∷ more) longer left ↦
-      let all : tail ≡ more ++ 10 ∷ end = cc in
-      absurd (All-get_or (λ b. b ≢ 10) tail (length more) 0 (omega (arith, ap length all, length-append more (10 ∷ end))) without
-      (ap (λ l. get_or l (length more) 0) all ∙ get_or-append_seam more 10 end 0))
-  | Longer byte more longer left ↦
-      let all : end ≡ more ++ 10 ∷ tail = cc in
-      absurd (All-get_or (λ b. b ≢ 10) end (length more) 0 (omega (arith, ap length all, length-append more (10 ∷ tail))) also
-      (ap (λ l. get_or l (length more) 0) all ∙ get_or-append_seam more 10 tail 0))
+  | Shorter (byte ∷ more) longer left ↦ absurd (has_byte 10 more end (let all : tail ≡ more ++ 10 ∷ end = cc in rw all at without))
+  | Longer byte more longer left ↦ absurd (has_byte 10 more tail (let all : end ≡ more ++ 10 ∷ tail = cc in rw all at also))
 ]
 
 -- five bytes and one more that begin a heading
@@ -184,29 +142,19 @@ last_digit bytes byte few begins = elim (fronts bytes (byte ∷ []) (codes "PART
   | Longer x beyond longer left ↦ absurd (omega (arith, ap length longer))
 ]
 
-next_place : (place : ℕ) → suc place ≡ place + 1
-next_place place = omega arith
-
--- the bytes with an LF at that place
-at_place : (bytes : List ℕ) (place : ℕ) → place < length bytes → get_or bytes place 0 ≡ 10 → bytes ≡ take place bytes ++ 10 ∷ drop (place + 1) bytes
-at_place bytes place inside is =
-    sym (take-append-drop place bytes) ∙ ap (λ l. take place bytes ++ l) (drop-cons bytes place 0 inside) ∙ ap (λ b. take place bytes ++ b ∷ drop (suc place) bytes) is
-    ∙ ap (λ n. take place bytes ++ 10 ∷ drop n bytes) (next_place place)
-
 -- no heading begins in the last line, unless a digit stands behind its five bytes
 pub first_more : (bytes front tail : List ℕ) (byte : ℕ) → IsFirstOf bytes bytes [] → bytes ≡ front ++ 10 ∷ tail → IsWithout 10 tail
     → ((tail ≡ codes "PART ") → (48 ≤ byte) → (byte ≤ 57) → ⊥) → IsFirstOf (bytes ++ byte ∷ []) (bytes ++ byte ∷ []) []
 first_more bytes front tail byte first lines unbroken not = whole_part (bytes ++ byte ∷ []) (λ place below is begins.
     let inside : place < length bytes = omega (arith, length-append bytes (byte ∷ [])) in
-    let here : get_or bytes place 0 ≡ 10 = place_within bytes byte place inside is in
-    let left : BeginsHeading (drop (place + 1) bytes ++ byte ∷ []) = subst BeginsHeading (drop-append-le (place + 1) bytes (byte ∷ []) (omega arith)) begins in
-    elim (cases_lt (length (drop (place + 1) bytes)) 6) [
+    elim (cases_lt (length bytes) (place + 7)) [
       | inl short ↦
-          let digit = last_digit (drop (place + 1) bytes) byte short left in
+          let here : get_or bytes place 0 ≡ 10 = sym (get_or-append bytes (byte ∷ []) 0 place inside) ∙ is in
+          let digit = last_digit (drop (place + 1) bytes) byte (omega (arith, length-drop (place + 1) bytes))
+          (rw (drop-append-le (place + 1) bytes (byte ∷ []) (omega arith)) at begins) in
           not (same_last front tail (take place bytes) (codes "PART ") unbroken head_unbroken
-          (sym lines ∙ at_place bytes place inside here ∙ ap (λ l. take place bytes ++ 10 ∷ l) digit.0)) digit.1 digit.2
-      | inr long ↦
-          first.whole place (omega (arith, length-drop (place + 1) bytes)) here (begins_front (drop (place + 1) bytes) (byte ∷ []) long left)
+          (cc (lines, take-append-drop place bytes, drop_more bytes place 0 inside, here, digit.0))) digit.1 digit.2
+      | inr long ↦ none_more bytes bytes [] (byte ∷ []) place first (omega arith) long is begins
     ])
 
 -- the digit of a heading ends the part before it
@@ -215,23 +163,21 @@ pub first_ends : (bytes part front : List ℕ) (digit : ℕ) → IsFirstOf bytes
 first_ends bytes part front digit first split broken low high =
     let size : length bytes ≡ length part + 5 = ap length split ∙ length-append part (codes "PART ") in
     let some : length part ≡ length front + 1 = ap length broken ∙ length-append front (10 ∷ []) in
+    let last : length part - 1 ≡ length front = omega arith in
     record {
       joined = ap (λ l. l ++ digit ∷ []) split ∙ append_assoc part (codes "PART ") (digit ∷ []);
-      whole = λ place below is begins.
-          let inside : place < length bytes = omega (arith, size) in
-          first.whole place (omega (arith, size)) (place_within bytes digit place inside is)
-          (begins_front (drop (place + 1) bytes) (digit ∷ []) (omega (arith, length-drop (place + 1) bytes, size))
-          (subst BeginsHeading (drop-append-le (place + 1) bytes (digit ∷ []) (omega (arith, size))) begins));
-      ends =
-          let last : length part - 1 ≡ length front = omega arith in
-          let there : (bytes ++ digit ∷ []) ≡ front ++ 10 ∷ (codes "PART " ++ digit ∷ []) =
-          ap (λ l. l ++ digit ∷ []) (split ∙ ap (λ l. l ++ codes "PART ") broken ∙ append_assoc front (10 ∷ []) (codes "PART "))
-          ∙ append_assoc front (10 ∷ codes "PART ") (digit ∷ []) in
-          inr (
-            ap (λ n. get_or (bytes ++ digit ∷ []) n 0) last ∙ ap (λ l. get_or l (length front) 0) there
-                ∙ get_or-append_seam front 10 (codes "PART " ++ digit ∷ []) 0,
-            record { digit = digit; rest = []; is = refl; low = low; high = high },
-          );
+      whole = λ place below. none_more bytes bytes [] (digit ∷ []) place first (omega (arith, size, below)) (omega (arith, size, below));
+      ends = inr (
+        cc (
+          last,
+          split,
+          broken,
+          append_assoc front (10 ∷ []) (codes "PART "),
+          append_assoc front (10 ∷ codes "PART ") (digit ∷ []),
+          get_or-append_seam front 10 (codes "PART " ++ digit ∷ []) 0,
+        ),
+        record { digit = digit; rest = []; is = refl; low = low; high = high },
+      );
     }
 
 pub rest_within : (parts : List (List ℕ)) (bytes rest : List ℕ) → AreFirstParts parts bytes rest → length rest ≤ length bytes

@@ -1,12 +1,11 @@
 -- How a part of a form is made.
-use Rattle.std.proofs.Common.{◌≡◌, ℕ, suc, ◌+◌, ◌-◌, ◌/◌, ◌%◌, ◌<◌, inl, inr, List, [], ◌∷◌, ◌++◌, length, map, take, drop, refl, sym, ap, ◌∙◌, append_assoc, length-drop, add-one, arith, min, Bool, true, false, subst, ◌≢◌, ◌≤◌, get_or, replicate, length-append}
-use Rattle.std.specs.Prelude.{◌==◌, codes, decimal, Option, Some, None, MatchOption, IsSome, All, slice_index, not}
+use Rattle.std.proofs.Common.{[], ◌≡◌, ℕ, ◌+◌, ◌-◌, ◌%◌, ◌<◌, inl, inr, List, ◌∷◌, ◌++◌, length, map, take, drop, refl, sym, ap, ◌∙◌, append_assoc, length-drop, add-one, arith, min, Bool, true, false, subst, ◌≢◌, ◌≤◌, get_or, replicate, length-append, ◌==◌, codes, decimal, Option, Some, None, MatchOption, IsSome, All, slice_index, not, option_map}
 use Rattle.std.specs.Int.{div_ceil}
 use Rattle.std.specs.Simd.{first_chunks}
 use Rattle.std.specs.List.{flat_map, join_with_byte}
-use Rattle.std.proofs.Math.Nat.{add-div_left, add-mod_left, div-eq_of_lt, mod-eq_of_lt}
-use Rattle.std.proofs.lemmas.Bool.{cases_lt, eqb-true, false≢true}
-use Rattle.std.proofs.lemmas.List.{append-nil, take_all, drop_all, length-take-le, length-map, take-append-drop, get_or_default, length-replicate}
+use Rattle.std.proofs.Math.Nat.{div-eq_of_lt, mod-eq_of_lt}
+use Rattle.std.proofs.lemmas.Bool.{eqb-true, false≢true}
+use Rattle.std.proofs.lemmas.List.{append-nil, take_min, drop_min, length-take-le, length-map, take-append-drop, get_or_default, length-replicate}
 use Rattle.kd_tables.specs.Text.{letters_text}
 use Rattle.kd_form.specs.declared.heading.Heading.{Heading}
 use Rattle.kd_form.specs.Part.{fraction, indicator_words, heading_words, pieces, groups_of, behind_spaces, with_line, body_text, part_text, Part}
@@ -23,7 +22,6 @@ use Rattle.kd_state.specs.TwoCiphers.{sheet_key, IsWindow}
 use Rattle.kd_form.specs.declared.fault.FormFault.TheVariants.{IndicatorsDiffer}
 use Rattle.kd_form.specs.Reading.{HasIndicator, message_key, indicators_with, ArePinLetters, IsPinFault, InIndicators, IsLettersText}
 use Rattle.kd_form.proofs.Ciphers.{length-cipher_from, letters-cipher_from}
-use Rattle.std.specs.Option.{option_map}
 use Rattle.std.proofs.lemmas.List.Elements.{All-append, All-cons, All-replicate}
 use Rattle.kd_state.specs.Laws.{TheDayDeciphersItself}
 use Rattle.kd_form.specs.FormParts.{IsFraction, IsHeading}
@@ -32,41 +30,15 @@ use Rattle.kd_form.specs.Keys.{AreKeys}
 
 -- -------- letters in groups and lines, piece by piece
 
--- a piece more than the rest makes
-whole_piece : (size n : ℕ) → 0 < size → div_ceil (size + n) size ≡ div_ceil n size + 1
-whole_piece size n large =
-    let times : (size + n) / size ≡ n / size + 1 = add-div_left n large in
-    let left : (size + n) % size ≡ n % size = add-mod_left size n in
-    rw (times, left) (omega arith)
-
-short_piece : (size n : ℕ) → 0 < n → n < size → div_ceil n size ≡ 1
-short_piece size n some small =
-    let none : n / size ≡ 0 = div-eq_of_lt small in
-    let all : n % size ≡ n = mod-eq_of_lt small in
-    rw (none, all) (omega arith)
-
 pub no_piece : (size : ℕ) → 0 < size → div_ceil 0 size ≡ 0
-no_piece size large =
-    let none : 0 / size ≡ 0 = div-eq_of_lt large in
-    let all : 0 % size ≡ 0 = mod-eq_of_lt large in
-    rw (none, all) refl
+no_piece size large = rw (div-eq_of_lt large, mod-eq_of_lt large) refl
 
 pub more_pieces : (size n : ℕ) → 0 < size → 0 < n → div_ceil n size ≡ div_ceil (n - size) size + 1
-more_pieces size n large some = elim (cases_lt n size) [
-  | inl small ↦
-      let gone : n - size ≡ 0 = omega arith in
-      short_piece size n some small ∙ sym (ap (λ m. div_ceil m size + 1) gone ∙ ap (λ m. m + 1) (no_piece size large))
-  | inr full ↦
-      let joined : size + (n - size) ≡ n = omega arith in
-      ap (λ m. div_ceil m size) (sym joined) ∙ whole_piece size (n - size) large
-]
+more_pieces size n large some = grind arith
 
 pub pieces-next : (size : ℕ) (letters : List ℕ) → 0 < size → 0 < length letters
     → pieces size letters ≡ take size letters ∷ pieces size (drop size letters)
-pieces-next size letters large some =
-    let count : div_ceil (length letters) size ≡ suc (div_ceil (length (drop size letters)) size) =
-    more_pieces size (length letters) large some ∙ ap (λ m. div_ceil m size + 1) (sym (length-drop size letters)) ∙ add-one _ in
-    ap (λ n. first_chunks size n letters) count
+pieces-next size letters large some = grind (arith, more_pieces, length-drop {A = ℕ}, add-one)
 
 pub pieces-none : (size : ℕ) → 0 < size → pieces size [] ≡ []
 pieces-none size large = ap (λ n. first_chunks size n []) (no_piece size large)
@@ -86,9 +58,7 @@ groups-none = ap (λ groups. behind_spaces (map letters_text groups)) (pieces-no
 -- a whole line
 pub line-first : (letters : List ℕ) → 0 < length letters
     → with_line (groups_of letters) [] ≡ (letters_text (take 5 letters) ++ behind_spaces (groups_of (drop 5 letters))) ++ 10 ∷ []
-line-first letters some =
-    ap (λ groups. join_with_byte 32 (map letters_text groups) ++ 10 ∷ []) (pieces-next 5 letters (omega arith) some)
-    ∙ ap (λ text. text ++ 10 ∷ []) (line-of_groups (letters_text (take 5 letters)) (groups_of (drop 5 letters)))
+line-first letters some = grind (arith, pieces-next, line-of_groups)
 
 -- the first line of the body, and the others
 pub body-next : (letters : List ℕ) → 0 < length letters
@@ -101,78 +71,42 @@ body-none = ap (λ lines. flat_map (λ line. with_line (groups_of line) []) line
 -- ---- cutting off what there is of a piece
 
 pub fitting-take : (n m : ℕ) (xs : List ℕ) → n ≡ min (length xs) m → take n xs ≡ take m xs
-fitting-take n m xs is = elim (cases_lt m (length xs)) [
-  | inl long ↦ let same : n ≡ m = omega arith in ap (λ k. take k xs) same
-  | inr short ↦
-      let same : n ≡ length xs = omega arith in
-      take_all n xs (omega arith) ∙ sym (take_all m xs short)
-]
+fitting-take n m xs is = let same : n ≡ min m (length xs) = omega arith in rw same (take_min m xs)
 
 pub fitting-drop : (n m : ℕ) (xs : List ℕ) → n ≡ min (length xs) m → drop n xs ≡ drop m xs
-fitting-drop n m xs is = elim (cases_lt m (length xs)) [
-  | inl long ↦ let same : n ≡ m = omega arith in ap (λ k. drop k xs) same
-  | inr short ↦
-      let same : n ≡ length xs = omega arith in
-      drop_all n xs (omega arith) ∙ sym (drop_all m xs short)
-]
+fitting-drop n m xs is = let same : n ≡ min m (length xs) = omega arith in rw same (drop_min m xs)
 
 -- ---- what is written, and what is left to be
-
-joined : (text group more : List ℕ) → ((text ++ 32 ∷ []) ++ group) ++ more ≡ text ++ 32 ∷ (group ++ more)
-joined text group more = simp append_assoc
 
 pub line_turn : (initial text spaced written rest group after : List ℕ) (k : ℕ) → k ≡ min (length rest) 5 → 0 < length rest
     → group ≡ take k rest → after ≡ drop k rest → spaced ≡ text ++ 32 ∷ [] → written ≡ spaced ++ letters_text group
     → text ++ behind_spaces (groups_of rest) ≡ initial → written ++ behind_spaces (groups_of after) ≡ initial
-line_turn initial text spaced written rest group after k is some first others space put before =
-    let one : group ≡ take 5 rest = first ∙ fitting-take k 5 rest is in
-    let more : after ≡ drop 5 rest = others ∙ fitting-drop k 5 rest is in
-    ap (λ t. t ++ behind_spaces (groups_of after)) (put ∙ ap (λ t. t ++ letters_text group) space)
-    ∙ joined text (letters_text group) (behind_spaces (groups_of after))
-    ∙ ap (λ g. text ++ 32 ∷ (letters_text g ++ behind_spaces (groups_of after))) one
-    ∙ ap (λ g. text ++ 32 ∷ (letters_text (take 5 rest) ++ behind_spaces (groups_of g))) more
-    ∙ ap (λ t. text ++ t) (sym (groups-next rest some))
-    ∙ before
-
-ended : (text group more : List ℕ) → ((text ++ group) ++ more) ++ 10 ∷ [] ≡ text ++ ((group ++ more) ++ 10 ∷ [])
-ended text group more = simp append_assoc
+line_turn initial text spaced written rest group after k is some first others space put before = grind (arith, fitting-take, fitting-drop, groups-next, append_assoc {A = ℕ})
 
 pub line_end : (text begun written whole letters group after rest : List ℕ) (k : ℕ) → k ≡ min (length letters) 5 → 0 < length letters
     → group ≡ take k letters → after ≡ drop k letters → begun ≡ text ++ letters_text group
     → written ++ behind_spaces (groups_of rest) ≡ begun ++ behind_spaces (groups_of after) → rest ≡ [] → whole ≡ written ++ 10 ∷ []
     → whole ≡ text ++ with_line (groups_of letters) []
-line_end text begun written whole letters group after rest k is some first others put before done last =
-    let one : group ≡ take 5 letters = first ∙ fitting-take k 5 letters is in
-    let more : after ≡ drop 5 letters = others ∙ fitting-drop k 5 letters is in
-    let none : behind_spaces (groups_of rest) ≡ [] = ap (λ r. behind_spaces (groups_of r)) done ∙ groups-none in
-    last ∙ ap (λ t. t ++ 10 ∷ [])
-    (sym (append-nil written) ∙ ap (λ t. written ++ t) (sym none) ∙ before ∙ ap (λ t. t ++ behind_spaces (groups_of after)) put
-    ∙ ap (λ g. (text ++ letters_text g) ++ behind_spaces (groups_of after)) one
-    ∙ ap (λ g. (text ++ letters_text (take 5 letters)) ++ behind_spaces (groups_of g)) more)
-    ∙ ended text (letters_text (take 5 letters)) (behind_spaces (groups_of (drop 5 letters)))
-    ∙ ap (λ t. text ++ t) (sym (line-first letters some))
+line_end text begun written whole letters group after rest k is some first others put before done last = grind (arith, fitting-take, fitting-drop, groups-none, append-nil {A = ℕ}, line-first, append_assoc {A = ℕ})
 
 pub body_turn : (initial text written rest line after : List ℕ) (k : ℕ) → k ≡ min (length rest) 50 → 0 < length rest → line ≡ take k rest
     → after ≡ drop k rest → written ≡ text ++ with_line (groups_of line) [] → text ++ body_text rest ≡ initial
     → written ++ body_text after ≡ initial
 body_turn initial text written rest line after k is some first others put before =
-    let one : line ≡ take 50 rest = first ∙ fitting-take k 50 rest is in
-    let more : after ≡ drop 50 rest = others ∙ fitting-drop k 50 rest is in
-    ap (λ t. t ++ body_text after) put ∙ append_assoc text (with_line (groups_of line) []) (body_text after)
-    ∙ ap (λ l. text ++ (with_line (groups_of l) [] ++ body_text after)) one
-    ∙ ap (λ l. text ++ (with_line (groups_of (take 50 rest)) [] ++ body_text l)) more
-    ∙ ap (λ t. text ++ t) (sym (body-next rest some))
-    ∙ before
+    cc (
+      fitting-take k 50 rest is,
+      fitting-drop k 50 rest is,
+      body-next rest some,
+      append_assoc text (with_line (groups_of (take 50 rest)) []) (body_text (drop 50 rest)),
+    )
 
 pub body_end : (initial text rest : List ℕ) → rest ≡ [] → text ++ body_text rest ≡ initial → text ≡ initial
-body_end initial text rest done before =
-    sym (append-nil text) ∙ ap (λ t. text ++ t) (sym (ap body_text done ∙ body-none)) ∙ before
+body_end initial text rest done before = cc (append-nil text, body-none)
 
 -- ---- the test whether anything is left
 
 pub some_left : (empty : Bool) (xs : List ℕ) → empty ≡ (length xs == 0) → empty ≡ false → 0 < length xs
-some_left empty [] told filled = absurd (false≢true (sym filled ∙ told))
-some_left empty (x ∷ xs) told filled = omega arith
+some_left empty xs told filled = grind arith
 
 pub nothing_left : (empty : Bool) (xs : List ℕ) → empty ≡ (length xs == 0) → empty ≡ true → xs ≡ []
 nothing_left empty [] told gone = refl
@@ -180,19 +114,11 @@ nothing_left empty (x ∷ xs) told gone = absurd (let none : length (x ∷ xs) �
 
 -- ---- the line of a heading
 
-parts_of_heading : (front part parts count words : List ℕ)
-    → (((((((front ++ codes "PART ") ++ part) ++ codes "/") ++ parts) ++ codes " ") ++ count) ++ words) ++ codes "\n"
-    ≡ front ++ ((codes "PART" ++ 32 ∷ (((part ++ codes "/") ++ parts) ++ 32 ∷ (count ++ words))) ++ 10 ∷ [])
-parts_of_heading front part parts count words = simp append_assoc
-
 pub heading_line : (front whole : List ℕ) (h : Heading)
     → whole ≡ (((((((front ++ codes "PART ") ++ decimal h.part) ++ codes "/") ++ decimal h.parts) ++ codes " ") ++ decimal h.letters)
     ++ behind_spaces (indicator_words h.indicator)) ++ codes "\n"
     → whole ≡ front ++ with_line (heading_words h) []
-heading_line front whole h written =
-    written ∙ parts_of_heading front (decimal h.part) (decimal h.parts) (decimal h.letters) (behind_spaces (indicator_words h.indicator))
-    ∙ ap (λ t. front ++ ((codes "PART" ++ 32 ∷ (fraction h.part h.parts ++ 32 ∷ t)) ++ 10 ∷ []))
-    (sym (line-of_groups (decimal h.letters) (indicator_words h.indicator)))
+heading_line front whole h written = grind (arith, append_assoc {A = ℕ}, line-of_groups)
 
 -- -------- what is made of a part, as its text is put together
 
@@ -200,7 +126,7 @@ pub made_of_rotor : (s : Day) (part parts : ℕ) (keys : Keys) (k : RotorKeys) (
     → indicator ≡ indicator_of s k → letters ≡ rotor_letters s k text → shown ≡ letters
     → bytes ≡ part_text (part_of part parts (Some indicator) shown) → IsMadeText s part parts keys text bytes
 made_of_rotor s part parts keys k text letters shown bytes indicator is told made same written =
-    subst (λ ks. IsMadeText s part parts ks text bytes) (sym is) (
+    rw is (
       part_of part parts (Some (indicator_of s k)) (rotor_letters s k text),
       refl,
       written ∙ ap (λ i. part_text (part_of part parts (Some i) shown)) told
@@ -211,7 +137,7 @@ pub made_of_pin : (s : Day) (part parts : ℕ) (keys : Keys) (k : PinKeys) (text
     → (internal : List ℕ) × IsInternalKey (enciphered_choice s k) internal × (letters ≡ pin_letters s k internal text) → shown ≡ letters
     → bytes ≡ part_text (part_of part parts None shown) → IsMadeText s part parts keys text bytes
 made_of_pin s part parts keys k text letters shown bytes is (internal, first, made) same written =
-    subst (λ ks. IsMadeText s part parts ks text bytes) (sym is) (
+    rw is (
       part_of part parts None (pin_letters s k internal text),
       (internal, first, refl),
       written ∙ ap (λ ls. part_text (part_of part parts None ls)) (same ∙ made),
@@ -220,24 +146,18 @@ made_of_pin s part parts keys k text letters shown bytes is (internal, first, ma
 -- ---- the internal key is there where the keys suit the day
 
 pub has_internal : (s : Day) (k : PinKeys) → Suits s (Pin k) → (internal : List ℕ) × IsInternalKey (enciphered_choice s k) internal
-has_internal (OfRotors s) k suits = absurd suits
-has_internal (OfPins s) k suits = suits.1
+has_internal s k suits = grind arith
 
 pub not_spent : {X : Type 0} (found : Option X) (items : X → List ℕ) (letters : List ℕ)
     → MatchOption found (HaveRunOut letters) (λ key. IsInternalKey letters (items key)) → (internal : List ℕ) × IsInternalKey letters internal → IsSome found
-not_spent None items letters spent (internal, first) = absurd (spent first.places internal first.picked)
-not_spent (Some key) items letters told internal = refl
+not_spent found items letters told internal = grind arith
 
 -- -------- the letters of a part's body, taken apart
 
 -- the deciphered message key is a window
 pub key_is_window : (s : Day) (i : Indicator) (key : List ℕ) → HasIndicator s (Some i) → key ≡ message_key s i → All (λ l. l < 26) key
     → IsWindow (sheet_key s) key
-key_is_window (OfRotors s) i key has is within = record {
-  count = ap length is ∙ length-cipher_from (OfRotors s) i.start i.key ∙ has.1.count ∙ sym (length-map s.wheels (λ w. w.wheel));
-  within = within;
-}
-key_is_window (OfPins s) i key has is within = absurd has
+key_is_window s i key has is within = grind (arith, length-cipher_from, length-map)
 
 -- ---- indicators
 
@@ -249,34 +169,16 @@ pub record AreThree (letters first text last : List ℕ) : Type 0 where
 
 pub three_parts : (letters first rest text last : List ℕ) (n : ℕ) → 20 ≤ length letters → first ≡ take 10 letters → rest ≡ drop 10 letters
     → n ≡ length rest - 10 → text ≡ take n rest → last ≡ drop n rest → AreThree letters first text last
-three_parts letters first rest text last n long front others count middle back =
-    let left : length rest ≡ length letters - 10 = ap length others ∙ length-drop 10 letters in
-    record {
-      joined = sym (take-append-drop 10 letters) ∙ ap (λ t. t ++ drop 10 letters) (sym front)
-          ∙ ap (λ t. first ++ t) (sym others ∙ sym (take-append-drop n rest) ∙ ap (λ t. t ++ drop n rest) (sym middle) ∙ ap (λ t. text ++ t) (sym back));
-      front = ap length front ∙ length-take-le 10 letters (omega arith);
-      back = omega (arith, ap length back, length-drop n rest, left);
-    }
+three_parts letters first rest text last n long front others count middle back = grind (arith, take-append-drop {A = ℕ}, length-take-le {A = ℕ}, length-drop {A = ℕ})
 
 pub whole_indicators : (first twice others key list : List ℕ) (k : PinKeys) → length first ≡ 10 → twice ≡ take 1 first → others ≡ drop 1 first
     → key ≡ take 7 others → list ≡ drop 7 others → key ≡ k.chosen ∷ k.external → get_or twice 0 0 ≡ k.chosen → first ≡ indicators_with k list
-whole_indicators [] twice others key list k ten one more front back are same = absurd (omega arith)
-whole_indicators (x ∷ first) twice others key list k ten one more front back are same =
-    let begins : x ≡ k.chosen = sym (ap (λ t. get_or t 0 0) one) ∙ same in
-    let follows : first ≡ k.chosen ∷ k.external ++ list =
-    sym more ∙ sym (take-append-drop 7 others) ∙ ap (λ t. t ++ drop 7 others) (sym front ∙ are) ∙ ap (λ t. (k.chosen ∷ k.external) ++ t) (sym back) in
-    ap (λ y. y ∷ first) begins ∙ ap (λ t. k.chosen ∷ t) follows
+whole_indicators first twice others key list k ten one more front back are same = grind arith
 
 pub pin_letters_are : (letters first twice others key list text last : List ℕ) (k : PinKeys) → AreThree letters first text last → first ≡ last
     → twice ≡ take 1 first → others ≡ drop 1 first → key ≡ take 7 others → list ≡ drop 7 others → key ≡ k.chosen ∷ k.external
     → length k.external ≡ 6 → get_or twice 0 0 ≡ k.chosen → ArePinLetters letters k list text
-pin_letters_are letters first twice others key list text last k three same one more front back are six begins =
-    let whole : first ≡ indicators_with k list = whole_indicators first twice others key list k three.front one more front back are begins in
-    record {
-      joined = three.joined ∙ ap (λ t. first ++ (text ++ t)) (sym same) ∙ ap (λ t. t ++ (text ++ t)) whole;
-      six = six;
-      two = omega (arith, ap length back, length-drop 7 others, ap length more, length-drop 1 first, three.front);
-    }
+pin_letters_are letters first twice others key list text last k three same one more front back are six begins = grind arith
 
 pub indicators_differ : (s : Day) (part : ℕ) (letters first text last : List ℕ) → AreThree letters first text last → first ≢ last
     → IsPinFault s part letters (IndicatorsDiffer part)
@@ -284,12 +186,7 @@ indicators_differ s part letters first text last three differ = InIndicators fir
 
 first_two : (first twice others key : List ℕ) (chosen : ℕ) (external : List ℕ) → length first ≡ 10 → twice ≡ take 1 first → others ≡ drop 1 first
     → key ≡ take 7 others → key ≡ chosen ∷ external → get_or twice 0 0 ≢ chosen → slice_index first 0 ≢ slice_index first 1
-first_two [] twice others key chosen external ten one more front are differ same = absurd (omega arith)
-first_two (x ∷ []) twice others key chosen external ten one more front are differ same = absurd (omega arith)
-first_two (x ∷ y ∷ first) twice others key chosen external ten one more front are differ same =
-    let begins : get_or twice 0 0 ≡ x = ap (λ t. get_or t 0 0) one in
-    let follows : chosen ≡ y = sym (ap (λ t. get_or t 0 0) are) ∙ ap (λ t. get_or t 0 0) (front ∙ ap (take 7) more) in
-    differ (begins ∙ same ∙ sym follows)
+first_two first twice others key chosen external ten one more front are differ same = grind arith
 
 pub first_two_differ : (s : Day) (part : ℕ) (letters first twice others key text last : List ℕ) (k : PinKeys) → AreThree letters first text last
     → twice ≡ take 1 first → others ≡ drop 1 first → key ≡ take 7 others → key ≡ k.chosen ∷ k.external → get_or twice 0 0 ≢ k.chosen
@@ -310,8 +207,7 @@ pub the_same : (read chosen : ℕ) → not (read == chosen) ≡ false → read �
 the_same read chosen differ = grind (arith, nat_tests)
 
 pub list_told : (s : Day) (found : Option (List ℕ)) (due : List ℕ) → found ≡ option_map (λ d. d.list) (pin_day s) → found ≡ Some due → due ≡ list_letters s
-list_told (OfRotors s) found due told is = cc
-list_told (OfPins s) found due told is = cc
+list_told s found due told is = grind arith
 
 -- -------- a part as it is made, and what it gives back
 
@@ -332,27 +228,18 @@ pub record GivesBack (s : Day) (part parts : ℕ) (text : List ℕ) (made : Part
 
 -- ---- rotor machines
 
-length-rotor_letters : (s : Day) (k : RotorKeys) (piece : List ℕ) → length k.fillers ≡ 2 → length k.group ≡ 3
-    → length (rotor_letters s k piece) ≡ 5 + length piece
-length-rotor_letters s k piece two three =
-    let enciphered : List ℕ = cipher_from s k.key piece in
-    omega (arith, length-append (k.fillers ++ k.group) enciphered, length-append k.fillers k.group, length-cipher_from s k.key piece)
-
 rotor_part_back : (s : RotorDay) (part parts : ℕ) (k : RotorKeys) (piece : List ℕ) → TheDayDeciphersItself → IsLegalDay (OfRotors s)
     → AreKeys (OfRotors s) (Rotor k) → Suits (OfRotors s) (Rotor k) → IsFraction part parts → IsPiece (OfRotors s) piece
     → GivesBack (OfRotors s) part parts piece (part_of part parts (Some (indicator_of (OfRotors s) k)) (rotor_letters (OfRotors s) k piece))
 rotor_part_back s part parts k piece decipher legal are suits fraction is =
     let day : Day = OfRotors s in
     let enciphered : List ℕ = cipher_from day k.key piece in
-    let count : length (rotor_letters day k piece) ≡ 5 + length piece = length-rotor_letters day k piece are.fillers.count are.group.count in
+    let count : length (rotor_letters day k piece) ≡ 5 + length piece =
+    omega (arith, length-append {A = ℕ}, length-cipher_from day k.key piece, are.fillers.count, are.group.count) in
     let key : cipher_from day k.start (cipher_from day k.start k.key) ≡ k.key = decipher day k.start k.key legal are.key.within in
     let text : cipher_from day k.key enciphered ≡ piece = decipher day k.key piece legal is.within in
     record {
-      is_heading = record {
-        number = fraction;
-        letters = (omega (arith, is.some), omega (arith, is.few));
-        indicator = (are.start, record { count = length-cipher_from day k.start k.key ∙ are.key.count; within = letters-cipher_from day k.start k.key });
-      };
+      is_heading = grind (arith, count, length-cipher_from day k.start k.key, letters-cipher_from day k.start k.key);
       numbered = refl;
       so_many = refl;
       within = All-append (λ letter. letter < 26) (k.fillers ++ k.group) enciphered
@@ -369,30 +256,6 @@ rotor_part_back s part parts k piece decipher legal are suits fraction is =
 
 -- ---- the Converter M-209
 
-length-filled : (text : List ℕ) → length (filled text) ≡ length text + (5 - length text % 5) % 5
-length-filled text =
-    length-append text (replicate ((5 - length text % 5) % 5) 23) ∙ ap (λ n. length text + n) (length-replicate ((5 - length text % 5) % 5) 23)
-
-filled_within : (text : List ℕ) → All (λ letter. letter < 26) text → All (λ letter. letter < 26) (filled text)
-filled_within text within =
-    All-append (λ letter. letter < 26) text (replicate ((5 - length text % 5) % 5) 23) within
-    (All-replicate (λ letter. letter < 26) ((5 - length text % 5) % 5) 23 (omega arith))
-
-length-pin_letters : (s : Day) (k : PinKeys) (internal piece : List ℕ) → length k.external ≡ 6 → length (list_letters s) ≡ 2
-    → length (pin_letters s k internal piece) ≡ 20 + length (filled piece)
-length-pin_letters s k internal piece six two =
-    let indicators : List ℕ = pin_indicators s k in
-    let enciphered : List ℕ = cipher_from s internal (filled piece) in
-    let ten : length indicators ≡ 10 = omega (arith, length-append k.external (list_letters s)) in
-    omega (arith, length-append (indicators ++ enciphered) indicators, length-append indicators enciphered, length-cipher_from s internal (filled piece))
-
-indicators_within : (s : Day) (k : PinKeys) → k.chosen < 26 → All (λ letter. letter < 26) k.external → All (λ letter. letter < 26) (list_letters s)
-    → All (λ letter. letter < 26) (pin_indicators s k)
-indicators_within s k chosen external list =
-    All-cons (λ letter. letter < 26) k.chosen (k.chosen ∷ k.external ++ list_letters s) chosen
-    (All-cons (λ letter. letter < 26) k.chosen (k.external ++ list_letters s) chosen
-    (All-append (λ letter. letter < 26) k.external (list_letters s) external list))
-
 pin_part_back : (s : PinDay) (part parts : ℕ) (k : PinKeys) (internal piece : List ℕ) → TheDayDeciphersItself → IsLegalDay (OfPins s)
     → AreKeys (OfPins s) (Pin k) → Suits (OfPins s) (Pin k) → IsInternalKey (enciphered_choice (OfPins s) k) internal → IsFraction part parts
     → IsPiece (OfPins s) piece → GivesBack (OfPins s) part parts (filled piece) (part_of part parts None (pin_letters (OfPins s) k internal piece))
@@ -400,15 +263,26 @@ pin_part_back s part parts k internal piece decipher legal are suits first fract
     let day : Day = OfPins s in
     let indicators : List ℕ = pin_indicators day k in
     let enciphered : List ℕ = cipher_from day internal (filled piece) in
-    let count : length (pin_letters day k internal piece) ≡ 20 + length (filled piece) = length-pin_letters day k internal piece are.external.count legal.list.count in
-    let groups : length (filled piece) ≡ length piece + (5 - length piece % 5) % 5 = length-filled piece in
-    let outer : All (λ letter. letter < 26) indicators = indicators_within day k are.chosen are.external.within legal.list.within in
+    let more : ℕ = (5 - length piece % 5) % 5 in
+    let groups : length (filled piece) ≡ length piece + more = omega (arith, length-append piece (replicate more 23), length-replicate {A = ℕ} more 23) in
+    let count : length (pin_letters day k internal piece) ≡ 20 + length (filled piece) =
+    omega (
+      arith,
+      length-append (indicators ++ enciphered) indicators,
+      length-append indicators enciphered,
+      length-cipher_from day internal (filled piece),
+      length-append k.external (list_letters day),
+      are.external.count,
+      legal.list.count,
+    ) in
+    let outer : All (λ letter. letter < 26) indicators =
+    All-cons (λ letter. letter < 26) k.chosen (k.chosen ∷ k.external ++ list_letters day) are.chosen
+    (All-cons (λ letter. letter < 26) k.chosen (k.external ++ list_letters day) are.chosen
+    (All-append (λ letter. letter < 26) k.external (list_letters day) are.external.within legal.list.within)) in
+    let inner : All (λ letter. letter < 26) (filled piece) =
+    All-append (λ letter. letter < 26) piece (replicate more 23) is.within (All-replicate (λ letter. letter < 26) more 23 (omega arith)) in
     record {
-      is_heading = record {
-        number = fraction;
-        letters = (omega (arith, is.some), omega (arith, is.few), omega arith);
-        indicator = tt;
-      };
+      is_heading = grind (arith, count, groups);
       numbered = refl;
       so_many = refl;
       within = All-append (λ letter. letter < 26) (indicators ++ enciphered) indicators
@@ -421,7 +295,7 @@ pin_part_back s part parts k internal piece decipher legal are suits first fract
         on_wheels = suits.0;
         internal = internal;
         first = first;
-        is = sym (decipher day internal (filled piece) legal (filled_within piece is.within));
+        is = sym (decipher day internal (filled piece) legal inner);
       };
     }
 

@@ -1,21 +1,19 @@
 -- The reader of an order, byte by byte, and at the end.
-use Rattle.std.proofs.Common.{◌≡◌, ◌≢◌, ℕ, zero, suc, ◌+◌, ◌*◌, ◌<◌, ◌≤◌, inl, inr, List, [], ◌∷◌, ◌++◌, Some, length, take, drop, refl, sym, ap, subst, ◌∙◌, append_assoc, append-nil, length-append, length-drop, take-append-drop, arith, get_or, ◌^◌, Option, None, Result, Ok, Err, IsTrue, IsFalse, option_to_list}
-use Rattle.std.specs.Prelude.{slice_get, codes, All, MatchResult}
+use Rattle.std.proofs.Common.{[], ◌≡◌, ◌≢◌, ℕ, zero, suc, ◌+◌, ◌-◌, ◌*◌, length-take, ◌<◌, ◌≤◌, inl, inr, List, ◌∷◌, ◌++◌, Some, length, take, drop, refl, sym, ap, subst, ◌∙◌, append_assoc, append-nil, length-append, length-drop, arith, get_or, ◌^◌, Option, Result, Ok, Err, IsTrue, IsFalse, option_to_list, slice_get, codes, All, MatchResult}
 use Rattle.std.specs.Int.{div_ceil}
-use Rattle.std.proofs.Math.Seq.{take-append_seam}
 use Rattle.std.proofs.lemmas.Bool.{cases_lt}
-use Rattle.std.proofs.Math.Nat.{mul_comm, le_of_mul-le-mul_left}
+use Rattle.std.proofs.Math.Nat.{le_of_mul-le-mul_left}
 use Rattle.std.proofs.lemmas.Grind.{div_ceil_times}
-use Rattle.std.proofs.lemmas.List.{take_all, drop_all, drop_at, drop-take, drop-drop, take-take, take_more, length-take-le}
+use Rattle.std.proofs.lemmas.List.{nil_from_length, take_all, drop_all, drop_at, take_at, drop-take, drop-drop, take-take, take_more, length-take-le}
 use Rattle.std.proofs.lemmas.Option.{slice_get_within, get_or_from_slice_get}
-use Rattle.kd_state.specs.SheetDay.{Day, OfRotors, OfPins}
+use Rattle.kd_state.specs.SheetDay.{Day}
 use Rattle.kd_form.specs.declared.keys.Keys.{Keys}
 use Rattle.kd_form.specs.declared.order_reader.parts.PartWriter.{PartWriter}
 use Rattle.kd_form.specs.Part.{pieces}
 use Rattle.kd_form.specs.Making.{IsMadeText, part_size, Suits}
-use Rattle.kd_form.specs.Sending.{parts_needed, AreMadeTexts, blank_of, letter_of_byte, letters_from, text_letters, IsBadAt, IsFirstKeysFault, StandsInOrder, InHead, InKeys, InText, Cut, NoLetter, InParts, IsSendFault}
+use Rattle.kd_form.specs.Sending.{parts_needed, AreMadeTexts, blank_of, letter_of_byte, letters_from, text_letters, IsFirstKeysFault, StandsInOrder, InHead, InKeys, InText, NoLetter, InParts}
 use Rattle.kd_form.specs.SendStream.{CanBeWritten, IsAllowedFront, IsSentBefore, orders}
-use Rattle.kd_form.specs.SendSteps.{AreTaken, IsHeadRead, HeadIsRead, step_of, IsTextRead, AreSuitedKeys, IsLastTaken, IsFresh, IsOrderRead, OfHead, OfText}
+use Rattle.kd_form.specs.SendSteps.{AreTaken, IsHeadRead, HeadIsRead, step_of, IsTextRead, IsLastTaken, IsFresh, IsOrderRead, OfHead, OfText}
 use Rattle.kd_form.proofs.MadeParts.{pieces-next, pieces-none}
 use Rattle.std.proofs.lemmas.List.Elements.{All-nil, All-push, All-head, filter_map-append}
 use Rattle.kd_state.specs.Words.{IsWithout, TextsTellFirstParts}
@@ -43,8 +41,7 @@ use Rattle.kd_form.proofs.TextLetters.{letters_first, at_most_one}
 -- -------- the parts of an order, letter by letter
 
 pub size_some : (s : Day) → 0 < part_size s
-size_some (OfRotors s) = omega arith
-size_some (OfPins s) = omega arith
+size_some s = grind arith
 
 -- ---- one part more
 
@@ -53,21 +50,20 @@ pieces_more : (size k : ℕ) (letters : List ℕ) → 0 < size → size * k < le
     → pieces size letters ≡ pieces size (take (size * k) letters) ++ drop (size * k) letters ∷ []
 pieces_more size zero letters large some few =
     let none : size * 0 ≡ 0 = omega arith in
-    let last : pieces size (drop size letters) ≡ [] = ap (pieces size) (drop_all size letters (omega arith)) ∙ pieces-none size large in
-    pieces-next size letters large (omega arith) ∙ ap (λ ps. take size letters ∷ ps) last ∙ ap (λ p. p ∷ []) (take_all size letters (omega arith))
-    ∙ sym (ap (λ n. pieces size (take n letters) ++ drop n letters ∷ []) none ∙ ap (λ ps. ps ++ letters ∷ []) (pieces-none size large))
+    cc (none, pieces-next size letters large (omega arith), take_all size letters (omega arith), drop_all size letters (omega arith), pieces-none size large)
 pieces_more size (suc k) letters large some few =
     let more : size * suc k ≡ size + size * k = omega arith in
     let fewer : length (drop size letters) + size ≡ length letters = omega (arith, length-drop size letters) in
-    let behind = pieces_more size k (drop size letters) large (omega arith) (omega arith) in
-    let front : take size (take (size + size * k) letters) ≡ take size letters = take-take size (size + size * k) letters (omega arith) in
-    let rest : drop size (take (size + size * k) letters) ≡ take (size * k) (drop size letters) = drop-take size (size * k) letters in
     let inside : 0 < length (take (size + size * k) letters) = omega (arith, length-take-le (size + size * k) letters (omega arith)) in
-    pieces-next size letters large (omega arith) ∙ ap (λ ps. take size letters ∷ ps) behind
-    ∙ ap (λ l. take size letters ∷ (pieces size (take (size * k) (drop size letters)) ++ l ∷ [])) (drop-drop (size * k) size letters)
-    ∙ sym (ap (λ n. pieces size (take n letters) ++ drop n letters ∷ []) more
-    ∙ ap (λ ps. ps ++ drop (size + size * k) letters ∷ []) (pieces-next size (take (size + size * k) letters) large inside
-    ∙ ap (λ p. p ∷ pieces size (drop size (take (size + size * k) letters))) front ∙ ap (λ l. take size letters ∷ pieces size l) rest))
+    cc (
+      more,
+      pieces-next size letters large (omega arith),
+      pieces_more size k (drop size letters) large (omega arith) (omega arith),
+      pieces-next size (take (size + size * k) letters) large inside,
+      take-take size (size + size * k) letters (omega arith),
+      drop-take size (size * k) letters,
+      drop-drop (size * k) size letters,
+    )
 
 made_more : (s : Day) (part parts : ℕ) (keys : List Keys) (k : Keys) (texts : List (List ℕ)) (piece bytes one : List ℕ) → AreMadeTexts s part parts keys texts bytes
     → IsMadeText s (part + length keys) parts k piece one → AreMadeTexts s part parts (keys ++ k ∷ []) (texts ++ piece ∷ []) (bytes ++ one)
@@ -93,37 +89,11 @@ part_more : (s : Day) (keys : List Keys) (k : Keys) (letters sent one : List ℕ
     → AreMadeTexts s 1 (length keys) (take (written + 1) keys) (pieces (part_size s) letters) (sent ++ one)
 part_more s keys k letters sent one written some few found made is =
     let inside = slice_get_within keys written k found in
-    let count : length (take written keys) ≡ written = length-take-le written keys (omega (arith, inside)) in
-    let number : written + 1 ≡ 1 + length (take written keys) = omega (arith, count) in
-    let longer : take (written + 1) keys ≡ take written keys ++ k ∷ [] =
-    take_more keys written k inside ∙ ap (λ x. take written keys ++ x ∷ []) (get_or_from_slice_get keys written k k found) in
-    subst (λ ks. AreMadeTexts s 1 (length keys) ks (pieces (part_size s) letters) (sent ++ one)) (sym longer)
-    (subst (λ ps. AreMadeTexts s 1 (length keys) (take written keys ++ k ∷ []) ps (sent ++ one)) (sym (pieces_more (part_size s) written letters (size_some s) some few))
-    (made_more s 1 (length keys) (take written keys) k _ (drop (part_size s * written) letters) sent one made
-    (subst (λ n. IsMadeText s n (length keys) k (drop (part_size s * written) letters) one) number is)))
+    let count : 1 + length (take written keys) ≡ written + 1 = omega (arith, length-take-le written keys (omega (arith, inside))) in
+    rw (take_more keys written k inside, get_or_from_slice_get keys written k k found, pieces_more (part_size s) written letters (size_some s) some few)
+    (made_more s 1 (length keys) (take written keys) k _ (drop (part_size s * written) letters) sent one made (rw count is))
 
 -- ---- a letter more, which shows that a part is full
-
-full_now : (size parts letters written : ℕ) → CanBeWritten size parts letters written → written + 1 < parts → size * written + size ≤ letters
-    → letters ≡ size * written + size
-full_now size parts letters written can another full =
-    elim (cases_lt (size * (written + 1)) letters) [
-      | inl more ↦ absurd (omega (arith, can.most (written + 1) another more))
-      | inr few ↦ omega (arith, few, full)
-    ]
-
-at_most : (size letters written other : ℕ) → 0 < size → letters ≡ size * written + size → size * other < letters + 1 → other ≤ written + 1
-at_most size letters written other large full begun =
-    le_of_mul-le-mul_left {m = other} {n = written + 1} {k = size} (omega arith) large
-
-written_more : (size parts letters written : ℕ) → 0 < size → letters ≡ size * written + size → written + 1 < parts → CanBeWritten size parts (letters + 1) (written + 1)
-written_more size parts letters written large full another = record {
-  due = inr (another, omega arith);
-  most = λ other inside begun. at_most size letters written other large full begun;
-}
-
-kept_few : (size : ℕ) (letters kept : List ℕ) → kept ≡ take size letters → length kept ≤ length letters
-kept_few size letters kept is = omega (arith, ap length is, ap length (take-append-drop size letters), length-append (take size letters) (drop size letters))
 
 pub part_written : (s : Day) (keys : List Keys) (w next : PartWriter) (k : Keys) (letters sent one : List ℕ) (letter : ℕ) → AreTaken s keys w letters sent
     → part_size s ≤ length w.letters.items → w.written + 1 < length keys → slice_get keys w.written ≡ Some k
@@ -132,58 +102,54 @@ pub part_written : (s : Day) (keys : List Keys) (w next : PartWriter) (k : Keys)
 part_written s keys w next k letters sent one letter is full another found made kept counted number =
     let size : ℕ = part_size s in
     let large : 0 < size = size_some s in
-    let held : length w.letters.items ≤ length (drop (size * w.written) letters) = kept_few size (drop (size * w.written) letters) w.letters.items is.kept in
-    let enough : size * w.written + size ≤ length letters = omega (arith, held, full, length-drop (size * w.written) letters, large) in
-    let whole : length letters ≡ size * w.written + size = full_now size (length keys) (length letters) w.written is.written another enough in
-    let own : w.letters.items ≡ drop (size * w.written) letters = is.kept ∙ take_all size (drop (size * w.written) letters) (omega (arith, length-drop (size * w.written) letters)) in
-    let up_to : size * next.written ≡ length letters = ap (λ n. size * n) number ∙ omega (arith, whole) in
+    let behind : length (drop (size * w.written) letters) ≡ length letters - size * w.written = length-drop (size * w.written) letters in
+    let enough : size * w.written + size ≤ length letters =
+    omega (arith, ap length is.kept, length-take size (drop (size * w.written) letters), behind, full, large) in
+    let whole : length letters ≡ size * w.written + size = elim (cases_lt (size * (w.written + 1)) (length letters)) [
+      | inl more ↦ absurd (omega (arith, is.written.most (w.written + 1) another more))
+      | inr few ↦ omega (arith, few, enough)
+    ] in
+    let own : w.letters.items ≡ drop (size * w.written) letters = is.kept ∙ take_all size (drop (size * w.written) letters) (omega (arith, behind, whole)) in
+    let up_to : length letters ≡ size * next.written = rw number (omega (arith, whole)) in
     let longer : length (letters ++ letter ∷ []) ≡ length letters + 1 = length-append letters (letter ∷ []) in
     record {
-      counted = counted ∙ ap (λ n. n + 1) is.counted ∙ sym longer;
-      written = subst (CanBeWritten size (length keys) (length (letters ++ letter ∷ []))) (sym number)
-          (subst (λ n. CanBeWritten size (length keys) n (w.written + 1)) (sym longer) (written_more size (length keys) (length letters) w.written large whole another));
-      kept = kept ∙ sym (take_all size (letter ∷ []) (omega arith)) ∙ ap (take size) (sym (drop_at letters (letter ∷ []) (size * next.written) (sym up_to)));
-      made = subst (λ n. AreMadeTexts s 1 (length keys) (take n keys) (pieces size (take (size * next.written) (letters ++ letter ∷ []))) (sent ++ one)) (sym number)
-          (subst (λ ls. AreMadeTexts s 1 (length keys) (take (w.written + 1) keys) (pieces size ls) (sent ++ one))
-          (sym (ap (λ n. take n (letters ++ letter ∷ [])) up_to ∙ take-append_seam letters (letter ∷ [])))
-          (part_more s keys k letters sent one w.written (omega (arith, whole, large)) (omega (arith, whole)) found is.made
-          (subst (λ p. IsMadeText s (w.written + 1) (length keys) k p one) own made)));
+      counted = omega (arith, counted, is.counted, longer);
+      written = rw (number, longer) (record {
+        due = inr (another, omega (arith, whole));
+        most = λ other inside begun. le_of_mul-le-mul_left {m = other} {n = w.written + 1} {k = size} (omega (arith, whole, begun)) large;
+      });
+      kept = cc (take_all size (letter ∷ []) (omega arith), drop_at letters (letter ∷ []) (size * next.written) up_to);
+      made = rw (take_at letters (letter ∷ []) (size * next.written) up_to, number)
+          (part_more s keys k letters sent one w.written (omega (arith, whole, large)) (omega (arith, whole)) found is.made (rw own at made));
     }
 
 -- ---- the end
 
-by_number : (size parts letters written : ℕ) → 0 < size → 0 < letters → CanBeWritten size parts letters written → letters ≤ size * parts
-    → size * parts < letters + size → (written + 1 ≡ parts) × (size * written < letters) × (letters ≤ size * written + size)
-by_number size zero letters written large some can most least = absurd (let none : size * 0 ≡ 0 = omega arith in omega arith)
-by_number size (suc other) letters written large some can most least =
-    let all : size * suc other ≡ size * other + size = omega arith in
-    let low : other ≤ written = can.most other (omega arith) (omega arith) in
-    let high : written ≤ other = elim can.due [ inl none ↦ omega (arith, none) | inr due ↦ omega (arith, due.0) ] in
-    let same : other ≡ written = omega (arith, low, high) in
-    let product : size * other ≡ size * written = ap (λ n. size * n) same in
-    (omega (arith, same), omega (arith, product, least, all), omega (arith, product, most, all))
-
 last_number : (size parts letters written : ℕ) → 0 < size → 0 < letters → CanBeWritten size parts letters written → div_ceil letters size ≡ parts
     → (written + 1 ≡ parts) × (size * written < letters) × (letters ≤ size * written + size)
-last_number size parts letters written large some can needed =
-    let times = div_ceil_times letters size large in
-    let most : letters ≤ size * parts = subst (λ n. letters ≤ n) (mul_comm parts size) (subst (λ n. letters ≤ n * size) needed times.0) in
-    let least : size * parts < letters + size = subst (λ n. n < letters + size) (mul_comm parts size) (subst (λ n. n * size < letters + size) needed times.1) in
-    by_number size parts letters written large some can most least
+last_number size zero letters written large some can needed = absurd (omega (arith, rw needed at ((div_ceil_times letters size large).0)))
+last_number size (suc other) letters written large some can needed =
+    let most : letters ≤ suc other * size = rw needed at ((div_ceil_times letters size large).0) in
+    let least : suc other * size < letters + size = rw needed at ((div_ceil_times letters size large).1) in
+    let low : other ≤ written = can.most other (omega arith) (omega arith) in
+    let high : written ≤ other = elim can.due [ inl none ↦ omega (arith, none) | inr due ↦ omega (arith, due.0) ] in
+    let same : other ≡ written = omega arith in
+    let product : size * other ≡ size * written = ap (λ n. size * n) same in
+    (omega arith, omega arith, omega arith)
 
 pub last_written : (s : Day) (keys : List Keys) (w : PartWriter) (k : Keys) (letters sent one : List ℕ) → AreTaken s keys w letters sent → w.count ≢ 0
     → div_ceil w.count (part_size s) ≡ length keys → slice_get keys w.written ≡ Some k → IsMadeText s (w.written + 1) (length keys) k w.letters.items one
     → (letters ≢ []) × (parts_needed s (length letters) ≡ length keys) × AreMadeTexts s 1 (length keys) keys (pieces (part_size s) letters) (sent ++ one)
 last_written s keys w k letters sent one is counted needed found made =
     let size : ℕ = part_size s in
-    let parts : div_ceil (length letters) size ≡ length keys = ap (λ n. div_ceil n size) (sym is.counted) ∙ needed in
-    let some : 0 < length letters = omega (arith, counted, is.counted) in
-    let last = last_number size (length keys) (length letters) w.written (size_some s) some is.written parts in
-    let own : w.letters.items ≡ drop (size * w.written) letters = is.kept ∙ take_all size (drop (size * w.written) letters) (omega (arith, length-drop (size * w.written) letters, last.2)) in (
+    let parts : div_ceil (length letters) size ≡ length keys = rw is.counted at needed in
+    let last = last_number size (length keys) (length letters) w.written (size_some s) (omega (arith, counted, is.counted)) is.written parts in
+    let own : w.letters.items ≡ drop (size * w.written) letters =
+    is.kept ∙ take_all size (drop (size * w.written) letters) (omega (arith, length-drop (size * w.written) letters, last.2)) in (
       λ none. counted (is.counted ∙ ap length none),
       parts,
-      subst (λ ks. AreMadeTexts s 1 (length keys) ks (pieces size letters) (sent ++ one)) (take_all (w.written + 1) keys (omega (arith, last.0)))
-          (part_more s keys k letters sent one w.written last.1 last.2 found is.made (subst (λ p. IsMadeText s (w.written + 1) (length keys) k p one) own made)),
+      rw (take_all (w.written + 1) keys (omega (arith, last.0))) at
+          (part_more s keys k letters sent one w.written last.1 last.2 found is.made (rw own at made)),
     )
 
 -- -------- an order up to its text, byte by byte
@@ -191,25 +157,19 @@ last_written s keys w k letters sent one is counted needed found made =
 -- ---- one line
 
 ended_length : (text line : List ℕ) (most : ℕ) → IsEnded text line → length text ≤ most → length line ≤ most + 2
-ended_length text line most ended few = elim ended [
-  | inl short ↦ omega (arith, ap length short, length-append text (10 ∷ []), few)
-  | inr long ↦ omega (arith, ap length long, length-append text (13 ∷ 10 ∷ []), few)
-]
+ended_length text line most ended few = grind (arith, length-append {A = ℕ})
 
 pub short_line : (s : Day) → length (key_pattern s) ≤ 21 → (line : List ℕ) → IsAnyKeyLine s line → length line ≤ 23
 short_line s few line is =
     let form = as_form_line s line is in
     ended_length (filled_in (key_pattern s) form.letters) line 21 form.ended (omega (arith, few, length-filled (key_pattern s) form.letters))
 
-tail_is : {x : ℕ} {xs : List ℕ} → 10 ∷ [] ≡ x ∷ xs → [] ≡ xs
-tail_is same = cc
-
 -- what begins a line, and isn't one yet, has no end of a line
 front_unbroken : (line bytes more : List ℕ) → IsUpToBreak line → line ≡ bytes ++ more → more ≢ [] → IsWithout 10 bytes
 front_unbroken line bytes more up joined missing =
     elim (fronts bytes more up.text (10 ∷ []) (sym joined ∙ up.is)) [
       | Shorter between longer left ↦ All-front (λ b. b ≢ 10) bytes between (subst (IsWithout 10) longer up.unbroken)
-      | Longer x between longer left ↦ absurd (missing (nothing_more between more (sym (tail_is left))))
+      | Longer x between longer left ↦ absurd (missing (nothing_more between more (cc)))
     ]
 
 -- ---- heads
@@ -223,42 +183,29 @@ only_behind s tell (k ∷ keys) lines (line, rest, ended, keyed, joined) others 
     let behind = only_behind s tell keys rest keyed one.0 more one.1 in
     (behind.0, behind.1, one.2 ∙ omega (arith, behind.2))
 
-all_before : (before rest order : List ℕ) → order ≡ before ++ rest → length order + 1 ≡ length before + 1 → before ≡ order
-all_before before [] order joined size = sym (append-nil before) ∙ sym joined
-all_before before (x ∷ rest) order joined size = absurd (omega (arith, ap length joined, length-append before (x ∷ rest), size))
-
 -- ---- with one byte more
 
 -- an order that goes on
 goes_on : (s : Day) (keys : List Keys) (order more : List ℕ) → more ≢ [] → IsHead s keys (order ++ more) → IsHeadFault s order (length order + 1)
-goes_on s keys order more missing head = record {
-  before = order;
-  rest = [];
-  joined = sym (append-nil order);
-  size = refl;
-  keys = keys;
-  more = more;
-  missing = missing;
-  begins = head;
-  stops = λ byte after others other next gone. absurd (let none : 0 ≡ suc (length after) = ap length next in omega arith);
-}
+goes_on s keys order more missing head = grind (arith, append-nil {A = ℕ})
 
--- lines of keys alone are a head that goes on
-open_head : (s : Day) (keys : List Keys) (order : List ℕ) → AreKeyLines keys order → All (AreKeys s) keys → length keys ≤ 99 → IsHeadFault s order (length order + 1)
-open_head s keys order keyed all few = goes_on s keys order (codes "TEXT\n") (λ none. cc)
-    (record { lines = order; last = codes "TEXT\n"; joined = refl; keyed = keyed; ended = inl refl; of_the_day = all; few = few })
+-- whole lines of keys were read, and another line may follow
+whole_lines : (s : Day) (h : HeadReader) (order : List ℕ) → AreKeyLines h.keys.items order → All (AreKeys s) h.keys.items → length h.keys.items ≤ 99
+    → h.line.items ≡ [] → IsHeadRead s h order
+whole_lines s h order keyed all few none = record {
+  lines = order;
+  joined = rw none (sym (append-nil order));
+  keyed = keyed;
+  of_the_day = all;
+  few = few;
+  unbroken = rw none (All-nil (λ b. b ≢ 10));
+  short = omega (arith, ap length none);
+  cut = goes_on s h.keys.items order (codes "TEXT\n") (λ none. cc)
+      (record { lines = order; last = codes "TEXT\n"; joined = refl; keyed = keyed; ended = inl refl; of_the_day = all; few = few });
+}
 
 pub head_first : (s : Day) (h : HeadReader) → h.keys.items ≡ [] → h.line.items ≡ [] → IsHeadRead s h []
-head_first s h no_keys no_line = record {
-  lines = [];
-  joined = sym no_line;
-  keyed = subst (λ ks. AreKeyLines ks []) (sym no_keys) refl;
-  of_the_day = subst (All (AreKeys s)) (sym no_keys) (All-nil (AreKeys s));
-  few = omega (arith, ap length no_keys);
-  unbroken = subst (IsWithout 10) (sym no_line) (All-nil (λ b. b ≢ 10));
-  short = omega (arith, ap length no_line);
-  cut = open_head s [] [] refl (All-nil (AreKeys s)) (omega arith);
-}
+head_first s h no_keys no_line = grind (arith, whole_lines)
 
 -- what was read with one byte more
 longer : (s : Day) (h : HeadReader) (order : List ℕ) (byte : ℕ) (is : IsHeadRead s h order) → order ++ byte ∷ [] ≡ is.lines ++ (h.line.items ++ byte ∷ [])
@@ -268,41 +215,20 @@ longer s h order byte is = ap (λ o. o ++ byte ∷ []) is.joined ∙ append_asso
 pub keys_taken : (s : Day) (h next : HeadReader) (order : List ℕ) (byte : ℕ) (k : Keys) → IsHeadRead s h order → length h.keys.items < 99 → AreKeys s k
     → IsKeyLine k (h.line.items ++ byte ∷ []) → next.keys.items ≡ h.keys.items ++ k ∷ [] → next.line.items ≡ [] → IsHeadRead s next (order ++ byte ∷ [])
 keys_taken s h next order byte k is room are ended put cleared =
-    let keyed : AreKeyLines next.keys.items (order ++ byte ∷ []) =
-    subst (λ ks. AreKeyLines ks (order ++ byte ∷ [])) (sym put)
-    (subst (AreKeyLines (h.keys.items ++ k ∷ [])) (sym (longer s h order byte is)) (lines_more h.keys.items k is.lines (h.line.items ++ byte ∷ []) is.keyed ended)) in
-    let all : All (AreKeys s) next.keys.items = subst (All (AreKeys s)) (sym put) (All-push (AreKeys s) h.keys.items k is.of_the_day are) in
-    let few : length next.keys.items ≤ 99 = omega (arith, ap length put, length-append h.keys.items (k ∷ []), room) in
-    record {
-      lines = order ++ byte ∷ [];
-      joined = sym (ap (λ l. (order ++ byte ∷ []) ++ l) cleared ∙ append-nil (order ++ byte ∷ []));
-      keyed = keyed;
-      of_the_day = all;
-      few = few;
-      unbroken = subst (IsWithout 10) (sym cleared) (All-nil (λ b. b ≢ 10));
-      short = omega (arith, ap length cleared);
-      cut = open_head s next.keys.items (order ++ byte ∷ []) keyed all few;
-    }
+    whole_lines s next (order ++ byte ∷ [])
+    (rw (put, longer s h order byte is) (lines_more h.keys.items k is.lines (h.line.items ++ byte ∷ []) is.keyed ended))
+    (rw put (All-push (AreKeys s) h.keys.items k is.of_the_day are)) (omega (arith, ap length put, length-append h.keys.items (k ∷ []), room)) cleared
 
 -- a head whose last line is this
 text_head : (s : Day) (h : HeadReader) (order last : List ℕ) (is : IsHeadRead s h order) → IsEnded (codes "TEXT") last → IsHead s h.keys.items (is.lines ++ last)
-text_head s h order last is ended = record {
-  lines = is.lines;
-  last = last;
-  joined = refl;
-  keyed = is.keyed;
-  ended = ended;
-  of_the_day = is.of_the_day;
-  few = is.few;
-}
+text_head s h order last is ended = grind arith
 
 -- the line TEXT is whole
 pub text_taken : (s : Day) (h next : HeadReader) (order : List ℕ) (byte : ℕ) → IsHeadRead s h order → IsEnded (codes "TEXT") (h.line.items ++ byte ∷ [])
     → next.keys.items ≡ h.keys.items → IsOrder s (order ++ byte ∷ []) next.keys.items (order ++ byte ∷ []) []
 text_taken s h next order byte is ended same = record {
   joined = sym (append-nil (order ++ byte ∷ []));
-  is_head = subst (λ ks. IsHead s ks (order ++ byte ∷ [])) (sym same)
-      (subst (IsHead s h.keys.items) (sym (longer s h order byte is)) (text_head s h order (h.line.items ++ byte ∷ []) is ended));
+  is_head = rw (same, longer s h order byte is) (text_head s h order (h.line.items ++ byte ∷ []) is ended);
 }
 
 -- the line that is read goes on
@@ -312,13 +238,13 @@ line_open : (s : Day) (h next : HeadReader) (order line more beyond : List ℕ) 
     → IsHeadRead s next (order ++ byte ∷ [])
 line_open s h next order line more beyond keys byte most is up few small joined missing gone head same put = record {
   lines = is.lines;
-  joined = longer s h order byte is ∙ ap (λ l. is.lines ++ l) (sym put);
-  keyed = subst (λ ks. AreKeyLines ks is.lines) (sym same) is.keyed;
-  of_the_day = subst (All (AreKeys s)) (sym same) is.of_the_day;
-  few = omega (arith, ap length same, is.few);
-  unbroken = subst (IsWithout 10) (sym put) (front_unbroken line (h.line.items ++ byte ∷ []) more up joined missing);
+  joined = rw put (longer s h order byte is);
+  keyed = rw same is.keyed;
+  of_the_day = rw same is.of_the_day;
+  few = rw same is.few;
+  unbroken = rw put (front_unbroken line (h.line.items ++ byte ∷ []) more up joined missing);
   short = omega (arith, few, small, ap length joined, ap length put, length-append (h.line.items ++ byte ∷ []) more);
-  cut = goes_on s keys (order ++ byte ∷ []) beyond gone (subst (λ o. IsHead s keys (o ++ beyond)) (sym (longer s h order byte is)) head);
+  cut = goes_on s keys (order ++ byte ∷ []) beyond gone (rw (longer s h order byte is) head);
 }
 
 -- or no head goes on so
@@ -326,7 +252,8 @@ line_bad : (s : Day) (h : HeadReader) (order : List ℕ) (byte : ℕ) → TextsT
     → ((others : List Keys) (other : List ℕ) → length h.keys.items + length others ≤ 99 → ¬ (IsHead s others (h.line.items ++ byte ∷ other)))
     → IsHeadFault s (order ++ byte ∷ []) (length (order ++ byte ∷ []))
 line_bad s h order byte tell is off =
-    let whole : is.cut.before ≡ order = all_before is.cut.before is.cut.rest order is.cut.joined is.cut.size in
+    let none : is.cut.rest ≡ [] = nil_from_length is.cut.rest (omega (arith, ap length is.cut.joined, length-append is.cut.before is.cut.rest, is.cut.size)) in
+    let whole : is.cut.before ≡ order = cc (is.cut.joined, append-nil is.cut.before) in
     record {
       before = order;
       rest = byte ∷ [];
@@ -335,13 +262,12 @@ line_bad s h order byte tell is off =
       keys = is.cut.keys;
       more = is.cut.more;
       missing = is.cut.missing;
-      begins = subst (λ o. IsHead s is.cut.keys (o ++ is.cut.more)) whole is.cut.begins;
+      begins = rw whole at is.cut.begins;
       stops = λ found after others other next head.
           let same : byte ≡ found = ap (λ l. get_or l 0 0) next in
-          let there : IsHead s others (is.lines ++ (h.line.items ++ byte ∷ other)) =
-          subst (IsHead s others) (ap (λ o. o ++ byte ∷ other) is.joined ∙ append_assoc is.lines h.line.items (byte ∷ other))
-          (subst (λ b. IsHead s others (order ++ b ∷ other)) (sym same) head) in
-          let behind = only_behind s tell h.keys.items is.lines is.keyed others (h.line.items ++ byte ∷ other) there in
+          let there : order ++ found ∷ other ≡ is.lines ++ (h.line.items ++ byte ∷ other) =
+          ap (λ b. order ++ b ∷ other) (sym same) ∙ ap (λ o. o ++ byte ∷ other) is.joined ∙ append_assoc is.lines h.line.items (byte ∷ other) in
+          let behind = only_behind s tell h.keys.items is.lines is.keyed others (h.line.items ++ byte ∷ other) (rw there at head) in
           off behind.0 other (omega (arith, behind.2, head.few)) behind.1;
     }
 
@@ -405,20 +331,13 @@ text_step s h next order byte unread.Off tell is full off same put =
 
 -- ---- where the reader stands
 
-pub record InTheHead (s : Day) (r : OrderReader) (order sent : List ℕ) : Type 0 where
-  pub counted : r.read ≡ length order
-  pub head : IsHeadRead s r.head order
-  pub nothing : sent ≡ []
-  pub fresh : IsFresh r.parts
-
-pub in_head : (s : Day) (r : OrderReader) (order sent : List ℕ) → IsOrderRead s r order sent → r.stage ≡ stages.Head → InTheHead s r order sent
-in_head s r order sent (OfHead at counted head nothing fresh) here = record { counted = counted; head = head; nothing = nothing; fresh = fresh }
-in_head s r order sent (OfText at counted text) here = absurd (let clash : stages.Head ≡ stages.Text = sym here ∙ at in cc)
+pub in_head : (s : Day) (r : OrderReader) (order sent : List ℕ) → IsOrderRead s r order sent → r.stage ≡ stages.Head
+    → (r.read ≡ length order) × IsHeadRead s r.head order × (sent ≡ []) × IsFresh r.parts
+in_head s r order sent is here = grind arith
 
 pub in_text : (s : Day) (r : OrderReader) (order sent : List ℕ) → IsOrderRead s r order sent → r.stage ≡ stages.Text
     → (r.read ≡ length order) × IsTextRead s r.head.keys.items r.parts order sent
-in_text s r order sent (OfHead at counted head nothing fresh) here = absurd (let clash : stages.Head ≡ stages.Text = sym at ∙ here in cc)
-in_text s r order sent (OfText at counted text) here = (counted, text)
+in_text s r order sent is here = grind arith
 
 -- ---- in the head
 
@@ -432,63 +351,57 @@ head_held tell s r order sent here size head nothing fresh = record {
   };
 }
 
+-- ---- what is refused
+
+order_refused : (s : Day) (order sent : List ℕ) (fault : FormFault)
+    → ((more : List ℕ) → StandsInOrder s (order ++ more) fault × IsSentBefore s (order ++ more) sent) → IsRefused (orders s) order sent fault
+order_refused s order sent fault told = record { stands = λ more. (told more).0; refused = λ more. inl (told more).0; written = λ more. (told more).1 }
+
+is_longer : (s : Day) (order more : List ℕ) (keys : List Keys) (head text : List ℕ) → IsOrder s order keys head text → IsOrder s (order ++ more) keys head (text ++ more)
+is_longer s order more keys head text is = grind (arith, append_assoc {A = ℕ})
+
+first_left : (rest more after : List ℕ) (x : ℕ) → 0 < length rest → rest ++ more ≡ x ∷ after → rest ≡ x ∷ drop 1 rest
+first_left rest more after x some same = grind arith
+
 -- a byte that may not stand there is refused whatever follows
-fault_with : (s : Day) (order more before rest : List ℕ) (position : ℕ) (fault : IsHeadFault s order position) → order ≡ before ++ rest → before ≡ fault.before
-    → rest ≡ fault.rest → position ≤ length order → IsHeadFault s (order ++ more) position
-fault_with s order more before [] position fault joined same none inside =
-    absurd (omega (arith, fault.size, inside, ap length same, ap length joined, length-append before []))
-fault_with s order more before (byte ∷ rest) position fault joined same left inside = record {
+fault_longer : (s : Day) (order more : List ℕ) (position : ℕ) → IsHeadFault s order position → position ≤ length order → IsHeadFault s (order ++ more) position
+fault_longer s order more position fault inside = record {
   before = fault.before;
-  rest = byte ∷ (rest ++ more);
-  joined = ap (λ o. o ++ more) (joined ∙ ap (λ b. b ++ byte ∷ rest) same) ∙ append_assoc fault.before (byte ∷ rest) more;
+  rest = fault.rest ++ more;
+  joined = ap (λ o. o ++ more) fault.joined ∙ append_assoc fault.before fault.rest more;
   size = fault.size;
   keys = fault.keys;
   more = fault.more;
   missing = fault.missing;
   begins = fault.begins;
-  stops = λ other after others behind next head.
-      let first : byte ≡ other = cc in
-      fault.stops byte rest others behind (sym left) (subst (λ b. IsHead s others (fault.before ++ b ∷ behind)) (sym first) head);
+  stops = λ other after others behind next.
+      let some : 0 < length fault.rest = omega (arith, fault.size, inside, ap length fault.joined, length-append fault.before fault.rest) in
+      fault.stops other (drop 1 fault.rest) others behind (first_left fault.rest more after other some next);
 }
-
-pub fault_longer : (s : Day) (order more : List ℕ) (position : ℕ) → IsHeadFault s order position → position ≤ length order → IsHeadFault s (order ++ more) position
-fault_longer s order more position fault inside = fault_with s order more fault.before fault.rest position fault fault.joined refl refl inside
 
 pub head_refused : (tell : TextsTellFirstParts) (s : Day) (order sent : List ℕ) (position : ℕ) → IsHeadFault s order (length order) → position ≡ length order → sent ≡ []
     → IsRefused (orders s) order sent (BadByte position)
-head_refused tell s order sent position fault here nothing =
-    let still : (more : List ℕ) → IsHeadFault s (order ++ more) (length order) = λ (more : List ℕ). fault_longer s order more (length order) fault (omega arith) in
-    let stands : (more : List ℕ) → StandsInOrder s (order ++ more) (BadByte position) =
-    λ (more : List ℕ). InHead (length order) (still more) (omega (arith, length-append order more)) (ap BadByte here) in
-    record {
-      stands = stands;
-      refused = λ more. inl (stands more);
-      written = λ more. stream.NotYet (λ keys front text is suited. no_head_fault s (order ++ more) keys front text (length order) tell is (still more)) nothing;
-    }
+head_refused tell s order sent position fault here nothing = order_refused s order sent (BadByte position) (λ more.
+    let still : IsHeadFault s (order ++ more) (length order) = fault_longer s order more (length order) fault (omega arith) in (
+      InHead (length order) still (omega (arith, length-append order more)) (ap BadByte here),
+      stream.NotYet (λ keys front text is suited. no_head_fault s (order ++ more) keys front text (length order) tell is still) nothing,
+    ))
 
 -- the keys of an order whose text may begin
-order_longer : (s : Day) (order more : List ℕ) (keys : List Keys) → IsOrder s order keys order [] → IsOrder s (order ++ more) keys order more
-order_longer s order more keys is = record { joined = refl; is_head = is.is_head }
-
-pub keys_refused : (tell : TextsTellFirstParts) (s : Day) (order sent : List ℕ) (keys : List Keys) (fault : FormFault) → IsOrder s order keys order []
+keys_refused : (tell : TextsTellFirstParts) (s : Day) (order sent : List ℕ) (keys : List Keys) (fault : FormFault) → IsOrder s order keys order []
     → IsFirstKeysFault s keys fault → sent ≡ [] → IsRefused (orders s) order sent fault
-keys_refused tell s order sent keys fault is found nothing = record {
-  stands = λ more. InKeys keys order more (order_longer s order more keys is) found;
-  refused = λ more. inl (InKeys keys order more (order_longer s order more keys is) found);
-  written = λ more. stream.NotYet (λ others front text other suited.
-      let same = one_order s (order ++ more) keys others order front more text tell (order_longer s order more keys is) other in
-      no_keys_fault s keys fault (subst (All (Suits s)) (sym same.keys_are) suited) found) nothing;
-}
+keys_refused tell s order sent keys fault is found nothing = order_refused s order sent fault (λ more.
+    let still : IsOrder s (order ++ more) keys order more = is_longer s order more keys order [] is in (
+      InKeys keys order more still found,
+      stream.NotYet (λ others front text other suited.
+          let same = one_order s (order ++ more) keys others order front more text tell still other in
+          no_keys_fault s keys fault (rw same.keys_are suited) found) nothing,
+    ))
 
 -- ---- in the text
 
 all_front : (text : List ℕ) → All (λ b. IsTrue (is_text_byte b)) text → IsAllowedFront text text
-all_front text allowed = record {
-  rest = [];
-  joined = sym (append-nil text);
-  allowed = allowed;
-  ends = λ byte more none. absurd (let gone : 0 ≡ suc (length more) = ap length none in omega arith);
-}
+all_front text allowed = grind (arith, append-nil {A = ℕ})
 
 pub text_held : (tell : TextsTellFirstParts) (s : Day) (r : OrderReader) (order sent : List ℕ) → r.stage ≡ stages.Text → r.read ≡ length order
     → IsTextRead s r.head.keys.items r.parts order sent → Held (orders s) (IsOrderRead s r) order sent
@@ -501,13 +414,7 @@ text_held tell s r order sent here size text = record {
   };
 }
 
-none_taken : (n : ℕ) → take {A = ℕ} n [] ≡ []
-none_taken n = take_all n [] (omega arith)
-
-none_kept : (size n : ℕ) → take size (drop {A = ℕ} n []) ≡ []
-none_kept size n = ap (take size) (drop_all n [] (omega arith)) ∙ none_taken size
-
-pub text_begun : (s : Day) (keys : List Keys) (w : PartWriter) (order sent : List ℕ) → IsOrder s order keys order [] → All (Suits s) keys → IsFresh w → sent ≡ []
+text_begun : (s : Day) (keys : List Keys) (w : PartWriter) (order sent : List ℕ) → IsOrder s order keys order [] → All (Suits s) keys → IsFresh w → sent ≡ []
     → IsTextRead s keys w order sent
 text_begun s keys w order sent is suited fresh nothing = record {
   head = order;
@@ -517,62 +424,42 @@ text_begun s keys w order sent is suited fresh nothing = record {
   allowed = All-nil (λ b. IsTrue (is_text_byte b));
   taken = record {
     counted = fresh.none;
-    written = subst (CanBeWritten (part_size s) (length keys) 0) (sym fresh.unwritten)
-        (record { due = inl refl; most = λ other inside begun. absurd (omega (arith, begun)) });
-    kept = fresh.empty ∙ sym (none_kept (part_size s) (part_size s * w.written));
-    made = subst (λ n. AreMadeTexts s 1 (length keys) (take n keys) (pieces (part_size s) (take (part_size s * w.written) [])) sent) (sym fresh.unwritten)
-        (subst (λ ls. AreMadeTexts s 1 (length keys) [] ls sent) (sym (ap (pieces (part_size s)) (none_taken (part_size s * w.written)) ∙ pieces-none (part_size s) (size_some s))) nothing);
+    written = rw fresh.unwritten (record { due = inl refl; most = λ other inside begun. absurd (omega (arith, begun)) });
+    kept = cc (fresh.empty, drop_all {X = ℕ} (part_size s * w.written) [] (omega arith), take_all {A = ℕ} (part_size s) [] (omega arith));
+    made = rw (fresh.unwritten, take_all {A = ℕ} (part_size s * 0) [] (omega arith), pieces-none (part_size s) (size_some s)) nothing;
   };
 }
-
-first_is : {x y : ℕ} {xs ys : List ℕ} → x ∷ xs ≡ y ∷ ys → x ≡ y
-first_is same = cc
 
 -- a byte that may not stand in a text
 pub byte_refused : (s : Day) (keys : List Keys) (w : PartWriter) (order sent : List ℕ) (byte position : ℕ) → IsTextRead s keys w order sent
     → IsFalse (is_text_byte byte) → position ≡ length order + 1 → IsRefused (orders s) (order ++ byte ∷ []) sent (BadByte position)
-byte_refused s keys w order sent byte position text bad here =
-    let is_order : (more : List ℕ) → IsOrder s ((order ++ byte ∷ []) ++ more) keys text.head (text.text ++ byte ∷ more) = λ (more : List ℕ). record {
-      joined = append_assoc order (byte ∷ []) more ∙ ap (λ o. o ++ byte ∷ more) text.is_order.joined ∙ append_assoc text.head text.text (byte ∷ more);
-      is_head = text.is_order.is_head;
-    } in
-    let place : position ≡ length text.head + length text.text + 1 = omega (arith, here, ap length text.is_order.joined, length-append text.head text.text) in
-    let stands : (more : List ℕ) → StandsInOrder s ((order ++ byte ∷ []) ++ more) (BadByte position) = λ (more : List ℕ).
-    InText keys text.head (text.text ++ byte ∷ more) (length text.text) (is_order more) text.suited
-    (record { before = text.text; byte = byte; rest = more; joined = refl; size = refl; allowed = text.allowed; bad = bad }) (ap BadByte place) in
-    record {
-      stands = stands;
-      refused = λ more. inl (stands more);
-      written = λ more. stream.InText keys text.head (text.text ++ byte ∷ more) text.text w.written (is_order more) text.suited
-          (record {
-            rest = byte ∷ more;
-            joined = refl;
-            allowed = text.allowed;
-            ends = λ other after same. subst (λ b. IsFalse (is_text_byte b)) (first_is same) bad;
-          })
-          text.taken.written text.taken.made;
-    }
+byte_refused s keys w order sent byte position text bad here = order_refused s (order ++ byte ∷ []) sent (BadByte position) (λ more.
+    let still : IsOrder s ((order ++ byte ∷ []) ++ more) keys text.head (text.text ++ byte ∷ more) =
+    rw (append_assoc order (byte ∷ []) more) (is_longer s order (byte ∷ more) keys text.head text.text text.is_order) in
+    let place : position ≡ length text.head + length text.text + 1 = omega (arith, here, ap length text.is_order.joined, length-append text.head text.text) in (
+      InText keys text.head (text.text ++ byte ∷ more) (length text.text) still text.suited
+          (record { before = text.text; byte = byte; rest = more; joined = refl; size = refl; allowed = text.allowed; bad = bad }) (ap BadByte place),
+      stream.InText keys text.head (text.text ++ byte ∷ more) text.text w.written still text.suited
+          (record { rest = byte ∷ more; joined = refl; allowed = text.allowed; ends = λ other after same. let first : byte ≡ other = cc in rw first at bad })
+          text.taken.written text.taken.made,
+    ))
 
--- a byte that may
-pub text_more : (s : Day) (keys : List Keys) (w next : PartWriter) (order sent more : List ℕ) (byte : ℕ) (text : IsTextRead s keys w order sent) → IsTrue (is_text_byte byte)
-    → AreTaken s keys next (text_letters s text.text ++ option_to_list (letter_of_byte (blank_of s) byte)) more → IsTextRead s keys next (order ++ byte ∷ []) more
-text_more s keys w next order sent more byte text allowed taken = record {
+-- a byte that may, and the letter that it gives, if it gives one
+pub text_more : (s : Day) (keys : List Keys) (w next : PartWriter) (order sent more : List ℕ) (byte : ℕ) (found : Option ℕ) (text : IsTextRead s keys w order sent)
+    → IsTrue (is_text_byte byte) → letter_of_byte (blank_of s) byte ≡ found → AreTaken s keys next (text_letters s text.text ++ option_to_list found) more
+    → IsTextRead s keys next (order ++ byte ∷ []) more
+text_more s keys w next order sent more byte found text allowed is taken = record {
   head = text.head;
   text = text.text ++ byte ∷ [];
-  is_order = record {
-    joined = ap (λ o. o ++ byte ∷ []) text.is_order.joined ∙ append_assoc text.head text.text (byte ∷ []);
-    is_head = text.is_order.is_head;
-  };
+  is_order = is_longer s order (byte ∷ []) keys text.head text.text text.is_order;
   suited = text.suited;
   allowed = All-push (λ b. IsTrue (is_text_byte b)) text.text byte text.allowed allowed;
-  taken = subst (λ ls. AreTaken s keys next ls more) (sym (filter_map-append (letter_of_byte (blank_of s)) text.text (byte ∷ [])
+  taken = subst (λ ls. AreTaken s keys next ls more) (ap (λ o. text_letters s text.text ++ option_to_list o) (sym is)
+      ∙ sym (filter_map-append (letter_of_byte (blank_of s)) text.text (byte ∷ [])
       ∙ ap (λ ls. text_letters s text.text ++ ls) (letters_first (blank_of s) byte [] ∙ append-nil (option_to_list (letter_of_byte (blank_of s) byte))))) taken;
 }
 
 -- ---- the end
-
-pub head_ends : (s : Day) (order sent : List ℕ) (position : ℕ) → IsHeadFault s order (length order + 1) → position ≡ length order + 1 → IsSendFault s order (BadByte position)
-head_ends s order sent position cut here = inr (Cut cut (ap BadByte here))
 
 pub text_ends : (s : Day) (keys : List Keys) (w : PartWriter) (order sent made : List ℕ) (answer : Result (Unit {0}) FormFault) (text : IsTextRead s keys w order sent)
     → IsLastTaken s keys (text_letters s text.text) sent made answer → Closes (orders s) order (sent ++ made) answer
@@ -588,8 +475,7 @@ text_ends s keys w order sent made (Err fault) text last = (
     | inr other ↦ inr (InParts keys text.head text.text text.is_order text.suited text.allowed other.0 other.1 other.2)
   ],
   stream.InText keys text.head text.text text.text w.written text.is_order text.suited (all_front text.text text.allowed) text.taken.written
-      (subst (AreMadeTexts s 1 (length keys) (take w.written keys) (pieces (part_size s) (take (part_size s * w.written) (text_letters s text.text))))
-      (sym (ap (λ m. sent ++ m) last.0 ∙ append-nil sent)) text.taken.made),
+      (rw (last.0, append-nil sent) text.taken.made),
 )
 
 -- ---- byte by byte
@@ -597,70 +483,23 @@ text_ends s keys w order sent made (Err fault) text last = (
 pub counted_on : (read : ℕ) (order : List ℕ) (byte : ℕ) → read ≡ length order → read + 1 ≡ length (order ++ byte ∷ [])
 counted_on read order byte is = ap (λ n. n + 1) is ∙ sym (length-append order (byte ∷ []))
 
-pub both_none : (text made : List ℕ) → text ≡ [] → made ≡ [] → text ++ made ≡ []
-both_none text made none nil = ap (λ t. t ++ made) none ∙ nil
-
-pub taken_as : (s : Day) (keys shown : List Keys) (w : PartWriter) (letters sent : List ℕ) → shown ≡ keys → AreTaken s keys w letters sent → AreTaken s shown w letters sent
-taken_as s keys shown w letters sent same taken = subst (λ ks. AreTaken s ks w letters sent) (sym same) taken
-
-pub taken_by : (s : Day) (keys shown : List Keys) (w : PartWriter) (letters sent : List ℕ) → shown ≡ keys → AreTaken s shown w letters sent → AreTaken s keys w letters sent
-taken_by s keys shown w letters sent same taken = subst (λ ks. AreTaken s ks w letters sent) same taken
-
-pub last_by : (s : Day) (keys shown : List Keys) (letters sent made : List ℕ) (answer : Result (Unit {0}) FormFault) → shown ≡ keys
-    → IsLastTaken s shown letters sent made answer → IsLastTaken s keys letters sent made answer
-last_by s keys shown letters sent made answer same last = subst (λ ks. IsLastTaken s ks letters sent made answer) same last
-
--- the keys of an order that is read up to somewhere in its text
-pub suited_keys : (s : Day) (keys shown : List Keys) (w : PartWriter) (order sent : List ℕ) → shown ≡ keys → IsTextRead s keys w order sent → AreSuitedKeys s shown
-suited_keys s keys shown w order sent same text =
-    subst (AreSuitedKeys s) (sym same)
-    (record { of_the_day = text.is_order.is_head.of_the_day; suited = text.suited; few = text.is_order.is_head.few })
-
 letters_few : (blank : Option ℕ) (text : List ℕ) → length (letters_from blank text) ≤ length text
 letters_few blank [] = omega arith
 letters_few blank (byte ∷ text) =
-    omega (
-      arith,
-      letters_few blank text,
-      ap length (letters_first blank byte text),
-      length-append (option_to_list (letter_of_byte blank byte)) (letters_from blank text),
-      at_most_one (letter_of_byte blank byte),
-    )
+    let first = ap length (letters_first blank byte text) in
+    omega (arith, letters_few blank text, first, at_most_one (letter_of_byte blank byte), length-append {A = ℕ})
 
 pub letters_short : (s : Day) (keys : List Keys) (w : PartWriter) (order sent : List ℕ) (text : IsTextRead s keys w order sent) → length order + 1 < 2 ^ 63
     → length (text_letters s text.text) < 2 ^ 63
-letters_short s keys w order sent text short =
-    omega (arith, letters_few (blank_of s) text.text, ap length text.is_order.joined, length-append text.head text.text, short)
+letters_short s keys w order sent text short = grind (arith, letters_few, length-append {A = ℕ})
 
-pub text_begins : (tell : TextsTellFirstParts) (s : Day) (r : OrderReader) (shown : List Keys) (order text sent : List ℕ) (answer : Result (Unit {0}) FormFault)
+pub text_begins : (tell : TextsTellFirstParts) (s : Day) (r : OrderReader) (order text sent : List ℕ) (answer : Result (Unit {0}) FormFault)
     → r.stage ≡ stages.Text → r.read ≡ length order → IsOrder s order r.head.keys.items order [] → IsFresh r.parts → text ≡ [] → sent ≡ []
-    → shown ≡ r.head.keys.items → MatchResult answer (λ _. All (Suits s) shown) (IsFirstKeysFault s shown)
+    → MatchResult answer (λ _. All (Suits s) r.head.keys.items) (IsFirstKeysFault s r.head.keys.items)
     → MatchResult answer (λ _. Held (orders s) (IsOrderRead s r) order sent) (IsRefused (orders s) order text)
-text_begins tell s r shown order text sent (Ok done) here size is fresh none nil same suited =
-    text_held tell s r order sent here size (text_begun s r.head.keys.items r.parts order sent is (subst (All (Suits s)) same suited) fresh nil)
-text_begins tell s r shown order text sent (Err fault) here size is fresh none nil same found =
-    keys_refused tell s order text r.head.keys.items fault is (subst (λ ks. IsFirstKeysFault s ks fault) same found) none
-
--- a letter of the text
-pub text_letter : (s : Day) (keys : List Keys) (w next : PartWriter) (order sent more : List ℕ) (byte letter : ℕ) (text : IsTextRead s keys w order sent) → IsTrue (is_text_byte byte)
-    → letter_of_byte (blank_of s) byte ≡ Some letter → AreTaken s keys next (text_letters s text.text ++ letter ∷ []) more → IsTextRead s keys next (order ++ byte ∷ []) more
-text_letter s keys w next order sent more byte letter text allowed is taken =
-    text_more s keys w next order sent more byte text allowed
-    (subst (λ o. AreTaken s keys next (text_letters s text.text ++ option_to_list o) more) (sym is) taken)
-
--- what separates letters
-pub text_gap : (s : Day) (keys : List Keys) (w : PartWriter) (order sent made : List ℕ) (byte : ℕ) → IsTextRead s keys w order sent → IsTrue (is_text_byte byte)
-    → letter_of_byte (blank_of s) byte ≡ None → made ≡ [] → IsTextRead s keys w (order ++ byte ∷ []) (sent ++ made)
-text_gap s keys w order sent made byte text allowed is none =
-    text_more s keys w w order sent (sent ++ made) byte text allowed
-    (subst (λ o. AreTaken s keys w (text_letters s text.text ++ option_to_list o) (sent ++ made)) (sym is)
-    (subst (λ ls. AreTaken s keys w ls (sent ++ made)) (sym (append-nil (text_letters s text.text)))
-    (subst (AreTaken s keys w (text_letters s text.text)) (sym (ap (λ m. sent ++ m) none ∙ append-nil sent)) text.taken)))
-
--- ---- what stands
-
-is_longer : (s : Day) (order more : List ℕ) (keys : List Keys) (head text : List ℕ) → IsOrder s order keys head text → IsOrder s (order ++ more) keys head (text ++ more)
-is_longer s order more keys head text is = record { joined = ap (λ o. o ++ more) is.joined ∙ append_assoc head text more; is_head = is.is_head }
+text_begins tell s r order text sent (Ok done) here size is fresh none nil suited =
+    text_held tell s r order sent here size (text_begun s r.head.keys.items r.parts order sent is suited fresh nil)
+text_begins tell s r order text sent (Err fault) here size is fresh none nil found = keys_refused tell s order text r.head.keys.items fault is found none
 
 pub stands_longer : (s : Day) (order more : List ℕ) (fault : FormFault) → StandsInOrder s order fault → StandsInOrder s (order ++ more) fault
 stands_longer s order more fault (InHead p h few e) = InHead p (fault_longer s order more p h few) (omega (arith, few, length-append order more)) e

@@ -1,27 +1,21 @@
 -- What refuses a form: its parts, one after another, and for good.
-use Rattle.std.proofs.Common.{◌≡◌, inl, inr, ℕ, Bool, true, false, List, refl, sym, ap, subst, ◌∙◌, Option, Some, None, Result, Ok, Err, ◌≢◌, ◌⊎◌, ◌+◌, ◌-◌, ◌<◌, ◌≤◌, [], ◌∷◌, ◌++◌, length, drop, get_or, append_assoc, length-append, arith}
+use Rattle.std.proofs.Common.{[], ◌≡◌, inl, inr, ℕ, false, List, refl, sym, ap, subst, ◌∙◌, Option, Result, Err, ◌≢◌, ◌⊎◌, ◌+◌, ◌-◌, ◌<◌, ◌≤◌, ◌∷◌, ◌++◌, length, drop, get_or, append_assoc, length-append, arith, codes, All, IsTrue}
 use Rattle.kd_tables.specs.Ports.{Port, Fail}
 use Rattle.kd_state.specs.declared.machine.parts.Parts.{Parts}
-use Rattle.kd_state.specs.SheetDay.{Day, OfRotors, OfPins}
+use Rattle.kd_state.specs.SheetDay.{Day}
 use Rattle.kd_form.specs.declared.fault.FormFault.{FormFault}
-use Rattle.kd_form.specs.declared.fault.FormFault.TheVariants.{NotReady, Device, NotOnKey, BadByte}
-use Rattle.kd_form.specs.declared.keys.Keys.{Keys}
-use Rattle.kd_form.specs.declared.keys.Keys.TheVariants.{Rotor, Pin}
-use Rattle.kd_form.specs.declared.heading.Heading.{Heading}
-use Rattle.kd_form.specs.declared.heading.Indicator.{Indicator}
-use Rattle.kd_form.specs.Reading.{IsLettersFault, InIndicators, InExternal, InList, InChoice}
-use Rattle.kd_form.specs.Receiving.{InHeading, InNumber, InBody, IsBodyFault, InCount, InLetters, IsPartFault, IsEarlyFault}
-use Rattle.kd_form.specs.FormText.{IsRefusedForGood, NoHeading, InWhole, InLast, IsRefusedAtEnd, InPart, TooFew, IsReceiveFault, form_message, given_letters, count_due, Turn, IsRefusedEarly}
+use Rattle.kd_form.specs.declared.fault.FormFault.TheVariants.{BadByte}
+use Rattle.kd_form.specs.Receiving.{InHeading, InNumber, InBody, IsEarlyFault}
+use Rattle.kd_form.specs.FormText.{IsRefusedForGood, NoHeading, InWhole, InLast, form_message, given_letters, count_due, Turn, IsRefusedEarly}
 use Rattle.kd_form.specs.OnTheKey.{IsKeyFault}
-use Rattle.kd_form.specs.Sending.{IsKeysFault, StandsInOrder, InHead, InKeys, InText, Cut, NoLetter, InParts, IsSendFault, IsBadAt}
+use Rattle.kd_form.specs.Sending.{IsBadAt}
 use Rattle.kd_form.specs.SendStream.{orders}
-use Rattle.kd_form.specs.Streams.{Message, Answers, Whole, Stands, AtEnd, TooLong, SourceFails, SinkFails, is_device, is_off_key}
-use Rattle.std.specs.Prelude.{codes, All, IsTrue}
+use Rattle.kd_form.specs.Streams.{Answers, AreWell, is_device, is_off_key}
 use Rattle.std.proofs.Math.Seq.{drop-append_seam}
 use Rattle.std.proofs.Math.ListN.{get_or-append}
-use Rattle.std.proofs.lemmas.Bool.{cases_lt, false≢true}
-use Rattle.std.proofs.lemmas.List.{append-nil}
-use Rattle.std.proofs.lemmas.List.Elements.{All-head, All-tail}
+use Rattle.std.proofs.lemmas.Bool.{cases_lt}
+use Rattle.std.proofs.lemmas.List.{append-nil, nil_from_length}
+use Rattle.std.proofs.lemmas.List.Elements.{All-same}
 use Rattle.kd_tables.specs.Text.{is_text_byte}
 use Rattle.kd_state.specs.Words.{IsWithout, IsFirstPart, TextsTellFirstParts, NumbersAreWords}
 use Rattle.kd_form.specs.FormParts.{BeginsHeading, IsFirstOf}
@@ -30,121 +24,25 @@ use Rattle.std.proofs.lemmas.List.Sums.{AllPass-from_list_all}
 use Rattle.kd_form.proofs.Plain.{All-front}
 use Rattle.kd_form.proofs.Headings.{ended_heading, heading_there}
 use Rattle.kd_form.proofs.OneCut.{FirstCut, first_cut, some_byte}
-use Rattle.kd_form.proofs.Growing.{begins_front, first_grows, last_rest, no_break, same_start, turn_with}
-use Rattle.kd_form.proofs.OneOrder.{Shorter, Longer, fronts, bad_longer}
+use Rattle.kd_form.proofs.Growing.{begins_front, first_grows, last_rest, last_whole, no_break, same_start, turn_with}
+use Rattle.kd_form.proofs.OneOrder.{Shorter, Longer, fronts, bad_longer, no_bad_byte}
 
 -- -------- of which answers a device is the reason, or the machine
 
--- whether no message has the fault of itself: a device's, or the machine's
-abbrev is_foreign : FormFault → Bool
-is_foreign NotReady = true
-is_foreign Device = true
-is_foreign NotOnKey = true
-is_foreign _ = false
+-- a device failed exactly where the answer says so, and the machine isn't the reason
+abbrev pub IsToldOf : Port → Port → Result (Unit {0}) FormFault → Type 0
+IsToldOf source sink answer = Fail source sink (is_device answer) × (is_off_key answer ≡ false)
 
-not_device : (fault : FormFault) → is_foreign fault ≡ false → is_device (Err fault) ≡ false
-not_device Device own = cc
-not_device _ own = refl
+pub order_told : (s : Day) (source sink : Port) (read text : List ℕ) (answer : Result (Unit {0}) FormFault) → Answers (orders s) source sink read text answer
+    → IsToldOf source sink answer
+order_told s source sink read text answer answers = grind arith
 
-not_off_key : (fault : FormFault) → is_foreign fault ≡ false → is_off_key (Err fault) ≡ false
-not_off_key NotReady own = cc
-not_off_key NotOnKey own = cc
-not_off_key _ own = refl
+pub form_told : (s : Day) (source sink : Port) (read text : List ℕ) (answer : Result (Unit {0}) FormFault) → Answers (form_message s) source sink read text answer
+    → IsToldOf source sink answer
+form_told s source sink read text answer answers = grind arith
 
--- what refuses a message is its own
-pub record IsOfMessage (m : Message) : Type 0 where
-  pub standing : (bytes : List ℕ) (fault : FormFault) → m.stands bytes fault → is_foreign fault ≡ false
-  pub whole : (bytes : List ℕ) (fault : FormFault) → m.refused bytes fault → is_foreign fault ≡ false
-
-told : (source sink : Port) (answer other : Result (Unit {0}) FormFault) → answer ≡ other → Fail source sink (is_device other) → Fail source sink (is_device answer)
-told source sink answer other is fails = subst (λ a. Fail source sink (is_device a)) (sym is) fails
-
-well : (source sink : Port) (answer : Result (Unit {0}) FormFault) (fault : FormFault) → answer ≡ Err fault → is_foreign fault ≡ false → Fail source sink false
-    → Fail source sink (is_device answer)
-well source sink answer fault is own are_well = told source sink answer (Err fault) is (subst (Fail source sink) (sym (not_device fault own)) are_well)
-
-pub fails : (m : Message) (source sink : Port) (read text : List ℕ) (answer : Result (Unit {0}) FormFault) → IsOfMessage m → Answers m source sink read text answer
-    → Fail source sink (is_device answer)
-fails m source sink read text answer of (Whole few ended becomes are_well is) = told source sink answer (Ok tt) is are_well
-fails m source sink read text answer of (Stands fault few stands before are_well is) = well source sink answer fault is (of.standing read fault stands) are_well
-fails m source sink read text answer of (AtEnd fault few ended none refused before are_well is) = well source sink answer fault is (of.whole read fault refused) are_well
-fails m source sink read text answer of (TooLong front byte joined size open_yet are_well is) = told source sink answer _ is are_well
-fails m source sink read text answer of (SourceFails few open_yet alone is) = told source sink answer (Err Device) is (inl alone)
-fails m source sink read text answer of (SinkFails due few is_due front alone is) = told source sink answer (Err Device) is (inr alone)
-
--- no message is refused for its machine
-pub own : (m : Message) (source sink : Port) (read text : List ℕ) (answer : Result (Unit {0}) FormFault) → IsOfMessage m → Answers m source sink read text answer
-    → is_off_key answer ≡ false
-own m source sink read text answer of (Whole few ended becomes are_well is) = ap is_off_key is
-own m source sink read text answer of (Stands fault few stands before are_well is) = ap is_off_key is ∙ not_off_key fault (of.standing read fault stands)
-own m source sink read text answer of (AtEnd fault few ended none refused before are_well is) = ap is_off_key is ∙ not_off_key fault (of.whole read fault refused)
-own m source sink read text answer of (TooLong front byte joined size open_yet are_well is) = ap is_off_key is
-own m source sink read text answer of (SourceFails few open_yet alone is) = ap is_off_key is
-own m source sink read text answer of (SinkFails due few is_due front alone is) = ap is_off_key is
-
--- ---- orders
-
-keys_fault : (s : Day) (part : ℕ) (k : Keys) (fault : FormFault) → IsKeysFault s part k fault → is_foreign fault ≡ false
-keys_fault (OfRotors s) part (Rotor k) fault found = ap is_foreign found.1
-keys_fault (OfPins s) part (Pin k) fault (inl off) = ap is_foreign off.1
-keys_fault (OfPins s) part (Pin k) fault (inr spent) = ap is_foreign spent.2
-keys_fault (OfRotors s) part (Pin k) fault found = absurd found
-keys_fault (OfPins s) part (Rotor k) fault found = absurd found
-
-standing_order : (s : Day) (order : List ℕ) (fault : FormFault) → StandsInOrder s order fault → is_foreign fault ≡ false
-standing_order s order fault (InHead p h few is) = ap is_foreign is
-standing_order s order fault (InKeys ks hd t o k) = keys_fault s _ k.unsuited fault k.is
-standing_order s order fault (InText ks hd t n o su b is) = ap is_foreign is
-
-whole_order : (s : Day) (order : List ℕ) (fault : FormFault) → IsSendFault s order fault → is_foreign fault ≡ false
-whole_order s order fault (inl stands) = standing_order s order fault stands
-whole_order s order fault (inr (Cut h is)) = ap is_foreign is
-whole_order s order fault (inr (NoLetter ks hd t o su al none is)) = ap is_foreign is
-whole_order s order fault (inr (InParts ks hd t o su al some differ is)) = ap is_foreign is
-
-pub of_orders : (s : Day) → IsOfMessage (orders s)
-of_orders s = record { standing = standing_order s; whole = whole_order s }
-
--- ---- forms
-
-letters_fault : (s : Day) (part : ℕ) (i : Option Indicator) (letters : List ℕ) (fault : FormFault) → IsLettersFault s part i letters fault → is_foreign fault ≡ false
-letters_fault s part (Some i) letters fault found = ap is_foreign found.is
-letters_fault s part None letters fault (InIndicators first text last joined front back differ is) = ap is_foreign is
-letters_fault s part None letters fault (InExternal k list text are off is) = ap is_foreign is
-letters_fault s part None letters fault (InList k list text are on other is) = ap is_foreign is
-letters_fault s part None letters fault (InChoice k text are on spent is) = ap is_foreign is
-
-body_fault : (s : Day) (number : ℕ) (h : Heading) (letters : List ℕ) (fault : FormFault) → IsBodyFault s number h letters fault → is_foreign fault ≡ false
-body_fault s number h letters fault (InCount other is) = ap is_foreign is
-body_fault s number h letters fault (InLetters counted found) = letters_fault s number h.indicator letters fault found
-
-part_fault : (s : Day) (number : ℕ) (expected : Option ℕ) (start : ℕ) (part : List ℕ) (fault : FormFault) → IsPartFault s number expected start part fault → is_foreign fault ≡ false
-part_fault s number expected start part fault (inl (InHeading none is)) = ap is_foreign is
-part_fault s number expected start part fault (inl (InNumber h body has other is)) = ap is_foreign is
-part_fault s number expected start part fault (inl (InBody h body place has numbered due bad is)) = ap is_foreign is
-part_fault s number expected start part fault (inr late) = body_fault s number late.heading _ fault late.found
-
-for_good : (s : Day) (form text : List ℕ) (fault : FormFault) → IsRefusedForGood s form text fault → is_foreign fault ≡ false
-for_good s form text fault (NoHeading none empty is) = ap is_foreign is
-for_good s form text fault (InWhole t some refused is) = part_fault s _ _ _ t.part fault refused
-for_good s form text fault (InLast t line body last broken early is) = part_fault s _ _ _ t.part fault (inl early)
-
-at_end : (s : Day) (form text : List ℕ) (fault : FormFault) → IsRefusedAtEnd s form text fault → is_foreign fault ≡ false
-at_end s form text fault (InPart t last refused is) = part_fault s _ _ _ t.part fault refused
-at_end s form text fault (TooFew parts count letters some read fewer is same) = ap is_foreign is
-
-whole_fault : (s : Day) (form : List ℕ) (fault : FormFault) → IsReceiveFault s form fault → is_foreign fault ≡ false
-whole_fault s form fault (text, inl found) = for_good s form text fault found
-whole_fault s form fault (text, inr found) = at_end s form text fault found
-
-pub of_forms : (s : Day) → IsOfMessage (form_message s)
-of_forms s = record { standing = λ form fault found. for_good s form found.0 fault found.1; whole = λ form fault found. whole_fault s form fault found }
-
--- ---- off the key
-
-pub off_key_fails : (m : Parts) (s : Day) (source sink : Port) (fault : FormFault) → IsKeyFault m s fault → Fail source sink false → Fail source sink (is_device (Err fault))
-off_key_fails m s source sink fault (inl unready) are_well = told source sink (Err fault) (Err NotReady) (ap Err unready.1) are_well
-off_key_fails m s source sink fault (inr other) are_well = told source sink (Err fault) (Err NotOnKey) (ap Err other.2) are_well
+pub off_key : (m : Parts) (s : Day) (source sink : Port) (fault : FormFault) → IsKeyFault m s fault → AreWell source sink → Fail source sink (is_device (Err fault))
+off_key m s source sink fault off well = grind arith
 
 -- -------- what refuses a form for good
 
@@ -164,34 +62,25 @@ early_as_well s number expected start line body other fault tell unbroken bad (I
     omega (arith, ap length there.1, length-append line (10 ∷ body), length-append line (10 ∷ other)) in
     InBody h other place (ended_heading s line other h has.is_heading there.0) numbered due (bad place (subst (λ x. IsBadAt x place) there.1 at)) (is ∙ ap BadByte same)
 
-good_there : (front : List ℕ) (byte : ℕ) (rest : List ℕ) → All (λ b. IsTrue (is_text_byte b)) (front ++ byte ∷ rest) → IsTrue (is_text_byte byte)
-good_there [] byte rest all = All-head (λ b. IsTrue (is_text_byte b)) byte rest all
-good_there (x ∷ front) byte rest all = good_there front byte rest (All-tail (λ b. IsTrue (is_text_byte b)) x (front ++ byte ∷ rest) all)
-
 bad_in_less : (body more : List ℕ) (place : ℕ) → All (λ b. IsTrue (is_text_byte b)) more → IsBadAt (body ++ more) place → IsBadAt body place
 bad_in_less body more place good at = elim (fronts body more at.before (at.byte ∷ at.rest) at.joined) [
-  | Shorter beyond longer left ↦
-      absurd (false≢true (sym at.bad ∙ good_there beyond at.byte at.rest (subst (All (λ b. IsTrue (is_text_byte b))) left good)))
-  | Longer x beyond longer left ↦
-      let same : at.byte ≡ x = cc in
-      record {
-        before = at.before;
-        byte = at.byte;
-        rest = beyond;
-        joined = longer ∙ ap (λ y. at.before ++ y ∷ beyond) (sym same);
-        size = at.size;
-        allowed = at.allowed;
-        bad = at.bad;
-      }
+  | Shorter beyond longer left ↦ absurd (no_bad_byte more (length beyond) good (record {
+    before = beyond;
+    byte = at.byte;
+    rest = at.rest;
+    joined = left;
+    size = refl;
+    allowed = All-front (λ b. IsTrue (is_text_byte b)) beyond (at.byte ∷ at.rest) (rw left at good);
+    bad = at.bad;
+  }))
+  | Longer x beyond longer left ↦ grind arith
 ]
-
-head_allowed : All (λ b. IsTrue (is_text_byte b)) (codes "PART ")
-head_allowed = AllPass-from_list_all is_text_byte (codes "PART ") refl
 
 -- fewer than six bytes of what begins a heading may stand in a body
 few_allowed : (bytes more : List ℕ) → length bytes < 6 → BeginsHeading (bytes ++ more) → All (λ b. IsTrue (is_text_byte b)) bytes
 few_allowed bytes more few begins = elim (fronts bytes more (codes "PART ") (begins.digit ∷ begins.rest) begins.is) [
-  | Shorter beyond longer left ↦ All-front (λ b. IsTrue (is_text_byte b)) bytes beyond (subst (All (λ b. IsTrue (is_text_byte b))) longer head_allowed)
+  | Shorter beyond longer left ↦
+      All-front (λ b. IsTrue (is_text_byte b)) bytes beyond (All-same (λ b. IsTrue (is_text_byte b)) (bytes ++ beyond) (codes "PART ") (sym longer) (AllPass-from_list_all is_text_byte (codes "PART ") refl))
   | Longer x beyond longer left ↦ absurd (omega (arith, ap length longer))
 ]
 
@@ -205,17 +94,7 @@ record IsAlike (part : List ℕ) (line body : List ℕ) : Type 0 where
 
 -- the part goes on
 alike_longer : (part line body cut beyond : List ℕ) → part ≡ line ++ 10 ∷ body → cut ≡ part ++ beyond → IsAlike cut line body
-alike_longer part line body cut beyond broken longer = record {
-  other = body ++ beyond;
-  is = longer ∙ ap (λ l. l ++ beyond) broken ∙ append_assoc line (10 ∷ body) beyond;
-  bad = λ place at. bad_longer body beyond place at;
-}
-
-too_few : (bytes more : List ℕ) → ¬ (BeginsHeading bytes) → BeginsHeading (bytes ++ more) → length bytes < 6
-too_few bytes more none begins = elim (cases_lt (length bytes) 6) [ inl short ↦ short | inr long ↦ absurd (none (begins_front bytes more long begins)) ]
-
-whole_size : (n : ℕ) → 1 ≤ n → n - 1 + 1 ≡ n
-whole_size n some = omega arith
+alike_longer part line body cut beyond broken longer = grind (arith, append_assoc {A = ℕ}, bad_longer)
 
 -- or its last bytes begin the next heading
 alike_shorter : (part line body cut rest more beyond : List ℕ) (byte : ℕ) → IsFirstOf part part [] → part ≡ line ++ 10 ∷ body → IsWithout 10 line
@@ -226,18 +105,18 @@ alike_shorter part line body cut rest more beyond byte first broken unbroken nex
       let some : 1 ≤ length cut = some_byte (part ++ more) cut rest next.joined ended.0 ended.1 in
       let size : length part ≡ length cut + length (byte ∷ beyond) = ap length split ∙ length-append cut (byte ∷ beyond) in
       let last : get_or part (length cut - 1) 0 ≡ 10 = sym (get_or-append part more 0 (length cut - 1) (omega (arith, size))) ∙ ended.0 in
-      let behind : drop (length cut - 1 + 1) part ≡ byte ∷ beyond =
-      ap (λ n. drop n part) (whole_size (length cut) some) ∙ ap (drop (length cut)) split ∙ drop-append_seam cut (byte ∷ beyond) in
-      let none : ¬ (BeginsHeading (byte ∷ beyond)) =
-      (λ begins. first.whole (length cut - 1) (omega (arith, size)) last (subst BeginsHeading (sym behind) begins)) in
-      let begins : BeginsHeading ((byte ∷ beyond) ++ more) = subst BeginsHeading left ended.1 in
-      let few : length (byte ∷ beyond) < 6 = too_few (byte ∷ beyond) more none begins in
-      let good : All (λ b. IsTrue (is_text_byte b)) (byte ∷ beyond) = few_allowed (byte ∷ beyond) more few begins in
+      let at_end : length cut - 1 + 1 ≡ length cut = omega (arith, some) in
+      let behind : drop (length cut - 1 + 1) part ≡ byte ∷ beyond = rw at_end (ap (drop (length cut)) split ∙ drop-append_seam cut (byte ∷ beyond)) in
+      let begins : BeginsHeading ((byte ∷ beyond) ++ more) = rw left at ended.1 in
+      let few : length (byte ∷ beyond) < 6 = elim (cases_lt (length (byte ∷ beyond)) 6) [
+        | inl short ↦ short
+        | inr long ↦ absurd (first.whole (length cut - 1) (omega (arith, size)) last (rw behind (begins_front (byte ∷ beyond) more long begins)))
+      ] in
       elim (fronts (line ++ 10 ∷ []) body cut (byte ∷ beyond) (append_assoc line (10 ∷ []) body ∙ sym broken ∙ split)) [
         | Shorter other longer gone ↦ record {
           other = other;
           is = longer ∙ append_assoc line (10 ∷ []) other;
-          bad = λ place at. bad_in_less other (byte ∷ beyond) place good (subst (λ x. IsBadAt x place) gone at);
+          bad = λ place at. bad_in_less other (byte ∷ beyond) place (few_allowed (byte ∷ beyond) more few begins) (rw gone at at);
         }
         | Longer x beyond' longer gone ↦ absurd (
             let inside : length cut - 1 < length line = omega (arith, some, ap length longer, length-append line (10 ∷ []), length-append cut (x ∷ beyond')) in
@@ -247,10 +126,7 @@ alike_shorter part line body cut rest more beyond byte first broken unbroken nex
 
 alike : (part line body cut rest more : List ℕ) → IsFirstOf part part [] → part ≡ line ++ 10 ∷ body → IsWithout 10 line → IsFirstOf (part ++ more) cut rest
     → IsAlike cut line body
-alike part line body cut rest more first broken unbroken next = elim (fronts part more cut rest next.joined) [
-  | Shorter beyond longer left ↦ alike_longer part line body cut beyond broken longer
-  | Longer byte beyond longer left ↦ alike_shorter part line body cut rest more beyond byte first broken unbroken next longer left
-]
+alike part line body cut rest more first broken unbroken next = grind (arith, fronts, alike_longer, alike_shorter)
 
 -- ---- with more bytes behind it
 
@@ -261,39 +137,30 @@ nothing_or_some (x ∷ xs) = inr (λ none. cc)
 last_stays : (s : Day) (form more text line body : List ℕ) (fault : FormFault) (t : Turn s form) → TextsTellFirstParts → more ≢ [] → t.after ≡ []
     → IsFirstPart 10 t.part line body → IsRefusedEarly s form t fault → text ≡ given_letters s t.letters → IsRefusedForGood s (form ++ more) text fault
 last_stays s form more text line body fault t tell some last broken early is =
-    let rest : t.rest ≡ t.part = last_rest s form t last in
-    let first : IsFirstOf t.rest t.rest [] = subst (λ p. IsFirstOf t.rest p []) (sym rest) (subst (λ a. IsFirstOf t.rest t.part a) last t.first) in
-    let split : t.rest ≡ line ++ 10 ∷ body = rest ∙ broken.joined in
     let cut : FirstCut (t.rest ++ more) = first_cut (t.rest ++ more) in
     let u : Turn s (form ++ more) = turn_with s form more cut.part cut.rest t some cut.first in
-    let same : IsAlike cut.part line body = alike t.rest line body cut.part cut.rest more first split broken.without cut.first in
+    let same : IsAlike cut.part line body =
+    alike t.rest line body cut.part cut.rest more (last_whole s form t last) (last_rest s form t last ∙ broken.joined) broken.without cut.first in
     let start : ℕ = length (form ++ more) - length (t.rest ++ more) in
     let found : IsEarlyFault s (length t.before + 1) (count_due t.before t.count) start cut.part fault =
-    subst (λ p. IsEarlyFault s (length t.before + 1) (count_due t.before t.count) start p fault) (sym same.is)
-    (early_as_well s (length t.before + 1) (count_due t.before t.count) start line body same.other fault tell broken.without same.bad
-    (subst (λ p. IsEarlyFault s (length t.before + 1) (count_due t.before t.count) start p fault) broken.joined
-    (subst (λ n. IsEarlyFault s (length t.before + 1) (count_due t.before t.count) n t.part fault) (sym (same_start form t.rest more)) early))) in
+    rw same.is (early_as_well s (length t.before + 1) (count_due t.before t.count) start line body same.other fault tell broken.without same.bad
+    (rw broken.joined at (rw (← same_start form t.rest more) at early))) in
     elim (nothing_or_some cut.rest) [
       | inl none ↦ InLast u line same.other none (record { joined = same.is; without = broken.without }) found is
       | inr left ↦ InWhole u left (inl found) is
     ]
 
-no_front : (front back : List ℕ) → front ++ back ≡ [] → front ≡ []
-no_front [] back none = refl
-no_front (x ∷ front) back none = cc
-
 some_more : (s : Day) (form more text : List ℕ) (fault : FormFault) → TextsTellFirstParts → more ≢ [] → IsRefusedForGood s form text fault
     → IsRefusedForGood s (form ++ more) text fault
 some_more s form more text fault tell some (NoHeading none empty is) =
-    NoHeading (λ other begins. none (more ++ other) (subst BeginsHeading (append_assoc form more other) begins)) empty is
+    NoHeading (λ other begins. none (more ++ other) (rw (append_assoc form more other) at begins)) empty is
 some_more s form more text fault tell some (InWhole t left refused is) =
     let u : Turn s (form ++ more) = turn_with s form more t.part (t.after ++ more) t some (first_grows t.rest t.part t.after more t.first left) in
-    InWhole u (λ none. left (no_front t.after more none))
-    (subst (λ n. IsPartFault s (length t.before + 1) (count_due t.before t.count) n t.part fault) (sym (same_start form t.rest more)) refused) is
+    InWhole u (λ none. left (nil_from_length t.after (omega (arith, ap length none, length-append t.after more)))) (rw (same_start form t.rest more) refused) is
 some_more s form more text fault tell some (InLast t line body last broken early is) = last_stays s form more text line body fault t tell some last broken early is
 
 pub stays_refused : TextsTellFirstParts → NumbersAreWords → FormsStayRefused
 stays_refused tell numbers s form more text fault found = elim (nothing_or_some more) [
-  | inl none ↦ subst (λ b. IsRefusedForGood s b text fault) (sym (append-nil form) ∙ ap (λ l. form ++ l) (sym none)) found
+  | inl none ↦ rw (none, append-nil form) found
   | inr some ↦ some_more s form more text fault tell some found
 ]

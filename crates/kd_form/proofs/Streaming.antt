@@ -1,5 +1,5 @@
 -- Bytes that are fed one after another, and reads that follow one another.
-use Rattle.std.proofs.Common.{◌≡◌, ℕ, ◌+◌, ◌-◌, ◌^◌, ◌<◌, ◌≤◌, Bool, true, false, ◌||◌, List, [], ◌∷◌, ◌++◌, Option, Some, Result, Ok, Err, length, take, drop, IsTrue, refl, sym, ap, subst, ◌∙◌, append_assoc, append-nil, take-append-drop, length-append, arith}
+use Rattle.std.proofs.Common.{[], ◌≡◌, ℕ, ◌+◌, ◌-◌, ◌≤◌, Bool, true, false, ◌||◌, List, ◌∷◌, ◌++◌, Option, Some, Result, Ok, Err, length, drop, IsTrue, refl, sym, ap, subst, ◌∙◌, append_assoc, append-nil, take-append-drop, length-append, arith}
 use Rattle.std.specs.Io.{StartsWith}
 use Rattle.std.specs.Io.KnownBytes.{Appends, Consumes, Keeps, IsAtEnd}
 use Rattle.std.proofs.KnownBytes.{Consumes-nil, Consumes-kept, Consumes-trans, Appends-nil, Appends-trans, starts_with_rest}
@@ -11,7 +11,7 @@ use Rattle.kd_form.specs.declared.fault.FormFault.{FormFault}
 use Rattle.kd_form.specs.declared.fault.FormFault.TheVariants as faults
 use Rattle.kd_form.specs.declared.stream.stop.Stop.{Stop}
 use Rattle.kd_form.specs.declared.stream.stop.Stop.TheVariants as stops
-use Rattle.kd_form.specs.Streams.{Message, IsOpen, IsRefused, IsDue, ByThen, ByTheEnd, Answers, Whole, Stands, AtEnd, TooLong, SourceFails, SinkFails, IsStreamed}
+use Rattle.kd_form.specs.Streams.{Message, IsOpen, ByThen, ByTheEnd, Answers, Whole, Stands, AtEnd, TooLong, SourceFails, SinkFails, IsStreamed}
 use Rattle.kd_form.specs.StreamSteps.{Held, HasRoom, FedTo, IsFed, FeedsAll, EndsIn, ClosesAs, WritesWhole, IsRead, ReadsNext, fault_of, answer_to, stops_at_device}
 
 -- what is known of a port, in its order
@@ -20,29 +20,17 @@ over had has before after = record { had = had; has = has; had_failed = before; 
 
 -- a failed call leaves the flag up
 failed_now : (before after : Bool) → after ≡ (before || true) → IsTrue after
-failed_now true after e = e
-failed_now false after e = e
+failed_now before after e = grind arith
 
 -- a call that did not fail leaves the flag as it was
 pub well_now : (before after : Bool) → after ≡ (before || false) → after ≡ before
-well_now true after e = e
-well_now false after e = e
+well_now before after e = grind arith
 
 pub still_well : (before after : Bool) → after ≡ before → after ≡ (before || false)
-still_well true after e = e
-still_well false after e = e
-
--- a flag since an earlier time, since which it wasn't raised
-pub flag_since : (before between after stops : Bool) → between ≡ before → after ≡ (between || stops) → after ≡ (before || stops)
-flag_since before between after stops same now = now ∙ ap (λ b. b || stops) same
+still_well before after e = grind arith
 
 all_of_it : (xs : List ℕ) → StartsWith xs xs
 all_of_it xs = starts_with_of_append xs xs [] (sym (append-nil xs))
-
-front_of_made : (text made : List ℕ) (count : ℕ) → StartsWith (text ++ made) (text ++ take count made)
-front_of_made text made count =
-    starts_with_of_append (text ++ made) (text ++ take count made) (drop count made)
-    (ap (λ l. text ++ l) (sym (take-append-drop count made)) ∙ sym (append_assoc text (take count made) (drop count made)))
 
 starts_longer : (bytes more front : List ℕ) → StartsWith bytes front → StartsWith (bytes ++ more) front
 starts_longer bytes more front starts =
@@ -54,38 +42,16 @@ starts_longer bytes more front starts =
 -- what was made of a byte was put in part
 pub fed_in_part : (m : Message) (new : List ℕ → List ℕ → Type 0) (bytes text made : List ℕ) (took wrote : Option (List ℕ)) (d f : Bool)
     → Held m new bytes (text ++ made) → TakesFront took wrote made → IsFed m new bytes text (over took wrote d f) (Err stops.Device)
-fed_in_part m new bytes text made took wrote d f held part = record {
-  made = take part.0 made;
-  written = part.2;
-  fed = record {
-    front = bytes;
-    due = text ++ made;
-    of_bytes = all_of_it bytes;
-    open_yet = held.open_yet;
-    of_due = front_of_made text made part.0;
-  };
-}
+fed_in_part m new bytes text made took wrote d f held part = grind (arith, all_of_it, starts_with_of_append, take-append-drop {A = ℕ}, append_assoc {A = ℕ})
 
 pub fed_none : (m : Message) (old : List ℕ → List ℕ → Type 0) (took : Option (List ℕ)) (d : Bool) → FeedsAll m old old [] (over took took d d) (Ok tt)
-fed_none m old took d bytes text held = record {
-  made = [];
-  written = Appends-nil took;
-  fed = subst (λ b. Held m old b (text ++ [])) (sym (append-nil bytes)) (subst (Held m old bytes) (sym (append-nil text)) held);
-}
+fed_none m old took d bytes text held = grind (arith, Appends-nil, append-nil {A = ℕ})
 
 -- one byte more
 pub fed_next : (m : Message) (old now new : List ℕ → List ℕ → Type 0) (front next : List ℕ) (took taken wrote : Option (List ℕ)) (d e f : Bool)
     (answer : Result (Unit {0}) Stop) → FeedsAll m old now front (over took taken d e) (Ok tt) → FeedsAll m now new next (over taken wrote e f) answer
     → FeedsAll m old new (front ++ next) (over took wrote d f) answer
-fed_next m old now new front next took taken wrote d e f answer before after bytes text held =
-    let one = before bytes text held in
-    let two = after (bytes ++ front) (text ++ one.made) one.fed in
-    record {
-      made = one.made ++ two.made;
-      written = Appends-trans took taken wrote one.made two.made one.written two.written;
-      fed = subst (λ b. FedTo m new b (text ++ (one.made ++ two.made)) answer) (append_assoc bytes front next)
-          (subst (λ t. FedTo m new ((bytes ++ front) ++ next) t answer) (append_assoc text one.made two.made) two.fed);
-    }
+fed_next m old now new front next took taken wrote d e f answer before after bytes text held = grind (arith, Appends-trans, append_assoc {A = ℕ})
 
 -- ---- room for more bytes
 
@@ -95,30 +61,11 @@ room_for m holds room less few has = record { bytes = has.bytes; text = has.text
 -- behind the bytes that were fed
 pub room_less : (m : Message) (old new : List ℕ → List ℕ → Type 0) (more : List ℕ) (sink : Port) (room less : ℕ) → length more + less ≤ room → HasRoom m old room
     → FeedsAll m old new more sink (Ok tt) → HasRoom m new less
-room_less m old new more sink room less few has fed =
-    let one = fed has.bytes has.text has.held in
-    record { bytes = has.bytes ++ more; text = has.text ++ one.made; held = one.fed; within = omega (arith, has.within, few, length-append has.bytes more) }
-
-pub room_at_first : (m : Message) (holds : List ℕ → List ℕ → Type 0) (room : ℕ) → room < 2 ^ 63 → Held m holds [] [] → HasRoom m holds room
-room_at_first m holds room few held = record { bytes = []; text = []; held = held; within = omega (arith, few) }
-
-refused_longer : (m : Message) (bytes more text : List ℕ) (fault : FormFault) → IsRefused m bytes text fault → IsRefused m (bytes ++ more) text fault
-refused_longer m bytes more text fault is = record {
-  stands = λ rest. subst (λ b. m.stands b fault) (sym (append_assoc bytes more rest)) (is.stands (more ++ rest));
-  refused = λ rest. subst (λ b. m.refused b fault) (sym (append_assoc bytes more rest)) (is.refused (more ++ rest));
-  written = λ rest. subst (λ b. m.before (Some fault) b text) (sym (append_assoc bytes more rest)) (is.written (more ++ rest));
-}
+room_less m old new more sink room less few has fed = grind (arith, length-append {A = ℕ})
 
 fed_longer : (m : Message) (new : List ℕ → List ℕ → Type 0) (bytes more text : List ℕ) (stop : Stop) → FedTo m new bytes text (Err stop)
     → FedTo m new (bytes ++ more) text (Err stop)
-fed_longer m new bytes more text (stops.Refused fault) is = refused_longer m bytes more text fault is
-fed_longer m new bytes more text stops.Device is = record {
-  front = is.front;
-  due = is.due;
-  of_bytes = starts_longer bytes more is.front is.of_bytes;
-  open_yet = is.open_yet;
-  of_due = is.of_due;
-}
+fed_longer m new bytes more text stop is = grind (arith, starts_longer, append_assoc {A = ℕ})
 
 -- the same of bytes that are the same
 pub fed_whole : (m : Message) (old new : List ℕ → List ℕ → Type 0) (front whole : List ℕ) (sink : Port) (answer : Result (Unit {0}) Stop) → front ≡ whole
@@ -195,82 +142,46 @@ pub record SoFar (m : Message) (holds : List ℕ → List ℕ → Type 0) (sourc
 
 pub SoFar-nil : (m : Message) (holds : List ℕ → List ℕ → Type 0) (had took : Option (List ℕ)) (a d : Bool) → Held m holds [] []
     → SoFar m holds (over had had a a) (over took took d d) 0
-SoFar-nil m holds had took a d held = record {
-  read = [];
-  text = [];
-  counted = refl;
-  within = omega arith;
-  given = Consumes-nil had;
-  written = Appends-nil took;
-  held = held;
-  well = (refl, refl);
-}
+SoFar-nil m holds had took a d held = grind (arith, Consumes-nil, Appends-nil)
 
 -- the ports since an earlier time, since which they didn't fail
-due_since : (m : Message) (had has next : Option (List ℕ)) (a b c : Bool) (read due : List ℕ) → IsDue m (over has next b c) read due → IsDue m (over had next a c) read due
-due_since m had has next a b c read due (ByThen front starts open') = ByThen front starts open'
-due_since m had has next a b c read due (ByTheEnd answer ended closes) = ByTheEnd answer ended closes
-
-answers_since : (m : Message) (had has next took taken wrote : Option (List ℕ)) (a b c d e f : Bool) (read text : List ℕ) (answer : Result (Unit {0}) FormFault)
+answers_since : {m : Message} {had has next took taken wrote : Option (List ℕ)} {a b c d e f : Bool} {read text : List ℕ} {answer : Result (Unit {0}) FormFault}
     → b ≡ a → e ≡ d → Answers m (over has next b c) (over taken wrote e f) read text answer → Answers m (over had next a c) (over took wrote d f) read text answer
-answers_since m had has next took taken wrote a b c d e f read text answer p q (Whole few ended becomes well is) = Whole few ended becomes (well.0 ∙ p, well.1 ∙ q) is
-answers_since m had has next took taken wrote a b c d e f read text answer p q (Stands fault few stands before well is) = Stands fault few stands before (well.0 ∙ p, well.1 ∙ q) is
-answers_since m had has next took taken wrote a b c d e f read text answer p q (AtEnd fault few ended none refused before well is) =
-    AtEnd fault few ended none refused before (well.0 ∙ p, well.1 ∙ q) is
-answers_since m had has next took taken wrote a b c d e f read text answer p q (TooLong front byte joined full open' well is) =
-    TooLong front byte joined full open' (well.0 ∙ p, well.1 ∙ q) is
-answers_since m had has next took taken wrote a b c d e f read text answer p q (SourceFails few open' fails is) =
-    SourceFails few open' (record { failed = fails.failed; well = fails.well ∙ q }) is
-answers_since m had has next took taken wrote a b c d e f read text answer p q (SinkFails due few is_due starts fails is) =
-    SinkFails due few (due_since m had has next a b c read due is_due) starts (record { failed = fails.failed; well = fails.well ∙ p }) is
+answers_since p q (Whole few ended becomes well is) = Whole few ended becomes (well.0 ∙ p, well.1 ∙ q) is
+answers_since p q (Stands fault few stands before well is) = Stands fault few stands before (well.0 ∙ p, well.1 ∙ q) is
+answers_since p q (AtEnd fault few ended none refused before well is) = AtEnd fault few ended none refused before (well.0 ∙ p, well.1 ∙ q) is
+answers_since p q (TooLong front byte joined full open' well is) = TooLong front byte joined full open' (well.0 ∙ p, well.1 ∙ q) is
+answers_since p q (SourceFails few open' fails is) = SourceFails few open' (record { failed = fails.failed; well = fails.well ∙ q }) is
+answers_since p q (SinkFails due few (ByThen front begins open') starts fails is) =
+    SinkFails due few (ByThen front begins open') starts (record { failed = fails.failed; well = fails.well ∙ p }) is
+answers_since p q (SinkFails due few (ByTheEnd told ended closes) starts fails is) =
+    SinkFails due few (ByTheEnd told ended closes) starts (record { failed = fails.failed; well = fails.well ∙ p }) is
 
 -- A step behind what was read, by what is known of the ports at the start, between and behind it.
 module _ (m : Message) (old new : List ℕ → List ℕ → Type 0) (had has next took taken wrote : Option (List ℕ)) (a b c d e f : Bool) (count room : ℕ)
     (before : SoFar m old (over had has a b) (over took taken d e) count) (space : room ≡ READ_LIMIT - count) where
-  pub SoFar-read : (n : ℕ) → ReadsNext m old new room (over has next b c) (over taken wrote e f) (Ok n) → SoFar m new (over had next a c) (over took wrote d f) (count + n)
-  SoFar-read n reads =
-      let step = reads before.read before.text before.held (omega (arith, before.counted, before.within, space)) in
-      record {
-        read = before.read ++ step.more;
-        text = before.text ++ step.made;
-        counted = length-append before.read step.more ∙ omega (arith, before.counted, step.read.0);
-        within = omega (arith, before.within, step.within, step.read.0, space);
-        given = Consumes-trans had has next before.read step.more before.given step.given;
-        written = Appends-trans took taken wrote before.text step.made before.written step.written;
-        held = step.read.1;
-        well = (step.read.3 ∙ before.well.0, step.read.4 ∙ before.well.1);
-      }
-
-  pub SoFar-at_end : (n : ℕ) → n ≡ 0 → ReadsNext m old new room (over has next b c) (over taken wrote e f) (Ok n) → IsAtEnd next
-  SoFar-at_end n none reads =
-      let step = reads before.read before.text before.held (omega (arith, before.counted, before.within, space)) in
-      step.read.2 none
-
-  stopped : (stop : Stop) → ReadsNext m old new room (over has next b c) (over taken wrote e f) (Err stop)
-      → IsStreamed m (over had next a c) (over took wrote d f) (Err (fault_of stop))
-  stopped stop reads =
-      let step = reads before.read before.text before.held (omega (arith, before.counted, before.within, space)) in
-      record {
-        read = before.read ++ step.more;
-        text = before.text ++ step.made;
-        given = Consumes-trans had has next before.read step.more before.given step.given;
-        written = Appends-trans took taken wrote before.text step.made before.written step.written;
-        answers = answers_since m had has next took taken wrote a b c d e f (before.read ++ step.more) (before.text ++ step.made) (Err (fault_of stop))
-            before.well.0 before.well.1 step.read;
-      }
+  pub SoFar-read : (n : ℕ) → ReadsNext m old new room (over has next b c) (over taken wrote e f) (Ok n)
+      → SoFar m new (over had next a c) (over took wrote d f) (count + n) × (n ≡ 0 → IsAtEnd next)
+  SoFar-read n reads = grind (arith, length-append {A = ℕ}, Consumes-trans, Appends-trans)
 
   pub IsStreamed-stopped : (stop : Stop) (fault : FormFault) → fault ≡ fault_of stop → ReadsNext m old new room (over has next b c) (over taken wrote e f) (Err stop)
       → IsStreamed m (over had next a c) (over took wrote d f) (Err fault)
   IsStreamed-stopped stop fault is reads =
-      subst (λ told. IsStreamed m (over had next a c) (over took wrote d f) (Err told)) (sym is) (stopped stop reads)
+      let step = reads before.read before.text before.held (omega (arith, before.counted, before.within, space)) in
+      record {
+        read = before.read ++ step.more;
+        text = before.text ++ step.made;
+        given = Consumes-trans had has next before.read step.more before.given step.given;
+        written = Appends-trans took taken wrote before.text step.made before.written step.written;
+        answers = rw is (answers_since before.well.0 before.well.1 step.read);
+      }
 
 -- ---- the end
 
 -- a whole message: what was fed of it stopped
 pub whole_stopped : (m : Message) (old new : List ℕ → List ℕ → Type 0) (bytes : List ℕ) (sink : Port) (stop : Stop) → Held m old [] []
     → FeedsAll m old new bytes sink (Err stop) → WritesWhole m bytes sink (Err stop)
-whole_stopped m old new bytes sink (stops.Refused fault) held fed = subst (λ b. m.refused b fault) (append-nil bytes) ((fed [] [] held).fed.refused [])
-whole_stopped m old new bytes sink stops.Device held fed = tt
+whole_stopped m old new bytes sink stop held fed = grind (arith, append-nil {A = ℕ})
 
 closed : (m : Message) (holds : List ℕ → List ℕ → Type 0) (read text made : List ℕ) (source : Port) (took taken wrote : Option (List ℕ)) (d e f : Bool)
     (told : Result (Unit {0}) Stop) → Held m holds read text → length read ≤ READ_LIMIT → IsAtEnd source.has → IsWell source → e ≡ d
@@ -297,23 +208,11 @@ IsStreamed-closed m holds source took taken wrote d e f count answer before ende
           (closed m holds before.read before.text one.made source took taken wrote d e f closes.told before.held few ended before.well.0 before.well.1 one.ended closes.failed);
     }
 
-pub at_end : (has next : Option (List ℕ)) (end : Bool) → end ≡ true → Ends has next (Ok end) → IsAtEnd next
-at_end has next end is ends = (subst (λ b. Ends has next (Ok b)) is ends).1
-
 -- As much as may be read was read, and one byte more was asked for.
 module _ (m : Message) (holds : List ℕ → List ℕ → Type 0) (had has next : Option (List ℕ)) (sink : Port) (a b c : Bool) (count : ℕ)
     (before : SoFar m holds (over had has a b) sink count) where
-  pub SoFar-ended : (end : Bool) → end ≡ true → Ends has next (Ok end) → c ≡ (b || false) → SoFar m holds (over had next a c) sink count
-  SoFar-ended end is ends well = let none = (subst (λ b. Ends has next (Ok b)) is ends).0 in record {
-    read = before.read;
-    text = before.text;
-    counted = before.counted;
-    within = before.within;
-    given = subst (Consumes had next) (append-nil before.read) (Consumes-trans had has next before.read [] before.given none);
-    written = before.written;
-    held = before.held;
-    well = (well_now b c well ∙ before.well.0, before.well.1);
-  }
+  pub SoFar-ended : (end : Bool) → end ≡ true → Ends has next (Ok end) → c ≡ (b || false) → SoFar m holds (over had next a c) sink count × IsAtEnd next
+  SoFar-ended end is ends well = grind arith
 
   pub IsStreamed-too_long : READ_LIMIT ≤ count → (end : Bool) → end ≡ false → Ends has next (Ok end) → c ≡ (b || false)
       → IsStreamed m (over had next a c) sink (Err faults.ReadTooLong)

@@ -1,5 +1,4 @@
-use Rattle.std.proofs.Common.{[], take, refl, sym, ap, ◌∙◌}
-use Rattle.std.proofs.lemmas.List.{append-nil}
+use Rattle.std.proofs.Common.{[], take, refl, sym, ap, ◌∙◌, append-nil}
 use Rattle.kd_form.proofs.form_reader.read_last.Goals as goal
 
 pub returns-in-Ok : goal.returns-in-Ok

@@ -1,18 +1,17 @@
 use Rattle.std.proofs.Common.{refl, sym, ◌∙◌}
 use Rattle.std.proofs.lemmas.Bool.{false≢true}
 use Rattle.kd_form.specs.Streams.{Off}
-use Rattle.kd_form.proofs.Standing.{fails, own, of_orders, off_key_fails}
+use Rattle.kd_form.proofs.Standing.{order_told, off_key}
 use Rattle.kd_form.proofs.sending.send_stream.Goals as goal
 
 pub returns-in-Err-clause-streamed : goal.returns-in-Err-clause-streamed
-returns-in-Err-clause-streamed g c =
-    Off c.in-Err.fault c.in-Err.ensures refl (record { has = refl; well = refl }) (record { has = refl; well = refl })
+returns-in-Err-clause-streamed g c = Off c.in-Err.fault c.in-Err.ensures refl (record { has = refl; well = refl }) (record { has = refl; well = refl })
 
 pub returns-in-Err-clause-failed : goal.returns-in-Err-clause-failed
-returns-in-Err-clause-failed g c = off_key_fails _ _ _ _ c.in-Err.fault c.in-Err.ensures (refl, refl)
+returns-in-Err-clause-failed g c = off_key _ _ _ _ c.in-Err.fault c.in-Err.ensures (refl, refl)
 
 pub returns-in-Ok-clause-failed : goal.returns-in-Ok-clause-failed
-returns-in-Ok-clause-failed g c = fails _ _ _ _ _ _ (of_orders c.args.day.now) c.stream.ensures.answers
+returns-in-Ok-clause-failed g c = (order_told _ _ _ _ _ _ c.stream.ensures.answers).0
 
 pub returns-in-Ok-clause-untouched : goal.returns-in-Ok-clause-untouched
-returns-in-Ok-clause-untouched g c = λ off. absurd (false≢true (sym (own _ _ _ _ _ _ (of_orders c.args.day.now) c.stream.ensures.answers) ∙ off))
+returns-in-Ok-clause-untouched g c = λ off. absurd (false≢true (sym (order_told _ _ _ _ _ _ c.stream.ensures.answers).1 ∙ off))

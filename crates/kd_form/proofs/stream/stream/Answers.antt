@@ -1,5 +1,5 @@
 use Rattle.std.proofs.Common.{refl}
-use Rattle.kd_form.proofs.Streaming.{SoFar-nil, SoFar-read, SoFar-at_end, SoFar-ended, at_end, IsStreamed-stopped, IsStreamed-closed, IsStreamed-too_long}
+use Rattle.kd_form.proofs.Streaming.{SoFar-nil, SoFar-read, SoFar-ended, IsStreamed-stopped, IsStreamed-closed, IsStreamed-too_long}
 use Rattle.kd_form.proofs.stream.stream.Goals as goal
 
 pub loop-read-init : goal.loop-read-init
@@ -7,11 +7,11 @@ loop-read-init g c = SoFar-nil _ _ _ _ _ _ c.start-reader.ensures
 
 pub returns-in-Ok-eq0 : goal.returns-in-Ok-eq0
 returns-in-Ok-eq0 g c =
-    IsStreamed-closed _ _ _ _ _ _ _ _ _ _ _ (SoFar-read _ _ _ _ _ _ _ _ _ _ _ _ _ _ _ _ _ c.loop-read.invariant refl _ c.in-Ok-eq0.ensures)
-    (SoFar-at_end _ _ _ _ _ _ _ _ _ _ _ _ _ _ _ _ _ c.loop-read.invariant refl _ c.in-Ok-eq0.field-0-test c.in-Ok-eq0.ensures) c.close.ensures
+    IsStreamed-closed _ _ _ _ _ _ _ _ _ _ _ (SoFar-read _ _ _ _ _ _ _ _ _ _ _ _ _ _ _ _ _ c.loop-read.invariant refl _ c.in-Ok-eq0.ensures).0
+    ((SoFar-read _ _ _ _ _ _ _ _ _ _ _ _ _ _ _ _ _ c.loop-read.invariant refl _ c.in-Ok-eq0.ensures).1 c.in-Ok-eq0.field-0-test) c.close.ensures
 
 pub loop-read-preserved : goal.loop-read-preserved
-loop-read-preserved g c = SoFar-read _ _ _ _ _ _ _ _ _ _ _ _ _ _ _ _ _ c.loop-read.invariant refl c.in-Ok.count c.in-Ok.ensures
+loop-read-preserved g c = (SoFar-read _ _ _ _ _ _ _ _ _ _ _ _ _ _ _ _ _ c.loop-read.invariant refl c.in-Ok.count c.in-Ok.ensures).0
 
 pub returns-in-Err : goal.returns-in-Err
 returns-in-Err g c = IsStreamed-stopped _ _ _ _ _ _ _ _ _ _ _ _ _ _ _ _ _ c.loop-read.invariant refl c.in-Err.stop c.from.result c.from.ensures c.in-Err.ensures
@@ -19,8 +19,9 @@ returns-in-Err g c = IsStreamed-stopped _ _ _ _ _ _ _ _ _ _ _ _ _ _ _ _ _ c.loop
 pub returns-in-Ok-true : goal.returns-in-Ok-true
 returns-in-Ok-true g c =
     IsStreamed-closed _ _ _ _ _ _ _ _ _ _ _
-    (SoFar-ended _ _ _ _ _ _ _ _ _ _ c.loop-read.invariant _ c.in-Ok-true.field-0-test c.in-Ok-true.ensures.ends c.in-Ok-true.ensures.failed)
-    (at_end _ _ _ c.in-Ok-true.field-0-test c.in-Ok-true.ensures.ends) c.close-in-Ok-true.ensures
+    (SoFar-ended _ _ _ _ _ _ _ _ _ _ c.loop-read.invariant _ c.in-Ok-true.field-0-test c.in-Ok-true.ensures.ends c.in-Ok-true.ensures.failed).0
+    (SoFar-ended _ _ _ _ _ _ _ _ _ _ c.loop-read.invariant _ c.in-Ok-true.field-0-test c.in-Ok-true.ensures.ends c.in-Ok-true.ensures.failed).1
+    c.close-in-Ok-true.ensures
 
 pub returns-in-Ok-false : goal.returns-in-Ok-false
 returns-in-Ok-false g c =

@@ -1,16 +1,14 @@
-use Rattle.std.proofs.Common.{[], ◌∷◌, ◌++◌, ◌+◌, refl, sym, ap, subst, ◌∙◌}
-use Rattle.std.specs.Prelude.{All}
-use Rattle.kd_form.specs.Keys.{AreKeys}
+use Rattle.std.proofs.Common.{[], ◌∷◌, ◌++◌, ◌+◌, refl, sym, ap, ◌∙◌, append-nil}
 use Rattle.kd_form.specs.declared.order_reader.Stage.TheVariants as stages
 use Rattle.kd_form.specs.Sending.{letter_of_byte, text_letters}
-use Rattle.kd_form.proofs.OrderSteps.{in_head, in_text, head_held, head_refused, text_held, byte_refused, counted_on, both_none, taken_as, taken_by, suited_keys, letters_short, text_begins, text_letter, text_gap}
+use Rattle.kd_form.proofs.OrderSteps.{in_head, in_text, head_held, head_refused, text_held, byte_refused, counted_on, letters_short, text_begins, text_more}
 use Rattle.kd_form.proofs.order_reader.OrderReaderMessageReader.feed.Goals as goal
 
 pub check_keys-requires-clause-keys : goal.check_keys-requires-clause-keys
 check_keys-requires-clause-keys c =
     let room = c.requires.room in
     let here = in_head c.args.day.now c.args.self.now room.bytes room.text room.held.is c.in-Head.is in
-    subst (All (AreKeys c.args.day.now)) (sym c.keys.ensures) (c.in-Text-take.ensures room.bytes here.head).is_head.of_the_day
+    rw c.keys.ensures (c.in-Text-take.ensures room.bytes here.1).is_head.of_the_day
 
 pub returns-then-not-is_text_byte : goal.returns-then-not-is_text_byte
 returns-then-not-is_text_byte c bytes text held =
@@ -22,7 +20,7 @@ pub take-requires-in-Some-clause-keys : goal.take-requires-in-Some-clause-keys
 take-requires-in-Some-clause-keys c =
     let room = c.requires.room in
     let here = in_text c.args.day.now c.args.self.now room.bytes room.text room.held.is c.in-Text.is in
-    suited_keys c.args.day.now c.args.self.now.head.keys.items _ c.args.self.now.parts room.bytes room.text c.keys-in-Some.ensures here.1
+    rw c.keys-in-Some.ensures (record { of_the_day = here.1.is_order.is_head.of_the_day; suited = here.1.suited; few = here.1.is_order.is_head.few })
 
 pub take-requires-in-Some-clause-taken : goal.take-requires-in-Some-clause-taken
 take-requires-in-Some-clause-taken c =
@@ -30,7 +28,7 @@ take-requires-in-Some-clause-taken c =
     let here = in_text c.args.day.now c.args.self.now room.bytes room.text room.held.is c.in-Text.is in (
       text_letters c.args.day.now here.1.text,
       room.text,
-      taken_as _ _ _ _ _ _ c.keys-in-Some.ensures here.1.taken,
+      rw c.keys-in-Some.ensures here.1.taken,
       letters_short c.args.day.now c.args.self.now.head.keys.items c.args.self.now.parts room.bytes room.text here.1 room.within,
     )
 
@@ -38,39 +36,39 @@ pub returns-in-Open : goal.returns-in-Open
 returns-in-Open c bytes text held =
     let here = in_head c.args.day.now c.args.self.now bytes text held.is c.in-Head.is in
     head_held c.texts_tell_first_parts.ensures c.args.day.now _ (bytes ++ c.args.byte ∷ []) (text ++ c.args.made.now.items) c.in-Head.is
-    (counted_on c.args.self.now.read bytes c.args.byte here.counted) (c.in-Open.ensures bytes here.head)
-    (both_none text c.args.made.now.items here.nothing c.requires.empty) here.fresh
+    (counted_on c.args.self.now.read bytes c.args.byte here.0) (c.in-Open.ensures bytes here.1) (cc (here.2, c.requires.empty)) here.3
 
 pub returns-in-Bad : goal.returns-in-Bad
 returns-in-Bad c bytes text held =
     let here = in_head c.args.day.now c.args.self.now bytes text held.is c.in-Head.is in
-    head_refused c.texts_tell_first_parts.ensures c.args.day.now (bytes ++ c.args.byte ∷ []) text _ (c.in-Bad.ensures bytes here.head)
-    (counted_on c.args.self.now.read bytes c.args.byte here.counted) here.nothing
+    head_refused c.texts_tell_first_parts.ensures c.args.day.now (bytes ++ c.args.byte ∷ []) text _ (c.in-Bad.ensures bytes here.1)
+    (counted_on c.args.self.now.read bytes c.args.byte here.0) here.2
 
 pub returns-in-Text-take : goal.returns-in-Text-take
 returns-in-Text-take c bytes text held =
     let here = in_head c.args.day.now c.args.self.now bytes text held.is c.in-Head.is in
     text_begins c.texts_tell_first_parts.ensures c.args.day.now
     (record { read = c.args.self.now.read + 1; stage = stages.Text; head = c.take.new.self; parts = c.args.self.now.parts })
-    c.keys.result.now (bytes ++ c.args.byte ∷ []) text (text ++ c.args.made.now.items) c.check_keys.result refl
-    (counted_on c.args.self.now.read bytes c.args.byte here.counted) (c.in-Text-take.ensures bytes here.head) here.fresh here.nothing
-    (both_none text c.args.made.now.items here.nothing c.requires.empty) c.keys.ensures c.check_keys.ensures
+    (bytes ++ c.args.byte ∷ []) text (text ++ c.args.made.now.items) c.check_keys.result refl
+    (counted_on c.args.self.now.read bytes c.args.byte here.0) (c.in-Text-take.ensures bytes here.1) here.3 here.2
+    (cc (here.2, c.requires.empty)) (rw c.keys.ensures at c.check_keys.ensures)
 
 pub returns-in-Some : goal.returns-in-Some
 returns-in-Some c bytes text held =
     let here = in_text c.args.day.now c.args.self.now bytes text held.is c.in-Text.is in
     text_held c.texts_tell_first_parts.ensures c.args.day.now _ (bytes ++ c.args.byte ∷ []) (text ++ c.take-in-Some.new.made.items) c.in-Text.is
     (counted_on c.args.self.now.read bytes c.args.byte here.0)
-    (text_letter c.args.day.now c.args.self.now.head.keys.items c.args.self.now.parts c.take-in-Some.new.self bytes text (text ++ c.take-in-Some.new.made.items)
-    c.args.byte c.in-Some.letter here.1 (sym c.is_text_byte.ensures ∙ c.if-not-is_text_byte.false)
+    (text_more c.args.day.now c.args.self.now.head.keys.items c.args.self.now.parts c.take-in-Some.new.self bytes text (text ++ c.take-in-Some.new.made.items)
+    c.args.byte _ here.1 (sym c.is_text_byte.ensures ∙ c.if-not-is_text_byte.false)
     (ap (λ b. letter_of_byte b c.args.byte) (sym c.blank_of.ensures) ∙ sym c.letter_of_byte.ensures ∙ c.in-Some.is)
-    (taken_by _ _ _ _ _ _ c.keys-in-Some.ensures (c.take-in-Some.ensures _ _ (taken_as _ _ _ _ _ _ c.keys-in-Some.ensures here.1.taken))))
+    (rw c.keys-in-Some.ensures at (c.take-in-Some.ensures (text_letters c.args.day.now here.1.text) text (rw c.keys-in-Some.ensures here.1.taken))))
 
 pub returns-in_default : goal.returns-in_default
 returns-in_default c bytes text held =
     let here = in_text c.args.day.now c.args.self.now bytes text held.is c.in-Text.is in
     text_held c.texts_tell_first_parts.ensures c.args.day.now _ (bytes ++ c.args.byte ∷ []) (text ++ c.args.made.now.items) c.in-Text.is
     (counted_on c.args.self.now.read bytes c.args.byte here.0)
-    (text_gap c.args.day.now c.args.self.now.head.keys.items c.args.self.now.parts bytes text c.args.made.now.items c.args.byte here.1
+    (text_more c.args.day.now c.args.self.now.head.keys.items c.args.self.now.parts _ bytes text (text ++ c.args.made.now.items) c.args.byte _ here.1
     (sym c.is_text_byte.ensures ∙ c.if-not-is_text_byte.false)
-    (ap (λ b. letter_of_byte b c.args.byte) (sym c.blank_of.ensures) ∙ sym c.letter_of_byte.ensures ∙ c.in_default.is) c.requires.empty)
+    (ap (λ b. letter_of_byte b c.args.byte) (sym c.blank_of.ensures) ∙ sym c.letter_of_byte.ensures ∙ c.in_default.is)
+    (rw (c.requires.empty, append-nil text, append-nil (text_letters c.args.day.now here.1.text)) here.1.taken))

@@ -1,7 +1,6 @@
-use Rattle.std.proofs.Common.{◌≡◌, ℕ, ◌<◌, ◌++◌, ◌∷◌, List, [], suc, length, take, drop, get_or, sym, ap, ◌∙◌, refl, append_assoc, take-append-drop, arith}
+use Rattle.std.proofs.Common.{[], ◌≡◌, ℕ, ◌<◌, ◌++◌, ◌∷◌, List, suc, length, take, drop, get_or, sym, ap, ◌∙◌, refl, append_assoc, take-append-drop, arith, drop-cons}
 use Rattle.std.proofs.lemmas.List.{take_more, take_all}
-use Rattle.std.proofs.Math.Seq.{drop-cons}
-use Rattle.kd_form.proofs.Streaming.{fed_none, fed_next, fed_whole, fed_up_to, room_less, room_for, still_well, well_now, flag_since}
+use Rattle.kd_form.proofs.Streaming.{fed_none, fed_next, fed_whole, fed_up_to, room_less, room_for, still_well, well_now}
 use Rattle.kd_form.proofs.stream.piece.feed_all.Goals as goal
 
 up_to : (bytes : List ℕ) (place : ℕ) → place < length bytes → take place bytes ++ get_or bytes place 0 ∷ [] ++ drop (suc place) bytes ≡ bytes
@@ -17,7 +16,7 @@ returns-in-Err-clause-fed g c =
     (fed_up_to _ _ _ _ _ _ _ (fed_next _ _ _ _ _ _ _ _ _ _ _ _ _ c.loop-byte.invariant.fed c.in-Err.ensures.fed))
 
 pub returns-in-Err-clause-failed : goal.returns-in-Err-clause-failed
-returns-in-Err-clause-failed g c = flag_since _ _ _ _ c.loop-byte.invariant.well c.in-Err.ensures.failed
+returns-in-Err-clause-failed g c = rw c.loop-byte.invariant.well at c.in-Err.ensures.failed
 
 pub loop-byte-preserved : goal.loop-byte-preserved
 loop-byte-preserved g c = record {

@@ -1,5 +1,4 @@
-use Rattle.std.proofs.Common.{refl, sym, ap, subst, ◌∙◌, get_or}
-use Rattle.std.specs.Prelude.{codes}
+use Rattle.std.proofs.Common.{refl, sym, ap, subst, ◌∙◌, get_or, codes}
 use Rattle.std.proofs.lemmas.Bool.{false≢true, eqb-true}
 use Rattle.kd_form.specs.Order.{IsEnded, IsKeyLine}
 use Rattle.kd_form.specs.KeyPatterns.{IsAnyKeyLine}
