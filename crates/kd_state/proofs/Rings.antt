@@ -1,8 +1,9 @@
 -- The letters and the pins of the six pin wheels.
-use Rattle.std.proofs.Common.{◌≡◌, ℕ, zero, suc, ◌+◌, ◌-◌, ◌<◌, ◌≤◌, nat_eq, true, false, List, length, get_or, Contains, Decides, Some, refl, sym, ◌∙◌, inl, inr, subst, arith, slice_index}
+use Rattle.std.proofs.Common.{◌≡◌, ℕ, zero, suc, ◌+◌, ◌-◌, ◌<◌, ◌≤◌, nat_eq, true, false, List, length, get_or, Contains, Decides, Some, refl, sym, ap, ◌∙◌, inl, inr, subst, arith, slice_index}
 use Rattle.std.specs.List.{position_or_len}
-use Rattle.std.specs.Option.{is_some}
-use Rattle.std.proofs.lemmas.Bool.{cases_Bool, lt-ltb, le-ltb, both_ways}
+use Rattle.std.specs.Option.{is_some, unwrap_or}
+use Rattle.std.proofs.lemmas.Bool.{cases_Bool, lt-ltb, le-ltb, both_ways, eqb-true, false≢true}
+use Rattle.std.proofs.lemmas.List.Quantifiers.{position-Some}
 use Rattle.std.proofs.lemmas.List.{get_or_default}
 use Rattle.std.proofs.lemmas.Bool.Decides.{Decides-by_or, Decides-eqb}
 use Rattle.std.proofs.lemmas.List.Elements.{Decides-contains}
@@ -12,7 +13,7 @@ use Rattle.kd_pins.specs.declared.pin_set.PinSet.{PinSet}
 use Rattle.kd_state.specs.Box.{numbered}
 use Rattle.kd_state.specs.Machine.{HasAllPins, AreOnWheels}
 use Rattle.kd_state.specs.Setting.{has_letter}
-use Rattle.kd_state.proofs.Slots.{is_numbered, numbered_at}
+use Rattle.kd_state.proofs.Slots.{is_numbered, numbered_at, value_of}
 use Rattle.kd_state.proofs.Wheels.{first_within, first_nowhere}
 use Rattle.kd_drum.specs.Converter.{OnWheels}
 
@@ -29,6 +30,16 @@ is_some-place_on letters letter = elim (cases_Bool (has_letter letters letter)) 
       let past : length letters ≤ position_or_len (λ other. nat_eq other letter) letters = omega (arith, first_nowhere (λ other. nat_eq other letter) letters e) in
       rw (le-ltb _ _ past) (sym e)
 ]
+
+pub place_there : (letters : List ℕ) (letter : ℕ) → Contains letters letter → place_on letters letter ≡ Some (unwrap_or (place_on letters letter) 0)
+place_there letters letter h =
+    value_of (place_on letters letter) 0 (λ none. false≢true (sym (ap is_some none) ∙ is_some-place_on letters letter ∙ (has_letter-Decides letters letter).1 h))
+
+pub only_place : (letters : List ℕ) (letter other place : ℕ) → place_on letters letter ≡ Some place → place_on letters other ≡ Some place → other ≡ letter
+only_place letters letter other place e f =
+    let here = position-Some (λ (l : ℕ). nat_eq l letter) letters place 0 e in
+    let there = position-Some (λ (l : ℕ). nat_eq l other) letters place 0 f in
+    sym (eqb-true _ _ there.1) ∙ eqb-true _ _ here.1
 
 -- each of six letters is on its wheel
 pub each_on_wheel : (letters : List ℕ) → length letters ≡ 6 → ((place : ℕ) → place < length letters → Contains (ring_of (place + 1)) (get_or letters place 0)) → AreOnWheels letters

@@ -1,12 +1,12 @@
 -- What stands in the slots, and things counted from 1.
-use Rattle.std.proofs.Common.{◌≡◌, ◌≢◌, ℕ, zero, suc, ◌+◌, ◌-◌, ◌<◌, ◌≤◌, inl, inr, List, [], ◌∷◌, length, take, get_or, set, Contains, Option, Some, None, IfSome, slice_get, refl, sym, ap, ◌∙◌, subst, arith, add-one}
-use Rattle.std.proofs.lemmas.Bool.{cases_eq}
+use Rattle.std.proofs.Common.{◌≡◌, ◌≢◌, ℕ, zero, suc, ◌+◌, ◌-◌, ◌<◌, ◌≤◌, false, inl, inr, List, [], ◌∷◌, length, take, get_or, set, Contains, Option, Some, None, IfSome, slice_get, refl, sym, ap, ◌∙◌, subst, arith, add-one}
+use Rattle.std.proofs.lemmas.Bool.{cases_eq, false≢true}
 use Rattle.std.proofs.lemmas.List.{get_or-take, length-take, get_or_default}
 use Rattle.std.proofs.lemmas.Option.{slice_get_within, slice_get-get_or, get_or_from_slice_get, same_Some}
 use Rattle.kd_tables.specs.declared.model.Model.{Model}
 use Rattle.kd_tables.specs.declared.wheel.Wheel.{Wheel}
 use Rattle.kd_tables.specs.Tables.{box_of}
-use Rattle.std.specs.Option.{SomeIff, IsSome}
+use Rattle.std.specs.Option.{SomeIff, IsSome, is_none, unwrap_or}
 use Rattle.kd_state.proofs.Wheels.{placed}
 use Rattle.kd_state.specs.Box.{numbered}
 use Rattle.kd_state.specs.Machine.{StandsAt, AreAllowed, AreApart}
@@ -16,13 +16,25 @@ pub record IsNumbered {X : Type 0} (xs : List X) (number : ℕ) (x : X) : Type 0
   pub first : 1 ≤ number
   pub last : number ≤ length xs
   pub here : slice_get xs (number - 1) ≡ Some x
+  pub is : numbered xs number ≡ Some x
 
 pub is_numbered : {X : Type 0} (xs : List X) (number : ℕ) (x : X) → numbered xs number ≡ Some x → IsNumbered xs number x
 is_numbered xs zero x h = cc
 is_numbered xs (suc place) x h =
     let within : place < length xs = slice_get_within xs place x h in
     let here : suc place - 1 ≡ place = omega arith in
-    record { first = omega arith; last = omega arith; here = rw here h }
+    record { first = omega arith; last = omega arith; here = rw here h; is = h }
+
+-- what is there
+pub not_none : {X : Type 0} (found : Option X) → is_none found ≡ false → found ≢ None
+not_none found some none = false≢true (sym some ∙ ap is_none none)
+
+pub value_of : {X : Type 0} (found : Option X) (d : X) → found ≢ None → found ≡ Some (unwrap_or found d)
+value_of None d some = absurd (some refl)
+value_of (Some x) d some = refl
+
+pub stands : {X : Type 0} (xs : List X) (number : ℕ) (d : X) → numbered xs number ≢ None → IsNumbered xs number (unwrap_or (numbered xs number) d)
+stands xs number d some = is_numbered xs number (unwrap_or (numbered xs number) d) (value_of (numbered xs number) d some)
 
 pub numbered_at : {X : Type 0} (xs : List X) (place : ℕ) → numbered xs (place + 1) ≡ slice_get xs place
 numbered_at xs place = rw add-one refl

@@ -1,9 +1,12 @@
 -- Two lists that are sorted, and hold the same elements as often, are one list.
 use Rattle.std.specs.Prelude.{◌≡◌, ℕ, ◌+◌, ◌<◌, Bool, true, false, if◌then◌else◌, List, [], ◌∷◌, length, count_by, slice_index_or, IsPermutation, IsSortedBy}
 use Rattle.std.specs.Cmp.{IsStrictWeakOrder}
-use Rattle.std.proofs.Common.{suc, refl, sym, ap, subst, arith}
+use Rattle.std.proofs.Common.{suc, refl, sym, ap, ◌∙◌, ◌↔◌, subst, arith}
 use Rattle.std.proofs.lemmas.List.Sums.{sum_by-cons}
-use Rattle.std.proofs.lemmas.List.Sorted.{sorted_far, sum_by-IsPermutation}
+use Rattle.std.proofs.lemmas.List.Sorted.{sorted_far, sum_by-IsPermutation, IsPermutation-sym, IsPermutation-trans}
+use Rattle.std.specs.Bool.{Decides}
+use Rattle.std.specs.Cmp.Lexicographic.{pointwise_decides}
+use lib.Pointwise.{pointwise}
 
 -- 1 where it holds
 abbrev pub once : Bool → ℕ
@@ -47,6 +50,13 @@ module _ {X : Type 0} (lt : X → X → Bool) (order : IsStrictWeakOrder lt) (sa
       (λ p. omega (arith, counts p, count_by-cons p x xs, count_by-cons p y ys, ap (λ z. once (p z)) first)) in
       cc
 
-  -- the same of a list and its elements in another order
-  pub sorted_permutation : (xs ys : List X) → IsSortedBy lt xs → IsSortedBy lt ys → IsPermutation xs ys → xs ≡ ys
-  sorted_permutation xs ys up rising moved = sorted_alike xs ys up rising (λ p. sym (sum_by-IsPermutation (λ y. once (p y)) xs ys moved))
+  -- so lists have the same elements exactly where they are one list once they are sorted
+  pub sorted_tell : (eq : X → X → Bool) → ((x y : X) → Decides (eq x y) (x ≡ y)) → (xs ys up rising : List X) (tested : Bool) → IsPermutation xs up → IsPermutation ys rising
+      → IsSortedBy lt up → IsSortedBy lt rising → tested ≡ pointwise eq up rising → (tested ≡ true) ↔ IsPermutation xs ys
+  sorted_tell eq decides xs ys up rising tested moved other sorted rises is =
+      let decided = pointwise_decides decides up rising in (
+        λ yes. IsPermutation-trans xs up ys moved (subst (λ all. IsPermutation all ys) (sym (decided.0 (sym is ∙ yes))) (IsPermutation-sym ys rising other)),
+        λ same.
+            let across : IsPermutation up rising = IsPermutation-trans up xs rising (IsPermutation-sym xs up moved) (IsPermutation-trans xs ys rising same other) in
+            is ∙ decided.1 (sorted_alike up rising sorted rises (λ p. sym (sum_by-IsPermutation (λ y. once (p y)) up rising across))),
+      )

@@ -14,7 +14,7 @@ use Rattle.kd_state.specs.Laws.{MachinesCanBeTurned}
 use Rattle.kd_state.specs.Machine.{StandsAt, AreApart, AreLetters, AreOnWheels, IsMachine}
 use Rattle.kd_state.specs.TwoCiphers.{IsTurned, seated_wheels}
 use Rattle.kd_state.proofs.Wheels.{places_tell_wheels, placed, place_within}
-use Rattle.kd_state.proofs.Keeping.{with_letters}
+use Rattle.kd_state.proofs.Changing.{with_letters}
 use Rattle.kd_state.proofs.Slots.{set_here, set_other}
 
 -- letters put in their places, one for each wheel
