@@ -1,9 +1,9 @@
 -- The letters in the cables.
-use Rattle.std.proofs.Common.{◌≡◌, ◌↔◌, get_or, ℕ, zero, suc, ◌+◌, ◌<◌, nat_eq, nat_le, Bool, true, false, not, ◌||◌, ◌&&◌, List, [], ◌∷◌, ◌++◌, length, map, set, drop, Option, Some, None, slice_get, refl, sym, ap, ◌∙◌, inl, inr, subst, arith}
+use Rattle.std.proofs.Common.{◌≡◌, ◌↔◌, get_or, ℕ, zero, suc, ◌+◌, ◌<◌, nat_eq, nat_le, true, false, not, ◌&&◌, List, [], ◌∷◌, ◌++◌, length, map, set, drop, Option, Some, None, slice_get, refl, sym, ap, ◌∙◌, subst, arith}
 use Rattle.std.specs.List.{IsDistinct, AllByRecursion}
 use Rattle.std.specs.List.Sorted.{IsPermutation}
-use Rattle.std.specs.Option.{option_to_list, is_none}
-use Rattle.std.proofs.lemmas.Bool.{true≢false, both_ways, cond_both, eqb-true, eqb-false, ne_eqb, eq-eqb, or_parts, or_from, cases_Bool, leb-false, le-leb, and_parts, and_from, not-true}
+use Rattle.std.specs.Option.{is_none}
+use Rattle.std.proofs.lemmas.Bool.{true≢false, cond_both, eqb-true, eq-eqb, or_parts, or_from, leb-false, le-leb, and_parts, and_from, not-true}
 use Rattle.std.proofs.lemmas.Bool.Decides.{nat_tests}
 use Rattle.std.proofs.lemmas.List.{append_assoc, drop_more}
 use Rattle.std.proofs.lemmas.List.Sorted.{IsPermutation-refl, IsPermutation-trans, IsPermutation-append_comm, IsPermutation-append_left, IsPermutation-append, IsPermutation-append_right}

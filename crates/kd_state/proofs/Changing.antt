@@ -1,8 +1,8 @@
 -- What a setting that is carried out makes of a machine: a machine again, in which the readers tell what was set, and all else as before.
-use Rattle.std.proofs.Common.{◌≡◌, ◌≢◌, ◌⊎◌, ◌↔◌, ℕ, zero, suc, ◌+◌, ◌-◌, ◌<◌, ◌≤◌, nat_eq, Bool, true, false, not, List, [], ◌∷◌, length, map, set, find, All, Contains, Option, Some, None, slice_get, refl, sym, ap, ◌∙◌, inl, inr, subst, arith}
+use Rattle.std.proofs.Common.{◌≡◌, ◌≢◌, ◌⊎◌, ◌↔◌, ℕ, zero, suc, ◌+◌, ◌-◌, ◌<◌, ◌≤◌, nat_eq, Bool, true, false, List, [], ◌∷◌, length, map, set, find, All, Contains, Option, Some, None, slice_get, refl, sym, ap, ◌∙◌, inl, inr, subst, arith}
 use Rattle.std.specs.List.{IsDistinct, AllByRecursion}
 use Rattle.std.specs.List.Sorted.{IsPermutation}
-use Rattle.std.specs.Option.{is_none, option_map, option_map_or, option_or, option_and_then, unwrap_or}
+use Rattle.std.specs.Option.{is_none, option_map, option_or, option_and_then, unwrap_or}
 use Rattle.std.proofs.lemmas.Bool.{cases_eq, cases_Bool, both_ways, not-false, false≢true, eqb-false, true_from_ne_false}
 use Rattle.std.proofs.lemmas.Bool.Decides.{nat_tests, not_from_Decides}
 use Rattle.std.proofs.lemmas.List.{length-set, map-set, length-map}
@@ -18,9 +18,9 @@ use Rattle.kd_tables.specs.declared.reflector.Reflector.{Reflector}
 use Rattle.kd_tables.specs.declared.place.Place.{Place}
 use Rattle.kd_tables.specs.declared.lug.Lug.{Lug}
 use Rattle.kd_tables.specs.declared.lug.Lug.TheVariants.{Left, Right}
-use Rattle.kd_tables.specs.Tables.{box_of, slots_of, wheels_for, reflectors_of, IsAllowed}
+use Rattle.kd_tables.specs.Tables.{box_of, wheels_for, reflectors_of, IsAllowed}
 use Rattle.kd_tables.specs.Rings.{ring_of, place_on}
-use Rattle.kd_tables.specs.Places.{place_rank, IsBefore}
+use Rattle.kd_tables.specs.Places.{IsBefore}
 use Rattle.kd_pins.specs.declared.pin_set.PinSet.{PinSet}
 use Rattle.kd_pins.specs.PinWheels.{pins_of}
 use Rattle.kd_state.specs.declared.machine.rotor_parts.RotorParts.{RotorParts}
@@ -31,18 +31,18 @@ use Rattle.kd_state.specs.declared.setting.Setting.{Setting}
 use Rattle.kd_state.specs.declared.setting.Setting.TheVariants.{Pull, Put, Seat, SeatReflector, RingTo, Turn, PinTo, LugTo}
 use Rattle.kd_state.specs.declared.setting.why.Why.{Why}
 use Rattle.kd_state.specs.declared.setting.why.Why.TheVariants.{WouldPass}
-use Rattle.kd_state.specs.Box.{numbered, same_wheel, has_wheel, has_reflector, place_in_box}
+use Rattle.kd_state.specs.Box.{numbered, same_wheel, has_wheel, place_in_box}
 use Rattle.kd_state.specs.Pins.{wheel_pins, pin_at, pin_set, with_pin}
-use Rattle.kd_state.specs.Machine.{cable_letters, plugged_letters, ordered, StandsAt, AreAllowed, AreApart, AreLetters, AreCables, AreOnWheels, HasAllPins, IsLegalRotor, IsLegalPin, IsMachine, cables_ordered}
-use Rattle.kd_state.specs.Setting.{has_letter, cable_at, seated_in, is_plugged, cable_without, cable_with, without, with_letter, with_lug, with_lug_at, lug_place, other_lug, other_place, is_at, lies_beyond, reasons, why_refused, changed, Carries}
-use Rattle.kd_state.specs.Changes.{Thing, TheSlot, TheReflector, TheRing, TheLetter, TheCable, ThePin, TheShown, TheBar, IsKept, SetsOnly, Turns, TakesOut, PutsIn, MovesLug, Makes, IsSeatOf}
+use Rattle.kd_state.specs.Machine.{cable_letters, plugged_letters, ordered, StandsAt, AreLetters, AreCables, IsLegalRotor, IsLegalPin, IsMachine, cables_ordered}
+use Rattle.kd_state.specs.Setting.{cable_at, cable_without, cable_with, without, with_letter, with_lug, with_lug_at, lug_place, other_lug, is_at, lies_beyond, reasons, why_refused, changed}
+use Rattle.kd_state.specs.Changes.{Thing, TheSlot, TheReflector, TheRing, TheLetter, TheCable, ThePin, TheShown, TheBar, IsKept, SetsOnly, Turns, MovesLug, Makes, IsSeatOf}
 use Rattle.kd_state.specs.Laws.{SettingsAreTold, SettingsKeepMachines}
 use Rattle.kd_state.specs.Line.{IsInRange}
 use Rattle.kd_state.proofs.Cables.{all_ordered, all_ordered_move, all_ordered_again, ordered_again, without_ordered, without_moves, with_moves, set_moves, eqb_flips, free_of_absent}
 use Rattle.kd_state.proofs.DayPairs.{of_one}
 use Rattle.kd_state.proofs.Rings.{has_letter-Decides, place_there, only_place}
 use Rattle.kd_state.proofs.Slots.{stands, not_none, set_here, set_other, numbered_here, numbered_other, seated_in_box}
-use Rattle.kd_state.proofs.Wheels.{places_tell_wheels, has_wheel-Decides, has_reflector-Decides, same_wheel-Decides, same_wheel_self, same_wheel_differs, lacks_wheel, placed, place_within, place_nowhere}
+use Rattle.kd_state.proofs.Wheels.{places_tell_wheels, has_wheel-Decides, has_reflector-Decides, same_wheel-Decides, same_wheel_self, same_wheel_differs, placed, place_within, place_nowhere}
 
 -- ---- reasons, and machines that differ in one thing
 

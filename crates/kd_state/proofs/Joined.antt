@@ -1,5 +1,5 @@
 -- When a cable's letters are a pair's.
-use Rattle.std.specs.Prelude.{◌≡◌, ◌↔◌, ℕ, Bool, true, List, length, [], ◌∷◌, Contains, Option, Some, None}
+use Rattle.std.specs.Prelude.{◌≡◌, ◌↔◌, ℕ, Bool, true, List, length, [], ◌∷◌, Contains, Option, None}
 use Rattle.std.proofs.Common.{refl, sym, subst, inl, inr, arith}
 use Rattle.kd_state.specs.Machine.{cable_letters}
 use Rattle.kd_state.specs.OnKey.{AreTheLetters, Joins, SameLetters}
@@ -15,14 +15,14 @@ in_order a b pair (inr same) letter =
     subst (λ (letters : List ℕ). Contains (a ∷ b ∷ []) letter ↔ Contains letters letter) (λ i. same.0 i ∷ same.1 i ∷ []) (other_order a b letter, other_order b a letter)
 
 -- a letter alone, as two that are alike
-doubled : (a : ℕ) → SameLetters (a ∷ []) (a ∷ a ∷ [])
+pub doubled : (a : ℕ) → SameLetters (a ∷ []) (a ∷ a ∷ [])
 doubled a letter = (
   λ there. (0, omega arith, sym (of_one a letter there)),
   λ there. (0, omega arith, sym (elim (of_two a a letter there) [ inl is ↦ is | inr is ↦ is ])),
 )
 
 -- a cable with these letters joins the pair if they are the pair's
-joins_letters : (cable ends : Option ℕ × Option ℕ) (pair : ℕ × ℕ) (a b : ℕ) (tested : Bool) → cable.0 ≡ ends.0 → cable.1 ≡ ends.1 → SameLetters (cable_letters ends) (a ∷ b ∷ [])
+pub joins_letters : (cable ends : Option ℕ × Option ℕ) (pair : ℕ × ℕ) (a b : ℕ) (tested : Bool) → cable.0 ≡ ends.0 → cable.1 ≡ ends.1 → SameLetters (cable_letters ends) (a ∷ b ∷ [])
     → ((tested ≡ true) ↔ AreTheLetters a b pair) → (tested ≡ true) ↔ Joins cable pair
 joins_letters cable ends pair a b tested first second same tells =
     let letters : SameLetters (cable_letters cable) (a ∷ b ∷ []) = subst (λ (c : Option ℕ × Option ℕ). SameLetters (cable_letters c) (a ∷ b ∷ [])) (λ i. (sym first i, sym second i)) same in (
@@ -31,18 +31,6 @@ joins_letters cable ends pair a b tested first second same tells =
           record { letters = λ x. (λ there. (order x).0 ((letters x).0 there), λ there. (letters x).1 ((order x).1 there)) },
       λ joined. tells.1 (same_two a b pair (λ x. (λ there. (joined.letters x).0 ((letters x).1 there), λ there. (letters x).0 ((joined.letters x).1 there)))),
     )
-
-pub joins_two : (cable : Option ℕ × Option ℕ) (pair : ℕ × ℕ) (a b : ℕ) (tested : Bool) → cable.0 ≡ Some a → cable.1 ≡ Some b
-    → ((tested ≡ true) ↔ AreTheLetters a b pair) → (tested ≡ true) ↔ Joins cable pair
-joins_two cable pair a b tested first second = joins_letters cable (Some a, Some b) pair a b tested first second (λ x. (λ there. there, λ there. there))
-
-pub joins_left : (cable : Option ℕ × Option ℕ) (pair : ℕ × ℕ) (a : ℕ) (tested : Bool) → cable.0 ≡ Some a → cable.1 ≡ None
-    → ((tested ≡ true) ↔ AreTheLetters a a pair) → (tested ≡ true) ↔ Joins cable pair
-joins_left cable pair a tested first second = joins_letters cable (Some a, None) pair a a tested first second (doubled a)
-
-pub joins_right : (cable : Option ℕ × Option ℕ) (pair : ℕ × ℕ) (a : ℕ) (tested : Bool) → cable.0 ≡ None → cable.1 ≡ Some a
-    → ((tested ≡ true) ↔ AreTheLetters a a pair) → (tested ≡ true) ↔ Joins cable pair
-joins_right cable pair a tested first second = joins_letters cable (None, Some a) pair a a tested first second (doubled a)
 
 pub joins_none : (cable : Option ℕ × Option ℕ) (pair : ℕ × ℕ) → cable.0 ≡ None → cable.1 ≡ None → Joins cable pair → ⊥
 joins_none cable pair first second joined =

@@ -1,5 +1,5 @@
 -- The key of a machine that is on the key of a day, and its cipher.
-use Rattle.std.proofs.Common.{◌≡◌, ℕ, ◌+◌, ◌-◌, ◌%◌, Bool, List, map, filter_map, Some, refl, sym, ap, ◌∙◌, subst, ◌≤◌, min, max, ◌||◌, cond, [], ◌∷◌, inl, inr, arith}
+use Rattle.std.proofs.Common.{◌≡◌, ℕ, ◌+◌, ◌-◌, ◌%◌, Bool, List, map, filter_map, Some, refl, sym, ap, ◌∙◌, subst, ◌≤◌, min, max, ◌||◌, [], ◌∷◌, inl, inr, arith}
 use Rattle.std.specs.Prelude.{IsPermutation}
 use Rattle.std.specs.List.{enumerate_from, count_by}
 use Rattle.std.proofs.lemmas.List.Elements.{recursion_from_All}
@@ -19,7 +19,7 @@ use Rattle.kd_state.specs.Laws.{TurnedEngineIsTheTurnedMachine, ReadingIsReady, 
 use Rattle.kd_state.specs.Machine.{IsMachine, AreCables, ring_at, letter_at}
 use Rattle.kd_state.specs.OnKey.{OnKey, IsRotorOnKey, IsPinOnKey}
 use Rattle.kd_state.specs.SheetDay.{RotorDay, Day, OfRotors, OfPins, IsLegalDay, IsLegalRotorDay}
-use Rattle.kd_state.specs.TwoCiphers.{EngineKey, OfWheels, cipher, key_with_window, IsRotorReady, window_of, plugged_pairs, physical_key, physical_cipher, sheet_key, IsTurned}
+use Rattle.kd_state.specs.TwoCiphers.{EngineKey, OfWheels, cipher, key_with_window, IsRotorReady, window_of, plugged_pairs, physical_key, physical_cipher, sheet_key}
 use Rattle.kd_state.proofs.DayPairs.{whole_cables, pairs_joined, no_letter_twice}
 use Rattle.kd_state.proofs.Seating.{all_seated, read_all, wheels_of_slots}
 use Rattle.std.proofs.Math.Bool.{or_comm}
