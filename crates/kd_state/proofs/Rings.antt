@@ -41,18 +41,20 @@ only_place letters letter other place e f =
     let there = position-Some (λ (l : ℕ). nat_eq l other) letters place 0 f in
     sym (eqb-true _ _ there.1) ∙ eqb-true _ _ here.1
 
--- each of six letters is on its wheel
-pub each_on_wheel : (letters : List ℕ) → length letters ≡ 6 → ((place : ℕ) → place < length letters → Contains (ring_of (place + 1)) (get_or letters place 0)) → AreOnWheels letters
-each_on_wheel letters six on = record {
+-- ---- six letters, each on its wheel: wheel by wheel, and place by place
+
+pub are_on_wheels : (letters : List ℕ) → length letters ≡ 6 → OnWheels letters → AreOnWheels letters
+are_on_wheels letters six on = record {
   count = six;
   each = λ wheel letter h.
       let at = is_numbered letters wheel letter h in
-      let within : wheel - 1 < length letters = omega (arith, at.first, at.last) in
-      let back : wheel - 1 + 1 ≡ wheel = omega (arith, at.first) in
-      let here = on (wheel - 1) within in
-      let there : Contains (ring_of wheel) (get_or letters (wheel - 1) 0) = subst (λ (n : ℕ). Contains (ring_of n) (get_or letters (wheel - 1) 0)) back here in
-      subst (λ (x : ℕ). Contains (ring_of wheel) x) (get_or_from_slice_get letters (wheel - 1) letter 0 at.here) there;
+      subst (Contains (ring_of wheel)) (get_or_from_slice_get letters (wheel - 1) letter 0 at.here) (on wheel at.first (omega (arith, at.last)));
 }
+
+pub each_on_wheel : (letters : List ℕ) → length letters ≡ 6 → ((place : ℕ) → place < length letters → Contains (ring_of (place + 1)) (get_or letters place 0)) → AreOnWheels letters
+each_on_wheel letters six on = are_on_wheels letters six (λ wheel low high.
+    let back : wheel - 1 + 1 ≡ wheel = omega arith in
+    subst (λ (n : ℕ). Contains (ring_of n) (get_or letters (wheel - 1) 0)) back (on (wheel - 1) (omega arith)))
 
 -- the letter at a place is on its wheel, and then it isn't off it
 pub on_wheel : (letters : List ℕ) (place d : ℕ) → place < length letters → has_letter (ring_of (place + 1)) (get_or letters place d) ≡ true → Contains (ring_of (place + 1)) (get_or letters place 0)
@@ -75,13 +77,6 @@ all_pins pins a b c d e f (suc (suc (suc (suc zero)))) = d
 all_pins pins a b c d e f (suc (suc (suc (suc (suc zero))))) = e
 all_pins pins a b c d e f (suc (suc (suc (suc (suc (suc zero)))))) = f
 all_pins pins a b c d e f wheel = refl
-
--- ---- six letters, each on its wheel: wheel by wheel, and place by place
-
-pub are_on_wheels : (letters : List ℕ) → length letters ≡ 6 → OnWheels letters → AreOnWheels letters
-are_on_wheels letters six on = each_on_wheel letters six (λ place below.
-    let same : place + 1 - 1 ≡ place = omega arith in
-    subst (λ k. Contains (ring_of (place + 1)) (slice_index letters k)) same (on (place + 1) (omega arith) (omega arith)))
 
 pub stand_on_wheels : (letters : List ℕ) → AreOnWheels letters → OnWheels letters
 stand_on_wheels letters on zero low high = absurd (omega arith)

@@ -60,17 +60,10 @@ pub numbered_other : {X : Type 0} (xs : List X) (number other : ℕ) (x : X) →
 numbered_other xs number zero x first h = refl
 numbered_other xs number (suc at) x first h = set_other xs (number - 1) at x (λ e. h (omega (arith, e, first)))
 
--- a wheel in a slot
-pub stands_within : (slots : List (Option Wheel)) (place : ℕ) (wheel : Wheel) → StandsAt slots place wheel → place < length slots
-stands_within slots place wheel at = slice_get_within slots place (Some wheel) at
-
-pub stands_in : (slots : List (Option Wheel)) (place : ℕ) (seated : Option Wheel) (wheel : Wheel) → place < length slots → seated ≡ get_or slots place seated → StandsAt slots place wheel → seated ≡ Some wheel
-stands_in slots place seated wheel within is at = is ∙ get_or_from_slice_get slots place (Some wheel) seated at
-
 -- the wheels of the first slots
 pub among_first : (slots : List (Option Wheel)) (i place : ℕ) (wheel : Wheel) → place < i → StandsAt slots place wheel → Contains (take i slots) (Some wheel)
 among_first slots i place wheel below at =
-    let within : place < length slots = stands_within slots place wheel at in
+    let within : place < length slots = slice_get_within slots place (Some wheel) at in
     (place, omega (arith, length-take i slots), get_or-take i slots place (Some wheel) below ∙ get_or_from_slice_get slots place (Some wheel) (Some wheel) at)
 
 pub first_among : (slots : List (Option Wheel)) (i : ℕ) (wheel : Wheel) → Contains (take i slots) (Some wheel) → (place : ℕ) × (place < i) × StandsAt slots place wheel
@@ -93,7 +86,7 @@ apart_more slots i within new before place other wheel below beneath at there =
     let alone : (p q : ℕ) → p ≡ i → q < i → StandsAt slots p wheel → StandsAt slots q wheel → ⊥ =
     λ p q e lower here before.
     let now : StandsAt slots i wheel = rw (sym e) here in
-    new_here slots i seated wheel (stands_in slots i seated wheel within is now) new (among_first slots i q wheel lower before)
+    new_here slots i seated wheel (is ∙ get_or_from_slice_get slots i (Some wheel) seated now) new (among_first slots i q wheel lower before)
     in
     elim (cases_eq place i) [
       | inl e ↦ elim (cases_eq other i) [
@@ -106,15 +99,12 @@ apart_more slots i within new before place other wheel below beneath at there =
       ]
     ]
 
-some_new : (slots : List (Option Wheel)) (i : ℕ) (seated : Option Wheel) → slice_get slots i ≡ Some seated → AreApart slots → IfSome seated (λ wheel. ¬ (Contains (take i slots) (Some wheel)))
+pub some_new : (slots : List (Option Wheel)) (i : ℕ) (seated : Option Wheel) → slice_get slots i ≡ Some seated → AreApart slots → IfSome seated (λ wheel. ¬ (Contains (take i slots) (Some wheel)))
 some_new slots i None at h = tt
 some_new slots i (Some wheel) at h = λ contained.
     let earlier = first_among slots i wheel contained in
     let same : earlier.0 ≡ i = h earlier.0 i wheel earlier.2 at in
     omega (arith, earlier.1, same)
-
-pub new_at : (slots : List (Option Wheel)) (i : ℕ) → i < length slots → AreApart slots → IfSome (get_or slots i None) (λ wheel. ¬ (Contains (take i slots) (Some wheel)))
-new_at slots i within h = some_new slots i (get_or slots i None) (slice_get-get_or slots i None within) h
 
 -- a wheel that is seated is one of the box
 pub seated_in_box : (model : Model) (slots : List (Option Wheel)) (slot : ℕ) (wheel : Wheel) → AreAllowed model slots → numbered slots slot ≡ Some (Some wheel) → Contains (box_of model) wheel

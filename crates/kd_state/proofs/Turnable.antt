@@ -68,22 +68,16 @@ each_standing Q [] h = tt
 each_standing Q (None ∷ slots) h = each_standing Q slots (λ k. h (suc k))
 each_standing Q (Some wheel ∷ slots) h = (h zero wheel refl, each_standing Q slots (λ k. h (suc k)))
 
-one_less : (j k : ℕ) → suc j ≡ suc k → j ≡ k
-one_less j k e = omega arith
-
-first_apart : (k : ℕ) → zero ≡ suc k → ⊥
-first_apart k e = omega arith
-
 places_apart : (model : Model) (slots : List (Option Wheel)) → AreApart slots → ((k : ℕ) (wheel : Wheel) → StandsAt slots k wheel → Contains (box_of model) wheel)
     → HavePlaces (place_in_box model) (filter_map (λ seated. seated) slots)
 unfolding HavePlaces
 places_apart model [] apart boxed = tt
-places_apart model (None ∷ slots) apart boxed = places_apart model slots (λ j k wheel a b. one_less j k (apart (suc j) (suc k) wheel a b)) (λ k. boxed (suc k))
+places_apart model (None ∷ slots) apart boxed = places_apart model slots (λ j k wheel a b. omega (arith, apart (suc j) (suc k) wheel a b)) (λ k. boxed (suc k))
 places_apart model (Some wheel ∷ slots) apart boxed = (
   each_standing (λ other. place_in_box model other ≢ place_in_box model wheel) slots
-      (λ k other at e. first_apart k (apart zero (suc k) wheel refl
+      (λ k other at e. omega (arith, apart zero (suc k) wheel refl
       (subst (StandsAt slots k) (places_tell_wheels model other wheel (boxed (suc k) other at) (boxed zero wheel refl) e) at))),
-  places_apart model slots (λ j k other a b. one_less j k (apart (suc j) (suc k) other a b)) (λ k. boxed (suc k)),
+  places_apart model slots (λ j k other a b. omega (arith, apart (suc j) (suc k) other a b)) (λ k. boxed (suc k)),
 )
 
 turned_rotor : (m : RotorParts) (window : List ℕ) → IsMachine (Rotor m) → AreLetters (length (seated_wheels m)) window
@@ -105,14 +99,8 @@ turned_rotor m window machine are =
       }),
     )
 
-turned_drum : (m : PinParts) (window : List ℕ) → IsMachine (Pin m) → AreOnWheels window → (n : Parts) × IsTurned (Pin m) window n × IsMachine n
-turned_drum m window machine on =
-    let legal = machine.legal in (
-      Pin (record m { letters = window }),
-      refl,
-      record { legal = record { pins = legal.pins; letters = on; bars = legal.bars; apart = legal.apart }; cables = refl },
-    )
-
 pub can_be_turned : MachinesCanBeTurned
 can_be_turned (Rotor m) window machine ready is = turned_rotor m window machine is
-can_be_turned (Pin m) window machine ready is = turned_drum m window machine is
+can_be_turned (Pin m) window machine ready is =
+    let l = machine.legal in
+    (Pin (record m { letters = window }), refl, record { legal = record { pins = l.pins; letters = is; bars = l.bars; apart = l.apart }; cables = refl })
