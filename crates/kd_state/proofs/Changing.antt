@@ -299,6 +299,13 @@ for_wheel model letters wheel letter boxed h = (
   ]),
 )
 
+pub with_letters : (m : RotorParts) (rings letters : List ℕ) → IsMachine (Rotor m) → AreLetters (length (box_of m.model)) rings → AreLetters (length (box_of m.model)) letters
+    → IsMachine (Rotor (record m { rings = rings; letters = letters }))
+with_letters m rings letters h are also =
+    let l = h.legal in
+    rotor_machine _ (record { slots = l.slots; allowed = l.allowed; apart = l.apart; reflector = l.reflector; rings = are; letters = also; cables = l.cables })
+    (in_their_order m h.cables)
+
 ring_to : (m : RotorParts) (wheel : Wheel) (letter : ℕ) → IsMachine (Rotor m) → why_refused (Rotor m) (RingTo wheel letter) ≡ None → IsCarried (Rotor m) (RingTo wheel letter)
 ring_to m wheel letter h allowed =
     let l = h.legal in
@@ -316,23 +323,8 @@ ring_to m wheel letter h allowed =
           ];
         },
       );
-      kept = λ within. rotor_machine _ (record {
-        slots = l.slots;
-        allowed = l.allowed;
-        apart = l.apart;
-        reflector = l.reflector;
-        rings = letters_set _ m.rings place letter within l.rings;
-        letters = l.letters;
-        cables = l.cables;
-      }) (in_their_order m h.cables);
+      kept = λ within. with_letters m _ m.letters h (letters_set _ m.rings place letter within l.rings) l.letters;
     }
-
-pub with_letters : (m : RotorParts) (letters : List ℕ) → IsMachine (Rotor m) → AreLetters (length (box_of m.model)) letters
-    → IsMachine (Rotor (record m { letters = letters }))
-with_letters m letters h are =
-    let l = h.legal in
-    rotor_machine _ (record { slots = l.slots; allowed = l.allowed; apart = l.apart; reflector = l.reflector; rings = l.rings; letters = are; cables = l.cables })
-    (in_their_order m h.cables)
 
 is_seated : (held : Option (Option Wheel)) → is_none (unwrap_or held None) ≡ false → (wheel : Wheel) × (held ≡ Some (Some wheel))
 is_seated (Some (Some wheel)) e = (wheel, refl)
@@ -362,7 +354,7 @@ turn m slot letter h allowed =
     in
     record {
       told = subst (λ letters. Turns (Rotor m) slot letter (Rotor (record m { letters = letters }))) (sym turned) tells;
-      kept = λ r. with_letters m _ h (rw turned (letters_set _ m.letters place letter r.1 l.letters));
+      kept = λ r. with_letters m m.rings _ h l.rings (rw turned (letters_set _ m.letters place letter r.1 l.letters));
     }
 
 -- ---- the Converter

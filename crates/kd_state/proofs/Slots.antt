@@ -73,20 +73,14 @@ first_among slots i wheel h =
     (h.0, below, slice_get-get_or slots h.0 (Some wheel) within ∙ ap Some (sym (get_or-take i slots h.0 (Some wheel) below) ∙ h.2))
 
 -- one more slot whose wheel stands in none of the earlier ones
-new_here : (slots : List (Option Wheel)) (i : ℕ) (seated : Option Wheel) (wheel : Wheel) → seated ≡ Some wheel → IfSome seated (λ wheel. ¬ (Contains (take i slots) (Some wheel))) → ¬ (Contains (take i slots) (Some wheel))
-new_here slots i None wheel e h = cc
-new_here slots i (Some other) wheel e h = rw (sym (same_Some other wheel e)) h
-
 pub apart_more : (slots : List (Option Wheel)) (i : ℕ) → i < length slots → IfSome (get_or slots i None) (λ wheel. ¬ (Contains (take i slots) (Some wheel)))
     → ((place other : ℕ) (wheel : Wheel) → place < i → other < i → StandsAt slots place wheel → StandsAt slots other wheel → place ≡ other)
     → (place other : ℕ) (wheel : Wheel) → place < i + 1 → other < i + 1 → StandsAt slots place wheel → StandsAt slots other wheel → place ≡ other
 apart_more slots i within new before place other wheel below beneath at there =
-    let seated = get_or slots i None in
-    let is : seated ≡ get_or slots i seated = get_or_default slots i None seated within in
     let alone : (p q : ℕ) → p ≡ i → q < i → StandsAt slots p wheel → StandsAt slots q wheel → ⊥ =
     λ p q e lower here before.
-    let now : StandsAt slots i wheel = rw (sym e) here in
-    new_here slots i seated wheel (is ∙ get_or_from_slice_get slots i (Some wheel) seated now) new (among_first slots i q wheel lower before)
+    let now : get_or slots i None ≡ Some wheel = get_or_from_slice_get slots i (Some wheel) None (subst (λ k. StandsAt slots k wheel) e here) in
+    subst (λ seated. IfSome seated (λ wheel. ¬ (Contains (take i slots) (Some wheel)))) now new (among_first slots i q wheel lower before)
     in
     elim (cases_eq place i) [
       | inl e ↦ elim (cases_eq other i) [

@@ -93,7 +93,7 @@ turned_rotor m window machine are =
     let shows = read_put place wheels window m.letters are.count below (places_apart m.model m.slots legal.apart boxed) in (
       Rotor (record m { letters = letters }),
       (refl, shows),
-      with_letters m letters machine (record {
+      with_letters m m.rings letters machine legal.rings (record {
         count = length-put place wheels window m.letters ∙ legal.letters.count;
         within = all_put place (λ letter. letter < 26) wheels window m.letters are.within legal.letters.within;
       }),
