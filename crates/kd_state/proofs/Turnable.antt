@@ -75,8 +75,11 @@ places_apart model [] apart boxed = tt
 places_apart model (None ∷ slots) apart boxed = places_apart model slots (λ j k wheel a b. omega (arith, apart (suc j) (suc k) wheel a b)) (λ k. boxed (suc k))
 places_apart model (Some wheel ∷ slots) apart boxed = (
   each_standing (λ other. place_in_box model other ≢ place_in_box model wheel) slots
-      (λ k other at e. omega (arith, apart zero (suc k) wheel refl
-      (subst (StandsAt slots k) (places_tell_wheels model other wheel (boxed (suc k) other at) (boxed zero wheel refl) e) at))),
+      (λ k other at e. omega (
+        arith,
+        apart zero (suc k) wheel refl
+            (subst (StandsAt slots k) (places_tell_wheels model other wheel (boxed (suc k) other at) (boxed zero wheel refl) e) at),
+      )),
   places_apart model slots (λ j k other a b. omega (arith, apart (suc j) (suc k) other a b)) (λ k. boxed (suc k)),
 )
 
