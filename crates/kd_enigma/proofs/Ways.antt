@@ -31,15 +31,12 @@ all_append : (ps qs : List (List ℕ)) → AllByRecursion IsPermutation26 ps →
 all_append [] qs h k = k
 all_append (p ∷ ps) qs h k = (h.0, all_append ps qs h.1 k)
 
-reverse_cons : (w : List ℕ) (ws : List (List ℕ)) → reverse (w ∷ ws) ≡ reverse ws ++ w ∷ []
-reverse_cons w ws = reverse-append (w ∷ []) ws
-
 inward_cons : (w : List ℕ) (ws : List (List ℕ)) (x : ℕ) → through (reverse (w ∷ ws)) x ≡ slice_index w (through (reverse ws) x)
-inward_cons w ws x = ap (λ ps. through ps x) (reverse_cons w ws) ∙ through-append (reverse ws) (w ∷ []) x
+inward_cons w ws x = ap (λ ps. through ps x) (reverse-append (w ∷ []) ws) ∙ through-append (reverse ws) (w ∷ []) x
 
 all_inward : (ws : List (List ℕ)) → AllByRecursion IsPermutation26 ws → AllByRecursion IsPermutation26 (reverse ws)
 all_inward [] h = tt
-all_inward (w ∷ ws) h = subst (AllByRecursion IsPermutation26) (sym (reverse_cons w ws)) (all_append (reverse ws) (w ∷ []) (all_inward ws h.1) (h.0, tt))
+all_inward (w ∷ ws) h = subst (AllByRecursion IsPermutation26) (sym (reverse-append (w ∷ []) ws)) (all_append (reverse ws) (w ∷ []) (all_inward ws h.1) (h.0, tt))
 
 all_outward : PermutationLaws → (ws : List (List ℕ)) → AllByRecursion IsPermutation26 ws → AllByRecursion IsPermutation26 (map inverse ws)
 all_outward laws [] h = tt
@@ -165,33 +162,27 @@ module _ (sound : TablesAreSound) (key : RotorKey) (window : List ℕ) (board : 
   abbrev go_in : ℕ → ℕ
   go_in x = through (reverse ws) (plug x)
 
-  plug_lt : (x : ℕ) → x < 26 → plug x < 26
-  plug_lt x lt = board.permutation.each_once.within x lt
-
   in_lt : (x : ℕ) → x < 26 → go_in x < 26
-  in_lt x lt = through_within (reverse ws) (plug x) (all_inward ws (rotors_permute sound key.wheels key.rings window)) (plug_lt x lt)
+  in_lt x lt = through_within (reverse ws) (plug x) (all_inward ws (rotors_permute sound key.wheels key.rings window)) (board.permutation.each_once.within x lt)
 
   out_lt : (y : ℕ) → y < 26 → through (map inverse ws) y < 26
   out_lt y lt = through_within (map inverse ws) y (all_outward sound.laws ws (rotors_permute sound key.wheels key.rings window)) lt
 
-  reflect_lt : (x : ℕ) → x < 26 → reflect x < 26
-  reflect_lt x lt = (sound.reflector key.reflector).each_once.within x lt
-
   pub path_within : (x : ℕ) → x < 26 → slice_index (path key window) x < 26
-  path_within x lt = subst (λ n. n < 26) (sym (path-at sound key window x board lt)) (plug_lt _ (out_lt _ (reflect_lt _ (in_lt x lt))))
+  path_within x lt = subst (λ n. n < 26) (sym (path-at sound key window x board lt)) (board.permutation.each_once.within _ (out_lt _ ((sound.reflector key.reflector).each_once.within _ (in_lt x lt))))
 
   -- where the letter that comes out is put in, it goes in to where it came from
   in_again : (x : ℕ) → x < 26 → go_in (slice_index (path key window) x) ≡ reflect (go_in x)
   in_again x lt =
       ap go_in (path-at sound key window x board lt)
-      ∙ ap (through (reverse ws)) (board_returns key.plugs (through (map inverse ws) (reflect (go_in x))) board (out_lt _ (reflect_lt _ (in_lt x lt))))
-      ∙ in_of_back sound.laws ws (reflect (go_in x)) (rotors_permute sound key.wheels key.rings window) (reflect_lt _ (in_lt x lt))
+      ∙ ap (through (reverse ws)) (board_returns key.plugs (through (map inverse ws) (reflect (go_in x))) board (out_lt _ ((sound.reflector key.reflector).each_once.within _ (in_lt x lt))))
+      ∙ in_of_back sound.laws ws (reflect (go_in x)) (rotors_permute sound key.wheels key.rings window) ((sound.reflector key.reflector).each_once.within _ (in_lt x lt))
 
   pub path_returns : (x : ℕ) → x < 26 → slice_index (path key window) (slice_index (path key window) x) ≡ x
   path_returns x lt =
       path-at sound key window (slice_index (path key window) x) board (path_within x lt)
       ∙ ap (λ y. plug (through (map inverse ws) y)) (ap reflect (in_again x lt) ∙ at_alphabet (λ z. reflect (reflect z) ≡ z) (sound.own_inverse key.reflector) (go_in x) (in_lt x lt))
-      ∙ ap plug (back_of_in sound.laws ws (plug x) (rotors_permute sound key.wheels key.rings window) (plug_lt x lt))
+      ∙ ap plug (back_of_in sound.laws ws (plug x) (rotors_permute sound key.wheels key.rings window) (board.permutation.each_once.within x lt))
       ∙ board_returns key.plugs x board lt
 
   pub path_moves : (x : ℕ) → x < 26 → slice_index (path key window) x ≢ x

@@ -53,8 +53,5 @@ invariant_of-result c = board c
 pub returns-clause-ok : goal.returns-clause-ok
 returns-clause-ok c = (λ _. of_differ (letters_plugged c.args.pairs.now) (whole c).apart, λ _. refl)
 
-pub returns-clause-value : goal.returns-clause-value
-returns-clause-value c = (whole c).table
-
 pub returns-clause-plugboard : goal.returns-clause-plugboard
 returns-clause-plugboard c = board c
