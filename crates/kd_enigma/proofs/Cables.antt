@@ -6,12 +6,12 @@ use Rattle.std.proofs.lemmas.Bool.Decides.{nat_tests}
 use Rattle.std.proofs.lemmas.Grind.{common_steps, flat_map-append}
 use Rattle.std.proofs.lemmas.List.Elements.{All-from_recursion, recursion_from_All, All-nil, All-cons, All-append}
 use Rattle.std.proofs.lemmas.List.Folds.{Any-from_list_any, list_any-append, list_any_at, list_any_none}
-use Rattle.std.proofs.lemmas.List.{get_or_default, length-set}
+use Rattle.std.proofs.lemmas.List.{get_or_default, length-set, map-id}
 use Rattle.std.proofs.lemmas.List.FromFn.{fill_by_all, get_or-map-range_with_len, length-map-range_with_len}
 use Rattle.kd_tables.specs.Permutation.{alphabet, exchanged, exchange}
 use Rattle.kd_enigma.specs.Cipher.{IsPlugboard}
 use Rattle.kd_enigma.specs.Plugs.{letters_plugged, NoLetterTwice, Joins}
-use Rattle.kd_enigma.proofs.Turning.{alphabet-at, each_letter}
+use Rattle.kd_enigma.proofs.Turning.{each_letter}
 
 -- ---- letters of pairs, and letters of which none stands twice
 
@@ -198,8 +198,9 @@ pub record IsPlugged (board : List ℕ) (pairs : List (ℕ × ℕ)) : Type 0 whe
   pub letters : All (λ letter. letter < 26) (letters_plugged pairs)
 
 pub is_plugged_none : (table : List ℕ) → table ≡ alphabet → IsPlugged table []
+unfolding exchange
 is_plugged_none table e = record {
-  table = exchange_is table [] (ap length e) (λ x lt. ap (λ t. slice_index t x) e ∙ alphabet-at x lt);
+  table = e ∙ sym (map-id alphabet);
   apart = refl;
   letters = All-nil (λ letter. letter < 26);
 }

@@ -7,6 +7,7 @@ use Rattle.std.proofs.lemmas.List.FromFn.{get_or-range_with_len, get_or-map-rang
 use Rattle.std.proofs.lemmas.Simd.{swz_l, SwzOk, SwzOk-from_below, Each1-from_get_or, length-swz_l, get_or-swz_l_below}
 use Rattle.kd_tables.specs.Permutation.{alphabet, followed_by}
 use Rattle.kd_enigma.specs.Map.{AreLanes, spare}
+use Rattle.kd_enigma.proofs.Turning.{product-at, product-size}
 
 -- the lanes behind the letters
 spare_at : (lanes : List ℕ) → length lanes ≡ 32 → (k : ℕ) → 26 ≤ k → k < 32 → get_or (take 26 lanes ++ spare) k 0 ≡ k
@@ -52,17 +53,14 @@ followed_by_has_lanes first second h g =
     (λ k low lt. lane-at first second h k lt ∙ ap (slice_index second) (lane_behind first h k low lt) ∙ lane_behind second g k low lt)
 
 pub followed_by_is : (first second : List ℕ) → AreLanes first → AreLanes second → take 26 (swz_l w8 32 second 0 first) ≡ followed_by (take 26 first) (take 26 second)
-unfolding followed_by
 followed_by_is first second h g =
     let lanes = swz_l w8 32 second 0 first in
-    let all : length lanes ≡ 32 = length-swz_l w8 32 second 0 first ∙ h.size in
-    let front : length (take 26 lanes) ≡ 26 = length-take-le 26 lanes (omega arith) in
+    let front : length (take 26 lanes) ≡ 26 = length-take-le 26 lanes (omega (arith, length-swz_l w8 32 second 0 first, h.size)) in
     let first_front : length (take 26 first) ≡ 26 = length-take-le 26 first (omega (arith, h.size)) in
-    ext_get_or 0 (take 26 lanes) (followed_by (take 26 first) (take 26 second))
-    (front ∙ sym (length-map (take 26 first) (λ y. slice_index (take 26 second) y) ∙ first_front))
+    ext_get_or 0 (take 26 lanes) (followed_by (take 26 first) (take 26 second)) (front ∙ sym (product-size (take 26 first) (take 26 second) ∙ first_front))
     (λ k in_front. let lt : k < 26 = omega arith in
     get_or-take 26 lanes k 0 lt ∙ lane-at first second h k (omega arith)
-    ∙ sym (get_or-map (λ y. slice_index (take 26 second) y) (take 26 first) k 0 0 (omega arith)
+    ∙ sym (product-at (take 26 first) (take 26 second) k first_front lt
     ∙ ap (slice_index (take 26 second)) (get_or-take 26 first k 0 lt) ∙ get_or-take 26 second (slice_index first k) 0 (h.letters k lt)))
 
 -- ---- a map for each letter in a window

@@ -45,8 +45,3 @@ turned_undone laws by p lt h =
     ∙ ap (followed_by (inverse again)) (laws.product_undone there p (laws.shifts by) h ∙ ap (followed_by back) (laws.shift_undone by (omega arith)))
     ∙ ap (λ s. followed_by s (followed_by back again)) (laws.shift_undone (26 - by) (omega arith) ∙ ap shift (omega arith))
     ∙ sym (grouped there back again (laws.shifts by) (laws.inverses p h).size)
-
--- a permutation that was turned on in two steps
-pub turned_in_steps : (by : ℕ) (p on there off once both : List ℕ) → on ≡ shift by → there ≡ p → off ≡ shift (26 - by) → once ≡ followed_by on there → both ≡ followed_by once off → both ≡ turned by p
-unfolding turned
-turned_in_steps by p on there off once both e f g h k = cc
