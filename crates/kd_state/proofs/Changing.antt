@@ -60,13 +60,9 @@ record IsCarried (m : Parts) (x : Setting) : Type 0 where
   told : Makes m x (changed m x)
   kept : IsInRange x → IsMachine (changed m x)
 
--- a thing that isn't touched is kept
-abbrev Keeps : (Thing → Type 0) → Parts → Parts → Thing → Type 0
-Keeps IsTouched m n thing = ¬ (IsTouched thing) → IsKept m n thing
-
--- the same but for the thing
-abbrev KeepsBut : Thing → Parts → Parts → Thing → Type 0
-KeepsBut thing m n other = other ≢ thing → IsKept m n other
+-- a thing is kept, unless it is the one that is set
+abbrev Keeps : Thing → Parts → Parts → Thing → Type 0
+Keeps thing m n other = other ≢ thing → IsKept m n other
 
 in_their_order : (m : RotorParts) → cables_ordered (Rotor m) ≡ Rotor m → all_ordered m.cables ≡ m.cables
 in_their_order m e = let same : record m { cables = all_ordered m.cables } ≡ m = cc in ap (λ (k : RotorParts). k.cables) same
@@ -102,7 +98,7 @@ keeps_cables : (m : RotorParts) (cable : ℕ) (new : Option ℕ × Option ℕ) �
     → SetsOnly (TheCable cable) (Rotor m) (Rotor (record m { cables = set m.cables (cable - 1) new }))
 keeps_cables m cable new first = record {
   model = refl;
-  others = λ thing. elim thing as (KeepsBut (TheCable cable) (Rotor m) (Rotor (record m { cables = set m.cables (cable - 1) new }))) [
+  others = λ thing. elim thing as (Keeps (TheCable cable) (Rotor m) (Rotor (record m { cables = set m.cables (cable - 1) new }))) [
     | TheCable other ↦ λ free. numbered_other m.cables cable other new first (λ e. free (ap TheCable e))
     | _ ↦ λ _. refl
   ];
@@ -239,7 +235,7 @@ seat m slot wheel h allowed =
         left = λ held ne e. other_is held ne ∙ ap (option_map (without wheel)) e ∙ ap Some gone;
         others = record {
           model = refl;
-          others = λ thing. elim thing as (Keeps (IsSeatOf (Rotor m) slot wheel) (Rotor m) (Rotor (record m { slots = new }))) [
+          others = λ thing. elim thing as (λ t. ¬ (IsSeatOf (Rotor m) slot wheel t) → IsKept (Rotor m) (Rotor (record m { slots = new })) t) [
             | TheSlot other ↦ λ free. other_is other (λ e. free (inl (ap TheSlot e))) ∙ not_held wheel (numbered m.slots other) (λ e. free (inr (other, refl, e)))
             | _ ↦ λ _. refl
           ];
@@ -269,8 +265,8 @@ reflect m reflector h allowed =
     let l = h.legal in
     let no = no_reason (reasons (Rotor m) (SeatReflector reflector)) allowed in
     let may = (has_reflector-Decides (reflectors_of m.model) reflector).0 (not-false _ no.0) in
-    let others : (thing : Thing) → KeepsBut TheReflector (Rotor m) (Rotor (record m { reflector = reflector })) thing =
-    λ thing. elim thing as (KeepsBut TheReflector (Rotor m) (Rotor (record m { reflector = reflector }))) [ TheReflector ↦ λ free. absurd (free refl) | _ ↦ λ _. refl ] in
+    let others : (thing : Thing) → Keeps TheReflector (Rotor m) (Rotor (record m { reflector = reflector })) thing =
+    λ thing. elim thing as (Keeps TheReflector (Rotor m) (Rotor (record m { reflector = reflector }))) [ TheReflector ↦ λ free. absurd (free refl) | _ ↦ λ _. refl ] in
     record {
       told = (refl, record { model = refl; others = others });
       kept = λ _. rotor_machine _ (record { slots = l.slots; allowed = l.allowed; apart = l.apart; reflector = may; rings = l.rings; letters = l.letters; cables = l.cables })
@@ -317,7 +313,7 @@ ring_to m wheel letter h allowed =
         reads.0,
         record {
           model = refl;
-          others = λ thing. elim thing as (KeepsBut (TheRing wheel) (Rotor m) (Rotor (record m { rings = set m.rings place letter }))) [
+          others = λ thing. elim thing as (Keeps (TheRing wheel) (Rotor m) (Rotor (record m { rings = set m.rings place letter }))) [
             | TheRing other ↦ λ free. reads.1 other (λ e. free (ap TheRing e))
             | _ ↦ λ _. refl
           ];
@@ -345,7 +341,7 @@ turn m slot letter h allowed =
       reads.0,
       record {
         model = refl;
-        others = λ thing. elim thing as (KeepsBut (TheLetter wheel) (Rotor m) (Rotor (record m { letters = set m.letters place letter }))) [
+        others = λ thing. elim thing as (Keeps (TheLetter wheel) (Rotor m) (Rotor (record m { letters = set m.letters place letter }))) [
           | TheLetter other ↦ λ free. reads.1 other (λ e. free (ap TheLetter e))
           | _ ↦ λ _. refl
         ];
@@ -372,7 +368,7 @@ show m wheel letter h allowed =
         now,
         record {
           model = refl;
-          others = λ thing. elim thing as (KeepsBut (TheShown wheel) (Pin m) (Pin (record m { letters = new }))) [
+          others = λ thing. elim thing as (Keeps (TheShown wheel) (Pin m) (Pin (record m { letters = new }))) [
             | TheShown other ↦ λ free. numbered_other m.letters wheel other letter at.first (λ e. free (ap TheShown e))
             | _ ↦ λ _. refl
           ];
@@ -427,7 +423,7 @@ pin_to m wheel letter effective h allowed =
         ap (λ list. option_and_then (slice_get list) (place_on (ring_of wheel) letter)) here ∙ ap (option_and_then (slice_get new)) there ∙ set_here old place effective within,
         record {
           model = refl;
-          others = λ thing. elim thing as (KeepsBut (ThePin wheel letter) (Pin m) (Pin (record m { pins = pins }))) [
+          others = λ thing. elim thing as (Keeps (ThePin wheel letter) (Pin m) (Pin (record m { pins = pins }))) [
             | ThePin turned other ↦ λ free. elim (cases_eq turned wheel) [
               | inl e ↦ subst (λ w. pin_at pins w other ≡ pin_at m.pins w other) (sym e)
                   (ap (λ list. option_and_then (slice_get list) (place_on (ring_of wheel) other)) here
@@ -478,7 +474,7 @@ lug_to m bar lug place h allowed =
     in
     let kept : SetsOnly (TheBar bar) (Pin m) (Pin (record m { bars = bars })) = record {
       model = refl;
-      others = λ thing. elim thing as (KeepsBut (TheBar bar) (Pin m) (Pin (record m { bars = bars }))) [
+      others = λ thing. elim thing as (Keeps (TheBar bar) (Pin m) (Pin (record m { bars = bars }))) [
         | TheBar other ↦ λ free. numbered_other m.bars bar other new at.first (λ e. free (ap TheBar e))
         | _ ↦ λ _. refl
       ];

@@ -5,8 +5,8 @@ use Rattle.std.specs.Option.{is_some, unwrap_or}
 use Rattle.std.proofs.lemmas.Bool.{cases_Bool, lt-ltb, le-ltb, both_ways, eqb-true, false≢true}
 use Rattle.std.proofs.lemmas.List.Quantifiers.{position-Some}
 use Rattle.std.proofs.lemmas.List.{get_or_default}
-use Rattle.std.proofs.lemmas.Bool.Decides.{Decides-by_or, Decides-eqb}
-use Rattle.std.proofs.lemmas.List.Elements.{Decides-contains}
+use Rattle.std.proofs.lemmas.Bool.Decides.{Decides-like, Decides-eqb}
+use Rattle.std.proofs.lemmas.Map.Made.{is_member-Decides}
 use Rattle.std.proofs.lemmas.Option.{get_or_from_slice_get, slice_get-get_or}
 use Rattle.kd_tables.specs.Rings.{ring_of, place_on}
 use Rattle.kd_pins.specs.declared.pin_set.PinSet.{PinSet}
@@ -19,9 +19,7 @@ use Rattle.kd_drum.specs.Converter.{OnWheels}
 
 -- the letter is one of these, and has a place then
 pub has_letter-Decides : (letters : List ℕ) (letter : ℕ) → Decides (has_letter letters letter) (Contains letters letter)
-has_letter-Decides letters letter =
-    Decides-contains letters letter _ (Decides-by_or (λ other. nat_eq other letter) (λ other. other ≡ letter) (λ all. has_letter all letter)
-    (λ other. Decides-eqb other letter) refl (λ _ _. refl) letters)
+has_letter-Decides letters letter = is_member-Decides {eq = λ x y. nat_eq y x} (λ x y. Decides-like _ sym sym (Decides-eqb y x)) letters letter
 
 pub is_some-place_on : (letters : List ℕ) (letter : ℕ) → is_some (place_on letters letter) ≡ has_letter letters letter
 is_some-place_on letters letter = elim (cases_Bool (has_letter letters letter)) [

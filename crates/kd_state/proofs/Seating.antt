@@ -4,7 +4,7 @@ use Rattle.std.specs.Prelude.{MatchOption}
 use Rattle.std.specs.List.{AllByRecursion, cons_option}
 use Rattle.std.proofs.lemmas.Bool.{false≢true}
 use Rattle.std.proofs.lemmas.List.{get_or-map, length-map}
-use Rattle.std.proofs.lemmas.List.Elements.{All-from_recursion}
+use Rattle.std.proofs.lemmas.List.Elements.{All-map}
 use Rattle.std.proofs.lemmas.Option.{none-some, same_Some, slice_get-get_or}
 use Rattle.kd_tables.specs.declared.wheel.Wheel.{Wheel}
 use Rattle.kd_tables.specs.Permutation.{exchange}
@@ -57,13 +57,9 @@ pub wheels_seated : (wheels : List SheetWheel) → filter_map (λ (seated : Opti
 wheels_seated [] = refl
 wheels_seated (w ∷ wheels) = ap (λ rest. w.wheel ∷ rest) (wheels_seated wheels)
 
-each_seated : (wheels : List SheetWheel) → AllByRecursion (λ (seated : Option Wheel). IsSome seated) (seats wheels)
-each_seated [] = tt
-each_seated (w ∷ wheels) = (refl, each_seated wheels)
-
 pub all_seated : (slots : List (Option Wheel)) (wheels : List SheetWheel) → slots ≡ seats wheels → All (λ seated. IsSome seated) slots
 all_seated slots wheels e =
-    subst (All (λ (seated : Option Wheel). IsSome seated)) (sym e) (All-from_recursion (λ (seated : Option Wheel). IsSome seated) (seats wheels) (each_seated wheels))
+    subst (All (λ (seated : Option Wheel). IsSome seated)) (sym e) (All-map (λ (seated : Option Wheel). IsSome seated) (λ (w : SheetWheel). Some w.wheel) wheels (λ k d below. refl))
 
 -- what is read of each wheel
 pub read_all : (f : Wheel → Option ℕ) (view : SheetWheel → ℕ) (wheels : List SheetWheel) → AllByRecursion (λ w. f w.wheel ≡ Some (view w)) wheels

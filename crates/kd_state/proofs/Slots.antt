@@ -1,12 +1,12 @@
 -- What stands in the slots, and things counted from 1.
 use Rattle.std.proofs.Common.{◌≡◌, ◌≢◌, ℕ, zero, suc, ◌+◌, ◌-◌, ◌<◌, ◌≤◌, false, inl, inr, List, [], ◌∷◌, length, take, get_or, set, Contains, Option, Some, None, IfSome, slice_get, refl, sym, ap, ◌∙◌, subst, arith, add-one}
 use Rattle.std.proofs.lemmas.Bool.{cases_eq, false≢true}
-use Rattle.std.proofs.lemmas.List.{get_or-take, length-take, get_or_default}
-use Rattle.std.proofs.lemmas.Option.{slice_get_within, slice_get-get_or, get_or_from_slice_get, same_Some}
+use Rattle.std.proofs.lemmas.List.{get_or-take, length-take}
+use Rattle.std.proofs.lemmas.Option.{slice_get_within, slice_get-get_or, get_or_from_slice_get}
 use Rattle.kd_tables.specs.declared.model.Model.{Model}
 use Rattle.kd_tables.specs.declared.wheel.Wheel.{Wheel}
 use Rattle.kd_tables.specs.Tables.{box_of}
-use Rattle.std.specs.Option.{SomeIff, IsSome, is_none, unwrap_or}
+use Rattle.std.specs.Option.{is_none, unwrap_or}
 use Rattle.kd_state.proofs.Wheels.{placed}
 use Rattle.kd_state.specs.Box.{numbered}
 use Rattle.kd_state.specs.Machine.{StandsAt, AreAllowed, AreApart}
@@ -105,8 +105,3 @@ pub seated_in_box : (model : Model) (slots : List (Option Wheel)) (slot : ℕ) (
 seated_in_box model slots slot wheel allowed e =
     let at = is_numbered slots slot (Some wheel) e in
     (placed model (slot - 1 + 1) wheel (allowed (slot - 1) wheel at.here)).in_box
-
--- what is there exactly where something holds
-pub is_there : {X : Type 0} (found : Option X) (P : Type 0) (x : X) → SomeIff found P x → P → IsSome found
-is_there None P x h p = absurd (h p)
-is_there (Some y) P x h p = refl

@@ -2,7 +2,7 @@
 use Rattle.std.specs.Prelude.{◌≡◌, ℕ, ◌+◌, ◌<◌, Bool, true, false, if◌then◌else◌, List, [], ◌∷◌, length, count_by, slice_index_or, IsPermutation, IsSortedBy}
 use Rattle.std.specs.Cmp.{IsStrictWeakOrder}
 use Rattle.std.proofs.Common.{suc, refl, sym, ap, ◌∙◌, ◌↔◌, subst, arith}
-use Rattle.std.proofs.lemmas.List.Sums.{sum_by-cons}
+use Rattle.std.proofs.lemmas.List.Sums.{sum_by-cons, sum_by-le}
 use Rattle.std.proofs.lemmas.List.Sorted.{sorted_far, sum_by-IsPermutation, IsPermutation-sym, IsPermutation-trans}
 use Rattle.std.specs.Bool.{Decides}
 use Rattle.std.specs.Cmp.Lexicographic.{pointwise_decides}
@@ -18,11 +18,7 @@ count_by-cons p x xs = sum_by-cons (λ y. once (p y)) x xs
 
 -- elements that don't pass aren't counted
 none_counted : {X : Type 0} (p : X → Bool) (xs : List X) → ((k : ℕ) (d : X) → k < length xs → p (slice_index_or xs k d) ≡ false) → count_by p xs ≡ 0
-none_counted p [] none = refl
-none_counted p (x ∷ xs) none =
-    let first : once (p x) ≡ 0 = ap once (none 0 x (omega arith)) in
-    let rest : count_by p xs ≡ 0 = none_counted p xs (λ k d below. none (suc k) d (omega arith)) in
-    omega (arith, count_by-cons p x xs, first, rest)
+none_counted p xs none = omega (arith, sum_by-le (λ x. once (p x)) 0 xs (λ k d below. let zero : once (p (slice_index_or xs k d)) ≡ 0 = ap once (none k d below) in omega arith))
 
 module _ {X : Type 0} (lt : X → X → Bool) (order : IsStrictWeakOrder lt) (same : (x y : X) → lt x y ≡ false → lt y x ≡ false → x ≡ y) where
   tail_sorted : (x : X) (xs : List X) → IsSortedBy lt (x ∷ xs) → IsSortedBy lt xs

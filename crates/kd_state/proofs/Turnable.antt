@@ -8,10 +8,9 @@ use Rattle.kd_tables.specs.Tables.{box_of}
 use Rattle.kd_state.specs.declared.machine.parts.Parts.{Parts}
 use Rattle.kd_state.specs.declared.machine.parts.Parts.TheVariants.{Rotor, Pin}
 use Rattle.kd_state.specs.declared.machine.rotor_parts.RotorParts.{RotorParts}
-use Rattle.kd_state.specs.declared.machine.pin_parts.PinParts.{PinParts}
 use Rattle.kd_state.specs.Box.{place_in_box}
 use Rattle.kd_state.specs.Laws.{MachinesCanBeTurned}
-use Rattle.kd_state.specs.Machine.{StandsAt, AreApart, AreLetters, AreOnWheels, IsMachine}
+use Rattle.kd_state.specs.Machine.{StandsAt, AreApart, AreLetters, IsMachine}
 use Rattle.kd_state.specs.TwoCiphers.{IsTurned, seated_wheels}
 use Rattle.kd_state.proofs.Wheels.{places_tell_wheels, placed, place_within}
 use Rattle.kd_state.proofs.Changing.{with_letters}

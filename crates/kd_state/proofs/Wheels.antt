@@ -1,10 +1,11 @@
 -- Wheels and reflectors by their names, and where the wheels of the box may stand.
-use Rattle.std.proofs.Common.{suc, inl, inr, find, unwrap_or, ◌≡◌, ◌≢◌, ℕ, ◌<◌, ◌≤◌, nat_le, ◌==◌, Bool, true, false, ◌||◌, cond, List, [], ◌∷◌, length, get_or, Contains, Decides, refl, sym, ap, ◌∙◌, subst, arith, ◌+◌, Some}
+use Rattle.std.proofs.Common.{inl, inr, find, unwrap_or, ◌≡◌, ◌≢◌, ℕ, ◌<◌, ◌≤◌, nat_le, ◌==◌, Bool, true, false, cond, List, [], ◌∷◌, length, get_or, Contains, Decides, refl, sym, ap, ◌∙◌, subst, arith, ◌+◌, Some}
 use Rattle.std.specs.List.{list_any, position_or_len}
 use Rattle.std.specs.Str.{bytes_eq}
 use Rattle.std.proofs.lemmas.Bool.{cases_Bool, false_from_ne_true, and_parts, or_parts, leb-true, eqb-true}
-use Rattle.std.proofs.lemmas.Bool.Decides.{Decides-by_or, Decides-like}
-use Rattle.std.proofs.lemmas.List.Elements.{Decides-contains, Contains-append_left, Contains-append_right, Contains-get_or}
+use Rattle.std.proofs.lemmas.Bool.Decides.{Decides-like}
+use Rattle.std.proofs.lemmas.List.Elements.{Contains-append_left, Contains-append_right, Contains-get_or}
+use Rattle.std.proofs.lemmas.Map.Made.{is_member-Decides}
 use Rattle.std.proofs.lemmas.List.Sums.{position_or_len_is, passes_at_first}
 use denote.Enum.Bare.{sameb, same_true, same_false}
 use Rattle.kd_tables.specs.contracts.wheel.Wheel.{the_type}
@@ -66,14 +67,10 @@ same_wheel_differs wheel other h = false_from_ne_true (same_wheel wheel other) (
 
 -- the wheel is one of these, and the reflector is
 pub has_wheel-Decides : (wheels : List Wheel) (wheel : Wheel) → Decides (has_wheel wheels wheel) (Contains wheels wheel)
-has_wheel-Decides wheels wheel =
-    Decides-contains wheels wheel _ (Decides-by_or (same_wheel wheel) (λ other. other ≡ wheel) (list_any (same_wheel wheel))
-    (λ other. Decides-like _ sym sym (same_wheel-Decides wheel other)) refl (λ _ _. refl) wheels)
+has_wheel-Decides wheels wheel = is_member-Decides same_wheel-Decides wheels wheel
 
 pub has_reflector-Decides : (reflectors : List Reflector) (reflector : Reflector) → Decides (has_reflector reflectors reflector) (Contains reflectors reflector)
-has_reflector-Decides reflectors reflector =
-    Decides-contains reflectors reflector _ (Decides-by_or (same_reflector reflector) (λ other. other ≡ reflector) (list_any (same_reflector reflector))
-    (λ other. Decides-like _ sym sym (same_reflector-Decides reflector other)) refl (λ _ _. refl) reflectors)
+has_reflector-Decides reflectors reflector = is_member-Decides same_reflector-Decides reflectors reflector
 
 -- the first that passes is within the list, where one passes; where none does, the length stands for it
 pub first_within : {X : Type 0} (p : X → Bool) (xs : List X) → list_any p xs ≡ true → position_or_len p xs < length xs
