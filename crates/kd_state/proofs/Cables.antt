@@ -78,15 +78,11 @@ all_ordered_again [] = refl
 all_ordered_again (cable ∷ cables) =
     ap (λ first. first ∷ all_ordered (all_ordered cables)) (ordered_again cable.0 cable.1) ∙ ap (λ rest. ordered cable.0 cable.1 ∷ rest) (all_ordered_again cables)
 
-single_ordered : (end : Option ℕ) → ordered end None ≡ (end, None)
-single_ordered None = refl
-single_ordered (Some letter) = refl
-
 pub without_ordered : (letter : ℕ) (one other : Option ℕ) → ordered (cable_without letter (one, other)).0 (cable_without letter (one, other)).1 ≡ cable_without letter (one, other)
 unfolding in_order
 without_ordered letter None other = refl
-without_ordered letter (Some end) other =
-    cond_both (nat_eq letter end) (other, None) (Some end, None) in_order (λ _. single_ordered other) (λ _. single_ordered (Some end))
+without_ordered letter (Some end) None = cond_both (nat_eq letter end) (None, None) (Some end, None) in_order (λ _. refl) (λ _. refl)
+without_ordered letter (Some end) (Some other) = cond_both (nat_eq letter end) (Some other, None) (Some end, None) in_order (λ _. refl) (λ _. refl)
 
 -- a letter that is taken out of its cable, before those that stay
 pub without_moves : (letter : ℕ) (one other : Option ℕ) → has_letter (cable_letters (one, other)) letter ≡ true

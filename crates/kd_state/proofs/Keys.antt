@@ -19,7 +19,7 @@ use Rattle.kd_state.specs.Laws.{TurnedEngineIsTheTurnedMachine, ReadingIsReady, 
 use Rattle.kd_state.specs.Machine.{IsMachine, AreCables, ring_at, letter_at}
 use Rattle.kd_state.specs.OnKey.{OnKey, IsRotorOnKey, IsPinOnKey}
 use Rattle.kd_state.specs.SheetDay.{RotorDay, Day, OfRotors, OfPins, IsLegalDay, IsLegalRotorDay}
-use Rattle.kd_state.specs.TwoCiphers.{EngineKey, OfWheels, cipher, key_with_window, IsRotorReady, window_of, plugged_pairs, physical_key, physical_cipher, sheet_key}
+use Rattle.kd_state.specs.TwoCiphers.{EngineKey, OfWheels, cipher, key_with_window, window_of, plugged_pairs, physical_key, physical_cipher, sheet_key}
 use Rattle.kd_state.proofs.DayPairs.{whole_cables, pairs_joined, no_letter_twice}
 use Rattle.kd_state.proofs.Seating.{all_seated, read_all, wheels_of_slots}
 use Rattle.std.proofs.Math.Bool.{or_comm}
@@ -72,11 +72,9 @@ engine_cipher (Rotor m) text = refl
 engine_cipher (Pin m) text = λ i. map (λ (numbered : ℕ × ℕ). (25 + moved_as_met m numbered.0 i - numbered.1) % 26) (enumerate_from 0 text)
 
 -- ready
-rotor_ready : (m : RotorParts) (s : RotorDay) → IsLegalRotorDay s → IsRotorOnKey m s → IsRotorReady m
-rotor_ready m s legal h = record { slots = all_seated m.slots s.wheels h.slots; cables = whole_cables m.cables s.pairs legal.pairs.apart h.cables }
-
 pub on_key_ready : OnKeyIsReady
-on_key_ready (Rotor m) (OfRotors s) machine legal h = rotor_ready m s legal h
+on_key_ready (Rotor m) (OfRotors s) machine legal h =
+    record { slots = all_seated m.slots s.wheels h.slots; cables = whole_cables m.cables s.pairs legal.pairs.apart h.cables }
 on_key_ready (Pin m) (OfPins s) machine legal h = tt
 on_key_ready m s machine legal h = absurd h
 

@@ -218,9 +218,7 @@ pub lists_have_no_fault : ListsHaveNoFault
 lists_have_no_fault bytes xs (BadLine line) a f =
     f.5 (sym (same_end bytes xs f.0 [] f.1 (begins bytes xs a) f.2 nothing_begins f.6).1)
 lists_have_no_fault bytes xs TooMany a f =
-    let most = not_longer bytes xs f.0 [] f.1 (begins bytes xs a) f.2 nothing_begins in
-    let few = a.few in
-    omega (arith, most, few, f.3)
+    omega (arith, not_longer bytes xs f.0 [] f.1 (begins bytes xs a) f.2 nothing_begins, a.few, f.3)
 
 pub one_list_fault : OneListFault
 one_list_fault bytes (BadLine line) (BadLine other) f g =

@@ -5,13 +5,11 @@ use Rattle.std.proofs.lemmas.List.Elements.{All-set, All-head, All-tail}
 use Rattle.kd_tables.specs.declared.model.Model.{Model}
 use Rattle.kd_tables.specs.declared.wheel.Wheel.{Wheel}
 use Rattle.kd_tables.specs.Tables.{box_of}
-use Rattle.kd_state.specs.declared.machine.parts.Parts.{Parts}
 use Rattle.kd_state.specs.declared.machine.parts.Parts.TheVariants.{Rotor, Pin}
-use Rattle.kd_state.specs.declared.machine.rotor_parts.RotorParts.{RotorParts}
 use Rattle.kd_state.specs.Box.{place_in_box}
 use Rattle.kd_state.specs.Laws.{MachinesCanBeTurned}
-use Rattle.kd_state.specs.Machine.{StandsAt, AreApart, AreLetters, IsMachine}
-use Rattle.kd_state.specs.TwoCiphers.{IsTurned, seated_wheels}
+use Rattle.kd_state.specs.Machine.{StandsAt, AreApart}
+use Rattle.kd_state.specs.TwoCiphers.{seated_wheels}
 use Rattle.kd_state.proofs.Wheels.{places_tell_wheels, placed, place_within}
 use Rattle.kd_state.proofs.Changing.{with_letters}
 use Rattle.kd_state.proofs.Slots.{set_here, set_other}
@@ -82,9 +80,8 @@ places_apart model (Some wheel ∷ slots) apart boxed = (
   places_apart model slots (λ j k other a b. omega (arith, apart (suc j) (suc k) other a b)) (λ k. boxed (suc k)),
 )
 
-turned_rotor : (m : RotorParts) (window : List ℕ) → IsMachine (Rotor m) → AreLetters (length (seated_wheels m)) window
-    → (n : Parts) × IsTurned (Rotor m) window n × IsMachine n
-turned_rotor m window machine are =
+pub can_be_turned : MachinesCanBeTurned
+can_be_turned (Rotor m) window machine ready are =
     let legal = machine.legal in
     let place = place_in_box m.model in
     let wheels = seated_wheels m in
@@ -100,9 +97,6 @@ turned_rotor m window machine are =
         within = all_put place (λ letter. letter < 26) wheels window m.letters are.within legal.letters.within;
       }),
     )
-
-pub can_be_turned : MachinesCanBeTurned
-can_be_turned (Rotor m) window machine ready is = turned_rotor m window machine is
 can_be_turned (Pin m) window machine ready is =
     let l = machine.legal in
     (Pin (record m { letters = window }), refl, record { legal = record { pins = l.pins; letters = is; bars = l.bars; apart = l.apart }; cables = refl })
