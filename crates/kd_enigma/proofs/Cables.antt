@@ -121,9 +121,9 @@ cable_at (pair ∷ pairs) v (suc k) h lt e =
     let later = cable_at pairs v k (grind arith) (omega arith) e in
     record { there = grind (arith, nat_tests); back = grind (arith, nat_tests); first = grind (arith, nat_tests); second = grind (arith, nat_tests) }
 
-pub joined : (pairs : List (ℕ × ℕ)) (x y : ℕ) → AreApart pairs → Joins pairs x y → (exchanged pairs x ≡ y) × (lies_in x pairs ≡ true)
-joined pairs x y h (inl c) = let cable = cable_at pairs (x, y) c.0 h c.1 c.2 in (cable.there, cable.first)
-joined pairs x y h (inr c) = let cable = cable_at pairs (y, x) c.0 h c.1 c.2 in (cable.back, cable.second)
+joined : (pairs : List (ℕ × ℕ)) (x y : ℕ) → AreApart pairs → Joins pairs x y → exchanged pairs x ≡ y
+joined pairs x y h (inl c) = (cable_at pairs (x, y) c.0 h c.1 c.2).there
+joined pairs x y h (inr c) = (cable_at pairs (y, x) c.0 h c.1 c.2).back
 
 pub exchanges : (pairs : List (ℕ × ℕ)) (x y : ℕ) → exchanged pairs x ≡ y → Joins pairs x y ⊎ ((x ≡ y) × ¬ Contains (letters_plugged pairs) x)
 exchanges pairs x y e = elim (cases_Bool (lies_in x pairs)) [
@@ -132,7 +132,7 @@ exchanges pairs x y e = elim (cases_Bool (lies_in x pairs)) [
 ]
 
 pub exchanged_by : (pairs : List (ℕ × ℕ)) (x y : ℕ) → AreApart pairs → Joins pairs x y ⊎ ((x ≡ y) × ¬ Contains (letters_plugged pairs) x) → exchanged pairs x ≡ y
-exchanged_by pairs x y h (inl j) = (joined pairs x y h j).0
+exchanged_by pairs x y h (inl j) = joined pairs x y h j
 exchanged_by pairs x y h (inr left) =
     exchanged_free pairs x (false_from_ne_true (lies_in x pairs) (λ lies.
     let any = Any-from_list_any (eqb x) (letters_plugged pairs) lies in
@@ -141,9 +141,9 @@ exchanged_by pairs x y h (inr left) =
 pub exchanged_alike : (ps qs : List (ℕ × ℕ)) (x : ℕ) → AreApart ps → AreApart qs → ((y : ℕ) → Joins ps x y → Joins qs x y) → ((y : ℕ) → Joins qs x y → Joins ps x y)
     → exchanged ps x ≡ exchanged qs x
 exchanged_alike ps qs x hp hq there back = elim (cases_Bool (lies_in x ps)) [
-  | inl lies ↦ sym (joined qs x (exchanged ps x) hq (there (exchanged ps x) (leads ps x (exchanged ps x) lies refl))).0
+  | inl lies ↦ sym (joined qs x (exchanged ps x) hq (there (exchanged ps x) (leads ps x (exchanged ps x) lies refl)))
   | inr free ↦ elim (cases_Bool (lies_in x qs)) [
-    | inl lies ↦ (joined ps x (exchanged qs x) hp (back (exchanged qs x) (leads qs x (exchanged qs x) lies refl))).0
+    | inl lies ↦ joined ps x (exchanged qs x) hp (back (exchanged qs x) (leads qs x (exchanged qs x) lies refl))
     | inr free' ↦ exchanged_free ps x free ∙ sym (exchanged_free qs x free')
   ]
 ]

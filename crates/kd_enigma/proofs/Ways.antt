@@ -153,17 +153,14 @@ module _ (sound : TablesAreSound) (key : RotorKey) (window : List ℕ) (board : 
   abbrev ws : List (List ℕ)
   ws = rotors key.wheels key.rings window
 
-  abbrev plug : ℕ → ℕ
-  plug x = slice_index key.plugs x
-
   abbrev reflect : ℕ → ℕ
   reflect x = slice_index (reflector_of key.reflector) x
 
   abbrev go_in : ℕ → ℕ
-  go_in x = through (reverse ws) (plug x)
+  go_in x = through (reverse ws) (slice_index key.plugs x)
 
   in_lt : (x : ℕ) → x < 26 → go_in x < 26
-  in_lt x lt = through_within (reverse ws) (plug x) (all_inward ws (rotors_permute sound key.wheels key.rings window)) (board.permutation.each_once.within x lt)
+  in_lt x lt = through_within (reverse ws) (slice_index key.plugs x) (all_inward ws (rotors_permute sound key.wheels key.rings window)) (board.permutation.each_once.within x lt)
 
   out_lt : (y : ℕ) → y < 26 → through (map inverse ws) y < 26
   out_lt y lt = through_within (map inverse ws) y (all_outward sound.laws ws (rotors_permute sound key.wheels key.rings window)) lt
@@ -181,8 +178,8 @@ module _ (sound : TablesAreSound) (key : RotorKey) (window : List ℕ) (board : 
   pub path_returns : (x : ℕ) → x < 26 → slice_index (path key window) (slice_index (path key window) x) ≡ x
   path_returns x lt =
       path-at sound key window (slice_index (path key window) x) board (path_within x lt)
-      ∙ ap (λ y. plug (through (map inverse ws) y)) (ap reflect (in_again x lt) ∙ at_alphabet (λ z. reflect (reflect z) ≡ z) (sound.own_inverse key.reflector) (go_in x) (in_lt x lt))
-      ∙ ap plug (back_of_in sound.laws ws (plug x) (rotors_permute sound key.wheels key.rings window) (board.permutation.each_once.within x lt))
+      ∙ ap (λ y. slice_index key.plugs (through (map inverse ws) y)) (ap reflect (in_again x lt) ∙ at_alphabet (λ z. reflect (reflect z) ≡ z) (sound.own_inverse key.reflector) (go_in x) (in_lt x lt))
+      ∙ ap (slice_index key.plugs) (back_of_in sound.laws ws (slice_index key.plugs x) (rotors_permute sound key.wheels key.rings window) (board.permutation.each_once.within x lt))
       ∙ board_returns key.plugs x board lt
 
   pub path_moves : (x : ℕ) → x < 26 → slice_index (path key window) x ≢ x
