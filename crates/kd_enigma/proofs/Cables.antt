@@ -6,12 +6,12 @@ use Rattle.std.proofs.lemmas.Bool.Decides.{nat_tests}
 use Rattle.std.proofs.lemmas.Grind.{common_steps, flat_map-append}
 use Rattle.std.proofs.lemmas.List.Elements.{All-from_recursion, recursion_from_All, All-nil, All-cons, All-append}
 use Rattle.std.proofs.lemmas.List.Folds.{Any-from_list_any, list_any-append, list_any_at, list_any_none}
-use Rattle.std.proofs.lemmas.List.{get_or_default, length-set}
+use Rattle.std.proofs.lemmas.List.{get_or_default, length-set, map-id}
 use Rattle.std.proofs.lemmas.List.FromFn.{fill_by_all, get_or-map-range_with_len, length-map-range_with_len}
 use Rattle.kd_tables.specs.Permutation.{alphabet, exchanged, exchange}
 use Rattle.kd_enigma.specs.Cipher.{IsPlugboard}
 use Rattle.kd_enigma.specs.Plugs.{letters_plugged, NoLetterTwice, Joins}
-use Rattle.kd_enigma.proofs.Turning.{alphabet-at, each_letter}
+use Rattle.kd_enigma.proofs.Turning.{each_letter}
 
 -- ---- letters of pairs, and letters of which none stands twice
 
@@ -28,12 +28,12 @@ differ (x ∷ letters) = not (is_among x letters) && differ letters
 abbrev pub AreApart : List (ℕ × ℕ) → Type 0
 AreApart pairs = differ (letters_plugged pairs) ≡ true
 
-differ_of : (letters : List ℕ) → IsDistinct eqb letters → differ letters ≡ true
+pub differ_of : (letters : List ℕ) → IsDistinct eqb letters → differ letters ≡ true
 unfolding IsDistinct
 differ_of [] h = refl
 differ_of (x ∷ letters) h = rw (list_any_none (eqb x) letters (All-from_recursion (λ y. eqb x y ≡ false) letters h.0)) (differ_of letters h.1)
 
-of_differ : (letters : List ℕ) → differ letters ≡ true → IsDistinct eqb letters
+pub of_differ : (letters : List ℕ) → differ letters ≡ true → IsDistinct eqb letters
 unfolding IsDistinct
 of_differ [] h = tt
 of_differ (x ∷ letters) h =
@@ -43,12 +43,6 @@ of_differ (x ∷ letters) h =
           (λ k d lt. false_from_ne_true (eqb x (get_or letters k d)) (λ e. false≢true (sym none ∙ list_any_at (eqb x) letters k d lt e))),
       of_differ letters both.1,
     )
-
-pub apart_of : (pairs : List (ℕ × ℕ)) → NoLetterTwice pairs → AreApart pairs
-apart_of pairs h = differ_of (letters_plugged pairs) h
-
-pub of_apart : (pairs : List (ℕ × ℕ)) → AreApart pairs → NoLetterTwice pairs
-of_apart pairs h = of_differ (letters_plugged pairs) h
 
 -- two more letters, at the end or before others
 pub record AreNew (letters : List ℕ) (one other : ℕ) : Type 0 where
@@ -99,17 +93,14 @@ contains_later : (pair : ℕ × ℕ) (pairs : List (ℕ × ℕ)) (x y : ℕ) →
 contains_later pair pairs x y (inl c) = inl (suc c.0, omega (arith, c.1), c.2)
 contains_later pair pairs x y (inr c) = inr (suc c.0, omega (arith, c.1), c.2)
 
-same_pair : (pair : ℕ × ℕ) (x y : ℕ) → x ≡ pair.0 → y ≡ pair.1 → pair ≡ (x, y)
-same_pair pair x y e f = sym (ap (λ a. (a, y)) e ∙ ap (λ b. (pair.0, b)) f)
-
 -- a letter of a pair leads along it
 leads : (pairs : List (ℕ × ℕ)) (x y : ℕ) → lies_in x pairs ≡ true → exchanged pairs x ≡ y → Joins pairs x y
 leads [] x y h e = absurd (false≢true h)
 leads (pair ∷ pairs) x y h e =
     elim (cases_eq x pair.0) [
-      | inl same ↦ inl (zero, omega arith, same_pair pair x y same (grind (arith, nat_tests)))
+      | inl same ↦ let other : pair.1 ≡ y = grind (arith, nat_tests) in inl (zero, omega arith, λ i. (sym same i, other i))
       | inr n ↦ elim (cases_eq x pair.1) [
-        | inl same ↦ inr (zero, omega arith, same_pair pair y x (grind (arith, nat_tests)) same)
+        | inl same ↦ let other : pair.0 ≡ y = grind (arith, nat_tests) in inr (zero, omega arith, λ i. (other i, sym same i))
         | inr m ↦ contains_later pair pairs x y (leads pairs x y (grind (arith, nat_tests)) (grind (arith, nat_tests)))
       ]
     ]
@@ -130,21 +121,18 @@ cable_at (pair ∷ pairs) v (suc k) h lt e =
     let later = cable_at pairs v k (grind arith) (omega arith) e in
     record { there = grind (arith, nat_tests); back = grind (arith, nat_tests); first = grind (arith, nat_tests); second = grind (arith, nat_tests) }
 
-pub joined : (pairs : List (ℕ × ℕ)) (x y : ℕ) → AreApart pairs → Joins pairs x y → (exchanged pairs x ≡ y) × (lies_in x pairs ≡ true)
-joined pairs x y h (inl c) = let cable = cable_at pairs (x, y) c.0 h c.1 c.2 in (cable.there, cable.first)
-joined pairs x y h (inr c) = let cable = cable_at pairs (y, x) c.0 h c.1 c.2 in (cable.back, cable.second)
-
-is_among_of : (letters : List ℕ) (x : ℕ) → Contains letters x → is_among x letters ≡ true
-is_among_of letters x c = list_any_at (eqb x) letters c.0 x c.1 (eq-eqb x (get_or letters c.0 x) (sym c.2))
+joined : (pairs : List (ℕ × ℕ)) (x y : ℕ) → AreApart pairs → Joins pairs x y → exchanged pairs x ≡ y
+joined pairs x y h (inl c) = (cable_at pairs (x, y) c.0 h c.1 c.2).there
+joined pairs x y h (inr c) = (cable_at pairs (y, x) c.0 h c.1 c.2).back
 
 pub exchanges : (pairs : List (ℕ × ℕ)) (x y : ℕ) → exchanged pairs x ≡ y → Joins pairs x y ⊎ ((x ≡ y) × ¬ Contains (letters_plugged pairs) x)
 exchanges pairs x y e = elim (cases_Bool (lies_in x pairs)) [
   | inl lies ↦ inl (leads pairs x y lies e)
-  | inr free ↦ inr (sym (exchanged_free pairs x free) ∙ e, λ c. false≢true (sym free ∙ is_among_of (letters_plugged pairs) x c))
+  | inr free ↦ inr (sym (exchanged_free pairs x free) ∙ e, λ c. false≢true (sym free ∙ list_any_at (eqb x) (letters_plugged pairs) c.0 x c.1 (eq-eqb x _ (sym c.2))))
 ]
 
 pub exchanged_by : (pairs : List (ℕ × ℕ)) (x y : ℕ) → AreApart pairs → Joins pairs x y ⊎ ((x ≡ y) × ¬ Contains (letters_plugged pairs) x) → exchanged pairs x ≡ y
-exchanged_by pairs x y h (inl j) = (joined pairs x y h j).0
+exchanged_by pairs x y h (inl j) = joined pairs x y h j
 exchanged_by pairs x y h (inr left) =
     exchanged_free pairs x (false_from_ne_true (lies_in x pairs) (λ lies.
     let any = Any-from_list_any (eqb x) (letters_plugged pairs) lies in
@@ -153,9 +141,9 @@ exchanged_by pairs x y h (inr left) =
 pub exchanged_alike : (ps qs : List (ℕ × ℕ)) (x : ℕ) → AreApart ps → AreApart qs → ((y : ℕ) → Joins ps x y → Joins qs x y) → ((y : ℕ) → Joins qs x y → Joins ps x y)
     → exchanged ps x ≡ exchanged qs x
 exchanged_alike ps qs x hp hq there back = elim (cases_Bool (lies_in x ps)) [
-  | inl lies ↦ sym (joined qs x (exchanged ps x) hq (there (exchanged ps x) (leads ps x (exchanged ps x) lies refl))).0
+  | inl lies ↦ sym (joined qs x (exchanged ps x) hq (there (exchanged ps x) (leads ps x (exchanged ps x) lies refl)))
   | inr free ↦ elim (cases_Bool (lies_in x qs)) [
-    | inl lies ↦ (joined ps x (exchanged qs x) hp (back (exchanged qs x) (leads qs x (exchanged qs x) lies refl))).0
+    | inl lies ↦ joined ps x (exchanged qs x) hp (back (exchanged qs x) (leads qs x (exchanged qs x) lies refl))
     | inr free' ↦ exchanged_free ps x free ∙ sym (exchanged_free qs x free')
   ]
 ]
@@ -210,8 +198,9 @@ pub record IsPlugged (board : List ℕ) (pairs : List (ℕ × ℕ)) : Type 0 whe
   pub letters : All (λ letter. letter < 26) (letters_plugged pairs)
 
 pub is_plugged_none : (table : List ℕ) → table ≡ alphabet → IsPlugged table []
+unfolding exchange
 is_plugged_none table e = record {
-  table = exchange_is table [] (ap length e) (λ x lt. ap (λ t. slice_index t x) e ∙ alphabet-at x lt);
+  table = e ∙ sym (map-id alphabet);
   apart = refl;
   letters = All-nil (λ letter. letter < 26);
 }
@@ -237,9 +226,6 @@ plugged_more pairs pair new one_lt other_lt =
       new.other_free,
     ))
 
-letters_push : (pairs : List (ℕ × ℕ)) (pair : ℕ × ℕ) → letters_plugged (pairs ++ pair ∷ []) ≡ letters_plugged pairs ++ pair.0 ∷ pair.1 ∷ []
-letters_push pairs pair = flat_map-append (λ (p : ℕ × ℕ). p.0 ∷ p.1 ∷ []) pairs (pair ∷ [])
-
 pub is_plugged_more : (table after : List ℕ) (pairs : List (ℕ × ℕ)) (pair : ℕ × ℕ) → IsPlugged table pairs → CanPlug table pair → pair.0 < 26 → pair.1 < 26
     → after ≡ set (set table pair.0 pair.1) pair.1 pair.0 → IsPlugged after (pairs ++ pair ∷ [])
 is_plugged_more table after pairs pair h can one_lt other_lt e =
@@ -250,15 +236,15 @@ is_plugged_more table after pairs pair h can one_lt other_lt e =
     record { unlike = ne_eqb pair.0 pair.1 can.differ; one_free = free pair.0 one_lt can.one; other_free = free pair.1 other_lt can.other } in
     record {
       table = e ∙ ap (λ t. set (set t pair.0 pair.1) pair.1 pair.0) h.table ∙ plugged_more pairs pair new one_lt other_lt;
-      apart = rw letters_push (differ_push (letters_plugged pairs) pair.0 pair.1 h.apart new);
-      letters = rw letters_push (All-append letter (letters_plugged pairs) (pair.0 ∷ pair.1 ∷ []) h.letters
+      apart = rw flat_map-append (differ_push (letters_plugged pairs) pair.0 pair.1 h.apart new);
+      letters = rw flat_map-append (All-append letter (letters_plugged pairs) (pair.0 ∷ pair.1 ∷ []) h.letters
           (All-cons letter pair.0 (pair.1 ∷ []) one_lt (All-cons letter pair.1 [] other_lt (All-nil letter))));
     }
 
 -- where no letter lies twice, each pair can be plugged in in its turn
 pub can_plug : (table : List ℕ) (pairs rest : List (ℕ × ℕ)) (pair : ℕ × ℕ) → IsPlugged table pairs → NoLetterTwice (pairs ++ pair ∷ rest) → pair.0 < 26 → pair.1 < 26 → CanPlug table pair
 can_plug table pairs rest pair h once one_lt other_lt =
-    let apart = rw flat_map-append at (apart_of (pairs ++ pair ∷ rest) once) in
+    let apart = rw flat_map-append at (differ_of (letters_plugged (pairs ++ pair ∷ rest)) once) in
     let new = differ_middle (letters_plugged pairs) pair.0 pair.1 (letters_plugged rest) apart in
     let stays = λ (x : ℕ) (lt : x < 26) (free : lies_in x pairs ≡ false). ap (λ t. slice_index t x) h.table ∙ exchange-at pairs x lt ∙ exchanged_free pairs x free in
     record { differ = eqb-false pair.0 pair.1 new.unlike; one = stays pair.0 one_lt new.one_free; other = stays pair.1 other_lt new.other_free }

@@ -1,5 +1,5 @@
 -- The cipher, letter by letter.
-use Rattle.std.proofs.Common.{zero, ◌≡◌, ℕ, suc, ◌+◌, ◌<◌, List, [], ◌∷◌, ◌++◌, length, map, get_or, slice_index, All, refl, sym, ap, ◌∙◌, arith, add-one, add-zero, add-suc}
+use Rattle.std.proofs.Common.{zero, ◌≡◌, ℕ, suc, ◌+◌, ◌<◌, List, [], ◌∷◌, ◌++◌, length, map, get_or, slice_index, All, refl, sym, ap, ◌∙◌, arith, add-zero, add-suc}
 use Rattle.std.proofs.lemmas.List.Elements.{All-head, All-tail}
 use Rattle.std.specs.List.{enumerate_from}
 use Rattle.std.proofs.lemmas.List.{get_or-map, length-map}
@@ -21,16 +21,14 @@ pub length-cipher : (key : RotorKey) (text : List ℕ) → length (enigma_cipher
 length-cipher key text =
     length-map (enumerate_from 1 text) (λ numbered. slice_index (path key (window_after key.wheels key.window numbered.0)) numbered.1) ∙ length-enumerate_from 1 text
 
-one_more : (k : ℕ) → 1 + k ≡ suc k
-one_more k = omega arith
-
 pub cipher-at : (key : RotorKey) (text : List ℕ) (k : ℕ) → k < length text
     → get_or (enigma_cipher key text) k 0 ≡ slice_index (path key (window_after key.wheels key.window (suc k))) (get_or text k 0)
 cipher-at key text k lt =
+    let next : 1 + k ≡ suc k = omega arith in
     let light : ℕ × ℕ → ℕ = λ numbered. slice_index (path key (window_after key.wheels key.window numbered.0)) numbered.1 in
     get_or-map light (enumerate_from 1 text) k (0, 0) 0 (omega (arith, length-enumerate_from 1 text))
     ∙ ap light (get_or-enumerate_from 1 text k (0, 0) lt)
-    ∙ ap (λ n. slice_index (path key (window_after key.wheels key.window n)) (get_or text k 0)) (one_more k)
+    ∙ ap (λ n. slice_index (path key (window_after key.wheels key.window n)) (get_or text k 0)) next
 
 -- the window is no part of the path's other parts
 pub path-turned : (key : RotorKey) (window shown : List ℕ) → path (key_turned key window) shown ≡ path key shown
@@ -45,10 +43,6 @@ twice_from sound key start (letter ∷ text) board h =
     ap (λ l. l ∷ cipher_from key (start + 1) (cipher_from key (start + 1) text))
     (path_returns sound key (window_after key.wheels key.window start) board letter (All-head (λ l. l < 26) letter text h))
     ∙ ap (λ ls. letter ∷ ls) (twice_from sound key (start + 1) text board (All-tail (λ l. l < 26) letter text h))
-
--- the key after one letter more
-pub key_after_next : (key : RotorKey) (n : ℕ) → key_after (key_after key n) 1 ≡ key_after key (n + 1)
-key_after_next key n = ap (key_after key) (sym (add-one n))
 
 -- what a press after so many letters lights up is the next letter of the cipher
 pub next_letter_of_cipher : (key : RotorKey) (text : List ℕ) (n letter light : ℕ) → n < length text → letter ≡ get_or text n 0

@@ -1,45 +1,39 @@
 -- Maps as they lie in 32 lanes.
-use Rattle.std.proofs.Common.{◌≡◌, ◌⊎◌, ℕ, ◌+◌, ◌-◌, ◌<◌, ◌≤◌, List, [], ◌++◌, length, take, map, set, get_or, slice_index, w8, inl, inr, refl, sym, ap, ◌∙◌, subst, arith, length-append}
+use Rattle.std.proofs.Common.{◌≡◌, ℕ, ◌+◌, ◌-◌, ◌<◌, ◌≤◌, List, [], ◌++◌, length, take, map, set, get_or, slice_index, w8, inl, inr, refl, sym, ap, ◌∙◌, subst, arith, length-append}
 use Rattle.std.proofs.lemmas.Bool.{cases_lt}
-use Rattle.std.proofs.lemmas.List.{ext_get_or, get_or-take, get_or_append_left, get_or-append-add, get_or-map, length-map, length-take-le}
+use Rattle.std.proofs.lemmas.List.{ext_get_or, get_or-take, get_or_append_left, get_or-append_right, length-take-le}
 use Rattle.std.proofs.lemmas.List.Edits.{fill_by_more}
 use Rattle.std.proofs.lemmas.List.FromFn.{get_or-range_with_len, get_or-map-range_with_len}
 use Rattle.std.proofs.lemmas.Simd.{swz_l, SwzOk, SwzOk-from_below, Each1-from_get_or, length-swz_l, get_or-swz_l_below}
 use Rattle.kd_tables.specs.Permutation.{alphabet, followed_by}
 use Rattle.kd_enigma.specs.Map.{AreLanes, spare}
+use Rattle.kd_enigma.proofs.Turning.{product-at, product-size}
+
+-- the lanes behind the letters
+spare_at : (lanes : List ℕ) → length lanes ≡ 32 → (k : ℕ) → 26 ≤ k → k < 32 → get_or (take 26 lanes ++ spare) k 0 ≡ k
+spare_at lanes size k low lt =
+    get_or-append_right (take 26 lanes) spare 26 k 0 (length-take-le 26 lanes (omega arith)) low ∙ get_or-range_with_len 26 6 (k - 26) 0 (omega arith) ∙ omega arith
 
 -- lanes that are known place by place
 pub lanes_of : (lanes : List ℕ) → length lanes ≡ 32 → ((k : ℕ) → k < 26 → slice_index lanes k < 26) → ((k : ℕ) → 26 ≤ k → k < 32 → slice_index lanes k ≡ k) → AreLanes lanes
-lanes_of lanes size letters still = record {
-  size = size;
-  letters = letters;
-  behind =
-      let front : length (take 26 lanes) ≡ 26 = length-take-le 26 lanes (omega arith) in
-      ext_get_or 0 (take 26 lanes ++ spare) lanes (omega (arith, length-append (take 26 lanes) spare))
-      (λ k lt. at k (omega (arith, length-append (take 26 lanes) spare)) front (cases_lt k 26));
-}
-  where
-    at : (k : ℕ) → k < 32 → length (take 26 lanes) ≡ 26 → (k < 26) ⊎ (26 ≤ k) → get_or (take 26 lanes ++ spare) k 0 ≡ get_or lanes k 0
-    at k lt front (inl low) = get_or_append_left (take 26 lanes) spare 0 k (omega arith) ∙ get_or-take 26 lanes k 0 low
-    at k lt front (inr high) =
-        ap (λ n. get_or (take 26 lanes ++ spare) n 0) (omega arith) ∙ get_or-append-add (take 26 lanes) spare (k - 26) 0
-        ∙ get_or-range_with_len 26 6 (k - 26) 0 (omega arith) ∙ omega arith ∙ sym (still k high lt)
+lanes_of lanes size letters still =
+    let front : length (take 26 lanes) ≡ 26 = length-take-le 26 lanes (omega arith) in
+    let all : length (take 26 lanes ++ spare) ≡ 32 = omega (arith, length-append (take 26 lanes) spare) in
+    record {
+      size = size;
+      letters = letters;
+      behind = ext_get_or 0 (take 26 lanes ++ spare) lanes (omega arith) (λ k lt. elim (cases_lt k 26) [
+        | inl low ↦ get_or_append_left (take 26 lanes) spare 0 k (omega arith) ∙ get_or-take 26 lanes k 0 low
+        | inr high ↦ spare_at lanes size k high (omega arith) ∙ sym (still k high (omega arith))
+      ]);
+    }
 
--- the lanes behind the letters
 pub lane_behind : (lanes : List ℕ) → AreLanes lanes → (k : ℕ) → 26 ≤ k → k < 32 → slice_index lanes k ≡ k
-lane_behind lanes h k low lt =
-    let front : length (take 26 lanes) ≡ 26 = length-take-le 26 lanes (omega (arith, h.size)) in
-    ap (λ l. get_or l k 0) (sym h.behind)
-    ∙ ap (λ n. get_or (take 26 lanes ++ spare) n 0) (omega arith) ∙ get_or-append-add (take 26 lanes) spare (k - 26) 0
-    ∙ get_or-range_with_len 26 6 (k - 26) 0 (omega arith) ∙ omega arith
+lane_behind lanes h k low lt = ap (λ l. get_or l k 0) (sym h.behind) ∙ spare_at lanes h.size k low lt
 
 -- each lane leads to a lane
 pub lane_within : (lanes : List ℕ) → AreLanes lanes → (k : ℕ) → k < 32 → slice_index lanes k < 32
-lane_within lanes h k lt = at (cases_lt k 26)
-  where
-    at : (k < 26) ⊎ (26 ≤ k) → slice_index lanes k < 32
-    at (inl low) = omega (arith, h.letters k low)
-    at (inr high) = omega (arith, lane_behind lanes h k high lt)
+lane_within lanes h k lt = elim (cases_lt k 26) [ inl low ↦ omega (arith, h.letters k low) | inr high ↦ omega (arith, lane_behind lanes h k high lt) ]
 
 -- ---- first one map, and then another one
 
@@ -59,17 +53,14 @@ followed_by_has_lanes first second h g =
     (λ k low lt. lane-at first second h k lt ∙ ap (slice_index second) (lane_behind first h k low lt) ∙ lane_behind second g k low lt)
 
 pub followed_by_is : (first second : List ℕ) → AreLanes first → AreLanes second → take 26 (swz_l w8 32 second 0 first) ≡ followed_by (take 26 first) (take 26 second)
-unfolding followed_by
 followed_by_is first second h g =
     let lanes = swz_l w8 32 second 0 first in
-    let all : length lanes ≡ 32 = length-swz_l w8 32 second 0 first ∙ h.size in
-    let front : length (take 26 lanes) ≡ 26 = length-take-le 26 lanes (omega arith) in
+    let front : length (take 26 lanes) ≡ 26 = length-take-le 26 lanes (omega (arith, length-swz_l w8 32 second 0 first, h.size)) in
     let first_front : length (take 26 first) ≡ 26 = length-take-le 26 first (omega (arith, h.size)) in
-    ext_get_or 0 (take 26 lanes) (followed_by (take 26 first) (take 26 second))
-    (front ∙ sym (length-map (take 26 first) (λ y. slice_index (take 26 second) y) ∙ first_front))
+    ext_get_or 0 (take 26 lanes) (followed_by (take 26 first) (take 26 second)) (front ∙ sym (product-size (take 26 first) (take 26 second) ∙ first_front))
     (λ k in_front. let lt : k < 26 = omega arith in
     get_or-take 26 lanes k 0 lt ∙ lane-at first second h k (omega arith)
-    ∙ sym (get_or-map (λ y. slice_index (take 26 second) y) (take 26 first) k 0 0 (omega arith)
+    ∙ sym (product-at (take 26 first) (take 26 second) k first_front lt
     ∙ ap (slice_index (take 26 second)) (get_or-take 26 first k 0 lt) ∙ get_or-take 26 second (slice_index first k) 0 (h.letters k lt)))
 
 -- ---- a map for each letter in a window

@@ -16,19 +16,13 @@ length-standing [] window e = e
 length-standing (s ∷ seated) [] e = absurd (omega arith)
 length-standing (s ∷ seated) (letter ∷ window) e = ap suc (length-standing seated window (omega arith))
 
-standing-at : (seated : List SeatedWheel) (window : List ℕ) (slot : ℕ) (s : SeatedWheel) (letter : ℕ) (d : List ℕ) → length seated ≡ length window → slot < length window
-    → get_or (standing seated window) slot d ≡ rotor (get_or seated slot s).wheel (get_or seated slot s).ring (get_or window slot letter)
-unfolding rotors
-standing-at (t ∷ seated) (w ∷ window) zero s letter d e lt = refl
-standing-at (t ∷ seated) (w ∷ window) (suc slot) s letter d e lt = standing-at seated window slot s letter d (omega arith) (omega arith)
-standing-at _ _ slot s letter d e lt = absurd (omega arith)
-
 -- the wheel in a slot, as it is read
 standing_in : (seated : List SeatedWheel) (window : List ℕ) (slot : ℕ) (s : SeatedWheel) (letter : ℕ) → length seated ≡ length window → slot < length window
     → s ≡ get_or seated slot s → letter ≡ get_or window slot letter → get_or (standing seated window) slot [] ≡ rotor s.wheel s.ring letter
-standing_in seated window slot s letter e lt is_s is_letter =
-    standing-at seated window slot s letter [] e lt
-    ∙ ap (λ (t : SeatedWheel). rotor t.wheel t.ring (get_or window slot letter)) (sym is_s) ∙ ap (rotor s.wheel s.ring) (sym is_letter)
+unfolding rotors
+standing_in (t ∷ seated) (w ∷ window) zero s letter e lt is_s is_letter = λ i. rotor (sym is_s i).wheel (sym is_s i).ring (sym is_letter i)
+standing_in (t ∷ seated) (w ∷ window) (suc slot) s letter e lt is_s is_letter = standing_in seated window slot s letter (omega arith) (omega arith) is_s is_letter
+standing_in _ _ slot s letter e lt is_s is_letter = absurd (omega arith)
 
 -- one wheel more around the core, and none left
 pub around_more : (seated : List SeatedWheel) (window : List ℕ) (slot : ℕ) (s : SeatedWheel) (shown : ℕ) (core : List ℕ) → length seated ≡ length window → slot < length window

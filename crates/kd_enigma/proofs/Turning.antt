@@ -1,6 +1,6 @@
 -- Turned permutations.
-use Rattle.std.proofs.Common.{◌≡◌, ℕ, ◌-◌, ◌<◌, List, slice_index, All, sym, ap, ◌∙◌, subst, arith}
-use Rattle.std.proofs.lemmas.List.{ext_get_or}
+use Rattle.std.proofs.Common.{◌≡◌, ℕ, ◌-◌, ◌<◌, List, length, slice_index, All, sym, ap, ◌∙◌, subst, arith}
+use Rattle.std.proofs.lemmas.List.{ext_get_or, get_or-map, length-map}
 use Rattle.std.proofs.lemmas.List.FromFn.{get_or-range_with_len}
 use Rattle.kd_tables.specs.Permutation.{alphabet, followed_by, inverse, shift, IsPermutation26}
 use Rattle.kd_enigma.specs.Rotor.{turned}
@@ -13,22 +13,26 @@ alphabet-at x lt = get_or-range_with_len 0 26 x 0 lt ∙ omega arith
 pub each_letter : (P : ℕ → Type 0) → ((x : ℕ) → x < 26 → P x) → All P alphabet
 each_letter P h k d lt = subst P (sym (get_or-range_with_len 0 26 k d lt ∙ omega arith)) (h k lt)
 
-pub product-at : PermutationLaws → (p q : List ℕ) (x : ℕ) → IsPermutation26 p → x < 26 → slice_index (followed_by p q) x ≡ slice_index q (slice_index p x)
-product-at laws p q x h lt = laws.product_at p q x (omega (arith, h.size))
+pub product-size : (p q : List ℕ) → length (followed_by p q) ≡ length p
+unfolding followed_by
+product-size p q = length-map p (slice_index q)
+
+pub product-at : (p q : List ℕ) (x : ℕ) → length p ≡ 26 → x < 26 → slice_index (followed_by p q) x ≡ slice_index q (slice_index p x)
+unfolding followed_by
+product-at p q x size lt = get_or-map (slice_index q) p x 0 0 (omega arith)
 
 pub turned_permutes : PermutationLaws → (by : ℕ) (p : List ℕ) → IsPermutation26 p → IsPermutation26 (turned by p)
 unfolding turned
 turned_permutes laws by p h = laws.products (followed_by (shift by) p) (shift (26 - by)) (laws.products (shift by) p (laws.shifts by) h) (laws.shifts (26 - by))
 
 -- three permutations one after the other, the first two or the last two taken together
-grouped : PermutationLaws → (p q r : List ℕ) → IsPermutation26 p → IsPermutation26 q → IsPermutation26 r → followed_by (followed_by p q) r ≡ followed_by p (followed_by q r)
-grouped laws p q r hp hq hr =
-    let left = laws.products (followed_by p q) r (laws.products p q hp hq) hr in
-    let right = laws.products p (followed_by q r) hp (laws.products q r hq hr) in
-    ext_get_or 0 (followed_by (followed_by p q) r) (followed_by p (followed_by q r)) (left.size ∙ sym right.size)
-    (λ x in_left. let lt : x < 26 = omega (arith, left.size) in
-    product-at laws (followed_by p q) r x (laws.products p q hp hq) lt ∙ ap (slice_index r) (product-at laws p q x hp lt)
-    ∙ sym (product-at laws p (followed_by q r) x hp lt ∙ product-at laws q r (slice_index p x) hq (hp.each_once.within x lt)))
+grouped : (p q r : List ℕ) → IsPermutation26 p → length q ≡ 26 → followed_by (followed_by p q) r ≡ followed_by p (followed_by q r)
+grouped p q r h size =
+    let left = product-size (followed_by p q) r ∙ product-size p q ∙ h.size in
+    ext_get_or 0 (followed_by (followed_by p q) r) (followed_by p (followed_by q r)) (left ∙ sym (product-size p (followed_by q r) ∙ h.size))
+    (λ x in_left. let lt : x < 26 = omega (arith, left) in
+    product-at (followed_by p q) r x (product-size p q ∙ h.size) lt ∙ ap (slice_index r) (product-at p q x h.size lt)
+    ∙ sym (product-at p (followed_by q r) x h.size lt ∙ product-at q r (slice_index p x) size (h.each_once.within x lt)))
 
 -- what undoes a turned permutation is what undoes the permutation, turned by as much
 pub turned_undone : PermutationLaws → (by : ℕ) (p : List ℕ) → by < 26 → IsPermutation26 p → inverse (turned by p) ≡ turned by (inverse p)
@@ -40,9 +44,4 @@ turned_undone laws by p lt h =
     laws.product_undone (followed_by there p) again (laws.products there p (laws.shifts by) h) (laws.shifts (26 - by))
     ∙ ap (followed_by (inverse again)) (laws.product_undone there p (laws.shifts by) h ∙ ap (followed_by back) (laws.shift_undone by (omega arith)))
     ∙ ap (λ s. followed_by s (followed_by back again)) (laws.shift_undone (26 - by) (omega arith) ∙ ap shift (omega arith))
-    ∙ sym (grouped laws there back again (laws.shifts by) (laws.inverses p h) (laws.shifts (26 - by)))
-
--- a permutation that was turned on in two steps
-pub turned_in_steps : (by : ℕ) (p on there off once both : List ℕ) → on ≡ shift by → there ≡ p → off ≡ shift (26 - by) → once ≡ followed_by on there → both ≡ followed_by once off → both ≡ turned by p
-unfolding turned
-turned_in_steps by p on there off once both e f g h k = cc
+    ∙ sym (grouped there back again (laws.shifts by) (laws.inverses p h).size)

@@ -1,7 +1,7 @@
 -- The way of a letter through products of permutations, and back.
 use Rattle.std.proofs.Common.{◌≡◌, ◌≢◌, ℕ, ◌<◌, List, [], ◌∷◌, ◌++◌, map, reverse, slice_index, All, length, refl, sym, ap, ◌∙◌, subst, arith}
 use Rattle.std.specs.List.{AllByRecursion}
-use Rattle.std.proofs.lemmas.List.{reverse-append, ext_get_or, length-map}
+use Rattle.std.proofs.lemmas.List.{reverse-append, ext_get_or}
 use Rattle.kd_tables.specs.Permutation.{alphabet, followed_by, inverse, IsPermutation26}
 use Rattle.kd_tables.specs.Tables.{wiring_of, reflector_of}
 use Rattle.kd_tables.specs.declared.wheel.Wheel.{Wheel}
@@ -10,7 +10,7 @@ use Rattle.kd_enigma.specs.Rotor.{offset}
 use Rattle.kd_enigma.specs.Cipher.{RotorKey, IsPlugboard, rotors, product, path}
 use Rattle.kd_enigma.specs.Seated.{TablesAreSound, PermutationLaws}
 use Rattle.kd_enigma.specs.Through.{through}
-use Rattle.kd_enigma.proofs.Turning.{alphabet-at, product-at, turned_permutes}
+use Rattle.kd_enigma.proofs.Turning.{alphabet-at, product-at, product-size, turned_permutes}
 
 -- ---- through lists of permutations
 
@@ -22,24 +22,21 @@ through_within : (ps : List (List ℕ)) (x : ℕ) → AllByRecursion IsPermutati
 through_within [] x h lt = lt
 through_within (p ∷ ps) x h lt = through_within ps (slice_index p x) h.1 (h.0.each_once.within x lt)
 
-products-at : PermutationLaws → (ps : List (List ℕ)) (x : ℕ) → AllByRecursion IsPermutation26 ps → x < 26 → slice_index (product ps) x ≡ through ps x
+products-at : (ps : List (List ℕ)) (x : ℕ) → AllByRecursion IsPermutation26 ps → x < 26 → slice_index (product ps) x ≡ through ps x
 unfolding product
-products-at laws [] x h lt = alphabet-at x lt
-products-at laws (p ∷ ps) x h lt = product-at laws p (product ps) x h.0 lt ∙ products-at laws ps (slice_index p x) h.1 (h.0.each_once.within x lt)
+products-at [] x h lt = alphabet-at x lt
+products-at (p ∷ ps) x h lt = product-at p (product ps) x h.0.size lt ∙ products-at ps (slice_index p x) h.1 (h.0.each_once.within x lt)
 
 all_append : (ps qs : List (List ℕ)) → AllByRecursion IsPermutation26 ps → AllByRecursion IsPermutation26 qs → AllByRecursion IsPermutation26 (ps ++ qs)
 all_append [] qs h k = k
 all_append (p ∷ ps) qs h k = (h.0, all_append ps qs h.1 k)
 
-reverse_cons : (w : List ℕ) (ws : List (List ℕ)) → reverse (w ∷ ws) ≡ reverse ws ++ w ∷ []
-reverse_cons w ws = reverse-append (w ∷ []) ws
-
 inward_cons : (w : List ℕ) (ws : List (List ℕ)) (x : ℕ) → through (reverse (w ∷ ws)) x ≡ slice_index w (through (reverse ws) x)
-inward_cons w ws x = ap (λ ps. through ps x) (reverse_cons w ws) ∙ through-append (reverse ws) (w ∷ []) x
+inward_cons w ws x = ap (λ ps. through ps x) (reverse-append (w ∷ []) ws) ∙ through-append (reverse ws) (w ∷ []) x
 
 all_inward : (ws : List (List ℕ)) → AllByRecursion IsPermutation26 ws → AllByRecursion IsPermutation26 (reverse ws)
 all_inward [] h = tt
-all_inward (w ∷ ws) h = subst (AllByRecursion IsPermutation26) (sym (reverse_cons w ws)) (all_append (reverse ws) (w ∷ []) (all_inward ws h.1) (h.0, tt))
+all_inward (w ∷ ws) h = subst (AllByRecursion IsPermutation26) (sym (reverse-append (w ∷ []) ws)) (all_append (reverse ws) (w ∷ []) (all_inward ws h.1) (h.0, tt))
 
 all_outward : PermutationLaws → (ws : List (List ℕ)) → AllByRecursion IsPermutation26 ws → AllByRecursion IsPermutation26 (map inverse ws)
 all_outward laws [] h = tt
@@ -86,7 +83,7 @@ path-at sound key window x board lt =
     let turns = rotors_permute sound key.wheels key.rings window in
     let plugs = board.permutation in
     let reflector = sound.reflector key.reflector in
-    products-at sound.laws (key.plugs ∷ reverse ws ++ reflector_of key.reflector ∷ map inverse ws ++ key.plugs ∷ []) x
+    products-at (key.plugs ∷ reverse ws ++ reflector_of key.reflector ∷ map inverse ws ++ key.plugs ∷ []) x
     (all_append (key.plugs ∷ reverse ws ++ reflector_of key.reflector ∷ map inverse ws) (key.plugs ∷ [])
     (all_append (key.plugs ∷ reverse ws) (reflector_of key.reflector ∷ map inverse ws) (plugs, all_inward ws turns) (reflector, all_outward sound.laws ws turns)) (plugs, tt)) lt
     ∙ through-append (key.plugs ∷ reverse ws ++ reflector_of key.reflector ∷ map inverse ws) (key.plugs ∷ []) x
@@ -94,25 +91,16 @@ path-at sound key window x board lt =
 
 -- ---- the way around
 
-enclosed_permutes : PermutationLaws → (core w : List ℕ) → IsPermutation26 core → IsPermutation26 w → IsPermutation26 (enclosed core w)
-enclosed_permutes laws core w hc hw = laws.products (followed_by w core) (inverse w) (laws.products w core hw hc) (laws.inverses w hw)
+enclosed-at : (core w : List ℕ) (x : ℕ) → length w ≡ 26 → x < 26 → slice_index (enclosed core w) x ≡ slice_index (inverse w) (slice_index core (slice_index w x))
+enclosed-at core w x size lt =
+    product-at (followed_by w core) (inverse w) x (product-size w core ∙ size) lt ∙ ap (slice_index (inverse w)) (product-at w core x size lt)
 
-enclosed-at : PermutationLaws → (core w : List ℕ) (x : ℕ) → IsPermutation26 core → IsPermutation26 w → x < 26
-    → slice_index (enclosed core w) x ≡ slice_index (inverse w) (slice_index core (slice_index w x))
-enclosed-at laws core w x hc hw lt =
-    product-at laws (followed_by w core) (inverse w) x (laws.products w core hw hc) lt ∙ ap (slice_index (inverse w)) (product-at laws w core x hw lt)
-
-around_permutes : PermutationLaws → (core : List ℕ) (ws : List (List ℕ)) → IsPermutation26 core → AllByRecursion IsPermutation26 ws → IsPermutation26 (around core ws)
-around_permutes laws core [] hc h = hc
-around_permutes laws core (w ∷ ws) hc h = around_permutes laws (enclosed core w) ws (enclosed_permutes laws core w hc h.0) h.1
-
-around-at : PermutationLaws → (core : List ℕ) (ws : List (List ℕ)) (x : ℕ) → IsPermutation26 core → AllByRecursion IsPermutation26 ws → x < 26
+around-at : (core : List ℕ) (ws : List (List ℕ)) (x : ℕ) → AllByRecursion IsPermutation26 ws → x < 26
     → slice_index (around core ws) x ≡ through (map inverse ws) (slice_index core (through (reverse ws) x))
-around-at laws core [] x hc h lt = refl
-around-at laws core (w ∷ ws) x hc h lt =
-    let y = through (reverse ws) x in
-    around-at laws (enclosed core w) ws x (enclosed_permutes laws core w hc h.0) h.1 lt
-    ∙ ap (through (map inverse ws)) (enclosed-at laws core w y hc h.0 (through_within (reverse ws) x (all_inward ws h.1) lt)
+around-at core [] x h lt = refl
+around-at core (w ∷ ws) x h lt =
+    around-at (enclosed core w) ws x h.1 lt
+    ∙ ap (through (map inverse ws)) (enclosed-at core w (through (reverse ws) x) h.0.size (through_within (reverse ws) x (all_inward ws h.1) lt)
     ∙ ap (λ z. slice_index (inverse w) (slice_index core z)) (sym (inward_cons w ws x)))
 
 around_last : (core : List ℕ) (ws : List (List ℕ)) (w : List ℕ) → around core (ws ++ w ∷ []) ≡ enclosed (around core ws) w
@@ -123,88 +111,78 @@ all_parts : (ps qs : List (List ℕ)) → AllByRecursion IsPermutation26 (ps ++ 
 all_parts [] qs h = (tt, h)
 all_parts (p ∷ ps) qs h = let rest = all_parts ps qs h.1 in ((h.0, rest.0), rest.1)
 
-path-size : (key : RotorKey) (window : List ℕ) → IsPlugboard key.plugs → length (path key window) ≡ 26
-unfolding path product followed_by
-path-size key window board = length-map key.plugs _ ∙ board.permutation.size
-
 -- the path is the way around through the slow wheels, enclosed by the right wheel with the plugboard beside it
 pub path_is_boarded : TablesAreSound → (key : RotorKey) (window : List ℕ) (ws : List (List ℕ)) (w : List ℕ) → IsPlugboard key.plugs
     → rotors key.wheels key.rings window ≡ ws ++ w ∷ [] → boarded key.plugs (around (reflector_of key.reflector) ws) w ≡ path key window
+unfolding path product
 path_is_boarded sound key window ws w board parts =
-    let laws = sound.laws in
     let plugs = key.plugs in
+    let size = board.permutation.size in
     let reflector = reflector_of key.reflector in
     let core = around reflector ws in
     let turns = rotors_permute sound key.wheels key.rings window in
-    let turned_parts = all_parts ws (w ∷ []) (subst (AllByRecursion IsPermutation26) parts turns) in
-    let hw : IsPermutation26 w = turned_parts.1.0 in
-    let hc = around_permutes laws reflector ws (sound.reflector key.reflector) turned_parts.0 in
-    let h_in = laws.products plugs w board.permutation hw in
-    let h_around = laws.products (followed_by plugs w) core h_in hc in
-    let h_out = laws.products (inverse w) plugs (laws.inverses w hw) board.permutation in
-    let h_all = laws.products (followed_by (followed_by plugs w) core) (followed_by (inverse w) plugs) h_around h_out in
-    ext_get_or 0 (boarded plugs core w) (path key window) (h_all.size ∙ sym (path-size key window board)) (λ x in_left.
-    let lt : x < 26 = omega (arith, h_all.size) in
+    let each = all_parts ws (w ∷ []) (subst (AllByRecursion IsPermutation26) parts turns) in
+    let hw : IsPermutation26 w = each.1.0 in
+    let first = followed_by plugs w in
+    let first_size = product-size plugs w ∙ size in
+    let all = product-size (followed_by first core) (followed_by (inverse w) plugs) ∙ product-size first core ∙ first_size in
+    ext_get_or 0 (boarded plugs core w) (path key window) (all ∙ sym (product-size plugs _ ∙ size)) (λ x in_left.
+    let lt : x < 26 = omega (arith, all) in
     let p = slice_index plugs x in
     let p_lt = board.permutation.each_once.within x lt in
-    product-at laws (followed_by (followed_by plugs w) core) (followed_by (inverse w) plugs) x h_around lt
-    ∙ product-at laws (inverse w) plugs (slice_index (followed_by (followed_by plugs w) core) x) (laws.inverses w hw) (h_around.each_once.within x lt)
-    ∙ ap (λ y. slice_index plugs (slice_index (inverse w) y)) (product-at laws (followed_by plugs w) core x h_in lt ∙ ap (slice_index core) (product-at laws plugs w x board.permutation lt))
-    ∙ ap (slice_index plugs) (sym (enclosed-at laws core w p hc hw p_lt)
+    let y = slice_index w p in
+    let y_lt = hw.each_once.within p p_lt in
+    let core_lt : slice_index core y < 26 = subst (λ n. n < 26) (sym (around-at reflector ws y each.0 y_lt)) (through_within (map inverse ws) _ (all_outward sound.laws ws each.0)
+    ((sound.reflector key.reflector).each_once.within _ (through_within (reverse ws) y (all_inward ws each.0) y_lt))) in
+    product-at (followed_by first core) (followed_by (inverse w) plugs) x (product-size first core ∙ first_size) lt
+    ∙ ap (slice_index (followed_by (inverse w) plugs)) (product-at first core x first_size lt ∙ ap (slice_index core) (product-at plugs w x size lt))
+    ∙ product-at (inverse w) plugs (slice_index core y) (sound.laws.inverses w hw).size core_lt
+    ∙ ap (slice_index plugs) (sym (enclosed-at core w p hw.size p_lt)
     ∙ ap (λ q. slice_index q p) (sym (around_last reflector ws w) ∙ ap (around reflector) (sym parts))
-    ∙ around-at laws reflector (rotors key.wheels key.rings window) p (sound.reflector key.reflector) turns p_lt)
+    ∙ around-at reflector (rotors key.wheels key.rings window) p turns p_lt)
     ∙ sym (path-at sound key window x board lt))
 
 -- the plugboard and the reflector, letter by letter
-at_alphabet : (p : List ℕ) (P : ℕ → Type 0) → All P alphabet → (x : ℕ) → x < 26 → P x
-at_alphabet p P h x lt = subst P (alphabet-at x lt) (h x 0 lt)
+at_alphabet : (P : ℕ → Type 0) → All P alphabet → (x : ℕ) → x < 26 → P x
+at_alphabet P h x lt = subst P (alphabet-at x lt) (h x 0 lt)
 
 board_returns : (plugs : List ℕ) (x : ℕ) → IsPlugboard plugs → x < 26 → slice_index plugs (slice_index plugs x) ≡ x
-board_returns plugs x board lt = at_alphabet plugs (λ z. slice_index plugs (slice_index plugs z) ≡ z) board.own_inverse x lt
+board_returns plugs x board lt = at_alphabet (λ z. slice_index plugs (slice_index plugs z) ≡ z) board.own_inverse x lt
 
 module _ (sound : TablesAreSound) (key : RotorKey) (window : List ℕ) (board : IsPlugboard key.plugs) where
   abbrev ws : List (List ℕ)
   ws = rotors key.wheels key.rings window
 
-  abbrev plug : ℕ → ℕ
-  plug x = slice_index key.plugs x
-
   abbrev reflect : ℕ → ℕ
   reflect x = slice_index (reflector_of key.reflector) x
 
   abbrev go_in : ℕ → ℕ
-  go_in x = through (reverse ws) (plug x)
-
-  plug_lt : (x : ℕ) → x < 26 → plug x < 26
-  plug_lt x lt = board.permutation.each_once.within x lt
+  go_in x = through (reverse ws) (slice_index key.plugs x)
 
   in_lt : (x : ℕ) → x < 26 → go_in x < 26
-  in_lt x lt = through_within (reverse ws) (plug x) (all_inward ws (rotors_permute sound key.wheels key.rings window)) (plug_lt x lt)
+  in_lt x lt = through_within (reverse ws) (slice_index key.plugs x) (all_inward ws (rotors_permute sound key.wheels key.rings window)) (board.permutation.each_once.within x lt)
 
   out_lt : (y : ℕ) → y < 26 → through (map inverse ws) y < 26
   out_lt y lt = through_within (map inverse ws) y (all_outward sound.laws ws (rotors_permute sound key.wheels key.rings window)) lt
 
-  reflect_lt : (x : ℕ) → x < 26 → reflect x < 26
-  reflect_lt x lt = (sound.reflector key.reflector).each_once.within x lt
-
   pub path_within : (x : ℕ) → x < 26 → slice_index (path key window) x < 26
-  path_within x lt = subst (λ n. n < 26) (sym (path-at sound key window x board lt)) (plug_lt _ (out_lt _ (reflect_lt _ (in_lt x lt))))
+  path_within x lt = subst (λ n. n < 26) (sym (path-at sound key window x board lt)) (board.permutation.each_once.within _ (out_lt _ ((sound.reflector key.reflector).each_once.within _ (in_lt x lt))))
 
   -- where the letter that comes out is put in, it goes in to where it came from
   in_again : (x : ℕ) → x < 26 → go_in (slice_index (path key window) x) ≡ reflect (go_in x)
   in_again x lt =
       ap go_in (path-at sound key window x board lt)
-      ∙ ap (through (reverse ws)) (board_returns key.plugs (through (map inverse ws) (reflect (go_in x))) board (out_lt _ (reflect_lt _ (in_lt x lt))))
-      ∙ in_of_back sound.laws ws (reflect (go_in x)) (rotors_permute sound key.wheels key.rings window) (reflect_lt _ (in_lt x lt))
+      ∙ ap (through (reverse ws)) (board_returns key.plugs (through (map inverse ws) (reflect (go_in x))) board (out_lt _ ((sound.reflector key.reflector).each_once.within _ (in_lt x lt))))
+      ∙ in_of_back sound.laws ws (reflect (go_in x)) (rotors_permute sound key.wheels key.rings window) ((sound.reflector key.reflector).each_once.within _ (in_lt x lt))
 
   pub path_returns : (x : ℕ) → x < 26 → slice_index (path key window) (slice_index (path key window) x) ≡ x
   path_returns x lt =
       path-at sound key window (slice_index (path key window) x) board (path_within x lt)
-      ∙ ap (λ y. plug (through (map inverse ws) y)) (ap reflect (in_again x lt) ∙ at_alphabet (reflector_of key.reflector) (λ z. reflect (reflect z) ≡ z) (sound.own_inverse key.reflector) (go_in x) (in_lt x lt))
-      ∙ ap plug (back_of_in sound.laws ws (plug x) (rotors_permute sound key.wheels key.rings window) (plug_lt x lt))
+      ∙ ap (λ y. slice_index key.plugs (through (map inverse ws) y)) (ap reflect (in_again x lt) ∙ at_alphabet (λ z. reflect (reflect z) ≡ z) (sound.own_inverse key.reflector) (go_in x) (in_lt x lt))
+      ∙ ap (slice_index key.plugs) (back_of_in sound.laws ws (slice_index key.plugs x) (rotors_permute sound key.wheels key.rings window) (board.permutation.each_once.within x lt))
       ∙ board_returns key.plugs x board lt
 
   pub path_moves : (x : ℕ) → x < 26 → slice_index (path key window) x ≢ x
   path_moves x lt same =
-      at_alphabet (reflector_of key.reflector) (λ z. reflect z ≢ z) (sound.none_fixed key.reflector) (go_in x) (in_lt x lt)
+      at_alphabet (λ z. reflect z ≢ z) (sound.none_fixed key.reflector) (go_in x) (in_lt x lt)
       (sym (in_again x lt) ∙ ap go_in same)

@@ -1,19 +1,17 @@
 -- The letters in the cables.
-use Rattle.std.proofs.Common.{◌≡◌, ◌↔◌, get_or, ℕ, zero, suc, ◌+◌, ◌<◌, nat_eq, nat_le, Bool, true, false, not, ◌||◌, ◌&&◌, List, [], ◌∷◌, ◌++◌, length, map, set, drop, Option, Some, None, slice_get, refl, sym, ap, ◌∙◌, inl, inr, subst, arith}
+use Rattle.std.proofs.Common.{◌≡◌, ◌↔◌, get_or, ℕ, zero, suc, ◌+◌, ◌<◌, nat_eq, nat_le, true, false, not, ◌&&◌, List, [], ◌∷◌, ◌++◌, length, map, set, drop, Option, Some, None, slice_get, refl, sym, ap, ◌∙◌, subst, arith}
 use Rattle.std.specs.List.{IsDistinct, AllByRecursion}
 use Rattle.std.specs.List.Sorted.{IsPermutation}
-use Rattle.std.specs.Option.{option_to_list, is_none}
-use Rattle.std.proofs.lemmas.Bool.{true≢false, both_ways, cond_both, eqb-true, eqb-false, ne_eqb, eq-eqb, or_parts, or_from, cases_Bool, leb-false, le-leb, and_parts, and_from, not-true}
+use Rattle.std.specs.Option.{is_none}
+use Rattle.std.proofs.lemmas.Bool.{true≢false, cond_both, eqb-true, eq-eqb, or_parts, or_from, leb-false, le-leb, and_parts, and_from, not-true}
+use Rattle.std.proofs.lemmas.Bool.Decides.{nat_tests}
 use Rattle.std.proofs.lemmas.List.{append_assoc, drop_more}
 use Rattle.std.proofs.lemmas.List.Sorted.{IsPermutation-refl, IsPermutation-trans, IsPermutation-append_comm, IsPermutation-append_left, IsPermutation-append, IsPermutation-append_right}
 use Rattle.kd_state.specs.Machine.{cable_letters, plugged_letters, ordered}
 use Rattle.kd_state.specs.Setting.{has_letter, are_new, cable_without, cable_with}
 
 pub eqb_flips : (x y : ℕ) → nat_eq x y ≡ nat_eq y x
-eqb_flips x y = elim (cases_Bool (nat_eq x y)) [
-  | inl e ↦ e ∙ sym (eq-eqb y x (sym (eqb-true x y e)))
-  | inr e ↦ e ∙ sym (ne_eqb y x (λ same. eqb-false x y e (sym same)))
-]
+eqb_flips x y = grind (arith, nat_tests)
 
 -- none of the letters is equal to the one exactly where it isn't among them
 pub free_of_absent : (letters : List ℕ) (letter : ℕ) → has_letter letters letter ≡ false → AllByRecursion (λ other. nat_eq letter other ≡ false) letters
@@ -47,13 +45,11 @@ unfolding IsDistinct
 no_letter_twice = tt
 
 -- the letters of a cable in order are the same letters
-two_ordered : (b : Bool) (letter other : ℕ) → nat_le letter other ≡ b → IsPermutation (letter ∷ other ∷ []) (cable_letters (ordered (Some letter) (Some other)))
-two_ordered true letter other e = rw e (IsPermutation-refl (letter ∷ other ∷ []))
-two_ordered false letter other e = rw e (IsPermutation-append_comm (letter ∷ []) (other ∷ []))
-
 pub ordered_moves : (one other : Option ℕ) → IsPermutation (cable_letters (one, other)) (cable_letters (ordered one other))
 ordered_moves None None = IsPermutation-refl []
-ordered_moves (Some letter) (Some other) = two_ordered (nat_le letter other) letter other refl
+ordered_moves (Some letter) (Some other) =
+    cond_both (nat_le letter other) (Some letter, Some other) (Some other, Some letter) (λ cable. IsPermutation (letter ∷ other ∷ []) (cable_letters cable))
+    (λ _. IsPermutation-refl (letter ∷ other ∷ [])) (λ _. IsPermutation-append_comm (letter ∷ []) (other ∷ []))
 ordered_moves one other = IsPermutation-refl (cable_letters (one, other))
 
 abbrev pub all_ordered : List (Option ℕ × Option ℕ) → List (Option ℕ × Option ℕ)
@@ -66,15 +62,15 @@ all_ordered_move (cable ∷ cables) =
     (ordered_moves cable.0 cable.1) (all_ordered_move cables)
 
 -- what is in order stays so
-two_again : (b : Bool) (letter other : ℕ) → nat_le letter other ≡ b → ordered (ordered (Some letter) (Some other)).0 (ordered (Some letter) (Some other)).1 ≡ ordered (Some letter) (Some other)
-two_again true letter other e = rw (e, e) refl
-two_again false letter other e =
-    let less : nat_le other letter ≡ true = le-leb other letter (omega (arith, leb-false letter other e)) in
-    rw (e, less) refl
+in_order : Option ℕ × Option ℕ → Type 0
+in_order cable = ordered cable.0 cable.1 ≡ cable
 
 pub ordered_again : (one other : Option ℕ) → ordered (ordered one other).0 (ordered one other).1 ≡ ordered one other
+unfolding in_order
 ordered_again None None = refl
-ordered_again (Some letter) (Some other) = two_again (nat_le letter other) letter other refl
+ordered_again (Some letter) (Some other) =
+    cond_both (nat_le letter other) (Some letter, Some other) (Some other, Some letter) in_order (λ e. rw e refl)
+    (λ e. rw (le-leb other letter (omega (arith, leb-false letter other e))) refl)
 ordered_again one other = refl
 
 pub all_ordered_again : (cables : List (Option ℕ × Option ℕ)) → all_ordered (all_ordered cables) ≡ all_ordered cables
@@ -82,56 +78,28 @@ all_ordered_again [] = refl
 all_ordered_again (cable ∷ cables) =
     ap (λ first. first ∷ all_ordered (all_ordered cables)) (ordered_again cable.0 cable.1) ∙ ap (λ rest. ordered cable.0 cable.1 ∷ rest) (all_ordered_again cables)
 
-single_ordered : (end : Option ℕ) → ordered end None ≡ (end, None)
-single_ordered None = refl
-single_ordered (Some letter) = refl
-
-in_order : Option ℕ × Option ℕ → Type 0
-in_order cable = ordered cable.0 cable.1 ≡ cable
-
 pub without_ordered : (letter : ℕ) (one other : Option ℕ) → ordered (cable_without letter (one, other)).0 (cable_without letter (one, other)).1 ≡ cable_without letter (one, other)
 unfolding in_order
 without_ordered letter None other = refl
-without_ordered letter (Some end) other =
-    cond_both (nat_eq letter end) (other, None) (Some end, None) in_order (λ _. single_ordered other) (λ _. single_ordered (Some end))
+without_ordered letter (Some end) None = cond_both (nat_eq letter end) (None, None) (Some end, None) in_order (λ _. refl) (λ _. refl)
+without_ordered letter (Some end) (Some other) = cond_both (nat_eq letter end) (Some other, None) (Some end, None) in_order (λ _. refl) (λ _. refl)
 
 -- a letter that is taken out of its cable, before those that stay
-without_first : (letter : ℕ) (other : Option ℕ) → IsPermutation (letter ∷ option_to_list other) (letter ∷ cable_letters (other, None))
-without_first letter None = IsPermutation-refl (letter ∷ [])
-without_first letter (Some other) = IsPermutation-refl (letter ∷ other ∷ [])
-
-without_second : (letter end : ℕ) (other : Option ℕ) → has_letter (option_to_list other) letter ≡ true → IsPermutation (end ∷ option_to_list other) (letter ∷ end ∷ [])
-without_second letter end None h = cc
-without_second letter end (Some other) h =
-    let e : other ≡ letter = second other h in
-    subst (λ (x : ℕ). IsPermutation (end ∷ x ∷ []) (letter ∷ end ∷ [])) (sym e) (IsPermutation-append_comm (end ∷ []) (letter ∷ []))
-  where
-    second : (other : ℕ) → (nat_eq other letter || false) ≡ true → other ≡ letter
-    second other h = elim (cases_Bool (nat_eq other letter)) [
-      | inl e ↦ eqb-true other letter e
-      | inr e ↦ absurd (cc (e, h))
-    ]
-
-without_moves_cond : (b : Bool) (letter end : ℕ) (other : Option ℕ) → nat_eq letter end ≡ b → has_letter (cable_letters (Some end, other)) letter ≡ true
-    → IsPermutation (cable_letters (Some end, other)) (letter ∷ cable_letters (cable_without letter (Some end, other)))
-without_moves_cond true letter end other e h =
-    rw e (subst (λ (x : ℕ). IsPermutation (x ∷ option_to_list other) (letter ∷ cable_letters (other, None))) (eqb-true letter end e) (without_first letter other))
-without_moves_cond false letter end other e h =
-    let no : nat_eq end letter ≡ false = eqb_flips end letter ∙ e in
-    let rest : has_letter (option_to_list other) letter ≡ true = rw no at h in
-    rw e (without_second letter end other rest)
-
-without_lone : (letter : ℕ) (other : Option ℕ) → has_letter (option_to_list other) letter ≡ true → IsPermutation (option_to_list other) (letter ∷ [])
-without_lone letter None h = cc
-without_lone letter (Some other) h = elim (cases_Bool (nat_eq other letter)) [
-  | inl e ↦ subst (λ (x : ℕ). IsPermutation (other ∷ []) (x ∷ [])) (eqb-true other letter e) (IsPermutation-refl (other ∷ []))
-  | inr e ↦ absurd (cc (e, h))
-]
-
 pub without_moves : (letter : ℕ) (one other : Option ℕ) → has_letter (cable_letters (one, other)) letter ≡ true
     → IsPermutation (cable_letters (one, other)) (letter ∷ cable_letters (cable_without letter (one, other)))
-without_moves letter None other h = without_lone letter other h
-without_moves letter (Some end) other h = without_moves_cond (nat_eq letter end) letter end other refl h
+without_moves letter None None h = absurd (true≢false (sym h))
+without_moves letter None (Some end) h =
+    let e : letter ≡ end = grind (arith, nat_tests) in
+    subst (λ (x : ℕ). IsPermutation (x ∷ []) (letter ∷ [])) e (IsPermutation-refl (letter ∷ []))
+without_moves letter (Some end) None h =
+    let e : letter ≡ end = grind (arith, nat_tests) in
+    rw (eq-eqb letter end e) (subst (λ (x : ℕ). IsPermutation (x ∷ []) (letter ∷ [])) e (IsPermutation-refl (letter ∷ [])))
+without_moves letter (Some end) (Some other) h =
+    cond_both (nat_eq letter end) (Some other, None) (Some end, None) (λ cable. IsPermutation (end ∷ other ∷ []) (letter ∷ cable_letters cable))
+    (λ e. subst (λ (x : ℕ). IsPermutation (x ∷ other ∷ []) (letter ∷ other ∷ [])) (eqb-true letter end e) (IsPermutation-refl (letter ∷ other ∷ [])))
+    (λ e.
+    let is : letter ≡ other = grind (arith, nat_tests) in
+    subst (λ (x : ℕ). IsPermutation (end ∷ x ∷ []) (letter ∷ end ∷ [])) is (IsPermutation-append_comm (end ∷ []) (letter ∷ [])))
 
 -- a letter that is put into a loose end
 after_end : (letter end : ℕ) → IsPermutation (letter ∷ end ∷ []) (cable_letters (ordered (Some end) (Some letter)))
@@ -164,24 +132,14 @@ set_moves out into (first ∷ cables) (suc place) cable new here moves =
     (IsPermutation-trans _ _ _ (IsPermutation-append_right (cable_letters first) (out ++ plugged_letters cables) (into ++ plugged_letters (set cables place new)) rest)
     (past (cable_letters first) into (plugged_letters (set cables place new))))
 
--- the cables from a place on, where that cable's letters are new before the rest
+-- the letters in the cables from a place on are apart where those of that cable are new before the rest
 pub distinct_from : (cables : List (Option ℕ × Option ℕ)) (place : ℕ) (cable : Option ℕ × Option ℕ) → place < length cables → cable ≡ get_or cables place cable
-    → plugged_letters (drop place cables) ≡ cable_letters cable ++ plugged_letters (drop (place + 1) cables)
+    → IsDistinct nat_eq (plugged_letters (drop place cables))
+    ↔ ((are_new (cable_letters cable) (plugged_letters (drop (place + 1) cables)) ≡ true) × IsDistinct nat_eq (plugged_letters (drop (place + 1) cables)))
 distinct_from cables place cable within is =
-    ap plugged_letters (drop_more cables place cable within)
-    ∙ ap (λ (c : Option ℕ × Option ℕ). cable_letters c ++ plugged_letters (drop (place + 1) cables)) (sym is)
-
-pub still_distinct : (cables : List (Option ℕ × Option ℕ)) (place : ℕ) (cable : Option ℕ × Option ℕ) → place < length cables → cable ≡ get_or cables place cable
-    → are_new (cable_letters cable) (plugged_letters (drop (place + 1) cables)) ≡ true
-    → IsDistinct nat_eq (plugged_letters (drop place cables)) ↔ IsDistinct nat_eq (plugged_letters (drop (place + 1) cables))
-still_distinct cables place cable within is new =
-    let e = distinct_from cables place cable within is in (
-      λ h. (new_of_distinct (cable_letters cable) (plugged_letters (drop (place + 1) cables)) (subst (IsDistinct nat_eq) e h)).1,
-      λ h. subst (IsDistinct nat_eq) (sym e) (distinct_of_new (cable_letters cable) (plugged_letters (drop (place + 1) cables)) new h),
+    let rest = plugged_letters (drop (place + 1) cables) in
+    let all : plugged_letters (drop place cables) ≡ cable_letters cable ++ rest =
+    ap plugged_letters (drop_more cables place cable within) ∙ ap (λ (c : Option ℕ × Option ℕ). cable_letters c ++ rest) (sym is) in (
+      λ h. new_of_distinct (cable_letters cable) rest (subst (IsDistinct nat_eq) all h),
+      λ h. subst (IsDistinct nat_eq) (sym all) (distinct_of_new (cable_letters cable) rest h.0 h.1),
     )
-
-pub not_distinct : (cables : List (Option ℕ × Option ℕ)) (place : ℕ) (cable : Option ℕ × Option ℕ) → place < length cables → cable ≡ get_or cables place cable
-    → are_new (cable_letters cable) (plugged_letters (drop (place + 1) cables)) ≡ false → IsDistinct nat_eq (plugged_letters (drop place cables)) → ⊥
-not_distinct cables place cable within is new h =
-    let e = distinct_from cables place cable within is in
-    both_ways _ new (new_of_distinct (cable_letters cable) (plugged_letters (drop (place + 1) cables)) (subst (IsDistinct nat_eq) e h)).0

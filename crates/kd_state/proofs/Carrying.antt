@@ -16,7 +16,7 @@ use Rattle.kd_state.specs.declared.setting.why.Why.TheVariants.{WheelNotAllowed}
 use Rattle.kd_state.specs.Machine.{IsMachine}
 use Rattle.kd_state.specs.Setting.{why_refused, changed, Carries, Leads}
 use Rattle.kd_state.specs.Line.{IsInRange}
-use Rattle.kd_state.proofs.Keeping.{first_reason, settings_keep_machines, none_holds}
+use Rattle.kd_state.proofs.Changing.{first_reason, settings_keep_machines, no_reason}
 use Rattle.kd_state.proofs.Wheels.{has_wheel-Decides, has_reflector-Decides}
 
 pub lists_keep_machines : (m n : Parts) (xs : List Setting) → IsMachine m → All IsInRange xs → Leads m xs n → IsMachine n
@@ -42,7 +42,7 @@ leads_to_one m n o (x ∷ xs) one other =
 -- a refusal by a test of the tables alone
 by_the_tables : {P : Type 0} (may : Bool) → Decides may P → (first_reason ((not may, WheelNotAllowed) ∷ []) ≡ None) ↔ P
 by_the_tables may tells = (
-  λ e. tells.0 (not-false may (none_holds (not may) WheelNotAllowed [] e).0),
+  λ e. tells.0 (not-false may (no_reason ((not may, WheelNotAllowed) ∷ []) e).0),
   λ h. rw (tells.1 h) refl,
 )
 

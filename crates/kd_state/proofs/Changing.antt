@@ -1,14 +1,16 @@
--- What a setting that is carried out changes is what the readers tell, and nothing else.
-use Rattle.std.proofs.Common.{◌≡◌, ◌≢◌, ◌⊎◌, ◌↔◌, ℕ, zero, suc, ◌-◌, ◌<◌, ◌≤◌, Bool, true, false, not, nat_eq, List, [], ◌∷◌, length, map, set, Contains, Option, Some, None, slice_get, refl, sym, ap, ◌∙◌, inl, inr, subst, arith}
-use Rattle.std.specs.List.{IsDistinct}
+-- What a setting that is carried out makes of a machine: a machine again, in which the readers tell what was set, and all else as before.
+use Rattle.std.proofs.Common.{◌≡◌, ◌≢◌, ◌⊎◌, ◌↔◌, ℕ, zero, suc, ◌+◌, ◌-◌, ◌<◌, ◌≤◌, nat_eq, Bool, true, false, List, [], ◌∷◌, length, map, set, find, All, Contains, Option, Some, None, slice_get, refl, sym, ap, ◌∙◌, inl, inr, subst, arith}
+use Rattle.std.specs.List.{IsDistinct, AllByRecursion}
 use Rattle.std.specs.List.Sorted.{IsPermutation}
-use Rattle.std.specs.Option.{is_none, is_some, option_map, option_map_or, option_and_then, unwrap_or}
-use Rattle.std.proofs.lemmas.Bool.{cases_eq, cases_Bool, both_ways, eqb-true, not-false, false≢true}
-use Rattle.std.proofs.lemmas.List.{length-map}
-use Rattle.std.proofs.lemmas.List.Elements.{Contains-append_left, Contains-append_right}
+use Rattle.std.specs.Option.{is_none, option_map, option_or, option_and_then, unwrap_or}
+use Rattle.std.proofs.lemmas.Bool.{cases_eq, cases_Bool, both_ways, not-false, false≢true, eqb-false, true_from_ne_false}
+use Rattle.std.proofs.lemmas.Bool.Decides.{nat_tests, not_from_Decides}
+use Rattle.std.proofs.lemmas.List.{length-set, map-set, length-map}
+use Rattle.std.proofs.lemmas.List.Elements.{All-set, All-tail, All-cons, All-contains, All-from_recursion, Contains-append_left, Contains-append_right, Contains-append_cases}
 use Rattle.std.proofs.lemmas.List.Quantifiers.{position-Some}
-use Rattle.std.proofs.lemmas.List.Sorted.{Contains-permutation, IsPermutation-sym}
-use Rattle.std.proofs.lemmas.Map.Keys.{IsDistinct-IsPermutation}
+use Rattle.std.proofs.lemmas.List.Sorted.{All-permutation, Contains-permutation, IsPermutation-sym}
+use Rattle.std.proofs.lemmas.Map.Keys.{IsDistinct-IsPermutation, IsDistinct-head, IsDistinct-tail, IsDistinct-cons}
+use Rattle.std.proofs.lemmas.Map.Made.{Contains-tail}
 use Rattle.std.proofs.lemmas.Option.{none-some, same_Some, slice_get-map, slice_get_within}
 use Rattle.kd_tables.specs.declared.model.Model.{Model}
 use Rattle.kd_tables.specs.declared.wheel.Wheel.{Wheel}
@@ -16,8 +18,9 @@ use Rattle.kd_tables.specs.declared.reflector.Reflector.{Reflector}
 use Rattle.kd_tables.specs.declared.place.Place.{Place}
 use Rattle.kd_tables.specs.declared.lug.Lug.{Lug}
 use Rattle.kd_tables.specs.declared.lug.Lug.TheVariants.{Left, Right}
-use Rattle.kd_tables.specs.Tables.{box_of, wheels_for}
+use Rattle.kd_tables.specs.Tables.{box_of, wheels_for, reflectors_of, IsAllowed}
 use Rattle.kd_tables.specs.Rings.{ring_of, place_on}
+use Rattle.kd_tables.specs.Places.{IsBefore}
 use Rattle.kd_pins.specs.declared.pin_set.PinSet.{PinSet}
 use Rattle.kd_pins.specs.PinWheels.{pins_of}
 use Rattle.kd_state.specs.declared.machine.rotor_parts.RotorParts.{RotorParts}
@@ -27,31 +30,61 @@ use Rattle.kd_state.specs.declared.machine.parts.Parts.TheVariants.{Rotor, Pin}
 use Rattle.kd_state.specs.declared.setting.Setting.{Setting}
 use Rattle.kd_state.specs.declared.setting.Setting.TheVariants.{Pull, Put, Seat, SeatReflector, RingTo, Turn, PinTo, LugTo}
 use Rattle.kd_state.specs.declared.setting.why.Why.{Why}
-use Rattle.kd_state.specs.declared.setting.why.Why.TheVariants.{NoSuchCable, NotThere, NoLooseEnd, SocketTaken, WheelNotAllowed, SlotEmpty, NotOnWheel, NoSuchBar, PlaceTaken, WouldPass}
+use Rattle.kd_state.specs.declared.setting.why.Why.TheVariants.{WouldPass}
 use Rattle.kd_state.specs.Box.{numbered, same_wheel, has_wheel, place_in_box}
 use Rattle.kd_state.specs.Pins.{wheel_pins, pin_at, pin_set, with_pin}
-use Rattle.kd_state.specs.Machine.{cable_letters, plugged_letters, AreCables, IsLegalRotor, IsLegalPin, IsMachine}
-use Rattle.kd_state.specs.Setting.{has_letter, cable_at, seated_in, is_plugged, cable_without, cable_with, without, with_letter, with_lug, with_lug_at, lug_place, other_lug, other_place, is_at, lies_beyond, why_refused, changed}
-use Rattle.kd_state.specs.Changes.{Thing, TheSlot, TheReflector, TheRing, TheLetter, TheCable, ThePin, TheShown, TheBar, IsKept, SetsOnly, Turns, TakesOut, PutsIn, MovesLug, Makes, IsSeatOf}
-use Rattle.kd_state.specs.Laws.{SettingsAreTold}
-use Rattle.kd_state.proofs.Cables.{set_moves, without_moves, with_moves, eqb_flips, absent_of_free}
-use Rattle.kd_state.proofs.Keeping.{not_none, none_holds}
-use Rattle.kd_state.proofs.Wheels.{places_tell_wheels, has_wheel-Decides, same_wheel-Decides, same_wheel_self, same_wheel_differs, placed, place_within, place_nowhere}
-use Rattle.kd_state.proofs.Rings.{has_letter-Decides, is_some-place_on}
-use Rattle.kd_state.proofs.Slots.{is_numbered, set_here, set_other, numbered_here, numbered_other, seated_in_box}
+use Rattle.kd_state.specs.Machine.{cable_letters, plugged_letters, ordered, StandsAt, AreLetters, AreCables, IsLegalRotor, IsLegalPin, IsMachine, cables_ordered}
+use Rattle.kd_state.specs.Setting.{cable_at, cable_without, cable_with, without, with_letter, with_lug, with_lug_at, lug_place, other_lug, is_at, lies_beyond, reasons, why_refused, changed}
+use Rattle.kd_state.specs.Changes.{Thing, TheSlot, TheReflector, TheRing, TheLetter, TheCable, ThePin, TheShown, TheBar, IsKept, SetsOnly, Turns, MovesLug, Makes, IsSeatOf}
+use Rattle.kd_state.specs.Laws.{SettingsAreTold, SettingsKeepMachines}
+use Rattle.kd_state.specs.Line.{IsInRange}
+use Rattle.kd_state.proofs.Cables.{all_ordered, all_ordered_move, all_ordered_again, ordered_again, without_ordered, without_moves, with_moves, set_moves, eqb_flips, free_of_absent}
+use Rattle.kd_state.proofs.DayPairs.{of_one}
+use Rattle.kd_state.proofs.Rings.{has_letter-Decides, place_there, only_place}
+use Rattle.kd_state.proofs.Slots.{stands, not_none, set_here, set_other, numbered_here, numbered_other, seated_in_box}
+use Rattle.kd_state.proofs.Wheels.{places_tell_wheels, has_wheel-Decides, has_reflector-Decides, same_wheel-Decides, same_wheel_self, same_wheel_differs, placed, place_within, place_nowhere}
 
--- a thing that isn't touched is kept
-abbrev Keeps : (Thing → Type 0) → Parts → Parts → Thing → Type 0
-Keeps IsTouched m n thing = ¬ (IsTouched thing) → IsKept m n thing
+-- ---- reasons, and machines that differ in one thing
+
+abbrev pub first_reason : List (Bool × Why) → Option Why
+first_reason reasons = option_map (λ reason. reason.1) (find (λ reason. reason.0) reasons)
+
+-- where nothing is refused, no reason holds
+pub no_reason : (reasons : List (Bool × Why)) → first_reason reasons ≡ None → AllByRecursion (λ reason. reason.0 ≡ false) reasons
+no_reason [] e = tt
+no_reason ((false, why) ∷ rest) e = (refl, no_reason rest e)
+no_reason ((true, why) ∷ rest) e = absurd (none-some why (sym e))
+
+-- the setting changes what it says, and makes a machine
+record IsCarried (m : Parts) (x : Setting) : Type 0 where
+  told : Makes m x (changed m x)
+  kept : IsInRange x → IsMachine (changed m x)
+
+-- a thing is kept, unless it is the one that is set
+abbrev Keeps : Thing → Parts → Parts → Thing → Type 0
+Keeps thing m n other = other ≢ thing → IsKept m n other
+
+in_their_order : (m : RotorParts) → cables_ordered (Rotor m) ≡ Rotor m → all_ordered m.cables ≡ m.cables
+in_their_order m e = let same : record m { cables = all_ordered m.cables } ≡ m = cc in ap (λ (k : RotorParts). k.cables) same
+
+rotor_machine : (m : RotorParts) → IsLegalRotor m → all_ordered m.cables ≡ m.cables → IsMachine (Rotor m)
+rotor_machine m legal e = record { legal = legal; cables = ap (λ cs. Rotor (record m { cables = cs })) e }
+
+pin_machine : (m : PinParts) → IsLegalPin m → IsMachine (Pin m)
+pin_machine m legal = record { legal = legal; cables = refl }
 
 -- ---- cables
 
-one_of : (first other : ℕ) (letters : List ℕ) → Contains (first ∷ letters) other → (first ≡ other) ⊎ Contains letters other
-one_of first other letters (zero, within, is) = inl is
-one_of first other letters (suc place, within, is) = inr (place, omega arith, is)
+-- letters of the alphabet, none of them twice
+record AreFree (letters : List ℕ) : Type 0 where
+  within : All (λ letter. letter < 26) letters
+  apart : IsDistinct nat_eq letters
 
-the_first : (first : ℕ) (letters : List ℕ) → Contains (first ∷ letters) first
-the_first first letters = (0, omega arith, refl)
+moved_free : (letters others : List ℕ) → IsPermutation letters others → AreFree letters → AreFree others
+moved_free letters others moved h = record {
+  within = All-permutation (λ (l : ℕ). l < 26) letters others moved h.within;
+  apart = IsDistinct-IsPermutation nat_eq eqb_flips letters others moved h.apart;
+}
 
 lies_plugged : (cables : List (Option ℕ × Option ℕ)) (place : ℕ) (cable : Option ℕ × Option ℕ) (letter : ℕ) → slice_get cables place ≡ Some cable
     → Contains (cable_letters cable) letter → Contains (plugged_letters cables) letter
@@ -61,320 +94,424 @@ lies_plugged (first ∷ cables) zero cable letter here lies =
 lies_plugged (first ∷ cables) (suc place) cable letter here lies =
     Contains-append_right (cable_letters first) (plugged_letters cables) letter (lies_plugged cables place cable letter here lies)
 
-new_first : (letter : ℕ) (letters : List ℕ) → IsDistinct nat_eq (letter ∷ letters) → has_letter letters letter ≡ false
-unfolding IsDistinct
-new_first letter letters h = absent_of_free letters letter h.0
-
-taken_out : (cables : List (Option ℕ × Option ℕ)) (place letter : ℕ) (cable : Option ℕ × Option ℕ) → AreCables cables → slice_get cables place ≡ Some cable
-    → has_letter (cable_letters cable) letter ≡ true → (other : ℕ)
-    → Contains (cable_letters (cable_without letter cable)) other ↔ (Contains (cable_letters cable) other × (other ≢ letter))
-taken_out cables place letter cable h here there other =
-    let new = cable_without letter cable in
-    let left = plugged_letters (set cables place new) in
-    let moved : IsPermutation (cable_letters cable) (letter ∷ cable_letters new) = without_moves letter cable.0 cable.1 there in
-    let moves : IsPermutation (plugged_letters cables) (letter ∷ left) = set_moves [] (letter ∷ []) cables place cable new here moved in
-    let gone : has_letter left letter ≡ false = new_first letter left (IsDistinct-IsPermutation nat_eq eqb_flips _ _ moves h.apart) in
-    let there_now = set_here cables place new (slice_get_within cables place cable here) in (
-      λ lies. (
-        Contains-permutation _ _ other (IsPermutation-sym _ _ moved) (Contains-append_right (letter ∷ []) (cable_letters new) other lies),
-        λ e. both_ways _ gone ((has_letter-Decides left letter).1 (lies_plugged (set cables place new) place new letter there_now (subst (Contains (cable_letters new)) e lies))),
-      ),
-      λ lay. elim (one_of letter other (cable_letters new) (Contains-permutation _ _ other moved lay.0)) [ inl e ↦ absurd (lay.1 (sym e)) | inr lies ↦ lies ],
-    )
-
-put_into : (letter : ℕ) (cable : Option ℕ × Option ℕ) → is_plugged cable ≡ false → (other : ℕ)
-    → Contains (cable_letters (cable_with letter cable)) other ↔ (Contains (cable_letters cable) other ⊎ (other ≡ letter))
-put_into letter cable loose other =
-    let old = cable_letters cable in
-    let moved : IsPermutation (letter ∷ old) (cable_letters (cable_with letter cable)) = with_moves letter cable.0 cable.1 loose in (
-      λ lies. elim (one_of letter other old (Contains-permutation _ _ other (IsPermutation-sym _ _ moved) lies)) [ inl e ↦ inr (sym e) | inr lay ↦ inl lay ],
-      λ lay. Contains-permutation _ _ other moved (elim lay [
-        | inl lay ↦ Contains-append_right (letter ∷ []) old other lay
-        | inr e ↦ subst (Contains (letter ∷ old)) (sym e) (the_first letter old)
-      ]),
-    )
-
 keeps_cables : (m : RotorParts) (cable : ℕ) (new : Option ℕ × Option ℕ) → 1 ≤ cable
     → SetsOnly (TheCable cable) (Rotor m) (Rotor (record m { cables = set m.cables (cable - 1) new }))
 keeps_cables m cable new first = record {
   model = refl;
-  others = λ thing. elim thing as (Keeps (λ t. t ≡ TheCable cable) (Rotor m) (Rotor (record m { cables = set m.cables (cable - 1) new }))) [
+  others = λ thing. elim thing as (Keeps (TheCable cable) (Rotor m) (Rotor (record m { cables = set m.cables (cable - 1) new }))) [
     | TheCable other ↦ λ free. numbered_other m.cables cable other new first (λ e. free (ap TheCable e))
     | _ ↦ λ _. refl
   ];
 }
 
-told_pull : (m : RotorParts) (cable letter : ℕ) → IsLegalRotor m → why_refused (Rotor m) (Pull cable letter) ≡ None → Makes (Rotor m) (Pull cable letter) (changed (Rotor m) (Pull cable letter))
-told_pull m cable letter l allowed =
-    let there_is : List (Bool × Why) = (not (has_letter (cable_letters (cable_at m cable)) letter), NotThere) ∷ [] in
-    let first = none_holds (is_none (numbered m.cables cable)) NoSuchCable there_is allowed in
-    let second = none_holds (not (has_letter (cable_letters (cable_at m cable)) letter)) NotThere [] first.1 in
-    let found = not_none (numbered m.cables cable) first.0 in
-    let at = is_numbered m.cables cable found.0 found.1 in
-    let there : has_letter (cable_letters found.0) letter ≡ true = let h = not-false _ second.0 in rw found.1 at h in
-    let new = cable_without letter (cable_at m cable) in
-    let now = numbered_here m.cables cable new at.first at.last in
-    let out : TakesOut (Rotor m) cable letter (Rotor (record m { cables = set m.cables (cable - 1) new })) =
-    rw (now, found.1) (taken_out m.cables (cable - 1) letter found.0 l.cables at.here there) in
-    (out, keeps_cables m cable new at.first)
+with_cable : (m : RotorParts) (cable : ℕ) (new : Option ℕ × Option ℕ) → IsMachine (Rotor m) → ordered new.0 new.1 ≡ new
+    → AreFree (plugged_letters (set m.cables (cable - 1) new)) → IsMachine (Rotor (record m { cables = set m.cables (cable - 1) new }))
+with_cable m cable new h o free =
+    let l = h.legal in
+    let cables : AreCables (set m.cables (cable - 1) new) = record { count = length-set m.cables (cable - 1) new ∙ l.cables.count; within = free.within; apart = free.apart } in
+    rotor_machine _ (record { slots = l.slots; allowed = l.allowed; apart = l.apart; reflector = l.reflector; rings = l.rings; letters = l.letters; cables = cables })
+    (map-set (λ (cable : Option ℕ × Option ℕ). ordered cable.0 cable.1) m.cables (cable - 1) new
+    ∙ ap (λ cs. set cs (cable - 1) (ordered new.0 new.1)) (in_their_order m h.cables) ∙ ap (λ c. set m.cables (cable - 1) c) o)
 
-told_put : (m : RotorParts) (cable letter : ℕ) → why_refused (Rotor m) (Put cable letter) ≡ None → Makes (Rotor m) (Put cable letter) (changed (Rotor m) (Put cable letter))
-told_put m cable letter allowed =
-    let taken : List (Bool × Why) = (has_letter (plugged_letters m.cables) letter, SocketTaken) ∷ [] in
-    let first = none_holds (is_none (numbered m.cables cable)) NoSuchCable ((is_plugged (cable_at m cable), NoLooseEnd) ∷ taken) allowed in
-    let second = none_holds (is_plugged (cable_at m cable)) NoLooseEnd taken first.1 in
-    let found = not_none (numbered m.cables cable) first.0 in
-    let at = is_numbered m.cables cable found.0 found.1 in
-    let loose : is_plugged found.0 ≡ false = let h = second.0 in rw found.1 at h in
-    let new = cable_with letter (cable_at m cable) in
+pull : (m : RotorParts) (cable letter : ℕ) → IsMachine (Rotor m) → why_refused (Rotor m) (Pull cable letter) ≡ None → IsCarried (Rotor m) (Pull cable letter)
+pull m cable letter h allowed =
+    let no = no_reason (reasons (Rotor m) (Pull cable letter)) allowed in
+    let old = cable_at m cable in
+    let new = cable_without letter old in
+    let left = set m.cables (cable - 1) new in
+    let at = stands m.cables cable (None, None) (not_none _ no.0) in
     let now = numbered_here m.cables cable new at.first at.last in
-    let into : PutsIn (Rotor m) cable letter (Rotor (record m { cables = set m.cables (cable - 1) new })) =
-    rw (now, found.1) (put_into letter found.0 loose) in
-    (into, keeps_cables m cable new at.first)
+    let moved : IsPermutation (cable_letters old) (letter ∷ cable_letters new) = without_moves letter old.0 old.1 (not-false _ no.1.0) in
+    let moves : IsPermutation (plugged_letters m.cables) (letter ∷ plugged_letters left) = set_moves [] (letter ∷ []) m.cables (cable - 1) old new at.here moved in
+    let free = moved_free _ _ moves (record { within = h.legal.cables.within; apart = h.legal.cables.apart }) in
+    let gone = All-from_recursion (λ (l : ℕ). nat_eq letter l ≡ false) (plugged_letters left) (IsDistinct-head nat_eq letter (plugged_letters left) free.apart) in
+    let there = set_here m.cables (cable - 1) new (slice_get_within m.cables (cable - 1) old at.here) in
+    let out : (other : ℕ) → Contains (cable_letters new) other ↔ (Contains (cable_letters old) other × (other ≢ letter)) = λ other. (
+      λ lies. (
+        Contains-permutation _ _ other (IsPermutation-sym _ _ moved) (Contains-append_right (letter ∷ []) (cable_letters new) other lies),
+        λ e. eqb-false letter other (All-contains (λ (l : ℕ). nat_eq letter l ≡ false) (plugged_letters left) other gone (lies_plugged left (cable - 1) new other there lies)) (sym e),
+      ),
+      λ lay. Contains-tail letter (cable_letters new) other (λ e. lay.1 (sym e)) (Contains-permutation _ _ other moved lay.0),
+    )
+    in
+    record {
+      told = (rw (now, at.is) out, keeps_cables m cable new at.first);
+      kept = λ _. with_cable m cable new h (without_ordered letter old.0 old.1) (record {
+        within = All-tail (λ (l : ℕ). l < 26) letter (plugged_letters left) free.within;
+        apart = IsDistinct-tail nat_eq letter (plugged_letters left) free.apart;
+      });
+    }
+
+put : (m : RotorParts) (cable letter : ℕ) → IsMachine (Rotor m) → why_refused (Rotor m) (Put cable letter) ≡ None → IsCarried (Rotor m) (Put cable letter)
+put m cable letter h allowed =
+    let no = no_reason (reasons (Rotor m) (Put cable letter)) allowed in
+    let old = cable_at m cable in
+    let new = cable_with letter old in
+    let at = stands m.cables cable (None, None) (not_none _ no.0) in
+    let now = numbered_here m.cables cable new at.first at.last in
+    let moved : IsPermutation (letter ∷ cable_letters old) (cable_letters new) = with_moves letter old.0 old.1 no.1.0 in
+    let moves = set_moves (letter ∷ []) [] m.cables (cable - 1) old new at.here moved in
+    let into : (other : ℕ) → Contains (cable_letters new) other ↔ (Contains (cable_letters old) other ⊎ (other ≡ letter)) = λ other. (
+      λ lies. elim (Contains-append_cases (letter ∷ []) (cable_letters old) other (Contains-permutation _ _ other (IsPermutation-sym _ _ moved) lies)) [
+        | inl here ↦ inr (of_one letter other here)
+        | inr lay ↦ inl lay
+      ],
+      λ lay. Contains-permutation _ _ other moved (elim lay [
+        | inl lay ↦ Contains-append_right (letter ∷ []) (cable_letters old) other lay
+        | inr e ↦ (0, omega arith, sym e)
+      ]),
+    )
+    in
+    record {
+      told = (rw (now, at.is) into, keeps_cables m cable new at.first);
+      kept = λ r. with_cable m cable new h (ordered_again (option_or old.0 old.1) (Some letter)) (moved_free _ _ moves (record {
+        within = All-cons (λ (l : ℕ). l < 26) letter (plugged_letters m.cables) r.1 h.legal.cables.within;
+        apart = IsDistinct-cons nat_eq letter (plugged_letters m.cables) (free_of_absent (plugged_letters m.cables) letter no.1.1.0) h.legal.cables.apart;
+      }));
+    }
+
+-- parts that are legal make a machine once their cables are in order
+pub ordered_parts : (m : RotorParts) → IsLegalRotor m → IsMachine (cables_ordered (Rotor m))
+ordered_parts m l =
+    let free = moved_free _ _ (all_ordered_move m.cables) (record { within = l.cables.within; apart = l.cables.apart }) in
+    let count = length-map m.cables (λ (cable : Option ℕ × Option ℕ). ordered cable.0 cable.1) ∙ l.cables.count in
+    let cables : AreCables (all_ordered m.cables) = record { count = count; within = free.within; apart = free.apart } in
+    rotor_machine (record m { cables = all_ordered m.cables })
+    (record { slots = l.slots; allowed = l.allowed; apart = l.apart; reflector = l.reflector; rings = l.rings; letters = l.letters; cables = cables })
+    (all_ordered_again m.cables)
 
 -- ---- slots
-
--- what stands in a slot once the wheel was taken out
-left_there : (wheel : Wheel) (seated : Option Wheel) → seated ≢ Some wheel → without wheel seated ≡ seated
-left_there wheel None free = refl
-left_there wheel (Some other) free = rw (same_wheel_differs wheel other (λ e. free (ap Some (sym e)))) refl
-
-taken_from : (wheel : Wheel) → without wheel (Some wheel) ≡ None
-taken_from wheel = rw (same_wheel_self wheel) refl
 
 numbered-map : {X Y : Type 0} (f : X → Y) (xs : List X) (number : ℕ) → numbered (map f xs) number ≡ option_map f (numbered xs number)
 numbered-map f xs zero = refl
 numbered-map f xs (suc place) = slice_get-map f xs place
 
+-- what a slot holds once the wheel was taken out: what it held, unless it was the wheel
 not_held : (wheel : Wheel) (held : Option (Option Wheel)) → held ≢ Some (Some wheel) → option_map (without wheel) held ≡ held
-not_held wheel None free = refl
-not_held wheel (Some seated) free = ap Some (left_there wheel seated (λ e. free (ap Some e)))
+not_held wheel (Some (Some other)) free = rw (same_wheel_differs wheel other (λ e. free (ap (λ w. Some (Some w)) (sym e)))) refl
+not_held wheel held free = refl
 
-not_left : (wheel : Wheel) (held : Option (Option Wheel)) → option_map (without wheel) held ≢ Some (Some wheel)
-not_left wheel None e = none-some _ e
-not_left wheel (Some None) e = none-some wheel (same_Some _ _ e)
-not_left wheel (Some (Some other)) e = elim (cases_Bool (same_wheel wheel other)) [
-  | inl same ↦ let gone = same_Some _ _ e in none-some wheel (rw same at gone)
-  | inr differs ↦
-      let stays = same_Some _ _ e in
-      let one : other ≡ wheel = same_Some _ _ (rw differs at stays) in
-      both_ways _ differs ((same_wheel-Decides wheel other).1 (sym one))
-]
+left_standing : (wheel other : Wheel) (held : Option (Option Wheel)) → option_map (without wheel) held ≡ Some (Some other) → (held ≡ Some (Some other)) × (other ≢ wheel)
+left_standing wheel other (Some (Some there)) e =
+    let left = same_Some _ _ e in
+    elim (cases_Bool (same_wheel wheel there)) [
+      | inl same ↦ absurd (none-some other (rw same at left))
+      | inr differs ↦
+          let stays : Some there ≡ Some other = rw differs at left in
+          (ap Some stays, λ f. both_ways _ differs ((same_wheel-Decides wheel there).1 (sym (same_Some _ _ stays ∙ f))))
+    ]
+left_standing wheel other held e = absurd (cc)
 
-told_seat : (m : RotorParts) (slot : ℕ) (wheel : Wheel) → IsLegalRotor m → why_refused (Rotor m) (Seat slot wheel) ≡ None → Makes (Rotor m) (Seat slot wheel) (changed (Rotor m) (Seat slot wheel))
-told_seat m slot wheel l allowed =
-    let first = none_holds (not (has_wheel (wheels_for m.model slot) wheel)) WheelNotAllowed [] allowed in
-    let at = placed m.model slot wheel ((has_wheel-Decides (wheels_for m.model slot) wheel).0 (not-false _ first.0)) in
+-- a wheel that stands once another was seated is that one in its slot, or stood there before
+seat_cases : (slots : List (Option Wheel)) (at : ℕ) (wheel : Wheel) (place : ℕ) (other : Wheel) → StandsAt (set (map (without wheel) slots) at (Some wheel)) place other
+    → ((place ≡ at) × (other ≡ wheel)) ⊎ (StandsAt slots place other × (other ≢ wheel))
+seat_cases slots at wheel place other stands =
+    let left = map (without wheel) slots in
+    elim (cases_eq place at) [
+      | inl e ↦
+          let within : place < length left = omega (arith, slice_get_within (set left at (Some wheel)) place (Some other) stands, length-set left at (Some wheel)) in
+          let now : slice_get (set left at (Some wheel)) place ≡ Some (Some wheel) = subst (λ (p : ℕ). slice_get (set left p (Some wheel)) place ≡ Some (Some wheel)) e (set_here left place (Some wheel) within) in
+          inl (e, same_Some _ _ (same_Some _ _ (sym stands ∙ now)))
+      | inr ne ↦ inr (left_standing wheel other (slice_get slots place) (sym (slice_get-map (without wheel) slots place) ∙ sym (set_other left at place (Some wheel) ne) ∙ stands))
+    ]
+
+seat : (m : RotorParts) (slot : ℕ) (wheel : Wheel) → IsMachine (Rotor m) → why_refused (Rotor m) (Seat slot wheel) ≡ None → IsCarried (Rotor m) (Seat slot wheel)
+seat m slot wheel h allowed =
+    let l = h.legal in
+    let no = no_reason (reasons (Rotor m) (Seat slot wheel)) allowed in
+    let may = (has_wheel-Decides (wheels_for m.model slot) wheel).0 (not-false _ no.0) in
+    let at = placed m.model slot wheel may in
     let left = map (without wheel) m.slots in
+    let new = set left (slot - 1) (Some wheel) in
     let within : slot ≤ length left = omega (arith, length-map m.slots (without wheel), l.slots, at.last) in
-    let other_is : (other : ℕ) → other ≢ slot → numbered (set left (slot - 1) (Some wheel)) other ≡ option_map (without wheel) (numbered m.slots other) =
+    let gone : without wheel (Some wheel) ≡ None = rw (same_wheel_self wheel) refl in
+    let other_is : (other : ℕ) → other ≢ slot → numbered new other ≡ option_map (without wheel) (numbered m.slots other) =
     λ other ne. numbered_other left slot other (Some wheel) at.first ne ∙ numbered-map (without wheel) m.slots other in
+    let cases = seat_cases m.slots (slot - 1) wheel in
     record {
-      here = numbered_here left slot (Some wheel) at.first within;
-      only = λ other e. elim (cases_eq other slot) [ inl same ↦ same | inr ne ↦ absurd (not_left wheel (numbered m.slots other) (sym (other_is other ne) ∙ e)) ];
-      left = λ held ne e. other_is held ne ∙ ap (option_map (without wheel)) e ∙ ap Some (taken_from wheel);
-      others = record {
-        model = refl;
-        others = λ thing. elim thing as (Keeps (IsSeatOf (Rotor m) slot wheel) (Rotor m) (Rotor (record m { slots = set left (slot - 1) (Some wheel) }))) [
-          | TheSlot other ↦ λ free. other_is other (λ e. free (inl (ap TheSlot e))) ∙ not_held wheel (numbered m.slots other) (λ e. free (inr (other, refl, e)))
-          | _ ↦ λ _. refl
-        ];
+      told = record {
+        here = numbered_here left slot (Some wheel) at.first within;
+        only = λ other e. elim (cases_eq other slot) [ inl same ↦ same | inr ne ↦ absurd ((left_standing wheel wheel (numbered m.slots other) (sym (other_is other ne) ∙ e)).1 refl) ];
+        left = λ held ne e. other_is held ne ∙ ap (option_map (without wheel)) e ∙ ap Some gone;
+        others = record {
+          model = refl;
+          others = λ thing. elim thing as (λ t. ¬ (IsSeatOf (Rotor m) slot wheel t) → IsKept (Rotor m) (Rotor (record m { slots = new })) t) [
+            | TheSlot other ↦ λ free. other_is other (λ e. free (inl (ap TheSlot e))) ∙ not_held wheel (numbered m.slots other) (λ e. free (inr (other, refl, e)))
+            | _ ↦ λ _. refl
+          ];
+        };
       };
+      kept = λ _. rotor_machine _ (record {
+        slots = length-set left (slot - 1) (Some wheel) ∙ length-map m.slots (without wheel) ∙ l.slots;
+        allowed = λ place other e. elim (cases place other e) [
+          | inl here ↦
+              let one : slot ≡ place + 1 = omega (arith, here.0, at.first) in
+              subst (λ (n : ℕ). IsAllowed m.model n other) one (subst (IsAllowed m.model slot) (sym here.1) may)
+          | inr there ↦ l.allowed place other there.0
+        ];
+        apart = λ place another other e f. elim (cases place other e) [
+          | inl here ↦ elim (cases another other f) [ inl also ↦ here.0 ∙ sym also.0 | inr there ↦ absurd (there.1 here.1) ]
+          | inr there ↦ elim (cases another other f) [ inl here ↦ absurd (there.1 here.1) | inr also ↦ l.apart place another other there.0 also.0 ]
+        ];
+        reflector = l.reflector;
+        rings = l.rings;
+        letters = l.letters;
+        cables = l.cables;
+      }) (in_their_order m h.cables);
     }
 
-told_reflector : (m : RotorParts) (reflector : Reflector) → Makes (Rotor m) (SeatReflector reflector) (changed (Rotor m) (SeatReflector reflector))
-told_reflector m reflector = (
-  refl,
-  record {
-    model = refl;
-    others = λ thing. elim thing as (Keeps (λ t. t ≡ TheReflector) (Rotor m) (Rotor (record m { reflector = reflector }))) [
-      | TheReflector ↦ λ free. absurd (free refl)
-      | _ ↦ λ _. refl
-    ];
-  },
-)
+reflect : (m : RotorParts) (reflector : Reflector) → IsMachine (Rotor m) → why_refused (Rotor m) (SeatReflector reflector) ≡ None → IsCarried (Rotor m) (SeatReflector reflector)
+reflect m reflector h allowed =
+    let l = h.legal in
+    let no = no_reason (reasons (Rotor m) (SeatReflector reflector)) allowed in
+    let may = (has_reflector-Decides (reflectors_of m.model) reflector).0 (not-false _ no.0) in
+    let others : (thing : Thing) → Keeps TheReflector (Rotor m) (Rotor (record m { reflector = reflector })) thing =
+    λ thing. elim thing as (Keeps TheReflector (Rotor m) (Rotor (record m { reflector = reflector }))) [ TheReflector ↦ λ free. absurd (free refl) | _ ↦ λ _. refl ] in
+    record {
+      told = (refl, record { model = refl; others = others });
+      kept = λ _. rotor_machine _ (record { slots = l.slots; allowed = l.allowed; apart = l.apart; reflector = may; rings = l.rings; letters = l.letters; cables = l.cables })
+          (in_their_order m h.cables);
+    }
 
 -- ---- rings and window letters
 
-places_differ : (model : Model) (wheel other : Wheel) → Contains (box_of model) wheel → other ≢ wheel → place_in_box model other ≢ place_in_box model wheel
-places_differ model wheel other boxed ne e = elim (cases_Bool (has_wheel (box_of model) other)) [
-  | inl has ↦ ne (places_tell_wheels model other wheel ((has_wheel-Decides (box_of model) other).0 has) boxed e)
-  | inr lacks ↦
-      let nowhere = place_nowhere model other (λ has. both_ways _ lacks ((has_wheel-Decides (box_of model) other).1 has)) in
-      omega (arith, place_within model wheel boxed, nowhere, e)
-]
+letters_set : (number : ℕ) (letters : List ℕ) (place letter : ℕ) → letter < 26 → AreLetters number letters → AreLetters number (set letters place letter)
+letters_set number letters place letter within h = record {
+  count = length-set letters place letter ∙ h.count;
+  within = All-set (λ (l : ℕ). l < 26) letters place letter within h.within;
+}
 
-told_ring : (m : RotorParts) (wheel : Wheel) (letter : ℕ) → IsLegalRotor m → why_refused (Rotor m) (RingTo wheel letter) ≡ None → Makes (Rotor m) (RingTo wheel letter) (changed (Rotor m) (RingTo wheel letter))
-told_ring m wheel letter l allowed =
-    let first = none_holds (not (has_wheel (box_of m.model) wheel)) WheelNotAllowed [] allowed in
-    let boxed = (has_wheel-Decides (box_of m.model) wheel).0 (not-false _ first.0) in
-    let place = place_in_box m.model wheel in (
-      set_here m.rings place letter (omega (arith, place_within m.model wheel boxed, l.rings.count)),
-      record {
-        model = refl;
-        others = λ thing. elim thing as (Keeps (λ t. t ≡ TheRing wheel) (Rotor m) (Rotor (record m { rings = set m.rings place letter }))) [
-          | TheRing other ↦ λ free. set_other m.rings place (place_in_box m.model other) letter (places_differ m.model wheel other boxed (λ e. free (ap TheRing e)))
-          | _ ↦ λ _. refl
-        ];
-      },
-    )
+-- a letter that is set for a wheel of the box is read for that wheel, and for no other one
+for_wheel : (model : Model) (letters : List ℕ) (wheel : Wheel) (letter : ℕ) → Contains (box_of model) wheel → AreLetters (length (box_of model)) letters
+    → (slice_get (set letters (place_in_box model wheel) letter) (place_in_box model wheel) ≡ Some letter)
+    × ((other : Wheel) → other ≢ wheel → slice_get (set letters (place_in_box model wheel) letter) (place_in_box model other) ≡ slice_get letters (place_in_box model other))
+for_wheel model letters wheel letter boxed h = (
+  set_here letters (place_in_box model wheel) letter (omega (arith, place_within model wheel boxed, h.count)),
+  λ other ne. set_other letters (place_in_box model wheel) (place_in_box model other) letter (λ e. elim (cases_Bool (has_wheel (box_of model) other)) [
+    | inl has ↦ ne (places_tell_wheels model other wheel ((has_wheel-Decides (box_of model) other).0 has) boxed e)
+    | inr lacks ↦
+        let nowhere = place_nowhere model other (not_from_Decides _ (has_wheel-Decides (box_of model) other) lacks) in
+        omega (arith, place_within model wheel boxed, nowhere, e)
+  ]),
+)
 
-told_letter : (m : RotorParts) (slot letter : ℕ) (wheel : Wheel) → IsLegalRotor m → numbered m.slots slot ≡ Some (Some wheel)
-    → Turns (Rotor m) slot letter (Rotor (record m { letters = set m.letters (place_in_box m.model wheel) letter }))
-told_letter m slot letter wheel l here =
-    let boxed = seated_in_box m.model m.slots slot wheel l.allowed here in
-    let place = place_in_box m.model wheel in (
-      wheel,
-      here,
-      set_here m.letters place letter (omega (arith, place_within m.model wheel boxed, l.letters.count)),
-      record {
-        model = refl;
-        others = λ thing. elim thing as (Keeps (λ t. t ≡ TheLetter wheel) (Rotor m) (Rotor (record m { letters = set m.letters place letter }))) [
-          | TheLetter other ↦ λ free. set_other m.letters place (place_in_box m.model other) letter (places_differ m.model wheel other boxed (λ e. free (ap TheLetter e)))
-          | _ ↦ λ _. refl
-        ];
-      },
-    )
+pub with_letters : (m : RotorParts) (rings letters : List ℕ) → IsMachine (Rotor m) → AreLetters (length (box_of m.model)) rings → AreLetters (length (box_of m.model)) letters
+    → IsMachine (Rotor (record m { rings = rings; letters = letters }))
+with_letters m rings letters h are also =
+    let l = h.legal in
+    rotor_machine _ (record { slots = l.slots; allowed = l.allowed; apart = l.apart; reflector = l.reflector; rings = are; letters = also; cables = l.cables })
+    (in_their_order m h.cables)
+
+ring_to : (m : RotorParts) (wheel : Wheel) (letter : ℕ) → IsMachine (Rotor m) → why_refused (Rotor m) (RingTo wheel letter) ≡ None → IsCarried (Rotor m) (RingTo wheel letter)
+ring_to m wheel letter h allowed =
+    let l = h.legal in
+    let no = no_reason (reasons (Rotor m) (RingTo wheel letter)) allowed in
+    let place = place_in_box m.model wheel in
+    let reads = for_wheel m.model m.rings wheel letter ((has_wheel-Decides (box_of m.model) wheel).0 (not-false _ no.0)) l.rings in
+    record {
+      told = (
+        reads.0,
+        record {
+          model = refl;
+          others = λ thing. elim thing as (Keeps (TheRing wheel) (Rotor m) (Rotor (record m { rings = set m.rings place letter }))) [
+            | TheRing other ↦ λ free. reads.1 other (λ e. free (ap TheRing e))
+            | _ ↦ λ _. refl
+          ];
+        },
+      );
+      kept = λ within. with_letters m _ m.letters h (letters_set _ m.rings place letter within l.rings) l.letters;
+    }
 
 is_seated : (held : Option (Option Wheel)) → is_none (unwrap_or held None) ≡ false → (wheel : Wheel) × (held ≡ Some (Some wheel))
 is_seated (Some (Some wheel)) e = (wheel, refl)
 is_seated held e = absurd (false≢true (sym e))
 
-told_turn : (m : RotorParts) (slot letter : ℕ) → IsLegalRotor m → why_refused (Rotor m) (Turn slot letter) ≡ None → Makes (Rotor m) (Turn slot letter) (changed (Rotor m) (Turn slot letter))
-told_turn m slot letter l allowed =
-    let first = none_holds (is_none (seated_in m slot)) SlotEmpty [] allowed in
-    let found = is_seated (numbered m.slots slot) first.0 in
-    let seated : seated_in m slot ≡ Some found.0 = ap (λ held. unwrap_or held None) found.1 in
-    subst (λ seated. Turns (Rotor m) slot letter (Rotor (record m { letters = with_letter m seated letter }))) (sym seated)
-    (told_letter m slot letter found.0 l found.1)
-
--- ---- the Converter
-
-told_shown : (m : PinParts) (wheel letter : ℕ) → why_refused (Pin m) (Turn wheel letter) ≡ None → Makes (Pin m) (Turn wheel letter) (changed (Pin m) (Turn wheel letter))
-told_shown m wheel letter allowed =
-    let first = none_holds (is_none (numbered m.letters wheel)) SlotEmpty ((not (has_letter (ring_of wheel) letter), NotOnWheel) ∷ []) allowed in
-    let found = not_none (numbered m.letters wheel) first.0 in
-    let at = is_numbered m.letters wheel found.0 found.1 in (
-      numbered_here m.letters wheel letter at.first at.last,
+turn : (m : RotorParts) (slot letter : ℕ) → IsMachine (Rotor m) → why_refused (Rotor m) (Turn slot letter) ≡ None → IsCarried (Rotor m) (Turn slot letter)
+turn m slot letter h allowed =
+    let l = h.legal in
+    let no = no_reason (reasons (Rotor m) (Turn slot letter)) allowed in
+    let found = is_seated (numbered m.slots slot) no.0 in
+    let wheel = found.0 in
+    let place = place_in_box m.model wheel in
+    let reads = for_wheel m.model m.letters wheel letter (seated_in_box m.model m.slots slot wheel l.allowed found.1) l.letters in
+    let turned = ap (λ held. with_letter m (unwrap_or held None) letter) found.1 in
+    let tells : Turns (Rotor m) slot letter (Rotor (record m { letters = set m.letters place letter })) = (
+      wheel,
+      found.1,
+      reads.0,
       record {
         model = refl;
-        others = λ thing. elim thing as (Keeps (λ t. t ≡ TheShown wheel) (Pin m) (Pin (record m { letters = set m.letters (wheel - 1) letter }))) [
-          | TheShown other ↦ λ free. numbered_other m.letters wheel other letter at.first (λ e. free (ap TheShown e))
+        others = λ thing. elim thing as (Keeps (TheLetter wheel) (Rotor m) (Rotor (record m { letters = set m.letters place letter }))) [
+          | TheLetter other ↦ λ free. reads.1 other (λ e. free (ap TheLetter e))
           | _ ↦ λ _. refl
         ];
       },
     )
+    in
+    record {
+      told = subst (λ letters. Turns (Rotor m) slot letter (Rotor (record m { letters = letters }))) (sym turned) tells;
+      kept = λ r. with_letters m m.rings _ h l.rings (rw turned (letters_set _ m.letters place letter r.1 l.letters));
+    }
+
+-- ---- the Converter
+
+show : (m : PinParts) (wheel letter : ℕ) → IsMachine (Pin m) → why_refused (Pin m) (Turn wheel letter) ≡ None → IsCarried (Pin m) (Turn wheel letter)
+show m wheel letter h allowed =
+    let l = h.legal in
+    let no = no_reason (reasons (Pin m) (Turn wheel letter)) allowed in
+    let at = stands m.letters wheel 0 (not_none _ no.0) in
+    let on = (has_letter-Decides (ring_of wheel) letter).0 (not-false _ no.1.0) in
+    let new = set m.letters (wheel - 1) letter in
+    let now = numbered_here m.letters wheel letter at.first at.last in
+    record {
+      told = (
+        now,
+        record {
+          model = refl;
+          others = λ thing. elim thing as (Keeps (TheShown wheel) (Pin m) (Pin (record m { letters = new }))) [
+            | TheShown other ↦ λ free. numbered_other m.letters wheel other letter at.first (λ e. free (ap TheShown e))
+            | _ ↦ λ _. refl
+          ];
+        },
+      );
+      kept = λ _. pin_machine _ (record {
+        pins = l.pins;
+        letters = record {
+          count = length-set m.letters (wheel - 1) letter ∙ l.letters.count;
+          each = λ other shown reads. elim (cases_eq other wheel) [
+            | inl e ↦
+                let is : letter ≡ shown = same_Some _ _ (sym now ∙ ap (numbered new) (sym e) ∙ reads) in
+                subst (λ (w : ℕ). Contains (ring_of w) shown) (sym e) (subst (Contains (ring_of wheel)) is on)
+            | inr ne ↦ l.letters.each other shown (sym (numbered_other m.letters wheel other letter at.first ne) ∙ reads)
+          ];
+        };
+        bars = l.bars;
+        apart = l.apart;
+      });
+    }
 
 -- six lists are the pins that are made of them
 six_lists : (pins : PinSet) (place : ℕ) (list : List Bool) → pins_of (pin_set (set (pins_of pins) place list)) ≡ set (pins_of pins) place list
 six_lists pins (suc (suc (suc (suc (suc zero))))) list = refl
 six_lists pins place list = refl
 
-has_list : (found : Option (List Bool)) → 0 < length (unwrap_or found []) → (list : List Bool) × (found ≡ Some list)
-has_list None more = absurd (omega arith)
-has_list (Some list) more = (list, refl)
-
-place_of : (letters : List ℕ) (letter : ℕ) → Contains letters letter → (place : ℕ) × (place_on letters letter ≡ Some place)
-place_of letters letter h =
-    there (place_on letters letter) (is_some-place_on letters letter ∙ (has_letter-Decides letters letter).1 h)
-  where
-    there : (found : Option ℕ) → is_some found ≡ true → (place : ℕ) × (found ≡ Some place)
-    there None e = absurd (false≢true e)
-    there (Some place) e = (place, refl)
-
-one_place : (letters : List ℕ) (letter other place : ℕ) → place_on letters letter ≡ Some place → place_on letters other ≡ Some place → other ≡ letter
-one_place letters letter other place e f =
-    let here = position-Some (λ (l : ℕ). nat_eq l letter) letters place 0 e in
-    let there = position-Some (λ (l : ℕ). nat_eq l other) letters place 0 f in
-    sym (eqb-true _ _ there.1) ∙ eqb-true _ _ here.1
-
+-- another letter's pin, of the pins of one wheel
 other_pin : (ring : List ℕ) (list : List Bool) (letter other place : ℕ) (effective : Bool) (found : Option ℕ) → place_on ring letter ≡ Some place → place_on ring other ≡ found → other ≢ letter
     → option_and_then (slice_get (set list place effective)) found ≡ option_and_then (slice_get list) found
 other_pin ring list letter other place effective None e f ne = refl
 other_pin ring list letter other place effective (Some another) e f ne =
-    set_other list place another effective (λ same. ne (one_place ring letter other place e (f ∙ ap Some same)))
+    set_other list place another effective (λ same. ne (only_place ring letter other place e (f ∙ ap Some same)))
 
-told_pin : (m : PinParts) (wheel letter : ℕ) (effective : Bool) → IsLegalPin m → why_refused (Pin m) (PinTo wheel letter effective) ≡ None
-    → Makes (Pin m) (PinTo wheel letter effective) (changed (Pin m) (PinTo wheel letter effective))
-told_pin m wheel letter effective l allowed =
-    let first = none_holds (not (has_letter (ring_of wheel) letter)) NotOnWheel [] allowed in
-    let on = (has_letter-Decides (ring_of wheel) letter).0 (not-false _ first.0) in
-    let place = place_of (ring_of wheel) letter on in
-    let ring = position-Some (λ (l : ℕ). nat_eq l letter) (ring_of wheel) place.0 0 place.1 in
+pin_to : (m : PinParts) (wheel letter : ℕ) (effective : Bool) → IsMachine (Pin m) → why_refused (Pin m) (PinTo wheel letter effective) ≡ None → IsCarried (Pin m) (PinTo wheel letter effective)
+pin_to m wheel letter effective h allowed =
+    let l = h.legal in
+    let no = no_reason (reasons (Pin m) (PinTo wheel letter effective)) allowed in
+    let place = unwrap_or (place_on (ring_of wheel) letter) 0 in
+    let there = place_there (ring_of wheel) letter ((has_letter-Decides (ring_of wheel) letter).0 (not-false _ no.0)) in
     let old = wheel_pins m.pins wheel in
-    let many : place.0 < length old = omega (arith, l.pins wheel, ring.0) in
-    let list = has_list (numbered (pins_of m.pins) wheel) (omega arith) in
-    let at = is_numbered (pins_of m.pins) wheel list.0 list.1 in
-    let new = set old (unwrap_or (place_on (ring_of wheel) letter) 0) effective in
-    let here : wheel_pins (with_pin m.pins wheel letter effective) wheel ≡ set old place.0 effective =
-    ap (λ lists. unwrap_or (numbered lists wheel) []) (six_lists m.pins (wheel - 1) new)
-    ∙ ap (λ found. unwrap_or found []) (numbered_here (pins_of m.pins) wheel new at.first at.last)
-    ∙ ap (λ found. set old (unwrap_or found 0) effective) place.1 in
-    let there : (other : ℕ) → other ≢ wheel → wheel_pins (with_pin m.pins wheel letter effective) other ≡ wheel_pins m.pins other =
-    λ other ne. ap (λ lists. unwrap_or (numbered lists other) []) (six_lists m.pins (wheel - 1) new)
-    ∙ ap (λ found. unwrap_or found []) (numbered_other (pins_of m.pins) wheel other new at.first ne) in (
-      rw (here, place.1) (set_here old place.0 effective many),
-      record {
-        model = refl;
-        others = λ thing. elim thing as (Keeps (λ t. t ≡ ThePin wheel letter) (Pin m) (Pin (record m { pins = with_pin m.pins wheel letter effective }))) [
-          | ThePin turned other ↦ λ free. elim (cases_eq turned wheel) [
-            | inl e ↦ subst (λ w. pin_at (with_pin m.pins wheel letter effective) w other ≡ pin_at m.pins w other) (sym e)
-                (ap (λ list. option_and_then (slice_get list) (place_on (ring_of wheel) other)) here
-                ∙ other_pin (ring_of wheel) old letter other place.0 effective (place_on (ring_of wheel) other) place.1 refl (λ f. free (ap (λ w. ThePin w other) e ∙ ap (ThePin wheel) f)))
-            | inr ne ↦ ap (λ list. option_and_then (slice_get list) (place_on (ring_of turned) other)) (there turned ne)
-          ]
-          | _ ↦ λ _. refl
+    let within : place < length old = omega (arith, l.pins wheel, (position-Some (λ (l : ℕ). nat_eq l letter) (ring_of wheel) place 0 there).0) in
+    let at = stands (pins_of m.pins) wheel [] (λ none. omega (arith, within, ap (λ (found : Option (List Bool)). length (unwrap_or found [])) none)) in
+    let new = set old place effective in
+    let pins = with_pin m.pins wheel letter effective in
+    let lists : (other : ℕ) → wheel_pins pins other ≡ unwrap_or (numbered (set (pins_of m.pins) (wheel - 1) new) other) [] =
+    λ other. ap (λ lists. unwrap_or (numbered lists other) []) (six_lists m.pins (wheel - 1) new) in
+    let here : wheel_pins pins wheel ≡ new = lists wheel ∙ ap (λ found. unwrap_or found []) (numbered_here (pins_of m.pins) wheel new at.first at.last) in
+    let elsewhere : (other : ℕ) → other ≢ wheel → wheel_pins pins other ≡ wheel_pins m.pins other =
+    λ other ne. lists other ∙ ap (λ found. unwrap_or found []) (numbered_other (pins_of m.pins) wheel other new at.first ne) in
+    record {
+      told = (
+        ap (λ list. option_and_then (slice_get list) (place_on (ring_of wheel) letter)) here ∙ ap (option_and_then (slice_get new)) there ∙ set_here old place effective within,
+        record {
+          model = refl;
+          others = λ thing. elim thing as (Keeps (ThePin wheel letter) (Pin m) (Pin (record m { pins = pins }))) [
+            | ThePin turned other ↦ λ free. elim (cases_eq turned wheel) [
+              | inl e ↦ subst (λ w. pin_at pins w other ≡ pin_at m.pins w other) (sym e)
+                  (ap (λ list. option_and_then (slice_get list) (place_on (ring_of wheel) other)) here
+                  ∙ other_pin (ring_of wheel) old letter other place effective (place_on (ring_of wheel) other) there refl (λ f. free (ap (λ w. ThePin w other) e ∙ ap (ThePin wheel) f)))
+              | inr ne ↦ ap (λ list. option_and_then (slice_get list) (place_on (ring_of turned) other)) (elsewhere turned ne)
+            ]
+            | _ ↦ λ _. refl
+          ];
+        },
+      );
+      kept = λ _. pin_machine _ (record {
+        pins = λ other. elim (cases_eq other wheel) [
+          | inl e ↦ subst (λ w. length (wheel_pins pins w) ≡ length (ring_of w)) (sym e) (ap length here ∙ length-set old place effective ∙ l.pins wheel)
+          | inr ne ↦ ap length (elsewhere other ne) ∙ l.pins other
         ];
-      },
-    )
+        letters = l.letters;
+        bars = l.bars;
+        apart = l.apart;
+      });
+    }
 
-lug_there : (lug : Lug) (place : Place) (bar : Place × Place) → lug_place lug (with_lug lug place bar) ≡ place
-lug_there Left place bar = refl
-lug_there Right place bar = refl
+-- a lug that is set stands there, the other one where it stood, and the left one before the right one unless it lies beyond the other
+lug_set : (lug : Lug) (place : Place) (bar : Place × Place) → (lug_place lug (with_lug lug place bar) ≡ place) × (lug_place (other_lug lug) (with_lug lug place bar) ≡ lug_place (other_lug lug) bar)
+lug_set Left place bar = (refl, refl)
+lug_set Right place bar = (refl, refl)
 
-other_there : (lug : Lug) (place : Place) (bar : Place × Place) → lug_place (other_lug lug) (with_lug lug place bar) ≡ lug_place (other_lug lug) bar
-other_there Left place bar = refl
-other_there Right place bar = refl
+still_before : (lug : Lug) (place : Place) (bar : Place × Place) → is_at place (lug_place (other_lug lug) bar) ≡ false → lies_beyond lug place (lug_place (other_lug lug) bar) ≡ false
+    → IsBefore (with_lug lug place bar).0 (with_lug lug place bar).1
+still_before Left place bar apart within = grind (arith, nat_tests)
+still_before Right place bar apart within = grind (arith, nat_tests)
 
-told_lug : (m : PinParts) (bar : ℕ) (lug : Lug) (place : Place) → why_refused (Pin m) (LugTo bar lug place) ≡ None → Makes (Pin m) (LugTo bar lug place) (changed (Pin m) (LugTo bar lug place))
-told_lug m bar lug place allowed =
-    let taken : Bool × Why = (option_map_or (is_at place) (other_place m bar lug) false, PlaceTaken) in
-    let passing : Bool × Why = (option_map_or (lies_beyond lug place) (other_place m bar lug) false, WouldPass) in
-    let first = none_holds (is_none (numbered m.bars bar)) NoSuchBar (taken ∷ passing ∷ []) allowed in
-    let found = not_none (numbered m.bars bar) first.0 in
-    let at = is_numbered m.bars bar found.0 found.1 in
-    let new = with_lug lug place found.0 in
+lug_to : (m : PinParts) (bar : ℕ) (lug : Lug) (place : Place) → IsMachine (Pin m) → why_refused (Pin m) (LugTo bar lug place) ≡ None → IsCarried (Pin m) (LugTo bar lug place)
+lug_to m bar lug place h allowed =
+    let l = h.legal in
+    let no = no_reason (reasons (Pin m) (LugTo bar lug place)) allowed in
+    let at = stands m.bars bar (place, place) (not_none _ no.0) in
+    let standing = unwrap_or (numbered m.bars bar) (place, place) in
+    let new = with_lug lug place standing in
     let bars = set m.bars (bar - 1) new in
     let now = numbered_here m.bars bar new at.first at.last in
+    let apart : is_at place (lug_place (other_lug lug) standing) ≡ false = rw at.is at no.1.0 in
+    let within : lies_beyond lug place (lug_place (other_lug lug) standing) ≡ false = rw at.is at no.1.1.0 in
+    let all : with_lug_at m bar lug place ≡ bars = rw at.is refl in
     let moved : MovesLug (Pin m) bar lug place (Pin (record m { bars = bars })) = record {
-      moved = ap (option_map (lug_place lug)) now ∙ ap Some (lug_there lug place found.0);
-      other = ap (option_map (lug_place (other_lug lug))) now ∙ ap Some (other_there lug place found.0) ∙ ap (option_map (lug_place (other_lug lug))) (sym found.1);
+      moved = ap (option_map (lug_place lug)) now ∙ ap Some (lug_set lug place standing).0;
+      other = ap (option_map (lug_place (other_lug lug))) now ∙ ap Some (lug_set lug place standing).1 ∙ ap (option_map (lug_place (other_lug lug))) (sym at.is);
     }
     in
     let kept : SetsOnly (TheBar bar) (Pin m) (Pin (record m { bars = bars })) = record {
       model = refl;
-      others = λ thing. elim thing as (Keeps (λ t. t ≡ TheBar bar) (Pin m) (Pin (record m { bars = bars }))) [
+      others = λ thing. elim thing as (Keeps (TheBar bar) (Pin m) (Pin (record m { bars = bars }))) [
         | TheBar other ↦ λ free. numbered_other m.bars bar other new at.first (λ e. free (ap TheBar e))
         | _ ↦ λ _. refl
       ];
     }
     in
-    let all : with_lug_at m bar lug place ≡ bars = ap (λ found. option_map_or (λ standing. set m.bars (bar - 1) (with_lug lug place standing)) found m.bars) found.1 in
-    subst (λ bars. Makes (Pin m) (LugTo bar lug place) (Pin (record m { bars = bars }))) (sym all) (moved, kept)
+    record {
+      told = subst (λ bars. Makes (Pin m) (LugTo bar lug place) (Pin (record m { bars = bars }))) (sym all) (moved, kept);
+      kept = λ _. subst (λ bars. IsMachine (Pin (record m { bars = bars }))) (sym all) (pin_machine (record m { bars = bars }) (record {
+        pins = l.pins;
+        letters = l.letters;
+        bars = length-set m.bars (bar - 1) new ∙ l.bars;
+        apart = All-set (λ (b : Place × Place). IsBefore b.0 b.1) m.bars (bar - 1) new (still_before lug place standing apart within) l.apart;
+      }));
+    }
+
+-- a lug that would pass the other one
+pub would_pass : (m : PinParts) (bar : ℕ) (lug : Lug) (place : Place) (standing : Place × Place) → numbered m.bars bar ≡ Some standing
+    → is_at place (lug_place (other_lug lug) standing) ≡ false → ¬ (IsBefore (with_lug lug place standing).0 (with_lug lug place standing).1) → why_refused (Pin m) (LugTo bar lug place) ≡ Some WouldPass
+would_pass m bar lug place standing here apart not_before =
+    rw (here, apart, true_from_ne_false _ (λ within. not_before (still_before lug place standing apart within))) refl
 
 -- ---- each setting
 
-told : (m : Parts) (x : Setting) → IsMachine m → why_refused m x ≡ None → Makes m x (changed m x)
-told (Rotor m) (Pull cable letter) h allowed = told_pull m cable letter h.legal allowed
-told (Rotor m) (Put cable letter) h allowed = told_put m cable letter allowed
-told (Rotor m) (Seat slot wheel) h allowed = told_seat m slot wheel h.legal allowed
-told (Rotor m) (SeatReflector reflector) h allowed = told_reflector m reflector
-told (Rotor m) (RingTo wheel letter) h allowed = told_ring m wheel letter h.legal allowed
-told (Rotor m) (Turn slot letter) h allowed = told_turn m slot letter h.legal allowed
-told (Pin m) (Turn wheel letter) h allowed = told_shown m wheel letter allowed
-told (Pin m) (PinTo wheel letter effective) h allowed = told_pin m wheel letter effective h.legal allowed
-told (Pin m) (LugTo bar lug place) h allowed = told_lug m bar lug place allowed
-told m x h allowed = absurd (none-some _ (sym allowed))
+carried : (m : Parts) (x : Setting) → IsMachine m → why_refused m x ≡ None → IsCarried m x
+carried (Rotor m) (Pull cable letter) h allowed = pull m cable letter h allowed
+carried (Rotor m) (Put cable letter) h allowed = put m cable letter h allowed
+carried (Rotor m) (Seat slot wheel) h allowed = seat m slot wheel h allowed
+carried (Rotor m) (SeatReflector reflector) h allowed = reflect m reflector h allowed
+carried (Rotor m) (RingTo wheel letter) h allowed = ring_to m wheel letter h allowed
+carried (Rotor m) (Turn slot letter) h allowed = turn m slot letter h allowed
+carried (Pin m) (Turn wheel letter) h allowed = show m wheel letter h allowed
+carried (Pin m) (PinTo wheel letter effective) h allowed = pin_to m wheel letter effective h allowed
+carried (Pin m) (LugTo bar lug place) h allowed = lug_to m bar lug place h allowed
+carried m x h allowed = absurd (none-some _ (sym allowed))
 
 pub settings_are_told : SettingsAreTold
-settings_are_told m n x h carried = subst (Makes m x) (sym carried.made) (told m x h carried.allowed)
+settings_are_told m n x h c = subst (Makes m x) (sym c.made) (carried m x h c.allowed).told
+
+pub settings_keep_machines : SettingsKeepMachines
+settings_keep_machines m n x h r c = subst IsMachine (sym c.made) ((carried m x h c.allowed).kept r)

@@ -1,5 +1,5 @@
 -- The key of a machine that is on the key of a day, and its cipher.
-use Rattle.std.proofs.Common.{◌≡◌, ℕ, ◌+◌, ◌-◌, ◌%◌, Bool, List, map, filter_map, Some, refl, sym, ap, ◌∙◌, subst, ◌≤◌, min, max, ◌||◌, cond, [], ◌∷◌, inl, inr, arith}
+use Rattle.std.proofs.Common.{◌≡◌, ℕ, ◌+◌, ◌-◌, ◌%◌, Bool, List, map, filter_map, Some, refl, sym, ap, ◌∙◌, subst, ◌≤◌, min, max, ◌||◌, [], ◌∷◌, inl, inr, arith}
 use Rattle.std.specs.Prelude.{IsPermutation}
 use Rattle.std.specs.List.{enumerate_from, count_by}
 use Rattle.std.proofs.lemmas.List.Elements.{recursion_from_All}
@@ -19,7 +19,7 @@ use Rattle.kd_state.specs.Laws.{TurnedEngineIsTheTurnedMachine, ReadingIsReady, 
 use Rattle.kd_state.specs.Machine.{IsMachine, AreCables, ring_at, letter_at}
 use Rattle.kd_state.specs.OnKey.{OnKey, IsRotorOnKey, IsPinOnKey}
 use Rattle.kd_state.specs.SheetDay.{RotorDay, Day, OfRotors, OfPins, IsLegalDay, IsLegalRotorDay}
-use Rattle.kd_state.specs.TwoCiphers.{EngineKey, OfWheels, cipher, key_with_window, IsRotorReady, window_of, plugged_pairs, physical_key, physical_cipher, sheet_key, IsTurned}
+use Rattle.kd_state.specs.TwoCiphers.{EngineKey, OfWheels, cipher, key_with_window, window_of, plugged_pairs, physical_key, physical_cipher, sheet_key}
 use Rattle.kd_state.proofs.DayPairs.{whole_cables, pairs_joined, no_letter_twice}
 use Rattle.kd_state.proofs.Seating.{all_seated, read_all, wheels_of_slots}
 use Rattle.std.proofs.Math.Bool.{or_comm}
@@ -44,9 +44,7 @@ in_either_order met a b =
 counted : {X Y : Type 0} (p : Y → Bool) (f : X → Y) (xs : List X) → count_by (λ x. p (f x)) xs ≡ count_by p (map f xs)
 counted p f [] = refl
 counted p f (x ∷ xs) =
-    sum_by-cons (λ x. cond (p (f x)) 1 0) x xs
-    ∙ ap (λ n. cond (p (f x)) 1 0 + n) (counted p f xs)
-    ∙ sym (sum_by-cons (λ y. cond (p y) 1 0) (f x) (map f xs))
+    simp sum_by-cons (omega (arith, counted p f xs))
 
 abbrev pin_key : PinParts → PinKey
 pin_key m = record { pins = pins_of m.pins; letters = m.letters; rows = map (λ bar. reading_of bar.0 bar.1) m.bars }
@@ -73,38 +71,31 @@ pub engine_cipher : EngineIsTheMachine
 engine_cipher (Rotor m) text = refl
 engine_cipher (Pin m) text = λ i. map (λ (numbered : ℕ × ℕ). (25 + moved_as_met m numbered.0 i - numbered.1) % 26) (enumerate_from 0 text)
 
--- the cables of a rotor machine have no letter twice
-abbrev IsCabled : Parts → Type 0
-IsCabled (Rotor m) = AreCables m.cables
-IsCabled (Pin m) = Unit {0}
-
-cabled : (m : Parts) → IsMachine m → IsCabled m
-cabled (Rotor m) machine = machine.legal.cables
-cabled (Pin m) machine = tt
-
 -- ready
-rotor_ready : (m : RotorParts) (s : RotorDay) → IsLegalRotorDay s → IsRotorOnKey m s → IsRotorReady m
-rotor_ready m s legal h = record { slots = all_seated m.slots s.wheels h.slots; cables = whole_cables m.cables s.pairs legal.pairs.apart h.cables }
-
 pub on_key_ready : OnKeyIsReady
-on_key_ready (Rotor m) (OfRotors s) machine legal h = rotor_ready m s legal h
+on_key_ready (Rotor m) (OfRotors s) machine legal h =
+    record { slots = all_seated m.slots s.wheels h.slots; cables = whole_cables m.cables s.pairs legal.pairs.apart h.cables }
 on_key_ready (Pin m) (OfPins s) machine legal h = tt
 on_key_ready m s machine legal h = absurd h
 
 pub reading_ready : ReadingIsReady
 reading_ready m s machine legal h = on_key_ready m s machine legal h.key
 
--- the key of a rotor machine on the day's key, with the letters that it shows
+own_window : (m : Parts) → physical_key m ≡ key_with_window (physical_key m) (window_of m)
+own_window (Rotor m) = refl
+own_window (Pin m) = refl
+
+-- a machine on the day's key has the day's cipher, whatever letters both show
 module _ (alike : SamePairsExchangeAlike) where
-  rotor_key : (m : RotorParts) (s : RotorDay) (window : List ℕ) → AreCables m.cables → IsLegalRotorDay s → IsRotorOnKey m s → window_of (Rotor m) ≡ window
-      → physical_key (Rotor m) ≡ key_with_window (sheet_key (OfRotors s)) window
-  rotor_key m s window cables legal h shows =
+  rotor_key : (m : RotorParts) (s : RotorDay) (window : List ℕ) → AreCables m.cables → IsLegalRotorDay s → IsRotorOnKey m s
+      → key_with_window (physical_key (Rotor m)) window ≡ key_with_window (sheet_key (OfRotors s)) window
+  rotor_key m s window cables legal h =
       let wheels = wheels_of_slots m s.wheels h.slots in
       let rings = ap (filter_map (ring_at m)) wheels
       ∙ read_all (ring_at m) (λ w. w.ring) s.wheels (recursion_from_All (λ (w : SheetWheel). ring_at m w.wheel ≡ Some w.ring) s.wheels h.rings) in
       let whole = whole_cables m.cables s.pairs legal.pairs.apart h.cables in
       let plugs = alike (plugged_pairs m) s.pairs (no_letter_twice m.cables cables whole) legal.pairs.apart (pairs_joined m.cables s.pairs whole h.cables) in
-      λ i. OfWheels (record { wheels = wheels i; rings = rings i; window = shows i; reflector = h.reflector i; plugs = plugs i })
+      λ i. OfWheels (record { wheels = wheels i; rings = rings i; window = window; reflector = h.reflector i; plugs = plugs i })
 
   -- bars that read as the same rows in another order are met as often
   converter_alike : (pins : List (List Bool)) (letters : List ℕ) (rows others : List (ℕ × ℕ)) (text : List ℕ) → IsPermutation rows others
@@ -114,28 +105,25 @@ module _ (alike : SamePairsExchangeAlike) where
       let met : (count : ℕ) → bars_met (key rows) count ≡ bars_met (key others) count = λ count. sym (sum_by-IsPermutation _ rows others moved) in
       λ i. map (λ (numbered : ℕ × ℕ). (25 + met numbered.0 i - numbered.1) % 26) (enumerate_from 0 text)
 
-  key_on_key : (m : Parts) (s : Day) (window text : List ℕ) → IsCabled m → IsLegalDay s → OnKey m s → window_of m ≡ window
-      → cipher (physical_key m) text ≡ cipher (key_with_window (sheet_key s) window) text
-  key_on_key (Rotor m) (OfRotors s) window text cables legal h shows = ap (λ key. cipher key text) (rotor_key m s window cables legal h shows)
-  key_on_key (Pin m) (OfPins s) window text machine legal h shows =
-      ap (λ pins. converter_cipher (record { pins = pins_of pins; letters = m.letters; rows = map (λ bar. reading_of bar.0 bar.1) m.bars }) text) h.pins
-      ∙ ap (λ letters. converter_cipher (record { pins = pins_of s.pins; letters = letters; rows = map (λ bar. reading_of bar.0 bar.1) m.bars }) text) shows
+  key_on_key : (m : Parts) (s : Day) (window text : List ℕ) → IsMachine m → IsLegalDay s → OnKey m s
+      → cipher (key_with_window (physical_key m) window) text ≡ cipher (key_with_window (sheet_key s) window) text
+  key_on_key (Rotor m) (OfRotors s) window text machine legal h = ap (λ key. cipher key text) (rotor_key m s window machine.legal.cables legal h)
+  key_on_key (Pin m) (OfPins s) window text machine legal h =
+      ap (λ pins. converter_cipher (record { pins = pins_of pins; letters = window; rows = map (λ bar. reading_of bar.0 bar.1) m.bars }) text) h.pins
       ∙ converter_alike (pins_of s.pins) window (map (λ bar. reading_of bar.0 bar.1) m.bars) s.rows text h.rows
-  key_on_key m s window text machine legal h shows = absurd h
-
-  cipher_on_key : (m : Parts) (s : Day) (window text : List ℕ) → IsCabled m → IsLegalDay s → OnKey m s → window_of m ≡ window
-      → physical_cipher m text ≡ cipher (key_with_window (sheet_key s) window) text
-  cipher_on_key m s window text cables legal h shows = sym (engine_cipher m text) ∙ key_on_key m s window text cables legal h shows
+  key_on_key m s window text machine legal h = absurd h
 
   pub on_key_cipher : OnKeyIsItsCipher
-  on_key_cipher m s text machine legal h = cipher_on_key m s (window_of m) text (cabled m machine) legal h refl
+  on_key_cipher m s text machine legal h =
+      sym (engine_cipher m text) ∙ ap (λ key. cipher key text) (own_window m) ∙ key_on_key m s (window_of m) text machine legal h
 
   pub reading_cipher : ReadingIsItsCipher
   reading_cipher (Rotor m) (OfRotors s) text machine legal h =
-      cipher_on_key (Rotor m) (OfRotors s) (map (λ w. w.letter) s.wheels) text machine.legal.cables legal h.key
-      (ap (filter_map (letter_at m)) (wheels_of_slots m s.wheels h.key.slots)
-      ∙ read_all (letter_at m) (λ w. w.letter) s.wheels (recursion_from_All (λ (w : SheetWheel). letter_at m w.wheel ≡ Some w.letter) s.wheels h.window))
-  reading_cipher (Pin m) (OfPins s) text machine legal h = cipher_on_key (Pin m) (OfPins s) s.window text tt legal h.key h.window
+      let shows = ap (filter_map (letter_at m)) (wheels_of_slots m s.wheels h.key.slots)
+      ∙ read_all (letter_at m) (λ w. w.letter) s.wheels (recursion_from_All (λ (w : SheetWheel). letter_at m w.wheel ≡ Some w.letter) s.wheels h.window) in
+      on_key_cipher (Rotor m) (OfRotors s) text machine legal h.key ∙ ap (λ window. cipher (key_with_window (sheet_key (OfRotors s)) window) text) shows
+  reading_cipher (Pin m) (OfPins s) text machine legal h =
+      on_key_cipher (Pin m) (OfPins s) text machine legal h.key ∙ ap (λ window. cipher (key_with_window (sheet_key (OfPins s)) window) text) h.window
   reading_cipher m s text machine legal h = absurd h.key
 
   -- what one enciphers the other deciphers
@@ -146,32 +134,23 @@ module _ (alike : SamePairsExchangeAlike) where
 
     pub equally_set : EquallySetDecipher
     equally_set m n s text machine other legal h k same letters =
-        let key = key_with_window (sheet_key s) (window_of m) in
-        ap (physical_cipher n) (cipher_on_key m s (window_of m) text (cabled m machine) legal h refl)
-        ∙ cipher_on_key n s (window_of m) (cipher key text) (cabled n other) legal k (sym same)
-        ∙ twice_on_key s (window_of m) text legal letters
+        let key : List ℕ → EngineKey = key_with_window (sheet_key s) in
+        ap (physical_cipher n) (on_key_cipher m s text machine legal h) ∙ on_key_cipher n s (cipher (key (window_of m)) text) other legal k
+        ∙ ap (λ window. cipher (key window) (cipher (key (window_of m)) text)) (sym same) ∙ twice_on_key s (window_of m) text legal letters
 
 -- turned to other letters
-turned_rotor : (m : RotorParts) (s : RotorDay) (letters : List ℕ) → IsRotorOnKey m s → IsRotorOnKey (record m { letters = letters }) s
-turned_rotor m s letters h = record { model = h.model; slots = h.slots; rings = h.rings; reflector = h.reflector; cables = h.cables }
-
 pub turned_on_key : TurnedIsOnKey
-turned_on_key (Rotor m) (Rotor n) (OfRotors s) window turned h = subst (λ (k : RotorParts). IsRotorOnKey k s) (sym turned.0) (turned_rotor m s n.letters h)
+turned_on_key (Rotor m) (Rotor n) (OfRotors s) window turned h =
+    subst (λ (k : RotorParts). IsRotorOnKey k s) (sym turned.0) (record { model = h.model; slots = h.slots; rings = h.rings; reflector = h.reflector; cables = h.cables })
 turned_on_key (Pin m) (Pin n) (OfPins s) window turned h = subst (λ (k : PinParts). IsPinOnKey k s) (sym turned) (record { pins = h.pins; rows = h.rows })
 turned_on_key (Rotor m) (Rotor n) (OfPins s) window turned h = absurd h
 turned_on_key (Pin m) (Pin n) (OfRotors s) window turned h = absurd h
-turned_on_key (Rotor m) (Pin n) s window turned h = absurd turned
-turned_on_key (Pin m) (Rotor n) s window turned h = absurd turned
+turned_on_key m n s window turned h = absurd turned
 
 -- the key of the turned machine, but for the letters that it shows
-turned_rotor_key : (m n : RotorParts) (window : List ℕ) → n ≡ record m { letters = n.letters } → window_of (Rotor n) ≡ window
-    → physical_key (Rotor n) ≡ key_with_window (physical_key (Rotor m)) window
-turned_rotor_key m n window e shows =
-    let shown : RotorParts → EngineKey = λ k. key_with_window (physical_key (Rotor k)) (window_of (Rotor n)) in
-    ap shown e ∙ ap (λ window. key_with_window (physical_key (Rotor m)) window) shows
-
 pub turned_key : TurnedHasItsKey
-turned_key (Rotor m) (Rotor n) window turned = turned_rotor_key m n window turned.0 turned.1
+turned_key (Rotor m) (Rotor n) window turned =
+    ap (key_with_window (physical_key (Rotor n))) turned.1 ∙ ap (λ (k : RotorParts). key_with_window (physical_key (Rotor k)) window) turned.0
 turned_key (Pin m) (Pin n) window turned = ap (λ (k : PinParts). physical_key (Pin k)) turned
 turned_key m n window turned = absurd turned
 
@@ -179,16 +158,5 @@ turned_key m n window turned = absurd turned
 pub turned_engine : TurnedEngineIsTheTurnedMachine
 turned_engine m n window text turned = ap (λ key. cipher key text) (sym (turned_key m n window turned)) ∙ engine_cipher n text
 
-turned_cabled : (m n : Parts) (window : List ℕ) → IsTurned m window n → IsCabled m → IsCabled n
-turned_cabled (Rotor m) (Rotor n) window turned h = subst (λ (k : RotorParts). AreCables k.cables) (sym turned.0) h
-turned_cabled (Pin m) (Pin n) window turned h = tt
-turned_cabled m n window turned h = absurd turned
-
-turned_window : (m n : Parts) (window : List ℕ) → IsTurned m window n → window_of n ≡ window
-turned_window (Rotor m) (Rotor n) window turned = turned.1
-turned_window (Pin m) (Pin n) window turned = ap (λ (k : PinParts). k.letters) turned
-turned_window m n window turned = absurd turned
-
 pub turned_cipher : SamePairsExchangeAlike → TurnedHasTheDaysCipher
-turned_cipher alike m n s window text machine legal h turned =
-    cipher_on_key alike n s window text (turned_cabled m n window turned (cabled m machine)) legal (turned_on_key m n s window turned h) (turned_window m n window turned)
+turned_cipher alike m n s window text machine legal h turned = sym (turned_engine m n window text turned) ∙ key_on_key alike m s window text machine legal h

@@ -14,6 +14,5 @@ mod Seating
 mod SortedAlike
 mod Standings
 mod Turnable
-pub mod Keeping
 pub mod Carrying
-mod Changing
+pub mod Changing

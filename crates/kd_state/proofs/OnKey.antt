@@ -3,7 +3,7 @@ use Rattle.std.proofs.Common.{◌≡◌, ◌↔◌, Bool, true, false, List, All
 use Rattle.std.specs.Option.{option_eq}
 use Rattle.std.specs.Cmp.Lexicographic.{pointwise_decides}
 use Rattle.std.proofs.lemmas.Bool.{false≢true}
-use Rattle.std.proofs.lemmas.Option.{none-some, same_Some}
+use Rattle.std.proofs.lemmas.Option.{same_Some}
 use denote.Enum.Bare.{sameb, same_true, same_false}
 use lib.Pointwise.{pointwise}
 use Rattle.kd_tables.specs.declared.wheel.Wheel.{Wheel}
@@ -13,7 +13,7 @@ use Rattle.kd_state.specs.declared.machine.pin_parts.PinParts.{PinParts}
 use Rattle.kd_state.specs.declared.machine.parts.Parts.{Parts}
 use Rattle.kd_state.specs.declared.machine.parts.Parts.TheVariants.{Rotor, Pin}
 use Rattle.kd_state.specs.declared.sheet_day.rotor_entry.SheetWheel.{SheetWheel}
-use Rattle.kd_state.specs.Machine.{ring_in, ring_at, letter_in, letter_at}
+use Rattle.kd_state.specs.Machine.{ring_in, ring_at, letter_in}
 use Rattle.kd_state.specs.SheetDay.{RotorDay, PinDay, Day, OfRotors, OfPins}
 use Rattle.kd_state.specs.OnKey.{ShowsWindow}
 
@@ -24,11 +24,10 @@ wheel_tested wheel other false e = (λ h. absurd (false≢true h), λ same. absu
 
 seat_Decides : (one other : Option Wheel) → Decides (option_eq (sameb the_type) one other) (one ≡ other)
 seat_Decides None None = (λ _. refl, λ _. refl)
-seat_Decides None (Some other) = (λ h. absurd (false≢true h), λ same. absurd (none-some other same))
-seat_Decides (Some wheel) None = (λ h. absurd (false≢true h), λ same. absurd (none-some wheel (sym same)))
 seat_Decides (Some wheel) (Some other) =
     let tested = wheel_tested wheel other (sameb the_type wheel other) refl in
     (λ h. ap Some (tested.0 h), λ same. tested.1 (same_Some _ _ same))
+seat_Decides one other = (λ h. absurd (false≢true h), λ same. cc)
 
 pub seats_Decides : (slots others : List (Option Wheel)) → Decides (pointwise (option_eq (sameb the_type)) slots others) (slots ≡ others)
 seats_Decides slots others = pointwise_decides seat_Decides slots others
@@ -37,17 +36,15 @@ seats_Decides slots others = pointwise_decides seat_Decides slots others
 pub rings_read : (p : Parts) (m : RotorParts) (wheels others : List SheetWheel) → p ≡ Rotor m → wheels ≡ others
     → All (λ w. ring_in p w.wheel ≡ Some w.ring) wheels ↔ All (λ w. ring_at m w.wheel ≡ Some w.ring) others
 rings_read p m wheels others is same =
-    subst (λ (p : Parts). All (λ w. ring_in p w.wheel ≡ Some w.ring) wheels ↔ All (λ w. ring_at m w.wheel ≡ Some w.ring) others) (sym is)
-    (subst (λ (xs : List SheetWheel). All (λ w. ring_at m w.wheel ≡ Some w.ring) wheels ↔ All (λ w. ring_at m w.wheel ≡ Some w.ring) xs) same (λ h. h, λ h. h))
+    subst (λ (a : Parts × List SheetWheel). All (λ w. ring_in a.0 w.wheel ≡ Some w.ring) a.1 ↔ All (λ w. ring_at m w.wheel ≡ Some w.ring) others)
+    (λ i. (sym is i, sym same i)) (λ h. h, λ h. h)
 
 pub letters_show : (p : Parts) (m : RotorParts) (s : Day) (r : RotorDay) (wheels : List SheetWheel) → p ≡ Rotor m → s ≡ OfRotors r → wheels ≡ r.wheels
     → All (λ w. letter_in p w.wheel ≡ Some w.letter) wheels ↔ ShowsWindow p s
 letters_show p m s r wheels is day same =
-    subst (λ (p : Parts). All (λ w. letter_in p w.wheel ≡ Some w.letter) wheels ↔ ShowsWindow p s) (sym is)
-    (subst (λ (s : Day). All (λ w. letter_at m w.wheel ≡ Some w.letter) wheels ↔ ShowsWindow (Rotor m) s) (sym day)
-    (subst (λ (xs : List SheetWheel). All (λ w. letter_at m w.wheel ≡ Some w.letter) wheels ↔ All (λ w. letter_at m w.wheel ≡ Some w.letter) xs) same (λ h. h, λ h. h)))
+    subst (λ (a : Parts × Day × List SheetWheel). All (λ w. letter_in a.0 w.wheel ≡ Some w.letter) a.2 ↔ ShowsWindow a.0 a.1)
+    (λ i. (sym is i, sym day i, sym same i)) (λ h. h, λ h. h)
 
 pub pin_letters_show : (p : Parts) (m : PinParts) (s : Day) (r : PinDay) → p ≡ Pin m → s ≡ OfPins r → (m.letters ≡ r.window) ↔ ShowsWindow p s
 pin_letters_show p m s r is day =
-    subst (λ (p : Parts). (m.letters ≡ r.window) ↔ ShowsWindow p s) (sym is)
-    (subst (λ (s : Day). (m.letters ≡ r.window) ↔ ShowsWindow (Pin m) s) (sym day) (λ h. h, λ h. h))
+    subst (λ (a : Parts × Day). (m.letters ≡ r.window) ↔ ShowsWindow a.0 a.1) (λ i. (sym is i, sym day i)) (λ h. h, λ h. h)

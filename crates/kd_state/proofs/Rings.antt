@@ -1,26 +1,25 @@
 -- The letters and the pins of the six pin wheels.
-use Rattle.std.proofs.Common.{◌≡◌, ℕ, zero, suc, ◌+◌, ◌-◌, ◌<◌, ◌≤◌, nat_eq, true, false, List, length, get_or, Contains, Decides, Some, refl, sym, ◌∙◌, inl, inr, subst, arith, slice_index}
+use Rattle.std.proofs.Common.{◌≡◌, ℕ, zero, suc, ◌+◌, ◌-◌, ◌<◌, ◌≤◌, nat_eq, true, false, List, length, get_or, Contains, Decides, Some, refl, sym, ap, ◌∙◌, inl, inr, subst, arith, slice_index}
 use Rattle.std.specs.List.{position_or_len}
-use Rattle.std.specs.Option.{is_some}
-use Rattle.std.proofs.lemmas.Bool.{cases_Bool, lt-ltb, le-ltb, both_ways}
+use Rattle.std.specs.Option.{is_some, unwrap_or}
+use Rattle.std.proofs.lemmas.Bool.{cases_Bool, lt-ltb, le-ltb, both_ways, eqb-true, false≢true}
+use Rattle.std.proofs.lemmas.List.Quantifiers.{position-Some}
 use Rattle.std.proofs.lemmas.List.{get_or_default}
-use Rattle.std.proofs.lemmas.Bool.Decides.{Decides-by_or, Decides-eqb}
-use Rattle.std.proofs.lemmas.List.Elements.{Decides-contains}
+use Rattle.std.proofs.lemmas.Bool.Decides.{Decides-like, Decides-eqb}
+use Rattle.std.proofs.lemmas.Map.Made.{is_member-Decides}
 use Rattle.std.proofs.lemmas.Option.{get_or_from_slice_get, slice_get-get_or}
 use Rattle.kd_tables.specs.Rings.{ring_of, place_on}
 use Rattle.kd_pins.specs.declared.pin_set.PinSet.{PinSet}
 use Rattle.kd_state.specs.Box.{numbered}
 use Rattle.kd_state.specs.Machine.{HasAllPins, AreOnWheels}
 use Rattle.kd_state.specs.Setting.{has_letter}
-use Rattle.kd_state.proofs.Slots.{is_numbered, numbered_at}
+use Rattle.kd_state.proofs.Slots.{is_numbered, numbered_at, value_of}
 use Rattle.kd_state.proofs.Wheels.{first_within, first_nowhere}
 use Rattle.kd_drum.specs.Converter.{OnWheels}
 
 -- the letter is one of these, and has a place then
 pub has_letter-Decides : (letters : List ℕ) (letter : ℕ) → Decides (has_letter letters letter) (Contains letters letter)
-has_letter-Decides letters letter =
-    Decides-contains letters letter _ (Decides-by_or (λ other. nat_eq other letter) (λ other. other ≡ letter) (λ all. has_letter all letter)
-    (λ other. Decides-eqb other letter) refl (λ _ _. refl) letters)
+has_letter-Decides letters letter = is_member-Decides {eq = λ x y. nat_eq y x} (λ x y. Decides-like _ sym sym (Decides-eqb y x)) letters letter
 
 pub is_some-place_on : (letters : List ℕ) (letter : ℕ) → is_some (place_on letters letter) ≡ has_letter letters letter
 is_some-place_on letters letter = elim (cases_Bool (has_letter letters letter)) [
@@ -30,18 +29,30 @@ is_some-place_on letters letter = elim (cases_Bool (has_letter letters letter)) 
       rw (le-ltb _ _ past) (sym e)
 ]
 
--- each of six letters is on its wheel
-pub each_on_wheel : (letters : List ℕ) → length letters ≡ 6 → ((place : ℕ) → place < length letters → Contains (ring_of (place + 1)) (get_or letters place 0)) → AreOnWheels letters
-each_on_wheel letters six on = record {
+pub place_there : (letters : List ℕ) (letter : ℕ) → Contains letters letter → place_on letters letter ≡ Some (unwrap_or (place_on letters letter) 0)
+place_there letters letter h =
+    value_of (place_on letters letter) 0 (λ none. false≢true (sym (ap is_some none) ∙ is_some-place_on letters letter ∙ (has_letter-Decides letters letter).1 h))
+
+pub only_place : (letters : List ℕ) (letter other place : ℕ) → place_on letters letter ≡ Some place → place_on letters other ≡ Some place → other ≡ letter
+only_place letters letter other place e f =
+    let here = position-Some (λ (l : ℕ). nat_eq l letter) letters place 0 e in
+    let there = position-Some (λ (l : ℕ). nat_eq l other) letters place 0 f in
+    sym (eqb-true _ _ there.1) ∙ eqb-true _ _ here.1
+
+-- ---- six letters, each on its wheel: wheel by wheel, and place by place
+
+pub are_on_wheels : (letters : List ℕ) → length letters ≡ 6 → OnWheels letters → AreOnWheels letters
+are_on_wheels letters six on = record {
   count = six;
   each = λ wheel letter h.
       let at = is_numbered letters wheel letter h in
-      let within : wheel - 1 < length letters = omega (arith, at.first, at.last) in
-      let back : wheel - 1 + 1 ≡ wheel = omega (arith, at.first) in
-      let here = on (wheel - 1) within in
-      let there : Contains (ring_of wheel) (get_or letters (wheel - 1) 0) = subst (λ (n : ℕ). Contains (ring_of n) (get_or letters (wheel - 1) 0)) back here in
-      subst (λ (x : ℕ). Contains (ring_of wheel) x) (get_or_from_slice_get letters (wheel - 1) letter 0 at.here) there;
+      subst (Contains (ring_of wheel)) (get_or_from_slice_get letters (wheel - 1) letter 0 at.here) (on wheel at.first (omega (arith, at.last)));
 }
+
+pub each_on_wheel : (letters : List ℕ) → length letters ≡ 6 → ((place : ℕ) → place < length letters → Contains (ring_of (place + 1)) (get_or letters place 0)) → AreOnWheels letters
+each_on_wheel letters six on = are_on_wheels letters six (λ wheel low high.
+    let back : wheel - 1 + 1 ≡ wheel = omega arith in
+    subst (λ (n : ℕ). Contains (ring_of n) (get_or letters (wheel - 1) 0)) back (on (wheel - 1) (omega arith)))
 
 -- the letter at a place is on its wheel, and then it isn't off it
 pub on_wheel : (letters : List ℕ) (place d : ℕ) → place < length letters → has_letter (ring_of (place + 1)) (get_or letters place d) ≡ true → Contains (ring_of (place + 1)) (get_or letters place 0)
@@ -64,13 +75,6 @@ all_pins pins a b c d e f (suc (suc (suc (suc zero)))) = d
 all_pins pins a b c d e f (suc (suc (suc (suc (suc zero))))) = e
 all_pins pins a b c d e f (suc (suc (suc (suc (suc (suc zero)))))) = f
 all_pins pins a b c d e f wheel = refl
-
--- ---- six letters, each on its wheel: wheel by wheel, and place by place
-
-pub are_on_wheels : (letters : List ℕ) → length letters ≡ 6 → OnWheels letters → AreOnWheels letters
-are_on_wheels letters six on = each_on_wheel letters six (λ place below.
-    let same : place + 1 - 1 ≡ place = omega arith in
-    subst (λ k. Contains (ring_of (place + 1)) (slice_index letters k)) same (on (place + 1) (omega arith) (omega arith)))
 
 pub stand_on_wheels : (letters : List ℕ) → AreOnWheels letters → OnWheels letters
 stand_on_wheels letters on zero low high = absurd (omega arith)

@@ -1,10 +1,10 @@
 -- The wheels in the slots, with their rings and their window letters.
-use Rattle.std.proofs.Common.{◌≡◌, ℕ, ◌+◌, ◌<◌, List, [], ◌∷◌, length, map, get_or, slice_get, filter_map, Option, Some, None, IsSome, All, Contains, refl, sym, ap, ◌∙◌, subst, arith}
+use Rattle.std.proofs.Common.{◌≡◌, ◌≢◌, ℕ, ◌+◌, ◌<◌, List, [], ◌∷◌, length, map, get_or, slice_get, filter_map, Option, Some, None, IsSome, All, Contains, refl, sym, ap, ◌∙◌, subst, arith}
 use Rattle.std.specs.Prelude.{MatchOption}
 use Rattle.std.specs.List.{AllByRecursion, cons_option}
 use Rattle.std.proofs.lemmas.Bool.{false≢true}
 use Rattle.std.proofs.lemmas.List.{get_or-map, length-map}
-use Rattle.std.proofs.lemmas.List.Elements.{All-from_recursion}
+use Rattle.std.proofs.lemmas.List.Elements.{All-map}
 use Rattle.std.proofs.lemmas.Option.{none-some, same_Some, slice_get-get_or}
 use Rattle.kd_tables.specs.declared.wheel.Wheel.{Wheel}
 use Rattle.kd_tables.specs.Permutation.{exchange}
@@ -13,7 +13,7 @@ use Rattle.kd_state.specs.declared.machine.parts.Parts.TheVariants.{Rotor}
 use Rattle.kd_state.specs.declared.machine.rotor_parts.RotorParts.{RotorParts}
 use Rattle.kd_state.specs.declared.sheet_day.rotor_entry.SheetWheel.{SheetWheel}
 use Rattle.kd_state.specs.Box.{place_in_box}
-use Rattle.kd_state.specs.Machine.{IsLegalRotor, StandsAt, ring_at, letter_at}
+use Rattle.kd_state.specs.Machine.{IsLegalRotor, ring_at, letter_at}
 use Rattle.kd_state.specs.Seated.{wheel_with, seated_wheel, key_of_wheels}
 use Rattle.kd_state.specs.SheetDay.{seats}
 use Rattle.kd_state.specs.TwoCiphers.{OfWheels, IsRotorReady, seated_wheels, plugged_pairs, physical_key}
@@ -30,16 +30,13 @@ record IsSeat (m : RotorParts) (seat : Option Wheel) (w : SheetWheel) : Type 0 w
   ring : ring_at m w.wheel ≡ Some w.ring
   letter : letter_at m w.wheel ≡ Some w.letter
 
-seat_with : (m : RotorParts) (wheel : Wheel) (ring letter : Option ℕ) (w : SheetWheel) → ring_at m wheel ≡ ring → letter_at m wheel ≡ letter
-    → Some w ≡ wheel_with wheel ring letter → IsSeat m (Some wheel) w
-seat_with m wheel (Some ring) (Some letter) w r l e =
-    let made : SheetWheel = record { wheel = wheel; ring = ring; letter = letter } in
-    subst (IsSeat m (Some wheel)) (sym (same_Some w made e)) (record { wheel = refl; ring = r; letter = l })
-seat_with m wheel ring letter w r l e = absurd (none-some w (sym e))
-
 is_seat : (m : RotorParts) (seat : Option Wheel) (w : SheetWheel) → Some w ≡ seated_wheel (Rotor m) seat → IsSeat m seat w
 is_seat m None w e = absurd (none-some w (sym e))
-is_seat m (Some wheel) w e = seat_with m wheel (ring_at m wheel) (letter_at m wheel) w refl refl e
+is_seat m (Some wheel) w e = by_reads (ring_at m wheel) (letter_at m wheel) refl refl e
+  where
+    by_reads : (ring letter : Option ℕ) → ring_at m wheel ≡ ring → letter_at m wheel ≡ letter → Some w ≡ wheel_with wheel ring letter → IsSeat m (Some wheel) w
+    by_reads (Some ring) (Some letter) r l e = subst (IsSeat m (Some wheel)) (sym (same_Some w _ e)) (record { wheel = refl; ring = r; letter = l })
+    by_reads ring letter r l e = absurd (none-some w (sym e))
 
 pub are_seats : (m : RotorParts) (slots : List (Option Wheel)) (wheels : List SheetWheel) → map Some wheels ≡ map (seated_wheel (Rotor m)) slots → AreSeats m slots wheels
 are_seats m [] [] e = record { slots = refl; rings = tt; letters = tt }
@@ -60,13 +57,9 @@ pub wheels_seated : (wheels : List SheetWheel) → filter_map (λ (seated : Opti
 wheels_seated [] = refl
 wheels_seated (w ∷ wheels) = ap (λ rest. w.wheel ∷ rest) (wheels_seated wheels)
 
-each_seated : (wheels : List SheetWheel) → AllByRecursion (λ (seated : Option Wheel). IsSome seated) (seats wheels)
-each_seated [] = tt
-each_seated (w ∷ wheels) = (refl, each_seated wheels)
-
 pub all_seated : (slots : List (Option Wheel)) (wheels : List SheetWheel) → slots ≡ seats wheels → All (λ seated. IsSome seated) slots
 all_seated slots wheels e =
-    subst (All (λ (seated : Option Wheel). IsSome seated)) (sym e) (All-from_recursion (λ (seated : Option Wheel). IsSome seated) (seats wheels) (each_seated wheels))
+    subst (All (λ (seated : Option Wheel). IsSome seated)) (sym e) (All-map (λ (seated : Option Wheel). IsSome seated) (λ (w : SheetWheel). Some w.wheel) wheels (λ k d below. refl))
 
 -- what is read of each wheel
 pub read_all : (f : Wheel → Option ℕ) (view : SheetWheel → ℕ) (wheels : List SheetWheel) → AllByRecursion (λ w. f w.wheel ≡ Some (view w)) wheels
@@ -95,26 +88,18 @@ none_seated m slots found k d e within h =
     (k, omega (arith, length-map slots (seated_wheel m)), get_or-map (seated_wheel m) slots k d None within ∙ sym h)
 
 -- a wheel of a legal machine has its ring and its letter
-wheel_there : (m : RotorParts) → IsLegalRotor m → (place : ℕ) (wheel : Wheel) → StandsAt m.slots place wheel → seated_wheel (Rotor m) (Some wheel) ≡ None → ⊥
-wheel_there m legal place wheel at none =
+filled_seat : (m : RotorParts) → IsLegalRotor m → (place : ℕ) (seat : Option Wheel) → slice_get m.slots place ≡ Some seat → IsSome seat → seated_wheel (Rotor m) seat ≢ None
+filled_seat m legal place None at there none = false≢true there
+filled_seat m legal place (Some wheel) at there none =
     let box = place_in_box m.model wheel in
     let within = place_within m.model wheel (placed m.model (place + 1) wheel (legal.allowed place wheel at)).in_box in
     let ring : ring_at m wheel ≡ Some (get_or m.rings box 0) = slice_get-get_or m.rings box 0 (omega (arith, within, legal.rings.count)) in
     let letter : letter_at m wheel ≡ Some (get_or m.letters box 0) = slice_get-get_or m.letters box 0 (omega (arith, within, legal.letters.count)) in
-    none-some (record { wheel = wheel; ring = get_or m.rings box 0; letter = get_or m.letters box 0 })
-    (sym none ∙ ap (λ r. wheel_with wheel r (letter_at m wheel)) ring ∙ ap (wheel_with wheel (Some (get_or m.rings box 0))) letter)
-
-empty_seat : (m : RotorParts) → IsLegalRotor m → (place : ℕ) (seat : Option Wheel) → slice_get m.slots place ≡ Some seat → IsSome seat → seated_wheel (Rotor m) seat ≡ None → ⊥
-empty_seat m legal place None at there none = false≢true there
-empty_seat m legal place (Some wheel) at there none = wheel_there m legal place wheel at none
-
-pub nothing : {X : Type 0} (found : Option X) → found ≡ None → IsSome found → ⊥
-nothing None e there = false≢true there
-nothing (Some x) e there = none-some x (sym e)
+    none-some _ (sym (rw (ring, letter) at none))
 
 pub not_ready : (m : RotorParts) → IsLegalRotor m → Contains (map (seated_wheel (Rotor m)) m.slots) None → IsRotorReady m → ⊥
 not_ready m legal h ready =
     let k = h.0 in
     let within : k < length m.slots = omega (arith, h.1, length-map m.slots (seated_wheel (Rotor m))) in
-    empty_seat m legal k (get_or m.slots k None) (slice_get-get_or m.slots k None within) (ready.slots k None within)
+    filled_seat m legal k (get_or m.slots k None) (slice_get-get_or m.slots k None within) (ready.slots k None within)
     (sym (get_or-map (seated_wheel (Rotor m)) m.slots k None None within) ∙ h.2)

@@ -1,5 +1,5 @@
 -- The words of settings' lines: no two settings have the same, and those of a form are all that begin with its word.
-use Rattle.std.proofs.Common.{◌≡◌, ◌≢◌, ℕ, ◌+◌, ◌*◌, ◌^◌, ◌<◌, ◌≤◌, length, get_or, Bool, true, false, List, [], ◌∷◌, Option, Some, None, MatchOption, refl, sym, ap, ◌∙◌, arith, ◌⊎◌, inl, inr, ◌++◌, append_assoc, length-append}
+use Rattle.std.proofs.Common.{◌≡◌, ◌≢◌, ℕ, ◌+◌, ◌*◌, ◌^◌, ◌<◌, ◌≤◌, length, get_or, Bool, true, false, List, [], ◌∷◌, Option, Some, None, MatchOption, refl, sym, ap, ◌∙◌, arith, ◌++◌, append_assoc, length-append}
 use Rattle.std.specs.List.{All, AllByRecursion}
 use Rattle.std.specs.Fmt.{decimal}
 use Rattle.std.proofs.lemmas.Fmt.{decimal_injective}
@@ -139,55 +139,39 @@ lines_tell_settings x y r s e =
 
 -- ---- lists of settings are told by their texts, and a text that is none has one fault
 
--- ---- one line at the front
-
-same_first : (x y : Setting) (rest more : List ℕ) → IsInRange x → IsInRange y → setting_line x ++ 10 ∷ rest ≡ setting_line y ++ 10 ∷ more → (x ≡ y) × (rest ≡ more)
-same_first x y rest more r s e =
-    let parts : (setting_line x ≡ setting_line y) × (rest ≡ more) =
-    texts_tell_first_parts 10 (setting_line x) (setting_line y) rest more (line_has_no_break x r) (line_has_no_break y s) e in
-    (lines_tell_settings x y r s parts.0, parts.1)
-
 text_of_more : (x : Setting) (xs : List Setting) (rest : List ℕ) → list_text (x ∷ xs) ++ rest ≡ setting_line x ++ 10 ∷ (list_text xs ++ rest)
 text_of_more x xs rest =
     append_assoc (setting_line x ++ 10 ∷ []) (list_text xs) rest ∙ append_assoc (setting_line x) (10 ∷ []) (list_text xs ++ rest)
 
-not_none : (x : Setting) (rest : List ℕ) → setting_line x ++ 10 ∷ rest ≢ []
-not_none x rest e = omega (arith, length-append (setting_line x) (10 ∷ rest), ap length e)
-
--- ---- of two lists at the front of one text the one goes on where the other ends
-
-record GoesOn (xs ys : List Setting) (rest more : List ℕ) : Type 0 where
-  added : List Setting
-  longer : ys ≡ xs ++ added
-  text : rest ≡ list_text added ++ more
-  in_range : AllByRecursion IsInRange added
-
-further : (x y : Setting) (xs ys : List Setting) (rest more : List ℕ) → x ≡ y → GoesOn xs ys rest more → GoesOn (x ∷ xs) (y ∷ ys) rest more
-further x y xs ys rest more same g = record { added = g.added; longer = let l = g.longer in cc; text = g.text; in_range = g.in_range }
-
-one_goes_on : (xs ys : List Setting) (rest more : List ℕ) → AllByRecursion IsInRange xs → AllByRecursion IsInRange ys
-    → list_text xs ++ rest ≡ list_text ys ++ more → GoesOn xs ys rest more ⊎ GoesOn ys xs more rest
-one_goes_on [] ys rest more r s e = inl (record { added = ys; longer = refl; text = e; in_range = s })
-one_goes_on (x ∷ xs) [] rest more r s e = inr (record { added = x ∷ xs; longer = refl; text = sym e; in_range = r })
-one_goes_on (x ∷ xs) (y ∷ ys) rest more r s e =
-    let first : (x ≡ y) × (list_text xs ++ rest ≡ list_text ys ++ more) =
-    same_first x y (list_text xs ++ rest) (list_text ys ++ more) r.0 s.0 (sym (text_of_more x xs rest) ∙ e ∙ text_of_more y ys more) in
-    elim (one_goes_on xs ys rest more r.1 s.1 first.1) [
-      | inl g ↦ inl (further x y xs ys rest more first.0 g)
-      | inr g ↦ inr (further y x ys xs more rest (sym first.0) g)
-    ]
-
-ends_with : (xs ys : List Setting) (rest more : List ℕ) → BeginsWithNoLine rest → (zs : List Setting) → ys ≡ xs ++ zs → rest ≡ list_text zs ++ more
-    → AllByRecursion IsInRange zs → (xs ≡ ys) × (rest ≡ more)
-ends_with xs ys rest more none [] longer text r = (sym (longer ∙ append-nil xs), text)
-ends_with xs ys rest more none (z ∷ zs) longer text r = absurd (none z (list_text zs ++ more) r.0 (text ∙ text_of_more z zs more))
-
--- where no line follows, nothing goes on
-ends : (xs ys : List Setting) (rest more : List ℕ) → BeginsWithNoLine rest → GoesOn xs ys rest more → (xs ≡ ys) × (rest ≡ more)
-ends xs ys rest more none g = ends_with xs ys rest more none g.added g.longer g.text g.in_range
-
 nothing_begins : BeginsWithNoLine []
-nothing_begins x rest r e = not_none x rest (sym e)
+nothing_begins x rest r e = omega (arith, length-append (setting_line x) (10 ∷ rest), ap length e)
+
+-- one line at the front
+same_first : (x y : Setting) (xs ys : List Setting) (rest more : List ℕ) → IsInRange x → IsInRange y → list_text (x ∷ xs) ++ rest ≡ list_text (y ∷ ys) ++ more
+    → (x ≡ y) × (list_text xs ++ rest ≡ list_text ys ++ more)
+same_first x y xs ys rest more r s e =
+    let parts = texts_tell_first_parts 10 (setting_line x) (setting_line y) (list_text xs ++ rest) (list_text ys ++ more) (line_has_no_break x r) (line_has_no_break y s)
+    (sym (text_of_more x xs rest) ∙ e ∙ text_of_more y ys more) in
+    (lines_tell_settings x y r s parts.0, parts.1)
+
+-- two lists after which no line follows are one
+same_lists : (xs ys : List Setting) (rest more : List ℕ) → AllByRecursion IsInRange xs → AllByRecursion IsInRange ys → list_text xs ++ rest ≡ list_text ys ++ more
+    → BeginsWithNoLine rest → BeginsWithNoLine more → (xs ≡ ys) × (rest ≡ more)
+same_lists [] [] rest more r s e none nor = (refl, e)
+same_lists [] (y ∷ ys) rest more r s e none nor = absurd (none y (list_text ys ++ more) s.0 (e ∙ text_of_more y ys more))
+same_lists (x ∷ xs) [] rest more r s e none nor = absurd (nor x (list_text xs ++ rest) r.0 (sym e ∙ text_of_more x xs rest))
+same_lists (x ∷ xs) (y ∷ ys) rest more r s e none nor =
+    let first : (x ≡ y) × (list_text xs ++ rest ≡ list_text ys ++ more) = same_first x y xs ys rest more r.0 s.0 e in
+    let others : (xs ≡ ys) × (rest ≡ more) = same_lists xs ys rest more r.1 s.1 first.1 none nor in
+    (cc, others.1)
+
+-- and no list is longer than one after which none follows
+longest : (xs ys : List Setting) (rest more : List ℕ) → AllByRecursion IsInRange xs → AllByRecursion IsInRange ys → list_text xs ++ rest ≡ list_text ys ++ more
+    → BeginsWithNoLine rest → length ys ≤ length xs
+longest xs [] rest more r s e none = omega arith
+longest [] (y ∷ ys) rest more r s e none = absurd (none y (list_text ys ++ more) s.0 (e ∙ text_of_more y ys more))
+longest (x ∷ xs) (y ∷ ys) rest more r s e none =
+    omega (arith, longest xs ys rest more r.1 s.1 (same_first x y xs ys rest more r.0 s.0 e).1 none)
 
 -- ---- what is read, line by line
 
@@ -217,26 +201,15 @@ no_line_by_first bytes line rest first none x other r e =
 begins : (bytes : List ℕ) (xs : List Setting) → IsList bytes xs → BeginsWith bytes xs []
 begins bytes xs l = record { lines = l.text ∙ sym (append-nil (list_text xs)); in_range = l.in_range }
 
-both : (bytes : List ℕ) (xs ys : List Setting) (rest more : List ℕ) → BeginsWith bytes xs rest → BeginsWith bytes ys more
-    → GoesOn xs ys rest more ⊎ GoesOn ys xs more rest
-both bytes xs ys rest more a b =
-    one_goes_on xs ys rest more (recursion_from_All IsInRange xs a.in_range) (recursion_from_All IsInRange ys b.in_range) (sym a.lines ∙ b.lines)
-
--- two lists after which no line follows are one
 same_end : (bytes : List ℕ) (xs ys : List Setting) (rest more : List ℕ) → BeginsWith bytes xs rest → BeginsWith bytes ys more
     → BeginsWithNoLine rest → BeginsWithNoLine more → (xs ≡ ys) × (rest ≡ more)
-same_end bytes xs ys rest more a b none nor = elim (both bytes xs ys rest more a b) [
-  | inl g ↦ ends xs ys rest more none g
-  | inr g ↦ let same : (ys ≡ xs) × (more ≡ rest) = ends ys xs more rest nor g in (sym same.0, sym same.1)
-]
+same_end bytes xs ys rest more a b =
+    same_lists xs ys rest more (recursion_from_All IsInRange xs a.in_range) (recursion_from_All IsInRange ys b.in_range) (sym a.lines ∙ b.lines)
 
--- and no list is longer
 not_longer : (bytes : List ℕ) (xs ys : List Setting) (rest more : List ℕ) → BeginsWith bytes xs rest → BeginsWith bytes ys more
     → BeginsWithNoLine rest → length ys ≤ length xs
-not_longer bytes xs ys rest more a b none = elim (both bytes xs ys rest more a b) [
-  | inl g ↦ let same = ends xs ys rest more none g in omega (arith, ap length same.0)
-  | inr g ↦ let longer = g.longer in omega (arith, ap length longer, length-append ys g.added)
-]
+not_longer bytes xs ys rest more a b =
+    longest xs ys rest more (recursion_from_All IsInRange xs a.in_range) (recursion_from_All IsInRange ys b.in_range) (sym a.lines ∙ b.lines)
 
 pub texts_tell_lists : TextsTellLists
 texts_tell_lists bytes xs ys a b = (same_end bytes xs ys [] [] (begins bytes xs a) (begins bytes ys b) nothing_begins nothing_begins).0
@@ -245,9 +218,7 @@ pub lists_have_no_fault : ListsHaveNoFault
 lists_have_no_fault bytes xs (BadLine line) a f =
     f.5 (sym (same_end bytes xs f.0 [] f.1 (begins bytes xs a) f.2 nothing_begins f.6).1)
 lists_have_no_fault bytes xs TooMany a f =
-    let most = not_longer bytes xs f.0 [] f.1 (begins bytes xs a) f.2 nothing_begins in
-    let few = a.few in
-    omega (arith, most, few, f.3)
+    omega (arith, not_longer bytes xs f.0 [] f.1 (begins bytes xs a) f.2 nothing_begins, a.few, f.3)
 
 pub one_list_fault : OneListFault
 one_list_fault bytes (BadLine line) (BadLine other) f g =

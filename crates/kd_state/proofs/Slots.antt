@@ -1,12 +1,12 @@
 -- What stands in the slots, and things counted from 1.
-use Rattle.std.proofs.Common.{◌≡◌, ◌≢◌, ℕ, zero, suc, ◌+◌, ◌-◌, ◌<◌, ◌≤◌, inl, inr, List, [], ◌∷◌, length, take, get_or, set, Contains, Option, Some, None, IfSome, slice_get, refl, sym, ap, ◌∙◌, subst, arith, add-one}
-use Rattle.std.proofs.lemmas.Bool.{cases_eq}
-use Rattle.std.proofs.lemmas.List.{get_or-take, length-take, get_or_default}
-use Rattle.std.proofs.lemmas.Option.{slice_get_within, slice_get-get_or, get_or_from_slice_get, same_Some}
+use Rattle.std.proofs.Common.{◌≡◌, ◌≢◌, ℕ, zero, suc, ◌+◌, ◌-◌, ◌<◌, ◌≤◌, false, inl, inr, List, [], ◌∷◌, length, take, get_or, set, Contains, Option, Some, None, IfSome, slice_get, refl, sym, ap, ◌∙◌, subst, arith, add-one}
+use Rattle.std.proofs.lemmas.Bool.{cases_eq, false≢true}
+use Rattle.std.proofs.lemmas.List.{get_or-take, length-take}
+use Rattle.std.proofs.lemmas.Option.{slice_get_within, slice_get-get_or, get_or_from_slice_get}
 use Rattle.kd_tables.specs.declared.model.Model.{Model}
 use Rattle.kd_tables.specs.declared.wheel.Wheel.{Wheel}
 use Rattle.kd_tables.specs.Tables.{box_of}
-use Rattle.std.specs.Option.{SomeIff, IsSome}
+use Rattle.std.specs.Option.{is_none, unwrap_or}
 use Rattle.kd_state.proofs.Wheels.{placed}
 use Rattle.kd_state.specs.Box.{numbered}
 use Rattle.kd_state.specs.Machine.{StandsAt, AreAllowed, AreApart}
@@ -16,13 +16,25 @@ pub record IsNumbered {X : Type 0} (xs : List X) (number : ℕ) (x : X) : Type 0
   pub first : 1 ≤ number
   pub last : number ≤ length xs
   pub here : slice_get xs (number - 1) ≡ Some x
+  pub is : numbered xs number ≡ Some x
 
 pub is_numbered : {X : Type 0} (xs : List X) (number : ℕ) (x : X) → numbered xs number ≡ Some x → IsNumbered xs number x
 is_numbered xs zero x h = cc
 is_numbered xs (suc place) x h =
     let within : place < length xs = slice_get_within xs place x h in
     let here : suc place - 1 ≡ place = omega arith in
-    record { first = omega arith; last = omega arith; here = rw here h }
+    record { first = omega arith; last = omega arith; here = rw here h; is = h }
+
+-- what is there
+pub not_none : {X : Type 0} (found : Option X) → is_none found ≡ false → found ≢ None
+not_none found some none = false≢true (sym some ∙ ap is_none none)
+
+pub value_of : {X : Type 0} (found : Option X) (d : X) → found ≢ None → found ≡ Some (unwrap_or found d)
+value_of None d some = absurd (some refl)
+value_of (Some x) d some = refl
+
+pub stands : {X : Type 0} (xs : List X) (number : ℕ) (d : X) → numbered xs number ≢ None → IsNumbered xs number (unwrap_or (numbered xs number) d)
+stands xs number d some = is_numbered xs number (unwrap_or (numbered xs number) d) (value_of (numbered xs number) d some)
 
 pub numbered_at : {X : Type 0} (xs : List X) (place : ℕ) → numbered xs (place + 1) ≡ slice_get xs place
 numbered_at xs place = rw add-one refl
@@ -48,17 +60,10 @@ pub numbered_other : {X : Type 0} (xs : List X) (number other : ℕ) (x : X) →
 numbered_other xs number zero x first h = refl
 numbered_other xs number (suc at) x first h = set_other xs (number - 1) at x (λ e. h (omega (arith, e, first)))
 
--- a wheel in a slot
-pub stands_within : (slots : List (Option Wheel)) (place : ℕ) (wheel : Wheel) → StandsAt slots place wheel → place < length slots
-stands_within slots place wheel at = slice_get_within slots place (Some wheel) at
-
-pub stands_in : (slots : List (Option Wheel)) (place : ℕ) (seated : Option Wheel) (wheel : Wheel) → place < length slots → seated ≡ get_or slots place seated → StandsAt slots place wheel → seated ≡ Some wheel
-stands_in slots place seated wheel within is at = is ∙ get_or_from_slice_get slots place (Some wheel) seated at
-
 -- the wheels of the first slots
 pub among_first : (slots : List (Option Wheel)) (i place : ℕ) (wheel : Wheel) → place < i → StandsAt slots place wheel → Contains (take i slots) (Some wheel)
 among_first slots i place wheel below at =
-    let within : place < length slots = stands_within slots place wheel at in
+    let within : place < length slots = slice_get_within slots place (Some wheel) at in
     (place, omega (arith, length-take i slots), get_or-take i slots place (Some wheel) below ∙ get_or_from_slice_get slots place (Some wheel) (Some wheel) at)
 
 pub first_among : (slots : List (Option Wheel)) (i : ℕ) (wheel : Wheel) → Contains (take i slots) (Some wheel) → (place : ℕ) × (place < i) × StandsAt slots place wheel
@@ -68,20 +73,14 @@ first_among slots i wheel h =
     (h.0, below, slice_get-get_or slots h.0 (Some wheel) within ∙ ap Some (sym (get_or-take i slots h.0 (Some wheel) below) ∙ h.2))
 
 -- one more slot whose wheel stands in none of the earlier ones
-new_here : (slots : List (Option Wheel)) (i : ℕ) (seated : Option Wheel) (wheel : Wheel) → seated ≡ Some wheel → IfSome seated (λ wheel. ¬ (Contains (take i slots) (Some wheel))) → ¬ (Contains (take i slots) (Some wheel))
-new_here slots i None wheel e h = cc
-new_here slots i (Some other) wheel e h = rw (sym (same_Some other wheel e)) h
-
 pub apart_more : (slots : List (Option Wheel)) (i : ℕ) → i < length slots → IfSome (get_or slots i None) (λ wheel. ¬ (Contains (take i slots) (Some wheel)))
     → ((place other : ℕ) (wheel : Wheel) → place < i → other < i → StandsAt slots place wheel → StandsAt slots other wheel → place ≡ other)
     → (place other : ℕ) (wheel : Wheel) → place < i + 1 → other < i + 1 → StandsAt slots place wheel → StandsAt slots other wheel → place ≡ other
 apart_more slots i within new before place other wheel below beneath at there =
-    let seated = get_or slots i None in
-    let is : seated ≡ get_or slots i seated = get_or_default slots i None seated within in
     let alone : (p q : ℕ) → p ≡ i → q < i → StandsAt slots p wheel → StandsAt slots q wheel → ⊥ =
     λ p q e lower here before.
-    let now : StandsAt slots i wheel = rw (sym e) here in
-    new_here slots i seated wheel (stands_in slots i seated wheel within is now) new (among_first slots i q wheel lower before)
+    let now : get_or slots i None ≡ Some wheel = get_or_from_slice_get slots i (Some wheel) None (subst (λ k. StandsAt slots k wheel) e here) in
+    subst (λ seated. IfSome seated (λ wheel. ¬ (Contains (take i slots) (Some wheel)))) now new (among_first slots i q wheel lower before)
     in
     elim (cases_eq place i) [
       | inl e ↦ elim (cases_eq other i) [
@@ -94,23 +93,15 @@ apart_more slots i within new before place other wheel below beneath at there =
       ]
     ]
 
-some_new : (slots : List (Option Wheel)) (i : ℕ) (seated : Option Wheel) → slice_get slots i ≡ Some seated → AreApart slots → IfSome seated (λ wheel. ¬ (Contains (take i slots) (Some wheel)))
+pub some_new : (slots : List (Option Wheel)) (i : ℕ) (seated : Option Wheel) → slice_get slots i ≡ Some seated → AreApart slots → IfSome seated (λ wheel. ¬ (Contains (take i slots) (Some wheel)))
 some_new slots i None at h = tt
 some_new slots i (Some wheel) at h = λ contained.
     let earlier = first_among slots i wheel contained in
     let same : earlier.0 ≡ i = h earlier.0 i wheel earlier.2 at in
     omega (arith, earlier.1, same)
 
-pub new_at : (slots : List (Option Wheel)) (i : ℕ) → i < length slots → AreApart slots → IfSome (get_or slots i None) (λ wheel. ¬ (Contains (take i slots) (Some wheel)))
-new_at slots i within h = some_new slots i (get_or slots i None) (slice_get-get_or slots i None within) h
-
 -- a wheel that is seated is one of the box
 pub seated_in_box : (model : Model) (slots : List (Option Wheel)) (slot : ℕ) (wheel : Wheel) → AreAllowed model slots → numbered slots slot ≡ Some (Some wheel) → Contains (box_of model) wheel
 seated_in_box model slots slot wheel allowed e =
     let at = is_numbered slots slot (Some wheel) e in
     (placed model (slot - 1 + 1) wheel (allowed (slot - 1) wheel at.here)).in_box
-
--- what is there exactly where something holds
-pub is_there : {X : Type 0} (found : Option X) (P : Type 0) (x : X) → SomeIff found P x → P → IsSome found
-is_there None P x h p = absurd (h p)
-is_there (Some y) P x h p = refl

@@ -1,9 +1,12 @@
 -- Two lists that are sorted, and hold the same elements as often, are one list.
 use Rattle.std.specs.Prelude.{◌≡◌, ℕ, ◌+◌, ◌<◌, Bool, true, false, if◌then◌else◌, List, [], ◌∷◌, length, count_by, slice_index_or, IsPermutation, IsSortedBy}
 use Rattle.std.specs.Cmp.{IsStrictWeakOrder}
-use Rattle.std.proofs.Common.{suc, refl, sym, ap, subst, arith}
-use Rattle.std.proofs.lemmas.List.Sums.{sum_by-cons}
-use Rattle.std.proofs.lemmas.List.Sorted.{sorted_far, sum_by-IsPermutation}
+use Rattle.std.proofs.Common.{suc, refl, sym, ap, ◌∙◌, ◌↔◌, subst, arith}
+use Rattle.std.proofs.lemmas.List.Sums.{sum_by-cons, sum_by-le}
+use Rattle.std.proofs.lemmas.List.Sorted.{sorted_far, sum_by-IsPermutation, IsPermutation-sym, IsPermutation-trans}
+use Rattle.std.specs.Bool.{Decides}
+use Rattle.std.specs.Cmp.Lexicographic.{pointwise_decides}
+use lib.Pointwise.{pointwise}
 
 -- 1 where it holds
 abbrev pub once : Bool → ℕ
@@ -15,11 +18,7 @@ count_by-cons p x xs = sum_by-cons (λ y. once (p y)) x xs
 
 -- elements that don't pass aren't counted
 none_counted : {X : Type 0} (p : X → Bool) (xs : List X) → ((k : ℕ) (d : X) → k < length xs → p (slice_index_or xs k d) ≡ false) → count_by p xs ≡ 0
-none_counted p [] none = refl
-none_counted p (x ∷ xs) none =
-    let first : once (p x) ≡ 0 = ap once (none 0 x (omega arith)) in
-    let rest : count_by p xs ≡ 0 = none_counted p xs (λ k d below. none (suc k) d (omega arith)) in
-    omega (arith, count_by-cons p x xs, first, rest)
+none_counted p xs none = omega (arith, sum_by-le (λ x. once (p x)) 0 xs (λ k d below. let zero : once (p (slice_index_or xs k d)) ≡ 0 = ap once (none k d below) in omega arith))
 
 module _ {X : Type 0} (lt : X → X → Bool) (order : IsStrictWeakOrder lt) (same : (x y : X) → lt x y ≡ false → lt y x ≡ false → x ≡ y) where
   tail_sorted : (x : X) (xs : List X) → IsSortedBy lt (x ∷ xs) → IsSortedBy lt xs
@@ -47,6 +46,13 @@ module _ {X : Type 0} (lt : X → X → Bool) (order : IsStrictWeakOrder lt) (sa
       (λ p. omega (arith, counts p, count_by-cons p x xs, count_by-cons p y ys, ap (λ z. once (p z)) first)) in
       cc
 
-  -- the same of a list and its elements in another order
-  pub sorted_permutation : (xs ys : List X) → IsSortedBy lt xs → IsSortedBy lt ys → IsPermutation xs ys → xs ≡ ys
-  sorted_permutation xs ys up rising moved = sorted_alike xs ys up rising (λ p. sym (sum_by-IsPermutation (λ y. once (p y)) xs ys moved))
+  -- so lists have the same elements exactly where they are one list once they are sorted
+  pub sorted_tell : (eq : X → X → Bool) → ((x y : X) → Decides (eq x y) (x ≡ y)) → (xs ys up rising : List X) (tested : Bool) → IsPermutation xs up → IsPermutation ys rising
+      → IsSortedBy lt up → IsSortedBy lt rising → tested ≡ pointwise eq up rising → (tested ≡ true) ↔ IsPermutation xs ys
+  sorted_tell eq decides xs ys up rising tested moved other sorted rises is =
+      let decided = pointwise_decides decides up rising in (
+        λ yes. IsPermutation-trans xs up ys moved (subst (λ all. IsPermutation all ys) (sym (decided.0 (sym is ∙ yes))) (IsPermutation-sym ys rising other)),
+        λ same.
+            let across : IsPermutation up rising = IsPermutation-trans up xs rising (IsPermutation-sym xs up moved) (IsPermutation-trans xs ys rising same other) in
+            is ∙ decided.1 (sorted_alike up rising sorted rises (λ p. sym (sum_by-IsPermutation (λ y. once (p y)) up rising across))),
+      )

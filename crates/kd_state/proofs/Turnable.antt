@@ -5,16 +5,13 @@ use Rattle.std.proofs.lemmas.List.Elements.{All-set, All-head, All-tail}
 use Rattle.kd_tables.specs.declared.model.Model.{Model}
 use Rattle.kd_tables.specs.declared.wheel.Wheel.{Wheel}
 use Rattle.kd_tables.specs.Tables.{box_of}
-use Rattle.kd_state.specs.declared.machine.parts.Parts.{Parts}
 use Rattle.kd_state.specs.declared.machine.parts.Parts.TheVariants.{Rotor, Pin}
-use Rattle.kd_state.specs.declared.machine.rotor_parts.RotorParts.{RotorParts}
-use Rattle.kd_state.specs.declared.machine.pin_parts.PinParts.{PinParts}
 use Rattle.kd_state.specs.Box.{place_in_box}
 use Rattle.kd_state.specs.Laws.{MachinesCanBeTurned}
-use Rattle.kd_state.specs.Machine.{StandsAt, AreApart, AreLetters, AreOnWheels, IsMachine}
-use Rattle.kd_state.specs.TwoCiphers.{IsTurned, seated_wheels}
+use Rattle.kd_state.specs.Machine.{StandsAt, AreApart}
+use Rattle.kd_state.specs.TwoCiphers.{seated_wheels}
 use Rattle.kd_state.proofs.Wheels.{places_tell_wheels, placed, place_within}
-use Rattle.kd_state.proofs.Keeping.{with_letters}
+use Rattle.kd_state.proofs.Changing.{with_letters}
 use Rattle.kd_state.proofs.Slots.{set_here, set_other}
 
 -- letters put in their places, one for each wheel
@@ -68,27 +65,23 @@ each_standing Q [] h = tt
 each_standing Q (None ∷ slots) h = each_standing Q slots (λ k. h (suc k))
 each_standing Q (Some wheel ∷ slots) h = (h zero wheel refl, each_standing Q slots (λ k. h (suc k)))
 
-one_less : (j k : ℕ) → suc j ≡ suc k → j ≡ k
-one_less j k e = omega arith
-
-first_apart : (k : ℕ) → zero ≡ suc k → ⊥
-first_apart k e = omega arith
-
 places_apart : (model : Model) (slots : List (Option Wheel)) → AreApart slots → ((k : ℕ) (wheel : Wheel) → StandsAt slots k wheel → Contains (box_of model) wheel)
     → HavePlaces (place_in_box model) (filter_map (λ seated. seated) slots)
 unfolding HavePlaces
 places_apart model [] apart boxed = tt
-places_apart model (None ∷ slots) apart boxed = places_apart model slots (λ j k wheel a b. one_less j k (apart (suc j) (suc k) wheel a b)) (λ k. boxed (suc k))
+places_apart model (None ∷ slots) apart boxed = places_apart model slots (λ j k wheel a b. omega (arith, apart (suc j) (suc k) wheel a b)) (λ k. boxed (suc k))
 places_apart model (Some wheel ∷ slots) apart boxed = (
   each_standing (λ other. place_in_box model other ≢ place_in_box model wheel) slots
-      (λ k other at e. first_apart k (apart zero (suc k) wheel refl
-      (subst (StandsAt slots k) (places_tell_wheels model other wheel (boxed (suc k) other at) (boxed zero wheel refl) e) at))),
-  places_apart model slots (λ j k other a b. one_less j k (apart (suc j) (suc k) other a b)) (λ k. boxed (suc k)),
+      (λ k other at e. omega (
+        arith,
+        apart zero (suc k) wheel refl
+            (subst (StandsAt slots k) (places_tell_wheels model other wheel (boxed (suc k) other at) (boxed zero wheel refl) e) at),
+      )),
+  places_apart model slots (λ j k other a b. omega (arith, apart (suc j) (suc k) other a b)) (λ k. boxed (suc k)),
 )
 
-turned_rotor : (m : RotorParts) (window : List ℕ) → IsMachine (Rotor m) → AreLetters (length (seated_wheels m)) window
-    → (n : Parts) × IsTurned (Rotor m) window n × IsMachine n
-turned_rotor m window machine are =
+pub can_be_turned : MachinesCanBeTurned
+can_be_turned (Rotor m) window machine ready are =
     let legal = machine.legal in
     let place = place_in_box m.model in
     let wheels = seated_wheels m in
@@ -99,20 +92,11 @@ turned_rotor m window machine are =
     let shows = read_put place wheels window m.letters are.count below (places_apart m.model m.slots legal.apart boxed) in (
       Rotor (record m { letters = letters }),
       (refl, shows),
-      with_letters m letters machine (record {
+      with_letters m m.rings letters machine legal.rings (record {
         count = length-put place wheels window m.letters ∙ legal.letters.count;
         within = all_put place (λ letter. letter < 26) wheels window m.letters are.within legal.letters.within;
       }),
     )
-
-turned_drum : (m : PinParts) (window : List ℕ) → IsMachine (Pin m) → AreOnWheels window → (n : Parts) × IsTurned (Pin m) window n × IsMachine n
-turned_drum m window machine on =
-    let legal = machine.legal in (
-      Pin (record m { letters = window }),
-      refl,
-      record { legal = record { pins = legal.pins; letters = on; bars = legal.bars; apart = legal.apart }; cables = refl },
-    )
-
-pub can_be_turned : MachinesCanBeTurned
-can_be_turned (Rotor m) window machine ready is = turned_rotor m window machine is
-can_be_turned (Pin m) window machine ready is = turned_drum m window machine is
+can_be_turned (Pin m) window machine ready is =
+    let l = machine.legal in
+    (Pin (record m { letters = window }), refl, record { legal = record { pins = l.pins; letters = is; bars = l.bars; apart = l.apart }; cables = refl })

@@ -1,10 +1,11 @@
 -- Wheels and reflectors by their names, and where the wheels of the box may stand.
-use Rattle.std.proofs.Common.{find, unwrap_or, ◌≡◌, ◌≢◌, ℕ, ◌<◌, ◌≤◌, nat_le, ◌==◌, Bool, true, false, ◌||◌, cond, List, [], ◌∷◌, length, get_or, Contains, Decides, refl, sym, ap, ◌∙◌, subst, arith, ◌+◌, Some}
+use Rattle.std.proofs.Common.{inl, inr, find, unwrap_or, ◌≡◌, ◌≢◌, ℕ, ◌<◌, ◌≤◌, nat_le, ◌==◌, Bool, true, false, cond, List, [], ◌∷◌, length, get_or, Contains, Decides, refl, sym, ap, ◌∙◌, subst, arith, ◌+◌, Some}
 use Rattle.std.specs.List.{list_any, position_or_len}
 use Rattle.std.specs.Str.{bytes_eq}
-use Rattle.std.proofs.lemmas.Bool.{false_from_ne_true, and_parts, leb-true, eqb-true}
-use Rattle.std.proofs.lemmas.Bool.Decides.{Decides-by_or, Decides-like}
-use Rattle.std.proofs.lemmas.List.Elements.{Decides-contains, Contains-append_left, Contains-append_right, Contains-get_or}
+use Rattle.std.proofs.lemmas.Bool.{cases_Bool, false_from_ne_true, and_parts, or_parts, leb-true, eqb-true}
+use Rattle.std.proofs.lemmas.Bool.Decides.{Decides-like}
+use Rattle.std.proofs.lemmas.List.Elements.{Contains-append_left, Contains-append_right, Contains-get_or}
+use Rattle.std.proofs.lemmas.Map.Made.{is_member-Decides}
 use Rattle.std.proofs.lemmas.List.Sums.{position_or_len_is, passes_at_first}
 use denote.Enum.Bare.{sameb, same_true, same_false}
 use Rattle.kd_tables.specs.contracts.wheel.Wheel.{the_type}
@@ -66,33 +67,19 @@ same_wheel_differs wheel other h = false_from_ne_true (same_wheel wheel other) (
 
 -- the wheel is one of these, and the reflector is
 pub has_wheel-Decides : (wheels : List Wheel) (wheel : Wheel) → Decides (has_wheel wheels wheel) (Contains wheels wheel)
-has_wheel-Decides wheels wheel =
-    Decides-contains wheels wheel _ (Decides-by_or (same_wheel wheel) (λ other. other ≡ wheel) (list_any (same_wheel wheel))
-    (λ other. Decides-like _ sym sym (same_wheel-Decides wheel other)) refl (λ _ _. refl) wheels)
+has_wheel-Decides wheels wheel = is_member-Decides same_wheel-Decides wheels wheel
 
 pub has_reflector-Decides : (reflectors : List Reflector) (reflector : Reflector) → Decides (has_reflector reflectors reflector) (Contains reflectors reflector)
-has_reflector-Decides reflectors reflector =
-    Decides-contains reflectors reflector _ (Decides-by_or (same_reflector reflector) (λ other. other ≡ reflector) (list_any (same_reflector reflector))
-    (λ other. Decides-like _ sym sym (same_reflector-Decides reflector other)) refl (λ _ _. refl) reflectors)
+has_reflector-Decides reflectors reflector = is_member-Decides same_reflector-Decides reflectors reflector
 
 -- the first that passes is within the list, where one passes; where none does, the length stands for it
-first_within_cons : {X : Type 0} (b : Bool) (p : X → Bool) (x : X) (xs : List X) → p x ≡ b → (b || list_any p xs) ≡ true
-    → (list_any p xs ≡ true → position_or_len p xs < length xs) → position_or_len p (x ∷ xs) < length (x ∷ xs)
-first_within_cons true p x xs e h next = rw e (omega arith)
-first_within_cons false p x xs e h next = let further = next h in rw e (omega arith)
-
 pub first_within : {X : Type 0} (p : X → Bool) (xs : List X) → list_any p xs ≡ true → position_or_len p xs < length xs
 first_within p [] h = cc
-first_within p (x ∷ xs) h = first_within_cons (p x) p x xs refl h (first_within p xs)
-
-first_nowhere_cons : {X : Type 0} (b : Bool) (p : X → Bool) (x : X) (xs : List X) → p x ≡ b → (b || list_any p xs) ≡ false
-    → (list_any p xs ≡ false → position_or_len p xs ≡ length xs) → position_or_len p (x ∷ xs) ≡ length (x ∷ xs)
-first_nowhere_cons true p x xs e h next = cc
-first_nowhere_cons false p x xs e h next = let further = next h in rw e (omega arith)
+first_within p (x ∷ xs) h = elim (cases_Bool (p x)) [ inl e ↦ rw e (omega arith) | inr e ↦ let further = first_within p xs (rw e at h) in rw e (omega arith) ]
 
 pub first_nowhere : {X : Type 0} (p : X → Bool) (xs : List X) → list_any p xs ≡ false → position_or_len p xs ≡ length xs
 first_nowhere p [] h = refl
-first_nowhere p (x ∷ xs) h = first_nowhere_cons (p x) p x xs refl h (first_nowhere p xs)
+first_nowhere p (x ∷ xs) h = let parts = or_parts (p x) (list_any p xs) h in let further = first_nowhere p xs parts.1 in rw parts.0 (omega arith)
 
 pub place_within : (model : Model) (wheel : Wheel) → Contains (box_of model) wheel → place_in_box model wheel < length (box_of model)
 place_within model wheel h = first_within (same_wheel wheel) (box_of model) ((has_wheel-Decides (box_of model) wheel).1 h)
@@ -116,11 +103,6 @@ pub record IsPlaced (model : Model) (slot : ℕ) (wheel : Wheel) : Type 0 where
   pub last : slot ≤ slots_of model
   pub in_box : Contains (box_of model) wheel
 
-placed_in_three : (model : Model) (slot : ℕ) (wheel : Wheel) → slots_of model ≡ 3 → lies_in 1 3 slot ≡ true → Contains (box_of model) wheel → IsPlaced model slot wheel
-placed_in_three model slot wheel three e h =
-    let within = lies_in_both 1 3 slot e in
-    record { first = within.0; last = omega (arith, within.1, three); in_box = h }
-
 placed_in_m4 : (first : Bool) (slot : ℕ) (wheel : Wheel) → (slot == 1) ≡ first
     → Contains (cond first (wheels_for M4 1) (cond (lies_in 2 4 slot) (wheels_for M4 2) [])) wheel → IsPlaced M4 slot wheel
 placed_in_m4 true slot wheel e h =
@@ -136,7 +118,8 @@ placed M4 slot wheel h = placed_in_m4 (slot == 1) slot wheel refl h
 placed M209 slot wheel h = absurd (omega (arith, h.1))
 placed model slot wheel h =
     let parts = in_some (lies_in 1 3 slot) (box_of model) wheel h in
-    placed_in_three model slot wheel refl parts.0 parts.1
+    let within = lies_in_both 1 3 slot parts.0 in
+    record { first = within.0; last = within.1; in_box = parts.1 }
 
 pub lacks_wheel : (wheels : List Wheel) (wheel : Wheel) → ¬ (Contains wheels wheel) → has_wheel wheels wheel ≡ false
 lacks_wheel wheels wheel h = false_from_ne_true _ (λ e. h ((has_wheel-Decides wheels wheel).0 e))

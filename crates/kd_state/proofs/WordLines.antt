@@ -1,48 +1,42 @@
 -- Words are told by their line, and a text's part before a byte by the text.
-use Rattle.std.proofs.Common.{◌≡◌, ◌≢◌, ℕ, ◌^◌, ◌<◌, Bool, true, false, ◌&&◌, eqb, ltb, List, [], ◌∷◌, ◌++◌, length, map, get_or, Bor, Some, None, MatchOption, Result, Ok, Err, MatchResult, Decides, refl, sym, ap, subst, ◌∙◌, append_assoc, length-append, arith}
+use Rattle.std.proofs.Common.{◌≡◌, ◌≢◌, ℕ, ◌^◌, ◌<◌, Bool, true, false, eqb, ltb, List, [], ◌∷◌, ◌++◌, length, map, get_or, Bor, Some, None, MatchOption, Result, Ok, Err, MatchResult, Decides, refl, sym, ap, subst, ◌∙◌, append_assoc, length-append, arith}
 use Rattle.std.specs.Bool.{then_some}
 use Rattle.std.specs.Result.{result_ok}
 use Rattle.std.specs.Str.{IsUtf8}
 use Rattle.std.specs.Str.Parse.{ParsesUnsigned, digits_value}
 use Rattle.std.proofs.lemmas.Str.{IsUtf8-from_ascii}
-use Rattle.std.specs.List.{All, AllByRecursion}
+use Rattle.std.specs.List.{All, AllByRecursion, list_all, slice_split}
+use Rattle.std.proofs.lemmas.List.Sums.{AllPass-from_list_all}
 use Rattle.std.specs.Fmt.{decimal}
 use Rattle.std.specs.Int.{IsInRange}
-use Rattle.std.proofs.lemmas.Bool.{ltb-true, ne_eqb, false≢true}
+use Rattle.std.proofs.lemmas.Bool.{ltb-true, ne_eqb, eq-eqb, false≢true}
 use Rattle.std.proofs.lemmas.Fmt.{decimal_nonempty, digits_decimal, IsAscii-decimal, parse-decimal}
 use Rattle.std.proofs.lemmas.List.Elements.{All-nil, All-cons, All-append, All-from_recursion, All-from_get_or, All-weaker, recursion_from_All}
-use Rattle.std.proofs.lemmas.List.{map_push}
+use Rattle.std.proofs.lemmas.List.{map_push, append_cancel_left}
 use Rattle.std.proofs.lemmas.List.Splits.{length-slice_split, slice_split_none, slice_split_at, join_with_byte-slice_split}
 use Rattle.std.proofs.lemmas.Str.Parse.{IsNumeralModel, numerals_by_value, tells_by_index}
 use Rattle.kd_state.specs.Words.{words_of, line_of, letter_text, IsWithout, IsWord, IsFirstPart, LinesTellWords, LinesSplitIntoWords, PartsMakeLines, WordsMakeOneLine, TextsTellFirstParts, NumbersAreWords, LettersAreWords}
 
 -- ---- the part before a byte
 
-first_parts : (byte : ℕ) (first other rest more : List ℕ) → AllByRecursion (λ b. b ≢ byte) first → AllByRecursion (λ b. b ≢ byte) other
-    → first ++ byte ∷ rest ≡ other ++ byte ∷ more → (first ≡ other) × (rest ≡ more)
-first_parts byte [] [] rest more a b e = (refl, cc)
-first_parts byte [] (y ∷ ys) rest more a b e = absurd (b.0 (cc))
-first_parts byte (x ∷ xs) [] rest more a b e = absurd (a.0 (cc))
-first_parts byte (x ∷ xs) (y ∷ ys) rest more a b e =
-    let tails : xs ++ byte ∷ rest ≡ ys ++ byte ∷ more = cc in
-    let heads : x ≡ y = cc in
-    let same : (xs ≡ ys) × (rest ≡ more) = first_parts byte xs ys rest more a.1 b.1 tails in
-    (cc, same.1)
+none_is : (byte : ℕ) (text : List ℕ) → IsWithout byte text → All (λ b. eqb b byte ≡ false) text
+none_is byte text h = All-weaker (λ b. b ≢ byte) (λ b. eqb b byte ≡ false) (λ b. ne_eqb b byte) text h
+
+split_off : (byte : ℕ) (part rest : List ℕ) → IsWithout byte part → slice_split (λ b. eqb b byte) (part ++ byte ∷ rest) ≡ part ∷ slice_split (λ b. eqb b byte) rest
+split_off byte part rest h = slice_split_at (λ b. eqb b byte) part byte rest (none_is byte part h) (eq-eqb byte byte refl)
 
 pub texts_tell_first_parts : TextsTellFirstParts
 texts_tell_first_parts byte first other rest more a b e =
-    first_parts byte first other rest more (recursion_from_All _ first a) (recursion_from_All _ other b) e
+    let parts = sym (split_off byte first rest a) ∙ ap (slice_split (λ b. eqb b byte)) e ∙ split_off byte other more b in
+    let same : first ≡ other = cc in
+    let tails : byte ∷ rest ≡ byte ∷ more = append_cancel_left other _ _ (subst (λ part. part ++ byte ∷ rest ≡ other ++ byte ∷ more) same e) in
+    (same, cc)
 
 -- ---- words
 
-spaceless : (word : List ℕ) → IsWithout 32 word → All (λ b. eqb b 32 ≡ false) word
-spaceless word a = All-weaker (λ b. b ≢ 32) (λ b. eqb b 32 ≡ false) (λ b. ne_eqb b 32) word a
-
 split_line : (word : List ℕ) (words : List (List ℕ)) → AllByRecursion IsWord (word ∷ words) → words_of (line_of (word ∷ words)) ≡ word ∷ words
-split_line word [] a = slice_split_none (λ b. eqb b 32) word (spaceless word a.0.spaceless)
-split_line word (next ∷ words) a =
-    slice_split_at (λ b. eqb b 32) word 32 (line_of (next ∷ words)) (spaceless word a.0.spaceless) refl
-    ∙ ap (λ parts. word ∷ parts) (split_line next words a.1)
+split_line word [] a = slice_split_none (λ b. eqb b 32) word (none_is 32 word a.0.spaceless)
+split_line word (next ∷ words) a = split_off 32 word (line_of (next ∷ words)) a.0.spaceless ∙ ap (λ parts. word ∷ parts) (split_line next words a.1)
 
 pub lines_split_into_words : LinesSplitIntoWords
 lines_split_into_words [] filled a = absurd (filled refl)
@@ -51,18 +45,14 @@ lines_split_into_words (word ∷ words) filled a = split_line word words (recurs
 pub parts_make_lines : PartsMakeLines
 parts_make_lines line = join_with_byte-slice_split 32 line
 
-not_empty : (word : List ℕ) (words : List (List ℕ)) → word ≢ [] → line_of (word ∷ words) ≢ []
-not_empty [] words filled e = filled refl
-not_empty (b ∷ bs) [] filled e = cc
-not_empty (b ∷ bs) (next ∷ words) filled e = cc
+lines_tell : (words others : List (List ℕ)) → AllByRecursion IsWord words → AllByRecursion IsWord others → line_of words ≡ line_of others → words ≡ others
+lines_tell [] [] a b e = refl
+lines_tell [] (word ∷ words) a b e = absurd (b.0.filled (let same : [] ∷ [] ≡ word ∷ words = ap words_of e ∙ split_line word words b in cc))
+lines_tell (word ∷ words) [] a b e = absurd (a.0.filled (let same : word ∷ words ≡ [] ∷ [] = sym (split_line word words a) ∙ ap words_of e in cc))
+lines_tell (word ∷ words) (other ∷ others) a b e = sym (split_line word words a) ∙ ap words_of e ∙ split_line other others b
 
 pub lines_tell_words : LinesTellWords
-lines_tell_words [] [] a b e = refl
-lines_tell_words [] (word ∷ words) a b e = absurd (not_empty word words (recursion_from_All IsWord (word ∷ words) b).0.filled (sym e))
-lines_tell_words (word ∷ words) [] a b e = absurd (not_empty word words (recursion_from_All IsWord (word ∷ words) a).0.filled e)
-lines_tell_words (word ∷ words) (other ∷ others) a b e =
-    sym (split_line word words (recursion_from_All IsWord (word ∷ words) a)) ∙ ap words_of e
-    ∙ split_line other others (recursion_from_All IsWord (other ∷ others) b)
+lines_tell_words words others a b e = lines_tell words others (recursion_from_All IsWord words a) (recursion_from_All IsWord others b) e
 
 one_line : (words : List (List ℕ)) → AllByRecursion IsWord words → IsWithout 10 (line_of words)
 one_line [] a = All-nil (λ b. b ≢ 10)
@@ -75,13 +65,6 @@ pub words_make_one_line : WordsMakeOneLine
 words_make_one_line words a = one_line words (recursion_from_All IsWord words a)
 
 -- ---- a line that is split from its front
-
-pub words_of_last : (rest : List ℕ) → IsWithout 32 rest → words_of rest ≡ rest ∷ []
-words_of_last rest without = slice_split_none (λ b. eqb b 32) rest (spaceless rest without)
-
-pub words_of_first : (text word rest : List ℕ) → IsFirstPart 32 text word rest → words_of text ≡ word ∷ words_of rest
-words_of_first text word rest first =
-    ap words_of first.joined ∙ slice_split_at (λ b. eqb b 32) word 32 rest (spaceless word first.without) refl
 
 -- what is appended to a list of texts, is to what they hold
 pub appended : (words more : List (Bor (List ℕ))) (word : Bor (List ℕ)) → more ≡ words ++ word ∷ []
@@ -96,11 +79,12 @@ pub one_more_taken : (line text word rest : List ℕ) (taken : List (List ℕ)) 
     → AreTaken line rest (taken ++ word ∷ [])
 one_more_taken line text word rest taken a first = record {
   joined =
-      append_assoc taken (word ∷ []) (words_of rest) ∙ ap (λ words. taken ++ words) (sym (words_of_first text word rest first)) ∙ a.joined;
+      append_assoc taken (word ∷ []) (words_of rest)
+      ∙ ap (λ words. taken ++ words) (sym (ap words_of first.joined ∙ split_off 32 word rest first.without)) ∙ a.joined;
 }
 
 pub last_taken : (line rest : List ℕ) (taken : List (List ℕ)) → AreTaken line rest taken → IsWithout 32 rest → taken ++ rest ∷ [] ≡ words_of line
-last_taken line rest taken a without = ap (λ words. taken ++ words) (sym (words_of_last rest without)) ∙ a.joined
+last_taken line rest taken a without = ap (λ words. taken ++ words) (sym (slice_split_none (λ b. eqb b 32) rest (none_is 32 rest without))) ∙ a.joined
 
 pub more_words : (line rest : List ℕ) (taken : List (List ℕ)) → AreTaken line rest taken → length taken < length (words_of line)
 more_words line rest taken a =
@@ -115,22 +99,10 @@ word_by_bytes word filled a = record {
   unbroken = All-weaker (λ b. 32 < b) (λ b. b ≢ 10) (λ b above break. omega (arith, above, break)) word a;
 }
 
-abbrev pub is_visible : List ℕ → Bool
-is_visible [] = true
-is_visible (b ∷ bs) = ltb 32 b && is_visible bs
-
-visible_byte : (b : ℕ) (t rest : Bool) → ltb 32 b ≡ t → (t && rest) ≡ true → (32 < b) × (rest ≡ true)
-visible_byte b true rest is e = (ltb-true 32 b is, e)
-visible_byte b false rest is e = absurd (false≢true e)
-
-visible_bytes : (word : List ℕ) → is_visible word ≡ true → AllByRecursion (λ b. 32 < b) word
-visible_bytes [] e = tt
-visible_bytes (b ∷ bs) e =
-    let parts : (32 < b) × (is_visible bs ≡ true) = visible_byte b (ltb 32 b) (is_visible bs) refl e in
-    (parts.0, visible_bytes bs parts.1)
-
-pub word_by_test : (b : ℕ) (bs : List ℕ) → is_visible (b ∷ bs) ≡ true → IsWord (b ∷ bs)
-word_by_test b bs e = word_by_bytes (b ∷ bs) (λ same. cc) (All-from_recursion (λ c. 32 < c) (b ∷ bs) (visible_bytes (b ∷ bs) e))
+pub word_by_test : (b : ℕ) (bs : List ℕ) → list_all (λ c. ltb 32 c) (b ∷ bs) ≡ true → IsWord (b ∷ bs)
+word_by_test b bs e =
+    word_by_bytes (b ∷ bs) (λ same. cc)
+    (All-weaker (λ c. ltb 32 c ≡ true) (λ c. 32 < c) (ltb-true 32) (b ∷ bs) (AllPass-from_list_all (λ c. ltb 32 c) (b ∷ bs) e))
 
 figures : IsNumeralModel (λ ds. (i : ℕ) → i < length ds → IsInRange 48 57 (get_or ds i 0)) (digits_value 10)
 figures = numerals_by_value (λ ds. (i : ℕ) → i < length ds → IsInRange 48 57 (get_or ds i 0)) tells_by_index

@@ -1,14 +1,15 @@
-use Rattle.kd_enigma.proofs.Cables.{apart_of, plugboard_of, exchanges, exchanged_by, exchanged_alike, exchange-at, exchange-size, exchange_is}
+use Rattle.kd_enigma.proofs.Cables.{differ_of, plugboard_of, exchanges, exchanged_by, exchanged_alike, exchange-at, exchange-size, exchange_is}
 use Rattle.std.proofs.Common.{◌∙◌}
+use Rattle.kd_enigma.specs.Plugs.{letters_plugged}
 use Rattle.kd_enigma.proofs.laws.pairs_make_a_plugboard.Goals as goal
 
 pub returns-clause-plugboard : goal.returns-clause-plugboard
-returns-clause-plugboard c = λ pairs once letters. plugboard_of pairs (apart_of pairs once) letters
+returns-clause-plugboard c = λ pairs once letters. plugboard_of pairs (differ_of (letters_plugged pairs) once) letters
 
 pub returns-clause-exchanged : goal.returns-clause-exchanged
-returns-clause-exchanged c = λ pairs x y once. (exchanges pairs x y, exchanged_by pairs x y (apart_of pairs once))
+returns-clause-exchanged c = λ pairs x y once. (exchanges pairs x y, exchanged_by pairs x y (differ_of (letters_plugged pairs) once))
 
 pub returns-clause-same : goal.returns-clause-same
 returns-clause-same c = λ ps qs ps_once qs_once joins.
     exchange_is _ qs (exchange-size ps)
-    (λ x lt. exchange-at ps x lt ∙ exchanged_alike ps qs x (apart_of ps ps_once) (apart_of qs qs_once) (λ y. (joins x y).0) (λ y. (joins x y).1))
+    (λ x lt. exchange-at ps x lt ∙ exchanged_alike ps qs x (differ_of (letters_plugged ps) ps_once) (differ_of (letters_plugged qs) qs_once) (λ y. (joins x y).0) (λ y. (joins x y).1))

@@ -1,5 +1,5 @@
 use Rattle.kd_state.proofs.Carrying.{lists_keep_machines}
-use Rattle.kd_state.proofs.Keeping.{settings_keep_machines}
+use Rattle.kd_state.proofs.Changing.{settings_keep_machines}
 use Rattle.kd_state.proofs.laws.settings_keep_machines.Goals as goal
 
 pub returns : goal.returns

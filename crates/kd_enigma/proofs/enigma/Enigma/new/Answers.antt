@@ -1,6 +1,6 @@
-use Rattle.std.proofs.Common.{◌∙◌, ℕ, List, sym, ap, map, subst, arith, rules}
+use Rattle.std.proofs.Common.{◌∙◌, sym, subst, arith, rules}
 use Rattle.kd_step.specs.Stepper.{Stepping}
-use Rattle.kd_enigma.specs.Cipher.{RotorKey, IsPlugboard}
+use Rattle.kd_enigma.specs.Cipher.{IsPlugboard}
 use Rattle.kd_enigma.specs.Seated.{SeatedWheel}
 use Rattle.kd_enigma.specs.Wired.{IsWired, key_in}
 use Rattle.kd_enigma.proofs.Seats.{seen_all}
@@ -21,13 +21,3 @@ invariant_of-result g c =
       c.requires.least,
       c.requires.most,
     )
-
-pub returns : goal.returns
-returns g c =
-    let key = c.key.inside in
-    let made : Stepping → List ℕ → List ℕ → RotorKey = λ s rings plugs. record { wheels = s.wheels; rings = rings; window = s.window; reflector = key.reflector; plugs = plugs } in
-    ap (λ s. made s (map (λ (t : SeatedWheel). t.ring) c.loop-slot.rotors) c.boarded-right.result.plugs) c.new-2.ensures
-    ∙ ap (made (record { wheels = key.wheels; window = key.window }) (map (λ (t : SeatedWheel). t.ring) c.loop-slot.rotors)) c.boarded-right.ensures.board
-    ∙ ap (λ rings. made (record { wheels = key.wheels; window = key.window }) rings key.plugs)
-    (seen_all (λ (s : SeatedWheel). s.ring) c.loop-slot.rotors key.rings c.loop-slot.slot (omega arith) (search rules) c.loop-slot.invariant.rings)
-    ∙ c.key.view_is

@@ -1,7 +1,7 @@
 use Rattle.std.proofs.Common.{◌≡◌, ◌≢◌, ◌∙◌, ◌<◌, ap, subst, length, get_or, slice_index, slice_set, get_or-set_other, get_or-set_same, below_more, [], ◌∷◌, arith}
 use Rattle.std.proofs.lemmas.List.{get_or_default, ext_get_or}
 use Rattle.kd_enigma.specs.Cipher.{RotorKey, enigma_cipher, key_after}
-use Rattle.kd_enigma.proofs.Ciphers.{length-cipher, key_after_next, next_letter_of_cipher}
+use Rattle.kd_enigma.proofs.Ciphers.{length-cipher, key_after_sum, next_letter_of_cipher}
 use Rattle.kd_enigma.proofs.enigma.Enigma.run.Goals as goal
 
 pub loop-letter-preserved : goal.loop-letter-preserved
@@ -14,7 +14,7 @@ loop-letter-preserved g c =
     let letter = get_or before n c.letter-item.result in
     let read : letter ≡ slice_index text n = get_or_default before n c.letter-item.result 0 within ∙ c.loop-letter.invariant.still n (omega arith) in
     record {
-      key = c.press.ensures.after ∙ ap (λ k. key_after k 1) c.loop-letter.invariant.key ∙ key_after_next key n;
+      key = c.press.ensures.after ∙ ap (λ k. key_after k 1) c.loop-letter.invariant.key ∙ key_after_sum key n 1;
       done = below_more (λ k. slice_index (slice_set before n c.press.result) k ≡ slice_index (enigma_cipher key text) k) n
           (λ k lt. let other : k ≢ n = omega arith in rw get_or-set_other (c.loop-letter.invariant.done k lt))
           (rw get_or-set_same (next_letter_of_cipher key text n letter c.press.result (omega arith) read

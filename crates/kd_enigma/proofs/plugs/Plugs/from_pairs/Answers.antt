@@ -2,9 +2,9 @@ use Rattle.std.proofs.Common.{◌≡◌, ℕ, ◌+◌, List, [], ◌∷◌, ◌+
 use Rattle.std.proofs.lemmas.List.{take_more, take_all, drop_more, take-append-drop}
 use Rattle.std.proofs.lemmas.Bool.{false≢true}
 use Rattle.std.proofs.lemmas.Result.{err_from_is_err_and}
-use Rattle.kd_enigma.specs.Plugs.{NoLetterTwice}
+use Rattle.kd_enigma.specs.Plugs.{letters_plugged, NoLetterTwice}
 use Rattle.kd_enigma.specs.Cipher.{IsPlugboard}
-use Rattle.kd_enigma.proofs.Cables.{IsPlugged, is_plugged_none, is_plugged_more, can_plug, plugboard_of, of_apart}
+use Rattle.kd_enigma.proofs.Cables.{IsPlugged, is_plugged_none, is_plugged_more, can_plug, plugboard_of, of_differ}
 use Rattle.kd_enigma.proofs.plugs.Plugs.from_pairs.Goals as goal
 
 pub loop-one-init : goal.loop-one-init
@@ -51,10 +51,7 @@ pub invariant_of-result : goal.invariant_of-result
 invariant_of-result c = board c
 
 pub returns-clause-ok : goal.returns-clause-ok
-returns-clause-ok c = (λ _. of_apart c.args.pairs.now (whole c).apart, λ _. refl)
-
-pub returns-clause-value : goal.returns-clause-value
-returns-clause-value c = (whole c).table
+returns-clause-ok c = (λ _. of_differ (letters_plugged c.args.pairs.now) (whole c).apart, λ _. refl)
 
 pub returns-clause-plugboard : goal.returns-clause-plugboard
 returns-clause-plugboard c = board c

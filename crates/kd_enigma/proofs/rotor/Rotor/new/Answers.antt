@@ -1,13 +1,14 @@
 use Rattle.std.proofs.Common.{◌≡◌, ◌∙◌, ◌-◌, [], length-set, IfSome, sym, ap, subst, arith}
 use Rattle.std.proofs.lemmas.List.FromFn.{fill_by_all}
-use Rattle.kd_tables.specs.Permutation.{inverse, shift}
+use Rattle.kd_tables.specs.Permutation.{inverse}
 use Rattle.kd_tables.specs.Tables.{wiring_of}
-use Rattle.kd_enigma.specs.Rotor.{rotor, offset}
+use Rattle.kd_enigma.specs.Rotor.{rotor, offset, turned}
 use Rattle.kd_enigma.proofs.Maps.{made_more}
-use Rattle.kd_enigma.proofs.Turning.{turned_in_steps, turned_undone}
+use Rattle.kd_enigma.proofs.Turning.{turned_undone}
 use Rattle.kd_enigma.proofs.rotor.Rotor.new.Goals as goal
 
 pub loop-window-preserved : goal.loop-window-preserved
+unfolding turned
 loop-window-preserved c =
     let wheel = c.args.wheel in
     let ring = c.args.ring in
@@ -18,13 +19,9 @@ loop-window-preserved c =
     let by = offset ring window in
     let shown : c.unwrap.result ≡ window = subst (λ letter. IfSome letter (λ l. l ≡ window)) c.unwrap.ensures c.new.ensures.value in
     let turns : c.index-by.result ≡ by = c.index-by.ensures.value ∙ c.back.ensures.value ∙ ap (offset ring) shown in
-    let on : c.shift-on.result ≡ shift by = c.shift-on.ensures ∙ ap shift turns in
-    let off : c.shift-off.result ≡ shift (26 - by) = c.shift-off.ensures ∙ ap (λ n. shift (26 - n)) turns in
-    let inward : c.then-in-loop-window.result ≡ rotor wheel ring window =
-    turned_in_steps by (wiring_of wheel) c.shift-on.result c.of-there.result c.shift-off.result c.then.result c.then-in-loop-window.result on (c.of-there.ensures ∙ c.wiring.ensures) off c.then.ensures c.then-in-loop-window.ensures in
+    let inward : c.then-in-loop-window.result ≡ rotor wheel ring window = cc in
     let outward : c.then-in-loop-window-3.result ≡ inverse (rotor wheel ring window) =
-    turned_in_steps by back c.shift-on.result c.of-back.result c.shift-off.result c.then-in-loop-window-2.result c.then-in-loop-window-3.result on (c.of-back.ensures ∙ c.unwiring.ensures) off c.then-in-loop-window-2.ensures c.then-in-loop-window-3.ensures
-    ∙ sym (turned_undone sound.laws by (wiring_of wheel) (omega arith) (sound.wiring wheel)) in
+    (let again : c.then-in-loop-window-3.result ≡ turned by back = cc in again) ∙ sym (turned_undone sound.laws by (wiring_of wheel) (omega arith) (sound.wiring wheel)) in
     record {
       in_size = length-set c.loop-window.inward c.from.result c.then-in-loop-window.result ∙ so_far.in_size;
       out_size = length-set c.loop-window.outward c.from-in-loop-window.result c.then-in-loop-window-3.result ∙ so_far.out_size;

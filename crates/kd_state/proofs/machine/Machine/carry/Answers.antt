@@ -1,4 +1,4 @@
-use Rattle.kd_state.proofs.Keeping.{settings_keep_machines}
+use Rattle.kd_state.proofs.Changing.{settings_keep_machines}
 use Rattle.kd_state.proofs.machine.Machine.carry.Goals as goal
 
 pub invariant_of-self : goal.invariant_of-self

@@ -1,6 +1,6 @@
 use Rattle.std.proofs.Common.{sym, subst}
 use Rattle.kd_state.specs.Machine.{IsMachine}
-use Rattle.kd_state.proofs.Keeping.{ordered_parts}
+use Rattle.kd_state.proofs.Changing.{ordered_parts}
 use Rattle.kd_state.proofs.machine.Machine.rotor.Goals as goal
 
 pub invariant_of-result : goal.invariant_of-result

@@ -1,11 +1,13 @@
 use Rattle.std.proofs.Common.{◌∙◌, refl, sym, ap, subst, List, ℕ, map, Option, None, Contains}
+use Rattle.std.specs.Option.{is_some}
+use Rattle.std.proofs.lemmas.Bool.{false≢true}
 use Rattle.kd_tables.specs.declared.wheel.Wheel.{Wheel}
 use Rattle.kd_state.specs.declared.machine.parts.Parts.{Parts}
 use Rattle.kd_state.specs.declared.sheet_day.rotor_entry.SheetWheel.{SheetWheel}
 use Rattle.kd_state.specs.Machine.{IsMachine}
 use Rattle.kd_state.specs.Seated.{seated_wheel, key_of_wheels}
 use Rattle.kd_state.specs.TwoCiphers.{OfWheels}
-use Rattle.kd_state.proofs.Seating.{are_seats, all_seated, key_of_seats, not_ready, nothing}
+use Rattle.kd_state.proofs.Seating.{are_seats, all_seated, key_of_seats, not_ready}
 use Rattle.kd_state.proofs.machine.Machine.rotor_engine.Goals as goal
 
 pub returns-in_err-wheels-clause-ready : goal.returns-in_err-wheels-clause-ready
@@ -14,7 +16,7 @@ returns-in_err-wheels-clause-ready c =
     let legal = (subst IsMachine c.requires.parts c.requires.machine).legal in
     let here = subst (λ (slots : List (Option Wheel)). Contains (map (seated_wheel c.args.self.now) slots) None) c.as_slice.ensures.value c.in_err-wheels.ensures in
     let lacks = subst (λ (parts : Parts). Contains (map (seated_wheel parts) m.slots) None) c.requires.parts here in
-    (λ some. absurd (nothing c.from_residual.result c.from_residual.ensures some), λ ready. absurd (not_ready m legal lacks ready))
+    (λ some. absurd (false≢true (sym (ap is_some c.from_residual.ensures) ∙ some)), λ ready. absurd (not_ready m legal lacks ready))
 
 pub returns-clause-ready : goal.returns-clause-ready
 returns-clause-ready c =

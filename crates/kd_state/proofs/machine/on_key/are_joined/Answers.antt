@@ -1,16 +1,14 @@
-use Rattle.std.proofs.Common.{refl, sym, ◌∙◌, subst, arith}
+use Rattle.std.proofs.Common.{refl, sym, subst, arith}
 use Rattle.std.specs.Prelude.{length}
 use Rattle.std.proofs.lemmas.Bool.{false≢true, iff_false}
-use Rattle.std.proofs.lemmas.List.{get_or_default}
-use Rattle.std.proofs.lemmas.List.Elements.{All-from_all_within, AllWithin-upto, AllWithin-more}
+use Rattle.std.proofs.lemmas.List.Elements.{All-from_all_within, AllWithin-upto, AllWithin-more, at_read}
 use Rattle.kd_state.specs.OnKey.{IsJoined}
 use Rattle.kd_state.proofs.machine.on_key.are_joined.Goals as goal
 
 pub loop-pair-preserved : goal.loop-pair-preserved
 loop-pair-preserved c =
     AllWithin-more (IsJoined c.args.cables.now) c.args.pairs.now 0 c.loop-pair.pair-index c.loop-pair.invariant
-    (λ d. subst (IsJoined c.args.cables.now) (c.pair-item.is ∙ get_or_default c.args.pairs.now c.loop-pair.pair-index c.pair-item.result d (omega arith))
-    (c.is_joined.ensures.0 c.if-not-is_joined.false))
+    (at_read c.args.pairs.now (IsJoined c.args.cables.now) c.loop-pair.pair-index c.pair-item.result (omega arith) c.pair-item.is (c.is_joined.ensures.0 c.if-not-is_joined.false))
 
 pub returns-then-not-is_joined : goal.returns-then-not-is_joined
 returns-then-not-is_joined c = (

@@ -1,21 +1,21 @@
-use Rattle.std.proofs.Common.{sym, true≢false}
-use Rattle.kd_state.proofs.Joined.{joins_two, joins_left, joins_right, joins_none}
+use Rattle.std.proofs.Common.{sym, true≢false, Some, None}
+use Rattle.kd_state.proofs.Joined.{joins_letters, doubled, joins_none}
 use Rattle.kd_state.proofs.machine.on_key.joins.Goals as goal
 
 pub returns-in-Some-Some : goal.returns-in-Some-Some
 returns-in-Some-Some c =
-    let same = joins_two c.args.cable c.args.pair c.in-Some-Some.first c.in-Some-Some.second c.in-Some-Some.is-0 c.in-Some-Some.is-1 in
-    (λ yes. same.0 (c.are_the_letters.ensures.0 yes), λ joined. c.are_the_letters.ensures.1 (same.1 joined))
+    let arm = c.in-Some-Some in
+    joins_letters c.args.cable (Some arm.first, Some arm.second) c.args.pair arm.first arm.second _ arm.is-0 arm.is-1 (λ _. (λ h. h, λ h. h)) c.are_the_letters.ensures
 
 pub returns-in-Some-None : goal.returns-in-Some-None
 returns-in-Some-None c =
-    let same = joins_left c.args.cable c.args.pair c.in-Some-None.only c.in-Some-None.is-0 c.in-Some-None.is-1 in
-    (λ yes. same.0 (c.are_the_letters-in-Some-None.ensures.0 yes), λ joined. c.are_the_letters-in-Some-None.ensures.1 (same.1 joined))
+    let arm = c.in-Some-None in
+    joins_letters c.args.cable (Some arm.only, None) c.args.pair arm.only arm.only _ arm.is-0 arm.is-1 (doubled arm.only) c.are_the_letters-in-Some-None.ensures
 
 pub returns-in-None-Some : goal.returns-in-None-Some
 returns-in-None-Some c =
-    let same = joins_right c.args.cable c.args.pair c.in-None-Some.only c.in-None-Some.is-0 c.in-None-Some.is-1 in
-    (λ yes. same.0 (c.are_the_letters-in-None-Some.ensures.0 yes), λ joined. c.are_the_letters-in-None-Some.ensures.1 (same.1 joined))
+    let arm = c.in-None-Some in
+    joins_letters c.args.cable (None, Some arm.only) c.args.pair arm.only arm.only _ arm.is-0 arm.is-1 (doubled arm.only) c.are_the_letters-in-None-Some.ensures
 
 pub returns-in-None-None : goal.returns-in-None-None
 returns-in-None-None c = (λ yes. absurd (true≢false (sym yes)), λ joined. absurd (joins_none c.args.cable c.args.pair c.in-None-None.is-0 c.in-None-None.is-1 joined))

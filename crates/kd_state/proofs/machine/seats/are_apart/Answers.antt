@@ -1,6 +1,7 @@
-use Rattle.std.proofs.Common.{arith, sym, rules}
+use Rattle.std.proofs.Common.{arith, sym, rules, Some, None}
+use Rattle.std.proofs.lemmas.Option.{slice_get_within, slice_get-get_or}
 use Rattle.std.proofs.lemmas.Bool.{iff_false}
-use Rattle.kd_state.proofs.Slots.{apart_more, new_at, stands_within}
+use Rattle.kd_state.proofs.Slots.{apart_more, some_new}
 use Rattle.kd_state.proofs.machine.seats.are_apart.Goals as goal
 
 pub loop-place-preserved : goal.loop-place-preserved
@@ -10,8 +11,8 @@ loop-place-preserved c =
 pub returns : goal.returns
 returns c = (
   λ _ place other wheel at there.
-      let within = stands_within c.args.slots.now place wheel at in
-      let also = stands_within c.args.slots.now other wheel there in
+      let within = slice_get_within c.args.slots.now place (Some wheel) at in
+      let also = slice_get_within c.args.slots.now other (Some wheel) there in
       c.loop-place.invariant place other wheel (omega arith) (omega arith) at there,
   λ _. search rules,
 )
@@ -21,5 +22,5 @@ returns-then-not-is_nowhere_else c = (
   λ e. absurd (cc e),
   λ apart.
       absurd (iff_false c.is_nowhere_else.ensures c.if-not-is_nowhere_else.true
-      (rw c.split_at.ensures.front (new_at c.args.slots.now c.loop-place.place (omega arith) apart))),
+      (rw c.split_at.ensures.front (some_new c.args.slots.now c.loop-place.place _ (slice_get-get_or c.args.slots.now c.loop-place.place None (omega arith)) apart))),
 )

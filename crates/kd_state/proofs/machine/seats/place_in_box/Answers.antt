@@ -1,11 +1,8 @@
-use Rattle.std.proofs.Common.{below_more, false, ◌∙◌, ◌≡◌, true, length, get_or, arith, sym, ap}
+use Rattle.std.proofs.Common.{◌∙◌, ◌≡◌, true, length, get_or, arith, sym, ap}
 use Rattle.kd_tables.specs.declared.wheel.Wheel.TheVariants.{I}
 use Rattle.kd_state.specs.Box.{same_wheel}
 use Rattle.kd_state.proofs.Wheels.{same_tested, found_in_box}
 use Rattle.kd_state.proofs.machine.seats.place_in_box.Goals as goal
-
-pub loop-place-preserved : goal.loop-place-preserved
-loop-place-preserved c = below_more _ _ c.loop-place.invariant (same_tested c.args.wheel _ false (sym c.eq.ensures ∙ c.if-eq.false))
 
 pub returns-then-eq : goal.returns-then-eq
 returns-then-eq c =

@@ -1,7 +1,12 @@
-use Rattle.std.proofs.Common.{◌∙◌, ap, sym, Some}
+use Rattle.std.proofs.Common.{◌∙◌, ap, refl, sym, Option, Some, None}
+use Rattle.std.specs.Option.{SomeIff, IsSome}
 use Rattle.kd_state.specs.Box.{numbered}
-use Rattle.kd_state.proofs.Slots.{seated_in_box, is_there}
+use Rattle.kd_state.proofs.Slots.{seated_in_box}
 use Rattle.kd_state.proofs.machine.rotor_parts.RotorParts.turn.Goals as goal
+
+is_there : {X : Type 0} (found : Option X) (P : Type 0) (x : X) → SomeIff found P x → P → IsSome found
+is_there None P x h p = absurd (h p)
+is_there (Some y) P x h p = refl
 
 pub unwrap-place-requires : goal.unwrap-place-requires
 unwrap-place-requires c =
