@@ -107,14 +107,14 @@ AreBoth text rest = All IsPriceText (words_of text) ↔ All IsPriceText (words_o
 
 pub not_all : (text rest word after : List ℕ) → AreBoth text rest → IsFirstPart 32 rest word after → ¬ (IsPriceText word) → ¬ (All IsPriceText (words_of text))
 not_all text rest word after both first none all =
-    none (recursion_from_All IsPriceText (word ∷ words_of after) (subst (All IsPriceText) (words_of_first rest word after first) (both.0 all))).0
+    none (recursion_from_All IsPriceText (word ∷ words_of after) (subst (All IsPriceText) (words_of_first first) (both.0 all))).0
 
 pub one_more_both : (text rest word after : List ℕ) → AreBoth text rest → IsFirstPart 32 rest word after → IsPriceText word → AreBoth text after
 one_more_both text rest word after both first price = (
   λ all.
       All-from_recursion IsPriceText (words_of after)
-      (recursion_from_All IsPriceText (word ∷ words_of after) (subst (All IsPriceText) (words_of_first rest word after first) (both.0 all))).1,
-  λ all. both.1 (subst (All IsPriceText) (sym (words_of_first rest word after first)) (All-cons IsPriceText word (words_of after) price all)),
+      (recursion_from_All IsPriceText (word ∷ words_of after) (subst (All IsPriceText) (words_of_first first) (both.0 all))).1,
+  λ all. both.1 (subst (All IsPriceText) (sym (words_of_first first)) (All-cons IsPriceText word (words_of after) price all)),
 )
 
 last_price : (rest : List ℕ) (r : Option ℤ) → IsPriceOf rest r → IsTrue (is_some r) ↔ All IsPriceText (rest ∷ [])
@@ -164,7 +164,7 @@ other_count number line text words items prices same are read reach other =
 -- ---- a line
 
 has_words : (text line first after rest : List ℕ) → IsFirstPart 10 text line rest → IsFirstPart 32 line first after → HasWords text (first ∷ words_of after) rest
-has_words text line first after rest ends splits = record { line = line; first = ends; parts = words_of_first line first after splits }
+has_words text line first after rest ends splits = record { line = line; first = ends; parts = words_of_first splits }
 
 abbrev pub IsDue : List ℕ → ℕ → List ℕ → ℕ → Type 0
 IsDue word count first number = (first ≡ word) × (number ≡ count)
@@ -195,7 +195,7 @@ other_prices word count line text words first after rest fault ends splits same 
 pub read_line : (word text words first after rest : List ℕ) (prices : List ℤ) → IsFirstPart 10 text words rest → IsFirstPart 32 words first after
     → first ≡ word → words_of after ≡ map signed_decimal prices → AreWithinReach prices → BeginsWithPrices text word prices rest
 read_line word text words first after rest prices ends splits same are reach =
-    let parts : words_of words ≡ price_words word prices = words_of_first words first after splits ∙ ap (λ w. w ∷ words_of after) same ∙ ap (λ ws. word ∷ ws) are in
+    let parts : words_of words ≡ price_words word prices = words_of_first splits ∙ ap (λ w. w ∷ words_of after) same ∙ ap (λ ws. word ∷ ws) are in
     let line : words ≡ line_of (price_words word prices) = sym (join_with_byte-slice_split 32 words) ∙ ap line_of parts in
     record { text = ends.joined ∙ ap (λ l. l ++ 10 ∷ rest) line; reach = reach }
 

@@ -4,11 +4,12 @@ use Rattle.kd_card.proofs.laws.no_two_cards_have_one_text.Goals as goal
 pub returns : goal.returns
 returns c =
     let known : Known = record {
-      first_parts = c.texts_tell_first_parts.ensures;
-      words = c.lines_tell_words.ensures.told;
-      split = c.lines_tell_words.ensures.split;
-      one_line = c.lines_tell_words.ensures.one_line;
-      numbers = c.numbers_and_letters_are_words.ensures.numbers;
+      laws = record {
+        first_parts = c.texts_tell_first_parts.ensures;
+        split = c.lines_tell_words.ensures.split;
+        one_line = c.lines_tell_words.ensures.one_line;
+        numbers = c.numbers_and_letters_are_words.ensures.numbers;
+      };
       settings = c.settings_have_words.ensures;
       lines = c.no_two_settings_have_one_line.ensures;
     } in

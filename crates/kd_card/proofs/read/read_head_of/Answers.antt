@@ -19,8 +19,8 @@ returns-in_err-day-2 c =
     let most = head.of_month.last in
     let word = c.numbers_and_letters_are_words.ensures.numbers day (omega (arith, most)) in
     let same =
-    same_behind c.texts_tell_first_parts.ensures c.args.text.now c.head_front.result.now c.in_ok-day.day.now c.in_ok-day.rest.now c.head_front.ensures.unbroken
-    c.in_ok-day.ensures (decimal day) rest word.unbroken (head.text ∙ in_pieces c.args.version c.head_front.result.now day rest (c.head_front.ensures.front (decimal day))) in
+    same_behind c.texts_tell_first_parts.ensures c.head_front.result.now c.in_ok-day.day.now (decimal day) rest c.head_front.ensures.unbroken
+    c.in_ok-day.ensures word.unbroken (head.text ∙ in_pieces c.args.version c.head_front.result.now day rest (c.head_front.ensures.front (decimal day))) in
     c.in_err-day-2.ensures day (omega (arith, most)) (sym same))
 
 pub returns-then-day-lt1 : goal.returns-then-day-lt1
@@ -29,8 +29,8 @@ returns-then-day-lt1 c = λ day rest head.
     let least = head.of_month.first in
     let word = c.numbers_and_letters_are_words.ensures.numbers day (omega (arith, most)) in
     let same =
-    same_behind c.texts_tell_first_parts.ensures c.args.text.now c.head_front.result.now c.in_ok-day.day.now c.in_ok-day.rest.now c.head_front.ensures.unbroken
-    c.in_ok-day.ensures (decimal day) rest word.unbroken (head.text ∙ in_pieces c.args.version c.head_front.result.now day rest (c.head_front.ensures.front (decimal day))) in
+    same_behind c.texts_tell_first_parts.ensures c.head_front.result.now c.in_ok-day.day.now (decimal day) rest c.head_front.ensures.unbroken
+    c.in_ok-day.ensures word.unbroken (head.text ∙ in_pieces c.args.version c.head_front.result.now day rest (c.head_front.ensures.front (decimal day))) in
     let is : day ≡ c.in_ok-day-2.day = decimal_injective day c.in_ok-day-2.day (omega (arith, most)) (search rules) (sym same ∙ sym c.in_ok-day-2.ensures) in
     elim c.then-day-lt1.branch [
       | then-day-lt1-via-then-day-lt1 w ↦ omega (arith, is, least, w.if-day-lt1.true)

@@ -1,9 +1,9 @@
-use Rattle.std.proofs.Common.{rules, ◌≡◌, ◌∙◌, inl, inr, All, ap, sym, subst}
+use Rattle.std.proofs.Common.{rules, ◌≡◌, ◌∙◌, inl, inr, All, ap, sym, subst, append_assoc}
 use Rattle.kd_card.specs.declared.prices.Version.TheVariants.{ByKind}
-use Rattle.kd_card.specs.Kinds.{IsPricedKind}
+use Rattle.kd_card.specs.Kinds.{IsPricedKind, kinds_text}
 use Rattle.kd_card.specs.Prices.{version_of, row_kinds, column_kinds, ArePrices}
 use Rattle.kd_card.proofs.KindLists.{all_kinds}
-use Rattle.kd_card.proofs.KindPrices.{pushed}
+use Rattle.kd_card.proofs.KindPrices.{text_by_kind}
 use Rattle.kd_card.proofs.write.push_prices.Goals as goal
 
 pub push_kinds-requires : goal.push_kinds-requires
@@ -24,6 +24,9 @@ pub returns-in-CableKinds-clause-bytes : goal.returns-in-CableKinds-clause-bytes
 returns-in-CableKinds-clause-bytes g c =
     let by : version_of c.args.prices.now ≡ ByKind =
     ap version_of (sym c.parts.ensures.value) ∙ elim c.in-CableKinds.is [ inl w ↦ ap version_of w.2 | inr w ↦ ap version_of w.2 ] in
-    pushed c.args.prices.now c.args.text.now.bytes c.push_kinds.new.text.bytes c.push_kinds-in-CableKinds.new.text.bytes c.as_slice.result.now
-    c.as_slice-in-CableKinds.result.now by c.push_kinds.ensures.bytes c.push_kinds-in-CableKinds.ensures.bytes (c.as_slice.ensures.value ∙ c.row_kinds.ensures)
-    (c.as_slice-in-CableKinds.ensures.value ∙ c.column_kinds.ensures)
+    let rows : c.as_slice.result.now ≡ row_kinds c.args.prices.now = c.as_slice.ensures.value ∙ c.row_kinds.ensures in
+    let columns : c.as_slice-in-CableKinds.result.now ≡ column_kinds c.args.prices.now = c.as_slice-in-CableKinds.ensures.value ∙ c.column_kinds.ensures in
+    cc (
+      text_by_kind c.args.prices.now by,
+      append_assoc c.args.text.now.bytes (kinds_text (row_kinds c.args.prices.now)) (kinds_text (column_kinds c.args.prices.now)),
+    )

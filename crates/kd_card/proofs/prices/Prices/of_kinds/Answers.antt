@@ -1,19 +1,19 @@
 use Rattle.std.proofs.Common.{◌∙◌, ap, sym, subst}
 use Rattle.std.proofs.lemmas.Bool.{false≢true}
 use Rattle.kd_card.specs.Kinds.{counted, AreKinds}
-use Rattle.kd_card.proofs.KindPrices.{are_prices, row_count, column_count}
+use Rattle.kd_card.proofs.KindPrices.{are_prices, counts}
 use Rattle.kd_card.proofs.prices.Prices.of_kinds.Goals as goal
 
 pub returns-then-not-are_kinds : goal.returns-then-not-are_kinds
 returns-then-not-are_kinds c = λ are.
     let e = c.as_slice.ensures.value ∙ c.row_kinds.ensures in
-    let yes = c.are_kinds.ensures.1 (subst (AreKinds 0) (sym e) are.row_kinds, ap counted e ∙ row_count c.args.parts c.requires.kinds are ∙ sym c.requires.number) in
+    let yes = c.are_kinds.ensures.1 (subst (AreKinds 0) (sym e) are.row_kinds, ap counted e ∙ (counts c.args.parts c.requires.kinds are).0 ∙ sym c.requires.number) in
     false≢true (sym c.if-not-are_kinds.true ∙ yes)
 
 pub returns-then-not-are_kinds-2 : goal.returns-then-not-are_kinds-2
 returns-then-not-are_kinds-2 c = λ are.
     let e = c.as_slice-2.ensures.value ∙ c.column_kinds.ensures in
-    let yes = c.are_kinds-2.ensures.1 (subst (AreKinds 0) (sym e) are.column_kinds, ap counted e ∙ column_count c.args.parts c.requires.kinds are ∙ sym c.requires.number) in
+    let yes = c.are_kinds-2.ensures.1 (subst (AreKinds 0) (sym e) are.column_kinds, ap counted e ∙ (counts c.args.parts c.requires.kinds are).1 ∙ sym c.requires.number) in
     false≢true (sym c.if-not-are_kinds-2.true ∙ yes)
 
 pub of_parts-requires : goal.of_parts-requires
