@@ -214,13 +214,7 @@ cables_paired told cables pairs prices has once few count h =
 -- a bar that stands costs nothing at its own row
 in_places : (place : Place) → Contains places place
 in_places One = (0, omega arith, refl)
-in_places ZeroLeft = (1, omega arith, refl)
-in_places Two = (2, omega arith, refl)
-in_places Three = (3, omega arith, refl)
-in_places Four = (4, omega arith, refl)
-in_places Five = (5, omega arith, refl)
-in_places ZeroRight = (6, omega arith, refl)
-in_places Six = (7, omega arith, refl)
+in_places place = (place_rank place, omega arith, refl)
 
 free_bar : Place → Place → Bool
 free_bar left right = not (nat_lt (place_rank left) (place_rank right)) || (bar_cost (left, right) (reading_of left right) == 0)
