@@ -5,7 +5,8 @@ use Rattle.std.proofs.lemmas.Bool.{eqb-true, eq-eqb, false≢true, ne_eqb}
 use Rattle.std.proofs.lemmas.Bool.Decides.{eqb_tells}
 use Rattle.std.proofs.lemmas.List.Elements.{recursion_from_All}
 use Rattle.std.proofs.lemmas.List.Sums.{sum_by-append, sum_by-cons}
-use Rattle.std.proofs.lemmas.Map.Made.{AllPairs-from_IsDistinct}
+use Rattle.std.proofs.lemmas.Cmp.{nat_eq_equiv}
+use Rattle.std.proofs.lemmas.Map.Made.{AllPairs-from_IsDistinct, IsDistinct-from_count}
 use Rattle.kd_tables.specs.Permutation.{alphabet}
 use Rattle.kd_state.specs.Setting.{has_letter, is_plugged, cable_without, cable_with}
 use Rattle.std.proofs.lemmas.List.Folds.{list_any-append}
@@ -51,24 +52,8 @@ once_of_apart (other ∷ letters) apart letter =
 pub once_of_distinct : (letters : List ℕ) → IsDistinct nat_eq letters → AreOnce letters
 once_of_distinct letters distinct = once_of_apart letters (AllPairs-from_IsDistinct (λ a b. (eqb-true a b, eq-eqb a b)) letters distinct)
 
--- each letter stands once in the alphabet
-once_from : (letter a n : ℕ) → (times letter (range_with_len a n) ≤ 1) × (letter < a → times letter (range_with_len a n) ≡ 0)
-once_from letter a zero = (omega arith, λ _. refl)
-once_from letter a (suc n) =
-    let rest = once_from letter (a + 1) n in
-    let more = count_by-cons (nat_eq letter) a (range_with_len (a + 1) n) in
-    elim (eqb_tells letter a) [
-      | inl here ↦
-          let head : cond {A = ℕ} (nat_eq letter a) 1 0 ≡ 1 = rw (here.0) refl in
-          let none = rest.1 (omega arith) in
-          (omega arith, λ less. absurd (omega arith))
-      | inr away ↦
-          let head : cond {A = ℕ} (nat_eq letter a) 1 0 ≡ 0 = rw (away.0) refl in
-          (omega (arith, rest.0), λ less. let none = rest.1 (omega arith) in omega arith)
-    ]
-
 pub once_in_alphabet : AreOnce alphabet
-once_in_alphabet letter = (once_from letter 0 26).0
+once_in_alphabet = once_of_distinct alphabet (IsDistinct-from_count nat_eq_equiv alphabet refl)
 
 -- a letter that isn't among these, and one more
 or_false : (a b : Bool) → (a || b) ≡ false → (a ≡ false) × (b ≡ false)

@@ -6,6 +6,7 @@ use Rattle.std.proofs.lemmas.Int.{ints}
 use borrow.Author.Differences.{up, down}
 use Rattle.std.proofs.lemmas.List.Sums.{sum_by-cons}
 use Rattle.std.proofs.lemmas.List.Sorted.{sum_by-IsPermutation, All-permutation, IsPermutation-keeps, IsPermutation-refl, IsPermutation-trans, IsPermutation-swap}
+use Rattle.std.proofs.lemmas.Slice.Zip.{AllZip-long}
 use Rattle.std.proofs.lemmas.List.Elements.{All-from_recursion, recursion_from_All}
 
 -- sums of prices
@@ -66,11 +67,6 @@ module _ {A C : Type 0} (R : A → C → Type 0) where
   side_by_side_at (a ∷ xs) (c ∷ ys) (suc i) d e h lt = side_by_side_at xs ys i d e h.1 (omega arith)
   side_by_side_at (a ∷ xs) [] i d e h lt = absurd h
 
-  pub side_by_side_length : (xs : List A) (ys : List C) → AllZip R xs ys → length xs ≡ length ys
-  side_by_side_length [] [] h = refl
-  side_by_side_length (a ∷ xs) (c ∷ ys) h = let e = side_by_side_length xs ys h.1 in omega arith
-  side_by_side_length xs ys h = absurd h
-
   -- in the order of the first kind
   abbrev pub Reordered : List C → List A → Type 0
   Reordered ys xs = (zs : List C) × IsPermutation ys zs × AllZip R xs zs
@@ -88,7 +84,7 @@ module _ {A C : Type 0} (R : A → C → Type 0) where
   reordered xs others ys order h =
       IsPermutation-keeps xs (Reordered ys) (ys, IsPermutation-refl ys, h)
       (λ l i j hi hj kept.
-      let same = side_by_side_length l kept.0 kept.2 in (
+      let same = AllZip-long R l kept.0 kept.2 in (
         lists.swap kept.0 i j,
         IsPermutation-trans ys kept.0 (lists.swap kept.0 i j) kept.1 (IsPermutation-swap kept.0 (lists.swap kept.0 i j) i j (omega arith) (omega arith) refl),
         side_by_side-swap l kept.0 i j hi hj kept.2,

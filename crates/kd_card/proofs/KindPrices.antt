@@ -1,7 +1,7 @@
 -- The prices of kinds, one for each thing.
-use Rattle.std.proofs.Common.{◌≡◌, ℕ, ◌+◌, ◌≤◌, List, [], ◌∷◌, length, replicate, refl, sym, ap, subst, ◌∙◌, length-append, arith, ℤ, unsigned_abs, ◌++◌, map, Option, None, fold, pos, ◌+ℤ◌, append_assoc}
-use Rattle.std.proofs.lemmas.List.{get_or-replicate, length-replicate}
-use Rattle.std.proofs.lemmas.List.Elements.{All-append, All-nil}
+use Rattle.std.proofs.Common.{◌≡◌, ℕ, ◌+◌, ◌<◌, ◌≤◌, List, [], ◌∷◌, length, replicate, refl, sym, ap, subst, ◌∙◌, length-append, arith, ℤ, unsigned_abs, ◌++◌, map, Option, None, fold, pos, ◌+ℤ◌, append_assoc}
+use Rattle.std.proofs.lemmas.List.{length-replicate, length-map}
+use Rattle.std.proofs.lemmas.List.Elements.{All-append, All-nil, All-replicate}
 use Rattle.kd_card.specs.declared.kinds.PricedKind.{PricedKind}
 use Rattle.kd_card.specs.declared.prices.PriceParts.{PriceParts}
 use Rattle.kd_card.specs.declared.prices.PriceParts.TheVariants.{CableKinds, BarKinds}
@@ -32,16 +32,11 @@ length_of_kinds (kind ∷ kinds) =
     let here = length-replicate kind.count kind.price in
     omega (arith, length-append (replicate kind.count kind.price) (prices_of_kinds kinds))
 
-copies_within : (count : ℕ) (price : ℤ) → unsigned_abs price ≤ 9999 → AreWithinReach (replicate count price)
-copies_within count price within k d lt =
-    let same = get_or-replicate count k price d (omega (arith, length-replicate count price)) in
-    omega (arith, ap unsigned_abs same, within)
-
 pub reach_of_kinds : (floor : ℕ) (kinds : List PricedKind) → AreKinds floor kinds → AreWithinReach (prices_of_kinds kinds)
 reach_of_kinds floor [] are = All-nil (λ price. unsigned_abs price ≤ 9999)
 reach_of_kinds floor (kind ∷ kinds) are =
     All-append (λ price. unsigned_abs price ≤ 9999) (replicate kind.count kind.price) (prices_of_kinds kinds)
-    (copies_within kind.count kind.price are.0.reach) (reach_of_kinds (look_rank kind.look + 1) kinds are.2)
+    (All-replicate (λ price. unsigned_abs price ≤ 9999) kind.count kind.price are.0.reach) (reach_of_kinds (look_rank kind.look + 1) kinds are.2)
 
 -- each kind is of one thing at least
 pub few_kinds : (floor : ℕ) (kinds : List PricedKind) → AreKinds floor kinds → length kinds ≤ counted kinds
@@ -49,6 +44,11 @@ few_kinds floor [] are = omega arith
 few_kinds floor (kind ∷ kinds) are =
     let some = are.0.some in
     omega (arith, some, few_kinds (look_rank kind.look + 1) kinds are.2)
+
+pub too_long : {K : Type 0} (priced : K → PricedKind) (kinds : List K) {number : ℕ} → AreKinds 0 (map priced kinds)
+    → length (prices_of_kinds (map priced kinds)) ≡ number → ¬ (number < length kinds)
+too_long priced kinds are count long =
+    omega (arith, few_kinds 0 (map priced kinds) are, length_of_kinds (map priced kinds), length-map kinds priced)
 
 -- prices by kind that may stand on a card
 prices_of : (parts : PriceParts) → version_of parts ≡ ByKind

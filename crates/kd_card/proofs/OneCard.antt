@@ -151,14 +151,11 @@ fault_in_line are line bytes fault (OtherPrices first words rest number has due 
     found_first (known.0, words, rest) (subst (λ w. HasWords bytes (w ∷ words) rest) known.1 has)
     (Refused fault (subst (λ n. IsCountFault n line words fault) known.2 wrong) refl)
 
-same_price : (p q : ℤ) → unsigned_abs p ≤ 9999 → unsigned_abs q ≤ 9999 → signed_decimal p ≡ signed_decimal q → p ≡ q
-same_price p q a b e = signed_decimal_injective p q (small p a) (small q b) e
-
 same_prices : (ps qs : List ℤ) → AllByRecursion (λ p. unsigned_abs p ≤ 9999) ps → AllByRecursion (λ p. unsigned_abs p ≤ 9999) qs
     → map signed_decimal ps ≡ map signed_decimal qs → ps ≡ qs
 same_prices [] [] a b e = refl
 same_prices (p ∷ ps) (q ∷ qs) a b e =
-    let first : p ≡ q = same_price p q a.0 b.0 (cc) in
+    let first : p ≡ q = signed_decimal_injective p q (small p a.0) (small q b.0) (cc) in
     let tails : map signed_decimal ps ≡ map signed_decimal qs = cc in
     let others : ps ≡ qs = same_prices ps qs a.1 b.1 tails in
     cc

@@ -7,7 +7,7 @@ use Rattle.std.proofs.lemmas.Bool.{false≢true, eq-eqb, lt-ltb}
 use Rattle.std.proofs.lemmas.Bool.Decides.{eqb_tells}
 use Rattle.std.proofs.lemmas.List.Edits.{length-remove}
 use Rattle.std.proofs.lemmas.List.Elements.{All-contains, recursion_from_All}
-use Rattle.std.proofs.lemmas.List.Sums.{sum_by-cons, AllPass-from_list_all}
+use Rattle.std.proofs.lemmas.List.Sums.{sum_by-cons, get_or-le-sum_by, AllPass-from_list_all}
 use Rattle.std.proofs.lemmas.List.Sorted.{sum_by-IsPermutation, Contains-permutation, IsPermutation-refl, IsPermutation-sym, IsPermutation-cons, IsPermutation-trans, IsPermutation-remove}
 use Rattle.kd_tables.specs.declared.place.Place.{Place}
 use Rattle.kd_tables.specs.declared.place.Place.TheVariants.{One, ZeroLeft, Two, Three, Four, Five, ZeroRight, Six}
@@ -41,25 +41,21 @@ CostsNothing cable column = cable_cost cable column ≡ 0
 
 -- letters that are among these are counted
 counted : (letter : ℕ) (letters : List ℕ) (place : ℕ) → place < length letters → get_or letters place letter ≡ letter → 1 ≤ times letter letters
-counted letter [] place lt e = absurd (omega arith)
-counted letter (other ∷ letters) zero lt e =
-    let here = ap (λ b. cond {A = ℕ} b 1 0) (eq-eqb letter other (sym e)) in
-    omega (arith, count_by-cons (nat_eq letter) other letters)
-counted letter (other ∷ letters) (suc place) lt e = omega (arith, count_by-cons (nat_eq letter) other letters, counted letter letters place (omega arith) e)
+counted letter letters place lt e =
+    let here = ap (λ b. cond {A = ℕ} b 1 0) (eq-eqb letter (get_or letters place letter) (sym e)) in
+    omega (arith, get_or-le-sum_by (λ other. cond (nat_eq letter other) 1 0) letters place letter lt)
 
 -- letters that lie in some things
 module _ {X : Type 0} (letters_of : X → List ℕ) where
-  within : (letter : ℕ) (xs : List X) (place : ℕ) (x : X) → place < length xs → get_or xs place x ≡ x → times letter (letters_of x) ≤ times letter (flat_map letters_of xs)
-  within letter [] place x lt e = absurd (omega arith)
-  within letter (y ∷ ys) zero x lt e =
-      let same = ap (λ x. times letter (letters_of x)) e in
-      omega (arith, times-append letter (letters_of y) (flat_map letters_of ys))
-  within letter (y ∷ ys) (suc place) x lt e = omega (arith, times-append letter (letters_of y) (flat_map letters_of ys), within letter ys place x (omega arith) e)
-
   times-flat_map : (letter : ℕ) (xs : List X) → times letter (flat_map letters_of xs) ≡ lists.sum_by (λ x. times letter (letters_of x)) xs
   times-flat_map letter [] = refl
   times-flat_map letter (x ∷ xs) =
       omega (arith, times-append letter (letters_of x) (flat_map letters_of xs), sum_by-cons (λ x. times letter (letters_of x)) x xs, times-flat_map letter xs)
+
+  within : (letter : ℕ) (xs : List X) (place : ℕ) (x : X) → place < length xs → get_or xs place x ≡ x → times letter (letters_of x) ≤ times letter (flat_map letters_of xs)
+  within letter xs place x lt e =
+      let same = ap (λ x. times letter (letters_of x)) e in
+      omega (arith, times-flat_map letter xs, get_or-le-sum_by (λ x. times letter (letters_of x)) xs place x lt)
 
   times-IsPermutation : (letter : ℕ) (xs ys : List X) → IsPermutation xs ys → times letter (flat_map letters_of ys) ≡ times letter (flat_map letters_of xs)
   times-IsPermutation letter xs ys h = times-flat_map letter ys ∙ sum_by-IsPermutation (λ x. times letter (letters_of x)) xs ys h ∙ sym (times-flat_map letter xs)
