@@ -1,7 +1,7 @@
 -- Lists of kinds, kind by kind.
 use Rattle.std.proofs.Common.{◌≡◌, ◌≢◌, ℕ, zero, suc, ◌+◌, ◌*◌, ◌<◌, ◌≤◌, List, [], ◌∷◌, ◌++◌, length, take, drop, get_or, replicate, fold, refl, sym, ap, subst, ◌∙◌, append_assoc, length-append, arith, ℤ, pos, ◌+ℤ◌, ◌*ℤ◌, unsigned_abs, FitsSigned, w32, Some, None}
 use Rattle.std.specs.List.{All, AllByRecursion}
-use Rattle.std.proofs.lemmas.List.Elements.{All-from_recursion}
+use Rattle.std.proofs.lemmas.List.Elements.{All-nil, All-cons}
 use Rattle.std.proofs.Math.IntN.{zero-*ℤ, suc_ℤ-*ℤ}
 use Rattle.std.proofs.Math.Nat.{mul-le-mul_left}
 use Rattle.std.proofs.lemmas.Int.{ints, unsigned_abs-mul, fits_signed_from_abs}
@@ -36,11 +36,7 @@ pub more_floor : (floor : ℕ) (kinds : List PricedKind) (kind : PricedKind) →
 more_floor floor [] kind = refl
 more_floor floor (first ∷ kinds) kind = more_floor (look_rank first.look + 1) kinds kind
 
-pub more_counted : (kinds : List PricedKind) (kind : PricedKind) → counted (kinds ++ kind ∷ []) ≡ counted kinds + kind.count
-more_counted [] kind = omega arith
-more_counted (first ∷ kinds) kind = omega (arith, more_counted kinds kind)
-
-pub counted-append : (kinds more : List PricedKind) → counted (kinds ++ more) ≡ counted kinds + counted more
+counted-append : (kinds more : List PricedKind) → counted (kinds ++ more) ≡ counted kinds + counted more
 counted-append [] more = omega arith
 counted-append (first ∷ kinds) more = omega (arith, counted-append kinds more)
 
@@ -125,7 +121,7 @@ walked_more {kinds} {kind} walked good above ranked counts =
     record {
       in_order = more_kinds 0 kinds kind walked.in_order good (omega arith);
       floor_is = ap (λ r. r + 1) ranked ∙ sym (more_floor 0 kinds kind);
-      total_is = omega (arith, more_counted kinds kind);
+      total_is = omega (arith, counted-append kinds (kind ∷ []));
     }
 
 one_more : (kinds : List PricedKind) (i : ℕ) {kind : PricedKind} → i < length kinds → kind ≡ get_or kinds i kind
@@ -166,7 +162,7 @@ pub sums_on : (sum total more : ℤ) (kinds : List PricedKind) (i : ℕ) {kind :
     → unsigned_abs total ≤ unsigned_abs sum + 9999 * counted (take i kinds) → more ≡ pos kind.count *ℤ kind.price → SumsOn sum total more kinds i
 sums_on sum total more kinds i {kind} inside is are few small value bound product =
     let next = one_more kinds i inside is in
-    let counts = ap counted next ∙ more_counted (take i kinds) kind in
+    let counts = ap counted next ∙ counted-append (take i kinds) (kind ∷ []) in
     let before = counted_before kinds (i + 1) in
     let good = (good_at kinds i inside is are).0 in
     let here : unsigned_abs more ≤ 9999 * kind.count = rw product (product_bound kind.count kind.price good.reach) in
@@ -184,12 +180,9 @@ called_at name [] i kind inside is called = absurd (omega arith)
 called_at name (first ∷ kinds) zero kind inside is called = subst (λ k. look_name k.look ≡ name) (sym is) called.0
 called_at name (first ∷ kinds) (suc i) kind inside is called = called_at name kinds i kind (omega arith) is called.1
 
-each_kind : (floor : ℕ) (kinds : List PricedKind) → AreKinds floor kinds → AllByRecursion IsPricedKind kinds
-each_kind floor [] are = tt
-each_kind floor (kind ∷ kinds) are = (are.0, each_kind (look_rank kind.look + 1) kinds are.2)
-
 pub all_kinds : (floor : ℕ) (kinds : List PricedKind) → AreKinds floor kinds → All IsPricedKind kinds
-all_kinds floor kinds are = All-from_recursion IsPricedKind kinds (each_kind floor kinds are)
+all_kinds floor [] are = All-nil IsPricedKind
+all_kinds floor (kind ∷ kinds) are = All-cons IsPricedKind kind kinds are.0 (all_kinds (look_rank kind.look + 1) kinds are.2)
 
 -- ---- kinds, read
 

@@ -189,11 +189,3 @@ all_groups {rows} {columns} {after} {prices} have r c are = record {
 pub few_prices_of : (group : Group) → price_count group ≤ 27
 few_prices_of OfCables = omega arith
 few_prices_of OfBars = omega arith
-
--- the sum, group by group
-pub sum_is : (prices : PriceParts) (rows columns : List PricedKind) (first whole : ℤ) → version_of prices ≡ ByKind → rows ≡ row_kinds prices → columns ≡ column_kinds prices
-    → first ≡ fold (λ sum price. sum +ℤ price) (pos 0) (prices_of_kinds rows) → whole ≡ fold (λ sum price. sum +ℤ price) first (prices_of_kinds columns)
-    → whole ≡ price_sum prices
-sum_is prices rows columns first whole by r c a b =
-    let are = prices_of prices by in
-    cc (fold-append (λ sum price. sum +ℤ price) (pos 0) (prices_of_kinds (row_kinds prices)) (prices_of_kinds (column_kinds prices)))

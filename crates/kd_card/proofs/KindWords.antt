@@ -91,13 +91,14 @@ kind_is_words numbers kind good =
 
 -- ---- looks by their texts
 
+alike : {A B : Type 0} (make : A → B → Look) {a c : A} {b d : B} → a ≡ c → b ≡ d → make a b ≡ make c d
+alike make one other = cc
+
 same_ends : (a b c d : Option ℕ) → AreEnds a b → AreEnds c d → look_text (Cable (a, b)) ≡ look_text (Cable (c, d)) → Cable (a, b) ≡ Cable (c, d)
 same_ends None None None None x y e = refl
 same_ends (Some a) None (Some c) None x y e = let same : a ≡ c = omega (arith, ap (λ t. get_or t 0 0) e) in cc
 same_ends (Some a) (Some b) (Some c) (Some d) x y e =
-    let one : a ≡ c = omega (arith, ap (λ t. get_or t 0 0) e) in
-    let other : b ≡ d = omega (arith, ap (λ t. get_or t 1 0) e) in
-    cc
+    alike (λ m n. Cable (Some m, Some n)) (omega (arith, ap (λ t. get_or t 0 0) e)) (omega (arith, ap (λ t. get_or t 1 0) e))
 same_ends None (Some b) c d x y e = absurd x
 same_ends a b None (Some d) x y e = absurd y
 same_ends a b c d x y e = absurd (omega (arith, ap length e, ap (λ t. get_or t 0 0) e))
@@ -105,9 +106,7 @@ same_ends a b c d x y e = absurd (omega (arith, ap length e, ap (λ t. get_or t 
 same_pair : (a b : Option (ℕ × ℕ)) → look_text (Pair a) ≡ look_text (Pair b) → Pair a ≡ Pair b
 same_pair None None e = refl
 same_pair (Some (a, b)) (Some (c, d)) e =
-    let one : a ≡ c = omega (arith, ap (λ t. get_or t 0 0) e) in
-    let other : b ≡ d = omega (arith, ap (λ t. get_or t 1 0) e) in
-    cc
+    alike (λ m n. Pair (Some (m, n))) (omega (arith, ap (λ t. get_or t 0 0) e)) (omega (arith, ap (λ t. get_or t 1 0) e))
 same_pair a b e = absurd (omega (arith, ap length e))
 
 place_without : (p : Place) → IsWithout 45 (place_text p)
@@ -115,25 +114,18 @@ place_without p = All-weaker (λ b. 45 < b) (λ b. b ≢ 45) (λ b above same. o
 
 same_standing : TextsTellFirstParts → (a b c d : Place) → look_text (Bar (a, b)) ≡ look_text (Bar (c, d)) → Bar (a, b) ≡ Bar (c, d)
 same_standing tells a b c d e =
-    let parts : (place_text a ≡ place_text c) × (place_text b ≡ place_text d) =
+    let parts =
     tells 45 (place_text a) (place_text c) (place_text b) (place_text d) (place_without a) (place_without c)
     (sym (append_assoc (place_text a) (codes "-") (place_text b)) ∙ e ∙ append_assoc (place_text c) (codes "-") (place_text d)) in
-    let left : a ≡ c = same_place a c parts.0 in
-    let right : b ≡ d = same_place b d parts.1 in
-    cc
-
-same_reading : (a b c d : ℕ) → look_text (Row (a, b)) ≡ look_text (Row (c, d)) → Row (a, b) ≡ Row (c, d)
-same_reading a b c d e =
-    let one : a ≡ c = omega (arith, ap (λ t. get_or t 0 0) e) in
-    let other : b ≡ d = omega (arith, ap (λ t. get_or t 2 0) e) in
-    cc
+    alike (λ m n. Bar (m, n)) (same_place a c parts.0) (same_place b d parts.1)
 
 pub same_look : TextsTellFirstParts → (look other : Look) → look_name look ≡ look_name other → IsInForm look → IsInForm other
     → look_text look ≡ look_text other → look ≡ other
 same_look tells (Cable (a, b)) (Cable (c, d)) named x y e = same_ends a b c d x y e
 same_look tells (Pair a) (Pair b) named x y e = same_pair a b e
 same_look tells (Bar (a, b)) (Bar (c, d)) named x y e = same_standing tells a b c d e
-same_look tells (Row (a, b)) (Row (c, d)) named x y e = same_reading a b c d e
+same_look tells (Row (a, b)) (Row (c, d)) named x y e =
+    alike (λ m n. Row (m, n)) (omega (arith, ap (λ t. get_or t 0 0) e)) (omega (arith, ap (λ t. get_or t 2 0) e))
 same_look tells look other named x y e = cc
 
 pub same_kind : TextsTellFirstParts → (kind other : PricedKind) → IsPricedKind kind → IsPricedKind other → kind_words kind ≡ kind_words other → kind ≡ other
@@ -155,39 +147,25 @@ ranked_ends : (a b c d : Option ℕ) → AreEnds a b → AreEnds c d → ends_ra
 ranked_ends None None None None x y e = refl
 ranked_ends None None (Some c) (Some d) x y e = absurd (omega arith)
 ranked_ends (Some a) None (Some c) None x y e = let same : a ≡ c = omega arith in cc
-ranked_ends (Some a) (Some b) (Some c) (Some d) x y e =
-    let one : a ≡ c = omega arith in
-    let other : b ≡ d = omega arith in
-    cc
+ranked_ends (Some a) (Some b) (Some c) (Some d) x y e = alike (λ m n. Cable (Some m, Some n)) (omega arith) (omega arith)
 ranked_ends None (Some b) c d x y e = absurd x
 ranked_ends a b None (Some d) x y e = absurd y
 ranked_ends a b c d x y e = absurd (omega arith)
 
 ranked_pair : (a b : Option (ℕ × ℕ)) → IsPairInOrder a → IsPairInOrder b → pair_rank a ≡ pair_rank b → Pair a ≡ Pair b
 ranked_pair None None x y e = refl
-ranked_pair (Some (a, b)) (Some (c, d)) x y e =
-    let one : a ≡ c = omega arith in
-    let other : b ≡ d = omega arith in
-    cc
+ranked_pair (Some (a, b)) (Some (c, d)) x y e = alike (λ m n. Pair (Some (m, n))) (omega arith) (omega arith)
 ranked_pair a b x y e = absurd (omega arith)
-
-ranked_standing : (a b c d : Place) → look_rank (Bar (a, b)) ≡ look_rank (Bar (c, d)) → Bar (a, b) ≡ Bar (c, d)
-ranked_standing a b c d e =
-    let left : a ≡ c = same_rank a c (omega (arith, low_rank a, low_rank b, low_rank c, low_rank d)) in
-    let right : b ≡ d = same_rank b d (omega (arith, low_rank a, low_rank b, low_rank c, low_rank d)) in
-    cc
-
-ranked_reading : (a b c d : ℕ) → b ≤ 6 → d ≤ 6 → look_rank (Row (a, b)) ≡ look_rank (Row (c, d)) → Row (a, b) ≡ Row (c, d)
-ranked_reading a b c d x y e =
-    let one : a ≡ c = omega arith in
-    let other : b ≡ d = omega arith in
-    cc
 
 pub ranks_tell_looks : RanksTellLooks
 ranks_tell_looks (Cable (a, b)) (Cable (c, d)) named x y e = ranked_ends a b c d x y e
 ranks_tell_looks (Pair a) (Pair b) named x y e = ranked_pair a b x y e
-ranks_tell_looks (Bar (a, b)) (Bar (c, d)) named x y e = ranked_standing a b c d e
-ranks_tell_looks (Row (a, b)) (Row (c, d)) named x y e = ranked_reading a b c d x.within y.within e
+ranks_tell_looks (Bar (a, b)) (Bar (c, d)) named x y e =
+    alike (λ m n. Bar (m, n)) (same_rank a c (omega (arith, low_rank b, low_rank d))) (same_rank b d (omega (arith, low_rank b, low_rank d)))
+ranks_tell_looks (Row (a, b)) (Row (c, d)) named x y e =
+    let within = x.within in
+    let also = y.within in
+    alike (λ m n. Row (m, n)) (omega arith) (omega arith)
 ranks_tell_looks look other named x y e = cc
 
 -- ---- a line of a group, read

@@ -7,9 +7,6 @@ use Rattle.kd_card.specs.Reading.{LacksPrices}
 use Rattle.kd_card.proofs.CardWords.{to_settings, to_number, to_prices, to_end, other_number, no_prices, other_sum, no_more, nothing}
 use Rattle.kd_card.proofs.read.read_card.Goals as goal
 
-pub returns-in_default : goal.returns-in_default
-returns-in_default c = AtHead (λ version day rest month e. c.in_default.ensures version day rest (record { text = e; of_month = month })) refl
-
 pub returns-in_default-read_settings : goal.returns-in_default-read_settings
 returns-in_default-read_settings c =
     let many = c.in_default-read_settings.ensures in AtSettings _ _ many.0 many.1 (to_settings c.in-Some.ensures many.2) many.3 refl

@@ -36,15 +36,3 @@ returns-then-day-lt1 c = λ day rest head.
       | then-day-lt1-via-then-day-lt1 w ↦ omega (arith, is, least, w.if-day-lt1.true)
       | then-day-lt1-via-else-day-lt1+then-day-gt31 w ↦ omega (arith, is, most, w.if-day-gt31.true)
     ]
-
-pub returns : goal.returns
-returns c =
-    let least = c.if-day-lt1.false in
-    let most = c.if-day-gt31.false in
-    record {
-      text =
-          c.in_ok-day.ensures.joined ∙ append_assoc c.head_front.result.now c.in_ok-day.day.now (10 ∷ c.in_ok-day.rest.now)
-          ∙ ap (λ d. c.head_front.result.now ++ (d ++ 10 ∷ c.in_ok-day.rest.now)) (sym c.in_ok-day-2.ensures)
-          ∙ sym (in_pieces c.args.version c.head_front.result.now c.in_ok-day-2.day c.in_ok-day.rest.now (c.head_front.ensures.front (decimal c.in_ok-day-2.day)));
-      of_month = record { first = omega (arith, least); last = omega (arith, most) };
-    }

@@ -20,11 +20,3 @@ sum_of_kinds-requires-clause-small c =
     let fits : FitsSigned w32 c.sum_of_kinds-rows.result = search rules in
     let bound = c.sum_of_kinds-rows.ensures.bound in
     rw (to_z-of_z w32 c.sum_of_kinds-rows.result fits) (omega (arith, bound, few))
-
-pub returns : goal.returns
-returns c =
-    let fits : FitsSigned w32 c.sum_of_kinds-rows.result = search rules in
-    let also : FitsSigned w32 c.sum_of_kinds.result = search rules in
-    to_z-of_z w32 c.sum_of_kinds.result also
-    ∙ sum_is c.args.self.now c.as_slice.result.now c.as_slice-2.result.now _ _ c.requires.kinds (c.as_slice.ensures.value ∙ c.row_kinds.ensures)
-    (c.as_slice-2.ensures.value ∙ c.column_kinds.ensures) (to_z-of_z w32 c.sum_of_kinds-rows.result fits ∙ c.sum_of_kinds-rows.ensures.value) c.sum_of_kinds.ensures.value
