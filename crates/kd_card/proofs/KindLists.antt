@@ -47,14 +47,6 @@ pub kind_within : (floor : ℕ) (kinds : List PricedKind) (kind : PricedKind) (b
 kind_within floor [] kind behind are = (are.0, are.1)
 kind_within floor (first ∷ kinds) kind behind are = kind_within (look_rank first.look + 1) kinds kind behind are.2
 
-pub at_place : (kinds : List PricedKind) (i : ℕ) (d : PricedKind) → i < length kinds → kinds ≡ take i kinds ++ (get_or kinds i d ∷ drop (i + 1) kinds)
-at_place kinds i d inside =
-    sym (take-append-drop (i + 1) kinds) ∙ ap (λ front. front ++ drop (i + 1) kinds) (take_more kinds i d inside)
-    ∙ append_assoc (take i kinds) (get_or kinds i d ∷ []) (drop (i + 1) kinds)
-
-pub counted_before : (kinds : List PricedKind) (i : ℕ) → counted (take i kinds) ≤ counted kinds
-counted_before kinds i = omega (arith, ap counted (take-append-drop i kinds), counted-append (take i kinds) (drop i kinds))
-
 -- ---- bounds
 
 low_look : (look : Look) → IsInForm look → look_rank look < 703
@@ -147,7 +139,9 @@ walk_bounds {kinds} walked =
 pub good_at : (kinds : List PricedKind) (i : ℕ) {kind : PricedKind} → i < length kinds → kind ≡ get_or kinds i kind → AreKinds 0 kinds
     → IsPricedKind kind × (floor_behind 0 (take i kinds) ≤ look_rank kind.look)
 good_at kinds i {kind} inside is are =
-    let split = at_place kinds i kind inside ∙ ap (λ k. take i kinds ++ (k ∷ drop (i + 1) kinds)) (sym is) in
+    let split =
+    sym (take-append-drop (i + 1) kinds) ∙ ap (λ front. front ++ drop (i + 1) kinds) (one_more kinds i inside is)
+    ∙ append_assoc (take i kinds) (kind ∷ []) (drop (i + 1) kinds) in
     kind_within 0 (take i kinds) kind (drop (i + 1) kinds) (subst (AreKinds 0) split are)
 
 -- the sum goes on by the price of all things of a kind
@@ -163,7 +157,8 @@ pub sums_on : (sum total more : ℤ) (kinds : List PricedKind) (i : ℕ) {kind :
 sums_on sum total more kinds i {kind} inside is are few small value bound product =
     let next = one_more kinds i inside is in
     let counts = ap counted next ∙ counted-append (take i kinds) (kind ∷ []) in
-    let before = counted_before kinds (i + 1) in
+    let before = ap counted (take-append-drop (i + 1) kinds) in
+    let rest = counted-append (take (i + 1) kinds) (drop (i + 1) kinds) in
     let good = (good_at kinds i inside is are).0 in
     let here : unsigned_abs more ≤ 9999 * kind.count = rw product (product_bound kind.count kind.price good.reach) in
     let most = good.most in

@@ -494,11 +494,6 @@ module _ (k : Known) where
       (record { called = begins.begins.called; in_order = begins.begins.in_order; count = begins.count }) begins.begins.lines in
       inr (by, found_first (group, group_is.behind, group_is.rest) group_is.has (Found (rows, rest) begins (Refused fault wrong refl)))
 
-  prices_are_sure : (version : Version) (line : ℕ) (bytes : List ℕ)
-      → IsSure (λ (p : PriceParts × List ℕ). BeginsWithAll bytes version p.0 p.1) (LacksPrices line bytes version)
-  prices_are_sure version line bytes =
-      sure_of (PricesSay version line bytes) (only_prices version line bytes) (λ p. all_say version line bytes p.0 p.1) (lacks_say version line bytes)
-
   -- ---- the head and the settings
 
   head_has_words : {bytes : List ℕ} {version : Version} {day : ℕ} {rest : List ℕ} → BeginsWithHead bytes version day rest
@@ -568,7 +563,9 @@ module _ (k : Known) where
       (λ x y a b. let same = (lists_meet a.lines b.lines a.none_more).1 b.none_more in same_pair x y same.0 same.1)
       (λ x a many. let few = a.few in let most = (lists_meet a.lines many.2 a.none_more).0 in let all = many.3 in omega arith))
       (λ list begins. let few = begins.few in only_step (value_is_sure number_word (word_by_test _ _ refl) (number_text (length list.0) (omega arith)))
-      (λ more number. only_step (prices_are_sure head.0 (length list.0 + 3) more)
+      (λ more number. only_step
+      (sure_of (PricesSay head.0 (length list.0 + 3) more) (only_prices head.0 (length list.0 + 3) more)
+      (λ p. all_say head.0 (length list.0 + 3) more p.0 p.1) (lacks_say head.0 (length list.0 + 3) more))
       (λ p all. only_step (value_is_sure signed_text_word (word_by_test _ _ refl) (signed_text (price_sum p.0) (price_sum_is_small p.0 all.are_prices)))
       (λ end sum. only_step (sure_by (λ x y a b. refl) (λ x none some. some none)) (λ x none v w a b. a ∙ sym b))))))
 

@@ -57,9 +57,6 @@ module _ {X : Type 0} (letters_of : X → List ℕ) where
       let same = ap (λ x. times letter (letters_of x)) e in
       omega (arith, times-flat_map letter xs, get_or-le-sum_by (λ x. times letter (letters_of x)) xs place x lt)
 
-  times-IsPermutation : (letter : ℕ) (xs ys : List X) → IsPermutation xs ys → times letter (flat_map letters_of ys) ≡ times letter (flat_map letters_of xs)
-  times-IsPermutation letter xs ys h = times-flat_map letter ys ∙ sum_by-IsPermutation (λ x. times letter (letters_of x)) xs ys h ∙ sym (times-flat_map letter xs)
-
 abbrev pair_letters : ℕ × ℕ → List ℕ
 pair_letters pair = pair.0 ∷ pair.1 ∷ []
 
@@ -115,13 +112,14 @@ in_rest x y xs h = (suc h.0, omega (arith, h.1), h.2)
 -- the first pair and its cable are taken away
 module _ (cables rest : List (Option ℕ × Option ℕ)) (cable : Option ℕ × Option ℕ) (pair : ℕ × ℕ) (pairs : List (ℕ × ℕ)) (order : IsPermutation cables (cable ∷ rest)) (h : AreMatched cables (pair ∷ pairs)) (here : HasPair cable pair) where
   once_in_order : CablesAreOnce (cable ∷ rest)
-  once_in_order letter = omega (arith, h.cables_once letter, times-IsPermutation cable_letters letter cables (cable ∷ rest) order)
-
-  rest_once : CablesAreOnce rest
-  rest_once letter = omega (arith, once_in_order letter, times-append letter (cable_letters cable) (plugged_letters rest))
-
-  pairs_rest_once : AreOnce (letters_plugged pairs)
-  pairs_rest_once letter = omega (arith, h.pairs_once letter, times-append letter (pair_letters pair) (letters_plugged pairs))
+  once_in_order letter =
+      omega (
+        arith,
+        h.cables_once letter,
+        times-flat_map cable_letters letter cables,
+        times-flat_map cable_letters letter (cable ∷ rest),
+        sum_by-IsPermutation (λ c. times letter (cable_letters c)) cables (cable ∷ rest) order,
+      )
 
   pair_of_rest : (other : Option ℕ × Option ℕ) → Contains rest other → cable_letters other ≢ [] → (p : ℕ × ℕ) × Contains pairs p × HasPair other p
   pair_of_rest other among some =
@@ -140,7 +138,12 @@ module _ (cables rest : List (Option ℕ × Option ℕ)) (cable : Option ℕ × 
       ]
 
   rest_matched : AreMatched rest pairs
-  rest_matched = record { cables_once = rest_once; pairs_once = pairs_rest_once; pair = pair_of_rest; cable = cable_of_rest }
+  rest_matched = record {
+    cables_once = λ letter. omega (arith, once_in_order letter, times-append letter (cable_letters cable) (plugged_letters rest));
+    pairs_once = λ letter. omega (arith, h.pairs_once letter, times-append letter (pair_letters pair) (letters_plugged pairs));
+    pair = pair_of_rest;
+    cable = cable_of_rest;
+  }
 
 -- without pairs all cables are empty
 empty_costs_nothing : (cable : Option ℕ × Option ℕ) → (cable_letters cable ≢ [] → ⊥) → CostsNothing cable None

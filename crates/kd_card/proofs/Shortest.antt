@@ -246,21 +246,18 @@ proving_cards_are_as_long m s settings prices h =
     let none = nothing_loose h.leads.0 s h.leads.2 in
     omega (arith, ints)
 
-shortest_by_number : Told → (m : Parts) (s : Day) (settings : List Setting) (prices : PriceParts) → IsMachine m → IsLegalDay s → ArePrices prices
-    → ProvesByNumber m s settings prices → IsShortest m s settings
-shortest_by_number told m s settings prices machine legal are_prices h others reached =
-    let long = proving_cards_are_as_long m s settings prices h in
-    let below = fitting_prices_bound_lists told m s prices others machine legal are_prices h.kind h.fits reached in
-    omega (arith, ints)
-
 -- prices by number that may stand on a card
 expanded_are_prices : (m : Parts) (s : Day) (prices numbered : PriceParts) → ArePrices prices → Expands m s prices numbered → ArePrices numbered
 expanded_are_prices m s prices numbered are (Same by same) = subst ArePrices same are
 expanded_are_prices m s prices numbered are (Expanded by other group here also rows columns) = also
 
 pub proving_cards_are_shortest : Told → ProvingCardsAreShortest
-proving_cards_are_shortest told m s settings prices machine legal are_prices h =
-    shortest_by_number told m s settings h.numbered machine legal (expanded_are_prices m s prices h.numbered are_prices h.expands) h.proves
+proving_cards_are_shortest told m s settings prices machine legal are_prices h others reached =
+    let proves = h.proves in
+    let long = proving_cards_are_as_long m s settings h.numbered proves in
+    let are = expanded_are_prices m s prices h.numbered are_prices h.expands in
+    let below = fitting_prices_bound_lists told m s h.numbered others machine legal are proves.kind proves.fits reached in
+    omega (arith, ints)
 
 pub proving_prices_are_tight : Told → ProvingPricesAreTight
 proving_prices_are_tight told m s settings prices machine legal are_prices h =

@@ -2,7 +2,7 @@ use Rattle.std.proofs.Common.{rules, ◌∙◌, ◌≤◌, ap, FitsSigned, w32, 
 use Rattle.std.proofs.lemmas.Int.{to_z-of_z}
 use Rattle.kd_card.specs.Kinds.{counted}
 use Rattle.kd_card.proofs.CardWords.{few_prices}
-use Rattle.kd_card.proofs.KindPrices.{counts, sum_is}
+use Rattle.kd_card.proofs.KindPrices.{counts}
 use Rattle.kd_card.proofs.prices.PriceParts.sum_by_kind.Goals as goal
 
 pub sum_of_kinds-rows-requires-clause-few : goal.sum_of_kinds-rows-requires-clause-few
