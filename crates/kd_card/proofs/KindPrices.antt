@@ -131,31 +131,19 @@ told {A} there back leads a b e =
     let make : List A → ArrayVec A = λ items. record { items = items } in
     ap make (sym (undone there back leads a.items) ∙ ap (map back) e ∙ undone there back leads b.items)
 
-abbrev ends_in : Look → Option ℕ × Option ℕ
-ends_in (Cable ends) = ends
-ends_in look = (None, None)
-
-abbrev pair_in : Look → Option (ℕ × ℕ)
-pair_in (Pair pair) = pair
-pair_in look = None
-
-abbrev standing_in : Look → Place × Place
-standing_in (Bar standing) = standing
-standing_in look = (One, One)
-
-abbrev reading_in : Look → ℕ × ℕ
-reading_in (Row numbers) = numbers
-reading_in look = (0, 0)
-
 pub same_kind_parts : {group : Group} {rows columns : List PricedKind} (prices others : PriceParts) → HaveKinds group rows columns prices
     → HaveKinds group rows columns others → prices ≡ others
 same_kind_parts (CableKinds a b) (CableKinds c d) are also =
-    let rows = told cable_kind (λ k. record { ends = ends_in k.look; count = k.count; price = k.price }) (λ x. refl) a c (are.row_kinds ∙ sym also.row_kinds) in
-    let columns = told pair_kind (λ k. record { pair = pair_in k.look; count = k.count; price = k.price }) (λ x. refl) b d (are.column_kinds ∙ sym also.column_kinds) in
+    let ends = λ (look : Look). elim look as (λ l. Option ℕ × Option ℕ) [ Cable ends ↦ ends | _ ↦ (None, None) ] in
+    let pair = λ (look : Look). elim look as (λ l. Option (ℕ × ℕ)) [ Pair pair ↦ pair | _ ↦ None ] in
+    let rows = told cable_kind (λ k. record { ends = ends k.look; count = k.count; price = k.price }) (λ x. refl) a c (are.row_kinds ∙ sym also.row_kinds) in
+    let columns = told pair_kind (λ k. record { pair = pair k.look; count = k.count; price = k.price }) (λ x. refl) b d (are.column_kinds ∙ sym also.column_kinds) in
     cc
 same_kind_parts (BarKinds a b) (BarKinds c d) are also =
-    let rows = told bar_kind (λ k. record { standing = standing_in k.look; count = k.count; price = k.price }) (λ x. refl) a c (are.row_kinds ∙ sym also.row_kinds) in
-    let columns = told row_kind (λ k. record { reading = reading_in k.look; count = k.count; price = k.price }) (λ x. refl) b d (are.column_kinds ∙ sym also.column_kinds) in
+    let standing = λ (look : Look). elim look as (λ l. Place × Place) [ Bar standing ↦ standing | _ ↦ (One, One) ] in
+    let reading = λ (look : Look). elim look as (λ l. ℕ × ℕ) [ Row reading ↦ reading | _ ↦ (0, 0) ] in
+    let rows = told bar_kind (λ k. record { standing = standing k.look; count = k.count; price = k.price }) (λ x. refl) a c (are.row_kinds ∙ sym also.row_kinds) in
+    let columns = told row_kind (λ k. record { reading = reading k.look; count = k.count; price = k.price }) (λ x. refl) b d (are.column_kinds ∙ sym also.column_kinds) in
     cc
 same_kind_parts prices others are also = cc
 

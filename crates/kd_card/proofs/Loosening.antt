@@ -85,13 +85,11 @@ module _ {X : Type 0} (place target : X → ℕ) where
 abbrev wrong_slot : Option Wheel × SheetWheel → Bool
 wrong_slot slot = not (option_map_or (same_wheel slot.1.wheel) slot.0 false)
 
-empty_wrong_cond : (b : Bool) (other : Wheel) (wanted : SheetWheel) → cond {A = ℕ} (wrong_slot (Some other, wanted)) 1 0 ≤ cond {A = ℕ} (wrong_slot (cond b None (Some other), wanted)) 1 0
-empty_wrong_cond true other wanted = at_most_one (not (same_wheel wanted.wheel other))
-empty_wrong_cond false other wanted = omega arith
-
 empty_wrong : (seated : Option Wheel) (wheel : Wheel) (wanted : SheetWheel) → cond {A = ℕ} (wrong_slot (seated, wanted)) 1 0 ≤ cond {A = ℕ} (wrong_slot (without wheel seated, wanted)) 1 0
 empty_wrong None wheel wanted = omega arith
-empty_wrong (Some other) wheel wanted = empty_wrong_cond (same_wheel wheel other) other wanted
+empty_wrong (Some other) wheel wanted =
+    elim (same_wheel wheel other) as (λ b. cond {A = ℕ} (wrong_slot (Some other, wanted)) 1 0 ≤ cond {A = ℕ} (wrong_slot (cond b None (Some other), wanted)) 1 0)
+    [ true ↦ at_most_one (not (same_wheel wanted.wheel other)) | false ↦ omega arith ]
 
 without_raises : (wheel : Wheel) (slots : List (Option Wheel)) (wheels : List SheetWheel) → count_by wrong_slot (zip slots wheels) ≤ count_by wrong_slot (zip (map (without wheel) slots) wheels)
 without_raises wheel [] wheels = omega arith
@@ -178,17 +176,14 @@ other_cables : (m : RotorParts) (cables : List (Option ℕ × Option ℕ)) (s : 
 other_cables m cables (OfRotors s) = refl
 other_cables m cables (OfPins s) = refl
 
-other_bars : (m : PinParts) (bars : List (Place × Place)) (s : Day) → loose_count (Pin (record m { bars = bars })) s ≡ loose_count (Pin m) s
-other_bars m bars (OfRotors s) = refl
-other_bars m bars (OfPins s) = refl
-
 pub leaves : (m : Parts) (s : Day) (x : Setting) → is_priced x ≡ true → loose_count (changed m x) s ≡ loose_count m s
 leaves (Rotor m) s (Pull cable letter) e = other_cables m (set m.cables (cable - 1) (cable_without letter (cable_at m cable))) s
 leaves (Rotor m) s (Put cable letter) e = other_cables m (set m.cables (cable - 1) (cable_with letter (cable_at m cable))) s
 leaves (Rotor m) s (LugTo bar lug place) e = refl
 leaves (Pin m) s (Pull cable letter) e = refl
 leaves (Pin m) s (Put cable letter) e = refl
-leaves (Pin m) s (LugTo bar lug place) e = other_bars m (with_lug_at m bar lug place) s
+leaves (Pin m) (OfRotors s) (LugTo bar lug place) e = refl
+leaves (Pin m) (OfPins s) (LugTo bar lug place) e = refl
 leaves m s x e = absurd (false≢true e)
 
 -- a machine that reads as the day has nothing loose

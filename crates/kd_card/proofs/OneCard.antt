@@ -251,6 +251,10 @@ other_name : (group : Group) → name_text (column_name group) ≢ name_text (ro
 other_name OfCables e = omega (arith, ap (λ t. get_or t 0 0) e)
 other_name OfBars e = omega (arith, ap (λ t. get_or t 0 0) e)
 
+found_group : {name : Name} {number : ℕ} {bytes : List ℕ} {kinds : List PricedKind} {rest : List ℕ} → IsGroup name number kinds
+    → bytes ≡ kinds_text kinds ++ rest → EndsGroup name rest → BeginsWithGroup name number bytes kinds rest
+found_group group e ends = record { begins = record { lines = e; called = group.called; in_order = group.in_order }; ends = ends; count = group.count }
+
 some_prices : (group : Group) → 0 < price_count group
 some_prices OfCables = omega arith
 some_prices OfBars = omega arith
@@ -460,13 +464,8 @@ module _ (k : Known) where
       let second = group_begins columns rest (some_prices group) groups.1 refl in
       found_first (group, first.behind, first.rest) first.has
       (Found (rows, kinds_text columns ++ rest)
-      (record {
-        begins = record { lines = lines; called = groups.0.called; in_order = groups.0.in_order };
-        ends = AtOther (name_text (column_name group)) second (other_name group);
-        count = groups.0.count;
-      })
-      (Found (columns, rest)
-      (record { begins = record { lines = refl; called = groups.1.called; in_order = groups.1.in_order }; ends = ends; count = groups.1.count })
+      (found_group groups.0 lines (AtOther (name_text (column_name group)) second (other_name group)))
+      (Found (columns, rest) (found_group groups.1 refl ends)
       (prices, record { of_group = refl; version = by; row_kinds = refl; column_kinds = refl }, refl)))
 
   all_say : (version : Version) (line : ℕ) (bytes : List ℕ) (prices : PriceParts) (rest : List ℕ) → BeginsWithAll bytes version prices rest

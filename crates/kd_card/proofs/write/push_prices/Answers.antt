@@ -9,15 +9,14 @@ use Rattle.kd_card.proofs.write.push_prices.Goals as goal
 pub push_kinds-requires : goal.push_kinds-requires
 push_kinds-requires g c =
     let are = subst ArePrices c.parts.ensures.value c.parts.ensures.are_prices in
-    let rows : All IsPricedKind c.as_slice.result.now =
-    subst (All IsPricedKind) (sym (c.as_slice.ensures.value ∙ c.row_kinds.ensures)) (all_kinds 0 (row_kinds c.args.prices.now) are.row_kinds) in
+    let rows : All IsPricedKind c.as_slice.result.now = rw (c.as_slice.ensures.value, c.row_kinds.ensures) (all_kinds 0 (row_kinds c.args.prices.now) are.row_kinds) in
     (search rules, (search rules, rows))
 
 pub push_kinds-requires-in-CableKinds : goal.push_kinds-requires-in-CableKinds
 push_kinds-requires-in-CableKinds g c =
     let are = subst ArePrices c.parts.ensures.value c.parts.ensures.are_prices in
     let columns : All IsPricedKind c.as_slice-in-CableKinds.result.now =
-    subst (All IsPricedKind) (sym (c.as_slice-in-CableKinds.ensures.value ∙ c.column_kinds.ensures)) (all_kinds 0 (column_kinds c.args.prices.now) are.column_kinds) in
+    rw (c.as_slice-in-CableKinds.ensures.value, c.column_kinds.ensures) (all_kinds 0 (column_kinds c.args.prices.now) are.column_kinds) in
     (search rules, (search rules, columns))
 
 pub returns-in-CableKinds-clause-bytes : goal.returns-in-CableKinds-clause-bytes
