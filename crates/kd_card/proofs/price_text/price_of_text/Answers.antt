@@ -16,16 +16,15 @@ returns-in_err-ok c =
 pub returns-in_err-price : goal.returns-in_err-price
 returns-in_err-price c =
     let text = ok_part c.from_utf8.result c.in_ok-ok.field-0 _ _ c.from_utf8.ensures.cases c.in_ok-ok.ensures.value in
-    let parsed = subst (λ bs. ParsesSigned w16 10 bs c.parse.result) text.0 c.parse.ensures.value.0 in
+    let parsed = rw text.0 at c.parse.ensures.value.0 in
     rw c.from_residual-in_err-price.ensures (λ price within e.
     let none = sym (read_price c.args.text.now c.parse.result parsed price within e) ∙ sym c.ok-2.ensures.value ∙ c.in_err-price.was in cc)
 
 pub returns-then-unsigned_abs-gt9999 : goal.returns-then-unsigned_abs-gt9999
 returns-then-unsigned_abs-gt9999 c =
     let text = ok_part c.from_utf8.result c.in_ok-ok.field-0 _ _ c.from_utf8.ensures.cases c.in_ok-ok.ensures.value in
-    let parsed = subst (λ bs. ParsesSigned w16 10 bs c.parse.result) text.0 c.parse.ensures.value.0 in
-    let fits : FitsSigned w16 c.in_ok-price.price = search rules in
-    let same : to_z w16 (of_z w16 c.in_ok-price.price) ≡ c.in_ok-price.price = to_z-of_z w16 c.in_ok-price.price fits in
+    let parsed = rw text.0 at c.parse.ensures.value.0 in
+    let same : to_z w16 (of_z w16 c.in_ok-price.price) ≡ c.in_ok-price.price = to_z-of_z w16 c.in_ok-price.price (search rules) in
     let far : 9999 < unsigned_abs c.in_ok-price.price = omega (arith, c.unsigned_abs.ensures.value, ap unsigned_abs same, c.if-unsigned_abs-gt9999.true) in
     λ price within e.
         let same : c.in_ok-price.price ≡ price = let read = c.in_ok-price.ensures.value ∙ read_price c.args.text.now c.parse.result parsed price within e in cc in
@@ -34,9 +33,8 @@ returns-then-unsigned_abs-gt9999 c =
 pub returns : goal.returns
 returns c =
     let text = ok_part c.from_utf8.result c.in_ok-ok.field-0 _ _ c.from_utf8.ensures.cases c.in_ok-ok.ensures.value in
-    let parsed = subst (λ bs. ParsesSigned w16 10 bs c.parse.result) text.0 c.parse.ensures.value.0 in
-    let fits : FitsSigned w16 c.in_ok-price.price = search rules in
-    let same : to_z w16 (of_z w16 c.in_ok-price.price) ≡ c.in_ok-price.price = to_z-of_z w16 c.in_ok-price.price fits in
+    let parsed = rw text.0 at c.parse.ensures.value.0 in
+    let same : to_z w16 (of_z w16 c.in_ok-price.price) ≡ c.in_ok-price.price = to_z-of_z w16 c.in_ok-price.price (search rules) in
     let near : unsigned_abs c.in_ok-price.price ≤ 9999 = omega (arith, c.unsigned_abs.ensures.value, ap unsigned_abs same, c.if-unsigned_abs-gt9999.false) in
     let written : c.format.result.now ≡ signed_decimal (to_z w16 (of_z w16 c.in_ok-price.price)) = c.format.ensures.text in
     let compared = slice_eq-Decides Decides-eqb c.as_bytes.result.now c.args.text.now c.eq.result c.eq.ensures in

@@ -26,23 +26,20 @@ pub returns-in_err-rest-2 : goal.returns-in_err-rest-2
 returns-in_err-rest-2 c =
     let counted = c.len-count.ensures.value in
     let to = to_prices (to_number c.in-Some.ensures c.in-Some-read_settings.ensures counted c.in_ok-rest.ensures) c.in-Ok.ensures in
-    let fits : FitsSigned w32 c.sum.result = search rules in
     let p = err_from_is_err_and c.from_residual-in_err-rest-2.result c.from_residual-in_err-rest-2.ensures.1 in
     rw (p.1, p.2)
-    (other_sum to (to_z-of_z w32 c.sum.result fits ∙ c.sum.ensures) (omega (arith, counted, c.line_count.ensures.value)) c.in_err-rest-2.ensures)
+    (other_sum to (to_z-of_z w32 c.sum.result (search rules) ∙ c.sum.ensures) (omega (arith, counted, c.line_count.ensures.value)) c.in_err-rest-2.ensures)
 
 pub returns-then-not-is_empty : goal.returns-then-not-is_empty
 returns-then-not-is_empty c =
     let counted = c.len-count.ensures.value in
     let to = to_prices (to_number c.in-Some.ensures c.in-Some-read_settings.ensures counted c.in_ok-rest.ensures) c.in-Ok.ensures in
-    let fits : FitsSigned w32 c.sum.result = search rules in
-    AtEnd _ _ _ _ (to_end c.in_ok-rest-2.rest.now to (to_z-of_z w32 c.sum.result fits ∙ c.sum.ensures) c.in_ok-rest-2.ensures)
+    AtEnd _ _ _ _ (to_end c.in_ok-rest-2.rest.now to (to_z-of_z w32 c.sum.result (search rules) ∙ c.sum.ensures) c.in_ok-rest-2.ensures)
     (λ none. false≢true (sym c.if-not-is_empty.true ∙ c.is_empty.ensures ∙ ap (λ l. eqb (length l) 0) none)) refl
 
 pub returns : goal.returns
 returns c =
     let counted = c.len-count.ensures.value in
     let to = to_prices (to_number c.in-Some.ensures c.in-Some-read_settings.ensures counted c.in_ok-rest.ensures) c.in-Ok.ensures in
-    let fits : FitsSigned w32 c.sum.result = search rules in
-    no_more (to_end c.in_ok-rest-2.rest.now to (to_z-of_z w32 c.sum.result fits ∙ c.sum.ensures) c.in_ok-rest-2.ensures)
+    no_more (to_end c.in_ok-rest-2.rest.now to (to_z-of_z w32 c.sum.result (search rules) ∙ c.sum.ensures) c.in_ok-rest-2.ensures)
     (nothing c.in_ok-rest-2.rest.now (sym c.is_empty.ensures ∙ c.if-not-is_empty.false))
