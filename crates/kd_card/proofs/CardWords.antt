@@ -1,6 +1,6 @@
 -- What stands in a card's lines are words, and its numbers have the keywords that are read.
-use Rattle.std.proofs.Common.{codes, ◌≡◌, ◌≢◌, ℕ, zero, suc, ◌+◌, ◌*◌, ◌^◌, ◌<◌, ◌≤◌, inl, inr, true, List, [], ◌∷◌, ◌++◌, length, map, get_or, fold, decimal, refl, ap, arith, ℤ, pos, negsuc, ◌+ℤ◌, unsigned_abs, length-append, eqb, sym, subst, ◌∙◌}
-use Rattle.std.specs.List.{All, AllByRecursion}
+use Rattle.std.proofs.Common.{codes, ◌≡◌, ◌≢◌, ℕ, zero, suc, ◌+◌, ◌*◌, ◌^◌, ◌<◌, ◌≤◌, inl, inr, true, List, [], ◌∷◌, ◌++◌, length, map, get_or, fold, decimal, refl, ap, arith, ℤ, pos, negsuc, ◌+ℤ◌, unsigned_abs, length-append, eqb, ltb, sym, subst, ◌∙◌}
+use Rattle.std.specs.List.{All, AllByRecursion, list_all}
 use Rattle.std.specs.Int.{IsInRange}
 use Rattle.std.specs.Str.Parse.{digits_value}
 use Rattle.std.specs.Fmt.{signed_decimal}
@@ -18,7 +18,7 @@ use Rattle.kd_card.specs.declared.group.Group.{Group}
 use Rattle.kd_card.specs.declared.group.Group.TheVariants.{OfCables, OfBars}
 use Rattle.kd_card.specs.CardText.{row_word, column_word, version_text, head_words, settings_words, price_words, sum_words, lines_text, price_lines, card_text, IsCard}
 use Rattle.kd_card.specs.CardFault.{IsDigit, IsNumberText, IsSignedText, with_line, sum_line, ToSettings, ToNumber, ToPrices, IsValueFault, IsPricesFault, AreColumns, EndsPrices, IsCardFault, AtNumber, AtRows, AtColumns, AtGroup, AtRowKinds, AtColumnKinds, AtSum}
-use Rattle.kd_card.proofs.Lines.{is_above, bytes_above, card_and_more}
+use Rattle.kd_card.proofs.Lines.{bytes_above, card_and_more}
 use Rattle.std.proofs.lemmas.List.{append-nil}
 use Rattle.std.proofs.lemmas.Bool.{eqb-true}
 use Rattle.kd_state.specs.declared.setting.Setting.{Setting}
@@ -38,8 +38,8 @@ word_by_bytes word filled a = record {
 pub bytes_are_word : (b : ℕ) (bs : List ℕ) → AllByRecursion (λ c. 32 < c) (b ∷ bs) → IsWord (b ∷ bs)
 bytes_are_word b bs above = word_by_bytes (b ∷ bs) (λ none. cc) (All-from_recursion (λ c. 32 < c) (b ∷ bs) above)
 
-pub word_by_test : (b : ℕ) (bs : List ℕ) → is_above 32 (b ∷ bs) ≡ true → IsWord (b ∷ bs)
-word_by_test b bs e = bytes_are_word b bs (bytes_above 32 (b ∷ bs) e)
+pub word_by_test : (b : ℕ) (bs : List ℕ) → list_all (ltb 32) (b ∷ bs) ≡ true → IsWord (b ∷ bs)
+word_by_test b bs e = word_by_bytes (b ∷ bs) (λ none. cc) (bytes_above 32 (b ∷ bs) e)
 
 below_zero : (word : List ℕ) → IsWord word → IsWord (45 ∷ word)
 below_zero word w = record {

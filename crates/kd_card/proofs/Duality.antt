@@ -4,7 +4,7 @@ use Rattle.std.specs.List.{AllByRecursion, AllZip}
 use Rattle.std.specs.List as lists
 use Rattle.std.proofs.lemmas.Int.{ints}
 use borrow.Author.Differences.{up, down}
-use Rattle.std.proofs.lemmas.List.Sums.{sum_by-cons}
+use Rattle.std.proofs.lemmas.List.Sums.{fold-append, sum_by-cons}
 use Rattle.std.proofs.lemmas.List.Sorted.{sum_by-IsPermutation, All-permutation, IsPermutation-keeps, IsPermutation-refl, IsPermutation-trans, IsPermutation-swap}
 use Rattle.std.proofs.lemmas.Slice.Zip.{AllZip-long}
 use Rattle.std.proofs.lemmas.List.Elements.{All-from_recursion, recursion_from_All}
@@ -18,12 +18,12 @@ fold_from : (start : ℤ) (xs : List ℤ) → fold (λ sum price. sum +ℤ price
 fold_from start [] = omega (arith, ints)
 fold_from start (x ∷ xs) = let e = fold_from (start +ℤ x) xs in omega (arith, ints)
 
-sum_of-append : (xs ys : List ℤ) → sum_of (xs ++ ys) ≡ (sum_of xs +ℤ sum_of ys)
-sum_of-append [] ys = omega (arith, ints)
-sum_of-append (x ∷ xs) ys = let e = sum_of-append xs ys in omega (arith, ints)
-
 pub fold_of_both : (rows columns : List ℤ) → fold (λ sum price. sum +ℤ price) (pos 0) (rows ++ columns) ≡ (sum_of rows +ℤ sum_of columns)
-fold_of_both rows columns = let e = fold_from (pos 0) (rows ++ columns) in let f = sum_of-append rows columns in omega (arith, ints)
+fold_of_both rows columns =
+    let both = fold-append (λ sum price. sum +ℤ price) (pos 0) rows columns in
+    let first = fold_from (pos 0) rows in
+    let second = fold_from (fold (λ sum price. sum +ℤ price) (pos 0) rows) columns in
+    omega (arith, ints)
 
 module _ {B : Type 0} where
   -- the prices that stand with columns

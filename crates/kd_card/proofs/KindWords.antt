@@ -1,6 +1,6 @@
 -- The words of kinds' lines, and the looks that they tell.
-use Rattle.std.proofs.Common.{codes, ◌≡◌, ◌≢◌, ℕ, ◌+◌, ◌<◌, ◌≤◌, true, List, [], ◌∷◌, ◌++◌, length, get_or, ℤ, Option, Some, None, refl, sym, ap, ◌∙◌, append_assoc, length-append, arith, map, decimal, Bor}
-use Rattle.std.specs.List.{All, find}
+use Rattle.std.proofs.Common.{ltb, codes, ◌≡◌, ◌≢◌, ℕ, ◌+◌, ◌<◌, ◌≤◌, true, List, [], ◌∷◌, ◌++◌, length, get_or, ℤ, Option, Some, None, refl, sym, ap, ◌∙◌, append_assoc, length-append, arith, map, decimal, Bor}
+use Rattle.std.specs.List.{All, find, list_all}
 use Rattle.std.specs.Option.{unwrap_or}
 use Rattle.std.specs.Str.{bytes_eq}
 use Rattle.std.proofs.lemmas.Fmt.{decimal_injective, signed_decimal_injective}
@@ -16,7 +16,7 @@ use Rattle.kd_card.specs.declared.look.Name.TheVariants as names
 use Rattle.kd_card.specs.declared.kinds.PricedKind.{PricedKind}
 use Rattle.kd_card.specs.Kinds.{look_name, name_text, look_text, look_rank, ends_rank, pair_rank, kind_words, AreEnds, IsPairInOrder, IsInForm, IsPricedKind, kinds_text, HasLook, HasKindWords}
 use Rattle.kd_card.specs.Laws.{RanksTellLooks}
-use Rattle.kd_card.proofs.Lines.{Laws, is_above, bytes_above, line_has_words, same_words}
+use Rattle.kd_card.proofs.Lines.{Laws, bytes_above, line_has_words, same_words}
 use Rattle.kd_card.proofs.CardWords.{word_by_bytes, bytes_are_word, word_by_test, signed_word}
 use Rattle.kd_card.proofs.PriceTexts.{small}
 use Rattle.std.specs.Fmt.{signed_decimal}
@@ -42,7 +42,7 @@ rank_back : ℕ → Place
 rank_back rank = get_or places rank One
 
 -- a place is told by its text and by its rank, of which there are 8, and no byte of the text is - or comes before it
-about_place : (p : Place) → (place_back (place_text p) ≡ p) × (rank_back (place_rank p) ≡ p) × (place_rank p < 8) × (is_above 45 (place_text p) ≡ true)
+about_place : (p : Place) → (place_back (place_text p) ≡ p) × (rank_back (place_rank p) ≡ p) × (place_rank p < 8) × (list_all (ltb 45) (place_text p) ≡ true)
 unfolding place_back rank_back
 about_place One = (refl, refl, omega arith, refl)
 about_place p = (refl, refl, omega arith, refl)
@@ -57,7 +57,7 @@ pub low_rank : (p : Place) → place_rank p < 8
 low_rank p = (about_place p).2
 
 place_above : (p : Place) → All (λ b. 45 < b) (place_text p)
-place_above p = All-from_recursion (λ b. 45 < b) (place_text p) (bytes_above 45 (place_text p) (about_place p).3)
+place_above p = bytes_above 45 (place_text p) (about_place p).3
 
 -- ---- words
 

@@ -1,6 +1,6 @@
 -- Lines of words, as they are written and as they are split.
 use Rattle.std.proofs.Common.{◌≡◌, ◌≢◌, ℕ, ◌<◌, Bool, true, false, ◌&&◌, eqb, ltb, List, [], ◌∷◌, ◌++◌, length, map, get_or, take, drop, refl, sym, ap, subst, ◌∙◌, append_assoc, length-append, arith, ℤ}
-use Rattle.std.specs.List.{All, AllByRecursion, flat_map}
+use Rattle.std.specs.List.{All, list_all, flat_map}
 use Rattle.std.specs.Fmt.{signed_decimal}
 use Rattle.std.specs.Cmp.Lexicographic.{same_text, other_text}
 use Rattle.std.proofs.Math.Seq.{take-append_seam}
@@ -8,6 +8,7 @@ use lib.Pointwise.{pointwise}
 use Rattle.std.proofs.lemmas.Bool.{ne_eqb, ltb-true, false≢true}
 use Rattle.std.proofs.lemmas.List.{append-nil, append_cancel_left, get_or_at, take-append-drop}
 use Rattle.std.proofs.lemmas.List.Concat.{flat_map-append}
+use Rattle.std.proofs.lemmas.List.Sums.{AllPass-from_list_all}
 use Rattle.std.proofs.lemmas.List.Elements.{All-weaker, All-append, All-push, All-from_recursion}
 use Rattle.std.proofs.lemmas.List.Folds.{flat_map-map}
 use Rattle.std.proofs.lemmas.List.Splits.{slice_split_none, slice_split_at}
@@ -101,23 +102,11 @@ same_first_part tells first second = tells _ _ _ _ _ first.without second.withou
 
 -- ---- texts without LF
 
-abbrev pub is_above : ℕ → List ℕ → Bool
-is_above low [] = true
-is_above low (b ∷ bs) = ltb low b && is_above low bs
+pub bytes_above : (low : ℕ) (text : List ℕ) → list_all (ltb low) text ≡ true → All (λ b. low < b) text
+bytes_above low text e = All-weaker (λ b. ltb low b ≡ true) (λ b. low < b) (λ b. ltb-true low b) text (AllPass-from_list_all (ltb low) text e)
 
-byte_above : (low b : ℕ) (t rest : Bool) → ltb low b ≡ t → (t && rest) ≡ true → (low < b) × (rest ≡ true)
-byte_above low b true rest is e = (ltb-true low b is, e)
-byte_above low b false rest is e = absurd (false≢true e)
-
-pub bytes_above : (low : ℕ) (text : List ℕ) → is_above low text ≡ true → AllByRecursion (λ b. low < b) text
-bytes_above low [] e = tt
-bytes_above low (b ∷ bs) e =
-    let parts : (low < b) × (is_above low bs ≡ true) = byte_above low b (ltb low b) (is_above low bs) refl e in
-    (parts.0, bytes_above low bs parts.1)
-
-pub unbroken_by_test : (text : List ℕ) → is_above 10 text ≡ true → IsWithout 10 text
-unbroken_by_test text e =
-    All-weaker (λ b. 10 < b) (λ b. b ≢ 10) (λ b above same. omega (arith, above, same)) text (All-from_recursion (λ b. 10 < b) text (bytes_above 10 text e))
+pub unbroken_by_test : (text : List ℕ) → list_all (ltb 10) text ≡ true → IsWithout 10 text
+unbroken_by_test text e = All-weaker (λ b. 10 < b) (λ b. b ≢ 10) (λ b above same. omega (arith, above, same)) text (bytes_above 10 text e)
 
 -- ---- a name and a value
 

@@ -172,13 +172,11 @@ model_of-changed (Rotor m) (Pull cable letter) = refl
 model_of-changed (Pin m) (Pull cable letter) = refl
 model_of-changed m x = refl
 
-other_cables : (m : RotorParts) (cables : List (Option ℕ × Option ℕ)) (s : Day) → loose_count (Rotor (record m { cables = cables })) s ≡ loose_count (Rotor m) s
-other_cables m cables (OfRotors s) = refl
-other_cables m cables (OfPins s) = refl
-
 pub leaves : (m : Parts) (s : Day) (x : Setting) → is_priced x ≡ true → loose_count (changed m x) s ≡ loose_count m s
-leaves (Rotor m) s (Pull cable letter) e = other_cables m (set m.cables (cable - 1) (cable_without letter (cable_at m cable))) s
-leaves (Rotor m) s (Put cable letter) e = other_cables m (set m.cables (cable - 1) (cable_with letter (cable_at m cable))) s
+leaves (Rotor m) (OfRotors s) (Pull cable letter) e = refl
+leaves (Rotor m) (OfRotors s) (Put cable letter) e = refl
+leaves (Rotor m) (OfPins s) (Pull cable letter) e = refl
+leaves (Rotor m) (OfPins s) (Put cable letter) e = refl
 leaves (Rotor m) s (LugTo bar lug place) e = refl
 leaves (Pin m) s (Pull cable letter) e = refl
 leaves (Pin m) s (Put cable letter) e = refl

@@ -543,14 +543,13 @@ module _ (k : Known) where
   value_is_sure {IsForm} {name} {due} {line} {bytes} words named form = record {
     one = λ rest more a b. (same_words k.laws (value_line name due rest named (words due form) a) (value_line name due more named (words due form) b)).1;
     reason = one_value_fault;
-    either = no_value_fault;
-  }
-    where
-      no_value_fault : (rest : List ℕ) (fault : CardFault) → bytes ≡ with_line (name ∷ due ∷ []) rest → ¬ (IsValueFault IsForm name due line bytes fault)
-      no_value_fault rest fault e (OtherValue value more f other differs w) =
+    either = λ rest fault e wrong. elim wrong [
+      | OtherValue value more f other differs w ↦
           let same = same_words k.laws (value_line name due rest named (words due form) e) (value_line name value more named (words value other) f) in
           differs (ap (λ w. get_or w 1 []) (sym same.0))
-      no_value_fault rest fault e (NoValue none w) = none due rest form e
+      | NoValue none w ↦ none due rest form e
+    ];
+  }
 
   -- ---- the card
 
