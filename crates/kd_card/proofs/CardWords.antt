@@ -217,15 +217,3 @@ no_more {day} {xs} {prices} {rest} to none = record {
 pub nothing : (bytes : List ℕ) → eqb (length bytes) 0 ≡ true → bytes ≡ []
 nothing [] e = refl
 nothing (byte ∷ bytes) e = absurd (omega (arith, eqb-true (length (byte ∷ bytes)) 0 e))
-
--- a card that these bytes follow
-pub goes_to_prices : {text : List ℕ} {day : ℕ} {xs : List Setting} {prices : PriceParts} (rest : List ℕ) → IsCard text day xs prices
-    → EndsPrices prices (with_line (sum_words (price_sum prices)) rest) → ToPrices (text ++ rest) day xs prices (with_line (sum_words (price_sum prices)) rest)
-goes_to_prices {day} {xs} {prices} rest card ends = record {
-  before = record {
-    before = record { text = ap (λ t. t ++ rest) card.text ∙ card_and_more day xs prices rest; of_month = card.of_month; in_range = card.in_range };
-    few = card.few;
-  };
-  are_prices = card.are_prices;
-  ends = ends;
-}

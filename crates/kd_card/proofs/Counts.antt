@@ -114,19 +114,14 @@ same_but-sym x letters others same letter = elim (same letter) [ inl e ↦ inl (
 abbrev IsPulled : List ℕ → List ℕ → Type 0
 IsPulled letters fewer = (fewer ≡ letters) ⊎ ((x : ℕ) × HasOneMore x fewer letters)
 
-pulled_single : (b : Bool) (a : ℕ) → IsPulled (a ∷ []) (cable_letters (cond b (None, None) (Some a, None)))
-pulled_single true a = inr (a, inl refl)
-pulled_single false a = inl refl
-
-pulled_pair : (b : Bool) (a c : ℕ) → IsPulled (a ∷ c ∷ []) (cable_letters (cond b (Some c, None) (Some a, None)))
-pulled_pair true a c = inr (a, inl refl)
-pulled_pair false a c = inr (c, inr refl)
-
 pub pulled : (letter : ℕ) (cable : Option ℕ × Option ℕ) → IsPulled (cable_letters cable) (cable_letters (cable_without letter cable))
 pulled letter (None, None) = inl refl
 pulled letter (None, Some b) = inr (b, inl refl)
-pulled letter (Some a, None) = pulled_single (nat_eq letter a) a
-pulled letter (Some a, Some b) = pulled_pair (nat_eq letter a) a b
+pulled letter (Some a, None) =
+    elim (nat_eq letter a) as (λ b. IsPulled (a ∷ []) (cable_letters (cond b (None, None) (Some a, None)))) [ true ↦ inr (a, inl refl) | false ↦ inl refl ]
+pulled letter (Some a, Some c) =
+    elim (nat_eq letter a) as (λ b. IsPulled (a ∷ c ∷ []) (cable_letters (cond b (Some c, None) (Some a, None))))
+    [ true ↦ inr (a, inl refl) | false ↦ inr (c, inr refl) ]
 
 -- A letter is put into a cable with a loose end: the cable has one letter more.
 beside : (b : Bool) (a letter : ℕ) → HasOneMore letter (a ∷ []) (cable_letters (cond b (Some a, Some letter) (Some letter, Some a)))

@@ -91,12 +91,6 @@ more_sum sum kinds kind =
     ∙ fold-append _ sum (prices_of_kinds kinds) copies
     ∙ fold_of_copies (fold (λ sum price. sum +ℤ price) sum (prices_of_kinds kinds)) kind.count kind.price
 
-pub product_bound : (count : ℕ) (price : ℤ) → unsigned_abs price ≤ 9999 → unsigned_abs (pos count *ℤ price) ≤ 9999 * count
-product_bound count price within =
-    let product = unsigned_abs-mul (pos count) price in
-    let most : count * unsigned_abs price ≤ count * 9999 = mul-le-mul_left count within in
-    omega (arith, product, most)
-
 -- ---- kinds, walked along
 
 -- the kinds so far are in order, the next has at least this rank, and they are of so many things
@@ -160,7 +154,8 @@ sums_on sum total more kinds i {kind} inside is are few small value bound produc
     let before = ap counted (take-append-drop (i + 1) kinds) in
     let rest = counted-append (take (i + 1) kinds) (drop (i + 1) kinds) in
     let good = (good_at kinds i inside is are).0 in
-    let here : unsigned_abs more ≤ 9999 * kind.count = rw product (product_bound kind.count kind.price good.reach) in
+    let most_in_all : kind.count * unsigned_abs kind.price ≤ kind.count * 9999 = mul-le-mul_left kind.count good.reach in
+    let here : unsigned_abs more ≤ 9999 * kind.count = rw product (omega (arith, unsigned_abs-mul (pos kind.count) kind.price)) in
     let most = good.most in
     let both : unsigned_abs (total +ℤ more) ≤ unsigned_abs total + unsigned_abs more = omega (arith, ints) in (
       fits_signed_from_abs w32 more (omega arith),
@@ -205,16 +200,3 @@ reads_on {name} {line} {text} {after} {total} {at} {count} {rank} {kept} {kind} 
       walked = walked;
       at_is = omega (arith, length-append kept (kind ∷ []));
     })
-
--- all kinds of a group are kept
-pub all_kept : {name : Name} {line number : ℕ} {text rest : List ℕ} {floor total at : ℕ} {kept : List PricedKind}
-    → HasRead name line text rest floor total at kept → EndsGroup name rest → total ≡ number → BeginsWithGroup name number text kept rest
-all_kept read ends count = record { begins = read.begins; ends = ends; count = sym read.walked.total_is ∙ count }
-
-pub bad_kind : {name : Name} {line number : ℕ} {text rest : List ℕ} {floor total at : ℕ} {kept : List PricedKind} {fault : CardFault}
-    → HasRead name line text rest floor total at kept → IsBadKind name floor at rest fault → IsGroupFault name number line text fault
-bad_kind {rest} {kept} read bad = AtKind kept rest read.begins (rw (← read.at_is, ← read.walked.floor_is) bad)
-
-pub bad_count : {name : Name} {line number : ℕ} {text rest : List ℕ} {floor total at : ℕ} {kept : List PricedKind}
-    → HasRead name line text rest floor total at kept → EndsGroup name rest → total ≢ number → IsGroupFault name number line text PriceMissing
-bad_count {rest} {kept} read ends differs = AtCount kept rest read.begins ends (λ count. differs (read.walked.total_is ∙ count)) refl

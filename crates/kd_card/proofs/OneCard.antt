@@ -27,9 +27,9 @@ use Rattle.kd_card.specs.CardText.{group_of, row_word, column_word, row_name, co
 use Rattle.kd_card.specs.CardFault.{with_line, sum_line, IsNumberText, IsSignedText, IsPriceText, IsCountFault, ToSettings, ToNumber, ToPrices, HasWords, IsValueFault, OtherValue, NoValue, IsPricesFault, NoLine, NoEnd, OtherWord, OtherPrices, AreRows, AreColumns, BeginsWithWord, BeginsWithName, IsUnended, EndsGroup, AtNothing, AtOther, IsNextKind, IsBadKind, Unended, NoKind, floor_behind, BeginsWithKinds, IsGroupFault, AtKind, AtCount, BeginsWithGroup, NoGroup, NoGroupEnd, OtherGroup, EndsPrices, IsCardFault, AtHead, AtSettings, AtNumber, AtRows, AtColumns, AtGroup, AtRowKinds, AtColumnKinds, AtSum, AtEnd}
 use Rattle.kd_card.specs.Reading.{BeginsWithHead, BeginsWithTooMany, BeginsWithSettings, BeginsWithPrices, BeginsWithAll, LacksPrices, InRows, InColumns, InGroup, InRowKinds, InColumnKinds}
 use Rattle.kd_card.specs.Laws.{TextsTellCards, NoCardBeginsAnother, CardsHaveNoFault, OneCardFault}
-use Rattle.kd_card.proofs.Lines.{Laws, line_has_words, same_words, no_first_part, text_of_more, two_lines}
+use Rattle.kd_card.proofs.Lines.{Laws, line_has_words, same_words, no_first_part, text_of_more, two_lines, card_and_more}
 use Rattle.kd_card.proofs.PriceTexts.{small, all_price_texts}
-use Rattle.kd_card.proofs.CardWords.{word_by_test, number_word, signed_text_word, signed_word, head_is_words, row_is_word, column_is_word, prices_are_words, number_text, signed_text, price_sum_is_small, goes_to_prices}
+use Rattle.kd_card.proofs.CardWords.{word_by_test, number_word, signed_text_word, signed_word, head_is_words, row_is_word, column_is_word, prices_are_words, number_text, signed_text, price_sum_is_small}
 use Rattle.kd_card.proofs.KindWords.{kind_is_words, same_kind as known_kind}
 use Rattle.kd_card.proofs.KindPrices.{text_of_more_kinds, text_by_kind, both_groups, same_kind_parts}
 
@@ -593,7 +593,14 @@ module _ (k : Known) where
 
   goes_on : {text : List ℕ} {day : ℕ} {xs : List Setting} {prices : PriceParts} (rest : List ℕ) → IsCard text day xs prices
       → ToPrices (text ++ rest) day xs prices (with_line (sum_words (price_sum prices)) rest)
-  goes_on {prices} rest card = goes_to_prices rest card (sum_ends prices (price_sum prices) rest (price_sum_is_small prices card.are_prices))
+  goes_on {day} {xs} {prices} rest card = record {
+    before = record {
+      before = record { text = ap (λ t. t ++ rest) card.text ∙ card_and_more day xs prices rest; of_month = card.of_month; in_range = card.in_range };
+      few = card.few;
+    };
+    are_prices = card.are_prices;
+    ends = sum_ends prices (price_sum prices) rest (price_sum_is_small prices card.are_prices);
+  }
 
   fault_says : (bytes : List ℕ) (fault : CardFault) → IsCardFault bytes fault → CardSays bytes (Err fault)
   fault_says bytes fault (AtHead none is) = Refused fault (none, is) refl

@@ -1,9 +1,11 @@
-use Rattle.std.proofs.Common.{◌<◌, length, arith}
-use Rattle.kd_card.proofs.KindLists.{reads_on, walk_bounds, all_kept, bad_kind, bad_count}
+use Rattle.std.proofs.Common.{◌<◌, ◌∙◌, length, refl, sym, arith}
+use Rattle.kd_card.specs.CardFault.{AtKind, AtCount}
+use Rattle.kd_card.proofs.KindLists.{reads_on, walk_bounds}
 use Rattle.kd_card.proofs.kind_text.read_kinds.Goals as goal
 
 pub returns-in-Err : goal.returns-in-Err
-returns-in-Err c = bad_kind c.kind.invariant c.in-Err.ensures
+returns-in-Err c =
+    AtKind _ _ c.kind.invariant.begins (rw (← c.kind.invariant.at_is, ← c.kind.invariant.walked.floor_is) c.in-Err.ensures)
 
 pub overflow_add-total : goal.overflow_add-total
 overflow_add-total c =
@@ -29,7 +31,12 @@ kind-preserved c =
     reads_on c.kind.invariant next c.rank-floor.ensures.value c.from-total.ensures c.push.ensures.items
 
 pub returns-then-total-number : goal.returns-then-total-number
-returns-then-total-number c = all_kept c.kind.invariant (rw c.in_default.is at c.in-Ok.ensures) c.if-total-number.true
+returns-then-total-number c = record {
+  begins = c.kind.invariant.begins;
+  ends = rw c.in_default.is at c.in-Ok.ensures;
+  count = sym c.kind.invariant.walked.total_is ∙ c.if-total-number.true;
+}
 
 pub returns-else-total-number : goal.returns-else-total-number
-returns-else-total-number c = bad_count c.kind.invariant (rw c.in_default.is at c.in-Ok.ensures) c.if-total-number.false
+returns-else-total-number c =
+    AtCount _ _ c.kind.invariant.begins (rw c.in_default.is at c.in-Ok.ensures) (λ count. c.if-total-number.false (c.kind.invariant.walked.total_is ∙ count)) refl
