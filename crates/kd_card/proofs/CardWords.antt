@@ -213,7 +213,3 @@ no_more {day} {xs} {prices} {rest} to none = record {
   few = to.before.few;
   are_prices = to.are_prices;
 }
-
-pub nothing : (bytes : List ℕ) → eqb (length bytes) 0 ≡ true → bytes ≡ []
-nothing [] e = refl
-nothing (byte ∷ bytes) e = absurd (omega (arith, eqb-true (length (byte ∷ bytes)) 0 e))

@@ -72,12 +72,6 @@ module _ {A B : Type 0} (cost : A → B → ℕ) where
       tight_at rows prices ws i a w (omega arith) (omega arith) (without_first cost rows prices v ws h.1) (omega (arith, ints)) (omega arith)
   tight_at rows prices ws i a w e f h sum lt = absurd (omega arith)
 
-  -- a read of the table
-  table_at : (rows : List A) (columns : List B) (i j : ℕ) (a : A) (b : B) → i < length rows → j < length columns
-      → get_or (get_or (map (λ row. map (cost row) columns) rows) i []) j 0 ≡ cost (get_or rows i a) (get_or columns j b)
-  table_at rows columns i j a b lt lt' =
-      ap (λ row. get_or row j 0) (get_or-map (λ row. map (cost row) columns) rows i a [] lt) ∙ get_or-map (cost (get_or rows i a)) columns j b 0 lt'
-
 -- What the machine's cables or bars cost at the day's columns or rows, with prices that fit. The columns can be put beside the
 -- rows so that the settings pay for all that this costs, and there are at least as many as that and the loose things.
 module _ {A B : Type 0} (cost : A → B → ℕ) (number : ℕ) (rows : List A) (row_prices : List ℤ) (columns : List B) (prices : List ℤ) (loose : ℕ)
@@ -130,7 +124,8 @@ module _ {A B : Type 0} (cost : A → B → ℕ) (number : ℕ) (rows : List A) 
           let tight =
           tight_at cost rows row_prices h.beside i a (b, pos 0) (h.rows_count ∙ sym size) (h.rows_count ∙ sym h.row_prices_count) fit enough (omega (arith, h.rows_count)) in
           subst (IsTight cost (get_or rows i a) (get_or row_prices i (pos 0))) e tight
-          ∙ ap pos (sym (table_at cost rows columns i j a b (omega (arith, h.rows_count)) (omega (arith, h.columns_count))))
+          ∙ ap pos (sym (ap (λ row. get_or row j 0) (get_or-map (λ row. map (cost row) columns) rows i a [] (omega (arith, h.rows_count)))
+          ∙ get_or-map (cost (get_or rows i a)) columns j b 0 (omega (arith, h.columns_count))))
 
       column_for : (i : ℕ) → i < number → (j : ℕ) × (j < number) × TightIn i j
       column_for i lt =

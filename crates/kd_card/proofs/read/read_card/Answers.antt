@@ -1,10 +1,11 @@
 use Rattle.std.proofs.Common.{rules, ◌+◌, ◌∙◌, eqb, length, sym, ap, refl, subst, FitsSigned, w32, arith}
-use Rattle.std.proofs.lemmas.Bool.{false≢true}
+use Rattle.std.proofs.lemmas.Bool.{eqb-true, false≢true}
+use Rattle.std.proofs.lemmas.List.{nil_from_length}
 use Rattle.std.proofs.lemmas.Int.{to_z-of_z}
 use Rattle.std.proofs.lemmas.Result.{err_from_is_err_and}
 use Rattle.kd_card.specs.CardFault.{AtHead, AtSettings, AtEnd}
 use Rattle.kd_card.specs.Reading.{LacksPrices}
-use Rattle.kd_card.proofs.CardWords.{to_settings, to_number, to_prices, to_end, other_number, no_prices, other_sum, no_more, nothing}
+use Rattle.kd_card.proofs.CardWords.{to_settings, to_number, to_prices, to_end, other_number, no_prices, other_sum, no_more}
 use Rattle.kd_card.proofs.read.read_card.Goals as goal
 
 pub returns-in_default-read_settings : goal.returns-in_default-read_settings
@@ -42,4 +43,4 @@ returns c =
     let counted = c.len-count.ensures.value in
     let to = to_prices (to_number c.in-Some.ensures c.in-Some-read_settings.ensures counted c.in_ok-rest.ensures) c.in-Ok.ensures in
     no_more (to_end c.in_ok-rest-2.rest.now to (to_z-of_z w32 c.sum.result (search rules) ∙ c.sum.ensures) c.in_ok-rest-2.ensures)
-    (nothing c.in_ok-rest-2.rest.now (sym c.is_empty.ensures ∙ c.if-not-is_empty.false))
+    (nil_from_length c.in_ok-rest-2.rest.now (eqb-true _ 0 (sym c.is_empty.ensures ∙ c.if-not-is_empty.false)))
