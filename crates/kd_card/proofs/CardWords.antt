@@ -132,8 +132,6 @@ few_prices prices = omega arith
 
 pub price_sum_is_small : (prices : PriceParts) → ArePrices prices → unsigned_abs (price_sum prices) < 2 ^ 64
 price_sum_is_small prices p =
-    let rows = p.rows in
-    let columns = p.columns in
     let all = row_prices prices ++ column_prices prices in
     let reach = All-append (λ price. unsigned_abs price ≤ 9999) (row_prices prices) (column_prices prices) p.row_reach p.column_reach in
     let bound = sum_bound (pos 0) all (recursion_from_All _ all reach) in

@@ -115,7 +115,6 @@ module _ {A B : Type 0} (cost : A → B → ℕ) where
       → (sum_of prices +ℤ prices_with ws) ≤ℤ pos (pairing_cost rows ws)
   fitting_prices [] [] [] e h = omega (arith, ints)
   fitting_prices (row ∷ rows) (price ∷ prices) (w ∷ ws) e h =
-      let head = h.0.0 in
       let rest = fitting_prices rows prices ws (omega arith) (without_first rows prices w ws h.1) in
       omega (arith, ints)
   fitting_prices [] (price ∷ prices) [] e h = absurd h

@@ -68,11 +68,7 @@ pub floor_bounds : (floor : ℕ) (kinds : List PricedKind) → AreKinds floor ki
 floor_bounds floor [] are = (omega arith, omega arith)
 floor_bounds floor (kind ∷ kinds) are =
     let rest = floor_bounds (look_rank kind.look + 1) kinds are.2 in
-    let most = are.0.most in
-    let above = are.1 in
-    let count = rest.0 in
-    let few = rest.1 in
-    (omega (arith, count, most, above), omega (arith, few, above))
+    (omega arith, omega arith)
 
 -- ---- sums
 
@@ -102,8 +98,6 @@ pub record Walked (kinds : List PricedKind) (floor total : ℕ) : Type 0 where
 walked_more : {kinds : List PricedKind} {floor total count rank : ℕ} {kind : PricedKind} → Walked kinds floor total → IsPricedKind kind → floor ≤ look_rank kind.look
     → rank ≡ look_rank kind.look → count ≡ kind.count → Walked (kinds ++ kind ∷ []) (rank + 1) (total + count)
 walked_more {kinds} {kind} walked good above ranked counts =
-    let so_far = walked.floor_is in
-    let sum = walked.total_is in
     record {
       in_order = more_kinds 0 kinds kind walked.in_order good (omega arith);
       floor_is = ap (λ r. r + 1) ranked ∙ sym (more_floor 0 kinds kind);
@@ -123,11 +117,7 @@ walks_on kinds i {total} {count} {rank} inside is walked may ranked counts =
 pub walk_bounds : {kinds : List PricedKind} {floor total : ℕ} → Walked kinds floor total → (total ≤ 255 * floor) × (length kinds ≤ floor) × (floor ≤ 703)
 walk_bounds {kinds} walked =
     let bounds = floor_bounds 0 kinds walked.in_order in
-    let few = bounds.0 in
-    let short = bounds.1 in
     let low = low_floor 0 kinds (omega arith) walked.in_order in
-    let so_far = walked.floor_is in
-    let sum = walked.total_is in
     (omega arith, omega arith, omega arith)
 
 pub good_at : (kinds : List PricedKind) (i : ℕ) {kind : PricedKind} → i < length kinds → kind ≡ get_or kinds i kind → AreKinds 0 kinds
@@ -156,7 +146,6 @@ sums_on sum total more kinds i {kind} inside is are few small value bound produc
     let good = (good_at kinds i inside is are).0 in
     let most_in_all : kind.count * unsigned_abs kind.price ≤ kind.count * 9999 = mul-le-mul_left kind.count good.reach in
     let here : unsigned_abs more ≤ 9999 * kind.count = rw product (omega (arith, unsigned_abs-mul (pos kind.count) kind.price)) in
-    let most = good.most in
     let both : unsigned_abs (total +ℤ more) ≤ unsigned_abs total + unsigned_abs more = omega (arith, ints) in (
       fits_signed_from_abs w32 more (omega arith),
       fits_signed_from_abs w32 (total +ℤ more) (omega arith),

@@ -42,8 +42,7 @@ reach_of_kinds floor (kind ∷ kinds) are =
 pub few_kinds : (floor : ℕ) (kinds : List PricedKind) → AreKinds floor kinds → length kinds ≤ counted kinds
 few_kinds floor [] are = omega arith
 few_kinds floor (kind ∷ kinds) are =
-    let some = are.0.some in
-    omega (arith, some, few_kinds (look_rank kind.look + 1) kinds are.2)
+    omega (arith, few_kinds (look_rank kind.look + 1) kinds are.2)
 
 pub too_long : {K : Type 0} (priced : K → PricedKind) (kinds : List K) {number : ℕ} → AreKinds 0 (map priced kinds)
     → length (prices_of_kinds (map priced kinds)) ≡ number → ¬ (number < length kinds)

@@ -84,10 +84,8 @@ look_is_word (Row numbers) = bytes_are_word _ _ (omega arith, (omega arith, (ome
 
 pub kind_is_words : NumbersAreWords → (kind : PricedKind) → IsPricedKind kind → All IsWord (kind_words kind)
 kind_is_words numbers kind good =
-    let most = good.most in
-    let reach = good.reach in
     All-from_recursion IsWord (kind_words kind)
-    (name_is_word (look_name kind.look), (look_is_word kind.look, (numbers kind.count (omega (arith, most)), (signed_word numbers kind.price (omega (arith, reach)), tt))))
+    (name_is_word (look_name kind.look), (look_is_word kind.look, (numbers kind.count (omega arith), (signed_word numbers kind.price (omega arith), tt))))
 
 -- ---- looks by their texts
 
@@ -130,12 +128,10 @@ same_look tells look other named x y e = cc
 
 pub same_kind : TextsTellFirstParts → (kind other : PricedKind) → IsPricedKind kind → IsPricedKind other → kind_words kind ≡ kind_words other → kind ≡ other
 same_kind tells kind other a b e =
-    let most = a.most in
-    let also = b.most in
     let names : look_name kind.look ≡ look_name other.look = same_name (look_name kind.look) (look_name other.look) (ap (λ w. get_or w 0 []) e) in
     let looks : kind.look ≡ other.look = same_look tells kind.look other.look names a.form b.form (ap (λ w. get_or w 1 []) e) in
     let counts : kind.count ≡ other.count =
-    decimal_injective kind.count other.count (omega (arith, most)) (omega (arith, also)) (ap (λ w. get_or w 2 []) e) in
+    decimal_injective kind.count other.count (omega arith) (omega arith) (ap (λ w. get_or w 2 []) e) in
     let prices : kind.price ≡ other.price =
     signed_decimal_injective kind.price other.price (small kind.price a.reach) (small other.price b.reach) (ap (λ w. get_or w 3 []) e) in
     let make : Look → ℕ → ℤ → PricedKind = λ look count price. record { look = look; count = count; price = price } in
@@ -163,8 +159,6 @@ ranks_tell_looks (Pair a) (Pair b) named x y e = ranked_pair a b x y e
 ranks_tell_looks (Bar (a, b)) (Bar (c, d)) named x y e =
     alike (λ m n. Bar (m, n)) (same_rank a c (omega (arith, low_rank b, low_rank d))) (same_rank b d (omega (arith, low_rank b, low_rank d)))
 ranks_tell_looks (Row (a, b)) (Row (c, d)) named x y e =
-    let within = x.within in
-    let also = y.within in
     alike (λ m n. Row (m, n)) (omega arith) (omega arith)
 ranks_tell_looks look other named x y e = cc
 
@@ -180,10 +174,8 @@ no_group first a b OfBars = b
 pub no_count : (name : Name) (look count price : List ℕ) → decimal 0 ≡ count
     → (kind : PricedKind) → ¬ (HasKindWords name (name_text name ∷ look ∷ count ∷ price ∷ []) kind)
 no_count name look count price zero kind has =
-    let most = has.good.most in
-    let some = has.good.some in
     let is : kind.count ≡ 0 = decimal_injective kind.count 0 (omega arith) (omega arith) (ap (λ w. get_or w 2 []) has.written ∙ sym zero) in
-    omega (arith, some, is)
+    omega arith
 
 module _ (laws : Laws) {name : Name} {text words rest : List ℕ} (ends : IsFirstPart 10 text words rest) where
   pub words_are : {floor : ℕ} {kind : PricedKind} {more : List ℕ} → IsNextKind name floor text kind more → HasKindWords name (words_of words) kind
@@ -199,7 +191,6 @@ module _ (laws : Laws) {name : Name} {text words rest : List ℕ} (ends : IsFirs
       → (other : PricedKind) (more : List ℕ) → ¬ (IsNextKind name floor text other more)
   low_next {kind} has ranked low other more next =
       let same : kind ≡ other = same_kind laws.first_parts kind other has.good next.good (has.written ∙ sym (words_are next).written) in
-      let above = next.above in
       omega (arith, ap (λ (k : PricedKind). look_rank k.look) same)
 
 -- four words

@@ -503,8 +503,6 @@ module _ (k : Known) where
   one_head : (bytes : List ℕ) (head other : Version × ℕ × List ℕ) → BeginsWithHead bytes head.0 head.1 head.2
       → BeginsWithHead bytes other.0 other.1 other.2 → head ≡ other
   one_head bytes (version, day, rest) (by, other, more) a b =
-      let last = a.of_month.last in
-      let most = b.of_month.last in
       let line = same_words k.laws (head_has_words a) (head_has_words b) in
       let versions : version ≡ by = known_version version by (ap (λ w. get_or w 1 []) line.0) in
       let days : day ≡ other = decimal_injective day other (omega arith) (omega arith) (ap (λ w. get_or w 3 []) line.0) in

@@ -68,7 +68,6 @@ module _ {A B : Type 0} (cost : A → B → ℕ) where
       let rest = fitting_prices cost rows prices ws (omega arith) (without_first cost rows prices v ws h.1) in
       omega (arith, ints)
   tight_at (row ∷ rows) (price ∷ prices) (v ∷ ws) (suc i) a w e f h sum lt =
-      let head = h.0.0 in
       tight_at rows prices ws i a w (omega arith) (omega arith) (without_first cost rows prices v ws h.1) (omega (arith, ints)) (omega arith)
   tight_at rows prices ws i a w e f h sum lt = absurd (omega arith)
 
@@ -236,7 +235,6 @@ needed_all m n s (x ∷ xs) leads needed =
 
 pub proving_cards_are_as_long : ProvingCardsAreAsLong
 proving_cards_are_as_long m s settings prices h =
-    let sum = h.sum in
     let whole = needed_all m h.leads.0 s settings h.leads.1 h.needed in
     let none = nothing_loose h.leads.0 s h.leads.2 in
     omega (arith, ints)

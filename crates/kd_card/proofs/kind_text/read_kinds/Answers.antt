@@ -11,7 +11,6 @@ pub overflow_add-total : goal.overflow_add-total
 overflow_add-total c =
     let bounds = walk_bounds c.kind.invariant.walked in
     let next = rw c.in-Some.is at c.in-Ok.ensures in
-    let most = next.good.most in
     omega (arith, bounds.0, bounds.2, c.from-total.ensures)
 
 pub push-requires : goal.push-requires

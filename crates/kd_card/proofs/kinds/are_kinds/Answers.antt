@@ -18,7 +18,6 @@ pub overflow_add-total : goal.overflow_add-total
 overflow_add-total c =
     let bounds = walk_bounds c.loop-kind.invariant in
     let may = c.may_follow.ensures.0 c.if-not-may_follow.false in
-    let most = may.0.most in
     omega (arith, bounds.0, bounds.2, c.from-total.ensures)
 
 pub loop-kind-preserved : goal.loop-kind-preserved

@@ -25,7 +25,6 @@ returns-in_err-columns c =
 pub read_kinds-requires-2-clause-near : goal.read_kinds-requires-2-clause-near
 read_kinds-requires-2-clause-near c =
     let begins = c.in_ok-rows.ensures in
-    let count = begins.count in
     omega (arith, few_kinds 0 c.in_ok-rows.rows.items begins.begins.in_order, few_prices_of c.in_ok-group.group)
 
 pub returns : goal.returns
