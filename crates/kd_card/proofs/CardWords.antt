@@ -1,5 +1,5 @@
 -- What stands in a card's lines are words, and its numbers have the keywords that are read.
-use Rattle.std.proofs.Common.{codes, ◌≡◌, ◌≢◌, ℕ, zero, suc, ◌+◌, ◌*◌, ◌^◌, ◌<◌, ◌≤◌, inl, inr, true, List, [], ◌∷◌, ◌++◌, length, map, get_or, fold, decimal, refl, ap, arith, ℤ, pos, negsuc, ◌+ℤ◌, unsigned_abs, length-append, eqb, ltb, sym, subst, ◌∙◌}
+use Rattle.std.proofs.Common.{codes, ◌≡◌, ◌≢◌, ℕ, zero, suc, ◌+◌, ◌*◌, ◌^◌, ◌<◌, ◌≤◌, inl, inr, true, List, [], ◌∷◌, ◌++◌, length, map, get_or, fold, decimal, refl, ap, arith, ℤ, pos, negsuc, ◌+ℤ◌, unsigned_abs, length-append, ltb, sym, subst, ◌∙◌}
 use Rattle.std.specs.List.{All, AllByRecursion, list_all}
 use Rattle.std.specs.Int.{IsInRange}
 use Rattle.std.specs.Str.Parse.{digits_value}
@@ -17,10 +17,9 @@ use Rattle.kd_card.specs.Prices.{row_prices, column_prices, how_many, price_sum,
 use Rattle.kd_card.specs.declared.group.Group.{Group}
 use Rattle.kd_card.specs.declared.group.Group.TheVariants.{OfCables, OfBars}
 use Rattle.kd_card.specs.CardText.{row_word, column_word, version_text, head_words, settings_words, price_words, sum_words, lines_text, price_lines, card_text, IsCard}
-use Rattle.kd_card.specs.CardFault.{IsDigit, IsNumberText, IsSignedText, with_line, sum_line, ToSettings, ToNumber, ToPrices, IsValueFault, IsPricesFault, AreColumns, EndsPrices, IsCardFault, AtNumber, AtRows, AtColumns, AtGroup, AtRowKinds, AtColumnKinds, AtSum}
+use Rattle.kd_card.specs.CardFault.{IsDigit, IsNumberText, IsSignedText, with_line, sum_line, ToSettings, ToNumber, ToPrices, IsValueFault, IsPricesFault, AreColumns, IsCardFault, AtNumber, AtRows, AtColumns, AtGroup, AtRowKinds, AtColumnKinds, AtSum}
 use Rattle.kd_card.proofs.Lines.{bytes_above, card_and_more}
 use Rattle.std.proofs.lemmas.List.{append-nil}
-use Rattle.std.proofs.lemmas.Bool.{eqb-true}
 use Rattle.kd_state.specs.declared.setting.Setting.{Setting}
 use Rattle.kd_state.specs.Line.{BeginsWith}
 use Rattle.kd_card.specs.declared.fault.CardFault.{CardFault}

@@ -1,7 +1,7 @@
 -- How often letters are among others.
-use Rattle.std.proofs.Common.{◌≡◌, ◌≢◌, ℕ, zero, suc, ◌+◌, ◌<◌, ◌≤◌, nat_eq, Bool, true, false, ◌||◌, cond, inl, inr, List, [], ◌∷◌, ◌++◌, AllPairs, count_by, refl, sym, ap, ◌∙◌, arith, nat_le, ◌⊎◌, Option, Some, None}
-use Rattle.std.specs.List.{AllByRecursion, IsDistinct, range_with_len}
-use Rattle.std.proofs.lemmas.Bool.{eqb-true, eq-eqb, false≢true, ne_eqb}
+use Rattle.std.proofs.Common.{◌≡◌, ◌≢◌, ℕ, zero, suc, ◌+◌, ◌≤◌, nat_eq, Bool, true, false, ◌||◌, cond, inl, inr, List, [], ◌∷◌, ◌++◌, AllPairs, count_by, refl, sym, ap, ◌∙◌, arith, nat_le, ◌⊎◌, Option, Some, None}
+use Rattle.std.specs.List.{AllByRecursion, IsDistinct}
+use Rattle.std.proofs.lemmas.Bool.{eqb-true, eq-eqb, false≢true, ne_eqb, or_parts}
 use Rattle.std.proofs.lemmas.Bool.Decides.{eqb_tells}
 use Rattle.std.proofs.lemmas.List.Elements.{recursion_from_All}
 use Rattle.std.proofs.lemmas.List.Sums.{sum_by-append, sum_by-cons}
@@ -56,14 +56,10 @@ pub once_in_alphabet : AreOnce alphabet
 once_in_alphabet = once_of_distinct alphabet (IsDistinct-from_count nat_eq_equiv alphabet refl)
 
 -- a letter that isn't among these, and one more
-or_false : (a b : Bool) → (a || b) ≡ false → (a ≡ false) × (b ≡ false)
-or_false true b e = absurd (false≢true (sym e))
-or_false false b e = (refl, e)
-
 not_among : (letters : List ℕ) (letter : ℕ) → has_letter letters letter ≡ false → AllByRecursion (λ other. letter ≢ other) letters
 not_among [] letter e = tt
 not_among (other ∷ letters) letter e =
-    let both = or_false (nat_eq other letter) (has_letter letters letter) e in (
+    let both = or_parts (nat_eq other letter) (has_letter letters letter) e in (
       elim (eqb_tells other letter) [ inl same ↦ absurd (false≢true (sym both.0 ∙ same.0)) | inr away ↦ λ same. away.1 (sym same) ],
       not_among letters letter both.1,
     )

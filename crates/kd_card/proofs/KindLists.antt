@@ -1,6 +1,6 @@
 -- Lists of kinds, kind by kind.
-use Rattle.std.proofs.Common.{◌≡◌, ◌≢◌, ℕ, zero, suc, ◌+◌, ◌*◌, ◌<◌, ◌≤◌, List, [], ◌∷◌, ◌++◌, length, take, drop, get_or, replicate, fold, refl, sym, ap, subst, ◌∙◌, append_assoc, length-append, arith, ℤ, pos, ◌+ℤ◌, ◌*ℤ◌, unsigned_abs, FitsSigned, w32, Some, None}
-use Rattle.std.specs.List.{All, AllByRecursion}
+use Rattle.std.proofs.Common.{◌≡◌, ℕ, zero, suc, ◌+◌, ◌*◌, ◌<◌, ◌≤◌, List, [], ◌∷◌, ◌++◌, length, take, drop, get_or, replicate, fold, refl, sym, ap, subst, ◌∙◌, append_assoc, length-append, arith, ℤ, pos, ◌+ℤ◌, ◌*ℤ◌, unsigned_abs, FitsSigned, w32, Some, None}
+use Rattle.std.specs.List.{All}
 use Rattle.std.proofs.lemmas.List.Elements.{All-nil, All-cons}
 use Rattle.std.proofs.Math.IntN.{zero-*ℤ, suc_ℤ-*ℤ}
 use Rattle.std.proofs.Math.Nat.{mul-le-mul_left}
@@ -14,9 +14,7 @@ use Rattle.kd_card.specs.declared.look.Name.{Name}
 use Rattle.kd_card.specs.declared.kinds.PricedKind.{PricedKind}
 use Rattle.kd_card.specs.Kinds.{look_name, look_rank, kind_words, kinds_text, counted, prices_of_kinds, IsInForm, IsPricedKind, AreKinds, AreCalled}
 use Rattle.kd_state.specs.Words.{line_of}
-use Rattle.kd_card.specs.declared.fault.CardFault.{CardFault}
-use Rattle.kd_card.specs.declared.fault.CardFault.TheVariants.{PriceMissing}
-use Rattle.kd_card.specs.CardFault.{floor_behind, IsNextKind, IsBadKind, EndsGroup, BeginsWithKinds, BeginsWithGroup, IsGroupFault, AtKind, AtCount}
+use Rattle.kd_card.specs.CardFault.{floor_behind, IsNextKind, BeginsWithKinds}
 use Rattle.kd_card.proofs.KindPrices.{text_of_more_kinds}
 use Rattle.kd_card.proofs.KindWords.{low_rank}
 

@@ -1,5 +1,5 @@
 -- The words of kinds' lines, and the looks that they tell.
-use Rattle.std.proofs.Common.{ltb, codes, ◌≡◌, ◌≢◌, ℕ, ◌+◌, ◌<◌, ◌≤◌, true, List, [], ◌∷◌, ◌++◌, length, get_or, ℤ, Option, Some, None, refl, sym, ap, ◌∙◌, append_assoc, length-append, arith, map, decimal, Bor}
+use Rattle.std.proofs.Common.{ltb, codes, ◌≡◌, ◌≢◌, ℕ, ◌+◌, ◌<◌, true, List, [], ◌∷◌, ◌++◌, length, get_or, ℤ, Option, Some, None, refl, sym, ap, ◌∙◌, append_assoc, length-append, arith, map, decimal, Bor}
 use Rattle.std.specs.List.{All, find, list_all}
 use Rattle.std.specs.Option.{unwrap_or}
 use Rattle.std.specs.Str.{bytes_eq}

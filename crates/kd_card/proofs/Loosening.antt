@@ -11,7 +11,6 @@ use Rattle.std.proofs.lemmas.Option.{unwrap_or-slice_get}
 use Rattle.std.proofs.lemmas.Slice.Eq.{bytes_eq-Decides}
 use Rattle.kd_tables.specs.declared.model.Model.{Model}
 use Rattle.kd_tables.specs.declared.wheel.Wheel.{Wheel}
-use Rattle.kd_tables.specs.declared.place.Place.{Place}
 use Rattle.kd_tables.specs.Rings.{ring_of, place_on}
 use Rattle.kd_tables.specs.Tables.{wheel_text, reflector_text}
 use Rattle.kd_pins.specs.declared.pin_set.PinSet.{PinSet}
@@ -26,8 +25,8 @@ use Rattle.kd_state.specs.declared.sheet_day.rotor_entry.SheetWheel.{SheetWheel}
 use Rattle.kd_state.specs.Box.{same_wheel, same_reflector, place_in_box}
 use Rattle.kd_state.specs.Pins.{pin_set, wheel_pins, with_pin}
 use Rattle.kd_state.specs.Machine.{model_of, ring_at, letter_at}
-use Rattle.kd_state.specs.Setting.{why_refused, cable_at, cable_without, cable_with, seated_in, without, with_letter, with_lug_at, changed}
-use Rattle.kd_state.specs.SheetDay.{RotorDay, PinDay, Day, OfRotors, OfPins, seats, IsLegalDay, day_model}
+use Rattle.kd_state.specs.Setting.{why_refused, seated_in, without, with_letter, changed}
+use Rattle.kd_state.specs.SheetDay.{RotorDay, PinDay, Day, OfRotors, OfPins, IsLegalDay, day_model}
 use Rattle.kd_state.specs.OnKey.{ReadsAs}
 use Rattle.kd_state.specs.Laws.{DaysWheelsHaveTheirPlaces}
 use Rattle.kd_state.specs.Costs.{differ, unless_same, loose_slots, loose_reflector, loose_rings, loose_letters, loose_pins, loose_pin_letters, loose_count}
@@ -218,7 +217,7 @@ no_pin_wrong pins = self_none (λ (pin : Bool × Bool). cond (differ pin.0 pin.1
 pin_not_loose : (n : PinParts) (s : PinDay) → ReadsAs (Pin n) (OfPins s) → loose_count (Pin n) (OfPins s) ≡ 0
 pin_not_loose n s h =
     let pins : loose_pins n s ≡ 0 =
-    ap (λ pins. sum (map differing (zip (pins_of pins) (pins_of s.pins)))) h.key.pins 
+    ap (λ pins. sum (map differing (zip (pins_of pins) (pins_of s.pins)))) h.key.pins
     ∙ sum-map differing (zip (pins_of s.pins) (pins_of s.pins)) ∙ self_none differing no_pin_wrong (pins_of s.pins) in
     let letters : loose_pin_letters n s ≡ 0 =
     ap (λ letters. count_by (λ (letter : ℕ × ℕ). not (nat_eq letter.0 letter.1)) (zip letters s.window)) h.window

@@ -33,12 +33,6 @@ use Rattle.kd_card.proofs.CardWords.{word_by_test, number_word, signed_text_word
 use Rattle.kd_card.proofs.KindWords.{kind_is_words, same_kind as known_kind}
 use Rattle.kd_card.proofs.KindPrices.{text_of_more_kinds, text_by_kind, both_groups, same_kind_parts}
 
--- what is known of lines and settings
-pub record Known : Type 0 where
-  pub laws : Laws
-  pub settings : SettingsHaveWords
-  pub lines : LinesTellSettings
-
 -- ---- steps
 
 -- there is one answer at most
@@ -306,14 +300,14 @@ one_value_fault fault other (OtherValue value rest e form differs w) (NoValue no
 one_value_fault fault other (NoValue none w) (OtherValue value rest e form differs u) = absurd (none value rest form e)
 one_value_fault fault other (NoValue none w) (NoValue nil u) = w ∙ sym u
 
-module _ (k : Known) where
+module _ (laws : Laws) (worded : SettingsHaveWords) (told : LinesTellSettings) where
   only_first : {K Y : Type 0} {word : K → List ℕ} {line : ℕ} {bytes : List ℕ} {Next : K × List (List ℕ) × List ℕ → Result Y CardFault → Type 0}
       → ((key other : K) → word key ≡ word other → key ≡ other)
       → ((x : K × List (List ℕ) × List ℕ) → HasWords bytes (word x.0 ∷ x.1) x.2 → IsOnly (Next x)) → IsOnly (FirstSays word line bytes Next)
   only_first {bytes} one next v w a b =
       only_step (sure_by (λ x y a b. refl) (λ x some none. some none))
       (λ some filled. only_step
-      (sure_by (λ x y a b. let same = same_words k.laws a b in same_pair x y same.0 same.1)
+      (sure_by (λ x y a b. let same = same_words laws a b in same_pair x y same.0 same.1)
       (λ x has without. no_first_part has.first without))
       (λ found has. only_step
       (sure_by (λ x y a b. same_pair x y (one x.0 y.0 (cc)) (cc)) (λ x e none. none x e))
@@ -334,8 +328,8 @@ module _ (k : Known) where
       })
       (λ prices are v w a b. a ∙ sym b)))
       (λ x found.
-      let words = prices_are_words k.laws.numbers (word x.0) x.1 (are.is_word x.0) found.0.reach in
-      found_first (x.0, map signed_decimal x.1, x.2) (line_has_words k.laws (price_words (word x.0) x.1) x.2 (λ none. cc) words found.0.text)
+      let words = prices_are_words laws.numbers (word x.0) x.1 (are.is_word x.0) found.0.reach in
+      found_first (x.0, map signed_decimal x.1, x.2) (line_has_words laws (price_words (word x.0) x.1) x.2 (λ none. cc) words found.0.text)
       (Found x.1 (refl, found.0.reach, found.1) refl))
       (fault_in_line are line bytes)
 
@@ -343,7 +337,7 @@ module _ (k : Known) where
 
   kind_has_words : {name : Name} {floor : ℕ} {bytes : List ℕ} {kind : PricedKind} {rest : List ℕ} → IsNextKind name floor bytes kind rest
       → HasWords bytes (kind_words kind) rest
-  kind_has_words {kind} {rest} next = line_has_words k.laws (kind_words kind) rest (λ none. cc) (kind_is_words k.laws.numbers kind next.good) next.line
+  kind_has_words {kind} {rest} next = line_has_words laws (kind_words kind) rest (λ none. cc) (kind_is_words laws.numbers kind next.good) next.line
 
   kinds_end : (name : Name) (floor : ℕ) (xs ys : List PricedKind) (rest more : List ℕ) → AreCalled name xs → AreCalled name ys → AreKinds floor xs
       → AreKinds floor ys → HasNoNext name (floor_behind floor xs) rest → HasNoNext name (floor_behind floor ys) more
@@ -358,8 +352,8 @@ module _ (k : Known) where
       record { called = c.0; good = a.0; above = a.1; line = text_of_more_kinds x xs rest } in
       let second : IsNextKind name floor (kinds_text (x ∷ xs) ++ rest) y (kinds_text ys ++ more) =
       record { called = d.0; good = b.0; above = b.1; line = e ∙ text_of_more_kinds y ys more } in
-      let same = same_words k.laws (kind_has_words first) (kind_has_words second) in
-      let heads : x ≡ y = known_kind k.laws.first_parts x y a.0 b.0 same.0 in
+      let same = same_words laws (kind_has_words first) (kind_has_words second) in
+      let heads : x ≡ y = known_kind laws.first_parts x y a.0 b.0 same.0 in
       let above : AreKinds (look_rank x.look + 1) ys = subst (λ z. AreKinds (look_rank z.look + 1) ys) (sym heads) b.2 in
       let behind : HasNoNext name (floor_behind (look_rank x.look + 1) ys) more =
       subst (λ z. HasNoNext name (floor_behind (look_rank z.look + 1) ys) more) (sym heads) nor in
@@ -368,7 +362,7 @@ module _ (k : Known) where
       (cc, tails.1)
 
   one_word : {bytes word other : List ℕ} → BeginsWithWord word bytes → BeginsWithWord other bytes → word ≡ other
-  one_word a b = ap (λ words. get_or words 0 []) (same_words k.laws a.has b.has).0
+  one_word a b = ap (λ words. get_or words 0 []) (same_words laws a.has b.has).0
 
   -- the first line of a kind begins with its name
   kind_begins : {name : Name} {floor : ℕ} {bytes : List ℕ} {kind : PricedKind} {rest : List ℕ} → IsNextKind name floor bytes kind rest → BeginsWithName name bytes
@@ -498,12 +492,12 @@ module _ (k : Known) where
   head_has_words : {bytes : List ℕ} {version : Version} {day : ℕ} {rest : List ℕ} → BeginsWithHead bytes version day rest
       → HasWords bytes (head_words version day) rest
   head_has_words {version} {day} {rest} head =
-      line_has_words k.laws (head_words version day) rest (λ none. cc) (head_is_words k.laws.numbers version day head.of_month.last) head.text
+      line_has_words laws (head_words version day) rest (λ none. cc) (head_is_words laws.numbers version day head.of_month.last) head.text
 
   one_head : (bytes : List ℕ) (head other : Version × ℕ × List ℕ) → BeginsWithHead bytes head.0 head.1 head.2
       → BeginsWithHead bytes other.0 other.1 other.2 → head ≡ other
   one_head bytes (version, day, rest) (by, other, more) a b =
-      let line = same_words k.laws (head_has_words a) (head_has_words b) in
+      let line = same_words laws (head_has_words a) (head_has_words b) in
       let versions : version ≡ by = known_version version by (ap (λ w. get_or w 1 []) line.0) in
       let days : day ≡ other = decimal_injective day other (omega arith) (omega arith) (ap (λ w. get_or w 3 []) line.0) in
       let rests : rest ≡ more = line.1 in
@@ -517,10 +511,10 @@ module _ (k : Known) where
   lists_end (x ∷ xs) [] rest more a b none e = (omega arith, λ nor. absurd (nor x (list_text xs ++ rest) a.0 (sym e ∙ text_of_more x xs rest)))
   lists_end (x ∷ xs) (y ∷ ys) rest more a b none e =
       let parts : (setting_line x ≡ setting_line y) × (list_text xs ++ rest ≡ list_text ys ++ more) =
-      k.laws.first_parts 10 (setting_line x) (setting_line y) (list_text xs ++ rest) (list_text ys ++ more)
-      (k.laws.one_line (setting_words x) (k.settings x a.0)) (k.laws.one_line (setting_words y) (k.settings y b.0))
+      laws.first_parts 10 (setting_line x) (setting_line y) (list_text xs ++ rest) (list_text ys ++ more)
+      (laws.one_line (setting_words x) (worded x a.0)) (laws.one_line (setting_words y) (worded y b.0))
       (sym (text_of_more x xs rest) ∙ e ∙ text_of_more y ys more) in
-      let first : x ≡ y = k.lines x y a.0 b.0 parts.0 in
+      let first : x ≡ y = told x y a.0 b.0 parts.0 in
       let others = lists_end xs ys rest more a.1 b.1 none parts.1 in
       (omega (arith, others.0), λ nor. let tails : xs ≡ ys = (others.1 nor).0 in (cc, (others.1 nor).1))
 
@@ -534,16 +528,16 @@ module _ (k : Known) where
   value_line : {bytes : List ℕ} (name value rest : List ℕ) → IsWord name → IsWord value → bytes ≡ with_line (name ∷ value ∷ []) rest
       → HasWords bytes (name ∷ value ∷ []) rest
   value_line name value rest named valued e =
-      line_has_words k.laws (name ∷ value ∷ []) rest (λ none. cc) (All-from_recursion IsWord (name ∷ value ∷ []) (named, (valued, tt))) e
+      line_has_words laws (name ∷ value ∷ []) rest (λ none. cc) (All-from_recursion IsWord (name ∷ value ∷ []) (named, (valued, tt))) e
 
   value_is_sure : {IsForm : List ℕ → Type 0} {name due : List ℕ} {line : ℕ} {bytes : List ℕ} → ((value : List ℕ) → IsForm value → IsWord value)
       → IsWord name → IsForm due → IsSure (λ (rest : List ℕ). bytes ≡ with_line (name ∷ due ∷ []) rest) (IsValueFault IsForm name due line bytes)
   value_is_sure {IsForm} {name} {due} {line} {bytes} words named form = record {
-    one = λ rest more a b. (same_words k.laws (value_line name due rest named (words due form) a) (value_line name due more named (words due form) b)).1;
+    one = λ rest more a b. (same_words laws (value_line name due rest named (words due form) a) (value_line name due more named (words due form) b)).1;
     reason = one_value_fault;
     either = λ rest fault e wrong. elim wrong [
       | OtherValue value more f other differs w ↦
-          let same = same_words k.laws (value_line name due rest named (words due form) e) (value_line name value more named (words value other) f) in
+          let same = same_words laws (value_line name due rest named (words due form) e) (value_line name value more named (words value other) f) in
           differs (ap (λ w. get_or w 1 []) (sym same.0))
       | NoValue none w ↦ none due rest form e
     ];
@@ -586,7 +580,7 @@ module _ (k : Known) where
   sum_ends (Cables row col) sum rest near = tt
   sum_ends (Bars row col) sum rest near = tt
   sum_ends prices sum rest near =
-      let has = value_line (codes "SUM") (signed_decimal sum) rest (word_by_test _ _ refl) (signed_word k.laws.numbers sum near) refl in
+      let has = value_line (codes "SUM") (signed_decimal sum) rest (word_by_test _ _ refl) (signed_word laws.numbers sum near) refl in
       AtOther (codes "SUM") (record { behind = signed_decimal sum ∷ []; rest = rest; has = has }) (λ e. omega (arith, ap (λ t. get_or t 0 0) e))
 
   goes_on : {text : List ℕ} {day : ℕ} {xs : List Setting} {prices : PriceParts} (rest : List ℕ) → IsCard text day xs prices

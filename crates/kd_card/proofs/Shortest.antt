@@ -14,14 +14,14 @@ use Rattle.kd_state.specs.declared.machine.parts.Parts.{Parts}
 use Rattle.kd_state.specs.declared.machine.parts.Parts.TheVariants.{Rotor, Pin}
 use Rattle.kd_state.specs.declared.setting.Setting.{Setting}
 use Rattle.kd_state.specs.Machine.{model_of, IsMachine}
-use Rattle.kd_state.specs.Setting.{Carries, Leads, changed}
+use Rattle.kd_state.specs.Setting.{Leads, changed}
 use Rattle.kd_state.specs.SheetDay.{RotorDay, PinDay, Day, OfRotors, OfPins, day_model, IsLegalDay}
 use Rattle.kd_state.specs.OnKey.{ReadsAs}
 use Rattle.kd_state.specs.Costs.{cable_cost, bar_cost, columns_of, cost_table, loose_count}
 use Rattle.kd_card.specs.declared.prices.PriceParts.{PriceParts}
 use Rattle.kd_card.specs.declared.prices.PriceParts.TheVariants.{Cables, Bars}
 use Rattle.kd_card.specs.Prices.{ArePrices, Fits, price_sum, AreTight}
-use Rattle.kd_card.specs.Proving.{is_priced, priced_count, AreOfKind, IsNeeded, AreNeeded, Expands, Same, Expanded, ProvesByNumber, IsShortest}
+use Rattle.kd_card.specs.Proving.{is_priced, priced_count, AreOfKind, IsNeeded, AreNeeded, Expands, Same, Expanded, ProvesByNumber}
 use Rattle.kd_card.specs.Laws.{FittingPricesBoundLists, ProvingCardsAreAsLong, ProvingCardsAreShortest, ProvingPricesAreTight}
 use Rattle.kd_card.proofs.Duality.{fold_of_both, prices_with-IsPermutation, prices_with-zip, pairing_cost, fitting_prices, FitAll-IsPermutation, fit_all, sum_of, prices_with, FitAll, without_first}
 use Rattle.kd_card.proofs.Counts.{count_by-cons, once_of_distinct}
@@ -131,10 +131,10 @@ module _ {A B : Type 0} (cost : A → B → ℕ) (number : ℕ) (rows : List A) 
           let w = get_or h.beside i (b, pos 0) in
           let within : i < length h.beside = omega (arith, size) in
           let there = Contains-permutation h.beside (zip columns prices) w (IsPermutation-sym (zip columns prices) h.beside h.order)
-              (i, within, get_or_default h.beside i w (b, pos 0) within) in
+          (i, within, get_or_default h.beside i w (b, pos 0) within) in
           let place : there.0 < number = omega (arith, there.1, zipped) in
           let here = sym there.2 ∙ get_or_default (zip columns prices) there.0 w (b, pos 0) there.1
-              ∙ get_or-zip columns prices there.0 (b, pos 0) (omega (arith, h.columns_count)) (omega (arith, h.prices_count)) in
+          ∙ get_or-zip columns prices there.0 (b, pos 0) (omega (arith, h.columns_count)) (omega (arith, h.prices_count)) in
           (there.0, place, tight_where i there.0 lt place here)
 
       row_for : (j : ℕ) → j < number → (i : ℕ) × (i < number) × TightIn i j
@@ -144,7 +144,7 @@ module _ {A B : Type 0} (cost : A → B → ℕ) (number : ℕ) (rows : List A) 
           let there = Contains-permutation (zip columns prices) h.beside v h.order (j, within, get_or_default (zip columns prices) j v (b, pos 0) within) in
           let place : there.0 < number = omega (arith, there.1, size) in
           let here = sym (get_or_default h.beside there.0 v (b, pos 0) there.1) ∙ there.2
-              ∙ get_or-zip columns prices j (b, pos 0) (omega (arith, h.columns_count)) (omega (arith, h.prices_count)) in
+          ∙ get_or-zip columns prices j (b, pos 0) (omega (arith, h.columns_count)) (omega (arith, h.prices_count)) in
           (there.0, place, tight_where there.0 j place lt here)
 
 rotors_table : Told → (m n : RotorParts) (s : RotorDay) (row column : List ℤ) (settings : List Setting) → IsMachine (Rotor m) → IsLegalDay (OfRotors s)

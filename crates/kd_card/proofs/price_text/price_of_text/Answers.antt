@@ -1,5 +1,4 @@
-use Rattle.std.proofs.Common.{rules, ◌≡◌, ◌<◌, ◌≤◌, ◌∙◌, sym, ap, subst, unsigned_abs, Decides, FitsSigned, w16, to_z, of_z, arith}
-use Rattle.std.specs.Str.Parse.{ParsesSigned}
+use Rattle.std.proofs.Common.{rules, ◌≡◌, ◌<◌, ◌≤◌, ◌∙◌, sym, ap, subst, unsigned_abs, Decides, w16, to_z, of_z, arith}
 use Rattle.std.specs.Fmt.{signed_decimal}
 use Rattle.std.specs.Bool.{then_some}
 use Rattle.std.proofs.lemmas.Bool.Decides.{Decides-eqb}
@@ -27,8 +26,8 @@ returns-then-unsigned_abs-gt9999 c =
     let same : to_z w16 (of_z w16 c.in_ok-price.price) ≡ c.in_ok-price.price = to_z-of_z w16 c.in_ok-price.price (search rules) in
     let far : 9999 < unsigned_abs c.in_ok-price.price = omega (arith, c.unsigned_abs.ensures.value, ap unsigned_abs same, c.if-unsigned_abs-gt9999.true) in
     λ price within e.
-        let same : c.in_ok-price.price ≡ price = let read = c.in_ok-price.ensures.value ∙ read_price c.args.text.now c.parse.result parsed price within e in cc in
-        omega (arith, far, within, ap unsigned_abs same)
+    let same : c.in_ok-price.price ≡ price = let read = c.in_ok-price.ensures.value ∙ read_price c.args.text.now c.parse.result parsed price within e in cc in
+    omega (arith, far, within, ap unsigned_abs same)
 
 pub returns : goal.returns
 returns c =

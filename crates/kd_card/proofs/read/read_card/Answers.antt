@@ -1,9 +1,9 @@
-use Rattle.std.proofs.Common.{rules, ◌+◌, ◌∙◌, eqb, length, sym, ap, refl, subst, FitsSigned, w32, arith}
+use Rattle.std.proofs.Common.{rules, ◌+◌, ◌∙◌, eqb, length, sym, ap, refl, subst, w32, arith}
 use Rattle.std.proofs.lemmas.Bool.{eqb-true, false≢true}
 use Rattle.std.proofs.lemmas.List.{nil_from_length}
 use Rattle.std.proofs.lemmas.Int.{to_z-of_z}
 use Rattle.std.proofs.lemmas.Result.{err_from_is_err_and}
-use Rattle.kd_card.specs.CardFault.{AtHead, AtSettings, AtEnd}
+use Rattle.kd_card.specs.CardFault.{AtSettings, AtEnd}
 use Rattle.kd_card.specs.Reading.{LacksPrices}
 use Rattle.kd_card.proofs.CardWords.{to_settings, to_number, to_prices, to_end, other_number, no_prices, other_sum, no_more}
 use Rattle.kd_card.proofs.read.read_card.Goals as goal
