@@ -19,7 +19,7 @@ use Rattle.kd_card.specs.declared.group.Group.TheVariants.{OfCables, OfBars}
 use Rattle.kd_card.specs.CardText.{row_word, column_word, version_text, head_words, settings_words, price_words, sum_words, lines_text, price_lines, card_text, IsCard}
 use Rattle.kd_card.specs.CardFault.{IsDigit, IsNumberText, IsSignedText, with_line, sum_line, ToSettings, ToNumber, ToPrices, IsValueFault, IsPricesFault, AreColumns, IsCardFault, AtNumber, AtRows, AtColumns, AtGroup, AtRowKinds, AtColumnKinds, AtSum}
 use Rattle.kd_card.proofs.Lines.{bytes_above, card_and_more}
-use Rattle.std.proofs.lemmas.List.{append-nil}
+use Rattle.std.proofs.lemmas.List.{append-nil, nil_from_length}
 use Rattle.kd_state.specs.declared.setting.Setting.{Setting}
 use Rattle.kd_state.specs.Line.{BeginsWith}
 use Rattle.kd_card.specs.declared.fault.CardFault.{CardFault}
@@ -89,11 +89,14 @@ prices_are_words numbers word prices w reach =
 figures : IsNumeralModel (λ ds. (i : ℕ) → i < length ds → IsInRange 48 57 (get_or ds i 0)) (digits_value 10)
 figures = numerals_by_value (λ ds. (i : ℕ) → i < length ds → IsInRange 48 57 (get_or ds i 0)) tells_by_index
 
-number_by_parts : (text : List ℕ) → 0 < length text → AllByRecursion IsDigit text → (get_or text 0 0 ≡ 48 → length text ≡ 1) → IsNumberText text
-number_by_parts [] some digits lead = absurd (omega (arith, some))
-number_by_parts (digit ∷ []) some digits lead = (digits.0, All-from_recursion IsDigit [] tt, λ e. refl)
-number_by_parts (digit ∷ next ∷ more) some digits lead =
-    (digits.0, All-from_recursion IsDigit (next ∷ more) digits.1, λ e. absurd (omega (arith, lead e)))
+number_by_parts : (text : List ℕ) → 0 < length text → ((i : ℕ) → i < length text → IsDigit (get_or text i 0)) → (get_or text 0 0 ≡ 48 → length text ≡ 1)
+    → IsNumberText text
+number_by_parts [] some digits lead = absurd (omega arith)
+number_by_parts (digit ∷ rest) some digits lead = (
+  digits 0 (omega arith),
+  All-from_get_or IsDigit rest 0 (λ i inside. digits (suc i) (omega arith)),
+  λ e. nil_from_length rest (omega (arith, lead e)),
+)
 
 no_leading_zero : (number : ℕ) → number < 2 ^ 64 → get_or (decimal number) 0 0 ≡ 48 → length (decimal number) ≡ 1
 no_leading_zero zero small e = ap length (decimal_digit 0 (omega arith))
@@ -101,10 +104,8 @@ no_leading_zero (suc n) small e = absurd (omega (arith, first_decimal (suc n) (o
 
 pub number_text : (number : ℕ) → number < 2 ^ 64 → IsNumberText (decimal number)
 number_text number small =
-    number_by_parts (decimal number) (decimal_nonempty number small)
-    (recursion_from_All IsDigit (decimal number)
-    (All-from_get_or IsDigit (decimal number) 0
-    (λ i inside. let figure : IsInRange 48 57 (get_or (decimal number) i 0) = digits_decimal figures number small i inside in (omega (arith, figure), omega (arith, figure)))))
+    number_by_parts (decimal number) (decimal_nonempty number small) (λ i inside.
+    let figure : IsInRange 48 57 (get_or (decimal number) i 0) = digits_decimal figures number small i inside in (omega arith, omega arith))
     (no_leading_zero number small)
 
 not_zero : (n : ℕ) → suc n < 2 ^ 64 → decimal (suc n) ≢ codes "0"

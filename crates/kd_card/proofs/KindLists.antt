@@ -40,10 +40,11 @@ counted-append (first ∷ kinds) more = omega (arith, counted-append kinds more)
 
 -- ---- a kind in the midst
 
-pub kind_within : (floor : ℕ) (kinds : List PricedKind) (kind : PricedKind) (behind : List PricedKind) → AreKinds floor (kinds ++ kind ∷ behind)
-    → IsPricedKind kind × (floor_behind floor kinds ≤ look_rank kind.look)
-kind_within floor [] kind behind are = (are.0, are.1)
-kind_within floor (first ∷ kinds) kind behind are = kind_within (look_rank first.look + 1) kinds kind behind are.2
+pub good_at : (floor : ℕ) (kinds : List PricedKind) (i : ℕ) {kind : PricedKind} → i < length kinds → kind ≡ get_or kinds i kind → AreKinds floor kinds
+    → IsPricedKind kind × (floor_behind floor (take i kinds) ≤ look_rank kind.look)
+good_at floor [] i inside is are = absurd (omega arith)
+good_at floor (first ∷ kinds) zero inside is are = subst (λ k. IsPricedKind k × (floor ≤ look_rank k.look)) (sym is) (are.0, are.1)
+good_at floor (first ∷ kinds) (suc i) inside is are = good_at (look_rank first.look + 1) kinds i (omega arith) is are.2
 
 -- ---- bounds
 
@@ -118,14 +119,6 @@ walk_bounds {kinds} walked =
     let low = low_floor 0 kinds (omega arith) walked.in_order in
     (omega arith, omega arith, omega arith)
 
-pub good_at : (kinds : List PricedKind) (i : ℕ) {kind : PricedKind} → i < length kinds → kind ≡ get_or kinds i kind → AreKinds 0 kinds
-    → IsPricedKind kind × (floor_behind 0 (take i kinds) ≤ look_rank kind.look)
-good_at kinds i {kind} inside is are =
-    let split =
-    sym (take-append-drop (i + 1) kinds) ∙ ap (λ front. front ++ drop (i + 1) kinds) (one_more kinds i inside is)
-    ∙ append_assoc (take i kinds) (kind ∷ []) (drop (i + 1) kinds) in
-    kind_within 0 (take i kinds) kind (drop (i + 1) kinds) (subst (AreKinds 0) split are)
-
 -- the sum goes on by the price of all things of a kind
 abbrev pub SumsOn : ℤ → ℤ → ℤ → List PricedKind → ℕ → Type 0
 SumsOn sum total more kinds i =
@@ -141,7 +134,7 @@ sums_on sum total more kinds i {kind} inside is are few small value bound produc
     let counts = ap counted next ∙ counted-append (take i kinds) (kind ∷ []) in
     let before = ap counted (take-append-drop (i + 1) kinds) in
     let rest = counted-append (take (i + 1) kinds) (drop (i + 1) kinds) in
-    let good = (good_at kinds i inside is are).0 in
+    let good = (good_at 0 kinds i inside is are).0 in
     let most_in_all : kind.count * unsigned_abs kind.price ≤ kind.count * 9999 = mul-le-mul_left kind.count good.reach in
     let here : unsigned_abs more ≤ 9999 * kind.count = rw product (omega (arith, unsigned_abs-mul (pos kind.count) kind.price)) in
     let both : unsigned_abs (total +ℤ more) ≤ unsigned_abs total + unsigned_abs more = omega (arith, ints) in (

@@ -10,7 +10,7 @@ returns-then-not-may_follow c = (
   λ are.
       let kind = c.kind-item.result in
       let may = subst (λ f. IsPricedKind kind × (f ≤ look_rank kind.look)) (sym c.loop-kind.invariant.floor_is)
-      (good_at c.args.kinds.now c.loop-kind.kind-index (omega arith) c.kind-item.is are.0) in
+      (good_at 0 c.args.kinds.now c.loop-kind.kind-index (omega arith) c.kind-item.is are.0) in
       absurd (false≢true (sym c.if-not-may_follow.true ∙ c.may_follow.ensures.1 may)),
 )
 

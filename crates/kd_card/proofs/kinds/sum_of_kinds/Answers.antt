@@ -5,7 +5,7 @@ use Rattle.kd_card.proofs.kinds.sum_of_kinds.Goals as goal
 
 pub price_of_all-total-requires : goal.price_of_all-total-requires
 price_of_all-total-requires c =
-    (good_at c.args.kinds.now c.loop-kind.kind-index (omega arith) c.kind-item.is c.requires.kinds).0.reach
+    (good_at 0 c.args.kinds.now c.loop-kind.kind-index (omega arith) c.kind-item.is c.requires.kinds).0.reach
 
 pub overflow_add-total : goal.overflow_add-total
 overflow_add-total c =

@@ -35,9 +35,8 @@ returns c =
     let parsed = rw text.0 at c.parse.ensures.value.0 in
     let same : to_z w16 (of_z w16 c.in_ok-price.price) ≡ c.in_ok-price.price = to_z-of_z w16 c.in_ok-price.price (search rules) in
     let near : unsigned_abs c.in_ok-price.price ≤ 9999 = omega (arith, c.unsigned_abs.ensures.value, ap unsigned_abs same, c.if-unsigned_abs-gt9999.false) in
-    let written : c.format.result.now ≡ signed_decimal (to_z w16 (of_z w16 c.in_ok-price.price)) = c.format.ensures.text in
     let compared = slice_eq-Decides Decides-eqb c.as_bytes.result.now c.args.text.now c.eq.result c.eq.ensures in
     let decided =
-    subst (λ bs. Decides c.eq.result (bs ≡ c.args.text.now)) (c.as_bytes.ensures.value ∙ written ∙ ap signed_decimal same) compared in
+    subst (λ bs. Decides c.eq.result (bs ≡ c.args.text.now)) (c.as_bytes.ensures.value ∙ c.format.ensures.text ∙ ap signed_decimal same) compared in
     rw (c.then_some.ensures ∙ ap (then_some c.eq.result) same)
     (only_price c.args.text.now c.parse.result c.in_ok-price.price c.eq.result parsed (sym c.in_ok-price.ensures.value) near decided)

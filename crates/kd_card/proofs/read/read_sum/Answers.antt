@@ -20,8 +20,7 @@ returns-then-not-is_signed_text c =
 pub returns : goal.returns
 returns c =
     let compared = slice_eq-Decides Decides-eqb c.in-Some.number.now c.as_bytes.result.now c.eq.result c.eq.ensures in
-    let written : c.format.result.now ≡ signed_decimal (to_z w32 (of_z w32 c.args.sum)) = c.format.ensures.text in
     let due : c.as_bytes.result.now ≡ signed_decimal c.args.sum =
-    c.as_bytes.ensures.value ∙ written ∙ ap signed_decimal (to_z-of_z w32 c.args.sum c.ranges.sum) in
+    c.as_bytes.ensures.value ∙ c.format.ensures.text ∙ ap signed_decimal (to_z-of_z w32 c.args.sum c.ranges.sum) in
     OtherValue c.in-Some.number.now c.in-Some.rest.now c.in-Some.ensures.joined (c.is_signed_text.ensures.0 (search rules))
     (λ same. false≢true (sym c.if-eq.false ∙ compared.1 (same ∙ sym due))) refl
