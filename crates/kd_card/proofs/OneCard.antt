@@ -155,19 +155,18 @@ same_prices (p ∷ ps) (q ∷ qs) a b e =
     cc
 same_prices ps qs a b e = absurd (omega (arith, ap length e))
 
-one_count_fault : (number line : ℕ) (words : List (List ℕ)) (fault other : CardFault) → IsCountFault number line words fault
-    → IsCountFault number line words other → fault ≡ other
-one_count_fault number line words fault other a b = elim a [
-  | inl bad ↦ elim b [ inl worse ↦ bad.1 ∙ sym worse.1 | inr count ↦ absurd (bad.0 count.0) ]
-  | inr count ↦ elim b [ inl bad ↦ absurd (bad.0 count.0) | inr also ↦ count.2 ∙ sym also.2 ]
-]
-
-prices_or_fault : (number line : ℕ) (words : List (List ℕ)) (prices : List ℤ) (fault : CardFault) → ArePricesOf number words prices
-    → ¬ (IsCountFault number line words fault)
-prices_or_fault number line words prices fault are wrong = elim wrong [
-  | inl w ↦ w.0 (subst (All IsPriceText) (sym are.0) (all_price_texts prices are.1))
-  | inr w ↦ w.1 (ap length are.0 ∙ length-map prices signed_decimal ∙ are.2)
-]
+prices_are_sure : (number line : ℕ) (words : List (List ℕ)) → IsSure (ArePricesOf number words) (IsCountFault number line words)
+prices_are_sure number line words = record {
+  one = λ ps qs a b. same_prices ps qs (recursion_from_All _ ps a.1) (recursion_from_All _ qs b.1) (sym a.0 ∙ b.0);
+  reason = λ fault other a b. elim a [
+    | inl bad ↦ elim b [ inl worse ↦ bad.1 ∙ sym worse.1 | inr count ↦ absurd (bad.0 count.0) ]
+    | inr count ↦ elim b [ inl bad ↦ absurd (bad.0 count.0) | inr also ↦ count.2 ∙ sym also.2 ]
+  ];
+  either = λ prices fault are wrong. elim wrong [
+    | inl w ↦ w.0 (subst (All IsPriceText) (sym are.0) (all_price_texts prices are.1))
+    | inr w ↦ w.1 (ap length are.0 ∙ length-map prices signed_decimal ∙ are.2)
+  ];
+}
 
 -- ---- groups of kinds
 
@@ -293,13 +292,6 @@ no_setting : (x : Setting) (rest : List ℕ) → first_and_third (setting_line x
 no_setting (Pull c l) rest e = omega (arith, e)
 no_setting x rest e = omega (arith, e)
 
-one_value_fault : {IsForm : List ℕ → Type 0} {name due : List ℕ} {line : ℕ} {bytes : List ℕ} (fault other : CardFault)
-    → IsValueFault IsForm name due line bytes fault → IsValueFault IsForm name due line bytes other → fault ≡ other
-one_value_fault fault other (OtherValue value rest e form differs w) (OtherValue third more f is apart u) = w ∙ sym u
-one_value_fault fault other (OtherValue value rest e form differs w) (NoValue none u) = absurd (none value rest form e)
-one_value_fault fault other (NoValue none w) (OtherValue value rest e form differs u) = absurd (none value rest form e)
-one_value_fault fault other (NoValue none w) (NoValue nil u) = w ∙ sym u
-
 module _ (laws : Laws) (worded : SettingsHaveWords) (told : LinesTellSettings) where
   only_first : {K Y : Type 0} {word : K → List ℕ} {line : ℕ} {bytes : List ℕ} {Next : K × List (List ℕ) × List ℕ → Result Y CardFault → Type 0}
       → ((key other : K) → word key ≡ word other → key ≡ other)
@@ -320,13 +312,7 @@ module _ (laws : Laws) (worded : SettingsHaveWords) (told : LinesTellSettings) w
   line_is_sure {K} {word} {count} {IsDue} are line bytes =
       sure_of (LineSays word count line bytes)
       (only_first are.one
-      (λ x has. only_step
-      (record {
-        one = λ ps qs a b. same_prices ps qs (recursion_from_All _ ps a.1) (recursion_from_All _ qs b.1) (sym a.0 ∙ b.0);
-        reason = one_count_fault (count x.0) line x.1;
-        either = prices_or_fault (count x.0) line x.1;
-      })
-      (λ prices are v w a b. a ∙ sym b)))
+      (λ x has. only_step (prices_are_sure (count x.0) line x.1) (λ prices are v w a b. a ∙ sym b)))
       (λ x found.
       let words = prices_are_words laws.numbers (word x.0) x.1 (are.is_word x.0) found.0.reach in
       found_first (x.0, map signed_decimal x.1, x.2) (line_has_words laws (price_words (word x.0) x.1) x.2 (λ none. cc) words found.0.text)
@@ -534,7 +520,10 @@ module _ (laws : Laws) (worded : SettingsHaveWords) (told : LinesTellSettings) w
       → IsWord name → IsForm due → IsSure (λ (rest : List ℕ). bytes ≡ with_line (name ∷ due ∷ []) rest) (IsValueFault IsForm name due line bytes)
   value_is_sure {IsForm} {name} {due} {line} {bytes} words named form = record {
     one = λ rest more a b. (same_words laws (value_line name due rest named (words due form) a) (value_line name due more named (words due form) b)).1;
-    reason = one_value_fault;
+    reason = λ fault other a b. elim a [
+      | OtherValue value rest e form differs w ↦ elim b [ OtherValue third more f is apart u ↦ w ∙ sym u | NoValue none u ↦ absurd (none value rest form e) ]
+      | NoValue none w ↦ elim b [ OtherValue value rest e form differs u ↦ absurd (none value rest form e) | NoValue nil u ↦ w ∙ sym u ]
+    ];
     either = λ rest fault e wrong. elim wrong [
       | OtherValue value more f other differs w ↦
           let same = same_words laws (value_line name due rest named (words due form) e) (value_line name value more named (words value other) f) in
