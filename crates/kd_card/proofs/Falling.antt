@@ -107,22 +107,15 @@ least_falls : {X : Type 0} (f g : X → ℕ) → ((x : X) → f x ≤ g x + 1) �
 least_falls f g h [] a b start = start
 least_falls f g h (x ∷ xs) a b start = least_falls f g h xs (min a (f x)) (min b (g x)) (omega (arith, h x))
 
-bar_cost_step : (lug : Lug) (place : Place) (standing : Place × Place) (row : ℕ × ℕ) → bar_cost standing row ≤ bar_cost (with_lug lug place standing) row + 1
-bar_cost_step lug place standing row =
-    least_falls (lugs_moved standing) (lugs_moved (with_lug lug place standing)) (lugs_moved_step lug place standing) (standings_as row) 2 2 (omega arith)
-
-lug_falls_at : (bars : List (Place × Place)) (ws : List ((ℕ × ℕ) × ℤ)) (bar : ℕ) (lug : Lug) (place : Place) (found : Option (Place × Place)) → slice_get bars bar ≡ found
+lug_falls : (bars : List (Place × Place)) (ws : List ((ℕ × ℕ) × ℤ)) (bar : ℕ) (lug : Lug) (place : Place) (found : Option (Place × Place)) → slice_get bars bar ≡ found
     → pairing_cost bar_cost bars ws ≤ pairing_cost bar_cost (option_map_or (λ standing. set bars (suc bar - 1) (with_lug lug place standing)) found bars) ws + 1
-lug_falls_at bars ws bar lug place None e = omega arith
-lug_falls_at bars ws bar lug place (Some standing) e =
+lug_falls bars ws bar lug place None e = omega arith
+lug_falls bars ws bar lug place (Some standing) e =
     let here : get_or bars bar standing ≡ standing = sym (unwrap_or-slice_get bars bar standing) ∙ ap (λ o. unwrap_or o standing) e in
     rw (one_less bar)
     (pairing_cost-set bar_cost bars ws bar (with_lug lug place standing) standing
-    (λ row. subst (λ was. bar_cost was row ≤ bar_cost (with_lug lug place standing) row + 1) (sym here) (bar_cost_step lug place standing row)))
-
-lug_falls : (m : PinParts) (bar : ℕ) (lug : Lug) (place : Place) (ws : List ((ℕ × ℕ) × ℤ)) → pairing_cost bar_cost m.bars ws ≤ pairing_cost bar_cost (with_lug_at m bar lug place) ws + 1
-lug_falls m zero lug place ws = omega arith
-lug_falls m (suc bar) lug place ws = lug_falls_at m.bars ws bar lug place (slice_get m.bars bar) refl
+    (λ row. subst (λ was. bar_cost was row ≤ bar_cost (with_lug lug place standing) row + 1) (sym here) 
+    (least_falls (lugs_moved standing) (lugs_moved (with_lug lug place standing)) (lugs_moved_step lug place standing) (standings_as row) 2 2 (omega arith))))
 
 -- What a machine's cables cost at some columns, or its bars at some rows, each with a price of its own.
 abbrev pub paired_cost : Parts → List (Option (ℕ × ℕ) × ℤ) → List ((ℕ × ℕ) × ℤ) → ℕ
@@ -133,7 +126,8 @@ pub falls : (m : Parts) (x : Setting) (columns : List (Option (ℕ × ℕ) × �
     → paired_cost m columns rows ≤ paired_cost (changed m x) columns rows + cond (is_priced x) 1 0
 falls (Rotor m) (Pull cable letter) columns rows e = pull_falls m cable letter columns e
 falls (Rotor m) (Put cable letter) columns rows e = put_falls m cable letter columns e
-falls (Pin m) (LugTo bar lug place) columns rows e = lug_falls m bar lug place rows
+falls (Pin m) (LugTo zero lug place) columns rows e = omega arith
+falls (Pin m) (LugTo (suc bar) lug place) columns rows e = lug_falls m.bars rows bar lug place (slice_get m.bars bar) refl
 falls m x columns rows e = omega arith
 
 -- ---- what settings keep

@@ -366,12 +366,6 @@ module _ (laws : Laws) (worded : SettingsHaveWords) (told : LinesTellSettings) w
   bad_has_no_next (Unended unended is) kind rest next = ended_word (kind_begins next) unended
   bad_has_no_next (NoKind begins none is) kind rest next = none kind rest next
 
-  end_or_bad : (name : Name) (floor line : ℕ) (bytes : List ℕ) (fault : CardFault) → EndsGroup name bytes → ¬ (IsBadKind name floor line bytes fault)
-  end_or_bad name floor line bytes fault (AtNothing none) (Unended unended is) = unended.some none
-  end_or_bad name floor line bytes fault (AtNothing none) (NoKind begins nor is) = some_bytes begins.has none
-  end_or_bad name floor line bytes fault (AtOther word other differs) (Unended unended is) = ended_word other unended
-  end_or_bad name floor line bytes fault (AtOther word other differs) (NoKind begins nor is) = differs (one_word other begins)
-
   module _ (name : Name) (number line : ℕ) (bytes : List ℕ) where
     only_group : IsOnly (GroupSays name number line bytes)
     only_group =
@@ -387,7 +381,10 @@ module _ (laws : Laws) (worded : SettingsHaveWords) (told : LinesTellSettings) w
         (record {
           one = λ end other a b. refl;
           reason = λ fault other a b. bad_line name _ _ x.1 fault a ∙ sym (bad_line name _ _ x.1 other b);
-          either = λ end fault. end_or_bad name _ _ x.1 fault;
+          either = λ end fault ends bad. elim ends [
+            | AtNothing none ↦ elim bad [ Unended unended is ↦ unended.some none | NoKind begins nor is ↦ some_bytes begins.has none ]
+            | AtOther word other differs ↦ elim bad [ Unended unended is ↦ ended_word other unended | NoKind begins nor is ↦ differs (one_word other begins) ]
+          ];
         })
         (λ end ends. only_step (sure_by (λ all other a b. refl) (λ all count differs. differs count)) (λ all count v w a b. a ∙ sym b)))
 
