@@ -9,14 +9,13 @@ use Rattle.kd_tables.specs.declared.lug.Lug.{Lug}
 use Rattle.kd_tables.specs.declared.lug.Lug.TheVariants.{Left, Right}
 use Rattle.kd_tables.specs.Permutation.{alphabet}
 use Rattle.kd_state.specs.declared.machine.rotor_parts.RotorParts.{RotorParts}
-use Rattle.kd_state.specs.declared.machine.pin_parts.PinParts.{PinParts}
 use Rattle.kd_state.specs.declared.machine.parts.Parts.{Parts}
 use Rattle.kd_state.specs.declared.machine.parts.Parts.TheVariants.{Rotor, Pin}
 use Rattle.kd_state.specs.declared.setting.Setting.{Setting}
 use Rattle.kd_state.specs.declared.setting.Setting.TheVariants.{Pull, Put, LugTo}
 use Rattle.kd_state.specs.declared.setting.why.Why.{Why}
 use Rattle.kd_state.specs.Machine.{cable_letters, plugged_letters, IsLegal}
-use Rattle.kd_state.specs.Setting.{has_letter, is_at, reasons, why_refused, cable_at, cable_without, cable_with, with_lug, with_lug_at, changed, lies_beyond, other_lug, lug_place, Leads}
+use Rattle.kd_state.specs.Setting.{has_letter, is_at, reasons, why_refused, cable_at, cable_without, cable_with, with_lug, changed, lies_beyond, other_lug, lug_place, Leads}
 use Rattle.kd_state.specs.Costs.{differ, unless_same, column_letters, cable_cost, lugs_moved, standings_as, bar_cost}
 use Rattle.kd_card.specs.Proving.{is_priced}
 use Rattle.kd_card.proofs.Counts.{count_by-cons, at_most_one, once_in_alphabet, times, times-append, AreOnce, once_of_distinct, once_more, SameBut, same_but, same_but-sym, pulled, put, times_more}
@@ -114,7 +113,7 @@ lug_falls bars ws bar lug place (Some standing) e =
     let here : get_or bars bar standing ≡ standing = sym (unwrap_or-slice_get bars bar standing) ∙ ap (λ o. unwrap_or o standing) e in
     rw (one_less bar)
     (pairing_cost-set bar_cost bars ws bar (with_lug lug place standing) standing
-    (λ row. subst (λ was. bar_cost was row ≤ bar_cost (with_lug lug place standing) row + 1) (sym here) 
+    (λ row. subst (λ was. bar_cost was row ≤ bar_cost (with_lug lug place standing) row + 1) (sym here)
     (least_falls (lugs_moved standing) (lugs_moved (with_lug lug place standing)) (lugs_moved_step lug place standing) (standings_as row) 2 2 (omega arith))))
 
 -- What a machine's cables cost at some columns, or its bars at some rows, each with a price of its own.

@@ -21,7 +21,7 @@ use Rattle.kd_state.specs.Costs.{cable_cost, bar_cost, columns_of, cost_table, l
 use Rattle.kd_card.specs.declared.prices.PriceParts.{PriceParts}
 use Rattle.kd_card.specs.declared.prices.PriceParts.TheVariants.{Cables, Bars}
 use Rattle.kd_card.specs.Prices.{ArePrices, Fits, price_sum, AreTight}
-use Rattle.kd_card.specs.Proving.{is_priced, priced_count, AreOfKind, IsNeeded, AreNeeded, Expands, Same, Expanded, ProvesByNumber}
+use Rattle.kd_card.specs.Proving.{is_priced, priced_count, AreOfKind, IsNeeded, AreNeeded, Same, Expanded, ProvesByNumber}
 use Rattle.kd_card.specs.Laws.{FittingPricesBoundLists, ProvingCardsAreAsLong, ProvingCardsAreShortest, ProvingPricesAreTight}
 use Rattle.kd_card.proofs.Duality.{fold_of_both, prices_with-IsPermutation, prices_with-zip, pairing_cost, fitting_prices, FitAll-IsPermutation, fit_all, sum_of, prices_with, FitAll, without_first}
 use Rattle.kd_card.proofs.Counts.{count_by-cons, once_of_distinct}
@@ -239,16 +239,12 @@ proving_cards_are_as_long m s settings prices h =
     let none = nothing_loose h.leads.0 s h.leads.2 in
     omega (arith, ints)
 
--- prices by number that may stand on a card
-expanded_are_prices : (m : Parts) (s : Day) (prices numbered : PriceParts) → ArePrices prices → Expands m s prices numbered → ArePrices numbered
-expanded_are_prices m s prices numbered are (Same by same) = subst ArePrices same are
-expanded_are_prices m s prices numbered are (Expanded by other group here also rows columns) = also
-
 pub proving_cards_are_shortest : Told → ProvingCardsAreShortest
 proving_cards_are_shortest told m s settings prices machine legal are_prices h others reached =
     let proves = h.proves in
     let long = proving_cards_are_as_long m s settings h.numbered proves in
-    let are = expanded_are_prices m s prices h.numbered are_prices h.expands in
+    let are : ArePrices h.numbered =
+    elim h.expands [ Same by same ↦ subst ArePrices same are_prices | Expanded by other group here also rows columns ↦ also ] in
     let below = fitting_prices_bound_lists told m s h.numbered others machine legal are proves.kind proves.fits reached in
     omega (arith, ints)
 

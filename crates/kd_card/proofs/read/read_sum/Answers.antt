@@ -1,4 +1,4 @@
-use Rattle.std.proofs.Common.{rules, codes, ◌≡◌, ◌∙◌, sym, ap, refl, subst, w32, to_z, of_z}
+use Rattle.std.proofs.Common.{rules, codes, ◌≡◌, ◌∙◌, sym, ap, refl, subst, w32}
 use Rattle.std.specs.Fmt.{signed_decimal}
 use Rattle.std.proofs.lemmas.Bool.{false≢true}
 use Rattle.std.proofs.lemmas.Bool.Decides.{Decides-eqb}
