@@ -1,11 +1,12 @@
 -- How often letters are among others.
-use Rattle.std.proofs.Common.{◌≡◌, ◌≢◌, ℕ, zero, suc, ◌+◌, ◌<◌, ◌≤◌, nat_eq, Bool, true, false, ◌||◌, cond, inl, inr, List, [], ◌∷◌, ◌++◌, AllPairs, count_by, refl, sym, ap, ◌∙◌, arith, nat_le, ◌⊎◌, Option, Some, None}
-use Rattle.std.specs.List.{AllByRecursion, IsDistinct, range_with_len}
-use Rattle.std.proofs.lemmas.Bool.{eqb-true, eq-eqb, false≢true, ne_eqb}
+use Rattle.std.proofs.Common.{◌≡◌, ◌≢◌, ℕ, zero, suc, ◌+◌, ◌≤◌, nat_eq, Bool, true, false, ◌||◌, cond, inl, inr, List, [], ◌∷◌, ◌++◌, AllPairs, count_by, refl, sym, ap, ◌∙◌, arith, nat_le, ◌⊎◌, Option, Some, None}
+use Rattle.std.specs.List.{AllByRecursion, IsDistinct}
+use Rattle.std.proofs.lemmas.Bool.{eqb-true, eq-eqb, false≢true, ne_eqb, or_parts}
 use Rattle.std.proofs.lemmas.Bool.Decides.{eqb_tells}
 use Rattle.std.proofs.lemmas.List.Elements.{recursion_from_All}
 use Rattle.std.proofs.lemmas.List.Sums.{sum_by-append, sum_by-cons}
-use Rattle.std.proofs.lemmas.Map.Made.{AllPairs-from_IsDistinct}
+use Rattle.std.proofs.lemmas.Cmp.{nat_eq_equiv}
+use Rattle.std.proofs.lemmas.Map.Made.{AllPairs-from_IsDistinct, IsDistinct-from_count}
 use Rattle.kd_tables.specs.Permutation.{alphabet}
 use Rattle.kd_state.specs.Setting.{has_letter, is_plugged, cable_without, cable_with}
 use Rattle.std.proofs.lemmas.List.Folds.{list_any-append}
@@ -51,34 +52,14 @@ once_of_apart (other ∷ letters) apart letter =
 pub once_of_distinct : (letters : List ℕ) → IsDistinct nat_eq letters → AreOnce letters
 once_of_distinct letters distinct = once_of_apart letters (AllPairs-from_IsDistinct (λ a b. (eqb-true a b, eq-eqb a b)) letters distinct)
 
--- each letter stands once in the alphabet
-once_from : (letter a n : ℕ) → (times letter (range_with_len a n) ≤ 1) × (letter < a → times letter (range_with_len a n) ≡ 0)
-once_from letter a zero = (omega arith, λ _. refl)
-once_from letter a (suc n) =
-    let rest = once_from letter (a + 1) n in
-    let more = count_by-cons (nat_eq letter) a (range_with_len (a + 1) n) in
-    elim (eqb_tells letter a) [
-      | inl here ↦
-          let head : cond {A = ℕ} (nat_eq letter a) 1 0 ≡ 1 = rw (here.0) refl in
-          let none = rest.1 (omega arith) in
-          (omega arith, λ less. absurd (omega arith))
-      | inr away ↦
-          let head : cond {A = ℕ} (nat_eq letter a) 1 0 ≡ 0 = rw (away.0) refl in
-          (omega (arith, rest.0), λ less. let none = rest.1 (omega arith) in omega arith)
-    ]
-
 pub once_in_alphabet : AreOnce alphabet
-once_in_alphabet letter = (once_from letter 0 26).0
+once_in_alphabet = once_of_distinct alphabet (IsDistinct-from_count nat_eq_equiv alphabet refl)
 
 -- a letter that isn't among these, and one more
-or_false : (a b : Bool) → (a || b) ≡ false → (a ≡ false) × (b ≡ false)
-or_false true b e = absurd (false≢true (sym e))
-or_false false b e = (refl, e)
-
 not_among : (letters : List ℕ) (letter : ℕ) → has_letter letters letter ≡ false → AllByRecursion (λ other. letter ≢ other) letters
 not_among [] letter e = tt
 not_among (other ∷ letters) letter e =
-    let both = or_false (nat_eq other letter) (has_letter letters letter) e in (
+    let both = or_parts (nat_eq other letter) (has_letter letters letter) e in (
       elim (eqb_tells other letter) [ inl same ↦ absurd (false≢true (sym both.0 ∙ same.0)) | inr away ↦ λ same. away.1 (sym same) ],
       not_among letters letter both.1,
     )
@@ -129,19 +110,14 @@ same_but-sym x letters others same letter = elim (same letter) [ inl e ↦ inl (
 abbrev IsPulled : List ℕ → List ℕ → Type 0
 IsPulled letters fewer = (fewer ≡ letters) ⊎ ((x : ℕ) × HasOneMore x fewer letters)
 
-pulled_single : (b : Bool) (a : ℕ) → IsPulled (a ∷ []) (cable_letters (cond b (None, None) (Some a, None)))
-pulled_single true a = inr (a, inl refl)
-pulled_single false a = inl refl
-
-pulled_pair : (b : Bool) (a c : ℕ) → IsPulled (a ∷ c ∷ []) (cable_letters (cond b (Some c, None) (Some a, None)))
-pulled_pair true a c = inr (a, inl refl)
-pulled_pair false a c = inr (c, inr refl)
-
 pub pulled : (letter : ℕ) (cable : Option ℕ × Option ℕ) → IsPulled (cable_letters cable) (cable_letters (cable_without letter cable))
 pulled letter (None, None) = inl refl
 pulled letter (None, Some b) = inr (b, inl refl)
-pulled letter (Some a, None) = pulled_single (nat_eq letter a) a
-pulled letter (Some a, Some b) = pulled_pair (nat_eq letter a) a b
+pulled letter (Some a, None) =
+    elim (nat_eq letter a) as (λ b. IsPulled (a ∷ []) (cable_letters (cond b (None, None) (Some a, None)))) [ true ↦ inr (a, inl refl) | false ↦ inl refl ]
+pulled letter (Some a, Some c) =
+    elim (nat_eq letter a) as (λ b. IsPulled (a ∷ c ∷ []) (cable_letters (cond b (Some c, None) (Some a, None))))
+    [ true ↦ inr (a, inl refl) | false ↦ inr (c, inr refl) ]
 
 -- A letter is put into a cable with a loose end: the cable has one letter more.
 beside : (b : Bool) (a letter : ℕ) → HasOneMore letter (a ∷ []) (cable_letters (cond b (Some a, Some letter) (Some letter, Some a)))

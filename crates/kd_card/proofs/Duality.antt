@@ -4,8 +4,9 @@ use Rattle.std.specs.List.{AllByRecursion, AllZip}
 use Rattle.std.specs.List as lists
 use Rattle.std.proofs.lemmas.Int.{ints}
 use borrow.Author.Differences.{up, down}
-use Rattle.std.proofs.lemmas.List.Sums.{sum_by-cons}
+use Rattle.std.proofs.lemmas.List.Sums.{fold-append, sum_by-cons}
 use Rattle.std.proofs.lemmas.List.Sorted.{sum_by-IsPermutation, All-permutation, IsPermutation-keeps, IsPermutation-refl, IsPermutation-trans, IsPermutation-swap}
+use Rattle.std.proofs.lemmas.Slice.Zip.{AllZip-long}
 use Rattle.std.proofs.lemmas.List.Elements.{All-from_recursion, recursion_from_All}
 
 -- sums of prices
@@ -17,12 +18,12 @@ fold_from : (start : ℤ) (xs : List ℤ) → fold (λ sum price. sum +ℤ price
 fold_from start [] = omega (arith, ints)
 fold_from start (x ∷ xs) = let e = fold_from (start +ℤ x) xs in omega (arith, ints)
 
-sum_of-append : (xs ys : List ℤ) → sum_of (xs ++ ys) ≡ (sum_of xs +ℤ sum_of ys)
-sum_of-append [] ys = omega (arith, ints)
-sum_of-append (x ∷ xs) ys = let e = sum_of-append xs ys in omega (arith, ints)
-
 pub fold_of_both : (rows columns : List ℤ) → fold (λ sum price. sum +ℤ price) (pos 0) (rows ++ columns) ≡ (sum_of rows +ℤ sum_of columns)
-fold_of_both rows columns = let e = fold_from (pos 0) (rows ++ columns) in let f = sum_of-append rows columns in omega (arith, ints)
+fold_of_both rows columns =
+    let both = fold-append (λ sum price. sum +ℤ price) (pos 0) rows columns in
+    let first = fold_from (pos 0) rows in
+    let second = fold_from (fold (λ sum price. sum +ℤ price) (pos 0) rows) columns in
+    omega (arith, ints)
 
 module _ {B : Type 0} where
   -- the prices that stand with columns
@@ -66,11 +67,6 @@ module _ {A C : Type 0} (R : A → C → Type 0) where
   side_by_side_at (a ∷ xs) (c ∷ ys) (suc i) d e h lt = side_by_side_at xs ys i d e h.1 (omega arith)
   side_by_side_at (a ∷ xs) [] i d e h lt = absurd h
 
-  pub side_by_side_length : (xs : List A) (ys : List C) → AllZip R xs ys → length xs ≡ length ys
-  side_by_side_length [] [] h = refl
-  side_by_side_length (a ∷ xs) (c ∷ ys) h = let e = side_by_side_length xs ys h.1 in omega arith
-  side_by_side_length xs ys h = absurd h
-
   -- in the order of the first kind
   abbrev pub Reordered : List C → List A → Type 0
   Reordered ys xs = (zs : List C) × IsPermutation ys zs × AllZip R xs zs
@@ -88,7 +84,7 @@ module _ {A C : Type 0} (R : A → C → Type 0) where
   reordered xs others ys order h =
       IsPermutation-keeps xs (Reordered ys) (ys, IsPermutation-refl ys, h)
       (λ l i j hi hj kept.
-      let same = side_by_side_length l kept.0 kept.2 in (
+      let same = AllZip-long R l kept.0 kept.2 in (
         lists.swap kept.0 i j,
         IsPermutation-trans ys kept.0 (lists.swap kept.0 i j) kept.1 (IsPermutation-swap kept.0 (lists.swap kept.0 i j) i j (omega arith) (omega arith) refl),
         side_by_side-swap l kept.0 i j hi hj kept.2,
@@ -119,7 +115,6 @@ module _ {A B : Type 0} (cost : A → B → ℕ) where
       → (sum_of prices +ℤ prices_with ws) ≤ℤ pos (pairing_cost rows ws)
   fitting_prices [] [] [] e h = omega (arith, ints)
   fitting_prices (row ∷ rows) (price ∷ prices) (w ∷ ws) e h =
-      let head = h.0.0 in
       let rest = fitting_prices rows prices ws (omega arith) (without_first rows prices w ws h.1) in
       omega (arith, ints)
   fitting_prices [] (price ∷ prices) [] e h = absurd h

@@ -9,14 +9,13 @@ use Rattle.kd_tables.specs.declared.lug.Lug.{Lug}
 use Rattle.kd_tables.specs.declared.lug.Lug.TheVariants.{Left, Right}
 use Rattle.kd_tables.specs.Permutation.{alphabet}
 use Rattle.kd_state.specs.declared.machine.rotor_parts.RotorParts.{RotorParts}
-use Rattle.kd_state.specs.declared.machine.pin_parts.PinParts.{PinParts}
 use Rattle.kd_state.specs.declared.machine.parts.Parts.{Parts}
 use Rattle.kd_state.specs.declared.machine.parts.Parts.TheVariants.{Rotor, Pin}
 use Rattle.kd_state.specs.declared.setting.Setting.{Setting}
 use Rattle.kd_state.specs.declared.setting.Setting.TheVariants.{Pull, Put, LugTo}
 use Rattle.kd_state.specs.declared.setting.why.Why.{Why}
 use Rattle.kd_state.specs.Machine.{cable_letters, plugged_letters, IsLegal}
-use Rattle.kd_state.specs.Setting.{has_letter, is_at, reasons, why_refused, cable_at, cable_without, cable_with, with_lug, with_lug_at, changed, lies_beyond, other_lug, lug_place, Leads}
+use Rattle.kd_state.specs.Setting.{has_letter, is_at, reasons, why_refused, cable_at, cable_without, cable_with, with_lug, changed, lies_beyond, other_lug, lug_place, Leads}
 use Rattle.kd_state.specs.Costs.{differ, unless_same, column_letters, cable_cost, lugs_moved, standings_as, bar_cost}
 use Rattle.kd_card.specs.Proving.{is_priced}
 use Rattle.kd_card.proofs.Counts.{count_by-cons, at_most_one, once_in_alphabet, times, times-append, AreOnce, once_of_distinct, once_more, SameBut, same_but, same_but-sym, pulled, put, times_more}
@@ -55,11 +54,6 @@ counted_apart letters others wanted x same (letter ∷ alphabet) =
           omega arith
     ]
 
-cable_cost_step : (cable other : Option ℕ × Option ℕ) (x : ℕ) → SameBut x (cable_letters cable) (cable_letters other)
-    → (column : Option (ℕ × ℕ)) → cable_cost cable column ≤ cable_cost other column + 1
-cable_cost_step cable other x same column =
-    omega (arith, counted_apart (cable_letters cable) (cable_letters other) (column_letters column) x same alphabet, once_in_alphabet x)
-
 -- why a setting is not refused
 pub none_of_them : (reasons : List (Bool × Why)) → option_map (λ (reason : Bool × Why). reason.1) (find (λ reason. reason.0) reasons) ≡ None → AllByRecursion (λ reason. reason.0 ≡ false) reasons
 none_of_them [] e = tt
@@ -70,12 +64,14 @@ pub one_less : (place : ℕ) → suc place - 1 ≡ place
 one_less place = omega arith
 
 -- One cable is changed.
-cables_fall : (cables : List (Option ℕ × Option ℕ)) (ws : List (Option (ℕ × ℕ) × ℤ)) (place : ℕ) (was now : Option ℕ × Option ℕ) (x : ℕ) → was ≡ get_or cables place (None, None)
-    → SameBut x (cable_letters was) (cable_letters now) → pairing_cost cable_cost cables ws ≤ pairing_cost cable_cost (set cables (suc place - 1) now) ws + 1
-cables_fall cables ws place was now x here same =
+cables_fall : (m : RotorParts) (place : ℕ) (now : Option ℕ × Option ℕ) (ws : List (Option (ℕ × ℕ) × ℤ)) (x : ℕ)
+    → SameBut x (cable_letters (cable_at m (suc place))) (cable_letters now)
+    → pairing_cost cable_cost m.cables ws ≤ pairing_cost cable_cost (set m.cables (suc place - 1) now) ws + 1
+cables_fall m place now ws x same =
     rw (one_less place)
-    (pairing_cost-set cable_cost cables ws place now (None, None)
-    (λ column. subst (λ cable. cable_cost cable column ≤ cable_cost now column + 1) here (cable_cost_step was now x same column)))
+    (pairing_cost-set cable_cost m.cables ws place now (None, None) (λ column.
+    subst (λ cable. cable_cost cable column ≤ cable_cost now column + 1) (unwrap_or-slice_get m.cables place (None, None))
+    (omega (arith, counted_apart (cable_letters (cable_at m (suc place))) (cable_letters now) (column_letters column) x same alphabet, once_in_alphabet x))))
 
 pull_falls : (m : RotorParts) (cable letter : ℕ) (ws : List (Option (ℕ × ℕ) × ℤ)) → why_refused (Rotor m) (Pull cable letter) ≡ None
     → pairing_cost cable_cost m.cables ws ≤ pairing_cost cable_cost (set m.cables (cable - 1) (cable_without letter (cable_at m cable))) ws + 1
@@ -83,11 +79,9 @@ pull_falls m zero letter ws e = cc
 pull_falls m (suc place) letter ws e =
     let was = cable_at m (suc place) in
     let now = cable_without letter was in
-    let falls : (x : ℕ) → SameBut x (cable_letters was) (cable_letters now) → pairing_cost cable_cost m.cables ws ≤ pairing_cost cable_cost (set m.cables (suc place - 1) now) ws + 1
-    = λ x. cables_fall m.cables ws place was now x (unwrap_or-slice_get m.cables place (None, None)) in
     elim (pulled letter was) [
-      | inl same ↦ falls 0 (λ l. inl (ap (λ letters. has_letter letters l) (sym same)))
-      | inr less ↦ falls less.0 (same_but less.0 (cable_letters now) (cable_letters was) less.1)
+      | inl same ↦ cables_fall m place now ws 0 (λ l. inl (ap (λ letters. has_letter letters l) (sym same)))
+      | inr less ↦ cables_fall m place now ws less.0 (same_but less.0 (cable_letters now) (cable_letters was) less.1)
     ]
 
 put_falls : (m : RotorParts) (cable letter : ℕ) (ws : List (Option (ℕ × ℕ) × ℤ)) → why_refused (Rotor m) (Put cable letter) ≡ None
@@ -97,8 +91,7 @@ put_falls m (suc place) letter ws e =
     let was = cable_at m (suc place) in
     let now = cable_with letter was in
     let more = put letter was (none_of_them (reasons (Rotor m) (Put (suc place) letter)) e).1.0 in
-    cables_fall m.cables ws place was now letter (unwrap_or-slice_get m.cables place (None, None))
-    (same_but-sym letter (cable_letters now) (cable_letters was) (same_but letter (cable_letters was) (cable_letters now) more))
+    cables_fall m place now ws letter (same_but-sym letter (cable_letters now) (cable_letters was) (same_but letter (cable_letters was) (cable_letters now) more))
 
 -- one lug of a bar is moved
 pub unless_same_at_most : (b : Bool) → unless_same b ≤ 1
@@ -113,22 +106,15 @@ least_falls : {X : Type 0} (f g : X → ℕ) → ((x : X) → f x ≤ g x + 1) �
 least_falls f g h [] a b start = start
 least_falls f g h (x ∷ xs) a b start = least_falls f g h xs (min a (f x)) (min b (g x)) (omega (arith, h x))
 
-bar_cost_step : (lug : Lug) (place : Place) (standing : Place × Place) (row : ℕ × ℕ) → bar_cost standing row ≤ bar_cost (with_lug lug place standing) row + 1
-bar_cost_step lug place standing row =
-    least_falls (lugs_moved standing) (lugs_moved (with_lug lug place standing)) (lugs_moved_step lug place standing) (standings_as row) 2 2 (omega arith)
-
-lug_falls_at : (bars : List (Place × Place)) (ws : List ((ℕ × ℕ) × ℤ)) (bar : ℕ) (lug : Lug) (place : Place) (found : Option (Place × Place)) → slice_get bars bar ≡ found
+lug_falls : (bars : List (Place × Place)) (ws : List ((ℕ × ℕ) × ℤ)) (bar : ℕ) (lug : Lug) (place : Place) (found : Option (Place × Place)) → slice_get bars bar ≡ found
     → pairing_cost bar_cost bars ws ≤ pairing_cost bar_cost (option_map_or (λ standing. set bars (suc bar - 1) (with_lug lug place standing)) found bars) ws + 1
-lug_falls_at bars ws bar lug place None e = omega arith
-lug_falls_at bars ws bar lug place (Some standing) e =
+lug_falls bars ws bar lug place None e = omega arith
+lug_falls bars ws bar lug place (Some standing) e =
     let here : get_or bars bar standing ≡ standing = sym (unwrap_or-slice_get bars bar standing) ∙ ap (λ o. unwrap_or o standing) e in
     rw (one_less bar)
     (pairing_cost-set bar_cost bars ws bar (with_lug lug place standing) standing
-    (λ row. subst (λ was. bar_cost was row ≤ bar_cost (with_lug lug place standing) row + 1) (sym here) (bar_cost_step lug place standing row)))
-
-lug_falls : (m : PinParts) (bar : ℕ) (lug : Lug) (place : Place) (ws : List ((ℕ × ℕ) × ℤ)) → pairing_cost bar_cost m.bars ws ≤ pairing_cost bar_cost (with_lug_at m bar lug place) ws + 1
-lug_falls m zero lug place ws = omega arith
-lug_falls m (suc bar) lug place ws = lug_falls_at m.bars ws bar lug place (slice_get m.bars bar) refl
+    (λ row. subst (λ was. bar_cost was row ≤ bar_cost (with_lug lug place standing) row + 1) (sym here)
+    (least_falls (lugs_moved standing) (lugs_moved (with_lug lug place standing)) (lugs_moved_step lug place standing) (standings_as row) 2 2 (omega arith))))
 
 -- What a machine's cables cost at some columns, or its bars at some rows, each with a price of its own.
 abbrev pub paired_cost : Parts → List (Option (ℕ × ℕ) × ℤ) → List ((ℕ × ℕ) × ℤ) → ℕ
@@ -139,7 +125,8 @@ pub falls : (m : Parts) (x : Setting) (columns : List (Option (ℕ × ℕ) × �
     → paired_cost m columns rows ≤ paired_cost (changed m x) columns rows + cond (is_priced x) 1 0
 falls (Rotor m) (Pull cable letter) columns rows e = pull_falls m cable letter columns e
 falls (Rotor m) (Put cable letter) columns rows e = put_falls m cable letter columns e
-falls (Pin m) (LugTo bar lug place) columns rows e = lug_falls m bar lug place rows
+falls (Pin m) (LugTo zero lug place) columns rows e = omega arith
+falls (Pin m) (LugTo (suc bar) lug place) columns rows e = lug_falls m.bars rows bar lug place (slice_get m.bars bar) refl
 falls m x columns rows e = omega arith
 
 -- ---- what settings keep
@@ -194,16 +181,6 @@ stands_again : (lug : Lug) (place : Place) (standing : Place × Place) → is_at
 stands_again Left place standing apart within = omega (arith, eqb-false (place_rank place) (place_rank standing.1) apart, ltb-false (place_rank standing.1) (place_rank place) within)
 stands_again Right place standing apart within = omega (arith, eqb-false (place_rank place) (place_rank standing.0) apart, ltb-false (place_rank place) (place_rank standing.0) within)
 
-bars_keep : (bars : List (Place × Place)) (i : ℕ) (lug : Lug) (place : Place) (found : Option (Place × Place))
-    → option_map_or (is_at place) (option_map (lug_place (other_lug lug)) found) false ≡ false → option_map_or (lies_beyond lug place) (option_map (lug_place (other_lug lug)) found) false ≡ false
-    → All Stands bars → All Stands (option_map_or (λ standing. set bars i (with_lug lug place standing)) found bars)
-bars_keep bars i lug place None apart within h = h
-bars_keep bars i lug place (Some standing) apart within h = All-set Stands bars i (with_lug lug place standing) (stands_again lug place standing apart within) h
-
-bars_keep_length : (bars : List (Place × Place)) (i : ℕ) (lug : Lug) (place : Place) (found : Option (Place × Place)) → length (option_map_or (λ standing. set bars i (with_lug lug place standing)) found bars) ≡ length bars
-bars_keep_length bars i lug place None = refl
-bars_keep_length bars i lug place (Some standing) = length-set bars i (with_lug lug place standing)
-
 -- What holds of a machine's cables, or bars, and is kept by every setting.
 pub record HasCables (cables : List (Option ℕ × Option ℕ)) : Type 0 where
   pub count : length cables ≡ 13
@@ -213,6 +190,15 @@ pub record HasBars (bars : List (Place × Place)) : Type 0 where
   pub count : length bars ≡ 27
   pub stand : All Stands bars
 
+bars_keep : (bars : List (Place × Place)) (i : ℕ) (lug : Lug) (place : Place) (found : Option (Place × Place))
+    → option_map_or (is_at place) (option_map (lug_place (other_lug lug)) found) false ≡ false → option_map_or (lies_beyond lug place) (option_map (lug_place (other_lug lug)) found) false ≡ false
+    → HasBars bars → HasBars (option_map_or (λ standing. set bars i (with_lug lug place standing)) found bars)
+bars_keep bars i lug place None apart within h = h
+bars_keep bars i lug place (Some standing) apart within h = record {
+  count = length-set bars i (with_lug lug place standing) ∙ h.count;
+  stand = All-set Stands bars i (with_lug lug place standing) (stands_again lug place standing apart within) h.stand;
+}
+
 abbrev pub HasAll : Parts → Type 0
 HasAll (Rotor m) = HasCables m.cables
 HasAll (Pin m) = HasBars m.bars
@@ -221,20 +207,14 @@ pub machines_have_all : (m : Parts) → IsLegal m → HasAll m
 machines_have_all (Rotor m) h = record { count = h.cables.count; once = once_of_distinct (plugged_letters m.cables) h.cables.apart }
 machines_have_all (Pin m) h = record { count = h.bars; stand = h.apart }
 
-lug_keeps : (m : PinParts) (bar : ℕ) (lug : Lug) (place : Place) → why_refused (Pin m) (LugTo bar lug place) ≡ None → HasBars m.bars → HasBars (with_lug_at m bar lug place)
-lug_keeps m bar lug place e h =
-    let reasons = none_of_them (reasons (Pin m) (LugTo bar lug place)) e in
-    record {
-      count = bars_keep_length m.bars (bar - 1) lug place (numbered m.bars bar) ∙ h.count;
-      stand = bars_keep m.bars (bar - 1) lug place (numbered m.bars bar) reasons.1.0 reasons.1.1.0 h.stand;
-    }
-
 setting_keeps : (m : Parts) (x : Setting) → why_refused m x ≡ None → HasAll m → HasAll (changed m x)
 setting_keeps (Rotor m) (Pull cable letter) e h =
     record { count = length-set m.cables (cable - 1) (cable_without letter (cable_at m cable)) ∙ h.count; once = pull_keeps m cable letter e h.once }
 setting_keeps (Rotor m) (Put cable letter) e h =
     record { count = length-set m.cables (cable - 1) (cable_with letter (cable_at m cable)) ∙ h.count; once = put_keeps m cable letter e h.once }
-setting_keeps (Pin m) (LugTo bar lug place) e h = lug_keeps m bar lug place e h
+setting_keeps (Pin m) (LugTo bar lug place) e h =
+    let reasons = none_of_them (reasons (Pin m) (LugTo bar lug place)) e in
+    bars_keep m.bars (bar - 1) lug place (numbered m.bars bar) reasons.1.0 reasons.1.1.0 h
 setting_keeps m x e h = h
 
 pub list_keeps : (m n : Parts) (xs : List Setting) → Leads m xs n → HasAll m → HasAll n

@@ -1,7 +1,7 @@
 -- Lists of kinds, kind by kind.
-use Rattle.std.proofs.Common.{◌≡◌, ◌≢◌, ℕ, zero, suc, ◌+◌, ◌*◌, ◌<◌, ◌≤◌, List, [], ◌∷◌, ◌++◌, length, take, drop, get_or, replicate, fold, refl, sym, ap, subst, ◌∙◌, append_assoc, length-append, arith, ℤ, pos, ◌+ℤ◌, ◌*ℤ◌, unsigned_abs, FitsSigned, w32, Option, Some, None, MatchOption}
-use Rattle.std.specs.List.{All, AllByRecursion}
-use Rattle.std.proofs.lemmas.List.Elements.{All-from_recursion}
+use Rattle.std.proofs.Common.{◌≡◌, ℕ, zero, suc, ◌+◌, ◌*◌, ◌<◌, ◌≤◌, List, [], ◌∷◌, ◌++◌, length, take, drop, get_or, replicate, fold, refl, sym, ap, subst, ◌∙◌, append_assoc, length-append, arith, ℤ, pos, ◌+ℤ◌, ◌*ℤ◌, unsigned_abs, FitsSigned, w32, Some, None}
+use Rattle.std.specs.List.{All}
+use Rattle.std.proofs.lemmas.List.Elements.{All-nil, All-cons}
 use Rattle.std.proofs.Math.IntN.{zero-*ℤ, suc_ℤ-*ℤ}
 use Rattle.std.proofs.Math.Nat.{mul-le-mul_left}
 use Rattle.std.proofs.lemmas.Int.{ints, unsigned_abs-mul, fits_signed_from_abs}
@@ -14,9 +14,7 @@ use Rattle.kd_card.specs.declared.look.Name.{Name}
 use Rattle.kd_card.specs.declared.kinds.PricedKind.{PricedKind}
 use Rattle.kd_card.specs.Kinds.{look_name, look_rank, kind_words, kinds_text, counted, prices_of_kinds, IsInForm, IsPricedKind, AreKinds, AreCalled}
 use Rattle.kd_state.specs.Words.{line_of}
-use Rattle.kd_card.specs.declared.fault.CardFault.{CardFault}
-use Rattle.kd_card.specs.declared.fault.CardFault.TheVariants.{PriceMissing}
-use Rattle.kd_card.specs.CardFault.{floor_behind, IsNextKind, IsBadKind, EndsGroup, BeginsWithKinds, BeginsWithGroup, IsGroupFault, AtKind, AtCount}
+use Rattle.kd_card.specs.CardFault.{floor_behind, IsNextKind, BeginsWithKinds}
 use Rattle.kd_card.proofs.KindPrices.{text_of_more_kinds}
 use Rattle.kd_card.proofs.KindWords.{low_rank}
 
@@ -36,33 +34,17 @@ pub more_floor : (floor : ℕ) (kinds : List PricedKind) (kind : PricedKind) →
 more_floor floor [] kind = refl
 more_floor floor (first ∷ kinds) kind = more_floor (look_rank first.look + 1) kinds kind
 
-pub more_counted : (kinds : List PricedKind) (kind : PricedKind) → counted (kinds ++ kind ∷ []) ≡ counted kinds + kind.count
-more_counted [] kind = omega arith
-more_counted (first ∷ kinds) kind = omega (arith, more_counted kinds kind)
-
-pub counted-append : (kinds more : List PricedKind) → counted (kinds ++ more) ≡ counted kinds + counted more
+counted-append : (kinds more : List PricedKind) → counted (kinds ++ more) ≡ counted kinds + counted more
 counted-append [] more = omega arith
 counted-append (first ∷ kinds) more = omega (arith, counted-append kinds more)
 
 -- ---- a kind in the midst
 
-pub kind_within : (floor : ℕ) (kinds : List PricedKind) (kind : PricedKind) (behind : List PricedKind) → AreKinds floor (kinds ++ kind ∷ behind)
-    → IsPricedKind kind × (floor_behind floor kinds ≤ look_rank kind.look)
-kind_within floor [] kind behind are = (are.0, are.1)
-kind_within floor (first ∷ kinds) kind behind are = kind_within (look_rank first.look + 1) kinds kind behind are.2
-
-pub kinds_before : (floor : ℕ) (kinds more : List PricedKind) → AreKinds floor (kinds ++ more) → AreKinds floor kinds
-kinds_before floor [] more are = tt
-kinds_before floor (first ∷ kinds) more are = (are.0, are.1, kinds_before (look_rank first.look + 1) kinds more are.2)
-
-pub at_place : (kinds : List PricedKind) (i : ℕ) (d : PricedKind) → i < length kinds → kinds ≡ take i kinds ++ (get_or kinds i d ∷ drop (i + 1) kinds)
-at_place kinds i d inside =
-    sym (take-append-drop (i + 1) kinds) ∙ ap (λ front. front ++ drop (i + 1) kinds) (take_more kinds i d inside)
-    ∙ append_assoc (take i kinds) (get_or kinds i d ∷ []) (drop (i + 1) kinds)
-
-pub counted_before : (kinds : List PricedKind) (i : ℕ) → counted (take i kinds) ≤ counted kinds
-counted_before kinds i =
-    omega (arith, ap counted (take-append-drop i kinds), counted-append (take i kinds) (drop i kinds))
+pub good_at : (floor : ℕ) (kinds : List PricedKind) (i : ℕ) {kind : PricedKind} → i < length kinds → kind ≡ get_or kinds i kind → AreKinds floor kinds
+    → IsPricedKind kind × (floor_behind floor (take i kinds) ≤ look_rank kind.look)
+good_at floor [] i inside is are = absurd (omega arith)
+good_at floor (first ∷ kinds) zero inside is are = subst (λ k. IsPricedKind k × (floor ≤ look_rank k.look)) (sym is) (are.0, are.1)
+good_at floor (first ∷ kinds) (suc i) inside is are = good_at (look_rank first.look + 1) kinds i (omega arith) is are.2
 
 -- ---- bounds
 
@@ -85,11 +67,7 @@ pub floor_bounds : (floor : ℕ) (kinds : List PricedKind) → AreKinds floor ki
 floor_bounds floor [] are = (omega arith, omega arith)
 floor_bounds floor (kind ∷ kinds) are =
     let rest = floor_bounds (look_rank kind.look + 1) kinds are.2 in
-    let most = are.0.most in
-    let above = are.1 in
-    let count = rest.0 in
-    let few = rest.1 in
-    (omega (arith, count, most, above), omega (arith, few, above))
+    (omega arith, omega arith)
 
 -- ---- sums
 
@@ -108,12 +86,6 @@ more_sum sum kinds kind =
     ∙ fold-append _ sum (prices_of_kinds kinds) copies
     ∙ fold_of_copies (fold (λ sum price. sum +ℤ price) sum (prices_of_kinds kinds)) kind.count kind.price
 
-pub product_bound : (count : ℕ) (price : ℤ) → unsigned_abs price ≤ 9999 → unsigned_abs (pos count *ℤ price) ≤ 9999 * count
-product_bound count price within =
-    let product = unsigned_abs-mul (pos count) price in
-    let most : count * unsigned_abs price ≤ count * 9999 = mul-le-mul_left count within in
-    omega (arith, product, most)
-
 -- ---- kinds, walked along
 
 -- the kinds so far are in order, the next has at least this rank, and they are of so many things
@@ -122,47 +94,30 @@ pub record Walked (kinds : List PricedKind) (floor total : ℕ) : Type 0 where
   pub floor_is : floor ≡ floor_behind 0 kinds
   pub total_is : total ≡ counted kinds
 
-pub one_more : (kinds : List PricedKind) (i : ℕ) (kind : PricedKind) → i < length kinds → kind ≡ get_or kinds i kind
+walked_more : {kinds : List PricedKind} {floor total count rank : ℕ} {kind : PricedKind} → Walked kinds floor total → IsPricedKind kind → floor ≤ look_rank kind.look
+    → rank ≡ look_rank kind.look → count ≡ kind.count → Walked (kinds ++ kind ∷ []) (rank + 1) (total + count)
+walked_more {kinds} {kind} walked good above ranked counts =
+    record {
+      in_order = more_kinds 0 kinds kind walked.in_order good (omega arith);
+      floor_is = ap (λ r. r + 1) ranked ∙ sym (more_floor 0 kinds kind);
+      total_is = omega (arith, counted-append kinds (kind ∷ []));
+    }
+
+one_more : (kinds : List PricedKind) (i : ℕ) {kind : PricedKind} → i < length kinds → kind ≡ get_or kinds i kind
     → take (i + 1) kinds ≡ take i kinds ++ kind ∷ []
-one_more kinds i kind inside is = take_more kinds i kind inside ∙ ap (λ k. take i kinds ++ k ∷ []) (sym is)
+one_more kinds i {kind} inside is = take_more kinds i kind inside ∙ ap (λ k. take i kinds ++ k ∷ []) (sym is)
 
-pub walks_on : (kinds : List PricedKind) (i floor total count rank : ℕ) (kind : PricedKind) → i < length kinds → kind ≡ get_or kinds i kind
-    → Walked (take i kinds) floor total → IsPricedKind kind → floor ≤ look_rank kind.look → rank ≡ look_rank kind.look → count ≡ kind.count
+pub walks_on : (kinds : List PricedKind) (i : ℕ) {floor total count rank : ℕ} {kind : PricedKind} → i < length kinds → kind ≡ get_or kinds i kind
+    → Walked (take i kinds) floor total → IsPricedKind kind × (floor ≤ look_rank kind.look) → rank ≡ look_rank kind.look → count ≡ kind.count
     → Walked (take (i + 1) kinds) (rank + 1) (total + count)
-walks_on kinds i floor total count rank kind inside is walked good above ranked counts =
-    let front = take i kinds in
-    let so_far = walked.floor_is in
-    let sum = walked.total_is in
-    subst (λ ks. Walked ks (rank + 1) (total + count)) (sym (one_more kinds i kind inside is)) (record {
-      in_order = more_kinds 0 front kind walked.in_order good (omega (arith, so_far, above));
-      floor_is = ap (λ r. r + 1) ranked ∙ sym (more_floor 0 front kind);
-      total_is = omega (arith, sum, counts, more_counted front kind);
-    })
+walks_on kinds i {total} {count} {rank} inside is walked may ranked counts =
+    subst (λ ks. Walked ks (rank + 1) (total + count)) (sym (one_more kinds i inside is)) (walked_more walked may.0 may.1 ranked counts)
 
-pub walk_bounds : (kinds : List PricedKind) (floor total : ℕ) → Walked kinds floor total
-    → (total ≤ 255 * floor) × (length kinds ≤ floor) × (floor ≤ 703)
-walk_bounds kinds floor total walked =
+pub walk_bounds : {kinds : List PricedKind} {floor total : ℕ} → Walked kinds floor total → (total ≤ 255 * floor) × (length kinds ≤ floor) × (floor ≤ 703)
+walk_bounds {kinds} walked =
     let bounds = floor_bounds 0 kinds walked.in_order in
-    let few = bounds.0 in
-    let short = bounds.1 in
     let low = low_floor 0 kinds (omega arith) walked.in_order in
-    let so_far = walked.floor_is in
-    let sum = walked.total_is in
-    (omega (arith, few, so_far, sum), omega (arith, short, so_far), omega (arith, low, so_far))
-
-pub good_at : (kinds : List PricedKind) (i : ℕ) (kind : PricedKind) → i < length kinds → kind ≡ get_or kinds i kind
-    → AreKinds 0 kinds
-    → IsPricedKind kind × (floor_behind 0 (take i kinds) ≤ look_rank kind.look)
-good_at kinds i kind inside is are =
-    let split = at_place kinds i kind inside ∙ ap (λ k. take i kinds ++ (k ∷ drop (i + 1) kinds)) (sym is) in
-    kind_within 0 (take i kinds) kind (drop (i + 1) kinds) (subst (AreKinds 0) split are)
-
--- a kind that may not follow
-pub stumbles : (kinds : List PricedKind) (i floor total : ℕ) (kind : PricedKind) → i < length kinds → kind ≡ get_or kinds i kind
-    → Walked (take i kinds) floor total → AreKinds 0 kinds → IsPricedKind kind × (floor ≤ look_rank kind.look)
-stumbles kinds i floor total kind inside is walked are =
-    subst (λ f. IsPricedKind kind × (f ≤ look_rank kind.look)) (sym walked.floor_is)
-    (good_at kinds i kind inside is are)
+    (omega arith, omega arith, omega arith)
 
 -- the sum goes on by the price of all things of a kind
 abbrev pub SumsOn : ℤ → ℤ → ℤ → List PricedKind → ℕ → Type 0
@@ -171,22 +126,22 @@ SumsOn sum total more kinds i =
     × ((total +ℤ more) ≡ fold (λ sum price. sum +ℤ price) sum (prices_of_kinds (take (i + 1) kinds)))
     × (unsigned_abs (total +ℤ more) ≤ unsigned_abs sum + 9999 * counted (take (i + 1) kinds))
 
-pub sums_on : (sum total more : ℤ) (kinds : List PricedKind) (i : ℕ) (kind : PricedKind) → i < length kinds → kind ≡ get_or kinds i kind → AreKinds 0 kinds
+pub sums_on : (sum total more : ℤ) (kinds : List PricedKind) (i : ℕ) {kind : PricedKind} → i < length kinds → kind ≡ get_or kinds i kind → AreKinds 0 kinds
     → counted kinds ≤ 27 → unsigned_abs sum ≤ 27 * 9999 → total ≡ fold (λ sum price. sum +ℤ price) sum (prices_of_kinds (take i kinds))
     → unsigned_abs total ≤ unsigned_abs sum + 9999 * counted (take i kinds) → more ≡ pos kind.count *ℤ kind.price → SumsOn sum total more kinds i
-sums_on sum total more kinds i kind inside is are few small value bound product =
-    let next = one_more kinds i kind inside is in
-    let counts = ap counted next ∙ more_counted (take i kinds) kind in
-    let before = counted_before kinds (i + 1) in
-    let good = (good_at kinds i kind inside is are).0 in
-    let here : unsigned_abs more ≤ 9999 * kind.count = subst (λ z. unsigned_abs z ≤ 9999 * kind.count) (sym product) (product_bound kind.count kind.price good.reach) in
-    let most = good.most in
+sums_on sum total more kinds i {kind} inside is are few small value bound product =
+    let next = one_more kinds i inside is in
+    let counts = ap counted next ∙ counted-append (take i kinds) (kind ∷ []) in
+    let before = ap counted (take-append-drop (i + 1) kinds) in
+    let rest = counted-append (take (i + 1) kinds) (drop (i + 1) kinds) in
+    let good = (good_at 0 kinds i inside is are).0 in
+    let most_in_all : kind.count * unsigned_abs kind.price ≤ kind.count * 9999 = mul-le-mul_left kind.count good.reach in
+    let here : unsigned_abs more ≤ 9999 * kind.count = rw product (omega (arith, unsigned_abs-mul (pos kind.count) kind.price)) in
     let both : unsigned_abs (total +ℤ more) ≤ unsigned_abs total + unsigned_abs more = omega (arith, ints) in (
-      fits_signed_from_abs w32 more (omega (arith, here, most)),
-      fits_signed_from_abs w32 (total +ℤ more) (omega (arith, both, here, bound, small, few, counts, before)),
-      ap (λ t. t +ℤ more) value ∙ ap (λ m. fold (λ sum price. sum +ℤ price) sum (prices_of_kinds (take i kinds)) +ℤ m) product
-          ∙ sym (more_sum sum (take i kinds) kind) ∙ sym (ap (λ ks. fold (λ sum price. sum +ℤ price) sum (prices_of_kinds ks)) next),
-      omega (arith, both, here, bound, counts),
+      fits_signed_from_abs w32 more (omega arith),
+      fits_signed_from_abs w32 (total +ℤ more) (omega arith),
+      cc (more_sum sum (take i kinds) kind),
+      omega arith,
     )
 
 pub called_at : (name : Name) (kinds : List PricedKind) (i : ℕ) (kind : PricedKind) → i < length kinds → kind ≡ get_or kinds i kind → AreCalled name kinds
@@ -195,76 +150,33 @@ called_at name [] i kind inside is called = absurd (omega arith)
 called_at name (first ∷ kinds) zero kind inside is called = subst (λ k. look_name k.look ≡ name) (sym is) called.0
 called_at name (first ∷ kinds) (suc i) kind inside is called = called_at name kinds i kind (omega arith) is called.1
 
-each_kind : (floor : ℕ) (kinds : List PricedKind) → AreKinds floor kinds → AllByRecursion IsPricedKind kinds
-each_kind floor [] are = tt
-each_kind floor (kind ∷ kinds) are = (are.0, each_kind (look_rank kind.look + 1) kinds are.2)
-
 pub all_kinds : (floor : ℕ) (kinds : List PricedKind) → AreKinds floor kinds → All IsPricedKind kinds
-all_kinds floor kinds are = All-from_recursion IsPricedKind kinds (each_kind floor kinds are)
+all_kinds floor [] are = All-nil IsPricedKind
+all_kinds floor (kind ∷ kinds) are = All-cons IsPricedKind kind kinds are.0 (all_kinds (look_rank kind.look + 1) kinds are.2)
 
 -- ---- kinds, read
 
 -- these kinds have been read, with what follows; the next has at least this rank and stands in that line, and they are of so many things
 pub record HasRead (name : Name) (line : ℕ) (text rest : List ℕ) (floor total at : ℕ) (kept : List PricedKind) : Type 0 where
-  pub all : List PricedKind
-  pub begins : BeginsWithKinds name text all rest
-  pub walked : Walked all floor total
-  pub at_is : at ≡ line + length all
-  pub kept_is : kept ≡ all
+  pub begins : BeginsWithKinds name text kept rest
+  pub walked : Walked kept floor total
+  pub at_is : at ≡ line + length kept
 
-pub reads_on : (name : Name) (line : ℕ) (text rest after : List ℕ) (floor total at count rank : ℕ) (kept more : List PricedKind) (kind : PricedKind)
+pub reads_on : {name : Name} {line : ℕ} {text rest after : List ℕ} {floor total at count rank : ℕ} {kept more : List PricedKind} {kind : PricedKind}
     → HasRead name line text rest floor total at kept → IsNextKind name floor rest kind after → rank ≡ look_rank kind.look → count ≡ kind.count
     → more ≡ kept ++ kind ∷ [] → HasRead name line text after (rank + 1) (total + count) (at + 1) more
-reads_on name line text rest after floor total at count rank kept more kind read next ranked counts keeps =
-    let all = read.all in
-    let so_far = read.walked.floor_is in
-    let sum = read.walked.total_is in
-    let above = next.above in
+reads_on {name} {line} {text} {after} {total} {at} {count} {rank} {kept} {kind} read next ranked counts keeps =
     let at_is = read.at_is in
-    record {
-      all = all ++ kind ∷ [];
+    let walked = walked_more read.walked next.good next.above ranked counts in
+    subst (HasRead name line text after (rank + 1) (total + count) (at + 1)) (sym keeps) (record {
       begins = record {
         lines =
-            read.begins.lines ∙ ap (λ t. kinds_text all ++ t) (next.line ∙ sym (text_of_more_kinds kind [] after))
-            ∙ sym (append_assoc (kinds_text all) (kinds_text (kind ∷ [])) after)
-            ∙ ap (λ t. t ++ after) (sym (flat_map-append (λ (k : PricedKind). line_of (kind_words k) ++ 10 ∷ []) all (kind ∷ [])));
-        called = more_called name all kind read.begins.called next.called;
-        in_order = more_kinds 0 all kind read.begins.in_order next.good (omega (arith, so_far, above));
+            read.begins.lines ∙ ap (λ t. kinds_text kept ++ t) (next.line ∙ sym (text_of_more_kinds kind [] after))
+            ∙ sym (append_assoc (kinds_text kept) (kinds_text (kind ∷ [])) after)
+            ∙ ap (λ t. t ++ after) (sym (flat_map-append (λ (k : PricedKind). line_of (kind_words k) ++ 10 ∷ []) kept (kind ∷ [])));
+        called = more_called name kept kind read.begins.called next.called;
+        in_order = walked.in_order;
       };
-      walked = record {
-        in_order = more_kinds 0 all kind read.begins.in_order next.good (omega (arith, so_far, above));
-        floor_is = ap (λ r. r + 1) ranked ∙ sym (more_floor 0 all kind);
-        total_is = omega (arith, sum, counts, more_counted all kind);
-      };
-      at_is = omega (arith, at_is, length-append all (kind ∷ []));
-      kept_is = keeps ∙ ap (λ k. k ++ kind ∷ []) read.kept_is;
-    }
-
-pub shorter : (name : Name) (floor : ℕ) (rest : List ℕ) (kind : PricedKind) (after : List ℕ) → IsNextKind name floor rest kind after → length after < length rest
-shorter name floor rest kind after next =
-    omega (arith, ap length next.line, length-append (line_of (kind_words kind)) (10 ∷ after))
-
--- all kinds of a group are kept
-pub all_kept : (name : Name) (line number : ℕ) (text rest : List ℕ) (floor total at : ℕ) (kept : List PricedKind)
-    → HasRead name line text rest floor total at kept → EndsGroup name rest → total ≡ number → BeginsWithGroup name number text kept rest
-all_kept name line number text rest floor total at kept read ends count =
-    let sum = read.walked.total_is in
-    subst (λ kinds. BeginsWithGroup name number text kinds rest) (sym read.kept_is) (record { begins = read.begins; ends = ends; count = sym sum ∙ count })
-
-pub bad_kind : (name : Name) (line number : ℕ) (text rest : List ℕ) (floor total at : ℕ) (kept : List PricedKind) (fault : CardFault)
-    → HasRead name line text rest floor total at kept → IsBadKind name floor at rest fault → IsGroupFault name number line text fault
-bad_kind name line number text rest floor total at kept fault read bad =
-    AtKind read.all rest read.begins
-    (subst (λ l. IsBadKind name (floor_behind 0 read.all) l rest fault) read.at_is (subst (λ f. IsBadKind name f at rest fault) read.walked.floor_is bad))
-
-pub bad_count : (name : Name) (line number : ℕ) (text rest : List ℕ) (floor total at : ℕ) (kept : List PricedKind)
-    → HasRead name line text rest floor total at kept → EndsGroup name rest → total ≢ number → IsGroupFault name number line text PriceMissing
-bad_count name line number text rest floor total at kept read ends differs =
-    AtCount read.all rest read.begins ends (λ count. differs (read.walked.total_is ∙ count)) refl
-
--- what is said of an option, once it is known
-pub some_told : {X : Type 0} (o : Option X) (x : X) (P : Type 0) (Q : X → Type 0) → MatchOption o P Q → o ≡ Some x → Q x
-some_told {X} o x P Q told is = let both = subst (λ (p : Option X). MatchOption p P Q) is told in both
-
-pub none_told : {X : Type 0} (o : Option X) (P : Type 0) (Q : X → Type 0) → MatchOption o P Q → o ≡ None → P
-none_told {X} o P Q told is = let both = subst (λ (p : Option X). MatchOption p P Q) is told in both
+      walked = walked;
+      at_is = omega (arith, length-append kept (kind ∷ []));
+    })

@@ -1,16 +1,16 @@
 -- A setting that changes no cable and no bar puts at most one loose thing right; the others leave what is loose.
 use Rattle.std.proofs.Common.{◌≡◌, ◌≢◌, ℕ, zero, suc, ◌+◌, ◌-◌, ◌≤◌, nat_eq, Bool, true, false, not, cond, List, [], ◌∷◌, get_or, set, map, zip, sum, count_by, AllPairs, Option, Some, None, slice_get, unwrap_or, inl, inr, refl, sym, ap, ◌∙◌, subst, arith}
-use Rattle.std.specs.List.{AllByRecursion}
+use Rattle.std.specs.List.{AllByRecursion, sum_by}
 use Rattle.std.specs.Option.{option_map_or}
 use Rattle.std.specs.Str.{bytes_eq}
 use Rattle.std.proofs.lemmas.Bool.{cases_eq, eq-eqb, false≢true}
 use Rattle.std.proofs.lemmas.List.Elements.{recursion_from_All}
-use Rattle.std.proofs.lemmas.List.Sums.{sum_by-cons}
+use Rattle.std.proofs.lemmas.List.{map-id}
+use Rattle.std.proofs.lemmas.List.Sums.{sum-map, sum_by-cons}
 use Rattle.std.proofs.lemmas.Option.{unwrap_or-slice_get}
 use Rattle.std.proofs.lemmas.Slice.Eq.{bytes_eq-Decides}
 use Rattle.kd_tables.specs.declared.model.Model.{Model}
 use Rattle.kd_tables.specs.declared.wheel.Wheel.{Wheel}
-use Rattle.kd_tables.specs.declared.place.Place.{Place}
 use Rattle.kd_tables.specs.Rings.{ring_of, place_on}
 use Rattle.kd_tables.specs.Tables.{wheel_text, reflector_text}
 use Rattle.kd_pins.specs.declared.pin_set.PinSet.{PinSet}
@@ -25,8 +25,8 @@ use Rattle.kd_state.specs.declared.sheet_day.rotor_entry.SheetWheel.{SheetWheel}
 use Rattle.kd_state.specs.Box.{same_wheel, same_reflector, place_in_box}
 use Rattle.kd_state.specs.Pins.{pin_set, wheel_pins, with_pin}
 use Rattle.kd_state.specs.Machine.{model_of, ring_at, letter_at}
-use Rattle.kd_state.specs.Setting.{why_refused, cable_at, cable_without, cable_with, seated_in, without, with_letter, with_lug_at, changed}
-use Rattle.kd_state.specs.SheetDay.{RotorDay, PinDay, Day, OfRotors, OfPins, seats, IsLegalDay, day_model}
+use Rattle.kd_state.specs.Setting.{why_refused, seated_in, without, with_letter, changed}
+use Rattle.kd_state.specs.SheetDay.{RotorDay, PinDay, Day, OfRotors, OfPins, IsLegalDay, day_model}
 use Rattle.kd_state.specs.OnKey.{ReadsAs}
 use Rattle.kd_state.specs.Laws.{DaysWheelsHaveTheirPlaces}
 use Rattle.kd_state.specs.Costs.{differ, unless_same, loose_slots, loose_reflector, loose_rings, loose_letters, loose_pins, loose_pin_letters, loose_count}
@@ -35,12 +35,15 @@ use Rattle.kd_card.proofs.Counts.{count_by-cons, at_most_one}
 use Rattle.kd_card.proofs.Falling.{unless_same_at_most, one_less, not_differing}
 
 -- one of two lists that stand side by side is changed at a place
+zip_set : {X Y : Type 0} (f : X × Y → ℕ) (xs : List X) (ys : List Y) (i : ℕ) (v d : X) → ((y : Y) → f (get_or xs i d, y) ≤ f (v, y) + 1)
+    → sum_by f (zip xs ys) ≤ sum_by f (zip (set xs i v) ys) + 1
+zip_set f (x ∷ xs) (y ∷ ys) zero v d h = omega (arith, h y, sum_by-cons f (x, y) (zip xs ys), sum_by-cons f (v, y) (zip xs ys))
+zip_set f (x ∷ xs) (y ∷ ys) (suc i) v d h =
+    omega (arith, sum_by-cons f (x, y) (zip xs ys), sum_by-cons f (x, y) (zip (set xs i v) ys), zip_set f xs ys i v d h)
+zip_set f xs ys i v d h = omega arith
+
 zip_set_lowers : {X Y : Type 0} (p : X × Y → Bool) (xs : List X) (ys : List Y) (i : ℕ) (v : X) → count_by p (zip xs ys) ≤ count_by p (zip (set xs i v) ys) + 1
-zip_set_lowers p (x ∷ xs) (y ∷ ys) zero v =
-    omega (arith, count_by-cons p (x, y) (zip xs ys), count_by-cons p (v, y) (zip xs ys), at_most_one (p (x, y)))
-zip_set_lowers p (x ∷ xs) (y ∷ ys) (suc i) v =
-    omega (arith, count_by-cons p (x, y) (zip xs ys), count_by-cons p (x, y) (zip (set xs i v) ys), zip_set_lowers p xs ys i v)
-zip_set_lowers p xs ys i v = omega arith
+zip_set_lowers p xs ys i v = zip_set (λ z. cond (p z) 1 0) xs ys i v v (λ y. omega (arith, at_most_one (p (get_or xs i v, y))))
 
 -- Letters of which one is set: of things at different places at most one is right then that was not.
 set_other : {X : Type 0} (xs : List X) (place at : ℕ) (x : X) → at ≢ place → slice_get (set xs place x) at ≡ slice_get xs at
@@ -81,13 +84,11 @@ module _ {X : Type 0} (place target : X → ℕ) where
 abbrev wrong_slot : Option Wheel × SheetWheel → Bool
 wrong_slot slot = not (option_map_or (same_wheel slot.1.wheel) slot.0 false)
 
-empty_wrong_cond : (b : Bool) (other : Wheel) (wanted : SheetWheel) → cond {A = ℕ} (wrong_slot (Some other, wanted)) 1 0 ≤ cond {A = ℕ} (wrong_slot (cond b None (Some other), wanted)) 1 0
-empty_wrong_cond true other wanted = at_most_one (not (same_wheel wanted.wheel other))
-empty_wrong_cond false other wanted = omega arith
-
 empty_wrong : (seated : Option Wheel) (wheel : Wheel) (wanted : SheetWheel) → cond {A = ℕ} (wrong_slot (seated, wanted)) 1 0 ≤ cond {A = ℕ} (wrong_slot (without wheel seated, wanted)) 1 0
 empty_wrong None wheel wanted = omega arith
-empty_wrong (Some other) wheel wanted = empty_wrong_cond (same_wheel wheel other) other wanted
+empty_wrong (Some other) wheel wanted =
+    elim (same_wheel wheel other) as (λ b. cond {A = ℕ} (wrong_slot (Some other, wanted)) 1 0 ≤ cond {A = ℕ} (wrong_slot (cond b None (Some other), wanted)) 1 0)
+    [ true ↦ at_most_one (not (same_wheel wanted.wheel other)) | false ↦ omega arith ]
 
 without_raises : (wheel : Wheel) (slots : List (Option Wheel)) (wheels : List SheetWheel) → count_by wrong_slot (zip slots wheels) ≤ count_by wrong_slot (zip (map (without wheel) slots) wheels)
 without_raises wheel [] wheels = omega arith
@@ -127,21 +128,14 @@ abbrev differing : List Bool × List Bool → ℕ
 differing wheel = count_by (λ (pin : Bool × Bool). differ pin.0 pin.1) (zip wheel.0 wheel.1)
 
 wheel_set_lowers : (xss yss : List (List Bool)) (i p : ℕ) (effective : Bool) → sum (map differing (zip xss yss)) ≤ sum (map differing (zip (set xss i (set (get_or xss i []) p effective)) yss)) + 1
-wheel_set_lowers (xs ∷ xss) (ys ∷ yss) zero p effective =
+wheel_set_lowers xss yss i p effective =
+    let now = set (get_or xss i []) p effective in
     omega (
       arith,
-      sum_by-cons (λ n. n) (differing (xs, ys)) (map differing (zip xss yss)),
-      sum_by-cons (λ n. n) (differing (set xs p effective, ys)) (map differing (zip xss yss)),
-      zip_set_lowers (λ (pin : Bool × Bool). differ pin.0 pin.1) xs ys p effective,
+      sum-map differing (zip xss yss),
+      sum-map differing (zip (set xss i now) yss),
+      zip_set differing xss yss i now [] (λ ys. zip_set_lowers (λ (pin : Bool × Bool). differ pin.0 pin.1) (get_or xss i []) ys p effective),
     )
-wheel_set_lowers (xs ∷ xss) (ys ∷ yss) (suc i) p effective =
-    omega (
-      arith,
-      sum_by-cons (λ n. n) (differing (xs, ys)) (map differing (zip xss yss)),
-      sum_by-cons (λ n. n) (differing (xs, ys)) (map differing (zip (set xss i (set (get_or xss i []) p effective)) yss)),
-      wheel_set_lowers xss yss i p effective,
-    )
-wheel_set_lowers xss yss i p effective = omega arith
 
 pins_of-set : (pins : PinSet) (i : ℕ) (new : List Bool) → pins_of (pin_set (set (pins_of pins) i new)) ≡ set (pins_of pins) i new
 pins_of-set pins (suc (suc (suc (suc (suc zero))))) new = refl
@@ -177,31 +171,28 @@ model_of-changed (Rotor m) (Pull cable letter) = refl
 model_of-changed (Pin m) (Pull cable letter) = refl
 model_of-changed m x = refl
 
-other_cables : (m : RotorParts) (cables : List (Option ℕ × Option ℕ)) (s : Day) → loose_count (Rotor (record m { cables = cables })) s ≡ loose_count (Rotor m) s
-other_cables m cables (OfRotors s) = refl
-other_cables m cables (OfPins s) = refl
-
-other_bars : (m : PinParts) (bars : List (Place × Place)) (s : Day) → loose_count (Pin (record m { bars = bars })) s ≡ loose_count (Pin m) s
-other_bars m bars (OfRotors s) = refl
-other_bars m bars (OfPins s) = refl
-
 pub leaves : (m : Parts) (s : Day) (x : Setting) → is_priced x ≡ true → loose_count (changed m x) s ≡ loose_count m s
-leaves (Rotor m) s (Pull cable letter) e = other_cables m (set m.cables (cable - 1) (cable_without letter (cable_at m cable))) s
-leaves (Rotor m) s (Put cable letter) e = other_cables m (set m.cables (cable - 1) (cable_with letter (cable_at m cable))) s
+leaves (Rotor m) (OfRotors s) (Pull cable letter) e = refl
+leaves (Rotor m) (OfRotors s) (Put cable letter) e = refl
+leaves (Rotor m) (OfPins s) (Pull cable letter) e = refl
+leaves (Rotor m) (OfPins s) (Put cable letter) e = refl
 leaves (Rotor m) s (LugTo bar lug place) e = refl
 leaves (Pin m) s (Pull cable letter) e = refl
 leaves (Pin m) s (Put cable letter) e = refl
-leaves (Pin m) s (LugTo bar lug place) e = other_bars m (with_lug_at m bar lug place) s
+leaves (Pin m) (OfRotors s) (LugTo bar lug place) e = refl
+leaves (Pin m) (OfPins s) (LugTo bar lug place) e = refl
 leaves m s x e = absurd (false≢true e)
 
 -- a machine that reads as the day has nothing loose
 itself : (name : List ℕ) → bytes_eq name name ≡ true
 itself name = (bytes_eq-Decides name name).1 refl
 
-no_slot_wrong : (wheels : List SheetWheel) → count_by wrong_slot (zip (seats wheels) wheels) ≡ 0
-no_slot_wrong [] = refl
-no_slot_wrong (wheel ∷ wheels) =
-    count_by-cons wrong_slot (Some wheel.wheel, wheel) (zip (seats wheels) wheels) ∙ rw (itself (wheel_text wheel.wheel), no_slot_wrong wheels) refl
+zip_none : {X Y : Type 0} (f : Y × X → ℕ) (seen : X → Y) → ((x : X) → f (seen x, x) ≡ 0) → (xs : List X) → sum_by f (zip (map seen xs) xs) ≡ 0
+zip_none f seen h [] = refl
+zip_none f seen h (x ∷ xs) = sum_by-cons f (seen x, x) (zip (map seen xs) xs) ∙ rw (h x, zip_none f seen h xs) refl
+
+self_none : {X : Type 0} (f : X × X → ℕ) → ((x : X) → f (x, x) ≡ 0) → (xs : List X) → sum_by f (zip xs xs) ≡ 0
+self_none f h xs = subst (λ ys. sum_by f (zip ys xs) ≡ 0) (map-id xs) (zip_none f (λ x. x) h xs)
 
 none_wrong : (seen : SheetWheel → Option ℕ) (wanted : SheetWheel → ℕ) (wheels : List SheetWheel) → AllByRecursion (λ w. seen w ≡ Some (wanted w)) wheels
     → count_by (λ w. not (option_map_or (nat_eq (wanted w)) (seen w) false)) wheels ≡ 0
@@ -212,30 +203,25 @@ none_wrong seen wanted (w ∷ wheels) h =
 
 rotor_not_loose : (n : RotorParts) (s : RotorDay) → ReadsAs (Rotor n) (OfRotors s) → loose_count (Rotor n) (OfRotors s) ≡ 0
 rotor_not_loose n s h =
-    let slots : loose_slots n s ≡ 0 = ap (λ slots. count_by wrong_slot (zip slots s.wheels)) h.key.slots ∙ no_slot_wrong s.wheels in
+    let slots : loose_slots n s ≡ 0 =
+    ap (λ slots. count_by wrong_slot (zip slots s.wheels)) h.key.slots
+    ∙ zip_none (λ slot. cond (wrong_slot slot) 1 0) (λ w. Some w.wheel) (λ w. ap (λ b. cond (not b) 1 0) (itself (wheel_text w.wheel))) s.wheels in
     let reflector : loose_reflector n s ≡ 0 = ap (λ reflector. unless_same (same_reflector reflector s.reflector)) h.key.reflector ∙ ap unless_same (itself (reflector_text s.reflector)) in
     let rings : loose_rings n s ≡ 0 = none_wrong (λ w. ring_at n w.wheel) (λ w. w.ring) s.wheels (recursion_from_All (λ (w : SheetWheel). ring_at n w.wheel ≡ Some w.ring) s.wheels h.key.rings) in
     let letters : loose_letters n s ≡ 0 = none_wrong (λ w. letter_at n w.wheel) (λ w. w.letter) s.wheels (recursion_from_All (λ (w : SheetWheel). letter_at n w.wheel ≡ Some w.letter) s.wheels h.window) in
     omega (arith, slots, reflector, rings, letters)
 
 no_pin_wrong : (pins : List Bool) → differing (pins, pins) ≡ 0
-no_pin_wrong [] = refl
-no_pin_wrong (pin ∷ pins) =
-    count_by-cons (λ (pin : Bool × Bool). differ pin.0 pin.1) (pin, pin) (zip pins pins) ∙ rw (not_differing pin, no_pin_wrong pins) refl
-
-no_wheel_wrong : (lists : List (List Bool)) → sum (map differing (zip lists lists)) ≡ 0
-no_wheel_wrong [] = refl
-no_wheel_wrong (pins ∷ lists) = sum_by-cons (λ n. n) (differing (pins, pins)) (map differing (zip lists lists)) ∙ rw (no_pin_wrong pins, no_wheel_wrong lists) refl
-
-no_letter_wrong : (letters : List ℕ) → count_by (λ (letter : ℕ × ℕ). not (nat_eq letter.0 letter.1)) (zip letters letters) ≡ 0
-no_letter_wrong [] = refl
-no_letter_wrong (letter ∷ letters) =
-    count_by-cons (λ (letter : ℕ × ℕ). not (nat_eq letter.0 letter.1)) (letter, letter) (zip letters letters) ∙ rw (eq-eqb letter letter refl, no_letter_wrong letters) refl
+no_pin_wrong pins = self_none (λ (pin : Bool × Bool). cond (differ pin.0 pin.1) 1 0) (λ b. ap (λ d. cond d 1 0) (not_differing b)) pins
 
 pin_not_loose : (n : PinParts) (s : PinDay) → ReadsAs (Pin n) (OfPins s) → loose_count (Pin n) (OfPins s) ≡ 0
 pin_not_loose n s h =
-    let pins : loose_pins n s ≡ 0 = ap (λ pins. sum (map differing (zip (pins_of pins) (pins_of s.pins)))) h.key.pins ∙ no_wheel_wrong (pins_of s.pins) in
-    let letters : loose_pin_letters n s ≡ 0 = ap (λ letters. count_by (λ (letter : ℕ × ℕ). not (nat_eq letter.0 letter.1)) (zip letters s.window)) h.window ∙ no_letter_wrong s.window in
+    let pins : loose_pins n s ≡ 0 =
+    ap (λ pins. sum (map differing (zip (pins_of pins) (pins_of s.pins)))) h.key.pins
+    ∙ sum-map differing (zip (pins_of s.pins) (pins_of s.pins)) ∙ self_none differing no_pin_wrong (pins_of s.pins) in
+    let letters : loose_pin_letters n s ≡ 0 =
+    ap (λ letters. count_by (λ (letter : ℕ × ℕ). not (nat_eq letter.0 letter.1)) (zip letters s.window)) h.window
+    ∙ self_none (λ (letter : ℕ × ℕ). cond (not (nat_eq letter.0 letter.1)) 1 0) (λ l. ap (λ b. cond (not b) 1 0) (eq-eqb l l refl)) s.window in
     omega (arith, pins, letters)
 
 pub nothing_loose : (n : Parts) (s : Day) → ReadsAs n s → loose_count n s ≡ 0

@@ -7,10 +7,10 @@ use Rattle.std.proofs.lemmas.Bool.{false≢true, eq-eqb, lt-ltb}
 use Rattle.std.proofs.lemmas.Bool.Decides.{eqb_tells}
 use Rattle.std.proofs.lemmas.List.Edits.{length-remove}
 use Rattle.std.proofs.lemmas.List.Elements.{All-contains, recursion_from_All}
-use Rattle.std.proofs.lemmas.List.Sums.{sum_by-cons, AllPass-from_list_all}
+use Rattle.std.proofs.lemmas.List.Sums.{sum_by-cons, get_or-le-sum_by, AllPass-from_list_all}
 use Rattle.std.proofs.lemmas.List.Sorted.{sum_by-IsPermutation, Contains-permutation, IsPermutation-refl, IsPermutation-sym, IsPermutation-cons, IsPermutation-trans, IsPermutation-remove}
 use Rattle.kd_tables.specs.declared.place.Place.{Place}
-use Rattle.kd_tables.specs.declared.place.Place.TheVariants.{One, ZeroLeft, Two, Three, Four, Five, ZeroRight, Six}
+use Rattle.kd_tables.specs.declared.place.Place.TheVariants.{One}
 use Rattle.kd_tables.specs.Permutation.{alphabet}
 use Rattle.kd_tables.specs.Places.{places, place_rank, reading_of, IsBefore}
 use Rattle.kd_enigma.specs.Plugs.{letters_plugged}
@@ -41,28 +41,21 @@ CostsNothing cable column = cable_cost cable column ≡ 0
 
 -- letters that are among these are counted
 counted : (letter : ℕ) (letters : List ℕ) (place : ℕ) → place < length letters → get_or letters place letter ≡ letter → 1 ≤ times letter letters
-counted letter [] place lt e = absurd (omega arith)
-counted letter (other ∷ letters) zero lt e =
-    let here = ap (λ b. cond {A = ℕ} b 1 0) (eq-eqb letter other (sym e)) in
-    omega (arith, count_by-cons (nat_eq letter) other letters)
-counted letter (other ∷ letters) (suc place) lt e = omega (arith, count_by-cons (nat_eq letter) other letters, counted letter letters place (omega arith) e)
+counted letter letters place lt e =
+    let here = ap (λ b. cond {A = ℕ} b 1 0) (eq-eqb letter (get_or letters place letter) (sym e)) in
+    omega (arith, get_or-le-sum_by (λ other. cond (nat_eq letter other) 1 0) letters place letter lt)
 
 -- letters that lie in some things
 module _ {X : Type 0} (letters_of : X → List ℕ) where
-  within : (letter : ℕ) (xs : List X) (place : ℕ) (x : X) → place < length xs → get_or xs place x ≡ x → times letter (letters_of x) ≤ times letter (flat_map letters_of xs)
-  within letter [] place x lt e = absurd (omega arith)
-  within letter (y ∷ ys) zero x lt e =
-      let same = ap (λ x. times letter (letters_of x)) e in
-      omega (arith, times-append letter (letters_of y) (flat_map letters_of ys))
-  within letter (y ∷ ys) (suc place) x lt e = omega (arith, times-append letter (letters_of y) (flat_map letters_of ys), within letter ys place x (omega arith) e)
-
   times-flat_map : (letter : ℕ) (xs : List X) → times letter (flat_map letters_of xs) ≡ lists.sum_by (λ x. times letter (letters_of x)) xs
   times-flat_map letter [] = refl
   times-flat_map letter (x ∷ xs) =
       omega (arith, times-append letter (letters_of x) (flat_map letters_of xs), sum_by-cons (λ x. times letter (letters_of x)) x xs, times-flat_map letter xs)
 
-  times-IsPermutation : (letter : ℕ) (xs ys : List X) → IsPermutation xs ys → times letter (flat_map letters_of ys) ≡ times letter (flat_map letters_of xs)
-  times-IsPermutation letter xs ys h = times-flat_map letter ys ∙ sum_by-IsPermutation (λ x. times letter (letters_of x)) xs ys h ∙ sym (times-flat_map letter xs)
+  within : (letter : ℕ) (xs : List X) (place : ℕ) (x : X) → place < length xs → get_or xs place x ≡ x → times letter (letters_of x) ≤ times letter (flat_map letters_of xs)
+  within letter xs place x lt e =
+      let same = ap (λ x. times letter (letters_of x)) e in
+      omega (arith, times-flat_map letter xs, get_or-le-sum_by (λ x. times letter (letters_of x)) xs place x lt)
 
 abbrev pair_letters : ℕ × ℕ → List ℕ
 pair_letters pair = pair.0 ∷ pair.1 ∷ []
@@ -119,13 +112,14 @@ in_rest x y xs h = (suc h.0, omega (arith, h.1), h.2)
 -- the first pair and its cable are taken away
 module _ (cables rest : List (Option ℕ × Option ℕ)) (cable : Option ℕ × Option ℕ) (pair : ℕ × ℕ) (pairs : List (ℕ × ℕ)) (order : IsPermutation cables (cable ∷ rest)) (h : AreMatched cables (pair ∷ pairs)) (here : HasPair cable pair) where
   once_in_order : CablesAreOnce (cable ∷ rest)
-  once_in_order letter = omega (arith, h.cables_once letter, times-IsPermutation cable_letters letter cables (cable ∷ rest) order)
-
-  rest_once : CablesAreOnce rest
-  rest_once letter = omega (arith, once_in_order letter, times-append letter (cable_letters cable) (plugged_letters rest))
-
-  pairs_rest_once : AreOnce (letters_plugged pairs)
-  pairs_rest_once letter = omega (arith, h.pairs_once letter, times-append letter (pair_letters pair) (letters_plugged pairs))
+  once_in_order letter =
+      omega (
+        arith,
+        h.cables_once letter,
+        times-flat_map cable_letters letter cables,
+        times-flat_map cable_letters letter (cable ∷ rest),
+        sum_by-IsPermutation (λ c. times letter (cable_letters c)) cables (cable ∷ rest) order,
+      )
 
   pair_of_rest : (other : Option ℕ × Option ℕ) → Contains rest other → cable_letters other ≢ [] → (p : ℕ × ℕ) × Contains pairs p × HasPair other p
   pair_of_rest other among some =
@@ -144,7 +138,12 @@ module _ (cables rest : List (Option ℕ × Option ℕ)) (cable : Option ℕ × 
       ]
 
   rest_matched : AreMatched rest pairs
-  rest_matched = record { cables_once = rest_once; pairs_once = pairs_rest_once; pair = pair_of_rest; cable = cable_of_rest }
+  rest_matched = record {
+    cables_once = λ letter. omega (arith, once_in_order letter, times-append letter (cable_letters cable) (plugged_letters rest));
+    pairs_once = λ letter. omega (arith, h.pairs_once letter, times-append letter (pair_letters pair) (letters_plugged pairs));
+    pair = pair_of_rest;
+    cable = cable_of_rest;
+  }
 
 -- without pairs all cables are empty
 empty_costs_nothing : (cable : Option ℕ × Option ℕ) → (cable_letters cable ≢ [] → ⊥) → CostsNothing cable None
@@ -214,13 +213,7 @@ cables_paired told cables pairs prices has once few count h =
 -- a bar that stands costs nothing at its own row
 in_places : (place : Place) → Contains places place
 in_places One = (0, omega arith, refl)
-in_places ZeroLeft = (1, omega arith, refl)
-in_places Two = (2, omega arith, refl)
-in_places Three = (3, omega arith, refl)
-in_places Four = (4, omega arith, refl)
-in_places Five = (5, omega arith, refl)
-in_places ZeroRight = (6, omega arith, refl)
-in_places Six = (7, omega arith, refl)
+in_places place = (place_rank place, omega arith, refl)
 
 free_bar : Place → Place → Bool
 free_bar left right = not (nat_lt (place_rank left) (place_rank right)) || (bar_cost (left, right) (reading_of left right) == 0)

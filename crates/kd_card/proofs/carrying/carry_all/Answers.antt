@@ -1,6 +1,6 @@
-use Rattle.std.proofs.Common.{◌≡◌, ℕ, zero, suc, ◌+◌, ◌<◌, List, [], ◌∷◌, ◌++◌, length, get_or, take, drop, Some, refl, sym, ap, ◌∙◌, subst, arith}
-use Rattle.std.proofs.lemmas.List.{length-take-le}
-use Rattle.std.proofs.Math.Seq.{take-suc}
+use Rattle.std.proofs.Common.{◌≡◌, ℕ, suc, ◌+◌, ◌<◌, List, [], ◌∷◌, ◌++◌, length, get_or, take, drop, Some, refl, sym, ap, ◌∙◌, subst, arith}
+use Rattle.std.proofs.lemmas.List.{length-take-le, take_more, take-append-drop}
+use Rattle.std.proofs.Math.Seq.{drop-cons}
 use Rattle.kd_state.specs.declared.machine.parts.Parts.{Parts}
 use Rattle.kd_state.specs.declared.setting.Setting.{Setting}
 use Rattle.kd_state.specs.declared.setting.why.Why.{Why}
@@ -16,16 +16,8 @@ leads_more m n o (y ∷ xs) x leads carries = (leads.0, leads.1, leads_more lead
 leads_on : (m n o : Parts) (xs : List Setting) (place : ℕ) (x : Setting) → place < length xs → get_or xs place x ≡ x
     → Leads m (take place xs) n → Carries n x o → Leads m (take (place + 1) xs) o
 leads_on m n o xs place x within is leads carries =
-    let next : place + 1 ≡ suc place = omega arith in
-    let split : take (place + 1) xs ≡ take place xs ++ x ∷ [] =
-    ap (λ k. take k xs) next ∙ take-suc xs place x within ∙ ap (λ y. take place xs ++ y ∷ []) is in
-    subst (λ front. Leads m front o) (sym split) (leads_more m n o (take place xs) x leads carries)
-
--- the settings before a place, the one there, and those behind it
-parted : (xs : List Setting) (place : ℕ) (x : Setting) → place < length xs → xs ≡ take place xs ++ get_or xs place x ∷ drop (suc place) xs
-parted [] place x within = absurd (omega arith)
-parted (y ∷ xs) zero x within = refl
-parted (y ∷ xs) (suc place) x within = ap (λ rest. y ∷ rest) (parted xs place x (omega arith))
+    subst (λ front. Leads m front o) (sym (take_more xs place x within ∙ ap (λ y. take place xs ++ y ∷ []) is))
+    (leads_more m n o (take place xs) x leads carries)
 
 stops_at : (m n : Parts) (xs : List Setting) (place : ℕ) (x : Setting) (why : Why) → place < length xs
     → get_or xs place x ≡ x
@@ -35,17 +27,17 @@ stops_at m n xs place x why within is leads refused = record {
   setting = x;
   rest = drop (suc place) xs;
   between = n;
-  split = parted xs place x within ∙ ap (λ y. take place xs ++ y ∷ drop (suc place) xs) is;
+  split =
+      sym (take-append-drop place xs) ∙ ap (λ rest. take place xs ++ rest) (drop-cons xs place x within)
+      ∙ ap (λ y. take place xs ++ y ∷ drop (suc place) xs) is;
   number = ap (λ n. n + 1) (sym (length-take-le place xs (omega arith)));
   leads = leads;
   refused = refused;
 }
 
--- src/carrying.rt:27:17
 pub returns-in-Err-clause-refused : goal.returns-in-Err-clause-refused
 returns-in-Err-clause-refused c =
     stops_at _ _ _ _ _ _ (omega arith) (sym c.index-settings-place.is) c.loop-place.invariant (c.in-Err.ensures.refused)
 
--- src/carrying.rt:23:5
 pub loop-place-preserved : goal.loop-place-preserved
 loop-place-preserved c = leads_on _ _ _ _ _ _ (omega arith) (sym c.index-settings-place.is) c.loop-place.invariant c.in-Ok.ensures.carried

@@ -6,7 +6,7 @@ use Rattle.kd_card.proofs.kind_text.first_word.Goals as goal
 pub returns-in-Some : goal.returns-in-Some
 returns-in-Some c = record {
   behind = words_of c.in-Some.field-0-1.now;
-  words = words_of_first c.args.line.now c.in-Some.first.now c.in-Some.field-0-1.now c.in-Some.ensures;
+  words = words_of_first c.in-Some.ensures;
 }
 
 pub returns-in-None : goal.returns-in-None

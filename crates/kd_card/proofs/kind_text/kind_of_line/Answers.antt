@@ -6,9 +6,7 @@ use Rattle.kd_card.proofs.kind_text.kind_of_line.Goals as goal
 
 pub returns-in-len4 : goal.returns-in-len4
 returns-in-len4 c =
-    let least = c.in-len4.len_at_least in
-    let below = c.in-len4.len_below in
-    let four : length c.as_slice.result.now ≡ 4 = omega (arith, least, below) in
+    let four : length c.as_slice.result.now ≡ 4 = omega (arith, c.in-len4.len_at_least, c.in-len4.len_below) in
     subst
     (λ words. MatchOption c.kind_of_parts.result ((kind : PricedKind) → ¬ (HasKindWords c.args.name words kind)) (λ kind. HasKindWords c.args.name words kind))
     (four_words c.args.name c.args.line.now c.as_slice.result.now _ _ _

@@ -1,18 +1,19 @@
-use Rattle.std.proofs.Common.{◌≡◌, ◌∙◌, sym, refl, ap, subst, not, eqb, arith}
+use Rattle.std.proofs.Common.{◌≡◌, ◌∙◌, sym, refl, ap, subst, not, eqb}
 use lib.Pointwise.{pointwise}
 use Rattle.std.proofs.lemmas.Bool.{false≢true, not-false}
 use Rattle.std.proofs.lemmas.Bool.Decides.{Decides-eqb}
 use Rattle.std.proofs.lemmas.Slice.Eq.{slice_eq-Decides}
 use Rattle.kd_card.specs.Kinds.{name_text}
 use Rattle.kd_card.specs.CardFault.{BeginsWithWord, AtOther, NoKind}
-use Rattle.kd_card.proofs.KindWords.{Laws, begins, none_next, low_next}
+use Rattle.kd_card.proofs.Lines.{Laws}
+use Rattle.kd_card.proofs.KindWords.{begins, words_are, low_next}
 use Rattle.kd_card.proofs.kind_text.next_kind.Goals as goal
 use Rattle.kd_card.proofs.kind_text.next_kind.Goals.{in_default-kind_of_line-via-in-Some-kind_of_line+else-floor-rank, in_default-kind_of_line-via-in_default-kind_of_line}
 
 pub returns-then-ne : goal.returns-then-ne
 returns-then-ne c =
     let same = slice_eq-Decides Decides-eqb c.first_word.result.now c.as_bytes.result.now (pointwise eqb c.first_word.result.now c.as_bytes.result.now) refl in
-    AtOther c.first_word.result.now (begins c.args.text.now c.in-Some.words.now c.in-Some.rest.now c.first_word.result.now c.in-Some.ensures c.first_word.ensures)
+    AtOther c.first_word.result.now (begins c.in-Some.ensures c.first_word.ensures)
     (λ e. false≢true (sym (c.ne.ensures ∙ ap not (same.1 (e ∙ sym c.text.ensures ∙ sym c.as_bytes.ensures.value))) ∙ c.if-ne.true))
 
 pub returns-in_default-kind_of_line : goal.returns-in_default-kind_of_line
@@ -27,14 +28,9 @@ returns-in_default-kind_of_line c =
     let word : c.first_word.result.now ≡ name_text c.args.name =
     same.0 (not-false (pointwise eqb c.first_word.result.now c.as_bytes.result.now)
     (sym c.ne.ensures ∙ c.if-ne.false)) ∙ c.as_bytes.ensures.value ∙ c.text.ensures in
-    NoKind
-    (subst (λ w. BeginsWithWord w c.args.text.now) word
-    (begins c.args.text.now c.in-Some.words.now c.in-Some.rest.now c.first_word.result.now c.in-Some.ensures c.first_word.ensures))
+    NoKind (subst (λ w. BeginsWithWord w c.args.text.now) word (begins c.in-Some.ensures c.first_word.ensures))
     (elim c.in_default-kind_of_line.branch [
       | in_default-kind_of_line-via-in-Some-kind_of_line+else-floor-rank w ↦
-          let low = w.if-floor-rank.false in
-          low_next laws c.args.name c.args.floor w.rank.result c.args.text.now c.in-Some.words.now c.in-Some.rest.now w.in-Some-kind_of_line.kind c.in-Some.ensures
-          w.in-Some-kind_of_line.ensures w.rank.ensures.value (omega (arith, low))
-      | in_default-kind_of_line-via-in_default-kind_of_line w ↦
-          none_next laws c.args.name c.args.floor c.args.text.now c.in-Some.words.now c.in-Some.rest.now c.in-Some.ensures w.in_default-kind_of_line.ensures
+          low_next laws c.in-Some.ensures w.in-Some-kind_of_line.ensures w.rank.ensures.value w.if-floor-rank.false
+      | in_default-kind_of_line-via-in_default-kind_of_line w ↦ λ kind more next. w.in_default-kind_of_line.ensures kind (words_are laws c.in-Some.ensures next)
     ]) refl

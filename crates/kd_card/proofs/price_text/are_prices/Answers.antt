@@ -1,20 +1,25 @@
-use Rattle.std.proofs.Common.{◌∙◌, ap, not}
+use Rattle.std.proofs.Common.{◌∙◌, ap, not, sym}
 use Rattle.std.proofs.lemmas.Bool.{false≢true}
-use Rattle.kd_card.proofs.PriceTexts.{told_none, told_some, not_all, one_more_both, last_both}
+use Rattle.kd_card.proofs.PriceTexts.{tells_price, all_of_more, all_of_last}
 use Rattle.kd_card.proofs.price_text.are_prices.Goals as goal
 
 pub returns-then-is_none : goal.returns-then-is_none
 returns-then-is_none c =
-    let none = told_none c.in-Some.word.now c.price_of_text.result c.price_of_text.ensures (c.is_none.ensures ∙ ap not c.if-is_none.true) in
-    let not_all = not_all c.args.text.now c.loop-word.rest.now c.in-Some.word.now c.in-Some.after.now c.loop-word.invariant c.in-Some.ensures none in
-    (λ yes. absurd (false≢true yes), λ all. absurd (not_all all))
+    let is = tells_price c.in-Some.word.now c.price_of_text.result c.price_of_text.ensures in (
+      λ yes. absurd (false≢true yes),
+      λ all.
+          let first = ((all_of_more c.in-Some.ensures).0 (c.loop-word.invariant.0 all)).0 in
+          absurd (false≢true (sym (c.is_none.ensures ∙ ap not c.if-is_none.true) ∙ is.1 first)),
+    )
 
 pub loop-word-preserved : goal.loop-word-preserved
 loop-word-preserved c =
-    let price = told_some c.in-Some.word.now c.price_of_text.result c.price_of_text.ensures (c.is_none.ensures ∙ ap not c.if-is_none.false) in
-    one_more_both c.args.text.now c.loop-word.rest.now c.in-Some.word.now c.in-Some.after.now c.loop-word.invariant c.in-Some.ensures price
+    let price = (tells_price c.in-Some.word.now c.price_of_text.result c.price_of_text.ensures).0 (c.is_none.ensures ∙ ap not c.if-is_none.false) in
+    let more = all_of_more c.in-Some.ensures in
+    (λ all. (more.0 (c.loop-word.invariant.0 all)).1, λ all. c.loop-word.invariant.1 (more.1 (price, all)))
 
 pub returns : goal.returns
 returns c =
-    last_both c.args.text.now c.loop-word.rest.now c.price_of_text-2.result c.is_some.result c.loop-word.invariant c.in_default.ensures
-    c.price_of_text-2.ensures c.is_some.ensures
+    let is = tells_price c.loop-word.rest.now c.price_of_text-2.result c.price_of_text-2.ensures in
+    let last = all_of_last c.loop-word.rest.now c.in_default.ensures in
+    rw c.is_some.ensures (λ yes. c.loop-word.invariant.1 (last.1 (is.0 yes)), λ all. is.1 (last.0 (c.loop-word.invariant.0 all)))

@@ -1,11 +1,10 @@
-use Rattle.std.proofs.Common.{rules, ◌≡◌, ◌<◌, ◌≤◌, ◌∙◌, sym, ap, subst, unsigned_abs, Decides, FitsSigned, w16, to_z, of_z, arith}
-use Rattle.std.specs.Str.Parse.{ParsesSigned}
+use Rattle.std.proofs.Common.{rules, ◌≡◌, ◌<◌, ◌≤◌, ◌∙◌, sym, ap, subst, unsigned_abs, Decides, w16, to_z, of_z, arith}
 use Rattle.std.specs.Fmt.{signed_decimal}
 use Rattle.std.specs.Bool.{then_some}
 use Rattle.std.proofs.lemmas.Bool.Decides.{Decides-eqb}
 use Rattle.std.proofs.lemmas.Int.{to_z-of_z}
 use Rattle.std.proofs.lemmas.Slice.Eq.{slice_eq-Decides}
-use Rattle.kd_card.proofs.PriceTexts.{no_text, no_price, far_price, only_price, ok_part}
+use Rattle.kd_card.proofs.PriceTexts.{no_text, read_price, only_price, ok_part}
 use Rattle.kd_card.proofs.price_text.price_of_text.Goals as goal
 
 pub returns-in_err-ok : goal.returns-in_err-ok
@@ -16,28 +15,28 @@ returns-in_err-ok c =
 pub returns-in_err-price : goal.returns-in_err-price
 returns-in_err-price c =
     let text = ok_part c.from_utf8.result c.in_ok-ok.field-0 _ _ c.from_utf8.ensures.cases c.in_ok-ok.ensures.value in
-    let parsed = subst (λ bs. ParsesSigned w16 10 bs c.parse.result) text.0 c.parse.ensures.value.0 in
-    rw c.from_residual-in_err-price.ensures (no_price c.args.text.now c.parse.result parsed (sym c.ok-2.ensures.value ∙ c.in_err-price.was))
+    let parsed = rw text.0 at c.parse.ensures.value.0 in
+    rw c.from_residual-in_err-price.ensures (λ price within e.
+    let none = sym (read_price c.args.text.now c.parse.result parsed price within e) ∙ sym c.ok-2.ensures.value ∙ c.in_err-price.was in cc)
 
 pub returns-then-unsigned_abs-gt9999 : goal.returns-then-unsigned_abs-gt9999
 returns-then-unsigned_abs-gt9999 c =
     let text = ok_part c.from_utf8.result c.in_ok-ok.field-0 _ _ c.from_utf8.ensures.cases c.in_ok-ok.ensures.value in
-    let parsed = subst (λ bs. ParsesSigned w16 10 bs c.parse.result) text.0 c.parse.ensures.value.0 in
-    let fits : FitsSigned w16 c.in_ok-price.price = search rules in
-    let same : to_z w16 (of_z w16 c.in_ok-price.price) ≡ c.in_ok-price.price = to_z-of_z w16 c.in_ok-price.price fits in
+    let parsed = rw text.0 at c.parse.ensures.value.0 in
+    let same : to_z w16 (of_z w16 c.in_ok-price.price) ≡ c.in_ok-price.price = to_z-of_z w16 c.in_ok-price.price (search rules) in
     let far : 9999 < unsigned_abs c.in_ok-price.price = omega (arith, c.unsigned_abs.ensures.value, ap unsigned_abs same, c.if-unsigned_abs-gt9999.true) in
-    far_price c.args.text.now c.parse.result c.in_ok-price.price parsed (sym c.in_ok-price.ensures.value) far
+    λ price within e.
+    let same : c.in_ok-price.price ≡ price = let read = c.in_ok-price.ensures.value ∙ read_price c.args.text.now c.parse.result parsed price within e in cc in
+    omega (arith, far, within, ap unsigned_abs same)
 
 pub returns : goal.returns
 returns c =
     let text = ok_part c.from_utf8.result c.in_ok-ok.field-0 _ _ c.from_utf8.ensures.cases c.in_ok-ok.ensures.value in
-    let parsed = subst (λ bs. ParsesSigned w16 10 bs c.parse.result) text.0 c.parse.ensures.value.0 in
-    let fits : FitsSigned w16 c.in_ok-price.price = search rules in
-    let same : to_z w16 (of_z w16 c.in_ok-price.price) ≡ c.in_ok-price.price = to_z-of_z w16 c.in_ok-price.price fits in
+    let parsed = rw text.0 at c.parse.ensures.value.0 in
+    let same : to_z w16 (of_z w16 c.in_ok-price.price) ≡ c.in_ok-price.price = to_z-of_z w16 c.in_ok-price.price (search rules) in
     let near : unsigned_abs c.in_ok-price.price ≤ 9999 = omega (arith, c.unsigned_abs.ensures.value, ap unsigned_abs same, c.if-unsigned_abs-gt9999.false) in
-    let written : c.format.result.now ≡ signed_decimal (to_z w16 (of_z w16 c.in_ok-price.price)) = c.format.ensures.text in
     let compared = slice_eq-Decides Decides-eqb c.as_bytes.result.now c.args.text.now c.eq.result c.eq.ensures in
     let decided =
-    subst (λ bs. Decides c.eq.result (bs ≡ c.args.text.now)) (c.as_bytes.ensures.value ∙ written ∙ ap signed_decimal same) compared in
+    subst (λ bs. Decides c.eq.result (bs ≡ c.args.text.now)) (c.as_bytes.ensures.value ∙ c.format.ensures.text ∙ ap signed_decimal same) compared in
     rw (c.then_some.ensures ∙ ap (then_some c.eq.result) same)
     (only_price c.args.text.now c.parse.result c.in_ok-price.price c.eq.result parsed (sym c.in_ok-price.ensures.value) near decided)

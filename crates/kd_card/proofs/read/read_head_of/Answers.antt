@@ -16,35 +16,20 @@ in_pieces version front day rest e = ap (λ l. l ++ 10 ∷ rest) e ∙ append_as
 pub returns-in_err-day-2 : goal.returns-in_err-day-2
 returns-in_err-day-2 c =
     rw c.from_residual-in_err-day-2.ensures (λ day rest head.
-    let most = head.of_month.last in
-    let word = c.numbers_and_letters_are_words.ensures.numbers day (omega (arith, most)) in
+    let word = c.numbers_and_letters_are_words.ensures.numbers day (omega arith) in
     let same =
-    same_behind c.texts_tell_first_parts.ensures c.args.text.now c.head_front.result.now c.in_ok-day.day.now c.in_ok-day.rest.now c.head_front.ensures.unbroken
-    c.in_ok-day.ensures (decimal day) rest word.unbroken (head.text ∙ in_pieces c.args.version c.head_front.result.now day rest (c.head_front.ensures.front (decimal day))) in
-    c.in_err-day-2.ensures day (omega (arith, most)) (sym same))
+    same_behind c.texts_tell_first_parts.ensures c.head_front.result.now c.in_ok-day.day.now (decimal day) rest c.head_front.ensures.unbroken
+    c.in_ok-day.ensures word.unbroken (head.text ∙ in_pieces c.args.version c.head_front.result.now day rest (c.head_front.ensures.front (decimal day))) in
+    c.in_err-day-2.ensures day (omega arith) (sym same))
 
 pub returns-then-day-lt1 : goal.returns-then-day-lt1
 returns-then-day-lt1 c = λ day rest head.
-    let most = head.of_month.last in
-    let least = head.of_month.first in
-    let word = c.numbers_and_letters_are_words.ensures.numbers day (omega (arith, most)) in
+    let word = c.numbers_and_letters_are_words.ensures.numbers day (omega arith) in
     let same =
-    same_behind c.texts_tell_first_parts.ensures c.args.text.now c.head_front.result.now c.in_ok-day.day.now c.in_ok-day.rest.now c.head_front.ensures.unbroken
-    c.in_ok-day.ensures (decimal day) rest word.unbroken (head.text ∙ in_pieces c.args.version c.head_front.result.now day rest (c.head_front.ensures.front (decimal day))) in
-    let is : day ≡ c.in_ok-day-2.day = decimal_injective day c.in_ok-day-2.day (omega (arith, most)) (search rules) (sym same ∙ sym c.in_ok-day-2.ensures) in
+    same_behind c.texts_tell_first_parts.ensures c.head_front.result.now c.in_ok-day.day.now (decimal day) rest c.head_front.ensures.unbroken
+    c.in_ok-day.ensures word.unbroken (head.text ∙ in_pieces c.args.version c.head_front.result.now day rest (c.head_front.ensures.front (decimal day))) in
+    let is : day ≡ c.in_ok-day-2.day = decimal_injective day c.in_ok-day-2.day (omega arith) (search rules) (sym same ∙ sym c.in_ok-day-2.ensures) in
     elim c.then-day-lt1.branch [
-      | then-day-lt1-via-then-day-lt1 w ↦ omega (arith, is, least, w.if-day-lt1.true)
-      | then-day-lt1-via-else-day-lt1+then-day-gt31 w ↦ omega (arith, is, most, w.if-day-gt31.true)
+      | then-day-lt1-via-then-day-lt1 w ↦ omega (arith, w.if-day-lt1.true)
+      | then-day-lt1-via-else-day-lt1+then-day-gt31 w ↦ omega (arith, w.if-day-gt31.true)
     ]
-
-pub returns : goal.returns
-returns c =
-    let least = c.if-day-lt1.false in
-    let most = c.if-day-gt31.false in
-    record {
-      text =
-          c.in_ok-day.ensures.joined ∙ append_assoc c.head_front.result.now c.in_ok-day.day.now (10 ∷ c.in_ok-day.rest.now)
-          ∙ ap (λ d. c.head_front.result.now ++ (d ++ 10 ∷ c.in_ok-day.rest.now)) (sym c.in_ok-day-2.ensures)
-          ∙ sym (in_pieces c.args.version c.head_front.result.now c.in_ok-day-2.day c.in_ok-day.rest.now (c.head_front.ensures.front (decimal c.in_ok-day-2.day)));
-      of_month = record { first = omega (arith, least); last = omega (arith, most) };
-    }

@@ -1,7 +1,7 @@
-use Rattle.std.proofs.Common.{◌+◌, ap, refl, arith}
+use Rattle.std.proofs.Common.{refl, arith}
 use Rattle.std.proofs.lemmas.Result.{err_from_is_err_and}
 use Rattle.kd_card.specs.Reading.{InGroup, InRowKinds, InColumnKinds}
-use Rattle.kd_card.proofs.KindPrices.{few_kinds, all_groups, begins_as, kinds_as, fault_as, few_prices_of}
+use Rattle.kd_card.proofs.KindPrices.{few_kinds, all_groups, few_prices_of}
 use Rattle.kd_card.proofs.read.read_kinded.Goals as goal
 
 pub returns-in_err-group : goal.returns-in_err-group
@@ -12,28 +12,23 @@ pub returns-in_err-rows : goal.returns-in_err-rows
 returns-in_err-rows c =
     let p = err_from_is_err_and c.from_residual-in_err-rows.result c.from_residual-in_err-rows.ensures.1 in
     rw (p.1, p.2)
-    (InRowKinds refl c.in_ok-group.group c.in_ok-group.ensures (fault_as _ _ _ _ _ _ _ _ c.row_name.ensures c.number-number.ensures refl c.in_err-rows.ensures))
+    (InRowKinds refl c.in_ok-group.group c.in_ok-group.ensures (rw (c.row_name.ensures, c.number-number.ensures) at c.in_err-rows.ensures))
 
 pub returns-in_err-columns : goal.returns-in_err-columns
 returns-in_err-columns c =
     let p = err_from_is_err_and c.from_residual-in_err-columns.result c.from_residual-in_err-columns.ensures.1 in
     rw (p.1, p.2)
     (InColumnKinds refl c.in_ok-group.group c.in_ok-rows.rows.items c.in_ok-rows.rest.now
-    (begins_as _ _ _ _ _ _ _ c.row_name.ensures c.number-number.ensures c.in_ok-rows.ensures)
-    (fault_as _ _ _ _ _ _ _ _ c.column_name.ensures c.number-number.ensures (ap (λ n. c.args.line + n) c.len.ensures.value) c.in_err-columns.ensures))
+    (rw (c.row_name.ensures, c.number-number.ensures) at c.in_ok-rows.ensures)
+    (rw (c.column_name.ensures, c.number-number.ensures, c.len.ensures.value) at c.in_err-columns.ensures))
 
 pub read_kinds-requires-2-clause-near : goal.read_kinds-requires-2-clause-near
 read_kinds-requires-2-clause-near c =
-    let near = c.requires in
-    let begins = begins_as _ _ _ _ _ _ _ c.row_name.ensures c.number-number.ensures c.in_ok-rows.ensures in
-    let count = begins.count in
-    omega (arith, near, count, few_kinds 0 c.in_ok-rows.rows.items begins.begins.in_order, few_prices_of c.in_ok-group.group, c.len.ensures.value)
+    let begins = c.in_ok-rows.ensures in
+    omega (arith, few_kinds 0 c.in_ok-rows.rows.items begins.begins.in_order, few_prices_of c.in_ok-group.group)
 
 pub returns : goal.returns
 returns c =
-    all_groups c.in_ok-group.group c.as_slice.result.now c.as_slice-2.result.now c.args.text.now c.in_ok-rows.rest.now c.in_ok-columns.rest.now c.of_groups.result
-    (kinds_as _ _ _ _ _ _ c.as_slice.ensures.value
-    (begins_as _ _ _ _ _ _ _ c.row_name.ensures c.number-number.ensures c.in_ok-rows.ensures))
-    (kinds_as _ _ _ _ _ _ c.as_slice-2.ensures.value
-    (begins_as _ _ _ _ _ _ _ c.column_name.ensures c.number-number.ensures c.in_ok-columns.ensures))
-    c.of_groups.ensures.kinds c.of_groups.ensures.are_prices
+    all_groups (rw (c.as_slice.ensures.value, c.as_slice-2.ensures.value) at c.of_groups.ensures.kinds)
+    (rw (c.row_name.ensures, c.number-number.ensures) at c.in_ok-rows.ensures)
+    (rw (c.column_name.ensures, c.number-number.ensures) at c.in_ok-columns.ensures) c.of_groups.ensures.are_prices

@@ -10,7 +10,7 @@ pub returns-in_err-bars : goal.returns-in_err-bars
 returns-in_err-bars c =
     let p = err_from_is_err_and c.from_residual.result c.from_residual.ensures.1 in
     rw (p.1, p.2)
-    (InRows refl (rows_fault OfBars c.args.line c.args.text.now _ (c.is_of_bars.ensures.0 c.if-is_of_bars.true) c.in_err-bars.ensures))
+    (InRows refl (rows_fault OfBars (c.is_of_bars.ensures.0 c.if-is_of_bars.true) c.in_err-bars.ensures))
 
 pub returns-in_err-rows : goal.returns-in_err-rows
 returns-in_err-rows c =
@@ -21,7 +21,7 @@ pub returns-in_err-cables : goal.returns-in_err-cables
 returns-in_err-cables c =
     let p = err_from_is_err_and c.from_residual-in_err-cables.result c.from_residual-in_err-cables.ensures.1 in
     rw (p.1, p.2)
-    (InRows refl (rows_fault OfCables c.args.line c.args.text.now _ (λ is. false≢true (sym c.if-is_of_bars.false ∙ c.is_of_bars.ensures.1 is))
+    (InRows refl (rows_fault OfCables (λ is. false≢true (sym c.if-is_of_bars.false ∙ c.is_of_bars.ensures.1 is))
     c.in_err-cables.ensures))
 
 pub returns-in_err-pairs : goal.returns-in_err-pairs

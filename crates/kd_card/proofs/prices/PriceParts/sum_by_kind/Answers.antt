@@ -2,29 +2,21 @@ use Rattle.std.proofs.Common.{rules, ◌∙◌, ◌≤◌, ap, FitsSigned, w32, 
 use Rattle.std.proofs.lemmas.Int.{to_z-of_z}
 use Rattle.kd_card.specs.Kinds.{counted}
 use Rattle.kd_card.proofs.CardWords.{few_prices}
-use Rattle.kd_card.proofs.KindPrices.{row_count, column_count, sum_is}
+use Rattle.kd_card.proofs.KindPrices.{counts}
 use Rattle.kd_card.proofs.prices.PriceParts.sum_by_kind.Goals as goal
 
 pub sum_of_kinds-rows-requires-clause-few : goal.sum_of_kinds-rows-requires-clause-few
 sum_of_kinds-rows-requires-clause-few c =
-    omega (arith, ap counted (c.as_slice.ensures.value ∙ c.row_kinds.ensures), row_count c.args.self.now c.requires.kinds c.requires.prices, few_prices c.args.self.now)
+    omega (arith, ap counted (c.as_slice.ensures.value ∙ c.row_kinds.ensures), (counts c.args.self.now c.requires.kinds c.requires.prices).0, few_prices c.args.self.now)
 
 pub sum_of_kinds-requires-clause-few : goal.sum_of_kinds-requires-clause-few
 sum_of_kinds-requires-clause-few c =
-    omega (arith, ap counted (c.as_slice-2.ensures.value ∙ c.column_kinds.ensures), column_count c.args.self.now c.requires.kinds c.requires.prices, few_prices c.args.self.now)
+    omega (arith, ap counted (c.as_slice-2.ensures.value ∙ c.column_kinds.ensures), (counts c.args.self.now c.requires.kinds c.requires.prices).1, few_prices c.args.self.now)
 
 pub sum_of_kinds-requires-clause-small : goal.sum_of_kinds-requires-clause-small
 sum_of_kinds-requires-clause-small c =
     let few : counted c.as_slice.result.now ≤ 27 =
-    omega (arith, ap counted (c.as_slice.ensures.value ∙ c.row_kinds.ensures), row_count c.args.self.now c.requires.kinds c.requires.prices, few_prices c.args.self.now) in
+    omega (arith, ap counted (c.as_slice.ensures.value ∙ c.row_kinds.ensures), (counts c.args.self.now c.requires.kinds c.requires.prices).0, few_prices c.args.self.now) in
     let fits : FitsSigned w32 c.sum_of_kinds-rows.result = search rules in
     let bound = c.sum_of_kinds-rows.ensures.bound in
     rw (to_z-of_z w32 c.sum_of_kinds-rows.result fits) (omega (arith, bound, few))
-
-pub returns : goal.returns
-returns c =
-    let fits : FitsSigned w32 c.sum_of_kinds-rows.result = search rules in
-    let also : FitsSigned w32 c.sum_of_kinds.result = search rules in
-    to_z-of_z w32 c.sum_of_kinds.result also
-    ∙ sum_is c.args.self.now c.as_slice.result.now c.as_slice-2.result.now _ _ c.requires.kinds (c.as_slice.ensures.value ∙ c.row_kinds.ensures)
-    (c.as_slice-2.ensures.value ∙ c.column_kinds.ensures) (to_z-of_z w32 c.sum_of_kinds-rows.result fits ∙ c.sum_of_kinds-rows.ensures.value) c.sum_of_kinds.ensures.value
