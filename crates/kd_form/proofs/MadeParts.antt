@@ -20,7 +20,7 @@ use Rattle.kd_form.specs.Making.{Suits, IsMadeText, part_of, indicator_of, rotor
 use Rattle.std.proofs.lemmas.Bool.Decides.{nat_tests}
 use Rattle.kd_state.specs.TwoCiphers.{sheet_key, IsWindow}
 use Rattle.kd_form.specs.declared.fault.FormFault.TheVariants.{IndicatorsDiffer}
-use Rattle.kd_form.specs.Reading.{HasIndicator, message_key, indicators_with, ArePinLetters, IsPinFault, InIndicators, IsLettersText}
+use Rattle.kd_form.specs.Reading.{HasIndicator, message_key, ArePinLetters, IsPinFault, InIndicators, IsLettersText}
 use Rattle.kd_form.proofs.Ciphers.{length-cipher_from, letters-cipher_from}
 use Rattle.std.proofs.lemmas.List.Elements.{All-append, All-cons, All-replicate}
 use Rattle.kd_state.specs.Laws.{TheDayDeciphersItself}
@@ -170,10 +170,6 @@ pub record AreThree (letters first text last : List ℕ) : Type 0 where
 pub three_parts : (letters first rest text last : List ℕ) (n : ℕ) → 20 ≤ length letters → first ≡ take 10 letters → rest ≡ drop 10 letters
     → n ≡ length rest - 10 → text ≡ take n rest → last ≡ drop n rest → AreThree letters first text last
 three_parts letters first rest text last n long front others count middle back = grind (arith, take-append-drop {A = ℕ}, length-take-le {A = ℕ}, length-drop {A = ℕ})
-
-pub whole_indicators : (first twice others key list : List ℕ) (k : PinKeys) → length first ≡ 10 → twice ≡ take 1 first → others ≡ drop 1 first
-    → key ≡ take 7 others → list ≡ drop 7 others → key ≡ k.chosen ∷ k.external → get_or twice 0 0 ≡ k.chosen → first ≡ indicators_with k list
-whole_indicators first twice others key list k ten one more front back are same = grind arith
 
 pub pin_letters_are : (letters first twice others key list text last : List ℕ) (k : PinKeys) → AreThree letters first text last → first ≡ last
     → twice ≡ take 1 first → others ≡ drop 1 first → key ≡ take 7 others → list ≡ drop 7 others → key ≡ k.chosen ∷ k.external
