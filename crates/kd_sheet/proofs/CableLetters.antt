@@ -18,14 +18,6 @@ or_false : (b : Bool) → (b || false) ≡ b
 or_false true = refl
 or_false false = refl
 
--- a letter lies in a cable of these exactly where it is one of their letters
-pub has_letter_cons : (cable : Option ℕ × Option ℕ) (cables : List (Option ℕ × Option ℕ)) (letter : ℕ)
-    → has_letter (plugged_letters (cable ∷ cables)) letter ≡ (has_letter (cable_letters cable) letter || has_letter (plugged_letters cables) letter)
-has_letter_cons cable cables letter = list_any-append (λ other. nat_eq other letter) (cable_letters cable) (plugged_letters cables)
-
-pub has_letter_push : (letters : List ℕ) (one letter : ℕ) → has_letter (letters ++ one ∷ []) letter ≡ (has_letter letters letter || nat_eq one letter)
-has_letter_push letters one letter = list_any-append (λ other. nat_eq other letter) letters (one ∷ []) ∙ ap (λ b. has_letter letters letter || b) (or_false (nat_eq one letter))
-
 -- the letters of cables one after the other
 pub plugged_letters-append : (cables others : List (Option ℕ × Option ℕ)) → plugged_letters (cables ++ others) ≡ plugged_letters cables ++ plugged_letters others
 plugged_letters-append [] others = refl

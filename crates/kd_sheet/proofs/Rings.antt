@@ -24,10 +24,6 @@ rings_of_array count (datetime date) items some = absurd (none-some _ (sym some)
 rings_of_array count (array found) items some = ap (numbered_letters count) (ap list_of (sym (same_Some _ _ some)) ∙ list_of-items_of items)
 rings_of_array count (table entries) items some = absurd (none-some _ (sym some))
 
--- another number of items
-pub rings_of_miscounted : (count : ℕ) (value : Data) (items : List Data) → Some (items_of items) ≡ as_array value → length items ≢ count → None ≡ rings_of count value
-rings_of_miscounted count value items some wrong = rw (rings_of_array count value items some, ne_eqb (length items) count wrong) refl
-
 -- one more item that names a letter
 pub all_numbers_more : (items : List Value) (place : ℕ) (item : Value) (letter : ℕ) → place < length items → item ≡ get_or items place item → Some letter ≡ numbered_letter (view item)
     → list_all (λ x. is_some (numbered_letter x)) (take place (map view items)) ≡ true → list_all (λ x. is_some (numbered_letter x)) (take (place + 1) (map view items)) ≡ true

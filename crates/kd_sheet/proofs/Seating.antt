@@ -54,9 +54,3 @@ pub named_more : (slots : List (Option Wheel)) (items : List Value) (place : ℕ
 named_more slots items place item seat room left here named before =
     let within : place < length (map view items) = omega (arith, length-map items view) in
     rw (take_more_set slots place seat room, take_more (map view items) place (view item) within, viewed_at items place item left here, map_push, named, before) refl
-
--- a slot more seats a wheel more
-pub seated_more : (slots : List (Option Wheel)) (wheels : List Wheel) (place : ℕ) (wheel : Wheel) → place < length slots → place < length wheels
-    → take place slots ≡ map Some (take place wheels) → take (place + 1) (set slots place (Some wheel)) ≡ map Some (take (place + 1) (set wheels place wheel))
-seated_more slots wheels place wheel room left seated =
-    rw (take_more_set slots place (Some wheel) room, take_more_set wheels place wheel left, map-append, seated) refl

@@ -10,10 +10,3 @@ few_slots EnigmaI = omega arith
 few_slots M3 = omega arith
 few_slots M4 = omega arith
 few_slots M209 = omega arith
-
--- one that has slots has three or four
-pub three_or_four : (model : Model) → 0 < slots_of model → (slots_of model ≡ 3) ⊎ (slots_of model ≡ 4)
-three_or_four EnigmaI some = inl refl
-three_or_four M3 some = inl refl
-three_or_four M4 some = inr refl
-three_or_four M209 some = absurd (omega arith)
