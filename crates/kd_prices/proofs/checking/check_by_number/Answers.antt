@@ -5,18 +5,18 @@ use Rattle.kd_prices.specs.Doubt.{IsDoubtByNumber}
 use Rattle.kd_state.specs.Costs.{cost_table}
 use Rattle.kd_card.specs.Prices.{Fits, price_sum}
 use Rattle.kd_card.specs.Proving.{priced_count}
-use Rattle.kd_prices.proofs.Doubts.{not_proved_by_number}
+use Rattle.kd_prices.proofs.Doubts.{not_proved}
 use Rattle.kd_prices.proofs.checking.check_by_number.Goals as goal
 
 pub returns-in-Err-clause-proves : goal.returns-in-Err-clause-proves
 returns-in-Err-clause-proves c =
     let doubt : IsDoubtByNumber c.args.machine.now c.args.day.now c.args.settings.now c.args.prices.now (IllegalAt c.in-Err.illegal.line c.in-Err.illegal.why) = search rules in
-    not_proved_by_number c.a_setting_is_refused_or_carried.ensures.lists_to_one _ _ _ _ (IllegalAt c.in-Err.illegal.line c.in-Err.illegal.why) doubt
+    not_proved c.a_setting_is_refused_or_carried.ensures.lists_to_one _ _ _ _ (IllegalAt c.in-Err.illegal.line c.in-Err.illegal.why) doubt
 
 pub returns-then-not-reads_as-clause-proves : goal.returns-then-not-reads_as-clause-proves
 returns-then-not-reads_as-clause-proves c =
     let doubt : IsDoubtByNumber c.args.machine.now c.args.day.now c.args.settings.now c.args.prices.now NotTheSheet = search rules in
-    not_proved_by_number c.a_setting_is_refused_or_carried.ensures.lists_to_one _ _ _ _ NotTheSheet doubt
+    not_proved c.a_setting_is_refused_or_carried.ensures.lists_to_one _ _ _ _ NotTheSheet doubt
 
 pub returns-in-Some-first_needless-clause-proves : goal.returns-in-Some-first_needless-clause-proves
 returns-in-Some-first_needless-clause-proves c =
@@ -36,4 +36,4 @@ returns-in-Some-first_needless-clause-proves c =
       sum,
       c.in-Some-first_needless.ensures,
     ) in
-    not_proved_by_number c.a_setting_is_refused_or_carried.ensures.lists_to_one _ _ _ _ (NeedlessLine line) doubt
+    not_proved c.a_setting_is_refused_or_carried.ensures.lists_to_one _ _ _ _ (NeedlessLine line) doubt
