@@ -2,7 +2,6 @@
 use Rattle.std.proofs.Common.{◌++◌, take, drop, sym, subst, arith, length-append, length-drop}
 use Rattle.std.proofs.lemmas.List.{take-append-drop, length-take}
 use Rattle.kd_state.specs.Setting.{Leads}
-use Rattle.kd_state.specs.Laws.{LeadsToOne}
 use Rattle.kd_card.specs.Laws.{ProvingCardsAreShortest}
 use Rattle.kd_prices.specs.Laws.{RestIsShortest}
 use Rattle.kd_prices.proofs.Leading.{leads_join, leads_on}
