@@ -24,9 +24,9 @@ use Rattle.kd_card.specs.declared.prices.PriceParts.{PriceParts}
 use Rattle.kd_card.specs.declared.prices.PriceParts.TheVariants.{Cables, Bars, CableKinds, BarKinds}
 use Rattle.kd_card.specs.declared.prices.Version.TheVariants.{ByNumber, ByKind}
 use Rattle.kd_card.specs.Kinds.{look_rank, AreKinds}
-use Rattle.kd_card.specs.Prices.{version_of, row_kinds, column_kinds, ArePrices, row_prices, column_prices, price_at, AreWithinReach}
+use Rattle.kd_card.specs.Prices.{version_of, row_kinds, column_kinds, ArePrices, row_prices, column_prices, price_at, AreWithinReach, how_many}
 use Rattle.kd_card.specs.CardText.{group_of}
-use Rattle.kd_card.specs.Proving.{AreOfKind, row_looks, pair_in_order, HasPrice, IsPriced, look_at, AreExpanded, Expands, Same, Expanded, group_of_machine, Proves}
+use Rattle.kd_card.specs.Proving.{AreOfKind, row_looks, column_looks, pair_in_order, HasPrice, IsPriced, look_at, AreExpanded, Expands, Same, Expanded, group_of_machine, Proves}
 use Rattle.kd_prices.specs.Doubt.{AreOfOneModel, AreNumbered}
 
 above : (floor : ℕ) (kinds : List PricedKind) (look : Look) (price : ℤ) → AreKinds floor kinds → IsPriced look price kinds → floor ≤ look_rank look
@@ -163,54 +163,26 @@ expanded_within looks kinds prices are e =
     All-from_get_or (λ price. unsigned_abs price ≤ 9999) prices (pos 0)
     (λ i inside. priced_within 0 kinds (look_at looks i) (price_at prices i) are (e.each i (omega (arith, number, inside))))
 
-pub if_err : {T E : Type 0} (r : Result T E) (P Q : E → Type 0) → ((e : E) → P e → Q e) → IfErr r P → IfErr r Q
-if_err (Ok x) P Q leads h = h
-if_err (Err e) P Q leads h = leads e h
-
--- ---- both groups
-
-good_cables : (rows columns : List ℤ) → length rows ≡ 13 → length columns ≡ 13 → AreWithinReach rows → AreWithinReach columns → ArePrices (Cables rows columns)
-good_cables rows columns a b r c = record { rows = a; columns = b; row_reach = r; column_reach = c; row_kinds = tt; column_kinds = tt }
-
-good_bars : (rows columns : List ℤ) → length rows ≡ 27 → length columns ≡ 27 → AreWithinReach rows → AreWithinReach columns → ArePrices (Bars rows columns)
-good_bars rows columns a b r c = record { rows = a; columns = b; row_reach = r; column_reach = c; row_kinds = tt; column_kinds = tt }
-
-abbrev pub Means : Parts → Day → PriceParts → Option PriceParts → Type 0
-Means machine s prices r = MatchOption r ((numbered : PriceParts) → ¬ (Expands machine s prices numbered)) (λ numbered. Expands machine s prices numbered)
-
-told : (machine : Parts) (s : Day) (prices numbered : PriceParts) (r : Option PriceParts) → ArePrices numbered → Expands machine s prices numbered
-    → MatchOption r (¬ (ArePrices numbered)) (λ p. p ≡ numbered) → Means machine s prices r
-told machine s prices numbered None good expands h = absurd (h good)
-told machine s prices numbered (Some p) good expands h = subst (Expands machine s prices) (sym h) expands
-
-pub cables_told : (machine : Parts) (s : Day) (prices : PriceParts) (m : RotorParts) (a : ArrayVec CableKind) (b : ArrayVec PairKind) (pairs : List (ℕ × ℕ))
-    (rows columns : List ℤ) (r : Option PriceParts) → machine ≡ Rotor m → prices ≡ CableKinds a b → ArePrices prices
-    → Some pairs ≡ option_map (λ (d : RotorDay). d.pairs) (rotor_day s) → length rows ≡ 13 → length columns ≡ 13
-    → AreExpanded (map (λ ends. Cable ends) m.cables) (row_kinds prices) rows
-    → AreExpanded (map (λ column. Pair (pair_in_order column)) (columns_of pairs)) (column_kinds prices) columns
-    → MatchOption r (¬ (ArePrices (Cables rows columns))) (λ p. p ≡ Cables rows columns) → Means machine s prices r
-cables_told machine (OfRotors d) prices m a b pairs rows columns r em ep are es x y e f h =
-    let same : pairs ≡ d.pairs = cc in
-    let good = good_cables rows columns x y (expanded_within _ _ rows are.row_kinds e) (expanded_within _ _ columns are.column_kinds f) in
-    told machine (OfRotors d) prices (Cables rows columns) r good
-    (Expanded (ap version_of ep) refl (ap group_of ep) are good (subst (λ n. AreExpanded (row_looks n) (row_kinds prices) rows) (sym em) e)
-    (subst (λ ps. AreExpanded (map (λ column. Pair (pair_in_order column)) (columns_of ps)) (column_kinds prices) columns) same f)) h
-cables_told machine (OfPins d) prices m a b pairs rows columns r em ep are es x y e f h = cc
-
-pub bars_told : (machine : Parts) (s : Day) (prices : PriceParts) (m : PinParts) (a : ArrayVec BarKind) (b : ArrayVec RowKind) (wanted : List (ℕ × ℕ))
-    (rows columns : List ℤ) (r : Option PriceParts) → machine ≡ Pin m → prices ≡ BarKinds a b → ArePrices prices
-    → Some wanted ≡ option_map (λ (d : PinDay). d.rows) (pin_day s) → length rows ≡ 27 → length columns ≡ 27
-    → AreExpanded (map (λ standing. Bar standing) m.bars) (row_kinds prices) rows
-    → AreExpanded (map (λ numbers. Row numbers) wanted) (column_kinds prices) columns
-    → MatchOption r (¬ (ArePrices (Bars rows columns))) (λ p. p ≡ Bars rows columns) → Means machine s prices r
-bars_told machine (OfPins d) prices m a b wanted rows columns r em ep are es x y e f h =
-    let same : wanted ≡ d.rows = cc in
-    let good = good_bars rows columns x y (expanded_within _ _ rows are.row_kinds e) (expanded_within _ _ columns are.column_kinds f) in
-    told machine (OfPins d) prices (Bars rows columns) r good
-    (Expanded (ap version_of ep) refl (ap group_of ep) are good (subst (λ n. AreExpanded (row_looks n) (row_kinds prices) rows) (sym em) e)
-    (subst (λ ps. AreExpanded (map (λ numbers. Row numbers) ps) (column_kinds prices) columns) same f)) h
-bars_told machine (OfRotors d) prices m a b wanted rows columns r em ep are es x y e f h = cc
-
-pub lists_told : (looks others : List Look) (kinds more : List PricedKind) (prices : List ℤ) → looks ≡ others → kinds ≡ more → AreExpanded looks kinds prices
-    → AreExpanded others more prices
-lists_told looks others kinds more prices e f h = subst (λ ks. AreExpanded others ks prices) f (subst (λ ls. AreExpanded ls kinds prices) e h)
+-- what is answered of prices by kind, once the prices of their kinds are found
+pub expanded_told : (machine n : Parts) (s d : Day) (prices p numbered : PriceParts) (r : Option PriceParts) → machine ≡ n → s ≡ d → prices ≡ p → ArePrices prices
+    → version_of p ≡ ByKind → version_of numbered ≡ ByNumber → group_of p ≡ group_of numbered
+    → length (row_prices numbered) ≡ how_many numbered → length (column_prices numbered) ≡ how_many numbered
+    → AreKinds 0 (row_kinds numbered) → AreKinds 0 (column_kinds numbered)
+    → AreExpanded (row_looks n) (row_kinds prices) (row_prices numbered) → AreExpanded (column_looks d) (column_kinds prices) (column_prices numbered)
+    → MatchOption r (¬ (ArePrices numbered)) (λ p. p ≡ numbered)
+    → MatchOption r ((numbered : PriceParts) → ¬ (Expands machine s prices numbered)) (λ numbered. Expands machine s prices numbered)
+expanded_told machine n s d prices p numbered r em es ep are kind number group rows columns no_rows no_columns row column h =
+    let good : ArePrices numbered = record {
+      rows = rows;
+      columns = columns;
+      row_reach = expanded_within _ _ (row_prices numbered) are.row_kinds row;
+      column_reach = expanded_within _ _ (column_prices numbered) are.column_kinds column;
+      row_kinds = no_rows;
+      column_kinds = no_columns;
+    } in
+    let expands : Expands machine s prices numbered = Expanded (ap version_of ep ∙ kind) number (ap group_of ep ∙ group) are good (rw em row) (rw es column) in
+    elim r as (λ r. MatchOption r (¬ (ArePrices numbered)) (λ p. p ≡ numbered)
+        → MatchOption r ((numbered : PriceParts) → ¬ (Expands machine s prices numbered)) (λ numbered. Expands machine s prices numbered)) [
+      | None ↦ λ none. absurd (none good)
+      | Some q ↦ λ same. subst (Expands machine s prices) (sym same) expands
+    ] h
