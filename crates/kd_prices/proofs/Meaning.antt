@@ -1,23 +1,13 @@
 -- Prices mean one list of prices by number at most, and those are of the same model.
-use Rattle.std.proofs.Common.{◌≡◌, ◌≢◌, ◌⊎◌, ℕ, ◌+◌, ◌<◌, ◌≤◌, inl, inr, List, [], ◌∷◌, ◌++◌, length, get_or, take, drop, append_assoc, refl, sym, ap, ◌∙◌, subst, arith, ℤ, pos, unsigned_abs, Option, Some, None, MatchOption, map, Result, Ok, Err, set}
-use Rattle.std.specs.Prelude.{IfErr}
+use Rattle.std.proofs.Common.{◌≡◌, ◌≢◌, ◌⊎◌, ℕ, ◌+◌, ◌<◌, ◌≤◌, inl, inr, List, [], ◌∷◌, ◌++◌, length, get_or, take, drop, append_assoc, refl, sym, ap, ◌∙◌, subst, arith, ℤ, pos, unsigned_abs, Option, Some, None, MatchOption, set}
 use Rattle.std.proofs.lemmas.Bool.{cases_lt}
 use Rattle.std.proofs.lemmas.List.Elements.{All-from_get_or}
-use Rattle.kd_card.specs.declared.look.Look.TheVariants.{Cable, Pair, Bar, Row}
-use Rattle.std.specs.Option.{option_map}
-use Rattle.arrayvec.specs.ArrayVec.{ArrayVec}
-use Rattle.kd_card.specs.declared.kinds.CableKind.{CableKind}
-use Rattle.kd_card.specs.declared.kinds.PairKind.{PairKind}
-use Rattle.kd_card.specs.declared.kinds.BarKind.{BarKind}
-use Rattle.kd_card.specs.declared.kinds.RowKind.{RowKind}
-use Rattle.kd_state.specs.declared.machine.rotor_parts.RotorParts.{RotorParts}
-use Rattle.kd_state.specs.declared.machine.pin_parts.PinParts.{PinParts}
-use Rattle.kd_state.specs.Costs.{columns_of}
+use Rattle.kd_card.specs.declared.look.Look.TheVariants.{Pair}
 use Rattle.std.proofs.lemmas.List.{ext_get_or, take_more, take-append-drop, get_or_default, get_or-set_same, get_or-set_other}
 use Rattle.kd_state.specs.declared.machine.parts.Parts.{Parts}
 use Rattle.kd_state.specs.declared.machine.parts.Parts.TheVariants.{Rotor, Pin}
 use Rattle.kd_state.specs.declared.setting.Setting.{Setting}
-use Rattle.kd_state.specs.SheetDay.{RotorDay, PinDay, Day, OfRotors, OfPins, rotor_day, pin_day}
+use Rattle.kd_state.specs.SheetDay.{Day}
 use Rattle.kd_card.specs.declared.look.Look.{Look}
 use Rattle.kd_card.specs.declared.kinds.PricedKind.{PricedKind}
 use Rattle.kd_card.specs.declared.prices.PriceParts.{PriceParts}
@@ -26,7 +16,7 @@ use Rattle.kd_card.specs.declared.prices.Version.TheVariants.{ByNumber, ByKind}
 use Rattle.kd_card.specs.Kinds.{look_rank, AreKinds}
 use Rattle.kd_card.specs.Prices.{version_of, row_kinds, column_kinds, ArePrices, row_prices, column_prices, price_at, AreWithinReach, how_many}
 use Rattle.kd_card.specs.CardText.{group_of}
-use Rattle.kd_card.specs.Proving.{AreOfKind, row_looks, column_looks, pair_in_order, HasPrice, IsPriced, look_at, AreExpanded, Expands, Same, Expanded, group_of_machine, Proves}
+use Rattle.kd_card.specs.Proving.{AreOfKind, row_looks, column_looks, HasPrice, IsPriced, look_at, AreExpanded, Expands, Same, Expanded, group_of_machine, Proves}
 use Rattle.kd_prices.specs.Doubt.{AreOfOneModel, AreNumbered}
 
 above : (floor : ℕ) (kinds : List PricedKind) (look : Look) (price : ℤ) → AreKinds floor kinds → IsPriced look price kinds → floor ≤ look_rank look
@@ -182,7 +172,7 @@ expanded_told machine n s d prices p numbered r em es ep are kind number group r
     } in
     let expands : Expands machine s prices numbered = Expanded (ap version_of ep ∙ kind) number (ap group_of ep ∙ group) are good (rw em row) (rw es column) in
     elim r as (λ r. MatchOption r (¬ (ArePrices numbered)) (λ p. p ≡ numbered)
-        → MatchOption r ((numbered : PriceParts) → ¬ (Expands machine s prices numbered)) (λ numbered. Expands machine s prices numbered)) [
+    → MatchOption r ((numbered : PriceParts) → ¬ (Expands machine s prices numbered)) (λ numbered. Expands machine s prices numbered)) [
       | None ↦ λ none. absurd (none good)
       | Some q ↦ λ same. subst (Expands machine s prices) (sym same) expands
     ] h
