@@ -44,12 +44,7 @@ same_parts : (prices others : PriceParts) → version_of prices ≡ ByNumber →
     → row_prices prices ≡ row_prices others → column_prices prices ≡ column_prices others → prices ≡ others
 same_parts (Cables a b) (Cables c d) by also group rows columns = cc
 same_parts (Bars a b) (Bars c d) by also group rows columns = cc
-same_parts (Cables a b) (Bars c d) by also group rows columns = cc
-same_parts (Bars a b) (Cables c d) by also group rows columns = cc
-same_parts (CableKinds a b) others by also group rows columns = cc
-same_parts (BarKinds a b) others by also group rows columns = cc
-same_parts prices (CableKinds c d) by also group rows columns = cc
-same_parts prices (BarKinds c d) by also group rows columns = cc
+same_parts prices others by also group rows columns = cc
 
 pub one_expansion : (m : Parts) (s : Day) (prices numbered other : PriceParts) → Expands m s prices numbered → Expands m s prices other → numbered ≡ other
 one_expansion m s prices numbered other (Same by e) (Same also f) = sym e ∙ f
@@ -63,22 +58,12 @@ one_expansion m s prices numbered other (Expanded by be group are good rows colu
 group_is : (m : Parts) (prices : PriceParts) → AreOfKind m prices → group_of prices ≡ group_of_machine m
 group_is (Rotor m) (Cables a b) kind = refl
 group_is (Pin m) (Bars a b) kind = refl
-group_is (Rotor m) (Bars a b) kind = absurd kind
-group_is (Rotor m) (CableKinds a b) kind = absurd kind
-group_is (Rotor m) (BarKinds a b) kind = absurd kind
-group_is (Pin m) (Cables a b) kind = absurd kind
-group_is (Pin m) (CableKinds a b) kind = absurd kind
-group_is (Pin m) (BarKinds a b) kind = absurd kind
+group_is m prices kind = absurd kind
 
 pub kind_is : (m : Parts) (prices : PriceParts) → version_of prices ≡ ByNumber → group_of prices ≡ group_of_machine m → AreOfKind m prices
 kind_is (Rotor m) (Cables a b) by group = tt
 kind_is (Pin m) (Bars a b) by group = tt
-kind_is (Rotor m) (Bars a b) by group = cc
-kind_is (Rotor m) (CableKinds a b) by group = cc
-kind_is (Rotor m) (BarKinds a b) by group = cc
-kind_is (Pin m) (Cables a b) by group = cc
-kind_is (Pin m) (CableKinds a b) by group = cc
-kind_is (Pin m) (BarKinds a b) by group = cc
+kind_is m prices by group = cc
 
 same_group : (m : Parts) (s : Day) (prices numbered : PriceParts) → Expands m s prices numbered → (version_of numbered ≡ ByNumber) × (group_of prices ≡ group_of numbered)
 same_group m s prices numbered (Same by e) = (ap version_of (sym e) ∙ by, ap group_of e)
