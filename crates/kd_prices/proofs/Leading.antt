@@ -54,10 +54,14 @@ one_in_front m s x rest line allowed needed h =
       needless = h.needless;
     }
 
+-- a list from one of its places on
+pub drop_at : {X : Type 0} (xs : List X) (i : ℕ) (x : X) → i < length xs → x ≡ get_or xs i x → drop i xs ≡ x ∷ drop (i + 1) xs
+drop_at xs i x inside is = drop_more xs i x inside ∙ ap (λ y. y ∷ drop (i + 1) xs) (sym is)
+
 module _ (m now : Parts) (s : Day) (settings : List Setting) (place : ℕ) (x : Setting) (inside : place < length settings)
     (is : x ≡ get_or settings place x) (so_far : AreNeededTo m now s settings place (drop place settings)) where
   here : AreNeededTo m now s settings place (x ∷ drop (place + 1) settings)
-  here = subst (AreNeededTo m now s settings place) (drop_more settings place x inside ∙ ap (λ y. y ∷ drop (place + 1) settings) (sym is)) so_far
+  here = subst (AreNeededTo m now s settings place) (drop_at settings place x inside is) so_far
 
   -- the setting at the place is not needed
   pub stops_here : ¬ (IsNeeded now s x) → IsFirstNeedless m s settings (place + 1)

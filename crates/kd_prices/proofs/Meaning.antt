@@ -1,9 +1,8 @@
 -- Prices mean one list of prices by number at most, and those are of the same model.
-use Rattle.std.proofs.Common.{◌≡◌, ◌≢◌, ◌⊎◌, ℕ, ◌+◌, ◌<◌, ◌≤◌, inl, inr, List, [], ◌∷◌, ◌++◌, length, get_or, take, drop, append_assoc, refl, sym, ap, ◌∙◌, subst, arith, ℤ, pos, unsigned_abs, Option, Some, None, MatchOption, set}
-use Rattle.std.proofs.lemmas.Bool.{cases_lt}
+use Rattle.std.proofs.Common.{below_more, ◌≡◌, ℕ, ◌+◌, ◌<◌, ◌≤◌, inl, inr, List, [], ◌∷◌, ◌++◌, length, get_or, refl, sym, ap, ◌∙◌, subst, arith, ℤ, pos, unsigned_abs, Option, Some, None, MatchOption, set}
 use Rattle.std.proofs.lemmas.List.Elements.{All-from_get_or}
 use Rattle.kd_card.specs.declared.look.Look.TheVariants.{Pair}
-use Rattle.std.proofs.lemmas.List.{ext_get_or, take_more, take-append-drop, get_or_default, get_or-set_same, get_or-set_other}
+use Rattle.std.proofs.lemmas.List.{ext_get_or, get_or_default, get_or-set_same, get_or-set_other}
 use Rattle.kd_state.specs.declared.machine.parts.Parts.{Parts}
 use Rattle.kd_state.specs.declared.machine.parts.Parts.TheVariants.{Rotor, Pin}
 use Rattle.kd_state.specs.declared.setting.Setting.{Setting}
@@ -11,7 +10,7 @@ use Rattle.kd_state.specs.SheetDay.{Day}
 use Rattle.kd_card.specs.declared.look.Look.{Look}
 use Rattle.kd_card.specs.declared.kinds.PricedKind.{PricedKind}
 use Rattle.kd_card.specs.declared.prices.PriceParts.{PriceParts}
-use Rattle.kd_card.specs.declared.prices.PriceParts.TheVariants.{Cables, Bars, CableKinds, BarKinds}
+use Rattle.kd_card.specs.declared.prices.PriceParts.TheVariants.{Cables, Bars}
 use Rattle.kd_card.specs.declared.prices.Version.TheVariants.{ByNumber, ByKind}
 use Rattle.kd_card.specs.Kinds.{look_rank, AreKinds}
 use Rattle.kd_card.specs.Prices.{version_of, row_kinds, column_kinds, ArePrices, row_prices, column_prices, price_at, AreWithinReach, how_many}
@@ -87,25 +86,6 @@ pub priced_here : (look : Look) (price : ℤ) (front : List PricedKind) (kind : 
 priced_here look price [] kind behind has = inl has
 priced_here look price (first ∷ front) kind behind has = inr (priced_here look price front kind behind has)
 
-pub priced_before : (look : Look) (price : ℤ) (front : List PricedKind) (kind : PricedKind) → IsPriced look price (front ++ kind ∷ [])
-    → IsPriced look price front ⊎ HasPrice look price kind
-priced_before look price [] kind (inl has) = inr has
-priced_before look price [] kind (inr none) = absurd none
-priced_before look price (first ∷ front) kind (inl has) = inl (inl has)
-priced_before look price (first ∷ front) kind (inr later) = elim (priced_before look price front kind later) [ inl before ↦ inl (inr before) | inr has ↦ inr has ]
-
-pub at_place : (kinds : List PricedKind) (i : ℕ) (kind : PricedKind) → i < length kinds → kind ≡ get_or kinds i kind
-    → kinds ≡ take i kinds ++ (kind ∷ drop (i + 1) kinds)
-at_place kinds i kind inside is =
-    sym (take-append-drop (i + 1) kinds) ∙ ap (λ front. front ++ drop (i + 1) kinds) (take_more kinds i kind inside)
-    ∙ append_assoc (take i kinds) (get_or kinds i kind ∷ []) (drop (i + 1) kinds) ∙ ap (λ k. take i kinds ++ (k ∷ drop (i + 1) kinds)) (sym is)
-
-pub none_more : (look : Look) (kinds : List PricedKind) (i : ℕ) (kind : PricedKind) → i < length kinds → kind ≡ get_or kinds i kind
-    → ((price : ℤ) → ¬ (IsPriced look price (take i kinds))) → look_rank kind.look ≢ look_rank look → (price : ℤ) → ¬ (IsPriced look price (take (i + 1) kinds))
-none_more look kinds i kind inside is none differs price priced =
-    let next = take_more kinds i kind inside ∙ ap (λ k. take i kinds ++ k ∷ []) (sym is) in
-    elim (priced_before look price (take i kinds) kind (subst (IsPriced look price) next priced)) [ inl before ↦ none price before | inr has ↦ differs has.alike ]
-
 -- ---- prices found
 
 pub no_expansion : (looks : List Look) (kinds : List PricedKind) (i : ℕ) (look : Look) → i < length looks → look ≡ get_or looks i look
@@ -117,15 +97,10 @@ no_expansion looks kinds i look inside is none prices e =
 pub one_more_price : (looks : List Look) (kinds : List PricedKind) (prices : List ℤ) (i : ℕ) (look : Look) (price : ℤ) → i < length looks → i < length prices
     → look ≡ get_or looks i look → IsPriced look price kinds → ((place : ℕ) → place < i → IsPriced (look_at looks place) (price_at prices place) kinds)
     → (place : ℕ) → place < i + 1 → IsPriced (look_at looks place) (price_at (set prices i price) place) kinds
-one_more_price looks kinds prices i look price inside within is here before place near =
-    elim (cases_lt place i) [
-      | inl lt ↦ subst (λ p. IsPriced (look_at looks place) p kinds) (sym (get_or-set_other prices i place price (pos 0) (λ e. omega (arith, e, lt)))) (before place lt)
-      | inr ge ↦
-          let same : place ≡ i = omega arith in
-          subst (λ k. IsPriced (look_at looks k) (price_at (set prices i price) k) kinds) (sym same)
-          (subst (λ p. IsPriced (look_at looks i) p kinds) (sym (get_or-set_same prices i price (pos 0) within))
-          (subst (λ l. IsPriced l price kinds) (is ∙ get_or_default looks i look (Pair None) inside) here))
-    ]
+one_more_price looks kinds prices i look price inside within is here before =
+    below_more (λ place. IsPriced (look_at looks place) (price_at (set prices i price) place) kinds) i
+    (λ place lt. rw (get_or-set_other prices i place price (pos 0) (λ e. omega (arith, e, lt))) (before place lt))
+    (rw (get_or-set_same prices i price (pos 0) within) (subst (λ l. IsPriced l price kinds) (is ∙ get_or_default looks i look (Pair None) inside) here))
 
 priced_within : (floor : ℕ) (kinds : List PricedKind) (look : Look) (price : ℤ) → AreKinds floor kinds → IsPriced look price kinds → unsigned_abs price ≤ 9999
 priced_within floor [] look price are none = absurd none
