@@ -1,5 +1,5 @@
 -- Prices mean one list of prices by number at most, and those are of the same model.
-use Rattle.std.proofs.Common.{below_more, ◌≡◌, ℕ, ◌+◌, ◌<◌, ◌≤◌, inl, inr, List, [], ◌∷◌, ◌++◌, length, get_or, refl, sym, ap, ◌∙◌, subst, arith, ℤ, pos, unsigned_abs, Option, Some, None, MatchOption, set}
+use Rattle.std.proofs.Common.{below_more, ◌≡◌, ℕ, ◌+◌, ◌<◌, ◌≤◌, inl, inr, List, [], ◌∷◌, length, get_or, refl, sym, ap, ◌∙◌, subst, arith, ℤ, pos, unsigned_abs, Option, Some, None, MatchOption, set}
 use Rattle.std.proofs.lemmas.List.Elements.{All-from_get_or}
 use Rattle.kd_card.specs.declared.look.Look.TheVariants.{Pair}
 use Rattle.std.proofs.lemmas.List.{ext_get_or, get_or_default, get_or-set_same, get_or-set_other}
@@ -15,7 +15,7 @@ use Rattle.kd_card.specs.declared.prices.Version.TheVariants.{ByNumber, ByKind}
 use Rattle.kd_card.specs.Kinds.{look_rank, AreKinds}
 use Rattle.kd_card.specs.Prices.{version_of, row_kinds, column_kinds, ArePrices, row_prices, column_prices, price_at, AreWithinReach, how_many}
 use Rattle.kd_card.specs.CardText.{group_of}
-use Rattle.kd_card.specs.Proving.{AreOfKind, row_looks, column_looks, HasPrice, IsPriced, look_at, AreExpanded, Expands, Same, Expanded, group_of_machine, Proves}
+use Rattle.kd_card.specs.Proving.{AreOfKind, row_looks, column_looks, IsPriced, look_at, AreExpanded, Expands, Same, Expanded, group_of_machine, Proves}
 use Rattle.kd_prices.specs.Doubt.{AreOfOneModel, AreNumbered}
 
 above : (floor : ℕ) (kinds : List PricedKind) (look : Look) (price : ℤ) → AreKinds floor kinds → IsPriced look price kinds → floor ≤ look_rank look
@@ -78,13 +78,6 @@ pub are_numbered : (m : Parts) (s : Day) (prices numbered : PriceParts) → AreO
 are_numbered m s prices numbered model expands =
     let same = same_group m s prices numbered expands in
     record { model = model.model; kind = kind_is m numbered same.0 (sym same.1 ∙ model.group) }
-
--- ---- a kind among others
-
-pub priced_here : (look : Look) (price : ℤ) (front : List PricedKind) (kind : PricedKind) (behind : List PricedKind) → HasPrice look price kind
-    → IsPriced look price (front ++ (kind ∷ behind))
-priced_here look price [] kind behind has = inl has
-priced_here look price (first ∷ front) kind behind has = inr (priced_here look price front kind behind has)
 
 -- ---- prices found
 
