@@ -100,14 +100,11 @@ module _ (r c by k : ℤ) where
   moves_tight : (p q : Bool) → p ≡ q → (r +ℤ c) ≡ k → (cond p (r +ℤ by) r +ℤ cond q (c -ℤ by) c) ≡ k
   moves_tight true true same tight = omega (arith, ints)
   moves_tight false false same tight = tight
-  moves_tight true false same tight = absurd (false≢true (sym same))
-  moves_tight false true same tight = absurd (false≢true same)
+  moves_tight p q same tight = cc
 
   moves_fit : (p q : Bool) → pos 0 ≤ℤ by → (r +ℤ c) ≤ℤ k → (p ≡ true → q ≡ false → by ≤ℤ ((k -ℤ r) -ℤ c))
       → (cond p (r +ℤ by) r +ℤ cond q (c -ℤ by) c) ≤ℤ k
-  moves_fit true true low fits least = omega (arith, ints)
-  moves_fit true false low fits least = omega (arith, ints, least refl refl)
-  moves_fit false q low fits least = grind (arith, ints)
+  moves_fit p q low fits least = grind (arith, ints)
 
 module _ (p : Bool) (x by x' : ℤ) (low : pos 0 ≤ℤ by) where
   rises_little : x' ≡ cond p (x +ℤ by) x → pos 0 ≤ℤ x → x ≤ℤ pos 4 → (p ≡ true → (x +ℤ by) ≤ℤ pos 4)

@@ -1,7 +1,7 @@
 -- A card that proves itself is in no doubt, and a card is in one doubt at most.
-use Rattle.std.proofs.Common.{◌≡◌, ℕ, ◌<◌, ◌≤◌, inl, inr, List, [], ◌∷◌, ◌++◌, length, refl, sym, ap, ◌∙◌, subst, arith}
+use Rattle.std.proofs.Common.{◌≡◌, ℕ, ◌+◌, ◌⊎◌, inl, inr, List, [], ◌∷◌, ◌++◌, length, refl, sym, ap, ◌∙◌, subst, arith}
 use Rattle.std.specs.Prelude.{pos, false, IsTrue, ◌↔◌}
-use Rattle.std.proofs.lemmas.Bool.{cases_lt, false≢true}
+use Rattle.std.proofs.lemmas.Bool.{cases_order, false≢true}
 use Rattle.kd_state.specs.declared.machine.parts.Parts.{Parts}
 use Rattle.kd_state.specs.declared.setting.Setting.{Setting}
 use Rattle.kd_state.specs.declared.setting.why.Why.{Why}
@@ -13,200 +13,170 @@ use Rattle.kd_state.specs.Laws.{LeadsToOne}
 use Rattle.kd_card.specs.declared.prices.PriceParts.{PriceParts}
 use Rattle.kd_card.specs.Prices.{Fits, price_sum}
 use Rattle.kd_card.specs.Carrying.{IsFirstIllegal}
-use Rattle.kd_card.specs.Proving.{AreNeeded, LeadsToTheDay, Proves, ProvesByNumber, priced_count}
+use Rattle.kd_card.specs.Proving.{AreNeeded, Expands, LeadsToTheDay, Proves, ProvesByNumber, priced_count}
 use Rattle.kd_prices.specs.declared.doubt.Doubt.{Doubt}
 use Rattle.kd_prices.specs.declared.doubt.Doubt.TheVariants.{OtherModel, PriceMissing, IllegalAt, NotTheSheet, PriceTooHigh, SumDiffers, NeedlessLine}
-use Rattle.kd_prices.specs.Doubt.{IsFirstWithout, IsFirstNeedless, IsDoubtByNumber, IsDoubt, OfModels, OfKinds, OfNumbers}
-use Rattle.kd_prices.specs.Laws.{ProvingCardsAreInNoDoubt, OneDoubt}
+use Rattle.kd_prices.specs.Doubt.{AreOfOneModel, IsFirstWithout, IsFirstTooHigh, IsFirstNeedless, IsDoubtByNumber, IsDoubt, OfModels, OfKinds, OfNumbers}
 use Rattle.kd_prices.proofs.Meaning.{one_expansion, of_one_model}
 use Rattle.kd_prices.proofs.Leading.{needed_at, not_refused}
 
--- Two places in one list: they are the same, or the one lies in front of the other.
-data Meet {X : Type 0} (front other : List X) (x y : X) : Type 0 where
-  Same : front ≡ other → x ≡ y → Meet front other x y
-  Before : (rest : List X) → other ≡ front ++ x ∷ rest → Meet front other x y
-  Behind : (rest : List X) → front ≡ other ++ y ∷ rest → Meet front other x y
-
-meet : {X : Type 0} (front other after behind : List X) (x y : X) → front ++ x ∷ after ≡ other ++ y ∷ behind → Meet front other x y
-meet [] [] after behind x y e = Same refl (cc)
-meet [] (z ∷ other) after behind x y e = Before other (cc)
-meet (z ∷ front) [] after behind x y e = Behind front (cc)
-meet (z ∷ front) (w ∷ other) after behind x y e =
-    elim (meet front other after behind x y (cc)) [
-      | Same f g ↦ Same (cc) g
-      | Before rest f ↦ Before rest (cc)
-      | Behind rest f ↦ Behind rest (cc)
-    ]
+-- A list has one front that is good, and with what stands behind it is the front of no good list.
+one_front : {X : Type 0} (Good : List X → Type 0) (front other after behind : List X) (x y : X) → front ++ x ∷ after ≡ other ++ y ∷ behind → Good front → Good other
+    → ((rest : List X) → ¬ (Good (front ++ x ∷ rest))) → ((rest : List X) → ¬ (Good (other ++ y ∷ rest))) → (front ≡ other) × (x ≡ y)
+one_front Good [] [] after behind x y e good fine bad worse = (refl, cc)
+one_front Good [] (z ∷ other) after behind x y e good fine bad worse = let same : z ≡ x = cc in absurd (bad other (subst (λ w. Good (w ∷ other)) same fine))
+one_front Good (z ∷ front) [] after behind x y e good fine bad worse = let same : z ≡ y = cc in absurd (worse front (subst (λ w. Good (w ∷ front)) same good))
+one_front {X = X} Good (z ∷ front) (w ∷ other) after behind x y e good fine bad worse =
+    let same : w ≡ z = cc in
+    let tails = one_front (λ xs. Good (z ∷ xs)) front other after behind x y (cc) good (subst (λ v. Good (v ∷ other)) same fine) bad
+    (subst (λ (v : X). (rest : List X) → ¬ (Good (v ∷ (other ++ y ∷ rest)))) same worse) in
+    (cc, tails.1)
 
 one_place : (Holds : ℕ → ℕ → Type 0) (number row column i j : ℕ) → IsFirstWithout Holds number row column → IsFirstWithout Holds number i j → (row ≡ i) × (column ≡ j)
 one_place Holds number row column i j h k =
-    let not_before = λ (lt : row < i). k.before row column h.column_within (inl lt) in
-    let not_behind = λ (lt : i < row). h.before i j k.column_within (inl lt) in
-    elim (cases_lt row i) [
-      | inl lt ↦ absurd (h.here (not_before lt))
-      | inr le ↦ elim (cases_lt i row) [
-        | inl lt ↦ absurd (k.here (not_behind lt))
-        | inr ge ↦
-            let same : row ≡ i = omega arith in
-            elim (cases_lt column j) [
-              | inl lt ↦ absurd (h.here (k.before row column h.column_within (inr (same, lt))))
-              | inr more ↦ elim (cases_lt j column) [
-                | inl lt ↦ absurd (k.here (h.before i j k.column_within (inr (sym same, lt))))
-                | inr less ↦ (same, omega arith)
-              ]
-            ]
+    elim (cases_order row i) [
+      | inl same ↦ elim (cases_order column j) [
+        | inl alike ↦ (same, alike)
+        | inr (inl lt) ↦ absurd (h.here (k.before row column h.column_within (inr (same, lt))))
+        | inr (inr lt) ↦ absurd (k.here (h.before i j k.column_within (inr (sym same, lt))))
       ]
+      | inr (inl lt) ↦ absurd (h.here (k.before row column h.column_within (inl lt)))
+      | inr (inr lt) ↦ absurd (k.here (h.before i j k.column_within (inl lt)))
     ]
+
+-- ---- doubts of one sort, or of several, one after another
+
+-- a card is in one of them at most, and in none if this holds
+pub record Deny (Holds : Type 0) (Is : Doubt → Type 0) : Type 0 where
+  pub one : (doubt other : Doubt) → Is doubt → Is other → doubt ≡ other
+  pub none : (doubt : Doubt) → Is doubt → ¬ Holds
+
+weaker : {Holds More : Type 0} {Is Other : Doubt → Type 0} → Deny Holds Is → ((doubt : Doubt) → Other doubt → Is doubt) → (More → Holds) → Deny More Other
+weaker here told holds = record {
+  one = λ doubt other h k. here.one doubt other (told doubt h) (told other k);
+  none = λ doubt h more. here.none doubt (told doubt h) (holds more);
+}
+
+abbrev Alone : Doubt → Type 0 → Doubt → Type 0
+Alone due Holds doubt = (doubt ≡ due) × ¬ Holds
+
+alone : (due : Doubt) (Holds : Type 0) → Deny Holds (Alone due Holds)
+alone due Holds = record { one = λ doubt other h k. h.0 ∙ sym k.0; none = λ doubt h. h.1 }
+
+-- such a doubt, or where it doesn't hold a later one
+abbrev Before : (Doubt → Type 0) → Type 0 → (Doubt → Type 0) → Doubt → Type 0
+Before Is Holds Later doubt = Is doubt ⊎ (Holds × Later doubt)
+
+module _ {Holds More : Type 0} {Is Later : Doubt → Type 0} (here : Deny Holds Is) (there : Deny More Later) where
+  one_of_both : (doubt other : Doubt) → Before Is Holds Later doubt → Before Is Holds Later other → doubt ≡ other
+  one_of_both doubt other (inl h) (inl k) = here.one doubt other h k
+  one_of_both doubt other (inl h) (inr k) = absurd (here.none doubt h k.0)
+  one_of_both doubt other (inr h) (inl k) = absurd (here.none other k h.0)
+  one_of_both doubt other (inr h) (inr k) = there.one doubt other h.1 k.1
+
+  before : Deny (Holds × More) (Before Is Holds Later)
+  before = record {
+    one = one_of_both;
+    none = λ doubt h holds. elim h [ inl is ↦ here.none doubt is holds.0 | inr later ↦ there.none doubt later.1 holds.1 ];
+  }
+
+-- ---- prices by number
 
 module _ (one : LeadsToOne) (m : Parts) (s : Day) (settings : List Setting) (prices : PriceParts) where
-  one_illegal : (line other : ℕ) (why reason : Why) → IsFirstIllegal m settings line why → IsFirstIllegal m settings other reason → (line ≡ other) × (why ≡ reason)
-  one_illegal line other why reason h k =
-      elim (meet h.front k.front h.rest k.rest h.setting k.setting (sym h.split ∙ k.split)) [
-        | Same f x ↦
-            let between = one m h.between k.between k.front (subst (λ front. Leads m front h.between) f h.leads) k.leads in
-            let reasons : why_refused h.between h.setting ≡ why_refused k.between k.setting = cc in
-            let same : why ≡ reason = let a = h.refused in let b = k.refused in cc in
-            let counts = ap length f in
-            (omega (arith, h.number, k.number), same)
-        | Before rest f ↦ absurd (not_refused one m h.between k.between h.front rest h.setting why h.leads h.refused (subst (λ front. Leads m front k.between) f k.leads))
-        | Behind rest f ↦ absurd (not_refused one m k.between h.between k.front rest k.setting reason k.leads k.refused (subst (λ front. Leads m front h.between) f h.leads))
-      ]
+  abbrev Illegal : Doubt → Type 0
+  Illegal doubt = (line : ℕ) × (why : Why) × (doubt ≡ IllegalAt line why) × IsFirstIllegal m settings line why
 
-  one_needless : (line other : ℕ) → IsFirstNeedless m s settings line → IsFirstNeedless m s settings other → line ≡ other
-  one_needless line other h k =
-      elim (meet h.front k.front h.rest k.rest h.setting k.setting (sym h.split ∙ k.split)) [
-        | Same f x ↦ let counts = ap length f in omega (arith, h.number, k.number)
-        | Before rest f ↦ absurd (h.needless (needed_at m h.between s h.front rest h.setting h.leads (subst (AreNeeded m s) f k.needed)))
-        | Behind rest f ↦ absurd (k.needless (needed_at m k.between s k.front rest k.setting k.leads (subst (AreNeeded m s) f h.needed)))
-      ]
+  abbrev TooHigh : Doubt → Type 0
+  TooHigh doubt = (row : ℕ) × (column : ℕ) × (doubt ≡ PriceTooHigh (row + 1) (column + 1)) × IsFirstTooHigh (cost_table m s) prices row column
 
-  -- what a doubt denies
-  abbrev Denied : Doubt → Type 0
-  Denied OtherModel = Unit {0}
-  Denied PriceMissing = Unit {0}
-  Denied (IllegalAt line why) = (n : Parts) × Leads m settings n
-  Denied NotTheSheet = LeadsToTheDay m s settings
-  Denied (PriceTooHigh i j) = Fits (cost_table m s) prices
-  Denied SumDiffers = price_sum prices ≡ pos (priced_count settings)
-  Denied (NeedlessLine line) = AreNeeded m s settings
+  abbrev Needless : Doubt → Type 0
+  Needless doubt = (line : ℕ) × (doubt ≡ NeedlessLine line) × IsFirstNeedless m s settings line
 
-  denies : (doubt : Doubt) → IsDoubtByNumber m s settings prices doubt → ¬ (Denied doubt)
-  denies OtherModel h other = h
-  denies PriceMissing h other = h
-  denies (IllegalAt line why) h leads =
-      not_refused one m h.1.between leads.0 h.1.front h.1.rest h.1.setting why h.1.leads h.1.refused (subst (λ settings. Leads m settings leads.0) h.1.split leads.1)
-  denies NotTheSheet h reached =
-      let same = one m reached.0 h.1.0 settings reached.1 h.1.1 in
-      h.1.2 (subst (λ n. ReadsAs n s) same reached.2)
-  denies (PriceTooHigh i j) h fits = let first = h.2.4 in first.here (fits h.2.0 h.2.1 first.row_within first.column_within)
-  denies SumDiffers h same = h.3 same
-  denies (NeedlessLine line) h needed =
-      let first = h.4 in first.needless (needed_at m first.between s first.front first.rest first.setting first.leads (subst (AreNeeded m s) first.split needed))
+  illegal : Deny ((n : Parts) × Leads m settings n) Illegal
+  illegal =
+      let refused = λ (line : ℕ) (why : Why) (h : IsFirstIllegal m settings line why) (rest : List Setting) (leads : (n : Parts) × Leads m (h.front ++ h.setting ∷ rest) n).
+      not_refused m h.between leads.0 h.front rest h.setting why h.leads h.refused leads.1 in
+      record {
+        one = λ doubt other h k.
+            let here = h.3 in
+            let there = k.3 in
+            let same = one_front (λ xs. (n : Parts) × Leads m xs n) here.front there.front here.rest there.rest here.setting there.setting (sym here.split ∙ there.split)
+            (here.between, here.leads) (there.between, there.leads) (refused h.0 h.1 here) (refused k.0 k.1 there) in
+            let between = one m here.between there.between there.front (subst (λ front. Leads m front here.between) same.0 here.leads) there.leads in
+            let reasons : why_refused here.between here.setting ≡ why_refused there.between there.setting = cc in
+            let a = here.refused in
+            let b = there.refused in
+            let whys : h.1 ≡ k.1 = cc in
+            let counts = ap length same.0 in
+            let lines : h.0 ≡ k.0 = omega (arith, here.number, there.number) in
+            h.2 ∙ ap (λ line. IllegalAt line h.1) lines ∙ ap (IllegalAt k.0) whys ∙ sym k.2;
+        none = λ doubt h leads. refused h.0 h.1 h.3 h.3.rest (leads.0, subst (λ xs. Leads m xs leads.0) h.3.split leads.1);
+      }
 
-  -- the place of a doubt in their order
-  abbrev rank : Doubt → ℕ
-  rank OtherModel = 0
-  rank PriceMissing = 0
-  rank (IllegalAt line why) = 1
-  rank NotTheSheet = 2
-  rank (PriceTooHigh i j) = 3
-  rank SumDiffers = 4
-  rank (NeedlessLine line) = 5
+  too_high : Deny (Fits (cost_table m s) prices) TooHigh
+  too_high = record {
+    one = λ doubt other h k. let same = one_place _ _ h.0 h.1 k.0 k.1 h.3 k.3 in let first = h.2 in let second = k.2 in cc;
+    none = λ doubt h fits. h.3.here (fits h.0 h.1 h.3.row_within h.3.column_within);
+  }
 
-  rank_most : (doubt : Doubt) → rank doubt ≤ 5
-  rank_most OtherModel = omega arith
-  rank_most PriceMissing = omega arith
-  rank_most (IllegalAt line why) = omega arith
-  rank_most NotTheSheet = omega arith
-  rank_most (PriceTooHigh i j) = omega arith
-  rank_most SumDiffers = omega arith
-  rank_most (NeedlessLine line) = omega arith
+  needless : Deny (AreNeeded m s settings) Needless
+  needless =
+      let refused = λ (line : ℕ) (h : IsFirstNeedless m s settings line) (rest : List Setting) (needed : AreNeeded m s (h.front ++ h.setting ∷ rest)).
+      h.needless (needed_at m h.between s h.front rest h.setting h.leads needed) in
+      record {
+        one = λ doubt other h k.
+            let here = h.2 in
+            let there = k.2 in
+            let same = one_front (AreNeeded m s) here.front there.front here.rest there.rest here.setting there.setting (sym here.split ∙ there.split)
+            here.needed there.needed (refused h.0 here) (refused k.0 there) in
+            let counts = ap length same.0 in
+            let lines : h.0 ≡ k.0 = omega (arith, here.number, there.number) in
+            h.1 ∙ ap NeedlessLine lines ∙ sym k.1;
+        none = λ doubt h needed. refused h.0 h.2 h.2.rest (subst (AreNeeded m s) h.2.split needed);
+      }
 
-  -- a later doubt is one of a card of which the earlier don't hold
-  passed : (doubt later : Doubt) → rank doubt < rank later → IsDoubtByNumber m s settings prices later → Denied doubt
-  passed (IllegalAt line why) NotTheSheet lt h = (h.1.0, h.1.1)
-  passed (IllegalAt line why) (PriceTooHigh i j) lt h = (h.1.0, h.1.1)
-  passed (IllegalAt line why) SumDiffers lt h = (h.1.0, h.1.1)
-  passed (IllegalAt line why) (NeedlessLine other) lt h = (h.1.0, h.1.1)
-  passed NotTheSheet (PriceTooHigh i j) lt h = h.1
-  passed NotTheSheet SumDiffers lt h = h.1
-  passed NotTheSheet (NeedlessLine line) lt h = h.1
-  passed (PriceTooHigh i j) SumDiffers lt h = h.2
-  passed (PriceTooHigh i j) (NeedlessLine line) lt h = h.2
-  passed SumDiffers (NeedlessLine line) lt h = h.3
-  passed OtherModel later lt h = tt
-  passed PriceMissing later lt h = tt
-  passed doubt OtherModel lt h = absurd h
-  passed doubt PriceMissing lt h = absurd h
-  passed doubt later lt h = absurd (omega (arith, rank_most later))
+  abbrev InTurn : Doubt → Type 0
+  InTurn =
+      Before Illegal ((n : Parts) × Leads m settings n) (Before (Alone NotTheSheet (LeadsToTheDay m s settings)) (LeadsToTheDay m s settings)
+      (Before TooHigh (Fits (cost_table m s) prices) (Before (Alone SumDiffers (price_sum prices ≡ pos (priced_count settings))) (price_sum prices ≡ pos (priced_count settings)) Needless)))
 
-  same_rank : (doubt other : Doubt) → rank doubt ≡ rank other → IsDoubtByNumber m s settings prices doubt → IsDoubtByNumber m s settings prices other → doubt ≡ other
-  same_rank OtherModel other e h k = absurd h
-  same_rank PriceMissing other e h k = absurd h
-  same_rank doubt OtherModel e h k = absurd k
-  same_rank doubt PriceMissing e h k = absurd k
-  same_rank (IllegalAt line why) (IllegalAt other reason) e h k = let same = one_illegal line other why reason h.1 k.1 in cc
-  same_rank NotTheSheet NotTheSheet e h k = refl
-  same_rank (PriceTooHigh i j) (PriceTooHigh row column) e h k =
-      let same = one_place _ _ h.2.0 h.2.1 k.2.0 k.2.1 h.2.4 k.2.4 in
-      let rows : i ≡ row = omega (arith, same.0, h.2.2, k.2.2) in
-      let columns : j ≡ column = omega (arith, same.1, h.2.3, k.2.3) in
-      cc
-  same_rank SumDiffers SumDiffers e h k = refl
-  same_rank (NeedlessLine line) (NeedlessLine other) e h k = ap NeedlessLine (one_needless line other h.4 k.4)
-  same_rank doubt other e h k = absurd (omega arith)
+  in_turn : (doubt : Doubt) → IsDoubtByNumber m s settings prices doubt → InTurn doubt
+  in_turn OtherModel h = absurd h
+  in_turn PriceMissing h = absurd h
+  in_turn (IllegalAt line why) h = inl (line, why, refl, h.1)
+  in_turn NotTheSheet h = inr ((h.1.0, h.1.1), inl (refl, λ reached. h.1.2 (subst (λ n. ReadsAs n s) (one m reached.0 h.1.0 settings reached.1 h.1.1) reached.2)))
+  in_turn (PriceTooHigh i j) h = inr ((h.1.0, h.1.1), inr (h.1, inl (h.2.0, h.2.1, (let row = h.2.2 in let column = h.2.3 in cc), h.2.4)))
+  in_turn SumDiffers h = inr ((h.1.0, h.1.1), inr (h.1, inr (h.2, inl (refl, h.3))))
+  in_turn (NeedlessLine line) h = inr ((h.1.0, h.1.1), inr (h.1, inr (h.2, inr (h.3, (line, refl, h.4)))))
 
-one_by_number : LeadsToOne → (m : Parts) (s : Day) (settings : List Setting) (prices : PriceParts) (doubt other : Doubt)
-    → IsDoubtByNumber m s settings prices doubt → IsDoubtByNumber m s settings prices other → doubt ≡ other
-one_by_number one m s settings prices doubt other h k =
-    elim (cases_lt (rank one m s settings prices doubt) (rank one m s settings prices other)) [
-      | inl lt ↦ absurd (denies one m s settings prices doubt h (passed one m s settings prices doubt other lt k))
-      | inr le ↦ elim (cases_lt (rank one m s settings prices other) (rank one m s settings prices doubt)) [
-        | inl lt ↦ absurd (denies one m s settings prices other k (passed one m s settings prices other doubt lt h))
-        | inr ge ↦ same_rank one m s settings prices doubt other (omega arith) h k
-      ]
-    ]
-
-pub none_by_number : LeadsToOne → (m : Parts) (s : Day) (settings : List Setting) (prices : PriceParts) (doubt : Doubt)
-    → ProvesByNumber m s settings prices → ¬ (IsDoubtByNumber m s settings prices doubt)
-none_by_number one m s settings prices doubt proves h = denies one m s settings prices doubt h (denied doubt)
-  where
-    denied : (doubt : Doubt) → Denied one m s settings prices doubt
-    denied OtherModel = tt
-    denied PriceMissing = tt
-    denied (IllegalAt line why) = (proves.leads.0, proves.leads.1)
-    denied NotTheSheet = proves.leads
-    denied (PriceTooHigh i j) = proves.fits
-    denied SumDiffers = proves.sum
-    denied (NeedlessLine line) = proves.needed
+  by_number : Deny (ProvesByNumber m s settings prices) (IsDoubtByNumber m s settings prices)
+  by_number =
+      weaker (before illegal (before (alone NotTheSheet (LeadsToTheDay m s settings)) (before too_high
+      (before (alone SumDiffers (price_sum prices ≡ pos (priced_count settings))) needless)))) in_turn
+      (λ proves. ((proves.leads.0, proves.leads.1), (proves.leads, (proves.fits, (proves.sum, proves.needed)))))
 
 -- ---- prices of either version
 
-pub one_doubt : LeadsToOne → OneDoubt
-one_doubt one m s settings prices doubt other (OfModels none e) (OfModels nor f) = e ∙ sym f
-one_doubt one m s settings prices doubt other (OfModels none e) (OfKinds model nor f) = absurd (none model)
-one_doubt one m s settings prices doubt other (OfModels none e) (OfNumbers model numbered expands h) = absurd (none model)
-one_doubt one m s settings prices doubt other (OfKinds model none e) (OfModels nor f) = absurd (nor model)
-one_doubt one m s settings prices doubt other (OfKinds model none e) (OfKinds also nor f) = e ∙ sym f
-one_doubt one m s settings prices doubt other (OfKinds model none e) (OfNumbers also numbered expands h) = absurd (none numbered expands)
-one_doubt one m s settings prices doubt other (OfNumbers model numbered expands h) (OfModels nor f) = absurd (nor model)
-one_doubt one m s settings prices doubt other (OfNumbers model numbered expands h) (OfKinds also nor f) = absurd (nor numbered expands)
-one_doubt one m s settings prices doubt other (OfNumbers model numbered expands h) (OfNumbers also second means k) =
-    one_by_number one m s settings second doubt other
-    (subst (λ p. IsDoubtByNumber m s settings p doubt) (one_expansion m s prices numbered second expands means) h) k
+meant : LeadsToOne → (m : Parts) (s : Day) (settings : List Setting) (prices : PriceParts)
+    → Deny (Proves m s settings prices) (λ doubt. (numbered : PriceParts) × Expands m s prices numbered × IsDoubtByNumber m s settings numbered doubt)
+meant one m s settings prices = record {
+  one = λ doubt other h k. (by_number one m s settings k.0).one doubt other
+      (subst (λ p. IsDoubtByNumber m s settings p doubt) (one_expansion m s prices h.0 k.0 h.1 k.1) h.2) k.2;
+  none = λ doubt h proves. (by_number one m s settings h.0).none doubt h.2
+      (subst (ProvesByNumber m s settings) (one_expansion m s prices proves.numbered h.0 proves.expands h.1) proves.proves);
+}
 
-pub in_no_doubt : LeadsToOne → ProvingCardsAreInNoDoubt
-in_no_doubt one m s settings prices doubt proves (OfModels none e) = none (of_one_model m s settings prices proves)
-in_no_doubt one m s settings prices doubt proves (OfKinds model none e) = none proves.numbered proves.expands
-in_no_doubt one m s settings prices doubt proves (OfNumbers model numbered expands h) =
-    none_by_number one m s settings numbered doubt
-    (subst (ProvesByNumber m s settings) (one_expansion m s prices proves.numbered numbered proves.expands expands) proves.proves) h
+pub doubts : LeadsToOne → (m : Parts) (s : Day) (settings : List Setting) (prices : PriceParts) → Deny (Proves m s settings prices) (IsDoubt m s settings prices)
+doubts one m s settings prices =
+    weaker (before (alone OtherModel (AreOfOneModel m s prices)) (before (alone PriceMissing ((numbered : PriceParts) × Expands m s prices numbered)) (meant one m s settings prices)))
+    (λ doubt h. elim h [
+      | OfModels none e ↦ inl (e, none)
+      | OfKinds model none e ↦ inr (model, inl (e, λ some. none some.0 some.1))
+      | OfNumbers model numbered expands by ↦ inr (model, inr ((numbered, expands), (numbered, expands, by)))
+    ])
+    (λ proves. (of_one_model m s settings prices proves, ((proves.numbered, proves.expands), proves)))
 
 -- a card that is in a doubt doesn't prove itself
-pub not_proved : ProvingCardsAreInNoDoubt → (m : Parts) (s : Day) (settings : List Setting) (prices : PriceParts) (doubt : Doubt) → IsDoubt m s settings prices doubt
-    → IsTrue false ↔ Proves m s settings prices
-not_proved none m s settings prices doubt h = (λ e. absurd (false≢true e), λ proves. absurd (none m s settings prices doubt proves h))
-
-pub not_proved_by_number : LeadsToOne → (m : Parts) (s : Day) (settings : List Setting) (prices : PriceParts) (doubt : Doubt)
+pub not_proved : LeadsToOne → (m : Parts) (s : Day) (settings : List Setting) (prices : PriceParts) (doubt : Doubt)
     → IsDoubtByNumber m s settings prices doubt → IsTrue false ↔ ProvesByNumber m s settings prices
-not_proved_by_number one m s settings prices doubt h = (λ e. absurd (false≢true e), λ proves. absurd (none_by_number one m s settings prices doubt proves h))
+not_proved one m s settings prices doubt h = (λ e. absurd (false≢true e), λ proves. absurd ((by_number one m s settings prices).none doubt h proves))

@@ -4,7 +4,7 @@ use Rattle.std.specs.List.{All}
 use Rattle.std.proofs.lemmas.Bool.{cases_lt, lt-ltb, ne_eqb, eq-eqb}
 use Rattle.std.proofs.lemmas.Bool.Decides.{nat_tests}
 use Rattle.std.proofs.lemmas.List.{append-nil}
-use Rattle.std.proofs.lemmas.List.Elements.{All-nil, All-push, All-head, All-tail, All-get_or, All-from_get_or, All-weaker}
+use Rattle.std.proofs.lemmas.List.Elements.{All-nil, All-cons, All-head, All-tail, All-get_or, All-from_get_or, All-weaker}
 use Rattle.std.proofs.lemmas.List.Sums.{sum_by-cons, sum_by-le, count_by-le-length, get_or-le-sum_by}
 use Rattle.kd_card.specs.declared.look.Look.{Look}
 use Rattle.kd_card.specs.declared.look.Look.TheVariants.{Cable, Pair, Bar, Row}
@@ -16,7 +16,7 @@ use Rattle.kd_card.specs.Kinds.{look_name, look_rank, counted, IsInForm, IsPrice
 use Rattle.kd_card.specs.Prices.{price_at, AreWithinReach}
 use Rattle.kd_card.specs.Proving.{look_at, alike_count, IsPriced, HasCount, AreExpanded}
 use Rattle.kd_prices.specs.Kinds.{AreAlikePriced, IsKindAt, AreKindsOf, AreWithPrices}
-use Rattle.kd_prices.proofs.Meaning.{one_price, priced_here}
+use Rattle.kd_prices.proofs.Meaning.{one_price}
 
 -- ---- how many things are of ranks
 
@@ -81,21 +81,9 @@ from_lower : (floor : ℕ) (kinds : List PricedKind) → AreKinds (floor + 1) ki
 from_lower floor [] are = tt
 from_lower floor (kind ∷ kinds) are = let above = are.1 in (are.0, omega (arith, above), are.2)
 
-more_called : (name : _) (kinds : List PricedKind) (kind : PricedKind) → AreCalled name kinds
-    → look_name kind.look ≡ name
-    → AreCalled name (kinds ++ kind ∷ [])
-more_called name [] kind called this = (this, tt)
-more_called name (first ∷ kinds) kind called this = (called.0, more_called name kinds kind called.1 this)
-
-more_counted : (kinds : List PricedKind) (kind : PricedKind) → counted (kinds ++ kind ∷ []) ≡ counted kinds + kind.count
-more_counted [] kind = omega arith
-more_counted (first ∷ kinds) kind = omega (arith, more_counted kinds kind)
-
-priced_still : (look : Look) (price : ℤ) (kinds more : List PricedKind) → IsPriced look price kinds
-    → IsPriced look price (kinds ++ more)
-priced_still look price (kind ∷ kinds) more (inl has) = inl has
-priced_still look price (kind ∷ kinds) more (inr later) = inr (priced_still look price kinds more later)
-priced_still look price [] more none = absurd none
+priced_behind : (look : Look) (price : ℤ) (kinds more : List PricedKind) → IsPriced look price more → IsPriced look price (kinds ++ more)
+priced_behind look price [] more priced = priced
+priced_behind look price (kind ∷ kinds) more priced = inr (priced_behind look price kinds more priced)
 
 few_kinds : (floor : ℕ) (kinds : List PricedKind) → AreKinds floor kinds → length kinds ≤ counted kinds
 few_kinds floor [] are = omega arith
@@ -104,22 +92,26 @@ few_kinds floor (kind ∷ kinds) are =
 
 -- ---- rank by rank
 
--- the kinds are those of all things below that rank, and each has the price of one of its things
-pub record AreGrouped (looks : List Look) (prices : List ℤ) (rank : ℕ) (kinds : List PricedKind) : Type 0 where
-  pub in_order : (more : List PricedKind) → AreKinds rank more → AreKinds 0 (kinds ++ more)
-  pub called : (name : _) → All (λ look. look_name look ≡ name) looks → AreCalled name kinds
-  pub count : counted kinds ≡ count_by (below rank) looks
-  pub counts : All (HasCount looks) kinds
+-- All kinds, those from that rank on being these: before them are those of all things of lower ranks, each with the price of one of its things.
+pub record AreGroupedTo (looks : List Look) (prices : List ℤ) (rank : ℕ) (more all : List PricedKind) : Type 0 where
+  pub in_order : AreKinds rank more → AreKinds 0 all
+  pub called : (name : _) → All (λ look. look_name look ≡ name) looks → AreCalled name more → AreCalled name all
+  pub count : counted all ≡ count_by (below rank) looks + counted more
+  pub counts : All (HasCount looks) more → All (HasCount looks) all
   pub each :
       AreAlikePriced looks prices → (place : ℕ) → place < length looks → look_rank (look_at looks place) < rank
-      → IsPriced (look_at looks place) (price_at prices place) kinds
+      → IsPriced (look_at looks place) (price_at prices place) all
+
+-- the kinds are those of all things below that rank, whatever follows them
+abbrev pub AreGrouped : List Look → List ℤ → ℕ → List PricedKind → Type 0
+AreGrouped looks prices rank kinds = (more : List PricedKind) → AreGroupedTo looks prices rank more (kinds ++ more)
 
 pub grouped_none : (looks : List Look) (prices : List ℤ) → AreGrouped looks prices 0 []
-grouped_none looks prices = record {
-  in_order = λ more are. are;
-  called = λ name all. tt;
-  count = sym (none_counted (below 0) looks (λ place inside. grind (arith, nat_tests)));
-  counts = All-nil (HasCount looks);
+grouped_none looks prices = λ more. record {
+  in_order = λ are. are;
+  called = λ name all called. called;
+  count = omega (arith, none_counted (below 0) looks (λ place inside. grind (arith, nat_tests)));
+  counts = λ all. all;
   each = λ alike place inside low. absurd (omega arith);
 }
 
@@ -127,16 +119,17 @@ grouped_none looks prices = record {
 pub grouped_past : (looks : List Look) (prices : List ℤ) (rank : ℕ) (kinds : List PricedKind)
     → ((place : ℕ) → place < length looks → look_rank (look_at looks place) ≢ rank) → AreGrouped looks prices rank kinds
     → AreGrouped looks prices (rank + 1) kinds
-grouped_past looks prices rank kinds none so_far =
-    let count = so_far.count in
+grouped_past looks prices rank kinds none so_far = λ more.
+    let so = so_far more in
+    let count = so.count in
     let nothing = none_counted (of_rank rank) looks
     (λ place inside. ne_eqb (look_rank (look_at looks place)) rank (none place inside)) in
     record {
-      in_order = λ more are. so_far.in_order more (from_lower rank more are);
-      called = so_far.called;
+      in_order = λ are. so.in_order (from_lower rank more are);
+      called = so.called;
       count = omega (arith, count_more rank looks);
-      counts = so_far.counts;
-      each = λ alike place inside low. let away = none place inside in so_far.each alike place inside (omega arith);
+      counts = so.counts;
+      each = λ alike place inside low. let away = none place inside in so.each alike place inside (omega arith);
     }
 
 -- a kind more: at most 27 things, each in its form and with a price that may stand on a card
@@ -159,68 +152,62 @@ module _ (looks : List Look) (prices : List ℤ) (few : length looks ≤ 27) (ea
             (All-get_or (λ price. unsigned_abs price ≤ 9999) prices place (pos 0) (omega arith) reach);
       }
 
-  pub grouped_more : AreGrouped looks prices (rank + 1) (kinds ++ kind ∷ [])
-  grouped_more =
-      let count = so_far.count in
+  grouped_on : (more : List PricedKind) → AreGroupedTo looks prices (rank + 1) more (kinds ++ kind ∷ more)
+  grouped_on more =
+      let so = so_far (kind ∷ more) in
+      let count = so.count in
       let here = is.count in
       let same : look_rank kind.look ≡ rank = ap look_rank is.look ∙ ranked in
       let these = ap (λ r. count_by (of_rank r) looks) same in
       record {
-        in_order = λ more are.
-            subst (AreKinds 0) (sym (append_assoc kinds (kind ∷ []) more))
-            (so_far.in_order (kind ∷ more) (good_kind, omega arith, subst (λ r. AreKinds (r + 1) more) (sym same) are));
-        called = λ name all.
-            more_called name kinds kind (so_far.called name all)
-            (ap look_name is.look ∙ All-get_or (λ look. look_name look ≡ name) looks place (Pair None) is.inside all);
-        count = omega (arith, more_counted kinds kind, count_more rank looks);
-        counts = All-push (HasCount looks) kinds kind so_far.counts (record { count = is.count });
+        in_order = λ are. so.in_order (good_kind, omega arith, subst (λ r. AreKinds (r + 1) more) (sym same) are);
+        called = λ name all called. so.called name all (ap look_name is.look ∙ All-get_or (λ look. look_name look ≡ name) looks place (Pair None) is.inside all, called);
+        count = omega (arith, count_more rank looks);
+        counts = λ all. so.counts (All-cons (HasCount looks) kind more (record { count = is.count }) all);
         each = λ alike other inside low.
             elim (cases_lt (look_rank (look_at looks other)) rank) [
-              | inl lower ↦ priced_still (look_at looks other) (price_at prices other) kinds (kind ∷ [])
-                  (so_far.each alike other inside lower)
+              | inl lower ↦ so.each alike other inside lower
               | inr high ↦
                   let equal : look_rank (look_at looks other) ≡ rank = omega arith in
-                  priced_here (look_at looks other) (price_at prices other) kinds kind []
-                  (record {
-                    alike = same ∙ sym equal;
-                    price = is.price
-                        ∙ alike place other is.inside inside (ranked ∙ sym equal);
-                  })
+                  priced_behind (look_at looks other) (price_at prices other) kinds (kind ∷ more)
+                  (inl (record { alike = same ∙ sym equal; price = is.price ∙ alike place other is.inside inside (ranked ∙ sym equal) }))
             ];
       }
+
+  pub grouped_more : AreGrouped looks prices (rank + 1) (kinds ++ kind ∷ [])
+  grouped_more = λ more. rw (append_assoc kinds (kind ∷ []) more) (grouped_on more)
 
   pub room : length kinds < 27
   room =
       let all = kinds ++ kind ∷ [] in
-      let count = grouped_more.count in
-      let short = few_kinds 0 all (subst (AreKinds 0) (append-nil all) (grouped_more.in_order [] tt)) in
+      let count = (grouped_on []).count in
+      let short = few_kinds 0 all ((grouped_on []).in_order tt) in
       let most = count_by-le-length (below (rank + 1)) looks in
       omega (arith, length-append kinds (kind ∷ []))
 
 -- the end: all ranks are passed
-module _ (looks : List Look) (prices : List ℤ) (rank : ℕ) (kinds : List PricedKind) (past : 703 ≤ rank)
-    (form : All IsInForm looks)
-    (grouped : AreGrouped looks prices rank kinds) where
+module _ (looks : List Look) (prices : List ℤ) (rank : ℕ) (kinds : List PricedKind) (past : 703 ≤ rank) (form : All IsInForm looks)
+    (so_far : AreGrouped looks prices rank kinds) where
   low : All (λ look. look_rank look < rank) looks
   low = All-weaker IsInForm (λ look. look_rank look < rank)
       (λ look in_form. omega (arith, low_look look in_form)) looks form
 
+  grouped : AreGroupedTo looks prices rank [] kinds
+  grouped = rw append-nil at (so_far [])
+
   pub all_kinds : AreKindsOf looks kinds
-  all_kinds = record {
-    in_order = subst (AreKinds 0) (append-nil kinds) (grouped.in_order [] tt);
-    count = grouped.count
-        ∙ all_counted (below rank) looks
-        (All-weaker (λ look. look_rank look < rank) (λ look. below rank look ≡ true)
-        (λ look. lt-ltb (look_rank look) rank) looks low);
-    called = grouped.called;
-  }
+  all_kinds =
+      let all = all_counted (below rank) looks (All-weaker (λ look. look_rank look < rank) (λ look. below rank look ≡ true)
+      (λ look. lt-ltb (look_rank look) rank) looks low) in
+      let count = grouped.count in
+      record { in_order = grouped.in_order tt; count = omega arith; called = λ name all. grouped.called name all tt }
 
   pub all_expanded : length prices ≡ length looks → AreAlikePriced looks prices → AreExpanded looks kinds prices
   all_expanded each alike = record {
     number = each;
     each = λ place inside. grouped.each alike place inside
         (All-get_or (λ look. look_rank look < rank) looks place (Pair None) inside low);
-    counts = grouped.counts;
+    counts = grouped.counts (All-nil (HasCount looks));
   }
 
 -- ---- what has one price for each kind has equal prices where it is alike

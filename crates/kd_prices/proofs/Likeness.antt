@@ -1,18 +1,17 @@
 -- Things that stand or read alike have looks of one rank, and looks of one rank are of such things.
 use Rattle.std.proofs.Common.{◌≡◌, ◌⊎◌, ◌↔◌, ℕ, zero, suc, ◌<◌, ◌≤◌, min, max, false, eqb, inl, inr, List, [], ◌∷◌, length, get_or, map, Contains, Option, Some, None, MatchOption, unwrap_or, slice_get, refl, sym, ap, ◌∙◌, subst, arith, ℤ}
-use Rattle.std.specs.List.{AllByRecursion, IsDistinct}
+use Rattle.std.specs.List.{All, AllByRecursion, IsDistinct}
 use Rattle.std.proofs.lemmas.Bool.{eqb-false}
 use Rattle.std.proofs.lemmas.List.{get_or-map, length-map}
-use Rattle.std.proofs.lemmas.List.Elements.{All-get_or}
+use Rattle.std.proofs.lemmas.List.Elements.{All-get_or, All-weaker, All-contains_itself, recursion_from_All}
 use Rattle.std.proofs.lemmas.Option.{slice_get-get_or}
-use Rattle.kd_tables.specs.declared.place.Place.{Place}
 use Rattle.kd_tables.specs.declared.place.Place.TheVariants.{One}
 use Rattle.kd_tables.specs.Places.{in_order}
 use Rattle.kd_enigma.specs.Plugs.{letters_plugged, NoLetterTwice}
 use Rattle.kd_state.specs.declared.machine.parts.Parts.{Parts}
 use Rattle.kd_state.specs.declared.machine.parts.Parts.TheVariants.{Rotor, Pin}
-use Rattle.kd_state.specs.Machine.{cable_letters, IsMachine, model_of}
-use Rattle.kd_state.specs.SheetDay.{Day, OfRotors, OfPins, IsLegalDay, day_model}
+use Rattle.kd_state.specs.Machine.{cable_letters, IsMachine}
+use Rattle.kd_state.specs.SheetDay.{Day, OfRotors, OfPins, IsLegalDay}
 use Rattle.kd_state.specs.OnKey.{SameLetters}
 use Rattle.kd_state.specs.Costs.{columns_of}
 use Rattle.kd_state.specs.Laws.{ThirteenColumns, ColumnsAreThePairs}
@@ -23,69 +22,40 @@ use Rattle.kd_card.specs.declared.group.Group.{Group}
 use Rattle.kd_card.specs.declared.prices.PriceParts.{PriceParts}
 use Rattle.kd_card.specs.declared.prices.PriceParts.TheVariants.{Cables, Bars, CableKinds, BarKinds}
 use Rattle.kd_card.specs.declared.prices.Version.TheVariants.{ByNumber}
-use Rattle.kd_card.specs.Prices.{version_of, row_kinds, column_kinds, row_prices, column_prices, how_many, price_at, ArePrices}
-use Rattle.kd_card.specs.CardText.{group_of, price_count}
+use Rattle.kd_card.specs.Prices.{version_of, row_kinds, column_kinds, row_prices, column_prices, how_many, price_at, ArePrices, AreWithinReach}
+use Rattle.kd_card.specs.CardText.{group_of, price_count, row_name, column_name}
 use Rattle.kd_card.specs.Proving.{row_looks, column_looks, pair_in_order, look_at, group_of_machine, Expanded}
 use Rattle.kd_card.specs.Laws.{RanksTellLooks}
 use Rattle.kd_prices.specs.Alike.{StandAlike, ReadAlike}
-use Rattle.kd_prices.specs.Laws.{AreEqualWhereAlike}
 use Rattle.kd_prices.specs.Doubt.{AreNumbered}
 use Rattle.kd_prices.specs.Kinds.{CanBeByKind, AreByKind, AreAlikePriced, AreThings, AreOfGroup}
-use Rattle.kd_prices.proofs.Meaning.{kind_is}
 use Rattle.kd_prices.proofs.Grouping.{alike_priced}
 use Rattle.kd_prices.proofs.Things.{pair_look, rows_are_things, group_of_day, columns_are_things}
 use Rattle.kd_prices.proofs.AlikePrices.{same_at, nothing_at}
 
 -- ---- cables with the same letters
 
-of_one : (u x : ℕ) → Contains (u ∷ []) x → u ≡ x
-of_one u x (zero, inside, e) = e
-of_one u x (suc k, inside, e) = absurd (omega arith)
+-- a letter is one of these
+abbrev Lies : List ℕ → ℕ → Type 0
+Lies [] x = ⊥
+Lies (y ∷ ys) x = (y ≡ x) ⊎ Lies ys x
 
-of_two : (u v x : ℕ) → Contains (u ∷ v ∷ []) x → (u ≡ x) ⊎ (v ≡ x)
-of_two u v x (zero, inside, e) = inl e
-of_two u v x (suc zero, inside, e) = inr e
-of_two u v x (suc (suc k), inside, e) = absurd (omega arith)
+lies : (xs : List ℕ) (x : ℕ) → Contains xs x → Lies xs x
+lies [] x (k, inside, e) = absurd (omega arith)
+lies (y ∷ ys) x (zero, inside, e) = inl e
+lies (y ∷ ys) x (suc k, inside, e) = inr (lies ys x (k, omega arith, e))
 
-first_of_them : (x : ℕ) (xs : List ℕ) → Contains (x ∷ xs) x
-first_of_them x xs = (0, omega arith, refl)
+all_lie : (xs ys : List ℕ) → ((x : ℕ) → Contains xs x → Contains ys x) → AllByRecursion (Lies ys) xs
+all_lie xs ys told = recursion_from_All (Lies ys) xs (All-weaker (Contains xs) (Lies ys) (λ x h. lies ys x (told x h)) xs (All-contains_itself xs))
 
-none_there : (x : ℕ) → ¬ (Contains [] x)
-none_there x (k, inside, e) = omega arith
-
-ends_told : (cable other : Option ℕ × Option ℕ) → AreEnds cable.0 cable.1 → AreEnds other.0 other.1
-    → SameLetters (cable_letters cable) (cable_letters other)
-    → look_rank (Cable cable) ≡ look_rank (Cable other)
-ends_told (None, Some b) other form form' same = absurd form
-ends_told cable (None, Some v) form form' same = absurd form'
-ends_told (None, None) (None, None) form form' same = refl
-ends_told (None, None) (Some u, None) form form' same = absurd (none_there u ((same u).1 (first_of_them u [])))
-ends_told (None, None) (Some u, Some v) form form' same = absurd (none_there u ((same u).1 (first_of_them u (v ∷ []))))
-ends_told (Some a, None) (None, None) form form' same = absurd (none_there a ((same a).0 (first_of_them a [])))
-ends_told (Some a, Some b) (None, None) form form' same = absurd (none_there a ((same a).0 (first_of_them a (b ∷ []))))
-ends_told (Some a, None) (Some u, None) form form' same = omega (arith, of_one u a ((same a).0 (first_of_them a [])))
-ends_told (Some a, None) (Some u, Some v) form form' same =
-    absurd (omega (
-      arith,
-      form'.0,
-      of_one a u ((same u).1 (first_of_them u (v ∷ []))),
-      of_one a v
-          ((same v).1 (1, omega arith, refl)),
-    ))
-ends_told (Some a, Some b) (Some u, None) form form' same =
-    absurd (omega (
-      arith,
-      form.0,
-      of_one u a ((same a).0 (first_of_them a (b ∷ []))),
-      of_one u b
-          ((same b).0 (1, omega arith, refl)),
-    ))
-ends_told (Some a, Some b) (Some u, Some v) form form' same =
-    let less = form.0 in
-    let less' = form'.0 in
-    let one = of_two u v a ((same a).0 (first_of_them a (b ∷ []))) in
-    let two = of_two u v b ((same b).0 (1, omega arith, refl)) in
-    grind (arith, one, two)
+ends_told : (cable other : Option ℕ × Option ℕ) → AreEnds cable.0 cable.1 → AreEnds other.0 other.1 → AllByRecursion (Lies (cable_letters other)) (cable_letters cable)
+    → AllByRecursion (Lies (cable_letters cable)) (cable_letters other) → look_rank (Cable cable) ≡ look_rank (Cable other)
+ends_told (None, Some b) other form form' to fro = absurd form
+ends_told cable (None, Some v) form form' to fro = absurd form'
+ends_told (None, None) (None, None) form form' to fro = refl
+ends_told (None, None) other form form' to fro = absurd fro.0
+ends_told cable (None, None) form form' to fro = absurd to.0
+ends_told cable other form form' to fro = grind (arith, to, fro, form, form')
 
 -- ---- pairs that are alike stand at one place
 
@@ -114,35 +84,36 @@ pairs_told (p ∷ pairs) (suc i) (suc k) apart e =
 
 -- ---- ranks tell what is alike
 
--- things that are so many and called so, told by their ranks
-same_look : RanksTellLooks → {name : _} {number : ℕ} {looks : List Look} → AreThings name number looks → (i k : ℕ)
-    → i < length looks → k < length looks → look_rank (look_at looks i) ≡ look_rank (look_at looks k)
-    → look_at looks i ≡ look_at looks k
-same_look ranks {name = name} {looks = looks} things i k inside within same =
-    let called = λ (j : ℕ) (in' : j < length looks). All-get_or (λ look. look_name look ≡ name) looks j
-    (Pair None) in' things.called in
-    let form = λ (j : ℕ) (in' : j < length looks). All-get_or IsInForm looks j (Pair None) in' things.form in
-    ranks (look_at looks i) (look_at looks k) (called i inside ∙ sym (called k within)) (form i inside)
-    (form k within) same
+-- looks are of one rank where things are alike, and nowhere else but at one place
+abbrev AreTold : List Look → (ℕ → ℕ → Type 0) → Type 0
+AreTold looks Alike =
+    (i k : ℕ) → i < length looks → k < length looks → (look_rank (look_at looks i) ≡ look_rank (look_at looks k) → Alike i k ⊎ (i ≡ k))
+    × (Alike i k → look_rank (look_at looks i) ≡ look_rank (look_at looks k))
 
--- what one thing of each list looks like
-module _ {X : Type 0} (f : X → Look) (xs : List X) (d : X) where
-  listed_at : (i : ℕ) → i < length (map f xs) → look_at (map f xs) i ≡ f (get_or xs i d)
-  listed_at i inside = get_or-map f xs i d (Pair None) (subst (λ n. i < n) (length-map xs f) inside)
+module _ (ranks : RanksTellLooks) {X : Type 0} (f : X → Look) (xs : List X) (d : X) (one_name : (x y : X) → look_name (f x) ≡ look_name (f y)) (forms : All IsInForm (map f xs)) where
+  at : (i : ℕ) → i < length (map f xs) → look_at (map f xs) i ≡ f (get_or xs i d)
+  at i inside = get_or-map f xs i d (Pair None) (omega (arith, length-map xs f))
 
-  listed_same : ((x y : X) → f x ≡ f y → x ≡ y) → (i k : ℕ) → i < length (map f xs) → k < length (map f xs)
-      → look_at (map f xs) i ≡ look_at (map f xs) k
-      → slice_get xs i ≡ slice_get xs k
-  listed_same told i k inside within same =
-      let equal = told (get_or xs i d) (get_or xs k d) (sym (listed_at i inside) ∙ same ∙ listed_at k within) in
-      slice_get-get_or xs i d (subst (λ n. i < n) (length-map xs f) inside) ∙ ap (λ x. Some x) equal
-      ∙ sym (slice_get-get_or xs k d (subst (λ n. k < n) (length-map xs f) within))
+  form : (i : ℕ) → i < length (map f xs) → IsInForm (f (get_or xs i d))
+  form i inside = subst IsInForm (at i inside) (All-get_or IsInForm (map f xs) i (Pair None) inside forms)
 
-  ranked_same : (i k : ℕ) → i < length (map f xs) → k < length (map f xs) → slice_get xs i ≡ slice_get xs k
-      → look_rank (look_at (map f xs) i) ≡ look_rank (look_at (map f xs) k)
-  ranked_same i k inside within same =
-      ap look_rank (listed_at i inside) ∙ ap (λ x. look_rank (f x)) (same_at xs i k d same)
-      ∙ sym (ap look_rank (listed_at k within))
+  told_by : (Alike : ℕ → ℕ → Type 0)
+      → ((i k : ℕ) → i < length xs → k < length xs → f (get_or xs i d) ≡ f (get_or xs k d) → Alike i k ⊎ (i ≡ k))
+      → ((i k : ℕ) → IsInForm (f (get_or xs i d)) → IsInForm (f (get_or xs k d)) → Alike i k → look_rank (f (get_or xs i d)) ≡ look_rank (f (get_or xs k d)))
+      → AreTold (map f xs) Alike
+  told_by Alike alike ranked i k inside within =
+      let one = ap look_rank (at i inside) in
+      let other = ap look_rank (at k within) in (
+        λ same. alike i k (omega (arith, length-map xs f)) (omega (arith, length-map xs f)) (ranks _ _ (one_name _ _) (form i inside) (form k within) (sym one ∙ same ∙ other)),
+        λ h. one ∙ ranked i k (form i inside) (form k within) h ∙ sym other,
+      )
+
+  -- each look is of one thing
+  told_apart : ((x y : X) → f x ≡ f y → x ≡ y) → AreTold (map f xs) (λ i k. slice_get xs i ≡ slice_get xs k)
+  told_apart apart =
+      told_by (λ i k. slice_get xs i ≡ slice_get xs k)
+      (λ i k inside within e. inl (slice_get-get_or xs i d inside ∙ ap (λ x. Some x) (apart _ _ e) ∙ sym (slice_get-get_or xs k d within)))
+      (λ i k in_form in_form' same. ap (λ x. look_rank (f x)) (same_at xs i k d same))
 
 -- what the laws of kd_card and kd_state say
 pub record RanksTold : Type 0 where
@@ -150,79 +121,37 @@ pub record RanksTold : Type 0 where
   pub thirteen : ThirteenColumns
   pub columns : ColumnsAreThePairs
 
-module _ (told : RanksTold) where
-  stand_alike : (m : Parts) → IsMachine m → (i k : ℕ) → i < length (row_looks m) → k < length (row_looks m)
-      → (look_rank (look_at (row_looks m) i) ≡ look_rank (look_at (row_looks m) k)) ↔ StandAlike m i k
-  stand_alike (Rotor m) machine i k inside within =
-      let things = rows_are_things (Rotor m) machine in
-      let cable = λ (j : ℕ). get_or m.cables j (None, None) in
-      let at = listed_at (λ ends. Cable ends) m.cables (None, None) in
-      let form = λ (j : ℕ) (in' : j < length (row_looks (Rotor m))). subst IsInForm (at j in')
-      (All-get_or IsInForm (row_looks (Rotor m)) j (Pair None) in' things.form) in (
-        λ same.
-            let look : Cable (cable i) ≡ Cable (cable k) = sym (at i inside)
-            ∙ same_look told.ranks things i k inside within same ∙ at k within in
-            let equal : cable i ≡ cable k = cc in
-            subst (λ ends. SameLetters (cable_letters (cable i)) (cable_letters ends)) equal
-            (λ letter. (λ h. h, λ h. h)),
-        λ same. ap look_rank (at i inside) ∙ ends_told (cable i) (cable k) (form i inside) (form k within) same
-            ∙ sym (ap look_rank (at k within)),
-      )
-  stand_alike (Pin m) machine i k inside within =
-      let f = λ (standing : Place × Place). Bar standing in (
-        λ same.
-            listed_same f m.bars (One, One) (λ x y e. cc) i k inside within
-            (same_look told.ranks (rows_are_things (Pin m) machine) i k inside within same),
-        ranked_same f m.bars (One, One) i k inside within,
-      )
+rows_told : RanksTellLooks → (m : Parts) → IsMachine m → AreTold (row_looks m) (StandAlike m)
+rows_told ranks (Rotor m) machine =
+    let cable = λ (i : ℕ). get_or m.cables i (None, None) in
+    told_by ranks (λ ends. Cable ends) m.cables (None, None) (λ x y. refl) (rows_are_things (Rotor m) machine).form (StandAlike (Rotor m))
+    (λ i k inside within e.
+    let same : cable i ≡ cable k = cc in
+    inl (subst (λ ends. SameLetters (cable_letters (cable i)) (cable_letters ends)) same (λ letter. (λ h. h, λ h. h))))
+    (λ i k form form' same. ends_told (cable i) (cable k) form form' (all_lie _ _ (λ x. (same x).0)) (all_lie _ _ (λ x. (same x).1)))
+rows_told ranks (Pin m) machine =
+    told_apart ranks (λ standing. Bar standing) m.bars (One, One) (λ x y. refl) (rows_are_things (Pin m) machine).form (λ x y e. cc)
 
-  read_alike : (s : Day) → IsLegalDay s → (i k : ℕ) → i < length (column_looks s) → k < length (column_looks s)
-      → look_rank (look_at (column_looks s) i) ≡ look_rank (look_at (column_looks s) k) → ReadAlike s i k ⊎ (i ≡ k)
-  read_alike (OfRotors s) legal i k inside within same =
-      let columns = columns_of s.pairs in
-      let at = λ (j : ℕ) (in' : j < length (column_looks (OfRotors s))). listed_at pair_look columns None j in'
-      ∙ ap pair_look (told.columns s.pairs j) in
-      let look : pair_look (slice_get s.pairs i) ≡ pair_look (slice_get s.pairs k) =
-      sym (at i inside) ∙ same_look told.ranks
-      (columns_are_things told.thirteen (OfRotors s) legal) i k inside within same ∙ at k within in
-      pairs_told s.pairs i k legal.pairs.apart (cc)
-  read_alike (OfPins s) legal i k inside within same =
-      inl (listed_same (λ numbers. Row numbers) s.rows (0, 0) (λ x y e. cc) i k inside within
-      (same_look told.ranks (columns_are_things told.thirteen (OfPins s) legal) i k inside within same))
+columns_told : RanksTold → (s : Day) → IsLegalDay s → AreTold (column_looks s) (ReadAlike s)
+columns_told told (OfRotors s) legal =
+    told_by told.ranks pair_look (columns_of s.pairs) None (λ x y. refl) (columns_are_things told.thirteen (OfRotors s) legal).form (ReadAlike (OfRotors s))
+    (λ i k inside within e. let one = told.columns s.pairs i in let other = told.columns s.pairs k in pairs_told s.pairs i k legal.pairs.apart (cc))
+    (λ i k form form' past. ap (λ column. look_rank (pair_look column)) (nothing_at told.columns s.pairs i past.0 ∙ sym (nothing_at told.columns s.pairs k past.1)))
+columns_told told (OfPins s) legal =
+    told_apart told.ranks (λ numbers. Row numbers) s.rows (0, 0) (λ x y. refl) (columns_are_things told.thirteen (OfPins s) legal).form (λ x y e. cc)
 
-  of_alike_columns : (s : Day) (i k : ℕ) → i < length (column_looks s) → k < length (column_looks s) → ReadAlike s i k
-      → look_rank (look_at (column_looks s) i) ≡ look_rank (look_at (column_looks s) k)
-  of_alike_columns (OfRotors s) i k inside within past =
-      let at = λ (j : ℕ) (in' : j < length (column_looks (OfRotors s))) (le : length s.pairs ≤ j). listed_at pair_look
-      (columns_of s.pairs) None j in' ∙ ap pair_look (nothing_at told.columns s.pairs j le) in
-      ap look_rank (at i inside past.0) ∙ sym (ap look_rank (at k within past.1))
-  of_alike_columns (OfPins s) i k inside within same = ranked_same (λ numbers. Row numbers) s.rows
-      (0, 0) i k inside within same
+-- so things of one rank have equal prices exactly where all that are alike have
+priced_alike : (looks : List Look) (Alike : ℕ → ℕ → Type 0) (prices : List ℤ) (n : ℕ) → AreTold looks Alike → length looks ≡ n
+    → AreAlikePriced looks prices ↔ ((i k : ℕ) → i < n → k < n → Alike i k → price_at prices i ≡ price_at prices k)
+priced_alike looks Alike prices n told many = (
+  λ priced i k lt lt' alike. priced i k (omega arith) (omega arith) ((told i k (omega arith) (omega arith)).1 alike),
+  λ equal i k inside within same. elim ((told i k inside within).0 same) [
+    | inl alike ↦ equal i k (omega arith) (omega arith) alike
+    | inr here ↦ ap (price_at prices) here
+  ],
+)
 
-  -- ---- equal prices where things are alike
-
-  module _ (m : Parts) (s : Day) (prices : PriceParts) (machine : IsMachine m) (legal : IsLegalDay s)
-      (rows : length (row_looks m) ≡ how_many prices)
-      (columns : length (column_looks s) ≡ how_many prices) where
-    looks_priced : AreEqualWhereAlike m s prices
-        → AreAlikePriced (row_looks m) (row_prices prices) × AreAlikePriced (column_looks s) (column_prices prices)
-    looks_priced equal = (
-      λ i k inside within same. equal.rows i k (omega arith) (omega arith)
-          ((stand_alike m machine i k inside within).0 same),
-      λ i k inside within same. elim (read_alike s legal i k inside within same) [
-        | inl alike ↦ equal.columns i k (omega arith) (omega arith) alike
-        | inr here ↦ ap (price_at (column_prices prices)) here
-      ],
-    )
-
-    alike_equal : AreAlikePriced (row_looks m) (row_prices prices) × AreAlikePriced (column_looks s)
-        (column_prices prices) → AreEqualWhereAlike m s prices
-    alike_equal priced = record {
-      rows = λ i k lt lt' alike. priced.0 i k (omega arith) (omega arith)
-          ((stand_alike m machine i k (omega arith) (omega arith)).1 alike);
-      columns = λ i k lt lt' alike. priced.1 i k (omega arith) (omega arith)
-          (of_alike_columns s i k (omega arith) (omega arith) alike);
-    }
+-- ---- what is answered of a group
 
 size_of : (prices : PriceParts) → price_count (group_of prices) ≡ how_many prices
 size_of (Cables a b) = refl
@@ -230,57 +159,74 @@ size_of (Bars a b) = refl
 size_of (CableKinds a b) = refl
 size_of (BarKinds a b) = refl
 
--- what is answered of a group
-abbrev Answers : Group → List Look → List Look → List ℤ → List ℤ → Option PriceParts → Type 0
-Answers group rows columns row column r =
-    MatchOption r (¬ (AreAlikePriced rows row × AreAlikePriced columns column)) (AreOfGroup group rows columns row column)
-
--- machine, day and prices by number are of one model, and of this group
-pub record AreOfOneGroup (group : Group) (m : Parts) (s : Day) (prices : PriceParts) : Type 0 where
+-- machine, day and prices by number are of one model and of this group, and these are their looks and prices
+pub record AreOfOneGroup (group : Group) (m : Parts) (s : Day) (prices : PriceParts) (rows columns : List Look) (row column : List ℤ) : Type 0 where
   pub machine : IsMachine m
   pub legal : IsLegalDay s
-  pub model : model_of m ≡ day_model s
+  pub numbered : AreNumbered m s prices
+  pub are_prices : ArePrices prices
+  pub version : version_of prices ≡ ByNumber
   pub of_machine : group_of_machine m ≡ group
   pub of_day : group_of_day s ≡ group
   pub of_prices : group_of prices ≡ group
-  pub version : version_of prices ≡ ByNumber
-  pub are_prices : ArePrices prices
+  pub are_rows : rows ≡ row_looks m
+  pub are_columns : columns ≡ column_looks s
+  pub are_row : row ≡ row_prices prices
+  pub are_column : column ≡ column_prices prices
 
-module _ (told : RanksTold) (group : Group) (m : Parts) (s : Day) (prices : PriceParts)
-    (one : AreOfOneGroup group m s prices) where
-  many_rows : length (row_looks m) ≡ how_many prices
-  many_rows = (rows_are_things m one.machine).count ∙ ap price_count (one.of_machine ∙ sym one.of_prices)
-      ∙ size_of prices
-
-  many_columns : length (column_looks s) ≡ how_many prices
-  many_columns = (columns_are_things told.thirteen s one.legal).count ∙ ap price_count (one.of_day ∙ sym one.of_prices)
-      ∙ size_of prices
-
-  numbered : AreNumbered m s prices
-  numbered = record { model = one.model; kind = kind_is m prices one.version (one.of_prices ∙ sym one.of_machine) }
-
-  answered : (r : Option PriceParts)
-      → Answers group (row_looks m) (column_looks s) (row_prices prices) (column_prices prices) r
-      → MatchOption r (¬ (CanBeByKind m s prices)) (AreByKind m s prices)
-  answered None h = λ can. h (looks_priced told m s prices one.machine one.legal many_rows many_columns can.equal)
-  answered (Some other) h = record {
-    can = record {
+pub one_group : {group : Group} {m n : Parts} {s d : Day} {prices p : PriceParts} {rows columns : List Look} → m ≡ n → s ≡ d → prices ≡ p → IsMachine m → IsLegalDay s → ArePrices prices
+    → AreNumbered n d p → version_of p ≡ ByNumber → group_of_machine n ≡ group → group_of_day d ≡ group → group_of p ≡ group → rows ≡ row_looks n → columns ≡ column_looks d
+    → AreOfOneGroup group m s prices rows columns (row_prices p) (column_prices p)
+one_group em es ep machine legal are_prices numbered version of_machine of_day of_prices are_rows are_columns =
+    rw (em, es, ep) (record {
+      machine = rw em at machine;
+      legal = rw es at legal;
       numbered = numbered;
-      equal = alike_equal told m s prices one.machine one.legal many_rows many_columns (
-        alike_priced (row_looks m) (row_prices prices) (row_kinds other) h.row_kinds,
-        alike_priced (column_looks s) (column_prices prices) (column_kinds other) h.column_kinds,
-      );
+      are_prices = rw ep at are_prices;
+      version = version;
+      of_machine = of_machine;
+      of_day = of_day;
+      of_prices = of_prices;
+      are_rows = are_rows;
+      are_columns = are_columns;
+      are_row = refl;
+      are_column = refl;
+    })
+
+module _ (told : RanksTold) {group : Group} {m : Parts} {s : Day} {prices : PriceParts} {rows columns : List Look} {row column : List ℤ}
+    (one : AreOfOneGroup group m s prices rows columns row column) where
+  rows_of_group : AreThings (row_name group) (price_count group) rows
+  rows_of_group = rw (one.are_rows, ← one.of_machine) (rows_are_things m one.machine)
+
+  columns_of_group : AreThings (column_name group) (price_count group) columns
+  columns_of_group = rw (one.are_columns, ← one.of_day) (columns_are_things told.thirteen s one.legal)
+
+  pub requires_met : AreThings (row_name group) (price_count group) rows × (AreThings (column_name group) (price_count group) columns × (AreWithinReach row × AreWithinReach column))
+  requires_met = (rows_of_group, (columns_of_group, (rw one.are_row one.are_prices.row_reach, rw one.are_column one.are_prices.column_reach)))
+
+  size : (looks : List Look) → length looks ≡ price_count group → length looks ≡ how_many prices
+  size looks e = e ∙ ap price_count (sym one.of_prices) ∙ size_of prices
+
+  rows_iff : AreAlikePriced rows row ↔ ((i k : ℕ) → i < how_many prices → k < how_many prices → StandAlike m i k → price_at (row_prices prices) i ≡ price_at (row_prices prices) k)
+  rows_iff = rw one.are_row (priced_alike rows (StandAlike m) (row_prices prices) (how_many prices) (rw one.are_rows (rows_told told.ranks m one.machine)) (size rows rows_of_group.count))
+
+  columns_iff : AreAlikePriced columns column
+      ↔ ((i k : ℕ) → i < how_many prices → k < how_many prices → ReadAlike s i k → price_at (column_prices prices) i ≡ price_at (column_prices prices) k)
+  columns_iff =
+      rw one.are_column (priced_alike columns (ReadAlike s) (column_prices prices) (how_many prices) (rw one.are_columns (columns_told told s one.legal)) (size columns columns_of_group.count))
+
+  pub by_kind_told : (r : Option PriceParts) → MatchOption r (¬ (AreAlikePriced rows row × AreAlikePriced columns column)) (AreOfGroup group rows columns row column)
+      → MatchOption r (¬ (CanBeByKind m s prices)) (AreByKind m s prices)
+  by_kind_told None h = λ can. h (rows_iff.1 can.equal.rows, columns_iff.1 can.equal.columns)
+  by_kind_told (Some other) h = record {
+    can = record {
+      numbered = one.numbered;
+      equal = record {
+        rows = rows_iff.0 (alike_priced rows row (row_kinds other) h.row_kinds);
+        columns = columns_iff.0 (alike_priced columns column (column_kinds other) h.column_kinds);
+      };
     };
     version = h.version;
-    expands = Expanded h.version one.version
-        (h.of_group ∙ sym one.of_prices) h.are_prices one.are_prices h.row_kinds.expanded h.column_kinds.expanded;
+    expands = Expanded h.version one.version (h.of_group ∙ sym one.of_prices) h.are_prices one.are_prices
+        (rw (one.are_rows, one.are_row) at h.row_kinds.expanded) (rw (one.are_columns, one.are_column) at h.column_kinds.expanded);
   }
-
-pub by_kind_told : RanksTold → (group : Group) (m n : Parts) (s d : Day) (prices numbered : PriceParts)
-    (rows columns : List Look) (r : Option PriceParts)
-    → m ≡ n → s ≡ d → prices ≡ numbered → AreOfOneGroup group n d numbered → rows ≡ row_looks n
-    → columns ≡ column_looks d
-    → Answers group rows columns (row_prices numbered) (column_prices numbered) r
-    → MatchOption r (¬ (CanBeByKind m s prices)) (AreByKind m s prices)
-by_kind_told told group m n s d prices numbered rows columns r em es ep one a b h = rw (em, es, ep)
-    (answered told group n d numbered one r (rw (a, b) at h))

@@ -1,32 +1,21 @@
 -- Prices mean one list of prices by number at most, and those are of the same model.
-use Rattle.std.proofs.Common.{◌≡◌, ◌≢◌, ◌⊎◌, ℕ, ◌+◌, ◌<◌, ◌≤◌, inl, inr, List, [], ◌∷◌, ◌++◌, length, get_or, take, drop, append_assoc, refl, sym, ap, ◌∙◌, subst, arith, ℤ, pos, unsigned_abs, Option, Some, None, MatchOption, map, Result, Ok, Err, set}
-use Rattle.std.specs.Prelude.{IfErr}
-use Rattle.std.proofs.lemmas.Bool.{cases_lt}
+use Rattle.std.proofs.Common.{below_more, ◌≡◌, ℕ, ◌+◌, ◌<◌, ◌≤◌, inl, inr, List, [], ◌∷◌, length, get_or, refl, sym, ap, ◌∙◌, subst, arith, ℤ, pos, unsigned_abs, Option, Some, None, MatchOption, set}
 use Rattle.std.proofs.lemmas.List.Elements.{All-from_get_or}
-use Rattle.kd_card.specs.declared.look.Look.TheVariants.{Cable, Pair, Bar, Row}
-use Rattle.std.specs.Option.{option_map}
-use Rattle.arrayvec.specs.ArrayVec.{ArrayVec}
-use Rattle.kd_card.specs.declared.kinds.CableKind.{CableKind}
-use Rattle.kd_card.specs.declared.kinds.PairKind.{PairKind}
-use Rattle.kd_card.specs.declared.kinds.BarKind.{BarKind}
-use Rattle.kd_card.specs.declared.kinds.RowKind.{RowKind}
-use Rattle.kd_state.specs.declared.machine.rotor_parts.RotorParts.{RotorParts}
-use Rattle.kd_state.specs.declared.machine.pin_parts.PinParts.{PinParts}
-use Rattle.kd_state.specs.Costs.{columns_of}
-use Rattle.std.proofs.lemmas.List.{ext_get_or, take_more, take-append-drop, get_or_default, get_or-set_same, get_or-set_other}
+use Rattle.kd_card.specs.declared.look.Look.TheVariants.{Pair}
+use Rattle.std.proofs.lemmas.List.{ext_get_or, get_or_default, get_or-set_same, get_or-set_other}
 use Rattle.kd_state.specs.declared.machine.parts.Parts.{Parts}
 use Rattle.kd_state.specs.declared.machine.parts.Parts.TheVariants.{Rotor, Pin}
 use Rattle.kd_state.specs.declared.setting.Setting.{Setting}
-use Rattle.kd_state.specs.SheetDay.{RotorDay, PinDay, Day, OfRotors, OfPins, rotor_day, pin_day}
+use Rattle.kd_state.specs.SheetDay.{Day}
 use Rattle.kd_card.specs.declared.look.Look.{Look}
 use Rattle.kd_card.specs.declared.kinds.PricedKind.{PricedKind}
 use Rattle.kd_card.specs.declared.prices.PriceParts.{PriceParts}
-use Rattle.kd_card.specs.declared.prices.PriceParts.TheVariants.{Cables, Bars, CableKinds, BarKinds}
+use Rattle.kd_card.specs.declared.prices.PriceParts.TheVariants.{Cables, Bars}
 use Rattle.kd_card.specs.declared.prices.Version.TheVariants.{ByNumber, ByKind}
 use Rattle.kd_card.specs.Kinds.{look_rank, AreKinds}
-use Rattle.kd_card.specs.Prices.{version_of, row_kinds, column_kinds, ArePrices, row_prices, column_prices, price_at, AreWithinReach}
+use Rattle.kd_card.specs.Prices.{version_of, row_kinds, column_kinds, ArePrices, row_prices, column_prices, price_at, AreWithinReach, how_many}
 use Rattle.kd_card.specs.CardText.{group_of}
-use Rattle.kd_card.specs.Proving.{AreOfKind, row_looks, pair_in_order, HasPrice, IsPriced, look_at, AreExpanded, Expands, Same, Expanded, group_of_machine, Proves}
+use Rattle.kd_card.specs.Proving.{AreOfKind, row_looks, column_looks, IsPriced, look_at, AreExpanded, Expands, Same, Expanded, group_of_machine, Proves}
 use Rattle.kd_prices.specs.Doubt.{AreOfOneModel, AreNumbered}
 
 above : (floor : ℕ) (kinds : List PricedKind) (look : Look) (price : ℤ) → AreKinds floor kinds → IsPriced look price kinds → floor ≤ look_rank look
@@ -54,12 +43,7 @@ same_parts : (prices others : PriceParts) → version_of prices ≡ ByNumber →
     → row_prices prices ≡ row_prices others → column_prices prices ≡ column_prices others → prices ≡ others
 same_parts (Cables a b) (Cables c d) by also group rows columns = cc
 same_parts (Bars a b) (Bars c d) by also group rows columns = cc
-same_parts (Cables a b) (Bars c d) by also group rows columns = cc
-same_parts (Bars a b) (Cables c d) by also group rows columns = cc
-same_parts (CableKinds a b) others by also group rows columns = cc
-same_parts (BarKinds a b) others by also group rows columns = cc
-same_parts prices (CableKinds c d) by also group rows columns = cc
-same_parts prices (BarKinds c d) by also group rows columns = cc
+same_parts prices others by also group rows columns = cc
 
 pub one_expansion : (m : Parts) (s : Day) (prices numbered other : PriceParts) → Expands m s prices numbered → Expands m s prices other → numbered ≡ other
 one_expansion m s prices numbered other (Same by e) (Same also f) = sym e ∙ f
@@ -73,22 +57,12 @@ one_expansion m s prices numbered other (Expanded by be group are good rows colu
 group_is : (m : Parts) (prices : PriceParts) → AreOfKind m prices → group_of prices ≡ group_of_machine m
 group_is (Rotor m) (Cables a b) kind = refl
 group_is (Pin m) (Bars a b) kind = refl
-group_is (Rotor m) (Bars a b) kind = absurd kind
-group_is (Rotor m) (CableKinds a b) kind = absurd kind
-group_is (Rotor m) (BarKinds a b) kind = absurd kind
-group_is (Pin m) (Cables a b) kind = absurd kind
-group_is (Pin m) (CableKinds a b) kind = absurd kind
-group_is (Pin m) (BarKinds a b) kind = absurd kind
+group_is m prices kind = absurd kind
 
 pub kind_is : (m : Parts) (prices : PriceParts) → version_of prices ≡ ByNumber → group_of prices ≡ group_of_machine m → AreOfKind m prices
 kind_is (Rotor m) (Cables a b) by group = tt
 kind_is (Pin m) (Bars a b) by group = tt
-kind_is (Rotor m) (Bars a b) by group = cc
-kind_is (Rotor m) (CableKinds a b) by group = cc
-kind_is (Rotor m) (BarKinds a b) by group = cc
-kind_is (Pin m) (Cables a b) by group = cc
-kind_is (Pin m) (CableKinds a b) by group = cc
-kind_is (Pin m) (BarKinds a b) by group = cc
+kind_is m prices by group = cc
 
 same_group : (m : Parts) (s : Day) (prices numbered : PriceParts) → Expands m s prices numbered → (version_of numbered ≡ ByNumber) × (group_of prices ≡ group_of numbered)
 same_group m s prices numbered (Same by e) = (ap version_of (sym e) ∙ by, ap group_of e)
@@ -105,32 +79,6 @@ are_numbered m s prices numbered model expands =
     let same = same_group m s prices numbered expands in
     record { model = model.model; kind = kind_is m numbered same.0 (sym same.1 ∙ model.group) }
 
--- ---- a kind among others
-
-pub priced_here : (look : Look) (price : ℤ) (front : List PricedKind) (kind : PricedKind) (behind : List PricedKind) → HasPrice look price kind
-    → IsPriced look price (front ++ (kind ∷ behind))
-priced_here look price [] kind behind has = inl has
-priced_here look price (first ∷ front) kind behind has = inr (priced_here look price front kind behind has)
-
-pub priced_before : (look : Look) (price : ℤ) (front : List PricedKind) (kind : PricedKind) → IsPriced look price (front ++ kind ∷ [])
-    → IsPriced look price front ⊎ HasPrice look price kind
-priced_before look price [] kind (inl has) = inr has
-priced_before look price [] kind (inr none) = absurd none
-priced_before look price (first ∷ front) kind (inl has) = inl (inl has)
-priced_before look price (first ∷ front) kind (inr later) = elim (priced_before look price front kind later) [ inl before ↦ inl (inr before) | inr has ↦ inr has ]
-
-pub at_place : (kinds : List PricedKind) (i : ℕ) (kind : PricedKind) → i < length kinds → kind ≡ get_or kinds i kind
-    → kinds ≡ take i kinds ++ (kind ∷ drop (i + 1) kinds)
-at_place kinds i kind inside is =
-    sym (take-append-drop (i + 1) kinds) ∙ ap (λ front. front ++ drop (i + 1) kinds) (take_more kinds i kind inside)
-    ∙ append_assoc (take i kinds) (get_or kinds i kind ∷ []) (drop (i + 1) kinds) ∙ ap (λ k. take i kinds ++ (k ∷ drop (i + 1) kinds)) (sym is)
-
-pub none_more : (look : Look) (kinds : List PricedKind) (i : ℕ) (kind : PricedKind) → i < length kinds → kind ≡ get_or kinds i kind
-    → ((price : ℤ) → ¬ (IsPriced look price (take i kinds))) → look_rank kind.look ≢ look_rank look → (price : ℤ) → ¬ (IsPriced look price (take (i + 1) kinds))
-none_more look kinds i kind inside is none differs price priced =
-    let next = take_more kinds i kind inside ∙ ap (λ k. take i kinds ++ k ∷ []) (sym is) in
-    elim (priced_before look price (take i kinds) kind (subst (IsPriced look price) next priced)) [ inl before ↦ none price before | inr has ↦ differs has.alike ]
-
 -- ---- prices found
 
 pub no_expansion : (looks : List Look) (kinds : List PricedKind) (i : ℕ) (look : Look) → i < length looks → look ≡ get_or looks i look
@@ -142,15 +90,10 @@ no_expansion looks kinds i look inside is none prices e =
 pub one_more_price : (looks : List Look) (kinds : List PricedKind) (prices : List ℤ) (i : ℕ) (look : Look) (price : ℤ) → i < length looks → i < length prices
     → look ≡ get_or looks i look → IsPriced look price kinds → ((place : ℕ) → place < i → IsPriced (look_at looks place) (price_at prices place) kinds)
     → (place : ℕ) → place < i + 1 → IsPriced (look_at looks place) (price_at (set prices i price) place) kinds
-one_more_price looks kinds prices i look price inside within is here before place near =
-    elim (cases_lt place i) [
-      | inl lt ↦ subst (λ p. IsPriced (look_at looks place) p kinds) (sym (get_or-set_other prices i place price (pos 0) (λ e. omega (arith, e, lt)))) (before place lt)
-      | inr ge ↦
-          let same : place ≡ i = omega arith in
-          subst (λ k. IsPriced (look_at looks k) (price_at (set prices i price) k) kinds) (sym same)
-          (subst (λ p. IsPriced (look_at looks i) p kinds) (sym (get_or-set_same prices i price (pos 0) within))
-          (subst (λ l. IsPriced l price kinds) (is ∙ get_or_default looks i look (Pair None) inside) here))
-    ]
+one_more_price looks kinds prices i look price inside within is here before =
+    below_more (λ place. IsPriced (look_at looks place) (price_at (set prices i price) place) kinds) i
+    (λ place lt. rw (get_or-set_other prices i place price (pos 0) (λ e. omega (arith, e, lt))) (before place lt))
+    (rw (get_or-set_same prices i price (pos 0) within) (subst (λ l. IsPriced l price kinds) (is ∙ get_or_default looks i look (Pair None) inside) here))
 
 priced_within : (floor : ℕ) (kinds : List PricedKind) (look : Look) (price : ℤ) → AreKinds floor kinds → IsPriced look price kinds → unsigned_abs price ≤ 9999
 priced_within floor [] look price are none = absurd none
@@ -163,54 +106,26 @@ expanded_within looks kinds prices are e =
     All-from_get_or (λ price. unsigned_abs price ≤ 9999) prices (pos 0)
     (λ i inside. priced_within 0 kinds (look_at looks i) (price_at prices i) are (e.each i (omega (arith, number, inside))))
 
-pub if_err : {T E : Type 0} (r : Result T E) (P Q : E → Type 0) → ((e : E) → P e → Q e) → IfErr r P → IfErr r Q
-if_err (Ok x) P Q leads h = h
-if_err (Err e) P Q leads h = leads e h
-
--- ---- both groups
-
-good_cables : (rows columns : List ℤ) → length rows ≡ 13 → length columns ≡ 13 → AreWithinReach rows → AreWithinReach columns → ArePrices (Cables rows columns)
-good_cables rows columns a b r c = record { rows = a; columns = b; row_reach = r; column_reach = c; row_kinds = tt; column_kinds = tt }
-
-good_bars : (rows columns : List ℤ) → length rows ≡ 27 → length columns ≡ 27 → AreWithinReach rows → AreWithinReach columns → ArePrices (Bars rows columns)
-good_bars rows columns a b r c = record { rows = a; columns = b; row_reach = r; column_reach = c; row_kinds = tt; column_kinds = tt }
-
-abbrev pub Means : Parts → Day → PriceParts → Option PriceParts → Type 0
-Means machine s prices r = MatchOption r ((numbered : PriceParts) → ¬ (Expands machine s prices numbered)) (λ numbered. Expands machine s prices numbered)
-
-told : (machine : Parts) (s : Day) (prices numbered : PriceParts) (r : Option PriceParts) → ArePrices numbered → Expands machine s prices numbered
-    → MatchOption r (¬ (ArePrices numbered)) (λ p. p ≡ numbered) → Means machine s prices r
-told machine s prices numbered None good expands h = absurd (h good)
-told machine s prices numbered (Some p) good expands h = subst (Expands machine s prices) (sym h) expands
-
-pub cables_told : (machine : Parts) (s : Day) (prices : PriceParts) (m : RotorParts) (a : ArrayVec CableKind) (b : ArrayVec PairKind) (pairs : List (ℕ × ℕ))
-    (rows columns : List ℤ) (r : Option PriceParts) → machine ≡ Rotor m → prices ≡ CableKinds a b → ArePrices prices
-    → Some pairs ≡ option_map (λ (d : RotorDay). d.pairs) (rotor_day s) → length rows ≡ 13 → length columns ≡ 13
-    → AreExpanded (map (λ ends. Cable ends) m.cables) (row_kinds prices) rows
-    → AreExpanded (map (λ column. Pair (pair_in_order column)) (columns_of pairs)) (column_kinds prices) columns
-    → MatchOption r (¬ (ArePrices (Cables rows columns))) (λ p. p ≡ Cables rows columns) → Means machine s prices r
-cables_told machine (OfRotors d) prices m a b pairs rows columns r em ep are es x y e f h =
-    let same : pairs ≡ d.pairs = cc in
-    let good = good_cables rows columns x y (expanded_within _ _ rows are.row_kinds e) (expanded_within _ _ columns are.column_kinds f) in
-    told machine (OfRotors d) prices (Cables rows columns) r good
-    (Expanded (ap version_of ep) refl (ap group_of ep) are good (subst (λ n. AreExpanded (row_looks n) (row_kinds prices) rows) (sym em) e)
-    (subst (λ ps. AreExpanded (map (λ column. Pair (pair_in_order column)) (columns_of ps)) (column_kinds prices) columns) same f)) h
-cables_told machine (OfPins d) prices m a b pairs rows columns r em ep are es x y e f h = cc
-
-pub bars_told : (machine : Parts) (s : Day) (prices : PriceParts) (m : PinParts) (a : ArrayVec BarKind) (b : ArrayVec RowKind) (wanted : List (ℕ × ℕ))
-    (rows columns : List ℤ) (r : Option PriceParts) → machine ≡ Pin m → prices ≡ BarKinds a b → ArePrices prices
-    → Some wanted ≡ option_map (λ (d : PinDay). d.rows) (pin_day s) → length rows ≡ 27 → length columns ≡ 27
-    → AreExpanded (map (λ standing. Bar standing) m.bars) (row_kinds prices) rows
-    → AreExpanded (map (λ numbers. Row numbers) wanted) (column_kinds prices) columns
-    → MatchOption r (¬ (ArePrices (Bars rows columns))) (λ p. p ≡ Bars rows columns) → Means machine s prices r
-bars_told machine (OfPins d) prices m a b wanted rows columns r em ep are es x y e f h =
-    let same : wanted ≡ d.rows = cc in
-    let good = good_bars rows columns x y (expanded_within _ _ rows are.row_kinds e) (expanded_within _ _ columns are.column_kinds f) in
-    told machine (OfPins d) prices (Bars rows columns) r good
-    (Expanded (ap version_of ep) refl (ap group_of ep) are good (subst (λ n. AreExpanded (row_looks n) (row_kinds prices) rows) (sym em) e)
-    (subst (λ ps. AreExpanded (map (λ numbers. Row numbers) ps) (column_kinds prices) columns) same f)) h
-bars_told machine (OfRotors d) prices m a b wanted rows columns r em ep are es x y e f h = cc
-
-pub lists_told : (looks others : List Look) (kinds more : List PricedKind) (prices : List ℤ) → looks ≡ others → kinds ≡ more → AreExpanded looks kinds prices
-    → AreExpanded others more prices
-lists_told looks others kinds more prices e f h = subst (λ ks. AreExpanded others ks prices) f (subst (λ ls. AreExpanded ls kinds prices) e h)
+-- what is answered of prices by kind, once the prices of their kinds are found
+pub expanded_told : (machine n : Parts) (s d : Day) (prices p numbered : PriceParts) (r : Option PriceParts) → machine ≡ n → s ≡ d → prices ≡ p → ArePrices prices
+    → version_of p ≡ ByKind → version_of numbered ≡ ByNumber → group_of p ≡ group_of numbered
+    → length (row_prices numbered) ≡ how_many numbered → length (column_prices numbered) ≡ how_many numbered
+    → AreKinds 0 (row_kinds numbered) → AreKinds 0 (column_kinds numbered)
+    → AreExpanded (row_looks n) (row_kinds prices) (row_prices numbered) → AreExpanded (column_looks d) (column_kinds prices) (column_prices numbered)
+    → MatchOption r (¬ (ArePrices numbered)) (λ p. p ≡ numbered)
+    → MatchOption r ((numbered : PriceParts) → ¬ (Expands machine s prices numbered)) (λ numbered. Expands machine s prices numbered)
+expanded_told machine n s d prices p numbered r em es ep are kind number group rows columns no_rows no_columns row column h =
+    let good : ArePrices numbered = record {
+      rows = rows;
+      columns = columns;
+      row_reach = expanded_within _ _ (row_prices numbered) are.row_kinds row;
+      column_reach = expanded_within _ _ (column_prices numbered) are.column_kinds column;
+      row_kinds = no_rows;
+      column_kinds = no_columns;
+    } in
+    let expands : Expands machine s prices numbered = Expanded (ap version_of ep ∙ kind) number (ap group_of ep ∙ group) are good (rw em row) (rw es column) in
+    elim r as (λ r. MatchOption r (¬ (ArePrices numbered)) (λ p. p ≡ numbered)
+    → MatchOption r ((numbered : PriceParts) → ¬ (Expands machine s prices numbered)) (λ numbered. Expands machine s prices numbered)) [
+      | None ↦ λ none. absurd (none good)
+      | Some q ↦ λ same. subst (Expands machine s prices) (sym same) expands
+    ] h

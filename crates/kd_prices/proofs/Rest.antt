@@ -2,16 +2,15 @@
 use Rattle.std.proofs.Common.{◌++◌, take, drop, sym, subst, arith, length-append, length-drop}
 use Rattle.std.proofs.lemmas.List.{take-append-drop, length-take}
 use Rattle.kd_state.specs.Setting.{Leads}
-use Rattle.kd_state.specs.Laws.{LeadsToOne}
 use Rattle.kd_card.specs.Laws.{ProvingCardsAreShortest}
 use Rattle.kd_prices.specs.Laws.{RestIsShortest}
 use Rattle.kd_prices.proofs.Leading.{leads_join, leads_on}
 
-pub rest_is_shortest : LeadsToOne → ProvingCardsAreShortest → RestIsShortest
-rest_is_shortest one shortest m between s settings prices lines machine legal are_prices proves within leads =
+pub rest_is_shortest : ProvingCardsAreShortest → RestIsShortest
+rest_is_shortest shortest m between s settings prices lines machine legal are_prices proves within leads =
     let whole = proves.proves.leads in
     record {
-      leads = (whole.0, leads_on one m between whole.0 (take lines settings) (drop lines settings) leads (subst (λ xs. Leads m xs whole.0) (sym (take-append-drop lines settings)) whole.1), whole.2);
+      leads = (whole.0, leads_on m between whole.0 (take lines settings) (drop lines settings) leads (subst (λ xs. Leads m xs whole.0) (sym (take-append-drop lines settings)) whole.1), whole.2);
       shortest = λ others reached.
           let longer = shortest m s settings prices machine legal are_prices proves (take lines settings ++ others)
           (reached.0, leads_join m between reached.0 (take lines settings) others leads reached.1, reached.2) in

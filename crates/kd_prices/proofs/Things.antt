@@ -1,7 +1,7 @@
 -- What a machine's cables or bars look like, and a day's pairs and nothings or rows: so many, called so, each in its form.
-use Rattle.std.proofs.Common.{◌≡◌, ℕ, zero, suc, ◌-◌, ◌<◌, false, eqb, inl, inr, List, [], ◌∷◌, ◌++◌, length, get_or, map, replicate, Option, Some, None, unwrap_or, refl, sym, ap, ◌∙◌, arith}
+use Rattle.std.proofs.Common.{◌≡◌, ℕ, zero, suc, ◌-◌, ◌<◌, false, eqb, List, [], ◌∷◌, ◌++◌, length, get_or, map, replicate, Option, Some, None, refl, ap, ◌∙◌, arith}
 use Rattle.std.specs.List.{AllByRecursion, IsDistinct}
-use Rattle.std.proofs.lemmas.Bool.{cases_lt, lt-leb, eqb-false}
+use Rattle.std.proofs.lemmas.Bool.{eqb-false}
 use Rattle.std.proofs.lemmas.List.{length-map}
 use Rattle.std.proofs.lemmas.List.Elements.{All-from_recursion, recursion_from_All, All-map}
 use Rattle.kd_enigma.specs.Plugs.{letters_plugged, NoLetterTwice}
@@ -14,6 +14,8 @@ use Rattle.kd_state.specs.Laws.{ThirteenColumns}
 use Rattle.kd_card.specs.declared.look.Look.{Look}
 use Rattle.kd_card.specs.declared.look.Look.TheVariants.{Cable, Pair, Bar, Row}
 use Rattle.kd_card.specs.Kinds.{look_name, IsInForm}
+use Rattle.std.specs.List.{All}
+use Rattle.std.proofs.lemmas.Bool.Decides.{nat_tests}
 use Rattle.kd_card.specs.declared.group.Group.{Group}
 use Rattle.kd_card.specs.declared.group.Group.TheVariants.{OfCables, OfBars}
 use Rattle.kd_card.specs.CardText.{row_name, column_name, price_count}
@@ -24,14 +26,7 @@ abbrev in_each_order : List (Option ℕ × Option ℕ) → List (Option ℕ × O
 in_each_order cables = map (λ cable. ordered cable.0 cable.1) cables
 
 two_ordered : (a b : ℕ) → ordered (Some a) (Some b) ≡ (Some a, Some b) → eqb a b ≡ false → a < b
-two_ordered a b e apart =
-    elim (cases_lt b a) [
-      | inl less ↦
-          let swapped : ordered (Some a) (Some b) ≡ (Some b, Some a) = rw (lt-leb a b less) refl in
-          let same : b ≡ a = ap (λ ends. unwrap_or ends.0 a) (sym swapped ∙ e) in
-          absurd (omega arith)
-      | inr le ↦ omega (arith, eqb-false a b apart)
-    ]
+two_ordered a b e apart = grind (arith, nat_tests)
 
 abbrev first_end : Option ℕ × Option ℕ → Option ℕ
 first_end ends = ends.0
@@ -74,41 +69,27 @@ pairs_in_form n ((a, b) ∷ pairs) within apart =
     )
 
 -- the things of a machine, and of a day
-pub rows_are_things : (m : Parts) → IsMachine m
-    → AreThings (row_name (group_of_machine m)) (price_count (group_of_machine m)) (row_looks m)
+things : {X : Type 0} (f : X → Look) (xs : List X) (name : _) (number : ℕ) → ((x : X) → look_name (f x) ≡ name) → length xs ≡ number → All IsInForm (map f xs)
+    → AreThings name number (map f xs)
+things f xs name number called count form =
+    record { count = length-map xs f ∙ count; called = All-map (λ look. look_name look ≡ name) f xs (λ k d inside. called (get_or xs k d)); form = form }
+
+pub rows_are_things : (m : Parts) → IsMachine m → AreThings (row_name (group_of_machine m)) (price_count (group_of_machine m)) (row_looks m)
 rows_are_things (Rotor m) machine =
     let cables = machine.legal.cables in
-    record {
-      count = length-map m.cables (λ ends. Cable ends) ∙ cables.count;
-      called = All-map (λ look. look_name look ≡ row_name OfCables) (λ ends. Cable ends) m.cables (λ k d inside. refl);
-      form = All-from_recursion IsInForm (row_looks (Rotor m))
-          (cables_in_form m.cables (ap cables_of machine.cables)
-          (recursion_from_All (λ letter. letter < 26) (plugged_letters m.cables) cables.within) cables.apart);
-    }
-rows_are_things (Pin m) machine = record {
-  count = length-map m.bars (λ standing. Bar standing) ∙ machine.legal.bars;
-  called = All-map (λ look. look_name look ≡ row_name OfBars) (λ standing. Bar standing) m.bars (λ k d inside. refl);
-  form = All-map IsInForm (λ standing. Bar standing) m.bars machine.legal.apart;
-}
+    things (λ ends. Cable ends) m.cables (row_name OfCables) 13 (λ x. refl) cables.count (All-from_recursion IsInForm (row_looks (Rotor m))
+    (cables_in_form m.cables (ap cables_of machine.cables) (recursion_from_All (λ letter. letter < 26) (plugged_letters m.cables) cables.within) cables.apart))
+rows_are_things (Pin m) machine =
+    things (λ standing. Bar standing) m.bars (row_name OfBars) 27 (λ x. refl) machine.legal.bars (All-map IsInForm (λ standing. Bar standing) m.bars machine.legal.apart)
 
 abbrev pub group_of_day : Day → Group
 group_of_day (OfRotors s) = OfCables
 group_of_day (OfPins s) = OfBars
 
-pub columns_are_things : ThirteenColumns → (s : Day) → IsLegalDay s
-    → AreThings (column_name (group_of_day s)) (price_count (group_of_day s)) (column_looks s)
+pub columns_are_things : ThirteenColumns → (s : Day) → IsLegalDay s → AreThings (column_name (group_of_day s)) (price_count (group_of_day s)) (column_looks s)
 columns_are_things thirteen (OfRotors s) legal =
     let pairs = legal.pairs in
-    record {
-      count = length-map (columns_of s.pairs) pair_look ∙ thirteen s.pairs pairs.few;
-      called = All-map (λ look. look_name look ≡ column_name OfCables) pair_look (columns_of s.pairs)
-          (λ k d inside. refl);
-      form = All-from_recursion IsInForm (column_looks (OfRotors s))
-          (pairs_in_form (13 - length s.pairs) s.pairs
-          (recursion_from_All (λ letter. letter < 26) (letters_plugged s.pairs) pairs.within) pairs.apart);
-    }
-columns_are_things thirteen (OfPins s) legal = record {
-  count = length-map s.rows (λ numbers. Row numbers) ∙ legal.count;
-  called = All-map (λ look. look_name look ≡ column_name OfBars) (λ numbers. Row numbers) s.rows (λ k d inside. refl);
-  form = All-map IsInForm (λ numbers. Row numbers) s.rows legal.rows;
-}
+    things pair_look (columns_of s.pairs) (column_name OfCables) 13 (λ x. refl) (thirteen s.pairs pairs.few) (All-from_recursion IsInForm (column_looks (OfRotors s))
+    (pairs_in_form (13 - length s.pairs) s.pairs (recursion_from_All (λ letter. letter < 26) (letters_plugged s.pairs) pairs.within) pairs.apart))
+columns_are_things thirteen (OfPins s) legal =
+    things (λ numbers. Row numbers) s.rows (column_name OfBars) 27 (λ x. refl) legal.count (All-map IsInForm (λ numbers. Row numbers) s.rows legal.rows)

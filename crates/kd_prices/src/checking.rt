@@ -12,7 +12,7 @@ use super::laws::a_card_is_in_one_doubt_at_most;
 use super::needless::{first_needless, is_priced};
 use kd_card::{Card, PriceParts, Prices, carry_all};
 use kd_state::laws::a_setting_is_refused_or_carried;
-use kd_state::{Machine, Parts, Setting, SheetDay, bar_costs, cable_costs};
+use kd_state::{Machine, OneModel, Parts, Setting, SheetDay, bar_costs, cable_costs};
 
 /// Whether the card proves itself, whoever made it: its lines lead the machine to the day, and its prices show that no
 /// settings that do are fewer. Else the first doubt, in the order in which `Doubt` has them.
@@ -91,14 +91,13 @@ fn too_high(machine: &Machine, day: &SheetDay, prices: &Prices) -> Option<Cell>
         MatchOption result (Fits costs prices.now)
         (λ cell. IsFirstTooHigh costs prices.now cell.row cell.column) }
 {
-    let _model = day.model();
-    match (machine.parts(), prices.parts()) {
-        (Parts::Rotor(parts), PriceParts::Cables(rows, columns)) => {
-            let costs = cable_costs(&parts.cables, day.pairs().unwrap());
+    match (machine.of_one_model(day).unwrap(), prices.parts()) {
+        (OneModel::Rotor(parts, entry), PriceParts::Cables(rows, columns)) => {
+            let costs = cable_costs(&parts.cables, entry.pairs.as_slice());
             first_too_high(&costs, &rows, &columns)
         }
-        (Parts::Pin(parts), PriceParts::Bars(rows, columns)) => {
-            let costs = bar_costs(&parts.bars, &day.rows().unwrap());
+        (OneModel::Pin(parts, entry), PriceParts::Bars(rows, columns)) => {
+            let costs = bar_costs(&parts.bars, &entry.rows);
             first_too_high(&costs, &rows, &columns)
         }
         _ => unreachable!(),

@@ -6,7 +6,7 @@ ghost use Rattle.kd_prices.specs.Doubt.{AreOfOneModel};
 
 use super::looks::{bar_looks, cable_looks, pair_looks, row_looks};
 use kd_card::{Look, PriceParts, PricedKind, Prices};
-use kd_state::{Machine, Parts, SheetDay};
+use kd_state::{Machine, OneModel, SheetDay};
 
 /// The prices by number that prices mean for the machine and the day: those of the machine's cables or bars, each that of its
 /// kind, and those of the day's pairs and nothings, or rows. None where the kinds, or how many there are of each, aren't those
@@ -17,20 +17,19 @@ pub(crate) fn expanded(machine: &Machine, day: &SheetDay, prices: &Prices) -> Op
         ((numbered : _) → ¬ (Expands machine.now day.now prices.now numbered))
         (λ numbered. Expands machine.now day.now prices.now numbered) }
 {
-    let _model = day.model();
     let rows = prices.row_kinds();
     let columns = prices.column_kinds();
-    match (machine.parts(), prices.parts()) {
+    match (machine.of_one_model(day)?, prices.parts()) {
         (_, PriceParts::Cables(cables, pairs)) => Prices::cables(cables, pairs),
         (_, PriceParts::Bars(bars, sheet)) => Prices::bars(bars, sheet),
-        (Parts::Rotor(parts), PriceParts::CableKinds(..)) => {
+        (OneModel::Rotor(parts, entry), PriceParts::CableKinds(..)) => {
             let cables = priced(&cable_looks(&parts.cables), rows.as_slice())?;
-            let pairs = priced(&pair_looks(day.pairs().unwrap()), columns.as_slice())?;
+            let pairs = priced(&pair_looks(entry.pairs.as_slice()), columns.as_slice())?;
             Prices::cables(cables, pairs)
         }
-        (Parts::Pin(parts), PriceParts::BarKinds(..)) => {
+        (OneModel::Pin(parts, entry), PriceParts::BarKinds(..)) => {
             let bars = priced(&bar_looks(&parts.bars), rows.as_slice())?;
-            let sheet = priced(&row_looks(&day.rows().unwrap()), columns.as_slice())?;
+            let sheet = priced(&row_looks(&entry.rows), columns.as_slice())?;
             Prices::bars(bars, sheet)
         }
         _ => unreachable!(),

@@ -1,8 +1,7 @@
 use Rattle.std.proofs.Common.{◌+◌, count_by, is_some, ap, ◌∙◌, rules, arith}
 use Rattle.std.proofs.lemmas.List.Sums.{count_by-le-length}
-use Rattle.kd_assign.specs.Scans.{scans_of_tree}
 use Rattle.kd_assign.proofs.Comparing.{nearest_root}
-use Rattle.kd_assign.proofs.Counting.{none_counted, reached_at_most, scans_of_tree-grows, scans_of_tree-more, scans_of_tree-most}
+use Rattle.kd_assign.proofs.Counting.{none_counted, reached_at_most, scans_of_tree-grows, scans_of_tree-most}
 use Rattle.kd_assign.proofs.Free.{free_column, no_column, no_edge}
 use Rattle.kd_assign.proofs.Growing.{IsSound-turned}
 use Rattle.kd_assign.proofs.Places.{vacant_or}
@@ -66,18 +65,3 @@ returns-in-Some-clause-most_scans g c =
     let same = ap (λ to. count_by is_some to) so_far.same_to ∙ c.requires.solved.count in
     let most = scans_of_tree-grows g.row.N (count_by is_some c.loop-free.tree.reached + 1) (c.args.row + 1) (omega arith) in
     omega (arith, so_far.scans, c.in-Some.ensures.not_counted)
-
-pub loop-free-preserved : goal.loop-free-preserved
-loop-free-preserved g c =
-    let so_far = c.loop-free.invariant in
-    let grow = c.in_default.ensures in
-    let columns = count_by-le-length is_some c.grow.new.self.reached in
-    let more = scans_of_tree-more g.row.N (count_by is_some c.grow.new.self.reached) in
-    record {
-      len = so_far.len;
-      same_to = so_far.same_to;
-      root = grow.root ∙ so_far.root;
-      growing = rw grow.root grow.growing;
-      nearest = rw grow.root grow.nearest;
-      scans = omega (arith, so_far.scans, grow.counted, ap (scans_of_tree g.row.N) grow.added);
-    }

@@ -1,7 +1,8 @@
 use Rattle.std.proofs.Common.{sym, subst}
+use Rattle.std.proofs.lemmas.Result.{IfErr-weaker}
 use Rattle.kd_card.specs.Proving.{ProvesByNumber}
 use Rattle.kd_prices.specs.Doubt.{IsDoubtByNumber, OfNumbers}
-use Rattle.kd_prices.proofs.Meaning.{one_expansion, are_numbered, if_err}
+use Rattle.kd_prices.proofs.Meaning.{one_expansion, are_numbered}
 use Rattle.kd_prices.proofs.checking.check.Goals as goal
 
 pub check_by_number-requires-clause-numbered : goal.check_by_number-requires-clause-numbered
@@ -24,6 +25,6 @@ returns-clause-proves c =
 
 pub returns-clause-doubt : goal.returns-clause-doubt
 returns-clause-doubt c =
-    if_err c.check_by_number.result _ _
+    IfErr-weaker c.check_by_number.result _ _
     (λ doubt h. OfNumbers (c.are_of_one_model.ensures.0 c.if-not-are_of_one_model.false) c.in-Some.numbered c.in-Some.ensures
     (subst (λ xs. IsDoubtByNumber c.args.machine.now c.args.day.now xs c.in-Some.numbered doubt) c.as_slice.ensures.value h)) c.check_by_number.ensures.doubt

@@ -1,39 +1,23 @@
-use Rattle.std.proofs.Common.{◌≡◌, ◌<◌, ◌^◌, pos, SFits, w32, to_z, rules, arith, refl, sym, ap, ◌∙◌}
+use Rattle.std.proofs.Common.{◌≡◌, ◌<◌, ◌^◌, pos, SFits, w32, to_z, rules, arith, sym, ap, ◌∙◌}
 use Rattle.std.proofs.lemmas.Int.{to_z-of_z, to_z_pos}
 use Rattle.kd_prices.specs.declared.doubt.Doubt.TheVariants.{IllegalAt, NotTheSheet, NeedlessLine}
-use Rattle.kd_prices.specs.Doubt.{IsDoubtByNumber}
-use Rattle.kd_state.specs.Costs.{cost_table}
-use Rattle.kd_card.specs.Prices.{Fits, price_sum}
+use Rattle.kd_card.specs.Prices.{price_sum}
 use Rattle.kd_card.specs.Proving.{priced_count}
-use Rattle.kd_prices.proofs.Doubts.{not_proved_by_number}
+use Rattle.kd_prices.proofs.Doubts.{not_proved}
 use Rattle.kd_prices.proofs.checking.check_by_number.Goals as goal
 
 pub returns-in-Err-clause-proves : goal.returns-in-Err-clause-proves
 returns-in-Err-clause-proves c =
-    let doubt : IsDoubtByNumber c.args.machine.now c.args.day.now c.args.settings.now c.args.prices.now (IllegalAt c.in-Err.illegal.line c.in-Err.illegal.why) = search rules in
-    not_proved_by_number c.a_setting_is_refused_or_carried.ensures.lists_to_one _ _ _ _ (IllegalAt c.in-Err.illegal.line c.in-Err.illegal.why) doubt
+    not_proved c.a_setting_is_refused_or_carried.ensures.lists_to_one _ _ _ _ (IllegalAt c.in-Err.illegal.line c.in-Err.illegal.why) (search rules)
 
 pub returns-then-not-reads_as-clause-proves : goal.returns-then-not-reads_as-clause-proves
-returns-then-not-reads_as-clause-proves c =
-    let doubt : IsDoubtByNumber c.args.machine.now c.args.day.now c.args.settings.now c.args.prices.now NotTheSheet = search rules in
-    not_proved_by_number c.a_setting_is_refused_or_carried.ensures.lists_to_one _ _ _ _ NotTheSheet doubt
+returns-then-not-reads_as-clause-proves c = not_proved c.a_setting_is_refused_or_carried.ensures.lists_to_one _ _ _ _ NotTheSheet (search rules)
 
 pub returns-in-Some-first_needless-clause-proves : goal.returns-in-Some-first_needless-clause-proves
 returns-in-Some-first_needless-clause-proves c =
-    let m = c.args.machine.now in
-    let s = c.args.day.now in
-    let line = c.in-Some-first_needless.line in
-    let fits : Fits (cost_table m s) c.args.prices.now = search rules in
     let count = c.priced_count.result in
     let few : count < 2 ^ 31 = omega (arith, c.priced_count.ensures.few, c.requires.few) in
     let small : SFits w32 c.sum.result = search rules in
     let same : c.sum.result ≡ pos count = sym (to_z-of_z w32 c.sum.result small) ∙ ap (to_z w32) c.if-sum-priced_count.false ∙ to_z_pos w32 count few in
     let sum : price_sum c.args.prices.now ≡ pos (priced_count c.args.settings.now) = sym c.sum.ensures ∙ same ∙ ap pos c.priced_count.ensures.value in
-    let doubt : IsDoubtByNumber m s c.args.settings.now c.args.prices.now (NeedlessLine line) = (
-      c.requires.numbered,
-      (c.in-Ok.reached, c.in-Ok.ensures.carried, c.if-not-reads_as.ensures.0 refl),
-      fits,
-      sum,
-      c.in-Some-first_needless.ensures,
-    ) in
-    not_proved_by_number c.a_setting_is_refused_or_carried.ensures.lists_to_one _ _ _ _ (NeedlessLine line) doubt
+    not_proved c.a_setting_is_refused_or_carried.ensures.lists_to_one _ _ _ _ (NeedlessLine c.in-Some-first_needless.line) (search rules)

@@ -1,15 +1,26 @@
-use Rattle.std.proofs.Common.{refl}
+use Rattle.std.proofs.Common.{refl, sym, subst, arith}
 use Rattle.std.proofs.lemmas.Bool.{false≢true}
+use Rattle.std.proofs.lemmas.List.{drop_all}
+use Rattle.kd_card.specs.Proving.{AreNeeded}
+use Rattle.kd_prices.specs.Doubt.{IsFirstNeedless}
 use Rattle.kd_prices.proofs.Leading.{steps_on, stops_here}
 use Rattle.kd_prices.proofs.needless.first_needless.Goals as goal
 
+pub loop-place-init : goal.loop-place-init
+loop-place-init c = record {
+  needed = λ all. all;
+  needless = λ line h. subst (IsFirstNeedless c.args.machine.now c.args.day.now c.args.settings.now) (omega arith) h;
+  onward = c.requires;
+}
+
 pub returns-then-not-is_needed : goal.returns-then-not-is_needed
 returns-then-not-is_needed c =
-    let at = c.loop-place.invariant in
-    stops_here _ _ _ _ _ _ c.loop-place-test.true c.index-settings-place.is at.leads at.needed (λ needed. false≢true (c.if-not-is_needed.ensures.needed.1 needed))
+    stops_here _ _ _ _ _ _ c.loop-place-test.true c.index-settings-place.is c.loop-place.invariant (λ needed. false≢true (c.if-not-is_needed.ensures.needed.1 needed))
 
 pub loop-place-preserved : goal.loop-place-preserved
 loop-place-preserved c =
-    let at = c.loop-place.invariant in
-    let step = steps_on _ _ _ _ _ _ _ c.loop-place-test.true c.index-settings-place.is at.leads at.needed at.onward (c.if-not-is_needed.ensures.needed.0 refl) c.is_needed.ensures.carried in
-    record { leads = step.leads; needed = step.needed; onward = step.onward }
+    steps_on _ _ _ _ _ _ c.loop-place-test.true c.index-settings-place.is c.loop-place.invariant _ (c.if-not-is_needed.ensures.needed.0 refl) c.is_needed.ensures.carried
+
+pub returns : goal.returns
+returns c =
+    c.loop-place.invariant.needed (subst (AreNeeded c.loop-place.carried c.args.day.now) (sym (drop_all c.loop-place.place c.args.settings.now (omega arith))) tt)
