@@ -9,10 +9,6 @@ use Rattle.kd_assign.specs.Scans.{scans_of_tree, scans_of_trees}
 use Rattle.kd_assign.specs.Tree.{has_column}
 use Rattle.kd_assign.proofs.Places.{count-set}
 
--- one more row joins
-pub scans_of_tree-more : (n rows : ℕ) → scans_of_tree n (rows + 1) ≡ scans_of_tree n rows + (n - rows)
-scans_of_tree-more n rows = rw add-one refl
-
 -- a tree of more rows takes no fewer
 pub scans_of_tree-grows : (n few rows : ℕ) → few ≤ rows → scans_of_tree n few ≤ scans_of_tree n rows
 scans_of_tree-grows n few zero h = let same : few ≡ 0 = omega arith in rw same (omega arith)

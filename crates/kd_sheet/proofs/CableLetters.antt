@@ -14,10 +14,6 @@ use Rattle.kd_sheet.specs.Cables.{are_new, plugged_by, letters_of_item, thirteen
 use Rattle.kd_sheet.specs.declared.key.Key.{Key}
 use Rattle.kd_sheet.proofs.Documents.{viewed_at}
 
-or_false : (b : Bool) → (b || false) ≡ b
-or_false true = refl
-or_false false = refl
-
 -- the letters of cables one after the other
 pub plugged_letters-append : (cables others : List (Option ℕ × Option ℕ)) → plugged_letters (cables ++ others) ≡ plugged_letters cables ++ plugged_letters others
 plugged_letters-append [] others = refl
