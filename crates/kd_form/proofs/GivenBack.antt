@@ -36,18 +36,13 @@ letters_within blank (byte ∷ text) less =
     found_within (letter_of_byte blank byte) (letters_from blank text) (grind (arith, nat_tests)) (letters_within blank text less)
 
 text_letters_within : (s : Day) (text : List ℕ) → All (λ letter. letter < 26) (text_letters s text)
-text_letters_within (OfRotors s) text = letters_within None text tt
-text_letters_within (OfPins s) text = letters_within (Some 25) text (omega arith)
+text_letters_within s text = grind (arith, letters_within)
 
 -- ---- pieces of a text
 
 -- behind whole groups the rest is filled as the whole text is
 filled_behind : (front rest : List ℕ) → length front % 5 ≡ 0 → filled front ++ filled rest ≡ filled (front ++ rest)
-filled_behind front rest whole =
-    let none : (5 - length front % 5) % 5 ≡ 0 = omega arith in
-    let alike : (5 - length rest % 5) % 5 ≡ (5 - length (front ++ rest) % 5) % 5 = omega (arith, length-append front rest) in
-    ap (λ n. (front ++ replicate n 23) ++ filled rest) none ∙ ap (λ t. t ++ filled rest) (append-nil front)
-    ∙ sym (append_assoc front rest (replicate ((5 - length rest % 5) % 5) 23)) ∙ ap (λ n. (front ++ rest) ++ replicate n 23) alike
+filled_behind front rest whole = grind (arith, length-append {A = ℕ}, append_assoc {A = ℕ}, append-nil {A = ℕ})
 
 filled_pieces : (letters : List ℕ) → filled (take 500 letters) ++ filled (drop 500 letters) ≡ filled letters
 filled_pieces letters = elim (cases_lt (length letters) 500) [
@@ -58,12 +53,10 @@ filled_pieces letters = elim (cases_lt (length letters) 500) [
 
 sent_joined : (s : Day) (letters : List ℕ)
     → sent_letters s (take (part_size s) letters) ++ sent_letters s (drop (part_size s) letters) ≡ sent_letters s letters
-sent_joined (OfRotors s) letters = take-append-drop 245 letters
-sent_joined (OfPins s) letters = filled_pieces letters
+sent_joined s letters = grind (arith, take-append-drop {A = ℕ}, filled_pieces)
 
 nothing_sent : (s : Day) → [] ≡ sent_letters s []
-nothing_sent (OfRotors s) = refl
-nothing_sent (OfPins s) = refl
+nothing_sent s = grind arith
 
 -- the pieces, sent one after another, are the letters as they are sent
 sent_pieces : (s : Day) (letters : List ℕ) → flat_map (sent_letters s) (pieces (part_size s) letters) ≡ sent_letters s letters
@@ -133,8 +126,7 @@ parts_are_given_back s part parts _ _ form decipher legal are suited all first l
 
 some_parts : (s : Day) (letters : List ℕ) (texts : List (List ℕ)) → letters ≢ [] → length texts ≡ parts_needed s (length letters) → texts ≢ []
 some_parts s [] texts some needed none = some refl
-some_parts s (letter ∷ letters) texts some needed none =
-    omega (arith, needed, ap length none, more_pieces (part_size s) (length (letter ∷ letters)) (size_some s) (omega arith))
+some_parts s (letter ∷ letters) texts some needed none = grind (arith, more_pieces, size_some)
 
 pub orders_give_letters : OrdersGiveLetters
 orders_give_letters s order form is = (

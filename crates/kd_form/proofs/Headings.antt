@@ -122,10 +122,7 @@ fraction_word part parts small few =
 
 -- three or four wheels
 slots_are : (s : RotorDay) (found : Option ℕ) → MatchOption found (HasPins (OfRotors s)) (HasSlots (OfRotors s)) → (1 ≤ length s.wheels) × (length s.wheels ≤ 4)
-slots_are s None has = absurd (cc (has.is))
-slots_are s (Some slots) has =
-    let same : s ≡ has.day = cc (has.is) in
-    omega (arith, ap (λ d. length d.wheels) same, has.count, has.either)
+slots_are s found has = grind arith
 
 are_indicator_words : (s : Day) (found : Option ℕ) (i : Option Indicator) → MatchOption found (HasPins s) (HasSlots s) → HasIndicator s i → All IsWord (indicator_words i)
 are_indicator_words s found None has are = All-nil IsWord
@@ -143,8 +140,7 @@ heading_are_words s found h numbers has is =
     (All-cons IsWord (decimal h.letters) (indicator_words h.indicator) (numbers h.letters small.letters) (are_indicator_words s found h.indicator has is.indicator)))
 
 few_words : (i : Option Indicator) → length (indicator_words i) ≤ 2
-few_words (Some i) = omega arith
-few_words None = omega arith
+few_words i = grind arith
 
 line_words : (s : Day) (found : Option ℕ) (h : Heading) (line : List ℕ) → NumbersAreWords → LinesSplitIntoWords → MatchOption found (HasPins s) (HasSlots s)
     → IsHeading s h → line_of (heading_words h) ≡ line → words_of line ≡ heading_words h
@@ -231,10 +227,7 @@ bare_heading s part h rest unbroken has = elim has.ended [
 
 end_size : (s : Day) (found : Option ℕ) (count : ℕ) (i : Option Indicator) → MatchOption found (HasPins s) (HasSlots s) → length (decimal count) ≤ 3
     → HasIndicator s i → length (line_of (decimal count ∷ indicator_words i)) ≤ 15
-end_size s found count None has few is = omega arith
-end_size (OfPins s) found count (Some i) has few is = absurd is
-end_size (OfRotors s) found count (Some i) has few is =
-    omega (arith, length-append {A = ℕ}, length-map i.start (λ l. l + 65), length-map i.key (λ l. l + 65), is.0.count, is.1.count, slots_are s found has)
+end_size s found count i has few is = grind (arith, length-append {A = ℕ}, length-map, slots_are)
 
 heading_length : (s : Day) (found : Option ℕ) (h : Heading) → MatchOption found (HasPins s) (HasSlots s) → IsHeading s h
     → length (line_of (heading_words h)) ≤ 50
@@ -260,12 +253,10 @@ open_told s found part line (Some h) has told unbroken kept =
 
 -- a line with its LF, and its text
 text_ended : (line text : List ℕ) → IsLineText line text → IsEnded text (line ++ 10 ∷ [])
-text_ended line text (WithReturn is) = inr (ap (λ l. l ++ 10 ∷ []) is ∙ append_assoc text (13 ∷ []) (10 ∷ []))
-text_ended line text (WithoutReturn is other) = inl (ap (λ l. l ++ 10 ∷ []) (sym is))
+text_ended line text is = grind (arith, append_assoc {A = ℕ})
 
 ended_size : (text line : List ℕ) → IsEnded text (line ++ 10 ∷ []) → length line ≤ length text + 1
-ended_size text line (inl short) = omega (arith, ap length short, length-append line (10 ∷ []), length-append text (10 ∷ []))
-ended_size text line (inr long) = omega (arith, ap length long, length-append line (10 ∷ []), length-append text (13 ∷ 10 ∷ []))
+ended_size text line ended = grind (arith, length-append {A = ℕ})
 
 ended_text : (words line text : List ℕ) → IsWithout 13 words → IsEnded words (line ++ 10 ∷ []) → IsLineText line text → words ≡ text
 ended_text words line text free (inl short) (WithReturn is) =
@@ -330,13 +321,7 @@ behind tail = if slice_index tail 0 == 13 then drop 2 tail else drop 1 tail
 -- what follows the words of a heading in its part tells the body
 heading_tail : (s : Day) (part : List ℕ) (h : Heading) (body : List ℕ) → HasHeading s part h body
     → (tail : List ℕ) × (part ≡ line_of (heading_words h) ++ tail) × IsOff (λ b. 32 ≤ b) tail × (body ≡ behind tail)
-heading_tail s part h body has =
-    let text : List ℕ = line_of (heading_words h) in
-    elim has.ended [
-      | inl (inl short) ↦ (10 ∷ body, cc (has.joined, short, append_assoc text (10 ∷ []) body), omega arith, refl)
-      | inl (inr long) ↦ (13 ∷ 10 ∷ body, cc (has.joined, long, append_assoc text (13 ∷ 10 ∷ []) body), omega arith, refl)
-      | inr bare ↦ ([], cc (has.joined, bare.0, bare.1), tt, bare.1)
-    ]
+heading_tail s part h body has = grind (arith, append_assoc {A = ℕ})
 
 pub one_heading : (s : Day) (part : List ℕ) (h other : Heading) (body rest : List ℕ) → TextsTellFirstParts → NumbersAreWords → HasHeading s part h body
     → HasHeading s part other rest → (h ≡ other) × (body ≡ rest)

@@ -31,22 +31,13 @@ use Rattle.kd_form.proofs.Plain.{IsPlain, plain_keys, same_sized, same_front}
 
 pub length-filled : (pattern letters : List ℕ) → length (filled_in pattern letters) ≡ length pattern
 length-filled [] letters = refl
-length-filled (mark ∷ pattern) letters = elim (cases_Bool (mark == 95)) [
-  | inl blank ↦ rw blank (ap suc (length-filled pattern (drop 1 letters)))
-  | inr other ↦ rw other (ap suc (length-filled pattern letters))
-]
+length-filled (mark ∷ pattern) letters = grind (arith, length-filled pattern)
 
 filled-fits : (pattern letters : List ℕ) (i : ℕ) → i < length pattern → All (λ l. l < 26) letters
     → fits (get_or pattern i 0) (get_or (filled_in pattern letters) i 0) ≡ true
 filled-fits [] letters i inside within = absurd (omega arith)
-filled-fits (mark ∷ pattern) letters zero inside within = elim (cases_Bool (mark == 95)) [
-  | inl blank ↦ let less = letter_read letters 0 within in rw blank (grind (arith, nat_tests))
-  | inr other ↦ rw other (grind (arith, nat_tests))
-]
-filled-fits (mark ∷ pattern) letters (suc i) inside within = elim (cases_Bool (mark == 95)) [
-  | inl blank ↦ rw blank (filled-fits pattern (drop 1 letters) i (omega arith) (All-drop (λ l. l < 26) 1 letters within))
-  | inr other ↦ rw other (filled-fits pattern letters i (omega arith) within)
-]
+filled-fits (mark ∷ pattern) letters zero inside within = grind (arith, nat_tests, letter_read letters 0 within)
+filled-fits (mark ∷ pattern) letters (suc i) inside within = grind (arith, filled-fits pattern, All-drop (λ l. l < 26) 1 letters)
 
 -- ---- reading mark by mark
 
@@ -98,10 +89,7 @@ filling_more pattern bytes letters more place mark byte filling below inside mar
 
 pub letter_room : (pattern bytes letters : List ℕ) (place : ℕ) → IsFilling pattern bytes place letters → place < length pattern → blanks pattern ≤ 13
     → get_or pattern place 0 ≡ 95 → length letters < 13
-letter_room pattern bytes letters place filling below few blank =
-    let rest : List ℕ = drop (place + 1) pattern in
-    let left : drop place pattern ≡ 95 ∷ rest = drop_more pattern place 0 below ∙ ap (λ m. m ∷ rest) blank in
-    omega (arith, filling.counted, ap blanks left)
+letter_room pattern bytes letters place filling below few blank = grind (arith, drop_more)
 
 -- the bytes end where the next mark is due: a line goes on with the letter A in each place that is left
 pub line_open : (pattern bytes letters : List ℕ) (place : ℕ) → IsFilling pattern bytes place letters → false ≡ nat_lt place (length bytes)
@@ -126,12 +114,10 @@ line_open pattern bytes letters place filling past =
 -- ---- the end of a line
 
 ended_tail : (text line : List ℕ) → IsEnded text line → (tail : List ℕ) × IsEnded [] tail × (line ≡ text ++ tail)
-ended_tail text line (inl short) = (10 ∷ [], inl refl, short)
-ended_tail text line (inr long) = (13 ∷ 10 ∷ [], inr refl, long)
+ended_tail text line ended = grind arith
 
 ended_behind : (text tail : List ℕ) → IsEnded [] tail → IsEnded text (text ++ tail)
-ended_behind text tail (inl short) = inl (ap (λ t. text ++ t) short)
-ended_behind text tail (inr long) = inr (ap (λ t. text ++ t) long)
+ended_behind text tail ended = grind arith
 
 line_fits : (pattern line : List ℕ) (i : ℕ) → i < length pattern → IsPatternLine pattern line → fits (get_or pattern i 0) (get_or line i 0) ≡ true
 line_fits pattern line i inside is =
@@ -181,10 +167,7 @@ end_open (a ∷ []) few first = let same : a ≡ 13 = first (omega arith) in (10
 end_open (a ∷ b ∷ bytes) few first = absurd (omega arith)
 
 pub end_off : (bytes more : List ℕ) → 3 ≤ length bytes → ¬ (IsEnded [] (bytes ++ more))
-end_off bytes more long ended = elim ended [
-  | inl short ↦ omega (arith, ap length short, length-append bytes more)
-  | inr both ↦ omega (arith, ap length both, length-append bytes more)
-]
+end_off bytes more long ended = grind (arith, length-append {A = ℕ})
 
 -- ---- what a read tells
 
@@ -228,9 +211,7 @@ key_line _ _ are = absurd are
 -- ---- how many letters
 
 rotor_blanks : (slots : ℕ) → blanks (rotor_pattern slots) ≡ slots + (slots + (2 + 3))
-rotor_blanks slots =
-    let last : List ℕ = 32 ∷ (places_for 2 ++ 32 ∷ places_for 3) in
-    blanks-places slots (32 ∷ (places_for slots ++ last)) ∙ ap (λ n. slots + n) (blanks-places slots last)
+rotor_blanks slots = grind (arith, blanks-places)
 
 letters_joined : {m n : ℕ} {one other : List ℕ} → AreLetters m one → AreLetters n other → AreLetters (m + n) (one ++ other)
 letters_joined {one = one} {other = other} a b = record {
@@ -274,13 +255,7 @@ as_key_line s line is =
     }
 
 letters_of_keys : (s : Day) (k : Keys) → AreKeys s k → AreLetters (blanks (key_pattern s)) (key_letters k)
-letters_of_keys (OfRotors s) (Rotor k) are =
-    rw (rotor_blanks (length s.wheels)) (letters_joined are.start (letters_joined are.key (letters_joined are.fillers are.group)))
-letters_of_keys (OfPins s) (Pin k) are = record {
-  count = ap suc are.external.count;
-  within = All-cons (λ n. n < 26) k.chosen k.external are.chosen are.external.within;
-}
-letters_of_keys _ _ are = absurd are
+letters_of_keys s k are = grind (arith, rotor_blanks, letters_joined, All-cons)
 
 pub as_form_line : (s : Day) (line : List ℕ) → IsAnyKeyLine s line → IsPatternLine (key_pattern s) line
 as_form_line s line is = record {
@@ -291,8 +266,7 @@ as_form_line s line is = record {
 
 pub breaks_alike : {P Q : List ℕ → Type 0} (bytes : List ℕ) (why : Unread) → ((line : List ℕ) → P line → Q line) → ((line : List ℕ) → Q line → P line)
     → BreaksOff P bytes why → BreaksOff Q bytes why
-breaks_alike bytes Open to back (more, some, is) = (more, some, to (bytes ++ more) is)
-breaks_alike bytes Off to back none = λ more is. none more (back (bytes ++ more) is)
+breaks_alike bytes why to back broken = grind arith
 
 pub keys_read : (s : Day) (bytes letters : List ℕ) (k : Keys) → IsFilledLine (key_pattern s) letters bytes → key_letters k ≡ letters → AreKeys s k
     → AreKeys s k × IsKeyLine k bytes
@@ -343,22 +317,15 @@ up_to_break text line unbroken ended = elim ended [
 -- the line is told by the bytes that it begins, and so are its words and what follows it
 pub same_line : (text other line end rest more : List ℕ) → IsPlain text → IsPlain other → IsEnded text line → IsEnded other end
     → line ++ rest ≡ end ++ more → (text ≡ other) × (line ≡ end) × (rest ≡ more)
-same_line text other line end rest more one two (inl a) (inl b) same =
-    let both = same_front (λ b. 32 ≤ b) text other (10 ∷ rest) (10 ∷ more) one two (omega arith) (omega arith) (simp append_assoc at (rw (a, b) at same)) in
-    (both.0, cc, ap (drop 1) both.1)
-same_line text other line end rest more one two (inr a) (inr b) same =
-    let both = same_front (λ b. 32 ≤ b) text other (13 ∷ 10 ∷ rest) (13 ∷ 10 ∷ more) one two (omega arith) (omega arith) (simp append_assoc at (rw (a, b) at same)) in
-    (both.0, cc, ap (drop 2) both.1)
-same_line text other line end rest more one two (inl a) (inr b) same =
-    let both = same_front (λ b. 32 ≤ b) text other (10 ∷ rest) (13 ∷ 10 ∷ more) one two (omega arith) (omega arith) (simp append_assoc at (rw (a, b) at same)) in
-    absurd (let clash : 10 ≡ 13 = ap (λ l. get_or l 0 0) both.1 in omega arith)
-same_line text other line end rest more one two (inr a) (inl b) same =
-    let both = same_front (λ b. 32 ≤ b) text other (13 ∷ 10 ∷ rest) (10 ∷ more) one two (omega arith) (omega arith) (simp append_assoc at (rw (a, b) at same)) in
-    absurd (let clash : 13 ≡ 10 = ap (λ l. get_or l 0 0) both.1 in omega arith)
+same_line text other line end rest more one two a b same =
+    let (tail, ended, joined) = ended_tail text line a in
+    let (close, ending, linked) = ended_tail other end b in
+    let alike : text ++ (tail ++ rest) ≡ other ++ (close ++ more) = cc (append_assoc text tail rest, append_assoc other close more, same, joined, linked) in
+    let both = same_front (λ b. 32 ≤ b) text other (tail ++ rest) (close ++ more) one two (grind arith) (grind arith) alike in
+    grind arith
 
 pub key_first : (k : Keys) (line more : List ℕ) → IsKeyLine k line → get_or (line ++ more) 0 0 ≡ 80
-key_first (Rotor k) line more ended = elim ended [ inl short ↦ ap (λ l. get_or (l ++ more) 0 0) short | inr long ↦ ap (λ l. get_or (l ++ more) 0 0) long ]
-key_first (Pin k) line more ended = elim ended [ inl short ↦ ap (λ l. get_or (l ++ more) 0 0) short | inr long ↦ ap (λ l. get_or (l ++ more) 0 0) long ]
+key_first k line more ended = grind arith
 
 pub text_first : (last : List ℕ) → IsEnded (codes "TEXT") last → get_or last 0 0 ≡ 84
 text_first last ended = elim ended [ inl short ↦ ap (λ l. get_or l 0 0) short | inr long ↦ ap (λ l. get_or l 0 0) long ]
@@ -370,9 +337,7 @@ text_front last text ended = elim ended [ inl short ↦ ap (λ l. get_or (l ++ t
 
 -- the first byte of a head tells whether a line of keys comes first
 pub key_line_first : (s : Day) (k : Keys) (others : List Keys) (bytes : List ℕ) → IsHead s (k ∷ others) bytes → get_or bytes 0 0 ≡ 80
-key_line_first s k others bytes head =
-    let first = head.keyed in
-    ap (λ b. get_or b 0 0) (head.joined ∙ ap (λ l. l ++ head.last) first.4 ∙ append_assoc first.0 first.1 head.last) ∙ key_first k first.0 (first.1 ++ head.last) first.2
+key_line_first s k others bytes head = grind (arith, key_first, append_assoc {A = ℕ})
 
 pub text_only : (s : Day) (bytes : List ℕ) → IsHead s [] bytes → IsEnded (codes "TEXT") bytes
 text_only s bytes head = subst (IsEnded (codes "TEXT")) (sym (head.joined ∙ ap (λ l. l ++ head.last) head.keyed)) head.ended

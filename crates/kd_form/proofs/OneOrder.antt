@@ -30,10 +30,7 @@ pub only_this : {V : Type 0} {u : V} → IsOnly (λ (v : V). v ≡ u)
 only_this v w a b = a ∙ sym b
 
 pub only_either : {V : Type 0} {One Other : V → Type 0} → IsOnly One → IsOnly Other → ((v w : V) → One v → ¬ (Other w)) → IsOnly (λ v. One v ⊎ Other v)
-only_either ones others apart v w (inl one) (inl also) = ones v w one also
-only_either ones others apart v w (inl one) (inr other) = absurd (apart v w one other)
-only_either ones others apart v w (inr other) (inl one) = absurd (apart w v one other)
-only_either ones others apart v w (inr other) (inr also) = others v w other also
+only_either ones others apart v w a b = grind arith
 
 -- the answer is that of the thing that is found
 abbrev pub IsFound : {X V : Type 0} → (X → Type 0) → (X → V → Type 0) → V → Type 0
@@ -65,10 +62,7 @@ only_caught one apart laters =
 
 same_places : (places others : List ℕ) → ComesFirst places others → ComesFirst others places → places ≡ others
 same_places [] [] one other = refl
-same_places (x ∷ places) (y ∷ others) (inl below) (inl above) = absurd (omega arith)
-same_places (x ∷ places) (y ∷ others) (inl below) (inr same) = absurd (omega (arith, same.0))
-same_places (x ∷ places) (y ∷ others) (inr same) (inl above) = absurd (omega (arith, same.0))
-same_places (x ∷ places) (y ∷ others) (inr same) (inr again) = let more = same_places places others same.1 again.1 in cc
+same_places (x ∷ places) (y ∷ others) one other = grind (arith, same_places places others)
 same_places _ _ one other = search
 
 pub one_internal_key : (letters : List ℕ) → IsOnly (IsInternalKey letters)
@@ -94,11 +88,7 @@ one_form s part parts _ _ form other a b = absurd a
 
 pub same_letters : (letters others : List ℕ) → letters_text letters ≡ letters_text others → letters ≡ others
 same_letters [] [] same = refl
-same_letters (x ∷ letters) (y ∷ others) same =
-    let more = same_letters letters others (cc) in
-    let first : x + 65 ≡ y + 65 = cc in
-    let one : x ≡ y = omega arith in
-    cc
+same_letters (x ∷ letters) (y ∷ others) same = grind (arith, same_letters letters others)
 same_letters _ _ same = cc
 
 -- words before a space
@@ -135,8 +125,7 @@ are_read (k ∷ keys) lines last text (line, rest, is, more, joined) ended =
     (line, (rest ++ last) ++ text, is, are_read keys rest last text more ended, rw joined (simp append_assoc))
 
 not_both : (k : Keys) (keys : List Keys) (text more bytes : List ℕ) → AreRead [] text bytes → ¬ (AreRead (k ∷ keys) more bytes)
-not_both k keys text more bytes (last, ended, is) (line, rest, keyed, later, joined) =
-    omega (arith, text_front last text ended, ap (λ l. get_or l 0 0) (sym is ∙ joined), key_first k line rest keyed)
+not_both k keys text more bytes one other = grind (arith, text_front, key_first)
 
 one_read : (s : Day) (keys others : List Keys) (text more bytes : List ℕ) → All (AreKeys s) keys → All (AreKeys s) others → AreRead keys text bytes
     → AreRead others more bytes → (keys ≡ others) × (text ≡ more)
@@ -220,17 +209,11 @@ one_place s order one other a b = elim (fronts a.before a.rest b.before b.rest (
 -- ---- faults in the keys
 
 suits_or_not : (s : Day) (k : Keys) (part : ℕ) (fault : FormFault) → IsKeysFault s part k fault → ¬ (Suits s k)
-suits_or_not (OfRotors s) (Rotor k) part fault is suits = is.0 suits
-suits_or_not (OfPins s) (Pin k) part fault (inl off) suits = off.0 suits.0
-suits_or_not (OfPins s) (Pin k) part fault (inr spent) suits = spent.1 suits.1.1.places suits.1.0 suits.1.1.picked
-suits_or_not _ _ part fault is suits = suits
+suits_or_not s k part fault is suits = grind arith
 
 one_keys_fault : (s : Day) (part : ℕ) (k : Keys) → IsOnly (IsKeysFault s part k)
 one_keys_fault (OfRotors s) part (Rotor k) fault other a b = a.1 ∙ sym b.1
-one_keys_fault (OfPins s) part (Pin k) fault other (inl off) (inl also) = off.1 ∙ sym also.1
-one_keys_fault (OfPins s) part (Pin k) fault other (inl off) (inr spent) = absurd (off.0 spent.0)
-one_keys_fault (OfPins s) part (Pin k) fault other (inr spent) (inl off) = absurd (off.0 spent.0)
-one_keys_fault (OfPins s) part (Pin k) fault other (inr spent) (inr also) = spent.2 ∙ sym also.2
+one_keys_fault (OfPins s) part (Pin k) fault other a b = grind arith
 one_keys_fault _ part _ fault other a b = absurd a
 
 first_keys_fault : (s : Day) (keys : List Keys) → IsOnly (IsFirstKeysFault s keys)
@@ -257,15 +240,7 @@ one_bad_byte text place other a b =
     a.size ∙ ap length same.0 ∙ sym b.size
 
 pub bad_longer : (text more : List ℕ) (place : ℕ) → IsBadAt text place → IsBadAt (text ++ more) place
-bad_longer text more place bad = record {
-  before = bad.before;
-  byte = bad.byte;
-  rest = bad.rest ++ more;
-  joined = ap (λ t. t ++ more) bad.joined ∙ append_assoc bad.before (bad.byte ∷ bad.rest) more;
-  size = bad.size;
-  allowed = bad.allowed;
-  bad = bad.bad;
-}
+bad_longer text more place bad = grind (arith, append_assoc {A = ℕ})
 
 pub no_bad_byte : (text : List ℕ) (place : ℕ) → All (λ x. IsTrue (is_text_byte x)) text → ¬ (IsBadAt text place)
 no_bad_byte text place all is =

@@ -41,10 +41,7 @@ Answer = Result (List ℕ) FormFault
 -- ---- the letters of a rotor machine's part
 
 one_rotor_letters : (letters : List ℕ) (x y : List ℕ × List ℕ) → AreRotorLetters letters x.0 x.1 → AreRotorLetters letters y.0 y.1 → x ≡ y
-one_rotor_letters letters (group, text) (other, more) a b =
-    let behind = same_sized a.fillers b.fillers (group ++ text) (other ++ more) (a.two ∙ sym b.two) (sym a.joined ∙ b.joined) in
-    let both = same_sized group other text more (a.three ∙ sym b.three) behind.1 in
-    λ i. (both.0 i, both.1 i)
+one_rotor_letters letters x y a b = grind (arith, same_sized)
 
 -- refused for the group, or deciphered
 abbrev IsRotorAnswer : Day → ℕ → Indicator → List ℕ → Answer → Type 0
@@ -65,11 +62,7 @@ ten_letters k list six two = omega (arith, length-append k.external list)
 -- letters between as many letters
 same_between : (first text last other more end : List ℕ) → length first ≡ 10 → length other ≡ 10 → length last ≡ 10 → length end ≡ 10
     → first ++ (text ++ last) ≡ other ++ (more ++ end) → (first ≡ other) × (text ≡ more) × (last ≡ end)
-same_between first text last other more end front head back tail same =
-    let fronts = same_sized first other (text ++ last) (more ++ end) (front ∙ sym head) same in
-    let size : length text ≡ length more = omega (arith, ap length fronts.1, length-append text last, length-append more end) in
-    let backs = same_sized text more last end size fronts.1 in
-    (fronts.0, backs.0, backs.1)
+same_between first text last other more end front head back tail same = grind (arith, same_sized, length-append {A = ℕ})
 
 one_pin_letters : (letters : List ℕ) (x y : PinKeys × List ℕ × List ℕ) → ArePinLetters letters x.0 x.1 x.2 → ArePinLetters letters y.0 y.1 y.2 → x ≡ y
 one_pin_letters letters (k, list, text) (other, others, more) a b =
@@ -83,13 +76,9 @@ one_pin_letters letters (k, list, text) (other, others, more) a b =
 -- letters whose indicators differ are no indicators around a text
 no_pin_letters : (letters first text last : List ℕ) → letters ≡ first ++ (text ++ last) → length first ≡ 10 → length last ≡ 10
     → (first ≢ last) ⊎ (slice_index first 0 ≢ slice_index first 1) → (x : PinKeys × List ℕ × List ℕ) → ¬ (ArePinLetters letters x.0 x.1 x.2)
-no_pin_letters letters first text last joined front back differ (k, list, more) are =
-    let ten = ten_letters k list are.six are.two in
-    let same = same_between first text last (indicators_with k list) more (indicators_with k list) front ten back ten (sym joined ∙ are.joined) in
-    elim differ [
-      | inl other ↦ other (same.0 ∙ sym same.2)
-      | inr two ↦ two (ap (λ ls. get_or ls 0 0) same.0 ∙ sym (ap (λ ls. get_or ls 1 0) same.0))
-    ]
+no_pin_letters letters first text last joined front back differ x are =
+    let ten = ten_letters x.0 x.1 are.six are.two in
+    grind (arith, same_between first text last (indicators_with x.0 x.1) x.2 (indicators_with x.0 x.1) front ten back ten)
 
 -- refused for the indicators, the external letters, the list or the chosen letter, or deciphered
 abbrev IsPinAnswer : Day → ℕ → List ℕ → Answer → Type 0
@@ -137,8 +126,7 @@ module _ (s : Day) (tell : TextsTellFirstParts) (numbers : NumbersAreWords) wher
 
   count_answer : {number : ℕ} {h : Heading} {letters : List ℕ} {fault : FormFault} → IsBodyFault s number h letters fault
       → IsJudged (length letters ≡ h.letters) (Err (CountWrong number)) (IsLettersAnswer s number h.indicator letters) (Err fault)
-  count_answer (InCount other is) = inl (other, ap Err is)
-  count_answer (InLetters counted is) = inr (counted, is)
+  count_answer a = grind arith
 
   part_fault : {number : ℕ} {expected : Option ℕ} {start : ℕ} {part : List ℕ} {fault : FormFault} → IsPartFault s number expected start part fault
       → IsPartAnswer number expected start part (Err fault)
@@ -194,9 +182,7 @@ module _ (s : Day) (tell : TextsTellFirstParts) (numbers : NumbersAreWords) wher
   -- no part is read where nothing is left
   none_left : (count : ℕ) (before : List (List ℕ)) (part : List ℕ) (behind : List (List ℕ)) (rest letters : List ℕ) → AreFirstParts (part ∷ behind) [] rest
       → ¬ (ArePartsRead s 1 count (before ++ part ∷ behind) letters)
-  none_left count before part behind rest letters (after, first, later) read =
-      let there = read_there 1 count before part behind letters read in
-      no_empty_heading s there.1.heading there.1.body (subst (λ p. HasHeading s p there.1.heading there.1.body) (empty_part part after first) there.1.has)
+  none_left count before part behind rest letters cut read = grind (arith, read_there 1, empty_part, no_empty_heading)
 
   -- ---- forms that are read to their end
 
@@ -232,11 +218,7 @@ module _ (s : Day) (tell : TextsTellFirstParts) (numbers : NumbersAreWords) wher
     -- a form that is read to its end has no part that is refused
     whole_not_refused : (parts : List (List ℕ)) (other : ℕ) (letters : List ℕ) (t : Turn s form) (fault : FormFault) → parts ≢ []
         → IsReadTo s form [] parts other letters → ¬ (IsRefusedPart s form t fault)
-    whole_not_refused parts other letters t fault some whole refused = elim (cuts form parts t.before [] t.rest whole.cut t.read.cut) [
-      | Alike same left ↦ elim t.left [ inl none ↦ some (same ∙ none) | inr some_left ↦ some_left (sym left) ]
-      | Further part behind further cut ↦ none_left t.count parts part behind t.rest t.letters cut (rw further at t.read.read)
-      | Before part behind further cut ↦ not_refused t fault part behind other letters [] cut (rw further at whole.read) refused
-    ]
+    whole_not_refused parts other letters t fault some whole refused = grind (arith, cuts, none_left, not_refused)
 
     -- what is said at one place
     said_alike : (Says : ℕ → Option ℕ → ℕ → List ℕ → Type 0) (t u : Turn s form) → t.before ≡ u.before → t.rest ≡ u.rest → AtTurn Says t → AtTurn Says u
@@ -247,28 +229,11 @@ module _ (s : Day) (tell : TextsTellFirstParts) (numbers : NumbersAreWords) wher
         rw (due, part, left, ap length same) at is
 
     one_refused : (t u : Turn s form) (fault found : FormFault) → IsRefusedPart s form t fault → IsRefusedPart s form u found → fault ≡ found
-    one_refused t u fault found a b = elim (cuts form t.before u.before t.rest u.rest t.read.cut u.read.cut) [
-      | Alike same left ↦
-          let both : Err fault ≡ Err found =
-          only_part _ _ _ u.part (Err fault) (Err found)
-          (part_fault (said_alike (λ number expected start part. IsPartFault s number expected start part fault) t u same left a)) (part_fault b) in
-          cc
-      | Further part behind further cut ↦ absurd (not_refused t fault part behind u.count u.letters u.rest cut (rw further at u.read.read) a)
-      | Before part behind further cut ↦ absurd (not_refused u found part behind t.count t.letters t.rest cut (rw further at t.read.read) b)
-    ]
+    one_refused t u fault found a b = grind (arith, cuts, only_part, part_fault, said_alike, not_refused)
 
     -- where the last part is in turn, only it can be refused
     same_turn : (t u : Turn s form) (fault : FormFault) → t.after ≡ [] → IsRefusedPart s form u fault → (t.before ≡ u.before) × (t.rest ≡ u.rest)
-    same_turn t u fault last refused = elim (cuts form t.before u.before t.rest u.rest t.read.cut u.read.cut) [
-      | Alike same left ↦ (same, left)
-      | Further part behind further (after, first, later) ↦
-          let none : after ≡ [] = (one_cut t.rest part after t.part t.after first t.first).1 ∙ last in
-          absurd (elim u.left [
-            | inl empty ↦ omega (arith, ap length (sym further ∙ empty), length-append t.before (part ∷ behind))
-            | inr some ↦ some (nothing_left behind after u.rest none later)
-          ])
-      | Before part behind further cut ↦ absurd (not_refused u fault part behind t.count t.letters t.rest cut (rw further at t.read.read) refused)
-    ]
+    same_turn t u fault last refused = grind (arith, cuts, one_cut, length-append {A = List ℕ}, nothing_left, not_refused)
 
     -- ---- one answer
 
@@ -330,14 +295,4 @@ begins_by_parts s form rest (part ∷ before) count letters numbers read may =
 pub nothing_stands : (s : Day) (form : List ℕ) (t : Turn s form) → TextsTellFirstParts → NumbersAreWords → t.after ≡ []
     → MayBegin t.rest → ((fault : FormFault) (line body : List ℕ) → IsFirstPart 10 t.part line body → ¬ (IsRefusedEarly s form t fault))
     → (text : List ℕ) (fault : FormFault) → ¬ (IsRefusedForGood s form text fault)
-nothing_stands s form t tell numbers last may early text fault (NoHeading none empty is) =
-    let begins = begins_by_parts s form t.rest t.before t.count t.letters numbers t.read may in
-    none begins.0 begins.1
-nothing_stands s form t tell numbers last may early text fault (InWhole u some refused is) =
-    let same = same_turn s tell numbers form t u fault last refused in
-    some ((one_cut t.rest u.part u.after t.part t.after (rw (same.1) u.first) t.first).1 ∙ last)
-nothing_stands s form t tell numbers last may early text fault (InLast u line body end broken refused is) =
-    let same = same_turn s tell numbers form t u fault last (inl refused) in
-    let part : u.part ≡ t.part = (one_cut t.rest u.part u.after t.part t.after (rw (same.1) u.first) t.first).0 in
-    early fault line body (rw part at broken)
-    (said_alike s tell numbers form (λ number expected start part. IsEarlyFault s number expected start part fault) u t (sym same.0) (sym same.1) refused)
+nothing_stands s form t tell numbers last may early text fault is = grind (arith, begins_by_parts, same_turn, one_cut, said_alike)

@@ -57,9 +57,7 @@ gives_none : Gives [] []
 gives_none = record { allowed = All-nil (λ b. IsTrue (is_text_byte b)); gives = refl }
 
 letter_told : (letter : ℕ) → letter < 26 → IsTrue (is_text_byte (letter + 65)) × (letter_of_byte None (letter + 65) ≡ Some letter)
-letter_told letter less =
-    let back : letter + 65 - 65 ≡ letter = omega arith in
-    (grind (arith, nat_tests), grind (arith, nat_tests))
+letter_told letter less = grind (arith, nat_tests)
 
 gives_word : (letters : List ℕ) → AreOfTheAlphabet letters → Gives (letters_text letters) letters
 gives_word [] are = gives_none
