@@ -46,9 +46,8 @@ filled_behind front rest whole = grind (arith, length-append {A = ℕ}, append_a
 
 filled_pieces : (letters : List ℕ) → filled (take 500 letters) ++ filled (drop 500 letters) ≡ filled letters
 filled_pieces letters = elim (cases_lt (length letters) 500) [
-  | inl short ↦ rw (take_all 500 letters (omega arith), drop_all 500 letters (omega arith)) (append-nil (filled letters))
-  | inr long ↦
-      filled_behind (take 500 letters) (drop 500 letters) (ap (λ n. n % 5) (length-take-le 500 letters long)) ∙ ap filled (take-append-drop 500 letters)
+  | inl short ↦ grind (arith, take_all 500 letters, drop_all 500 letters, append-nil (filled letters))
+  | inr long ↦ grind (arith, filled_behind (take 500 letters) (drop 500 letters), length-take-le 500 letters, take-append-drop 500 letters)
 ]
 
 sent_joined : (s : Day) (letters : List ℕ)

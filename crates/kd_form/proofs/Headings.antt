@@ -259,9 +259,8 @@ ended_size : (text line : List ℕ) → IsEnded text (line ++ 10 ∷ []) → len
 ended_size text line ended = grind (arith, length-append {A = ℕ})
 
 ended_text : (words line text : List ℕ) → IsWithout 13 words → IsEnded words (line ++ 10 ∷ []) → IsLineText line text → words ≡ text
-ended_text words line text free (inl short) (WithReturn is) =
-    absurd (has_byte 13 text [] (subst (IsWithout 13) (sym (append_cancel_right line words (10 ∷ []) short) ∙ is) free))
-ended_text words line text free (inl short) (WithoutReturn is other) = sym (append_cancel_right line words (10 ∷ []) short) ∙ sym is
+ended_text words line text free (inl short) cut =
+    let same = append_cancel_right line words (10 ∷ []) short in grind (arith, has_byte 13 text [])
 ended_text words line text free (inr long) cut =
     let same : line ≡ words ++ 13 ∷ [] = append_cancel_right line (words ++ 13 ∷ []) (10 ∷ []) (long ∙ sym (append_assoc words (13 ∷ []) (10 ∷ []))) in
     elim cut [ WithReturn is ↦ append_cancel_right words text (13 ∷ []) (sym same ∙ is) | WithoutReturn is other ↦ absurd (other words same) ]
@@ -291,11 +290,10 @@ ended_told s found part line text (Some h) tell has cut told unbroken kept =
 -- the count of letters, and the indicator behind it
 one_end : (s : Day) (count found : ℕ) (i j : Option Indicator) → count < 2 ^ 64 → found < 2 ^ 64 → HasIndicator s i → HasIndicator s j
     → line_of (decimal count ∷ indicator_words i) ≡ line_of (decimal found ∷ indicator_words j) → (count ≡ found) × (i ≡ j)
-one_end s count found (Some i) (Some j) small little has had same =
+one_end (OfRotors s) count found (Some i) (Some j) small little has had same =
     let counts = one_number count found 32 _ _ small little (omega arith) same in
     let starts = same_word i.start j.start _ _ counts.1 in
-    let keys = same_letters i.key j.key starts.1 in
-    (counts.0, λ k. Some (record { start = starts.0 k; key = keys k }))
+    grind (arith, counts.0, starts.0, same_letters i.key j.key starts.1)
 one_end s count found None None small little has had same = (decimal_injective count found small little same, refl)
 one_end (OfRotors s) count found _ _ small little has had same = search
 one_end (OfPins s) count found _ _ small little has had same = search

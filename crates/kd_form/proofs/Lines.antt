@@ -55,12 +55,8 @@ one_letter mark byte pattern fit = elim (cases_Bool (mark == 95)) [
   | inl blank ↦
       let told = rw blank at fit in
       let range : (65 ≤ byte) × (byte ≤ 90) = grind (arith, nat_tests) in
-      let back : byte - 65 + 65 ≡ byte = omega arith in
-      rw blank (omega arith, All-cons (λ l. l < 26) (byte - 65) [] (omega arith) (All-nil (λ l. l < 26)), λ more. ap (λ b. b ∷ filled_in pattern more) back)
-  | inr other ↦
-      let told = rw other at fit in
-      let same : mark ≡ byte = grind (arith, nat_tests) in
-      rw other (omega arith, All-nil (λ l. l < 26), λ more. ap (λ b. b ∷ filled_in pattern more) same)
+      rw blank (omega arith, All-cons (λ l. l < 26) (byte - 65) [] (omega arith) (All-nil (λ l. l < 26)), λ more. grind arith)
+  | inr other ↦ let told = rw other at fit in rw other (omega arith, All-nil (λ l. l < 26), λ more. grind (arith, nat_tests))
 ]
 
 pub filling_more : (pattern bytes letters more : List ℕ) (place mark byte : ℕ) → IsFilling pattern bytes place letters → place < length pattern → place < length bytes
@@ -69,20 +65,12 @@ pub filling_more : (pattern bytes letters more : List ℕ) (place mark byte : �
 filling_more pattern bytes letters more place mark byte filling below inside marked read fit put =
     let rest : List ℕ = drop (place + 1) pattern in
     let (counts, within, fills) = one_letter mark byte rest fit in
-    let left : drop place pattern ≡ mark ∷ rest = drop_more pattern place 0 below ∙ ap (λ m. m ∷ rest) marked in
-    let further : take (place + 1) bytes ≡ take place bytes ++ byte ∷ [] = take_more bytes place 0 inside ∙ ap (λ b. take place bytes ++ b ∷ []) read in
+    let left : drop place pattern ≡ mark ∷ rest = cc (drop_more pattern place 0 below) in
     rw put (record {
       inside = omega arith;
       counted = omega (arith, length-append letters (letters_at mark byte), filling.counted, counts, ap blanks left);
       within = All-append (λ l. l < 26) letters (letters_at mark byte) filling.within within;
-      filled = λ after. cc (
-        append_assoc letters (letters_at mark byte) after,
-        filling.filled (letters_at mark byte ++ after),
-        left,
-        fills after,
-        further,
-        append_assoc (take place bytes) (byte ∷ []) (filled_in rest after),
-      );
+      filled = λ after. grind (arith, append_assoc {A = ℕ}, filling.filled (letters_at mark byte ++ after), left, fills after, take_more bytes place 0 inside);
     })
 
 -- ---- where the bytes don't go on as a line
@@ -128,8 +116,7 @@ line_fits pattern line i inside is =
 -- a byte doesn't fit its mark
 pub line_off : (pattern bytes : List ℕ) (place : ℕ) → place < length pattern → place < length bytes
     → fits (get_or pattern place 0) (get_or bytes place 0) ≡ false → BreaksOff (IsPatternLine pattern) bytes Off
-line_off pattern bytes place below inside unfit = λ more line. false≢true (sym unfit
-    ∙ ap (fits (get_or pattern place 0)) (sym (get_or-append bytes more 0 place inside)) ∙ line_fits pattern (bytes ++ more) place below line)
+line_off pattern bytes place below inside unfit = λ more line. grind (arith, get_or-append {A = ℕ}, line_fits pattern (bytes ++ more) place below line)
 
 -- the pattern is filled, and this follows
 module _ (pattern bytes letters tail : List ℕ) (place : ℕ) (filling : IsFilling pattern bytes place letters) (all : place ≡ length pattern)
@@ -138,9 +125,16 @@ module _ (pattern bytes letters tail : List ℕ) (place : ℕ) (filling : IsFill
   none_left = drop_all place pattern (omega arith)
 
   line_with : (more : List ℕ) → bytes ++ more ≡ filled_in pattern letters ++ (tail ++ more)
-  line_with more =
-      let whole : filled_in pattern letters ≡ take place bytes = cc (filling.filled [], none_left, append-nil letters, append-nil (take place bytes)) in
-      ap (λ b. b ++ more) (sym (take-append-drop place bytes) ∙ cc (all, cut, whole)) ∙ append_assoc (filled_in pattern letters) tail more
+  line_with more = cc (
+    append_assoc (filled_in pattern letters) tail more,
+    take-append-drop place bytes,
+    all,
+    cut,
+    filling.filled [],
+    none_left,
+    append-nil letters,
+    append-nil (take place bytes),
+  )
 
   line_ends : (more : List ℕ) → IsEnded [] (tail ++ more) → IsFilledLine pattern letters (bytes ++ more)
   line_ends more ended = record {

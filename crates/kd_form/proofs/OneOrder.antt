@@ -80,8 +80,7 @@ one_part s part parts (Pin k) text one other (made, (internal, first, is), bytes
 one_form : (s : Day) (part parts : ℕ) (keys : List Keys) (texts : List (List ℕ)) → IsOnly (AreMadeTexts s part parts keys texts)
 one_form s part parts [] [] form other a b = a ∙ sym b
 one_form s part parts (k ∷ keys) (text ∷ texts) form other (one, more, made, mades, joined) (two, rest, again, agains, linked) =
-    let first = one_part s part parts k text one two made again in
-    let later = one_form s (part + 1) parts keys texts more rest mades agains in cc
+    cc (one_part s part parts k text one two made again, one_form s (part + 1) parts keys texts more rest mades agains, joined, linked)
 one_form s part parts _ _ form other a b = absurd a
 
 -- ---- one line of keys
@@ -103,12 +102,10 @@ same_keys s (Rotor k) (Rotor other) are also same =
     let one = same_word k.start other.start _ _ (ap (drop 5) same) in
     let two = same_word k.key other.key _ _ one.1 in
     let three = same_word k.fillers other.fillers _ _ two.1 in
-    let four = same_letters k.group other.group three.1 in
-    λ i. Rotor (record { start = one.0 i; key = two.0 i; fillers = three.0 i; group = four i })
+    grind (arith, one.0, two.0, three.0, same_letters k.group other.group three.1)
 same_keys s (Pin k) (Pin other) are also same =
     let one = same_word (k.chosen ∷ []) (other.chosen ∷ []) _ _ (ap (drop 5) same) in
-    let two = same_letters k.external other.external one.1 in
-    λ i. Pin (record { chosen = get_or (one.0 i) 0 0; external = two i })
+    grind (arith, one.0, same_letters k.external other.external one.1)
 same_keys (OfRotors s) _ _ are also same = search
 same_keys (OfPins s) _ _ are also same = search
 
@@ -272,8 +269,7 @@ IsOrderAnswer s order v =
 only_order : (s : Day) (order : List ℕ) → TextsTellFirstParts → IsOnly (IsOrderAnswer s order)
 only_order s order tell =
     only_either (only_found (one_place s order) (λ position. only_this))
-    (only_found (λ (keys, head, text) (others, other, more) a b. let same = one_order s order keys others head other text more tell a b in
-    λ i. (same.keys_are i, same.head_is i, same.text_is i))
+    (only_found (λ x y a b. grind (arith, one_order s order x.0 y.0 x.1 y.1 x.2 y.2 tell a b))
     (λ (keys, head, text). only_caught (first_keys_fault s keys) (no_keys_fault s keys) (only_caught (one_bad_byte text) (no_bad_byte text)
     (only_judged (only_judged (only_found (one_form s 1 (length keys) keys (pieces (part_size s) (text_letters s text))) (λ form. only_this)))))))
     (λ v w a b. no_head_fault s order b.0.0 b.0.1 b.0.2 a.0 tell b.1 a.1)
@@ -311,9 +307,9 @@ pub nothing_stands : TextsTellFirstParts → (s : Day) (order : List ℕ) (keys 
     → All (Suits s) keys → All (λ x. IsTrue (is_text_byte x)) text → ¬ (StandsInOrder s order fault)
 nothing_stands tell s order keys head text fault o suited allowed (InHead p h few e) = no_head_fault s order keys head text p tell o h
 nothing_stands tell s order keys head text fault o suited allowed (InKeys ks hd t q k) =
-    let same = one_order s order keys ks head hd text t tell o q in no_keys_fault s ks fault (rw (same.keys_are) at suited) k
+    no_keys_fault s ks fault (rw ((one_order s order keys ks head hd text t tell o q).keys_are) at suited) k
 nothing_stands tell s order keys head text fault o suited allowed (InText ks hd t n q su b e) =
-    let same = one_order s order keys ks head hd text t tell o q in no_bad_byte t n (rw (same.text_is) at allowed) b
+    no_bad_byte t n (rw ((one_order s order keys ks head hd text t tell o q).text_is) at allowed) b
 
 -- and in one that ends in its head
 pub nothing_stands_yet : TextsTellFirstParts → (s : Day) (order : List ℕ) (fault : FormFault) → IsHeadFault s order (length order + 1) → ¬ (StandsInOrder s order fault)

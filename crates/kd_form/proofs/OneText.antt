@@ -218,7 +218,11 @@ module _ (s : Day) (tell : TextsTellFirstParts) (numbers : NumbersAreWords) wher
     -- a form that is read to its end has no part that is refused
     whole_not_refused : (parts : List (List ℕ)) (other : ℕ) (letters : List ℕ) (t : Turn s form) (fault : FormFault) → parts ≢ []
         → IsReadTo s form [] parts other letters → ¬ (IsRefusedPart s form t fault)
-    whole_not_refused parts other letters t fault some whole refused = grind (arith, cuts, none_left, not_refused)
+    whole_not_refused parts other letters t fault some whole refused = elim (cuts form parts t.before [] t.rest whole.cut t.read.cut) [
+      | Alike same left ↦ elim t.left [ inl none ↦ some (same ∙ none) | inr some_left ↦ some_left (sym left) ]
+      | Further part behind further cut ↦ none_left t.count parts part behind t.rest t.letters cut (rw further at t.read.read)
+      | Before part behind further cut ↦ not_refused t fault part behind other letters [] cut (rw further at whole.read) refused
+    ]
 
     -- what is said at one place
     said_alike : (Says : ℕ → Option ℕ → ℕ → List ℕ → Type 0) (t u : Turn s form) → t.before ≡ u.before → t.rest ≡ u.rest → AtTurn Says t → AtTurn Says u
@@ -229,11 +233,28 @@ module _ (s : Day) (tell : TextsTellFirstParts) (numbers : NumbersAreWords) wher
         rw (due, part, left, ap length same) at is
 
     one_refused : (t u : Turn s form) (fault found : FormFault) → IsRefusedPart s form t fault → IsRefusedPart s form u found → fault ≡ found
-    one_refused t u fault found a b = grind (arith, cuts, only_part, part_fault, said_alike, not_refused)
+    one_refused t u fault found a b = elim (cuts form t.before u.before t.rest u.rest t.read.cut u.read.cut) [
+      | Alike same left ↦
+          let both : Err fault ≡ Err found =
+          only_part _ _ _ u.part (Err fault) (Err found)
+          (part_fault (said_alike (λ number expected start part. IsPartFault s number expected start part fault) t u same left a)) (part_fault b) in
+          cc
+      | Further part behind further cut ↦ absurd (not_refused t fault part behind u.count u.letters u.rest cut (rw further at u.read.read) a)
+      | Before part behind further cut ↦ absurd (not_refused u found part behind t.count t.letters t.rest cut (rw further at t.read.read) b)
+    ]
 
     -- where the last part is in turn, only it can be refused
     same_turn : (t u : Turn s form) (fault : FormFault) → t.after ≡ [] → IsRefusedPart s form u fault → (t.before ≡ u.before) × (t.rest ≡ u.rest)
-    same_turn t u fault last refused = grind (arith, cuts, one_cut, length-append {A = List ℕ}, nothing_left, not_refused)
+    same_turn t u fault last refused = elim (cuts form t.before u.before t.rest u.rest t.read.cut u.read.cut) [
+      | Alike same left ↦ (same, left)
+      | Further part behind further (after, first, later) ↦
+          let none : after ≡ [] = (one_cut t.rest part after t.part t.after first t.first).1 ∙ last in
+          absurd (elim u.left [
+            | inl empty ↦ omega (arith, ap length (sym further ∙ empty), length-append t.before (part ∷ behind))
+            | inr some ↦ some (nothing_left behind after u.rest none later)
+          ])
+      | Before part behind further cut ↦ absurd (not_refused u fault part behind t.count t.letters t.rest cut (rw further at t.read.read) refused)
+    ]
 
     -- ---- one answer
 
@@ -295,4 +316,14 @@ begins_by_parts s form rest (part ∷ before) count letters numbers read may =
 pub nothing_stands : (s : Day) (form : List ℕ) (t : Turn s form) → TextsTellFirstParts → NumbersAreWords → t.after ≡ []
     → MayBegin t.rest → ((fault : FormFault) (line body : List ℕ) → IsFirstPart 10 t.part line body → ¬ (IsRefusedEarly s form t fault))
     → (text : List ℕ) (fault : FormFault) → ¬ (IsRefusedForGood s form text fault)
-nothing_stands s form t tell numbers last may early text fault is = grind (arith, begins_by_parts, same_turn, one_cut, said_alike)
+nothing_stands s form t tell numbers last may early text fault (NoHeading none empty is) =
+    let begins = begins_by_parts s form t.rest t.before t.count t.letters numbers t.read may in
+    none begins.0 begins.1
+nothing_stands s form t tell numbers last may early text fault (InWhole u some refused is) =
+    let same = same_turn s tell numbers form t u fault last refused in
+    some ((one_cut t.rest u.part u.after t.part t.after (rw (same.1) u.first) t.first).1 ∙ last)
+nothing_stands s form t tell numbers last may early text fault (InLast u line body end broken refused is) =
+    let same = same_turn s tell numbers form t u fault last (inl refused) in
+    let part : u.part ≡ t.part = (one_cut t.rest u.part u.after t.part t.after (rw (same.1) u.first) t.first).0 in
+    early fault line body (rw part at broken)
+    (said_alike s tell numbers form (λ number expected start part. IsEarlyFault s number expected start part fault) u t (sym same.0) (sym same.1) refused)
