@@ -125,16 +125,7 @@ module _ (pattern bytes letters tail : List ℕ) (place : ℕ) (filling : IsFill
   none_left = drop_all place pattern (omega arith)
 
   line_with : (more : List ℕ) → bytes ++ more ≡ filled_in pattern letters ++ (tail ++ more)
-  line_with more = cc (
-    append_assoc (filled_in pattern letters) tail more,
-    take-append-drop place bytes,
-    all,
-    cut,
-    filling.filled [],
-    none_left,
-    append-nil letters,
-    append-nil (take place bytes),
-  )
+  line_with more = grind (arith, append_assoc {A = ℕ}, take-append-drop place bytes, filling.filled [], none_left, append-nil {A = ℕ})
 
   line_ends : (more : List ℕ) → IsEnded [] (tail ++ more) → IsFilledLine pattern letters (bytes ++ more)
   line_ends more ended = record {

@@ -133,9 +133,7 @@ one_read s (k ∷ keys) [] text more bytes all alls one other = absurd (not_both
 one_read s (k ∷ keys) (j ∷ others) text more bytes all alls (line, rest, is, later, joined) (first, left, also, latter, linked) =
     let lines = same_line (line_of (key_words k)) (line_of (key_words j)) line first rest left (plain_keys k) (plain_keys j) is also (sym joined ∙ linked) in
     let one = same_keys s k j (All-head (AreKeys s) k keys all) (All-head (AreKeys s) j others alls) lines.0 in
-    let behind = one_read s keys others text more rest (All-tail (AreKeys s) k keys all) (All-tail (AreKeys s) j others alls) later
-    (subst (AreRead others more) (sym lines.2) latter) in
-    (cc, behind.1)
+    grind (arith, lines.1, one, one_read s keys others text more rest (All-tail (AreKeys s) k keys all) (All-tail (AreKeys s) j others alls) later)
 
 pub record IsSameOrder (keys others : List Keys) (head other text more : List ℕ) : Type 0 where
   pub keys_are : keys ≡ others
@@ -152,11 +150,7 @@ pub one_order : (s : Day) (order : List ℕ) (keys others : List Keys) (head oth
 one_order s order keys others head other text more tell a b =
     let same = one_read s keys others text more order a.is_head.of_the_day b.is_head.of_the_day (order_read s order keys head text a)
     (order_read s order others other more b) in
-    record {
-      keys_are = same.0;
-      head_is = append_cancel_right head other text (sym a.joined ∙ b.joined ∙ ap (λ t. other ++ t) (sym same.1));
-      text_is = same.1;
-    }
+    record { keys_are = same.0; head_is = append_cancel_right head other text (cc (a.joined, b.joined, same.1)); text_is = same.1 }
 
 -- -------- an order has a form, or one fault
 
@@ -182,9 +176,9 @@ pub no_head_fault : (s : Day) (order : List ℕ) (keys : List Keys) (head text :
 no_head_fault s order keys head text position tell is fault =
     elim (fronts head text fault.before fault.rest (sym is.joined ∙ fault.joined)) [
       | Shorter more longer rest ↦
-          let whole : fault.before ++ fault.more ≡ head ++ (more ++ fault.more) = ap (λ l. l ++ fault.more) longer ∙ append_assoc head more fault.more in
           let same = one_order s (fault.before ++ fault.more) keys fault.keys head (fault.before ++ fault.more) (more ++ fault.more) [] tell
-          (record { joined = whole; is_head = is.is_head }) (record { joined = sym (append-nil (fault.before ++ fault.more)); is_head = fault.begins }) in
+          (record { joined = cc (longer, append_assoc head more fault.more); is_head = is.is_head })
+          (record { joined = sym (append-nil (fault.before ++ fault.more)); is_head = fault.begins }) in
           fault.missing (nothing_more more fault.more same.text_is)
       | Longer byte more longer rest ↦ fault.stops byte (more ++ text) keys more rest (subst (IsHead s keys) longer is.is_head)
     ]
@@ -198,7 +192,7 @@ not_later s order one other byte more a b longer rest =
 
 one_place : (s : Day) (order : List ℕ) → IsOnly (IsHeadFault s order)
 one_place s order one other a b = elim (fronts a.before a.rest b.before b.rest (sym a.joined ∙ b.joined)) [
-  | Shorter [] longer rest ↦ a.size ∙ ap (λ l. length l + 1) (sym (longer ∙ append-nil a.before)) ∙ sym b.size
+  | Shorter [] longer rest ↦ cc (a.size, b.size, longer, append-nil a.before)
   | Shorter (byte ∷ more) longer rest ↦ absurd (not_later s order one other byte more a b longer rest)
   | Longer byte more longer rest ↦ absurd (not_later s order other one byte more b a longer rest)
 ]
@@ -217,8 +211,7 @@ first_keys_fault : (s : Day) (keys : List Keys) → IsOnly (IsFirstKeysFault s k
 first_keys_fault s keys fault other a b =
     let same = same_front (Suits s) a.before b.before (a.unsuited ∷ a.others) (b.unsuited ∷ b.others) a.suited b.suited
     (suits_or_not s a.unsuited _ fault a.is) (suits_or_not s b.unsuited _ other b.is) (sym a.joined ∙ b.joined) in
-    let first : a.unsuited ≡ b.unsuited = cc (same.1) in
-    one_keys_fault s (length b.before + 1) b.unsuited fault other (rw (same.0, first) at a.is) b.is
+    grind (arith, same, one_keys_fault s (length b.before + 1) b.unsuited fault other)
 
 pub no_keys_fault : (s : Day) (keys : List Keys) (fault : FormFault) → All (Suits s) keys → ¬ (IsFirstKeysFault s keys fault)
 no_keys_fault s keys fault all is =
@@ -283,10 +276,8 @@ fault_answer s order fault (inl (InHead position is few e)) = inl (position, is,
 fault_answer s order fault (inl (InKeys keys head text is k)) = inr ((keys, head, text), is, inl (fault, k, refl))
 fault_answer s order fault (inl (InText keys head text place is suited bad e)) = inr ((keys, head, text), is, inr (suited, inl (place, bad, ap Err e)))
 fault_answer s order fault (inr (Cut is e)) = inl (length order + 1, is, ap Err e)
-fault_answer s order fault (inr (NoLetter keys head text is suited allowed none e)) =
-    inr ((keys, head, text), is, inr (suited, inr (allowed, inl (λ some. some none, ap Err e))))
-fault_answer s order fault (inr (InParts keys head text is suited allowed some differ e)) =
-    inr ((keys, head, text), is, inr (suited, inr (allowed, inr (some, inl (differ, ap Err e)))))
+fault_answer s order fault (inr (NoLetter keys head text is suited allowed none e)) = inr ((keys, head, text), is, grind arith)
+fault_answer s order fault (inr (InParts keys head text is suited allowed some differ e)) = inr ((keys, head, text), is, grind arith)
 
 pub orders_become_one_form : TextsTellFirstParts → OrdersBecomeOneForm
 orders_become_one_form tell s order form other a b =

@@ -147,7 +147,7 @@ module _ (s : Day) (tell : TextsTellFirstParts) (numbers : NumbersAreWords) wher
   one_text {number} {part = part} {text = text} {other = other} a b =
       let headings = one_heading s part a.heading b.heading a.body b.body tell numbers a.has b.has in
       let texts : Ok text ≡ Ok other = only_part number None 0 part (Ok text) (Ok other) (part_read None 0 a tt) (part_read None 0 b tt) in
-      (sym a.so_many ∙ ap (λ h. h.parts) headings.0 ∙ b.so_many, cc)
+      (cc (a.so_many, b.so_many, headings.0), cc)
 
   -- -------- a form becomes one text, or has one fault
 
@@ -219,7 +219,7 @@ module _ (s : Day) (tell : TextsTellFirstParts) (numbers : NumbersAreWords) wher
     whole_not_refused : (parts : List (List ℕ)) (other : ℕ) (letters : List ℕ) (t : Turn s form) (fault : FormFault) → parts ≢ []
         → IsReadTo s form [] parts other letters → ¬ (IsRefusedPart s form t fault)
     whole_not_refused parts other letters t fault some whole refused = elim (cuts form parts t.before [] t.rest whole.cut t.read.cut) [
-      | Alike same left ↦ elim t.left [ inl none ↦ some (same ∙ none) | inr some_left ↦ some_left (sym left) ]
+      | Alike same left ↦ grind arith
       | Further part behind further cut ↦ none_left t.count parts part behind t.rest t.letters cut (rw further at t.read.read)
       | Before part behind further cut ↦ not_refused t fault part behind other letters [] cut (rw further at whole.read) refused
     ]
@@ -310,7 +310,7 @@ begins_by_parts s form rest [] count letters numbers read may = rw (read.cut) ma
 begins_by_parts s form rest (part ∷ before) count letters numbers read may =
     let cut = read.cut in
     let is = read.read in
-    ([], subst BeginsHeading (sym (cut.1.joined) ∙ sym (append-nil form)) (begins_more part cut.0 (begins_there s part is.2.heading is.2.body numbers is.2.has)))
+    ([], grind (arith, append-nil form, begins_more part cut.0, begins_there s part is.2.heading is.2.body numbers is.2.has))
 
 -- its last part isn't whole, and isn't refused as far as it has come: then nothing refuses it for good
 pub nothing_stands : (s : Day) (form : List ℕ) (t : Turn s form) → TextsTellFirstParts → NumbersAreWords → t.after ≡ []
