@@ -1,5 +1,5 @@
 -- A form is cut into parts in one way.
-use Rattle.std.proofs.Common.{◌≡◌, ℕ, ◌+◌, ◌-◌, ◌≤◌, inl, inr, List, [], ◌∷◌, ◌++◌, length, drop, get_or, refl, sym, ap, subst, ◌∙◌, length-append, arith, ◌⊎◌, zero, suc, ◌<◌, take, ltb, slice_index, codes, Bool, ◌&&◌, Decides, bytes_eq}
+use Rattle.std.proofs.Common.{◌≡◌, ℕ, ◌+◌, ◌-◌, ◌≤◌, inl, inr, List, [], ◌∷◌, ◌++◌, length, drop, get_or, refl, sym, ap, subst, ◌∙◌, length-append, arith, ◌⊎◌, ◌<◌, take, ltb, slice_index, codes, Bool, ◌&&◌, Decides, bytes_eq}
 use Rattle.std.proofs.Math.Seq.{drop-append_seam}
 use Rattle.std.proofs.lemmas.List.{append-nil, take-append-drop, drop_more, get_or_past}
 use Rattle.kd_form.specs.FormParts.{BeginsHeading, IsFirstOf}

@@ -1,5 +1,5 @@
 -- An order is read in one way, and becomes one form, or has one fault.
-use Rattle.std.proofs.Common.{◌≡◌, ◌≢◌, ℕ, ◌+◌, inl, inr, List, [], ◌∷◌, ◌++◌, length, map, get_or, refl, sym, ap, subst, ◌∙◌, append_assoc, arith, Err, Ok, Result, drop, ◌≤◌, ◌⊎◌, codes, All, slice_index, IsTrue, IsFalse}
+use Rattle.std.proofs.Common.{◌≡◌, ◌≢◌, ℕ, ◌+◌, inl, inr, List, [], ◌∷◌, ◌++◌, length, map, refl, sym, ap, subst, ◌∙◌, append_assoc, arith, Err, Ok, Result, drop, ◌≤◌, ◌⊎◌, codes, All, slice_index, IsTrue, IsFalse}
 use Rattle.std.proofs.lemmas.List.{append_cancel_right, append-nil}
 use Rattle.std.proofs.lemmas.List.Elements.{All-head, All-tail, All-map}
 use Rattle.kd_tables.specs.Text.{letters_text, is_text_byte}

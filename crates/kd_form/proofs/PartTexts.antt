@@ -1,5 +1,5 @@
 -- The text of a part: its letters in groups and lines.
-use Rattle.std.proofs.Common.{◌≡◌, ℕ, zero, suc, ◌+◌, ◌-◌, ◌<◌, ◌≤◌, ◌⊎◌, inl, List, [], ◌∷◌, ◌++◌, length, take, drop, refl, sym, ap, subst, ◌∙◌, append_assoc, length-drop, arith, get_or, ◌≢◌, map, All, IsTrue, Some, None, codes, false, append-nil, take-append-drop}
+use Rattle.std.proofs.Common.{◌≡◌, ℕ, zero, suc, ◌+◌, ◌<◌, ◌≤◌, ◌⊎◌, inl, List, [], ◌∷◌, ◌++◌, length, take, drop, refl, sym, ap, subst, ◌∙◌, append_assoc, length-drop, arith, get_or, ◌≢◌, map, All, IsTrue, Some, None, codes, false, append-nil, take-append-drop}
 use Rattle.std.specs.List.{flat_map, cons_option}
 use Rattle.std.proofs.lemmas.Bool.Decides.{nat_tests}
 use Rattle.std.proofs.lemmas.List.Elements.{All-nil, All-cons, All-head, All-tail, All-append, All-push, All-take, All-drop, filter_map-append, All-get_or}

@@ -1,5 +1,5 @@
 -- The letters of a text, byte by byte.
-use Rattle.std.proofs.Common.{◌≡◌, ℕ, ◌≤◌, List, ◌∷◌, ◌++◌, length, refl, arith, Option, Some, None, option_to_list}
+use Rattle.std.proofs.Common.{◌≡◌, ℕ, ◌≤◌, List, ◌∷◌, ◌++◌, length, arith, Option, option_to_list}
 use Rattle.std.specs.List.{cons_option}
 use Rattle.kd_form.specs.Sending.{letter_of_byte, letters_from}
 
