@@ -50,7 +50,8 @@ fraction_from part parts small few =
 one_number : (number found byte : ℕ) (rest more : List ℕ) → number < 2 ^ 64 → found < 2 ^ 64 → byte < 48
     → decimal number ++ byte ∷ rest ≡ decimal found ++ byte ∷ more → (number ≡ found) × (rest ≡ more)
 one_number number found byte rest more small little low same =
-    let both = same_front (λ b. 48 ≤ b) _ _ (byte ∷ rest) (byte ∷ more) (number_from number small) (number_from found little) (omega arith) (omega arith) same in
+    let both = same_front (λ b. 48 ≤ b) (decimal number) (decimal found) (byte ∷ rest) (byte ∷ more) (number_from number small) (number_from found little)
+    (omega arith) (omega arith) same in
     (decimal_injective number found small little both.0, ap (drop 1) both.1)
 
 pub fraction_parts : (word one other : List ℕ) (part parts : ℕ) → TextsTellFirstParts → IsFraction part parts → IsFirstPart 47 word one other
@@ -78,7 +79,8 @@ pub capital_at : (word others : List ℕ) (index : ℕ) → index < length word 
     → (65 ≤ get_or word index 0) × (get_or word index 0 ≤ 90)
 capital_at word others index inside are same =
     let within : index < length others = omega (arith, ap length same, length-map others (λ l. l + 65)) in
-    omega (arith, All-get_or (λ l. l < 26) others index 0 within are.within, ap (λ w. get_or w index 0) same, get_or-map (λ l. l + 65) others index 0 0 within)
+    let byte = get_or-map (λ l. l + 65) others index 0 0 within in
+    omega (arith, All-get_or (λ l. l < 26) others index 0 within are.within, ap (λ w. get_or w index 0) same, byte)
 
 -- -------- the line of a heading, and its words
 
@@ -304,7 +306,7 @@ same_heading s h other is also same =
     let part = one_number h.part other.part 47 (decimal h.parts ++ 32 ∷ end) (decimal other.parts ++ 32 ∷ last) small.part little.part (omega arith)
     (simp append_assoc at (ap (drop 5) same)) in
     let parts = one_number h.parts other.parts 32 end last small.parts little.parts (omega arith) part.1 in
-    grind (arith, part.0, parts.0, one_end s h.letters other.letters h.indicator other.indicator small.letters little.letters is.indicator also.indicator parts.1)
+    grind (arith, one_end s h.letters other.letters h.indicator other.indicator small.letters little.letters is.indicator also.indicator parts.1)
 
 -- ---- the line and the body
 

@@ -70,7 +70,7 @@ filling_more pattern bytes letters more place mark byte filling below inside mar
       inside = omega arith;
       counted = omega (arith, length-append letters (letters_at mark byte), filling.counted, counts, ap blanks left);
       within = All-append (λ l. l < 26) letters (letters_at mark byte) filling.within within;
-      filled = λ after. grind (arith, append_assoc {A = ℕ}, filling.filled (letters_at mark byte ++ after), left, fills after, take_more bytes place 0 inside);
+      filled = λ after. grind (arith, append_assoc {A = ℕ}, filling.filled (letters_at mark byte ++ after), fills after, take_more bytes place 0 inside);
     })
 
 -- ---- where the bytes don't go on as a line
@@ -305,7 +305,7 @@ pub same_line : (text other line end rest more : List ℕ) → IsPlain text → 
 same_line text other line end rest more one two a b same =
     let (tail, ended, joined) = ended_tail text line a in
     let (close, ending, linked) = ended_tail other end b in
-    let alike : text ++ (tail ++ rest) ≡ other ++ (close ++ more) = cc (append_assoc text tail rest, append_assoc other close more, same, joined, linked) in
+    let alike : text ++ (tail ++ rest) ≡ other ++ (close ++ more) = cc (append_assoc text tail rest, append_assoc other close more) in
     let both = same_front (λ b. 32 ≤ b) text other (tail ++ rest) (close ++ more) one two (grind arith) (grind arith) alike in
     grind arith
 

@@ -133,7 +133,7 @@ one_read s (k ∷ keys) [] text more bytes all alls one other = absurd (not_both
 one_read s (k ∷ keys) (j ∷ others) text more bytes all alls (line, rest, is, later, joined) (first, left, also, latter, linked) =
     let lines = same_line (line_of (key_words k)) (line_of (key_words j)) line first rest left (plain_keys k) (plain_keys j) is also (sym joined ∙ linked) in
     let one = same_keys s k j (All-head (AreKeys s) k keys all) (All-head (AreKeys s) j others alls) lines.0 in
-    grind (arith, lines.1, one, one_read s keys others text more rest (All-tail (AreKeys s) k keys all) (All-tail (AreKeys s) j others alls) later)
+    grind (arith, one_read s keys others text more rest (All-tail (AreKeys s) k keys all) (All-tail (AreKeys s) j others alls) later)
 
 pub record IsSameOrder (keys others : List Keys) (head other text more : List ℕ) : Type 0 where
   pub keys_are : keys ≡ others
