@@ -1,5 +1,5 @@
 -- A cipher has as many letters as its text, and they are letters of the alphabet.
-use Rattle.std.proofs.Common.{◌≡◌, ◌∙◌, ℕ, ◌<◌, inl, inr, List, [], ◌∷◌, ◌++◌, length, map, get_or, arith, All, reverse, slice_index}
+use Rattle.std.proofs.Common.{◌≡◌, ◌∙◌, ℕ, ◌<◌, List, [], ◌∷◌, ◌++◌, length, map, get_or, arith, All, reverse, slice_index}
 use Rattle.std.specs.List.{enumerate_from}
 use Rattle.std.proofs.Math.ListN.{get_or-eq_default}
 use Rattle.std.proofs.lemmas.Bool.{cases_lt}
@@ -18,10 +18,7 @@ length-cipher_from (OfPins s) window text = length-map (enumerate_from 0 text) _
 
 -- a table of letters has a letter at each place, since what stands past its end is read as the first
 pub letter_read : (table : List ℕ) (place : ℕ) → All (λ letter. letter < 26) table → slice_index table place < 26
-letter_read table place letters = elim (cases_lt place (length table)) [
-  | inl inside ↦ All-get_or (λ letter. letter < 26) table place 0 inside letters
-  | inr past ↦ omega (arith, get_or-eq_default table 0 past)
-]
+letter_read table place letters = grind (arith, cases_lt, All-get_or {X = ℕ}, get_or-eq_default {A = ℕ})
 
 -- products end in the alphabet
 product_letters : (ps : List (List ℕ)) → All (λ letter. letter < 26) (product ps)

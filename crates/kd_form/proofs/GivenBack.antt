@@ -1,12 +1,12 @@
 -- The form that an order becomes gives the order's letters back.
-use Rattle.std.proofs.Common.{◌≡◌, ◌≢◌, ℕ, ◌+◌, ◌-◌, ◌%◌, ◌<◌, ◌≤◌, ◌⊎◌, inl, inr, List, [], ◌∷◌, ◌++◌, length, take, drop, replicate, refl, sym, ap, subst, ◌∙◌, append_assoc, length-append, arith, All, Option, Some, None, IfSome}
+use Rattle.std.proofs.Common.{◌≡◌, ◌≢◌, ℕ, ◌+◌, ◌%◌, ◌<◌, ◌≤◌, ◌⊎◌, inl, inr, List, [], ◌∷◌, ◌++◌, length, take, drop, refl, sym, ap, subst, ◌∙◌, append_assoc, length-append, arith, All, Option, Some, None, IfSome}
 use Rattle.std.specs.List.{flat_map, cons_option}
 use Rattle.std.proofs.lemmas.Bool.{cases_lt}
 use Rattle.std.proofs.lemmas.Bool.Decides.{nat_tests}
 use Rattle.std.proofs.lemmas.List.{append-nil, take_all, drop_all, length-take, length-take-le, take-append-drop}
 use Rattle.std.proofs.lemmas.List.Elements.{All-nil, All-cons, All-head, All-tail, All-take, All-drop}
 use Rattle.kd_state.specs.Laws.{TheDayDeciphersItself}
-use Rattle.kd_state.specs.SheetDay.{Day, OfRotors, OfPins, IsLegalDay}
+use Rattle.kd_state.specs.SheetDay.{Day, IsLegalDay}
 use Rattle.kd_state.specs.Words.{TextsTellFirstParts}
 use Rattle.kd_form.specs.declared.keys.Keys.{Keys}
 use Rattle.kd_form.specs.FormParts.{BeginsHeading}
@@ -36,34 +36,26 @@ letters_within blank (byte ∷ text) less =
     found_within (letter_of_byte blank byte) (letters_from blank text) (grind (arith, nat_tests)) (letters_within blank text less)
 
 text_letters_within : (s : Day) (text : List ℕ) → All (λ letter. letter < 26) (text_letters s text)
-text_letters_within (OfRotors s) text = letters_within None text tt
-text_letters_within (OfPins s) text = letters_within (Some 25) text (omega arith)
+text_letters_within s text = grind (arith, letters_within)
 
 -- ---- pieces of a text
 
 -- behind whole groups the rest is filled as the whole text is
 filled_behind : (front rest : List ℕ) → length front % 5 ≡ 0 → filled front ++ filled rest ≡ filled (front ++ rest)
-filled_behind front rest whole =
-    let none : (5 - length front % 5) % 5 ≡ 0 = omega arith in
-    let alike : (5 - length rest % 5) % 5 ≡ (5 - length (front ++ rest) % 5) % 5 = omega (arith, length-append front rest) in
-    ap (λ n. (front ++ replicate n 23) ++ filled rest) none ∙ ap (λ t. t ++ filled rest) (append-nil front)
-    ∙ sym (append_assoc front rest (replicate ((5 - length rest % 5) % 5) 23)) ∙ ap (λ n. (front ++ rest) ++ replicate n 23) alike
+filled_behind front rest whole = grind (arith, length-append {A = ℕ}, append_assoc {A = ℕ}, append-nil {A = ℕ})
 
 filled_pieces : (letters : List ℕ) → filled (take 500 letters) ++ filled (drop 500 letters) ≡ filled letters
 filled_pieces letters = elim (cases_lt (length letters) 500) [
-  | inl short ↦ rw (take_all 500 letters (omega arith), drop_all 500 letters (omega arith)) (append-nil (filled letters))
-  | inr long ↦
-      filled_behind (take 500 letters) (drop 500 letters) (ap (λ n. n % 5) (length-take-le 500 letters long)) ∙ ap filled (take-append-drop 500 letters)
+  | inl short ↦ grind (arith, take_all 500 letters, drop_all 500 letters, append-nil (filled letters))
+  | inr long ↦ grind (arith, filled_behind (take 500 letters) (drop 500 letters), length-take-le 500 letters, take-append-drop 500 letters)
 ]
 
 sent_joined : (s : Day) (letters : List ℕ)
     → sent_letters s (take (part_size s) letters) ++ sent_letters s (drop (part_size s) letters) ≡ sent_letters s letters
-sent_joined (OfRotors s) letters = take-append-drop 245 letters
-sent_joined (OfPins s) letters = filled_pieces letters
+sent_joined s letters = grind (arith, take-append-drop {A = ℕ}, filled_pieces)
 
 nothing_sent : (s : Day) → [] ≡ sent_letters s []
-nothing_sent (OfRotors s) = refl
-nothing_sent (OfPins s) = refl
+nothing_sent s = grind arith
 
 -- the pieces, sent one after another, are the letters as they are sent
 sent_pieces : (s : Day) (letters : List ℕ) → flat_map (sent_letters s) (pieces (part_size s) letters) ≡ sent_letters s letters
@@ -133,8 +125,7 @@ parts_are_given_back s part parts _ _ form decipher legal are suited all first l
 
 some_parts : (s : Day) (letters : List ℕ) (texts : List (List ℕ)) → letters ≢ [] → length texts ≡ parts_needed s (length letters) → texts ≢ []
 some_parts s [] texts some needed none = some refl
-some_parts s (letter ∷ letters) texts some needed none =
-    omega (arith, needed, ap length none, more_pieces (part_size s) (length (letter ∷ letters)) (size_some s) (omega arith))
+some_parts s (letter ∷ letters) texts some needed none = grind (arith, more_pieces, size_some)
 
 pub orders_give_letters : OrdersGiveLetters
 orders_give_letters s order form is = (

@@ -79,9 +79,8 @@ pub capital_at : (word others : List ℕ) (index : ℕ) → index < length word 
     → (65 ≤ get_or word index 0) × (get_or word index 0 ≤ 90)
 capital_at word others index inside are same =
     let within : index < length others = omega (arith, ap length same, length-map others (λ l. l + 65)) in
-    let small : get_or others index 0 < 26 = All-get_or (λ l. l < 26) others index 0 within are.within in
-    let byte : get_or word index 0 ≡ get_or others index 0 + 65 = ap (λ w. get_or w index 0) (sym same) ∙ get_or-map (λ l. l + 65) others index 0 0 within in
-    omega arith
+    let byte = get_or-map (λ l. l + 65) others index 0 0 within in
+    omega (arith, All-get_or (λ l. l < 26) others index 0 within are.within, ap (λ w. get_or w index 0) same, byte)
 
 -- -------- the line of a heading, and its words
 
@@ -122,10 +121,7 @@ fraction_word part parts small few =
 
 -- three or four wheels
 slots_are : (s : RotorDay) (found : Option ℕ) → MatchOption found (HasPins (OfRotors s)) (HasSlots (OfRotors s)) → (1 ≤ length s.wheels) × (length s.wheels ≤ 4)
-slots_are s None has = absurd (cc (has.is))
-slots_are s (Some slots) has =
-    let same : s ≡ has.day = cc (has.is) in
-    omega (arith, ap (λ d. length d.wheels) same, has.count, has.either)
+slots_are s found has = grind arith
 
 are_indicator_words : (s : Day) (found : Option ℕ) (i : Option Indicator) → MatchOption found (HasPins s) (HasSlots s) → HasIndicator s i → All IsWord (indicator_words i)
 are_indicator_words s found None has are = All-nil IsWord
@@ -143,8 +139,7 @@ heading_are_words s found h numbers has is =
     (All-cons IsWord (decimal h.letters) (indicator_words h.indicator) (numbers h.letters small.letters) (are_indicator_words s found h.indicator has is.indicator)))
 
 few_words : (i : Option Indicator) → length (indicator_words i) ≤ 2
-few_words (Some i) = omega arith
-few_words None = omega arith
+few_words i = grind arith
 
 line_words : (s : Day) (found : Option ℕ) (h : Heading) (line : List ℕ) → NumbersAreWords → LinesSplitIntoWords → MatchOption found (HasPins s) (HasSlots s)
     → IsHeading s h → line_of (heading_words h) ≡ line → words_of line ≡ heading_words h
@@ -231,10 +226,7 @@ bare_heading s part h rest unbroken has = elim has.ended [
 
 end_size : (s : Day) (found : Option ℕ) (count : ℕ) (i : Option Indicator) → MatchOption found (HasPins s) (HasSlots s) → length (decimal count) ≤ 3
     → HasIndicator s i → length (line_of (decimal count ∷ indicator_words i)) ≤ 15
-end_size s found count None has few is = omega arith
-end_size (OfPins s) found count (Some i) has few is = absurd is
-end_size (OfRotors s) found count (Some i) has few is =
-    omega (arith, length-append {A = ℕ}, length-map i.start (λ l. l + 65), length-map i.key (λ l. l + 65), is.0.count, is.1.count, slots_are s found has)
+end_size s found count i has few is = grind (arith, length-append {A = ℕ}, length-map, slots_are)
 
 heading_length : (s : Day) (found : Option ℕ) (h : Heading) → MatchOption found (HasPins s) (HasSlots s) → IsHeading s h
     → length (line_of (heading_words h)) ≤ 50
@@ -260,17 +252,14 @@ open_told s found part line (Some h) has told unbroken kept =
 
 -- a line with its LF, and its text
 text_ended : (line text : List ℕ) → IsLineText line text → IsEnded text (line ++ 10 ∷ [])
-text_ended line text (WithReturn is) = inr (ap (λ l. l ++ 10 ∷ []) is ∙ append_assoc text (13 ∷ []) (10 ∷ []))
-text_ended line text (WithoutReturn is other) = inl (ap (λ l. l ++ 10 ∷ []) (sym is))
+text_ended line text is = grind (arith, append_assoc {A = ℕ})
 
 ended_size : (text line : List ℕ) → IsEnded text (line ++ 10 ∷ []) → length line ≤ length text + 1
-ended_size text line (inl short) = omega (arith, ap length short, length-append line (10 ∷ []), length-append text (10 ∷ []))
-ended_size text line (inr long) = omega (arith, ap length long, length-append line (10 ∷ []), length-append text (13 ∷ 10 ∷ []))
+ended_size text line ended = grind (arith, length-append {A = ℕ})
 
 ended_text : (words line text : List ℕ) → IsWithout 13 words → IsEnded words (line ++ 10 ∷ []) → IsLineText line text → words ≡ text
-ended_text words line text free (inl short) (WithReturn is) =
-    absurd (has_byte 13 text [] (subst (IsWithout 13) (sym (append_cancel_right line words (10 ∷ []) short) ∙ is) free))
-ended_text words line text free (inl short) (WithoutReturn is other) = sym (append_cancel_right line words (10 ∷ []) short) ∙ sym is
+ended_text words line text free (inl short) cut =
+    let same = append_cancel_right line words (10 ∷ []) short in grind (arith, has_byte 13 text [])
 ended_text words line text free (inr long) cut =
     let same : line ≡ words ++ 13 ∷ [] = append_cancel_right line (words ++ 13 ∷ []) (10 ∷ []) (long ∙ sym (append_assoc words (13 ∷ []) (10 ∷ []))) in
     elim cut [ WithReturn is ↦ append_cancel_right words text (13 ∷ []) (sym same ∙ is) | WithoutReturn is other ↦ absurd (other words same) ]
@@ -300,11 +289,10 @@ ended_told s found part line text (Some h) tell has cut told unbroken kept =
 -- the count of letters, and the indicator behind it
 one_end : (s : Day) (count found : ℕ) (i j : Option Indicator) → count < 2 ^ 64 → found < 2 ^ 64 → HasIndicator s i → HasIndicator s j
     → line_of (decimal count ∷ indicator_words i) ≡ line_of (decimal found ∷ indicator_words j) → (count ≡ found) × (i ≡ j)
-one_end s count found (Some i) (Some j) small little has had same =
+one_end (OfRotors s) count found (Some i) (Some j) small little has had same =
     let counts = one_number count found 32 _ _ small little (omega arith) same in
     let starts = same_word i.start j.start _ _ counts.1 in
-    let keys = same_letters i.key j.key starts.1 in
-    (counts.0, λ k. Some (record { start = starts.0 k; key = keys k }))
+    grind (arith, counts.0, starts.0, same_letters i.key j.key starts.1)
 one_end s count found None None small little has had same = (decimal_injective count found small little same, refl)
 one_end (OfRotors s) count found _ _ small little has had same = search
 one_end (OfPins s) count found _ _ small little has had same = search
@@ -318,8 +306,7 @@ same_heading s h other is also same =
     let part = one_number h.part other.part 47 (decimal h.parts ++ 32 ∷ end) (decimal other.parts ++ 32 ∷ last) small.part little.part (omega arith)
     (simp append_assoc at (ap (drop 5) same)) in
     let parts = one_number h.parts other.parts 32 end last small.parts little.parts (omega arith) part.1 in
-    let rest = one_end s h.letters other.letters h.indicator other.indicator small.letters little.letters is.indicator also.indicator parts.1 in
-    λ i. record { part = part.0 i; parts = parts.0 i; letters = rest.0 i; indicator = rest.1 i }
+    grind (arith, one_end s h.letters other.letters h.indicator other.indicator small.letters little.letters is.indicator also.indicator parts.1)
 
 -- ---- the line and the body
 
@@ -330,13 +317,7 @@ behind tail = if slice_index tail 0 == 13 then drop 2 tail else drop 1 tail
 -- what follows the words of a heading in its part tells the body
 heading_tail : (s : Day) (part : List ℕ) (h : Heading) (body : List ℕ) → HasHeading s part h body
     → (tail : List ℕ) × (part ≡ line_of (heading_words h) ++ tail) × IsOff (λ b. 32 ≤ b) tail × (body ≡ behind tail)
-heading_tail s part h body has =
-    let text : List ℕ = line_of (heading_words h) in
-    elim has.ended [
-      | inl (inl short) ↦ (10 ∷ body, cc (has.joined, short, append_assoc text (10 ∷ []) body), omega arith, refl)
-      | inl (inr long) ↦ (13 ∷ 10 ∷ body, cc (has.joined, long, append_assoc text (13 ∷ 10 ∷ []) body), omega arith, refl)
-      | inr bare ↦ ([], cc (has.joined, bare.0, bare.1), tt, bare.1)
-    ]
+heading_tail s part h body has = grind (arith, append_assoc {A = ℕ})
 
 pub one_heading : (s : Day) (part : List ℕ) (h other : Heading) (body rest : List ℕ) → TextsTellFirstParts → NumbersAreWords → HasHeading s part h body
     → HasHeading s part other rest → (h ≡ other) × (body ≡ rest)

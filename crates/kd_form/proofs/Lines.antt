@@ -3,7 +3,7 @@ use Rattle.std.proofs.Common.{◌≡◌, ◌≢◌, ℕ, zero, suc, ◌+◌, ◌
 use Rattle.std.proofs.Math.ListN.{get_or-append}
 use Rattle.std.specs.List.{AllWithin}
 use Rattle.std.proofs.lemmas.Bool.Decides.{nat_tests}
-use Rattle.std.proofs.lemmas.Bool.{false≢true, cases_Bool}
+use Rattle.std.proofs.lemmas.Bool.{cases_Bool}
 use Rattle.std.proofs.lemmas.List.{get_or-take, drop_all, take_more, take-append-drop, length-replicate, take_all, get_or_default, length-take-le, append-nil, drop_more}
 use Rattle.std.proofs.lemmas.List.Elements.{All-append, All-cons, All-nil, All-tail, All-replicate, All-take, All-drop, All-push}
 use Rattle.kd_state.specs.Machine.{AreLetters}
@@ -31,22 +31,13 @@ use Rattle.kd_form.proofs.Plain.{IsPlain, plain_keys, same_sized, same_front}
 
 pub length-filled : (pattern letters : List ℕ) → length (filled_in pattern letters) ≡ length pattern
 length-filled [] letters = refl
-length-filled (mark ∷ pattern) letters = elim (cases_Bool (mark == 95)) [
-  | inl blank ↦ rw blank (ap suc (length-filled pattern (drop 1 letters)))
-  | inr other ↦ rw other (ap suc (length-filled pattern letters))
-]
+length-filled (mark ∷ pattern) letters = grind (arith, length-filled pattern)
 
 filled-fits : (pattern letters : List ℕ) (i : ℕ) → i < length pattern → All (λ l. l < 26) letters
     → fits (get_or pattern i 0) (get_or (filled_in pattern letters) i 0) ≡ true
 filled-fits [] letters i inside within = absurd (omega arith)
-filled-fits (mark ∷ pattern) letters zero inside within = elim (cases_Bool (mark == 95)) [
-  | inl blank ↦ let less = letter_read letters 0 within in rw blank (grind (arith, nat_tests))
-  | inr other ↦ rw other (grind (arith, nat_tests))
-]
-filled-fits (mark ∷ pattern) letters (suc i) inside within = elim (cases_Bool (mark == 95)) [
-  | inl blank ↦ rw blank (filled-fits pattern (drop 1 letters) i (omega arith) (All-drop (λ l. l < 26) 1 letters within))
-  | inr other ↦ rw other (filled-fits pattern letters i (omega arith) within)
-]
+filled-fits (mark ∷ pattern) letters zero inside within = grind (arith, nat_tests, letter_read letters 0 within)
+filled-fits (mark ∷ pattern) letters (suc i) inside within = grind (arith, filled-fits pattern, All-drop (λ l. l < 26) 1 letters)
 
 -- ---- reading mark by mark
 
@@ -64,12 +55,8 @@ one_letter mark byte pattern fit = elim (cases_Bool (mark == 95)) [
   | inl blank ↦
       let told = rw blank at fit in
       let range : (65 ≤ byte) × (byte ≤ 90) = grind (arith, nat_tests) in
-      let back : byte - 65 + 65 ≡ byte = omega arith in
-      rw blank (omega arith, All-cons (λ l. l < 26) (byte - 65) [] (omega arith) (All-nil (λ l. l < 26)), λ more. ap (λ b. b ∷ filled_in pattern more) back)
-  | inr other ↦
-      let told = rw other at fit in
-      let same : mark ≡ byte = grind (arith, nat_tests) in
-      rw other (omega arith, All-nil (λ l. l < 26), λ more. ap (λ b. b ∷ filled_in pattern more) same)
+      rw blank (omega arith, All-cons (λ l. l < 26) (byte - 65) [] (omega arith) (All-nil (λ l. l < 26)), λ more. grind arith)
+  | inr other ↦ let told = rw other at fit in rw other (omega arith, All-nil (λ l. l < 26), λ more. grind (arith, nat_tests))
 ]
 
 pub filling_more : (pattern bytes letters more : List ℕ) (place mark byte : ℕ) → IsFilling pattern bytes place letters → place < length pattern → place < length bytes
@@ -78,30 +65,19 @@ pub filling_more : (pattern bytes letters more : List ℕ) (place mark byte : �
 filling_more pattern bytes letters more place mark byte filling below inside marked read fit put =
     let rest : List ℕ = drop (place + 1) pattern in
     let (counts, within, fills) = one_letter mark byte rest fit in
-    let left : drop place pattern ≡ mark ∷ rest = drop_more pattern place 0 below ∙ ap (λ m. m ∷ rest) marked in
-    let further : take (place + 1) bytes ≡ take place bytes ++ byte ∷ [] = take_more bytes place 0 inside ∙ ap (λ b. take place bytes ++ b ∷ []) read in
+    let left : drop place pattern ≡ mark ∷ rest = cc (drop_more pattern place 0 below) in
     rw put (record {
       inside = omega arith;
       counted = omega (arith, length-append letters (letters_at mark byte), filling.counted, counts, ap blanks left);
       within = All-append (λ l. l < 26) letters (letters_at mark byte) filling.within within;
-      filled = λ after. cc (
-        append_assoc letters (letters_at mark byte) after,
-        filling.filled (letters_at mark byte ++ after),
-        left,
-        fills after,
-        further,
-        append_assoc (take place bytes) (byte ∷ []) (filled_in rest after),
-      );
+      filled = λ after. grind (arith, append_assoc {A = ℕ}, filling.filled (letters_at mark byte ++ after), fills after, take_more bytes place 0 inside);
     })
 
 -- ---- where the bytes don't go on as a line
 
 pub letter_room : (pattern bytes letters : List ℕ) (place : ℕ) → IsFilling pattern bytes place letters → place < length pattern → blanks pattern ≤ 13
     → get_or pattern place 0 ≡ 95 → length letters < 13
-letter_room pattern bytes letters place filling below few blank =
-    let rest : List ℕ = drop (place + 1) pattern in
-    let left : drop place pattern ≡ 95 ∷ rest = drop_more pattern place 0 below ∙ ap (λ m. m ∷ rest) blank in
-    omega (arith, filling.counted, ap blanks left)
+letter_room pattern bytes letters place filling below few blank = grind (arith, drop_more)
 
 -- the bytes end where the next mark is due: a line goes on with the letter A in each place that is left
 pub line_open : (pattern bytes letters : List ℕ) (place : ℕ) → IsFilling pattern bytes place letters → false ≡ nat_lt place (length bytes)
@@ -126,12 +102,10 @@ line_open pattern bytes letters place filling past =
 -- ---- the end of a line
 
 ended_tail : (text line : List ℕ) → IsEnded text line → (tail : List ℕ) × IsEnded [] tail × (line ≡ text ++ tail)
-ended_tail text line (inl short) = (10 ∷ [], inl refl, short)
-ended_tail text line (inr long) = (13 ∷ 10 ∷ [], inr refl, long)
+ended_tail text line ended = grind arith
 
 ended_behind : (text tail : List ℕ) → IsEnded [] tail → IsEnded text (text ++ tail)
-ended_behind text tail (inl short) = inl (ap (λ t. text ++ t) short)
-ended_behind text tail (inr long) = inr (ap (λ t. text ++ t) long)
+ended_behind text tail ended = grind arith
 
 line_fits : (pattern line : List ℕ) (i : ℕ) → i < length pattern → IsPatternLine pattern line → fits (get_or pattern i 0) (get_or line i 0) ≡ true
 line_fits pattern line i inside is =
@@ -142,8 +116,7 @@ line_fits pattern line i inside is =
 -- a byte doesn't fit its mark
 pub line_off : (pattern bytes : List ℕ) (place : ℕ) → place < length pattern → place < length bytes
     → fits (get_or pattern place 0) (get_or bytes place 0) ≡ false → BreaksOff (IsPatternLine pattern) bytes Off
-line_off pattern bytes place below inside unfit = λ more line. false≢true (sym unfit
-    ∙ ap (fits (get_or pattern place 0)) (sym (get_or-append bytes more 0 place inside)) ∙ line_fits pattern (bytes ++ more) place below line)
+line_off pattern bytes place below inside unfit = λ more line. grind (arith, get_or-append {A = ℕ}, line_fits pattern (bytes ++ more) place below line)
 
 -- the pattern is filled, and this follows
 module _ (pattern bytes letters tail : List ℕ) (place : ℕ) (filling : IsFilling pattern bytes place letters) (all : place ≡ length pattern)
@@ -152,9 +125,7 @@ module _ (pattern bytes letters tail : List ℕ) (place : ℕ) (filling : IsFill
   none_left = drop_all place pattern (omega arith)
 
   line_with : (more : List ℕ) → bytes ++ more ≡ filled_in pattern letters ++ (tail ++ more)
-  line_with more =
-      let whole : filled_in pattern letters ≡ take place bytes = cc (filling.filled [], none_left, append-nil letters, append-nil (take place bytes)) in
-      ap (λ b. b ++ more) (sym (take-append-drop place bytes) ∙ cc (all, cut, whole)) ∙ append_assoc (filled_in pattern letters) tail more
+  line_with more = grind (arith, append_assoc {A = ℕ}, take-append-drop place bytes, filling.filled [], none_left, append-nil {A = ℕ})
 
   line_ends : (more : List ℕ) → IsEnded [] (tail ++ more) → IsFilledLine pattern letters (bytes ++ more)
   line_ends more ended = record {
@@ -181,10 +152,7 @@ end_open (a ∷ []) few first = let same : a ≡ 13 = first (omega arith) in (10
 end_open (a ∷ b ∷ bytes) few first = absurd (omega arith)
 
 pub end_off : (bytes more : List ℕ) → 3 ≤ length bytes → ¬ (IsEnded [] (bytes ++ more))
-end_off bytes more long ended = elim ended [
-  | inl short ↦ omega (arith, ap length short, length-append bytes more)
-  | inr both ↦ omega (arith, ap length both, length-append bytes more)
-]
+end_off bytes more long ended = grind (arith, length-append {A = ℕ})
 
 -- ---- what a read tells
 
@@ -228,9 +196,7 @@ key_line _ _ are = absurd are
 -- ---- how many letters
 
 rotor_blanks : (slots : ℕ) → blanks (rotor_pattern slots) ≡ slots + (slots + (2 + 3))
-rotor_blanks slots =
-    let last : List ℕ = 32 ∷ (places_for 2 ++ 32 ∷ places_for 3) in
-    blanks-places slots (32 ∷ (places_for slots ++ last)) ∙ ap (λ n. slots + n) (blanks-places slots last)
+rotor_blanks slots = grind (arith, blanks-places)
 
 letters_joined : {m n : ℕ} {one other : List ℕ} → AreLetters m one → AreLetters n other → AreLetters (m + n) (one ++ other)
 letters_joined {one = one} {other = other} a b = record {
@@ -274,13 +240,7 @@ as_key_line s line is =
     }
 
 letters_of_keys : (s : Day) (k : Keys) → AreKeys s k → AreLetters (blanks (key_pattern s)) (key_letters k)
-letters_of_keys (OfRotors s) (Rotor k) are =
-    rw (rotor_blanks (length s.wheels)) (letters_joined are.start (letters_joined are.key (letters_joined are.fillers are.group)))
-letters_of_keys (OfPins s) (Pin k) are = record {
-  count = ap suc are.external.count;
-  within = All-cons (λ n. n < 26) k.chosen k.external are.chosen are.external.within;
-}
-letters_of_keys _ _ are = absurd are
+letters_of_keys s k are = grind (arith, rotor_blanks, letters_joined, All-cons)
 
 pub as_form_line : (s : Day) (line : List ℕ) → IsAnyKeyLine s line → IsPatternLine (key_pattern s) line
 as_form_line s line is = record {
@@ -291,8 +251,7 @@ as_form_line s line is = record {
 
 pub breaks_alike : {P Q : List ℕ → Type 0} (bytes : List ℕ) (why : Unread) → ((line : List ℕ) → P line → Q line) → ((line : List ℕ) → Q line → P line)
     → BreaksOff P bytes why → BreaksOff Q bytes why
-breaks_alike bytes Open to back (more, some, is) = (more, some, to (bytes ++ more) is)
-breaks_alike bytes Off to back none = λ more is. none more (back (bytes ++ more) is)
+breaks_alike bytes why to back broken = grind arith
 
 pub keys_read : (s : Day) (bytes letters : List ℕ) (k : Keys) → IsFilledLine (key_pattern s) letters bytes → key_letters k ≡ letters → AreKeys s k
     → AreKeys s k × IsKeyLine k bytes
@@ -343,22 +302,15 @@ up_to_break text line unbroken ended = elim ended [
 -- the line is told by the bytes that it begins, and so are its words and what follows it
 pub same_line : (text other line end rest more : List ℕ) → IsPlain text → IsPlain other → IsEnded text line → IsEnded other end
     → line ++ rest ≡ end ++ more → (text ≡ other) × (line ≡ end) × (rest ≡ more)
-same_line text other line end rest more one two (inl a) (inl b) same =
-    let both = same_front (λ b. 32 ≤ b) text other (10 ∷ rest) (10 ∷ more) one two (omega arith) (omega arith) (simp append_assoc at (rw (a, b) at same)) in
-    (both.0, cc, ap (drop 1) both.1)
-same_line text other line end rest more one two (inr a) (inr b) same =
-    let both = same_front (λ b. 32 ≤ b) text other (13 ∷ 10 ∷ rest) (13 ∷ 10 ∷ more) one two (omega arith) (omega arith) (simp append_assoc at (rw (a, b) at same)) in
-    (both.0, cc, ap (drop 2) both.1)
-same_line text other line end rest more one two (inl a) (inr b) same =
-    let both = same_front (λ b. 32 ≤ b) text other (10 ∷ rest) (13 ∷ 10 ∷ more) one two (omega arith) (omega arith) (simp append_assoc at (rw (a, b) at same)) in
-    absurd (let clash : 10 ≡ 13 = ap (λ l. get_or l 0 0) both.1 in omega arith)
-same_line text other line end rest more one two (inr a) (inl b) same =
-    let both = same_front (λ b. 32 ≤ b) text other (13 ∷ 10 ∷ rest) (10 ∷ more) one two (omega arith) (omega arith) (simp append_assoc at (rw (a, b) at same)) in
-    absurd (let clash : 13 ≡ 10 = ap (λ l. get_or l 0 0) both.1 in omega arith)
+same_line text other line end rest more one two a b same =
+    let (tail, ended, joined) = ended_tail text line a in
+    let (close, ending, linked) = ended_tail other end b in
+    let alike : text ++ (tail ++ rest) ≡ other ++ (close ++ more) = cc (append_assoc text tail rest, append_assoc other close more) in
+    let both = same_front (λ b. 32 ≤ b) text other (tail ++ rest) (close ++ more) one two (grind arith) (grind arith) alike in
+    grind arith
 
 pub key_first : (k : Keys) (line more : List ℕ) → IsKeyLine k line → get_or (line ++ more) 0 0 ≡ 80
-key_first (Rotor k) line more ended = elim ended [ inl short ↦ ap (λ l. get_or (l ++ more) 0 0) short | inr long ↦ ap (λ l. get_or (l ++ more) 0 0) long ]
-key_first (Pin k) line more ended = elim ended [ inl short ↦ ap (λ l. get_or (l ++ more) 0 0) short | inr long ↦ ap (λ l. get_or (l ++ more) 0 0) long ]
+key_first k line more ended = grind arith
 
 pub text_first : (last : List ℕ) → IsEnded (codes "TEXT") last → get_or last 0 0 ≡ 84
 text_first last ended = elim ended [ inl short ↦ ap (λ l. get_or l 0 0) short | inr long ↦ ap (λ l. get_or l 0 0) long ]
@@ -370,9 +322,7 @@ text_front last text ended = elim ended [ inl short ↦ ap (λ l. get_or (l ++ t
 
 -- the first byte of a head tells whether a line of keys comes first
 pub key_line_first : (s : Day) (k : Keys) (others : List Keys) (bytes : List ℕ) → IsHead s (k ∷ others) bytes → get_or bytes 0 0 ≡ 80
-key_line_first s k others bytes head =
-    let first = head.keyed in
-    ap (λ b. get_or b 0 0) (head.joined ∙ ap (λ l. l ++ head.last) first.4 ∙ append_assoc first.0 first.1 head.last) ∙ key_first k first.0 (first.1 ++ head.last) first.2
+key_line_first s k others bytes head = grind (arith, key_first, append_assoc {A = ℕ})
 
 pub text_only : (s : Day) (bytes : List ℕ) → IsHead s [] bytes → IsEnded (codes "TEXT") bytes
 text_only s bytes head = subst (IsEnded (codes "TEXT")) (sym (head.joined ∙ ap (λ l. l ++ head.last) head.keyed)) head.ended

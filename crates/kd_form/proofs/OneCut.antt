@@ -1,5 +1,5 @@
 -- A form is cut into parts in one way.
-use Rattle.std.proofs.Common.{◌≡◌, ℕ, ◌+◌, ◌-◌, ◌≤◌, inl, inr, List, [], ◌∷◌, ◌++◌, length, drop, get_or, refl, sym, ap, subst, ◌∙◌, length-append, arith, ◌⊎◌, zero, suc, ◌<◌, take, ltb, slice_index, codes, Bool, ◌&&◌, Decides, bytes_eq}
+use Rattle.std.proofs.Common.{◌≡◌, ℕ, ◌+◌, ◌-◌, ◌≤◌, inl, inr, List, [], ◌∷◌, ◌++◌, length, drop, get_or, refl, sym, ap, subst, ◌∙◌, length-append, arith, ◌⊎◌, ◌<◌, take, ltb, slice_index, codes, Bool, ◌&&◌, Decides, bytes_eq}
 use Rattle.std.proofs.Math.Seq.{drop-append_seam}
 use Rattle.std.proofs.lemmas.List.{append-nil, take-append-drop, drop_more, get_or_past}
 use Rattle.kd_form.specs.FormParts.{BeginsHeading, IsFirstOf}
@@ -15,21 +15,13 @@ use Rattle.std.proofs.lemmas.Bool.{cases_lt, cases_eq, cases_Bool}
 
 -- a part that another one follows has a byte: an LF stands at its end, and none at the head of a heading line
 pub some_byte : (bytes part rest : List ℕ) → bytes ≡ part ++ rest → slice_index bytes (length part - 1) ≡ 10 → BeginsHeading rest → 1 ≤ length part
-some_byte bytes [] rest joined broken begins =
-    absurd (let clash : 10 ≡ 80 = sym broken ∙ ap (λ bs. get_or bs 0 0) (joined ∙ begins.is) in omega arith)
+some_byte bytes [] rest joined broken begins = grind arith
 some_byte bytes (byte ∷ part) rest joined broken begins = omega arith
 
 -- no first part goes on where another one ends before a heading line
 not_beyond : (bytes part rest other more beyond : List ℕ) (byte : ℕ) → IsFirstOf bytes part rest → IsFirstOf bytes other more → other ≡ part ++ byte ∷ beyond
     → ¬ (rest ≡ byte ∷ (beyond ++ more))
-not_beyond bytes part rest other more beyond byte a b longer left = elim a.ends [
-  | inl none ↦ cc
-  | inr ended ↦
-      let some : 1 ≤ length part = some_byte bytes part rest a.joined ended.0 ended.1 in
-      let last : length part - 1 + 1 ≡ length part = omega arith in
-      let behind : drop (length part - 1 + 1) bytes ≡ rest = rw (last, a.joined) (drop-append_seam part rest) in
-      b.whole (length part - 1) (omega (arith, ap length longer, length-append part (byte ∷ beyond))) ended.0 (subst BeginsHeading (sym behind) ended.1)
-]
+not_beyond bytes part rest other more beyond byte a b longer left = grind (arith, some_byte, drop-append_seam {A = ℕ}, length-append {A = ℕ})
 
 pub one_cut : (bytes part rest other more : List ℕ) → IsFirstOf bytes part rest → IsFirstOf bytes other more → (part ≡ other) × (rest ≡ more)
 one_cut bytes part rest other more a b = elim (fronts part rest other more (sym a.joined ∙ b.joined)) [
@@ -99,31 +91,14 @@ pub record FirstCut (bytes : List ℕ) : Type 0 where
   pub first : IsFirstOf bytes part rest
 
 pub break_is_first : (rest : List ℕ) → (rest ≡ []) ⊎ BeginsHeading rest → IsFirstOf (10 ∷ rest) (10 ∷ []) rest
-break_is_first rest follows = record {
-  joined = refl;
-  whole = λ place below. absurd (omega arith);
-  ends = elim follows [ inl none ↦ inl none | inr begins ↦ inr (refl, begins) ];
-}
+break_is_first rest follows = grind arith
 
 whole_more : (byte : ℕ) (bytes part rest : List ℕ) → IsFirstOf bytes part rest → (byte ≡ 10 → ¬ (BeginsHeading bytes)) → (place : ℕ)
     → place + 1 < length (byte ∷ part) → get_or (byte ∷ bytes) place 0 ≡ 10 → ¬ (BeginsHeading (drop (place + 1) (byte ∷ bytes)))
-whole_more byte bytes part rest first none zero below is = none is
-whole_more byte bytes part rest first none (suc place) below is = λ begins.
-    let there : suc place + 1 ≡ suc (place + 1) = omega arith in
-    first.whole place (omega arith) is (subst (λ n. BeginsHeading (drop n (byte ∷ bytes))) there begins)
+whole_more byte bytes part rest first none place below is = grind arith
 
 pub one_byte_more : (byte : ℕ) (bytes part rest : List ℕ) → IsFirstOf bytes part rest → (byte ≡ 10 → ¬ (BeginsHeading bytes)) → IsFirstOf (byte ∷ bytes) (byte ∷ part) rest
-one_byte_more byte bytes part rest first none = record {
-  joined = ap (λ l. byte ∷ l) first.joined;
-  whole = whole_more byte bytes part rest first none;
-  ends = elim first.ends [
-    | inl left ↦ inl left
-    | inr ended ↦
-        let some : 1 ≤ length part = some_byte bytes part rest first.joined ended.0 ended.1 in
-        let place : length (byte ∷ part) - 1 ≡ suc (length part - 1) = omega arith in
-        inr (ap (λ n. get_or (byte ∷ bytes) n 0) place ∙ ended.0, ended.1)
-  ];
-}
+one_byte_more byte bytes part rest first none = grind (arith, whole_more, some_byte)
 
 pub first_cut : (bytes : List ℕ) → FirstCut bytes
 first_cut [] = record { part = []; rest = []; first = record { joined = refl; whole = λ place below. absurd (omega arith); ends = inl refl } }

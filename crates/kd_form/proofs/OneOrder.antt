@@ -1,5 +1,5 @@
 -- An order is read in one way, and becomes one form, or has one fault.
-use Rattle.std.proofs.Common.{◌≡◌, ◌≢◌, ℕ, ◌+◌, inl, inr, List, [], ◌∷◌, ◌++◌, length, map, get_or, refl, sym, ap, subst, ◌∙◌, append_assoc, arith, Err, Ok, Result, drop, ◌≤◌, ◌⊎◌, codes, All, slice_index, IsTrue, IsFalse}
+use Rattle.std.proofs.Common.{◌≡◌, ◌≢◌, ℕ, ◌+◌, inl, inr, List, [], ◌∷◌, ◌++◌, length, map, refl, sym, ap, subst, ◌∙◌, append_assoc, arith, Err, Ok, Result, drop, ◌≤◌, ◌⊎◌, codes, All, slice_index, IsTrue, IsFalse}
 use Rattle.std.proofs.lemmas.List.{append_cancel_right, append-nil}
 use Rattle.std.proofs.lemmas.List.Elements.{All-head, All-tail, All-map}
 use Rattle.kd_tables.specs.Text.{letters_text, is_text_byte}
@@ -30,10 +30,7 @@ pub only_this : {V : Type 0} {u : V} → IsOnly (λ (v : V). v ≡ u)
 only_this v w a b = a ∙ sym b
 
 pub only_either : {V : Type 0} {One Other : V → Type 0} → IsOnly One → IsOnly Other → ((v w : V) → One v → ¬ (Other w)) → IsOnly (λ v. One v ⊎ Other v)
-only_either ones others apart v w (inl one) (inl also) = ones v w one also
-only_either ones others apart v w (inl one) (inr other) = absurd (apart v w one other)
-only_either ones others apart v w (inr other) (inl one) = absurd (apart w v one other)
-only_either ones others apart v w (inr other) (inr also) = others v w other also
+only_either ones others apart v w a b = grind arith
 
 -- the answer is that of the thing that is found
 abbrev pub IsFound : {X V : Type 0} → (X → Type 0) → (X → V → Type 0) → V → Type 0
@@ -65,10 +62,7 @@ only_caught one apart laters =
 
 same_places : (places others : List ℕ) → ComesFirst places others → ComesFirst others places → places ≡ others
 same_places [] [] one other = refl
-same_places (x ∷ places) (y ∷ others) (inl below) (inl above) = absurd (omega arith)
-same_places (x ∷ places) (y ∷ others) (inl below) (inr same) = absurd (omega (arith, same.0))
-same_places (x ∷ places) (y ∷ others) (inr same) (inl above) = absurd (omega (arith, same.0))
-same_places (x ∷ places) (y ∷ others) (inr same) (inr again) = let more = same_places places others same.1 again.1 in cc
+same_places (x ∷ places) (y ∷ others) one other = grind (arith, same_places places others)
 same_places _ _ one other = search
 
 pub one_internal_key : (letters : List ℕ) → IsOnly (IsInternalKey letters)
@@ -86,19 +80,14 @@ one_part s part parts (Pin k) text one other (made, (internal, first, is), bytes
 one_form : (s : Day) (part parts : ℕ) (keys : List Keys) (texts : List (List ℕ)) → IsOnly (AreMadeTexts s part parts keys texts)
 one_form s part parts [] [] form other a b = a ∙ sym b
 one_form s part parts (k ∷ keys) (text ∷ texts) form other (one, more, made, mades, joined) (two, rest, again, agains, linked) =
-    let first = one_part s part parts k text one two made again in
-    let later = one_form s (part + 1) parts keys texts more rest mades agains in cc
+    cc (one_part s part parts k text one two made again, one_form s (part + 1) parts keys texts more rest mades agains, joined, linked)
 one_form s part parts _ _ form other a b = absurd a
 
 -- ---- one line of keys
 
 pub same_letters : (letters others : List ℕ) → letters_text letters ≡ letters_text others → letters ≡ others
 same_letters [] [] same = refl
-same_letters (x ∷ letters) (y ∷ others) same =
-    let more = same_letters letters others (cc) in
-    let first : x + 65 ≡ y + 65 = cc in
-    let one : x ≡ y = omega arith in
-    cc
+same_letters (x ∷ letters) (y ∷ others) same = grind (arith, same_letters letters others)
 same_letters _ _ same = cc
 
 -- words before a space
@@ -113,12 +102,10 @@ same_keys s (Rotor k) (Rotor other) are also same =
     let one = same_word k.start other.start _ _ (ap (drop 5) same) in
     let two = same_word k.key other.key _ _ one.1 in
     let three = same_word k.fillers other.fillers _ _ two.1 in
-    let four = same_letters k.group other.group three.1 in
-    λ i. Rotor (record { start = one.0 i; key = two.0 i; fillers = three.0 i; group = four i })
+    grind (arith, one.0, two.0, three.0, same_letters k.group other.group three.1)
 same_keys s (Pin k) (Pin other) are also same =
     let one = same_word (k.chosen ∷ []) (other.chosen ∷ []) _ _ (ap (drop 5) same) in
-    let two = same_letters k.external other.external one.1 in
-    λ i. Pin (record { chosen = get_or (one.0 i) 0 0; external = two i })
+    grind (arith, one.0, same_letters k.external other.external one.1)
 same_keys (OfRotors s) _ _ are also same = search
 same_keys (OfPins s) _ _ are also same = search
 
@@ -135,8 +122,7 @@ are_read (k ∷ keys) lines last text (line, rest, is, more, joined) ended =
     (line, (rest ++ last) ++ text, is, are_read keys rest last text more ended, rw joined (simp append_assoc))
 
 not_both : (k : Keys) (keys : List Keys) (text more bytes : List ℕ) → AreRead [] text bytes → ¬ (AreRead (k ∷ keys) more bytes)
-not_both k keys text more bytes (last, ended, is) (line, rest, keyed, later, joined) =
-    omega (arith, text_front last text ended, ap (λ l. get_or l 0 0) (sym is ∙ joined), key_first k line rest keyed)
+not_both k keys text more bytes one other = grind (arith, text_front, key_first)
 
 one_read : (s : Day) (keys others : List Keys) (text more bytes : List ℕ) → All (AreKeys s) keys → All (AreKeys s) others → AreRead keys text bytes
     → AreRead others more bytes → (keys ≡ others) × (text ≡ more)
@@ -147,9 +133,7 @@ one_read s (k ∷ keys) [] text more bytes all alls one other = absurd (not_both
 one_read s (k ∷ keys) (j ∷ others) text more bytes all alls (line, rest, is, later, joined) (first, left, also, latter, linked) =
     let lines = same_line (line_of (key_words k)) (line_of (key_words j)) line first rest left (plain_keys k) (plain_keys j) is also (sym joined ∙ linked) in
     let one = same_keys s k j (All-head (AreKeys s) k keys all) (All-head (AreKeys s) j others alls) lines.0 in
-    let behind = one_read s keys others text more rest (All-tail (AreKeys s) k keys all) (All-tail (AreKeys s) j others alls) later
-    (subst (AreRead others more) (sym lines.2) latter) in
-    (cc, behind.1)
+    grind (arith, one_read s keys others text more rest (All-tail (AreKeys s) k keys all) (All-tail (AreKeys s) j others alls) later)
 
 pub record IsSameOrder (keys others : List Keys) (head other text more : List ℕ) : Type 0 where
   pub keys_are : keys ≡ others
@@ -166,11 +150,7 @@ pub one_order : (s : Day) (order : List ℕ) (keys others : List Keys) (head oth
 one_order s order keys others head other text more tell a b =
     let same = one_read s keys others text more order a.is_head.of_the_day b.is_head.of_the_day (order_read s order keys head text a)
     (order_read s order others other more b) in
-    record {
-      keys_are = same.0;
-      head_is = append_cancel_right head other text (sym a.joined ∙ b.joined ∙ ap (λ t. other ++ t) (sym same.1));
-      text_is = same.1;
-    }
+    record { keys_are = same.0; head_is = append_cancel_right head other text (cc (a.joined, b.joined, same.1)); text_is = same.1 }
 
 -- -------- an order has a form, or one fault
 
@@ -196,9 +176,9 @@ pub no_head_fault : (s : Day) (order : List ℕ) (keys : List Keys) (head text :
 no_head_fault s order keys head text position tell is fault =
     elim (fronts head text fault.before fault.rest (sym is.joined ∙ fault.joined)) [
       | Shorter more longer rest ↦
-          let whole : fault.before ++ fault.more ≡ head ++ (more ++ fault.more) = ap (λ l. l ++ fault.more) longer ∙ append_assoc head more fault.more in
           let same = one_order s (fault.before ++ fault.more) keys fault.keys head (fault.before ++ fault.more) (more ++ fault.more) [] tell
-          (record { joined = whole; is_head = is.is_head }) (record { joined = sym (append-nil (fault.before ++ fault.more)); is_head = fault.begins }) in
+          (record { joined = cc (longer, append_assoc head more fault.more); is_head = is.is_head })
+          (record { joined = sym (append-nil (fault.before ++ fault.more)); is_head = fault.begins }) in
           fault.missing (nothing_more more fault.more same.text_is)
       | Longer byte more longer rest ↦ fault.stops byte (more ++ text) keys more rest (subst (IsHead s keys) longer is.is_head)
     ]
@@ -212,7 +192,7 @@ not_later s order one other byte more a b longer rest =
 
 one_place : (s : Day) (order : List ℕ) → IsOnly (IsHeadFault s order)
 one_place s order one other a b = elim (fronts a.before a.rest b.before b.rest (sym a.joined ∙ b.joined)) [
-  | Shorter [] longer rest ↦ a.size ∙ ap (λ l. length l + 1) (sym (longer ∙ append-nil a.before)) ∙ sym b.size
+  | Shorter [] longer rest ↦ cc (a.size, b.size, longer, append-nil a.before)
   | Shorter (byte ∷ more) longer rest ↦ absurd (not_later s order one other byte more a b longer rest)
   | Longer byte more longer rest ↦ absurd (not_later s order other one byte more b a longer rest)
 ]
@@ -220,25 +200,18 @@ one_place s order one other a b = elim (fronts a.before a.rest b.before b.rest (
 -- ---- faults in the keys
 
 suits_or_not : (s : Day) (k : Keys) (part : ℕ) (fault : FormFault) → IsKeysFault s part k fault → ¬ (Suits s k)
-suits_or_not (OfRotors s) (Rotor k) part fault is suits = is.0 suits
-suits_or_not (OfPins s) (Pin k) part fault (inl off) suits = off.0 suits.0
-suits_or_not (OfPins s) (Pin k) part fault (inr spent) suits = spent.1 suits.1.1.places suits.1.0 suits.1.1.picked
-suits_or_not _ _ part fault is suits = suits
+suits_or_not s k part fault is suits = grind arith
 
 one_keys_fault : (s : Day) (part : ℕ) (k : Keys) → IsOnly (IsKeysFault s part k)
 one_keys_fault (OfRotors s) part (Rotor k) fault other a b = a.1 ∙ sym b.1
-one_keys_fault (OfPins s) part (Pin k) fault other (inl off) (inl also) = off.1 ∙ sym also.1
-one_keys_fault (OfPins s) part (Pin k) fault other (inl off) (inr spent) = absurd (off.0 spent.0)
-one_keys_fault (OfPins s) part (Pin k) fault other (inr spent) (inl off) = absurd (off.0 spent.0)
-one_keys_fault (OfPins s) part (Pin k) fault other (inr spent) (inr also) = spent.2 ∙ sym also.2
+one_keys_fault (OfPins s) part (Pin k) fault other a b = grind arith
 one_keys_fault _ part _ fault other a b = absurd a
 
 first_keys_fault : (s : Day) (keys : List Keys) → IsOnly (IsFirstKeysFault s keys)
 first_keys_fault s keys fault other a b =
     let same = same_front (Suits s) a.before b.before (a.unsuited ∷ a.others) (b.unsuited ∷ b.others) a.suited b.suited
     (suits_or_not s a.unsuited _ fault a.is) (suits_or_not s b.unsuited _ other b.is) (sym a.joined ∙ b.joined) in
-    let first : a.unsuited ≡ b.unsuited = cc (same.1) in
-    one_keys_fault s (length b.before + 1) b.unsuited fault other (rw (same.0, first) at a.is) b.is
+    grind (arith, same, one_keys_fault s (length b.before + 1) b.unsuited fault other)
 
 pub no_keys_fault : (s : Day) (keys : List Keys) (fault : FormFault) → All (Suits s) keys → ¬ (IsFirstKeysFault s keys fault)
 no_keys_fault s keys fault all is =
@@ -257,15 +230,7 @@ one_bad_byte text place other a b =
     a.size ∙ ap length same.0 ∙ sym b.size
 
 pub bad_longer : (text more : List ℕ) (place : ℕ) → IsBadAt text place → IsBadAt (text ++ more) place
-bad_longer text more place bad = record {
-  before = bad.before;
-  byte = bad.byte;
-  rest = bad.rest ++ more;
-  joined = ap (λ t. t ++ more) bad.joined ∙ append_assoc bad.before (bad.byte ∷ bad.rest) more;
-  size = bad.size;
-  allowed = bad.allowed;
-  bad = bad.bad;
-}
+bad_longer text more place bad = grind (arith, append_assoc {A = ℕ})
 
 pub no_bad_byte : (text : List ℕ) (place : ℕ) → All (λ x. IsTrue (is_text_byte x)) text → ¬ (IsBadAt text place)
 no_bad_byte text place all is =
@@ -297,8 +262,7 @@ IsOrderAnswer s order v =
 only_order : (s : Day) (order : List ℕ) → TextsTellFirstParts → IsOnly (IsOrderAnswer s order)
 only_order s order tell =
     only_either (only_found (one_place s order) (λ position. only_this))
-    (only_found (λ (keys, head, text) (others, other, more) a b. let same = one_order s order keys others head other text more tell a b in
-    λ i. (same.keys_are i, same.head_is i, same.text_is i))
+    (only_found (λ x y a b. grind (arith, one_order s order x.0 y.0 x.1 y.1 x.2 y.2 tell a b))
     (λ (keys, head, text). only_caught (first_keys_fault s keys) (no_keys_fault s keys) (only_caught (one_bad_byte text) (no_bad_byte text)
     (only_judged (only_judged (only_found (one_form s 1 (length keys) keys (pieces (part_size s) (text_letters s text))) (λ form. only_this)))))))
     (λ v w a b. no_head_fault s order b.0.0 b.0.1 b.0.2 a.0 tell b.1 a.1)
@@ -312,10 +276,8 @@ fault_answer s order fault (inl (InHead position is few e)) = inl (position, is,
 fault_answer s order fault (inl (InKeys keys head text is k)) = inr ((keys, head, text), is, inl (fault, k, refl))
 fault_answer s order fault (inl (InText keys head text place is suited bad e)) = inr ((keys, head, text), is, inr (suited, inl (place, bad, ap Err e)))
 fault_answer s order fault (inr (Cut is e)) = inl (length order + 1, is, ap Err e)
-fault_answer s order fault (inr (NoLetter keys head text is suited allowed none e)) =
-    inr ((keys, head, text), is, inr (suited, inr (allowed, inl (λ some. some none, ap Err e))))
-fault_answer s order fault (inr (InParts keys head text is suited allowed some differ e)) =
-    inr ((keys, head, text), is, inr (suited, inr (allowed, inr (some, inl (differ, ap Err e)))))
+fault_answer s order fault (inr (NoLetter keys head text is suited allowed none e)) = inr ((keys, head, text), is, grind arith)
+fault_answer s order fault (inr (InParts keys head text is suited allowed some differ e)) = inr ((keys, head, text), is, grind arith)
 
 pub orders_become_one_form : TextsTellFirstParts → OrdersBecomeOneForm
 orders_become_one_form tell s order form other a b =
@@ -336,9 +298,9 @@ pub nothing_stands : TextsTellFirstParts → (s : Day) (order : List ℕ) (keys 
     → All (Suits s) keys → All (λ x. IsTrue (is_text_byte x)) text → ¬ (StandsInOrder s order fault)
 nothing_stands tell s order keys head text fault o suited allowed (InHead p h few e) = no_head_fault s order keys head text p tell o h
 nothing_stands tell s order keys head text fault o suited allowed (InKeys ks hd t q k) =
-    let same = one_order s order keys ks head hd text t tell o q in no_keys_fault s ks fault (rw (same.keys_are) at suited) k
+    no_keys_fault s ks fault (rw ((one_order s order keys ks head hd text t tell o q).keys_are) at suited) k
 nothing_stands tell s order keys head text fault o suited allowed (InText ks hd t n q su b e) =
-    let same = one_order s order keys ks head hd text t tell o q in no_bad_byte t n (rw (same.text_is) at allowed) b
+    no_bad_byte t n (rw ((one_order s order keys ks head hd text t tell o q).text_is) at allowed) b
 
 -- and in one that ends in its head
 pub nothing_stands_yet : TextsTellFirstParts → (s : Day) (order : List ℕ) (fault : FormFault) → IsHeadFault s order (length order + 1) → ¬ (StandsInOrder s order fault)

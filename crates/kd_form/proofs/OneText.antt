@@ -13,7 +13,7 @@ use Rattle.kd_form.specs.InternalKey.{IsInternalKey}
 use Rattle.kd_form.specs.Making.{cipher_from, list_letters, enciphered_choice}
 use Rattle.kd_form.specs.Sending.{letters_from, IsBadAt}
 use Rattle.kd_form.specs.Reading.{AreRotorLetters, message_key, IsRotorText, IsRotorFault, indicators_with, ArePinLetters, IsPinText, IsPinFault, InIndicators, InExternal, InList, InChoice, IsLettersText, IsLettersFault}
-use Rattle.kd_form.specs.Receiving.{HasHeading, IsExpected, IsPartRead, IsPartFault, InHeading, InNumber, InBody, InCount, InLetters, IsEarlyFault, IsBodyFault}
+use Rattle.kd_form.specs.Receiving.{HasHeading, IsExpected, IsPartRead, IsPartFault, InHeading, InNumber, InBody, IsEarlyFault, IsBodyFault}
 use Rattle.kd_form.proofs.Plain.{same_sized}
 use Rattle.kd_form.proofs.Received.{turn_at_start}
 use Rattle.kd_form.proofs.OneOrder.{IsCaught, only_this, only_either, only_found, only_judged, only_caught, one_internal_key, one_bad_byte, no_bad_byte, IsFound, IsJudged, IsOnly}
@@ -41,10 +41,7 @@ Answer = Result (List ℕ) FormFault
 -- ---- the letters of a rotor machine's part
 
 one_rotor_letters : (letters : List ℕ) (x y : List ℕ × List ℕ) → AreRotorLetters letters x.0 x.1 → AreRotorLetters letters y.0 y.1 → x ≡ y
-one_rotor_letters letters (group, text) (other, more) a b =
-    let behind = same_sized a.fillers b.fillers (group ++ text) (other ++ more) (a.two ∙ sym b.two) (sym a.joined ∙ b.joined) in
-    let both = same_sized group other text more (a.three ∙ sym b.three) behind.1 in
-    λ i. (both.0 i, both.1 i)
+one_rotor_letters letters x y a b = grind (arith, same_sized)
 
 -- refused for the group, or deciphered
 abbrev IsRotorAnswer : Day → ℕ → Indicator → List ℕ → Answer → Type 0
@@ -65,11 +62,7 @@ ten_letters k list six two = omega (arith, length-append k.external list)
 -- letters between as many letters
 same_between : (first text last other more end : List ℕ) → length first ≡ 10 → length other ≡ 10 → length last ≡ 10 → length end ≡ 10
     → first ++ (text ++ last) ≡ other ++ (more ++ end) → (first ≡ other) × (text ≡ more) × (last ≡ end)
-same_between first text last other more end front head back tail same =
-    let fronts = same_sized first other (text ++ last) (more ++ end) (front ∙ sym head) same in
-    let size : length text ≡ length more = omega (arith, ap length fronts.1, length-append text last, length-append more end) in
-    let backs = same_sized text more last end size fronts.1 in
-    (fronts.0, backs.0, backs.1)
+same_between first text last other more end front head back tail same = grind (arith, same_sized, length-append {A = ℕ})
 
 one_pin_letters : (letters : List ℕ) (x y : PinKeys × List ℕ × List ℕ) → ArePinLetters letters x.0 x.1 x.2 → ArePinLetters letters y.0 y.1 y.2 → x ≡ y
 one_pin_letters letters (k, list, text) (other, others, more) a b =
@@ -83,13 +76,9 @@ one_pin_letters letters (k, list, text) (other, others, more) a b =
 -- letters whose indicators differ are no indicators around a text
 no_pin_letters : (letters first text last : List ℕ) → letters ≡ first ++ (text ++ last) → length first ≡ 10 → length last ≡ 10
     → (first ≢ last) ⊎ (slice_index first 0 ≢ slice_index first 1) → (x : PinKeys × List ℕ × List ℕ) → ¬ (ArePinLetters letters x.0 x.1 x.2)
-no_pin_letters letters first text last joined front back differ (k, list, more) are =
-    let ten = ten_letters k list are.six are.two in
-    let same = same_between first text last (indicators_with k list) more (indicators_with k list) front ten back ten (sym joined ∙ are.joined) in
-    elim differ [
-      | inl other ↦ other (same.0 ∙ sym same.2)
-      | inr two ↦ two (ap (λ ls. get_or ls 0 0) same.0 ∙ sym (ap (λ ls. get_or ls 1 0) same.0))
-    ]
+no_pin_letters letters first text last joined front back differ x are =
+    let ten = ten_letters x.0 x.1 are.six are.two in
+    grind (arith, same_between first text last (indicators_with x.0 x.1) x.2 (indicators_with x.0 x.1) front ten back ten)
 
 -- refused for the indicators, the external letters, the list or the chosen letter, or deciphered
 abbrev IsPinAnswer : Day → ℕ → List ℕ → Answer → Type 0
@@ -137,8 +126,7 @@ module _ (s : Day) (tell : TextsTellFirstParts) (numbers : NumbersAreWords) wher
 
   count_answer : {number : ℕ} {h : Heading} {letters : List ℕ} {fault : FormFault} → IsBodyFault s number h letters fault
       → IsJudged (length letters ≡ h.letters) (Err (CountWrong number)) (IsLettersAnswer s number h.indicator letters) (Err fault)
-  count_answer (InCount other is) = inl (other, ap Err is)
-  count_answer (InLetters counted is) = inr (counted, is)
+  count_answer a = grind arith
 
   part_fault : {number : ℕ} {expected : Option ℕ} {start : ℕ} {part : List ℕ} {fault : FormFault} → IsPartFault s number expected start part fault
       → IsPartAnswer number expected start part (Err fault)
@@ -159,7 +147,7 @@ module _ (s : Day) (tell : TextsTellFirstParts) (numbers : NumbersAreWords) wher
   one_text {number} {part = part} {text = text} {other = other} a b =
       let headings = one_heading s part a.heading b.heading a.body b.body tell numbers a.has b.has in
       let texts : Ok text ≡ Ok other = only_part number None 0 part (Ok text) (Ok other) (part_read None 0 a tt) (part_read None 0 b tt) in
-      (sym a.so_many ∙ ap (λ h. h.parts) headings.0 ∙ b.so_many, cc)
+      (cc (a.so_many, b.so_many, headings.0), cc)
 
   -- -------- a form becomes one text, or has one fault
 
@@ -194,9 +182,7 @@ module _ (s : Day) (tell : TextsTellFirstParts) (numbers : NumbersAreWords) wher
   -- no part is read where nothing is left
   none_left : (count : ℕ) (before : List (List ℕ)) (part : List ℕ) (behind : List (List ℕ)) (rest letters : List ℕ) → AreFirstParts (part ∷ behind) [] rest
       → ¬ (ArePartsRead s 1 count (before ++ part ∷ behind) letters)
-  none_left count before part behind rest letters (after, first, later) read =
-      let there = read_there 1 count before part behind letters read in
-      no_empty_heading s there.1.heading there.1.body (subst (λ p. HasHeading s p there.1.heading there.1.body) (empty_part part after first) there.1.has)
+  none_left count before part behind rest letters cut read = grind (arith, read_there 1, empty_part, no_empty_heading)
 
   -- ---- forms that are read to their end
 
@@ -233,7 +219,7 @@ module _ (s : Day) (tell : TextsTellFirstParts) (numbers : NumbersAreWords) wher
     whole_not_refused : (parts : List (List ℕ)) (other : ℕ) (letters : List ℕ) (t : Turn s form) (fault : FormFault) → parts ≢ []
         → IsReadTo s form [] parts other letters → ¬ (IsRefusedPart s form t fault)
     whole_not_refused parts other letters t fault some whole refused = elim (cuts form parts t.before [] t.rest whole.cut t.read.cut) [
-      | Alike same left ↦ elim t.left [ inl none ↦ some (same ∙ none) | inr some_left ↦ some_left (sym left) ]
+      | Alike same left ↦ grind arith
       | Further part behind further cut ↦ none_left t.count parts part behind t.rest t.letters cut (rw further at t.read.read)
       | Before part behind further cut ↦ not_refused t fault part behind other letters [] cut (rw further at whole.read) refused
     ]
@@ -324,7 +310,7 @@ begins_by_parts s form rest [] count letters numbers read may = rw (read.cut) ma
 begins_by_parts s form rest (part ∷ before) count letters numbers read may =
     let cut = read.cut in
     let is = read.read in
-    ([], subst BeginsHeading (sym (cut.1.joined) ∙ sym (append-nil form)) (begins_more part cut.0 (begins_there s part is.2.heading is.2.body numbers is.2.has)))
+    ([], grind (arith, append-nil form, begins_more part cut.0, begins_there s part is.2.heading is.2.body numbers is.2.has))
 
 -- its last part isn't whole, and isn't refused as far as it has come: then nothing refuses it for good
 pub nothing_stands : (s : Day) (form : List ℕ) (t : Turn s form) → TextsTellFirstParts → NumbersAreWords → t.after ≡ []

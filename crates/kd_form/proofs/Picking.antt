@@ -1,5 +1,5 @@
 -- The first of all rising places is found by striking out: letter by letter, and wheel by wheel.
-use Rattle.std.proofs.Common.{◌≡◌, ℕ, zero, suc, ◌+◌, ◌<◌, ◌≤◌, inl, inr, List, [], ◌∷◌, ◌++◌, length, map, refl, sym, ap, subst, ◌∙◌, append_assoc, length-append, arith, slice_index, slice_get, Some, Contains}
+use Rattle.std.proofs.Common.{◌≡◌, ℕ, suc, ◌+◌, ◌<◌, ◌≤◌, inl, inr, List, [], ◌∷◌, ◌++◌, length, map, refl, sym, ap, subst, ◌∙◌, append_assoc, length-append, arith, slice_index, slice_get, Some, Contains}
 use Rattle.std.proofs.lemmas.Bool.{cases_lt, cases_eq}
 use Rattle.std.proofs.lemmas.List.{append-nil, map_push, length-map}
 use Rattle.kd_tables.specs.Rings.{ring_of}
@@ -81,11 +81,7 @@ picking_more letters wheel start place done less picking next = record {
 later_on : (letters : List ℕ) (wheel place : ℕ) (rest : List ℕ) → Contains (ring_of wheel) (slice_index letters place)
     → ((i letter : ℕ) → slice_get (map (λ p. slice_index letters p) rest) i ≡ Some letter → Contains (ring_of (wheel + 1 + i)) letter)
     → (i letter : ℕ) → slice_get (map (λ p. slice_index letters p) (place ∷ rest)) i ≡ Some letter → Contains (ring_of (wheel + i)) letter
-later_on letters wheel place rest on others zero letter is =
-    let same : slice_index letters place ≡ letter = cc in
-    subst (Contains (ring_of (wheel + 0))) same (subst (λ w. Contains (ring_of w) (slice_index letters place)) (omega arith) on)
-later_on letters wheel place rest on others (suc i) letter is =
-    subst (λ w. Contains (ring_of w) letter) (omega arith) (others i letter is)
+later_on letters wheel place rest on others i letter is = grind arith
 
 on_wheels : (letters : List ℕ) (wheel start : ℕ) (places : List ℕ) → Picks letters wheel start places
     → AreRising start (length letters) places × (length places + wheel ≡ 7)
@@ -97,8 +93,7 @@ on_wheels letters wheel start (place ∷ places) (after, inside, on, more) =
 
 each_picked : (letters places : List ℕ) → ((i letter : ℕ) → slice_get (map (λ p. slice_index letters p) places) i ≡ Some letter → Contains (ring_of (1 + i)) letter)
     → (wheel letter : ℕ) → numbered (map (λ p. slice_index letters p) places) wheel ≡ Some letter → Contains (ring_of wheel) letter
-each_picked letters places each zero letter is = absurd (cc)
-each_picked letters places each (suc i) letter is = subst (λ w. Contains (ring_of w) letter) (omega arith) (each i letter is)
+each_picked letters places each wheel letter is = grind arith
 
 picks_of : (letters : List ℕ) (wheel start : ℕ) (places : List ℕ) → AreRising start (length letters) places → length places + wheel ≡ 7
     → ((i letter : ℕ) → slice_get (map (λ p. slice_index letters p) places) i ≡ Some letter → Contains (ring_of (wheel + i)) letter)

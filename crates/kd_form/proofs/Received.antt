@@ -25,8 +25,7 @@ parts_read_more s number count (p ∷ before) letters part one (first, more, is,
 -- the parts so far are of as many as the next one says
 of_so_many : (s : Day) (before : List (List ℕ)) (count parts : ℕ) (letters : List ℕ) → IsExpected (count_due before count) parts
     → ArePartsRead s 1 count before letters → ArePartsRead s 1 parts before letters
-of_so_many s [] count parts letters due read = read
-of_so_many s (p ∷ before) count parts letters due read = subst (λ n. ArePartsRead s 1 n (p ∷ before) letters) due read
+of_so_many s before count parts letters due read = grind arith
 
 pub given_more : (s : Day) (letters more : List ℕ) → given_letters s (letters ++ more) ≡ given_letters s letters ++ given_letters s more
 given_more s letters more = map-append _ letters more

@@ -1,16 +1,14 @@
 -- The letters of a text, byte by byte.
-use Rattle.std.proofs.Common.{◌≡◌, ℕ, ◌≤◌, List, ◌∷◌, ◌++◌, length, refl, arith, Option, Some, None, option_to_list}
+use Rattle.std.proofs.Common.{◌≡◌, ℕ, ◌≤◌, List, ◌∷◌, ◌++◌, length, arith, Option, option_to_list}
 use Rattle.std.specs.List.{cons_option}
 use Rattle.kd_form.specs.Sending.{letter_of_byte, letters_from}
 
 one_option : (found : Option ℕ) (rest : List ℕ) → cons_option found rest ≡ option_to_list found ++ rest
-one_option None rest = refl
-one_option (Some letter) rest = refl
+one_option found rest = grind arith
 
 -- the letters of a text, one byte more
 pub letters_first : (blank : Option ℕ) (byte : ℕ) (text : List ℕ) → letters_from blank (byte ∷ text) ≡ option_to_list (letter_of_byte blank byte) ++ letters_from blank text
 letters_first blank byte text = one_option (letter_of_byte blank byte) (letters_from blank text)
 
 pub at_most_one : (found : Option ℕ) → length (option_to_list found) ≤ 1
-at_most_one None = omega arith
-at_most_one (Some letter) = omega arith
+at_most_one found = grind arith

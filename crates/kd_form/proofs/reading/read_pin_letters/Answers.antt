@@ -1,4 +1,4 @@
-use Rattle.std.proofs.Common.{◌∙◌, refl, sym, subst, arith}
+use Rattle.std.proofs.Common.{◌∙◌, refl, sym, arith}
 use Rattle.std.proofs.lemmas.Bool.{false≢true}
 use Rattle.kd_form.specs.Reading.{ArePinLetters, InExternal, InList, InChoice}
 use Rattle.kd_form.proofs.MadeParts.{three_parts, pin_letters_are, indicators_differ, first_two_differ, first_read, not_same, the_same, list_told}
