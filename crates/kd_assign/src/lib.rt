@@ -8,8 +8,6 @@ mod partial;
 mod prices;
 mod scans;
 mod solution;
-#[cfg(test)]
-mod tests;
 mod tree;
 
 pub use scans::Scans;

@@ -13,8 +13,6 @@ mod look;
 mod price_text;
 mod prices;
 mod read;
-#[cfg(test)]
-mod tests;
 mod write;
 
 pub use card::Card;

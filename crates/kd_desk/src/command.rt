@@ -5,9 +5,6 @@ ghost use Rattle.kd_state.specs.SheetDay.{IsDayNumber};
 ghost use Rattle.kd_desk.specs.CommandLine.{word_named, command_shape, alone, day_words, way_name, way_word, file_shape, desk_grammar};
 ghost use Rattle.kd_desk.specs.CommandLine.{named, action_named, HaveDay, IsActionOf, IsOf, IsOfNone, Says, SaysNothing};
 
-#[cfg(test)]
-mod tests;
-
 use crate::fault::DeskFault;
 use crate::stop::Stop;
 use clap::error::ErrorKind;

@@ -10,9 +10,6 @@ ghost use Rattle.kd_desk.specs.OnDay.{OnDay};
 ghost use Rattle.kd_tables.specs.Ports.{Fail, port};
 ghost use Rattle.kd_desk.specs.RunSteps.{is_device, is_refused_before};
 
-#[cfg(test)]
-mod tests;
-
 use crate::command::{Action, Command, Named, NamedAction, Task, Way, parse_words};
 use crate::fault::DeskFault;
 use crate::files::{Content, FileFault, Files};

@@ -1,6 +1,3 @@
-#[cfg(test)]
-mod tests;
-
 use crate::files::FileFault;
 use crate::typing::TextFault;
 use kd_card::{CardFault, IllegalAt};

@@ -7,12 +7,10 @@ mod content;
 mod fault;
 mod host;
 mod memory;
-#[cfg(test)]
-mod tests;
 
 pub use content::Content;
 pub use fault::FileFault;
-pub use host::HostFiles;
+pub use host::{HostFile, HostFiles, read_whole};
 use kd_tables::Source;
 pub use memory::MemoryFiles;
 use std::alloc::Global;

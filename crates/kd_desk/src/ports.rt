@@ -1,7 +1,5 @@
 //! How bytes reach the desk and leave it.
 mod reader_source;
-#[cfg(test)]
-mod tests;
 mod writer_sink;
 
 pub use reader_source::ReaderSource;

@@ -5,9 +5,6 @@ ghost use Rattle.kd_tables.specs.Ports.{port};
 ghost use Rattle.kd_desk.specs.RunApply.{Applies};
 ghost use Rattle.kd_desk.specs.RunSteps.{LacksMemory, AnswersFault, is_device, is_refused_before};
 
-#[cfg(test)]
-mod tests;
-
 use crate::fault::DeskFault;
 use crate::settings::read_settings;
 use kd_card::carry_all;

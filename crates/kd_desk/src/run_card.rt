@@ -7,9 +7,6 @@ ghost use Rattle.kd_tables.specs.Ports.{port};
 ghost use Rattle.kd_desk.specs.RunCard.{Prints};
 ghost use Rattle.kd_desk.specs.RunSteps.{is_refused_before, is_device};
 
-#[cfg(test)]
-mod tests;
-
 use crate::fault::DeskFault;
 use crate::finding::find_day;
 use kd_card::{Card, write_card};

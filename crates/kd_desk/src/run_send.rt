@@ -4,9 +4,6 @@ ghost use Rattle.kd_desk.specs.OnDay.{OnDay};
 ghost use Rattle.kd_tables.specs.Ports.{Fail, port};
 ghost use Rattle.kd_desk.specs.RunSteps.{is_refused_before, is_device};
 
-#[cfg(test)]
-mod tests;
-
 use crate::fault::DeskFault;
 use crate::finding::find_day;
 use kd_form::send_stream;

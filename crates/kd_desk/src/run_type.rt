@@ -6,9 +6,6 @@ ghost use Rattle.kd_tables.specs.Ports.{Fail, port};
 ghost use Rattle.kd_desk.specs.Typing.{TypesLine};
 ghost use Rattle.kd_desk.specs.RunSteps.{LacksMemory, AnswersFault, is_device, is_refused_before};
 
-#[cfg(test)]
-mod tests;
-
 use crate::fault::DeskFault;
 use crate::typing::type_line;
 use kd_sheet::read_machine;

@@ -4,7 +4,5 @@
 mod converter;
 mod counts;
 pub mod laws;
-#[cfg(test)]
-mod tests;
 
 pub use converter::Converter;

@@ -8,8 +8,6 @@ mod map;
 mod plugs;
 mod right_wheel;
 mod rotor;
-#[cfg(test)]
-mod tests;
 
 pub use enigma::Enigma;
 pub use key::EnigmaKey;

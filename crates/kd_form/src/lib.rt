@@ -22,8 +22,6 @@ mod receiving;
 mod sending;
 mod stream;
 mod suiting;
-#[cfg(test)]
-mod tests;
 mod text;
 
 pub use fault::FormFault;

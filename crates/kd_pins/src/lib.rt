@@ -3,8 +3,6 @@
 
 mod pin_set;
 mod pin_wheel;
-#[cfg(test)]
-mod tests;
 
 pub use pin_set::PinSet;
 pub use pin_wheel::{NotOnWheel, PinWheel};

@@ -10,8 +10,6 @@ mod other_model;
 mod pin_lines;
 mod planner;
 mod rotor_lines;
-#[cfg(test)]
-mod tests;
 
 pub use other_model::OtherModel;
 pub use planner::plan;

@@ -10,8 +10,6 @@ pub mod laws;
 mod looks;
 mod loose;
 mod needless;
-#[cfg(test)]
-mod tests;
 
 pub use checking::check;
 pub use doubt::Doubt;

@@ -19,8 +19,6 @@ mod seats;
 mod sheet;
 mod sheet_day;
 mod sheet_file;
-#[cfg(test)]
-mod tests;
 mod write;
 
 pub use fault::SheetFault;

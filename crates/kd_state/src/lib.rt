@@ -9,8 +9,6 @@ pub mod laws;
 mod machine;
 mod setting;
 mod sheet_day;
-#[cfg(test)]
-mod tests;
 mod words;
 
 pub use costs::tables::{bar_costs, cable_costs, column_at};

@@ -4,7 +4,5 @@
 pub mod laws;
 mod notches;
 mod stepper;
-#[cfg(test)]
-mod tests;
 
 pub use stepper::Stepper;

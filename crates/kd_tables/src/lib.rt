@@ -20,8 +20,6 @@ mod sink;
 mod source;
 mod standing;
 mod table;
-#[cfg(test)]
-mod tests;
 mod wheel;
 mod writing;
 

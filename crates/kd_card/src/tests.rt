@@ -1,5 +1,0 @@
-mod cut;
-mod prices;
-mod read;
-mod samples;
-mod write;

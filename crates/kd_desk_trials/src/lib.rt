@@ -1,0 +1,27 @@
+//! Tests of the desk's public calls, a module for each, on machine files, sheets, cards, orders and forms as texts.
+#![tactic(auto)]
+
+#[cfg(test)]
+mod command;
+#[cfg(test)]
+mod desk;
+#[cfg(test)]
+mod fault;
+#[cfg(test)]
+mod files;
+#[cfg(test)]
+mod ports;
+#[cfg(test)]
+mod run_apply;
+#[cfg(test)]
+mod run_card;
+#[cfg(test)]
+mod run_check;
+#[cfg(test)]
+mod run_receive;
+#[cfg(test)]
+mod run_send;
+#[cfg(test)]
+mod run_type;
+#[cfg(test)]
+mod samples;

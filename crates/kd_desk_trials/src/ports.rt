@@ -1,0 +1,105 @@
+use kd_desk::{ReaderSource, WriterSink};
+use kd_tables::{Failed, Sink, Source};
+use std::io::{self, ErrorKind, Read, Write};
+use std::process::Abort;
+
+/// A reader that is interrupted once, and then gives two bytes at a time.
+#[derive(Drop)]
+struct Interrupted {
+    was: bool,
+}
+
+impl Read for Interrupted {
+    fn read(&mut self, buffer: &mut [u8]) -> io::Result<usize> {
+        if !self.was {
+            self.was = true;
+            return Err(io::Error::from(ErrorKind::Interrupted));
+        }
+        let count = buffer.len().min(2);
+        buffer[..count].fill(b'A');
+        Ok(count)
+    }
+}
+
+/// A writer that takes so many bytes, and then none.
+#[derive(Drop)]
+struct Full {
+    room: usize,
+}
+
+impl Write for Full {
+    fn write(&mut self, bytes: &[u8]) -> io::Result<usize> {
+        let count = bytes.len().min(self.room);
+        self.room -= count;
+        Ok(count)
+    }
+
+    fn flush(&mut self) -> io::Result<()> {
+        Ok(())
+    }
+}
+
+/// The size of a buffer, what is got, and whether a get has failed by then.
+type Get = (usize, Result<&'static [u8], Failed>, bool);
+
+/// Of a reader of ENIGMA.
+static GETS: [Get; 6] = [
+    (1, Ok(b"E"), false),
+    (0, Ok(b""), false),
+    (1, Ok(b"N"), false),
+    (4096, Ok(b"IGMA"), false),
+    (4096, Ok(b""), false),
+    (1, Ok(b""), false),
+];
+
+/// Of the reader that is interrupted.
+static GETS_OF_INTERRUPTED: [Get; 4] = [
+    (4096, Err(Failed), true),
+    (4096, Ok(b"AA"), true),
+    (1, Ok(b"A"), true),
+    (0, Ok(b""), true),
+];
+
+/// The gets follow one another on the source.
+fn are_got<R: Read + Drop>(rt: &impl Abort, source: &mut ReaderSource<R>, gets: &[Get]) {
+    let mut buffer = [0; 4096];
+    for (size, got, failed) in gets {
+        let size = (*size).min(4096);
+        let count = source.get(&mut buffer[..size]);
+        let bytes = count.map(|count| buffer.get(..count).unwrap_or(b"?"));
+        assert_eq!(rt; bytes, *got);
+        assert_eq!(rt; source.failed(), *failed);
+    }
+}
+
+#[test]
+fn a_reader_gives_what_it_has(rt: HostRuntime) {
+    are_got(&rt, &mut ReaderSource::new(b"ENIGMA".as_slice()), &GETS);
+}
+
+#[test]
+fn an_interrupted_read_fails(rt: HostRuntime) {
+    let reader = Interrupted { was: false };
+    are_got(&rt, &mut ReaderSource::new(reader), &GETS_OF_INTERRUPTED);
+}
+
+/// How many bytes are put into a writer that takes 1,103 of them, how many are taken, and whether a put has failed by then.
+static PUTS: [(usize, Result<usize, Failed>, bool); 7] = [
+    (0, Ok(0), false),
+    (1100, Ok(1100), false),
+    (8, Ok(3), false),
+    (0, Ok(0), false),
+    (5, Err(Failed), true),
+    (1, Err(Failed), true),
+    (0, Ok(0), true),
+];
+
+#[test]
+fn a_write_that_takes_nothing_fails(rt: HostRuntime) {
+    let mut sink = WriterSink::new(Full { room: 1103 });
+    let bytes = [b'A'; 1100];
+    for (size, taken, failed) in &PUTS {
+        assert_eq!(rt; sink.put(&bytes[..(*size).min(1100)]), *taken);
+        assert_eq!(rt; sink.failed(), *failed);
+    }
+}

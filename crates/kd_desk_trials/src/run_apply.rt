@@ -1,0 +1,134 @@
+use crate::samples::{
+    CARD, CARD_BY_KIND, Change, M4, MACHINE, PLUGGED, Ran, SAME, TEN_CABLES, WRITTEN,
+};
+use kd_card::{CardFault, IllegalAt};
+use kd_desk::DeskFault::{self, Card, File, Illegal, List};
+use kd_desk::run_apply::run_apply;
+use kd_sheet::SheetFault::NotToml;
+use kd_state::ListFault::BadLine;
+use kd_state::Why;
+use kd_tables::MemorySink;
+use std::alloc::{AllocError, Global};
+use std::process::Abort;
+
+/// What becomes of a machine by a list, with so much room for its file.
+fn run(alloc: Global, machine: &str, list: &str, room: usize) -> Ran {
+    let mut sink = MemorySink::new(room.min(4096));
+    let answer = run_apply(alloc, machine.as_bytes(), list.as_bytes(), &mut sink);
+    Ran { answer, sink }
+}
+
+/// No cables are written, and the pairs of the card's day.
+const CARRIED: Change = [
+    "cables = [\"\", \"\", \"\"",
+    "cables = [\"BC\", \"DE\", \"\"",
+];
+
+/// A machine, a list, and how the file differs that is then written.
+type Applied = (&'static str, Change, &'static str, &'static str, Change);
+
+static APPLIED: [Applied; 6] = [
+    (
+        MACHINE,
+        SAME,
+        "RING I B\nTURN 1 B\n",
+        WRITTEN,
+        ["AAAAA", "BAAAA"],
+    ),
+    (MACHINE, SAME, "", WRITTEN, SAME),
+    (MACHINE, PLUGGED, CARD, WRITTEN, CARRIED),
+    (MACHINE, PLUGGED, CARD_BY_KIND, WRITTEN, CARRIED),
+    (M4, SAME, "", M4, ["\"VX\"", "\"VX\", \"\", \"\", \"\""]),
+    (
+        MACHINE,
+        PLUGGED,
+        "PULL 1 A\nPULL 2 C\n",
+        WRITTEN,
+        ["cables = [\"\", \"\", \"\"", "cables = [\"B\", \"D\", \"\""],
+    ),
+];
+
+/// The card cut within its last line.
+const CUT: &str = "CARD 1 DAY 8
+PULL 1 A
+PULL 2 C
+PUT 1 C
+PUT 2 E
+SETTINGS 4
+CABLES 2 2 0 0 0 0 0 0 0 0 0 0 0
+PAIRS 0 0 0 0 0 0 0 0 0 0 0 0 0
+SUM";
+
+/// A machine, a list, and the fault.
+type Case = (&'static str, &'static str, DeskFault);
+
+static REFUSED: [Case; 10] = [
+    ("x =", "SEAT", File(NotToml)),
+    (MACHINE, "SEAT", List(BadLine(1))),
+    (MACHINE, "TURN 4 B\nSEAT", List(BadLine(2))),
+    (MACHINE, "CARD\n", List(BadLine(1))),
+    (MACHINE, "CARD 3 DAY 8\n", Card(CardFault::BadHead)),
+    (MACHINE, CUT, Card(CardFault::BadLine(9))),
+    (
+        MACHINE,
+        CARD,
+        Illegal(IllegalAt {
+            line: 1,
+            why: Why::NotThere,
+        }),
+    ),
+    (
+        MACHINE,
+        "TURN 4 B\n",
+        Illegal(IllegalAt {
+            line: 1,
+            why: Why::SlotEmpty,
+        }),
+    ),
+    (
+        MACHINE,
+        "RING I B\nPUT 1 A\nPUT 2 A\nPUT 14 B\n",
+        Illegal(IllegalAt {
+            line: 3,
+            why: Why::SocketTaken,
+        }),
+    ),
+    (
+        TEN_CABLES,
+        "LUG 1 L 2\n",
+        Illegal(IllegalAt {
+            line: 1,
+            why: Why::OtherModel,
+        }),
+    ),
+];
+
+#[test]
+fn writes_the_machine_that_stands_then(rt: HostRuntime) -> Result<(), AllocError> {
+    for (machine, [old, new], list, file, [before, behind]) in &APPLIED {
+        let machine = machine.replace(rt.alloc(), old, new)?;
+        let written = file.replace(rt.alloc(), before, behind)?;
+        run(rt.alloc(), machine.as_str(), list, 4096).ended(
+            &rt,
+            Ok(()),
+            written.as_str().as_bytes(),
+        );
+    }
+    Ok(())
+}
+
+#[test]
+fn refuses_the_first_fault_and_writes_nothing(rt: HostRuntime) {
+    for (machine, list, fault) in &REFUSED {
+        run(rt.alloc(), machine, list, 0).refused(&rt, *fault);
+    }
+}
+
+#[test]
+fn stops_where_the_sink_fails(rt: HostRuntime) {
+    let written = WRITTEN.as_bytes();
+    for room in 0..written.len() {
+        let ran = run(rt.alloc(), MACHINE, "", room);
+        ran.ended(&rt, Err(DeskFault::Device), &written[..room]);
+    }
+}

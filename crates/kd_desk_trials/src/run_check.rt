@@ -1,0 +1,260 @@
+use crate::samples::{
+    CARD, CARD_BY_KIND, Change, EMPTY, LUGS_IN_TURN, M4_AS_ENIGMA, MACHINE, ONE_LUG,
+    ONE_LUG_BY_KIND, PLUGGED, ROWS_IN_TURN, Ran, SAME, SHEET, TWO_BARS,
+};
+use kd_card::CardFault::{BadHead, BadLine, CountWrong, PriceMissing, TooMany, Trailing};
+use kd_card::{PriceParts, Prices};
+use kd_desk::DeskFault::{self, Card, Doubtful, File, NoSuchDay, OtherDay};
+use kd_desk::run_check::run_check;
+use kd_plan::plan;
+use kd_prices::Doubt::{
+    self, IllegalAt, NeedlessLine, NotTheSheet, OtherModel, PriceTooHigh, SumDiffers,
+};
+use kd_prices::check;
+use kd_sheet::SheetFault::NotToml;
+use kd_sheet::{read_machine, read_sheet};
+use kd_state::{Machine, SheetDay, Why};
+use kd_tables::MemorySink;
+use std::alloc::{AllocError, Global};
+use std::process::Abort;
+use std::test::Fail;
+
+/// What is told of a card, with so much room.
+fn run(alloc: Global, machine: &str, sheet: &str, day: u8, card: &str, room: usize) -> Ran {
+    let mut sink = MemorySink::new(room.min(4096));
+    let (machine, sheet, card) = (machine.as_bytes(), sheet.as_bytes(), card.as_bytes());
+    let answer = run_check(alloc, machine, sheet, day, card, &mut sink);
+    Ran { answer, sink }
+}
+
+/// No change of a card.
+const NOTHING: Change = ["SETTINGS", "SETTINGS"];
+
+/// Two lines of a card exchanged.
+const EXCHANGED: Change = ["PULL 1 A\nPULL 2 C\n", "PULL 2 C\nPULL 1 A\n"];
+
+/// A machine, what is changed of it, a day, a card, what is changed of it, and what is told.
+static SHORTEST: [(&str, Change, u8, &str, Change, &str); 6] = [
+    (MACHINE, PLUGGED, 8, CARD, NOTHING, "SHORTEST 4\n"),
+    (MACHINE, PLUGGED, 8, CARD, EXCHANGED, "SHORTEST 4\n"),
+    (MACHINE, PLUGGED, 8, CARD_BY_KIND, EXCHANGED, "SHORTEST 4\n"),
+    (TWO_BARS, SAME, 9, ONE_LUG, NOTHING, "SHORTEST 1\n"),
+    (TWO_BARS, SAME, 9, ONE_LUG_BY_KIND, NOTHING, "SHORTEST 1\n"),
+    (MACHINE, SAME, 11, EMPTY, NOTHING, "SHORTEST 0\n"),
+];
+
+/// A machine, a sheet, a day, a card, and the fault.
+static UNREAD: [(&str, &str, u8, &str, DeskFault); 4] = [
+    ("=", "=", 5, "", File(NotToml)),
+    (MACHINE, "=", 5, "", File(NotToml)),
+    (MACHINE, SHEET, 5, "", NoSuchDay),
+    (MACHINE, SHEET, 11, "", Card(BadHead)),
+];
+
+/// What is changed of the card of the eleventh day, and the fault that it then has on another day.
+static BAD_CARDS: [(Change, DeskFault); 6] = [
+    (["CARD 1", "CARD 3"], Card(BadHead)),
+    (["SUM 0\n", "SUM"], Card(BadLine(5))),
+    (["CABLES", "CABLE"], Card(PriceMissing)),
+    (["SETTINGS 0", "SETTINGS 1"], Card(CountWrong)),
+    (["SUM 0\n", "SUM 0\n\n"], Card(Trailing)),
+    (["SUM", "SUM"], OtherDay),
+];
+
+/// A machine, what is changed of it and of the sheet, a day, a card, what is changed of it, and the doubt.
+type Case = (
+    &'static str,
+    Change,
+    Change,
+    u8,
+    &'static str,
+    Change,
+    Doubt,
+);
+
+/// The lines in the wrong order where both lugs of a bar move.
+const WRONG_ORDER: Change = [
+    "LUG 1 R 6\nSETTINGS 1\n",
+    "LUG 1 L 3\nLUG 1 R 6\nSETTINGS 2\n",
+];
+
+static DOUBTFUL: [Case; 6] = [
+    (MACHINE, SAME, SAME, 9, ONE_LUG, NOTHING, OtherModel),
+    (
+        MACHINE,
+        PLUGGED,
+        SAME,
+        8,
+        EMPTY,
+        ["DAY 11", "DAY 8"],
+        NotTheSheet,
+    ),
+    (
+        MACHINE,
+        SAME,
+        SAME,
+        11,
+        EMPTY,
+        ["SETTINGS 0", "TURN 1 A\nSETTINGS 1"],
+        NeedlessLine(1),
+    ),
+    (
+        TWO_BARS,
+        LUGS_IN_TURN,
+        ROWS_IN_TURN,
+        9,
+        ONE_LUG,
+        WRONG_ORDER,
+        IllegalAt(1, Why::PlaceTaken),
+    ),
+    (TWO_BARS, SAME, SAME, 9, WITHOUT_PRICES, NOTHING, SumDiffers),
+    (
+        TWO_BARS,
+        SAME,
+        SAME,
+        9,
+        DEAR_BAR,
+        NOTHING,
+        PriceTooHigh(1, 1),
+    ),
+];
+
+/// The card of one lug with all prices 0, and with a price too high.
+const WITHOUT_PRICES: &str = "CARD 1 DAY 9
+LUG 1 R 6
+SETTINGS 1
+BARS 0 0 0 0 0 0 0 0 0 0 0 0 0 0 0 0 0 0 0 0 0 0 0 0 0 0 0
+ROWS 0 0 0 0 0 0 0 0 0 0 0 0 0 0 0 0 0 0 0 0 0 0 0 0 0 0 0
+SUM 0
+";
+
+const DEAR_BAR: &str = "CARD 1 DAY 9
+LUG 1 R 6
+SETTINGS 1
+BARS 2 1 0 0 0 0 0 0 0 0 0 0 0 0 0 0 0 0 0 0 0 0 0 0 0 0 0
+ROWS -1 0 0 0 0 0 0 0 0 0 0 0 0 0 0 0 0 0 0 0 0 0 0 0 0 0 0
+SUM 2
+";
+
+#[test]
+fn tells_of_shortest_cards(rt: HostRuntime) -> Result<(), AllocError> {
+    for (machine, [old, new], day, card, [before, behind], told) in &SHORTEST {
+        let machine = machine.replace(rt.alloc(), old, new)?;
+        let card = card.replace(rt.alloc(), before, behind)?;
+        let ran = run(
+            rt.alloc(),
+            machine.as_str(),
+            SHEET,
+            *day,
+            card.as_str(),
+            4096,
+        );
+        ran.ended(&rt, Ok(()), told.as_bytes());
+    }
+    Ok(())
+}
+
+#[test]
+fn refuses_what_comes_before_the_card(rt: HostRuntime) {
+    for (machine, sheet, day, card, fault) in &UNREAD {
+        run(rt.alloc(), machine, sheet, *day, card, 0).refused(&rt, *fault);
+    }
+}
+
+/// The card is refused on the eighth day.
+fn is_refused(rt: &impl Abort, alloc: Global, card: &str, fault: DeskFault) {
+    run(alloc, MACHINE, SHEET, 8, card, 0).refused(rt, fault);
+}
+
+#[test]
+fn refuses_bytes_that_are_no_card(rt: HostRuntime) -> Result<(), AllocError> {
+    for ([old, new], fault) in &BAD_CARDS {
+        let card = EMPTY.replace(rt.alloc(), old, new)?;
+        is_refused(&rt, rt.alloc(), card.as_str(), *fault);
+    }
+    Ok(())
+}
+
+#[test]
+fn refuses_a_card_of_too_many_lines(rt: HostRuntime) -> Result<(), AllocError> {
+    let lines = "TURN 1 A\n".repeat(rt.alloc(), 193)?;
+    let card = format!(in rt.alloc(); "CARD 1 DAY 8\n{lines}")?;
+    is_refused(&rt, rt.alloc(), card.as_str(), Card(TooMany));
+    Ok(())
+}
+
+#[test]
+fn refuses_a_doubtful_card(rt: HostRuntime) -> Result<(), AllocError> {
+    for (machine, [old, new], [one, other], day, card, [before, behind], doubt) in &DOUBTFUL {
+        let machine = machine.replace(rt.alloc(), old, new)?;
+        let sheet = SHEET.replace(rt.alloc(), one, other)?;
+        let card = card.replace(rt.alloc(), before, behind)?;
+        let (machine, sheet) = (machine.as_str(), sheet.as_str());
+        run(rt.alloc(), machine, sheet, *day, card.as_str(), 0).refused(&rt, Doubtful(*doubt));
+    }
+    Ok(())
+}
+
+#[test]
+fn stops_where_the_sink_fails(rt: HostRuntime) {
+    let told = b"SHORTEST 0\n";
+    for room in 0..told.len() {
+        let ran = run(rt.alloc(), MACHINE, SHEET, 11, EMPTY, room);
+        ran.ended(&rt, Err(DeskFault::Device), &told[..room]);
+    }
+}
+
+/// A machine, what is changed of it, and a day.
+static PLANNED: [(&str, Change, u8); 5] = [
+    (MACHINE, PLUGGED, 8),
+    (MACHINE, SAME, 8),
+    (TWO_BARS, SAME, 9),
+    (M4_AS_ENIGMA, SAME, 30),
+    (MACHINE, SAME, 11),
+];
+
+/// The planner's card proves itself, and with one price changed by one it doesn't: the sum is then another one.
+#[test]
+fn no_price_of_a_card_can_be_changed(rt: HostRuntime) -> Result<(), Fail> {
+    let sheet = read_sheet(rt.alloc(), SHEET.as_bytes())?;
+    for (machine, [old, new], number) in &PLANNED {
+        let machine = machine.replace(rt.alloc(), old, new)?;
+        let machine = read_machine(rt.alloc(), machine.as_str().as_bytes())?;
+        let day = sheet.day(*number).ok_or("no such day")?;
+        prices_are_fixed(&rt, &machine, day)?;
+    }
+    Ok(())
+}
+
+/// The planner's card proves itself, and with one price changed by one it doesn't.
+fn prices_are_fixed(rt: &impl Abort, machine: &Machine, day: &SheetDay) -> Result<(), Fail> {
+    let planned = plan(machine, day)?;
+    let mut card = plan(machine, day)?;
+    assert_eq!(rt; check(machine, day, &card), Ok(()));
+    for place in 0..27 {
+        for step in [-1, 1] {
+            if let Some(prices) = with_price(planned.prices.parts(), place, step) {
+                card.prices = prices;
+                assert!(rt; check(machine, day, &card).is_err());
+            }
+        }
+    }
+    Ok(())
+}
+
+/// The prices with a step added to that of a row.
+fn with_price(parts: PriceParts, place: usize, step: i16) -> Option<Prices> {
+    match parts {
+        PriceParts::Cables(mut rows, columns) => {
+            let price = rows.get(place)?.checked_add(step)?;
+            *rows.get_mut(place)? = price;
+            Prices::cables(rows, columns)
+        }
+        PriceParts::Bars(mut rows, columns) => {
+            let price = rows.get(place)?.checked_add(step)?;
+            *rows.get_mut(place)? = price;
+            Prices::bars(rows, columns)
+        }
+        PriceParts::CableKinds(..) | PriceParts::BarKinds(..) => None,
+    }
+}

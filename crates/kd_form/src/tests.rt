@@ -1,9 +1,0 @@
-mod cut_forms;
-mod failing;
-mod limits;
-mod long_texts;
-mod receiving;
-mod samples;
-mod sending;
-mod sent_streams;
-mod streams;

@@ -1,5 +1,0 @@
-mod bars;
-mod cables;
-mod samples;
-mod trials;
-mod wheels;

@@ -1,4 +1,0 @@
-mod cables;
-mod kinds;
-mod lugs;
-mod samples;

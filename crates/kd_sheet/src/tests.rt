@@ -1,4 +1,0 @@
-mod cut;
-mod faults;
-mod files;
-mod samples;

@@ -1,0 +1,5 @@
+//! Tests of cards and their texts.
+mod cut;
+mod prices;
+mod read;
+mod write;

@@ -1,0 +1,10 @@
+//! Tests of orders and forms.
+mod cut_forms;
+mod failing;
+mod limits;
+mod long_texts;
+mod receiving;
+mod samples;
+mod sending;
+mod sent_streams;
+mod streams;

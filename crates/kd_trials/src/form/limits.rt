@@ -1,0 +1,147 @@
+//! Messages up to the limit of a stream, and beyond it.
+use super::samples::{Keyed, M1, keyed};
+use kd_form::{FormFault, receive_stream, send_stream};
+use kd_tables::{Failed, MemorySink, Source};
+use std::process::Abort;
+
+/// A source that gives these bytes first, and then one byte again and again, so many bytes in all.
+#[derive(Drop)]
+struct Filler {
+    front: &'static [u8],
+    byte: u8,
+    left: usize,
+}
+
+impl Source for Filler {
+    ghost use Rattle.std.specs.Prelude.{false};
+
+    ghost has_failed = { λ _. false };
+
+    fn get(&mut self, buffer: &mut [u8]) -> Result<usize, Failed> {
+        let count = buffer.len().min(self.left);
+        self.left -= count;
+        for place in 0..count {
+            buffer[place] = match self.front {
+                [first, rest @ ..] => {
+                    self.front = rest;
+                    *first
+                }
+                [] => self.byte,
+            };
+        }
+        Ok(count)
+    }
+
+    fn failed(&self) -> bool {
+        false
+    }
+}
+
+/// More bytes than are ever read.
+const ENDLESS: usize = usize::MAX;
+
+/// How a message begins, the byte with which it goes on, how many bytes it has, and what it is refused for.
+type Case = (&'static [u8], u8, usize, FormFault);
+
+static ORDERS: [Case; 4] = [
+    (b"", b' ', ENDLESS, FormFault::BadByte(1)),
+    (
+        b"PART AAA AAA QX UGZ\nTEXT\n",
+        b' ',
+        ENDLESS,
+        FormFault::ReadTooLong,
+    ),
+    (
+        b"PART AAA AAA QX UGZ\nTEXT\n",
+        b' ',
+        1_048_577,
+        FormFault::ReadTooLong,
+    ),
+    (
+        b"PART AAA AAA QX UGZ\nTEXT\n",
+        b' ',
+        1_048_576,
+        FormFault::EmptyText,
+    ),
+];
+
+/// A heading without an end stands for nothing, however long it is.
+static FORMS: [Case; 5] = [
+    (
+        b"PART 1/1 10 AAA BDZ\n",
+        b' ',
+        ENDLESS,
+        FormFault::ReadTooLong,
+    ),
+    (
+        b"PART 1/1 10 AAA BDZ\n",
+        b' ',
+        1_048_577,
+        FormFault::ReadTooLong,
+    ),
+    (
+        b"PART 1/1 10 AAA BDZ\n",
+        b' ',
+        1_048_576,
+        FormFault::CountWrong(1),
+    ),
+    (
+        b"PART 1/1 10 AAA BDZ",
+        b'A',
+        ENDLESS,
+        FormFault::ReadTooLong,
+    ),
+    (
+        b"PART 1/1 10 AAA BDZ",
+        b'A',
+        1_048_576,
+        FormFault::BadHeading(1),
+    ),
+];
+
+/// The call answers so, has written nothing, and has read no further than one byte beyond the limit.
+fn is_cut(
+    rt: &impl Abort,
+    answer: Result<(), FormFault>,
+    written: &[u8],
+    left: usize,
+    (_, _, length, due): &Case,
+) {
+    assert_eq!(rt; answer.err(), Some(*due));
+    assert!(rt; written.is_empty());
+    assert!(rt; left >= length.saturating_sub(1_048_577));
+}
+
+/// The source of such a message.
+fn source_of((front, byte, length, _): &Case) -> Filler {
+    Filler {
+        front: *front,
+        byte: *byte,
+        left: *length,
+    }
+}
+
+fn orders_are_cut(rt: &impl Abort, (machine, day): &Keyed, cases: &[Case]) {
+    for case in cases {
+        let mut source = source_of(case);
+        let mut sink = MemorySink::<64>::new(64);
+        let answer = send_stream(machine, day, &mut source, &mut sink);
+        is_cut(rt, answer, sink.taken(), source.left, case);
+    }
+}
+
+fn forms_are_cut(rt: &impl Abort, (machine, day): &Keyed, cases: &[Case]) {
+    for case in cases {
+        let mut source = source_of(case);
+        let mut sink = MemorySink::<64>::new(64);
+        let answer = receive_stream(machine, day, &mut source, &mut sink);
+        is_cut(rt, answer, sink.taken(), source.left, case);
+    }
+}
+
+#[test]
+fn messages_are_cut_at_the_limit(rt: HostRuntime) {
+    let keyed = keyed(&rt, &M1);
+    orders_are_cut(&rt, &keyed, &ORDERS);
+    forms_are_cut(&rt, &keyed, &FORMS);
+}
