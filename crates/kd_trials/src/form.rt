@@ -3,6 +3,7 @@ mod cut_forms;
 mod failing;
 mod limits;
 mod long_texts;
+mod memory;
 mod receiving;
 mod samples;
 mod sending;
