@@ -12,6 +12,7 @@
    - a write refused: `refused 6 Device`, and exactly the bytes of the own answer that were taken before;
    - the line on standard error refused: the same status and the same answer;
    - one byte at a time: the command's own answer.
+   Where MEMORY_ALONE is set, requests for memory are refused, and nothing else is.
    With the words of CASE before it, each run that isn't so is told on a line; the last line is how many were, and weren't.
 */
 #define _GNU_SOURCE
@@ -237,6 +238,7 @@ static int go_through(void)
     if (begin(NOTHING, 0, 0, 0)) return 1;
     memcpy(own, run, sizeof *run);
     judge(WIFEXITED(own->status) && own->calls[MEMORY] > 0 && own->out + own->err > 0, "the calls don't come here");
+    if (getenv("MEMORY_ALONE")) return refuse_each(MEMORY, 1, 0, 0) || refuse_each(MEMORY, 1, 1, 0);
     if (begin(NOTHING, 0, 0, 1)) return 1;
     judge(is_own(run), "not the own answer");
     first = run->reads_before + 1, reads = run->calls[READ] - run->reads_before;

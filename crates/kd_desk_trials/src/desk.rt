@@ -1,6 +1,4 @@
-use crate::samples::{
-    EMPTY, EMPTY_BY_KIND, FORM, MACHINE, MESSAGES, OFF_KEY, ORDER, SHEET, TEXT, UNREADY, WRITTEN,
-};
+use crate::samples::{FORM, MESSAGES, OFF_KEY, ORDER, SHEET, TEXT, UNREADY};
 use kd_card::IllegalAt;
 use kd_desk::Stop::{self, ReadFailed, Refused, Unread, Usage};
 use kd_desk::{Content, DeskFault, Exit, FileFault, Files, MemoryFiles, run_desk};
@@ -8,6 +6,7 @@ use kd_form::FormFault;
 use kd_sheet::SheetFault::NotToml;
 use kd_state::Why;
 use kd_tables::{MemorySink, MemorySource, Sink, Source};
+use kd_trials::texts::{EMPTY_KINDS, M1, M1_WRITTEN, NO_SETTINGS};
 use std::alloc::{AllocError, Global};
 use std::process::Abort;
 use std::test::Fail;
@@ -55,9 +54,9 @@ cables = [\"\", \"\", \"\", \"\", \"\", \"\", \"\", \"\", \"\", \"\", \"\", \"\"
 fn files() -> [Held<'static>; 9] {
     [
         ("l.txt", b"RING I B\nTURN 1 B\n"),
-        ("m.toml", MACHINE.as_bytes()),
+        ("m.toml", M1.as_bytes()),
         ("s.toml", SHEET.as_bytes()),
-        ("c.txt", EMPTY.as_bytes()),
+        ("c.txt", NO_SETTINGS.as_bytes()),
         ("d.toml", MESSAGES.as_bytes()),
         ("o.txt", ORDER.as_bytes()),
         ("f.txt", FORM.as_bytes()),
@@ -69,9 +68,9 @@ fn files() -> [Held<'static>; 9] {
 /// The program's words, and what is written.
 static DONE: [(&[&str], &str); 7] = [
     (&["desk", "type", "m.toml"], "BDZGO\n"),
-    (&["desk", "apply", "m.toml", "c.txt"], WRITTEN),
+    (&["desk", "apply", "m.toml", "c.txt"], M1_WRITTEN),
     (&["desk", "apply", "m.toml", "l.txt"], TURNED),
-    (&["desk", "card", "m.toml", "s.toml", "11"], EMPTY_BY_KIND),
+    (&["desk", "card", "m.toml", "s.toml", "11"], EMPTY_KINDS),
     (
         &["desk", "check", "m.toml", "s.toml", "11", "c.txt"],
         "SHORTEST 0\n",
@@ -324,7 +323,7 @@ fn are_cut_off<'a>(rt: &impl Abort, alloc: Global, files: &'a [Held<'a>], cases:
 #[test]
 fn stops_where_a_file_can_not_be_read_on(rt: HostRuntime) {
     let held: [Held<'static>; 6] = [
-        ("m.toml", MACHINE.as_bytes()),
+        ("m.toml", M1.as_bytes()),
         ("d.toml", MESSAGES.as_bytes()),
         ("bad", b"x ="),
         ("empty", UNREADY.as_bytes()),
@@ -362,7 +361,7 @@ fn stops_where_an_order_is_too_long(rt: HostRuntime) -> Result<(), AllocError> {
         let blanks = vec![in rt.alloc(); b' '; *spaces]?;
         order.extend_from_slice(blanks.as_slice())?;
         let files = [
-            ("m.toml", MACHINE.as_bytes()),
+            ("m.toml", M1.as_bytes()),
             ("d.toml", MESSAGES.as_bytes()),
             ("o", order.as_slice()),
         ];

@@ -1,6 +1,4 @@
-use crate::samples::{
-    CARD, CARD_BY_KIND, Change, M4, MACHINE, PLUGGED, Ran, SAME, TEN_CABLES, WRITTEN,
-};
+use crate::samples::{Change, PLUGGED, Ran, SAME};
 use kd_card::{CardFault, IllegalAt};
 use kd_desk::DeskFault::{self, Card, File, Illegal, List};
 use kd_desk::run_apply::run_apply;
@@ -8,6 +6,7 @@ use kd_sheet::SheetFault::NotToml;
 use kd_state::ListFault::BadLine;
 use kd_state::Why;
 use kd_tables::MemorySink;
+use kd_trials::texts::{M1, M1_WRITTEN, M4, TEN_CABLES_WRITTEN, TWO_CABLE_KINDS, TWO_CABLES};
 use std::alloc::{AllocError, Global};
 use std::process::Abort;
 
@@ -29,21 +28,21 @@ type Applied = (&'static str, Change, &'static str, &'static str, Change);
 
 static APPLIED: [Applied; 6] = [
     (
-        MACHINE,
+        M1,
         SAME,
         "RING I B\nTURN 1 B\n",
-        WRITTEN,
+        M1_WRITTEN,
         ["AAAAA", "BAAAA"],
     ),
-    (MACHINE, SAME, "", WRITTEN, SAME),
-    (MACHINE, PLUGGED, CARD, WRITTEN, CARRIED),
-    (MACHINE, PLUGGED, CARD_BY_KIND, WRITTEN, CARRIED),
-    (M4, SAME, "", M4, ["\"VX\"", "\"VX\", \"\", \"\", \"\""]),
+    (M1, SAME, "", M1_WRITTEN, SAME),
+    (M1, PLUGGED, TWO_CABLES, M1_WRITTEN, CARRIED),
+    (M1, PLUGGED, TWO_CABLE_KINDS, M1_WRITTEN, CARRIED),
+    (M4, SAME, "", M4, SAME),
     (
-        MACHINE,
+        M1,
         PLUGGED,
         "PULL 1 A\nPULL 2 C\n",
-        WRITTEN,
+        M1_WRITTEN,
         ["cables = [\"\", \"\", \"\"", "cables = [\"B\", \"D\", \"\""],
     ),
 ];
@@ -64,21 +63,21 @@ type Case = (&'static str, &'static str, DeskFault);
 
 static REFUSED: [Case; 10] = [
     ("x =", "SEAT", File(NotToml)),
-    (MACHINE, "SEAT", List(BadLine(1))),
-    (MACHINE, "TURN 4 B\nSEAT", List(BadLine(2))),
-    (MACHINE, "CARD\n", List(BadLine(1))),
-    (MACHINE, "CARD 3 DAY 8\n", Card(CardFault::BadHead)),
-    (MACHINE, CUT, Card(CardFault::BadLine(9))),
+    (M1, "SEAT", List(BadLine(1))),
+    (M1, "TURN 4 B\nSEAT", List(BadLine(2))),
+    (M1, "CARD\n", List(BadLine(1))),
+    (M1, "CARD 3 DAY 8\n", Card(CardFault::BadHead)),
+    (M1, CUT, Card(CardFault::BadLine(9))),
     (
-        MACHINE,
-        CARD,
+        M1,
+        TWO_CABLES,
         Illegal(IllegalAt {
             line: 1,
             why: Why::NotThere,
         }),
     ),
     (
-        MACHINE,
+        M1,
         "TURN 4 B\n",
         Illegal(IllegalAt {
             line: 1,
@@ -86,7 +85,7 @@ static REFUSED: [Case; 10] = [
         }),
     ),
     (
-        MACHINE,
+        M1,
         "RING I B\nPUT 1 A\nPUT 2 A\nPUT 14 B\n",
         Illegal(IllegalAt {
             line: 3,
@@ -94,7 +93,7 @@ static REFUSED: [Case; 10] = [
         }),
     ),
     (
-        TEN_CABLES,
+        TEN_CABLES_WRITTEN,
         "LUG 1 L 2\n",
         Illegal(IllegalAt {
             line: 1,
@@ -126,9 +125,9 @@ fn refuses_the_first_fault_and_writes_nothing(rt: HostRuntime) {
 
 #[test]
 fn stops_where_the_sink_fails(rt: HostRuntime) {
-    let written = WRITTEN.as_bytes();
+    let written = M1_WRITTEN.as_bytes();
     for room in 0..written.len() {
-        let ran = run(rt.alloc(), MACHINE, "", room);
+        let ran = run(rt.alloc(), M1, "", room);
         ran.ended(&rt, Err(DeskFault::Device), &written[..room]);
     }
 }

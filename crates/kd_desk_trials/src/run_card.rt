@@ -1,12 +1,12 @@
 use crate::samples::{
-    Change, EMPTY_BY_KIND, LUGS_IN_TURN, M4_AS_ENIGMA, MACHINE, PLUGGED, ROWS_IN_TURN, Ran, SAME,
-    SHEET, TWO_BARS,
+    Change, LUGS_IN_TURN, M4_AS_ENIGMA, PLUGGED, ROWS_IN_TURN, Ran, SAME, SHEET, TWO_BARS,
 };
 use kd_desk::DeskFault::{self, File, NoSuchDay, OtherModel};
 use kd_desk::run_card::run_card;
 use kd_sheet::Key;
 use kd_sheet::SheetFault::{BadRow, BadValue, Missing, NotToml};
 use kd_tables::{MemorySink, Sink};
+use kd_trials::texts::{EMPTY_KINDS, M1};
 use std::alloc::{AllocError, Global};
 use std::process::Abort;
 use std::test::Fail;
@@ -32,16 +32,9 @@ const CANCELLING: Change = [
 ];
 
 static WITHOUT_PRICES: [Case; 6] = [
+    (M1, SAME, SAME, 11, "CARD 2 DAY 11\nSETTINGS 0\n", PRICES),
     (
-        MACHINE,
-        SAME,
-        SAME,
-        11,
-        "CARD 2 DAY 11\nSETTINGS 0\n",
-        PRICES,
-    ),
-    (
-        MACHINE,
+        M1,
         CANCELLING,
         ["day = 11", "day = 12"],
         12,
@@ -49,7 +42,7 @@ static WITHOUT_PRICES: [Case; 6] = [
         PRICES,
     ),
     (
-        MACHINE,
+        M1,
         ["\"I\", \"II\"", "\"II\", \"I\""],
         ["day = 11", "day = 16"],
         16,
@@ -57,7 +50,7 @@ static WITHOUT_PRICES: [Case; 6] = [
         PRICES,
     ),
     (
-        MACHINE,
+        M1,
         ["\"I\", \"II\"", "\"\", \"I\""],
         ["day = 11", "day = 1"],
         1,
@@ -65,7 +58,7 @@ static WITHOUT_PRICES: [Case; 6] = [
         PRICES,
     ),
     (
-        MACHINE,
+        M1,
         ["\"B\"", "\"C\""],
         ["day = 11", "day = 31"],
         31,
@@ -84,7 +77,7 @@ static WITHOUT_PRICES: [Case; 6] = [
 
 static WITH_PRICES: [Case; 6] = [
     (
-        MACHINE,
+        M1,
         PLUGGED,
         SAME,
         8,
@@ -92,7 +85,7 @@ static WITH_PRICES: [Case; 6] = [
         "\nSUM 4\n",
     ),
     (
-        MACHINE,
+        M1,
         ["version = 1", "version = 1\ncables = [\"B\", \"D\"]"],
         SAME,
         8,
@@ -100,7 +93,7 @@ static WITH_PRICES: [Case; 6] = [
         "\nSUM 2\n",
     ),
     (
-        MACHINE,
+        M1,
         ["version = 1", "version = 1\ncables = [\"C\"]"],
         ["\"BC\", \"DE\"", "\"CF\""],
         8,
@@ -254,12 +247,12 @@ type Refused = (&'static str, &'static str, u8, DeskFault);
 static REFUSED: [Refused; 10] = [
     ("=", "=", 5, File(NotToml)),
     ("model = \"M3\"", "=", 5, File(Missing(Key::Version))),
-    (MACHINE, "=", 5, File(NotToml)),
-    (MACHINE, "day = 5", 5, File(BadValue(Key::Day))),
-    (MACHINE, SHEET, 5, NoSuchDay),
-    (MACHINE, "day = []", 11, NoSuchDay),
-    (MACHINE, SHEET, 0, NoSuchDay),
-    (MACHINE, SHEET, 9, OtherModel),
+    (M1, "=", 5, File(NotToml)),
+    (M1, "day = 5", 5, File(BadValue(Key::Day))),
+    (M1, SHEET, 5, NoSuchDay),
+    (M1, "day = []", 11, NoSuchDay),
+    (M1, SHEET, 0, NoSuchDay),
+    (M1, SHEET, 9, OtherModel),
     (TWO_BARS, SHEET, 11, OtherModel),
     (TWO_BARS, BAD_ROW, 9, File(BadRow(4))),
 ];
@@ -284,11 +277,8 @@ SUM 0
 #[test]
 fn stops_where_the_sink_fails(rt: HostRuntime) -> Result<(), AllocError> {
     let [old, new] = CANCELLING;
-    let cancelling = MACHINE.replace(rt.alloc(), old, new)?;
-    for (machine, card) in [
-        (MACHINE, EMPTY_BY_KIND),
-        (cancelling.as_str(), TWO_SETTINGS),
-    ] {
+    let cancelling = M1.replace(rt.alloc(), old, new)?;
+    for (machine, card) in [(M1, EMPTY_KINDS), (cancelling.as_str(), TWO_SETTINGS)] {
         let card = card.as_bytes();
         for room in 0..card.len() {
             let ran = run(rt.alloc(), machine, SHEET, 11, room);

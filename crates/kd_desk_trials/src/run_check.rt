@@ -1,6 +1,5 @@
 use crate::samples::{
-    CARD, CARD_BY_KIND, Change, EMPTY, LUGS_IN_TURN, M4_AS_ENIGMA, MACHINE, ONE_LUG,
-    ONE_LUG_BY_KIND, PLUGGED, ROWS_IN_TURN, Ran, SAME, SHEET, TWO_BARS,
+    Change, LUGS_IN_TURN, M4_AS_ENIGMA, PLUGGED, ROWS_IN_TURN, Ran, SAME, SHEET, TWO_BARS,
 };
 use kd_card::CardFault::{BadHead, BadLine, CountWrong, PriceMissing, TooMany, Trailing};
 use kd_card::{PriceParts, Prices};
@@ -15,6 +14,7 @@ use kd_sheet::SheetFault::NotToml;
 use kd_sheet::{read_machine, read_sheet};
 use kd_state::{Machine, SheetDay, Why};
 use kd_tables::MemorySink;
+use kd_trials::texts::{BAR_KINDS, M1, NO_SETTINGS, ONE_LUG, TWO_CABLE_KINDS, TWO_CABLES};
 use std::alloc::{AllocError, Global};
 use std::process::Abort;
 use std::test::Fail;
@@ -35,20 +35,20 @@ const EXCHANGED: Change = ["PULL 1 A\nPULL 2 C\n", "PULL 2 C\nPULL 1 A\n"];
 
 /// A machine, what is changed of it, a day, a card, what is changed of it, and what is told.
 static SHORTEST: [(&str, Change, u8, &str, Change, &str); 6] = [
-    (MACHINE, PLUGGED, 8, CARD, NOTHING, "SHORTEST 4\n"),
-    (MACHINE, PLUGGED, 8, CARD, EXCHANGED, "SHORTEST 4\n"),
-    (MACHINE, PLUGGED, 8, CARD_BY_KIND, EXCHANGED, "SHORTEST 4\n"),
+    (M1, PLUGGED, 8, TWO_CABLES, NOTHING, "SHORTEST 4\n"),
+    (M1, PLUGGED, 8, TWO_CABLES, EXCHANGED, "SHORTEST 4\n"),
+    (M1, PLUGGED, 8, TWO_CABLE_KINDS, EXCHANGED, "SHORTEST 4\n"),
     (TWO_BARS, SAME, 9, ONE_LUG, NOTHING, "SHORTEST 1\n"),
-    (TWO_BARS, SAME, 9, ONE_LUG_BY_KIND, NOTHING, "SHORTEST 1\n"),
-    (MACHINE, SAME, 11, EMPTY, NOTHING, "SHORTEST 0\n"),
+    (TWO_BARS, SAME, 9, BAR_KINDS, NOTHING, "SHORTEST 1\n"),
+    (M1, SAME, 11, NO_SETTINGS, NOTHING, "SHORTEST 0\n"),
 ];
 
 /// A machine, a sheet, a day, a card, and the fault.
 static UNREAD: [(&str, &str, u8, &str, DeskFault); 4] = [
     ("=", "=", 5, "", File(NotToml)),
-    (MACHINE, "=", 5, "", File(NotToml)),
-    (MACHINE, SHEET, 5, "", NoSuchDay),
-    (MACHINE, SHEET, 11, "", Card(BadHead)),
+    (M1, "=", 5, "", File(NotToml)),
+    (M1, SHEET, 5, "", NoSuchDay),
+    (M1, SHEET, 11, "", Card(BadHead)),
 ];
 
 /// What is changed of the card of the eleventh day, and the fault that it then has on another day.
@@ -79,22 +79,22 @@ const WRONG_ORDER: Change = [
 ];
 
 static DOUBTFUL: [Case; 6] = [
-    (MACHINE, SAME, SAME, 9, ONE_LUG, NOTHING, OtherModel),
+    (M1, SAME, SAME, 9, ONE_LUG, NOTHING, OtherModel),
     (
-        MACHINE,
+        M1,
         PLUGGED,
         SAME,
         8,
-        EMPTY,
+        NO_SETTINGS,
         ["DAY 11", "DAY 8"],
         NotTheSheet,
     ),
     (
-        MACHINE,
+        M1,
         SAME,
         SAME,
         11,
-        EMPTY,
+        NO_SETTINGS,
         ["SETTINGS 0", "TURN 1 A\nSETTINGS 1"],
         NeedlessLine(1),
     ),
@@ -163,13 +163,13 @@ fn refuses_what_comes_before_the_card(rt: HostRuntime) {
 
 /// The card is refused on the eighth day.
 fn is_refused(rt: &impl Abort, alloc: Global, card: &str, fault: DeskFault) {
-    run(alloc, MACHINE, SHEET, 8, card, 0).refused(rt, fault);
+    run(alloc, M1, SHEET, 8, card, 0).refused(rt, fault);
 }
 
 #[test]
 fn refuses_bytes_that_are_no_card(rt: HostRuntime) -> Result<(), AllocError> {
     for ([old, new], fault) in &BAD_CARDS {
-        let card = EMPTY.replace(rt.alloc(), old, new)?;
+        let card = NO_SETTINGS.replace(rt.alloc(), old, new)?;
         is_refused(&rt, rt.alloc(), card.as_str(), *fault);
     }
     Ok(())
@@ -199,18 +199,18 @@ fn refuses_a_doubtful_card(rt: HostRuntime) -> Result<(), AllocError> {
 fn stops_where_the_sink_fails(rt: HostRuntime) {
     let told = b"SHORTEST 0\n";
     for room in 0..told.len() {
-        let ran = run(rt.alloc(), MACHINE, SHEET, 11, EMPTY, room);
+        let ran = run(rt.alloc(), M1, SHEET, 11, NO_SETTINGS, room);
         ran.ended(&rt, Err(DeskFault::Device), &told[..room]);
     }
 }
 
 /// A machine, what is changed of it, and a day.
 static PLANNED: [(&str, Change, u8); 5] = [
-    (MACHINE, PLUGGED, 8),
-    (MACHINE, SAME, 8),
+    (M1, PLUGGED, 8),
+    (M1, SAME, 8),
     (TWO_BARS, SAME, 9),
     (M4_AS_ENIGMA, SAME, 30),
-    (MACHINE, SAME, 11),
+    (M1, SAME, 11),
 ];
 
 /// The planner's card proves itself, and with one price changed by one it doesn't: the sum is then another one.

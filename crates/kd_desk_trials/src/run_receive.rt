@@ -1,6 +1,6 @@
 use crate::samples::{
-    CONVERTER_FORM, CONVERTER_TEXT, FORM, M3, M4_AS_ENIGMA, M4_FORM, MACHINE, MESSAGES, OFF_KEY,
-    Ran, TEXT, TURNED, UNREADY, WITHOUT_PINS,
+    CONVERTER_FORM, CONVERTER_TEXT, FORM, M3, M4_AS_ENIGMA, M4_FORM, MESSAGES, OFF_KEY, Ran, TEXT,
+    TURNED, UNREADY, WITHOUT_PINS,
 };
 use kd_desk::DeskFault::{self, File, Message, NoSuchDay};
 use kd_desk::run_receive::run_receive;
@@ -10,6 +10,7 @@ use kd_form::FormFault::{
 };
 use kd_sheet::SheetFault::NotToml;
 use kd_tables::{MemorySink, MemorySource};
+use kd_trials::texts::M1;
 use std::alloc::Global;
 use std::process::Abort;
 
@@ -35,7 +36,7 @@ fn form_of(form: &str) -> MemorySource<'_> {
 
 /// A machine, a day of the sheet, a form, and the text that it becomes.
 static RECEIVED: [(&str, u8, &str, &str); 5] = [
-    (MACHINE, 17, FORM, TEXT),
+    (M1, 17, FORM, TEXT),
     (TURNED, 17, FORM, TEXT),
     (M3, 3, FORM, TEXT),
     (M4_AS_ENIGMA, 4, M4_FORM, TEXT),
@@ -48,46 +49,46 @@ type Case = (&'static str, &'static str, u8, &'static str, DeskFault);
 /// What comes before the form is read. A form that can't be read comes last.
 static NO_KEY: [(&str, &str, u8, DeskFault); 7] = [
     ("=", "=", 5, File(NotToml)),
-    (MACHINE, "=", 5, File(NotToml)),
+    (M1, "=", 5, File(NotToml)),
     (UNREADY, MESSAGES, 5, NoSuchDay),
     (UNREADY, MESSAGES, 17, Message(NotReady)),
     (OFF_KEY, MESSAGES, 17, Message(NotOnKey)),
-    (MACHINE, MESSAGES, 15, Message(NotOnKey)),
-    (MACHINE, MESSAGES, 17, DeskFault::Device),
+    (M1, MESSAGES, 15, Message(NotOnKey)),
+    (M1, MESSAGES, 17, DeskFault::Device),
 ];
 
 static BAD_FORMS: [Case; 9] = [
-    (MACHINE, MESSAGES, 17, "", Message(BadHeading(1))),
+    (M1, MESSAGES, 17, "", Message(BadHeading(1))),
     (
-        MACHINE,
+        M1,
         MESSAGES,
         17,
         "PART 1/1 5 AAA BDZ\nQXUGZ",
         Message(BadHeading(1)),
     ),
     (
-        MACHINE,
+        M1,
         MESSAGES,
         17,
         "PART 2/2 6 AAA BDZ\nQXUGz",
         Message(PartOrder),
     ),
     (
-        MACHINE,
+        M1,
         MESSAGES,
         17,
         "PART 1/1 6 AAA BDZ\nQXABC Bz",
         Message(BadByte(27)),
     ),
     (
-        MACHINE,
+        M1,
         MESSAGES,
         17,
         "PART 1/1 6 AAA BDZ\nQXABC BB",
         Message(CountWrong(1)),
     ),
     (
-        MACHINE,
+        M1,
         MESSAGES,
         17,
         "PART 1/1 6 AAA BDZ\nQXABC B",
@@ -167,7 +168,7 @@ fn refuses_a_form_and_writes_nothing(rt: HostRuntime) {
 #[test]
 fn writes_the_parts_before_the_refused_one(rt: HostRuntime) {
     for (form, text, fault) in &REFUSED_BEHIND {
-        let ran = run(rt.alloc(), MACHINE, MESSAGES, 17, form_of(form), 4096);
+        let ran = run(rt.alloc(), M1, MESSAGES, 17, form_of(form), 4096);
         ran.ended(&rt, Err(*fault), text.as_bytes());
     }
 }
@@ -176,7 +177,7 @@ fn writes_the_parts_before_the_refused_one(rt: HostRuntime) {
 fn stops_where_the_sink_fails(rt: HostRuntime) {
     let text = TEXT.as_bytes();
     for room in 0..text.len() {
-        let ran = run(rt.alloc(), MACHINE, MESSAGES, 17, form_of(FORM), room);
+        let ran = run(rt.alloc(), M1, MESSAGES, 17, form_of(FORM), room);
         ran.ended(&rt, Err(DeskFault::Device), &text[..room]);
     }
 }

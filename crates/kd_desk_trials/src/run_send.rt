@@ -1,6 +1,6 @@
 use crate::samples::{
-    CONVERTER_FORM, CONVERTER_ORDER, FORM, M3, M4_AS_ENIGMA, M4_FORM, M4_ORDER, MACHINE, MESSAGES,
-    OFF_KEY, ORDER, Ran, TURNED, UNREADY, WITHOUT_PINS,
+    CONVERTER_FORM, CONVERTER_ORDER, FORM, M3, M4_AS_ENIGMA, M4_FORM, M4_ORDER, MESSAGES, OFF_KEY,
+    ORDER, Ran, TURNED, UNREADY, WITHOUT_PINS,
 };
 use kd_desk::DeskFault::{self, File, Message, NoSuchDay};
 use kd_desk::run_send::run_send;
@@ -9,6 +9,7 @@ use kd_form::FormFault::{
 };
 use kd_sheet::SheetFault::NotToml;
 use kd_tables::{MemorySink, MemorySource};
+use kd_trials::texts::M1;
 use std::alloc::Global;
 use std::process::Abort;
 
@@ -34,7 +35,7 @@ fn order_of(order: &str) -> MemorySource<'_> {
 
 /// A machine, a day of the sheet, an order, and the form that it becomes.
 static SENT: [(&str, u8, &str, &str); 5] = [
-    (MACHINE, 17, ORDER, FORM),
+    (M1, 17, ORDER, FORM),
     (TURNED, 17, ORDER, FORM),
     (M3, 3, ORDER, FORM),
     (M4_AS_ENIGMA, 4, M4_ORDER, M4_FORM),
@@ -47,12 +48,12 @@ type Case = (&'static str, &'static str, u8, &'static str, DeskFault);
 /// What comes before the order is read. An order that can't be read comes last.
 static NO_KEY: [(&str, &str, u8, DeskFault); 7] = [
     ("=", "=", 5, File(NotToml)),
-    (MACHINE, "=", 5, File(NotToml)),
+    (M1, "=", 5, File(NotToml)),
     (UNREADY, MESSAGES, 5, NoSuchDay),
     (UNREADY, MESSAGES, 17, Message(NotReady)),
     (OFF_KEY, MESSAGES, 17, Message(NotOnKey)),
-    (MACHINE, MESSAGES, 15, Message(NotOnKey)),
-    (MACHINE, MESSAGES, 17, DeskFault::Device),
+    (M1, MESSAGES, 15, Message(NotOnKey)),
+    (M1, MESSAGES, 17, DeskFault::Device),
 ];
 
 /// 246 letters with one line of keys.
@@ -66,31 +67,31 @@ AAAAAA
 ";
 
 static BAD_ORDERS: [Case; 9] = [
-    (MACHINE, MESSAGES, 17, "", Message(BadByte(1))),
-    (MACHINE, MESSAGES, 17, "PART AAA", Message(BadByte(9))),
+    (M1, MESSAGES, 17, "", Message(BadByte(1))),
+    (M1, MESSAGES, 17, "PART AAA", Message(BadByte(9))),
     (
-        MACHINE,
+        M1,
         MESSAGES,
         17,
         "PART AAA AAA QX ABC\nTEXT\n!",
         Message(WrongGroup(1)),
     ),
     (
-        MACHINE,
+        M1,
         MESSAGES,
         17,
         "PART AAA AAA QX GUZ\nTEXT\nA a",
         Message(BadByte(28)),
     ),
     (
-        MACHINE,
+        M1,
         MESSAGES,
         17,
         "PART AAA AAA QX UGZ\nTEXT\n",
         Message(EmptyText),
     ),
     (
-        MACHINE,
+        M1,
         MESSAGES,
         17,
         "TEXT\nA",
@@ -100,7 +101,7 @@ static BAD_ORDERS: [Case; 9] = [
         }),
     ),
     (
-        MACHINE,
+        M1,
         MESSAGES,
         17,
         LONG,
@@ -157,7 +158,7 @@ fn refuses_an_order_and_writes_nothing(rt: HostRuntime) {
 fn stops_where_the_sink_fails(rt: HostRuntime) {
     let form = FORM.as_bytes();
     for room in 0..form.len() {
-        let ran = run(rt.alloc(), MACHINE, MESSAGES, 17, order_of(ORDER), room);
+        let ran = run(rt.alloc(), M1, MESSAGES, 17, order_of(ORDER), room);
         ran.ended(&rt, Err(DeskFault::Device), &form[..room]);
     }
 }

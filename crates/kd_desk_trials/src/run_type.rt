@@ -1,8 +1,6 @@
 ghost use Rattle.std.specs.Prelude.{false};
 
-use crate::samples::{
-    ALL_MET, Change, M3, M4, M4_AS_ENIGMA, MACHINE, MET_TWICE, Ran, SAME, TEN_CABLES,
-};
+use crate::samples::{ALL_MET, Change, M3, M4_AS_ENIGMA, Ran, SAME};
 use kd_desk::DeskFault::{self, BadByte, File, NotReady, ReadTooLong};
 use kd_desk::ReaderSource;
 use kd_desk::run_type::run_type;
@@ -11,6 +9,7 @@ use kd_sheet::SheetFault::{
     BadRow, BadValue, LetterTwice, Missing, NotToml, UnknownModel, WheelNotAllowed, WheelTwice,
 };
 use kd_tables::{Failed, MemorySink, MemorySource, Source};
+use kd_trials::texts::{M1, M4, M209, TEN_CABLES_WRITTEN};
 use std::alloc::{AllocError, Global};
 use std::io::{self, Read};
 use std::process::Abort;
@@ -32,60 +31,72 @@ type Case = (
 );
 
 static FIRST_LETTERS: [Case; 4] = [
-    (MACHINE, SAME, "AAAAA", Ok(()), "BDZGO\n"),
-    (MACHINE, SAME, "", Ok(()), "\n"),
-    (MACHINE, SAME, "AAA AA\n", Ok(()), "BDZGO\n"),
-    (MACHINE, SAME, "A\r\nA A\nAA", Ok(()), "BDZGO\n"),
+    (M1, SAME, "AAAAA", Ok(()), "BDZGO\n"),
+    (M1, SAME, "", Ok(()), "\n"),
+    (M1, SAME, "AAA AA\n", Ok(()), "BDZGO\n"),
+    (M1, SAME, "A\r\nA A\nAA", Ok(()), "BDZGO\n"),
 ];
 
 static EACH_MODEL: [Case; 11] = [
     (M3, SAME, "AAAAA", Ok(()), "BDZGO\n"),
-    (TEN_CABLES, SAME, "EDPUD", Ok(()), "AUFKL\n"),
+    (TEN_CABLES_WRITTEN, SAME, "EDPUD", Ok(()), "AUFKL\n"),
     (M4, SAME, "NCZWVUSX", Ok(()), "VONVONJL\n"),
     (M4_AS_ENIGMA, SAME, "AAAAA", Ok(()), "BDZGO\n"),
-    (MET_TWICE, SAME, "A", Ok(()), "A\n"),
+    (M209, SAME, "A", Ok(()), "A\n"),
     (ALL_MET, SAME, "AAAAA", Ok(()), "AZZZZ\n"),
     (
-        MACHINE,
+        M1,
         ["rings = \"AAAAA\"", "rings = \"BBBAA\""],
         "AAAAA",
         Ok(()),
         "EWTYX\n",
     ),
-    (MACHINE, ["AAAAA", "BAAAA"], "AAAAA", Ok(()), "BDZGO\n"),
+    (M1, ["AAAAA", "BAAAA"], "AAAAA", Ok(()), "BDZGO\n"),
     (
-        MACHINE,
+        M1,
         ["version = 1", "version = 2"],
         "AAAAA",
         Ok(()),
         "BDZGO\n",
     ),
-    (TEN_CABLES, ["ABALA", "AWAXC"], "KCH", Ok(()), "BLA\n"),
-    (TEN_CABLES, ["ABALA", "AWAXC"], "BLA", Ok(()), "KCH\n"),
+    (
+        TEN_CABLES_WRITTEN,
+        ["ABALA", "AWAXC"],
+        "KCH",
+        Ok(()),
+        "BLA\n",
+    ),
+    (
+        TEN_CABLES_WRITTEN,
+        ["ABALA", "AWAXC"],
+        "BLA",
+        Ok(()),
+        "KCH\n",
+    ),
 ];
 
 static BAD_BYTES: [Case; 5] = [
-    (MACHINE, SAME, "AAaA", Err(BadByte(3)), "BD"),
-    (MACHINE, SAME, "1", Err(BadByte(1)), ""),
-    (MACHINE, SAME, "AAAAA.", Err(BadByte(6)), "BDZGO"),
-    (MACHINE, SAME, "A A\tA", Err(BadByte(4)), "BD"),
-    (MACHINE, SAME, "AA\n-a", Err(BadByte(4)), "BD"),
+    (M1, SAME, "AAaA", Err(BadByte(3)), "BD"),
+    (M1, SAME, "1", Err(BadByte(1)), ""),
+    (M1, SAME, "AAAAA.", Err(BadByte(6)), "BDZGO"),
+    (M1, SAME, "A A\tA", Err(BadByte(4)), "BD"),
+    (M1, SAME, "AA\n-a", Err(BadByte(4)), "BD"),
 ];
 
 /// A machine, what is changed of it, and the fault.
 static REFUSED: [(&str, Change, DeskFault); 11] = [
-    (MACHINE, ["\"II\"", "\"\""], NotReady),
-    (TEN_CABLES, ["\"RX\"", "\"R\""], NotReady),
-    (MACHINE, ["= 1", "="], File(NotToml)),
+    (M1, ["\"II\"", "\"\""], NotReady),
+    (TEN_CABLES_WRITTEN, ["\"RX\"", "\"R\""], NotReady),
+    (M1, ["= 1", "="], File(NotToml)),
     (M4, ["version = 2", "version = 1"], File(UnknownModel)),
-    (MACHINE, ["letters", "letter"], File(Missing(Key::Letters))),
-    (MACHINE, ["\"B\"", "\"b\""], File(BadValue(Key::Reflector))),
+    (M1, ["letters", "letter"], File(Missing(Key::Letters))),
+    (M1, ["\"B\"", "\"b\""], File(BadValue(Key::Reflector))),
     (M3, ["\"B\"", "\"A\""], File(BadValue(Key::Reflector))),
-    (MACHINE, ["\"II\"", "\"I\""], File(WheelTwice)),
-    (MACHINE, ["\"III\"", "\"VI\""], File(WheelNotAllowed)),
-    (TEN_CABLES, ["\"BS\"", "\"AB\""], File(LetterTwice)),
+    (M1, ["\"II\"", "\"I\""], File(WheelTwice)),
+    (M1, ["\"III\"", "\"VI\""], File(WheelNotAllowed)),
+    (TEN_CABLES_WRITTEN, ["\"BS\"", "\"AB\""], File(LetterTwice)),
     (
-        MET_TWICE,
+        M209,
         [
             "\"1-2\", \"0L-0R\", \"0L-0R\", \"0L-0R\"",
             "\"1-2\", \"1-2\", \"1-2\", \"4-4\"",
@@ -137,7 +148,7 @@ fn refuses_the_machine_before_the_text(rt: HostRuntime) -> Result<(), AllocError
 fn stops_at_a_failed_read(rt: HostRuntime) {
     for (gets, lamps) in [(0, ""), (1, "BD"), (2, "BDZG"), (3, "BDZGO")] {
         let mut source = MemorySource::new(b"AAAAA", 2, Some(gets));
-        let ran = run(rt.alloc(), MACHINE, &mut source, 4096);
+        let ran = run(rt.alloc(), M1, &mut source, 4096);
         ran.ended(&rt, Err(DeskFault::Device), lamps.as_bytes());
         assert!(rt; source.failed());
     }
@@ -148,7 +159,7 @@ fn stops_at_a_failed_write(rt: HostRuntime) {
     let lamps = b"BDZGO\n";
     for room in 0..lamps.len() {
         let mut source = MemorySource::new(b"AAAAA", 2, None);
-        let ran = run(rt.alloc(), MACHINE, &mut source, room);
+        let ran = run(rt.alloc(), M1, &mut source, room);
         ran.ended(&rt, Err(DeskFault::Device), &lamps[..room]);
     }
 }
@@ -172,14 +183,14 @@ impl Source for Spaces {
 
 #[test]
 fn stops_at_a_text_that_never_ends(rt: HostRuntime) {
-    run(rt.alloc(), MACHINE, &mut Spaces, 4096).ended(&rt, Err(ReadTooLong), b"");
+    run(rt.alloc(), M1, &mut Spaces, 4096).ended(&rt, Err(ReadTooLong), b"");
 }
 
 #[test]
 fn reads_to_the_limit(rt: HostRuntime) {
     for (count, answer, lamps) in [(1_048_576, Ok(()), "\n"), (1_048_577, Err(ReadTooLong), "")] {
         let mut source = ReaderSource::new(io::repeat(b' ').take(count));
-        let ran = run(rt.alloc(), MACHINE, &mut source, 4096);
+        let ran = run(rt.alloc(), M1, &mut source, 4096);
         ran.ended(&rt, answer, lamps.as_bytes());
     }
 }

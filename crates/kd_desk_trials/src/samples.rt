@@ -33,25 +33,6 @@ pub const SAME: Change = ["model", "model"];
 /// Two cables of the Enigma I.
 pub const PLUGGED: Change = ["version = 1", "version = 1\ncables = [\"AB\", \"CD\"]"];
 
-/// An Enigma I with reflector B, the wheels I, II and III in the slots, and all rings and letters A.
-pub const MACHINE: &str = "version = 1
-model = \"Enigma I\"
-reflector = \"B\"
-slots = [\"I\", \"II\", \"III\"]
-rings = \"AAAAA\"
-letters = \"AAAAA\"
-";
-
-/// The same machine as it is written.
-pub const WRITTEN: &str = "version = 1
-model = \"Enigma I\"
-reflector = \"B\"
-slots = [\"I\", \"II\", \"III\"]
-rings = \"AAAAA\"
-letters = \"AAAAA\"
-cables = [\"\", \"\", \"\", \"\", \"\", \"\", \"\", \"\", \"\", \"\", \"\", \"\", \"\"]
-";
-
 /// An M3 with the same wheels and reflector.
 pub const M3: &str = "version = 1
 model = \"M3\"
@@ -61,26 +42,6 @@ rings = \"AAAAAAAA\"
 letters = \"AAAAAAAA\"
 ";
 
-/// An Enigma I with rings and ten cables.
-pub const TEN_CABLES: &str = "version = 1
-model = \"Enigma I\"
-reflector = \"B\"
-slots = [\"II\", \"IV\", \"V\"]
-rings = \"ABAUL\"
-letters = \"ABALA\"
-cables = [\"AV\", \"BS\", \"CG\", \"DL\", \"FU\", \"HZ\", \"IN\", \"KM\", \"OW\", \"RX\"]
-";
-
-/// An M4 with rings and ten cables.
-pub const M4: &str = "version = 2
-model = \"M4\"
-reflector = \"b\"
-slots = [\"Beta\", \"II\", \"IV\", \"I\"]
-rings = \"VAAAAAAAAA\"
-letters = \"AJANAAAAVA\"
-cables = [\"AT\", \"BL\", \"DF\", \"GJ\", \"HM\", \"NW\", \"OP\", \"QY\", \"RZ\", \"VX\"]
-";
-
 /// An M4 with all rings and letters A, and no cables: its thin reflector b with Beta at A acts as B.
 pub const M4_AS_ENIGMA: &str = "version = 2
 model = \"M4\"
@@ -88,18 +49,6 @@ reflector = \"b\"
 slots = [\"Beta\", \"I\", \"II\", \"III\"]
 rings = \"AAAAAAAAAA\"
 letters = \"AAAAAAAAAA\"
-";
-
-/// A Converter M-209 whose first bar is met by both of its lugs.
-pub const MET_TWICE: &str = "version = 1
-model = \"M-209\"
-letters = \"AAAAAA\"
-pins = [\"P\", \"O\", \"\", \"\", \"\", \"\"]
-bars = [
-    \"1-2\", \"0L-0R\", \"0L-0R\", \"0L-0R\", \"0L-0R\", \"0L-0R\", \"0L-0R\", \"0L-0R\", \"0L-0R\",
-    \"0L-0R\", \"0L-0R\", \"0L-0R\", \"0L-0R\", \"0L-0R\", \"0L-0R\", \"0L-0R\", \"0L-0R\", \"0L-0R\",
-    \"0L-0R\", \"0L-0R\", \"0L-0R\", \"0L-0R\", \"0L-0R\", \"0L-0R\", \"0L-0R\", \"0L-0R\", \"0L-0R\",
-]
 ";
 
 /// A Converter M-209 all of whose bars are met by the first wheel.
@@ -112,33 +61,6 @@ bars = [
     \"1-0L\", \"1-0L\", \"1-0L\", \"1-0L\", \"1-0L\", \"1-0L\", \"1-0L\", \"1-0L\", \"1-0L\",
     \"1-0L\", \"1-0L\", \"1-0L\", \"1-0L\", \"1-0L\", \"1-0L\", \"1-0L\", \"1-0L\", \"1-0L\",
 ]
-";
-
-/// A card that leads a machine with the cables AB and CD to the pairs BC and DE, with prices by number, and by kind.
-pub const CARD: &str = "CARD 1 DAY 8
-PULL 1 A
-PULL 2 C
-PUT 1 C
-PUT 2 E
-SETTINGS 4
-CABLES 2 2 0 0 0 0 0 0 0 0 0 0 0
-PAIRS 0 0 0 0 0 0 0 0 0 0 0 0 0
-SUM 4
-";
-
-pub const CARD_BY_KIND: &str = "CARD 2 DAY 8
-PULL 1 A
-PULL 2 C
-PUT 1 C
-PUT 2 E
-SETTINGS 4
-CABLE AB 1 2
-CABLE CD 1 2
-CABLE - 11 0
-PAIR BC 1 0
-PAIR DE 1 0
-PAIR - 11 0
-SUM 4
 ";
 
 /// A key sheet with the machine's own settings on day 11, pairs on day 8, a Converter M-209 on day 9, and an M4 on day 30.
@@ -194,46 +116,10 @@ bars = [
 ]
 ";
 
-/// The card that moves one lug of it, with prices by number, and by kind.
-pub const ONE_LUG: &str = "CARD 1 DAY 9
-LUG 1 R 6
-SETTINGS 1
-BARS 1 1 0 0 0 0 0 0 0 0 0 0 0 0 0 0 0 0 0 0 0 0 0 0 0 0 0
-ROWS -1 0 0 0 0 0 0 0 0 0 0 0 0 0 0 0 0 0 0 0 0 0 0 0 0 0 0
-SUM 1
-";
-
-pub const ONE_LUG_BY_KIND: &str = "CARD 2 DAY 9
-LUG 1 R 6
-SETTINGS 1
-BAR 0L-3 1 1
-BAR 0L-0R 25 0
-BAR 3-0R 1 1
-ROW 0-0 25 0
-ROW 0-3 1 -1
-ROW 3-6 1 0
-SUM 1
-";
-
 /// Both lugs of its first bar have to move, on a day whose first row is 3-6 and whose others are 0-0.
 pub const LUGS_IN_TURN: Change = ["\"3-0R\", \"0L-3\"", "\"1-3\", \"0L-0R\""];
 
 pub const ROWS_IN_TURN: Change = ["\"0-3\", \"3-6\"", "\"3-6\", \"0-0\""];
-
-/// The card of a machine that is the day's already, with prices by number, and by kind.
-pub const EMPTY: &str = "CARD 1 DAY 11
-SETTINGS 0
-CABLES 0 0 0 0 0 0 0 0 0 0 0 0 0
-PAIRS 0 0 0 0 0 0 0 0 0 0 0 0 0
-SUM 0
-";
-
-pub const EMPTY_BY_KIND: &str = "CARD 2 DAY 11
-SETTINGS 0
-CABLE - 13 0
-PAIR - 13 0
-SUM 0
-";
 
 /// A Converter M-209 without effective pins, all of whose lugs are idle.
 pub const WITHOUT_PINS: &str = "version = 1

@@ -1,5 +1,6 @@
 //! Tests of the public calls of the crates below the desk, a module for each crate, and the machines, days and cards that
-//! they are tried on. There is nothing else here: a crate with tests is proved twice, so the tests have one of their own.
+//! they are tried on. There is nothing else here but the
+//! texts: a crate with tests is proved twice, so the tests have one of their own.
 #![tactic(auto)]
 
 #[cfg(test)]
@@ -34,3 +35,4 @@ mod state;
 mod step;
 #[cfg(test)]
 mod tables;
+pub mod texts;

@@ -1,4 +1,4 @@
-use crate::cards::{BAR_KINDS, ONE_LUG, TWO_CABLE_KINDS, TWO_CABLES};
+use crate::texts::{BAR_KINDS, ONE_LUG, TWO_CABLE_KINDS, TWO_CABLES};
 use arrayvec::ArrayString;
 use kd_card::{CardFault, read_card};
 use std::process::Abort;

@@ -1,6 +1,5 @@
-use crate::cards::{
-    CARDS, NO_SETTINGS, ONE_LUG, Sample, TWO_CABLES, bar_prices, cable_prices, card,
-};
+use crate::cards::{CARDS, Sample, bar_prices, cable_prices, card};
+use crate::texts::{NO_SETTINGS, ONE_LUG, TWO_CABLES};
 use kd_card::{read_card, write_card};
 use kd_tables::MemorySink;
 use std::process::Abort;

@@ -1,7 +1,8 @@
 //! Prices by kind.
-use crate::cards::{BAR_KINDS, TWO_CABLE_KINDS, bar_prices, cable_prices, card};
+use crate::cards::{bar_prices, cable_prices, card};
 use crate::days::{pin_day, plain_day};
 use crate::machines::{converter, with_cables};
+use crate::texts::{BAR_KINDS, TWO_CABLE_KINDS};
 use kd_card::{read_card, write_card};
 use kd_prices::{Doubt, by_kind, check};
 use kd_state::{Machine, SheetDay};

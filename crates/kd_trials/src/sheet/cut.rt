@@ -1,5 +1,5 @@
 //! Files that are cut at each place, and files with a byte there that stands in no text.
-use super::samples::M1_WRITTEN;
+use crate::texts::M1_WRITTEN;
 use arrayvec::ArrayVec;
 use kd_sheet::{SheetFault, read_machine, read_sheet};
 use std::alloc::Global;

@@ -1,5 +1,6 @@
 //! Each fault of each key once, in the order in which the keys are tested, and what comes before what.
-use super::samples::{M1, M4, M209, SHEET};
+use super::SHEET;
+use crate::texts::{M1, M4, M209};
 use kd_sheet::SheetFault::{
     self, BadRow, BadValue, DayTwice, LetterTwice, Missing, NotToml, UnknownModel, WheelNotAllowed,
     WheelTwice,

@@ -1,5 +1,6 @@
 //! Files that are read, and machines that are written.
-use super::samples::{M1, M1_WRITTEN, M4, M209, SHEET, TEN_CABLES, TEN_CABLES_WRITTEN};
+use super::SHEET;
+use crate::texts::{M1, M1_WRITTEN, M4, M209, TEN_CABLES, TEN_CABLES_WRITTEN};
 use kd_sheet::{SheetFault, read_machine, read_sheet, write_machine};
 use kd_state::SheetDay;
 use kd_tables::{Device, Letter, MemorySink, Model, Reflector, Wheel};
