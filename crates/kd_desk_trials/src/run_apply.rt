@@ -1,4 +1,4 @@
-use crate::samples::{Change, PLUGGED, Ran, SAME};
+use crate::samples::{Change, PLUGGED, Ran, SAME, changed};
 use kd_card::{CardFault, IllegalAt};
 use kd_desk::DeskFault::{self, Card, File, Illegal, List};
 use kd_desk::run_apply::run_apply;
@@ -104,9 +104,9 @@ static REFUSED: [Case; 10] = [
 
 #[test]
 fn writes_the_machine_that_stands_then(rt: HostRuntime) -> Result<(), AllocError> {
-    for (machine, [old, new], list, file, [before, behind]) in &APPLIED {
-        let machine = machine.replace(rt.alloc(), old, new)?;
-        let written = file.replace(rt.alloc(), before, behind)?;
+    for (machine, change, list, file, other) in &APPLIED {
+        let machine = changed(rt.alloc(), machine, change)?;
+        let written = changed(rt.alloc(), file, other)?;
         run(rt.alloc(), machine.as_str(), list, 4096).ended(
             &rt,
             Ok(()),

@@ -1,5 +1,5 @@
 use crate::samples::{
-    Change, LUGS_IN_TURN, M4_AS_ENIGMA, PLUGGED, ROWS_IN_TURN, Ran, SAME, SHEET, TWO_BARS,
+    Change, LUGS_IN_TURN, M4_AS_ENIGMA, PLUGGED, ROWS_IN_TURN, Ran, SAME, SHEET, TWO_BARS, changed,
 };
 use kd_desk::DeskFault::{self, File, NoSuchDay, OtherModel};
 use kd_desk::run_card::run_card;
@@ -130,10 +130,10 @@ static WITH_PRICES: [Case; 6] = [
 fn prints(
     rt: &impl Abort,
     alloc: Global,
-    (machine, [old, new], [before, behind], day, first, _): &Case,
+    (machine, change, in_the_sheet, day, first, _): &Case,
 ) -> Result<Ran, AllocError> {
-    let machine = machine.replace(alloc, old, new)?;
-    let sheet = SHEET.replace(alloc, before, behind)?;
+    let machine = changed(alloc, machine, change)?;
+    let sheet = changed(alloc, SHEET, in_the_sheet)?;
     let ran = run(alloc, machine.as_str(), sheet.as_str(), *day, 4096);
     assert_eq!(rt; ran.answer, Ok(()));
     assert!(rt; ran.sink.taken().starts_with(first.as_bytes()));
@@ -276,8 +276,7 @@ SUM 0
 
 #[test]
 fn stops_where_the_sink_fails(rt: HostRuntime) -> Result<(), AllocError> {
-    let [old, new] = CANCELLING;
-    let cancelling = M1.replace(rt.alloc(), old, new)?;
+    let cancelling = changed(rt.alloc(), M1, &CANCELLING)?;
     for (machine, card) in [(M1, EMPTY_KINDS), (cancelling.as_str(), TWO_SETTINGS)] {
         let card = card.as_bytes();
         for room in 0..card.len() {

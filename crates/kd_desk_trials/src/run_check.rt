@@ -1,5 +1,5 @@
 use crate::samples::{
-    Change, LUGS_IN_TURN, M4_AS_ENIGMA, PLUGGED, ROWS_IN_TURN, Ran, SAME, SHEET, TWO_BARS,
+    Change, LUGS_IN_TURN, M4_AS_ENIGMA, PLUGGED, ROWS_IN_TURN, Ran, SAME, SHEET, TWO_BARS, changed,
 };
 use kd_card::CardFault::{BadHead, BadLine, CountWrong, PriceMissing, TooMany, Trailing};
 use kd_card::{PriceParts, Prices};
@@ -138,9 +138,9 @@ SUM 2
 
 #[test]
 fn tells_of_shortest_cards(rt: HostRuntime) -> Result<(), AllocError> {
-    for (machine, [old, new], day, card, [before, behind], told) in &SHORTEST {
-        let machine = machine.replace(rt.alloc(), old, new)?;
-        let card = card.replace(rt.alloc(), before, behind)?;
+    for (machine, change, day, card, other, told) in &SHORTEST {
+        let machine = changed(rt.alloc(), machine, change)?;
+        let card = changed(rt.alloc(), card, other)?;
         let ran = run(
             rt.alloc(),
             machine.as_str(),
@@ -168,8 +168,8 @@ fn is_refused(rt: &impl Abort, alloc: Global, card: &str, fault: DeskFault) {
 
 #[test]
 fn refuses_bytes_that_are_no_card(rt: HostRuntime) -> Result<(), AllocError> {
-    for ([old, new], fault) in &BAD_CARDS {
-        let card = NO_SETTINGS.replace(rt.alloc(), old, new)?;
+    for (change, fault) in &BAD_CARDS {
+        let card = changed(rt.alloc(), NO_SETTINGS, change)?;
         is_refused(&rt, rt.alloc(), card.as_str(), *fault);
     }
     Ok(())
@@ -185,10 +185,10 @@ fn refuses_a_card_of_too_many_lines(rt: HostRuntime) -> Result<(), AllocError> {
 
 #[test]
 fn refuses_a_doubtful_card(rt: HostRuntime) -> Result<(), AllocError> {
-    for (machine, [old, new], [one, other], day, card, [before, behind], doubt) in &DOUBTFUL {
-        let machine = machine.replace(rt.alloc(), old, new)?;
-        let sheet = SHEET.replace(rt.alloc(), one, other)?;
-        let card = card.replace(rt.alloc(), before, behind)?;
+    for (machine, change, in_the_sheet, day, card, on_the_card, doubt) in &DOUBTFUL {
+        let machine = changed(rt.alloc(), machine, change)?;
+        let sheet = changed(rt.alloc(), SHEET, in_the_sheet)?;
+        let card = changed(rt.alloc(), card, on_the_card)?;
         let (machine, sheet) = (machine.as_str(), sheet.as_str());
         run(rt.alloc(), machine, sheet, *day, card.as_str(), 0).refused(&rt, Doubtful(*doubt));
     }
@@ -217,8 +217,8 @@ static PLANNED: [(&str, Change, u8); 5] = [
 #[test]
 fn no_price_of_a_card_can_be_changed(rt: HostRuntime) -> Result<(), Fail> {
     let sheet = read_sheet(rt.alloc(), SHEET.as_bytes())?;
-    for (machine, [old, new], number) in &PLANNED {
-        let machine = machine.replace(rt.alloc(), old, new)?;
+    for (machine, change, number) in &PLANNED {
+        let machine = changed(rt.alloc(), machine, change)?;
         let machine = read_machine(rt.alloc(), machine.as_str().as_bytes())?;
         let day = sheet.day(*number).ok_or("no such day")?;
         prices_are_fixed(&rt, &machine, day)?;
@@ -242,19 +242,18 @@ fn prices_are_fixed(rt: &impl Abort, machine: &Machine, day: &SheetDay) -> Resul
     Ok(())
 }
 
+/// These prices with a step added to one of them, if there are so many.
+fn raised<const N: usize>(mut prices: [i16; N], place: usize, step: i16) -> Option<[i16; N]> {
+    let price = prices.get_mut(place)?;
+    *price = price.checked_add(step)?;
+    Some(prices)
+}
+
 /// The prices with a step added to that of a row.
 fn with_price(parts: PriceParts, place: usize, step: i16) -> Option<Prices> {
     match parts {
-        PriceParts::Cables(mut rows, columns) => {
-            let price = rows.get(place)?.checked_add(step)?;
-            *rows.get_mut(place)? = price;
-            Prices::cables(rows, columns)
-        }
-        PriceParts::Bars(mut rows, columns) => {
-            let price = rows.get(place)?.checked_add(step)?;
-            *rows.get_mut(place)? = price;
-            Prices::bars(rows, columns)
-        }
+        PriceParts::Cables(rows, columns) => Prices::cables(raised(rows, place, step)?, columns),
+        PriceParts::Bars(rows, columns) => Prices::bars(raised(rows, place, step)?, columns),
         PriceParts::CableKinds(..) | PriceParts::BarKinds(..) => None,
     }
 }

@@ -1,6 +1,6 @@
 ghost use Rattle.std.specs.Prelude.{false};
 
-use crate::samples::{ALL_MET, Change, M3, M4_AS_ENIGMA, Ran, SAME};
+use crate::samples::{ALL_MET, Change, M3, M4_AS_ENIGMA, Ran, SAME, changed};
 use kd_desk::DeskFault::{self, BadByte, File, NotReady, ReadTooLong};
 use kd_desk::ReaderSource;
 use kd_desk::run_type::run_type;
@@ -107,8 +107,8 @@ static REFUSED: [(&str, Change, DeskFault); 11] = [
 
 /// Each of the texts ends with its answer and its lamps, in whatever pieces it comes.
 fn are_typed(rt: &impl Abort, alloc: Global, cases: &[Case]) -> Result<(), AllocError> {
-    for (machine, [old, new], text, answer, lamps) in cases {
-        let machine = machine.replace(alloc, old, new)?;
+    for (machine, change, text, answer, lamps) in cases {
+        let machine = changed(alloc, machine, change)?;
         for piece in [1, 2, 7] {
             let mut source = MemorySource::new(text.as_bytes(), piece, None);
             let ran = run(alloc, machine.as_str(), &mut source, 4096);
@@ -135,8 +135,8 @@ fn refuses_the_first_byte_that_is_not_allowed(rt: HostRuntime) -> Result<(), All
 
 #[test]
 fn refuses_the_machine_before_the_text(rt: HostRuntime) -> Result<(), AllocError> {
-    for (machine, [old, new], fault) in &REFUSED {
-        let machine = machine.replacen(rt.alloc(), old, new, 1)?;
+    for (machine, change, fault) in &REFUSED {
+        let machine = changed(rt.alloc(), machine, change)?;
         let mut source = MemorySource::new(b"a", 7, Some(0));
         run(rt.alloc(), machine.as_str(), &mut source, 0).refused(&rt, *fault);
         assert!(rt; !source.failed());

@@ -1,6 +1,7 @@
 //! The files that tests begin from, and what a run did.
 use kd_desk::DeskFault;
 use kd_tables::{MemorySink, Sink};
+use std::alloc::{AllocError, Global};
 use std::process::Abort;
 
 /// What a call answered, and the sink that it wrote to.
@@ -26,6 +27,11 @@ impl Ran {
 
 /// A part of a file, and what stands in its place.
 pub type Change = [&'static str; 2];
+
+/// The text with the change made wherever the part stands.
+pub fn changed(alloc: Global, text: &str, [old, new]: &Change) -> Result<String, AllocError> {
+    text.replace(alloc, old, new)
+}
 
 /// No change.
 pub const SAME: Change = ["model", "model"];

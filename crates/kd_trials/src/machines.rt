@@ -202,8 +202,11 @@ pub fn met_twice(rt: &impl Abort) -> PinParts {
 
 /// All bars at 1-0L, and only the pin at P of wheel 1 effective.
 pub fn all_bars_met(rt: &impl Abort) -> PinParts {
-    let mut parts = pin_parts(rt, &[]);
-    parts.pins.w1[15] = true;
-    parts.bars = [standing(rt, Place::One, Place::ZeroLeft); 27];
-    parts
+    let mut pins = pins(false);
+    pins.w1[15] = true;
+    PinParts {
+        pins,
+        letters: [Letter::A; 6],
+        bars: [standing(rt, Place::One, Place::ZeroLeft); 27],
+    }
 }

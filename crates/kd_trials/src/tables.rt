@@ -9,7 +9,7 @@ use std::process::Abort;
 use std::test::Fail;
 
 /// Each wheel, with the first and the last letter of its published wiring.
-const WHEELS: [(Wheel, [u8; 2]); 10] = [
+static WHEELS: [(Wheel, [u8; 2]); 10] = [
     (Wheel::I, *b"EJ"),
     (Wheel::II, *b"AE"),
     (Wheel::III, *b"BO"),
@@ -23,7 +23,7 @@ const WHEELS: [(Wheel, [u8; 2]); 10] = [
 ];
 
 /// The same of each reflector.
-const REFLECTORS: [(Reflector, [u8; 2]); 5] = [
+static REFLECTORS: [(Reflector, [u8; 2]); 5] = [
     (Reflector::A, *b"ED"),
     (Reflector::B, *b"YT"),
     (Reflector::C, *b"FL"),
@@ -32,7 +32,7 @@ const REFLECTORS: [(Reflector, [u8; 2]); 5] = [
 ];
 
 /// Each model with its name, and how many slots, wheels and reflectors it has.
-const MODELS: [(Model, &str, [usize; 3]); 4] = [
+static MODELS: [(Model, &str, [usize; 3]); 4] = [
     (Model::EnigmaI, "Enigma I", [3, 5, 3]),
     (Model::M3, "M3", [3, 8, 2]),
     (Model::M4, "M4", [4, 10, 2]),
@@ -63,18 +63,18 @@ fn letters_are_moved_on_and_back(rt: HostRuntime) {
 
 #[test]
 fn wheels_are_wired_as_published(rt: HostRuntime) {
-    for (wheel, ends) in WHEELS {
-        let table = wiring(wheel);
-        assert_eq!(rt; [table[0].byte(), table[25].byte()], ends);
-        assert_eq!(rt; unwiring(wheel)[table[7].index()].index(), 7);
+    for (wheel, ends) in &WHEELS {
+        let table = wiring(*wheel);
+        assert_eq!(rt; [table[0].byte(), table[25].byte()], *ends);
+        assert_eq!(rt; unwiring(*wheel)[table[7].index()].index(), 7);
     }
 }
 
 #[test]
 fn reflectors_are_wired_as_published(rt: HostRuntime) {
-    for (reflector, ends) in REFLECTORS {
-        let table = reflecting(reflector);
-        assert_eq!(rt; [table[0].byte(), table[25].byte()], ends);
+    for (reflector, ends) in &REFLECTORS {
+        let table = reflecting(*reflector);
+        assert_eq!(rt; [table[0].byte(), table[25].byte()], *ends);
     }
 }
 
@@ -93,36 +93,29 @@ fn wheels_have_their_notches(rt: HostRuntime) {
 
 #[test]
 fn names_of_wheels_are_read_back(rt: HostRuntime) {
-    for (wheel, _) in WHEELS {
-        assert_eq!(rt; Wheel::from_text(wheel.text().as_bytes()), Some(wheel));
+    for (wheel, _) in &WHEELS {
+        assert_eq!(rt; Wheel::from_text(wheel.text().as_bytes()), Some(*wheel));
     }
     assert_eq!(rt; Wheel::from_text(b"IX"), None);
 }
 
 #[test]
 fn names_of_reflectors_are_read_back(rt: HostRuntime) {
-    for (reflector, _) in REFLECTORS {
-        assert_eq!(rt;
-            Reflector::from_text(reflector.text().as_bytes()),
-            Some(reflector)
-        );
+    for (reflector, _) in &REFLECTORS {
+        let read = Reflector::from_text(reflector.text().as_bytes());
+        assert_eq!(rt; read, Some(*reflector));
     }
     assert_eq!(rt; Reflector::from_text(b"B "), None);
 }
 
 #[test]
 fn models_have_names_and_parts(rt: HostRuntime) {
-    for (model, name, [slots, wheels, reflectors]) in MODELS {
-        assert_eq!(rt; model.text().as_str(), name);
-        assert_eq!(rt; Model::from_text(name.as_bytes()), Some(model));
-        assert_eq!(rt;
-            (
-                usize::from(model.slots()),
-                model.wheels().len(),
-                model.reflectors().len()
-            ),
-            (slots, wheels, reflectors)
-        );
+    for (model, name, [slots, wheels, reflectors]) in &MODELS {
+        assert_eq!(rt; model.text().as_str(), *name);
+        assert_eq!(rt; Model::from_text(name.as_bytes()), Some(*model));
+        assert_eq!(rt; usize::from(model.slots()), *slots);
+        assert_eq!(rt; model.wheels().len(), *wheels);
+        assert_eq!(rt; model.reflectors().len(), *reflectors);
     }
     assert_eq!(rt; Model::from_text(b"M209"), None);
 }

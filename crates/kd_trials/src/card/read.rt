@@ -234,18 +234,21 @@ fn with_kinds(number: u8, last: &str) -> ArrayString<4096> {
     text
 }
 
+/// How many such cables, the line behind them, and what the text is refused for.
+static GROUPS: [(u8, &str, CardFault); 6] = [
+    (12, "PAIR - 13 0\n", CardFault::PriceMissing),
+    (13, "PAIR - 13 0\n", CardFault::BadLine(17)),
+    (14, "PAIR - 13 0\n", CardFault::PriceMissing),
+    (25, "CABLE AZ 1 0\n", CardFault::BadLine(28)),
+    (25, "CABLE B 1 0", CardFault::BadLine(28)),
+    (25, "CABLE - 1 0\n", CardFault::PriceMissing),
+];
+
 #[test]
 fn a_group_is_read_to_its_end(rt: HostRuntime) {
-    for (number, last, due) in [
-        (12, "PAIR - 13 0\n", CardFault::PriceMissing),
-        (13, "PAIR - 13 0\n", CardFault::BadLine(17)),
-        (14, "PAIR - 13 0\n", CardFault::PriceMissing),
-        (25, "CABLE AZ 1 0\n", CardFault::BadLine(28)),
-        (25, "CABLE B 1 0", CardFault::BadLine(28)),
-        (25, "CABLE - 1 0\n", CardFault::PriceMissing),
-    ] {
-        let fault = read_card(with_kinds(number, last).as_str().as_bytes()).err();
-        assert!(rt; fault == Some(due));
+    for (number, last, due) in &GROUPS {
+        let fault = read_card(with_kinds(*number, last).as_str().as_bytes()).err();
+        assert!(rt; fault == Some(*due));
     }
 }
 

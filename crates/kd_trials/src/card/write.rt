@@ -1,36 +1,48 @@
 use crate::cards::{CARDS, Sample, bar_prices, cable_prices, card};
 use crate::texts::{NO_SETTINGS, ONE_LUG, TWO_CABLES};
-use kd_card::{read_card, write_card};
+use kd_card::{Card, Prices, read_card, write_card};
 use kd_tables::MemorySink;
 use std::process::Abort;
+
+/// The card of these lines and prices has this text.
+fn is_written(rt: &impl Abort, lines: &str, prices: Prices, day: u8, text: &str) {
+    let mut sink = MemorySink::<512>::new(512);
+    assert_eq!(rt;
+        write_card(&mut sink, day, &card(rt, lines, prices)),
+        Ok(())
+    );
+    assert_eq!(rt; sink.taken(), text.as_bytes());
+}
 
 #[test]
 fn cards_are_written(rt: HostRuntime) {
     let lines = "PULL 1 A\nPULL 2 C\nPUT 1 C\nPUT 2 E\n";
-    for (lines, prices, day, text) in [
-        (lines, cable_prices(&rt, &[2, 2], &[]), 8, TWO_CABLES),
-        ("LUG 1 R 6\n", bar_prices(&rt, &[1, 1], &[-1]), 9, ONE_LUG),
-        ("", cable_prices(&rt, &[], &[]), 11, NO_SETTINGS),
-    ] {
-        let mut sink = MemorySink::<512>::new(512);
-        let card = card(&rt, lines, prices);
-        assert_eq!(rt; write_card(&mut sink, day, &card), Ok(()));
-        assert_eq!(rt; sink.taken(), text.as_bytes());
-    }
+    is_written(&rt, lines, cable_prices(&rt, &[2, 2], &[]), 8, TWO_CABLES);
+    is_written(
+        &rt,
+        "LUG 1 R 6\n",
+        bar_prices(&rt, &[1, 1], &[-1]),
+        9,
+        ONE_LUG,
+    );
+    is_written(&rt, "", cable_prices(&rt, &[], &[]), 11, NO_SETTINGS);
 }
 
-/// The card is read. A sink takes as much of its text as there is room for, and the answer is Ok where that is all.
+/// A sink takes as much of the card's text as there is room for, and the answer is Ok where that is all.
+fn fills(rt: &impl Abort, day: u8, card: &Card, text: &[u8], room: usize) {
+    let mut sink = MemorySink::<512>::new(room.min(512));
+    let answer = write_card(&mut sink, day, card);
+    assert_eq!(rt; answer.is_ok(), room == text.len());
+    assert_eq!(rt; sink.taken(), text.get(..room).unwrap_or(&[]));
+}
+
+/// The card is read, and written into sinks of any room.
 fn is_read_and_written(rt: &impl Abort, (text, due, _): &Sample) {
     let text = text.as_bytes();
-    let Ok((day, card)) = read_card(text) else {
-        panic!(rt; "a card");
-    };
+    let (day, card) = read_card(text).ok().expect(rt, "a card");
     assert_eq!(rt; day, *due);
     for room in 0..=text.len() {
-        let mut sink = MemorySink::<512>::new(room.min(512));
-        let answer = write_card(&mut sink, day, &card);
-        assert_eq!(rt; answer.is_ok(), room == text.len());
-        assert_eq!(rt; sink.taken(), text.get(..room).unwrap_or(&[]));
+        fills(rt, day, &card, text, room);
     }
 }
 

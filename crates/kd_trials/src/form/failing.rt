@@ -5,40 +5,53 @@ use kd_tables::{MemorySink, MemorySource};
 use std::process::Abort;
 use std::test::Fail;
 
+/// The get behind so many fails, and then so many bytes are out, which begin so.
+fn get_of_an_order_fails(
+    rt: &impl Abort,
+    (machine, day): &Keyed,
+    order: &[u8],
+    gets: usize,
+    front: &[u8],
+    length: usize,
+) {
+    let mut source = MemorySource::new(order, 7, Some(gets));
+    let mut sink = MemorySink::<512>::new(512);
+    let answer = send_stream(machine, day, &mut source, &mut sink);
+    assert_eq!(rt; answer.err(), Some(FormFault::Device));
+    assert!(rt; sink.taken().starts_with(front) && sink.taken().len() == length);
+}
+
 /// The 246th letter comes with the 42nd get, and then the first part is out.
 #[test]
 fn each_get_of_an_order_fails_in_turn(rt: HostRuntime) -> Result<(), Fail> {
-    let (machine, day) = keyed(&rt, &M1);
+    let keyed = keyed(&rt, &M1);
     let order = order_of(&rt, KEYS, 2, 246)?;
-    for gets in 0..43 {
-        let mut source = MemorySource::new(order.as_slice(), 7, Some(gets));
-        let mut sink = MemorySink::<512>::new(512);
-        let answer = send_stream(&machine, &day, &mut source, &mut sink);
-        assert_eq!(rt; answer.err(), Some(FormFault::Device));
-        if gets < 42 {
-            assert!(rt; sink.taken().is_empty());
-        } else {
-            assert!(rt;
-                sink.taken()
-                    .starts_with(b"PART 1/2 250 AAA BDZ\nQXUGZ BDZGO ")
-            );
-            assert_eq!(rt; sink.taken().len(), 321);
-        }
+    for gets in 0..42 {
+        get_of_an_order_fails(&rt, &keyed, order.as_slice(), gets, b"", 0);
     }
+    let first = b"PART 1/2 250 AAA BDZ\nQXUGZ BDZGO ";
+    get_of_an_order_fails(&rt, &keyed, order.as_slice(), 42, first, 321);
     Ok(())
+}
+
+/// The get behind so many fails, and then this text is out.
+fn get_of_a_form_fails(rt: &impl Abort, (machine, day): &Keyed, gets: usize, text: &[u8]) {
+    let mut source = MemorySource::new(TWO_PARTS, 7, Some(gets));
+    let mut sink = MemorySink::<64>::new(64);
+    let answer = receive_stream(machine, day, &mut source, &mut sink);
+    assert_eq!(rt; answer.err(), Some(FormFault::Device));
+    assert_eq!(rt; sink.taken(), text);
 }
 
 /// The digit of the second heading comes with the sixth get, and then the first part's text is out.
 #[test]
 fn each_get_of_a_form_fails_in_turn(rt: HostRuntime) {
-    let (machine, day) = keyed(&rt, &M1);
-    for gets in 0..11 {
-        let mut source = MemorySource::new(TWO_PARTS, 7, Some(gets));
-        let mut sink = MemorySink::<64>::new(64);
-        let answer = receive_stream(&machine, &day, &mut source, &mut sink);
-        assert_eq!(rt; answer.err(), Some(FormFault::Device));
-        let due = if gets < 6 { b"".as_slice() } else { b"AAAAA" };
-        assert_eq!(rt; sink.taken(), due);
+    let keyed = keyed(&rt, &M1);
+    for gets in 0..6 {
+        get_of_a_form_fails(&rt, &keyed, gets, b"");
+    }
+    for gets in 6..11 {
+        get_of_a_form_fails(&rt, &keyed, gets, b"AAAAA");
     }
 }
 

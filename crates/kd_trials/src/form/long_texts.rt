@@ -1,6 +1,8 @@
 use super::samples::{KEYS, Keyed, M1, keyed, order_of, without_pins};
 use kd_form::{FormFault, receive, receive_stream, send};
 use kd_tables::{MemorySink, MemorySource};
+use std::alloc::Global;
+use std::process::Abort;
 use std::test::Fail;
 
 /// A line of keys for the day of the Converter without pins.
@@ -46,10 +48,26 @@ fn a_long_text_takes_two_parts(rt: HostRuntime) -> Result<(), Fail> {
     Ok(())
 }
 
+/// The form is refused for the order of its parts, as a stream once so many letters A are out.
+fn is_out_of_order(
+    rt: &impl Abort,
+    alloc: Global,
+    (machine, day): &Keyed,
+    form: &[u8],
+    letters: usize,
+) {
+    let fault = receive(alloc, machine, day, form).err();
+    assert_eq!(rt; fault, Some(FormFault::PartOrder));
+    let mut source = MemorySource::new(form, 7, None);
+    let mut sink = MemorySink::<512>::new(512);
+    let fault = receive_stream(machine, day, &mut source, &mut sink).err();
+    assert_eq!(rt; fault, Some(FormFault::PartOrder));
+    assert!(rt; is_given(sink.taken(), letters, b""));
+}
+
 #[test]
 fn parts_are_missing_or_exchanged(rt: HostRuntime) -> Result<(), Fail> {
     let keyed = keyed(&rt, &M1);
-    let (machine, day) = &keyed;
     let form = form_of(&rt, &keyed, KEYS, 2, 246)?;
     let second = b"PART 2/2 6 AAA BDZ\nQXUGZ B\n";
     let first = form
@@ -59,15 +77,8 @@ fn parts_are_missing_or_exchanged(rt: HostRuntime) -> Result<(), Fail> {
     let mut exchanged = Vec::new(rt.alloc());
     exchanged.extend_from_slice(second)?;
     exchanged.extend_from_slice(first)?;
-    for (form, letters) in [(first, 245), (exchanged.as_slice(), 0)] {
-        let fault = receive(rt.alloc(), machine, day, form).err();
-        assert_eq!(rt; fault, Some(FormFault::PartOrder));
-        let mut source = MemorySource::new(form, 7, None);
-        let mut sink = MemorySink::<512>::new(512);
-        let fault = receive_stream(machine, day, &mut source, &mut sink).err();
-        assert_eq!(rt; fault, Some(FormFault::PartOrder));
-        assert!(rt; is_given(sink.taken(), letters, b""));
-    }
+    is_out_of_order(&rt, rt.alloc(), &keyed, first, 245);
+    is_out_of_order(&rt, rt.alloc(), &keyed, exchanged.as_slice(), 0);
     Ok(())
 }
 

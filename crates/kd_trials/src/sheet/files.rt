@@ -1,5 +1,7 @@
 //! Files that are read, and machines that are written.
 use super::SHEET;
+use crate::days::reading;
+use crate::machines::pins;
 use crate::texts::{M1, M1_WRITTEN, M4, M209, TEN_CABLES, TEN_CABLES_WRITTEN};
 use kd_sheet::{SheetFault, read_machine, read_sheet, write_machine};
 use kd_state::SheetDay;
@@ -119,11 +121,11 @@ fn reads_the_days_of_a_sheet(rt: HostRuntime) -> Result<(), Fail> {
     for number in [0, 2, 8, 10, 30, 32, 255] {
         assert!(rt; sheet.day(number).is_none());
     }
-    for (number, model, reflector, pairs_and_groups) in DAYS {
-        let day = sheet.day(number).ok_or("a day")?;
-        assert_eq!(rt; day.model(), model);
-        assert_eq!(rt; day.reflector(), reflector);
-        assert_eq!(rt; counts(day), pairs_and_groups);
+    for (number, model, reflector, pairs_and_groups) in &DAYS {
+        let day = sheet.day(*number).ok_or("a day")?;
+        assert_eq!(rt; day.model(), *model);
+        assert_eq!(rt; day.reflector(), *reflector);
+        assert_eq!(rt; counts(day), *pairs_and_groups);
     }
     Ok(())
 }
@@ -142,11 +144,11 @@ static WHEELS: [(u8, u8, Wheel, u8, u8); 7] = [
 #[test]
 fn reads_the_wheels_of_a_day(rt: HostRuntime) -> Result<(), Fail> {
     let sheet = read_sheet(rt.alloc(), SHEET.as_bytes())?;
-    for (number, slot, wheel, ring, letter) in WHEELS {
-        let day = sheet.day(number).ok_or("a day")?;
-        assert_eq!(rt; day.slot(slot), Some(wheel));
-        assert_eq!(rt; day.ring(slot), Letter::from_byte(ring));
-        assert_eq!(rt; day.window(slot), Letter::from_byte(letter));
+    for (number, slot, wheel, ring, letter) in &WHEELS {
+        let day = sheet.day(*number).ok_or("a day")?;
+        assert_eq!(rt; day.slot(*slot), Some(*wheel));
+        assert_eq!(rt; day.ring(*slot), Letter::from_byte(*ring));
+        assert_eq!(rt; day.window(*slot), Letter::from_byte(*letter));
     }
     Ok(())
 }
@@ -156,10 +158,15 @@ fn reads_a_day_of_the_converter(rt: HostRuntime) -> Result<(), Fail> {
     let sheet = read_sheet(rt.alloc(), SHEET.as_bytes())?;
     let day = sheet.day(9).ok_or("the Converter's day")?;
     assert_eq!(rt; day.window(6), Letter::from_byte(b'F'));
-    let rows = day.rows().ok_or("rows")?;
-    assert_eq!(rt; [rows[0].numbers(), rows[1].numbers()], [(0, 3), (3, 6)]);
-    let pins = day.pins().ok_or("pins")?;
-    assert!(rt; pins.w1[0] && pins.w1[25] && !pins.w1[1] && pins.w6[16] && !pins.w6[0]);
+    let mut rows = [reading(&rt, 0, 0); 27];
+    rows[0] = reading(&rt, 0, 3);
+    rows[1] = reading(&rt, 3, 6);
+    assert!(rt; day.rows() == Some(rows));
+    let mut pins = pins(false);
+    pins.w1[0] = true;
+    pins.w1[25] = true;
+    pins.w6[16] = true;
+    assert!(rt; day.pins() == Some(pins));
     Ok(())
 }
 
