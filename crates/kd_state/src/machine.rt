@@ -16,7 +16,7 @@ use pin_parts::PinParts;
 use rotor_parts::RotorParts;
 
 /// A machine as it stands on the desk.
-#[derive(Clone, Copy, Debug)]
+#[derive(Clone, Copy)]
 pub struct Machine {
     parts: Parts,
 }

@@ -12,7 +12,7 @@ use pin_entry::PinEntry;
 use rotor_entry::{RotorEntry, SheetWheel};
 
 /// A day of a key sheet.
-#[derive(Debug, Drop)]
+#[derive(Drop)]
 pub struct SheetDay {
     entry: Entry,
 }

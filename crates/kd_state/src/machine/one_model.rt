@@ -8,7 +8,7 @@ use crate::sheet_day::pin_entry::PinEntry;
 use crate::sheet_day::rotor_entry::RotorEntry;
 
 /// A machine and a day of one model, taken apart: both are of rotors, or both of pins.
-#[derive(Clone, Copy, Debug)]
+#[derive(Clone, Copy)]
 pub enum OneModel<'a> {
     /// An Enigma I, an M3 or an M4, and a day of it.
     Rotor(&'a RotorParts, &'a RotorEntry),

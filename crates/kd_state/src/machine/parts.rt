@@ -7,7 +7,7 @@ use crate::setting::Setting;
 use crate::setting::why::Why;
 
 /// The parts of a machine as it stands on the desk.
-#[derive(Clone, Copy, Debug)]
+#[derive(Clone, Copy)]
 pub enum Parts {
     /// An Enigma I, an M3 or an M4.
     Rotor(RotorParts),

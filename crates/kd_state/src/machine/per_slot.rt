@@ -1,6 +1,7 @@
 ghost use Rattle.std.specs.Prelude.{◌≡◌, ◌⊎◌, ◌↔◌, ◌<◌, length, map, slice_set, IsSome, IfSome};
 ghost use Rattle.kd_state.specs.Setting.{without};
 
+use crate::counted::put;
 use crate::machine::seats::is_wheel;
 use kd_tables::Wheel;
 use std::marker::Model;
@@ -76,8 +77,8 @@ impl<T: Copy> PerSlot<T> {
         ensures { self.new ≡ slice_set self.old place value }
     {
         match &mut self.values {
-            Slots::Three(values) => values[place] = value,
-            Slots::Four(values) => values[place] = value,
+            Slots::Three(values) => put(values, place, value),
+            Slots::Four(values) => put(values, place, value),
         }
     }
 }

@@ -1,14 +1,15 @@
 ghost use Rattle.std.specs.Prelude.{◌≡◌, ◌⊎◌, ◌↔◌, ◌<◌, length, slice_set, IsSome, IfSome};
 
+use crate::counted::put;
 use std::marker::Model;
 
 /// A value for each wheel of a rotor machine's box, in box order: five, eight or ten.
-#[derive(Clone, Copy, Debug)]
+#[derive(Clone, Copy)]
 pub struct PerWheel<T> {
     values: Wheels<T>,
 }
 
-#[derive(Clone, Copy, Debug)]
+#[derive(Clone, Copy)]
 enum Wheels<T> {
     Five([T; 5]),
     Eight([T; 8]),
@@ -62,9 +63,9 @@ impl<T: Copy> PerWheel<T> {
         ensures { self.new ≡ slice_set self.old place value }
     {
         match &mut self.values {
-            Wheels::Five(values) => values[place] = value,
-            Wheels::Eight(values) => values[place] = value,
-            Wheels::Ten(values) => values[place] = value,
+            Wheels::Five(values) => put(values, place, value),
+            Wheels::Eight(values) => put(values, place, value),
+            Wheels::Ten(values) => put(values, place, value),
         }
     }
 }

@@ -8,7 +8,7 @@ use kd_pins::PinSet;
 use kd_tables::{Letter, Reading, Standing};
 
 /// The parts of a Converter M-209 as it stands on the desk.
-#[derive(Clone, Copy, Debug)]
+#[derive(Clone, Copy)]
 pub struct PinParts {
     /// Which pins of the six wheels are effective.
     pub pins: PinSet,

@@ -11,7 +11,7 @@ use crate::machine::seats;
 use kd_tables::{Letter, Model, Reflector, Wheel, allowed_reflector};
 
 /// The parts of a rotor machine as it stands on the desk.
-#[derive(Clone, Copy, Debug)]
+#[derive(Clone, Copy)]
 pub struct RotorParts {
     pub model: Model,
     /// A wheel or nothing for each slot, from the left.

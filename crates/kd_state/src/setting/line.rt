@@ -1,6 +1,8 @@
 //! The text of a setting: its line on a card or in a list.
-ghost use Rattle.std.specs.Prelude.{◌≡◌, ◌≢◌, ◌<◌, [], ◌∷◌, map, IfSome, MatchOption};
+ghost use Rattle.std.specs.Prelude.{◌≡◌, ◌≢◌, ◌<◌, ◌≤◌, [], ◌∷◌, ◌++◌, length, map, decimal, IfSome, MatchOption};
 ghost use Rattle.arrayvec.specs.ArrayString.{array_string_len};
+ghost use Rattle.kd_state.specs.declared.setting.Setting.TheVariants.{SeatReflector, RingTo, LugTo};
+ghost use Rattle.kd_state.specs.Words.{letter_text};
 ghost use Rattle.kd_state.specs.Line.{setting_line, pin_text, IsInRange, IsReadOff};
 
 use crate::facts::is_in_range;
@@ -8,7 +10,7 @@ use crate::setting::Setting;
 use crate::setting::keyword::Keyword;
 use crate::words::{letter_of_text, number_of_text, push_letter, push_number, split_words};
 use arrayvec::ArrayString;
-use kd_tables::{Lug, Place, Reflector, Wheel};
+use kd_tables::{Letter, Lug, Place, Reflector, Wheel};
 
 impl Setting {
     /// The setting's line, without the LF at its end. Its numbers are bytes, and its letter is one of the alphabet.
@@ -18,63 +20,28 @@ impl Setting {
         ensures in_range { IsInRange self.now }
     {
         is_in_range(self);
-        let mut line = ArrayString::new();
         match *self {
-            Setting::Pull { cable, letter } => {
-                line.push_str("PULL ");
-                push_number(&mut line, cable);
-                line.push_str(" ");
-                push_letter(&mut line, letter);
-            }
-            Setting::Put { cable, letter } => {
-                line.push_str("PUT ");
-                push_number(&mut line, cable);
-                line.push_str(" ");
-                push_letter(&mut line, letter);
-            }
+            Setting::Pull { cable, letter } => with_letter("PULL", cable, letter),
+            Setting::Put { cable, letter } => with_letter("PUT", cable, letter),
             Setting::Seat { slot, wheel } => {
-                line.push_str("SEAT ");
-                push_number(&mut line, slot);
-                line.push_str(" ");
+                let mut line = with_number("SEAT", slot);
                 line.push_str(wheel.text().as_str());
+                line
             }
-            Setting::SeatReflector { reflector } => {
-                line.push_str("REFLECTOR ");
-                line.push_str(reflector.text().as_str());
-            }
-            Setting::RingTo { wheel, letter } => {
-                line.push_str("RING ");
-                line.push_str(wheel.text().as_str());
-                line.push_str(" ");
-                push_letter(&mut line, letter);
-            }
-            Setting::Turn { slot, letter } => {
-                line.push_str("TURN ");
-                push_number(&mut line, slot);
-                line.push_str(" ");
-                push_letter(&mut line, letter);
-            }
+            Setting::SeatReflector { reflector } => reflector_line(reflector),
+            Setting::RingTo { wheel, letter } => ring_line(wheel, letter),
+            Setting::Turn { slot, letter } => with_letter("TURN", slot, letter),
             Setting::PinTo {
                 wheel,
                 letter,
                 effective,
             } => {
-                line.push_str("PIN ");
-                push_number(&mut line, wheel);
-                line.push_str(" ");
-                push_letter(&mut line, letter);
+                let mut line = with_letter("PIN", wheel, letter);
                 line.push_str(if effective { " ON" } else { " OFF" });
+                line
             }
-            Setting::LugTo { bar, lug, place } => {
-                line.push_str("LUG ");
-                push_number(&mut line, bar);
-                line.push_str(" ");
-                line.push_str(lug.text().as_str());
-                line.push_str(" ");
-                line.push_str(place.text().as_str());
-            }
+            Setting::LugTo { bar, lug, place } => lug_line(bar, lug, place),
         }
-        line
     }
 
     /// The setting whose line this is, without the LF at its end.
@@ -87,6 +54,67 @@ impl Setting {
         let words = split_words::<4>(text)?;
         of_words(words.as_slice())
     }
+}
+
+/// The front of a line: its first word and a number, with a space behind each.
+fn with_number(word: &str, number: u8) -> ArrayString<24>
+    requires { length word.now ≤ 4 }
+    ensures bytes { result.bytes ≡ word.now ++ 32 ∷ decimal number ++ 32 ∷ [] }
+    ensures short { array_string_len result ≤ 9 }
+{
+    let mut line = ArrayString::new();
+    line.push_str(word);
+    line.push_str(" ");
+    push_number(&mut line, number);
+    line.push_str(" ");
+    line
+}
+
+/// A line's first word, a number and a letter.
+fn with_letter(word: &str, number: u8, letter: Letter) -> ArrayString<24>
+    requires { length word.now ≤ 4 }
+    ensures bytes { result.bytes ≡ word.now ++ 32 ∷ decimal number ++ 32 ∷ letter_text letter }
+    ensures short { array_string_len result ≤ 10 }
+{
+    let mut line = with_number(word, number);
+    push_letter(&mut line, letter);
+    line
+}
+
+/// The line that changes the reflector.
+fn reflector_line(reflector: Reflector) -> ArrayString<24>
+    ensures value { result.bytes ≡ setting_line (SeatReflector reflector) }
+    ensures short { array_string_len result < 24 }
+{
+    let mut line = ArrayString::new();
+    line.push_str("REFLECTOR ");
+    line.push_str(reflector.text().as_str());
+    line
+}
+
+/// The line that sets a wheel's ring.
+fn ring_line(wheel: Wheel, letter: Letter) -> ArrayString<24>
+    ensures value { result.bytes ≡ setting_line (RingTo wheel letter) }
+    ensures short { array_string_len result < 24 }
+{
+    let mut line = ArrayString::new();
+    line.push_str("RING ");
+    line.push_str(wheel.text().as_str());
+    line.push_str(" ");
+    push_letter(&mut line, letter);
+    line
+}
+
+/// The line that moves a lug.
+fn lug_line(bar: u8, lug: Lug, place: Place) -> ArrayString<24>
+    ensures value { result.bytes ≡ setting_line (LugTo bar lug place) }
+    ensures short { array_string_len result < 24 }
+{
+    let mut line = with_number("LUG", bar);
+    line.push_str(lug.text().as_str());
+    line.push_str(" ");
+    line.push_str(place.text().as_str());
+    line
 }
 
 /// The setting whose line has these words.

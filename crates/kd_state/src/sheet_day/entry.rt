@@ -5,7 +5,7 @@ use crate::sheet_day::pin_entry::PinEntry;
 use crate::sheet_day::rotor_entry::RotorEntry;
 
 /// An entry of a key sheet.
-#[derive(Debug, Drop)]
+#[derive(Drop)]
 pub enum Entry {
     /// For an Enigma I, an M3 or an M4.
     Rotor(RotorEntry),

@@ -5,7 +5,7 @@ use kd_pins::PinSet;
 use kd_tables::{Letter, Reading};
 
 /// A day of the Converter M-209.
-#[derive(Clone, Copy, Debug)]
+#[derive(Clone, Copy)]
 pub struct PinEntry {
     pub day: u8,
     /// What the bars are to read as.

@@ -9,7 +9,7 @@ use kd_enigma::Plugs;
 use kd_tables::{Letter, Model, Reflector, Wheel, allowed_reflector};
 
 /// A wheel of a sheet's day, with its ring and the letter in its window.
-#[derive(Clone, Copy, Debug, PartialEq, Eq)]
+#[derive(Clone, Copy, PartialEq, Eq)]
 pub struct SheetWheel {
     pub wheel: Wheel,
     /// The ring: 01 is A.
@@ -19,7 +19,7 @@ pub struct SheetWheel {
 }
 
 /// A day of a rotor model.
-#[derive(Debug, Drop)]
+#[derive(Drop)]
 pub struct RotorEntry {
     pub day: u8,
     pub model: Model,
