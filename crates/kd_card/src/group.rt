@@ -4,7 +4,7 @@ ghost use Rattle.kd_card.specs.CardText.{row_name, column_name, price_count};
 use super::look::Name;
 
 /// What the prices of a card are of.
-#[derive(Clone, Copy, Debug, PartialEq, Eq)]
+#[derive(Clone, Copy)]
 pub enum Group {
     /// Of cables, and of pairs and nothings.
     OfCables,

@@ -11,7 +11,7 @@ use arrayvec::ArrayVec;
 use kd_tables::{Letter, Reading, Standing};
 
 /// Cables that are alike.
-#[derive(Clone, Copy, Debug)]
+#[derive(Clone, Copy)]
 pub struct CableKind {
     /// Their letters: a single one comes first, two are in alphabetical order.
     pub ends: (Option<Letter>, Option<Letter>),
@@ -22,7 +22,7 @@ pub struct CableKind {
 }
 
 /// Pairs, or nothings, that are alike.
-#[derive(Clone, Copy, Debug)]
+#[derive(Clone, Copy)]
 pub struct PairKind {
     /// The letters in alphabetical order, or nothing.
     pub pair: Option<(Letter, Letter)>,
@@ -33,7 +33,7 @@ pub struct PairKind {
 }
 
 /// Bars that stand alike.
-#[derive(Clone, Copy, Debug)]
+#[derive(Clone, Copy)]
 pub struct BarKind {
     pub standing: Standing,
     /// How many there are, from 1.
@@ -43,7 +43,7 @@ pub struct BarKind {
 }
 
 /// Rows of a sheet that read alike.
-#[derive(Clone, Copy, Debug)]
+#[derive(Clone, Copy)]
 pub struct RowKind {
     pub reading: Reading,
     /// How many there are, from 1.
@@ -53,7 +53,7 @@ pub struct RowKind {
 }
 
 /// A kind of whatever things: what they have in common, how many there are, and the price of each.
-#[derive(Clone, Copy, Debug)]
+#[derive(Clone, Copy)]
 pub struct PricedKind {
     pub look: Look,
     pub count: u8,

@@ -13,7 +13,7 @@ use kd_tables::{Letter, Place, Reading, Standing};
 type Ends = (Option<Letter>, Option<Letter>);
 
 /// What things are called in the lines of a card.
-#[derive(Clone, Copy, Debug, PartialEq, Eq)]
+#[derive(Clone, Copy)]
 pub(crate) enum Name {
     Cable,
     Pair,
@@ -37,7 +37,7 @@ impl Name {
 
 /// What alike things have in common: the letters of a cable, those of a pair or of nothing, how a bar stands, or how a
 /// row reads.
-#[derive(Clone, Copy, Debug)]
+#[derive(Clone, Copy)]
 pub enum Look {
     /// A cable's letters: a single one comes first, two are in alphabetical order.
     Cable((Option<Letter>, Option<Letter>)),

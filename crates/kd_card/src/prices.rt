@@ -14,7 +14,7 @@ use arrayvec::ArrayVec;
 use std::marker::Model;
 
 /// What the prices of a card are by.
-#[derive(Clone, Copy, Debug, PartialEq, Eq)]
+#[derive(Clone, Copy)]
 pub enum Version {
     /// Each cable, pair, bar or row has a price of its own.
     ByNumber,
@@ -24,7 +24,7 @@ pub enum Version {
 
 /// The prices of a card: of the cables and of the pairs and nothings, or of the bars and of the sheet's rows; or of the
 /// kinds of each.
-#[derive(Debug, Drop)]
+#[derive(Drop)]
 pub enum PriceParts {
     Cables([i16; 13], [i16; 13]),
     Bars([i16; 27], [i16; 27]),
@@ -33,7 +33,7 @@ pub enum PriceParts {
 }
 
 /// The prices of a card, each from -9999 to 9999.
-#[derive(Debug, Drop)]
+#[derive(Drop)]
 pub struct Prices {
     parts: PriceParts,
 }

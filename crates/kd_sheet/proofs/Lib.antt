@@ -2,7 +2,6 @@ pub mod AllPins
 pub mod CableLetters
 pub mod Documents
 pub mod Earlier
-pub mod FileLines
 pub mod LegalDays
 pub mod Lists
 pub mod Months

@@ -1,9 +1,12 @@
 //! The letters of the Converter's six wheels, and which of their pins are effective.
-ghost use Rattle.std.specs.Prelude.{◌≡◌, ◌+◌, ◌==◌, ◌<◌, map, length, All, IfOk, IfSome};
+ghost use Rattle.std.specs.Prelude.{◌≡◌, ◌+◌, ◌==◌, ◌<◌, [], ◌∷◌, map, length, All, Ok, IfOk, IfSome};
 ghost use Rattle.std.specs.List.{list_any, count_by};
 ghost use Rattle.toml.specs.View.{view, table_view};
+ghost use Rattle.kd_tables.specs.Rings.{ring_of};
 ghost use Rattle.kd_state.specs.Machine.{AreOnWheels, HasAllPins};
+ghost use Rattle.kd_state.specs.Pins.{pin_set};
 ghost use Rattle.kd_state.specs.Setting.{has_letter};
+ghost use Rattle.kd_sheet.specs.Document.{◌>>=◌ as ◌followed_by◌, all_values};
 ghost use Rattle.kd_sheet.specs.PinWheels.{are_on_wheels, letters_on_wheels, shown_in, is_on, stands_once, is_pin_text, has_capital, pins_of_text, pins_of_item, pins_in};
 
 use super::document::{items_at, text_at};
@@ -18,7 +21,7 @@ use toml::{Table, Value};
 fn is_on_wheel<const N: usize>(ring: &Ring<N>, letter: Letter) -> bool
     ensures { result ≡ has_letter ring.now letter }
 {
-    ring.letters().iter().any(|other| *other == letter)
+    ring.letters().contains(&letter)
 }
 
 /// Whether each letter is on its wheel, from wheel 1 on.
@@ -61,7 +64,12 @@ pub fn shown_in(table: &Table, key: Key) -> Result<[Letter; 6], SheetFault>
 fn is_on(ring: &[Letter], byte: u8) -> bool
     ensures { result ≡ is_on ring.now byte }
 {
-    ring.iter().any(|letter| letter.byte() == byte)
+    for letter in ring {
+        if letter.byte() == byte {
+            return true;
+        }
+    }
+    false
 }
 
 /// Whether the byte stands once in the text.
@@ -125,6 +133,25 @@ pub fn pins_in(table: &Table) -> Result<PinSet, SheetFault>
     let [one, two, three, four, five, six] = items else {
         return Err(SheetFault::BadValue(Key::Pins));
     };
+    pins_of_six(one, two, three, four, five, six)
+}
+
+/// The effective pins of the six wheels, by their items.
+fn pins_of_six(
+    one: &Value,
+    two: &Value,
+    three: &Value,
+    four: &Value,
+    five: &Value,
+    six: &Value,
+) -> Result<PinSet, SheetFault>
+    ensures value { result ≡ (all_values
+        (pins_of_item (ring_of 1) (view one.now) ∷ pins_of_item (ring_of 2) (view two.now)
+        ∷ pins_of_item (ring_of 3) (view three.now) ∷ pins_of_item (ring_of 4) (view four.now)
+        ∷ pins_of_item (ring_of 5) (view five.now) ∷ pins_of_item (ring_of 6) (view six.now) ∷ [])
+        followed_by (λ pins. Ok (pin_set pins))) }
+    ensures count { IfOk result HasAllPins }
+{
     let w1 = pins_of_item(&ring1(), one)?;
     let w2 = pins_of_item(&ring2(), two)?;
     let w3 = pins_of_item(&ring3(), three)?;

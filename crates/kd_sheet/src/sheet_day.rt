@@ -27,11 +27,11 @@ fn rings_of(value: &Value, model: Model) -> Option<PerSlot<Letter>>
     ensures value { result ≡ rings_of (slots_of model) (view value.now) }
     ensures letters { IfSome result (AreLetters (slots_of model)) }
 {
-    if let Some(text) = value.as_str() {
-        return slot_letters(model, text.as_bytes());
+    match value {
+        Value::String(text) => slot_letters(model, text.as_bytes()),
+        Value::Array(items) => numbered_slots(model, items.as_slice()),
+        _ => None,
     }
-    let items = value.as_array()?.as_slice();
-    numbered_slots(model, items)
 }
 
 /// A ring for each of the model's slots.

@@ -6,7 +6,7 @@ ghost use Rattle.kd_tables.specs.Places.{figure};
 ghost use Rattle.kd_tables.specs.Writing.{Writes};
 ghost use Rattle.kd_tables.specs.Text.{letters_text};
 ghost use Rattle.kd_state.specs.Machine.{IsLegalRotor, IsLegalPin};
-ghost use Rattle.kd_sheet.specs.MachineText.{version_of, pin_text, pins_text, pin_texts, head_lines, machine_text};
+ghost use Rattle.kd_sheet.specs.MachineText.{quoted, key_line, version_of, pin_text, pins_text, pin_texts, head_lines, machine_text};
 
 use super::item_text::Item;
 use super::key::Key;
@@ -27,6 +27,17 @@ fn letters_text(letters: &[Letter]) -> Item
         push_letter(&mut text, *letter);
     }
     text
+}
+
+/// Puts a line with letters.
+fn push_letters_line(text: &mut Text, key: Key, letters: &[Letter])
+    requires room { array_string_len text.old + 47 ≤ 2048 }
+    requires few { length letters.now ≤ 32 }
+    ensures bytes { text.new.bytes
+        ≡ text.old.bytes ++ key_line key (quoted (letters_text letters.now)) }
+    ensures len { array_string_len text.new ≤ array_string_len text.old + 47 }
+{
+    push_text_line(text, key, letters_text(letters).as_str());
 }
 
 /// Puts the letter of a pin, if it is effective.
@@ -107,16 +118,8 @@ fn rotor_text(parts: &RotorParts) -> Text
     let mut text = head_text(parts.model);
     push_text_line(&mut text, Key::Reflector, parts.reflector.text().as_str());
     push_list_line(&mut text, Key::Slots, parts.slots.as_slice());
-    push_text_line(
-        &mut text,
-        Key::Rings,
-        letters_text(parts.rings.as_slice()).as_str(),
-    );
-    push_text_line(
-        &mut text,
-        Key::Letters,
-        letters_text(parts.letters.as_slice()).as_str(),
-    );
+    push_letters_line(&mut text, Key::Rings, parts.rings.as_slice());
+    push_letters_line(&mut text, Key::Letters, parts.letters.as_slice());
     push_list_line(&mut text, Key::Cables, &parts.cables);
     text
 }
@@ -128,11 +131,7 @@ fn pin_machine_text(parts: &PinParts) -> Text
     ensures { result.bytes ≡ machine_text (Parts.Pin parts.now) }
 {
     let mut text = head_text(Model::M209);
-    push_text_line(
-        &mut text,
-        Key::Letters,
-        letters_text(&parts.letters).as_str(),
-    );
+    push_letters_line(&mut text, Key::Letters, &parts.letters);
     push_list_line(&mut text, Key::Pins, &pin_texts(&parts.pins));
     push_list_line(&mut text, Key::Bars, &parts.bars);
     text
