@@ -1,6 +1,5 @@
 -- What was written of a front of what was read.
-use Rattle.std.proofs.Common.{◌≡◌, ℕ, ◌<◌, ◌+◌, ◌-◌, List, [], length, take, slice_index, IsTrue, IsFalse, refl, sym, ap, subst, length-take-le, arith}
-use Rattle.std.proofs.lemmas.List.Elements.{All-nil}
+use Rattle.std.proofs.Common.{◌≡◌, ℕ, ◌<◌, ◌+◌, ◌-◌, List, length, take, slice_index, IsFalse, sym, ap, subst, length-take-le, arith}
 use Rattle.std.specs.Io.{StartsWith}
 use Rattle.kd_tables.specs.Text.{is_text_byte}
 use Rattle.kd_state.specs.TwoCiphers.{EngineKey}

@@ -3,6 +3,7 @@ pub mod CommandLines
 pub mod Exclusions
 pub mod Failing
 pub mod Fronts
+pub mod Grammars
 pub mod Lamps
 pub mod Runs
 pub mod SaidCommands

@@ -1,20 +1,18 @@
 -- Files that are read one after another, and what the program answers to a command.
-use Rattle.std.proofs.Common.{◌≡◌, ◌≢◌, ℕ, suc, Bool, true, false, List, [], ◌∷◌, ◌++◌, take, Option, Some, None, IfSome, IsSomeAnd, Result, Ok, Err, IsErr, IsErrAnd, is_ok, refl, sym, ap, ◌∙◌, subst, inl, inr, append_assoc}
+use Rattle.std.proofs.Common.{◌≡◌, ℕ, suc, Bool, true, false, List, [], ◌∷◌, ◌++◌, take, Option, Some, None, IfSome, IsSomeAnd, Result, Ok, Err, IsErr, IsErrAnd, is_ok, refl, sym, ap, ◌∙◌, subst, inl, inr, append_assoc}
 use Rattle.std.proofs.lemmas.Bool.{false≢true}
-use Rattle.std.proofs.lemmas.List.{append-nil}
 use Rattle.clap.specs.Words.{Row, subcommand_of}
-use Rattle.kd_sheet.specs.declared.fault.SheetFault.TheVariants.{NoMemory}
 use Rattle.kd_desk.specs.declared.fault.DeskFault.{DeskFault}
-use Rattle.kd_desk.specs.declared.fault.DeskFault.TheVariants.{File}
 use Rattle.kd_desk.specs.declared.files.fault.FileFault.{FileFault}
 use Rattle.kd_desk.specs.declared.files.fault.FileFault.TheVariants as files
 use Rattle.kd_desk.specs.declared.stop.Stop.{Stop}
-use Rattle.kd_desk.specs.declared.stop.Stop.TheVariants.{Usage, Unread, ReadFailed, Refused}
+use Rattle.kd_desk.specs.declared.stop.Stop.TheVariants.{Unread}
 use Rattle.kd_desk.specs.CommandLine.{Named, desk_grammar, files_of, IsOf, Says}
 use Rattle.kd_desk.specs.declared.command.Task.{Task}
 use Rattle.kd_desk.specs.Desk.{KnownCommand, KnownAction, KnownTask, command_over, AskFor, CarriesOut, DoesTask, IsDone, IsTaskDone, has_read}
 use Rattle.kd_desk.specs.OnDay.{OnDay}
 use Rattle.kd_desk.specs.Files.{Gives, Opened}
+use Rattle.kd_desk.specs.Stops.{stop_after}
 use Rattle.kd_tables.specs.Ports.{Port}
 use Rattle.kd_desk.proofs.SaidCommands.{same_command}
 
@@ -80,6 +78,10 @@ pub nothing_left : Opened
 nothing_left = record { bytes = None; failed = false }
 
 -- ---- what is answered
+
+pub stops_after : (answer : Result (Unit {0}) Stop) (told : Result (Unit {0}) DeskFault) (failed now : Bool) → answer ≡ stop_after failed told → failed ≡ now
+    → answer ≡ stop_after now told
+stops_after answer told failed now answers same = subst (λ f. answer ≡ stop_after f told) same answers
 
 pub err_is : (answer : Result (Unit {0}) Stop) (stop : Stop) → IsErrAnd answer (λ made. made ≡ stop) → answer ≡ Err stop
 err_is (Ok x) stop made = absurd made

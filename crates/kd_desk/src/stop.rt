@@ -39,7 +39,7 @@ impl Stop {
 }
 
 /// How the program ends.
-#[derive(Clone, Copy, Debug, PartialEq, Eq)]
+#[derive(Clone, Copy)]
 pub struct Exit {
     /// The status: 0 where all was done, 2 for words that are no command, 1 for a refusal.
     pub status: u8,

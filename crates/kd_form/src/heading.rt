@@ -10,7 +10,7 @@ use kd_state::{PerSlot, push_number};
 use kd_tables::Letter;
 
 /// The heading of a part of a form.
-#[derive(Clone, Copy, Debug)]
+#[derive(Clone, Copy)]
 pub(crate) struct Heading {
     /// Which part it is, counted from 1.
     pub(crate) part: u8,
@@ -23,7 +23,7 @@ pub(crate) struct Heading {
 }
 
 /// The indicator in the heading of a rotor machine's part.
-#[derive(Clone, Copy, Debug)]
+#[derive(Clone, Copy)]
 pub(crate) struct Indicator {
     /// The ground: what the windows show when the message key is deciphered.
     pub(crate) start: PerSlot<Letter>,

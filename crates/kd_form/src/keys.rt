@@ -2,14 +2,14 @@ use kd_state::PerSlot;
 use kd_tables::Letter;
 
 /// What an order gives for one part of the form.
-#[derive(Clone, Copy, Debug)]
+#[derive(Clone, Copy)]
 pub(crate) enum Keys {
     Rotor(RotorKeys),
     Pin(PinKeys),
 }
 
 /// The keys of a part on a rotor machine.
-#[derive(Clone, Copy, Debug)]
+#[derive(Clone, Copy)]
 pub(crate) struct RotorKeys {
     /// The ground: what the windows show when the message key is enciphered.
     pub(crate) start: PerSlot<Letter>,
@@ -22,7 +22,7 @@ pub(crate) struct RotorKeys {
 }
 
 /// The keys of a part on the Converter M-209.
-#[derive(Clone, Copy, Debug)]
+#[derive(Clone, Copy)]
 pub(crate) struct PinKeys {
     /// The letter that is enciphered twelve times for the internal key.
     pub(crate) chosen: Letter,

@@ -24,7 +24,7 @@ pub(crate) struct OrderReader {
 }
 
 /// Where in an order the next byte stands.
-#[derive(Clone, Copy, Debug, PartialEq, Eq)]
+#[derive(Clone, Copy)]
 pub(crate) enum Stage {
     /// In the lines up to its text.
     Head,

@@ -13,7 +13,7 @@ use kd_tables::Letter;
 const MOST: usize = 13;
 
 /// Why bytes are no line.
-#[derive(Clone, Copy, Debug, PartialEq, Eq)]
+#[derive(Clone, Copy)]
 pub(crate) enum Unread {
     /// More has to follow.
     Open,

@@ -4,7 +4,7 @@ use arrayvec::ArrayVec;
 use std::marker::Model;
 
 /// The names that were asked for, in order. No command names more than three files.
-#[derive(Debug, Drop)]
+#[derive(Drop)]
 pub struct Asked<'n> {
     names: ArrayVec<&'n str, 3>,
 }

@@ -1,7 +1,7 @@
 use kd_tables::Device;
 
 /// Why the typing of a text stops before its end.
-#[derive(Clone, Copy, Debug, PartialEq, Eq)]
+#[derive(Clone, Copy)]
 pub enum TextFault {
     /// A read or a write failed.
     Device,

@@ -7,7 +7,7 @@ use kd_state::Engine;
 use kd_tables::{Device, Sink, Source, put_all};
 
 /// What the next bytes of a text were.
-#[derive(Clone, Copy, Debug, PartialEq, Eq)]
+#[derive(Clone, Copy)]
 pub enum Step {
     /// There were none.
     Ended,

@@ -21,7 +21,7 @@ pub(crate) struct HeadReader {
 }
 
 /// What a byte is in these lines.
-#[derive(Clone, Copy, Debug, PartialEq, Eq)]
+#[derive(Clone, Copy)]
 pub(crate) enum HeadStep {
     /// More has to follow.
     Open,

@@ -1,12 +1,18 @@
-use Rattle.std.proofs.Common.{rules, ap₂, codes, ◌≡◌, ◌∙◌}
-use Rattle.std.proofs.lemmas.Result.{IfOk-weaker}
-use Rattle.clap.specs.Words.{rule_of, with_rule}
-use Rattle.kd_desk.specs.CommandLine.{word_named}
+use Rattle.std.proofs.Common.{[], ◌∷◌, Bool, ◌||◌, ◌∙◌, ap₂, codes}
+use Rattle.clap.specs.Words.{with_rule}
+use Rattle.kd_desk.specs.CommandLine.{alone, command_shape, word_named}
+use Rattle.kd_desk.proofs.Grammars.{takes_word, stays_local}
 use Rattle.kd_desk.proofs.command.with_day.Goals as goal
 
 pub returns-clause-shape : goal.returns-clause-shape
 returns-clause-shape c =
-    let sheet : rule_of c.word.result ≡ word_named (codes "SHEET") = search rules in
-    let day : rule_of c.word-2.result ≡ word_named (codes "DAY") = search rules in
-    IfOk-weaker c.arg-2.result _ _ (λ r adds. adds.shape (search rules)
-    ∙ ap₂ with_rule (c.in_ok-arg.ensures.shape (search rules) ∙ ap₂ with_rule c.in_ok-with_machine.ensures.shape sheet) day) c.arg-2.ensures
+    let machine = alone (command_shape c.args.name.now (codes "MACHINE" ∷ [])) in
+    let sheet = with_rule machine (word_named (codes "SHEET")) in
+    takes_word _ _ c.arg-2.result sheet (word_named (codes "DAY"))
+    (c.in_ok-arg.ensures.shape c.word.ensures.local ∙ ap₂ with_rule c.in_ok-with_machine.ensures.shape c.word.ensures.rule)
+    c.word-2.ensures.rule c.word-2.ensures.local c.arg-2.ensures
+
+pub returns-clause-local : goal.returns-clause-local
+returns-clause-local c =
+    stays_local _ _ c.arg-2.result (c.in_ok-arg.ensures.globals ∙ ap₂ (λ (a b : Bool). a || b) c.in_ok-with_machine.ensures.local c.word.ensures.local)
+    c.word-2.ensures.local c.arg-2.ensures

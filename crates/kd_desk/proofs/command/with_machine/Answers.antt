@@ -1,15 +1,14 @@
-use Rattle.std.proofs.Common.{true, rules, ap, ap₂, codes, ◌≡◌, ◌∙◌}
-use Rattle.std.proofs.lemmas.Result.{IfOk-weaker}
-use Rattle.clap.specs.Words.{App, app_of, new_app, rule_of, with_rule}
-use Rattle.clap.specs.Simple.{app_of_fields}
+use Rattle.std.proofs.Common.{codes}
+use Rattle.clap.specs.Words.{new_app}
 use Rattle.kd_desk.specs.CommandLine.{word_named}
+use Rattle.kd_desk.proofs.Grammars.{without_help, app_without_help, local_without_help, takes_word, stays_local}
 use Rattle.kd_desk.proofs.command.with_machine.Goals as goal
-
-abbrev without_help : App → App
-without_help a = record a { top = record a.top { disable_help_flag = true } }
 
 pub returns-clause-shape : goal.returns-clause-shape
 returns-clause-shape c =
-    let machine : rule_of c.word.result ≡ word_named (codes "MACHINE") = search rules in
-    let new : app_of c.disable_help_flag.result ≡ without_help (new_app c.args.name.now) = ap app_of_fields c.disable_help_flag.ensures ∙ ap without_help c.new.ensures.app in
-    IfOk-weaker c.arg.result _ _ (λ r adds. adds.shape (search rules) ∙ ap₂ with_rule new machine) c.arg.ensures
+    let bare = app_without_help c.new.result c.disable_help_flag.result (new_app c.args.name.now) c.disable_help_flag.ensures c.new.ensures.app in
+    takes_word c.disable_help_flag.result c.word.result c.arg.result (without_help (new_app c.args.name.now)) (word_named (codes "MACHINE")) bare c.word.ensures.rule c.word.ensures.local c.arg.ensures
+
+pub returns-clause-local : goal.returns-clause-local
+returns-clause-local c =
+    stays_local c.disable_help_flag.result c.word.result c.arg.result (local_without_help c.new.result c.disable_help_flag.result c.disable_help_flag.ensures c.new.ensures.local) c.word.ensures.local c.arg.ensures

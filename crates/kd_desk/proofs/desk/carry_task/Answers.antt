@@ -1,9 +1,8 @@
 use Rattle.std.proofs.Common.{ap, sym, ◌∙◌}
 use Rattle.kd_desk.specs.CommandLine.{with_task_opened}
 use Rattle.kd_desk.specs.Files.{opened}
-use Rattle.kd_desk.specs.Stops.{stop_after}
 use Rattle.kd_desk.specs.declared.command.Task.TheVariants as tasks
-use Rattle.kd_desk.proofs.Runs.{nothing_left, task_done}
+use Rattle.kd_desk.proofs.Runs.{nothing_left, stops_after, task_done}
 use Rattle.kd_desk.proofs.desk.carry_task.Goals as goal
 
 pub returns-in-Card-clause-does : goal.returns-in-Card-clause-does
@@ -25,5 +24,5 @@ returns-in-Message-clause-does g c =
       left = known c.carry_message-done.new.file;
       told = c.carry_message-done.result;
       does = c.carry_message-done.ensures.does;
-      answers = c.after-in-Message.ensures ∙ ap (λ failed. stop_after failed c.carry_message-done.result) c.failed.ensures;
+      answers = stops_after c.after-in-Message.result c.carry_message-done.result _ _ c.after-in-Message.ensures c.failed.ensures;
     })

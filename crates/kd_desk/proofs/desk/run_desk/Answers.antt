@@ -16,7 +16,9 @@ pub returns-clause-carried : goal.returns-clause-carried
 returns-clause-carried g c =
     let said = named c.in_ok-command.command in
     let words = map g.S.AsStr.text c.args.words.now in
-    λ command says. done _ _ c.carry_out.result _ said command (said_command words said command c.in_ok-command.ensures.said says) _
+    let source = port g.R.Source.remaining g.R.Source.has_failed c.args.source.now c.carry_out.new.source in
+    let sink = port g.W.Sink.taken g.W.Sink.has_failed c.args.sink.now c.carry_out.new.sink in
+    λ command says. done source sink c.carry_out.result _ said command (said_command words said command c.in_ok-command.ensures.said says) _
     c.carry_out.ensures.does c.in_ok-command-2.ensures.read
 
 pub returns-in_err-command-2-clause-asked : goal.returns-in_err-command-2-clause-asked

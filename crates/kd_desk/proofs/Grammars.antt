@@ -1,0 +1,32 @@
+-- A grammar as it grows: no help, and a word or a command more.
+use Rattle.std.proofs.Common.{◌≡◌, ◌∙◌, ◌||◌, Bool, true, false, Result, Ok, Err, IfOk, ap, ap₂, sym, subst}
+use Rattle.clap.specs.Built.{AddsArg}
+use Rattle.clap.specs.Words.{App, Rule, app_of, rule_of, with_rule}
+use Rattle.clap.specs.Simple.{app_of_fields}
+use Rattle.clap.specs.declared.builder.arg.Arg.{Arg}
+use Rattle.clap.specs.declared.builder.command.Command.{Command}
+use Rattle.clap.specs.declared.builder.command.Command.TheViews.{out-Command}
+use Rattle.clap.specs.declared.builder.command.Command.TheOpen.{Command-F}
+
+abbrev pub without_help : App → App
+without_help a = record a { top = record a.top { disable_help_flag = true } }
+
+abbrev no_help : Command-F Command → Command-F Command
+no_help fields = record fields { disable_help_flag = true }
+
+pub app_without_help : (old new : Command) (app : App) → out-Command new ≡ no_help (out-Command old) → app_of old ≡ app → app_of new ≡ without_help app
+app_without_help old new app made is = subst (λ fields. app_of_fields fields ≡ without_help app) (sym made) (ap without_help is)
+
+pub local_without_help : (old new : Command) → out-Command new ≡ no_help (out-Command old) → (out-Command old).has_globals ≡ false → (out-Command new).has_globals ≡ false
+local_without_help old new made local = ap (λ (fields : Command-F Command). fields.has_globals) made ∙ local
+
+module _ {E : Type 0} (old : Command) (word : Arg) where
+  pub takes_word : (added : Result Command E) (app : App) (rule : Rule) → app_of old ≡ app → rule_of word ≡ rule → word.global ≡ false
+      → IfOk added (λ new. AddsArg old word new) → IfOk added (λ new. app_of new ≡ with_rule app rule)
+  takes_word (Ok new) app rule is ruled local adds = adds.shape local ∙ ap₂ with_rule is ruled
+  takes_word (Err e) app rule is ruled local adds = tt
+
+  pub stays_local : (added : Result Command E) → (out-Command old).has_globals ≡ false → word.global ≡ false
+      → IfOk added (λ new. AddsArg old word new) → IfOk added (λ new. (out-Command new).has_globals ≡ false)
+  stays_local (Ok new) was local adds = adds.globals ∙ ap₂ (λ (a b : Bool). a || b) was local
+  stays_local (Err e) was local adds = tt
