@@ -32,11 +32,11 @@ static REFLECTORS: [(Reflector, [u8; 2]); 5] = [
 ];
 
 /// Each model with its name, and how many slots, wheels and reflectors it has.
-static MODELS: [(Model, &str, [usize; 3]); 4] = [
-    (Model::EnigmaI, "Enigma I", [3, 5, 3]),
-    (Model::M3, "M3", [3, 8, 2]),
-    (Model::M4, "M4", [4, 10, 2]),
-    (Model::M209, "M-209", [0, 0, 0]),
+static MODELS: [(Model, &str, u8, usize, usize); 4] = [
+    (Model::EnigmaI, "Enigma I", 3, 5, 3),
+    (Model::M3, "M3", 3, 8, 2),
+    (Model::M4, "M4", 4, 10, 2),
+    (Model::M209, "M-209", 0, 0, 0),
 ];
 
 #[test]
@@ -110,10 +110,10 @@ fn names_of_reflectors_are_read_back(rt: HostRuntime) {
 
 #[test]
 fn models_have_names_and_parts(rt: HostRuntime) {
-    for (model, name, [slots, wheels, reflectors]) in &MODELS {
+    for (model, name, slots, wheels, reflectors) in &MODELS {
         assert_eq!(rt; model.text().as_str(), *name);
         assert_eq!(rt; Model::from_text(name.as_bytes()), Some(*model));
-        assert_eq!(rt; usize::from(model.slots()), *slots);
+        assert_eq!(rt; model.slots(), *slots);
         assert_eq!(rt; model.wheels().len(), *wheels);
         assert_eq!(rt; model.reflectors().len(), *reflectors);
     }

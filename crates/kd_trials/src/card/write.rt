@@ -1,3 +1,5 @@
+ghost use Rattle.kd_state.specs.SheetDay.{IsDayNumber};
+
 use crate::cards::{CARDS, Sample, bar_prices, cable_prices, card};
 use crate::texts::{NO_SETTINGS, ONE_LUG, TWO_CABLES};
 use kd_card::{Card, Prices, read_card, write_card};
@@ -5,7 +7,9 @@ use kd_tables::MemorySink;
 use std::process::Abort;
 
 /// The card of these lines and prices has this text.
-fn is_written(rt: &impl Abort, lines: &str, prices: Prices, day: u8, text: &str) {
+fn is_written(rt: &impl Abort, lines: &str, prices: Prices, day: u8, text: &str)
+    requires { IsDayNumber day }
+{
     let mut sink = MemorySink::<512>::new(512);
     assert_eq!(rt;
         write_card(&mut sink, day, &card(rt, lines, prices)),
@@ -29,7 +33,9 @@ fn cards_are_written(rt: HostRuntime) {
 }
 
 /// A sink takes as much of the card's text as there is room for, and the answer is Ok where that is all.
-fn fills(rt: &impl Abort, day: u8, card: &Card, text: &[u8], room: usize) {
+fn fills(rt: &impl Abort, day: u8, card: &Card, text: &[u8], room: usize)
+    requires { IsDayNumber day }
+{
     let mut sink = MemorySink::<512>::new(room.min(512));
     let answer = write_card(&mut sink, day, card);
     assert_eq!(rt; answer.is_ok(), room == text.len());
