@@ -10,8 +10,8 @@ use kd_state::laws::{
     texts_tell_first_parts,
 };
 
-/// No two cards have one text, and no card's text is the front of another card's. A card's text has no fault, and bytes
-/// that are no card have one.
+/// No two cards have one text, and no card's text is the front of another card's. A card's text has no fault, and no bytes
+/// have two. That bytes which are no card have one, `read_card` tells.
 pub fn no_two_cards_have_one_text()
     ensures card { TextsTellCards }
     ensures front { NoCardBeginsAnother }

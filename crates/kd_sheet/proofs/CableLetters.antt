@@ -1,11 +1,9 @@
 -- The letters in cables.
-use Rattle.std.proofs.Common.{◌≡◌, ℕ, zero, suc, ◌+◌, ◌-◌, ◌<◌, ◌≤◌, nat_eq, Bool, true, false, not, ◌||◌, ◌&&◌, List, [], ◌∷◌, ◌++◌, length, map, set, take, drop, get_or, replicate, All, Option, Some, None, Result, Ok, unwrap_or, refl, sym, ap, ◌∙◌, arith}
-use Rattle.std.specs.List.{list_any, flat_map, filter_map, IsDistinct, AllByRecursion}
+use Rattle.std.proofs.Common.{◌≡◌, ℕ, zero, suc, ◌+◌, ◌-◌, ◌<◌, ◌≤◌, nat_eq, true, false, not, List, [], ◌∷◌, ◌++◌, length, map, set, take, drop, get_or, replicate, Option, Some, None, unwrap_or, refl, sym, ap, ◌∙◌, arith}
+use Rattle.std.specs.List.{flat_map, IsDistinct, AllByRecursion}
 use Rattle.std.proofs.lemmas.Bool.{or_parts, and_parts, not-true}
 use Rattle.std.proofs.lemmas.List.{append_assoc, append-nil, length-map, take_more, take_more_set, take-append-drop, length-take-le, drop-set-lt, drop_more}
-use Rattle.std.proofs.lemmas.List.Elements.{All-append, All-nil}
-use Rattle.std.proofs.lemmas.List.Folds.{list_any-append}
-use Rattle.std.proofs.lemmas.Option.{same_Some}
+use Rattle.std.proofs.lemmas.List.Elements.{All-nil}
 use Rattle.toml.specs.View.{view}
 use Rattle.toml.specs.declared.value.Value.{Value}
 use Rattle.kd_state.specs.Machine.{cable_letters, plugged_letters, AreCables}
@@ -29,7 +27,7 @@ plugged_letters-empty zero = refl
 plugged_letters-empty (suc n) = plugged_letters-empty n
 
 -- what holds of a list and of one element more
-by_recursion_push : {X : Type 0} (P : X → Type 0) (xs : List X) (x : X) → AllByRecursion P xs → P x → AllByRecursion P (xs ++ x ∷ [])
+pub by_recursion_push : {X : Type 0} (P : X → Type 0) (xs : List X) (x : X) → AllByRecursion P xs → P x → AllByRecursion P (xs ++ x ∷ [])
 by_recursion_push P [] x all here = (here, tt)
 by_recursion_push P (y ∷ xs) x all here = (all.0, by_recursion_push P xs x all.1 here)
 
@@ -53,7 +51,7 @@ distinct_new plugged (letter ∷ letters) apart new =
     rw (← append_assoc plugged (letter ∷ []) letters) (distinct_new (plugged ++ letter ∷ []) letters (distinct_push plugged letter apart (not-true _ parts.0)) parts.1)
 
 -- one more element of which a function gives a list
-flat_map-append : {X A : Type 0} (f : X → List A) (xs ys : List X) → flat_map f (xs ++ ys) ≡ flat_map f xs ++ flat_map f ys
+pub flat_map-append : {X A : Type 0} (f : X → List A) (xs ys : List X) → flat_map f (xs ++ ys) ≡ flat_map f xs ++ flat_map f ys
 flat_map-append f [] ys = refl
 flat_map-append f (x ∷ xs) ys = ap (λ rest. f x ++ rest) (flat_map-append f xs ys) ∙ sym (append_assoc (f x) (flat_map f xs) (flat_map f ys))
 

@@ -14,3 +14,8 @@ pub mod Seating
 pub mod SheetWheels
 pub mod Slots
 pub mod Wheels
+mod InTurn
+mod Described
+mod PinsBack
+mod DayTables
+mod SheetEntries

@@ -25,7 +25,7 @@ find_named text_of xs own name None none = sym (find_unnamed text_of name none x
 find_named text_of xs own name (Some x) named = sym (own x) ∙ ap (λ text. find (λ y. bytes_eq (text_of y) text) xs) named
 
 -- each model is the one of its name
-model_by_name-text : (model : Model) → model_by_name (model_text model) ≡ Some model
+pub model_by_name-text : (model : Model) → model_by_name (model_text model) ≡ Some model
 unfolding model_by_name
 model_by_name-text EnigmaI = refl
 model_by_name-text M3 = refl

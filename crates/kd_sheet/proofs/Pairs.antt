@@ -1,6 +1,6 @@
 -- The pairs that cables join.
-use Rattle.std.proofs.Common.{◌≡◌, ℕ, ◌+◌, ◌<◌, ◌≤◌, nat_eq, Bool, false, List, [], ◌∷◌, ◌++◌, length, take, get_or, All, Option, Some, None, refl, sym, ap, ◌∙◌, arith}
-use Rattle.std.specs.List.{cons_option, filter_map, flat_map, IsDistinct, AllByRecursion}
+use Rattle.std.proofs.Common.{◌≡◌, ℕ, ◌+◌, ◌<◌, ◌≤◌, nat_eq, false, List, [], ◌∷◌, ◌++◌, length, take, get_or, Option, Some, None, refl, arith}
+use Rattle.std.specs.List.{cons_option, flat_map, IsDistinct, AllByRecursion}
 use Rattle.std.specs.Option.{option_to_list}
 use Rattle.std.proofs.lemmas.List.{take_more}
 use Rattle.std.proofs.lemmas.List.Elements.{filter_map-append, All-from_recursion, recursion_from_All}
@@ -19,7 +19,7 @@ pub pairs_more : (cables : List (Option ℕ × Option ℕ)) (place : ℕ) (d : O
 pairs_more cables place d left = rw (take_more cables place d left, filter_map-append, one_or_none) refl
 
 -- the letters of pairs, one pair after the other
-abbrev letters_joined : List (ℕ × ℕ) → List ℕ
+abbrev pub letters_joined : List (ℕ × ℕ) → List ℕ
 letters_joined pairs = flat_map (λ pair. pair.0 ∷ pair.1 ∷ []) pairs
 
 -- what holds of each letter in the cables holds of each letter in the pairs

@@ -11,3 +11,4 @@ pub mod MachineFile
 pub mod Sheet
 pub mod SheetFile
 pub mod MachineText
+pub mod Laws

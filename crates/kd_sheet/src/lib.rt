@@ -8,6 +8,7 @@ mod fault;
 mod groups;
 mod item_text;
 mod key;
+pub mod laws;
 mod letters;
 mod lines;
 mod machine_file;

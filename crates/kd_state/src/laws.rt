@@ -42,7 +42,8 @@ pub fn no_two_settings_have_one_line()
     ensures { LinesTellSettings }
 {}
 
-/// Bytes are the text of one list of settings at most; those that are have no fault, and the others one.
+/// Bytes are the text of one list of settings at most; those that are have no fault, and no bytes have two. That bytes
+/// which are no list have one, `read_list` tells.
 pub fn texts_tell_lists()
     ensures list { TextsTellLists }
     ensures no_fault { ListsHaveNoFault }

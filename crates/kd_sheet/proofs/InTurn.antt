@@ -1,0 +1,105 @@
+-- What is read of items one after another, each given those before it; and what a reading that succeeds has found on its way.
+use Rattle.std.proofs.Common.{◌≡◌, suc, Bool, true, false, cond, List, [], ◌∷◌, ◌++◌, length, take, map, Option, Some, None, Result, Ok, Err, ok_or, refl, sym, ap, ◌∙◌, subst}
+use Rattle.std.specs.List.{enumerate_from}
+use Rattle.std.proofs.Math.Seq.{take-append_seam}
+use Rattle.std.proofs.lemmas.List.{append_assoc, length-append}
+use Rattle.std.proofs.lemmas.Option.{none-some, same_Some}
+use Rattle.toml.specs.Data.{Data}
+use Rattle.kd_sheet.specs.Document.{◌>>=◌, ◌>>◌, all_values, demand}
+use Rattle.kd_sheet.specs.declared.fault.SheetFault.{SheetFault}
+
+-- ---- on the way of a reading
+
+abbrev found : {A : Type 0} → A → Result A SheetFault
+found x = Ok x
+
+pub same_found : {A : Type 0} (x y : A) → found x ≡ found y → x ≡ y
+same_found x y e = cc
+
+-- what was read before it
+pub given : {A B : Type 0} (first : Result A SheetFault) (next : A → Result B SheetFault) (value : B)
+    → (first >>= next) ≡ Ok value
+    → (x : A) × (first ≡ Ok x) × (next x ≡ Ok value)
+given (Ok x) next value e = (x, refl, e)
+given (Err fault) next value e = absurd (cc)
+
+-- a test that passed
+pub passed : {B : Type 0} (test : Bool) (fault : SheetFault) (next : Result B SheetFault) (value : B)
+    → (demand test fault >> next) ≡ Ok value
+    → (test ≡ true) × (next ≡ Ok value)
+passed true fault next value e = (refl, e)
+passed false fault next value e = absurd (cc)
+
+-- what there was
+pub there_was : {A : Type 0} (thing : Option A) (fault : SheetFault) (value : A) → ok_or thing fault ≡ Ok value
+    → thing ≡ Some value
+there_was (Some x) fault value e = ap Some (same_found x value e)
+there_was None fault value e = absurd (cc)
+
+pub some_if : {A : Type 0} (test : Bool) (x value : A) → cond test (Some x) None ≡ Some value
+    → (test ≡ true) × (x ≡ value)
+some_if true x value e = (refl, same_Some x value e)
+some_if false x value e = absurd (none-some value e)
+
+-- and what is read on, where all goes well
+pub then_read : {A B : Type 0} (first : Result A SheetFault) (next : A
+    → Result B SheetFault) (x : A) (result : Result B SheetFault) → first ≡ Ok x
+    → next x ≡ result → (first >>= next) ≡ result
+then_read first next x result is rest = ap (λ answer. answer >>= next) is ∙ rest
+
+pub passing : {B : Type 0} (test : Bool) (fault : SheetFault) (next result : Result B SheetFault) → test ≡ true
+    → next ≡ result
+    → (demand test fault >> next) ≡ result
+passing true fault next result passes rest = rest
+passing false fault next result passes rest = absurd (cc)
+
+-- ---- items, one after another
+
+-- the items, behind these earlier ones, are read as these values
+abbrev pub Reads : {A : Type 0} → (List Data → Data → Result A SheetFault) → List Data → List Data → List A → Type 0
+Reads reading earlier [] [] = Unit {0}
+Reads reading earlier (item ∷ items) (value ∷ values) = (reading earlier item ≡ Ok value)
+    × Reads reading (earlier ++ item ∷ []) items values
+Reads reading earlier items values = ⊥
+
+-- the answers to the items behind the earlier ones
+abbrev answers : {A : Type 0} → (List Data → Data → Result A SheetFault) → List Data → List Data
+    → List (Result A SheetFault)
+answers reading earlier items =
+    map (λ numbered. reading (take numbered.0 (earlier ++ items)) numbered.1) (enumerate_from (length earlier) items)
+
+one_answer : {A : Type 0} (reading : List Data → Data
+    → Result A SheetFault) (earlier : List Data) (item : Data) (items : List Data)
+    → answers reading earlier (item ∷ items) ≡ reading earlier item ∷ answers reading (earlier ++ item ∷ []) items
+one_answer reading earlier item items =
+    rw (take-append_seam, append_assoc earlier (item ∷ []) items, length-append earlier (item ∷ [])) refl
+
+pub reads : {A : Type 0} (reading : List Data → Data
+    → Result A SheetFault) (earlier items : List Data) (values : List A)
+    → all_values (answers reading earlier items) ≡ Ok values → Reads reading earlier items values
+reads reading earlier [] [] e = tt
+reads reading earlier [] (value ∷ values) e = absurd (cc)
+reads reading earlier (item ∷ items) values e =
+    let first = given (reading earlier item) _ values (sym (ap all_values (one_answer reading earlier item items))
+    ∙ e) in
+    let rest = given (all_values (answers reading (earlier ++ item ∷ []) items)) _ values first.2 in
+    subst (Reads reading earlier (item ∷ items)) (same_found _ _ rest.2)
+    (first.1, reads reading (earlier ++ item ∷ []) items rest.0 rest.1)
+
+pub reads_again : {A : Type 0} (reading : List Data → Data
+    → Result A SheetFault) (earlier items : List Data) (values : List A)
+    → Reads reading earlier items values → all_values (answers reading earlier items) ≡ Ok values
+reads_again reading earlier [] [] r = refl
+reads_again reading earlier (item ∷ items) (value ∷ values) r =
+    ap all_values (one_answer reading earlier item items)
+    ∙ rw (r.0, reads_again reading (earlier ++ item ∷ []) items values r.1) refl
+reads_again reading earlier items values r = absurd r
+
+-- as many values as items
+pub reads_each : {A : Type 0} (reading : List Data → Data
+    → Result A SheetFault) (earlier items : List Data) (values : List A)
+    → Reads reading earlier items values → length items ≡ length values
+reads_each reading earlier [] [] r = refl
+reads_each reading earlier (item ∷ items) (value ∷ values) r =
+    ap suc (reads_each reading (earlier ++ item ∷ []) items values r.1)
+reads_each reading earlier items values r = absurd r

@@ -1,0 +1,11 @@
+use Rattle.std.proofs.Common.{[]}
+use Rattle.kd_sheet.proofs.DayTables.{legal_is_described}
+use Rattle.kd_sheet.proofs.Described.{described}
+use Rattle.kd_sheet.proofs.SheetEntries.{days_are_the_entries}
+use Rattle.kd_sheet.proofs.laws.days_are_the_entries.Goals as goal
+
+pub returns : goal.returns
+returns c = record {
+  legal = λ day. (legal_is_described day, λ entry. (described [] entry.0 day entry.1).legal);
+  sheet = days_are_the_entries;
+}

@@ -1,0 +1,20 @@
+-- What holds of key sheets and their entries.
+use Rattle.std.specs.Prelude.{◌≡◌, ◌↔◌, ℕ, List, [], Contains, Option, Some, Ok}
+use Rattle.toml.specs.Data as toml
+use Rattle.toml.specs.Data.{Data, Members}
+use Rattle.kd_state.specs.SheetDay.{Day, IsLegalDay, day_number}
+use Rattle.kd_sheet.specs.Document.{items_at}
+use Rattle.kd_sheet.specs.Sheet.{day_of}
+use Rattle.kd_sheet.specs.SheetFile.{day_in, sheet_in}
+use Rattle.kd_sheet.specs.declared.key.Key.TheVariants as keys
+
+-- a day is legal exactly where some entry describes it
+abbrev pub LegalDaysAreDescribed : Type 0
+LegalDaysAreDescribed = (day : Day) → IsLegalDay day ↔ ((entry : Members) × (day_in [] entry ≡ Ok day))
+
+-- a sheet's day of a number is the one that the entry of that number describes
+abbrev pub DaysAreTheEntries : Type 0
+DaysAreTheEntries = (table : Members) (items : List Data) (month : List (Option Day)) (number : ℕ) (day : Day)
+    → items_at keys.Day table ≡ Ok items → sheet_in table ≡ Ok month
+    → (day_of month number ≡ Some day)
+    ↔ ((entry : Members) × Contains items (toml.table entry) × (day_in [] entry ≡ Ok day) × (day_number day ≡ number))
