@@ -38,10 +38,10 @@ pub fn send(
 /// Reads an order from the source as it comes, and writes the form that it becomes on a machine that is on the day's key, part
 /// by part. It holds one part, and takes no memory.
 ///
-/// `NotReady` and `NotOnKey` come first, and then nothing is read or written. What the bytes show whatever follows comes before
-/// `Device` and `ReadTooLong`; what the end of the order shows comes at the end of the source. A part is written once a letter
-/// has come for the next one, so a part may be out when the order is refused. At most 1,048,576 bytes are read, and one more to
-/// see that there are more.
+/// `NotReady` and `NotOnKey` come first, and then nothing is read or written. What the bytes show whatever follows comes
+/// before `ReadTooLong`, and before `Device` where it is the source that fails; what the end of the order shows comes at the
+/// end of the source. A part is written once a letter has come for the next one, so a part may be out when the order is
+/// refused. At most 1,048,576 bytes are read, and one more to see that there are more.
 pub fn send_stream<R: Source, W: Sink>(
     machine: &Machine,
     day: &SheetDay,

@@ -21,7 +21,7 @@ pub fn lines_tell_words()
     ensures one_line { WordsMakeOneLine }
 {}
 
-/// What stands before the first space or LF of a text, and what follows it, is told by the text.
+/// What stands before the first of a byte in a text, as a space or LF, and what follows it, is told by the text.
 pub fn texts_tell_first_parts()
     ensures { TextsTellFirstParts }
 {}
@@ -42,7 +42,7 @@ pub fn no_two_settings_have_one_line()
     ensures { LinesTellSettings }
 {}
 
-/// Bytes are the text of one list of settings at most; those that are have no fault, and the others one.
+/// Bytes are the text of one list of settings at most; those that are have no fault, and the others one at most.
 pub fn texts_tell_lists()
     ensures list { TextsTellLists }
     ensures no_fault { ListsHaveNoFault }
