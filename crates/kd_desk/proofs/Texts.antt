@@ -14,8 +14,7 @@ use Rattle.kd_desk.specs.declared.typing.fault.TextFault.{TextFault}
 use Rattle.kd_desk.specs.declared.typing.fault.TextFault.TheVariants as texts
 use Rattle.kd_tables.specs.declared.writing.Device.{Device}
 use Rattle.kd_tables.specs.Writing.{TakesFront}
-use Rattle.kd_tables.specs.Ports.{Port, IsWell, Ends}
-use Rattle.kd_tables.specs.declared.limit.TheConstants.{READ_LIMIT}
+use Rattle.kd_tables.specs.Ports.{read_limit, Port, IsWell, Ends}
 use Rattle.kd_tables.specs.Text.{is_text_byte}
 use Rattle.kd_desk.specs.Typing.{AreAllowedBytes, IsFirstRefused, cipher_text, TypesFront, IsTyped}
 use Rattle.kd_desk.specs.TypingSteps.{StepTyped}
@@ -28,7 +27,7 @@ pub record SoFar (key now : EngineKey) (source sink : Port) (count : ℕ) : Type
   pub read : List ℕ
   pub text : List ℕ
   pub counted : length read ≡ count
-  pub within : count ≤ READ_LIMIT
+  pub within : count ≤ read_limit
   pub given : Consumes source.had source.has read
   pub written : Appends sink.had sink.has text
   pub allowed : AreAllowedBytes read
@@ -79,7 +78,7 @@ SoFar-nil key had took a d = record {
 
 -- A step behind what was read and typed, by what is known of the ports at the start, between and behind it.
 module _ (in_turn : CipherInTurn) (key now left : EngineKey) (had has next took taken wrote : Option (List ℕ)) (a b c d e f : Bool) (count room : ℕ)
-    (before : SoFar key now (over had has a b) (over took taken d e) count) (space : room ≡ READ_LIMIT - count) where
+    (before : SoFar key now (over had has a b) (over took taken d e) count) (space : room ≡ read_limit - count) where
   pub SoFar-typed : (n : ℕ) → StepTyped now left room (over has next b c) (over taken wrote e f) (Ok (Typed n)) → (c ≡ b) × (f ≡ e)
       → SoFar key left (over had next a c) (over took wrote d f) (count + n)
   SoFar-typed n step well = record {
@@ -144,11 +143,11 @@ module _ (in_turn : CipherInTurn) (key now left : EngineKey) (had has next took 
 
 -- As much as may be read was read, and one byte more was asked for.
 module _ (key now : EngineKey) (had has next took taken : Option (List ℕ)) (a b c d e : Bool) (count : ℕ)
-    (before : SoFar key now (over had has a b) (over took taken d e) count) (full : count ≡ READ_LIMIT) where
+    (before : SoFar key now (over had has a b) (over took taken d e) count) (full : count ≡ read_limit) where
   pub IsTyped-too_long : (end : Bool) → end ≡ false → Ends has next (Ok end) → IsTyped key [] (over had next a c) (over took taken d e) (Err texts.ReadTooLong)
   IsTyped-too_long end more met =
       let ends = subst (λ b. Ends has next (Ok b)) more met in
-      let front : take READ_LIMIT (before.read ++ ends.0 ∷ []) ≡ before.read =
+      let front : take read_limit (before.read ++ ends.0 ∷ []) ≡ before.read =
       ap (λ k. take k (before.read ++ ends.0 ∷ [])) (sym full ∙ sym before.counted) ∙ take-append_seam before.read (ends.0 ∷ []) in
       record {
         read = before.read ++ ends.0 ∷ [];

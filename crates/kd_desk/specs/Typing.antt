@@ -3,10 +3,9 @@ use Rattle.std.specs.Prelude.{◌≡◌, ℕ, ◌+◌, ◌-◌, ◌≤◌, Bool,
 use Rattle.std.specs.Result.{result_map_both}
 use Rattle.std.specs.Io.{StartsWith}
 use Rattle.std.specs.Io.KnownBytes.{Appends, Consumes, IsAtEnd}
-use Rattle.kd_tables.specs.declared.limit.TheConstants.{READ_LIMIT}
 use Rattle.kd_tables.specs.Tables.{letters_of}
 use Rattle.kd_state.specs.TwoCiphers.{EngineKey, cipher, key_left}
-use Rattle.kd_tables.specs.Ports.{Port, FailsAlone}
+use Rattle.kd_tables.specs.Ports.{read_limit, Port, FailsAlone}
 use Rattle.kd_tables.specs.Text.{is_capital, is_text_byte, letters_text}
 use Rattle.kd_desk.specs.declared.fault.DeskFault.{DeskFault}
 use Rattle.kd_desk.specs.declared.fault.DeskFault.TheVariants as faults
@@ -58,12 +57,12 @@ pub record TypesPart (key : EngineKey) (source sink : Port) (read text : List �
 -- letters whose cipher was written; or a device failed, after the whole cipher where it was the source, and after a front
 -- of it where it was the sink.
 abbrev pub Types : EngineKey → List ℕ → Port → Port → List ℕ → List ℕ → Result (Unit {0}) TextFault → Type 0
-Types key end source sink read written (Ok _) = (length read ≤ READ_LIMIT) × AreAllowedBytes read × (written ≡ cipher_text key read ++ end)
-Types key end source sink read written (Err (BadByte place)) = IsFirstRefused read place × (length read ≤ READ_LIMIT) × (written ≡ cipher_text key (take (place - 1) read))
+Types key end source sink read written (Ok _) = (length read ≤ read_limit) × AreAllowedBytes read × (written ≡ cipher_text key read ++ end)
+Types key end source sink read written (Err (BadByte place)) = IsFirstRefused read place × (length read ≤ read_limit) × (written ≡ cipher_text key (take (place - 1) read))
 Types key end source sink read written (Err ReadTooLong) =
-    (length read ≡ READ_LIMIT + 1) × AreAllowedBytes (take READ_LIMIT read) × (written ≡ cipher_text key (take READ_LIMIT read))
+    (length read ≡ read_limit + 1) × AreAllowedBytes (take read_limit read) × (written ≡ cipher_text key (take read_limit read))
 Types key end source sink read written (Err Device) =
-    (length read ≤ READ_LIMIT) × (TypesWhole key source sink read written ⊎ TypesPart key source sink read written)
+    (length read ≤ read_limit) × (TypesWhole key source sink read written ⊎ TypesPart key source sink read written)
 
 -- The same of the bytes that a source had and has yet to give, and that a sink had taken and has taken: a source that
 -- was read to its end has none left.

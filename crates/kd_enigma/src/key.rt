@@ -2,7 +2,7 @@ use super::plugs::Plugs;
 use kd_tables::{Letter, Reflector, Wheel};
 
 /// The key of a rotor machine of three or four slots, from the left.
-#[derive(Clone, Copy, Debug)]
+#[derive(Clone, Copy)]
 pub struct EnigmaKey<const S: usize> {
     /// The wheels in their slots.
     pub wheels: [Wheel; S],

@@ -11,7 +11,7 @@ const EACH_TO_ITSELF: [u8; 32] = [
 ];
 
 /// What each letter becomes. The six lanes behind the letters lead to themselves.
-#[derive(Clone, Copy, Debug)]
+#[derive(Clone, Copy)]
 pub(crate) struct Map {
     lanes: u8x32,
 }

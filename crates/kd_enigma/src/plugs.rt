@@ -14,7 +14,7 @@ use thiserror::Error;
 pub struct LetterTwice;
 
 /// The plugboard: what each letter is exchanged for.
-#[derive(Clone, Copy, Debug)]
+#[derive(Clone, Copy)]
 pub struct Plugs {
     table: [Letter; 26],
 }

@@ -9,7 +9,7 @@ use kd_tables::{Letter, Wheel};
 use std::marker::Model;
 
 /// The right wheel and the plugboard beside it, with the two ways through both for each letter in the wheel's window.
-#[derive(Clone, Copy, Debug)]
+#[derive(Clone, Copy)]
 pub(crate) struct RightWheel {
     wheel: Wheel,
     ring: Letter,

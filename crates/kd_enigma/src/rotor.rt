@@ -9,7 +9,7 @@ use kd_tables::{Letter, Wheel, unwiring, wiring};
 use std::marker::Model;
 
 /// A wheel with its ring, and its two ways for each letter in its window.
-#[derive(Clone, Copy, Debug)]
+#[derive(Clone, Copy)]
 pub(crate) struct Rotor {
     wheel: Wheel,
     ring: Letter,

@@ -4,8 +4,7 @@ use Rattle.std.specs.Io.{StartsWith}
 use Rattle.std.specs.Io.KnownBytes.{Appends, Consumes, Keeps, IsAtEnd}
 use Rattle.std.proofs.KnownBytes.{Consumes-nil, Consumes-kept, Consumes-trans, Appends-nil, Appends-trans, starts_with_rest}
 use Rattle.std.proofs.Transfers.{starts_with_of_append}
-use Rattle.kd_tables.specs.declared.limit.TheConstants.{READ_LIMIT}
-use Rattle.kd_tables.specs.Ports.{Port, IsWell, Ends}
+use Rattle.kd_tables.specs.Ports.{read_limit, Port, IsWell, Ends}
 use Rattle.kd_tables.specs.Writing.{TakesFront}
 use Rattle.kd_form.specs.declared.fault.FormFault.{FormFault}
 use Rattle.kd_form.specs.declared.fault.FormFault.TheVariants as faults
@@ -88,7 +87,7 @@ fed_up_to m old new front more sink stop fed bytes text held =
 
 -- the source failed
 pub read_failed : (m : Message) (new : List ℕ → List ℕ → Type 0) (bytes text : List ℕ) (room : ℕ) (had has took : Option (List ℕ)) (a c d : Bool)
-    → Held m new bytes text → length bytes + room ≤ READ_LIMIT → Keeps had has → c ≡ (a || true)
+    → Held m new bytes text → length bytes + room ≤ read_limit → Keeps had has → c ≡ (a || true)
     → IsRead m new bytes text room (over had has a c) (over took took d d) (Err stops.Device)
 read_failed m new bytes text room had has took a c d held few kept up = record {
   more = [];
@@ -103,7 +102,7 @@ read_failed m new bytes text room had has took a c d held few kept up = record {
 
 -- what was fed of a read stopped
 fed_answers : (m : Message) (new : List ℕ → List ℕ → Type 0) (read text : List ℕ) (source : Port) (took wrote : Option (List ℕ)) (d f : Bool) (stop : Stop)
-    → length read ≤ READ_LIMIT → IsWell source → FedTo m new read text (Err stop) → f ≡ (d || stops_at_device {T = Unit {0}} (Err stop))
+    → length read ≤ read_limit → IsWell source → FedTo m new read text (Err stop) → f ≡ (d || stops_at_device {T = Unit {0}} (Err stop))
     → Answers m source (over took wrote d f) read text (Err (fault_of stop))
 fed_answers m new read text source took wrote d f (stops.Refused fault) few well is up =
     Stands fault few (subst (λ b. m.stands b fault) (append-nil read) (is.stands []))
@@ -112,7 +111,7 @@ fed_answers m new read text source took wrote d f stops.Device few well is up =
     SinkFails is.due few (ByThen is.front is.of_bytes is.open_yet) is.of_due (record { failed = failed_now d f up; well = well }) refl
 
 pub read_stopped : (m : Message) (old new : List ℕ → List ℕ → Type 0) (bytes text more : List ℕ) (room : ℕ) (had has took wrote : Option (List ℕ)) (a c d f : Bool) (stop : Stop)
-    → Held m old bytes text → length bytes + room ≤ READ_LIMIT → length more ≤ room → Consumes had has more → c ≡ (a || false)
+    → Held m old bytes text → length bytes + room ≤ read_limit → length more ≤ room → Consumes had has more → c ≡ (a || false)
     → FeedsAll m old new more (over took wrote d f) (Err stop) → f ≡ (d || stops_at_device {T = Unit {0}} (Err stop))
     → IsRead m new bytes text room (over had has a c) (over took wrote d f) (Err stop)
 read_stopped m old new bytes text more room had has took wrote a c d f stop held few inside given well fed up =
@@ -134,7 +133,7 @@ pub record SoFar (m : Message) (holds : List ℕ → List ℕ → Type 0) (sourc
   pub read : List ℕ
   pub text : List ℕ
   pub counted : length read ≡ count
-  pub within : count ≤ READ_LIMIT
+  pub within : count ≤ read_limit
   pub given : Consumes source.had source.has read
   pub written : Appends sink.had sink.has text
   pub held : Held m holds read text
@@ -159,7 +158,7 @@ answers_since p q (SinkFails due few (ByTheEnd told ended closes) starts fails i
 
 -- A step behind what was read, by what is known of the ports at the start, between and behind it.
 module _ (m : Message) (old new : List ℕ → List ℕ → Type 0) (had has next took taken wrote : Option (List ℕ)) (a b c d e f : Bool) (count room : ℕ)
-    (before : SoFar m old (over had has a b) (over took taken d e) count) (space : room ≡ READ_LIMIT - count) where
+    (before : SoFar m old (over had has a b) (over took taken d e) count) (space : room ≡ read_limit - count) where
   pub SoFar-read : (n : ℕ) → ReadsNext m old new room (over has next b c) (over taken wrote e f) (Ok n)
       → SoFar m new (over had next a c) (over took wrote d f) (count + n) × (n ≡ 0 → IsAtEnd next)
   SoFar-read n reads = grind (arith, length-append {A = ℕ}, Consumes-trans, Appends-trans)
@@ -184,7 +183,7 @@ pub whole_stopped : (m : Message) (old new : List ℕ → List ℕ → Type 0) (
 whole_stopped m old new bytes sink stop held fed = grind (arith, append-nil {A = ℕ})
 
 closed : (m : Message) (holds : List ℕ → List ℕ → Type 0) (read text made : List ℕ) (source : Port) (took taken wrote : Option (List ℕ)) (d e f : Bool)
-    (told : Result (Unit {0}) Stop) → Held m holds read text → length read ≤ READ_LIMIT → IsAtEnd source.has → IsWell source → e ≡ d
+    (told : Result (Unit {0}) Stop) → Held m holds read text → length read ≤ read_limit → IsAtEnd source.has → IsWell source → e ≡ d
     → EndsIn m read (text ++ made) told → f ≡ (e || stops_at_device told) → Answers m source (over took wrote d f) read (text ++ made) (answer_to told)
 closed m holds read text made source took taken wrote d e f (Ok done) held few ended well same ends up =
     Whole few ended ends (well, well_now e f up ∙ same) refl
@@ -198,7 +197,7 @@ pub IsStreamed-closed : (m : Message) (holds : List ℕ → List ℕ → Type 0)
     → ClosesAs m holds (over taken wrote e f) answer → IsStreamed m source (over took wrote d f) answer
 IsStreamed-closed m holds source took taken wrote d e f count answer before ended closes =
     let one = closes.ended before.read before.text before.held in
-    let few : length before.read ≤ READ_LIMIT = omega (arith, before.counted, before.within) in
+    let few : length before.read ≤ read_limit = omega (arith, before.counted, before.within) in
     record {
       read = before.read;
       text = before.text ++ one.made;
@@ -214,7 +213,7 @@ module _ (m : Message) (holds : List ℕ → List ℕ → Type 0) (had has next 
   pub SoFar-ended : (end : Bool) → end ≡ true → Ends has next (Ok end) → c ≡ (b || false) → SoFar m holds (over had next a c) sink count × IsAtEnd next
   SoFar-ended end is ends well = grind arith
 
-  pub IsStreamed-too_long : READ_LIMIT ≤ count → (end : Bool) → end ≡ false → Ends has next (Ok end) → c ≡ (b || false)
+  pub IsStreamed-too_long : read_limit ≤ count → (end : Bool) → end ≡ false → Ends has next (Ok end) → c ≡ (b || false)
       → IsStreamed m (over had next a c) sink (Err faults.ReadTooLong)
   IsStreamed-too_long full end more met well = let ends = subst (λ b. Ends has next (Ok b)) more met in record {
     read = before.read ++ ends.0 ∷ [];

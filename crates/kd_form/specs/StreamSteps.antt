@@ -2,8 +2,7 @@
 use Rattle.std.specs.Prelude.{◌≡◌, ℕ, ◌+◌, ◌^◌, ◌<◌, ◌≤◌, Bool, true, false, ◌||◌, List, [], ◌∷◌, ◌++◌, length, Result, Ok, Err, MatchResult}
 use Rattle.std.specs.Io.{StartsWith}
 use Rattle.std.specs.Io.KnownBytes.{Appends, Consumes, IsAtEnd}
-use Rattle.kd_tables.specs.declared.limit.TheConstants.{READ_LIMIT}
-use Rattle.kd_tables.specs.Ports.{Port, IsWell}
+use Rattle.kd_tables.specs.Ports.{read_limit, Port, IsWell}
 use Rattle.kd_form.specs.declared.fault.FormFault.{FormFault}
 use Rattle.kd_form.specs.declared.fault.FormFault.TheVariants as faults
 use Rattle.kd_form.specs.declared.stream.stop.Stop.{Stop}
@@ -112,7 +111,7 @@ pub record IsRead (m : Message) (new : List ℕ → List ℕ → Type 0) (bytes 
 
 abbrev pub ReadsNext : Message → (List ℕ → List ℕ → Type 0) → (List ℕ → List ℕ → Type 0) → ℕ → Port → Port → Result ℕ Stop → Type 0
 ReadsNext m old new room source sink answer =
-    (bytes text : List ℕ) → Held m old bytes text → length bytes + room ≤ READ_LIMIT → IsRead m new bytes text room source sink answer
+    (bytes text : List ℕ) → Held m old bytes text → length bytes + room ≤ read_limit → IsRead m new bytes text room source sink answer
 
 -- ---- a whole message
 

@@ -2,8 +2,7 @@
 use Rattle.std.specs.Prelude.{◌≡◌, ℕ, ◌≤◌, Bool, true, false, List, [], ◌∷◌, ◌++◌, length, Option, None, Some, Result, Ok, Err, MatchResult}
 use Rattle.std.specs.Io.{StartsWith}
 use Rattle.std.specs.Io.KnownBytes.{Appends, Consumes, IsAtEnd}
-use Rattle.kd_tables.specs.declared.limit.TheConstants.{READ_LIMIT}
-use Rattle.kd_tables.specs.Ports.{Port, IsWell, FailsAlone}
+use Rattle.kd_tables.specs.Ports.{read_limit, Port, IsWell, FailsAlone}
 use Rattle.kd_state.specs.declared.machine.parts.Parts.{Parts}
 use Rattle.kd_state.specs.SheetDay.{Day}
 use Rattle.kd_form.specs.declared.fault.FormFault.{FormFault}
@@ -49,18 +48,18 @@ AreWell source sink = IsWell source × IsWell sink
 -- whatever follows; nothing stands, and the whole message is refused; or one byte more came than may; or a device failed, after
 -- all that was due by then where it was the source, and after a front of what was due where it was the sink.
 pub data Answers (m : Message) (source sink : Port) (read text : List ℕ) (answer : Result (Unit {0}) FormFault) : Type 0 where
-  Whole : length read ≤ READ_LIMIT → IsAtEnd source.has → m.becomes read text → AreWell source sink → answer ≡ Ok tt
+  Whole : length read ≤ read_limit → IsAtEnd source.has → m.becomes read text → AreWell source sink → answer ≡ Ok tt
       → Answers m source sink read text answer
-  Stands : (fault : FormFault) → length read ≤ READ_LIMIT → m.stands read fault → m.before (Some fault) read text → AreWell source sink
+  Stands : (fault : FormFault) → length read ≤ read_limit → m.stands read fault → m.before (Some fault) read text → AreWell source sink
       → answer ≡ Err fault → Answers m source sink read text answer
-  AtEnd : (fault : FormFault) → length read ≤ READ_LIMIT → IsAtEnd source.has → ((other : FormFault) → ¬ (m.stands read other))
+  AtEnd : (fault : FormFault) → length read ≤ read_limit → IsAtEnd source.has → ((other : FormFault) → ¬ (m.stands read other))
       → m.refused read fault → m.before (Some fault) read text → AreWell source sink → answer ≡ Err fault
       → Answers m source sink read text answer
-  TooLong : (front : List ℕ) (byte : ℕ) → read ≡ front ++ byte ∷ [] → length front ≡ READ_LIMIT → IsOpen m front text
+  TooLong : (front : List ℕ) (byte : ℕ) → read ≡ front ++ byte ∷ [] → length front ≡ read_limit → IsOpen m front text
       → AreWell source sink → answer ≡ Err ReadTooLong → Answers m source sink read text answer
-  SourceFails : length read ≤ READ_LIMIT → IsOpen m read text → FailsAlone source sink → answer ≡ Err Device
+  SourceFails : length read ≤ read_limit → IsOpen m read text → FailsAlone source sink → answer ≡ Err Device
       → Answers m source sink read text answer
-  SinkFails : (due : List ℕ) → length read ≤ READ_LIMIT → IsDue m source read due → StartsWith due text → FailsAlone sink source
+  SinkFails : (due : List ℕ) → length read ≤ read_limit → IsDue m source read due → StartsWith due text → FailsAlone sink source
       → answer ≡ Err Device → Answers m source sink read text answer
 
 -- The same of the bytes that a source had and has yet to give, and that a sink had taken and has taken.

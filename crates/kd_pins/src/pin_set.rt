@@ -1,7 +1,7 @@
 ghost use Rattle.std.specs.Prelude.{◌≡◌, ◌↔◌, IsTrue};
 
 /// Which pins of the Converter's six wheels are effective. A wheel's pins are in the order of its letters, from A on.
-#[derive(Clone, Copy, Debug, PartialEq, Eq)]
+#[derive(Clone, Copy, PartialEq, Eq)]
 pub struct PinSet {
     /// The pins of the first wheel, A to Z.
     pub w1: [bool; 26],

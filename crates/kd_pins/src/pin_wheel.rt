@@ -12,7 +12,7 @@ use thiserror::Error;
 pub struct NotOnWheel;
 
 /// A pin wheel with its letters in their own order, which is not always the alphabet's, and a pin beside each letter.
-#[derive(Clone, Copy, Debug)]
+#[derive(Clone, Copy)]
 pub struct PinWheel<const N: usize> {
     ring: Ring<N>,
     offset: usize,

@@ -39,18 +39,18 @@ leads_to_one m n o [] one other = one ∙ sym other
 leads_to_one m n o (x ∷ xs) one other =
     leads_to_one one.0 n o xs one.2 (subst (λ (between : Parts). Leads between xs o) (carries_to_one m other.0 one.0 x other.1 one.1) other.2)
 
--- a refusal by a test of the tables alone
-by_the_tables : {P : Type 0} (may : Bool) → Decides may P → (first_reason ((not may, WheelNotAllowed) ∷ []) ≡ None) ↔ P
-by_the_tables may tells = (
-  λ e. tells.0 (not-false may (no_reason ((not may, WheelNotAllowed) ∷ []) e).0),
+-- a refusal by one test alone
+pub by_one_test : {P : Type 0} (may : Bool) (why : Why) → Decides may P → (first_reason ((not may, why) ∷ []) ≡ None) ↔ P
+by_one_test may why tells = (
+  λ e. tells.0 (not-false may (no_reason ((not may, why) ∷ []) e).0),
   λ h. rw (tells.1 h) refl,
 )
 
 pub seats_by_the_tables : (m : RotorParts) (slot : ℕ) (wheel : Wheel) → (why_refused (Rotor m) (Seat slot wheel) ≡ None) ↔ IsAllowed m.model slot wheel
-seats_by_the_tables m slot wheel = by_the_tables _ (has_wheel-Decides (wheels_for m.model slot) wheel)
+seats_by_the_tables m slot wheel = by_one_test _ WheelNotAllowed (has_wheel-Decides (wheels_for m.model slot) wheel)
 
 pub reflectors_by_the_tables : (m : RotorParts) (reflector : Reflector) → (why_refused (Rotor m) (SeatReflector reflector) ≡ None) ↔ Contains (reflectors_of m.model) reflector
-reflectors_by_the_tables m reflector = by_the_tables _ (has_reflector-Decides (reflectors_of m.model) reflector)
+reflectors_by_the_tables m reflector = by_one_test _ WheelNotAllowed (has_reflector-Decides (reflectors_of m.model) reflector)
 
 pub rings_by_the_tables : (m : RotorParts) (wheel : Wheel) (letter : ℕ) → (why_refused (Rotor m) (RingTo wheel letter) ≡ None) ↔ Contains (box_of m.model) wheel
-rings_by_the_tables m wheel letter = by_the_tables _ (has_wheel-Decides (box_of m.model) wheel)
+rings_by_the_tables m wheel letter = by_one_test _ WheelNotAllowed (has_wheel-Decides (box_of m.model) wheel)

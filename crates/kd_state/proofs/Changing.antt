@@ -64,7 +64,7 @@ record IsCarried (m : Parts) (x : Setting) : Type 0 where
 abbrev Keeps : Thing → Parts → Parts → Thing → Type 0
 Keeps thing m n other = other ≢ thing → IsKept m n other
 
-in_their_order : (m : RotorParts) → cables_ordered (Rotor m) ≡ Rotor m → all_ordered m.cables ≡ m.cables
+pub in_their_order : (m : RotorParts) → cables_ordered (Rotor m) ≡ Rotor m → all_ordered m.cables ≡ m.cables
 in_their_order m e = let same : record m { cables = all_ordered m.cables } ≡ m = cc in ap (λ (k : RotorParts). k.cables) same
 
 rotor_machine : (m : RotorParts) → IsLegalRotor m → all_ordered m.cables ≡ m.cables → IsMachine (Rotor m)
@@ -86,7 +86,7 @@ moved_free letters others moved h = record {
   apart = IsDistinct-IsPermutation nat_eq eqb_flips letters others moved h.apart;
 }
 
-lies_plugged : (cables : List (Option ℕ × Option ℕ)) (place : ℕ) (cable : Option ℕ × Option ℕ) (letter : ℕ) → slice_get cables place ≡ Some cable
+pub lies_plugged : (cables : List (Option ℕ × Option ℕ)) (place : ℕ) (cable : Option ℕ × Option ℕ) (letter : ℕ) → slice_get cables place ≡ Some cable
     → Contains (cable_letters cable) letter → Contains (plugged_letters cables) letter
 lies_plugged [] place cable letter here lies = absurd (none-some cable here)
 lies_plugged (first ∷ cables) zero cable letter here lies =
@@ -450,7 +450,7 @@ lug_set : (lug : Lug) (place : Place) (bar : Place × Place) → (lug_place lug 
 lug_set Left place bar = (refl, refl)
 lug_set Right place bar = (refl, refl)
 
-still_before : (lug : Lug) (place : Place) (bar : Place × Place) → is_at place (lug_place (other_lug lug) bar) ≡ false → lies_beyond lug place (lug_place (other_lug lug) bar) ≡ false
+pub still_before : (lug : Lug) (place : Place) (bar : Place × Place) → is_at place (lug_place (other_lug lug) bar) ≡ false → lies_beyond lug place (lug_place (other_lug lug) bar) ≡ false
     → IsBefore (with_lug lug place bar).0 (with_lug lug place bar).1
 still_before Left place bar apart within = grind (arith, nat_tests)
 still_before Right place bar apart within = grind (arith, nat_tests)

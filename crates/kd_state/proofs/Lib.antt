@@ -16,3 +16,5 @@ mod Standings
 mod Turnable
 pub mod Carrying
 pub mod Changing
+mod Refusing
+mod Telling

@@ -1,15 +1,17 @@
--- What a setting that is carried out changes at a machine, as the machine's readers tell it.
-use Rattle.std.specs.Prelude.{◌≡◌, ◌≢◌, ◌⊎◌, ◌↔◌, ℕ, List, [], Contains, Option, Some, None}
+-- Which settings a machine carries out, and what they change at it, as the machine's readers tell it.
+use Rattle.std.specs.Prelude.{◌≡◌, ◌≢◌, ◌⊎◌, ◌↔◌, ℕ, ◌<◌, List, [], length, Contains, Option, Some, None, IsSome}
 use Rattle.std.specs.Option.{option_map, option_map_or}
 use Rattle.kd_tables.specs.declared.wheel.Wheel.{Wheel}
 use Rattle.kd_tables.specs.declared.place.Place.{Place}
 use Rattle.kd_tables.specs.declared.lug.Lug.{Lug}
+use Rattle.kd_tables.specs.Rings.{ring_of}
+use Rattle.kd_tables.specs.Tables.{box_of, reflectors_of, IsAllowed}
 use Rattle.kd_state.specs.declared.machine.parts.Parts.{Parts}
 use Rattle.kd_state.specs.declared.machine.parts.Parts.TheVariants.{Rotor, Pin}
 use Rattle.kd_state.specs.declared.setting.Setting.{Setting}
 use Rattle.kd_state.specs.declared.setting.Setting.TheVariants.{Pull, Put, Seat, SeatReflector, RingTo, Turn, PinTo, LugTo}
 use Rattle.kd_state.specs.Machine.{cable_letters, model_of, slot_in, reflector_in, ring_in, letter_in, cable_in, pin_in, shown_in, standing_in}
-use Rattle.kd_state.specs.Setting.{lug_place, other_lug}
+use Rattle.kd_state.specs.Setting.{lug_place, other_lug, with_lug, Stands}
 
 -- a thing of which a reader tells: slots, cables, pin wheels and bars by their numbers, a pin by its wheel and its letter
 pub data Thing : Type 0 where
@@ -95,3 +97,29 @@ Makes m (Turn slot letter) n = Turns m slot letter n
 Makes m (PinTo wheel letter effective) n =
     (pin_in n wheel letter ≡ Some effective) × SetsOnly (ThePin wheel letter) m n
 Makes m (LugTo bar lug place) n = MovesLug m bar lug place n × SetsOnly (TheBar bar) m n
+
+-- ---- which settings it carries out
+
+-- an end of the cable lies loose
+abbrev pub HasLooseEnd : Parts → ℕ → Type 0
+HasLooseEnd m cable = (held : Option ℕ × Option ℕ) × (cable_in m cable ≡ Some held) × (length (cable_letters held) < 2)
+
+-- a wheel is seated in the slot; or it is a pin wheel, and the letter is on it
+abbrev pub CanShow : Parts → ℕ → ℕ → Type 0
+CanShow m slot letter =
+    ((wheel : Wheel) × (slot_in m slot ≡ Some (Some wheel))) ⊎ (IsSome (shown_in m slot) × Contains (ring_of slot) letter)
+
+-- the bar stands so that its left lug comes before its right one with the lug at the place
+abbrev pub CanMove : Parts → ℕ → Lug → Place → Type 0
+CanMove m bar lug place = (standing : Place × Place) × (standing_in m bar ≡ Some standing) × Stands (with_lug lug place standing)
+
+-- the machine doesn't refuse the setting
+abbrev pub Allows : Parts → Setting → Type 0
+Allows m (Pull cable letter) = Contains (letters_in m cable) letter
+Allows m (Put cable letter) = HasLooseEnd m cable × ((other : ℕ) → ¬ (Contains (letters_in m other) letter))
+Allows m (Seat slot wheel) = IsAllowed (model_of m) slot wheel
+Allows m (SeatReflector reflector) = Contains (reflectors_of (model_of m)) reflector
+Allows m (RingTo wheel letter) = Contains (box_of (model_of m)) wheel
+Allows m (Turn slot letter) = CanShow m slot letter
+Allows m (PinTo wheel letter effective) = IsSome (pin_in m wheel letter)
+Allows m (LugTo bar lug place) = CanMove m bar lug place

@@ -15,7 +15,7 @@ use Rattle.kd_state.specs.declared.sheet_day.rotor_entry.SheetWheel.{SheetWheel}
 use Rattle.kd_state.specs.Box.{same_wheel, same_reflector, place_in_box}
 use Rattle.kd_state.specs.Machine.{IsMachine}
 use Rattle.kd_state.specs.Setting.{has_letter, why_refused, Carries, Leads}
-use Rattle.kd_state.specs.Changes.{Makes}
+use Rattle.kd_state.specs.Changes.{Makes, Allows}
 use Rattle.kd_state.specs.Words.{IsWord}
 use Rattle.kd_state.specs.Line.{setting_words, setting_line, IsInRange, IsList, IsListFault}
 use Rattle.kd_state.specs.SheetDay.{seats, AreSeated, Day, IsLegalDay}
@@ -66,6 +66,14 @@ LeadsToOne = (m n o : Parts) (xs : List Setting) → Leads m xs n → Leads m xs
 -- what a setting that is carried out changes, and that it changes nothing else, as the readers tell it
 abbrev pub SettingsAreTold : Type 0
 SettingsAreTold = (m n : Parts) (x : Setting) → IsMachine m → Carries m x n → Makes m x n
+
+-- and a machine of which they tell just that was made so
+abbrev pub TellingIsMaking : Type 0
+TellingIsMaking = (m n : Parts) (x : Setting) → IsMachine m → IsMachine n → IsInRange x → Allows m x → Makes m x n → Carries m x n
+
+-- what is refused, as the readers tell it
+abbrev pub RefusalsAreTold : Type 0
+RefusalsAreTold = (m : Parts) (x : Setting) → IsMachine m → (why_refused m x ≡ None) ↔ Allows m x
 
 -- a seat, a reflector and a ring are refused exactly where the tables don't allow them
 abbrev pub SeatsAreByTheTables : Type 0

@@ -5,7 +5,7 @@ ghost use Rattle.kd_state.specs.Laws.{NamesTellWheels, NamesTellReflectors};
 ghost use Rattle.kd_state.specs.Laws.{AllowedWheelsLieInTheBox, WheelsHavePlaces, PlacesTellWheels, DaysWheelsHaveTheirPlaces};
 ghost use Rattle.kd_state.specs.Laws.{SettingsHaveWords, LinesTellSettings, TextsTellLists, ListsHaveNoFault, OneListFault};
 ghost use Rattle.kd_state.specs.Laws.{SettingsKeepMachines, ListsKeepMachines, RefusesOrCarries, CarriesToOne, LeadsToOne};
-ghost use Rattle.kd_state.specs.Laws.{SettingsAreTold};
+ghost use Rattle.kd_state.specs.Laws.{SettingsAreTold, TellingIsMaking, RefusalsAreTold};
 ghost use Rattle.kd_state.specs.Laws.{SeatsAreByTheTables, ReflectorsAreByTheTables, RingsAreByTheTables};
 ghost use Rattle.kd_state.specs.Laws.{EngineIsTheMachine, TurnedEngineIsTheTurnedMachine};
 ghost use Rattle.kd_state.specs.Laws.{ReadingIsReady, ReadingIsItsCipher, OnKeyIsReady, OnKeyIsItsCipher};
@@ -77,9 +77,12 @@ pub fn a_setting_is_refused_or_carried()
     ensures lists_to_one { LeadsToOne }
 {}
 
-/// A setting that is carried out changes what it says, and nothing else: as each reader of the machine tells it.
+/// A setting that is carried out changes what it says, and nothing else: as each reader of the machine tells it. Where they
+/// tell just that, and the setting isn't refused, it was carried out; and they tell what is refused.
 pub fn readers_tell_what_settings_change()
-    ensures { SettingsAreTold }
+    ensures told { SettingsAreTold }
+    ensures made { TellingIsMaking }
+    ensures refused { RefusalsAreTold }
 {}
 
 /// A seat, a reflector and a ring are refused exactly where the tables don't allow them.

@@ -4,6 +4,10 @@ use Rattle.std.specs.Io.KnownBytes.{Appends, Consumes, Keeps, IsAtEnd}
 use Rattle.kd_tables.specs.declared.failed.Failed.{Failed}
 use Rattle.kd_tables.specs.declared.writing.Device.{Device}
 
+-- how many bytes are read at most, of a source or of a file
+abbrev pub read_limit : ℕ
+read_limit = 1048576
+
 -- a put took as many bytes from the front as it says, and at least one where there is one; a refused put took none
 pub record Puts (old new : Option (List ℕ)) (bytes : List ℕ) (answer : Result ℕ Failed) : Type 0 where
   pub within : IfOk answer (λ count. count ≤ length bytes)

@@ -1,9 +1,16 @@
-//! Laws over the tables, the pin wheels' letters and permutations of the alphabet alone.
+//! Laws over the tables, the pin wheels' letters and permutations of the alphabet, over orders and the limit of a read.
+ghost use Rattle.std.specs.Prelude.{◌≡◌, ℕ};
+ghost use Rattle.std.specs.Ordering.{ordering_then, nat_cmp};
+ghost use Rattle.kd_tables.specs.Ports.{read_limit};
+ghost use Rattle.kd_tables.specs.declared.limit.TheConstants.{READ_LIMIT};
 ghost use Rattle.kd_tables.specs.Laws.{WiringsArePermutations, ReflectorsArePermutations, ReflectorsLeadBack, ReflectorsMoveEachLetter};
 ghost use Rattle.kd_tables.specs.Laws.{ProductsByLetter, InversesByLetter, ShiftsByLetter};
 ghost use Rattle.kd_tables.specs.Laws.{ProductsArePermutations, InversesArePermutations, ShiftsArePermutations};
 ghost use Rattle.kd_tables.specs.Laws.{InverseUndoesAfter, InverseUndoesBefore, ProductsBackwards, ShiftsBackwards};
 ghost use Rattle.kd_tables.specs.Laws.{LettersLeadToPlaces, PlacesLeadToLetters};
+
+use super::letter::Letter;
+use super::reading::Reading;
 
 /// The published tables are permutations, and a reflector leads each letter to another one and that one back.
 pub fn tables_are_permutations()
@@ -40,4 +47,16 @@ pub fn inverse_undoes()
 pub fn letters_and_places_undo()
     ensures places { LettersLeadToPlaces }
     ensures letters { PlacesLeadToLetters }
+{}
+
+/// Letters are in the order of the alphabet, and readings in that of the smaller number, and then of the larger one.
+pub fn letters_and_readings_have_their_order()
+    ensures letters { (one other : ℕ) → ⟦<Letter as Ord>⟧.cmp one other ≡ nat_cmp one other }
+    ensures readings { (one other : ℕ × ℕ) → ⟦<Reading as Ord>⟧.cmp one other
+        ≡ ordering_then (nat_cmp one.0 other.0) (nat_cmp one.1 other.1) }
+{}
+
+/// The code reads as many bytes at most as the definitions say.
+pub fn the_limit_is_the_definitions()
+    ensures { READ_LIMIT ≡ read_limit }
 {}

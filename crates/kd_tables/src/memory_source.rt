@@ -7,7 +7,7 @@ use super::source::Source;
 use std::marker::Model;
 
 /// A source in memory, which gives its bytes in pieces and may fail from a get on.
-#[derive(Debug, Drop)]
+#[derive(Drop)]
 pub struct MemorySource<'a> {
     rest: &'a [u8],
     piece: usize,

@@ -6,7 +6,7 @@ use super::table::ring;
 use std::marker::Model;
 
 /// The alphabet of a pin wheel of the Converter M-209: its letters in the wheel's own order, from A on.
-#[derive(Clone, Copy, Debug, PartialEq, Eq)]
+#[derive(Clone, Copy)]
 pub struct Ring<const N: usize> {
     letters: [Letter; N],
 }

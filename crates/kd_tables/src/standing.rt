@@ -7,9 +7,8 @@ use super::reading::Reading;
 use arrayvec::ArrayString;
 use std::marker::Model;
 
-/// How a bar of the Converter M-209 stands: the places of its two lugs, the left one's before the right one's. Standings
-/// are in the order of the left place, and then of the right one.
-#[derive(Clone, Copy, Debug, PartialEq, Eq, PartialOrd, Ord, Hash)]
+/// How a bar of the Converter M-209 stands: the places of its two lugs, the left one's before the right one's.
+#[derive(Clone, Copy, Debug, PartialEq, Eq)]
 pub struct Standing {
     left: Place,
     right: Place,
@@ -36,7 +35,7 @@ macro_rules! standings {
 }
 
 impl Standing {
-    /// Every standing, in their order.
+    /// Every standing, in the order of the left place, and then of the right one.
     pub fn all() -> [Standing; 28]
         ensures { result ≡ standings }
     {

@@ -233,11 +233,14 @@ fn bars_have_28_standings(rt: HostRuntime) {
 #[test]
 fn bars_have_22_readings(rt: HostRuntime) {
     let mut readings: usize = 0;
+    let mut before = None;
     for smaller in 0..8 {
         for larger in smaller..8 {
             if let Some(reading) = Reading::new(larger, smaller) {
                 readings = readings.saturating_add(1);
                 assert_eq!(rt; reading.numbers(), (smaller, larger));
+                assert!(rt; before < Some(reading));
+                before = Some(reading);
             }
         }
     }
@@ -255,7 +258,6 @@ fn standings_have_texts(rt: HostRuntime) {
         assert_eq!(rt; (standing.left(), standing.right()), (left, right));
         assert_eq!(rt; standing.reading().numbers(), numbers);
     }
-    assert!(rt; Standing::from_text(b"1-0L") < Standing::from_text(b"3-0R"));
 }
 
 #[test]
@@ -278,7 +280,6 @@ fn readings_have_texts(rt: HostRuntime) {
     ] {
         assert_eq!(rt; Reading::from_text(text).map(Reading::numbers), numbers);
     }
-    assert!(rt; Reading::from_text(b"0-6") < Reading::from_text(b"1-2"));
 }
 
 #[test]

@@ -13,13 +13,13 @@ pub struct Content {
 
 impl Model for Content {
     ghost use Rattle.std.specs.Prelude.{ℕ, ◌≤◌, List, length};
-    ghost use Rattle.kd_tables.specs.declared.limit.TheConstants.{READ_LIMIT};
+    ghost use Rattle.kd_tables.specs.Ports.{read_limit};
 
     ghost Value = { List ℕ };
 
     ghost view = { λ content. content.bytes.items };
 
-    ghost invariant = { λ content. length content.bytes.items ≤ READ_LIMIT };
+    ghost invariant = { λ content. length content.bytes.items ≤ read_limit };
 }
 
 impl Content {

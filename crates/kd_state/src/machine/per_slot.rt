@@ -7,12 +7,12 @@ use kd_tables::Wheel;
 use std::marker::Model;
 
 /// A value for each slot of a rotor machine, from the left: three or four.
-#[derive(Clone, Copy, Debug)]
+#[derive(Clone, Copy)]
 pub struct PerSlot<T> {
     values: Slots<T>,
 }
 
-#[derive(Clone, Copy, Debug)]
+#[derive(Clone, Copy)]
 enum Slots<T> {
     Three([T; 3]),
     Four([T; 4]),

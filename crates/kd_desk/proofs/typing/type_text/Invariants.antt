@@ -1,6 +1,5 @@
 use Rattle.std.proofs.Common.{◌-◌}
-use Rattle.kd_tables.specs.Ports.{port}
-use Rattle.kd_tables.specs.declared.limit.TheConstants.{READ_LIMIT}
+use Rattle.kd_tables.specs.Ports.{read_limit, port}
 use Rattle.kd_desk.proofs.Texts.{SoFar}
 use Rattle.kd_desk.proofs.typing.type_text.Given as goal
 
@@ -10,4 +9,4 @@ invariant-loop-read g l =
     SoFar l.fn.engine l.engine (port g.R.Source.remaining g.R.Source.has_failed l.fn.source l.source) (port g.W.Sink.taken g.W.Sink.has_failed l.fn.sink l.sink) l.read
 
 abbrev pub decreases-loop-read : goal.decreases-loop-read
-decreases-loop-read g l = READ_LIMIT - l.read
+decreases-loop-read g l = read_limit - l.read

@@ -1,0 +1,329 @@
+-- What the readers of a machine tell is all that it is; so what they tell of a setting tells the machine that it makes.
+use Rattle.std.proofs.Common.{◌≡◌, ◌≢◌, ◌⊎◌, ◌↔◌, ℕ, zero, suc, ◌+◌, ◌<◌, ◌≤◌, nat_eq, nat_le, true, List, [], ◌∷◌, length, map, Contains, Option, Some, None, slice_get, IfSome, refl, sym, ap, ◌∙◌, inl, inr, subst, arith}
+use Rattle.std.specs.List.{IsDistinct, range_with_len}
+use Rattle.std.specs.Option.{is_none, option_map, option_map_or, option_and_then}
+use Rattle.std.proofs.lemmas.Bool.{cases_eq, cases_Bool, leb-true}
+use Rattle.std.proofs.lemmas.Bool.Decides.{nat_tests, not_from_Decides}
+use Rattle.std.proofs.lemmas.List.FromFn.{length-range_with_len, get_or-range_with_len}
+use Rattle.std.proofs.lemmas.Option.{none-some, same_Some, slice_get-map, slice_get-get_or, slice_get_cases, slice_get_past}
+use Rattle.kd_tables.specs.declared.model.Model.{Model}
+use Rattle.kd_tables.specs.declared.model.Model.TheVariants.{M209}
+use Rattle.kd_tables.specs.declared.wheel.Wheel.{Wheel}
+use Rattle.kd_tables.specs.declared.place.Place.{Place}
+use Rattle.kd_tables.specs.declared.lug.Lug.{Lug}
+use Rattle.kd_tables.specs.declared.lug.Lug.TheVariants.{Left, Right}
+use Rattle.kd_tables.specs.Tables.{box_of, reflectors_of}
+use Rattle.kd_tables.specs.Rings.{ring_of, place_on}
+use Rattle.kd_state.specs.declared.machine.rotor_parts.RotorParts.{RotorParts}
+use Rattle.kd_state.specs.declared.machine.pin_parts.PinParts.{PinParts}
+use Rattle.kd_state.specs.declared.machine.parts.Parts.{Parts}
+use Rattle.kd_state.specs.declared.machine.parts.Parts.TheVariants.{Rotor, Pin}
+use Rattle.kd_state.specs.declared.setting.Setting.{Setting}
+use Rattle.kd_state.specs.declared.setting.Setting.TheVariants.{Pull, Put, Seat, SeatReflector, RingTo, Turn, PinTo, LugTo}
+use Rattle.kd_state.specs.Box.{numbered, same_wheel, place_in_box}
+use Rattle.kd_state.specs.Pins.{wheel_pins}
+use Rattle.kd_state.specs.Machine.{cable_letters, plugged_letters, ordered, model_of, slot_in, letter_in, cable_in, standing_in, IsLegalRotor, IsLegalPin, IsMachine}
+use Rattle.kd_state.specs.Setting.{has_letter, are_new, lug_place, other_lug, changed, Carries}
+use Rattle.kd_state.specs.Changes.{Thing, TheSlot, TheReflector, TheRing, TheLetter, TheCable, ThePin, TheShown, TheBar, IsKept, SetsOnly, IsSeatOf, Seats, Turns, Makes, letters_in}
+use Rattle.kd_state.specs.Laws.{TellingIsMaking}
+use Rattle.kd_state.specs.OnKey.{SameLetters}
+use Rattle.kd_state.proofs.Cables.{all_ordered, new_of_distinct}
+use Rattle.kd_state.proofs.Changing.{in_their_order, settings_are_told, settings_keep_machines}
+use Rattle.kd_state.proofs.Columns.{tests_tell_letters}
+use Rattle.kd_state.proofs.Refusing.{refusals_are_told}
+use Rattle.kd_state.proofs.Wheels.{same_wheel-Decides}
+
+-- ---- lists, by what stands at their places and by what has a place in them
+
+same_slices : {X : Type 0} (xs ys : List X) → ((place : ℕ) → slice_get xs place ≡ slice_get ys place) → xs ≡ ys
+same_slices [] [] same = refl
+same_slices [] (y ∷ ys) same = absurd (none-some y (same 0))
+same_slices (x ∷ xs) [] same = absurd (none-some x (sym (same 0)))
+same_slices (x ∷ xs) (y ∷ ys) same =
+    let first : x ≡ y = same_Some x y (same 0) in
+    let rest : xs ≡ ys = same_slices xs ys (λ place. same (suc place)) in
+    cc
+
+same_numbered : {X : Type 0} (xs ys : List X) → ((number : ℕ) → numbered xs number ≡ numbered ys number) → xs ≡ ys
+same_numbered xs ys same = same_slices xs ys (λ place. same (suc place))
+
+-- a list of values of things is told by the value of each thing, where each thing has its own place among the things
+by_things : {W X : Type 0} (place_of : W → Option ℕ) (all : List W) (xs ys : List X)
+    → map place_of all ≡ map Some (range_with_len 0 (length all))
+    → length xs ≡ length all → length ys ≡ length all
+    → ((w : W) → option_and_then (slice_get xs) (place_of w) ≡ option_and_then (slice_get ys) (place_of w))
+    → xs ≡ ys
+by_things place_of all xs ys placed long also same =
+    same_slices xs ys (λ place. elim (slice_get_cases all place).1 [
+      | inl (w, within, at, _) ↦
+          let below : place < length (range_with_len 0 (length all)) = omega (arith, within, length-range_with_len 0 (length all)) in
+          let from_zero : 0 + place ≡ place = omega arith in
+          let reads = get_or-range_with_len 0 (length all) place 0 within ∙ from_zero in
+          let there : slice_get (range_with_len 0 (length all)) place ≡ Some place =
+          slice_get-get_or (range_with_len 0 (length all)) place 0 below ∙ ap Some reads in
+          let is : place_of w ≡ Some place = same_Some _ _ (sym (ap (option_map place_of) at)
+          ∙ sym (slice_get-map place_of all place) ∙ ap (λ l. slice_get l place) placed
+          ∙ slice_get-map Some (range_with_len 0 (length all)) place ∙ ap (option_map Some) there) in
+          rw is at (same w)
+      | inr (past, _) ↦ slice_get_past xs place (omega (arith, past))
+          ∙ sym (slice_get_past ys place (omega (arith, past)))
+    ])
+
+abbrev box_place : Model → Wheel → Option ℕ
+box_place model wheel = Some (place_in_box model wheel)
+
+wheels_have_places : (model : Model) → map (box_place model) (box_of model) ≡ map Some (range_with_len 0 (length (box_of model)))
+wheels_have_places M209 = refl
+wheels_have_places model = refl
+
+letters_have_places : (wheel : ℕ)
+    → map (place_on (ring_of wheel)) (ring_of wheel) ≡ map Some (range_with_len 0 (length (ring_of wheel)))
+unfolding ring_of
+letters_have_places (suc zero) = refl
+letters_have_places (suc (suc zero)) = refl
+letters_have_places (suc (suc (suc zero))) = refl
+letters_have_places (suc (suc (suc (suc zero)))) = refl
+letters_have_places (suc (suc (suc (suc (suc zero))))) = refl
+letters_have_places (suc (suc (suc (suc (suc (suc zero)))))) = refl
+letters_have_places wheel = refl
+
+-- ---- machines
+
+told_rotor : (m n : RotorParts) → IsLegalRotor m → IsLegalRotor n → n.model ≡ m.model
+    → ((thing : Thing) → IsKept (Rotor m) (Rotor n) thing) → n ≡ m
+told_rotor m n l k model kept =
+    let slots = same_numbered n.slots m.slots (λ slot. kept (TheSlot slot)) in
+    let reflector = same_Some _ _ (kept TheReflector) in
+    let box : length (box_of n.model) ≡ length (box_of m.model) = ap (λ k. length (box_of k)) model in
+    let all = wheels_have_places m.model in
+    let rings = by_things (box_place m.model) (box_of m.model) n.rings m.rings all (k.rings.count ∙ box) l.rings.count
+    (λ wheel. rw model at (kept (TheRing wheel))) in
+    let letters = by_things (box_place m.model) (box_of m.model) n.letters m.letters all (k.letters.count ∙ box) l.letters.count
+    (λ wheel. rw model at (kept (TheLetter wheel))) in
+    let cables = same_numbered n.cables m.cables (λ cable. kept (TheCable cable)) in
+    λ i. record { model = model i; slots = slots i; reflector = reflector i; rings = rings i; letters = letters i; cables = cables i }
+
+told_pin : (m n : PinParts) → IsLegalPin m → IsLegalPin n → ((thing : Thing) → IsKept (Pin m) (Pin n) thing) → n ≡ m
+told_pin m n l k kept =
+    let wheel : (w : ℕ) → wheel_pins n.pins w ≡ wheel_pins m.pins w =
+    λ w. by_things (place_on (ring_of w)) (ring_of w) (wheel_pins n.pins w) (wheel_pins m.pins w) (letters_have_places w) (k.pins w) (l.pins w)
+    (λ letter. kept (ThePin w letter)) in
+    let letters = same_numbered n.letters m.letters (λ w. kept (TheShown w)) in
+    let bars = same_numbered n.bars m.bars (λ bar. kept (TheBar bar)) in
+    λ i. record {
+      pins = record { w1 = wheel 1 i; w2 = wheel 2 i; w3 = wheel 3 i; w4 = wheel 4 i; w5 = wheel 5 i; w6 = wheel 6 i };
+      letters = letters i;
+      bars = bars i;
+    }
+
+told_machine : (m n : Parts) → IsMachine m → IsMachine n → model_of n ≡ model_of m
+    → ((thing : Thing) → IsKept m n thing) → n ≡ m
+told_machine (Rotor m) (Rotor n) h k model kept = ap Rotor (told_rotor m n h.legal k.legal model kept)
+told_machine (Rotor m) (Pin n) h k model kept = absurd (none-some _ (kept TheReflector))
+told_machine (Pin m) (Rotor n) h k model kept = absurd (none-some _ (sym (kept TheReflector)))
+told_machine (Pin m) (Pin n) h k model kept = ap Pin (told_pin m n h.legal k.legal kept)
+
+-- ---- things are told apart, and what two machines keep of a third is alike
+
+cases_wheel : (wheel other : Wheel) → (wheel ≡ other) ⊎ (wheel ≢ other)
+cases_wheel wheel other = elim (cases_Bool (same_wheel wheel other)) [
+  | inl same ↦ inl ((same_wheel-Decides wheel other).0 same)
+  | inr differs ↦ inr (not_from_Decides _ (same_wheel-Decides wheel other) differs)
+]
+
+cases_thing : (thing other : Thing) → (other ≡ thing) ⊎ (other ≢ thing)
+cases_thing (TheSlot a) (TheSlot b) = elim (cases_eq b a) [ inl e ↦ inl (ap TheSlot e) | inr ne ↦ inr (λ e. ne cc) ]
+cases_thing TheReflector TheReflector = inl refl
+cases_thing (TheRing a) (TheRing b) = elim (cases_wheel b a) [ inl e ↦ inl (ap TheRing e) | inr ne ↦ inr (λ e. ne cc) ]
+cases_thing (TheLetter a) (TheLetter b) = elim (cases_wheel b a) [ inl e ↦ inl (ap TheLetter e) | inr ne ↦ inr (λ e. ne cc) ]
+cases_thing (TheCable a) (TheCable b) = elim (cases_eq b a) [ inl e ↦ inl (ap TheCable e) | inr ne ↦ inr (λ e. ne cc) ]
+cases_thing (ThePin a x) (ThePin b y) = elim (cases_eq b a) [
+  | inl e ↦ elim (cases_eq y x) [ inl f ↦ inl cc | inr ne ↦ inr (λ e. ne cc) ]
+  | inr ne ↦ inr (λ e. ne cc)
+]
+cases_thing (TheShown a) (TheShown b) = elim (cases_eq b a) [ inl e ↦ inl (ap TheShown e) | inr ne ↦ inr (λ e. ne cc) ]
+cases_thing (TheBar a) (TheBar b) = elim (cases_eq b a) [ inl e ↦ inl (ap TheBar e) | inr ne ↦ inr (λ e. ne cc) ]
+cases_thing thing other = inr (λ e. cc)
+
+kept_alike : (m n o : Parts) (thing : Thing) → IsKept m n thing → IsKept m o thing → IsKept o n thing
+kept_alike m n o thing = elim thing as (λ t. IsKept m n t → IsKept m o t
+    → IsKept o n t) [ TheReflector ↦ λ one other. one ∙ sym other | _ ↦ λ one other. one ∙ sym other ]
+
+-- two machines are alike that differ from a third at one thing at most, and are alike there
+alike_but : (thing : Thing) (m n o : Parts) → SetsOnly thing m n → SetsOnly thing m o → IsKept o n thing
+    → (other : Thing) → IsKept o n other
+alike_but thing m n o one two here other = elim (cases_thing thing other) [
+  | inl e ↦ subst (IsKept o n) (sym e) here
+  | inr ne ↦ kept_alike m n o other (one.others other ne) (two.others other ne)
+]
+
+-- ---- a cable is told by the letters in it
+
+same_sizes : {X : Type 0} (xs ys : List X) (place : ℕ) → length xs ≡ length ys
+    → is_none (slice_get xs place) ≡ is_none (slice_get ys place)
+same_sizes [] [] place same = refl
+same_sizes (x ∷ xs) (y ∷ ys) zero same = refl
+same_sizes (x ∷ xs) (y ∷ ys) (suc place) same = same_sizes xs ys place (omega (arith, same))
+same_sizes xs ys place same = absurd (omega (arith, same))
+
+-- a cable of a machine: in order, and its letters are new before those of some other cables
+record IsInOrder (cable : Option ℕ × Option ℕ) : Type 0 where
+  ordered : ordered cable.0 cable.1 ≡ cable
+  rest : List ℕ
+  new : are_new (cable_letters cable) rest ≡ true
+
+cables_in_order : (cables : List (Option ℕ × Option ℕ)) (place : ℕ) → all_ordered cables ≡ cables
+    → IsDistinct nat_eq (plugged_letters cables) → IfSome (slice_get cables place) IsInOrder
+cables_in_order [] place same apart = tt
+cables_in_order (cable ∷ cables) zero same apart =
+    let is : ordered cable.0 cable.1 ≡ cable = cc in
+    record { ordered = is; rest = plugged_letters cables; new = (new_of_distinct (cable_letters cable) (plugged_letters cables) apart).0 }
+cables_in_order (cable ∷ cables) (suc place) same apart =
+    let rest : all_ordered cables ≡ cables = cc in
+    cables_in_order cables place rest (new_of_distinct (cable_letters cable) (plugged_letters cables) apart).1
+
+in_turn : (x y : ℕ) → ordered (Some x) (Some y) ≡ (Some x, Some y) → x ≤ y
+in_turn x y is = elim (cases_Bool (nat_le x y)) [
+  | inl e ↦ leb-true x y e
+  | inr e ↦
+      let turned = ap (λ (cable : Option ℕ × Option ℕ). cable.0) is in
+      let same : y ≡ x = same_Some y x (rw e at turned) in
+      omega (arith, same)
+]
+
+first_is_some : (x : ℕ) → ordered None (Some x) ≡ (None, Some x) → ⊥
+first_is_some x is = none-some x (sym (ap (λ (cable : Option ℕ × Option ℕ). cable.0) is))
+
+same_cable : (cable other : Option ℕ × Option ℕ) → IsInOrder cable → IsInOrder other
+    → ((letter : ℕ) → has_letter (cable_letters cable) letter ≡ has_letter (cable_letters other) letter) → cable ≡ other
+same_cable (None, Some x) other one two same = absurd (first_is_some x one.ordered)
+same_cable cable (None, Some y) one two same = absurd (first_is_some y two.ordered)
+same_cable (None, None) (None, None) one two same = refl
+same_cable (None, None) (Some y, end) one two same = let at = same y in absurd (grind (arith, nat_tests))
+same_cable (Some x, end) (None, None) one two same = let at = same x in absurd (grind (arith, nat_tests))
+same_cable (Some x, None) (Some y, None) one two same =
+    let at = same x in
+    let first : x ≡ y = grind (arith, nat_tests) in
+    cc
+same_cable (Some x, None) (Some y, Some z) one two same =
+    let at = same y in let there = same z in let new = two.new in absurd (grind (arith, nat_tests))
+same_cable (Some x, Some z) (Some y, None) one two same =
+    let at = same x in let there = same z in let new = one.new in absurd (grind (arith, nat_tests))
+same_cable (Some x, Some z) (Some y, Some v) one two same =
+    let low = in_turn x z one.ordered in
+    let other = in_turn y v two.ordered in
+    let a = same x in
+    let b = same z in
+    let c = same y in
+    let d = same v in
+    let new = one.new in
+    let also = two.new in
+    let first : x ≡ y = grind (arith, nat_tests) in
+    let second : z ≡ v = grind (arith, nat_tests) in
+    cc
+
+by_found : (found other : Option (Option ℕ × Option ℕ)) → is_none found ≡ is_none other → IfSome found IsInOrder
+    → IfSome other IsInOrder
+    → SameLetters (option_map_or cable_letters found []) (option_map_or cable_letters other []) → found ≡ other
+by_found None None size one two same = refl
+by_found (Some cable) (Some other) size one two same = ap Some (same_cable cable other one two ((tests_tell_letters _ _).0 same))
+by_found found other size one two same = absurd (cc)
+
+no_converter : (m : RotorParts) → IsLegalRotor m → m.model ≡ M209 → ⊥
+no_converter m l e = let none = subst (λ model. Contains (reflectors_of model) m.reflector) e l.reflector in omega (arith, none.1)
+
+cable_alike : (m n : Parts) (cable : ℕ) → IsMachine m → IsMachine n → model_of n ≡ model_of m
+    → SameLetters (letters_in n cable) (letters_in m cable) → cable_in n cable ≡ cable_in m cable
+cable_alike (Rotor m) (Rotor n) zero h k model same = refl
+cable_alike (Rotor m) (Rotor n) (suc place) h k model same =
+    by_found (slice_get n.cables place) (slice_get m.cables place)
+    (same_sizes n.cables m.cables place (k.legal.cables.count ∙ sym h.legal.cables.count))
+    (cables_in_order n.cables place (in_their_order n k.cables) k.legal.cables.apart)
+    (cables_in_order m.cables place (in_their_order m h.cables) h.legal.cables.apart) same
+cable_alike (Rotor m) (Pin n) cable h k model same = absurd (no_converter m h.legal (sym model))
+cable_alike (Pin m) (Rotor n) cable h k model same = absurd (no_converter n k.legal model)
+cable_alike (Pin m) (Pin n) cable h k model same = refl
+
+-- ---- what a setting makes is alike, as the readers tell it
+
+kept_model : (m n : Parts) (x : Setting) → Makes m x n → model_of n ≡ model_of m
+kept_model m n (Seat slot wheel) made = made.others.model
+kept_model (Rotor m) n (Turn slot letter) made = made.3.model
+kept_model (Pin m) n (Turn slot letter) made = made.1.model
+kept_model m n x made = made.1.model
+
+-- a wheel is seated there, or not
+cases_held : (wheel : Wheel) (held : Option (Option Wheel)) → (held ≡ Some (Some wheel)) ⊎ (held ≢ Some (Some wheel))
+cases_held wheel (Some (Some other)) = elim (cases_wheel other wheel) [ inl e ↦ inl (ap (λ w. Some (Some w)) e) | inr ne ↦ inr (λ e. ne cc) ]
+cases_held wheel held = inr (λ e. cc)
+
+seats_alike : (m n o : Parts) (slot : ℕ) (wheel : Wheel) → Seats m slot wheel n → Seats m slot wheel o
+    → (thing : Thing) → IsKept o n thing
+seats_alike m n o slot wheel one two (TheSlot other) = elim (cases_eq other slot) [
+  | inl e ↦ rw e (one.here ∙ sym two.here)
+  | inr ne ↦ elim (cases_held wheel (slot_in m other)) [
+    | inl held ↦ one.left other ne held ∙ sym (two.left other ne held)
+    | inr not_held ↦
+        let free : ¬ (IsSeatOf m slot wheel (TheSlot other)) = λ touched. elim touched [
+          | inl e ↦ ne cc
+          | inr (place, e, held) ↦ not_held (let same : other ≡ place = cc in rw same held)
+        ]
+        in
+        kept_alike m n o (TheSlot other) (one.others.others (TheSlot other) free) (two.others.others (TheSlot other) free)
+  ]
+]
+seats_alike m n o slot wheel one two thing =
+    let free : ¬ (IsSeatOf m slot wheel thing) = λ touched. elim touched [ inl e ↦ cc | inr (place, e, held) ↦ cc ] in
+    kept_alike m n o thing (one.others.others thing free) (two.others.others thing free)
+
+turns_alike : (m n o : Parts) (slot letter : ℕ) → Turns m slot letter n → Turns m slot letter o → (thing : Thing)
+    → IsKept o n thing
+turns_alike (Rotor m) n o slot letter (wheel, at, shows, keeps) (other, there, showing, keeping) =
+    let same : other ≡ wheel = same_Some _ _ (same_Some _ _ (sym there ∙ at)) in
+    alike_but (TheLetter wheel) (Rotor m) n o keeps (subst (λ w. SetsOnly (TheLetter w) (Rotor m) o) same keeping)
+    (shows ∙ sym (subst (λ w. letter_in o w ≡ Some letter) same showing))
+turns_alike (Pin m) n o wheel letter one two = alike_but (TheShown wheel) (Pin m) n o one.1 two.1 (one.0 ∙ sym two.0)
+
+bar_alike : (lug : Lug) (bar other : Option (Place × Place))
+    → option_map (lug_place lug) bar ≡ option_map (lug_place lug) other
+    → option_map (lug_place (other_lug lug)) bar ≡ option_map (lug_place (other_lug lug)) other → bar ≡ other
+bar_alike lug None None moved stays = refl
+bar_alike Left (Some bar) (Some other) moved stays =
+    let left = same_Some _ _ moved in let right = same_Some _ _ stays in ap Some (λ i. (left i, right i))
+bar_alike Right (Some bar) (Some other) moved stays =
+    let right = same_Some _ _ moved in let left = same_Some _ _ stays in ap Some (λ i. (left i, right i))
+bar_alike lug bar other moved stays = absurd (cc)
+
+both_ways_same : {A B C : Type 0} → A ↔ B → C ↔ B → A ↔ C
+both_ways_same one two = (λ a. two.1 (one.0 a), λ c. one.1 (two.0 c))
+
+made_alike : (m n o : Parts) (x : Setting) → IsMachine n → IsMachine o → Makes m x n → Makes m x o → (thing : Thing)
+    → IsKept o n thing
+made_alike m n o (Pull cable letter) h k one two =
+    alike_but (TheCable cable) m n o one.1 two.1 (cable_alike o n cable k h (one.1.model
+    ∙ sym two.1.model) (λ other. both_ways_same (one.0 other) (two.0 other)))
+made_alike m n o (Put cable letter) h k one two =
+    alike_but (TheCable cable) m n o one.1 two.1 (cable_alike o n cable k h (one.1.model
+    ∙ sym two.1.model) (λ other. both_ways_same (one.0 other) (two.0 other)))
+made_alike m n o (Seat slot wheel) h k one two = seats_alike m n o slot wheel one two
+made_alike m n o (SeatReflector reflector) h k one two = alike_but TheReflector m n o one.1 two.1 (one.0 ∙ sym two.0)
+made_alike m n o (RingTo wheel letter) h k one two = alike_but (TheRing wheel) m n o one.1 two.1 (one.0 ∙ sym two.0)
+made_alike m n o (Turn slot letter) h k one two = turns_alike m n o slot letter one two
+made_alike m n o (PinTo wheel letter effective) h k one two = alike_but (ThePin wheel letter) m n o one.1 two.1 (one.0
+    ∙ sym two.0)
+made_alike m n o (LugTo bar lug place) h k one two =
+    alike_but (TheBar bar) m n o one.1 two.1 (bar_alike lug (standing_in n bar) (standing_in o bar) (one.0.moved
+    ∙ sym two.0.moved) (one.0.other ∙ sym two.0.other))
+
+pub telling_is_making : TellingIsMaking
+telling_is_making m n x h k r allows made =
+    let allowed = (refusals_are_told m x h).1 allows in
+    let o = changed m x in
+    let carried : Carries m x o = record { allowed = allowed; made = refl } in
+    let told = settings_are_told m o x h carried in
+    let kept = settings_keep_machines m o x h r carried in
+    record {
+      allowed = allowed;
+      made = told_machine o n kept k (kept_model m n x made
+          ∙ sym (kept_model m o x told)) (made_alike m n o x k kept made told);
+    }
