@@ -1,7 +1,7 @@
 //! The text that a form becomes.
-ghost use Rattle.std.specs.Prelude.{◌≡◌, IsTrue};
+ghost use Rattle.std.specs.Prelude.{◌≡◌, ℕ, List, IsTrue};
 ghost use Rattle.kd_tables.specs.Ports.{Fail, port};
-ghost use Rattle.kd_form.specs.FormText.{form_message, IsFirstPartRead, IsTextOf, IsReceiveFault};
+ghost use Rattle.kd_form.specs.FormText.{form_message, IsTextOf, IsReceiveFault};
 ghost use Rattle.kd_form.specs.OnTheKey.{AnswersOnKey};
 ghost use Rattle.kd_form.specs.Streams.{StreamsOnKey, is_device, is_off_key};
 
@@ -28,7 +28,7 @@ pub fn receive(
 ) -> Result<Vec<u8>, FormFault>
     ensures { AnswersOnKey machine.now day.now
         (λ text. IsTextOf day.now form.now text.items)
-        (IsReceiveFault day.now form.now) (IsFirstPartRead day.now form.now) result }
+        (IsReceiveFault day.now form.now) ((text : List ℕ) × IsTextOf day.now form.now text) result }
 {
     match check_machine(machine, day) {
         Ok(()) => bytes_of::<FormReader>(alloc, day, form),

@@ -1,8 +1,8 @@
 //! The form that an order becomes.
-ghost use Rattle.std.specs.Prelude.{◌≡◌, ◌≤◌, IsTrue, MatchResult};
+ghost use Rattle.std.specs.Prelude.{◌≡◌, ◌≤◌, ℕ, List, IsTrue, MatchResult};
 ghost use Rattle.kd_tables.specs.Ports.{Fail, port};
 ghost use Rattle.kd_form.specs.Making.{part_size};
-ghost use Rattle.kd_form.specs.Sending.{IsSendFault, IsFormOf, HasForm};
+ghost use Rattle.kd_form.specs.Sending.{IsSendFault, IsFormOf};
 ghost use Rattle.kd_form.specs.SendStream.{orders};
 ghost use Rattle.kd_form.specs.Streams.{StreamsOnKey, is_device, is_off_key};
 ghost use Rattle.kd_form.specs.OnTheKey.{IsOnKey, IsKeyFault, AnswersOnKey};
@@ -27,7 +27,7 @@ pub fn send(
 ) -> Result<Vec<u8>, FormFault>
     ensures { AnswersOnKey machine.now day.now
         (λ form. IsFormOf day.now order.now form.items)
-        (IsSendFault day.now order.now) (HasForm day.now order.now) result }
+        (IsSendFault day.now order.now) ((form : List ℕ) × IsFormOf day.now order.now form) result }
 {
     match check_machine(machine, day) {
         Ok(()) => bytes_of::<OrderReader>(alloc, day, order),
