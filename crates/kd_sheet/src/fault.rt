@@ -12,12 +12,12 @@ pub enum SheetFault {
     #[error("19 UnknownModel")]
     UnknownModel,
     /// A key that has to be there is absent.
-    #[error("20 Missing {0}")]
+    #[error("20 Missing {}", .0.name())]
     Missing(Key),
     /// A key's value has the wrong type, the wrong number of parts, or a part of the wrong form; or it is a number out of
     /// its range, the name of no wheel or of no reflector of the model, a letter that isn't on its pin wheel, or a pin named
     /// twice.
-    #[error("21 BadValue {0}")]
+    #[error("21 BadValue {}", .0.name())]
     BadValue(Key),
     /// A letter lies in two places of the cables, or of the pairs.
     #[error("1 LetterTwice")]
