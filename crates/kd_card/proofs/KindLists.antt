@@ -48,7 +48,7 @@ good_at floor (first ∷ kinds) (suc i) inside is are = good_at (look_rank first
 
 -- ---- bounds
 
-low_look : (look : Look) → IsInForm look → look_rank look < 703
+pub low_look : (look : Look) → IsInForm look → look_rank look < 703
 low_look (Cable (None, other)) form = omega arith
 low_look (Cable (Some one, None)) form = omega (arith, form)
 low_look (Cable (Some one, Some other)) form = omega (arith, form.0, form.1)

@@ -128,7 +128,7 @@ pub record IsNextKind (name : Name) (floor : ℕ) (bytes : List ℕ) (kind : Pri
   pub above : floor ≤ look_rank kind.look
   pub line : bytes ≡ with_line (kind_words kind) rest
 
--- a line of that name is begun, and it has no end, or isn't that of a kind that may follow
+-- there are bytes without LF, whatever they begin with; or a line of that name isn't that of a kind that may follow
 pub data IsBadKind (name : Name) (floor line : ℕ) (bytes : List ℕ) (fault : CardFault) : Type 0 where
   Unended : IsUnended bytes → fault ≡ BadLine line → IsBadKind name floor line bytes fault
   NoKind : BeginsWithName name bytes → ((kind : PricedKind) (rest : List ℕ) → ¬ (IsNextKind name floor bytes kind rest))

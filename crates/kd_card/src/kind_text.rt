@@ -18,8 +18,8 @@ use itoa::Buffer;
 use kd_state::laws::{lines_tell_words, numbers_and_letters_are_words, texts_tell_first_parts};
 use kd_state::{number_of_text, push_number, split_once, split_words};
 
-/// No group has more kinds in order, each once: their ranks are below 703.
-const MOST: usize = 704;
+/// No group has more kinds in order, each once: their ranks are below this.
+const MOST: usize = 703;
 
 /// The first word of a line.
 fn first_word(line: &[u8]) -> &[u8]

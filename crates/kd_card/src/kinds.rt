@@ -60,7 +60,8 @@ pub struct PricedKind {
     pub price: i16,
 }
 
-/// What stands in the unused places of a list of kinds.
+/// What stands in the unused places of a list of kinds. It may be anything: no contract says which value it is, here and
+/// of the four kinds below.
 impl Default for PricedKind {
     ghost is_default = { λ _. Unit {0} };
 

@@ -72,7 +72,8 @@ impl Look {
         }
     }
 
-    /// Where it stands among all looks of its name, in the order of a card's lines.
+    /// By its rank a look comes before or after others of its name in a card's lines. It is no place among them: some
+    /// numbers are no look's rank.
     pub fn rank(self) -> usize
         ensures value { result ≡ look_rank self }
         ensures few { IsInForm self → result < 703 }
@@ -159,7 +160,7 @@ fn is_a_reading(reading: Reading) -> bool
     true
 }
 
-/// Where a cable's letters stand among all that a cable may have.
+/// The rank of a cable's letters.
 fn ends_rank(ends: Ends) -> usize
     ensures value { result ≡ look_rank (Look.Cable ends) }
     ensures few { result < 703 }
@@ -171,7 +172,7 @@ fn ends_rank(ends: Ends) -> usize
     }
 }
 
-/// Where a pair stands among all pairs and nothing.
+/// The rank of a pair, or of nothing.
 fn pair_rank(pair: Option<(Letter, Letter)>) -> usize
     ensures value { result ≡ look_rank (Look.Pair pair) }
     ensures few { result < 703 }
@@ -182,7 +183,7 @@ fn pair_rank(pair: Option<(Letter, Letter)>) -> usize
     }
 }
 
-/// Where a standing stands among all.
+/// The rank of a standing.
 fn bar_rank(standing: Standing) -> usize
     ensures value { result ≡ standing_rank standing }
     ensures few { result < 703 }
@@ -207,7 +208,7 @@ fn place_rank(place: Place) -> usize
     }
 }
 
-/// Where a reading stands among all.
+/// The rank of a reading.
 fn row_rank(reading: Reading) -> usize
     ensures value { result ≡ reading_rank reading }
     ensures few { result < 703 }

@@ -80,8 +80,8 @@ impl Prices {
     }
 
     /// The prices of the kinds of cables, and of the kinds of pairs and nothings; none where a kind isn't in the form
-    /// in which it is written, or the kinds of a group aren't in order, each once, or aren't of 13 things together, or
-    /// a price is below -9999 or above 9999.
+    /// in which it is written, or has the count 0, or the kinds of a group aren't in order, each once, or aren't of 13
+    /// things together, or a price is below -9999 or above 9999.
     pub fn cable_kinds(cables: &[CableKind], pairs: &[PairKind]) -> Option<Self>
         ensures { let parts =
             PriceParts.CableKinds (record { items = cables.now }) (record { items = pairs.now }) in
@@ -93,8 +93,8 @@ impl Prices {
     }
 
     /// The prices of the kinds of bars, and of the kinds of the sheet's rows; none where a kind isn't in the form in
-    /// which it is written, or the kinds of a group aren't in order, each once, or aren't of 27 things together, or a
-    /// price is below -9999 or above 9999.
+    /// which it is written, or has the count 0, or the kinds of a group aren't in order, each once, or aren't of 27
+    /// things together, or a price is below -9999 or above 9999.
     pub fn bar_kinds(bars: &[BarKind], rows: &[RowKind]) -> Option<Self>
         ensures { let parts =
             PriceParts.BarKinds (record { items = bars.now }) (record { items = rows.now }) in

@@ -25,18 +25,18 @@ written_typed (x ∷ xs) are =
     )
 
 -- no letters light no lamp
-pub cipher_text-nil : (key : EngineKey) → cipher_text key [] ≡ []
+pub cipher_text-nil : (key : EngineKey) → cipher_text (cipher key) [] ≡ []
 cipher_text-nil (OfWheels key) = refl
 cipher_text-nil (OfDrum key) = refl
 
 -- what lights up behind a piece lights up on the key that the piece leaves
 pub Lights-behind : CipherInTurn → (key left : EngineKey) (bytes lamps more : List ℕ) → Lights key left bytes lamps
-    → cipher_text key (bytes ++ more) ≡ lamps ++ cipher_text left more
+    → cipher_text (cipher key) (bytes ++ more) ≡ lamps ++ cipher_text (cipher left) more
 Lights-behind in_turn key left bytes lamps more lights =
     let head = typed_letters bytes in
     let tail = typed_letters more in
     ap (λ l. letters_text (cipher key l)) (typed-append bytes more)
     ∙ ap letters_text (in_turn key head tail)
     ∙ map-append (λ letter. letter + 65) (cipher key head) (cipher (key_left key (length head)) tail)
-    ∙ ap (λ l. l ++ cipher_text (key_left key (length head)) more) (sym lights.cipher)
-    ∙ ap (λ k. lamps ++ cipher_text k more) (sym lights.after)
+    ∙ ap (λ l. l ++ cipher_text (cipher (key_left key (length head))) more) (sym lights.cipher)
+    ∙ ap (λ k. lamps ++ cipher_text (cipher k) more) (sym lights.after)

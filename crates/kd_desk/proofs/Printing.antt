@@ -57,11 +57,10 @@ module _ (laws : Laws) (m : Parts) (s : Day) (is_machine : IsMachine m) (legal :
         let dated = subst (λ d. IsCard text d card.settings.items card.prices) number is_card in
         Card (record {
           settings = card.settings.items;
-          numbered = planned.prices;
-          plans = same;
           prices = card.prices;
           version = kinds.version;
           proves = record { numbered = planned.prices; expands = kinds.expands; proves = same.proves };
+          plans = same;
           leaves = leaves text card.settings.items planned.prices card.prices same dated;
           deciphers = decipher;
           text = text;

@@ -7,7 +7,7 @@ use Rattle.std.proofs.KnownBytes.{Consumes-nil, Consumes-trans, Appends-nil, App
 use Rattle.std.proofs.Transfers.{starts_with_of_append}
 use Rattle.std.specs.Io.{StartsWith}
 use Rattle.std.specs.Io.KnownBytes.{Appends, Consumes}
-use Rattle.kd_state.specs.TwoCiphers.{EngineKey}
+use Rattle.kd_state.specs.TwoCiphers.{EngineKey, cipher}
 use Rattle.kd_desk.specs.declared.typing.step.Step.{Step}
 use Rattle.kd_desk.specs.declared.typing.step.Step.TheVariants.{Typed, Refused}
 use Rattle.kd_desk.specs.declared.typing.fault.TextFault.{TextFault}
@@ -23,7 +23,7 @@ use Rattle.kd_desk.proofs.Lamps.{cipher_text-nil, Lights-behind}
 use Rattle.kd_desk.proofs.Failing.{over, answered, failed_now}
 
 -- so many bytes were read and typed, and no port failed
-pub record SoFar (key now : EngineKey) (source sink : Port) (count : ℕ) : Type 0 where
+pub record SoFar (enciphers : List ℕ → List ℕ) (now : EngineKey) (source sink : Port) (count : ℕ) : Type 0 where
   pub read : List ℕ
   pub text : List ℕ
   pub counted : length read ≡ count
@@ -31,8 +31,8 @@ pub record SoFar (key now : EngineKey) (source sink : Port) (count : ℕ) : Type
   pub given : Consumes source.had source.has read
   pub written : Appends sink.had sink.has text
   pub allowed : AreAllowedBytes read
-  pub whole : text ≡ cipher_text key read
-  pub behind : (more : List ℕ) → cipher_text key (read ++ more) ≡ text ++ cipher_text now more
+  pub whole : text ≡ cipher_text enciphers read
+  pub behind : (more : List ℕ) → cipher_text enciphers (read ++ more) ≡ text ++ cipher_text (cipher now) more
   pub well : IsWell source × IsWell sink
 
 StartsWith-behind : (read bytes front : List ℕ) → StartsWith bytes front → StartsWith (read ++ bytes) (read ++ front)
@@ -52,17 +52,17 @@ IsFirstRefused-behind read bytes n allowed refused =
           (subst (λ b. IsFalse (is_text_byte b)) (sym (get_or-append-add read bytes n 0)) (subst (λ k. IsFalse (is_text_byte (slice_index bytes k))) back refused.here));
     }
 
-TypesFront-behind : (key now : EngineKey) (read text bytes lamps : List ℕ) → AreAllowedBytes read
-    → ((more : List ℕ) → cipher_text key (read ++ more) ≡ text ++ cipher_text now more) → TypesFront now bytes lamps → TypesFront key (read ++ bytes) (text ++ lamps)
-TypesFront-behind key now read text bytes lamps allowed behind types = record {
+TypesFront-behind : (enciphers : List ℕ → List ℕ) (now : EngineKey) (read text bytes lamps : List ℕ) → AreAllowedBytes read
+    → ((more : List ℕ) → cipher_text enciphers (read ++ more) ≡ text ++ cipher_text (cipher now) more) → TypesFront (cipher now) bytes lamps → TypesFront enciphers (read ++ bytes) (text ++ lamps)
+TypesFront-behind enciphers now read text bytes lamps allowed behind types = record {
   front = read ++ types.front;
   of_read = StartsWith-behind read bytes types.front types.of_read;
   allowed = All-append (λ (byte : ℕ). IsTrue (is_text_byte byte)) read types.front allowed types.allowed;
-  written = subst (λ l. StartsWith l (text ++ lamps)) (sym (behind types.front)) (StartsWith-behind text (cipher_text now types.front) lamps types.written);
+  written = subst (λ l. StartsWith l (text ++ lamps)) (sym (behind types.front)) (StartsWith-behind text (cipher_text (cipher now) types.front) lamps types.written);
 }
 
 -- nothing was read and typed yet
-pub SoFar-nil : (key : EngineKey) (had took : Option (List ℕ)) (a d : Bool) → SoFar key key (over had had a a) (over took took d d) 0
+pub SoFar-nil : (key : EngineKey) (had took : Option (List ℕ)) (a d : Bool) → SoFar (cipher key) key (over had had a a) (over took took d d) 0
 SoFar-nil key had took a d = record {
   read = [];
   text = [];
@@ -77,10 +77,10 @@ SoFar-nil key had took a d = record {
 }
 
 -- A step behind what was read and typed, by what is known of the ports at the start, between and behind it.
-module _ (in_turn : CipherInTurn) (key now left : EngineKey) (had has next took taken wrote : Option (List ℕ)) (a b c d e f : Bool) (count room : ℕ)
-    (before : SoFar key now (over had has a b) (over took taken d e) count) (space : room ≡ read_limit - count) where
+module _ (in_turn : CipherInTurn) (enciphers : List ℕ → List ℕ) (now left : EngineKey) (had has next took taken wrote : Option (List ℕ)) (a b c d e f : Bool) (count room : ℕ)
+    (before : SoFar enciphers now (over had has a b) (over took taken d e) count) (space : room ≡ read_limit - count) where
   pub SoFar-typed : (n : ℕ) → StepTyped now left room (over has next b c) (over taken wrote e f) (Ok (Typed n)) → (c ≡ b) × (f ≡ e)
-      → SoFar key left (over had next a c) (over took wrote d f) (count + n)
+      → SoFar enciphers left (over had next a c) (over took wrote d f) (count + n)
   SoFar-typed n step well = record {
     read = before.read ++ step.read;
     text = before.text ++ step.text;
@@ -90,15 +90,15 @@ module _ (in_turn : CipherInTurn) (key now left : EngineKey) (had has next took 
     written = Appends-trans took taken wrote before.text step.text before.written step.written;
     allowed = All-append (λ (byte : ℕ). IsTrue (is_text_byte byte)) before.read step.read before.allowed step.types.2;
     whole = ap (λ l. before.text ++ l) step.types.3.cipher ∙ sym (before.behind step.read);
-    behind = λ more. ap (cipher_text key) (append_assoc before.read step.read more)
+    behind = λ more. ap (cipher_text enciphers) (append_assoc before.read step.read more)
         ∙ before.behind (step.read ++ more)
         ∙ ap (λ l. before.text ++ l) (Lights-behind in_turn now left step.read step.text more step.types.3)
-        ∙ sym (append_assoc before.text step.text (cipher_text left more));
+        ∙ sym (append_assoc before.text step.text (cipher_text (cipher left) more));
     well = (well.0 ∙ before.well.0, well.1 ∙ before.well.1);
   }
 
   pub IsTyped-refused : (n : ℕ) → StepTyped now left room (over has next b c) (over taken wrote e f) (Ok (Refused n))
-      → IsTyped key [] (over had next a c) (over took wrote d f) (Err (texts.BadByte (count + n + 1)))
+      → IsTyped enciphers [] (over had next a c) (over took wrote d f) (Err (texts.BadByte (count + n + 1)))
   IsTyped-refused n step =
       let refused = IsFirstRefused-behind before.read step.read n before.allowed step.types.0 in
       let place : length before.read + n + 1 ≡ count + n + 1 = omega (arith, before.counted) in
@@ -112,13 +112,13 @@ module _ (in_turn : CipherInTurn) (key now left : EngineKey) (had has next took 
           subst (IsFirstRefused (before.read ++ step.read)) place refused,
           omega (arith, length-append before.read step.read, before.counted, before.within, step.within, space),
           ap (λ l. before.text ++ l) step.types.1 ∙ sym (before.behind (take n step.read))
-              ∙ ap (cipher_text key) (sym (take-append-add before.read step.read n)) ∙ ap (λ k. cipher_text key (take k (before.read ++ step.read))) (sym there),
+              ∙ ap (cipher_text enciphers) (sym (take-append-add before.read step.read n)) ∙ ap (λ k. cipher_text enciphers (take k (before.read ++ step.read))) (sym there),
         );
         ended = tt;
       }
 
   pub IsTyped-failed : (device : Device) → StepTyped now left room (over has next b c) (over taken wrote e f) (Err device)
-      → IsTyped key [] (over had next a c) (over took wrote d f) (Err texts.Device)
+      → IsTyped enciphers [] (over had next a c) (over took wrote d f) (Err texts.Device)
   IsTyped-failed device step = record {
     read = before.read ++ step.read;
     text = before.text ++ step.text;
@@ -130,11 +130,11 @@ module _ (in_turn : CipherInTurn) (key now left : EngineKey) (had has next took 
         | inl none ↦ inl (record {
           fails = record { failed = none.0.failed; well = none.0.well ∙ before.well.1 };
           allowed = subst (λ l. AreAllowedBytes (before.read ++ l)) (sym none.1) (subst AreAllowedBytes (sym (append-nil before.read)) before.allowed);
-          written = ap (λ l. before.text ++ l) none.2 ∙ append-nil before.text ∙ before.whole ∙ ap (cipher_text key) (sym (append-nil before.read) ∙ ap (λ l. before.read ++ l) (sym none.1));
+          written = ap (λ l. before.text ++ l) none.2 ∙ append-nil before.text ∙ before.whole ∙ ap (cipher_text enciphers) (sym (append-nil before.read) ∙ ap (λ l. before.read ++ l) (sym none.1));
         })
         | inr part ↦ inr (record {
           fails = record { failed = part.fails.failed; well = part.fails.well ∙ before.well.0 };
-          front = TypesFront-behind key now before.read before.text step.read step.text before.allowed before.behind part.front;
+          front = TypesFront-behind enciphers now before.read before.text step.read step.text before.allowed before.behind part.front;
         })
       ],
     );
@@ -142,9 +142,9 @@ module _ (in_turn : CipherInTurn) (key now left : EngineKey) (had has next took 
   }
 
 -- As much as may be read was read, and one byte more was asked for.
-module _ (key now : EngineKey) (had has next took taken : Option (List ℕ)) (a b c d e : Bool) (count : ℕ)
-    (before : SoFar key now (over had has a b) (over took taken d e) count) (full : count ≡ read_limit) where
-  pub IsTyped-too_long : (end : Bool) → end ≡ false → Ends has next (Ok end) → IsTyped key [] (over had next a c) (over took taken d e) (Err texts.ReadTooLong)
+module _ (enciphers : List ℕ → List ℕ) (now : EngineKey) (had has next took taken : Option (List ℕ)) (a b c d e : Bool) (count : ℕ)
+    (before : SoFar enciphers now (over had has a b) (over took taken d e) count) (full : count ≡ read_limit) where
+  pub IsTyped-too_long : (end : Bool) → end ≡ false → Ends has next (Ok end) → IsTyped enciphers [] (over had next a c) (over took taken d e) (Err texts.ReadTooLong)
   IsTyped-too_long end more met =
       let ends = subst (λ b. Ends has next (Ok b)) more met in
       let front : take read_limit (before.read ++ ends.0 ∷ []) ≡ before.read =
@@ -157,7 +157,7 @@ module _ (key now : EngineKey) (had has next took taken : Option (List ℕ)) (a 
         types = (
           omega (arith, length-append before.read (ends.0 ∷ []), before.counted, full),
           subst AreAllowedBytes (sym front) before.allowed,
-          before.whole ∙ ap (cipher_text key) (sym front),
+          before.whole ∙ ap (cipher_text enciphers) (sym front),
         );
         ended = tt;
       }
@@ -167,14 +167,14 @@ pub step_is : (now left : EngineKey) (room : ℕ) (source sink : Port) (step oth
 step_is now left room source sink step other e typed = subst (λ s. StepTyped now left room source sink (Ok s)) e typed
 
 -- what ends a text failed to be written
-pub IsTyped-end_failed : (key : EngineKey) (end : ℕ) (source : Port) (took taken wrote : Option (List ℕ)) (d e f : Bool)
-    → IsTyped key [] source (over took taken d e) (Ok tt) → IsWell source → TakesFront taken wrote (end ∷ []) → f ≡ (e || true)
-    → IsTyped key (end ∷ []) source (over took wrote d f) (Err texts.Device)
-IsTyped-end_failed key end source took taken wrote d e f typed well failed up =
+pub IsTyped-end_failed : (enciphers : List ℕ → List ℕ) (end : ℕ) (source : Port) (took taken wrote : Option (List ℕ)) (d e f : Bool)
+    → IsTyped enciphers [] source (over took taken d e) (Ok tt) → IsWell source → TakesFront taken wrote (end ∷ []) → f ≡ (e || true)
+    → IsTyped enciphers (end ∷ []) source (over took wrote d f) (Err texts.Device)
+IsTyped-end_failed enciphers end source took taken wrote d e f typed well failed up =
     let front = take failed.0 (end ∷ []) in
     let zero : failed.0 ≡ 0 = omega (arith, failed.1) in
     let none : front ≡ [] = ap (λ k. take k (end ∷ [])) zero in
-    let whole : typed.text ++ front ≡ cipher_text key typed.read = ap (λ l. typed.text ++ l) none ∙ append-nil typed.text ∙ typed.types.2 ∙ append-nil (cipher_text key typed.read) in
+    let whole : typed.text ++ front ≡ cipher_text enciphers typed.read = ap (λ l. typed.text ++ l) none ∙ append-nil typed.text ∙ typed.types.2 ∙ append-nil (cipher_text enciphers typed.read) in
     record {
       read = typed.read;
       text = typed.text ++ front;
@@ -188,7 +188,7 @@ IsTyped-end_failed key end source took taken wrote d e f typed well failed up =
             front = typed.read;
             of_read = starts_with_of_append typed.read typed.read [] (sym (append-nil typed.read));
             allowed = typed.types.1;
-            written = starts_with_of_append (cipher_text key typed.read) (typed.text ++ front) [] (sym whole ∙ sym (append-nil (typed.text ++ front)));
+            written = starts_with_of_append (cipher_text enciphers typed.read) (typed.text ++ front) [] (sym whole ∙ sym (append-nil (typed.text ++ front)));
           };
         }),
       );
@@ -196,9 +196,9 @@ IsTyped-end_failed key end source took taken wrote d e f typed well failed up =
     }
 
 -- the error that `?` makes
-pub IsTyped-answered : (key : EngineKey) (end : List ℕ) (source sink : Port) (answer : Result (Unit {0}) TextFault) (fault : TextFault)
-    → IsErrAnd answer (λ made. made ≡ fault) → IsTyped key end source sink (Err fault) → IsTyped key end source sink answer
-IsTyped-answered key end source sink answer fault made typed = answered answer fault (λ a. IsTyped key end source sink a) made typed
+pub IsTyped-answered : (enciphers : List ℕ → List ℕ) (end : List ℕ) (source sink : Port) (answer : Result (Unit {0}) TextFault) (fault : TextFault)
+    → IsErrAnd answer (λ made. made ≡ fault) → IsTyped enciphers end source sink (Err fault) → IsTyped enciphers end source sink answer
+IsTyped-answered enciphers end source sink answer fault made typed = answered answer fault (λ a. IsTyped enciphers end source sink a) made typed
 
 pub StepTyped-answered : (key left : EngineKey) (room : ℕ) (source sink : Port) (answer : Result Step Device) (fault : Device)
     → IsErrAnd answer (λ made. made ≡ fault) → StepTyped key left room source sink (Err fault) → StepTyped key left room source sink answer

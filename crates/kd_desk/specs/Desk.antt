@@ -4,7 +4,7 @@ use Rattle.kd_sheet.specs.declared.fault.SheetFault.TheVariants.{NoMemory}
 use Rattle.kd_sheet.specs.MachineFile.{machine_of}
 use Rattle.kd_state.specs.declared.machine.parts.Parts.{Parts}
 use Rattle.kd_state.specs.SheetDay.{Day}
-use Rattle.kd_state.specs.TwoCiphers.{IsReady, physical_key}
+use Rattle.kd_state.specs.TwoCiphers.{IsReady, physical_cipher}
 use Rattle.kd_desk.specs.CommandLine.{Named, NamedAction, NamedTask, with_opened, with_task_opened, opened_by, task_opened}
 use Rattle.kd_desk.specs.declared.command.Command.{Command}
 use Rattle.kd_desk.specs.declared.command.Action.{Action}
@@ -72,7 +72,7 @@ pub record AskFor (names old new : List (List ℕ)) (all : Bool) : Type 0 where
 pub record TypesOn (machine : List ℕ) (source sink : Port) (answer : Result (Unit {0}) DeskFault) : Type 0 where
   pub refused : IfErr (machine_of machine) (λ fault. AnswersFault answer (File fault))
   pub not_ready : IfOk (machine_of machine) (λ m. ¬ IsReady m → AnswersFault answer NotReady)
-  pub typed : IfOk (machine_of machine) (λ m. IsReady m → TypesLine (physical_key m) source sink answer ⊎ LacksMemory answer)
+  pub typed : IfOk (machine_of machine) (λ m. IsReady m → TypesLine (physical_cipher m) source sink answer ⊎ LacksMemory answer)
 
 -- settings were carried out on the machine of a machine file, or the call was refused for the file
 pub record AppliesTo (machine list : List ℕ) (sink : Port) (answer : Result (Unit {0}) DeskFault) : Type 0 where

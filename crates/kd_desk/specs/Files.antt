@@ -1,8 +1,9 @@
 -- What is read of a file, and what is known of one that is opened.
-use Rattle.std.specs.Prelude.{◌≡◌, ◌⊎◌, ℕ, nat_le, Bool, false, List, length, Option, Some, None, Result, Ok, Err, find, bytes_eq, option_map, if◌then◌else◌}
+use Rattle.std.specs.Prelude.{◌≡◌, ◌⊎◌, ℕ, ◌+◌, ◌≤◌, nat_le, Bool, false, IsTrue, List, length, Option, Some, None, Result, Ok, Err, find, bytes_eq, option_map, if◌then◌else◌}
 use Rattle.std.specs.Result.{result_map_both}
 use Rattle.std.specs.Borrow.{Bor}
-use Rattle.kd_tables.specs.Ports.{read_limit}
+use Rattle.std.specs.Io.KnownBytes.{Consumes, IsAtEnd}
+use Rattle.kd_tables.specs.Ports.{read_limit, Port, IsWell}
 use Rattle.kd_desk.specs.declared.files.fault.FileFault.{FileFault}
 use Rattle.kd_desk.specs.declared.files.fault.FileFault.TheVariants.{NoMemory, Device, ReadTooLong}
 
@@ -32,13 +33,22 @@ held_in files name = option_map (λ file. file.1.now) (find (λ file. bytes_eq f
 abbrev pub Gives : {X : Type 0} → Result X FileFault → Result X FileFault → Type 0
 Gives meant answer = (answer ≡ meant) ⊎ (answer ≡ Err NoMemory)
 
--- a read failed, or memory ran out as the file was read
-abbrev pub HasFailed : {X : Type 0} → Result X FileFault → Type 0
-HasFailed answer = (answer ≡ Err Device) ⊎ (answer ≡ Err NoMemory)
-
 -- the same, by what is known of an opened file that is answered, or of the one that the answer holds
 abbrev pub IsOpening : {O : Type 0} → Result Opened FileFault → (O → Opened) → Result O FileFault → Type 0
 IsOpening meant known answer = result_map_both known (λ fault. fault) answer ≡ meant
 
 abbrev pub IsReading : {X Y : Type 0} → Result Y FileFault → (X → Y) → Result X FileFault → Type 0
 IsReading meant known answer = Gives meant (result_map_both known (λ fault. fault) answer)
+
+-- What was read of a source, by the answer: all that it had; or one byte more than a file may have; or what came before a
+-- read failed, or memory ran out.
+abbrev pub IsReadAs : Port → List ℕ → Result (List ℕ) FileFault → Type 0
+IsReadAs source read (Ok bytes) = (bytes ≡ read) × (length read ≤ read_limit) × IsAtEnd source.has × IsWell source
+IsReadAs source read (Err ReadTooLong) = (length read ≡ read_limit + 1) × IsWell source
+IsReadAs source read (Err Device) = IsTrue source.has_failed
+IsReadAs source read (Err NoMemory) = IsWell source
+
+pub record IsReadWhole (source : Port) (answer : Result (List ℕ) FileFault) : Type 0 where
+  pub read : List ℕ
+  pub given : Consumes source.had source.has read
+  pub is : IsReadAs source read answer

@@ -16,17 +16,16 @@ use Rattle.kd_desk.specs.Headline.{LeavesTheSheetsMachine, EquallySetDecipher}
 use Rattle.kd_tables.specs.Ports.{Port}
 use Rattle.kd_desk.specs.Ports.{WritesText}
 
--- The text of a card for the day of that number was written, or a prefix of it where the device failed. The card is a
--- planned one, with a price for each kind; what these prices mean proves it, and no settings whatever that reach the day
--- are fewer. Its settings, carried out, leave a machine that is ready and enciphers as the day's own; and what a machine on
--- the day's key enciphers an equally set one deciphers.
+-- The text of a card for the day of that number was written, or a prefix of it where the device failed. The card has a price
+-- for each kind; the prices by number that these mean prove it, and with them it is a planned one: no settings whatever that
+-- reach the day are fewer. Its settings, carried out, leave a machine that is ready and enciphers as the day's own; and what a
+-- machine on the day's key enciphers an equally set one deciphers.
 pub record WritesCard (m : Parts) (s : Day) (number : ℕ) (sink : Port) (answer : Result (Unit {0}) DeskFault) : Type 0 where
   pub settings : List Setting
-  pub numbered : PriceParts
-  pub plans : Plans m s settings numbered
   pub prices : PriceParts
   pub version : version_of prices ≡ ByKind
   pub proves : Proves m s settings prices
+  pub plans : Plans m s settings proves.numbered
   pub leaves : LeavesTheSheetsMachine m s settings
   pub deciphers : EquallySetDecipher s
   pub text : List ℕ

@@ -1,7 +1,7 @@
 -- What the steps do in which a text is typed. The contract of the whole does not speak of them.
 use Rattle.std.specs.Prelude.{◌≡◌, ◌⊎◌, ℕ, ◌+◌, ◌<◌, ◌≤◌, List, length, take, slice_index, [], IsFalse, Result, Ok, Err}
 use Rattle.std.specs.Io.KnownBytes.{Appends, Consumes, IsAtEnd}
-use Rattle.kd_state.specs.TwoCiphers.{EngineKey}
+use Rattle.kd_state.specs.TwoCiphers.{EngineKey, cipher}
 use Rattle.kd_tables.specs.declared.writing.Device.{Device}
 use Rattle.kd_tables.specs.Ports.{Port, FailsAlone}
 use Rattle.kd_tables.specs.Text.{is_text_byte}
@@ -14,8 +14,8 @@ use Rattle.kd_desk.specs.declared.typing.step.Step.TheVariants.{Ended, Typed, Re
 abbrev pub StepTypes : EngineKey → EngineKey → Port → Port → List ℕ → List ℕ → Result Step Device → Type 0
 StepTypes key left source sink bytes text (Ok Ended) = (bytes ≡ []) × (text ≡ [])
 StepTypes key left source sink bytes text (Ok (Typed count)) = (count ≡ length bytes) × (0 < count) × AreAllowedBytes bytes × Lights key left bytes text
-StepTypes key left source sink bytes text (Ok (Refused front)) = IsFirstRefused bytes (front + 1) × (text ≡ cipher_text key (take front bytes))
-StepTypes key left source sink bytes text (Err _) = (FailsAlone source sink × (bytes ≡ []) × (text ≡ [])) ⊎ TypesPart key source sink bytes text
+StepTypes key left source sink bytes text (Ok (Refused front)) = IsFirstRefused bytes (front + 1) × (text ≡ cipher_text (cipher key) (take front bytes))
+StepTypes key left source sink bytes text (Err _) = (FailsAlone source sink × (bytes ≡ []) × (text ≡ [])) ⊎ TypesPart (cipher key) source sink bytes text
 
 -- The same of the bytes that a source had and has yet to give, and that a sink had taken and has taken: a source that
 -- gave none has none left.

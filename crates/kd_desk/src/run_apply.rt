@@ -17,8 +17,8 @@ use std::alloc::Global;
 /// the file of the machine that stands then.
 ///
 /// The machine file's faults come first, then those of the list or of the card, then the first line that the machine
-/// refuses, and nothing is written where the call is refused for these. Of a card neither the day nor the prices are
-/// looked at. After `Device` a prefix of the file was written.
+/// refuses, and nothing is written where the call is refused for these. A card may be of any day, and have any prices.
+/// After `Device` a prefix of the file was written.
 pub fn run_apply<W: Sink>(
     alloc: Global,
     machine: &[u8],

@@ -1,7 +1,7 @@
 ghost use Rattle.std.specs.Prelude.{◌≡◌, ◌⊎◌, IfOk, IfErr, IsTrue};
 ghost use Rattle.kd_desk.specs.declared.fault.DeskFault.TheVariants as faults;
 ghost use Rattle.kd_sheet.specs.MachineFile.{machine_of};
-ghost use Rattle.kd_state.specs.TwoCiphers.{IsReady, physical_key};
+ghost use Rattle.kd_state.specs.TwoCiphers.{IsReady, physical_cipher};
 ghost use Rattle.kd_tables.specs.Ports.{Fail, port};
 ghost use Rattle.kd_desk.specs.Typing.{TypesLine};
 ghost use Rattle.kd_desk.specs.RunSteps.{LacksMemory, AnswersFault, is_device, is_refused_before};
@@ -9,6 +9,7 @@ ghost use Rattle.kd_desk.specs.RunSteps.{LacksMemory, AnswersFault, is_device, i
 use crate::fault::DeskFault;
 use crate::typing::type_line;
 use kd_sheet::read_machine;
+use kd_state::laws;
 use kd_tables::{Sink, Source};
 use std::alloc::Global;
 
@@ -30,7 +31,7 @@ pub fn run_type<R: Source, W: Sink>(
         (λ fault. AnswersFault result (faults.File fault)) }
     ensures not_ready { IfOk (machine_of machine.now) (λ m. ¬ IsReady m
         → AnswersFault result faults.NotReady) }
-    ensures typed { IfOk (machine_of machine.now) (λ m. IsReady m → TypesLine (physical_key m)
+    ensures typed { IfOk (machine_of machine.now) (λ m. IsReady m → TypesLine (physical_cipher m)
         (port R.remaining R.has_failed source.old source.new)
         (port W.taken W.has_failed sink.old sink.new) result ⊎ LacksMemory result) }
     ensures untouched { IsTrue (is_refused_before result)
@@ -38,6 +39,7 @@ pub fn run_type<R: Source, W: Sink>(
     ensures failed { Fail (port R.remaining R.has_failed source.old source.new)
         (port W.taken W.has_failed sink.old sink.new) (is_device result) }
 {
+    laws::engines_encipher_as_their_machines();
     let machine = read_machine(alloc, machine)?;
     let mut engine = machine.engine()?;
     type_line(&mut engine, source, sink)?;

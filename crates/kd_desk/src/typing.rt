@@ -1,5 +1,6 @@
 //! Typing a text on a machine.
 ghost use Rattle.std.specs.Prelude.{[], ◌∷◌};
+ghost use Rattle.kd_state.specs.TwoCiphers.{cipher};
 ghost use Rattle.kd_tables.specs.Ports.{Fail, port};
 ghost use Rattle.kd_desk.specs.Typing.{IsTyped, fails_in_text};
 
@@ -18,7 +19,7 @@ pub fn type_line<R: Source, W: Sink>(
     source: &mut R,
     sink: &mut W,
 ) -> Result<(), TextFault>
-    ensures typed { IsTyped engine.old (10 ∷ []) (port R.remaining R.has_failed source.old source.new)
+    ensures typed { IsTyped (cipher engine.old) (10 ∷ []) (port R.remaining R.has_failed source.old source.new)
         (port W.taken W.has_failed sink.old sink.new) result }
     ensures failed { Fail (port R.remaining R.has_failed source.old source.new)
         (port W.taken W.has_failed sink.old sink.new) (fails_in_text result) }
@@ -34,7 +35,7 @@ fn type_text<R: Source, W: Sink>(
     source: &mut R,
     sink: &mut W,
 ) -> Result<(), TextFault>
-    ensures typed { IsTyped engine.old [] (port R.remaining R.has_failed source.old source.new)
+    ensures typed { IsTyped (cipher engine.old) [] (port R.remaining R.has_failed source.old source.new)
         (port W.taken W.has_failed sink.old sink.new) result }
     ensures failed { Fail (port R.remaining R.has_failed source.old source.new)
         (port W.taken W.has_failed sink.old sink.new) (fails_in_text result) }

@@ -1,43 +1,79 @@
-use crate::samples::{FORM, MESSAGES, OFF_KEY, ORDER, SHEET, TEXT, UNREADY};
+ghost use Rattle.std.specs.Prelude.{◌≡◌, []};
+
+use crate::samples::{DAYS, FORM, MACHINE, ORDER, SHEET, TEXT, UNREADY};
 use kd_card::IllegalAt;
 use kd_desk::Stop::{self, ReadFailed, Refused, Unread, Usage};
 use kd_desk::{Content, DeskFault, Exit, FileFault, Files, MemoryFiles, run_desk};
 use kd_form::FormFault;
 use kd_sheet::SheetFault::NotToml;
 use kd_state::Why;
-use kd_tables::{MemorySink, MemorySource, Sink, Source};
-use kd_trials::texts::{EMPTY_KINDS, M1, M1_WRITTEN, NO_SETTINGS};
+use kd_tables::{MemorySink, MemorySource, Sink};
+use kd_trials::texts::{EMPTY_KINDS, M1, M1_WRITTEN, M209, NO_SETTINGS};
 use std::alloc::{AllocError, Global};
 use std::process::Abort;
 use std::test::Fail;
 
-/// What a run answered, and the source and the sink that it had.
+/// What a run answered, and the sink that it wrote to.
 #[derive(Drop)]
-struct Ran<'a> {
+struct Ran {
     answer: Result<(), Stop>,
-    source: MemorySource<'a>,
     sink: MemorySink<512>,
 }
+
+impl Ran {
+    /// This was answered, and these bytes were written.
+    fn ended(&self, rt: &impl Abort, answer: Result<(), Stop>, written: &str) {
+        assert_eq!(rt; self.answer, answer);
+        assert_eq!(rt; self.sink.taken(), written.as_bytes());
+    }
+}
+
+/// What becomes of the words with these files and this standard input, with so much room on the output.
+fn run<'n, F: Files<'n>>(
+    alloc: Global,
+    words: &'n [&'n str],
+    files: &mut F,
+    input: &str,
+    room: usize,
+) -> Ran
+    requires { F.asked files.old ≡ [] }
+{
+    let mut source = MemorySource::new(input.as_bytes(), 5, None);
+    let mut sink = MemorySink::new(room.min(512));
+    let answer = run_desk(alloc, words, files, &mut source, &mut sink);
+    Ran { answer, sink }
+}
+
+/// The files that the words name: each name, and its text.
+static HELD: [(&str, &str); 10] = [
+    ("m", M1),
+    ("s", SHEET),
+    ("l", "RING I B\nTURN 1 B\n"),
+    ("c", NO_SETTINGS),
+    ("o", ORDER),
+    ("f", FORM),
+    ("t", "TURN 4 B\n"),
+    ("bad", "x ="),
+    ("empty", UNREADY),
+    ("off", M209),
+];
 
 /// The name of a file, and its bytes.
 type Held<'a> = (&'a str, &'a [u8]);
 
-/// What becomes of the words with these files.
-fn run<'a>(
-    alloc: Global,
-    words: &'a [&'a str],
-    files: &'a [Held<'a>],
-    mut source: MemorySource<'a>,
-    room: usize,
-) -> Ran<'a> {
-    let mut files = MemoryFiles::new(files);
-    let mut sink = MemorySink::new(room.min(512));
-    let answer = run_desk(alloc, words, &mut files, &mut source, &mut sink);
-    Ran {
-        answer,
-        source,
-        sink,
-    }
+/// These files.
+fn files() -> [Held<'static>; 10] {
+    HELD.map(|(name, text)| (name, text.as_bytes()))
+}
+
+/// Some of them, and one with these bytes.
+fn with_long(long: &[u8]) -> [Held<'_>; 4] {
+    [
+        ("m", MACHINE.as_bytes()),
+        ("s", DAYS.as_bytes()),
+        ("bad", b"x ="),
+        ("long", long),
+    ]
 }
 
 /// The machine that the list leads to.
@@ -50,187 +86,124 @@ letters = \"BAAAA\"
 cables = [\"\", \"\", \"\", \"\", \"\", \"\", \"\", \"\", \"\", \"\", \"\", \"\", \"\"]
 ";
 
-/// The files that the words name.
-fn files() -> [Held<'static>; 9] {
-    [
-        ("l.txt", b"RING I B\nTURN 1 B\n"),
-        ("m.toml", M1.as_bytes()),
-        ("s.toml", SHEET.as_bytes()),
-        ("c.txt", NO_SETTINGS.as_bytes()),
-        ("d.toml", MESSAGES.as_bytes()),
-        ("o.txt", ORDER.as_bytes()),
-        ("f.txt", FORM.as_bytes()),
-        ("bad", b"x ="),
-        ("t.txt", b"TURN 4 B\n"),
-    ]
-}
+/// Why the program stops: a file that isn't there, that is too long, or that is no TOML document.
+const MISSING: Stop = Unread(FileFault::Device);
+
+const TOO_LONG: Stop = Unread(FileFault::ReadTooLong);
+
+const NO_TOML: Stop = Refused(DeskFault::File(NotToml));
+
+const ILLEGAL: Stop = Refused(DeskFault::Illegal(IllegalAt {
+    line: 1,
+    why: Why::SlotEmpty,
+}));
 
 /// The program's words, and what is written.
 static DONE: [(&[&str], &str); 7] = [
-    (&["desk", "type", "m.toml"], "BDZGO\n"),
-    (&["desk", "apply", "m.toml", "c.txt"], M1_WRITTEN),
-    (&["desk", "apply", "m.toml", "l.txt"], TURNED),
-    (&["desk", "card", "m.toml", "s.toml", "11"], EMPTY_KINDS),
-    (
-        &["desk", "check", "m.toml", "s.toml", "11", "c.txt"],
-        "SHORTEST 0\n",
-    ),
-    (&["desk", "send", "m.toml", "d.toml", "17", "o.txt"], FORM),
-    (
-        &["desk", "receive", "m.toml", "d.toml", "17", "f.txt"],
-        TEXT,
-    ),
+    (&["desk", "type", "m"], "BDZGO\n"),
+    (&["desk", "apply", "m", "c"], M1_WRITTEN),
+    (&["desk", "apply", "m", "l"], TURNED),
+    (&["desk", "card", "m", "s", "11"], EMPTY_KINDS),
+    (&["desk", "check", "m", "s", "11", "c"], "SHORTEST 0\n"),
+    (&["desk", "send", "m", "s", "17", "o"], FORM),
+    (&["desk", "receive", "m", "s", "17", "f"], TEXT),
 ];
 
-/// The program's words, and why it stops.
-type Case = (&'static [&'static str], Stop);
+#[test]
+fn carries_each_command_out(rt: HostRuntime) {
+    let files = files();
+    for (words, written) in &DONE {
+        let mut files = MemoryFiles::new(&files);
+        run(rt.alloc(), words, &mut files, "AAAAA", 512).ended(&rt, Ok(()), written);
+    }
+}
 
-static STOPPED: [Case; 8] = [
+/// The program's words, and why it stops.
+type Stopped = (&'static [&'static str], Stop);
+
+static STOPPED: [Stopped; 22] = [
     (&["desk"], Usage),
     (&["desk", "apply", "none"], Usage),
-    (&["desk", "send", "none", "l.txt"], Usage),
-    (&["desk", "type", "bad"], Refused(DeskFault::File(NotToml))),
+    (&["desk", "send", "none", "l"], Usage),
+    (&["desk", "type", "bad"], NO_TOML),
+    (&["desk", "apply", "bad", "l"], NO_TOML),
+    (&["desk", "apply", "m", "t"], ILLEGAL),
     (
-        &["desk", "apply", "bad", "l.txt"],
-        Refused(DeskFault::File(NotToml)),
-    ),
-    (
-        &["desk", "apply", "m.toml", "t.txt"],
-        Refused(DeskFault::Illegal(IllegalAt {
-            line: 1,
-            why: Why::SlotEmpty,
-        })),
-    ),
-    (
-        &["desk", "card", "m.toml", "s.toml", "5"],
+        &["desk", "card", "m", "s", "5"],
         Refused(DeskFault::NoSuchDay),
     ),
     (
-        &["desk", "check", "m.toml", "s.toml", "8", "c.txt"],
+        &["desk", "check", "m", "s", "8", "c"],
         Refused(DeskFault::OtherDay),
     ),
+    (&["desk", "type", "none"], MISSING),
+    (&["desk", "apply", "none", "l"], MISSING),
+    (&["desk", "apply", "m", "none"], MISSING),
+    (&["desk", "card", "none", "s", "11"], MISSING),
+    (&["desk", "card", "m", "none", "11"], MISSING),
+    (&["desk", "check", "none", "s", "11", "c"], MISSING),
+    (&["desk", "check", "m", "none", "11", "c"], MISSING),
+    (&["desk", "check", "m", "s", "11", "none"], MISSING),
+    (&["desk", "send", "none", "s", "17", "o"], MISSING),
+    (&["desk", "send", "m", "none", "17", "o"], MISSING),
+    (&["desk", "send", "m", "s", "17", "none"], MISSING),
+    (&["desk", "receive", "none", "s", "17", "f"], MISSING),
+    (&["desk", "receive", "m", "none", "17", "f"], MISSING),
+    (&["desk", "receive", "m", "s", "17", "none"], MISSING),
 ];
 
-/// Each of the files missing, for each command.
-static MISSING: [Case; 14] = [
-    (&["desk", "type", "none"], Unread(FileFault::Device)),
-    (
-        &["desk", "apply", "none", "l.txt"],
-        Unread(FileFault::Device),
-    ),
-    (
-        &["desk", "apply", "m.toml", "none"],
-        Unread(FileFault::Device),
-    ),
-    (
-        &["desk", "card", "none", "s.toml", "11"],
-        Unread(FileFault::Device),
-    ),
-    (
-        &["desk", "card", "m.toml", "none", "11"],
-        Unread(FileFault::Device),
-    ),
-    (
-        &["desk", "check", "none", "s.toml", "11", "c.txt"],
-        Unread(FileFault::Device),
-    ),
-    (
-        &["desk", "check", "m.toml", "none", "11", "c.txt"],
-        Unread(FileFault::Device),
-    ),
-    (
-        &["desk", "check", "m.toml", "s.toml", "11", "none"],
-        Unread(FileFault::Device),
-    ),
-    (
-        &["desk", "send", "none", "d.toml", "17", "o.txt"],
-        Unread(FileFault::Device),
-    ),
-    (
-        &["desk", "send", "m.toml", "none", "17", "o.txt"],
-        Unread(FileFault::Device),
-    ),
-    (
-        &["desk", "send", "m.toml", "d.toml", "17", "none"],
-        Unread(FileFault::Device),
-    ),
-    (
-        &["desk", "receive", "none", "d.toml", "17", "f.txt"],
-        Unread(FileFault::Device),
-    ),
-    (
-        &["desk", "receive", "m.toml", "none", "17", "f.txt"],
-        Unread(FileFault::Device),
-    ),
-    (
-        &["desk", "receive", "m.toml", "d.toml", "17", "none"],
-        Unread(FileFault::Device),
-    ),
+/// Where one file has a byte too much. An order is opened with the other files, and not read then.
+static LONG: [Stopped; 6] = [
+    (&["desk", "type", "long"], TOO_LONG),
+    (&["desk", "apply", "none", "long"], MISSING),
+    (&["desk", "apply", "bad", "long"], TOO_LONG),
+    (&["desk", "check", "bad", "long", "1", "none"], TOO_LONG),
+    (&["desk", "send", "bad", "bad", "1", "none"], MISSING),
+    (&["desk", "send", "bad", "bad", "1", "long"], NO_TOML),
 ];
 
-/// Where one file has a byte too much, and another one isn't there. An order is opened with the others, and not read then.
-static TOO_LONG: [Case; 6] = [
-    (&["desk", "type", "long"], Unread(FileFault::ReadTooLong)),
-    (
-        &["desk", "apply", "none", "long"],
-        Unread(FileFault::Device),
-    ),
-    (
-        &["desk", "apply", "bad", "long"],
-        Unread(FileFault::ReadTooLong),
-    ),
-    (
-        &["desk", "check", "bad", "long", "1", "none"],
-        Unread(FileFault::ReadTooLong),
-    ),
-    (
-        &["desk", "send", "bad", "bad", "1", "none"],
-        Unread(FileFault::Device),
-    ),
-    (
-        &["desk", "send", "bad", "bad", "1", "long"],
-        Refused(DeskFault::File(NotToml)),
-    ),
-];
+/// Each of the words stop the program, and nothing is written.
+fn are_stopped<'a>(rt: &impl Abort, alloc: Global, files: &'a [Held<'a>], cases: &'a [Stopped]) {
+    for (words, stop) in cases {
+        let mut files = MemoryFiles::new(files);
+        run(alloc, words, &mut files, "AAAAA", 512).ended(rt, Err(*stop), "");
+    }
+}
+
+#[test]
+fn stops_before_it_writes(rt: HostRuntime) -> Result<(), AllocError> {
+    let long = vec![in rt.alloc(); b' '; 1_048_577]?;
+    are_stopped(&rt, rt.alloc(), &files(), &STOPPED);
+    are_stopped(&rt, rt.alloc(), &with_long(long.as_slice()), &LONG);
+    Ok(())
+}
 
 /// Why an order or a form that can't be read stops the program: behind the faults of the machine file and the sheet, of the
 /// day, and of the machine.
-static CUT_OFF: [Case; 10] = [
+static CUT_OFF: [Stopped; 10] = [
+    (&["desk", "send", "bad", "bad", "5", "f"], NO_TOML),
+    (&["desk", "send", "empty", "bad", "5", "f"], NO_TOML),
     (
-        &["desk", "send", "bad", "bad", "5", "f"],
-        Refused(DeskFault::File(NotToml)),
-    ),
-    (
-        &["desk", "send", "empty", "bad", "5", "f"],
-        Refused(DeskFault::File(NotToml)),
-    ),
-    (
-        &["desk", "send", "empty", "d.toml", "5", "f"],
+        &["desk", "send", "empty", "s", "5", "f"],
         Refused(DeskFault::NoSuchDay),
     ),
     (
-        &["desk", "send", "empty", "d.toml", "17", "f"],
+        &["desk", "send", "empty", "s", "17", "f"],
         Refused(DeskFault::Message(FormFault::NotReady)),
     ),
     (
-        &["desk", "receive", "off", "d.toml", "17", "f"],
+        &["desk", "receive", "off", "s", "17", "f"],
         Refused(DeskFault::Message(FormFault::NotOnKey)),
     ),
-    (&["desk", "send", "m.toml", "d.toml", "17", "f"], ReadFailed),
+    (&["desk", "send", "m", "s", "17", "f"], ReadFailed),
+    (&["desk", "receive", "m", "s", "17", "f"], ReadFailed),
     (
-        &["desk", "receive", "m.toml", "d.toml", "17", "f"],
-        ReadFailed,
-    ),
-    (
-        &["desk", "receive", "empty", "d.toml", "5", "f"],
+        &["desk", "receive", "empty", "s", "5", "f"],
         Refused(DeskFault::NoSuchDay),
     ),
+    (&["desk", "receive", "m", "s", "17", "none"], MISSING),
     (
-        &["desk", "receive", "m.toml", "d.toml", "17", "none"],
-        Unread(FileFault::Device),
-    ),
-    (
-        &["desk", "check", "m.toml", "d.toml", "5", "f"],
+        &["desk", "check", "m", "s", "5", "f"],
         Refused(DeskFault::NoSuchDay),
     ),
 ];
@@ -256,96 +229,42 @@ impl<'n> Files<'n> for CutOff<'n> {
     }
 }
 
-/// Each of the words stop the program, and nothing is read or written.
-fn are_stopped<'a>(rt: &impl Abort, alloc: Global, files: &'a [Held<'a>], cases: &'a [Case]) {
-    for (words, stop) in cases {
-        let ran = run(alloc, words, files, MemorySource::new(b"a", 1, Some(0)), 0);
-        assert_eq!(rt; ran.answer, Err(*stop));
-        assert!(rt; !ran.source.failed());
-        assert!(rt; !ran.sink.failed());
-    }
-}
-
-#[test]
-fn carries_each_command_out(rt: HostRuntime) {
-    let files = files();
-    for (words, written) in &DONE {
-        let source = MemorySource::new(b"AAAAA", 5, None);
-        let ran = run(rt.alloc(), words, &files, source, 512);
-        assert_eq!(rt; ran.answer, Ok(()));
-        assert_eq!(rt; ran.sink.taken(), written.as_bytes());
-    }
-}
-
-#[test]
-fn stops_before_it_reads_or_writes(rt: HostRuntime) {
-    are_stopped(&rt, rt.alloc(), &files(), &STOPPED);
-}
-
-#[test]
-fn stops_where_a_file_is_missing(rt: HostRuntime) {
-    are_stopped(&rt, rt.alloc(), &files(), &MISSING);
-}
-
-#[test]
-fn stops_where_a_file_is_too_long(rt: HostRuntime) -> Result<(), AllocError> {
-    let long = vec![in rt.alloc(); b' '; 1_048_577]?;
-    let files = [("bad", b"x =".as_slice()), ("long", long.as_slice())];
-    are_stopped(&rt, rt.alloc(), &files, &TOO_LONG);
-    Ok(())
-}
-
-/// What becomes of the words with these files, of which the opened ones can't be read.
-fn run_cut_off<'a>(alloc: Global, words: &'a [&'a str], files: &'a [Held<'a>]) -> Ran<'a> {
-    let mut files = CutOff {
-        files: MemoryFiles::new(files),
-    };
-    let mut source = MemorySource::new(b"a", 1, Some(0));
-    let mut sink = MemorySink::new(0);
-    let answer = run_desk(alloc, words, &mut files, &mut source, &mut sink);
-    Ran {
-        answer,
-        source,
-        sink,
-    }
-}
-
-/// The words stop the program so, and nothing is read or written.
-fn are_cut_off<'a>(rt: &impl Abort, alloc: Global, files: &'a [Held<'a>], cases: &'a [Case]) {
-    for (words, stop) in cases {
-        let ran = run_cut_off(alloc, words, files);
-        assert_eq!(rt; ran.answer, Err(*stop));
-        assert!(rt; !ran.source.failed());
-        assert!(rt; !ran.sink.failed());
-    }
-}
-
 #[test]
 fn stops_where_a_file_can_not_be_read_on(rt: HostRuntime) {
-    let held: [Held<'static>; 6] = [
-        ("m.toml", M1.as_bytes()),
-        ("d.toml", MESSAGES.as_bytes()),
-        ("bad", b"x ="),
-        ("empty", UNREADY.as_bytes()),
-        ("off", OFF_KEY.as_bytes()),
-        ("f", b""),
-    ];
-    are_cut_off(&rt, rt.alloc(), &held, &CUT_OFF);
+    let files = files();
+    for (words, stop) in &CUT_OFF {
+        let mut files = CutOff {
+            files: MemoryFiles::new(&files),
+        };
+        run(rt.alloc(), words, &mut files, "AAAAA", 512).ended(&rt, Err(*stop), "");
+    }
 }
 
-#[test]
-fn stops_where_the_output_fails(rt: HostRuntime) {
-    let words = &["desk", "send", "m.toml", "d.toml", "17", "o.txt"];
-    let files = files();
-    let ran = run(
-        rt.alloc(),
-        words,
-        &files,
-        MemorySource::new(b"", 1, None),
+/// The program's words, the standard input, the room on the output, why it stops, and what is written.
+static HALF_WAY: [(&[&str], &str, usize, DeskFault, &str); 2] = [
+    (
+        &["desk", "type", "m"],
+        "AAa",
+        512,
+        DeskFault::BadByte(3),
+        "BD",
+    ),
+    (
+        &["desk", "send", "m", "s", "17", "o"],
+        "",
         3,
-    );
-    assert_eq!(rt; ran.answer, Err(Refused(DeskFault::Device)));
-    assert_eq!(rt; ran.sink.taken(), b"PAR".as_slice());
+        DeskFault::Device,
+        "PAR",
+    ),
+];
+
+#[test]
+fn stops_half_way(rt: HostRuntime) {
+    let files = files();
+    for (words, input, room, fault, written) in &HALF_WAY {
+        let mut files = MemoryFiles::new(&files);
+        run(rt.alloc(), words, &mut files, input, *room).ended(&rt, Err(Refused(*fault)), written);
+    }
 }
 
 /// So many bytes in an order without lines of keys and letters, and why it is refused.
@@ -356,35 +275,15 @@ static LENGTHS: [(usize, DeskFault); 2] = [
 
 #[test]
 fn stops_where_an_order_is_too_long(rt: HostRuntime) -> Result<(), AllocError> {
+    let words = &["desk", "send", "m", "s", "17", "long"];
     for (spaces, fault) in &LENGTHS {
-        let mut order = Vec::from_slice(rt.alloc(), b"TEXT\n")?;
-        let blanks = vec![in rt.alloc(); b' '; *spaces]?;
-        order.extend_from_slice(blanks.as_slice())?;
-        let files = [
-            ("m.toml", M1.as_bytes()),
-            ("d.toml", MESSAGES.as_bytes()),
-            ("o", order.as_slice()),
-        ];
-        let words = &["desk", "send", "m.toml", "d.toml", "17", "o"];
-        let ran = run(
-            rt.alloc(),
-            words,
-            &files,
-            MemorySource::new(b"", 1, None),
-            0,
-        );
-        assert_eq!(rt; ran.answer, Err(Refused(*fault)));
+        let spaces = " ".repeat(rt.alloc(), *spaces)?;
+        let order = format!(in rt.alloc(); "TEXT\n{spaces}")?;
+        let files = with_long(order.as_str().as_bytes());
+        let mut files = MemoryFiles::new(&files);
+        run(rt.alloc(), words, &mut files, "", 512).ended(&rt, Err(Refused(*fault)), "");
     }
     Ok(())
-}
-
-#[test]
-fn stops_where_the_text_does(rt: HostRuntime) {
-    let source = MemorySource::new(b"AAa", 1, None);
-    let files = files();
-    let ran = run(rt.alloc(), &["desk", "type", "m.toml"], &files, source, 512);
-    assert_eq!(rt; ran.answer, Err(Refused(DeskFault::BadByte(3))));
-    assert_eq!(rt; ran.sink.taken(), b"BD".as_slice());
 }
 
 /// An answer, its status, and the line that tells of it, if there is one.
@@ -392,13 +291,9 @@ static EXITS: [(Result<(), Stop>, u8, &str); 7] = [
     (Ok(()), 0, ""),
     (Err(Usage), 2, "usage: desk COMMAND WORDS"),
     (Err(Unread(FileFault::NoMemory)), 1, "refused 26 NoMemory"),
-    (Err(Unread(FileFault::Device)), 1, "refused 6 Device"),
+    (Err(MISSING), 1, "refused 6 Device"),
     (Err(ReadFailed), 1, "refused 6 Device"),
-    (
-        Err(Unread(FileFault::ReadTooLong)),
-        1,
-        "refused 38 ReadTooLong",
-    ),
+    (Err(TOO_LONG), 1, "refused 38 ReadTooLong"),
     (
         Err(Refused(DeskFault::BadByte(3))),
         1,

@@ -1,4 +1,4 @@
-use kd_desk::{FileFault, Files, HostFiles, read_whole};
+use kd_desk::{FileFault, Files, HostFiles, ReaderSource, read_whole};
 use kd_tables::Source;
 use std::fs;
 use std::io::{self, Read};
@@ -18,8 +18,8 @@ static SIZES: [(u64, Result<usize, FileFault>); 7] = [
 #[test]
 fn reads_to_the_limit(rt: HostRuntime) {
     for (count, answer) in &SIZES {
-        let spaces = io::repeat(b' ').take(*count);
-        let read = read_whole(rt.alloc(), spaces).map(|content| content.as_slice().len());
+        let mut spaces = ReaderSource::new(io::repeat(b' ').take(*count));
+        let read = read_whole(rt.alloc(), &mut spaces).map(|content| content.as_slice().len());
         assert_eq!(rt; read, *answer);
     }
 }

@@ -1,126 +1,54 @@
-use crate::samples::{
-    Change, LUGS_IN_TURN, M4_AS_ENIGMA, PLUGGED, ROWS_IN_TURN, Ran, SAME, SHEET, TWO_BARS, changed,
-};
+use crate::calls::{Call, Cards, Judged, are_judged, run};
+use crate::samples::{CANCELLING, DAYS, ENIGMA, MACHINE, ONE_BAR, PLUGGED, TWO_BARS};
 use kd_card::CardFault::{BadHead, BadLine, CountWrong, PriceMissing, TooMany, Trailing};
-use kd_card::{PriceParts, Prices};
-use kd_desk::DeskFault::{self, Card, Doubtful, File, NoSuchDay, OtherDay};
-use kd_desk::run_check::run_check;
-use kd_plan::plan;
+use kd_desk::DeskFault::{Card, Doubtful, OtherDay};
 use kd_prices::Doubt::{
     self, IllegalAt, NeedlessLine, NotTheSheet, OtherModel, PriceTooHigh, SumDiffers,
 };
-use kd_prices::check;
-use kd_sheet::SheetFault::NotToml;
-use kd_sheet::{read_machine, read_sheet};
-use kd_state::{Machine, SheetDay, Why};
-use kd_tables::MemorySink;
-use kd_trials::texts::{BAR_KINDS, M1, NO_SETTINGS, ONE_LUG, TWO_CABLE_KINDS, TWO_CABLES};
-use std::alloc::{AllocError, Global};
-use std::process::Abort;
-use std::test::Fail;
+use kd_state::Why;
+use kd_tables::MemorySource;
+use kd_trials::texts::{BAR_KINDS, HIGHEST, NO_SETTINGS, ONE_LUG, TWO_CABLE_KINDS, TWO_CABLES};
+use std::alloc::AllocError;
 
-/// What is told of a card, with so much room.
-fn run(alloc: Global, machine: &str, sheet: &str, day: u8, card: &str, room: usize) -> Ran {
-    let mut sink = MemorySink::new(room.min(4096));
-    let (machine, sheet, card) = (machine.as_bytes(), sheet.as_bytes(), card.as_bytes());
-    let answer = run_check(alloc, machine, sheet, day, card, &mut sink);
-    Ran { answer, sink }
-}
-
-/// No change of a card.
-const NOTHING: Change = ["SETTINGS", "SETTINGS"];
-
-/// Two lines of a card exchanged.
-const EXCHANGED: Change = ["PULL 1 A\nPULL 2 C\n", "PULL 2 C\nPULL 1 A\n"];
-
-/// A machine, what is changed of it, a day, a card, what is changed of it, and what is told.
-static SHORTEST: [(&str, Change, u8, &str, Change, &str); 6] = [
-    (M1, PLUGGED, 8, TWO_CABLES, NOTHING, "SHORTEST 4\n"),
-    (M1, PLUGGED, 8, TWO_CABLES, EXCHANGED, "SHORTEST 4\n"),
-    (M1, PLUGGED, 8, TWO_CABLE_KINDS, EXCHANGED, "SHORTEST 4\n"),
-    (TWO_BARS, SAME, 9, ONE_LUG, NOTHING, "SHORTEST 1\n"),
-    (TWO_BARS, SAME, 9, BAR_KINDS, NOTHING, "SHORTEST 1\n"),
-    (M1, SAME, 11, NO_SETTINGS, NOTHING, "SHORTEST 0\n"),
+/// What keeps the card without settings from being one, by its lines.
+pub const FAULTY_CABLES: &[Judged] = &[
+    ("CARD 1", "CARD 3", Err(Card(BadHead))),
+    ("DAY 11", "DAY 0", Err(Card(BadHead))),
+    ("DAY 11", "DAY 32", Err(Card(BadHead))),
+    ("DAY 11\n", "DAY 11", Err(Card(BadHead))),
+    ("SETTINGS 0", "SETTING 0", Err(Card(BadLine(2)))),
+    ("SETTINGS 0", "SETTINGS 1", Err(Card(CountWrong))),
+    ("SETTINGS 0\n", "TURN 1 A\n", Err(Card(BadLine(3)))),
+    ("CABLES", "CABLE", Err(Card(PriceMissing))),
+    ("CABLES", "BARS", Err(Card(PriceMissing))),
+    ("CABLES 0", "CABLES", Err(Card(PriceMissing))),
+    ("CABLES 0", "CABLES +0", Err(Card(BadLine(3)))),
+    ("CABLES 0", "CABLES 10000", Err(Card(BadLine(3)))),
+    ("PAIRS", "ROWS", Err(Card(PriceMissing))),
+    ("PAIRS 0", "PAIRS 0 0", Err(Card(PriceMissing))),
+    ("PAIRS 0", "PAIRS 01", Err(Card(BadLine(4)))),
+    ("SUM 0", "SUM 1", Err(Card(CountWrong))),
+    ("SUM 0", "SUM 00", Err(Card(BadLine(5)))),
+    ("SUM 0\n", "SUM", Err(Card(BadLine(5)))),
+    ("SUM 0\n", "", Err(Card(BadLine(5)))),
+    ("SUM 0\n", "SUM 0\n\n", Err(Card(Trailing))),
 ];
 
-/// A machine, a sheet, a day, a card, and the fault.
-static UNREAD: [(&str, &str, u8, &str, DeskFault); 4] = [
-    ("=", "=", 5, "", File(NotToml)),
-    (M1, "=", 5, "", File(NotToml)),
-    (M1, SHEET, 5, "", NoSuchDay),
-    (M1, SHEET, 11, "", Card(BadHead)),
-];
-
-/// What is changed of the card of the eleventh day, and the fault that it then has on another day.
-static BAD_CARDS: [(Change, DeskFault); 6] = [
-    (["CARD 1", "CARD 3"], Card(BadHead)),
-    (["SUM 0\n", "SUM"], Card(BadLine(5))),
-    (["CABLES", "CABLE"], Card(PriceMissing)),
-    (["SETTINGS 0", "SETTINGS 1"], Card(CountWrong)),
-    (["SUM 0\n", "SUM 0\n\n"], Card(Trailing)),
-    (["SUM", "SUM"], OtherDay),
-];
-
-/// A machine, what is changed of it and of the sheet, a day, a card, what is changed of it, and the doubt.
-type Case = (
-    &'static str,
-    Change,
-    Change,
-    u8,
-    &'static str,
-    Change,
-    Doubt,
-);
-
-/// The lines in the wrong order where both lugs of a bar move.
-const WRONG_ORDER: Change = [
-    "LUG 1 R 6\nSETTINGS 1\n",
-    "LUG 1 L 3\nLUG 1 R 6\nSETTINGS 2\n",
-];
-
-static DOUBTFUL: [Case; 6] = [
-    (M1, SAME, SAME, 9, ONE_LUG, NOTHING, OtherModel),
-    (
-        M1,
-        PLUGGED,
-        SAME,
-        8,
-        NO_SETTINGS,
-        ["DAY 11", "DAY 8"],
-        NotTheSheet,
-    ),
-    (
-        M1,
-        SAME,
-        SAME,
-        11,
-        NO_SETTINGS,
-        ["SETTINGS 0", "TURN 1 A\nSETTINGS 1"],
-        NeedlessLine(1),
-    ),
-    (
-        TWO_BARS,
-        LUGS_IN_TURN,
-        ROWS_IN_TURN,
-        9,
-        ONE_LUG,
-        WRONG_ORDER,
-        IllegalAt(1, Why::PlaceTaken),
-    ),
-    (TWO_BARS, SAME, SAME, 9, WITHOUT_PRICES, NOTHING, SumDiffers),
-    (
-        TWO_BARS,
-        SAME,
-        SAME,
-        9,
-        DEAR_BAR,
-        NOTHING,
-        PriceTooHigh(1, 1),
-    ),
+/// The same of the card that moves one lug.
+pub const FAULTY_BARS: &[Judged] = &[
+    ("BARS 1", "BARS +1", Err(Card(BadLine(4)))),
+    ("BARS 1", "BARS 01", Err(Card(BadLine(4)))),
+    ("BARS 1", "BARS 10000", Err(Card(BadLine(4)))),
+    ("BARS 1", "BARS", Err(Card(PriceMissing))),
+    ("BARS", "CABLES", Err(Card(PriceMissing))),
+    ("ROWS", "PAIRS", Err(Card(PriceMissing))),
+    ("ROWS -1", "ROWS -0", Err(Card(BadLine(5)))),
+    ("SUM 1", "SUM 2", Err(Card(CountWrong))),
+    ("SUM 1\n", "SUM", Err(Card(BadLine(6)))),
 ];
 
 /// The card of one lug with all prices 0, and with a price too high.
-const WITHOUT_PRICES: &str = "CARD 1 DAY 9
+pub const WITHOUT_PRICES: &str = "CARD 1 DAY 9
 LUG 1 R 6
 SETTINGS 1
 BARS 0 0 0 0 0 0 0 0 0 0 0 0 0 0 0 0 0 0 0 0 0 0 0 0 0 0 0
@@ -128,7 +56,7 @@ ROWS 0 0 0 0 0 0 0 0 0 0 0 0 0 0 0 0 0 0 0 0 0 0 0 0 0 0 0
 SUM 0
 ";
 
-const DEAR_BAR: &str = "CARD 1 DAY 9
+pub const DEAR_BAR: &str = "CARD 1 DAY 9
 LUG 1 R 6
 SETTINGS 1
 BARS 2 1 0 0 0 0 0 0 0 0 0 0 0 0 0 0 0 0 0 0 0 0 0 0 0 0 0
@@ -136,124 +64,161 @@ ROWS -1 0 0 0 0 0 0 0 0 0 0 0 0 0 0 0 0 0 0 0 0 0 0 0 0 0 0
 SUM 2
 ";
 
-#[test]
-fn tells_of_shortest_cards(rt: HostRuntime) -> Result<(), AllocError> {
-    for (machine, change, day, card, other, told) in &SHORTEST {
-        let machine = changed(rt.alloc(), machine, change)?;
-        let card = changed(rt.alloc(), card, other)?;
-        let ran = run(
-            rt.alloc(),
-            machine.as_str(),
-            SHEET,
-            *day,
-            card.as_str(),
-            4096,
-        );
-        ran.ended(&rt, Ok(()), told.as_bytes());
-    }
-    Ok(())
-}
+/// Cards that are checked. Their own faults come before another day, and that before the doubts.
+static CHECKED: [Cards; 17] = [
+    (
+        Call::Check(8),
+        PLUGGED,
+        TWO_CABLES,
+        &[
+            ("", "", Ok(("SHORTEST 4\n", "", ""))),
+            (
+                "PULL 1 A\nPULL 2 C",
+                "PULL 2 C\nPULL 1 A",
+                Ok(("SHORTEST 4\n", "", "")),
+            ),
+            ("SUM 4\n", "SUM", Err(Card(BadLine(9)))),
+        ],
+    ),
+    (
+        Call::Check(8),
+        PLUGGED,
+        TWO_CABLE_KINDS,
+        &[
+            ("", "", Ok(("SHORTEST 4\n", "", ""))),
+            (
+                "PULL 1 A\nPULL 2 C",
+                "PULL 2 C\nPULL 1 A",
+                Ok(("SHORTEST 4\n", "", "")),
+            ),
+        ],
+    ),
+    (
+        Call::Check(8),
+        PLUGGED,
+        NO_SETTINGS,
+        &[("DAY 11", "DAY 8", Err(Doubtful(NotTheSheet)))],
+    ),
+    (Call::Check(8), PLUGGED, NO_SETTINGS, FAULTY_CABLES),
+    (
+        Call::Check(9),
+        TWO_BARS,
+        ONE_LUG,
+        &[("", "", Ok(("SHORTEST 1\n", "", "")))],
+    ),
+    (Call::Check(9), TWO_BARS, ONE_LUG, FAULTY_BARS),
+    (
+        Call::Check(9),
+        TWO_BARS,
+        BAR_KINDS,
+        &[
+            ("", "", Ok(("SHORTEST 1\n", "", ""))),
+            ("BAR 0L-3", "BAR 0L-4", Err(Doubtful(Doubt::PriceMissing))),
+        ],
+    ),
+    (
+        Call::Check(9),
+        TWO_BARS,
+        WITHOUT_PRICES,
+        &[("", "", Err(Doubtful(SumDiffers)))],
+    ),
+    (
+        Call::Check(9),
+        TWO_BARS,
+        DEAR_BAR,
+        &[("", "", Err(Doubtful(PriceTooHigh(1, 1))))],
+    ),
+    (
+        Call::Check(9),
+        TWO_BARS,
+        HIGHEST,
+        &[("", "", Err(Doubtful(PriceTooHigh(1, 2))))],
+    ),
+    (
+        Call::Check(9),
+        ENIGMA,
+        ONE_LUG,
+        &[("", "", Err(Doubtful(OtherModel)))],
+    ),
+    (
+        Call::Check(10),
+        ONE_BAR,
+        ONE_LUG,
+        &[
+            (
+                "DAY 9\nLUG 1 R 6\nSETTINGS 1",
+                "DAY 10\nLUG 1 L 3\nLUG 1 R 6\nSETTINGS 2",
+                Err(Doubtful(IllegalAt(1, Why::PlaceTaken))),
+            ),
+            (
+                "DAY 9\nLUG 1 R 6",
+                "DAY 10\nLUG 1 L 4",
+                Err(Doubtful(IllegalAt(1, Why::WouldPass))),
+            ),
+        ],
+    ),
+    (
+        Call::Check(11),
+        ENIGMA,
+        NO_SETTINGS,
+        &[
+            ("", "", Ok(("SHORTEST 0\n", "", ""))),
+            (
+                "SETTINGS 0",
+                "TURN 1 A\nSETTINGS 1",
+                Err(Doubtful(NeedlessLine(1))),
+            ),
+        ],
+    ),
+    (
+        Call::Check(11),
+        ENIGMA,
+        ONE_LUG,
+        &[("DAY 9", "DAY 11", Err(Doubtful(OtherModel)))],
+    ),
+    (
+        Call::Check(12),
+        ENIGMA,
+        NO_SETTINGS,
+        &[("", "", Err(OtherDay))],
+    ),
+    (
+        Call::Check(12),
+        CANCELLING,
+        NO_SETTINGS,
+        &[(
+            "DAY 11\nSETTINGS 0",
+            "DAY 12\nRING I A\nTURN 1 A\nSETTINGS 2",
+            Ok(("SHORTEST 2\n", "", "")),
+        )],
+    ),
+    (Call::Check(12), ENIGMA, "", &[("", "", Err(Card(BadHead)))]),
+];
 
 #[test]
-fn refuses_what_comes_before_the_card(rt: HostRuntime) {
-    for (machine, sheet, day, card, fault) in &UNREAD {
-        run(rt.alloc(), machine, sheet, *day, card, 0).refused(&rt, *fault);
-    }
+fn tells_of_each_card(rt: HostRuntime) -> Result<(), AllocError> {
+    are_judged(&rt, rt.alloc(), &CHECKED)
 }
 
-/// The card is refused on the eighth day.
-fn is_refused(rt: &impl Abort, alloc: Global, card: &str, fault: DeskFault) {
-    run(alloc, M1, SHEET, 8, card, 0).refused(rt, fault);
-}
-
-#[test]
-fn refuses_bytes_that_are_no_card(rt: HostRuntime) -> Result<(), AllocError> {
-    for (change, fault) in &BAD_CARDS {
-        let card = changed(rt.alloc(), NO_SETTINGS, change)?;
-        is_refused(&rt, rt.alloc(), card.as_str(), *fault);
-    }
-    Ok(())
-}
+/// The calls that read a card.
+static CALLS: [Call; 2] = [Call::Check(8), Call::Apply];
 
 #[test]
 fn refuses_a_card_of_too_many_lines(rt: HostRuntime) -> Result<(), AllocError> {
     let lines = "TURN 1 A\n".repeat(rt.alloc(), 193)?;
     let card = format!(in rt.alloc(); "CARD 1 DAY 8\n{lines}")?;
-    is_refused(&rt, rt.alloc(), card.as_str(), Card(TooMany));
-    Ok(())
-}
-
-#[test]
-fn refuses_a_doubtful_card(rt: HostRuntime) -> Result<(), AllocError> {
-    for (machine, change, in_the_sheet, day, card, on_the_card, doubt) in &DOUBTFUL {
-        let machine = changed(rt.alloc(), machine, change)?;
-        let sheet = changed(rt.alloc(), SHEET, in_the_sheet)?;
-        let card = changed(rt.alloc(), card, on_the_card)?;
-        let (machine, sheet) = (machine.as_str(), sheet.as_str());
-        run(rt.alloc(), machine, sheet, *day, card.as_str(), 0).refused(&rt, Doubtful(*doubt));
+    for call in &CALLS {
+        let mut source = MemorySource::new(b"", 1, Some(0));
+        let ran = run(
+            rt.alloc(),
+            *call,
+            MACHINE,
+            DAYS,
+            card.as_str(),
+            &mut source,
+            4096,
+        );
+        ran.ended(&rt, Err(Card(TooMany)), b"");
     }
     Ok(())
-}
-
-#[test]
-fn stops_where_the_sink_fails(rt: HostRuntime) {
-    let told = b"SHORTEST 0\n";
-    for room in 0..told.len() {
-        let ran = run(rt.alloc(), M1, SHEET, 11, NO_SETTINGS, room);
-        ran.ended(&rt, Err(DeskFault::Device), &told[..room]);
-    }
-}
-
-/// A machine, what is changed of it, and a day.
-static PLANNED: [(&str, Change, u8); 5] = [
-    (M1, PLUGGED, 8),
-    (M1, SAME, 8),
-    (TWO_BARS, SAME, 9),
-    (M4_AS_ENIGMA, SAME, 30),
-    (M1, SAME, 11),
-];
-
-/// The planner's card proves itself, and with one price changed by one it doesn't: the sum is then another one.
-#[test]
-fn no_price_of_a_card_can_be_changed(rt: HostRuntime) -> Result<(), Fail> {
-    let sheet = read_sheet(rt.alloc(), SHEET.as_bytes())?;
-    for (machine, change, number) in &PLANNED {
-        let machine = changed(rt.alloc(), machine, change)?;
-        let machine = read_machine(rt.alloc(), machine.as_str().as_bytes())?;
-        let day = sheet.day(*number).ok_or("no such day")?;
-        prices_are_fixed(&rt, &machine, day)?;
-    }
-    Ok(())
-}
-
-/// The planner's card proves itself, and with one price changed by one it doesn't.
-fn prices_are_fixed(rt: &impl Abort, machine: &Machine, day: &SheetDay) -> Result<(), Fail> {
-    let planned = plan(machine, day)?;
-    let mut card = plan(machine, day)?;
-    assert_eq!(rt; check(machine, day, &card), Ok(()));
-    for place in 0..27 {
-        for step in [-1, 1] {
-            if let Some(prices) = with_price(planned.prices.parts(), place, step) {
-                card.prices = prices;
-                assert!(rt; check(machine, day, &card).is_err());
-            }
-        }
-    }
-    Ok(())
-}
-
-/// These prices with a step added to one of them, if there are so many.
-fn raised<const N: usize>(mut prices: [i16; N], place: usize, step: i16) -> Option<[i16; N]> {
-    let price = prices.get_mut(place)?;
-    *price = price.checked_add(step)?;
-    Some(prices)
-}
-
-/// The prices with a step added to that of a row.
-fn with_price(parts: PriceParts, place: usize, step: i16) -> Option<Prices> {
-    match parts {
-        PriceParts::Cables(rows, columns) => Prices::cables(raised(rows, place, step)?, columns),
-        PriceParts::Bars(rows, columns) => Prices::bars(raised(rows, place, step)?, columns),
-        PriceParts::CableKinds(..) | PriceParts::BarKinds(..) => None,
-    }
 }

@@ -1,43 +1,38 @@
-//! The files that tests begin from, and what a run did.
-use kd_desk::DeskFault;
-use kd_tables::{MemorySink, Sink};
+//! The machine files, the key sheet, and the orders and forms that tests begin from.
+use kd_trials::texts::{M1, M209};
 use std::alloc::{AllocError, Global};
-use std::process::Abort;
 
-/// What a call answered, and the sink that it wrote to.
-#[derive(Drop)]
-pub struct Ran {
-    pub answer: Result<(), DeskFault>,
-    pub sink: MemorySink<4096>,
-}
+/// A text, a part of it, and what stands wherever the part stood.
+pub type Text = (&'static str, &'static str, &'static str);
 
-impl Ran {
-    /// This was answered, and these bytes were written.
-    pub fn ended(&self, rt: &impl Abort, answer: Result<(), DeskFault>, written: &[u8]) {
-        assert_eq!(rt; self.answer, answer);
-        assert_eq!(rt; self.sink.taken(), written);
-    }
-
-    /// This was refused before anything was written.
-    pub fn refused(&self, rt: &impl Abort, fault: DeskFault) {
-        assert_eq!(rt; self.answer, Err(fault));
-        assert!(rt; !self.sink.failed());
-    }
-}
-
-/// A part of a file, and what stands in its place.
-pub type Change = [&'static str; 2];
-
-/// The text with the change made wherever the part stands.
-pub fn changed(alloc: Global, text: &str, [old, new]: &Change) -> Result<String, AllocError> {
+/// The text with its change.
+pub fn changed(alloc: Global, (text, old, new): &Text) -> Result<String, AllocError> {
     text.replace(alloc, old, new)
 }
 
-/// No change.
-pub const SAME: Change = ["model", "model"];
+/// An Enigma I with reflector B, the wheels I, II and III in the slots, and all rings and letters A.
+pub const ENIGMA: Text = (M1, "", "");
 
-/// Two cables of the Enigma I.
-pub const PLUGGED: Change = ["version = 1", "version = 1\ncables = [\"AB\", \"CD\"]"];
+/// It with two cables.
+pub const PLUGGED: Text = (M1, "version", "cables = [\"AB\", \"CD\"]\nversion");
+
+/// It with a ring and a letter that differ from the day's, and leave the cipher as it is.
+pub const CANCELLING: Text = (M1, "\"AAAAA\"", "\"BAAAA\"");
+
+/// It showing other letters.
+pub const TURNED: Text = (M1, "letters = \"AAAAA\"", "letters = \"QRSAA\"");
+
+/// It with another ring, which is off the key.
+pub const OFF_KEY: Text = (M1, "rings = \"AAAAA\"", "rings = \"BAAAA\"");
+
+/// It with an empty slot, which isn't ready.
+pub const UNREADY: &str = "version = 1
+model = \"Enigma I\"
+reflector = \"B\"
+slots = [\"I\", \"\", \"III\"]
+rings = \"AAAAA\"
+letters = \"AAAAA\"
+";
 
 /// An M3 with the same wheels and reflector.
 pub const M3: &str = "version = 1
@@ -57,7 +52,13 @@ rings = \"AAAAAAAAAA\"
 letters = \"AAAAAAAAAA\"
 ";
 
-/// A Converter M-209 all of whose bars are met by the first wheel.
+/// A Converter M-209 whose first two bars have to change places, or one lug of the first has to move.
+pub const TWO_BARS: Text = (M209, "\"1-2\", \"0L-0R\"", "\"3-0R\", \"0L-3\"");
+
+/// One whose first bar has to move both lugs.
+pub const ONE_BAR: Text = (M209, "\"1-2\"", "\"1-3\"");
+
+/// One all of whose bars are met by the first wheel.
 pub const ALL_MET: &str = "version = 1
 model = \"M-209\"
 letters = \"AAAAAA\"
@@ -69,15 +70,50 @@ bars = [
 ]
 ";
 
-/// A key sheet with the machine's own settings on day 11, pairs on day 8, a Converter M-209 on day 9, and an M4 on day 30.
+/// One without effective pins, all of whose lugs are idle.
+pub const WITHOUT_PINS: &str = "version = 1
+model = \"M-209\"
+letters = \"AAAAAA\"
+pins = [\"\", \"\", \"\", \"\", \"\", \"\"]
+bars = [
+    \"0L-0R\", \"0L-0R\", \"0L-0R\", \"0L-0R\", \"0L-0R\", \"0L-0R\", \"0L-0R\", \"0L-0R\", \"0L-0R\",
+    \"0L-0R\", \"0L-0R\", \"0L-0R\", \"0L-0R\", \"0L-0R\", \"0L-0R\", \"0L-0R\", \"0L-0R\", \"0L-0R\",
+    \"0L-0R\", \"0L-0R\", \"0L-0R\", \"0L-0R\", \"0L-0R\", \"0L-0R\", \"0L-0R\", \"0L-0R\", \"0L-0R\",
+]
+";
+
+/// A Converter M-209 that differs from its day in each pin and letter, and in both lugs of each bar.
+pub const FARTHEST: &str = "version = 1
+model = \"M-209\"
+letters = \"BBBBBB\"
+pins = [\"\", \"\", \"\", \"\", \"\", \"\"]
+bars = [
+    \"1-2\", \"1-2\", \"1-2\", \"1-2\", \"1-2\", \"1-2\", \"1-2\", \"1-2\", \"1-2\",
+    \"1-2\", \"1-2\", \"1-2\", \"1-2\", \"1-2\", \"1-2\", \"1-2\", \"1-2\", \"1-2\",
+    \"1-2\", \"1-2\", \"1-2\", \"1-2\", \"1-2\", \"1-2\", \"1-2\", \"1-2\", \"1-2\",
+]
+";
+
+/// A day for each of these machines.
 pub const SHEET: &str = "[[day]]
-day = 11
-model = \"Enigma I\"
+day = 3
+model = \"M3\"
 reflector = \"B\"
 wheels = [\"I\", \"II\", \"III\"]
 rings = \"AAA\"
 window = \"AAA\"
 plugs = []
+groups = [\"ZUG\"]
+
+[[day]]
+day = 1
+model = \"M4\"
+reflector = \"b\"
+wheels = [\"Beta\", \"I\", \"II\", \"III\"]
+rings = \"AAAA\"
+window = \"AAAA\"
+plugs = []
+groups = [\"ZUG\"]
 
 [[day]]
 day = 8
@@ -101,75 +137,53 @@ window = \"AAAAAA\"
 list = \"QV\"
 
 [[day]]
-day = 30
-model = \"M4\"
-reflector = \"c\"
-wheels = [\"Gamma\", \"I\", \"II\", \"III\"]
-rings = \"AAAA\"
-window = \"AAAA\"
-plugs = []
-";
-
-/// A Converter M-209 whose first two bars have to change places, or one lug of the first has to move.
-pub const TWO_BARS: &str = "version = 1
+day = 10
 model = \"M-209\"
-letters = \"AAAAAA\"
+rows = [
+    \"3-6\", \"0-0\", \"0-0\", \"0-0\", \"0-0\", \"0-0\", \"0-0\", \"0-0\", \"0-0\",
+    \"0-0\", \"0-0\", \"0-0\", \"0-0\", \"0-0\", \"0-0\", \"0-0\", \"0-0\", \"0-0\",
+    \"0-0\", \"0-0\", \"0-0\", \"0-0\", \"0-0\", \"0-0\", \"0-0\", \"0-0\", \"0-0\",
+]
 pins = [\"P\", \"O\", \"\", \"\", \"\", \"\"]
-bars = [
-    \"3-0R\", \"0L-3\", \"0L-0R\", \"0L-0R\", \"0L-0R\", \"0L-0R\", \"0L-0R\", \"0L-0R\", \"0L-0R\",
-    \"0L-0R\", \"0L-0R\", \"0L-0R\", \"0L-0R\", \"0L-0R\", \"0L-0R\", \"0L-0R\", \"0L-0R\", \"0L-0R\",
-    \"0L-0R\", \"0L-0R\", \"0L-0R\", \"0L-0R\", \"0L-0R\", \"0L-0R\", \"0L-0R\", \"0L-0R\", \"0L-0R\",
-]
-";
+window = \"AAAAAA\"
+list = \"QV\"
 
-/// Both lugs of its first bar have to move, on a day whose first row is 3-6 and whose others are 0-0.
-pub const LUGS_IN_TURN: Change = ["\"3-0R\", \"0L-3\"", "\"1-3\", \"0L-0R\""];
-
-pub const ROWS_IN_TURN: Change = ["\"0-3\", \"3-6\"", "\"3-6\", \"0-0\""];
-
-/// A Converter M-209 without effective pins, all of whose lugs are idle.
-pub const WITHOUT_PINS: &str = "version = 1
-model = \"M-209\"
-letters = \"AAAAAA\"
-pins = [\"\", \"\", \"\", \"\", \"\", \"\"]
-bars = [
-    \"0L-0R\", \"0L-0R\", \"0L-0R\", \"0L-0R\", \"0L-0R\", \"0L-0R\", \"0L-0R\", \"0L-0R\", \"0L-0R\",
-    \"0L-0R\", \"0L-0R\", \"0L-0R\", \"0L-0R\", \"0L-0R\", \"0L-0R\", \"0L-0R\", \"0L-0R\", \"0L-0R\",
-    \"0L-0R\", \"0L-0R\", \"0L-0R\", \"0L-0R\", \"0L-0R\", \"0L-0R\", \"0L-0R\", \"0L-0R\", \"0L-0R\",
-]
-";
-
-/// A key sheet with the Enigma's own settings and a group on day 17, those of the M3 on day 3 and of the M4 on day 4, and
-/// that Converter on day 15.
-pub const MESSAGES: &str = "[[day]]
-day = 17
+[[day]]
+day = 11
 model = \"Enigma I\"
 reflector = \"B\"
 wheels = [\"I\", \"II\", \"III\"]
 rings = \"AAA\"
 window = \"AAA\"
 plugs = []
-groups = [\"ZUG\"]
 
 [[day]]
-day = 3
-model = \"M3\"
+day = 12
+model = \"Enigma I\"
 reflector = \"B\"
 wheels = [\"I\", \"II\", \"III\"]
 rings = \"AAA\"
 window = \"AAA\"
 plugs = []
-groups = [\"ZUG\"]
 
 [[day]]
-day = 4
-model = \"M4\"
-reflector = \"b\"
-wheels = [\"Beta\", \"I\", \"II\", \"III\"]
-rings = \"AAAA\"
-window = \"AAAA\"
-plugs = []
-groups = [\"ZUG\"]
+day = 13
+model = \"M-209\"
+rows = [
+    \"3-4\", \"3-4\", \"3-4\", \"3-4\", \"3-4\", \"3-4\", \"3-4\", \"3-4\", \"3-4\",
+    \"3-4\", \"3-4\", \"3-4\", \"3-4\", \"3-4\", \"3-4\", \"3-4\", \"3-4\", \"3-4\",
+    \"3-4\", \"3-4\", \"3-4\", \"3-4\", \"3-4\", \"3-4\", \"3-4\", \"3-4\", \"3-4\",
+]
+pins = [
+    \"ABCDEFGHIJKLMNOPQRSTUVWXYZ\",
+    \"ABCDEFGHIJKLMNOPQRSTUVXYZ\",
+    \"ABCDEFGHIJKLMNOPQRSTUVX\",
+    \"ABCDEFGHIJKLMNOPQRSTU\",
+    \"ABCDEFGHIJKLMNOPQRS\",
+    \"ABCDEFGHIJKLMNOPQ\",
+]
+window = \"AAAAAA\"
+list = \"QV\"
 
 [[day]]
 day = 15
@@ -182,9 +196,42 @@ rows = [
 pins = [\"\", \"\", \"\", \"\", \"\", \"\"]
 window = \"AAAAAA\"
 list = \"QV\"
+
+[[day]]
+day = 16
+model = \"Enigma I\"
+reflector = \"B\"
+wheels = [\"I\", \"II\", \"III\"]
+rings = \"AAA\"
+window = \"AAA\"
+plugs = [\"CF\"]
+
+[[day]]
+day = 17
+model = \"Enigma I\"
+reflector = \"B\"
+wheels = [\"I\", \"II\", \"III\"]
+rings = \"AAA\"
+window = \"AAA\"
+plugs = []
+groups = [\"ZUG\"]
+
+[[day]]
+day = 31
+model = \"M4\"
+reflector = \"c\"
+wheels = [\"Gamma\", \"I\", \"II\", \"III\"]
+rings = \"AAAA\"
+window = \"AAAA\"
+plugs = []
 ";
 
-/// An order for that Enigma, the form that it becomes, and the text that this becomes.
+/// The Enigma's file and this sheet, for the bodies of tests: a constant's bytes would be carried through their proofs.
+pub static MACHINE: &str = M1;
+
+pub static DAYS: &str = SHEET;
+
+/// An order for the Enigma and the M3, the form that it becomes, and the text that this becomes.
 pub const ORDER: &str = "PART AAA AAA QX UGZ
 TEXT
 AAAAA";
@@ -204,7 +251,7 @@ pub const M4_FORM: &str = "PART 1/1 10 AAAA BDZG
 QXUGZ BDZGO
 ";
 
-/// An order for that Converter, the form that it becomes, and the text that this becomes.
+/// An order for the Converter without pins, the form that it becomes, and the text that this becomes.
 pub const CONVERTER_ORDER: &str = "PART T ABCDEF
 TEXT
 HELLO WORLD";
@@ -214,29 +261,3 @@ TTABC DEFQV SVOOL ADLIO WCCCC TTABC DEFQV
 ";
 
 pub const CONVERTER_TEXT: &str = "HELLO WORLDXXXX\n";
-
-/// The Enigma I showing other letters.
-pub const TURNED: &str = "version = 1
-model = \"Enigma I\"
-reflector = \"B\"
-slots = [\"I\", \"II\", \"III\"]
-rings = \"AAAAA\"
-letters = \"QRSAA\"
-";
-
-/// The Enigma I with another ring, which is off the key, and with an empty slot, which isn't ready.
-pub const OFF_KEY: &str = "version = 1
-model = \"Enigma I\"
-reflector = \"B\"
-slots = [\"I\", \"II\", \"III\"]
-rings = \"BAAAA\"
-letters = \"AAAAA\"
-";
-
-pub const UNREADY: &str = "version = 1
-model = \"Enigma I\"
-reflector = \"B\"
-slots = [\"I\", \"\", \"III\"]
-rings = \"AAAAA\"
-letters = \"AAAAA\"
-";

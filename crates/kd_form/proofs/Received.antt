@@ -5,7 +5,7 @@ use Rattle.kd_state.specs.SheetDay.{Day}
 use Rattle.kd_form.specs.declared.fault.FormFault.TheVariants.{PartOrder}
 use Rattle.kd_form.specs.FormParts.{IsFirstOf}
 use Rattle.kd_form.specs.Receiving.{IsExpected, IsPartRead}
-use Rattle.kd_form.specs.FormText.{AreFirstParts, ArePartsRead, IsReadTo, IsFirstPartRead, given_letters, IsTextOf, count_due, Turn, IsRefusedAtEnd, TooFew}
+use Rattle.kd_form.specs.FormText.{AreFirstParts, ArePartsRead, IsReadTo, given_letters, IsTextOf, count_due, Turn, IsRefusedAtEnd, TooFew}
 
 -- ---- one part more
 
@@ -112,15 +112,3 @@ all_received s form text made t parts one is last same so_far more =
           ap (λ x. x ++ made) so_far ∙ ap (λ x. given_letters s t.letters ++ x) more
           ∙ sym (append_assoc (given_letters s t.letters) (given_letters s one) (10 ∷ [])) ∙ ap (λ x. x ++ 10 ∷ []) (sym (given_more s t.letters one));
     }
-
-first_part_read : (s : Day) (form rest : List ℕ) (parts : List (List ℕ)) (count : ℕ) (letters : List ℕ) → parts ≢ []
-    → IsReadTo s form rest parts count letters → IsFirstPartRead s form
-first_part_read s form rest [] count letters some read = absurd (some refl)
-first_part_read s form rest (p ∷ parts) count letters some read =
-    let cut = read.cut in
-    let is = read.read in
-    record { part = p; rest = cut.0; count = count; letters = is.0; first = cut.1; read = is.2 }
-
--- a form that becomes a text begins with a part that is read
-pub begins_with_a_part : (s : Day) (form text : List ℕ) → IsTextOf s form text → IsFirstPartRead s form
-begins_with_a_part s form text a = first_part_read s form [] a.parts (length a.parts) a.letters a.some a.read

@@ -29,15 +29,6 @@ pub record IsReadTo (s : Day) (form rest : List ℕ) (parts : List (List ℕ)) (
   pub cut : AreFirstParts parts form rest
   pub read : ArePartsRead s 1 count parts letters
 
--- the form begins with a part that is read
-pub record IsFirstPartRead (s : Day) (form : List ℕ) : Type 0 where
-  pub part : List ℕ
-  pub rest : List ℕ
-  pub count : ℕ
-  pub letters : List ℕ
-  pub first : IsFirstOf form part rest
-  pub read : IsPartRead s 1 count part letters
-
 -- ---- the text
 
 -- the byte that is given for a letter, where a space may stand for one

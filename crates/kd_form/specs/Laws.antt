@@ -2,7 +2,7 @@
 use Rattle.std.specs.Prelude.{◌≡◌, ◌⊎◌, ℕ, List, ◌++◌}
 use Rattle.kd_state.specs.SheetDay.{Day, IsLegalDay}
 use Rattle.kd_form.specs.declared.fault.FormFault.{FormFault}
-use Rattle.kd_form.specs.Sending.{IsFormOf, HasForm, StandsInOrder, IsSendFault}
+use Rattle.kd_form.specs.Sending.{IsFormOf, StandsInOrder, IsSendFault}
 use Rattle.kd_form.specs.FormText.{IsTextOf, IsRefusedForGood, IsReceiveFault, IsGivenOf}
 
 -- an order becomes one form at most
@@ -19,7 +19,7 @@ OrdersHaveOneFault = (s : Day) (order : List ℕ) (fault other : FormFault) → 
 
 -- and each order has an answer
 abbrev pub OrderIsAnswered : Day → List ℕ → Type 0
-OrderIsAnswered s order = HasForm s order ⊎ ((fault : FormFault) × IsSendFault s order fault)
+OrderIsAnswered s order = ((form : List ℕ) × IsFormOf s order form) ⊎ ((fault : FormFault) × IsSendFault s order fault)
 
 -- what stands in an order is its fault whatever follows it
 abbrev pub OrdersStayRefused : Type 0

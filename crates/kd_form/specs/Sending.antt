@@ -114,7 +114,3 @@ pub record IsFormOf (s : Day) (order form : List ℕ) : Type 0 where
   pub text : List ℕ
   pub sent : CanBeSent s order keys text
   pub made : AreMadeTexts s 1 (length keys) keys (pieces (part_size s) (text_letters s text)) form
-
--- the order becomes a form
-abbrev pub HasForm : Day → List ℕ → Type 0
-HasForm s order = (form : List ℕ) × IsFormOf s order form

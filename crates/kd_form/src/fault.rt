@@ -1,4 +1,3 @@
-use std::alloc::AllocError;
 use thiserror::Error;
 
 /// Why an order becomes no form, or a form no text. Positions are counted in bytes from 1, and parts from 1.
@@ -49,15 +48,4 @@ pub enum FormFault {
     /// The source gives more bytes than are read of it.
     #[error("38 ReadTooLong")]
     ReadTooLong,
-}
-
-impl From<AllocError> for FormFault {
-    ghost use Rattle.std.specs.Prelude.{◌≡◌};
-    ghost use Rattle.kd_form.specs.declared.fault.FormFault.TheVariants as faults;
-
-    ghost from_gives = { λ _ fault. fault ≡ faults.NoMemory };
-
-    fn from(_: AllocError) -> FormFault {
-        FormFault::NoMemory
-    }
 }

@@ -15,7 +15,7 @@ use kd_state::laws::{
     numbers_and_letters_are_words, texts_tell_first_parts, the_day_deciphers_itself,
 };
 
-/// An order becomes one form, or has one fault, and never both.
+/// An order becomes one form at most, has one fault at most, and never both.
 pub fn orders_have_one_answer()
     ensures form { OrdersBecomeOneForm }
     ensures fault { OrdersHaveOneFault }
@@ -39,7 +39,7 @@ pub fn orders_stay_refused()
     ensures { OrdersStayRefused }
 {}
 
-/// A form becomes one text, or has one fault, and never both.
+/// A form becomes one text at most, has one fault at most, and never both.
 pub fn forms_have_one_answer()
     ensures text { FormsBecomeOneText }
     ensures fault { FormsHaveOneFault }

@@ -1,7 +1,7 @@
 //! The text that a form becomes.
-ghost use Rattle.std.specs.Prelude.{◌≡◌, IsTrue};
+ghost use Rattle.std.specs.Prelude.{◌≡◌, ℕ, List, IsTrue};
 ghost use Rattle.kd_tables.specs.Ports.{Fail, port};
-ghost use Rattle.kd_form.specs.FormText.{form_message, IsFirstPartRead, IsTextOf, IsReceiveFault};
+ghost use Rattle.kd_form.specs.FormText.{form_message, IsTextOf, IsReceiveFault};
 ghost use Rattle.kd_form.specs.OnTheKey.{AnswersOnKey};
 ghost use Rattle.kd_form.specs.Streams.{StreamsOnKey, is_device, is_off_key};
 
@@ -28,7 +28,7 @@ pub fn receive(
 ) -> Result<Vec<u8>, FormFault>
     ensures { AnswersOnKey machine.now day.now
         (λ text. IsTextOf day.now form.now text.items)
-        (IsReceiveFault day.now form.now) (IsFirstPartRead day.now form.now) result }
+        (IsReceiveFault day.now form.now) ((text : List ℕ) × IsTextOf day.now form.now text) result }
 {
     match check_machine(machine, day) {
         Ok(()) => bytes_of::<FormReader>(alloc, day, form),
@@ -39,9 +39,10 @@ pub fn receive(
 /// Reads a form from the source as it comes, and writes its text to the sink, part by part. No more than one part is held, and
 /// no memory is taken.
 ///
-/// `NotReady` and `NotOnKey` come first, and nothing is read then. What refuses the form whatever follows is told as soon as it
-/// has come, and what refuses it at its end there, behind the texts of the parts before. `ReadTooLong` is told where more than
-/// `READ_LIMIT` bytes come, and `Device` where a get or a put fails.
+/// `NotReady` and `NotOnKey` come first, and nothing is read then. What refuses the form whatever follows comes before
+/// `ReadTooLong`, and before `Device` where it is the source that fails; what refuses it at its end is told there. The texts
+/// of the parts before are written by then. `ReadTooLong` is told where more than `READ_LIMIT` bytes come, and `Device` where
+/// a get or a put fails.
 pub fn receive_stream<R: Source, W: Sink>(
     machine: &Machine,
     day: &SheetDay,

@@ -1,8 +1,8 @@
 //! The form that an order becomes.
-ghost use Rattle.std.specs.Prelude.{◌≡◌, ◌≤◌, IsTrue, MatchResult};
+ghost use Rattle.std.specs.Prelude.{◌≡◌, ◌≤◌, ℕ, List, IsTrue, MatchResult};
 ghost use Rattle.kd_tables.specs.Ports.{Fail, port};
 ghost use Rattle.kd_form.specs.Making.{part_size};
-ghost use Rattle.kd_form.specs.Sending.{IsSendFault, IsFormOf, HasForm};
+ghost use Rattle.kd_form.specs.Sending.{IsSendFault, IsFormOf};
 ghost use Rattle.kd_form.specs.SendStream.{orders};
 ghost use Rattle.kd_form.specs.Streams.{StreamsOnKey, is_device, is_off_key};
 ghost use Rattle.kd_form.specs.OnTheKey.{IsOnKey, IsKeyFault, AnswersOnKey};
@@ -27,7 +27,7 @@ pub fn send(
 ) -> Result<Vec<u8>, FormFault>
     ensures { AnswersOnKey machine.now day.now
         (λ form. IsFormOf day.now order.now form.items)
-        (IsSendFault day.now order.now) (HasForm day.now order.now) result }
+        (IsSendFault day.now order.now) ((form : List ℕ) × IsFormOf day.now order.now form) result }
 {
     match check_machine(machine, day) {
         Ok(()) => bytes_of::<OrderReader>(alloc, day, order),
@@ -38,10 +38,10 @@ pub fn send(
 /// Reads an order from the source as it comes, and writes the form that it becomes on a machine that is on the day's key, part
 /// by part. It holds one part, and takes no memory.
 ///
-/// `NotReady` and `NotOnKey` come first, and then nothing is read or written. What the bytes show whatever follows comes before
-/// `Device` and `ReadTooLong`; what the end of the order shows comes at the end of the source. A part is written once a letter
-/// has come for the next one, so a part may be out when the order is refused. At most 1,048,576 bytes are read, and one more to
-/// see that there are more.
+/// `NotReady` and `NotOnKey` come first, and then nothing is read or written. What the bytes show whatever follows comes
+/// before `ReadTooLong`, and before `Device` where it is the source that fails; what the end of the order shows comes at the
+/// end of the source. A part is written once a letter has come for the next one, so a part may be out when the order is
+/// refused. At most 1,048,576 bytes are read, and one more to see that there are more.
 pub fn send_stream<R: Source, W: Sink>(
     machine: &Machine,
     day: &SheetDay,

@@ -21,7 +21,7 @@ use kd_state::{
 };
 
 /// The card that leads the machine to the day by the fewest settings. Which of several shortest ones it is isn't promised,
-/// nor which prices prove it.
+/// nor which prices prove it; but where cables and bars cost nothing, all prices are 0.
 pub fn plan(machine: &Machine, day: &SheetDay) -> Result<Card, OtherModel>
     ensures refused { IsErr result ↔ (model_of machine.now ≢ day_model day.now) }
     ensures card { IfOk result (λ card.

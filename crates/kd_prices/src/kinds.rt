@@ -16,7 +16,7 @@ use kd_card::{Card, Group, Look, PriceParts, PricedKind, Prices};
 use kd_state::laws::columns_are_the_pairs;
 use kd_state::{Machine, OneModel, Settings, SheetDay};
 
-/// All ranks of looks are below this.
+/// The ranks of all looks in their one form are below this.
 const RANKS: usize = 703;
 
 /// The same card with one price for each kind of cables or bars, and for each of pairs and nothings or rows; `check`
@@ -105,7 +105,7 @@ fn kinds_of<const N: usize>(
     }
 }
 
-/// The kinds of the things that look so, in order, each with the price of the first of its things.
+/// The kinds of the things that look so, in order; where things that look alike have one price, each kind with that one.
 fn first_kinds(looks: &[Look], prices: &[i16]) -> ArrayVec<PricedKind, 27>
     requires few { length looks.now ≤ 27 }
     requires each { length prices.now ≡ length looks.now }
@@ -124,7 +124,7 @@ fn first_kinds(looks: &[Look], prices: &[i16]) -> ArrayVec<PricedKind, 27>
     kinds
 }
 
-/// The first place of a look with that rank, counted from 0.
+/// A place of a look with that rank, counted from 0, if there is one.
 fn place_of(rank: usize, looks: &[Look]) -> Option<usize>
     ensures { MatchOption result
         ((place : ℕ) → place < length looks.now → look_rank (look_at looks.now place) ≢ rank)

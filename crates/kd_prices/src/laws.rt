@@ -20,8 +20,8 @@ pub fn rest_of_a_card_is_shortest()
     proving_cards_are_shortest();
 }
 
-/// In a card that proves itself cables of equal letters have equal prices, and so have bars that stand alike, rows that read
-/// alike, and nothings.
+/// In a card that proves itself by number cables of equal letters have equal prices, and so have bars that stand alike,
+/// rows that read alike, and nothings.
 pub fn alike_prices_are_equal()
     ensures { AlikePricesAreEqual }
 {

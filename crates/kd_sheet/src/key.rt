@@ -1,7 +1,5 @@
 ghost use Rattle.std.specs.Prelude.{◌≡◌, ◌≤◌, length};
 
-use std::fmt;
-
 /// A key of the files.
 #[derive(Clone, Copy, Debug, PartialEq, Eq)]
 pub enum Key {
@@ -49,16 +47,5 @@ impl Key {
             Key::Rows => "rows",
             Key::List => "list",
         }
-    }
-}
-
-impl fmt::Display for Key {
-    ghost use Rattle.std.specs.Prelude.{Some};
-    ghost use Rattle.kd_sheet.specs.Key.{key_name};
-
-    ghost output = { λ key. Some (key_name key) };
-
-    fn fmt<W: fmt::Write>(&self, f: &mut fmt::Formatter<W>) -> fmt::Result {
-        f.write_str(self.name())
     }
 }

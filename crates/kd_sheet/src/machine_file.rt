@@ -149,8 +149,8 @@ fn machine_in(table: &Table) -> Result<Machine, SheetFault>
 }
 
 /// The machine that the bytes of a machine file describe, or the file's first fault. A file of version 1 or 2 is read; the
-/// M4 stands only in version 2. Only reading the document takes memory, so only where memory runs out it may answer
-/// `NoMemory` in place of any other answer.
+/// M4 stands only in version 2. `NoMemory` may stand in place of any other answer: only reading the document takes memory,
+/// but no clause says that memory ran out where it is told.
 pub fn read_machine(alloc: Global, bytes: &[u8]) -> Result<Machine, SheetFault>
     ensures { Answers result (machine_of bytes.now) }
 {

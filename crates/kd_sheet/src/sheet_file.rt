@@ -95,8 +95,8 @@ fn sheet_in(table: &Table) -> Result<Sheet, SheetFault>
     month(items_at(table, Key::Day)?)
 }
 
-/// The sheet that the bytes of a sheet file describe, or the file's first fault. Only reading the document takes memory,
-/// so only where memory runs out it may answer `NoMemory` in place of any other answer.
+/// The sheet that the bytes of a sheet file describe, or the file's first fault. `NoMemory` may stand in place of any other
+/// answer: only reading the document takes memory, but no clause says that memory ran out where it is told.
 pub fn read_sheet(alloc: Global, bytes: &[u8]) -> Result<Sheet, SheetFault>
     ensures { Answers result (sheet_of bytes.now) }
 {

@@ -21,7 +21,7 @@ pub fn lines_tell_words()
     ensures one_line { WordsMakeOneLine }
 {}
 
-/// What stands before the first space or LF of a text, and what follows it, is told by the text.
+/// What stands before the first of a byte in a text, as a space or LF, and what follows it, is told by the text.
 pub fn texts_tell_first_parts()
     ensures { TextsTellFirstParts }
 {}

@@ -38,9 +38,9 @@ impl Machine {
     ghost use Rattle.std.specs.Prelude.{◌≡◌, ◌↔◌, IsSome, IfSome};
     ghost use Rattle.kd_state.specs.Machine.{IsLegalRotor, IsLegalPin, IsMachine, cables_ordered};
 
-    /// The rotor machine of these parts: none where a wheel stands in two slots or may not stand where it does, a letter
-    /// lies in two places of the cables, or the reflector, the rings or the letters are not the model's. The letters of a
-    /// cable may come in either order.
+    /// The rotor machine of these parts: none where there are more or fewer slots than the model has, a wheel stands in two
+    /// slots or may not stand where it does, a letter lies in two places of the cables, or the reflector, the rings or the
+    /// letters are not the model's. The letters of a cable may come in either order.
     pub fn rotor(parts: RotorParts) -> Option<Machine>
         ensures exists { IsSome result ↔ IsLegalRotor parts }
         ensures value { IfSome result (λ machine. machine ≡ cables_ordered (Parts.Rotor parts)) }

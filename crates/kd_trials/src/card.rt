@@ -1,5 +1,24 @@
 //! Tests of cards and their texts.
-mod cut;
-mod prices;
+use crate::texts::{
+    ALIKE_BARS, BAR_KINDS, EMPTY_KINDS, HALF_CABLES, HIGHEST, NO_SETTINGS, ONE_LUG,
+    TWO_CABLE_KINDS, TWO_CABLES,
+};
+
 mod read;
 mod write;
+
+/// A card's text, its day, and the numbers of the lines with the number of settings and with the sum.
+type Sample = (&'static str, u8, (usize, usize));
+
+/// Cards of both versions, of cables and of bars.
+static CARDS: [Sample; 9] = [
+    (TWO_CABLES, 8, (6, 9)),
+    (ONE_LUG, 9, (3, 6)),
+    (NO_SETTINGS, 11, (2, 5)),
+    (HIGHEST, 9, (3, 6)),
+    (TWO_CABLE_KINDS, 8, (6, 13)),
+    (BAR_KINDS, 9, (3, 10)),
+    (EMPTY_KINDS, 11, (2, 5)),
+    (ALIKE_BARS, 13, (2, 5)),
+    (HALF_CABLES, 31, (2, 12)),
+];

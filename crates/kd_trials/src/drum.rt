@@ -1,55 +1,43 @@
 //! Tests of the drum.
-use crate::days::reading;
 use crate::letters::letters;
-use crate::machines::pins;
+use crate::machines::{File, day};
+use crate::texts::{DAY_OF_ALL_MET, DAY_WITHOUT_PINS};
 use kd_drum::Converter;
-use kd_pins::NotOnWheel;
 use kd_tables::Letter;
+use std::alloc::Global;
+use std::process::Abort;
 
-#[test]
-fn a_bar_met_by_both_lugs_counts_once(rt: HostRuntime) {
-    let mut pins = pins(false);
-    pins.w1[15] = true;
-    pins.w2[14] = true;
-    let mut rows = [reading(&rt, 0, 0); 27];
-    rows[0] = reading(&rt, 1, 2);
-    let mut converter = Converter::new(pins, letters(&rt, b"AAAAAA"), rows).expect(
-        &rt,
-        "on the wheels",
-    );
-    assert_eq!(&rt; converter.met(), 1);
-    assert_eq!(&rt; converter.press(Letter::A), Letter::A);
-    assert_eq!(&rt; converter.shown(), letters(&rt, b"BBBBBB"));
+/// A day of a Converter, how many bars the first letter meets, and what becomes of letters A.
+type Case = (File, u8, &'static [u8]);
+
+/// The first bar is met by two wheels and counts once; all bars are met by one pin, which acts on the first letter alone.
+static CASES: [Case; 2] = [
+    (
+        (
+            DAY_WITHOUT_PINS,
+            "pins = [\"\", \"\", \"\", \"\", \"\", \"\"]\nrows = [\"0-0\"",
+            "pins = [\"P\", \"O\", \"\", \"\", \"\", \"\"]\nrows = [\"1-2\"",
+        ),
+        1,
+        b"A",
+    ),
+    ((DAY_OF_ALL_MET, "", ""), 27, b"AZZZZ"),
+];
+
+/// The day's pins and rows make of letters A what they are told to.
+fn presses(rt: &impl Abort, alloc: Global, (sheet, met, lamps): &Case) -> Option<()> {
+    let day = day(rt, alloc, sheet);
+    let mut converter = Converter::new(day.pins()?, letters(rt, b"AAAAAA"), day.rows()?).ok()?;
+    assert_eq!(rt; converter.met(), *met);
+    for lamp in *lamps {
+        assert_eq!(rt; converter.press(Letter::A).byte(), *lamp);
+    }
+    Some(())
 }
 
 #[test]
-fn all_bars_met_by_one_pin(rt: HostRuntime) {
-    let mut pins = pins(false);
-    pins.w1[15] = true;
-    let rows = [reading(&rt, 0, 1); 27];
-    let shown = letters(&rt, b"AAAAAA");
-    let mut converter = Converter::new(pins, shown, rows).expect(&rt, "on the wheels");
-    let mut text = letters(&rt, b"AAAAA");
-    converter.run(&mut text);
-    assert_eq!(&rt; text, letters(&rt, b"AZZZZ"));
-}
-
-#[test]
-fn a_letter_that_is_not_on_its_wheel(rt: HostRuntime) {
-    let rows = [reading(&rt, 0, 0); 27];
-    let refused = Converter::new(pins(false), letters(&rt, b"AAAAAR"), rows);
-    assert!(&rt; matches!(&refused, Err(NotOnWheel)));
-}
-
-#[test]
-fn turned_to_other_letters(rt: HostRuntime) {
-    let rows = [reading(&rt, 0, 0); 27];
-    let mut converter = Converter::new(pins(false), letters(&rt, b"AAAAAA"), rows).expect(
-        &rt,
-        "on the wheels",
-    );
-    assert!(&rt; converter.turn_to(letters(&rt, b"ZZXUSQ")).is_ok());
-    assert_eq!(&rt; converter.shown(), letters(&rt, b"ZZXUSQ"));
-    assert!(&rt; matches!(&converter.turn_to(letters(&rt, b"AAAAAR")), Err(NotOnWheel)));
-    assert_eq!(&rt; converter.shown(), letters(&rt, b"ZZXUSQ"));
+fn bars_are_met(rt: HostRuntime) {
+    for case in &CASES {
+        assert!(rt; presses(&rt, rt.alloc(), case).is_some());
+    }
 }

@@ -1,5 +1,4 @@
 //! Tests of orders and forms.
-mod cut_forms;
 mod failing;
 mod limits;
 mod long_texts;
@@ -7,5 +6,3 @@ mod memory;
 mod receiving;
 mod samples;
 mod sending;
-mod sent_streams;
-mod streams;

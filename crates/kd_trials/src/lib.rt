@@ -1,16 +1,11 @@
-//! Tests of the public calls of the crates below the desk, a module for each crate, and the machines, days and cards that
-//! they are tried on. There is nothing else here but the
-//! texts: a crate with tests is proved twice, so the tests have one of their own.
+//! Tests of the public calls of the crates below the desk, a module for each crate, and the machines and days that they are
+//! tried on. There is nothing else here but the texts: a crate with tests is proved twice, so the tests have one of their own.
 #![tactic(auto)]
 
 #[cfg(test)]
 mod assign;
 #[cfg(test)]
 mod card;
-#[cfg(test)]
-mod cards;
-#[cfg(test)]
-mod days;
 #[cfg(test)]
 mod drum;
 #[cfg(test)]

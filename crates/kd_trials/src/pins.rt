@@ -1,44 +1,26 @@
 //! Tests of the pin wheels.
-ghost use Rattle.std.specs.Prelude.{◌<◌};
-
 use crate::letters::letter;
-use kd_pins::{NotOnWheel, PinWheel};
-use kd_tables::{Ring, ring2, ring6};
+use kd_pins::PinWheel;
+use kd_tables::{Letter, ring2, ring6};
 use std::process::Abort;
 
-/// The wheel on which the pin beside one letter alone is effective.
-fn one_pin<const N: usize>(rt: &impl Abort, ring: Ring<N>, offset: usize, pin: u8) -> PinWheel<N>
-    requires { offset < N }
-{
-    let mut pins = [false; N];
-    for (place, effective) in pins.iter_mut().enumerate() {
-        *effective = ring.letter_of(place) == letter(rt, pin);
-    }
-    PinWheel::new(ring, offset, pins)
+/// Whether the pin of the wheel acts that stands past this letter.
+fn acts<const N: usize>(mut wheel: PinWheel<N>, shown: Letter) -> Option<bool> {
+    wheel.set(shown).ok()?;
+    Some(wheel.acting())
 }
 
-#[test]
-fn the_acting_pin_is_counted_round_the_wheel(rt: HostRuntime) {
-    let mut sixth = one_pin(&rt, ring6(), 10, b'J');
-    assert!(&rt; !sixth.acting());
-    assert_eq!(&rt; sixth.set(letter(&rt, b'Q')), Ok(()));
-    assert!(&rt; sixth.acting());
-    sixth.advance();
-    assert_eq!(&rt; sixth.shown(), letter(&rt, b'A'));
-    assert!(&rt; !sixth.acting());
-}
-
+/// The sixth wheel, on which the pin at J alone is effective, and the second one, on which that at N is.
 #[test]
 fn the_acting_pin_is_counted_in_the_wheels_own_order(rt: HostRuntime) {
-    let mut second = one_pin(&rt, ring2(), 14, b'N');
-    assert_eq!(&rt; second.set(letter(&rt, b'Z')), Ok(()));
-    assert!(&rt; second.acting());
-}
-
-#[test]
-fn a_letter_that_is_not_on_the_wheel(rt: HostRuntime) {
-    let mut sixth = one_pin(&rt, ring6(), 10, b'J');
-    sixth.advance();
-    assert_eq!(&rt; sixth.set(letter(&rt, b'R')), Err(NotOnWheel));
-    assert_eq!(&rt; sixth.shown(), letter(&rt, b'B'));
+    let mut pins = [false; 17];
+    pins[9] = true;
+    let sixth = PinWheel::new(ring6(), 10, pins);
+    assert_eq!(rt; acts(sixth, letter(&rt, b'Q')), Some(true));
+    assert_eq!(rt; acts(sixth, letter(&rt, b'A')), Some(false));
+    assert_eq!(rt; acts(sixth, letter(&rt, b'R')), None);
+    let mut pins = [false; 25];
+    pins[13] = true;
+    let second = PinWheel::new(ring2(), 14, pins);
+    assert_eq!(rt; acts(second, letter(&rt, b'Z')), Some(true));
 }

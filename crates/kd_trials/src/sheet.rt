@@ -1,7 +1,24 @@
 //! Tests of machine files and key sheets.
+use kd_sheet::{SheetFault, read_machine, read_sheet};
+use std::alloc::Global;
+
 mod cut;
 mod faults;
 mod files;
+
+/// What a file is.
+enum Kind {
+    MachineFile,
+    Sheet,
+}
+
+/// What the file is refused for, if it is.
+fn fault(alloc: Global, kind: &Kind, file: &[u8]) -> Option<SheetFault> {
+    match kind {
+        Kind::MachineFile => read_machine(alloc, file).err(),
+        Kind::Sheet => read_sheet(alloc, file).err(),
+    }
+}
 
 /// A sheet with a day of an Enigma I, of an M4 and of a Converter M-209.
 const SHEET: &str = "[[day]]

@@ -1,5 +1,6 @@
-//! Tests of the physical machine, single settings, days, costs and engines.
+//! Tests of the physical machine, single settings, costs and engines.
 mod carrying;
+mod costs;
 mod days;
 mod engine;
 mod line;

@@ -57,6 +57,108 @@ pins = [\"P\", \"O\", \"\", \"\", \"\", \"\"]
 bars = [\"1-2\", \"0L-0R\", \"0L-0R\", \"0L-0R\", \"0L-0R\", \"0L-0R\", \"0L-0R\", \"0L-0R\", \"0L-0R\", \"0L-0R\", \"0L-0R\", \"0L-0R\", \"0L-0R\", \"0L-0R\", \"0L-0R\", \"0L-0R\", \"0L-0R\", \"0L-0R\", \"0L-0R\", \"0L-0R\", \"0L-0R\", \"0L-0R\", \"0L-0R\", \"0L-0R\", \"0L-0R\", \"0L-0R\", \"0L-0R\"]
 ";
 
+/// An M3 with the wheels and the reflector of that Enigma I.
+pub const M3: &str = "version = 1
+model = \"M3\"
+reflector = \"B\"
+slots = [\"I\", \"II\", \"III\"]
+rings = \"AAAAAAAA\"
+letters = \"AAAAAAAA\"
+";
+
+/// An M4 with all rings and letters A, and no cables: its thin reflector b with Beta at A acts as B.
+pub const M4_AS_ENIGMA: &str = "version = 2
+model = \"M4\"
+reflector = \"b\"
+slots = [\"Beta\", \"I\", \"II\", \"III\"]
+rings = \"AAAAAAAAAA\"
+letters = \"AAAAAAAAAA\"
+";
+
+/// A Converter M-209 all of whose bars are met by the first wheel.
+pub const ALL_MET: &str = "version = 1
+model = \"M-209\"
+letters = \"AAAAAA\"
+pins = [\"P\", \"\", \"\", \"\", \"\", \"\"]
+bars = [\"1-0L\", \"1-0L\", \"1-0L\", \"1-0L\", \"1-0L\", \"1-0L\", \"1-0L\", \"1-0L\", \"1-0L\",
+    \"1-0L\", \"1-0L\", \"1-0L\", \"1-0L\", \"1-0L\", \"1-0L\", \"1-0L\", \"1-0L\", \"1-0L\",
+    \"1-0L\", \"1-0L\", \"1-0L\", \"1-0L\", \"1-0L\", \"1-0L\", \"1-0L\", \"1-0L\", \"1-0L\",
+]
+";
+
+/// A Converter M-209 without effective pins, all of whose lugs are idle.
+pub const WITHOUT_PINS: &str = "version = 1
+model = \"M-209\"
+letters = \"AAAAAA\"
+pins = [\"\", \"\", \"\", \"\", \"\", \"\"]
+bars = [\"0L-0R\", \"0L-0R\", \"0L-0R\", \"0L-0R\", \"0L-0R\", \"0L-0R\", \"0L-0R\", \"0L-0R\", \"0L-0R\",
+    \"0L-0R\", \"0L-0R\", \"0L-0R\", \"0L-0R\", \"0L-0R\", \"0L-0R\", \"0L-0R\", \"0L-0R\", \"0L-0R\",
+    \"0L-0R\", \"0L-0R\", \"0L-0R\", \"0L-0R\", \"0L-0R\", \"0L-0R\", \"0L-0R\", \"0L-0R\", \"0L-0R\",
+]
+";
+
+/// A day with the settings of that Enigma I.
+pub const PLAIN_DAY: &str = "[[day]]
+day = 1
+model = \"Enigma I\"
+reflector = \"B\"
+wheels = [\"I\", \"II\", \"III\"]
+rings = \"AAA\"
+window = \"AAA\"
+plugs = []
+groups = [\"ZUG\"]
+";
+
+/// The day of a message that was sent on the eastern front in July 1941, on the machine with ten cables.
+pub const DAY_OF_1941: &str = "[[day]]
+day = 1
+model = \"Enigma I\"
+reflector = \"B\"
+wheels = [\"II\", \"IV\", \"V\"]
+rings = [2, 21, 12]
+window = \"BLA\"
+plugs = [\"AV\", \"BS\", \"CG\", \"DL\", \"FU\", \"HZ\", \"IN\", \"KM\", \"OW\", \"RX\"]
+groups = [\"UGZ\"]
+";
+
+/// A day with the settings of the M4 that acts as an Enigma I.
+pub const DAY_OF_M4: &str = "[[day]]
+day = 1
+model = \"M4\"
+reflector = \"b\"
+wheels = [\"Beta\", \"I\", \"II\", \"III\"]
+rings = \"AAAA\"
+window = \"AAAA\"
+plugs = []
+groups = [\"ZUG\"]
+";
+
+/// A day with the settings of the Converter without effective pins.
+pub const DAY_WITHOUT_PINS: &str = "[[day]]
+day = 1
+model = \"M-209\"
+pins = [\"\", \"\", \"\", \"\", \"\", \"\"]
+rows = [\"0-0\", \"0-0\", \"0-0\", \"0-0\", \"0-0\", \"0-0\", \"0-0\", \"0-0\", \"0-0\",
+    \"0-0\", \"0-0\", \"0-0\", \"0-0\", \"0-0\", \"0-0\", \"0-0\", \"0-0\", \"0-0\",
+    \"0-0\", \"0-0\", \"0-0\", \"0-0\", \"0-0\", \"0-0\", \"0-0\", \"0-0\", \"0-0\",
+]
+window = \"AAAAAA\"
+list = \"QV\"
+";
+
+/// A day with the settings of the Converter all of whose bars are met by the first wheel.
+pub const DAY_OF_ALL_MET: &str = "[[day]]
+day = 1
+model = \"M-209\"
+pins = [\"P\", \"\", \"\", \"\", \"\", \"\"]
+rows = [\"0-1\", \"0-1\", \"0-1\", \"0-1\", \"0-1\", \"0-1\", \"0-1\", \"0-1\", \"0-1\",
+    \"0-1\", \"0-1\", \"0-1\", \"0-1\", \"0-1\", \"0-1\", \"0-1\", \"0-1\", \"0-1\",
+    \"0-1\", \"0-1\", \"0-1\", \"0-1\", \"0-1\", \"0-1\", \"0-1\", \"0-1\", \"0-1\",
+]
+window = \"AAAAAA\"
+list = \"QV\"
+";
+
 /// Two cables change places.
 pub const TWO_CABLES: &str = "CARD 1 DAY 8
 PULL 1 A

@@ -1,8 +1,10 @@
 ghost use Rattle.std.specs.Prelude.{◌≡◌, Some};
-ghost use Rattle.kd_desk.specs.Files.{content_of};
+ghost use Rattle.kd_tables.specs.Ports.{port};
+ghost use Rattle.kd_desk.specs.Files.{content_of, IsReadWhole};
 
-use super::FileFault;
-use kd_tables::READ_LIMIT;
+use super::{FileFault, PIECE};
+use kd_tables::{READ_LIMIT, Source};
+use std::alloc::Global;
 use std::marker::Model;
 
 /// The bytes of a file: at most 1,048,576.
@@ -39,4 +41,22 @@ impl Content {
     {
         self.bytes.as_slice()
     }
+}
+
+/// All the bytes of a source, unless they are more than a file may have. One byte more is read, to see that there are more.
+pub fn read_whole<S: Source>(alloc: Global, source: &mut S) -> Result<Content, FileFault>
+    ensures { IsReadWhole (port S.remaining S.has_failed source.old source.new) result }
+{
+    let mut bytes = Vec::new(alloc);
+    let mut buffer = [0; PIECE];
+    while bytes.len() <= READ_LIMIT {
+        let room = (READ_LIMIT + 1 - bytes.len()).min(PIECE);
+        let front = &mut buffer[..room];
+        match source.get(front) {
+            Ok(0) => return Ok(Content { bytes }),
+            Ok(count) => bytes.extend_from_slice(&front[..count])?,
+            Err(_) => return Err(FileFault::Device),
+        }
+    }
+    Err(FileFault::ReadTooLong)
 }

@@ -1,13 +1,11 @@
-ghost use Rattle.std.specs.Prelude.{◌≡◌, ◌⊎◌, [], false, Some, IfSome};
-ghost use Rattle.kd_desk.specs.Files.{content_of, HasFailed};
+ghost use Rattle.std.specs.Prelude.{◌≡◌, [], false};
 
 use super::asked::Asked;
-use super::{Content, FileFault, Files};
+use super::{Content, FileFault, Files, read_whole};
 use crate::ports::ReaderSource;
-use kd_tables::{Failed, READ_LIMIT, Source};
+use kd_tables::{Failed, Source};
 use std::alloc::Global;
 use std::fs::File;
-use std::io::Read;
 
 /// The files of the system that the program runs on.
 #[derive(Drop)]
@@ -34,9 +32,8 @@ impl<'n> Files<'n> for HostFiles<'n> {
     ghost asked = { λ s. s.asked };
 
     fn read(&mut self, alloc: Global, name: &'n str) -> Result<Content, FileFault> {
-        self.asked.add(name);
-        let file = File::open(self.rt, name)?;
-        read_whole(alloc, file)
+        let mut file = self.open(name)?;
+        read_whole(alloc, &mut file)
     }
 
     fn open(&mut self, name: &'n str) -> Result<HostFile, FileFault> {
@@ -73,15 +70,4 @@ impl Source for HostFile {
     fn failed(&self) -> bool {
         self.source.failed()
     }
-}
-
-/// All the bytes of a reader, unless they are more than a file may have.
-pub fn read_whole<R: Read + Drop>(alloc: Global, reader: R) -> Result<Content, FileFault>
-    ensures { IfSome (R.remaining reader)
-        (λ all. (result ≡ content_of (Some all)) ⊎ HasFailed result) }
-{
-    let mut bytes = Vec::new(alloc);
-    let mut front = reader.take(READ_LIMIT as u64 + 1);
-    front.read_to_end(&mut bytes)?;
-    Content::new(bytes)
 }

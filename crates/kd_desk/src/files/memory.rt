@@ -2,12 +2,9 @@ ghost use Rattle.std.specs.Prelude.{◌≡◌, [], option_map};
 ghost use Rattle.kd_desk.specs.Files.{held_in};
 
 use super::asked::Asked;
-use super::{Content, FileFault, Files};
+use super::{Content, FileFault, Files, PIECE};
 use kd_tables::MemorySource;
 use std::alloc::Global;
-
-/// How many bytes of an opened file are given at once, at most.
-const PIECE: usize = 4096;
 
 /// Files in memory: a name and the bytes of each.
 #[derive(Drop)]

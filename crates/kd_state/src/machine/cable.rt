@@ -99,7 +99,7 @@ pub(crate) fn are_apart(cables: &[Cable]) -> bool
     true
 }
 
-/// Whether the cable's letters are two, and lie in none of the others.
+/// Whether the cable's letters differ, and lie in none of the others.
 fn is_new(cable: &Cable, others: &[Cable]) -> bool
     ensures { result ≡ are_new (cable_letters cable.now) (plugged_letters others.now) }
 {

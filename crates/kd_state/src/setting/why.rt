@@ -21,10 +21,10 @@ pub enum Why {
     /// The wheel or the reflector may not be put there, or is not one of the model's.
     #[error("WheelNotAllowed")]
     WheelNotAllowed,
-    /// The slot is empty, or there is no such slot.
+    /// The slot is empty, or there is no such slot, or no pin wheel of that number to be turned.
     #[error("SlotEmpty")]
     SlotEmpty,
-    /// The letter is not on the wheel, or there is no such wheel.
+    /// The letter is not on the wheel; of a pin, also where there is no such wheel.
     #[error("NotOnWheel")]
     NotOnWheel,
     /// There is no bar of that number.

@@ -1,106 +1,82 @@
 //! Sources and sinks that fail.
-use super::samples::{KEYS, Keyed, M1, TWO_PARTS, keyed, order_of, without_pins};
+use super::samples::{CONVERTER_FORM, CONVERTER_ORDER, KEYS, TWO_PARTS, order_of};
+use crate::machines::{IDLE, Keyed, PLAIN, keyed};
 use kd_form::{FormFault, receive_stream, send, send_stream};
 use kd_tables::{MemorySink, MemorySource};
 use std::process::Abort;
 use std::test::Fail;
 
-/// The get behind so many fails, and then so many bytes are out, which begin so.
-fn get_of_an_order_fails(
+/// Of that order, of which so many gets succeed and for whose form there is so much room, this is written before a get or a
+/// put fails.
+fn sending_fails(
     rt: &impl Abort,
     (machine, day): &Keyed,
-    order: &[u8],
-    gets: usize,
-    front: &[u8],
-    length: usize,
+    order: &str,
+    gets: Option<usize>,
+    room: usize,
+    written: &[u8],
 ) {
-    let mut source = MemorySource::new(order, 7, Some(gets));
-    let mut sink = MemorySink::<512>::new(512);
+    let mut source = MemorySource::new(order.as_bytes(), 7, gets);
+    let mut sink = MemorySink::<512>::new(room.min(512));
     let answer = send_stream(machine, day, &mut source, &mut sink);
     assert_eq!(rt; answer.err(), Some(FormFault::Device));
-    assert!(rt; sink.taken().starts_with(front) && sink.taken().len() == length);
+    assert_eq!(rt; sink.taken(), written);
+}
+
+/// The same of a form and its text.
+fn receiving_fails(
+    rt: &impl Abort,
+    (machine, day): &Keyed,
+    form: &str,
+    gets: Option<usize>,
+    room: usize,
+    written: &[u8],
+) {
+    let mut source = MemorySource::new(form.as_bytes(), 7, gets);
+    let mut sink = MemorySink::<512>::new(room.min(512));
+    let answer = receive_stream(machine, day, &mut source, &mut sink);
+    assert_eq!(rt; answer.err(), Some(FormFault::Device));
+    assert_eq!(rt; sink.taken(), written);
 }
 
 /// The 246th letter comes with the 42nd get, and then the first part is out.
 #[test]
-fn each_get_of_an_order_fails_in_turn(rt: HostRuntime) -> Result<(), Fail> {
-    let keyed = keyed(&rt, &M1);
-    let order = order_of(&rt, KEYS, 2, 246)?;
+fn a_source_or_a_sink_of_an_order_fails(rt: HostRuntime) -> Result<(), Fail> {
+    let plain = keyed(&rt, rt.alloc(), &PLAIN);
+    let order = order_of(rt.alloc(), KEYS, 2, 246)?;
+    let form = send(rt.alloc(), &plain.0, &plain.1, order.as_bytes())?;
+    let form = form.as_slice();
     for gets in 0..42 {
-        get_of_an_order_fails(&rt, &keyed, order.as_slice(), gets, b"", 0);
+        sending_fails(&rt, &plain, order.as_str(), Some(gets), 512, b"");
     }
-    let first = b"PART 1/2 250 AAA BDZ\nQXUGZ BDZGO ";
-    get_of_an_order_fails(&rt, &keyed, order.as_slice(), 42, first, 321);
+    let first = form.get(..321).ok_or("a part")?;
+    sending_fails(&rt, &plain, order.as_str(), Some(42), 512, first);
+    for room in 0..form.len() {
+        sending_fails(&rt, &plain, order.as_str(), None, room, &form[..room]);
+    }
+    let idle = keyed(&rt, rt.alloc(), &IDLE);
+    let form = CONVERTER_FORM.as_bytes();
+    for room in 0..form.len() {
+        sending_fails(&rt, &idle, CONVERTER_ORDER, None, room, &form[..room]);
+    }
     Ok(())
-}
-
-/// The get behind so many fails, and then this text is out.
-fn get_of_a_form_fails(rt: &impl Abort, (machine, day): &Keyed, gets: usize, text: &[u8]) {
-    let mut source = MemorySource::new(TWO_PARTS, 7, Some(gets));
-    let mut sink = MemorySink::<64>::new(64);
-    let answer = receive_stream(machine, day, &mut source, &mut sink);
-    assert_eq!(rt; answer.err(), Some(FormFault::Device));
-    assert_eq!(rt; sink.taken(), text);
 }
 
 /// The digit of the second heading comes with the sixth get, and then the first part's text is out.
 #[test]
-fn each_get_of_a_form_fails_in_turn(rt: HostRuntime) {
-    let keyed = keyed(&rt, &M1);
-    for gets in 0..6 {
-        get_of_a_form_fails(&rt, &keyed, gets, b"");
+fn a_source_or_a_sink_of_a_form_fails(rt: HostRuntime) {
+    let plain = keyed(&rt, rt.alloc(), &PLAIN);
+    for gets in 0..11 {
+        let written = if gets < 6 { b"".as_slice() } else { b"AAAAA" };
+        receiving_fails(&rt, &plain, TWO_PARTS, Some(gets), 512, written);
     }
-    for gets in 6..11 {
-        get_of_a_form_fails(&rt, &keyed, gets, b"AAAAA");
+    let text = b"AAAAAAAAAA\n";
+    for room in 0..text.len() {
+        receiving_fails(&rt, &plain, TWO_PARTS, None, room, &text[..room]);
     }
-}
-
-/// Of that order each sink that takes less than its form has taken a front of it.
-fn order_fills(rt: &impl Abort, (machine, day): &Keyed, order: &[u8], form: &[u8]) {
-    for limit in 0..form.len() {
-        let mut source = MemorySource::new(order, 7, None);
-        let mut sink = MemorySink::<512>::new(limit.min(512));
-        let answer = send_stream(machine, day, &mut source, &mut sink);
-        assert_eq!(rt; answer.err(), Some(FormFault::Device));
-        assert_eq!(rt; sink.taken().len(), limit);
-        assert!(rt; form.starts_with(sink.taken()));
+    let idle = keyed(&rt, rt.alloc(), &IDLE);
+    let text = b"HELLO WORLDXXXX\n";
+    for room in 0..text.len() {
+        receiving_fails(&rt, &idle, CONVERTER_FORM, None, room, &text[..room]);
     }
-}
-
-/// The same of a form and its text.
-fn form_fills(rt: &impl Abort, (machine, day): &Keyed, form: &[u8], text: &[u8]) {
-    for limit in 0..text.len() {
-        let mut source = MemorySource::new(form, 7, None);
-        let mut sink = MemorySink::<64>::new(limit.min(64));
-        let answer = receive_stream(machine, day, &mut source, &mut sink);
-        assert_eq!(rt; answer.err(), Some(FormFault::Device));
-        assert_eq!(rt; sink.taken().len(), limit);
-        assert!(rt; text.starts_with(sink.taken()));
-    }
-}
-
-#[test]
-fn a_sink_fails_at_each_byte_of_a_form(rt: HostRuntime) -> Result<(), Fail> {
-    let keyed = keyed(&rt, &M1);
-    let order = order_of(&rt, KEYS, 2, 246)?;
-    let form = send(rt.alloc(), &keyed.0, &keyed.1, order.as_slice())?;
-    order_fills(&rt, &keyed, order.as_slice(), form.as_slice());
-    order_fills(
-        &rt,
-        &without_pins(&rt),
-        b"PART T ABCDEF\nTEXT\nHELLO WORLD",
-        b"PART 1/1 35\nTTABC DEFQV SVOOL ADLIO WCCCC TTABC DEFQV\n",
-    );
-    Ok(())
-}
-
-#[test]
-fn a_sink_fails_at_each_byte_of_a_text(rt: HostRuntime) {
-    form_fills(&rt, &keyed(&rt, &M1), TWO_PARTS, b"AAAAAAAAAA\n");
-    form_fills(
-        &rt,
-        &without_pins(&rt),
-        b"PART 1/1 35\nTTABC DEFQV SVOOL ADLIO WCCCC TTABC DEFQV\n",
-        b"HELLO WORLDXXXX\n",
-    );
 }

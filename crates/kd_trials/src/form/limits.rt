@@ -1,5 +1,6 @@
 //! Messages up to the limit of a stream, and beyond it.
-use super::samples::{Keyed, M1, keyed};
+use super::samples::Way;
+use crate::machines::{Keyed, PLAIN, keyed};
 use kd_form::{FormFault, receive_stream, send_stream};
 use kd_tables::{Failed, MemorySink, Source};
 use std::process::Abort;
@@ -100,48 +101,29 @@ static FORMS: [Case; 5] = [
 ];
 
 /// The call answers so, has written nothing, and has read no further than one byte beyond the limit.
-fn is_cut(
-    rt: &impl Abort,
-    answer: Result<(), FormFault>,
-    written: &[u8],
-    left: usize,
-    (_, _, length, due): &Case,
-) {
-    assert_eq!(rt; answer.err(), Some(*due));
-    assert!(rt; written.is_empty());
-    assert!(rt; left >= length.saturating_sub(1_048_577));
-}
-
-/// The source of such a message.
-fn source_of((front, byte, length, _): &Case) -> Filler {
-    Filler {
+fn is_cut(rt: &impl Abort, (machine, day): &Keyed, way: &Way, (front, byte, length, due): &Case) {
+    let mut source = Filler {
         front: *front,
         byte: *byte,
         left: *length,
-    }
-}
-
-fn orders_are_cut(rt: &impl Abort, (machine, day): &Keyed, cases: &[Case]) {
-    for case in cases {
-        let mut source = source_of(case);
-        let mut sink = MemorySink::<64>::new(64);
-        let answer = send_stream(machine, day, &mut source, &mut sink);
-        is_cut(rt, answer, sink.taken(), source.left, case);
-    }
-}
-
-fn forms_are_cut(rt: &impl Abort, (machine, day): &Keyed, cases: &[Case]) {
-    for case in cases {
-        let mut source = source_of(case);
-        let mut sink = MemorySink::<64>::new(64);
-        let answer = receive_stream(machine, day, &mut source, &mut sink);
-        is_cut(rt, answer, sink.taken(), source.left, case);
-    }
+    };
+    let mut sink = MemorySink::<64>::new(64);
+    let answer = match way {
+        Way::Sent => send_stream(machine, day, &mut source, &mut sink),
+        Way::Received => receive_stream(machine, day, &mut source, &mut sink),
+    };
+    assert_eq!(rt; answer.err(), Some(*due));
+    assert!(rt; sink.taken().is_empty());
+    assert!(rt; source.left >= length.saturating_sub(1_048_577));
 }
 
 #[test]
 fn messages_are_cut_at_the_limit(rt: HostRuntime) {
-    let keyed = keyed(&rt, &M1);
-    orders_are_cut(&rt, &keyed, &ORDERS);
-    forms_are_cut(&rt, &keyed, &FORMS);
+    let keyed = keyed(&rt, rt.alloc(), &PLAIN);
+    for case in &ORDERS {
+        is_cut(&rt, &keyed, &Way::Sent, case);
+    }
+    for case in &FORMS {
+        is_cut(&rt, &keyed, &Way::Received, case);
+    }
 }

@@ -1,50 +1,160 @@
-use super::samples::{KEYS, Keyed, M1, keyed, order_of, without_pins};
-use kd_form::{FormFault, receive, receive_stream, send};
+//! Texts of many parts.
+use super::samples::{KEYS, PIN_KEYS, order_of};
+use crate::machines::{IDLE, Keyed, PLAIN, Told, keyed};
+use kd_form::{FormFault, receive, receive_stream, send, send_stream};
 use kd_tables::{MemorySink, MemorySource};
 use std::alloc::Global;
 use std::process::Abort;
 use std::test::Fail;
 
-/// A line of keys for the day of the Converter without pins.
-const PIN_KEYS: &[u8] = b"PART T ABCDEF\n";
-
-/// The form of an order of so many lines of keys, and so many letters A.
-fn form_of(
-    rt: &HostRuntime,
-    (machine, day): &Keyed,
-    keys: &[u8],
-    lines: usize,
+/// A text of letters A that is sent and received back: a machine on its day, a line of its keys, how many of them there are,
+/// how many letters; how many bytes a source gives at once; how the form begins, how its last part begins, how long that part
+/// and the whole form are; and what stands behind the letters in the text that is received.
+struct Case {
+    told: Told,
+    keys: &'static str,
+    parts: usize,
     letters: usize,
-) -> Result<Vec<u8>, Fail> {
-    let order = order_of(rt, keys, lines, letters)?;
-    Ok(send(rt.alloc(), machine, day, order.as_slice())?)
+    pieces: &'static [usize],
+    first: &'static [u8],
+    last: &'static [u8],
+    last_length: usize,
+    length: usize,
+    behind: &'static [u8],
 }
 
-/// Whether the text is so many letters A, and this.
-fn is_given(text: &[u8], letters: usize, end: &[u8]) -> bool {
-    match text.split_at_checked(letters) {
-        Some((letters, rest)) => letters.iter().all(|byte| *byte == b'A') && rest == end,
-        None => false,
+static CASES: [Case; 6] = [
+    // A part of 250 letters has five lines of 60 bytes behind its heading, and one of 520 ten, and one of 24.
+    Case {
+        told: PLAIN,
+        keys: KEYS,
+        parts: 1,
+        letters: 245,
+        pieces: &[7],
+        first: b"PART 1/1 250 AAA BDZ\nQXUGZ BDZGO ",
+        last: b"PART 1/1 250 AAA BDZ\nQXUGZ BDZGO ",
+        last_length: 321,
+        length: 321,
+        behind: b"\n",
+    },
+    Case {
+        told: PLAIN,
+        keys: KEYS,
+        parts: 2,
+        letters: 246,
+        pieces: &[1, 2, 7],
+        first: b"PART 1/2 250 AAA BDZ\nQXUGZ BDZGO ",
+        last: b"PART 2/2 6 AAA BDZ\nQXUGZ B\n",
+        last_length: 27,
+        length: 348,
+        behind: b"\n",
+    },
+    Case {
+        told: PLAIN,
+        keys: KEYS,
+        parts: 99,
+        letters: 24_255,
+        pieces: &[4_096],
+        first: b"PART 1/99 250 AAA BDZ\nQXUGZ BDZGO ",
+        last: b"PART 99/99 250 AAA BDZ\nQXUGZ BDZGO ",
+        last_length: 323,
+        length: 31_968,
+        behind: b"\n",
+    },
+    Case {
+        told: IDLE,
+        keys: PIN_KEYS,
+        parts: 1,
+        letters: 500,
+        pieces: &[7],
+        first: b"PART 1/1 520\nTTABC DEFQV ZZZZZ ",
+        last: b"PART 1/1 520\nTTABC DEFQV ZZZZZ ",
+        last_length: 637,
+        length: 637,
+        behind: b"\n",
+    },
+    Case {
+        told: IDLE,
+        keys: PIN_KEYS,
+        parts: 2,
+        letters: 501,
+        pieces: &[1, 2, 7],
+        first: b"PART 1/2 520\nTTABC DEFQV ZZZZZ ",
+        last: b"PART 2/2 25\nTTABC DEFQV ZCCCC TTABC DEFQV\n",
+        last_length: 42,
+        length: 679,
+        behind: b"XXXX\n",
+    },
+    Case {
+        told: IDLE,
+        keys: PIN_KEYS,
+        parts: 99,
+        letters: 49_500,
+        pieces: &[4_096],
+        first: b"PART 1/99 520\nTTABC DEFQV ZZZZZ ",
+        last: b"PART 99/99 520\nTTABC DEFQV ZZZZZ ",
+        last_length: 639,
+        length: 63_252,
+        behind: b"\n",
+    },
+];
+
+/// The order becomes the form, and the form the text, in whatever of the pieces they come.
+fn are_streamed(
+    rt: &impl Abort,
+    (machine, day): &Keyed,
+    pieces: &[usize],
+    order: &[u8],
+    form: &[u8],
+    text: &[u8],
+) {
+    for piece in pieces {
+        let mut source = MemorySource::new(order, (*piece).max(1), None);
+        let mut sink = MemorySink::<65_536>::new(65_536);
+        assert!(rt; send_stream(machine, day, &mut source, &mut sink).is_ok());
+        assert!(rt; sink.taken() == form);
+        let mut source = MemorySource::new(form, (*piece).max(1), None);
+        let mut sink = MemorySink::<65_536>::new(65_536);
+        assert!(rt; receive_stream(machine, day, &mut source, &mut sink).is_ok());
+        assert!(rt; sink.taken() == text);
     }
 }
 
+/// The form begins so, its last part does, and it is so long.
+fn is_form(rt: &impl Abort, form: &[u8], case: &Case) {
+    let last = form.len().saturating_sub(case.last_length);
+    assert_eq!(rt; form.len(), case.length);
+    assert!(rt; form.starts_with(case.first));
+    assert!(rt; form.get(last..).unwrap_or(&[]).starts_with(case.last));
+}
+
+/// The text is sent and received back, whole and as it comes.
+fn is_sent_and_received(rt: &impl Abort, alloc: Global, case: &Case) -> Result<(), Fail> {
+    let keyed = keyed(rt, alloc, &case.told);
+    let order = order_of(alloc, case.keys, case.parts, case.letters)?;
+    let order = order.as_bytes();
+    let form = send(alloc, &keyed.0, &keyed.1, order)?;
+    is_form(rt, form.as_slice(), case);
+    let text = receive(alloc, &keyed.0, &keyed.1, form.as_slice())?;
+    let letters = "A".repeat(alloc, case.letters)?;
+    let due = text.as_slice().strip_prefix(letters.as_bytes());
+    assert!(rt; due == Some(case.behind));
+    are_streamed(
+        rt,
+        &keyed,
+        case.pieces,
+        order,
+        form.as_slice(),
+        text.as_slice(),
+    );
+    Ok(())
+}
+
 #[test]
-fn a_long_text_takes_two_parts(rt: HostRuntime) -> Result<(), Fail> {
-    let keyed = keyed(&rt, &M1);
-    let form = form_of(&rt, &keyed, KEYS, 2, 246)?;
-    let first = b"PART 1/2 250 AAA BDZ\nQXUGZ BDZGO ";
-    let last = b"\nPART 2/2 6 AAA BDZ\nQXUGZ B\n";
-    assert!(rt; form.as_slice().starts_with(first));
-    assert!(rt; form.as_slice().ends_with(last));
-    let lines = form
-        .as_slice()
-        .iter()
-        .filter(|byte| **byte == b'\n')
-        .count();
-    assert_eq!(rt; lines, 8);
-    let (machine, day) = &keyed;
-    let text = receive(rt.alloc(), machine, day, form.as_slice())?;
-    assert!(rt; is_given(text.as_slice(), 246, b"\n"));
+fn long_texts_are_sent_and_received(rt: HostRuntime) -> Result<(), Fail> {
+    for case in &CASES {
+        is_sent_and_received(&rt, rt.alloc(), case)?;
+    }
     Ok(())
 }
 
@@ -57,99 +167,24 @@ fn is_out_of_order(
     letters: usize,
 ) {
     let fault = receive(alloc, machine, day, form).err();
-    assert_eq!(rt; fault, Some(FormFault::PartOrder));
+    assert!(rt; fault == Some(FormFault::PartOrder));
     let mut source = MemorySource::new(form, 7, None);
     let mut sink = MemorySink::<512>::new(512);
     let fault = receive_stream(machine, day, &mut source, &mut sink).err();
-    assert_eq!(rt; fault, Some(FormFault::PartOrder));
-    assert!(rt; is_given(sink.taken(), letters, b""));
+    assert!(rt; fault == Some(FormFault::PartOrder));
+    assert!(rt; sink.taken().len() == letters && sink.taken().iter().all(|byte| *byte == b'A'));
 }
 
 #[test]
 fn parts_are_missing_or_exchanged(rt: HostRuntime) -> Result<(), Fail> {
-    let keyed = keyed(&rt, &M1);
-    let form = form_of(&rt, &keyed, KEYS, 2, 246)?;
-    let second = b"PART 2/2 6 AAA BDZ\nQXUGZ B\n";
-    let first = form
-        .as_slice()
-        .strip_suffix(second)
-        .ok_or("no second part")?;
+    let keyed = keyed(&rt, rt.alloc(), &PLAIN);
+    let order = order_of(rt.alloc(), KEYS, 2, 246)?;
+    let form = send(rt.alloc(), &keyed.0, &keyed.1, order.as_bytes())?;
+    let (first, second) = form.as_slice().split_at_checked(321).ok_or("two parts")?;
     let mut exchanged = Vec::new(rt.alloc());
     exchanged.extend_from_slice(second)?;
     exchanged.extend_from_slice(first)?;
     is_out_of_order(&rt, rt.alloc(), &keyed, first, 245);
     is_out_of_order(&rt, rt.alloc(), &keyed, exchanged.as_slice(), 0);
-    Ok(())
-}
-
-#[test]
-fn a_form_of_99_parts(rt: HostRuntime) -> Result<(), Fail> {
-    let keyed = keyed(&rt, &M1);
-    let form = form_of(&rt, &keyed, KEYS, 99, 24011)?;
-    let last = b"\nPART 99/99 6 AAA BDZ\nQXUGZ B\n";
-    assert!(rt; form.as_slice().ends_with(last));
-    let (machine, day) = &keyed;
-    let text = receive(rt.alloc(), machine, day, form.as_slice())?;
-    assert!(rt; is_given(text.as_slice(), 24011, b"\n"));
-    Ok(())
-}
-
-#[test]
-fn parts_that_are_full(rt: HostRuntime) -> Result<(), Fail> {
-    for (keyed, keys, letters, heading) in [
-        (
-            keyed(&rt, &M1),
-            KEYS,
-            245,
-            b"PART 1/1 250 AAA BDZ\n".as_slice(),
-        ),
-        (without_pins(&rt), PIN_KEYS, 500, b"PART 1/1 520\n"),
-    ] {
-        let form = form_of(&rt, &keyed, keys, 1, letters)?;
-        assert!(rt; form.as_slice().starts_with(heading));
-        let (machine, day) = &keyed;
-        let text = receive(rt.alloc(), machine, day, form.as_slice())?;
-        assert!(rt; is_given(text.as_slice(), letters, b"\n"));
-    }
-    Ok(())
-}
-
-#[test]
-fn another_number_of_parts(rt: HostRuntime) -> Result<(), Fail> {
-    let (machine, day) = keyed(&rt, &M1);
-    for (lines, letters, due) in [
-        (1, 245, None),
-        (1, 246, Some((2, 1))),
-        (2, 245, Some((1, 2))),
-        (99, 24256, Some((100, 99))),
-    ] {
-        let order = order_of(&rt, KEYS, lines, letters)?;
-        let fault = send(rt.alloc(), &machine, &day, order.as_slice()).err();
-        let due = due.map(|(needed, given)| FormFault::PartKeys { needed, given });
-        assert_eq!(rt; fault, due);
-    }
-    Ok(())
-}
-
-#[test]
-fn long_texts_on_the_converter(rt: HostRuntime) -> Result<(), Fail> {
-    let keyed = without_pins(&rt);
-    let form = form_of(&rt, &keyed, PIN_KEYS, 2, 501)?;
-    let last = b"\nPART 2/2 25\nTTABC DEFQV ZCCCC TTABC DEFQV\n";
-    assert!(rt;
-        form.as_slice()
-            .starts_with(b"PART 1/2 520\nTTABC DEFQV ZZZZZ ")
-    );
-    assert!(rt; form.as_slice().ends_with(last));
-    let (machine, day) = &keyed;
-    let text = receive(rt.alloc(), machine, day, form.as_slice())?;
-    assert!(rt; is_given(text.as_slice(), 501, b"XXXX\n"));
-    let order = order_of(&rt, PIN_KEYS, 1, 501)?;
-    let fault = send(rt.alloc(), machine, day, order.as_slice()).err();
-    let due = FormFault::PartKeys {
-        needed: 2,
-        given: 1,
-    };
-    assert_eq!(rt; fault, Some(due));
     Ok(())
 }

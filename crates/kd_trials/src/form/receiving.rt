@@ -1,256 +1,322 @@
+//! Forms that are received, whole and as they come.
 use super::samples::{
-    Keyed, M1, M1_OF_1941, M1_OFF_KEY, M1_UNREADY, M1_WITH_ANOTHER_GROUP, M4, M4_OF_1942, MESSAGE,
-    keyed, with_one_pin, without_pins,
+    Case, FOUR_WHEELS, OF_1941, OFF_KEY, ONE_PIN, OTHER_GROUP, PIECES, TWO_PARTS, UNREADY,
 };
-use kd_form::{FormFault, receive};
+use crate::machines::{IDLE, Keyed, PLAIN, Told, keyed};
+use kd_form::FormFault::{
+    self, BadByte, BadHeading, CountWrong, IndicatorSpent, IndicatorsDiffer, KeyNotOnWheel,
+    NotOnKey, NotReady, PartOrder, WrongGroup,
+};
+use kd_form::{receive, receive_stream};
+use kd_tables::{MemorySink, MemorySource};
 use std::alloc::Global;
 use std::process::Abort;
 use std::test::Fail;
 
-/// The text of the form, or what it is refused for.
-fn text(rt: &HostRuntime, (machine, day): &Keyed, form: &[u8]) -> Result<Vec<u8>, FormFault> {
-    receive(rt.alloc(), machine, day, form)
-}
+/// Machines on their days, each with its forms.
+static FORMS: [(Told, &[Case]); 7] = [
+    (
+        PLAIN,
+        &[
+            ("PART 1/1 10 AAA BDZ\nQXUGZ BDZGO\n", "AAAAA\n", None),
+            ("PART 1/1 10 AAA BDZ\nQXUGZ BDZGO", "AAAAA\n", None),
+            ("PART 1/1 10 AAA BDZ\r\nQXUGZ BDZGO\r\n", "AAAAA\n", None),
+            ("PART 1/1 10 AAA BDZ\nQXUGZBDZGO", "AAAAA\n", None),
+            (
+                "PART 1/1 10 AAA BDZ\nQ\nX\nU\nG\nZ\nB\nD\nZ\nG\nO\n",
+                "AAAAA\n",
+                None,
+            ),
+            (
+                "PART 1/1 10 AAA BDZ\n\n Q X UGZ \n\nB  DZGO\r\r ",
+                "AAAAA\n",
+                None,
+            ),
+            ("PART 1/1 10 AAA BDZ\nQXGUZ BDZGO\n", "AAAAA\n", None),
+            ("", "", Some(BadHeading(1))),
+            ("\nPART 1/1 6 AAA BDZ\nQXUGZ B", "", Some(BadHeading(1))),
+            ("PART 1/1 6 AAA BDZ\r", "", Some(BadHeading(1))),
+            ("PART 01/1 6 AAA BDZ\nQXUGZ B", "", Some(BadHeading(1))),
+            ("PART 1/01 6 AAA BDZ\nQXUGZ B", "", Some(BadHeading(1))),
+            ("PART 1/1 06 AAA BDZ\nQXUGZ B", "", Some(BadHeading(1))),
+            ("PART 0/1 6 AAA BDZ\nQXUGZ B", "", Some(BadHeading(1))),
+            ("PART 2/1 6 AAA BDZ\nQXUGZ B", "", Some(BadHeading(1))),
+            ("PART 1/100 6 AAA BDZ\nQXUGZ B", "", Some(BadHeading(1))),
+            ("PART 1/1 5 AAA BDZ\nQXUGZ", "", Some(BadHeading(1))),
+            ("PART 1/1 251 AAA BDZ\nQXUGZ", "", Some(BadHeading(1))),
+            ("PART 1/1 6\nQXUGZ B", "", Some(BadHeading(1))),
+            ("PART 1/1 6 AAA BD\nQXUGZ B", "", Some(BadHeading(1))),
+            ("PART 1/1 6 AAA BDZ \nQXUGZ B", "", Some(BadHeading(1))),
+            ("PART 1/1 6 AAA BDz\nQXUGZ B", "", Some(BadHeading(1))),
+            ("PART 2/2 6 AAA BDZ\nQXUGz", "", Some(PartOrder)),
+            ("PART 1/1 6 AAA BDZ\nQXABC Bz", "", Some(BadByte(27))),
+            ("PART 1/1 6 AAA BDZ\nQXABC\nPART X", "", Some(CountWrong(1))),
+            ("PART 1/1 6 AAA BDZ\nQXABC BB", "", Some(CountWrong(1))),
+            ("PART 1/1 6 AAA BDZ\nQXABC B", "", Some(WrongGroup(1))),
+            ("PART 1/2 6 AAA BDZ\nQXUGZ B", "A", Some(PartOrder)),
+            (
+                "PART 1/2 6 AAA BDZ\nQXUGZ B\nPART 2/2 6 AAA BD",
+                "A",
+                Some(BadHeading(2)),
+            ),
+            (
+                "PART 1/2 6 AAA BDZ\nQXUGZ B\nPART 1/2 6 AAA BDZ\nQXUGZ B",
+                "A",
+                Some(PartOrder),
+            ),
+            (
+                "PART 1/2 6 AAA BDZ\nQXUGZ B\nPART 2/3 6 AAA BDZ\nQXUGZ B",
+                "A",
+                Some(PartOrder),
+            ),
+            (
+                "PART 1/2 6 AAA BDZ\nQXUGZ B\nPART 2/2 6 AAA BDZ\nQXUGZ 1",
+                "A",
+                Some(BadByte(53)),
+            ),
+            (
+                "PART 1/2 6 AAA BDZ\nQXUGZ B\nPART 2/2 6 AAA BDZ\nQXUGZ BPART 3",
+                "A",
+                Some(BadByte(59)),
+            ),
+            (
+                "PART 1/2 6 AAA BDZ\nQXUGZ B\nPART 2/2 6 AAA BDZ\nQXABC B",
+                "A",
+                Some(WrongGroup(2)),
+            ),
+            (
+                "PART 1/2 10 AAA BDZ\nQXUGZ BDZGO\nPART 2/2 10 AAA BDZ\r\nQXUGZ BDZGO",
+                "AAAAAAAAAA\n",
+                None,
+            ),
+            // Its second part is missing.
+            (
+                "PART 1/2 10 AAA BDZ\nQXUGZ BDZGO\n",
+                "AAAAA",
+                Some(PartOrder),
+            ),
+            // The parts are exchanged.
+            (
+                "PART 2/2 10 AAA BDZ\nQXUGZ BDZGO\nPART 1/2 10 AAA BDZ\nQXUGZ BDZGO\n",
+                "",
+                Some(PartOrder),
+            ),
+            // PART without a digit behind it is four letters.
+            (
+                "PART 1/1 10 AAA BDZ\nQXUGZ BDZGO\nPART \n",
+                "",
+                Some(CountWrong(1)),
+            ),
+            (
+                "PART 1/1 10 AAA BDZ\nQXUGZ BDZ\nPART Q\nPART 1/1 10 AAA BDZ\n",
+                "",
+                Some(CountWrong(1)),
+            ),
+            // A bad byte is told before the count of letters.
+            ("PART 1/1 10 AAA BDZ\nQXUGZ BDZGO A5", "", Some(BadByte(34))),
+            (
+                "PART 1/2 10 AAA BDZ\nQXUGZ BDZGO\nPART 2/2 10 AAA\n",
+                "AAAAA",
+                Some(BadHeading(2)),
+            ),
+            ("PART 1/1 10 AAA BDZ", "", Some(CountWrong(1))),
+            ("PART ", "", Some(BadHeading(1))),
+            (
+                "part 1/1 10 AAA BDZ\nQXUGZ BDZGO\n",
+                "",
+                Some(BadHeading(1)),
+            ),
+        ],
+    ),
+    (OFF_KEY, &[("", "", Some(NotOnKey))]),
+    (UNREADY, &[("", "", Some(NotReady))]),
+    (
+        FOUR_WHEELS,
+        &[("PART 1/1 10 AAAA BDZG\nQXUGZ BDZGO\n", "AAAAA\n", None)],
+    ),
+    (
+        IDLE,
+        &[
+            (
+                "PART 1/1 35\nTTABC DEFQV SVOOL ADLIO WCCCC TTABC DEFQV\n",
+                "HELLO WORLDXXXX\n",
+                None,
+            ),
+            (
+                "PART 1/1 20\nTTABC DEFQV TTABC DEFQV",
+                "",
+                Some(BadHeading(1)),
+            ),
+            (
+                "PART 1/1 26\nTTABC DEFQV SVOOL A TTABC DEFQV",
+                "",
+                Some(BadHeading(1)),
+            ),
+            ("PART 1/1 525\nTTABC DEFQV", "", Some(BadHeading(1))),
+            (
+                "PART 1/1 25 AAA BDZ\nTTABC DEFQV SVOOL TTABC DEFQV",
+                "",
+                Some(BadHeading(1)),
+            ),
+            (
+                "PART 1/1 25\nTTABC DEFQV SVOOL TTABC DEFQW",
+                "",
+                Some(IndicatorsDiffer(1)),
+            ),
+            (
+                "PART 1/1 25\nTUABC DEZQW SVOOL TUABC DEZQW",
+                "",
+                Some(IndicatorsDiffer(1)),
+            ),
+            (
+                "PART 1/1 25\nTTABC DEZQW SVOOL TTABC DEZQW",
+                "",
+                Some(KeyNotOnWheel),
+            ),
+            (
+                "PART 1/1 25\nAAABC DEFQW SVOOL AAABC DEFQW",
+                "",
+                Some(WrongGroup(1)),
+            ),
+            (
+                "PART 1/1 25\nAAABC DEFQV SVOOL AAABC DEFQV",
+                "",
+                Some(IndicatorSpent(1)),
+            ),
+        ],
+    ),
+    (
+        ONE_PIN,
+        &[
+            (
+                "PART 1/1 25\nJJVAA AAAQV ZZZZZ JJVAA AAAQV\n",
+                "AAAAA\n",
+                None,
+            ),
+            (
+                "PART 1/1 25\nJJVAA AAAQV ZZZZZ JJVAA AAAQW\n",
+                "",
+                Some(IndicatorsDiffer(1)),
+            ),
+            (
+                "PART 1/1 25\nJJVAA AAAQW ZZZZZ JJVAA AAAQW\n",
+                "",
+                Some(WrongGroup(1)),
+            ),
+        ],
+    ),
+    (OTHER_GROUP, &[(MESSAGE, "", Some(WrongGroup(1)))]),
+];
 
-/// What the form is refused for.
-fn fault(rt: &HostRuntime, keyed: &Keyed, form: &[u8]) -> Option<FormFault> {
-    text(rt, keyed, form).err()
-}
-
-/// The form becomes that text.
-fn becomes(
+/// The form becomes that text, or is refused behind it, whole and in whatever pieces it comes.
+fn is_received(
     rt: &impl Abort,
     alloc: Global,
     (machine, day): &Keyed,
     form: &[u8],
     text: &[u8],
-) -> Result<(), FormFault> {
-    let given = receive(alloc, machine, day, form)?;
-    assert_eq!(rt; given.as_slice(), text);
-    Ok(())
-}
-
-/// Forms of five letters A.
-static ALIKE: [&[u8]; 7] = [
-    b"PART 1/1 10 AAA BDZ\nQXUGZ BDZGO\n",
-    b"PART 1/1 10 AAA BDZ\nQXUGZ BDZGO",
-    b"PART 1/1 10 AAA BDZ\r\nQXUGZ BDZGO\r\n",
-    b"PART 1/1 10 AAA BDZ\nQXUGZBDZGO",
-    b"PART 1/1 10 AAA BDZ\nQ\nX\nU\nG\nZ\nB\nD\nZ\nG\nO\n",
-    b"PART 1/1 10 AAA BDZ\n\n Q X UGZ \n\nB  DZGO\r\r ",
-    b"PART 1/1 10 AAA BDZ\nQXGUZ BDZGO\n",
-];
-
-#[test]
-fn a_form_becomes_its_text(rt: HostRuntime) -> Result<(), FormFault> {
-    let keyed = keyed(&rt, &M1);
-    for form in &ALIKE {
-        becomes(&rt, rt.alloc(), &keyed, form, b"AAAAA\n")?;
+    fault: Option<FormFault>,
+) {
+    for piece in &PIECES {
+        let mut source = MemorySource::new(form, (*piece).max(1), None);
+        let mut sink = MemorySink::<256>::new(256);
+        let answer = receive_stream(machine, day, &mut source, &mut sink);
+        assert_eq!(rt; answer.err(), fault);
+        assert_eq!(rt; sink.taken(), text);
     }
-    Ok(())
+    match receive(alloc, machine, day, form) {
+        Ok(given) => assert!(rt; fault.is_none() && given.as_slice() == text),
+        Err(answer) => assert_eq!(rt; Some(answer), fault),
+    }
 }
 
 #[test]
-fn a_form_of_four_wheels_becomes_its_text(rt: HostRuntime) -> Result<(), FormFault> {
-    let form = b"PART 1/1 10 AAAA BDZG\nQXUGZ BDZGO\n";
-    becomes(&rt, rt.alloc(), &keyed(&rt, &M4), form, b"AAAAA\n")
+fn forms_are_received(rt: HostRuntime) {
+    for (told, cases) in &FORMS {
+        let keyed = keyed(&rt, rt.alloc(), told);
+        for (form, text, fault) in *cases {
+            is_received(
+                &rt,
+                rt.alloc(),
+                &keyed,
+                form.as_bytes(),
+                text.as_bytes(),
+                *fault,
+            );
+        }
+    }
 }
 
+/// A message of 1941.
+const MESSAGE: &str = "PART 1/1 179 WXC KCH
+RFUGZ EDPUD NRGYS ZRCXN UYTPO MRMBO FKTBZ REZKM LXLVE FGUEY
+SIOZV EQMIK UBPMM YLKLT TDEIS MDICA GYKUA CTCDO MOHWX MUUIA
+UBSTS LRNBZ SZWNR FXWFY SSXJZ VIJHI DISHP RKLKA YUPAD TXQSP
+INQMA TLPIF SVKDA SCTAC DPBOP VHJK
+";
+
+/// Of its text only the front and the length are known. Without its last LF the form is whole too.
 #[test]
 fn a_message_of_1941(rt: HostRuntime) -> Result<(), Fail> {
-    let keyed = keyed(&rt, &M1_OF_1941);
-    let given = text(&rt, &keyed, MESSAGE)?;
-    assert!(rt; given.as_slice().starts_with(b"AUFKLXABTEILUNG"));
-    assert_eq!(rt; given.len(), 175);
-    assert_eq!(rt; given.last(), Some(&b'\n'));
-    let whole = MESSAGE.len() - 1;
-    let also = text(&rt, &keyed, &MESSAGE[..whole])?;
-    assert_eq!(rt; also.as_slice(), given.as_slice());
-    Ok(())
-}
-
-#[test]
-fn a_message_of_another_day(rt: HostRuntime) {
-    let keyed = keyed(&rt, &M1_WITH_ANOTHER_GROUP);
-    assert_eq!(rt; fault(&rt, &keyed, MESSAGE), Some(FormFault::WrongGroup(1)));
-}
-
-#[test]
-fn a_message_of_1942(rt: HostRuntime) -> Result<(), FormFault> {
-    let form = b"PART 1/1 13 VJNA NGZS\nQXUGZ NCZWV USX\n";
-    becomes(
-        &rt,
-        rt.alloc(),
-        &keyed(&rt, &M4_OF_1942),
-        form,
-        b"VONVONJL\n",
-    )
-}
-
-#[test]
-fn a_message_with_another_count(rt: HostRuntime) -> Result<(), Fail> {
-    let keyed = keyed(&rt, &M1_OF_1941);
-    for heading in [b"PART 1/1 178 WXC KCH".as_slice(), b"PART 1/1 180 WXC KCH"] {
-        let mut form = Vec::new(rt.alloc());
-        form.extend_from_slice(heading)?;
-        form.extend_from_slice(&MESSAGE[20..])?;
-        assert_eq!(rt;
-            fault(&rt, &keyed, form.as_slice()),
-            Some(FormFault::CountWrong(1))
+    let keyed = keyed(&rt, rt.alloc(), &OF_1941);
+    let form = MESSAGE.as_bytes();
+    let text = receive(rt.alloc(), &keyed.0, &keyed.1, form)?;
+    assert!(rt; text.as_slice().starts_with(b"AUFKLXABTEILUNG"));
+    assert!(rt; text.len() == 175 && text.last() == Some(&b'\n'));
+    is_received(&rt, rt.alloc(), &keyed, form, text.as_slice(), None);
+    let unended = &form[..form.len() - 1];
+    is_received(&rt, rt.alloc(), &keyed, unended, text.as_slice(), None);
+    for count in ["178", "180"] {
+        let form = MESSAGE.replace(rt.alloc(), "179", count)?;
+        is_received(
+            &rt,
+            rt.alloc(),
+            &keyed,
+            form.as_bytes(),
+            b"",
+            Some(CountWrong(1)),
         );
     }
     Ok(())
 }
 
-#[test]
-fn a_form_of_the_converter_becomes_its_text(rt: HostRuntime) -> Result<(), FormFault> {
-    let form = b"PART 1/1 35\nTTABC DEFQV SVOOL ADLIO WCCCC TTABC DEFQV\n";
-    becomes(
-        &rt,
-        rt.alloc(),
-        &without_pins(&rt),
-        form,
-        b"HELLO WORLDXXXX\n",
-    )
-}
+/// Below so many bytes of the form, and not below the number of the case before, this is written, and then comes that fault, if
+/// there is one.
+type Cut = (usize, &'static [u8], Option<FormFault>);
 
-#[test]
-fn a_form_with_one_pin_becomes_its_text(rt: HostRuntime) -> Result<(), FormFault> {
-    let form = b"PART 1/1 25\nJJVAA AAAQV ZZZZZ JJVAA AAAQV\n";
-    becomes(&rt, rt.alloc(), &with_one_pin(&rt), form, b"AAAAA\n")
-}
-
-/// Forms on a Converter without pins, each with its fault.
-static REFUSED_ON_THE_CONVERTER: [(&[u8], FormFault); 9] = [
-    (
-        b"PART 1/1 20\nTTABC DEFQV TTABC DEFQV",
-        FormFault::BadHeading(1),
-    ),
-    (
-        b"PART 1/1 26\nTTABC DEFQV SVOOL A TTABC DEFQV",
-        FormFault::BadHeading(1),
-    ),
-    (b"PART 1/1 525\nTTABC DEFQV", FormFault::BadHeading(1)),
-    (
-        b"PART 1/1 25 AAA BDZ\nTTABC DEFQV SVOOL TTABC DEFQV",
-        FormFault::BadHeading(1),
-    ),
-    (
-        b"PART 1/1 25\nTTABC DEFQV SVOOL TTABC DEFQW",
-        FormFault::IndicatorsDiffer(1),
-    ),
-    (
-        b"PART 1/1 25\nTUABC DEZQW SVOOL TUABC DEZQW",
-        FormFault::IndicatorsDiffer(1),
-    ),
-    (
-        b"PART 1/1 25\nTTABC DEZQW SVOOL TTABC DEZQW",
-        FormFault::KeyNotOnWheel,
-    ),
-    (
-        b"PART 1/1 25\nAAABC DEFQW SVOOL AAABC DEFQW",
-        FormFault::WrongGroup(1),
-    ),
-    (
-        b"PART 1/1 25\nAAABC DEFQV SVOOL AAABC DEFQV",
-        FormFault::IndicatorSpent(1),
-    ),
+/// Of two parts. A part is whole at the end of the form, and at the digit of the next heading.
+static OF_TWO_PARTS: [Cut; 7] = [
+    (19, b"", Some(BadHeading(1))),
+    (31, b"", Some(CountWrong(1))),
+    (33, b"AAAAA", Some(PartOrder)),
+    (38, b"", Some(CountWrong(1))),
+    (51, b"AAAAA", Some(BadHeading(2))),
+    (63, b"AAAAA", Some(CountWrong(2))),
+    (65, b"AAAAAAAAAA\n", None),
 ];
 
-#[test]
-fn forms_of_the_converter_are_refused_in_turn(rt: HostRuntime) {
-    let keyed = without_pins(&rt);
-    for (form, due) in &REFUSED_ON_THE_CONVERTER {
-        assert_eq!(rt; fault(&rt, &keyed, form), Some(*due));
-    }
-}
-
-/// Forms with the letters of the list exchanged.
-static EXCHANGED: [(&[u8], FormFault); 2] = [
-    (
-        b"PART 1/1 25\nJJVAA AAAQV ZZZZZ JJVAA AAAQW\n",
-        FormFault::IndicatorsDiffer(1),
-    ),
-    (
-        b"PART 1/1 25\nJJVAA AAAQW ZZZZZ JJVAA AAAQW\n",
-        FormFault::WrongGroup(1),
-    ),
+/// Of the message of 1941.
+static OF_ONE_PART: [Cut; 2] = [
+    (20, b"", Some(BadHeading(1))),
+    (235, b"", Some(CountWrong(1))),
 ];
 
-#[test]
-fn letters_of_the_list_are_exchanged(rt: HostRuntime) {
-    let keyed = with_one_pin(&rt);
-    for (form, due) in &EXCHANGED {
-        assert_eq!(rt; fault(&rt, &keyed, form), Some(*due));
-    }
-}
-
-/// Forms on an Enigma I, each with its fault.
-static REFUSED: [(&[u8], FormFault); 27] = [
-    (b"", FormFault::BadHeading(1)),
-    (b"\nPART 1/1 6 AAA BDZ\nQXUGZ B", FormFault::BadHeading(1)),
-    (b"PART 1/1 6 AAA BDZ\r", FormFault::BadHeading(1)),
-    (b"PART 01/1 6 AAA BDZ\nQXUGZ B", FormFault::BadHeading(1)),
-    (b"PART 1/01 6 AAA BDZ\nQXUGZ B", FormFault::BadHeading(1)),
-    (b"PART 1/1 06 AAA BDZ\nQXUGZ B", FormFault::BadHeading(1)),
-    (b"PART 0/1 6 AAA BDZ\nQXUGZ B", FormFault::BadHeading(1)),
-    (b"PART 2/1 6 AAA BDZ\nQXUGZ B", FormFault::BadHeading(1)),
-    (b"PART 1/100 6 AAA BDZ\nQXUGZ B", FormFault::BadHeading(1)),
-    (b"PART 1/1 5 AAA BDZ\nQXUGZ", FormFault::BadHeading(1)),
-    (b"PART 1/1 251 AAA BDZ\nQXUGZ", FormFault::BadHeading(1)),
-    (b"PART 1/1 6\nQXUGZ B", FormFault::BadHeading(1)),
-    (b"PART 1/1 6 AAA BD\nQXUGZ B", FormFault::BadHeading(1)),
-    (b"PART 1/1 6 AAA BDZ \nQXUGZ B", FormFault::BadHeading(1)),
-    (b"PART 1/1 6 AAA BDz\nQXUGZ B", FormFault::BadHeading(1)),
-    (b"PART 2/2 6 AAA BDZ\nQXUGz", FormFault::PartOrder),
-    (b"PART 1/1 6 AAA BDZ\nQXABC Bz", FormFault::BadByte(27)),
-    (
-        b"PART 1/1 6 AAA BDZ\nQXABC\nPART X",
-        FormFault::CountWrong(1),
-    ),
-    (b"PART 1/1 6 AAA BDZ\nQXABC BB", FormFault::CountWrong(1)),
-    (b"PART 1/1 6 AAA BDZ\nQXABC B", FormFault::WrongGroup(1)),
-    (b"PART 1/2 6 AAA BDZ\nQXUGZ B", FormFault::PartOrder),
-    (
-        b"PART 1/2 6 AAA BDZ\nQXUGZ B\nPART 2/2 6 AAA BD",
-        FormFault::BadHeading(2),
-    ),
-    (
-        b"PART 1/2 6 AAA BDZ\nQXUGZ B\nPART 1/2 6 AAA BDZ\nQXUGZ B",
-        FormFault::PartOrder,
-    ),
-    (
-        b"PART 1/2 6 AAA BDZ\nQXUGZ B\nPART 2/3 6 AAA BDZ\nQXUGZ B",
-        FormFault::PartOrder,
-    ),
-    (
-        b"PART 1/2 6 AAA BDZ\nQXUGZ B\nPART 2/2 6 AAA BDZ\nQXUGZ 1",
-        FormFault::BadByte(53),
-    ),
-    (
-        b"PART 1/2 6 AAA BDZ\nQXUGZ B\nPART 2/2 6 AAA BDZ\nQXUGZ BPART 3",
-        FormFault::BadByte(59),
-    ),
-    (
-        b"PART 1/2 6 AAA BDZ\nQXUGZ B\nPART 2/2 6 AAA BDZ\nQXABC B",
-        FormFault::WrongGroup(2),
-    ),
-];
-
-#[test]
-fn forms_are_refused_in_turn(rt: HostRuntime) {
-    let keyed = keyed(&rt, &M1);
-    for (form, due) in &REFUSED {
-        assert_eq!(rt; fault(&rt, &keyed, form), Some(*due));
+/// The form is cut at each place below the last case's.
+fn is_cut(rt: &impl Abort, alloc: Global, keyed: &Keyed, form: &[u8], cuts: &[Cut]) {
+    let mut first = 0;
+    for (last, text, fault) in cuts {
+        for length in first..*last {
+            let front = &form[..length.min(form.len())];
+            is_received(rt, alloc, keyed, front, text, *fault);
+        }
+        first = *last;
     }
 }
 
 #[test]
-fn a_machine_off_the_key_receives_nothing(rt: HostRuntime) {
-    for (told, due) in [
-        (&M1_OFF_KEY, FormFault::NotOnKey),
-        (&M1_UNREADY, FormFault::NotReady),
-    ] {
-        assert!(rt; fault(&rt, &keyed(&rt, told), b"") == Some(due));
-    }
+fn a_form_breaks_off_at_each_place(rt: HostRuntime) {
+    let of_1941 = keyed(&rt, rt.alloc(), &OF_1941);
+    is_cut(&rt, rt.alloc(), &of_1941, MESSAGE.as_bytes(), &OF_ONE_PART);
+    let plain = keyed(&rt, rt.alloc(), &PLAIN);
+    is_cut(&rt, rt.alloc(), &plain, TWO_PARTS.as_bytes(), &OF_TWO_PARTS);
 }

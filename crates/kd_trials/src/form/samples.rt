@@ -1,184 +1,73 @@
 //! Machines on their days, orders and forms.
-use crate::days::{EnigmaDay, PLAIN_DAY, enigma_day, reading};
-use crate::letters::letters;
-use crate::machines::{Enigma, OF_1941, OF_1942, PLAIN, PLAIN_M4, pin, pins, rotor, standing};
-use kd_pins::PinSet;
-use kd_state::{Machine, PinParts, SheetDay};
-use kd_tables::{Letter, Model, Place, Reflector, Standing, Wheel};
-use std::process::Abort;
-use std::test::Fail;
-
-/// A machine and a day, as they are told. Those of the tests are static: they stand at one place, and no test copies them.
-pub type Told = (Enigma, EnigmaDay);
-
-/// The plain day, with the group ZUG.
-const ON_ZUG: EnigmaDay = EnigmaDay {
-    groups: &[*b"ZUG"],
-    ..PLAIN_DAY
+use crate::machines::Told;
+use crate::texts::{
+    ALL_MET, DAY_OF_1941, DAY_OF_ALL_MET, DAY_OF_M4, M1, M4_AS_ENIGMA, PLAIN_DAY, TEN_CABLES,
 };
+use kd_form::FormFault;
+use std::alloc::{AllocError, Global};
 
-/// That machine on its day.
-pub static M1: Told = (PLAIN, ON_ZUG);
-
-/// The same machine with other letters in its windows.
-pub static M1_TURNED: Told = (
-    Enigma {
-        letters: b"QRSAA",
-        ..PLAIN
-    },
-    ON_ZUG,
+/// The first machine with other letters in its windows, with another ring, and with one end of a cable plugged.
+pub const TURNED: Told = (
+    (M1, "letters = \"AAAAA\"", "letters = \"QRSAA\""),
+    (PLAIN_DAY, "", ""),
 );
 
-/// The same machine with another ring.
-pub static M1_OFF_KEY: Told = (
-    Enigma {
-        rings: b"BAAAA",
-        ..PLAIN
-    },
-    ON_ZUG,
+pub const OFF_KEY: Told = (
+    (M1, "rings = \"AAAAA\"", "rings = \"BAAAA\""),
+    (PLAIN_DAY, "", ""),
 );
 
-/// The same machine with one end of a cable plugged.
-pub static M1_UNREADY: Told = (
-    Enigma {
-        cables: &[*b"A "],
-        ..PLAIN
-    },
-    ON_ZUG,
+pub const UNREADY: Told = (
+    (M1, "version = 1", "version = 1\ncables = [\"A\"]"),
+    (PLAIN_DAY, "", ""),
 );
 
-/// An M4 with thin reflector b, the wheels Beta, I, II and III, no cables, and all rings and letters A, on its day.
-pub static M4: Told = (
-    PLAIN_M4,
-    EnigmaDay {
-        number: 15,
-        model: Model::M4,
-        reflector: Reflector::ThinB,
-        wheels: &[
-            (Wheel::Beta, b'A', b'A'),
-            (Wheel::I, b'A', b'A'),
-            (Wheel::II, b'A', b'A'),
-            (Wheel::III, b'A', b'A'),
-        ],
-        pairs: &[],
-        groups: &[*b"ZUG"],
-    },
-);
+/// An M4 that acts as the first machine.
+pub const FOUR_WHEELS: Told = ((M4_AS_ENIGMA, "", ""), (DAY_OF_M4, "", ""));
 
-/// The day of that machine, with the group UGZ.
-const DAY_OF_1941: EnigmaDay = EnigmaDay {
-    number: 14,
-    model: Model::EnigmaI,
-    reflector: Reflector::B,
-    wheels: &[
-        (Wheel::II, b'B', b'B'),
-        (Wheel::IV, b'U', b'L'),
-        (Wheel::V, b'L', b'A'),
-    ],
-    pairs: &[
-        *b"AV", *b"BS", *b"CG", *b"DL", *b"FU", *b"HZ", *b"IN", *b"KM", *b"OW", *b"RX",
-    ],
-    groups: &[*b"UGZ"],
-};
+/// A Converter all of whose bars are met by one pin.
+pub const ONE_PIN: Told = ((ALL_MET, "", ""), (DAY_OF_ALL_MET, "", ""));
 
-/// That machine on its day.
-pub static M1_OF_1941: Told = (OF_1941, DAY_OF_1941);
+/// The machine with ten cables, on the day of a message of 1941.
+pub const OF_1941: Told = ((TEN_CABLES, "", ""), (DAY_OF_1941, "", ""));
 
-/// That machine on a day with another group.
-pub static M1_WITH_ANOTHER_GROUP: Told = (
-    OF_1941,
-    EnigmaDay {
-        groups: &[*b"ABC"],
-        ..DAY_OF_1941
-    },
-);
+/// The same machine on a day with another group.
+pub const OTHER_GROUP: Told = ((TEN_CABLES, "", ""), (DAY_OF_1941, "UGZ", "ABC"));
 
-/// An M4 on the key of a message of 1942, with its day, which has the group UGZ.
-pub static M4_OF_1942: Told = (
-    OF_1942,
-    EnigmaDay {
-        number: 5,
-        model: Model::M4,
-        reflector: Reflector::ThinB,
-        wheels: &[
-            (Wheel::Beta, b'A', b'V'),
-            (Wheel::II, b'A', b'J'),
-            (Wheel::IV, b'A', b'N'),
-            (Wheel::I, b'V', b'A'),
-        ],
-        pairs: &[
-            *b"AT", *b"BL", *b"DF", *b"GJ", *b"HM", *b"NW", *b"OP", *b"QY", *b"RZ", *b"VX",
-        ],
-        groups: &[*b"UGZ"],
-    },
-);
+/// A form of two parts, each with the text AAAAA.
+pub const TWO_PARTS: &str = "PART 1/2 10 AAA BDZ\nQXUGZ BDZGO\nPART 2/2 10 AAA BDZ\nQXUGZ BDZGO\n";
 
-/// A machine with its day.
-pub type Keyed = (Machine, SheetDay);
+/// An order for a Converter without pins, and the form that it becomes.
+pub const CONVERTER_ORDER: &str = "PART T ABCDEF\nTEXT\nHELLO WORLD";
 
-/// The machine and the day that are told.
-pub fn keyed(rt: &impl Abort, (enigma, day): &Told) -> Keyed {
-    (
-        rotor(rt, enigma),
-        enigma_day(rt, day).expect(rt, "a day of a sheet"),
-    )
+pub const CONVERTER_FORM: &str = "PART 1/1 35\nTTABC DEFQV SVOOL ADLIO WCCCC TTABC DEFQV\n";
+
+/// Which way a message goes.
+pub enum Way {
+    Sent,
+    Received,
 }
 
-/// A Converter with no effective pin and all bars at 0L-0R, on its day.
-pub fn without_pins(rt: &impl Abort) -> Keyed {
-    let bar = standing(rt, Place::ZeroLeft, Place::ZeroRight);
-    converter(rt, pins(false), bar, (0, 0))
-}
+/// An order or a form, what is written, and what it is refused for then, if it is.
+pub type Case = (&'static str, &'static str, Option<FormFault>);
 
-/// A Converter with all bars at 1-0L, and only the pin at P of wheel 1 effective, on its day.
-pub fn with_one_pin(rt: &impl Abort) -> Keyed {
-    let mut pins = pins(false);
-    pins.w1[15] = true;
-    let bar = standing(rt, Place::One, Place::ZeroLeft);
-    converter(rt, pins, bar, (0, 1))
-}
+/// How many bytes a source gives at once.
+pub static PIECES: [usize; 3] = [1, 2, 7];
 
-/// A Converter that shows AAAAAA, with all bars alike, on its day, with the list QV.
-fn converter(rt: &impl Abort, pins: PinSet, bar: Standing, row: (u8, u8)) -> Keyed {
-    let parts = PinParts {
-        pins,
-        letters: [Letter::A; 6],
-        bars: [bar; 27],
-    };
-    let (one, other) = row;
-    let row = reading(rt, one, other);
-    let day = SheetDay::pin(15, [row; 27], pins, [Letter::A; 6], letters(rt, b"QV"));
-    (pin(rt, parts), day.expect(rt, "a day of a sheet"))
-}
+/// A line of keys for the first machine, and for a Converter without pins.
+pub const KEYS: &str = "PART AAA AAA QX UGZ\n";
+
+pub const PIN_KEYS: &str = "PART T ABCDEF\n";
 
 /// So many lines of these keys, TEXT, and so many letters A.
 pub fn order_of(
-    rt: &HostRuntime,
-    keys: &[u8],
+    alloc: Global,
+    keys: &str,
     lines: usize,
     letters: usize,
-) -> Result<Vec<u8>, Fail> {
-    let mut order = Vec::new(rt.alloc());
-    for _ in 0..lines {
-        order.extend_from_slice(keys)?;
-    }
-    order.extend_from_slice(b"TEXT\n")?;
-    for _ in 0..letters {
-        order.push(b'A').map_err(|_| "no memory")?;
-    }
+) -> Result<String, AllocError> {
+    let mut order = keys.repeat(alloc, lines)?;
+    order.push_str("TEXT\n")?;
+    order.push_str("A".repeat(alloc, letters)?.as_str())?;
     Ok(order)
 }
-
-/// A line of keys for M1's day with the group ZUG.
-pub const KEYS: &[u8] = b"PART AAA AAA QX UGZ\n";
-
-/// A message of 1941.
-pub const MESSAGE: &[u8] = b"PART 1/1 179 WXC KCH\n\
-    RFUGZ EDPUD NRGYS ZRCXN UYTPO MRMBO FKTBZ REZKM LXLVE FGUEY\n\
-    SIOZV EQMIK UBPMM YLKLT TDEIS MDICA GYKUA CTCDO MOHWX MUUIA\n\
-    UBSTS LRNBZ SZWNR FXWFY SSXJZ VIJHI DISHP RKLKA YUPAD TXQSP\n\
-    INQMA TLPIF SVKDA SCTAC DPBOP VHJK\n";
-
-/// A form of two parts, each with the text AAAAA.
-pub const TWO_PARTS: &[u8] =
-    b"PART 1/2 10 AAA BDZ\nQXUGZ BDZGO\nPART 2/2 10 AAA BDZ\nQXUGZ BDZGO\n";

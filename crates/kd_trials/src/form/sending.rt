@@ -1,133 +1,221 @@
+//! Orders that are sent, whole and as they come.
 use super::samples::{
-    KEYS, Keyed, M1, M1_OFF_KEY, M1_TURNED, M1_UNREADY, M4, keyed, order_of, with_one_pin,
-    without_pins,
+    Case, FOUR_WHEELS, KEYS, OFF_KEY, ONE_PIN, PIECES, PIN_KEYS, TURNED, UNREADY, order_of,
 };
-use kd_form::{FormFault, send};
-use std::alloc::Global;
+use crate::machines::{IDLE, Keyed, PLAIN, Told, keyed};
+use kd_form::FormFault::{
+    self, BadByte, EmptyText, IndicatorSpent, KeyNotOnWheel, NotOnKey, NotReady, PartKeys,
+    WrongGroup,
+};
+use kd_form::{send, send_stream};
+use kd_tables::{MemorySink, MemorySource};
+use std::alloc::{AllocError, Global};
 use std::process::Abort;
-use std::test::Fail;
 
-/// What the order is refused for.
-fn fault(rt: &HostRuntime, (machine, day): &Keyed, order: &[u8]) -> Option<FormFault> {
-    send(rt.alloc(), machine, day, order).err()
+/// Machines on their days, each with its orders.
+static ORDERS: [(Told, &[Case]); 7] = [
+    (
+        PLAIN,
+        &[
+            (
+                "PART AAA AAA QX UGZ\nTEXT\nAAAAA",
+                "PART 1/1 10 AAA BDZ\nQXUGZ BDZGO\n",
+                None,
+            ),
+            ("", "", Some(BadByte(1))),
+            (" ", "", Some(BadByte(1))),
+            ("PART AAA", "", Some(BadByte(9))),
+            ("PART AAA AAA QX U", "", Some(BadByte(18))),
+            ("PART AAA AAA QX UGZ", "", Some(BadByte(20))),
+            ("PART AAA AAA QX UGZ\r", "", Some(BadByte(21))),
+            ("PART AAA AAA QX UGZ\rT", "", Some(BadByte(21))),
+            ("PART AAA AAA QX ABC\nTEXT!", "", Some(BadByte(25))),
+            ("PART AAA AAA QX ABC\nTEXT\n!", "", Some(WrongGroup(1))),
+            (
+                "PART AAA AAA QX GUZ\nPART AAA AAA QX ABC\nTEXT\n!",
+                "",
+                Some(WrongGroup(2)),
+            ),
+            ("PART AAA AAA QX GUZ\nTEXT\nA a", "", Some(BadByte(28))),
+            ("PART AAA AAA QX GUZ\nTEXT\n \n", "", Some(EmptyText)),
+            (
+                "TEXT\nA",
+                "",
+                Some(PartKeys {
+                    needed: 1,
+                    given: 0,
+                }),
+            ),
+        ],
+    ),
+    // Whatever letters the machine shows.
+    (
+        TURNED,
+        &[(
+            "PART AAA AAA QX UGZ\nTEXT\nAAAAA",
+            "PART 1/1 10 AAA BDZ\nQXUGZ BDZGO\n",
+            None,
+        )],
+    ),
+    (OFF_KEY, &[("", "", Some(NotOnKey))]),
+    (UNREADY, &[("", "", Some(NotReady))]),
+    (
+        FOUR_WHEELS,
+        &[(
+            "PART AAAA AAAA QX UGZ\r\nTEXT\r\nAA A\r\nAA\n",
+            "PART 1/1 10 AAAA BDZG\nQXUGZ BDZGO\n",
+            None,
+        )],
+    ),
+    (
+        IDLE,
+        &[
+            (
+                "PART T ABCDEF\nTEXT\nHELLO WORLD",
+                "PART 1/1 35\nTTABC DEFQV SVOOL ADLIO WCCCC TTABC DEFQV\n",
+                None,
+            ),
+            ("PART A ABCDEF\nTEXT\nA", "", Some(IndicatorSpent(1))),
+            (
+                "PART T ABCDEF\nPART A ABCDEF\nTEXT\n!",
+                "",
+                Some(IndicatorSpent(2)),
+            ),
+            ("PART A ABCDEZ\nTEXT\nA", "", Some(KeyNotOnWheel)),
+            ("PART T ABCDEZ\nTEXT\nA", "", Some(KeyNotOnWheel)),
+            // Spaces are letters.
+            (
+                "PART T ABCDEF\nTEXT\n \n ",
+                "PART 1/1 25\nTTABC DEFQV AACCC TTABC DEFQV\n",
+                None,
+            ),
+            ("PART T ABCDEF\nTEXT\n", "", Some(EmptyText)),
+        ],
+    ),
+    (
+        ONE_PIN,
+        &[(
+            "PART J VAAAAA\nTEXT\nAAAAA",
+            "PART 1/1 25\nJJVAA AAAQV ZZZZZ JJVAA AAAQV\n",
+            None,
+        )],
+    ),
+];
+
+/// The order is sent so, whole and in whatever pieces it comes.
+fn is_sent(rt: &impl Abort, alloc: Global, (machine, day): &Keyed, (order, form, fault): &Case) {
+    let order = order.as_bytes();
+    for piece in &PIECES {
+        let mut source = MemorySource::new(order, (*piece).max(1), None);
+        let mut sink = MemorySink::<64>::new(64);
+        let answer = send_stream(machine, day, &mut source, &mut sink);
+        assert_eq!(rt; answer.err(), *fault);
+        assert_eq!(rt; sink.taken(), form.as_bytes());
+    }
+    match send(alloc, machine, day, order) {
+        Ok(made) => assert!(rt; fault.is_none() && made.as_slice() == form.as_bytes()),
+        Err(answer) => assert_eq!(rt; Some(answer), *fault),
+    }
 }
 
-/// The order becomes that form.
-fn becomes(
+#[test]
+fn orders_are_sent(rt: HostRuntime) {
+    for (told, cases) in &ORDERS {
+        let keyed = keyed(&rt, rt.alloc(), told);
+        for case in *cases {
+            is_sent(&rt, rt.alloc(), &keyed, case);
+        }
+    }
+}
+
+/// A machine on its day, a line of its keys, how many of them and how many letters A an order has, what the order is refused
+/// for, and how many bytes are written by then as it comes.
+type LongCase = (Told, &'static str, usize, usize, FormFault, usize);
+
+/// With too many lines of keys the first part is out by then, and with too few nothing is.
+static LONG_ORDERS: [LongCase; 6] = [
+    (
+        PLAIN,
+        KEYS,
+        1,
+        246,
+        PartKeys {
+            needed: 2,
+            given: 1,
+        },
+        0,
+    ),
+    (
+        PLAIN,
+        KEYS,
+        2,
+        245,
+        PartKeys {
+            needed: 1,
+            given: 2,
+        },
+        0,
+    ),
+    (
+        PLAIN,
+        KEYS,
+        3,
+        300,
+        PartKeys {
+            needed: 2,
+            given: 3,
+        },
+        321,
+    ),
+    (
+        PLAIN,
+        KEYS,
+        99,
+        24256,
+        PartKeys {
+            needed: 100,
+            given: 99,
+        },
+        31645,
+    ),
+    (
+        IDLE,
+        PIN_KEYS,
+        1,
+        501,
+        PartKeys {
+            needed: 2,
+            given: 1,
+        },
+        0,
+    ),
+    (PLAIN, KEYS, 100, 1, BadByte(1981), 0),
+];
+
+/// The order is refused for that, whole and as it comes.
+fn is_refused(
     rt: &impl Abort,
     alloc: Global,
-    (machine, day): &Keyed,
-    order: &[u8],
-    form: &[u8],
-) -> Result<(), FormFault> {
-    let made = send(alloc, machine, day, order)?;
-    assert_eq!(rt; made.as_slice(), form);
-    Ok(())
-}
-
-/// Whatever letters the machine shows.
-#[test]
-fn an_order_becomes_a_form(rt: HostRuntime) -> Result<(), FormFault> {
-    for told in [&M1, &M1_TURNED] {
-        let order = b"PART AAA AAA QX UGZ\nTEXT\nAAAAA";
-        let form = b"PART 1/1 10 AAA BDZ\nQXUGZ BDZGO\n";
-        becomes(&rt, rt.alloc(), &keyed(&rt, told), order, form)?;
-    }
+    (told, keys, lines, letters, fault, written): &LongCase,
+) -> Result<(), AllocError> {
+    let (machine, day) = keyed(rt, alloc, told);
+    let order = order_of(alloc, keys, *lines, *letters)?;
+    assert_eq!(rt;
+        send(alloc, &machine, &day, order.as_bytes()).err(),
+        Some(*fault)
+    );
+    let mut source = MemorySource::new(order.as_bytes(), 7, None);
+    let mut sink = MemorySink::<65_536>::new(65_536);
+    let answer = send_stream(&machine, &day, &mut source, &mut sink);
+    assert_eq!(rt; answer.err(), Some(*fault));
+    assert_eq!(rt; sink.taken().len(), *written);
     Ok(())
 }
 
 #[test]
-fn an_order_becomes_a_form_on_four_wheels(rt: HostRuntime) -> Result<(), FormFault> {
-    let order = b"PART AAAA AAAA QX UGZ\r\nTEXT\r\nAA A\r\nAA\n";
-    let form = b"PART 1/1 10 AAAA BDZG\nQXUGZ BDZGO\n";
-    becomes(&rt, rt.alloc(), &keyed(&rt, &M4), order, form)
-}
-
-#[test]
-fn an_order_becomes_a_form_on_the_converter(rt: HostRuntime) -> Result<(), FormFault> {
-    let order = b"PART T ABCDEF\nTEXT\nHELLO WORLD";
-    let form = b"PART 1/1 35\nTTABC DEFQV SVOOL ADLIO WCCCC TTABC DEFQV\n";
-    becomes(&rt, rt.alloc(), &without_pins(&rt), order, form)
-}
-
-#[test]
-fn an_order_becomes_a_form_with_one_pin(rt: HostRuntime) -> Result<(), FormFault> {
-    let order = b"PART J VAAAAA\nTEXT\nAAAAA";
-    let form = b"PART 1/1 25\nJJVAA AAAQV ZZZZZ JJVAA AAAQV\n";
-    becomes(&rt, rt.alloc(), &with_one_pin(&rt), order, form)
-}
-
-/// Orders on an Enigma I, each with its fault.
-static REFUSED: [(&[u8], FormFault); 12] = [
-    (b"", FormFault::BadByte(1)),
-    (b" ", FormFault::BadByte(1)),
-    (b"PART AAA", FormFault::BadByte(9)),
-    (b"PART AAA AAA QX UGZ", FormFault::BadByte(20)),
-    (b"PART AAA AAA QX UGZ\r", FormFault::BadByte(21)),
-    (b"PART AAA AAA QX UGZ\rT", FormFault::BadByte(21)),
-    (b"PART AAA AAA QX ABC\nTEXT!", FormFault::BadByte(25)),
-    (b"PART AAA AAA QX ABC\nTEXT\n!", FormFault::WrongGroup(1)),
-    (
-        b"PART AAA AAA QX GUZ\nPART AAA AAA QX ABC\nTEXT\n!",
-        FormFault::WrongGroup(2),
-    ),
-    (b"PART AAA AAA QX GUZ\nTEXT\nA a", FormFault::BadByte(28)),
-    (b"PART AAA AAA QX GUZ\nTEXT\n \n", FormFault::EmptyText),
-    (
-        b"TEXT\nA",
-        FormFault::PartKeys {
-            needed: 1,
-            given: 0,
-        },
-    ),
-];
-
-#[test]
-fn orders_are_refused_in_turn(rt: HostRuntime) {
-    let keyed = keyed(&rt, &M1);
-    for (order, due) in &REFUSED {
-        assert_eq!(rt; fault(&rt, &keyed, order), Some(*due));
+fn orders_with_another_number_of_keys(rt: HostRuntime) -> Result<(), AllocError> {
+    for case in &LONG_ORDERS {
+        is_refused(&rt, rt.alloc(), case)?;
     }
-}
-
-#[test]
-fn a_hundredth_line_of_keys(rt: HostRuntime) -> Result<(), Fail> {
-    let order = order_of(&rt, KEYS, 100, 1)?;
-    let due = FormFault::BadByte(1981);
-    assert_eq!(rt; fault(&rt, &keyed(&rt, &M1), order.as_slice()), Some(due));
     Ok(())
-}
-
-/// Orders on a Converter without pins, each with its fault, if it has one.
-static ON_THE_CONVERTER: [(&[u8], Option<FormFault>); 6] = [
-    (
-        b"PART A ABCDEF\nTEXT\nA",
-        Some(FormFault::IndicatorSpent(1)),
-    ),
-    (
-        b"PART T ABCDEF\nPART A ABCDEF\nTEXT\n!",
-        Some(FormFault::IndicatorSpent(2)),
-    ),
-    (b"PART A ABCDEZ\nTEXT\nA", Some(FormFault::KeyNotOnWheel)),
-    (b"PART T ABCDEZ\nTEXT\nA", Some(FormFault::KeyNotOnWheel)),
-    (b"PART T ABCDEF\nTEXT\n \n ", None),
-    (b"PART T ABCDEF\nTEXT\n", Some(FormFault::EmptyText)),
-];
-
-#[test]
-fn orders_of_the_converter_are_refused_in_turn(rt: HostRuntime) {
-    let keyed = without_pins(&rt);
-    for (order, due) in &ON_THE_CONVERTER {
-        assert_eq!(rt; fault(&rt, &keyed, order), *due);
-    }
-}
-
-#[test]
-fn a_machine_off_the_key_sends_nothing(rt: HostRuntime) {
-    for (told, due) in [
-        (&M1_OFF_KEY, FormFault::NotOnKey),
-        (&M1_UNREADY, FormFault::NotReady),
-    ] {
-        assert!(rt; fault(&rt, &keyed(&rt, told), b"") == Some(due));
-    }
 }

@@ -1,50 +1,52 @@
 //! Files that are cut at each place, and files with a byte there that stands in no text.
+use super::Kind::{self, MachineFile, Sheet};
+use super::fault;
 use crate::texts::M1_WRITTEN;
 use arrayvec::ArrayVec;
-use kd_sheet::{SheetFault, read_machine, read_sheet};
+use kd_sheet::SheetFault;
 use std::alloc::Global;
 use std::process::Abort;
 
-/// The lengths at which the file of the machine is whole: before its line of cables, which may be absent, and at its end,
-/// each without LF and with it.
-static WHOLE_LENGTHS: [usize; 4] = [107, 108, 169, 170];
+/// A file, and the lengths at which a front of it is whole.
+type Case = (&'static str, &'static [usize]);
+
+/// The file of the machine is whole before its line of cables, which may be absent, and at its end, each without LF and with
+/// it.
+static MACHINE_FILES: [Case; 1] = [(M1_WRITTEN, &[107, 108, 169])];
 
 /// A sheet of one day for each model. Each ends with a key that has to be there.
-static SHEETS: [&str; 4] = [
-    "[[day]]\nday = 1\nmodel = \"Enigma I\"\nreflector = \"B\"\nwheels = [\"I\", \"II\", \"III\"]
+static SHEETS: [Case; 4] = [
+    (
+        "[[day]]\nday = 1\nmodel = \"Enigma I\"\nreflector = \"B\"\nwheels = [\"I\", \"II\", \"III\"]
 rings = \"AAA\"\nwindow = \"AAA\"\nplugs = [\"AB\"]\n",
-    "[[day]]\nday = 2\nmodel = \"M3\"\nreflector = \"C\"\nwheels = [\"VI\", \"II\", \"VIII\"]
+        &[122],
+    ),
+    (
+        "[[day]]\nday = 2\nmodel = \"M3\"\nreflector = \"C\"\nwheels = [\"VI\", \"II\", \"VIII\"]
 rings = [1, 26, 2]\nwindow = \"AAA\"\nplugs = []\n",
-    "[[day]]\nday = 30\nmodel = \"M4\"\nreflector = \"b\"\nwheels = [\"Beta\", \"II\", \"IV\", \"I\"]
+        &[119],
+    ),
+    (
+        "[[day]]\nday = 30\nmodel = \"M4\"\nreflector = \"b\"\nwheels = [\"Beta\", \"II\", \"IV\", \"I\"]
 rings = \"VAAA\"\nwindow = \"AAAA\"\nplugs = []\n",
-    "[[day]]\nday = 31\nmodel = \"M-209\"
+        &[122],
+    ),
+    (
+        "[[day]]\nday = 31\nmodel = \"M-209\"
 rows = [\"0-0\", \"0-0\", \"0-0\", \"0-0\", \"0-0\", \"0-0\", \"0-0\", \"0-0\", \"0-0\",
 \"0-0\", \"0-0\", \"0-0\", \"0-0\", \"0-0\", \"0-0\", \"0-0\", \"0-0\", \"0-0\",
 \"0-0\", \"0-0\", \"0-0\", \"0-0\", \"0-0\", \"0-0\", \"0-0\", \"0-0\", \"0-0\"]
 pins = [\"\", \"\", \"\", \"\", \"\", \"\"]\nwindow = \"AAAAAA\"\nlist = \"QV\"\n",
+        &[291],
+    ),
 ];
 
-#[test]
-fn a_machine_file_is_read_where_it_is_whole(rt: HostRuntime) {
-    let file = M1_WRITTEN.as_bytes();
+/// The fronts of the file that are read are those of these lengths.
+fn are_read_whole(rt: &impl Abort, alloc: Global, kind: &Kind, (file, whole): &Case) {
+    let file = file.as_bytes();
     for (length, _) in file.iter().enumerate() {
-        let read = read_machine(rt.alloc(), &file[..length]).is_ok();
-        assert_eq!(rt; read, WHOLE_LENGTHS.contains(&length), "{length}");
-    }
-}
-
-/// Of all fronts of the sheet the one without its last LF is read.
-fn is_read_whole(rt: &impl Abort, alloc: Global, sheet: &[u8]) {
-    for (length, _) in sheet.iter().enumerate() {
-        let read = read_sheet(alloc, &sheet[..length]).is_ok();
-        assert_eq!(rt; read, length == sheet.len() - 1, "{length}");
-    }
-}
-
-#[test]
-fn a_sheet_is_read_where_it_is_whole(rt: HostRuntime) {
-    for sheet in &SHEETS {
-        is_read_whole(&rt, rt.alloc(), sheet.as_bytes());
+        let is_read = fault(alloc, kind, &file[..length]).is_none();
+        assert_eq!(rt; is_read, whole.contains(&length), "{length}");
     }
 }
 
@@ -58,26 +60,21 @@ fn with_other_byte(text: &[u8], place: usize) -> ArrayVec<u8, 1024> {
     other
 }
 
-#[test]
-fn a_machine_file_is_text(rt: HostRuntime) {
-    for place in 0..=M1_WRITTEN.len() {
-        let file = with_other_byte(M1_WRITTEN.as_bytes(), place);
-        let fault = read_machine(rt.alloc(), file.as_slice()).err();
-        assert_eq!(rt; fault, Some(SheetFault::NotToml), "{place}");
-    }
-}
-
-/// No sheet with a byte FF in it is read.
-fn is_text(rt: &impl Abort, alloc: Global, sheet: &[u8]) {
-    for place in 0..=sheet.len() {
-        let fault = read_sheet(alloc, with_other_byte(sheet, place).as_slice()).err();
+/// No file with a byte FF in it is read.
+fn is_text(rt: &impl Abort, alloc: Global, kind: &Kind, (file, _): &Case) {
+    for place in 0..=file.len() {
+        let file = with_other_byte(file.as_bytes(), place);
+        let fault = fault(alloc, kind, file.as_slice());
         assert_eq!(rt; fault, Some(SheetFault::NotToml), "{place}");
     }
 }
 
 #[test]
-fn a_sheet_is_text(rt: HostRuntime) {
-    for sheet in &SHEETS {
-        is_text(&rt, rt.alloc(), sheet.as_bytes());
+fn a_file_is_read_where_it_is_whole(rt: HostRuntime) {
+    for (kind, cases) in [(&MachineFile, MACHINE_FILES.as_slice()), (&Sheet, &SHEETS)] {
+        for case in cases {
+            are_read_whole(&rt, rt.alloc(), kind, case);
+            is_text(&rt, rt.alloc(), kind, case);
+        }
     }
 }

@@ -1,6 +1,6 @@
 use Rattle.std.proofs.Common.{◌<◌, ◌∙◌, length, refl, sym, arith}
 use Rattle.kd_card.specs.CardFault.{AtKind, AtCount}
-use Rattle.kd_card.proofs.KindLists.{reads_on, walk_bounds}
+use Rattle.kd_card.proofs.KindLists.{low_look, reads_on, walk_bounds}
 use Rattle.kd_card.proofs.kind_text.read_kinds.Goals as goal
 
 pub returns-in-Err : goal.returns-in-Err
@@ -16,7 +16,10 @@ overflow_add-total c =
 pub push-requires : goal.push-requires
 push-requires c =
     let bounds = walk_bounds c.kind.invariant.walked in
-    let room : length c.kind.kinds.items < 704 = omega (arith, bounds.1, bounds.2) in
+    let next = rw c.in-Some.is at c.in-Ok.ensures in
+    let low = low_look _ next.good.form in
+    let above = next.above in
+    let room : length c.kind.kinds.items < 703 = omega (arith, bounds.1, above, low) in
     (omega arith, room)
 
 pub overflow_add-at : goal.overflow_add-at

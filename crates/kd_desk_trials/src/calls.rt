@@ -1,0 +1,311 @@
+//! What becomes of a call of the desk, and what is so of all of them.
+use crate::samples::{
+    CANCELLING, DAYS, ENIGMA, FORM, M3, OFF_KEY, ORDER, SHEET, TEXT, TWO_BARS, Text, UNREADY,
+    changed,
+};
+use kd_desk::DeskFault::{self, Device, File, Message, NoSuchDay, NotReady, OtherModel};
+use kd_desk::run_apply::run_apply;
+use kd_desk::run_card::run_card;
+use kd_desk::run_check::run_check;
+use kd_desk::run_receive::run_receive;
+use kd_desk::run_send::run_send;
+use kd_desk::run_type::run_type;
+use kd_form::FormFault::{self, NotOnKey};
+use kd_sheet::Key;
+use kd_sheet::SheetFault::{
+    self, BadRow, BadValue, DayTwice, LetterTwice, Missing, NotToml, UnknownModel, WheelNotAllowed,
+    WheelTwice,
+};
+use kd_tables::{MemorySink, MemorySource, Sink, Source};
+use kd_trials::texts::{EMPTY_KINDS, M1, M1_WRITTEN, M4, M209, NO_SETTINGS, TEN_CABLES_WRITTEN};
+use std::alloc::{AllocError, Global};
+use std::process::Abort;
+
+/// A call of the desk. Those on a day have its number.
+#[derive(Clone, Copy)]
+pub enum Call {
+    Type,
+    Apply,
+    Card(u8),
+    Check(u8),
+    Send(u8),
+    Receive(u8),
+}
+
+/// What a call answered, and the sink that it wrote to.
+#[derive(Drop)]
+pub struct Ran {
+    pub answer: Result<(), DeskFault>,
+    pub sink: MemorySink<4096>,
+}
+
+impl Ran {
+    /// This was answered, and these bytes were written.
+    pub fn ended(&self, rt: &impl Abort, answer: Result<(), DeskFault>, written: &[u8]) {
+        assert_eq!(rt; self.answer, answer);
+        assert_eq!(rt; self.sink.taken(), written);
+    }
+}
+
+/// What becomes of the call on a machine file, a sheet, and a list or a card, with so much room for what is written.
+pub fn run<R: Source>(
+    alloc: Global,
+    call: Call,
+    machine: &str,
+    sheet: &str,
+    list: &str,
+    source: &mut R,
+    room: usize,
+) -> Ran {
+    let (machine, sheet, list) = (machine.as_bytes(), sheet.as_bytes(), list.as_bytes());
+    let mut sink = MemorySink::new(room.min(4096));
+    let answer = match call {
+        Call::Type => run_type(alloc, machine, source, &mut sink),
+        Call::Apply => run_apply(alloc, machine, list, &mut sink),
+        Call::Card(day) => run_card(alloc, machine, sheet, day, &mut sink),
+        Call::Check(day) => run_check(alloc, machine, sheet, day, list, &mut sink),
+        Call::Send(day) => run_send(alloc, machine, sheet, day, source, &mut sink),
+        Call::Receive(day) => run_receive(alloc, machine, sheet, day, source, &mut sink),
+    };
+    Ran { answer, sink }
+}
+
+/// What is typed, sent or received, the answer, and what is written.
+type Streamed = (&'static str, Result<(), DeskFault>, &'static str);
+
+/// A call, a machine, and what becomes of texts on it.
+pub type Streams = (Call, Text, &'static [Streamed]);
+
+/// Each of the texts has its answer, in whatever pieces it comes.
+fn is_streamed(rt: &impl Abort, alloc: Global, call: Call, machine: &str, streamed: &Streamed) {
+    let (text, answer, written) = streamed;
+    for piece in [1, 2, 7] {
+        let mut source = MemorySource::new(text.as_bytes(), piece, None);
+        let ran = run(alloc, call, machine, DAYS, text, &mut source, 4096);
+        ran.ended(rt, *answer, written.as_bytes());
+    }
+}
+
+/// Each of the texts has its answer.
+pub fn are_streamed(rt: &impl Abort, alloc: Global, cases: &[Streams]) -> Result<(), AllocError> {
+    for (call, machine, texts) in cases {
+        let machine = changed(alloc, machine)?;
+        for streamed in *texts {
+            is_streamed(rt, alloc, *call, machine.as_str(), streamed);
+        }
+    }
+    Ok(())
+}
+
+/// A part of a card or a list, what stands in its place, and what is written then, or the fault.
+pub type Judged = (&'static str, &'static str, Result<Text, DeskFault>);
+
+/// A call, a machine, a card or a list, and what becomes of it with changes.
+pub type Cards = (Call, Text, &'static str, &'static [Judged]);
+
+/// Each of the cards and lists has its answer.
+pub fn are_judged(rt: &impl Abort, alloc: Global, cases: &[Cards]) -> Result<(), AllocError> {
+    for (call, machine, list, changes) in cases {
+        let machine = changed(alloc, machine)?;
+        for judged in *changes {
+            is_judged(rt, alloc, *call, machine.as_str(), list, judged)?;
+        }
+    }
+    Ok(())
+}
+
+/// The card or the list has its answer.
+fn is_judged(
+    rt: &impl Abort,
+    alloc: Global,
+    call: Call,
+    machine: &str,
+    list: &str,
+    (old, new, answer): &Judged,
+) -> Result<(), AllocError> {
+    let list = list.replace(alloc, old, new)?;
+    let mut source = MemorySource::new(b"", 1, Some(0));
+    let ran = run(alloc, call, machine, DAYS, list.as_str(), &mut source, 4096);
+    match answer {
+        Ok(written) => ran.ended(rt, Ok(()), changed(alloc, written)?.as_str().as_bytes()),
+        Err(fault) => ran.ended(rt, Err(*fault), b""),
+    }
+    Ok(())
+}
+
+/// A call, a machine, a text, and what is written.
+static WRITTEN: [(Call, Text, &str, &str); 7] = [
+    (Call::Type, ENIGMA, "AAAAA", "BDZGO\n"),
+    (Call::Apply, ENIGMA, "", M1_WRITTEN),
+    (Call::Card(11), ENIGMA, "", EMPTY_KINDS),
+    (
+        Call::Card(12),
+        CANCELLING,
+        "",
+        "CARD 2 DAY 12\nRING I A\nTURN 1 A\nSETTINGS 2\nCABLE - 13 0\nPAIR - 13 0\nSUM 0\n",
+    ),
+    (Call::Check(11), ENIGMA, NO_SETTINGS, "SHORTEST 0\n"),
+    (Call::Send(17), ENIGMA, ORDER, FORM),
+    (Call::Receive(17), ENIGMA, FORM, TEXT),
+];
+
+#[test]
+fn stops_where_the_sink_fails(rt: HostRuntime) -> Result<(), AllocError> {
+    for (call, machine, text, written) in &WRITTEN {
+        let machine = changed(rt.alloc(), machine)?;
+        let written = written.as_bytes();
+        for room in 0..written.len() {
+            let mut source = MemorySource::new(text.as_bytes(), 7, None);
+            let ran = run(
+                rt.alloc(),
+                *call,
+                machine.as_str(),
+                DAYS,
+                text,
+                &mut source,
+                room,
+            );
+            ran.ended(&rt, Err(Device), &written[..room]);
+        }
+    }
+    Ok(())
+}
+
+/// On a machine and a sheet the calls are refused so, whatever is typed, applied, checked, sent or received.
+fn are_refused(
+    rt: &impl Abort,
+    alloc: Global,
+    calls: &[Call],
+    machine: &Text,
+    sheet: &Text,
+    fault: DeskFault,
+) -> Result<(), AllocError> {
+    let machine = changed(alloc, machine)?;
+    let sheet = changed(alloc, sheet)?;
+    for call in calls {
+        let mut source = MemorySource::new(b"?", 1, Some(0));
+        let ran = run(
+            alloc,
+            *call,
+            machine.as_str(),
+            sheet.as_str(),
+            "?",
+            &mut source,
+            4096,
+        );
+        ran.ended(rt, Err(fault), b"");
+    }
+    Ok(())
+}
+
+/// All calls.
+static CALLS: [Call; 6] = [
+    Call::Type,
+    Call::Apply,
+    Call::Card(5),
+    Call::Check(5),
+    Call::Send(5),
+    Call::Receive(5),
+];
+
+/// A text that is no TOML document.
+static NO_TOML: Text = ("=", "", "");
+
+/// A machine file, and its fault.
+static MACHINES: [(Text, SheetFault); 12] = [
+    ((M1, "= 1", "="), NotToml),
+    ((M1, "version = 1\n", ""), Missing(Key::Version)),
+    ((M4, "version = 2", "version = 1"), UnknownModel),
+    ((M1, "\"B\"", "\"b\""), BadValue(Key::Reflector)),
+    ((M3, "\"B\"", "\"A\""), BadValue(Key::Reflector)),
+    ((M1, "\"I\"", "\"XX\""), BadValue(Key::Slots)),
+    ((M1, "\"II\"", "\"I\""), WheelTwice),
+    ((M1, "\"III\"", "\"VI\""), WheelNotAllowed),
+    ((M1, "letters", "letter"), Missing(Key::Letters)),
+    ((TEN_CABLES_WRITTEN, "\"BS\"", "\"AB\""), LetterTwice),
+    ((M209, "\"1-2\"", "\"0R-3\""), BadRow(1)),
+    (
+        (
+            M209,
+            "\"1-2\", \"0L-0R\", \"0L-0R\", \"0L-0R\"",
+            "\"1-2\", \"1-2\", \"1-2\", \"4-4\"",
+        ),
+        BadRow(4),
+    ),
+];
+
+#[test]
+fn refuses_the_machine_first(rt: HostRuntime) -> Result<(), AllocError> {
+    for (machine, fault) in &MACHINES {
+        are_refused(&rt, rt.alloc(), &CALLS, machine, &NO_TOML, File(*fault))?;
+    }
+    Ok(())
+}
+
+/// The calls on a day that the sheet hasn't.
+const ON_DAY: &[Call] = &[
+    Call::Card(5),
+    Call::Check(5),
+    Call::Send(5),
+    Call::Receive(5),
+    Call::Card(0),
+];
+
+/// The calls on the order's and the form's day.
+const OF_MESSAGES: &[Call] = &[Call::Send(17), Call::Receive(17)];
+
+/// The machine with an empty slot, and one with one letter in a cable.
+const EMPTY_SLOT: Text = (UNREADY, "", "");
+
+const LOOSE_END: Text = (M1, "version", "cables = [\"C\"]\nversion");
+
+/// Two days of a sheet with one number, and a row that is none.
+const TWICE: Text = (SHEET, "day = 1\n", "day = 3\n");
+
+const NO_ROW: Text = (
+    SHEET,
+    "\"0-3\", \"3-6\", \"0-0\", \"0-0\"",
+    "\"0-3\", \"3-6\", \"0-0\", \"4-4\"",
+);
+
+/// Calls, a machine, a sheet, and the fault.
+static KEYS: [(&[Call], Text, Text, DeskFault); 15] = [
+    (ON_DAY, EMPTY_SLOT, ("=", "", ""), File(NotToml)),
+    (
+        ON_DAY,
+        EMPTY_SLOT,
+        ("x = 1", "", ""),
+        File(Missing(Key::Day)),
+    ),
+    (
+        ON_DAY,
+        EMPTY_SLOT,
+        ("day = 5", "", ""),
+        File(BadValue(Key::Day)),
+    ),
+    (ON_DAY, EMPTY_SLOT, TWICE, File(DayTwice(3))),
+    (ON_DAY, EMPTY_SLOT, NO_ROW, File(BadRow(4))),
+    (ON_DAY, EMPTY_SLOT, ("day = []", "", ""), NoSuchDay),
+    (ON_DAY, EMPTY_SLOT, (SHEET, "", ""), NoSuchDay),
+    (&[Call::Card(9)], ENIGMA, (SHEET, "", ""), OtherModel),
+    (&[Call::Card(11)], TWO_BARS, (SHEET, "", ""), OtherModel),
+    (&[Call::Type], EMPTY_SLOT, (SHEET, "", ""), NotReady),
+    (&[Call::Type], LOOSE_END, (SHEET, "", ""), NotReady),
+    (
+        OF_MESSAGES,
+        EMPTY_SLOT,
+        (SHEET, "", ""),
+        Message(FormFault::NotReady),
+    ),
+    (OF_MESSAGES, OFF_KEY, (SHEET, "", ""), Message(NotOnKey)),
+    (OF_MESSAGES, TWO_BARS, (SHEET, "", ""), Message(NotOnKey)),
+    (OF_MESSAGES, ENIGMA, (SHEET, "", ""), Device),
+];
+
+#[test]
+fn refuses_the_sheet_next(rt: HostRuntime) -> Result<(), AllocError> {
+    for (calls, machine, sheet, fault) in &KEYS {
+        are_refused(&rt, rt.alloc(), calls, machine, sheet, *fault)?;
+    }
+    Ok(())
+}
