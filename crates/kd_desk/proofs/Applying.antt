@@ -8,6 +8,7 @@ use Rattle.kd_state.specs.Setting.{Leads}
 use Rattle.kd_state.specs.Line.{IsList, IsListFault}
 use Rattle.kd_card.specs.declared.carrying.IllegalAt.{IllegalAt}
 use Rattle.kd_card.specs.Carrying.{IsFirstIllegal}
+use Rattle.kd_sheet.specs.MachineFile.{machine_of}
 use Rattle.kd_sheet.specs.MachineText.{machine_text}
 use Rattle.kd_desk.specs.declared.fault.DeskFault.{DeskFault}
 use Rattle.kd_desk.specs.declared.fault.DeskFault.TheVariants as faults
@@ -40,7 +41,7 @@ module _ (m : Parts) (bytes : List ℕ) (sink : Port) (answer : Result (Unit {0}
       (RefusedLine settings fault are (subst (λ l. IsFirstIllegal m l fault.line fault.why) same first) refl)
 
   pub not_written : (settings lines : List Setting) (n : Parts) → lines ≡ settings → IsErrAnd answer (λ made. made ≡ faults.Device)
-      → AreSettings bytes settings → Leads m lines n → TakesFront sink.had sink.has (machine_text n) → Applies m bytes sink answer
-  not_written settings lines n same made are leads front =
+      → AreSettings bytes settings → Leads m lines n → machine_of (machine_text n) ≡ Ok n → TakesFront sink.had sink.has (machine_text n) → Applies m bytes sink answer
+  not_written settings lines n same made are leads back front =
       answered answer faults.Device (Applies m bytes sink) made
-      (Carried settings n are (subst (λ l. Leads m l n) same leads) (record { written = record { whole = tt; front = front }; device = refl }))
+      (Carried settings n are (subst (λ l. Leads m l n) same leads) back (record { written = record { whole = tt; front = front }; device = refl }))

@@ -13,3 +13,4 @@ mod Printing
 mod Checking
 mod Receiving
 mod Streaming
+mod Months

@@ -1,11 +1,13 @@
--- What holds of bytes that say settings, and of a machine that carries settings out.
+-- What holds of bytes that say settings, of a machine that carries settings out, and of a month's cards and files.
 use Rattle.std.specs.Prelude.{◌≡◌, ℕ, List}
 use Rattle.kd_state.specs.declared.machine.parts.Parts.{Parts}
 use Rattle.kd_state.specs.declared.setting.Setting.{Setting}
 use Rattle.kd_state.specs.declared.setting.why.Why.{Why}
 use Rattle.kd_state.specs.Setting.{Leads}
+use Rattle.kd_state.specs.SheetDay.{Day}
 use Rattle.kd_card.specs.Carrying.{IsFirstIllegal}
 use Rattle.kd_desk.specs.declared.fault.DeskFault.{DeskFault}
+use Rattle.kd_desk.specs.Month.{Papers, AreWrittenInTurn, SetTheMachineInTurn}
 use Rattle.kd_desk.specs.Settings.{AreSettings, IsSettingsFault}
 
 -- bytes say one list of settings at most
@@ -26,3 +28,8 @@ SettingsHaveOneFault =
 abbrev pub LeadsOrRefuses : Type 0
 LeadsOrRefuses =
     (m n : Parts) (xs : List Setting) (line : ℕ) (why : Why) → Leads m xs n → ¬ (IsFirstIllegal m xs line why)
+
+-- whatever cards and files are written, one after another, each of them sets the machine to its day
+abbrev pub MonthsSetTheMachine : Type 0
+MonthsSetTheMachine =
+    (file : List ℕ) (days : List Day) (papers : List Papers) → AreWrittenInTurn file days papers → SetTheMachineInTurn file days papers

@@ -14,3 +14,4 @@ pub mod Headline
 pub mod OnDay
 pub mod RunCard
 pub mod RunCheck
+pub mod Month

@@ -55,7 +55,7 @@ fn print_card<W: Sink>(machine: &Machine, day: &SheetDay, sink: &mut W) -> Resul
 }
 
 /// The same card with a price for each kind.
-fn in_kinds(machine: &Machine, day: &SheetDay, card: &Card) -> Card
+pub(crate) fn in_kinds(machine: &Machine, day: &SheetDay, card: &Card) -> Card
     requires { ProvesByNumber machine.now day.now card.now.settings.items card.now.prices }
     ensures { IsByKind machine.now day.now card.now result }
 {

@@ -3,7 +3,7 @@ use Rattle.std.proofs.Common.{◌≡◌, ℕ, ◌≤◌, List, length, All, Cont
 use Rattle.std.proofs.lemmas.List.Elements.{recursion_from_All}
 use Rattle.kd_tables.specs.Tables.{slots_of, reflectors_of}
 use Rattle.kd_tables.specs.declared.wheel.Wheel.{Wheel}
-use Rattle.kd_state.specs.Machine.{AreAllowed, AreApart, AreLetters}
+use Rattle.kd_state.specs.Machine.{AreLetters}
 use Rattle.kd_state.specs.SheetDay.{RotorDay, IsDayNumber, ArePairs, HasLetters, AreSeated, IsLegalRotorDay, seats}
 use Rattle.kd_sheet.specs.SheetFile.{sheet_wheels}
 use Rattle.kd_sheet.proofs.SheetWheels.{seats-sheet_wheels}

@@ -17,5 +17,8 @@ pub mod Wheels
 mod InTurn
 mod Described
 mod PinsBack
+mod PartsBack
 mod DayTables
+mod FileTexts
+mod MachineBack
 mod SheetEntries

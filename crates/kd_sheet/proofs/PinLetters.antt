@@ -1,6 +1,6 @@
 -- The letters of the Converter's six wheels.
-use Rattle.std.proofs.Common.{◌≡◌, ℕ, zero, suc, ◌+◌, Bool, true, false, ◌&&◌, nat_eq, List, [], ◌∷◌, length, Contains, slice_get, Option, Some, None, refl, sym, ap, ◌∙◌, arith, inl, inr}
-use Rattle.std.specs.List.{list_all, enumerate_from, list_any}
+use Rattle.std.proofs.Common.{◌≡◌, ℕ, zero, suc, ◌+◌, true, nat_eq, List, [], ◌∷◌, length, Contains, slice_get, Some, sym, arith}
+use Rattle.std.specs.List.{list_all, enumerate_from}
 use Rattle.std.proofs.lemmas.Bool.{and_parts, eqb-true}
 use Rattle.std.proofs.lemmas.Option.{none-some, same_Some}
 use Rattle.std.proofs.lemmas.Map.Views.{Contains-from_any}

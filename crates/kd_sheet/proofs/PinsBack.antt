@@ -114,7 +114,7 @@ map_same f g [] same = refl
 map_same f g (x ∷ xs) same = rw (same x, map_same f g xs same) refl
 
 -- a test of the text's bytes passes, where it passes for each letter whose pin is effective
-each_byte : (test : ℕ → Bool) (ring : List ℕ) (pins : List Bool) → are_apart ring ≡ true
+pub each_byte : (test : ℕ → Bool) (ring : List ℕ) (pins : List Bool) → are_apart ring ≡ true
     → ((letter : ℕ) → has_letter ring letter ≡ true → is_set ring pins letter ≡ true → test (letter + 65) ≡ true)
     → list_all test (pins_text ring pins) ≡ true
 each_byte test [] pins apart each = refl

@@ -1,5 +1,5 @@
 -- Wheels told apart, and which of them are among others.
-use Rattle.std.proofs.Common.{◌≡◌, ◌≢◌, List, Contains, Decides, Option, Some, None, sym, ap, ◌∙◌, refl}
+use Rattle.std.proofs.Common.{◌≡◌, List, Contains, Decides, Option, Some, None, sym, ap, ◌∙◌, refl}
 use Rattle.std.specs.List.{list_any}
 use Rattle.std.proofs.lemmas.Bool.{false≢true}
 use Rattle.std.proofs.lemmas.Bool.Decides.{Decides-by_or, Decides-like}

@@ -9,7 +9,6 @@ use Rattle.kd_state.specs.Setting.{has_letter}
 use Rattle.kd_state.specs.TwoCiphers.{both_ends}
 use Rattle.kd_sheet.specs.Document.{◌>>=◌, ◌>>◌, all_values, demand, given_earlier, value_at, items_in}
 use Rattle.kd_sheet.specs.Key.{key_name}
-use Rattle.kd_sheet.specs.Letters.{capital_letters}
 use Rattle.kd_sheet.specs.declared.key.Key.{Key}
 use Rattle.kd_sheet.specs.declared.key.Key.TheVariants as keys
 use Rattle.kd_sheet.specs.declared.fault.SheetFault.{SheetFault}

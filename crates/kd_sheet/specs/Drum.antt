@@ -6,7 +6,6 @@ use Rattle.kd_tables.specs.Places.{in_order}
 use Rattle.kd_tables.specs.declared.place.Place.{Place}
 use Rattle.kd_sheet.specs.Document.{◌>>=◌, ◌>>◌, all_values, demand, given_earlier, items_at}
 use Rattle.kd_sheet.specs.Names.{standing_by_text}
-use Rattle.kd_sheet.specs.declared.key.Key.{Key}
 use Rattle.kd_sheet.specs.declared.key.Key.TheVariants as keys
 use Rattle.kd_sheet.specs.declared.fault.SheetFault.{SheetFault}
 use Rattle.kd_sheet.specs.declared.fault.SheetFault.TheVariants.{BadValue, BadRow}

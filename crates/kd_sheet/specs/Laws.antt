@@ -1,12 +1,24 @@
--- What holds of key sheets and their entries.
+-- What holds of machine files, and of key sheets and their entries.
 use Rattle.std.specs.Prelude.{◌≡◌, ◌↔◌, ℕ, List, [], Contains, Option, Some, Ok}
 use Rattle.toml.specs.Data as toml
 use Rattle.toml.specs.Data.{Data, Members}
+use Rattle.kd_state.specs.declared.machine.parts.Parts.{Parts}
+use Rattle.kd_state.specs.Machine.{IsLegal, IsMachine, cables_ordered}
 use Rattle.kd_state.specs.SheetDay.{Day, IsLegalDay, day_number}
 use Rattle.kd_sheet.specs.Document.{items_at}
+use Rattle.kd_sheet.specs.MachineFile.{machine_of}
+use Rattle.kd_sheet.specs.MachineText.{machine_text}
 use Rattle.kd_sheet.specs.Sheet.{day_of}
 use Rattle.kd_sheet.specs.SheetFile.{day_in, sheet_in}
 use Rattle.kd_sheet.specs.declared.key.Key.TheVariants as keys
+
+-- the file of legal parts is read as the machine of these parts
+abbrev pub LegalPartsAreReadBack : Type 0
+LegalPartsAreReadBack = (m : Parts) → IsLegal m → machine_of (machine_text m) ≡ Ok (cables_ordered m)
+
+-- the file of a machine is read as just that machine
+abbrev pub WrittenFilesAreReadBack : Type 0
+WrittenFilesAreReadBack = (m : Parts) → IsMachine m → machine_of (machine_text m) ≡ Ok m
 
 -- a day is legal exactly where some entry describes it
 abbrev pub LegalDaysAreDescribed : Type 0

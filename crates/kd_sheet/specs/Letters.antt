@@ -1,5 +1,5 @@
 -- Texts of capital letters.
-use Rattle.std.specs.Prelude.{ℕ, Bool, ◌&&◌, ◌==◌, nat_le, List, length, Option, Some, None, if◌then◌else◌}
+use Rattle.std.specs.Prelude.{ℕ, ◌&&◌, ◌==◌, List, length, Option, Some, None, if◌then◌else◌}
 use Rattle.std.specs.List.{list_all}
 use Rattle.kd_tables.specs.Tables.{letters_of}
 use Rattle.kd_tables.specs.Text.{is_capital}

@@ -1,5 +1,5 @@
 -- What a machine file says, key by key, in the order in which its keys are tested.
-use Rattle.std.specs.Prelude.{ℕ, ◌==◌, Bool, true, List, length, Option, Result, Ok, ok_or}
+use Rattle.std.specs.Prelude.{ℕ, ◌==◌, Bool, true, List, length, Result, Ok, ok_or}
 use Rattle.toml.specs.Data.{Members}
 use Rattle.kd_tables.specs.Tables.{box_of}
 use Rattle.kd_tables.specs.declared.model.Model.{Model}

@@ -1,6 +1,6 @@
 -- The text of a machine file, as it is written.
-use Rattle.std.specs.Prelude.{codes, ℕ, ◌+◌, Bool, true, false, List, [], ◌∷◌, ◌++◌, map, zip, Option, if◌then◌else◌}
-use Rattle.std.specs.List.{concat, filter_map, flat_map, join_by}
+use Rattle.std.specs.Prelude.{codes, ℕ, ◌+◌, Bool, List, [], ◌∷◌, ◌++◌, map, zip, Option, if◌then◌else◌}
+use Rattle.std.specs.List.{concat, flat_map, join_by}
 use Rattle.std.specs.Option.{option_map_or}
 use Rattle.kd_tables.specs.Places.{figure, standing_text}
 use Rattle.kd_tables.specs.Rings.{ring_of}

@@ -1,15 +1,17 @@
 //! Writing the file of a machine.
-ghost use Rattle.std.specs.Prelude.{◌≡◌, ◌+◌, ◌<◌, ◌≤◌, ◌||◌, ◌++◌, map, length, is_err};
+ghost use Rattle.std.specs.Prelude.{◌≡◌, ◌+◌, ◌<◌, ◌≤◌, ◌||◌, ◌++◌, map, length, is_err, Ok};
 ghost use Rattle.std.specs.List.{concat};
 ghost use Rattle.arrayvec.specs.ArrayString.{array_string_len};
 ghost use Rattle.kd_tables.specs.Places.{figure};
 ghost use Rattle.kd_tables.specs.Writing.{Writes};
 ghost use Rattle.kd_tables.specs.Text.{letters_text};
 ghost use Rattle.kd_state.specs.Machine.{IsLegalRotor, IsLegalPin};
+ghost use Rattle.kd_sheet.specs.MachineFile.{machine_of};
 ghost use Rattle.kd_sheet.specs.MachineText.{quoted, key_line, version_of, pin_text, pins_text, pin_texts, head_lines, machine_text};
 
 use super::item_text::Item;
 use super::key::Key;
+use super::laws::written_files_are_read_back;
 use super::lines::{Text, push_figure_line, push_list_line, push_text_line};
 use kd_pins::PinSet;
 use kd_state::{Machine, Parts, PinParts, RotorParts, push_letter};
@@ -138,11 +140,13 @@ fn pin_machine_text(parts: &PinParts) -> Text
 }
 
 /// Writes the machine file of a machine: in version 1, and in version 2 for the M4. On `Device` the sink has taken a front
-/// of the text.
+/// of the text. Whoever reads the whole text finds just this machine.
 pub fn write_machine<W: Sink>(sink: &mut W, machine: &Machine) -> Result<(), Device>
     ensures text { Writes (W.taken sink.old) (W.taken sink.new) (machine_text machine.now) result }
     ensures failed { W.has_failed sink.new ≡ (W.has_failed sink.old || is_err result) }
+    ensures file { machine_of (machine_text machine.now) ≡ Ok machine.now }
 {
+    written_files_are_read_back();
     let text = match machine.parts() {
         Parts::Rotor(parts) => rotor_text(parts),
         Parts::Pin(parts) => pin_machine_text(parts),
