@@ -1,5 +1,5 @@
 -- The words of kinds' lines, and the looks that they tell.
-use Rattle.std.proofs.Common.{ltb, codes, ◌≡◌, ◌≢◌, ℕ, ◌+◌, ◌<◌, true, List, [], ◌∷◌, ◌++◌, length, get_or, ℤ, Option, Some, None, refl, sym, ap, ◌∙◌, append_assoc, length-append, arith, map, decimal, Bor}
+use Rattle.std.proofs.Common.{ltb, codes, ◌≡◌, ◌≢◌, ℕ, ◌+◌, ◌<◌, true, List, [], ◌∷◌, ◌++◌, length, get_or, drop, subst, ℤ, Option, Some, None, refl, sym, ap, ◌∙◌, append_assoc, length-append, arith, map, decimal, Bor}
 use Rattle.std.specs.List.{All, find, list_all}
 use Rattle.std.specs.Option.{unwrap_or}
 use Rattle.std.specs.Str.{bytes_eq}
@@ -16,15 +16,13 @@ use Rattle.kd_card.specs.declared.look.Name.TheVariants as names
 use Rattle.kd_card.specs.declared.kinds.PricedKind.{PricedKind}
 use Rattle.kd_card.specs.Kinds.{look_name, name_text, look_text, look_rank, ends_rank, pair_rank, kind_words, AreEnds, IsPairInOrder, IsInForm, IsPricedKind, kinds_text, HasLook, HasKindWords}
 use Rattle.kd_card.specs.Laws.{RanksTellLooks}
-use Rattle.kd_card.proofs.Lines.{Laws, bytes_above, line_has_words, same_words}
+use Rattle.kd_card.proofs.Lines.{Laws, bytes_above, line_has_words, same_words, some_bytes, no_first_part}
 use Rattle.kd_card.proofs.CardWords.{word_by_bytes, bytes_are_word, word_by_test, signed_word}
 use Rattle.kd_card.proofs.PriceTexts.{small}
 use Rattle.std.specs.Fmt.{signed_decimal}
 use Rattle.std.proofs.lemmas.List.{append-nil}
-use Rattle.kd_card.specs.declared.group.Group.{Group}
-use Rattle.kd_card.specs.declared.group.Group.TheVariants.{OfCables, OfBars}
-use Rattle.kd_card.specs.CardText.{row_name}
-use Rattle.kd_card.specs.CardFault.{IsFirstWord, BeginsWithWord, IsNextKind}
+use Rattle.kd_card.specs.CardFault.{HasWords, BeginsWithWord, EndsGroup, AtNothing, AtOther, IsNextKind, HasNoNext}
+use Rattle.kd_card.specs.Reading.{IsFirstWord, EndsAt, IsBadAt}
 
 -- ---- names and places by their texts
 
@@ -167,24 +165,65 @@ ranks_tell_looks look other named x y e = cc
 pub begins : {text words rest first : List ℕ} → IsFirstPart 10 text words rest → IsFirstWord words first → BeginsWithWord first text
 begins {words} {rest} ends f = record { behind = f.behind; rest = rest; has = record { line = words; first = ends; parts = f.words } }
 
-pub no_group : (first : List ℕ) → first ≢ name_text names.Cable → first ≢ name_text names.Bar → (group : Group) → first ≢ name_text (row_name group)
-no_group first a b OfCables = a
-no_group first a b OfBars = b
-
 pub no_count : (name : Name) (look count price : List ℕ) → decimal 0 ≡ count
     → (kind : PricedKind) → ¬ (HasKindWords name (name_text name ∷ look ∷ count ∷ price ∷ []) kind)
 no_count name look count price zero kind has =
     let is : kind.count ≡ 0 = decimal_injective kind.count 0 (omega arith) (omega arith) (ap (λ w. get_or w 2 []) has.written ∙ sym zero) in
     omega arith
 
+module _ (laws : Laws) where
+  pub kind_has_words : {name : Name} {floor : ℕ} {bytes : List ℕ} {kind : PricedKind} {rest : List ℕ}
+      → IsNextKind name floor bytes kind rest → HasWords bytes (kind_words kind) rest
+  kind_has_words {kind} {rest} next =
+      line_has_words laws (kind_words kind) rest (λ none. cc) (kind_is_words laws.numbers kind next.good) next.line
+
+  one_word : {bytes word other : List ℕ} → BeginsWithWord word bytes → BeginsWithWord other bytes → word ≡ other
+  one_word a b = ap (λ words. get_or words 0 []) (same_words laws a.has b.has).0
+
+  -- the line of a kind begins with its name
+  pub kind_begins : {name : Name} {floor : ℕ} {bytes : List ℕ} {kind : PricedKind} {rest : List ℕ}
+      → IsNextKind name floor bytes kind rest → BeginsWithWord (name_text name) bytes
+  kind_begins {bytes} {kind} {rest} next = record {
+    behind = drop 1 (kind_words kind);
+    rest = rest;
+    has = subst (λ n. HasWords bytes (name_text n ∷ drop 1 (kind_words kind)) rest) next.called (kind_has_words next);
+  }
+
+  pub end_has_no_next : {name : Name} {bytes : List ℕ} (floor : ℕ) → EndsGroup name bytes → HasNoNext name floor bytes
+  end_has_no_next floor (AtNothing none) kind rest next = some_bytes (kind_has_words next) none
+  end_has_no_next floor (AtOther word begins differs) kind rest next = differs (one_word begins (kind_begins next))
+
+  pub ends_at : {name : Name} {bytes : List ℕ} (floor : ℕ) → EndsGroup name bytes → EndsAt name floor bytes
+  ends_at floor ends = record { ends = ends; none_more = end_has_no_next floor ends }
+
+  -- there are bytes without LF
+  pub unended : {name : Name} {bytes : List ℕ} (floor : ℕ) → bytes ≢ [] → IsWithout 10 bytes → IsBadAt name floor bytes
+  unended floor some without = record {
+    goes_on = λ ends. elim ends [
+      | AtNothing none ↦ some none
+      | AtOther word begins differs ↦ no_first_part begins.has.first without
+    ];
+    none_more = λ kind rest next. no_first_part (kind_has_words next).first without;
+  }
+
+  -- or a line of that name that isn't a kind's
+  pub no_kind : {name : Name} {bytes : List ℕ} (floor : ℕ) → BeginsWithWord (name_text name) bytes → HasNoNext name floor bytes
+      → IsBadAt name floor bytes
+  no_kind floor named none = record {
+    goes_on = λ ends. elim ends [
+      | AtNothing nil ↦ some_bytes named.has nil
+      | AtOther word begins differs ↦ differs (one_word begins named)
+    ];
+    none_more = none;
+  }
+
 module _ (laws : Laws) {name : Name} {text words rest : List ℕ} (ends : IsFirstPart 10 text words rest) where
   pub words_are : {floor : ℕ} {kind : PricedKind} {more : List ℕ} → IsNextKind name floor text kind more → HasKindWords name (words_of words) kind
   words_are {kind} {more} next =
-      let has = line_has_words laws (kind_words kind) more (λ none. cc) (kind_is_words laws.numbers kind next.good) next.line in
       record {
         called = next.called;
         good = next.good;
-        written = (same_words laws has (record { line = words; first = ends; parts = refl })).0;
+        written = (same_words laws (kind_has_words laws next) (record { line = words; first = ends; parts = refl })).0;
       }
 
   pub low_next : {floor rank : ℕ} {kind : PricedKind} → HasKindWords name (words_of words) kind → rank ≡ look_rank kind.look → rank < floor

@@ -1,3 +1,4 @@
+pub mod Steps
 pub mod Lines
 pub mod PriceTexts
 pub mod CardWords

@@ -11,7 +11,7 @@ use Rattle.std.proofs.lemmas.List.Concat.{flat_map-append}
 use Rattle.std.proofs.lemmas.List.Sums.{AllPass-from_list_all}
 use Rattle.std.proofs.lemmas.List.Elements.{All-weaker, All-append, All-push}
 use Rattle.std.proofs.lemmas.List.Folds.{flat_map-map}
-use Rattle.std.proofs.lemmas.List.Splits.{slice_split_none, slice_split_at}
+use Rattle.std.proofs.lemmas.List.Splits.{slice_split_none, slice_split_at, join_with_byte-slice_split}
 use Rattle.kd_state.specs.declared.setting.Setting.{Setting}
 use Rattle.kd_state.specs.Words.{words_of, line_of, IsWord, IsWithout, IsFirstPart, TextsTellFirstParts, LinesSplitIntoWords, WordsMakeOneLine, NumbersAreWords}
 use Rattle.kd_state.specs.Line.{setting_words, setting_line, list_text, IsInRange, BeginsWith, BeginsWithLine}
@@ -119,6 +119,15 @@ same_behind tells name number value more plain first without e =
       without = All-append (λ c. c ≢ 10) name value plain without;
     })).0
 
+pub not_behind : {text : List ℕ} (name : List ℕ) → IsWithout 10 name
+    → ((value rest : List ℕ) → ¬ (IsFirstPart 10 text (name ++ value) rest)) → (value more : List ℕ) → IsWithout 10 value
+    → text ≢ name ++ (value ++ 10 ∷ more)
+not_behind name plain none value more without e =
+    none value more (record {
+      joined = e ∙ sym (append_assoc name value (10 ∷ more));
+      without = All-append (λ c. c ≢ 10) name value plain without;
+    })
+
 -- ---- the words of a line
 
 spaceless : (word : List ℕ) → IsWithout 32 word → All (λ b. eqb b 32 ≡ false) word
@@ -131,12 +140,23 @@ pub words_of_first : {text word rest : List ℕ} → IsFirstPart 32 text word re
 words_of_first {text} {word} {rest} first =
     ap words_of first.joined ∙ slice_split_at (λ b. eqb b 32) word 32 rest (spaceless word first.without) refl
 
+pub is_line : {bytes : List ℕ} {words : List (List ℕ)} {rest : List ℕ} → HasWords bytes words rest
+    → bytes ≡ with_line words rest
+is_line {rest} has =
+    has.first.joined ∙ ap (λ line. line ++ 10 ∷ rest) (sym (join_with_byte-slice_split 32 has.line) ∙ ap line_of has.parts)
+
+pub some_bytes : {bytes rest : List ℕ} {words : List (List ℕ)} → HasWords bytes words rest → bytes ≢ []
+some_bytes {rest} has none = omega (arith, ap length (sym has.first.joined ∙ none), length-append has.line (10 ∷ rest))
+
 -- what the laws of kd_state say of lines
 pub record Laws : Type 0 where
   pub first_parts : TextsTellFirstParts
   pub split : LinesSplitIntoWords
   pub one_line : WordsMakeOneLine
   pub numbers : NumbersAreWords
+
+pub laws_of : TextsTellFirstParts → LinesSplitIntoWords → WordsMakeOneLine → NumbersAreWords → Laws
+laws_of first split one numbers = record { first_parts = first; split = split; one_line = one; numbers = numbers }
 
 module _ (laws : Laws) where
   pub line_has_words : {bytes : List ℕ} (words : List (List ℕ)) (rest : List ℕ) → words ≢ [] → All IsWord words → bytes ≡ with_line words rest
