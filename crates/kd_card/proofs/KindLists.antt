@@ -17,6 +17,7 @@ use Rattle.kd_state.specs.Words.{line_of}
 use Rattle.kd_card.specs.CardFault.{floor_behind, IsNextKind, BeginsWithKinds}
 use Rattle.kd_card.proofs.KindPrices.{text_of_more_kinds}
 use Rattle.kd_card.proofs.KindWords.{low_rank}
+use Rattle.kd_card.proofs.Lines.{is_line}
 
 -- ---- one more kind at the end
 
@@ -171,7 +172,7 @@ reads_on {name} {line} {text} {after} {total} {at} {count} {rank} {kept} {kind} 
     subst (HasRead name line text after (rank + 1) (total + count) (at + 1)) (sym keeps) (record {
       begins = record {
         lines =
-            read.begins.lines ∙ ap (λ t. kinds_text kept ++ t) (next.line ∙ sym (text_of_more_kinds kind [] after))
+            read.begins.lines ∙ ap (λ t. kinds_text kept ++ t) (is_line next.line ∙ sym (text_of_more_kinds kind [] after))
             ∙ sym (append_assoc (kinds_text kept) (kinds_text (kind ∷ [])) after)
             ∙ ap (λ t. t ++ after) (sym (flat_map-append (λ (k : PricedKind). line_of (kind_words k) ++ 10 ∷ []) kept (kind ∷ [])));
         called = more_called name kept kind read.begins.called next.called;

@@ -16,7 +16,7 @@ use Rattle.kd_card.specs.declared.look.Name.TheVariants as names
 use Rattle.kd_card.specs.declared.kinds.PricedKind.{PricedKind}
 use Rattle.kd_card.specs.Kinds.{look_name, name_text, look_text, look_rank, ends_rank, pair_rank, kind_words, AreEnds, IsPairInOrder, IsInForm, IsPricedKind, kinds_text, HasLook, HasKindWords}
 use Rattle.kd_card.specs.Laws.{RanksTellLooks}
-use Rattle.kd_card.proofs.Lines.{Laws, bytes_above, line_has_words, same_words, some_bytes, no_first_part}
+use Rattle.kd_card.proofs.Lines.{bytes_above, same_words, some_bytes, no_first_part}
 use Rattle.kd_card.proofs.CardWords.{word_by_bytes, bytes_are_word, word_by_test, signed_word}
 use Rattle.kd_card.proofs.PriceTexts.{small}
 use Rattle.std.specs.Fmt.{signed_decimal}
@@ -171,14 +171,9 @@ no_count name look count price zero kind has =
     let is : kind.count ≡ 0 = decimal_injective kind.count 0 (omega arith) (omega arith) (ap (λ w. get_or w 2 []) has.written ∙ sym zero) in
     omega arith
 
-module _ (laws : Laws) where
-  pub kind_has_words : {name : Name} {floor : ℕ} {bytes : List ℕ} {kind : PricedKind} {rest : List ℕ}
-      → IsNextKind name floor bytes kind rest → HasWords bytes (kind_words kind) rest
-  kind_has_words {kind} {rest} next =
-      line_has_words laws (kind_words kind) rest (λ none. cc) (kind_is_words laws.numbers kind next.good) next.line
-
+module _ (tells : TextsTellFirstParts) where
   one_word : {bytes word other : List ℕ} → BeginsWithWord word bytes → BeginsWithWord other bytes → word ≡ other
-  one_word a b = ap (λ words. get_or words 0 []) (same_words laws a.has b.has).0
+  one_word a b = ap (λ words. get_or words 0 []) (same_words tells a.has b.has).0
 
   -- the line of a kind begins with its name
   pub kind_begins : {name : Name} {floor : ℕ} {bytes : List ℕ} {kind : PricedKind} {rest : List ℕ}
@@ -186,11 +181,11 @@ module _ (laws : Laws) where
   kind_begins {bytes} {kind} {rest} next = record {
     behind = drop 1 (kind_words kind);
     rest = rest;
-    has = subst (λ n. HasWords bytes (name_text n ∷ drop 1 (kind_words kind)) rest) next.called (kind_has_words next);
+    has = subst (λ n. HasWords bytes (name_text n ∷ drop 1 (kind_words kind)) rest) next.called next.line;
   }
 
   pub end_has_no_next : {name : Name} {bytes : List ℕ} (floor : ℕ) → EndsGroup name bytes → HasNoNext name floor bytes
-  end_has_no_next floor (AtNothing none) kind rest next = some_bytes (kind_has_words next) none
+  end_has_no_next floor (AtNothing none) kind rest next = some_bytes next.line none
   end_has_no_next floor (AtOther word begins differs) kind rest next = differs (one_word begins (kind_begins next))
 
   pub ends_at : {name : Name} {bytes : List ℕ} (floor : ℕ) → EndsGroup name bytes → EndsAt name floor bytes
@@ -203,7 +198,7 @@ module _ (laws : Laws) where
       | AtNothing none ↦ some none
       | AtOther word begins differs ↦ no_first_part begins.has.first without
     ];
-    none_more = λ kind rest next. no_first_part (kind_has_words next).first without;
+    none_more = λ kind rest next. no_first_part next.line.first without;
   }
 
   -- or a line of that name that isn't a kind's
@@ -217,19 +212,19 @@ module _ (laws : Laws) where
     none_more = none;
   }
 
-module _ (laws : Laws) {name : Name} {text words rest : List ℕ} (ends : IsFirstPart 10 text words rest) where
+module _ (tells : TextsTellFirstParts) {name : Name} {text words rest : List ℕ} (ends : IsFirstPart 10 text words rest) where
   pub words_are : {floor : ℕ} {kind : PricedKind} {more : List ℕ} → IsNextKind name floor text kind more → HasKindWords name (words_of words) kind
   words_are {kind} {more} next =
       record {
         called = next.called;
         good = next.good;
-        written = (same_words laws (kind_has_words laws next) (record { line = words; first = ends; parts = refl })).0;
+        written = (same_words tells next.line (record { line = words; first = ends; parts = refl })).0;
       }
 
   pub low_next : {floor rank : ℕ} {kind : PricedKind} → HasKindWords name (words_of words) kind → rank ≡ look_rank kind.look → rank < floor
       → (other : PricedKind) (more : List ℕ) → ¬ (IsNextKind name floor text other more)
   low_next {kind} has ranked low other more next =
-      let same : kind ≡ other = same_kind laws.first_parts kind other has.good next.good (has.written ∙ sym (words_are next).written) in
+      let same : kind ≡ other = same_kind tells kind other has.good next.good (has.written ∙ sym (words_are next).written) in
       omega (arith, ap (λ (k : PricedKind). look_rank k.look) same)
 
 -- four words

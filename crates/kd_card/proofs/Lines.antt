@@ -148,15 +148,17 @@ is_line {rest} has =
 pub some_bytes : {bytes rest : List ℕ} {words : List (List ℕ)} → HasWords bytes words rest → bytes ≢ []
 some_bytes {rest} has none = omega (arith, ap length (sym has.first.joined ∙ none), length-append has.line (10 ∷ rest))
 
+pub same_words : TextsTellFirstParts → {bytes rest more : List ℕ} {words others : List (List ℕ)} → HasWords bytes words rest
+    → HasWords bytes others more → (words ≡ others) × (rest ≡ more)
+same_words tells a b =
+    let parts = same_first_part tells a.first b.first in (sym a.parts ∙ ap words_of parts.0 ∙ b.parts, parts.1)
+
 -- what the laws of kd_state say of lines
 pub record Laws : Type 0 where
   pub first_parts : TextsTellFirstParts
   pub split : LinesSplitIntoWords
   pub one_line : WordsMakeOneLine
   pub numbers : NumbersAreWords
-
-pub laws_of : TextsTellFirstParts → LinesSplitIntoWords → WordsMakeOneLine → NumbersAreWords → Laws
-laws_of first split one numbers = record { first_parts = first; split = split; one_line = one; numbers = numbers }
 
 module _ (laws : Laws) where
   pub line_has_words : {bytes : List ℕ} (words : List (List ℕ)) (rest : List ℕ) → words ≢ [] → All IsWord words → bytes ≡ with_line words rest
@@ -166,12 +168,6 @@ module _ (laws : Laws) where
     first = record { joined = e; without = laws.one_line words are };
     parts = laws.split words some are;
   }
-
-  pub same_words : {bytes rest more : List ℕ} {words others : List (List ℕ)} → HasWords bytes words rest → HasWords bytes others more
-      → (words ≡ others) × (rest ≡ more)
-  same_words a b =
-      let parts = same_first_part laws.first_parts a.first b.first in
-      (sym a.parts ∙ ap words_of parts.0 ∙ b.parts, parts.1)
 
 -- ---- a line that begins with a name
 

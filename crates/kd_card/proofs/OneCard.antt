@@ -22,7 +22,7 @@ use Rattle.kd_card.specs.declared.kinds.PricedKind.{PricedKind}
 use Rattle.kd_card.specs.declared.fault.CardFault.{CardFault}
 use Rattle.kd_card.specs.declared.fault.CardFault.TheVariants.{Trailing}
 use Rattle.kd_card.specs.Steps.{Then, Refused, Found, Only, Demands}
-use Rattle.kd_card.specs.Kinds.{look_rank, name_text, kinds_text, counted, AreKinds, AreCalled}
+use Rattle.kd_card.specs.Kinds.{look_rank, name_text, kind_words, kinds_text, counted, AreKinds, AreCalled}
 use Rattle.kd_card.specs.Prices.{version_of, row_kinds, column_kinds, price_sum, AreWithinReach, ArePrices}
 use Rattle.kd_card.specs.CardText.{group_of, row_word, column_word, row_name, column_name, price_count, version_text, head_words, settings_words, price_words, sum_words, lines_text, price_lines, card_text, IsGroup, IsCard}
 use Rattle.kd_card.specs.CardFault.{with_line, IsNumberText, IsSignedText, HasWords, SaysValue, SaysLine, SaysFirst, BeginsWithHead, BeginsWithSettings, SaysSettings, first_text, SaysPrices, SaysPriceLine, numbered, SaysNumbered, BeginsWithWord, EndsGroup, AtOther, IsNextKind, HasNoNext, floor_behind, BeginsWithKinds, SaysGroup, SaysKinded, SaysAllPrices, SaysBehind, SaysCard}
@@ -31,7 +31,7 @@ use Rattle.kd_card.proofs.Steps.{IsOnly, only_then, only_only, only_finds, only_
 use Rattle.kd_card.proofs.Lines.{Laws, line_has_words, same_words, is_line, text_of_more, two_lines, card_and_more}
 use Rattle.kd_card.proofs.PriceTexts.{small}
 use Rattle.kd_card.proofs.CardWords.{word_by_test, number_word, signed_text_word, signed_word, head_is_words, row_is_word, column_is_word, prices_are_words, number_text, signed_text, price_sum_is_small, value_says, value_said, first_says, line_said, group_said}
-use Rattle.kd_card.proofs.KindWords.{kind_has_words, kind_begins, end_has_no_next, same_kind}
+use Rattle.kd_card.proofs.KindWords.{kind_is_words, kind_begins, end_has_no_next, same_kind}
 use Rattle.kd_card.proofs.KindPrices.{text_of_more_kinds, text_by_kind, both_groups, size_of, of_two_groups, same_kind_parts}
 
 -- ---- what is told by its text
@@ -179,7 +179,7 @@ module _ (laws : Laws) where
   only_first word one line bytes =
       only_then
       (only_then (only_demands _ _)
-      (λ some filled. only_finds _ (λ x y a b. let same = same_words laws a b in same_pair x y same.0 same.1)))
+      (λ some filled. only_finds _ (λ x y a b. let same = same_words laws.first_parts a b in same_pair x y same.0 same.1)))
       (λ found has. only_then (only_finds _ (λ x y a b. same_pair x y (one x.0 y.0 (cc)) (cc))) (λ first is. only_only _))
 
   only_price_line : {K : Type 0} (word : K → List ℕ) (number : K → ℕ) → ((key other : K) → word key ≡ word other → key ≡ other)
@@ -205,28 +205,34 @@ module _ (laws : Laws) where
 
   -- ---- groups of kinds
 
-  kinds_end : (name : Name) (floor : ℕ) (xs ys : List PricedKind) (rest more : List ℕ) → AreCalled name xs → AreCalled name ys
-      → AreKinds floor xs → AreKinds floor ys → HasNoNext name (floor_behind floor xs) rest
-      → HasNoNext name (floor_behind floor ys) more → kinds_text xs ++ rest ≡ kinds_text ys ++ more
+  next_kind : {name : Name} {floor : ℕ} (kind : PricedKind) (kinds : List PricedKind) (rest : List ℕ) {bytes : List ℕ}
+      → AreCalled name (kind ∷ kinds) → AreKinds floor (kind ∷ kinds) → bytes ≡ kinds_text (kind ∷ kinds) ++ rest
+      → IsNextKind name floor bytes kind (kinds_text kinds ++ rest)
+  next_kind kind kinds rest called are e = record {
+    called = called.0;
+    good = are.0;
+    above = are.1;
+    line =
+        line_has_words laws (kind_words kind) (kinds_text kinds ++ rest) (λ none. cc) (kind_is_words laws.numbers kind are.0)
+        (e ∙ text_of_more_kinds kind kinds rest);
+  }
+
+  kinds_end : (name : Name) (floor : ℕ) (xs ys : List PricedKind) {bytes : List ℕ} (rest more : List ℕ) → AreCalled name xs
+      → AreCalled name ys → AreKinds floor xs → AreKinds floor ys → HasNoNext name (floor_behind floor xs) rest
+      → HasNoNext name (floor_behind floor ys) more → bytes ≡ kinds_text xs ++ rest → bytes ≡ kinds_text ys ++ more
       → (xs ≡ ys) × (rest ≡ more)
-  kinds_end name floor [] [] rest more c d a b none nor e = (refl, e)
-  kinds_end name floor [] (y ∷ ys) rest more c d a b none nor e =
-      absurd (none y (kinds_text ys ++ more)
-      (record { called = d.0; good = b.0; above = b.1; line = e ∙ text_of_more_kinds y ys more }))
-  kinds_end name floor (x ∷ xs) [] rest more c d a b none nor e =
-      absurd (nor x (kinds_text xs ++ rest)
-      (record { called = c.0; good = a.0; above = a.1; line = sym e ∙ text_of_more_kinds x xs rest }))
-  kinds_end name floor (x ∷ xs) (y ∷ ys) rest more c d a b none nor e =
-      let first : IsNextKind name floor (kinds_text (x ∷ xs) ++ rest) x (kinds_text xs ++ rest) =
-      record { called = c.0; good = a.0; above = a.1; line = text_of_more_kinds x xs rest } in
-      let second : IsNextKind name floor (kinds_text (x ∷ xs) ++ rest) y (kinds_text ys ++ more) =
-      record { called = d.0; good = b.0; above = b.1; line = e ∙ text_of_more_kinds y ys more } in
-      let same = same_words laws (kind_has_words laws first) (kind_has_words laws second) in
+  kinds_end name floor [] [] rest more c d a b none nor e f = (refl, sym e ∙ f)
+  kinds_end name floor [] (y ∷ ys) rest more c d a b none nor e f =
+      absurd (none y (kinds_text ys ++ more) (next_kind y ys more d b (sym e ∙ f)))
+  kinds_end name floor (x ∷ xs) [] rest more c d a b none nor e f =
+      absurd (nor x (kinds_text xs ++ rest) (next_kind x xs rest c a (sym f ∙ e)))
+  kinds_end name floor (x ∷ xs) (y ∷ ys) rest more c d a b none nor e f =
+      let same = same_words laws.first_parts (next_kind x xs rest c a e).line (next_kind y ys more d b f).line in
       let heads : x ≡ y = same_kind laws.first_parts x y a.0 b.0 same.0 in
       let above : AreKinds (look_rank x.look + 1) ys = subst (λ z. AreKinds (look_rank z.look + 1) ys) (sym heads) b.2 in
       let behind : HasNoNext name (floor_behind (look_rank x.look + 1) ys) more =
       subst (λ z. HasNoNext name (floor_behind (look_rank z.look + 1) ys) more) (sym heads) nor in
-      let tails = kinds_end name (look_rank x.look + 1) xs ys rest more c.1 d.1 a.2 above none behind same.1 in
+      let tails = kinds_end name (look_rank x.look + 1) xs ys rest more c.1 d.1 a.2 above none behind refl same.1 in
       let others : xs ≡ ys = tails.0 in
       (cc, tails.1)
 
@@ -236,7 +242,7 @@ module _ (laws : Laws) where
       (only_takes (λ x y a b.
       let same =
       kinds_end name 0 x.0 y.0 x.1 y.1 a.begins.called b.begins.called a.begins.in_order b.begins.in_order a.none_more
-      b.none_more (sym a.begins.lines ∙ b.begins.lines) in
+      b.none_more a.begins.lines b.begins.lines in
       same_pair x y same.0 same.1))
       (λ group takes. only_then (only_demands _ _) (λ end ends. only_then (only_demands _ _) (λ all count. only_only group)))
 
@@ -247,7 +253,7 @@ module _ (laws : Laws) where
       Found (kinds, rest)
       (record {
         begins = record { lines = e; called = group.called; in_order = group.in_order };
-        none_more = end_has_no_next laws (floor_behind 0 kinds) ends;
+        none_more = end_has_no_next laws.first_parts (floor_behind 0 kinds) ends;
       })
       (Found tt ends (Found tt group.count refl))
 
@@ -256,12 +262,7 @@ module _ (laws : Laws) where
       → IsGroup name number kinds → bytes ≡ kinds_text kinds ++ rest → BeginsWithWord (name_text name) bytes
   group_begins [] rest some group e = let count = group.count in absurd (omega arith)
   group_begins (kind ∷ kinds) rest some group e =
-      kind_begins laws {floor = 0} (record {
-        called = group.called.0;
-        good = group.in_order.0;
-        above = group.in_order.1;
-        line = e ∙ text_of_more_kinds kind kinds rest;
-      })
+      kind_begins laws.first_parts (next_kind kind kinds rest group.called group.in_order e)
 
   -- ---- the prices
 
@@ -322,7 +323,7 @@ module _ (laws : Laws) where
   one_head bytes (version, day, rest) (by, other, more) a b =
       let words = λ (v : Version) (d : ℕ) (r : List ℕ) (h : BeginsWithHead bytes v d r).
       line_has_words laws (head_words v d) r (λ none. cc) (head_is_words laws.numbers v d h.of_month.last) h.text in
-      let line = same_words laws (words version day rest a) (words by other more b) in
+      let line = same_words laws.first_parts (words version day rest a) (words by other more b) in
       let versions : version ≡ by = same_version version by (ap (λ w. get_or w 1 []) line.0) in
       let days : day ≡ other =
       decimal_injective day other (omega arith) (omega arith) (ap (λ w. get_or w 3 []) line.0) in
@@ -341,7 +342,7 @@ module _ (laws : Laws) where
       only_then
       (only_finds _ (λ x y a b.
       let same =
-      same_words laws (value_line name x.0 x.1 named (words x.0 a.0) a.1) (value_line name y.0 y.1 named (words y.0 b.0) b.1) in
+      same_words laws.first_parts (value_line name x.0 x.1 named (words x.0 a.0) a.1) (value_line name y.0 y.1 named (words y.0 b.0) b.1) in
       same_pair x y (ap (λ w. get_or w 1 []) same.0) same.1))
       (λ found says. only_then (only_demands _ _) (λ due is. only_only _))
 

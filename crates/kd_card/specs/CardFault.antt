@@ -142,7 +142,7 @@ pub record IsNextKind (name : Name) (floor : ℕ) (bytes : List ℕ) (kind : Pri
   pub called : look_name kind.look ≡ name
   pub good : IsPricedKind kind
   pub above : floor ≤ look_rank kind.look
-  pub line : bytes ≡ with_line (kind_words kind) rest
+  pub line : HasWords bytes (kind_words kind) rest
 
 -- no such kind stands there
 abbrev pub HasNoNext : Name → ℕ → List ℕ → Type 0

@@ -13,7 +13,7 @@ use super::look::{Look, Name};
 use super::price_text::price_of_text;
 use arrayvec::{ArrayString, ArrayVec};
 use itoa::Buffer;
-use kd_state::laws::{lines_tell_words, numbers_and_letters_are_words, texts_tell_first_parts};
+use kd_state::laws::texts_tell_first_parts;
 use kd_state::{number_of_text, push_number, split_once, split_words};
 
 /// No group has more kinds in order, each once: their ranks are below this.
@@ -73,9 +73,7 @@ fn next_kind(
         (λ found. IsNextKind name floor text.now found.0 found.1.now))
         (λ fault. IsBadAt name floor text.now × (fault ≡ CardFault.BadLine line)) }
 {
-    lines_tell_words();
     texts_tell_first_parts();
-    numbers_and_letters_are_words();
     if text.is_empty() {
         return Ok(None);
     }
