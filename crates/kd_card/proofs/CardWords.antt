@@ -1,32 +1,9 @@
 -- What stands in a card's lines are words, and its numbers have the keywords that are read.
-use Rattle.std.proofs.Common.{codes, ◌≡◌, ◌≢◌, ℕ, zero, suc, ◌+◌, ◌*◌, ◌^◌, ◌<◌, ◌≤◌, inl, inr, true, List, [], ◌∷◌, ◌++◌, length, map, get_or, fold, decimal, Ok, Err, refl, ap, arith, ℤ, pos, negsuc, ◌+ℤ◌, unsigned_abs, length-append, ltb, sym, subst, ◌∙◌}
-use Rattle.std.specs.List.{All, AllByRecursion, list_all}
+use Rattle.kd_card.proofs.Prelude.{codes, ◌≡◌, ◌≢◌, ℕ, zero, suc, ◌+◌, ◌*◌, ◌^◌, ◌<◌, ◌≤◌, inl, inr, true, List, [], ◌∷◌, ◌++◌, length, map, get_or, fold, decimal, Ok, Err, refl, ap, arith, ℤ, pos, negsuc, ◌+ℤ◌, unsigned_abs, length-append, ltb, sym, subst, ◌∙◌, All, AllByRecursion, list_all, digits_value, signed_decimal, decimal_nonempty, digits_decimal, decimal_digit, first_decimal, ints, All-cons, All-map, All-weaker, All-append, All-from_recursion, All-from_get_or, recursion_from_All, IsWord, NumbersAreWords, PriceParts, Cables, Version, ByNumber, ByKind, row_prices, column_prices, how_many, price_sum, AreWithinReach, ArePrices, Group, OfCables, OfBars, Name, PricedKind, BadLine, CountWrong, PriceMissing, Refused, Found, kinds_text, row_word, column_word, version_text, head_words, price_words, IsGroup, IsDigit, IsNumberText, IsSignedText, with_line, HasWords, SaysValue, SaysLine, SaysFirst, SaysPrices, SaysPriceLine, SaysGroup, nil_from_length}
 use Rattle.std.specs.Int.{IsInRange}
-use Rattle.std.specs.Str.Parse.{digits_value}
-use Rattle.std.specs.Fmt.{signed_decimal}
-use Rattle.std.proofs.lemmas.Fmt.{decimal_nonempty, digits_decimal, decimal_digit, first_decimal}
-use Rattle.std.proofs.lemmas.Int.{ints}
-use Rattle.std.proofs.lemmas.List.Elements.{All-cons, All-map, All-weaker, All-append, All-from_recursion, All-from_get_or, recursion_from_All}
 use Rattle.std.proofs.lemmas.Str.Parse.{IsNumeralModel, numerals_by_value, tells_by_index}
-use Rattle.kd_state.specs.Words.{IsWord, NumbersAreWords}
-use Rattle.kd_card.specs.declared.prices.PriceParts.{PriceParts}
-use Rattle.kd_card.specs.declared.prices.PriceParts.TheVariants.{Cables}
-use Rattle.kd_card.specs.declared.prices.Version.{Version}
-use Rattle.kd_card.specs.declared.prices.Version.TheVariants.{ByNumber, ByKind}
-use Rattle.kd_card.specs.Prices.{row_prices, column_prices, how_many, price_sum, AreWithinReach, ArePrices}
-use Rattle.kd_card.specs.declared.group.Group.{Group}
-use Rattle.kd_card.specs.declared.group.Group.TheVariants.{OfCables, OfBars}
-use Rattle.kd_card.specs.declared.look.Name.{Name}
-use Rattle.kd_card.specs.declared.kinds.PricedKind.{PricedKind}
-use Rattle.kd_card.specs.declared.fault.CardFault.TheVariants.{BadLine, CountWrong, PriceMissing}
-use Rattle.kd_card.specs.Steps.{Refused, Found}
-use Rattle.kd_card.specs.Kinds.{kinds_text}
-use Rattle.kd_card.specs.CardText.{row_word, column_word, version_text, head_words, price_words, IsGroup}
-use Rattle.kd_card.specs.CardFault.{IsDigit, IsNumberText, IsSignedText, with_line, HasWords, SaysValue, SaysLine, SaysFirst, SaysPrices, SaysPriceLine, SaysGroup}
 use Rattle.kd_card.proofs.Steps.{passed}
 use Rattle.kd_card.proofs.Lines.{bytes_above, is_line, some_bytes}
-use Rattle.std.proofs.lemmas.List.{nil_from_length}
-
 -- ---- words
 
 pub word_by_bytes : (word : List ℕ) → word ≢ [] → All (λ b. 32 < b) word → IsWord word

@@ -1,27 +1,10 @@
 -- The words of kinds' lines, and the looks that they tell.
-use Rattle.std.proofs.Common.{ltb, codes, ◌≡◌, ◌≢◌, ℕ, ◌+◌, ◌<◌, true, List, [], ◌∷◌, ◌++◌, length, get_or, drop, subst, ℤ, Option, Some, None, refl, sym, ap, ◌∙◌, append_assoc, length-append, arith, map, decimal, Bor}
-use Rattle.std.specs.List.{All, find, list_all}
+use Rattle.kd_card.proofs.Prelude.{ltb, codes, ◌≡◌, ◌≢◌, ℕ, ◌+◌, ◌<◌, true, List, [], ◌∷◌, ◌++◌, length, get_or, drop, subst, ℤ, Option, Some, None, refl, sym, ap, ◌∙◌, append_assoc, length-append, arith, map, decimal, Bor, All, find, list_all, bytes_eq, decimal_injective, signed_decimal_injective, All-append, All-weaker, All-from_recursion, Place, One, place_text, place_rank, places, standing_text, IsWord, IsWithout, NumbersAreWords, TextsTellFirstParts, words_of, IsFirstPart, Look, Cable, Pair, Bar, Row, Name, PricedKind, look_name, name_text, look_text, look_rank, ends_rank, pair_rank, kind_words, AreEnds, IsPairInOrder, IsInForm, IsPricedKind, kinds_text, HasLook, HasKindWords, RanksTellLooks, signed_decimal, append-nil, HasWords, BeginsWithWord, EndsGroup, AtNothing, AtOther, IsNextKind, HasNoNext}
 use Rattle.std.specs.Option.{unwrap_or}
-use Rattle.std.specs.Str.{bytes_eq}
-use Rattle.std.proofs.lemmas.Fmt.{decimal_injective, signed_decimal_injective}
-use Rattle.std.proofs.lemmas.List.Elements.{All-append, All-weaker, All-from_recursion}
-use Rattle.kd_tables.specs.declared.place.Place.{Place}
-use Rattle.kd_tables.specs.declared.place.Place.TheVariants.{One}
-use Rattle.kd_tables.specs.Places.{place_text, place_rank, places, standing_text}
-use Rattle.kd_state.specs.Words.{IsWord, IsWithout, NumbersAreWords, TextsTellFirstParts, words_of, IsFirstPart}
-use Rattle.kd_card.specs.declared.look.Look.{Look}
-use Rattle.kd_card.specs.declared.look.Look.TheVariants.{Cable, Pair, Bar, Row}
-use Rattle.kd_card.specs.declared.look.Name.{Name}
 use Rattle.kd_card.specs.declared.look.Name.TheVariants as names
-use Rattle.kd_card.specs.declared.kinds.PricedKind.{PricedKind}
-use Rattle.kd_card.specs.Kinds.{look_name, name_text, look_text, look_rank, ends_rank, pair_rank, kind_words, AreEnds, IsPairInOrder, IsInForm, IsPricedKind, kinds_text, HasLook, HasKindWords}
-use Rattle.kd_card.specs.Laws.{RanksTellLooks}
 use Rattle.kd_card.proofs.Lines.{bytes_above, same_words, some_bytes, no_first_part}
 use Rattle.kd_card.proofs.CardWords.{word_by_bytes, bytes_are_word, word_by_test, signed_word}
 use Rattle.kd_card.proofs.PriceTexts.{small}
-use Rattle.std.specs.Fmt.{signed_decimal}
-use Rattle.std.proofs.lemmas.List.{append-nil}
-use Rattle.kd_card.specs.CardFault.{HasWords, BeginsWithWord, EndsGroup, AtNothing, AtOther, IsNextKind, HasNoNext}
 use Rattle.kd_card.specs.Reading.{IsFirstWord, EndsAt, IsBadAt}
 
 -- ---- names and places by their texts

@@ -1,25 +1,9 @@
 -- Prices by their texts.
-use Rattle.std.proofs.Common.{◌≡◌, ◌≢◌, ℕ, suc, ◌^◌, ◌<◌, ◌≤◌, Bool, true, false, List, [], ◌∷◌, length, map, get_or, Option, Some, None, MatchOption, Result, Ok, Err, MatchResult, Decides, Bor, ◌↔◌, IsTrue, is_some, refl, sym, ap, subst, ◌∙◌, arith, ℤ, pos, negsuc, unsigned_abs, FitsSigned, w16, to_z, of_z, inr, ◌++◌}
-use Rattle.std.specs.Bool.{then_some}
+use Rattle.kd_card.proofs.Prelude.{◌≡◌, ◌≢◌, ℕ, suc, ◌^◌, ◌<◌, ◌≤◌, Bool, true, false, List, [], ◌∷◌, length, map, get_or, Option, Some, None, MatchOption, Result, Ok, Err, MatchResult, Decides, Bor, ◌↔◌, IsTrue, is_some, refl, sym, ap, subst, ◌∙◌, arith, ℤ, pos, negsuc, unsigned_abs, FitsSigned, w16, to_z, of_z, inr, ◌++◌, then_some, IsUtf8, ParsesSigned, signed_decimal, All, AllByRecursion, false≢true, fits_signed_from_abs, to_z-of_z, get_or-map, length-map, All-cons, recursion_from_All, All-from_recursion, All-nil, All-map, All-weaker, words_of, IsWithout, IsFirstPart, IsPriceText, SaysPrices, BadLine, PriceMissing, Refused, Found, parse-signed_decimal, IsAscii-signed, length-decimal-le, AreWithinReach}
 use Rattle.std.specs.Result.{result_ok}
 use Rattle.std.specs.Int.Signed.{mag}
-use Rattle.std.specs.Str.{IsUtf8}
-use Rattle.std.specs.Str.Parse.{ParsesSigned}
-use Rattle.std.specs.Fmt.{signed_decimal}
-use Rattle.std.specs.List.{All, AllByRecursion}
-use Rattle.std.proofs.lemmas.Bool.{false≢true}
 use Rattle.std.proofs.lemmas.Str.{IsUtf8-from_ascii}
-use Rattle.std.proofs.lemmas.Int.{fits_signed_from_abs, to_z-of_z}
-use Rattle.std.proofs.lemmas.List.{get_or-map, length-map}
-use Rattle.std.proofs.lemmas.List.Elements.{All-cons, recursion_from_All, All-from_recursion, All-nil, All-map, All-weaker}
-use Rattle.kd_state.specs.Words.{words_of, IsWithout, IsFirstPart}
-use Rattle.kd_card.specs.CardFault.{IsPriceText, SaysPrices}
-use Rattle.kd_card.specs.declared.fault.CardFault.TheVariants.{BadLine, PriceMissing}
-use Rattle.kd_card.specs.Steps.{Refused, Found}
 use Rattle.kd_card.proofs.Lines.{words_of_first, words_of_last}
-use Rattle.std.proofs.lemmas.Fmt.{parse-signed_decimal, IsAscii-signed, length-decimal-le}
-use Rattle.kd_card.specs.Prices.{AreWithinReach}
-
 pub fits : (p : ℤ) → unsigned_abs p ≤ 9999 → FitsSigned w16 p
 fits p within = fits_signed_from_abs w16 p (omega (arith, within))
 

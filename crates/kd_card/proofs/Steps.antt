@@ -1,7 +1,5 @@
 -- Steps have one answer at most, where each of them has.
-use Rattle.std.proofs.Common.{◌≡◌, Result, Ok, Err, refl, sym, ap, ◌∙◌, subst}
-use Rattle.kd_card.specs.Steps.{Says, Then, Refused, Found, Only, Finds, Demands, Takes}
-
+use Rattle.kd_card.proofs.Prelude.{◌≡◌, Result, Ok, Err, refl, sym, ap, ◌∙◌, subst, Says, Then, Refused, Found, Only, Finds, Demands, Takes}
 -- there is one answer at most
 abbrev pub IsOnly : {F X : Type 0} → (Result X F → Type 0) → Type 0
 IsOnly {F} {X} Says = (v w : Result X F) → Says v → Says w → v ≡ w

@@ -1,22 +1,8 @@
 -- A card that proves itself is in no doubt, and a card is in one doubt at most.
-use Rattle.std.proofs.Common.{◌≡◌, ℕ, ◌+◌, ◌⊎◌, inl, inr, List, [], ◌∷◌, ◌++◌, length, refl, sym, ap, ◌∙◌, subst, arith}
-use Rattle.std.specs.Prelude.{pos, false, IsTrue, ◌↔◌}
-use Rattle.std.proofs.lemmas.Bool.{cases_order, false≢true}
-use Rattle.kd_state.specs.declared.machine.parts.Parts.{Parts}
-use Rattle.kd_state.specs.declared.setting.Setting.{Setting}
-use Rattle.kd_state.specs.declared.setting.why.Why.{Why}
-use Rattle.kd_state.specs.Setting.{why_refused, Leads}
-use Rattle.kd_state.specs.SheetDay.{Day}
-use Rattle.kd_state.specs.OnKey.{ReadsAs}
-use Rattle.kd_state.specs.Costs.{cost_table}
-use Rattle.kd_state.specs.Laws.{LeadsToOne}
-use Rattle.kd_card.specs.declared.prices.PriceParts.{PriceParts}
-use Rattle.kd_card.specs.Prices.{Fits, price_sum}
+use Rattle.kd_prices.proofs.Prelude.{◌≡◌, ℕ, ◌+◌, ◌⊎◌, inl, inr, List, [], ◌∷◌, ◌++◌, length, refl, sym, ap, ◌∙◌, subst, arith, IsTrue, ◌↔◌, cases_order, false≢true, Parts, Setting, Why, why_refused, Leads, Day, ReadsAs, cost_table, LeadsToOne, PriceParts, Fits, price_sum, AreNeeded, Expands, LeadsToTheDay, Proves, ProvesByNumber, priced_count, OtherModel, PriceMissing, IllegalAt, NotTheSheet, PriceTooHigh, SumDiffers, NeedlessLine, AreOfOneModel, IsFirstWithout, IsFirstTooHigh, IsFirstNeedless, IsDoubtByNumber, IsDoubt, OfModels, OfKinds, OfNumbers}
+use Rattle.std.specs.Prelude.{pos, false}
 use Rattle.kd_card.specs.Carrying.{IsFirstIllegal}
-use Rattle.kd_card.specs.Proving.{AreNeeded, Expands, LeadsToTheDay, Proves, ProvesByNumber, priced_count}
 use Rattle.kd_prices.specs.declared.doubt.Doubt.{Doubt}
-use Rattle.kd_prices.specs.declared.doubt.Doubt.TheVariants.{OtherModel, PriceMissing, IllegalAt, NotTheSheet, PriceTooHigh, SumDiffers, NeedlessLine}
-use Rattle.kd_prices.specs.Doubt.{AreOfOneModel, IsFirstWithout, IsFirstTooHigh, IsFirstNeedless, IsDoubtByNumber, IsDoubt, OfModels, OfKinds, OfNumbers}
 use Rattle.kd_prices.proofs.Meaning.{one_expansion, of_one_model}
 use Rattle.kd_prices.proofs.Leading.{needed_at, not_refused}
 

@@ -1,3 +1,4 @@
+pub mod Prelude
 pub mod Leading
 pub mod Meaning
 pub mod Doubts

@@ -1,11 +1,4 @@
-use Rattle.std.proofs.Common.{◌≡◌, ◌∙◌, sym, refl, ap, subst, not, eqb, length}
-use lib.Pointwise.{pointwise}
-use Rattle.std.proofs.lemmas.Bool.{false≢true, not-false, eqb-true}
-use Rattle.std.proofs.lemmas.Bool.Decides.{Decides-eqb}
-use Rattle.std.proofs.lemmas.List.{nil_from_length}
-use Rattle.std.proofs.lemmas.Slice.Eq.{slice_eq-Decides}
-use Rattle.kd_card.specs.Kinds.{name_text}
-use Rattle.kd_card.specs.CardFault.{BeginsWithWord, AtNothing, AtOther}
+use Rattle.kd_card.proofs.Prelude.{◌≡◌, ◌∙◌, sym, refl, ap, subst, not, eqb, length, pointwise, false≢true, not-false, eqb-true, Decides-eqb, nil_from_length, slice_eq-Decides, name_text, BeginsWithWord, AtNothing, AtOther}
 use Rattle.kd_card.proofs.KindWords.{begins, ends_at, unended, no_kind, words_are, low_next}
 use Rattle.kd_card.proofs.kind_text.next_kind.Goals as goal
 use Rattle.kd_card.proofs.kind_text.next_kind.Goals.{in_default-kind_of_line-via-in-Some-kind_of_line+else-floor-rank, in_default-kind_of_line-via-in_default-kind_of_line}

@@ -1,6 +1,4 @@
-use Rattle.std.proofs.Common.{◌<◌, ◌∙◌, length, refl, sym, ap, arith}
-use Rattle.kd_card.specs.declared.fault.CardFault.TheVariants.{BadLine, PriceMissing}
-use Rattle.kd_card.specs.Steps.{Refused, Found}
+use Rattle.kd_card.proofs.Prelude.{◌<◌, ◌∙◌, length, refl, sym, ap, arith, BadLine, PriceMissing, Refused, Found}
 use Rattle.kd_card.proofs.KindLists.{low_look, reads_on, walk_bounds}
 use Rattle.kd_card.proofs.kind_text.read_kinds.Goals as goal
 

@@ -1,13 +1,4 @@
-use Rattle.std.proofs.Common.{◌∙◌, ◌≡◌, ◌≢◌, ℕ, List, sym, refl}
-use Rattle.std.proofs.lemmas.Bool.{false≢true}
-use Rattle.std.proofs.lemmas.Bool.Decides.{Decides-eqb}
-use Rattle.std.proofs.lemmas.Result.{err_from_is_err_and}
-use Rattle.std.proofs.lemmas.Slice.Eq.{slice_eq-Decides}
-use Rattle.kd_card.specs.declared.prices.Version.{Version}
-use Rattle.kd_card.specs.declared.group.Group.{Group}
-use Rattle.kd_card.specs.declared.group.Group.TheVariants.{OfCables, OfBars}
-use Rattle.kd_card.specs.Steps.{Refused}
-use Rattle.kd_card.specs.CardFault.{first_text}
+use Rattle.kd_card.proofs.Prelude.{◌∙◌, ◌≡◌, ◌≢◌, ℕ, List, sym, refl, false≢true, Decides-eqb, err_from_is_err_and, slice_eq-Decides, Version, Group, OfCables, OfBars, Refused, first_text}
 use Rattle.kd_card.proofs.CardWords.{first_found, other_first}
 use Rattle.kd_card.proofs.price_text.first_group.Goals as goal
 

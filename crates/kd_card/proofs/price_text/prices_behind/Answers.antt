@@ -1,5 +1,4 @@
-use Rattle.std.proofs.Common.{[], refl, arith, unsigned_abs, ◌≤◌}
-use Rattle.std.proofs.lemmas.List.Elements.{All-nil}
+use Rattle.kd_card.proofs.Prelude.{[], refl, arith, unsigned_abs, ◌≤◌, All-nil}
 use Rattle.kd_card.proofs.PriceTexts.{other_count}
 use Rattle.kd_card.proofs.price_text.prices_behind.Goals as goal
 

@@ -1,6 +1,4 @@
-use Rattle.std.proofs.Common.{◌∙◌, Bor, List, ℕ, map, ap, sym, refl}
-use Rattle.std.proofs.lemmas.Bool.{false≢true}
-use Rattle.kd_card.specs.Steps.{Found}
+use Rattle.kd_card.proofs.Prelude.{◌∙◌, Bor, List, ℕ, map, ap, sym, refl, false≢true, Found}
 use Rattle.kd_card.proofs.PriceTexts.{other_count, too_many, no_prices}
 use Rattle.kd_card.proofs.price_text.prices_of_text.Goals as goal
 

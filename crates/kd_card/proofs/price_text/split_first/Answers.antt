@@ -1,8 +1,4 @@
-use Rattle.std.proofs.Common.{◌∙◌, eqb, length, sym, ap, refl, arith}
-use Rattle.std.proofs.lemmas.Bool.{false≢true, eqb-true}
-use Rattle.std.proofs.lemmas.List.{nil_from_length}
-use Rattle.kd_card.specs.declared.fault.CardFault.TheVariants.{BadLine, PriceMissing}
-use Rattle.kd_card.specs.Steps.{Refused, Found}
+use Rattle.kd_card.proofs.Prelude.{◌∙◌, eqb, length, sym, ap, refl, arith, false≢true, eqb-true, nil_from_length, BadLine, PriceMissing, Refused, Found}
 use Rattle.kd_card.proofs.Lines.{no_first_part, words_of_first, words_of_last}
 use Rattle.kd_card.proofs.price_text.split_first.Goals as goal
 

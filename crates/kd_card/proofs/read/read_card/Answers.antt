@@ -1,10 +1,4 @@
-use Rattle.std.proofs.Common.{rules, ◌∙◌, sym, ap, refl, eqb, length, w32}
-use Rattle.std.proofs.lemmas.Bool.{false≢true, eqb-true}
-use Rattle.std.proofs.lemmas.Int.{to_z-of_z}
-use Rattle.std.proofs.lemmas.List.{nil_from_length}
-use Rattle.std.proofs.lemmas.Result.{err_from_is_err_and}
-use Rattle.kd_card.specs.declared.fault.CardFault.TheVariants.{BadHead, TooMany, Trailing}
-use Rattle.kd_card.specs.Steps.{Refused, Found}
+use Rattle.kd_card.proofs.Prelude.{rules, ◌∙◌, sym, ap, refl, eqb, length, w32, false≢true, eqb-true, to_z-of_z, nil_from_length, err_from_is_err_and, BadHead, TooMany, Trailing, Refused, Found}
 use Rattle.kd_card.proofs.OneCard.{up_to_settings, card_said}
 use Rattle.kd_card.proofs.read.read_card.Goals as goal
 

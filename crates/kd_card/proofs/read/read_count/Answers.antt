@@ -1,10 +1,4 @@
-use Rattle.std.proofs.Common.{rules, codes, ◌≡◌, ◌∙◌, ◌+◌, ◌∷◌, [], decimal, sym, ap, refl, subst, w32, arith}
-use Rattle.std.specs.Fmt.{signed_decimal}
-use Rattle.std.proofs.lemmas.Bool.{false≢true}
-use Rattle.std.proofs.lemmas.Bool.Decides.{Decides-eqb}
-use Rattle.std.proofs.lemmas.Int.{to_z-of_z}
-use Rattle.std.proofs.lemmas.Slice.Eq.{slice_eq-Decides}
-use Rattle.kd_card.specs.CardFault.{with_line, IsNumberText}
+use Rattle.kd_card.proofs.Prelude.{rules, codes, ◌≡◌, ◌∙◌, ◌+◌, ◌∷◌, [], decimal, sym, ap, refl, subst, w32, arith, signed_decimal, false≢true, Decides-eqb, to_z-of_z, slice_eq-Decides, with_line, IsNumberText}
 use Rattle.kd_card.proofs.Lines.{same_behind, not_behind, unbroken_by_test}
 use Rattle.kd_card.proofs.CardWords.{number_word, number_text, value_says, other_value, no_value}
 use Rattle.kd_card.proofs.read.read_count.Goals as goal

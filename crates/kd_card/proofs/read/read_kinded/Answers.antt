@@ -1,6 +1,4 @@
-use Rattle.std.proofs.Common.{refl, arith}
-use Rattle.std.proofs.lemmas.Result.{err_from_is_err_and}
-use Rattle.kd_card.specs.Steps.{Refused, Found}
+use Rattle.kd_card.proofs.Prelude.{refl, arith, err_from_is_err_and, Refused, Found}
 use Rattle.kd_card.proofs.CardWords.{group_said}
 use Rattle.kd_card.proofs.KindPrices.{few_kinds, few_prices_of}
 use Rattle.kd_card.proofs.read.read_kinded.Goals as goal

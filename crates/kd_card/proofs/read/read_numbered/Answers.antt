@@ -1,6 +1,4 @@
-use Rattle.std.proofs.Common.{refl}
-use Rattle.std.proofs.lemmas.Result.{err_from_is_err_and}
-use Rattle.kd_card.specs.Steps.{Refused, Found}
+use Rattle.kd_card.proofs.Prelude.{refl, err_from_is_err_and, Refused, Found}
 use Rattle.kd_card.proofs.read.read_numbered.Goals as goal
 
 pub returns-in_err-group : goal.returns-in_err-group

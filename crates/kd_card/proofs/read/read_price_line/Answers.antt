@@ -1,10 +1,4 @@
-use Rattle.std.proofs.Common.{◌∙◌, not, sym, ap, refl}
-use Rattle.std.proofs.lemmas.Bool.{false≢true, not-false}
-use Rattle.std.proofs.lemmas.Bool.Decides.{Decides-eqb}
-use Rattle.std.proofs.lemmas.Result.{err_from_is_err_and}
-use Rattle.std.proofs.lemmas.Slice.Eq.{slice_eq-Decides}
-use Rattle.kd_card.specs.declared.fault.CardFault.TheVariants.{PriceMissing}
-use Rattle.kd_card.specs.Steps.{Refused, Found}
+use Rattle.kd_card.proofs.Prelude.{◌∙◌, not, sym, ap, refl, false≢true, not-false, Decides-eqb, err_from_is_err_and, slice_eq-Decides, PriceMissing, Refused, Found}
 use Rattle.kd_card.proofs.CardWords.{first_found, other_first}
 use Rattle.kd_card.proofs.read.read_price_line.Goals as goal
 

@@ -1,6 +1,4 @@
-use Rattle.std.proofs.Common.{◌∙◌, refl, sym, [], ◌∷◌, ◌++◌, arith}
-use Rattle.std.proofs.lemmas.Bool.{eqb-true}
-use Rattle.std.proofs.lemmas.List.{length_push}
+use Rattle.kd_card.proofs.Prelude.{◌∙◌, refl, sym, [], ◌∷◌, ◌++◌, arith, eqb-true, length_push}
 use Rattle.kd_card.proofs.Lines.{one_more_line}
 use Rattle.kd_card.proofs.read.read_settings.Goals as goal
 

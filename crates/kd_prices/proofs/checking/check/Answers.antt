@@ -1,7 +1,5 @@
-use Rattle.std.proofs.Common.{sym, subst}
+use Rattle.kd_prices.proofs.Prelude.{sym, subst, ProvesByNumber, IsDoubtByNumber, OfNumbers}
 use Rattle.std.proofs.lemmas.Result.{IfErr-weaker}
-use Rattle.kd_card.specs.Proving.{ProvesByNumber}
-use Rattle.kd_prices.specs.Doubt.{IsDoubtByNumber, OfNumbers}
 use Rattle.kd_prices.proofs.Meaning.{one_expansion, are_numbered}
 use Rattle.kd_prices.proofs.checking.check.Goals as goal
 

@@ -1,8 +1,4 @@
-use Rattle.std.proofs.Common.{◌≡◌, ◌<◌, ◌^◌, pos, SFits, w32, to_z, rules, arith, sym, ap, ◌∙◌}
-use Rattle.std.proofs.lemmas.Int.{to_z-of_z, to_z_pos}
-use Rattle.kd_prices.specs.declared.doubt.Doubt.TheVariants.{IllegalAt, NotTheSheet, NeedlessLine}
-use Rattle.kd_card.specs.Prices.{price_sum}
-use Rattle.kd_card.specs.Proving.{priced_count}
+use Rattle.kd_prices.proofs.Prelude.{◌≡◌, ◌<◌, ◌^◌, pos, SFits, w32, to_z, rules, arith, sym, ap, ◌∙◌, to_z-of_z, to_z_pos, IllegalAt, NotTheSheet, NeedlessLine, price_sum, priced_count}
 use Rattle.kd_prices.proofs.Doubts.{not_proved}
 use Rattle.kd_prices.proofs.checking.check_by_number.Goals as goal
 
