@@ -1,5 +1,5 @@
 -- What stands in a card's lines are words, and its numbers have the keywords that are read.
-use Rattle.kd_card.proofs.Prelude.{codes, ◌≡◌, ◌≢◌, ℕ, zero, suc, ◌+◌, ◌*◌, ◌^◌, ◌<◌, ◌≤◌, inl, inr, true, List, [], ◌∷◌, ◌++◌, length, map, get_or, fold, decimal, Ok, Err, refl, ap, arith, ℤ, pos, negsuc, ◌+ℤ◌, unsigned_abs, length-append, ltb, sym, subst, ◌∙◌, All, AllByRecursion, list_all, digits_value, signed_decimal, decimal_nonempty, digits_decimal, decimal_digit, first_decimal, ints, All-cons, All-map, All-weaker, All-append, All-from_recursion, All-from_get_or, recursion_from_All, IsWord, NumbersAreWords, PriceParts, Cables, Version, ByNumber, ByKind, row_prices, column_prices, how_many, price_sum, AreWithinReach, ArePrices, Group, OfCables, OfBars, Name, PricedKind, BadLine, CountWrong, PriceMissing, Refused, Found, kinds_text, row_word, column_word, version_text, head_words, price_words, IsGroup, IsDigit, IsNumberText, IsSignedText, with_line, HasWords, SaysValue, SaysLine, SaysFirst, SaysPrices, SaysPriceLine, SaysGroup, nil_from_length}
+use Rattle.kd_card.proofs.Prelude.{Bool, true, false, codes, ◌≡◌, ◌≢◌, ℕ, zero, suc, ◌+◌, ◌*◌, ◌^◌, ◌<◌, ◌≤◌, inl, inr, List, [], ◌∷◌, ◌++◌, length, map, get_or, fold, decimal, Ok, Err, refl, ap, arith, ℤ, pos, negsuc, ◌+ℤ◌, unsigned_abs, length-append, ltb, sym, subst, ◌∙◌, All, AllByRecursion, list_all, digits_value, signed_decimal, decimal_nonempty, digits_decimal, decimal_digit, first_decimal, ints, All-cons, All-map, All-weaker, All-append, All-from_recursion, All-from_get_or, recursion_from_All, IsWord, NumbersAreWords, PriceParts, Cables, Version, ByNumber, ByKind, row_prices, column_prices, how_many, price_sum, AreWithinReach, ArePrices, Group, OfCables, OfBars, Name, PricedKind, BadLine, CountWrong, PriceMissing, Refused, Found, kinds_text, row_word, column_word, version_text, head_words, price_words, IsGroup, IsDigit, IsNumberText, IsNumeral, with_line, HasWords, SaysValue, SaysLine, SaysFirst, SaysPrices, SaysPriceLine, SaysGroup, nil_from_length}
 use Rattle.std.specs.Int.{IsInRange}
 use Rattle.std.proofs.lemmas.Str.Parse.{IsNumeralModel, numerals_by_value, tells_by_index}
 use Rattle.kd_card.proofs.Steps.{passed}
@@ -26,14 +26,16 @@ below_zero word w = record {
   unbroken = All-cons (λ b. b ≢ 10) 45 word (λ same. omega (arith, same)) w.unbroken;
 }
 
-pub number_word : (text : List ℕ) → IsNumberText text → IsWord text
+number_word : (text : List ℕ) → IsNumberText text → IsWord text
 number_word [] n = absurd n
 number_word (digit ∷ digits) n =
     word_by_bytes (digit ∷ digits) (λ none. cc)
     (All-weaker IsDigit (λ b. 32 < b) (λ b d. omega (arith, d.0)) (digit ∷ digits) (All-cons IsDigit digit digits n.0 n.1))
 
-pub signed_text_word : (text : List ℕ) → IsSignedText text → IsWord text
-signed_text_word text s = elim s [ inl n ↦ number_word text n | inr n ↦ subst IsWord (sym n.1) (below_zero n.0 (number_word n.0 n.2)) ]
+pub numeral_word : (signed : Bool) (text : List ℕ) → IsNumeral signed text → IsWord text
+numeral_word false text n = number_word text n
+numeral_word true text (inl n) = number_word text n
+numeral_word true text (inr n) = subst IsWord (sym n.1) (below_zero n.0 (number_word n.0 n.2))
 
 pub signed_word : NumbersAreWords → (z : ℤ) → unsigned_abs z < 2 ^ 64 → IsWord (signed_decimal z)
 signed_word numbers (pos n) small = numbers n small
@@ -90,7 +92,7 @@ number_text number small =
 not_zero : (n : ℕ) → suc n < 2 ^ 64 → decimal (suc n) ≢ codes "0"
 not_zero n small e = omega (arith, first_decimal (suc n) (omega arith) small, ap (λ t. get_or t 0 0) e)
 
-pub signed_text : (z : ℤ) → unsigned_abs z < 2 ^ 64 → IsSignedText (signed_decimal z)
+pub signed_text : (z : ℤ) → unsigned_abs z < 2 ^ 64 → IsNumeral true (signed_decimal z)
 signed_text (pos n) small = inl (number_text n small)
 signed_text (negsuc n) small = inr (decimal (suc n), refl, number_text (suc n) small, not_zero n small)
 
@@ -118,21 +120,21 @@ price_sum_is_small prices p =
 
 -- ---- a name and a value
 
-module _ (IsForm : List ℕ → Type 0) (name due : List ℕ) (line : ℕ) where
-  pub value_says : {bytes rest : List ℕ} → IsForm due → bytes ≡ with_line (name ∷ due ∷ []) rest
-      → SaysValue IsForm name due line bytes (Ok rest)
+module _ (signed : Bool) (name due : List ℕ) (line : ℕ) where
+  pub value_says : {bytes rest : List ℕ} → IsNumeral signed due → bytes ≡ with_line (name ∷ due ∷ []) rest
+      → SaysValue signed name due line bytes (Ok rest)
   value_says {rest} form e = Found (due, rest) (form, e) (Found tt refl refl)
 
-  pub other_value : {bytes : List ℕ} (value rest : List ℕ) → IsForm value → bytes ≡ with_line (name ∷ value ∷ []) rest
-      → value ≢ due → SaysValue IsForm name due line bytes (Err CountWrong)
+  pub other_value : {bytes : List ℕ} (value rest : List ℕ) → IsNumeral signed value → bytes ≡ with_line (name ∷ value ∷ []) rest
+      → value ≢ due → SaysValue signed name due line bytes (Err CountWrong)
   other_value value rest form e differs =
       Found (value, rest) (form, e) (Refused CountWrong ((λ same is. differs is), refl) refl)
 
-  pub no_value : {bytes : List ℕ} → ((value rest : List ℕ) → IsForm value → bytes ≢ with_line (name ∷ value ∷ []) rest)
-      → SaysValue IsForm name due line bytes (Err (BadLine line))
+  pub no_value : {bytes : List ℕ} → ((value rest : List ℕ) → IsNumeral signed value → bytes ≢ with_line (name ∷ value ∷ []) rest)
+      → SaysValue signed name due line bytes (Err (BadLine line))
   no_value none = Refused (BadLine line) ((λ found is. none found.0 found.1 is.0 is.1), refl) refl
 
-  pub value_said : {bytes rest : List ℕ} → SaysValue IsForm name due line bytes (Ok rest)
+  pub value_said : {bytes rest : List ℕ} → SaysValue signed name due line bytes (Ok rest)
       → bytes ≡ with_line (name ∷ due ∷ []) rest
   value_said says =
       let value = passed says in

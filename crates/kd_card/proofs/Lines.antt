@@ -109,6 +109,11 @@ not_behind name plain none value more without e =
       without = All-append (λ c. c ≢ 10) name value plain without;
     })
 
+-- a name with a space at its end, and a value
+pub name_and_value : {name : List ℕ} (word value more : List ℕ) → name ≡ word ++ 32 ∷ []
+    → with_line (word ∷ value ∷ []) more ≡ name ++ (value ++ 10 ∷ more)
+name_and_value word value more is = rw is (simp append_assoc)
+
 -- ---- the words of a line
 
 spaceless : (word : List ℕ) → IsWithout 32 word → All (λ b. eqb b 32 ≡ false) word

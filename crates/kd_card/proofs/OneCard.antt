@@ -1,12 +1,12 @@
 -- Bytes are one card, or have one fault.
-use Rattle.kd_card.proofs.Prelude.{codes, ◌≡◌, ◌≢◌, ℕ, ◌+◌, ◌*◌, ◌^◌, ◌<◌, ◌≤◌, List, [], ◌∷◌, ◌++◌, length, map, get_or, decimal, Result, Ok, Err, refl, sym, ap, subst, ◌∙◌, arith, ℤ, unsigned_abs, append_assoc, length-append, All, AllByRecursion, signed_decimal, decimal_injective, signed_decimal_injective, append-nil, All-from_recursion, recursion_from_All, Setting, Pull, IsWord, setting_words, setting_line, list_text, IsInRange, BeginsWith, BeginsWithNoLine, SettingsHaveWords, LinesTellSettings, PriceParts, Cables, Bars, CableKinds, BarKinds, Version, ByNumber, ByKind, Group, OfCables, OfBars, Name, PricedKind, Trailing, Then, Refused, Found, Only, Demands, look_rank, name_text, kind_words, kinds_text, counted, AreKinds, AreCalled, version_of, row_kinds, column_kinds, price_sum, AreWithinReach, ArePrices, group_of, row_word, column_word, row_name, column_name, price_count, version_text, head_words, settings_words, price_words, sum_words, lines_text, price_lines, card_text, IsGroup, IsCard, with_line, IsNumberText, IsSignedText, HasWords, SaysValue, SaysLine, SaysFirst, BeginsWithHead, BeginsWithSettings, SaysSettings, first_text, SaysPrices, SaysPriceLine, SaysNumbered, BeginsWithWord, EndsGroup, AtOther, IsNextKind, HasNoNext, floor_behind, BeginsWithKinds, SaysGroup, SaysKinded, SaysAllPrices, SaysBehind, SaysCard, TextsTellCards, NoCardBeginsAnother, CardsHaveNoFault, OneCardFault}
+use Rattle.kd_card.proofs.Prelude.{Bool, true, false, codes, ◌≡◌, ◌≢◌, ℕ, ◌+◌, ◌*◌, ◌^◌, ◌<◌, ◌≤◌, List, [], ◌∷◌, ◌++◌, length, map, get_or, decimal, Result, Ok, Err, refl, sym, ap, subst, ◌∙◌, arith, ℤ, unsigned_abs, append_assoc, length-append, All, AllByRecursion, signed_decimal, decimal_injective, signed_decimal_injective, append-nil, All-from_recursion, recursion_from_All, Setting, Pull, IsWord, setting_words, setting_line, list_text, IsInRange, BeginsWith, BeginsWithNoLine, SettingsHaveWords, LinesTellSettings, PriceParts, Cables, Bars, CableKinds, BarKinds, Version, ByNumber, ByKind, Group, OfCables, OfBars, Name, PricedKind, Trailing, Then, Refused, Found, Only, Demands, look_rank, name_text, kind_words, kinds_text, counted, AreKinds, AreCalled, version_of, row_kinds, column_kinds, price_sum, AreWithinReach, ArePrices, group_of, row_word, column_word, row_name, column_name, price_count, version_text, head_words, settings_words, price_words, sum_words, lines_text, price_lines, card_text, IsGroup, IsCard, with_line, HasWords, SaysValue, SaysLine, SaysFirst, BeginsWithHead, BeginsWithSettings, SaysSettings, first_text, SaysPrices, SaysPriceLine, SaysNumbered, BeginsWithWord, EndsGroup, AtOther, IsNextKind, HasNoNext, floor_behind, BeginsWithKinds, SaysGroup, SaysKinded, SaysAllPrices, SaysBehind, SaysCard, TextsTellCards, NoCardBeginsAnother, CardsHaveNoFault, OneCardFault}
 use Rattle.kd_card.specs.declared.look.Name.TheVariants as names
 use Rattle.kd_card.specs.declared.fault.CardFault.{CardFault}
 use Rattle.kd_card.specs.CardFault.{numbered}
 use Rattle.kd_card.proofs.Steps.{IsOnly, only_then, only_only, only_finds, only_demands, only_takes, same_pair, passed, same_ok}
 use Rattle.kd_card.proofs.Lines.{Laws, line_has_words, same_words, is_line, text_of_more, two_lines, card_and_more}
 use Rattle.kd_card.proofs.PriceTexts.{small}
-use Rattle.kd_card.proofs.CardWords.{word_by_test, number_word, signed_text_word, signed_word, head_is_words, row_is_word, column_is_word, prices_are_words, number_text, signed_text, price_sum_is_small, value_says, value_said, first_says, line_said, group_said}
+use Rattle.kd_card.proofs.CardWords.{word_by_test, numeral_word, signed_word, head_is_words, row_is_word, column_is_word, prices_are_words, number_text, signed_text, price_sum_is_small, value_says, value_said, first_says, line_said, group_said}
 use Rattle.kd_card.proofs.KindWords.{kind_is_words, kind_begins, end_has_no_next, same_kind}
 use Rattle.kd_card.proofs.KindPrices.{text_of_more_kinds, text_by_kind, both_groups, size_of, of_two_groups, same_kind_parts}
 
@@ -132,9 +132,9 @@ card_said {bytes} x says =
     let are = all_said head.found.0 _ all.found all.says in
     let xs = list.found.0 in
     let prices = all.found.0 in
-    let last = value_said IsSignedText (codes "SUM") _ _ sum.says ∙ ap (with_line (sum_words (price_sum prices))) end.says in
+    let last = value_said true (codes "SUM") _ _ sum.says ∙ ap (with_line (sum_words (price_sum prices))) end.says in
     let behind = are.text ∙ ap (λ t. lines_text (price_lines prices) ++ t) last in
-    let counted = value_said IsNumberText (codes "SETTINGS") _ _ number.says ∙ ap (with_line (settings_words (length xs))) behind in
+    let counted = value_said false (codes "SETTINGS") _ _ number.says ∙ ap (with_line (settings_words (length xs))) behind in
     let body = list.says.lines.lines ∙ ap (λ t. list_text xs ++ t) counted in
     subst (λ (y : ℕ × List Setting × PriceParts). IsCard bytes y.0 y.1 y.2) (sym (same_ok end.next)) (record {
       text =
@@ -312,13 +312,13 @@ module _ (laws : Laws) where
       line_has_words laws (name ∷ value ∷ []) rest (λ none. cc)
       (All-from_recursion IsWord (name ∷ value ∷ []) (named, (valued, tt))) e
 
-  only_value : (IsForm : List ℕ → Type 0) (name due : List ℕ) (line : ℕ) (bytes : List ℕ)
-      → ((value : List ℕ) → IsForm value → IsWord value) → IsWord name → IsOnly (SaysValue IsForm name due line bytes)
-  only_value IsForm name due line bytes words named =
+  only_value : (signed : Bool) (name due : List ℕ) (line : ℕ) (bytes : List ℕ) → IsWord name
+      → IsOnly (SaysValue signed name due line bytes)
+  only_value signed name due line bytes named =
       only_then
       (only_finds _ (λ x y a b.
       let same =
-      same_words laws.first_parts (value_line name x.0 x.1 named (words x.0 a.0) a.1) (value_line name y.0 y.1 named (words y.0 b.0) b.1) in
+      same_words laws.first_parts (value_line name x.0 x.1 named (numeral_word signed x.0 a.0) a.1) (value_line name y.0 y.1 named (numeral_word signed y.0 b.0) b.1) in
       same_pair x y (ap (λ w. get_or w 1 []) same.0) same.1))
       (λ found says. only_then (only_demands _ _) (λ due is. only_only _))
 
@@ -352,9 +352,9 @@ module _ (laws : Laws) where
         few = few;
         none_more = λ x more r e. no_setting x more (sym (ap first_and_third e));
       })
-      (Found behind (value_says IsNumberText (codes "SETTINGS") _ _ (number_text (length xs) (omega arith)) refl)
+      (Found behind (value_says false (codes "SETTINGS") _ _ (number_text (length xs) (omega arith)) refl)
       (Found (prices, sum) (all_say prices _ sum card.are_prices (sum_ends (price_sum prices) rest near) refl)
-      (Found rest (value_says IsSignedText (codes "SUM") _ _ (signed_text (price_sum prices) near) refl) end))))
+      (Found rest (value_says true (codes "SUM") _ _ (signed_text (price_sum prices) near) refl) end))))
 
   module _ (worded : SettingsHaveWords) (told : LinesTellSettings) where
     -- where no line of a setting follows the first settings, there are no more of them, and no others
@@ -395,9 +395,9 @@ module _ (laws : Laws) where
     only_card bytes =
         only_then (only_finds _ (one_head bytes))
         (λ head found. only_then (only_settings head.2)
-        (λ list begins. only_then (only_value IsNumberText (codes "SETTINGS") _ _ _ number_word (word_by_test _ _ refl))
+        (λ list begins. only_then (only_value false (codes "SETTINGS") _ _ _ (word_by_test _ _ refl))
         (λ rest number. only_then (only_all_prices head.0 (length list.0 + 3) rest)
-        (λ prices all. only_then (only_value IsSignedText (codes "SUM") _ _ _ signed_text_word (word_by_test _ _ refl))
+        (λ prices all. only_then (only_value true (codes "SUM") _ _ _ (word_by_test _ _ refl))
         (λ end sum. only_then (only_demands _ _) (λ none is. only_only _))))))
 
     says_itself : {bytes : List ℕ} {day : ℕ} {xs : List Setting} {prices : PriceParts} → IsCard bytes day xs prices

@@ -1,5 +1,5 @@
 -- What bytes are as a card, or the first fault that they have. Lines are counted from 1.
-use Rattle.std.specs.Prelude.{codes, decimal, ◌≡◌, ◌≢◌, ℕ, ◌+◌, ◌≤◌, ◌⊎◌, List, [], ◌∷◌, ◌++◌, length, map, All, ℤ, unsigned_abs, Option, Some, None, Ok, Err}
+use Rattle.std.specs.Prelude.{codes, decimal, ◌≡◌, ◌≢◌, ℕ, ◌+◌, ◌≤◌, ◌⊎◌, List, [], ◌∷◌, ◌++◌, length, map, All, ℤ, unsigned_abs, Bool, true, false, Ok, Err}
 use Rattle.std.specs.Fmt.{signed_decimal}
 use Rattle.kd_state.specs.declared.setting.Setting.{Setting}
 use Rattle.kd_state.specs.Words.{words_of, line_of, IsFirstPart}
@@ -30,9 +30,10 @@ abbrev pub IsNumberText : List ℕ → Type 0
 IsNumberText [] = ⊥
 IsNumberText (digit ∷ digits) = IsDigit digit × All IsDigit digits × ((digit ≡ 48) → (digits ≡ []))
 
--- the same with a - in front, where the number isn't 0
-abbrev pub IsSignedText : List ℕ → Type 0
-IsSignedText text = IsNumberText text ⊎ ((digits : List ℕ) × (text ≡ 45 ∷ digits) × IsNumberText digits × (digits ≢ codes "0"))
+-- the text of a number, or of a signed one: with a - in front, where it isn't 0
+abbrev pub IsNumeral : Bool → List ℕ → Type 0
+IsNumeral false text = IsNumberText text
+IsNumeral true text = IsNumberText text ⊎ ((digits : List ℕ) × (text ≡ 45 ∷ digits) × IsNumberText digits × (digits ≢ codes "0"))
 
 -- the text of a price
 abbrev pub IsPriceText : List ℕ → Type 0
@@ -50,10 +51,10 @@ pub record HasWords (bytes : List ℕ) (words : List (List ℕ)) (rest : List �
   pub first : IsFirstPart 10 bytes line rest
   pub parts : words_of line ≡ words
 
--- The line is due that has this name and this text behind it, as it would have others of the form.
-abbrev pub SaysValue : (List ℕ → Type 0) → List ℕ → List ℕ → ℕ → List ℕ → Says CardFault (List ℕ)
-SaysValue IsForm name due line bytes = do
-  found ← Finds (λ (found : List ℕ × List ℕ). IsForm found.0 × (bytes ≡ with_line (name ∷ found.0 ∷ []) found.1)) (BadLine line)
+-- the line is due that has this name and this number behind it, as it might have others
+abbrev pub SaysValue : Bool → List ℕ → List ℕ → ℕ → List ℕ → Says CardFault (List ℕ)
+SaysValue signed name due line bytes = do
+  found ← Finds (λ (found : List ℕ × List ℕ). IsNumeral signed found.0 × (bytes ≡ with_line (name ∷ found.0 ∷ []) found.1)) (BadLine line)
   _ ← Demands (found.0 ≡ due) CountWrong
   Only found.1
 
@@ -92,7 +93,7 @@ SaysSettings bytes (Err fault) =
     ((settings : List Setting) × (rest : List ℕ) × BeginsWith bytes settings rest × (length settings ≡ 193)) × (fault ≡ TooMany)
 
 abbrev pub SaysNumber : ℕ → List ℕ → Says CardFault (List ℕ)
-SaysNumber number bytes = SaysValue IsNumberText (codes "SETTINGS") (decimal number) (number + 2) bytes
+SaysNumber number bytes = SaysValue false (codes "SETTINGS") (decimal number) (number + 2) bytes
 
 -- ---- prices by number: two lines
 
@@ -187,7 +188,7 @@ SaysAllPrices ByNumber line bytes = SaysNumbered line bytes
 SaysAllPrices ByKind line bytes = SaysKinded line bytes
 
 abbrev pub SaysSum : ℤ → ℕ → List ℕ → Says CardFault (List ℕ)
-SaysSum sum line bytes = SaysValue IsSignedText (codes "SUM") (signed_decimal sum) line bytes
+SaysSum sum line bytes = SaysValue true (codes "SUM") (signed_decimal sum) line bytes
 
 -- what follows so many settings: their number, the prices and their sum
 abbrev pub SaysBehind : Version → ℕ → List Setting → ℕ → List ℕ → Says CardFault (ℕ × List Setting × PriceParts)

@@ -5,7 +5,7 @@ ghost use Rattle.std.specs.Option.{option_copied};
 ghost use Rattle.std.specs.Fmt.{signed_decimal};
 ghost use Rattle.kd_state.specs.Words.{words_of};
 ghost use Rattle.kd_card.specs.Prices.{AreWithinReach};
-ghost use Rattle.kd_card.specs.CardFault.{IsNumberText, IsSignedText, IsPriceText, SaysPrices};
+ghost use Rattle.kd_card.specs.CardFault.{IsNumberText, IsNumeral, IsPriceText, SaysPrices};
 ghost use Rattle.kd_card.specs.CardFault.{SaysLine, SaysFirst, first_text};
 ghost use Rattle.kd_card.specs.Reading.{words_behind};
 
@@ -18,7 +18,7 @@ use kd_state::{split_once, split_words};
 use std::str;
 
 /// Whether a number is written so: in digits, without leading zeros.
-pub(crate) fn is_number_text(text: &[u8]) -> bool
+fn is_number_text(text: &[u8]) -> bool
     ensures { IsTrue result ↔ IsNumberText text.now }
 {
     match text {
@@ -29,13 +29,13 @@ pub(crate) fn is_number_text(text: &[u8]) -> bool
     }
 }
 
-/// Whether a number is written so, with a - in front where it is below 0.
-pub(crate) fn is_signed_text(text: &[u8]) -> bool
-    ensures { IsTrue result ↔ IsSignedText text.now }
+/// Whether a number is written so; a signed one with a - in front where it is below 0.
+pub(crate) fn is_numeral(text: &[u8], signed: bool) -> bool
+    ensures { IsTrue result ↔ IsNumeral signed text.now }
 {
     match text {
         b"-0" => false,
-        [b'-', digits @ ..] => is_number_text(digits),
+        [b'-', digits @ ..] if signed => is_number_text(digits),
         _ => is_number_text(text),
     }
 }

@@ -1,8 +1,10 @@
 //! Cards, read off their text.
-ghost use Rattle.std.specs.Prelude.{◌≡◌, ℕ, ◌<◌, ◌≤◌, ◌++◌, List, MatchOption, MatchResult, Ok, Err};
+ghost use Rattle.std.specs.Prelude.{◌≡◌, ℕ, ◌<◌, ◌≤◌, [], ◌∷◌, ◌++◌, List, MatchOption};
+ghost use Rattle.std.specs.Prelude.{MatchResult, Ok, Err};
 ghost use Rattle.kd_state.specs.Words.{IsWithout, IsFirstPart};
 ghost use Rattle.kd_card.specs.CardText.{IsCard};
-ghost use Rattle.kd_card.specs.CardFault.{BeginsWithHead, SaysSettings, SaysNumber, SaysPriceLine};
+ghost use Rattle.kd_card.specs.CardFault.{BeginsWithHead, SaysSettings, SaysValue, SaysNumber};
+ghost use Rattle.kd_card.specs.CardFault.{SaysPriceLine};
 ghost use Rattle.kd_card.specs.CardFault.{SaysNumbered, SaysKinded, SaysAllPrices, SaysSum};
 ghost use Rattle.kd_card.specs.CardFault.{IsCardFault};
 ghost use Rattle.kd_card.specs.Reading.{IsHeadFront};
@@ -11,7 +13,7 @@ use super::card::Card;
 use super::fault::CardFault;
 use super::group::Group;
 use super::kind_text::read_kinds;
-use super::price_text::{first_group, is_number_text, is_signed_text, prices_behind, split_first};
+use super::price_text::{first_group, is_numeral, prices_behind, split_first};
 use super::prices::{PriceParts, Prices, Version};
 use arrayvec::ArrayVec;
 use itoa::Buffer;
@@ -120,18 +122,46 @@ fn read_count(text: &[u8], count: usize) -> Result<&[u8], CardFault>
         (λ rest. SaysNumber count text.now (Ok rest.now))
         (λ fault. SaysNumber count text.now (Err fault)) }
 {
-    texts_tell_first_parts();
-    let Some((number, rest)) = split_value(text, b"SETTINGS ") else {
-        return Err(CardFault::BadLine(count + 2));
-    };
     let mut buffer = Buffer::new();
-    if number == buffer.format(count).as_bytes() {
-        return Ok(rest);
+    let due = buffer.format(count).as_bytes();
+    read_value(text, b"SETTINGS ", due, false, count + 2)
+}
+
+/// What follows the line with that sum, which is that of this number.
+fn read_sum(text: &[u8], sum: i32, line: usize) -> Result<&[u8], CardFault>
+    ensures { MatchResult result
+        (λ rest. SaysSum sum line text.now (Ok rest.now))
+        (λ fault. SaysSum sum line text.now (Err fault)) }
+{
+    let mut buffer = Buffer::new();
+    read_value(text, b"SUM ", buffer.format(sum).as_bytes(), true, line)
+}
+
+/// What follows the line with that name, with a space at its end, and that number, as it is written; the line is that of
+/// this number.
+fn read_value<'a>(
+    text: &'a [u8],
+    name: &[u8],
+    due: &[u8],
+    signed: bool,
+    line: usize,
+) -> Result<&'a [u8], CardFault>
+    ensures { (word : List ℕ) → name.now ≡ word ++ 32 ∷ [] → IsWithout 10 name.now →
+        MatchResult result
+        (λ rest. SaysValue signed word due.now line text.now (Ok rest.now))
+        (λ fault. SaysValue signed word due.now line text.now (Err fault)) }
+{
+    texts_tell_first_parts();
+    let Some((number, rest)) = split_value(text, name) else {
+        return Err(CardFault::BadLine(line));
+    };
+    if !is_numeral(number, signed) {
+        return Err(CardFault::BadLine(line));
     }
-    if !is_number_text(number) {
-        return Err(CardFault::BadLine(count + 2));
+    if number != due {
+        return Err(CardFault::CountWrong);
     }
-    Err(CardFault::CountWrong)
+    Ok(rest)
 }
 
 /// The prices at the front of the text, in lines of which the first is that of this number, and what follows.
@@ -203,24 +233,4 @@ fn read_price_line<'a, const N: usize>(
         return Err(CardFault::PriceMissing);
     }
     Ok((prices_behind(behind, line)?, rest))
-}
-
-/// What follows the line with that sum, which is that of this number.
-fn read_sum(text: &[u8], sum: i32, line: usize) -> Result<&[u8], CardFault>
-    ensures { MatchResult result
-        (λ rest. SaysSum sum line text.now (Ok rest.now))
-        (λ fault. SaysSum sum line text.now (Err fault)) }
-{
-    texts_tell_first_parts();
-    let Some((number, rest)) = split_value(text, b"SUM ") else {
-        return Err(CardFault::BadLine(line));
-    };
-    let mut buffer = Buffer::new();
-    if number == buffer.format(sum).as_bytes() {
-        return Ok(rest);
-    }
-    if !is_signed_text(number) {
-        return Err(CardFault::BadLine(line));
-    }
-    Err(CardFault::CountWrong)
 }
