@@ -1,5 +1,4 @@
 pub mod Prelude
-pub mod Steps
 pub mod Lines
 pub mod PriceTexts
 pub mod CardWords

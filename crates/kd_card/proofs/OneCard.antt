@@ -3,7 +3,7 @@ use Rattle.kd_card.proofs.Prelude.{Bool, true, false, codes, ◌≡◌, ◌≢�
 use Rattle.kd_card.specs.declared.look.Name.TheVariants as names
 use Rattle.kd_card.specs.declared.fault.CardFault.{CardFault}
 use Rattle.kd_card.specs.CardFault.{numbered}
-use Rattle.kd_card.proofs.Steps.{IsOnly, only_then, only_only, only_finds, only_demands, only_takes, same_pair, passed, same_ok}
+use Rattle.kd_card.specs.Steps.{IsOnly, only_then, only_only, only_finds, only_demands, only_takes, passed, same_ok}
 use Rattle.kd_card.proofs.Lines.{Laws, line_has_words, same_words, is_line, text_of_more, two_lines, card_and_more}
 use Rattle.kd_card.proofs.PriceTexts.{small}
 use Rattle.kd_card.proofs.CardWords.{word_by_test, numeral_word, signed_word, head_is_words, row_is_word, column_is_word, prices_are_words, number_text, signed_text, price_sum_is_small, value_says, value_said, first_says, line_said, group_said}
@@ -11,6 +11,9 @@ use Rattle.kd_card.proofs.KindWords.{kind_is_words, kind_begins, end_has_no_next
 use Rattle.kd_card.proofs.KindPrices.{text_of_more_kinds, text_by_kind, both_groups, size_of, of_two_groups, same_kind_parts}
 
 -- ---- what is told by its text
+
+same_pair : {A B : Type 0} (x y : A × B) → x.0 ≡ y.0 → x.1 ≡ y.1 → x ≡ y
+same_pair (a, b) (c, d) e f = cc
 
 same_row_word : (group other : Group) → row_word group ≡ row_word other → group ≡ other
 same_row_word OfCables OfCables e = refl

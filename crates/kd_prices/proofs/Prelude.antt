@@ -23,7 +23,7 @@ pub use Rattle.kd_card.specs.declared.prices.PriceParts.TheVariants.{BarKinds, B
 pub use Rattle.kd_card.specs.declared.prices.Version.TheVariants.{ByKind, ByNumber}
 pub use Rattle.kd_enigma.specs.Plugs.{NoLetterTwice, letters_plugged}
 pub use Rattle.kd_prices.specs.Alike.{ReadAlike, StandAlike}
-pub use Rattle.kd_prices.specs.Doubt.{AreNumbered, AreOfOneModel, IsDoubt, IsDoubtByNumber, IsFirstNeedless, IsFirstTooHigh, IsFirstWithout, OfKinds, OfModels, OfNumbers}
+pub use Rattle.kd_prices.specs.Doubt.{AreNumbered, AreOfOneModel, IsDoubt, IsFirstNeedless, IsFirstTooHigh, IsFirstWithout}
 pub use Rattle.kd_prices.specs.Fitting.{AreWithin, IsWithin}
 pub use Rattle.kd_prices.specs.Kinds.{AreAlikePriced, AreByKind, AreKindsOf, AreOfGroup, AreThings, AreWithPrices, CanBeByKind, IsKindAt}
 pub use Rattle.kd_prices.specs.Laws.{AlikePricesAreEqual, AreEqualWhereAlike, RestIsShortest}
