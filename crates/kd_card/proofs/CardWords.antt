@@ -4,6 +4,7 @@ use Rattle.std.specs.Int.{IsInRange}
 use Rattle.std.proofs.lemmas.Str.Parse.{IsNumeralModel, numerals_by_value, tells_by_index}
 use Rattle.kd_card.specs.Steps.{passed}
 use Rattle.kd_card.proofs.Lines.{bytes_above, is_line, some_bytes}
+
 -- ---- words
 
 pub word_by_bytes : (word : List ℕ) → word ≢ [] → All (λ b. 32 < b) word → IsWord word

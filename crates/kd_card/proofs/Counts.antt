@@ -2,6 +2,7 @@
 use Rattle.kd_card.proofs.Prelude.{◌≡◌, ◌≢◌, ℕ, zero, suc, ◌+◌, ◌≤◌, nat_eq, Bool, true, false, ◌||◌, cond, inl, inr, List, [], ◌∷◌, ◌++◌, AllPairs, count_by, refl, sym, ap, ◌∙◌, arith, nat_le, ◌⊎◌, Option, Some, None, AllByRecursion, IsDistinct, eqb-true, eq-eqb, false≢true, ne_eqb, or_parts, eqb_tells, recursion_from_All, sum_by-append, sum_by-cons, alphabet, has_letter, is_plugged, cable_without, cable_with, list_any-append, cable_letters}
 use Rattle.std.proofs.lemmas.Cmp.{nat_eq_equiv}
 use Rattle.std.proofs.lemmas.Map.Made.{AllPairs-from_IsDistinct, IsDistinct-from_count}
+
 -- one more element to count
 pub count_by-cons : {X : Type 0} (p : X → Bool) (x : X) (xs : List X) → count_by p (x ∷ xs) ≡ cond (p x) 1 0 + count_by p xs
 count_by-cons p x xs = sum_by-cons (λ y. cond (p y) 1 0) x xs

@@ -2,6 +2,7 @@
 use Rattle.kd_card.proofs.Prelude.{◌≡◌, ℕ, zero, suc, ◌+◌, ◌<◌, List, [], ◌∷◌, ◌++◌, length, get_or, set, map, zip, fold, ℤ, pos, ◌+ℤ◌, ◌≤ℤ◌, IsPermutation, refl, arith, AllByRecursion, AllZip, ints, fold-append, sum_by-cons, sum_by-IsPermutation, All-permutation, IsPermutation-keeps, IsPermutation-refl, IsPermutation-trans, IsPermutation-swap, AllZip-long, All-from_recursion, recursion_from_All}
 use Rattle.std.specs.List as lists
 use borrow.Author.Differences.{up, down}
+
 -- sums of prices
 abbrev pub sum_of : List ℤ → ℤ
 sum_of [] = pos 0

@@ -7,6 +7,7 @@ use Rattle.kd_tables.specs.declared.lug.Lug.{Lug}
 use Rattle.kd_tables.specs.declared.lug.Lug.TheVariants.{Left, Right}
 use Rattle.kd_card.proofs.Counts.{count_by-cons, at_most_one, once_in_alphabet, times, times-append, AreOnce, once_of_distinct, once_more, SameBut, same_but, same_but-sym, pulled, put, times_more}
 use Rattle.kd_card.proofs.Duality.{pairing_cost}
+
 -- one row is changed
 pairing_cost-set : {A B : Type 0} (cost : A → B → ℕ) (rows : List A) (ws : List (B × ℤ)) (i : ℕ) (row d : A)
     → ((column : B) → cost (get_or rows i d) column ≤ cost row column + 1) → pairing_cost cost rows ws ≤ pairing_cost cost (set rows i row) ws + 1

@@ -7,6 +7,7 @@ use Rattle.std.proofs.lemmas.List.Edits.{length-remove}
 use Rattle.kd_card.proofs.Duality.{pairing_cost, reordered}
 use Rattle.kd_card.proofs.Counts.{count_by-cons, times, times-append, AreOnce}
 use Rattle.kd_card.proofs.Falling.{CablesAreOnce, HasCables, HasBars, Stands, not_differing}
+
 -- What the laws of kd_state say, as far as the proofs of this crate need it.
 pub record Told : Type 0 where
   pub places : DaysWheelsHaveTheirPlaces

@@ -4,6 +4,7 @@ use Rattle.std.specs.Result.{result_ok}
 use Rattle.std.specs.Int.Signed.{mag}
 use Rattle.std.proofs.lemmas.Str.{IsUtf8-from_ascii}
 use Rattle.kd_card.proofs.Lines.{words_of_first, words_of_last}
+
 pub fits : (p : ℤ) → unsigned_abs p ≤ 9999 → FitsSigned w16 p
 fits p within = fits_signed_from_abs w16 p (omega (arith, within))
 

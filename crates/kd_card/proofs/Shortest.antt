@@ -8,6 +8,7 @@ use Rattle.kd_card.proofs.Counts.{count_by-cons, once_of_distinct}
 use Rattle.kd_card.proofs.Falling.{paired_cost, falls, machines_have_all, list_keeps}
 use Rattle.kd_card.proofs.Loosening.{lowers, leaves, model_of-changed, nothing_loose}
 use Rattle.kd_card.proofs.Pairing.{cables_paired, bars_paired, Told}
+
 -- A setting lowers the loose things and the pairing's cost together by at most one, and so many settings by at most so many.
 either : (b : Bool) → cond b 0 1 + cond b 1 0 ≡ 1
 either true = refl

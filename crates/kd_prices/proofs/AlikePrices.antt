@@ -6,6 +6,7 @@ use Rattle.kd_tables.specs.declared.model.Model.{Model}
 use Rattle.kd_tables.specs.declared.model.Model.TheVariants.{M209}
 use Rattle.kd_tables.specs.declared.reflector.Reflector.{Reflector}
 use Rattle.kd_tables.specs.Tables.{reflectors_of}
+
 -- prices that fit a table of costs, each tight somewhere
 module _ {A B : Type 0} (cost : A → B → ℕ) (rows : List A) (columns : List B) (a : A) (b : B) (m : Parts) (s : Day) (prices : PriceParts)
     (many_rows : length rows ≡ how_many prices) (many_columns : length columns ≡ how_many prices) (fits : Fits (map (λ row. map (cost row) columns) rows) prices)

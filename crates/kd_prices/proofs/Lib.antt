@@ -6,4 +6,4 @@ pub mod Rest
 pub mod AlikePrices
 pub mod Grouping
 pub mod Things
-pub mod Likeness
+pub mod AlikeLooks

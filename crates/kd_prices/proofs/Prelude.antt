@@ -25,7 +25,7 @@ pub use Rattle.kd_enigma.specs.Plugs.{NoLetterTwice, letters_plugged}
 pub use Rattle.kd_prices.specs.Alike.{ReadAlike, StandAlike}
 pub use Rattle.kd_prices.specs.Doubt.{AreNumbered, AreOfOneModel, IsDoubt, IsFirstNeedless, IsFirstTooHigh, IsFirstWithout}
 pub use Rattle.kd_prices.specs.Fitting.{AreWithin, IsWithin}
-pub use Rattle.kd_prices.specs.Kinds.{AreAlikePriced, AreByKind, AreKindsOf, AreOfGroup, AreThings, AreWithPrices, CanBeByKind, IsKindAt}
+pub use Rattle.kd_prices.specs.KindCards.{AreAlikePriced, AreByKind, AreKindsOf, AreOfGroup, AreThings, AreWithPrices, CanBeByKind, IsKindAt}
 pub use Rattle.kd_prices.specs.Laws.{AlikePricesAreEqual, AreEqualWhereAlike, RestIsShortest}
 pub use Rattle.kd_prices.specs.declared.doubt.Doubt.TheVariants.{IllegalAt, NeedlessLine, NotTheSheet, OtherModel, PriceMissing, PriceTooHigh, SumDiffers}
 pub use Rattle.kd_state.specs.Costs.{bar_cost, cable_cost, columns_of, cost_table}
