@@ -1,10 +1,10 @@
 -- Bytes are one card, or have one fault.
-use Rattle.kd_card.proofs.Prelude.{Bool, true, false, codes, ◌≡◌, ◌≢◌, ℕ, ◌+◌, ◌*◌, ◌^◌, ◌<◌, ◌≤◌, List, [], ◌∷◌, ◌++◌, length, map, get_or, decimal, Result, Ok, Err, refl, sym, ap, subst, ◌∙◌, arith, ℤ, unsigned_abs, append_assoc, length-append, All, AllByRecursion, signed_decimal, decimal_injective, signed_decimal_injective, append-nil, All-from_recursion, recursion_from_All, Setting, Pull, IsWord, setting_words, setting_line, list_text, IsInRange, BeginsWith, BeginsWithNoLine, SettingsHaveWords, LinesTellSettings, PriceParts, Cables, Bars, CableKinds, BarKinds, Version, ByNumber, ByKind, Group, OfCables, OfBars, Name, PricedKind, Trailing, Then, Refused, Found, Only, Demands, look_rank, name_text, kind_words, kinds_text, counted, AreKinds, AreCalled, version_of, row_kinds, column_kinds, price_sum, AreWithinReach, ArePrices, group_of, row_word, column_word, row_name, column_name, price_count, version_text, head_words, settings_words, price_words, sum_words, lines_text, price_lines, card_text, IsGroup, IsCard, with_line, HasWords, SaysValue, SaysLine, SaysFirst, BeginsWithHead, BeginsWithSettings, SaysSettings, first_text, SaysPrices, SaysPriceLine, SaysNumbered, BeginsWithWord, EndsGroup, AtOther, IsNextKind, HasNoNext, floor_behind, BeginsWithKinds, SaysGroup, SaysKinded, SaysAllPrices, SaysBehind, SaysCard, TextsTellCards, NoCardBeginsAnother, CardsHaveNoFault, OneCardFault}
+use Rattle.kd_card.proofs.Prelude.{Bool, true, false, codes, ◌≡◌, ◌≢◌, ℕ, ◌+◌, ◌*◌, ◌^◌, ◌<◌, ◌≤◌, List, [], ◌∷◌, ◌++◌, length, map, get_or, Result, Ok, Err, refl, sym, ap, subst, ◌∙◌, arith, ℤ, unsigned_abs, append_assoc, AllByRecursion, signed_decimal, decimal_injective, signed_decimal_injective, append-nil, All-from_recursion, recursion_from_All, Setting, Pull, IsWord, setting_words, setting_line, list_text, IsInRange, BeginsWith, BeginsWithNoLine, SettingsHaveWords, LinesTellSettings, PriceParts, Cables, Bars, CableKinds, BarKinds, Version, ByNumber, ByKind, Group, OfCables, OfBars, Name, PricedKind, Trailing, Then, Refused, Found, Only, Demands, look_rank, name_text, kind_words, kinds_text, AreKinds, AreCalled, version_of, row_kinds, column_kinds, price_sum, AreWithinReach, ArePrices, group_of, row_word, column_word, row_name, column_name, price_count, version_text, head_words, settings_words, price_words, sum_words, lines_text, price_lines, card_text, IsGroup, IsCard, with_line, HasWords, SaysValue, SaysFirst, BeginsWithHead, BeginsWithSettings, SaysSettings, SaysPriceLine, SaysNumbered, BeginsWithWord, EndsGroup, AtOther, IsNextKind, HasNoNext, floor_behind, SaysGroup, SaysKinded, SaysAllPrices, SaysBehind, SaysCard, TextsTellCards, NoCardBeginsAnother, CardsHaveNoFault, OneCardFault}
 use Rattle.kd_card.specs.declared.look.Name.TheVariants as names
 use Rattle.kd_card.specs.declared.fault.CardFault.{CardFault}
 use Rattle.kd_card.specs.CardFault.{numbered}
 use Rattle.kd_card.specs.Steps.{IsOnly, only_then, only_only, only_finds, only_demands, only_takes, passed, same_ok}
-use Rattle.kd_card.proofs.Lines.{Laws, line_has_words, same_words, is_line, text_of_more, two_lines, card_and_more}
+use Rattle.kd_card.proofs.Lines.{Laws, line_has_words, same_words, text_of_more, two_lines, card_and_more}
 use Rattle.kd_card.proofs.PriceTexts.{small}
 use Rattle.kd_card.proofs.CardWords.{word_by_test, numeral_word, signed_word, head_is_words, row_is_word, column_is_word, prices_are_words, number_text, signed_text, price_sum_is_small, value_says, value_said, first_says, line_said, group_said}
 use Rattle.kd_card.proofs.KindWords.{kind_is_words, kind_begins, end_has_no_next, same_kind}

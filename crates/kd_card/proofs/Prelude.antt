@@ -28,7 +28,7 @@ pub use Rattle.kd_card.specs.Kinds.{AreCalled, AreEnds, AreKinds, HasKindWords, 
 pub use Rattle.kd_card.specs.Laws.{CardsHaveNoFault, FittingPricesBoundLists, NoCardBeginsAnother, OneCardFault, ProvingCardsAreAsLong, ProvingCardsAreShortest, ProvingPricesAreTight, RanksTellLooks, TextsTellCards}
 pub use Rattle.kd_card.specs.Prices.{ArePrices, AreTight, AreWithinReach, Fits, column_kinds, column_prices, how_many, price_sum, row_kinds, row_prices, version_of}
 pub use Rattle.kd_card.specs.Proving.{AreNeeded, AreOfKind, Expanded, IsNeeded, ProvesByNumber, Same, is_priced, priced_count}
-pub use Rattle.kd_card.specs.Steps.{Demands, Finds, Found, Only, Refused, Says, Takes, Then}
+pub use Rattle.kd_card.specs.Steps.{Demands, Found, Only, Refused, Then}
 pub use Rattle.kd_card.specs.declared.fault.CardFault.TheVariants.{BadHead, BadLine, CountWrong, PriceMissing, TooMany, Trailing}
 pub use Rattle.kd_card.specs.declared.group.Group.{Group}
 pub use Rattle.kd_card.specs.declared.group.Group.TheVariants.{OfBars, OfCables}

@@ -1,5 +1,5 @@
 -- What the steps of reading a card find. The contracts of the crate's public calls don't speak of it.
-use Rattle.std.specs.Prelude.{codes, decimal, ◌≡◌, ℕ, List, [], ◌∷◌, ◌++◌, Option, Some, None}
+use Rattle.std.specs.Prelude.{codes, ◌≡◌, ℕ, List, [], ◌∷◌, ◌++◌, Option, Some, None}
 use Rattle.kd_state.specs.Words.{words_of, line_of}
 use Rattle.kd_card.specs.declared.prices.Version.{Version}
 use Rattle.kd_card.specs.declared.look.Name.{Name}

@@ -116,10 +116,7 @@ pub(crate) fn prices_behind<const N: usize>(
 }
 
 /// The prices between the spaces of a text that has to be `N` of them, in the line of that number.
-fn prices_of_text<const N: usize>(
-    text: &[u8],
-    line: usize,
-) -> Result<[i16; N], CardFault>
+fn prices_of_text<const N: usize>(text: &[u8], line: usize) -> Result<[i16; N], CardFault>
     requires { N ≤ 27 }
     ensures { MatchResult result
         (λ prices. SaysPrices N line (words_of text.now) (Ok prices))

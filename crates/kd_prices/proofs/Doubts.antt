@@ -1,5 +1,5 @@
 -- A card that proves itself is in no doubt, and a card is in one doubt at most.
-use Rattle.kd_prices.proofs.Prelude.{◌≡◌, ℕ, ◌+◌, ◌⊎◌, inl, inr, List, [], ◌∷◌, ◌++◌, length, refl, sym, ap, ◌∙◌, subst, arith, ◌↔◌, cases_order, false≢true, Parts, Setting, Why, why_refused, Leads, Day, ReadsAs, cost_table, LeadsToOne, PriceParts, Fits, price_sum, AreNeeded, Expands, Proves, priced_count, OtherModel, PriceMissing, IllegalAt, NotTheSheet, PriceTooHigh, SumDiffers, NeedlessLine, AreOfOneModel, IsFirstWithout, IsFirstTooHigh, IsFirstNeedless}
+use Rattle.kd_prices.proofs.Prelude.{◌≡◌, ℕ, inl, inr, List, [], ◌∷◌, ◌++◌, length, refl, sym, ap, ◌∙◌, subst, arith, ◌↔◌, cases_order, false≢true, Parts, Setting, Why, why_refused, Leads, Day, cost_table, LeadsToOne, PriceParts, AreNeeded, Proves, IllegalAt, PriceTooHigh, NeedlessLine, IsFirstWithout, IsFirstNeedless}
 use Rattle.kd_card.specs.Carrying.{IsFirstIllegal}
 use Rattle.kd_prices.specs.declared.doubt.Doubt.{Doubt}
 use Rattle.std.specs.Prelude.{Result, Ok, Err, IsOk, IfErr}

@@ -7,12 +7,12 @@ pub use Rattle.std.proofs.lemmas.List.{append-nil, drop_all, drop_more, ext_get_
 pub use Rattle.std.proofs.lemmas.List.Elements.{All-cons, All-contains_itself, All-from_get_or, All-from_recursion, All-get_or, All-head, All-map, All-more, All-nil, All-same, All-tail, All-weaker, recursion_from_All}
 pub use Rattle.std.proofs.lemmas.Option.{slice_get-get_or, slice_get_past, unwrap_or-slice_get}
 pub use Rattle.std.specs.List.{All, AllByRecursion}
-pub use Rattle.std.specs.Prelude.{IsTrue, drop, map, take, ◌↔◌}
+pub use Rattle.std.specs.Prelude.{drop, map, take, ◌↔◌}
 pub use Rattle.kd_card.specs.CardText.{column_name, group_of, price_count, row_name}
 pub use Rattle.kd_card.specs.Kinds.{AreCalled, AreEnds, AreKinds, IsInForm, IsPricedKind, counted, look_name, look_rank}
 pub use Rattle.kd_card.specs.Laws.{ProvingCardsAreShortest, ProvingPricesAreTight, RanksTellLooks}
 pub use Rattle.kd_card.specs.Prices.{ArePrices, AreTight, AreWithinReach, Fits, column_kinds, column_prices, cost_at, how_many, price_at, price_sum, row_kinds, row_prices, version_of}
-pub use Rattle.kd_card.specs.Proving.{AreExpanded, AreNeeded, AreOfKind, Expanded, Expands, HasCount, IsNeeded, IsPriced, LeadsToTheDay, Proves, ProvesByNumber, Same, alike_count, column_looks, group_of_machine, look_at, pair_in_order, priced_count, row_looks}
+pub use Rattle.kd_card.specs.Proving.{AreExpanded, AreNeeded, AreOfKind, Expanded, Expands, HasCount, IsNeeded, IsPriced, Proves, Same, alike_count, column_looks, group_of_machine, look_at, pair_in_order, priced_count, row_looks}
 pub use Rattle.kd_card.specs.declared.group.Group.{Group}
 pub use Rattle.kd_card.specs.declared.group.Group.TheVariants.{OfBars, OfCables}
 pub use Rattle.kd_card.specs.declared.kinds.PricedKind.{PricedKind}
@@ -23,7 +23,7 @@ pub use Rattle.kd_card.specs.declared.prices.PriceParts.TheVariants.{BarKinds, B
 pub use Rattle.kd_card.specs.declared.prices.Version.TheVariants.{ByKind, ByNumber}
 pub use Rattle.kd_enigma.specs.Plugs.{NoLetterTwice, letters_plugged}
 pub use Rattle.kd_prices.specs.Alike.{ReadAlike, StandAlike}
-pub use Rattle.kd_prices.specs.Doubt.{AreNumbered, AreOfOneModel, IsDoubt, IsFirstNeedless, IsFirstTooHigh, IsFirstWithout}
+pub use Rattle.kd_prices.specs.Doubt.{AreNumbered, AreOfOneModel, IsFirstNeedless, IsFirstTooHigh, IsFirstWithout}
 pub use Rattle.kd_prices.specs.Fitting.{AreWithin, IsWithin}
 pub use Rattle.kd_prices.specs.KindCards.{AreAlikePriced, AreByKind, AreKindsOf, AreOfGroup, AreThings, AreWithPrices, CanBeByKind, IsKindAt}
 pub use Rattle.kd_prices.specs.Laws.{AlikePricesAreEqual, AreEqualWhereAlike, RestIsShortest}

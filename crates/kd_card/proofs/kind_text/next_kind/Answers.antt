@@ -9,9 +9,11 @@ returns-then-is_empty c =
     (AtNothing (nil_from_length c.args.text.now (eqb-true _ 0 (sym c.is_empty.ensures ∙ c.if-is_empty.true))))
 
 pub returns-in_default : goal.returns-in_default
-returns-in_default c =
-    (unended c.texts_tell_first_parts.ensures c.args.floor
-    (λ none. false≢true (sym c.if-is_empty.false ∙ c.is_empty.ensures ∙ ap (λ t. eqb (length t) 0) none)) c.in_default.ensures, refl)
+returns-in_default c = (
+  unended c.texts_tell_first_parts.ensures c.args.floor
+      (λ none. false≢true (sym c.if-is_empty.false ∙ c.is_empty.ensures ∙ ap (λ t. eqb (length t) 0) none)) c.in_default.ensures,
+  refl,
+)
 
 pub returns-then-ne : goal.returns-then-ne
 returns-then-ne c =
@@ -26,10 +28,12 @@ returns-in_default-kind_of_line c =
     let same = slice_eq-Decides Decides-eqb c.first_word.result.now c.as_bytes.result.now (pointwise eqb c.first_word.result.now c.as_bytes.result.now) refl in
     let word : c.first_word.result.now ≡ name_text c.args.name =
     same.0 (not-false (pointwise eqb c.first_word.result.now c.as_bytes.result.now)
-    (sym c.ne.ensures ∙ c.if-ne.false)) ∙ c.as_bytes.ensures.value ∙ c.text.ensures in
-    (no_kind tells c.args.floor (subst (λ w. BeginsWithWord w c.args.text.now) word (begins c.in-Some.ensures c.first_word.ensures))
-    (elim c.in_default-kind_of_line.branch [
-      | in_default-kind_of_line-via-in-Some-kind_of_line+else-floor-rank w ↦
-          low_next tells c.in-Some.ensures w.in-Some-kind_of_line.ensures w.rank.ensures.value w.if-floor-rank.false
-      | in_default-kind_of_line-via-in_default-kind_of_line w ↦ λ kind more next. w.in_default-kind_of_line.ensures kind (words_are tells c.in-Some.ensures next)
-    ]), refl)
+    (sym c.ne.ensures ∙ c.if-ne.false)) ∙ c.as_bytes.ensures.value ∙ c.text.ensures in (
+      no_kind tells c.args.floor (subst (λ w. BeginsWithWord w c.args.text.now) word (begins c.in-Some.ensures c.first_word.ensures))
+          (elim c.in_default-kind_of_line.branch [
+            | in_default-kind_of_line-via-in-Some-kind_of_line+else-floor-rank w ↦
+                low_next tells c.in-Some.ensures w.in-Some-kind_of_line.ensures w.rank.ensures.value w.if-floor-rank.false
+            | in_default-kind_of_line-via-in_default-kind_of_line w ↦ λ kind more next. w.in_default-kind_of_line.ensures kind (words_are tells c.in-Some.ensures next)
+          ]),
+      refl,
+    )

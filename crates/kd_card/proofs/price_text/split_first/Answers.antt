@@ -1,4 +1,4 @@
-use Rattle.kd_card.proofs.Prelude.{◌∙◌, eqb, length, sym, ap, refl, arith, false≢true, eqb-true, nil_from_length, BadLine, PriceMissing, Refused, Found}
+use Rattle.kd_card.proofs.Prelude.{◌∙◌, eqb, length, sym, ap, refl, false≢true, eqb-true, nil_from_length, PriceMissing, Refused, Found}
 use Rattle.kd_card.proofs.Lines.{no_first_part, words_of_first, words_of_last}
 use Rattle.kd_card.proofs.price_text.split_first.Goals as goal
 

@@ -1,4 +1,4 @@
-use Rattle.kd_card.proofs.Prelude.{codes, ◌∙◌, refl}
+use Rattle.kd_card.proofs.Prelude.{codes, refl}
 use Rattle.kd_card.proofs.Lines.{unbroken_by_test}
 use Rattle.kd_card.proofs.read.read_count.Goals as goal
 

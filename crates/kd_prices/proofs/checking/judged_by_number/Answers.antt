@@ -1,4 +1,4 @@
-use Rattle.kd_prices.proofs.Prelude.{◌≡◌, ◌+◌, ◌<◌, ◌^◌, pos, SFits, w32, to_z, rules, arith, sym, ap, ◌∙◌, refl, false≢true, to_z-of_z, to_z_pos, price_sum, priced_count, IllegalAt, NotTheSheet, NeedlessLine}
+use Rattle.kd_prices.proofs.Prelude.{◌≡◌, ◌+◌, ◌<◌, ◌^◌, pos, SFits, w32, to_z, rules, arith, sym, ap, ◌∙◌, refl, false≢true, to_z-of_z, to_z_pos, price_sum, priced_count, IllegalAt, NotTheSheet}
 use Rattle.std.specs.Prelude.{◌≢◌, ℕ, ℤ}
 use Rattle.std.proofs.Common.{of_z}
 use Rattle.kd_card.specs.Steps.{Refused, Found}
