@@ -1,29 +1,9 @@
 -- What stands in a card's lines are words, and its numbers have the keywords that are read.
-use Rattle.std.proofs.Common.{codes, ◌≡◌, ◌≢◌, ℕ, zero, suc, ◌+◌, ◌*◌, ◌^◌, ◌<◌, ◌≤◌, inl, inr, true, List, [], ◌∷◌, ◌++◌, length, map, get_or, fold, decimal, refl, ap, arith, ℤ, pos, negsuc, ◌+ℤ◌, unsigned_abs, length-append, ltb, sym, subst, ◌∙◌}
-use Rattle.std.specs.List.{All, AllByRecursion, list_all}
+use Rattle.kd_card.proofs.Prelude.{Bool, true, false, codes, ◌≡◌, ◌≢◌, ℕ, zero, suc, ◌+◌, ◌*◌, ◌^◌, ◌<◌, ◌≤◌, inl, inr, List, [], ◌∷◌, ◌++◌, length, map, get_or, fold, decimal, Ok, Err, refl, ap, arith, ℤ, pos, negsuc, ◌+ℤ◌, unsigned_abs, length-append, ltb, sym, subst, ◌∙◌, All, AllByRecursion, list_all, digits_value, signed_decimal, decimal_nonempty, digits_decimal, decimal_digit, first_decimal, ints, All-cons, All-map, All-weaker, All-append, All-from_recursion, All-from_get_or, recursion_from_All, IsWord, NumbersAreWords, PriceParts, Cables, Version, ByNumber, ByKind, row_prices, column_prices, how_many, price_sum, AreWithinReach, ArePrices, Group, OfCables, OfBars, Name, PricedKind, BadLine, CountWrong, PriceMissing, Refused, Found, kinds_text, row_word, column_word, version_text, head_words, price_words, IsGroup, IsDigit, IsNumberText, IsNumeral, with_line, HasWords, SaysValue, SaysLine, SaysFirst, SaysPrices, SaysPriceLine, SaysGroup, nil_from_length}
 use Rattle.std.specs.Int.{IsInRange}
-use Rattle.std.specs.Str.Parse.{digits_value}
-use Rattle.std.specs.Fmt.{signed_decimal}
-use Rattle.std.proofs.lemmas.Fmt.{decimal_nonempty, digits_decimal, decimal_digit, first_decimal}
-use Rattle.std.proofs.lemmas.Int.{ints}
-use Rattle.std.proofs.lemmas.List.Elements.{All-cons, All-map, All-weaker, All-append, All-from_recursion, All-from_get_or, recursion_from_All}
 use Rattle.std.proofs.lemmas.Str.Parse.{IsNumeralModel, numerals_by_value, tells_by_index}
-use Rattle.kd_state.specs.Words.{IsWord, NumbersAreWords}
-use Rattle.kd_card.specs.declared.prices.PriceParts.{PriceParts}
-use Rattle.kd_card.specs.declared.prices.PriceParts.TheVariants.{Cables}
-use Rattle.kd_card.specs.declared.prices.Version.{Version}
-use Rattle.kd_card.specs.declared.prices.Version.TheVariants.{ByNumber, ByKind}
-use Rattle.kd_card.specs.Prices.{row_prices, column_prices, how_many, price_sum, AreWithinReach, ArePrices}
-use Rattle.kd_card.specs.declared.group.Group.{Group}
-use Rattle.kd_card.specs.declared.group.Group.TheVariants.{OfCables, OfBars}
-use Rattle.kd_card.specs.CardText.{row_word, column_word, version_text, head_words, settings_words, price_words, sum_words, lines_text, price_lines, card_text, IsCard}
-use Rattle.kd_card.specs.CardFault.{IsDigit, IsNumberText, IsSignedText, with_line, sum_line, ToSettings, ToNumber, ToPrices, IsValueFault, IsPricesFault, AreColumns, IsCardFault, AtNumber, AtRows, AtColumns, AtGroup, AtRowKinds, AtColumnKinds, AtSum}
-use Rattle.kd_card.proofs.Lines.{bytes_above, card_and_more}
-use Rattle.std.proofs.lemmas.List.{append-nil, nil_from_length}
-use Rattle.kd_state.specs.declared.setting.Setting.{Setting}
-use Rattle.kd_state.specs.Line.{BeginsWith}
-use Rattle.kd_card.specs.declared.fault.CardFault.{CardFault}
-use Rattle.kd_card.specs.Reading.{BeginsWithHead, BeginsWithSettings, BeginsWithAll, LacksPrices, InRows, InColumns, InGroup, InRowKinds, InColumnKinds}
+use Rattle.kd_card.specs.Steps.{passed}
+use Rattle.kd_card.proofs.Lines.{bytes_above, is_line, some_bytes}
 
 -- ---- words
 
@@ -47,14 +27,16 @@ below_zero word w = record {
   unbroken = All-cons (λ b. b ≢ 10) 45 word (λ same. omega (arith, same)) w.unbroken;
 }
 
-pub number_word : (text : List ℕ) → IsNumberText text → IsWord text
+number_word : (text : List ℕ) → IsNumberText text → IsWord text
 number_word [] n = absurd n
 number_word (digit ∷ digits) n =
     word_by_bytes (digit ∷ digits) (λ none. cc)
     (All-weaker IsDigit (λ b. 32 < b) (λ b d. omega (arith, d.0)) (digit ∷ digits) (All-cons IsDigit digit digits n.0 n.1))
 
-pub signed_text_word : (text : List ℕ) → IsSignedText text → IsWord text
-signed_text_word text s = elim s [ inl n ↦ number_word text n | inr n ↦ subst IsWord (sym n.1) (below_zero n.0 (number_word n.0 n.2)) ]
+pub numeral_word : (signed : Bool) (text : List ℕ) → IsNumeral signed text → IsWord text
+numeral_word false text n = number_word text n
+numeral_word true text (inl n) = number_word text n
+numeral_word true text (inr n) = subst IsWord (sym n.1) (below_zero n.0 (number_word n.0 n.2))
 
 pub signed_word : NumbersAreWords → (z : ℤ) → unsigned_abs z < 2 ^ 64 → IsWord (signed_decimal z)
 signed_word numbers (pos n) small = numbers n small
@@ -111,7 +93,7 @@ number_text number small =
 not_zero : (n : ℕ) → suc n < 2 ^ 64 → decimal (suc n) ≢ codes "0"
 not_zero n small e = omega (arith, first_decimal (suc n) (omega arith) small, ap (λ t. get_or t 0 0) e)
 
-pub signed_text : (z : ℤ) → unsigned_abs z < 2 ^ 64 → IsSignedText (signed_decimal z)
+pub signed_text : (z : ℤ) → unsigned_abs z < 2 ^ 64 → IsNumeral true (signed_decimal z)
 signed_text (pos n) small = inl (number_text n small)
 signed_text (negsuc n) small = inr (decimal (suc n), refl, number_text (suc n) small, not_zero n small)
 
@@ -137,77 +119,100 @@ price_sum_is_small prices p =
     let bound = sum_bound (pos 0) all (recursion_from_All _ all reach) in
     omega (arith, bound, length-append (row_prices prices) (column_prices prices), few_prices prices)
 
--- ---- cards, step by step
+-- ---- a name and a value
 
-pub to_settings : {bytes : List ℕ} {version : Version} {day : ℕ} {body : List ℕ} {xs : List Setting} {rest : List ℕ}
-    → BeginsWithHead bytes version day body → BeginsWith body xs rest → ToSettings bytes version day xs rest
-to_settings {version} {day} head list = record {
-  text = head.text ∙ ap (with_line (head_words version day)) list.lines;
-  of_month = head.of_month;
-  in_range = list.in_range;
-}
+module _ (signed : Bool) (name due : List ℕ) (line : ℕ) where
+  pub value_says : {bytes rest : List ℕ} → IsNumeral signed due → bytes ≡ with_line (name ∷ due ∷ []) rest
+      → SaysValue signed name due line bytes (Ok rest)
+  value_says {rest} form e = Found (due, rest) (form, e) (Found tt refl refl)
 
-pub to_number : {bytes : List ℕ} {version : Version} {day : ℕ} {body : List ℕ} {xs : List Setting} {rest after : List ℕ} {count : ℕ}
-    → BeginsWithHead bytes version day body → BeginsWithSettings body xs rest → count ≡ length xs → rest ≡ with_line (settings_words count) after
-    → ToNumber bytes version day xs after
-to_number {bytes} {version} {day} {xs} {after} head list counted e = record {
-  before = subst (ToSettings bytes version day xs) (e ∙ ap (λ n. with_line (settings_words n) after) counted) (to_settings head list.lines);
-  few = list.few;
-}
+  pub other_value : {bytes : List ℕ} (value rest : List ℕ) → IsNumeral signed value → bytes ≡ with_line (name ∷ value ∷ []) rest
+      → value ≢ due → SaysValue signed name due line bytes (Err CountWrong)
+  other_value value rest form e differs =
+      Found (value, rest) (form, e) (Refused CountWrong ((λ same is. differs is), refl) refl)
 
-pub to_prices : {bytes : List ℕ} {version : Version} {day : ℕ} {xs : List Setting} {prices : PriceParts} {rest after : List ℕ}
-    → ToNumber bytes version day xs rest → BeginsWithAll rest version prices after → ToPrices bytes day xs prices after
-to_prices {bytes} {version} {day} {xs} {prices} {after} to all = record {
-  before = subst (λ v. ToNumber bytes v day xs (lines_text (price_lines prices) ++ after)) (sym all.of_version) (subst (ToNumber bytes version day xs) all.text to);
-  are_prices = all.are_prices;
-  ends = all.ends;
-}
+  pub no_value : {bytes : List ℕ} → ((value rest : List ℕ) → IsNumeral signed value → bytes ≢ with_line (name ∷ value ∷ []) rest)
+      → SaysValue signed name due line bytes (Err (BadLine line))
+  no_value none = Refused (BadLine line) ((λ found is. none found.0 found.1 is.0 is.1), refl) refl
 
-pub to_end : {bytes : List ℕ} {day : ℕ} {xs : List Setting} {prices : PriceParts} {rest : List ℕ} {sum : ℤ} (after : List ℕ) → ToPrices bytes day xs prices rest
-    → sum ≡ price_sum prices → rest ≡ with_line (sum_words sum) after → ToPrices bytes day xs prices (with_line (sum_words (price_sum prices)) after)
-to_end {bytes} {day} {xs} {prices} after to summed e = subst (ToPrices bytes day xs prices) (e ∙ ap (λ s. with_line (sum_words s) after) summed) to
+  pub value_said : {bytes rest : List ℕ} → SaysValue signed name due line bytes (Ok rest)
+      → bytes ≡ with_line (name ∷ due ∷ []) rest
+  value_said says =
+      let value = passed says in
+      let same = passed value.next in
+      let is = same.says in
+      let last = same.next in
+      value.says.1 ∙ cc
 
--- ---- faults
+-- ---- a first word, and prices
 
-pub other_number : {bytes : List ℕ} {version : Version} {day : ℕ} {body : List ℕ} {xs : List Setting} {rest : List ℕ} {count : ℕ} {fault : CardFault}
-    → BeginsWithHead bytes version day body → BeginsWithSettings body xs rest → count ≡ length xs
-    → IsValueFault IsNumberText (codes "SETTINGS") (decimal count) (count + 2) rest fault → IsCardFault bytes fault
-other_number {version} {day} {xs} {rest} {fault} head list counted wrong =
-    AtNumber version day xs rest (to_settings head list.lines) list.few list.none_more
-    (subst (λ n. IsValueFault IsNumberText (codes "SETTINGS") (decimal n) (n + 2) rest fault) counted wrong)
+module _ {K : Type 0} (word : K → List ℕ) {line : ℕ} {bytes : List ℕ} where
+  pub first_found : {first : List ℕ} {words : List (List ℕ)} {rest : List ℕ} (key : K)
+      → SaysLine line bytes (Ok (first ∷ words, rest)) → first ≡ word key → SaysFirst word line bytes (Ok (key, words, rest))
+  first_found {first} {words} {rest} key says is =
+      Found (first ∷ words, rest) says (Found (key, words) (ap (λ w. w ∷ words) is) refl)
 
-pub no_prices : {bytes : List ℕ} {version : Version} {day : ℕ} {xs : List Setting} {rest : List ℕ} {fault : CardFault} → ToNumber bytes version day xs rest
-    → LacksPrices (length xs + 3) rest version fault → IsCardFault bytes fault
-no_prices {bytes} {version} {day} {xs} {rest} {fault} to wrong =
-    let at : (by : Version) → version ≡ by → ToNumber bytes by day xs rest = λ by is. subst (λ v. ToNumber bytes v day xs rest) is to in
-    elim wrong [
-      | InRows is none ↦ AtRows day xs rest (at ByNumber is) none
-      | InColumns is group rows after begins count none ↦
-          AtColumns day xs group rows after (record { before = subst (ToNumber bytes ByNumber day xs) begins.text (at ByNumber is); count = count; reach = begins.reach })
-          (subst (λ l. IsPricesFault (AreColumns group) l after fault) (omega arith) none)
-      | InGroup is none ↦ AtGroup day xs rest (at ByKind is) none
-      | InRowKinds is group begins none ↦ AtRowKinds day xs group rest (at ByKind is) begins none
-      | InColumnKinds is group rows after begins none ↦ AtColumnKinds day xs group rows rest after (at ByKind is) begins none
-    ]
+  pub other_first : {first : List ℕ} {words : List (List ℕ)} {rest : List ℕ} → SaysLine line bytes (Ok (first ∷ words, rest))
+      → ((key : K) → first ≢ word key) → SaysFirst word line bytes (Err PriceMissing)
+  other_first {first} {words} {rest} says none =
+      Found (first ∷ words, rest) says
+      (Refused PriceMissing ((λ key is. none key.0 (ap (λ ws. get_or ws 0 []) is)), refl) refl)
 
-pub other_sum : {bytes : List ℕ} {day : ℕ} {xs : List Setting} {prices : PriceParts} {rest : List ℕ} {sum : ℤ} {line : ℕ} {fault : CardFault}
-    → ToPrices bytes day xs prices rest → sum ≡ price_sum prices → line ≡ sum_line xs prices
-    → IsValueFault IsSignedText (codes "SUM") (signed_decimal sum) line rest fault → IsCardFault bytes fault
-other_sum {day} {xs} {prices} {rest} {line} {fault} to summed at wrong =
-    AtSum day xs prices rest to
-    (subst (λ l. IsValueFault IsSignedText (codes "SUM") (signed_decimal (price_sum prices)) l rest fault) at
-    (subst (λ s. IsValueFault IsSignedText (codes "SUM") (signed_decimal s) line rest fault) summed wrong))
+  pub first_says : (key : K) (words : List (List ℕ)) (rest : List ℕ) → HasWords bytes (word key ∷ words) rest
+      → SaysFirst word line bytes (Ok (key, words, rest))
+  first_says key words rest has = first_found key (Found tt (some_bytes has) has) refl
 
--- ---- the end
+-- what a line of prices has
+pub record HasPrices (bytes word : List ℕ) (number : ℕ) (prices : List ℤ) (rest : List ℕ) : Type 0 where
+  pub text : bytes ≡ with_line (price_words word prices) rest
+  pub reach : AreWithinReach prices
+  pub count : length prices ≡ number
 
-pub no_more : {bytes : List ℕ} {day : ℕ} {xs : List Setting} {prices : PriceParts} {rest : List ℕ}
-    → ToPrices bytes day xs prices (with_line (sum_words (price_sum prices)) rest) → rest ≡ [] → IsCard bytes day xs prices
-no_more {day} {xs} {prices} {rest} to none = record {
-  text =
-      to.before.before.text ∙ sym (card_and_more day xs prices rest) ∙ ap (λ t. card_text day xs prices ++ t) none
-      ∙ append-nil (card_text day xs prices);
-  of_month = to.before.before.of_month;
-  in_range = to.before.before.in_range;
-  few = to.before.few;
-  are_prices = to.are_prices;
-}
+pub prices_said : {number line : ℕ} {words : List (List ℕ)} {prices : List ℤ} → SaysPrices number line words (Ok prices)
+    → (words ≡ map signed_decimal prices) × AreWithinReach prices × (length prices ≡ number)
+prices_said {number} {words} {prices} says =
+    let are = passed says in
+    let count = passed are.next in
+    let last = count.next in
+    let is : prices ≡ are.found = cc in
+    rw is (are.says.0, are.says.1, count.says)
+
+pub line_said : {K : Type 0} (word : K → List ℕ) (number : K → ℕ) {line : ℕ} {bytes : List ℕ} (x : K × List ℤ × List ℕ)
+    → SaysPriceLine word number line bytes (Ok x) → HasPrices bytes (word x.0) (number x.0) x.1 x.2
+line_said {K} word number {bytes} x says =
+    let first = passed says in
+    let found = passed first.says in
+    let split = passed found.says in
+    let key = passed found.next in
+    let prices = passed first.next in
+    let are = prices_said prices.says in
+    let begins = key.next in
+    let last = prices.next in
+    let is : x ≡ (key.found.0, prices.found, found.found.1) = cc in
+    let words : found.found.0 ≡ price_words (word key.found.0) prices.found =
+    key.says ∙ ap (λ w. word key.found.0 ∷ w) (cc) in
+    subst (λ (y : K × List ℤ × List ℕ). HasPrices bytes (word y.0) (number y.0) y.1 y.2) (sym is) (record {
+      text = is_line split.next ∙ ap (λ w. with_line w found.found.1) words;
+      reach = are.1;
+      count = are.2 ∙ ap number (cc);
+    })
+
+-- ---- groups of kinds
+
+pub record HasGroup (name : Name) (number : ℕ) (bytes : List ℕ) (kinds : List PricedKind) (rest : List ℕ) : Type 0 where
+  pub lines : bytes ≡ kinds_text kinds ++ rest
+  pub group : IsGroup name number kinds
+
+pub group_said : {name : Name} {number : ℕ} (line : ℕ) {bytes : List ℕ} (x : List PricedKind × List ℕ)
+    → SaysGroup name number line bytes (Ok x) → HasGroup name number bytes x.0 x.1
+group_said {name} {number} line {bytes} x says =
+    let kinds = passed says in
+    let end = passed kinds.next in
+    let count = passed end.next in
+    let last = count.next in
+    let is : x ≡ kinds.found = cc in
+    let begins = kinds.says.begins in
+    subst (λ (y : List PricedKind × List ℕ). HasGroup name number bytes y.0 y.1) (sym is) (record {
+      lines = begins.lines;
+      group = record { called = begins.called; in_order = begins.in_order; count = count.says };
+    })

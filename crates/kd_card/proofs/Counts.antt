@@ -1,16 +1,7 @@
 -- How often letters are among others.
-use Rattle.std.proofs.Common.{◌≡◌, ◌≢◌, ℕ, zero, suc, ◌+◌, ◌≤◌, nat_eq, Bool, true, false, ◌||◌, cond, inl, inr, List, [], ◌∷◌, ◌++◌, AllPairs, count_by, refl, sym, ap, ◌∙◌, arith, nat_le, ◌⊎◌, Option, Some, None}
-use Rattle.std.specs.List.{AllByRecursion, IsDistinct}
-use Rattle.std.proofs.lemmas.Bool.{eqb-true, eq-eqb, false≢true, ne_eqb, or_parts}
-use Rattle.std.proofs.lemmas.Bool.Decides.{eqb_tells}
-use Rattle.std.proofs.lemmas.List.Elements.{recursion_from_All}
-use Rattle.std.proofs.lemmas.List.Sums.{sum_by-append, sum_by-cons}
+use Rattle.kd_card.proofs.Prelude.{◌≡◌, ◌≢◌, ℕ, zero, suc, ◌+◌, ◌≤◌, nat_eq, Bool, true, false, ◌||◌, cond, inl, inr, List, [], ◌∷◌, ◌++◌, AllPairs, count_by, refl, sym, ap, ◌∙◌, arith, nat_le, ◌⊎◌, Option, Some, None, AllByRecursion, IsDistinct, eqb-true, eq-eqb, false≢true, ne_eqb, or_parts, eqb_tells, recursion_from_All, sum_by-append, sum_by-cons, alphabet, has_letter, is_plugged, cable_without, cable_with, list_any-append, cable_letters}
 use Rattle.std.proofs.lemmas.Cmp.{nat_eq_equiv}
 use Rattle.std.proofs.lemmas.Map.Made.{AllPairs-from_IsDistinct, IsDistinct-from_count}
-use Rattle.kd_tables.specs.Permutation.{alphabet}
-use Rattle.kd_state.specs.Setting.{has_letter, is_plugged, cable_without, cable_with}
-use Rattle.std.proofs.lemmas.List.Folds.{list_any-append}
-use Rattle.kd_state.specs.Machine.{cable_letters}
 
 -- one more element to count
 pub count_by-cons : {X : Type 0} (p : X → Bool) (x : X) (xs : List X) → count_by p (x ∷ xs) ≡ cond (p x) 1 0 + count_by p xs

@@ -1,30 +1,12 @@
 -- What a pairing of cables with pairs, or of bars with rows, costs falls by at most one with each setting that changes a
 -- cable or a bar, and doesn't change with the others.
-use Rattle.std.proofs.Common.{◌≡◌, ℕ, zero, suc, ◌+◌, ◌-◌, ◌≤◌, nat_eq, min, Bool, true, false, cond, inl, inr, List, [], ◌∷◌, get_or, set, map, fold, find, count_by, Option, Some, None, unwrap_or, slice_get, ℤ, refl, sym, ap, ◌∙◌, subst, arith, length, All}
-use Rattle.std.specs.List.{AllByRecursion}
-use Rattle.std.specs.Option.{option_map, option_map_or}
-use Rattle.std.proofs.lemmas.Option.{unwrap_or-slice_get}
-use Rattle.kd_tables.specs.declared.place.Place.{Place}
+use Rattle.std.proofs.Common.{find, All}
+use Rattle.kd_card.proofs.Prelude.{◌≡◌, ℕ, zero, suc, ◌+◌, ◌-◌, ◌≤◌, nat_eq, min, Bool, true, false, cond, inl, inr, List, [], ◌∷◌, get_or, set, map, fold, count_by, Option, Some, None, unwrap_or, slice_get, ℤ, refl, sym, ap, ◌∙◌, subst, arith, length, AllByRecursion, option_map, option_map_or, unwrap_or-slice_get, Place, alphabet, RotorParts, Parts, Rotor, Pin, Setting, Pull, Put, LugTo, Why, cable_letters, plugged_letters, IsLegal, has_letter, is_at, reasons, why_refused, cable_at, cable_without, cable_with, with_lug, changed, lies_beyond, other_lug, lug_place, Leads, differ, unless_same, column_letters, cable_cost, lugs_moved, bar_cost, is_priced, eqb-false, ltb-false, All-set, length-set, place_rank, IsBefore, numbered}
+use Rattle.kd_state.specs.Costs.{standings_as}
 use Rattle.kd_tables.specs.declared.lug.Lug.{Lug}
 use Rattle.kd_tables.specs.declared.lug.Lug.TheVariants.{Left, Right}
-use Rattle.kd_tables.specs.Permutation.{alphabet}
-use Rattle.kd_state.specs.declared.machine.rotor_parts.RotorParts.{RotorParts}
-use Rattle.kd_state.specs.declared.machine.parts.Parts.{Parts}
-use Rattle.kd_state.specs.declared.machine.parts.Parts.TheVariants.{Rotor, Pin}
-use Rattle.kd_state.specs.declared.setting.Setting.{Setting}
-use Rattle.kd_state.specs.declared.setting.Setting.TheVariants.{Pull, Put, LugTo}
-use Rattle.kd_state.specs.declared.setting.why.Why.{Why}
-use Rattle.kd_state.specs.Machine.{cable_letters, plugged_letters, IsLegal}
-use Rattle.kd_state.specs.Setting.{has_letter, is_at, reasons, why_refused, cable_at, cable_without, cable_with, with_lug, changed, lies_beyond, other_lug, lug_place, Leads}
-use Rattle.kd_state.specs.Costs.{differ, unless_same, column_letters, cable_cost, lugs_moved, standings_as, bar_cost}
-use Rattle.kd_card.specs.Proving.{is_priced}
 use Rattle.kd_card.proofs.Counts.{count_by-cons, at_most_one, once_in_alphabet, times, times-append, AreOnce, once_of_distinct, once_more, SameBut, same_but, same_but-sym, pulled, put, times_more}
 use Rattle.kd_card.proofs.Duality.{pairing_cost}
-use Rattle.std.proofs.lemmas.Bool.{eqb-false, ltb-false}
-use Rattle.std.proofs.lemmas.List.Elements.{All-set}
-use Rattle.std.proofs.lemmas.List.{length-set}
-use Rattle.kd_tables.specs.Places.{place_rank, IsBefore}
-use Rattle.kd_state.specs.Box.{numbered}
 
 -- one row is changed
 pairing_cost-set : {A B : Type 0} (cost : A → B → ℕ) (rows : List A) (ws : List (B × ℤ)) (i : ℕ) (row d : A)

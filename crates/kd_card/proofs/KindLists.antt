@@ -1,22 +1,10 @@
 -- Lists of kinds, kind by kind.
-use Rattle.std.proofs.Common.{◌≡◌, ℕ, zero, suc, ◌+◌, ◌*◌, ◌<◌, ◌≤◌, List, [], ◌∷◌, ◌++◌, length, take, drop, get_or, replicate, fold, refl, sym, ap, subst, ◌∙◌, append_assoc, length-append, arith, ℤ, pos, ◌+ℤ◌, ◌*ℤ◌, unsigned_abs, FitsSigned, w32, Some, None}
-use Rattle.std.specs.List.{All}
-use Rattle.std.proofs.lemmas.List.Elements.{All-nil, All-cons}
+use Rattle.kd_card.proofs.Prelude.{◌≡◌, ℕ, zero, suc, ◌+◌, ◌*◌, ◌<◌, ◌≤◌, List, [], ◌∷◌, ◌++◌, length, take, drop, get_or, replicate, fold, refl, sym, ap, subst, ◌∙◌, append_assoc, length-append, arith, ℤ, pos, ◌+ℤ◌, ◌*ℤ◌, unsigned_abs, FitsSigned, w32, Some, None, All, All-nil, All-cons, ints, unsigned_abs-mul, fits_signed_from_abs, append-nil, take_more, take-append-drop, flat_map-append, fold-append, Look, Cable, Pair, Bar, Row, Name, PricedKind, look_name, look_rank, kind_words, kinds_text, counted, prices_of_kinds, IsInForm, IsPricedKind, AreKinds, AreCalled, line_of, floor_behind, IsNextKind, BeginsWithKinds}
 use Rattle.std.proofs.Math.IntN.{zero-*ℤ, suc_ℤ-*ℤ}
 use Rattle.std.proofs.Math.Nat.{mul-le-mul_left}
-use Rattle.std.proofs.lemmas.Int.{ints, unsigned_abs-mul, fits_signed_from_abs}
-use Rattle.std.proofs.lemmas.List.{append-nil, take_more, take-append-drop}
-use Rattle.std.proofs.lemmas.List.Concat.{flat_map-append}
-use Rattle.std.proofs.lemmas.List.Sums.{fold-append}
-use Rattle.kd_card.specs.declared.look.Look.{Look}
-use Rattle.kd_card.specs.declared.look.Look.TheVariants.{Cable, Pair, Bar, Row}
-use Rattle.kd_card.specs.declared.look.Name.{Name}
-use Rattle.kd_card.specs.declared.kinds.PricedKind.{PricedKind}
-use Rattle.kd_card.specs.Kinds.{look_name, look_rank, kind_words, kinds_text, counted, prices_of_kinds, IsInForm, IsPricedKind, AreKinds, AreCalled}
-use Rattle.kd_state.specs.Words.{line_of}
-use Rattle.kd_card.specs.CardFault.{floor_behind, IsNextKind, BeginsWithKinds}
 use Rattle.kd_card.proofs.KindPrices.{text_of_more_kinds}
 use Rattle.kd_card.proofs.KindWords.{low_rank}
+use Rattle.kd_card.proofs.Lines.{is_line}
 
 -- ---- one more kind at the end
 
@@ -171,7 +159,7 @@ reads_on {name} {line} {text} {after} {total} {at} {count} {rank} {kept} {kind} 
     subst (HasRead name line text after (rank + 1) (total + count) (at + 1)) (sym keeps) (record {
       begins = record {
         lines =
-            read.begins.lines ∙ ap (λ t. kinds_text kept ++ t) (next.line ∙ sym (text_of_more_kinds kind [] after))
+            read.begins.lines ∙ ap (λ t. kinds_text kept ++ t) (is_line next.line ∙ sym (text_of_more_kinds kind [] after))
             ∙ sym (append_assoc (kinds_text kept) (kinds_text (kind ∷ [])) after)
             ∙ ap (λ t. t ++ after) (sym (flat_map-append (λ (k : PricedKind). line_of (kind_words k) ++ 10 ∷ []) kept (kind ∷ [])));
         called = more_called name kept kind read.begins.called next.called;

@@ -1,27 +1,6 @@
 -- The prices of kinds, one for each thing.
-use Rattle.std.proofs.Common.{◌≡◌, ℕ, ◌+◌, ◌<◌, ◌≤◌, List, [], ◌∷◌, length, replicate, refl, sym, ap, subst, ◌∙◌, length-append, arith, unsigned_abs, ◌++◌, map, Option, None, append_assoc}
-use Rattle.std.proofs.lemmas.List.{length-replicate, length-map}
-use Rattle.std.proofs.lemmas.List.Elements.{All-append, All-nil, All-replicate}
-use Rattle.kd_card.specs.declared.kinds.PricedKind.{PricedKind}
-use Rattle.kd_card.specs.declared.prices.PriceParts.{PriceParts}
-use Rattle.kd_card.specs.declared.prices.PriceParts.TheVariants.{CableKinds, BarKinds}
-use Rattle.kd_card.specs.declared.prices.Version.TheVariants.{ByKind}
-use Rattle.kd_card.specs.Kinds.{look_rank, counted, prices_of_kinds, AreKinds, look_name, kind_words, kinds_text, cable_kind, pair_kind, bar_kind, row_kind, AreCalled}
-use Rattle.kd_card.specs.Prices.{version_of, how_many, row_kinds, column_kinds, row_prices, column_prices, AreWithinReach, ArePrices}
-use Rattle.std.proofs.lemmas.List.Concat.{flat_map-append}
-use Rattle.std.proofs.lemmas.List.Folds.{flat_map-map}
+use Rattle.kd_card.proofs.Prelude.{◌≡◌, ℕ, ◌+◌, ◌<◌, ◌≤◌, List, [], ◌∷◌, length, replicate, refl, sym, ap, subst, ◌∙◌, length-append, arith, unsigned_abs, ◌++◌, map, Option, None, length-replicate, length-map, All-append, All-nil, All-replicate, PricedKind, PriceParts, Cables, Bars, CableKinds, BarKinds, ByKind, look_rank, counted, prices_of_kinds, AreKinds, look_name, kind_words, kinds_text, cable_kind, pair_kind, bar_kind, row_kind, AreCalled, version_of, how_many, row_kinds, column_kinds, row_prices, column_prices, AreWithinReach, ArePrices, flat_map-append, flat_map-map, Place, One, line_of, Look, Cable, Pair, Bar, Row, Name, Group, OfCables, OfBars, group_of, row_name, column_name, price_count, lines_text, price_lines, IsGroup, HaveKinds, with_line}
 use Rattle.arrayvec.specs.ArrayVec.{ArrayVec}
-use Rattle.kd_tables.specs.declared.place.Place.{Place}
-use Rattle.kd_tables.specs.declared.place.Place.TheVariants.{One}
-use Rattle.kd_state.specs.Words.{line_of}
-use Rattle.kd_card.specs.declared.look.Look.{Look}
-use Rattle.kd_card.specs.declared.look.Look.TheVariants.{Cable, Pair, Bar, Row}
-use Rattle.kd_card.specs.declared.look.Name.{Name}
-use Rattle.kd_card.specs.declared.group.Group.{Group}
-use Rattle.kd_card.specs.declared.group.Group.TheVariants.{OfCables, OfBars}
-use Rattle.kd_card.specs.CardText.{group_of, row_name, column_name, price_count, lines_text, price_lines, IsGroup, HaveKinds}
-use Rattle.kd_card.specs.Reading.{BeginsWithAll}
-use Rattle.kd_card.specs.CardFault.{with_line, EndsGroup, EndsPrices, BeginsWithGroup}
 use Rattle.kd_card.proofs.Lines.{line_and_more}
 
 pub length_of_kinds : (kinds : List PricedKind) → length (prices_of_kinds kinds) ≡ counted kinds
@@ -157,20 +136,11 @@ of_two_groups group prices by many r c x y =
     are_prices prices (price_count group) by many (subst (AreKinds 0) (sym r) x.in_order, ap counted r ∙ x.count)
     (subst (AreKinds 0) (sym c) y.in_order, ap counted c ∙ y.count)
 
-ends_behind : (prices : PriceParts) → version_of prices ≡ ByKind → (rest : List ℕ) → EndsGroup (column_name (group_of prices)) rest → EndsPrices prices rest
-ends_behind (CableKinds a b) by rest ends = ends
-ends_behind (BarKinds a b) by rest ends = ends
-ends_behind prices by rest ends = tt
-
-pub all_groups : {group : Group} {rows columns : List PricedKind} {bytes rest after : List ℕ} {prices : PriceParts} → HaveKinds group rows columns prices
-    → BeginsWithGroup (row_name group) (price_count group) bytes rows rest → BeginsWithGroup (column_name group) (price_count group) rest columns after
-    → ArePrices prices → BeginsWithAll bytes ByKind prices after
-all_groups {rows} {columns} {after} {prices} have r c are = record {
-  of_version = have.version;
-  text = cc (r.begins.lines, c.begins.lines, have.row_kinds, have.column_kinds, text_by_kind prices have.version, append_assoc (kinds_text rows) (kinds_text columns) after);
-  are_prices = are;
-  ends = ends_behind prices have.version after (subst (λ g. EndsGroup (column_name g) after) (sym have.of_group) c.ends);
-}
+pub size_of : (prices : PriceParts) → price_count (group_of prices) ≡ how_many prices
+size_of (Cables row col) = refl
+size_of (Bars row col) = refl
+size_of (CableKinds row col) = refl
+size_of (BarKinds row col) = refl
 
 pub few_prices_of : (group : Group) → price_count group ≤ 27
 few_prices_of OfCables = omega arith

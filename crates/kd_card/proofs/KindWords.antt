@@ -1,30 +1,11 @@
 -- The words of kinds' lines, and the looks that they tell.
-use Rattle.std.proofs.Common.{ltb, codes, ◌≡◌, ◌≢◌, ℕ, ◌+◌, ◌<◌, true, List, [], ◌∷◌, ◌++◌, length, get_or, ℤ, Option, Some, None, refl, sym, ap, ◌∙◌, append_assoc, length-append, arith, map, decimal, Bor}
-use Rattle.std.specs.List.{All, find, list_all}
+use Rattle.kd_card.proofs.Prelude.{ltb, codes, ◌≡◌, ◌≢◌, ℕ, ◌+◌, ◌<◌, true, List, [], ◌∷◌, ◌++◌, length, get_or, drop, subst, ℤ, Option, Some, None, refl, sym, ap, ◌∙◌, append_assoc, length-append, arith, map, decimal, Bor, All, find, list_all, bytes_eq, decimal_injective, signed_decimal_injective, All-append, All-weaker, All-from_recursion, Place, One, place_text, place_rank, places, standing_text, IsWord, IsWithout, NumbersAreWords, TextsTellFirstParts, words_of, IsFirstPart, Look, Cable, Pair, Bar, Row, Name, PricedKind, look_name, name_text, look_text, look_rank, ends_rank, pair_rank, kind_words, AreEnds, IsPairInOrder, IsInForm, IsPricedKind, kinds_text, HasLook, HasKindWords, RanksTellLooks, signed_decimal, append-nil, HasWords, BeginsWithWord, EndsGroup, AtNothing, AtOther, IsNextKind, HasNoNext}
 use Rattle.std.specs.Option.{unwrap_or}
-use Rattle.std.specs.Str.{bytes_eq}
-use Rattle.std.proofs.lemmas.Fmt.{decimal_injective, signed_decimal_injective}
-use Rattle.std.proofs.lemmas.List.Elements.{All-append, All-weaker, All-from_recursion}
-use Rattle.kd_tables.specs.declared.place.Place.{Place}
-use Rattle.kd_tables.specs.declared.place.Place.TheVariants.{One}
-use Rattle.kd_tables.specs.Places.{place_text, place_rank, places, standing_text}
-use Rattle.kd_state.specs.Words.{IsWord, IsWithout, NumbersAreWords, TextsTellFirstParts, words_of, IsFirstPart}
-use Rattle.kd_card.specs.declared.look.Look.{Look}
-use Rattle.kd_card.specs.declared.look.Look.TheVariants.{Cable, Pair, Bar, Row}
-use Rattle.kd_card.specs.declared.look.Name.{Name}
 use Rattle.kd_card.specs.declared.look.Name.TheVariants as names
-use Rattle.kd_card.specs.declared.kinds.PricedKind.{PricedKind}
-use Rattle.kd_card.specs.Kinds.{look_name, name_text, look_text, look_rank, ends_rank, pair_rank, kind_words, AreEnds, IsPairInOrder, IsInForm, IsPricedKind, kinds_text, HasLook, HasKindWords}
-use Rattle.kd_card.specs.Laws.{RanksTellLooks}
-use Rattle.kd_card.proofs.Lines.{Laws, bytes_above, line_has_words, same_words}
+use Rattle.kd_card.proofs.Lines.{bytes_above, same_words, some_bytes, no_first_part}
 use Rattle.kd_card.proofs.CardWords.{word_by_bytes, bytes_are_word, word_by_test, signed_word}
 use Rattle.kd_card.proofs.PriceTexts.{small}
-use Rattle.std.specs.Fmt.{signed_decimal}
-use Rattle.std.proofs.lemmas.List.{append-nil}
-use Rattle.kd_card.specs.declared.group.Group.{Group}
-use Rattle.kd_card.specs.declared.group.Group.TheVariants.{OfCables, OfBars}
-use Rattle.kd_card.specs.CardText.{row_name}
-use Rattle.kd_card.specs.CardFault.{IsFirstWord, BeginsWithWord, IsNextKind}
+use Rattle.kd_card.specs.Reading.{IsFirstWord, EndsAt, IsBadAt}
 
 -- ---- names and places by their texts
 
@@ -167,30 +148,66 @@ ranks_tell_looks look other named x y e = cc
 pub begins : {text words rest first : List ℕ} → IsFirstPart 10 text words rest → IsFirstWord words first → BeginsWithWord first text
 begins {words} {rest} ends f = record { behind = f.behind; rest = rest; has = record { line = words; first = ends; parts = f.words } }
 
-pub no_group : (first : List ℕ) → first ≢ name_text names.Cable → first ≢ name_text names.Bar → (group : Group) → first ≢ name_text (row_name group)
-no_group first a b OfCables = a
-no_group first a b OfBars = b
-
 pub no_count : (name : Name) (look count price : List ℕ) → decimal 0 ≡ count
     → (kind : PricedKind) → ¬ (HasKindWords name (name_text name ∷ look ∷ count ∷ price ∷ []) kind)
 no_count name look count price zero kind has =
     let is : kind.count ≡ 0 = decimal_injective kind.count 0 (omega arith) (omega arith) (ap (λ w. get_or w 2 []) has.written ∙ sym zero) in
     omega arith
 
-module _ (laws : Laws) {name : Name} {text words rest : List ℕ} (ends : IsFirstPart 10 text words rest) where
+module _ (tells : TextsTellFirstParts) where
+  one_word : {bytes word other : List ℕ} → BeginsWithWord word bytes → BeginsWithWord other bytes → word ≡ other
+  one_word a b = ap (λ words. get_or words 0 []) (same_words tells a.has b.has).0
+
+  -- the line of a kind begins with its name
+  pub kind_begins : {name : Name} {floor : ℕ} {bytes : List ℕ} {kind : PricedKind} {rest : List ℕ}
+      → IsNextKind name floor bytes kind rest → BeginsWithWord (name_text name) bytes
+  kind_begins {bytes} {kind} {rest} next = record {
+    behind = drop 1 (kind_words kind);
+    rest = rest;
+    has = subst (λ n. HasWords bytes (name_text n ∷ drop 1 (kind_words kind)) rest) next.called next.line;
+  }
+
+  pub end_has_no_next : {name : Name} {bytes : List ℕ} (floor : ℕ) → EndsGroup name bytes → HasNoNext name floor bytes
+  end_has_no_next floor (AtNothing none) kind rest next = some_bytes next.line none
+  end_has_no_next floor (AtOther word begins differs) kind rest next = differs (one_word begins (kind_begins next))
+
+  pub ends_at : {name : Name} {bytes : List ℕ} (floor : ℕ) → EndsGroup name bytes → EndsAt name floor bytes
+  ends_at floor ends = record { ends = ends; none_more = end_has_no_next floor ends }
+
+  -- there are bytes without LF
+  pub unended : {name : Name} {bytes : List ℕ} (floor : ℕ) → bytes ≢ [] → IsWithout 10 bytes → IsBadAt name floor bytes
+  unended floor some without = record {
+    goes_on = λ ends. elim ends [
+      | AtNothing none ↦ some none
+      | AtOther word begins differs ↦ no_first_part begins.has.first without
+    ];
+    none_more = λ kind rest next. no_first_part next.line.first without;
+  }
+
+  -- or a line of that name that isn't a kind's
+  pub no_kind : {name : Name} {bytes : List ℕ} (floor : ℕ) → BeginsWithWord (name_text name) bytes → HasNoNext name floor bytes
+      → IsBadAt name floor bytes
+  no_kind floor named none = record {
+    goes_on = λ ends. elim ends [
+      | AtNothing nil ↦ some_bytes named.has nil
+      | AtOther word begins differs ↦ differs (one_word begins named)
+    ];
+    none_more = none;
+  }
+
+module _ (tells : TextsTellFirstParts) {name : Name} {text words rest : List ℕ} (ends : IsFirstPart 10 text words rest) where
   pub words_are : {floor : ℕ} {kind : PricedKind} {more : List ℕ} → IsNextKind name floor text kind more → HasKindWords name (words_of words) kind
   words_are {kind} {more} next =
-      let has = line_has_words laws (kind_words kind) more (λ none. cc) (kind_is_words laws.numbers kind next.good) next.line in
       record {
         called = next.called;
         good = next.good;
-        written = (same_words laws has (record { line = words; first = ends; parts = refl })).0;
+        written = (same_words tells next.line (record { line = words; first = ends; parts = refl })).0;
       }
 
   pub low_next : {floor rank : ℕ} {kind : PricedKind} → HasKindWords name (words_of words) kind → rank ≡ look_rank kind.look → rank < floor
       → (other : PricedKind) (more : List ℕ) → ¬ (IsNextKind name floor text other more)
   low_next {kind} has ranked low other more next =
-      let same : kind ≡ other = same_kind laws.first_parts kind other has.good next.good (has.written ∙ sym (words_are next).written) in
+      let same : kind ≡ other = same_kind tells kind other has.good next.good (has.written ∙ sym (words_are next).written) in
       omega (arith, ap (λ (k : PricedKind). look_rank k.look) same)
 
 -- four words

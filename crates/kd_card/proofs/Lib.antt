@@ -1,3 +1,4 @@
+pub mod Prelude
 pub mod Lines
 pub mod PriceTexts
 pub mod CardWords

@@ -1,25 +1,7 @@
 -- Lines of words, as they are written and as they are split.
-use Rattle.std.proofs.Common.{◌≡◌, ◌≢◌, ℕ, ◌<◌, true, false, eqb, ltb, List, [], ◌∷◌, ◌++◌, length, map, get_or, take, drop, refl, sym, ap, subst, ◌∙◌, append_assoc, length-append, arith, ℤ}
-use Rattle.std.specs.List.{All, list_all, flat_map}
-use Rattle.std.specs.Fmt.{signed_decimal}
+use Rattle.kd_card.proofs.Prelude.{◌≡◌, ◌≢◌, ℕ, ◌<◌, true, false, eqb, ltb, List, [], ◌∷◌, ◌++◌, length, map, get_or, take, drop, refl, sym, ap, subst, ◌∙◌, append_assoc, length-append, arith, ℤ, All, list_all, flat_map, signed_decimal, take-append_seam, pointwise, ne_eqb, ltb-true, append-nil, append_cancel_left, get_or_at, take-append-drop, flat_map-append, AllPass-from_list_all, All-weaker, All-append, All-push, flat_map-map, Setting, words_of, line_of, IsWord, IsWithout, IsFirstPart, TextsTellFirstParts, LinesSplitIntoWords, WordsMakeOneLine, NumbersAreWords, setting_words, setting_line, list_text, IsInRange, BeginsWith, BeginsWithLine, PriceParts, Version, version_of, price_sum, head_words, settings_words, price_words, sum_words, lines_text, price_lines, card_text, with_line, HasWords}
 use Rattle.std.specs.Cmp.Lexicographic.{same_text, other_text}
-use Rattle.std.proofs.Math.Seq.{take-append_seam}
-use lib.Pointwise.{pointwise}
-use Rattle.std.proofs.lemmas.Bool.{ne_eqb, ltb-true}
-use Rattle.std.proofs.lemmas.List.{append-nil, append_cancel_left, get_or_at, take-append-drop}
-use Rattle.std.proofs.lemmas.List.Concat.{flat_map-append}
-use Rattle.std.proofs.lemmas.List.Sums.{AllPass-from_list_all}
-use Rattle.std.proofs.lemmas.List.Elements.{All-weaker, All-append, All-push}
-use Rattle.std.proofs.lemmas.List.Folds.{flat_map-map}
-use Rattle.std.proofs.lemmas.List.Splits.{slice_split_none, slice_split_at}
-use Rattle.kd_state.specs.declared.setting.Setting.{Setting}
-use Rattle.kd_state.specs.Words.{words_of, line_of, IsWord, IsWithout, IsFirstPart, TextsTellFirstParts, LinesSplitIntoWords, WordsMakeOneLine, NumbersAreWords}
-use Rattle.kd_state.specs.Line.{setting_words, setting_line, list_text, IsInRange, BeginsWith, BeginsWithLine}
-use Rattle.kd_card.specs.declared.prices.PriceParts.{PriceParts}
-use Rattle.kd_card.specs.declared.prices.Version.{Version}
-use Rattle.kd_card.specs.Prices.{version_of, price_sum}
-use Rattle.kd_card.specs.CardText.{head_words, settings_words, price_words, sum_words, lines_text, price_lines, card_text}
-use Rattle.kd_card.specs.CardFault.{with_line, HasWords}
+use Rattle.std.proofs.lemmas.List.Splits.{slice_split_none, slice_split_at, join_with_byte-slice_split}
 
 -- ---- writing
 
@@ -119,6 +101,20 @@ same_behind tells name number value more plain first without e =
       without = All-append (λ c. c ≢ 10) name value plain without;
     })).0
 
+pub not_behind : {text : List ℕ} (name : List ℕ) → IsWithout 10 name
+    → ((value rest : List ℕ) → ¬ (IsFirstPart 10 text (name ++ value) rest)) → (value more : List ℕ) → IsWithout 10 value
+    → text ≢ name ++ (value ++ 10 ∷ more)
+not_behind name plain none value more without e =
+    none value more (record {
+      joined = e ∙ sym (append_assoc name value (10 ∷ more));
+      without = All-append (λ c. c ≢ 10) name value plain without;
+    })
+
+-- a name with a space at its end, and a value
+pub name_and_value : {name : List ℕ} (word value more : List ℕ) → name ≡ word ++ 32 ∷ []
+    → with_line (word ∷ value ∷ []) more ≡ name ++ (value ++ 10 ∷ more)
+name_and_value word value more is = rw is (simp append_assoc)
+
 -- ---- the words of a line
 
 spaceless : (word : List ℕ) → IsWithout 32 word → All (λ b. eqb b 32 ≡ false) word
@@ -130,6 +126,19 @@ words_of_last rest without = slice_split_none (λ b. eqb b 32) rest (spaceless r
 pub words_of_first : {text word rest : List ℕ} → IsFirstPart 32 text word rest → words_of text ≡ word ∷ words_of rest
 words_of_first {text} {word} {rest} first =
     ap words_of first.joined ∙ slice_split_at (λ b. eqb b 32) word 32 rest (spaceless word first.without) refl
+
+pub is_line : {bytes : List ℕ} {words : List (List ℕ)} {rest : List ℕ} → HasWords bytes words rest
+    → bytes ≡ with_line words rest
+is_line {rest} has =
+    has.first.joined ∙ ap (λ line. line ++ 10 ∷ rest) (sym (join_with_byte-slice_split 32 has.line) ∙ ap line_of has.parts)
+
+pub some_bytes : {bytes rest : List ℕ} {words : List (List ℕ)} → HasWords bytes words rest → bytes ≢ []
+some_bytes {rest} has none = omega (arith, ap length (sym has.first.joined ∙ none), length-append has.line (10 ∷ rest))
+
+pub same_words : TextsTellFirstParts → {bytes rest more : List ℕ} {words others : List (List ℕ)} → HasWords bytes words rest
+    → HasWords bytes others more → (words ≡ others) × (rest ≡ more)
+same_words tells a b =
+    let parts = same_first_part tells a.first b.first in (sym a.parts ∙ ap words_of parts.0 ∙ b.parts, parts.1)
 
 -- what the laws of kd_state say of lines
 pub record Laws : Type 0 where
@@ -146,12 +155,6 @@ module _ (laws : Laws) where
     first = record { joined = e; without = laws.one_line words are };
     parts = laws.split words some are;
   }
-
-  pub same_words : {bytes rest more : List ℕ} {words others : List (List ℕ)} → HasWords bytes words rest → HasWords bytes others more
-      → (words ≡ others) × (rest ≡ more)
-  same_words a b =
-      let parts = same_first_part laws.first_parts a.first b.first in
-      (sym a.parts ∙ ap words_of parts.0 ∙ b.parts, parts.1)
 
 -- ---- a line that begins with a name
 

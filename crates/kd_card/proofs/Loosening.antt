@@ -1,36 +1,11 @@
 -- A setting that changes no cable and no bar puts at most one loose thing right; the others leave what is loose.
-use Rattle.std.proofs.Common.{◌≡◌, ◌≢◌, ℕ, zero, suc, ◌+◌, ◌-◌, ◌≤◌, nat_eq, Bool, true, false, not, cond, List, [], ◌∷◌, get_or, set, map, zip, sum, count_by, AllPairs, Option, Some, None, slice_get, unwrap_or, inl, inr, refl, sym, ap, ◌∙◌, subst, arith}
-use Rattle.std.specs.List.{AllByRecursion, sum_by}
-use Rattle.std.specs.Option.{option_map_or}
-use Rattle.std.specs.Str.{bytes_eq}
-use Rattle.std.proofs.lemmas.Bool.{cases_eq, eq-eqb, false≢true}
-use Rattle.std.proofs.lemmas.List.Elements.{recursion_from_All}
-use Rattle.std.proofs.lemmas.List.{map-id}
-use Rattle.std.proofs.lemmas.List.Sums.{sum-map, sum_by-cons}
-use Rattle.std.proofs.lemmas.Option.{unwrap_or-slice_get}
-use Rattle.std.proofs.lemmas.Slice.Eq.{bytes_eq-Decides}
-use Rattle.kd_tables.specs.declared.model.Model.{Model}
+use Rattle.kd_card.proofs.Prelude.{◌≡◌, ◌≢◌, ℕ, zero, suc, ◌+◌, ◌-◌, ◌≤◌, nat_eq, Bool, true, false, not, cond, List, [], ◌∷◌, get_or, set, map, zip, sum, count_by, AllPairs, Option, Some, None, slice_get, unwrap_or, inl, inr, refl, sym, ap, ◌∙◌, subst, arith, AllByRecursion, sum_by, option_map_or, bytes_eq, cases_eq, eq-eqb, false≢true, recursion_from_All, map-id, sum-map, sum_by-cons, unwrap_or-slice_get, bytes_eq-Decides, Model, wheel_text, reflector_text, RotorParts, PinParts, Parts, Rotor, Pin, Setting, Pull, Put, Seat, SeatReflector, RingTo, Turn, PinTo, LugTo, same_wheel, same_reflector, place_in_box, model_of, ring_at, letter_at, why_refused, seated_in, without, with_letter, changed, RotorDay, PinDay, Day, OfRotors, OfPins, IsLegalDay, day_model, ReadsAs, DaysWheelsHaveTheirPlaces, differ, unless_same, loose_slots, loose_reflector, loose_rings, loose_letters, loose_pins, loose_pin_letters, loose_count, is_priced}
 use Rattle.kd_tables.specs.declared.wheel.Wheel.{Wheel}
 use Rattle.kd_tables.specs.Rings.{ring_of, place_on}
-use Rattle.kd_tables.specs.Tables.{wheel_text, reflector_text}
 use Rattle.kd_pins.specs.declared.pin_set.PinSet.{PinSet}
 use Rattle.kd_pins.specs.PinWheels.{pins_of}
-use Rattle.kd_state.specs.declared.machine.rotor_parts.RotorParts.{RotorParts}
-use Rattle.kd_state.specs.declared.machine.pin_parts.PinParts.{PinParts}
-use Rattle.kd_state.specs.declared.machine.parts.Parts.{Parts}
-use Rattle.kd_state.specs.declared.machine.parts.Parts.TheVariants.{Rotor, Pin}
-use Rattle.kd_state.specs.declared.setting.Setting.{Setting}
-use Rattle.kd_state.specs.declared.setting.Setting.TheVariants.{Pull, Put, Seat, SeatReflector, RingTo, Turn, PinTo, LugTo}
 use Rattle.kd_state.specs.declared.sheet_day.rotor_entry.SheetWheel.{SheetWheel}
-use Rattle.kd_state.specs.Box.{same_wheel, same_reflector, place_in_box}
 use Rattle.kd_state.specs.Pins.{pin_set, wheel_pins, with_pin}
-use Rattle.kd_state.specs.Machine.{model_of, ring_at, letter_at}
-use Rattle.kd_state.specs.Setting.{why_refused, seated_in, without, with_letter, changed}
-use Rattle.kd_state.specs.SheetDay.{RotorDay, PinDay, Day, OfRotors, OfPins, IsLegalDay, day_model}
-use Rattle.kd_state.specs.OnKey.{ReadsAs}
-use Rattle.kd_state.specs.Laws.{DaysWheelsHaveTheirPlaces}
-use Rattle.kd_state.specs.Costs.{differ, unless_same, loose_slots, loose_reflector, loose_rings, loose_letters, loose_pins, loose_pin_letters, loose_count}
-use Rattle.kd_card.specs.Proving.{is_priced}
 use Rattle.kd_card.proofs.Counts.{count_by-cons, at_most_one}
 use Rattle.kd_card.proofs.Falling.{unless_same_at_most, one_less, not_differing}
 

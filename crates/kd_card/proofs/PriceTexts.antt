@@ -1,29 +1,9 @@
 -- Prices by their texts.
-use Rattle.std.proofs.Common.{◌≡◌, ◌≢◌, ℕ, suc, ◌^◌, ◌<◌, ◌≤◌, Bool, true, false, List, [], ◌∷◌, length, map, get_or, Option, Some, None, MatchOption, Result, Ok, Err, MatchResult, Decides, Bor, ◌↔◌, IsTrue, is_some, refl, sym, ap, subst, ◌∙◌, arith, ℤ, pos, negsuc, unsigned_abs, FitsSigned, w16, to_z, of_z, inr, ◌++◌}
-use Rattle.std.specs.Bool.{then_some}
+use Rattle.kd_card.proofs.Prelude.{◌≡◌, ◌≢◌, ℕ, suc, ◌^◌, ◌<◌, ◌≤◌, Bool, true, false, List, [], ◌∷◌, length, map, get_or, Option, Some, None, MatchOption, Result, Ok, Err, MatchResult, Decides, Bor, ◌↔◌, IsTrue, is_some, refl, sym, ap, subst, ◌∙◌, arith, ℤ, pos, negsuc, unsigned_abs, FitsSigned, w16, to_z, of_z, then_some, IsUtf8, ParsesSigned, signed_decimal, All, AllByRecursion, false≢true, fits_signed_from_abs, to_z-of_z, get_or-map, length-map, All-cons, recursion_from_All, All-from_recursion, All-map, All-weaker, words_of, IsWithout, IsFirstPart, IsPriceText, SaysPrices, BadLine, PriceMissing, Refused, Found, parse-signed_decimal, IsAscii-signed, length-decimal-le, AreWithinReach}
 use Rattle.std.specs.Result.{result_ok}
 use Rattle.std.specs.Int.Signed.{mag}
-use Rattle.std.specs.Str.{IsUtf8}
-use Rattle.std.specs.Str.Parse.{ParsesSigned}
-use Rattle.std.specs.Fmt.{signed_decimal}
-use Rattle.std.specs.List.{All}
-use Rattle.std.proofs.lemmas.Bool.{false≢true}
 use Rattle.std.proofs.lemmas.Str.{IsUtf8-from_ascii}
-use Rattle.std.proofs.lemmas.Int.{fits_signed_from_abs, to_z-of_z}
-use Rattle.std.proofs.lemmas.List.{get_or-map, length-map}
-use Rattle.std.proofs.lemmas.List.Elements.{All-cons, recursion_from_All, All-from_recursion, All-nil, All-map, All-weaker}
-use Rattle.kd_state.specs.Words.{words_of, IsWithout, IsFirstPart, line_of}
-use Rattle.kd_card.specs.CardFault.{IsPriceText, with_line, HasWords, IsCountFault, IsPricesFault, NoLine, NoEnd, OtherWord, OtherPrices, AreRows}
 use Rattle.kd_card.proofs.Lines.{words_of_first, words_of_last}
-use Rattle.std.proofs.lemmas.Fmt.{parse-signed_decimal, IsAscii-signed, length-decimal-le}
-use Rattle.std.proofs.lemmas.List.Splits.{join_with_byte-slice_split}
-use Rattle.kd_card.specs.declared.fault.CardFault.{CardFault}
-use Rattle.kd_card.specs.declared.fault.CardFault.TheVariants.{PriceMissing}
-use Rattle.kd_card.specs.Prices.{AreWithinReach}
-use Rattle.kd_card.specs.declared.group.Group.{Group}
-use Rattle.kd_card.specs.declared.group.Group.TheVariants.{OfCables, OfBars}
-use Rattle.kd_card.specs.CardText.{row_word, price_count, price_words}
-use Rattle.kd_card.specs.Reading.{BeginsWithPrices}
 
 pub fits : (p : ℤ) → unsigned_abs p ≤ 9999 → FitsSigned w16 p
 fits p within = fits_signed_from_abs w16 p (omega (arith, within))
@@ -106,68 +86,30 @@ all_price_texts prices reach =
     All-map IsPriceText signed_decimal prices
     (All-weaker (λ price. unsigned_abs price ≤ 9999) (λ price. IsPriceText (signed_decimal price)) (λ price within. (price, within, refl)) prices reach)
 
-pub other_count : {number line : ℕ} {words : List (List ℕ)} (prices : List ℤ) → words ≡ map signed_decimal prices → AreWithinReach prices
-    → length prices ≢ number → IsCountFault number line words PriceMissing
-other_count prices read reach other =
-    inr (
-      rw read (all_price_texts prices reach),
-      λ count. other (omega (arith, count, ap length read, length-map prices signed_decimal)),
-      refl,
-    )
+priced : (words : List (List ℕ)) → AllByRecursion IsPriceText words
+    → (prices : List ℤ) × (words ≡ map signed_decimal prices) × AllByRecursion (λ price. unsigned_abs price ≤ 9999) prices
+priced [] all = ([], refl, tt)
+priced (word ∷ words) (is, all) =
+    let rest = priced words all in
+    let written = is.2 in
+    let others = rest.1 in
+    (is.0 ∷ rest.0, cc, (is.1, rest.2))
 
--- ---- a line
+-- ---- what is said of words as prices
 
-pub has_words : {text line first after rest : List ℕ} → IsFirstPart 10 text line rest → IsFirstPart 32 line first after
-    → HasWords text (first ∷ words_of after) rest
-has_words {line} ends splits = record { line = line; first = ends; parts = words_of_first splits }
+module _ (number line : ℕ) {words : List (List ℕ)} where
+  pub other_count : (prices : List ℤ) → words ≡ map signed_decimal prices → AreWithinReach prices → length prices ≢ number
+      → SaysPrices number line words (Err PriceMissing)
+  other_count prices are reach differs =
+      Found prices (are, reach) (Refused PriceMissing ((λ same count. differs count), refl) refl)
 
-abbrev pub IsDue : List ℕ → ℕ → List ℕ → ℕ → Type 0
-IsDue word count first number = (first ≡ word) × (number ≡ count)
+  pub too_many : All IsPriceText words → number < length words → SaysPrices number line words (Err PriceMissing)
+  too_many all many =
+      let are = priced words (recursion_from_All IsPriceText words all) in
+      other_count are.0 are.1 (All-from_recursion _ are.0 are.2)
+      (λ count. omega (arith, many, count, ap length are.1, length-map are.0 signed_decimal))
 
-pub one_word : {word : List ℕ} {count line : ℕ} {text first rest : List ℕ} (test : Bool) → Decides test (first ≡ word) → 0 < count
-    → HasWords text (first ∷ []) rest → IsPricesFault (IsDue word count) line text PriceMissing
-one_word {count} {first} {rest} true same some has =
-    OtherPrices first [] rest count has (same.0 refl, refl) (inr (All-nil IsPriceText, λ none. omega (arith, none, some), refl))
-one_word {first} {rest} false same some has = OtherWord first [] rest has (λ number due. false≢true (same.1 due.0)) refl
-
-pub word_alone : {text first rest : List ℕ} → IsFirstPart 10 text first rest → IsWithout 32 first → HasWords text (first ∷ []) rest
-word_alone {first} ends without = record { line = first; first = ends; parts = words_of_last first without }
-
-pub read_line : {text words first after rest : List ℕ} (word : List ℕ) (prices : List ℤ) → IsFirstPart 10 text words rest → IsFirstPart 32 words first after
-    → first ≡ word → words_of after ≡ map signed_decimal prices → AreWithinReach prices → BeginsWithPrices text word prices rest
-read_line {words} {after} {rest} word prices ends splits same are reach =
-    let line : words ≡ line_of (price_words word prices) =
-    sym (join_with_byte-slice_split 32 words) ∙ ap line_of (words_of_first splits ∙ ap (λ w. w ∷ words_of after) same ∙ ap (λ ws. word ∷ ws) are) in
-    record { text = ends.joined ∙ ap (λ l. l ++ 10 ∷ rest) line; reach = reach }
-
--- ---- the first letter of a line tells bars from cables
-
-line_begins : (b : ℕ) (bs : List ℕ) (words : List (List ℕ)) (rest : List ℕ) → get_or (with_line ((b ∷ bs) ∷ words) rest) 0 0 ≡ b
-line_begins b bs [] rest = refl
-line_begins b bs (word ∷ words) rest = refl
-
-text_begins : {text first : List ℕ} {words : List (List ℕ)} {rest : List ℕ} (b : ℕ) (bs : List ℕ) → HasWords text (first ∷ words) rest
-    → first ≡ b ∷ bs → get_or text 0 0 ≡ b
-text_begins {words} {rest} b bs has same =
-    let line = sym (join_with_byte-slice_split 32 has.line) ∙ ap line_of (has.parts ∙ ap (λ w. w ∷ words) same) in
-    ap (λ t. get_or t 0 0) (has.first.joined ∙ ap (λ l. l ++ 10 ∷ rest) line) ∙ line_begins b bs words rest
-
--- bars where the text begins with B
-abbrev pub IsKindOf : Group → List ℕ → Type 0
-IsKindOf OfBars text = get_or text 0 0 ≡ 66
-IsKindOf OfCables text = get_or text 0 0 ≢ 66
-
-same_kind : {text first : List ℕ} {words : List (List ℕ)} {rest : List ℕ} (kind other : Group) → IsKindOf kind text → HasWords text (first ∷ words) rest
-    → first ≡ row_word other → first ≡ row_word kind
-same_kind OfCables OfCables is has e = e
-same_kind OfBars OfBars is has e = e
-same_kind OfBars OfCables is has e = let begins = text_begins 67 _ has e in absurd (omega (arith, is, begins))
-same_kind OfCables OfBars is has e = absurd (is (text_begins 66 _ has e))
-
-pub rows_fault : {line : ℕ} {text : List ℕ} {fault : CardFault} (kind : Group) → IsKindOf kind text
-    → IsPricesFault (IsDue (row_word kind) (price_count kind)) line text fault → IsPricesFault AreRows line text fault
-rows_fault kind is (NoLine none f) = NoLine none f
-rows_fault kind is (NoEnd some without f) = NoEnd some without f
-rows_fault kind is (OtherWord first words rest has none f) =
-    OtherWord first words rest has (λ number due. none (price_count kind) (same_kind kind due.0 is has due.1, refl)) f
-rows_fault kind is (OtherPrices first words rest number has due wrong) = OtherPrices first words rest number has (kind, due.0, due.1) wrong
+  pub no_prices : ¬ (All IsPriceText words) → SaysPrices number line words (Err (BadLine line))
+  no_prices none =
+      Refused (BadLine line)
+      ((λ prices are. none (subst (All IsPriceText) (sym are.0) (all_price_texts prices are.1))), refl) refl

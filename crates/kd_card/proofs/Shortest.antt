@@ -1,36 +1,13 @@
 -- No list of settings that leads to the day has fewer than there are loose things and prices in sum, and a card that proves
 -- itself has as many.
-use Rattle.std.proofs.Common.{◌≡◌, ℕ, suc, ◌+◌, ◌<◌, ◌≤◌, Bool, true, false, cond, List, [], ◌∷◌, ◌++◌, length, get_or, map, zip, fold, Contains, Option, ℤ, pos, ◌+ℤ◌, ◌≤ℤ◌, IsPermutation, refl, sym, ap, ◌∙◌, subst, arith, zero, None}
-use Rattle.std.proofs.lemmas.Int.{ints}
-use Rattle.std.proofs.lemmas.List.Sorted.{length_permutation, Contains-permutation, IsPermutation-sym}
-use Rattle.kd_tables.specs.declared.model.Model.{Model}
+use Rattle.kd_card.proofs.Prelude.{◌≡◌, ℕ, suc, ◌+◌, ◌<◌, ◌≤◌, Bool, true, false, cond, List, [], ◌∷◌, ◌++◌, length, get_or, map, zip, fold, Contains, Option, ℤ, pos, ◌+ℤ◌, ◌≤ℤ◌, IsPermutation, refl, sym, ap, ◌∙◌, subst, arith, zero, None, ints, length_permutation, Contains-permutation, IsPermutation-sym, Model, reflectors_of, letters_plugged, RotorParts, PinParts, Parts, Rotor, Pin, Setting, model_of, IsMachine, Leads, changed, RotorDay, PinDay, Day, OfRotors, OfPins, day_model, IsLegalDay, ReadsAs, cable_cost, bar_cost, columns_of, cost_table, loose_count, PriceParts, Cables, Bars, ArePrices, Fits, price_sum, AreTight, is_priced, priced_count, AreOfKind, IsNeeded, AreNeeded, Same, Expanded, ProvesByNumber, FittingPricesBoundLists, ProvingCardsAreAsLong, ProvingCardsAreShortest, ProvingPricesAreTight, get_or_default, get_or-map, length-zip, get_or-zip, One}
 use Rattle.kd_tables.specs.declared.model.Model.TheVariants.{M209}
 use Rattle.kd_tables.specs.declared.reflector.Reflector.{Reflector}
-use Rattle.kd_tables.specs.Tables.{reflectors_of}
-use Rattle.kd_enigma.specs.Plugs.{letters_plugged}
-use Rattle.kd_state.specs.declared.machine.rotor_parts.RotorParts.{RotorParts}
-use Rattle.kd_state.specs.declared.machine.pin_parts.PinParts.{PinParts}
-use Rattle.kd_state.specs.declared.machine.parts.Parts.{Parts}
-use Rattle.kd_state.specs.declared.machine.parts.Parts.TheVariants.{Rotor, Pin}
-use Rattle.kd_state.specs.declared.setting.Setting.{Setting}
-use Rattle.kd_state.specs.Machine.{model_of, IsMachine}
-use Rattle.kd_state.specs.Setting.{Leads, changed}
-use Rattle.kd_state.specs.SheetDay.{RotorDay, PinDay, Day, OfRotors, OfPins, day_model, IsLegalDay}
-use Rattle.kd_state.specs.OnKey.{ReadsAs}
-use Rattle.kd_state.specs.Costs.{cable_cost, bar_cost, columns_of, cost_table, loose_count}
-use Rattle.kd_card.specs.declared.prices.PriceParts.{PriceParts}
-use Rattle.kd_card.specs.declared.prices.PriceParts.TheVariants.{Cables, Bars}
-use Rattle.kd_card.specs.Prices.{ArePrices, Fits, price_sum, AreTight}
-use Rattle.kd_card.specs.Proving.{is_priced, priced_count, AreOfKind, IsNeeded, AreNeeded, Same, Expanded, ProvesByNumber}
-use Rattle.kd_card.specs.Laws.{FittingPricesBoundLists, ProvingCardsAreAsLong, ProvingCardsAreShortest, ProvingPricesAreTight}
 use Rattle.kd_card.proofs.Duality.{fold_of_both, prices_with-IsPermutation, prices_with-zip, pairing_cost, fitting_prices, FitAll-IsPermutation, fit_all, sum_of, prices_with, FitAll, without_first}
 use Rattle.kd_card.proofs.Counts.{count_by-cons, once_of_distinct}
 use Rattle.kd_card.proofs.Falling.{paired_cost, falls, machines_have_all, list_keeps}
 use Rattle.kd_card.proofs.Loosening.{lowers, leaves, model_of-changed, nothing_loose}
 use Rattle.kd_card.proofs.Pairing.{cables_paired, bars_paired, Told}
-use Rattle.std.proofs.lemmas.List.{get_or_default, get_or-map}
-use Rattle.std.proofs.lemmas.Slice.Zip.{length-zip, get_or-zip}
-use Rattle.kd_tables.specs.declared.place.Place.TheVariants.{One}
 
 -- A setting lowers the loose things and the pairing's cost together by at most one, and so many settings by at most so many.
 either : (b : Bool) → cond b 0 1 + cond b 1 0 ≡ 1

@@ -1,23 +1,24 @@
--- Why bytes are no card: up to here they are one, and what follows is not what is due. Lines are counted from 1.
-use Rattle.std.specs.Prelude.{codes, decimal, ◌≡◌, ◌≢◌, ℕ, ◌+◌, ◌≤◌, ◌⊎◌, List, [], ◌∷◌, ◌++◌, length, All, ℤ, unsigned_abs}
+-- What bytes are as a card, or the first fault that they have. Lines are counted from 1.
+use Rattle.std.specs.Prelude.{codes, decimal, ◌≡◌, ◌≢◌, ℕ, ◌+◌, ◌≤◌, ◌⊎◌, List, [], ◌∷◌, ◌++◌, length, map, All, ℤ, unsigned_abs, Bool, true, false, Ok, Err}
 use Rattle.std.specs.Fmt.{signed_decimal}
 use Rattle.kd_state.specs.declared.setting.Setting.{Setting}
-use Rattle.kd_state.specs.Words.{words_of, line_of, IsWithout, IsFirstPart}
-use Rattle.kd_state.specs.Line.{list_text, IsInRange, BeginsWithNoLine}
+use Rattle.kd_state.specs.Words.{words_of, line_of, IsFirstPart}
+use Rattle.kd_state.specs.Line.{BeginsWith, BeginsWithNoLine}
 use Rattle.kd_state.specs.SheetDay.{IsDayNumber}
 use Rattle.kd_card.specs.declared.prices.PriceParts.{PriceParts}
-use Rattle.kd_card.specs.declared.prices.PriceParts.TheVariants.{Cables, Bars, CableKinds, BarKinds}
+use Rattle.kd_card.specs.declared.prices.PriceParts.TheVariants.{Cables, Bars}
 use Rattle.kd_card.specs.declared.prices.Version.{Version}
 use Rattle.kd_card.specs.declared.prices.Version.TheVariants.{ByNumber, ByKind}
 use Rattle.kd_card.specs.declared.group.Group.{Group}
+use Rattle.kd_card.specs.declared.group.Group.TheVariants.{OfCables, OfBars}
 use Rattle.kd_card.specs.declared.look.Name.{Name}
-use Rattle.kd_card.specs.declared.look.Name.TheVariants as names
 use Rattle.kd_card.specs.declared.kinds.PricedKind.{PricedKind}
 use Rattle.kd_card.specs.declared.fault.CardFault.{CardFault}
 use Rattle.kd_card.specs.declared.fault.CardFault.TheVariants.{BadHead, BadLine, TooMany, PriceMissing, CountWrong, Trailing}
+use Rattle.kd_card.specs.Steps.{Says, ◌>>=◌, Only, Finds, Demands, Takes}
 use Rattle.kd_card.specs.Kinds.{name_text, look_name, look_rank, kind_words, kinds_text, counted, IsPricedKind, AreKinds, AreCalled}
-use Rattle.kd_card.specs.Prices.{version_of, price_sum, ArePrices, AreWithinReach}
-use Rattle.kd_card.specs.CardText.{row_word, column_word, row_name, column_name, price_count, head_words, settings_words, price_words, sum_words, lines_text, price_lines}
+use Rattle.kd_card.specs.Prices.{price_sum, AreWithinReach}
+use Rattle.kd_card.specs.CardText.{row_word, column_word, row_name, column_name, price_count, head_words, price_lines, HaveKinds}
 
 -- ---- numbers and prices as they are written
 
@@ -29,36 +30,20 @@ abbrev pub IsNumberText : List ℕ → Type 0
 IsNumberText [] = ⊥
 IsNumberText (digit ∷ digits) = IsDigit digit × All IsDigit digits × ((digit ≡ 48) → (digits ≡ []))
 
--- the same with a - in front, where the number isn't 0
-abbrev pub IsSignedText : List ℕ → Type 0
-IsSignedText text = IsNumberText text ⊎ ((digits : List ℕ) × (text ≡ 45 ∷ digits) × IsNumberText digits × (digits ≢ codes "0"))
+-- the text of a number, or of a signed one: with a - in front, where it isn't 0
+abbrev pub IsNumeral : Bool → List ℕ → Type 0
+IsNumeral false text = IsNumberText text
+IsNumeral true text = IsNumberText text ⊎ ((digits : List ℕ) × (text ≡ 45 ∷ digits) × IsNumberText digits × (digits ≢ codes "0"))
 
 -- the text of a price
 abbrev pub IsPriceText : List ℕ → Type 0
 IsPriceText word = (price : ℤ) × (unsigned_abs price ≤ 9999) × (signed_decimal price ≡ word)
 
--- ---- a card's lines, one after another
+-- ---- lines
 
 -- the line of these words, with LF at its end, and what follows it
 abbrev pub with_line : List (List ℕ) → List ℕ → List ℕ
 with_line words rest = line_of words ++ 10 ∷ rest
-
--- The bytes are a card up to the settings, their number, the prices of the rows, or those of the columns; and this follows.
-pub record ToSettings (bytes : List ℕ) (version : Version) (day : ℕ) (settings : List Setting) (rest : List ℕ) : Type 0 where
-  pub text : bytes ≡ with_line (head_words version day) (list_text settings ++ rest)
-  pub of_month : IsDayNumber day
-  pub in_range : All IsInRange settings
-
-pub record ToNumber (bytes : List ℕ) (version : Version) (day : ℕ) (settings : List Setting) (rest : List ℕ) : Type 0 where
-  pub before : ToSettings bytes version day settings (with_line (settings_words (length settings)) rest)
-  pub few : length settings ≤ 192
-
-pub record ToRows (bytes : List ℕ) (day : ℕ) (settings : List Setting) (group : Group) (rows : List ℤ) (rest : List ℕ) : Type 0 where
-  pub before : ToNumber bytes ByNumber day settings (with_line (price_words (row_word group) rows) rest)
-  pub count : length rows ≡ price_count group
-  pub reach : AreWithinReach rows
-
--- ---- a line that isn't what is due
 
 -- the first line of the bytes, up to its LF, has these words between its spaces, and this follows it
 pub record HasWords (bytes : List ℕ) (words : List (List ℕ)) (rest : List ℕ) : Type 0 where
@@ -66,55 +51,87 @@ pub record HasWords (bytes : List ℕ) (words : List (List ℕ)) (rest : List �
   pub first : IsFirstPart 10 bytes line rest
   pub parts : words_of line ≡ words
 
--- The line is due that has this name and this text behind it. There is another text of that form; or there is no such line.
-pub data IsValueFault (IsForm : List ℕ → Type 0) (name due : List ℕ) (line : ℕ) (bytes : List ℕ) (fault : CardFault) : Type 0 where
-  OtherValue : (value rest : List ℕ) → bytes ≡ with_line (name ∷ value ∷ []) rest → IsForm value → value ≢ due → fault ≡ CountWrong
-      → IsValueFault IsForm name due line bytes fault
-  NoValue : ((value rest : List ℕ) → IsForm value → bytes ≢ with_line (name ∷ value ∷ []) rest) → fault ≡ BadLine line
-      → IsValueFault IsForm name due line bytes fault
+-- the line is due that has this name and this number behind it, as it might have others
+abbrev pub SaysValue : Bool → List ℕ → List ℕ → ℕ → List ℕ → Says CardFault (List ℕ)
+SaysValue signed name due line bytes = do
+  found ← Finds (λ (found : List ℕ × List ℕ). IsNumeral signed found.0 × (bytes ≡ with_line (name ∷ found.0 ∷ []) found.1)) (BadLine line)
+  _ ← Demands (found.0 ≡ due) CountWrong
+  Only found.1
 
--- The words are not as many prices as this: one is no price, or all are and they are more or fewer.
-abbrev pub IsCountFault : ℕ → ℕ → List (List ℕ) → CardFault → Type 0
-IsCountFault number line words fault =
-    (¬ (All IsPriceText words) × (fault ≡ BadLine line)) ⊎ (All IsPriceText words × (length words ≢ number) × (fault ≡ PriceMissing))
+-- a line of prices or of a kind is due: its words, and what follows it
+abbrev pub SaysLine : ℕ → List ℕ → Says CardFault (List (List ℕ) × List ℕ)
+SaysLine line bytes = do
+  _ ← Demands (bytes ≢ []) PriceMissing
+  Finds (λ (found : List (List ℕ) × List ℕ). HasWords bytes found.0 found.1) (BadLine line)
 
--- A line is due that begins with such a word, and has so many prices behind it. There is no line; or bytes without LF; or
--- a line that begins with another word; or the words behind it are not so many prices.
-pub data IsPricesFault (IsDue : List ℕ → ℕ → Type 0) (line : ℕ) (bytes : List ℕ) (fault : CardFault) : Type 0 where
-  NoLine : bytes ≡ [] → fault ≡ PriceMissing → IsPricesFault IsDue line bytes fault
-  NoEnd : bytes ≢ [] → IsWithout 10 bytes → fault ≡ BadLine line → IsPricesFault IsDue line bytes fault
-  OtherWord : (first : List ℕ) (words : List (List ℕ)) (rest : List ℕ) → HasWords bytes (first ∷ words) rest
-      → ((number : ℕ) → ¬ (IsDue first number)) → fault ≡ PriceMissing → IsPricesFault IsDue line bytes fault
-  OtherPrices : (first : List ℕ) (words : List (List ℕ)) (rest : List ℕ) (number : ℕ) → HasWords bytes (first ∷ words) rest
-      → IsDue first number → IsCountFault number line words fault → IsPricesFault IsDue line bytes fault
+-- and its first word is one of these: which one, the words behind it, and what follows the line
+abbrev pub SaysFirst : {K : Type 0} → (K → List ℕ) → ℕ → List ℕ → Says CardFault (K × List (List ℕ) × List ℕ)
+SaysFirst {K} word line bytes = do
+  found ← SaysLine line bytes
+  first ← Finds (λ (first : K × List (List ℕ)). found.0 ≡ word first.0 ∷ first.1) PriceMissing
+  Only (first.0, first.1, found.1)
 
--- the first word of the rows' line and their number, of cables or of bars; and of the columns' line
-abbrev pub AreRows : List ℕ → ℕ → Type 0
-AreRows first number = (kind : Group) × (first ≡ row_word kind) × (number ≡ price_count kind)
+-- ---- the head and the settings
 
-abbrev pub AreColumns : Group → List ℕ → ℕ → Type 0
-AreColumns kind first number = (first ≡ column_word kind) × (number ≡ price_count kind)
+-- a card's head, and what follows it
+pub record BeginsWithHead (bytes : List ℕ) (version : Version) (day : ℕ) (rest : List ℕ) : Type 0 where
+  pub text : bytes ≡ with_line (head_words version day) rest
+  pub of_month : IsDayNumber day
 
--- ---- the lines of kinds
+abbrev pub SaysHead : List ℕ → Says CardFault (Version × ℕ × List ℕ)
+SaysHead bytes = Finds (λ (head : Version × ℕ × List ℕ). BeginsWithHead bytes head.0 head.1 head.2) BadHead
 
--- this stands before the first space of the line, or is all of it
-pub record IsFirstWord (line first : List ℕ) : Type 0 where
-  pub behind : List (List ℕ)
-  pub words : words_of line ≡ first ∷ behind
+-- all settings, up to a line that is none; or one more than a card may have
+pub record BeginsWithSettings (bytes : List ℕ) (settings : List Setting) (rest : List ℕ) : Type 0 where
+  pub lines : BeginsWith bytes settings rest
+  pub few : length settings ≤ 192
+  pub none_more : BeginsWithNoLine rest
+
+abbrev pub SaysSettings : List ℕ → Says CardFault (List Setting × List ℕ)
+SaysSettings bytes (Ok list) = BeginsWithSettings bytes list.0 list.1
+SaysSettings bytes (Err fault) =
+    ((settings : List Setting) × (rest : List ℕ) × BeginsWith bytes settings rest × (length settings ≡ 193)) × (fault ≡ TooMany)
+
+abbrev pub SaysNumber : ℕ → List ℕ → Says CardFault (List ℕ)
+SaysNumber number bytes = SaysValue false (codes "SETTINGS") (decimal number) (number + 2) bytes
+
+-- ---- prices by number: two lines
+
+-- the first words of a card's prices
+abbrev pub first_text : Version → Group → List ℕ
+first_text ByNumber group = row_word group
+first_text ByKind group = name_text (row_name group)
+
+-- these words of a line are prices, and so many
+abbrev pub SaysPrices : ℕ → ℕ → List (List ℕ) → Says CardFault (List ℤ)
+SaysPrices number line words = do
+  prices ← Finds (λ prices. (words ≡ map signed_decimal prices) × AreWithinReach prices) (BadLine line)
+  _ ← Demands (length prices ≡ number) PriceMissing
+  Only prices
+
+abbrev pub SaysPriceLine : {K : Type 0} → (K → List ℕ) → (K → ℕ) → ℕ → List ℕ → Says CardFault (K × List ℤ × List ℕ)
+SaysPriceLine word number line bytes = do
+  first ← SaysFirst word line bytes
+  prices ← SaysPrices (number first.0) line first.1
+  Only (first.0, prices, first.2)
+
+abbrev pub numbered : Group → List ℤ → List ℤ → PriceParts
+numbered OfCables rows columns = Cables rows columns
+numbered OfBars rows columns = Bars rows columns
+
+abbrev pub SaysNumbered : ℕ → List ℕ → Says CardFault (PriceParts × List ℕ)
+SaysNumbered line bytes = do
+  rows ← SaysPriceLine (first_text ByNumber) price_count line bytes
+  columns ← SaysPriceLine (λ (_ : Unit {0}). column_word rows.0) (λ _. price_count rows.0) (line + 1) rows.2
+  Only (numbered rows.0 rows.1 columns.1, columns.2)
+
+-- ---- prices by kind: two groups of lines
 
 -- the first line of the bytes, which has LF at its end, begins with that word
 pub record BeginsWithWord (word bytes : List ℕ) : Type 0 where
   pub behind : List (List ℕ)
   pub rest : List ℕ
   pub has : HasWords bytes (word ∷ behind) rest
-
-abbrev pub BeginsWithName : Name → List ℕ → Type 0
-BeginsWithName name bytes = BeginsWithWord (name_text name) bytes
-
--- there are bytes, and no LF among them
-pub record IsUnended (bytes : List ℕ) : Type 0 where
-  pub some : bytes ≢ []
-  pub unended : IsWithout 10 bytes
 
 -- another word than the name begins the bytes, or there are none: a group of kinds ends there
 pub data EndsGroup (name : Name) (bytes : List ℕ) : Type 0 where
@@ -126,13 +143,11 @@ pub record IsNextKind (name : Name) (floor : ℕ) (bytes : List ℕ) (kind : Pri
   pub called : look_name kind.look ≡ name
   pub good : IsPricedKind kind
   pub above : floor ≤ look_rank kind.look
-  pub line : bytes ≡ with_line (kind_words kind) rest
+  pub line : HasWords bytes (kind_words kind) rest
 
--- there are bytes without LF, whatever they begin with; or a line of that name isn't that of a kind that may follow
-pub data IsBadKind (name : Name) (floor line : ℕ) (bytes : List ℕ) (fault : CardFault) : Type 0 where
-  Unended : IsUnended bytes → fault ≡ BadLine line → IsBadKind name floor line bytes fault
-  NoKind : BeginsWithName name bytes → ((kind : PricedKind) (rest : List ℕ) → ¬ (IsNextKind name floor bytes kind rest))
-      → fault ≡ BadLine line → IsBadKind name floor line bytes fault
+-- no such kind stands there
+abbrev pub HasNoNext : Name → ℕ → List ℕ → Type 0
+HasNoNext name floor bytes = (kind : PricedKind) (rest : List ℕ) → ¬ (IsNextKind name floor bytes kind rest)
 
 -- the lowest rank that may follow the kinds
 abbrev pub floor_behind : ℕ → List PricedKind → ℕ
@@ -145,66 +160,52 @@ pub record BeginsWithKinds (name : Name) (bytes : List ℕ) (kinds : List Priced
   pub called : AreCalled name kinds
   pub in_order : AreKinds 0 kinds
 
--- A group of kinds is due. A line of it is bad; or it ends, and its kinds aren't of so many things.
-pub data IsGroupFault (name : Name) (number line : ℕ) (bytes : List ℕ) (fault : CardFault) : Type 0 where
-  AtKind : (kinds : List PricedKind) (rest : List ℕ) → BeginsWithKinds name bytes kinds rest
-      → IsBadKind name (floor_behind 0 kinds) (line + length kinds) rest fault → IsGroupFault name number line bytes fault
-  AtCount : (kinds : List PricedKind) (rest : List ℕ) → BeginsWithKinds name bytes kinds rest → EndsGroup name rest → counted kinds ≢ number
-      → fault ≡ PriceMissing → IsGroupFault name number line bytes fault
-
--- the bytes are a group of kinds, of so many things, and what ends it
-pub record BeginsWithGroup (name : Name) (number : ℕ) (bytes : List ℕ) (kinds : List PricedKind) (rest : List ℕ) : Type 0 where
+-- and no more of them, in order, stand there
+pub record BeginsWithAllKinds (name : Name) (bytes : List ℕ) (kinds : List PricedKind) (rest : List ℕ) : Type 0 where
   pub begins : BeginsWithKinds name bytes kinds rest
-  pub ends : EndsGroup name rest
-  pub count : counted kinds ≡ number
+  pub none_more : HasNoNext name (floor_behind 0 kinds) rest
 
--- kinds of cables or of bars are due. There is no line; or bytes without LF; or a line that begins with another word.
-pub data LacksGroup (line : ℕ) (bytes : List ℕ) (fault : CardFault) : Type 0 where
-  NoGroup : bytes ≡ [] → fault ≡ PriceMissing → LacksGroup line bytes fault
-  NoGroupEnd : IsUnended bytes → fault ≡ BadLine line → LacksGroup line bytes fault
-  OtherGroup : (word : List ℕ) → BeginsWithWord word bytes → ((group : Group) → word ≢ name_text (row_name group)) → fault ≡ PriceMissing
-      → LacksGroup line bytes fault
+-- a group of kinds: it has to end behind its kinds, and these have to be of so many things
+abbrev pub SaysGroup : Name → ℕ → ℕ → List ℕ → Says CardFault (List PricedKind × List ℕ)
+SaysGroup name number line bytes = do
+  group ← Takes (λ (group : List PricedKind × List ℕ). BeginsWithAllKinds name bytes group.0 group.1)
+  _ ← Demands (EndsGroup name group.1) (BadLine (line + length group.0))
+  _ ← Demands (counted group.0 ≡ number) PriceMissing
+  Only group
 
--- what ends the prices: kinds go on for as long as the lines begin with their name
-abbrev pub EndsPrices : PriceParts → List ℕ → Type 0
-EndsPrices (Cables row col) rest = Unit {0}
-EndsPrices (Bars row col) rest = Unit {0}
-EndsPrices (CableKinds row col) rest = EndsGroup names.Pair rest
-EndsPrices (BarKinds row col) rest = EndsGroup names.Row rest
+abbrev pub SaysKinded : ℕ → List ℕ → Says CardFault (PriceParts × List ℕ)
+SaysKinded line bytes = do
+  first ← SaysFirst (first_text ByKind) line bytes
+  rows ← SaysGroup (row_name first.0) (price_count first.0) line bytes
+  columns ← SaysGroup (column_name first.0) (price_count first.0) (line + length rows.0) rows.1
+  prices ← Takes (HaveKinds first.0 rows.0 columns.0)
+  Only (prices, columns.1)
 
--- the bytes are a card up to the prices, and this follows
-pub record ToPrices (bytes : List ℕ) (day : ℕ) (settings : List Setting) (prices : PriceParts) (rest : List ℕ) : Type 0 where
-  pub before : ToNumber bytes (version_of prices) day settings (lines_text (price_lines prices) ++ rest)
-  pub are_prices : ArePrices prices
-  pub ends : EndsPrices prices rest
+-- ---- the card
 
--- the number of the line that is due behind the prices
-abbrev pub sum_line : List Setting → PriceParts → ℕ
-sum_line settings prices = length settings + 3 + length (price_lines prices)
+abbrev pub SaysAllPrices : Version → ℕ → List ℕ → Says CardFault (PriceParts × List ℕ)
+SaysAllPrices ByNumber line bytes = SaysNumbered line bytes
+SaysAllPrices ByKind line bytes = SaysKinded line bytes
 
--- ---- why bytes are no card
+abbrev pub SaysSum : ℤ → ℕ → List ℕ → Says CardFault (List ℕ)
+SaysSum sum line bytes = SaysValue true (codes "SUM") (signed_decimal sum) line bytes
 
-pub data IsCardFault (bytes : List ℕ) (fault : CardFault) : Type 0 where
-  AtHead : ((version : Version) (day : ℕ) (rest : List ℕ) → IsDayNumber day → bytes ≢ with_line (head_words version day) rest) → fault ≡ BadHead
-      → IsCardFault bytes fault
-  AtSettings : (version : Version) (day : ℕ) (settings : List Setting) (rest : List ℕ) → ToSettings bytes version day settings rest
-      → length settings ≡ 193 → fault ≡ TooMany → IsCardFault bytes fault
-  AtNumber : (version : Version) (day : ℕ) (settings : List Setting) (rest : List ℕ) → ToSettings bytes version day settings rest
-      → length settings ≤ 192 → BeginsWithNoLine rest
-      → IsValueFault IsNumberText (codes "SETTINGS") (decimal (length settings)) (length settings + 2) rest fault → IsCardFault bytes fault
-  AtRows : (day : ℕ) (settings : List Setting) (rest : List ℕ) → ToNumber bytes ByNumber day settings rest
-      → IsPricesFault AreRows (length settings + 3) rest fault → IsCardFault bytes fault
-  AtColumns : (day : ℕ) (settings : List Setting) (group : Group) (rows : List ℤ) (rest : List ℕ) → ToRows bytes day settings group rows rest
-      → IsPricesFault (AreColumns group) (length settings + 4) rest fault → IsCardFault bytes fault
-  AtGroup : (day : ℕ) (settings : List Setting) (rest : List ℕ) → ToNumber bytes ByKind day settings rest
-      → LacksGroup (length settings + 3) rest fault → IsCardFault bytes fault
-  AtRowKinds : (day : ℕ) (settings : List Setting) (group : Group) (rest : List ℕ) → ToNumber bytes ByKind day settings rest
-      → BeginsWithName (row_name group) rest → IsGroupFault (row_name group) (price_count group) (length settings + 3) rest fault
-      → IsCardFault bytes fault
-  AtColumnKinds : (day : ℕ) (settings : List Setting) (group : Group) (rows : List PricedKind) (kinds rest : List ℕ)
-      → ToNumber bytes ByKind day settings kinds → BeginsWithGroup (row_name group) (price_count group) kinds rows rest
-      → IsGroupFault (column_name group) (price_count group) (length settings + 3 + length rows) rest fault → IsCardFault bytes fault
-  AtSum : (day : ℕ) (settings : List Setting) (prices : PriceParts) (rest : List ℕ) → ToPrices bytes day settings prices rest
-      → IsValueFault IsSignedText (codes "SUM") (signed_decimal (price_sum prices)) (sum_line settings prices) rest fault → IsCardFault bytes fault
-  AtEnd : (day : ℕ) (settings : List Setting) (prices : PriceParts) (rest : List ℕ)
-      → ToPrices bytes day settings prices (with_line (sum_words (price_sum prices)) rest) → rest ≢ [] → fault ≡ Trailing → IsCardFault bytes fault
+-- what follows so many settings: their number, the prices and their sum
+abbrev pub SaysBehind : Version → ℕ → List Setting → ℕ → List ℕ → Says CardFault (ℕ × List Setting × PriceParts)
+SaysBehind version day settings number bytes = do
+  rest ← SaysNumber number bytes
+  prices ← SaysAllPrices version (number + 3) rest
+  end ← SaysSum (price_sum prices.0) (number + 3 + length (price_lines prices.0)) prices.1
+  _ ← Demands (end ≡ []) Trailing
+  Only (day, settings, prices.0)
+
+-- the bytes as a card: its day, its settings and its prices, or their first fault
+abbrev pub SaysCard : List ℕ → Says CardFault (ℕ × List Setting × PriceParts)
+SaysCard bytes = do
+  head ← SaysHead bytes
+  list ← SaysSettings head.2
+  SaysBehind head.0 head.1 list.0 (length list.0) list.1
+
+-- why bytes are no card
+abbrev pub IsCardFault : List ℕ → CardFault → Type 0
+IsCardFault bytes fault = SaysCard bytes (Err fault)

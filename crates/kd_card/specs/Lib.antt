@@ -2,6 +2,7 @@ pub mod Kinds
 pub mod Prices
 pub mod Carrying
 pub mod CardText
+pub mod Steps
 pub mod CardFault
 pub mod Reading
 pub mod Proving

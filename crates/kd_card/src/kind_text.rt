@@ -1,21 +1,19 @@
 //! The lines of kinds: one for each cable, pair, bar or row that is unlike the others.
 ghost use Rattle.std.specs.Prelude.{◌≡◌, ◌+◌, ◌*◌, ◌<◌, ◌≤◌, [], ◌∷◌, ◌++◌, length, All};
-ghost use Rattle.std.specs.Prelude.{MatchOption, MatchResult};
+ghost use Rattle.std.specs.Prelude.{MatchOption, MatchResult, Ok, Err};
 ghost use Rattle.arrayvec.specs.ArrayString.{array_string_len};
 ghost use Rattle.kd_state.specs.Words.{words_of};
 ghost use Rattle.kd_card.specs.Kinds.{name_text, kinds_text, HasKindWords, IsPricedKind};
-ghost use Rattle.kd_card.specs.CardText.{row_name};
-ghost use Rattle.kd_card.specs.CardFault.{IsFirstWord, BeginsWithName, LacksGroup, EndsGroup};
-ghost use Rattle.kd_card.specs.CardFault.{IsNextKind, IsBadKind, BeginsWithGroup, IsGroupFault};
+ghost use Rattle.kd_card.specs.CardFault.{IsNextKind, SaysGroup};
+ghost use Rattle.kd_card.specs.Reading.{IsFirstWord, EndsAt, IsBadAt};
 
 use super::fault::CardFault;
-use super::group::Group;
 use super::kinds::PricedKind;
 use super::look::{Look, Name};
 use super::price_text::price_of_text;
 use arrayvec::{ArrayString, ArrayVec};
 use itoa::Buffer;
-use kd_state::laws::{lines_tell_words, numbers_and_letters_are_words, texts_tell_first_parts};
+use kd_state::laws::texts_tell_first_parts;
 use kd_state::{number_of_text, push_number, split_once, split_words};
 
 /// No group has more kinds in order, each once: their ranks are below this.
@@ -28,28 +26,6 @@ fn first_word(line: &[u8]) -> &[u8]
     match split_once(line, b' ') {
         Some((first, _)) => first,
         None => line,
-    }
-}
-
-/// Whether prices are of cables or of bars, by the first word of their first line, which is that of this number.
-pub(crate) fn first_group(text: &[u8], line: usize) -> Result<Group, CardFault>
-    ensures { MatchResult result
-        (λ group. BeginsWithName (row_name group) text.now)
-        (LacksGroup line text.now) }
-{
-    if text.is_empty() {
-        return Err(CardFault::PriceMissing);
-    }
-    let Some((words, _)) = split_once(text, b'\n') else {
-        return Err(CardFault::BadLine(line));
-    };
-    let first = first_word(words);
-    if first == Name::Cable.text().as_bytes() {
-        Ok(Group::OfCables)
-    } else if first == Name::Bar.text().as_bytes() {
-        Ok(Group::OfBars)
-    } else {
-        Err(CardFault::PriceMissing)
     }
 }
 
@@ -93,13 +69,11 @@ fn next_kind(
 ) -> Result<Option<(PricedKind, &[u8])>, CardFault>
     ensures { MatchResult result
         (λ next. MatchOption next
-        (EndsGroup name text.now)
+        (EndsAt name floor text.now)
         (λ found. IsNextKind name floor text.now found.0 found.1.now))
-        (IsBadKind name floor line text.now) }
+        (λ fault. IsBadAt name floor text.now × (fault ≡ CardFault.BadLine line)) }
 {
-    lines_tell_words();
     texts_tell_first_parts();
-    numbers_and_letters_are_words();
     if text.is_empty() {
         return Ok(None);
     }
@@ -126,8 +100,8 @@ pub(crate) fn read_kinds<'a>(
     requires few { number ≤ 27 }
     requires near { line < 300 }
     ensures { MatchResult result
-        (λ found. BeginsWithGroup name number text.now found.0.items found.1.now)
-        (IsGroupFault name number line text.now) }
+        (λ found. SaysGroup name number line text.now (Ok (found.0.items, found.1.now)))
+        (λ fault. SaysGroup name number line text.now (Err fault)) }
 {
     let mut kinds = ArrayVec::new();
     let mut rest = text;

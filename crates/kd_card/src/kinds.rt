@@ -11,7 +11,7 @@ use arrayvec::ArrayVec;
 use kd_tables::{Letter, Reading, Standing};
 
 /// Cables that are alike.
-#[derive(Clone, Copy)]
+#[derive(Clone, Copy, Default)]
 pub struct CableKind {
     /// Their letters: a single one comes first, two are in alphabetical order.
     pub ends: (Option<Letter>, Option<Letter>),
@@ -22,7 +22,7 @@ pub struct CableKind {
 }
 
 /// Pairs, or nothings, that are alike.
-#[derive(Clone, Copy)]
+#[derive(Clone, Copy, Default)]
 pub struct PairKind {
     /// The letters in alphabetical order, or nothing.
     pub pair: Option<(Letter, Letter)>,
@@ -61,37 +61,13 @@ pub struct PricedKind {
 }
 
 /// What stands in the unused places of a list of kinds. It may be anything: no contract says which value it is, here and
-/// of the four kinds below.
+/// of the two kinds below.
 impl Default for PricedKind {
     ghost is_default = { λ _. Unit {0} };
 
     fn default() -> Self {
         PricedKind {
             look: Look::Pair(None),
-            count: 0,
-            price: 0,
-        }
-    }
-}
-
-impl Default for CableKind {
-    ghost is_default = { λ _. Unit {0} };
-
-    fn default() -> Self {
-        CableKind {
-            ends: (None, None),
-            count: 0,
-            price: 0,
-        }
-    }
-}
-
-impl Default for PairKind {
-    ghost is_default = { λ _. Unit {0} };
-
-    fn default() -> Self {
-        PairKind {
-            pair: None,
             count: 0,
             price: 0,
         }

@@ -1,19 +1,24 @@
-//! Prices and numbers as they are written.
-ghost use Rattle.std.specs.Prelude.{◌≡◌, ◌≢◌, ◌↔◌, ◌≤◌, ℤ, map, length, unsigned_abs, All, IsTrue};
-ghost use Rattle.std.specs.Prelude.{MatchOption, MatchResult, IfOk};
+//! Prices and numbers as they are written, and the first words of their lines.
+ghost use Rattle.std.specs.Prelude.{◌≡◌, ◌≢◌, ◌↔◌, ◌<◌, ◌≤◌, ◌∷◌, ℤ, map, length, unsigned_abs, All};
+ghost use Rattle.std.specs.Prelude.{IsTrue, MatchOption, MatchResult, Ok, Err};
+ghost use Rattle.std.specs.Option.{option_copied};
 ghost use Rattle.std.specs.Fmt.{signed_decimal};
 ghost use Rattle.kd_state.specs.Words.{words_of};
 ghost use Rattle.kd_card.specs.Prices.{AreWithinReach};
-ghost use Rattle.kd_card.specs.CardFault.{IsNumberText, IsSignedText, IsPriceText, IsCountFault};
+ghost use Rattle.kd_card.specs.CardFault.{IsNumberText, IsNumeral, IsPriceText, SaysPrices};
+ghost use Rattle.kd_card.specs.CardFault.{SaysLine, SaysFirst, first_text};
+ghost use Rattle.kd_card.specs.Reading.{words_behind};
 
 use super::fault::CardFault;
+use super::group::Group;
+use super::prices::Version;
 use arrayvec::ArrayVec;
 use itoa::Buffer;
 use kd_state::{split_once, split_words};
 use std::str;
 
 /// Whether a number is written so: in digits, without leading zeros.
-pub(crate) fn is_number_text(text: &[u8]) -> bool
+fn is_number_text(text: &[u8]) -> bool
     ensures { IsTrue result ↔ IsNumberText text.now }
 {
     match text {
@@ -24,13 +29,13 @@ pub(crate) fn is_number_text(text: &[u8]) -> bool
     }
 }
 
-/// Whether a number is written so, with a - in front where it is below 0.
-pub(crate) fn is_signed_text(text: &[u8]) -> bool
-    ensures { IsTrue result ↔ IsSignedText text.now }
+/// Whether a number is written so; a signed one with a - in front where it is below 0.
+pub(crate) fn is_numeral(text: &[u8], signed: bool) -> bool
+    ensures { IsTrue result ↔ IsNumeral signed text.now }
 {
     match text {
         b"-0" => false,
-        [b'-', digits @ ..] => is_number_text(digits),
+        [b'-', digits @ ..] if signed => is_number_text(digits),
         _ => is_number_text(text),
     }
 }
@@ -49,16 +54,73 @@ pub(crate) fn price_of_text(text: &[u8]) -> Option<i16>
     (buffer.format(price).as_bytes() == text).then_some(price)
 }
 
-/// The prices between the spaces of a text that has to be `N` of them, in the line of that number.
-pub(crate) fn prices_of_text<const N: usize>(
+/// The first word of the first line of the text, which is that of this number; what stands behind the space after it;
+/// and what follows the line.
+pub(crate) fn split_first(
     text: &[u8],
     line: usize,
+) -> Result<(&[u8], Option<&[u8]>, &[u8]), CardFault>
+    ensures { MatchResult result
+        (λ found. let words = found.0.now ∷ words_behind (option_copied found.1) in
+        SaysLine line text.now (Ok (words, found.2.now)))
+        (λ fault. SaysLine line text.now (Err fault)) }
+{
+    if text.is_empty() {
+        return Err(CardFault::PriceMissing);
+    }
+    let Some((words, rest)) = split_once(text, b'\n') else {
+        return Err(CardFault::BadLine(line));
+    };
+    match split_once(words, b' ') {
+        Some((first, behind)) => Ok((first, Some(behind), rest)),
+        None => Ok((words, None, rest)),
+    }
+}
+
+/// Whether prices are of cables or of bars, by the first word of their first line, which is that of this number; what
+/// stands behind the space after it; and what follows the line.
+pub(crate) fn first_group(
+    text: &[u8],
+    version: Version,
+    line: usize,
+) -> Result<(Group, Option<&[u8]>, &[u8]), CardFault>
+    ensures { let says = SaysFirst (first_text version) line text.now in
+        MatchResult result
+        (λ found. says (Ok (found.0, words_behind (option_copied found.1), found.2.now)))
+        (λ fault. says (Err fault)) }
+{
+    let (first, behind, rest) = split_first(text, line)?;
+    if first == Group::OfCables.first_text(version).as_bytes() {
+        Ok((Group::OfCables, behind, rest))
+    } else if first == Group::OfBars.first_text(version).as_bytes() {
+        Ok((Group::OfBars, behind, rest))
+    } else {
+        Err(CardFault::PriceMissing)
+    }
+}
+
+/// The prices behind the first word of the line of that number, which have to be `N`.
+pub(crate) fn prices_behind<const N: usize>(
+    behind: Option<&[u8]>,
+    line: usize,
 ) -> Result<[i16; N], CardFault>
+    requires some { 0 < N }
+    requires few { N ≤ 27 }
+    ensures { let says = SaysPrices N line (words_behind (option_copied behind.entry)) in
+        MatchResult result (λ prices. says (Ok prices)) (λ fault. says (Err fault)) }
+{
+    match behind {
+        Some(text) => prices_of_text(text, line),
+        None => Err(CardFault::PriceMissing),
+    }
+}
+
+/// The prices between the spaces of a text that has to be `N` of them, in the line of that number.
+fn prices_of_text<const N: usize>(text: &[u8], line: usize) -> Result<[i16; N], CardFault>
     requires { N ≤ 27 }
-    ensures value { MatchResult result
-        (λ prices. words_of text.now ≡ map signed_decimal prices)
-        (IsCountFault N line (words_of text.now)) }
-    ensures reach { IfOk result (λ prices. AreWithinReach prices) }
+    ensures { MatchResult result
+        (λ prices. SaysPrices N line (words_of text.now) (Ok prices))
+        (λ fault. SaysPrices N line (words_of text.now) (Err fault)) }
 {
     let Some(words) = split_words::<N>(text) else {
         if are_prices(text) {

@@ -136,7 +136,8 @@ impl Prices {
 
     /// What the prices are by.
     pub(crate) fn version(&self) -> Version
-        ensures { result ≡ version_of self.now }
+        ensures value { result ≡ version_of self.now }
+        ensures are_prices { ArePrices self.now }
     {
         match self.parts {
             PriceParts::Cables(..) | PriceParts::Bars(..) => Version::ByNumber,

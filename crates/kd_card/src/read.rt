@@ -1,20 +1,19 @@
 //! Cards, read off their text.
-ghost use Rattle.std.specs.Prelude.{◌≡◌, ℕ, ◌+◌, ◌<◌, ◌≤◌, ◌↔◌, ◌++◌, List, codes, decimal};
-ghost use Rattle.std.specs.Prelude.{slice_index, IsTrue, MatchOption, MatchResult};
-ghost use Rattle.std.specs.Fmt.{signed_decimal};
-ghost use Rattle.kd_state.specs.declared.setting.Setting.{Setting};
+ghost use Rattle.std.specs.Prelude.{◌≡◌, ℕ, ◌<◌, ◌≤◌, [], ◌∷◌, ◌++◌, List, MatchOption};
+ghost use Rattle.std.specs.Prelude.{MatchResult, Ok, Err};
 ghost use Rattle.kd_state.specs.Words.{IsWithout, IsFirstPart};
-ghost use Rattle.kd_card.specs.CardText.{IsCard, settings_words, sum_words};
-ghost use Rattle.kd_card.specs.CardFault.{with_line, IsNumberText, IsSignedText, IsValueFault};
-ghost use Rattle.kd_card.specs.CardFault.{IsPricesFault, IsCardFault};
-ghost use Rattle.kd_card.specs.Reading.{BeginsWithHead, IsHeadFront, BeginsWithTooMany};
-ghost use Rattle.kd_card.specs.Reading.{BeginsWithSettings, BeginsWithPrices, BeginsWithAll};
-ghost use Rattle.kd_card.specs.Reading.{LacksPrices};
+ghost use Rattle.kd_card.specs.CardText.{IsCard};
+ghost use Rattle.kd_card.specs.CardFault.{BeginsWithHead, SaysSettings, SaysValue, SaysNumber};
+ghost use Rattle.kd_card.specs.CardFault.{SaysPriceLine};
+ghost use Rattle.kd_card.specs.CardFault.{SaysNumbered, SaysKinded, SaysAllPrices, SaysSum};
+ghost use Rattle.kd_card.specs.CardFault.{IsCardFault};
+ghost use Rattle.kd_card.specs.Reading.{IsHeadFront};
 
 use super::card::Card;
 use super::fault::CardFault;
-use super::kind_text::{first_group, read_kinds};
-use super::price_text::{is_number_text, is_signed_text, prices_of_text};
+use super::group::Group;
+use super::kind_text::read_kinds;
+use super::price_text::{first_group, is_numeral, prices_behind, split_first};
 use super::prices::{PriceParts, Prices, Version};
 use arrayvec::ArrayVec;
 use itoa::Buffer;
@@ -101,8 +100,8 @@ fn head_front(version: Version) -> &'static [u8]
 /// none where there are more than 192.
 fn read_settings(text: &[u8]) -> Option<(Settings, &[u8])>
     ensures { MatchOption result
-        (BeginsWithTooMany text.now)
-        (λ found. BeginsWithSettings text.now found.0.items found.1.now) }
+        (SaysSettings text.now (Err CardFault.TooMany))
+        (λ found. SaysSettings text.now (Ok (found.0.items, found.1.now))) }
 {
     let mut settings = ArrayVec::new();
     let mut rest = text;
@@ -120,29 +119,57 @@ fn read_settings(text: &[u8]) -> Option<(Settings, &[u8])>
 fn read_count(text: &[u8], count: usize) -> Result<&[u8], CardFault>
     requires { count ≤ 192 }
     ensures { MatchResult result
-        (λ rest. text.now ≡ with_line (settings_words count) rest.now)
-        (IsValueFault IsNumberText (codes "SETTINGS") (decimal count) (count + 2) text.now) }
+        (λ rest. SaysNumber count text.now (Ok rest.now))
+        (λ fault. SaysNumber count text.now (Err fault)) }
+{
+    let mut buffer = Buffer::new();
+    let due = buffer.format(count).as_bytes();
+    read_value(text, b"SETTINGS ", due, false, count + 2)
+}
+
+/// What follows the line with that sum, which is that of this number.
+fn read_sum(text: &[u8], sum: i32, line: usize) -> Result<&[u8], CardFault>
+    ensures { MatchResult result
+        (λ rest. SaysSum sum line text.now (Ok rest.now))
+        (λ fault. SaysSum sum line text.now (Err fault)) }
+{
+    let mut buffer = Buffer::new();
+    read_value(text, b"SUM ", buffer.format(sum).as_bytes(), true, line)
+}
+
+/// What follows the line with that name, with a space at its end, and that number, as it is written; the line is that of
+/// this number.
+fn read_value<'a>(
+    text: &'a [u8],
+    name: &[u8],
+    due: &[u8],
+    signed: bool,
+    line: usize,
+) -> Result<&'a [u8], CardFault>
+    ensures { (word : List ℕ) → name.now ≡ word ++ 32 ∷ [] → IsWithout 10 name.now →
+        MatchResult result
+        (λ rest. SaysValue signed word due.now line text.now (Ok rest.now))
+        (λ fault. SaysValue signed word due.now line text.now (Err fault)) }
 {
     texts_tell_first_parts();
-    let Some((number, rest)) = split_value(text, b"SETTINGS ") else {
-        return Err(CardFault::BadLine(count + 2));
+    let Some((number, rest)) = split_value(text, name) else {
+        return Err(CardFault::BadLine(line));
     };
-    let mut buffer = Buffer::new();
-    if number == buffer.format(count).as_bytes() {
-        return Ok(rest);
+    if !is_numeral(number, signed) {
+        return Err(CardFault::BadLine(line));
     }
-    if !is_number_text(number) {
-        return Err(CardFault::BadLine(count + 2));
+    if number != due {
+        return Err(CardFault::CountWrong);
     }
-    Err(CardFault::CountWrong)
+    Ok(rest)
 }
 
 /// The prices at the front of the text, in lines of which the first is that of this number, and what follows.
 fn read_prices(text: &[u8], version: Version, line: usize) -> Result<(Prices, &[u8]), CardFault>
     requires { line < 200 }
     ensures { MatchResult result
-        (λ found. BeginsWithAll text.now version found.0 found.1.now)
-        (LacksPrices line text.now version) }
+        (λ found. SaysAllPrices version line text.now (Ok (found.0, found.1.now)))
+        (λ fault. SaysAllPrices version line text.now (Err fault)) }
 {
     match version {
         Version::ByNumber => read_numbered(text, line),
@@ -154,17 +181,21 @@ fn read_prices(text: &[u8], version: Version, line: usize) -> Result<(Prices, &[
 fn read_numbered(text: &[u8], line: usize) -> Result<(Prices, &[u8]), CardFault>
     requires { line < 200 }
     ensures { MatchResult result
-        (λ found. BeginsWithAll text.now Version.ByNumber found.0 found.1.now)
-        (LacksPrices line text.now Version.ByNumber) }
+        (λ found. SaysNumbered line text.now (Ok (found.0, found.1.now)))
+        (λ fault. SaysNumbered line text.now (Err fault)) }
 {
-    if is_of_bars(text) {
-        let (bars, rest) = read_price_line::<27>(text, b"BARS", line)?;
-        let (rows, rest) = read_price_line::<27>(rest, b"ROWS", line + 1)?;
-        Ok((Prices::of_parts(PriceParts::Bars(bars, rows)), rest))
-    } else {
-        let (cables, rest) = read_price_line::<13>(text, b"CABLES", line)?;
-        let (pairs, rest) = read_price_line::<13>(rest, b"PAIRS", line + 1)?;
-        Ok((Prices::of_parts(PriceParts::Cables(cables, pairs)), rest))
+    let (group, behind, rest) = first_group(text, Version::ByNumber, line)?;
+    match group {
+        Group::OfCables => {
+            let cables = prices_behind::<13>(behind, line)?;
+            let (pairs, rest) = read_price_line::<13>(rest, b"PAIRS", line + 1)?;
+            Ok((Prices::of_parts(PriceParts::Cables(cables, pairs)), rest))
+        }
+        Group::OfBars => {
+            let bars = prices_behind::<27>(behind, line)?;
+            let (rows, rest) = read_price_line::<27>(rest, b"ROWS", line + 1)?;
+            Ok((Prices::of_parts(PriceParts::Bars(bars, rows)), rest))
+        }
     }
 }
 
@@ -173,10 +204,10 @@ fn read_numbered(text: &[u8], line: usize) -> Result<(Prices, &[u8]), CardFault>
 fn read_kinded(text: &[u8], line: usize) -> Result<(Prices, &[u8]), CardFault>
     requires { line < 200 }
     ensures { MatchResult result
-        (λ found. BeginsWithAll text.now Version.ByKind found.0 found.1.now)
-        (LacksPrices line text.now Version.ByKind) }
+        (λ found. SaysKinded line text.now (Ok (found.0, found.1.now)))
+        (λ fault. SaysKinded line text.now (Err fault)) }
 {
-    let group = first_group(text, line)?;
+    let (group, _, _) = first_group(text, Version::ByKind, line)?;
     let number = group.number();
     let (rows, rest) = read_kinds(text, group.row_name(), number, line)?;
     let (columns, rest) = read_kinds(rest, group.column_name(), number, line + rows.len())?;
@@ -184,16 +215,6 @@ fn read_kinded(text: &[u8], line: usize) -> Result<(Prices, &[u8]), CardFault>
         Prices::of_groups(group, rows.as_slice(), columns.as_slice()),
         rest,
     ))
-}
-
-/// Whether the prices can only be those of bars, by the first letter of their line.
-fn is_of_bars(text: &[u8]) -> bool
-    ensures { IsTrue result ↔ (slice_index text.now 0 ≡ 66) }
-{
-    match text {
-        [b'B', ..] => true,
-        _ => false,
-    }
 }
 
 /// The prices behind the word in the first line of the text, which is that of this number, and what follows it.
@@ -204,45 +225,12 @@ fn read_price_line<'a, const N: usize>(
 ) -> Result<([i16; N], &'a [u8]), CardFault>
     requires some { 0 < N }
     requires few { N ≤ 27 }
-    ensures { MatchResult result
-        (λ found. BeginsWithPrices text.now word.now found.0 found.1.now)
-        (IsPricesFault (λ first number. (first ≡ word.now) × (number ≡ N)) line text.now) }
+    ensures { let says = SaysPriceLine (λ (_ : Unit {0}). word.now) (λ _. N) line text.now in
+        MatchResult result (λ found. says (Ok (tt, found.0, found.1.now))) (λ fault. says (Err fault)) }
 {
-    if text.is_empty() {
+    let (first, behind, rest) = split_first(text, line)?;
+    if first != word {
         return Err(CardFault::PriceMissing);
     }
-    let Some((words, rest)) = split_once(text, b'\n') else {
-        return Err(CardFault::BadLine(line));
-    };
-    let Some((first, prices)) = split_once(words, b' ') else {
-        return Err(CardFault::PriceMissing);
-    };
-    if first == word {
-        match prices_of_text(prices, line) {
-            Ok(prices) => Ok((prices, rest)),
-            Err(fault) => Err(fault),
-        }
-    } else {
-        Err(CardFault::PriceMissing)
-    }
-}
-
-/// What follows the line with that sum, which is that of this number.
-fn read_sum(text: &[u8], sum: i32, line: usize) -> Result<&[u8], CardFault>
-    ensures { MatchResult result
-        (λ rest. text.now ≡ with_line (sum_words sum) rest.now)
-        (IsValueFault IsSignedText (codes "SUM") (signed_decimal sum) line text.now) }
-{
-    texts_tell_first_parts();
-    let Some((number, rest)) = split_value(text, b"SUM ") else {
-        return Err(CardFault::BadLine(line));
-    };
-    let mut buffer = Buffer::new();
-    if number == buffer.format(sum).as_bytes() {
-        return Ok(rest);
-    }
-    if !is_signed_text(number) {
-        return Err(CardFault::BadLine(line));
-    }
-    Err(CardFault::CountWrong)
+    Ok((prices_behind(behind, line)?, rest))
 }

@@ -6,7 +6,7 @@ ghost use Rattle.arrayvec.specs.ArrayString.{array_string_len};
 ghost use Rattle.kd_tables.specs.Writing.{Writes};
 ghost use Rattle.kd_state.specs.Line.{list_text, IsInRange};
 ghost use Rattle.kd_state.specs.SheetDay.{IsDayNumber};
-ghost use Rattle.kd_card.specs.Prices.{AreWithinReach};
+ghost use Rattle.kd_card.specs.Prices.{AreWithinReach, ArePrices};
 ghost use Rattle.kd_card.specs.CardText.{card_text, head_words, settings_words, price_words};
 ghost use Rattle.kd_card.specs.CardText.{sum_words, lines_text, price_lines, IsCard};
 ghost use Rattle.kd_card.specs.CardFault.{with_line};
@@ -31,7 +31,6 @@ pub fn write_card<W: Sink>(sink: &mut W, day: u8, card: &Card) -> Result<(), Dev
         IsCard text day card.now.settings.items card.now.prices }
     ensures failed { W.has_failed sink.new ≡ (W.has_failed sink.old || is_err result) }
 {
-    let _prices = card.prices.parts();
     put_all(sink, text_of(day, card).as_str().as_bytes())
 }
 
@@ -40,6 +39,7 @@ fn text_of(day: u8, card: &Card) -> ArrayString<LONGEST>
     ensures bytes { result.bytes ≡ card_text day card.now.settings.items card.now.prices }
     ensures in_range { All IsInRange card.now.settings.items }
     ensures few { length card.now.settings.items ≤ 192 }
+    ensures are_prices { ArePrices card.now.prices }
 {
     let mut text = ArrayString::new();
     push_head(&mut text, card.prices.version(), day);

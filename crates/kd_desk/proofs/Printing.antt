@@ -10,7 +10,7 @@ use Rattle.kd_card.specs.declared.card.Card as declared
 use Rattle.kd_card.specs.declared.prices.PriceParts.{PriceParts}
 use Rattle.kd_card.specs.CardText.{IsCard}
 use Rattle.kd_plan.specs.Planned.{Plans}
-use Rattle.kd_prices.specs.Kinds.{IsByKind}
+use Rattle.kd_prices.specs.KindCards.{IsByKind}
 use Rattle.kd_desk.specs.declared.fault.DeskFault.{DeskFault}
 use Rattle.kd_desk.specs.declared.fault.DeskFault.TheVariants as faults
 use Rattle.kd_desk.specs.Headline as headline

@@ -1,6 +1,6 @@
 ghost use Rattle.std.specs.Prelude.{◌≡◌, ◌||◌, IsTrue};
 ghost use Rattle.kd_card.specs.Proving.{ProvesByNumber};
-ghost use Rattle.kd_prices.specs.Kinds.{IsByKind};
+ghost use Rattle.kd_prices.specs.KindCards.{IsByKind};
 ghost use Rattle.kd_state.specs.SheetDay.{day_number};
 ghost use Rattle.kd_desk.specs.OnDay.{OnDay};
 ghost use Rattle.kd_tables.specs.Ports.{port};

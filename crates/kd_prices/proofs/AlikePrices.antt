@@ -1,26 +1,11 @@
 -- In a card that proves itself, what is alike has equal prices: it costs the same everywhere, and each price is tight
 -- somewhere.
-use Rattle.std.proofs.Common.{subst, Contains, ◌≡◌, ℕ, ◌<◌, ◌≤◌, List, [], get_or, length, map, None, unwrap_or, slice_get, sym, ap, ◌∙◌, arith}
-use Rattle.std.proofs.lemmas.Int.{ints}
-use Rattle.std.proofs.lemmas.List.{get_or-map}
-use Rattle.std.proofs.lemmas.Option.{unwrap_or-slice_get, slice_get_past}
-use Rattle.kd_tables.specs.declared.place.Place.TheVariants.{One}
-use Rattle.kd_state.specs.declared.machine.parts.Parts.TheVariants.{Rotor, Pin}
-use Rattle.kd_state.specs.Machine.{cable_letters}
-use Rattle.kd_state.specs.SheetDay.{Day, OfRotors, OfPins}
-use Rattle.kd_state.specs.Laws.{TestsTellLetters, ThirteenColumns, ColumnsAreThePairs}
-use Rattle.kd_state.specs.Costs.{cable_cost, bar_cost, columns_of}
-use Rattle.kd_card.specs.declared.prices.PriceParts.{PriceParts}
-use Rattle.kd_card.specs.declared.prices.PriceParts.TheVariants.{Cables, Bars}
-use Rattle.kd_card.specs.Prices.{how_many, cost_at, Fits, AreTight}
-use Rattle.kd_card.specs.Laws.{ProvingPricesAreTight}
+use Rattle.std.proofs.Common.{map}
+use Rattle.kd_prices.proofs.Prelude.{subst, Contains, ◌≡◌, ℕ, ◌<◌, ◌≤◌, List, [], get_or, length, None, unwrap_or, slice_get, sym, ap, ◌∙◌, arith, ints, get_or-map, unwrap_or-slice_get, slice_get_past, One, Rotor, Pin, cable_letters, Day, OfRotors, OfPins, TestsTellLetters, ThirteenColumns, ColumnsAreThePairs, cable_cost, bar_cost, columns_of, PriceParts, Cables, Bars, how_many, cost_at, Fits, AreTight, ProvingPricesAreTight, Parts, StandAlike, ReadAlike, AlikePricesAreEqual, AreEqualWhereAlike}
 use Rattle.kd_tables.specs.declared.model.Model.{Model}
 use Rattle.kd_tables.specs.declared.model.Model.TheVariants.{M209}
 use Rattle.kd_tables.specs.declared.reflector.Reflector.{Reflector}
 use Rattle.kd_tables.specs.Tables.{reflectors_of}
-use Rattle.kd_state.specs.declared.machine.parts.Parts.{Parts}
-use Rattle.kd_prices.specs.Alike.{StandAlike, ReadAlike}
-use Rattle.kd_prices.specs.Laws.{AlikePricesAreEqual, AreEqualWhereAlike}
 
 -- prices that fit a table of costs, each tight somewhere
 module _ {A B : Type 0} (cost : A → B → ℕ) (rows : List A) (columns : List B) (a : A) (b : B) (m : Parts) (s : Day) (prices : PriceParts)

@@ -1,23 +1,11 @@
 -- A card that proves itself is in no doubt, and a card is in one doubt at most.
-use Rattle.std.proofs.Common.{◌≡◌, ℕ, ◌+◌, ◌⊎◌, inl, inr, List, [], ◌∷◌, ◌++◌, length, refl, sym, ap, ◌∙◌, subst, arith}
-use Rattle.std.specs.Prelude.{pos, false, IsTrue, ◌↔◌}
-use Rattle.std.proofs.lemmas.Bool.{cases_order, false≢true}
-use Rattle.kd_state.specs.declared.machine.parts.Parts.{Parts}
-use Rattle.kd_state.specs.declared.setting.Setting.{Setting}
-use Rattle.kd_state.specs.declared.setting.why.Why.{Why}
-use Rattle.kd_state.specs.Setting.{why_refused, Leads}
-use Rattle.kd_state.specs.SheetDay.{Day}
-use Rattle.kd_state.specs.OnKey.{ReadsAs}
-use Rattle.kd_state.specs.Costs.{cost_table}
-use Rattle.kd_state.specs.Laws.{LeadsToOne}
-use Rattle.kd_card.specs.declared.prices.PriceParts.{PriceParts}
-use Rattle.kd_card.specs.Prices.{Fits, price_sum}
+use Rattle.kd_prices.proofs.Prelude.{◌≡◌, ℕ, inl, inr, List, [], ◌∷◌, ◌++◌, length, refl, sym, ap, ◌∙◌, subst, arith, ◌↔◌, cases_order, false≢true, Parts, Setting, Why, why_refused, Leads, Day, cost_table, LeadsToOne, PriceParts, AreNeeded, Proves, IllegalAt, PriceTooHigh, NeedlessLine, IsFirstWithout, IsFirstNeedless}
 use Rattle.kd_card.specs.Carrying.{IsFirstIllegal}
-use Rattle.kd_card.specs.Proving.{AreNeeded, Expands, LeadsToTheDay, Proves, ProvesByNumber, priced_count}
 use Rattle.kd_prices.specs.declared.doubt.Doubt.{Doubt}
-use Rattle.kd_prices.specs.declared.doubt.Doubt.TheVariants.{OtherModel, PriceMissing, IllegalAt, NotTheSheet, PriceTooHigh, SumDiffers, NeedlessLine}
-use Rattle.kd_prices.specs.Doubt.{AreOfOneModel, IsFirstWithout, IsFirstTooHigh, IsFirstNeedless, IsDoubtByNumber, IsDoubt, OfModels, OfKinds, OfNumbers}
-use Rattle.kd_prices.proofs.Meaning.{one_expansion, of_one_model}
+use Rattle.std.specs.Prelude.{Result, Ok, Err, IsOk, IfErr}
+use Rattle.kd_card.specs.Steps.{Found, IsOnly, only_then, only_finds, only_demands, passed}
+use Rattle.kd_prices.specs.Doubt.{SaysCarried, SaysFits, SaysNeeded, SaysChecked, IsDoubt}
+use Rattle.kd_prices.proofs.Meaning.{one_expansion, of_one_model, are_numbered}
 use Rattle.kd_prices.proofs.Leading.{needed_at, not_refused}
 
 -- A list has one front that is good, and with what stands behind it is the front of no good list.
@@ -44,139 +32,118 @@ one_place Holds number row column i j h k =
       | inr (inr lt) ↦ absurd (k.here (h.before i j k.column_within (inl lt)))
     ]
 
--- ---- doubts of one sort, or of several, one after another
-
--- a card is in one of them at most, and in none if this holds
-pub record Deny (Holds : Type 0) (Is : Doubt → Type 0) : Type 0 where
-  pub one : (doubt other : Doubt) → Is doubt → Is other → doubt ≡ other
-  pub none : (doubt : Doubt) → Is doubt → ¬ Holds
-
-weaker : {Holds More : Type 0} {Is Other : Doubt → Type 0} → Deny Holds Is → ((doubt : Doubt) → Other doubt → Is doubt) → (More → Holds) → Deny More Other
-weaker here told holds = record {
-  one = λ doubt other h k. here.one doubt other (told doubt h) (told other k);
-  none = λ doubt h more. here.none doubt (told doubt h) (holds more);
-}
-
-abbrev Alone : Doubt → Type 0 → Doubt → Type 0
-Alone due Holds doubt = (doubt ≡ due) × ¬ Holds
-
-alone : (due : Doubt) (Holds : Type 0) → Deny Holds (Alone due Holds)
-alone due Holds = record { one = λ doubt other h k. h.0 ∙ sym k.0; none = λ doubt h. h.1 }
-
--- such a doubt, or where it doesn't hold a later one
-abbrev Before : (Doubt → Type 0) → Type 0 → (Doubt → Type 0) → Doubt → Type 0
-Before Is Holds Later doubt = Is doubt ⊎ (Holds × Later doubt)
-
-module _ {Holds More : Type 0} {Is Later : Doubt → Type 0} (here : Deny Holds Is) (there : Deny More Later) where
-  one_of_both : (doubt other : Doubt) → Before Is Holds Later doubt → Before Is Holds Later other → doubt ≡ other
-  one_of_both doubt other (inl h) (inl k) = here.one doubt other h k
-  one_of_both doubt other (inl h) (inr k) = absurd (here.none doubt h k.0)
-  one_of_both doubt other (inr h) (inl k) = absurd (here.none other k h.0)
-  one_of_both doubt other (inr h) (inr k) = there.one doubt other h.1 k.1
-
-  before : Deny (Holds × More) (Before Is Holds Later)
-  before = record {
-    one = one_of_both;
-    none = λ doubt h holds. elim h [ inl is ↦ here.none doubt is holds.0 | inr later ↦ there.none doubt later.1 holds.1 ];
-  }
-
 -- ---- prices by number
 
+-- a setting that is refused in its turn stands in no list that leads on
+refused : {m : Parts} {settings : List Setting} {line : ℕ} {why : Why} (h : IsFirstIllegal m settings line why) (n : Parts)
+    (rest : List Setting) → ¬ (Leads m (h.front ++ h.setting ∷ rest) n)
+refused {m} h n rest leads = not_refused m h.between n h.front rest h.setting _ h.leads h.refused leads
+
+-- and one that is needless in no list of needed ones
+wanted : {m : Parts} {s : Day} {settings : List Setting} {line : ℕ} (h : IsFirstNeedless m s settings line)
+    (rest : List Setting) → ¬ (AreNeeded m s (h.front ++ h.setting ∷ rest))
+wanted {m} {s} h rest needed = h.needless (needed_at m h.between s h.front rest h.setting h.leads needed)
+
+module _ (one : LeadsToOne) (m : Parts) (settings : List Setting) where
+  only_carried : IsOnly (SaysCarried m settings)
+  only_carried (Ok n) (Ok o) a b = ap Ok (one m n o settings a b)
+  only_carried (Ok n) (Err (IllegalAt line why)) a b = absurd (refused b n b.rest (subst (λ xs. Leads m xs n) b.split a))
+  only_carried (Err (IllegalAt line why)) (Ok n) a b = absurd (refused a n a.rest (subst (λ xs. Leads m xs n) a.split b))
+  only_carried (Err (IllegalAt line why)) (Err (IllegalAt other reason)) a b =
+      let same =
+      one_front (λ xs. (n : Parts) × Leads m xs n) a.front b.front a.rest b.rest a.setting b.setting (sym a.split ∙ b.split)
+      (a.between, a.leads) (b.between, b.leads) (λ rest leads. refused a leads.0 rest leads.1) (λ rest leads. refused b leads.0 rest leads.1) in
+      let between = one m a.between b.between b.front (subst (λ front. Leads m front a.between) same.0 a.leads) b.leads in
+      let reasons : why_refused a.between a.setting ≡ why_refused b.between b.setting = cc in
+      let first = a.refused in
+      let second = b.refused in
+      let whys : why ≡ reason = cc in
+      let counts = ap length same.0 in
+      let lines : line ≡ other = omega (arith, a.number, b.number) in
+      ap (λ l. Err (IllegalAt l why)) lines ∙ ap (λ w. Err (IllegalAt other w)) whys
+  only_carried (Ok n) (Err doubt) a b = absurd b
+  only_carried (Err (IllegalAt line why)) (Err doubt) a b = absurd b
+  only_carried (Err doubt) w a b = absurd a
+
+module _ (costs : List (List ℕ)) (prices : PriceParts) where
+  only_fits : IsOnly (SaysFits costs prices)
+  only_fits (Ok x) (Ok y) a b = refl
+  only_fits (Ok x) (Err (PriceTooHigh i j)) a b = absurd (b.4.here (a b.0 b.1 b.4.row_within b.4.column_within))
+  only_fits (Err (PriceTooHigh i j)) (Ok y) a b = absurd (a.4.here (b a.0 a.1 a.4.row_within a.4.column_within))
+  only_fits (Err (PriceTooHigh i j)) (Err (PriceTooHigh k l)) a b =
+      let same = one_place _ _ a.0 a.1 b.0 b.1 a.4 b.4 in
+      let rows : i ≡ k = omega (arith, a.2, b.2, same.0) in
+      let columns : j ≡ l = omega (arith, a.3, b.3, same.1) in
+      cc
+  only_fits (Ok x) (Err doubt) a b = absurd b
+  only_fits (Err (PriceTooHigh i j)) (Err doubt) a b = absurd b
+  only_fits (Err doubt) w a b = absurd a
+
+module _ (m : Parts) (s : Day) (settings : List Setting) where
+  only_needed : IsOnly (SaysNeeded m s settings)
+  only_needed (Ok x) (Ok y) a b = refl
+  only_needed (Ok x) (Err (NeedlessLine line)) a b = absurd (wanted b b.rest (subst (AreNeeded m s) b.split a))
+  only_needed (Err (NeedlessLine line)) (Ok y) a b = absurd (wanted a a.rest (subst (AreNeeded m s) a.split b))
+  only_needed (Err (NeedlessLine line)) (Err (NeedlessLine other)) a b =
+      let same =
+      one_front (AreNeeded m s) a.front b.front a.rest b.rest a.setting b.setting (sym a.split ∙ b.split) a.needed b.needed
+      (wanted a) (wanted b) in
+      let counts = ap length same.0 in
+      let lines : line ≡ other = omega (arith, a.number, b.number) in
+      ap (λ l. Err (NeedlessLine l)) lines
+  only_needed (Ok x) (Err doubt) a b = absurd b
+  only_needed (Err (NeedlessLine line)) (Err doubt) a b = absurd b
+  only_needed (Err doubt) w a b = absurd a
+
+-- ---- the whole check
+
 module _ (one : LeadsToOne) (m : Parts) (s : Day) (settings : List Setting) (prices : PriceParts) where
-  abbrev Illegal : Doubt → Type 0
-  Illegal doubt = (line : ℕ) × (why : Why) × (doubt ≡ IllegalAt line why) × IsFirstIllegal m settings line why
+  pub only_checked : IsOnly (SaysChecked m s settings prices)
+  only_checked =
+      only_then (only_demands _ _)
+      (λ same model. only_then (only_finds _ (one_expansion m s prices))
+      (λ numbered expands. only_then (only_carried one m settings)
+      (λ n leads. only_then (only_demands _ _)
+      (λ reads same. only_then (only_fits (cost_table m s) numbered)
+      (λ fits are. only_then (only_demands _ _) (λ sum is. only_needed m s settings))))))
 
-  abbrev TooHigh : Doubt → Type 0
-  TooHigh doubt = (row : ℕ) × (column : ℕ) × (doubt ≡ PriceTooHigh (row + 1) (column + 1)) × IsFirstTooHigh (cost_table m s) prices row column
+  pub proving_says : Proves m s settings prices → SaysChecked m s settings prices (Ok tt)
+  proving_says h =
+      let by = h.proves in
+      Found tt (of_one_model m s settings prices h)
+      (Found h.numbered h.expands
+      (Found by.leads.0 by.leads.1 (Found tt by.leads.2 (Found tt by.fits (Found tt by.sum by.needed)))))
 
-  abbrev Needless : Doubt → Type 0
-  Needless doubt = (line : ℕ) × (doubt ≡ NeedlessLine line) × IsFirstNeedless m s settings line
-
-  illegal : Deny ((n : Parts) × Leads m settings n) Illegal
-  illegal =
-      let refused = λ (line : ℕ) (why : Why) (h : IsFirstIllegal m settings line why) (rest : List Setting) (leads : (n : Parts) × Leads m (h.front ++ h.setting ∷ rest) n).
-      not_refused m h.between leads.0 h.front rest h.setting why h.leads h.refused leads.1 in
+  says_proving : SaysChecked m s settings prices (Ok tt) → Proves m s settings prices
+  says_proving says =
+      let model = passed says in
+      let numbered = passed model.next in
+      let led = passed numbered.next in
+      let reads = passed led.next in
+      let fits = passed reads.next in
+      let sum = passed fits.next in
+      let are = are_numbered m s prices numbered.found model.says numbered.says in
       record {
-        one = λ doubt other h k.
-            let here = h.3 in
-            let there = k.3 in
-            let same = one_front (λ xs. (n : Parts) × Leads m xs n) here.front there.front here.rest there.rest here.setting there.setting (sym here.split ∙ there.split)
-            (here.between, here.leads) (there.between, there.leads) (refused h.0 h.1 here) (refused k.0 k.1 there) in
-            let between = one m here.between there.between there.front (subst (λ front. Leads m front here.between) same.0 here.leads) there.leads in
-            let reasons : why_refused here.between here.setting ≡ why_refused there.between there.setting = cc in
-            let a = here.refused in
-            let b = there.refused in
-            let whys : h.1 ≡ k.1 = cc in
-            let counts = ap length same.0 in
-            let lines : h.0 ≡ k.0 = omega (arith, here.number, there.number) in
-            h.2 ∙ ap (λ line. IllegalAt line h.1) lines ∙ ap (IllegalAt k.0) whys ∙ sym k.2;
-        none = λ doubt h leads. refused h.0 h.1 h.3 h.3.rest (leads.0, subst (λ xs. Leads m xs leads.0) h.3.split leads.1);
+        numbered = numbered.found;
+        expands = numbered.says;
+        proves = record {
+          model = are.model;
+          kind = are.kind;
+          leads = (led.found, led.says, reads.says);
+          fits = fits.says;
+          sum = sum.says;
+          needed = sum.next;
+        };
       }
 
-  too_high : Deny (Fits (cost_table m s) prices) TooHigh
-  too_high = record {
-    one = λ doubt other h k. let same = one_place _ _ h.0 h.1 k.0 k.1 h.3 k.3 in let first = h.2 in let second = k.2 in cc;
-    none = λ doubt h fits. h.3.here (fits h.0 h.1 h.3.row_within h.3.column_within);
-  }
+  -- what is answered tells whether the card proves itself
+  pub told : (answer : Result (Unit {0}) Doubt) → SaysChecked m s settings prices answer → IsOk answer ↔ Proves m s settings prices
+  told (Ok x) says = (λ ok. says_proving says, λ proves. refl)
+  told (Err doubt) says = (
+    λ ok. absurd (false≢true ok),
+    λ proves. absurd (let same = only_checked (Err doubt) (Ok tt) says (proving_says proves) in cc),
+  )
 
-  needless : Deny (AreNeeded m s settings) Needless
-  needless =
-      let refused = λ (line : ℕ) (h : IsFirstNeedless m s settings line) (rest : List Setting) (needed : AreNeeded m s (h.front ++ h.setting ∷ rest)).
-      h.needless (needed_at m h.between s h.front rest h.setting h.leads needed) in
-      record {
-        one = λ doubt other h k.
-            let here = h.2 in
-            let there = k.2 in
-            let same = one_front (AreNeeded m s) here.front there.front here.rest there.rest here.setting there.setting (sym here.split ∙ there.split)
-            here.needed there.needed (refused h.0 here) (refused k.0 there) in
-            let counts = ap length same.0 in
-            let lines : h.0 ≡ k.0 = omega (arith, here.number, there.number) in
-            h.1 ∙ ap NeedlessLine lines ∙ sym k.1;
-        none = λ doubt h needed. refused h.0 h.2 h.2.rest (subst (AreNeeded m s) h.2.split needed);
-      }
-
-  abbrev InTurn : Doubt → Type 0
-  InTurn =
-      Before Illegal ((n : Parts) × Leads m settings n) (Before (Alone NotTheSheet (LeadsToTheDay m s settings)) (LeadsToTheDay m s settings)
-      (Before TooHigh (Fits (cost_table m s) prices) (Before (Alone SumDiffers (price_sum prices ≡ pos (priced_count settings))) (price_sum prices ≡ pos (priced_count settings)) Needless)))
-
-  in_turn : (doubt : Doubt) → IsDoubtByNumber m s settings prices doubt → InTurn doubt
-  in_turn OtherModel h = absurd h
-  in_turn PriceMissing h = absurd h
-  in_turn (IllegalAt line why) h = inl (line, why, refl, h.1)
-  in_turn NotTheSheet h = inr ((h.1.0, h.1.1), inl (refl, λ reached. h.1.2 (subst (λ n. ReadsAs n s) (one m reached.0 h.1.0 settings reached.1 h.1.1) reached.2)))
-  in_turn (PriceTooHigh i j) h = inr ((h.1.0, h.1.1), inr (h.1, inl (h.2.0, h.2.1, (let row = h.2.2 in let column = h.2.3 in cc), h.2.4)))
-  in_turn SumDiffers h = inr ((h.1.0, h.1.1), inr (h.1, inr (h.2, inl (refl, h.3))))
-  in_turn (NeedlessLine line) h = inr ((h.1.0, h.1.1), inr (h.1, inr (h.2, inr (h.3, (line, refl, h.4)))))
-
-  by_number : Deny (ProvesByNumber m s settings prices) (IsDoubtByNumber m s settings prices)
-  by_number =
-      weaker (before illegal (before (alone NotTheSheet (LeadsToTheDay m s settings)) (before too_high
-      (before (alone SumDiffers (price_sum prices ≡ pos (priced_count settings))) needless)))) in_turn
-      (λ proves. ((proves.leads.0, proves.leads.1), (proves.leads, (proves.fits, (proves.sum, proves.needed)))))
-
--- ---- prices of either version
-
-meant : LeadsToOne → (m : Parts) (s : Day) (settings : List Setting) (prices : PriceParts)
-    → Deny (Proves m s settings prices) (λ doubt. (numbered : PriceParts) × Expands m s prices numbered × IsDoubtByNumber m s settings numbered doubt)
-meant one m s settings prices = record {
-  one = λ doubt other h k. (by_number one m s settings k.0).one doubt other
-      (subst (λ p. IsDoubtByNumber m s settings p doubt) (one_expansion m s prices h.0 k.0 h.1 k.1) h.2) k.2;
-  none = λ doubt h proves. (by_number one m s settings h.0).none doubt h.2
-      (subst (ProvesByNumber m s settings) (one_expansion m s prices proves.numbered h.0 proves.expands h.1) proves.proves);
-}
-
-pub doubts : LeadsToOne → (m : Parts) (s : Day) (settings : List Setting) (prices : PriceParts) → Deny (Proves m s settings prices) (IsDoubt m s settings prices)
-doubts one m s settings prices =
-    weaker (before (alone OtherModel (AreOfOneModel m s prices)) (before (alone PriceMissing ((numbered : PriceParts) × Expands m s prices numbered)) (meant one m s settings prices)))
-    (λ doubt h. elim h [
-      | OfModels none e ↦ inl (e, none)
-      | OfKinds model none e ↦ inr (model, inl (e, λ some. none some.0 some.1))
-      | OfNumbers model numbered expands by ↦ inr (model, inr ((numbered, expands), (numbered, expands, by)))
-    ])
-    (λ proves. (of_one_model m s settings prices proves, ((proves.numbered, proves.expands), proves)))
-
--- a card that is in a doubt doesn't prove itself
-pub not_proved : LeadsToOne → (m : Parts) (s : Day) (settings : List Setting) (prices : PriceParts) (doubt : Doubt)
-    → IsDoubtByNumber m s settings prices doubt → IsTrue false ↔ ProvesByNumber m s settings prices
-not_proved one m s settings prices doubt h = (λ e. absurd (false≢true e), λ proves. absurd ((by_number one m s settings prices).none doubt h proves))
+  pub doubted : (answer : Result (Unit {0}) Doubt) → SaysChecked m s settings prices answer → IfErr answer (IsDoubt m s settings prices)
+  doubted (Ok x) says = tt
+  doubted (Err doubt) says = says

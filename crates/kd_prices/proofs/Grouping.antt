@@ -1,21 +1,7 @@
 -- Things grouped into kinds, rank by rank.
-use Rattle.std.proofs.Common.{◌≡◌, ◌≢◌, ℕ, ◌+◌, ◌<◌, ◌≤◌, inl, inr, Bool, true, false, cond, eqb, ltb, List, [], ◌∷◌, ◌++◌, length, count_by, append_assoc, length-append, refl, sym, ap, ◌∙◌, subst, arith, ℤ, pos, unsigned_abs, Some, None}
-use Rattle.std.specs.List.{All}
-use Rattle.std.proofs.lemmas.Bool.{cases_lt, lt-ltb, ne_eqb, eq-eqb}
-use Rattle.std.proofs.lemmas.Bool.Decides.{nat_tests}
-use Rattle.std.proofs.lemmas.List.{append-nil}
-use Rattle.std.proofs.lemmas.List.Elements.{All-nil, All-cons, All-head, All-tail, All-get_or, All-from_get_or, All-weaker}
+use Rattle.kd_prices.proofs.Prelude.{◌≡◌, ◌≢◌, ℕ, ◌+◌, ◌<◌, ◌≤◌, inl, inr, Bool, true, false, cond, eqb, ltb, List, [], ◌∷◌, ◌++◌, length, count_by, append_assoc, length-append, refl, sym, ap, ◌∙◌, subst, arith, ℤ, pos, unsigned_abs, Some, None, All, cases_lt, lt-ltb, ne_eqb, eq-eqb, nat_tests, append-nil, All-nil, All-cons, All-head, All-tail, All-get_or, All-from_get_or, All-weaker, Look, Cable, Pair, Bar, Row, One, place_rank, PricedKind, look_name, look_rank, counted, IsInForm, IsPricedKind, AreKinds, AreCalled, price_at, AreWithinReach, look_at, alike_count, IsPriced, HasCount, AreExpanded, AreAlikePriced, IsKindAt, AreKindsOf, AreWithPrices}
 use Rattle.std.proofs.lemmas.List.Sums.{sum_by-cons, sum_by-le, count_by-le-length, get_or-le-sum_by}
-use Rattle.kd_card.specs.declared.look.Look.{Look}
-use Rattle.kd_card.specs.declared.look.Look.TheVariants.{Cable, Pair, Bar, Row}
 use Rattle.kd_tables.specs.declared.place.Place.{Place}
-use Rattle.kd_tables.specs.declared.place.Place.TheVariants.{One}
-use Rattle.kd_tables.specs.Places.{place_rank}
-use Rattle.kd_card.specs.declared.kinds.PricedKind.{PricedKind}
-use Rattle.kd_card.specs.Kinds.{look_name, look_rank, counted, IsInForm, IsPricedKind, AreKinds, AreCalled}
-use Rattle.kd_card.specs.Prices.{price_at, AreWithinReach}
-use Rattle.kd_card.specs.Proving.{look_at, alike_count, IsPriced, HasCount, AreExpanded}
-use Rattle.kd_prices.specs.Kinds.{AreAlikePriced, IsKindAt, AreKindsOf, AreWithPrices}
 use Rattle.kd_prices.proofs.Meaning.{one_price}
 
 -- ---- how many things are of ranks

@@ -1,13 +1,6 @@
 -- Settings that lead from one machine to another, taken apart and put together.
-use Rattle.std.proofs.Common.{◌≡◌, Some, None, ℕ, ◌+◌, ◌<◌, List, [], ◌∷◌, ◌++◌, length, get_or, drop, refl, sym, ap, ◌∙◌, subst, arith}
-use Rattle.std.proofs.lemmas.List.{drop_more}
-use Rattle.kd_state.specs.declared.machine.parts.Parts.{Parts}
-use Rattle.kd_state.specs.declared.setting.Setting.{Setting}
-use Rattle.kd_state.specs.declared.setting.why.Why.{Why}
-use Rattle.kd_state.specs.Setting.{why_refused, changed, Leads}
-use Rattle.kd_state.specs.SheetDay.{Day}
-use Rattle.kd_card.specs.Proving.{IsNeeded, AreNeeded}
-use Rattle.kd_prices.specs.Doubt.{IsFirstNeedless}
+use Rattle.std.proofs.Common.{drop}
+use Rattle.kd_prices.proofs.Prelude.{◌≡◌, Some, None, ℕ, ◌+◌, ◌<◌, List, [], ◌∷◌, ◌++◌, length, get_or, refl, sym, ap, ◌∙◌, subst, arith, drop_more, Parts, Setting, Why, why_refused, changed, Leads, Day, IsNeeded, AreNeeded, IsFirstNeedless}
 
 pub leads_join : (m between n : Parts) (front rest : List Setting) → Leads m front between → Leads between rest n → Leads m (front ++ rest) n
 leads_join m between n [] rest first then_on = subst (λ machine. Leads machine rest n) first then_on

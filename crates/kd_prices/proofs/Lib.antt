@@ -1,3 +1,4 @@
+pub mod Prelude
 pub mod Leading
 pub mod Meaning
 pub mod Doubts
@@ -5,4 +6,4 @@ pub mod Rest
 pub mod AlikePrices
 pub mod Grouping
 pub mod Things
-pub mod Likeness
+pub mod AlikeLooks

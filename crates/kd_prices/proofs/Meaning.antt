@@ -1,22 +1,5 @@
 -- Prices mean one list of prices by number at most, and those are of the same model.
-use Rattle.std.proofs.Common.{below_more, ◌≡◌, ℕ, ◌+◌, ◌<◌, ◌≤◌, inl, inr, List, [], ◌∷◌, length, get_or, refl, sym, ap, ◌∙◌, subst, arith, ℤ, pos, unsigned_abs, Option, Some, None, MatchOption, set}
-use Rattle.std.proofs.lemmas.List.Elements.{All-from_get_or}
-use Rattle.kd_card.specs.declared.look.Look.TheVariants.{Pair}
-use Rattle.std.proofs.lemmas.List.{ext_get_or, get_or_default, get_or-set_same, get_or-set_other}
-use Rattle.kd_state.specs.declared.machine.parts.Parts.{Parts}
-use Rattle.kd_state.specs.declared.machine.parts.Parts.TheVariants.{Rotor, Pin}
-use Rattle.kd_state.specs.declared.setting.Setting.{Setting}
-use Rattle.kd_state.specs.SheetDay.{Day}
-use Rattle.kd_card.specs.declared.look.Look.{Look}
-use Rattle.kd_card.specs.declared.kinds.PricedKind.{PricedKind}
-use Rattle.kd_card.specs.declared.prices.PriceParts.{PriceParts}
-use Rattle.kd_card.specs.declared.prices.PriceParts.TheVariants.{Cables, Bars}
-use Rattle.kd_card.specs.declared.prices.Version.TheVariants.{ByNumber, ByKind}
-use Rattle.kd_card.specs.Kinds.{look_rank, AreKinds}
-use Rattle.kd_card.specs.Prices.{version_of, row_kinds, column_kinds, ArePrices, row_prices, column_prices, price_at, AreWithinReach, how_many}
-use Rattle.kd_card.specs.CardText.{group_of}
-use Rattle.kd_card.specs.Proving.{AreOfKind, row_looks, column_looks, IsPriced, look_at, AreExpanded, Expands, Same, Expanded, group_of_machine, Proves}
-use Rattle.kd_prices.specs.Doubt.{AreOfOneModel, AreNumbered}
+use Rattle.kd_prices.proofs.Prelude.{below_more, ◌≡◌, ℕ, ◌+◌, ◌<◌, ◌≤◌, inl, inr, List, [], ◌∷◌, length, get_or, refl, sym, ap, ◌∙◌, subst, arith, ℤ, pos, unsigned_abs, Option, Some, None, MatchOption, set, All-from_get_or, Pair, ext_get_or, get_or_default, get_or-set_same, get_or-set_other, Parts, Rotor, Pin, Setting, Day, Look, PricedKind, PriceParts, Cables, Bars, ByNumber, ByKind, look_rank, AreKinds, version_of, row_kinds, column_kinds, ArePrices, row_prices, column_prices, price_at, AreWithinReach, how_many, group_of, AreOfKind, row_looks, column_looks, IsPriced, look_at, AreExpanded, Expands, Same, Expanded, group_of_machine, Proves, AreOfOneModel, AreNumbered}
 
 above : (floor : ℕ) (kinds : List PricedKind) (look : Look) (price : ℤ) → AreKinds floor kinds → IsPriced look price kinds → floor ≤ look_rank look
 above floor [] look price are priced = absurd priced

@@ -1,9 +1,6 @@
 -- What is left of a card that proves itself, after its first lines.
-use Rattle.std.proofs.Common.{◌++◌, take, drop, sym, subst, arith, length-append, length-drop}
-use Rattle.std.proofs.lemmas.List.{take-append-drop, length-take}
-use Rattle.kd_state.specs.Setting.{Leads}
-use Rattle.kd_card.specs.Laws.{ProvingCardsAreShortest}
-use Rattle.kd_prices.specs.Laws.{RestIsShortest}
+use Rattle.std.proofs.Common.{take, drop}
+use Rattle.kd_prices.proofs.Prelude.{◌++◌, sym, subst, arith, length-append, length-drop, take-append-drop, length-take, Leads, ProvingCardsAreShortest, RestIsShortest}
 use Rattle.kd_prices.proofs.Leading.{leads_join, leads_on}
 
 pub rest_is_shortest : ProvingCardsAreShortest → RestIsShortest

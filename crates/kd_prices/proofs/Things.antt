@@ -1,26 +1,7 @@
 -- What a machine's cables or bars look like, and a day's pairs and nothings or rows: so many, called so, each in its form.
-use Rattle.std.proofs.Common.{◌≡◌, ℕ, zero, suc, ◌-◌, ◌<◌, false, eqb, List, [], ◌∷◌, ◌++◌, length, get_or, map, replicate, Option, Some, None, refl, ap, ◌∙◌, arith}
-use Rattle.std.specs.List.{AllByRecursion, IsDistinct}
-use Rattle.std.proofs.lemmas.Bool.{eqb-false}
-use Rattle.std.proofs.lemmas.List.{length-map}
-use Rattle.std.proofs.lemmas.List.Elements.{All-from_recursion, recursion_from_All, All-map}
-use Rattle.kd_enigma.specs.Plugs.{letters_plugged, NoLetterTwice}
-use Rattle.kd_state.specs.declared.machine.parts.Parts.{Parts}
-use Rattle.kd_state.specs.declared.machine.parts.Parts.TheVariants.{Rotor, Pin}
-use Rattle.kd_state.specs.Machine.{plugged_letters, ordered, IsMachine}
-use Rattle.kd_state.specs.SheetDay.{Day, OfRotors, OfPins, IsLegalDay}
-use Rattle.kd_state.specs.Costs.{columns_of}
-use Rattle.kd_state.specs.Laws.{ThirteenColumns}
-use Rattle.kd_card.specs.declared.look.Look.{Look}
-use Rattle.kd_card.specs.declared.look.Look.TheVariants.{Cable, Pair, Bar, Row}
-use Rattle.kd_card.specs.Kinds.{look_name, IsInForm}
-use Rattle.std.specs.List.{All}
-use Rattle.std.proofs.lemmas.Bool.Decides.{nat_tests}
-use Rattle.kd_card.specs.declared.group.Group.{Group}
-use Rattle.kd_card.specs.declared.group.Group.TheVariants.{OfCables, OfBars}
-use Rattle.kd_card.specs.CardText.{row_name, column_name, price_count}
-use Rattle.kd_card.specs.Proving.{row_looks, column_looks, pair_in_order, group_of_machine}
-use Rattle.kd_prices.specs.Kinds.{AreThings}
+use Rattle.std.proofs.Common.{map}
+use Rattle.std.specs.List.{IsDistinct}
+use Rattle.kd_prices.proofs.Prelude.{◌≡◌, ℕ, zero, suc, ◌-◌, ◌<◌, false, eqb, List, [], ◌∷◌, ◌++◌, length, get_or, replicate, Option, Some, None, refl, ap, ◌∙◌, arith, AllByRecursion, eqb-false, length-map, All-from_recursion, recursion_from_All, All-map, letters_plugged, NoLetterTwice, Parts, Rotor, Pin, plugged_letters, ordered, IsMachine, Day, OfRotors, OfPins, IsLegalDay, columns_of, ThirteenColumns, Look, Cable, Pair, Bar, Row, look_name, IsInForm, All, nat_tests, Group, OfCables, OfBars, row_name, column_name, price_count, row_looks, column_looks, pair_in_order, group_of_machine, AreThings}
 
 abbrev in_each_order : List (Option ℕ × Option ℕ) → List (Option ℕ × Option ℕ)
 in_each_order cables = map (λ cable. ordered cable.0 cable.1) cables

@@ -1,6 +1,6 @@
 -- Why a card doesn't prove itself: the first doubt, in a fixed order. Lines are numbered among the settings, from 1, and so
 -- are the rows and columns of the table of costs.
-use Rattle.std.specs.Prelude.{◌≡◌, ◌≢◌, ◌⊎◌, ℕ, ◌+◌, ◌<◌, List, ◌∷◌, ◌++◌, length, pos}
+use Rattle.std.specs.Prelude.{◌≡◌, ◌⊎◌, ℕ, ◌+◌, ◌<◌, List, ◌∷◌, ◌++◌, length, pos, Ok, Err}
 use Rattle.kd_state.specs.declared.machine.parts.Parts.{Parts}
 use Rattle.kd_state.specs.declared.setting.Setting.{Setting}
 use Rattle.kd_state.specs.Machine.{model_of}
@@ -9,10 +9,11 @@ use Rattle.kd_state.specs.SheetDay.{Day, day_model}
 use Rattle.kd_state.specs.OnKey.{ReadsAs}
 use Rattle.kd_state.specs.Costs.{cost_table}
 use Rattle.kd_card.specs.declared.prices.PriceParts.{PriceParts}
+use Rattle.kd_card.specs.Steps.{Says, ◌>>=◌, Finds, Demands}
 use Rattle.kd_card.specs.Prices.{Fits, FitsAt, how_many, price_sum}
 use Rattle.kd_card.specs.CardText.{group_of}
 use Rattle.kd_card.specs.Carrying.{IsFirstIllegal}
-use Rattle.kd_card.specs.Proving.{AreOfKind, Expands, group_of_machine, IsNeeded, AreNeeded, LeadsToTheDay, priced_count}
+use Rattle.kd_card.specs.Proving.{AreOfKind, Expands, group_of_machine, IsNeeded, AreNeeded, priced_count}
 use Rattle.kd_prices.specs.declared.doubt.Doubt.{Doubt}
 use Rattle.kd_prices.specs.declared.doubt.Doubt.TheVariants.{OtherModel, PriceMissing, IllegalAt, NotTheSheet, PriceTooHigh, SumDiffers, NeedlessLine}
 
@@ -53,25 +54,41 @@ pub record IsFirstNeedless (m : Parts) (s : Day) (settings : List Setting) (line
   pub needed : AreNeeded m s front
   pub needless : ¬ (IsNeeded between s setting)
 
--- the first doubt of prices by number: those before it don't hold
-abbrev pub IsDoubtByNumber : Parts → Day → List Setting → PriceParts → Doubt → Type 0
-IsDoubtByNumber m s settings prices OtherModel = ⊥
-IsDoubtByNumber m s settings prices PriceMissing = ⊥
-IsDoubtByNumber m s settings prices (IllegalAt line why) = AreNumbered m s prices × IsFirstIllegal m settings line why
-IsDoubtByNumber m s settings prices NotTheSheet = AreNumbered m s prices × ((n : Parts) × Leads m settings n × ¬ (ReadsAs n s))
-IsDoubtByNumber m s settings prices (PriceTooHigh i j) =
-    AreNumbered m s prices × LeadsToTheDay m s settings
-    × ((row : ℕ) × (column : ℕ) × (i ≡ row + 1) × (j ≡ column + 1) × IsFirstTooHigh (cost_table m s) prices row column)
-IsDoubtByNumber m s settings prices SumDiffers =
-    AreNumbered m s prices × LeadsToTheDay m s settings × Fits (cost_table m s) prices × (price_sum prices ≢ pos (priced_count settings))
-IsDoubtByNumber m s settings prices (NeedlessLine line) =
-    AreNumbered m s prices × LeadsToTheDay m s settings × Fits (cost_table m s) prices × (price_sum prices ≡ pos (priced_count settings))
-    × IsFirstNeedless m s settings line
+-- the machine to which the settings lead, or the first that is refused
+abbrev pub SaysCarried : Parts → List Setting → Says Doubt Parts
+SaysCarried m settings (Ok n) = Leads m settings n
+SaysCarried m settings (Err (IllegalAt line why)) = IsFirstIllegal m settings line why
+SaysCarried m settings (Err doubt) = ⊥
 
--- The first doubt: machine, day and prices are of different models; or the prices mean none for the machine and the day; or
--- it is that of the prices by number that they mean.
-pub data IsDoubt (m : Parts) (s : Day) (settings : List Setting) (prices : PriceParts) (doubt : Doubt) : Type 0 where
-  OfModels : ¬ (AreOfOneModel m s prices) → doubt ≡ OtherModel → IsDoubt m s settings prices doubt
-  OfKinds : AreOfOneModel m s prices → ((numbered : PriceParts) → ¬ (Expands m s prices numbered)) → doubt ≡ PriceMissing → IsDoubt m s settings prices doubt
-  OfNumbers : AreOfOneModel m s prices → (numbered : PriceParts) → Expands m s prices numbered → IsDoubtByNumber m s settings numbered doubt
-      → IsDoubt m s settings prices doubt
+-- the prices fit the table of costs, or the first place where they don't
+abbrev pub SaysFits : List (List ℕ) → PriceParts → Says Doubt (Unit {0})
+SaysFits costs prices (Ok fits) = Fits costs prices
+SaysFits costs prices (Err (PriceTooHigh i j)) =
+    (row : ℕ) × (column : ℕ) × (i ≡ row + 1) × (j ≡ column + 1) × IsFirstTooHigh costs prices row column
+SaysFits costs prices (Err doubt) = ⊥
+
+-- all settings are needed, or the first that isn't
+abbrev pub SaysNeeded : Parts → Day → List Setting → Says Doubt (Unit {0})
+SaysNeeded m s settings (Ok all) = AreNeeded m s settings
+SaysNeeded m s settings (Err (NeedlessLine line)) = IsFirstNeedless m s settings line
+SaysNeeded m s settings (Err doubt) = ⊥
+
+-- settings with prices by number prove themselves, or their first doubt
+abbrev pub SaysByNumber : Parts → Day → List Setting → PriceParts → Says Doubt (Unit {0})
+SaysByNumber m s settings prices = do
+  n ← SaysCarried m settings
+  _ ← Demands (ReadsAs n s) NotTheSheet
+  _ ← SaysFits (cost_table m s) prices
+  _ ← Demands (price_sum prices ≡ pos (priced_count settings)) SumDiffers
+  SaysNeeded m s settings
+
+-- the same of prices of either version, by the prices by number that they mean for the machine and the day
+abbrev pub SaysChecked : Parts → Day → List Setting → PriceParts → Says Doubt (Unit {0})
+SaysChecked m s settings prices = do
+  _ ← Demands (AreOfOneModel m s prices) OtherModel
+  numbered ← Finds (λ numbered. Expands m s prices numbered) PriceMissing
+  SaysByNumber m s settings numbered
+
+-- the first doubt
+abbrev pub IsDoubt : Parts → Day → List Setting → PriceParts → Doubt → Type 0
+IsDoubt m s settings prices doubt = SaysChecked m s settings prices (Err doubt)

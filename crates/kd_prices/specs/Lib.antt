@@ -2,4 +2,4 @@ pub mod Doubt
 pub mod Fitting
 pub mod Alike
 pub mod Laws
-pub mod Kinds
+pub mod KindCards

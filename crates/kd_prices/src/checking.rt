@@ -2,13 +2,13 @@ ghost use Rattle.std.specs.Prelude.{◌≡◌, ◌↔◌, ◌≤◌, length, IsT
 ghost use Rattle.kd_state.specs.Costs.{cost_table};
 ghost use Rattle.kd_card.specs.Prices.{Fits};
 ghost use Rattle.kd_card.specs.CardText.{group_of};
-ghost use Rattle.kd_card.specs.Proving.{Proves, ProvesByNumber, group_of_machine, priced_count};
-ghost use Rattle.kd_prices.specs.Doubt.{AreOfOneModel, AreNumbered, IsDoubt, IsDoubtByNumber, IsFirstTooHigh};
+ghost use Rattle.kd_card.specs.Proving.{Proves, group_of_machine, priced_count};
+ghost use Rattle.kd_prices.specs.Doubt.{AreOfOneModel, AreNumbered, IsFirstTooHigh, SaysChecked};
+ghost use Rattle.kd_prices.specs.Doubt.{SaysByNumber, IsDoubt};
 
 use super::doubt::Doubt;
 use super::expanding::expanded;
 use super::fitting::{Cell, first_too_high};
-use super::laws::a_card_is_in_one_doubt_at_most;
 use super::needless::{first_needless, is_priced};
 use kd_card::{Card, PriceParts, Prices, carry_all};
 use kd_state::laws::a_setting_is_refused_or_carried;
@@ -22,18 +22,31 @@ pub fn check(machine: &Machine, day: &SheetDay, card: &Card) -> Result<(), Doubt
     ensures doubt { IfErr result
         (IsDoubt machine.now day.now card.now.settings.items card.now.prices) }
 {
-    a_card_is_in_one_doubt_at_most();
-    if !are_of_one_model(machine, day, &card.prices) {
-        return Err(Doubt::OtherModel);
-    }
-    let Some(numbered) = expanded(machine, day, &card.prices) else {
-        return Err(Doubt::PriceMissing);
-    };
-    check_by_number(machine, day, card.settings.as_slice(), &numbered)
+    a_setting_is_refused_or_carried();
+    judged(machine, day, card.settings.as_slice(), &card.prices)
 }
 
-/// Whether settings and prices by number prove themselves, or the first doubt.
-fn check_by_number(
+/// Whether settings and prices prove themselves, or the first doubt.
+fn judged(
+    machine: &Machine,
+    day: &SheetDay,
+    settings: &[Setting],
+    prices: &Prices,
+) -> Result<(), Doubt>
+    requires { length settings.now ≤ 192 }
+    ensures { SaysChecked machine.now day.now settings.now prices.now result }
+{
+    if !are_of_one_model(machine, day, prices) {
+        return Err(Doubt::OtherModel);
+    }
+    let Some(numbered) = expanded(machine, day, prices) else {
+        return Err(Doubt::PriceMissing);
+    };
+    judged_by_number(machine, day, settings, &numbered)
+}
+
+/// The same of prices by number.
+fn judged_by_number(
     machine: &Machine,
     day: &SheetDay,
     settings: &[Setting],
@@ -41,15 +54,11 @@ fn check_by_number(
 ) -> Result<(), Doubt>
     requires numbered { AreNumbered machine.now day.now prices.now }
     requires few { length settings.now ≤ 192 }
-    ensures proves { IsOk result ↔ ProvesByNumber machine.now day.now settings.now prices.now }
-    ensures doubt { IfErr result (IsDoubtByNumber machine.now day.now settings.now prices.now) }
+    ensures { SaysByNumber machine.now day.now settings.now prices.now result }
 {
-    a_setting_is_refused_or_carried();
     let reached = match carry_all(machine, settings) {
         Ok(reached) => reached,
-        Err(illegal) => {
-            return Err(Doubt::IllegalAt(illegal.line, illegal.why));
-        }
+        Err(illegal) => return Err(Doubt::IllegalAt(illegal.line, illegal.why)),
     };
     if !reached.reads_as(day) {
         return Err(Doubt::NotTheSheet);

@@ -5,7 +5,7 @@ mod checking;
 mod doubt;
 mod expanding;
 mod fitting;
-mod kinds;
+mod kind_cards;
 pub mod laws;
 mod looks;
 mod loose;
@@ -13,4 +13,4 @@ mod needless;
 
 pub use checking::check;
 pub use doubt::Doubt;
-pub use kinds::by_kind;
+pub use kind_cards::by_kind;

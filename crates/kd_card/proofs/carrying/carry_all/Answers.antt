@@ -1,10 +1,4 @@
-use Rattle.std.proofs.Common.{◌≡◌, ℕ, suc, ◌+◌, ◌<◌, List, [], ◌∷◌, ◌++◌, length, get_or, take, drop, Some, refl, sym, ap, ◌∙◌, subst, arith}
-use Rattle.std.proofs.lemmas.List.{length-take-le, take_more, take-append-drop}
-use Rattle.std.proofs.Math.Seq.{drop-cons}
-use Rattle.kd_state.specs.declared.machine.parts.Parts.{Parts}
-use Rattle.kd_state.specs.declared.setting.Setting.{Setting}
-use Rattle.kd_state.specs.declared.setting.why.Why.{Why}
-use Rattle.kd_state.specs.Setting.{why_refused, Carries, Leads}
+use Rattle.kd_card.proofs.Prelude.{◌≡◌, ℕ, suc, ◌+◌, ◌<◌, List, [], ◌∷◌, ◌++◌, length, get_or, take, drop, Some, refl, sym, ap, ◌∙◌, subst, arith, length-take-le, take_more, take-append-drop, drop-cons, Parts, Setting, Why, why_refused, Carries, Leads}
 use Rattle.kd_card.specs.Carrying.{IsFirstIllegal}
 use Rattle.kd_card.proofs.carrying.carry_all.Goals as goal
 

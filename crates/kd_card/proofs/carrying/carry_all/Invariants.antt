@@ -1,5 +1,4 @@
-use Rattle.std.proofs.Common.{take}
-use Rattle.kd_state.specs.Setting.{Leads}
+use Rattle.kd_card.proofs.Prelude.{take, Leads}
 use Rattle.kd_card.proofs.carrying.carry_all.Given as goal
 
 abbrev pub invariant-loop-place : goal.invariant-loop-place

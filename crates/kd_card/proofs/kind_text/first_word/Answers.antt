@@ -1,5 +1,4 @@
-use Rattle.std.proofs.Common.{[]}
-use Rattle.kd_state.specs.Words.{words_of}
+use Rattle.kd_card.proofs.Prelude.{[], words_of}
 use Rattle.kd_card.proofs.Lines.{words_of_first, words_of_last}
 use Rattle.kd_card.proofs.kind_text.first_word.Goals as goal
 

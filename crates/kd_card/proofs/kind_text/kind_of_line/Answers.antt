@@ -1,6 +1,4 @@
-use Rattle.std.proofs.Common.{◌∙◌, ap, map, subst, MatchOption, length, Bor, List, ℕ, ◌≡◌, arith}
-use Rattle.kd_card.specs.declared.kinds.PricedKind.{PricedKind}
-use Rattle.kd_card.specs.Kinds.{HasKindWords}
+use Rattle.kd_card.proofs.Prelude.{◌∙◌, ap, map, subst, MatchOption, length, Bor, List, ℕ, ◌≡◌, arith, PricedKind, HasKindWords}
 use Rattle.kd_card.proofs.KindWords.{four_words}
 use Rattle.kd_card.proofs.kind_text.kind_of_line.Goals as goal
 

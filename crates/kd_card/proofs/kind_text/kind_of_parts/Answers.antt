@@ -1,4 +1,4 @@
-use Rattle.std.proofs.Common.{◌∙◌, ap, sym, decimal}
+use Rattle.kd_card.proofs.Prelude.{◌∙◌, ap, sym, decimal}
 use Rattle.kd_card.proofs.KindWords.{no_count}
 use Rattle.kd_card.proofs.kind_text.kind_of_parts.Goals as goal
 

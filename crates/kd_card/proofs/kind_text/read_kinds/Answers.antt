@@ -1,11 +1,14 @@
-use Rattle.std.proofs.Common.{◌<◌, ◌∙◌, length, refl, sym, arith}
-use Rattle.kd_card.specs.CardFault.{AtKind, AtCount}
+use Rattle.kd_card.proofs.Prelude.{◌<◌, ◌∙◌, length, refl, sym, ap, arith, BadLine, PriceMissing, Refused, Found}
 use Rattle.kd_card.proofs.KindLists.{low_look, reads_on, walk_bounds}
 use Rattle.kd_card.proofs.kind_text.read_kinds.Goals as goal
 
 pub returns-in-Err : goal.returns-in-Err
 returns-in-Err c =
-    AtKind _ _ c.kind.invariant.begins (rw (← c.kind.invariant.at_is, ← c.kind.invariant.walked.floor_is) c.in-Err.ensures)
+    let read = c.kind.invariant in
+    let bad = c.in-Err.ensures.0 in
+    Found (c.kind.kinds.items, c.kind.rest.now)
+    (record { begins = read.begins; none_more = rw (← read.walked.floor_is) bad.none_more })
+    (Refused c.in-Err.fault ((λ same ends. bad.goes_on ends), c.in-Err.ensures.1 ∙ ap BadLine read.at_is) refl)
 
 pub overflow_add-total : goal.overflow_add-total
 overflow_add-total c =
@@ -33,12 +36,18 @@ kind-preserved c =
     reads_on c.kind.invariant next c.rank-floor.ensures.value c.from-total.ensures c.push.ensures.items
 
 pub returns-then-total-number : goal.returns-then-total-number
-returns-then-total-number c = record {
-  begins = c.kind.invariant.begins;
-  ends = rw c.in_default.is at c.in-Ok.ensures;
-  count = sym c.kind.invariant.walked.total_is ∙ c.if-total-number.true;
-}
+returns-then-total-number c =
+    let read = c.kind.invariant in
+    let end = rw c.in_default.is at c.in-Ok.ensures in
+    Found (c.kind.kinds.items, c.kind.rest.now)
+    (record { begins = read.begins; none_more = rw (← read.walked.floor_is) end.none_more })
+    (Found tt end.ends (Found tt (sym read.walked.total_is ∙ c.if-total-number.true) refl))
 
 pub returns-else-total-number : goal.returns-else-total-number
 returns-else-total-number c =
-    AtCount _ _ c.kind.invariant.begins (rw c.in_default.is at c.in-Ok.ensures) (λ count. c.if-total-number.false (c.kind.invariant.walked.total_is ∙ count)) refl
+    let read = c.kind.invariant in
+    let end = rw c.in_default.is at c.in-Ok.ensures in
+    Found (c.kind.kinds.items, c.kind.rest.now)
+    (record { begins = read.begins; none_more = rw (← read.walked.floor_is) end.none_more })
+    (Found tt end.ends
+    (Refused PriceMissing ((λ same count. c.if-total-number.false (read.walked.total_is ∙ count)), refl) refl))

@@ -1,4 +1,4 @@
-use Rattle.std.proofs.Common.{length}
+use Rattle.kd_card.proofs.Prelude.{length}
 use Rattle.kd_card.proofs.KindLists.{HasRead}
 use Rattle.kd_card.proofs.kind_text.read_kinds.Given as goal
 

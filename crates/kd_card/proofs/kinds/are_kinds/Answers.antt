@@ -1,6 +1,4 @@
-use Rattle.std.proofs.Common.{◌≤◌, ◌∙◌, sym, subst, arith}
-use Rattle.std.proofs.lemmas.Bool.{false≢true}
-use Rattle.kd_card.specs.Kinds.{look_rank, IsPricedKind}
+use Rattle.kd_card.proofs.Prelude.{◌≤◌, ◌∙◌, sym, subst, arith, false≢true, look_rank, IsPricedKind}
 use Rattle.kd_card.proofs.KindLists.{walks_on, walk_bounds, good_at}
 use Rattle.kd_card.proofs.kinds.are_kinds.Goals as goal
 

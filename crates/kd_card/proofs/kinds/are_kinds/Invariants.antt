@@ -1,4 +1,4 @@
-use Rattle.std.proofs.Common.{take}
+use Rattle.kd_card.proofs.Prelude.{take}
 use Rattle.kd_card.proofs.KindLists.{Walked}
 use Rattle.kd_card.proofs.kinds.are_kinds.Given as goal
 

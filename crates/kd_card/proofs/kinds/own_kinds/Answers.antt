@@ -1,4 +1,4 @@
-use Rattle.std.proofs.Common.{arith}
+use Rattle.kd_card.proofs.Prelude.{arith}
 use Rattle.kd_card.proofs.KindLists.{called_at}
 use Rattle.kd_card.proofs.kinds.own_kinds.Goals as goal
 

@@ -1,4 +1,4 @@
-use Rattle.std.proofs.Common.{◌≡◌, map, take}
+use Rattle.kd_card.proofs.Prelude.{◌≡◌, map, take}
 use Rattle.kd_card.proofs.kinds.own_kinds.Given as goal
 
 abbrev pub invariant-loop-kind : goal.invariant-loop-kind

@@ -1,5 +1,4 @@
-use Rattle.std.proofs.Common.{◌≡◌, ◌+◌, ◌*◌, ◌≤◌, take, fold, unsigned_abs, ◌+ℤ◌}
-use Rattle.kd_card.specs.Kinds.{counted, prices_of_kinds}
+use Rattle.kd_card.proofs.Prelude.{◌≡◌, ◌+◌, ◌*◌, ◌≤◌, take, fold, unsigned_abs, ◌+ℤ◌, counted, prices_of_kinds}
 use Rattle.kd_card.proofs.kinds.sum_of_kinds.Given as goal
 
 abbrev pub invariant-loop-kind : goal.invariant-loop-kind

@@ -1,4 +1,4 @@
-use Rattle.std.proofs.Common.{arith}
+use Rattle.kd_card.proofs.Prelude.{arith}
 use Rattle.kd_card.proofs.KindWords.{no_pair}
 use Rattle.kd_card.proofs.look.pair_of_text.Goals as goal
 

@@ -1,7 +1,4 @@
-use Rattle.std.proofs.Common.{◌↔◌, length}
-use Rattle.std.specs.List.{All}
-use Rattle.kd_state.specs.Words.{words_of}
-use Rattle.kd_card.specs.CardFault.{IsPriceText}
+use Rattle.kd_card.proofs.Prelude.{◌↔◌, length, All, words_of, IsPriceText}
 use Rattle.kd_card.proofs.price_text.are_prices.Given as goal
 
 abbrev pub invariant-loop-word : goal.invariant-loop-word

@@ -1,9 +1,4 @@
-use Rattle.std.proofs.Common.{rules, ◌≡◌, ◌<◌, ◌≤◌, ◌∙◌, sym, ap, subst, unsigned_abs, Decides, w16, to_z, of_z, arith}
-use Rattle.std.specs.Fmt.{signed_decimal}
-use Rattle.std.specs.Bool.{then_some}
-use Rattle.std.proofs.lemmas.Bool.Decides.{Decides-eqb}
-use Rattle.std.proofs.lemmas.Int.{to_z-of_z}
-use Rattle.std.proofs.lemmas.Slice.Eq.{slice_eq-Decides}
+use Rattle.kd_card.proofs.Prelude.{rules, ◌≡◌, ◌<◌, ◌≤◌, ◌∙◌, sym, ap, subst, unsigned_abs, Decides, w16, to_z, of_z, arith, signed_decimal, then_some, Decides-eqb, to_z-of_z, slice_eq-Decides}
 use Rattle.kd_card.proofs.PriceTexts.{no_text, read_price, only_price, ok_part}
 use Rattle.kd_card.proofs.price_text.price_of_text.Goals as goal
 

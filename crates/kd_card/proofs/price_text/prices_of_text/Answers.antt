@@ -1,15 +1,28 @@
-use Rattle.std.proofs.Common.{◌∙◌, ap, map, refl, inl, Bor, List, ℕ, sym}
-use Rattle.std.proofs.lemmas.Bool.{false≢true}
-use Rattle.kd_card.proofs.PriceTexts.{other_count}
+use Rattle.kd_card.proofs.Prelude.{◌∙◌, Bor, List, ℕ, map, ap, sym, refl, false≢true, Found}
+use Rattle.kd_card.proofs.PriceTexts.{other_count, too_many, no_prices}
 use Rattle.kd_card.proofs.price_text.prices_of_text.Goals as goal
 
-pub returns-in_default-prices_of_words-clause-value : goal.returns-in_default-prices_of_words-clause-value
-returns-in_default-prices_of_words-clause-value g c =
-    let texts = ap (map (λ (word : Bor (List ℕ)). word.now)) c.as_slice.ensures.value ∙ c.in-Some.ensures in
-    rw (← texts) (inl (c.in_default-prices_of_words.ensures, refl))
+pub returns-then-are_prices : goal.returns-then-are_prices
+returns-then-are_prices g c = too_many _ c.args.line (c.are_prices.ensures.0 c.if-are_prices.true) c.in_default.ensures
 
-pub returns-in-Err-clause-value : goal.returns-in-Err-clause-value
-returns-in-Err-clause-value g c =
+pub returns-in_default : goal.returns-in_default
+returns-in_default g c =
+    no_prices _ c.args.line (λ all. false≢true (sym c.if-are_prices.false ∙ c.are_prices.ensures.1 all))
+
+pub returns-in_default-prices_of_words : goal.returns-in_default-prices_of_words
+returns-in_default-prices_of_words g c =
     let texts = ap (map (λ (word : Bor (List ℕ)). word.now)) c.as_slice.ensures.value ∙ c.in-Some.ensures in
-    other_count c.in-Some-prices_of_words.prices.items (sym texts ∙ c.in-Some-prices_of_words.ensures.0) c.in-Some-prices_of_words.ensures.1
-    (λ full. false≢true (c.in-Err.ensures.variant.1 full))
+    rw (← texts) (no_prices _ c.args.line c.in_default-prices_of_words.ensures)
+
+pub returns-in-Ok : goal.returns-in-Ok
+returns-in-Ok g c =
+    let texts = ap (map (λ (word : Bor (List ℕ)). word.now)) c.as_slice.ensures.value ∙ c.in-Some.ensures in
+    rw c.in-Ok.ensures.ok
+    (Found _ (sym texts ∙ c.in-Some-prices_of_words.ensures.0, c.in-Some-prices_of_words.ensures.1)
+    (Found tt (c.in-Ok.ensures.variant.0 refl) refl))
+
+pub returns-in-Err : goal.returns-in-Err
+returns-in-Err g c =
+    let texts = ap (map (λ (word : Bor (List ℕ)). word.now)) c.as_slice.ensures.value ∙ c.in-Some.ensures in
+    other_count _ c.args.line c.in-Some-prices_of_words.prices.items (sym texts ∙ c.in-Some-prices_of_words.ensures.0)
+    c.in-Some-prices_of_words.ensures.1 (λ full. false≢true (c.in-Err.ensures.variant.1 full))

@@ -1,4 +1,4 @@
-use Rattle.std.proofs.Common.{arith}
+use Rattle.kd_card.proofs.Prelude.{arith}
 use Rattle.kd_card.proofs.PriceTexts.{not_at}
 use Rattle.kd_card.proofs.price_text.prices_of_words.Goals as goal
 

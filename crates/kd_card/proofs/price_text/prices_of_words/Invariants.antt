@@ -1,6 +1,4 @@
-use Rattle.std.proofs.Common.{◌≡◌, length, map, take}
-use Rattle.std.specs.Fmt.{signed_decimal}
-use Rattle.kd_card.specs.Prices.{AreWithinReach}
+use Rattle.kd_card.proofs.Prelude.{◌≡◌, length, map, take, signed_decimal, AreWithinReach}
 use Rattle.kd_card.proofs.price_text.prices_of_words.Given as goal
 
 abbrev pub invariant-loop-word : goal.invariant-loop-word

@@ -1,7 +1,4 @@
-use Rattle.kd_card.specs.declared.prices.Version.TheVariants.{ByNumber, ByKind}
-use Rattle.kd_card.specs.declared.prices.Version.{Version}
-use Rattle.std.proofs.Common.{ℕ, List}
-use Rattle.kd_card.specs.Reading.{BeginsWithHead}
+use Rattle.kd_card.proofs.Prelude.{ByNumber, ByKind, Version, ℕ, List, BeginsWithHead}
 use Rattle.kd_card.proofs.read.read_head.Goals as goal
 
 no_head : (text : List ℕ) → ((day : ℕ) (rest : List ℕ) → ¬ (BeginsWithHead text ByNumber day rest))

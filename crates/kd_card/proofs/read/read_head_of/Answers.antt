@@ -1,9 +1,4 @@
-use Rattle.std.proofs.Common.{rules, ◌≡◌, ◌∙◌, ◌++◌, ◌∷◌, ℕ, List, ap, sym, append_assoc, decimal, arith}
-use Rattle.std.proofs.lemmas.Fmt.{decimal_injective}
-use Rattle.kd_state.specs.Words.{line_of}
-use Rattle.kd_card.specs.CardText.{head_words}
-use Rattle.kd_card.specs.declared.prices.Version.{Version}
-use Rattle.kd_card.specs.CardFault.{with_line}
+use Rattle.kd_card.proofs.Prelude.{rules, ◌≡◌, ◌∙◌, ◌++◌, ◌∷◌, ℕ, List, ap, sym, append_assoc, decimal, arith, decimal_injective, line_of, head_words, Version, with_line}
 use Rattle.kd_card.proofs.Lines.{same_behind}
 use Rattle.kd_card.proofs.read.read_head_of.Goals as goal
 use Rattle.kd_card.proofs.read.read_head_of.Goals.{then-day-lt1-via-then-day-lt1, then-day-lt1-via-else-day-lt1+then-day-gt31}

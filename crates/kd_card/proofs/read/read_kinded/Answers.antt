@@ -1,34 +1,36 @@
-use Rattle.std.proofs.Common.{refl, arith}
-use Rattle.std.proofs.lemmas.Result.{err_from_is_err_and}
-use Rattle.kd_card.specs.Reading.{InGroup, InRowKinds, InColumnKinds}
-use Rattle.kd_card.proofs.KindPrices.{few_kinds, all_groups, few_prices_of}
+use Rattle.kd_card.proofs.Prelude.{refl, arith, err_from_is_err_and, Refused, Found}
+use Rattle.kd_card.proofs.CardWords.{group_said}
+use Rattle.kd_card.proofs.KindPrices.{few_kinds, few_prices_of}
 use Rattle.kd_card.proofs.read.read_kinded.Goals as goal
 
 pub returns-in_err-group : goal.returns-in_err-group
 returns-in_err-group c =
-    let p = err_from_is_err_and c.from_residual.result c.from_residual.ensures.1 in rw (p.1, p.2) (InGroup refl c.in_err-group.ensures)
+    let p = err_from_is_err_and c.from_residual.result c.from_residual.ensures.1 in
+    rw (p.1, p.2) (Refused _ c.in_err-group.ensures refl)
 
 pub returns-in_err-rows : goal.returns-in_err-rows
 returns-in_err-rows c =
     let p = err_from_is_err_and c.from_residual-in_err-rows.result c.from_residual-in_err-rows.ensures.1 in
     rw (p.1, p.2)
-    (InRowKinds refl c.in_ok-group.group c.in_ok-group.ensures (rw (c.row_name.ensures, c.number-number.ensures) at c.in_err-rows.ensures))
+    (Found _ c.in_ok-group.ensures (Refused _ (rw (c.row_name.ensures, c.number-number.ensures) at c.in_err-rows.ensures) refl))
 
 pub returns-in_err-columns : goal.returns-in_err-columns
 returns-in_err-columns c =
     let p = err_from_is_err_and c.from_residual-in_err-columns.result c.from_residual-in_err-columns.ensures.1 in
     rw (p.1, p.2)
-    (InColumnKinds refl c.in_ok-group.group c.in_ok-rows.rows.items c.in_ok-rows.rest.now
-    (rw (c.row_name.ensures, c.number-number.ensures) at c.in_ok-rows.ensures)
-    (rw (c.column_name.ensures, c.number-number.ensures, c.len.ensures.value) at c.in_err-columns.ensures))
+    (Found _ c.in_ok-group.ensures
+    (Found _ (rw (c.row_name.ensures, c.number-number.ensures) at c.in_ok-rows.ensures)
+    (Refused _ (rw (c.column_name.ensures, c.number-number.ensures, c.len.ensures.value) at c.in_err-columns.ensures) refl)))
 
 pub read_kinds-requires-2-clause-near : goal.read_kinds-requires-2-clause-near
 read_kinds-requires-2-clause-near c =
-    let begins = c.in_ok-rows.ensures in
-    omega (arith, few_kinds 0 c.in_ok-rows.rows.items begins.begins.in_order, few_prices_of c.in_ok-group.group)
+    let rows = (group_said _ _ c.in_ok-rows.ensures).group in
+    let count = rows.count in
+    omega (arith, few_kinds 0 c.in_ok-rows.rows.items rows.in_order, few_prices_of c.in_ok-group.group)
 
 pub returns : goal.returns
 returns c =
-    all_groups (rw (c.as_slice.ensures.value, c.as_slice-2.ensures.value) at c.of_groups.ensures.kinds)
-    (rw (c.row_name.ensures, c.number-number.ensures) at c.in_ok-rows.ensures)
-    (rw (c.column_name.ensures, c.number-number.ensures) at c.in_ok-columns.ensures) c.of_groups.ensures.are_prices
+    Found _ c.in_ok-group.ensures
+    (Found _ (rw (c.row_name.ensures, c.number-number.ensures) at c.in_ok-rows.ensures)
+    (Found _ (rw (c.column_name.ensures, c.number-number.ensures, c.len.ensures.value) at c.in_ok-columns.ensures)
+    (Found _ (rw (c.as_slice.ensures.value, c.as_slice-2.ensures.value) at c.of_groups.ensures.kinds) refl)))

@@ -1,28 +1,29 @@
-use Rattle.std.proofs.Common.{◌∙◌, sym, refl}
-use Rattle.std.specs.Str.{bytes_eq}
-use Rattle.std.proofs.lemmas.Bool.{false≢true}
-use Rattle.std.proofs.lemmas.Bool.Decides.{Decides-eqb}
-use Rattle.std.proofs.lemmas.Slice.Eq.{slice_eq-Decides, bytes_eq-Decides}
-use Rattle.kd_card.specs.CardFault.{OtherWord, OtherPrices}
-use Rattle.kd_card.proofs.PriceTexts.{has_words, one_word, word_alone, read_line}
+use Rattle.kd_card.proofs.Prelude.{◌∙◌, not, sym, ap, refl, false≢true, not-false, Decides-eqb, err_from_is_err_and, slice_eq-Decides, PriceMissing, Refused, Found}
+use Rattle.kd_card.proofs.CardWords.{first_found, other_first}
 use Rattle.kd_card.proofs.read.read_price_line.Goals as goal
 
-pub returns-in_default-split_once : goal.returns-in_default-split_once
-returns-in_default-split_once g c =
-    one_word (bytes_eq c.in-Some.words.now c.args.word.now) (bytes_eq-Decides c.in-Some.words.now c.args.word.now) c.requires.some
-    (word_alone c.in-Some.ensures c.in_default-split_once.ensures)
+pub returns-in_err-first : goal.returns-in_err-first
+returns-in_err-first g c =
+    let p = err_from_is_err_and c.from_residual.result c.from_residual.ensures.1 in
+    rw (p.1, p.2) (Refused _ (Refused _ c.in_err-first.ensures refl) refl)
 
-pub returns-in-Ok : goal.returns-in-Ok
-returns-in-Ok g c =
-    let compared = slice_eq-Decides Decides-eqb c.in-Some-split_once.first.now c.args.word.now c.eq.result c.eq.ensures in
-    read_line c.args.word.now c.in-Ok.prices c.in-Some.ensures c.in-Some-split_once.ensures (compared.0 c.if-eq.true) c.in-Ok.ensures.value c.in-Ok.ensures.reach
+pub returns-then-ne : goal.returns-then-ne
+returns-then-ne g c =
+    let compared = slice_eq-Decides Decides-eqb c.in_ok-first.first.now c.args.word.now _ refl in
+    Refused PriceMissing
+    (other_first _ c.in_ok-first.ensures
+    (λ key same. false≢true (sym (c.ne.ensures ∙ ap not (compared.1 same)) ∙ c.if-ne.true))) refl
 
-pub returns-in-Err : goal.returns-in-Err
-returns-in-Err g c =
-    let compared = slice_eq-Decides Decides-eqb c.in-Some-split_once.first.now c.args.word.now c.eq.result c.eq.ensures in
-    OtherPrices _ _ _ _ (has_words c.in-Some.ensures c.in-Some-split_once.ensures) (compared.0 c.if-eq.true, refl) c.in-Err.ensures.value
+pub returns-in_err-prices_behind : goal.returns-in_err-prices_behind
+returns-in_err-prices_behind g c =
+    let p = err_from_is_err_and c.from_residual-in_err-prices_behind.result c.from_residual-in_err-prices_behind.ensures.1 in
+    let compared = slice_eq-Decides Decides-eqb c.in_ok-first.first.now c.args.word.now _ refl in
+    rw (p.1, p.2)
+    (Found _ (first_found _ tt c.in_ok-first.ensures (compared.0 (not-false _ (sym c.ne.ensures ∙ c.if-ne.false))))
+    (Refused _ c.in_err-prices_behind.ensures refl))
 
-pub returns-else-eq : goal.returns-else-eq
-returns-else-eq g c =
-    let compared = slice_eq-Decides Decides-eqb c.in-Some-split_once.first.now c.args.word.now c.eq.result c.eq.ensures in
-    OtherWord _ _ _ (has_words c.in-Some.ensures c.in-Some-split_once.ensures) (λ number due. false≢true (sym c.if-eq.false ∙ compared.1 due.0)) refl
+pub returns : goal.returns
+returns g c =
+    let compared = slice_eq-Decides Decides-eqb c.in_ok-first.first.now c.args.word.now _ refl in
+    Found _ (first_found _ tt c.in_ok-first.ensures (compared.0 (not-false _ (sym c.ne.ensures ∙ c.if-ne.false))))
+    (Found _ c.in_ok-prices_behind.ensures refl)

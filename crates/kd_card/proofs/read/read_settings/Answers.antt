@@ -1,6 +1,4 @@
-use Rattle.std.proofs.Common.{◌∙◌, sym, [], ◌∷◌, ◌++◌, arith}
-use Rattle.std.proofs.lemmas.Bool.{eqb-true}
-use Rattle.std.proofs.lemmas.List.{length_push}
+use Rattle.kd_card.proofs.Prelude.{◌∙◌, refl, sym, [], ◌∷◌, ◌++◌, arith, eqb-true, length_push}
 use Rattle.kd_card.proofs.Lines.{one_more_line}
 use Rattle.kd_card.proofs.read.read_settings.Goals as goal
 
@@ -8,8 +6,11 @@ pub returns-then-is_full : goal.returns-then-is_full
 returns-then-is_full c =
     let settings = c.loop-setting.settings.items in
     let full = eqb-true _ _ (sym c.is_full.ensures.value ∙ c.if-is_full.true) in (
-      settings ++ c.in-Some.setting ∷ [],
-      c.in-Some.after.now,
-      one_more_line c.loop-setting.invariant.begins c.in-Some.ensures,
-      omega (arith, full, length_push settings c.in-Some.setting),
+      (
+        settings ++ c.in-Some.setting ∷ [],
+        c.in-Some.after.now,
+        one_more_line c.loop-setting.invariant.begins c.in-Some.ensures,
+        omega (arith, full, length_push settings c.in-Some.setting),
+      ),
+      refl,
     )

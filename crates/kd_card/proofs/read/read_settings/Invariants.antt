@@ -1,5 +1,4 @@
-use Rattle.std.proofs.Common.{◌≤◌, length}
-use Rattle.kd_state.specs.Line.{BeginsWith}
+use Rattle.kd_card.proofs.Prelude.{◌≤◌, length, BeginsWith}
 use Rattle.kd_card.proofs.read.read_settings.Given as goal
 
 abbrev pub invariant-loop-setting : goal.invariant-loop-setting

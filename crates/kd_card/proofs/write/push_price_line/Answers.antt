@@ -1,5 +1,4 @@
-use Rattle.std.proofs.Common.{◌≡◌, ◌∙◌, ◌++◌, ◌∷◌, [], ap, take, arith}
-use Rattle.std.proofs.lemmas.List.{take_all}
+use Rattle.kd_card.proofs.Prelude.{◌≡◌, ◌∙◌, ◌++◌, ◌∷◌, [], ap, take, arith, take_all}
 use Rattle.kd_card.proofs.Lines.{behind_spaces, all_prices}
 use Rattle.kd_card.proofs.write.push_price_line.Goals as goal
 

@@ -1,5 +1,4 @@
-use Rattle.std.proofs.Common.{◌≡◌, ◌+◌, ◌*◌, ◌≤◌, ◌++◌, length, take}
-use Rattle.arrayvec.specs.ArrayString.{array_string_len}
+use Rattle.kd_card.proofs.Prelude.{◌≡◌, ◌+◌, ◌*◌, ◌≤◌, ◌++◌, length, take, array_string_len}
 use Rattle.kd_card.proofs.Lines.{behind_spaces}
 use Rattle.kd_card.proofs.write.push_price_line.Given as goal
 

@@ -1,7 +1,5 @@
-use Rattle.std.proofs.Common.{rules, ◌≡◌, ◌∙◌, inl, inr, All, ap, sym, subst, append_assoc}
-use Rattle.kd_card.specs.declared.prices.Version.TheVariants.{ByKind}
-use Rattle.kd_card.specs.Kinds.{IsPricedKind, kinds_text}
-use Rattle.kd_card.specs.Prices.{version_of, row_kinds, column_kinds, ArePrices}
+use Rattle.std.proofs.Common.{All}
+use Rattle.kd_card.proofs.Prelude.{rules, ◌≡◌, ◌∙◌, inl, inr, ap, sym, subst, append_assoc, ByKind, IsPricedKind, kinds_text, version_of, row_kinds, column_kinds, ArePrices}
 use Rattle.kd_card.proofs.KindLists.{all_kinds}
 use Rattle.kd_card.proofs.KindPrices.{text_by_kind}
 use Rattle.kd_card.proofs.write.push_prices.Goals as goal

@@ -1,7 +1,5 @@
-use Rattle.std.proofs.Common.{arith, subst}
+use Rattle.kd_card.proofs.Prelude.{arith, subst, All-more, IsInRange}
 use Rattle.std.proofs.lemmas.Grind.{common_steps}
-use Rattle.std.proofs.lemmas.List.Elements.{All-more}
-use Rattle.kd_state.specs.Line.{IsInRange}
 use Rattle.kd_card.proofs.write.push_settings.Goals as goal
 
 pub loop-setting-preserved : goal.loop-setting-preserved

@@ -1,6 +1,5 @@
-use Rattle.std.proofs.Common.{◌≡◌, ◌+◌, ◌*◌, ◌≤◌, ◌++◌, take, All}
-use Rattle.arrayvec.specs.ArrayString.{array_string_len}
-use Rattle.kd_state.specs.Line.{list_text, IsInRange}
+use Rattle.std.proofs.Common.{All}
+use Rattle.kd_card.proofs.Prelude.{◌≡◌, ◌+◌, ◌*◌, ◌≤◌, ◌++◌, take, array_string_len, list_text, IsInRange}
 use Rattle.kd_card.proofs.write.push_settings.Given as goal
 
 abbrev pub invariant-loop-setting : goal.invariant-loop-setting

@@ -1,8 +1,4 @@
-use Rattle.std.proofs.Common.{◌∙◌, sym, refl, subst, arith}
-use Rattle.std.proofs.lemmas.Bool.{false≢true}
-use Rattle.std.proofs.lemmas.List.{take_all}
-use Rattle.std.proofs.lemmas.List.Elements.{All-more, All-same}
-use Rattle.kd_card.specs.Proving.{HasCount}
+use Rattle.kd_prices.proofs.Prelude.{◌∙◌, sym, refl, subst, arith, false≢true, take_all, All-more, All-same, HasCount}
 use Rattle.kd_prices.proofs.expanding.are_counted.Goals as goal
 
 pub returns-then-not-is_counted : goal.returns-then-not-is_counted

@@ -1,6 +1,4 @@
-use Rattle.std.proofs.Common.{rules, ◌∙◌, sym, refl, subst}
-use Rattle.kd_state.specs.OneModel.{AreParted}
-use Rattle.kd_card.specs.declared.prices.PriceParts.TheVariants.{Cables, Bars}
+use Rattle.kd_prices.proofs.Prelude.{rules, ◌∙◌, sym, refl, subst, AreParted, Cables, Bars}
 use Rattle.kd_prices.proofs.Meaning.{expanded_told}
 use Rattle.kd_prices.proofs.expanding.expanded.Goals as goal
 

@@ -1,7 +1,4 @@
-use Rattle.std.proofs.Common.{rules, ◌∙◌, sym, refl, inl, inr, subst, FitsSigned, w16, arith}
-use Rattle.std.proofs.lemmas.Int.{to_z-of_z}
-use Rattle.std.proofs.lemmas.List.{drop_all}
-use Rattle.kd_card.specs.Proving.{IsPriced}
+use Rattle.kd_prices.proofs.Prelude.{rules, ◌∙◌, sym, refl, inl, inr, subst, FitsSigned, w16, arith, to_z-of_z, drop_all, IsPriced}
 use Rattle.kd_prices.proofs.Leading.{drop_at}
 use Rattle.kd_prices.proofs.expanding.price_of.Goals as goal
 

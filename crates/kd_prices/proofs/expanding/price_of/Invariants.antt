@@ -1,5 +1,5 @@
-use Rattle.std.specs.Prelude.{ℤ, ◌↔◌, drop}
-use Rattle.kd_card.specs.Proving.{IsPriced}
+use Rattle.std.specs.Prelude.{ℤ}
+use Rattle.kd_prices.proofs.Prelude.{◌↔◌, drop, IsPriced}
 use Rattle.kd_prices.proofs.expanding.price_of.Given as goal
 
 abbrev pub invariant-loop-kind : goal.invariant-loop-kind

@@ -1,6 +1,4 @@
-use Rattle.std.proofs.Common.{rules, ◌≡◌, ◌∙◌, sym, FitsSigned, w16, arith, length}
-use Rattle.std.proofs.lemmas.Int.{to_z-of_z}
-use Rattle.std.proofs.lemmas.List.{get_or_default, length-set}
+use Rattle.kd_prices.proofs.Prelude.{rules, ◌≡◌, ◌∙◌, sym, FitsSigned, w16, arith, length, to_z-of_z, get_or_default, length-set}
 use Rattle.kd_prices.proofs.Meaning.{no_expansion, one_more_price}
 use Rattle.kd_prices.proofs.expanding.priced.Goals as goal
 

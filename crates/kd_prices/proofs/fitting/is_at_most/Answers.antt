@@ -1,5 +1,4 @@
-use Rattle.std.proofs.Common.{◌≡◌, ◌+ℤ◌, SFits, w16, w32, to_z, of_z, rules, arith}
-use Rattle.std.proofs.lemmas.Int.{ints, to_z-of_z}
+use Rattle.kd_prices.proofs.Prelude.{◌≡◌, ◌+ℤ◌, SFits, w16, w32, to_z, of_z, rules, arith, ints, to_z-of_z}
 use Rattle.kd_prices.proofs.fitting.is_at_most.Goals as goal
 
 pub returns : goal.returns

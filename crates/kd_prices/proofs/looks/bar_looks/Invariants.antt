@@ -1,5 +1,5 @@
-use Rattle.std.specs.Prelude.{◌≡◌, map, take, length}
-use Rattle.kd_card.specs.declared.look.Look.TheVariants.{Bar}
+use Rattle.std.specs.Prelude.{◌≡◌, length}
+use Rattle.kd_prices.proofs.Prelude.{map, take, Bar}
 use Rattle.kd_prices.proofs.looks.bar_looks.Given as goal
 
 abbrev pub invariant-loop-place : goal.invariant-loop-place

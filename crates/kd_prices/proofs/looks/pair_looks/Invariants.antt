@@ -1,7 +1,5 @@
-use Rattle.std.specs.Prelude.{◌≡◌, map, take, length}
-use Rattle.kd_card.specs.declared.look.Look.TheVariants.{Pair}
-use Rattle.kd_card.specs.Proving.{pair_in_order}
-use Rattle.kd_state.specs.Costs.{columns_of}
+use Rattle.std.specs.Prelude.{◌≡◌, length}
+use Rattle.kd_prices.proofs.Prelude.{map, take, Pair, pair_in_order, columns_of}
 use Rattle.kd_prices.proofs.looks.pair_looks.Given as goal
 
 abbrev pub invariant-loop-place : goal.invariant-loop-place

@@ -1,5 +1,5 @@
-use Rattle.std.specs.Prelude.{◌≡◌, map, take, length}
-use Rattle.kd_card.specs.declared.look.Look.TheVariants.{Row}
+use Rattle.std.specs.Prelude.{◌≡◌, length}
+use Rattle.kd_prices.proofs.Prelude.{map, take, Row}
 use Rattle.kd_prices.proofs.looks.row_looks.Given as goal
 
 abbrev pub invariant-loop-place : goal.invariant-loop-place

@@ -1,8 +1,4 @@
-use Rattle.std.proofs.Common.{refl, sym, subst, arith}
-use Rattle.std.proofs.lemmas.Bool.{false≢true}
-use Rattle.std.proofs.lemmas.List.{drop_all}
-use Rattle.kd_card.specs.Proving.{AreNeeded}
-use Rattle.kd_prices.specs.Doubt.{IsFirstNeedless}
+use Rattle.kd_prices.proofs.Prelude.{refl, sym, subst, arith, false≢true, drop_all, AreNeeded, IsFirstNeedless}
 use Rattle.kd_prices.proofs.Leading.{steps_on, stops_here}
 use Rattle.kd_prices.proofs.needless.first_needless.Goals as goal
 

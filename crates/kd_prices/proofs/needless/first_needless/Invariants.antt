@@ -1,4 +1,4 @@
-use Rattle.std.specs.Prelude.{drop}
+use Rattle.kd_prices.proofs.Prelude.{drop}
 use Rattle.kd_prices.proofs.Leading.{AreNeededTo}
 use Rattle.kd_prices.proofs.needless.first_needless.Given as goal
 

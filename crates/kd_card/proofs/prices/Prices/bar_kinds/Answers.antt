@@ -1,4 +1,4 @@
-use Rattle.kd_card.specs.Kinds.{bar_kind, row_kind}
+use Rattle.kd_card.proofs.Prelude.{bar_kind, row_kind}
 use Rattle.kd_card.proofs.KindPrices.{too_long}
 use Rattle.kd_card.proofs.prices.Prices.bar_kinds.Goals as goal
 

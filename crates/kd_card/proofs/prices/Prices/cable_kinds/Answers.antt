@@ -1,4 +1,4 @@
-use Rattle.kd_card.specs.Kinds.{cable_kind, pair_kind}
+use Rattle.kd_card.proofs.Prelude.{cable_kind, pair_kind}
 use Rattle.kd_card.proofs.KindPrices.{too_long}
 use Rattle.kd_card.proofs.prices.Prices.cable_kinds.Goals as goal
 

@@ -1,6 +1,4 @@
-use Rattle.std.proofs.Common.{ap, refl, sym, subst, arith}
-use Rattle.kd_card.specs.CardText.{price_count}
-use Rattle.kd_card.specs.Prices.{ArePrices}
+use Rattle.kd_card.proofs.Prelude.{ap, refl, sym, subst, arith, price_count, ArePrices}
 use Rattle.kd_card.proofs.KindPrices.{of_two_groups, group_fits}
 use Rattle.kd_card.proofs.prices.Prices.of_groups.Goals as goal
 use Rattle.kd_card.proofs.prices.Prices.of_groups.Goals.{in-OfCables, in-OfBars}

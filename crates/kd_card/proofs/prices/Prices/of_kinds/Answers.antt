@@ -1,5 +1,4 @@
-use Rattle.std.proofs.Common.{◌∙◌, sym}
-use Rattle.std.proofs.lemmas.Bool.{false≢true}
+use Rattle.kd_card.proofs.Prelude.{◌∙◌, sym, false≢true}
 use Rattle.kd_card.proofs.KindPrices.{are_prices, counts}
 use Rattle.kd_card.proofs.prices.Prices.of_kinds.Goals as goal
 

@@ -1,34 +1,7 @@
 -- Things that stand or read alike have looks of one rank, and looks of one rank are of such things.
-use Rattle.std.proofs.Common.{◌≡◌, ◌⊎◌, ◌↔◌, ℕ, zero, suc, ◌<◌, ◌≤◌, min, max, false, eqb, inl, inr, List, [], ◌∷◌, length, get_or, map, Contains, Option, Some, None, MatchOption, unwrap_or, slice_get, refl, sym, ap, ◌∙◌, subst, arith, ℤ}
-use Rattle.std.specs.List.{All, AllByRecursion, IsDistinct}
-use Rattle.std.proofs.lemmas.Bool.{eqb-false}
-use Rattle.std.proofs.lemmas.List.{get_or-map, length-map}
-use Rattle.std.proofs.lemmas.List.Elements.{All-get_or, All-weaker, All-contains_itself, recursion_from_All}
-use Rattle.std.proofs.lemmas.Option.{slice_get-get_or}
-use Rattle.kd_tables.specs.declared.place.Place.TheVariants.{One}
-use Rattle.kd_tables.specs.Places.{in_order}
-use Rattle.kd_enigma.specs.Plugs.{letters_plugged, NoLetterTwice}
-use Rattle.kd_state.specs.declared.machine.parts.Parts.{Parts}
-use Rattle.kd_state.specs.declared.machine.parts.Parts.TheVariants.{Rotor, Pin}
-use Rattle.kd_state.specs.Machine.{cable_letters, IsMachine}
-use Rattle.kd_state.specs.SheetDay.{Day, OfRotors, OfPins, IsLegalDay}
-use Rattle.kd_state.specs.OnKey.{SameLetters}
-use Rattle.kd_state.specs.Costs.{columns_of}
-use Rattle.kd_state.specs.Laws.{ThirteenColumns, ColumnsAreThePairs}
-use Rattle.kd_card.specs.declared.look.Look.{Look}
-use Rattle.kd_card.specs.declared.look.Look.TheVariants.{Cable, Pair, Bar, Row}
-use Rattle.kd_card.specs.Kinds.{look_name, look_rank, AreEnds, IsInForm}
-use Rattle.kd_card.specs.declared.group.Group.{Group}
-use Rattle.kd_card.specs.declared.prices.PriceParts.{PriceParts}
-use Rattle.kd_card.specs.declared.prices.PriceParts.TheVariants.{Cables, Bars, CableKinds, BarKinds}
-use Rattle.kd_card.specs.declared.prices.Version.TheVariants.{ByNumber}
-use Rattle.kd_card.specs.Prices.{version_of, row_kinds, column_kinds, row_prices, column_prices, how_many, price_at, ArePrices, AreWithinReach}
-use Rattle.kd_card.specs.CardText.{group_of, price_count, row_name, column_name}
-use Rattle.kd_card.specs.Proving.{row_looks, column_looks, pair_in_order, look_at, group_of_machine, Expanded}
-use Rattle.kd_card.specs.Laws.{RanksTellLooks}
-use Rattle.kd_prices.specs.Alike.{StandAlike, ReadAlike}
-use Rattle.kd_prices.specs.Doubt.{AreNumbered}
-use Rattle.kd_prices.specs.Kinds.{CanBeByKind, AreByKind, AreAlikePriced, AreThings, AreOfGroup}
+use Rattle.std.proofs.Common.{◌↔◌, map}
+use Rattle.std.specs.List.{IsDistinct}
+use Rattle.kd_prices.proofs.Prelude.{◌≡◌, ◌⊎◌, ℕ, zero, suc, ◌<◌, ◌≤◌, min, max, false, eqb, inl, inr, List, [], ◌∷◌, length, get_or, Contains, Option, Some, None, MatchOption, unwrap_or, slice_get, refl, sym, ap, ◌∙◌, subst, arith, ℤ, All, AllByRecursion, eqb-false, get_or-map, length-map, All-get_or, All-weaker, All-contains_itself, recursion_from_All, slice_get-get_or, One, in_order, letters_plugged, NoLetterTwice, Parts, Rotor, Pin, cable_letters, IsMachine, Day, OfRotors, OfPins, IsLegalDay, SameLetters, columns_of, ThirteenColumns, ColumnsAreThePairs, Look, Cable, Pair, Bar, Row, look_name, look_rank, AreEnds, IsInForm, Group, PriceParts, Cables, Bars, CableKinds, BarKinds, ByNumber, version_of, row_kinds, column_kinds, row_prices, column_prices, how_many, price_at, ArePrices, AreWithinReach, group_of, price_count, row_name, column_name, row_looks, column_looks, pair_in_order, look_at, group_of_machine, Expanded, RanksTellLooks, StandAlike, ReadAlike, AreNumbered, CanBeByKind, AreByKind, AreAlikePriced, AreThings, AreOfGroup}
 use Rattle.kd_prices.proofs.Grouping.{alike_priced}
 use Rattle.kd_prices.proofs.Things.{pair_look, rows_are_things, group_of_day, columns_are_things}
 use Rattle.kd_prices.proofs.AlikePrices.{same_at, nothing_at}

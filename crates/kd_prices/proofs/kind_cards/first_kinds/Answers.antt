@@ -1,7 +1,7 @@
-use Rattle.std.proofs.Common.{◌+◌, ap, sym, ◌∙◌, subst, arith}
+use Rattle.kd_prices.proofs.Prelude.{◌+◌, ap, sym, ◌∙◌, subst, arith}
 use Rattle.kd_prices.proofs.Grouping.{AreGrouped, grouped_none, grouped_past, grouped_more, room, all_kinds, all_expanded}
-use Rattle.kd_prices.proofs.kinds.first_kinds.Goals as goal
-use Rattle.kd_prices.proofs.kinds.first_kinds.Goals.{in-Some, in_default}
+use Rattle.kd_prices.proofs.kind_cards.first_kinds.Goals as goal
+use Rattle.kd_prices.proofs.kind_cards.first_kinds.Goals.{in-Some, in_default}
 
 pub loop-rank-init : goal.loop-rank-init
 loop-rank-init c =

@@ -1,10 +1,7 @@
-use Rattle.std.proofs.Common.{◌∙◌, sym, subst}
-use Rattle.std.proofs.lemmas.Bool.{false≢true}
-use Rattle.std.proofs.lemmas.Bool.Decides.{Decides-int_eq}
+use Rattle.kd_prices.proofs.Prelude.{◌∙◌, sym, subst, false≢true, Decides-int_eq, AreExpanded}
 use Rattle.std.proofs.lemmas.Slice.Eq.{slice_eq-Decides}
-use Rattle.kd_card.specs.Proving.{AreExpanded}
 use Rattle.kd_prices.proofs.Meaning.{same_expansion}
-use Rattle.kd_prices.proofs.kinds.kinds_of.Goals as goal
+use Rattle.kd_prices.proofs.kind_cards.kinds_of.Goals as goal
 
 pub returns-then-eq : goal.returns-then-eq
 returns-then-eq g c =

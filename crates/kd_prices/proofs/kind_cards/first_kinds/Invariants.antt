@@ -1,5 +1,5 @@
 use Rattle.kd_prices.proofs.Grouping.{AreGrouped}
-use Rattle.kd_prices.proofs.kinds.first_kinds.Given as goal
+use Rattle.kd_prices.proofs.kind_cards.first_kinds.Given as goal
 
 abbrev pub invariant-loop-rank : goal.invariant-loop-rank
 invariant-loop-rank l = AreGrouped l.looks l.prices l.rank l.kinds.items

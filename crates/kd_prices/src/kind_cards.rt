@@ -5,8 +5,8 @@ ghost use Rattle.kd_card.specs.Kinds.{look_rank, IsInForm};
 ghost use Rattle.kd_card.specs.Prices.{AreWithinReach};
 ghost use Rattle.kd_card.specs.CardText.{row_name, column_name, price_count};
 ghost use Rattle.kd_card.specs.Proving.{look_at, AreExpanded};
-ghost use Rattle.kd_prices.specs.Kinds.{CanBeByKind, IsByKind, AreByKind, AreAlikePriced};
-ghost use Rattle.kd_prices.specs.Kinds.{IsKindAt, AreKindsOf, AreWithPrices, AreThings, AreOfGroup};
+ghost use Rattle.kd_prices.specs.KindCards.{CanBeByKind, IsByKind, AreByKind, AreAlikePriced};
+ghost use Rattle.kd_prices.specs.KindCards.{IsKindAt, AreKindsOf, AreWithPrices, AreThings, AreOfGroup};
 
 use super::expanding::{alike_count, priced};
 use super::looks::{bar_looks, cable_looks, pair_looks, row_looks};

@@ -1,9 +1,7 @@
-use Rattle.std.proofs.Common.{sym, refl, ◌∙◌, subst, rules, arith}
-use Rattle.kd_state.specs.OneModel.{AreParted}
-use Rattle.kd_card.specs.declared.group.Group.TheVariants.{OfCables, OfBars}
-use Rattle.kd_prices.proofs.Likeness.{RanksTold, AreOfOneGroup, one_group, requires_met, by_kind_told}
-use Rattle.kd_prices.proofs.kinds.prices_by_kind.Goals as goal
-use Rattle.kd_prices.proofs.kinds.prices_by_kind.Goals.{After-pair_looks-columns, After-row_looks-columns, After-columns_are_the_pairs}
+use Rattle.kd_prices.proofs.Prelude.{sym, refl, ◌∙◌, subst, rules, arith, AreParted, OfCables, OfBars}
+use Rattle.kd_prices.proofs.AlikeLooks.{RanksTold, AreOfOneGroup, one_group, requires_met, by_kind_told}
+use Rattle.kd_prices.proofs.kind_cards.prices_by_kind.Goals as goal
+use Rattle.kd_prices.proofs.kind_cards.prices_by_kind.Goals.{After-pair_looks-columns, After-row_looks-columns, After-columns_are_the_pairs}
 
 told : After-columns_are_the_pairs → RanksTold
 told c = record { ranks = c.ranks_tell_looks.ensures; thirteen = c.columns_are_the_pairs.ensures.count; columns = c.columns_are_the_pairs.ensures.pairs }
