@@ -1,32 +1,18 @@
 -- The card that is made of an assignment, its prices and its lines is a planned one.
 use Rattle.std.proofs.Common.{◌≡◌, ℕ, ◌≤◌, ◌++◌, nat_eq, if◌then◌else◌, List, [], ◌∷◌, length, All, fold, replicate, ℤ, pos, unsigned_abs, ◌+ℤ◌, refl, sym, ap, ◌∙◌, subst, arith, get_or, map, Option, Some}
-use Rattle.std.proofs.lemmas.Bool.{cond_both, eqb-true, eqb-false}
+use Rattle.kd_plan.proofs.Prelude.{cond_both, eqb-true, eqb-false, get_or-replicate, length-replicate, length-map}
+use Rattle.kd_plan.proofs.Prelude.{Rotor, Pin, Cables, Bars, Parts, AreOfKind, assignment_cost, IsOneToOne, All-map}
+use Rattle.kd_plan.proofs.Prelude.{sum_by-le, Model, EnigmaI, Place, box_of, slots_of, RotorParts, PinParts, Setting}
+use Rattle.kd_plan.proofs.Prelude.{IsMachine, model_of, RotorDay, PinDay, Day, OfRotors, OfPins, IsLegalRotorDay}
+use Rattle.kd_plan.proofs.Prelude.{day_model, cable_cost, bar_cost, lugs_moved, columns_of, cable_costs, bar_costs}
+use Rattle.kd_plan.proofs.Prelude.{cost_table, planned_lines, table_size, IsPlanned}
 use Rattle.std.proofs.lemmas.Int.{ints}
-use Rattle.std.proofs.lemmas.List.{get_or-replicate, length-replicate, length-map}
-use Rattle.kd_state.specs.declared.machine.parts.Parts.TheVariants.{Rotor, Pin}
 use Rattle.kd_card.specs.declared.prices.PriceParts.{PriceParts}
-use Rattle.kd_card.specs.declared.prices.PriceParts.TheVariants.{Cables, Bars}
 use Rattle.kd_card.specs.declared.prices.Version.TheVariants.{ByNumber}
-use Rattle.kd_state.specs.declared.machine.parts.Parts.{Parts}
 use Rattle.kd_card.specs.Prices.{ArePrices, version_of, how_many, row_kinds, column_kinds, row_prices, column_prices}
 use Rattle.kd_card.specs.Kinds.{AreKinds}
 use Rattle.kd_card.specs.Prices as card
-use Rattle.kd_card.specs.Proving.{AreOfKind}
-use Rattle.kd_assign.specs.Assignment.{assignment_cost, IsOneToOne}
 use Rattle.kd_assign.specs.Prices.{Fits, price_sum, sum_of, CostsAtMost}
-use Rattle.std.proofs.lemmas.List.Elements.{All-map}
-use Rattle.std.proofs.lemmas.List.Sums.{sum_by-le}
-use Rattle.kd_tables.specs.declared.model.Model.{Model}
-use Rattle.kd_tables.specs.declared.model.Model.TheVariants.{EnigmaI}
-use Rattle.kd_tables.specs.declared.place.Place.{Place}
-use Rattle.kd_tables.specs.Tables.{box_of, slots_of}
-use Rattle.kd_state.specs.declared.machine.rotor_parts.RotorParts.{RotorParts}
-use Rattle.kd_state.specs.declared.machine.pin_parts.PinParts.{PinParts}
-use Rattle.kd_state.specs.declared.setting.Setting.{Setting}
-use Rattle.kd_state.specs.Machine.{IsMachine, model_of}
-use Rattle.kd_state.specs.SheetDay.{RotorDay, PinDay, Day, OfRotors, OfPins, IsLegalRotorDay, day_model}
-use Rattle.kd_state.specs.Costs.{cable_cost, bar_cost, lugs_moved, columns_of, cable_costs, bar_costs, cost_table}
-use Rattle.kd_plan.specs.Planned.{planned_lines, table_size, IsPlanned}
 use Rattle.kd_plan.proofs.Bars.{BarRow, to_stand, at_most_two}
 use Rattle.kd_plan.proofs.Cables.{Beside, column_at, besides}
 use Rattle.kd_plan.proofs.Counts.{cable_cost_at_most, bar_cost_at_most, rotor_counted, pin_counted}

@@ -1,37 +1,21 @@
 -- How many lines there are, and how many of them the prices speak of: as many as the pairing costs.
 use Rattle.std.proofs.Common.{◌≡◌, ℕ, zero, suc, ◌+◌, ◌*◌, ◌<◌, ◌≤◌, nat_eq, nat_lt, min, Bool, true, false, not, ◌&&◌, cond, List, [], ◌∷◌, ◌++◌, length, get_or, map, zip, filter_map, fold, count_by, Option, Some, None, refl, sym, ◌∙◌, subst, arith, length-append}
-use Rattle.std.specs.List.{AllByRecursion, cons_option, enumerate_from, flat_map, range_with_len, sum_by}
-use Rattle.std.specs.Option.{option_map_or, option_to_list}
-use Rattle.std.proofs.lemmas.Bool.{cond_both}
-use Rattle.std.proofs.lemmas.Bool.Decides.{nat_tests}
-use Rattle.std.proofs.lemmas.List.{get_or-map, length-map}
-use Rattle.std.proofs.lemmas.List.FromFn.{length-enumerate_from}
-use Rattle.std.proofs.lemmas.List.Sums.{sum_by-append, sum_by-cons, sum_by-le-sum_by, length-filter}
-use Rattle.std.proofs.lemmas.Slice.Zip.{length-zip}
-use Rattle.kd_tables.specs.declared.place.Place.{Place}
-use Rattle.kd_tables.specs.declared.wheel.Wheel.{Wheel}
+use Rattle.kd_plan.proofs.Prelude.{AllByRecursion, cons_option, enumerate_from, flat_map, range_with_len, sum_by}
+use Rattle.kd_plan.proofs.Prelude.{option_map_or, option_to_list, cond_both, nat_tests, get_or-map, length-map}
+use Rattle.kd_plan.proofs.Prelude.{length-enumerate_from, sum_by-append, sum_by-cons, sum_by-le-sum_by, length-filter}
+use Rattle.kd_plan.proofs.Prelude.{length-zip, Place, Wheel, box_of, alphabet, place_rank, Setting, Pull, Put, Seat}
+use Rattle.kd_plan.proofs.Prelude.{SeatReflector, RingTo, Turn, PinTo, LugTo, RotorParts, PinParts, Rotor, Pin}
+use Rattle.kd_plan.proofs.Prelude.{SheetWheel, same_wheel, same_reflector, RotorDay, PinDay, OfRotors, OfPins}
+use Rattle.kd_plan.proofs.Prelude.{cable_letters, ring_at, letter_at, has_letter, is_at, differ, lies_in_one}
+use Rattle.kd_plan.proofs.Prelude.{unless_same, column_letters, cable_cost, bar_cost, lugs_moved, is_priced}
+use Rattle.kd_plan.proofs.Prelude.{priced_count, assignment_cost, unless_so, in_box_order, pin_on, wheel_pin_lines}
+use Rattle.kd_plan.proofs.Prelude.{pin_lines, lugs_to, planned_lines}
 use Rattle.kd_tables.specs.Rings.{ring_of}
-use Rattle.kd_tables.specs.Tables.{box_of}
 use Rattle.kd_pins.specs.PinWheels.{pin_wheels}
 use Rattle.kd_tables.specs.declared.lug.Lug.{Lug}
 use Rattle.kd_tables.specs.declared.lug.Lug.TheVariants.{Left, Right}
-use Rattle.kd_tables.specs.Permutation.{alphabet}
-use Rattle.kd_tables.specs.Places.{place_rank}
-use Rattle.kd_state.specs.declared.setting.Setting.{Setting}
-use Rattle.kd_state.specs.declared.setting.Setting.TheVariants.{Pull, Put, Seat, SeatReflector, RingTo, Turn, PinTo, LugTo}
-use Rattle.kd_state.specs.declared.machine.rotor_parts.RotorParts.{RotorParts}
-use Rattle.kd_state.specs.declared.machine.pin_parts.PinParts.{PinParts}
-use Rattle.kd_state.specs.declared.machine.parts.Parts.TheVariants.{Rotor, Pin}
-use Rattle.kd_state.specs.declared.sheet_day.rotor_entry.SheetWheel.{SheetWheel}
-use Rattle.kd_state.specs.Box.{same_wheel, same_reflector}
-use Rattle.kd_state.specs.SheetDay.{RotorDay, PinDay, OfRotors, OfPins}
 use Rattle.kd_state.specs.Pins.{wheel_pins}
-use Rattle.kd_state.specs.Machine.{cable_letters, ring_at, letter_at}
-use Rattle.kd_state.specs.Setting.{has_letter, is_at}
-use Rattle.kd_state.specs.Costs.{differ, lies_in_one, unless_same, column_letters, cable_cost, bar_cost, standings_as, lugs_moved}
-use Rattle.kd_card.specs.Proving.{is_priced, priced_count}
-use Rattle.kd_assign.specs.Assignment.{assignment_cost}
-use Rattle.kd_plan.specs.Planned.{unless_so, in_box_order, pin_on, wheel_pin_lines, pin_lines, lugs_to, planned_lines}
+use Rattle.kd_state.specs.Costs.{standings_as}
 use Rattle.kd_plan.proofs.Cables.{Cable, Column, Beside, times, times-cons, times-append, has_times, pulls, puts, besides, work_beside, lines_beside}
 use Rattle.kd_plan.proofs.Bars.{BarRow, to_stand, lugs_of}
 use Rattle.kd_plan.proofs.Carrying.{lines_from}

@@ -1,17 +1,11 @@
 -- Numbers that are one to one, and lists with one element in the middle.
 use Rattle.std.proofs.Common.{◌≡◌, ◌≢◌, ℕ, zero, suc, ◌+◌, ◌-◌, ◌<◌, List, [], ◌∷◌, ◌++◌, length, get_or, set, slice_get, map, zip, find, nat_eq, Bool, true, false, Option, Some, None, remove, All, AllPairs, Contains, IsPermutation, refl, sym, ap, ◌∙◌, subst, arith}
-use Rattle.std.specs.List.{AllByRecursion, range_with_len, sum_by}
-use Rattle.std.specs.Option.{option_map_or}
-use Rattle.std.proofs.lemmas.Bool.{eqb-true, false≢true}
-use Rattle.std.proofs.lemmas.List.{set_at}
+use Rattle.kd_plan.proofs.Prelude.{AllByRecursion, range_with_len, sum_by, option_map_or, eqb-true, false≢true, set_at}
+use Rattle.kd_plan.proofs.Prelude.{recursion_from_All, length-range_with_len, get_or-range_with_len, fill_by_all}
+use Rattle.kd_plan.proofs.Prelude.{Contains-permutation, IsPermutation-refl, IsPermutation-cons, IsPermutation-trans}
+use Rattle.kd_plan.proofs.Prelude.{IsPermutation-remove, IsPermutation-map, find_at, sum_by-cons, passes_at_first}
+use Rattle.kd_plan.proofs.Prelude.{slice_get_within, get_or_from_slice_get, IsOneToOne}
 use Rattle.std.proofs.lemmas.List.Edits.{length-remove}
-use Rattle.std.proofs.lemmas.List.Elements.{recursion_from_All}
-use Rattle.std.proofs.lemmas.List.FromFn.{length-range_with_len, get_or-range_with_len, fill_by_all}
-use Rattle.std.proofs.lemmas.List.Sorted.{Contains-permutation, IsPermutation-refl, IsPermutation-cons, IsPermutation-trans, IsPermutation-remove, IsPermutation-map}
-use Rattle.std.proofs.lemmas.List.Folds.{find_at}
-use Rattle.std.proofs.lemmas.List.Sums.{sum_by-cons, passes_at_first}
-use Rattle.std.proofs.lemmas.Option.{slice_get_within, get_or_from_slice_get}
-use Rattle.kd_assign.specs.Assignment.{IsOneToOne}
 
 -- the column of each row of a table, one to one
 pub record IsPairing (number : ℕ) (to : List ℕ) : Type 0 where

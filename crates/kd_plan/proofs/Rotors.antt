@@ -1,21 +1,10 @@
 -- The planned lines of a rotor machine lead to the day, and each is needed.
 use Rattle.std.proofs.Common.{◌≡◌, ℕ, ◌+◌, List, [], length, set, map, Contains, Some, None, unwrap_or, slice_get, refl, sym, ap, ◌∙◌, subst, arith}
-use Rattle.std.specs.List.{AllByRecursion, enumerate_from}
-use Rattle.std.proofs.lemmas.List.{length-map}
-use Rattle.std.proofs.lemmas.List.Elements.{All-from_recursion}
-use Rattle.kd_tables.specs.Tables.{box_of, slots_of, reflectors_of}
-use Rattle.kd_state.specs.declared.machine.rotor_parts.RotorParts.{RotorParts}
-use Rattle.kd_state.specs.declared.machine.parts.Parts.{Parts}
-use Rattle.kd_state.specs.declared.machine.parts.Parts.TheVariants.{Rotor}
-use Rattle.kd_state.specs.declared.setting.Setting.{Setting}
-use Rattle.kd_state.specs.declared.setting.Setting.TheVariants.{SeatReflector, RingTo, Turn}
-use Rattle.kd_state.specs.declared.sheet_day.rotor_entry.SheetWheel.{SheetWheel}
-use Rattle.kd_state.specs.Box.{same_reflector, numbered}
-use Rattle.kd_state.specs.Machine.{IsMachine}
-use Rattle.kd_state.specs.Setting.{with_letter, changed}
-use Rattle.kd_state.specs.SheetDay.{RotorDay, OfRotors, seats, AreSeated, IsLegalRotorDay}
-use Rattle.kd_state.specs.Costs.{unless_same, loose_count}
-use Rattle.kd_plan.specs.Planned.{seat_lines, reflector_lines, ring_lines, turn_lines, pull_lines, put_lines, planned_lines}
+use Rattle.kd_plan.proofs.Prelude.{AllByRecursion, enumerate_from, length-map, All-from_recursion, box_of, slots_of}
+use Rattle.kd_plan.proofs.Prelude.{reflectors_of, RotorParts, Parts, Rotor, Setting, SeatReflector, RingTo, Turn}
+use Rattle.kd_plan.proofs.Prelude.{SheetWheel, same_reflector, numbered, IsMachine, with_letter, changed, RotorDay}
+use Rattle.kd_plan.proofs.Prelude.{OfRotors, seats, AreSeated, IsLegalRotorDay, unless_same, loose_count, seat_lines}
+use Rattle.kd_plan.proofs.Prelude.{reflector_lines, ring_lines, turn_lines, pull_lines, put_lines, planned_lines, Told}
 use Rattle.kd_plan.proofs.Carrying.{Reaches, Led, led_unless, led_append, lines_from, cells_led}
 use Rattle.kd_plan.proofs.Columns.{are_pluggable, few_columns, same_cables, are_the_pairs}
 use Rattle.kd_plan.proofs.Wheels.{at_element, recursion_of_each, each_two, in_order, order_among, order_apart, all_of_order, StandsThere, numbered as by_slots, numbered_apart, from_numbered, same_reflector_self, has_wheel_of, has_reflector_of, AreApartAt, place_of, wheels_apart, box_none_twice, wheels_boxed}
@@ -24,7 +13,6 @@ use Rattle.kd_plan.proofs.Lists.{IsPairing}
 use Rattle.kd_plan.proofs.Cables.{Cable, Beside, besides, IsPluggable, present, once_pulled, once_put, with_cables, work_beside, lines_beside, pulls_each, puts_each}
 use Rattle.kd_plan.specs.declared.cable_lines.Work.TheVariants as works
 use Rattle.kd_plan.proofs.Seats.{seats_led}
-use Rattle.kd_plan.specs.Told.{Told}
 
 -- REFLECTOR
 reflector_led : Told → (m : RotorParts) (s : RotorDay) → Contains (reflectors_of m.model) s.reflector

@@ -1,21 +1,13 @@
 -- The wheels and the reflector of a day: among others, by their places in the box, in box order and by their slots.
 use Rattle.std.proofs.Common.{◌≡◌, ◌≢◌, ℕ, zero, suc, ◌+◌, Bool, true, false, not, ◌&&◌, List, [], ◌∷◌, Contains, refl, sym, ap, ◌∙◌, ◌<◌, cond, ◌++◌, length, get_or, filter_map, find, All, Option, Some, None, slice_get, subst, arith, append_assoc, length-append}
-use Rattle.std.specs.List.{AllByRecursion, list_any, cons_option, enumerate_from}
-use Rattle.std.proofs.lemmas.Bool.{false≢true, and_parts, not-true, or_parts}
-use Rattle.std.proofs.lemmas.List.Folds.{list_any_at}
+use Rattle.kd_plan.proofs.Prelude.{AllByRecursion, list_any, cons_option, enumerate_from, false≢true, and_parts}
+use Rattle.kd_plan.proofs.Prelude.{not-true, or_parts, list_any_at, Model, EnigmaI, Wheel, box_of, wheel_text}
+use Rattle.kd_plan.proofs.Prelude.{reflector_text, SheetWheel, same_wheel, same_reflector, has_wheel, has_reflector}
+use Rattle.kd_plan.proofs.Prelude.{place_in_box, StandsAt, AreAllowed, seats, AreSeated, Told, All-contains}
+use Rattle.kd_plan.proofs.Prelude.{All-from_recursion, Contains-get_or, recursion_from_All}
 use Rattle.std.proofs.lemmas.Slice.Eq.{bytes_eq-Decides}
-use Rattle.kd_tables.specs.declared.model.Model.{Model}
-use Rattle.kd_tables.specs.declared.model.Model.TheVariants.{EnigmaI}
-use Rattle.kd_tables.specs.declared.wheel.Wheel.{Wheel}
 use Rattle.kd_tables.specs.declared.reflector.Reflector.{Reflector}
-use Rattle.kd_tables.specs.Tables.{box_of, wheel_text, reflector_text}
-use Rattle.kd_state.specs.declared.sheet_day.rotor_entry.SheetWheel.{SheetWheel}
-use Rattle.kd_state.specs.Box.{same_wheel, same_reflector, has_wheel, has_reflector, place_in_box}
-use Rattle.kd_state.specs.Machine.{StandsAt, AreAllowed}
-use Rattle.kd_state.specs.SheetDay.{seats, AreSeated}
-use Rattle.kd_plan.specs.Told.{Told}
 use Rattle.kd_plan.proofs.Lists.{EachTwo, each_two_of_pairs, found}
-use Rattle.std.proofs.lemmas.List.Elements.{All-contains, All-from_recursion, Contains-get_or, recursion_from_All}
 
 pub same_wheel_self : (wheel : Wheel) → same_wheel wheel wheel ≡ true
 same_wheel_self wheel = (bytes_eq-Decides (wheel_text wheel) (wheel_text wheel)).1 refl

@@ -1,11 +1,6 @@
 use Rattle.std.proofs.Common.{List, ℤ, pos, nat_eq, replicate, rules, refl, sym, ap, ◌∙◌, subst, arith}
-use Rattle.std.proofs.lemmas.Bool.{cond_both}
-use Rattle.kd_state.specs.declared.machine.parts.Parts.TheVariants.{Rotor}
+use Rattle.kd_plan.proofs.Prelude.{cond_both, Rotor, OfRotors, cable_costs, Cables, AreOfKind}
 use Rattle.kd_state.specs.Entry.{rotor_values}
-use Rattle.kd_state.specs.SheetDay.{OfRotors}
-use Rattle.kd_state.specs.Costs.{cable_costs}
-use Rattle.kd_card.specs.declared.prices.PriceParts.TheVariants.{Cables}
-use Rattle.kd_card.specs.Proving.{AreOfKind}
 use Rattle.kd_plan.proofs.Assembling.{cable_costs_at_most, rotor_room, planned, solved, zeros_all}
 use Rattle.kd_plan.proofs.planner.rotor_card.Goals as goal
 
