@@ -13,9 +13,10 @@ use Rattle.kd_card.specs.Prices.{ArePrices, version_of, how_many, row_kinds, col
 use Rattle.kd_card.specs.Kinds.{AreKinds}
 use Rattle.kd_card.specs.Prices as card
 use Rattle.kd_assign.specs.Prices.{Fits, price_sum, sum_of, CostsAtMost}
+use Rattle.kd_state.specs.Laws.{CablesCostFour}
 use Rattle.kd_plan.proofs.Bars.{BarRow, to_stand, at_most_two}
 use Rattle.kd_plan.proofs.Cables.{Beside, column_at, besides}
-use Rattle.kd_plan.proofs.Counts.{cable_cost_at_most, bar_cost_at_most, rotor_counted, pin_counted}
+use Rattle.kd_plan.proofs.Counts.{bar_cost_at_most, rotor_counted, pin_counted}
 use Rattle.kd_plan.proofs.Writing.{row_at, bars_beside, chosen_length}
 
 pub prices_of : (prices : PriceParts) (most : ℕ) → most ≤ 9999 → row_kinds prices ≡ [] → column_kinds prices ≡ [] → length (row_prices prices) ≡ how_many prices → length (column_prices prices) ≡ how_many prices
@@ -89,8 +90,8 @@ table_at_most : {A B : Type 0} (cost : A → B → ℕ) (most : ℕ) → ((x : A
 table_at_most cost most h xs ys =
     All-map (All (λ c. c ≤ most)) (λ x. map (cost x) ys) xs (λ k d lt. All-map (λ c. c ≤ most) (cost _) ys (λ j e lt'. h _ _))
 
-pub cable_costs_at_most : (costs : List (List ℕ)) (cables : List (Option ℕ × Option ℕ)) (pairs : List (ℕ × ℕ)) → costs ≡ cable_costs cables pairs → CostsAtMost 4 costs
-cable_costs_at_most costs cables pairs e = rw e (table_at_most cable_cost 4 cable_cost_at_most cables (columns_of pairs))
+pub cable_costs_at_most : CablesCostFour → (costs : List (List ℕ)) (cables : List (Option ℕ × Option ℕ)) (pairs : List (ℕ × ℕ)) → costs ≡ cable_costs cables pairs → CostsAtMost 4 costs
+cable_costs_at_most few costs cables pairs e = rw e (table_at_most cable_cost 4 few cables (columns_of pairs))
 
 pub bar_costs_at_most : (costs : List (List ℕ)) (bars : List (Place × Place)) (rows : List (ℕ × ℕ)) → costs ≡ bar_costs bars rows → CostsAtMost 4 costs
 bar_costs_at_most costs bars rows e = rw e (table_at_most bar_cost 4 bar_cost_at_most bars rows)
@@ -100,12 +101,12 @@ at_most : (model : Model) → (length (box_of model) ≤ 10) × (slots_of model 
 at_most EnigmaI = (omega arith, omega arith)
 at_most _ = (omega arith, omega arith)
 
-pub rotor_room : (m : RotorParts) (s : RotorDay) (to : List ℕ) → IsMachine (Rotor m) → IsLegalRotorDay s → length (planned_lines (Rotor m) (OfRotors s) to) ≤ 192
-rotor_room m s to machine legal =
+pub rotor_room : CablesCostFour → (m : RotorParts) (s : RotorDay) (to : List ℕ) → IsMachine (Rotor m) → IsLegalRotorDay s → length (planned_lines (Rotor m) (OfRotors s) to) ≤ 192
+rotor_room few m s to machine legal =
     omega (
       arith,
       (rotor_counted m s to).few,
-      sum_by-le (λ (z : Beside). cable_cost z.0 z.1) 4 (besides m.cables s.pairs to) (λ k d lt. let z : Beside = get_or (besides m.cables s.pairs to) k d in cable_cost_at_most z.0 z.1),
+      sum_by-le (λ (z : Beside). cable_cost z.0 z.1) 4 (besides m.cables s.pairs to) (λ k d lt. let z : Beside = get_or (besides m.cables s.pairs to) k d in few z.0 z.1),
       chosen_length m.cables (column_at s.pairs) to,
       machine.legal.cables.count,
       (at_most m.model).0,
