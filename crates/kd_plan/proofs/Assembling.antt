@@ -1,35 +1,22 @@
 -- The card that is made of an assignment, its prices and its lines is a planned one.
 use Rattle.std.proofs.Common.{◌≡◌, ℕ, ◌≤◌, ◌++◌, nat_eq, if◌then◌else◌, List, [], ◌∷◌, length, All, fold, replicate, ℤ, pos, unsigned_abs, ◌+ℤ◌, refl, sym, ap, ◌∙◌, subst, arith, get_or, map, Option, Some}
-use Rattle.std.proofs.lemmas.Bool.{cond_both, eqb-true, eqb-false}
+use Rattle.kd_plan.proofs.Prelude.{cond_both, eqb-true, eqb-false, get_or-replicate, length-replicate, length-map}
+use Rattle.kd_plan.proofs.Prelude.{Rotor, Pin, Cables, Bars, Parts, AreOfKind, assignment_cost, IsOneToOne, All-map}
+use Rattle.kd_plan.proofs.Prelude.{sum_by-le, Model, EnigmaI, Place, box_of, slots_of, RotorParts, PinParts, Setting}
+use Rattle.kd_plan.proofs.Prelude.{IsMachine, model_of, RotorDay, PinDay, Day, OfRotors, OfPins, IsLegalRotorDay}
+use Rattle.kd_plan.proofs.Prelude.{day_model, cable_cost, bar_cost, lugs_moved, columns_of, cable_costs, bar_costs}
+use Rattle.kd_plan.proofs.Prelude.{cost_table, planned_lines, table_size, IsPlanned}
 use Rattle.std.proofs.lemmas.Int.{ints}
-use Rattle.std.proofs.lemmas.List.{get_or-replicate, length-replicate, length-map}
-use Rattle.kd_state.specs.declared.machine.parts.Parts.TheVariants.{Rotor, Pin}
 use Rattle.kd_card.specs.declared.prices.PriceParts.{PriceParts}
-use Rattle.kd_card.specs.declared.prices.PriceParts.TheVariants.{Cables, Bars}
 use Rattle.kd_card.specs.declared.prices.Version.TheVariants.{ByNumber}
-use Rattle.kd_state.specs.declared.machine.parts.Parts.{Parts}
 use Rattle.kd_card.specs.Prices.{ArePrices, version_of, how_many, row_kinds, column_kinds, row_prices, column_prices}
 use Rattle.kd_card.specs.Kinds.{AreKinds}
 use Rattle.kd_card.specs.Prices as card
-use Rattle.kd_card.specs.Proving.{AreOfKind}
-use Rattle.kd_assign.specs.Assignment.{assignment_cost, IsOneToOne}
 use Rattle.kd_assign.specs.Prices.{Fits, price_sum, sum_of, CostsAtMost}
-use Rattle.std.proofs.lemmas.List.Elements.{All-map}
-use Rattle.std.proofs.lemmas.List.Sums.{sum_by-le}
-use Rattle.kd_tables.specs.declared.model.Model.{Model}
-use Rattle.kd_tables.specs.declared.model.Model.TheVariants.{EnigmaI}
-use Rattle.kd_tables.specs.declared.place.Place.{Place}
-use Rattle.kd_tables.specs.Tables.{box_of, slots_of}
-use Rattle.kd_state.specs.declared.machine.rotor_parts.RotorParts.{RotorParts}
-use Rattle.kd_state.specs.declared.machine.pin_parts.PinParts.{PinParts}
-use Rattle.kd_state.specs.declared.setting.Setting.{Setting}
-use Rattle.kd_state.specs.Machine.{IsMachine, model_of}
-use Rattle.kd_state.specs.SheetDay.{RotorDay, PinDay, Day, OfRotors, OfPins, IsLegalRotorDay, day_model}
-use Rattle.kd_state.specs.Costs.{cable_cost, bar_cost, lugs_moved, columns_of, cable_costs, bar_costs, cost_table}
-use Rattle.kd_plan.specs.Planned.{planned_lines, table_size, IsPlanned}
+use Rattle.kd_state.specs.Laws.{CablesCostFour}
 use Rattle.kd_plan.proofs.Bars.{BarRow, to_stand, at_most_two}
 use Rattle.kd_plan.proofs.Cables.{Beside, column_at, besides}
-use Rattle.kd_plan.proofs.Counts.{cable_cost_at_most, bar_cost_at_most, rotor_counted, pin_counted}
+use Rattle.kd_plan.proofs.Counts.{bar_cost_at_most, rotor_counted, pin_counted}
 use Rattle.kd_plan.proofs.Writing.{row_at, bars_beside, chosen_length}
 
 pub prices_of : (prices : PriceParts) (most : ℕ) → most ≤ 9999 → row_kinds prices ≡ [] → column_kinds prices ≡ [] → length (row_prices prices) ≡ how_many prices → length (column_prices prices) ≡ how_many prices
@@ -103,8 +90,8 @@ table_at_most : {A B : Type 0} (cost : A → B → ℕ) (most : ℕ) → ((x : A
 table_at_most cost most h xs ys =
     All-map (All (λ c. c ≤ most)) (λ x. map (cost x) ys) xs (λ k d lt. All-map (λ c. c ≤ most) (cost _) ys (λ j e lt'. h _ _))
 
-pub cable_costs_at_most : (costs : List (List ℕ)) (cables : List (Option ℕ × Option ℕ)) (pairs : List (ℕ × ℕ)) → costs ≡ cable_costs cables pairs → CostsAtMost 4 costs
-cable_costs_at_most costs cables pairs e = rw e (table_at_most cable_cost 4 cable_cost_at_most cables (columns_of pairs))
+pub cable_costs_at_most : CablesCostFour → (costs : List (List ℕ)) (cables : List (Option ℕ × Option ℕ)) (pairs : List (ℕ × ℕ)) → costs ≡ cable_costs cables pairs → CostsAtMost 4 costs
+cable_costs_at_most few costs cables pairs e = rw e (table_at_most cable_cost 4 few cables (columns_of pairs))
 
 pub bar_costs_at_most : (costs : List (List ℕ)) (bars : List (Place × Place)) (rows : List (ℕ × ℕ)) → costs ≡ bar_costs bars rows → CostsAtMost 4 costs
 bar_costs_at_most costs bars rows e = rw e (table_at_most bar_cost 4 bar_cost_at_most bars rows)
@@ -114,12 +101,12 @@ at_most : (model : Model) → (length (box_of model) ≤ 10) × (slots_of model 
 at_most EnigmaI = (omega arith, omega arith)
 at_most _ = (omega arith, omega arith)
 
-pub rotor_room : (m : RotorParts) (s : RotorDay) (to : List ℕ) → IsMachine (Rotor m) → IsLegalRotorDay s → length (planned_lines (Rotor m) (OfRotors s) to) ≤ 192
-rotor_room m s to machine legal =
+pub rotor_room : CablesCostFour → (m : RotorParts) (s : RotorDay) (to : List ℕ) → IsMachine (Rotor m) → IsLegalRotorDay s → length (planned_lines (Rotor m) (OfRotors s) to) ≤ 192
+rotor_room few m s to machine legal =
     omega (
       arith,
       (rotor_counted m s to).few,
-      sum_by-le (λ (z : Beside). cable_cost z.0 z.1) 4 (besides m.cables s.pairs to) (λ k d lt. let z : Beside = get_or (besides m.cables s.pairs to) k d in cable_cost_at_most z.0 z.1),
+      sum_by-le (λ (z : Beside). cable_cost z.0 z.1) 4 (besides m.cables s.pairs to) (λ k d lt. let z : Beside = get_or (besides m.cables s.pairs to) k d in few z.0 z.1),
       chosen_length m.cables (column_at s.pairs) to,
       machine.legal.cables.count,
       (at_most m.model).0,

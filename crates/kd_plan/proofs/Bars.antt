@@ -1,27 +1,17 @@
 -- LUG: where a bar is to stand, a standing that reads as the row with no more lugs moved than must be; and that its two
 -- lugs are moved there, first the one that isn't in the other's way.
 use Rattle.std.proofs.Common.{◌≡◌, ℕ, ◌<◌, ◌≤◌, nat_eq, nat_le, nat_lt, min, Bool, true, not, ◌&&◌, ◌||◌, ◌⊎◌, inl, inr, List, [], ◌∷◌, length, get_or, map, filter, find, fold, All, Some, unwrap_or, refl, sym, ap, ◌∙◌, subst, arith, suc, false, ◌++◌, None}
-use Rattle.std.specs.List.{list_any, AllByRecursion}
-use Rattle.std.proofs.lemmas.Bool.{agree_below, agree_below_at, false≢true, and_parts, eqb-true, ltb-true, ltb-false, cond_both}
-use Rattle.std.proofs.lemmas.Bool.Decides.{eqb_tells, nat_tests}
-use Rattle.std.proofs.lemmas.List.Elements.{All-contains, All-filter, filter_passes}
-use Rattle.std.proofs.lemmas.List.Sums.{AllPass-from_list_all}
-use Rattle.kd_tables.specs.declared.place.Place.{Place}
+use Rattle.kd_plan.proofs.Prelude.{list_any, AllByRecursion, agree_below, agree_below_at, false≢true, and_parts}
+use Rattle.kd_plan.proofs.Prelude.{eqb-true, ltb-true, ltb-false, cond_both, eqb_tells, nat_tests, All-contains}
+use Rattle.kd_plan.proofs.Prelude.{All-filter, filter_passes, AllPass-from_list_all, Place, places, place_rank}
+use Rattle.kd_plan.proofs.Prelude.{standings, reading_of, IsBefore, IsReading, is_at, why_refused, lug_place, with_lug}
+use Rattle.kd_plan.proofs.Prelude.{unless_same, lugs_moved, reads_as_row, bar_cost, target_of, unless_so, lugs_to}
+use Rattle.kd_plan.proofs.Prelude.{option_to_list, PinParts, Parts, Pin, Setting, LugTo, Day}
 use Rattle.kd_tables.specs.declared.place.Place.TheVariants.{One}
-use Rattle.kd_tables.specs.Places.{places, place_rank, standings, reading_of, IsBefore, IsReading}
-use Rattle.kd_state.specs.Setting.{is_at, why_refused, lug_place, with_lug}
-use Rattle.kd_state.specs.Costs.{unless_same, lugs_moved, reads_as_row, standings_as, bar_cost}
-use Rattle.kd_plan.specs.Planned.{target_of, unless_so, lugs_to}
+use Rattle.kd_state.specs.Costs.{standings_as}
 use Rattle.kd_plan.proofs.Lists.{found, seam_get, seam_set}
-use Rattle.std.specs.Option.{option_to_list}
 use Rattle.kd_tables.specs.declared.lug.Lug.{Lug}
 use Rattle.kd_tables.specs.declared.lug.Lug.TheVariants.{Left, Right}
-use Rattle.kd_state.specs.declared.machine.pin_parts.PinParts.{PinParts}
-use Rattle.kd_state.specs.declared.machine.parts.Parts.{Parts}
-use Rattle.kd_state.specs.declared.machine.parts.Parts.TheVariants.{Pin}
-use Rattle.kd_state.specs.declared.setting.Setting.{Setting}
-use Rattle.kd_state.specs.declared.setting.Setting.TheVariants.{LugTo}
-use Rattle.kd_state.specs.SheetDay.{Day}
 use Rattle.kd_plan.proofs.Carrying.{Led, led_unless, led_append, priced, EachLeads}
 
 -- a place is told by its rank

@@ -1,26 +1,14 @@
 -- PULL and PUT: each cable loses the letters that its column hasn't, and then takes those that it lacks. That goes by how
 -- often a letter stands among others.
 use Rattle.std.proofs.Common.{◌≡◌, ℕ, suc, ◌+◌, ◌-◌, ◌<◌, ◌≤◌, nat_eq, nat_lt, Bool, false, not, cond, List, [], ◌∷◌, ◌++◌, filter, get_or, length, map, zip, count_by, Option, Some, None, refl, ap, ◌∙◌, arith}
-use Rattle.std.specs.List.{AllByRecursion, enumerate_from, flat_map}
-use Rattle.std.specs.Option.{option_to_list}
-use Rattle.std.proofs.lemmas.Bool.{lt-ltb}
-use Rattle.std.proofs.lemmas.Bool.Decides.{nat_tests}
+use Rattle.kd_plan.proofs.Prelude.{AllByRecursion, enumerate_from, flat_map, option_to_list, lt-ltb, nat_tests}
+use Rattle.kd_plan.proofs.Prelude.{sum_by-append, sum_by-cons, alphabet, RotorParts, Parts, Rotor, Setting, Pull, Put}
+use Rattle.kd_plan.proofs.Prelude.{cable_letters, plugged_letters, has_letter, is_plugged, cable_without, cable_with}
+use Rattle.kd_plan.proofs.Prelude.{Day, column_letters, columns_of, is_moved, work_setting, cable_work, work_lines}
+use Rattle.kd_plan.proofs.Prelude.{unless_so, lies_apart, letters_apart}
 use Rattle.std.proofs.lemmas.Grind.{flat_map-append}
-use Rattle.std.proofs.lemmas.List.Sums.{sum_by-append, sum_by-cons}
-use Rattle.kd_tables.specs.Permutation.{alphabet}
-use Rattle.kd_state.specs.declared.machine.rotor_parts.RotorParts.{RotorParts}
-use Rattle.kd_state.specs.declared.machine.parts.Parts.{Parts}
-use Rattle.kd_state.specs.declared.machine.parts.Parts.TheVariants.{Rotor}
-use Rattle.kd_state.specs.declared.setting.Setting.{Setting}
-use Rattle.kd_state.specs.declared.setting.Setting.TheVariants.{Pull, Put}
-use Rattle.kd_state.specs.Machine.{cable_letters, plugged_letters}
-use Rattle.kd_state.specs.Setting.{has_letter, is_plugged, cable_without, cable_with}
-use Rattle.kd_state.specs.SheetDay.{Day}
-use Rattle.kd_state.specs.Costs.{column_letters, columns_of}
 use Rattle.kd_plan.specs.declared.cable_lines.Work.{Work}
 use Rattle.kd_plan.specs.declared.cable_lines.Work.TheVariants as works
-use Rattle.kd_plan.specs.CableWork.{is_moved, work_setting, cable_work, work_lines}
-use Rattle.kd_plan.specs.Planned.{unless_so, lies_apart, letters_apart}
 use Rattle.kd_plan.proofs.Carrying.{Led, led_none, led_cons, priced, lines_from, EachLeads}
 use Rattle.kd_plan.proofs.Lists.{seam_get, seam_set}
 

@@ -1,16 +1,9 @@
 -- Settings carried out one after another, each of them allowed and needed.
 use Rattle.std.proofs.Common.{◌≡◌, ℕ, suc, ◌+◌, Bool, true, false, List, [], ◌∷◌, ◌++◌, length, map, None, refl, sym, subst, arith, append_assoc, length-append}
 use Rattle.std.specs.Prelude.{IsFalse}
-use Rattle.std.specs.Option.{option_to_list}
-use Rattle.std.proofs.lemmas.Bool.{false≢true}
-use Rattle.kd_state.specs.declared.machine.parts.Parts.{Parts}
-use Rattle.kd_state.specs.declared.setting.Setting.{Setting}
-use Rattle.kd_state.specs.Setting.{why_refused, changed, Leads}
-use Rattle.kd_state.specs.SheetDay.{Day}
+use Rattle.kd_plan.proofs.Prelude.{option_to_list, false≢true, Parts, Setting, why_refused, changed, Leads, Day}
+use Rattle.kd_plan.proofs.Prelude.{loose_count, is_priced, IsNeeded, AreNeeded, unless_so}
 use Rattle.kd_state.specs.OnKey.{ReadsAs}
-use Rattle.kd_state.specs.Costs.{loose_count}
-use Rattle.kd_card.specs.Proving.{is_priced, IsNeeded, AreNeeded}
-use Rattle.kd_plan.specs.Planned.{unless_so}
 
 -- the settings lead from one machine to the other, and each is needed in its turn
 pub record Led (s : Day) (m : Parts) (xs : List Setting) (n : Parts) : Type 0 where

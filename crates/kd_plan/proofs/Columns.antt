@@ -1,24 +1,18 @@
 -- The cables of a machine beside the columns of a day, one to one: no letter lies in two columns, and cables with the letters
 -- of their columns are the day's pairs.
 use Rattle.std.proofs.Common.{◌≡◌, ℕ, zero, suc, ◌+◌, ◌<◌, ◌≤◌, nat_eq, nat_lt, false, List, [], ◌∷◌, ◌++◌, length, get_or, map, zip, replicate, All, Contains, IsPermutation, Some, None, refl, sym, ap, ◌∙◌, subst, arith}
-use Rattle.std.specs.List.{AllByRecursion, IsDistinct, flat_map, range_with_len, sum_by}
-use Rattle.std.proofs.lemmas.Bool.Decides.{nat_tests}
+use Rattle.kd_plan.proofs.Prelude.{AllByRecursion, flat_map, range_with_len, sum_by, nat_tests, length-map}
+use Rattle.kd_plan.proofs.Prelude.{get_or_default, get_or-map, All-from_recursion, All-map, recursion_from_All}
+use Rattle.kd_plan.proofs.Prelude.{flat_map-map, Contains-permutation, sum_by-IsPermutation, sum_by-cons}
+use Rattle.kd_plan.proofs.Prelude.{slice_get_within, slice_get-get_or, get_or_from_slice_get, length-zip, get_or-zip}
+use Rattle.kd_plan.proofs.Prelude.{firsts-zip, seconds-zip, cable_letters, plugged_letters, AreCables, ArePairs}
+use Rattle.kd_plan.proofs.Prelude.{column_letters, columns_of, Told}
+use Rattle.std.specs.List.{IsDistinct}
 use Rattle.std.proofs.lemmas.Grind.{flat_map-append}
-use Rattle.std.proofs.lemmas.List.{length-map, get_or_default, get_or-map}
-use Rattle.std.proofs.lemmas.List.Elements.{All-from_recursion, All-map, recursion_from_All}
-use Rattle.std.proofs.lemmas.List.Folds.{flat_map-map}
-use Rattle.std.proofs.lemmas.List.Sorted.{Contains-permutation, sum_by-IsPermutation}
-use Rattle.std.proofs.lemmas.List.Sums.{sum_by-cons}
-use Rattle.std.proofs.lemmas.Option.{slice_get_within, slice_get-get_or, get_or_from_slice_get}
-use Rattle.std.proofs.lemmas.Slice.Zip.{length-zip, get_or-zip, firsts-zip, seconds-zip}
 use Rattle.kd_enigma.specs.Plugs.{letters_plugged}
-use Rattle.kd_state.specs.Machine.{cable_letters, plugged_letters, AreCables}
-use Rattle.kd_state.specs.SheetDay.{ArePairs}
 use Rattle.kd_state.specs.OnKey.{Joins, IsPaired, AreThePairs}
-use Rattle.kd_state.specs.Costs.{column_letters, columns_of}
 use Rattle.kd_plan.proofs.Cables.{Cable, Column, Beside, column_at, besides, times, times-cons, times-append, has_times, ArePlain, IsPluggable, in_columns, present, once_put, has_column}
 use Rattle.kd_plan.proofs.Lists.{paired, IsPairing}
-use Rattle.kd_plan.specs.Told.{Told}
 
 -- letters of the alphabet that differ
 in_alphabet : (y a number : ℕ) → a ≤ y → y < a + number → 0 < times y (range_with_len a number)

@@ -1,38 +1,22 @@
 -- How many lines there are, and how many of them the prices speak of: as many as the pairing costs.
-use Rattle.std.proofs.Common.{◌≡◌, ℕ, zero, suc, ◌+◌, ◌*◌, ◌<◌, ◌≤◌, nat_eq, nat_lt, min, Bool, true, false, not, ◌&&◌, cond, List, [], ◌∷◌, ◌++◌, length, get_or, map, zip, filter_map, fold, count_by, Option, Some, None, refl, sym, ◌∙◌, subst, arith, length-append}
-use Rattle.std.specs.List.{AllByRecursion, cons_option, enumerate_from, flat_map, range_with_len, sum_by}
-use Rattle.std.specs.Option.{option_map_or, option_to_list}
-use Rattle.std.proofs.lemmas.Bool.{cond_both}
-use Rattle.std.proofs.lemmas.Bool.Decides.{nat_tests}
-use Rattle.std.proofs.lemmas.List.{get_or-map, length-map}
-use Rattle.std.proofs.lemmas.List.FromFn.{length-enumerate_from}
-use Rattle.std.proofs.lemmas.List.Sums.{sum_by-append, sum_by-cons, sum_by-le-sum_by, length-filter}
-use Rattle.std.proofs.lemmas.Slice.Zip.{length-zip}
-use Rattle.kd_tables.specs.declared.place.Place.{Place}
-use Rattle.kd_tables.specs.declared.wheel.Wheel.{Wheel}
+use Rattle.std.proofs.Common.{◌≡◌, ℕ, ◌+◌, ◌*◌, ◌<◌, ◌≤◌, nat_eq, nat_lt, min, Bool, true, false, not, ◌&&◌, cond, List, [], ◌∷◌, ◌++◌, length, get_or, map, zip, filter_map, fold, count_by, Option, Some, None, refl, sym, ◌∙◌, subst, arith, length-append}
+use Rattle.kd_plan.proofs.Prelude.{AllByRecursion, cons_option, enumerate_from, flat_map, sum_by}
+use Rattle.kd_plan.proofs.Prelude.{option_map_or, option_to_list, cond_both, get_or-map, length-map}
+use Rattle.kd_plan.proofs.Prelude.{length-enumerate_from, sum_by-append, sum_by-cons, length-filter}
+use Rattle.kd_plan.proofs.Prelude.{length-zip, Place, Wheel, box_of, alphabet, place_rank, Setting, Pull, Put, Seat}
+use Rattle.kd_plan.proofs.Prelude.{SeatReflector, RingTo, Turn, PinTo, LugTo, RotorParts, PinParts, Rotor, Pin}
+use Rattle.kd_plan.proofs.Prelude.{SheetWheel, same_wheel, same_reflector, RotorDay, PinDay, OfRotors, OfPins}
+use Rattle.kd_plan.proofs.Prelude.{cable_letters, ring_at, letter_at, has_letter, is_at, differ}
+use Rattle.kd_plan.proofs.Prelude.{unless_same, column_letters, cable_cost, bar_cost, lugs_moved, is_priced}
+use Rattle.kd_plan.proofs.Prelude.{priced_count, assignment_cost, unless_so, in_box_order, pin_on, wheel_pin_lines}
+use Rattle.kd_plan.proofs.Prelude.{pin_lines, lugs_to, planned_lines}
 use Rattle.kd_tables.specs.Rings.{ring_of}
-use Rattle.kd_tables.specs.Tables.{box_of}
 use Rattle.kd_pins.specs.PinWheels.{pin_wheels}
 use Rattle.kd_tables.specs.declared.lug.Lug.{Lug}
 use Rattle.kd_tables.specs.declared.lug.Lug.TheVariants.{Left, Right}
-use Rattle.kd_tables.specs.Permutation.{alphabet}
-use Rattle.kd_tables.specs.Places.{place_rank}
-use Rattle.kd_state.specs.declared.setting.Setting.{Setting}
-use Rattle.kd_state.specs.declared.setting.Setting.TheVariants.{Pull, Put, Seat, SeatReflector, RingTo, Turn, PinTo, LugTo}
-use Rattle.kd_state.specs.declared.machine.rotor_parts.RotorParts.{RotorParts}
-use Rattle.kd_state.specs.declared.machine.pin_parts.PinParts.{PinParts}
-use Rattle.kd_state.specs.declared.machine.parts.Parts.TheVariants.{Rotor, Pin}
-use Rattle.kd_state.specs.declared.sheet_day.rotor_entry.SheetWheel.{SheetWheel}
-use Rattle.kd_state.specs.Box.{same_wheel, same_reflector}
-use Rattle.kd_state.specs.SheetDay.{RotorDay, PinDay, OfRotors, OfPins}
 use Rattle.kd_state.specs.Pins.{wheel_pins}
-use Rattle.kd_state.specs.Machine.{cable_letters, ring_at, letter_at}
-use Rattle.kd_state.specs.Setting.{has_letter, is_at}
-use Rattle.kd_state.specs.Costs.{differ, lies_in_one, unless_same, column_letters, cable_cost, bar_cost, standings_as, lugs_moved}
-use Rattle.kd_card.specs.Proving.{is_priced, priced_count}
-use Rattle.kd_assign.specs.Assignment.{assignment_cost}
-use Rattle.kd_plan.specs.Planned.{unless_so, in_box_order, pin_on, wheel_pin_lines, pin_lines, lugs_to, planned_lines}
-use Rattle.kd_plan.proofs.Cables.{Cable, Column, Beside, times, times-cons, times-append, has_times, pulls, puts, besides, work_beside, lines_beside}
+use Rattle.kd_state.specs.Costs.{standings_as}
+use Rattle.kd_plan.proofs.Cables.{Beside, pulls, puts, besides, work_beside, lines_beside}
 use Rattle.kd_plan.proofs.Bars.{BarRow, to_stand, lugs_of}
 use Rattle.kd_plan.proofs.Carrying.{lines_from}
 use Rattle.kd_plan.proofs.Writing.{wheel_found, bars_beside, lug_lines_are}
@@ -118,46 +102,6 @@ cable_lines z =
       length-filter (λ l. due l && not (held l)) alphabet,
       apart_count held due alphabet,
     )
-
-past : (x a number : ℕ) → x < a → count_by (nat_eq x) (range_with_len a number) ≡ 0
-past x a zero lt = refl
-past x a (suc number) lt =
-    grind (arith, nat_tests, sum_by-cons (λ y. cond (nat_eq x y) 1 0) a (range_with_len (a + 1) number), past x (a + 1) number)
-
-once : (x a number : ℕ) → count_by (nat_eq x) (range_with_len a number) ≤ 1
-once x a zero = omega arith
-once x a (suc number) =
-    grind (arith, nat_tests, sum_by-cons (λ y. cond (nat_eq x y) 1 0) a (range_with_len (a + 1) number), past x (a + 1) number, once x (a + 1) number)
-
-all_times : (xs : List ℕ) → sum_by (λ y. times y xs) alphabet ≤ length xs
-all_times [] = omega arith
-all_times (x ∷ xs) =
-    let one : ℕ → ℕ = λ y. cond (nat_eq x y) 1 0 in
-    let parts = sum_by-le-sum_by (λ y. times y (x ∷ xs)) (λ y. one y + times y xs) alphabet (λ y. omega (arith, times-cons y x xs)) in
-    omega (arith, parts, sums_add one (λ y. times y xs) (λ y. one y + times y xs) (λ y. refl) alphabet, once x 0 26, all_times xs)
-
-pub cable_cost_at_most : (cable : Cable) (column : Column) → cable_cost cable column ≤ 4
-cable_cost_at_most cable column =
-    let all = cable_letters cable ++ column_letters column in
-    let each : (y : ℕ) → cond {A = ℕ} (lies_in_one cable column y) 1 0 ≤ times y all = λ y.
-    grind (arith, nat_tests, has_times (cable_letters cable) y, has_times (column_letters column) y, times-append y (cable_letters cable) (column_letters column)) in
-    omega (
-      arith,
-      sum_by-le-sum_by (λ y. cond (lies_in_one cable column y) 1 0) (λ y. times y all) alphabet each,
-      all_times all,
-      length-append (cable_letters cable) (column_letters column),
-      ends cable,
-      two column,
-    )
-  where
-    ends : (cable : Cable) → length (cable_letters cable) ≤ 2
-    ends (None, b) = grind arith
-    ends (Some a, None) = omega arith
-    ends (Some a, Some b) = omega arith
-
-    two : (column : Column) → length (column_letters column) ≤ 2
-    two None = omega arith
-    two (Some pair) = omega arith
 
 -- a bar's lines are as many as lugs are moved
 one_lug : (so : Bool) (number : ℕ) (lug : Lug) (place : Place)

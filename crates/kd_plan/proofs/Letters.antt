@@ -1,17 +1,7 @@
 -- Lines that each set the number at a place of a list, where it is another one, as RING and TURN do.
 use Rattle.std.proofs.Common.{◌≡◌, ◌≢◌, ℕ, zero, suc, ◌+◌, ◌<◌, nat_eq, Bool, true, false, not, cond, List, [], ◌∷◌, length, get_or, set, filter_map, count_by, Some, None, slice_get, refl, sym, ap, ◌∙◌, subst, arith}
-use Rattle.std.specs.List.{AllByRecursion}
-use Rattle.std.specs.Option.{option_map_or}
-use Rattle.std.proofs.lemmas.Bool.{eq-eqb}
-use Rattle.std.proofs.lemmas.List.{get_or-set_same, length-set}
-use Rattle.std.proofs.lemmas.Option.{slice_get-get_or}
-use Rattle.std.proofs.lemmas.List.Sums.{sum_by-cons}
-use Rattle.kd_state.specs.declared.machine.parts.Parts.{Parts}
-use Rattle.kd_state.specs.declared.setting.Setting.{Setting}
-use Rattle.kd_state.specs.Setting.{why_refused, changed}
-use Rattle.kd_state.specs.SheetDay.{Day}
-use Rattle.kd_card.specs.Proving.{IsNeeded}
-use Rattle.kd_plan.specs.Planned.{unless_so}
+use Rattle.kd_plan.proofs.Prelude.{AllByRecursion, option_map_or, eq-eqb, get_or-set_same, length-set, slice_get-get_or}
+use Rattle.kd_plan.proofs.Prelude.{sum_by-cons, Parts, Setting, why_refused, changed, Day, IsNeeded, unless_so}
 use Rattle.kd_plan.proofs.Carrying.{Led, led_none, led_cons}
 use Rattle.kd_plan.proofs.Lists.{is_number}
 use Rattle.kd_plan.proofs.Wheels.{AreApartAt}

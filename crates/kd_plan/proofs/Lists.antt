@@ -1,17 +1,13 @@
 -- Numbers that are one to one, and lists with one element in the middle.
 use Rattle.std.proofs.Common.{◌≡◌, ◌≢◌, ℕ, zero, suc, ◌+◌, ◌-◌, ◌<◌, List, [], ◌∷◌, ◌++◌, length, get_or, set, slice_get, map, zip, find, nat_eq, Bool, true, false, Option, Some, None, remove, All, AllPairs, Contains, IsPermutation, refl, sym, ap, ◌∙◌, subst, arith}
-use Rattle.std.specs.List.{AllByRecursion, range_with_len, sum_by}
-use Rattle.std.specs.Option.{option_map_or}
-use Rattle.std.proofs.lemmas.Bool.{eqb-true, false≢true}
-use Rattle.std.proofs.lemmas.List.{set_at}
+use Rattle.std.specs.List.{enumerate_from}
+use Rattle.std.proofs.lemmas.List.FromFn.{length-enumerate_from, get_or-enumerate_from}
+use Rattle.kd_plan.proofs.Prelude.{AllByRecursion, range_with_len, sum_by, option_map_or, eqb-true, false≢true, set_at}
+use Rattle.kd_plan.proofs.Prelude.{recursion_from_All, length-range_with_len, get_or-range_with_len, fill_by_all}
+use Rattle.kd_plan.proofs.Prelude.{Contains-permutation, IsPermutation-refl, IsPermutation-cons, IsPermutation-trans}
+use Rattle.kd_plan.proofs.Prelude.{IsPermutation-remove, IsPermutation-map, find_at, sum_by-cons, passes_at_first}
+use Rattle.kd_plan.proofs.Prelude.{slice_get_within, get_or_from_slice_get, IsOneToOne}
 use Rattle.std.proofs.lemmas.List.Edits.{length-remove}
-use Rattle.std.proofs.lemmas.List.Elements.{recursion_from_All}
-use Rattle.std.proofs.lemmas.List.FromFn.{length-range_with_len, get_or-range_with_len, fill_by_all}
-use Rattle.std.proofs.lemmas.List.Sorted.{Contains-permutation, IsPermutation-refl, IsPermutation-cons, IsPermutation-trans, IsPermutation-remove, IsPermutation-map}
-use Rattle.std.proofs.lemmas.List.Folds.{find_at}
-use Rattle.std.proofs.lemmas.List.Sums.{sum_by-cons, passes_at_first}
-use Rattle.std.proofs.lemmas.Option.{slice_get_within, get_or_from_slice_get}
-use Rattle.kd_assign.specs.Assignment.{IsOneToOne}
 
 -- the column of each row of a table, one to one
 pub record IsPairing (number : ℕ) (to : List ℕ) : Type 0 where
@@ -78,6 +74,22 @@ each_two_of_pairs R (x ∷ xs) h = (
   recursion_from_All (R x) xs (λ k d lt. h zero (suc k) d (omega arith) (omega arith)),
   each_two_of_pairs R xs (λ i k d before lt. h (suc i) (suc k) d (omega arith) (omega arith)),
 )
+
+-- elements with their numbers
+module _ {X : Type 0} (xs : List X) (n : ℕ) where
+  pub enumerated_all : (P : ℕ × X → Type 0) → ((k : ℕ) (d : X) → k < length xs → P (n + k, get_or xs k d)) → AllByRecursion P (enumerate_from n xs)
+  enumerated_all P h =
+      recursion_from_All P (enumerate_from n xs) (λ k d lt.
+      let within : k < length xs = omega (arith, length-enumerate_from n xs) in
+      subst P (sym (get_or-enumerate_from n xs k d within)) (h k d.1 within))
+
+  pub enumerated_two : (R : ℕ × X → ℕ × X → Type 0) → ((i j : ℕ) (d : X) → i < j → j < length xs → R (n + i, get_or xs i d) (n + j, get_or xs j d))
+      → EachTwo R (enumerate_from n xs)
+  enumerated_two R h =
+      each_two_of_pairs R (enumerate_from n xs) (λ i j d before lt.
+      let within : j < length xs = omega (arith, length-enumerate_from n xs) in
+      let first : i < length xs = omega arith in
+      rw (get_or-enumerate_from n xs i d first, get_or-enumerate_from n xs j d within) (h i j d.1 before within))
 
 -- the element in the middle
 module _ {X : Type 0} where

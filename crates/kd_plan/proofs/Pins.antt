@@ -1,34 +1,19 @@
 -- PIN and TURN of a Converter M-209: wheel after wheel, and on each wheel letter after letter. All its planned lines lead to
 -- the day, and each is needed.
 use Rattle.std.proofs.Common.{◌≡◌, ℕ, zero, suc, ◌+◌, ◌<◌, nat_eq, Bool, true, false, not, cond, List, [], ◌∷◌, ◌++◌, length, get_or, map, zip, sum, filter_map, count_by, Some, refl, sym, ap, ◌∙◌, arith, append_assoc, length-append, All, IsPermutation, subst}
-use Rattle.std.specs.List.{sum_by, AllByRecursion}
-use Rattle.std.specs.Option.{option_map_or, option_to_list}
-use Rattle.std.proofs.lemmas.Bool.{agree_below, agree_below_at, eq-eqb, eqb-true}
-use Rattle.std.proofs.lemmas.List.{set_at, get_or_at, length-map}
-use Rattle.std.proofs.lemmas.List.Folds.{list_any_at}
-use Rattle.std.proofs.lemmas.List.Sums.{sum-map}
-use Rattle.std.proofs.lemmas.Option.{unwrap_or-slice_get}
-use Rattle.kd_tables.specs.Rings.{ring_of, place_on}
+use Rattle.kd_plan.proofs.Prelude.{sum_by, AllByRecursion, option_map_or, option_to_list, agree_below, agree_below_at}
+use Rattle.kd_plan.proofs.Prelude.{eq-eqb, eqb-true, set_at, get_or_at, length-map, list_any_at, sum-map}
+use Rattle.kd_plan.proofs.Prelude.{unwrap_or-slice_get, place_on, PinParts, Parts, Pin, Setting, PinTo, Turn}
+use Rattle.kd_plan.proofs.Prelude.{HasAllPins, AreOnWheels, IsMachine, has_letter, PinDay, OfPins, IsLegalPinDay}
+use Rattle.kd_plan.proofs.Prelude.{differ, loose_pins, loose_count, unless_so, pin_on, pin_lines, wheel_pin_lines}
+use Rattle.kd_plan.proofs.Prelude.{pin_turn_lines, lug_lines, planned_lines, recursion_from_All, IsPermutation-sym}
+use Rattle.kd_plan.proofs.Prelude.{firsts-zip, seconds-zip, Place, reading_of, IsBefore, IsReading}
+use Rattle.kd_tables.specs.Rings.{ring_of}
 use Rattle.kd_pins.specs.PinWheels.{pins_of}
-use Rattle.kd_state.specs.declared.machine.pin_parts.PinParts.{PinParts}
-use Rattle.kd_state.specs.declared.machine.parts.Parts.{Parts}
-use Rattle.kd_state.specs.declared.machine.parts.Parts.TheVariants.{Pin}
-use Rattle.kd_state.specs.declared.setting.Setting.{Setting}
-use Rattle.kd_state.specs.declared.setting.Setting.TheVariants.{PinTo, Turn}
 use Rattle.kd_state.specs.Pins.{pin_set, with_pin}
-use Rattle.kd_state.specs.Machine.{HasAllPins, AreOnWheels, IsMachine}
-use Rattle.kd_state.specs.Setting.{has_letter}
-use Rattle.kd_state.specs.SheetDay.{PinDay, OfPins, IsLegalPinDay}
-use Rattle.kd_state.specs.Costs.{differ, loose_pins, loose_count}
-use Rattle.kd_plan.specs.Planned.{unless_so, pin_on, pin_lines, wheel_pin_lines, pin_turn_lines, lug_lines, planned_lines}
 use Rattle.kd_plan.proofs.Carrying.{Led, led_unless, lines_from, EachLeads, cells_led, Reaches, led_append}
 use Rattle.kd_plan.proofs.Lists.{is_number, seam_get, seam_set, one_less, paired, IsPairing}
 use Rattle.kd_plan.proofs.Writing.{one_line, pin_turn_of, row_at, bars_beside, lug_lines_are, pin_turn_lines_are}
-use Rattle.std.proofs.lemmas.List.Elements.{recursion_from_All}
-use Rattle.std.proofs.lemmas.List.Sorted.{IsPermutation-sym}
-use Rattle.std.proofs.lemmas.Slice.Zip.{firsts-zip, seconds-zip}
-use Rattle.kd_tables.specs.declared.place.Place.{Place}
-use Rattle.kd_tables.specs.Places.{reading_of, IsBefore, IsReading}
 use Rattle.kd_plan.proofs.Bars.{BarRow, IsMovable, now_stands, to_stand, with_bars, lugs_of, lugs_each, rows_read}
 
 -- each letter of a pin wheel stands at its own place

@@ -1,20 +1,10 @@
 -- The planned lines of any pairing lead to the day, and a planned card proves itself.
 use Rattle.std.proofs.Common.{◌≡◌, ℕ, ◌<◌, List, [], ◌∷◌, length, Contains, None, refl, sym, ap, ◌∙◌, subst, arith, pos}
-use Rattle.std.specs.List.{AllByRecursion, sum_by}
-use Rattle.std.proofs.lemmas.List.Elements.{recursion_from_All}
-use Rattle.std.proofs.lemmas.List.Sums.{sum_by-cons}
-use Rattle.kd_tables.specs.declared.model.Model.{Model}
-use Rattle.kd_tables.specs.declared.model.Model.TheVariants.{M209}
+use Rattle.kd_plan.proofs.Prelude.{AllByRecursion, sum_by, recursion_from_All, sum_by-cons, Model, M209, reflectors_of}
+use Rattle.kd_plan.proofs.Prelude.{Parts, Rotor, Pin, IsMachine, model_of, Day, OfRotors, OfPins, IsLegalDay, day_model}
+use Rattle.kd_plan.proofs.Prelude.{columns_of, cable_cost, bar_cost, lugs_moved, cost_table, priced_count}
+use Rattle.kd_plan.proofs.Prelude.{ProvesByNumber, assignment_cost, planned_lines, table_size, Told}
 use Rattle.kd_tables.specs.declared.reflector.Reflector.{Reflector}
-use Rattle.kd_tables.specs.Tables.{reflectors_of}
-use Rattle.kd_state.specs.declared.machine.parts.Parts.{Parts}
-use Rattle.kd_state.specs.declared.machine.parts.Parts.TheVariants.{Rotor, Pin}
-use Rattle.kd_state.specs.Machine.{IsMachine, model_of}
-use Rattle.kd_state.specs.SheetDay.{Day, OfRotors, OfPins, IsLegalDay, day_model}
-use Rattle.kd_state.specs.Costs.{columns_of, cable_cost, bar_cost, lugs_moved, cost_table}
-use Rattle.kd_card.specs.Proving.{priced_count, ProvesByNumber}
-use Rattle.kd_assign.specs.Assignment.{assignment_cost}
-use Rattle.kd_plan.specs.Planned.{planned_lines, table_size}
 use Rattle.kd_plan.specs.Laws.{PlannedLinesLead, PlannedCardsProve}
 use Rattle.kd_plan.proofs.Bars.{BarRow, IsMovable, to_stand, is_target}
 use Rattle.kd_plan.proofs.Carrying.{Reaches}
@@ -22,7 +12,6 @@ use Rattle.kd_plan.proofs.Counts.{rotor_counted, pin_counted, table_cost}
 use Rattle.kd_plan.proofs.Lists.{IsPairing, pairing_of}
 use Rattle.kd_plan.proofs.Pins.{are_movable, pin_machines_reach}
 use Rattle.kd_plan.proofs.Rotors.{rotors_reach}
-use Rattle.kd_plan.specs.Told.{Told}
 
 -- the bars are moved by as many lugs as their rows cost
 least_moved : (zs : List BarRow) → AllByRecursion IsMovable zs → sum_by (λ z. lugs_moved z.0 (to_stand z)) zs ≡ sum_by (λ z. bar_cost z.0 z.1) zs

@@ -1,30 +1,19 @@
 -- The planned lines of a rotor machine lead to the day, and each is needed.
 use Rattle.std.proofs.Common.{◌≡◌, ℕ, ◌+◌, List, [], length, set, map, Contains, Some, None, unwrap_or, slice_get, refl, sym, ap, ◌∙◌, subst, arith}
-use Rattle.std.specs.List.{AllByRecursion, enumerate_from}
-use Rattle.std.proofs.lemmas.List.{length-map}
-use Rattle.std.proofs.lemmas.List.Elements.{All-from_recursion}
-use Rattle.kd_tables.specs.Tables.{box_of, slots_of, reflectors_of}
-use Rattle.kd_state.specs.declared.machine.rotor_parts.RotorParts.{RotorParts}
-use Rattle.kd_state.specs.declared.machine.parts.Parts.{Parts}
-use Rattle.kd_state.specs.declared.machine.parts.Parts.TheVariants.{Rotor}
-use Rattle.kd_state.specs.declared.setting.Setting.{Setting}
-use Rattle.kd_state.specs.declared.setting.Setting.TheVariants.{SeatReflector, RingTo, Turn}
-use Rattle.kd_state.specs.declared.sheet_day.rotor_entry.SheetWheel.{SheetWheel}
-use Rattle.kd_state.specs.Box.{same_reflector, numbered}
-use Rattle.kd_state.specs.Machine.{IsMachine}
-use Rattle.kd_state.specs.Setting.{with_letter, changed}
-use Rattle.kd_state.specs.SheetDay.{RotorDay, OfRotors, seats, AreSeated, IsLegalRotorDay}
-use Rattle.kd_state.specs.Costs.{unless_same, loose_count}
-use Rattle.kd_plan.specs.Planned.{seat_lines, reflector_lines, ring_lines, turn_lines, pull_lines, put_lines, planned_lines}
+use Rattle.kd_plan.proofs.Prelude.{AllByRecursion, enumerate_from, length-map, All-from_recursion, box_of, slots_of}
+use Rattle.kd_plan.proofs.Prelude.{reflectors_of, RotorParts, Parts, Rotor, Setting, SeatReflector, RingTo, Turn}
+use Rattle.kd_plan.proofs.Prelude.{SheetWheel, same_reflector, numbered, IsMachine, with_letter, changed, RotorDay}
+use Rattle.kd_plan.proofs.Prelude.{OfRotors, seats, AreSeated, IsLegalRotorDay, unless_same, loose_count, seat_lines}
+use Rattle.kd_plan.proofs.Prelude.{reflector_lines, ring_lines, turn_lines, pull_lines, put_lines, planned_lines, Told}
 use Rattle.kd_plan.proofs.Carrying.{Reaches, Led, led_unless, led_append, lines_from, cells_led}
 use Rattle.kd_plan.proofs.Columns.{are_pluggable, few_columns, same_cables, are_the_pairs}
-use Rattle.kd_plan.proofs.Wheels.{at_element, recursion_of_each, each_two, in_order, order_among, order_apart, all_of_order, StandsThere, numbered as by_slots, numbered_apart, from_numbered, same_reflector_self, has_wheel_of, has_reflector_of, AreApartAt, place_of, wheels_apart, box_none_twice, wheels_boxed}
+use Rattle.kd_plan.specs.Planned.{in_box_order}
+use Rattle.kd_plan.proofs.Wheels.{at_element, recursion_of_each, each_two, order_among, order_apart, all_of_order, StandsThere, by_slots, slots_apart, from_numbered, same_reflector_self, has_wheel_of, has_reflector_of, AreApartAt, place_of, wheels_apart, wheels_boxed}
 use Rattle.kd_plan.proofs.Letters.{SetsIts, AreSet, all_set, one_fewer}
 use Rattle.kd_plan.proofs.Lists.{IsPairing}
 use Rattle.kd_plan.proofs.Cables.{Cable, Beside, besides, IsPluggable, present, once_pulled, once_put, with_cables, work_beside, lines_beside, pulls_each, puts_each}
 use Rattle.kd_plan.specs.declared.cable_lines.Work.TheVariants as works
 use Rattle.kd_plan.proofs.Seats.{seats_led}
-use Rattle.kd_plan.specs.Told.{Told}
 
 -- REFLECTOR
 reflector_led : Told → (m : RotorParts) (s : RotorDay) → Contains (reflectors_of m.model) s.reflector
@@ -122,20 +111,20 @@ module _ (told : Told) (m : RotorParts) (s : RotorDay) where
     reflector_reaches =
         reflector_led told after_seats s (subst (λ model. Contains (reflectors_of model) s.reflector) (sym same) legal.reflector)
 
-    rings_set : AreSet (place_of m.model) ring_wanted (OfRotors s) with_rings (length (box_of m.model)) ring_line m.rings (in_order m.model s.wheels (box_of m.model))
+    rings_set : AreSet (place_of m.model) ring_wanted (OfRotors s) with_rings (length (box_of m.model)) ring_line m.rings (in_box_order m.model s.wheels)
     rings_set =
-        all_set (place_of m.model) ring_wanted (OfRotors s) with_rings (length (box_of m.model)) ring_line m.rings (in_order m.model s.wheels (box_of m.model)) machine.legal.rings.count
-        (recursion_of_each (SetsIts (place_of m.model) ring_wanted (OfRotors s) with_rings (length (box_of m.model)) ring_line) (in_order m.model s.wheels (box_of m.model))
-        (λ w c. ring_sets apart boxed w (at_element (Contains s.wheels) (in_order m.model s.wheels (box_of m.model)) w (order_among m.model s.wheels (box_of m.model)) c)))
-        (order_apart m.model s.wheels told (box_of m.model) (recursion_of_each (Contains (box_of m.model)) (box_of m.model) (λ wheel c. c)) (box_none_twice m.model))
+        all_set (place_of m.model) ring_wanted (OfRotors s) with_rings (length (box_of m.model)) ring_line m.rings (in_box_order m.model s.wheels) machine.legal.rings.count
+        (recursion_of_each (SetsIts (place_of m.model) ring_wanted (OfRotors s) with_rings (length (box_of m.model)) ring_line) (in_box_order m.model s.wheels)
+        (λ w c. ring_sets apart boxed w (at_element (Contains s.wheels) (in_box_order m.model s.wheels) w (order_among told m.model s.wheels) c)))
+        (order_apart told m.model s.wheels)
 
     turns_set : AreSet (λ (n : Numbered). place_of m.model n.1) (λ (n : Numbered). n.1.letter) (OfRotors s) (with_letters rings_set.end) (length (box_of m.model)) turn_line m.letters (enumerate_from 1 s.wheels)
     turns_set =
         all_set (λ (n : Numbered). place_of m.model n.1) (λ (n : Numbered). n.1.letter) (OfRotors s) (with_letters rings_set.end) (length (box_of m.model)) turn_line m.letters (enumerate_from 1 s.wheels)
         machine.legal.letters.count
         (recursion_of_each (SetsIts (λ (n : Numbered). place_of m.model n.1) (λ (n : Numbered). n.1.letter) (OfRotors s) (with_letters rings_set.end) (length (box_of m.model)) turn_line) (enumerate_from 1 s.wheels)
-        (λ n c. turn_sets rings_set.end apart boxed n (at_element (StandsThere s.wheels) (enumerate_from 1 s.wheels) n (by_slots s.wheels [] s.wheels 1 refl refl) c)))
-        (numbered_apart m.model s.wheels 1 apart)
+        (λ n c. turn_sets rings_set.end apart boxed n (at_element (StandsThere s.wheels) (enumerate_from 1 s.wheels) n (by_slots s.wheels) c)))
+        (slots_apart told m.model s.wheels seated_wheels)
 
     -- PULL and PUT
     abbrev turned : RotorParts
@@ -177,7 +166,7 @@ module _ (told : Told) (m : RotorParts) (s : RotorDay) where
         key = record {
           model = same;
           slots = refl;
-          rings = all_of_order told (λ w. slice_get rings_set.end (place_of m.model w) ≡ Some w.ring) m.model s.wheels apart boxed rings_set.done;
+          rings = all_of_order told m.model s.wheels (λ w. slice_get rings_set.end (place_of m.model w) ≡ Some w.ring) seated_wheels rings_set.done;
           reflector = refl;
           cables = are_the_pairs told s.pairs legal.pairs m.cables to machine.legal.cables pairing;
         };

@@ -1,25 +1,10 @@
 -- SEAT, one slot after another: a slot that is right already is never emptied, since the day's wheels differ.
 use Rattle.std.proofs.Common.{◌≡◌, ◌≢◌, ℕ, suc, ◌+◌, ◌-◌, Bool, true, false, not, cond, inl, inr, List, [], ◌∷◌, ◌++◌, length, map, set, zip, filter_map, count_by, Option, Some, None, refl, sym, ap, ◌∙◌, subst, arith, append_assoc, length-append}
-use Rattle.std.specs.List.{AllByRecursion, enumerate_from}
-use Rattle.std.specs.Option.{option_map_or}
-use Rattle.std.proofs.lemmas.Bool.{cases_Bool, cond_both, false≢true, false_from_ne_true}
-use Rattle.std.proofs.lemmas.List.{append-nil, map-append, length-map}
-use Rattle.kd_tables.specs.declared.wheel.Wheel.{Wheel}
-use Rattle.kd_tables.specs.Tables.{IsAllowed, wheels_for}
-use Rattle.kd_state.specs.declared.machine.rotor_parts.RotorParts.{RotorParts}
-use Rattle.kd_state.specs.declared.machine.parts.Parts.{Parts}
-use Rattle.kd_state.specs.declared.machine.parts.Parts.TheVariants.{Rotor}
-use Rattle.kd_state.specs.declared.setting.Setting.{Setting}
-use Rattle.kd_state.specs.declared.setting.Setting.TheVariants.{Seat}
-use Rattle.kd_state.specs.declared.sheet_day.rotor_entry.SheetWheel.{SheetWheel}
-use Rattle.kd_state.specs.Box.{same_wheel}
-use Rattle.kd_state.specs.Machine.{AreAllowed}
-use Rattle.kd_state.specs.Setting.{why_refused, without}
-use Rattle.kd_state.specs.SheetDay.{RotorDay, OfRotors, seats}
+use Rattle.kd_plan.proofs.Prelude.{AllByRecursion, enumerate_from, option_map_or, cases_Bool, cond_both, false≢true}
+use Rattle.kd_plan.proofs.Prelude.{false_from_ne_true, append-nil, map-append, length-map, Wheel, IsAllowed, wheels_for}
+use Rattle.kd_plan.proofs.Prelude.{RotorParts, Parts, Rotor, Setting, Seat, SheetWheel, same_wheel, AreAllowed}
+use Rattle.kd_plan.proofs.Prelude.{why_refused, without, RotorDay, OfRotors, seats, loose_slots, IsNeeded, unless_so}
 use Rattle.kd_state.specs.Laws.{NamesTellWheels}
-use Rattle.kd_state.specs.Costs.{loose_slots}
-use Rattle.kd_card.specs.Proving.{IsNeeded}
-use Rattle.kd_plan.specs.Planned.{unless_so}
 use Rattle.kd_plan.proofs.Carrying.{Led, led_none, led_cons}
 use Rattle.kd_plan.proofs.Letters.{count_by-cons}
 use Rattle.kd_plan.proofs.Lists.{seam_set, EachTwo, beside_back, beside_front}

@@ -1,21 +1,22 @@
 -- The wheels and the reflector of a day: among others, by their places in the box, in box order and by their slots.
-use Rattle.std.proofs.Common.{◌≡◌, ◌≢◌, ℕ, zero, suc, ◌+◌, Bool, true, false, not, ◌&&◌, List, [], ◌∷◌, Contains, refl, sym, ap, ◌∙◌, ◌<◌, cond, ◌++◌, length, get_or, filter_map, find, All, Option, Some, None, slice_get, subst, arith, append_assoc, length-append}
-use Rattle.std.specs.List.{AllByRecursion, list_any, cons_option, enumerate_from}
-use Rattle.std.proofs.lemmas.Bool.{false≢true, and_parts, not-true, or_parts}
-use Rattle.std.proofs.lemmas.List.Folds.{list_any_at}
+use Rattle.std.proofs.Common.{map, ◌≡◌, ◌≢◌, ℕ, zero, suc, ◌+◌, Bool, true, List, [], ◌∷◌, Contains, refl, sym, ap, ◌∙◌, ◌<◌, ◌++◌, length, get_or, filter_map, find, All, Option, Some, None, slice_get, arith}
+use Rattle.std.proofs.lemmas.List.{get_or-map}
+use Rattle.std.proofs.lemmas.List.FromFn.{get_or-range_with_len}
+use Rattle.std.specs.List.{range_with_len}
+use Rattle.kd_plan.proofs.Prelude.{AllByRecursion, list_any, cons_option, enumerate_from}
+use Rattle.kd_plan.proofs.Prelude.{list_any_at, Model, EnigmaI, Wheel, box_of, wheel_text}
+use Rattle.kd_plan.proofs.Prelude.{reflector_text, SheetWheel, same_wheel, same_reflector, has_wheel, has_reflector}
+use Rattle.kd_plan.proofs.Prelude.{place_in_box, StandsAt, AreAllowed, seats, AreSeated, Told, All-contains}
+use Rattle.kd_plan.proofs.Prelude.{All-from_recursion, Contains-get_or, recursion_from_All}
 use Rattle.std.proofs.lemmas.Slice.Eq.{bytes_eq-Decides}
-use Rattle.kd_tables.specs.declared.model.Model.{Model}
-use Rattle.kd_tables.specs.declared.model.Model.TheVariants.{EnigmaI}
-use Rattle.kd_tables.specs.declared.wheel.Wheel.{Wheel}
 use Rattle.kd_tables.specs.declared.reflector.Reflector.{Reflector}
-use Rattle.kd_tables.specs.Tables.{box_of, wheel_text, reflector_text}
-use Rattle.kd_state.specs.declared.sheet_day.rotor_entry.SheetWheel.{SheetWheel}
-use Rattle.kd_state.specs.Box.{same_wheel, same_reflector, has_wheel, has_reflector, place_in_box}
-use Rattle.kd_state.specs.Machine.{StandsAt, AreAllowed}
-use Rattle.kd_state.specs.SheetDay.{seats, AreSeated}
-use Rattle.kd_plan.specs.Told.{Told}
-use Rattle.kd_plan.proofs.Lists.{EachTwo, each_two_of_pairs, found}
-use Rattle.std.proofs.lemmas.List.Elements.{All-contains, All-from_recursion, Contains-get_or, recursion_from_All}
+use Rattle.std.proofs.lemmas.Bool.{false_from_ne_true}
+use Rattle.std.proofs.lemmas.List.Folds.{find_at}
+use Rattle.std.proofs.lemmas.List.Sums.{position_or_len_is}
+use Rattle.std.proofs.lemmas.Option.{slice_get-map, slice_get-get_or}
+use Rattle.std.specs.Option.{option_map}
+use Rattle.kd_plan.specs.Planned.{in_box_order}
+use Rattle.kd_plan.proofs.Lists.{EachTwo, each_two_of_pairs, enumerated_all, enumerated_two, found, seam_get}
 
 pub same_wheel_self : (wheel : Wheel) → same_wheel wheel wheel ≡ true
 same_wheel_self wheel = (bytes_eq-Decides (wheel_text wheel) (wheel_text wheel)).1 refl
@@ -46,28 +47,17 @@ wheels_apart told model wheels h =
     each_two_of_pairs (λ x y. place_of model y ≢ place_of model x) wheels (λ i j d before within same. told.days model wheels h i j d before within (sym same))
 
 -- the box has no wheel twice
-different : List Wheel → Bool
-different [] = true
-different (wheel ∷ wheels) = not (has_wheel wheels wheel) && different wheels
+places_in_box : (model : Model) → map (place_in_box model) (box_of model) ≡ range_with_len 0 (length (box_of model))
+places_in_box EnigmaI = refl
+places_in_box _ = refl
 
-box_different : (model : Model) → different (box_of model) ≡ true
-unfolding different
-box_different EnigmaI = refl
-box_different _ = refl
-
--- no wheel is among the later ones
-abbrev pub NoneTwice : List Wheel → Type 0
-NoneTwice [] = Unit {0}
-NoneTwice (wheel ∷ wheels) = (has_wheel wheels wheel ≡ false) × NoneTwice wheels
-
-none_twice : (wheels : List Wheel) → different wheels ≡ true → NoneTwice wheels
-unfolding different
-none_twice [] e = tt
-none_twice (wheel ∷ wheels) e =
-    let both = and_parts (not (has_wheel wheels wheel)) (different wheels) e in (not-true (has_wheel wheels wheel) both.0, none_twice wheels both.1)
-
-pub box_none_twice : (model : Model) → NoneTwice (box_of model)
-box_none_twice model = none_twice (box_of model) (box_different model)
+box_apart : (model : Model) → AreApartAt (place_in_box model) (box_of model)
+box_apart model =
+    each_two_of_pairs (λ wheel other. place_in_box model other ≢ place_in_box model wheel) (box_of model) (λ i j d before lt same.
+    let at : (k : ℕ) → k < length (box_of model) → place_in_box model (get_or (box_of model) k d) ≡ 0 + k = λ k within.
+    sym (get_or-map (place_in_box model) (box_of model) k d 0 within) ∙ ap (λ places. get_or places k 0) (places_in_box model)
+    ∙ get_or-range_with_len 0 (length (box_of model)) k 0 within in
+    omega (arith, at i (omega arith), at j lt, same))
 
 -- every wheel of a day is in the box
 pub wheels_boxed : Told → (model : Model) (wheels : List SheetWheel) → AreAllowed model (seats wheels) → AllByRecursion (λ w. Contains (box_of model) w.wheel) wheels
@@ -89,91 +79,76 @@ at_element P xs x h c = All-contains P xs x (All-from_recursion P xs h) c
 abbrev pub OtherWheels : SheetWheel → SheetWheel → Type 0
 OtherWheels w v = w.wheel ≢ v.wheel
 
-seat_behind : (done rest : List SheetWheel) (w : SheetWheel) → slice_get (seats (done ++ w ∷ rest)) (length done) ≡ Some (Some w.wheel)
-seat_behind [] rest w = refl
-seat_behind (v ∷ done) rest w = seat_behind done rest w
+seat_at : (wheels : List SheetWheel) (place : ℕ) (w : SheetWheel) → slice_get wheels place ≡ Some w → slice_get (seats wheels) place ≡ Some (Some w.wheel)
+seat_at wheels place w e = slice_get-map (λ (v : SheetWheel). Some v.wheel) wheels place ∙ ap (option_map (λ (v : SheetWheel). Some v.wheel)) e
 
 pub seat_of : (wheels done rest : List SheetWheel) (w : SheetWheel) → done ++ w ∷ rest ≡ wheels → slice_get (seats wheels) (length done) ≡ Some (Some w.wheel)
-seat_of wheels done rest w e = subst (λ all. slice_get (seats all) (length done) ≡ Some (Some w.wheel)) e (seat_behind done rest w)
+seat_of wheels done rest w e = seat_at wheels (length done) w (rw (← e) (seam_get done w rest))
 
 -- no two of a day's wheels are one
 pub each_two : Told → (model : Model) (wheels : List SheetWheel) → AreSeated model (seats wheels) → EachTwo OtherWheels wheels
 each_two told model wheels h = each_two_of_pairs OtherWheels wheels (λ i j d before within same. told.days model wheels h i j d before within (ap (place_in_box model) same))
 
--- what holds of those that are found
-all_cons : {X : Type 0} (P : X → Type 0) (o : Option X) (rest : List X) → ((x : X) → o ≡ Some x → P x) → AllByRecursion P rest → AllByRecursion P (cons_option o rest)
-all_cons P None rest h hs = hs
-all_cons P (Some x) rest h hs = (h x refl, hs)
+-- what is found of some things
+module _ {X Y : Type 0} (f : X → Option Y) where
+  all_cons : (Q : Y → Type 0) (o : Option Y) (rest : List Y) → ((y : Y) → o ≡ Some y → Q y) → AllByRecursion Q rest → AllByRecursion Q (cons_option o rest)
+  all_cons Q None rest h all = all
+  all_cons Q (Some y) rest h all = (h y refl, all)
 
-all_parts : {X : Type 0} (P : X → Type 0) (o : Option X) (rest : List X) → AllByRecursion P (cons_option o rest) → ((x : X) → o ≡ Some x → P x) × AllByRecursion P rest
-all_parts P None rest h = (λ x e. cc, h)
-all_parts P (Some y) rest h = (λ x e. let same : y ≡ x = cc in subst P same h.0, h.1)
+  two_cons : (S : Y → Y → Type 0) (o : Option Y) (rest : List Y) → ((y : Y) → o ≡ Some y → AllByRecursion (S y) rest) → EachTwo S rest → EachTwo S (cons_option o rest)
+  two_cons S None rest h all = all
+  two_cons S (Some y) rest h all = (h y refl, all)
 
-module _ (model : Model) (wheels : List SheetWheel) where
+  all_found : (P : X → Type 0) (Q : Y → Type 0) → ((x : X) (y : Y) → f x ≡ Some y → P x → Q y) → (xs : List X) → AllByRecursion P xs → AllByRecursion Q (filter_map f xs)
+  all_found P Q h [] all = tt
+  all_found P Q h (x ∷ xs) all = all_cons Q (f x) (filter_map f xs) (λ y e. h x y e all.0) (all_found P Q h xs all.1)
+
+  two_found : (R : X → X → Type 0) (S : Y → Y → Type 0) → ((x v : X) (y w : Y) → f x ≡ Some y → f v ≡ Some w → R x v → S y w) → (xs : List X)
+      → EachTwo R xs → EachTwo S (filter_map f xs)
+  two_found R S h [] all = tt
+  two_found R S h (x ∷ xs) all =
+      two_cons S (f x) (filter_map f xs) (λ y e. all_found (R x) (S y) (λ v w e'. h x v y w e e') xs all.0) (two_found R S h xs all.1)
+
+  later_one : (o : Option Y) (rest : List Y) (y : Y) → Contains rest y → Contains (cons_option o rest) y
+  later_one None rest y c = c
+  later_one (Some z) rest y c = (suc c.0, omega (arith, c.1), c.2)
+
+  found_among : (xs : List X) (x : X) (y : Y) → Contains xs x → f x ≡ Some y → Contains (filter_map f xs) y
+  found_among [] x y c e = absurd (omega (arith, c.1))
+  found_among (v ∷ xs) x y (zero, lt, is) e = rw (ap f is ∙ e) (zero, omega arith, refl)
+  found_among (v ∷ xs) x y (suc k, lt, is) e = later_one (f v) (filter_map f xs) y (found_among xs x y (k, omega arith, is) e)
+
+-- The wheels of a day in box order: each is one of the day's, no two are one, and each of the day's is there.
+module _ (told : Told) (model : Model) (wheels : List SheetWheel) where
   abbrev the_one : Wheel → Option SheetWheel
   the_one wheel = find (λ (w : SheetWheel). same_wheel wheel w.wheel) wheels
 
-  abbrev pub in_order : List Wheel → List SheetWheel
-  in_order box = filter_map the_one box
+  is_the_one : (wheel : Wheel) (w : SheetWheel) → the_one wheel ≡ Some w → (wheel ≡ w.wheel) × Contains wheels w
+  is_the_one wheel w e = let seen = found (λ (w : SheetWheel). same_wheel wheel w.wheel) wheels w e in ((told.wheels wheel w.wheel).0 seen.0, seen.1)
 
-  -- each of these is a wheel of the day
-  pub order_among : (box : List Wheel) → AllByRecursion (Contains wheels) (in_order box)
-  order_among [] = tt
-  order_among (wheel ∷ box) =
-      all_cons (Contains wheels) (the_one wheel) (in_order box) (λ w e. (found (λ (w : SheetWheel). same_wheel wheel w.wheel) wheels w e).1) (order_among box)
+  pub order_among : AllByRecursion (Contains wheels) (in_box_order model wheels)
+  order_among =
+      all_found the_one (Contains (box_of model)) (Contains wheels) (λ wheel w e c. (is_the_one wheel w e).1) (box_of model)
+      (recursion_of_each (Contains (box_of model)) (box_of model) (λ wheel c. c))
 
-  -- they have different places
-  boxed_place : Told → (wheel other : Wheel) (w : SheetWheel) → the_one wheel ≡ Some w → Contains (box_of model) wheel → Contains (box_of model) other → same_wheel other wheel ≡ false → place_of model w ≢ place_in_box model other
-  boxed_place told wheel other w e boxed here unlike same =
-      let one = (told.wheels wheel w.wheel).0 (found (λ (w : SheetWheel). same_wheel wheel w.wheel) wheels w e).0 in
-      let places : place_in_box model other ≡ place_in_box model wheel = sym same ∙ ap (place_in_box model) (sym one) in
-      let two = told.places model other wheel here boxed places in
-      false≢true (sym unlike ∙ ap (same_wheel other) (sym two) ∙ same_wheel_self other)
+  pub order_apart : AreApartAt (place_of model) (in_box_order model wheels)
+  order_apart =
+      let place = place_in_box model in
+      two_found the_one (λ wheel other. place other ≢ place wheel) (λ w v. place_of model v ≢ place_of model w)
+      (λ wheel other w v e f apart same. apart (ap place (is_the_one other v f).0 ∙ same ∙ sym (ap place (is_the_one wheel w e).0))) (box_of model) (box_apart model)
 
-  away_order : Told → (other : Wheel) (box : List Wheel) → Contains (box_of model) other → AllByRecursion (Contains (box_of model)) box → has_wheel box other ≡ false
-      → AllByRecursion (λ w. place_of model w ≢ place_in_box model other) (in_order box)
-  away_order told other [] here boxed none = tt
-  away_order told other (wheel ∷ box) here boxed none =
-      let both = or_parts (same_wheel other wheel) (has_wheel box other) none in
-      all_cons (λ w. place_of model w ≢ place_in_box model other) (the_one wheel) (in_order box) (λ w e. boxed_place told wheel other w e boxed.0 here both.0) (away_order told other box here boxed.1 both.1)
-
-  apart_one : (wheel : Wheel) (seen : Option SheetWheel) (rest : List SheetWheel) → ((w : SheetWheel) → seen ≡ Some w → wheel ≡ w.wheel) → AllByRecursion (λ w. place_of model w ≢ place_in_box model wheel) rest
-      → AreApartAt (place_of model) rest → AreApartAt (place_of model) (cons_option seen rest)
-  apart_one wheel None rest h away apart = apart
-  apart_one wheel (Some w) rest h away apart =
-      (subst (λ x. AllByRecursion (λ v. place_of model v ≢ place_in_box model x) rest) (h w refl) away, apart)
-
-  pub order_apart : Told → (box : List Wheel) → AllByRecursion (Contains (box_of model)) box → NoneTwice box → AreApartAt (place_of model) (in_order box)
-  order_apart told [] boxed none = tt
-  order_apart told (wheel ∷ box) boxed none =
-      apart_one wheel (the_one wheel) (in_order box) (λ w e. (told.wheels wheel w.wheel).0 (found (λ (w : SheetWheel). same_wheel wheel w.wheel) wheels w e).0)
-      (away_order told wheel box boxed.0 boxed.1 none.0) (order_apart told box boxed.1 none.1)
-
-  -- a day's wheel is among them
-  of_order : (P : SheetWheel → Type 0) (box : List Wheel) (k : ℕ) (w : SheetWheel) → AllByRecursion P (in_order box) → k < length box → get_or box k w.wheel ≡ w.wheel → the_one w.wheel ≡ Some w → P w
-  of_order P [] k w h lt e seen = absurd (omega arith)
-  of_order P (wheel ∷ box) zero w h lt e seen = (all_parts P (the_one wheel) (in_order box) h).0 w (ap the_one e ∙ seen)
-  of_order P (wheel ∷ box) (suc k) w h lt e seen = of_order P box k w (all_parts P (the_one wheel) (in_order box) h).1 (omega arith) e seen
-
-itself_cond : Told → (b : Bool) (model : Model) (v w : SheetWheel) (wheels : List SheetWheel) → same_wheel w.wheel v.wheel ≡ b → AllByRecursion (λ x. place_of model x ≢ place_of model v) wheels → Contains (v ∷ wheels) w
-    → (Contains wheels w → find (λ (x : SheetWheel). same_wheel w.wheel x.wheel) wheels ≡ Some w) → cond b (Some v) (find (λ (x : SheetWheel). same_wheel w.wheel x.wheel) wheels) ≡ Some w
-itself_cond told true model v w wheels is away (zero, lt, e) next = ap Some e
-itself_cond told true model v w wheels is away (suc k, lt, e) next =
-    absurd (at_element (λ x. place_of model x ≢ place_of model v) wheels w away (k, omega arith, e) (ap (place_in_box model) ((told.wheels w.wheel v.wheel).0 is)))
-itself_cond told false model v w wheels is away (zero, lt, e) next = absurd (false≢true (sym is ∙ ap (λ (x : SheetWheel). same_wheel w.wheel x.wheel) e ∙ same_wheel_self w.wheel))
-itself_cond told false model v w wheels is away (suc k, lt, e) next = next (k, omega arith, e)
-
-found_itself : Told → (model : Model) (wheels : List SheetWheel) (w : SheetWheel) → AreApartAt (place_of model) wheels → Contains wheels w → find (λ (x : SheetWheel). same_wheel w.wheel x.wheel) wheels ≡ Some w
-found_itself told model [] w apart c = absurd (omega (arith, c.1))
-found_itself told model (v ∷ wheels) w apart c = itself_cond told (same_wheel w.wheel v.wheel) model v w wheels refl apart.0 c (found_itself told model wheels w apart.1)
-
--- what holds of all of them in box order, holds of all
-pub all_of_order : Told → (P : SheetWheel → Type 0) (model : Model) (wheels : List SheetWheel) → AreApartAt (place_of model) wheels → AllByRecursion (λ w. Contains (box_of model) w.wheel) wheels
-    → AllByRecursion P (in_order model wheels (box_of model)) → All P wheels
-all_of_order told P model wheels apart boxed h =
-    All-from_recursion P wheels (recursion_of_each P wheels (λ w c.
-    let box = at_element (λ (w : SheetWheel). Contains (box_of model) w.wheel) wheels w boxed c in
-    of_order model wheels P (box_of model) box.0 w h box.1 box.2 (found_itself told model wheels w apart c)))
+  -- what holds of all of them in box order, holds of all
+  pub all_of_order : (P : SheetWheel → Type 0) → AreSeated model (seats wheels) → AllByRecursion P (in_box_order model wheels) → All P wheels
+  all_of_order P seated h =
+      let boxed = wheels_boxed told model wheels seated.allowed in
+      All-from_recursion P wheels (recursion_of_each P wheels (λ w (k, lt, e).
+      let test = λ (v : SheetWheel). same_wheel w.wheel v.wheel in
+      let first = position_or_len_is test wheels k w (omega arith)
+      (λ i before. false_from_ne_true _ (λ same. told.days model wheels seated i k w before lt
+      (ap (place_in_box model) (sym ((told.wheels w.wheel (get_or wheels i w).wheel).0 same) ∙ sym (ap (λ (v : SheetWheel). v.wheel) e)))))
+      (λ below. ap test e ∙ same_wheel_self w.wheel) in
+      let there = find_at test wheels ∙ ap (slice_get wheels) first ∙ slice_get-get_or wheels k w lt ∙ ap Some e in
+      at_element P (in_box_order model wheels) w h (found_among the_one (box_of model) w.wheel w (at_element (λ (w : SheetWheel). Contains (box_of model) w.wheel) wheels w boxed (k, lt, e)) there)))
 
 -- The wheels by their slots.
 pub record StandsThere (wheels : List SheetWheel) (n : ℕ × SheetWheel) : Type 0 where
@@ -182,25 +157,14 @@ pub record StandsThere (wheels : List SheetWheel) (n : ℕ × SheetWheel) : Type
   pub seated : slice_get (seats wheels) place ≡ Some (Some n.1.wheel)
   pub among : Contains wheels n.1
 
-behind : (done rest : List SheetWheel) (w : SheetWheel) → Contains (done ++ w ∷ rest) w
-behind [] rest w = (zero, omega arith, refl)
-behind (v ∷ done) rest w = let later = behind done rest w in (suc later.0, omega (arith, later.1), later.2)
+pub by_slots : (wheels : List SheetWheel) → AllByRecursion (StandsThere wheels) (enumerate_from 1 wheels)
+by_slots wheels =
+    enumerated_all wheels 1 (StandsThere wheels) (λ k d lt.
+    record { place = k; number = omega arith; seated = seat_at wheels k (get_or wheels k d) (slice_get-get_or wheels k d lt); among = Contains-get_or wheels k d lt })
 
-pub numbered : (wheels done rest : List SheetWheel) (number : ℕ) → done ++ rest ≡ wheels → number ≡ suc (length done) → AllByRecursion (StandsThere wheels) (enumerate_from number rest)
-numbered wheels done [] number e at = tt
-numbered wheels done (w ∷ rest) number e at = (
-  record { place = length done; number = at; seated = seat_of wheels done rest w e; among = subst (λ all. Contains all w) e (behind done rest w) },
-  numbered wheels (done ++ w ∷ []) rest (number + 1) (append_assoc done (w ∷ []) rest ∙ e) (omega (arith, length-append done (w ∷ []))),
-)
-
-numbered_away : (model : Model) (p : ℕ) (wheels : List SheetWheel) (number : ℕ) → AllByRecursion (λ w. place_of model w ≢ p) wheels
-    → AllByRecursion (λ (n : ℕ × SheetWheel). place_of model n.1 ≢ p) (enumerate_from number wheels)
-numbered_away model p [] number h = tt
-numbered_away model p (w ∷ wheels) number h = (h.0, numbered_away model p wheels (number + 1) h.1)
-
-pub numbered_apart : (model : Model) (wheels : List SheetWheel) (number : ℕ) → AreApartAt (place_of model) wheels → AreApartAt (λ (n : ℕ × SheetWheel). place_of model n.1) (enumerate_from number wheels)
-numbered_apart model [] number h = tt
-numbered_apart model (w ∷ wheels) number h = (numbered_away model (place_of model w) wheels (number + 1) h.0, numbered_apart model wheels (number + 1) h.1)
+pub slots_apart : Told → (model : Model) (wheels : List SheetWheel) → AreSeated model (seats wheels) → AreApartAt (λ (n : ℕ × SheetWheel). place_of model n.1) (enumerate_from 1 wheels)
+slots_apart told model wheels seated =
+    enumerated_two wheels 1 (λ n v. place_of model v.1 ≢ place_of model n.1) (λ i j d before lt same. told.days model wheels seated i j d before lt (sym same))
 
 pub from_numbered : {X : Type 0} (P : X → Type 0) (xs : List X) (number : ℕ) → AllByRecursion (λ (n : ℕ × X). P n.1) (enumerate_from number xs) → AllByRecursion P xs
 from_numbered P [] number h = tt

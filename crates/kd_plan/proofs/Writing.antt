@@ -1,20 +1,11 @@
 -- The lines of each kind, thing by thing, and lines that are written one after another.
 use Rattle.std.proofs.Common.{◌≡◌, ℕ, ◌+◌, ◌<◌, ◌≤◌, nat_eq, min, Bool, true, false, not, cond, zip, List, [], ◌∷◌, ◌++◌, length, get_or, drop, map, filter, filter_map, find, Option, Some, None, refl, sym, ap, ◌∙◌, arith, append_assoc, length-append}
-use Rattle.std.specs.List.{cons_option, enumerate_from, flat_map}
-use Rattle.std.specs.Option.{option_and_then, option_map_or, option_to_list}
-use Rattle.std.proofs.lemmas.List.{append-nil, drop_more, drop_all, get_or_default, get_or-map, length-map}
-use Rattle.std.proofs.lemmas.Slice.Zip.{get_or-zip, length-zip}
-use Rattle.kd_tables.specs.declared.place.Place.{Place}
-use Rattle.kd_tables.specs.declared.wheel.Wheel.{Wheel}
-use Rattle.kd_tables.specs.Tables.{box_of}
-use Rattle.kd_state.specs.declared.machine.rotor_parts.RotorParts.{RotorParts}
-use Rattle.kd_state.specs.declared.sheet_day.rotor_entry.SheetWheel.{SheetWheel}
-use Rattle.kd_state.specs.declared.setting.Setting.{Setting}
-use Rattle.kd_state.specs.declared.setting.Setting.TheVariants.{Seat, RingTo, Turn, PinTo}
-use Rattle.kd_state.specs.Box.{same_wheel}
-use Rattle.kd_state.specs.Machine.{ring_at, letter_at}
-use Rattle.kd_state.specs.Costs.{differ}
-use Rattle.kd_plan.specs.Planned.{unless_so, seat_lines, ring_lines, turn_lines, pin_on, wheel_pin_lines, pin_turn_lines, lug_lines}
+use Rattle.kd_plan.proofs.Prelude.{cons_option, enumerate_from, flat_map, option_and_then, option_map_or}
+use Rattle.kd_plan.proofs.Prelude.{option_to_list, append-nil, drop_more, drop_all, get_or_default, get_or-map}
+use Rattle.kd_plan.proofs.Prelude.{length-map, get_or-zip, length-zip, Place, Wheel, box_of, RotorParts, SheetWheel}
+use Rattle.kd_plan.proofs.Prelude.{Setting, Seat, RingTo, Turn, PinTo, same_wheel, ring_at, letter_at, differ}
+use Rattle.kd_plan.proofs.Prelude.{unless_so, seat_lines, ring_lines, turn_lines, pin_on, wheel_pin_lines}
+use Rattle.kd_plan.proofs.Prelude.{pin_turn_lines, lug_lines}
 use Rattle.kd_plan.proofs.Bars.{BarRow, lugs_of}
 use Rattle.kd_plan.proofs.Carrying.{lines_from}
 

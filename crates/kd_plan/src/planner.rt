@@ -15,6 +15,7 @@ use arrayvec::ArrayVec;
 use kd_assign::{Solution, assign};
 use kd_card::Card;
 use kd_card::laws::proving_cards_are_shortest;
+use kd_state::laws::cables_cost_four;
 use kd_state::{
     Machine, OneModel, Parts, PinEntry, PinParts, RotorEntry, RotorParts, Settings, SheetDay,
     bar_costs, cable_costs,
@@ -60,6 +61,7 @@ fn rotor_card(machine: &Machine, parts: &RotorParts, entry: &RotorEntry) -> Card
     ensures { IsPlanned (Parts.Rotor parts.now) (OfRotors (rotor_values entry.now))
         result.settings.items result.prices }
 {
+    cables_cost_four();
     let costs = cable_costs(&parts.cables, entry.pairs.as_slice());
     let Solution {
         to,

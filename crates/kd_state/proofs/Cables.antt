@@ -1,14 +1,13 @@
 -- The letters in the cables.
 use Rattle.std.proofs.Common.{◌≡◌, ◌↔◌, get_or, ℕ, zero, suc, ◌+◌, ◌<◌, nat_eq, nat_le, true, false, not, ◌&&◌, List, [], ◌∷◌, ◌++◌, length, map, set, drop, Option, Some, None, slice_get, refl, sym, ap, ◌∙◌, subst, arith}
-use Rattle.std.specs.List.{IsDistinct, AllByRecursion}
+use Rattle.kd_state.proofs.Prelude.{AllByRecursion, is_none, true≢false, cond_both, eqb-true, eq-eqb, or_parts, or_from}
+use Rattle.kd_state.proofs.Prelude.{leb-false, le-leb, and_parts, and_from, not-true, nat_tests, append_assoc}
+use Rattle.kd_state.proofs.Prelude.{drop_more, IsPermutation-refl, IsPermutation-trans, IsPermutation-append_comm}
+use Rattle.kd_state.proofs.Prelude.{IsPermutation-append_left, IsPermutation-append, IsPermutation-append_right}
+use Rattle.kd_state.proofs.Prelude.{cable_letters, plugged_letters, ordered, has_letter, are_new, cable_without}
+use Rattle.kd_state.proofs.Prelude.{cable_with}
+use Rattle.std.specs.List.{IsDistinct}
 use Rattle.std.specs.List.Sorted.{IsPermutation}
-use Rattle.std.specs.Option.{is_none}
-use Rattle.std.proofs.lemmas.Bool.{true≢false, cond_both, eqb-true, eq-eqb, or_parts, or_from, leb-false, le-leb, and_parts, and_from, not-true}
-use Rattle.std.proofs.lemmas.Bool.Decides.{nat_tests}
-use Rattle.std.proofs.lemmas.List.{append_assoc, drop_more}
-use Rattle.std.proofs.lemmas.List.Sorted.{IsPermutation-refl, IsPermutation-trans, IsPermutation-append_comm, IsPermutation-append_left, IsPermutation-append, IsPermutation-append_right}
-use Rattle.kd_state.specs.Machine.{cable_letters, plugged_letters, ordered}
-use Rattle.kd_state.specs.Setting.{has_letter, are_new, cable_without, cable_with}
 
 pub eqb_flips : (x y : ℕ) → nat_eq x y ≡ nat_eq y x
 eqb_flips x y = grind (arith, nat_tests)

@@ -1,21 +1,9 @@
 -- Settings and lists of them, refused and carried out.
 use Rattle.std.proofs.Common.{Bool, Decides, ◌≡◌, ◌↔◌, ℕ, not, List, [], ◌∷◌, All, Contains, Option, Some, None, MatchOption, refl, sym, ◌∙◌, subst}
-use Rattle.std.proofs.lemmas.Bool.{not-false}
-use Rattle.std.proofs.lemmas.List.Elements.{All-head, All-tail}
-use Rattle.std.proofs.lemmas.Option.{none-some}
-use Rattle.kd_tables.specs.declared.wheel.Wheel.{Wheel}
-use Rattle.kd_tables.specs.declared.reflector.Reflector.{Reflector}
-use Rattle.kd_tables.specs.Tables.{box_of, wheels_for, reflectors_of, IsAllowed}
-use Rattle.kd_state.specs.declared.machine.rotor_parts.RotorParts.{RotorParts}
-use Rattle.kd_state.specs.declared.machine.parts.Parts.{Parts}
-use Rattle.kd_state.specs.declared.machine.parts.Parts.TheVariants.{Rotor}
-use Rattle.kd_state.specs.declared.setting.Setting.{Setting}
-use Rattle.kd_state.specs.declared.setting.Setting.TheVariants.{Seat, SeatReflector, RingTo}
-use Rattle.kd_state.specs.declared.setting.why.Why.{Why}
-use Rattle.kd_state.specs.declared.setting.why.Why.TheVariants.{WheelNotAllowed}
-use Rattle.kd_state.specs.Machine.{IsMachine}
-use Rattle.kd_state.specs.Setting.{why_refused, changed, Carries, Leads}
-use Rattle.kd_state.specs.Line.{IsInRange}
+use Rattle.kd_state.proofs.Prelude.{not-false, All-head, All-tail, none-some, Wheel, Reflector, box_of, wheels_for}
+use Rattle.kd_state.proofs.Prelude.{reflectors_of, IsAllowed, RotorParts, Parts, Rotor, Setting, Seat, SeatReflector}
+use Rattle.kd_state.proofs.Prelude.{RingTo, Why, WheelNotAllowed, IsMachine, why_refused, changed, Carries, Leads}
+use Rattle.kd_state.proofs.Prelude.{IsInRange}
 use Rattle.kd_state.proofs.Changing.{first_reason, settings_keep_machines, no_reason}
 use Rattle.kd_state.proofs.Wheels.{has_wheel-Decides, has_reflector-Decides}
 

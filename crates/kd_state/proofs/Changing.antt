@@ -1,43 +1,28 @@
 -- What a setting that is carried out makes of a machine: a machine again, in which the readers tell what was set, and all else as before.
 use Rattle.std.proofs.Common.{◌≡◌, ◌≢◌, ◌⊎◌, ◌↔◌, ℕ, zero, suc, ◌+◌, ◌-◌, ◌<◌, ◌≤◌, nat_eq, Bool, true, false, List, [], ◌∷◌, length, map, set, find, All, Contains, Option, Some, None, slice_get, refl, sym, ap, ◌∙◌, inl, inr, subst, arith}
-use Rattle.std.specs.List.{IsDistinct, AllByRecursion}
+use Rattle.kd_state.proofs.Prelude.{AllByRecursion, is_none, option_map, option_or, option_and_then, unwrap_or}
+use Rattle.kd_state.proofs.Prelude.{cases_eq, cases_Bool, both_ways, not-false, false≢true, eqb-false}
+use Rattle.kd_state.proofs.Prelude.{true_from_ne_false, nat_tests, not_from_Decides, length-set, map-set, length-map}
+use Rattle.kd_state.proofs.Prelude.{All-set, All-tail, All-cons, All-contains, All-from_recursion, Contains-append_left}
+use Rattle.kd_state.proofs.Prelude.{Contains-append_right, Contains-append_cases, position-Some, All-permutation}
+use Rattle.kd_state.proofs.Prelude.{Contains-permutation, IsPermutation-sym, Contains-tail, none-some, same_Some}
+use Rattle.kd_state.proofs.Prelude.{slice_get-map, slice_get_within, Model, Wheel, Reflector, Place, Lug, Left, Right}
+use Rattle.kd_state.proofs.Prelude.{box_of, wheels_for, reflectors_of, IsAllowed, place_on, IsBefore, RotorParts}
+use Rattle.kd_state.proofs.Prelude.{PinParts, Parts, Rotor, Pin, Setting, Pull, Put, Seat, SeatReflector, RingTo, Turn}
+use Rattle.kd_state.proofs.Prelude.{PinTo, LugTo, Why, WouldPass, numbered, same_wheel, has_wheel, place_in_box}
+use Rattle.kd_state.proofs.Prelude.{wheel_pins, pin_at, pin_set, with_pin, cable_letters, plugged_letters, ordered}
+use Rattle.kd_state.proofs.Prelude.{StandsAt, AreLetters, AreCables, IsLegalRotor, IsLegalPin, IsMachine}
+use Rattle.kd_state.proofs.Prelude.{cables_ordered, cable_at, cable_without, cable_with, without, with_letter, with_lug}
+use Rattle.kd_state.proofs.Prelude.{with_lug_at, lug_place, other_lug, is_at, lies_beyond, reasons, why_refused}
+use Rattle.kd_state.proofs.Prelude.{changed, Thing, TheSlot, TheReflector, TheRing, TheLetter, TheCable, ThePin}
+use Rattle.kd_state.proofs.Prelude.{TheShown, TheBar, IsKept, SetsOnly, Turns, MovesLug, Makes, IsSeatOf}
+use Rattle.kd_state.proofs.Prelude.{SettingsAreTold, SettingsKeepMachines, IsInRange}
+use Rattle.std.specs.List.{IsDistinct}
 use Rattle.std.specs.List.Sorted.{IsPermutation}
-use Rattle.std.specs.Option.{is_none, option_map, option_or, option_and_then, unwrap_or}
-use Rattle.std.proofs.lemmas.Bool.{cases_eq, cases_Bool, both_ways, not-false, false≢true, eqb-false, true_from_ne_false}
-use Rattle.std.proofs.lemmas.Bool.Decides.{nat_tests, not_from_Decides}
-use Rattle.std.proofs.lemmas.List.{length-set, map-set, length-map}
-use Rattle.std.proofs.lemmas.List.Elements.{All-set, All-tail, All-cons, All-contains, All-from_recursion, Contains-append_left, Contains-append_right, Contains-append_cases}
-use Rattle.std.proofs.lemmas.List.Quantifiers.{position-Some}
-use Rattle.std.proofs.lemmas.List.Sorted.{All-permutation, Contains-permutation, IsPermutation-sym}
 use Rattle.std.proofs.lemmas.Map.Keys.{IsDistinct-IsPermutation, IsDistinct-head, IsDistinct-tail, IsDistinct-cons}
-use Rattle.std.proofs.lemmas.Map.Made.{Contains-tail}
-use Rattle.std.proofs.lemmas.Option.{none-some, same_Some, slice_get-map, slice_get_within}
-use Rattle.kd_tables.specs.declared.model.Model.{Model}
-use Rattle.kd_tables.specs.declared.wheel.Wheel.{Wheel}
-use Rattle.kd_tables.specs.declared.reflector.Reflector.{Reflector}
-use Rattle.kd_tables.specs.declared.place.Place.{Place}
-use Rattle.kd_tables.specs.declared.lug.Lug.{Lug}
-use Rattle.kd_tables.specs.declared.lug.Lug.TheVariants.{Left, Right}
-use Rattle.kd_tables.specs.Tables.{box_of, wheels_for, reflectors_of, IsAllowed}
-use Rattle.kd_tables.specs.Rings.{ring_of, place_on}
-use Rattle.kd_tables.specs.Places.{IsBefore}
+use Rattle.kd_tables.specs.Rings.{ring_of}
 use Rattle.kd_pins.specs.declared.pin_set.PinSet.{PinSet}
 use Rattle.kd_pins.specs.PinWheels.{pins_of}
-use Rattle.kd_state.specs.declared.machine.rotor_parts.RotorParts.{RotorParts}
-use Rattle.kd_state.specs.declared.machine.pin_parts.PinParts.{PinParts}
-use Rattle.kd_state.specs.declared.machine.parts.Parts.{Parts}
-use Rattle.kd_state.specs.declared.machine.parts.Parts.TheVariants.{Rotor, Pin}
-use Rattle.kd_state.specs.declared.setting.Setting.{Setting}
-use Rattle.kd_state.specs.declared.setting.Setting.TheVariants.{Pull, Put, Seat, SeatReflector, RingTo, Turn, PinTo, LugTo}
-use Rattle.kd_state.specs.declared.setting.why.Why.{Why}
-use Rattle.kd_state.specs.declared.setting.why.Why.TheVariants.{WouldPass}
-use Rattle.kd_state.specs.Box.{numbered, same_wheel, has_wheel, place_in_box}
-use Rattle.kd_state.specs.Pins.{wheel_pins, pin_at, pin_set, with_pin}
-use Rattle.kd_state.specs.Machine.{cable_letters, plugged_letters, ordered, StandsAt, AreLetters, AreCables, IsLegalRotor, IsLegalPin, IsMachine, cables_ordered}
-use Rattle.kd_state.specs.Setting.{cable_at, cable_without, cable_with, without, with_letter, with_lug, with_lug_at, lug_place, other_lug, is_at, lies_beyond, reasons, why_refused, changed}
-use Rattle.kd_state.specs.Changes.{Thing, TheSlot, TheReflector, TheRing, TheLetter, TheCable, ThePin, TheShown, TheBar, IsKept, SetsOnly, Turns, MovesLug, Makes, IsSeatOf}
-use Rattle.kd_state.specs.Laws.{SettingsAreTold, SettingsKeepMachines}
-use Rattle.kd_state.specs.Line.{IsInRange}
 use Rattle.kd_state.proofs.Cables.{all_ordered, all_ordered_move, all_ordered_again, ordered_again, without_ordered, without_moves, with_moves, set_moves, eqb_flips, free_of_absent}
 use Rattle.kd_state.proofs.DayPairs.{of_one}
 use Rattle.kd_state.proofs.Rings.{has_letter-Decides, place_there, only_place}

@@ -1,14 +1,10 @@
 -- A day's pairs, and then nothings; and letters by the tests that hold of them.
 use Rattle.std.proofs.Common.{◌≡◌, ℕ, zero, suc, ◌-◌, List, [], ◌∷◌, ◌++◌, length, get_or, map, replicate, Option, Some, None, slice_get, refl, sym, ◌∙◌, arith, All}
 use Rattle.std.specs.Cmp.{both_ways}
-use Rattle.std.proofs.lemmas.List.{length-append, length-map, length-replicate}
-use Rattle.kd_state.specs.Setting.{has_letter}
-use Rattle.kd_state.specs.Laws.{TestsTellLetters, ThirteenColumns, ColumnsAreThePairs, CostTablesAreSquare}
+use Rattle.kd_state.proofs.Prelude.{length-append, length-map, length-replicate, has_letter, TestsTellLetters}
+use Rattle.kd_state.proofs.Prelude.{ThirteenColumns, ColumnsAreThePairs, CostTablesAreSquare, All-nil, All-map, Rotor}
+use Rattle.kd_state.proofs.Prelude.{Pin, OfRotors, OfPins, cable_cost, bar_cost, columns_of}
 use Rattle.kd_state.proofs.Rings.{has_letter-Decides}
-use Rattle.std.proofs.lemmas.List.Elements.{All-nil, All-map}
-use Rattle.kd_state.specs.declared.machine.parts.Parts.TheVariants.{Rotor, Pin}
-use Rattle.kd_state.specs.SheetDay.{OfRotors, OfPins}
-use Rattle.kd_state.specs.Costs.{cable_cost, bar_cost, columns_of}
 
 nothings : (number place : ℕ) → get_or (replicate {A = Option (ℕ × ℕ)} number None) place None ≡ None
 nothings zero place = refl

@@ -1,13 +1,8 @@
 -- How many letters of the alphabet lie in lists of letters.
 use Rattle.std.specs.Prelude.{◌≡◌, ℕ, ◌+◌, ◌≤◌, nat_eq, nat_le, Bool, true, false, ◌||◌, List, [], ◌∷◌, length, count_by, Option, Some, None}
-use Rattle.std.specs.List.{range_with_len}
+use Rattle.kd_state.proofs.Prelude.{range_with_len, le-leb, nat_tests, alphabet, cable_letters, has_letter, differ}
+use Rattle.kd_state.proofs.Prelude.{column_letters, cable_cost}
 use Rattle.std.proofs.Common.{zero, suc, ap, arith}
-use Rattle.std.proofs.lemmas.Bool.{le-leb}
-use Rattle.std.proofs.lemmas.Bool.Decides.{nat_tests}
-use Rattle.kd_tables.specs.Permutation.{alphabet}
-use Rattle.kd_state.specs.Machine.{cable_letters}
-use Rattle.kd_state.specs.Setting.{has_letter}
-use Rattle.kd_state.specs.Costs.{differ, column_letters, cable_cost}
 use Rattle.kd_state.proofs.SortedAlike.{once, count_by-cons}
 
 -- no letter is among numbers in a row twice, and none that stands before them

@@ -1,14 +1,11 @@
 -- Cables that are a day's pairs exchange the same letters as the pairs.
 use Rattle.std.proofs.Common.{◌≡◌, ◌≢◌, ◌↔◌, ◌⊎◌, ℕ, zero, suc, ◌<◌, nat_eq, List, [], ◌∷◌, length, get_or, All, Any, Contains, Option, Some, None, slice_get, inl, inr, refl, sym, ap, ◌∙◌, subst, arith, filter_map}
-use Rattle.std.specs.List.{IsDistinct, AllByRecursion}
-use Rattle.std.proofs.lemmas.Bool.{cases_eq, eqb-false}
-use Rattle.std.proofs.lemmas.List.Elements.{All-contains, All-from_recursion, Contains-append_right, recursion_from_All}
-use Rattle.std.proofs.lemmas.Option.{none-some, same_Some, slice_get-get_or}
-use Rattle.kd_enigma.specs.Plugs.{letters_plugged, NoLetterTwice}
+use Rattle.kd_state.proofs.Prelude.{AllByRecursion, cases_eq, eqb-false, All-contains, All-from_recursion}
+use Rattle.kd_state.proofs.Prelude.{Contains-append_right, recursion_from_All, none-some, same_Some, slice_get-get_or}
+use Rattle.kd_state.proofs.Prelude.{letters_plugged, NoLetterTwice, cable_letters, plugged_letters, AreCables}
+use Rattle.kd_state.proofs.Prelude.{SameLetters, AreTheLetters, Joins, IsPaired, IsJoined, AreThePairs, both_ends}
+use Rattle.std.specs.List.{IsDistinct}
 use Rattle.kd_enigma.specs.Plugs as plugs
-use Rattle.kd_state.specs.Machine.{cable_letters, plugged_letters, AreCables}
-use Rattle.kd_state.specs.OnKey.{SameLetters, AreTheLetters, Joins, IsPaired, IsJoined, AreThePairs}
-use Rattle.kd_state.specs.TwoCiphers.{both_ends}
 
 -- ---- the pairs that whole cables exchange
 

@@ -1,8 +1,7 @@
 -- When a cable's letters are a pair's.
 use Rattle.std.specs.Prelude.{◌≡◌, ◌↔◌, ℕ, Bool, true, List, length, [], ◌∷◌, Contains, Option, None}
 use Rattle.std.proofs.Common.{refl, sym, subst, inl, inr, arith}
-use Rattle.kd_state.specs.Machine.{cable_letters}
-use Rattle.kd_state.specs.OnKey.{AreTheLetters, Joins, SameLetters}
+use Rattle.kd_state.proofs.Prelude.{cable_letters, AreTheLetters, Joins, SameLetters}
 use Rattle.kd_state.proofs.DayPairs.{of_one, of_two, same_two}
 
 other_order : (a b x : ℕ) → Contains (a ∷ b ∷ []) x → Contains (b ∷ a ∷ []) x

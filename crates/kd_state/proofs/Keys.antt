@@ -1,33 +1,23 @@
 -- The key of a machine that is on the key of a day, and its cipher.
 use Rattle.std.proofs.Common.{◌≡◌, ℕ, ◌+◌, ◌-◌, ◌%◌, Bool, List, map, filter_map, Some, refl, sym, ap, ◌∙◌, subst, ◌≤◌, min, max, ◌||◌, [], ◌∷◌, inl, inr, arith}
 use Rattle.std.specs.Prelude.{IsPermutation}
-use Rattle.std.specs.List.{enumerate_from, count_by}
-use Rattle.std.proofs.lemmas.List.Elements.{recursion_from_All}
-use Rattle.std.proofs.lemmas.List.Sorted.{sum_by-IsPermutation}
-use Rattle.kd_tables.specs.Places.{reading_of, place_number}
+use Rattle.kd_state.proofs.Prelude.{enumerate_from, count_by, recursion_from_All, sum_by-IsPermutation, reading_of}
+use Rattle.kd_state.proofs.Prelude.{place_number, PinKey, bars_met, converter_cipher, acts_after, Parts, Rotor, Pin}
+use Rattle.kd_state.proofs.Prelude.{RotorParts, PinParts, SheetWheel, TurnedEngineIsTheTurnedMachine, ReadingIsReady}
+use Rattle.kd_state.proofs.Prelude.{ReadingIsItsCipher, OnKeyIsReady, OnKeyIsItsCipher, TurnedHasTheDaysCipher}
+use Rattle.kd_state.proofs.Prelude.{EquallySetDecipher, TheDayDeciphersItself, TurnedIsOnKey, TurnedHasItsKey}
+use Rattle.kd_state.proofs.Prelude.{EngineIsTheMachine, IsMachine, AreCables, ring_at, letter_at, OnKey, IsRotorOnKey}
+use Rattle.kd_state.proofs.Prelude.{IsPinOnKey, RotorDay, Day, OfRotors, OfPins, IsLegalDay, IsLegalRotorDay, EngineKey}
+use Rattle.kd_state.proofs.Prelude.{OfWheels, cipher, key_with_window, window_of, plugged_pairs, physical_key}
+use Rattle.kd_state.proofs.Prelude.{physical_cipher, sheet_key, cases_lt, sum_by-cons, Place, One}
 use Rattle.kd_pins.specs.PinWheels.{pins_of}
 use Rattle.kd_enigma.specs.Laws.{PairsMakeAPlugboard, SamePairsExchangeAlike}
 use Rattle.kd_enigma.specs.Laws as enigma
-use Rattle.kd_drum.specs.Converter.{PinKey, bars_met, converter_cipher, acts_after}
 use Rattle.kd_drum.specs.Laws as drum
-use Rattle.kd_state.specs.declared.machine.parts.Parts.{Parts}
-use Rattle.kd_state.specs.declared.machine.parts.Parts.TheVariants.{Rotor, Pin}
-use Rattle.kd_state.specs.declared.machine.rotor_parts.RotorParts.{RotorParts}
-use Rattle.kd_state.specs.declared.machine.pin_parts.PinParts.{PinParts}
-use Rattle.kd_state.specs.declared.sheet_day.rotor_entry.SheetWheel.{SheetWheel}
-use Rattle.kd_state.specs.Laws.{TurnedEngineIsTheTurnedMachine, ReadingIsReady, ReadingIsItsCipher, OnKeyIsReady, OnKeyIsItsCipher, TurnedHasTheDaysCipher, EquallySetDecipher, TheDayDeciphersItself, TurnedIsOnKey, TurnedHasItsKey, EngineIsTheMachine}
-use Rattle.kd_state.specs.Machine.{IsMachine, AreCables, ring_at, letter_at}
-use Rattle.kd_state.specs.OnKey.{OnKey, IsRotorOnKey, IsPinOnKey}
-use Rattle.kd_state.specs.SheetDay.{RotorDay, Day, OfRotors, OfPins, IsLegalDay, IsLegalRotorDay}
-use Rattle.kd_state.specs.TwoCiphers.{EngineKey, OfWheels, cipher, key_with_window, window_of, plugged_pairs, physical_key, physical_cipher, sheet_key}
 use Rattle.kd_state.proofs.DayPairs.{whole_cables, pairs_joined, no_letter_twice}
 use Rattle.kd_state.proofs.Seating.{all_seated, read_all, wheels_of_slots}
 use Rattle.std.proofs.Math.Bool.{or_comm}
-use Rattle.std.proofs.lemmas.Bool.{cases_lt}
 use Rattle.std.proofs.Math.Nat.{min-eq_left, min-eq_right, max-eq_left, max-eq_right}
-use Rattle.std.proofs.lemmas.List.Sums.{sum_by-cons}
-use Rattle.kd_tables.specs.declared.place.Place.{Place}
-use Rattle.kd_tables.specs.declared.place.Place.TheVariants.{One}
 use Rattle.kd_state.specs.Lugs.{lug_is_met, bars_moved}
 
 -- ---- the bars that a Converter's wheels meet are as many as its readings say

@@ -1,3 +1,4 @@
+pub mod Prelude
 pub mod Wheels
 pub mod Cables
 pub mod Slots

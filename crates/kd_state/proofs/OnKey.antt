@@ -1,21 +1,11 @@
 -- What a machine and a day say of the wheels, put into the words of their parts.
 use Rattle.std.proofs.Common.{◌≡◌, ◌↔◌, Bool, true, false, List, All, Decides, Option, Some, None, refl, sym, ap, subst}
-use Rattle.std.specs.Option.{option_eq}
-use Rattle.std.specs.Cmp.Lexicographic.{pointwise_decides}
-use Rattle.std.proofs.lemmas.Bool.{false≢true}
-use Rattle.std.proofs.lemmas.Option.{same_Some}
+use Rattle.kd_state.proofs.Prelude.{option_eq, pointwise_decides, false≢true, same_Some, Wheel, RotorParts, PinParts}
+use Rattle.kd_state.proofs.Prelude.{Parts, Rotor, Pin, SheetWheel, ring_in, ring_at, letter_in, RotorDay, PinDay, Day}
+use Rattle.kd_state.proofs.Prelude.{OfRotors, OfPins, ShowsWindow}
 use denote.Enum.Bare.{sameb, same_true, same_false}
 use lib.Pointwise.{pointwise}
-use Rattle.kd_tables.specs.declared.wheel.Wheel.{Wheel}
 use Rattle.kd_tables.specs.contracts.wheel.Wheel.{the_type}
-use Rattle.kd_state.specs.declared.machine.rotor_parts.RotorParts.{RotorParts}
-use Rattle.kd_state.specs.declared.machine.pin_parts.PinParts.{PinParts}
-use Rattle.kd_state.specs.declared.machine.parts.Parts.{Parts}
-use Rattle.kd_state.specs.declared.machine.parts.Parts.TheVariants.{Rotor, Pin}
-use Rattle.kd_state.specs.declared.sheet_day.rotor_entry.SheetWheel.{SheetWheel}
-use Rattle.kd_state.specs.Machine.{ring_in, ring_at, letter_in}
-use Rattle.kd_state.specs.SheetDay.{RotorDay, PinDay, Day, OfRotors, OfPins}
-use Rattle.kd_state.specs.OnKey.{ShowsWindow}
 
 -- two wheels are one, and two seats
 wheel_tested : (wheel other : Wheel) (b : Bool) → sameb the_type wheel other ≡ b → Decides b (wheel ≡ other)

@@ -1,28 +1,15 @@
 -- What a machine refuses, as its readers tell it.
 use Rattle.std.proofs.Common.{◌≡◌, ◌↔◌, ℕ, zero, suc, ◌<◌, nat_eq, ◌⊎◌, Bool, Decides, true, false, not, List, [], ◌∷◌, length, Contains, Option, Some, None, IsSome, slice_get, refl, sym, ap, ◌∙◌, inl, inr, subst, arith}
-use Rattle.std.specs.Option.{is_none, is_some, option_map, option_map_or, option_and_then, unwrap_or}
-use Rattle.std.proofs.lemmas.Bool.{false_from_ne_true, false≢true}
-use Rattle.std.proofs.lemmas.Bool.Decides.{nat_tests, not_from_Decides}
-use Rattle.std.proofs.lemmas.List.Elements.{Contains-append_cases}
-use Rattle.std.proofs.lemmas.List.Quantifiers.{position-Some}
-use Rattle.std.proofs.lemmas.Option.{none-some, same_Some, slice_get-get_or, slice_get_cases}
-use Rattle.kd_tables.specs.declared.wheel.Wheel.{Wheel}
-use Rattle.kd_tables.specs.declared.place.Place.{Place}
-use Rattle.kd_tables.specs.declared.lug.Lug.{Lug}
-use Rattle.kd_tables.specs.declared.lug.Lug.TheVariants.{Left, Right}
-use Rattle.kd_tables.specs.Rings.{ring_of, place_on}
-use Rattle.kd_state.specs.declared.machine.rotor_parts.RotorParts.{RotorParts}
-use Rattle.kd_state.specs.declared.machine.pin_parts.PinParts.{PinParts}
-use Rattle.kd_state.specs.declared.machine.parts.Parts.TheVariants.{Rotor, Pin}
-use Rattle.kd_state.specs.declared.setting.Setting.TheVariants.{Pull, Put, Seat, SeatReflector, RingTo, Turn, PinTo, LugTo}
-use Rattle.kd_state.specs.declared.setting.why.Why.{Why}
-use Rattle.kd_state.specs.declared.setting.why.Why.TheVariants.{OtherModel, NoSuchCable, NotThere, NoLooseEnd, SocketTaken, SlotEmpty, NotOnWheel, NoSuchBar, PlaceTaken, WouldPass}
-use Rattle.kd_state.specs.Box.{numbered}
-use Rattle.kd_state.specs.Pins.{wheel_pins, pin_at}
-use Rattle.kd_state.specs.Machine.{cable_letters, plugged_letters, HasAllPins}
-use Rattle.kd_state.specs.Setting.{has_letter, is_plugged, is_at, lies_beyond, lug_place, other_lug, with_lug, why_refused, Stands}
-use Rattle.kd_state.specs.Changes.{Allows}
-use Rattle.kd_state.specs.Laws.{RefusalsAreTold}
+use Rattle.kd_state.proofs.Prelude.{is_none, is_some, option_map, option_map_or, option_and_then, unwrap_or}
+use Rattle.kd_state.proofs.Prelude.{false_from_ne_true, false≢true, nat_tests, not_from_Decides, Contains-append_cases}
+use Rattle.kd_state.proofs.Prelude.{position-Some, none-some, same_Some, slice_get-get_or, slice_get_cases, Wheel}
+use Rattle.kd_state.proofs.Prelude.{Place, Lug, Left, Right, place_on, RotorParts, PinParts, Rotor, Pin, Pull, Put}
+use Rattle.kd_state.proofs.Prelude.{Seat, SeatReflector, RingTo, Turn, PinTo, LugTo, Why, OtherModel, NoSuchCable}
+use Rattle.kd_state.proofs.Prelude.{NotThere, NoLooseEnd, SocketTaken, SlotEmpty, NotOnWheel, NoSuchBar, PlaceTaken}
+use Rattle.kd_state.proofs.Prelude.{WouldPass, numbered, wheel_pins, pin_at, cable_letters, plugged_letters, HasAllPins}
+use Rattle.kd_state.proofs.Prelude.{has_letter, is_plugged, is_at, lies_beyond, lug_place, other_lug, with_lug}
+use Rattle.kd_state.proofs.Prelude.{why_refused, Stands, Allows, RefusalsAreTold}
+use Rattle.kd_tables.specs.Rings.{ring_of}
 use Rattle.kd_state.proofs.Carrying.{by_one_test, seats_by_the_tables, reflectors_by_the_tables, rings_by_the_tables}
 use Rattle.kd_state.proofs.Changing.{first_reason, no_reason, lies_plugged, still_before}
 use Rattle.kd_state.proofs.Rings.{has_letter-Decides, is_some-place_on, place_there}

@@ -1,21 +1,13 @@
 -- The letters and the pins of the six pin wheels.
 use Rattle.std.proofs.Common.{◌≡◌, ℕ, zero, suc, ◌+◌, ◌-◌, ◌<◌, ◌≤◌, nat_eq, true, false, List, length, get_or, Contains, Decides, Some, refl, sym, ap, ◌∙◌, inl, inr, subst, arith, slice_index}
-use Rattle.std.specs.List.{position_or_len}
-use Rattle.std.specs.Option.{is_some, unwrap_or}
-use Rattle.std.proofs.lemmas.Bool.{cases_Bool, lt-ltb, le-ltb, both_ways, eqb-true, false≢true}
-use Rattle.std.proofs.lemmas.List.Quantifiers.{position-Some}
-use Rattle.std.proofs.lemmas.List.{get_or_default}
-use Rattle.std.proofs.lemmas.Bool.Decides.{Decides-like, Decides-eqb}
-use Rattle.std.proofs.lemmas.Map.Made.{is_member-Decides}
-use Rattle.std.proofs.lemmas.Option.{get_or_from_slice_get, slice_get-get_or}
-use Rattle.kd_tables.specs.Rings.{ring_of, place_on}
+use Rattle.kd_state.proofs.Prelude.{position_or_len, is_some, unwrap_or, cases_Bool, lt-ltb, le-ltb, both_ways}
+use Rattle.kd_state.proofs.Prelude.{eqb-true, false≢true, position-Some, get_or_default, Decides-like, Decides-eqb}
+use Rattle.kd_state.proofs.Prelude.{is_member-Decides, get_or_from_slice_get, slice_get-get_or, place_on, numbered}
+use Rattle.kd_state.proofs.Prelude.{HasAllPins, AreOnWheels, has_letter, OnWheels}
+use Rattle.kd_tables.specs.Rings.{ring_of}
 use Rattle.kd_pins.specs.declared.pin_set.PinSet.{PinSet}
-use Rattle.kd_state.specs.Box.{numbered}
-use Rattle.kd_state.specs.Machine.{HasAllPins, AreOnWheels}
-use Rattle.kd_state.specs.Setting.{has_letter}
 use Rattle.kd_state.proofs.Slots.{is_numbered, numbered_at, value_of}
 use Rattle.kd_state.proofs.Wheels.{first_within, first_nowhere}
-use Rattle.kd_drum.specs.Converter.{OnWheels}
 
 -- the letter is one of these, and has a place then
 pub has_letter-Decides : (letters : List ℕ) (letter : ℕ) → Decides (has_letter letters letter) (Contains letters letter)

@@ -1,22 +1,11 @@
 -- The wheels in the slots, with their rings and their window letters.
 use Rattle.std.proofs.Common.{◌≡◌, ◌≢◌, ℕ, ◌+◌, ◌<◌, List, [], ◌∷◌, length, map, get_or, slice_get, filter_map, Option, Some, None, IsSome, All, Contains, refl, sym, ap, ◌∙◌, subst, arith}
 use Rattle.std.specs.Prelude.{MatchOption}
-use Rattle.std.specs.List.{AllByRecursion, cons_option}
-use Rattle.std.proofs.lemmas.Bool.{false≢true}
-use Rattle.std.proofs.lemmas.List.{get_or-map, length-map}
-use Rattle.std.proofs.lemmas.List.Elements.{All-map}
-use Rattle.std.proofs.lemmas.Option.{none-some, same_Some, slice_get-get_or}
-use Rattle.kd_tables.specs.declared.wheel.Wheel.{Wheel}
-use Rattle.kd_tables.specs.Permutation.{exchange}
-use Rattle.kd_state.specs.declared.machine.parts.Parts.{Parts}
-use Rattle.kd_state.specs.declared.machine.parts.Parts.TheVariants.{Rotor}
-use Rattle.kd_state.specs.declared.machine.rotor_parts.RotorParts.{RotorParts}
-use Rattle.kd_state.specs.declared.sheet_day.rotor_entry.SheetWheel.{SheetWheel}
-use Rattle.kd_state.specs.Box.{place_in_box}
-use Rattle.kd_state.specs.Machine.{IsLegalRotor, ring_at, letter_at}
+use Rattle.kd_state.proofs.Prelude.{AllByRecursion, cons_option, false≢true, get_or-map, length-map, All-map, none-some}
+use Rattle.kd_state.proofs.Prelude.{same_Some, slice_get-get_or, Wheel, exchange, Parts, Rotor, RotorParts, SheetWheel}
+use Rattle.kd_state.proofs.Prelude.{place_in_box, IsLegalRotor, ring_at, letter_at, seats, OfWheels, IsRotorReady}
+use Rattle.kd_state.proofs.Prelude.{seated_wheels, plugged_pairs, physical_key}
 use Rattle.kd_state.specs.Seated.{wheel_with, seated_wheel, key_of_wheels}
-use Rattle.kd_state.specs.SheetDay.{seats}
-use Rattle.kd_state.specs.TwoCiphers.{OfWheels, IsRotorReady, seated_wheels, plugged_pairs, physical_key}
 use Rattle.kd_state.proofs.Wheels.{placed, place_within}
 
 -- the wheels fill the slots, and these are their rings and letters

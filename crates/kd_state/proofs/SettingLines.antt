@@ -1,30 +1,20 @@
 -- The words of settings' lines: no two settings have the same, and those of a form are all that begin with its word.
 use Rattle.std.proofs.Common.{◌≡◌, ◌≢◌, ℕ, ◌+◌, ◌*◌, ◌^◌, ◌<◌, ◌≤◌, length, get_or, Bool, true, false, List, [], ◌∷◌, Option, Some, None, MatchOption, refl, sym, ap, ◌∙◌, arith, ◌++◌, append_assoc, length-append}
-use Rattle.std.specs.List.{All, AllByRecursion}
+use Rattle.kd_state.proofs.Prelude.{All, AllByRecursion, decimal_injective, All-from_recursion, All-push}
+use Rattle.kd_state.proofs.Prelude.{recursion_from_All, Wheel, I, Reflector, Place, One, Lug, Left, Right, wheel_text}
+use Rattle.kd_state.proofs.Prelude.{reflector_text, place_text, lug_text, places, keyword_text, setting_words}
+use Rattle.kd_state.proofs.Prelude.{setting_line, pin_text, IsInRange, IsReadOff, list_text, IsList, BeginsWith}
+use Rattle.kd_state.proofs.Prelude.{BeginsWithLine, BeginsWithNoLine, Setting, Pull, Put, Seat, SeatReflector, RingTo}
+use Rattle.kd_state.proofs.Prelude.{Turn, PinTo, LugTo, append-nil, get_or_at, TextsTellLists, ListsHaveNoFault}
+use Rattle.kd_state.proofs.Prelude.{OneListFault}
 use Rattle.std.specs.Fmt.{decimal}
-use Rattle.std.proofs.lemmas.Fmt.{decimal_injective}
-use Rattle.std.proofs.lemmas.List.Elements.{All-from_recursion, All-push, recursion_from_All}
-use Rattle.kd_tables.specs.declared.wheel.Wheel.{Wheel}
-use Rattle.kd_tables.specs.declared.wheel.Wheel.TheVariants.{I}
-use Rattle.kd_tables.specs.declared.reflector.Reflector.{Reflector}
 use Rattle.kd_tables.specs.declared.reflector.Reflector.TheVariants.{A}
-use Rattle.kd_tables.specs.declared.place.Place.{Place}
-use Rattle.kd_tables.specs.declared.place.Place.TheVariants.{One}
-use Rattle.kd_tables.specs.declared.lug.Lug.{Lug}
-use Rattle.kd_tables.specs.declared.lug.Lug.TheVariants.{Left, Right}
-use Rattle.kd_tables.specs.Tables.{wheel_text, reflector_text}
-use Rattle.kd_tables.specs.Places.{place_text, lug_text, places}
 use Rattle.kd_state.specs.Words.{IsWord, IsWithout, letter_text, line_of, words_of, IsFirstPart}
-use Rattle.kd_state.specs.Line.{keyword_text, setting_words, setting_line, pin_text, IsInRange, IsReadOff, list_text, IsList, BeginsWith, BeginsWithLine, BeginsWithNoLine}
 use Rattle.kd_state.specs.declared.setting.keyword.Keyword.{Keyword}
 use Rattle.kd_state.specs.declared.setting.keyword.Keyword.TheVariants as keywords
-use Rattle.kd_state.specs.declared.setting.Setting.{Setting}
-use Rattle.kd_state.specs.declared.setting.Setting.TheVariants.{Pull, Put, Seat, SeatReflector, RingTo, Turn, PinTo, LugTo}
 use Rattle.kd_state.proofs.Wheels.{named, told, one_wheel, one_reflector}
 use Rattle.kd_state.proofs.WordLines.{word_by_test, numbers_are_words, letters_are_words, lines_split_into_words, lines_tell_words, parts_make_lines, words_make_one_line, texts_tell_first_parts}
-use Rattle.std.proofs.lemmas.List.{append-nil, get_or_at}
 use Rattle.std.proofs.lemmas.List.Concat.{flat_map-append}
-use Rattle.kd_state.specs.Laws.{TextsTellLists, ListsHaveNoFault, OneListFault}
 use Rattle.kd_state.specs.declared.setting.list.ListFault.TheVariants.{BadLine, TooMany}
 
 -- ---- names: each is a word, and no two are the same

@@ -1,15 +1,9 @@
 -- What stands in the slots, and things counted from 1.
 use Rattle.std.proofs.Common.{◌≡◌, ◌≢◌, ℕ, zero, suc, ◌+◌, ◌-◌, ◌<◌, ◌≤◌, false, inl, inr, List, [], ◌∷◌, length, take, get_or, set, Contains, Option, Some, None, IfSome, slice_get, refl, sym, ap, ◌∙◌, subst, arith, add-one}
-use Rattle.std.proofs.lemmas.Bool.{cases_eq, false≢true}
-use Rattle.std.proofs.lemmas.List.{get_or-take, length-take}
-use Rattle.std.proofs.lemmas.Option.{slice_get_within, slice_get-get_or, get_or_from_slice_get}
-use Rattle.kd_tables.specs.declared.model.Model.{Model}
-use Rattle.kd_tables.specs.declared.wheel.Wheel.{Wheel}
-use Rattle.kd_tables.specs.Tables.{box_of}
-use Rattle.std.specs.Option.{is_none, unwrap_or}
+use Rattle.kd_state.proofs.Prelude.{cases_eq, false≢true, get_or-take, length-take, slice_get_within, slice_get-get_or}
+use Rattle.kd_state.proofs.Prelude.{get_or_from_slice_get, Model, Wheel, box_of, is_none, unwrap_or, numbered, StandsAt}
+use Rattle.kd_state.proofs.Prelude.{AreAllowed, AreApart}
 use Rattle.kd_state.proofs.Wheels.{placed}
-use Rattle.kd_state.specs.Box.{numbered}
-use Rattle.kd_state.specs.Machine.{StandsAt, AreAllowed, AreApart}
 
 -- what has a number, stands at a place
 pub record IsNumbered {X : Type 0} (xs : List X) (number : ℕ) (x : X) : Type 0 where

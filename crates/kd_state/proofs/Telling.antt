@@ -1,32 +1,20 @@
 -- What the readers of a machine tell is all that it is; so what they tell of a setting tells the machine that it makes.
 use Rattle.std.proofs.Common.{◌≡◌, ◌≢◌, ◌⊎◌, ◌↔◌, ℕ, zero, suc, ◌+◌, ◌<◌, ◌≤◌, nat_eq, nat_le, true, List, [], ◌∷◌, length, map, Contains, Option, Some, None, slice_get, IfSome, refl, sym, ap, ◌∙◌, inl, inr, subst, arith}
-use Rattle.std.specs.List.{IsDistinct, range_with_len}
-use Rattle.std.specs.Option.{is_none, option_map, option_map_or, option_and_then}
-use Rattle.std.proofs.lemmas.Bool.{cases_eq, cases_Bool, leb-true}
-use Rattle.std.proofs.lemmas.Bool.Decides.{nat_tests, not_from_Decides}
+use Rattle.kd_state.proofs.Prelude.{range_with_len, is_none, option_map, option_map_or, option_and_then, cases_eq}
+use Rattle.kd_state.proofs.Prelude.{cases_Bool, leb-true, nat_tests, not_from_Decides, none-some, same_Some}
+use Rattle.kd_state.proofs.Prelude.{slice_get-map, slice_get-get_or, slice_get_cases, slice_get_past, Model, Wheel}
+use Rattle.kd_state.proofs.Prelude.{Place, Lug, Left, Right, box_of, reflectors_of, place_on, RotorParts, PinParts}
+use Rattle.kd_state.proofs.Prelude.{Parts, Rotor, Pin, Setting, Pull, Put, Seat, SeatReflector, RingTo, Turn, PinTo}
+use Rattle.kd_state.proofs.Prelude.{LugTo, numbered, same_wheel, place_in_box, wheel_pins, cable_letters}
+use Rattle.kd_state.proofs.Prelude.{plugged_letters, ordered, model_of, slot_in, letter_in, cable_in, standing_in}
+use Rattle.kd_state.proofs.Prelude.{IsLegalRotor, IsLegalPin, IsMachine, has_letter, are_new, lug_place, other_lug}
+use Rattle.kd_state.proofs.Prelude.{changed, Carries, Thing, TheSlot, TheReflector, TheRing, TheLetter, TheCable}
+use Rattle.kd_state.proofs.Prelude.{ThePin, TheShown, TheBar, IsKept, SetsOnly, IsSeatOf, Seats, Turns, Makes}
+use Rattle.kd_state.proofs.Prelude.{letters_in, TellingIsMaking, SameLetters}
+use Rattle.std.specs.List.{IsDistinct}
 use Rattle.std.proofs.lemmas.List.FromFn.{length-range_with_len, get_or-range_with_len}
-use Rattle.std.proofs.lemmas.Option.{none-some, same_Some, slice_get-map, slice_get-get_or, slice_get_cases, slice_get_past}
-use Rattle.kd_tables.specs.declared.model.Model.{Model}
 use Rattle.kd_tables.specs.declared.model.Model.TheVariants.{M209}
-use Rattle.kd_tables.specs.declared.wheel.Wheel.{Wheel}
-use Rattle.kd_tables.specs.declared.place.Place.{Place}
-use Rattle.kd_tables.specs.declared.lug.Lug.{Lug}
-use Rattle.kd_tables.specs.declared.lug.Lug.TheVariants.{Left, Right}
-use Rattle.kd_tables.specs.Tables.{box_of, reflectors_of}
-use Rattle.kd_tables.specs.Rings.{ring_of, place_on}
-use Rattle.kd_state.specs.declared.machine.rotor_parts.RotorParts.{RotorParts}
-use Rattle.kd_state.specs.declared.machine.pin_parts.PinParts.{PinParts}
-use Rattle.kd_state.specs.declared.machine.parts.Parts.{Parts}
-use Rattle.kd_state.specs.declared.machine.parts.Parts.TheVariants.{Rotor, Pin}
-use Rattle.kd_state.specs.declared.setting.Setting.{Setting}
-use Rattle.kd_state.specs.declared.setting.Setting.TheVariants.{Pull, Put, Seat, SeatReflector, RingTo, Turn, PinTo, LugTo}
-use Rattle.kd_state.specs.Box.{numbered, same_wheel, place_in_box}
-use Rattle.kd_state.specs.Pins.{wheel_pins}
-use Rattle.kd_state.specs.Machine.{cable_letters, plugged_letters, ordered, model_of, slot_in, letter_in, cable_in, standing_in, IsLegalRotor, IsLegalPin, IsMachine}
-use Rattle.kd_state.specs.Setting.{has_letter, are_new, lug_place, other_lug, changed, Carries}
-use Rattle.kd_state.specs.Changes.{Thing, TheSlot, TheReflector, TheRing, TheLetter, TheCable, ThePin, TheShown, TheBar, IsKept, SetsOnly, IsSeatOf, Seats, Turns, Makes, letters_in}
-use Rattle.kd_state.specs.Laws.{TellingIsMaking}
-use Rattle.kd_state.specs.OnKey.{SameLetters}
+use Rattle.kd_tables.specs.Rings.{ring_of}
 use Rattle.kd_state.proofs.Cables.{all_ordered, new_of_distinct}
 use Rattle.kd_state.proofs.Changing.{in_their_order, settings_are_told, settings_keep_machines}
 use Rattle.kd_state.proofs.Columns.{tests_tell_letters}

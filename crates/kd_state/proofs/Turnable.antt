@@ -1,15 +1,7 @@
 -- A ready machine can be turned to each window.
 use Rattle.std.proofs.Common.{◌≡◌, ◌≢◌, ℕ, zero, suc, ◌+◌, ◌<◌, List, [], ◌∷◌, length, set, slice_get, filter_map, All, Contains, Option, Some, None, refl, ap, ◌∙◌, subst, arith, length-set}
-use Rattle.std.specs.List.{AllByRecursion, cons_option}
-use Rattle.std.proofs.lemmas.List.Elements.{All-set, All-head, All-tail}
-use Rattle.kd_tables.specs.declared.model.Model.{Model}
-use Rattle.kd_tables.specs.declared.wheel.Wheel.{Wheel}
-use Rattle.kd_tables.specs.Tables.{box_of}
-use Rattle.kd_state.specs.declared.machine.parts.Parts.TheVariants.{Rotor, Pin}
-use Rattle.kd_state.specs.Box.{place_in_box}
-use Rattle.kd_state.specs.Laws.{MachinesCanBeTurned}
-use Rattle.kd_state.specs.Machine.{StandsAt, AreApart}
-use Rattle.kd_state.specs.TwoCiphers.{seated_wheels}
+use Rattle.kd_state.proofs.Prelude.{AllByRecursion, cons_option, All-set, All-head, All-tail, Model, Wheel, box_of}
+use Rattle.kd_state.proofs.Prelude.{Rotor, Pin, place_in_box, MachinesCanBeTurned, StandsAt, AreApart, seated_wheels}
 use Rattle.kd_state.proofs.Wheels.{places_tell_wheels, placed, place_within}
 use Rattle.kd_state.proofs.Changing.{with_letters}
 use Rattle.kd_state.proofs.Slots.{set_here, set_other}

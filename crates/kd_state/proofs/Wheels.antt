@@ -1,29 +1,19 @@
 -- Wheels and reflectors by their names, and where the wheels of the box may stand.
 use Rattle.std.proofs.Common.{inl, inr, find, unwrap_or, ◌≡◌, ◌≢◌, ℕ, ◌<◌, ◌≤◌, nat_le, ◌==◌, Bool, true, false, cond, List, [], ◌∷◌, length, get_or, Contains, Decides, refl, sym, ap, ◌∙◌, subst, arith, ◌+◌, Some}
-use Rattle.std.specs.List.{list_any, position_or_len}
+use Rattle.kd_state.proofs.Prelude.{list_any, position_or_len, cases_Bool, false_from_ne_true, and_parts, or_parts}
+use Rattle.kd_state.proofs.Prelude.{leb-true, eqb-true, Decides-like, Contains-append_left, Contains-append_right}
+use Rattle.kd_state.proofs.Prelude.{Contains-get_or, is_member-Decides, position_or_len_is, passes_at_first, Model}
+use Rattle.kd_state.proofs.Prelude.{Wheel, I, II, III, IV, V, VI, VII, VIII, Beta, Gamma, Reflector, box_of, slots_of}
+use Rattle.kd_state.proofs.Prelude.{wheels_for, wheel_text, reflector_text, lies_in, IsAllowed, same_wheel}
+use Rattle.kd_state.proofs.Prelude.{same_reflector, has_wheel, has_reflector, place_in_box, option_map, slice_get-map}
+use Rattle.kd_state.proofs.Prelude.{slice_get-get_or, SheetWheel, StandsAt, seats, AllowedWheelsLieInTheBox}
+use Rattle.kd_state.proofs.Prelude.{PlacesTellWheels, DaysWheelsHaveTheirPlaces}
 use Rattle.std.specs.Str.{bytes_eq}
-use Rattle.std.proofs.lemmas.Bool.{cases_Bool, false_from_ne_true, and_parts, or_parts, leb-true, eqb-true}
-use Rattle.std.proofs.lemmas.Bool.Decides.{Decides-like}
-use Rattle.std.proofs.lemmas.List.Elements.{Contains-append_left, Contains-append_right, Contains-get_or}
-use Rattle.std.proofs.lemmas.Map.Made.{is_member-Decides}
-use Rattle.std.proofs.lemmas.List.Sums.{position_or_len_is, passes_at_first}
 use denote.Enum.Bare.{sameb, same_true, same_false}
 use Rattle.kd_tables.specs.contracts.wheel.Wheel.{the_type}
 use Rattle.std.proofs.lemmas.Slice.Eq.{bytes_eq-Decides}
-use Rattle.kd_tables.specs.declared.model.Model.{Model}
 use Rattle.kd_tables.specs.declared.model.Model.TheVariants.{M4, M209}
-use Rattle.kd_tables.specs.declared.wheel.Wheel.{Wheel}
-use Rattle.kd_tables.specs.declared.wheel.Wheel.TheVariants.{I, II, III, IV, V, VI, VII, VIII, Beta, Gamma}
-use Rattle.kd_tables.specs.declared.reflector.Reflector.{Reflector}
 use Rattle.kd_tables.specs.declared.reflector.Reflector.TheVariants as reflectors
-use Rattle.kd_tables.specs.Tables.{box_of, slots_of, wheels_for, wheel_text, reflector_text, lies_in, IsAllowed}
-use Rattle.kd_state.specs.Box.{same_wheel, same_reflector, has_wheel, has_reflector, place_in_box}
-use Rattle.std.specs.Option.{option_map}
-use Rattle.std.proofs.lemmas.Option.{slice_get-map, slice_get-get_or}
-use Rattle.kd_state.specs.declared.sheet_day.rotor_entry.SheetWheel.{SheetWheel}
-use Rattle.kd_state.specs.Machine.{StandsAt}
-use Rattle.kd_state.specs.SheetDay.{seats}
-use Rattle.kd_state.specs.Laws.{AllowedWheelsLieInTheBox, PlacesTellWheels, DaysWheelsHaveTheirPlaces}
 
 -- a name tells what has it, where it is found again by the name
 abbrev pub named : {T : Type 0} → (T → List ℕ) → List T → T → List ℕ → T

@@ -1,18 +1,15 @@
 -- Words are told by their line, and a text's part before a byte by the text.
 use Rattle.std.proofs.Common.{◌≡◌, ◌≢◌, ℕ, ◌^◌, ◌<◌, Bool, true, false, eqb, ltb, List, [], ◌∷◌, ◌++◌, length, map, get_or, Bor, Some, None, MatchOption, Result, Ok, Err, MatchResult, Decides, refl, sym, ap, subst, ◌∙◌, append_assoc, length-append, arith}
-use Rattle.std.specs.Bool.{then_some}
+use Rattle.kd_state.proofs.Prelude.{then_some, All, AllByRecursion, list_all, slice_split, AllPass-from_list_all}
+use Rattle.kd_state.proofs.Prelude.{ltb-true, ne_eqb, eq-eqb, false≢true, decimal_nonempty, digits_decimal}
+use Rattle.kd_state.proofs.Prelude.{IsAscii-decimal, parse-decimal, All-nil, All-cons, All-append, All-from_recursion}
+use Rattle.kd_state.proofs.Prelude.{All-from_get_or, All-weaker, recursion_from_All, map_push, append_cancel_left}
 use Rattle.std.specs.Result.{result_ok}
 use Rattle.std.specs.Str.{IsUtf8}
 use Rattle.std.specs.Str.Parse.{ParsesUnsigned, digits_value}
 use Rattle.std.proofs.lemmas.Str.{IsUtf8-from_ascii}
-use Rattle.std.specs.List.{All, AllByRecursion, list_all, slice_split}
-use Rattle.std.proofs.lemmas.List.Sums.{AllPass-from_list_all}
 use Rattle.std.specs.Fmt.{decimal}
 use Rattle.std.specs.Int.{IsInRange}
-use Rattle.std.proofs.lemmas.Bool.{ltb-true, ne_eqb, eq-eqb, false≢true}
-use Rattle.std.proofs.lemmas.Fmt.{decimal_nonempty, digits_decimal, IsAscii-decimal, parse-decimal}
-use Rattle.std.proofs.lemmas.List.Elements.{All-nil, All-cons, All-append, All-from_recursion, All-from_get_or, All-weaker, recursion_from_All}
-use Rattle.std.proofs.lemmas.List.{map_push, append_cancel_left}
 use Rattle.std.proofs.lemmas.List.Splits.{length-slice_split, slice_split_none, slice_split_at, join_with_byte-slice_split}
 use Rattle.std.proofs.lemmas.Str.Parse.{IsNumeralModel, numerals_by_value, tells_by_index}
 use Rattle.kd_state.specs.Words.{words_of, line_of, letter_text, IsWithout, IsWord, IsFirstPart, LinesTellWords, LinesSplitIntoWords, PartsMakeLines, WordsMakeOneLine, TextsTellFirstParts, NumbersAreWords, LettersAreWords}

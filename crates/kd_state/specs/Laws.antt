@@ -1,5 +1,5 @@
 -- What holds of machines, settings and days of a sheet.
-use Rattle.std.specs.Prelude.{◌≡◌, ◌≢◌, ◌↔◌, ℕ, ◌+◌, ◌<◌, ◌≤◌, List, ◌++◌, length, slice_index_or, slice_get, All, AllPairs, None, MatchOption, Contains}
+use Rattle.std.specs.Prelude.{◌≡◌, ◌≢◌, ◌↔◌, ℕ, ◌+◌, ◌<◌, ◌≤◌, List, ◌++◌, length, slice_index_or, slice_get, All, AllPairs, Option, None, MatchOption, Contains}
 use Rattle.std.specs.Bool.{Decides}
 use Rattle.kd_tables.specs.declared.model.Model.{Model}
 use Rattle.kd_tables.specs.declared.wheel.Wheel.{Wheel}
@@ -20,7 +20,7 @@ use Rattle.kd_state.specs.Words.{IsWord}
 use Rattle.kd_state.specs.Line.{setting_words, setting_line, IsInRange, IsList, IsListFault}
 use Rattle.kd_state.specs.SheetDay.{seats, AreSeated, Day, IsLegalDay}
 use Rattle.kd_state.specs.OnKey.{SameLetters, OnKey, ReadsAs}
-use Rattle.kd_state.specs.Costs.{columns_of, cost_table}
+use Rattle.kd_state.specs.Costs.{columns_of, cable_cost, cost_table}
 use Rattle.kd_state.specs.TwoCiphers.{EngineKey, cipher, key_left, key_with_window, IsWindow, IsReady, window_of, physical_key, physical_cipher, sheet_key, sheet_cipher, IsTurned}
 
 -- no two wheels have one name, and no two reflectors
@@ -170,6 +170,10 @@ ThirteenColumns = (pairs : List (ℕ × ℕ)) → length pairs ≤ 13 → length
 
 abbrev pub ColumnsAreThePairs : Type 0
 ColumnsAreThePairs = (pairs : List (ℕ × ℕ)) (place : ℕ) → slice_index_or (columns_of pairs) place None ≡ slice_get pairs place
+
+-- a cable differs from a pair, or from nothing, in four letters at most
+abbrev pub CablesCostFour : Type 0
+CablesCostFour = (cable : Option ℕ × Option ℕ) (column : Option (ℕ × ℕ)) → cable_cost cable column ≤ 4
 
 -- the table of costs is square
 abbrev pub CostTablesAreSquare : Type 0

@@ -11,7 +11,7 @@ ghost use Rattle.kd_state.specs.Laws.{EngineIsTheMachine, TurnedEngineIsTheTurne
 ghost use Rattle.kd_state.specs.Laws.{ReadingIsReady, ReadingIsItsCipher, OnKeyIsReady, OnKeyIsItsCipher};
 ghost use Rattle.kd_state.specs.Laws.{TurnedIsOnKey, TurnedHasItsKey, TurnedHasTheDaysCipher, MachinesCanBeTurned, EquallySetDecipher};
 ghost use Rattle.kd_state.specs.Laws.{TheDayDeciphersItself, CipherInTurn, KeyInTurn};
-ghost use Rattle.kd_state.specs.Laws.{TestsTellLetters, ThirteenColumns, ColumnsAreThePairs, CostTablesAreSquare};
+ghost use Rattle.kd_state.specs.Laws.{TestsTellLetters, ThirteenColumns, ColumnsAreThePairs, CablesCostFour, CostTablesAreSquare};
 
 /// Words, joined by one space, are told by their line, and split off it again. Their line has no LF.
 pub fn lines_tell_words()
@@ -167,6 +167,11 @@ pub fn tests_tell_letters()
 pub fn columns_are_the_pairs()
     ensures count { ThirteenColumns }
     ensures pairs { ColumnsAreThePairs }
+{}
+
+/// What it costs to make of a cable a pair, or nothing, is four at most.
+pub fn cables_cost_four()
+    ensures { CablesCostFour }
 {}
 
 /// There are as many costs for each cable, or bar, as there are cables, or bars.

@@ -1,6 +1,5 @@
 use Rattle.std.proofs.Common.{◌+◌, ◌<◌, unwrap_or, get_or, sym, ap, arith}
-use Rattle.std.proofs.lemmas.List.{get_or_default}
-use Rattle.kd_plan.specs.Planned.{lugs_to}
+use Rattle.kd_plan.proofs.Prelude.{get_or_default, lugs_to}
 use Rattle.kd_plan.proofs.Bars.{lugs_of}
 use Rattle.kd_plan.proofs.Writing.{row_at, bars_beside, lug_lines_are, IsLine, begins, is_line, room, writes, ends, chosen_length, chosen_at}
 use Rattle.kd_plan.proofs.bar_lines.push_lugs.Goals as goal

@@ -1,10 +1,6 @@
 use Rattle.std.proofs.Common.{rules, ◌≡◌, ap, ◌∙◌, arith}
-use Rattle.std.specs.Option.{option_to_list}
-use Rattle.std.proofs.lemmas.List.FromFn.{get_or-range_with_len, length-range_with_len}
-use Rattle.kd_tables.specs.Permutation.{alphabet}
-use Rattle.kd_state.specs.Machine.{cable_letters}
-use Rattle.kd_state.specs.Costs.{column_letters}
-use Rattle.kd_plan.specs.CableWork.{is_moved, work_setting}
+use Rattle.kd_plan.proofs.Prelude.{option_to_list, get_or-range_with_len, length-range_with_len, alphabet}
+use Rattle.kd_plan.proofs.Prelude.{cable_letters, column_letters, is_moved, work_setting}
 use Rattle.kd_plan.proofs.Cables.{work_of_letter}
 use Rattle.kd_plan.proofs.Writing.{lines_of_kept, IsLine, begins, is_line, room, writes, ends}
 use Rattle.kd_plan.proofs.cable_lines.push_cable.Goals as goal

@@ -1,7 +1,4 @@
-use Rattle.kd_tables.specs.Permutation.{alphabet}
-use Rattle.kd_state.specs.Machine.{cable_letters}
-use Rattle.kd_state.specs.Costs.{column_letters}
-use Rattle.kd_plan.specs.CableWork.{cable_work}
+use Rattle.kd_plan.proofs.Prelude.{alphabet, cable_letters, column_letters, cable_work}
 use Rattle.kd_plan.proofs.Cables.{work_of_letter}
 use Rattle.kd_plan.proofs.Writing.{IsWriting}
 use Rattle.kd_plan.proofs.cable_lines.push_cable.Given as goal

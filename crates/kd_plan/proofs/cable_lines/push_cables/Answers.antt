@@ -1,7 +1,5 @@
 use Rattle.std.proofs.Common.{◌+◌, get_or, refl, arith}
-use Rattle.kd_state.specs.Machine.{cable_letters}
-use Rattle.kd_state.specs.Costs.{column_letters}
-use Rattle.kd_plan.specs.CableWork.{cable_work}
+use Rattle.kd_plan.proofs.Prelude.{cable_letters, column_letters, cable_work}
 use Rattle.kd_plan.proofs.Cables.{column_at, besides, work_beside, lines_beside}
 use Rattle.kd_plan.proofs.Writing.{IsLine, begins, is_line, room, writes, ends, chosen_length, chosen_at}
 use Rattle.kd_plan.proofs.cable_lines.push_cables.Goals as goal

@@ -1,7 +1,5 @@
 use Rattle.std.proofs.Common.{rules, refl, List, ℤ, pos, replicate, arith}
-use Rattle.std.proofs.lemmas.Bool.{some_since}
-use Rattle.std.proofs.lemmas.List.{length-replicate}
-use Rattle.kd_card.specs.declared.prices.PriceParts.TheVariants.{Bars}
+use Rattle.kd_plan.proofs.Prelude.{some_since, length-replicate, Bars}
 use Rattle.kd_plan.proofs.Assembling.{prices_of, zeros_within}
 use Rattle.kd_plan.proofs.card_prices.bar_prices.Goals as goal
 

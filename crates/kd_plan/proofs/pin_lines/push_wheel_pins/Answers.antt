@@ -1,11 +1,6 @@
 use Rattle.std.proofs.Common.{◌≡◌, ◌<◌, ℕ, List, false, Bool, not, get_or, length, Some, sym, ap, ◌∙◌, arith}
-use Rattle.std.specs.Option.{option_to_list}
-use Rattle.std.proofs.lemmas.List.{get_or_default}
-use Rattle.std.proofs.lemmas.Option.{unwrap_or-slice_get}
-use Rattle.kd_tables.specs.Rings.{place_on}
-use Rattle.kd_state.specs.declared.setting.Setting.TheVariants.{PinTo}
-use Rattle.kd_state.specs.Costs.{differ}
-use Rattle.kd_plan.specs.Planned.{unless_so, pin_on}
+use Rattle.kd_plan.proofs.Prelude.{option_to_list, get_or_default, unwrap_or-slice_get, place_on, PinTo, differ}
+use Rattle.kd_plan.proofs.Prelude.{unless_so, pin_on}
 use Rattle.kd_plan.proofs.Writing.{pin_of, wheel_pin_lines_are, IsLine, begins, is_line, room, writes, ends}
 use Rattle.kd_plan.proofs.pin_lines.push_wheel_pins.Goals as goal
 

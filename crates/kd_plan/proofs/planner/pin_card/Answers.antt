@@ -1,10 +1,6 @@
 use Rattle.std.proofs.Common.{List, ℤ, pos, nat_eq, replicate, rules, refl, sym, subst, arith}
-use Rattle.std.proofs.lemmas.Bool.{cond_both}
-use Rattle.kd_state.specs.declared.machine.parts.Parts.TheVariants.{Pin}
+use Rattle.kd_plan.proofs.Prelude.{cond_both, Pin, OfPins, Bars, AreOfKind}
 use Rattle.kd_state.specs.Entry.{pin_values}
-use Rattle.kd_state.specs.SheetDay.{OfPins}
-use Rattle.kd_card.specs.declared.prices.PriceParts.TheVariants.{Bars}
-use Rattle.kd_card.specs.Proving.{AreOfKind}
 use Rattle.kd_plan.proofs.Assembling.{bar_costs_at_most, pin_room, planned, solved, zeros_all}
 use Rattle.kd_plan.proofs.planner.pin_card.Goals as goal
 

@@ -1,12 +1,7 @@
 use Rattle.std.proofs.Common.{nat_eq, false, get_or, sym, ap, ◌∙◌, arith}
-use Rattle.std.specs.Option.{option_map_or, option_and_then, option_to_list}
-use Rattle.std.proofs.lemmas.List.{get_or_default}
+use Rattle.kd_plan.proofs.Prelude.{option_map_or, option_and_then, option_to_list, get_or_default, Parts, RingTo}
+use Rattle.kd_plan.proofs.Prelude.{SheetWheel, ring_in, unless_so}
 use Rattle.kd_tables.specs.declared.wheel.Wheel.TheVariants.{I}
-use Rattle.kd_state.specs.declared.machine.parts.Parts.{Parts}
-use Rattle.kd_state.specs.declared.setting.Setting.TheVariants.{RingTo}
-use Rattle.kd_state.specs.declared.sheet_day.rotor_entry.SheetWheel.{SheetWheel}
-use Rattle.kd_state.specs.Machine.{ring_in}
-use Rattle.kd_plan.specs.Planned.{unless_so}
 use Rattle.kd_plan.proofs.Carrying.{lines_from}
 use Rattle.kd_plan.proofs.Writing.{ring_wanted, ring_of_wheel, ring_lines_are, IsLine, begins, is_line, room, writes, ends}
 use Rattle.kd_plan.proofs.rotor_lines.push_rings.Goals as goal

@@ -1,9 +1,5 @@
 use Rattle.std.proofs.Common.{◌+◌, nat_eq, false, sym, ap, ◌∙◌, arith}
-use Rattle.std.specs.Option.{option_map_or, option_to_list}
-use Rattle.kd_state.specs.declared.machine.parts.Parts.{Parts}
-use Rattle.kd_state.specs.declared.setting.Setting.TheVariants.{Turn}
-use Rattle.kd_state.specs.Machine.{letter_in}
-use Rattle.kd_plan.specs.Planned.{unless_so}
+use Rattle.kd_plan.proofs.Prelude.{option_map_or, option_to_list, Parts, Turn, letter_in, unless_so}
 use Rattle.kd_plan.proofs.Writing.{turn_of, turn_lines_are, IsLine, begins, is_line, room, writes, ends}
 use Rattle.kd_plan.proofs.rotor_lines.push_turns.Goals as goal
 

@@ -1,9 +1,7 @@
 use Rattle.std.specs.Prelude.{◌≡◌, ℕ, Bool, slice_index_or}
 use Rattle.std.proofs.Common.{◌∙◌, ap, sym, arith, rules}
 use Rattle.std.proofs.lemmas.List.FromFn.{get_or-range_with_len}
-use Rattle.std.proofs.lemmas.List.Sums.{sum_by_more}
-use Rattle.kd_tables.specs.Permutation.{alphabet}
-use Rattle.kd_state.specs.Costs.{lies_in_one}
+use Rattle.kd_state.proofs.Prelude.{sum_by_more, alphabet, lies_in_one}
 use Rattle.kd_state.proofs.SortedAlike.{once}
 use Rattle.kd_state.proofs.costs.letters_in_one.Goals as goal
 

@@ -1,6 +1,5 @@
 use Rattle.std.specs.Prelude.{◌≡◌, count_by, take}
-use Rattle.kd_tables.specs.Permutation.{alphabet}
-use Rattle.kd_state.specs.Costs.{lies_in_one}
+use Rattle.kd_state.proofs.Prelude.{alphabet, lies_in_one}
 use Rattle.kd_state.proofs.costs.letters_in_one.Given as goal
 
 abbrev pub invariant-loop-index : goal.invariant-loop-index

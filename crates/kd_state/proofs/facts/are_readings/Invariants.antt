@@ -1,5 +1,4 @@
-use Rattle.std.specs.List.{AllWithin}
-use Rattle.kd_tables.specs.Places.{IsReading}
+use Rattle.kd_state.proofs.Prelude.{AllWithin, IsReading}
 use Rattle.kd_state.proofs.facts.are_readings.Given as goal
 
 abbrev pub invariant-loop-row : goal.invariant-loop-row

@@ -1,5 +1,4 @@
-use Rattle.std.specs.List.{AllWithin}
-use Rattle.kd_tables.specs.Places.{IsBefore}
+use Rattle.kd_state.proofs.Prelude.{AllWithin, IsBefore}
 use Rattle.kd_state.proofs.facts.are_standings.Given as goal
 
 abbrev pub invariant-loop-bar : goal.invariant-loop-bar

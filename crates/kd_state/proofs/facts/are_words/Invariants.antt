@@ -1,5 +1,4 @@
-use Rattle.std.specs.List.{AllWithin}
-use Rattle.kd_state.specs.Machine.{AreLetters}
+use Rattle.kd_state.proofs.Prelude.{AllWithin, AreLetters}
 use Rattle.kd_state.proofs.facts.are_words.Given as goal
 
 abbrev pub invariant-loop-group : goal.invariant-loop-group

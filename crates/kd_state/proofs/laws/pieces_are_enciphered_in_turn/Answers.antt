@@ -1,8 +1,7 @@
 use Rattle.std.proofs.Common.{ap}
 use Rattle.kd_enigma.specs.Laws as wheels
 use Rattle.kd_drum.specs.Laws as drum
-use Rattle.kd_state.specs.Laws.{CipherInTurn, KeyInTurn}
-use Rattle.kd_state.specs.TwoCiphers.{OfWheels, OfDrum}
+use Rattle.kd_state.proofs.Prelude.{CipherInTurn, KeyInTurn, OfWheels, OfDrum}
 use Rattle.kd_state.proofs.laws.pieces_are_enciphered_in_turn.Goals as goal
 
 cipher_in_turn : wheels.CipherInTurn → drum.CipherInTurn → CipherInTurn

@@ -1,6 +1,5 @@
 use Rattle.std.proofs.Common.{◌∙◌, sym, subst, map, arith}
-use Rattle.std.proofs.lemmas.Bool.{eqb-true}
-use Rattle.std.proofs.lemmas.List.{length-map}
+use Rattle.kd_state.proofs.Prelude.{eqb-true, length-map}
 use Rattle.kd_state.proofs.WordLines.{AreTaken, appended, one_more_taken, last_taken, more_words}
 use Rattle.kd_state.proofs.words.split_words.Goals as goal
 

@@ -1,9 +1,5 @@
 use Rattle.std.proofs.Common.{◌≡◌, ℕ, ◌∷◌, [], ◌++◌, take, get_or, Option, Some, None, refl, sym, ap, ◌∙◌, arith}
-use Rattle.std.specs.List.{cons_option}
-use Rattle.std.specs.Option.{option_to_list}
-use Rattle.std.proofs.lemmas.List.{take_more}
-use Rattle.std.proofs.lemmas.List.Elements.{filter_map-append}
-use Rattle.kd_state.specs.TwoCiphers.{both_ends}
+use Rattle.kd_state.proofs.Prelude.{cons_option, option_to_list, take_more, filter_map-append, both_ends}
 use Rattle.kd_state.proofs.DayPairs.{pairs_of}
 use Rattle.kd_state.proofs.engine.ready.plugged_pairs.Goals as goal
 

@@ -1,6 +1,5 @@
 use Rattle.std.proofs.Common.{rules, not, sym, ap, ◌∙◌, subst}
-use Rattle.std.proofs.lemmas.Bool.{false≢true, iff_false, not-false}
-use Rattle.kd_state.specs.OnKey.{AreThePairs}
+use Rattle.kd_state.proofs.Prelude.{false≢true, iff_false, not-false, AreThePairs}
 use Rattle.kd_state.proofs.OnKey.{seats_Decides, rings_read}
 use Rattle.kd_state.proofs.machine.Machine.is_rotor_on_key.Goals as goal
 

@@ -1,12 +1,6 @@
 use Rattle.std.proofs.Common.{◌∙◌, refl, sym, ap, subst, List, ℕ, map, Option, None, Contains}
-use Rattle.std.specs.Option.{is_some}
-use Rattle.std.proofs.lemmas.Bool.{false≢true}
-use Rattle.kd_tables.specs.declared.wheel.Wheel.{Wheel}
-use Rattle.kd_state.specs.declared.machine.parts.Parts.{Parts}
-use Rattle.kd_state.specs.declared.sheet_day.rotor_entry.SheetWheel.{SheetWheel}
-use Rattle.kd_state.specs.Machine.{IsMachine}
+use Rattle.kd_state.proofs.Prelude.{is_some, false≢true, Wheel, Parts, SheetWheel, IsMachine, OfWheels}
 use Rattle.kd_state.specs.Seated.{seated_wheel, key_of_wheels}
-use Rattle.kd_state.specs.TwoCiphers.{OfWheels}
 use Rattle.kd_state.proofs.Seating.{are_seats, all_seated, key_of_seats, not_ready}
 use Rattle.kd_state.proofs.machine.Machine.rotor_engine.Goals as goal
 

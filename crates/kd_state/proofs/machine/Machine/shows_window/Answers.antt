@@ -1,6 +1,5 @@
 use Rattle.std.proofs.Common.{sym, ap, ◌∙◌}
-use Rattle.std.specs.Cmp.Lexicographic.{pointwise_decides}
-use Rattle.std.proofs.lemmas.Bool.Decides.{Decides-eqb}
+use Rattle.kd_state.proofs.Prelude.{pointwise_decides, Decides-eqb}
 use Rattle.kd_state.specs.Entry.{pin_values, rotor_values, values_of}
 use Rattle.kd_state.proofs.OnKey.{letters_show, pin_letters_show}
 use Rattle.kd_state.proofs.machine.Machine.shows_window.Goals as goal

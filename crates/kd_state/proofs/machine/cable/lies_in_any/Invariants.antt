@@ -1,6 +1,5 @@
 use Rattle.std.proofs.Common.{◌≡◌, drop}
-use Rattle.kd_state.specs.Machine.{plugged_letters}
-use Rattle.kd_state.specs.Setting.{has_letter}
+use Rattle.kd_state.proofs.Prelude.{plugged_letters, has_letter}
 use Rattle.kd_state.proofs.machine.cable.lies_in_any.Given as goal
 
 abbrev pub invariant-loop-cable : goal.invariant-loop-cable

@@ -1,7 +1,6 @@
 use Rattle.std.proofs.Common.{◌∙◌, ap, arith, set, Option, ℕ, get_or}
-use Rattle.std.proofs.lemmas.List.{get_or_default}
+use Rattle.kd_state.proofs.Prelude.{get_or_default, ordered}
 use Rattle.std.proofs.lemmas.List.Edits.{map_over_more}
-use Rattle.kd_state.specs.Machine.{ordered}
 use Rattle.kd_state.proofs.machine.cable.put_in_order.Goals as goal
 
 pub loop-cable-preserved : goal.loop-cable-preserved

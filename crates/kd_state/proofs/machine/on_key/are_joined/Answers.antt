@@ -1,8 +1,7 @@
 use Rattle.std.proofs.Common.{refl, sym, subst, arith}
 use Rattle.std.specs.Prelude.{length}
-use Rattle.std.proofs.lemmas.Bool.{false≢true, iff_false}
-use Rattle.std.proofs.lemmas.List.Elements.{All-from_all_within, AllWithin-upto, AllWithin-more, at_read}
-use Rattle.kd_state.specs.OnKey.{IsJoined}
+use Rattle.kd_state.proofs.Prelude.{false≢true, iff_false, All-from_all_within, AllWithin-upto, AllWithin-more, at_read}
+use Rattle.kd_state.proofs.Prelude.{IsJoined}
 use Rattle.kd_state.proofs.machine.on_key.are_joined.Goals as goal
 
 pub loop-pair-preserved : goal.loop-pair-preserved

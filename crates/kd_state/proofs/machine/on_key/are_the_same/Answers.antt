@@ -1,10 +1,8 @@
 use Rattle.std.specs.Prelude.{◌≡◌, ℕ, Bool, false, nat_eq, ◌&&◌}
-use Rattle.std.specs.Bool.{Decides}
-use Rattle.std.specs.Cmp.{nat_cmp_total, on_total, then_total}
+use Rattle.kd_state.proofs.Prelude.{Decides, nat_cmp_total, on_total, then_total, nat_tests, Decides-and, Decides-eqb}
+use Rattle.kd_state.proofs.Prelude.{Decides-like, ranks_by}
 use Rattle.std.specs.Ordering.{is_lt, ordering_then, nat_cmp}
 use Rattle.std.proofs.Common.{ap, arith}
-use Rattle.std.proofs.lemmas.Bool.Decides.{nat_tests, Decides-and, Decides-eqb, Decides-like}
-use Rattle.std.proofs.lemmas.List.Sorted.{ranks_by}
 use Rattle.kd_state.proofs.SortedAlike.{sorted_tell}
 use Rattle.kd_state.proofs.machine.on_key.are_the_same.Goals as goal
 

@@ -1,8 +1,6 @@
 use Rattle.std.proofs.Common.{◌∙◌, ap, arith, set, Option, None, get_or}
-use Rattle.std.proofs.lemmas.List.{get_or_default}
+use Rattle.kd_state.proofs.Prelude.{get_or_default, Wheel, without}
 use Rattle.std.proofs.lemmas.List.Edits.{map_over_more}
-use Rattle.kd_tables.specs.declared.wheel.Wheel.{Wheel}
-use Rattle.kd_state.specs.Setting.{without}
 use Rattle.kd_state.proofs.machine.per_slot.take_out.Goals as goal
 
 pub loop-seated-preserved : goal.loop-seated-preserved

@@ -1,6 +1,5 @@
 use Rattle.std.specs.Prelude.{◌≡◌, map, take, length}
-use Rattle.kd_tables.specs.declared.place.Place.{Place}
-use Rattle.kd_tables.specs.Places.{reading_of}
+use Rattle.kd_state.proofs.Prelude.{Place, reading_of}
 use Rattle.kd_state.proofs.machine.pin_parts.readings_of.Given as goal
 
 abbrev pub invariant-loop-bar : goal.invariant-loop-bar

@@ -1,6 +1,5 @@
 use Rattle.std.proofs.Common.{arith, sym}
-use Rattle.std.proofs.lemmas.Option.{slice_get_past}
-use Rattle.kd_state.specs.Box.{place_in_box}
+use Rattle.kd_state.proofs.Prelude.{slice_get_past, place_in_box}
 use Rattle.kd_state.proofs.Wheels.{place_nowhere}
 use Rattle.kd_state.proofs.machine.readers.of_wheel.Goals as goal
 

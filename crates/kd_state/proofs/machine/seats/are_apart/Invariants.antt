@@ -1,6 +1,5 @@
 use Rattle.std.proofs.Common.{◌≡◌, ◌<◌, ℕ}
-use Rattle.kd_tables.specs.declared.wheel.Wheel.{Wheel}
-use Rattle.kd_state.specs.Machine.{StandsAt}
+use Rattle.kd_state.proofs.Prelude.{Wheel, StandsAt}
 use Rattle.kd_state.proofs.machine.seats.are_apart.Given as goal
 
 abbrev pub invariant-loop-place : goal.invariant-loop-place

@@ -1,6 +1,5 @@
 use Rattle.std.proofs.Common.{◌≡◌, ◌<◌, ℕ, false, get_or}
-use Rattle.kd_tables.specs.declared.wheel.Wheel.TheVariants.{I}
-use Rattle.kd_state.specs.Box.{same_wheel}
+use Rattle.kd_state.proofs.Prelude.{I, same_wheel}
 use Rattle.kd_state.proofs.machine.seats.place_in_box.Given as goal
 
 abbrev pub invariant-loop-place : goal.invariant-loop-place

@@ -1,6 +1,5 @@
 use Rattle.std.proofs.Common.{◌∙◌, sym, [], ◌∷◌, ◌++◌, arith}
-use Rattle.std.proofs.lemmas.Bool.{eqb-true}
-use Rattle.std.proofs.lemmas.List.{length_push}
+use Rattle.kd_state.proofs.Prelude.{eqb-true, length_push}
 use Rattle.kd_state.proofs.SettingLines.{one_more}
 use Rattle.kd_state.proofs.setting.list.read_list.Goals as goal
 

@@ -1,6 +1,5 @@
 use Rattle.std.proofs.Common.{refl}
-use Rattle.std.proofs.lemmas.Bool.{iff_false}
-use Rattle.kd_tables.specs.Tables.{wheels_for}
+use Rattle.kd_state.proofs.Prelude.{iff_false, wheels_for}
 use Rattle.kd_state.proofs.Wheels.{lacks_wheel}
 use Rattle.kd_state.proofs.machine.rotor_parts.RotorParts.seat.Goals as goal
 

@@ -1,6 +1,5 @@
 use Rattle.std.proofs.Common.{◌∙◌, ap, refl, sym, Option, Some, None}
-use Rattle.std.specs.Option.{SomeIff, IsSome}
-use Rattle.kd_state.specs.Box.{numbered}
+use Rattle.kd_state.proofs.Prelude.{SomeIff, IsSome, numbered}
 use Rattle.kd_state.proofs.Slots.{seated_in_box}
 use Rattle.kd_state.proofs.machine.rotor_parts.RotorParts.turn.Goals as goal
 
