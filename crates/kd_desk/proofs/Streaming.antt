@@ -64,7 +64,7 @@ module _ (m n : Message) (more : Implies m n) where
       → IsStreamedOn parts s n source sink answer
   says parts s source sink answer is = record {
     told = is.told;
-    streamed = on_key parts s source sink is.told is.streamed;
+    so = on_key parts s source sink is.told is.so;
     answers = is.answers;
   }
 

@@ -4,7 +4,6 @@ use Rattle.kd_sheet.specs.declared.fault.SheetFault.TheVariants.{NoMemory}
 use Rattle.kd_sheet.specs.MachineFile.{machine_of}
 use Rattle.kd_state.specs.declared.machine.parts.Parts.{Parts}
 use Rattle.kd_state.specs.SheetDay.{Day}
-use Rattle.kd_state.specs.TwoCiphers.{IsReady, physical_cipher}
 use Rattle.kd_desk.specs.CommandLine.{Named, NamedAction, NamedTask, with_opened, with_task_opened, opened_by, task_opened}
 use Rattle.kd_desk.specs.declared.command.Command.{Command}
 use Rattle.kd_desk.specs.declared.command.Action.{Action}
@@ -13,7 +12,7 @@ use Rattle.kd_desk.specs.declared.command.Task.{Task}
 use Rattle.kd_desk.specs.declared.command.Task.TheVariants as tasks
 use Rattle.kd_desk.specs.declared.command.Way.TheVariants.{Send, Receive}
 use Rattle.kd_desk.specs.declared.fault.DeskFault.{DeskFault}
-use Rattle.kd_desk.specs.declared.fault.DeskFault.TheVariants.{File, NotReady}
+use Rattle.kd_desk.specs.declared.fault.DeskFault.TheVariants.{File}
 use Rattle.kd_desk.specs.declared.files.fault.FileFault.{FileFault}
 use Rattle.kd_desk.specs.declared.files.fault.FileFault.TheVariants as files
 use Rattle.kd_desk.specs.declared.stop.Stop.{Stop}
@@ -22,13 +21,12 @@ use Rattle.kd_desk.specs.Files.{Opened, content_of, opening_of}
 use Rattle.kd_desk.specs.Stops.{stop_after}
 use Rattle.kd_tables.specs.Ports.{Port}
 use Rattle.kd_form.specs.Streams.{IsLeft}
-use Rattle.kd_desk.specs.Messages.{Sends, Receives}
+use Rattle.kd_desk.specs.Messages.{Types, Sends, Receives}
 use Rattle.kd_desk.specs.OnDay.{OnDay}
 use Rattle.kd_desk.specs.RunApply.{Applies}
 use Rattle.kd_desk.specs.RunCard.{Prints}
 use Rattle.kd_desk.specs.RunCheck.{Checks}
 use Rattle.kd_desk.specs.RunSteps.{LacksMemory, AnswersFault, is_refused_before, is_device}
-use Rattle.kd_desk.specs.Typing.{TypesLine}
 
 -- a command with what is known of its files: the bytes of those that are read whole
 abbrev pub KnownTask : Type 0
@@ -68,11 +66,10 @@ pub record AskFor (names old new : List (List ℕ)) (all : Bool) : Type 0 where
   pub asked : new ≡ old ++ take number names
   pub whole : IsTrue all → new ≡ old ++ names
 
--- a text was typed on the machine of a machine file, or the call was refused for the file or for a machine that isn't ready
+-- a text was typed on the machine of a machine file, or the call was refused for the file
 pub record TypesOn (machine : List ℕ) (source sink : Port) (answer : Result (Unit {0}) DeskFault) : Type 0 where
   pub refused : IfErr (machine_of machine) (λ fault. AnswersFault answer (File fault))
-  pub not_ready : IfOk (machine_of machine) (λ m. ¬ IsReady m → AnswersFault answer NotReady)
-  pub typed : IfOk (machine_of machine) (λ m. IsReady m → TypesLine (physical_cipher m) source sink answer ⊎ LacksMemory answer)
+  pub typed : IfOk (machine_of machine) (λ m. Types m source sink answer ⊎ LacksMemory answer)
 
 -- settings were carried out on the machine of a machine file, or the call was refused for the file
 pub record AppliesTo (machine list : List ℕ) (sink : Port) (answer : Result (Unit {0}) DeskFault) : Type 0 where

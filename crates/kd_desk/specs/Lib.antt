@@ -8,8 +8,6 @@ pub mod RunApply
 pub mod RunSteps
 pub mod Settings
 pub mod Stops
-pub mod Typing
-pub mod TypingSteps
 pub mod Headline
 pub mod OnDay
 pub mod RunCard

@@ -1,4 +1,4 @@
--- What becomes of a message on a machine and a day of a sheet: of an order that is sent, or of a form that is received.
+-- What becomes of a message: of a text that is typed on a machine; of an order or a form on a machine and a day of a sheet.
 use Rattle.std.specs.Prelude.{◌≡◌, List, ℕ, ◌++◌, Result}
 use Rattle.std.specs.Result.{result_map_both}
 use Rattle.kd_state.specs.declared.machine.parts.Parts.{Parts}
@@ -9,6 +9,7 @@ use Rattle.kd_form.specs.FormText.{IsTextOf, IsReceiveFault, IsGivenOf, form_mes
 use Rattle.kd_form.specs.Sending.{IsFormOf}
 use Rattle.kd_form.specs.SendStream.{orders}
 use Rattle.kd_form.specs.Streams.{Message, StreamsOnKey}
+use Rattle.kd_form.specs.Typing.{TypesIfReady}
 use Rattle.kd_desk.specs.declared.fault.DeskFault.{DeskFault}
 use Rattle.kd_desk.specs.declared.fault.DeskFault.TheVariants as faults
 use Rattle.kd_tables.specs.Ports.{Port}
@@ -23,11 +24,19 @@ fault_of_message fault = faults.Message fault
 abbrev pub answer_to_message : Result (Unit {0}) FormFault → Result (Unit {0}) DeskFault
 answer_to_message answer = result_map_both (λ done. done) fault_of_message answer
 
--- a message that was read as it came, and written part by part, is what the desk answers
-pub record IsStreamedOn (m : Parts) (s : Day) (message : Message) (source sink : Port) (answer : Result (Unit {0}) DeskFault) : Type 0 where
+-- the desk answers what was told, of which this is so
+pub record IsAnswered (is_so : Result (Unit {0}) FormFault → Type 0) (answer : Result (Unit {0}) DeskFault) : Type 0 where
   pub told : Result (Unit {0}) FormFault
-  pub streamed : StreamsOnKey m s message source sink told
+  pub so : is_so told
   pub answers : answer ≡ answer_to_message told
+
+-- what the machine makes of a text is written, or the text is refused
+abbrev pub Types : Parts → Port → Port → Result (Unit {0}) DeskFault → Type 0
+Types m source sink answer = IsAnswered (TypesIfReady m source sink) answer
+
+-- a message was read as it came, and written part by part
+abbrev pub IsStreamedOn : Parts → Day → Message → Port → Port → Result (Unit {0}) DeskFault → Type 0
+IsStreamedOn m s message source sink answer = IsAnswered (StreamsOnKey m s message source sink) answer
 
 -- the form that the order becomes is written, or the order is refused
 abbrev pub Sends : Parts → Day → Port → Port → Result (Unit {0}) DeskFault → Type 0

@@ -18,7 +18,6 @@ pub mod run_send;
 pub mod run_type;
 mod settings;
 mod stop;
-mod typing;
 
 pub use command::{Action, Command, Named, NamedAction, Task, Way, parse_words};
 pub use desk::run_desk;

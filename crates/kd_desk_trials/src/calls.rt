@@ -3,7 +3,7 @@ use crate::samples::{
     CANCELLING, DAYS, ENIGMA, FORM, M3, OFF_KEY, ORDER, SHEET, TEXT, TWO_BARS, Text, UNREADY,
     changed,
 };
-use kd_desk::DeskFault::{self, Device, File, Message, NoSuchDay, NotReady, OtherModel};
+use kd_desk::DeskFault::{self, Device, File, Message, NoSuchDay, OtherModel};
 use kd_desk::run_apply::run_apply;
 use kd_desk::run_card::run_card;
 use kd_desk::run_check::run_check;
@@ -289,8 +289,18 @@ static KEYS: [(&[Call], Text, Text, DeskFault); 15] = [
     (ON_DAY, EMPTY_SLOT, (SHEET, "", ""), NoSuchDay),
     (&[Call::Card(9)], ENIGMA, (SHEET, "", ""), OtherModel),
     (&[Call::Card(11)], TWO_BARS, (SHEET, "", ""), OtherModel),
-    (&[Call::Type], EMPTY_SLOT, (SHEET, "", ""), NotReady),
-    (&[Call::Type], LOOSE_END, (SHEET, "", ""), NotReady),
+    (
+        &[Call::Type],
+        EMPTY_SLOT,
+        (SHEET, "", ""),
+        Message(FormFault::NotReady),
+    ),
+    (
+        &[Call::Type],
+        LOOSE_END,
+        (SHEET, "", ""),
+        Message(FormFault::NotReady),
+    ),
     (
         OF_MESSAGES,
         EMPTY_SLOT,

@@ -246,7 +246,7 @@ static HALF_WAY: [(&[&str], &str, usize, DeskFault, &str); 2] = [
         &["desk", "type", "m"],
         "AAa",
         512,
-        DeskFault::BadByte(3),
+        DeskFault::Message(FormFault::BadByte(3)),
         "BD",
     ),
     (
@@ -295,7 +295,7 @@ static EXITS: [(Result<(), Stop>, u8, &str); 7] = [
     (Err(ReadFailed), 1, "refused 6 Device"),
     (Err(TOO_LONG), 1, "refused 38 ReadTooLong"),
     (
-        Err(Refused(DeskFault::BadByte(3))),
+        Err(Refused(DeskFault::Message(FormFault::BadByte(3)))),
         1,
         "refused 28 BadByte 3",
     ),

@@ -14,7 +14,7 @@ returns-in-Type-clause-does g c =
     (record {
       left = nothing_left;
       told = c.run_type.result;
-      does = record { refused = run.refused; not_ready = run.not_ready; typed = run.typed };
+      does = record { refused = run.refused; typed = run.typed };
       answers = c.after.ensures;
     })
 

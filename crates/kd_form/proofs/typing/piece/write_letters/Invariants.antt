@@ -1,5 +1,5 @@
 use Rattle.std.proofs.Common.{◌≡◌, ℕ, ◌+◌, ◌<◌, length, slice_index}
-use Rattle.kd_desk.proofs.typing.piece.write_letters.Given as goal
+use Rattle.kd_form.proofs.typing.piece.write_letters.Given as goal
 
 -- each letter so far is written
 abbrev pub invariant-loop-place : goal.invariant-loop-place

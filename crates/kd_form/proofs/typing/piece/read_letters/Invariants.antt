@@ -1,5 +1,5 @@
 use Rattle.std.proofs.Common.{◌≡◌, ℕ, ◌+◌, ◌<◌, length, slice_index, IsTrue}
-use Rattle.kd_desk.proofs.typing.piece.read_letters.Given as goal
+use Rattle.kd_form.proofs.typing.piece.read_letters.Given as goal
 
 -- unless a byte was something else, each byte so far is its letter
 abbrev pub invariant-loop-place : goal.invariant-loop-place

@@ -1,28 +1,14 @@
 ghost use Rattle.std.specs.Bool.{OnTrue};
-ghost use Rattle.std.specs.Prelude.{◌≡◌, All, ◌<◌, ◌≤◌, ◌+◌, ◌++◌, take, length, IsTrue, IsFalse, [], ◌∷◌, option_to_list, MatchOption};
+ghost use Rattle.std.specs.Prelude.{◌≡◌, All, ◌<◌, ◌≤◌, ◌+◌, ◌++◌, take, length, option_to_list};
 ghost use Rattle.arrayvec.specs.ArrayVec.{array_vec_len};
-ghost use Rattle.kd_tables.specs.Text.{is_text_byte, letters_text};
-ghost use Rattle.kd_desk.specs.Typing.{Lights, typed_letters};
-ghost use Rattle.kd_desk.specs.TypingSteps.{IsAllowedFront};
+ghost use Rattle.kd_tables.specs.Text.{letters_text};
+ghost use Rattle.kd_form.specs.Typing.{IsAllowedTo, Lights, typed_letters};
 
+use crate::stream::reader::PIECE;
+use crate::text::{is_text_byte, letter_of_byte};
 use arrayvec::ArrayVec;
 use kd_state::Engine;
 use kd_tables::Letter;
-
-/// How many bytes are read at once, at most.
-pub const PIECE: usize = 4096;
-
-/// What a byte that may be typed gives: a letter, or nothing where it is a separator. None where the byte is not allowed.
-fn typed(byte: u8) -> Option<Option<Letter>>
-    ensures { MatchOption result
-        (IsFalse (is_text_byte byte))
-        (λ letter. IsTrue (is_text_byte byte) × (typed_letters (byte ∷ []) ≡ option_to_list letter)) }
-{
-    match byte {
-        b' ' | b'\r' | b'\n' => Some(None),
-        _ => Some(Some(Letter::from_byte(byte)?)),
-    }
-}
 
 /// Appends the letter, if there is one.
 fn push_letter(letters: &mut ArrayVec<Letter, PIECE>, letter: Option<Letter>)
@@ -63,7 +49,7 @@ fn write_letters(letters: &[Letter], bytes: &mut [u8])
 /// The letters among the bytes, up to the first byte that is not allowed, and how many bytes stand before that one.
 fn letters_among(bytes: &[u8]) -> (ArrayVec<Letter, PIECE>, usize)
     requires { length bytes.now ≤ PIECE }
-    ensures front { IsAllowedFront bytes.now result.1 }
+    ensures front { IsAllowedTo bytes.now result.1 }
     ensures letters { result.0.items ≡ typed_letters (take result.1 bytes.now) }
 {
     // Most pieces have nothing but letters, and are read without a look at each byte by itself.
@@ -74,10 +60,10 @@ fn letters_among(bytes: &[u8]) -> (ArrayVec<Letter, PIECE>, usize)
     }
     letters.clear();
     for (place, byte) in bytes.iter().enumerate() {
-        let Some(letter) = typed(*byte) else {
+        if !is_text_byte(*byte) {
             return (letters, place);
-        };
-        push_letter(&mut letters, letter);
+        }
+        push_letter(&mut letters, letter_of_byte(&None, *byte));
     }
     (letters, bytes.len())
 }
@@ -95,9 +81,9 @@ fn lamps_of(letters: &[Letter]) -> ArrayVec<u8, PIECE>
 
 /// Presses the key of each letter among the bytes, up to the first byte that is not allowed. The lamps that light up, as
 /// capital letters, and how many bytes stand before that one.
-pub fn type_piece(engine: &mut Engine, bytes: &[u8]) -> (ArrayVec<u8, PIECE>, usize)
+pub(super) fn type_piece(engine: &mut Engine, bytes: &[u8]) -> (ArrayVec<u8, PIECE>, usize)
     requires { length bytes.now ≤ PIECE }
-    ensures front { IsAllowedFront bytes.now result.1 }
+    ensures front { IsAllowedTo bytes.now result.1 }
     ensures lights { Lights engine.old engine.new (take result.1 bytes.now) result.0.items }
 {
     let (mut letters, front) = letters_among(bytes);
