@@ -1,5 +1,5 @@
 -- What a stream answers, where more is said of its messages, and what the desk makes of its refusals.
-use Rattle.std.proofs.Common.{◌≡◌, ℕ, List, Option, Some, None, Result, Ok, Err, IsTrue, refl, sym, subst}
+use Rattle.std.proofs.Common.{arith, ◌≡◌, ℕ, List, Option, Some, None, Result, Ok, Err, IsTrue, refl, sym, subst}
 use Rattle.kd_state.specs.declared.machine.parts.Parts.{Parts}
 use Rattle.kd_state.specs.SheetDay.{Day}
 use Rattle.kd_form.specs.declared.fault.FormFault.{FormFault}
@@ -9,7 +9,7 @@ use Rattle.kd_form.specs.Streams.{Message, IsOpen, Closes, IsDue, ByThen, ByTheE
 use Rattle.kd_form.specs.Streams.{Whole, Stands, AtEnd, TooLong, SourceFails, SinkFails, is_off_key}
 use Rattle.kd_tables.specs.Ports.{Port, Fail}
 use Rattle.kd_desk.specs.declared.fault.DeskFault.{DeskFault}
-use Rattle.kd_desk.specs.Messages.{IsStreamedOn, fault_of_message}
+use Rattle.kd_desk.specs.Messages.{IsStreamedOn, answer_to_message}
 use Rattle.kd_desk.specs.RunSteps.{is_refused_before, is_device}
 
 -- what is so of a message by the first kind is so by the second, and the refusals that stand are the same
@@ -68,22 +68,12 @@ module _ (m n : Message) (more : Implies m n) where
     answers = is.answers;
   }
 
--- ---- refusals
+-- ---- what is told
 
-is_off_key_of : (fault : FormFault) → IsTrue (is_refused_before (Err (fault_of_message fault))) → IsTrue (is_off_key (Err fault))
-is_off_key_of faults.Device before = before
-is_off_key_of faults.ReadTooLong before = before
-is_off_key_of _ before = before
+pub off_key : (told : Result (Unit {0}) FormFault) (answer : Result (Unit {0}) DeskFault) → answer ≡ answer_to_message told
+    → IsTrue (is_refused_before answer) → IsTrue (is_off_key told)
+off_key told answer is before = grind arith
 
-pub off_key : (fault : FormFault) (desk : DeskFault) → desk ≡ fault_of_message fault → IsTrue (is_refused_before (Err desk)) → IsTrue (is_off_key (Err fault))
-off_key fault desk is before = is_off_key_of fault (subst (λ f. IsTrue (is_refused_before (Err f))) is before)
-
-is_device_of : (fault : FormFault) → streams.is_device (Err fault) ≡ is_device (Err (fault_of_message fault))
-is_device_of faults.Device = refl
-is_device_of faults.ReadTooLong = refl
-is_device_of _ = refl
-
-pub fails_in_message : (source sink : Port) (fault : FormFault) (desk : DeskFault) → desk ≡ fault_of_message fault → Fail source sink (streams.is_device (Err fault))
-    → Fail source sink (is_device (Err desk))
-fails_in_message source sink fault desk is fails =
-    subst (λ f. Fail source sink (is_device (Err f))) (sym is) (subst (λ b. Fail source sink b) (is_device_of fault) fails)
+pub fails : (source sink : Port) (told : Result (Unit {0}) FormFault) (answer : Result (Unit {0}) DeskFault) → answer ≡ answer_to_message told
+    → Fail source sink (streams.is_device told) → Fail source sink (is_device answer)
+fails source sink told answer is failed = grind arith

@@ -1,3 +1,6 @@
+ghost use Rattle.std.specs.Prelude.{◌≡◌};
+ghost use Rattle.kd_desk.specs.Messages.{answer_to_message};
+
 use crate::files::FileFault;
 use kd_card::{CardFault, IllegalAt};
 use kd_form::FormFault;
@@ -115,21 +118,6 @@ impl From<Doubt> for DeskFault {
     }
 }
 
-impl From<FormFault> for DeskFault {
-    ghost use Rattle.std.specs.Prelude.{◌≡◌};
-    ghost use Rattle.kd_desk.specs.Messages.{fault_of_message};
-
-    ghost from_gives = { λ fault desk. desk ≡ fault_of_message fault };
-
-    fn from(fault: FormFault) -> DeskFault {
-        match fault {
-            FormFault::Device => DeskFault::Device,
-            FormFault::ReadTooLong => DeskFault::ReadTooLong,
-            fault => DeskFault::Message(fault),
-        }
-    }
-}
-
 impl From<Device> for DeskFault {
     ghost use Rattle.std.specs.Prelude.{◌≡◌};
     ghost use Rattle.kd_desk.specs.declared.fault.DeskFault.TheVariants as faults;
@@ -138,6 +126,18 @@ impl From<Device> for DeskFault {
 
     fn from(_: Device) -> DeskFault {
         DeskFault::Device
+    }
+}
+
+/// What the desk answers where a call of `kd_form` has answered this.
+pub(crate) fn answer_to_message(told: Result<(), FormFault>) -> Result<(), DeskFault>
+    ensures { result ≡ answer_to_message told }
+{
+    match told {
+        Ok(()) => Ok(()),
+        Err(FormFault::Device) => Err(DeskFault::Device),
+        Err(FormFault::ReadTooLong) => Err(DeskFault::ReadTooLong),
+        Err(fault) => Err(DeskFault::Message(fault)),
     }
 }
 

@@ -5,10 +5,9 @@ ghost use Rattle.kd_tables.specs.Ports.{Fail, port};
 ghost use Rattle.kd_desk.specs.Messages.{Types};
 ghost use Rattle.kd_desk.specs.RunSteps.{LacksMemory, AnswersFault, is_device, is_refused_before};
 
-use crate::fault::DeskFault;
+use crate::fault::{DeskFault, answer_to_message};
 use kd_form::type_stream;
 use kd_sheet::read_machine;
-use kd_state::Machine;
 use kd_tables::{Sink, Source};
 use std::alloc::Global;
 
@@ -37,24 +36,5 @@ pub fn run_type<R: Source, W: Sink>(
         (port W.taken W.has_failed sink.old sink.new) (is_device result) }
 {
     let machine = read_machine(alloc, machine)?;
-    type_text(&machine, source, sink)
-}
-
-/// Types the text on the machine.
-fn type_text<R: Source, W: Sink>(
-    machine: &Machine,
-    source: &mut R,
-    sink: &mut W,
-) -> Result<(), DeskFault>
-    ensures types { Types machine.now (port R.remaining R.has_failed source.old source.new)
-        (port W.taken W.has_failed sink.old sink.new) result }
-    ensures untouched { IsTrue (is_refused_before result)
-        → (source.new ≡ source.old) × (sink.new ≡ sink.old) }
-    ensures failed { Fail (port R.remaining R.has_failed source.old source.new)
-        (port W.taken W.has_failed sink.old sink.new) (is_device result) }
-{
-    match type_stream(machine, source, sink) {
-        Ok(()) => Ok(()),
-        Err(fault) => Err(DeskFault::from(fault)),
-    }
+    answer_to_message(type_stream(&machine, source, sink))
 }

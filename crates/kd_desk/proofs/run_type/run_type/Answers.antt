@@ -3,11 +3,19 @@ use Rattle.kd_tables.specs.Ports.{port}
 use Rattle.kd_desk.specs.Messages.{Types}
 use Rattle.kd_desk.specs.RunSteps.{LacksMemory}
 use Rattle.kd_desk.proofs.Applying.{of_read}
+use Rattle.kd_desk.proofs.Streaming.{off_key, fails}
 use Rattle.kd_desk.proofs.run_type.run_type.Goals as goal
 
 pub returns-clause-typed : goal.returns-clause-typed
 returns-clause-typed g c =
-    let source = port g.R.Source.remaining g.R.Source.has_failed c.args.source.now c.type_text.new.source in
-    let sink = port g.W.Sink.taken g.W.Sink.has_failed c.args.sink.now c.type_text.new.sink in
-    of_read (machine_of c.args.machine.now) c.in_ok-machine.machine (λ m. Types m source sink c.type_text.result) (LacksMemory c.type_text.result)
-    c.in_ok-machine.ensures c.type_text.ensures.types
+    let source = port g.R.Source.remaining g.R.Source.has_failed c.args.source.now c.type_stream.new.source in
+    let sink = port g.W.Sink.taken g.W.Sink.has_failed c.args.sink.now c.type_stream.new.sink in
+    let answer = c.answer_to_message.result in
+    of_read (machine_of c.args.machine.now) c.in_ok-machine.machine (λ m. Types m source sink answer) (LacksMemory answer) c.in_ok-machine.ensures
+    (record { told = c.type_stream.result; so = c.type_stream.ensures.streamed; answers = c.answer_to_message.ensures })
+
+pub returns-clause-untouched : goal.returns-clause-untouched
+returns-clause-untouched g c = λ before. c.type_stream.ensures.untouched (off_key _ _ c.answer_to_message.ensures before)
+
+pub returns-clause-failed : goal.returns-clause-failed
+returns-clause-failed g c = fails _ _ _ _ c.answer_to_message.ensures c.type_stream.ensures.failed
