@@ -54,6 +54,9 @@ fn feed_one<M: MessageReader, W: Sink>(
         Ok(()) => {}
         Err(fault) => return Err(Stop::Refused(fault)),
     }
+    if made.is_empty() {
+        return Ok(());
+    }
     match put_all(sink, made.as_slice()) {
         Ok(()) => {
             made.clear();
