@@ -76,11 +76,13 @@ type Streamed = (&'static str, Result<(), DeskFault>, &'static str);
 /// A call, a machine, and what becomes of texts on it.
 pub type Streams = (Call, Text, &'static [Streamed]);
 
-/// Each of the texts has its answer, in whatever pieces it comes.
+/// Each of the texts has its answer, in whatever pieces it comes. Nothing is asked of the source once it has told its end: that
+/// would fail.
 fn is_streamed(rt: &impl Abort, alloc: Global, call: Call, machine: &str, streamed: &Streamed) {
     let (text, answer, written) = streamed;
     for piece in [1, 2, 7] {
-        let mut source = MemorySource::new(text.as_bytes(), piece, None);
+        let behind_the_end = text.len().div_ceil(piece).saturating_add(1);
+        let mut source = MemorySource::new(text.as_bytes(), piece, Some(behind_the_end));
         let ran = run(alloc, call, machine, DAYS, text, &mut source, 4096);
         ran.ended(rt, *answer, written.as_bytes());
     }

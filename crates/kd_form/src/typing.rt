@@ -7,9 +7,10 @@ ghost use Rattle.kd_form.specs.Typing.{TypesIfReady};
 mod piece;
 
 use super::fault::FormFault;
-use super::stream::reader::PieceReader;
+use super::stream::reader::{PIECE, PieceReader};
 use super::stream::stop::Stop;
 use super::stream::stream;
+use arrayvec::ArrayVec;
 use kd_state::{Engine, Machine, laws};
 use kd_tables::{Sink, Source, put_all};
 use piece::type_piece;
@@ -56,7 +57,8 @@ impl PieceReader<Machine> for Typist {
 
     fn read<W: Sink>(&mut self, _on: &Machine, bytes: &[u8], sink: &mut W) -> Result<(), Stop> {
         laws::pieces_are_enciphered_in_turn();
-        let (lamps, front) = type_piece(&mut self.engine, bytes);
+        let mut lamps = ArrayVec::from([0; PIECE]);
+        let front = type_piece(&mut self.engine, bytes, &mut lamps);
         self.read += front;
         match put_all(sink, &lamps) {
             Ok(()) => {}

@@ -46,47 +46,45 @@ fn write_letters(letters: &[Letter], bytes: &mut [u8])
     }
 }
 
-/// The letters among the bytes, up to the first byte that is not allowed, and how many bytes stand before that one.
-fn letters_among(bytes: &[u8]) -> (ArrayVec<Letter, PIECE>, usize)
-    requires { length bytes.now ≤ PIECE }
-    ensures front { IsAllowedTo bytes.now result.1 }
-    ensures letters { result.0.items ≡ typed_letters (take result.1 bytes.now) }
+/// Leaves the letters among the bytes, up to the first byte that is not allowed, and answers how many bytes stand before that one.
+/// There is a place for each byte.
+fn letters_among(bytes: &[u8], letters: &mut ArrayVec<Letter, PIECE>) -> usize
+    requires few { length bytes.now ≤ PIECE }
+    requires places { array_vec_len letters.old ≡ length bytes.now }
+    ensures front { IsAllowedTo bytes.now result }
+    ensures letters { letters.new.items ≡ typed_letters (take result bytes.now) }
 {
     // Most pieces have nothing but letters, and are read without a look at each byte by itself.
-    let mut letters = ArrayVec::from([Letter::A; PIECE]);
-    letters.truncate(bytes.len());
-    if read_letters(bytes, &mut letters) {
-        return (letters, bytes.len());
+    if read_letters(bytes, letters) {
+        return bytes.len();
     }
     letters.clear();
     for (place, byte) in bytes.iter().enumerate() {
         if !is_text_byte(*byte) {
-            return (letters, place);
+            return place;
         }
-        push_letter(&mut letters, letter_of_byte(&None, *byte));
+        push_letter(letters, letter_of_byte(&None, *byte));
     }
-    (letters, bytes.len())
+    bytes.len()
 }
 
-/// The lamps of these letters, as capital letters.
-fn lamps_of(letters: &[Letter]) -> ArrayVec<u8, PIECE>
-    requires { length letters.now ≤ PIECE }
-    ensures { result.items ≡ letters_text letters.now }
+/// Presses the key of each letter among the bytes, up to the first byte that is not allowed, and answers how many bytes stand
+/// before that one. It leaves the lamps that light up, as capital letters.
+pub(super) fn type_piece(
+    engine: &mut Engine,
+    bytes: &[u8],
+    lamps: &mut ArrayVec<u8, PIECE>,
+) -> usize
+    requires few { length bytes.now ≤ PIECE }
+    requires places { array_vec_len lamps.old ≡ PIECE }
+    ensures front { IsAllowedTo bytes.now result }
+    ensures lights { Lights engine.old engine.new (take result bytes.now) lamps.new.items }
 {
-    let mut lamps = ArrayVec::from([0; PIECE]);
-    lamps.truncate(letters.len());
-    write_letters(letters, &mut lamps);
-    lamps
-}
-
-/// Presses the key of each letter among the bytes, up to the first byte that is not allowed. The lamps that light up, as
-/// capital letters, and how many bytes stand before that one.
-pub(super) fn type_piece(engine: &mut Engine, bytes: &[u8]) -> (ArrayVec<u8, PIECE>, usize)
-    requires { length bytes.now ≤ PIECE }
-    ensures front { IsAllowedTo bytes.now result.1 }
-    ensures lights { Lights engine.old engine.new (take result.1 bytes.now) result.0.items }
-{
-    let (mut letters, front) = letters_among(bytes);
+    let mut letters = ArrayVec::from([Letter::A; PIECE]);
+    letters.truncate(bytes.len());
+    let front = letters_among(bytes, &mut letters);
     engine.run(&mut letters);
-    (lamps_of(&letters), front)
+    lamps.truncate(letters.len());
+    write_letters(&letters, lamps);
+    front
 }
