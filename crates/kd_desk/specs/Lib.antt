@@ -1,5 +1,5 @@
 pub mod CommandLine
-pub mod Desk
+pub mod Program
 pub mod Files
 pub mod Laws
 pub mod Messages

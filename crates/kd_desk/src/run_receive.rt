@@ -5,7 +5,7 @@ ghost use Rattle.kd_tables.specs.Ports.{Fail, port};
 ghost use Rattle.kd_desk.specs.RunSteps.{is_refused_before, is_device};
 
 use crate::fault::{DeskFault, answer_to_message};
-use crate::finding::find_day;
+use crate::machine_and_day::find_day;
 use kd_form::{laws, receive_stream};
 use kd_tables::{Sink, Source};
 use std::alloc::Global;

@@ -3,8 +3,8 @@ ghost use Rattle.std.specs.Prelude.{◌≡◌, ◌≤◌, ◌⊎◌, ◌||◌, [
 ghost use Rattle.kd_desk.specs.CommandLine.{named, action_named, task_named, files_of, action_files, task_files};
 ghost use Rattle.kd_desk.specs.CommandLine.{with_opened, with_action_opened, with_task_opened, opened_by, action_opened, task_opened};
 ghost use Rattle.kd_desk.specs.CommandLine.{Says, SaysNothing};
-ghost use Rattle.kd_desk.specs.Desk.{command_over, action_over, task_over, AskFor, CarriesOut, DoesTask, IsDone, IsTaskDone};
-ghost use Rattle.kd_desk.specs.Desk.{StopsForMemory, IsUnfailed, has_read, is_stopped_before, is_stopped_by_port};
+ghost use Rattle.kd_desk.specs.Program.{command_over, action_over, task_over, AskFor, CarriesOut, DoesTask, IsDone, IsTaskDone};
+ghost use Rattle.kd_desk.specs.Program.{StopsForMemory, IsUnfailed, has_read, is_stopped_before, is_stopped_by_port};
 ghost use Rattle.kd_desk.specs.Files.{Gives, IsReading, opened};
 ghost use Rattle.kd_desk.specs.OnDay.{OnDay};
 ghost use Rattle.kd_tables.specs.Ports.{Fail, port};
@@ -154,10 +154,8 @@ fn carry_out<O: Source + Drop, R: Source, W: Sink>(
     let Command { machine, action } = command;
     let machine = machine.as_slice();
     match action {
-        Action::Type => Stop::after(run_type(alloc, machine, source, sink), false),
-        Action::Apply { list } => {
-            Stop::after(run_apply(alloc, machine, list.as_slice(), sink), false)
-        }
+        Action::Type => Stop::after(run_type(alloc, machine, source, sink)),
+        Action::Apply { list } => Stop::after(run_apply(alloc, machine, list.as_slice(), sink)),
         Action::OnDay { sheet, day, task } => {
             carry_task(alloc, machine, sheet.as_slice(), day, task, sink)
         }
@@ -181,16 +179,13 @@ fn carry_task<O: Source + Drop, W: Sink>(
     ensures failed { W.has_failed sink.new ≡ (W.has_failed sink.old || is_stopped_by_port result) }
 {
     match task {
-        Task::Card => Stop::after(run_card(alloc, machine, sheet, number, sink), false),
+        Task::Card => Stop::after(run_card(alloc, machine, sheet, number, sink)),
         Task::Check(card) => {
-            Stop::after(
-                run_check(alloc, machine, sheet, number, card.as_slice(), sink),
-                false,
-            )
+            Stop::after(run_check(alloc, machine, sheet, number, card.as_slice(), sink))
         }
         Task::Message(way, mut file) => {
             let done = carry_message(alloc, machine, sheet, number, way, &mut file, sink);
-            Stop::after(done, file.failed())
+            Stop::after_file(done, file.failed())
         }
     }
 }

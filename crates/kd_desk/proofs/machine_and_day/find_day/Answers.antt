@@ -1,5 +1,5 @@
 use Rattle.kd_desk.proofs.Days.{no_machine, no_sheet, no_day, a_day}
-use Rattle.kd_desk.proofs.finding.find_day.Goals as goal
+use Rattle.kd_desk.proofs.machine_and_day.find_day.Goals as goal
 
 pub returns-in_err-machine-clause-day : goal.returns-in_err-machine-clause-day
 returns-in_err-machine-clause-day c = no_machine _ _ _ c.from_residual.result _ c.from_residual.ensures.1 c.in_err-machine.ensures

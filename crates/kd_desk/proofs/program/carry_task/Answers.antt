@@ -3,7 +3,7 @@ use Rattle.kd_desk.specs.CommandLine.{with_task_opened}
 use Rattle.kd_desk.specs.Files.{opened}
 use Rattle.kd_desk.specs.declared.command.Task.TheVariants as tasks
 use Rattle.kd_desk.proofs.Runs.{nothing_left, stops_after, task_done}
-use Rattle.kd_desk.proofs.desk.carry_task.Goals as goal
+use Rattle.kd_desk.proofs.program.carry_task.Goals as goal
 
 pub returns-in-Card-clause-does : goal.returns-in-Card-clause-does
 returns-in-Card-clause-does g c =
@@ -24,5 +24,5 @@ returns-in-Message-clause-does g c =
       left = known c.carry_message-done.new.file;
       told = c.carry_message-done.result;
       does = c.carry_message-done.ensures.does;
-      answers = stops_after c.after-in-Message.result c.carry_message-done.result _ _ c.after-in-Message.ensures c.failed.ensures;
+      answers = stops_after c.after_file.result c.carry_message-done.result _ _ c.after_file.ensures c.failed.ensures;
     })

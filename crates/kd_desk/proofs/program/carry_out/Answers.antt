@@ -4,7 +4,7 @@ use Rattle.kd_desk.specs.Files.{opened}
 use Rattle.kd_desk.specs.declared.command.Action.TheVariants as actions
 use Rattle.kd_desk.proofs.Failing.{sink_fails}
 use Rattle.kd_desk.proofs.Runs.{nothing_left, command_done}
-use Rattle.kd_desk.proofs.desk.carry_out.Goals as goal
+use Rattle.kd_desk.proofs.program.carry_out.Goals as goal
 
 pub returns-in-Type-clause-does : goal.returns-in-Type-clause-does
 returns-in-Type-clause-does g c =

@@ -2,7 +2,7 @@ use Rattle.std.proofs.Common.{map}
 use Rattle.kd_desk.specs.CommandLine.{named}
 use Rattle.kd_tables.specs.Ports.{port}
 use Rattle.kd_desk.proofs.Runs.{asked_all, asked_for, asked_yet, said_command, done, unread}
-use Rattle.kd_desk.proofs.desk.run_desk.Goals as goal
+use Rattle.kd_desk.proofs.program.run_desk.Goals as goal
 
 pub returns-in_err-command-2-clause-carried : goal.returns-in_err-command-2-clause-carried
 returns-in_err-command-2-clause-carried g c =

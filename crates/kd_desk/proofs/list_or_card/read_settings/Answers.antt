@@ -1,7 +1,7 @@
 use Rattle.std.proofs.Common.{sym, refl, ◌∙◌}
 use Rattle.kd_desk.specs.Settings.{OfCard, InCard}
 use Rattle.kd_desk.proofs.Applying.{list_read}
-use Rattle.kd_desk.proofs.settings.read_settings.Goals as goal
+use Rattle.kd_desk.proofs.list_or_card.read_settings.Goals as goal
 
 pub returns-in-Ok : goal.returns-in-Ok
 returns-in-Ok c = OfCard (sym c.starts_with.ensures.value ∙ c.if-starts_with.true) _ _ c.in-Ok.ensures

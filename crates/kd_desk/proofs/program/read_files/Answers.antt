@@ -1,5 +1,5 @@
 use Rattle.kd_desk.proofs.Runs.{asks_on, asks_no_more}
-use Rattle.kd_desk.proofs.desk.read_files.Goals as goal
+use Rattle.kd_desk.proofs.program.read_files.Goals as goal
 
 pub returns-in_err-action-clause-asked : goal.returns-in_err-action-clause-asked
 returns-in_err-action-clause-asked g c =

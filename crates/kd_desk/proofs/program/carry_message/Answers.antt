@@ -2,7 +2,7 @@ use Rattle.std.proofs.Common.{ap}
 use Rattle.kd_tables.specs.Ports.{port}
 use Rattle.kd_desk.specs.declared.command.Task.TheVariants.{Message}
 use Rattle.kd_desk.proofs.Runs.{does_task}
-use Rattle.kd_desk.proofs.desk.carry_message.Goals as goal
+use Rattle.kd_desk.proofs.program.carry_message.Goals as goal
 
 pub returns-in-Send-clause-does : goal.returns-in-Send-clause-does
 returns-in-Send-clause-does g c =

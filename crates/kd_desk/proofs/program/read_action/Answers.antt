@@ -1,8 +1,8 @@
 use Rattle.std.proofs.Common.{true, false, subst, sym}
 use Rattle.kd_desk.specs.CommandLine.{action_files, action_named}
-use Rattle.kd_desk.specs.Desk.{AskFor}
+use Rattle.kd_desk.specs.Program.{AskFor}
 use Rattle.kd_desk.proofs.Runs.{asks_on, asks_no_more}
-use Rattle.kd_desk.proofs.desk.read_action.Goals as goal
+use Rattle.kd_desk.proofs.program.read_action.Goals as goal
 
 pub returns-in_err-task-in-OnDay-clause-asked : goal.returns-in_err-task-in-OnDay-clause-asked
 returns-in_err-task-in-OnDay-clause-asked g c =
