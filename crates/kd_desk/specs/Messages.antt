@@ -42,33 +42,14 @@ IsStreamedOn m s message source sink answer = IsAnswered (StreamsOnKey m s messa
 abbrev pub Sends : Parts → Day → Port → Port → Result (Unit {0}) DeskFault → Type 0
 Sends m s order sink answer = IsStreamedOn m s (orders s) order sink answer
 
--- it is the text that any order gives that has become this form
-abbrev pub GivesBack : Day → List ℕ → List ℕ → Type 0
-GivesBack s form text = (order given : List ℕ) → IsFormOf s order form → IsGivenOf s order given → text ≡ given
-
--- what a form that is received becomes
-pub record IsReceived (s : Day) (form text : List ℕ) : Type 0 where
-  pub is_text : IsTextOf s form text
-  pub back : GivesBack s form text
-
--- the form has this fault, and no order has become it
-pub record IsGarbled (s : Day) (form : List ℕ) (fault : FormFault) : Type 0 where
-  pub is_fault : IsReceiveFault s form fault
-  pub of_no_order : (order : List ℕ) → ¬ (IsFormOf s order form)
-
--- the form has this fault whatever follows it, and no order has become a form that begins so
-pub record IsGarbledFront (s : Day) (form : List ℕ) (fault : FormFault) : Type 0 where
-  pub stands : (form_message s).stands form fault
-  pub of_no_order : (more order : List ℕ) → ¬ (IsFormOf s order (form ++ more))
-
--- forms as messages, with what is so of the orders that have become them
-abbrev pub received_message : Day → Message
-received_message s = record (form_message s) {
-  stands = IsGarbledFront s;
-  refused = IsGarbled s;
-  becomes = IsReceived s;
-}
+-- What is so of forms on the day: the text that one becomes is what any order gives that has become it; a form that is refused has
+-- become of no order, and where the refusal stands, no form that begins so has.
+pub record TellOfOrders (s : Day) : Type 0 where
+  pub back : (form text order given : List ℕ) → IsTextOf s form text → IsFormOf s order form → IsGivenOf s order given → text ≡ given
+  pub of_no_order : (form order : List ℕ) (fault : FormFault) → IsReceiveFault s form fault → ¬ (IsFormOf s order form)
+  pub of_no_front : (form more order : List ℕ) (fault : FormFault) → (form_message s).stands form fault → ¬ (IsFormOf s order (form ++ more))
 
 -- the text that the form becomes is written, or the form is refused
-abbrev pub Receives : Parts → Day → Port → Port → Result (Unit {0}) DeskFault → Type 0
-Receives m s form sink answer = IsStreamedOn m s (received_message s) form sink answer
+pub record Receives (m : Parts) (s : Day) (form sink : Port) (answer : Result (Unit {0}) DeskFault) : Type 0 where
+  pub streamed : IsStreamedOn m s (form_message s) form sink answer
+  pub orders : TellOfOrders s

@@ -1,6 +1,6 @@
 use Rattle.kd_desk.proofs.Days.{not_found, on_day}
-use Rattle.kd_desk.proofs.Receiving.{Laws, says_more}
-use Rattle.kd_desk.proofs.Streaming.{says, off_key, fails}
+use Rattle.kd_desk.proofs.Receiving.{tell_of_orders}
+use Rattle.kd_desk.proofs.Streaming.{off_key, fails}
 use Rattle.kd_desk.proofs.run_receive.run_receive.Goals as goal
 
 pub returns-in_err-machine-clause-receives : goal.returns-in_err-machine-clause-receives
@@ -9,16 +9,12 @@ returns-in_err-machine-clause-receives g c =
 
 pub returns-clause-receives : goal.returns-clause-receives
 returns-clause-receives g c =
-    let laws : Laws = record {
-      one_text = c.forms_have_one_answer.ensures.text;
-      no_fault = c.forms_have_one_answer.ensures.never_both;
-      stay = c.forms_stay_refused.ensures;
-      letters = c.forms_give_their_orders.ensures.letters;
-      back = c.forms_give_their_orders.ensures.back;
-    } in
-    on_day _ _ _ _ _ _ _ c.in_ok-machine.ensures.day
-    (says _ _ (says_more laws c.in_ok-machine.day c.model-legal_day.ensures.legal) _ _ _ _ _
-    (record { told = c.receive_stream.result; so = c.receive_stream.ensures.streamed; answers = c.answer_to_message.ensures }))
+    let one = c.forms_have_one_answer.ensures in
+    on_day _ _ _ _ _ _ _ c.in_ok-machine.ensures.day (record {
+      streamed = record { told = c.receive_stream.result; so = c.receive_stream.ensures.streamed; answers = c.answer_to_message.ensures };
+      orders = tell_of_orders c.in_ok-machine.day c.model-legal_day.ensures.legal one.text one.never_both c.forms_stay_refused.ensures
+          c.forms_give_their_orders.ensures.letters c.forms_give_their_orders.ensures.back;
+    })
 
 pub returns-clause-untouched : goal.returns-clause-untouched
 returns-clause-untouched g c = λ before. c.receive_stream.ensures.untouched (off_key _ _ c.answer_to_message.ensures before)
