@@ -1,11 +1,10 @@
 -- What a piece of a text lights up, and what was typed so far.
-use Rattle.std.proofs.Common.{◌≡◌, ℕ, ◌+◌, ◌≤◌, ◌<◌, Bool, List, [], ◌∷◌, ◌++◌, All, IsTrue, IsFalse, Option, option_to_list, Result, Ok, Err, length, map, take, drop, get_or, suc, true, None, refl, sym, ap, subst, ◌∙◌, append_assoc, append-nil, take-append-drop, length-append, length-take-le, length-drop, drop-cons, arith}
+use Rattle.std.proofs.Common.{◌≡◌, ℕ, ◌+◌, ◌≤◌, ◌<◌, Bool, List, [], ◌∷◌, ◌++◌, All, IsTrue, IsFalse, Option, option_to_list, Ok, Err, length, take, drop, get_or, suc, None, refl, sym, ap, subst, ◌∙◌, append_assoc, append-nil, take-append-drop, length-append, length-take-le, drop-cons, arith}
 use Rattle.std.proofs.lemmas.List.{map-append, take_all}
 use Rattle.std.proofs.lemmas.List.Elements.{All-nil, All-cons, All-head, All-tail, All-append, filter_map-append}
 use Rattle.std.proofs.lemmas.Bool.Decides.{nat_tests}
 use Rattle.std.proofs.Transfers.{starts_with_of_append}
 use Rattle.std.specs.Io.KnownBytes.{Appends}
-use Rattle.kd_tables.specs.Ports.{Port}
 use Rattle.kd_tables.specs.Text.{is_text_byte, letters_text}
 use Rattle.kd_tables.specs.Writing.{TakesFront}
 use Rattle.kd_state.specs.declared.machine.parts.Parts.{Parts}
@@ -14,7 +13,7 @@ use Rattle.kd_state.specs.TwoCiphers.{EngineKey, OfWheels, OfDrum, cipher, key_l
 use Rattle.kd_form.specs.declared.fault.FormFault.TheVariants.{BadByte}
 use Rattle.kd_form.specs.declared.stream.stop.Stop.TheVariants as stops
 use Rattle.kd_form.specs.declared.typing.Typist.{Typist}
-use Rattle.kd_form.specs.Sending.{letter_of_byte, letters_from, IsBadAt}
+use Rattle.kd_form.specs.Sending.{letter_of_byte, IsBadAt}
 use Rattle.kd_form.specs.SendStream.{IsAllowedFront}
 use Rattle.kd_form.specs.Streams.{IsRefused, Closes}
 use Rattle.kd_form.specs.StreamSteps.{Held, FeedsAll, ClosesAt}

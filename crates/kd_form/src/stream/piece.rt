@@ -66,26 +66,6 @@ fn feed_one<M: MessageReader, W: Sink>(
     }
 }
 
-/// Writes what is left of the message at its end.
-pub(crate) fn finish<M: MessageReader, W: Sink>(
-    reader: &mut M,
-    day: &SheetDay,
-    sink: &mut W,
-) -> Result<(), Stop>
-    requires { HasRoom (M.message day.now) (M.holds day.now reader.old) 0 }
-    ensures ended { ClosesAt (M.message day.now) (M.holds day.now reader.old)
-        (port W.taken W.has_failed sink.old sink.new) result }
-    ensures failed { W.has_failed sink.new ≡ (W.has_failed sink.old || stops_at_device result) }
-{
-    let mut made: Made = ArrayVec::new();
-    let answer = reader.end(day, &mut made);
-    match (put_all(sink, made.as_slice()), answer) {
-        (Ok(()), Ok(())) => Ok(()),
-        (Ok(()), Err(fault)) => Err(Stop::Refused(fault)),
-        (Err(_), _) => Err(Stop::Device),
-    }
-}
-
 impl<M: MessageReader> PieceReader<SheetDay> for M {
     ghost message = { M.message };
 
@@ -96,7 +76,13 @@ impl<M: MessageReader> PieceReader<SheetDay> for M {
     }
 
     fn finish<W: Sink>(&mut self, on: &SheetDay, sink: &mut W) -> Result<(), Stop> {
-        finish(self, on, sink)
+        let mut made: Made = ArrayVec::new();
+        let answer = self.end(on, &mut made);
+        match (put_all(sink, made.as_slice()), answer) {
+            (Ok(()), Ok(())) => Ok(()),
+            (Ok(()), Err(fault)) => Err(Stop::Refused(fault)),
+            (Err(_), _) => Err(Stop::Device),
+        }
     }
 }
 

@@ -1,7 +1,7 @@
 use Rattle.std.proofs.Common.{subst}
 use Rattle.kd_tables.specs.Writing.{TakesFront}
 use Rattle.kd_form.proofs.Streaming.{closed_in_part}
-use Rattle.kd_form.proofs.stream.piece.finish.Goals as goal
+use Rattle.kd_form.proofs.stream.piece.AnyPieceReaderSheetDay.finish.Goals as goal
 
 pub returns-in-Err-default-clause-ended : goal.returns-in-Err-default-clause-ended
 returns-in-Err-default-clause-ended g c =
