@@ -9,7 +9,7 @@ use Rattle.kd_desk.specs.declared.stop.Stop.{Stop}
 use Rattle.kd_desk.specs.declared.stop.Stop.TheVariants.{Unread}
 use Rattle.kd_desk.specs.CommandLine.{Named, desk_grammar, files_of, IsOf, Says}
 use Rattle.kd_desk.specs.declared.command.Task.{Task}
-use Rattle.kd_desk.specs.Desk.{KnownCommand, KnownAction, KnownTask, command_over, AskFor, CarriesOut, DoesTask, IsDone, IsTaskDone, has_read}
+use Rattle.kd_desk.specs.Program.{KnownCommand, KnownAction, KnownTask, command_over, AskFor, CarriesOut, DoesTask, IsDone, IsTaskDone, has_read}
 use Rattle.kd_desk.specs.OnDay.{OnDay}
 use Rattle.kd_desk.specs.Files.{Gives, Opened}
 use Rattle.kd_desk.specs.Stops.{stop_after}

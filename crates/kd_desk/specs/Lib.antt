@@ -1,5 +1,5 @@
 pub mod CommandLine
-pub mod Desk
+pub mod Program
 pub mod Files
 pub mod Laws
 pub mod Messages
@@ -8,8 +8,6 @@ pub mod RunApply
 pub mod RunSteps
 pub mod Settings
 pub mod Stops
-pub mod Typing
-pub mod TypingSteps
 pub mod Headline
 pub mod OnDay
 pub mod RunCard

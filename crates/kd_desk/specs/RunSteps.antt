@@ -2,7 +2,7 @@
 use Rattle.std.specs.Prelude.{◌≡◌, ◌⊎◌, Bool, true, false, Result, Ok, Err}
 use Rattle.kd_sheet.specs.declared.fault.SheetFault.TheVariants.{NoMemory}
 use Rattle.kd_desk.specs.declared.fault.DeskFault.{DeskFault}
-use Rattle.kd_desk.specs.declared.fault.DeskFault.TheVariants.{File, Device, BadByte, ReadTooLong, Message}
+use Rattle.kd_desk.specs.declared.fault.DeskFault.TheVariants.{File, Device, ReadTooLong, Message}
 use Rattle.kd_form.specs.Streams.{is_off_key}
 
 -- the call ran out of memory while it read a file
@@ -17,7 +17,6 @@ AnswersFault answer fault = (answer ≡ Err fault) ⊎ LacksMemory answer
 abbrev pub is_refused_before : Result (Unit {0}) DeskFault → Bool
 is_refused_before (Ok _) = false
 is_refused_before (Err Device) = false
-is_refused_before (Err (BadByte _)) = false
 is_refused_before (Err ReadTooLong) = false
 is_refused_before (Err (Message fault)) = is_off_key (Err fault)
 is_refused_before (Err _) = true

@@ -1,11 +1,13 @@
+ghost use Rattle.std.specs.Prelude.{◌≡◌};
+ghost use Rattle.kd_desk.specs.Messages.{answer_to_message};
+
 use crate::files::FileFault;
-use crate::typing::TextFault;
 use kd_card::{CardFault, IllegalAt};
 use kd_form::FormFault;
 use kd_plan::OtherModel;
 use kd_prices::Doubt;
 use kd_sheet::SheetFault;
-use kd_state::{ListFault, NotReady};
+use kd_state::ListFault;
 use kd_tables::Device;
 use std::alloc::AllocError;
 use thiserror::Error;
@@ -26,18 +28,12 @@ pub enum DeskFault {
     /// A line of a list or of a card that the machine refuses in its turn.
     #[error(transparent)]
     Illegal(IllegalAt),
-    /// A slot of the machine is empty, or a cable has one letter.
-    #[error("{}", NotReady)]
-    NotReady,
     /// The machine and the sheet's day are of different models.
     #[error("{}", OtherModel)]
     OtherModel,
     /// A read or a write failed.
     #[error("{}", Device)]
     Device,
-    /// A byte that may not stand in a text that is typed. Bytes are counted from 1.
-    #[error("28 BadByte {0}")]
-    BadByte(usize),
     /// More bytes follow than are read.
     #[error("38 ReadTooLong")]
     ReadTooLong,
@@ -50,7 +46,7 @@ pub enum DeskFault {
     /// Why a card doesn't prove itself.
     #[error(transparent)]
     Doubtful(Doubt),
-    /// Why an order becomes no form, or a form no text.
+    /// Why a text can't be typed, an order becomes no form, or a form no text.
     #[error(transparent)]
     Message(FormFault),
 }
@@ -100,17 +96,6 @@ impl From<IllegalAt> for DeskFault {
     }
 }
 
-impl From<NotReady> for DeskFault {
-    ghost use Rattle.std.specs.Prelude.{◌≡◌};
-    ghost use Rattle.kd_desk.specs.declared.fault.DeskFault.TheVariants as faults;
-
-    ghost from_gives = { λ _ desk. desk ≡ faults.NotReady };
-
-    fn from(_: NotReady) -> DeskFault {
-        DeskFault::NotReady
-    }
-}
-
 impl From<OtherModel> for DeskFault {
     ghost use Rattle.std.specs.Prelude.{◌≡◌};
     ghost use Rattle.kd_desk.specs.declared.fault.DeskFault.TheVariants as faults;
@@ -133,21 +118,6 @@ impl From<Doubt> for DeskFault {
     }
 }
 
-impl From<FormFault> for DeskFault {
-    ghost use Rattle.std.specs.Prelude.{◌≡◌};
-    ghost use Rattle.kd_desk.specs.Messages.{fault_of_message};
-
-    ghost from_gives = { λ fault desk. desk ≡ fault_of_message fault };
-
-    fn from(fault: FormFault) -> DeskFault {
-        match fault {
-            FormFault::Device => DeskFault::Device,
-            FormFault::ReadTooLong => DeskFault::ReadTooLong,
-            fault => DeskFault::Message(fault),
-        }
-    }
-}
-
 impl From<Device> for DeskFault {
     ghost use Rattle.std.specs.Prelude.{◌≡◌};
     ghost use Rattle.kd_desk.specs.declared.fault.DeskFault.TheVariants as faults;
@@ -159,18 +129,15 @@ impl From<Device> for DeskFault {
     }
 }
 
-impl From<TextFault> for DeskFault {
-    ghost use Rattle.std.specs.Prelude.{◌≡◌};
-    ghost use Rattle.kd_desk.specs.Typing.{fault_of_text};
-
-    ghost from_gives = { λ fault desk. desk ≡ fault_of_text fault };
-
-    fn from(fault: TextFault) -> DeskFault {
-        match fault {
-            TextFault::Device => DeskFault::Device,
-            TextFault::BadByte(place) => DeskFault::BadByte(place),
-            TextFault::ReadTooLong => DeskFault::ReadTooLong,
-        }
+/// What the desk answers where a call of `kd_form` has answered this.
+pub(crate) fn answer_to_message(told: Result<(), FormFault>) -> Result<(), DeskFault>
+    ensures { result ≡ answer_to_message told }
+{
+    match told {
+        Ok(()) => Ok(()),
+        Err(FormFault::Device) => Err(DeskFault::Device),
+        Err(FormFault::ReadTooLong) => Err(DeskFault::ReadTooLong),
+        Err(fault) => Err(DeskFault::Message(fault)),
     }
 }
 

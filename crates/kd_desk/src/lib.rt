@@ -4,25 +4,24 @@
 #![tactic(auto)]
 
 mod command;
-mod desk;
 mod fault;
 mod files;
-mod finding;
 pub mod laws;
+mod list_or_card;
+mod machine_and_day;
 mod ports;
+mod program;
 pub mod run_apply;
 pub mod run_card;
 pub mod run_check;
 pub mod run_receive;
 pub mod run_send;
 pub mod run_type;
-mod settings;
 mod stop;
-mod typing;
 
 pub use command::{Action, Command, Named, NamedAction, Task, Way, parse_words};
-pub use desk::run_desk;
 pub use fault::DeskFault;
 pub use files::{Content, FileFault, Files, HostFile, HostFiles, MemoryFiles, read_whole};
 pub use ports::{ReaderSource, WriterSink};
+pub use program::run_desk;
 pub use stop::{Exit, Stop};

@@ -6,7 +6,7 @@ ghost use Rattle.kd_desk.specs.RunApply.{Applies};
 ghost use Rattle.kd_desk.specs.RunSteps.{LacksMemory, AnswersFault, is_device, is_refused_before};
 
 use crate::fault::DeskFault;
-use crate::settings::read_settings;
+use crate::list_or_card::read_settings;
 use kd_card::carry_all;
 use kd_sheet::{read_machine, write_machine};
 use kd_state::Machine;

@@ -8,7 +8,7 @@ ghost use Rattle.kd_desk.specs.RunCard.{Prints};
 ghost use Rattle.kd_desk.specs.RunSteps.{is_refused_before, is_device};
 
 use crate::fault::DeskFault;
-use crate::finding::find_day;
+use crate::machine_and_day::find_day;
 use kd_card::{Card, write_card};
 use kd_plan::plan;
 use kd_prices::by_kind;

@@ -6,7 +6,7 @@ ghost use Rattle.kd_desk.specs.RunCheck.{Checks, verdict_text};
 ghost use Rattle.kd_desk.specs.RunSteps.{is_refused_before, is_device};
 
 use crate::fault::DeskFault;
-use crate::finding::find_day;
+use crate::machine_and_day::find_day;
 use arrayvec::ArrayString;
 use itoa::Buffer;
 use kd_card::{laws, read_card};

@@ -1,14 +1,12 @@
 ghost use Rattle.std.specs.Prelude.{◌≡◌, IsTrue};
-ghost use Rattle.kd_desk.specs.Messages.{IsStreamedOn, Receives};
-ghost use Rattle.kd_form.specs.FormText.{form_message};
+ghost use Rattle.kd_desk.specs.Messages.{Receives};
 ghost use Rattle.kd_desk.specs.OnDay.{OnDay};
 ghost use Rattle.kd_tables.specs.Ports.{Fail, port};
 ghost use Rattle.kd_desk.specs.RunSteps.{is_refused_before, is_device};
 
-use crate::fault::DeskFault;
-use crate::finding::find_day;
+use crate::fault::{DeskFault, answer_to_message};
+use crate::machine_and_day::find_day;
 use kd_form::{laws, receive_stream};
-use kd_state::{Machine, SheetDay};
 use kd_tables::{Sink, Source};
 use std::alloc::Global;
 
@@ -36,48 +34,10 @@ pub fn run_receive<R: Source, W: Sink>(
         (port W.taken W.has_failed sink.old sink.new) (is_device result) }
 {
     let (machine, day) = find_day(alloc, machine, sheet, number)?;
-    receive_form(&machine, &day, form, sink)
-}
-
-/// Writes the text that the form becomes on the machine and the day.
-fn receive_form<R: Source, W: Sink>(
-    machine: &Machine,
-    day: &SheetDay,
-    form: &mut R,
-    sink: &mut W,
-) -> Result<(), DeskFault>
-    ensures receives { Receives machine.now day.now (port R.remaining R.has_failed form.old form.new)
-        (port W.taken W.has_failed sink.old sink.new) result }
-    ensures untouched { IsTrue (is_refused_before result)
-        → (form.new ≡ form.old) × (sink.new ≡ sink.old) }
-    ensures failed { Fail (port R.remaining R.has_failed form.old form.new)
-        (port W.taken W.has_failed sink.old sink.new) (is_device result) }
-{
     // The laws speak of legal days, and a getter tells that this one is.
     let _legal_day = day.model();
     laws::forms_have_one_answer();
     laws::forms_stay_refused();
     laws::forms_give_their_orders();
-    read_form(machine, day, form, sink)
-}
-
-/// The same, without what is so of the orders that have become the form.
-fn read_form<R: Source, W: Sink>(
-    machine: &Machine,
-    day: &SheetDay,
-    form: &mut R,
-    sink: &mut W,
-) -> Result<(), DeskFault>
-    ensures streamed { IsStreamedOn machine.now day.now (form_message day.now)
-        (port R.remaining R.has_failed form.old form.new)
-        (port W.taken W.has_failed sink.old sink.new) result }
-    ensures untouched { IsTrue (is_refused_before result)
-        → (form.new ≡ form.old) × (sink.new ≡ sink.old) }
-    ensures failed { Fail (port R.remaining R.has_failed form.old form.new)
-        (port W.taken W.has_failed sink.old sink.new) (is_device result) }
-{
-    match receive_stream(machine, day, form, sink) {
-        Ok(()) => Ok(()),
-        Err(fault) => Err(DeskFault::from(fault)),
-    }
+    answer_to_message(receive_stream(&machine, &day, form, sink))
 }

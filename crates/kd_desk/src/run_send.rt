@@ -4,10 +4,9 @@ ghost use Rattle.kd_desk.specs.OnDay.{OnDay};
 ghost use Rattle.kd_tables.specs.Ports.{Fail, port};
 ghost use Rattle.kd_desk.specs.RunSteps.{is_refused_before, is_device};
 
-use crate::fault::DeskFault;
-use crate::finding::find_day;
+use crate::fault::{DeskFault, answer_to_message};
+use crate::machine_and_day::find_day;
 use kd_form::send_stream;
-use kd_state::{Machine, SheetDay};
 use kd_tables::{Sink, Source};
 use std::alloc::Global;
 
@@ -35,25 +34,5 @@ pub fn run_send<R: Source, W: Sink>(
         (port W.taken W.has_failed sink.old sink.new) (is_device result) }
 {
     let (machine, day) = find_day(alloc, machine, sheet, number)?;
-    send_order(&machine, &day, order, sink)
-}
-
-/// Writes the form that the order becomes on the machine and the day.
-fn send_order<R: Source, W: Sink>(
-    machine: &Machine,
-    day: &SheetDay,
-    order: &mut R,
-    sink: &mut W,
-) -> Result<(), DeskFault>
-    ensures sends { Sends machine.now day.now (port R.remaining R.has_failed order.old order.new)
-        (port W.taken W.has_failed sink.old sink.new) result }
-    ensures untouched { IsTrue (is_refused_before result)
-        → (order.new ≡ order.old) × (sink.new ≡ sink.old) }
-    ensures failed { Fail (port R.remaining R.has_failed order.old order.new)
-        (port W.taken W.has_failed sink.old sink.new) (is_device result) }
-{
-    match send_stream(machine, day, order, sink) {
-        Ok(()) => Ok(()),
-        Err(fault) => Err(DeskFault::from(fault)),
-    }
+    answer_to_message(send_stream(&machine, &day, order, sink))
 }

@@ -1,15 +1,13 @@
 ghost use Rattle.std.specs.Prelude.{◌≡◌, ◌⊎◌, IfOk, IfErr, IsTrue};
 ghost use Rattle.kd_desk.specs.declared.fault.DeskFault.TheVariants as faults;
 ghost use Rattle.kd_sheet.specs.MachineFile.{machine_of};
-ghost use Rattle.kd_state.specs.TwoCiphers.{IsReady, physical_cipher};
 ghost use Rattle.kd_tables.specs.Ports.{Fail, port};
-ghost use Rattle.kd_desk.specs.Typing.{TypesLine};
+ghost use Rattle.kd_desk.specs.Messages.{Types};
 ghost use Rattle.kd_desk.specs.RunSteps.{LacksMemory, AnswersFault, is_device, is_refused_before};
 
-use crate::fault::DeskFault;
-use crate::typing::type_line;
+use crate::fault::{DeskFault, answer_to_message};
+use kd_form::type_stream;
 use kd_sheet::read_machine;
-use kd_state::laws;
 use kd_tables::{Sink, Source};
 use std::alloc::Global;
 
@@ -20,7 +18,7 @@ use std::alloc::Global;
 /// faults come first, then a machine that isn't ready, and nothing is read or written where the call is refused for these.
 /// Then the text is read to its end, a piece at a time: the call is refused at the first byte that is not allowed, and where more
 /// than 1,048,576 bytes come, and has then written the lamps of the letters before, without the line feed. So it has where
-/// a read fails; where a write fails, it has written a prefix of what it was to write.
+/// a read fails; where a write fails, it has written less than it was to write.
 pub fn run_type<R: Source, W: Sink>(
     alloc: Global,
     machine: &[u8],
@@ -29,9 +27,7 @@ pub fn run_type<R: Source, W: Sink>(
 ) -> Result<(), DeskFault>
     ensures refused { IfErr (machine_of machine.now)
         (λ fault. AnswersFault result (faults.File fault)) }
-    ensures not_ready { IfOk (machine_of machine.now) (λ m. ¬ IsReady m
-        → AnswersFault result faults.NotReady) }
-    ensures typed { IfOk (machine_of machine.now) (λ m. IsReady m → TypesLine (physical_cipher m)
+    ensures typed { IfOk (machine_of machine.now) (λ m. Types m
         (port R.remaining R.has_failed source.old source.new)
         (port W.taken W.has_failed sink.old sink.new) result ⊎ LacksMemory result) }
     ensures untouched { IsTrue (is_refused_before result)
@@ -39,9 +35,6 @@ pub fn run_type<R: Source, W: Sink>(
     ensures failed { Fail (port R.remaining R.has_failed source.old source.new)
         (port W.taken W.has_failed sink.old sink.new) (is_device result) }
 {
-    laws::engines_encipher_as_their_machines();
     let machine = read_machine(alloc, machine)?;
-    let mut engine = machine.engine()?;
-    type_line(&mut engine, source, sink)?;
-    Ok(())
+    answer_to_message(type_stream(&machine, source, sink))
 }

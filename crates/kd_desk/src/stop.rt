@@ -1,4 +1,4 @@
-ghost use Rattle.std.specs.Prelude.{◌≡◌};
+ghost use Rattle.std.specs.Prelude.{◌≡◌, false};
 ghost use Rattle.kd_desk.specs.Stops.{exit_of, stop_after};
 
 use crate::fault::DeskFault;
@@ -25,15 +25,23 @@ pub enum Stop {
 }
 
 impl Stop {
-    /// What stops the program where a command that is carried out answers this, and a read of the file that it opened has
-    /// failed or hasn't.
-    pub fn after(done: Result<(), DeskFault>, file_failed: bool) -> Result<(), Stop>
+    /// What stops the program where a command that is carried out answers this.
+    pub fn after(done: Result<(), DeskFault>) -> Result<(), Stop>
+        ensures { result ≡ stop_after false done }
+    {
+        match done {
+            Err(fault) => Err(Stop::Refused(fault)),
+            Ok(()) => Ok(()),
+        }
+    }
+
+    /// The same of a command that has opened a file, of which a read has failed or hasn't.
+    pub fn after_file(done: Result<(), DeskFault>, file_failed: bool) -> Result<(), Stop>
         ensures { result ≡ stop_after file_failed done }
     {
         match done {
             Err(DeskFault::Device) if file_failed => Err(Stop::ReadFailed),
-            Err(fault) => Err(Stop::Refused(fault)),
-            Ok(()) => Ok(()),
+            done => Stop::after(done),
         }
     }
 }

@@ -3,7 +3,7 @@ use crate::samples::{
     CANCELLING, DAYS, ENIGMA, FORM, M3, OFF_KEY, ORDER, SHEET, TEXT, TWO_BARS, Text, UNREADY,
     changed,
 };
-use kd_desk::DeskFault::{self, Device, File, Message, NoSuchDay, NotReady, OtherModel};
+use kd_desk::DeskFault::{self, Device, File, Message, NoSuchDay, OtherModel};
 use kd_desk::run_apply::run_apply;
 use kd_desk::run_card::run_card;
 use kd_desk::run_check::run_check;
@@ -76,11 +76,13 @@ type Streamed = (&'static str, Result<(), DeskFault>, &'static str);
 /// A call, a machine, and what becomes of texts on it.
 pub type Streams = (Call, Text, &'static [Streamed]);
 
-/// Each of the texts has its answer, in whatever pieces it comes.
+/// Each of the texts has its answer, in whatever pieces it comes. Nothing is asked of the source once it has told its end: that
+/// would fail.
 fn is_streamed(rt: &impl Abort, alloc: Global, call: Call, machine: &str, streamed: &Streamed) {
     let (text, answer, written) = streamed;
     for piece in [1, 2, 7] {
-        let mut source = MemorySource::new(text.as_bytes(), piece, None);
+        let behind_the_end = text.len().div_ceil(piece).saturating_add(1);
+        let mut source = MemorySource::new(text.as_bytes(), piece, Some(behind_the_end));
         let ran = run(alloc, call, machine, DAYS, text, &mut source, 4096);
         ran.ended(rt, *answer, written.as_bytes());
     }
@@ -289,8 +291,18 @@ static KEYS: [(&[Call], Text, Text, DeskFault); 15] = [
     (ON_DAY, EMPTY_SLOT, (SHEET, "", ""), NoSuchDay),
     (&[Call::Card(9)], ENIGMA, (SHEET, "", ""), OtherModel),
     (&[Call::Card(11)], TWO_BARS, (SHEET, "", ""), OtherModel),
-    (&[Call::Type], EMPTY_SLOT, (SHEET, "", ""), NotReady),
-    (&[Call::Type], LOOSE_END, (SHEET, "", ""), NotReady),
+    (
+        &[Call::Type],
+        EMPTY_SLOT,
+        (SHEET, "", ""),
+        Message(FormFault::NotReady),
+    ),
+    (
+        &[Call::Type],
+        LOOSE_END,
+        (SHEET, "", ""),
+        Message(FormFault::NotReady),
+    ),
     (
         OF_MESSAGES,
         EMPTY_SLOT,

@@ -6,7 +6,7 @@ mod calls;
 #[cfg(test)]
 mod command;
 #[cfg(test)]
-mod desk;
+mod program;
 #[cfg(test)]
 mod fault;
 #[cfg(test)]

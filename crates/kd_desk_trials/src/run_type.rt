@@ -2,7 +2,8 @@ ghost use Rattle.std.specs.Prelude.{false};
 
 use crate::calls::{Call, Streams, are_streamed, run};
 use crate::samples::{ALL_MET, CANCELLING, DAYS, ENIGMA, M3, M4_AS_ENIGMA, MACHINE};
-use kd_desk::DeskFault::{self, BadByte, Device, ReadTooLong};
+use kd_desk::DeskFault::{self, Device, Message, ReadTooLong};
+use kd_form::FormFault::BadByte;
 use kd_tables::{Failed, MemorySource, Source};
 use kd_trials::texts::{M1, M4, M209, TEN_CABLES_WRITTEN};
 use std::alloc::AllocError;
@@ -17,11 +18,11 @@ static TYPED: [Streams; 11] = [
             ("", Ok(()), "\n"),
             ("AAA AA\n", Ok(()), "BDZGO\n"),
             ("A\r\nA A\nAA", Ok(()), "BDZGO\n"),
-            ("AAaA", Err(BadByte(3)), "BD"),
-            ("1", Err(BadByte(1)), ""),
-            ("AAAAA.", Err(BadByte(6)), "BDZGO"),
-            ("A A\tA", Err(BadByte(4)), "BD"),
-            ("AA\n-a", Err(BadByte(4)), "BD"),
+            ("AAaA", Err(Message(BadByte(3))), "BD"),
+            ("1", Err(Message(BadByte(1))), ""),
+            ("AAAAA.", Err(Message(BadByte(6))), "BDZGO"),
+            ("A A\tA", Err(Message(BadByte(4))), "BD"),
+            ("AA\n-a", Err(Message(BadByte(4))), "BD"),
         ],
     ),
     (

@@ -16,3 +16,4 @@ pub mod Standing
 pub mod FormSteps
 pub mod Streaming
 pub mod OrderSteps
+pub mod TypedTexts

@@ -1,11 +1,11 @@
 -- How a part of a form is made.
-use Rattle.std.proofs.Common.{[], ◌≡◌, ℕ, ◌+◌, ◌-◌, ◌%◌, ◌<◌, inl, inr, List, ◌∷◌, ◌++◌, length, map, take, drop, refl, sym, ap, ◌∙◌, append_assoc, length-drop, add-one, arith, min, Bool, true, false, subst, ◌≢◌, ◌≤◌, get_or, replicate, length-append, ◌==◌, codes, decimal, Option, Some, None, MatchOption, IsSome, All, slice_index, not, option_map}
+use Rattle.std.proofs.Common.{[], ◌≡◌, ℕ, ◌+◌, ◌-◌, ◌%◌, ◌<◌, List, ◌∷◌, ◌++◌, length, map, take, drop, refl, sym, ap, ◌∙◌, append_assoc, length-drop, add-one, arith, min, Bool, true, false, subst, ◌≤◌, replicate, length-append, ◌==◌, codes, decimal, Option, Some, None, MatchOption, IsSome, All, option_map}
 use Rattle.std.specs.Int.{div_ceil}
 use Rattle.std.specs.Simd.{first_chunks}
 use Rattle.std.specs.List.{flat_map, join_with_byte}
 use Rattle.std.proofs.Math.Nat.{div-eq_of_lt, mod-eq_of_lt}
-use Rattle.std.proofs.lemmas.Bool.{eqb-true, false≢true}
-use Rattle.std.proofs.lemmas.List.{append-nil, take_min, drop_min, length-take-le, length-map, take-append-drop, get_or_default, length-replicate}
+use Rattle.std.proofs.lemmas.Bool.{eqb-true}
+use Rattle.std.proofs.lemmas.List.{append-nil, take_min, drop_min, length-map, length-replicate}
 use Rattle.kd_tables.specs.Text.{letters_text}
 use Rattle.kd_form.specs.declared.heading.Heading.{Heading}
 use Rattle.kd_form.specs.Part.{fraction, indicator_words, heading_words, pieces, groups_of, behind_spaces, with_line, body_text, part_text, Part}
@@ -17,10 +17,9 @@ use Rattle.kd_form.specs.declared.keys.PinKeys.{PinKeys}
 use Rattle.kd_form.specs.declared.heading.Indicator.{Indicator}
 use Rattle.kd_form.specs.InternalKey.{IsInternalKey, HaveRunOut}
 use Rattle.kd_form.specs.Making.{Suits, IsMadeText, part_of, indicator_of, rotor_letters, enciphered_choice, pin_letters, list_letters, IsMade, cipher_from, part_size, pin_indicators, filled}
-use Rattle.std.proofs.lemmas.Bool.Decides.{nat_tests}
 use Rattle.kd_state.specs.TwoCiphers.{sheet_key, IsWindow}
-use Rattle.kd_form.specs.declared.fault.FormFault.TheVariants.{IndicatorsDiffer}
-use Rattle.kd_form.specs.Reading.{HasIndicator, message_key, ArePinLetters, IsPinFault, InIndicators, IsLettersText}
+use Rattle.std.proofs.Math.Seq.{take-append_seam, drop-append_seam}
+use Rattle.kd_form.specs.Reading.{HasIndicator, message_key, HasIndicatorsAround, group_in, keys_in, list_in, text_in, IsLettersText}
 use Rattle.kd_form.proofs.Ciphers.{length-cipher_from, letters-cipher_from}
 use Rattle.std.proofs.lemmas.List.Elements.{All-append, All-cons, All-replicate}
 use Rattle.kd_state.specs.Laws.{TheDayDeciphersItself}
@@ -159,48 +158,7 @@ pub key_is_window : (s : Day) (i : Indicator) (key : List ℕ) → HasIndicator 
     → IsWindow (sheet_key s) key
 key_is_window s i key has is within = grind (arith, length-cipher_from, length-map)
 
--- ---- indicators
-
--- ten letters, what follows them, and the last ten
-pub record AreThree (letters first text last : List ℕ) : Type 0 where
-  pub joined : letters ≡ first ++ (text ++ last)
-  pub front : length first ≡ 10
-  pub back : length last ≡ 10
-
-pub three_parts : (letters first rest text last : List ℕ) (n : ℕ) → 20 ≤ length letters → first ≡ take 10 letters → rest ≡ drop 10 letters
-    → n ≡ length rest - 10 → text ≡ take n rest → last ≡ drop n rest → AreThree letters first text last
-three_parts letters first rest text last n long front others count middle back = grind (arith, take-append-drop {A = ℕ}, length-take-le {A = ℕ}, length-drop {A = ℕ})
-
-pub pin_letters_are : (letters first twice others key list text last : List ℕ) (k : PinKeys) → AreThree letters first text last → first ≡ last
-    → twice ≡ take 1 first → others ≡ drop 1 first → key ≡ take 7 others → list ≡ drop 7 others → key ≡ k.chosen ∷ k.external
-    → length k.external ≡ 6 → get_or twice 0 0 ≡ k.chosen → ArePinLetters letters k list text
-pin_letters_are letters first twice others key list text last k three same one more front back are six begins = grind arith
-
-pub indicators_differ : (s : Day) (part : ℕ) (letters first text last : List ℕ) → AreThree letters first text last → first ≢ last
-    → IsPinFault s part letters (IndicatorsDiffer part)
-indicators_differ s part letters first text last three differ = InIndicators first text last three.joined three.front three.back (inl differ) refl
-
-first_two : (first twice others key : List ℕ) (chosen : ℕ) (external : List ℕ) → length first ≡ 10 → twice ≡ take 1 first → others ≡ drop 1 first
-    → key ≡ take 7 others → key ≡ chosen ∷ external → get_or twice 0 0 ≢ chosen → slice_index first 0 ≢ slice_index first 1
-first_two first twice others key chosen external ten one more front are differ same = grind arith
-
-pub first_two_differ : (s : Day) (part : ℕ) (letters first twice others key text last : List ℕ) (k : PinKeys) → AreThree letters first text last
-    → twice ≡ take 1 first → others ≡ drop 1 first → key ≡ take 7 others → key ≡ k.chosen ∷ k.external → get_or twice 0 0 ≢ k.chosen
-    → IsPinFault s part letters (IndicatorsDiffer part)
-first_two_differ s part letters first twice others key text last k three one more front are differ =
-    InIndicators first text last three.joined three.front three.back
-    (inr (first_two first twice others key k.chosen k.external three.front one more front are differ)) refl
-
 -- ---- what the reads tell
-
-pub first_read : (twice : List ℕ) (read : ℕ) → 1 ≤ length twice → read ≡ get_or twice 0 read → get_or twice 0 0 ≡ read
-first_read twice read some is = get_or_default twice 0 0 read some ∙ sym is
-
-pub not_same : (read chosen : ℕ) → not (read == chosen) ≡ true → read ≢ chosen
-not_same read chosen differ same = absurd (let alike : (read == chosen) ≡ true = grind (arith, nat_tests) in false≢true (sym (ap not alike) ∙ differ))
-
-pub the_same : (read chosen : ℕ) → not (read == chosen) ≡ false → read ≡ chosen
-the_same read chosen differ = grind (arith, nat_tests)
 
 pub list_told : (s : Day) (found : Option (List ℕ)) (due : List ℕ) → found ≡ option_map (λ d. d.list) (pin_day s) → found ≡ Some due → due ≡ list_letters s
 list_told s found due told is = grind arith
@@ -222,6 +180,33 @@ pub record GivesBack (s : Day) (part parts : ℕ) (text : List ℕ) (made : Part
   pub counted : length made.body ≡ made.heading.letters
   pub read : IsLettersText s made.heading.indicator made.body text
 
+-- ---- letters by their places
+
+rotor_places : (fillers group text : List ℕ) → length fillers ≡ 2 → length group ≡ 3
+    → (group_in ((fillers ++ group) ++ text) ≡ group) × (drop 5 ((fillers ++ group) ++ text) ≡ text)
+rotor_places (a ∷ b ∷ []) (c ∷ d ∷ e ∷ []) text two three = (refl, refl)
+rotor_places _ _ text two three = absurd (omega arith)
+
+record ArePlaced (k : PinKeys) (list text letters : List ℕ) : Type 0 where
+  around : HasIndicatorsAround letters
+  keys : k ≡ keys_in letters
+  listed : list ≡ list_in letters
+  text_is : text ≡ text_in letters
+
+pin_places : (k : PinKeys) (external list text : List ℕ) → k.external ≡ external → length external ≡ 6 → length list ≡ 2
+    → ArePlaced k list text (((k.chosen ∷ k.chosen ∷ k.external ++ list) ++ text) ++ (k.chosen ∷ k.chosen ∷ k.external ++ list))
+pin_places k (a ∷ b ∷ c ∷ d ∷ e ∷ f ∷ []) (x ∷ y ∷ []) text is six two =
+    let first : List ℕ = k.chosen ∷ k.chosen ∷ a ∷ b ∷ c ∷ d ∷ e ∷ f ∷ x ∷ y ∷ [] in
+    let size : length ((first ++ text) ++ first) - 10 ≡ length (first ++ text) = omega (arith, length-append (first ++ text) first) in
+    let less : length ((first ++ text) ++ first) - 10 - 10 ≡ length text = omega (arith, length-append (first ++ text) first, length-append first text) in
+    rw is (record {
+      around = record { again = sym (ap (λ n. drop n ((first ++ text) ++ first)) size ∙ drop-append_seam (first ++ text) first); twice = refl };
+      keys = refl;
+      listed = refl;
+      text_is = sym (ap (λ n. take n (text ++ first)) less ∙ take-append_seam text first);
+    })
+pin_places k _ _ text is six two = absurd (omega arith)
+
 -- ---- rotor machines
 
 rotor_part_back : (s : RotorDay) (part parts : ℕ) (k : RotorKeys) (piece : List ℕ) → TheDayDeciphersItself → IsLegalDay (OfRotors s)
@@ -241,12 +226,9 @@ rotor_part_back s part parts k piece decipher legal are suits fraction is =
       within = All-append (λ letter. letter < 26) (k.fillers ++ k.group) enciphered
           (All-append (λ letter. letter < 26) k.fillers k.group are.fillers.within are.group.within) (letters-cipher_from day k.key piece);
       counted = refl;
-      read = record {
-        group = k.group;
-        enciphered = enciphered;
-        are = record { fillers = k.fillers; joined = append_assoc k.fillers k.group enciphered; two = are.fillers.count; three = are.group.count };
-        of_the_day = suits;
-        is = sym text ∙ ap (λ window. cipher_from day window enciphered) (sym key);
+      read = let placed = rotor_places k.fillers k.group enciphered are.fillers.count are.group.count in record {
+        of_the_day = rw (placed.0) suits;
+        is = sym text ∙ ap (λ window. cipher_from day window enciphered) (sym key) ∙ ap (cipher_from day (message_key day (indicator_of day k))) (sym placed.1);
       };
     }
 
@@ -284,14 +266,13 @@ pin_part_back s part parts k internal piece decipher legal are suits first fract
       within = All-append (λ letter. letter < 26) (indicators ++ enciphered) indicators
           (All-append (λ letter. letter < 26) indicators enciphered outer (letters-cipher_from day internal (filled piece))) outer;
       counted = refl;
-      read = record {
-        keys = k;
-        enciphered = enciphered;
-        are = record { joined = append_assoc indicators enciphered indicators; six = are.external.count; two = legal.list.count };
-        on_wheels = suits.0;
+      read = let placed = pin_places k k.external (list_letters day) enciphered refl are.external.count legal.list.count in record {
+        around = placed.around;
+        on_wheels = subst (λ (x : PinKeys). IsWindow (sheet_key day) x.external) placed.keys suits.0;
+        listed = sym placed.listed;
         internal = internal;
-        first = first;
-        is = sym (decipher day internal (filled piece) legal inner);
+        first = subst (λ (x : PinKeys). IsInternalKey (enciphered_choice day x) internal) placed.keys first;
+        is = sym (decipher day internal (filled piece) legal inner) ∙ ap (cipher_from day internal) placed.text_is;
       };
     }
 

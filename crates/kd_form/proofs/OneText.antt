@@ -1,20 +1,18 @@
 -- A form becomes one text, or has one fault.
-use Rattle.std.proofs.Common.{◌≡◌, ◌≢◌, ℕ, ◌+◌, ◌-◌, ◌⊎◌, inl, inr, List, [], ◌∷◌, ◌++◌, length, get_or, drop, Result, Ok, Err, MatchResult, refl, sym, ap, subst, ◌∙◌, length-append, arith, All, IsTrue, slice_index, Option, Some, None, append-nil}
+use Rattle.std.proofs.Common.{◌≡◌, ◌≢◌, ℕ, ◌+◌, ◌-◌, ◌⊎◌, inl, inr, List, [], ◌∷◌, ◌++◌, length, Result, Ok, Err, MatchResult, refl, sym, ap, subst, ◌∙◌, length-append, arith, All, IsTrue, Option, Some, None, append-nil}
 use Rattle.kd_tables.specs.Text.{is_text_byte}
-use Rattle.kd_state.specs.SheetDay.{Day, AreOfADaysGroup}
+use Rattle.kd_state.specs.SheetDay.{Day}
 use Rattle.kd_state.specs.TwoCiphers.{sheet_key, IsWindow}
 use Rattle.kd_state.specs.Words.{TextsTellFirstParts, NumbersAreWords, IsFirstPart}
 use Rattle.kd_form.specs.declared.fault.FormFault.{FormFault}
 use Rattle.kd_form.specs.declared.fault.FormFault.TheVariants.{BadByte, BadHeading, CountWrong, PartOrder, KeyNotOnWheel, WrongGroup, IndicatorSpent, IndicatorsDiffer}
 use Rattle.kd_form.specs.declared.heading.Heading.{Heading}
 use Rattle.kd_form.specs.declared.heading.Indicator.{Indicator}
-use Rattle.kd_form.specs.declared.keys.PinKeys.{PinKeys}
 use Rattle.kd_form.specs.InternalKey.{IsInternalKey}
 use Rattle.kd_form.specs.Making.{cipher_from, list_letters, enciphered_choice}
 use Rattle.kd_form.specs.Sending.{letters_from, IsBadAt}
-use Rattle.kd_form.specs.Reading.{AreRotorLetters, message_key, IsRotorText, IsRotorFault, indicators_with, ArePinLetters, IsPinText, IsPinFault, InIndicators, InExternal, InList, InChoice, IsLettersText, IsLettersFault}
+use Rattle.kd_form.specs.Reading.{HasIndicatorsAround, keys_in, list_in, text_in, IsPinText, IsPinFault, InIndicators, InExternal, InList, InChoice, IsLettersText, IsLettersFault}
 use Rattle.kd_form.specs.Receiving.{HasHeading, IsExpected, IsPartRead, IsPartFault, InHeading, InNumber, InBody, IsEarlyFault, IsBodyFault}
-use Rattle.kd_form.proofs.Plain.{same_sized}
 use Rattle.kd_form.proofs.Received.{turn_at_start}
 use Rattle.kd_form.proofs.OneOrder.{IsCaught, only_this, only_either, only_found, only_judged, only_caught, one_internal_key, one_bad_byte, no_bad_byte, IsFound, IsJudged, IsOnly}
 use Rattle.kd_form.proofs.Headings.{one_heading, no_empty_heading, begins_there}
@@ -38,75 +36,30 @@ only_sought one laters = only_either (λ v w a b. a.1 ∙ sym b.1) (only_found o
 abbrev Answer : Type 0
 Answer = Result (List ℕ) FormFault
 
--- ---- the letters of a rotor machine's part
+-- ---- the letters of a part
 
-one_rotor_letters : (letters : List ℕ) (x y : List ℕ × List ℕ) → AreRotorLetters letters x.0 x.1 → AreRotorLetters letters y.0 y.1 → x ≡ y
-one_rotor_letters letters x y a b = grind (arith, same_sized)
-
--- refused for the group, or deciphered
-abbrev IsRotorAnswer : Day → ℕ → Indicator → List ℕ → Answer → Type 0
-IsRotorAnswer s part i letters =
-    IsFound (λ (x : List ℕ × List ℕ). AreRotorLetters letters x.0 x.1)
-    (λ x. IsJudged (AreOfADaysGroup s x.0) (Err (WrongGroup part)) (λ v. v ≡ Ok (cipher_from s (message_key s i) x.1)))
-
-rotor_answer : (s : Day) (part : ℕ) (i : Indicator) (letters : List ℕ) (v : Answer) → MatchResult v (IsRotorText s i letters) (IsRotorFault s part letters)
-    → IsRotorAnswer s part i letters v
-rotor_answer s part i letters (Ok text) a = ((a.group, a.enciphered), a.are, inr (a.of_the_day, ap Ok a.is))
-rotor_answer s part i letters (Err fault) a = ((a.group, a.enciphered), a.are, inl (a.other, ap Err a.is))
-
--- ---- the letters of a part on the Converter M-209
-
-ten_letters : (k : PinKeys) (list : List ℕ) → length k.external ≡ 6 → length list ≡ 2 → length (indicators_with k list) ≡ 10
-ten_letters k list six two = omega (arith, length-append k.external list)
-
--- letters between as many letters
-same_between : (first text last other more end : List ℕ) → length first ≡ 10 → length other ≡ 10 → length last ≡ 10 → length end ≡ 10
-    → first ++ (text ++ last) ≡ other ++ (more ++ end) → (first ≡ other) × (text ≡ more) × (last ≡ end)
-same_between first text last other more end front head back tail same = grind (arith, same_sized, length-append {A = ℕ})
-
-one_pin_letters : (letters : List ℕ) (x y : PinKeys × List ℕ × List ℕ) → ArePinLetters letters x.0 x.1 x.2 → ArePinLetters letters y.0 y.1 y.2 → x ≡ y
-one_pin_letters letters (k, list, text) (other, others, more) a b =
-    let ten = ten_letters k list a.six a.two in
-    let also = ten_letters other others b.six b.two in
-    let same = same_between (indicators_with k list) text (indicators_with k list) (indicators_with other others) more (indicators_with other others) ten also ten also
-    (sym a.joined ∙ b.joined) in
-    let behind = same_sized k.external other.external list others (a.six ∙ sym b.six) (ap (drop 2) same.0) in
-    λ i. (record { chosen = get_or (same.0 i) 0 0; external = behind.0 i }, behind.1 i, same.1 i)
-
--- letters whose indicators differ are no indicators around a text
-no_pin_letters : (letters first text last : List ℕ) → letters ≡ first ++ (text ++ last) → length first ≡ 10 → length last ≡ 10
-    → (first ≢ last) ⊎ (slice_index first 0 ≢ slice_index first 1) → (x : PinKeys × List ℕ × List ℕ) → ¬ (ArePinLetters letters x.0 x.1 x.2)
-no_pin_letters letters first text last joined front back differ x are =
-    let ten = ten_letters x.0 x.1 are.six are.two in
-    grind (arith, same_between first text last (indicators_with x.0 x.1) x.2 (indicators_with x.0 x.1) front ten back ten)
-
--- refused for the indicators, the external letters, the list or the chosen letter, or deciphered
+-- on the Converter M-209 refused for the indicators, the external letters, the list or the chosen letter, or deciphered
 abbrev IsPinAnswer : Day → ℕ → List ℕ → Answer → Type 0
 IsPinAnswer s part letters =
-    IsSought (λ (x : PinKeys × List ℕ × List ℕ). ArePinLetters letters x.0 x.1 x.2) (Err (IndicatorsDiffer part))
-    (λ x. IsJudged (IsWindow (sheet_key s) x.0.external) (Err KeyNotOnWheel) (IsJudged (x.1 ≡ list_letters s) (Err (WrongGroup part))
-    (IsSought (IsInternalKey (enciphered_choice s x.0)) (Err (IndicatorSpent part)) (λ internal v. v ≡ Ok (cipher_from s internal x.2)))))
+    IsJudged (HasIndicatorsAround letters) (Err (IndicatorsDiffer part)) (IsJudged (IsWindow (sheet_key s) (keys_in letters).external) (Err KeyNotOnWheel)
+    (IsJudged (list_in letters ≡ list_letters s) (Err (WrongGroup part)) (IsSought (IsInternalKey (enciphered_choice s (keys_in letters))) (Err (IndicatorSpent part))
+    (λ internal v. v ≡ Ok (cipher_from s internal (text_in letters))))))
 
 pin_answer : (s : Day) (part : ℕ) (letters : List ℕ) (v : Answer) → MatchResult v (IsPinText s letters) (IsPinFault s part letters) → IsPinAnswer s part letters v
-pin_answer s part letters (Ok text) a =
-    inr ((a.keys, list_letters s, a.enciphered), a.are, inr (a.on_wheels, inr (refl, inr (a.internal, a.first, ap Ok a.is))))
-pin_answer s part letters (Err fault) (InIndicators first text last joined front back differ is) =
-    inl (no_pin_letters letters first text last joined front back differ, ap Err is)
-pin_answer s part letters (Err fault) (InExternal k list text are off is) = inr ((k, list, text), are, inl (off, ap Err is))
-pin_answer s part letters (Err fault) (InList k list text are on other is) = inr ((k, list, text), are, inr (on, inl (other, ap Err is)))
-pin_answer s part letters (Err fault) (InChoice k text are on spent is) =
-    inr ((k, list_letters s, text), are, inr (on, inr (refl, inl (λ internal first. spent first.places internal first.picked, ap Err is))))
-
--- ---- the letters of every model
+pin_answer s part letters (Ok text) a = inr (a.around, inr (a.on_wheels, inr (a.listed, inr (a.internal, a.first, ap Ok a.is))))
+pin_answer s part letters (Err fault) (InIndicators off is) = inl (off, ap Err is)
+pin_answer s part letters (Err fault) (InExternal around off is) = inr (around, inl (off, ap Err is))
+pin_answer s part letters (Err fault) (InList around on other is) = inr (around, inr (on, inl (other, ap Err is)))
+pin_answer s part letters (Err fault) (InChoice around on listed spent is) =
+    inr (around, inr (on, inr (listed, inl (λ internal first. spent first.places internal first.picked, ap Err is))))
 
 abbrev IsLettersAnswer : Day → ℕ → Option Indicator → List ℕ → Answer → Type 0
 IsLettersAnswer s part i letters v = MatchResult v (IsLettersText s i letters) (IsLettersFault s part i letters)
 
 only_letters : (s : Day) (part : ℕ) (i : Option Indicator) (letters : List ℕ) → IsOnly (IsLettersAnswer s part i letters)
-only_letters s part (Some i) letters v w a b =
-    only_found (one_rotor_letters letters) (λ x. only_judged only_this) v w (rotor_answer s part i letters v a) (rotor_answer s part i letters w b)
+only_letters s part (Some i) letters v w a b = grind arith
 only_letters s part None letters v w a b =
-    only_sought (one_pin_letters letters) (λ x. only_judged (only_judged (only_sought (one_internal_key (enciphered_choice s x.0)) (λ internal. only_this)))) v w
+    only_judged (only_judged (only_judged (only_sought (one_internal_key (enciphered_choice s (keys_in letters))) (λ internal. only_this)))) v w
     (pin_answer s part letters v a) (pin_answer s part letters w b)
 
 -- ---- the part

@@ -11,6 +11,7 @@ use Rattle.kd_form.specs.OnTheKey.{IsKeyFault}
 use Rattle.kd_form.specs.Sending.{IsBadAt}
 use Rattle.kd_form.specs.SendStream.{orders}
 use Rattle.kd_form.specs.Streams.{Answers, AreWell, is_device, is_off_key}
+use Rattle.kd_form.specs.Typing.{texts}
 use Rattle.std.proofs.Math.Seq.{drop-append_seam}
 use Rattle.std.proofs.Math.ListN.{get_or-append}
 use Rattle.std.proofs.lemmas.Bool.{cases_lt}
@@ -40,6 +41,10 @@ order_told s source sink read text answer answers = grind arith
 pub form_told : (s : Day) (source sink : Port) (read text : List ℕ) (answer : Result (Unit {0}) FormFault) → Answers (form_message s) source sink read text answer
     → IsToldOf source sink answer
 form_told s source sink read text answer answers = grind arith
+
+pub text_told : (enciphers : List ℕ → List ℕ) (source sink : Port) (read text : List ℕ) (answer : Result (Unit {0}) FormFault)
+    → Answers (texts enciphers) source sink read text answer → IsToldOf source sink answer
+text_told enciphers source sink read text answer answers = grind arith
 
 pub off_key : (m : Parts) (s : Day) (source sink : Port) (fault : FormFault) → IsKeyFault m s fault → AreWell source sink → Fail source sink (is_device (Err fault))
 off_key m s source sink fault off well = grind arith

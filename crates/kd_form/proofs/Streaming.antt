@@ -1,5 +1,5 @@
 -- Bytes that are fed one after another, and reads that follow one another.
-use Rattle.std.proofs.Common.{[], ◌≡◌, ℕ, ◌+◌, ◌-◌, ◌≤◌, Bool, true, false, ◌||◌, List, ◌∷◌, ◌++◌, Option, Some, Result, Ok, Err, length, drop, IsTrue, refl, sym, ap, subst, ◌∙◌, append_assoc, append-nil, take-append-drop, length-append, arith}
+use Rattle.std.proofs.Common.{[], ◌≡◌, ℕ, ◌+◌, ◌-◌, ◌≤◌, ◌<◌, Bool, true, false, ◌||◌, List, ◌∷◌, ◌++◌, Option, Some, Result, Ok, Err, length, take, drop, IsTrue, refl, sym, ap, subst, ◌∙◌, append_assoc, append-nil, take-append-drop, length-append, length-drop, arith}
 use Rattle.std.specs.Io.{StartsWith}
 use Rattle.std.specs.Io.KnownBytes.{Appends, Consumes, Keeps, IsAtEnd}
 use Rattle.std.proofs.KnownBytes.{Consumes-nil, Consumes-kept, Consumes-trans, Appends-nil, Appends-trans, starts_with_rest}
@@ -10,8 +10,9 @@ use Rattle.kd_form.specs.declared.fault.FormFault.{FormFault}
 use Rattle.kd_form.specs.declared.fault.FormFault.TheVariants as faults
 use Rattle.kd_form.specs.declared.stream.stop.Stop.{Stop}
 use Rattle.kd_form.specs.declared.stream.stop.Stop.TheVariants as stops
-use Rattle.kd_form.specs.Streams.{Message, IsOpen, ByThen, ByTheEnd, Answers, Whole, Stands, AtEnd, TooLong, SourceFails, SinkFails, IsStreamed}
-use Rattle.kd_form.specs.StreamSteps.{Held, HasRoom, FedTo, IsFed, FeedsAll, EndsIn, ClosesAs, WritesWhole, IsRead, ReadsNext, fault_of, answer_to, stops_at_device}
+use Rattle.kd_form.specs.Streams.{Message, IsOpen, ByThen, ByTheEnd, Answers, Whole, Stands, AtEnd, TooLong, SourceFails, SinkFails, IsStreamed, FallsShort}
+use Rattle.kd_form.specs.StreamSteps.{Ends as MessageEnds}
+use Rattle.kd_form.specs.StreamSteps.{ClosesAt, Held, HasRoom, FedTo, IsFed, FeedsAll, EndsIn, ClosesAs, WritesWhole, IsRead, ReadsNext, fault_of, answer_to, stops_at_device}
 
 -- what is known of a port, in its order
 abbrev pub over : Option (List ℕ) → Option (List ℕ) → Bool → Bool → Port
@@ -36,12 +37,20 @@ starts_longer bytes more front starts =
     let rest = starts_with_rest bytes front starts in
     starts_with_of_append (bytes ++ more) front (drop (length front) bytes ++ more) (ap (λ l. l ++ more) rest ∙ append_assoc front (drop (length front) bytes) more)
 
+-- less of what was made was put, so less of what was due
+pub short_of : (text made : List ℕ) (count : ℕ) → count < length made → FallsShort (text ++ made) (text ++ take count made)
+short_of text made count less = record {
+  missing = drop count made;
+  some = λ none. omega (arith, less, ap length none, length-drop count made);
+  joined = ap (λ l. text ++ l) (sym (take-append-drop count made)) ∙ sym (append_assoc text (take count made) (drop count made));
+}
+
 -- ---- byte after byte
 
 -- what was made of a byte was put in part
 pub fed_in_part : (m : Message) (new : List ℕ → List ℕ → Type 0) (bytes text made : List ℕ) (took wrote : Option (List ℕ)) (d f : Bool)
     → Held m new bytes (text ++ made) → TakesFront took wrote made → IsFed m new bytes text (over took wrote d f) (Err stops.Device)
-fed_in_part m new bytes text made took wrote d f held part = grind (arith, all_of_it, starts_with_of_append, take-append-drop {A = ℕ}, append_assoc {A = ℕ})
+fed_in_part m new bytes text made took wrote d f held part = grind (arith, all_of_it, short_of)
 
 pub fed_none : (m : Message) (old : List ℕ → List ℕ → Type 0) (took : Option (List ℕ)) (d : Bool) → FeedsAll m old old [] (over took took d d) (Ok tt)
 fed_none m old took d bytes text held = grind (arith, Appends-nil, append-nil {A = ℕ})
@@ -143,6 +152,10 @@ pub SoFar-nil : (m : Message) (holds : List ℕ → List ℕ → Type 0) (had to
     → SoFar m holds (over had had a a) (over took took d d) 0
 SoFar-nil m holds had took a d held = grind (arith, Consumes-nil, Appends-nil)
 
+pub room_behind : (m : Message) (holds : List ℕ → List ℕ → Type 0) (source sink : Port) (count : ℕ) → SoFar m holds source sink count → HasRoom m holds 0
+room_behind m holds source sink count before =
+    record { bytes = before.read; text = before.text; held = before.held; within = omega (arith, before.counted, before.within) }
+
 -- the ports since an earlier time, since which they didn't fail
 answers_since : {m : Message} {had has next took taken wrote : Option (List ℕ)} {a b c d e f : Bool} {read text : List ℕ} {answer : Result (Unit {0}) FormFault}
     → b ≡ a → e ≡ d → Answers m (over has next b c) (over taken wrote e f) read text answer → Answers m (over had next a c) (over took wrote d f) read text answer
@@ -176,6 +189,15 @@ module _ (m : Message) (old new : List ℕ → List ℕ → Type 0) (had has nex
       }
 
 -- ---- the end
+
+-- what was left of a message was put in part
+pub closed_in_part : (m : Message) (old : List ℕ → List ℕ → Type 0) (made : List ℕ) (took wrote : Option (List ℕ)) (d f : Bool) (answer : Result (Unit {0}) FormFault)
+    → MessageEnds m old made answer → TakesFront took wrote made → ClosesAt m old (over took wrote d f) (Err stops.Device)
+closed_in_part m old made took wrote d f answer ends part bytes text held = record {
+  made = take part.0 made;
+  written = part.2;
+  ended = (text ++ made, answer, ends bytes text held, short_of text made part.0 part.1);
+}
 
 -- a whole message: what was fed of it stopped
 pub whole_stopped : (m : Message) (old new : List ℕ → List ℕ → Type 0) (bytes : List ℕ) (sink : Port) (stop : Stop) → Held m old [] []

@@ -7,7 +7,7 @@ use Rattle.kd_form.specs.declared.fault.FormFault.{FormFault}
 use Rattle.kd_form.specs.declared.fault.FormFault.TheVariants as faults
 use Rattle.kd_form.specs.declared.stream.stop.Stop.{Stop}
 use Rattle.kd_form.specs.declared.stream.stop.Stop.TheVariants.{Device, Refused}
-use Rattle.kd_form.specs.Streams.{Message, IsOpen, IsRefused, Closes, Answers}
+use Rattle.kd_form.specs.Streams.{Message, IsOpen, IsRefused, Closes, Answers, FallsShort}
 
 -- what a reader holds, and that nothing in the bytes is refused yet
 pub record Held (m : Message) (holds : List ℕ → List ℕ → Type 0) (bytes text : List ℕ) : Type 0 where
@@ -43,13 +43,13 @@ stops_at_device _ = false
 
 -- ---- bytes, one after another
 
--- a front of the text that was due by then
+-- less than the text that was due by then
 pub record IsFrontOf (m : Message) (bytes text : List ℕ) : Type 0 where
   pub front : List ℕ
   pub due : List ℕ
   pub of_bytes : StartsWith bytes front
   pub open_yet : IsOpen m front due
-  pub of_due : StartsWith due text
+  pub of_due : FallsShort due text
 
 -- the reader holds the bytes; or they are refused; or the sink failed
 abbrev pub FedTo : Message → (List ℕ → List ℕ → Type 0) → List ℕ → List ℕ → Result (Unit {0}) Stop → Type 0
@@ -68,11 +68,11 @@ FeedsAll m old new more sink answer = (bytes text : List ℕ) → Held m old byt
 
 -- ---- the end
 
--- the text was written whole, or a front of it where the sink failed
+-- the text was written whole, or less where the sink failed
 abbrev pub EndsIn : Message → List ℕ → List ℕ → Result (Unit {0}) Stop → Type 0
 EndsIn m bytes text (Ok _) = Closes m bytes text (Ok tt)
 EndsIn m bytes text (Err (Refused fault)) = Closes m bytes text (Err fault)
-EndsIn m bytes text (Err Device) = (due : List ℕ) × (answer : Result (Unit {0}) FormFault) × Closes m bytes due answer × StartsWith due text
+EndsIn m bytes text (Err Device) = (due : List ℕ) × (answer : Result (Unit {0}) FormFault) × Closes m bytes due answer × FallsShort due text
 
 pub record IsClosed (m : Message) (bytes text : List ℕ) (sink : Port) (answer : Result (Unit {0}) Stop) : Type 0 where
   pub made : List ℕ

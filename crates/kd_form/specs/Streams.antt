@@ -1,5 +1,5 @@
 -- Orders and forms that are read as they come: what is answered, and what was written by then.
-use Rattle.std.specs.Prelude.{◌≡◌, ℕ, ◌≤◌, Bool, true, false, List, [], ◌∷◌, ◌++◌, length, Option, None, Some, Result, Ok, Err, MatchResult}
+use Rattle.std.specs.Prelude.{◌≡◌, ◌≢◌, ℕ, ◌≤◌, Bool, true, false, List, [], ◌∷◌, ◌++◌, length, Option, None, Some, Result, Ok, Err, MatchResult}
 use Rattle.std.specs.Io.{StartsWith}
 use Rattle.std.specs.Io.KnownBytes.{Appends, Consumes, IsAtEnd}
 use Rattle.kd_tables.specs.Ports.{read_limit, Port, IsWell, FailsAlone}
@@ -44,9 +44,15 @@ pub data IsDue (m : Message) (source : Port) (read text : List ℕ) : Type 0 whe
 abbrev pub AreWell : Port → Port → Type 0
 AreWell source sink = IsWell source × IsWell sink
 
+-- the text is a front of what was due, and not the whole of it
+pub record FallsShort (due text : List ℕ) : Type 0 where
+  pub missing : List ℕ
+  pub some : missing ≢ []
+  pub joined : due ≡ text ++ missing
+
 -- What was read, no further than the limit, and what was written, by the answer: it was the whole message; a refusal stands,
 -- whatever follows; nothing stands, and the whole message is refused; or one byte more came than may; or a device failed, after
--- all that was due by then where it was the source, and after a front of what was due where it was the sink.
+-- all that was due by then where it was the source, and after less than what was due where it was the sink.
 pub data Answers (m : Message) (source sink : Port) (read text : List ℕ) (answer : Result (Unit {0}) FormFault) : Type 0 where
   Whole : length read ≤ read_limit → IsAtEnd source.has → m.becomes read text → AreWell source sink → answer ≡ Ok tt
       → Answers m source sink read text answer
@@ -59,7 +65,7 @@ pub data Answers (m : Message) (source sink : Port) (read text : List ℕ) (answ
       → AreWell source sink → answer ≡ Err ReadTooLong → Answers m source sink read text answer
   SourceFails : length read ≤ read_limit → IsOpen m read text → FailsAlone source sink → answer ≡ Err Device
       → Answers m source sink read text answer
-  SinkFails : (due : List ℕ) → length read ≤ read_limit → IsDue m source read due → StartsWith due text → FailsAlone sink source
+  SinkFails : (due : List ℕ) → length read ≤ read_limit → IsDue m source read due → FallsShort due text → FailsAlone sink source
       → answer ≡ Err Device → Answers m source sink read text answer
 
 -- The same of the bytes that a source had and has yet to give, and that a sink had taken and has taken.
@@ -88,8 +94,11 @@ pub record IsLeft (p : Port) : Type 0 where
   pub has : p.has ≡ p.had
   pub well : IsWell p
 
--- A machine that isn't ready and on the key is refused for that, and the ports are left. With one that is, the message is read and
--- written.
-pub data StreamsOnKey (m : Parts) (s : Day) (message : Message) (source sink : Port) (answer : Result (Unit {0}) FormFault) : Type 0 where
-  Off : (fault : FormFault) → IsKeyFault m s fault → answer ≡ Err fault → IsLeft source → IsLeft sink → StreamsOnKey m s message source sink answer
-  On : IsOnKey m s → IsStreamed message source sink answer → StreamsOnKey m s message source sink answer
+-- Where something is against it, the call is refused for that, and the ports are left. Else the message is read and written.
+pub data StreamsUnless (is_fault : FormFault → Type 0) (may : Type 0) (message : Message) (source sink : Port) (answer : Result (Unit {0}) FormFault) : Type 0 where
+  Off : (fault : FormFault) → is_fault fault → answer ≡ Err fault → IsLeft source → IsLeft sink → StreamsUnless is_fault may message source sink answer
+  On : may → IsStreamed message source sink answer → StreamsUnless is_fault may message source sink answer
+
+-- so it is for a machine that isn't ready and on the key
+abbrev pub StreamsOnKey : Parts → Day → Message → Port → Port → Result (Unit {0}) FormFault → Type 0
+StreamsOnKey m s message source sink answer = StreamsUnless (IsKeyFault m s) (IsOnKey m s) message source sink answer

@@ -177,11 +177,7 @@ fn heading_from(digit: u8) -> ArrayVec<u8, LINE>
     ensures { result.items ≡ codes "PART " ++ digit ∷ [] }
 {
     let mut line = ArrayVec::new();
-    line.push(b'P');
-    line.push(b'A');
-    line.push(b'R');
-    line.push(b'T');
-    line.push(b' ');
+    line.try_extend_from_slice(b"PART ").unwrap();
     line.push(digit);
     line
 }

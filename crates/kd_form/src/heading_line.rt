@@ -138,10 +138,7 @@ fn heading_of_words(day: &SheetDay, words: &[&[u8]]) -> Option<Heading>
 fn is_part(word: &[u8]) -> bool
     ensures { IsTrue result ↔ (word.now ≡ codes "PART") }
 {
-    match word {
-        b"PART" => true,
-        _ => false,
-    }
+    matches!(word, b"PART")
 }
 
 /// The heading of the line, if a part of the day can have it.

@@ -93,7 +93,7 @@ fn rotor_keys(slots: usize, letters: &[Letter]) -> RotorKeys
 }
 
 /// The keys with these letters on the Converter M-209.
-pub(crate) fn pin_keys(letters: &[Letter]) -> PinKeys
+fn pin_keys(letters: &[Letter]) -> PinKeys
     requires { AreLetters 7 letters.now }
     ensures letters { letters.now ≡ result.chosen ∷ result.external }
     ensures keys { ArePinKeys result }

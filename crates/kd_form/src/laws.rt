@@ -28,10 +28,7 @@ pub fn orders_have_one_answer()
 pub fn orders_have_an_answer(day: &SheetDay, order: &[u8])
     ensures { OrderIsAnswered day.now order.now }
 {
-    match judge::<OrderReader>(day, order) {
-        Ok(()) => {}
-        Err(_) => {}
-    }
+    let _answer = judge::<OrderReader>(day, order);
 }
 
 /// What an order is refused for whatever follows it, it is refused for with any bytes behind it.

@@ -1,4 +1,4 @@
-//! Orders and forms: what is to be sent, and the message form that it becomes.
+//! Messages that are read as they come: texts that are typed, orders that are sent, and the forms that they become.
 #![tactic(auto)]
 
 mod body;
@@ -23,7 +23,9 @@ mod sending;
 mod stream;
 mod suiting;
 mod text;
+mod typing;
 
 pub use fault::FormFault;
 pub use receiving::{receive, receive_stream};
 pub use sending::{send, send_stream};
+pub use typing::type_stream;

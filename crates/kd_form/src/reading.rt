@@ -3,14 +3,16 @@ ghost use Rattle.std.specs.Prelude.{◌≡◌, ◌+◌, ◌^◌, ◌<◌, ◌≤
 ghost use Rattle.std.specs.Prelude.{MatchResult};
 ghost use Rattle.kd_form.specs.Reading.{HasIndicator, IsLettersText, IsLettersFault, IsRotorText};
 ghost use Rattle.kd_form.specs.Reading.{IsRotorFault, IsPinText, IsPinFault};
+ghost use Rattle.kd_form.specs.Reading.{HasIndicatorsAround, keys_in};
 ghost use Rattle.kd_form.specs.KeyPatterns.{HasPins};
 ghost use Rattle.kd_form.specs.FormParts.{IsHeading, IsLetterCount};
 ghost use Rattle.kd_form.specs.Receiving.{IsBodyText, IsBodyFault};
 
-use super::cipher::{are_letters, enciphered, is_window};
+use super::cipher::{enciphered, is_window};
 use super::fault::FormFault;
 use super::heading::{Heading, Indicator};
-use super::key_line::{pin_keys, slots_of};
+use super::key_line::slots_of;
+use super::keys::PinKeys;
 use super::making::internal_key_of;
 use arrayvec::ArrayVec;
 use kd_state::SheetDay;
@@ -31,14 +33,12 @@ fn read_rotor_letters(
         (IsRotorFault day.now part letters.now) }
 {
     let _slots = indicator.key.len();
-    let (fillers, rest) = letters.split_at(2);
-    let (group, text) = rest.split_at(3);
-    let group = <[Letter; 3]>::try_from(group).unwrap();
+    let group = <[Letter; 3]>::try_from(&letters[2..5]).unwrap();
     if !day.has_group(group) {
         return Err(FormFault::WrongGroup(part));
     }
     let key = enciphered::<4>(day, indicator.start.as_slice(), indicator.key.as_slice());
-    Ok(enciphered(day, key.as_slice(), text))
+    Ok(enciphered(day, key.as_slice(), &letters[5..]))
 }
 
 /// Whether these are the same letters in the same order.
@@ -46,6 +46,24 @@ fn are_the_same(letters: &[Letter], others: &[Letter]) -> bool
     ensures { IsTrue result ↔ (letters.now ≡ others.now) }
 {
     letters == others
+}
+
+/// Whether the last ten letters are the first ten, of which the first two are the same.
+fn has_indicators_around(letters: &[Letter]) -> bool
+    requires { 20 ≤ length letters.now }
+    ensures { IsTrue result ↔ HasIndicatorsAround letters.now }
+{
+    are_the_same(&letters[..10], &letters[letters.len() - 10..]) && letters[0] == letters[1]
+}
+
+/// The keys in the indicators.
+fn keys_in(letters: &[Letter]) -> PinKeys
+    requires { 20 ≤ length letters.now }
+    ensures { result ≡ keys_in letters.now }
+{
+    let chosen = letters[1];
+    let external = <[Letter; 6]>::try_from(&letters[2..8]).unwrap();
+    PinKeys { chosen, external }
 }
 
 /// The letters of the text of a part on the Converter M-209.
@@ -61,25 +79,18 @@ fn read_pin_letters(
         (λ text. IsPinText day.now letters.now text.items)
         (IsPinFault day.now part letters.now) }
 {
-    let (first, rest) = letters.split_at(10);
-    let (text, last) = rest.split_at(rest.len() - 10);
-    if !are_the_same(first, last) {
+    if !has_indicators_around(letters) {
         return Err(FormFault::IndicatorsDiffer(part));
     }
-    let (twice, others) = first.split_at(1);
-    let (key, list) = others.split_at(7);
-    are_letters(key);
-    let keys = pin_keys(key);
-    if twice[0] != keys.chosen {
-        return Err(FormFault::IndicatorsDiffer(part));
-    }
+    let keys = keys_in(letters);
     if !is_window(day, &keys.external) {
         return Err(FormFault::KeyNotOnWheel);
     }
     let due = day.list().unwrap();
-    if !are_the_same(list, &due) {
+    if !are_the_same(&letters[8..10], &due) {
         return Err(FormFault::WrongGroup(part));
     }
+    let text = &letters[10..letters.len() - 10];
     match internal_key_of(day, &keys) {
         Some(internal) => Ok(enciphered(day, internal.as_slice(), text)),
         None => Err(FormFault::IndicatorSpent(part)),

@@ -8,6 +8,7 @@ ghost use Rattle.kd_form.specs.Streams.{StreamsOnKey, is_device, is_off_key};
 use super::fault::FormFault;
 use super::form_reader::FormReader;
 use super::sending::check_machine;
+use super::stream::reader::MessageReader;
 use super::stream::stream;
 use super::stream::whole::bytes_of;
 use kd_state::{Machine, SheetDay};
@@ -58,7 +59,7 @@ pub fn receive_stream<R: Source, W: Sink>(
         (port W.taken W.has_failed sink.old sink.new) (is_device result) }
 {
     match check_machine(machine, day) {
-        Ok(()) => stream::<FormReader, R, W>(day, source, sink),
+        Ok(()) => stream(day, FormReader::start(day), source, sink),
         Err(fault) => Err(fault),
     }
 }

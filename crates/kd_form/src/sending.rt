@@ -9,6 +9,7 @@ ghost use Rattle.kd_form.specs.OnTheKey.{IsOnKey, IsKeyFault, AnswersOnKey};
 
 use super::fault::FormFault;
 use super::order_reader::OrderReader;
+use super::stream::reader::MessageReader;
 use super::stream::stream;
 use super::stream::whole::bytes_of;
 use kd_state::{Machine, SheetDay};
@@ -57,7 +58,7 @@ pub fn send_stream<R: Source, W: Sink>(
         (port W.taken W.has_failed sink.old sink.new) (is_device result) }
 {
     match check_machine(machine, day) {
-        Ok(()) => stream::<OrderReader, R, W>(day, source, sink),
+        Ok(()) => stream(day, OrderReader::start(day), source, sink),
         Err(fault) => Err(fault),
     }
 }

@@ -1,6 +1,8 @@
-//! Messages that are read from a source as they come, and written to a sink part by part.
+//! Messages that are read from a source as they come, and written to a sink piece by piece.
+ghost use Rattle.std.specs.Prelude.{[]};
 ghost use Rattle.kd_tables.specs.Ports.{port};
 ghost use Rattle.kd_form.specs.Streams.{IsStreamed};
+ghost use Rattle.kd_form.specs.StreamSteps.{Held};
 
 pub(crate) mod piece;
 pub(crate) mod reader;
@@ -9,31 +11,31 @@ pub(crate) mod stop;
 pub(crate) mod whole;
 
 use super::fault::FormFault;
-use kd_state::SheetDay;
 use kd_tables::{READ_LIMIT, Sink, Source, is_at_end};
 use piece::{close, read_next};
-use reader::MessageReader;
+use reader::PieceReader;
 
-/// Reads a message from the source to its end, and writes what becomes of it, part by part.
-pub(crate) fn stream<M: MessageReader + Drop, R: Source, W: Sink>(
-    day: &SheetDay,
+/// Reads a message from the source to its end, on a day or on a machine, and writes what becomes of it as it comes.
+pub(crate) fn stream<On, M: PieceReader<On> + Drop, R: Source, W: Sink>(
+    on: &On,
+    mut reader: M,
     source: &mut R,
     sink: &mut W,
 ) -> Result<(), FormFault>
-    ensures { IsStreamed (M.message day.now) (port R.remaining R.has_failed source.old source.new)
+    requires { Held (M.message on.now) (M.holds on.now reader) [] [] }
+    ensures { IsStreamed (M.message on.now) (port R.remaining R.has_failed source.old source.new)
         (port W.taken W.has_failed sink.old sink.new) result }
 {
-    let mut reader = M::start(day);
     let mut read = 0;
     while read < READ_LIMIT {
-        match read_next(&mut reader, day, source, sink, READ_LIMIT - read) {
-            Ok(0) => return close(&mut reader, day, sink),
+        match read_next(&mut reader, on, source, sink, READ_LIMIT - read) {
+            Ok(0) => return close(&mut reader, on, sink),
             Ok(count) => read += count,
             Err(stop) => return Err(FormFault::from(stop)),
         }
     }
     match is_at_end(source) {
-        Ok(true) => close(&mut reader, day, sink),
+        Ok(true) => close(&mut reader, on, sink),
         Ok(false) => Err(FormFault::ReadTooLong),
         Err(_) => Err(FormFault::Device),
     }

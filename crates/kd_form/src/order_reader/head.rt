@@ -83,10 +83,7 @@ impl HeadReader {
 fn is_key_line(bytes: &[u8]) -> bool
     ensures { IsTrue result ↔ (slice_index bytes.now 0 ≡ 80) }
 {
-    match bytes {
-        [b'P', ..] => true,
-        _ => false,
-    }
+    matches!(bytes, [b'P', ..])
 }
 
 /// What the last byte of bytes is that are no line.

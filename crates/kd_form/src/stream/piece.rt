@@ -4,15 +4,12 @@ ghost use Rattle.kd_tables.specs.Ports.{port};
 ghost use Rattle.kd_form.specs.StreamSteps.{HasRoom, FeedsAll, ClosesAt, ClosesAs, ReadsNext};
 ghost use Rattle.kd_form.specs.StreamSteps.{stops_at_device};
 
-use super::reader::{Made, MessageReader};
+use super::reader::{Made, MessageReader, PIECE, PieceReader};
 use super::stop::Stop;
 use crate::fault::FormFault;
 use arrayvec::ArrayVec;
 use kd_state::SheetDay;
 use kd_tables::{Sink, Source, put_all};
-
-/// How many bytes are read at once, at most.
-const PIECE: usize = 4096;
 
 /// Feeds the bytes to the reader, and writes what is made of them.
 pub(crate) fn feed_all<M: MessageReader, W: Sink>(
@@ -57,6 +54,9 @@ fn feed_one<M: MessageReader, W: Sink>(
         Ok(()) => {}
         Err(fault) => return Err(Stop::Refused(fault)),
     }
+    if made.is_empty() {
+        return Ok(());
+    }
     match put_all(sink, made.as_slice()) {
         Ok(()) => {
             made.clear();
@@ -66,81 +66,82 @@ fn feed_one<M: MessageReader, W: Sink>(
     }
 }
 
-/// Writes what is left of the message at its end.
-pub(crate) fn finish<M: MessageReader, W: Sink>(
-    reader: &mut M,
-    day: &SheetDay,
-    sink: &mut W,
-) -> Result<(), Stop>
-    requires { HasRoom (M.message day.now) (M.holds day.now reader.old) 0 }
-    ensures ended { ClosesAt (M.message day.now) (M.holds day.now reader.old)
-        (port W.taken W.has_failed sink.old sink.new) result }
-    ensures failed { W.has_failed sink.new ≡ (W.has_failed sink.old || stops_at_device result) }
-{
-    let mut made: Made = ArrayVec::new();
-    let answer = reader.end(day, &mut made);
-    match (put_all(sink, made.as_slice()), answer) {
-        (Ok(()), Ok(())) => Ok(()),
-        (Ok(()), Err(fault)) => Err(Stop::Refused(fault)),
-        (Err(_), _) => Err(Stop::Device),
+impl<M: MessageReader> PieceReader<SheetDay> for M {
+    ghost message = { M.message };
+
+    ghost holds = { M.holds };
+
+    fn read<W: Sink>(&mut self, on: &SheetDay, bytes: &[u8], sink: &mut W) -> Result<(), Stop> {
+        feed_all(self, on, bytes, sink)
+    }
+
+    fn finish<W: Sink>(&mut self, on: &SheetDay, sink: &mut W) -> Result<(), Stop> {
+        let mut made: Made = ArrayVec::new();
+        let answer = self.end(on, &mut made);
+        match (put_all(sink, made.as_slice()), answer) {
+            (Ok(()), Ok(())) => Ok(()),
+            (Ok(()), Err(fault)) => Err(Stop::Refused(fault)),
+            (Err(_), _) => Err(Stop::Device),
+        }
     }
 }
 
-/// The same, with the fault that is answered.
-pub(crate) fn close<M: MessageReader, W: Sink>(
+/// Writes what is left of the message at its end, or tells the fault that is answered.
+pub(crate) fn close<On, M: PieceReader<On>, W: Sink>(
     reader: &mut M,
-    day: &SheetDay,
+    on: &On,
     sink: &mut W,
 ) -> Result<(), FormFault>
-    requires { HasRoom (M.message day.now) (M.holds day.now reader.old) 0 }
-    ensures { ClosesAs (M.message day.now) (M.holds day.now reader.old)
+    requires { HasRoom (M.message on.now) (M.holds on.now reader.old) 0 }
+    ensures { ClosesAs (M.message on.now) (M.holds on.now reader.old)
         (port W.taken W.has_failed sink.old sink.new) result }
 {
-    match finish(reader, day, sink) {
+    match reader.finish(on, sink) {
         Ok(()) => Ok(()),
         Err(stop) => Err(FormFault::from(stop)),
     }
 }
 
-/// Reads the next bytes, as many as there is room for at most, feeds them to the reader and writes what is made of them.
-/// There are none at the end of the source alone.
-pub(crate) fn read_next<M: MessageReader, R: Source, W: Sink>(
+/// Reads the next bytes, as many as there is room for at most, and writes what is made of them. There are none at the end of the
+/// source alone.
+pub(crate) fn read_next<On, M: PieceReader<On>, R: Source, W: Sink>(
     reader: &mut M,
-    day: &SheetDay,
+    on: &On,
     source: &mut R,
     sink: &mut W,
     room: usize,
 ) -> Result<usize, Stop>
     requires some { 0 < room }
-    requires room { HasRoom (M.message day.now) (M.holds day.now reader.old) room }
-    ensures { ReadsNext (M.message day.now)
-        (M.holds day.now reader.old) (M.holds day.now reader.new) room
+    requires room { HasRoom (M.message on.now) (M.holds on.now reader.old) room }
+    ensures { ReadsNext (M.message on.now)
+        (M.holds on.now reader.old) (M.holds on.now reader.new) room
         (port R.remaining R.has_failed source.old source.new)
         (port W.taken W.has_failed sink.old sink.new) result }
 {
     let mut buffer = [0; PIECE];
-    read_into(reader, day, source, sink, &mut buffer[..room.min(PIECE)])
+    read_into(reader, on, source, sink, &mut buffer[..room.min(PIECE)])
 }
 
 /// The same, through a buffer that has the room.
-fn read_into<M: MessageReader, R: Source, W: Sink>(
+fn read_into<On, M: PieceReader<On>, R: Source, W: Sink>(
     reader: &mut M,
-    day: &SheetDay,
+    on: &On,
     source: &mut R,
     sink: &mut W,
     buffer: &mut [u8],
 ) -> Result<usize, Stop>
     requires some { 0 < length buffer.now }
-    requires room { HasRoom (M.message day.now) (M.holds day.now reader.old) (length buffer.now) }
-    ensures { ReadsNext (M.message day.now)
-        (M.holds day.now reader.old) (M.holds day.now reader.new)
+    requires few { length buffer.now ≤ PIECE }
+    requires room { HasRoom (M.message on.now) (M.holds on.now reader.old) (length buffer.now) }
+    ensures { ReadsNext (M.message on.now)
+        (M.holds on.now reader.old) (M.holds on.now reader.new)
         (length buffer.old) (port R.remaining R.has_failed source.old source.new)
         (port W.taken W.has_failed sink.old sink.new) result }
 {
     let Ok(count) = source.get(buffer) else {
         return Err(Stop::Device);
     };
-    match feed_all(reader, day, &buffer[..count], sink) {
+    match reader.read(on, &buffer[..count], sink) {
         Ok(()) => Ok(count),
         Err(stop) => Err(stop),
     }

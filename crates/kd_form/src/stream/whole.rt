@@ -4,8 +4,8 @@ ghost use Rattle.kd_tables.specs.Ports.{port};
 ghost use Rattle.kd_form.specs.OnTheKey.{IsRefusal};
 ghost use Rattle.kd_form.specs.StreamSteps.{WritesWhole, HasText, stops_at_device};
 
-use super::piece::{feed_all, finish};
-use super::reader::MessageReader;
+use super::piece::feed_all;
+use super::reader::{MessageReader, PieceReader};
 use super::sinks::{Kept, Nowhere};
 use super::stop::Stop;
 use crate::fault::FormFault;
@@ -63,7 +63,7 @@ fn write_whole<M: MessageReader + Drop, W: Sink>(
     let mut reader = M::start(day);
     prove!(message.len() < 1 << 63);
     match feed_all(&mut reader, day, message, sink) {
-        Ok(()) => finish(&mut reader, day, sink),
+        Ok(()) => reader.finish(day, sink),
         Err(stop) => Err(stop),
     }
 }

@@ -1,4 +1,6 @@
 use Rattle.kd_desk.proofs.Days.{not_found, on_day}
+use Rattle.kd_desk.proofs.Receiving.{tell_of_orders}
+use Rattle.kd_desk.proofs.Streaming.{off_key, fails}
 use Rattle.kd_desk.proofs.run_receive.run_receive.Goals as goal
 
 pub returns-in_err-machine-clause-receives : goal.returns-in_err-machine-clause-receives
@@ -6,4 +8,16 @@ returns-in_err-machine-clause-receives g c =
     not_found _ _ _ _ c.from_residual.result _ c.in_err-machine.ensures.day c.from_residual.ensures.1
 
 pub returns-clause-receives : goal.returns-clause-receives
-returns-clause-receives g c = on_day _ _ _ _ _ _ _ c.in_ok-machine.ensures.day c.receive_form.ensures.receives
+returns-clause-receives g c =
+    let one = c.forms_have_one_answer.ensures in
+    on_day _ _ _ _ _ _ _ c.in_ok-machine.ensures.day (record {
+      streamed = record { told = c.receive_stream.result; so = c.receive_stream.ensures.streamed; answers = c.answer_to_message.ensures };
+      orders = tell_of_orders c.in_ok-machine.day c.model-legal_day.ensures.legal one.text one.never_both c.forms_stay_refused.ensures
+          c.forms_give_their_orders.ensures.letters c.forms_give_their_orders.ensures.back;
+    })
+
+pub returns-clause-untouched : goal.returns-clause-untouched
+returns-clause-untouched g c = λ before. c.receive_stream.ensures.untouched (off_key _ _ c.answer_to_message.ensures before)
+
+pub returns-clause-failed : goal.returns-clause-failed
+returns-clause-failed g c = fails _ _ _ _ c.answer_to_message.ensures c.receive_stream.ensures.failed

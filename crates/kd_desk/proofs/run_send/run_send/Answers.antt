@@ -1,4 +1,5 @@
 use Rattle.kd_desk.proofs.Days.{not_found, on_day}
+use Rattle.kd_desk.proofs.Streaming.{off_key, fails}
 use Rattle.kd_desk.proofs.run_send.run_send.Goals as goal
 
 pub returns-in_err-machine-clause-sends : goal.returns-in_err-machine-clause-sends
@@ -6,4 +7,12 @@ returns-in_err-machine-clause-sends g c =
     not_found _ _ _ _ c.from_residual.result _ c.in_err-machine.ensures.day c.from_residual.ensures.1
 
 pub returns-clause-sends : goal.returns-clause-sends
-returns-clause-sends g c = on_day _ _ _ _ _ _ _ c.in_ok-machine.ensures.day c.send_order.ensures.sends
+returns-clause-sends g c =
+    on_day _ _ _ _ _ _ _ c.in_ok-machine.ensures.day
+    (record { told = c.send_stream.result; so = c.send_stream.ensures.streamed; answers = c.answer_to_message.ensures })
+
+pub returns-clause-untouched : goal.returns-clause-untouched
+returns-clause-untouched g c = λ before. c.send_stream.ensures.untouched (off_key _ _ c.answer_to_message.ensures before)
+
+pub returns-clause-failed : goal.returns-clause-failed
+returns-clause-failed g c = fails _ _ _ _ c.answer_to_message.ensures c.send_stream.ensures.failed

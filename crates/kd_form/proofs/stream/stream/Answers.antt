@@ -1,9 +1,12 @@
 use Rattle.std.proofs.Common.{refl}
-use Rattle.kd_form.proofs.Streaming.{SoFar-nil, SoFar-read, SoFar-ended, IsStreamed-stopped, IsStreamed-closed, IsStreamed-too_long}
+use Rattle.kd_form.proofs.Streaming.{SoFar-nil, room_behind, SoFar-read, SoFar-ended, IsStreamed-stopped, IsStreamed-closed, IsStreamed-too_long}
 use Rattle.kd_form.proofs.stream.stream.Goals as goal
 
 pub loop-read-init : goal.loop-read-init
-loop-read-init g c = SoFar-nil _ _ _ _ _ _ c.start-reader.ensures
+loop-read-init g c = SoFar-nil _ _ _ _ _ _ c.requires
+
+pub close-requires : goal.close-requires
+close-requires g c = room_behind _ _ _ _ _ (SoFar-read _ _ _ _ _ _ _ _ _ _ _ _ _ _ _ _ _ c.loop-read.invariant refl _ c.in-Ok-eq0.ensures).0
 
 pub returns-in-Ok-eq0 : goal.returns-in-Ok-eq0
 returns-in-Ok-eq0 g c =

@@ -1,0 +1,34 @@
+use Rattle.std.proofs.Common.{ap, refl, sym, ◌∙◌}
+use Rattle.kd_desk.specs.CommandLine.{with_action_opened}
+use Rattle.kd_desk.specs.Files.{opened}
+use Rattle.kd_desk.specs.declared.command.Action.TheVariants as actions
+use Rattle.kd_desk.proofs.Failing.{sink_fails}
+use Rattle.kd_desk.proofs.Runs.{nothing_left, command_done}
+use Rattle.kd_desk.proofs.program.carry_out.Goals as goal
+
+pub returns-in-Type-clause-does : goal.returns-in-Type-clause-does
+returns-in-Type-clause-does g c =
+    let run = c.run_type.ensures in
+    command_done _ _ _ _ c.as_slice-machine.result.now _ actions.Type c.as_slice-machine.ensures
+    (ap (with_action_opened (opened g.O.Source.remaining g.O.Source.has_failed)) c.in-Type.is)
+    (record {
+      left = nothing_left;
+      told = c.run_type.result;
+      does = record { refused = run.refused; typed = run.typed };
+      answers = c.after.ensures;
+    })
+
+pub returns-in-Apply-clause-does : goal.returns-in-Apply-clause-does
+returns-in-Apply-clause-does g c =
+    let run = c.run_apply.ensures in
+    command_done _ _ _ _ c.as_slice-machine.result.now _ (actions.Apply c.as_slice.result.now) c.as_slice-machine.ensures
+    (ap (with_action_opened (opened g.O.Source.remaining g.O.Source.has_failed)) c.in-Apply.is ∙ ap (λ list. actions.Apply list) (sym c.as_slice.ensures))
+    (record {
+      left = nothing_left;
+      told = c.run_apply.result;
+      does = (record { refused = run.refused; applied = run.applied }, record { has = refl; well = refl });
+      answers = c.after-in-Apply.ensures;
+    })
+
+pub returns-clause-failed : goal.returns-clause-failed
+returns-clause-failed g c = sink_fails _ _ _ refl c.carry_task.ensures.failed

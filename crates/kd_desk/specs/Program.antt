@@ -1,0 +1,151 @@
+-- What the program does: the command that its words say, on the files that they name.
+use Rattle.std.specs.Prelude.{◌≡◌, ◌⊎◌, ℕ, Bool, true, false, List, ◌++◌, take, Option, None, Some, IfSome, Result, Ok, Err, IfOk, IfErr, IsTrue}
+use Rattle.kd_sheet.specs.declared.fault.SheetFault.TheVariants.{NoMemory}
+use Rattle.kd_sheet.specs.MachineFile.{machine_of}
+use Rattle.kd_state.specs.declared.machine.parts.Parts.{Parts}
+use Rattle.kd_state.specs.SheetDay.{Day}
+use Rattle.kd_desk.specs.CommandLine.{Named, NamedAction, NamedTask, with_opened, with_task_opened, opened_by, task_opened}
+use Rattle.kd_desk.specs.declared.command.Command.{Command}
+use Rattle.kd_desk.specs.declared.command.Action.{Action}
+use Rattle.kd_desk.specs.declared.command.Action.TheVariants as actions
+use Rattle.kd_desk.specs.declared.command.Task.{Task}
+use Rattle.kd_desk.specs.declared.command.Task.TheVariants as tasks
+use Rattle.kd_desk.specs.declared.command.Way.TheVariants.{Send, Receive}
+use Rattle.kd_desk.specs.declared.fault.DeskFault.{DeskFault}
+use Rattle.kd_desk.specs.declared.fault.DeskFault.TheVariants.{File}
+use Rattle.kd_desk.specs.declared.files.fault.FileFault.{FileFault}
+use Rattle.kd_desk.specs.declared.files.fault.FileFault.TheVariants as files
+use Rattle.kd_desk.specs.declared.stop.Stop.{Stop}
+use Rattle.kd_desk.specs.declared.stop.Stop.TheVariants.{Usage, Unread, ReadFailed, Refused}
+use Rattle.kd_desk.specs.Files.{Opened, content_of, opening_of}
+use Rattle.kd_desk.specs.Stops.{stop_after}
+use Rattle.kd_tables.specs.Ports.{Port}
+use Rattle.kd_form.specs.Streams.{IsLeft}
+use Rattle.kd_desk.specs.Messages.{Types, Sends, Receives}
+use Rattle.kd_desk.specs.OnDay.{OnDay}
+use Rattle.kd_desk.specs.RunApply.{Applies}
+use Rattle.kd_desk.specs.RunCard.{Prints}
+use Rattle.kd_desk.specs.RunCheck.{Checks}
+use Rattle.kd_desk.specs.RunSteps.{LacksMemory, AnswersFault, is_refused_before, is_device}
+
+-- a command with what is known of its files: the bytes of those that are read whole
+abbrev pub KnownTask : Type 0
+KnownTask = Task (List ℕ) Opened
+
+abbrev pub KnownAction : Type 0
+KnownAction = Action (List ℕ) Opened
+
+abbrev pub KnownCommand : Type 0
+KnownCommand = Command (List ℕ) Opened
+
+-- what a file gives goes into what is made of it, or its fault stands for it
+abbrev pub with_file : {F X : Type 0} → Result F FileFault → (F → Result X FileFault) → Result X FileFault
+with_file (Ok file) made = made file
+with_file (Err fault) made = Err fault
+
+-- a command with what its files' names stand for, or the fault of the first that can't be had, in the order of the words
+abbrev pub task_over : (List ℕ → Option (List ℕ)) → NamedTask → Result KnownTask FileFault
+task_over held tasks.Card = Ok tasks.Card
+task_over held (tasks.Check card) = with_file (content_of (held card)) (λ bytes. Ok (tasks.Check bytes))
+task_over held (tasks.Message way file) = with_file (opening_of (held file)) (λ known. Ok (tasks.Message way known))
+
+abbrev pub action_over : (List ℕ → Option (List ℕ)) → NamedAction → Result KnownAction FileFault
+action_over held actions.Type = Ok actions.Type
+action_over held (actions.Apply list) = with_file (content_of (held list)) (λ bytes. Ok (actions.Apply bytes))
+action_over held (actions.OnDay sheet day task) =
+    with_file (content_of (held sheet)) (λ bytes. with_file (task_over held task) (λ t. Ok (actions.OnDay bytes day t)))
+
+abbrev pub command_over : (List ℕ → Option (List ℕ)) → Named → Result KnownCommand FileFault
+command_over held command =
+    with_file (content_of (held command.machine))
+    (λ bytes. with_file (action_over held command.action) (λ a. Ok (record { machine = bytes; action = a })))
+
+-- The names behind the old ones are the first of these, each once and in their order; they are all, where this is so.
+pub record AskFor (names old new : List (List ℕ)) (all : Bool) : Type 0 where
+  pub number : ℕ
+  pub asked : new ≡ old ++ take number names
+  pub whole : IsTrue all → new ≡ old ++ names
+
+-- a text was typed on the machine of a machine file, or the call was refused for the file
+pub record TypesOn (machine : List ℕ) (source sink : Port) (answer : Result (Unit {0}) DeskFault) : Type 0 where
+  pub refused : IfErr (machine_of machine) (λ fault. AnswersFault answer (File fault))
+  pub typed : IfOk (machine_of machine) (λ m. Types m source sink answer ⊎ LacksMemory answer)
+
+-- settings were carried out on the machine of a machine file, or the call was refused for the file
+pub record AppliesTo (machine list : List ℕ) (sink : Port) (answer : Result (Unit {0}) DeskFault) : Type 0 where
+  pub refused : IfErr (machine_of machine) (λ fault. AnswersFault answer (File fault))
+  pub applied : IfOk (machine_of machine) (λ m. Applies m list sink answer ⊎ LacksMemory answer)
+
+-- what a task does with a machine and a day: a message's file is read as a source is
+abbrev pub DoesTask : Task (List ℕ) Port → ℕ → Port → Result (Unit {0}) DeskFault → Parts → Day → Type 0
+DoesTask tasks.Card number sink answer m s = Prints m s number sink answer
+DoesTask (tasks.Check card) number sink answer m s = Checks m s number card sink answer
+DoesTask (tasks.Message Send order) number sink answer m s = Sends m s order sink answer
+DoesTask (tasks.Message Receive form) number sink answer m s = Receives m s form sink answer
+
+-- what is done with the machine of a machine file: only typing looks at the source
+abbrev pub DoesAction : List ℕ → Action (List ℕ) Port → Port → Port → Result (Unit {0}) DeskFault → Type 0
+DoesAction machine actions.Type source sink answer = TypesOn machine source sink answer
+DoesAction machine (actions.Apply list) source sink answer = AppliesTo machine list sink answer × IsLeft source
+DoesAction machine (actions.OnDay sheet day task) source sink answer =
+    OnDay machine sheet day (DoesTask task day sink answer) answer × IsLeft source
+
+-- what a command does, with the bytes of its files
+abbrev pub Does : Command (List ℕ) Port → Port → Port → Result (Unit {0}) DeskFault → Type 0
+Does command source sink answer = DoesAction command.machine command.action source sink answer
+
+-- a file that was opened, from what was known of it before to what is known after
+abbrev pub read_to : Opened → Opened → Port
+read_to left file = record { had = file.bytes; has = left.bytes; had_failed = file.failed; has_failed = left.failed }
+
+-- whether a read of the file failed, where one is opened
+abbrev pub has_file_failed : Option Opened → Opened → Bool
+has_file_failed None left = false
+has_file_failed (Some file) left = left.failed
+
+-- no read of the file has failed yet, where one is opened
+abbrev pub IsUnfailed : {O : Type 0} → (O → Bool) → Option O → Type 0
+IsUnfailed failed file = IfSome file (λ f. failed f ≡ false)
+
+-- memory ran out, over the words or a file's bytes, or as a file was read
+abbrev pub StopsForMemory : Result (Unit {0}) Stop → Type 0
+StopsForMemory answer = (answer ≡ Err (Refused (File NoMemory))) ⊎ (answer ≡ Err (Unread files.NoMemory))
+
+-- A command was carried out, and what it answered stops the program, or ends it well. Of a file that it opened, this is left.
+pub record IsDone (command : KnownCommand) (source sink : Port) (answer : Result (Unit {0}) Stop) : Type 0 where
+  pub left : Opened
+  pub told : Result (Unit {0}) DeskFault
+  pub does : Does (with_opened (read_to left) command) source sink told
+  pub answers : answer ≡ stop_after (has_file_failed (opened_by command) left) told
+
+-- the same of a task, with a machine file and a day of a sheet
+pub record IsTaskDone (machine sheet : List ℕ) (number : ℕ) (task : KnownTask) (sink : Port) (answer : Result (Unit {0}) Stop) : Type 0 where
+  pub left : Opened
+  pub told : Result (Unit {0}) DeskFault
+  pub does : OnDay machine sheet number (DoesTask (with_task_opened (read_to left) task) number sink told) told
+  pub answers : answer ≡ stop_after (has_file_failed (task_opened task) left) told
+
+-- A command was carried out, or it was refused for a file that can't be had; or memory ran out.
+abbrev pub CarriesOut : Result KnownCommand FileFault → Port → Port → Result (Unit {0}) Stop → Type 0
+CarriesOut (Ok command) source sink answer = IsDone command source sink answer ⊎ StopsForMemory answer
+CarriesOut (Err fault) source sink answer = (answer ≡ Err (Unread fault)) ⊎ StopsForMemory answer
+
+-- whether the program stopped before it read a text or wrote anything
+abbrev pub is_stopped_before : Result (Unit {0}) Stop → Bool
+is_stopped_before (Ok _) = false
+is_stopped_before (Err Usage) = true
+is_stopped_before (Err (Unread _)) = true
+is_stopped_before (Err ReadFailed) = false
+is_stopped_before (Err (Refused fault)) = is_refused_before (Err fault)
+
+-- whether the program stopped at a standard input or output that failed
+abbrev pub is_stopped_by_port : Result (Unit {0}) Stop → Bool
+is_stopped_by_port (Err (Refused fault)) = is_device (Err fault)
+is_stopped_by_port _ = false
+
+-- whether all files of a command were had, and memory was found for the words
+abbrev pub has_read : Result (Unit {0}) Stop → Bool
+has_read (Err Usage) = false
+has_read (Err (Unread _)) = false
+has_read (Err (Refused (File NoMemory))) = false
+has_read _ = true

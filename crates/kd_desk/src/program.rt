@@ -1,0 +1,215 @@
+//! The program, from its words to its bytes.
+ghost use Rattle.std.specs.Prelude.{◌≡◌, ◌≤◌, ◌⊎◌, ◌||◌, [], false, map, length, Err, IfSome, IfOk, IsTrue, is_ok};
+ghost use Rattle.kd_desk.specs.CommandLine.{named, action_named, task_named, files_of, action_files, task_files};
+ghost use Rattle.kd_desk.specs.CommandLine.{with_opened, with_action_opened, with_task_opened, opened_by, action_opened, task_opened};
+ghost use Rattle.kd_desk.specs.CommandLine.{Says, SaysNothing};
+ghost use Rattle.kd_desk.specs.Program.{command_over, action_over, task_over, AskFor, CarriesOut, DoesTask, IsDone, IsTaskDone};
+ghost use Rattle.kd_desk.specs.Program.{StopsForMemory, IsUnfailed, has_read, is_stopped_before, is_stopped_by_port};
+ghost use Rattle.kd_desk.specs.Files.{Gives, IsReading, opened};
+ghost use Rattle.kd_desk.specs.OnDay.{OnDay};
+ghost use Rattle.kd_tables.specs.Ports.{Fail, port};
+ghost use Rattle.kd_desk.specs.RunSteps.{is_device, is_refused_before};
+
+use crate::command::{Action, Command, Named, NamedAction, Task, Way, parse_words};
+use crate::fault::DeskFault;
+use crate::files::{Content, FileFault, Files};
+use crate::run_apply::run_apply;
+use crate::run_card::run_card;
+use crate::run_check::run_check;
+use crate::run_receive::run_receive;
+use crate::run_send::run_send;
+use crate::run_type::run_type;
+use crate::stop::Stop;
+use kd_tables::{Sink, Source};
+use std::alloc::Global;
+use std::convert::AsStr;
+
+/// Carries out the command that the program's words say, the program's own name first, on the files that they name.
+///
+/// Words that say no command are `Usage`. The files are taken in the order of the words, each once: an order and a form
+/// are opened, every other file is read whole before the next. The first that can't be had is `Unread`; then nothing is read
+/// from the source or written to the sink. An order or a form is read as the command is carried out, and where such a read
+/// fails, that is `ReadFailed`.
+pub fn run_desk<'n, S: AsStr, F: Files<'n>, R: Source, W: Sink>(
+    alloc: Global,
+    words: &'n [S],
+    files: &mut F,
+    source: &mut R,
+    sink: &mut W,
+) -> Result<(), Stop>
+    requires { F.asked files.old ≡ [] }
+    ensures carried { (command : _) → Says (map S.text words.entry.now) command
+        → IfSome (F.known files.old) (λ held. CarriesOut (command_over held command)
+        (port R.remaining R.has_failed source.old source.new)
+        (port W.taken W.has_failed sink.old sink.new) result) }
+    ensures asked { (command : _) → Says (map S.text words.entry.now) command
+        → AskFor (files_of command) (F.asked files.old) (F.asked files.new) (has_read result) }
+    ensures usage { result ≡ Err Stop.Usage → SaysNothing (map S.text words.entry.now) }
+    ensures other_words { SaysNothing (map S.text words.entry.now)
+        → (result ≡ Err Stop.Usage) ⊎ StopsForMemory result }
+    ensures none_asked { SaysNothing (map S.text words.entry.now) → F.asked files.new ≡ [] }
+    ensures untouched { IsTrue (is_stopped_before result)
+        → (source.new ≡ source.old) × (sink.new ≡ sink.old) }
+    ensures failed { Fail (port R.remaining R.has_failed source.old source.new)
+        (port W.taken W.has_failed sink.old sink.new) (is_stopped_by_port result) }
+{
+    let command = parse_words(alloc, words)?;
+    let command = read_files(alloc, command, files)?;
+    carry_out(alloc, command, source, sink)
+}
+
+/// The command with what its files' names stand for. They are taken in the order of the words, each before the next; or why
+/// the first that can't be had is refused.
+fn read_files<'n, F: Files<'n>>(
+    alloc: Global,
+    command: Named<'n>,
+    files: &mut F,
+) -> Result<Command<Content, F::Opened>, FileFault>
+    requires { F.asked files.old ≡ [] }
+    ensures read { IfSome (F.known files.old) (λ held.
+        IsReading (command_over held (named command.entry))
+        (with_opened (opened F.Opened.remaining F.Opened.has_failed)) result) }
+    ensures fresh { IfOk result (λ c. IsUnfailed F.Opened.has_failed (opened_by c)) }
+    ensures asked { AskFor (files_of (named command.entry)) (F.asked files.old)
+        (F.asked files.new) (is_ok result) }
+{
+    let machine = files.read(alloc, command.machine)?;
+    let action = read_action(alloc, command.action, files)?;
+    Ok(Command { machine, action })
+}
+
+/// The same of what is done with a machine.
+fn read_action<'n, F: Files<'n>>(
+    alloc: Global,
+    action: NamedAction<'n>,
+    files: &mut F,
+) -> Result<Action<Content, F::Opened>, FileFault>
+    requires { length (F.asked files.old) ≤ 1 }
+    ensures read { IfSome (F.known files.old) (λ held.
+        IsReading (action_over held (action_named action.entry))
+        (with_action_opened (opened F.Opened.remaining F.Opened.has_failed)) result) }
+    ensures fresh { IfOk result (λ a. IsUnfailed F.Opened.has_failed (action_opened a)) }
+    ensures asked { AskFor (action_files (action_named action.entry)) (F.asked files.old)
+        (F.asked files.new) (is_ok result) }
+    ensures same { F.known files.new ≡ F.known files.old }
+{
+    match action {
+        Action::Type => Ok(Action::Type),
+        Action::Apply { list } => {
+            let list = files.read(alloc, list)?;
+            Ok(Action::Apply { list })
+        }
+        Action::OnDay { sheet, day, task } => {
+            let sheet = files.read(alloc, sheet)?;
+            let task = read_task(alloc, task, files)?;
+            Ok(Action::OnDay { sheet, day, task })
+        }
+    }
+}
+
+/// The same of what is done with a machine and a day.
+fn read_task<'n, F: Files<'n>>(
+    alloc: Global,
+    task: Task<&'n str, &'n str>,
+    files: &mut F,
+) -> Result<Task<Content, F::Opened>, FileFault>
+    requires { length (F.asked files.old) ≤ 2 }
+    ensures read { IfSome (F.known files.old) (λ held.
+        IsReading (task_over held (task_named task.entry))
+        (with_task_opened (opened F.Opened.remaining F.Opened.has_failed)) result) }
+    ensures fresh { IfOk result (λ t. IsUnfailed F.Opened.has_failed (task_opened t)) }
+    ensures asked { AskFor (task_files (task_named task.entry)) (F.asked files.old)
+        (F.asked files.new) (is_ok result) }
+    ensures same { F.known files.new ≡ F.known files.old }
+{
+    match task {
+        Task::Card => Ok(Task::Card),
+        Task::Check(card) => {
+            let card = files.read(alloc, card)?;
+            Ok(Task::Check(card))
+        }
+        Task::Message(way, file) => {
+            let file = files.open(file)?;
+            Ok(Task::Message(way, file))
+        }
+    }
+}
+
+/// Carries out a command on the bytes of its files.
+fn carry_out<O: Source + Drop, R: Source, W: Sink>(
+    alloc: Global,
+    command: Command<Content, O>,
+    source: &mut R,
+    sink: &mut W,
+) -> Result<(), Stop>
+    requires { IsUnfailed O.has_failed (opened_by command) }
+    ensures does { IsDone (with_opened (opened O.remaining O.has_failed) command)
+        (port R.remaining R.has_failed source.old source.new)
+        (port W.taken W.has_failed sink.old sink.new) result }
+    ensures untouched { IsTrue (is_stopped_before result)
+        → (source.new ≡ source.old) × (sink.new ≡ sink.old) }
+    ensures failed { Fail (port R.remaining R.has_failed source.old source.new)
+        (port W.taken W.has_failed sink.old sink.new) (is_stopped_by_port result) }
+{
+    let Command { machine, action } = command;
+    let machine = machine.as_slice();
+    match action {
+        Action::Type => Stop::after(run_type(alloc, machine, source, sink)),
+        Action::Apply { list } => Stop::after(run_apply(alloc, machine, list.as_slice(), sink)),
+        Action::OnDay { sheet, day, task } => {
+            carry_task(alloc, machine, sheet.as_slice(), day, task, sink)
+        }
+    }
+}
+
+/// Does what is to be done with the machine and the day of this number.
+fn carry_task<O: Source + Drop, W: Sink>(
+    alloc: Global,
+    machine: &[u8],
+    sheet: &[u8],
+    number: u8,
+    task: Task<Content, O>,
+    sink: &mut W,
+) -> Result<(), Stop>
+    requires { IsUnfailed O.has_failed (task_opened task) }
+    ensures does { IsTaskDone machine.now sheet.now number
+        (with_task_opened (opened O.remaining O.has_failed) task)
+        (port W.taken W.has_failed sink.old sink.new) result }
+    ensures untouched { IsTrue (is_stopped_before result) → sink.new ≡ sink.old }
+    ensures failed { W.has_failed sink.new ≡ (W.has_failed sink.old || is_stopped_by_port result) }
+{
+    match task {
+        Task::Card => Stop::after(run_card(alloc, machine, sheet, number, sink)),
+        Task::Check(card) => {
+            Stop::after(run_check(alloc, machine, sheet, number, card.as_slice(), sink))
+        }
+        Task::Message(way, mut file) => {
+            let done = carry_message(alloc, machine, sheet, number, way, &mut file, sink);
+            Stop::after_file(done, file.failed())
+        }
+    }
+}
+
+/// Lets the message that the file gives go this way, on the machine and the day of this number.
+fn carry_message<O: Source, W: Sink>(
+    alloc: Global,
+    machine: &[u8],
+    sheet: &[u8],
+    number: u8,
+    way: Way,
+    file: &mut O,
+    sink: &mut W,
+) -> Result<(), DeskFault>
+    ensures does { OnDay machine.now sheet.now number
+        (DoesTask (Task.Message way (port O.remaining O.has_failed file.old file.new)) number
+        (port W.taken W.has_failed sink.old sink.new) result) result }
+    ensures untouched { IsTrue (is_refused_before result)
+        → (file.new ≡ file.old) × (sink.new ≡ sink.old) }
+    ensures failed { Fail (port O.remaining O.has_failed file.old file.new)
+        (port W.taken W.has_failed sink.old sink.new) (is_device result) }
+{
+    match way {
+        Way::Send => run_send(alloc, machine, sheet, number, file, sink),
+        Way::Receive => run_receive(alloc, machine, sheet, number, file, sink),
+    }
+}

@@ -1,0 +1,175 @@
+-- What a piece of a text lights up, and what was typed so far.
+use Rattle.std.proofs.Common.{◌≡◌, ℕ, ◌+◌, ◌≤◌, ◌<◌, Bool, List, [], ◌∷◌, ◌++◌, All, IsTrue, IsFalse, Option, option_to_list, Ok, Err, length, take, drop, get_or, suc, None, refl, sym, ap, subst, ◌∙◌, append_assoc, append-nil, take-append-drop, length-append, length-take-le, drop-cons, arith}
+use Rattle.std.proofs.lemmas.List.{map-append, take_all}
+use Rattle.std.proofs.lemmas.List.Elements.{All-nil, All-cons, All-head, All-tail, All-append, filter_map-append}
+use Rattle.std.proofs.lemmas.Bool.Decides.{nat_tests}
+use Rattle.std.proofs.Transfers.{starts_with_of_append}
+use Rattle.std.specs.Io.KnownBytes.{Appends}
+use Rattle.kd_tables.specs.Text.{is_text_byte, letters_text}
+use Rattle.kd_tables.specs.Writing.{TakesFront}
+use Rattle.kd_state.specs.declared.machine.parts.Parts.{Parts}
+use Rattle.kd_state.specs.Laws.{CipherInTurn, EngineIsTheMachine}
+use Rattle.kd_state.specs.TwoCiphers.{EngineKey, OfWheels, OfDrum, cipher, key_left, physical_key, physical_cipher}
+use Rattle.kd_form.specs.declared.fault.FormFault.TheVariants.{BadByte}
+use Rattle.kd_form.specs.declared.stream.stop.Stop.TheVariants as stops
+use Rattle.kd_form.specs.declared.typing.Typist.{Typist}
+use Rattle.kd_form.specs.Sending.{letter_of_byte, IsBadAt}
+use Rattle.kd_form.specs.SendStream.{IsAllowedFront}
+use Rattle.kd_form.specs.Streams.{IsRefused, Closes}
+use Rattle.kd_form.specs.StreamSteps.{Held, FeedsAll, ClosesAt}
+use Rattle.kd_form.specs.Typing.{typed_letters, cipher_text, texts, IsTextFault, Lights, IsAllowedTo, IsTypedTo}
+use Rattle.kd_form.proofs.OneOrder.{no_bad_byte}
+use Rattle.kd_form.proofs.TextLetters.{letters_first}
+use Rattle.kd_form.proofs.Streaming.{over, short_of}
+
+abbrev AreAllowed : List ℕ → Type 0
+AreAllowed bytes = All (λ b. IsTrue (is_text_byte b)) bytes
+
+-- ---- a piece
+
+pub typed-append : (first rest : List ℕ) → typed_letters (first ++ rest) ≡ typed_letters first ++ typed_letters rest
+typed-append first rest = filter_map-append (letter_of_byte None) first rest
+
+pub one_letter : (byte : ℕ) (found : Option ℕ) → found ≡ letter_of_byte None byte → option_to_list found ≡ typed_letters (byte ∷ [])
+one_letter byte found is = grind (arith, letters_first)
+
+-- what letters are written as is allowed, and the letters are typed
+pub written_typed : (letters : List ℕ) → All (λ letter. letter < 26) letters → AreAllowed (letters_text letters) × (typed_letters (letters_text letters) ≡ letters)
+written_typed [] are = (All-nil (λ b. IsTrue (is_text_byte b)), refl)
+written_typed (x ∷ xs) are =
+    let rest = written_typed xs (All-tail (λ letter. letter < 26) x xs are) in
+    let less : x < 26 = All-head (λ letter. letter < 26) x xs are in
+    (All-cons (λ b. IsTrue (is_text_byte b)) (x + 65) (letters_text xs) (grind (arith, nat_tests)) rest.0, grind (arith, nat_tests, rest.1))
+
+-- no letters light no lamp
+cipher_text-nil : (key : EngineKey) → cipher_text (cipher key) [] ≡ []
+cipher_text-nil (OfWheels key) = refl
+cipher_text-nil (OfDrum key) = refl
+
+-- what lights up behind a piece lights up on the key that the piece leaves
+Lights-behind : CipherInTurn → (key left : EngineKey) (bytes lamps more : List ℕ) → Lights key left bytes lamps
+    → cipher_text (cipher key) (bytes ++ more) ≡ lamps ++ cipher_text (cipher left) more
+Lights-behind in_turn key left bytes lamps more lights =
+    let head = typed_letters bytes in
+    let tail = typed_letters more in
+    ap (λ l. letters_text (cipher key l)) (typed-append bytes more)
+    ∙ ap letters_text (in_turn key head tail)
+    ∙ map-append (λ letter. letter + 65) (cipher key head) (cipher (key_left key (length head)) tail)
+    ∙ ap (λ l. l ++ cipher_text (cipher (key_left key (length head))) more) (sym lights.cipher)
+    ∙ ap (λ k. lamps ++ cipher_text (cipher k) more) (sym lights.after)
+
+-- ---- what was typed so far
+
+-- the first bad byte, behind a front
+bad_there : (front rest : List ℕ) (byte : ℕ) → AreAllowed front → IsFalse (is_text_byte byte) → IsBadAt (front ++ byte ∷ rest) (length front)
+bad_there front rest byte allowed bad = record { before = front; byte = byte; rest = rest; joined = refl; size = refl; allowed = allowed; bad = bad }
+
+whole_front : (text : List ℕ) → AreAllowed text → IsAllowedFront text text
+whole_front text allowed = grind (arith, append-nil {A = ℕ})
+
+front_there : (front rest : List ℕ) (byte : ℕ) → AreAllowed front → IsFalse (is_text_byte byte) → IsAllowedFront (front ++ byte ∷ rest) front
+front_there front rest byte allowed bad = grind arith
+
+-- the bytes behind a front and the byte there
+cut_at : (bytes : List ℕ) (n : ℕ) → n < length bytes → bytes ≡ take n bytes ++ get_or bytes n 0 ∷ drop (suc n) bytes
+cut_at bytes n inside = sym (take-append-drop n bytes) ∙ ap (λ l. take n bytes ++ l) (drop-cons bytes n 0 inside)
+
+module _ (m : Parts) where
+  text_is : (t : Typist) (bytes text : List ℕ) → IsTypedTo m t bytes text → text ≡ cipher_text (physical_cipher m) bytes
+  text_is t bytes text typed =
+      sym (append-nil text) ∙ ap (λ l. text ++ l) (sym (cipher_text-nil t.engine)) ∙ sym (typed.behind []) ∙ ap (cipher_text (physical_cipher m)) (append-nil bytes)
+
+  pub typed_held : (t : Typist) (bytes text : List ℕ) → IsTypedTo m t bytes text → Held (texts (physical_cipher m)) (IsTypedTo m t) bytes text
+  typed_held t bytes text typed = record {
+    is = typed;
+    open_yet = record {
+      unrefused = λ fault found. no_bad_byte bytes found.0 typed.allowed found.1;
+      written = (bytes, whole_front bytes typed.allowed, text_is t bytes text typed);
+    };
+  }
+
+  pub typed_none : EngineIsTheMachine → (t : Typist) → t.engine ≡ physical_key m → t.read ≡ 0 → Held (texts (physical_cipher m)) (IsTypedTo m t) [] []
+  typed_none law t key none = typed_held t [] [] (record {
+    counted = none;
+    allowed = All-nil (λ b. IsTrue (is_text_byte b));
+    behind = λ more. ap letters_text (sym (law m (typed_letters more)) ∙ ap (λ k. cipher k (typed_letters more)) (sym key));
+  })
+
+  -- the bytes behind the first bad one make no difference
+  refused_there : (t : Typist) (front rest text : List ℕ) (byte : ℕ) → IsTypedTo m t front text → IsFalse (is_text_byte byte)
+      → IsRefused (texts (physical_cipher m)) (front ++ byte ∷ rest) text (BadByte (length front + 1))
+  refused_there t front rest text byte typed bad =
+      let longer : (more : List ℕ) → (front ++ byte ∷ rest) ++ more ≡ front ++ byte ∷ (rest ++ more) = λ more. append_assoc front (byte ∷ rest) more in
+      let stands : (more : List ℕ) → IsTextFault ((front ++ byte ∷ rest) ++ more) (BadByte (length front + 1)) = λ more. subst (λ l. IsTextFault l (BadByte (length front + 1))) (sym (longer more)) (length front, bad_there front (rest ++ more) byte typed.allowed bad, refl) in
+      record {
+        stands = stands;
+        refused = stands;
+        written = λ more. (front, rw (longer more) (front_there front (rest ++ more) byte typed.allowed bad), text_is t front text typed);
+      }
+
+  -- ---- a piece more
+
+  module _ (in_turn : CipherInTurn) (old new : Typist) (more lamps : List ℕ) (n : ℕ) (front : IsAllowedTo more n)
+      (lights : Lights old.engine new.engine (take n more) lamps) (counted : new.read ≡ old.read + n) where
+    typed_on : (bytes text : List ℕ) → IsTypedTo m old bytes text → IsTypedTo m new (bytes ++ take n more) (text ++ lamps)
+    typed_on bytes text typed = record {
+      counted = omega (arith, counted, typed.counted, length-append bytes (take n more), length-take-le n more front.within);
+      allowed = All-append (λ b. IsTrue (is_text_byte b)) bytes (take n more) typed.allowed front.allowed;
+      behind = λ others. ap (cipher_text (physical_cipher m)) (append_assoc bytes (take n more) others)
+          ∙ typed.behind (take n more ++ others)
+          ∙ ap (λ l. text ++ l) (Lights-behind in_turn old.engine new.engine (take n more) lamps others lights)
+          ∙ sym (append_assoc text lamps (cipher_text (cipher new.engine) others));
+    }
+
+    pub read_whole : (took wrote : Option (List ℕ)) (d f : Bool) → Appends took wrote lamps → length more ≤ n
+        → FeedsAll (texts (physical_cipher m)) (IsTypedTo m old) (IsTypedTo m new) more (over took wrote d f) (Ok tt)
+    read_whole took wrote d f wrote_all all bytes text held = record {
+      made = lamps;
+      written = wrote_all;
+      fed = typed_held new (bytes ++ more) (text ++ lamps) (subst (λ l. IsTypedTo m new (bytes ++ l) (text ++ lamps)) (take_all n more all) (typed_on bytes text held.is));
+    }
+
+    pub read_refused : (took wrote : Option (List ℕ)) (d f : Bool) → Appends took wrote lamps → n < length more
+        → FeedsAll (texts (physical_cipher m)) (IsTypedTo m old) (IsTypedTo m new) more (over took wrote d f) (Err (stops.Refused (BadByte (new.read + 1))))
+    read_refused took wrote d f wrote_all inside bytes text held =
+        let typed = typed_on bytes text held.is in
+        let rest = drop (suc n) more in
+        let byte = get_or more n 0 in
+        let joined : (bytes ++ take n more) ++ byte ∷ rest ≡ bytes ++ more = append_assoc bytes (take n more) (byte ∷ rest) ∙ ap (λ l. bytes ++ l) (sym (cut_at more n inside)) in
+        record {
+          made = lamps;
+          written = wrote_all;
+          fed = rw (typed.counted, ← joined) (refused_there new (bytes ++ take n more) rest (text ++ lamps) byte typed (front.next inside));
+        }
+
+    pub read_in_part : (took wrote : Option (List ℕ)) (d f : Bool) → TakesFront took wrote lamps
+        → FeedsAll (texts (physical_cipher m)) (IsTypedTo m old) (IsTypedTo m new) more (over took wrote d f) (Err stops.Device)
+    read_in_part took wrote d f part bytes text held = record {
+      made = take part.0 lamps;
+      written = part.2;
+      fed = record {
+        front = bytes ++ take n more;
+        due = text ++ lamps;
+        of_bytes = starts_with_of_append (bytes ++ more) (bytes ++ take n more) (drop n more)
+            (ap (λ l. bytes ++ l) (sym (take-append-drop n more)) ∙ sym (append_assoc bytes (take n more) (drop n more)));
+        open_yet = (typed_held new (bytes ++ take n more) (text ++ lamps) (typed_on bytes text held.is)).open_yet;
+        of_due = short_of text lamps part.0 part.1;
+      };
+    }
+
+  -- ---- the end
+
+  ended_whole : (t : Typist) (bytes text : List ℕ) → IsTypedTo m t bytes text → Closes (texts (physical_cipher m)) bytes (text ++ 10 ∷ []) (Ok tt)
+  ended_whole t bytes text typed = (typed.allowed, ap (λ l. l ++ 10 ∷ []) (text_is t bytes text typed))
+
+  pub ends_whole : (t : Typist) (took wrote : Option (List ℕ)) (d f : Bool) → Appends took wrote (10 ∷ [])
+      → ClosesAt (texts (physical_cipher m)) (IsTypedTo m t) (over took wrote d f) (Ok tt)
+  ends_whole t took wrote d f all bytes text held = record { made = 10 ∷ []; written = all; ended = ended_whole t bytes text held.is }
+
+  pub ends_in_part : (t : Typist) (took wrote : Option (List ℕ)) (d f : Bool) → TakesFront took wrote (10 ∷ [])
+      → ClosesAt (texts (physical_cipher m)) (IsTypedTo m t) (over took wrote d f) (Err stops.Device)
+  ends_in_part t took wrote d f part bytes text held = record {
+    made = take part.0 (10 ∷ []);
+    written = part.2;
+    ended = (text ++ 10 ∷ [], Ok tt, ended_whole t bytes text held.is, short_of text (10 ∷ []) part.0 part.1);
+  }

@@ -1,0 +1,13 @@
+use Rattle.std.proofs.Common.{◌≡◌, ◌≤◌, take, All, IsTrue}
+use Rattle.kd_tables.specs.Text.{is_text_byte}
+use Rattle.arrayvec.specs.ArrayVec.{array_vec_len}
+use Rattle.kd_form.specs.Typing.{typed_letters}
+use Rattle.kd_form.proofs.typing.piece.letters_among.Given as goal
+
+-- the bytes so far are allowed, and their letters are there
+abbrev pub invariant-loop-place : goal.invariant-loop-place
+invariant-loop-place l = record {
+  allowed : All (λ b. IsTrue (is_text_byte b)) (take l.place l.bytes);
+  letters : l.letters.items ≡ typed_letters (take l.place l.bytes);
+  room : array_vec_len l.letters ≤ l.place;
+}

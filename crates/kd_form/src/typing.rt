@@ -1,0 +1,79 @@
+//! A text that is typed on a machine.
+ghost use Rattle.std.specs.Prelude.{◌≡◌, IsTrue};
+ghost use Rattle.kd_tables.specs.Ports.{Fail, port};
+ghost use Rattle.kd_form.specs.Streams.{is_device, is_off_key};
+ghost use Rattle.kd_form.specs.Typing.{TypesIfReady};
+
+mod piece;
+
+use super::fault::FormFault;
+use super::stream::reader::{PIECE, PieceReader};
+use super::stream::stop::Stop;
+use super::stream::stream;
+use arrayvec::ArrayVec;
+use kd_state::{Engine, Machine, laws};
+use kd_tables::{Sink, Source, put_all};
+use piece::type_piece;
+
+/// Types all that the source gives on the machine as it stands, and writes the lamps that light up, as capital letters, and LF.
+///
+/// `NotReady` comes first, and then nothing is read or written. The first byte that is not allowed is refused behind the lamps
+/// of the letters before it, whatever follows; that comes before `ReadTooLong`, and before `Device` where it is the source that
+/// fails. At most 1,048,576 bytes are read, and one more to see that there are more.
+pub fn type_stream<R: Source, W: Sink>(
+    machine: &Machine,
+    source: &mut R,
+    sink: &mut W,
+) -> Result<(), FormFault>
+    ensures streamed { TypesIfReady machine.now (port R.remaining R.has_failed source.old source.new)
+        (port W.taken W.has_failed sink.old sink.new) result }
+    ensures untouched { IsTrue (is_off_key result)
+        → (source.new ≡ source.old) × (sink.new ≡ sink.old) }
+    ensures failed { Fail (port R.remaining R.has_failed source.old source.new)
+        (port W.taken W.has_failed sink.old sink.new) (is_device result) }
+{
+    laws::engines_encipher_as_their_machines();
+    match machine.engine() {
+        Ok(engine) => stream(machine, Typist { engine, read: 0 }, source, sink),
+        Err(_) => Err(FormFault::NotReady),
+    }
+}
+
+/// What types a text.
+#[derive(Drop)]
+pub(crate) struct Typist {
+    engine: Engine,
+    /// How many bytes were typed.
+    read: usize,
+}
+
+impl PieceReader<Machine> for Typist {
+    ghost use Rattle.kd_state.specs.TwoCiphers.{physical_cipher};
+    ghost use Rattle.kd_form.specs.Typing.{texts, IsTypedTo};
+
+    ghost message = { λ machine. texts (physical_cipher machine) };
+
+    ghost holds = { IsTypedTo };
+
+    fn read<W: Sink>(&mut self, _on: &Machine, bytes: &[u8], sink: &mut W) -> Result<(), Stop> {
+        laws::pieces_are_enciphered_in_turn();
+        let mut lamps = ArrayVec::from([0; PIECE]);
+        let front = type_piece(&mut self.engine, bytes, &mut lamps);
+        self.read += front;
+        match put_all(sink, &lamps) {
+            Ok(()) => {}
+            Err(_) => return Err(Stop::Device),
+        }
+        if front < bytes.len() {
+            return Err(Stop::Refused(FormFault::BadByte(self.read + 1)));
+        }
+        Ok(())
+    }
+
+    fn finish<W: Sink>(&mut self, _on: &Machine, sink: &mut W) -> Result<(), Stop> {
+        match put_all(sink, b"\n") {
+            Ok(()) => Ok(()),
+            Err(_) => Err(Stop::Device),
+        }
+    }
+}

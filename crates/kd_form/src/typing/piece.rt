@@ -1,0 +1,90 @@
+ghost use Rattle.std.specs.Bool.{OnTrue};
+ghost use Rattle.std.specs.Prelude.{◌≡◌, All, ◌<◌, ◌≤◌, ◌+◌, ◌++◌, take, length, option_to_list};
+ghost use Rattle.arrayvec.specs.ArrayVec.{array_vec_len};
+ghost use Rattle.kd_tables.specs.Text.{letters_text};
+ghost use Rattle.kd_form.specs.Typing.{IsAllowedTo, Lights, typed_letters};
+
+use crate::stream::reader::PIECE;
+use crate::text::{is_text_byte, letter_of_byte};
+use arrayvec::ArrayVec;
+use kd_state::Engine;
+use kd_tables::Letter;
+
+/// Appends the letter, if there is one.
+fn push_letter(letters: &mut ArrayVec<Letter, PIECE>, letter: Option<Letter>)
+    requires { array_vec_len letters.old < PIECE }
+    ensures items { letters.new.items ≡ letters.old.items ++ option_to_list letter }
+    ensures room { array_vec_len letters.new ≤ array_vec_len letters.old + 1 }
+{
+    if let Some(letter) = letter {
+        letters.push(letter);
+    }
+}
+
+/// Reads bytes as capital letters, many at a time. False where one is something else; the letters then say nothing.
+fn read_letters(bytes: &[u8], letters: &mut [Letter]) -> bool
+    requires { length letters.old ≡ length bytes.now }
+    ensures read { OnTrue result (letters_text letters.new ≡ bytes.now) }
+    ensures within { OnTrue result (All (λ letter. letter < 26) letters.new) }
+{
+    let mut all = true;
+    for (place, byte) in bytes.iter().enumerate() {
+        let letter = Letter::from_byte(*byte).unwrap_or(Letter::A);
+        all &= letter.byte() == *byte;
+        letters[place] = letter;
+    }
+    all
+}
+
+/// Writes letters as capital letters, many at a time.
+fn write_letters(letters: &[Letter], bytes: &mut [u8])
+    requires { length bytes.old ≡ length letters.now }
+    ensures { bytes.new ≡ letters_text letters.now }
+{
+    for (place, letter) in letters.iter().enumerate() {
+        bytes[place] = letter.byte();
+    }
+}
+
+/// Leaves the letters among the bytes, up to the first byte that is not allowed, and answers how many bytes stand before that one.
+/// There is a place for each byte.
+fn letters_among(bytes: &[u8], letters: &mut ArrayVec<Letter, PIECE>) -> usize
+    requires few { length bytes.now ≤ PIECE }
+    requires places { array_vec_len letters.old ≡ length bytes.now }
+    ensures front { IsAllowedTo bytes.now result }
+    ensures letters { letters.new.items ≡ typed_letters (take result bytes.now) }
+{
+    // Most pieces have nothing but letters, and are read without a look at each byte by itself.
+    if read_letters(bytes, letters) {
+        return bytes.len();
+    }
+    letters.clear();
+    for (place, byte) in bytes.iter().enumerate() {
+        if !is_text_byte(*byte) {
+            return place;
+        }
+        push_letter(letters, letter_of_byte(&None, *byte));
+    }
+    bytes.len()
+}
+
+/// Presses the key of each letter among the bytes, up to the first byte that is not allowed, and answers how many bytes stand
+/// before that one. It leaves the lamps that light up, as capital letters.
+pub(super) fn type_piece(
+    engine: &mut Engine,
+    bytes: &[u8],
+    lamps: &mut ArrayVec<u8, PIECE>,
+) -> usize
+    requires few { length bytes.now ≤ PIECE }
+    requires places { array_vec_len lamps.old ≡ PIECE }
+    ensures front { IsAllowedTo bytes.now result }
+    ensures lights { Lights engine.old engine.new (take result bytes.now) lamps.new.items }
+{
+    let mut letters = ArrayVec::from([Letter::A; PIECE]);
+    letters.truncate(bytes.len());
+    let front = letters_among(bytes, &mut letters);
+    engine.run(&mut letters);
+    lamps.truncate(letters.len());
+    write_letters(&letters, lamps);
+    front
+}
