@@ -22,7 +22,7 @@ use Rattle.kd_sheet.specs.Sheet.{day_of}
 use Rattle.kd_sheet.specs.SheetFile.{sheet_of}
 use Rattle.kd_desk.specs.declared.fault.DeskFault.{DeskFault}
 use Rattle.kd_desk.specs.Laws.{TextsTellSettings, MonthsSetTheMachine}
-use Rattle.kd_desk.specs.Month.{Papers, taken, well, AreWritten, AreWrittenInTurn, SetTheMachine, SetTheMachineInTurn, HasDayOf, HasPapers, HasPapersInTurn}
+use Rattle.kd_desk.specs.Month.{Papers, taken, well, AreWritten, SetTheMachine, HasDayOf, HasPapers, HasPapersInTurn}
 use Rattle.kd_desk.specs.OnDay.{FindsDay, LackedMemory, NoMachine, NoSheet, NoDay, Found}
 use Rattle.kd_desk.specs.Ports.{WritesText}
 use Rattle.kd_desk.specs.RunApply.{Applies, NoSettings, RefusedLine, Carried}
