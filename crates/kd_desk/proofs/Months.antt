@@ -1,32 +1,42 @@
 -- The cards and the files of a month.
-use Rattle.std.proofs.Common.{◌≡◌, ℕ, suc, List, [], ◌∷◌, All, Ok, IsTrue, refl, sym, ap, ◌∙◌, subst, arith}
+use Rattle.std.proofs.Common.{◌≡◌, ◌⊎◌, ℕ, List, [], ◌∷◌, All, Option, Some, Result, Ok, Err, IfOk, MatchResult, IsTrue, inl, inr, refl, sym, ap, ◌∙◌, subst}
+use Rattle.std.proofs.lemmas.List.Elements.{All-tail}
+use Rattle.kd_tables.specs.declared.model.Model.{Model}
 use Rattle.kd_tables.specs.Ports.{Port}
 use Rattle.kd_state.specs.declared.machine.parts.Parts.{Parts}
 use Rattle.kd_state.specs.declared.setting.Setting.{Setting}
 use Rattle.kd_state.specs.Laws.{LeadsToOne}
-use Rattle.kd_state.specs.Machine.{IsMachine, model_of}
+use Rattle.kd_state.specs.Machine.{IsMachine}
 use Rattle.kd_state.specs.Setting.{Leads}
-use Rattle.kd_state.specs.SheetDay.{Day, IsLegalDay, day_model, day_number}
+use Rattle.kd_state.specs.SheetDay.{Day, IsLegalDay, day_number}
 use Rattle.kd_card.specs.declared.card.Card as declared
 use Rattle.kd_card.specs.declared.prices.PriceParts.{PriceParts}
 use Rattle.kd_card.specs.CardText.{IsCard}
 use Rattle.kd_plan.specs.Planned.{Plans}
 use Rattle.kd_prices.specs.Kinds.{IsByKind}
+use Rattle.kd_sheet.specs.declared.fault.SheetFault.{SheetFault}
 use Rattle.kd_sheet.specs.Laws.{WrittenFilesAreReadBack}
 use Rattle.kd_sheet.specs.MachineFile.{machine_of}
 use Rattle.kd_sheet.specs.MachineText.{machine_text}
+use Rattle.kd_sheet.specs.Sheet.{day_of}
+use Rattle.kd_sheet.specs.SheetFile.{sheet_of}
+use Rattle.kd_desk.specs.declared.fault.DeskFault.{DeskFault}
 use Rattle.kd_desk.specs.Laws.{TextsTellSettings, MonthsSetTheMachine}
-use Rattle.kd_desk.specs.Month.{Papers, taken, AreWritten, AreWrittenInTurn, SetTheMachine, SetTheMachineInTurn, HavePapers}
+use Rattle.kd_desk.specs.Month.{Papers, taken, well, AreWritten, SetTheMachine, HasDayOf, HasPapers, HasPapersInTurn}
+use Rattle.kd_desk.specs.OnDay.{FindsDay, LackedMemory, NoMachine, NoSheet, NoDay, Found}
 use Rattle.kd_desk.specs.Ports.{WritesText}
 use Rattle.kd_desk.specs.RunApply.{Applies, NoSettings, RefusedLine, Carried}
 use Rattle.kd_desk.specs.RunCard.{WritesCard, Prints, Different, Card}
+use Rattle.kd_desk.specs.RunSteps.{LacksMemory}
 use Rattle.kd_desk.specs.Settings.{begins_as_card, AreSettings, OfCard}
+use Rattle.kd_desk.proofs.Applying.{of_read}
+use Rattle.kd_desk.proofs.Days.{on_day}
 use Rattle.kd_desk.proofs.Printing.{Laws, whole}
 
 -- ---- whatever is written sets the machine
 
-card_printed : (m : Parts) (s : Day) (number : ℕ) (sink : Port) → Prints m s number sink (Ok tt)
-    → WritesCard m s number sink (Ok tt)
+card_printed : (m : Parts) (s : Day) (number : ℕ) (sink : Port) → Prints m s number sink well
+    → WritesCard m s number sink well
 card_printed m s number sink (Different other refused) = absurd (cc)
 card_printed m s number sink (Card writes) = writes
 
@@ -36,9 +46,9 @@ record IsCarried (m : Parts) (bytes : List ℕ) (sink : Port) : Type 0 where
   of_card : AreSettings bytes settings
   leads : Leads m settings n
   back : machine_of (machine_text n) ≡ Ok n
-  written : WritesText (machine_text n) sink (Ok tt)
+  written : WritesText (machine_text n) sink well
 
-carried : (m : Parts) (bytes : List ℕ) (sink : Port) → Applies m bytes sink (Ok tt) → IsCarried m bytes sink
+carried : (m : Parts) (bytes : List ℕ) (sink : Port) → Applies m bytes sink well → IsCarried m bytes sink
 carried m bytes sink (NoSettings fault is refused) = absurd (cc)
 carried m bytes sink (RefusedLine settings fault are first refused) = absurd (cc)
 carried m bytes sink (Carried settings n are leads back written) =
@@ -52,21 +62,63 @@ settings_of : (text : List ℕ) (day : ℕ) (settings : List Setting) (prices : 
     → AreSettings text settings
 settings_of text day settings prices card = OfCard (begins text day settings prices card) day prices card
 
-sets : TextsTellSettings → LeadsToOne → (file : List ℕ) (s : Day) (papers : Papers) → AreWritten file s papers
-    → SetTheMachine file s papers
-sets tell to_one file s papers are =
-    let card = card_printed are.m s (day_number s) (taken papers.card) are.prints in
-    let next = carried are.m papers.card (taken papers.file) are.applies in
+-- the machine and the day of the files
+record IsFound (file sheet : List ℕ) (number : ℕ) (does : Parts → Day → Type 0) : Type 0 where
+  m : Parts
+  of_file : machine_of file ≡ Ok m
+  month : List (Option Day)
+  of_sheet : sheet_of sheet ≡ Ok month
+  s : Day
+  of_month : day_of month number ≡ Some s
+  done : does m s
+
+found_on : (file sheet : List ℕ) (number : ℕ) (does : Parts → Day → Type 0) (found : Result (Parts × Day) DeskFault)
+    → FindsDay file sheet number found → MatchResult found (λ on. does on.0 on.1) (λ fault. well ≡ Err fault)
+    → IsFound file sheet number does
+found_on file sheet number does (Err fault) finds refused = absurd (cc)
+found_on file sheet number does (Ok on) (LackedMemory e) done = absurd (cc)
+found_on file sheet number does (Ok on) (NoMachine fault is e) done = absurd (cc)
+found_on file sheet number does (Ok on) (NoSheet m fault of_file is e) done = absurd (cc)
+found_on file sheet number does (Ok on) (NoDay m month of_file of_sheet is e) done = absurd (cc)
+found_on file sheet number does (Ok on) (Found m month s of_file of_sheet of_month e) done =
+    let same : on ≡ (m, s) = cc in
+    record {
+      m = m;
+      of_file = of_file;
+      month = month;
+      of_sheet = of_sheet;
+      s = s;
+      of_month = of_month;
+      done = subst (λ (on : Parts × Day). does on.0 on.1) same done;
+    }
+
+applied : (m : Parts) (bytes : List ℕ) (sink : Port) → Applies m bytes sink well ⊎ LacksMemory well → Applies m bytes sink well
+applied m bytes sink (inl applies) = applies
+applied m bytes sink (inr lacks) = absurd (cc)
+
+sets : TextsTellSettings → LeadsToOne → (file sheet : List ℕ) (number : ℕ) (papers : Papers)
+    → AreWritten file sheet number papers → SetTheMachine file sheet number papers
+sets tell to_one file sheet number papers are =
+    let on = found_on file sheet number _ are.printed.found are.printed.finds are.printed.done in
+    let card = card_printed on.m on.s number (taken papers.card) on.done in
+    let applies : Applies on.m papers.card (taken papers.file) well ⊎ LacksMemory well =
+    subst (λ (r : Result Parts SheetFault). IfOk r (λ m. Applies m papers.card (taken papers.file) well ⊎ LacksMemory well))
+    on.of_file are.applied in
+    let next = carried on.m papers.card (taken papers.file) (applied on.m papers.card (taken papers.file) applies) in
     let text : papers.card ≡ card.text = card.written.written.whole in
     let says = subst (λ bytes. AreSettings bytes card.settings) (sym text)
-    (settings_of card.text (day_number s) card.settings card.prices card.card) in
+    (settings_of card.text number card.settings card.prices card.card) in
     let one = tell papers.card next.settings card.settings next.of_card says in
-    let same = to_one are.m next.n card.leaves.0 card.settings (subst (λ xs. Leads are.m xs next.n) one next.leads)
+    let same = to_one on.m next.n card.leaves.0 card.settings (subst (λ xs. Leads on.m xs next.n) one next.leads)
     card.leaves.1 in
     let written : papers.file ≡ machine_text next.n = next.written.written.whole in
     record {
-      m = are.m;
-      of_file = are.of_file;
+      m = on.m;
+      of_file = on.of_file;
+      month = on.month;
+      of_sheet = on.of_sheet;
+      s = on.s;
+      of_month = on.of_month;
       settings = card.settings;
       of_card = says;
       shortest = card.plans.shortest;
@@ -77,10 +129,12 @@ sets tell to_one file s papers are =
     }
 
 pub months_set_the_machine : TextsTellSettings → LeadsToOne → MonthsSetTheMachine
-months_set_the_machine tell to_one file [] [] are = tt
-months_set_the_machine tell to_one file (s ∷ days) (papers ∷ more) are =
-    (sets tell to_one file s papers are.0, months_set_the_machine tell to_one papers.file days more are.1)
-months_set_the_machine tell to_one file days papers are = absurd are
+months_set_the_machine tell to_one file sheet [] [] are = tt
+months_set_the_machine tell to_one file sheet (number ∷ numbers) (papers ∷ more) are = (
+  sets tell to_one file sheet number papers are.0,
+  months_set_the_machine tell to_one papers.file sheet numbers more are.1,
+)
+months_set_the_machine tell to_one file sheet numbers papers are = absurd are
 
 -- ---- and there is something to be written
 
@@ -88,30 +142,35 @@ months_set_the_machine tell to_one file days papers are = absurd are
 pub papers_for : Laws → WrittenFilesAreReadBack → (m n : Parts) (s : Day) → IsMachine m → IsLegalDay s
     → (planned card : declared.Card) → Plans m s planned.settings.items planned.prices → IsByKind m s planned card
     → (text : List ℕ) (day : ℕ) → day ≡ day_number s → IsCard text day card.settings.items card.prices
-    → Leads m card.settings.items n → (file : List ℕ) → machine_of file ≡ Ok m
-    → (papers : Papers) × AreWritten file s papers × (machine_of papers.file ≡ Ok n)
-papers_for laws read_back m n s machine legal planned card plans kinds text day number is_card leads file of_file =
-    let back = read_back n (laws.keep m n card.settings.items machine is_card.in_range leads) in (
+    → Leads m card.settings.items n → HasPapers m s n
+papers_for laws read_back m n s machine legal planned card plans kinds text day number is_card leads
+    file sheet month of_file of_sheet of_month =
+    let back = read_back n (laws.keep m n card.settings.items machine is_card.in_range leads) in
+    let prints = whole laws m s machine legal planned card plans kinds text day (taken text) number is_card refl in
+    let applies : Applies m text (taken (machine_text n)) well =
+    Carried card.settings.items n (settings_of text day card.settings.items card.prices is_card) leads back
+    (record { written = record { whole = refl; front = tt }; device = tt }) in (
       record { card = text; file = machine_text n },
       record {
-        m = m;
-        of_file = of_file;
-        prints = whole laws m s machine legal planned card plans kinds text day (taken text) number is_card refl;
-        applies = Carried card.settings.items n (settings_of text day card.settings.items card.prices is_card) leads back
-            (record { written = record { whole = refl; front = tt }; device = tt });
+        printed = on_day file sheet (day_number s) _ well m s (Found m month s of_file of_sheet of_month refl) prints;
+        applied = of_read (machine_of file) m (λ m. Applies m text (taken (machine_text n)) well) (LacksMemory well)
+            (sym of_file) applies;
       },
       back,
     )
 
-pub papers_on : (m n : Parts) (s : Day) (days : List Day)
-    → ((file : List ℕ) → machine_of file ≡ Ok m → (papers : Papers) × AreWritten file s papers × (machine_of papers.file ≡ Ok n))
-    → HavePapers n days → HavePapers m (s ∷ days)
-papers_on m n s days first rest file of_file =
-    let papers = first file of_file in
-    let more = rest papers.0.file papers.2 in (papers.0 ∷ more.0, (papers.1, more.1))
+pub papers_on : (m n : Parts) (s : Day) (month : List (Option Day)) (number : ℕ) (numbers : List ℕ)
+    → day_number s ≡ number → day_of month number ≡ Some s → HasPapers m s n → HasPapersInTurn n month numbers
+    → HasPapersInTurn m month (number ∷ numbers)
+papers_on m n s month number numbers same of_month first rest file sheet of_file of_sheet =
+    let papers = first file sheet month of_file of_sheet (rw same of_month) in
+    let more = rest papers.0.file sheet papers.2 of_sheet in (
+      papers.0 ∷ more.0,
+      (subst (λ k. AreWritten file sheet k papers.0) same papers.1, more.1),
+    )
 
-pub models_on : (m n : Parts) (s : Day) (days all : List Day) → all ≡ s ∷ days → model_of n ≡ model_of m
-    → All (λ d. day_model d ≡ model_of m) all → All (λ d. day_model d ≡ model_of n) days
-models_on m n s days all is same of_model =
-    let there = subst (All (λ d. day_model d ≡ model_of m)) is of_model in
-    λ place d within. there (suc place) d (omega arith) ∙ sym same
+pub days_on : (model other : Model) (month : List (Option Day)) (number : ℕ) (numbers all : List ℕ)
+    → all ≡ number ∷ numbers → other ≡ model → All (HasDayOf model month) all → All (HasDayOf other month) numbers
+days_on model other month number numbers all is same days =
+    let there = subst (All (HasDayOf model month)) is days in
+    subst (λ model. All (HasDayOf model month) numbers) (sym same) (All-tail (HasDayOf model month) number numbers there)

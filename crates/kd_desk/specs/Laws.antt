@@ -4,7 +4,6 @@ use Rattle.kd_state.specs.declared.machine.parts.Parts.{Parts}
 use Rattle.kd_state.specs.declared.setting.Setting.{Setting}
 use Rattle.kd_state.specs.declared.setting.why.Why.{Why}
 use Rattle.kd_state.specs.Setting.{Leads}
-use Rattle.kd_state.specs.SheetDay.{Day}
 use Rattle.kd_card.specs.Carrying.{IsFirstIllegal}
 use Rattle.kd_desk.specs.declared.fault.DeskFault.{DeskFault}
 use Rattle.kd_desk.specs.Month.{Papers, AreWrittenInTurn, SetTheMachineInTurn}
@@ -32,4 +31,5 @@ LeadsOrRefuses =
 -- whatever cards and files are written, one after another, each of them sets the machine to its day
 abbrev pub MonthsSetTheMachine : Type 0
 MonthsSetTheMachine =
-    (file : List ℕ) (days : List Day) (papers : List Papers) → AreWrittenInTurn file days papers → SetTheMachineInTurn file days papers
+    (file sheet numbers : List ℕ) (papers : List Papers) → AreWrittenInTurn file sheet numbers papers
+    → SetTheMachineInTurn file sheet numbers papers

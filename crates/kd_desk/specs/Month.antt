@@ -1,15 +1,21 @@
--- A month on one machine: day after day a card, and the machine's next file.
-use Rattle.std.specs.Prelude.{◌≡◌, ℕ, List, [], ◌∷◌, Bool, false, Option, Some, Ok}
+-- A month on one machine: for day after day of a sheet a card, and the machine's next file.
+use Rattle.std.specs.Prelude.{◌≡◌, ◌⊎◌, ℕ, List, [], ◌∷◌, false, Option, Some, Result, Ok, IfOk}
+use Rattle.kd_tables.specs.declared.model.Model.{Model}
 use Rattle.kd_tables.specs.Ports.{Port}
 use Rattle.kd_state.specs.declared.machine.parts.Parts.{Parts}
 use Rattle.kd_state.specs.declared.setting.Setting.{Setting}
 use Rattle.kd_state.specs.Setting.{Leads}
-use Rattle.kd_state.specs.SheetDay.{Day, day_number}
+use Rattle.kd_state.specs.SheetDay.{Day, day_model, day_number}
 use Rattle.kd_card.specs.Proving.{IsShortest}
 use Rattle.kd_sheet.specs.MachineFile.{machine_of}
+use Rattle.kd_sheet.specs.Sheet.{day_of}
+use Rattle.kd_sheet.specs.SheetFile.{sheet_of}
+use Rattle.kd_desk.specs.declared.fault.DeskFault.{DeskFault}
 use Rattle.kd_desk.specs.Headline.{IsSheetsMachine}
+use Rattle.kd_desk.specs.OnDay.{OnDay}
 use Rattle.kd_desk.specs.RunApply.{Applies}
 use Rattle.kd_desk.specs.RunCard.{Prints}
+use Rattle.kd_desk.specs.RunSteps.{LacksMemory}
 use Rattle.kd_desk.specs.Settings.{AreSettings}
 
 -- what is written for a day: a card, and the machine's file after it
@@ -17,28 +23,35 @@ pub record Papers : Type 0 where
   pub card : List ℕ
   pub file : List ℕ
 
--- a sink that has taken the text and nothing else
+-- a sink that has taken the text and nothing else, and the answer of a call that went well
 abbrev pub taken : List ℕ → Port
 taken text = record { had = Some []; has = Some text; had_failed = false; has_failed = false }
 
--- the card is printed for the machine of a file and the day, and the next file is written where its settings are carried out
-pub record AreWritten (file : List ℕ) (s : Day) (papers : Papers) : Type 0 where
+abbrev pub well : Result (Unit {0}) DeskFault
+well = Ok tt
+
+-- the card is what `run_card` writes of a machine's file and the sheet's day of that number, and the next file is what
+-- `run_apply` writes of the file and that card
+pub record AreWritten (file sheet : List ℕ) (number : ℕ) (papers : Papers) : Type 0 where
+  pub printed : OnDay file sheet number (λ m s. Prints m s number (taken papers.card) well) well
+  pub applied : IfOk (machine_of file) (λ m. Applies m papers.card (taken papers.file) well ⊎ LacksMemory well)
+
+-- so they are for day after day, each card of the file before it
+abbrev pub AreWrittenInTurn : List ℕ → List ℕ → List ℕ → List Papers → Type 0
+AreWrittenInTurn file sheet [] [] = Unit {0}
+AreWrittenInTurn file sheet (number ∷ numbers) (papers ∷ more) =
+    AreWritten file sheet number papers × AreWrittenInTurn papers.file sheet numbers more
+AreWrittenInTurn file sheet numbers papers = ⊥
+
+-- the card's settings lead the file's machine to that of the next file, which reads and enciphers as the sheet's day of that
+-- number, and no settings whatever that lead to the day are fewer
+pub record SetTheMachine (file sheet : List ℕ) (number : ℕ) (papers : Papers) : Type 0 where
   pub m : Parts
   pub of_file : machine_of file ≡ Ok m
-  pub prints : Prints m s (day_number s) (taken papers.card) (Ok tt)
-  pub applies : Applies m papers.card (taken papers.file) (Ok tt)
-
--- so they are, day after day, each card for the file before it
-abbrev pub AreWrittenInTurn : List ℕ → List Day → List Papers → Type 0
-AreWrittenInTurn file [] [] = Unit {0}
-AreWrittenInTurn file (s ∷ days) (papers ∷ more) = AreWritten file s papers × AreWrittenInTurn papers.file days more
-AreWrittenInTurn file days papers = ⊥
-
--- the card's settings lead the file's machine to that of the next file, which reads and enciphers as the day's own, and no
--- settings whatever that lead to the day are fewer
-pub record SetTheMachine (file : List ℕ) (s : Day) (papers : Papers) : Type 0 where
-  pub m : Parts
-  pub of_file : machine_of file ≡ Ok m
+  pub month : List (Option Day)
+  pub of_sheet : sheet_of sheet ≡ Ok month
+  pub s : Day
+  pub of_month : day_of month number ≡ Some s
   pub settings : List Setting
   pub of_card : AreSettings papers.card settings
   pub shortest : IsShortest m s settings
@@ -48,11 +61,25 @@ pub record SetTheMachine (file : List ℕ) (s : Day) (papers : Papers) : Type 0 
   pub sheets : IsSheetsMachine n s
 
 -- so they do, day after day
-abbrev pub SetTheMachineInTurn : List ℕ → List Day → List Papers → Type 0
-SetTheMachineInTurn file [] [] = Unit {0}
-SetTheMachineInTurn file (s ∷ days) (papers ∷ more) = SetTheMachine file s papers × SetTheMachineInTurn papers.file days more
-SetTheMachineInTurn file days papers = ⊥
+abbrev pub SetTheMachineInTurn : List ℕ → List ℕ → List ℕ → List Papers → Type 0
+SetTheMachineInTurn file sheet [] [] = Unit {0}
+SetTheMachineInTurn file sheet (number ∷ numbers) (papers ∷ more) =
+    SetTheMachine file sheet number papers × SetTheMachineInTurn papers.file sheet numbers more
+SetTheMachineInTurn file sheet numbers papers = ⊥
 
--- there are cards and files for the days, in turn, from each file of the machine on
-abbrev pub HavePapers : Parts → List Day → Type 0
-HavePapers m days = (file : List ℕ) → machine_of file ≡ Ok m → (papers : List Papers) × AreWrittenInTurn file days papers
+-- the month has a day of that number, and it is of the model
+pub record HasDayOf (model : Model) (month : List (Option Day)) (number : ℕ) : Type 0 where
+  pub s : Day
+  pub of_month : day_of month number ≡ Some s
+  pub of_model : day_model s ≡ model
+
+-- from each file of the machine on there are a card and a next file for the day, and that file's machine is the other one
+abbrev pub HasPapers : Parts → Day → Parts → Type 0
+HasPapers m s n = (file sheet : List ℕ) (month : List (Option Day)) → machine_of file ≡ Ok m → sheet_of sheet ≡ Ok month
+    → day_of month (day_number s) ≡ Some s
+    → (papers : Papers) × AreWritten file sheet (day_number s) papers × (machine_of papers.file ≡ Ok n)
+
+-- and there are such for days of the month, one after another
+abbrev pub HasPapersInTurn : Parts → List (Option Day) → List ℕ → Type 0
+HasPapersInTurn m month numbers = (file sheet : List ℕ) → machine_of file ≡ Ok m → sheet_of sheet ≡ Ok month
+    → (papers : List Papers) × AreWrittenInTurn file sheet numbers papers

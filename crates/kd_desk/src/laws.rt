@@ -1,15 +1,16 @@
 //! Laws over settings that are carried out: what the desk answers to them is one of three things, and never two of them. And
 //! what a machine goes through in a month, by cards and files.
-ghost use Rattle.std.specs.Prelude.{◌≡◌, ℕ, List, All, Ok};
+ghost use Rattle.std.specs.Prelude.{◌≡◌, All};
 ghost use Rattle.kd_state.specs.Machine.{model_of};
 ghost use Rattle.kd_state.specs.SheetDay.{day_model};
-ghost use Rattle.kd_sheet.specs.MachineFile.{machine_of};
 ghost use Rattle.kd_desk.specs.Laws.{TextsTellSettings, SettingsHaveNoFault, SettingsHaveOneFault, LeadsOrRefuses, MonthsSetTheMachine};
-ghost use Rattle.kd_desk.specs.Month.{Papers, AreWritten, HavePapers};
+ghost use Rattle.kd_desk.specs.Month.{HasDayOf, HasPapers, HasPapersInTurn};
 
 use crate::run_card::in_kinds;
 use kd_card::{carry_all, write_card};
 use kd_plan::plan;
+use kd_sheet::Sheet;
+use kd_sheet::laws::written_files_are_read_back;
 use kd_state::{Machine, SheetDay};
 use kd_tables::MemorySink;
 
@@ -30,8 +31,9 @@ pub fn settings_lead_or_are_refused()
     kd_state::laws::a_setting_is_refused_or_carried();
 }
 
-/// Whatever cards and files are written from a machine's file on, day after day: each card's settings lead the file's machine
-/// to that of the next file, which reads and enciphers as the day's own, and no settings that lead to the day are fewer.
+/// Whatever cards and files are written from a machine's file on, for day after day of a sheet: each card's settings lead the
+/// file's machine to that of the next file, which reads and enciphers as the day's own, and no settings that lead to the day
+/// are fewer.
 pub fn months_set_the_machine()
     ensures { MonthsSetTheMachine }
 {
@@ -39,13 +41,14 @@ pub fn months_set_the_machine()
     kd_state::laws::a_setting_is_refused_or_carried();
 }
 
-/// And there are such cards and files for each machine and all days of its model.
-pub fn months_can_be_written(machine: &Machine, days: &[SheetDay])
-    requires { All (λ s. day_model s ≡ model_of machine.now) days.now }
-    ensures { HavePapers machine.now days.now }
+/// And there are such cards and files for each machine, each sheet and all of its days that are of the machine's model.
+pub fn months_can_be_written(machine: &Machine, sheet: &Sheet, numbers: &[u8])
+    requires { All (HasDayOf (model_of machine.now) sheet.now) numbers.now }
+    ensures { HasPapersInTurn machine.now sheet.now numbers.now }
 {
-    if let Some((day, rest)) = days.split_first() {
-        months_can_be_written(&set_to(machine, day), rest);
+    if let Some((number, rest)) = numbers.split_first() {
+        let day = sheet.day(*number).unwrap();
+        months_can_be_written(&set_to(machine, day), sheet, rest);
     }
 }
 
@@ -53,8 +56,7 @@ pub fn months_can_be_written(machine: &Machine, days: &[SheetDay])
 fn set_to(machine: &Machine, day: &SheetDay) -> Machine
     requires { day_model day.now ≡ model_of machine.now }
     ensures model { model_of result ≡ model_of machine.now }
-    ensures written { (file : List ℕ) → machine_of file ≡ Ok machine.now → (papers : Papers)
-        × AreWritten file day.now papers × (machine_of papers.file ≡ Ok result) }
+    ensures written { HasPapers machine.now day.now result }
 {
     let _legal_day = day.model();
     let _legal_machine = machine.parts();
@@ -63,7 +65,7 @@ fn set_to(machine: &Machine, day: &SheetDay) -> Machine
     kd_state::laws::reading_as_the_day_is_its_cipher();
     kd_state::laws::equally_set_machines_decipher();
     kd_state::laws::a_setting_is_refused_or_carried();
-    kd_sheet::laws::written_files_are_read_back();
+    written_files_are_read_back();
     let card = in_kinds(machine, day, &plan(machine, day).unwrap());
     // What is written is a card, whatever the sink takes of it.
     let _ = write_card(&mut MemorySink::<0>::new(0), day.day(), &card);

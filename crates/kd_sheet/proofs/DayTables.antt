@@ -130,7 +130,8 @@ pairs_in_again s legal =
     let joined = pairs_plugged s.pairs in
     then_read (all_cables_in keys.Plugs (texts cable_text cables)) (λ cables. Ok (pairs_of cables))
     (thirteen (map single_first cables)) _
-    (all_cables_again keys.Plugs cables (omega (arith, length-map s.pairs pair_cable, legal.pairs.few)) (two_each s.pairs)
+    (all_cables_again keys.Plugs cables (omega (arith, length-map s.pairs pair_cable, legal.pairs.few))
+    (two_each s.pairs)
     (rw joined (recursion_from_All (λ letter. letter < 26) _ legal.pairs.within)) (rw joined legal.pairs.apart))
     (ap Ok (pairs_found s.pairs))
 
@@ -193,8 +194,8 @@ rows_in_again : (s : PinDay) → IsLegalPinDay s → rows_in (pin_table s) ≡ O
 unfolding rows_in
 rows_in_again s legal =
     counted_again keys.Rows (pin_table s) 27 reading_text s.rows row_for s.rows refl legal.count
-    (each_again row_for (λ row. string (reading_text row)) IsReading (λ earlier row is. rw (row_again row is) refl) [] s.rows
-    (recursion_from_All _ _ legal.rows))
+    (each_again row_for (λ row. string (reading_text row)) IsReading (λ earlier row is. rw (row_again row is) refl) []
+    s.rows (recursion_from_All _ _ legal.rows))
 
 pin_again : (s : PinDay) → IsLegalPinDay s → pin_day_in s.day (pin_table s) ≡ Ok (OfPins s)
 unfolding pin_day_in shown_in list_in

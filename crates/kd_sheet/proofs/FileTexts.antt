@@ -61,7 +61,8 @@ unfolding string_text encoding_of
 quoted_is text plain =
     let none : (byte : ℕ) → is_plain byte ≡ false → has byte text ≡ false =
     λ byte other. none_of (λ x. x == byte) (λ x is. is_other x byte is other) text plain in
-    rw (none_of is_control no_control text plain, none 92 refl, none 34 refl, none 10 refl, escaped_plain text plain) refl
+    let controls = none_of is_control no_control text plain in
+    rw (controls, none 92 refl, none 34 refl, none 10 refl, escaped_plain text plain) refl
 
 -- ---- the lines
 

@@ -82,7 +82,8 @@ cables_plain (cable ∷ cables) within =
 
 pins_plain : (wheel : ℕ) (pins : List Bool) → IsPlain (pins_text (ring_of wheel) pins)
 pins_plain wheel pins = each_byte is_plain (ring_of wheel) pins (letters_apart wheel)
-    (λ letter has set. letter_plain letter (on_ring_below wheel letter ((has_letter-Decides (ring_of wheel) letter).0 has)))
+    (λ letter has set.
+    letter_plain letter (on_ring_below wheel letter ((has_letter-Decides (ring_of wheel) letter).0 has)))
 
 place_plain : (place : Place) → IsPlain (place_text place)
 place_plain One = refl
@@ -260,7 +261,8 @@ pin_read m legal =
       (
         text_written keys.Model (model_text M209) (model_plain M209),
         (
-          text_written keys.Letters (letters_text m.letters) (letters_plain m.letters (wheels_letters_within m.letters legal.letters)),
+          text_written keys.Letters (letters_text m.letters)
+              (letters_plain m.letters (wheels_letters_within m.letters legal.letters)),
           (
             texts_written keys.Pins (λ text. text) (pin_texts m.pins) all_pins,
             (texts_written keys.Bars standing_text m.bars (bars_plain m.bars), tt),
@@ -291,7 +293,8 @@ pub parts_are_read_back : LegalPartsAreReadBack
 unfolding version_in model_in parts_in
 parts_are_read_back (Rotor m) legal =
     let has = (has_reflector-Decides (reflectors_of m.model) m.reflector).1 legal.reflector in
-    let read = told m.model (rotor_table m) _ (ap (λ found. ok_or found (BadValue keys.Version)) (version_again m.model))
+    let read = told m.model (rotor_table m) _
+    (ap (λ found. ok_or found (BadValue keys.Version)) (version_again m.model))
     (ap (λ found. ok_or found UnknownModel) (model_by_name-text m.model))
     (by_model m.model m.reflector (rotor_table m) _ has (rotor_parts_again m legal)) in
     then_read (document_of (machine_text (Rotor m))) machine_in (rotor_table m) _ (rotor_read m legal) read

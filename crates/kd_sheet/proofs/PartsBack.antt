@@ -62,9 +62,10 @@ texts_at key table text_of things there =
 
 -- an array of a fixed number of texts, each of which is read as its value
 pub counted_again : {X A : Type 0} (key : Key) (table : Members) (count : ℕ) (text_of : X → List ℕ) (things : List X)
-    (reading : List Data → Data → Result A SheetFault) (values : List A) → value_at key table ≡ Ok (texts text_of things)
-    → length things ≡ count → Reads reading [] (map (λ x. string (text_of x)) things) values
-    → (items_at key table >>= (λ items. demand (length items == count) (BadValue key) >> all_values (given_earlier reading items)))
+    (reading : List Data → Data → Result A SheetFault) (values : List A)
+    → value_at key table ≡ Ok (texts text_of things) → length things ≡ count → Reads reading [] (map (λ x. string (text_of x)) things) values
+    → (items_at key table >>=
+    (λ items. demand (length items == count) (BadValue key) >> all_values (given_earlier reading items)))
     ≡ Ok values
 counted_again key table count text_of things reading values there counted read =
     let items = map (λ x. string (text_of x)) things in
@@ -101,7 +102,8 @@ capitals_again count letters are =
     let many : (length (letters_text letters) == count) ≡ true = eq-eqb _ _ (length-map letters _ ∙ are.count) in
     rw (many, spelled.0, spelled.1) refl
 
-pub all_below : (limit : ℕ) (xs : List ℕ) → list_all (λ x. nat_lt x limit) xs ≡ true → AllByRecursion (λ x. x < limit) xs
+pub all_below : (limit : ℕ) (xs : List ℕ) → list_all (λ x. nat_lt x limit) xs ≡ true
+    → AllByRecursion (λ x. x < limit) xs
 all_below limit [] e = tt
 all_below limit (x ∷ xs) e =
     let both = and_parts (nat_lt x limit) (list_all (λ x. nat_lt x limit) xs) e in
@@ -208,7 +210,8 @@ seat_again key model slots rest (Some wheel) may allowed apart =
     let free : is_seated slots wheel ≡ false = false_from_ne_true _ (λ seated.
     let among = (is_seated-Decides slots wheel).0 seated in
     let at = slice_get-get_or slots among.0 (Some wheel) among.1 ∙ ap Some among.2 in
-    let same = apart among.0 (length slots) wheel (stands_before slots (Some wheel ∷ rest) among.0 (Some wheel) at) here in
+    let same =
+    apart among.0 (length slots) wheel (stands_before slots (Some wheel ∷ rest) among.0 (Some wheel) at) here in
     omega (arith, same, among.1)) in
     rw (has_name wheel, and-false, wheel_by_name-text wheel, among_them, free) refl
 
@@ -319,7 +322,8 @@ all_cables_again key cables few may within apart =
 
 -- ---- pins and bars
 
-pub pins_in_again : (table : Members) (pins : PinSet) → value_at keys.Pins table ≡ Ok (texts (λ text. text) (pin_texts pins))
+pub pins_in_again : (table : Members) (pins : PinSet)
+    → value_at keys.Pins table ≡ Ok (texts (λ text. text) (pin_texts pins))
     → HasAllPins pins → pins_in table ≡ Ok pins
 unfolding pins_in pins_of_item
 pins_in_again table pins there fit =

@@ -1,15 +1,20 @@
 use Rattle.std.proofs.Common.{subst, sym, arith}
-use Rattle.kd_desk.specs.Month.{HavePapers}
-use Rattle.kd_desk.proofs.Months.{papers_on, models_on}
+use Rattle.kd_state.specs.Machine.{model_of}
+use Rattle.kd_desk.specs.Month.{HasPapersInTurn}
+use Rattle.kd_desk.proofs.Months.{papers_on, days_on}
 use Rattle.kd_desk.proofs.laws.+months_can_be_written.Goals as goal
 
 pub months_can_be_written-requires : goal.months_can_be_written-requires
 months_can_be_written-requires t c = (
   omega (arith, c.decreases, c.in-Some.ensures.cases.1),
-  models_on c.args.machine.now c.set_to.result c.in-Some.day.now c.in-Some.rest.now c.args.days.now c.in-Some.ensures.cases.0 c.set_to.ensures.model c.requires,
+  days_on (model_of c.args.machine.now) (model_of c.set_to.result) c.args.sheet.now c.in-Some.number.now c.in-Some.rest.now
+      c.args.numbers.now c.in-Some.ensures.cases.0 c.set_to.ensures.model c.requires,
 )
 
 pub returns-in-Some : goal.returns-in-Some
 returns-in-Some t c =
-    subst (HavePapers c.args.machine.now) (sym c.in-Some.ensures.cases.0)
-    (papers_on c.args.machine.now c.set_to.result c.in-Some.day.now c.in-Some.rest.now c.set_to.ensures.written c.months_can_be_written.ensures)
+    let number = rw c.unwrap-day.ensures at c.day.ensures.number in
+    let of_month = rw c.unwrap-day.ensures at c.day.ensures.value in
+    subst (HasPapersInTurn c.args.machine.now c.args.sheet.now) (sym c.in-Some.ensures.cases.0)
+    (papers_on c.args.machine.now c.set_to.result c.unwrap-day.result.now c.args.sheet.now c.in-Some.number.now
+    c.in-Some.rest.now number (sym of_month) c.set_to.ensures.written c.months_can_be_written.ensures)
