@@ -3,6 +3,7 @@ use Rattle.kd_card.proofs.Prelude.{Bool, true, false, codes, ◌≡◌, ◌≢�
 use Rattle.kd_card.specs.declared.look.Name.TheVariants as names
 use Rattle.kd_card.specs.declared.fault.CardFault.{CardFault}
 use Rattle.kd_card.specs.CardFault.{numbered}
+use Rattle.kd_card.specs.Laws.{CardsAreSaid}
 use Rattle.kd_card.specs.Steps.{IsOnly, only_then, only_only, only_finds, only_demands, only_takes, passed, same_ok}
 use Rattle.kd_card.proofs.Lines.{Laws, line_has_words, same_words, text_of_more, two_lines, card_and_more}
 use Rattle.kd_card.proofs.PriceTexts.{small}
@@ -415,6 +416,9 @@ module _ (laws : Laws) where
     texts_tell_cards bytes day other xs ys prices others a b =
         let same = same_ok (only_card bytes _ _ (says_itself a) (says_itself b)) in
         (ap (λ x. x.0) same, ap (λ x. x.1) same, ap (λ x. x.2) same)
+
+    pub cards_are_said : CardsAreSaid
+    cards_are_said bytes day xs prices = (card_said (day, xs, prices), says_itself)
 
     pub cards_have_no_fault : CardsHaveNoFault
     cards_have_no_fault bytes day xs prices fault a b = let same = only_card bytes _ _ (says_itself a) b in cc

@@ -1,5 +1,5 @@
 -- What holds of cards.
-use Rattle.std.specs.Prelude.{◌≡◌, ℕ, List, [], ◌++◌, length, pos, ◌+ℤ◌, ◌≤ℤ◌}
+use Rattle.std.specs.Prelude.{◌≡◌, ℕ, List, [], ◌++◌, length, pos, ◌+ℤ◌, ◌≤ℤ◌, ◌↔◌, Ok}
 use Rattle.kd_state.specs.declared.machine.parts.Parts.{Parts}
 use Rattle.kd_state.specs.declared.setting.Setting.{Setting}
 use Rattle.kd_state.specs.Machine.{IsMachine}
@@ -11,7 +11,7 @@ use Rattle.kd_card.specs.declared.look.Look.{Look}
 use Rattle.kd_card.specs.Kinds.{look_name, look_rank, IsInForm}
 use Rattle.kd_card.specs.Prices.{Fits, price_sum, ArePrices, AreTight}
 use Rattle.kd_card.specs.CardText.{IsCard}
-use Rattle.kd_card.specs.CardFault.{IsCardFault}
+use Rattle.kd_card.specs.CardFault.{SaysCard, IsCardFault}
 use Rattle.kd_card.specs.Proving.{AreOfKind, ProvesByNumber, Proves, IsShortest, LeadsToTheDay}
 
 -- Where prices fit, no settings whatever that lead the machine to the day are fewer than the loose things and the sum of
@@ -54,6 +54,12 @@ abbrev pub NoCardBeginsAnother : Type 0
 NoCardBeginsAnother =
     (text rest : List ℕ) (day other : ℕ) (xs ys : List Setting) (prices others : PriceParts) → IsCard text day xs prices
     → IsCard (text ++ rest) other ys others → rest ≡ []
+
+-- what is said of bytes that are a card is that card, and of no others
+abbrev pub CardsAreSaid : Type 0
+CardsAreSaid =
+    (bytes : List ℕ) (day : ℕ) (xs : List Setting) (prices : PriceParts)
+    → SaysCard bytes (Ok (day, xs, prices)) ↔ IsCard bytes day xs prices
 
 -- a card has no fault, and bytes have one at most
 abbrev pub CardsHaveNoFault : Type 0

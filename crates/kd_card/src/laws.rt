@@ -1,6 +1,6 @@
 //! What holds of cards.
 ghost use Rattle.kd_card.specs.Laws.{RanksTellLooks, TextsTellCards, NoCardBeginsAnother};
-ghost use Rattle.kd_card.specs.Laws.{CardsHaveNoFault, OneCardFault, FittingPricesBoundLists};
+ghost use Rattle.kd_card.specs.Laws.{CardsAreSaid, CardsHaveNoFault, OneCardFault, FittingPricesBoundLists};
 ghost use Rattle.kd_card.specs.Laws.{ProvingCardsAreAsLong, ProvingCardsAreShortest};
 ghost use Rattle.kd_card.specs.Laws.{ProvingPricesAreTight};
 
@@ -15,6 +15,7 @@ use kd_state::laws::{
 pub fn no_two_cards_have_one_text()
     ensures card { TextsTellCards }
     ensures front { NoCardBeginsAnother }
+    ensures said { CardsAreSaid }
     ensures no_fault { CardsHaveNoFault }
     ensures one_fault { OneCardFault }
 {
