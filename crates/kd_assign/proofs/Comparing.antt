@@ -1,10 +1,7 @@
 -- A comparison of a column with a row, and what a root's comparisons leave.
 use Rattle.std.proofs.Common.{◌≡◌, ℕ, ◌<◌, List, length, get_or, All, true, false, eqb, Option, None, inl, inr, ℤ, pos, refl, sym, ◌∙◌, arith}
-use Rattle.std.proofs.lemmas.Bool.{eqb-true, eq-eqb, or_cases}
-use Rattle.std.proofs.lemmas.Int.{ints}
-use Rattle.kd_assign.specs.Prices.{CostsAtMost}
-use Rattle.kd_assign.specs.Partial.{AreSmall}
-use Rattle.kd_assign.specs.Tree.{AreNearest, IsCompared, has_column, has_row, slack_at, slack_of}
+use Rattle.kd_assign.proofs.Prelude.{eqb-true, eq-eqb, or_cases, ints, CostsAtMost, AreSmall, AreNearest, IsCompared}
+use Rattle.kd_assign.proofs.Prelude.{has_column, has_row, slack_at, slack_of}
 use Rattle.kd_assign.proofs.Free.{no_column}
 use Rattle.kd_assign.proofs.Growing.{column_given, cost_at_most}
 

@@ -1,12 +1,8 @@
 -- How many comparisons are made.
-use Rattle.std.proofs.Common.{◌≡◌, ◌≢◌, ℕ, zero, suc, ◌+◌, ◌*◌, ◌-◌, ◌/◌, ◌<◌, ◌≤◌, List, [], ◌∷◌, length, set, true, cond, Option, Some, None, is_some, count_by, inl, inr, refl, sym, ◌∙◌, arith, add-one}
-use Rattle.std.proofs.lemmas.Bool.{cases_eq, cases_lt, cases_Bool, false≢true}
-use Rattle.std.proofs.lemmas.List.{get_or_past, get_or-set_other, get_or-set_same}
-use Rattle.std.proofs.lemmas.List.Sums.{sum_by-cons}
-use Rattle.std.proofs.lemmas.Option.{none-some, same_Some}
-use Rattle.kd_assign.specs.Partial.{IsTaken}
-use Rattle.kd_assign.specs.Scans.{scans_of_tree, scans_of_trees}
-use Rattle.kd_assign.specs.Tree.{has_column}
+use Rattle.std.proofs.Common.{◌≡◌, ◌≢◌, ℕ, zero, suc, ◌+◌, ◌*◌, ◌/◌, ◌<◌, ◌≤◌, List, [], ◌∷◌, length, set, true, cond, Option, Some, None, is_some, count_by, inl, inr, refl, sym, ◌∙◌, arith}
+use Rattle.kd_assign.proofs.Prelude.{cases_eq, cases_lt, cases_Bool, false≢true, get_or_past, get_or-set_other}
+use Rattle.kd_assign.proofs.Prelude.{get_or-set_same, sum_by-cons, none-some, same_Some, IsTaken, scans_of_tree}
+use Rattle.kd_assign.proofs.Prelude.{scans_of_trees, has_column}
 use Rattle.kd_assign.proofs.Places.{count-set}
 
 -- a tree of more rows takes no fewer

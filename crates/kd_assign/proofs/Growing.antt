@@ -1,13 +1,11 @@
 -- Prices that move with a tree, and a tree that gains an edge.
 use Rattle.std.proofs.Common.{◌≡◌, ◌≢◌, ℕ, suc, ◌<◌, ◌≤◌, List, [], length, get_or, set, Bool, true, false, cond, eqb, Option, Some, None, ◌⊎◌, inl, inr, ℤ, pos, neg_ℤ, ◌+ℤ◌, ◌-ℤ◌, ◌≤ℤ◌, refl, ap, sym, ◌∙◌, arith}
 use Rattle.std.proofs.lemmas.Bool.Decides.{nat_tests}
-use Rattle.std.proofs.lemmas.Bool.{false_from_ne_true, cases_eq, cases_lt, eqb-true, eq-eqb, ne_eqb, false≢true, cond-true, cond-false, or_cases, or_right}
-use Rattle.std.proofs.lemmas.Int.{ints}
-use Rattle.std.proofs.lemmas.List.{get_or_past, get_or-set_same, get_or-set_other, length-set}
-use Rattle.std.proofs.lemmas.Option.{same_Some}
-use Rattle.kd_assign.specs.Prices.{CostsAtMost, Fits, cost_at, price_at}
-use Rattle.kd_assign.specs.Partial.{Has, IsSound, IsTaken, IsTight}
-use Rattle.kd_assign.specs.Tree.{AreNearest, IsCompared, IsTree, LeadsToRoot, IsGrowing, has_column, has_column_of, has_row, slack_at, slack_of}
+use Rattle.kd_assign.proofs.Prelude.{false_from_ne_true, cases_eq, cases_lt, eqb-true, eq-eqb, ne_eqb, false≢true}
+use Rattle.kd_assign.proofs.Prelude.{cond-true, cond-false, or_cases, or_right, ints, get_or_past, get_or-set_same}
+use Rattle.kd_assign.proofs.Prelude.{get_or-set_other, length-set, same_Some, CostsAtMost, Fits, cost_at, price_at, Has}
+use Rattle.kd_assign.proofs.Prelude.{IsSound, IsTaken, IsTight, AreNearest, IsCompared, IsTree, LeadsToRoot, IsGrowing}
+use Rattle.kd_assign.proofs.Prelude.{has_column, has_column_of, has_row, slack_at, slack_of}
 use Rattle.kd_assign.proofs.Places.{vacant_or, within, written}
 
 -- no cost is above 4, nor is what stands past the end

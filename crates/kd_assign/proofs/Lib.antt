@@ -1,3 +1,4 @@
+pub mod Prelude
 pub mod Comparing
 pub mod Counting
 pub mod Free

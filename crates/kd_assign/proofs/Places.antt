@@ -1,10 +1,7 @@
 -- What stands at a place, and after a write.
 use Rattle.std.proofs.Common.{◌≡◌, ◌≢◌, ℕ, ◌<◌, ◌+◌, List, length, get_or, set, Option, Some, None, is_some, count_by, cond, ◌⊎◌, inl, inr, sym, ◌∙◌}
-use Rattle.std.proofs.lemmas.Bool.{cases_eq, cases_lt}
-use Rattle.std.proofs.lemmas.List.{get_or_past, get_or-set_same, get_or-set_other}
-use Rattle.std.proofs.lemmas.List.Sums.{sum_by-set}
-use Rattle.std.proofs.lemmas.Option.{none-some, same_Some}
-use Rattle.kd_assign.specs.Partial.{Has, HasNone}
+use Rattle.kd_assign.proofs.Prelude.{cases_eq, cases_lt, get_or_past, get_or-set_same, get_or-set_other, sum_by-set}
+use Rattle.kd_assign.proofs.Prelude.{none-some, same_Some, Has, HasNone}
 
 -- a place that has a number is a place of the list
 pub within : (xs : List (Option ℕ)) (i j : ℕ) → Has xs i j → i < length xs

@@ -1,16 +1,13 @@
 -- Sums of prices over one-to-one assignments.
 use Rattle.std.proofs.Common.{◌≡◌, ◌≢◌, ℕ, zero, suc, ◌+◌, ◌<◌, ◌≤◌, List, [], ◌∷◌, ◌++◌, length, get_or, take, map, All, AllPairs, ◌⊎◌, inl, inr, ℤ, eqb, false, pos, ◌+ℤ◌, ◌≤ℤ◌, remove, refl, sym, ap, ◌∙◌, arith, add-one}
 use Rattle.std.specs.List.{list_any}
-use Rattle.std.proofs.lemmas.Bool.{cases_Bool, cases_lt, eqb-true, eqb-false, false_from_ne_true, false≢true}
+use Rattle.kd_assign.proofs.Prelude.{cases_Bool, cases_lt, eqb-true, eqb-false, false_from_ne_true, false≢true, ints}
+use Rattle.kd_assign.proofs.Prelude.{get_or_default, take_all, take_more, Fits, price_at, sum_of, IsOneToOne}
+use Rattle.kd_assign.proofs.Prelude.{assignment_cost, IsTight}
 use Rattle.std.proofs.lemmas.List.Folds.{Any-from_list_any, list_any_at}
-use Rattle.std.proofs.lemmas.Int.{ints}
-use Rattle.std.proofs.lemmas.List.{get_or_default, take_all, take_more}
 use Rattle.std.proofs.lemmas.List.Edits.{length-remove, get_or-remove_below, get_or-remove_above}
 use Rattle.std.proofs.lemmas.List.Quantifiers.{all_pairs_remove}
-use Rattle.kd_assign.specs.Prices.{Fits, price_at, sum_of}
-use Rattle.kd_assign.specs.Assignment.{IsOneToOne, assignment_cost}
 use Rattle.kd_assign.specs.Cheapest.{FittingPricesBoundCosts}
-use Rattle.kd_assign.specs.Partial.{IsTight}
 
 -- one more price
 sum_of-push : (xs : List ℤ) (y : ℤ) → sum_of (xs ++ y ∷ []) ≡ sum_of xs +ℤ y

@@ -1,9 +1,7 @@
 -- The assignment while it is turned round along a path.
 use Rattle.std.proofs.Common.{◌≡◌, ◌≢◌, ℕ, ◌+◌, ◌<◌, ◌≤◌, List, length, get_or, set, Option, Some, None, true, is_some, count_by, cond, ◌⊎◌, inl, inr, refl, ap, sym, arith}
-use Rattle.std.proofs.lemmas.Bool.{cases_eq}
-use Rattle.std.proofs.lemmas.List.{get_or-set_same, get_or-set_other, length-set}
-use Rattle.kd_assign.specs.Partial.{Has, HasNone, IsPartial, IsTaken}
-use Rattle.kd_assign.specs.Tree.{LeadsOn, has_column}
+use Rattle.kd_assign.proofs.Prelude.{cases_eq, get_or-set_same, get_or-set_other, length-set, Has, HasNone, IsPartial}
+use Rattle.kd_assign.proofs.Prelude.{IsTaken, LeadsOn, has_column}
 use Rattle.kd_assign.proofs.Places.{within, same_number, vacant_or, written, unwritten, count-set}
 
 -- what is left of the path, from a column on

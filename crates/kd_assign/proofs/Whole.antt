@@ -1,14 +1,10 @@
 -- An assignment of all rows.
 use Rattle.std.proofs.Common.{◌≡◌, ℕ, ◌*◌, ◌<◌, ◌≤◌, List, length, get_or, set, All, cond, Option, Some, None, is_some, count_by, ℤ, pos, negsuc, neg_ℤ, ◌≤ℤ◌, refl, ◌∙◌, arith}
 use Rattle.std.specs.Int.RustNames.{unsigned_abs}
-use Rattle.std.proofs.lemmas.Int.{ints}
-use Rattle.std.proofs.lemmas.List.{get_or_default, length-set}
-use Rattle.std.proofs.lemmas.List.Sums.{count_by-le-length}
+use Rattle.kd_assign.proofs.Prelude.{ints, get_or_default, length-set, count_by-le-length, IsOneToOne, assignment_cost}
+use Rattle.kd_assign.proofs.Prelude.{Fits, price_sum, AreSmall, Has, IsPartial, IsSound}
 use Rattle.std.proofs.lemmas.List.Elements.{All-from_get_or}
-use Rattle.kd_assign.specs.Assignment.{IsOneToOne, assignment_cost}
 use Rattle.kd_assign.specs.Cheapest.{IsLeastCost}
-use Rattle.kd_assign.specs.Prices.{Fits, price_sum}
-use Rattle.kd_assign.specs.Partial.{AreSmall, Has, IsPartial, IsSound}
 use Rattle.kd_assign.proofs.Places.{count-set}
 use Rattle.kd_assign.proofs.Sums.{fitting_prices_bound_costs, sum_of-columns, tight_rows}
 

@@ -4,7 +4,7 @@ use Rattle.kd_plan.proofs.Prelude.{AllByRecursion, option_map_or, eq-eqb, get_or
 use Rattle.kd_plan.proofs.Prelude.{sum_by-cons, Parts, Setting, why_refused, changed, Day, IsNeeded, unless_so}
 use Rattle.kd_plan.proofs.Carrying.{Led, led_none, led_cons}
 use Rattle.kd_plan.proofs.Lists.{is_number}
-use Rattle.kd_plan.proofs.Wheels.{AreApartAt}
+use Rattle.kd_plan.proofs.Wheels.{AreApartAt, at_element}
 
 -- one more element to count
 pub count_by-cons : {X : Type 0} (p : X → Bool) (x : X) (xs : List X) → count_by p (x ∷ xs) ≡ cond (p x) 1 0 + count_by p xs
@@ -39,11 +39,6 @@ module _ {X : Type 0} (place target : X → ℕ) where
       let head = ap (λ b. cond {A = ℕ} (not b) 1 0) (right_elsewhere letters p l x h.0) in
       omega (arith, count_by-cons (wrong (set letters p l)) x xs, count_by-cons (wrong letters) x xs, other_places letters p l xs h.1)
 
-  away_at : (p : ℕ) (xs : List X) (k : ℕ) (x : X) → AllByRecursion (λ y. place y ≢ p) xs → k < length xs → get_or xs k x ≡ x → place x ≢ p
-  away_at p [] k x h lt e = absurd (omega arith)
-  away_at p (y ∷ xs) zero x h lt e = subst (λ z. place z ≢ p) e h.0
-  away_at p (y ∷ xs) (suc k) x h lt e = away_at p xs k x h.1 (omega arith) e
-
   -- where one of them is set right that was wrong, one fewer is wrong
   pub one_fewer : (letters : List ℕ) (xs : List X) (k : ℕ) (x : X) → k < length xs → get_or xs k x ≡ x → AreApartAt place xs → place x < length letters → right letters x ≡ false
       → count_by (wrong letters) xs ≡ count_by (wrong (set letters (place x) (target x))) xs + 1
@@ -59,7 +54,7 @@ module _ {X : Type 0} (place target : X → ℕ) where
   one_fewer letters (y ∷ xs) (suc k) x lt e h within is =
       let now = count_by-cons (wrong letters) y xs in
       let later = count_by-cons (wrong (set letters (place x) (target x))) y xs in
-      let head = ap (λ b. cond {A = ℕ} (not b) 1 0) (right_elsewhere letters (place x) (target x) y (λ same. away_at (place y) xs k x h.0 (omega arith) e (sym same))) in
+      let head = ap (λ b. cond {A = ℕ} (not b) 1 0) (right_elsewhere letters (place x) (target x) y (λ same. at_element (λ z. place z ≢ place y) xs x h.0 (k, omega arith, e) (sym same))) in
       let rest = one_fewer letters xs k x (omega arith) e h.1 within is in
       omega arith
 

@@ -1,6 +1,5 @@
 use Rattle.std.proofs.Common.{◌≡◌, ◌+◌, ◌-◌, length, count_by, is_some}
-use Rattle.kd_assign.specs.Scans.{scans_of_tree}
-use Rattle.kd_assign.specs.Tree.{AreNearest, IsGrowing}
+use Rattle.kd_assign.proofs.Prelude.{scans_of_tree, AreNearest, IsGrowing}
 use Rattle.kd_assign.proofs.growth.assign_row.Given as goal
 
 abbrev pub invariant-loop-free : goal.invariant-loop-free

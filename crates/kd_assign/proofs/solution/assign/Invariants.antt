@@ -1,6 +1,5 @@
 use Rattle.std.proofs.Common.{◌≡◌, ◌*◌, ◌≤◌, length}
-use Rattle.kd_assign.specs.Partial.{IsSolvedTo}
-use Rattle.kd_assign.specs.Scans.{scans_of_trees}
+use Rattle.kd_assign.proofs.Prelude.{IsSolvedTo, scans_of_trees}
 use Rattle.kd_assign.proofs.solution.assign.Given as goal
 
 abbrev pub invariant-loop-row : goal.invariant-loop-row

@@ -1,7 +1,5 @@
 use Rattle.std.proofs.Common.{refl, Some, get_or, set, w16, rules, arith}
-use Rattle.std.proofs.lemmas.Int.{ints, to_z-of_z}
-use Rattle.kd_assign.specs.Partial.{IsSound}
-use Rattle.kd_assign.specs.Tree.{AreNearest, IsTree, slack_at}
+use Rattle.kd_assign.proofs.Prelude.{ints, to_z-of_z, IsSound, AreNearest, IsTree, slack_at}
 use Rattle.kd_assign.proofs.Free.{taken-set}
 use Rattle.kd_assign.proofs.Places.{within}
 use Rattle.kd_assign.proofs.Growing.{IsNearest, AreMoved, AreMoved-none, raised_at_most, lowered_at_least, by_low, is_nearest, not_reached, nearest_still, sound_still, grown}

@@ -1,6 +1,5 @@
 use Rattle.std.proofs.Common.{None, inl, inr, refl, sym, ◌∙◌, rules, arith}
-use Rattle.std.proofs.lemmas.Bool.{cases_eq, false≢true}
-use Rattle.std.proofs.lemmas.List.Sums.{count_by_more_no, count_by_more_yes}
+use Rattle.kd_assign.proofs.Prelude.{cases_eq, false≢true, count_by_more_no, count_by_more_yes}
 use Rattle.std.specs.Prelude.{is_some}
 use Rattle.kd_assign.proofs.Comparing.{IsCompared-same}
 use Rattle.kd_assign.proofs.tree.Tree.join.Goals as goal

@@ -1,6 +1,5 @@
 use Rattle.std.proofs.Common.{◌≡◌, ℕ, ◌<◌, ◌≤◌, length, if◌then◌else◌, ◌-ℤ◌}
-use Rattle.kd_assign.specs.Prices.{price_at}
-use Rattle.kd_assign.specs.Tree.{has_column}
+use Rattle.kd_assign.proofs.Prelude.{price_at, has_column}
 use Rattle.kd_assign.proofs.tree.Tree.lower_columns.Given as goal
 
 abbrev pub invariant-loop-column : goal.invariant-loop-column

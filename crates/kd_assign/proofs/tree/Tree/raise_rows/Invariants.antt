@@ -1,6 +1,5 @@
 use Rattle.std.proofs.Common.{◌≡◌, ℕ, ◌<◌, ◌≤◌, length, if◌then◌else◌, ◌+ℤ◌}
-use Rattle.kd_assign.specs.Prices.{price_at}
-use Rattle.kd_assign.specs.Tree.{has_row}
+use Rattle.kd_assign.proofs.Prelude.{price_at, has_row}
 use Rattle.kd_assign.proofs.tree.Tree.raise_rows.Given as goal
 
 abbrev pub invariant-loop-row : goal.invariant-loop-row
