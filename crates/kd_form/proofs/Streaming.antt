@@ -38,7 +38,8 @@ starts_longer bytes more front starts =
     starts_with_of_append (bytes ++ more) front (drop (length front) bytes ++ more) (ap (λ l. l ++ more) rest ∙ append_assoc front (drop (length front) bytes) more)
 
 -- less of what was made was put, so less of what was due
-pub short_of : (text made : List ℕ) (count : ℕ) → count < length made → FallsShort (text ++ made) (text ++ take count made)
+pub short_of : (text made : List ℕ) (count : ℕ) → count < length made
+    → FallsShort (text ++ made) (text ++ take count made)
 short_of text made count less = record {
   missing = drop count made;
   some = λ none. omega (arith, less, ap length none, length-drop count made);
@@ -152,7 +153,8 @@ pub SoFar-nil : (m : Message) (holds : List ℕ → List ℕ → Type 0) (had to
     → SoFar m holds (over had had a a) (over took took d d) 0
 SoFar-nil m holds had took a d held = grind (arith, Consumes-nil, Appends-nil)
 
-pub room_behind : (m : Message) (holds : List ℕ → List ℕ → Type 0) (source sink : Port) (count : ℕ) → SoFar m holds source sink count → HasRoom m holds 0
+pub room_behind : (m : Message) (holds : List ℕ → List ℕ → Type 0) (source sink : Port) (count : ℕ)
+    → SoFar m holds source sink count → HasRoom m holds 0
 room_behind m holds source sink count before =
     record { bytes = before.read; text = before.text; held = before.held; within = omega (arith, before.counted, before.within) }
 
@@ -192,7 +194,8 @@ module _ (m : Message) (old new : List ℕ → List ℕ → Type 0) (had has nex
 
 -- what was left of a message was put in part
 pub closed_in_part : (m : Message) (old : List ℕ → List ℕ → Type 0) (made : List ℕ) (took wrote : Option (List ℕ)) (d f : Bool) (answer : Result (Unit {0}) FormFault)
-    → MessageEnds m old made answer → TakesFront took wrote made → ClosesAt m old (over took wrote d f) (Err stops.Device)
+    → MessageEnds m old made answer → TakesFront took wrote made
+    → ClosesAt m old (over took wrote d f) (Err stops.Device)
 closed_in_part m old made took wrote d f answer ends part bytes text held = record {
   made = take part.0 made;
   written = part.2;
