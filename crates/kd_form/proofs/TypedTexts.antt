@@ -1,23 +1,8 @@
 -- What a piece of a text lights up, and what was typed so far.
-use Rattle.std.proofs.Common.{◌≡◌, ℕ, ◌+◌, ◌≤◌, ◌<◌, Bool, List, [], ◌∷◌, ◌++◌, All, IsTrue, IsFalse, Option, option_to_list, Ok, Err, length, take, drop, get_or, suc, None, refl, sym, ap, subst, ◌∙◌, append_assoc, append-nil, take-append-drop, length-append, length-take-le, drop-cons, arith}
-use Rattle.std.proofs.lemmas.List.{map-append, take_all}
-use Rattle.std.proofs.lemmas.List.Elements.{All-nil, All-cons, All-head, All-tail, All-append, filter_map-append}
-use Rattle.std.proofs.lemmas.Bool.Decides.{nat_tests}
-use Rattle.std.proofs.Transfers.{starts_with_of_append}
-use Rattle.std.specs.Io.KnownBytes.{Appends}
-use Rattle.kd_tables.specs.Text.{is_text_byte, letters_text}
-use Rattle.kd_tables.specs.Writing.{TakesFront}
-use Rattle.kd_state.specs.declared.machine.parts.Parts.{Parts}
-use Rattle.kd_state.specs.Laws.{CipherInTurn, EngineIsTheMachine}
-use Rattle.kd_state.specs.TwoCiphers.{EngineKey, OfWheels, OfDrum, cipher, key_left, physical_key, physical_cipher}
-use Rattle.kd_form.specs.declared.fault.FormFault.TheVariants.{BadByte}
+use Rattle.std.proofs.Common.{append-nil, take-append-drop, length-take-le}
+use Rattle.kd_form.proofs.Prelude.{◌≡◌, ℕ, ◌+◌, ◌≤◌, ◌<◌, Bool, List, [], ◌∷◌, ◌++◌, All, IsTrue, IsFalse, Option, option_to_list, Ok, Err, length, take, drop, get_or, suc, None, refl, sym, ap, subst, ◌∙◌, append_assoc, length-append, drop-cons, arith, map-append, take_all, All-nil, All-cons, All-head, All-tail, All-append, filter_map-append, nat_tests, starts_with_of_append, Appends, is_text_byte, letters_text, TakesFront, Parts, CipherInTurn, EngineIsTheMachine, EngineKey, OfWheels, OfDrum, cipher, key_left, physical_key, physical_cipher, BadByte, letter_of_byte, IsBadAt, IsAllowedFront, IsRefused, Closes, Held, FeedsAll, ClosesAt, typed_letters, cipher_text, texts, IsTextFault, Lights, IsAllowedTo, IsTypedTo}
 use Rattle.kd_form.specs.declared.stream.stop.Stop.TheVariants as stops
 use Rattle.kd_form.specs.declared.typing.Typist.{Typist}
-use Rattle.kd_form.specs.Sending.{letter_of_byte, IsBadAt}
-use Rattle.kd_form.specs.SendStream.{IsAllowedFront}
-use Rattle.kd_form.specs.Streams.{IsRefused, Closes}
-use Rattle.kd_form.specs.StreamSteps.{Held, FeedsAll, ClosesAt}
-use Rattle.kd_form.specs.Typing.{typed_letters, cipher_text, texts, IsTextFault, Lights, IsAllowedTo, IsTypedTo}
 use Rattle.kd_form.proofs.OneOrder.{no_bad_byte}
 use Rattle.kd_form.proofs.TextLetters.{letters_first}
 use Rattle.kd_form.proofs.Streaming.{over, short_of}
