@@ -7,7 +7,8 @@ use Rattle.kd_form.specs.Sending.{IsFormOf}
 use Rattle.kd_form.specs.Laws.{FormsBecomeOneText, FormsStayRefused, ReceivedFormsHaveNoFault, OrdersGiveLetters, FormsGiveTheirOrders}
 use Rattle.kd_desk.specs.Messages.{TellOfOrders}
 
-pub tell_of_orders : (s : Day) → IsLegalDay s → FormsBecomeOneText → ReceivedFormsHaveNoFault → FormsStayRefused → OrdersGiveLetters → FormsGiveTheirOrders → TellOfOrders s
+pub tell_of_orders : (s : Day) → IsLegalDay s → FormsBecomeOneText → ReceivedFormsHaveNoFault → FormsStayRefused
+    → OrdersGiveLetters → FormsGiveTheirOrders → TellOfOrders s
 tell_of_orders s legal one_text no_fault stay letters back =
     let unsent : (form order : List ℕ) (fault : FormFault) → IsReceiveFault s form fault → ¬ (IsFormOf s order form) = λ form order fault is sent.
     let gives = letters s order form sent in

@@ -8,10 +8,12 @@ use Rattle.kd_desk.specs.declared.fault.DeskFault.{DeskFault}
 use Rattle.kd_desk.specs.Messages.{answer_to_message}
 use Rattle.kd_desk.specs.RunSteps.{is_refused_before, is_device}
 
-pub off_key : (told : Result (Unit {0}) FormFault) (answer : Result (Unit {0}) DeskFault) → answer ≡ answer_to_message told
+pub off_key : (told : Result (Unit {0}) FormFault) (answer : Result (Unit {0}) DeskFault)
+    → answer ≡ answer_to_message told
     → IsTrue (is_refused_before answer) → IsTrue (is_off_key told)
 off_key told answer is before = grind arith
 
-pub fails : (source sink : Port) (told : Result (Unit {0}) FormFault) (answer : Result (Unit {0}) DeskFault) → answer ≡ answer_to_message told
+pub fails : (source sink : Port) (told : Result (Unit {0}) FormFault) (answer : Result (Unit {0}) DeskFault)
+    → answer ≡ answer_to_message told
     → Fail source sink (streams.is_device told) → Fail source sink (is_device answer)
 fails source sink told answer is failed = grind arith

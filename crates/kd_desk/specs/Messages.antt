@@ -1,4 +1,4 @@
--- What becomes of a message: of a text that is typed on a machine; of an order or a form on a machine and a day of a sheet.
+-- What becomes of a message: of a text that is typed on a machine; of an order or a form on a machine and a day.
 use Rattle.std.specs.Prelude.{◌≡◌, List, ℕ, ◌++◌, Result}
 use Rattle.std.specs.Result.{result_map_both}
 use Rattle.kd_state.specs.declared.machine.parts.Parts.{Parts}
@@ -25,7 +25,8 @@ abbrev pub answer_to_message : Result (Unit {0}) FormFault → Result (Unit {0})
 answer_to_message answer = result_map_both (λ done. done) fault_of_message answer
 
 -- the desk answers what was told, of which this is so
-pub record IsAnswered (is_so : Result (Unit {0}) FormFault → Type 0) (answer : Result (Unit {0}) DeskFault) : Type 0 where
+pub record IsAnswered (is_so : Result (Unit {0}) FormFault → Type 0) (answer : Result (Unit {0}) DeskFault)
+    : Type 0 where
   pub told : Result (Unit {0}) FormFault
   pub so : is_so told
   pub answers : answer ≡ answer_to_message told
@@ -42,12 +43,14 @@ IsStreamedOn m s message source sink answer = IsAnswered (StreamsOnKey m s messa
 abbrev pub Sends : Parts → Day → Port → Port → Result (Unit {0}) DeskFault → Type 0
 Sends m s order sink answer = IsStreamedOn m s (orders s) order sink answer
 
--- What is so of forms on the day: the text that one becomes is what any order gives that has become it; a form that is refused has
--- become of no order, and where the refusal stands, no form that begins so has.
+-- What is so of forms on the day: the text that one becomes is what any order gives that has become it; a form that is
+-- refused has become of no order, and where the refusal stands, no form that begins so has.
 pub record TellOfOrders (s : Day) : Type 0 where
-  pub back : (form text order given : List ℕ) → IsTextOf s form text → IsFormOf s order form → IsGivenOf s order given → text ≡ given
+  pub back : (form text order given : List ℕ) → IsTextOf s form text → IsFormOf s order form
+      → IsGivenOf s order given → text ≡ given
   pub of_no_order : (form order : List ℕ) (fault : FormFault) → IsReceiveFault s form fault → ¬ (IsFormOf s order form)
-  pub of_no_front : (form more order : List ℕ) (fault : FormFault) → (form_message s).stands form fault → ¬ (IsFormOf s order (form ++ more))
+  pub of_no_front : (form more order : List ℕ) (fault : FormFault) → (form_message s).stands form fault
+      → ¬ (IsFormOf s order (form ++ more))
 
 -- the text that the form becomes is written, or the form is refused
 pub record Receives (m : Parts) (s : Day) (form sink : Port) (answer : Result (Unit {0}) DeskFault) : Type 0 where

@@ -76,8 +76,8 @@ type Streamed = (&'static str, Result<(), DeskFault>, &'static str);
 /// A call, a machine, and what becomes of texts on it.
 pub type Streams = (Call, Text, &'static [Streamed]);
 
-/// Each of the texts has its answer, in whatever pieces it comes. Nothing is asked of the source once it has told its end: that
-/// would fail.
+/// Each of the texts has its answer, in whatever pieces it comes. Nothing is asked of the source once it has told its
+/// end: that would fail.
 fn is_streamed(rt: &impl Abort, alloc: Global, call: Call, machine: &str, streamed: &Streamed) {
     let (text, answer, written) = streamed;
     for piece in [1, 2, 7] {

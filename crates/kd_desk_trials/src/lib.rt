@@ -6,13 +6,13 @@ mod calls;
 #[cfg(test)]
 mod command;
 #[cfg(test)]
-mod program;
-#[cfg(test)]
 mod fault;
 #[cfg(test)]
 mod files;
 #[cfg(test)]
 mod ports;
+#[cfg(test)]
+mod program;
 #[cfg(test)]
 mod run_apply;
 #[cfg(test)]

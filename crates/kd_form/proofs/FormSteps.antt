@@ -1,31 +1,11 @@
 -- The reader of a form, byte by byte, and at the end.
-use Rattle.std.proofs.Common.{[], ◌≡◌, ◌≢◌, ◌⊎◌, inl, inr, ℕ, ◌+◌, ◌-◌, ◌≤◌, List, ◌∷◌, ◌++◌, length, take, refl, sym, ap, subst, ◌∙◌, append_assoc, length-append, Result, Ok, Err, MatchResult, arith, codes, All, IsTrue, Option, Some, None, IsFalse, MatchOption, option_to_list}
-use Rattle.std.proofs.Math.Seq.{take-append_seam}
-use Rattle.std.proofs.lemmas.Bool.{cases_lt, cases_eq}
-use Rattle.std.proofs.lemmas.List.{append-nil, take_all, take-take, take-append-le, length-take, length-take-le}
-use Rattle.std.proofs.lemmas.List.Elements.{filter_map-append, All-nil, All-push}
-use Rattle.arrayvec.specs.ArrayVec.{ArrayVec}
-use Rattle.kd_tables.specs.Text.{is_text_byte}
-use Rattle.kd_state.specs.SheetDay.{Day}
-use Rattle.kd_state.specs.Words.{line_of, IsWithout, IsFirstPart, TextsTellFirstParts, NumbersAreWords}
-use Rattle.kd_form.specs.declared.fault.FormFault.{FormFault}
-use Rattle.kd_form.specs.declared.heading.Heading.{Heading}
+use Rattle.kd_form.proofs.Prelude.{[], ◌≡◌, ◌≢◌, ◌⊎◌, inl, inr, ℕ, ◌+◌, ◌-◌, ◌≤◌, List, ◌∷◌, ◌++◌, length, take, refl, sym, ap, subst, ◌∙◌, append_assoc, length-append, Result, Ok, Err, MatchResult, arith, codes, All, IsTrue, Option, Some, None, IsFalse, MatchOption, option_to_list, take-append_seam, cases_lt, cases_eq, append-nil, take_all, take-take, take-append-le, length-take, length-take-le, filter_map-append, All-nil, All-push, ArrayVec, is_text_byte, Day, line_of, IsWithout, IsFirstPart, TextsTellFirstParts, NumbersAreWords, FormFault, Heading, IsEnded, heading_words, letter_of_byte, letters_from, IsHeading, BeginsHeading, IsFirstOf, IsBodyText, IsBodyFault, HasHeading, IsExpected, IsEarlyFault, InHeading, InNumber, InBody, IsPartRead, IsPartFault, IsNextLine, Broken, Longer, Begins, HoldsBody, IsBodyGiven, MayBegin, HoldsPart, HoldsStage, HoldsForm, IsHeadingDue, IsHeadingOff, Missing, Other, IsLastText, BadByte, BadHeading, PartOrder, IsReadTo, given_letters, count_due, Turn, IsRefusedForGood, NoHeading, InWhole, InLast, form_message, IsRefusedAtEnd, InPart, IsRefused, Closes, Held}
 use Rattle.kd_form.specs.declared.part_body.PartBody.{PartBody}
-use Rattle.kd_form.specs.Order.{IsEnded}
-use Rattle.kd_form.specs.Part.{heading_words}
-use Rattle.kd_form.specs.Sending.{letter_of_byte, letters_from}
-use Rattle.kd_form.specs.FormParts.{IsHeading, BeginsHeading, IsFirstOf}
-use Rattle.kd_form.specs.Receiving.{IsBodyText, IsBodyFault, HasHeading, IsExpected, IsEarlyFault, InHeading, InNumber, InBody, IsPartRead, IsPartFault}
-use Rattle.kd_form.specs.FormReading.{IsNextLine, Broken, Longer, Begins, HoldsBody, IsBodyGiven, MayBegin, HoldsPart, HoldsStage, HoldsForm, IsHeadingDue, IsHeadingOff, Missing, Other, IsLastText}
 use Rattle.kd_form.proofs.Headings.{at_most, plain_heading, has_byte, ended_heading, one_heading, begins_there}
 use Rattle.kd_form.proofs.TextLetters.{letters_first}
-use Rattle.kd_form.specs.declared.fault.FormFault.TheVariants.{BadByte, BadHeading, PartOrder}
 use Rattle.kd_form.specs.declared.form_reader.FormReader.{FormReader}
 use Rattle.kd_form.specs.declared.form_reader.Stage.{Stage}
 use Rattle.kd_form.specs.declared.form_reader.Stage.TheVariants as stages
-use Rattle.kd_form.specs.FormText.{IsReadTo, given_letters, count_due, Turn, IsRefusedForGood, NoHeading, InWhole, InLast, form_message, IsRefusedAtEnd, InPart}
-use Rattle.kd_form.specs.Streams.{IsRefused, Closes}
-use Rattle.kd_form.specs.StreamSteps.{Held}
 use Rattle.kd_form.proofs.Plain.{All-front, without, head_unbroken}
 use Rattle.kd_form.proofs.Growing.{all_follow, first_unbroken, first_more, first_ends, turn_with, last_rest, last_whole, rest_within}
 use Rattle.kd_form.proofs.Lines.{IsUpToBreak, up_to_break}

@@ -1,23 +1,5 @@
 -- The form that an order becomes gives the order's letters back.
-use Rattle.std.proofs.Common.{◌≡◌, ◌≢◌, ℕ, ◌+◌, ◌%◌, ◌<◌, ◌≤◌, ◌⊎◌, inl, inr, List, [], ◌∷◌, ◌++◌, length, take, drop, refl, sym, ap, subst, ◌∙◌, append_assoc, length-append, arith, All, Option, Some, None, IfSome}
-use Rattle.std.specs.List.{flat_map, cons_option}
-use Rattle.std.proofs.lemmas.Bool.{cases_lt}
-use Rattle.std.proofs.lemmas.Bool.Decides.{nat_tests}
-use Rattle.std.proofs.lemmas.List.{append-nil, take_all, drop_all, length-take, length-take-le, take-append-drop}
-use Rattle.std.proofs.lemmas.List.Elements.{All-nil, All-cons, All-head, All-tail, All-take, All-drop}
-use Rattle.kd_state.specs.Laws.{TheDayDeciphersItself}
-use Rattle.kd_state.specs.SheetDay.{Day, IsLegalDay}
-use Rattle.kd_state.specs.Words.{TextsTellFirstParts}
-use Rattle.kd_form.specs.declared.keys.Keys.{Keys}
-use Rattle.kd_form.specs.FormParts.{BeginsHeading}
-use Rattle.kd_form.specs.FormText.{AreFirstParts, ArePartsRead, given_text, sent_letters}
-use Rattle.kd_form.specs.Keys.{AreKeys}
-use Rattle.kd_form.specs.Laws.{OrdersGiveLetters, FormsGiveTheirOrders}
-use Rattle.kd_form.specs.Making.{Suits, part_size, filled}
-use Rattle.kd_form.specs.Part.{Part, part_text, pieces, body_text}
-use Rattle.kd_form.specs.Reading.{IsLettersText}
-use Rattle.kd_form.specs.Receiving.{IsPartRead}
-use Rattle.kd_form.specs.Sending.{letter_of_byte, letters_from, text_letters, parts_needed, AreMadeTexts}
+use Rattle.kd_form.proofs.Prelude.{◌≡◌, ◌≢◌, ℕ, ◌+◌, ◌%◌, ◌<◌, ◌≤◌, ◌⊎◌, inl, inr, List, [], ◌∷◌, ◌++◌, length, take, drop, refl, sym, ap, subst, ◌∙◌, append_assoc, length-append, arith, All, Option, Some, None, IfSome, flat_map, cons_option, cases_lt, nat_tests, append-nil, take_all, drop_all, length-take, length-take-le, take-append-drop, All-nil, All-cons, All-head, All-tail, All-take, All-drop, TheDayDeciphersItself, Day, IsLegalDay, TextsTellFirstParts, Keys, BeginsHeading, AreFirstParts, ArePartsRead, given_text, sent_letters, AreKeys, OrdersGiveLetters, FormsGiveTheirOrders, Suits, part_size, filled, Part, part_text, pieces, body_text, IsLettersText, IsPartRead, letter_of_byte, letters_from, text_letters, parts_needed, AreMadeTexts}
 use Rattle.kd_form.proofs.PartTexts.{by_pieces, gives_body, part_has_heading, part_begins_heading, part_is_first}
 use Rattle.kd_form.proofs.MadeParts.{more_pieces, pieces-next, pieces-none, IsPiece, GivesBack, part_gives_back}
 use Rattle.kd_form.proofs.OneOrder.{one_order}

@@ -1,15 +1,5 @@
 -- Forms to which bytes are added.
-use Rattle.std.proofs.Common.{[], rules, ◌≡◌, ◌≢◌, inl, inr, ℕ, ◌+◌, ◌-◌, ◌≤◌, ◌<◌, List, ◌∷◌, ◌++◌, length, take, drop, get_or, refl, sym, ap, subst, ◌∙◌, append_assoc, length-append, length-drop, arith, codes, IsTrue, ◌==◌}
-use Rattle.std.proofs.Math.ListN.{get_or-append}
-use Rattle.std.proofs.Math.Seq.{get_or-append_seam, take-append_seam}
-use Rattle.std.proofs.lemmas.Bool.{cases_lt}
-use Rattle.std.proofs.lemmas.List.{append-nil, drop_more, take-append-le, drop-append-le, take-append-drop}
-use Rattle.std.proofs.lemmas.List.Elements.{All-get_or}
-use Rattle.kd_state.specs.SheetDay.{Day}
-use Rattle.kd_state.specs.Words.{IsWithout}
-use Rattle.kd_form.specs.FormParts.{BeginsHeading, IsFirstOf}
-use Rattle.kd_form.specs.FormText.{AreFirstParts, Turn}
-use Rattle.kd_form.specs.FormReading.{MayBegin}
+use Rattle.kd_form.proofs.Prelude.{[], rules, ◌≡◌, ◌≢◌, inl, inr, ℕ, ◌+◌, ◌-◌, ◌≤◌, ◌<◌, List, ◌∷◌, ◌++◌, length, take, drop, get_or, refl, sym, ap, subst, ◌∙◌, append_assoc, length-append, length-drop, arith, codes, IsTrue, ◌==◌, get_or-append, get_or-append_seam, take-append_seam, cases_lt, append-nil, drop_more, take-append-le, drop-append-le, take-append-drop, All-get_or, Day, IsWithout, BeginsHeading, IsFirstOf, AreFirstParts, Turn, MayBegin}
 use Rattle.kd_form.proofs.Plain.{head_unbroken, nothing_more, whole_line}
 use Rattle.kd_form.proofs.OneOrder.{Shorter, Longer, fronts}
 use Rattle.kd_form.proofs.Headings.{has_byte}

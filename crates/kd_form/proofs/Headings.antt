@@ -1,23 +1,9 @@
 -- The line of a heading: its words, its first bytes, and that a part has one.
-use Rattle.std.proofs.Common.{◌≡◌, ◌≢◌, ℕ, ◌^◌, ◌<◌, List, length, get_or, sym, ◌∙◌, append_assoc, arith, ◌+◌, ◌≤◌, [], ◌∷◌, take, refl, ap, inl, inr, ◌++◌, length-append, subst, drop, codes, decimal, All, Option, Some, None, MatchOption, if◌then◌else◌, ◌==◌, slice_index}
-use Rattle.std.specs.Int.{IsInRange}
+use Rattle.kd_form.proofs.Prelude.{◌≡◌, ◌≢◌, ℕ, ◌^◌, ◌<◌, List, length, get_or, sym, ◌∙◌, append_assoc, arith, ◌+◌, ◌≤◌, [], ◌∷◌, take, refl, ap, inl, inr, ◌++◌, length-append, subst, drop, codes, decimal, All, Option, Some, None, MatchOption, if◌then◌else◌, ◌==◌, slice_index, IsInRange, All-from_get_or, All-get_or, All-cons, All-nil, All-append, All-map, All-push, All-weaker, IsWithout, IsFirstPart, TextsTellFirstParts, line_of, words_of, IsWord, NumbersAreWords, LinesSplitIntoWords, PartsMakeLines, fraction, indicator_words, heading_words, length-map, append-nil, append_cancel_right, take_all, get_or-map, letters_text, AreFewLetters, IsFraction, IsLetterCount, IsHeading, AreHeadingWords, IsLineText, WithReturn, WithoutReturn, BeginsHeading, Day, RotorDay, OfRotors, OfPins, Heading, Indicator, HasIndicator, HasSlots, HasPins, get_or-append_seam, IsEnded, HasHeading}
 use Rattle.std.specs.Str.Parse.{digits_value}
 use Rattle.std.proofs.lemmas.Fmt.{digits_decimal, decimal_injective, length-decimal-le, decimal_nonempty}
 use Rattle.std.proofs.lemmas.Str.Parse.{IsNumeralModel, numerals_by_value, tells_by_index}
-use Rattle.std.proofs.lemmas.List.Elements.{All-from_get_or, All-get_or, All-cons, All-nil, All-append, All-map, All-push, All-weaker}
-use Rattle.kd_state.specs.Words.{IsWithout, IsFirstPart, TextsTellFirstParts, line_of, words_of, IsWord, NumbersAreWords, LinesSplitIntoWords, PartsMakeLines}
-use Rattle.kd_form.specs.Part.{fraction, indicator_words, heading_words}
-use Rattle.std.proofs.lemmas.List.{length-map, append-nil, append_cancel_right, take_all, get_or-map}
-use Rattle.kd_tables.specs.Text.{letters_text}
-use Rattle.kd_form.specs.FormParts.{AreFewLetters, IsFraction, IsLetterCount, IsHeading, AreHeadingWords, IsLineText, WithReturn, WithoutReturn, BeginsHeading}
-use Rattle.kd_state.specs.SheetDay.{Day, RotorDay, OfRotors, OfPins}
-use Rattle.kd_form.specs.declared.heading.Heading.{Heading}
-use Rattle.kd_form.specs.declared.heading.Indicator.{Indicator}
-use Rattle.kd_form.specs.Reading.{HasIndicator}
-use Rattle.kd_form.specs.KeyPatterns.{HasSlots, HasPins}
-use Rattle.std.proofs.Math.Seq.{get_or-append_seam, drop-cons}
-use Rattle.kd_form.specs.Order.{IsEnded}
-use Rattle.kd_form.specs.Receiving.{HasHeading}
+use Rattle.std.proofs.Math.Seq.{drop-cons}
 use Rattle.kd_form.proofs.Plain.{IsOff, same_front, IsPlain, plain_text, plain_letters, plain_more, without, whole_line}
 use Rattle.kd_form.proofs.Lines.{up_to_break}
 use Rattle.kd_form.proofs.OneOrder.{same_letters, same_word}

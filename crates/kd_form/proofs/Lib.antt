@@ -1,3 +1,4 @@
+pub mod Prelude
 pub mod Plain
 pub mod Picking
 pub mod Ciphers

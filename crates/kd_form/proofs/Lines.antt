@@ -1,27 +1,7 @@
 -- The lines of an order up to its text.
-use Rattle.std.proofs.Common.{◌≡◌, ◌≢◌, ℕ, zero, suc, ◌+◌, ◌-◌, ◌<◌, ◌≤◌, inl, inr, Bool, true, false, List, [], ◌∷◌, ◌++◌, length, get_or, take, drop, replicate, refl, sym, ap, subst, ◌∙◌, append_assoc, length-append, length-drop, arith, ◌==◌, nat_lt, All, codes}
-use Rattle.std.proofs.Math.ListN.{get_or-append}
-use Rattle.std.specs.List.{AllWithin}
-use Rattle.std.proofs.lemmas.Bool.Decides.{nat_tests}
-use Rattle.std.proofs.lemmas.Bool.{cases_Bool}
-use Rattle.std.proofs.lemmas.List.{get_or-take, drop_all, take_more, take-append-drop, length-replicate, take_all, get_or_default, length-take-le, append-nil, drop_more}
-use Rattle.std.proofs.lemmas.List.Elements.{All-append, All-cons, All-nil, All-tail, All-replicate, All-take, All-drop, All-push}
+use Rattle.kd_form.proofs.Prelude.{◌≡◌, ◌≢◌, ℕ, zero, suc, ◌+◌, ◌-◌, ◌<◌, ◌≤◌, inl, inr, Bool, true, false, List, [], ◌∷◌, ◌++◌, length, get_or, take, drop, replicate, refl, sym, ap, subst, ◌∙◌, append_assoc, length-append, length-drop, arith, ◌==◌, nat_lt, All, codes, get_or-append, AllWithin, nat_tests, cases_Bool, get_or-take, drop_all, take_more, take-append-drop, length-replicate, take_all, get_or_default, length-take-le, append-nil, drop_more, All-append, All-cons, All-nil, All-tail, All-replicate, All-take, All-drop, All-push, Unread, IsEnded, IsKeyLine, AreKeyLines, IsHead, filled_in, blanks, fits, letters_at, IsFilledLine, IsPatternLine, BreaksOff, letters_text, line_of, IsWithout, TextsTellFirstParts, Day, OfRotors, OfPins, Keys, Rotor, Pin, RotorKeys, key_words, AreKeys, AreRotorKeys, ArePinKeys, places_for, rotor_pattern, key_pattern, key_letters, IsAnyKeyLine, FormFault, Suits, IsKeysFault, IsFirstKeysFault}
 use Rattle.kd_state.specs.Machine.{AreLetters}
-use Rattle.kd_form.specs.declared.pattern_line.Unread.{Unread}
 use Rattle.kd_form.specs.declared.pattern_line.Unread.TheVariants.{Open, Off}
-use Rattle.kd_form.specs.Order.{IsEnded, IsKeyLine, AreKeyLines, IsHead}
-use Rattle.kd_form.specs.Patterns.{filled_in, blanks, fits, letters_at, IsFilledLine, IsPatternLine, BreaksOff}
-use Rattle.kd_tables.specs.Text.{letters_text}
-use Rattle.kd_state.specs.Words.{line_of, IsWithout, TextsTellFirstParts}
-use Rattle.kd_state.specs.SheetDay.{Day, OfRotors, OfPins}
-use Rattle.kd_form.specs.declared.keys.Keys.{Keys}
-use Rattle.kd_form.specs.declared.keys.Keys.TheVariants.{Rotor, Pin}
-use Rattle.kd_form.specs.declared.keys.RotorKeys.{RotorKeys}
-use Rattle.kd_form.specs.Keys.{key_words, AreKeys, AreRotorKeys, ArePinKeys}
-use Rattle.kd_form.specs.KeyPatterns.{places_for, rotor_pattern, key_pattern, key_letters, IsAnyKeyLine}
-use Rattle.kd_form.specs.declared.fault.FormFault.{FormFault}
-use Rattle.kd_form.specs.Making.{Suits}
-use Rattle.kd_form.specs.Sending.{IsKeysFault, IsFirstKeysFault}
 use Rattle.kd_form.proofs.Ciphers.{letter_read}
 use Rattle.kd_form.proofs.Plain.{IsPlain, plain_keys, same_sized, same_front}
 

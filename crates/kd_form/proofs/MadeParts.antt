@@ -1,31 +1,7 @@
 -- How a part of a form is made.
-use Rattle.std.proofs.Common.{[], ◌≡◌, ℕ, ◌+◌, ◌-◌, ◌%◌, ◌<◌, List, ◌∷◌, ◌++◌, length, map, take, drop, refl, sym, ap, ◌∙◌, append_assoc, length-drop, add-one, arith, min, Bool, true, false, subst, ◌≤◌, replicate, length-append, ◌==◌, codes, decimal, Option, Some, None, MatchOption, IsSome, All, option_map}
-use Rattle.std.specs.Int.{div_ceil}
+use Rattle.kd_form.proofs.Prelude.{[], ◌≡◌, ℕ, ◌+◌, ◌-◌, ◌%◌, ◌<◌, List, ◌∷◌, ◌++◌, length, map, take, drop, refl, sym, ap, ◌∙◌, append_assoc, length-drop, add-one, arith, min, Bool, true, false, subst, ◌≤◌, replicate, length-append, ◌==◌, codes, decimal, Option, Some, None, MatchOption, IsSome, All, option_map, div_ceil, flat_map, join_with_byte, div-eq_of_lt, mod-eq_of_lt, eqb-true, append-nil, take_min, drop_min, length-map, length-replicate, letters_text, Heading, fraction, indicator_words, heading_words, pieces, groups_of, behind_spaces, with_line, body_text, part_text, Part, Day, OfRotors, OfPins, pin_day, RotorDay, PinDay, IsLegalDay, Keys, Rotor, Pin, RotorKeys, PinKeys, Indicator, IsInternalKey, HaveRunOut, Suits, IsMadeText, part_of, indicator_of, rotor_letters, enciphered_choice, pin_letters, list_letters, IsMade, cipher_from, part_size, pin_indicators, filled, sheet_key, IsWindow, take-append_seam, drop-append_seam, HasIndicator, message_key, HasIndicatorsAround, group_in, keys_in, list_in, text_in, IsLettersText, All-append, All-cons, All-replicate, TheDayDeciphersItself, IsFraction, IsHeading, sent_letters, AreKeys}
 use Rattle.std.specs.Simd.{first_chunks}
-use Rattle.std.specs.List.{flat_map, join_with_byte}
-use Rattle.std.proofs.Math.Nat.{div-eq_of_lt, mod-eq_of_lt}
-use Rattle.std.proofs.lemmas.Bool.{eqb-true}
-use Rattle.std.proofs.lemmas.List.{append-nil, take_min, drop_min, length-map, length-replicate}
-use Rattle.kd_tables.specs.Text.{letters_text}
-use Rattle.kd_form.specs.declared.heading.Heading.{Heading}
-use Rattle.kd_form.specs.Part.{fraction, indicator_words, heading_words, pieces, groups_of, behind_spaces, with_line, body_text, part_text, Part}
-use Rattle.kd_state.specs.SheetDay.{Day, OfRotors, OfPins, pin_day, RotorDay, PinDay, IsLegalDay}
-use Rattle.kd_form.specs.declared.keys.Keys.{Keys}
-use Rattle.kd_form.specs.declared.keys.Keys.TheVariants.{Rotor, Pin}
-use Rattle.kd_form.specs.declared.keys.RotorKeys.{RotorKeys}
-use Rattle.kd_form.specs.declared.keys.PinKeys.{PinKeys}
-use Rattle.kd_form.specs.declared.heading.Indicator.{Indicator}
-use Rattle.kd_form.specs.InternalKey.{IsInternalKey, HaveRunOut}
-use Rattle.kd_form.specs.Making.{Suits, IsMadeText, part_of, indicator_of, rotor_letters, enciphered_choice, pin_letters, list_letters, IsMade, cipher_from, part_size, pin_indicators, filled}
-use Rattle.kd_state.specs.TwoCiphers.{sheet_key, IsWindow}
-use Rattle.std.proofs.Math.Seq.{take-append_seam, drop-append_seam}
-use Rattle.kd_form.specs.Reading.{HasIndicator, message_key, HasIndicatorsAround, group_in, keys_in, list_in, text_in, IsLettersText}
 use Rattle.kd_form.proofs.Ciphers.{length-cipher_from, letters-cipher_from}
-use Rattle.std.proofs.lemmas.List.Elements.{All-append, All-cons, All-replicate}
-use Rattle.kd_state.specs.Laws.{TheDayDeciphersItself}
-use Rattle.kd_form.specs.FormParts.{IsFraction, IsHeading}
-use Rattle.kd_form.specs.FormText.{sent_letters}
-use Rattle.kd_form.specs.Keys.{AreKeys}
 
 -- -------- letters in groups and lines, piece by piece
 

@@ -1,13 +1,7 @@
 -- A form is cut into parts in one way.
-use Rattle.std.proofs.Common.{◌≡◌, ℕ, ◌+◌, ◌-◌, ◌≤◌, inl, inr, List, [], ◌∷◌, ◌++◌, length, drop, get_or, refl, sym, ap, subst, ◌∙◌, length-append, arith, ◌⊎◌, ◌<◌, take, ltb, slice_index, codes, Bool, ◌&&◌, Decides, bytes_eq}
-use Rattle.std.proofs.Math.Seq.{drop-append_seam}
-use Rattle.std.proofs.lemmas.List.{append-nil, take-append-drop, drop_more, get_or_past}
-use Rattle.kd_form.specs.FormParts.{BeginsHeading, IsFirstOf}
-use Rattle.kd_form.specs.FormText.{AreFirstParts}
+use Rattle.kd_form.proofs.Prelude.{◌≡◌, ℕ, ◌+◌, ◌-◌, ◌≤◌, inl, inr, List, [], ◌∷◌, ◌++◌, length, drop, get_or, refl, sym, ap, subst, ◌∙◌, length-append, arith, ◌⊎◌, ◌<◌, take, ltb, slice_index, codes, Bool, ◌&&◌, Decides, bytes_eq, drop-append_seam, append-nil, take-append-drop, drop_more, get_or_past, BeginsHeading, IsFirstOf, AreFirstParts, Decides-and, Decides-ltb, not_from_Decides, cases_lt, cases_eq, cases_Bool}
 use Rattle.kd_form.proofs.OneOrder.{Shorter, Longer, fronts}
-use Rattle.std.proofs.lemmas.Bool.Decides.{Decides-and, Decides-ltb, not_from_Decides}
 use Rattle.std.proofs.lemmas.Slice.Eq.{bytes_eq-Decides}
-use Rattle.std.proofs.lemmas.Bool.{cases_lt, cases_eq, cases_Bool}
 
 -- -------- a form is cut into parts in one way
 

@@ -1,24 +1,7 @@
 -- An order is read in one way, and becomes one form, or has one fault.
-use Rattle.std.proofs.Common.{◌≡◌, ◌≢◌, ℕ, ◌+◌, inl, inr, List, [], ◌∷◌, ◌++◌, length, map, refl, sym, ap, subst, ◌∙◌, append_assoc, arith, Err, Ok, Result, drop, ◌≤◌, ◌⊎◌, codes, All, slice_index, IsTrue, IsFalse}
-use Rattle.std.proofs.lemmas.List.{append_cancel_right, append-nil}
-use Rattle.std.proofs.lemmas.List.Elements.{All-head, All-tail, All-map}
-use Rattle.kd_tables.specs.Text.{letters_text, is_text_byte}
-use Rattle.kd_state.specs.Words.{line_of, TextsTellFirstParts}
-use Rattle.kd_state.specs.SheetDay.{Day, OfRotors, OfPins}
-use Rattle.kd_form.specs.declared.keys.Keys.{Keys}
-use Rattle.kd_form.specs.declared.keys.Keys.TheVariants.{Rotor, Pin}
-use Rattle.kd_form.specs.InternalKey.{ComesFirst, IsInternalKey}
-use Rattle.kd_form.specs.Keys.{key_words, AreKeys}
-use Rattle.kd_form.specs.Order.{IsEnded, AreKeyLines, IsOrder, IsHead, IsHeadFault, IsKeyLine}
-use Rattle.kd_form.specs.Making.{IsMadeText, enciphered_choice, part_size, Suits}
-use Rattle.kd_form.specs.Part.{pieces}
-use Rattle.kd_form.specs.Sending.{AreMadeTexts, text_letters, parts_needed, IsBadAt, IsKeysFault, IsFirstKeysFault, StandsInOrder, InHead, InKeys, InText, Cut, NoLetter, InParts, IsSendFault, IsFormOf}
-use Rattle.kd_form.specs.Laws.{OrdersBecomeOneForm, SentOrdersHaveNoFault, OrdersHaveOneFault}
+use Rattle.kd_form.proofs.Prelude.{◌≡◌, ◌≢◌, ℕ, ◌+◌, inl, inr, List, [], ◌∷◌, ◌++◌, length, map, refl, sym, ap, subst, ◌∙◌, append_assoc, arith, Err, Ok, Result, drop, ◌≤◌, ◌⊎◌, codes, All, slice_index, IsTrue, IsFalse, append_cancel_right, append-nil, All-head, All-tail, All-map, letters_text, is_text_byte, line_of, TextsTellFirstParts, Day, OfRotors, OfPins, Keys, Rotor, Pin, ComesFirst, IsInternalKey, key_words, AreKeys, IsEnded, AreKeyLines, IsOrder, IsHead, IsHeadFault, IsKeyLine, IsMadeText, enciphered_choice, part_size, Suits, pieces, AreMadeTexts, text_letters, parts_needed, IsBadAt, IsKeysFault, IsFirstKeysFault, StandsInOrder, InHead, InKeys, InText, Cut, NoLetter, InParts, IsSendFault, IsFormOf, OrdersBecomeOneForm, SentOrdersHaveNoFault, OrdersHaveOneFault, false≢true, FormFault, BadByte, EmptyText, PartKeys}
 use Rattle.kd_form.proofs.Plain.{same_front, plain_keys, text_plain, nothing_more}
 use Rattle.kd_form.proofs.Lines.{key_first, text_front, same_line}
-use Rattle.std.proofs.lemmas.Bool.{false≢true}
-use Rattle.kd_form.specs.declared.fault.FormFault.{FormFault}
-use Rattle.kd_form.specs.declared.fault.FormFault.TheVariants.{BadByte, EmptyText, PartKeys}
 
 -- -------- answers
 

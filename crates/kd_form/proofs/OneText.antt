@@ -1,25 +1,9 @@
 -- A form becomes one text, or has one fault.
-use Rattle.std.proofs.Common.{◌≡◌, ◌≢◌, ℕ, ◌+◌, ◌-◌, ◌⊎◌, inl, inr, List, [], ◌∷◌, ◌++◌, length, Result, Ok, Err, MatchResult, refl, sym, ap, subst, ◌∙◌, length-append, arith, All, IsTrue, Option, Some, None, append-nil}
-use Rattle.kd_tables.specs.Text.{is_text_byte}
-use Rattle.kd_state.specs.SheetDay.{Day}
-use Rattle.kd_state.specs.TwoCiphers.{sheet_key, IsWindow}
-use Rattle.kd_state.specs.Words.{TextsTellFirstParts, NumbersAreWords, IsFirstPart}
-use Rattle.kd_form.specs.declared.fault.FormFault.{FormFault}
-use Rattle.kd_form.specs.declared.fault.FormFault.TheVariants.{BadByte, BadHeading, CountWrong, PartOrder, KeyNotOnWheel, WrongGroup, IndicatorSpent, IndicatorsDiffer}
-use Rattle.kd_form.specs.declared.heading.Heading.{Heading}
-use Rattle.kd_form.specs.declared.heading.Indicator.{Indicator}
-use Rattle.kd_form.specs.InternalKey.{IsInternalKey}
-use Rattle.kd_form.specs.Making.{cipher_from, list_letters, enciphered_choice}
-use Rattle.kd_form.specs.Sending.{letters_from, IsBadAt}
-use Rattle.kd_form.specs.Reading.{HasIndicatorsAround, keys_in, list_in, text_in, IsPinText, IsPinFault, InIndicators, InExternal, InList, InChoice, IsLettersText, IsLettersFault}
-use Rattle.kd_form.specs.Receiving.{HasHeading, IsExpected, IsPartRead, IsPartFault, InHeading, InNumber, InBody, IsEarlyFault, IsBodyFault}
+use Rattle.std.proofs.Common.{append-nil}
+use Rattle.kd_form.proofs.Prelude.{◌≡◌, ◌≢◌, ℕ, ◌+◌, ◌-◌, ◌⊎◌, inl, inr, List, [], ◌∷◌, ◌++◌, length, Result, Ok, Err, MatchResult, refl, sym, ap, subst, ◌∙◌, length-append, arith, All, IsTrue, Option, Some, None, is_text_byte, Day, sheet_key, IsWindow, TextsTellFirstParts, NumbersAreWords, IsFirstPart, FormFault, BadByte, BadHeading, CountWrong, PartOrder, KeyNotOnWheel, WrongGroup, IndicatorSpent, IndicatorsDiffer, Heading, Indicator, IsInternalKey, cipher_from, list_letters, enciphered_choice, letters_from, IsBadAt, HasIndicatorsAround, keys_in, list_in, text_in, IsPinText, IsPinFault, InIndicators, InExternal, InList, InChoice, IsLettersText, IsLettersFault, HasHeading, IsExpected, IsPartRead, IsPartFault, InHeading, InNumber, InBody, IsEarlyFault, IsBodyFault, BeginsHeading, AreFirstParts, ArePartsRead, IsReadTo, given_text, IsTextOf, count_due, Turn, IsRefusedPart, IsRefusedEarly, IsRefusedForGood, NoHeading, InWhole, InLast, InPart, TooFew, IsReceiveFault, MayBegin, FormsBecomeOneText, ReceivedFormsHaveNoFault, FormsHaveOneFault}
 use Rattle.kd_form.proofs.Received.{turn_at_start}
 use Rattle.kd_form.proofs.OneOrder.{IsCaught, only_this, only_either, only_found, only_judged, only_caught, one_internal_key, one_bad_byte, no_bad_byte, IsFound, IsJudged, IsOnly}
 use Rattle.kd_form.proofs.Headings.{one_heading, no_empty_heading, begins_there}
-use Rattle.kd_form.specs.FormParts.{BeginsHeading}
-use Rattle.kd_form.specs.FormText.{AreFirstParts, ArePartsRead, IsReadTo, given_text, IsTextOf, count_due, Turn, IsRefusedPart, IsRefusedEarly, IsRefusedForGood, NoHeading, InWhole, InLast, InPart, TooFew, IsReceiveFault}
-use Rattle.kd_form.specs.FormReading.{MayBegin}
-use Rattle.kd_form.specs.Laws.{FormsBecomeOneText, ReceivedFormsHaveNoFault, FormsHaveOneFault}
 use Rattle.kd_form.proofs.OneCut.{one_cut, empty_part, Alike, Further, Before, cuts, FirstCut, first_cut}
 use Rattle.kd_form.proofs.Growing.{begins_more, nothing_left}
 

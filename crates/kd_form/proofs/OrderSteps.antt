@@ -1,41 +1,19 @@
 -- The reader of an order, byte by byte, and at the end.
-use Rattle.std.proofs.Common.{[], ◌≡◌, ◌≢◌, ℕ, zero, suc, ◌+◌, ◌-◌, ◌*◌, length-take, ◌<◌, ◌≤◌, inl, inr, List, ◌∷◌, ◌++◌, Some, length, take, drop, refl, sym, ap, subst, ◌∙◌, append_assoc, append-nil, length-append, length-drop, arith, get_or, ◌^◌, Option, Result, Ok, Err, IsTrue, IsFalse, option_to_list, slice_get, codes, All, MatchResult}
-use Rattle.std.specs.Int.{div_ceil}
-use Rattle.std.proofs.lemmas.Bool.{cases_lt}
-use Rattle.std.proofs.Math.Nat.{le_of_mul-le-mul_left}
+use Rattle.std.proofs.Common.{length-take, append-nil}
+use Rattle.kd_form.proofs.Prelude.{[], ◌≡◌, ◌≢◌, ℕ, zero, suc, ◌+◌, ◌-◌, ◌*◌, ◌<◌, ◌≤◌, inl, inr, List, ◌∷◌, ◌++◌, Some, length, take, drop, refl, sym, ap, subst, ◌∙◌, append_assoc, length-append, length-drop, arith, get_or, ◌^◌, Option, Result, Ok, Err, IsTrue, IsFalse, option_to_list, slice_get, codes, All, MatchResult, div_ceil, cases_lt, le_of_mul-le-mul_left, nil_from_length, take_all, drop_all, drop_at, take_at, drop-take, drop-drop, take-take, take_more, length-take-le, Day, Keys, pieces, IsMadeText, part_size, Suits, parts_needed, AreMadeTexts, blank_of, letter_of_byte, letters_from, text_letters, IsFirstKeysFault, StandsInOrder, InHead, InKeys, InText, NoLetter, InParts, CanBeWritten, IsAllowedFront, IsSentBefore, orders, AreTaken, IsHeadRead, HeadIsRead, step_of, IsTextRead, IsLastTaken, IsFresh, IsOrderRead, OfHead, OfText, All-nil, All-push, All-head, filter_map-append, IsWithout, TextsTellFirstParts, Unread, AreKeys, filled_in, IsPatternLine, BreaksOff, key_pattern, IsAnyKeyLine, IsEnded, IsKeyLine, AreKeyLines, IsHead, IsOrder, IsHeadFault, is_text_byte, FormFault, BadByte, IsRefused, Closes, Held}
 use Rattle.std.proofs.lemmas.Grind.{div_ceil_times}
-use Rattle.std.proofs.lemmas.List.{nil_from_length, take_all, drop_all, drop_at, take_at, drop-take, drop-drop, take-take, take_more, length-take-le}
 use Rattle.std.proofs.lemmas.Option.{slice_get_within, get_or_from_slice_get}
-use Rattle.kd_state.specs.SheetDay.{Day}
-use Rattle.kd_form.specs.declared.keys.Keys.{Keys}
 use Rattle.kd_form.specs.declared.order_reader.parts.PartWriter.{PartWriter}
-use Rattle.kd_form.specs.Part.{pieces}
-use Rattle.kd_form.specs.Making.{IsMadeText, part_size, Suits}
-use Rattle.kd_form.specs.Sending.{parts_needed, AreMadeTexts, blank_of, letter_of_byte, letters_from, text_letters, IsFirstKeysFault, StandsInOrder, InHead, InKeys, InText, NoLetter, InParts}
-use Rattle.kd_form.specs.SendStream.{CanBeWritten, IsAllowedFront, IsSentBefore, orders}
-use Rattle.kd_form.specs.SendSteps.{AreTaken, IsHeadRead, HeadIsRead, step_of, IsTextRead, IsLastTaken, IsFresh, IsOrderRead, OfHead, OfText}
 use Rattle.kd_form.proofs.MadeParts.{pieces-next, pieces-none}
-use Rattle.std.proofs.lemmas.List.Elements.{All-nil, All-push, All-head, filter_map-append}
-use Rattle.kd_state.specs.Words.{IsWithout, TextsTellFirstParts}
 use Rattle.kd_form.specs.declared.order_reader.head.HeadReader.{HeadReader}
-use Rattle.kd_form.specs.declared.pattern_line.Unread.{Unread}
 use Rattle.kd_form.specs.declared.pattern_line.Unread.TheVariants as unread
-use Rattle.kd_form.specs.Keys.{AreKeys}
-use Rattle.kd_form.specs.Patterns.{filled_in, IsPatternLine, BreaksOff}
-use Rattle.kd_form.specs.KeyPatterns.{key_pattern, IsAnyKeyLine}
-use Rattle.kd_form.specs.Order.{IsEnded, IsKeyLine, AreKeyLines, IsHead, IsOrder, IsHeadFault}
 use Rattle.kd_form.proofs.Lines.{length-filled, as_form_line, IsUpToBreak, up_to_break, without_line, lines_more, some_more, front_byte, text_first, text_only, text_line, keys_begin, key_line_first}
 use Rattle.kd_form.proofs.Plain.{All-front, key_line_without, text_unbroken, nothing_more}
 use Rattle.kd_form.proofs.Headings.{has_byte}
 use Rattle.kd_form.proofs.OneOrder.{Shorter, Longer, fronts, no_head_fault, no_keys_fault, nothing_stands, nothing_stands_yet, one_order, bad_longer}
-use Rattle.kd_tables.specs.Text.{is_text_byte}
-use Rattle.kd_form.specs.declared.fault.FormFault.{FormFault}
-use Rattle.kd_form.specs.declared.fault.FormFault.TheVariants.{BadByte}
 use Rattle.kd_form.specs.declared.order_reader.OrderReader.{OrderReader}
 use Rattle.kd_form.specs.declared.order_reader.Stage.TheVariants as stages
 use Rattle.kd_form.specs.SendStream as stream
-use Rattle.kd_form.specs.Streams.{IsRefused, Closes}
-use Rattle.kd_form.specs.StreamSteps.{Held}
 use Rattle.kd_form.proofs.TextLetters.{letters_first, at_most_one}
 
 -- -------- the parts of an order, letter by letter

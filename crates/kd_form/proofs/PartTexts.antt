@@ -1,17 +1,7 @@
 -- The text of a part: its letters in groups and lines.
-use Rattle.std.proofs.Common.{◌≡◌, ℕ, zero, suc, ◌+◌, ◌<◌, ◌≤◌, ◌⊎◌, inl, List, [], ◌∷◌, ◌++◌, length, take, drop, refl, sym, ap, subst, ◌∙◌, append_assoc, length-drop, arith, get_or, ◌≢◌, map, All, IsTrue, Some, None, codes, false, append-nil, take-append-drop}
-use Rattle.std.specs.List.{flat_map, cons_option}
-use Rattle.std.proofs.lemmas.Bool.Decides.{nat_tests}
-use Rattle.std.proofs.lemmas.List.Elements.{All-nil, All-cons, All-head, All-tail, All-append, All-push, All-take, All-drop, filter_map-append, All-get_or}
-use Rattle.kd_tables.specs.Text.{is_text_byte, letters_text}
-use Rattle.kd_state.specs.Words.{line_of, IsWithout}
-use Rattle.kd_form.specs.Part.{pieces, groups_of, with_line, body_text, Part, heading_words, part_text}
-use Rattle.kd_form.specs.Sending.{letter_of_byte, letters_from}
+use Rattle.std.proofs.Common.{append-nil, take-append-drop}
+use Rattle.kd_form.proofs.Prelude.{◌≡◌, ℕ, zero, suc, ◌+◌, ◌<◌, ◌≤◌, ◌⊎◌, inl, List, [], ◌∷◌, ◌++◌, length, take, drop, refl, sym, ap, subst, ◌∙◌, append_assoc, length-drop, arith, get_or, ◌≢◌, map, All, IsTrue, Some, None, codes, false, flat_map, cons_option, nat_tests, All-nil, All-cons, All-head, All-tail, All-append, All-push, All-take, All-drop, filter_map-append, All-get_or, is_text_byte, letters_text, line_of, IsWithout, pieces, groups_of, with_line, body_text, Part, heading_words, part_text, letter_of_byte, letters_from, false≢true, Day, IsHeading, BeginsHeading, IsFirstOf, HasHeading}
 use Rattle.kd_form.proofs.MadeParts.{pieces-next, pieces-none}
-use Rattle.std.proofs.lemmas.Bool.{false≢true}
-use Rattle.kd_state.specs.SheetDay.{Day}
-use Rattle.kd_form.specs.FormParts.{IsHeading, BeginsHeading, IsFirstOf}
-use Rattle.kd_form.specs.Receiving.{HasHeading}
 use Rattle.kd_form.proofs.Headings.{plain_heading, words_begin, has_byte}
 use Rattle.kd_form.proofs.OneOrder.{Shorter, Longer, fronts}
 use Rattle.kd_form.proofs.Plain.{head_unbroken, without}

@@ -1,15 +1,5 @@
 -- Fronts of a list that are told by what they have; text in which no byte is below the space, and bytes that a text is without.
-use Rattle.std.proofs.Common.{◌≡◌, ◌≢◌, ℕ, ◌+◌, ◌≤◌, ◌<◌, true, List, [], ◌∷◌, ◌++◌, refl, subst, length-append, arith, take, ap, ◌∙◌, length, sym, codes, All, nat_le, IsTrue}
-use Rattle.std.specs.List.{list_all}
-use Rattle.std.proofs.lemmas.Bool.Decides.{nat_tests}
-use Rattle.std.proofs.lemmas.List.{get_or_append_left, take_all, length-take}
-use Rattle.std.proofs.lemmas.List.Sums.{AllPass-from_list_all}
-use Rattle.std.proofs.lemmas.List.Elements.{All-append, All-cons, All-map, All-weaker, All-head, All-tail}
-use Rattle.kd_tables.specs.Text.{letters_text}
-use Rattle.kd_state.specs.Words.{line_of, IsWithout}
-use Rattle.kd_form.specs.declared.keys.Keys.{Keys}
-use Rattle.kd_form.specs.declared.keys.Keys.TheVariants.{Rotor, Pin}
-use Rattle.kd_form.specs.Keys.{key_words}
+use Rattle.kd_form.proofs.Prelude.{◌≡◌, ◌≢◌, ℕ, ◌+◌, ◌≤◌, ◌<◌, true, List, [], ◌∷◌, ◌++◌, refl, subst, length-append, arith, take, ap, ◌∙◌, length, sym, codes, All, nat_le, IsTrue, list_all, nat_tests, get_or_append_left, take_all, length-take, AllPass-from_list_all, All-append, All-cons, All-map, All-weaker, All-head, All-tail, letters_text, line_of, IsWithout, Keys, Rotor, Pin, key_words}
 
 -- the front of a list of which each item has a property
 pub All-front : (P : ℕ → Type 0) (xs ys : List ℕ) → All P (xs ++ ys) → All P xs

@@ -1,11 +1,5 @@
 -- The parts of a form, read one after another.
-use Rattle.std.proofs.Common.{◌≡◌, ◌≢◌, inl, inr, ℕ, ◌+◌, List, [], ◌∷◌, ◌++◌, length, Some, refl, sym, ap, subst, ◌∙◌, append_assoc, length-append, arith}
-use Rattle.std.proofs.lemmas.List.{append-nil, map-append}
-use Rattle.kd_state.specs.SheetDay.{Day}
-use Rattle.kd_form.specs.declared.fault.FormFault.TheVariants.{PartOrder}
-use Rattle.kd_form.specs.FormParts.{IsFirstOf}
-use Rattle.kd_form.specs.Receiving.{IsExpected, IsPartRead}
-use Rattle.kd_form.specs.FormText.{AreFirstParts, ArePartsRead, IsReadTo, given_letters, IsTextOf, count_due, Turn, IsRefusedAtEnd, TooFew}
+use Rattle.kd_form.proofs.Prelude.{◌≡◌, ◌≢◌, inl, inr, ℕ, ◌+◌, List, [], ◌∷◌, ◌++◌, length, Some, refl, sym, ap, subst, ◌∙◌, append_assoc, length-append, arith, append-nil, map-append, Day, PartOrder, IsFirstOf, IsExpected, IsPartRead, AreFirstParts, ArePartsRead, IsReadTo, given_letters, IsTextOf, count_due, Turn, IsRefusedAtEnd, TooFew}
 
 -- ---- one part more
 

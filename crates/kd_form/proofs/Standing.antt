@@ -1,27 +1,5 @@
 -- What refuses a form: its parts, one after another, and for good.
-use Rattle.std.proofs.Common.{[], ◌≡◌, inl, inr, ℕ, false, List, refl, sym, ap, subst, ◌∙◌, Option, Result, Err, ◌≢◌, ◌⊎◌, ◌+◌, ◌-◌, ◌<◌, ◌≤◌, ◌∷◌, ◌++◌, length, drop, get_or, append_assoc, length-append, arith, codes, All, IsTrue}
-use Rattle.kd_tables.specs.Ports.{Port, Fail}
-use Rattle.kd_state.specs.declared.machine.parts.Parts.{Parts}
-use Rattle.kd_state.specs.SheetDay.{Day}
-use Rattle.kd_form.specs.declared.fault.FormFault.{FormFault}
-use Rattle.kd_form.specs.declared.fault.FormFault.TheVariants.{BadByte}
-use Rattle.kd_form.specs.Receiving.{InHeading, InNumber, InBody, IsEarlyFault}
-use Rattle.kd_form.specs.FormText.{IsRefusedForGood, NoHeading, InWhole, InLast, form_message, given_letters, count_due, Turn, IsRefusedEarly}
-use Rattle.kd_form.specs.OnTheKey.{IsKeyFault}
-use Rattle.kd_form.specs.Sending.{IsBadAt}
-use Rattle.kd_form.specs.SendStream.{orders}
-use Rattle.kd_form.specs.Streams.{Answers, AreWell, is_device, is_off_key}
-use Rattle.kd_form.specs.Typing.{texts}
-use Rattle.std.proofs.Math.Seq.{drop-append_seam}
-use Rattle.std.proofs.Math.ListN.{get_or-append}
-use Rattle.std.proofs.lemmas.Bool.{cases_lt}
-use Rattle.std.proofs.lemmas.List.{append-nil, nil_from_length}
-use Rattle.std.proofs.lemmas.List.Elements.{All-same}
-use Rattle.kd_tables.specs.Text.{is_text_byte}
-use Rattle.kd_state.specs.Words.{IsWithout, IsFirstPart, TextsTellFirstParts, NumbersAreWords}
-use Rattle.kd_form.specs.FormParts.{BeginsHeading, IsFirstOf}
-use Rattle.kd_form.specs.Laws.{FormsStayRefused}
-use Rattle.std.proofs.lemmas.List.Sums.{AllPass-from_list_all}
+use Rattle.kd_form.proofs.Prelude.{[], ◌≡◌, inl, inr, ℕ, false, List, refl, sym, ap, subst, ◌∙◌, Option, Result, Err, ◌≢◌, ◌⊎◌, ◌+◌, ◌-◌, ◌<◌, ◌≤◌, ◌∷◌, ◌++◌, length, drop, get_or, append_assoc, length-append, arith, codes, All, IsTrue, Port, Fail, Parts, Day, FormFault, BadByte, InHeading, InNumber, InBody, IsEarlyFault, IsRefusedForGood, NoHeading, InWhole, InLast, form_message, given_letters, count_due, Turn, IsRefusedEarly, IsKeyFault, IsBadAt, orders, Answers, AreWell, is_device, is_off_key, texts, drop-append_seam, get_or-append, cases_lt, append-nil, nil_from_length, All-same, is_text_byte, IsWithout, IsFirstPart, TextsTellFirstParts, NumbersAreWords, BeginsHeading, IsFirstOf, FormsStayRefused, AllPass-from_list_all}
 use Rattle.kd_form.proofs.Plain.{All-front}
 use Rattle.kd_form.proofs.Headings.{ended_heading, heading_there}
 use Rattle.kd_form.proofs.OneCut.{FirstCut, first_cut, some_byte}

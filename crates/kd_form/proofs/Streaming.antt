@@ -1,18 +1,12 @@
 -- Bytes that are fed one after another, and reads that follow one another.
-use Rattle.std.proofs.Common.{[], ◌≡◌, ℕ, ◌+◌, ◌-◌, ◌≤◌, ◌<◌, Bool, true, false, ◌||◌, List, ◌∷◌, ◌++◌, Option, Some, Result, Ok, Err, length, take, drop, IsTrue, refl, sym, ap, subst, ◌∙◌, append_assoc, append-nil, take-append-drop, length-append, length-drop, arith}
+use Rattle.std.proofs.Common.{append-nil, take-append-drop}
 use Rattle.std.specs.Io.{StartsWith}
-use Rattle.std.specs.Io.KnownBytes.{Appends, Consumes, Keeps, IsAtEnd}
+use Rattle.kd_form.proofs.Prelude.{[], ◌≡◌, ℕ, ◌+◌, ◌-◌, ◌≤◌, ◌<◌, Bool, true, false, ◌||◌, List, ◌∷◌, ◌++◌, Option, Some, Result, Ok, Err, length, take, drop, IsTrue, refl, sym, ap, subst, ◌∙◌, append_assoc, length-append, length-drop, arith, Appends, Consumes, Keeps, IsAtEnd, starts_with_of_append, read_limit, Port, IsWell, Ends, TakesFront, FormFault, Message, IsOpen, ByThen, ByTheEnd, Answers, Whole, Stands, AtEnd, TooLong, SourceFails, SinkFails, IsStreamed, FallsShort, ClosesAt, Held, HasRoom, FedTo, IsFed, FeedsAll, EndsIn, ClosesAs, WritesWhole, IsRead, ReadsNext, fault_of, answer_to, stops_at_device}
 use Rattle.std.proofs.KnownBytes.{Consumes-nil, Consumes-kept, Consumes-trans, Appends-nil, Appends-trans, starts_with_rest}
-use Rattle.std.proofs.Transfers.{starts_with_of_append}
-use Rattle.kd_tables.specs.Ports.{read_limit, Port, IsWell, Ends}
-use Rattle.kd_tables.specs.Writing.{TakesFront}
-use Rattle.kd_form.specs.declared.fault.FormFault.{FormFault}
 use Rattle.kd_form.specs.declared.fault.FormFault.TheVariants as faults
 use Rattle.kd_form.specs.declared.stream.stop.Stop.{Stop}
 use Rattle.kd_form.specs.declared.stream.stop.Stop.TheVariants as stops
-use Rattle.kd_form.specs.Streams.{Message, IsOpen, ByThen, ByTheEnd, Answers, Whole, Stands, AtEnd, TooLong, SourceFails, SinkFails, IsStreamed, FallsShort}
 use Rattle.kd_form.specs.StreamSteps.{Ends as MessageEnds}
-use Rattle.kd_form.specs.StreamSteps.{ClosesAt, Held, HasRoom, FedTo, IsFed, FeedsAll, EndsIn, ClosesAs, WritesWhole, IsRead, ReadsNext, fault_of, answer_to, stops_at_device}
 
 -- what is known of a port, in its order
 abbrev pub over : Option (List ℕ) → Option (List ℕ) → Bool → Bool → Port
@@ -38,7 +32,8 @@ starts_longer bytes more front starts =
     starts_with_of_append (bytes ++ more) front (drop (length front) bytes ++ more) (ap (λ l. l ++ more) rest ∙ append_assoc front (drop (length front) bytes) more)
 
 -- less of what was made was put, so less of what was due
-pub short_of : (text made : List ℕ) (count : ℕ) → count < length made → FallsShort (text ++ made) (text ++ take count made)
+pub short_of : (text made : List ℕ) (count : ℕ) → count < length made
+    → FallsShort (text ++ made) (text ++ take count made)
 short_of text made count less = record {
   missing = drop count made;
   some = λ none. omega (arith, less, ap length none, length-drop count made);
@@ -152,7 +147,8 @@ pub SoFar-nil : (m : Message) (holds : List ℕ → List ℕ → Type 0) (had to
     → SoFar m holds (over had had a a) (over took took d d) 0
 SoFar-nil m holds had took a d held = grind (arith, Consumes-nil, Appends-nil)
 
-pub room_behind : (m : Message) (holds : List ℕ → List ℕ → Type 0) (source sink : Port) (count : ℕ) → SoFar m holds source sink count → HasRoom m holds 0
+pub room_behind : (m : Message) (holds : List ℕ → List ℕ → Type 0) (source sink : Port) (count : ℕ)
+    → SoFar m holds source sink count → HasRoom m holds 0
 room_behind m holds source sink count before =
     record { bytes = before.read; text = before.text; held = before.held; within = omega (arith, before.counted, before.within) }
 
@@ -192,7 +188,8 @@ module _ (m : Message) (old new : List ℕ → List ℕ → Type 0) (had has nex
 
 -- what was left of a message was put in part
 pub closed_in_part : (m : Message) (old : List ℕ → List ℕ → Type 0) (made : List ℕ) (took wrote : Option (List ℕ)) (d f : Bool) (answer : Result (Unit {0}) FormFault)
-    → MessageEnds m old made answer → TakesFront took wrote made → ClosesAt m old (over took wrote d f) (Err stops.Device)
+    → MessageEnds m old made answer → TakesFront took wrote made
+    → ClosesAt m old (over took wrote d f) (Err stops.Device)
 closed_in_part m old made took wrote d f answer ends part bytes text held = record {
   made = take part.0 made;
   written = part.2;

@@ -1,7 +1,5 @@
 -- The letters of a text, byte by byte.
-use Rattle.std.proofs.Common.{◌≡◌, ℕ, ◌≤◌, List, ◌∷◌, ◌++◌, length, arith, Option, option_to_list}
-use Rattle.std.specs.List.{cons_option}
-use Rattle.kd_form.specs.Sending.{letter_of_byte, letters_from}
+use Rattle.kd_form.proofs.Prelude.{◌≡◌, ℕ, ◌≤◌, List, ◌∷◌, ◌++◌, length, arith, Option, option_to_list, cons_option, letter_of_byte, letters_from}
 
 one_option : (found : Option ℕ) (rest : List ℕ) → cons_option found rest ≡ option_to_list found ++ rest
 one_option found rest = grind arith

@@ -1,23 +1,8 @@
 -- What a piece of a text lights up, and what was typed so far.
-use Rattle.std.proofs.Common.{◌≡◌, ℕ, ◌+◌, ◌≤◌, ◌<◌, Bool, List, [], ◌∷◌, ◌++◌, All, IsTrue, IsFalse, Option, option_to_list, Ok, Err, length, take, drop, get_or, suc, None, refl, sym, ap, subst, ◌∙◌, append_assoc, append-nil, take-append-drop, length-append, length-take-le, drop-cons, arith}
-use Rattle.std.proofs.lemmas.List.{map-append, take_all}
-use Rattle.std.proofs.lemmas.List.Elements.{All-nil, All-cons, All-head, All-tail, All-append, filter_map-append}
-use Rattle.std.proofs.lemmas.Bool.Decides.{nat_tests}
-use Rattle.std.proofs.Transfers.{starts_with_of_append}
-use Rattle.std.specs.Io.KnownBytes.{Appends}
-use Rattle.kd_tables.specs.Text.{is_text_byte, letters_text}
-use Rattle.kd_tables.specs.Writing.{TakesFront}
-use Rattle.kd_state.specs.declared.machine.parts.Parts.{Parts}
-use Rattle.kd_state.specs.Laws.{CipherInTurn, EngineIsTheMachine}
-use Rattle.kd_state.specs.TwoCiphers.{EngineKey, OfWheels, OfDrum, cipher, key_left, physical_key, physical_cipher}
-use Rattle.kd_form.specs.declared.fault.FormFault.TheVariants.{BadByte}
+use Rattle.std.proofs.Common.{append-nil, take-append-drop, length-take-le}
+use Rattle.kd_form.proofs.Prelude.{◌≡◌, ℕ, ◌+◌, ◌≤◌, ◌<◌, Bool, List, [], ◌∷◌, ◌++◌, All, IsTrue, IsFalse, Option, option_to_list, Ok, Err, length, take, drop, get_or, suc, None, refl, sym, ap, subst, ◌∙◌, append_assoc, length-append, drop-cons, arith, map-append, take_all, All-nil, All-cons, All-head, All-tail, All-append, filter_map-append, nat_tests, starts_with_of_append, Appends, is_text_byte, letters_text, TakesFront, Parts, CipherInTurn, EngineIsTheMachine, EngineKey, OfWheels, OfDrum, cipher, key_left, physical_key, physical_cipher, BadByte, letter_of_byte, IsBadAt, IsAllowedFront, IsRefused, Closes, Held, FeedsAll, ClosesAt, typed_letters, cipher_text, texts, IsTextFault, Lights, IsAllowedTo, IsTypedTo}
 use Rattle.kd_form.specs.declared.stream.stop.Stop.TheVariants as stops
 use Rattle.kd_form.specs.declared.typing.Typist.{Typist}
-use Rattle.kd_form.specs.Sending.{letter_of_byte, IsBadAt}
-use Rattle.kd_form.specs.SendStream.{IsAllowedFront}
-use Rattle.kd_form.specs.Streams.{IsRefused, Closes}
-use Rattle.kd_form.specs.StreamSteps.{Held, FeedsAll, ClosesAt}
-use Rattle.kd_form.specs.Typing.{typed_letters, cipher_text, texts, IsTextFault, Lights, IsAllowedTo, IsTypedTo}
 use Rattle.kd_form.proofs.OneOrder.{no_bad_byte}
 use Rattle.kd_form.proofs.TextLetters.{letters_first}
 use Rattle.kd_form.proofs.Streaming.{over, short_of}
@@ -30,11 +15,13 @@ AreAllowed bytes = All (λ b. IsTrue (is_text_byte b)) bytes
 pub typed-append : (first rest : List ℕ) → typed_letters (first ++ rest) ≡ typed_letters first ++ typed_letters rest
 typed-append first rest = filter_map-append (letter_of_byte None) first rest
 
-pub one_letter : (byte : ℕ) (found : Option ℕ) → found ≡ letter_of_byte None byte → option_to_list found ≡ typed_letters (byte ∷ [])
+pub one_letter : (byte : ℕ) (found : Option ℕ) → found ≡ letter_of_byte None byte
+    → option_to_list found ≡ typed_letters (byte ∷ [])
 one_letter byte found is = grind (arith, letters_first)
 
 -- what letters are written as is allowed, and the letters are typed
-pub written_typed : (letters : List ℕ) → All (λ letter. letter < 26) letters → AreAllowed (letters_text letters) × (typed_letters (letters_text letters) ≡ letters)
+pub written_typed : (letters : List ℕ) → All (λ letter. letter < 26) letters
+    → AreAllowed (letters_text letters) × (typed_letters (letters_text letters) ≡ letters)
 written_typed [] are = (All-nil (λ b. IsTrue (is_text_byte b)), refl)
 written_typed (x ∷ xs) are =
     let rest = written_typed xs (All-tail (λ letter. letter < 26) x xs are) in
@@ -61,13 +48,15 @@ Lights-behind in_turn key left bytes lamps more lights =
 -- ---- what was typed so far
 
 -- the first bad byte, behind a front
-bad_there : (front rest : List ℕ) (byte : ℕ) → AreAllowed front → IsFalse (is_text_byte byte) → IsBadAt (front ++ byte ∷ rest) (length front)
+bad_there : (front rest : List ℕ) (byte : ℕ) → AreAllowed front → IsFalse (is_text_byte byte)
+    → IsBadAt (front ++ byte ∷ rest) (length front)
 bad_there front rest byte allowed bad = record { before = front; byte = byte; rest = rest; joined = refl; size = refl; allowed = allowed; bad = bad }
 
 whole_front : (text : List ℕ) → AreAllowed text → IsAllowedFront text text
 whole_front text allowed = grind (arith, append-nil {A = ℕ})
 
-front_there : (front rest : List ℕ) (byte : ℕ) → AreAllowed front → IsFalse (is_text_byte byte) → IsAllowedFront (front ++ byte ∷ rest) front
+front_there : (front rest : List ℕ) (byte : ℕ) → AreAllowed front → IsFalse (is_text_byte byte)
+    → IsAllowedFront (front ++ byte ∷ rest) front
 front_there front rest byte allowed bad = grind arith
 
 -- the bytes behind a front and the byte there
@@ -79,7 +68,8 @@ module _ (m : Parts) where
   text_is t bytes text typed =
       sym (append-nil text) ∙ ap (λ l. text ++ l) (sym (cipher_text-nil t.engine)) ∙ sym (typed.behind []) ∙ ap (cipher_text (physical_cipher m)) (append-nil bytes)
 
-  pub typed_held : (t : Typist) (bytes text : List ℕ) → IsTypedTo m t bytes text → Held (texts (physical_cipher m)) (IsTypedTo m t) bytes text
+  pub typed_held : (t : Typist) (bytes text : List ℕ) → IsTypedTo m t bytes text
+      → Held (texts (physical_cipher m)) (IsTypedTo m t) bytes text
   typed_held t bytes text typed = record {
     is = typed;
     open_yet = record {
@@ -88,7 +78,8 @@ module _ (m : Parts) where
     };
   }
 
-  pub typed_none : EngineIsTheMachine → (t : Typist) → t.engine ≡ physical_key m → t.read ≡ 0 → Held (texts (physical_cipher m)) (IsTypedTo m t) [] []
+  pub typed_none : EngineIsTheMachine → (t : Typist) → t.engine ≡ physical_key m → t.read ≡ 0
+      → Held (texts (physical_cipher m)) (IsTypedTo m t) [] []
   typed_none law t key none = typed_held t [] [] (record {
     counted = none;
     allowed = All-nil (λ b. IsTrue (is_text_byte b));
@@ -96,11 +87,15 @@ module _ (m : Parts) where
   })
 
   -- the bytes behind the first bad one make no difference
-  refused_there : (t : Typist) (front rest text : List ℕ) (byte : ℕ) → IsTypedTo m t front text → IsFalse (is_text_byte byte)
+  refused_there : (t : Typist) (front rest text : List ℕ) (byte : ℕ) → IsTypedTo m t front text
+      → IsFalse (is_text_byte byte)
       → IsRefused (texts (physical_cipher m)) (front ++ byte ∷ rest) text (BadByte (length front + 1))
   refused_there t front rest text byte typed bad =
       let longer : (more : List ℕ) → (front ++ byte ∷ rest) ++ more ≡ front ++ byte ∷ (rest ++ more) = λ more. append_assoc front (byte ∷ rest) more in
-      let stands : (more : List ℕ) → IsTextFault ((front ++ byte ∷ rest) ++ more) (BadByte (length front + 1)) = λ more. subst (λ l. IsTextFault l (BadByte (length front + 1))) (sym (longer more)) (length front, bad_there front (rest ++ more) byte typed.allowed bad, refl) in
+      let fault = BadByte (length front + 1) in
+      let stands : (more : List ℕ) → IsTextFault ((front ++ byte ∷ rest) ++ more) fault = λ more.
+      subst (λ l. IsTextFault l fault) (sym (longer more))
+      (length front, bad_there front (rest ++ more) byte typed.allowed bad, refl) in
       record {
         stands = stands;
         refused = stands;
@@ -111,7 +106,8 @@ module _ (m : Parts) where
 
   module _ (in_turn : CipherInTurn) (old new : Typist) (more lamps : List ℕ) (n : ℕ) (front : IsAllowedTo more n)
       (lights : Lights old.engine new.engine (take n more) lamps) (counted : new.read ≡ old.read + n) where
-    typed_on : (bytes text : List ℕ) → IsTypedTo m old bytes text → IsTypedTo m new (bytes ++ take n more) (text ++ lamps)
+    typed_on : (bytes text : List ℕ) → IsTypedTo m old bytes text
+        → IsTypedTo m new (bytes ++ take n more) (text ++ lamps)
     typed_on bytes text typed = record {
       counted = omega (arith, counted, typed.counted, length-append bytes (take n more), length-take-le n more front.within);
       allowed = All-append (λ b. IsTrue (is_text_byte b)) bytes (take n more) typed.allowed front.allowed;
@@ -159,7 +155,8 @@ module _ (m : Parts) where
 
   -- ---- the end
 
-  ended_whole : (t : Typist) (bytes text : List ℕ) → IsTypedTo m t bytes text → Closes (texts (physical_cipher m)) bytes (text ++ 10 ∷ []) (Ok tt)
+  ended_whole : (t : Typist) (bytes text : List ℕ) → IsTypedTo m t bytes text
+      → Closes (texts (physical_cipher m)) bytes (text ++ 10 ∷ []) (Ok tt)
   ended_whole t bytes text typed = (typed.allowed, ap (λ l. l ++ 10 ∷ []) (text_is t bytes text typed))
 
   pub ends_whole : (t : Typist) (took wrote : Option (List ℕ)) (d f : Bool) → Appends took wrote (10 ∷ [])

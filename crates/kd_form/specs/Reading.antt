@@ -60,12 +60,16 @@ pub record IsPinText (s : Day) (letters text : List ℕ) : Type 0 where
 -- its wheel; the list is another one; the letters run out.
 pub data IsPinFault (s : Day) (part : ℕ) (letters : List ℕ) (fault : FormFault) : Type 0 where
   InIndicators : ¬ (HasIndicatorsAround letters) → fault ≡ IndicatorsDiffer part → IsPinFault s part letters fault
-  InExternal : HasIndicatorsAround letters → ¬ (IsWindow (sheet_key s) (keys_in letters).external) → fault ≡ KeyNotOnWheel
+  InExternal : HasIndicatorsAround letters → ¬ (IsWindow (sheet_key s) (keys_in letters).external)
+      → fault ≡ KeyNotOnWheel
       → IsPinFault s part letters fault
-  InList : HasIndicatorsAround letters → IsWindow (sheet_key s) (keys_in letters).external → list_in letters ≢ list_letters s
+  InList : HasIndicatorsAround letters → IsWindow (sheet_key s) (keys_in letters).external
+      → list_in letters ≢ list_letters s
       → fault ≡ WrongGroup part → IsPinFault s part letters fault
-  InChoice : HasIndicatorsAround letters → IsWindow (sheet_key s) (keys_in letters).external → list_in letters ≡ list_letters s
-      → HaveRunOut (enciphered_choice s (keys_in letters)) → fault ≡ IndicatorSpent part → IsPinFault s part letters fault
+  InChoice : HasIndicatorsAround letters → IsWindow (sheet_key s) (keys_in letters).external
+      → list_in letters ≡ list_letters s
+      → HaveRunOut (enciphered_choice s (keys_in letters)) → fault ≡ IndicatorSpent part
+      → IsPinFault s part letters fault
 
 -- ---- every model
 

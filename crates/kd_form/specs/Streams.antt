@@ -65,7 +65,8 @@ pub data Answers (m : Message) (source sink : Port) (read text : List ℕ) (answ
       → AreWell source sink → answer ≡ Err ReadTooLong → Answers m source sink read text answer
   SourceFails : length read ≤ read_limit → IsOpen m read text → FailsAlone source sink → answer ≡ Err Device
       → Answers m source sink read text answer
-  SinkFails : (due : List ℕ) → length read ≤ read_limit → IsDue m source read due → FallsShort due text → FailsAlone sink source
+  SinkFails : (due : List ℕ) → length read ≤ read_limit → IsDue m source read due → FallsShort due text
+      → FailsAlone sink source
       → answer ≡ Err Device → Answers m source sink read text answer
 
 -- The same of the bytes that a source had and has yet to give, and that a sink had taken and has taken.
@@ -94,9 +95,12 @@ pub record IsLeft (p : Port) : Type 0 where
   pub has : p.has ≡ p.had
   pub well : IsWell p
 
--- Where something is against it, the call is refused for that, and the ports are left. Else the message is read and written.
-pub data StreamsUnless (is_fault : FormFault → Type 0) (may : Type 0) (message : Message) (source sink : Port) (answer : Result (Unit {0}) FormFault) : Type 0 where
-  Off : (fault : FormFault) → is_fault fault → answer ≡ Err fault → IsLeft source → IsLeft sink → StreamsUnless is_fault may message source sink answer
+-- Where something is against it, the call is refused for that, and the ports are left. Else the message is read and
+-- written.
+pub data StreamsUnless (is_fault : FormFault → Type 0) (may : Type 0) (message : Message) (source sink : Port)
+    (answer : Result (Unit {0}) FormFault) : Type 0 where
+  Off : (fault : FormFault) → is_fault fault → answer ≡ Err fault → IsLeft source → IsLeft sink
+      → StreamsUnless is_fault may message source sink answer
   On : may → IsStreamed message source sink answer → StreamsUnless is_fault may message source sink answer
 
 -- so it is for a machine that isn't ready and on the key

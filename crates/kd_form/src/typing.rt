@@ -15,11 +15,12 @@ use kd_state::{Engine, Machine, laws};
 use kd_tables::{Sink, Source, put_all};
 use piece::type_piece;
 
-/// Types all that the source gives on the machine as it stands, and writes the lamps that light up, as capital letters, and LF.
+/// Types all that the source gives on the machine as it stands, and writes the lamps that light up, as capital
+/// letters, and LF.
 ///
-/// `NotReady` comes first, and then nothing is read or written. The first byte that is not allowed is refused behind the lamps
-/// of the letters before it, whatever follows; that comes before `ReadTooLong`, and before `Device` where it is the source that
-/// fails. At most 1,048,576 bytes are read, and one more to see that there are more.
+/// `NotReady` comes first, and then nothing is read or written. The first byte that is not allowed is refused behind
+/// the lamps of the letters before it, whatever follows; that comes before `ReadTooLong`, and before `Device` where it
+/// is the source that fails. At most 1,048,576 bytes are read, and one more to see that there are more.
 pub fn type_stream<R: Source, W: Sink>(
     machine: &Machine,
     source: &mut R,

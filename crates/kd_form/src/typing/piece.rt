@@ -46,8 +46,8 @@ fn write_letters(letters: &[Letter], bytes: &mut [u8])
     }
 }
 
-/// Leaves the letters among the bytes, up to the first byte that is not allowed, and answers how many bytes stand before that one.
-/// There is a place for each byte.
+/// Leaves the letters among the bytes, up to the first byte that is not allowed, and answers how many bytes stand
+/// before that one. There is a place for each byte.
 fn letters_among(bytes: &[u8], letters: &mut ArrayVec<Letter, PIECE>) -> usize
     requires few { length bytes.now ≤ PIECE }
     requires places { array_vec_len letters.old ≡ length bytes.now }
@@ -68,8 +68,8 @@ fn letters_among(bytes: &[u8], letters: &mut ArrayVec<Letter, PIECE>) -> usize
     bytes.len()
 }
 
-/// Presses the key of each letter among the bytes, up to the first byte that is not allowed, and answers how many bytes stand
-/// before that one. It leaves the lamps that light up, as capital letters.
+/// Presses the key of each letter among the bytes, up to the first byte that is not allowed, and answers how many bytes
+/// stand before that one. It leaves the lamps that light up, as capital letters.
 pub(super) fn type_piece(
     engine: &mut Engine,
     bytes: &[u8],

@@ -1,4 +1,4 @@
-use Rattle.std.proofs.Common.{arith}
+use Rattle.kd_form.proofs.Prelude.{arith}
 use Rattle.kd_form.proofs.MadeParts.{body_turn, body_end, some_left, nothing_left}
 use Rattle.kd_form.proofs.body.push_body.Goals as goal
 

@@ -1,6 +1,4 @@
-use Rattle.std.proofs.Common.{◌≡◌, ◌+◌, ◌*◌, ◌≤◌, ◌++◌, length}
-use Rattle.arrayvec.specs.ArrayString.{array_string_len}
-use Rattle.kd_form.specs.Part.{body_text}
+use Rattle.kd_form.proofs.Prelude.{◌≡◌, ◌+◌, ◌*◌, ◌≤◌, ◌++◌, length, array_string_len, body_text}
 use Rattle.kd_form.proofs.body.push_body.Given as goal
 
 abbrev pub invariant-loop-rest : goal.invariant-loop-rest

@@ -1,6 +1,4 @@
-use Rattle.std.proofs.Common.{◌≡◌, ◌+◌, ◌++◌, take}
-use Rattle.arrayvec.specs.ArrayString.{array_string_len}
-use Rattle.kd_tables.specs.Text.{letters_text}
+use Rattle.kd_form.proofs.Prelude.{◌≡◌, ◌+◌, ◌++◌, take, array_string_len, letters_text}
 use Rattle.kd_form.proofs.body.push_letters.Given as goal
 
 abbrev pub invariant-loop-letter : goal.invariant-loop-letter

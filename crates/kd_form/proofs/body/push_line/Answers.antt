@@ -1,4 +1,4 @@
-use Rattle.std.proofs.Common.{arith}
+use Rattle.kd_form.proofs.Prelude.{arith}
 use Rattle.kd_form.proofs.MadeParts.{line_turn, line_end, some_left, nothing_left}
 use Rattle.kd_form.proofs.body.push_line.Goals as goal
 

@@ -1,6 +1,4 @@
-use Rattle.std.proofs.Common.{◌≡◌, ◌+◌, ◌*◌, ◌≤◌, ◌++◌, length}
-use Rattle.arrayvec.specs.ArrayString.{array_string_len}
-use Rattle.kd_form.specs.Part.{groups_of, behind_spaces}
+use Rattle.kd_form.proofs.Prelude.{◌≡◌, ◌+◌, ◌*◌, ◌≤◌, ◌++◌, length, array_string_len, groups_of, behind_spaces}
 use Rattle.kd_form.proofs.body.push_line.Given as goal
 
 abbrev pub invariant-loop-rest : goal.invariant-loop-rest

@@ -1,4 +1,4 @@
-use Rattle.std.proofs.Common.{◌≡◌, ◌++◌, take}
+use Rattle.kd_form.proofs.Prelude.{◌≡◌, ◌++◌, take}
 use Rattle.kd_form.proofs.cipher.push_letters.Given as goal
 
 abbrev pub invariant-loop-letter : goal.invariant-loop-letter

@@ -1,6 +1,4 @@
-use Rattle.std.proofs.Common.{refl, sym, ◌∙◌, inl, inr}
-use Rattle.std.proofs.lemmas.Bool.{false≢true}
-use Rattle.kd_form.specs.FormReading.{Other}
+use Rattle.kd_form.proofs.Prelude.{refl, sym, ◌∙◌, inl, inr, false≢true, Other}
 use Rattle.kd_form.proofs.form_reader.check_heading.Goals.{then-heading-number-via-then-heading-number, then-heading-number-via-else-heading-number+then-not-is_expected}
 use Rattle.kd_form.proofs.form_reader.check_heading.Goals as goal
 

@@ -1,4 +1,5 @@
-use Rattle.std.proofs.Common.{[], take, refl, sym, ap, ◌∙◌, append-nil}
+use Rattle.kd_form.proofs.Prelude.{[], take, refl, sym, ap, ◌∙◌}
+use Rattle.std.proofs.Common.{append-nil}
 use Rattle.kd_form.proofs.form_reader.read_last.Goals as goal
 
 pub returns-in-Ok : goal.returns-in-Ok

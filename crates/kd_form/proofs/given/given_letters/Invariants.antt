@@ -1,5 +1,4 @@
-use Rattle.std.proofs.Common.{◌≡◌, map, take}
-use Rattle.kd_form.specs.FormText.{given_byte}
+use Rattle.kd_form.proofs.Prelude.{◌≡◌, map, take, given_byte}
 use Rattle.kd_form.proofs.given.given_letters.Given as goal
 
 abbrev pub invariant-loop-letter : goal.invariant-loop-letter

@@ -1,4 +1,4 @@
-use Rattle.std.proofs.Common.{ap, map}
+use Rattle.kd_form.proofs.Prelude.{ap, map}
 use Rattle.kd_form.proofs.Headings.{too_many_words, heading_told}
 use Rattle.kd_form.proofs.heading_line.heading_of_line.Goals as goal
 

@@ -1,6 +1,4 @@
-use Rattle.std.proofs.Common.{rules, sym, subst, ◌∙◌}
-use Rattle.std.proofs.lemmas.Bool.{false≢true}
-use Rattle.kd_form.specs.FormParts.{IsLetterCount}
+use Rattle.kd_form.proofs.Prelude.{rules, sym, subst, ◌∙◌, false≢true, IsLetterCount}
 use Rattle.kd_form.proofs.Headings.{same_count}
 use Rattle.kd_form.proofs.heading_line.read_count.Goals as goal
 

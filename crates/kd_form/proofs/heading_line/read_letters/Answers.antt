@@ -1,4 +1,4 @@
-use Rattle.std.proofs.lemmas.Bool.{false≢true}
+use Rattle.kd_form.proofs.Prelude.{false≢true}
 use Rattle.kd_form.proofs.Headings.{capital_at}
 use Rattle.kd_form.proofs.heading_line.read_letters.Goals as goal
 

@@ -1,5 +1,4 @@
-use Rattle.std.proofs.Common.{rules, [], ◌∷◌, ◌++◌, ◌≡◌, ◌∙◌, ap, arith}
-use Rattle.std.proofs.lemmas.List.{get_or_read}
+use Rattle.kd_form.proofs.Prelude.{rules, [], ◌∷◌, ◌++◌, ◌≡◌, ◌∙◌, ap, arith, get_or_read}
 use Rattle.kd_form.proofs.Picking.{picking_none, picking_more, key_picked, run_out, picked_count}
 use Rattle.kd_form.proofs.internal_key.internal_key.Goals as goal
 

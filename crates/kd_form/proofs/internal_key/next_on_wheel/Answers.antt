@@ -1,6 +1,4 @@
-use Rattle.std.proofs.Common.{sym, ◌∙◌, arith}
-use Rattle.std.proofs.lemmas.Bool.{false≢true}
-use Rattle.std.proofs.lemmas.List.{get_or_read}
+use Rattle.kd_form.proofs.Prelude.{sym, ◌∙◌, arith, false≢true, get_or_read}
 use Rattle.kd_form.proofs.Picking.{off_more}
 use Rattle.kd_form.proofs.internal_key.next_on_wheel.Goals as goal
 

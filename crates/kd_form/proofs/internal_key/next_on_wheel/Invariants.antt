@@ -1,4 +1,4 @@
-use Rattle.kd_form.specs.Striking.{NoneIsOnWheel}
+use Rattle.kd_form.proofs.Prelude.{NoneIsOnWheel}
 use Rattle.kd_form.proofs.internal_key.next_on_wheel.Given as goal
 
 abbrev pub invariant-loop-place : goal.invariant-loop-place

@@ -1,4 +1,4 @@
-use Rattle.std.proofs.Common.{◌≡◌, ◌++◌, replicate}
+use Rattle.kd_form.proofs.Prelude.{◌≡◌, ◌++◌, replicate}
 use Rattle.kd_form.proofs.making.filled.Given as goal
 
 abbrev pub invariant-loop : goal.invariant-loop

@@ -1,5 +1,4 @@
-use Rattle.std.proofs.Common.{◌≡◌, ◌≢◌, ℕ, List, Bool, true, false, Option, Some, None, not, is_some}
-use Rattle.kd_form.specs.FormReading.{Begins, IsNextLine}
+use Rattle.kd_form.proofs.Prelude.{◌≡◌, ◌≢◌, ℕ, List, Bool, true, false, Option, Some, None, not, is_some, Begins, IsNextLine}
 use Rattle.kd_form.proofs.FormSteps.{begins_no_more}
 use Rattle.kd_form.proofs.part_body.mark.Goals as goal
 

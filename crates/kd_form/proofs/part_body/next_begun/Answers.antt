@@ -1,5 +1,4 @@
-use Rattle.std.proofs.Common.{subst}
-use Rattle.kd_form.specs.FormReading.{Begins}
+use Rattle.kd_form.proofs.Prelude.{subst, Begins}
 use Rattle.kd_form.proofs.FormSteps.{begins_no_more}
 use Rattle.kd_form.proofs.part_body.next_begun.Goals as goal
 

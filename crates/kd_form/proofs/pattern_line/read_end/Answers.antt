@@ -1,4 +1,4 @@
-use Rattle.std.proofs.Common.{arith}
+use Rattle.kd_form.proofs.Prelude.{arith}
 use Rattle.kd_form.proofs.Lines.{end_open, end_off}
 use Rattle.kd_form.proofs.pattern_line.read_end.Goals as goal
 

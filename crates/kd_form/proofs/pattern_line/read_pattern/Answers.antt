@@ -1,6 +1,4 @@
-use Rattle.std.proofs.Common.{◌∙◌, sym, ap, refl, arith, length}
-use Rattle.std.proofs.lemmas.List.{take_rest}
-use Rattle.kd_form.specs.Patterns.{fits}
+use Rattle.kd_form.proofs.Prelude.{◌∙◌, sym, ap, refl, arith, length, take_rest, fits}
 use Rattle.kd_form.proofs.Lines.{filling_more, letter_room, line_open, line_off, line_read, line_broken, read_inside, read_at}
 use Rattle.kd_form.proofs.pattern_line.read_pattern.Goals as goal
 

@@ -1,10 +1,4 @@
-use Rattle.std.proofs.Common.{◌∙◌, refl, sym, ap, subst}
-use Rattle.std.proofs.lemmas.Bool.{false≢true}
-use Rattle.kd_state.specs.TwoCiphers.{sheet_key, IsWindow}
-use Rattle.kd_form.specs.declared.keys.PinKeys.{PinKeys}
-use Rattle.kd_form.specs.InternalKey.{IsInternalKey, HaveRunOut}
-use Rattle.kd_form.specs.Making.{cipher_from, enciphered_choice}
-use Rattle.kd_form.specs.Reading.{InIndicators, InChoice, text_in}
+use Rattle.kd_form.proofs.Prelude.{◌∙◌, refl, sym, ap, subst, false≢true, sheet_key, IsWindow, PinKeys, IsInternalKey, HaveRunOut, cipher_from, enciphered_choice, InIndicators, InChoice, text_in}
 use Rattle.kd_form.proofs.MadeParts.{list_told}
 use Rattle.kd_form.proofs.reading.read_pin_letters.Goals as goal
 

@@ -1,6 +1,4 @@
-use Rattle.std.proofs.Common.{rules, ◌∙◌, ap}
-use Rattle.kd_state.specs.TwoCiphers.{sheet_key, IsWindow}
-use Rattle.kd_form.specs.Making.{cipher_from}
+use Rattle.kd_form.proofs.Prelude.{rules, ◌∙◌, ap, sheet_key, IsWindow, cipher_from}
 use Rattle.kd_form.proofs.MadeParts.{key_is_window}
 use Rattle.kd_form.proofs.reading.read_rotor_letters.Goals as goal
 

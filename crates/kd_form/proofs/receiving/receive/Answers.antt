@@ -1,5 +1,4 @@
-use Rattle.std.proofs.Common.{refl}
-use Rattle.kd_form.specs.OnTheKey.{OffKey}
+use Rattle.kd_form.proofs.Prelude.{refl, OffKey}
 use Rattle.kd_form.proofs.receiving.receive.Goals as goal
 
 pub returns-in-Err : goal.returns-in-Err

@@ -1,6 +1,4 @@
-use Rattle.std.proofs.Common.{refl, sym, ◌∙◌}
-use Rattle.std.proofs.lemmas.Bool.{false≢true}
-use Rattle.kd_form.specs.Streams.{Off}
+use Rattle.kd_form.proofs.Prelude.{refl, sym, ◌∙◌, false≢true, Off}
 use Rattle.kd_form.proofs.Standing.{form_told, off_key}
 use Rattle.kd_form.proofs.receiving.receive_stream.Goals as goal
 

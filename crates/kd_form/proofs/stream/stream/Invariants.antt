@@ -1,5 +1,4 @@
-use Rattle.std.proofs.Common.{◌-◌}
-use Rattle.kd_tables.specs.Ports.{read_limit, port}
+use Rattle.kd_form.proofs.Prelude.{◌-◌, read_limit, port}
 use Rattle.kd_form.proofs.Streaming.{SoFar}
 use Rattle.kd_form.proofs.stream.stream.Given as goal
 

@@ -1,4 +1,4 @@
-use Rattle.std.proofs.Common.{sym}
+use Rattle.kd_form.proofs.Prelude.{sym}
 use Rattle.kd_form.proofs.Lines.{unsuited}
 use Rattle.kd_form.proofs.suiting.check_keys.Goals as goal
 

@@ -1,8 +1,4 @@
-use Rattle.std.proofs.Common.{refl, sym, ◌∙◌}
-use Rattle.std.proofs.lemmas.Bool.{false≢true}
-use Rattle.kd_state.specs.TwoCiphers.{physical_cipher}
-use Rattle.kd_form.specs.declared.fault.FormFault.TheVariants.{NotReady}
-use Rattle.kd_form.specs.Streams.{Off}
+use Rattle.kd_form.proofs.Prelude.{refl, sym, ◌∙◌, false≢true, physical_cipher, NotReady, Off}
 use Rattle.kd_form.proofs.TypedTexts.{typed_none}
 use Rattle.kd_form.proofs.Standing.{text_told}
 use Rattle.kd_form.proofs.typing.type_stream.Goals as goal

@@ -1,7 +1,4 @@
-use Rattle.std.proofs.Common.{[], inl, ◌∙◌, IsTrue, None}
-use Rattle.std.proofs.lemmas.List.Elements.{All-nil}
-use Rattle.kd_tables.specs.Text.{is_text_byte}
-use Rattle.kd_form.specs.Sending.{letters_from}
+use Rattle.kd_form.proofs.Prelude.{[], inl, ◌∙◌, IsTrue, None, All-nil, is_text_byte, letters_from}
 use Rattle.kd_form.proofs.FormSteps.{off, last_told, body_heading}
 use Rattle.kd_form.proofs.form_reader.FormReader.last_text.Goals as goal
 

@@ -1,6 +1,5 @@
-use Rattle.std.proofs.Common.{◌+◌, append-nil, ap, inr}
-use Rattle.kd_form.specs.declared.fault.FormFault.TheVariants.{BadByte}
-use Rattle.kd_form.specs.Sending.{text_letters, Cut}
+use Rattle.std.proofs.Common.{append-nil}
+use Rattle.kd_form.proofs.Prelude.{◌+◌, ap, inr, BadByte, text_letters, Cut}
 use Rattle.kd_form.proofs.OrderSteps.{in_head, in_text, text_ends}
 use Rattle.kd_form.proofs.order_reader.OrderReaderMessageReader.end.Goals as goal
 

@@ -1,6 +1,6 @@
-use Rattle.std.proofs.Common.{[], ◌∷◌, ◌++◌, ◌+◌, refl, sym, ap, ◌∙◌, append-nil}
+use Rattle.std.proofs.Common.{append-nil}
 use Rattle.kd_form.specs.declared.order_reader.Stage.TheVariants as stages
-use Rattle.kd_form.specs.Sending.{letter_of_byte, text_letters}
+use Rattle.kd_form.proofs.Prelude.{[], ◌∷◌, ◌++◌, ◌+◌, refl, sym, ap, ◌∙◌, letter_of_byte, text_letters}
 use Rattle.kd_form.proofs.OrderSteps.{in_head, in_text, head_held, head_refused, text_held, byte_refused, counted_on, letters_short, text_begins, text_more}
 use Rattle.kd_form.proofs.order_reader.OrderReaderMessageReader.feed.Goals as goal
 

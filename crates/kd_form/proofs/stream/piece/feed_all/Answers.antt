@@ -1,5 +1,5 @@
-use Rattle.std.proofs.Common.{[], ◌≡◌, ℕ, ◌<◌, ◌++◌, ◌∷◌, List, suc, length, take, drop, get_or, sym, ap, ◌∙◌, refl, append_assoc, take-append-drop, arith, drop-cons}
-use Rattle.std.proofs.lemmas.List.{take_more, take_all}
+use Rattle.std.proofs.Common.{take-append-drop}
+use Rattle.kd_form.proofs.Prelude.{[], ◌≡◌, ℕ, ◌<◌, ◌++◌, ◌∷◌, List, suc, length, take, drop, get_or, sym, ap, ◌∙◌, refl, append_assoc, arith, drop-cons, take_more, take_all}
 use Rattle.kd_form.proofs.Streaming.{fed_none, fed_next, fed_whole, fed_up_to, room_less, room_for, still_well, well_now}
 use Rattle.kd_form.proofs.stream.piece.feed_all.Goals as goal
 

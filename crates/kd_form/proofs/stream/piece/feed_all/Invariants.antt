@@ -1,6 +1,4 @@
-use Rattle.std.proofs.Common.{[], ◌≡◌, ◌-◌, Ok, length, take}
-use Rattle.kd_tables.specs.Ports.{port}
-use Rattle.kd_form.specs.StreamSteps.{HasRoom, FeedsAll}
+use Rattle.kd_form.proofs.Prelude.{[], ◌≡◌, ◌-◌, Ok, length, take, port, HasRoom, FeedsAll}
 use Rattle.kd_form.proofs.stream.piece.feed_all.Given as goal
 
 -- the bytes so far were fed, and the sink didn't fail

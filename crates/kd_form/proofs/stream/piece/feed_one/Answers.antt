@@ -1,5 +1,4 @@
-use Rattle.std.proofs.Common.{subst}
-use Rattle.kd_tables.specs.Writing.{TakesFront}
+use Rattle.kd_form.proofs.Prelude.{subst, TakesFront}
 use Rattle.kd_form.proofs.Streaming.{fed_in_part}
 use Rattle.kd_form.proofs.stream.piece.feed_one.Goals as goal
 

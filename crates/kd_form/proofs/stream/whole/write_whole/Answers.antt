@@ -1,4 +1,4 @@
-use Rattle.std.proofs.Common.{[], length, arith}
+use Rattle.kd_form.proofs.Prelude.{[], length, arith}
 use Rattle.kd_form.proofs.Streaming.{room_less, whole_stopped}
 use Rattle.kd_form.proofs.stream.whole.write_whole.Goals as goal
 

@@ -1,6 +1,4 @@
-use Rattle.std.proofs.Common.{refl, subst}
-use Rattle.std.specs.Io.KnownBytes.{Appends}
-use Rattle.kd_tables.specs.Writing.{TakesFront}
+use Rattle.kd_form.proofs.Prelude.{refl, subst, Appends, TakesFront}
 use Rattle.kd_form.proofs.TypedTexts.{read_whole, read_refused, read_in_part}
 use Rattle.kd_form.proofs.typing.TypistPieceReaderMachine.read.Goals as goal
 

@@ -1,10 +1,4 @@
-use Rattle.std.proofs.Common.{rules, ℕ, ◌++◌, ◌∷◌, [], take, get_or, option_to_list, IsTrue, All, sym, ap, subst, drop, length, ◌≡◌, ◌∙◌, arith}
-use Rattle.std.proofs.lemmas.List.{take_more, take_all}
-use Rattle.std.proofs.lemmas.List.Elements.{All-push}
-use Rattle.std.proofs.Math.Seq.{take-append_seam}
-use Rattle.arrayvec.specs.ArrayVec.{array_vec_len}
-use Rattle.kd_tables.specs.Text.{is_text_byte}
-use Rattle.kd_form.specs.Typing.{typed_letters}
+use Rattle.kd_form.proofs.Prelude.{rules, ℕ, ◌++◌, ◌∷◌, [], take, get_or, option_to_list, IsTrue, All, sym, ap, subst, drop, length, ◌≡◌, ◌∙◌, arith, take_more, take_all, All-push, take-append_seam, array_vec_len, is_text_byte, typed_letters}
 use Rattle.kd_form.proofs.TypedTexts.{typed-append, one_letter, written_typed}
 use Rattle.kd_form.proofs.typing.piece.letters_among.Goals as goal
 

@@ -1,7 +1,4 @@
-use Rattle.std.proofs.Common.{◌≡◌, ◌≤◌, take, All, IsTrue}
-use Rattle.kd_tables.specs.Text.{is_text_byte}
-use Rattle.arrayvec.specs.ArrayVec.{array_vec_len}
-use Rattle.kd_form.specs.Typing.{typed_letters}
+use Rattle.kd_form.proofs.Prelude.{◌≡◌, ◌≤◌, take, All, IsTrue, is_text_byte, array_vec_len, typed_letters}
 use Rattle.kd_form.proofs.typing.piece.letters_among.Given as goal
 
 -- the bytes so far are allowed, and their letters are there

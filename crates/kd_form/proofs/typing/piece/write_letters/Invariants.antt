@@ -1,4 +1,4 @@
-use Rattle.std.proofs.Common.{◌≡◌, ℕ, ◌+◌, ◌<◌, length, slice_index}
+use Rattle.kd_form.proofs.Prelude.{◌≡◌, ℕ, ◌+◌, ◌<◌, length, slice_index}
 use Rattle.kd_form.proofs.typing.piece.write_letters.Given as goal
 
 -- each letter so far is written

@@ -1,9 +1,4 @@
-use Rattle.std.proofs.Common.{refl, sym, ap, subst, ◌∙◌, get_or, codes}
-use Rattle.std.proofs.lemmas.Bool.{false≢true, eqb-true}
-use Rattle.kd_form.specs.Order.{IsEnded, IsKeyLine}
-use Rattle.kd_form.specs.KeyPatterns.{IsAnyKeyLine}
-use Rattle.kd_form.specs.Patterns.{IsPatternLine, BreaksOff}
-use Rattle.kd_form.specs.SendSteps.{HeadIsRead}
+use Rattle.kd_form.proofs.Prelude.{refl, sym, ap, subst, ◌∙◌, get_or, codes, false≢true, eqb-true, IsEnded, IsKeyLine, IsAnyKeyLine, IsPatternLine, BreaksOff, HeadIsRead}
 use Rattle.kd_form.proofs.Lines.{room_left}
 use Rattle.kd_form.proofs.OrderSteps.{keys_taken, text_taken, key_step, text_step}
 use Rattle.kd_form.proofs.order_reader.head.HeadReader.take.Goals as goal

@@ -1,5 +1,4 @@
-use Rattle.std.proofs.Common.{sym, ap, ◌∙◌}
-use Rattle.std.specs.Int.{div_ceil}
+use Rattle.kd_form.proofs.Prelude.{sym, ap, ◌∙◌, div_ceil}
 use Rattle.kd_form.proofs.OrderSteps.{last_written}
 use Rattle.kd_form.proofs.order_reader.parts.PartWriter.end.Goals as goal
 

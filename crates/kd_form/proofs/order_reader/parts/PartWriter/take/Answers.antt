@@ -1,4 +1,4 @@
-use Rattle.std.proofs.Common.{[], ◌++◌, ◌∷◌, ap, ◌∙◌, arith}
+use Rattle.kd_form.proofs.Prelude.{[], ◌++◌, ◌∷◌, ap, ◌∙◌, arith}
 use Rattle.kd_form.proofs.OrderSteps.{part_written}
 use Rattle.kd_form.proofs.order_reader.parts.PartWriter.take.Goals as goal
 
