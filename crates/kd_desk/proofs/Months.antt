@@ -13,7 +13,7 @@ use Rattle.kd_card.specs.declared.card.Card as declared
 use Rattle.kd_card.specs.declared.prices.PriceParts.{PriceParts}
 use Rattle.kd_card.specs.CardText.{IsCard}
 use Rattle.kd_plan.specs.Planned.{Plans}
-use Rattle.kd_prices.specs.Kinds.{IsByKind}
+use Rattle.kd_prices.specs.KindCards.{IsByKind}
 use Rattle.kd_sheet.specs.declared.fault.SheetFault.{SheetFault}
 use Rattle.kd_sheet.specs.Laws.{WrittenFilesAreReadBack}
 use Rattle.kd_sheet.specs.MachineFile.{machine_of}
