@@ -58,8 +58,8 @@ begins : (text : List ℕ) (day : ℕ) (settings : List Setting) (prices : Price
     → IsTrue (begins_as_card text)
 begins text day settings prices card = subst (λ bytes. IsTrue (begins_as_card bytes)) (sym card.text) refl
 
-settings_of : (text : List ℕ) (day : ℕ) (settings : List Setting) (prices : PriceParts) → IsCard text day settings prices
-    → AreSettings text settings
+settings_of : (text : List ℕ) (day : ℕ) (settings : List Setting) (prices : PriceParts)
+    → IsCard text day settings prices → AreSettings text settings
 settings_of text day settings prices card = OfCard (begins text day settings prices card) day prices card
 
 -- the machine and the day of the files
@@ -92,7 +92,8 @@ found_on file sheet number does (Ok on) (Found m month s of_file of_sheet of_mon
       done = subst (λ (on : Parts × Day). does on.0 on.1) same done;
     }
 
-applied : (m : Parts) (bytes : List ℕ) (sink : Port) → Applies m bytes sink well ⊎ LacksMemory well → Applies m bytes sink well
+applied : (m : Parts) (bytes : List ℕ) (sink : Port) → Applies m bytes sink well ⊎ LacksMemory well
+    → Applies m bytes sink well
 applied m bytes sink (inl applies) = applies
 applied m bytes sink (inr lacks) = absurd (cc)
 
@@ -102,8 +103,8 @@ sets tell to_one file sheet number papers are =
     let on = found_on file sheet number _ are.printed.found are.printed.finds are.printed.done in
     let card = card_printed on.m on.s number (taken papers.card) on.done in
     let applies : Applies on.m papers.card (taken papers.file) well ⊎ LacksMemory well =
-    subst (λ (r : Result Parts SheetFault). IfOk r (λ m. Applies m papers.card (taken papers.file) well ⊎ LacksMemory well))
-    on.of_file are.applied in
+    subst (λ (r : Result Parts SheetFault).
+    IfOk r (λ m. Applies m papers.card (taken papers.file) well ⊎ LacksMemory well)) on.of_file are.applied in
     let next = carried on.m papers.card (taken papers.file) (applied on.m papers.card (taken papers.file) applies) in
     let text : papers.card ≡ card.text = card.written.written.whole in
     let says = subst (λ bytes. AreSettings bytes card.settings) (sym text)

@@ -43,8 +43,8 @@ AreWrittenInTurn file sheet (number ∷ numbers) (papers ∷ more) =
     AreWritten file sheet number papers × AreWrittenInTurn papers.file sheet numbers more
 AreWrittenInTurn file sheet numbers papers = ⊥
 
--- the card's settings lead the file's machine to that of the next file, which reads and enciphers as the sheet's day of that
--- number, and no settings whatever that lead to the day are fewer
+-- the card's settings lead the file's machine to that of the next file, which reads and enciphers as the sheet's day of
+-- that number, and no settings whatever that lead to the day are fewer
 pub record SetTheMachine (file sheet : List ℕ) (number : ℕ) (papers : Papers) : Type 0 where
   pub m : Parts
   pub of_file : machine_of file ≡ Ok m
@@ -73,7 +73,7 @@ pub record HasDayOf (model : Model) (month : List (Option Day)) (number : ℕ) :
   pub of_month : day_of month number ≡ Some s
   pub of_model : day_model s ≡ model
 
--- from each file of the machine on there are a card and a next file for the day, and that file's machine is the other one
+-- from each file of the one machine there are a card and a next file for the day, and that is a file of the other one
 abbrev pub HasPapers : Parts → Day → Parts → Type 0
 HasPapers m s n = (file sheet : List ℕ) (month : List (Option Day)) → machine_of file ≡ Ok m → sheet_of sheet ≡ Ok month
     → day_of month (day_number s) ≡ Some s

@@ -63,7 +63,8 @@ texts_at key table text_of things there =
 -- an array of a fixed number of texts, each of which is read as its value
 pub counted_again : {X A : Type 0} (key : Key) (table : Members) (count : ℕ) (text_of : X → List ℕ) (things : List X)
     (reading : List Data → Data → Result A SheetFault) (values : List A)
-    → value_at key table ≡ Ok (texts text_of things) → length things ≡ count → Reads reading [] (map (λ x. string (text_of x)) things) values
+    → value_at key table ≡ Ok (texts text_of things) → length things ≡ count
+    → Reads reading [] (map (λ x. string (text_of x)) things) values
     → (items_at key table >>=
     (λ items. demand (length items == count) (BadValue key) >> all_values (given_earlier reading items)))
     ≡ Ok values

@@ -7,8 +7,8 @@ use Rattle.kd_desk.proofs.laws.+months_can_be_written.Goals as goal
 pub months_can_be_written-requires : goal.months_can_be_written-requires
 months_can_be_written-requires t c = (
   omega (arith, c.decreases, c.in-Some.ensures.cases.1),
-  days_on (model_of c.args.machine.now) (model_of c.set_to.result) c.args.sheet.now c.in-Some.number.now c.in-Some.rest.now
-      c.args.numbers.now c.in-Some.ensures.cases.0 c.set_to.ensures.model c.requires,
+  days_on (model_of c.args.machine.now) (model_of c.set_to.result) c.args.sheet.now c.in-Some.number.now
+      c.in-Some.rest.now c.args.numbers.now c.in-Some.ensures.cases.0 c.set_to.ensures.model c.requires,
 )
 
 pub returns-in-Some : goal.returns-in-Some

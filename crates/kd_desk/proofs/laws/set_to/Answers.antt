@@ -20,4 +20,5 @@ returns-clause-written c =
     let carried : Leads m c.as_slice.result.now c.unwrap-2.result = search rules in
     let leads = subst (λ l. Leads m l c.unwrap-2.result) c.as_slice.ensures.value carried in
     papers_for laws c.written_files_are_read_back.ensures.machines m c.unwrap-2.result c.args.day.now
-    (search rules) (search rules) planned card plans c.in_kinds-card.ensures _ c.day.result c.day.ensures.value c.write_card.ensures.card leads
+    (search rules) (search rules) planned card plans c.in_kinds-card.ensures _ c.day.result
+    c.day.ensures.value c.write_card.ensures.card leads
