@@ -1,23 +1,12 @@
 -- What is told of a card.
-use Rattle.std.proofs.Common.{◌≡◌, ℕ, List, length, Result, Ok, Err, IsErrAnd, refl, subst}
-use Rattle.std.specs.Io.KnownBytes.{Appends}
-use Rattle.kd_tables.specs.Writing.{TakesFront}
-use Rattle.kd_state.specs.declared.machine.parts.Parts.{Parts}
-use Rattle.kd_state.specs.declared.setting.Setting.{Setting}
-use Rattle.kd_state.specs.Machine.{IsMachine}
-use Rattle.kd_state.specs.SheetDay.{Day, IsLegalDay}
+use Rattle.kd_desk.proofs.Prelude.{◌≡◌, ℕ, List, length, Result, Ok, Err, IsErrAnd, refl, subst, Appends, TakesFront, Parts, Setting, IsMachine, Day, IsLegalDay, PriceParts, IsCard, DeskFault, Port, Checks, NoCard, Doubtful, Shortest, verdict_text}
 use Rattle.kd_card.specs.declared.fault.CardFault.{CardFault}
-use Rattle.kd_card.specs.declared.prices.PriceParts.{PriceParts}
 use Rattle.kd_card.specs.CardFault.{IsCardFault}
-use Rattle.kd_card.specs.CardText.{IsCard}
 use Rattle.kd_card.specs.Laws.{ProvingCardsAreShortest}
 use Rattle.kd_card.specs.Proving.{Proves}
 use Rattle.kd_prices.specs.declared.doubt.Doubt.{Doubt}
 use Rattle.kd_prices.specs.Doubt.{IsDoubt}
-use Rattle.kd_desk.specs.declared.fault.DeskFault.{DeskFault}
 use Rattle.kd_desk.specs.declared.fault.DeskFault.TheVariants as faults
-use Rattle.kd_tables.specs.Ports.{Port}
-use Rattle.kd_desk.specs.RunCheck.{Checks, NoCard, Doubtful, Shortest, verdict_text}
 use Rattle.kd_desk.proofs.Failing.{answered}
 
 module _ (m : Parts) (s : Day) (number : ℕ) (bytes : List ℕ) (sink : Port) (answer : Result (Unit {0}) DeskFault) where

@@ -1,22 +1,16 @@
 -- Commands and the values of their words.
-use Rattle.std.proofs.Common.{◌≡◌, ◌≢◌, ℕ, List, Option, Some, None, Bor, decimal, option_map, sym, ap, ◌∙◌}
-use Rattle.std.proofs.Common.{Result, Ok, Err, IsSomeAnd, IfSome, IfOk, IfErr, is_some, ok_or, true, false, [], inl, inr, refl, subst, ap₂}
-use Rattle.clap.specs.Words.{App, FailsBy, HasKind, HasMatchesOf, Row, fault_of, first_of, first_value, is_simple, is_simple_and_free, kind_of, rows_of, subcommand_of, subcommand_rows_of}
+use Rattle.kd_desk.proofs.Prelude.{◌≡◌, ◌≢◌, ℕ, List, Option, Some, None, Bor, decimal, option_map, sym, ap, ◌∙◌, Result, Ok, Err, IsSomeAnd, IfSome, IfOk, IfErr, is_some, true, false, [], inl, inr, refl, subst, ap₂, App, FailsBy, HasKind, HasMatchesOf, Row, fault_of, first_of, first_value, is_simple, is_simple_and_free, kind_of, rows_of, subcommand_of, subcommand_rows_of, same_Some, IsDayNumber, DeskFault, Stop, Usage, Refused, Named, IsOf, Says}
+use Rattle.std.proofs.Common.{ok_or}
 use Rattle.clap.specs.declared.parser.matches.ArgMatches.{ArgMatches}
 use Rattle.clap.specs.declared.error.Error.{Error}
 use Rattle.clap.specs.declared.error.kind.ErrorKind.TheVariants.{OutOfMemory}
 use Rattle.clap.proofs.OnLiterals.{clap_on_literals}
-use Rattle.std.proofs.lemmas.Option.{same_Some}
 use Rattle.clap.specs.declared.parser.matches.Found.{Found}
 use Rattle.clap.proofs.WalkLemmas.{first_value-rows}
-use Rattle.kd_state.specs.SheetDay.{IsDayNumber}
 use Rattle.kd_desk.specs.declared.command.Command.{Command}
-use Rattle.kd_desk.specs.declared.fault.DeskFault.{DeskFault}
 use Rattle.kd_desk.specs.declared.fault.DeskFault.TheVariants.{File}
 use Rattle.kd_sheet.specs.declared.fault.SheetFault.TheVariants.{NoMemory}
-use Rattle.kd_desk.specs.declared.stop.Stop.{Stop}
-use Rattle.kd_desk.specs.declared.stop.Stop.TheVariants.{Usage, Refused}
-use Rattle.kd_desk.specs.CommandLine.{Named, desk_grammar, IsOf, Says}
+use Rattle.kd_desk.specs.CommandLine.{desk_grammar}
 
 -- a command with its files' names as they were lent
 abbrev Lent : Type 0

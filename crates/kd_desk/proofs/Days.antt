@@ -1,17 +1,11 @@
 -- The machine and the day that files say, and what is answered to them.
-use Rattle.std.proofs.Common.{◌≡◌, ◌⊎◌, ℕ, List, Option, Some, None, Result, Ok, Err, IsErrAnd, IsOkAnd, inl, inr, refl, sym, ap, ◌∙◌, subst}
-use Rattle.std.specs.Option.{ok_or}
-use Rattle.kd_state.specs.declared.machine.parts.Parts.{Parts}
-use Rattle.kd_state.specs.SheetDay.{Day}
+use Rattle.kd_desk.proofs.Prelude.{◌≡◌, ◌⊎◌, ℕ, List, Option, Some, None, Result, Ok, Err, IsErrAnd, IsOkAnd, inl, inr, refl, sym, ap, ◌∙◌, subst, ok_or, Parts, Day, machine_of, DeskFault, FindsDay, LackedMemory, NoMachine, NoSheet, NoDay, Found, OnDay}
 use Rattle.kd_sheet.specs.declared.fault.SheetFault.{SheetFault}
 use Rattle.kd_sheet.specs.declared.fault.SheetFault.TheVariants as files
 use Rattle.kd_sheet.specs.Document.{Answers}
-use Rattle.kd_sheet.specs.MachineFile.{machine_of}
 use Rattle.kd_sheet.specs.Sheet.{day_of}
 use Rattle.kd_sheet.specs.SheetFile.{sheet_of}
-use Rattle.kd_desk.specs.declared.fault.DeskFault.{DeskFault}
 use Rattle.kd_desk.specs.declared.fault.DeskFault.TheVariants as faults
-use Rattle.kd_desk.specs.OnDay.{FindsDay, LackedMemory, NoMachine, NoSheet, NoDay, Found, OnDay}
 use Rattle.kd_desk.proofs.Failing.{answered}
 
 -- a fault that is answered is the one that is meant, or want of memory

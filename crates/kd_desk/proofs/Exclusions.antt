@@ -1,14 +1,10 @@
 -- Settings that bytes say, and lines that a machine refuses.
-use Rattle.std.proofs.Common.{◌≡◌, Bool, List, [], ◌∷◌, ◌++◌, Some, None, IsTrue, IsFalse, sym, ◌∙◌, ap, subst}
-use Rattle.kd_state.specs.declared.machine.parts.Parts.{Parts}
-use Rattle.kd_state.specs.declared.setting.Setting.{Setting}
+use Rattle.kd_desk.proofs.Prelude.{◌≡◌, Bool, List, [], ◌∷◌, ◌++◌, Some, None, IsTrue, IsFalse, sym, ◌∙◌, ap, subst, Parts, Setting, why_refused, Leads, OfCard, OfList, InCard, InList}
 use Rattle.kd_state.specs.declared.setting.why.Why.{Why}
 use Rattle.kd_state.specs.Laws as lists
-use Rattle.kd_state.specs.Setting.{why_refused, Leads}
 use Rattle.kd_card.specs.Laws as cards
 use Rattle.kd_desk.specs.declared.fault.DeskFault.TheVariants as faults
 use Rattle.kd_desk.specs.Laws.{TextsTellSettings, SettingsHaveNoFault, SettingsHaveOneFault, LeadsOrRefuses}
-use Rattle.kd_desk.specs.Settings.{OfCard, OfList, InCard, InList}
 
 both : (b : Bool) → IsTrue b → IsFalse b → ⊥
 both b holds fails = cc

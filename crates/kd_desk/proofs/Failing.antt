@@ -1,6 +1,5 @@
 -- What a failed call leaves of its ports.
-use Rattle.std.proofs.Common.{◌≡◌, ℕ, Bool, true, false, ◌||◌, List, Option, Result, Ok, Err, IsErrAnd, IsTrue, inr, sym, subst}
-use Rattle.kd_tables.specs.Ports.{Port, IsWell, Fail}
+use Rattle.kd_desk.proofs.Prelude.{◌≡◌, ℕ, Bool, true, false, ◌||◌, List, Option, Result, Ok, Err, IsErrAnd, IsTrue, inr, sym, subst, Port, IsWell, Fail}
 
 -- what is known of a port, in its order
 abbrev pub over : Option (List ℕ) → Option (List ℕ) → Bool → Bool → Port

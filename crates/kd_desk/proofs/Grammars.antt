@@ -1,9 +1,6 @@
 -- A grammar as it grows: no help, and a word or a command more.
-use Rattle.std.proofs.Common.{◌≡◌, ◌∙◌, ◌||◌, Bool, true, false, Result, Ok, Err, IfOk, ap, ap₂, sym, subst}
+use Rattle.kd_desk.proofs.Prelude.{◌≡◌, ◌∙◌, ◌||◌, Bool, true, false, Result, Ok, Err, IfOk, ap, ap₂, sym, subst, App, Rule, app_of, rule_of, with_rule, app_of_fields, Arg}
 use Rattle.clap.specs.Built.{AddsArg}
-use Rattle.clap.specs.Words.{App, Rule, app_of, rule_of, with_rule}
-use Rattle.clap.specs.Simple.{app_of_fields}
-use Rattle.clap.specs.declared.builder.arg.Arg.{Arg}
 use Rattle.clap.specs.declared.builder.command.Command.{Command}
 use Rattle.clap.specs.declared.builder.command.Command.TheViews.{out-Command}
 use Rattle.clap.specs.declared.builder.command.Command.TheOpen.{Command-F}

@@ -1,3 +1,4 @@
+pub mod Prelude
 pub mod Applying
 pub mod CommandLines
 pub mod Exclusions

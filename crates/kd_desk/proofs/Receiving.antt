@@ -1,11 +1,8 @@
 -- What forms tell of orders, by the laws on both.
-use Rattle.std.proofs.Common.{List, ℕ, ◌++◌, inl}
-use Rattle.kd_state.specs.SheetDay.{Day, IsLegalDay}
-use Rattle.kd_form.specs.declared.fault.FormFault.{FormFault}
+use Rattle.kd_desk.proofs.Prelude.{List, ℕ, ◌++◌, inl, Day, IsLegalDay, FormFault, TellOfOrders}
 use Rattle.kd_form.specs.FormText.{IsReceiveFault}
 use Rattle.kd_form.specs.Sending.{IsFormOf}
 use Rattle.kd_form.specs.Laws.{FormsBecomeOneText, FormsStayRefused, ReceivedFormsHaveNoFault, OrdersGiveLetters, FormsGiveTheirOrders}
-use Rattle.kd_desk.specs.Messages.{TellOfOrders}
 
 pub tell_of_orders : (s : Day) → IsLegalDay s → FormsBecomeOneText → ReceivedFormsHaveNoFault → FormsStayRefused
     → OrdersGiveLetters → FormsGiveTheirOrders → TellOfOrders s

@@ -1,19 +1,11 @@
 -- Files that are read one after another, and what the program answers to a command.
-use Rattle.std.proofs.Common.{◌≡◌, ℕ, suc, Bool, true, false, List, [], ◌∷◌, ◌++◌, take, Option, Some, None, IfSome, IsSomeAnd, Result, Ok, Err, IsErr, IsErrAnd, is_ok, refl, sym, ap, ◌∙◌, subst, inl, inr, append_assoc}
+use Rattle.kd_desk.proofs.Prelude.{◌≡◌, ℕ, suc, Bool, true, false, List, [], ◌∷◌, ◌++◌, take, Option, Some, None, IfSome, IsSomeAnd, Result, Ok, Err, IsErr, IsErrAnd, is_ok, refl, sym, ap, ◌∙◌, subst, inl, inr, append_assoc, Row, subcommand_of, DeskFault, Stop, Unread, Named, files_of, IsOf, Says, KnownCommand, KnownAction, KnownTask, command_over, AskFor, CarriesOut, DoesTask, IsDone, IsTaskDone, has_read, OnDay, Gives, Opened, Port}
 use Rattle.std.proofs.lemmas.Bool.{false≢true}
-use Rattle.clap.specs.Words.{Row, subcommand_of}
-use Rattle.kd_desk.specs.declared.fault.DeskFault.{DeskFault}
 use Rattle.kd_desk.specs.declared.files.fault.FileFault.{FileFault}
 use Rattle.kd_desk.specs.declared.files.fault.FileFault.TheVariants as files
-use Rattle.kd_desk.specs.declared.stop.Stop.{Stop}
-use Rattle.kd_desk.specs.declared.stop.Stop.TheVariants.{Unread}
-use Rattle.kd_desk.specs.CommandLine.{Named, desk_grammar, files_of, IsOf, Says}
+use Rattle.kd_desk.specs.CommandLine.{desk_grammar}
 use Rattle.kd_desk.specs.declared.command.Task.{Task}
-use Rattle.kd_desk.specs.Program.{KnownCommand, KnownAction, KnownTask, command_over, AskFor, CarriesOut, DoesTask, IsDone, IsTaskDone, has_read}
-use Rattle.kd_desk.specs.OnDay.{OnDay}
-use Rattle.kd_desk.specs.Files.{Gives, Opened}
 use Rattle.kd_desk.specs.Stops.{stop_after}
-use Rattle.kd_tables.specs.Ports.{Port}
 use Rattle.kd_desk.proofs.SaidCommands.{same_command}
 
 -- what is known of files

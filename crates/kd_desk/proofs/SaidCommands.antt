@@ -1,15 +1,10 @@
 -- A name and the values of words say one command at most, and which ones say none. A command more is one branch of
 -- `kind_by`.
-use Rattle.std.proofs.Common.{◌≡◌, ℕ, ◌<◌, ◌^◌, Bool, true, false, List, Option, Some, None, codes, decimal, bytes_eq, option_map, refl, sym, ap, ◌∙◌, if◌then◌else◌, arith}
-use Rattle.std.specs.Option.{option_and_then}
-use Rattle.std.proofs.lemmas.Option.{same_Some}
+use Rattle.kd_desk.proofs.Prelude.{◌≡◌, ℕ, ◌<◌, ◌^◌, Bool, true, false, List, Option, Some, None, codes, decimal, bytes_eq, option_map, refl, sym, ap, ◌∙◌, if◌then◌else◌, arith, option_and_then, same_Some, Row, first_of, Send, Receive, Named, NamedAction, way_name, way_word, action_name, HaveDay, HasWords, IsActionOf, IsOf}
 use Rattle.std.proofs.lemmas.Fmt.{decimal_injective}
-use Rattle.clap.specs.Words.{Row, first_of}
 use Rattle.kd_desk.specs.declared.command.Action.TheVariants as actions
 use Rattle.kd_desk.specs.declared.command.Task.TheVariants as tasks
 use Rattle.kd_desk.specs.declared.command.Way.{Way}
-use Rattle.kd_desk.specs.declared.command.Way.TheVariants.{Send, Receive}
-use Rattle.kd_desk.specs.CommandLine.{Named, NamedAction, way_name, way_word, action_name, HaveDay, HasWords, IsActionOf, IsOf}
 use Rattle.kd_desk.proofs.CommandLines.{none_or_some}
 
 -- which command it is, without its files and its day

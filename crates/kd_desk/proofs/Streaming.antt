@@ -1,12 +1,7 @@
 -- What the desk makes of what is told of a message.
-use Rattle.std.proofs.Common.{arith, ◌≡◌, Result, IsTrue}
-use Rattle.kd_form.specs.declared.fault.FormFault.{FormFault}
+use Rattle.kd_desk.proofs.Prelude.{arith, ◌≡◌, Result, IsTrue, FormFault, Port, Fail, DeskFault, answer_to_message, is_refused_before, is_device}
 use Rattle.kd_form.specs.Streams as streams
 use Rattle.kd_form.specs.Streams.{is_off_key}
-use Rattle.kd_tables.specs.Ports.{Port, Fail}
-use Rattle.kd_desk.specs.declared.fault.DeskFault.{DeskFault}
-use Rattle.kd_desk.specs.Messages.{answer_to_message}
-use Rattle.kd_desk.specs.RunSteps.{is_refused_before, is_device}
 
 pub off_key : (told : Result (Unit {0}) FormFault) (answer : Result (Unit {0}) DeskFault)
     → answer ≡ answer_to_message told

@@ -1,5 +1,4 @@
-use Rattle.std.proofs.Common.{rules, codes, refl}
-use Rattle.clap.specs.Words.{found_of, rows_of}
+use Rattle.kd_desk.proofs.Prelude.{rules, codes, refl, found_of, rows_of}
 use Rattle.kd_desk.proofs.CommandLines.{read_none, read_some}
 use Rattle.kd_desk.proofs.SaidCommands.{no_list}
 use Rattle.kd_desk.proofs.command.apply_of.Goals as goal

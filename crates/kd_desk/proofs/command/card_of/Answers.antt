@@ -1,5 +1,4 @@
-use Rattle.std.proofs.Common.{refl}
-use Rattle.clap.specs.Words.{found_of, rows_of}
+use Rattle.kd_desk.proofs.Prelude.{refl, found_of, rows_of}
 use Rattle.kd_desk.proofs.SaidCommands.{no_day_of_card}
 use Rattle.kd_desk.proofs.command.card_of.Goals as goal
 

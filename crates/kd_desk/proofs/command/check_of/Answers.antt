@@ -1,5 +1,4 @@
-use Rattle.std.proofs.Common.{codes, refl, rules}
-use Rattle.clap.specs.Words.{found_of, rows_of}
+use Rattle.kd_desk.proofs.Prelude.{codes, refl, rules, found_of, rows_of}
 use Rattle.kd_desk.proofs.CommandLines.{read_none, read_some}
 use Rattle.kd_desk.proofs.SaidCommands.{no_day_of_check, no_card}
 use Rattle.kd_desk.proofs.command.check_of.Goals as goal

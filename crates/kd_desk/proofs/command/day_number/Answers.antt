@@ -1,4 +1,4 @@
-use Rattle.std.proofs.Common.{rules, true≢false, ◌≢◌, sym, ◌∙◌, arith}
+use Rattle.kd_desk.proofs.Prelude.{rules, true≢false, ◌≢◌, sym, ◌∙◌, arith}
 use Rattle.kd_desk.proofs.command.day_number.Goals as goal
 
 pub loop-day-init : goal.loop-day-init

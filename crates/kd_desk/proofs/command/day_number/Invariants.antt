@@ -1,4 +1,4 @@
-use Rattle.std.proofs.Common.{◌≢◌, ◌≤◌, ◌<◌, ℕ, decimal}
+use Rattle.kd_desk.proofs.Prelude.{◌≢◌, ◌≤◌, ◌<◌, ℕ, decimal}
 use Rattle.kd_desk.proofs.command.day_number.Given as goal
 
 -- the word is none of the days before

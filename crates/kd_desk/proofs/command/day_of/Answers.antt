@@ -1,5 +1,4 @@
-use Rattle.std.proofs.Common.{rules, Some, codes, ap, ◌∙◌}
-use Rattle.clap.specs.Words.{found_of}
+use Rattle.kd_desk.proofs.Prelude.{rules, Some, codes, ap, ◌∙◌, found_of}
 use Rattle.kd_desk.proofs.CommandLines.{read_some, no_word, other_word}
 use Rattle.kd_desk.proofs.command.day_of.Goals as goal
 

@@ -1,9 +1,6 @@
-use Rattle.std.proofs.Common.{true, ap, ap₂, codes, ◌≡◌, ◌∙◌}
+use Rattle.kd_desk.proofs.Prelude.{true, ap, ap₂, codes, ◌≡◌, ◌∙◌, App, app_of, new_app, with_subcommand, app_of_fields, Send, type_shape, card_shape, apply_shape, check_shape, way_shape}
 use Rattle.std.proofs.lemmas.Result.{IfOk-weaker}
-use Rattle.clap.specs.Words.{App, app_of, new_app, with_subcommand}
-use Rattle.clap.specs.Simple.{app_of_fields}
-use Rattle.kd_desk.specs.declared.command.Way.TheVariants.{Send}
-use Rattle.kd_desk.specs.CommandLine.{type_shape, card_shape, apply_shape, check_shape, way_shape, desk_grammar}
+use Rattle.kd_desk.specs.CommandLine.{desk_grammar}
 use Rattle.kd_desk.proofs.command.grammar.Goals as goal
 
 abbrev without_help : App → App

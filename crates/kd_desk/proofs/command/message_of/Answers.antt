@@ -1,5 +1,4 @@
-use Rattle.std.proofs.Common.{ap, refl, rules, sym, ◌∙◌}
-use Rattle.clap.specs.Words.{first_of, found_of, rows_of}
+use Rattle.kd_desk.proofs.Prelude.{ap, refl, rules, sym, ◌∙◌, first_of, found_of, rows_of}
 use Rattle.kd_desk.proofs.CommandLines.{read_none, read_some}
 use Rattle.kd_desk.proofs.SaidCommands.{no_day_of_message, no_message}
 use Rattle.kd_desk.proofs.command.message_of.Goals as goal

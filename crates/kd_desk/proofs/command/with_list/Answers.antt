@@ -1,5 +1,4 @@
-use Rattle.kd_desk.specs.CommandLine.{alone, command_shape, word_named}
-use Rattle.std.proofs.Common.{[], ◌∷◌, codes}
+use Rattle.kd_desk.proofs.Prelude.{alone, command_shape, word_named, [], ◌∷◌, codes}
 use Rattle.kd_desk.proofs.Grammars.{takes_word, stays_local}
 use Rattle.kd_desk.proofs.command.with_list.Goals as goal
 

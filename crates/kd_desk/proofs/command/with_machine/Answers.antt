@@ -1,6 +1,4 @@
-use Rattle.std.proofs.Common.{codes}
-use Rattle.clap.specs.Words.{new_app}
-use Rattle.kd_desk.specs.CommandLine.{word_named}
+use Rattle.kd_desk.proofs.Prelude.{codes, new_app, word_named}
 use Rattle.kd_desk.proofs.Grammars.{without_help, app_without_help, local_without_help, takes_word, stays_local}
 use Rattle.kd_desk.proofs.command.with_machine.Goals as goal
 

@@ -1,6 +1,4 @@
-use Rattle.std.proofs.Common.{true, ap, ◌∙◌}
-use Rattle.clap.specs.Words.{Rule, rule_of}
-use Rattle.clap.specs.declared.builder.arg.Arg.{Arg}
+use Rattle.kd_desk.proofs.Prelude.{true, ap, ◌∙◌, Rule, rule_of, Arg}
 use Rattle.kd_desk.proofs.command.word.Goals as goal
 
 abbrev as_required : Rule → Rule

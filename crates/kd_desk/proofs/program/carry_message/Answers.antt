@@ -1,5 +1,4 @@
-use Rattle.std.proofs.Common.{ap}
-use Rattle.kd_tables.specs.Ports.{port}
+use Rattle.kd_desk.proofs.Prelude.{ap, port}
 use Rattle.kd_desk.specs.declared.command.Task.TheVariants.{Message}
 use Rattle.kd_desk.proofs.Runs.{does_task}
 use Rattle.kd_desk.proofs.program.carry_message.Goals as goal

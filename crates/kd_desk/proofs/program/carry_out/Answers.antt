@@ -1,6 +1,4 @@
-use Rattle.std.proofs.Common.{ap, refl, sym, ◌∙◌}
-use Rattle.kd_desk.specs.CommandLine.{with_action_opened}
-use Rattle.kd_desk.specs.Files.{opened}
+use Rattle.kd_desk.proofs.Prelude.{ap, refl, sym, ◌∙◌, with_action_opened, opened}
 use Rattle.kd_desk.specs.declared.command.Action.TheVariants as actions
 use Rattle.kd_desk.proofs.Failing.{sink_fails}
 use Rattle.kd_desk.proofs.Runs.{nothing_left, command_done}

@@ -1,6 +1,4 @@
-use Rattle.std.proofs.Common.{ap, sym, ◌∙◌}
-use Rattle.kd_desk.specs.CommandLine.{with_task_opened}
-use Rattle.kd_desk.specs.Files.{opened}
+use Rattle.kd_desk.proofs.Prelude.{ap, sym, ◌∙◌, with_task_opened, opened}
 use Rattle.kd_desk.specs.declared.command.Task.TheVariants as tasks
 use Rattle.kd_desk.proofs.Runs.{nothing_left, stops_after, task_done}
 use Rattle.kd_desk.proofs.program.carry_task.Goals as goal

@@ -1,6 +1,4 @@
-use Rattle.std.proofs.Common.{true, false, subst, sym}
-use Rattle.kd_desk.specs.CommandLine.{action_files, action_named}
-use Rattle.kd_desk.specs.Program.{AskFor}
+use Rattle.kd_desk.proofs.Prelude.{true, false, subst, sym, action_files, action_named, AskFor}
 use Rattle.kd_desk.proofs.Runs.{asks_on, asks_no_more}
 use Rattle.kd_desk.proofs.program.read_action.Goals as goal
 

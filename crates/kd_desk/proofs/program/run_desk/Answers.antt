@@ -1,6 +1,4 @@
-use Rattle.std.proofs.Common.{map}
-use Rattle.kd_desk.specs.CommandLine.{named}
-use Rattle.kd_tables.specs.Ports.{port}
+use Rattle.kd_desk.proofs.Prelude.{map, named, port}
 use Rattle.kd_desk.proofs.Runs.{asked_all, asked_for, asked_yet, said_command, done, unread}
 use Rattle.kd_desk.proofs.program.run_desk.Goals as goal
 

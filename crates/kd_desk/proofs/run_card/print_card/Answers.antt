@@ -1,4 +1,4 @@
-use Rattle.std.proofs.Common.{rules}
+use Rattle.kd_desk.proofs.Prelude.{rules}
 use Rattle.kd_desk.proofs.Printing.{Laws, whole, part}
 use Rattle.kd_desk.proofs.run_card.print_card.Goals as goal
 

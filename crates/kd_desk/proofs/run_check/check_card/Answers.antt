@@ -1,5 +1,4 @@
-use Rattle.std.proofs.Common.{refl, rules}
-use Rattle.kd_desk.specs.RunCheck.{Other}
+use Rattle.kd_desk.proofs.Prelude.{refl, rules, Other}
 use Rattle.kd_desk.proofs.Checking.{no_card, doubtful, told, told_in_part}
 use Rattle.kd_desk.proofs.run_check.check_card.Goals as goal
 

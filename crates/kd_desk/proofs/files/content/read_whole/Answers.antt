@@ -1,6 +1,5 @@
 use Rattle.std.proofs.KnownBytes.{Consumes-trans}
-use Rattle.kd_tables.specs.Ports.{port}
-use Rattle.kd_desk.specs.Files.{IsReadWhole}
+use Rattle.kd_desk.proofs.Prelude.{port, IsReadWhole}
 use Rattle.kd_desk.proofs.Failing.{answered, well_now}
 use Rattle.kd_desk.proofs.files.content.read_whole.Goals as goal
 

@@ -1,6 +1,4 @@
-use Rattle.std.proofs.Common.{◌≡◌, ◌+◌, ◌-◌, ◌≤◌, length}
-use Rattle.std.specs.Io.KnownBytes.{Consumes}
-use Rattle.kd_tables.specs.Ports.{read_limit}
+use Rattle.kd_desk.proofs.Prelude.{◌≡◌, ◌+◌, ◌-◌, ◌≤◌, length, Consumes, read_limit}
 use Rattle.kd_desk.proofs.files.content.read_whole.Given as goal
 
 -- what was read so far, and no get failed
