@@ -1,4 +1,6 @@
 -- Lists of kinds, kind by kind.
+use Rattle.std.proofs.Common.{rules}
+use Rattle.std.proofs.lemmas.Grind.{common_steps}
 use Rattle.kd_card.proofs.Prelude.{◌≡◌, ℕ, zero, suc, ◌+◌, ◌*◌, ◌<◌, ◌≤◌, List, [], ◌∷◌, ◌++◌, length, take, drop, get_or, replicate, fold, refl, sym, ap, subst, ◌∙◌, append_assoc, length-append, arith, ℤ, pos, ◌+ℤ◌, ◌*ℤ◌, unsigned_abs, FitsSigned, w32, Some, None, All, All-nil, All-cons, ints, unsigned_abs-mul, fits_signed_from_abs, append-nil, take_more, take-append-drop, flat_map-append, fold-append, Look, Cable, Pair, Bar, Row, Name, PricedKind, look_name, look_rank, kind_words, kinds_text, counted, prices_of_kinds, IsInForm, IsPricedKind, AreKinds, AreCalled, line_of, floor_behind, IsNextKind, BeginsWithKinds}
 use Rattle.std.proofs.Math.IntN.{zero-*ℤ, suc_ℤ-*ℤ}
 use Rattle.std.proofs.Math.Nat.{mul-le-mul_left}
@@ -37,13 +39,7 @@ good_at floor (first ∷ kinds) (suc i) inside is are = good_at (look_rank first
 -- ---- bounds
 
 pub low_look : (look : Look) → IsInForm look → look_rank look < 703
-low_look (Cable (None, other)) form = omega arith
-low_look (Cable (Some one, None)) form = omega (arith, form)
-low_look (Cable (Some one, Some other)) form = omega (arith, form.0, form.1)
-low_look (Pair None) form = omega arith
-low_look (Pair (Some (one, other))) form = omega (arith, form.0, form.1)
-low_look (Bar (left, right)) form = omega (arith, low_rank left, low_rank right)
-low_look (Row (one, other)) form = let order = form.ordered in let within = form.within in omega (arith, order, within)
+low_look look e = grind (arith, low_rank)
 
 pub low_floor : (floor : ℕ) (kinds : List PricedKind) → floor ≤ 703 → AreKinds floor kinds → floor_behind floor kinds ≤ 703
 low_floor floor [] low are = low

@@ -1,4 +1,6 @@
 -- Bytes are one card, or have one fault.
+use Rattle.std.proofs.Common.{rules}
+use Rattle.std.proofs.lemmas.Grind.{common_steps}
 use Rattle.kd_card.proofs.Prelude.{Bool, true, false, codes, ◌≡◌, ◌≢◌, ℕ, ◌+◌, ◌*◌, ◌^◌, ◌<◌, ◌≤◌, List, [], ◌∷◌, ◌++◌, length, map, get_or, Result, Ok, Err, refl, sym, ap, subst, ◌∙◌, arith, ℤ, unsigned_abs, append_assoc, AllByRecursion, signed_decimal, decimal_injective, signed_decimal_injective, append-nil, All-from_recursion, recursion_from_All, Setting, Pull, IsWord, setting_words, setting_line, list_text, IsInRange, BeginsWith, BeginsWithNoLine, SettingsHaveWords, LinesTellSettings, PriceParts, Cables, Bars, CableKinds, BarKinds, Version, ByNumber, ByKind, Group, OfCables, OfBars, Name, PricedKind, Trailing, Then, Refused, Found, Only, Demands, look_rank, name_text, kind_words, kinds_text, AreKinds, AreCalled, version_of, row_kinds, column_kinds, price_sum, AreWithinReach, ArePrices, group_of, row_word, column_word, row_name, column_name, price_count, version_text, head_words, settings_words, price_words, sum_words, lines_text, price_lines, card_text, IsGroup, IsCard, with_line, HasWords, SaysValue, SaysFirst, BeginsWithHead, BeginsWithSettings, SaysSettings, SaysPriceLine, SaysNumbered, BeginsWithWord, EndsGroup, AtOther, IsNextKind, HasNoNext, floor_behind, SaysGroup, SaysKinded, SaysAllPrices, SaysBehind, SaysCard, TextsTellCards, NoCardBeginsAnother, CardsHaveNoFault, OneCardFault}
 use Rattle.kd_card.specs.declared.look.Name.TheVariants as names
 use Rattle.kd_card.specs.declared.fault.CardFault.{CardFault}
@@ -17,19 +19,13 @@ same_pair : {A B : Type 0} (x y : A × B) → x.0 ≡ y.0 → x.1 ≡ y.1 → x 
 same_pair (a, b) (c, d) e f = cc
 
 same_row_word : (group other : Group) → row_word group ≡ row_word other → group ≡ other
-same_row_word OfCables OfCables e = refl
-same_row_word OfBars OfBars e = refl
-same_row_word group other e = absurd (omega (arith, ap (λ t. get_or t 0 0) e))
+same_row_word group other e = grind arith
 
 same_row_name : (group other : Group) → name_text (row_name group) ≡ name_text (row_name other) → group ≡ other
-same_row_name OfCables OfCables e = refl
-same_row_name OfBars OfBars e = refl
-same_row_name group other e = absurd (omega (arith, ap (λ t. get_or t 0 0) e))
+same_row_name group other e = grind arith
 
 same_version : (version other : Version) → version_text version ≡ version_text other → version ≡ other
-same_version ByNumber ByNumber e = refl
-same_version ByKind ByKind e = refl
-same_version version other e = absurd (omega (arith, ap (λ t. get_or t 0 0) e))
+same_version version other e = grind arith
 
 same_prices : (ps qs : List ℤ) → AllByRecursion (λ p. unsigned_abs p ≤ 9999) ps
     → AllByRecursion (λ p. unsigned_abs p ≤ 9999) qs → map signed_decimal ps ≡ map signed_decimal qs → ps ≡ qs
@@ -42,24 +38,20 @@ same_prices (p ∷ ps) (q ∷ qs) a b e =
 same_prices ps qs a b e = absurd (omega (arith, ap length e))
 
 other_name : (group : Group) → name_text (column_name group) ≢ name_text (row_name group)
-other_name OfCables e = omega (arith, ap (λ t. get_or t 0 0) e)
-other_name OfBars e = omega (arith, ap (λ t. get_or t 0 0) e)
+other_name group = grind arith
 
 some_prices : (group : Group) → 0 < price_count group
-some_prices OfCables = omega arith
-some_prices OfBars = omega arith
+some_prices group = grind arith
 
 -- the first and the third letter tell the line that ends the settings from those of settings
 abbrev first_and_third : List ℕ → ℕ
 first_and_third line = get_or line 0 0 * 256 + get_or line 2 0
 
 no_setting : (x : Setting) (rest : List ℕ) → first_and_third (setting_line x ++ 10 ∷ rest) ≢ 21332
-no_setting (Pull c l) rest e = omega (arith, e)
-no_setting x rest e = omega (arith, e)
+no_setting x rest = grind arith
 
 not_sum : (name : Name) → codes "SUM" ≢ name_text name
-not_sum names.Cable e = omega (arith, ap (λ t. get_or t 0 0) e)
-not_sum name e = omega (arith, ap (λ t. get_or t 0 0) e)
+not_sum name = grind arith
 
 -- ---- what steps that reach the end say of the bytes
 
@@ -73,16 +65,7 @@ by_number : (group : Group) (rows columns : List ℤ) {bytes rest : List ℕ}
     → bytes ≡ with_line (price_words (row_word group) rows) (with_line (price_words (column_word group) columns) rest)
     → AreWithinReach rows → AreWithinReach columns → length rows ≡ price_count group → length columns ≡ price_count group
     → AreAll ByNumber bytes (numbered group rows columns) rest
-by_number OfCables rows columns {rest} e a b many also = record {
-  version = refl;
-  text = e ∙ sym (two_lines (price_words (row_word OfCables) rows) (price_words (column_word OfCables) columns) rest);
-  are = record { rows = many; columns = also; row_reach = a; column_reach = b; row_kinds = tt; column_kinds = tt };
-}
-by_number OfBars rows columns {rest} e a b many also = record {
-  version = refl;
-  text = e ∙ sym (two_lines (price_words (row_word OfBars) rows) (price_words (column_word OfBars) columns) rest);
-  are = record { rows = many; columns = also; row_reach = a; column_reach = b; row_kinds = tt; column_kinds = tt };
-}
+by_number group rows columns e d g h o = grind (arith, common_steps, two_lines)
 
 kinds_lines : (prices : PriceParts) {rows columns : List PricedKind} → version_of prices ≡ ByKind → row_kinds prices ≡ rows
     → column_kinds prices ≡ columns → kinds_text rows ++ kinds_text columns ≡ lines_text (price_lines prices)
@@ -213,7 +196,6 @@ module _ (laws : Laws) where
       let behind : HasNoNext name (floor_behind (look_rank x.look + 1) ys) more =
       subst (λ z. HasNoNext name (floor_behind (look_rank z.look + 1) ys) more) (sym heads) nor in
       let tails = kinds_end name (look_rank x.look + 1) xs ys rest more c.1 d.1 a.2 above none behind refl same.1 in
-      let others : xs ≡ ys = tails.0 in
       (cc, tails.1)
 
   only_group : (name : Name) (number line : ℕ) (bytes : List ℕ) → IsOnly (SaysGroup name number line bytes)
@@ -301,14 +283,7 @@ module _ (laws : Laws) where
   one_head : (bytes : List ℕ) (head other : Version × ℕ × List ℕ) → BeginsWithHead bytes head.0 head.1 head.2
       → BeginsWithHead bytes other.0 other.1 other.2 → head ≡ other
   one_head bytes (version, day, rest) (by, other, more) a b =
-      let words = λ (v : Version) (d : ℕ) (r : List ℕ) (h : BeginsWithHead bytes v d r).
-      line_has_words laws (head_words v d) r (λ none. cc) (head_is_words laws.numbers v d h.of_month.last) h.text in
-      let line = same_words laws.first_parts (words version day rest a) (words by other more b) in
-      let versions : version ≡ by = same_version version by (ap (λ w. get_or w 1 []) line.0) in
-      let days : day ≡ other =
-      decimal_injective day other (omega arith) (omega arith) (ap (λ w. get_or w 3 []) line.0) in
-      let rests : rest ≡ more = line.1 in
-      cc
+      grind (arith, common_steps, bytes, line_has_words, head_is_words, same_words, same_version, decimal_injective)
 
   value_line : {bytes : List ℕ} (name value rest : List ℕ) → IsWord name → IsWord value
       → bytes ≡ with_line (name ∷ value ∷ []) rest → HasWords bytes (name ∷ value ∷ []) rest
@@ -389,8 +364,7 @@ module _ (laws : Laws) where
     not_too_many a b many = let few = a.few in let most = (lists_meet a b).0 in omega arith
 
     only_settings : (bytes : List ℕ) → IsOnly (SaysSettings bytes)
-    only_settings bytes (Ok x) (Ok y) a b =
-        let same = (lists_meet a b.lines).1 b.none_more in ap Ok (same_pair x y same.0 same.1)
+    only_settings bytes (Ok x) (Ok y) a b = grind (arith, lists_meet a b.lines)
     only_settings bytes (Ok x) (Err g) a b = absurd (not_too_many a b.0.2 b.0.3)
     only_settings bytes (Err f) (Ok y) a b = absurd (not_too_many b a.0.2 a.0.3)
     only_settings bytes (Err f) (Err g) a b = ap Err (a.1 ∙ sym b.1)

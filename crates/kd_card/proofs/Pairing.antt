@@ -1,5 +1,7 @@
 -- On a machine that reads as the day the cables can be paired with the day's pairs and nothings, and the bars with its rows,
 -- each with one that costs nothing.
+use Rattle.std.proofs.Common.{rules}
+use Rattle.std.proofs.lemmas.Grind.{common_steps}
 use Rattle.kd_card.proofs.Prelude.{◌≡◌, ◌≢◌, ℕ, zero, suc, ◌+◌, ◌-◌, ◌<◌, ◌≤◌, ◌==◌, nat_eq, nat_lt, Bool, true, not, ◌||◌, cond, ◌⊎◌, inl, inr, List, [], ◌∷◌, ◌++◌, length, get_or, map, zip, replicate, Contains, IsPermutation, count_by, remove, Option, Some, None, ℤ, refl, sym, ap, ◌∙◌, subst, arith, AllByRecursion, AllZip, flat_map, list_all, false≢true, eq-eqb, lt-ltb, eqb_tells, All-contains, recursion_from_All, sum_by-cons, get_or-le-sum_by, AllPass-from_list_all, sum_by-IsPermutation, Contains-permutation, IsPermutation-refl, IsPermutation-sym, IsPermutation-cons, IsPermutation-trans, IsPermutation-remove, Place, One, alphabet, places, place_rank, reading_of, IsBefore, letters_plugged, cable_letters, plugged_letters, has_letter, SameLetters, IsPaired, IsJoined, AreThePairs, differ, cable_cost, bar_cost, columns_of, DaysWheelsHaveTheirPlaces, TestsTellLetters, ThirteenColumns}
 use Rattle.kd_state.specs.Costs.{standings_as}
 use Rattle.std.specs.List as lists
@@ -88,8 +90,7 @@ pub record AreMatched (cables : List (Option ℕ × Option ℕ)) (pairs : List (
   pub cable : (pair : ℕ × ℕ) → Contains pairs pair → (cable : Option ℕ × Option ℕ) × Contains cables cable × HasPair cable pair
 
 first_or_rest : {X : Type 0} (x y : X) (xs : List X) → Contains (x ∷ xs) y → (x ≡ y) ⊎ Contains xs y
-first_or_rest x y xs (zero, lt, e) = inl e
-first_or_rest x y xs (suc place, lt, e) = inr (place, omega arith, e)
+first_or_rest x y xs e = grind arith
 
 in_rest : {X : Type 0} (x y : X) (xs : List X) → Contains xs y → Contains (x ∷ xs) y
 in_rest x y xs h = (suc h.0, omega (arith, h.1), h.2)
@@ -132,9 +133,7 @@ module _ (cables rest : List (Option ℕ × Option ℕ)) (cable : Option ℕ × 
 
 -- without pairs all cables are empty
 empty_costs_nothing : (cable : Option ℕ × Option ℕ) → (cable_letters cable ≢ [] → ⊥) → CostsNothing cable None
-empty_costs_nothing (None, None) h = none_differ [] [] (λ letter. refl) alphabet
-empty_costs_nothing (Some a, None) h = absurd (h (λ e. cc))
-empty_costs_nothing cable h = absurd (h (λ e. cc))
+empty_costs_nothing cable e = grind (arith, none_differ)
 
 all_empty : (cables : List (Option ℕ × Option ℕ)) (number : ℕ) → length cables ≡ number → ((cable : Option ℕ × Option ℕ) → Contains cables cable → cable_letters cable ≢ [] → ⊥)
     → AllZip CostsNothing cables (replicate number None)
@@ -189,7 +188,6 @@ matched_of_pairs cables pairs once pairs_once h =
 pub cables_paired : Told → (cables : List (Option ℕ × Option ℕ)) (pairs : List (ℕ × ℕ)) (prices : List ℤ) → HasCables cables → AreOnce (letters_plugged pairs) → length pairs ≤ 13 → length prices ≡ 13
     → AreThePairs cables pairs → FreePairing cable_cost cables (columns_of pairs) prices
 cables_paired told cables pairs prices has once few count h =
-    let size = told.thirteen pairs few in
     let there = matched told cables pairs (13 - length pairs) (omega (arith, has.count)) (matched_of_pairs cables pairs has.once once h) in
     let beside = reordered (λ cable (w : Option (ℕ × ℕ) × ℤ). CostsNothing cable w.0) there.0 cables (zip (columns_of pairs) prices) (IsPermutation-sym cables there.0 there.1)
     (with_prices CostsNothing there.0 (columns_of pairs) prices (omega arith) there.2) in

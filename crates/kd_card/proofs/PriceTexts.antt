@@ -1,4 +1,6 @@
 -- Prices by their texts.
+use Rattle.std.proofs.Common.{rules}
+use Rattle.std.proofs.lemmas.Grind.{common_steps}
 use Rattle.kd_card.proofs.Prelude.{◌≡◌, ◌≢◌, ℕ, suc, ◌^◌, ◌<◌, ◌≤◌, Bool, true, false, List, [], ◌∷◌, length, map, get_or, Option, Some, None, MatchOption, Result, Ok, Err, MatchResult, Decides, Bor, ◌↔◌, IsTrue, is_some, refl, sym, ap, subst, ◌∙◌, arith, ℤ, pos, negsuc, unsigned_abs, FitsSigned, w16, to_z, of_z, then_some, IsUtf8, ParsesSigned, signed_decimal, All, AllByRecursion, false≢true, fits_signed_from_abs, to_z-of_z, get_or-map, length-map, All-cons, recursion_from_All, All-from_recursion, All-map, All-weaker, words_of, IsWithout, IsFirstPart, IsPriceText, SaysPrices, BadLine, PriceMissing, Refused, Found, parse-signed_decimal, IsAscii-signed, length-decimal-le, AreWithinReach}
 use Rattle.std.specs.Result.{result_ok}
 use Rattle.std.specs.Int.Signed.{mag}
@@ -14,8 +16,7 @@ pub written_price : (text : List ℕ) (p : ℤ) → text ≡ signed_decimal (to_
 written_price text p e within = e ∙ ap signed_decimal (to_z-of_z w16 p (fits p within))
 
 pub small : (p : ℤ) → unsigned_abs p ≤ 9999 → mag p < 2 ^ 63
-small (pos n) within = omega arith
-small (negsuc n) within = omega arith
+small p e = grind arith
 
 short_price : (p : ℤ) → unsigned_abs p ≤ 9999 → length (signed_decimal p) ≤ 5
 short_price (pos n) within = omega (arith, length-decimal-le 4 n (omega arith) (omega arith) (omega arith))
@@ -32,8 +33,7 @@ no_text bs (Err f) P Q h none price within e = h.0 (subst IsUtf8 e (IsUtf8-from_
 
 -- what holds of the value of an Ok
 pub ok_part : {S E : Type 0} (r : Result S E) (s : S) (P : S → Type 0) (Q : E → Type 0) → MatchResult r P Q → Some s ≡ result_ok r → P s
-ok_part (Ok x) s P Q h e = let same : x ≡ s = cc in subst P same h
-ok_part (Err f) s P Q h e = cc
+ok_part r s P Q e d = grind arith
 
 pub read_price : {E : Type 0} (bs : List ℕ) (r : Result ℤ E) → ParsesSigned w16 10 bs r → (price : ℤ) → unsigned_abs price ≤ 9999 → signed_decimal price ≡ bs
     → result_ok r ≡ Some price
@@ -57,8 +57,7 @@ IsPriceOf word r =
     MatchOption r ((price : ℤ) → unsigned_abs price ≤ 9999 → signed_decimal price ≢ word) (λ price. (signed_decimal price ≡ word) × (unsigned_abs price ≤ 9999))
 
 pub tells_price : (word : List ℕ) (r : Option ℤ) → IsPriceOf word r → IsTrue (is_some r) ↔ IsPriceText word
-tells_price word None h = (λ e. absurd (false≢true e), λ p. absurd (h p.0 p.1 p.2))
-tells_price word (Some p) h = (λ e. (p, h.1, h.0), λ q. refl)
+tells_price word r e = grind arith
 
 -- all are prices where the first word is one, and all others are
 pub all_of_more : {rest word after : List ℕ} → IsFirstPart 32 rest word after
@@ -91,8 +90,6 @@ priced : (words : List (List ℕ)) → AllByRecursion IsPriceText words
 priced [] all = ([], refl, tt)
 priced (word ∷ words) (is, all) =
     let rest = priced words all in
-    let written = is.2 in
-    let others = rest.1 in
     (is.0 ∷ rest.0, cc, (is.1, rest.2))
 
 -- ---- what is said of words as prices

@@ -1,5 +1,7 @@
 -- No list of settings that leads to the day has fewer than there are loose things and prices in sum, and a card that proves
 -- itself has as many.
+use Rattle.std.proofs.Common.{rules}
+use Rattle.std.proofs.lemmas.Grind.{common_steps}
 use Rattle.kd_card.proofs.Prelude.{◌≡◌, ℕ, suc, ◌+◌, ◌<◌, ◌≤◌, Bool, true, false, cond, List, [], ◌∷◌, ◌++◌, length, get_or, map, zip, fold, Contains, Option, ℤ, pos, ◌+ℤ◌, ◌≤ℤ◌, IsPermutation, refl, sym, ap, ◌∙◌, subst, arith, zero, None, ints, length_permutation, Contains-permutation, IsPermutation-sym, Model, reflectors_of, letters_plugged, RotorParts, PinParts, Parts, Rotor, Pin, Setting, model_of, IsMachine, Leads, changed, RotorDay, PinDay, Day, OfRotors, OfPins, day_model, IsLegalDay, ReadsAs, cable_cost, bar_cost, columns_of, cost_table, loose_count, PriceParts, Cables, Bars, ArePrices, Fits, price_sum, AreTight, is_priced, priced_count, AreOfKind, IsNeeded, AreNeeded, Same, Expanded, ProvesByNumber, FittingPricesBoundLists, ProvingCardsAreAsLong, ProvingCardsAreShortest, ProvingPricesAreTight, get_or_default, get_or-map, length-zip, get_or-zip, One}
 use Rattle.kd_tables.specs.declared.model.Model.TheVariants.{M209}
 use Rattle.kd_tables.specs.declared.reflector.Reflector.{Reflector}
@@ -11,8 +13,7 @@ use Rattle.kd_card.proofs.Pairing.{cables_paired, bars_paired, Told}
 
 -- A setting lowers the loose things and the pairing's cost together by at most one, and so many settings by at most so many.
 either : (b : Bool) → cond b 0 1 + cond b 1 0 ≡ 1
-either true = refl
-either false = refl
+either b = grind arith
 
 pub model_of-list : (m n : Parts) (xs : List Setting) → Leads m xs n → model_of n ≡ model_of m
 model_of-list m n [] h = ap model_of h
@@ -41,7 +42,6 @@ module _ {A B : Type 0} (cost : A → B → ℕ) where
   tight_at : (rows : List A) (prices : List ℤ) (ws : List (B × ℤ)) (i : ℕ) (a : A) (w : B × ℤ) → length rows ≡ length ws → length rows ≡ length prices → FitAll cost rows prices ws
       → pos (pairing_cost cost rows ws) ≤ℤ (sum_of prices +ℤ prices_with ws) → i < length rows → IsTight (get_or rows i a) (get_or prices i (pos 0)) (get_or ws i w)
   tight_at (row ∷ rows) (price ∷ prices) (v ∷ ws) zero a w e f h sum lt =
-      let head = h.0.0 in
       let rest = fitting_prices cost rows prices ws (omega arith) (without_first cost rows prices v ws h.1) in
       omega (arith, ints)
   tight_at (row ∷ rows) (price ∷ prices) (v ∷ ws) (suc i) a w e f h sum lt =
@@ -201,8 +201,7 @@ fitting_prices_bound_lists told m s prices settings machine legal are_prices kin
 
 -- Where each setting is needed, there are as many as loose things and those that change a cable or a bar.
 needed_one : (m : Parts) (s : Day) (x : Setting) (b : Bool) → is_priced x ≡ b → IsNeeded m s x → loose_count m s + cond b 1 0 ≡ loose_count (changed m x) s + 1
-needed_one m s x true e needed = omega (arith, leaves m s x e)
-needed_one m s x false e needed = omega (arith, needed e)
+needed_one m s x b e d = grind (arith, leaves)
 
 needed_all : (m n : Parts) (s : Day) (xs : List Setting) → Leads m xs n → AreNeeded m s xs → loose_count m s + priced_count xs ≡ loose_count n s + length xs
 needed_all m n s [] leads needed = subst (λ n. loose_count m s + 0 ≡ loose_count n s + 0) (sym leads) refl

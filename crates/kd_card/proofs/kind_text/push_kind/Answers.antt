@@ -7,5 +7,4 @@ pub returns-clause-bytes : goal.returns-clause-bytes
 returns-clause-bytes g c =
     let kind = c.args.kind.now in
     let price : c.format.result.now ≡ signed_decimal kind.price = written_price _ kind.price c.format.ensures.text c.requires.kind.reach in
-    let name : c.text.result.now ≡ name_text (look_name kind.look) = c.text.ensures ∙ ap name_text c.name.ensures in
     cc (line_in_pieces c.args.text.now.bytes kind)

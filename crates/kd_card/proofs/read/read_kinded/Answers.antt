@@ -1,3 +1,5 @@
+use Rattle.std.proofs.Common.{rules}
+use Rattle.std.proofs.lemmas.Grind.{common_steps}
 use Rattle.kd_card.proofs.Prelude.{refl, arith, err_from_is_err_and, Refused, Found}
 use Rattle.kd_card.proofs.CardWords.{group_said}
 use Rattle.kd_card.proofs.KindPrices.{few_kinds, few_prices_of}
@@ -25,7 +27,6 @@ returns-in_err-columns c =
 pub read_kinds-requires-2-clause-near : goal.read_kinds-requires-2-clause-near
 read_kinds-requires-2-clause-near c =
     let rows = (group_said _ _ c.in_ok-rows.ensures).group in
-    let count = rows.count in
     omega (arith, few_kinds 0 c.in_ok-rows.rows.items rows.in_order, few_prices_of c.in_ok-group.group)
 
 pub returns : goal.returns

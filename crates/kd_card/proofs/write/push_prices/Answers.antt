@@ -21,8 +21,6 @@ pub returns-in-CableKinds-clause-bytes : goal.returns-in-CableKinds-clause-bytes
 returns-in-CableKinds-clause-bytes g c =
     let by : version_of c.args.prices.now ≡ ByKind =
     ap version_of (sym c.parts.ensures.value) ∙ elim c.in-CableKinds.is [ inl w ↦ ap version_of w.2 | inr w ↦ ap version_of w.2 ] in
-    let rows : c.as_slice.result.now ≡ row_kinds c.args.prices.now = c.as_slice.ensures.value ∙ c.row_kinds.ensures in
-    let columns : c.as_slice-in-CableKinds.result.now ≡ column_kinds c.args.prices.now = c.as_slice-in-CableKinds.ensures.value ∙ c.column_kinds.ensures in
     cc (
       text_by_kind c.args.prices.now by,
       append_assoc c.args.text.now.bytes (kinds_text (row_kinds c.args.prices.now)) (kinds_text (column_kinds c.args.prices.now)),
