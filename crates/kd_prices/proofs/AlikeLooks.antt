@@ -127,10 +127,7 @@ priced_alike looks Alike prices n told many = (
 -- ---- what is answered of a group
 
 size_of : (prices : PriceParts) → price_count (group_of prices) ≡ how_many prices
-size_of (Cables a b) = refl
-size_of (Bars a b) = refl
-size_of (CableKinds a b) = refl
-size_of (BarKinds a b) = refl
+size_of prices = grind arith
 
 -- machine, day and prices by number are of one model and of this group, and these are their looks and prices
 pub record AreOfOneGroup (group : Group) (m : Parts) (s : Day) (prices : PriceParts) (rows columns : List Look) (row column : List ℤ) : Type 0 where

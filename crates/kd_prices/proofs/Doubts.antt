@@ -67,17 +67,7 @@ module _ (one : LeadsToOne) (m : Parts) (settings : List Setting) where
 
 module _ (costs : List (List ℕ)) (prices : PriceParts) where
   only_fits : IsOnly (SaysFits costs prices)
-  only_fits (Ok x) (Ok y) a b = refl
-  only_fits (Ok x) (Err (PriceTooHigh i j)) a b = absurd (b.4.here (a b.0 b.1 b.4.row_within b.4.column_within))
-  only_fits (Err (PriceTooHigh i j)) (Ok y) a b = absurd (a.4.here (b a.0 a.1 a.4.row_within a.4.column_within))
-  only_fits (Err (PriceTooHigh i j)) (Err (PriceTooHigh k l)) a b =
-      let same = one_place _ _ a.0 a.1 b.0 b.1 a.4 b.4 in
-      let rows : i ≡ k = omega (arith, a.2, b.2, same.0) in
-      let columns : j ≡ l = omega (arith, a.3, b.3, same.1) in
-      cc
-  only_fits (Ok x) (Err doubt) a b = absurd b
-  only_fits (Err (PriceTooHigh i j)) (Err doubt) a b = absurd b
-  only_fits (Err doubt) w a b = absurd a
+  only_fits = grind (arith, one_place)
 
 module _ (m : Parts) (s : Day) (settings : List Setting) where
   only_needed : IsOnly (SaysNeeded m s settings)

@@ -49,8 +49,7 @@ some_counted looks place inside =
 -- ---- all ranks are below 703
 
 low_place : (place : Place) → place_rank place < 8
-low_place One = omega arith
-low_place _ = omega arith
+low_place place = grind arith
 
 low_look : (look : Look) → IsInForm look → look_rank look < 703
 low_look (Cable (None, other)) form = omega arith

@@ -24,9 +24,7 @@ same_expansion looks kinds prices others are a b =
 
 same_parts : (prices others : PriceParts) → version_of prices ≡ ByNumber → version_of others ≡ ByNumber → group_of prices ≡ group_of others
     → row_prices prices ≡ row_prices others → column_prices prices ≡ column_prices others → prices ≡ others
-same_parts (Cables a b) (Cables c d) by also group rows columns = cc
-same_parts (Bars a b) (Bars c d) by also group rows columns = cc
-same_parts prices others by also group rows columns = cc
+same_parts prices others e d g h o = grind arith
 
 pub one_expansion : (m : Parts) (s : Day) (prices numbered other : PriceParts) → Expands m s prices numbered → Expands m s prices other → numbered ≡ other
 one_expansion m s prices numbered other (Same by e) (Same also f) = sym e ∙ f
@@ -38,18 +36,13 @@ one_expansion m s prices numbered other (Expanded by be group are good rows colu
 -- ---- models
 
 group_is : (m : Parts) (prices : PriceParts) → AreOfKind m prices → group_of prices ≡ group_of_machine m
-group_is (Rotor m) (Cables a b) kind = refl
-group_is (Pin m) (Bars a b) kind = refl
-group_is m prices kind = absurd kind
+group_is m prices e = grind arith
 
 pub kind_is : (m : Parts) (prices : PriceParts) → version_of prices ≡ ByNumber → group_of prices ≡ group_of_machine m → AreOfKind m prices
-kind_is (Rotor m) (Cables a b) by group = tt
-kind_is (Pin m) (Bars a b) by group = tt
-kind_is m prices by group = cc
+kind_is m prices e d = grind arith
 
 same_group : (m : Parts) (s : Day) (prices numbered : PriceParts) → Expands m s prices numbered → (version_of numbered ≡ ByNumber) × (group_of prices ≡ group_of numbered)
-same_group m s prices numbered (Same by e) = (ap version_of (sym e) ∙ by, ap group_of e)
-same_group m s prices numbered (Expanded by be group are good rows columns) = (be, group)
+same_group m s prices numbered e = grind arith
 
 pub of_one_model : (m : Parts) (s : Day) (settings : List Setting) (prices : PriceParts) → Proves m s settings prices → AreOfOneModel m s prices
 of_one_model m s settings prices h = record {
