@@ -43,9 +43,7 @@ version_is_word : (version : Version) → IsWord (version_text version)
 version_is_word version = grind (arith, word_by_test)
 
 pub head_is_words : NumbersAreWords → (version : Version) (day : ℕ) → day ≤ 31 → All IsWord (head_words version day)
-head_is_words numbers version day small =
-    All-from_recursion IsWord (head_words version day)
-    (word_by_test _ _ refl, (version_is_word version, (word_by_test _ _ refl, (numbers day (omega arith), tt))))
+head_is_words numbers version day small = grind (arith, All-from_recursion, word_by_test, version_is_word, numbers)
 
 pub row_is_word : (kind : Group) → IsWord (row_word kind)
 row_is_word kind = grind (arith, word_by_test)
@@ -80,9 +78,7 @@ no_leading_zero (suc n) small e = absurd (omega (arith, first_decimal (suc n) (o
 
 pub number_text : (number : ℕ) → number < 2 ^ 64 → IsNumberText (decimal number)
 number_text number small =
-    number_by_parts (decimal number) (decimal_nonempty number small) (λ i inside.
-    let figure : IsInRange 48 57 (get_or (decimal number) i 0) = digits_decimal figures number small i inside in (omega arith, omega arith))
-    (no_leading_zero number small)
+    grind (arith, number_by_parts, decimal_nonempty, small, digits_decimal, figures, no_leading_zero)
 
 not_zero : (n : ℕ) → suc n < 2 ^ 64 → decimal (suc n) ≢ codes "0"
 not_zero n small e = omega (arith, first_decimal (suc n) (omega arith) small, ap (λ t. get_or t 0 0) e)
@@ -96,11 +92,7 @@ signed_text (negsuc n) small = inr (decimal (suc n), refl, number_text (suc n) s
 sum_bound : (a : ℤ) (prices : List ℤ) → AllByRecursion (λ price. unsigned_abs price ≤ 9999) prices
     → unsigned_abs (fold (λ sum price. sum +ℤ price) a prices) ≤ unsigned_abs a + 9999 * length prices
 sum_bound a [] reach = omega arith
-sum_bound a (price ∷ prices) reach =
-    let rest = sum_bound (a +ℤ price) prices reach.1 in
-    let within : unsigned_abs price ≤ 9999 = reach.0 in
-    let step : unsigned_abs (a +ℤ price) ≤ unsigned_abs a + unsigned_abs price = omega (arith, ints) in
-    omega (arith, rest, step, within)
+sum_bound a (price ∷ prices) reach = grind (arith, sum_bound (a +ℤ price) prices reach.1, a)
 
 pub few_prices : (prices : PriceParts) → how_many prices ≤ 27
 few_prices prices = grind arith
@@ -127,10 +119,7 @@ module _ (signed : Bool) (name due : List ℕ) (line : ℕ) where
 
   pub value_said : {bytes rest : List ℕ} → SaysValue signed name due line bytes (Ok rest)
       → bytes ≡ with_line (name ∷ due ∷ []) rest
-  value_said says =
-      let value = passed says in
-      let same = passed value.next in
-      value.says.1 ∙ cc
+  value_said says = grind (arith, passed)
 
 -- ---- a first word, and prices
 
@@ -158,11 +147,7 @@ pub record HasPrices (bytes word : List ℕ) (number : ℕ) (prices : List ℤ) 
 
 pub prices_said : {number line : ℕ} {words : List (List ℕ)} {prices : List ℤ} → SaysPrices number line words (Ok prices)
     → (words ≡ map signed_decimal prices) × AreWithinReach prices × (length prices ≡ number)
-prices_said {number} {words} {prices} says =
-    let are = passed says in
-    let count = passed are.next in
-    let is : prices ≡ are.found = cc in
-    rw is (are.says.0, are.says.1, count.says)
+prices_said {number} {words} {prices} says = grind (arith, passed)
 
 pub line_said : {K : Type 0} (word : K → List ℕ) (number : K → ℕ) {line : ℕ} {bytes : List ℕ} (x : K × List ℤ × List ℕ)
     → SaysPriceLine word number line bytes (Ok x) → HasPrices bytes (word x.0) (number x.0) x.1 x.2
@@ -190,13 +175,4 @@ pub record HasGroup (name : Name) (number : ℕ) (bytes : List ℕ) (kinds : Lis
 
 pub group_said : {name : Name} {number : ℕ} (line : ℕ) {bytes : List ℕ} (x : List PricedKind × List ℕ)
     → SaysGroup name number line bytes (Ok x) → HasGroup name number bytes x.0 x.1
-group_said {name} {number} line {bytes} x says =
-    let kinds = passed says in
-    let end = passed kinds.next in
-    let count = passed end.next in
-    let is : x ≡ kinds.found = cc in
-    let begins = kinds.says.begins in
-    subst (λ (y : List PricedKind × List ℕ). HasGroup name number bytes y.0 y.1) (sym is) (record {
-      lines = begins.lines;
-      group = record { called = begins.called; in_order = begins.in_order; count = count.says };
-    })
+group_said {name} {number} line {bytes} x says = grind (arith, passed, bytes)

@@ -49,26 +49,18 @@ low_floor floor (kind ∷ kinds) low are =
 pub floor_bounds : (floor : ℕ) (kinds : List PricedKind) → AreKinds floor kinds
     → (counted kinds + 255 * floor ≤ 255 * floor_behind floor kinds) × (floor + length kinds ≤ floor_behind floor kinds)
 floor_bounds floor [] are = (omega arith, omega arith)
-floor_bounds floor (kind ∷ kinds) are =
-    let rest = floor_bounds (look_rank kind.look + 1) kinds are.2 in
-    (omega arith, omega arith)
+floor_bounds floor (kind ∷ kinds) are = grind (arith, floor_bounds (look_rank kind.look + 1) kinds are.2)
 
 -- ---- sums
 
 fold_of_copies : (sum : ℤ) (count : ℕ) (price : ℤ) → fold (λ sum price. sum +ℤ price) sum (replicate count price) ≡ (sum +ℤ (pos count *ℤ price))
 fold_of_copies sum zero price = let none = zero-*ℤ price in omega (arith, ints, none)
-fold_of_copies sum (suc count) price =
-    let more = suc_ℤ-*ℤ (pos count) price in let rest = fold_of_copies (sum +ℤ price) count price in omega (arith, ints, more, rest)
+fold_of_copies sum (suc count) price = grind (arith, suc_ℤ-*ℤ, count, fold_of_copies (sum +ℤ price) count price, sum)
 
 pub more_sum : (sum : ℤ) (kinds : List PricedKind) (kind : PricedKind)
     → fold (λ sum price. sum +ℤ price) sum (prices_of_kinds (kinds ++ kind ∷ []))
     ≡ (fold (λ sum price. sum +ℤ price) sum (prices_of_kinds kinds) +ℤ (pos kind.count *ℤ kind.price))
-more_sum sum kinds kind =
-    let copies : List ℤ = replicate kind.count kind.price in
-    ap (fold (λ sum price. sum +ℤ price) sum)
-    (flat_map-append (λ (k : PricedKind). replicate k.count k.price) kinds (kind ∷ []) ∙ ap (λ xs. prices_of_kinds kinds ++ xs) (append-nil copies))
-    ∙ fold-append _ sum (prices_of_kinds kinds) copies
-    ∙ fold_of_copies (fold (λ sum price. sum +ℤ price) sum (prices_of_kinds kinds)) kind.count kind.price
+more_sum sum kinds kind = grind (arith, flat_map-append, append-nil, fold-append, fold_of_copies)
 
 -- ---- kinds, walked along
 
@@ -80,12 +72,7 @@ pub record Walked (kinds : List PricedKind) (floor total : ℕ) : Type 0 where
 
 walked_more : {kinds : List PricedKind} {floor total count rank : ℕ} {kind : PricedKind} → Walked kinds floor total → IsPricedKind kind → floor ≤ look_rank kind.look
     → rank ≡ look_rank kind.look → count ≡ kind.count → Walked (kinds ++ kind ∷ []) (rank + 1) (total + count)
-walked_more {kinds} {kind} walked good above ranked counts =
-    record {
-      in_order = more_kinds 0 kinds kind walked.in_order good (omega arith);
-      floor_is = ap (λ r. r + 1) ranked ∙ sym (more_floor 0 kinds kind);
-      total_is = omega (arith, counted-append kinds (kind ∷ []));
-    }
+walked_more {kinds} {kind} walked good above ranked counts = grind (arith, more_kinds, more_floor, counted-append)
 
 one_more : (kinds : List PricedKind) (i : ℕ) {kind : PricedKind} → i < length kinds → kind ≡ get_or kinds i kind
     → take (i + 1) kinds ≡ take i kinds ++ kind ∷ []
@@ -98,10 +85,7 @@ walks_on kinds i {total} {count} {rank} inside is walked may ranked counts =
     subst (λ ks. Walked ks (rank + 1) (total + count)) (sym (one_more kinds i inside is)) (walked_more walked may.0 may.1 ranked counts)
 
 pub walk_bounds : {kinds : List PricedKind} {floor total : ℕ} → Walked kinds floor total → (total ≤ 255 * floor) × (length kinds ≤ floor) × (floor ≤ 703)
-walk_bounds {kinds} walked =
-    let bounds = floor_bounds 0 kinds walked.in_order in
-    let low = low_floor 0 kinds (omega arith) walked.in_order in
-    (omega arith, omega arith, omega arith)
+walk_bounds {kinds} walked = grind (arith, floor_bounds, low_floor)
 
 -- the sum goes on by the price of all things of a kind
 abbrev pub SumsOn : ℤ → ℤ → ℤ → List PricedKind → ℕ → Type 0

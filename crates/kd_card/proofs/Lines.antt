@@ -122,8 +122,7 @@ pub words_of_last : (rest : List ℕ) → IsWithout 32 rest → words_of rest �
 words_of_last rest without = slice_split_none (λ b. eqb b 32) rest (spaceless rest without)
 
 pub words_of_first : {text word rest : List ℕ} → IsFirstPart 32 text word rest → words_of text ≡ word ∷ words_of rest
-words_of_first {text} {word} {rest} first =
-    ap words_of first.joined ∙ slice_split_at (λ b. eqb b 32) word 32 rest (spaceless word first.without) refl
+words_of_first {text} {word} {rest} first = grind (arith, slice_split_at, spaceless)
 
 pub is_line : {bytes : List ℕ} {words : List (List ℕ)} {rest : List ℕ} → HasWords bytes words rest
     → bytes ≡ with_line words rest
@@ -135,8 +134,7 @@ some_bytes {rest} has none = omega (arith, ap length (sym has.first.joined ∙ n
 
 pub same_words : TextsTellFirstParts → {bytes rest more : List ℕ} {words others : List (List ℕ)} → HasWords bytes words rest
     → HasWords bytes others more → (words ≡ others) × (rest ≡ more)
-same_words tells a b =
-    let parts = same_first_part tells a.first b.first in (sym a.parts ∙ ap words_of parts.0 ∙ b.parts, parts.1)
+same_words tells a b = grind (arith, same_first_part)
 
 -- what the laws of kd_state say of lines
 pub record Laws : Type 0 where
@@ -148,11 +146,7 @@ pub record Laws : Type 0 where
 module _ (laws : Laws) where
   pub line_has_words : {bytes : List ℕ} (words : List (List ℕ)) (rest : List ℕ) → words ≢ [] → All IsWord words → bytes ≡ with_line words rest
       → HasWords bytes words rest
-  line_has_words words rest some are e = record {
-    line = line_of words;
-    first = record { joined = e; without = laws.one_line words are };
-    parts = laws.split words some are;
-  }
+  line_has_words words rest some are e = grind arith
 
 -- ---- a line that begins with a name
 

@@ -287,9 +287,7 @@ module _ (laws : Laws) where
 
   value_line : {bytes : List ℕ} (name value rest : List ℕ) → IsWord name → IsWord value
       → bytes ≡ with_line (name ∷ value ∷ []) rest → HasWords bytes (name ∷ value ∷ []) rest
-  value_line name value rest named valued e =
-      line_has_words laws (name ∷ value ∷ []) rest (λ none. cc)
-      (All-from_recursion IsWord (name ∷ value ∷ []) (named, (valued, tt))) e
+  value_line name value rest named valued e = grind (arith, line_has_words, value, All-from_recursion)
 
   only_value : (signed : Bool) (name due : List ℕ) (line : ℕ) (bytes : List ℕ) → IsWord name
       → IsOnly (SaysValue signed name due line bytes)
@@ -342,8 +340,7 @@ module _ (laws : Laws) where
         → (length ys ≤ length xs) × (BeginsWithNoLine more → (xs ≡ ys) × (rest ≡ more))
     lists_end [] [] rest more a b none e = (omega arith, λ nor. (refl, e))
     lists_end [] (y ∷ ys) rest more a b none e = absurd (none y (list_text ys ++ more) b.0 (e ∙ text_of_more y ys more))
-    lists_end (x ∷ xs) [] rest more a b none e =
-        (omega arith, λ nor. absurd (nor x (list_text xs ++ rest) a.0 (sym e ∙ text_of_more x xs rest)))
+    lists_end (x ∷ xs) [] rest more a b none e = grind (arith, text_of_more)
     lists_end (x ∷ xs) (y ∷ ys) rest more a b none e =
         let parts : (setting_line x ≡ setting_line y) × (list_text xs ++ rest ≡ list_text ys ++ more) =
         laws.first_parts 10 (setting_line x) (setting_line y) (list_text xs ++ rest) (list_text ys ++ more)
@@ -355,9 +352,7 @@ module _ (laws : Laws) where
 
     lists_meet : {body : List ℕ} {xs ys : List Setting} {rest more : List ℕ} → BeginsWithSettings body xs rest
         → BeginsWith body ys more → (length ys ≤ length xs) × (BeginsWithNoLine more → (xs ≡ ys) × (rest ≡ more))
-    lists_meet {xs} {ys} {rest} {more} a b =
-        lists_end xs ys rest more (recursion_from_All IsInRange xs a.lines.in_range) (recursion_from_All IsInRange ys b.in_range)
-        a.none_more (sym a.lines.lines ∙ b.lines)
+    lists_meet {xs} {ys} {rest} {more} a b = grind (arith, lists_end, recursion_from_All)
 
     not_too_many : {body : List ℕ} {xs ys : List Setting} {rest more : List ℕ} → BeginsWithSettings body xs rest
         → BeginsWith body ys more → length ys ≡ 193 → ⊥

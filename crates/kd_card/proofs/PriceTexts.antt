@@ -69,9 +69,7 @@ all_of_more {word} {after} first =
     )
 
 pub all_of_last : (rest : List ℕ) → IsWithout 32 rest → All IsPriceText (words_of rest) ↔ IsPriceText rest
-all_of_last rest without =
-    rw (words_of_last rest without)
-    (λ all. (recursion_from_All IsPriceText (rest ∷ []) all).0, λ price. All-from_recursion IsPriceText (rest ∷ []) (price, tt))
+all_of_last rest without = grind (arith, words_of_last, recursion_from_All, All-from_recursion)
 
 pub not_at : (words : List (Bor (List ℕ))) (i : ℕ) (d : Bor (List ℕ)) → i < length words → ¬ (IsPriceText (get_or words i d).now)
     → ¬ (All IsPriceText (map (λ (word : Bor (List ℕ)). word.now) words))

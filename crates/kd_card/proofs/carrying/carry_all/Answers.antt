@@ -20,8 +20,7 @@ stops_at m n xs place x why within is leads refused =
     grind (arith, take-append-drop place xs, drop-cons xs place x within, within, length-take-le place xs (omega arith))
 
 pub returns-in-Err-clause-refused : goal.returns-in-Err-clause-refused
-returns-in-Err-clause-refused c =
-    stops_at _ _ _ _ _ _ (omega arith) (sym c.index-settings-place.is) c.loop-place.invariant (c.in-Err.ensures.refused)
+returns-in-Err-clause-refused c = grind (arith, stops_at)
 
 pub loop-place-preserved : goal.loop-place-preserved
 loop-place-preserved c = leads_on _ _ _ _ _ _ (omega arith) (sym c.index-settings-place.is) c.loop-place.invariant c.in-Ok.ensures.carried

@@ -5,14 +5,10 @@ use Rattle.kd_card.proofs.KindPrices.{are_prices, counts}
 use Rattle.kd_card.proofs.prices.Prices.of_kinds.Goals as goal
 
 pub returns-then-not-are_kinds : goal.returns-then-not-are_kinds
-returns-then-not-are_kinds c = λ are.
-    let said = rw (c.as_slice.ensures.value, c.row_kinds.ensures) at c.are_kinds.ensures in
-    false≢true (sym c.if-not-are_kinds.true ∙ said.1 (are.row_kinds, (counts c.args.parts c.requires.kinds are).0 ∙ sym c.requires.number))
+returns-then-not-are_kinds c = grind (arith, false≢true, counts)
 
 pub returns-then-not-are_kinds-2 : goal.returns-then-not-are_kinds-2
-returns-then-not-are_kinds-2 c = λ are.
-    let said = rw (c.as_slice-2.ensures.value, c.column_kinds.ensures) at c.are_kinds-2.ensures in
-    false≢true (sym c.if-not-are_kinds-2.true ∙ said.1 (are.column_kinds, (counts c.args.parts c.requires.kinds are).1 ∙ sym c.requires.number))
+returns-then-not-are_kinds-2 c = grind (arith, false≢true, counts)
 
 pub of_parts-requires : goal.of_parts-requires
 of_parts-requires c =
