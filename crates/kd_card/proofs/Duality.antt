@@ -1,7 +1,5 @@
 -- Prices that fit bound from below what any pairing of rows and columns costs.
-use Rattle.std.proofs.lemmas.Grind.{common_steps}
-use Rattle.std.proofs.Common.{rules}
-use Rattle.kd_card.proofs.Prelude.{◌≡◌, ℕ, zero, suc, ◌+◌, ◌<◌, List, [], ◌∷◌, ◌++◌, length, get_or, set, map, zip, fold, ℤ, pos, ◌+ℤ◌, ◌≤ℤ◌, IsPermutation, refl, arith, AllByRecursion, AllZip, ints, fold-append, sum_by-cons, sum_by-IsPermutation, All-permutation, IsPermutation-keeps, IsPermutation-refl, IsPermutation-trans, IsPermutation-swap, AllZip-long, All-from_recursion, recursion_from_All}
+use Rattle.kd_card.proofs.Prelude.{◌≡◌, ℕ, zero, suc, ◌+◌, ◌<◌, List, [], ◌∷◌, ◌++◌, length, get_or, set, map, zip, fold, ℤ, pos, ◌+ℤ◌, ◌≤ℤ◌, IsPermutation, refl, arith, AllByRecursion, AllZip, ints, fold-append, sum_by-cons, sum_by-IsPermutation, All-permutation, IsPermutation-keeps, IsPermutation-refl, IsPermutation-trans, IsPermutation-swap, AllZip-long, All-from_recursion, recursion_from_All, common_steps, rules}
 use Rattle.std.specs.List as lists
 use borrow.Author.Differences.{up, down}
 

@@ -1,8 +1,5 @@
 -- Bytes are one card, or have one fault.
-use Rattle.std.proofs.Common.{rules}
-use Rattle.std.proofs.lemmas.Grind.{common_steps}
-use Rattle.kd_card.proofs.Prelude.{Bool, true, false, codes, ◌≡◌, ◌≢◌, ℕ, ◌+◌, ◌*◌, ◌^◌, ◌<◌, ◌≤◌, List, [], ◌∷◌, ◌++◌, length, map, get_or, Result, Ok, Err, refl, sym, ap, subst, ◌∙◌, arith, ℤ, unsigned_abs, append_assoc, AllByRecursion, signed_decimal, decimal_injective, signed_decimal_injective, append-nil, All-from_recursion, recursion_from_All, Setting, Pull, IsWord, setting_words, setting_line, list_text, IsInRange, BeginsWith, BeginsWithNoLine, SettingsHaveWords, LinesTellSettings, PriceParts, Cables, Bars, CableKinds, BarKinds, Version, ByNumber, ByKind, Group, OfCables, OfBars, Name, PricedKind, Trailing, Then, Refused, Found, Only, Demands, look_rank, name_text, kind_words, kinds_text, AreKinds, AreCalled, version_of, row_kinds, column_kinds, price_sum, AreWithinReach, ArePrices, group_of, row_word, column_word, row_name, column_name, price_count, version_text, head_words, settings_words, price_words, sum_words, lines_text, price_lines, card_text, IsGroup, IsCard, with_line, HasWords, SaysValue, SaysFirst, BeginsWithHead, BeginsWithSettings, SaysSettings, SaysPriceLine, SaysNumbered, BeginsWithWord, EndsGroup, AtOther, IsNextKind, HasNoNext, floor_behind, SaysGroup, SaysKinded, SaysAllPrices, SaysBehind, SaysCard, TextsTellCards, NoCardBeginsAnother, CardsHaveNoFault, OneCardFault}
-use Rattle.kd_card.specs.declared.look.Name.TheVariants as names
+use Rattle.kd_card.proofs.Prelude.{Bool, true, false, codes, ◌≡◌, ◌≢◌, ℕ, ◌+◌, ◌*◌, ◌^◌, ◌<◌, ◌≤◌, List, [], ◌∷◌, ◌++◌, length, map, get_or, Result, Ok, Err, refl, sym, ap, subst, ◌∙◌, arith, ℤ, unsigned_abs, append_assoc, AllByRecursion, signed_decimal, decimal_injective, signed_decimal_injective, append-nil, All-from_recursion, recursion_from_All, Setting, IsWord, setting_words, setting_line, list_text, IsInRange, BeginsWith, BeginsWithNoLine, SettingsHaveWords, LinesTellSettings, PriceParts, Cables, Bars, CableKinds, BarKinds, Version, ByNumber, ByKind, Group, OfCables, OfBars, Name, PricedKind, Trailing, Then, Refused, Found, Only, Demands, look_rank, name_text, kind_words, kinds_text, AreKinds, AreCalled, version_of, row_kinds, column_kinds, price_sum, AreWithinReach, ArePrices, group_of, row_word, column_word, row_name, column_name, price_count, version_text, head_words, settings_words, price_words, sum_words, lines_text, price_lines, card_text, IsGroup, IsCard, with_line, HasWords, SaysValue, SaysFirst, BeginsWithHead, BeginsWithSettings, SaysSettings, SaysPriceLine, SaysNumbered, BeginsWithWord, EndsGroup, AtOther, IsNextKind, HasNoNext, floor_behind, SaysGroup, SaysKinded, SaysAllPrices, SaysBehind, SaysCard, TextsTellCards, NoCardBeginsAnother, CardsHaveNoFault, OneCardFault, common_steps}
 use Rattle.kd_card.specs.declared.fault.CardFault.{CardFault}
 use Rattle.kd_card.specs.CardFault.{numbered}
 use Rattle.kd_card.specs.Laws.{CardsAreSaid}
@@ -18,12 +15,6 @@ use Rattle.kd_card.proofs.KindPrices.{text_of_more_kinds, text_by_kind, both_gro
 same_pair : {A B : Type 0} (x y : A × B) → x.0 ≡ y.0 → x.1 ≡ y.1 → x ≡ y
 same_pair (a, b) (c, d) e f = cc
 
-same_row_word : (group other : Group) → row_word group ≡ row_word other → group ≡ other
-same_row_word group other e = grind arith
-
-same_row_name : (group other : Group) → name_text (row_name group) ≡ name_text (row_name other) → group ≡ other
-same_row_name group other e = grind arith
-
 same_version : (version other : Version) → version_text version ≡ version_text other → version ≡ other
 same_version version other e = grind arith
 
@@ -37,9 +28,6 @@ same_prices (p ∷ ps) (q ∷ qs) a b e =
     cc
 same_prices ps qs a b e = absurd (omega (arith, ap length e))
 
-other_name : (group : Group) → name_text (column_name group) ≢ name_text (row_name group)
-other_name group = grind arith
-
 some_prices : (group : Group) → 0 < price_count group
 some_prices group = grind arith
 
@@ -49,9 +37,6 @@ first_and_third line = get_or line 0 0 * 256 + get_or line 2 0
 
 no_setting : (x : Setting) (rest : List ℕ) → first_and_third (setting_line x ++ 10 ∷ rest) ≢ 21332
 no_setting x rest = grind arith
-
-not_sum : (name : Name) → codes "SUM" ≢ name_text name
-not_sum name = grind arith
 
 -- ---- what steps that reach the end say of the bytes
 
@@ -230,10 +215,10 @@ module _ (laws : Laws) where
 
   only_all_prices : (version : Version) (line : ℕ) (bytes : List ℕ) → IsOnly (SaysAllPrices version line bytes)
   only_all_prices ByNumber line bytes =
-      only_then (only_price_line _ _ same_row_word line bytes)
+      only_then (only_price_line _ _ (λ group other e. grind arith) line bytes)
       (λ rows says. only_then (only_price_line _ _ (λ only other e. refl) (line + 1) rows.2) (λ columns say. only_only _))
   only_all_prices ByKind line bytes =
-      only_then (only_first _ same_row_name line bytes)
+      only_then (only_first _ (λ group other e. grind arith) line bytes)
       (λ first says. only_then (only_group (row_name first.0) (price_count first.0) line bytes)
       (λ rows say. only_then (only_group (column_name first.0) (price_count first.0) (line + length rows.0) rows.1)
       (λ columns all. only_then (only_takes same_kind_parts) (λ prices have. only_only _))))
@@ -262,7 +247,7 @@ module _ (laws : Laws) where
       Found (group, first.behind, first.rest) (first_says _ group first.behind first.rest first.has)
       (Found (rows, kinds_text columns ++ rest)
       (group_says _ rows (kinds_text columns ++ rest) groups.0 lines
-      (AtOther (name_text (column_name group)) second (other_name group)))
+      (AtOther (name_text (column_name group)) second (grind arith)))
       (Found (columns, rest) (group_says _ columns rest groups.1 refl ends)
       (Found prices (record { of_group = refl; version = by; row_kinds = refl; column_kinds = refl }) refl)))
 
@@ -304,7 +289,7 @@ module _ (laws : Laws) where
       → EndsGroup name (with_line (sum_words sum) rest)
   sum_ends sum rest near name =
       let has = value_line (codes "SUM") (signed_decimal sum) rest (word_by_test _ _ refl) (signed_word laws.numbers sum near) refl in
-      AtOther (codes "SUM") (record { behind = signed_decimal sum ∷ []; rest = rest; has = has }) (not_sum name)
+      AtOther (codes "SUM") (record { behind = signed_decimal sum ∷ []; rest = rest; has = has }) (grind arith)
 
   -- ---- the card
 

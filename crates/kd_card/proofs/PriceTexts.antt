@@ -1,6 +1,4 @@
 -- Prices by their texts.
-use Rattle.std.proofs.Common.{rules}
-use Rattle.std.proofs.lemmas.Grind.{common_steps}
 use Rattle.kd_card.proofs.Prelude.{◌≡◌, ◌≢◌, ℕ, suc, ◌^◌, ◌<◌, ◌≤◌, Bool, true, false, List, [], ◌∷◌, length, map, get_or, Option, Some, None, MatchOption, Result, Ok, Err, MatchResult, Decides, Bor, ◌↔◌, IsTrue, is_some, refl, sym, ap, subst, ◌∙◌, arith, ℤ, pos, negsuc, unsigned_abs, FitsSigned, w16, to_z, of_z, then_some, IsUtf8, ParsesSigned, signed_decimal, All, AllByRecursion, false≢true, fits_signed_from_abs, to_z-of_z, get_or-map, length-map, All-cons, recursion_from_All, All-from_recursion, All-map, All-weaker, words_of, IsWithout, IsFirstPart, IsPriceText, SaysPrices, BadLine, PriceMissing, Refused, Found, parse-signed_decimal, IsAscii-signed, length-decimal-le, AreWithinReach}
 use Rattle.std.specs.Result.{result_ok}
 use Rattle.std.specs.Int.Signed.{mag}

@@ -1,5 +1,4 @@
-use Rattle.std.proofs.Common.{rules}
-use Rattle.kd_card.proofs.Prelude.{◌≡◌, ℕ, suc, ◌+◌, ◌<◌, List, [], ◌∷◌, ◌++◌, length, get_or, take, drop, Some, refl, sym, ap, ◌∙◌, subst, arith, length-take-le, take_more, take-append-drop, drop-cons, Parts, Setting, Why, why_refused, Carries, Leads}
+use Rattle.kd_card.proofs.Prelude.{◌≡◌, ℕ, ◌+◌, ◌<◌, List, [], ◌∷◌, ◌++◌, length, get_or, take, Some, refl, sym, subst, arith, length-take-le, take_more, take-append-drop, drop-cons, Parts, Setting, Why, why_refused, Carries, Leads}
 use Rattle.kd_card.specs.Carrying.{IsFirstIllegal}
 use Rattle.kd_card.proofs.carrying.carry_all.Goals as goal
 

@@ -1,5 +1,3 @@
-use Rattle.std.proofs.lemmas.Grind.{common_steps}
-use Rattle.std.proofs.Common.{arith, rules}
 use Rattle.kd_card.proofs.Prelude.{[], words_of}
 use Rattle.kd_card.proofs.Lines.{words_of_first, words_of_last}
 use Rattle.kd_card.proofs.kind_text.first_word.Goals as goal

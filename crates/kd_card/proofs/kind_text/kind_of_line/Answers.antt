@@ -1,4 +1,4 @@
-use Rattle.kd_card.proofs.Prelude.{◌∙◌, ap, map, subst, MatchOption, length, Bor, List, ℕ, ◌≡◌, arith, PricedKind, HasKindWords}
+use Rattle.kd_card.proofs.Prelude.{arith}
 use Rattle.kd_card.proofs.KindWords.{four_words}
 use Rattle.kd_card.proofs.kind_text.kind_of_line.Goals as goal
 

@@ -1,5 +1,3 @@
-use Rattle.std.proofs.lemmas.Grind.{common_steps}
-use Rattle.std.proofs.Common.{arith, rules}
 use Rattle.kd_card.proofs.Prelude.{◌∙◌, ap, sym, decimal}
 use Rattle.kd_card.proofs.KindWords.{no_count}
 use Rattle.kd_card.proofs.kind_text.kind_of_parts.Goals as goal

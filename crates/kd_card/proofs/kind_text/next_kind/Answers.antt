@@ -1,6 +1,4 @@
-use Rattle.std.proofs.lemmas.Grind.{common_steps}
-use Rattle.std.proofs.Common.{arith, rules}
-use Rattle.kd_card.proofs.Prelude.{◌≡◌, ◌∙◌, sym, refl, ap, subst, not, eqb, length, pointwise, false≢true, not-false, eqb-true, Decides-eqb, nil_from_length, slice_eq-Decides, name_text, BeginsWithWord, AtNothing, AtOther}
+use Rattle.kd_card.proofs.Prelude.{◌≡◌, ◌∙◌, sym, refl, ap, subst, not, eqb, length, pointwise, false≢true, not-false, eqb-true, Decides-eqb, nil_from_length, slice_eq-Decides, name_text, BeginsWithWord, AtOther, common_steps, arith}
 use Rattle.kd_card.proofs.KindWords.{begins, ends_at, unended, no_kind, words_are, low_next}
 use Rattle.kd_card.proofs.kind_text.next_kind.Goals as goal
 use Rattle.kd_card.proofs.kind_text.next_kind.Goals.{in_default-kind_of_line-via-in-Some-kind_of_line+else-floor-rank, in_default-kind_of_line-via-in_default-kind_of_line}

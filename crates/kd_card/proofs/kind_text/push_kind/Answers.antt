@@ -1,5 +1,4 @@
-use Rattle.std.proofs.Common.{arith}
-use Rattle.kd_card.proofs.Prelude.{◌≡◌, ◌∙◌, ap, signed_decimal, name_text, look_name}
+use Rattle.kd_card.proofs.Prelude.{arith}
 use Rattle.kd_card.proofs.KindWords.{line_in_pieces}
 use Rattle.kd_card.proofs.PriceTexts.{written_price}
 use Rattle.kd_card.proofs.kind_text.push_kind.Goals as goal

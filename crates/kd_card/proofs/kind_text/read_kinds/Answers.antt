@@ -1,7 +1,5 @@
-use Rattle.std.proofs.Common.{rules}
-use Rattle.std.proofs.lemmas.Grind.{common_steps}
-use Rattle.kd_card.proofs.Prelude.{◌<◌, ◌∙◌, length, refl, sym, ap, arith, BadLine, PriceMissing, Refused, Found}
-use Rattle.kd_card.proofs.KindLists.{low_look, reads_on, walk_bounds}
+use Rattle.kd_card.proofs.Prelude.{◌∙◌, refl, sym, ap, arith, BadLine, PriceMissing, Refused, Found}
+use Rattle.kd_card.proofs.KindLists.{reads_on, walk_bounds}
 use Rattle.kd_card.proofs.kind_text.read_kinds.Goals as goal
 
 pub returns-in-Err : goal.returns-in-Err

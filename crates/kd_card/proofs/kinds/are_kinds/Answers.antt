@@ -1,6 +1,4 @@
-use Rattle.std.proofs.Common.{rules}
-use Rattle.std.proofs.lemmas.Grind.{common_steps}
-use Rattle.kd_card.proofs.Prelude.{◌≤◌, ◌∙◌, sym, subst, arith, false≢true, look_rank, IsPricedKind}
+use Rattle.kd_card.proofs.Prelude.{arith, false≢true, rules}
 use Rattle.kd_card.proofs.KindLists.{walks_on, walk_bounds, good_at}
 use Rattle.kd_card.proofs.kinds.are_kinds.Goals as goal
 

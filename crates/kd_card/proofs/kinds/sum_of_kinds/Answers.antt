@@ -1,5 +1,3 @@
-use Rattle.std.proofs.Common.{rules}
-use Rattle.std.proofs.lemmas.Grind.{common_steps}
 use Rattle.kd_card.proofs.Prelude.{◌*◌, ◌≤◌, sym, subst, unsigned_abs, w32, arith, to_z-of_z}
 use Rattle.kd_card.proofs.KindLists.{good_at, sums_on}
 use Rattle.kd_card.proofs.kinds.sum_of_kinds.Goals as goal

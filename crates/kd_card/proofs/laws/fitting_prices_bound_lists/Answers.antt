@@ -1,4 +1,4 @@
-use Rattle.std.proofs.Common.{arith}
+use Rattle.kd_card.proofs.Prelude.{arith}
 use Rattle.kd_card.proofs.Shortest.{fitting_prices_bound_lists}
 use Rattle.kd_card.proofs.laws.fitting_prices_bound_lists.Goals as goal
 

@@ -1,5 +1,4 @@
-use Rattle.std.proofs.lemmas.Grind.{common_steps}
-use Rattle.std.proofs.Common.{arith, rules}
+use Rattle.kd_card.proofs.Prelude.{rules}
 use Rattle.kd_card.proofs.Shortest.{proving_cards_are_shortest}
 use Rattle.kd_card.proofs.laws.proving_cards_are_shortest.Goals as goal
 

@@ -1,4 +1,4 @@
-use Rattle.std.proofs.Common.{arith}
+use Rattle.kd_card.proofs.Prelude.{arith}
 use Rattle.kd_card.proofs.Shortest.{proving_prices_are_tight}
 use Rattle.kd_card.proofs.laws.proving_prices_are_tight.Goals as goal
 

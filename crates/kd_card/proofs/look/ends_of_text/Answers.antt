@@ -1,5 +1,3 @@
-use Rattle.std.proofs.Common.{rules}
-use Rattle.std.proofs.lemmas.Grind.{common_steps}
 use Rattle.kd_card.proofs.Prelude.{arith}
 use Rattle.kd_card.proofs.KindWords.{no_ends}
 use Rattle.kd_card.proofs.look.ends_of_text.Goals as goal

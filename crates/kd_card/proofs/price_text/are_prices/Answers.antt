@@ -1,5 +1,3 @@
-use Rattle.std.proofs.lemmas.Grind.{common_steps}
-use Rattle.std.proofs.Common.{arith, rules}
 use Rattle.kd_card.proofs.Prelude.{◌∙◌, ap, not, sym, false≢true}
 use Rattle.kd_card.proofs.PriceTexts.{tells_price, all_of_more, all_of_last}
 use Rattle.kd_card.proofs.price_text.are_prices.Goals as goal

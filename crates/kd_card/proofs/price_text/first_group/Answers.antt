@@ -1,6 +1,4 @@
-use Rattle.std.proofs.lemmas.Grind.{common_steps}
-use Rattle.std.proofs.Common.{arith, rules}
-use Rattle.kd_card.proofs.Prelude.{◌∙◌, ◌≢◌, ℕ, List, sym, refl, false≢true, Decides-eqb, err_from_is_err_and, slice_eq-Decides, Version, Group, OfCables, OfBars, Refused, first_text}
+use Rattle.kd_card.proofs.Prelude.{◌∙◌, ◌≢◌, ℕ, List, sym, refl, false≢true, Decides-eqb, err_from_is_err_and, slice_eq-Decides, Version, Group, OfCables, OfBars, Refused, first_text, arith}
 use Rattle.kd_card.proofs.CardWords.{first_found, other_first}
 use Rattle.kd_card.proofs.price_text.first_group.Goals as goal
 

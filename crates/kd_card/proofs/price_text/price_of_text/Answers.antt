@@ -1,4 +1,3 @@
-use Rattle.std.proofs.lemmas.Grind.{common_steps}
 use Rattle.kd_card.proofs.Prelude.{rules, ◌≡◌, ◌<◌, ◌≤◌, ◌∙◌, sym, ap, subst, unsigned_abs, Decides, w16, to_z, of_z, arith, signed_decimal, then_some, Decides-eqb, to_z-of_z, slice_eq-Decides}
 use Rattle.kd_card.proofs.PriceTexts.{no_text, read_price, only_price, ok_part}
 use Rattle.kd_card.proofs.price_text.price_of_text.Goals as goal

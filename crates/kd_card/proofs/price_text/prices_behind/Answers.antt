@@ -1,5 +1,3 @@
-use Rattle.std.proofs.Common.{rules}
-use Rattle.std.proofs.lemmas.Grind.{common_steps}
 use Rattle.kd_card.proofs.Prelude.{[], refl, arith, unsigned_abs, ◌≤◌, All-nil}
 use Rattle.kd_card.proofs.PriceTexts.{other_count}
 use Rattle.kd_card.proofs.price_text.prices_behind.Goals as goal

@@ -1,6 +1,4 @@
-use Rattle.std.proofs.lemmas.Grind.{common_steps}
-use Rattle.std.proofs.Common.{arith, rules}
-use Rattle.kd_card.proofs.Prelude.{◌∙◌, Bor, List, ℕ, map, ap, sym, refl, false≢true, Found}
+use Rattle.kd_card.proofs.Prelude.{◌∙◌, Bor, List, ℕ, map, ap, sym, refl, false≢true, Found, rules}
 use Rattle.kd_card.proofs.PriceTexts.{other_count, too_many, no_prices}
 use Rattle.kd_card.proofs.price_text.prices_of_text.Goals as goal
 

@@ -1,5 +1,3 @@
-use Rattle.std.proofs.Common.{rules}
-use Rattle.std.proofs.lemmas.Grind.{common_steps}
 use Rattle.kd_card.proofs.Prelude.{arith}
 use Rattle.kd_card.proofs.PriceTexts.{not_at}
 use Rattle.kd_card.proofs.price_text.prices_of_words.Goals as goal

@@ -1,5 +1,3 @@
-use Rattle.std.proofs.lemmas.Grind.{common_steps}
-use Rattle.std.proofs.Common.{arith, rules}
 use Rattle.kd_card.proofs.Prelude.{◌∙◌, eqb, length, sym, ap, refl, false≢true, eqb-true, nil_from_length, PriceMissing, Refused, Found}
 use Rattle.kd_card.proofs.Lines.{no_first_part, words_of_first, words_of_last}
 use Rattle.kd_card.proofs.price_text.split_first.Goals as goal

@@ -1,5 +1,3 @@
-use Rattle.std.proofs.lemmas.Grind.{common_steps}
-use Rattle.std.proofs.Common.{arith}
 use Rattle.kd_card.proofs.Prelude.{rules, ◌∙◌, sym, ap, refl, eqb, length, w32, false≢true, eqb-true, to_z-of_z, nil_from_length, err_from_is_err_and, BadHead, TooMany, Trailing, Refused, Found}
 use Rattle.kd_card.proofs.OneCard.{up_to_settings, card_said}
 use Rattle.kd_card.proofs.read.read_card.Goals as goal

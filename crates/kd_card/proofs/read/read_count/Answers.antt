@@ -1,5 +1,3 @@
-use Rattle.std.proofs.lemmas.Grind.{common_steps}
-use Rattle.std.proofs.Common.{arith, rules}
 use Rattle.kd_card.proofs.Prelude.{codes, refl}
 use Rattle.kd_card.proofs.Lines.{unbroken_by_test}
 use Rattle.kd_card.proofs.read.read_count.Goals as goal

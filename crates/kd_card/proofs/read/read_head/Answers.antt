@@ -1,5 +1,3 @@
-use Rattle.std.proofs.lemmas.Grind.{common_steps}
-use Rattle.std.proofs.Common.{arith}
 use Rattle.kd_card.proofs.Prelude.{ByNumber, ByKind, Version, ℕ, List, BeginsWithHead}
 use Rattle.kd_card.proofs.read.read_head.Goals as goal
 

@@ -1,5 +1,3 @@
-use Rattle.std.proofs.Common.{rules}
-use Rattle.std.proofs.lemmas.Grind.{common_steps}
 use Rattle.kd_card.proofs.Prelude.{refl, arith, err_from_is_err_and, Refused, Found}
 use Rattle.kd_card.proofs.CardWords.{group_said}
 use Rattle.kd_card.proofs.KindPrices.{few_kinds, few_prices_of}

@@ -1,5 +1,3 @@
-use Rattle.std.proofs.lemmas.Grind.{common_steps}
-use Rattle.std.proofs.Common.{arith, rules}
 use Rattle.kd_card.proofs.Prelude.{refl, err_from_is_err_and, Refused, Found}
 use Rattle.kd_card.proofs.read.read_numbered.Goals as goal
 

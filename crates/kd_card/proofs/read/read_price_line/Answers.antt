@@ -1,5 +1,3 @@
-use Rattle.std.proofs.lemmas.Grind.{common_steps}
-use Rattle.std.proofs.Common.{arith, rules}
 use Rattle.kd_card.proofs.Prelude.{◌∙◌, not, sym, ap, refl, false≢true, not-false, Decides-eqb, err_from_is_err_and, slice_eq-Decides, PriceMissing, Refused, Found}
 use Rattle.kd_card.proofs.CardWords.{first_found, other_first}
 use Rattle.kd_card.proofs.read.read_price_line.Goals as goal

@@ -1,5 +1,3 @@
-use Rattle.std.proofs.Common.{rules}
-use Rattle.std.proofs.lemmas.Grind.{common_steps}
 use Rattle.kd_card.proofs.Prelude.{◌∙◌, refl, sym, [], ◌∷◌, ◌++◌, arith, eqb-true, length_push}
 use Rattle.kd_card.proofs.Lines.{one_more_line}
 use Rattle.kd_card.proofs.read.read_settings.Goals as goal

@@ -1,5 +1,3 @@
-use Rattle.std.proofs.lemmas.Grind.{common_steps}
-use Rattle.std.proofs.Common.{arith, rules}
 use Rattle.kd_card.proofs.Prelude.{◌∙◌, [], ◌∷◌, not, sym, ap, subst, refl, append_assoc, false≢true, not-false, Decides-eqb, slice_eq-Decides, IsNumeral, with_line}
 use Rattle.kd_card.proofs.Lines.{same_behind, not_behind, name_and_value}
 use Rattle.kd_card.proofs.CardWords.{numeral_word, value_says, other_value, no_value}

@@ -1,5 +1,3 @@
-use Rattle.std.proofs.lemmas.Grind.{common_steps}
-use Rattle.std.proofs.Common.{arith, rules}
 use Rattle.kd_card.proofs.Lines.{no_first_part, not_begun, begun}
 use Rattle.kd_card.proofs.read.split_value.Goals as goal
 

@@ -1,5 +1,4 @@
-use Rattle.std.proofs.Common.{arith}
-use Rattle.kd_card.proofs.Prelude.{rules, ◌≤◌, length}
+use Rattle.kd_card.proofs.Prelude.{arith}
 use Rattle.kd_card.proofs.PriceTexts.{short_text}
 use Rattle.kd_card.proofs.write.push_price.Goals as goal
 

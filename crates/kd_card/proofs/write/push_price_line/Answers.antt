@@ -1,5 +1,5 @@
-use Rattle.kd_card.proofs.Prelude.{◌≡◌, ◌∙◌, ◌++◌, ◌∷◌, [], ap, take, arith, take_all}
-use Rattle.kd_card.proofs.Lines.{behind_spaces, all_prices}
+use Rattle.kd_card.proofs.Prelude.{arith, take_all}
+use Rattle.kd_card.proofs.Lines.{all_prices}
 use Rattle.kd_card.proofs.write.push_price_line.Goals as goal
 
 pub returns-clause-bytes : goal.returns-clause-bytes

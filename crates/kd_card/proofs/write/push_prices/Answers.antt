@@ -1,5 +1,4 @@
-use Rattle.std.proofs.Common.{All, arith}
-use Rattle.kd_card.proofs.Prelude.{rules, ◌≡◌, ◌∙◌, inl, inr, ap, sym, subst, append_assoc, ByKind, IsPricedKind, kinds_text, version_of, row_kinds, column_kinds, ArePrices}
+use Rattle.kd_card.proofs.Prelude.{append_assoc, arith}
 use Rattle.kd_card.proofs.KindLists.{all_kinds}
 use Rattle.kd_card.proofs.KindPrices.{text_by_kind}
 use Rattle.kd_card.proofs.write.push_prices.Goals as goal

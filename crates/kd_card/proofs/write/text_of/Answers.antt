@@ -1,6 +1,4 @@
-use Rattle.std.proofs.lemmas.Grind.{common_steps}
-use Rattle.std.proofs.Common.{arith}
-use Rattle.kd_card.proofs.Prelude.{rules, ◌∙◌, w32, to_z-of_z}
+use Rattle.kd_card.proofs.Prelude.{rules, to_z-of_z}
 use Rattle.kd_card.proofs.Lines.{written}
 use Rattle.kd_card.proofs.write.text_of.Goals as goal
 

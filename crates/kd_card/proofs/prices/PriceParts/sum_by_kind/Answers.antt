@@ -1,4 +1,4 @@
-use Rattle.kd_card.proofs.Prelude.{rules, ◌∙◌, ◌≤◌, ap, FitsSigned, w32, arith, to_z-of_z, counted}
+use Rattle.kd_card.proofs.Prelude.{rules, arith, to_z-of_z, counted}
 use Rattle.kd_card.proofs.CardWords.{few_prices}
 use Rattle.kd_card.proofs.KindPrices.{counts}
 use Rattle.kd_card.proofs.prices.PriceParts.sum_by_kind.Goals as goal

@@ -1,5 +1,3 @@
-use Rattle.std.proofs.Common.{rules}
-use Rattle.std.proofs.lemmas.Grind.{common_steps}
 use Rattle.kd_card.proofs.Prelude.{ap, refl, sym, subst, arith, price_count, ArePrices}
 use Rattle.kd_card.proofs.KindPrices.{of_two_groups, group_fits}
 use Rattle.kd_card.proofs.prices.Prices.of_groups.Goals as goal

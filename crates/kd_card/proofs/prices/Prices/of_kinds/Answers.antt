@@ -1,6 +1,4 @@
-use Rattle.std.proofs.lemmas.Grind.{common_steps}
-use Rattle.std.proofs.Common.{arith, rules}
-use Rattle.kd_card.proofs.Prelude.{◌∙◌, sym, false≢true}
+use Rattle.kd_card.proofs.Prelude.{false≢true, arith}
 use Rattle.kd_card.proofs.KindPrices.{are_prices, counts}
 use Rattle.kd_card.proofs.prices.Prices.of_kinds.Goals as goal
 
