@@ -1,9 +1,7 @@
 -- A card that proves itself is in no doubt, and a card is in one doubt at most.
-use Rattle.kd_prices.proofs.Prelude.{◌≡◌, ℕ, inl, inr, List, [], ◌∷◌, ◌++◌, length, refl, sym, ap, ◌∙◌, subst, arith, ◌↔◌, cases_order, false≢true, Parts, Setting, Why, why_refused, Leads, Day, cost_table, LeadsToOne, PriceParts, AreNeeded, Proves, IllegalAt, PriceTooHigh, NeedlessLine, IsFirstWithout, IsFirstNeedless}
+use Rattle.kd_prices.proofs.Prelude.{◌≡◌, ℕ, inl, inr, List, [], ◌∷◌, ◌++◌, length, refl, sym, ap, ◌∙◌, subst, arith, ◌↔◌, cases_order, false≢true, Parts, Setting, Why, why_refused, Leads, Day, cost_table, LeadsToOne, PriceParts, AreNeeded, Proves, IllegalAt, PriceTooHigh, NeedlessLine, IsFirstWithout, IsFirstNeedless, Result, Ok, Err, IsOk, IfErr, Found, IsOnly, only_then, only_finds, only_demands, passed}
 use Rattle.kd_card.specs.Carrying.{IsFirstIllegal}
 use Rattle.kd_prices.specs.declared.doubt.Doubt.{Doubt}
-use Rattle.std.specs.Prelude.{Result, Ok, Err, IsOk, IfErr}
-use Rattle.kd_card.specs.Steps.{Found, IsOnly, only_then, only_finds, only_demands, passed}
 use Rattle.kd_prices.specs.Doubt.{SaysCarried, SaysFits, SaysNeeded, SaysChecked, IsDoubt}
 use Rattle.kd_prices.proofs.Meaning.{one_expansion, of_one_model, are_numbered}
 use Rattle.kd_prices.proofs.Leading.{needed_at, not_refused}

@@ -1,6 +1,5 @@
 -- Settings that lead from one machine to another, taken apart and put together.
-use Rattle.std.proofs.Common.{drop}
-use Rattle.kd_prices.proofs.Prelude.{◌≡◌, Some, None, ℕ, ◌+◌, ◌<◌, List, [], ◌∷◌, ◌++◌, length, get_or, refl, sym, ap, ◌∙◌, subst, arith, drop_more, Parts, Setting, Why, why_refused, changed, Leads, Day, IsNeeded, AreNeeded, IsFirstNeedless}
+use Rattle.kd_prices.proofs.Prelude.{◌≡◌, Some, None, ℕ, ◌+◌, ◌<◌, List, [], ◌∷◌, ◌++◌, length, get_or, refl, sym, ap, ◌∙◌, subst, arith, drop_more, Parts, Setting, Why, why_refused, changed, Leads, Day, IsNeeded, AreNeeded, IsFirstNeedless, drop}
 
 pub leads_join : (m between n : Parts) (front rest : List Setting) → Leads m front between → Leads between rest n → Leads m (front ++ rest) n
 leads_join m between n [] rest first then_on = subst (λ machine. Leads machine rest n) first then_on

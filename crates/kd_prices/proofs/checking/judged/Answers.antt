@@ -1,6 +1,4 @@
-use Rattle.kd_prices.proofs.Prelude.{sym, ◌∙◌, refl, false≢true}
-use Rattle.kd_card.specs.Steps.{Refused, Found}
-use Rattle.kd_prices.specs.declared.doubt.Doubt.TheVariants.{OtherModel, PriceMissing}
+use Rattle.kd_prices.proofs.Prelude.{sym, ◌∙◌, refl, false≢true, Refused, Found, OtherModel, PriceMissing}
 use Rattle.kd_prices.proofs.Meaning.{are_numbered}
 use Rattle.kd_prices.proofs.checking.judged.Goals as goal
 
