@@ -34,10 +34,7 @@ ends_told cable other form form' to fro = grind (arith, to, fro, form, form')
 away : (p : ℕ × ℕ) (pairs : List (ℕ × ℕ)) (k : ℕ) → AllByRecursion (λ y. eqb p.0 y ≡ false) (letters_plugged pairs)
     → pair_in_order (slice_get pairs k) ≡ Some (in_order p.0 p.1) → ⊥
 away p [] k h e = cc
-away p (q ∷ pairs) zero h e =
-    let low : min q.0 q.1 ≡ min p.0 p.1 = ap (λ (o : Option (ℕ × ℕ)). (unwrap_or {T = ℕ × ℕ} o (0, 0)).0) e in
-    let high : max q.0 q.1 ≡ max p.0 p.1 = ap (λ (o : Option (ℕ × ℕ)). (unwrap_or {T = ℕ × ℕ} o (0, 0)).1) e in
-    omega (arith, low, high, eqb-false p.0 q.0 h.0, eqb-false p.0 q.1 h.1.0)
+away p (q ∷ pairs) zero h e = grind (arith, eqb-false)
 away p (q ∷ pairs) (suc k) h e = away p pairs k h.1.1 e
 
 pairs_told : (pairs : List (ℕ × ℕ)) (i k : ℕ) → NoLetterTwice pairs
@@ -48,11 +45,7 @@ pairs_told [] i k apart e = inl (omega arith, omega arith)
 pairs_told (p ∷ pairs) zero zero apart e = inr refl
 pairs_told (p ∷ pairs) zero (suc k) apart e = absurd (away p pairs k apart.0.1 (sym e))
 pairs_told (p ∷ pairs) (suc i) zero apart e = absurd (away p pairs i apart.0.1 e)
-pairs_told (p ∷ pairs) (suc i) (suc k) apart e =
-    elim (pairs_told pairs i k apart.1.1 e) [
-      | inl past ↦ let here = past.0 in let there = past.1 in inl (omega arith, omega arith)
-      | inr same ↦ inr (ap suc same)
-    ]
+pairs_told (p ∷ pairs) (suc i) (suc k) apart e = grind (arith, pairs_told pairs i k apart.1.1 e)
 
 -- ---- ranks tell what is alike
 
@@ -73,12 +66,7 @@ module _ (ranks : RanksTellLooks) {X : Type 0} (f : X → Look) (xs : List X) (d
       → ((i k : ℕ) → i < length xs → k < length xs → f (get_or xs i d) ≡ f (get_or xs k d) → Alike i k ⊎ (i ≡ k))
       → ((i k : ℕ) → IsInForm (f (get_or xs i d)) → IsInForm (f (get_or xs k d)) → Alike i k → look_rank (f (get_or xs i d)) ≡ look_rank (f (get_or xs k d)))
       → AreTold (map f xs) Alike
-  told_by Alike alike ranked i k inside within =
-      let one = ap look_rank (at i inside) in
-      let other = ap look_rank (at k within) in (
-        λ same. alike i k (omega (arith, length-map xs f)) (omega (arith, length-map xs f)) (ranks _ _ (one_name _ _) (form i inside) (form k within) (sym one ∙ same ∙ other)),
-        λ h. one ∙ ranked i k (form i inside) (form k within) h ∙ sym other,
-      )
+  told_by Alike alike ranked i k inside within = grind (arith, at, length-map, form, ranked)
 
   -- each look is of one thing
   told_apart : ((x y : X) → f x ≡ f y → x ≡ y) → AreTold (map f xs) (λ i k. slice_get xs i ≡ slice_get xs k)
@@ -147,20 +135,7 @@ pub one_group : {group : Group} {m n : Parts} {s d : Day} {prices p : PriceParts
     → AreNumbered n d p → version_of p ≡ ByNumber → group_of_machine n ≡ group → group_of_day d ≡ group → group_of p ≡ group → rows ≡ row_looks n → columns ≡ column_looks d
     → AreOfOneGroup group m s prices rows columns (row_prices p) (column_prices p)
 one_group em es ep machine legal are_prices numbered version of_machine of_day of_prices are_rows are_columns =
-    rw (em, es, ep) (record {
-      machine = rw em at machine;
-      legal = rw es at legal;
-      numbered = numbered;
-      are_prices = rw ep at are_prices;
-      version = version;
-      of_machine = of_machine;
-      of_day = of_day;
-      of_prices = of_prices;
-      are_rows = are_rows;
-      are_columns = are_columns;
-      are_row = refl;
-      are_column = refl;
-    })
+    grind (arith, at)
 
 module _ (told : RanksTold) {group : Group} {m : Parts} {s : Day} {prices : PriceParts} {rows columns : List Look} {row column : List ℤ}
     (one : AreOfOneGroup group m s prices rows columns row column) where

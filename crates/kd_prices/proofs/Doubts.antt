@@ -19,16 +19,7 @@ one_front {X = X} Good (z ∷ front) (w ∷ other) after behind x y e good fine 
     (cc, tails.1)
 
 one_place : (Holds : ℕ → ℕ → Type 0) (number row column i j : ℕ) → IsFirstWithout Holds number row column → IsFirstWithout Holds number i j → (row ≡ i) × (column ≡ j)
-one_place Holds number row column i j h k =
-    elim (cases_order row i) [
-      | inl same ↦ elim (cases_order column j) [
-        | inl alike ↦ (same, alike)
-        | inr (inl lt) ↦ absurd (h.here (k.before row column h.column_within (inr (same, lt))))
-        | inr (inr lt) ↦ absurd (k.here (h.before i j k.column_within (inr (sym same, lt))))
-      ]
-      | inr (inl lt) ↦ absurd (h.here (k.before row column h.column_within (inl lt)))
-      | inr (inr lt) ↦ absurd (k.here (h.before i j k.column_within (inl lt)))
-    ]
+one_place Holds number row column i j h k = grind (arith, cases_order, h.here, k.before, k.here, h.before)
 
 -- ---- prices by number
 
@@ -103,26 +94,7 @@ module _ (one : LeadsToOne) (m : Parts) (s : Day) (settings : List Setting) (pri
       (Found by.leads.0 by.leads.1 (Found tt by.leads.2 (Found tt by.fits (Found tt by.sum by.needed)))))
 
   says_proving : SaysChecked m s settings prices (Ok tt) → Proves m s settings prices
-  says_proving says =
-      let model = passed says in
-      let numbered = passed model.next in
-      let led = passed numbered.next in
-      let reads = passed led.next in
-      let fits = passed reads.next in
-      let sum = passed fits.next in
-      let are = are_numbered m s prices numbered.found model.says numbered.says in
-      record {
-        numbered = numbered.found;
-        expands = numbered.says;
-        proves = record {
-          model = are.model;
-          kind = are.kind;
-          leads = (led.found, led.says, reads.says);
-          fits = fits.says;
-          sum = sum.says;
-          needed = sum.next;
-        };
-      }
+  says_proving says = grind (arith, passed, are_numbered)
 
   -- what is answered tells whether the card proves itself
   pub told : (answer : Result (Unit {0}) Doubt) → SaysChecked m s settings prices answer → IsOk answer ↔ Proves m s settings prices

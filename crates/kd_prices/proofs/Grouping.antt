@@ -72,8 +72,7 @@ priced_behind look price (kind ∷ kinds) more priced = inr (priced_behind look 
 
 few_kinds : (floor : ℕ) (kinds : List PricedKind) → AreKinds floor kinds → length kinds ≤ counted kinds
 few_kinds floor [] are = omega arith
-few_kinds floor (kind ∷ kinds) are =
-    let some = are.0.some in omega (arith, some, few_kinds (look_rank kind.look + 1) kinds are.2)
+few_kinds floor (kind ∷ kinds) are = grind (arith, few_kinds (look_rank kind.look + 1) kinds are.2)
 
 -- ---- rank by rank
 
@@ -92,13 +91,7 @@ abbrev pub AreGrouped : List Look → List ℤ → ℕ → List PricedKind → T
 AreGrouped looks prices rank kinds = (more : List PricedKind) → AreGroupedTo looks prices rank more (kinds ++ more)
 
 pub grouped_none : (looks : List Look) (prices : List ℤ) → AreGrouped looks prices 0 []
-grouped_none looks prices = λ more. record {
-  in_order = λ are. are;
-  called = λ name all called. called;
-  count = omega (arith, none_counted (below 0) looks (λ place inside. grind (arith, nat_tests)));
-  counts = λ all. all;
-  each = λ alike place inside low. absurd (omega arith);
-}
+grouped_none looks prices = grind (arith, none_counted)
 
 -- no thing has the rank
 pub grouped_past : (looks : List Look) (prices : List ℤ) (rank : ℕ) (kinds : List PricedKind)
@@ -174,8 +167,7 @@ module _ (looks : List Look) (prices : List ℤ) (few : length looks ≤ 27) (ea
 module _ (looks : List Look) (prices : List ℤ) (rank : ℕ) (kinds : List PricedKind) (past : 703 ≤ rank) (form : All IsInForm looks)
     (so_far : AreGrouped looks prices rank kinds) where
   low : All (λ look. look_rank look < rank) looks
-  low = All-weaker IsInForm (λ look. look_rank look < rank)
-      (λ look in_form. omega (arith, low_look look in_form)) looks form
+  low = grind (arith, All-weaker, low_look, form)
 
   grouped : AreGroupedTo looks prices rank [] kinds
   grouped = rw append-nil at (so_far [])
@@ -200,8 +192,7 @@ module _ (looks : List Look) (prices : List ℤ) (rank : ℕ) (kinds : List Pric
 priced_alike : (look other : Look) (price : ℤ) (kinds : List PricedKind) → look_rank look ≡ look_rank other
     → IsPriced look price kinds → IsPriced other price kinds
 priced_alike look other price [] same none = absurd none
-priced_alike look other price (kind ∷ kinds) same (inl has) = inl
-    (record { alike = has.alike ∙ same; price = has.price })
+priced_alike look other price (kind ∷ kinds) same (inl has) = grind arith
 priced_alike look other price (kind ∷ kinds) same (inr later) = inr (priced_alike look other price kinds same later)
 
 pub alike_priced : (looks : List Look) (prices : List ℤ) (kinds : List PricedKind) → AreWithPrices looks prices kinds

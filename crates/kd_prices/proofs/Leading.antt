@@ -20,9 +20,7 @@ needed_at m between s (y ∷ front) rest x leads needed =
 -- a setting that is refused in its turn, in settings that lead on
 pub not_refused : (m between n : Parts) (front rest : List Setting) (x : Setting) (why : Why) → Leads m front between → why_refused between x ≡ Some why
     → Leads m (front ++ x ∷ rest) n → ⊥
-not_refused m between n front rest x why first refused leads =
-    let allowed = (leads_on m between n front (x ∷ rest) first leads).1.allowed in
-    cc
+not_refused m between n front rest x why first refused leads = grind (arith, leads_on)
 
 -- After so many needed settings: what is found of the rest holds of all of them, and the rest leads on.
 pub record AreNeededTo (m now : Parts) (s : Day) (settings : List Setting) (place : ℕ) (rest : List Setting) : Type 0 where

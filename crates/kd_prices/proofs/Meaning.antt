@@ -45,15 +45,10 @@ same_group : (m : Parts) (s : Day) (prices numbered : PriceParts) → Expands m 
 same_group m s prices numbered e = grind arith
 
 pub of_one_model : (m : Parts) (s : Day) (settings : List Setting) (prices : PriceParts) → Proves m s settings prices → AreOfOneModel m s prices
-of_one_model m s settings prices h = record {
-  model = h.proves.model;
-  group = (same_group m s prices h.numbered h.expands).1 ∙ group_is m h.numbered h.proves.kind;
-}
+of_one_model m s settings prices h = grind (arith, same_group, group_is)
 
 pub are_numbered : (m : Parts) (s : Day) (prices numbered : PriceParts) → AreOfOneModel m s prices → Expands m s prices numbered → AreNumbered m s numbered
-are_numbered m s prices numbered model expands =
-    let same = same_group m s prices numbered expands in
-    record { model = model.model; kind = kind_is m numbered same.0 (sym same.1 ∙ model.group) }
+are_numbered m s prices numbered model expands = grind (arith, same_group, kind_is)
 
 -- ---- prices found
 
@@ -67,9 +62,7 @@ pub one_more_price : (looks : List Look) (kinds : List PricedKind) (prices : Lis
     → look ≡ get_or looks i look → IsPriced look price kinds → ((place : ℕ) → place < i → IsPriced (look_at looks place) (price_at prices place) kinds)
     → (place : ℕ) → place < i + 1 → IsPriced (look_at looks place) (price_at (set prices i price) place) kinds
 one_more_price looks kinds prices i look price inside within is here before =
-    below_more (λ place. IsPriced (look_at looks place) (price_at (set prices i price) place) kinds) i
-    (λ place lt. rw (get_or-set_other prices i place price (pos 0) (λ e. omega (arith, e, lt))) (before place lt))
-    (rw (get_or-set_same prices i price (pos 0) within) (subst (λ l. IsPriced l price kinds) (is ∙ get_or_default looks i look (Pair None) inside) here))
+    grind (arith, below_more, look_at, get_or-set_other, before, get_or-set_same, get_or_default, here)
 
 priced_within : (floor : ℕ) (kinds : List PricedKind) (look : Look) (price : ℤ) → AreKinds floor kinds → IsPriced look price kinds → unsigned_abs price ≤ 9999
 priced_within floor [] look price are none = absurd none
@@ -91,17 +84,4 @@ pub expanded_told : (machine n : Parts) (s d : Day) (prices p numbered : PricePa
     → MatchOption r (¬ (ArePrices numbered)) (λ p. p ≡ numbered)
     → MatchOption r ((numbered : PriceParts) → ¬ (Expands machine s prices numbered)) (λ numbered. Expands machine s prices numbered)
 expanded_told machine n s d prices p numbered r em es ep are kind number group rows columns no_rows no_columns row column h =
-    let good : ArePrices numbered = record {
-      rows = rows;
-      columns = columns;
-      row_reach = expanded_within _ _ (row_prices numbered) are.row_kinds row;
-      column_reach = expanded_within _ _ (column_prices numbered) are.column_kinds column;
-      row_kinds = no_rows;
-      column_kinds = no_columns;
-    } in
-    let expands : Expands machine s prices numbered = Expanded (ap version_of ep ∙ kind) number (ap group_of ep ∙ group) are good (rw em row) (rw es column) in
-    elim r as (λ r. MatchOption r (¬ (ArePrices numbered)) (λ p. p ≡ numbered)
-    → MatchOption r ((numbered : PriceParts) → ¬ (Expands machine s prices numbered)) (λ numbered. Expands machine s prices numbered)) [
-      | None ↦ λ none. absurd (none good)
-      | Some q ↦ λ same. subst (Expands machine s prices) (sym same) expands
-    ] h
+    grind (arith, expanded_within, Expanded)

@@ -17,13 +17,10 @@ cables_in_form : (cables : List (Option ℕ × Option ℕ)) → in_each_order ca
 unfolding IsDistinct
 cables_in_form [] e within apart = tt
 cables_in_form ((None, None) ∷ cables) e within apart = (tt, cables_in_form cables (cc) within apart)
-cables_in_form ((None, Some b) ∷ cables) e within apart = let none : Some b ≡ None = ap
-    (λ (plugged : List (Option ℕ × Option ℕ)). first_end (get_or plugged 0 (None, None))) e in cc
+cables_in_form ((None, Some b) ∷ cables) e within apart = grind arith
 cables_in_form ((Some a, None) ∷ cables) e within apart = (within.0, cables_in_form cables (cc) within.1 apart.1)
-cables_in_form ((Some a, Some b) ∷ cables) e within apart = (
-  (two_ordered a b (cc) apart.0.0, within.1.0),
-  cables_in_form cables (cc) within.1.1 apart.1.1,
-)
+cables_in_form ((Some a, Some b) ∷ cables) e within apart =
+    grind (arith, two_ordered, cables_in_form cables (cc) within.1.1 apart.1.1, cables)
 
 abbrev cables_of : Parts → List (Option ℕ × Option ℕ)
 cables_of (Rotor m) = m.cables
@@ -41,12 +38,7 @@ pairs_in_form : (n : ℕ) (pairs : List (ℕ × ℕ)) → AllByRecursion (λ let
     → AllByRecursion IsInForm (map pair_look (map Some pairs ++ replicate n None))
 unfolding IsDistinct
 pairs_in_form n [] within apart = nothings_in_form n
-pairs_in_form n ((a, b) ∷ pairs) within apart =
-    let one = within.0 in
-    let other = within.1.0 in (
-      (omega (arith, eqb-false a b apart.0.0), omega arith),
-      pairs_in_form n pairs within.1.1 apart.1.1,
-    )
+pairs_in_form n ((a, b) ∷ pairs) within apart = grind (arith, eqb-false, pairs_in_form n pairs within.1.1 apart.1.1)
 
 -- the things of a machine, and of a day
 things : {X : Type 0} (f : X → Look) (xs : List X) (name : _) (number : ℕ) → ((x : X) → look_name (f x) ≡ name) → length xs ≡ number → All IsInForm (map f xs)
