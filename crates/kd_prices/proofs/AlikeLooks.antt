@@ -22,12 +22,7 @@ all_lie xs ys told = recursion_from_All (Lies ys) xs (All-weaker (Contains xs) (
 
 ends_told : (cable other : Option ℕ × Option ℕ) → AreEnds cable.0 cable.1 → AreEnds other.0 other.1 → AllByRecursion (Lies (cable_letters other)) (cable_letters cable)
     → AllByRecursion (Lies (cable_letters cable)) (cable_letters other) → look_rank (Cable cable) ≡ look_rank (Cable other)
-ends_told (None, Some b) other form form' to fro = absurd form
-ends_told cable (None, Some v) form form' to fro = absurd form'
-ends_told (None, None) (None, None) form form' to fro = refl
-ends_told (None, None) other form form' to fro = absurd fro.0
-ends_told cable (None, None) form form' to fro = absurd to.0
-ends_told cable other form form' to fro = grind (arith, to, fro, form, form')
+ends_told cable other form form' to fro = grind arith
 
 -- ---- pairs that are alike stand at one place
 

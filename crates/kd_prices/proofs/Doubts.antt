@@ -50,9 +50,7 @@ module _ (one : LeadsToOne) (m : Parts) (settings : List Setting) where
       let counts = ap length same.0 in
       let lines : line ≡ other = omega (arith, a.number, b.number) in
       ap (λ l. Err (IllegalAt l why)) lines ∙ ap (λ w. Err (IllegalAt other w)) whys
-  only_carried (Ok n) (Err doubt) a b = absurd b
-  only_carried (Err (IllegalAt line why)) (Err doubt) a b = absurd b
-  only_carried (Err doubt) w a b = absurd a
+  only_carried v w a b = grind arith
 
 module _ (costs : List (List ℕ)) (prices : PriceParts) where
   only_fits : IsOnly (SaysFits costs prices)
@@ -70,9 +68,7 @@ module _ (m : Parts) (s : Day) (settings : List Setting) where
       let counts = ap length same.0 in
       let lines : line ≡ other = omega (arith, a.number, b.number) in
       ap (λ l. Err (NeedlessLine l)) lines
-  only_needed (Ok x) (Err doubt) a b = absurd b
-  only_needed (Err (NeedlessLine line)) (Err doubt) a b = absurd b
-  only_needed (Err doubt) w a b = absurd a
+  only_needed v w a b = grind arith
 
 -- ---- the whole check
 

@@ -52,13 +52,7 @@ low_place : (place : Place) → place_rank place < 8
 low_place place = grind arith
 
 low_look : (look : Look) → IsInForm look → look_rank look < 703
-low_look (Cable (None, other)) form = omega arith
-low_look (Cable (Some one, None)) form = omega (arith, form)
-low_look (Cable (Some one, Some other)) form = omega (arith, form.0, form.1)
-low_look (Pair None) form = omega arith
-low_look (Pair (Some (one, other))) form = omega (arith, form.0, form.1)
-low_look (Bar (left, right)) form = omega (arith, low_place left, low_place right)
-low_look (Row (one, other)) form = let order = form.ordered in let within = form.within in omega (arith, order, within)
+low_look look e = grind (arith, low_place)
 
 -- ---- one more kind at the end
 
