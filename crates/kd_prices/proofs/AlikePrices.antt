@@ -1,6 +1,6 @@
 -- In a card that proves itself, what is alike has equal prices: it costs the same everywhere, and each price is tight
 -- somewhere.
-use Rattle.kd_prices.proofs.Prelude.{subst, Contains, ◌≡◌, ℕ, ◌<◌, ◌≤◌, List, [], get_or, length, None, unwrap_or, slice_get, sym, ap, ◌∙◌, arith, ints, get_or-map, unwrap_or-slice_get, slice_get_past, One, Rotor, Pin, cable_letters, Day, OfRotors, OfPins, TestsTellLetters, ThirteenColumns, ColumnsAreThePairs, cable_cost, bar_cost, columns_of, PriceParts, Cables, Bars, how_many, cost_at, Fits, AreTight, ProvingPricesAreTight, Parts, StandAlike, ReadAlike, AlikePricesAreEqual, AreEqualWhereAlike, map}
+use Rattle.kd_prices.proofs.Prelude.{subst, Contains, ◌≡◌, ℕ, ◌<◌, ◌≤◌, List, get_or, length, None, unwrap_or, slice_get, sym, ap, ◌∙◌, arith, ints, get_or-map, unwrap_or-slice_get, slice_get_past, One, Rotor, Pin, cable_letters, Day, OfRotors, OfPins, TestsTellLetters, ThirteenColumns, ColumnsAreThePairs, cable_cost, bar_cost, columns_of, PriceParts, Cables, Bars, how_many, cost_at, Fits, AreTight, ProvingPricesAreTight, Parts, StandAlike, ReadAlike, AlikePricesAreEqual, AreEqualWhereAlike, map}
 use Rattle.kd_tables.specs.declared.model.Model.{Model}
 use Rattle.kd_tables.specs.declared.model.Model.TheVariants.{M209}
 use Rattle.kd_tables.specs.declared.reflector.Reflector.{Reflector}

@@ -88,8 +88,13 @@ fn are_of_kind(machine: &Machine, prices: &Prices) -> bool
 {
     matches!(
         (machine.parts(), prices.parts()),
-        (Parts::Rotor(_), PriceParts::Cables(..) | PriceParts::CableKinds(..))
-            | (Parts::Pin(_), PriceParts::Bars(..) | PriceParts::BarKinds(..))
+        (
+            Parts::Rotor(_),
+            PriceParts::Cables(..) | PriceParts::CableKinds(..)
+        ) | (
+            Parts::Pin(_),
+            PriceParts::Bars(..) | PriceParts::BarKinds(..)
+        )
     )
 }
 

@@ -1,4 +1,3 @@
-use Rattle.kd_prices.proofs.Prelude.{arith}
 use Rattle.kd_prices.proofs.Doubts.{told, doubted}
 use Rattle.kd_prices.proofs.checking.check.Goals as goal
 

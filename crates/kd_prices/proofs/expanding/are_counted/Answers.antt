@@ -1,4 +1,4 @@
-use Rattle.kd_prices.proofs.Prelude.{◌∙◌, sym, refl, subst, arith, false≢true, take_all, All-more, All-same, HasCount}
+use Rattle.kd_prices.proofs.Prelude.{◌∙◌, sym, subst, arith, false≢true, take_all, All-more, All-same, HasCount}
 use Rattle.kd_prices.proofs.expanding.are_counted.Goals as goal
 
 pub returns-then-not-is_counted : goal.returns-then-not-is_counted

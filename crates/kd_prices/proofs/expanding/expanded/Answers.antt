@@ -1,4 +1,4 @@
-use Rattle.kd_prices.proofs.Prelude.{rules, ◌∙◌, sym, refl, subst, AreParted, Cables, Bars, arith}
+use Rattle.kd_prices.proofs.Prelude.{rules, ◌∙◌, sym, refl, subst, AreParted, Cables, Bars}
 use Rattle.kd_prices.proofs.Meaning.{expanded_told}
 use Rattle.kd_prices.proofs.expanding.expanded.Goals as goal
 

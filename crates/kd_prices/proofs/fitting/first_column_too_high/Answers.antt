@@ -1,4 +1,4 @@
-use Rattle.kd_prices.proofs.Prelude.{◌≡◌, pos, get_or, to_z, of_z, w16, below_more, refl, rules, false≢true, to_z-of_z, arith}
+use Rattle.kd_prices.proofs.Prelude.{◌≡◌, pos, get_or, to_z, of_z, w16, below_more, refl, rules, false≢true, to_z-of_z}
 use Rattle.kd_prices.proofs.fitting.first_column_too_high.Goals as goal
 
 pub returns-then-not-is_at_most : goal.returns-then-not-is_at_most

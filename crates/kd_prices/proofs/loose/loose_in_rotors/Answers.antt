@@ -1,4 +1,3 @@
-use Rattle.kd_prices.proofs.Prelude.{arith}
 use Rattle.kd_prices.proofs.loose.loose_in_rotors.Goals as goal
 
 pub returns-clause-value : goal.returns-clause-value

@@ -1,4 +1,4 @@
-use Rattle.kd_prices.proofs.Prelude.{refl, sym, subst, arith, false≢true, drop_all, AreNeeded, IsFirstNeedless}
+use Rattle.kd_prices.proofs.Prelude.{refl, arith, false≢true, drop_all}
 use Rattle.kd_prices.proofs.Leading.{steps_on, stops_here}
 use Rattle.kd_prices.proofs.needless.first_needless.Goals as goal
 
