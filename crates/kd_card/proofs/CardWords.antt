@@ -90,7 +90,7 @@ signed_text (negsuc n) small = inr (decimal (suc n), refl, number_text (suc n) s
 sum_bound : (a : ℤ) (prices : List ℤ) → AllByRecursion (λ price. unsigned_abs price ≤ 9999) prices
     → unsigned_abs (fold (λ sum price. sum +ℤ price) a prices) ≤ unsigned_abs a + 9999 * length prices
 sum_bound a [] reach = omega arith
-sum_bound a (price ∷ prices) reach = grind (arith, sum_bound (a +ℤ price) prices reach.1, a)
+sum_bound a (price ∷ prices) reach = grind (arith, sum_bound (a +ℤ price) prices reach.1)
 
 pub few_prices : (prices : PriceParts) → how_many prices ≤ 27
 few_prices prices = grind arith
@@ -173,4 +173,4 @@ pub record HasGroup (name : Name) (number : ℕ) (bytes : List ℕ) (kinds : Lis
 
 pub group_said : {name : Name} {number : ℕ} (line : ℕ) {bytes : List ℕ} (x : List PricedKind × List ℕ)
     → SaysGroup name number line bytes (Ok x) → HasGroup name number bytes x.0 x.1
-group_said {name} {number} line {bytes} x says = grind (arith, passed, bytes)
+group_said {name} {number} line {bytes} x says = grind (arith, passed)

@@ -53,7 +53,7 @@ floor_bounds floor (kind ∷ kinds) are = grind (arith, floor_bounds (look_rank 
 
 fold_of_copies : (sum : ℤ) (count : ℕ) (price : ℤ) → fold (λ sum price. sum +ℤ price) sum (replicate count price) ≡ (sum +ℤ (pos count *ℤ price))
 fold_of_copies sum zero price = let none = zero-*ℤ price in omega (arith, ints, none)
-fold_of_copies sum (suc count) price = grind (arith, suc_ℤ-*ℤ, count, fold_of_copies (sum +ℤ price) count price, sum)
+fold_of_copies sum (suc count) price = grind (arith, suc_ℤ-*ℤ, fold_of_copies (sum +ℤ price) count price)
 
 pub more_sum : (sum : ℤ) (kinds : List PricedKind) (kind : PricedKind)
     → fold (λ sum price. sum +ℤ price) sum (prices_of_kinds (kinds ++ kind ∷ []))

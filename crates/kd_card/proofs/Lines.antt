@@ -155,4 +155,4 @@ not_begun tells name first differs value more other =
 
 pub begun : {text line rest : List ℕ} (name value : List ℕ) → IsFirstPart 10 text line rest → pointwise eqb (take (length name) line) name ≡ true
     → value ≡ drop (length name) line → IsFirstPart 10 text (name ++ value) rest
-begun {text} {line} {rest} name value first same is = search (rules, same_text, value, take-append-drop)
+begun {text} {line} {rest} name value first same is = search (rules, same_text, take-append-drop)

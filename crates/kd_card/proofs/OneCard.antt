@@ -268,11 +268,11 @@ module _ (laws : Laws) where
   one_head : (bytes : List ℕ) (head other : Version × ℕ × List ℕ) → BeginsWithHead bytes head.0 head.1 head.2
       → BeginsWithHead bytes other.0 other.1 other.2 → head ≡ other
   one_head bytes (version, day, rest) (by, other, more) a b =
-      grind (arith, common_steps, bytes, line_has_words, head_is_words, same_words, same_version, decimal_injective)
+      grind (arith, common_steps, line_has_words, head_is_words, same_words, same_version, decimal_injective)
 
   value_line : {bytes : List ℕ} (name value rest : List ℕ) → IsWord name → IsWord value
       → bytes ≡ with_line (name ∷ value ∷ []) rest → HasWords bytes (name ∷ value ∷ []) rest
-  value_line name value rest named valued e = grind (arith, line_has_words, value, All-from_recursion)
+  value_line name value rest named valued e = grind (arith, line_has_words, All-from_recursion)
 
   only_value : (signed : Bool) (name due : List ℕ) (line : ℕ) (bytes : List ℕ) → IsWord name
       → IsOnly (SaysValue signed name due line bytes)
