@@ -20,7 +20,7 @@ cables_in_form ((None, None) ∷ cables) e within apart = (tt, cables_in_form ca
 cables_in_form ((None, Some b) ∷ cables) e within apart = grind arith
 cables_in_form ((Some a, None) ∷ cables) e within apart = (within.0, cables_in_form cables (cc) within.1 apart.1)
 cables_in_form ((Some a, Some b) ∷ cables) e within apart =
-    grind (arith, two_ordered, cables_in_form cables (cc) within.1.1 apart.1.1, cables)
+    grind (arith, two_ordered, cables_in_form cables (cc) within.1.1 apart.1.1)
 
 abbrev cables_of : Parts → List (Option ℕ × Option ℕ)
 cables_of (Rotor m) = m.cables
