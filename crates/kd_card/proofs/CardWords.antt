@@ -1,5 +1,5 @@
 -- What stands in a card's lines are words, and its numbers have the keywords that are read.
-use Rattle.kd_card.proofs.Prelude.{Bool, true, false, codes, ◌≡◌, ◌≢◌, ℕ, zero, suc, ◌+◌, ◌*◌, ◌^◌, ◌<◌, ◌≤◌, inl, inr, List, [], ◌∷◌, ◌++◌, length, map, get_or, fold, decimal, Ok, Err, refl, ap, arith, ℤ, pos, negsuc, ◌+ℤ◌, unsigned_abs, length-append, ltb, sym, subst, ◌∙◌, All, AllByRecursion, list_all, digits_value, signed_decimal, decimal_nonempty, digits_decimal, decimal_digit, first_decimal, ints, All-cons, All-map, All-weaker, All-append, All-from_recursion, All-from_get_or, recursion_from_All, IsWord, NumbersAreWords, PriceParts, Cables, Version, ByNumber, ByKind, row_prices, column_prices, how_many, price_sum, AreWithinReach, ArePrices, Group, OfCables, OfBars, Name, PricedKind, BadLine, CountWrong, PriceMissing, Refused, Found, kinds_text, row_word, column_word, version_text, head_words, price_words, IsGroup, IsDigit, IsNumberText, IsNumeral, with_line, HasWords, SaysValue, SaysLine, SaysFirst, SaysPrices, SaysPriceLine, SaysGroup, nil_from_length}
+use Rattle.kd_card.proofs.Prelude.{Bool, true, codes, ◌≡◌, ◌≢◌, ℕ, zero, suc, ◌+◌, ◌*◌, ◌^◌, ◌<◌, ◌≤◌, inl, inr, List, [], ◌∷◌, ◌++◌, length, map, get_or, fold, decimal, Ok, Err, refl, ap, arith, ℤ, pos, negsuc, ◌+ℤ◌, unsigned_abs, length-append, ltb, sym, subst, ◌∙◌, All, AllByRecursion, list_all, digits_value, signed_decimal, decimal_nonempty, digits_decimal, decimal_digit, first_decimal, All-cons, All-map, All-weaker, All-append, All-from_recursion, All-from_get_or, recursion_from_All, IsWord, NumbersAreWords, PriceParts, Version, how_many, price_sum, AreWithinReach, ArePrices, Group, Name, PricedKind, BadLine, CountWrong, PriceMissing, Refused, Found, kinds_text, row_word, column_word, version_text, head_words, price_words, IsGroup, IsDigit, IsNumberText, IsNumeral, with_line, HasWords, SaysValue, SaysLine, SaysFirst, SaysPrices, SaysPriceLine, SaysGroup, nil_from_length, common_steps}
 use Rattle.std.specs.Int.{IsInRange}
 use Rattle.std.proofs.lemmas.Str.Parse.{IsNumeralModel, numerals_by_value, tells_by_index}
 use Rattle.kd_card.specs.Steps.{passed}
@@ -28,36 +28,26 @@ below_zero word w = record {
 }
 
 number_word : (text : List ℕ) → IsNumberText text → IsWord text
-number_word [] n = absurd n
-number_word (digit ∷ digits) n =
-    word_by_bytes (digit ∷ digits) (λ none. cc)
-    (All-weaker IsDigit (λ b. 32 < b) (λ b d. omega (arith, d.0)) (digit ∷ digits) (All-cons IsDigit digit digits n.0 n.1))
+number_word text e = grind (arith, word_by_bytes, All-weaker, All-cons)
 
 pub numeral_word : (signed : Bool) (text : List ℕ) → IsNumeral signed text → IsWord text
-numeral_word false text n = number_word text n
-numeral_word true text (inl n) = number_word text n
-numeral_word true text (inr n) = subst IsWord (sym n.1) (below_zero n.0 (number_word n.0 n.2))
+numeral_word signed text e = grind (arith, number_word, below_zero)
 
 pub signed_word : NumbersAreWords → (z : ℤ) → unsigned_abs z < 2 ^ 64 → IsWord (signed_decimal z)
 signed_word numbers (pos n) small = numbers n small
 signed_word numbers (negsuc n) small = below_zero (decimal (suc n)) (numbers (suc n) small)
 
 version_is_word : (version : Version) → IsWord (version_text version)
-version_is_word ByNumber = word_by_test _ _ refl
-version_is_word ByKind = word_by_test _ _ refl
+version_is_word version = grind (arith, word_by_test)
 
 pub head_is_words : NumbersAreWords → (version : Version) (day : ℕ) → day ≤ 31 → All IsWord (head_words version day)
-head_is_words numbers version day small =
-    All-from_recursion IsWord (head_words version day)
-    (word_by_test _ _ refl, (version_is_word version, (word_by_test _ _ refl, (numbers day (omega arith), tt))))
+head_is_words numbers version day small = grind (arith, All-from_recursion, word_by_test, version_is_word, numbers)
 
 pub row_is_word : (kind : Group) → IsWord (row_word kind)
-row_is_word OfCables = word_by_test _ _ refl
-row_is_word OfBars = word_by_test _ _ refl
+row_is_word kind = grind (arith, word_by_test)
 
 pub column_is_word : (kind : Group) → IsWord (column_word kind)
-column_is_word OfCables = word_by_test _ _ refl
-column_is_word OfBars = word_by_test _ _ refl
+column_is_word kind = grind (arith, word_by_test)
 
 pub prices_are_words : NumbersAreWords → (word : List ℕ) (prices : List ℤ) → IsWord word → AreWithinReach prices → All IsWord (price_words word prices)
 prices_are_words numbers word prices w reach =
@@ -86,9 +76,7 @@ no_leading_zero (suc n) small e = absurd (omega (arith, first_decimal (suc n) (o
 
 pub number_text : (number : ℕ) → number < 2 ^ 64 → IsNumberText (decimal number)
 number_text number small =
-    number_by_parts (decimal number) (decimal_nonempty number small) (λ i inside.
-    let figure : IsInRange 48 57 (get_or (decimal number) i 0) = digits_decimal figures number small i inside in (omega arith, omega arith))
-    (no_leading_zero number small)
+    grind (arith, number_by_parts, decimal_nonempty, small, digits_decimal, figures, no_leading_zero)
 
 not_zero : (n : ℕ) → suc n < 2 ^ 64 → decimal (suc n) ≢ codes "0"
 not_zero n small e = omega (arith, first_decimal (suc n) (omega arith) small, ap (λ t. get_or t 0 0) e)
@@ -102,22 +90,14 @@ signed_text (negsuc n) small = inr (decimal (suc n), refl, number_text (suc n) s
 sum_bound : (a : ℤ) (prices : List ℤ) → AllByRecursion (λ price. unsigned_abs price ≤ 9999) prices
     → unsigned_abs (fold (λ sum price. sum +ℤ price) a prices) ≤ unsigned_abs a + 9999 * length prices
 sum_bound a [] reach = omega arith
-sum_bound a (price ∷ prices) reach =
-    let rest = sum_bound (a +ℤ price) prices reach.1 in
-    let within : unsigned_abs price ≤ 9999 = reach.0 in
-    let step : unsigned_abs (a +ℤ price) ≤ unsigned_abs a + unsigned_abs price = omega (arith, ints) in
-    omega (arith, rest, step, within)
+sum_bound a (price ∷ prices) reach = grind (arith, sum_bound (a +ℤ price) prices reach.1)
 
 pub few_prices : (prices : PriceParts) → how_many prices ≤ 27
-few_prices (Cables row col) = omega arith
-few_prices prices = omega arith
+few_prices prices = grind arith
 
 pub price_sum_is_small : (prices : PriceParts) → ArePrices prices → unsigned_abs (price_sum prices) < 2 ^ 64
 price_sum_is_small prices p =
-    let all = row_prices prices ++ column_prices prices in
-    let reach = All-append (λ price. unsigned_abs price ≤ 9999) (row_prices prices) (column_prices prices) p.row_reach p.column_reach in
-    let bound = sum_bound (pos 0) all (recursion_from_All _ all reach) in
-    omega (arith, bound, length-append (row_prices prices) (column_prices prices), few_prices prices)
+    grind (arith, common_steps, All-append, sum_bound, recursion_from_All, length-append, few_prices)
 
 -- ---- a name and a value
 
@@ -137,12 +117,7 @@ module _ (signed : Bool) (name due : List ℕ) (line : ℕ) where
 
   pub value_said : {bytes rest : List ℕ} → SaysValue signed name due line bytes (Ok rest)
       → bytes ≡ with_line (name ∷ due ∷ []) rest
-  value_said says =
-      let value = passed says in
-      let same = passed value.next in
-      let is = same.says in
-      let last = same.next in
-      value.says.1 ∙ cc
+  value_said says = grind (arith, passed)
 
 -- ---- a first word, and prices
 
@@ -170,12 +145,7 @@ pub record HasPrices (bytes word : List ℕ) (number : ℕ) (prices : List ℤ) 
 
 pub prices_said : {number line : ℕ} {words : List (List ℕ)} {prices : List ℤ} → SaysPrices number line words (Ok prices)
     → (words ≡ map signed_decimal prices) × AreWithinReach prices × (length prices ≡ number)
-prices_said {number} {words} {prices} says =
-    let are = passed says in
-    let count = passed are.next in
-    let last = count.next in
-    let is : prices ≡ are.found = cc in
-    rw is (are.says.0, are.says.1, count.says)
+prices_said {number} {words} {prices} says = grind (arith, passed)
 
 pub line_said : {K : Type 0} (word : K → List ℕ) (number : K → ℕ) {line : ℕ} {bytes : List ℕ} (x : K × List ℤ × List ℕ)
     → SaysPriceLine word number line bytes (Ok x) → HasPrices bytes (word x.0) (number x.0) x.1 x.2
@@ -186,8 +156,6 @@ line_said {K} word number {bytes} x says =
     let key = passed found.next in
     let prices = passed first.next in
     let are = prices_said prices.says in
-    let begins = key.next in
-    let last = prices.next in
     let is : x ≡ (key.found.0, prices.found, found.found.1) = cc in
     let words : found.found.0 ≡ price_words (word key.found.0) prices.found =
     key.says ∙ ap (λ w. word key.found.0 ∷ w) (cc) in
@@ -205,14 +173,4 @@ pub record HasGroup (name : Name) (number : ℕ) (bytes : List ℕ) (kinds : Lis
 
 pub group_said : {name : Name} {number : ℕ} (line : ℕ) {bytes : List ℕ} (x : List PricedKind × List ℕ)
     → SaysGroup name number line bytes (Ok x) → HasGroup name number bytes x.0 x.1
-group_said {name} {number} line {bytes} x says =
-    let kinds = passed says in
-    let end = passed kinds.next in
-    let count = passed end.next in
-    let last = count.next in
-    let is : x ≡ kinds.found = cc in
-    let begins = kinds.says.begins in
-    subst (λ (y : List PricedKind × List ℕ). HasGroup name number bytes y.0 y.1) (sym is) (record {
-      lines = begins.lines;
-      group = record { called = begins.called; in_order = begins.in_order; count = count.says };
-    })
+group_said {name} {number} line {bytes} x says = grind (arith, passed)

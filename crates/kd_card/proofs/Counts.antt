@@ -1,5 +1,5 @@
 -- How often letters are among others.
-use Rattle.kd_card.proofs.Prelude.{◌≡◌, ◌≢◌, ℕ, zero, suc, ◌+◌, ◌≤◌, nat_eq, Bool, true, false, ◌||◌, cond, inl, inr, List, [], ◌∷◌, ◌++◌, AllPairs, count_by, refl, sym, ap, ◌∙◌, arith, nat_le, ◌⊎◌, Option, Some, None, AllByRecursion, IsDistinct, eqb-true, eq-eqb, false≢true, ne_eqb, or_parts, eqb_tells, recursion_from_All, sum_by-append, sum_by-cons, alphabet, has_letter, is_plugged, cable_without, cable_with, list_any-append, cable_letters}
+use Rattle.kd_card.proofs.Prelude.{◌≡◌, ◌≢◌, ℕ, zero, suc, ◌+◌, ◌≤◌, nat_eq, Bool, true, false, ◌||◌, cond, inl, inr, List, [], ◌∷◌, ◌++◌, AllPairs, count_by, refl, sym, ap, ◌∙◌, arith, ◌⊎◌, Option, Some, None, AllByRecursion, IsDistinct, eqb-true, eq-eqb, false≢true, ne_eqb, or_parts, eqb_tells, recursion_from_All, sum_by-append, sum_by-cons, alphabet, has_letter, is_plugged, cable_without, cable_with, list_any-append, cable_letters, common_steps}
 use Rattle.std.proofs.lemmas.Cmp.{nat_eq_equiv}
 use Rattle.std.proofs.lemmas.Map.Made.{AllPairs-from_IsDistinct, IsDistinct-from_count}
 
@@ -8,8 +8,7 @@ pub count_by-cons : {X : Type 0} (p : X → Bool) (x : X) (xs : List X) → coun
 count_by-cons p x xs = sum_by-cons (λ y. cond (p y) 1 0) x xs
 
 pub at_most_one : (b : Bool) → cond b 1 0 ≤ 1
-at_most_one true = omega arith
-at_most_one false = omega arith
+at_most_one b = grind arith
 
 -- how often the letter is among these
 abbrev pub times : ℕ → List ℕ → ℕ
@@ -57,7 +56,6 @@ not_among (other ∷ letters) letter e =
 
 pub once_more : (l letter : ℕ) (letters : List ℕ) → AreOnce letters → has_letter letters letter ≡ false → times l letters + times l (letter ∷ []) ≤ 1
 once_more l letter letters once none =
-    let more = count_by-cons (nat_eq l) letter [] in
     elim (eqb_tells l letter) [
       | inl here ↦
           let same = ap (λ x. times x letters) here.1 in
@@ -72,27 +70,20 @@ abbrev pub HasOneMore : ℕ → List ℕ → List ℕ → Type 0
 HasOneMore x fewer letters = (letters ≡ x ∷ fewer) ⊎ (letters ≡ fewer ++ x ∷ [])
 
 pub times_more : (l x : ℕ) (fewer letters : List ℕ) → HasOneMore x fewer letters → times l letters ≡ times l fewer + times l (x ∷ [])
-times_more l x fewer letters (inl e) = omega (arith, ap (times l) e, times-append l (x ∷ []) fewer)
-times_more l x fewer letters (inr e) = omega (arith, ap (times l) e, times-append l fewer (x ∷ []))
+times_more l x fewer letters e = grind (arith, common_steps, times-append)
 
 -- the letters are the same, one letter apart
 abbrev pub SameBut : ℕ → List ℕ → List ℕ → Type 0
 SameBut x letters others = (letter : ℕ) → (has_letter letters letter ≡ has_letter others letter) ⊎ (nat_eq x letter ≡ true)
 
 in_front : (t h g : Bool) → h ≡ (t || g) → (h ≡ g) ⊎ (t ≡ true)
-in_front true h g e = inr refl
-in_front false h g e = inl e
+in_front t h g e = grind arith
 
 behind : (g t h : Bool) → h ≡ (g || (t || false)) → (h ≡ g) ⊎ (t ≡ true)
-behind true t h e = inl e
-behind false true h e = inr refl
-behind false false h e = inl e
+behind g t h e = grind arith
 
 pub same_but : (x : ℕ) (fewer letters : List ℕ) → HasOneMore x fewer letters → SameBut x letters fewer
-same_but x fewer letters (inl e) letter = in_front (nat_eq x letter) (has_letter letters letter) (has_letter fewer letter) (ap (λ l. has_letter l letter) e)
-same_but x fewer letters (inr e) letter =
-    behind (has_letter fewer letter) (nat_eq x letter) (has_letter letters letter)
-    (ap (λ l. has_letter l letter) e ∙ list_any-append (λ other. nat_eq other letter) fewer (x ∷ []))
+same_but x fewer letters e = grind (arith, in_front, behind, list_any-append)
 
 pub same_but-sym : (x : ℕ) (letters others : List ℕ) → SameBut x letters others → SameBut x others letters
 same_but-sym x letters others same letter = elim (same letter) [ inl e ↦ inl (sym e) | inr e ↦ inr e ]
@@ -112,11 +103,7 @@ pulled letter (Some a, Some c) =
 
 -- A letter is put into a cable with a loose end: the cable has one letter more.
 beside : (b : Bool) (a letter : ℕ) → HasOneMore letter (a ∷ []) (cable_letters (cond b (Some a, Some letter) (Some letter, Some a)))
-beside true a letter = inr refl
-beside false a letter = inl refl
+beside b a letter = grind arith
 
 pub put : (letter : ℕ) (cable : Option ℕ × Option ℕ) → is_plugged cable ≡ false → HasOneMore letter (cable_letters cable) (cable_letters (cable_with letter cable))
-put letter (None, None) loose = inl refl
-put letter (None, Some b) loose = beside (nat_le b letter) b letter
-put letter (Some a, None) loose = beside (nat_le a letter) a letter
-put letter (Some a, Some b) loose = absurd (false≢true (sym loose))
+put letter cable e = grind (arith, beside)

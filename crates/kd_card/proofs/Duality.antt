@@ -1,5 +1,5 @@
 -- Prices that fit bound from below what any pairing of rows and columns costs.
-use Rattle.kd_card.proofs.Prelude.{◌≡◌, ℕ, zero, suc, ◌+◌, ◌<◌, List, [], ◌∷◌, ◌++◌, length, get_or, set, map, zip, fold, ℤ, pos, ◌+ℤ◌, ◌≤ℤ◌, IsPermutation, refl, arith, AllByRecursion, AllZip, ints, fold-append, sum_by-cons, sum_by-IsPermutation, All-permutation, IsPermutation-keeps, IsPermutation-refl, IsPermutation-trans, IsPermutation-swap, AllZip-long, All-from_recursion, recursion_from_All}
+use Rattle.kd_card.proofs.Prelude.{◌≡◌, ℕ, zero, suc, ◌+◌, ◌<◌, List, [], ◌∷◌, ◌++◌, length, get_or, set, map, zip, fold, ℤ, pos, ◌+ℤ◌, ◌≤ℤ◌, IsPermutation, refl, arith, AllByRecursion, AllZip, ints, fold-append, sum_by-cons, sum_by-IsPermutation, All-permutation, IsPermutation-keeps, IsPermutation-refl, IsPermutation-trans, IsPermutation-swap, AllZip-long, All-from_recursion, recursion_from_All, common_steps, rules}
 use Rattle.std.specs.List as lists
 use borrow.Author.Differences.{up, down}
 
@@ -27,11 +27,7 @@ module _ {B : Type 0} where
 
   parts_with : (ws : List (B × ℤ)) → (prices_with ws +ℤ pos (lists.sum_by (λ (w : B × ℤ). down w.1) ws)) ≡ pos (lists.sum_by (λ (w : B × ℤ). up w.1) ws)
   parts_with [] = refl
-  parts_with (w ∷ ws) =
-      let e = parts_with ws in
-      let ups = sum_by-cons (λ (w : B × ℤ). up w.1) w ws in
-      let downs = sum_by-cons (λ (w : B × ℤ). down w.1) w ws in
-      omega (arith, ints)
+  parts_with (w ∷ ws) = grind (arith, common_steps, parts_with ws, sum_by-cons)
 
   -- in another order they add up to the same
   pub prices_with-IsPermutation : (xs ys : List (B × ℤ)) → IsPermutation xs ys → prices_with ys ≡ prices_with xs
@@ -66,12 +62,7 @@ module _ {A C : Type 0} (R : A → C → Type 0) where
   Reordered ys xs = (zs : List C) × IsPermutation ys zs × AllZip R xs zs
 
   side_by_side-swap : (xs : List A) (zs : List C) (i j : ℕ) → i < length xs → j < length xs → AllZip R xs zs → AllZip R (lists.swap xs i j) (lists.swap zs i j)
-  side_by_side-swap [] [] i j hi hj h = tt
-  side_by_side-swap (a ∷ xs) (c ∷ zs) i j hi hj h =
-      let first = side_by_side-set (a ∷ xs) (c ∷ zs) i (get_or (a ∷ xs) j a) (get_or (c ∷ zs) j c) h (side_by_side_at (a ∷ xs) (c ∷ zs) j a c h hj) in
-      side_by_side-set (set (a ∷ xs) i (get_or (a ∷ xs) j a)) (set (c ∷ zs) i (get_or (c ∷ zs) j c)) j (get_or (a ∷ xs) i a) (get_or (c ∷ zs) i c) first
-      (side_by_side_at (a ∷ xs) (c ∷ zs) i a c h hi)
-  side_by_side-swap xs zs i j hi hj h = absurd h
+  side_by_side-swap xs zs i j e d g = grind (arith, side_by_side-set, side_by_side_at)
 
   -- where the first kind is put in another order, so can the second be
   pub reordered : (xs others : List A) (ys : List C) → IsPermutation xs others → AllZip R xs ys → Reordered ys others
@@ -109,8 +100,7 @@ module _ {A B : Type 0} (cost : A → B → ℕ) where
       → (sum_of prices +ℤ prices_with ws) ≤ℤ pos (pairing_cost rows ws)
   fitting_prices [] [] [] e h = omega (arith, ints)
   fitting_prices (row ∷ rows) (price ∷ prices) (w ∷ ws) e h =
-      let rest = fitting_prices rows prices ws (omega arith) (without_first rows prices w ws h.1) in
-      omega (arith, ints)
+      search (rules, fitting_prices rows prices ws (omega arith) (without_first rows prices w ws h.1), without_first)
   fitting_prices [] (price ∷ prices) [] e h = absurd h
   fitting_prices (row ∷ rows) [] (w ∷ ws) e h = absurd h
   fitting_prices rows prices ws e h = absurd (omega arith)

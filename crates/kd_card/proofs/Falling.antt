@@ -1,7 +1,6 @@
 -- What a pairing of cables with pairs, or of bars with rows, costs falls by at most one with each setting that changes a
 -- cable or a bar, and doesn't change with the others.
-use Rattle.std.proofs.Common.{find, All}
-use Rattle.kd_card.proofs.Prelude.{◌≡◌, ℕ, zero, suc, ◌+◌, ◌-◌, ◌≤◌, nat_eq, min, Bool, true, false, cond, inl, inr, List, [], ◌∷◌, get_or, set, map, fold, count_by, Option, Some, None, unwrap_or, slice_get, ℤ, refl, sym, ap, ◌∙◌, subst, arith, length, AllByRecursion, option_map, option_map_or, unwrap_or-slice_get, Place, alphabet, RotorParts, Parts, Rotor, Pin, Setting, Pull, Put, LugTo, Why, cable_letters, plugged_letters, IsLegal, has_letter, is_at, reasons, why_refused, cable_at, cable_without, cable_with, with_lug, changed, lies_beyond, other_lug, lug_place, Leads, differ, unless_same, column_letters, cable_cost, lugs_moved, bar_cost, is_priced, eqb-false, ltb-false, All-set, length-set, place_rank, IsBefore, numbered}
+use Rattle.kd_card.proofs.Prelude.{◌≡◌, ℕ, zero, suc, ◌+◌, ◌-◌, ◌≤◌, nat_eq, min, Bool, true, false, cond, inl, inr, List, [], ◌∷◌, get_or, set, map, fold, count_by, Option, Some, None, unwrap_or, slice_get, ℤ, refl, sym, ap, ◌∙◌, subst, arith, length, AllByRecursion, option_map, option_map_or, unwrap_or-slice_get, Place, alphabet, RotorParts, Parts, Rotor, Pin, Setting, Pull, Put, LugTo, Why, cable_letters, plugged_letters, IsLegal, has_letter, is_at, reasons, why_refused, cable_at, cable_without, cable_with, with_lug, changed, lies_beyond, other_lug, lug_place, Leads, differ, unless_same, column_letters, cable_cost, lugs_moved, bar_cost, is_priced, eqb-false, ltb-false, All-set, length-set, place_rank, IsBefore, numbered, common_steps, find, All}
 use Rattle.kd_state.specs.Costs.{standings_as}
 use Rattle.kd_tables.specs.declared.lug.Lug.{Lug}
 use Rattle.kd_tables.specs.declared.lug.Lug.TheVariants.{Left, Right}
@@ -16,25 +15,14 @@ pairing_cost-set cost (now ∷ rows) (w ∷ ws) (suc i) row d h = omega (arith, 
 pairing_cost-set cost rows ws i row d h = omega arith
 
 pub not_differing : (b : Bool) → differ b b ≡ false
-not_differing true = refl
-not_differing false = refl
+not_differing b = grind arith
 
 counted_apart : (letters others wanted : List ℕ) (x : ℕ) → SameBut x letters others → (alphabet : List ℕ)
     → count_by (λ letter. differ (has_letter letters letter) (has_letter wanted letter)) alphabet
     ≤ count_by (λ letter. differ (has_letter others letter) (has_letter wanted letter)) alphabet + count_by (nat_eq x) alphabet
 counted_apart letters others wanted x same [] = omega arith
 counted_apart letters others wanted x same (letter ∷ alphabet) =
-    let before = count_by-cons (λ letter. differ (has_letter letters letter) (has_letter wanted letter)) letter alphabet in
-    let after = count_by-cons (λ letter. differ (has_letter others letter) (has_letter wanted letter)) letter alphabet in
-    let here = count_by-cons (nat_eq x) letter alphabet in
-    let rest = counted_apart letters others wanted x same alphabet in
-    elim (same letter) [
-      | inl e ↦ let head = ap (λ b. cond {A = ℕ} (differ b (has_letter wanted letter)) 1 0) e in omega arith
-      | inr e ↦
-          let most = at_most_one (differ (has_letter letters letter) (has_letter wanted letter)) in
-          let head : cond {A = ℕ} (nat_eq x letter) 1 0 ≡ 1 = rw e refl in
-          omega arith
-    ]
+    grind (arith, common_steps, count_by-cons, counted_apart letters others wanted x same alphabet, same, at_most_one)
 
 -- why a setting is not refused
 pub none_of_them : (reasons : List (Bool × Why)) → option_map (λ (reason : Bool × Why). reason.1) (find (λ reason. reason.0) reasons) ≡ None → AllByRecursion (λ reason. reason.0 ≡ false) reasons
@@ -77,12 +65,10 @@ put_falls m (suc place) letter ws e =
 
 -- one lug of a bar is moved
 pub unless_same_at_most : (b : Bool) → unless_same b ≤ 1
-unless_same_at_most true = omega arith
-unless_same_at_most false = omega arith
+unless_same_at_most b = grind arith
 
 lugs_moved_step : (lug : Lug) (place : Place) (standing other : Place × Place) → lugs_moved standing other ≤ lugs_moved (with_lug lug place standing) other + 1
-lugs_moved_step Left place standing other = omega (arith, unless_same_at_most (is_at standing.0 other.0))
-lugs_moved_step Right place standing other = omega (arith, unless_same_at_most (is_at standing.1 other.1))
+lugs_moved_step lug place standing other = grind (arith, unless_same_at_most)
 
 least_falls : {X : Type 0} (f g : X → ℕ) → ((x : X) → f x ≤ g x + 1) → (xs : List X) (a b : ℕ) → a ≤ b + 1 → fold min a (map f xs) ≤ fold min b (map g xs) + 1
 least_falls f g h [] a b start = start
@@ -120,12 +106,7 @@ times-set letter k [] place now d h = omega arith
 times-set letter k (cable ∷ cables) zero now d h =
     omega (arith, times-append letter (cable_letters cable) (plugged_letters cables), times-append letter (cable_letters now) (plugged_letters cables))
 times-set letter k (cable ∷ cables) (suc place) now d h =
-    omega (
-      arith,
-      times-append letter (cable_letters cable) (plugged_letters cables),
-      times-append letter (cable_letters cable) (plugged_letters (set cables place now)),
-      times-set letter k cables place now d h,
-    )
+    grind (arith, common_steps, times-append, times-set letter k cables place now d h)
 
 -- no letter in two places, one setting later
 abbrev pub CablesAreOnce : List (Option ℕ × Option ℕ) → Type 0
@@ -137,10 +118,7 @@ pull_keeps m (suc place) letter e once l =
     let was = cable_at m (suc place) in
     let now = cable_without letter was in
     let here = ap (λ cable. times l (cable_letters cable)) (unwrap_or-slice_get m.cables place (None, None)) in
-    let less : times l (cable_letters now) ≤ times l (cable_letters was) = elim (pulled letter was) [
-      | inl same ↦ omega (arith, ap (times l) same)
-      | inr more ↦ omega (arith, times_more l more.0 (cable_letters now) (cable_letters was) more.1)
-    ] in
+    let less : times l (cable_letters now) ≤ times l (cable_letters was) = grind (arith, pulled, times_more) in
     rw (one_less place) (omega (arith, once l, times-set l 0 m.cables place now (None, None) (omega arith)))
 
 put_keeps : (m : RotorParts) (cable letter : ℕ) → why_refused (Rotor m) (Put cable letter) ≡ None → CablesAreOnce m.cables → CablesAreOnce (set m.cables (cable - 1) (cable_with letter (cable_at m cable)))

@@ -1,5 +1,5 @@
 -- Lists of kinds, kind by kind.
-use Rattle.kd_card.proofs.Prelude.{◌≡◌, ℕ, zero, suc, ◌+◌, ◌*◌, ◌<◌, ◌≤◌, List, [], ◌∷◌, ◌++◌, length, take, drop, get_or, replicate, fold, refl, sym, ap, subst, ◌∙◌, append_assoc, length-append, arith, ℤ, pos, ◌+ℤ◌, ◌*ℤ◌, unsigned_abs, FitsSigned, w32, Some, None, All, All-nil, All-cons, ints, unsigned_abs-mul, fits_signed_from_abs, append-nil, take_more, take-append-drop, flat_map-append, fold-append, Look, Cable, Pair, Bar, Row, Name, PricedKind, look_name, look_rank, kind_words, kinds_text, counted, prices_of_kinds, IsInForm, IsPricedKind, AreKinds, AreCalled, line_of, floor_behind, IsNextKind, BeginsWithKinds}
+use Rattle.kd_card.proofs.Prelude.{◌≡◌, ℕ, zero, suc, ◌+◌, ◌*◌, ◌<◌, ◌≤◌, List, [], ◌∷◌, ◌++◌, length, take, drop, get_or, replicate, fold, refl, sym, ap, subst, ◌∙◌, append_assoc, length-append, arith, ℤ, pos, ◌+ℤ◌, ◌*ℤ◌, unsigned_abs, FitsSigned, w32, All, All-nil, All-cons, ints, unsigned_abs-mul, fits_signed_from_abs, append-nil, take_more, take-append-drop, flat_map-append, fold-append, Look, Name, PricedKind, look_name, look_rank, kind_words, kinds_text, counted, prices_of_kinds, IsInForm, IsPricedKind, AreKinds, AreCalled, line_of, floor_behind, IsNextKind, BeginsWithKinds}
 use Rattle.std.proofs.Math.IntN.{zero-*ℤ, suc_ℤ-*ℤ}
 use Rattle.std.proofs.Math.Nat.{mul-le-mul_left}
 use Rattle.kd_card.proofs.KindPrices.{text_of_more_kinds}
@@ -37,13 +37,7 @@ good_at floor (first ∷ kinds) (suc i) inside is are = good_at (look_rank first
 -- ---- bounds
 
 pub low_look : (look : Look) → IsInForm look → look_rank look < 703
-low_look (Cable (None, other)) form = omega arith
-low_look (Cable (Some one, None)) form = omega (arith, form)
-low_look (Cable (Some one, Some other)) form = omega (arith, form.0, form.1)
-low_look (Pair None) form = omega arith
-low_look (Pair (Some (one, other))) form = omega (arith, form.0, form.1)
-low_look (Bar (left, right)) form = omega (arith, low_rank left, low_rank right)
-low_look (Row (one, other)) form = let order = form.ordered in let within = form.within in omega (arith, order, within)
+low_look look e = grind (arith, low_rank)
 
 pub low_floor : (floor : ℕ) (kinds : List PricedKind) → floor ≤ 703 → AreKinds floor kinds → floor_behind floor kinds ≤ 703
 low_floor floor [] low are = low
@@ -53,26 +47,18 @@ low_floor floor (kind ∷ kinds) low are =
 pub floor_bounds : (floor : ℕ) (kinds : List PricedKind) → AreKinds floor kinds
     → (counted kinds + 255 * floor ≤ 255 * floor_behind floor kinds) × (floor + length kinds ≤ floor_behind floor kinds)
 floor_bounds floor [] are = (omega arith, omega arith)
-floor_bounds floor (kind ∷ kinds) are =
-    let rest = floor_bounds (look_rank kind.look + 1) kinds are.2 in
-    (omega arith, omega arith)
+floor_bounds floor (kind ∷ kinds) are = grind (arith, floor_bounds (look_rank kind.look + 1) kinds are.2)
 
 -- ---- sums
 
 fold_of_copies : (sum : ℤ) (count : ℕ) (price : ℤ) → fold (λ sum price. sum +ℤ price) sum (replicate count price) ≡ (sum +ℤ (pos count *ℤ price))
 fold_of_copies sum zero price = let none = zero-*ℤ price in omega (arith, ints, none)
-fold_of_copies sum (suc count) price =
-    let more = suc_ℤ-*ℤ (pos count) price in let rest = fold_of_copies (sum +ℤ price) count price in omega (arith, ints, more, rest)
+fold_of_copies sum (suc count) price = grind (arith, suc_ℤ-*ℤ, fold_of_copies (sum +ℤ price) count price)
 
 pub more_sum : (sum : ℤ) (kinds : List PricedKind) (kind : PricedKind)
     → fold (λ sum price. sum +ℤ price) sum (prices_of_kinds (kinds ++ kind ∷ []))
     ≡ (fold (λ sum price. sum +ℤ price) sum (prices_of_kinds kinds) +ℤ (pos kind.count *ℤ kind.price))
-more_sum sum kinds kind =
-    let copies : List ℤ = replicate kind.count kind.price in
-    ap (fold (λ sum price. sum +ℤ price) sum)
-    (flat_map-append (λ (k : PricedKind). replicate k.count k.price) kinds (kind ∷ []) ∙ ap (λ xs. prices_of_kinds kinds ++ xs) (append-nil copies))
-    ∙ fold-append _ sum (prices_of_kinds kinds) copies
-    ∙ fold_of_copies (fold (λ sum price. sum +ℤ price) sum (prices_of_kinds kinds)) kind.count kind.price
+more_sum sum kinds kind = grind (arith, flat_map-append, append-nil, fold-append, fold_of_copies)
 
 -- ---- kinds, walked along
 
@@ -84,12 +70,7 @@ pub record Walked (kinds : List PricedKind) (floor total : ℕ) : Type 0 where
 
 walked_more : {kinds : List PricedKind} {floor total count rank : ℕ} {kind : PricedKind} → Walked kinds floor total → IsPricedKind kind → floor ≤ look_rank kind.look
     → rank ≡ look_rank kind.look → count ≡ kind.count → Walked (kinds ++ kind ∷ []) (rank + 1) (total + count)
-walked_more {kinds} {kind} walked good above ranked counts =
-    record {
-      in_order = more_kinds 0 kinds kind walked.in_order good (omega arith);
-      floor_is = ap (λ r. r + 1) ranked ∙ sym (more_floor 0 kinds kind);
-      total_is = omega (arith, counted-append kinds (kind ∷ []));
-    }
+walked_more {kinds} {kind} walked good above ranked counts = grind (arith, more_kinds, more_floor, counted-append)
 
 one_more : (kinds : List PricedKind) (i : ℕ) {kind : PricedKind} → i < length kinds → kind ≡ get_or kinds i kind
     → take (i + 1) kinds ≡ take i kinds ++ kind ∷ []
@@ -102,10 +83,7 @@ walks_on kinds i {total} {count} {rank} inside is walked may ranked counts =
     subst (λ ks. Walked ks (rank + 1) (total + count)) (sym (one_more kinds i inside is)) (walked_more walked may.0 may.1 ranked counts)
 
 pub walk_bounds : {kinds : List PricedKind} {floor total : ℕ} → Walked kinds floor total → (total ≤ 255 * floor) × (length kinds ≤ floor) × (floor ≤ 703)
-walk_bounds {kinds} walked =
-    let bounds = floor_bounds 0 kinds walked.in_order in
-    let low = low_floor 0 kinds (omega arith) walked.in_order in
-    (omega arith, omega arith, omega arith)
+walk_bounds {kinds} walked = grind (arith, floor_bounds, low_floor)
 
 -- the sum goes on by the price of all things of a kind
 abbrev pub SumsOn : ℤ → ℤ → ℤ → List PricedKind → ℕ → Type 0

@@ -1,5 +1,5 @@
 -- The prices of kinds, one for each thing.
-use Rattle.kd_card.proofs.Prelude.{◌≡◌, ℕ, ◌+◌, ◌<◌, ◌≤◌, List, [], ◌∷◌, length, replicate, refl, sym, ap, subst, ◌∙◌, length-append, arith, unsigned_abs, ◌++◌, map, Option, None, length-replicate, length-map, All-append, All-nil, All-replicate, PricedKind, PriceParts, Cables, Bars, CableKinds, BarKinds, ByKind, look_rank, counted, prices_of_kinds, AreKinds, look_name, kind_words, kinds_text, cable_kind, pair_kind, bar_kind, row_kind, AreCalled, version_of, how_many, row_kinds, column_kinds, row_prices, column_prices, AreWithinReach, ArePrices, flat_map-append, flat_map-map, Place, One, line_of, Look, Cable, Pair, Bar, Row, Name, Group, OfCables, OfBars, group_of, row_name, column_name, price_count, lines_text, price_lines, IsGroup, HaveKinds, with_line}
+use Rattle.kd_card.proofs.Prelude.{◌≡◌, ℕ, ◌+◌, ◌<◌, ◌≤◌, List, [], ◌∷◌, length, replicate, refl, sym, ap, subst, ◌∙◌, length-append, arith, unsigned_abs, ◌++◌, map, Option, None, length-replicate, length-map, All-append, All-nil, All-replicate, PricedKind, PriceParts, CableKinds, BarKinds, ByKind, look_rank, counted, prices_of_kinds, AreKinds, look_name, kind_words, kinds_text, cable_kind, pair_kind, bar_kind, row_kind, AreCalled, version_of, how_many, row_kinds, column_kinds, row_prices, column_prices, AreWithinReach, ArePrices, flat_map-append, flat_map-map, Place, One, line_of, Look, Cable, Pair, Bar, Row, Name, Group, group_of, row_name, column_name, price_count, lines_text, price_lines, IsGroup, HaveKinds, with_line, rules, common_steps}
 use Rattle.arrayvec.specs.ArrayVec.{ArrayVec}
 use Rattle.kd_card.proofs.Lines.{line_and_more}
 
@@ -13,8 +13,7 @@ length_of_kinds (kind ∷ kinds) =
 pub reach_of_kinds : (floor : ℕ) (kinds : List PricedKind) → AreKinds floor kinds → AreWithinReach (prices_of_kinds kinds)
 reach_of_kinds floor [] are = All-nil (λ price. unsigned_abs price ≤ 9999)
 reach_of_kinds floor (kind ∷ kinds) are =
-    All-append (λ price. unsigned_abs price ≤ 9999) (replicate kind.count kind.price) (prices_of_kinds kinds)
-    (All-replicate (λ price. unsigned_abs price ≤ 9999) kind.count kind.price are.0.reach) (reach_of_kinds (look_rank kind.look + 1) kinds are.2)
+    grind (arith, common_steps, All-append, All-replicate, reach_of_kinds (look_rank kind.look + 1) kinds are.2)
 
 -- each kind is of one thing at least
 pub few_kinds : (floor : ℕ) (kinds : List PricedKind) → AreKinds floor kinds → length kinds ≤ counted kinds
@@ -30,9 +29,7 @@ too_long priced kinds are count long =
 -- prices by kind that may stand on a card
 prices_of : (parts : PriceParts) → version_of parts ≡ ByKind
     → (row_prices parts ≡ prices_of_kinds (row_kinds parts)) × (column_prices parts ≡ prices_of_kinds (column_kinds parts))
-prices_of (CableKinds row col) by = (refl, refl)
-prices_of (BarKinds row col) by = (refl, refl)
-prices_of parts by = cc
+prices_of parts e = grind arith
 
 pub are_prices : (parts : PriceParts) (number : ℕ) → version_of parts ≡ ByKind → number ≡ how_many parts
     → AreKinds 0 (row_kinds parts) × (counted (row_kinds parts) ≡ number)
@@ -63,9 +60,7 @@ text_of_more_kinds kind kinds rest = line_and_more (line_of (kind_words kind)) (
 
 pub text_by_kind : (prices : PriceParts) → version_of prices ≡ ByKind
     → lines_text (price_lines prices) ≡ kinds_text (row_kinds prices) ++ kinds_text (column_kinds prices)
-text_by_kind (CableKinds row col) by = simp (flat_map-append, flat_map-map)
-text_by_kind (BarKinds row col) by = simp (flat_map-append, flat_map-map)
-text_by_kind prices by = cc
+text_by_kind prices e = grind (arith, flat_map-append, flat_map-map)
 
 -- ---- both groups are called as they should be, and of as many things
 
@@ -77,23 +72,13 @@ all_called priced name called (kind ∷ kinds) = (called kind, all_called priced
 
 group_of_kinds : {K : Type 0} {name : Name} (priced : K → PricedKind) (number : ℕ) (kinds : List K) → ((kind : K) → look_name (priced kind).look ≡ name)
     → AreKinds 0 (map priced kinds) → length (prices_of_kinds (map priced kinds)) ≡ number → IsGroup name number (map priced kinds)
-group_of_kinds {name} priced number kinds called are count = record {
-  called = all_called priced name called kinds;
-  in_order = are;
-  count = sym (length_of_kinds (map priced kinds)) ∙ count;
-}
+group_of_kinds {name} priced number kinds called are count = search (rules, all_called, priced, count, length_of_kinds)
 
 pub both_groups : (prices : PriceParts) → version_of prices ≡ ByKind → ArePrices prices
     → IsGroup (row_name (group_of prices)) (price_count (group_of prices)) (row_kinds prices)
     × IsGroup (column_name (group_of prices)) (price_count (group_of prices)) (column_kinds prices)
-both_groups (CableKinds row col) by are = (
-  group_of_kinds cable_kind 13 row.items (λ kind. refl) are.row_kinds are.rows,
-  group_of_kinds pair_kind 13 col.items (λ kind. refl) are.column_kinds are.columns,
-)
-both_groups (BarKinds row col) by are = (
-  group_of_kinds bar_kind 27 row.items (λ kind. refl) are.row_kinds are.rows,
-  group_of_kinds row_kind 27 col.items (λ kind. refl) are.column_kinds are.columns,
-)
+both_groups (CableKinds row col) by are = search (rules, group_of_kinds)
+both_groups (BarKinds row col) by are = search (rules, group_of_kinds)
 both_groups prices by are = cc
 
 -- ---- kinds tell the prices
@@ -137,11 +122,7 @@ of_two_groups group prices by many r c x y =
     (subst (AreKinds 0) (sym c) y.in_order, ap counted c ∙ y.count)
 
 pub size_of : (prices : PriceParts) → price_count (group_of prices) ≡ how_many prices
-size_of (Cables row col) = refl
-size_of (Bars row col) = refl
-size_of (CableKinds row col) = refl
-size_of (BarKinds row col) = refl
+size_of prices = grind arith
 
 pub few_prices_of : (group : Group) → price_count group ≤ 27
-few_prices_of OfCables = omega arith
-few_prices_of OfBars = omega arith
+few_prices_of group = grind arith

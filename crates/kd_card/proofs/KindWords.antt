@@ -1,5 +1,5 @@
 -- The words of kinds' lines, and the looks that they tell.
-use Rattle.kd_card.proofs.Prelude.{ltb, codes, ◌≡◌, ◌≢◌, ℕ, ◌+◌, ◌<◌, true, List, [], ◌∷◌, ◌++◌, length, get_or, drop, subst, ℤ, Option, Some, None, refl, sym, ap, ◌∙◌, append_assoc, length-append, arith, map, decimal, Bor, All, find, list_all, bytes_eq, decimal_injective, signed_decimal_injective, All-append, All-weaker, All-from_recursion, Place, One, place_text, place_rank, places, standing_text, IsWord, IsWithout, NumbersAreWords, TextsTellFirstParts, words_of, IsFirstPart, Look, Cable, Pair, Bar, Row, Name, PricedKind, look_name, name_text, look_text, look_rank, ends_rank, pair_rank, kind_words, AreEnds, IsPairInOrder, IsInForm, IsPricedKind, kinds_text, HasLook, HasKindWords, RanksTellLooks, signed_decimal, append-nil, HasWords, BeginsWithWord, EndsGroup, AtNothing, AtOther, IsNextKind, HasNoNext}
+use Rattle.kd_card.proofs.Prelude.{ltb, codes, ◌≡◌, ◌≢◌, ℕ, ◌+◌, ◌<◌, true, List, [], ◌∷◌, ◌++◌, length, get_or, drop, subst, ℤ, Option, Some, None, refl, sym, ap, ◌∙◌, append_assoc, length-append, arith, map, decimal, Bor, All, find, list_all, bytes_eq, decimal_injective, signed_decimal_injective, All-append, All-weaker, All-from_recursion, Place, One, place_text, place_rank, places, standing_text, IsWord, IsWithout, NumbersAreWords, TextsTellFirstParts, words_of, IsFirstPart, Look, Cable, Pair, Bar, Name, PricedKind, look_name, name_text, look_text, look_rank, ends_rank, pair_rank, kind_words, AreEnds, IsPairInOrder, IsInForm, IsPricedKind, kinds_text, HasLook, HasKindWords, RanksTellLooks, signed_decimal, append-nil, HasWords, BeginsWithWord, EndsGroup, AtNothing, AtOther, IsNextKind, HasNoNext, common_steps}
 use Rattle.std.specs.Option.{unwrap_or}
 use Rattle.kd_card.specs.declared.look.Name.TheVariants as names
 use Rattle.kd_card.proofs.Lines.{bytes_above, same_words, some_bytes, no_first_part}
@@ -10,11 +10,7 @@ use Rattle.kd_card.specs.Reading.{IsFirstWord, EndsAt, IsBadAt}
 -- ---- names and places by their texts
 
 pub same_name : (n m : Name) → name_text n ≡ name_text m → n ≡ m
-same_name names.Cable names.Cable e = refl
-same_name names.Pair names.Pair e = refl
-same_name names.Bar names.Bar e = refl
-same_name names.Row names.Row e = refl
-same_name n m e = absurd (omega (arith, ap (λ t. get_or t 0 0) e))
+same_name n m e = grind arith
 
 place_back : List ℕ → Place
 place_back text = unwrap_or (find (λ p. bytes_eq (place_text p) text) places) One
@@ -25,8 +21,7 @@ rank_back rank = get_or places rank One
 -- a place is told by its text and by its rank, of which there are 8, and no byte of the text is - or comes before it
 about_place : (p : Place) → (place_back (place_text p) ≡ p) × (rank_back (place_rank p) ≡ p) × (place_rank p < 8) × (list_all (ltb 45) (place_text p) ≡ true)
 unfolding place_back rank_back
-about_place One = (refl, refl, omega arith, refl)
-about_place p = (refl, refl, omega arith, refl)
+about_place p = grind arith
 
 same_place : (p q : Place) → place_text p ≡ place_text q → p ≡ q
 same_place p q e = sym (about_place p).0 ∙ ap place_back e ∙ (about_place q).0
@@ -43,8 +38,7 @@ place_above p = bytes_above 45 (place_text p) (about_place p).3
 -- ---- words
 
 name_is_word : (n : Name) → IsWord (name_text n)
-name_is_word names.Cable = word_by_test _ _ refl
-name_is_word n = word_by_test _ _ refl
+name_is_word n = grind (arith, word_by_test)
 
 standing_above : (left right : Place) → All (λ b. 32 < b) (standing_text (left, right))
 standing_above left right =
@@ -54,14 +48,7 @@ standing_above left right =
     (All-append (λ b. 32 < b) (place_text left) (codes "-") (near left) (All-from_recursion (λ b. 32 < b) (codes "-") (omega arith, tt))) (near right)
 
 look_is_word : (look : Look) → IsWord (look_text look)
-look_is_word (Cable (None, None)) = bytes_are_word _ _ (omega arith, tt)
-look_is_word (Cable (Some one, Some other)) = bytes_are_word _ _ (omega arith, (omega arith, tt))
-look_is_word (Cable ends) = bytes_are_word _ _ (omega arith, tt)
-look_is_word (Pair None) = bytes_are_word _ _ (omega arith, tt)
-look_is_word (Pair (Some pair)) = bytes_are_word _ _ (omega arith, (omega arith, tt))
-look_is_word (Bar (left, right)) =
-    word_by_bytes (standing_text (left, right)) (λ none. omega (arith, ap length none, length-append {A = ℕ})) (standing_above left right)
-look_is_word (Row numbers) = bytes_are_word _ _ (omega arith, (omega arith, (omega arith, tt)))
+look_is_word look = grind (arith, bytes_are_word, word_by_bytes, length-append, standing_above)
 
 pub kind_is_words : NumbersAreWords → (kind : PricedKind) → IsPricedKind kind → All IsWord (kind_words kind)
 kind_is_words numbers kind good =
@@ -74,19 +61,10 @@ alike : {A B : Type 0} (make : A → B → Look) {a c : A} {b d : B} → a ≡ c
 alike make one other = cc
 
 same_ends : (a b c d : Option ℕ) → AreEnds a b → AreEnds c d → look_text (Cable (a, b)) ≡ look_text (Cable (c, d)) → Cable (a, b) ≡ Cable (c, d)
-same_ends None None None None x y e = refl
-same_ends (Some a) None (Some c) None x y e = let same : a ≡ c = omega (arith, ap (λ t. get_or t 0 0) e) in cc
-same_ends (Some a) (Some b) (Some c) (Some d) x y e =
-    alike (λ m n. Cable (Some m, Some n)) (omega (arith, ap (λ t. get_or t 0 0) e)) (omega (arith, ap (λ t. get_or t 1 0) e))
-same_ends None (Some b) c d x y e = absurd x
-same_ends a b None (Some d) x y e = absurd y
-same_ends a b c d x y e = absurd (omega (arith, ap length e, ap (λ t. get_or t 0 0) e))
+same_ends a b c d e g h = grind (arith, alike)
 
 same_pair : (a b : Option (ℕ × ℕ)) → look_text (Pair a) ≡ look_text (Pair b) → Pair a ≡ Pair b
-same_pair None None e = refl
-same_pair (Some (a, b)) (Some (c, d)) e =
-    alike (λ m n. Pair (Some (m, n))) (omega (arith, ap (λ t. get_or t 0 0) e)) (omega (arith, ap (λ t. get_or t 1 0) e))
-same_pair a b e = absurd (omega (arith, ap length e))
+same_pair a b e = grind (arith, alike)
 
 place_without : (p : Place) → IsWithout 45 (place_text p)
 place_without p = All-weaker (λ b. 45 < b) (λ b. b ≢ 45) (λ b above same. omega (arith, above, same)) (place_text p) (place_above p)
@@ -100,12 +78,7 @@ same_standing tells a b c d e =
 
 pub same_look : TextsTellFirstParts → (look other : Look) → look_name look ≡ look_name other → IsInForm look → IsInForm other
     → look_text look ≡ look_text other → look ≡ other
-same_look tells (Cable (a, b)) (Cable (c, d)) named x y e = same_ends a b c d x y e
-same_look tells (Pair a) (Pair b) named x y e = same_pair a b e
-same_look tells (Bar (a, b)) (Bar (c, d)) named x y e = same_standing tells a b c d e
-same_look tells (Row (a, b)) (Row (c, d)) named x y e =
-    alike (λ m n. Row (m, n)) (omega (arith, ap (λ t. get_or t 0 0) e)) (omega (arith, ap (λ t. get_or t 2 0) e))
-same_look tells look other named x y e = cc
+same_look e look other d g h o = grind (arith, common_steps, same_ends, same_pair, same_standing, alike)
 
 pub same_kind : TextsTellFirstParts → (kind other : PricedKind) → IsPricedKind kind → IsPricedKind other → kind_words kind ≡ kind_words other → kind ≡ other
 same_kind tells kind other a b e =
@@ -121,27 +94,13 @@ same_kind tells kind other a b e =
 -- ---- looks by their ranks
 
 ranked_ends : (a b c d : Option ℕ) → AreEnds a b → AreEnds c d → ends_rank a b ≡ ends_rank c d → Cable (a, b) ≡ Cable (c, d)
-ranked_ends None None None None x y e = refl
-ranked_ends None None (Some c) (Some d) x y e = absurd (omega arith)
-ranked_ends (Some a) None (Some c) None x y e = let same : a ≡ c = omega arith in cc
-ranked_ends (Some a) (Some b) (Some c) (Some d) x y e = alike (λ m n. Cable (Some m, Some n)) (omega arith) (omega arith)
-ranked_ends None (Some b) c d x y e = absurd x
-ranked_ends a b None (Some d) x y e = absurd y
-ranked_ends a b c d x y e = absurd (omega arith)
+ranked_ends a b c d e g h = grind (arith, alike)
 
 ranked_pair : (a b : Option (ℕ × ℕ)) → IsPairInOrder a → IsPairInOrder b → pair_rank a ≡ pair_rank b → Pair a ≡ Pair b
-ranked_pair None None x y e = refl
-ranked_pair (Some (a, b)) (Some (c, d)) x y e = alike (λ m n. Pair (Some (m, n))) (omega arith) (omega arith)
-ranked_pair a b x y e = absurd (omega arith)
+ranked_pair a b e d g = grind (arith, alike)
 
 pub ranks_tell_looks : RanksTellLooks
-ranks_tell_looks (Cable (a, b)) (Cable (c, d)) named x y e = ranked_ends a b c d x y e
-ranks_tell_looks (Pair a) (Pair b) named x y e = ranked_pair a b x y e
-ranks_tell_looks (Bar (a, b)) (Bar (c, d)) named x y e =
-    alike (λ m n. Bar (m, n)) (same_rank a c (omega (arith, low_rank b, low_rank d))) (same_rank b d (omega (arith, low_rank b, low_rank d)))
-ranks_tell_looks (Row (a, b)) (Row (c, d)) named x y e =
-    alike (λ m n. Row (m, n)) (omega arith) (omega arith)
-ranks_tell_looks look other named x y e = cc
+ranks_tell_looks = grind (arith, ranked_ends, ranked_pair, alike, same_rank, low_rank)
 
 -- ---- a line of a group, read
 
@@ -168,8 +127,7 @@ module _ (tells : TextsTellFirstParts) where
   }
 
   pub end_has_no_next : {name : Name} {bytes : List ℕ} (floor : ℕ) → EndsGroup name bytes → HasNoNext name floor bytes
-  end_has_no_next floor (AtNothing none) kind rest next = some_bytes next.line none
-  end_has_no_next floor (AtOther word begins differs) kind rest next = differs (one_word begins (kind_begins next))
+  end_has_no_next floor e = grind (arith, common_steps, some_bytes, one_word, begins, kind_begins)
 
   pub ends_at : {name : Name} {bytes : List ℕ} (floor : ℕ) → EndsGroup name bytes → EndsAt name floor bytes
   ends_at floor ends = record { ends = ends; none_more = end_has_no_next floor ends }
@@ -187,13 +145,7 @@ module _ (tells : TextsTellFirstParts) where
   -- or a line of that name that isn't a kind's
   pub no_kind : {name : Name} {bytes : List ℕ} (floor : ℕ) → BeginsWithWord (name_text name) bytes → HasNoNext name floor bytes
       → IsBadAt name floor bytes
-  no_kind floor named none = record {
-    goes_on = λ ends. elim ends [
-      | AtNothing nil ↦ some_bytes named.has nil
-      | AtOther word begins differs ↦ differs (one_word begins named)
-    ];
-    none_more = none;
-  }
+  no_kind floor named none = grind (arith, common_steps, some_bytes, one_word)
 
 module _ (tells : TextsTellFirstParts) {name : Name} {text words rest : List ℕ} (ends : IsFirstPart 10 text words rest) where
   pub words_are : {floor : ℕ} {kind : PricedKind} {more : List ℕ} → IsNextKind name floor text kind more → HasKindWords name (words_of words) kind
@@ -214,8 +166,7 @@ module _ (tells : TextsTellFirstParts) {name : Name} {text words rest : List ℕ
 pub four_words : (name : Name) (line : List ℕ) (items : List (Bor (List ℕ))) (a b d : Bor (List ℕ)) → map (λ (word : Bor (List ℕ)). word.now) items ≡ words_of line
     → IsFirstWord line (name_text name) → length items ≡ 4
     → name_text name ∷ (get_or items 1 a).now ∷ (get_or items 2 b).now ∷ (get_or items 3 d).now ∷ [] ≡ words_of line
-four_words name line (w ∷ x ∷ y ∷ z ∷ []) a b d are first four = let is = first.words in cc
-four_words name line items a b d are first four = absurd (omega arith)
+four_words name line items a b d e g h = grind (arith, common_steps)
 
 -- ---- two bytes that aren't letters in order
 

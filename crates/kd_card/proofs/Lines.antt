@@ -1,5 +1,5 @@
 -- Lines of words, as they are written and as they are split.
-use Rattle.kd_card.proofs.Prelude.{◌≡◌, ◌≢◌, ℕ, ◌<◌, true, false, eqb, ltb, List, [], ◌∷◌, ◌++◌, length, map, get_or, take, drop, refl, sym, ap, subst, ◌∙◌, append_assoc, length-append, arith, ℤ, All, list_all, flat_map, signed_decimal, take-append_seam, pointwise, ne_eqb, ltb-true, append-nil, append_cancel_left, get_or_at, take-append-drop, flat_map-append, AllPass-from_list_all, All-weaker, All-append, All-push, flat_map-map, Setting, words_of, line_of, IsWord, IsWithout, IsFirstPart, TextsTellFirstParts, LinesSplitIntoWords, WordsMakeOneLine, NumbersAreWords, setting_words, setting_line, list_text, IsInRange, BeginsWith, BeginsWithLine, PriceParts, Version, version_of, price_sum, head_words, settings_words, price_words, sum_words, lines_text, price_lines, card_text, with_line, HasWords}
+use Rattle.kd_card.proofs.Prelude.{◌≡◌, ◌≢◌, ℕ, ◌<◌, true, false, eqb, ltb, List, [], ◌∷◌, ◌++◌, length, take, drop, refl, sym, ap, ◌∙◌, append_assoc, length-append, arith, ℤ, All, list_all, flat_map, signed_decimal, take-append_seam, pointwise, ne_eqb, ltb-true, append-nil, append_cancel_left, get_or_at, take-append-drop, flat_map-append, AllPass-from_list_all, All-weaker, All-append, All-push, flat_map-map, Setting, words_of, line_of, IsWord, IsWithout, IsFirstPart, TextsTellFirstParts, LinesSplitIntoWords, WordsMakeOneLine, NumbersAreWords, setting_line, list_text, IsInRange, BeginsWith, BeginsWithLine, PriceParts, Version, version_of, price_sum, head_words, settings_words, price_words, sum_words, lines_text, price_lines, card_text, with_line, HasWords, rules, common_steps}
 use Rattle.std.specs.Cmp.Lexicographic.{same_text, other_text}
 use Rattle.std.proofs.lemmas.List.Splits.{slice_split_none, slice_split_at, join_with_byte-slice_split}
 
@@ -30,10 +30,7 @@ pub card_and_more : (day : ℕ) (xs : List Setting) (prices : PriceParts) (rest 
     → card_text day xs prices ++ rest
     ≡ with_line (head_words (version_of prices) day) (list_text xs ++ with_line (settings_words (length xs))
     (lines_text (price_lines prices) ++ with_line (sum_words (price_sum prices)) rest))
-card_and_more day xs prices rest =
-    all_lines (head_words (version_of prices) day) (settings_words (length xs)) (sum_words (price_sum prices)) (map setting_words xs) (price_lines prices) rest
-    ∙ ap (λ t. with_line (head_words (version_of prices) day) (t ++ with_line (settings_words (length xs))
-    (lines_text (price_lines prices) ++ with_line (sum_words (price_sum prices)) rest))) (flat_map-map (λ words. line_of words ++ 10 ∷ []) setting_words xs)
+card_and_more day xs prices rest = grind (arith, common_steps, all_lines, flat_map-map)
 
 nested : (head list count prices sum : List ℕ)
     → (((([] ++ (head ++ 10 ∷ [])) ++ list) ++ (count ++ 10 ∷ [])) ++ prices) ++ (sum ++ 10 ∷ [])
@@ -75,8 +72,7 @@ one_more_line {xs} {x} b l = record {
 
 pub no_first_part : {byte : ℕ} {text part rest : List ℕ} → IsFirstPart byte text part rest → ¬ (IsWithout byte text)
 no_first_part {byte} {text} {part} {rest} first without =
-    without (length part) 0 (omega (arith, length-append part (byte ∷ rest), ap length first.joined))
-    (ap (λ t. get_or t (length part) 0) first.joined ∙ get_or_at part byte rest 0 (length part) refl)
+    grind (arith, without, length-append part (byte ∷ rest), get_or_at part byte rest 0 (length part) refl)
 
 pub same_first_part : TextsTellFirstParts → {byte : ℕ} {text part other rest more : List ℕ} → IsFirstPart byte text part rest → IsFirstPart byte text other more
     → (part ≡ other) × (rest ≡ more)
@@ -124,8 +120,7 @@ pub words_of_last : (rest : List ℕ) → IsWithout 32 rest → words_of rest �
 words_of_last rest without = slice_split_none (λ b. eqb b 32) rest (spaceless rest without)
 
 pub words_of_first : {text word rest : List ℕ} → IsFirstPart 32 text word rest → words_of text ≡ word ∷ words_of rest
-words_of_first {text} {word} {rest} first =
-    ap words_of first.joined ∙ slice_split_at (λ b. eqb b 32) word 32 rest (spaceless word first.without) refl
+words_of_first {text} {word} {rest} first = grind (arith, slice_split_at, spaceless)
 
 pub is_line : {bytes : List ℕ} {words : List (List ℕ)} {rest : List ℕ} → HasWords bytes words rest
     → bytes ≡ with_line words rest
@@ -137,8 +132,7 @@ some_bytes {rest} has none = omega (arith, ap length (sym has.first.joined ∙ n
 
 pub same_words : TextsTellFirstParts → {bytes rest more : List ℕ} {words others : List (List ℕ)} → HasWords bytes words rest
     → HasWords bytes others more → (words ≡ others) × (rest ≡ more)
-same_words tells a b =
-    let parts = same_first_part tells a.first b.first in (sym a.parts ∙ ap words_of parts.0 ∙ b.parts, parts.1)
+same_words tells a b = grind (arith, same_first_part)
 
 -- what the laws of kd_state say of lines
 pub record Laws : Type 0 where
@@ -150,11 +144,7 @@ pub record Laws : Type 0 where
 module _ (laws : Laws) where
   pub line_has_words : {bytes : List ℕ} (words : List (List ℕ)) (rest : List ℕ) → words ≢ [] → All IsWord words → bytes ≡ with_line words rest
       → HasWords bytes words rest
-  line_has_words words rest some are e = record {
-    line = line_of words;
-    first = record { joined = e; without = laws.one_line words are };
-    parts = laws.split words some are;
-  }
+  line_has_words words rest some are e = grind arith
 
 -- ---- a line that begins with a name
 
@@ -165,7 +155,4 @@ not_begun tells name first differs value more other =
 
 pub begun : {text line rest : List ℕ} (name value : List ℕ) → IsFirstPart 10 text line rest → pointwise eqb (take (length name) line) name ≡ true
     → value ≡ drop (length name) line → IsFirstPart 10 text (name ++ value) rest
-begun {text} {line} {rest} name value first same is =
-    let front : take (length name) line ≡ name = same_text (take (length name) line) name (sym same) in
-    let whole : line ≡ name ++ value = sym (take-append-drop (length name) line) ∙ ap (λ t. t ++ drop (length name) line) front ∙ ap (λ t. name ++ t) (sym is) in
-    subst (λ l. IsFirstPart 10 text l rest) whole first
+begun {text} {line} {rest} name value first same is = search (rules, same_text, take-append-drop)

@@ -1,5 +1,5 @@
 -- A setting that changes no cable and no bar puts at most one loose thing right; the others leave what is loose.
-use Rattle.kd_card.proofs.Prelude.{◌≡◌, ◌≢◌, ℕ, zero, suc, ◌+◌, ◌-◌, ◌≤◌, nat_eq, Bool, true, false, not, cond, List, [], ◌∷◌, get_or, set, map, zip, sum, count_by, AllPairs, Option, Some, None, slice_get, unwrap_or, inl, inr, refl, sym, ap, ◌∙◌, subst, arith, AllByRecursion, sum_by, option_map_or, bytes_eq, cases_eq, eq-eqb, false≢true, recursion_from_All, map-id, sum-map, sum_by-cons, unwrap_or-slice_get, bytes_eq-Decides, Model, wheel_text, reflector_text, RotorParts, PinParts, Parts, Rotor, Pin, Setting, Pull, Put, Seat, SeatReflector, RingTo, Turn, PinTo, LugTo, same_wheel, same_reflector, place_in_box, model_of, ring_at, letter_at, why_refused, seated_in, without, with_letter, changed, RotorDay, PinDay, Day, OfRotors, OfPins, IsLegalDay, day_model, ReadsAs, DaysWheelsHaveTheirPlaces, differ, unless_same, loose_slots, loose_reflector, loose_rings, loose_letters, loose_pins, loose_pin_letters, loose_count, is_priced}
+use Rattle.kd_card.proofs.Prelude.{◌≡◌, ◌≢◌, ℕ, zero, suc, ◌+◌, ◌-◌, ◌≤◌, nat_eq, Bool, true, false, not, cond, List, [], ◌∷◌, get_or, set, map, zip, sum, count_by, AllPairs, Option, Some, None, slice_get, unwrap_or, inl, inr, refl, sym, ap, ◌∙◌, subst, arith, AllByRecursion, sum_by, option_map_or, bytes_eq, cases_eq, eq-eqb, recursion_from_All, map-id, sum-map, sum_by-cons, unwrap_or-slice_get, bytes_eq-Decides, Model, wheel_text, reflector_text, RotorParts, PinParts, Parts, Rotor, Pin, Setting, Seat, SeatReflector, RingTo, Turn, PinTo, same_wheel, same_reflector, place_in_box, model_of, ring_at, letter_at, why_refused, seated_in, without, with_letter, changed, RotorDay, PinDay, Day, OfRotors, OfPins, IsLegalDay, day_model, ReadsAs, DaysWheelsHaveTheirPlaces, differ, unless_same, loose_slots, loose_reflector, loose_rings, loose_letters, loose_pins, loose_pin_letters, loose_count, is_priced, common_steps}
 use Rattle.kd_tables.specs.declared.wheel.Wheel.{Wheel}
 use Rattle.kd_tables.specs.Rings.{ring_of, place_on}
 use Rattle.kd_pins.specs.declared.pin_set.PinSet.{PinSet}
@@ -37,8 +37,7 @@ module _ {X : Type 0} (place target : X → ℕ) where
   other_places : (letters : List ℕ) (p l : ℕ) (xs : List X) → AllByRecursion (λ y. place y ≢ p) xs → count_by (wrong (set letters p l)) xs ≡ count_by (wrong letters) xs
   other_places letters p l [] h = refl
   other_places letters p l (x ∷ xs) h =
-      let head = ap (λ b. cond {A = ℕ} b 1 0) (same_elsewhere letters p l x h.0) in
-      omega (arith, count_by-cons (wrong (set letters p l)) x xs, count_by-cons (wrong letters) x xs, other_places letters p l xs h.1)
+      grind (arith, common_steps, same_elsewhere, count_by-cons, other_places letters p l xs h.1)
 
   set_lowers : (letters : List ℕ) (p l : ℕ) (xs : List X) → AllPairs (λ x y. place x ≢ place y) xs → count_by (wrong letters) xs ≤ count_by (wrong (set letters p l)) xs + 1
   set_lowers letters p l [] h = omega arith
@@ -60,22 +59,13 @@ abbrev wrong_slot : Option Wheel × SheetWheel → Bool
 wrong_slot slot = not (option_map_or (same_wheel slot.1.wheel) slot.0 false)
 
 empty_wrong : (seated : Option Wheel) (wheel : Wheel) (wanted : SheetWheel) → cond {A = ℕ} (wrong_slot (seated, wanted)) 1 0 ≤ cond {A = ℕ} (wrong_slot (without wheel seated, wanted)) 1 0
-empty_wrong None wheel wanted = omega arith
-empty_wrong (Some other) wheel wanted =
-    elim (same_wheel wheel other) as (λ b. cond {A = ℕ} (wrong_slot (Some other, wanted)) 1 0 ≤ cond {A = ℕ} (wrong_slot (cond b None (Some other), wanted)) 1 0)
-    [ true ↦ at_most_one (not (same_wheel wanted.wheel other)) | false ↦ omega arith ]
+empty_wrong seated wheel wanted = grind (arith, at_most_one)
 
 without_raises : (wheel : Wheel) (slots : List (Option Wheel)) (wheels : List SheetWheel) → count_by wrong_slot (zip slots wheels) ≤ count_by wrong_slot (zip (map (without wheel) slots) wheels)
 without_raises wheel [] wheels = omega arith
 without_raises wheel (now ∷ slots) [] = omega arith
 without_raises wheel (now ∷ slots) (wanted ∷ wheels) =
-    omega (
-      arith,
-      count_by-cons wrong_slot (now, wanted) (zip slots wheels),
-      count_by-cons wrong_slot (without wheel now, wanted) (zip (map (without wheel) slots) wheels),
-      empty_wrong now wheel wanted,
-      without_raises wheel slots wheels,
-    )
+    grind (arith, common_steps, count_by-cons, empty_wrong, without_raises wheel slots wheels)
 
 -- no two of these wheels have one place in the box
 abbrev HaveTheirPlaces : Model → List SheetWheel → Type 0
@@ -113,8 +103,7 @@ wheel_set_lowers xss yss i p effective =
     )
 
 pins_of-set : (pins : PinSet) (i : ℕ) (new : List Bool) → pins_of (pin_set (set (pins_of pins) i new)) ≡ set (pins_of pins) i new
-pins_of-set pins (suc (suc (suc (suc (suc zero))))) new = refl
-pins_of-set pins i new = refl
+pins_of-set pins i new = grind arith
 
 pin_lowers : (m : PinParts) (s : PinDay) (wheel letter : ℕ) (effective : Bool) → why_refused (Pin m) (PinTo wheel letter effective) ≡ None
     → loose_pins m s ≤ loose_pins (record m { pins = with_pin m.pins wheel letter effective }) s + 1
@@ -129,10 +118,7 @@ pin_lowers m s (suc wheel) letter effective e =
     subst (λ pins. loose_pins m s ≤ sum (map differing (zip pins (pins_of s.pins))) + 1) (sym all) (wheel_set_lowers (pins_of m.pins) (pins_of s.pins) wheel place effective)
 
 pin_machine_lowers : (m : PinParts) (s : PinDay) (x : Setting) → why_refused (Pin m) x ≡ None → loose_count (Pin m) (OfPins s) ≤ loose_count (changed (Pin m) x) (OfPins s) + cond (is_priced x) 0 1
-pin_machine_lowers m s (Turn wheel letter) e =
-    omega (arith, zip_set_lowers (λ (letter : ℕ × ℕ). not (nat_eq letter.0 letter.1)) m.letters s.window (wheel - 1) letter)
-pin_machine_lowers m s (PinTo wheel letter effective) e = omega (arith, pin_lowers m s wheel letter effective e)
-pin_machine_lowers m s x e = omega arith
+pin_machine_lowers m s x e = grind (arith, zip_set_lowers, pin_lowers)
 
 -- whatever the setting and the machine
 pub lowers : DaysWheelsHaveTheirPlaces → (m : Parts) (s : Day) (x : Setting) → IsLegalDay s → model_of m ≡ day_model s → why_refused m x ≡ None → loose_count m s ≤ loose_count (changed m x) s + cond (is_priced x) 0 1
@@ -142,21 +128,10 @@ lowers places m s x h same e = omega arith
 
 -- no setting makes another model of a machine, and those of cables and bars leave what is loose
 pub model_of-changed : (m : Parts) (x : Setting) → model_of (changed m x) ≡ model_of m
-model_of-changed (Rotor m) (Pull cable letter) = refl
-model_of-changed (Pin m) (Pull cable letter) = refl
-model_of-changed m x = refl
+model_of-changed m x = grind arith
 
 pub leaves : (m : Parts) (s : Day) (x : Setting) → is_priced x ≡ true → loose_count (changed m x) s ≡ loose_count m s
-leaves (Rotor m) (OfRotors s) (Pull cable letter) e = refl
-leaves (Rotor m) (OfRotors s) (Put cable letter) e = refl
-leaves (Rotor m) (OfPins s) (Pull cable letter) e = refl
-leaves (Rotor m) (OfPins s) (Put cable letter) e = refl
-leaves (Rotor m) s (LugTo bar lug place) e = refl
-leaves (Pin m) s (Pull cable letter) e = refl
-leaves (Pin m) s (Put cable letter) e = refl
-leaves (Pin m) (OfRotors s) (LugTo bar lug place) e = refl
-leaves (Pin m) (OfPins s) (LugTo bar lug place) e = refl
-leaves m s x e = absurd (false≢true e)
+leaves m s x e = grind arith
 
 -- a machine that reads as the day has nothing loose
 itself : (name : List ℕ) → bytes_eq name name ≡ true
@@ -200,6 +175,4 @@ pin_not_loose n s h =
     omega (arith, pins, letters)
 
 pub nothing_loose : (n : Parts) (s : Day) → ReadsAs n s → loose_count n s ≡ 0
-nothing_loose (Rotor n) (OfRotors s) h = rotor_not_loose n s h
-nothing_loose (Pin n) (OfPins s) h = pin_not_loose n s h
-nothing_loose n s h = refl
+nothing_loose n s e = grind (arith, rotor_not_loose, pin_not_loose)

@@ -1,6 +1,5 @@
 -- Bytes are one card, or have one fault.
-use Rattle.kd_card.proofs.Prelude.{Bool, true, false, codes, ◌≡◌, ◌≢◌, ℕ, ◌+◌, ◌*◌, ◌^◌, ◌<◌, ◌≤◌, List, [], ◌∷◌, ◌++◌, length, map, get_or, Result, Ok, Err, refl, sym, ap, subst, ◌∙◌, arith, ℤ, unsigned_abs, append_assoc, AllByRecursion, signed_decimal, decimal_injective, signed_decimal_injective, append-nil, All-from_recursion, recursion_from_All, Setting, Pull, IsWord, setting_words, setting_line, list_text, IsInRange, BeginsWith, BeginsWithNoLine, SettingsHaveWords, LinesTellSettings, PriceParts, Cables, Bars, CableKinds, BarKinds, Version, ByNumber, ByKind, Group, OfCables, OfBars, Name, PricedKind, Trailing, Then, Refused, Found, Only, Demands, look_rank, name_text, kind_words, kinds_text, AreKinds, AreCalled, version_of, row_kinds, column_kinds, price_sum, AreWithinReach, ArePrices, group_of, row_word, column_word, row_name, column_name, price_count, version_text, head_words, settings_words, price_words, sum_words, lines_text, price_lines, card_text, IsGroup, IsCard, with_line, HasWords, SaysValue, SaysFirst, BeginsWithHead, BeginsWithSettings, SaysSettings, SaysPriceLine, SaysNumbered, BeginsWithWord, EndsGroup, AtOther, IsNextKind, HasNoNext, floor_behind, SaysGroup, SaysKinded, SaysAllPrices, SaysBehind, SaysCard, TextsTellCards, NoCardBeginsAnother, CardsHaveNoFault, OneCardFault}
-use Rattle.kd_card.specs.declared.look.Name.TheVariants as names
+use Rattle.kd_card.proofs.Prelude.{Bool, true, false, codes, ◌≡◌, ◌≢◌, ℕ, ◌+◌, ◌*◌, ◌^◌, ◌<◌, ◌≤◌, List, [], ◌∷◌, ◌++◌, length, map, get_or, Result, Ok, Err, refl, sym, ap, subst, ◌∙◌, arith, ℤ, unsigned_abs, append_assoc, AllByRecursion, signed_decimal, decimal_injective, signed_decimal_injective, append-nil, All-from_recursion, recursion_from_All, Setting, IsWord, setting_words, setting_line, list_text, IsInRange, BeginsWith, BeginsWithNoLine, SettingsHaveWords, LinesTellSettings, PriceParts, Cables, Bars, CableKinds, BarKinds, Version, ByNumber, ByKind, Group, OfCables, OfBars, Name, PricedKind, Trailing, Then, Refused, Found, Only, Demands, look_rank, name_text, kind_words, kinds_text, AreKinds, AreCalled, version_of, row_kinds, column_kinds, price_sum, AreWithinReach, ArePrices, group_of, row_word, column_word, row_name, column_name, price_count, version_text, head_words, settings_words, price_words, sum_words, lines_text, price_lines, card_text, IsGroup, IsCard, with_line, HasWords, SaysValue, SaysFirst, BeginsWithHead, BeginsWithSettings, SaysSettings, SaysPriceLine, SaysNumbered, BeginsWithWord, EndsGroup, AtOther, IsNextKind, HasNoNext, floor_behind, SaysGroup, SaysKinded, SaysAllPrices, SaysBehind, SaysCard, TextsTellCards, NoCardBeginsAnother, CardsHaveNoFault, OneCardFault, common_steps}
 use Rattle.kd_card.specs.declared.fault.CardFault.{CardFault}
 use Rattle.kd_card.specs.CardFault.{numbered}
 use Rattle.kd_card.specs.Laws.{CardsAreSaid}
@@ -16,20 +15,8 @@ use Rattle.kd_card.proofs.KindPrices.{text_of_more_kinds, text_by_kind, both_gro
 same_pair : {A B : Type 0} (x y : A × B) → x.0 ≡ y.0 → x.1 ≡ y.1 → x ≡ y
 same_pair (a, b) (c, d) e f = cc
 
-same_row_word : (group other : Group) → row_word group ≡ row_word other → group ≡ other
-same_row_word OfCables OfCables e = refl
-same_row_word OfBars OfBars e = refl
-same_row_word group other e = absurd (omega (arith, ap (λ t. get_or t 0 0) e))
-
-same_row_name : (group other : Group) → name_text (row_name group) ≡ name_text (row_name other) → group ≡ other
-same_row_name OfCables OfCables e = refl
-same_row_name OfBars OfBars e = refl
-same_row_name group other e = absurd (omega (arith, ap (λ t. get_or t 0 0) e))
-
 same_version : (version other : Version) → version_text version ≡ version_text other → version ≡ other
-same_version ByNumber ByNumber e = refl
-same_version ByKind ByKind e = refl
-same_version version other e = absurd (omega (arith, ap (λ t. get_or t 0 0) e))
+same_version version other e = grind arith
 
 same_prices : (ps qs : List ℤ) → AllByRecursion (λ p. unsigned_abs p ≤ 9999) ps
     → AllByRecursion (λ p. unsigned_abs p ≤ 9999) qs → map signed_decimal ps ≡ map signed_decimal qs → ps ≡ qs
@@ -41,25 +28,15 @@ same_prices (p ∷ ps) (q ∷ qs) a b e =
     cc
 same_prices ps qs a b e = absurd (omega (arith, ap length e))
 
-other_name : (group : Group) → name_text (column_name group) ≢ name_text (row_name group)
-other_name OfCables e = omega (arith, ap (λ t. get_or t 0 0) e)
-other_name OfBars e = omega (arith, ap (λ t. get_or t 0 0) e)
-
 some_prices : (group : Group) → 0 < price_count group
-some_prices OfCables = omega arith
-some_prices OfBars = omega arith
+some_prices group = grind arith
 
 -- the first and the third letter tell the line that ends the settings from those of settings
 abbrev first_and_third : List ℕ → ℕ
 first_and_third line = get_or line 0 0 * 256 + get_or line 2 0
 
 no_setting : (x : Setting) (rest : List ℕ) → first_and_third (setting_line x ++ 10 ∷ rest) ≢ 21332
-no_setting (Pull c l) rest e = omega (arith, e)
-no_setting x rest e = omega (arith, e)
-
-not_sum : (name : Name) → codes "SUM" ≢ name_text name
-not_sum names.Cable e = omega (arith, ap (λ t. get_or t 0 0) e)
-not_sum name e = omega (arith, ap (λ t. get_or t 0 0) e)
+no_setting x rest = grind arith
 
 -- ---- what steps that reach the end say of the bytes
 
@@ -73,16 +50,7 @@ by_number : (group : Group) (rows columns : List ℤ) {bytes rest : List ℕ}
     → bytes ≡ with_line (price_words (row_word group) rows) (with_line (price_words (column_word group) columns) rest)
     → AreWithinReach rows → AreWithinReach columns → length rows ≡ price_count group → length columns ≡ price_count group
     → AreAll ByNumber bytes (numbered group rows columns) rest
-by_number OfCables rows columns {rest} e a b many also = record {
-  version = refl;
-  text = e ∙ sym (two_lines (price_words (row_word OfCables) rows) (price_words (column_word OfCables) columns) rest);
-  are = record { rows = many; columns = also; row_reach = a; column_reach = b; row_kinds = tt; column_kinds = tt };
-}
-by_number OfBars rows columns {rest} e a b many also = record {
-  version = refl;
-  text = e ∙ sym (two_lines (price_words (row_word OfBars) rows) (price_words (column_word OfBars) columns) rest);
-  are = record { rows = many; columns = also; row_reach = a; column_reach = b; row_kinds = tt; column_kinds = tt };
-}
+by_number group rows columns e d g h o = grind (arith, common_steps, two_lines)
 
 kinds_lines : (prices : PriceParts) {rows columns : List PricedKind} → version_of prices ≡ ByKind → row_kinds prices ≡ rows
     → column_kinds prices ≡ columns → kinds_text rows ++ kinds_text columns ≡ lines_text (price_lines prices)
@@ -213,7 +181,6 @@ module _ (laws : Laws) where
       let behind : HasNoNext name (floor_behind (look_rank x.look + 1) ys) more =
       subst (λ z. HasNoNext name (floor_behind (look_rank z.look + 1) ys) more) (sym heads) nor in
       let tails = kinds_end name (look_rank x.look + 1) xs ys rest more c.1 d.1 a.2 above none behind refl same.1 in
-      let others : xs ≡ ys = tails.0 in
       (cc, tails.1)
 
   only_group : (name : Name) (number line : ℕ) (bytes : List ℕ) → IsOnly (SaysGroup name number line bytes)
@@ -248,10 +215,10 @@ module _ (laws : Laws) where
 
   only_all_prices : (version : Version) (line : ℕ) (bytes : List ℕ) → IsOnly (SaysAllPrices version line bytes)
   only_all_prices ByNumber line bytes =
-      only_then (only_price_line _ _ same_row_word line bytes)
+      only_then (only_price_line _ _ (λ group other e. grind arith) line bytes)
       (λ rows says. only_then (only_price_line _ _ (λ only other e. refl) (line + 1) rows.2) (λ columns say. only_only _))
   only_all_prices ByKind line bytes =
-      only_then (only_first _ same_row_name line bytes)
+      only_then (only_first _ (λ group other e. grind arith) line bytes)
       (λ first says. only_then (only_group (row_name first.0) (price_count first.0) line bytes)
       (λ rows say. only_then (only_group (column_name first.0) (price_count first.0) (line + length rows.0) rows.1)
       (λ columns all. only_then (only_takes same_kind_parts) (λ prices have. only_only _))))
@@ -280,7 +247,7 @@ module _ (laws : Laws) where
       Found (group, first.behind, first.rest) (first_says _ group first.behind first.rest first.has)
       (Found (rows, kinds_text columns ++ rest)
       (group_says _ rows (kinds_text columns ++ rest) groups.0 lines
-      (AtOther (name_text (column_name group)) second (other_name group)))
+      (AtOther (name_text (column_name group)) second (grind arith)))
       (Found (columns, rest) (group_says _ columns rest groups.1 refl ends)
       (Found prices (record { of_group = refl; version = by; row_kinds = refl; column_kinds = refl }) refl)))
 
@@ -301,20 +268,11 @@ module _ (laws : Laws) where
   one_head : (bytes : List ℕ) (head other : Version × ℕ × List ℕ) → BeginsWithHead bytes head.0 head.1 head.2
       → BeginsWithHead bytes other.0 other.1 other.2 → head ≡ other
   one_head bytes (version, day, rest) (by, other, more) a b =
-      let words = λ (v : Version) (d : ℕ) (r : List ℕ) (h : BeginsWithHead bytes v d r).
-      line_has_words laws (head_words v d) r (λ none. cc) (head_is_words laws.numbers v d h.of_month.last) h.text in
-      let line = same_words laws.first_parts (words version day rest a) (words by other more b) in
-      let versions : version ≡ by = same_version version by (ap (λ w. get_or w 1 []) line.0) in
-      let days : day ≡ other =
-      decimal_injective day other (omega arith) (omega arith) (ap (λ w. get_or w 3 []) line.0) in
-      let rests : rest ≡ more = line.1 in
-      cc
+      grind (arith, common_steps, line_has_words, head_is_words, same_words, same_version, decimal_injective)
 
   value_line : {bytes : List ℕ} (name value rest : List ℕ) → IsWord name → IsWord value
       → bytes ≡ with_line (name ∷ value ∷ []) rest → HasWords bytes (name ∷ value ∷ []) rest
-  value_line name value rest named valued e =
-      line_has_words laws (name ∷ value ∷ []) rest (λ none. cc)
-      (All-from_recursion IsWord (name ∷ value ∷ []) (named, (valued, tt))) e
+  value_line name value rest named valued e = grind (arith, line_has_words, All-from_recursion)
 
   only_value : (signed : Bool) (name due : List ℕ) (line : ℕ) (bytes : List ℕ) → IsWord name
       → IsOnly (SaysValue signed name due line bytes)
@@ -331,7 +289,7 @@ module _ (laws : Laws) where
       → EndsGroup name (with_line (sum_words sum) rest)
   sum_ends sum rest near name =
       let has = value_line (codes "SUM") (signed_decimal sum) rest (word_by_test _ _ refl) (signed_word laws.numbers sum near) refl in
-      AtOther (codes "SUM") (record { behind = signed_decimal sum ∷ []; rest = rest; has = has }) (not_sum name)
+      AtOther (codes "SUM") (record { behind = signed_decimal sum ∷ []; rest = rest; has = has }) (grind arith)
 
   -- ---- the card
 
@@ -367,8 +325,7 @@ module _ (laws : Laws) where
         → (length ys ≤ length xs) × (BeginsWithNoLine more → (xs ≡ ys) × (rest ≡ more))
     lists_end [] [] rest more a b none e = (omega arith, λ nor. (refl, e))
     lists_end [] (y ∷ ys) rest more a b none e = absurd (none y (list_text ys ++ more) b.0 (e ∙ text_of_more y ys more))
-    lists_end (x ∷ xs) [] rest more a b none e =
-        (omega arith, λ nor. absurd (nor x (list_text xs ++ rest) a.0 (sym e ∙ text_of_more x xs rest)))
+    lists_end (x ∷ xs) [] rest more a b none e = grind (arith, text_of_more)
     lists_end (x ∷ xs) (y ∷ ys) rest more a b none e =
         let parts : (setting_line x ≡ setting_line y) × (list_text xs ++ rest ≡ list_text ys ++ more) =
         laws.first_parts 10 (setting_line x) (setting_line y) (list_text xs ++ rest) (list_text ys ++ more)
@@ -380,17 +337,14 @@ module _ (laws : Laws) where
 
     lists_meet : {body : List ℕ} {xs ys : List Setting} {rest more : List ℕ} → BeginsWithSettings body xs rest
         → BeginsWith body ys more → (length ys ≤ length xs) × (BeginsWithNoLine more → (xs ≡ ys) × (rest ≡ more))
-    lists_meet {xs} {ys} {rest} {more} a b =
-        lists_end xs ys rest more (recursion_from_All IsInRange xs a.lines.in_range) (recursion_from_All IsInRange ys b.in_range)
-        a.none_more (sym a.lines.lines ∙ b.lines)
+    lists_meet {xs} {ys} {rest} {more} a b = grind (arith, lists_end, recursion_from_All)
 
     not_too_many : {body : List ℕ} {xs ys : List Setting} {rest more : List ℕ} → BeginsWithSettings body xs rest
         → BeginsWith body ys more → length ys ≡ 193 → ⊥
     not_too_many a b many = let few = a.few in let most = (lists_meet a b).0 in omega arith
 
     only_settings : (bytes : List ℕ) → IsOnly (SaysSettings bytes)
-    only_settings bytes (Ok x) (Ok y) a b =
-        let same = (lists_meet a b.lines).1 b.none_more in ap Ok (same_pair x y same.0 same.1)
+    only_settings bytes (Ok x) (Ok y) a b = grind (arith, lists_meet a b.lines)
     only_settings bytes (Ok x) (Err g) a b = absurd (not_too_many a b.0.2 b.0.3)
     only_settings bytes (Err f) (Ok y) a b = absurd (not_too_many b a.0.2 a.0.3)
     only_settings bytes (Err f) (Err g) a b = ap Err (a.1 ∙ sym b.1)

@@ -88,8 +88,7 @@ pub record AreMatched (cables : List (Option ℕ × Option ℕ)) (pairs : List (
   pub cable : (pair : ℕ × ℕ) → Contains pairs pair → (cable : Option ℕ × Option ℕ) × Contains cables cable × HasPair cable pair
 
 first_or_rest : {X : Type 0} (x y : X) (xs : List X) → Contains (x ∷ xs) y → (x ≡ y) ⊎ Contains xs y
-first_or_rest x y xs (zero, lt, e) = inl e
-first_or_rest x y xs (suc place, lt, e) = inr (place, omega arith, e)
+first_or_rest x y xs e = grind arith
 
 in_rest : {X : Type 0} (x y : X) (xs : List X) → Contains xs y → Contains (x ∷ xs) y
 in_rest x y xs h = (suc h.0, omega (arith, h.1), h.2)
@@ -132,9 +131,7 @@ module _ (cables rest : List (Option ℕ × Option ℕ)) (cable : Option ℕ × 
 
 -- without pairs all cables are empty
 empty_costs_nothing : (cable : Option ℕ × Option ℕ) → (cable_letters cable ≢ [] → ⊥) → CostsNothing cable None
-empty_costs_nothing (None, None) h = none_differ [] [] (λ letter. refl) alphabet
-empty_costs_nothing (Some a, None) h = absurd (h (λ e. cc))
-empty_costs_nothing cable h = absurd (h (λ e. cc))
+empty_costs_nothing cable e = grind (arith, none_differ)
 
 all_empty : (cables : List (Option ℕ × Option ℕ)) (number : ℕ) → length cables ≡ number → ((cable : Option ℕ × Option ℕ) → Contains cables cable → cable_letters cable ≢ [] → ⊥)
     → AllZip CostsNothing cables (replicate number None)
@@ -189,7 +186,6 @@ matched_of_pairs cables pairs once pairs_once h =
 pub cables_paired : Told → (cables : List (Option ℕ × Option ℕ)) (pairs : List (ℕ × ℕ)) (prices : List ℤ) → HasCables cables → AreOnce (letters_plugged pairs) → length pairs ≤ 13 → length prices ≡ 13
     → AreThePairs cables pairs → FreePairing cable_cost cables (columns_of pairs) prices
 cables_paired told cables pairs prices has once few count h =
-    let size = told.thirteen pairs few in
     let there = matched told cables pairs (13 - length pairs) (omega (arith, has.count)) (matched_of_pairs cables pairs has.once once h) in
     let beside = reordered (λ cable (w : Option (ℕ × ℕ) × ℤ). CostsNothing cable w.0) there.0 cables (zip (columns_of pairs) prices) (IsPermutation-sym cables there.0 there.1)
     (with_prices CostsNothing there.0 (columns_of pairs) prices (omega arith) there.2) in

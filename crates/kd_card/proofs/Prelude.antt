@@ -1,4 +1,5 @@
 -- What the proofs of this crate speak of.
+pub use Rattle.std.proofs.lemmas.Grind.{common_steps}
 pub use Rattle.std.proofs.Common.{AllPairs, Bool, Bor, Contains, Decides, Err, FitsSigned, IsPermutation, IsTrue, List, MatchOption, MatchResult, None, Ok, Option, Result, Some, [], ap, append_assoc, arith, codes, cond, count_by, decimal, drop, eqb, false, fold, get_or, inl, inr, is_some, length, length-append, ltb, map, min, nat_eq, nat_le, nat_lt, negsuc, not, of_z, pos, refl, remove, replicate, rules, set, slice_get, subst, suc, sum, sym, take, to_z, true, unsigned_abs, unwrap_or, w16, w32, zero, zip, ℕ, ℤ, ◌*ℤ◌, ◌*◌, ◌++◌, ◌+ℤ◌, ◌+◌, ◌-◌, ◌<◌, ◌==◌, ◌^◌, ◌||◌, ◌↔◌, ◌∙◌, ◌∷◌, ◌≡◌, ◌≢◌, ◌≤ℤ◌, ◌≤◌, ◌⊎◌}
 pub use Rattle.std.proofs.Math.Seq.{drop-cons, take-append_seam}
 pub use Rattle.std.proofs.lemmas.Bool.{cases_eq, eq-eqb, eqb-false, eqb-true, false≢true, lt-ltb, ltb-false, ltb-true, ne_eqb, not-false, or_parts}

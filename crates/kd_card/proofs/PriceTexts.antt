@@ -14,8 +14,7 @@ pub written_price : (text : List ℕ) (p : ℤ) → text ≡ signed_decimal (to_
 written_price text p e within = e ∙ ap signed_decimal (to_z-of_z w16 p (fits p within))
 
 pub small : (p : ℤ) → unsigned_abs p ≤ 9999 → mag p < 2 ^ 63
-small (pos n) within = omega arith
-small (negsuc n) within = omega arith
+small p e = grind arith
 
 short_price : (p : ℤ) → unsigned_abs p ≤ 9999 → length (signed_decimal p) ≤ 5
 short_price (pos n) within = omega (arith, length-decimal-le 4 n (omega arith) (omega arith) (omega arith))
@@ -32,8 +31,7 @@ no_text bs (Err f) P Q h none price within e = h.0 (subst IsUtf8 e (IsUtf8-from_
 
 -- what holds of the value of an Ok
 pub ok_part : {S E : Type 0} (r : Result S E) (s : S) (P : S → Type 0) (Q : E → Type 0) → MatchResult r P Q → Some s ≡ result_ok r → P s
-ok_part (Ok x) s P Q h e = let same : x ≡ s = cc in subst P same h
-ok_part (Err f) s P Q h e = cc
+ok_part r s P Q e d = grind arith
 
 pub read_price : {E : Type 0} (bs : List ℕ) (r : Result ℤ E) → ParsesSigned w16 10 bs r → (price : ℤ) → unsigned_abs price ≤ 9999 → signed_decimal price ≡ bs
     → result_ok r ≡ Some price
@@ -57,8 +55,7 @@ IsPriceOf word r =
     MatchOption r ((price : ℤ) → unsigned_abs price ≤ 9999 → signed_decimal price ≢ word) (λ price. (signed_decimal price ≡ word) × (unsigned_abs price ≤ 9999))
 
 pub tells_price : (word : List ℕ) (r : Option ℤ) → IsPriceOf word r → IsTrue (is_some r) ↔ IsPriceText word
-tells_price word None h = (λ e. absurd (false≢true e), λ p. absurd (h p.0 p.1 p.2))
-tells_price word (Some p) h = (λ e. (p, h.1, h.0), λ q. refl)
+tells_price word r e = grind arith
 
 -- all are prices where the first word is one, and all others are
 pub all_of_more : {rest word after : List ℕ} → IsFirstPart 32 rest word after
@@ -70,9 +67,7 @@ all_of_more {word} {after} first =
     )
 
 pub all_of_last : (rest : List ℕ) → IsWithout 32 rest → All IsPriceText (words_of rest) ↔ IsPriceText rest
-all_of_last rest without =
-    rw (words_of_last rest without)
-    (λ all. (recursion_from_All IsPriceText (rest ∷ []) all).0, λ price. All-from_recursion IsPriceText (rest ∷ []) (price, tt))
+all_of_last rest without = grind (arith, words_of_last, recursion_from_All, All-from_recursion)
 
 pub not_at : (words : List (Bor (List ℕ))) (i : ℕ) (d : Bor (List ℕ)) → i < length words → ¬ (IsPriceText (get_or words i d).now)
     → ¬ (All IsPriceText (map (λ (word : Bor (List ℕ)). word.now) words))
@@ -91,8 +86,6 @@ priced : (words : List (List ℕ)) → AllByRecursion IsPriceText words
 priced [] all = ([], refl, tt)
 priced (word ∷ words) (is, all) =
     let rest = priced words all in
-    let written = is.2 in
-    let others = rest.1 in
     (is.0 ∷ rest.0, cc, (is.1, rest.2))
 
 -- ---- what is said of words as prices

@@ -1,6 +1,6 @@
 -- No list of settings that leads to the day has fewer than there are loose things and prices in sum, and a card that proves
 -- itself has as many.
-use Rattle.kd_card.proofs.Prelude.{◌≡◌, ℕ, suc, ◌+◌, ◌<◌, ◌≤◌, Bool, true, false, cond, List, [], ◌∷◌, ◌++◌, length, get_or, map, zip, fold, Contains, Option, ℤ, pos, ◌+ℤ◌, ◌≤ℤ◌, IsPermutation, refl, sym, ap, ◌∙◌, subst, arith, zero, None, ints, length_permutation, Contains-permutation, IsPermutation-sym, Model, reflectors_of, letters_plugged, RotorParts, PinParts, Parts, Rotor, Pin, Setting, model_of, IsMachine, Leads, changed, RotorDay, PinDay, Day, OfRotors, OfPins, day_model, IsLegalDay, ReadsAs, cable_cost, bar_cost, columns_of, cost_table, loose_count, PriceParts, Cables, Bars, ArePrices, Fits, price_sum, AreTight, is_priced, priced_count, AreOfKind, IsNeeded, AreNeeded, Same, Expanded, ProvesByNumber, FittingPricesBoundLists, ProvingCardsAreAsLong, ProvingCardsAreShortest, ProvingPricesAreTight, get_or_default, get_or-map, length-zip, get_or-zip, One}
+use Rattle.kd_card.proofs.Prelude.{◌≡◌, ℕ, suc, ◌+◌, ◌<◌, ◌≤◌, Bool, cond, List, [], ◌∷◌, ◌++◌, length, get_or, map, zip, fold, Contains, Option, ℤ, pos, ◌+ℤ◌, ◌≤ℤ◌, IsPermutation, refl, sym, ap, ◌∙◌, subst, arith, zero, None, ints, length_permutation, Contains-permutation, IsPermutation-sym, Model, reflectors_of, letters_plugged, RotorParts, PinParts, Parts, Rotor, Pin, Setting, model_of, IsMachine, Leads, changed, RotorDay, PinDay, Day, OfRotors, OfPins, day_model, IsLegalDay, ReadsAs, cable_cost, bar_cost, columns_of, cost_table, loose_count, PriceParts, Cables, Bars, ArePrices, Fits, AreTight, is_priced, priced_count, AreOfKind, IsNeeded, AreNeeded, Same, Expanded, ProvesByNumber, FittingPricesBoundLists, ProvingCardsAreAsLong, ProvingCardsAreShortest, ProvingPricesAreTight, get_or_default, get_or-map, length-zip, get_or-zip, One}
 use Rattle.kd_tables.specs.declared.model.Model.TheVariants.{M209}
 use Rattle.kd_tables.specs.declared.reflector.Reflector.{Reflector}
 use Rattle.kd_card.proofs.Duality.{fold_of_both, prices_with-IsPermutation, prices_with-zip, pairing_cost, fitting_prices, FitAll-IsPermutation, fit_all, sum_of, prices_with, FitAll, without_first}
@@ -11,8 +11,7 @@ use Rattle.kd_card.proofs.Pairing.{cables_paired, bars_paired, Told}
 
 -- A setting lowers the loose things and the pairing's cost together by at most one, and so many settings by at most so many.
 either : (b : Bool) → cond b 0 1 + cond b 1 0 ≡ 1
-either true = refl
-either false = refl
+either b = grind arith
 
 pub model_of-list : (m n : Parts) (xs : List Setting) → Leads m xs n → model_of n ≡ model_of m
 model_of-list m n [] h = ap model_of h
@@ -41,7 +40,6 @@ module _ {A B : Type 0} (cost : A → B → ℕ) where
   tight_at : (rows : List A) (prices : List ℤ) (ws : List (B × ℤ)) (i : ℕ) (a : A) (w : B × ℤ) → length rows ≡ length ws → length rows ≡ length prices → FitAll cost rows prices ws
       → pos (pairing_cost cost rows ws) ≤ℤ (sum_of prices +ℤ prices_with ws) → i < length rows → IsTight (get_or rows i a) (get_or prices i (pos 0)) (get_or ws i w)
   tight_at (row ∷ rows) (price ∷ prices) (v ∷ ws) zero a w e f h sum lt =
-      let head = h.0.0 in
       let rest = fitting_prices cost rows prices ws (omega arith) (without_first cost rows prices v ws h.1) in
       omega (arith, ints)
   tight_at (row ∷ rows) (price ∷ prices) (v ∷ ws) (suc i) a w e f h sum lt =
@@ -167,17 +165,18 @@ pins_table told m n s row column settings machine legal prices fits leads reads 
     }
 
 -- A machine and a day are of one kind, and so are the machine's prices.
-data AreAlike : Parts → Parts → Day → PriceParts → Type 0 where
-  Rotors : (m n : RotorParts) (s : RotorDay) (row column : List ℤ) → AreAlike (Rotor m) (Rotor n) (OfRotors s) (Cables row column)
-  Pins : (m n : PinParts) (s : PinDay) (row column : List ℤ) → AreAlike (Pin m) (Pin n) (OfPins s) (Bars row column)
+abbrev AreAlike : Parts → Day → PriceParts → Parts → Type 0
+AreAlike (Rotor m) (OfRotors s) (Cables row column) (Rotor n) = Unit {0}
+AreAlike (Pin m) (OfPins s) (Bars row column) (Pin n) = Unit {0}
+AreAlike m s prices n = ⊥
 
 no_rotors : (model : Model) (reflector : Reflector) → model ≡ M209 → Contains (reflectors_of model) reflector → ⊥
 no_rotors model reflector e h = let none = subst (λ model. Contains (reflectors_of model) reflector) e h in omega (arith, none.1)
 
 alike : (m n : Parts) (s : Day) (prices : PriceParts) (settings : List Setting) → IsMachine m → IsLegalDay s → AreOfKind m prices → Leads m settings n
-    → ReadsAs n s → AreAlike m n s prices
-alike (Rotor m) (Rotor n) (OfRotors s) (Cables row column) settings machine legal kind leads reads = Rotors m n s row column
-alike (Pin m) (Pin n) (OfPins s) (Bars row column) settings machine legal kind leads reads = Pins m n s row column
+    → ReadsAs n s → AreAlike m s prices n
+alike (Rotor m) (Rotor n) (OfRotors s) (Cables row column) settings machine legal kind leads reads = tt
+alike (Pin m) (Pin n) (OfPins s) (Bars row column) settings machine legal kind leads reads = tt
 alike (Rotor m) (Pin n) (OfPins s) prices settings machine legal kind leads reads =
     absurd (no_rotors m.model m.reflector (sym (model_of-list (Rotor m) (Pin n) settings leads)) machine.legal.reflector)
 alike (Pin m) (Rotor n) (OfRotors s) prices settings machine legal kind leads reads =
@@ -187,22 +186,18 @@ alike m (Rotor n) (OfPins s) prices settings machine legal kind leads reads = ab
 alike m n s prices settings machine legal kind leads reads = absurd kind
 
 pub fitting_prices_bound_lists : Told → FittingPricesBoundLists
-fitting_prices_bound_lists told m s prices settings machine legal are_prices kind fits reached =
-    bounded m reached.0 s prices (alike m reached.0 s prices settings machine legal kind reached.1 reached.2) machine legal are_prices fits reached.1 reached.2
-  where
-    bounded : (m n : Parts) (s : Day) (prices : PriceParts) → AreAlike m n s prices → IsMachine m → IsLegalDay s → ArePrices prices
-        → Fits (cost_table m s) prices → Leads m settings n → ReadsAs n s → (pos (loose_count m s) +ℤ price_sum prices) ≤ℤ pos (length settings)
-    bounded _ _ _ _ (Rotors m n s row column) machine legal prices fits leads reads =
-        bound cable_cost 13 m.cables row (columns_of s.pairs) column (loose_count (Rotor m) (OfRotors s)) settings
-        (rotors_table told m n s row column settings machine legal prices fits leads reads)
-    bounded _ _ _ _ (Pins m n s row column) machine legal prices fits leads reads =
-        bound bar_cost 27 m.bars row s.rows column (loose_count (Pin m) (OfPins s)) settings
-        (pins_table told m n s row column settings machine legal prices fits leads reads)
+fitting_prices_bound_lists told (Rotor m) (OfRotors s) (Cables row column) settings machine legal are kind fits (Rotor n, leads, reads) =
+    bound cable_cost 13 m.cables row (columns_of s.pairs) column (loose_count (Rotor m) (OfRotors s)) settings
+    (rotors_table told m n s row column settings machine legal are fits leads reads)
+fitting_prices_bound_lists told (Pin m) (OfPins s) (Bars row column) settings machine legal are kind fits (Pin n, leads, reads) =
+    bound bar_cost 27 m.bars row s.rows column (loose_count (Pin m) (OfPins s)) settings
+    (pins_table told m n s row column settings machine legal are fits leads reads)
+fitting_prices_bound_lists told m s prices settings machine legal are kind fits reached =
+    absurd (alike m reached.0 s prices settings machine legal kind reached.1 reached.2)
 
 -- Where each setting is needed, there are as many as loose things and those that change a cable or a bar.
 needed_one : (m : Parts) (s : Day) (x : Setting) (b : Bool) → is_priced x ≡ b → IsNeeded m s x → loose_count m s + cond b 1 0 ≡ loose_count (changed m x) s + 1
-needed_one m s x true e needed = omega (arith, leaves m s x e)
-needed_one m s x false e needed = omega (arith, needed e)
+needed_one m s x b e d = grind (arith, leaves)
 
 needed_all : (m n : Parts) (s : Day) (xs : List Setting) → Leads m xs n → AreNeeded m s xs → loose_count m s + priced_count xs ≡ loose_count n s + length xs
 needed_all m n s [] leads needed = subst (λ n. loose_count m s + 0 ≡ loose_count n s + 0) (sym leads) refl
@@ -227,19 +222,20 @@ proving_cards_are_shortest told m s settings prices machine legal are_prices h o
 
 pub proving_prices_are_tight : Told → ProvingPricesAreTight
 proving_prices_are_tight told m s settings prices machine legal are_prices h =
-    tight m h.leads.0 s prices (alike m h.leads.0 s prices settings machine legal h.kind h.leads.1 h.leads.2) machine legal are_prices h h.leads.1 h.leads.2
+    tight m s prices h.leads.0 (alike m h.leads.0 s prices settings machine legal h.kind h.leads.1 h.leads.2) machine legal are_prices h h.leads.1 h.leads.2
   where
-    tight : (m n : Parts) (s : Day) (prices : PriceParts) → AreAlike m n s prices → IsMachine m → IsLegalDay s → ArePrices prices
+    tight : (m : Parts) (s : Day) (prices : PriceParts) (n : Parts) → AreAlike m s prices n → IsMachine m → IsLegalDay s → ArePrices prices
         → ProvesByNumber m s settings prices → Leads m settings n → ReadsAs n s → AreTight (cost_table m s) prices
-    tight _ _ _ _ (Rotors m n s row column) machine legal prices proves leads reads =
+    tight (Rotor m) (OfRotors s) (Cables row column) (Rotor n) same machine legal prices proves leads reads =
         let table = rotors_table told m n s row column settings machine legal prices proves.fits leads reads in
         record {
-          column_of = column_for cable_cost 13 m.cables row (columns_of s.pairs) column (loose_count (Rotor m) (OfRotors s)) settings table proves.sum (None, None) None;
-          row_of = row_for cable_cost 13 m.cables row (columns_of s.pairs) column (loose_count (Rotor m) (OfRotors s)) settings table proves.sum (None, None) None;
+          column_of = column_for cable_cost 13 m.cables row (columns_of s.pairs) column _ settings table proves.sum (None, None) None;
+          row_of = row_for cable_cost 13 m.cables row (columns_of s.pairs) column _ settings table proves.sum (None, None) None;
         }
-    tight _ _ _ _ (Pins m n s row column) machine legal prices proves leads reads =
+    tight (Pin m) (OfPins s) (Bars row column) (Pin n) same machine legal prices proves leads reads =
         let table = pins_table told m n s row column settings machine legal prices proves.fits leads reads in
         record {
-          column_of = column_for bar_cost 27 m.bars row s.rows column (loose_count (Pin m) (OfPins s)) settings table proves.sum (One, One) (0, 0);
-          row_of = row_for bar_cost 27 m.bars row s.rows column (loose_count (Pin m) (OfPins s)) settings table proves.sum (One, One) (0, 0);
+          column_of = column_for bar_cost 27 m.bars row s.rows column _ settings table proves.sum (One, One) (0, 0);
+          row_of = row_for bar_cost 27 m.bars row s.rows column _ settings table proves.sum (One, One) (0, 0);
         }
+    tight m s prices n none machine legal are proves leads reads = absurd none

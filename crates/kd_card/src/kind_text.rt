@@ -30,6 +30,7 @@ fn first_word(line: &[u8]) -> &[u8]
 }
 
 /// The kind of things of that name whose line this is.
+#[tactic(auto, using(crate::proofs::KindWords::four_words))]
 fn kind_of_line(name: Name, line: &[u8]) -> Option<PricedKind>
     requires { IsFirstWord line.now (name_text name) }
     ensures { MatchOption result
@@ -44,6 +45,7 @@ fn kind_of_line(name: Name, line: &[u8]) -> Option<PricedKind>
 }
 
 /// The kind, of things of that name, of this look, count and price.
+#[tactic(auto, using(crate::proofs::KindWords::no_count))]
 fn kind_of_parts(name: Name, look: &[u8], count: &[u8], price: &[u8]) -> Option<PricedKind>
     ensures { let words = name_text name ∷ look.now ∷ count.now ∷ price.now ∷ [] in
         MatchOption result
@@ -142,6 +144,7 @@ pub(crate) fn push_kinds<const N: usize>(text: &mut ArrayString<N>, kinds: &[Pri
 }
 
 /// Appends the line of the kind.
+#[tactic(auto, using(crate::proofs::KindWords::line_in_pieces, crate::proofs::PriceTexts::written_price))]
 fn push_kind<const N: usize>(text: &mut ArrayString<N>, kind: &PricedKind)
     requires room { array_string_len text.old + 24 ≤ N }
     requires kind { IsPricedKind kind.now }

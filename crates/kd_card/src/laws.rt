@@ -28,6 +28,7 @@ pub fn no_two_cards_have_one_text()
 
 /// Where prices fit, no settings whatever that lead a machine to the day are fewer than its loose things and the sum of
 /// the prices.
+#[tactic(auto, using(crate::proofs::Shortest::fitting_prices_bound_lists))]
 pub fn fitting_prices_bound_lists()
     ensures { FittingPricesBoundLists }
 {
@@ -37,11 +38,13 @@ pub fn fitting_prices_bound_lists()
 }
 
 /// Looks of one name, each in its one form, are told by their ranks.
+#[tactic(auto, using(crate::proofs::KindWords::ranks_tell_looks))]
 pub fn ranks_tell_looks()
     ensures { RanksTellLooks }
 {}
 
 /// A card that proves itself by number has as many settings as there are loose things and prices in sum.
+#[tactic(auto, using(crate::proofs::Shortest::proving_cards_are_as_long))]
 pub fn proving_cards_are_as_long()
     ensures { ProvingCardsAreAsLong }
 {}
@@ -57,6 +60,7 @@ pub fn proving_cards_are_shortest()
 
 /// In a card that proves itself by number each row's price and some column's are together the cost where they meet, and
 /// so are each column's and some row's.
+#[tactic(auto, using(crate::proofs::Shortest::proving_prices_are_tight))]
 pub fn proving_prices_are_tight()
     ensures { ProvingPricesAreTight }
 {

@@ -82,6 +82,7 @@ impl Prices {
     /// The prices of the kinds of cables, and of the kinds of pairs and nothings; none where a kind isn't in the form
     /// in which it is written, or has the count 0, or the kinds of a group aren't in order, each once, or aren't of 13
     /// things together, or a price is below -9999 or above 9999.
+    #[tactic(auto, using(crate::proofs::KindPrices::too_long))]
     pub fn cable_kinds(cables: &[CableKind], pairs: &[PairKind]) -> Option<Self>
         ensures { let parts =
             PriceParts.CableKinds (record { items = cables.now }) (record { items = pairs.now }) in
@@ -95,6 +96,7 @@ impl Prices {
     /// The prices of the kinds of bars, and of the kinds of the sheet's rows; none where a kind isn't in the form in
     /// which it is written, or has the count 0, or the kinds of a group aren't in order, each once, or aren't of 27
     /// things together, or a price is below -9999 or above 9999.
+    #[tactic(auto, using(crate::proofs::KindPrices::too_long))]
     pub fn bar_kinds(bars: &[BarKind], rows: &[RowKind]) -> Option<Self>
         ensures { let parts =
             PriceParts.BarKinds (record { items = bars.now }) (record { items = rows.now }) in
@@ -106,6 +108,7 @@ impl Prices {
     }
 
     /// The prices of these kinds, if the kinds of both groups are in order, each once, and of so many things.
+    #[tactic(auto, using(crate::proofs::KindPrices::are_prices, crate::proofs::KindPrices::counts))]
     fn of_kinds(parts: PriceParts, number: usize) -> Option<Self>
         requires kinds { version_of parts ≡ Version.ByKind }
         requires number { number ≡ how_many parts }
@@ -200,6 +203,7 @@ impl Prices {
 
 impl PriceParts {
     /// The sum of the prices by kind, each as often as there are things of the kind.
+    #[tactic(auto, using(crate::proofs::CardWords::few_prices, crate::proofs::KindPrices::counts))]
     fn sum_by_kind(&self) -> i32
         requires kinds { version_of self.now ≡ Version.ByKind }
         requires prices { ArePrices self.now }

@@ -1,7 +1,6 @@
 -- Things that stand or read alike have looks of one rank, and looks of one rank are of such things.
-use Rattle.std.proofs.Common.{◌↔◌, map}
 use Rattle.std.specs.List.{IsDistinct}
-use Rattle.kd_prices.proofs.Prelude.{◌≡◌, ◌⊎◌, ℕ, zero, suc, ◌<◌, ◌≤◌, min, max, false, eqb, inl, inr, List, [], ◌∷◌, length, get_or, Contains, Option, Some, None, MatchOption, unwrap_or, slice_get, refl, sym, ap, ◌∙◌, subst, arith, ℤ, All, AllByRecursion, eqb-false, get_or-map, length-map, All-get_or, All-weaker, All-contains_itself, recursion_from_All, slice_get-get_or, One, in_order, letters_plugged, NoLetterTwice, Parts, Rotor, Pin, cable_letters, IsMachine, Day, OfRotors, OfPins, IsLegalDay, SameLetters, columns_of, ThirteenColumns, ColumnsAreThePairs, Look, Cable, Pair, Bar, Row, look_name, look_rank, AreEnds, IsInForm, Group, PriceParts, Cables, Bars, CableKinds, BarKinds, ByNumber, version_of, row_kinds, column_kinds, row_prices, column_prices, how_many, price_at, ArePrices, AreWithinReach, group_of, price_count, row_name, column_name, row_looks, column_looks, pair_in_order, look_at, group_of_machine, Expanded, RanksTellLooks, StandAlike, ReadAlike, AreNumbered, CanBeByKind, AreByKind, AreAlikePriced, AreThings, AreOfGroup}
+use Rattle.kd_prices.proofs.Prelude.{◌≡◌, ◌⊎◌, ℕ, zero, suc, ◌<◌, ◌≤◌, false, eqb, inl, inr, List, [], ◌∷◌, length, get_or, Contains, Option, Some, None, MatchOption, slice_get, refl, sym, ap, ◌∙◌, subst, arith, ℤ, All, AllByRecursion, eqb-false, get_or-map, length-map, All-get_or, All-weaker, All-contains_itself, recursion_from_All, slice_get-get_or, One, in_order, letters_plugged, NoLetterTwice, Parts, Rotor, Pin, cable_letters, IsMachine, Day, OfRotors, OfPins, IsLegalDay, SameLetters, columns_of, ThirteenColumns, ColumnsAreThePairs, Look, Cable, Pair, Bar, Row, look_name, look_rank, AreEnds, IsInForm, Group, PriceParts, ByNumber, version_of, row_kinds, column_kinds, row_prices, column_prices, how_many, price_at, ArePrices, AreWithinReach, group_of, price_count, row_name, column_name, row_looks, column_looks, pair_in_order, look_at, group_of_machine, Expanded, RanksTellLooks, StandAlike, ReadAlike, AreNumbered, CanBeByKind, AreByKind, AreAlikePriced, AreThings, AreOfGroup, ◌↔◌, map}
 use Rattle.kd_prices.proofs.Grouping.{alike_priced}
 use Rattle.kd_prices.proofs.Things.{pair_look, rows_are_things, group_of_day, columns_are_things}
 use Rattle.kd_prices.proofs.AlikePrices.{same_at, nothing_at}
@@ -23,22 +22,14 @@ all_lie xs ys told = recursion_from_All (Lies ys) xs (All-weaker (Contains xs) (
 
 ends_told : (cable other : Option ℕ × Option ℕ) → AreEnds cable.0 cable.1 → AreEnds other.0 other.1 → AllByRecursion (Lies (cable_letters other)) (cable_letters cable)
     → AllByRecursion (Lies (cable_letters cable)) (cable_letters other) → look_rank (Cable cable) ≡ look_rank (Cable other)
-ends_told (None, Some b) other form form' to fro = absurd form
-ends_told cable (None, Some v) form form' to fro = absurd form'
-ends_told (None, None) (None, None) form form' to fro = refl
-ends_told (None, None) other form form' to fro = absurd fro.0
-ends_told cable (None, None) form form' to fro = absurd to.0
-ends_told cable other form form' to fro = grind (arith, to, fro, form, form')
+ends_told cable other form form' to fro = grind arith
 
 -- ---- pairs that are alike stand at one place
 
 away : (p : ℕ × ℕ) (pairs : List (ℕ × ℕ)) (k : ℕ) → AllByRecursion (λ y. eqb p.0 y ≡ false) (letters_plugged pairs)
     → pair_in_order (slice_get pairs k) ≡ Some (in_order p.0 p.1) → ⊥
 away p [] k h e = cc
-away p (q ∷ pairs) zero h e =
-    let low : min q.0 q.1 ≡ min p.0 p.1 = ap (λ (o : Option (ℕ × ℕ)). (unwrap_or {T = ℕ × ℕ} o (0, 0)).0) e in
-    let high : max q.0 q.1 ≡ max p.0 p.1 = ap (λ (o : Option (ℕ × ℕ)). (unwrap_or {T = ℕ × ℕ} o (0, 0)).1) e in
-    omega (arith, low, high, eqb-false p.0 q.0 h.0, eqb-false p.0 q.1 h.1.0)
+away p (q ∷ pairs) zero h e = grind (arith, eqb-false)
 away p (q ∷ pairs) (suc k) h e = away p pairs k h.1.1 e
 
 pairs_told : (pairs : List (ℕ × ℕ)) (i k : ℕ) → NoLetterTwice pairs
@@ -49,11 +40,7 @@ pairs_told [] i k apart e = inl (omega arith, omega arith)
 pairs_told (p ∷ pairs) zero zero apart e = inr refl
 pairs_told (p ∷ pairs) zero (suc k) apart e = absurd (away p pairs k apart.0.1 (sym e))
 pairs_told (p ∷ pairs) (suc i) zero apart e = absurd (away p pairs i apart.0.1 e)
-pairs_told (p ∷ pairs) (suc i) (suc k) apart e =
-    elim (pairs_told pairs i k apart.1.1 e) [
-      | inl past ↦ let here = past.0 in let there = past.1 in inl (omega arith, omega arith)
-      | inr same ↦ inr (ap suc same)
-    ]
+pairs_told (p ∷ pairs) (suc i) (suc k) apart e = grind (arith, pairs_told pairs i k apart.1.1 e)
 
 -- ---- ranks tell what is alike
 
@@ -74,12 +61,7 @@ module _ (ranks : RanksTellLooks) {X : Type 0} (f : X → Look) (xs : List X) (d
       → ((i k : ℕ) → i < length xs → k < length xs → f (get_or xs i d) ≡ f (get_or xs k d) → Alike i k ⊎ (i ≡ k))
       → ((i k : ℕ) → IsInForm (f (get_or xs i d)) → IsInForm (f (get_or xs k d)) → Alike i k → look_rank (f (get_or xs i d)) ≡ look_rank (f (get_or xs k d)))
       → AreTold (map f xs) Alike
-  told_by Alike alike ranked i k inside within =
-      let one = ap look_rank (at i inside) in
-      let other = ap look_rank (at k within) in (
-        λ same. alike i k (omega (arith, length-map xs f)) (omega (arith, length-map xs f)) (ranks _ _ (one_name _ _) (form i inside) (form k within) (sym one ∙ same ∙ other)),
-        λ h. one ∙ ranked i k (form i inside) (form k within) h ∙ sym other,
-      )
+  told_by Alike alike ranked i k inside within = grind (arith, at, length-map, form, ranked)
 
   -- each look is of one thing
   told_apart : ((x y : X) → f x ≡ f y → x ≡ y) → AreTold (map f xs) (λ i k. slice_get xs i ≡ slice_get xs k)
@@ -127,10 +109,7 @@ priced_alike looks Alike prices n told many = (
 -- ---- what is answered of a group
 
 size_of : (prices : PriceParts) → price_count (group_of prices) ≡ how_many prices
-size_of (Cables a b) = refl
-size_of (Bars a b) = refl
-size_of (CableKinds a b) = refl
-size_of (BarKinds a b) = refl
+size_of prices = grind arith
 
 -- machine, day and prices by number are of one model and of this group, and these are their looks and prices
 pub record AreOfOneGroup (group : Group) (m : Parts) (s : Day) (prices : PriceParts) (rows columns : List Look) (row column : List ℤ) : Type 0 where
@@ -151,20 +130,7 @@ pub one_group : {group : Group} {m n : Parts} {s d : Day} {prices p : PriceParts
     → AreNumbered n d p → version_of p ≡ ByNumber → group_of_machine n ≡ group → group_of_day d ≡ group → group_of p ≡ group → rows ≡ row_looks n → columns ≡ column_looks d
     → AreOfOneGroup group m s prices rows columns (row_prices p) (column_prices p)
 one_group em es ep machine legal are_prices numbered version of_machine of_day of_prices are_rows are_columns =
-    rw (em, es, ep) (record {
-      machine = rw em at machine;
-      legal = rw es at legal;
-      numbered = numbered;
-      are_prices = rw ep at are_prices;
-      version = version;
-      of_machine = of_machine;
-      of_day = of_day;
-      of_prices = of_prices;
-      are_rows = are_rows;
-      are_columns = are_columns;
-      are_row = refl;
-      are_column = refl;
-    })
+    grind (arith, at)
 
 module _ (told : RanksTold) {group : Group} {m : Parts} {s : Day} {prices : PriceParts} {rows columns : List Look} {row column : List ℤ}
     (one : AreOfOneGroup group m s prices rows columns row column) where

@@ -1,7 +1,6 @@
 -- In a card that proves itself, what is alike has equal prices: it costs the same everywhere, and each price is tight
 -- somewhere.
-use Rattle.std.proofs.Common.{map}
-use Rattle.kd_prices.proofs.Prelude.{subst, Contains, ◌≡◌, ℕ, ◌<◌, ◌≤◌, List, [], get_or, length, None, unwrap_or, slice_get, sym, ap, ◌∙◌, arith, ints, get_or-map, unwrap_or-slice_get, slice_get_past, One, Rotor, Pin, cable_letters, Day, OfRotors, OfPins, TestsTellLetters, ThirteenColumns, ColumnsAreThePairs, cable_cost, bar_cost, columns_of, PriceParts, Cables, Bars, how_many, cost_at, Fits, AreTight, ProvingPricesAreTight, Parts, StandAlike, ReadAlike, AlikePricesAreEqual, AreEqualWhereAlike}
+use Rattle.kd_prices.proofs.Prelude.{subst, Contains, ◌≡◌, ℕ, ◌<◌, ◌≤◌, List, get_or, length, None, unwrap_or, slice_get, sym, ap, ◌∙◌, arith, ints, get_or-map, unwrap_or-slice_get, slice_get_past, One, Rotor, Pin, cable_letters, Day, OfRotors, OfPins, TestsTellLetters, ThirteenColumns, ColumnsAreThePairs, cable_cost, bar_cost, columns_of, PriceParts, Cables, Bars, how_many, cost_at, Fits, AreTight, ProvingPricesAreTight, Parts, StandAlike, ReadAlike, AlikePricesAreEqual, AreEqualWhereAlike, map}
 use Rattle.kd_tables.specs.declared.model.Model.{Model}
 use Rattle.kd_tables.specs.declared.model.Model.TheVariants.{M209}
 use Rattle.kd_tables.specs.declared.reflector.Reflector.{Reflector}
@@ -12,8 +11,7 @@ module _ {A B : Type 0} (cost : A → B → ℕ) (rows : List A) (columns : List
     (many_rows : length rows ≡ how_many prices) (many_columns : length columns ≡ how_many prices) (fits : Fits (map (λ row. map (cost row) columns) rows) prices)
     (tight : AreTight (map (λ row. map (cost row) columns) rows) prices) where
   at : (i j : ℕ) → i < how_many prices → j < how_many prices → cost_at (map (λ row. map (cost row) columns) rows) i j ≡ cost (get_or rows i a) (get_or columns j b)
-  at i j lt lt' =
-      ap (λ row. get_or row j 0) (get_or-map (λ row. map (cost row) columns) rows i a [] (omega arith)) ∙ get_or-map (cost (get_or rows i a)) columns j b 0 (omega arith)
+  at i j lt lt' = grind (arith, get_or-map)
 
   equal_where_alike : ((i k : ℕ) → StandAlike m i k → (column : B) → cost (get_or rows i a) column ≡ cost (get_or rows k a) column)
       → ((j k : ℕ) → ReadAlike s j k → get_or columns j b ≡ get_or columns k b) → AreEqualWhereAlike m s prices

@@ -1,9 +1,7 @@
 -- A card that proves itself is in no doubt, and a card is in one doubt at most.
-use Rattle.kd_prices.proofs.Prelude.{◌≡◌, ℕ, inl, inr, List, [], ◌∷◌, ◌++◌, length, refl, sym, ap, ◌∙◌, subst, arith, ◌↔◌, cases_order, false≢true, Parts, Setting, Why, why_refused, Leads, Day, cost_table, LeadsToOne, PriceParts, AreNeeded, Proves, IllegalAt, PriceTooHigh, NeedlessLine, IsFirstWithout, IsFirstNeedless}
+use Rattle.kd_prices.proofs.Prelude.{◌≡◌, ℕ, List, [], ◌∷◌, ◌++◌, length, refl, sym, ap, ◌∙◌, subst, arith, ◌↔◌, cases_order, false≢true, Parts, Setting, Why, why_refused, Leads, Day, cost_table, LeadsToOne, PriceParts, AreNeeded, Proves, IllegalAt, NeedlessLine, IsFirstWithout, IsFirstNeedless, Result, Ok, Err, IsOk, IfErr, Found, IsOnly, only_then, only_finds, only_demands, passed}
 use Rattle.kd_card.specs.Carrying.{IsFirstIllegal}
 use Rattle.kd_prices.specs.declared.doubt.Doubt.{Doubt}
-use Rattle.std.specs.Prelude.{Result, Ok, Err, IsOk, IfErr}
-use Rattle.kd_card.specs.Steps.{Found, IsOnly, only_then, only_finds, only_demands, passed}
 use Rattle.kd_prices.specs.Doubt.{SaysCarried, SaysFits, SaysNeeded, SaysChecked, IsDoubt}
 use Rattle.kd_prices.proofs.Meaning.{one_expansion, of_one_model, are_numbered}
 use Rattle.kd_prices.proofs.Leading.{needed_at, not_refused}
@@ -21,16 +19,7 @@ one_front {X = X} Good (z ∷ front) (w ∷ other) after behind x y e good fine 
     (cc, tails.1)
 
 one_place : (Holds : ℕ → ℕ → Type 0) (number row column i j : ℕ) → IsFirstWithout Holds number row column → IsFirstWithout Holds number i j → (row ≡ i) × (column ≡ j)
-one_place Holds number row column i j h k =
-    elim (cases_order row i) [
-      | inl same ↦ elim (cases_order column j) [
-        | inl alike ↦ (same, alike)
-        | inr (inl lt) ↦ absurd (h.here (k.before row column h.column_within (inr (same, lt))))
-        | inr (inr lt) ↦ absurd (k.here (h.before i j k.column_within (inr (sym same, lt))))
-      ]
-      | inr (inl lt) ↦ absurd (h.here (k.before row column h.column_within (inl lt)))
-      | inr (inr lt) ↦ absurd (k.here (h.before i j k.column_within (inl lt)))
-    ]
+one_place Holds number row column i j h k = grind (arith, cases_order, h.here, k.before, k.here, h.before)
 
 -- ---- prices by number
 
@@ -61,23 +50,11 @@ module _ (one : LeadsToOne) (m : Parts) (settings : List Setting) where
       let counts = ap length same.0 in
       let lines : line ≡ other = omega (arith, a.number, b.number) in
       ap (λ l. Err (IllegalAt l why)) lines ∙ ap (λ w. Err (IllegalAt other w)) whys
-  only_carried (Ok n) (Err doubt) a b = absurd b
-  only_carried (Err (IllegalAt line why)) (Err doubt) a b = absurd b
-  only_carried (Err doubt) w a b = absurd a
+  only_carried v w a b = grind arith
 
 module _ (costs : List (List ℕ)) (prices : PriceParts) where
   only_fits : IsOnly (SaysFits costs prices)
-  only_fits (Ok x) (Ok y) a b = refl
-  only_fits (Ok x) (Err (PriceTooHigh i j)) a b = absurd (b.4.here (a b.0 b.1 b.4.row_within b.4.column_within))
-  only_fits (Err (PriceTooHigh i j)) (Ok y) a b = absurd (a.4.here (b a.0 a.1 a.4.row_within a.4.column_within))
-  only_fits (Err (PriceTooHigh i j)) (Err (PriceTooHigh k l)) a b =
-      let same = one_place _ _ a.0 a.1 b.0 b.1 a.4 b.4 in
-      let rows : i ≡ k = omega (arith, a.2, b.2, same.0) in
-      let columns : j ≡ l = omega (arith, a.3, b.3, same.1) in
-      cc
-  only_fits (Ok x) (Err doubt) a b = absurd b
-  only_fits (Err (PriceTooHigh i j)) (Err doubt) a b = absurd b
-  only_fits (Err doubt) w a b = absurd a
+  only_fits = grind (arith, one_place)
 
 module _ (m : Parts) (s : Day) (settings : List Setting) where
   only_needed : IsOnly (SaysNeeded m s settings)
@@ -91,9 +68,7 @@ module _ (m : Parts) (s : Day) (settings : List Setting) where
       let counts = ap length same.0 in
       let lines : line ≡ other = omega (arith, a.number, b.number) in
       ap (λ l. Err (NeedlessLine l)) lines
-  only_needed (Ok x) (Err doubt) a b = absurd b
-  only_needed (Err (NeedlessLine line)) (Err doubt) a b = absurd b
-  only_needed (Err doubt) w a b = absurd a
+  only_needed v w a b = grind arith
 
 -- ---- the whole check
 
@@ -115,26 +90,7 @@ module _ (one : LeadsToOne) (m : Parts) (s : Day) (settings : List Setting) (pri
       (Found by.leads.0 by.leads.1 (Found tt by.leads.2 (Found tt by.fits (Found tt by.sum by.needed)))))
 
   says_proving : SaysChecked m s settings prices (Ok tt) → Proves m s settings prices
-  says_proving says =
-      let model = passed says in
-      let numbered = passed model.next in
-      let led = passed numbered.next in
-      let reads = passed led.next in
-      let fits = passed reads.next in
-      let sum = passed fits.next in
-      let are = are_numbered m s prices numbered.found model.says numbered.says in
-      record {
-        numbered = numbered.found;
-        expands = numbered.says;
-        proves = record {
-          model = are.model;
-          kind = are.kind;
-          leads = (led.found, led.says, reads.says);
-          fits = fits.says;
-          sum = sum.says;
-          needed = sum.next;
-        };
-      }
+  says_proving says = grind (arith, passed, are_numbered)
 
   -- what is answered tells whether the card proves itself
   pub told : (answer : Result (Unit {0}) Doubt) → SaysChecked m s settings prices answer → IsOk answer ↔ Proves m s settings prices

@@ -1,5 +1,5 @@
 -- Things grouped into kinds, rank by rank.
-use Rattle.kd_prices.proofs.Prelude.{◌≡◌, ◌≢◌, ℕ, ◌+◌, ◌<◌, ◌≤◌, inl, inr, Bool, true, false, cond, eqb, ltb, List, [], ◌∷◌, ◌++◌, length, count_by, append_assoc, length-append, refl, sym, ap, ◌∙◌, subst, arith, ℤ, pos, unsigned_abs, Some, None, All, cases_lt, lt-ltb, ne_eqb, eq-eqb, nat_tests, append-nil, All-nil, All-cons, All-head, All-tail, All-get_or, All-from_get_or, All-weaker, Look, Cable, Pair, Bar, Row, One, place_rank, PricedKind, look_name, look_rank, counted, IsInForm, IsPricedKind, AreKinds, AreCalled, price_at, AreWithinReach, look_at, alike_count, IsPriced, HasCount, AreExpanded, AreAlikePriced, IsKindAt, AreKindsOf, AreWithPrices}
+use Rattle.kd_prices.proofs.Prelude.{◌≡◌, ◌≢◌, ℕ, ◌+◌, ◌<◌, ◌≤◌, inl, inr, Bool, true, false, cond, eqb, ltb, List, [], ◌∷◌, ◌++◌, length, count_by, append_assoc, length-append, refl, sym, ap, ◌∙◌, subst, arith, ℤ, pos, unsigned_abs, None, All, cases_lt, lt-ltb, ne_eqb, eq-eqb, nat_tests, append-nil, All-nil, All-cons, All-head, All-tail, All-get_or, All-from_get_or, All-weaker, Look, Pair, place_rank, PricedKind, look_name, look_rank, counted, IsInForm, IsPricedKind, AreKinds, AreCalled, price_at, AreWithinReach, look_at, alike_count, IsPriced, HasCount, AreExpanded, AreAlikePriced, IsKindAt, AreKindsOf, AreWithPrices}
 use Rattle.std.proofs.lemmas.List.Sums.{sum_by-cons, sum_by-le, count_by-le-length, get_or-le-sum_by}
 use Rattle.kd_tables.specs.declared.place.Place.{Place}
 use Rattle.kd_prices.proofs.Meaning.{one_price}
@@ -49,17 +49,10 @@ some_counted looks place inside =
 -- ---- all ranks are below 703
 
 low_place : (place : Place) → place_rank place < 8
-low_place One = omega arith
-low_place _ = omega arith
+low_place place = grind arith
 
 low_look : (look : Look) → IsInForm look → look_rank look < 703
-low_look (Cable (None, other)) form = omega arith
-low_look (Cable (Some one, None)) form = omega (arith, form)
-low_look (Cable (Some one, Some other)) form = omega (arith, form.0, form.1)
-low_look (Pair None) form = omega arith
-low_look (Pair (Some (one, other))) form = omega (arith, form.0, form.1)
-low_look (Bar (left, right)) form = omega (arith, low_place left, low_place right)
-low_look (Row (one, other)) form = let order = form.ordered in let within = form.within in omega (arith, order, within)
+low_look look e = grind (arith, low_place)
 
 -- ---- one more kind at the end
 
@@ -73,8 +66,7 @@ priced_behind look price (kind ∷ kinds) more priced = inr (priced_behind look 
 
 few_kinds : (floor : ℕ) (kinds : List PricedKind) → AreKinds floor kinds → length kinds ≤ counted kinds
 few_kinds floor [] are = omega arith
-few_kinds floor (kind ∷ kinds) are =
-    let some = are.0.some in omega (arith, some, few_kinds (look_rank kind.look + 1) kinds are.2)
+few_kinds floor (kind ∷ kinds) are = grind (arith, few_kinds (look_rank kind.look + 1) kinds are.2)
 
 -- ---- rank by rank
 
@@ -93,13 +85,7 @@ abbrev pub AreGrouped : List Look → List ℤ → ℕ → List PricedKind → T
 AreGrouped looks prices rank kinds = (more : List PricedKind) → AreGroupedTo looks prices rank more (kinds ++ more)
 
 pub grouped_none : (looks : List Look) (prices : List ℤ) → AreGrouped looks prices 0 []
-grouped_none looks prices = λ more. record {
-  in_order = λ are. are;
-  called = λ name all called. called;
-  count = omega (arith, none_counted (below 0) looks (λ place inside. grind (arith, nat_tests)));
-  counts = λ all. all;
-  each = λ alike place inside low. absurd (omega arith);
-}
+grouped_none looks prices = grind (arith, none_counted)
 
 -- no thing has the rank
 pub grouped_past : (looks : List Look) (prices : List ℤ) (rank : ℕ) (kinds : List PricedKind)
@@ -175,8 +161,7 @@ module _ (looks : List Look) (prices : List ℤ) (few : length looks ≤ 27) (ea
 module _ (looks : List Look) (prices : List ℤ) (rank : ℕ) (kinds : List PricedKind) (past : 703 ≤ rank) (form : All IsInForm looks)
     (so_far : AreGrouped looks prices rank kinds) where
   low : All (λ look. look_rank look < rank) looks
-  low = All-weaker IsInForm (λ look. look_rank look < rank)
-      (λ look in_form. omega (arith, low_look look in_form)) looks form
+  low = grind (arith, All-weaker, low_look, form)
 
   grouped : AreGroupedTo looks prices rank [] kinds
   grouped = rw append-nil at (so_far [])
@@ -201,8 +186,7 @@ module _ (looks : List Look) (prices : List ℤ) (rank : ℕ) (kinds : List Pric
 priced_alike : (look other : Look) (price : ℤ) (kinds : List PricedKind) → look_rank look ≡ look_rank other
     → IsPriced look price kinds → IsPriced other price kinds
 priced_alike look other price [] same none = absurd none
-priced_alike look other price (kind ∷ kinds) same (inl has) = inl
-    (record { alike = has.alike ∙ same; price = has.price })
+priced_alike look other price (kind ∷ kinds) same (inl has) = grind arith
 priced_alike look other price (kind ∷ kinds) same (inr later) = inr (priced_alike look other price kinds same later)
 
 pub alike_priced : (looks : List Look) (prices : List ℤ) (kinds : List PricedKind) → AreWithPrices looks prices kinds

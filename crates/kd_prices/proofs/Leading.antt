@@ -1,6 +1,5 @@
 -- Settings that lead from one machine to another, taken apart and put together.
-use Rattle.std.proofs.Common.{drop}
-use Rattle.kd_prices.proofs.Prelude.{◌≡◌, Some, None, ℕ, ◌+◌, ◌<◌, List, [], ◌∷◌, ◌++◌, length, get_or, refl, sym, ap, ◌∙◌, subst, arith, drop_more, Parts, Setting, Why, why_refused, changed, Leads, Day, IsNeeded, AreNeeded, IsFirstNeedless}
+use Rattle.kd_prices.proofs.Prelude.{◌≡◌, Some, None, ℕ, ◌+◌, ◌<◌, List, [], ◌∷◌, ◌++◌, length, get_or, refl, sym, ap, ◌∙◌, subst, arith, drop_more, Parts, Setting, Why, why_refused, changed, Leads, Day, IsNeeded, AreNeeded, IsFirstNeedless, drop}
 
 pub leads_join : (m between n : Parts) (front rest : List Setting) → Leads m front between → Leads between rest n → Leads m (front ++ rest) n
 leads_join m between n [] rest first then_on = subst (λ machine. Leads machine rest n) first then_on
@@ -21,9 +20,7 @@ needed_at m between s (y ∷ front) rest x leads needed =
 -- a setting that is refused in its turn, in settings that lead on
 pub not_refused : (m between n : Parts) (front rest : List Setting) (x : Setting) (why : Why) → Leads m front between → why_refused between x ≡ Some why
     → Leads m (front ++ x ∷ rest) n → ⊥
-not_refused m between n front rest x why first refused leads =
-    let allowed = (leads_on m between n front (x ∷ rest) first leads).1.allowed in
-    cc
+not_refused m between n front rest x why first refused leads = grind (arith, leads_on)
 
 -- After so many needed settings: what is found of the rest holds of all of them, and the rest leads on.
 pub record AreNeededTo (m now : Parts) (s : Day) (settings : List Setting) (place : ℕ) (rest : List Setting) : Type 0 where

@@ -1,5 +1,5 @@
 -- Prices mean one list of prices by number at most, and those are of the same model.
-use Rattle.kd_prices.proofs.Prelude.{below_more, ◌≡◌, ℕ, ◌+◌, ◌<◌, ◌≤◌, inl, inr, List, [], ◌∷◌, length, get_or, refl, sym, ap, ◌∙◌, subst, arith, ℤ, pos, unsigned_abs, Option, Some, None, MatchOption, set, All-from_get_or, Pair, ext_get_or, get_or_default, get_or-set_same, get_or-set_other, Parts, Rotor, Pin, Setting, Day, Look, PricedKind, PriceParts, Cables, Bars, ByNumber, ByKind, look_rank, AreKinds, version_of, row_kinds, column_kinds, ArePrices, row_prices, column_prices, price_at, AreWithinReach, how_many, group_of, AreOfKind, row_looks, column_looks, IsPriced, look_at, AreExpanded, Expands, Same, Expanded, group_of_machine, Proves, AreOfOneModel, AreNumbered}
+use Rattle.kd_prices.proofs.Prelude.{below_more, ◌≡◌, ℕ, ◌+◌, ◌<◌, ◌≤◌, inl, inr, List, [], ◌∷◌, length, get_or, sym, ◌∙◌, subst, arith, ℤ, pos, unsigned_abs, Option, None, MatchOption, set, All-from_get_or, Pair, ext_get_or, get_or_default, get_or-set_same, get_or-set_other, Parts, Setting, Day, Look, PricedKind, PriceParts, ByNumber, ByKind, look_rank, AreKinds, version_of, row_kinds, column_kinds, ArePrices, row_prices, column_prices, price_at, AreWithinReach, how_many, group_of, AreOfKind, row_looks, column_looks, IsPriced, look_at, AreExpanded, Expands, Same, Expanded, group_of_machine, Proves, AreOfOneModel, AreNumbered}
 
 above : (floor : ℕ) (kinds : List PricedKind) (look : Look) (price : ℤ) → AreKinds floor kinds → IsPriced look price kinds → floor ≤ look_rank look
 above floor [] look price are priced = absurd priced
@@ -24,9 +24,7 @@ same_expansion looks kinds prices others are a b =
 
 same_parts : (prices others : PriceParts) → version_of prices ≡ ByNumber → version_of others ≡ ByNumber → group_of prices ≡ group_of others
     → row_prices prices ≡ row_prices others → column_prices prices ≡ column_prices others → prices ≡ others
-same_parts (Cables a b) (Cables c d) by also group rows columns = cc
-same_parts (Bars a b) (Bars c d) by also group rows columns = cc
-same_parts prices others by also group rows columns = cc
+same_parts prices others e d g h o = grind arith
 
 pub one_expansion : (m : Parts) (s : Day) (prices numbered other : PriceParts) → Expands m s prices numbered → Expands m s prices other → numbered ≡ other
 one_expansion m s prices numbered other (Same by e) (Same also f) = sym e ∙ f
@@ -38,29 +36,19 @@ one_expansion m s prices numbered other (Expanded by be group are good rows colu
 -- ---- models
 
 group_is : (m : Parts) (prices : PriceParts) → AreOfKind m prices → group_of prices ≡ group_of_machine m
-group_is (Rotor m) (Cables a b) kind = refl
-group_is (Pin m) (Bars a b) kind = refl
-group_is m prices kind = absurd kind
+group_is m prices e = grind arith
 
 pub kind_is : (m : Parts) (prices : PriceParts) → version_of prices ≡ ByNumber → group_of prices ≡ group_of_machine m → AreOfKind m prices
-kind_is (Rotor m) (Cables a b) by group = tt
-kind_is (Pin m) (Bars a b) by group = tt
-kind_is m prices by group = cc
+kind_is m prices e d = grind arith
 
 same_group : (m : Parts) (s : Day) (prices numbered : PriceParts) → Expands m s prices numbered → (version_of numbered ≡ ByNumber) × (group_of prices ≡ group_of numbered)
-same_group m s prices numbered (Same by e) = (ap version_of (sym e) ∙ by, ap group_of e)
-same_group m s prices numbered (Expanded by be group are good rows columns) = (be, group)
+same_group m s prices numbered e = grind arith
 
 pub of_one_model : (m : Parts) (s : Day) (settings : List Setting) (prices : PriceParts) → Proves m s settings prices → AreOfOneModel m s prices
-of_one_model m s settings prices h = record {
-  model = h.proves.model;
-  group = (same_group m s prices h.numbered h.expands).1 ∙ group_is m h.numbered h.proves.kind;
-}
+of_one_model m s settings prices h = grind (arith, same_group, group_is)
 
 pub are_numbered : (m : Parts) (s : Day) (prices numbered : PriceParts) → AreOfOneModel m s prices → Expands m s prices numbered → AreNumbered m s numbered
-are_numbered m s prices numbered model expands =
-    let same = same_group m s prices numbered expands in
-    record { model = model.model; kind = kind_is m numbered same.0 (sym same.1 ∙ model.group) }
+are_numbered m s prices numbered model expands = grind (arith, same_group, kind_is)
 
 -- ---- prices found
 
@@ -74,9 +62,7 @@ pub one_more_price : (looks : List Look) (kinds : List PricedKind) (prices : Lis
     → look ≡ get_or looks i look → IsPriced look price kinds → ((place : ℕ) → place < i → IsPriced (look_at looks place) (price_at prices place) kinds)
     → (place : ℕ) → place < i + 1 → IsPriced (look_at looks place) (price_at (set prices i price) place) kinds
 one_more_price looks kinds prices i look price inside within is here before =
-    below_more (λ place. IsPriced (look_at looks place) (price_at (set prices i price) place) kinds) i
-    (λ place lt. rw (get_or-set_other prices i place price (pos 0) (λ e. omega (arith, e, lt))) (before place lt))
-    (rw (get_or-set_same prices i price (pos 0) within) (subst (λ l. IsPriced l price kinds) (is ∙ get_or_default looks i look (Pair None) inside) here))
+    grind (arith, below_more, look_at, get_or-set_other, before, get_or-set_same, get_or_default, here)
 
 priced_within : (floor : ℕ) (kinds : List PricedKind) (look : Look) (price : ℤ) → AreKinds floor kinds → IsPriced look price kinds → unsigned_abs price ≤ 9999
 priced_within floor [] look price are none = absurd none
@@ -98,17 +84,4 @@ pub expanded_told : (machine n : Parts) (s d : Day) (prices p numbered : PricePa
     → MatchOption r (¬ (ArePrices numbered)) (λ p. p ≡ numbered)
     → MatchOption r ((numbered : PriceParts) → ¬ (Expands machine s prices numbered)) (λ numbered. Expands machine s prices numbered)
 expanded_told machine n s d prices p numbered r em es ep are kind number group rows columns no_rows no_columns row column h =
-    let good : ArePrices numbered = record {
-      rows = rows;
-      columns = columns;
-      row_reach = expanded_within _ _ (row_prices numbered) are.row_kinds row;
-      column_reach = expanded_within _ _ (column_prices numbered) are.column_kinds column;
-      row_kinds = no_rows;
-      column_kinds = no_columns;
-    } in
-    let expands : Expands machine s prices numbered = Expanded (ap version_of ep ∙ kind) number (ap group_of ep ∙ group) are good (rw em row) (rw es column) in
-    elim r as (λ r. MatchOption r (¬ (ArePrices numbered)) (λ p. p ≡ numbered)
-    → MatchOption r ((numbered : PriceParts) → ¬ (Expands machine s prices numbered)) (λ numbered. Expands machine s prices numbered)) [
-      | None ↦ λ none. absurd (none good)
-      | Some q ↦ λ same. subst (Expands machine s prices) (sym same) expands
-    ] h
+    grind (arith, expanded_within, Expanded)

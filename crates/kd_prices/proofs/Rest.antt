@@ -1,6 +1,5 @@
 -- What is left of a card that proves itself, after its first lines.
-use Rattle.std.proofs.Common.{take, drop}
-use Rattle.kd_prices.proofs.Prelude.{◌++◌, sym, subst, arith, length-append, length-drop, take-append-drop, length-take, Leads, ProvingCardsAreShortest, RestIsShortest}
+use Rattle.kd_prices.proofs.Prelude.{◌++◌, sym, subst, arith, length-append, length-drop, take-append-drop, length-take, Leads, ProvingCardsAreShortest, RestIsShortest, take, drop}
 use Rattle.kd_prices.proofs.Leading.{leads_join, leads_on}
 
 pub rest_is_shortest : ProvingCardsAreShortest → RestIsShortest

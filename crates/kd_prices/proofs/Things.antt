@@ -1,7 +1,6 @@
 -- What a machine's cables or bars look like, and a day's pairs and nothings or rows: so many, called so, each in its form.
-use Rattle.std.proofs.Common.{map}
 use Rattle.std.specs.List.{IsDistinct}
-use Rattle.kd_prices.proofs.Prelude.{◌≡◌, ℕ, zero, suc, ◌-◌, ◌<◌, false, eqb, List, [], ◌∷◌, ◌++◌, length, get_or, replicate, Option, Some, None, refl, ap, ◌∙◌, arith, AllByRecursion, eqb-false, length-map, All-from_recursion, recursion_from_All, All-map, letters_plugged, NoLetterTwice, Parts, Rotor, Pin, plugged_letters, ordered, IsMachine, Day, OfRotors, OfPins, IsLegalDay, columns_of, ThirteenColumns, Look, Cable, Pair, Bar, Row, look_name, IsInForm, All, nat_tests, Group, OfCables, OfBars, row_name, column_name, price_count, row_looks, column_looks, pair_in_order, group_of_machine, AreThings}
+use Rattle.kd_prices.proofs.Prelude.{◌≡◌, ℕ, zero, suc, ◌-◌, ◌<◌, false, eqb, List, [], ◌∷◌, ◌++◌, length, get_or, replicate, Option, Some, None, refl, ap, ◌∙◌, arith, AllByRecursion, eqb-false, length-map, All-from_recursion, recursion_from_All, All-map, letters_plugged, NoLetterTwice, Parts, Rotor, Pin, plugged_letters, ordered, IsMachine, Day, OfRotors, OfPins, IsLegalDay, columns_of, ThirteenColumns, Look, Cable, Pair, Bar, Row, look_name, IsInForm, All, nat_tests, Group, OfCables, OfBars, row_name, column_name, price_count, row_looks, column_looks, pair_in_order, group_of_machine, AreThings, map}
 
 abbrev in_each_order : List (Option ℕ × Option ℕ) → List (Option ℕ × Option ℕ)
 in_each_order cables = map (λ cable. ordered cable.0 cable.1) cables
@@ -18,13 +17,10 @@ cables_in_form : (cables : List (Option ℕ × Option ℕ)) → in_each_order ca
 unfolding IsDistinct
 cables_in_form [] e within apart = tt
 cables_in_form ((None, None) ∷ cables) e within apart = (tt, cables_in_form cables (cc) within apart)
-cables_in_form ((None, Some b) ∷ cables) e within apart = let none : Some b ≡ None = ap
-    (λ (plugged : List (Option ℕ × Option ℕ)). first_end (get_or plugged 0 (None, None))) e in cc
+cables_in_form ((None, Some b) ∷ cables) e within apart = grind arith
 cables_in_form ((Some a, None) ∷ cables) e within apart = (within.0, cables_in_form cables (cc) within.1 apart.1)
-cables_in_form ((Some a, Some b) ∷ cables) e within apart = (
-  (two_ordered a b (cc) apart.0.0, within.1.0),
-  cables_in_form cables (cc) within.1.1 apart.1.1,
-)
+cables_in_form ((Some a, Some b) ∷ cables) e within apart =
+    grind (arith, two_ordered, cables_in_form cables (cc) within.1.1 apart.1.1)
 
 abbrev cables_of : Parts → List (Option ℕ × Option ℕ)
 cables_of (Rotor m) = m.cables
@@ -42,12 +38,7 @@ pairs_in_form : (n : ℕ) (pairs : List (ℕ × ℕ)) → AllByRecursion (λ let
     → AllByRecursion IsInForm (map pair_look (map Some pairs ++ replicate n None))
 unfolding IsDistinct
 pairs_in_form n [] within apart = nothings_in_form n
-pairs_in_form n ((a, b) ∷ pairs) within apart =
-    let one = within.0 in
-    let other = within.1.0 in (
-      (omega (arith, eqb-false a b apart.0.0), omega arith),
-      pairs_in_form n pairs within.1.1 apart.1.1,
-    )
+pairs_in_form n ((a, b) ∷ pairs) within apart = grind (arith, eqb-false, pairs_in_form n pairs within.1.1 apart.1.1)
 
 -- the things of a machine, and of a day
 things : {X : Type 0} (f : X → Look) (xs : List X) (name : _) (number : ℕ) → ((x : X) → look_name (f x) ≡ name) → length xs ≡ number → All IsInForm (map f xs)

@@ -86,11 +86,16 @@ pub(crate) fn are_of_one_model(machine: &Machine, day: &SheetDay, prices: &Price
 fn are_of_kind(machine: &Machine, prices: &Prices) -> bool
     ensures { IsTrue result ↔ (group_of prices.now ≡ group_of_machine machine.now) }
 {
-    match (machine.parts(), prices.parts()) {
-        (Parts::Rotor(_), PriceParts::Cables(..) | PriceParts::CableKinds(..)) => true,
-        (Parts::Pin(_), PriceParts::Bars(..) | PriceParts::BarKinds(..)) => true,
-        _ => false,
-    }
+    matches!(
+        (machine.parts(), prices.parts()),
+        (
+            Parts::Rotor(_),
+            PriceParts::Cables(..) | PriceParts::CableKinds(..)
+        ) | (
+            Parts::Pin(_),
+            PriceParts::Bars(..) | PriceParts::BarKinds(..)
+        )
+    )
 }
 
 /// The first row and column whose prices are together above what the machine's cable or bar costs there.

@@ -22,6 +22,7 @@ pub fn rest_of_a_card_is_shortest()
 
 /// In a card that proves itself by number cables of equal letters have equal prices, and so have bars that stand alike,
 /// rows that read alike, and nothings.
+#[tactic(auto, using(crate::proofs::AlikePrices::alike_prices_are_equal))]
 pub fn alike_prices_are_equal()
     ensures { AlikePricesAreEqual }
 {

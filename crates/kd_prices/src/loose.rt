@@ -60,10 +60,7 @@ fn loose_slots(slots: &[Option<Wheel>], wheels: &[SheetWheel]) -> usize
 fn is_seated(seated: Option<Wheel>, wheel: Wheel) -> bool
     ensures { result ≡ option_map_or (same_wheel wheel) seated false }
 {
-    match seated {
-        None => false,
-        Some(other) => other == wheel,
-    }
+    matches!(seated, Some(other) if other == wheel)
 }
 
 /// 1 where the reflector is another one.
@@ -104,10 +101,7 @@ fn loose_letters(machine: &Machine, wheels: &[SheetWheel]) -> usize
 fn is_letter(present: Option<Letter>, letter: Letter) -> bool
     ensures { result ≡ option_map_or (nat_eq letter) present false }
 {
-    match present {
-        None => false,
-        Some(other) => letter == other,
-    }
+    matches!(present, Some(other) if letter == other)
 }
 
 /// How many pins, and letters of pin wheels, of a Converter M-209 differ.

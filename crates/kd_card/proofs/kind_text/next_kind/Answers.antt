@@ -1,12 +1,10 @@
-use Rattle.kd_card.proofs.Prelude.{◌≡◌, ◌∙◌, sym, refl, ap, subst, not, eqb, length, pointwise, false≢true, not-false, eqb-true, Decides-eqb, nil_from_length, slice_eq-Decides, name_text, BeginsWithWord, AtNothing, AtOther}
+use Rattle.kd_card.proofs.Prelude.{◌≡◌, ◌∙◌, sym, refl, ap, subst, not, eqb, length, pointwise, false≢true, not-false, eqb-true, Decides-eqb, nil_from_length, slice_eq-Decides, name_text, BeginsWithWord, AtOther, common_steps, arith}
 use Rattle.kd_card.proofs.KindWords.{begins, ends_at, unended, no_kind, words_are, low_next}
 use Rattle.kd_card.proofs.kind_text.next_kind.Goals as goal
 use Rattle.kd_card.proofs.kind_text.next_kind.Goals.{in_default-kind_of_line-via-in-Some-kind_of_line+else-floor-rank, in_default-kind_of_line-via-in_default-kind_of_line}
 
 pub returns-then-is_empty : goal.returns-then-is_empty
-returns-then-is_empty c =
-    ends_at c.texts_tell_first_parts.ensures c.args.floor
-    (AtNothing (nil_from_length c.args.text.now (eqb-true _ 0 (sym c.is_empty.ensures ∙ c.if-is_empty.true))))
+returns-then-is_empty c = grind (arith, common_steps, ends_at, nil_from_length, eqb-true)
 
 pub returns-in_default : goal.returns-in_default
 returns-in_default c = (

@@ -1,5 +1,5 @@
-use Rattle.kd_card.proofs.Prelude.{◌<◌, ◌∙◌, length, refl, sym, ap, arith, BadLine, PriceMissing, Refused, Found}
-use Rattle.kd_card.proofs.KindLists.{low_look, reads_on, walk_bounds}
+use Rattle.kd_card.proofs.Prelude.{◌∙◌, refl, sym, ap, arith, BadLine, PriceMissing, Refused, Found}
+use Rattle.kd_card.proofs.KindLists.{reads_on, walk_bounds}
 use Rattle.kd_card.proofs.kind_text.read_kinds.Goals as goal
 
 pub returns-in-Err : goal.returns-in-Err
@@ -11,24 +11,13 @@ returns-in-Err c =
     (Refused c.in-Err.fault ((λ same ends. bad.goes_on ends), c.in-Err.ensures.1 ∙ ap BadLine read.at_is) refl)
 
 pub overflow_add-total : goal.overflow_add-total
-overflow_add-total c =
-    let bounds = walk_bounds c.kind.invariant.walked in
-    let next = rw c.in-Some.is at c.in-Ok.ensures in
-    omega (arith, bounds.0, bounds.2, c.from-total.ensures)
+overflow_add-total c = grind (arith, walk_bounds c.kind.invariant.walked)
 
 pub push-requires : goal.push-requires
-push-requires c =
-    let bounds = walk_bounds c.kind.invariant.walked in
-    let next = rw c.in-Some.is at c.in-Ok.ensures in
-    let low = low_look _ next.good.form in
-    let above = next.above in
-    let room : length c.kind.kinds.items < 703 = omega (arith, bounds.1, above, low) in
-    (omega arith, room)
+push-requires c = grind (arith, walk_bounds c.kind.invariant.walked)
 
 pub overflow_add-at : goal.overflow_add-at
-overflow_add-at c =
-    let bounds = walk_bounds c.kind.invariant.walked in
-    omega (arith, bounds.1, bounds.2, c.kind.invariant.at_is)
+overflow_add-at c = grind (arith, walk_bounds c.kind.invariant.walked)
 
 pub kind-preserved : goal.kind-preserved
 kind-preserved c =

@@ -1,4 +1,4 @@
-use Rattle.kd_card.proofs.Prelude.{◌∙◌, ◌≢◌, ℕ, List, sym, refl, false≢true, Decides-eqb, err_from_is_err_and, slice_eq-Decides, Version, Group, OfCables, OfBars, Refused, first_text}
+use Rattle.kd_card.proofs.Prelude.{◌∙◌, ◌≢◌, ℕ, List, sym, refl, false≢true, Decides-eqb, err_from_is_err_and, slice_eq-Decides, Version, Group, OfCables, OfBars, Refused, first_text, arith}
 use Rattle.kd_card.proofs.CardWords.{first_found, other_first}
 use Rattle.kd_card.proofs.price_text.first_group.Goals as goal
 
@@ -21,8 +21,7 @@ returns-then-eq-2 c =
 
 neither : (version : Version) {first : List ℕ} → first ≢ first_text version OfCables → first ≢ first_text version OfBars
     → (group : Group) → first ≢ first_text version group
-neither version a b OfCables = a
-neither version a b OfBars = b
+neither version e d group = grind arith
 
 pub returns-else-eq-2 : goal.returns-else-eq-2
 returns-else-eq-2 c =

@@ -1,4 +1,4 @@
-use Rattle.kd_card.proofs.Prelude.{◌∙◌, Bor, List, ℕ, map, ap, sym, refl, false≢true, Found}
+use Rattle.kd_card.proofs.Prelude.{◌∙◌, Bor, List, ℕ, map, ap, sym, refl, false≢true, Found, rules}
 use Rattle.kd_card.proofs.PriceTexts.{other_count, too_many, no_prices}
 use Rattle.kd_card.proofs.price_text.prices_of_text.Goals as goal
 
@@ -6,8 +6,7 @@ pub returns-then-are_prices : goal.returns-then-are_prices
 returns-then-are_prices g c = too_many _ c.args.line (c.are_prices.ensures.0 c.if-are_prices.true) c.in_default.ensures
 
 pub returns-in_default : goal.returns-in_default
-returns-in_default g c =
-    no_prices _ c.args.line (λ all. false≢true (sym c.if-are_prices.false ∙ c.are_prices.ensures.1 all))
+returns-in_default g c = search (rules, no_prices, c.are_prices.ensures.1)
 
 pub returns-in_default-prices_of_words : goal.returns-in_default-prices_of_words
 returns-in_default-prices_of_words g c =

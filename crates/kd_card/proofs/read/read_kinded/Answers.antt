@@ -23,10 +23,7 @@ returns-in_err-columns c =
     (Refused _ (rw (c.column_name.ensures, c.number-number.ensures, c.len.ensures.value) at c.in_err-columns.ensures) refl)))
 
 pub read_kinds-requires-2-clause-near : goal.read_kinds-requires-2-clause-near
-read_kinds-requires-2-clause-near c =
-    let rows = (group_said _ _ c.in_ok-rows.ensures).group in
-    let count = rows.count in
-    omega (arith, few_kinds 0 c.in_ok-rows.rows.items rows.in_order, few_prices_of c.in_ok-group.group)
+read_kinds-requires-2-clause-near c = grind (arith, group_said, few_kinds, few_prices_of)
 
 pub returns : goal.returns
 returns c =

@@ -1,5 +1,4 @@
-use Rattle.kd_card.proofs.Prelude.{arith, subst, All-more, IsInRange}
-use Rattle.std.proofs.lemmas.Grind.{common_steps}
+use Rattle.kd_card.proofs.Prelude.{arith, subst, All-more, IsInRange, common_steps}
 use Rattle.kd_card.proofs.write.push_settings.Goals as goal
 
 pub loop-setting-preserved : goal.loop-setting-preserved

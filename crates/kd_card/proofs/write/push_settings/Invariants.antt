@@ -1,5 +1,4 @@
-use Rattle.std.proofs.Common.{All}
-use Rattle.kd_card.proofs.Prelude.{◌≡◌, ◌+◌, ◌*◌, ◌≤◌, ◌++◌, take, array_string_len, list_text, IsInRange}
+use Rattle.kd_card.proofs.Prelude.{◌≡◌, ◌+◌, ◌*◌, ◌≤◌, ◌++◌, take, array_string_len, list_text, IsInRange, All}
 use Rattle.kd_card.proofs.write.push_settings.Given as goal
 
 abbrev pub invariant-loop-setting : goal.invariant-loop-setting

@@ -1,6 +1,4 @@
-use Rattle.kd_prices.proofs.Prelude.{sym, ◌∙◌, refl, false≢true}
-use Rattle.kd_card.specs.Steps.{Refused, Found}
-use Rattle.kd_prices.specs.declared.doubt.Doubt.TheVariants.{OtherModel, PriceMissing}
+use Rattle.kd_prices.proofs.Prelude.{sym, ◌∙◌, refl, false≢true, Refused, Found, OtherModel, PriceMissing, arith}
 use Rattle.kd_prices.proofs.Meaning.{are_numbered}
 use Rattle.kd_prices.proofs.checking.judged.Goals as goal
 
@@ -14,9 +12,7 @@ returns-in_default c =
     (Refused PriceMissing (c.in_default.ensures, refl) refl)
 
 pub judged_by_number-requires-clause-numbered : goal.judged_by_number-requires-clause-numbered
-judged_by_number-requires-clause-numbered c =
-    are_numbered c.args.machine.now c.args.day.now c.args.prices.now c.in-Some.numbered
-    (c.are_of_one_model.ensures.0 c.if-not-are_of_one_model.false) c.in-Some.ensures
+judged_by_number-requires-clause-numbered c = grind (arith, are_numbered, c.are_of_one_model.ensures.0)
 
 pub returns : goal.returns
 returns c =

@@ -1,8 +1,4 @@
-use Rattle.kd_prices.proofs.Prelude.{◌≡◌, ◌+◌, ◌<◌, ◌^◌, pos, SFits, w32, to_z, rules, arith, sym, ap, ◌∙◌, refl, false≢true, to_z-of_z, to_z_pos, price_sum, priced_count, IllegalAt, NotTheSheet}
-use Rattle.std.specs.Prelude.{◌≢◌, ℕ, ℤ}
-use Rattle.std.proofs.Common.{of_z}
-use Rattle.kd_card.specs.Steps.{Refused, Found}
-use Rattle.kd_prices.specs.declared.doubt.Doubt.TheVariants.{PriceTooHigh, SumDiffers}
+use Rattle.kd_prices.proofs.Prelude.{◌≡◌, ◌+◌, ◌<◌, ◌^◌, pos, SFits, w32, to_z, rules, arith, sym, ap, ◌∙◌, refl, false≢true, to_z-of_z, to_z_pos, price_sum, priced_count, IllegalAt, NotTheSheet, ◌≢◌, ℕ, ℤ, of_z, Refused, Found, PriceTooHigh, SumDiffers}
 use Rattle.kd_prices.proofs.checking.judged_by_number.Goals as goal
 
 pub returns-in-Err : goal.returns-in-Err

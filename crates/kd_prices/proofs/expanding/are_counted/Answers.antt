@@ -1,4 +1,4 @@
-use Rattle.kd_prices.proofs.Prelude.{◌∙◌, sym, refl, subst, arith, false≢true, take_all, All-more, All-same, HasCount}
+use Rattle.kd_prices.proofs.Prelude.{◌∙◌, sym, subst, arith, false≢true, take_all, All-more, All-same, HasCount}
 use Rattle.kd_prices.proofs.expanding.are_counted.Goals as goal
 
 pub returns-then-not-is_counted : goal.returns-then-not-is_counted
@@ -15,7 +15,4 @@ loop-kind-preserved c =
     (subst (HasCount c.args.looks.now) c.kind-item.is (c.is_counted.ensures.0 c.if-not-is_counted.false))
 
 pub returns : goal.returns
-returns c = (
-  λ e. All-same (HasCount c.args.looks.now) _ _ (sym (take_all c.loop-kind.kind-index c.args.kinds.now (omega arith))) c.loop-kind.invariant,
-  λ all. refl,
-)
+returns c = grind (arith, All-same, take_all)

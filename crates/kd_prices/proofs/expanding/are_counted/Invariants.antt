@@ -1,5 +1,4 @@
-use Rattle.std.specs.Prelude.{All}
-use Rattle.kd_prices.proofs.Prelude.{take, HasCount}
+use Rattle.kd_prices.proofs.Prelude.{take, HasCount, All}
 use Rattle.kd_prices.proofs.expanding.are_counted.Given as goal
 
 abbrev pub invariant-loop-kind : goal.invariant-loop-kind

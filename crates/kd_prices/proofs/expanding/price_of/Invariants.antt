@@ -1,5 +1,4 @@
-use Rattle.std.specs.Prelude.{ℤ}
-use Rattle.kd_prices.proofs.Prelude.{◌↔◌, drop, IsPriced}
+use Rattle.kd_prices.proofs.Prelude.{◌↔◌, drop, IsPriced, ℤ}
 use Rattle.kd_prices.proofs.expanding.price_of.Given as goal
 
 abbrev pub invariant-loop-kind : goal.invariant-loop-kind

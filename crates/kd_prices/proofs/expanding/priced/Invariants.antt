@@ -1,5 +1,4 @@
-use Rattle.std.specs.Prelude.{◌≡◌, ℕ, ◌<◌, length}
-use Rattle.kd_prices.proofs.Prelude.{price_at, IsPriced, look_at}
+use Rattle.kd_prices.proofs.Prelude.{price_at, IsPriced, look_at, ◌≡◌, ℕ, ◌<◌, length}
 use Rattle.kd_prices.proofs.expanding.priced.Given as goal
 
 abbrev pub invariant-loop-place : goal.invariant-loop-place

@@ -1,5 +1,4 @@
-use Rattle.std.specs.Prelude.{ℕ, ◌<◌}
-use Rattle.kd_prices.proofs.Prelude.{IsWithin}
+use Rattle.kd_prices.proofs.Prelude.{IsWithin, ℕ, ◌<◌}
 use Rattle.kd_prices.proofs.fitting.first_column_too_high.Given as goal
 
 abbrev pub invariant-loop-column : goal.invariant-loop-column

@@ -1,5 +1,4 @@
-use Rattle.std.specs.Prelude.{ℕ, ◌<◌}
-use Rattle.kd_prices.proofs.Prelude.{AreWithin}
+use Rattle.kd_prices.proofs.Prelude.{AreWithin, ℕ, ◌<◌}
 use Rattle.kd_prices.proofs.fitting.first_too_high.Given as goal
 
 abbrev pub invariant-loop-row : goal.invariant-loop-row

@@ -1,4 +1,4 @@
-use Rattle.kd_prices.proofs.Prelude.{◌∙◌, sym, subst, false≢true, Decides-int_eq, AreExpanded}
+use Rattle.kd_prices.proofs.Prelude.{subst, false≢true, Decides-int_eq, AreExpanded, arith}
 use Rattle.std.proofs.lemmas.Slice.Eq.{slice_eq-Decides}
 use Rattle.kd_prices.proofs.Meaning.{same_expansion}
 use Rattle.kd_prices.proofs.kind_cards.kinds_of.Goals as goal
@@ -15,12 +15,4 @@ returns-then-eq g c =
     }
 
 pub returns-else-eq : goal.returns-else-eq
-returns-else-eq g c = λ alike.
-    let looks = c.args.looks.now in
-    let prices = c.args.prices.now in
-    let found = c.in_ok-priced.field-0 in
-    let told = slice_eq-Decides Decides-int_eq found prices c.eq.result c.eq.ensures in
-    let meant = subst (λ kinds. AreExpanded looks kinds found) c.as_slice.ensures.value c.in_ok-priced.ensures in
-    let first = c.first_kinds-kinds.ensures in
-    let same = same_expansion looks c.first_kinds-kinds.result.items found prices first.kinds.in_order meant (first.expanded alike) in
-    false≢true (sym c.if-eq.false ∙ told.1 same)
+returns-else-eq g c = grind (arith, slice_eq-Decides, same_expansion, false≢true)

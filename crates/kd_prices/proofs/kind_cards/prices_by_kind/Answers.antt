@@ -15,10 +15,7 @@ cables c =
 
 bars : (c : After-row_looks-columns) → AreOfOneGroup OfBars c.args.machine.now c.args.day.now c.args.prices.now c.bar_looks-rows.result c.row_looks-columns.result
     c.in-Pin-Bars.bars c.in-Pin-Bars.sheet
-bars c =
-    let apart = subst (AreParted c.args.machine.now c.args.day.now) c.in-Pin-Bars.is-0 c.in_ok-parts.ensures.parted in
-    one_group apart.0 apart.1 (sym c.parts.ensures.value ∙ c.in-Pin-Bars.is-1) c.of_one_model.ensures.machine c.of_one_model.ensures.day (search rules)
-    (record { model = refl; kind = tt }) refl refl refl refl c.bar_looks-rows.ensures c.row_looks-columns.ensures
+bars c = grind (arith, one_group)
 
 pub of_group-requires : goal.of_group-requires
 of_group-requires c =
@@ -31,11 +28,7 @@ of_group-requires-in-Pin-Bars c =
     (omega arith, (omega arith, (requires_met (told at.After-columns_are_the_pairs) (bars at.After-row_looks-columns))))
 
 pub returns-in-Rotor-Cables : goal.returns-in-Rotor-Cables
-returns-in-Rotor-Cables c =
-    let at = goal.at.returns-in-Rotor-Cables c in
-    by_kind_told (told at.After-columns_are_the_pairs) (cables at.After-pair_looks-columns) _ c.of_group.ensures
+returns-in-Rotor-Cables c = grind (arith, by_kind_told, told, cables)
 
 pub returns-in-Pin-Bars : goal.returns-in-Pin-Bars
-returns-in-Pin-Bars c =
-    let at = goal.at.returns-in-Pin-Bars c in
-    by_kind_told (told at.After-columns_are_the_pairs) (bars at.After-row_looks-columns) _ c.of_group-in-Pin-Bars.ensures
+returns-in-Pin-Bars c = grind (arith, by_kind_told, told, bars)

@@ -1,5 +1,4 @@
-use Rattle.std.specs.Prelude.{◌≡◌, length}
-use Rattle.kd_prices.proofs.Prelude.{map, take, Bar}
+use Rattle.kd_prices.proofs.Prelude.{map, take, Bar, ◌≡◌, length}
 use Rattle.kd_prices.proofs.looks.bar_looks.Given as goal
 
 abbrev pub invariant-loop-place : goal.invariant-loop-place

@@ -1,5 +1,4 @@
-use Rattle.std.specs.Prelude.{◌≡◌, length}
-use Rattle.kd_prices.proofs.Prelude.{map, take, Cable}
+use Rattle.kd_prices.proofs.Prelude.{map, take, Cable, ◌≡◌, length}
 use Rattle.kd_prices.proofs.looks.cable_looks.Given as goal
 
 abbrev pub invariant-loop-place : goal.invariant-loop-place

@@ -1,5 +1,4 @@
-use Rattle.std.specs.Prelude.{◌≡◌, length}
-use Rattle.kd_prices.proofs.Prelude.{map, take, Pair, pair_in_order, columns_of}
+use Rattle.kd_prices.proofs.Prelude.{map, take, Pair, pair_in_order, columns_of, ◌≡◌, length}
 use Rattle.kd_prices.proofs.looks.pair_looks.Given as goal
 
 abbrev pub invariant-loop-place : goal.invariant-loop-place

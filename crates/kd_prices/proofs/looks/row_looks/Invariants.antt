@@ -1,5 +1,4 @@
-use Rattle.std.specs.Prelude.{◌≡◌, length}
-use Rattle.kd_prices.proofs.Prelude.{map, take, Row}
+use Rattle.kd_prices.proofs.Prelude.{map, take, Row, ◌≡◌, length}
 use Rattle.kd_prices.proofs.looks.row_looks.Given as goal
 
 abbrev pub invariant-loop-place : goal.invariant-loop-place

@@ -1,13 +1,9 @@
-use Rattle.kd_prices.proofs.Prelude.{refl, sym, subst, arith, false≢true, drop_all, AreNeeded, IsFirstNeedless}
+use Rattle.kd_prices.proofs.Prelude.{refl, arith, false≢true, drop_all}
 use Rattle.kd_prices.proofs.Leading.{steps_on, stops_here}
 use Rattle.kd_prices.proofs.needless.first_needless.Goals as goal
 
 pub loop-place-init : goal.loop-place-init
-loop-place-init c = record {
-  needed = λ all. all;
-  needless = λ line h. subst (IsFirstNeedless c.args.machine.now c.args.day.now c.args.settings.now) (omega arith) h;
-  onward = c.requires;
-}
+loop-place-init c = grind arith
 
 pub returns-then-not-is_needed : goal.returns-then-not-is_needed
 returns-then-not-is_needed c =
@@ -18,5 +14,4 @@ loop-place-preserved c =
     steps_on _ _ _ _ _ _ c.loop-place-test.true c.index-settings-place.is c.loop-place.invariant _ (c.if-not-is_needed.ensures.needed.0 refl) c.is_needed.ensures.carried
 
 pub returns : goal.returns
-returns c =
-    c.loop-place.invariant.needed (subst (AreNeeded c.loop-place.carried c.args.day.now) (sym (drop_all c.loop-place.place c.args.settings.now (omega arith))) tt)
+returns c = grind (arith, c.loop-place.invariant.needed, drop_all)
