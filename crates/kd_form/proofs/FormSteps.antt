@@ -1,4 +1,6 @@
 -- The reader of a form, byte by byte, and at the end.
+use Rattle.std.proofs.Common.{rules}
+use Rattle.std.proofs.lemmas.Grind.{common_steps}
 use Rattle.kd_form.proofs.Prelude.{[], ◌≡◌, ◌≢◌, ◌⊎◌, inl, inr, ℕ, ◌+◌, ◌-◌, ◌≤◌, List, ◌∷◌, ◌++◌, length, take, refl, sym, ap, subst, ◌∙◌, append_assoc, length-append, Result, Ok, Err, MatchResult, arith, codes, All, IsTrue, Option, Some, None, IsFalse, MatchOption, option_to_list, take-append_seam, cases_lt, cases_eq, append-nil, take_all, take-take, take-append-le, length-take, length-take-le, filter_map-append, All-nil, All-push, ArrayVec, is_text_byte, Day, line_of, IsWithout, IsFirstPart, TextsTellFirstParts, NumbersAreWords, FormFault, Heading, IsEnded, heading_words, letter_of_byte, letters_from, IsHeading, BeginsHeading, IsFirstOf, IsBodyText, IsBodyFault, HasHeading, IsExpected, IsEarlyFault, InHeading, InNumber, InBody, IsPartRead, IsPartFault, IsNextLine, Broken, Longer, Begins, HoldsBody, IsBodyGiven, MayBegin, HoldsPart, HoldsStage, HoldsForm, IsHeadingDue, IsHeadingOff, Missing, Other, IsLastText, BadByte, BadHeading, PartOrder, IsReadTo, given_letters, count_due, Turn, IsRefusedForGood, NoHeading, InWhole, InLast, form_message, IsRefusedAtEnd, InPart, IsRefused, Closes, Held}
 use Rattle.kd_form.specs.declared.part_body.PartBody.{PartBody}
 use Rattle.kd_form.proofs.Headings.{at_most, plain_heading, has_byte, ended_heading, one_heading, begins_there}
@@ -173,8 +175,7 @@ not_refused s (stages.Body b) number expected start part line body fault tell nu
 
 -- the last part is what the parts before it leave
 at_rest : (s : Day) (r : FormReader) (form text : List ℕ) (h : HoldsForm s r form text) → HoldsStage s r.stage r.number r.expected h.so_far.turn.rest
-at_rest s r form text h =
-    subst (HoldsStage s r.stage r.number r.expected) (sym (last_rest s form h.so_far.turn h.so_far.last)) h.stage
+at_rest s r form text h = grind (arith, last_rest s form h.so_far.turn h.so_far.last)
 
 pub held : (s : Day) (r : FormReader) (form text : List ℕ) → TextsTellFirstParts → NumbersAreWords → HoldsForm s r form text
     → Held (form_message s) (HoldsForm s r) form text
@@ -213,8 +214,7 @@ starts s r position number expected line stage none = record {
 
 nothing_before : (s : Day) (form rest : List ℕ) (before : List (List ℕ)) (count : ℕ) (letters : List ℕ) → 1 ≡ length before + 1
     → IsReadTo s form rest before count letters → (form ≡ rest) × (letters ≡ [])
-nothing_before s form rest [] count letters one read = (read.cut, read.read)
-nothing_before s form rest (part ∷ before) count letters one read = absurd (omega arith)
+nothing_before s form rest before count letters e d = grind (arith, common_steps)
 
 -- ---- the body
 
@@ -437,14 +437,7 @@ module _ (s : Day) (r : FormReader) (form text : List ℕ) (h : HoldsForm s r fo
           counted = omega (arith, h.counted, length-append form (byte ∷ []));
           numbered = omega (arith, h.numbered, length-append turn.before (ended.whole ∷ []));
           due = sym (due_more turn.before ended.whole b.heading.parts);
-          stage = (
-            record {
-              kept = begins;
-              unbroken = All-push (λ b. b ≢ 10) (codes "PART ") byte head_unbroken (λ e. omega (arith, e, digit.1));
-              begins = ([], record { digit = byte; rest = []; is = refl; low = digit.1; high = digit.2 });
-            },
-            λ few. absurd (omega arith),
-          );
+          stage = grind (arith, All-push, head_unbroken);
         }
 
   -- ---- the end

@@ -1,4 +1,6 @@
 -- The line of a heading: its words, its first bytes, and that a part has one.
+use Rattle.std.proofs.Common.{rules}
+use Rattle.std.proofs.lemmas.Grind.{common_steps}
 use Rattle.kd_form.proofs.Prelude.{◌≡◌, ◌≢◌, ℕ, ◌^◌, ◌<◌, List, length, get_or, sym, ◌∙◌, append_assoc, arith, ◌+◌, ◌≤◌, [], ◌∷◌, take, refl, ap, inl, inr, ◌++◌, length-append, subst, drop, codes, decimal, All, Option, Some, None, MatchOption, if◌then◌else◌, ◌==◌, slice_index, IsInRange, All-from_get_or, All-get_or, All-cons, All-nil, All-append, All-map, All-push, All-weaker, IsWithout, IsFirstPart, TextsTellFirstParts, line_of, words_of, IsWord, NumbersAreWords, LinesSplitIntoWords, PartsMakeLines, fraction, indicator_words, heading_words, length-map, append-nil, append_cancel_right, take_all, get_or-map, letters_text, AreFewLetters, IsFraction, IsLetterCount, IsHeading, AreHeadingWords, IsLineText, WithReturn, WithoutReturn, BeginsHeading, Day, RotorDay, OfRotors, OfPins, Heading, Indicator, HasIndicator, HasSlots, HasPins, get_or-append_seam, IsEnded, HasHeading}
 use Rattle.std.specs.Str.Parse.{digits_value}
 use Rattle.std.proofs.lemmas.Fmt.{digits_decimal, decimal_injective, length-decimal-le, decimal_nonempty}
@@ -27,10 +29,7 @@ letters_from : (letters : List ℕ) → IsFrom 65 (letters_text letters)
 letters_from letters = All-map (λ b. 65 ≤ b) (λ l. l + 65) letters (λ k d inside. omega arith)
 
 fraction_from : (part parts : ℕ) → part < 2 ^ 64 → parts < 2 ^ 64 → IsFrom 47 (fraction part parts)
-fraction_from part parts small few =
-    All-append (λ b. 47 ≤ b) (decimal part ++ codes "/") (decimal parts)
-    (All-push (λ b. 47 ≤ b) (decimal part) 47 (lower 48 47 (decimal part) (omega arith) (number_from part small)) (omega arith))
-    (lower 48 47 (decimal parts) (omega arith) (number_from parts few))
+fraction_from part parts small few = grind (arith, common_steps, All-append, All-push, lower, number_from)
 
 -- numbers before a byte that is no digit
 one_number : (number found byte : ℕ) (rest more : List ℕ) → number < 2 ^ 64 → found < 2 ^ 64 → byte < 48
@@ -42,10 +41,7 @@ one_number number found byte rest more small little low same =
 
 pub fraction_parts : (word one other : List ℕ) (part parts : ℕ) → TextsTellFirstParts → IsFraction part parts → IsFirstPart 47 word one other
     → fraction part parts ≡ word → (decimal part ≡ one) × (decimal parts ≡ other)
-fraction_parts word one other part parts tell number first is =
-    tell 47 (decimal part) one (decimal parts) other
-    (All-weaker (λ b. 48 ≤ b) (λ b. b ≢ 47) (λ b above same. omega (arith, above, same)) (decimal part) (number_from part (omega (arith, number.in_order, number.few)))) first.without
-    (sym (append_assoc (decimal part) (codes "/") (decimal parts)) ∙ is ∙ first.joined)
+fraction_parts word one other part parts tell number first is = search (rules, All-weaker, number_from, append_assoc)
 
 pub same_fraction : (word one other : List ℕ) (part parts found last : ℕ) → TextsTellFirstParts → IsFraction part parts → found < 2 ^ 8 → last < 2 ^ 8
     → IsFirstPart 47 word one other → decimal found ≡ one → decimal last ≡ other → fraction part parts ≡ word → (part ≡ found) × (parts ≡ last)
@@ -71,8 +67,7 @@ capital_at word others index inside are same =
 -- -------- the line of a heading, and its words
 
 pub at_most : (s : Day) (count : ℕ) → IsLetterCount s count → count ≤ 520
-at_most (OfRotors s) count are = omega (arith, are.1)
-at_most (OfPins s) count are = are.1
+at_most s count e = grind arith
 
 pub same_count : (s : Day) (count found : ℕ) (word : List ℕ) → IsLetterCount s count → found < 2 ^ 16 → decimal count ≡ word → decimal found ≡ word → count ≡ found
 same_count s count found word are small is read = decimal_injective count found (omega (arith, at_most s count are)) (omega arith) (is ∙ sym read)
@@ -89,16 +84,10 @@ are_small s h is = omega (arith, is.number.in_order, is.number.few, at_most s h.
 -- ---- the words of a heading
 
 a_word : (text : List ℕ) → 0 < length text → IsFrom 33 text → IsWord text
-a_word text some from = record {
-  filled = λ none. omega (arith, ap length none);
-  spaceless = All-weaker (λ b. 33 ≤ b) (λ b. b ≢ 32) (λ b above same. omega (arith, above, same)) text from;
-  unbroken = All-weaker (λ b. 33 ≤ b) (λ b. b ≢ 10) (λ b above same. omega (arith, above, same)) text from;
-}
+a_word text some from = grind (arith, All-weaker)
 
 letters_word : (letters : List ℕ) → 1 ≤ length letters → IsWord (letters_text letters)
-letters_word letters some =
-    a_word (letters_text letters) (omega (arith, length-map letters (λ l. l + 65)))
-    (lower 65 33 (letters_text letters) (omega arith) (letters_from letters))
+letters_word letters some = grind (arith, common_steps, a_word, letters, lower, letters_from)
 
 fraction_word : (part parts : ℕ) → part < 2 ^ 64 → parts < 2 ^ 64 → IsWord (fraction part parts)
 fraction_word part parts small few =
@@ -110,19 +99,11 @@ slots_are : (s : RotorDay) (found : Option ℕ) → MatchOption found (HasPins (
 slots_are s found has = grind arith
 
 are_indicator_words : (s : Day) (found : Option ℕ) (i : Option Indicator) → MatchOption found (HasPins s) (HasSlots s) → HasIndicator s i → All IsWord (indicator_words i)
-are_indicator_words s found None has are = All-nil IsWord
-are_indicator_words (OfRotors s) found (Some i) has are =
-    let some = slots_are s found has in
-    All-cons IsWord (letters_text i.start) (letters_text i.key ∷ []) (letters_word i.start (omega (arith, are.0.count)))
-    (All-cons IsWord (letters_text i.key) [] (letters_word i.key (omega (arith, are.1.count))) (All-nil IsWord))
-are_indicator_words (OfPins s) found (Some i) has are = absurd are
+are_indicator_words s found i e d = grind (arith, All-nil, slots_are, All-cons, letters_word)
 
 heading_are_words : (s : Day) (found : Option ℕ) (h : Heading) → NumbersAreWords → MatchOption found (HasPins s) (HasSlots s) → IsHeading s h → All IsWord (heading_words h)
 heading_are_words s found h numbers has is =
-    let small : IsSmall h = are_small s h is in
-    All-cons IsWord (codes "PART") (fraction h.part h.parts ∷ decimal h.letters ∷ indicator_words h.indicator) (letters_word (15 ∷ 0 ∷ 17 ∷ 19 ∷ []) (omega arith))
-    (All-cons IsWord (fraction h.part h.parts) (decimal h.letters ∷ indicator_words h.indicator) (fraction_word h.part h.parts small.part small.parts)
-    (All-cons IsWord (decimal h.letters) (indicator_words h.indicator) (numbers h.letters small.letters) (are_indicator_words s found h.indicator has is.indicator)))
+    grind (arith, are_small, All-cons, letters_word, fraction_word, numbers, are_indicator_words)
 
 few_words : (i : Option Indicator) → length (indicator_words i) ≤ 2
 few_words i = grind arith
@@ -145,43 +126,30 @@ pub heading_told : (s : Day) (found : Option ℕ) (line : List ℕ) (words shown
     → PartsMakeLines → MatchOption found (HasPins s) (HasSlots s) → words ≡ words_of line → shown ≡ words → AreHeadingWords s shown answer → IsTold s answer line
 heading_told s found line words shown None numbers splits joins has are same told =
     λ h is line_is. told h is (sym (line_words s found h line numbers splits has is line_is) ∙ sym are ∙ sym same)
-heading_told s found line words shown (Some h) numbers splits joins has are same told =
-    (told.0, ap line_of (told.1 ∙ same ∙ are) ∙ joins line)
+heading_told s found line words shown (Some h) numbers splits joins has are same told = grind (arith, joins)
 
 -- -------- the heading in the first line of a part
 
 -- ---- no byte of a heading's line is below the space
 
 plain_end : (count : ℕ) (i : Option Indicator) → count < 2 ^ 64 → IsPlain (line_of (decimal count ∷ indicator_words i))
-plain_end count None small = lower 48 32 (decimal count) (omega arith) (number_from count small)
-plain_end count (Some i) small =
-    plain_more (decimal count) _ (lower 48 32 (decimal count) (omega arith) (number_from count small))
-    (plain_more (letters_text i.start) _ (plain_letters i.start) (plain_letters i.key))
+plain_end count i e = grind (arith, lower, number_from, plain_more, plain_letters)
 
 pub plain_heading : (s : Day) (h : Heading) → IsHeading s h → IsPlain (line_of (heading_words h))
-plain_heading s h is =
-    let small : IsSmall h = are_small s h is in
-    plain_more (codes "PART") _ (plain_text (codes "PART") refl) (plain_more (fraction h.part h.parts) _
-    (lower 47 32 (fraction h.part h.parts) (omega arith) (fraction_from h.part h.parts small.part small.parts)) (plain_end h.letters h.indicator small.letters))
+plain_heading s h is = grind (arith, are_small, plain_more, plain_text, lower, fraction_from, plain_end)
 
 free_heading : (s : Day) (h : Heading) (byte : ℕ) → byte < 32 → IsHeading s h → IsWithout byte (line_of (heading_words h))
 free_heading s h byte low is = without byte (line_of (heading_words h)) low (plain_heading s h is)
 
 pub has_byte : (byte : ℕ) (before rest : List ℕ) → ¬ (IsWithout byte (before ++ byte ∷ rest))
 has_byte byte before rest none =
-    All-get_or (λ b. b ≢ byte) (before ++ byte ∷ rest) (length before) 0 (omega (arith, length-append before (byte ∷ rest))) none
-    (get_or-append_seam before byte rest 0)
+    grind (arith, length-append before (byte ∷ rest), get_or-append_seam before byte rest 0)
 
 -- ---- the line of a heading in a part
 
 pub ended_heading : (s : Day) (front body : List ℕ) (h : Heading) → IsHeading s h → IsEnded (line_of (heading_words h)) (front ++ 10 ∷ [])
     → HasHeading s (front ++ 10 ∷ body) h body
-ended_heading s front body h is ended = record {
-  line = front ++ 10 ∷ [];
-  joined = sym (append_assoc front (10 ∷ []) body);
-  ended = inl ended;
-  is_heading = is;
-}
+ended_heading s front body h is ended = grind (arith, append_assoc front (10 ∷ []) body, ended)
 
 -- what stands before the first LF is the heading, and the body follows it
 pub heading_there : (s : Day) (front body : List ℕ) (h : Heading) (rest : List ℕ) → TextsTellFirstParts → IsWithout 10 front
@@ -284,15 +252,7 @@ one_end (OfRotors s) count found _ _ small little has had same = search
 one_end (OfPins s) count found _ _ small little has had same = search
 
 same_heading : (s : Day) (h other : Heading) → IsHeading s h → IsHeading s other → line_of (heading_words h) ≡ line_of (heading_words other) → h ≡ other
-same_heading s h other is also same =
-    let small : IsSmall h = are_small s h is in
-    let little : IsSmall other = are_small s other also in
-    let end = line_of (decimal h.letters ∷ indicator_words h.indicator) in
-    let last = line_of (decimal other.letters ∷ indicator_words other.indicator) in
-    let part = one_number h.part other.part 47 (decimal h.parts ++ 32 ∷ end) (decimal other.parts ++ 32 ∷ last) small.part little.part (omega arith)
-    (simp append_assoc at (ap (drop 5) same)) in
-    let parts = one_number h.parts other.parts 32 end last small.parts little.parts (omega arith) part.1 in
-    grind (arith, one_end s h.letters other.letters h.indicator other.indicator small.letters little.letters is.indicator also.indicator parts.1)
+same_heading s h other is also same = grind (arith, are_small, one_number, append_assoc, one_end)
 
 -- ---- the line and the body
 
@@ -334,5 +294,4 @@ words_begin s h more is =
     }
 
 pub begins_there : (s : Day) (part : List ℕ) (h : Heading) (body : List ℕ) → NumbersAreWords → HasHeading s part h body → BeginsHeading part
-begins_there s part h body numbers has =
-    let tail = heading_tail s part h body has in subst BeginsHeading (sym tail.1) (words_begin s h tail.0 has.is_heading)
+begins_there s part h body numbers has = grind (arith, common_steps, heading_tail, words_begin)

@@ -1,4 +1,6 @@
 -- An order is read in one way, and becomes one form, or has one fault.
+use Rattle.std.proofs.Common.{rules}
+use Rattle.std.proofs.lemmas.Grind.{common_steps}
 use Rattle.kd_form.proofs.Prelude.{◌≡◌, ◌≢◌, ℕ, ◌+◌, inl, inr, List, [], ◌∷◌, ◌++◌, length, map, refl, sym, ap, subst, ◌∙◌, append_assoc, arith, Err, Ok, Result, drop, ◌≤◌, ◌⊎◌, codes, All, slice_index, IsTrue, IsFalse, append_cancel_right, append-nil, All-head, All-tail, All-map, letters_text, is_text_byte, line_of, TextsTellFirstParts, Day, OfRotors, OfPins, Keys, Rotor, Pin, ComesFirst, IsInternalKey, key_words, AreKeys, IsEnded, AreKeyLines, IsOrder, IsHead, IsHeadFault, IsKeyLine, IsMadeText, enciphered_choice, part_size, Suits, pieces, AreMadeTexts, text_letters, parts_needed, IsBadAt, IsKeysFault, IsFirstKeysFault, StandsInOrder, InHead, InKeys, InText, Cut, NoLetter, InParts, IsSendFault, IsFormOf, OrdersBecomeOneForm, SentOrdersHaveNoFault, OrdersHaveOneFault, false≢true, FormFault, BadByte, EmptyText, PartKeys}
 use Rattle.kd_form.proofs.Plain.{same_front, plain_keys, text_plain, nothing_more}
 use Rattle.kd_form.proofs.Lines.{key_first, text_front, same_line}
@@ -36,8 +38,7 @@ IsCaught Has refusal Holds Later v = IsFound Has (λ x w. w ≡ refusal x) v ⊎
 
 pub only_caught : {X V : Type 0} {Has : X → Type 0} {refusal : X → V} {Holds : Type 0} {Later : V → Type 0} → ((x y : X) → Has x → Has y → x ≡ y)
     → ((x : X) → Holds → ¬ (Has x)) → IsOnly Later → IsOnly (IsCaught Has refusal Holds Later)
-only_caught one apart laters =
-    only_either (only_found one (λ x. only_this)) (λ v w a b. laters v w a.1 b.1) (λ v w a b. apart a.0 b.0 a.1)
+only_caught one apart laters = grind (arith, only_either, only_found, only_this)
 
 -- -------- an order is read in one way
 
@@ -124,9 +125,7 @@ pub record IsSameOrder (keys others : List Keys) (head other text more : List �
   pub text_is : text ≡ more
 
 order_read : (s : Day) (order : List ℕ) (keys : List Keys) (head text : List ℕ) → IsOrder s order keys head text → AreRead keys text order
-order_read s order keys head text is =
-    subst (AreRead keys text) (sym (is.joined ∙ ap (λ h. h ++ text) is.is_head.joined))
-    (are_read keys is.is_head.lines is.is_head.last text is.is_head.keyed is.is_head.ended)
+order_read s order keys head text is = grind (arith, are_read)
 
 pub one_order : (s : Day) (order : List ℕ) (keys others : List Keys) (head other text more : List ℕ) → TextsTellFirstParts → IsOrder s order keys head text
     → IsOrder s order others other more → IsSameOrder keys others head other text more
@@ -186,9 +185,7 @@ suits_or_not : (s : Day) (k : Keys) (part : ℕ) (fault : FormFault) → IsKeysF
 suits_or_not s k part fault is suits = grind arith
 
 one_keys_fault : (s : Day) (part : ℕ) (k : Keys) → IsOnly (IsKeysFault s part k)
-one_keys_fault (OfRotors s) part (Rotor k) fault other a b = a.1 ∙ sym b.1
-one_keys_fault (OfPins s) part (Pin k) fault other a b = grind arith
-one_keys_fault _ part _ fault other a b = absurd a
+one_keys_fault s part k = grind (arith, common_steps)
 
 first_keys_fault : (s : Day) (keys : List Keys) → IsOnly (IsFirstKeysFault s keys)
 first_keys_fault s keys fault other a b =
@@ -197,9 +194,7 @@ first_keys_fault s keys fault other a b =
     grind (arith, same, one_keys_fault s (length b.before + 1) b.unsuited fault other)
 
 pub no_keys_fault : (s : Day) (keys : List Keys) (fault : FormFault) → All (Suits s) keys → ¬ (IsFirstKeysFault s keys fault)
-no_keys_fault s keys fault all is =
-    let same = same_front (Suits s) keys is.before [] (is.unsuited ∷ is.others) all is.suited tt (suits_or_not s is.unsuited _ fault is.is)
-    (append-nil keys ∙ is.joined) in cc (same.1)
+no_keys_fault s keys fault all is = grind (arith, same_front (Suits s) keys is.before, append-nil keys)
 
 -- ---- faults in the text
 
