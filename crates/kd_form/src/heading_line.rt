@@ -37,6 +37,7 @@ fn read_fraction(word: &[u8]) -> Option<(u8, u8)>
 }
 
 /// How many letters the word says, if a body may have so many.
+#[tactic(auto, using(crate::proofs::Headings::same_count))]
 fn read_count(day: &SheetDay, word: &[u8]) -> Option<u16>
     ensures { MatchOption result
         ((count : ℕ) → IsLetterCount day.now count → decimal count ≢ word.now)
@@ -50,6 +51,7 @@ fn read_count(day: &SheetDay, word: &[u8]) -> Option<u16>
 }
 
 /// The letters of the word, at most four.
+#[tactic(auto, using(crate::proofs::Headings::capital_at))]
 fn read_letters(word: &[u8]) -> Option<ArrayVec<Letter, 4>>
     ensures { MatchOption result
         ((letters : List ℕ) → AreFewLetters letters → letters_text letters ≢ word.now)

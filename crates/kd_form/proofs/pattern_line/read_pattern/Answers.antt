@@ -2,12 +2,6 @@ use Rattle.kd_form.proofs.Prelude.{◌∙◌, sym, ap, refl, arith, length, take
 use Rattle.kd_form.proofs.Lines.{filling_more, letter_room, line_open, line_off, line_read, line_broken, read_inside, read_at}
 use Rattle.kd_form.proofs.pattern_line.read_pattern.Goals as goal
 
-pub take_letter-requires : goal.take_letter-requires
-take_letter-requires c = letter_room _ _ _ _ c.loop-place.invariant c.loop-place-test.true c.requires
-
-pub returns-in_default : goal.returns-in_default
-returns-in_default c = line_open _ _ _ _ c.loop-place.invariant c.in_default.ensures.lookup.0
-
 pub returns-then-not-take_letter : goal.returns-then-not-take_letter
 returns-then-not-take_letter c =
     line_off _ _ c.loop-place.place c.loop-place-test.true (read_inside _ _ c.in-Some.ensures.lookup.0)

@@ -13,9 +13,3 @@ returns-then-front-bytes-clause-fed g c =
     let piece = c.type_piece-front.ensures in
     read_refused _ c.pieces_are_enciphered_in_turn.ensures.cipher _ _ _ _ _ piece.front piece.lights refl _ _ _ _
     (subst (Appends _ _) c.deref.ensures.0 c.in-Ok.ensures.text.whole) c.if-front-bytes.true
-
-pub returns-clause-fed : goal.returns-clause-fed
-returns-clause-fed g c =
-    let piece = c.type_piece-front.ensures in
-    read_whole _ c.pieces_are_enciphered_in_turn.ensures.cipher _ _ _ _ _ piece.front piece.lights refl _ _ _ _
-    (subst (Appends _ _) c.deref.ensures.0 c.in-Ok.ensures.text.whole) c.if-front-bytes.false
