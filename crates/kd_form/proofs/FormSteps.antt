@@ -27,9 +27,6 @@ five : (tail : List ℕ) (begun : Option ℕ) → Begins tail begun → tail ≡
 five tail None none is = absurd (none 5 is)
 five tail (Some count) some is = ap Some (omega (arith, ap length is, ap length some.1, some.0, length-take count (codes "PART ")))
 
-tail_is : (tail : List ℕ) (begun : Option ℕ) → Begins tail begun → begun ≡ Some 5 → tail ≡ codes "PART "
-tail_is tail begun marked is = grind arith
-
 -- ---- the letters
 
 -- kept up to a length, once more
@@ -140,9 +137,6 @@ abbrev pub IsEndedBy : Day → List ℕ → Option Heading → Type 0
 IsEndedBy s part found =
     MatchOption found ((h : Heading) (body : List ℕ) → ¬ (HasHeading s (part ++ 10 ∷ []) h body)) (λ h. IsHeading s h × IsEnded (line_of (heading_words h)) (part ++ 10 ∷ []))
 
-open_by : (s : Day) (part : List ℕ) (found : Option Heading) → IsEndedBy s part found → IsOpenBy s (part ++ 10 ∷ []) found
-open_by s part found told = grind (arith, ended_heading)
-
 pub off : (s : Day) (number : ℕ) (expected : Option ℕ) (start : ℕ) (part : List ℕ) (found : Option Heading) (fault : FormFault) → IsOpenBy s part found
     → IsHeadingOff number expected found fault → IsEarlyFault s number expected start part fault
 off s number expected start part found fault told (Missing none is) = InHeading (rw none at told) is
@@ -212,10 +206,6 @@ starts s r position number expected line stage none = record {
 
 -- ---- the line of a heading
 
-nothing_before : (s : Day) (form rest : List ℕ) (before : List (List ℕ)) (count : ℕ) (letters : List ℕ) → 1 ≡ length before + 1
-    → IsReadTo s form rest before count letters → (form ≡ rest) × (letters ≡ [])
-nothing_before s form rest before count letters e d = grind (arith, common_steps)
-
 -- ---- the body
 
 -- the line of its heading has ended
@@ -245,7 +235,7 @@ record Settled (s : Day) (b : PartBody) (part body : List ℕ) (holds : HoldsBod
 
 settled : (s : Day) (b : PartBody) (part body : List ℕ) (holds : HoldsBody s b part body) → b.begun ≡ Some 5 → Settled s b part body holds
 settled s b part body holds begun =
-    let lines : body ≡ holds.settled ++ codes "PART " = holds.lines ∙ ap (λ l. holds.settled ++ l) (tail_is holds.tail b.begun holds.marked begun) in
+    let lines : body ≡ holds.settled ++ codes "PART " = holds.lines ∙ ap (λ l. holds.settled ++ l) (grind arith) in
     record {
       whole = holds.line ++ holds.settled;
       split = holds.joined ∙ ap (λ l. holds.line ++ l) lines ∙ sym (append_assoc holds.line holds.settled (codes "PART "));
@@ -300,7 +290,7 @@ module _ (s : Day) (r : FormReader) (form text : List ℕ) (h : HoldsForm s r fo
   -- no heading begins with that byte
   pub not_following : (line : ArrayVec ℕ) (byte : ℕ) → r.stage ≡ stages.Heading line → ¬ (MayBegin (part ++ byte ∷ []))
       → IsRefusedForGood s (form ++ byte ∷ []) text (BadHeading r.number)
-  not_following line byte stage none = grind (arith, in_stage, cases_lt, all_follow, nothing_before, NoHeading)
+  not_following line byte stage none = grind (arith, in_stage, cases_lt, all_follow, NoHeading, common_steps)
 
   pub longer_line : (line next : ArrayVec ℕ) (made : List ℕ) (byte : ℕ) → r.stage ≡ stages.Heading line → byte ≢ 10 → MayBegin (part ++ byte ∷ [])
       → next.items ≡ take 64 (line.items ++ byte ∷ []) → made ≡ [] → HoldsForm s (behind r (stages.Heading next)) (form ++ byte ∷ []) (text ++ made)
@@ -351,7 +341,7 @@ module _ (s : Day) (r : FormReader) (form text : List ℕ) (h : HoldsForm s r fo
       let u : Turn s (form ++ 10 ∷ []) = turn_with s form (10 ∷ []) (part ++ 10 ∷ []) [] turn (some_byte 10) (first_unbroken part 10 there.0.unbroken) in
       InLast u part [] refl (record { joined = refl; without = there.0.unbroken })
       (let start : ℕ = length (form ++ 10 ∷ []) - length (part ++ 10 ∷ []) in in_number (λ n e. IsEarlyFault s n e start (part ++ 10 ∷ []) fault)
-      (off s r.number r.expected start (part ++ 10 ∷ []) found fault (open_by s part found told) wrong)) h.so_far.is
+      (off s r.number r.expected start (part ++ 10 ∷ []) found fault (grind (arith, ended_heading)) wrong)) h.so_far.is
 
   -- the last part is one part, as far as it has come
   one_part : IsFirstOf part part []

@@ -36,14 +36,11 @@ sent_joined : (s : Day) (letters : List ℕ)
     → sent_letters s (take (part_size s) letters) ++ sent_letters s (drop (part_size s) letters) ≡ sent_letters s letters
 sent_joined s letters = grind (arith, take-append-drop {A = ℕ}, filled_pieces)
 
-nothing_sent : (s : Day) → [] ≡ sent_letters s []
-nothing_sent s = grind arith
-
 -- the pieces, sent one after another, are the letters as they are sent
 sent_pieces : (s : Day) (letters : List ℕ) → flat_map (sent_letters s) (pieces (part_size s) letters) ≡ sent_letters s letters
 sent_pieces s =
     by_pieces (part_size s) (λ letters. flat_map (sent_letters s) (pieces (part_size s) letters) ≡ sent_letters s letters) (size_some s)
-    (rw (pieces-none (part_size s) (size_some s)) (nothing_sent s))
+    (rw (pieces-none (part_size s) (size_some s)) (grind arith))
     (λ letters some rest. rw (pieces-next (part_size s) letters (size_some s) some)
     (ap (λ t. sent_letters s (take (part_size s) letters) ++ t) rest ∙ sent_joined s letters))
 

@@ -98,15 +98,9 @@ fraction_word part parts small few =
 slots_are : (s : RotorDay) (found : Option ℕ) → MatchOption found (HasPins (OfRotors s)) (HasSlots (OfRotors s)) → (1 ≤ length s.wheels) × (length s.wheels ≤ 4)
 slots_are s found has = grind arith
 
-are_indicator_words : (s : Day) (found : Option ℕ) (i : Option Indicator) → MatchOption found (HasPins s) (HasSlots s) → HasIndicator s i → All IsWord (indicator_words i)
-are_indicator_words s found i e d = grind (arith, All-nil, slots_are, All-cons, letters_word)
-
 heading_are_words : (s : Day) (found : Option ℕ) (h : Heading) → NumbersAreWords → MatchOption found (HasPins s) (HasSlots s) → IsHeading s h → All IsWord (heading_words h)
 heading_are_words s found h numbers has is =
-    grind (arith, are_small, All-cons, letters_word, fraction_word, numbers, are_indicator_words)
-
-few_words : (i : Option Indicator) → length (indicator_words i) ≤ 2
-few_words i = grind arith
+    grind (arith, are_small, All-cons, letters_word, fraction_word, numbers, All-nil, slots_are)
 
 line_words : (s : Day) (found : Option ℕ) (h : Heading) (line : List ℕ) → NumbersAreWords → LinesSplitIntoWords → MatchOption found (HasPins s) (HasSlots s)
     → IsHeading s h → line_of (heading_words h) ≡ line → words_of line ≡ heading_words h
@@ -116,7 +110,7 @@ line_words s found h line numbers splits has is same =
 pub too_many_words : (s : Day) (found : Option ℕ) (h : Heading) (line : List ℕ) → NumbersAreWords → LinesSplitIntoWords → MatchOption found (HasPins s) (HasSlots s)
     → IsHeading s h → 5 < length (words_of line) → line_of (heading_words h) ≢ line
 too_many_words s found h line numbers splits has is many same =
-    omega (arith, ap length (line_words s found h line numbers splits has is same), few_words h.indicator)
+    grind (arith, ap length (line_words s found h line numbers splits has is same))
 
 -- the heading of a line, if it has one
 abbrev IsTold : Day → Option Heading → List ℕ → Type 0
@@ -178,10 +172,6 @@ bare_heading s part h rest unbroken has = elim has.ended [
 
 -- ---- the first 64 bytes of a line tell its heading
 
-end_size : (s : Day) (found : Option ℕ) (count : ℕ) (i : Option Indicator) → MatchOption found (HasPins s) (HasSlots s) → length (decimal count) ≤ 3
-    → HasIndicator s i → length (line_of (decimal count ∷ indicator_words i)) ≤ 15
-end_size s found count i has few is = grind (arith, length-append {A = ℕ}, length-map, slots_are)
-
 heading_length : (s : Day) (found : Option ℕ) (h : Heading) → MatchOption found (HasPins s) (HasSlots s) → IsHeading s h
     → length (line_of (heading_words h)) ≤ 50
 heading_length s found h has is =
@@ -190,7 +180,7 @@ heading_length s found h has is =
     let few : length (decimal h.letters) ≤ 3 = length-decimal-le 3 h.letters (omega arith) (omega arith) small.letters in
     let one : length (decimal h.part) ≤ 2 = length-decimal-le 2 h.part (omega arith) (omega (arith, is.number.in_order, is.number.few)) small.part in
     let all : length (decimal h.parts) ≤ 2 = length-decimal-le 2 h.parts (omega arith) (omega (arith, is.number.few)) small.parts in
-    omega (arith, length-append {A = ℕ}, end_size s found h.letters h.indicator has few is.indicator)
+    grind (arith, length-append {A = ℕ}, length-map, slots_are)
 
 pub open_told : (s : Day) (found : Option ℕ) (part line : List ℕ) (answer : Option Heading) → MatchOption found (HasPins s) (HasSlots s) → IsTold s answer line
     → IsWithout 10 part → line ≡ take 64 part

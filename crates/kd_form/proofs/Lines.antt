@@ -80,9 +80,6 @@ line_open pattern bytes letters place filling past =
 ended_tail : (text line : List ℕ) → IsEnded text line → (tail : List ℕ) × IsEnded [] tail × (line ≡ text ++ tail)
 ended_tail text line ended = grind arith
 
-ended_behind : (text tail : List ℕ) → IsEnded [] tail → IsEnded text (text ++ tail)
-ended_behind text tail ended = grind arith
-
 line_fits : (pattern line : List ℕ) (i : ℕ) → i < length pattern → IsPatternLine pattern line → fits (get_or pattern i 0) (get_or line i 0) ≡ true
 line_fits pattern line i inside is =
     let text : List ℕ = filled_in pattern is.letters in
@@ -106,7 +103,7 @@ module _ (pattern bytes letters tail : List ℕ) (place : ℕ) (filling : IsFill
   line_ends : (more : List ℕ) → IsEnded [] (tail ++ more) → IsFilledLine pattern letters (bytes ++ more)
   line_ends more ended = record {
     are_letters = record { count = omega (arith, filling.counted, ap blanks none_left); within = filling.within };
-    ended = rw (line_with more) (ended_behind (filled_in pattern letters) (tail ++ more) ended);
+    ended = rw (line_with more) (grind arith);
   }
 
   pub line_read : IsEnded [] tail → IsFilledLine pattern letters bytes
@@ -156,11 +153,8 @@ filled_word zero [] other more count = refl
 filled_word (suc n) (l ∷ letters) other more count = ap (λ text. (l + 65) ∷ text) (filled_word n letters other more (omega arith))
 filled_word _ _ other more count = absurd (omega arith)
 
-rotor_line : (slots : ℕ) (k : RotorKeys) → AreRotorKeys slots k → filled_in (rotor_pattern slots) (key_letters (Rotor k)) ≡ line_of (key_words (Rotor k))
-rotor_line slots k are = grind (arith, common_steps, filled_word, filled-places)
-
 pub key_line : (s : Day) (k : Keys) → AreKeys s k → filled_in (key_pattern s) (key_letters k) ≡ line_of (key_words k)
-key_line (OfRotors s) (Rotor k) are = rotor_line (length s.wheels) k are
+key_line (OfRotors s) (Rotor k) are = grind (arith, common_steps, filled_word, filled-places)
 key_line (OfPins s) (Pin k) are = ap (λ t. codes "PART " ++ (k.chosen + 65) ∷ 32 ∷ t) (filled-places 6 k.external are.external.count)
 key_line _ _ are = absurd are
 
@@ -210,13 +204,10 @@ as_key_line s line is =
       keyed = subst (λ text. IsEnded text line) (ap (filled_in (key_pattern s)) (sym made.2) ∙ key_line s made.0 made.1) is.ended;
     }
 
-letters_of_keys : (s : Day) (k : Keys) → AreKeys s k → AreLetters (blanks (key_pattern s)) (key_letters k)
-letters_of_keys s k are = grind (arith, rotor_blanks, letters_joined, All-cons)
-
 pub as_form_line : (s : Day) (line : List ℕ) → IsAnyKeyLine s line → IsPatternLine (key_pattern s) line
 as_form_line s line is = record {
   letters = key_letters is.keys;
-  are_letters = letters_of_keys s is.keys is.of_the_day;
+  are_letters = grind (arith, rotor_blanks, letters_joined, All-cons);
   ended = subst (λ text. IsEnded text line) (sym (key_line s is.keys is.of_the_day)) is.keyed;
 }
 

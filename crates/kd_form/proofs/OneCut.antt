@@ -87,12 +87,8 @@ pub record FirstCut (bytes : List ℕ) : Type 0 where
 pub break_is_first : (rest : List ℕ) → (rest ≡ []) ⊎ BeginsHeading rest → IsFirstOf (10 ∷ rest) (10 ∷ []) rest
 break_is_first rest follows = grind arith
 
-whole_more : (byte : ℕ) (bytes part rest : List ℕ) → IsFirstOf bytes part rest → (byte ≡ 10 → ¬ (BeginsHeading bytes)) → (place : ℕ)
-    → place + 1 < length (byte ∷ part) → get_or (byte ∷ bytes) place 0 ≡ 10 → ¬ (BeginsHeading (drop (place + 1) (byte ∷ bytes)))
-whole_more byte bytes part rest first none place below is = grind arith
-
 pub one_byte_more : (byte : ℕ) (bytes part rest : List ℕ) → IsFirstOf bytes part rest → (byte ≡ 10 → ¬ (BeginsHeading bytes)) → IsFirstOf (byte ∷ bytes) (byte ∷ part) rest
-one_byte_more byte bytes part rest first none = grind (arith, whole_more, some_byte)
+one_byte_more byte bytes part rest first none = grind (arith, some_byte)
 
 pub first_cut : (bytes : List ℕ) → FirstCut bytes
 first_cut [] = record { part = []; rest = []; first = record { joined = refl; whole = λ place below. absurd (omega arith); ends = inl refl } }

@@ -324,9 +324,6 @@ order_refused s order sent fault told = record { stands = λ more. (told more).0
 is_longer : (s : Day) (order more : List ℕ) (keys : List Keys) (head text : List ℕ) → IsOrder s order keys head text → IsOrder s (order ++ more) keys head (text ++ more)
 is_longer s order more keys head text is = grind (arith, append_assoc {A = ℕ})
 
-first_left : (rest more after : List ℕ) (x : ℕ) → 0 < length rest → rest ++ more ≡ x ∷ after → rest ≡ x ∷ drop 1 rest
-first_left rest more after x some same = grind arith
-
 -- a byte that may not stand there is refused whatever follows
 fault_longer : (s : Day) (order more : List ℕ) (position : ℕ) → IsHeadFault s order position → position ≤ length order → IsHeadFault s (order ++ more) position
 fault_longer s order more position fault inside = record {
@@ -340,7 +337,7 @@ fault_longer s order more position fault inside = record {
   begins = fault.begins;
   stops = λ other after others behind next.
       let some : 0 < length fault.rest = omega (arith, fault.size, inside, ap length fault.joined, length-append fault.before fault.rest) in
-      fault.stops other (drop 1 fault.rest) others behind (first_left fault.rest more after other some next);
+      fault.stops other (drop 1 fault.rest) others behind (grind arith);
 }
 
 pub head_refused : (tell : TextsTellFirstParts) (s : Day) (order sent : List ℕ) (position : ℕ) → IsHeadFault s order (length order) → position ≡ length order → sent ≡ []

@@ -125,9 +125,6 @@ part_begins_heading s made more is =
 
 -- ---- no other heading line begins within a part
 
-no_figure : (byte : ℕ) → 48 ≤ byte → byte ≤ 57 → is_text_byte byte ≡ false
-no_figure byte low high = grind (arith, nat_tests)
-
 -- lines of a body don't begin a heading line: their last LF would be a byte of the mark, or the mark's digit a byte of theirs
 no_mark : (lines rest : List ℕ) → AreAllowed (lines ++ 10 ∷ []) → ¬ (BeginsHeading ((lines ++ 10 ∷ []) ++ rest))
 no_mark lines rest allowed begins = elim (fronts (lines ++ 10 ∷ []) rest (codes "PART " ++ begins.digit ∷ []) begins.rest begins.is) [
@@ -138,7 +135,7 @@ no_mark lines rest allowed begins = elim (fronts (lines ++ 10 ∷ []) rest (code
       let figure : get_or (lines ++ 10 ∷ []) 5 0 ≡ begins.digit = ap (λ t. get_or t 5 0) longer in
       let stands : IsTrue (is_text_byte (get_or (lines ++ 10 ∷ []) 5 0)) =
       All-get_or (λ b. IsTrue (is_text_byte b)) (lines ++ 10 ∷ []) 5 0 (omega (arith, ap length longer)) allowed in
-      false≢true (sym (no_figure begins.digit begins.low begins.high) ∙ ap is_text_byte (sym figure) ∙ stands)
+      false≢true (sym (grind (arith, nat_tests)) ∙ ap is_text_byte (sym figure) ∙ stands)
 ]
 
 -- ---- where a part ends

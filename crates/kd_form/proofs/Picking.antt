@@ -87,10 +87,6 @@ on_wheels letters wheel start (place ∷ places) (after, inside, on, more) =
     let others = on_wheels letters (wheel + 1) (place + 1) places more in
     ((after, inside, others.0), omega (arith, others.1), later_on letters wheel place places on others.2)
 
-each_picked : (letters places : List ℕ) → ((i letter : ℕ) → slice_get (map (λ p. slice_index letters p) places) i ≡ Some letter → Contains (ring_of (1 + i)) letter)
-    → (wheel letter : ℕ) → numbered (map (λ p. slice_index letters p) places) wheel ≡ Some letter → Contains (ring_of wheel) letter
-each_picked letters places each wheel letter is = grind arith
-
 picks_of : (letters : List ℕ) (wheel start : ℕ) (places : List ℕ) → AreRising start (length letters) places → length places + wheel ≡ 7
     → ((i letter : ℕ) → slice_get (map (λ p. slice_index letters p) places) i ≡ Some letter → Contains (ring_of (wheel + i)) letter)
     → Picks letters wheel start places
@@ -121,7 +117,7 @@ key_picked letters start done picking =
         taken = picking.taken;
         on_wheels = rw picking.taken (record {
           count = omega (arith, length-map picking.places (λ p. slice_index letters p), all.1);
-          each = each_picked letters picking.places all.2;
+          each = grind arith;
         });
       };
       first = λ others other are. rw (append-nil picking.places) at (best.first others (picks_from_picked letters others other are));

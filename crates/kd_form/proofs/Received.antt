@@ -16,11 +16,6 @@ parts_read_more s number count (p ∷ before) letters part one (first, more, is,
     let later = parts_read_more s (number + 1) count before more part one others (subst (λ n. IsPartRead s n count part one) (omega arith) read) in
     (first, more ++ one, is, later, ap (λ l. l ++ one) joined ∙ append_assoc first more one)
 
--- the parts so far are of as many as the next one says
-of_so_many : (s : Day) (before : List (List ℕ)) (count parts : ℕ) (letters : List ℕ) → IsExpected (count_due before count) parts
-    → ArePartsRead s 1 count before letters → ArePartsRead s 1 parts before letters
-of_so_many s before count parts letters due read = grind arith
-
 pub given_more : (s : Day) (letters more : List ℕ) → given_letters s (letters ++ more) ≡ given_letters s letters ++ given_letters s more
 given_more s letters more = map-append _ letters more
 
@@ -43,7 +38,7 @@ pub read_on : (s : Day) (form : List ℕ) (t : Turn s form) (parts : ℕ) (one :
 read_on s form t parts one is = record {
   cut = first_parts_more t.before form t.rest t.part t.after t.read.cut t.first;
   read =
-      parts_read_more s 1 parts t.before t.letters t.part one (of_so_many s t.before t.count parts t.letters is.due t.read.read)
+      parts_read_more s 1 parts t.before t.letters t.part one (grind arith)
       (subst (λ n. IsPartRead s n parts t.part one) (omega arith) is.read);
 }
 

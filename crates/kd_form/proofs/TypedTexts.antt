@@ -55,10 +55,6 @@ bad_there front rest byte allowed bad = record { before = front; byte = byte; re
 whole_front : (text : List ℕ) → AreAllowed text → IsAllowedFront text text
 whole_front text allowed = grind (arith, append-nil {A = ℕ})
 
-front_there : (front rest : List ℕ) (byte : ℕ) → AreAllowed front → IsFalse (is_text_byte byte)
-    → IsAllowedFront (front ++ byte ∷ rest) front
-front_there front rest byte allowed bad = grind arith
-
 -- the bytes behind a front and the byte there
 cut_at : (bytes : List ℕ) (n : ℕ) → n < length bytes → bytes ≡ take n bytes ++ get_or bytes n 0 ∷ drop (suc n) bytes
 cut_at bytes n inside = sym (take-append-drop n bytes) ∙ ap (λ l. take n bytes ++ l) (drop-cons bytes n 0 inside)
@@ -99,7 +95,7 @@ module _ (m : Parts) where
       record {
         stands = stands;
         refused = stands;
-        written = λ more. (front, rw (longer more) (front_there front (rest ++ more) byte typed.allowed bad), text_is t front text typed);
+        written = λ more. (front, rw (longer more) (grind arith), text_is t front text typed);
       }
 
   -- ---- a piece more
