@@ -25,9 +25,7 @@ product_letters (p ∷ ps) =
 
 path_letters : (key : RotorKey) (window : List ℕ) → All (λ letter. letter < 26) (path key window)
 unfolding path
-path_letters key window =
-    let wheels : List (List ℕ) = rotors key.wheels key.rings window in
-    product_letters (key.plugs ∷ reverse wheels ++ reflector_of key.reflector ∷ map inverse wheels ++ key.plugs ∷ [])
+path_letters key window = grind (arith, product_letters)
 
 pub letters-cipher_from : (s : Day) (window text : List ℕ) → All (λ letter. letter < 26) (cipher_from s window text)
 letters-cipher_from (OfRotors s) window text =

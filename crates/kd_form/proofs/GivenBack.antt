@@ -14,8 +14,7 @@ found_within (Some letter) letters less within = All-cons (λ l. l < 26) letter 
 
 letters_within : (blank : Option ℕ) (text : List ℕ) → IfSome blank (λ letter. letter < 26) → All (λ letter. letter < 26) (letters_from blank text)
 letters_within blank [] less = All-nil (λ letter. letter < 26)
-letters_within blank (byte ∷ text) less =
-    found_within (letter_of_byte blank byte) (letters_from blank text) (grind (arith, nat_tests)) (letters_within blank text less)
+letters_within blank (byte ∷ text) less = grind (arith, found_within, letters_from, letters_within blank text less)
 
 text_letters_within : (s : Day) (text : List ℕ) → All (λ letter. letter < 26) (text_letters s text)
 text_letters_within s text = grind (arith, letters_within)

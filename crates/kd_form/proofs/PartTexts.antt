@@ -119,9 +119,7 @@ part_has_heading s made is = record {
 
 -- a written part begins a heading line
 pub part_begins_heading : (s : Day) (made : Part) (more : List ℕ) → IsHeading s made.heading → BeginsHeading (part_text made ++ more)
-part_begins_heading s made more is =
-    let text : List ℕ = line_of (heading_words made.heading) in
-    subst BeginsHeading (sym (append_assoc text (10 ∷ body_text made.body) more)) (words_begin s made.heading (10 ∷ (body_text made.body ++ more)) is)
+part_begins_heading s made more is = grind (arith, append_assoc, words_begin)
 
 -- ---- no other heading line begins within a part
 

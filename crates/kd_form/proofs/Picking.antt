@@ -37,9 +37,7 @@ module _ (letters : List ℕ) (wheel start place : ℕ) (next : IsNextPlace lett
   first_step : (places others : List ℕ) → IsFirstPick letters (wheel + 1) (place + 1) places → Picks letters wheel start others
       → ComesFirst (place ∷ places) others
   first_step places [] first picks = omega arith
-  first_step places (other ∷ others) first picks =
-      let from = from_next other others picks in
-      elim (cases_eq place other) [ inl same ↦ inr (same, first.first others from.1) | inr apart ↦ inl (omega (arith, from.0, apart)) ]
+  first_step places (other ∷ others) first picks = grind (arith, from_next, cases_eq, first.first)
 
   none_step : HasNoPick letters (wheel + 1) (place + 1) → HasNoPick letters wheel start
   none_step none [] picks = omega arith
@@ -84,8 +82,7 @@ on_wheels : (letters : List ℕ) (wheel start : ℕ) (places : List ℕ) → Pic
     × ((i letter : ℕ) → slice_get (map (λ p. slice_index letters p) places) i ≡ Some letter → Contains (ring_of (wheel + i)) letter)
 on_wheels letters wheel start [] picks = (tt, omega arith, λ i letter is. absurd (cc))
 on_wheels letters wheel start (place ∷ places) (after, inside, on, more) =
-    let others = on_wheels letters (wheel + 1) (place + 1) places more in
-    ((after, inside, others.0), omega (arith, others.1), later_on letters wheel place places on others.2)
+    grind (arith, on_wheels letters (wheel + 1) (place + 1) places more, letters, later_on)
 
 picks_of : (letters : List ℕ) (wheel start : ℕ) (places : List ℕ) → AreRising start (length letters) places → length places + wheel ≡ 7
     → ((i letter : ℕ) → slice_get (map (λ p. slice_index letters p) places) i ≡ Some letter → Contains (ring_of (wheel + i)) letter)

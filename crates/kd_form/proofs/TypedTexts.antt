@@ -36,14 +36,7 @@ cipher_text-nil (OfDrum key) = refl
 -- what lights up behind a piece lights up on the key that the piece leaves
 Lights-behind : CipherInTurn → (key left : EngineKey) (bytes lamps more : List ℕ) → Lights key left bytes lamps
     → cipher_text (cipher key) (bytes ++ more) ≡ lamps ++ cipher_text (cipher left) more
-Lights-behind in_turn key left bytes lamps more lights =
-    let head = typed_letters bytes in
-    let tail = typed_letters more in
-    ap (λ l. letters_text (cipher key l)) (typed-append bytes more)
-    ∙ ap letters_text (in_turn key head tail)
-    ∙ map-append (λ letter. letter + 65) (cipher key head) (cipher (key_left key (length head)) tail)
-    ∙ ap (λ l. l ++ cipher_text (cipher (key_left key (length head))) more) (sym lights.cipher)
-    ∙ ap (λ k. lamps ++ cipher_text (cipher k) more) (sym lights.after)
+Lights-behind in_turn key left bytes lamps more lights = grind (arith, bytes, typed-append, in_turn, map-append)
 
 -- ---- what was typed so far
 
@@ -107,10 +100,7 @@ module _ (m : Parts) where
     typed_on bytes text typed = record {
       counted = omega (arith, counted, typed.counted, length-append bytes (take n more), length-take-le n more front.within);
       allowed = All-append (λ b. IsTrue (is_text_byte b)) bytes (take n more) typed.allowed front.allowed;
-      behind = λ others. ap (cipher_text (physical_cipher m)) (append_assoc bytes (take n more) others)
-          ∙ typed.behind (take n more ++ others)
-          ∙ ap (λ l. text ++ l) (Lights-behind in_turn old.engine new.engine (take n more) lamps others lights)
-          ∙ sym (append_assoc text lamps (cipher_text (cipher new.engine) others));
+      behind = grind (arith, append_assoc, bytes, typed.behind, Lights-behind, in_turn);
     }
 
     pub read_whole : (took wrote : Option (List ℕ)) (d f : Bool) → Appends took wrote lamps → length more ≤ n

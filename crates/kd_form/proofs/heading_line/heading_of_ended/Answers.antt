@@ -1,3 +1,4 @@
+use Rattle.std.proofs.Common.{arith}
 use Rattle.kd_form.proofs.Headings.{ended_told}
 use Rattle.kd_form.proofs.heading_line.heading_of_ended.Goals as goal
 

@@ -6,9 +6,7 @@ pub returns-in_default : goal.returns-in_default
 returns-in_default c = run_out _ _ _ _ (omega arith) c.loop-wheel.invariant c.in_default.ensures
 
 pub loop-wheel-preserved : goal.loop-wheel-preserved
-loop-wheel-preserved c =
-    let put = c.push.ensures.items ∙ ap (λ l. c.loop-wheel.key.items ++ l ∷ []) (get_or_read _ _ _ c.in-Some.ensures.inside c.index-letters-place.is 0) in
-    rw put (picking_more _ _ _ _ _ (omega arith) c.loop-wheel.invariant c.in-Some.ensures)
+loop-wheel-preserved c = grind (arith, get_or_read, picking_more)
 
 pub returns : goal.returns
 returns c =

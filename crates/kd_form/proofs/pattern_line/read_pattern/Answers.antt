@@ -17,5 +17,4 @@ pub returns-in-Ok : goal.returns-in-Ok
 returns-in-Ok c = line_read _ _ _ _ _ c.loop-place.invariant (omega arith) (take_rest c.args.bytes.now (length c.args.pattern.now)) c.in-Ok.ensures
 
 pub returns-in-Err : goal.returns-in-Err
-returns-in-Err c =
-    line_broken _ _ _ _ _ c.loop-place.invariant (omega arith) (take_rest c.args.bytes.now (length c.args.pattern.now)) c.in-Err.why c.in-Err.ensures
+returns-in-Err c = grind (arith, line_broken, take_rest)

@@ -1,3 +1,4 @@
+use Rattle.std.proofs.Common.{arith}
 use Rattle.kd_form.proofs.Prelude.{refl, sym, ◌∙◌, false≢true, physical_cipher, NotReady, Off}
 use Rattle.kd_form.proofs.TypedTexts.{typed_none}
 use Rattle.kd_form.proofs.Standing.{text_told}
