@@ -369,15 +369,7 @@ module _ (s : Day) (r : FormReader) (form text : List ℕ) (h : HoldsForm s r fo
       turn_with s form (byte ∷ []) (part ++ byte ∷ []) [] turn (some_byte byte) (goes_on s b part there.body byte there.holds one_part not) in
       let place : r.position + 1 ≡ (length (form ++ byte ∷ []) - length (part ++ byte ∷ [])) + (length (part ++ byte ∷ []) - length body) + length there.body + 1 =
       omega (arith, h.counted, rest_within turn.before form part turn.read.cut, length-append {A = ℕ}, ap length there.holds.joined) in
-      InLast u ended.0 body refl (record {
-        joined = ap (λ l. l ++ byte ∷ []) ended.1.joined ∙ append_assoc ended.0 (10 ∷ there.body) (byte ∷ []);
-        without = ended.1.without;
-      }) (InBody b.heading body (length there.body) (record {
-        line = there.holds.line;
-        joined = ap (λ l. l ++ byte ∷ []) there.holds.joined ∙ append_assoc there.holds.line there.body (byte ∷ []);
-        ended = inl there.holds.ended;
-        is_heading = there.holds.is_heading;
-      }) (there.numbered ∙ h.numbered) (rw h.due at there.due)
+      InLast u ended.0 body refl (grind (arith, append_assoc {A = ℕ})) (InBody b.heading body (length there.body) (grind (arith, append_assoc {A = ℕ})) (there.numbered ∙ h.numbered) (rw h.due at there.due)
       (record { before = there.body; byte = byte; rest = []; joined = refl; size = refl; allowed = there.holds.allowed; bad = bad }) (ap BadByte place)) h.so_far.is
 
   -- ---- the part ends, as a digit stands behind the five bytes of a heading

@@ -87,7 +87,7 @@ a_word : (text : List ℕ) → 0 < length text → IsFrom 33 text → IsWord tex
 a_word text some from = grind (arith, All-weaker)
 
 letters_word : (letters : List ℕ) → 1 ≤ length letters → IsWord (letters_text letters)
-letters_word letters some = grind (arith, common_steps, a_word, letters, lower, letters_from)
+letters_word letters some = grind (arith, common_steps, a_word, lower, letters_from)
 
 fraction_word : (part parts : ℕ) → part < 2 ^ 64 → parts < 2 ^ 64 → IsWord (fraction part parts)
 fraction_word part parts small few =
@@ -120,7 +120,7 @@ pub heading_told : (s : Day) (found : Option ℕ) (line : List ℕ) (words shown
     → PartsMakeLines → MatchOption found (HasPins s) (HasSlots s) → words ≡ words_of line → shown ≡ words → AreHeadingWords s shown answer → IsTold s answer line
 heading_told s found line words shown None numbers splits joins has are same told =
     λ h is line_is. told h is (sym (line_words s found h line numbers splits has is line_is) ∙ sym are ∙ sym same)
-heading_told s found line words shown (Some h) numbers splits joins has are same told = grind (arith, joins)
+heading_told s found line words shown (Some h) numbers splits joins has are same told = grind arith
 
 -- -------- the heading in the first line of a part
 
@@ -143,7 +143,7 @@ has_byte byte before rest none =
 
 pub ended_heading : (s : Day) (front body : List ℕ) (h : Heading) → IsHeading s h → IsEnded (line_of (heading_words h)) (front ++ 10 ∷ [])
     → HasHeading s (front ++ 10 ∷ body) h body
-ended_heading s front body h is ended = grind (arith, append_assoc front (10 ∷ []) body, ended)
+ended_heading s front body h is ended = grind (arith, append_assoc front (10 ∷ []) body)
 
 -- what stands before the first LF is the heading, and the body follows it
 pub heading_there : (s : Day) (front body : List ℕ) (h : Heading) (rest : List ℕ) → TextsTellFirstParts → IsWithout 10 front

@@ -33,7 +33,7 @@ pub record IsFilling (pattern bytes : List ℕ) (place : ℕ) (letters : List �
 one_letter : (mark byte : ℕ) (pattern : List ℕ) → fits mark byte ≡ true
     → (length (letters_at mark byte) + blanks pattern ≡ blanks (mark ∷ pattern)) × All (λ l. l < 26) (letters_at mark byte)
     × ((more : List ℕ) → filled_in (mark ∷ pattern) (letters_at mark byte ++ more) ≡ byte ∷ filled_in pattern more)
-one_letter mark byte pattern fit = grind (arith, cases_Bool, mark, All-cons, All-nil)
+one_letter mark byte pattern fit = grind (arith, cases_Bool, All-cons, All-nil)
 
 pub filling_more : (pattern bytes letters more : List ℕ) (place mark byte : ℕ) → IsFilling pattern bytes place letters → place < length pattern → place < length bytes
     → get_or pattern place 0 ≡ mark → get_or bytes place 0 ≡ byte → fits mark byte ≡ true → more ≡ letters ++ letters_at mark byte
@@ -110,7 +110,7 @@ module _ (pattern bytes letters tail : List ℕ) (place : ℕ) (filling : IsFill
   line_read ended = subst (IsFilledLine pattern letters) (append-nil bytes) (line_ends [] (rw (append-nil tail) ended))
 
   pub line_broken : (why : Unread) → BreaksOff (IsEnded []) tail why → BreaksOff (IsPatternLine pattern) bytes why
-  line_broken Open (more, some, ended) = grind (arith, line_ends more ended, ended, letters)
+  line_broken Open (more, some, ended) = grind (arith, line_ends more ended)
   line_broken Off none = λ more is.
       let (end, ended, joined) = ended_tail (filled_in pattern is.letters) (bytes ++ more) is.ended in
       let same = same_sized (filled_in pattern letters) (filled_in pattern is.letters) (tail ++ more) end
@@ -217,7 +217,7 @@ breaks_alike bytes why to back broken = grind arith
 
 pub keys_read : (s : Day) (bytes letters : List ℕ) (k : Keys) → IsFilledLine (key_pattern s) letters bytes → key_letters k ≡ letters → AreKeys s k
     → AreKeys s k × IsKeyLine k bytes
-keys_read s bytes letters k filled told are = grind (arith, bytes, key_line)
+keys_read s bytes letters k filled told are = grind (arith, key_line)
 
 -- -------- keys that suit the day, and those that don't
 
@@ -290,7 +290,7 @@ text_only s bytes head = subst (IsEnded (codes "TEXT")) (sym (head.joined ∙ ap
 
 pub without_line : (s : Day) (k : Keys) (line more : List ℕ) (others : List Keys) → TextsTellFirstParts → IsKeyLine k line → IsHead s others (line ++ more)
     → (after : List Keys) × IsHead s after more × (length others ≡ suc (length after))
-without_line s k line more [] tell ended head = grind (arith, key_first, ended, text_first, text_only)
+without_line s k line more [] tell ended head = grind (arith, key_first, text_first, text_only)
 without_line s k line more (other ∷ others) tell ended head =
     let first = head.keyed in
     let same : line ++ more ≡ first.0 ++ (first.1 ++ head.last) = head.joined ∙ ap (λ l. l ++ head.last) first.4 ∙ append_assoc first.0 first.1 head.last in (
@@ -310,7 +310,7 @@ without_line s k line more (other ∷ others) tell ended head =
 -- ---- line after line
 
 pub lines_more : (keys : List Keys) (k : Keys) (lines line : List ℕ) → AreKeyLines keys lines → IsKeyLine k line → AreKeyLines (keys ++ k ∷ []) (lines ++ line)
-lines_more [] k lines line keyed ended = grind (arith, ended, append-nil)
+lines_more [] k lines line keyed ended = grind (arith, append-nil)
 lines_more (first ∷ keys) k lines line (one, others, is, more, joined) ended =
     (one, others ++ line, is, lines_more keys k others line more ended, ap (λ l. l ++ line) joined ∙ append_assoc one others line)
 

@@ -142,14 +142,13 @@ pub data AreFronts (xs ys zs ws : List ℕ) : Type 0 where
   Shorter : (more : List ℕ) → zs ≡ xs ++ more → ys ≡ more ++ ws → AreFronts xs ys zs ws
   Longer : (x : ℕ) (more : List ℕ) → xs ≡ zs ++ x ∷ more → ws ≡ x ∷ (more ++ ys) → AreFronts xs ys zs ws
 
-fronts_more : (x y : ℕ) (xs ys zs ws : List ℕ) → x ≡ y → AreFronts xs ys zs ws → AreFronts (x ∷ xs) ys (y ∷ zs) ws
-fronts_more x y xs ys zs ws same (Shorter more is rest) = Shorter more (cc) rest
-fronts_more x y xs ys zs ws same (Longer z more is rest) = Longer z more (cc) rest
-
 pub fronts : (xs ys zs ws : List ℕ) → xs ++ ys ≡ zs ++ ws → AreFronts xs ys zs ws
 fronts [] ys zs ws same = Shorter zs refl same
 fronts (x ∷ xs) ys [] ws same = Longer x xs refl (sym same)
-fronts (x ∷ xs) ys (z ∷ zs) ws same = fronts_more x z xs ys zs ws (cc) (fronts xs ys zs ws (cc))
+fronts (x ∷ xs) ys (z ∷ zs) ws same = elim (fronts xs ys zs ws (cc)) [
+  | Shorter more is rest ↦ Shorter more (cc) rest
+  | Longer y more is rest ↦ Longer y more (cc) rest
+]
 
 -- ---- faults in the head
 

@@ -248,7 +248,7 @@ pub nothing_stands : (s : Day) (form : List ℕ) (t : Turn s form) → TextsTell
     → MayBegin t.rest → ((fault : FormFault) (line body : List ℕ) → IsFirstPart 10 t.part line body → ¬ (IsRefusedEarly s form t fault))
     → (text : List ℕ) (fault : FormFault) → ¬ (IsRefusedForGood s form text fault)
 nothing_stands s form t tell numbers last may early text fault (NoHeading none empty is) =
-    grind (arith, begins_by_parts, none)
+    grind (arith, begins_by_parts)
 nothing_stands s form t tell numbers last may early text fault (InWhole u some refused is) =
     let same = same_turn s tell numbers form t u fault last refused in
     some ((one_cut t.rest u.part u.after t.part t.after (rw (same.1) u.first) t.first).1 ∙ last)

@@ -27,7 +27,7 @@ size_some s = grind arith
 pieces_more : (size k : ℕ) (letters : List ℕ) → 0 < size → size * k < length letters → length letters ≤ size * k + size
     → pieces size letters ≡ pieces size (take (size * k) letters) ++ drop (size * k) letters ∷ []
 pieces_more size zero letters large some few =
-    grind (arith, size, pieces-next, letters, take_all, drop_all, pieces-none)
+    grind (arith, pieces-next, take_all, drop_all, pieces-none)
 pieces_more size (suc k) letters large some few =
     let more : size * suc k ≡ size + size * k = omega arith in
     let fewer : length (drop size letters) + size ≡ length letters = omega (arith, length-drop size letters) in
@@ -89,7 +89,7 @@ part_written s keys w next k letters sent one letter is full another found made 
     let longer : length (letters ++ letter ∷ []) ≡ length letters + 1 = length-append letters (letter ∷ []) in
     record {
       counted = omega (arith, counted, is.counted, longer);
-      written = grind (arith, longer, le_of_mul-le-mul_left, size);
+      written = grind (arith, le_of_mul-le-mul_left);
       kept = cc (take_all size (letter ∷ []) (omega arith), drop_at letters (letter ∷ []) (size * next.written) up_to);
       made = rw (take_at letters (letter ∷ []) (size * next.written) up_to, number)
           (part_more s keys k letters sent one w.written (omega (arith, whole, large)) (omega (arith, whole)) found is.made (rw own at made));
@@ -185,7 +185,7 @@ longer s h order byte is = ap (λ o. o ++ byte ∷ []) is.joined ∙ append_asso
 pub keys_taken : (s : Day) (h next : HeadReader) (order : List ℕ) (byte : ℕ) (k : Keys) → IsHeadRead s h order → length h.keys.items < 99 → AreKeys s k
     → IsKeyLine k (h.line.items ++ byte ∷ []) → next.keys.items ≡ h.keys.items ++ k ∷ [] → next.line.items ≡ [] → IsHeadRead s next (order ++ byte ∷ [])
 keys_taken s h next order byte k is room are ended put cleared =
-    grind (arith, common_steps, whole_lines, longer, lines_more, ended, All-push, length-append, room)
+    grind (arith, common_steps, whole_lines, longer, lines_more, All-push, length-append)
 
 -- a head whose last line is this
 text_head : (s : Day) (h : HeadReader) (order last : List ℕ) (is : IsHeadRead s h order) → IsEnded (codes "TEXT") last → IsHead s h.keys.items (is.lines ++ last)
@@ -194,7 +194,7 @@ text_head s h order last is ended = grind arith
 -- the line TEXT is whole
 pub text_taken : (s : Day) (h next : HeadReader) (order : List ℕ) (byte : ℕ) → IsHeadRead s h order → IsEnded (codes "TEXT") (h.line.items ++ byte ∷ [])
     → next.keys.items ≡ h.keys.items → IsOrder s (order ++ byte ∷ []) next.keys.items (order ++ byte ∷ []) []
-text_taken s h next order byte is ended same = grind (arith, common_steps, append-nil, longer, text_head, ended)
+text_taken s h next order byte is ended same = grind (arith, common_steps, append-nil, longer, text_head)
 
 -- the line that is read goes on
 line_open : (s : Day) (h next : HeadReader) (order line more beyond : List ℕ) (keys : List Keys) (byte most : ℕ) (is : IsHeadRead s h order)
@@ -264,7 +264,7 @@ no_text_line : (s : Day) (others : List Keys) (bytes other : List ℕ) (byte cou
 no_text_line s [] bytes other byte count full off few head =
     off other (text_line _ (subst (IsEnded (codes "TEXT")) (sym (append_assoc bytes (byte ∷ []) other)) (text_only s _ head)))
 no_text_line s (k ∷ others) bytes other byte count full off few head =
-    grind (arith, full, front_byte bytes, bytes, key_line_first s k others _ head)
+    grind (arith, front_byte bytes, key_line_first s k others _ head)
 
 -- the line of keys isn't whole
 pub key_step : (s : Day) (h next : HeadReader) (order : List ℕ) (byte : ℕ) (why : Unread) → TextsTellFirstParts
