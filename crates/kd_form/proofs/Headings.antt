@@ -94,13 +94,9 @@ fraction_word part parts small few =
     a_word (fraction part parts) (omega (arith, length-append (decimal part ++ codes "/") (decimal parts), length-append (decimal part) (codes "/")))
     (lower 47 33 (fraction part parts) (omega arith) (fraction_from part parts small few))
 
--- three or four wheels
-slots_are : (s : RotorDay) (found : Option ℕ) → MatchOption found (HasPins (OfRotors s)) (HasSlots (OfRotors s)) → (1 ≤ length s.wheels) × (length s.wheels ≤ 4)
-slots_are s found has = grind arith
-
 heading_are_words : (s : Day) (found : Option ℕ) (h : Heading) → NumbersAreWords → MatchOption found (HasPins s) (HasSlots s) → IsHeading s h → All IsWord (heading_words h)
 heading_are_words s found h numbers has is =
-    grind (arith, are_small, All-cons, letters_word, fraction_word, numbers, All-nil, slots_are)
+    grind (arith, are_small, All-cons, letters_word, fraction_word, numbers, All-nil)
 
 line_words : (s : Day) (found : Option ℕ) (h : Heading) (line : List ℕ) → NumbersAreWords → LinesSplitIntoWords → MatchOption found (HasPins s) (HasSlots s)
     → IsHeading s h → line_of (heading_words h) ≡ line → words_of line ≡ heading_words h
@@ -180,7 +176,7 @@ heading_length s found h has is =
     let few : length (decimal h.letters) ≤ 3 = length-decimal-le 3 h.letters (omega arith) (omega arith) small.letters in
     let one : length (decimal h.part) ≤ 2 = length-decimal-le 2 h.part (omega arith) (omega (arith, is.number.in_order, is.number.few)) small.part in
     let all : length (decimal h.parts) ≤ 2 = length-decimal-le 2 h.parts (omega arith) (omega (arith, is.number.few)) small.parts in
-    grind (arith, length-append {A = ℕ}, length-map, slots_are)
+    grind (arith, length-append {A = ℕ}, length-map)
 
 pub open_told : (s : Day) (found : Option ℕ) (part line : List ℕ) (answer : Option Heading) → MatchOption found (HasPins s) (HasSlots s) → IsTold s answer line
     → IsWithout 10 part → line ≡ take 64 part
@@ -198,9 +194,6 @@ open_told s found part line (Some h) has told unbroken kept =
 text_ended : (line text : List ℕ) → IsLineText line text → IsEnded text (line ++ 10 ∷ [])
 text_ended line text is = grind (arith, append_assoc {A = ℕ})
 
-ended_size : (text line : List ℕ) → IsEnded text (line ++ 10 ∷ []) → length line ≤ length text + 1
-ended_size text line ended = grind (arith, length-append {A = ℕ})
-
 ended_text : (words line text : List ℕ) → IsWithout 13 words → IsEnded words (line ++ 10 ∷ []) → IsLineText line text → words ≡ text
 ended_text words line text free (inl short) cut =
     let same = append_cancel_right line words (10 ∷ []) short in grind (arith, has_byte 13 text [])
@@ -216,14 +209,14 @@ ended_told s found part line text None tell has cut told unbroken kept = λ h bo
     let words : List ℕ = line_of (heading_words h) in
     let ended = (heading_there s part [] h body tell unbroken there).0 in
     let size : length words ≤ 50 = heading_length s found h has there.is_heading in
-    let whole : line ≡ part = kept ∙ take_all 64 part (omega (arith, ended_size words part ended)) in
+    let whole : line ≡ part = kept ∙ take_all 64 part (grind (arith, length-append {A = ℕ})) in
     told h there.is_heading (ended_text words line text (free_heading s h 13 (omega arith) there.is_heading)
     (subst (λ l. IsEnded words (l ++ 10 ∷ [])) (sym whole) ended) cut)
 ended_told s found part line text (Some h) tell has cut told unbroken kept =
     let words : List ℕ = line_of (heading_words h) in
     let ended : IsEnded words (line ++ 10 ∷ []) = subst (λ t. IsEnded t (line ++ 10 ∷ [])) (sym told.1) (text_ended line text cut) in
     let size : length words ≤ 50 = heading_length s found h has told.0 in
-    let whole : line ≡ part = whole_line part line kept (omega (arith, ended_size words line ended)) in
+    let whole : line ≡ part = whole_line part line kept (grind (arith, length-append {A = ℕ})) in
     (told.0, subst (λ l. IsEnded words (l ++ 10 ∷ [])) whole ended)
 
 -- -------- a part has one heading, and one body

@@ -105,15 +105,12 @@ are_read [] lines last text none ended = (last, ended, ap (λ l. (l ++ last) ++ 
 are_read (k ∷ keys) lines last text (line, rest, is, more, joined) ended =
     (line, (rest ++ last) ++ text, is, are_read keys rest last text more ended, rw joined (simp append_assoc))
 
-not_both : (k : Keys) (keys : List Keys) (text more bytes : List ℕ) → AreRead [] text bytes → ¬ (AreRead (k ∷ keys) more bytes)
-not_both k keys text more bytes one other = grind (arith, text_front, key_first)
-
 one_read : (s : Day) (keys others : List Keys) (text more bytes : List ℕ) → All (AreKeys s) keys → All (AreKeys s) others → AreRead keys text bytes
     → AreRead others more bytes → (keys ≡ others) × (text ≡ more)
 one_read s [] [] text more bytes all alls (last, ended, is) (final, end, also) =
     (refl, (same_line (codes "TEXT") (codes "TEXT") last final text more text_plain text_plain ended end (sym is ∙ also)).2)
-one_read s [] (k ∷ others) text more bytes all alls one other = absurd (not_both k others text more bytes one other)
-one_read s (k ∷ keys) [] text more bytes all alls one other = absurd (not_both k keys more text bytes other one)
+one_read s [] (k ∷ others) text more bytes all alls one other = absurd (grind (arith, text_front, key_first))
+one_read s (k ∷ keys) [] text more bytes all alls one other = absurd (grind (arith, text_front, key_first))
 one_read s (k ∷ keys) (j ∷ others) text more bytes all alls (line, rest, is, later, joined) (first, left, also, latter, linked) =
     let lines = same_line (line_of (key_words k)) (line_of (key_words j)) line first rest left (plain_keys k) (plain_keys j) is also (sym joined ∙ linked) in
     let one = same_keys s k j (All-head (AreKeys s) k keys all) (All-head (AreKeys s) j others alls) lines.0 in

@@ -128,11 +128,8 @@ last_written s keys w k letters sent one is counted needed found made =
 
 -- ---- one line
 
-ended_length : (text line : List ℕ) (most : ℕ) → IsEnded text line → length text ≤ most → length line ≤ most + 2
-ended_length text line most ended few = grind (arith, length-append {A = ℕ})
-
 pub short_line : (s : Day) → length (key_pattern s) ≤ 21 → (line : List ℕ) → IsAnyKeyLine s line → length line ≤ 23
-short_line s few line is = grind (arith, common_steps, as_form_line, ended_length, length-filled)
+short_line s few line is = grind (arith, common_steps, as_form_line, length-filled, length-append {A = ℕ})
 
 -- what begins a line, and isn't one yet, has no end of a line
 front_unbroken : (line bytes more : List ℕ) → IsUpToBreak line → line ≡ bytes ++ more → more ≢ [] → IsWithout 10 bytes
@@ -286,7 +283,7 @@ pub text_step : (s : Day) (h next : HeadReader) (order : List ℕ) (byte : ℕ) 
 text_step s h next order byte unread.Open tell is full (more, missing, text) same put =
     let bytes : List ℕ = h.line.items ++ byte ∷ [] in
     line_open s h next order (bytes ++ more) more more h.keys.items byte 6 is (up_to_break (codes "TEXT") (bytes ++ more) text_unbroken text.ended)
-    (ended_length (codes "TEXT") (bytes ++ more) 4 text.ended (omega arith)) (omega arith) refl missing missing
+    (grind (arith, length-append {A = ℕ})) (omega arith) refl missing missing
     (subst (IsHead s h.keys.items) (sym (append_assoc is.lines bytes more)) (text_head s h order (bytes ++ more) is text.ended)) same put
 text_step s h next order byte unread.Off tell is full off same put =
     line_bad s h order byte tell is (λ others other most. no_text_line s others h.line.items other byte (length h.keys.items) full off most)

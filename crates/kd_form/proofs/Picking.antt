@@ -72,17 +72,12 @@ picking_more letters wheel start place done less picking next = record {
 
 -- ---- all rising places, said in one
 
-later_on : (letters : List ℕ) (wheel place : ℕ) (rest : List ℕ) → Contains (ring_of wheel) (slice_index letters place)
-    → ((i letter : ℕ) → slice_get (map (λ p. slice_index letters p) rest) i ≡ Some letter → Contains (ring_of (wheel + 1 + i)) letter)
-    → (i letter : ℕ) → slice_get (map (λ p. slice_index letters p) (place ∷ rest)) i ≡ Some letter → Contains (ring_of (wheel + i)) letter
-later_on letters wheel place rest on others i letter is = grind arith
-
 on_wheels : (letters : List ℕ) (wheel start : ℕ) (places : List ℕ) → Picks letters wheel start places
     → AreRising start (length letters) places × (length places + wheel ≡ 7)
     × ((i letter : ℕ) → slice_get (map (λ p. slice_index letters p) places) i ≡ Some letter → Contains (ring_of (wheel + i)) letter)
 on_wheels letters wheel start [] picks = (tt, omega arith, λ i letter is. absurd (cc))
 on_wheels letters wheel start (place ∷ places) (after, inside, on, more) =
-    grind (arith, on_wheels letters (wheel + 1) (place + 1) places more, letters, later_on)
+    grind (arith, on_wheels letters (wheel + 1) (place + 1) places more, letters)
 
 picks_of : (letters : List ℕ) (wheel start : ℕ) (places : List ℕ) → AreRising start (length letters) places → length places + wheel ≡ 7
     → ((i letter : ℕ) → slice_get (map (λ p. slice_index letters p) places) i ≡ Some letter → Contains (ring_of (wheel + i)) letter)

@@ -33,11 +33,6 @@ cipher_text-nil : (key : EngineKey) → cipher_text (cipher key) [] ≡ []
 cipher_text-nil (OfWheels key) = refl
 cipher_text-nil (OfDrum key) = refl
 
--- what lights up behind a piece lights up on the key that the piece leaves
-Lights-behind : CipherInTurn → (key left : EngineKey) (bytes lamps more : List ℕ) → Lights key left bytes lamps
-    → cipher_text (cipher key) (bytes ++ more) ≡ lamps ++ cipher_text (cipher left) more
-Lights-behind in_turn key left bytes lamps more lights = grind (arith, bytes, typed-append, in_turn, map-append)
-
 -- ---- what was typed so far
 
 -- the first bad byte, behind a front
@@ -100,7 +95,7 @@ module _ (m : Parts) where
     typed_on bytes text typed = record {
       counted = omega (arith, counted, typed.counted, length-append bytes (take n more), length-take-le n more front.within);
       allowed = All-append (λ b. IsTrue (is_text_byte b)) bytes (take n more) typed.allowed front.allowed;
-      behind = grind (arith, append_assoc, bytes, typed.behind, Lights-behind, in_turn);
+      behind = grind (arith, append_assoc, bytes, typed.behind, in_turn, typed-append, map-append);
     }
 
     pub read_whole : (took wrote : Option (List ℕ)) (d f : Bool) → Appends took wrote lamps → length more ≤ n
