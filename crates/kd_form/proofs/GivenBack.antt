@@ -1,5 +1,5 @@
 -- The form that an order becomes gives the order's letters back.
-use Rattle.kd_form.proofs.Prelude.{◌≡◌, ◌≢◌, ℕ, ◌+◌, ◌%◌, ◌<◌, ◌≤◌, ◌⊎◌, inl, inr, List, [], ◌∷◌, ◌++◌, length, take, drop, refl, sym, ap, subst, ◌∙◌, append_assoc, length-append, arith, All, Option, Some, None, IfSome, flat_map, cons_option, cases_lt, nat_tests, append-nil, take_all, drop_all, length-take, length-take-le, take-append-drop, All-nil, All-cons, All-head, All-tail, All-take, All-drop, TheDayDeciphersItself, Day, IsLegalDay, TextsTellFirstParts, Keys, BeginsHeading, AreFirstParts, ArePartsRead, given_text, sent_letters, AreKeys, OrdersGiveLetters, FormsGiveTheirOrders, Suits, part_size, filled, Part, part_text, pieces, body_text, IsLettersText, IsPartRead, letter_of_byte, letters_from, text_letters, parts_needed, AreMadeTexts}
+use Rattle.kd_form.proofs.Prelude.{◌≡◌, ◌≢◌, ℕ, ◌+◌, ◌%◌, ◌<◌, ◌≤◌, ◌⊎◌, inl, inr, List, [], ◌∷◌, ◌++◌, length, take, drop, refl, sym, ap, subst, ◌∙◌, append_assoc, length-append, arith, All, Option, Some, None, IfSome, flat_map, cons_option, cases_lt, append-nil, take_all, drop_all, length-take, length-take-le, take-append-drop, All-nil, All-cons, All-head, All-tail, All-take, All-drop, TheDayDeciphersItself, Day, IsLegalDay, TextsTellFirstParts, Keys, BeginsHeading, AreFirstParts, ArePartsRead, given_text, sent_letters, AreKeys, OrdersGiveLetters, FormsGiveTheirOrders, Suits, part_size, filled, Part, part_text, pieces, body_text, IsLettersText, IsPartRead, letters_from, text_letters, parts_needed, AreMadeTexts}
 use Rattle.kd_form.proofs.PartTexts.{by_pieces, gives_body, part_has_heading, part_begins_heading, part_is_first}
 use Rattle.kd_form.proofs.MadeParts.{more_pieces, pieces-next, pieces-none, IsPiece, GivesBack, part_gives_back}
 use Rattle.kd_form.proofs.OneOrder.{one_order}

@@ -1,7 +1,6 @@
 -- The lines of an order up to its text.
-use Rattle.std.proofs.Common.{rules}
 use Rattle.std.proofs.lemmas.Grind.{common_steps}
-use Rattle.kd_form.proofs.Prelude.{◌≡◌, ◌≢◌, ℕ, zero, suc, ◌+◌, ◌-◌, ◌<◌, ◌≤◌, inl, inr, Bool, true, false, List, [], ◌∷◌, ◌++◌, length, get_or, take, drop, replicate, refl, sym, ap, subst, ◌∙◌, append_assoc, length-append, length-drop, arith, ◌==◌, nat_lt, All, codes, get_or-append, AllWithin, nat_tests, cases_Bool, get_or-take, drop_all, take_more, take-append-drop, length-replicate, take_all, get_or_default, length-take-le, append-nil, drop_more, All-append, All-cons, All-nil, All-tail, All-replicate, All-take, All-drop, All-push, Unread, IsEnded, IsKeyLine, AreKeyLines, IsHead, filled_in, blanks, fits, letters_at, IsFilledLine, IsPatternLine, BreaksOff, letters_text, line_of, IsWithout, TextsTellFirstParts, Day, OfRotors, OfPins, Keys, Rotor, Pin, RotorKeys, key_words, AreKeys, AreRotorKeys, ArePinKeys, places_for, rotor_pattern, key_pattern, key_letters, IsAnyKeyLine, FormFault, Suits, IsKeysFault, IsFirstKeysFault}
+use Rattle.kd_form.proofs.Prelude.{◌≡◌, ◌≢◌, ℕ, zero, suc, ◌+◌, ◌<◌, ◌≤◌, inl, inr, Bool, true, false, List, [], ◌∷◌, ◌++◌, length, get_or, take, drop, replicate, refl, sym, ap, subst, ◌∙◌, append_assoc, length-append, length-drop, arith, ◌==◌, nat_lt, All, codes, get_or-append, AllWithin, nat_tests, cases_Bool, get_or-take, drop_all, take_more, take-append-drop, length-replicate, take_all, get_or_default, length-take-le, append-nil, drop_more, All-append, All-cons, All-nil, All-tail, All-replicate, All-take, All-drop, All-push, Unread, IsEnded, IsKeyLine, AreKeyLines, IsHead, filled_in, blanks, fits, letters_at, IsFilledLine, IsPatternLine, BreaksOff, letters_text, line_of, IsWithout, TextsTellFirstParts, Day, OfRotors, OfPins, Keys, Rotor, Pin, key_words, AreKeys, ArePinKeys, places_for, rotor_pattern, key_pattern, key_letters, IsAnyKeyLine, FormFault, Suits, IsKeysFault, IsFirstKeysFault}
 use Rattle.kd_state.specs.Machine.{AreLetters}
 use Rattle.kd_form.specs.declared.pattern_line.Unread.TheVariants.{Open, Off}
 use Rattle.kd_form.proofs.Ciphers.{letter_read}

@@ -1,5 +1,5 @@
 -- A form is cut into parts in one way.
-use Rattle.kd_form.proofs.Prelude.{◌≡◌, ℕ, ◌+◌, ◌-◌, ◌≤◌, inl, inr, List, [], ◌∷◌, ◌++◌, length, drop, get_or, refl, sym, ap, subst, ◌∙◌, length-append, arith, ◌⊎◌, ◌<◌, take, ltb, slice_index, codes, Bool, ◌&&◌, Decides, bytes_eq, drop-append_seam, append-nil, take-append-drop, drop_more, get_or_past, BeginsHeading, IsFirstOf, AreFirstParts, Decides-and, Decides-ltb, not_from_Decides, cases_lt, cases_eq, cases_Bool}
+use Rattle.kd_form.proofs.Prelude.{◌≡◌, ℕ, ◌-◌, ◌≤◌, inl, inr, List, [], ◌∷◌, ◌++◌, length, drop, get_or, refl, sym, ap, subst, ◌∙◌, length-append, arith, ◌⊎◌, ◌<◌, take, ltb, slice_index, codes, Bool, ◌&&◌, Decides, bytes_eq, drop-append_seam, append-nil, take-append-drop, drop_more, get_or_past, BeginsHeading, IsFirstOf, AreFirstParts, Decides-and, Decides-ltb, not_from_Decides, cases_lt, cases_eq, cases_Bool}
 use Rattle.kd_form.proofs.OneOrder.{Shorter, Longer, fronts}
 use Rattle.std.proofs.lemmas.Slice.Eq.{bytes_eq-Decides}
 

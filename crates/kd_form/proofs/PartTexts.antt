@@ -1,6 +1,6 @@
 -- The text of a part: its letters in groups and lines.
 use Rattle.std.proofs.Common.{append-nil, take-append-drop}
-use Rattle.kd_form.proofs.Prelude.{◌≡◌, ℕ, zero, suc, ◌+◌, ◌<◌, ◌≤◌, ◌⊎◌, inl, List, [], ◌∷◌, ◌++◌, length, take, drop, refl, sym, ap, subst, ◌∙◌, append_assoc, length-drop, arith, get_or, ◌≢◌, map, All, IsTrue, Some, None, codes, false, flat_map, cons_option, nat_tests, All-nil, All-cons, All-head, All-tail, All-append, All-push, All-take, All-drop, filter_map-append, All-get_or, is_text_byte, letters_text, line_of, IsWithout, pieces, groups_of, with_line, body_text, Part, heading_words, part_text, letter_of_byte, letters_from, false≢true, Day, IsHeading, BeginsHeading, IsFirstOf, HasHeading}
+use Rattle.kd_form.proofs.Prelude.{◌≡◌, ℕ, zero, suc, ◌+◌, ◌<◌, ◌≤◌, ◌⊎◌, inl, List, [], ◌∷◌, ◌++◌, length, take, drop, refl, sym, ap, subst, ◌∙◌, append_assoc, length-drop, arith, get_or, ◌≢◌, map, All, IsTrue, Some, None, codes, flat_map, cons_option, nat_tests, All-nil, All-cons, All-head, All-tail, All-append, All-push, All-take, All-drop, filter_map-append, All-get_or, is_text_byte, letters_text, line_of, IsWithout, pieces, groups_of, with_line, body_text, Part, heading_words, part_text, letter_of_byte, letters_from, false≢true, Day, IsHeading, BeginsHeading, IsFirstOf, HasHeading}
 use Rattle.kd_form.proofs.MadeParts.{pieces-next, pieces-none}
 use Rattle.kd_form.proofs.Headings.{plain_heading, words_begin, has_byte}
 use Rattle.kd_form.proofs.OneOrder.{Shorter, Longer, fronts}

@@ -1,7 +1,6 @@
 -- The first of all rising places is found by striking out: letter by letter, and wheel by wheel.
 use Rattle.kd_form.proofs.Prelude.{◌≡◌, ℕ, suc, ◌+◌, ◌<◌, ◌≤◌, inl, inr, List, [], ◌∷◌, ◌++◌, length, map, refl, sym, ap, subst, ◌∙◌, append_assoc, length-append, arith, slice_index, slice_get, Some, Contains, cases_lt, cases_eq, append-nil, map_push, length-map, AreRising, ComesFirst, ArePicked, IsInternalKey, HaveRunOut, NoneIsOnWheel, IsNextPlace}
 use Rattle.kd_tables.specs.Rings.{ring_of}
-use Rattle.kd_state.specs.Box.{numbered}
 
 -- rising places from this one on, of letters on the wheels from this one to the sixth
 abbrev pub Picks : List ℕ → ℕ → ℕ → List ℕ → Type 0

@@ -1,6 +1,6 @@
 -- What a piece of a text lights up, and what was typed so far.
 use Rattle.std.proofs.Common.{append-nil, take-append-drop, length-take-le}
-use Rattle.kd_form.proofs.Prelude.{◌≡◌, ℕ, ◌+◌, ◌≤◌, ◌<◌, Bool, List, [], ◌∷◌, ◌++◌, All, IsTrue, IsFalse, Option, option_to_list, Ok, Err, length, take, drop, get_or, suc, None, refl, sym, ap, subst, ◌∙◌, append_assoc, length-append, drop-cons, arith, map-append, take_all, All-nil, All-cons, All-head, All-tail, All-append, filter_map-append, nat_tests, starts_with_of_append, Appends, is_text_byte, letters_text, TakesFront, Parts, CipherInTurn, EngineIsTheMachine, EngineKey, OfWheels, OfDrum, cipher, key_left, physical_key, physical_cipher, BadByte, letter_of_byte, IsBadAt, IsAllowedFront, IsRefused, Closes, Held, FeedsAll, ClosesAt, typed_letters, cipher_text, texts, IsTextFault, Lights, IsAllowedTo, IsTypedTo}
+use Rattle.kd_form.proofs.Prelude.{◌≡◌, ℕ, ◌+◌, ◌≤◌, ◌<◌, Bool, List, [], ◌∷◌, ◌++◌, All, IsTrue, IsFalse, Option, option_to_list, Ok, Err, length, take, drop, get_or, suc, None, refl, sym, ap, subst, ◌∙◌, append_assoc, length-append, drop-cons, arith, map-append, take_all, All-nil, All-cons, All-head, All-tail, All-append, filter_map-append, nat_tests, starts_with_of_append, Appends, is_text_byte, letters_text, TakesFront, Parts, CipherInTurn, EngineIsTheMachine, EngineKey, OfWheels, OfDrum, cipher, physical_key, physical_cipher, BadByte, letter_of_byte, IsBadAt, IsAllowedFront, IsRefused, Closes, Held, FeedsAll, ClosesAt, typed_letters, cipher_text, texts, IsTextFault, Lights, IsAllowedTo, IsTypedTo}
 use Rattle.kd_form.specs.declared.stream.stop.Stop.TheVariants as stops
 use Rattle.kd_form.specs.declared.typing.Typist.{Typist}
 use Rattle.kd_form.proofs.OneOrder.{no_bad_byte}

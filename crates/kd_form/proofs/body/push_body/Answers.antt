@@ -1,5 +1,5 @@
 use Rattle.kd_form.proofs.Prelude.{arith}
-use Rattle.kd_form.proofs.MadeParts.{body_turn, body_end, some_left, nothing_left}
+use Rattle.kd_form.proofs.MadeParts.{body_turn, some_left}
 use Rattle.kd_form.proofs.body.push_body.Goals as goal
 
 pub loop-rest-preserved : goal.loop-rest-preserved

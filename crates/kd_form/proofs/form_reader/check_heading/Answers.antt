@@ -1,4 +1,3 @@
-use Rattle.std.proofs.Common.{arith}
 use Rattle.kd_form.proofs.Prelude.{refl, sym, ◌∙◌, inl, inr, false≢true, Other}
 use Rattle.kd_form.proofs.form_reader.check_heading.Goals.{then-heading-number-via-then-heading-number, then-heading-number-via-else-heading-number+then-not-is_expected}
 use Rattle.kd_form.proofs.form_reader.check_heading.Goals as goal

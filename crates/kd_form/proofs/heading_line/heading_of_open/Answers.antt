@@ -1,4 +1,3 @@
-use Rattle.std.proofs.Common.{arith}
 use Rattle.kd_form.proofs.Headings.{open_told}
 use Rattle.kd_form.proofs.heading_line.heading_of_open.Goals as goal
 

@@ -1,6 +1,5 @@
-use Rattle.std.proofs.Common.{arith}
 use Rattle.kd_form.proofs.Prelude.{◌∙◌}
-use Rattle.kd_form.proofs.Lines.{keys_read, breaks_alike, as_key_line, as_form_line}
+use Rattle.kd_form.proofs.Lines.{keys_read}
 use Rattle.kd_form.proofs.key_line.read_keys.Goals as goal
 
 pub returns-in-Ok : goal.returns-in-Ok

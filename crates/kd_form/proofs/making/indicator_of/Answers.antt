@@ -1,4 +1,4 @@
-use Rattle.kd_form.proofs.Prelude.{◌≡◌, inl, inr, ◌∙◌, length, ap, arith}
+use Rattle.kd_form.proofs.Prelude.{arith}
 use Rattle.kd_form.proofs.Ciphers.{length-cipher_from}
 use Rattle.kd_form.proofs.making.indicator_of.Goals as goal
 

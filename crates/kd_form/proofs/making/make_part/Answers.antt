@@ -1,4 +1,3 @@
-use Rattle.std.proofs.Common.{arith}
 use Rattle.kd_form.proofs.MadeParts.{made_of_rotor, made_of_pin}
 use Rattle.kd_form.proofs.making.make_part.Goals as goal
 

@@ -1,5 +1,5 @@
 use Rattle.kd_form.proofs.Prelude.{◌∙◌, sym, ap, refl, arith, length, take_rest, fits}
-use Rattle.kd_form.proofs.Lines.{filling_more, letter_room, line_open, line_off, line_read, line_broken, read_inside, read_at}
+use Rattle.kd_form.proofs.Lines.{filling_more, line_off, line_read, line_broken, read_inside, read_at}
 use Rattle.kd_form.proofs.pattern_line.read_pattern.Goals as goal
 
 pub returns-then-not-take_letter : goal.returns-then-not-take_letter

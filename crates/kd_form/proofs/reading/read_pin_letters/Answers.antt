@@ -1,4 +1,4 @@
-use Rattle.kd_form.proofs.Prelude.{◌∙◌, refl, sym, ap, subst, false≢true, sheet_key, IsWindow, PinKeys, IsInternalKey, HaveRunOut, cipher_from, enciphered_choice, InIndicators, InChoice, text_in}
+use Rattle.kd_form.proofs.Prelude.{◌∙◌, ap, subst, sheet_key, IsWindow, PinKeys, IsInternalKey, cipher_from, enciphered_choice, text_in}
 use Rattle.kd_form.proofs.MadeParts.{list_told}
 use Rattle.kd_form.proofs.reading.read_pin_letters.Goals as goal
 

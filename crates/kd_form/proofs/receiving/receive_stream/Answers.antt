@@ -1,5 +1,4 @@
-use Rattle.kd_form.proofs.Prelude.{refl, sym, ◌∙◌, false≢true, Off}
-use Rattle.kd_form.proofs.Standing.{form_told, off_key}
+use Rattle.kd_form.proofs.Prelude.{refl, Off}
 use Rattle.kd_form.proofs.receiving.receive_stream.Goals as goal
 
 pub returns-in-Err-clause-streamed : goal.returns-in-Err-clause-streamed

@@ -1,4 +1,3 @@
-use Rattle.std.proofs.Common.{arith}
 use Rattle.kd_form.proofs.Prelude.{refl}
 use Rattle.kd_form.proofs.Streaming.{SoFar-nil, room_behind, SoFar-read, SoFar-ended, IsStreamed-stopped, IsStreamed-closed, IsStreamed-too_long}
 use Rattle.kd_form.proofs.stream.stream.Goals as goal

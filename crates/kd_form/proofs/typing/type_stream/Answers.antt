@@ -1,7 +1,5 @@
-use Rattle.std.proofs.Common.{arith}
-use Rattle.kd_form.proofs.Prelude.{refl, sym, ◌∙◌, false≢true, physical_cipher, NotReady, Off}
+use Rattle.kd_form.proofs.Prelude.{refl, false≢true, NotReady, Off}
 use Rattle.kd_form.proofs.TypedTexts.{typed_none}
-use Rattle.kd_form.proofs.Standing.{text_told}
 use Rattle.kd_form.proofs.typing.type_stream.Goals as goal
 
 pub stream-requires : goal.stream-requires

@@ -1,4 +1,3 @@
-use Rattle.std.proofs.Common.{arith}
 use Rattle.kd_form.proofs.Prelude.{[], inl, ◌∙◌, IsTrue, None, All-nil, is_text_byte, letters_from}
 use Rattle.kd_form.proofs.FormSteps.{off, last_told, body_heading}
 use Rattle.kd_form.proofs.form_reader.FormReader.last_text.Goals as goal

@@ -1,6 +1,5 @@
-use Rattle.std.proofs.Common.{arith}
-use Rattle.kd_form.proofs.Prelude.{[], ◌++◌, ◌∷◌, ap, ◌∙◌, given_letters}
-use Rattle.kd_form.proofs.FormSteps.{closes, closes_short, closes_refused}
+use Rattle.kd_form.proofs.Prelude.{ap, ◌∙◌, given_letters}
+use Rattle.kd_form.proofs.FormSteps.{closes_short, closes_refused}
 use Rattle.kd_form.proofs.form_reader.FormReaderMessageReader.end.Goals as goal
 
 pub returns-then-parts-self : goal.returns-then-parts-self

@@ -1,4 +1,3 @@
-use Rattle.std.proofs.Common.{arith}
 use Rattle.kd_form.proofs.Prelude.{sym, ◌∙◌, false≢true}
 use Rattle.kd_form.proofs.FormSteps.{held, refused, in_stage, not_following, longer_line, heading_read, heading_refused, longer_body, bad_byte, four_letters, part_refused, part_read}
 use Rattle.kd_form.proofs.form_reader.FormReaderMessageReader.feed.Goals as goal

@@ -1,4 +1,3 @@
-use Rattle.std.proofs.Common.{arith}
 use Rattle.kd_form.proofs.Prelude.{[], refl}
 use Rattle.kd_form.proofs.FormSteps.{held, starts}
 use Rattle.kd_form.proofs.form_reader.FormReaderMessageReader.start.Goals as goal

@@ -1,4 +1,4 @@
-use Rattle.std.proofs.Common.{append-nil, arith}
+use Rattle.std.proofs.Common.{append-nil}
 use Rattle.kd_form.proofs.Prelude.{◌+◌, ap, inr, BadByte, text_letters, Cut}
 use Rattle.kd_form.proofs.OrderSteps.{in_head, in_text, text_ends}
 use Rattle.kd_form.proofs.order_reader.OrderReaderMessageReader.end.Goals as goal

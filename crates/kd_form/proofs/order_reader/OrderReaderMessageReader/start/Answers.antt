@@ -1,4 +1,3 @@
-use Rattle.std.proofs.Common.{arith}
 use Rattle.kd_form.proofs.Prelude.{[], refl}
 use Rattle.kd_form.proofs.OrderSteps.{head_first, head_held}
 use Rattle.kd_form.proofs.order_reader.OrderReaderMessageReader.start.Goals as goal

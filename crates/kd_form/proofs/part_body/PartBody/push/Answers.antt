@@ -1,4 +1,3 @@
-use Rattle.std.proofs.Common.{arith}
 use Rattle.kd_form.proofs.FormSteps.{body_more}
 use Rattle.kd_form.proofs.part_body.PartBody.push.Goals as goal
 use Rattle.kd_form.proofs.Prelude.{refl}

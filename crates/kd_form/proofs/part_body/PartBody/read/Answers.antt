@@ -1,4 +1,3 @@
-use Rattle.std.proofs.Common.{arith}
 use Rattle.kd_form.proofs.Prelude.{◌≡◌, ◌-◌, length, take, ap, ◌∙◌}
 use Rattle.kd_form.proofs.FormSteps.{body_told}
 use Rattle.kd_form.proofs.part_body.PartBody.read.Goals as goal

@@ -1,6 +1,5 @@
-use Rattle.std.proofs.Common.{arith}
 use Rattle.kd_form.proofs.Prelude.{refl, subst, Appends, TakesFront}
-use Rattle.kd_form.proofs.TypedTexts.{read_whole, read_refused, read_in_part}
+use Rattle.kd_form.proofs.TypedTexts.{read_refused, read_in_part}
 use Rattle.kd_form.proofs.typing.TypistPieceReaderMachine.read.Goals as goal
 
 pub returns-in-Err-clause-fed : goal.returns-in-Err-clause-fed

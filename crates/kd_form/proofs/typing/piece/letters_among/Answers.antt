@@ -1,4 +1,4 @@
-use Rattle.kd_form.proofs.Prelude.{rules, ℕ, ◌++◌, ◌∷◌, [], take, get_or, option_to_list, IsTrue, All, sym, ap, subst, drop, length, ◌≡◌, ◌∙◌, arith, take_more, take_all, All-push, take-append_seam, array_vec_len, is_text_byte, typed_letters}
+use Rattle.kd_form.proofs.Prelude.{ℕ, ◌++◌, ◌∷◌, [], take, get_or, option_to_list, IsTrue, All, sym, ap, subst, length, ◌∙◌, arith, take_more, take_all, All-push, take-append_seam, is_text_byte, typed_letters}
 use Rattle.kd_form.proofs.TypedTexts.{typed-append, one_letter, written_typed}
 use Rattle.kd_form.proofs.typing.piece.letters_among.Goals as goal
 

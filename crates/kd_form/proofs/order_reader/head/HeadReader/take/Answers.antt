@@ -1,5 +1,5 @@
 use Rattle.std.proofs.Common.{arith}
-use Rattle.kd_form.proofs.Prelude.{refl, sym, ap, subst, ◌∙◌, get_or, codes, false≢true, eqb-true, IsEnded, IsKeyLine, IsAnyKeyLine, IsPatternLine, BreaksOff, HeadIsRead}
+use Rattle.kd_form.proofs.Prelude.{refl, sym, ap, subst, ◌∙◌, get_or, codes, false≢true, eqb-true, IsEnded, IsAnyKeyLine, IsPatternLine, BreaksOff, HeadIsRead}
 use Rattle.kd_form.proofs.Lines.{room_left}
 use Rattle.kd_form.proofs.OrderSteps.{keys_taken, text_taken, key_step, text_step}
 use Rattle.kd_form.proofs.order_reader.head.HeadReader.take.Goals as goal

@@ -1,4 +1,3 @@
-use Rattle.std.proofs.Common.{arith}
 use Rattle.kd_form.proofs.Prelude.{subst, TakesFront}
 use Rattle.kd_form.proofs.Streaming.{closed_in_part}
 use Rattle.kd_form.proofs.stream.piece.AnyPieceReaderSheetDay.finish.Goals as goal
