@@ -32,12 +32,6 @@ pub data AreCuts (parts others : List (List ℕ)) (rest more : List ℕ) : Type 
   Further : (part : List ℕ) (behind : List (List ℕ)) → others ≡ parts ++ part ∷ behind → AreFirstParts (part ∷ behind) rest more → AreCuts parts others rest more
   Before : (part : List ℕ) (behind : List (List ℕ)) → parts ≡ others ++ part ∷ behind → AreFirstParts (part ∷ behind) more rest → AreCuts parts others rest more
 
-cuts_more : (part other : List ℕ) (parts others : List (List ℕ)) (rest more : List ℕ) → part ≡ other → AreCuts parts others rest more
-    → AreCuts (part ∷ parts) (other ∷ others) rest more
-cuts_more part other parts others rest more one (Alike same left) = Alike (cc) left
-cuts_more part other parts others rest more one (Further next behind further cut) = Further next behind (cc) cut
-cuts_more part other parts others rest more one (Before next behind further cut) = Before next behind (cc) cut
-
 pub cuts : (bytes : List ℕ) (parts others : List (List ℕ)) (rest more : List ℕ) → AreFirstParts parts bytes rest → AreFirstParts others bytes more
     → AreCuts parts others rest more
 cuts bytes [] [] rest more a b = Alike refl (sym a ∙ b)
@@ -45,7 +39,11 @@ cuts bytes [] (other ∷ others) rest more a b = Further other others refl (subs
 cuts bytes (part ∷ parts) [] rest more a b = Before part parts refl (subst (λ bs. AreFirstParts (part ∷ parts) bs rest) b a)
 cuts bytes (part ∷ parts) (other ∷ others) rest more (after, first, later) (next, also, latter) =
     let same = one_cut bytes part after other next first also in
-    cuts_more part other parts others rest more same.0 (cuts after parts others rest more later (subst (λ bs. AreFirstParts others bs more) (sym same.1) latter))
+    elim (cuts after parts others rest more later (subst (λ bs. AreFirstParts others bs more) (sym same.1) latter)) [
+      | Alike all left ↦ Alike (cc (same.0)) left
+      | Further one behind further cut ↦ Further one behind (cc (same.0)) cut
+      | Before one behind further cut ↦ Before one behind (cc (same.0)) cut
+    ]
 
 -- the first part of nothing is empty
 pub empty_part : (part after : List ℕ) → IsFirstOf [] part after → part ≡ []

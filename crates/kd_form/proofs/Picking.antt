@@ -76,7 +76,7 @@ on_wheels : (letters : List ℕ) (wheel start : ℕ) (places : List ℕ) → Pic
     × ((i letter : ℕ) → slice_get (map (λ p. slice_index letters p) places) i ≡ Some letter → Contains (ring_of (wheel + i)) letter)
 on_wheels letters wheel start [] picks = (tt, omega arith, λ i letter is. absurd (cc))
 on_wheels letters wheel start (place ∷ places) (after, inside, on, more) =
-    grind (arith, on_wheels letters (wheel + 1) (place + 1) places more, letters)
+    grind (arith, on_wheels letters (wheel + 1) (place + 1) places more)
 
 picks_of : (letters : List ℕ) (wheel start : ℕ) (places : List ℕ) → AreRising start (length letters) places → length places + wheel ≡ 7
     → ((i letter : ℕ) → slice_get (map (λ p. slice_index letters p) places) i ≡ Some letter → Contains (ring_of (wheel + i)) letter)

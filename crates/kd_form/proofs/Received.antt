@@ -10,7 +10,7 @@ first_parts_more (p ∷ before) form rest part after (next, is, cut) first = (ne
 
 parts_read_more : (s : Day) (number count : ℕ) (before : List (List ℕ)) (letters part one : List ℕ) → ArePartsRead s number count before letters
     → IsPartRead s (number + length before) count part one → ArePartsRead s number count (before ++ part ∷ []) (letters ++ one)
-parts_read_more s number count [] letters part one none read = grind (arith, read, append-nil)
+parts_read_more s number count [] letters part one none read = grind (arith, append-nil)
 parts_read_more s number count (p ∷ before) letters part one (first, more, is, others, joined) read =
     let later = parts_read_more s (number + 1) count before more part one others (subst (λ n. IsPartRead s n count part one) (omega arith) read) in
     (first, more ++ one, is, later, ap (λ l. l ++ one) joined ∙ append_assoc first more one)

@@ -133,7 +133,7 @@ last_stays s form more text line body fault t tell some last broken early is =
 
 some_more : (s : Day) (form more text : List ℕ) (fault : FormFault) → TextsTellFirstParts → more ≢ [] → IsRefusedForGood s form text fault
     → IsRefusedForGood s (form ++ more) text fault
-some_more s form more text fault tell some (NoHeading none empty is) = grind (arith, NoHeading, append_assoc, empty)
+some_more s form more text fault tell some (NoHeading none empty is) = grind (arith, NoHeading, append_assoc)
 some_more s form more text fault tell some (InWhole t left refused is) =
     let u : Turn s (form ++ more) = turn_with s form more t.part (t.after ++ more) t some (first_grows t.rest t.part t.after more t.first left) in
     InWhole u (λ none. left (nil_from_length t.after (omega (arith, ap length none, length-append t.after more)))) (rw (same_start form t.rest more) refused) is

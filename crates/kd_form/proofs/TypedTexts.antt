@@ -95,7 +95,7 @@ module _ (m : Parts) where
     typed_on bytes text typed = record {
       counted = omega (arith, counted, typed.counted, length-append bytes (take n more), length-take-le n more front.within);
       allowed = All-append (λ b. IsTrue (is_text_byte b)) bytes (take n more) typed.allowed front.allowed;
-      behind = grind (arith, append_assoc, bytes, typed.behind, in_turn, typed-append, map-append);
+      behind = grind (arith, append_assoc, typed.behind, in_turn, typed-append, map-append);
     }
 
     pub read_whole : (took wrote : Option (List ℕ)) (d f : Bool) → Appends took wrote lamps → length more ≤ n

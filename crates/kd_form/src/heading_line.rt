@@ -144,6 +144,7 @@ fn is_part(word: &[u8]) -> bool
 }
 
 /// The heading of the line, if a part of the day can have it.
+#[tactic(auto, using(crate::proofs::Headings::too_many_words))]
 fn heading_of_line(day: &SheetDay, line: &[u8]) -> Option<Heading>
     ensures { MatchOption result
         ((h : _) → IsHeading day.now h → line_of (heading_words h) ≢ line.now)

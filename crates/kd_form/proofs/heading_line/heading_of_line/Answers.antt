@@ -3,9 +3,6 @@ use Rattle.kd_form.proofs.Prelude.{ap, map}
 use Rattle.kd_form.proofs.Headings.{too_many_words, heading_told}
 use Rattle.kd_form.proofs.heading_line.heading_of_line.Goals as goal
 
-pub returns-in_err-words : goal.returns-in_err-words
-returns-in_err-words c = grind (arith, too_many_words)
-
 pub returns : goal.returns
 returns c =
     heading_told _ _ _ _ _ _ c.numbers_and_letters_are_words.ensures.numbers c.lines_tell_words.ensures.split c.lines_tell_words.ensures.joined

@@ -5,9 +5,6 @@ use Rattle.kd_form.proofs.internal_key.internal_key.Goals as goal
 pub returns-in_default : goal.returns-in_default
 returns-in_default c = run_out _ _ _ _ (omega arith) c.loop-wheel.invariant c.in_default.ensures
 
-pub loop-wheel-preserved : goal.loop-wheel-preserved
-loop-wheel-preserved c = grind (arith, get_or_read, picking_more)
-
 pub returns : goal.returns
 returns c =
     let last : c.loop-wheel.wheel ≡ 7 = omega arith in

@@ -36,7 +36,7 @@ returns-in-Open c bytes text held =
     (counted_on c.args.self.now.read bytes c.args.byte here.0) (c.in-Open.ensures bytes here.1) (cc (here.2, c.requires.empty)) here.3
 
 pub returns-in-Bad : goal.returns-in-Bad
-returns-in-Bad c bytes text held = grind (arith, in_head, bytes, head_refused, c.in-Bad.ensures, counted_on)
+returns-in-Bad c bytes text held = grind (arith, in_head, head_refused, c.in-Bad.ensures, counted_on)
 
 pub returns-in-Text-take : goal.returns-in-Text-take
 returns-in-Text-take c bytes text held =

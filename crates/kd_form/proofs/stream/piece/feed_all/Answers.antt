@@ -4,7 +4,7 @@ use Rattle.kd_form.proofs.Streaming.{fed_next, fed_whole, fed_up_to, room_less, 
 use Rattle.kd_form.proofs.stream.piece.feed_all.Goals as goal
 
 up_to : (bytes : List ℕ) (place : ℕ) → place < length bytes → take place bytes ++ get_or bytes place 0 ∷ [] ++ drop (suc place) bytes ≡ bytes
-up_to bytes place inside = grind (arith, append_assoc, bytes, drop-cons, take-append-drop)
+up_to bytes place inside = grind (arith, append_assoc, drop-cons, take-append-drop)
 
 pub returns-in-Err-clause-fed : goal.returns-in-Err-clause-fed
 returns-in-Err-clause-fed g c =
