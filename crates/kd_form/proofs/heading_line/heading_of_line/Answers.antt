@@ -1,6 +1,5 @@
-use Rattle.std.proofs.Common.{arith}
 use Rattle.kd_form.proofs.Prelude.{ap, map}
-use Rattle.kd_form.proofs.Headings.{too_many_words, heading_told}
+use Rattle.kd_form.proofs.Headings.{heading_told}
 use Rattle.kd_form.proofs.heading_line.heading_of_line.Goals as goal
 
 pub returns : goal.returns

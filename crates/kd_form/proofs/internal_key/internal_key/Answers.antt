@@ -1,5 +1,5 @@
-use Rattle.kd_form.proofs.Prelude.{◌≡◌, arith, get_or_read}
-use Rattle.kd_form.proofs.Picking.{picking_more, key_picked, run_out}
+use Rattle.kd_form.proofs.Prelude.{◌≡◌, arith}
+use Rattle.kd_form.proofs.Picking.{key_picked, run_out}
 use Rattle.kd_form.proofs.internal_key.internal_key.Goals as goal
 
 pub returns-in_default : goal.returns-in_default
