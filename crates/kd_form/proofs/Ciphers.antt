@@ -1,9 +1,8 @@
 -- A cipher has as many letters as its text, and they are letters of the alphabet.
-use Rattle.kd_form.proofs.Prelude.{◌≡◌, ◌∙◌, ℕ, ◌<◌, List, [], ◌∷◌, ◌++◌, length, map, get_or, arith, All, reverse, slice_index, enumerate_from, get_or-eq_default, cases_lt, length-map, All-get_or, All-from_get_or, All-map, Day, OfRotors, OfPins, cipher_from}
+use Rattle.kd_form.proofs.Prelude.{◌≡◌, ◌∙◌, ℕ, ◌<◌, List, [], ◌∷◌, length, get_or, arith, All, slice_index, enumerate_from, get_or-eq_default, cases_lt, length-map, All-get_or, All-from_get_or, All-map, Day, OfRotors, OfPins, cipher_from}
 use Rattle.std.proofs.lemmas.List.FromFn.{length-enumerate_from, length-range_with_len, get_or-range_with_len}
-use Rattle.kd_tables.specs.Permutation.{alphabet, followed_by, inverse}
-use Rattle.kd_tables.specs.Tables.{reflector_of}
-use Rattle.kd_enigma.specs.Cipher.{RotorKey, rotors, product, path}
+use Rattle.kd_tables.specs.Permutation.{alphabet, followed_by}
+use Rattle.kd_enigma.specs.Cipher.{RotorKey, product, path}
 
 pub length-cipher_from : (s : Day) (window text : List ℕ) → length (cipher_from s window text) ≡ length text
 length-cipher_from (OfRotors s) window text = length-map (enumerate_from 1 text) _ ∙ length-enumerate_from 1 text
@@ -25,9 +24,7 @@ product_letters (p ∷ ps) =
 
 path_letters : (key : RotorKey) (window : List ℕ) → All (λ letter. letter < 26) (path key window)
 unfolding path
-path_letters key window =
-    let wheels : List (List ℕ) = rotors key.wheels key.rings window in
-    product_letters (key.plugs ∷ reverse wheels ++ reflector_of key.reflector ∷ map inverse wheels ++ key.plugs ∷ [])
+path_letters key window = grind (arith, product_letters)
 
 pub letters-cipher_from : (s : Day) (window text : List ℕ) → All (λ letter. letter < 26) (cipher_from s window text)
 letters-cipher_from (OfRotors s) window text =

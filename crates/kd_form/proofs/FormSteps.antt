@@ -1,5 +1,6 @@
 -- The reader of a form, byte by byte, and at the end.
-use Rattle.kd_form.proofs.Prelude.{[], ◌≡◌, ◌≢◌, ◌⊎◌, inl, inr, ℕ, ◌+◌, ◌-◌, ◌≤◌, List, ◌∷◌, ◌++◌, length, take, refl, sym, ap, subst, ◌∙◌, append_assoc, length-append, Result, Ok, Err, MatchResult, arith, codes, All, IsTrue, Option, Some, None, IsFalse, MatchOption, option_to_list, take-append_seam, cases_lt, cases_eq, append-nil, take_all, take-take, take-append-le, length-take, length-take-le, filter_map-append, All-nil, All-push, ArrayVec, is_text_byte, Day, line_of, IsWithout, IsFirstPart, TextsTellFirstParts, NumbersAreWords, FormFault, Heading, IsEnded, heading_words, letter_of_byte, letters_from, IsHeading, BeginsHeading, IsFirstOf, IsBodyText, IsBodyFault, HasHeading, IsExpected, IsEarlyFault, InHeading, InNumber, InBody, IsPartRead, IsPartFault, IsNextLine, Broken, Longer, Begins, HoldsBody, IsBodyGiven, MayBegin, HoldsPart, HoldsStage, HoldsForm, IsHeadingDue, IsHeadingOff, Missing, Other, IsLastText, BadByte, BadHeading, PartOrder, IsReadTo, given_letters, count_due, Turn, IsRefusedForGood, NoHeading, InWhole, InLast, form_message, IsRefusedAtEnd, InPart, IsRefused, Closes, Held}
+use Rattle.std.proofs.lemmas.Grind.{common_steps}
+use Rattle.kd_form.proofs.Prelude.{[], ◌≡◌, ◌≢◌, ◌⊎◌, inl, inr, ℕ, ◌+◌, ◌-◌, ◌≤◌, List, ◌∷◌, ◌++◌, length, take, refl, sym, ap, subst, ◌∙◌, append_assoc, length-append, Result, Ok, Err, MatchResult, arith, codes, All, IsTrue, Option, Some, None, IsFalse, MatchOption, option_to_list, take-append_seam, cases_lt, cases_eq, append-nil, take_all, take-take, take-append-le, length-take, length-take-le, filter_map-append, All-nil, All-push, ArrayVec, is_text_byte, Day, line_of, IsWithout, IsFirstPart, TextsTellFirstParts, NumbersAreWords, FormFault, Heading, IsEnded, heading_words, letter_of_byte, letters_from, IsHeading, BeginsHeading, IsFirstOf, IsBodyText, IsBodyFault, HasHeading, IsExpected, IsEarlyFault, InHeading, InNumber, InBody, IsPartRead, IsPartFault, IsNextLine, Broken, Longer, Begins, HoldsBody, IsBodyGiven, MayBegin, HoldsPart, HoldsStage, HoldsForm, IsHeadingDue, IsHeadingOff, Missing, Other, IsLastText, BadByte, BadHeading, PartOrder, given_letters, count_due, Turn, IsRefusedForGood, NoHeading, InWhole, InLast, form_message, IsRefusedAtEnd, InPart, IsRefused, Closes, Held}
 use Rattle.kd_form.specs.declared.part_body.PartBody.{PartBody}
 use Rattle.kd_form.proofs.Headings.{at_most, plain_heading, has_byte, ended_heading, one_heading, begins_there}
 use Rattle.kd_form.proofs.TextLetters.{letters_first}
@@ -24,9 +25,6 @@ begins_no_more line next byte other none is = grind (arith, Broken, Longer, leng
 five : (tail : List ℕ) (begun : Option ℕ) → Begins tail begun → tail ≡ codes "PART " → begun ≡ Some 5
 five tail None none is = absurd (none 5 is)
 five tail (Some count) some is = ap Some (omega (arith, ap length is, ap length some.1, some.0, length-take count (codes "PART ")))
-
-tail_is : (tail : List ℕ) (begun : Option ℕ) → Begins tail begun → begun ≡ Some 5 → tail ≡ codes "PART "
-tail_is tail begun marked is = grind arith
 
 -- ---- the letters
 
@@ -138,9 +136,6 @@ abbrev pub IsEndedBy : Day → List ℕ → Option Heading → Type 0
 IsEndedBy s part found =
     MatchOption found ((h : Heading) (body : List ℕ) → ¬ (HasHeading s (part ++ 10 ∷ []) h body)) (λ h. IsHeading s h × IsEnded (line_of (heading_words h)) (part ++ 10 ∷ []))
 
-open_by : (s : Day) (part : List ℕ) (found : Option Heading) → IsEndedBy s part found → IsOpenBy s (part ++ 10 ∷ []) found
-open_by s part found told = grind (arith, ended_heading)
-
 pub off : (s : Day) (number : ℕ) (expected : Option ℕ) (start : ℕ) (part : List ℕ) (found : Option Heading) (fault : FormFault) → IsOpenBy s part found
     → IsHeadingOff number expected found fault → IsEarlyFault s number expected start part fault
 off s number expected start part found fault told (Missing none is) = InHeading (rw none at told) is
@@ -173,8 +168,7 @@ not_refused s (stages.Body b) number expected start part line body fault tell nu
 
 -- the last part is what the parts before it leave
 at_rest : (s : Day) (r : FormReader) (form text : List ℕ) (h : HoldsForm s r form text) → HoldsStage s r.stage r.number r.expected h.so_far.turn.rest
-at_rest s r form text h =
-    subst (HoldsStage s r.stage r.number r.expected) (sym (last_rest s form h.so_far.turn h.so_far.last)) h.stage
+at_rest s r form text h = grind (arith, last_rest s form h.so_far.turn h.so_far.last)
 
 pub held : (s : Day) (r : FormReader) (form text : List ℕ) → TextsTellFirstParts → NumbersAreWords → HoldsForm s r form text
     → Held (form_message s) (HoldsForm s r) form text
@@ -211,11 +205,6 @@ starts s r position number expected line stage none = record {
 
 -- ---- the line of a heading
 
-nothing_before : (s : Day) (form rest : List ℕ) (before : List (List ℕ)) (count : ℕ) (letters : List ℕ) → 1 ≡ length before + 1
-    → IsReadTo s form rest before count letters → (form ≡ rest) × (letters ≡ [])
-nothing_before s form rest [] count letters one read = (read.cut, read.read)
-nothing_before s form rest (part ∷ before) count letters one read = absurd (omega arith)
-
 -- ---- the body
 
 -- the line of its heading has ended
@@ -245,7 +234,7 @@ record Settled (s : Day) (b : PartBody) (part body : List ℕ) (holds : HoldsBod
 
 settled : (s : Day) (b : PartBody) (part body : List ℕ) (holds : HoldsBody s b part body) → b.begun ≡ Some 5 → Settled s b part body holds
 settled s b part body holds begun =
-    let lines : body ≡ holds.settled ++ codes "PART " = holds.lines ∙ ap (λ l. holds.settled ++ l) (tail_is holds.tail b.begun holds.marked begun) in
+    let lines : body ≡ holds.settled ++ codes "PART " = holds.lines ∙ ap (λ l. holds.settled ++ l) (grind arith) in
     record {
       whole = holds.line ++ holds.settled;
       split = holds.joined ∙ ap (λ l. holds.line ++ l) lines ∙ sym (append_assoc holds.line holds.settled (codes "PART "));
@@ -300,7 +289,7 @@ module _ (s : Day) (r : FormReader) (form text : List ℕ) (h : HoldsForm s r fo
   -- no heading begins with that byte
   pub not_following : (line : ArrayVec ℕ) (byte : ℕ) → r.stage ≡ stages.Heading line → ¬ (MayBegin (part ++ byte ∷ []))
       → IsRefusedForGood s (form ++ byte ∷ []) text (BadHeading r.number)
-  not_following line byte stage none = grind (arith, in_stage, cases_lt, all_follow, nothing_before, NoHeading)
+  not_following line byte stage none = grind (arith, in_stage, cases_lt, all_follow, NoHeading, common_steps)
 
   pub longer_line : (line next : ArrayVec ℕ) (made : List ℕ) (byte : ℕ) → r.stage ≡ stages.Heading line → byte ≢ 10 → MayBegin (part ++ byte ∷ [])
       → next.items ≡ take 64 (line.items ++ byte ∷ []) → made ≡ [] → HoldsForm s (behind r (stages.Heading next)) (form ++ byte ∷ []) (text ++ made)
@@ -351,7 +340,7 @@ module _ (s : Day) (r : FormReader) (form text : List ℕ) (h : HoldsForm s r fo
       let u : Turn s (form ++ 10 ∷ []) = turn_with s form (10 ∷ []) (part ++ 10 ∷ []) [] turn (some_byte 10) (first_unbroken part 10 there.0.unbroken) in
       InLast u part [] refl (record { joined = refl; without = there.0.unbroken })
       (let start : ℕ = length (form ++ 10 ∷ []) - length (part ++ 10 ∷ []) in in_number (λ n e. IsEarlyFault s n e start (part ++ 10 ∷ []) fault)
-      (off s r.number r.expected start (part ++ 10 ∷ []) found fault (open_by s part found told) wrong)) h.so_far.is
+      (off s r.number r.expected start (part ++ 10 ∷ []) found fault (grind (arith, ended_heading)) wrong)) h.so_far.is
 
   -- the last part is one part, as far as it has come
   one_part : IsFirstOf part part []
@@ -379,15 +368,7 @@ module _ (s : Day) (r : FormReader) (form text : List ℕ) (h : HoldsForm s r fo
       turn_with s form (byte ∷ []) (part ++ byte ∷ []) [] turn (some_byte byte) (goes_on s b part there.body byte there.holds one_part not) in
       let place : r.position + 1 ≡ (length (form ++ byte ∷ []) - length (part ++ byte ∷ [])) + (length (part ++ byte ∷ []) - length body) + length there.body + 1 =
       omega (arith, h.counted, rest_within turn.before form part turn.read.cut, length-append {A = ℕ}, ap length there.holds.joined) in
-      InLast u ended.0 body refl (record {
-        joined = ap (λ l. l ++ byte ∷ []) ended.1.joined ∙ append_assoc ended.0 (10 ∷ there.body) (byte ∷ []);
-        without = ended.1.without;
-      }) (InBody b.heading body (length there.body) (record {
-        line = there.holds.line;
-        joined = ap (λ l. l ++ byte ∷ []) there.holds.joined ∙ append_assoc there.holds.line there.body (byte ∷ []);
-        ended = inl there.holds.ended;
-        is_heading = there.holds.is_heading;
-      }) (there.numbered ∙ h.numbered) (rw h.due at there.due)
+      InLast u ended.0 body refl (grind (arith, append_assoc {A = ℕ})) (InBody b.heading body (length there.body) (grind (arith, append_assoc {A = ℕ})) (there.numbered ∙ h.numbered) (rw h.due at there.due)
       (record { before = there.body; byte = byte; rest = []; joined = refl; size = refl; allowed = there.holds.allowed; bad = bad }) (ap BadByte place)) h.so_far.is
 
   -- ---- the part ends, as a digit stands behind the five bytes of a heading
@@ -437,14 +418,7 @@ module _ (s : Day) (r : FormReader) (form text : List ℕ) (h : HoldsForm s r fo
           counted = omega (arith, h.counted, length-append form (byte ∷ []));
           numbered = omega (arith, h.numbered, length-append turn.before (ended.whole ∷ []));
           due = sym (due_more turn.before ended.whole b.heading.parts);
-          stage = (
-            record {
-              kept = begins;
-              unbroken = All-push (λ b. b ≢ 10) (codes "PART ") byte head_unbroken (λ e. omega (arith, e, digit.1));
-              begins = ([], record { digit = byte; rest = []; is = refl; low = digit.1; high = digit.2 });
-            },
-            λ few. absurd (omega arith),
-          );
+          stage = grind (arith, All-push, head_unbroken);
         }
 
   -- ---- the end

@@ -1,5 +1,7 @@
 -- The line of a heading: its words, its first bytes, and that a part has one.
-use Rattle.kd_form.proofs.Prelude.{◌≡◌, ◌≢◌, ℕ, ◌^◌, ◌<◌, List, length, get_or, sym, ◌∙◌, append_assoc, arith, ◌+◌, ◌≤◌, [], ◌∷◌, take, refl, ap, inl, inr, ◌++◌, length-append, subst, drop, codes, decimal, All, Option, Some, None, MatchOption, if◌then◌else◌, ◌==◌, slice_index, IsInRange, All-from_get_or, All-get_or, All-cons, All-nil, All-append, All-map, All-push, All-weaker, IsWithout, IsFirstPart, TextsTellFirstParts, line_of, words_of, IsWord, NumbersAreWords, LinesSplitIntoWords, PartsMakeLines, fraction, indicator_words, heading_words, length-map, append-nil, append_cancel_right, take_all, get_or-map, letters_text, AreFewLetters, IsFraction, IsLetterCount, IsHeading, AreHeadingWords, IsLineText, WithReturn, WithoutReturn, BeginsHeading, Day, RotorDay, OfRotors, OfPins, Heading, Indicator, HasIndicator, HasSlots, HasPins, get_or-append_seam, IsEnded, HasHeading}
+use Rattle.std.proofs.Common.{rules}
+use Rattle.std.proofs.lemmas.Grind.{common_steps}
+use Rattle.kd_form.proofs.Prelude.{◌≡◌, ◌≢◌, ℕ, ◌^◌, ◌<◌, List, length, get_or, sym, ◌∙◌, append_assoc, arith, ◌+◌, ◌≤◌, [], ◌∷◌, take, refl, ap, inl, inr, ◌++◌, length-append, subst, drop, codes, decimal, All, Option, Some, None, MatchOption, if◌then◌else◌, ◌==◌, slice_index, IsInRange, All-from_get_or, All-get_or, All-cons, All-nil, All-append, All-map, All-push, All-weaker, IsWithout, IsFirstPart, TextsTellFirstParts, line_of, words_of, IsWord, NumbersAreWords, LinesSplitIntoWords, PartsMakeLines, fraction, indicator_words, heading_words, length-map, append-nil, append_cancel_right, take_all, get_or-map, letters_text, AreFewLetters, IsFraction, IsLetterCount, IsHeading, AreHeadingWords, IsLineText, WithReturn, WithoutReturn, BeginsHeading, Day, OfRotors, OfPins, Heading, Indicator, HasIndicator, HasSlots, HasPins, get_or-append_seam, IsEnded, HasHeading}
 use Rattle.std.specs.Str.Parse.{digits_value}
 use Rattle.std.proofs.lemmas.Fmt.{digits_decimal, decimal_injective, length-decimal-le, decimal_nonempty}
 use Rattle.std.proofs.lemmas.Str.Parse.{IsNumeralModel, numerals_by_value, tells_by_index}
@@ -27,10 +29,7 @@ letters_from : (letters : List ℕ) → IsFrom 65 (letters_text letters)
 letters_from letters = All-map (λ b. 65 ≤ b) (λ l. l + 65) letters (λ k d inside. omega arith)
 
 fraction_from : (part parts : ℕ) → part < 2 ^ 64 → parts < 2 ^ 64 → IsFrom 47 (fraction part parts)
-fraction_from part parts small few =
-    All-append (λ b. 47 ≤ b) (decimal part ++ codes "/") (decimal parts)
-    (All-push (λ b. 47 ≤ b) (decimal part) 47 (lower 48 47 (decimal part) (omega arith) (number_from part small)) (omega arith))
-    (lower 48 47 (decimal parts) (omega arith) (number_from parts few))
+fraction_from part parts small few = grind (arith, common_steps, All-append, All-push, lower, number_from)
 
 -- numbers before a byte that is no digit
 one_number : (number found byte : ℕ) (rest more : List ℕ) → number < 2 ^ 64 → found < 2 ^ 64 → byte < 48
@@ -42,10 +41,7 @@ one_number number found byte rest more small little low same =
 
 pub fraction_parts : (word one other : List ℕ) (part parts : ℕ) → TextsTellFirstParts → IsFraction part parts → IsFirstPart 47 word one other
     → fraction part parts ≡ word → (decimal part ≡ one) × (decimal parts ≡ other)
-fraction_parts word one other part parts tell number first is =
-    tell 47 (decimal part) one (decimal parts) other
-    (All-weaker (λ b. 48 ≤ b) (λ b. b ≢ 47) (λ b above same. omega (arith, above, same)) (decimal part) (number_from part (omega (arith, number.in_order, number.few)))) first.without
-    (sym (append_assoc (decimal part) (codes "/") (decimal parts)) ∙ is ∙ first.joined)
+fraction_parts word one other part parts tell number first is = search (rules, All-weaker, number_from, append_assoc)
 
 pub same_fraction : (word one other : List ℕ) (part parts found last : ℕ) → TextsTellFirstParts → IsFraction part parts → found < 2 ^ 8 → last < 2 ^ 8
     → IsFirstPart 47 word one other → decimal found ≡ one → decimal last ≡ other → fraction part parts ≡ word → (part ≡ found) × (parts ≡ last)
@@ -71,8 +67,7 @@ capital_at word others index inside are same =
 -- -------- the line of a heading, and its words
 
 pub at_most : (s : Day) (count : ℕ) → IsLetterCount s count → count ≤ 520
-at_most (OfRotors s) count are = omega (arith, are.1)
-at_most (OfPins s) count are = are.1
+at_most s count e = grind arith
 
 pub same_count : (s : Day) (count found : ℕ) (word : List ℕ) → IsLetterCount s count → found < 2 ^ 16 → decimal count ≡ word → decimal found ≡ word → count ≡ found
 same_count s count found word are small is read = decimal_injective count found (omega (arith, at_most s count are)) (omega arith) (is ∙ sym read)
@@ -89,43 +84,19 @@ are_small s h is = omega (arith, is.number.in_order, is.number.few, at_most s h.
 -- ---- the words of a heading
 
 a_word : (text : List ℕ) → 0 < length text → IsFrom 33 text → IsWord text
-a_word text some from = record {
-  filled = λ none. omega (arith, ap length none);
-  spaceless = All-weaker (λ b. 33 ≤ b) (λ b. b ≢ 32) (λ b above same. omega (arith, above, same)) text from;
-  unbroken = All-weaker (λ b. 33 ≤ b) (λ b. b ≢ 10) (λ b above same. omega (arith, above, same)) text from;
-}
+a_word text some from = grind (arith, All-weaker)
 
 letters_word : (letters : List ℕ) → 1 ≤ length letters → IsWord (letters_text letters)
-letters_word letters some =
-    a_word (letters_text letters) (omega (arith, length-map letters (λ l. l + 65)))
-    (lower 65 33 (letters_text letters) (omega arith) (letters_from letters))
+letters_word letters some = grind (arith, common_steps, a_word, lower, letters_from)
 
 fraction_word : (part parts : ℕ) → part < 2 ^ 64 → parts < 2 ^ 64 → IsWord (fraction part parts)
 fraction_word part parts small few =
     a_word (fraction part parts) (omega (arith, length-append (decimal part ++ codes "/") (decimal parts), length-append (decimal part) (codes "/")))
     (lower 47 33 (fraction part parts) (omega arith) (fraction_from part parts small few))
 
--- three or four wheels
-slots_are : (s : RotorDay) (found : Option ℕ) → MatchOption found (HasPins (OfRotors s)) (HasSlots (OfRotors s)) → (1 ≤ length s.wheels) × (length s.wheels ≤ 4)
-slots_are s found has = grind arith
-
-are_indicator_words : (s : Day) (found : Option ℕ) (i : Option Indicator) → MatchOption found (HasPins s) (HasSlots s) → HasIndicator s i → All IsWord (indicator_words i)
-are_indicator_words s found None has are = All-nil IsWord
-are_indicator_words (OfRotors s) found (Some i) has are =
-    let some = slots_are s found has in
-    All-cons IsWord (letters_text i.start) (letters_text i.key ∷ []) (letters_word i.start (omega (arith, are.0.count)))
-    (All-cons IsWord (letters_text i.key) [] (letters_word i.key (omega (arith, are.1.count))) (All-nil IsWord))
-are_indicator_words (OfPins s) found (Some i) has are = absurd are
-
 heading_are_words : (s : Day) (found : Option ℕ) (h : Heading) → NumbersAreWords → MatchOption found (HasPins s) (HasSlots s) → IsHeading s h → All IsWord (heading_words h)
 heading_are_words s found h numbers has is =
-    let small : IsSmall h = are_small s h is in
-    All-cons IsWord (codes "PART") (fraction h.part h.parts ∷ decimal h.letters ∷ indicator_words h.indicator) (letters_word (15 ∷ 0 ∷ 17 ∷ 19 ∷ []) (omega arith))
-    (All-cons IsWord (fraction h.part h.parts) (decimal h.letters ∷ indicator_words h.indicator) (fraction_word h.part h.parts small.part small.parts)
-    (All-cons IsWord (decimal h.letters) (indicator_words h.indicator) (numbers h.letters small.letters) (are_indicator_words s found h.indicator has is.indicator)))
-
-few_words : (i : Option Indicator) → length (indicator_words i) ≤ 2
-few_words i = grind arith
+    grind (arith, are_small, All-cons, letters_word, fraction_word, numbers, All-nil)
 
 line_words : (s : Day) (found : Option ℕ) (h : Heading) (line : List ℕ) → NumbersAreWords → LinesSplitIntoWords → MatchOption found (HasPins s) (HasSlots s)
     → IsHeading s h → line_of (heading_words h) ≡ line → words_of line ≡ heading_words h
@@ -135,7 +106,7 @@ line_words s found h line numbers splits has is same =
 pub too_many_words : (s : Day) (found : Option ℕ) (h : Heading) (line : List ℕ) → NumbersAreWords → LinesSplitIntoWords → MatchOption found (HasPins s) (HasSlots s)
     → IsHeading s h → 5 < length (words_of line) → line_of (heading_words h) ≢ line
 too_many_words s found h line numbers splits has is many same =
-    omega (arith, ap length (line_words s found h line numbers splits has is same), few_words h.indicator)
+    grind (arith, ap length (line_words s found h line numbers splits has is same))
 
 -- the heading of a line, if it has one
 abbrev IsTold : Day → Option Heading → List ℕ → Type 0
@@ -145,43 +116,30 @@ pub heading_told : (s : Day) (found : Option ℕ) (line : List ℕ) (words shown
     → PartsMakeLines → MatchOption found (HasPins s) (HasSlots s) → words ≡ words_of line → shown ≡ words → AreHeadingWords s shown answer → IsTold s answer line
 heading_told s found line words shown None numbers splits joins has are same told =
     λ h is line_is. told h is (sym (line_words s found h line numbers splits has is line_is) ∙ sym are ∙ sym same)
-heading_told s found line words shown (Some h) numbers splits joins has are same told =
-    (told.0, ap line_of (told.1 ∙ same ∙ are) ∙ joins line)
+heading_told s found line words shown (Some h) numbers splits joins has are same told = grind arith
 
 -- -------- the heading in the first line of a part
 
 -- ---- no byte of a heading's line is below the space
 
 plain_end : (count : ℕ) (i : Option Indicator) → count < 2 ^ 64 → IsPlain (line_of (decimal count ∷ indicator_words i))
-plain_end count None small = lower 48 32 (decimal count) (omega arith) (number_from count small)
-plain_end count (Some i) small =
-    plain_more (decimal count) _ (lower 48 32 (decimal count) (omega arith) (number_from count small))
-    (plain_more (letters_text i.start) _ (plain_letters i.start) (plain_letters i.key))
+plain_end count i e = grind (arith, lower, number_from, plain_more, plain_letters)
 
 pub plain_heading : (s : Day) (h : Heading) → IsHeading s h → IsPlain (line_of (heading_words h))
-plain_heading s h is =
-    let small : IsSmall h = are_small s h is in
-    plain_more (codes "PART") _ (plain_text (codes "PART") refl) (plain_more (fraction h.part h.parts) _
-    (lower 47 32 (fraction h.part h.parts) (omega arith) (fraction_from h.part h.parts small.part small.parts)) (plain_end h.letters h.indicator small.letters))
+plain_heading s h is = grind (arith, are_small, plain_more, plain_text, lower, fraction_from, plain_end)
 
 free_heading : (s : Day) (h : Heading) (byte : ℕ) → byte < 32 → IsHeading s h → IsWithout byte (line_of (heading_words h))
 free_heading s h byte low is = without byte (line_of (heading_words h)) low (plain_heading s h is)
 
 pub has_byte : (byte : ℕ) (before rest : List ℕ) → ¬ (IsWithout byte (before ++ byte ∷ rest))
 has_byte byte before rest none =
-    All-get_or (λ b. b ≢ byte) (before ++ byte ∷ rest) (length before) 0 (omega (arith, length-append before (byte ∷ rest))) none
-    (get_or-append_seam before byte rest 0)
+    grind (arith, length-append before (byte ∷ rest), get_or-append_seam before byte rest 0)
 
 -- ---- the line of a heading in a part
 
 pub ended_heading : (s : Day) (front body : List ℕ) (h : Heading) → IsHeading s h → IsEnded (line_of (heading_words h)) (front ++ 10 ∷ [])
     → HasHeading s (front ++ 10 ∷ body) h body
-ended_heading s front body h is ended = record {
-  line = front ++ 10 ∷ [];
-  joined = sym (append_assoc front (10 ∷ []) body);
-  ended = inl ended;
-  is_heading = is;
-}
+ended_heading s front body h is ended = grind (arith, append_assoc front (10 ∷ []) body)
 
 -- what stands before the first LF is the heading, and the body follows it
 pub heading_there : (s : Day) (front body : List ℕ) (h : Heading) (rest : List ℕ) → TextsTellFirstParts → IsWithout 10 front
@@ -210,10 +168,6 @@ bare_heading s part h rest unbroken has = elim has.ended [
 
 -- ---- the first 64 bytes of a line tell its heading
 
-end_size : (s : Day) (found : Option ℕ) (count : ℕ) (i : Option Indicator) → MatchOption found (HasPins s) (HasSlots s) → length (decimal count) ≤ 3
-    → HasIndicator s i → length (line_of (decimal count ∷ indicator_words i)) ≤ 15
-end_size s found count i has few is = grind (arith, length-append {A = ℕ}, length-map, slots_are)
-
 heading_length : (s : Day) (found : Option ℕ) (h : Heading) → MatchOption found (HasPins s) (HasSlots s) → IsHeading s h
     → length (line_of (heading_words h)) ≤ 50
 heading_length s found h has is =
@@ -222,7 +176,7 @@ heading_length s found h has is =
     let few : length (decimal h.letters) ≤ 3 = length-decimal-le 3 h.letters (omega arith) (omega arith) small.letters in
     let one : length (decimal h.part) ≤ 2 = length-decimal-le 2 h.part (omega arith) (omega (arith, is.number.in_order, is.number.few)) small.part in
     let all : length (decimal h.parts) ≤ 2 = length-decimal-le 2 h.parts (omega arith) (omega (arith, is.number.few)) small.parts in
-    omega (arith, length-append {A = ℕ}, end_size s found h.letters h.indicator has few is.indicator)
+    grind (arith, length-append {A = ℕ}, length-map)
 
 pub open_told : (s : Day) (found : Option ℕ) (part line : List ℕ) (answer : Option Heading) → MatchOption found (HasPins s) (HasSlots s) → IsTold s answer line
     → IsWithout 10 part → line ≡ take 64 part
@@ -240,9 +194,6 @@ open_told s found part line (Some h) has told unbroken kept =
 text_ended : (line text : List ℕ) → IsLineText line text → IsEnded text (line ++ 10 ∷ [])
 text_ended line text is = grind (arith, append_assoc {A = ℕ})
 
-ended_size : (text line : List ℕ) → IsEnded text (line ++ 10 ∷ []) → length line ≤ length text + 1
-ended_size text line ended = grind (arith, length-append {A = ℕ})
-
 ended_text : (words line text : List ℕ) → IsWithout 13 words → IsEnded words (line ++ 10 ∷ []) → IsLineText line text → words ≡ text
 ended_text words line text free (inl short) cut =
     let same = append_cancel_right line words (10 ∷ []) short in grind (arith, has_byte 13 text [])
@@ -258,14 +209,14 @@ ended_told s found part line text None tell has cut told unbroken kept = λ h bo
     let words : List ℕ = line_of (heading_words h) in
     let ended = (heading_there s part [] h body tell unbroken there).0 in
     let size : length words ≤ 50 = heading_length s found h has there.is_heading in
-    let whole : line ≡ part = kept ∙ take_all 64 part (omega (arith, ended_size words part ended)) in
+    let whole : line ≡ part = kept ∙ take_all 64 part (grind (arith, length-append {A = ℕ})) in
     told h there.is_heading (ended_text words line text (free_heading s h 13 (omega arith) there.is_heading)
     (subst (λ l. IsEnded words (l ++ 10 ∷ [])) (sym whole) ended) cut)
 ended_told s found part line text (Some h) tell has cut told unbroken kept =
     let words : List ℕ = line_of (heading_words h) in
     let ended : IsEnded words (line ++ 10 ∷ []) = subst (λ t. IsEnded t (line ++ 10 ∷ [])) (sym told.1) (text_ended line text cut) in
     let size : length words ≤ 50 = heading_length s found h has told.0 in
-    let whole : line ≡ part = whole_line part line kept (omega (arith, ended_size words line ended)) in
+    let whole : line ≡ part = whole_line part line kept (grind (arith, length-append {A = ℕ})) in
     (told.0, subst (λ l. IsEnded words (l ++ 10 ∷ [])) whole ended)
 
 -- -------- a part has one heading, and one body
@@ -284,15 +235,7 @@ one_end (OfRotors s) count found _ _ small little has had same = search
 one_end (OfPins s) count found _ _ small little has had same = search
 
 same_heading : (s : Day) (h other : Heading) → IsHeading s h → IsHeading s other → line_of (heading_words h) ≡ line_of (heading_words other) → h ≡ other
-same_heading s h other is also same =
-    let small : IsSmall h = are_small s h is in
-    let little : IsSmall other = are_small s other also in
-    let end = line_of (decimal h.letters ∷ indicator_words h.indicator) in
-    let last = line_of (decimal other.letters ∷ indicator_words other.indicator) in
-    let part = one_number h.part other.part 47 (decimal h.parts ++ 32 ∷ end) (decimal other.parts ++ 32 ∷ last) small.part little.part (omega arith)
-    (simp append_assoc at (ap (drop 5) same)) in
-    let parts = one_number h.parts other.parts 32 end last small.parts little.parts (omega arith) part.1 in
-    grind (arith, one_end s h.letters other.letters h.indicator other.indicator small.letters little.letters is.indicator also.indicator parts.1)
+same_heading s h other is also same = grind (arith, are_small, one_number, append_assoc, one_end)
 
 -- ---- the line and the body
 
@@ -334,5 +277,4 @@ words_begin s h more is =
     }
 
 pub begins_there : (s : Day) (part : List ℕ) (h : Heading) (body : List ℕ) → NumbersAreWords → HasHeading s part h body → BeginsHeading part
-begins_there s part h body numbers has =
-    let tail = heading_tail s part h body has in subst BeginsHeading (sym tail.1) (words_begin s h tail.0 has.is_heading)
+begins_there s part h body numbers has = grind (arith, common_steps, heading_tail, words_begin)

@@ -1,5 +1,6 @@
 -- The lines of an order up to its text.
-use Rattle.kd_form.proofs.Prelude.{◌≡◌, ◌≢◌, ℕ, zero, suc, ◌+◌, ◌-◌, ◌<◌, ◌≤◌, inl, inr, Bool, true, false, List, [], ◌∷◌, ◌++◌, length, get_or, take, drop, replicate, refl, sym, ap, subst, ◌∙◌, append_assoc, length-append, length-drop, arith, ◌==◌, nat_lt, All, codes, get_or-append, AllWithin, nat_tests, cases_Bool, get_or-take, drop_all, take_more, take-append-drop, length-replicate, take_all, get_or_default, length-take-le, append-nil, drop_more, All-append, All-cons, All-nil, All-tail, All-replicate, All-take, All-drop, All-push, Unread, IsEnded, IsKeyLine, AreKeyLines, IsHead, filled_in, blanks, fits, letters_at, IsFilledLine, IsPatternLine, BreaksOff, letters_text, line_of, IsWithout, TextsTellFirstParts, Day, OfRotors, OfPins, Keys, Rotor, Pin, RotorKeys, key_words, AreKeys, AreRotorKeys, ArePinKeys, places_for, rotor_pattern, key_pattern, key_letters, IsAnyKeyLine, FormFault, Suits, IsKeysFault, IsFirstKeysFault}
+use Rattle.std.proofs.lemmas.Grind.{common_steps}
+use Rattle.kd_form.proofs.Prelude.{◌≡◌, ◌≢◌, ℕ, zero, suc, ◌+◌, ◌<◌, ◌≤◌, inl, inr, Bool, true, false, List, [], ◌∷◌, ◌++◌, length, get_or, take, drop, replicate, refl, sym, ap, subst, ◌∙◌, append_assoc, length-append, length-drop, arith, ◌==◌, nat_lt, All, codes, get_or-append, AllWithin, nat_tests, cases_Bool, get_or-take, drop_all, take_more, take-append-drop, length-replicate, take_all, get_or_default, length-take-le, append-nil, drop_more, All-append, All-cons, All-nil, All-tail, All-replicate, All-take, All-drop, All-push, Unread, IsEnded, IsKeyLine, AreKeyLines, IsHead, filled_in, blanks, fits, letters_at, IsFilledLine, IsPatternLine, BreaksOff, letters_text, line_of, IsWithout, TextsTellFirstParts, Day, OfRotors, OfPins, Keys, Rotor, Pin, key_words, AreKeys, ArePinKeys, places_for, rotor_pattern, key_pattern, key_letters, IsAnyKeyLine, FormFault, Suits, IsKeysFault, IsFirstKeysFault}
 use Rattle.kd_state.specs.Machine.{AreLetters}
 use Rattle.kd_form.specs.declared.pattern_line.Unread.TheVariants.{Open, Off}
 use Rattle.kd_form.proofs.Ciphers.{letter_read}
@@ -31,13 +32,7 @@ pub record IsFilling (pattern bytes : List ℕ) (place : ℕ) (letters : List �
 one_letter : (mark byte : ℕ) (pattern : List ℕ) → fits mark byte ≡ true
     → (length (letters_at mark byte) + blanks pattern ≡ blanks (mark ∷ pattern)) × All (λ l. l < 26) (letters_at mark byte)
     × ((more : List ℕ) → filled_in (mark ∷ pattern) (letters_at mark byte ++ more) ≡ byte ∷ filled_in pattern more)
-one_letter mark byte pattern fit = elim (cases_Bool (mark == 95)) [
-  | inl blank ↦
-      let told = rw blank at fit in
-      let range : (65 ≤ byte) × (byte ≤ 90) = grind (arith, nat_tests) in
-      rw blank (omega arith, All-cons (λ l. l < 26) (byte - 65) [] (omega arith) (All-nil (λ l. l < 26)), λ more. grind arith)
-  | inr other ↦ let told = rw other at fit in rw other (omega arith, All-nil (λ l. l < 26), λ more. grind (arith, nat_tests))
-]
+one_letter mark byte pattern fit = grind (arith, cases_Bool, All-cons, All-nil)
 
 pub filling_more : (pattern bytes letters more : List ℕ) (place mark byte : ℕ) → IsFilling pattern bytes place letters → place < length pattern → place < length bytes
     → get_or pattern place 0 ≡ mark → get_or bytes place 0 ≡ byte → fits mark byte ≡ true → more ≡ letters ++ letters_at mark byte
@@ -84,9 +79,6 @@ line_open pattern bytes letters place filling past =
 ended_tail : (text line : List ℕ) → IsEnded text line → (tail : List ℕ) × IsEnded [] tail × (line ≡ text ++ tail)
 ended_tail text line ended = grind arith
 
-ended_behind : (text tail : List ℕ) → IsEnded [] tail → IsEnded text (text ++ tail)
-ended_behind text tail ended = grind arith
-
 line_fits : (pattern line : List ℕ) (i : ℕ) → i < length pattern → IsPatternLine pattern line → fits (get_or pattern i 0) (get_or line i 0) ≡ true
 line_fits pattern line i inside is =
     let text : List ℕ = filled_in pattern is.letters in
@@ -110,15 +102,14 @@ module _ (pattern bytes letters tail : List ℕ) (place : ℕ) (filling : IsFill
   line_ends : (more : List ℕ) → IsEnded [] (tail ++ more) → IsFilledLine pattern letters (bytes ++ more)
   line_ends more ended = record {
     are_letters = record { count = omega (arith, filling.counted, ap blanks none_left); within = filling.within };
-    ended = rw (line_with more) (ended_behind (filled_in pattern letters) (tail ++ more) ended);
+    ended = rw (line_with more) (grind arith);
   }
 
   pub line_read : IsEnded [] tail → IsFilledLine pattern letters bytes
   line_read ended = subst (IsFilledLine pattern letters) (append-nil bytes) (line_ends [] (rw (append-nil tail) ended))
 
   pub line_broken : (why : Unread) → BreaksOff (IsEnded []) tail why → BreaksOff (IsPatternLine pattern) bytes why
-  line_broken Open (more, some, ended) =
-      let line = line_ends more ended in (more, some, record { letters = letters; are_letters = line.are_letters; ended = line.ended })
+  line_broken Open (more, some, ended) = grind (arith, line_ends more ended)
   line_broken Off none = λ more is.
       let (end, ended, joined) = ended_tail (filled_in pattern is.letters) (bytes ++ more) is.ended in
       let same = same_sized (filled_in pattern letters) (filled_in pattern is.letters) (tail ++ more) end
@@ -161,15 +152,8 @@ filled_word zero [] other more count = refl
 filled_word (suc n) (l ∷ letters) other more count = ap (λ text. (l + 65) ∷ text) (filled_word n letters other more (omega arith))
 filled_word _ _ other more count = absurd (omega arith)
 
-rotor_line : (slots : ℕ) (k : RotorKeys) → AreRotorKeys slots k → filled_in (rotor_pattern slots) (key_letters (Rotor k)) ≡ line_of (key_words (Rotor k))
-rotor_line slots k are =
-    let last = filled_word 2 k.fillers (32 ∷ places_for 3) k.group are.fillers.count in
-    let key = filled_word slots k.key (32 ∷ (places_for 2 ++ 32 ∷ places_for 3)) (k.fillers ++ k.group) are.key.count in
-    let start = filled_word slots k.start (32 ∷ (places_for slots ++ 32 ∷ (places_for 2 ++ 32 ∷ places_for 3))) (k.key ++ (k.fillers ++ k.group)) are.start.count in
-    cc (start, key, last, filled-places 3 k.group are.group.count)
-
 pub key_line : (s : Day) (k : Keys) → AreKeys s k → filled_in (key_pattern s) (key_letters k) ≡ line_of (key_words k)
-key_line (OfRotors s) (Rotor k) are = rotor_line (length s.wheels) k are
+key_line (OfRotors s) (Rotor k) are = grind (arith, common_steps, filled_word, filled-places)
 key_line (OfPins s) (Pin k) are = ap (λ t. codes "PART " ++ (k.chosen + 65) ∷ 32 ∷ t) (filled-places 6 k.external are.external.count)
 key_line _ _ are = absurd are
 
@@ -219,13 +203,10 @@ as_key_line s line is =
       keyed = subst (λ text. IsEnded text line) (ap (filled_in (key_pattern s)) (sym made.2) ∙ key_line s made.0 made.1) is.ended;
     }
 
-letters_of_keys : (s : Day) (k : Keys) → AreKeys s k → AreLetters (blanks (key_pattern s)) (key_letters k)
-letters_of_keys s k are = grind (arith, rotor_blanks, letters_joined, All-cons)
-
 pub as_form_line : (s : Day) (line : List ℕ) → IsAnyKeyLine s line → IsPatternLine (key_pattern s) line
 as_form_line s line is = record {
   letters = key_letters is.keys;
-  are_letters = letters_of_keys s is.keys is.of_the_day;
+  are_letters = grind (arith, rotor_blanks, letters_joined, All-cons);
   ended = subst (λ text. IsEnded text line) (sym (key_line s is.keys is.of_the_day)) is.keyed;
 }
 
@@ -235,8 +216,7 @@ breaks_alike bytes why to back broken = grind arith
 
 pub keys_read : (s : Day) (bytes letters : List ℕ) (k : Keys) → IsFilledLine (key_pattern s) letters bytes → key_letters k ≡ letters → AreKeys s k
     → AreKeys s k × IsKeyLine k bytes
-keys_read s bytes letters k filled told are =
-    (are, subst (λ text. IsEnded text bytes) (ap (filled_in (key_pattern s)) (sym told) ∙ key_line s k are) filled.ended)
+keys_read s bytes letters k filled told are = grind (arith, key_line)
 
 -- -------- keys that suit the day, and those that don't
 
@@ -309,8 +289,7 @@ text_only s bytes head = subst (IsEnded (codes "TEXT")) (sym (head.joined ∙ ap
 
 pub without_line : (s : Day) (k : Keys) (line more : List ℕ) (others : List Keys) → TextsTellFirstParts → IsKeyLine k line → IsHead s others (line ++ more)
     → (after : List Keys) × IsHead s after more × (length others ≡ suc (length after))
-without_line s k line more [] tell ended head =
-    absurd (let clash : 80 ≡ 84 = sym (key_first k line more ended) ∙ text_first (line ++ more) (text_only s (line ++ more) head) in omega arith)
+without_line s k line more [] tell ended head = grind (arith, key_first, text_first, text_only)
 without_line s k line more (other ∷ others) tell ended head =
     let first = head.keyed in
     let same : line ++ more ≡ first.0 ++ (first.1 ++ head.last) = head.joined ∙ ap (λ l. l ++ head.last) first.4 ∙ append_assoc first.0 first.1 head.last in (
@@ -330,8 +309,7 @@ without_line s k line more (other ∷ others) tell ended head =
 -- ---- line after line
 
 pub lines_more : (keys : List Keys) (k : Keys) (lines line : List ℕ) → AreKeyLines keys lines → IsKeyLine k line → AreKeyLines (keys ++ k ∷ []) (lines ++ line)
-lines_more [] k lines line keyed ended =
-    (line, [], ended, refl, ap (λ l. l ++ line) keyed ∙ sym (append-nil line))
+lines_more [] k lines line keyed ended = grind (arith, append-nil)
 lines_more (first ∷ keys) k lines line (one, others, is, more, joined) ended =
     (one, others ++ line, is, lines_more keys k others line more ended, ap (λ l. l ++ line) joined ∙ append_assoc one others line)
 
@@ -342,8 +320,7 @@ some_more [] more some none = some refl
 some_more (x ∷ text) more some none = absurd (let gone : length (x ∷ (text ++ more)) ≡ 0 = ap length none in omega arith)
 
 pub front_byte : (before after other : List ℕ) (byte : ℕ) → get_or (before ++ byte ∷ after) 0 0 ≡ get_or (before ++ byte ∷ other) 0 0
-front_byte [] after other byte = refl
-front_byte (x ∷ before) after other byte = refl
+front_byte before after other byte = grind (arith, common_steps)
 
 pub text_line : (last : List ℕ) → IsEnded (codes "TEXT") last → IsPatternLine (codes "TEXT") last
 text_line last ended = record { letters = []; are_letters = record { count = refl; within = All-nil (λ l. l < 26) }; ended = ended }

@@ -1,5 +1,5 @@
 -- A form is cut into parts in one way.
-use Rattle.kd_form.proofs.Prelude.{◌≡◌, ℕ, ◌+◌, ◌-◌, ◌≤◌, inl, inr, List, [], ◌∷◌, ◌++◌, length, drop, get_or, refl, sym, ap, subst, ◌∙◌, length-append, arith, ◌⊎◌, ◌<◌, take, ltb, slice_index, codes, Bool, ◌&&◌, Decides, bytes_eq, drop-append_seam, append-nil, take-append-drop, drop_more, get_or_past, BeginsHeading, IsFirstOf, AreFirstParts, Decides-and, Decides-ltb, not_from_Decides, cases_lt, cases_eq, cases_Bool}
+use Rattle.kd_form.proofs.Prelude.{◌≡◌, ℕ, ◌-◌, ◌≤◌, inl, inr, List, [], ◌∷◌, ◌++◌, length, drop, get_or, refl, sym, ap, subst, ◌∙◌, length-append, arith, ◌⊎◌, ◌<◌, take, ltb, slice_index, codes, Bool, ◌&&◌, Decides, bytes_eq, drop-append_seam, append-nil, take-append-drop, drop_more, get_or_past, BeginsHeading, IsFirstOf, AreFirstParts, Decides-and, Decides-ltb, not_from_Decides, cases_lt, cases_eq, cases_Bool}
 use Rattle.kd_form.proofs.OneOrder.{Shorter, Longer, fronts}
 use Rattle.std.proofs.lemmas.Slice.Eq.{bytes_eq-Decides}
 
@@ -32,12 +32,6 @@ pub data AreCuts (parts others : List (List ℕ)) (rest more : List ℕ) : Type 
   Further : (part : List ℕ) (behind : List (List ℕ)) → others ≡ parts ++ part ∷ behind → AreFirstParts (part ∷ behind) rest more → AreCuts parts others rest more
   Before : (part : List ℕ) (behind : List (List ℕ)) → parts ≡ others ++ part ∷ behind → AreFirstParts (part ∷ behind) more rest → AreCuts parts others rest more
 
-cuts_more : (part other : List ℕ) (parts others : List (List ℕ)) (rest more : List ℕ) → part ≡ other → AreCuts parts others rest more
-    → AreCuts (part ∷ parts) (other ∷ others) rest more
-cuts_more part other parts others rest more one (Alike same left) = Alike (cc) left
-cuts_more part other parts others rest more one (Further next behind further cut) = Further next behind (cc) cut
-cuts_more part other parts others rest more one (Before next behind further cut) = Before next behind (cc) cut
-
 pub cuts : (bytes : List ℕ) (parts others : List (List ℕ)) (rest more : List ℕ) → AreFirstParts parts bytes rest → AreFirstParts others bytes more
     → AreCuts parts others rest more
 cuts bytes [] [] rest more a b = Alike refl (sym a ∙ b)
@@ -45,7 +39,11 @@ cuts bytes [] (other ∷ others) rest more a b = Further other others refl (subs
 cuts bytes (part ∷ parts) [] rest more a b = Before part parts refl (subst (λ bs. AreFirstParts (part ∷ parts) bs rest) b a)
 cuts bytes (part ∷ parts) (other ∷ others) rest more (after, first, later) (next, also, latter) =
     let same = one_cut bytes part after other next first also in
-    cuts_more part other parts others rest more same.0 (cuts after parts others rest more later (subst (λ bs. AreFirstParts others bs more) (sym same.1) latter))
+    elim (cuts after parts others rest more later (subst (λ bs. AreFirstParts others bs more) (sym same.1) latter)) [
+      | Alike all left ↦ Alike (cc (same.0)) left
+      | Further one behind further cut ↦ Further one behind (cc (same.0)) cut
+      | Before one behind further cut ↦ Before one behind (cc (same.0)) cut
+    ]
 
 -- the first part of nothing is empty
 pub empty_part : (part after : List ℕ) → IsFirstOf [] part after → part ≡ []
@@ -87,12 +85,8 @@ pub record FirstCut (bytes : List ℕ) : Type 0 where
 pub break_is_first : (rest : List ℕ) → (rest ≡ []) ⊎ BeginsHeading rest → IsFirstOf (10 ∷ rest) (10 ∷ []) rest
 break_is_first rest follows = grind arith
 
-whole_more : (byte : ℕ) (bytes part rest : List ℕ) → IsFirstOf bytes part rest → (byte ≡ 10 → ¬ (BeginsHeading bytes)) → (place : ℕ)
-    → place + 1 < length (byte ∷ part) → get_or (byte ∷ bytes) place 0 ≡ 10 → ¬ (BeginsHeading (drop (place + 1) (byte ∷ bytes)))
-whole_more byte bytes part rest first none place below is = grind arith
-
 pub one_byte_more : (byte : ℕ) (bytes part rest : List ℕ) → IsFirstOf bytes part rest → (byte ≡ 10 → ¬ (BeginsHeading bytes)) → IsFirstOf (byte ∷ bytes) (byte ∷ part) rest
-one_byte_more byte bytes part rest first none = grind (arith, whole_more, some_byte)
+one_byte_more byte bytes part rest first none = grind (arith, some_byte)
 
 pub first_cut : (bytes : List ℕ) → FirstCut bytes
 first_cut [] = record { part = []; rest = []; first = record { joined = refl; whole = λ place below. absurd (omega arith); ends = inl refl } }

@@ -1,4 +1,5 @@
 -- An order is read in one way, and becomes one form, or has one fault.
+use Rattle.std.proofs.lemmas.Grind.{common_steps}
 use Rattle.kd_form.proofs.Prelude.{◌≡◌, ◌≢◌, ℕ, ◌+◌, inl, inr, List, [], ◌∷◌, ◌++◌, length, map, refl, sym, ap, subst, ◌∙◌, append_assoc, arith, Err, Ok, Result, drop, ◌≤◌, ◌⊎◌, codes, All, slice_index, IsTrue, IsFalse, append_cancel_right, append-nil, All-head, All-tail, All-map, letters_text, is_text_byte, line_of, TextsTellFirstParts, Day, OfRotors, OfPins, Keys, Rotor, Pin, ComesFirst, IsInternalKey, key_words, AreKeys, IsEnded, AreKeyLines, IsOrder, IsHead, IsHeadFault, IsKeyLine, IsMadeText, enciphered_choice, part_size, Suits, pieces, AreMadeTexts, text_letters, parts_needed, IsBadAt, IsKeysFault, IsFirstKeysFault, StandsInOrder, InHead, InKeys, InText, Cut, NoLetter, InParts, IsSendFault, IsFormOf, OrdersBecomeOneForm, SentOrdersHaveNoFault, OrdersHaveOneFault, false≢true, FormFault, BadByte, EmptyText, PartKeys}
 use Rattle.kd_form.proofs.Plain.{same_front, plain_keys, text_plain, nothing_more}
 use Rattle.kd_form.proofs.Lines.{key_first, text_front, same_line}
@@ -36,8 +37,7 @@ IsCaught Has refusal Holds Later v = IsFound Has (λ x w. w ≡ refusal x) v ⊎
 
 pub only_caught : {X V : Type 0} {Has : X → Type 0} {refusal : X → V} {Holds : Type 0} {Later : V → Type 0} → ((x y : X) → Has x → Has y → x ≡ y)
     → ((x : X) → Holds → ¬ (Has x)) → IsOnly Later → IsOnly (IsCaught Has refusal Holds Later)
-only_caught one apart laters =
-    only_either (only_found one (λ x. only_this)) (λ v w a b. laters v w a.1 b.1) (λ v w a b. apart a.0 b.0 a.1)
+only_caught one apart laters = grind (arith, only_either, only_found, only_this)
 
 -- -------- an order is read in one way
 
@@ -104,15 +104,12 @@ are_read [] lines last text none ended = (last, ended, ap (λ l. (l ++ last) ++ 
 are_read (k ∷ keys) lines last text (line, rest, is, more, joined) ended =
     (line, (rest ++ last) ++ text, is, are_read keys rest last text more ended, rw joined (simp append_assoc))
 
-not_both : (k : Keys) (keys : List Keys) (text more bytes : List ℕ) → AreRead [] text bytes → ¬ (AreRead (k ∷ keys) more bytes)
-not_both k keys text more bytes one other = grind (arith, text_front, key_first)
-
 one_read : (s : Day) (keys others : List Keys) (text more bytes : List ℕ) → All (AreKeys s) keys → All (AreKeys s) others → AreRead keys text bytes
     → AreRead others more bytes → (keys ≡ others) × (text ≡ more)
 one_read s [] [] text more bytes all alls (last, ended, is) (final, end, also) =
     (refl, (same_line (codes "TEXT") (codes "TEXT") last final text more text_plain text_plain ended end (sym is ∙ also)).2)
-one_read s [] (k ∷ others) text more bytes all alls one other = absurd (not_both k others text more bytes one other)
-one_read s (k ∷ keys) [] text more bytes all alls one other = absurd (not_both k keys more text bytes other one)
+one_read s [] (k ∷ others) text more bytes all alls one other = absurd (grind (arith, text_front, key_first))
+one_read s (k ∷ keys) [] text more bytes all alls one other = absurd (grind (arith, text_front, key_first))
 one_read s (k ∷ keys) (j ∷ others) text more bytes all alls (line, rest, is, later, joined) (first, left, also, latter, linked) =
     let lines = same_line (line_of (key_words k)) (line_of (key_words j)) line first rest left (plain_keys k) (plain_keys j) is also (sym joined ∙ linked) in
     let one = same_keys s k j (All-head (AreKeys s) k keys all) (All-head (AreKeys s) j others alls) lines.0 in
@@ -124,9 +121,7 @@ pub record IsSameOrder (keys others : List Keys) (head other text more : List �
   pub text_is : text ≡ more
 
 order_read : (s : Day) (order : List ℕ) (keys : List Keys) (head text : List ℕ) → IsOrder s order keys head text → AreRead keys text order
-order_read s order keys head text is =
-    subst (AreRead keys text) (sym (is.joined ∙ ap (λ h. h ++ text) is.is_head.joined))
-    (are_read keys is.is_head.lines is.is_head.last text is.is_head.keyed is.is_head.ended)
+order_read s order keys head text is = grind (arith, are_read)
 
 pub one_order : (s : Day) (order : List ℕ) (keys others : List Keys) (head other text more : List ℕ) → TextsTellFirstParts → IsOrder s order keys head text
     → IsOrder s order others other more → IsSameOrder keys others head other text more
@@ -143,14 +138,13 @@ pub data AreFronts (xs ys zs ws : List ℕ) : Type 0 where
   Shorter : (more : List ℕ) → zs ≡ xs ++ more → ys ≡ more ++ ws → AreFronts xs ys zs ws
   Longer : (x : ℕ) (more : List ℕ) → xs ≡ zs ++ x ∷ more → ws ≡ x ∷ (more ++ ys) → AreFronts xs ys zs ws
 
-fronts_more : (x y : ℕ) (xs ys zs ws : List ℕ) → x ≡ y → AreFronts xs ys zs ws → AreFronts (x ∷ xs) ys (y ∷ zs) ws
-fronts_more x y xs ys zs ws same (Shorter more is rest) = Shorter more (cc) rest
-fronts_more x y xs ys zs ws same (Longer z more is rest) = Longer z more (cc) rest
-
 pub fronts : (xs ys zs ws : List ℕ) → xs ++ ys ≡ zs ++ ws → AreFronts xs ys zs ws
 fronts [] ys zs ws same = Shorter zs refl same
 fronts (x ∷ xs) ys [] ws same = Longer x xs refl (sym same)
-fronts (x ∷ xs) ys (z ∷ zs) ws same = fronts_more x z xs ys zs ws (cc) (fronts xs ys zs ws (cc))
+fronts (x ∷ xs) ys (z ∷ zs) ws same = elim (fronts xs ys zs ws (cc)) [
+  | Shorter more is rest ↦ Shorter more (cc) rest
+  | Longer y more is rest ↦ Longer y more (cc) rest
+]
 
 -- ---- faults in the head
 
@@ -186,9 +180,7 @@ suits_or_not : (s : Day) (k : Keys) (part : ℕ) (fault : FormFault) → IsKeysF
 suits_or_not s k part fault is suits = grind arith
 
 one_keys_fault : (s : Day) (part : ℕ) (k : Keys) → IsOnly (IsKeysFault s part k)
-one_keys_fault (OfRotors s) part (Rotor k) fault other a b = a.1 ∙ sym b.1
-one_keys_fault (OfPins s) part (Pin k) fault other a b = grind arith
-one_keys_fault _ part _ fault other a b = absurd a
+one_keys_fault s part k = grind (arith, common_steps)
 
 first_keys_fault : (s : Day) (keys : List Keys) → IsOnly (IsFirstKeysFault s keys)
 first_keys_fault s keys fault other a b =
@@ -197,9 +189,7 @@ first_keys_fault s keys fault other a b =
     grind (arith, same, one_keys_fault s (length b.before + 1) b.unsuited fault other)
 
 pub no_keys_fault : (s : Day) (keys : List Keys) (fault : FormFault) → All (Suits s) keys → ¬ (IsFirstKeysFault s keys fault)
-no_keys_fault s keys fault all is =
-    let same = same_front (Suits s) keys is.before [] (is.unsuited ∷ is.others) all is.suited tt (suits_or_not s is.unsuited _ fault is.is)
-    (append-nil keys ∙ is.joined) in cc (same.1)
+no_keys_fault s keys fault all is = grind (arith, same_front (Suits s) keys is.before, append-nil keys)
 
 -- ---- faults in the text
 

@@ -1,6 +1,6 @@
 -- A form becomes one text, or has one fault.
 use Rattle.std.proofs.Common.{append-nil}
-use Rattle.kd_form.proofs.Prelude.{◌≡◌, ◌≢◌, ℕ, ◌+◌, ◌-◌, ◌⊎◌, inl, inr, List, [], ◌∷◌, ◌++◌, length, Result, Ok, Err, MatchResult, refl, sym, ap, subst, ◌∙◌, length-append, arith, All, IsTrue, Option, Some, None, is_text_byte, Day, sheet_key, IsWindow, TextsTellFirstParts, NumbersAreWords, IsFirstPart, FormFault, BadByte, BadHeading, CountWrong, PartOrder, KeyNotOnWheel, WrongGroup, IndicatorSpent, IndicatorsDiffer, Heading, Indicator, IsInternalKey, cipher_from, list_letters, enciphered_choice, letters_from, IsBadAt, HasIndicatorsAround, keys_in, list_in, text_in, IsPinText, IsPinFault, InIndicators, InExternal, InList, InChoice, IsLettersText, IsLettersFault, HasHeading, IsExpected, IsPartRead, IsPartFault, InHeading, InNumber, InBody, IsEarlyFault, IsBodyFault, BeginsHeading, AreFirstParts, ArePartsRead, IsReadTo, given_text, IsTextOf, count_due, Turn, IsRefusedPart, IsRefusedEarly, IsRefusedForGood, NoHeading, InWhole, InLast, InPart, TooFew, IsReceiveFault, MayBegin, FormsBecomeOneText, ReceivedFormsHaveNoFault, FormsHaveOneFault}
+use Rattle.kd_form.proofs.Prelude.{◌≡◌, ◌≢◌, ℕ, ◌+◌, ◌-◌, ◌⊎◌, inl, inr, List, [], ◌∷◌, ◌++◌, length, Result, Ok, Err, MatchResult, refl, sym, ap, subst, ◌∙◌, length-append, arith, All, IsTrue, Option, Some, None, is_text_byte, Day, sheet_key, IsWindow, TextsTellFirstParts, NumbersAreWords, IsFirstPart, FormFault, BadByte, BadHeading, CountWrong, PartOrder, KeyNotOnWheel, WrongGroup, IndicatorSpent, IndicatorsDiffer, Heading, Indicator, IsInternalKey, cipher_from, list_letters, enciphered_choice, letters_from, IsBadAt, HasIndicatorsAround, keys_in, list_in, text_in, IsPinText, IsPinFault, IsLettersText, IsLettersFault, HasHeading, IsExpected, IsPartRead, IsPartFault, InHeading, InNumber, InBody, IsEarlyFault, IsBodyFault, BeginsHeading, AreFirstParts, ArePartsRead, IsReadTo, given_text, IsTextOf, count_due, Turn, IsRefusedPart, IsRefusedEarly, IsRefusedForGood, NoHeading, InWhole, InLast, InPart, TooFew, IsReceiveFault, MayBegin, FormsBecomeOneText, ReceivedFormsHaveNoFault, FormsHaveOneFault}
 use Rattle.kd_form.proofs.Received.{turn_at_start}
 use Rattle.kd_form.proofs.OneOrder.{IsCaught, only_this, only_either, only_found, only_judged, only_caught, one_internal_key, one_bad_byte, no_bad_byte, IsFound, IsJudged, IsOnly}
 use Rattle.kd_form.proofs.Headings.{one_heading, no_empty_heading, begins_there}
@@ -30,12 +30,7 @@ IsPinAnswer s part letters =
     (λ internal v. v ≡ Ok (cipher_from s internal (text_in letters))))))
 
 pin_answer : (s : Day) (part : ℕ) (letters : List ℕ) (v : Answer) → MatchResult v (IsPinText s letters) (IsPinFault s part letters) → IsPinAnswer s part letters v
-pin_answer s part letters (Ok text) a = inr (a.around, inr (a.on_wheels, inr (a.listed, inr (a.internal, a.first, ap Ok a.is))))
-pin_answer s part letters (Err fault) (InIndicators off is) = inl (off, ap Err is)
-pin_answer s part letters (Err fault) (InExternal around off is) = inr (around, inl (off, ap Err is))
-pin_answer s part letters (Err fault) (InList around on other is) = inr (around, inr (on, inl (other, ap Err is)))
-pin_answer s part letters (Err fault) (InChoice around on listed spent is) =
-    inr (around, inr (on, inr (listed, inl (λ internal first. spent first.places internal first.picked, ap Err is))))
+pin_answer s part letters v e = grind arith
 
 abbrev IsLettersAnswer : Day → ℕ → Option Indicator → List ℕ → Answer → Type 0
 IsLettersAnswer s part i letters v = MatchResult v (IsLettersText s i letters) (IsLettersFault s part i letters)
@@ -95,15 +90,13 @@ module _ (s : Day) (tell : TextsTellFirstParts) (numbers : NumbersAreWords) wher
       → ArePartsRead s number count (before ++ part ∷ behind) letters → (text : List ℕ) × IsPartRead s (length before + number) count part text
   read_there number count [] part behind letters (one, more, is, others, joined) = (one, subst (λ n. IsPartRead s n count part one) (omega arith) is)
   read_there number count (first ∷ before) part behind letters (one, more, is, others, joined) =
-      let found = read_there (number + 1) count before part behind more others in
-      (found.0, subst (λ n. IsPartRead s n count part found.0) (omega arith) found.1)
+      grind (arith, read_there (number + 1) count before part behind more others)
 
   letters_alike : (number count other : ℕ) (parts : List (List ℕ)) (letters more : List ℕ) → ArePartsRead s number count parts letters
       → ArePartsRead s number other parts more → letters ≡ more
   letters_alike number count other [] letters more a b = a ∙ sym b
   letters_alike number count other (part ∷ parts) letters more (one, rest, is, later, joined) (two, left, also, latter, linked) =
-      let first = one_text is also in
-      let behind = letters_alike (number + 1) count other parts rest left later latter in cc
+      grind (arith, one_text is also, letters_alike (number + 1) count other parts rest left later latter)
 
   -- the first part says of how many parts the form is
   expected_too : (before behind : List (List ℕ)) (count other : ℕ) (letters more : List ℕ) → ArePartsRead s 1 count before letters
@@ -254,8 +247,7 @@ pub nothing_stands : (s : Day) (form : List ℕ) (t : Turn s form) → TextsTell
     → MayBegin t.rest → ((fault : FormFault) (line body : List ℕ) → IsFirstPart 10 t.part line body → ¬ (IsRefusedEarly s form t fault))
     → (text : List ℕ) (fault : FormFault) → ¬ (IsRefusedForGood s form text fault)
 nothing_stands s form t tell numbers last may early text fault (NoHeading none empty is) =
-    let begins = begins_by_parts s form t.rest t.before t.count t.letters numbers t.read may in
-    none begins.0 begins.1
+    grind (arith, begins_by_parts)
 nothing_stands s form t tell numbers last may early text fault (InWhole u some refused is) =
     let same = same_turn s tell numbers form t u fault last refused in
     some ((one_cut t.rest u.part u.after t.part t.after (rw (same.1) u.first) t.first).1 ∙ last)

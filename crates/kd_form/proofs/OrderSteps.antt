@@ -1,7 +1,7 @@
 -- The reader of an order, byte by byte, and at the end.
 use Rattle.std.proofs.Common.{length-take, append-nil}
-use Rattle.kd_form.proofs.Prelude.{[], ◌≡◌, ◌≢◌, ℕ, zero, suc, ◌+◌, ◌-◌, ◌*◌, ◌<◌, ◌≤◌, inl, inr, List, ◌∷◌, ◌++◌, Some, length, take, drop, refl, sym, ap, subst, ◌∙◌, append_assoc, length-append, length-drop, arith, get_or, ◌^◌, Option, Result, Ok, Err, IsTrue, IsFalse, option_to_list, slice_get, codes, All, MatchResult, div_ceil, cases_lt, le_of_mul-le-mul_left, nil_from_length, take_all, drop_all, drop_at, take_at, drop-take, drop-drop, take-take, take_more, length-take-le, Day, Keys, pieces, IsMadeText, part_size, Suits, parts_needed, AreMadeTexts, blank_of, letter_of_byte, letters_from, text_letters, IsFirstKeysFault, StandsInOrder, InHead, InKeys, InText, NoLetter, InParts, CanBeWritten, IsAllowedFront, IsSentBefore, orders, AreTaken, IsHeadRead, HeadIsRead, step_of, IsTextRead, IsLastTaken, IsFresh, IsOrderRead, OfHead, OfText, All-nil, All-push, All-head, filter_map-append, IsWithout, TextsTellFirstParts, Unread, AreKeys, filled_in, IsPatternLine, BreaksOff, key_pattern, IsAnyKeyLine, IsEnded, IsKeyLine, AreKeyLines, IsHead, IsOrder, IsHeadFault, is_text_byte, FormFault, BadByte, IsRefused, Closes, Held}
-use Rattle.std.proofs.lemmas.Grind.{div_ceil_times}
+use Rattle.kd_form.proofs.Prelude.{[], ◌≡◌, ◌≢◌, ℕ, zero, suc, ◌+◌, ◌-◌, ◌*◌, ◌<◌, ◌≤◌, inl, inr, List, ◌∷◌, ◌++◌, Some, length, take, drop, refl, sym, ap, subst, ◌∙◌, append_assoc, length-append, length-drop, arith, get_or, ◌^◌, Option, Result, Ok, Err, IsTrue, IsFalse, option_to_list, slice_get, codes, All, MatchResult, div_ceil, cases_lt, le_of_mul-le-mul_left, nil_from_length, take_all, drop_all, drop_at, take_at, drop-take, drop-drop, take-take, take_more, length-take-le, Day, Keys, pieces, IsMadeText, part_size, Suits, parts_needed, AreMadeTexts, blank_of, letter_of_byte, letters_from, text_letters, IsFirstKeysFault, StandsInOrder, InHead, InKeys, InText, NoLetter, InParts, CanBeWritten, IsAllowedFront, IsSentBefore, orders, AreTaken, IsHeadRead, HeadIsRead, step_of, IsTextRead, IsLastTaken, IsFresh, IsOrderRead, OfHead, OfText, All-nil, All-push, All-head, filter_map-append, IsWithout, TextsTellFirstParts, Unread, AreKeys, IsPatternLine, BreaksOff, key_pattern, IsAnyKeyLine, IsEnded, IsKeyLine, AreKeyLines, IsHead, IsOrder, IsHeadFault, is_text_byte, FormFault, BadByte, IsRefused, Closes, Held}
+use Rattle.std.proofs.lemmas.Grind.{div_ceil_times, common_steps}
 use Rattle.std.proofs.lemmas.Option.{slice_get_within, get_or_from_slice_get}
 use Rattle.kd_form.specs.declared.order_reader.parts.PartWriter.{PartWriter}
 use Rattle.kd_form.proofs.MadeParts.{pieces-next, pieces-none}
@@ -27,8 +27,7 @@ size_some s = grind arith
 pieces_more : (size k : ℕ) (letters : List ℕ) → 0 < size → size * k < length letters → length letters ≤ size * k + size
     → pieces size letters ≡ pieces size (take (size * k) letters) ++ drop (size * k) letters ∷ []
 pieces_more size zero letters large some few =
-    let none : size * 0 ≡ 0 = omega arith in
-    cc (none, pieces-next size letters large (omega arith), take_all size letters (omega arith), drop_all size letters (omega arith), pieces-none size large)
+    grind (arith, pieces-next, take_all, drop_all, pieces-none)
 pieces_more size (suc k) letters large some few =
     let more : size * suc k ≡ size + size * k = omega arith in
     let fewer : length (drop size letters) + size ≡ length letters = omega (arith, length-drop size letters) in
@@ -45,9 +44,7 @@ pieces_more size (suc k) letters large some few =
 
 made_more : (s : Day) (part parts : ℕ) (keys : List Keys) (k : Keys) (texts : List (List ℕ)) (piece bytes one : List ℕ) → AreMadeTexts s part parts keys texts bytes
     → IsMadeText s (part + length keys) parts k piece one → AreMadeTexts s part parts (keys ++ k ∷ []) (texts ++ piece ∷ []) (bytes ++ one)
-made_more s part parts [] k [] piece bytes one made is =
-    let here : part + 0 ≡ part = omega arith in
-    (one, [], subst (λ n. IsMadeText s n parts k piece one) here is, refl, ap (λ b. b ++ one) made ∙ sym (append-nil one))
+made_more s part parts [] k [] piece bytes one made is = grind (arith, append-nil one)
 made_more s part parts (first ∷ keys) k (text ∷ texts) piece bytes one (begun, others, is_first, made, joined) is =
     let behind : part + length (first ∷ keys) ≡ part + 1 + length keys = omega arith in (
       begun,
@@ -92,10 +89,7 @@ part_written s keys w next k letters sent one letter is full another found made 
     let longer : length (letters ++ letter ∷ []) ≡ length letters + 1 = length-append letters (letter ∷ []) in
     record {
       counted = omega (arith, counted, is.counted, longer);
-      written = rw (number, longer) (record {
-        due = inr (another, omega (arith, whole));
-        most = λ other inside begun. le_of_mul-le-mul_left {m = other} {n = w.written + 1} {k = size} (omega (arith, whole, begun)) large;
-      });
+      written = grind (arith, le_of_mul-le-mul_left);
       kept = cc (take_all size (letter ∷ []) (omega arith), drop_at letters (letter ∷ []) (size * next.written) up_to);
       made = rw (take_at letters (letter ∷ []) (size * next.written) up_to, number)
           (part_more s keys k letters sent one w.written (omega (arith, whole, large)) (omega (arith, whole)) found is.made (rw own at made));
@@ -134,13 +128,8 @@ last_written s keys w k letters sent one is counted needed found made =
 
 -- ---- one line
 
-ended_length : (text line : List ℕ) (most : ℕ) → IsEnded text line → length text ≤ most → length line ≤ most + 2
-ended_length text line most ended few = grind (arith, length-append {A = ℕ})
-
 pub short_line : (s : Day) → length (key_pattern s) ≤ 21 → (line : List ℕ) → IsAnyKeyLine s line → length line ≤ 23
-short_line s few line is =
-    let form = as_form_line s line is in
-    ended_length (filled_in (key_pattern s) form.letters) line 21 form.ended (omega (arith, few, length-filled (key_pattern s) form.letters))
+short_line s few line is = grind (arith, common_steps, as_form_line, length-filled, length-append {A = ℕ})
 
 -- what begins a line, and isn't one yet, has no end of a line
 front_unbroken : (line bytes more : List ℕ) → IsUpToBreak line → line ≡ bytes ++ more → more ≢ [] → IsWithout 10 bytes
@@ -193,9 +182,7 @@ longer s h order byte is = ap (λ o. o ++ byte ∷ []) is.joined ∙ append_asso
 pub keys_taken : (s : Day) (h next : HeadReader) (order : List ℕ) (byte : ℕ) (k : Keys) → IsHeadRead s h order → length h.keys.items < 99 → AreKeys s k
     → IsKeyLine k (h.line.items ++ byte ∷ []) → next.keys.items ≡ h.keys.items ++ k ∷ [] → next.line.items ≡ [] → IsHeadRead s next (order ++ byte ∷ [])
 keys_taken s h next order byte k is room are ended put cleared =
-    whole_lines s next (order ++ byte ∷ [])
-    (rw (put, longer s h order byte is) (lines_more h.keys.items k is.lines (h.line.items ++ byte ∷ []) is.keyed ended))
-    (rw put (All-push (AreKeys s) h.keys.items k is.of_the_day are)) (omega (arith, ap length put, length-append h.keys.items (k ∷ []), room)) cleared
+    grind (arith, common_steps, whole_lines, longer, lines_more, All-push, length-append)
 
 -- a head whose last line is this
 text_head : (s : Day) (h : HeadReader) (order last : List ℕ) (is : IsHeadRead s h order) → IsEnded (codes "TEXT") last → IsHead s h.keys.items (is.lines ++ last)
@@ -204,10 +191,7 @@ text_head s h order last is ended = grind arith
 -- the line TEXT is whole
 pub text_taken : (s : Day) (h next : HeadReader) (order : List ℕ) (byte : ℕ) → IsHeadRead s h order → IsEnded (codes "TEXT") (h.line.items ++ byte ∷ [])
     → next.keys.items ≡ h.keys.items → IsOrder s (order ++ byte ∷ []) next.keys.items (order ++ byte ∷ []) []
-text_taken s h next order byte is ended same = record {
-  joined = sym (append-nil (order ++ byte ∷ []));
-  is_head = rw (same, longer s h order byte is) (text_head s h order (h.line.items ++ byte ∷ []) is ended);
-}
+text_taken s h next order byte is ended same = grind (arith, common_steps, append-nil, longer, text_head)
 
 -- the line that is read goes on
 line_open : (s : Day) (h next : HeadReader) (order line more beyond : List ℕ) (keys : List Keys) (byte most : ℕ) (is : IsHeadRead s h order)
@@ -277,8 +261,7 @@ no_text_line : (s : Day) (others : List Keys) (bytes other : List ℕ) (byte cou
 no_text_line s [] bytes other byte count full off few head =
     off other (text_line _ (subst (IsEnded (codes "TEXT")) (sym (append_assoc bytes (byte ∷ []) other)) (text_only s _ head)))
 no_text_line s (k ∷ others) bytes other byte count full off few head =
-    let all : count ≡ 99 = full (front_byte bytes [] other byte ∙ key_line_first s k others _ head) in
-    omega arith
+    grind (arith, front_byte bytes, key_line_first s k others _ head)
 
 -- the line of keys isn't whole
 pub key_step : (s : Day) (h next : HeadReader) (order : List ℕ) (byte : ℕ) (why : Unread) → TextsTellFirstParts
@@ -300,7 +283,7 @@ pub text_step : (s : Day) (h next : HeadReader) (order : List ℕ) (byte : ℕ) 
 text_step s h next order byte unread.Open tell is full (more, missing, text) same put =
     let bytes : List ℕ = h.line.items ++ byte ∷ [] in
     line_open s h next order (bytes ++ more) more more h.keys.items byte 6 is (up_to_break (codes "TEXT") (bytes ++ more) text_unbroken text.ended)
-    (ended_length (codes "TEXT") (bytes ++ more) 4 text.ended (omega arith)) (omega arith) refl missing missing
+    (grind (arith, length-append {A = ℕ})) (omega arith) refl missing missing
     (subst (IsHead s h.keys.items) (sym (append_assoc is.lines bytes more)) (text_head s h order (bytes ++ more) is text.ended)) same put
 text_step s h next order byte unread.Off tell is full off same put =
     line_bad s h order byte tell is (λ others other most. no_text_line s others h.line.items other byte (length h.keys.items) full off most)
@@ -338,9 +321,6 @@ order_refused s order sent fault told = record { stands = λ more. (told more).0
 is_longer : (s : Day) (order more : List ℕ) (keys : List Keys) (head text : List ℕ) → IsOrder s order keys head text → IsOrder s (order ++ more) keys head (text ++ more)
 is_longer s order more keys head text is = grind (arith, append_assoc {A = ℕ})
 
-first_left : (rest more after : List ℕ) (x : ℕ) → 0 < length rest → rest ++ more ≡ x ∷ after → rest ≡ x ∷ drop 1 rest
-first_left rest more after x some same = grind arith
-
 -- a byte that may not stand there is refused whatever follows
 fault_longer : (s : Day) (order more : List ℕ) (position : ℕ) → IsHeadFault s order position → position ≤ length order → IsHeadFault s (order ++ more) position
 fault_longer s order more position fault inside = record {
@@ -354,7 +334,7 @@ fault_longer s order more position fault inside = record {
   begins = fault.begins;
   stops = λ other after others behind next.
       let some : 0 < length fault.rest = omega (arith, fault.size, inside, ap length fault.joined, length-append fault.before fault.rest) in
-      fault.stops other (drop 1 fault.rest) others behind (first_left fault.rest more after other some next);
+      fault.stops other (drop 1 fault.rest) others behind (grind arith);
 }
 
 pub head_refused : (tell : TextsTellFirstParts) (s : Day) (order sent : List ℕ) (position : ℕ) → IsHeadFault s order (length order) → position ≡ length order → sent ≡ []
@@ -463,9 +443,7 @@ counted_on read order byte is = ap (λ n. n + 1) is ∙ sym (length-append order
 
 letters_few : (blank : Option ℕ) (text : List ℕ) → length (letters_from blank text) ≤ length text
 letters_few blank [] = omega arith
-letters_few blank (byte ∷ text) =
-    let first = ap length (letters_first blank byte text) in
-    omega (arith, letters_few blank text, first, at_most_one (letter_of_byte blank byte), length-append {A = ℕ})
+letters_few blank (byte ∷ text) = grind (arith, letters_first, letters_few blank text, at_most_one, length-append)
 
 pub letters_short : (s : Day) (keys : List Keys) (w : PartWriter) (order sent : List ℕ) (text : IsTextRead s keys w order sent) → length order + 1 < 2 ^ 63
     → length (text_letters s text.text) < 2 ^ 63

@@ -1,6 +1,6 @@
 -- The text of a part: its letters in groups and lines.
 use Rattle.std.proofs.Common.{append-nil, take-append-drop}
-use Rattle.kd_form.proofs.Prelude.{◌≡◌, ℕ, zero, suc, ◌+◌, ◌<◌, ◌≤◌, ◌⊎◌, inl, List, [], ◌∷◌, ◌++◌, length, take, drop, refl, sym, ap, subst, ◌∙◌, append_assoc, length-drop, arith, get_or, ◌≢◌, map, All, IsTrue, Some, None, codes, false, flat_map, cons_option, nat_tests, All-nil, All-cons, All-head, All-tail, All-append, All-push, All-take, All-drop, filter_map-append, All-get_or, is_text_byte, letters_text, line_of, IsWithout, pieces, groups_of, with_line, body_text, Part, heading_words, part_text, letter_of_byte, letters_from, false≢true, Day, IsHeading, BeginsHeading, IsFirstOf, HasHeading}
+use Rattle.kd_form.proofs.Prelude.{◌≡◌, ℕ, zero, suc, ◌+◌, ◌<◌, ◌≤◌, ◌⊎◌, inl, List, [], ◌∷◌, ◌++◌, length, take, drop, refl, sym, ap, subst, ◌∙◌, append_assoc, length-drop, arith, get_or, ◌≢◌, map, All, IsTrue, Some, None, codes, flat_map, cons_option, nat_tests, All-nil, All-cons, All-head, All-tail, All-append, All-push, All-take, All-drop, filter_map-append, All-get_or, is_text_byte, letters_text, line_of, IsWithout, pieces, groups_of, with_line, body_text, Part, heading_words, part_text, letter_of_byte, letters_from, false≢true, Day, IsHeading, BeginsHeading, IsFirstOf, HasHeading}
 use Rattle.kd_form.proofs.MadeParts.{pieces-next, pieces-none}
 use Rattle.kd_form.proofs.Headings.{plain_heading, words_begin, has_byte}
 use Rattle.kd_form.proofs.OneOrder.{Shorter, Longer, fronts}
@@ -119,14 +119,9 @@ part_has_heading s made is = record {
 
 -- a written part begins a heading line
 pub part_begins_heading : (s : Day) (made : Part) (more : List ℕ) → IsHeading s made.heading → BeginsHeading (part_text made ++ more)
-part_begins_heading s made more is =
-    let text : List ℕ = line_of (heading_words made.heading) in
-    subst BeginsHeading (sym (append_assoc text (10 ∷ body_text made.body) more)) (words_begin s made.heading (10 ∷ (body_text made.body ++ more)) is)
+part_begins_heading s made more is = grind (arith, append_assoc, words_begin)
 
 -- ---- no other heading line begins within a part
-
-no_figure : (byte : ℕ) → 48 ≤ byte → byte ≤ 57 → is_text_byte byte ≡ false
-no_figure byte low high = grind (arith, nat_tests)
 
 -- lines of a body don't begin a heading line: their last LF would be a byte of the mark, or the mark's digit a byte of theirs
 no_mark : (lines rest : List ℕ) → AreAllowed (lines ++ 10 ∷ []) → ¬ (BeginsHeading ((lines ++ 10 ∷ []) ++ rest))
@@ -138,7 +133,7 @@ no_mark lines rest allowed begins = elim (fronts (lines ++ 10 ∷ []) rest (code
       let figure : get_or (lines ++ 10 ∷ []) 5 0 ≡ begins.digit = ap (λ t. get_or t 5 0) longer in
       let stands : IsTrue (is_text_byte (get_or (lines ++ 10 ∷ []) 5 0)) =
       All-get_or (λ b. IsTrue (is_text_byte b)) (lines ++ 10 ∷ []) 5 0 (omega (arith, ap length longer)) allowed in
-      false≢true (sym (no_figure begins.digit begins.low begins.high) ∙ ap is_text_byte (sym figure) ∙ stands)
+      false≢true (sym (grind (arith, nat_tests)) ∙ ap is_text_byte (sym figure) ∙ stands)
 ]
 
 -- ---- where a part ends

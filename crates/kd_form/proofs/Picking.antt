@@ -1,7 +1,6 @@
 -- The first of all rising places is found by striking out: letter by letter, and wheel by wheel.
 use Rattle.kd_form.proofs.Prelude.{◌≡◌, ℕ, suc, ◌+◌, ◌<◌, ◌≤◌, inl, inr, List, [], ◌∷◌, ◌++◌, length, map, refl, sym, ap, subst, ◌∙◌, append_assoc, length-append, arith, slice_index, slice_get, Some, Contains, cases_lt, cases_eq, append-nil, map_push, length-map, AreRising, ComesFirst, ArePicked, IsInternalKey, HaveRunOut, NoneIsOnWheel, IsNextPlace}
 use Rattle.kd_tables.specs.Rings.{ring_of}
-use Rattle.kd_state.specs.Box.{numbered}
 
 -- rising places from this one on, of letters on the wheels from this one to the sixth
 abbrev pub Picks : List ℕ → ℕ → ℕ → List ℕ → Type 0
@@ -37,9 +36,7 @@ module _ (letters : List ℕ) (wheel start place : ℕ) (next : IsNextPlace lett
   first_step : (places others : List ℕ) → IsFirstPick letters (wheel + 1) (place + 1) places → Picks letters wheel start others
       → ComesFirst (place ∷ places) others
   first_step places [] first picks = omega arith
-  first_step places (other ∷ others) first picks =
-      let from = from_next other others picks in
-      elim (cases_eq place other) [ inl same ↦ inr (same, first.first others from.1) | inr apart ↦ inl (omega (arith, from.0, apart)) ]
+  first_step places (other ∷ others) first picks = grind (arith, from_next, cases_eq, first.first)
 
   none_step : HasNoPick letters (wheel + 1) (place + 1) → HasNoPick letters wheel start
   none_step none [] picks = omega arith
@@ -74,22 +71,12 @@ picking_more letters wheel start place done less picking next = record {
 
 -- ---- all rising places, said in one
 
-later_on : (letters : List ℕ) (wheel place : ℕ) (rest : List ℕ) → Contains (ring_of wheel) (slice_index letters place)
-    → ((i letter : ℕ) → slice_get (map (λ p. slice_index letters p) rest) i ≡ Some letter → Contains (ring_of (wheel + 1 + i)) letter)
-    → (i letter : ℕ) → slice_get (map (λ p. slice_index letters p) (place ∷ rest)) i ≡ Some letter → Contains (ring_of (wheel + i)) letter
-later_on letters wheel place rest on others i letter is = grind arith
-
 on_wheels : (letters : List ℕ) (wheel start : ℕ) (places : List ℕ) → Picks letters wheel start places
     → AreRising start (length letters) places × (length places + wheel ≡ 7)
     × ((i letter : ℕ) → slice_get (map (λ p. slice_index letters p) places) i ≡ Some letter → Contains (ring_of (wheel + i)) letter)
 on_wheels letters wheel start [] picks = (tt, omega arith, λ i letter is. absurd (cc))
 on_wheels letters wheel start (place ∷ places) (after, inside, on, more) =
-    let others = on_wheels letters (wheel + 1) (place + 1) places more in
-    ((after, inside, others.0), omega (arith, others.1), later_on letters wheel place places on others.2)
-
-each_picked : (letters places : List ℕ) → ((i letter : ℕ) → slice_get (map (λ p. slice_index letters p) places) i ≡ Some letter → Contains (ring_of (1 + i)) letter)
-    → (wheel letter : ℕ) → numbered (map (λ p. slice_index letters p) places) wheel ≡ Some letter → Contains (ring_of wheel) letter
-each_picked letters places each wheel letter is = grind arith
+    grind (arith, on_wheels letters (wheel + 1) (place + 1) places more)
 
 picks_of : (letters : List ℕ) (wheel start : ℕ) (places : List ℕ) → AreRising start (length letters) places → length places + wheel ≡ 7
     → ((i letter : ℕ) → slice_get (map (λ p. slice_index letters p) places) i ≡ Some letter → Contains (ring_of (wheel + i)) letter)
@@ -121,7 +108,7 @@ key_picked letters start done picking =
         taken = picking.taken;
         on_wheels = rw picking.taken (record {
           count = omega (arith, length-map picking.places (λ p. slice_index letters p), all.1);
-          each = each_picked letters picking.places all.2;
+          each = grind arith;
         });
       };
       first = λ others other are. rw (append-nil picking.places) at (best.first others (picks_from_picked letters others other are));

@@ -37,9 +37,7 @@ pub plain_keys : (k : Keys) → IsPlain (line_of (key_words k))
 plain_keys (Rotor k) =
     plain_more (codes "PART") _ (plain_text (codes "PART") refl) (plain_more (letters_text k.start) _ (plain_letters k.start)
     (plain_more (letters_text k.key) _ (plain_letters k.key) (plain_more (letters_text k.fillers) _ (plain_letters k.fillers) (plain_letters k.group))))
-plain_keys (Pin k) =
-    plain_more (codes "PART") ((k.chosen + 65) ∷ 32 ∷ letters_text k.external) (plain_text (codes "PART") refl)
-    (plain_more (letters_text (k.chosen ∷ [])) _ (plain_letters (k.chosen ∷ [])) (plain_letters k.external))
+plain_keys (Pin k) = grind (arith, plain_more, plain_text, plain_letters)
 
 pub without : (byte : ℕ) (text : List ℕ) → byte < 32 → IsPlain text → IsWithout byte text
 without byte text low plain = All-weaker (λ b. 32 ≤ b) (λ b. b ≢ byte) (λ b above same. omega (arith, above, same)) text plain

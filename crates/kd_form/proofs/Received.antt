@@ -10,16 +10,10 @@ first_parts_more (p ∷ before) form rest part after (next, is, cut) first = (ne
 
 parts_read_more : (s : Day) (number count : ℕ) (before : List (List ℕ)) (letters part one : List ℕ) → ArePartsRead s number count before letters
     → IsPartRead s (number + length before) count part one → ArePartsRead s number count (before ++ part ∷ []) (letters ++ one)
-parts_read_more s number count [] letters part one none read =
-    (one, [], subst (λ n. IsPartRead s n count part one) (omega arith) read, refl, ap (λ l. l ++ one) none ∙ sym (append-nil one))
+parts_read_more s number count [] letters part one none read = grind (arith, append-nil)
 parts_read_more s number count (p ∷ before) letters part one (first, more, is, others, joined) read =
     let later = parts_read_more s (number + 1) count before more part one others (subst (λ n. IsPartRead s n count part one) (omega arith) read) in
     (first, more ++ one, is, later, ap (λ l. l ++ one) joined ∙ append_assoc first more one)
-
--- the parts so far are of as many as the next one says
-of_so_many : (s : Day) (before : List (List ℕ)) (count parts : ℕ) (letters : List ℕ) → IsExpected (count_due before count) parts
-    → ArePartsRead s 1 count before letters → ArePartsRead s 1 parts before letters
-of_so_many s before count parts letters due read = grind arith
 
 pub given_more : (s : Day) (letters more : List ℕ) → given_letters s (letters ++ more) ≡ given_letters s letters ++ given_letters s more
 given_more s letters more = map-append _ letters more
@@ -43,7 +37,7 @@ pub read_on : (s : Day) (form : List ℕ) (t : Turn s form) (parts : ℕ) (one :
 read_on s form t parts one is = record {
   cut = first_parts_more t.before form t.rest t.part t.after t.read.cut t.first;
   read =
-      parts_read_more s 1 parts t.before t.letters t.part one (of_so_many s t.before t.count parts t.letters is.due t.read.read)
+      parts_read_more s 1 parts t.before t.letters t.part one (grind arith)
       (subst (λ n. IsPartRead s n parts t.part one) (omega arith) is.read);
 }
 

@@ -101,9 +101,7 @@ alike_shorter part line body cut rest more beyond byte first broken unbroken nex
           is = longer ∙ append_assoc line (10 ∷ []) other;
           bad = λ place at. bad_in_less other (byte ∷ beyond) place (few_allowed (byte ∷ beyond) more few begins) (rw gone at at);
         }
-        | Longer x beyond' longer gone ↦ absurd (
-            let inside : length cut - 1 < length line = omega (arith, some, ap length longer, length-append line (10 ∷ []), length-append cut (x ∷ beyond')) in
-            no_break line body (length cut - 1) unbroken inside (ap (λ l. get_or l (length cut - 1) 0) (sym broken) ∙ last))
+        | Longer x beyond' longer gone ↦ grind (arith, longer, length-append, no_break)
       ]
 ]
 
@@ -135,8 +133,7 @@ last_stays s form more text line body fault t tell some last broken early is =
 
 some_more : (s : Day) (form more text : List ℕ) (fault : FormFault) → TextsTellFirstParts → more ≢ [] → IsRefusedForGood s form text fault
     → IsRefusedForGood s (form ++ more) text fault
-some_more s form more text fault tell some (NoHeading none empty is) =
-    NoHeading (λ other begins. none (more ++ other) (rw (append_assoc form more other) at begins)) empty is
+some_more s form more text fault tell some (NoHeading none empty is) = grind (arith, NoHeading, append_assoc)
 some_more s form more text fault tell some (InWhole t left refused is) =
     let u : Turn s (form ++ more) = turn_with s form more t.part (t.after ++ more) t some (first_grows t.rest t.part t.after more t.first left) in
     InWhole u (λ none. left (nil_from_length t.after (omega (arith, ap length none, length-append t.after more)))) (rw (same_start form t.rest more) refused) is

@@ -66,10 +66,6 @@ pub room_less : (m : Message) (old new : List ℕ → List ℕ → Type 0) (more
     → FeedsAll m old new more sink (Ok tt) → HasRoom m new less
 room_less m old new more sink room less few has fed = grind (arith, length-append {A = ℕ})
 
-fed_longer : (m : Message) (new : List ℕ → List ℕ → Type 0) (bytes more text : List ℕ) (stop : Stop) → FedTo m new bytes text (Err stop)
-    → FedTo m new (bytes ++ more) text (Err stop)
-fed_longer m new bytes more text stop is = grind (arith, starts_longer, append_assoc {A = ℕ})
-
 -- the same of bytes that are the same
 pub fed_whole : (m : Message) (old new : List ℕ → List ℕ → Type 0) (front whole : List ℕ) (sink : Port) (answer : Result (Unit {0}) Stop) → front ≡ whole
     → FeedsAll m old new front sink answer → FeedsAll m old new whole sink answer
@@ -84,7 +80,7 @@ fed_up_to m old new front more sink stop fed bytes text held =
       made = one.made;
       written = one.written;
       fed = subst (λ b. FedTo m new b (text ++ one.made) (Err stop)) (append_assoc bytes front more)
-          (fed_longer m new (bytes ++ front) more (text ++ one.made) stop one.fed);
+          (grind (arith, starts_longer, append_assoc {A = ℕ}));
     }
 
 -- ---- a read

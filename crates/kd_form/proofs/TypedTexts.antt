@@ -1,6 +1,6 @@
 -- What a piece of a text lights up, and what was typed so far.
 use Rattle.std.proofs.Common.{append-nil, take-append-drop, length-take-le}
-use Rattle.kd_form.proofs.Prelude.{◌≡◌, ℕ, ◌+◌, ◌≤◌, ◌<◌, Bool, List, [], ◌∷◌, ◌++◌, All, IsTrue, IsFalse, Option, option_to_list, Ok, Err, length, take, drop, get_or, suc, None, refl, sym, ap, subst, ◌∙◌, append_assoc, length-append, drop-cons, arith, map-append, take_all, All-nil, All-cons, All-head, All-tail, All-append, filter_map-append, nat_tests, starts_with_of_append, Appends, is_text_byte, letters_text, TakesFront, Parts, CipherInTurn, EngineIsTheMachine, EngineKey, OfWheels, OfDrum, cipher, key_left, physical_key, physical_cipher, BadByte, letter_of_byte, IsBadAt, IsAllowedFront, IsRefused, Closes, Held, FeedsAll, ClosesAt, typed_letters, cipher_text, texts, IsTextFault, Lights, IsAllowedTo, IsTypedTo}
+use Rattle.kd_form.proofs.Prelude.{◌≡◌, ℕ, ◌+◌, ◌≤◌, ◌<◌, Bool, List, [], ◌∷◌, ◌++◌, All, IsTrue, IsFalse, Option, option_to_list, Ok, Err, length, take, drop, get_or, suc, None, refl, sym, ap, subst, ◌∙◌, append_assoc, length-append, drop-cons, arith, map-append, take_all, All-nil, All-cons, All-head, All-tail, All-append, filter_map-append, nat_tests, starts_with_of_append, Appends, is_text_byte, letters_text, TakesFront, Parts, CipherInTurn, EngineIsTheMachine, EngineKey, OfWheels, OfDrum, cipher, physical_key, physical_cipher, BadByte, letter_of_byte, IsBadAt, IsAllowedFront, IsRefused, Closes, Held, FeedsAll, ClosesAt, typed_letters, cipher_text, texts, IsTextFault, Lights, IsAllowedTo, IsTypedTo}
 use Rattle.kd_form.specs.declared.stream.stop.Stop.TheVariants as stops
 use Rattle.kd_form.specs.declared.typing.Typist.{Typist}
 use Rattle.kd_form.proofs.OneOrder.{no_bad_byte}
@@ -33,18 +33,6 @@ cipher_text-nil : (key : EngineKey) → cipher_text (cipher key) [] ≡ []
 cipher_text-nil (OfWheels key) = refl
 cipher_text-nil (OfDrum key) = refl
 
--- what lights up behind a piece lights up on the key that the piece leaves
-Lights-behind : CipherInTurn → (key left : EngineKey) (bytes lamps more : List ℕ) → Lights key left bytes lamps
-    → cipher_text (cipher key) (bytes ++ more) ≡ lamps ++ cipher_text (cipher left) more
-Lights-behind in_turn key left bytes lamps more lights =
-    let head = typed_letters bytes in
-    let tail = typed_letters more in
-    ap (λ l. letters_text (cipher key l)) (typed-append bytes more)
-    ∙ ap letters_text (in_turn key head tail)
-    ∙ map-append (λ letter. letter + 65) (cipher key head) (cipher (key_left key (length head)) tail)
-    ∙ ap (λ l. l ++ cipher_text (cipher (key_left key (length head))) more) (sym lights.cipher)
-    ∙ ap (λ k. lamps ++ cipher_text (cipher k) more) (sym lights.after)
-
 -- ---- what was typed so far
 
 -- the first bad byte, behind a front
@@ -54,10 +42,6 @@ bad_there front rest byte allowed bad = record { before = front; byte = byte; re
 
 whole_front : (text : List ℕ) → AreAllowed text → IsAllowedFront text text
 whole_front text allowed = grind (arith, append-nil {A = ℕ})
-
-front_there : (front rest : List ℕ) (byte : ℕ) → AreAllowed front → IsFalse (is_text_byte byte)
-    → IsAllowedFront (front ++ byte ∷ rest) front
-front_there front rest byte allowed bad = grind arith
 
 -- the bytes behind a front and the byte there
 cut_at : (bytes : List ℕ) (n : ℕ) → n < length bytes → bytes ≡ take n bytes ++ get_or bytes n 0 ∷ drop (suc n) bytes
@@ -99,7 +83,7 @@ module _ (m : Parts) where
       record {
         stands = stands;
         refused = stands;
-        written = λ more. (front, rw (longer more) (front_there front (rest ++ more) byte typed.allowed bad), text_is t front text typed);
+        written = λ more. (front, rw (longer more) (grind arith), text_is t front text typed);
       }
 
   -- ---- a piece more
@@ -111,10 +95,7 @@ module _ (m : Parts) where
     typed_on bytes text typed = record {
       counted = omega (arith, counted, typed.counted, length-append bytes (take n more), length-take-le n more front.within);
       allowed = All-append (λ b. IsTrue (is_text_byte b)) bytes (take n more) typed.allowed front.allowed;
-      behind = λ others. ap (cipher_text (physical_cipher m)) (append_assoc bytes (take n more) others)
-          ∙ typed.behind (take n more ++ others)
-          ∙ ap (λ l. text ++ l) (Lights-behind in_turn old.engine new.engine (take n more) lamps others lights)
-          ∙ sym (append_assoc text lamps (cipher_text (cipher new.engine) others));
+      behind = grind (arith, append_assoc, typed.behind, in_turn, typed-append, map-append);
     }
 
     pub read_whole : (took wrote : Option (List ℕ)) (d f : Bool) → Appends took wrote lamps → length more ≤ n

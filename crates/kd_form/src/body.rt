@@ -9,6 +9,7 @@ use kd_state::push_letter;
 use kd_tables::Letter;
 
 /// Appends the letters in groups of five, ten groups a line.
+#[tactic(auto, using(crate::proofs::MadeParts::body_end, crate::proofs::MadeParts::nothing_left))]
 pub(crate) fn push_body<const N: usize>(text: &mut ArrayString<N>, letters: &[Letter])
     requires { array_string_len text.old + 2 * length letters.now ≤ N }
     ensures bytes { text.new.bytes ≡ text.old.bytes ++ body_text letters.now }

@@ -32,6 +32,7 @@ pub(crate) struct Indicator {
 }
 
 /// Appends the line of the heading.
+#[tactic(auto, using(crate::proofs::MadeParts::heading_line))]
 pub(crate) fn push_heading<const N: usize>(text: &mut ArrayString<N>, heading: &Heading)
     requires { array_string_len text.old + 50 ≤ N }
     ensures bytes { text.new.bytes ≡ text.old.bytes ++ with_line (heading_words heading.now) [] }

@@ -37,6 +37,7 @@ fn read_fraction(word: &[u8]) -> Option<(u8, u8)>
 }
 
 /// How many letters the word says, if a body may have so many.
+#[tactic(auto, using(crate::proofs::Headings::same_count))]
 fn read_count(day: &SheetDay, word: &[u8]) -> Option<u16>
     ensures { MatchOption result
         ((count : ℕ) → IsLetterCount day.now count → decimal count ≢ word.now)
@@ -50,6 +51,7 @@ fn read_count(day: &SheetDay, word: &[u8]) -> Option<u16>
 }
 
 /// The letters of the word, at most four.
+#[tactic(auto, using(crate::proofs::Headings::capital_at))]
 fn read_letters(word: &[u8]) -> Option<ArrayVec<Letter, 4>>
     ensures { MatchOption result
         ((letters : List ℕ) → AreFewLetters letters → letters_text letters ≢ word.now)
@@ -142,6 +144,7 @@ fn is_part(word: &[u8]) -> bool
 }
 
 /// The heading of the line, if a part of the day can have it.
+#[tactic(auto, using(crate::proofs::Headings::too_many_words))]
 fn heading_of_line(day: &SheetDay, line: &[u8]) -> Option<Heading>
     ensures { MatchOption result
         ((h : _) → IsHeading day.now h → line_of (heading_words h) ≢ line.now)

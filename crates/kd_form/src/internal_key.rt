@@ -9,6 +9,7 @@ use kd_tables::{Letter, place_on_wheel};
 
 /// The letters for the six wheels, taken in order from these: one that isn't on the wheel in turn is struck out. None where
 /// the letters run out.
+#[tactic(auto, using(crate::proofs::Picking::picking_none, crate::proofs::Picking::picked_count, std::proofs::lemmas::List::get_or_read, crate::proofs::Picking::picking_more))]
 pub(crate) fn internal_key(letters: &[Letter]) -> Option<ArrayVec<Letter, 6>>
     ensures { MatchOption result
         (HaveRunOut letters.now)

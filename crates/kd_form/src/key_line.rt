@@ -15,6 +15,7 @@ use kd_state::{PerSlot, SheetDay};
 use kd_tables::Letter;
 
 /// The keys in the line, with its end. They come in a tuple, as the prover can't carry them alone.
+#[tactic(auto, using(crate::proofs::Lines::breaks_alike, crate::proofs::Lines::as_key_line, crate::proofs::Lines::as_form_line))]
 pub(crate) fn read_keys(day: &SheetDay, bytes: &[u8]) -> Result<(Keys,), Unread>
     ensures { MatchResult result
         (λ read. AreKeys day.now read.0 × IsKeyLine read.0 bytes.now)
@@ -40,6 +41,7 @@ fn key_pattern(day: &SheetDay) -> &'static [u8]
 }
 
 /// No line of keys is longer than 23 bytes, with its end.
+#[tactic(auto, using(crate::proofs::OrderSteps::short_line))]
 pub(crate) fn key_lines_are_short(day: &SheetDay)
     ensures { (line : List ℕ) → IsAnyKeyLine day.now line → length line ≤ 23 }
 {

@@ -22,6 +22,7 @@ pub(crate) enum Unread {
 }
 
 /// The letters of the line of that pattern, with its end.
+#[tactic(auto, using(crate::proofs::Lines::letter_room, crate::proofs::Lines::line_open))]
 pub(crate) fn read_pattern(pattern: &[u8], bytes: &[u8]) -> Result<ArrayVec<Letter, MOST>, Unread>
     requires { blanks pattern.now ≤ 13 }
     ensures { MatchResult result
@@ -63,6 +64,7 @@ fn take_letter(letters: &mut ArrayVec<Letter, MOST>, mark: u8, byte: u8) -> bool
 }
 
 /// Refuses what isn't the end of a line: LF, or CR and LF.
+#[tactic(auto, using(crate::proofs::Lines::end_open, crate::proofs::Lines::end_off))]
 fn read_end(bytes: &[u8]) -> Result<(), Unread>
     ensures { MatchResult result
         (λ _. IsEnded [] bytes.now)

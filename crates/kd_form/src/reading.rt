@@ -19,6 +19,7 @@ use kd_state::SheetDay;
 use kd_tables::Letter;
 
 /// The letters of the text of a rotor machine's part.
+#[tactic(auto, using(crate::proofs::MadeParts::key_is_window))]
 fn read_rotor_letters(
     day: &SheetDay,
     part: u8,
@@ -67,6 +68,7 @@ fn keys_in(letters: &[Letter]) -> PinKeys
 }
 
 /// The letters of the text of a part on the Converter M-209.
+#[tactic(auto, using(crate::proofs::MadeParts::list_told))]
 fn read_pin_letters(
     day: &SheetDay,
     part: u8,

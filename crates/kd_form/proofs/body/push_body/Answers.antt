@@ -1,5 +1,5 @@
 use Rattle.kd_form.proofs.Prelude.{arith}
-use Rattle.kd_form.proofs.MadeParts.{body_turn, body_end, some_left, nothing_left}
+use Rattle.kd_form.proofs.MadeParts.{body_turn, some_left}
 use Rattle.kd_form.proofs.body.push_body.Goals as goal
 
 pub loop-rest-preserved : goal.loop-rest-preserved
@@ -11,7 +11,3 @@ loop-rest-preserved g c = record {
       let some = some_left _ _ c.is_empty.ensures c.loop-rest-test.true in
       omega (arith, some);
 }
-
-pub returns-clause-bytes : goal.returns-clause-bytes
-returns-clause-bytes g c =
-    body_end _ c.loop-rest.text.bytes c.loop-rest.rest.now (nothing_left _ _ c.is_empty.ensures c.loop-rest-test.false) c.loop-rest.invariant.bytes

@@ -1,11 +1,6 @@
 use Rattle.kd_form.proofs.Prelude.{ap, map}
-use Rattle.kd_form.proofs.Headings.{too_many_words, heading_told}
+use Rattle.kd_form.proofs.Headings.{heading_told}
 use Rattle.kd_form.proofs.heading_line.heading_of_line.Goals as goal
-
-pub returns-in_err-words : goal.returns-in_err-words
-returns-in_err-words c =
-    rw c.from_residual.ensures (λ h is. too_many_words _ _ h _ c.numbers_and_letters_are_words.ensures.numbers c.lines_tell_words.ensures.split
-    c.slots_of-slots.ensures is c.in_err-words.ensures)
 
 pub returns : goal.returns
 returns c =

@@ -1,22 +1,9 @@
-use Rattle.kd_form.proofs.Prelude.{rules, [], ◌∷◌, ◌++◌, ◌≡◌, ◌∙◌, ap, arith, get_or_read}
-use Rattle.kd_form.proofs.Picking.{picking_none, picking_more, key_picked, run_out, picked_count}
+use Rattle.kd_form.proofs.Prelude.{◌≡◌, arith}
+use Rattle.kd_form.proofs.Picking.{key_picked, run_out}
 use Rattle.kd_form.proofs.internal_key.internal_key.Goals as goal
-
-pub loop-wheel-init : goal.loop-wheel-init
-loop-wheel-init c = rw c.new-key.ensures (picking_none _)
 
 pub returns-in_default : goal.returns-in_default
 returns-in_default c = run_out _ _ _ _ (omega arith) c.loop-wheel.invariant c.in_default.ensures
-
-pub push-requires : goal.push-requires
-push-requires c =
-    let counted = picked_count _ _ _ _ c.loop-wheel.invariant in
-    search rules
-
-pub loop-wheel-preserved : goal.loop-wheel-preserved
-loop-wheel-preserved c =
-    let put = c.push.ensures.items ∙ ap (λ l. c.loop-wheel.key.items ++ l ∷ []) (get_or_read _ _ _ c.in-Some.ensures.inside c.index-letters-place.is 0) in
-    rw put (picking_more _ _ _ _ _ (omega arith) c.loop-wheel.invariant c.in-Some.ensures)
 
 pub returns : goal.returns
 returns c =

@@ -1,12 +1,8 @@
 use Rattle.kd_form.proofs.Prelude.{◌∙◌}
-use Rattle.kd_form.proofs.Lines.{keys_read, breaks_alike, as_key_line, as_form_line}
+use Rattle.kd_form.proofs.Lines.{keys_read}
 use Rattle.kd_form.proofs.key_line.read_keys.Goals as goal
 
 pub returns-in-Ok : goal.returns-in-Ok
 returns-in-Ok c =
     keys_read _ _ c.in-Ok.letters.items c.keys_of.result (rw c.key_pattern.ensures.pattern at c.in-Ok.ensures) (c.keys_of.ensures.letters ∙ c.as_slice.ensures.value)
     c.keys_of.ensures.keys
-
-pub returns-in-Err : goal.returns-in-Err
-returns-in-Err c =
-    breaks_alike _ c.in-Err.why (as_key_line c.args.day.now) (as_form_line c.args.day.now) (rw c.key_pattern.ensures.pattern at c.in-Err.ensures)

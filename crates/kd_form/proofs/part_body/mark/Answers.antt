@@ -1,3 +1,4 @@
+use Rattle.std.proofs.Common.{arith}
 use Rattle.kd_form.proofs.Prelude.{◌≡◌, ◌≢◌, ℕ, List, Bool, true, false, Option, Some, None, not, is_some, Begins, IsNextLine}
 use Rattle.kd_form.proofs.FormSteps.{begins_no_more}
 use Rattle.kd_form.proofs.part_body.mark.Goals as goal
@@ -9,5 +10,4 @@ stays (Some count) true line next byte told yes' other begins is = cc
 stays (Some count) false line next byte told yes' other begins is = cc
 
 pub returns-then-byte-ne10 : goal.returns-then-byte-ne10
-returns-then-byte-ne10 c = λ line next begins is.
-    stays c.args.begun.now c.is_none.result line next c.args.byte c.is_none.ensures c.if-is_none.true c.if-byte-ne10.true begins is
+returns-then-byte-ne10 c = grind (arith, stays)

@@ -1,12 +1,6 @@
 use Rattle.kd_form.proofs.Prelude.{◌∙◌, sym, ap, refl, arith, length, take_rest, fits}
-use Rattle.kd_form.proofs.Lines.{filling_more, letter_room, line_open, line_off, line_read, line_broken, read_inside, read_at}
+use Rattle.kd_form.proofs.Lines.{filling_more, line_off, line_read, line_broken, read_inside, read_at}
 use Rattle.kd_form.proofs.pattern_line.read_pattern.Goals as goal
-
-pub take_letter-requires : goal.take_letter-requires
-take_letter-requires c = letter_room _ _ _ _ c.loop-place.invariant c.loop-place-test.true c.requires
-
-pub returns-in_default : goal.returns-in_default
-returns-in_default c = line_open _ _ _ _ c.loop-place.invariant c.in_default.ensures.lookup.0
 
 pub returns-then-not-take_letter : goal.returns-then-not-take_letter
 returns-then-not-take_letter c =
@@ -23,5 +17,4 @@ pub returns-in-Ok : goal.returns-in-Ok
 returns-in-Ok c = line_read _ _ _ _ _ c.loop-place.invariant (omega arith) (take_rest c.args.bytes.now (length c.args.pattern.now)) c.in-Ok.ensures
 
 pub returns-in-Err : goal.returns-in-Err
-returns-in-Err c =
-    line_broken _ _ _ _ _ c.loop-place.invariant (omega arith) (take_rest c.args.bytes.now (length c.args.pattern.now)) c.in-Err.why c.in-Err.ensures
+returns-in-Err c = grind (arith, line_broken, take_rest)

@@ -1,10 +1,6 @@
-use Rattle.kd_form.proofs.Prelude.{◌∙◌, refl, sym, ap, subst, false≢true, sheet_key, IsWindow, PinKeys, IsInternalKey, HaveRunOut, cipher_from, enciphered_choice, InIndicators, InChoice, text_in}
+use Rattle.kd_form.proofs.Prelude.{◌∙◌, ap, subst, sheet_key, IsWindow, PinKeys, IsInternalKey, cipher_from, enciphered_choice, text_in}
 use Rattle.kd_form.proofs.MadeParts.{list_told}
 use Rattle.kd_form.proofs.reading.read_pin_letters.Goals as goal
-
-pub returns-then-not-has_indicators_around : goal.returns-then-not-has_indicators_around
-returns-then-not-has_indicators_around c =
-    InIndicators (λ around. false≢true (sym c.if-not-has_indicators_around.true ∙ c.has_indicators_around.ensures.1 around)) refl
 
 pub returns-in-Some : goal.returns-in-Some
 returns-in-Some c =
@@ -18,12 +14,3 @@ returns-in-Some c =
       first = subst (λ (k : PinKeys). IsInternalKey (enciphered_choice day k) c.in-Some.internal.items) keys c.in-Some.ensures;
       is = c.enciphered.ensures.text ∙ ap (λ window. cipher_from day window (text_in c.args.letters.now)) c.as_slice.ensures.value;
     }
-
-pub returns-in-None : goal.returns-in-None
-returns-in-None c =
-    let day = c.args.day.now in
-    let keys = c.keys_in-keys.ensures in
-    InChoice (c.has_indicators_around.ensures.0 c.if-not-has_indicators_around.false)
-    (subst (λ (k : PinKeys). IsWindow (sheet_key day) k.external) keys (c.is_window.ensures.0 c.if-not-is_window.false))
-    (c.are_the_same.ensures.0 c.if-not-are_the_same.false ∙ list_told _ _ _ c.list.ensures c.unwrap-due.ensures)
-    (subst (λ (k : PinKeys). HaveRunOut (enciphered_choice day k)) keys c.in-None.ensures) refl

@@ -1,4 +1,4 @@
-use Rattle.std.proofs.Common.{append-nil}
+use Rattle.std.proofs.Common.{append-nil, arith}
 use Rattle.kd_form.specs.declared.order_reader.Stage.TheVariants as stages
 use Rattle.kd_form.proofs.Prelude.{[], ◌∷◌, ◌++◌, ◌+◌, refl, sym, ap, ◌∙◌, letter_of_byte, text_letters}
 use Rattle.kd_form.proofs.OrderSteps.{in_head, in_text, head_held, head_refused, text_held, byte_refused, counted_on, letters_short, text_begins, text_more}
@@ -17,10 +17,7 @@ returns-then-not-is_text_byte c bytes text held =
     (sym c.is_text_byte.ensures ∙ c.if-not-is_text_byte.true) (ap (λ n. n + 1) here.0)
 
 pub take-requires-in-Some-clause-keys : goal.take-requires-in-Some-clause-keys
-take-requires-in-Some-clause-keys c =
-    let room = c.requires.room in
-    let here = in_text c.args.day.now c.args.self.now room.bytes room.text room.held.is c.in-Text.is in
-    rw c.keys-in-Some.ensures (record { of_the_day = here.1.is_order.is_head.of_the_day; suited = here.1.suited; few = here.1.is_order.is_head.few })
+take-requires-in-Some-clause-keys c = grind (arith, in_text)
 
 pub take-requires-in-Some-clause-taken : goal.take-requires-in-Some-clause-taken
 take-requires-in-Some-clause-taken c =
@@ -39,10 +36,7 @@ returns-in-Open c bytes text held =
     (counted_on c.args.self.now.read bytes c.args.byte here.0) (c.in-Open.ensures bytes here.1) (cc (here.2, c.requires.empty)) here.3
 
 pub returns-in-Bad : goal.returns-in-Bad
-returns-in-Bad c bytes text held =
-    let here = in_head c.args.day.now c.args.self.now bytes text held.is c.in-Head.is in
-    head_refused c.texts_tell_first_parts.ensures c.args.day.now (bytes ++ c.args.byte ∷ []) text _ (c.in-Bad.ensures bytes here.1)
-    (counted_on c.args.self.now.read bytes c.args.byte here.0) here.2
+returns-in-Bad c bytes text held = grind (arith, in_head, head_refused, c.in-Bad.ensures, counted_on)
 
 pub returns-in-Text-take : goal.returns-in-Text-take
 returns-in-Text-take c bytes text held =

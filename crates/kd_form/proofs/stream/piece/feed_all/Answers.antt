@@ -1,22 +1,15 @@
 use Rattle.std.proofs.Common.{take-append-drop}
-use Rattle.kd_form.proofs.Prelude.{[], ◌≡◌, ℕ, ◌<◌, ◌++◌, ◌∷◌, List, suc, length, take, drop, get_or, sym, ap, ◌∙◌, refl, append_assoc, arith, drop-cons, take_more, take_all}
-use Rattle.kd_form.proofs.Streaming.{fed_none, fed_next, fed_whole, fed_up_to, room_less, room_for, still_well, well_now}
+use Rattle.kd_form.proofs.Prelude.{[], ◌≡◌, ℕ, ◌<◌, ◌++◌, ◌∷◌, List, suc, length, take, drop, get_or, sym, ◌∙◌, append_assoc, arith, drop-cons, take_more}
+use Rattle.kd_form.proofs.Streaming.{fed_next, fed_whole, fed_up_to, room_less, well_now}
 use Rattle.kd_form.proofs.stream.piece.feed_all.Goals as goal
 
 up_to : (bytes : List ℕ) (place : ℕ) → place < length bytes → take place bytes ++ get_or bytes place 0 ∷ [] ++ drop (suc place) bytes ≡ bytes
-up_to bytes place inside = append_assoc (take place bytes) (get_or bytes place 0 ∷ []) (drop (suc place) bytes)
-    ∙ ap (λ l. take place bytes ++ l) (sym (drop-cons bytes place 0 inside)) ∙ take-append-drop place bytes
-
-pub loop-byte-init : goal.loop-byte-init
-loop-byte-init g c = record { room = room_for _ _ _ _ (omega arith) c.requires; fed = fed_none _ _ _ _; empty = c.new-made.ensures; well = refl }
+up_to bytes place inside = grind (arith, append_assoc, drop-cons, take-append-drop)
 
 pub returns-in-Err-clause-fed : goal.returns-in-Err-clause-fed
 returns-in-Err-clause-fed g c =
     fed_whole _ _ _ _ _ _ _ (up_to c.args.bytes.now c.loop-byte.byte-index c.loop-byte-test.true)
     (fed_up_to _ _ _ _ _ _ _ (fed_next _ _ _ _ _ _ _ _ _ _ _ _ _ c.loop-byte.invariant.fed c.in-Err.ensures.fed))
-
-pub returns-in-Err-clause-failed : goal.returns-in-Err-clause-failed
-returns-in-Err-clause-failed g c = rw c.loop-byte.invariant.well at c.in-Err.ensures.failed
 
 pub loop-byte-preserved : goal.loop-byte-preserved
 loop-byte-preserved g c = record {
@@ -26,13 +19,3 @@ loop-byte-preserved g c = record {
   empty = c.in-Ok.ensures.emptied;
   well = well_now _ _ c.in-Ok.ensures.failed ∙ c.loop-byte.invariant.well;
 }
-
-pub returns-clause-fed : goal.returns-clause-fed
-returns-clause-fed g c =
-    fed_whole _ _ _ _ _ _ _ (take_all c.loop-byte.byte-index c.args.bytes.now c.loop-byte-test.false) c.loop-byte.invariant.fed
-
-pub returns-clause-failed : goal.returns-clause-failed
-returns-clause-failed g c = still_well _ _ c.loop-byte.invariant.well
-
-pub feed_one-requires-clause-room : goal.feed_one-requires-clause-room
-feed_one-requires-clause-room g c = room_for _ _ _ _ (omega (arith, c.loop-byte-test.true)) c.loop-byte.invariant.room

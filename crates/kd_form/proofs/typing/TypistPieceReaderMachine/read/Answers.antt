@@ -1,5 +1,5 @@
 use Rattle.kd_form.proofs.Prelude.{refl, subst, Appends, TakesFront}
-use Rattle.kd_form.proofs.TypedTexts.{read_whole, read_refused, read_in_part}
+use Rattle.kd_form.proofs.TypedTexts.{read_refused, read_in_part}
 use Rattle.kd_form.proofs.typing.TypistPieceReaderMachine.read.Goals as goal
 
 pub returns-in-Err-clause-fed : goal.returns-in-Err-clause-fed
@@ -13,9 +13,3 @@ returns-then-front-bytes-clause-fed g c =
     let piece = c.type_piece-front.ensures in
     read_refused _ c.pieces_are_enciphered_in_turn.ensures.cipher _ _ _ _ _ piece.front piece.lights refl _ _ _ _
     (subst (Appends _ _) c.deref.ensures.0 c.in-Ok.ensures.text.whole) c.if-front-bytes.true
-
-pub returns-clause-fed : goal.returns-clause-fed
-returns-clause-fed g c =
-    let piece = c.type_piece-front.ensures in
-    read_whole _ c.pieces_are_enciphered_in_turn.ensures.cipher _ _ _ _ _ piece.front piece.lights refl _ _ _ _
-    (subst (Appends _ _) c.deref.ensures.0 c.in-Ok.ensures.text.whole) c.if-front-bytes.false

@@ -1,4 +1,4 @@
-use Rattle.kd_form.proofs.Prelude.{rules, ℕ, ◌++◌, ◌∷◌, [], take, get_or, option_to_list, IsTrue, All, sym, ap, subst, drop, length, ◌≡◌, ◌∙◌, arith, take_more, take_all, All-push, take-append_seam, array_vec_len, is_text_byte, typed_letters}
+use Rattle.kd_form.proofs.Prelude.{ℕ, ◌++◌, ◌∷◌, [], take, get_or, option_to_list, IsTrue, All, sym, ap, subst, length, ◌∙◌, arith, take_more, take_all, All-push, take-append_seam, is_text_byte, typed_letters}
 use Rattle.kd_form.proofs.TypedTexts.{typed-append, one_letter, written_typed}
 use Rattle.kd_form.proofs.typing.piece.letters_among.Goals as goal
 
@@ -26,8 +26,4 @@ returns-then-read_letters-clause-front c =
     }
 
 pub returns-then-read_letters-clause-letters : goal.returns-then-read_letters-clause-letters
-returns-then-read_letters-clause-letters c =
-    let typed = written_typed c.read_letters.new.letters c.if-read_letters.ensures.within in
-    let size : array_vec_len c.args.letters.now ≡ length c.read_letters.new.letters = search rules in
-    ap (λ n. take n (c.read_letters.new.letters ++ drop (length c.read_letters.new.letters) c.args.letters.now.items)) size ∙ take-append_seam c.read_letters.new.letters _
-    ∙ sym typed.1 ∙ ap typed_letters (c.if-read_letters.ensures.read ∙ sym (take_all (length c.args.bytes.now) c.args.bytes.now (omega arith)))
+returns-then-read_letters-clause-letters c = grind (arith, written_typed, take-append_seam, take_all)

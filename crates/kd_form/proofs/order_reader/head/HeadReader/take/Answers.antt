@@ -1,15 +1,12 @@
-use Rattle.kd_form.proofs.Prelude.{refl, sym, ap, subst, ◌∙◌, get_or, codes, false≢true, eqb-true, IsEnded, IsKeyLine, IsAnyKeyLine, IsPatternLine, BreaksOff, HeadIsRead}
+use Rattle.std.proofs.Common.{arith}
+use Rattle.kd_form.proofs.Prelude.{refl, sym, ap, subst, ◌∙◌, get_or, codes, false≢true, eqb-true, IsEnded, IsAnyKeyLine, IsPatternLine, BreaksOff, HeadIsRead}
 use Rattle.kd_form.proofs.Lines.{room_left}
 use Rattle.kd_form.proofs.OrderSteps.{keys_taken, text_taken, key_step, text_step}
 use Rattle.kd_form.proofs.order_reader.head.HeadReader.take.Goals as goal
 use Rattle.kd_form.proofs.order_reader.head.HeadReader.take.Goals.{else-is_key_line-via-then-is_key_line+else-not-is_full, else-is_key_line-via-else-is_key_line}
 
 pub returns-in-Ok : goal.returns-in-Ok
-returns-in-Ok c order is =
-    let shown = c.as_slice-line.ensures.value ∙ c.push.ensures.items in
-    keys_taken c.args.day.now c.args.self.now _ order c.args.byte c.in-Ok.field-0.0 is
-    (room_left c.is_full.result _ c.is_full.ensures.value c.if-not-is_full.true is.few) c.in-Ok.ensures.0
-    (subst (IsKeyLine c.in-Ok.field-0.0) shown c.in-Ok.ensures.1) c.push-in-Ok.ensures.items c.clear.ensures
+returns-in-Ok c order is = grind (arith, keys_taken, room_left)
 
 pub returns-in-Err : goal.returns-in-Err
 returns-in-Err c order is =

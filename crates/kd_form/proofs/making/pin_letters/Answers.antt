@@ -1,6 +1,0 @@
-use Rattle.kd_form.proofs.MadeParts.{has_internal, not_spent}
-use Rattle.kd_form.proofs.making.pin_letters.Goals as goal
-
-pub unwrap-internal-requires : goal.unwrap-internal-requires
-unwrap-internal-requires c =
-    not_spent c.internal_key_of.result (λ key. key.items) _ c.internal_key_of.ensures (has_internal c.args.day.now c.args.keys.now c.requires.suits)
