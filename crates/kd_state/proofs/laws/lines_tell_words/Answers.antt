@@ -1,3 +1,4 @@
+use Rattle.std.proofs.Common.{arith, rules}
 use Rattle.kd_state.proofs.WordLines.{lines_tell_words, lines_split_into_words, parts_make_lines, words_make_one_line}
 use Rattle.kd_state.proofs.laws.lines_tell_words.Goals as goal
 

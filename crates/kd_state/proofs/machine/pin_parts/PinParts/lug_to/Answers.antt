@@ -1,4 +1,5 @@
-use Rattle.std.proofs.Common.{◌∙◌, sym, ap, refl}
+use Rattle.std.proofs.lemmas.Grind.{common_steps}
+use Rattle.std.proofs.Common.{◌∙◌, sym, ap, refl, arith, rules}
 use Rattle.kd_state.specs.Setting.{is_at}
 use Rattle.kd_state.proofs.Changing.{would_pass}
 use Rattle.kd_state.proofs.Slots.{is_numbered}
