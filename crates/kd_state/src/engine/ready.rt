@@ -20,7 +20,7 @@ use kd_tables::{Letter, Wheel};
 use thiserror::Error;
 
 /// A machine with an empty slot, or with a cable that has one letter.
-#[derive(Clone, Copy, Debug, PartialEq, Eq, Error)]
+#[derive(Clone, Copy, Debug, Error)]
 #[error("4 NotReady")]
 pub struct NotReady;
 
