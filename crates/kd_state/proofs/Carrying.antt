@@ -1,6 +1,5 @@
 -- Settings and lists of them, refused and carried out.
-use Rattle.std.proofs.lemmas.Grind.{common_steps}
-use Rattle.std.proofs.Common.{Bool, Decides, ◌≡◌, ◌↔◌, ℕ, not, List, [], ◌∷◌, All, Contains, Option, Some, None, MatchOption, refl, sym, ◌∙◌, subst, arith, rules}
+use Rattle.std.proofs.Common.{Bool, Decides, ◌≡◌, ◌↔◌, ℕ, not, List, [], ◌∷◌, All, Contains, Option, None, MatchOption, refl, sym, ◌∙◌, subst, arith}
 use Rattle.kd_state.proofs.Prelude.{not-false, All-head, All-tail, none-some, Wheel, Reflector, box_of, wheels_for}
 use Rattle.kd_state.proofs.Prelude.{reflectors_of, IsAllowed, RotorParts, Parts, Rotor, Setting, Seat, SeatReflector}
 use Rattle.kd_state.proofs.Prelude.{RingTo, Why, WheelNotAllowed, IsMachine, why_refused, changed, Carries, Leads}

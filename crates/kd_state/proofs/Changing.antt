@@ -2,21 +2,21 @@
 use Rattle.std.proofs.lemmas.Grind.{common_steps}
 use Rattle.std.proofs.Common.{◌≡◌, ◌≢◌, ◌⊎◌, ◌↔◌, ℕ, zero, suc, ◌+◌, ◌-◌, ◌<◌, ◌≤◌, nat_eq, Bool, true, false, List, [], ◌∷◌, length, map, set, find, All, Contains, Option, Some, None, slice_get, refl, sym, ap, ◌∙◌, inl, inr, subst, arith, rules}
 use Rattle.kd_state.proofs.Prelude.{AllByRecursion, is_none, option_map, option_or, option_and_then, unwrap_or}
-use Rattle.kd_state.proofs.Prelude.{cases_eq, cases_Bool, both_ways, not-false, false≢true, eqb-false}
-use Rattle.kd_state.proofs.Prelude.{true_from_ne_false, nat_tests, not_from_Decides, length-set, map-set, length-map}
+use Rattle.kd_state.proofs.Prelude.{cases_eq, cases_Bool, both_ways, not-false, eqb-false}
+use Rattle.kd_state.proofs.Prelude.{true_from_ne_false, length-set, map-set, length-map}
 use Rattle.kd_state.proofs.Prelude.{All-set, All-tail, All-cons, All-contains, All-from_recursion, Contains-append_left}
 use Rattle.kd_state.proofs.Prelude.{Contains-append_right, Contains-append_cases, position-Some, All-permutation}
 use Rattle.kd_state.proofs.Prelude.{Contains-permutation, IsPermutation-sym, Contains-tail, none-some, same_Some}
-use Rattle.kd_state.proofs.Prelude.{slice_get-map, slice_get_within, Model, Wheel, Reflector, Place, Lug, Left, Right}
+use Rattle.kd_state.proofs.Prelude.{slice_get-map, slice_get_within, Model, Wheel, Reflector, Place, Lug}
 use Rattle.kd_state.proofs.Prelude.{box_of, wheels_for, reflectors_of, IsAllowed, place_on, IsBefore, RotorParts}
 use Rattle.kd_state.proofs.Prelude.{PinParts, Parts, Rotor, Pin, Setting, Pull, Put, Seat, SeatReflector, RingTo, Turn}
-use Rattle.kd_state.proofs.Prelude.{PinTo, LugTo, Why, WouldPass, numbered, same_wheel, has_wheel, place_in_box}
+use Rattle.kd_state.proofs.Prelude.{PinTo, LugTo, Why, WouldPass, numbered, place_in_box}
 use Rattle.kd_state.proofs.Prelude.{wheel_pins, pin_at, pin_set, with_pin, cable_letters, plugged_letters, ordered}
 use Rattle.kd_state.proofs.Prelude.{StandsAt, AreLetters, AreCables, IsLegalRotor, IsLegalPin, IsMachine}
 use Rattle.kd_state.proofs.Prelude.{cables_ordered, cable_at, cable_without, cable_with, without, with_letter, with_lug}
 use Rattle.kd_state.proofs.Prelude.{with_lug_at, lug_place, other_lug, is_at, lies_beyond, reasons, why_refused}
-use Rattle.kd_state.proofs.Prelude.{changed, Thing, TheSlot, TheReflector, TheRing, TheLetter, TheCable, ThePin}
-use Rattle.kd_state.proofs.Prelude.{TheShown, TheBar, IsKept, SetsOnly, Turns, MovesLug, Makes, IsSeatOf}
+use Rattle.kd_state.proofs.Prelude.{changed, Thing, TheSlot, TheReflector, TheLetter, TheCable, ThePin}
+use Rattle.kd_state.proofs.Prelude.{TheBar, IsKept, SetsOnly, Turns, MovesLug, Makes, IsSeatOf}
 use Rattle.kd_state.proofs.Prelude.{SettingsAreTold, SettingsKeepMachines, IsInRange}
 use Rattle.std.specs.List.{IsDistinct}
 use Rattle.std.specs.List.Sorted.{IsPermutation}

@@ -1,6 +1,5 @@
 -- A day's pairs, and then nothings; and letters by the tests that hold of them.
-use Rattle.std.proofs.lemmas.Grind.{common_steps}
-use Rattle.std.proofs.Common.{◌≡◌, ℕ, zero, suc, ◌-◌, List, [], ◌∷◌, ◌++◌, length, get_or, map, replicate, Option, Some, None, slice_get, refl, sym, ◌∙◌, arith, All, rules}
+use Rattle.std.proofs.Common.{◌≡◌, ℕ, zero, suc, ◌-◌, List, [], ◌∷◌, ◌++◌, length, get_or, map, replicate, Option, Some, None, slice_get, refl, sym, ◌∙◌, arith, All}
 use Rattle.std.specs.Cmp.{both_ways}
 use Rattle.kd_state.proofs.Prelude.{length-append, length-map, length-replicate, has_letter, TestsTellLetters}
 use Rattle.kd_state.proofs.Prelude.{ThirteenColumns, ColumnsAreThePairs, CostTablesAreSquare, All-nil, All-map, Rotor}

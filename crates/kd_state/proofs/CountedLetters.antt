@@ -1,9 +1,9 @@
 -- How many letters of the alphabet lie in lists of letters.
 use Rattle.std.proofs.lemmas.Grind.{common_steps}
-use Rattle.std.specs.Prelude.{◌≡◌, ℕ, ◌+◌, ◌≤◌, nat_eq, nat_le, Bool, true, false, ◌||◌, List, [], ◌∷◌, length, count_by, Option, Some, None}
-use Rattle.kd_state.proofs.Prelude.{range_with_len, le-leb, nat_tests, alphabet, cable_letters, has_letter, differ}
+use Rattle.std.specs.Prelude.{ℕ, ◌+◌, ◌≤◌, nat_eq, nat_le, Bool, ◌||◌, List, [], ◌∷◌, length, count_by, Option}
+use Rattle.kd_state.proofs.Prelude.{range_with_len, le-leb, alphabet, cable_letters, has_letter, differ}
 use Rattle.kd_state.proofs.Prelude.{column_letters, cable_cost}
-use Rattle.std.proofs.Common.{zero, suc, ap, arith, rules}
+use Rattle.std.proofs.Common.{zero, suc, arith, rules}
 use Rattle.kd_state.proofs.SortedAlike.{once, count_by-cons}
 
 -- no letter is among numbers in a row twice, and none that stands before them

@@ -1,5 +1,4 @@
 -- Cables that are a day's pairs exchange the same letters as the pairs.
-use Rattle.std.proofs.lemmas.Grind.{common_steps}
 use Rattle.std.proofs.Common.{◌≡◌, ◌≢◌, ◌↔◌, ◌⊎◌, ℕ, zero, suc, ◌<◌, nat_eq, List, [], ◌∷◌, length, get_or, All, Any, Contains, Option, Some, None, slice_get, inl, inr, refl, sym, ap, ◌∙◌, subst, arith, filter_map, rules}
 use Rattle.kd_state.proofs.Prelude.{AllByRecursion, cases_eq, eqb-false, All-contains, All-from_recursion}
 use Rattle.kd_state.proofs.Prelude.{Contains-append_right, recursion_from_All, none-some, same_Some, slice_get-get_or}

@@ -1,7 +1,6 @@
 -- When a cable's letters are a pair's.
-use Rattle.std.proofs.lemmas.Grind.{common_steps}
-use Rattle.std.specs.Prelude.{◌≡◌, ◌↔◌, ℕ, Bool, true, List, length, [], ◌∷◌, Contains, Option, None}
-use Rattle.std.proofs.Common.{refl, sym, subst, inl, inr, arith, rules}
+use Rattle.std.specs.Prelude.{◌≡◌, ◌↔◌, ℕ, Bool, true, length, [], ◌∷◌, Contains, Option, None}
+use Rattle.std.proofs.Common.{refl, sym, subst, inl, inr, arith}
 use Rattle.kd_state.proofs.Prelude.{cable_letters, AreTheLetters, Joins, SameLetters}
 use Rattle.kd_state.proofs.DayPairs.{of_one, of_two, same_two}
 

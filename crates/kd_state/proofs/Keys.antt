@@ -1,6 +1,6 @@
 -- The key of a machine that is on the key of a day, and its cipher.
 use Rattle.std.proofs.lemmas.Grind.{common_steps}
-use Rattle.std.proofs.Common.{◌≡◌, ℕ, ◌+◌, ◌-◌, ◌%◌, Bool, List, map, filter_map, Some, refl, sym, ap, ◌∙◌, subst, ◌≤◌, min, max, ◌||◌, [], ◌∷◌, inl, inr, arith, rules}
+use Rattle.std.proofs.Common.{◌≡◌, ℕ, ◌+◌, ◌-◌, ◌%◌, Bool, List, map, filter_map, Some, refl, sym, ap, ◌∙◌, subst, min, max, ◌||◌, [], ◌∷◌, arith}
 use Rattle.std.specs.Prelude.{IsPermutation}
 use Rattle.kd_state.proofs.Prelude.{enumerate_from, count_by, recursion_from_All, sum_by-IsPermutation, reading_of}
 use Rattle.kd_state.proofs.Prelude.{place_number, PinKey, bars_met, converter_cipher, acts_after, Parts, Rotor, Pin}
@@ -10,7 +10,7 @@ use Rattle.kd_state.proofs.Prelude.{EquallySetDecipher, TheDayDeciphersItself, T
 use Rattle.kd_state.proofs.Prelude.{EngineIsTheMachine, IsMachine, AreCables, ring_at, letter_at, OnKey, IsRotorOnKey}
 use Rattle.kd_state.proofs.Prelude.{IsPinOnKey, RotorDay, Day, OfRotors, OfPins, IsLegalDay, IsLegalRotorDay, EngineKey}
 use Rattle.kd_state.proofs.Prelude.{OfWheels, cipher, key_with_window, window_of, plugged_pairs, physical_key}
-use Rattle.kd_state.proofs.Prelude.{physical_cipher, sheet_key, cases_lt, sum_by-cons, Place, One}
+use Rattle.kd_state.proofs.Prelude.{physical_cipher, sheet_key, sum_by-cons, Place}
 use Rattle.kd_pins.specs.PinWheels.{pins_of}
 use Rattle.kd_enigma.specs.Laws.{PairsMakeAPlugboard, SamePairsExchangeAlike}
 use Rattle.kd_enigma.specs.Laws as enigma

@@ -1,6 +1,6 @@
 -- What a machine and a day say of the wheels, put into the words of their parts.
-use Rattle.std.proofs.Common.{◌≡◌, ◌↔◌, Bool, true, false, List, All, Decides, Option, Some, None, refl, sym, ap, subst, arith}
-use Rattle.kd_state.proofs.Prelude.{option_eq, pointwise_decides, false≢true, same_Some, Wheel, RotorParts, PinParts}
+use Rattle.std.proofs.Common.{◌≡◌, ◌↔◌, Bool, List, All, Decides, Option, Some, arith}
+use Rattle.kd_state.proofs.Prelude.{option_eq, pointwise_decides, same_Some, Wheel, RotorParts, PinParts}
 use Rattle.kd_state.proofs.Prelude.{Parts, Rotor, Pin, SheetWheel, ring_in, ring_at, letter_in, RotorDay, PinDay, Day}
 use Rattle.kd_state.proofs.Prelude.{OfRotors, OfPins, ShowsWindow}
 use denote.Enum.Bare.{sameb, same_true, same_false}

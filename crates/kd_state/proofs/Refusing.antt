@@ -1,10 +1,9 @@
 -- What a machine refuses, as its readers tell it.
-use Rattle.std.proofs.lemmas.Grind.{common_steps}
-use Rattle.std.proofs.Common.{◌≡◌, ◌↔◌, ℕ, zero, suc, ◌<◌, nat_eq, ◌⊎◌, Bool, Decides, true, false, not, List, [], ◌∷◌, length, Contains, Option, Some, None, IsSome, slice_get, refl, sym, ap, ◌∙◌, inl, inr, subst, arith, rules}
+use Rattle.std.proofs.Common.{◌≡◌, ◌↔◌, ℕ, zero, suc, ◌<◌, nat_eq, ◌⊎◌, Bool, Decides, true, false, not, List, [], ◌∷◌, length, Contains, Option, Some, None, IsSome, slice_get, refl, sym, ap, ◌∙◌, inl, inr, subst, arith}
 use Rattle.kd_state.proofs.Prelude.{is_none, is_some, option_map, option_map_or, option_and_then, unwrap_or}
-use Rattle.kd_state.proofs.Prelude.{false_from_ne_true, false≢true, nat_tests, not_from_Decides, Contains-append_cases}
+use Rattle.kd_state.proofs.Prelude.{false_from_ne_true, false≢true, Contains-append_cases}
 use Rattle.kd_state.proofs.Prelude.{position-Some, none-some, same_Some, slice_get-get_or, slice_get_cases, Wheel}
-use Rattle.kd_state.proofs.Prelude.{Place, Lug, Left, Right, place_on, RotorParts, PinParts, Rotor, Pin, Pull, Put}
+use Rattle.kd_state.proofs.Prelude.{Place, Lug, place_on, RotorParts, PinParts, Rotor, Pin, Pull, Put}
 use Rattle.kd_state.proofs.Prelude.{Seat, SeatReflector, RingTo, Turn, PinTo, LugTo, Why, OtherModel, NoSuchCable}
 use Rattle.kd_state.proofs.Prelude.{NotThere, NoLooseEnd, SocketTaken, SlotEmpty, NotOnWheel, NoSuchBar, PlaceTaken}
 use Rattle.kd_state.proofs.Prelude.{WouldPass, numbered, wheel_pins, pin_at, cable_letters, plugged_letters, HasAllPins}

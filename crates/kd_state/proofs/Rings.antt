@@ -1,13 +1,13 @@
 -- The letters and the pins of the six pin wheels.
 use Rattle.std.proofs.lemmas.Grind.{common_steps}
-use Rattle.std.proofs.Common.{◌≡◌, ℕ, zero, suc, ◌+◌, ◌-◌, ◌<◌, ◌≤◌, nat_eq, true, false, List, length, get_or, Contains, Decides, Some, refl, sym, ap, ◌∙◌, inl, inr, subst, arith, slice_index, rules}
-use Rattle.kd_state.proofs.Prelude.{position_or_len, is_some, unwrap_or, cases_Bool, lt-ltb, le-ltb, both_ways}
-use Rattle.kd_state.proofs.Prelude.{eqb-true, false≢true, position-Some, get_or_default, Decides-like, Decides-eqb}
-use Rattle.kd_state.proofs.Prelude.{is_member-Decides, get_or_from_slice_get, slice_get-get_or, place_on, numbered}
+use Rattle.std.proofs.Common.{◌≡◌, ℕ, ◌+◌, ◌-◌, ◌<◌, nat_eq, true, false, List, length, get_or, Contains, Decides, Some, sym, ◌∙◌, subst, arith, rules}
+use Rattle.kd_state.proofs.Prelude.{is_some, unwrap_or, cases_Bool, lt-ltb, le-ltb, both_ways}
+use Rattle.kd_state.proofs.Prelude.{eqb-true, position-Some, Decides-like, Decides-eqb}
+use Rattle.kd_state.proofs.Prelude.{is_member-Decides, get_or_from_slice_get, slice_get-get_or, place_on}
 use Rattle.kd_state.proofs.Prelude.{HasAllPins, AreOnWheels, has_letter, OnWheels}
 use Rattle.kd_tables.specs.Rings.{ring_of}
 use Rattle.kd_pins.specs.declared.pin_set.PinSet.{PinSet}
-use Rattle.kd_state.proofs.Slots.{is_numbered, numbered_at, value_of}
+use Rattle.kd_state.proofs.Slots.{is_numbered, numbered_at}
 use Rattle.kd_state.proofs.Wheels.{first_within, first_nowhere}
 
 -- the letter is one of these, and has a place then

@@ -1,8 +1,7 @@
 -- The wheels in the slots, with their rings and their window letters.
-use Rattle.std.proofs.lemmas.Grind.{common_steps}
-use Rattle.std.proofs.Common.{◌≡◌, ◌≢◌, ℕ, ◌+◌, ◌<◌, List, [], ◌∷◌, length, map, get_or, slice_get, filter_map, Option, Some, None, IsSome, All, Contains, refl, sym, ap, ◌∙◌, subst, arith, rules}
+use Rattle.std.proofs.Common.{◌≡◌, ◌≢◌, ℕ, ◌+◌, ◌<◌, List, [], ◌∷◌, length, map, get_or, slice_get, filter_map, Option, Some, None, IsSome, All, Contains, refl, sym, ap, ◌∙◌, subst, arith}
 use Rattle.std.specs.Prelude.{MatchOption}
-use Rattle.kd_state.proofs.Prelude.{AllByRecursion, cons_option, false≢true, get_or-map, length-map, All-map, none-some}
+use Rattle.kd_state.proofs.Prelude.{AllByRecursion, false≢true, get_or-map, length-map, All-map, none-some}
 use Rattle.kd_state.proofs.Prelude.{same_Some, slice_get-get_or, Wheel, exchange, Parts, Rotor, RotorParts, SheetWheel}
 use Rattle.kd_state.proofs.Prelude.{place_in_box, IsLegalRotor, ring_at, letter_at, seats, OfWheels, IsRotorReady}
 use Rattle.kd_state.proofs.Prelude.{seated_wheels, plugged_pairs, physical_key}

@@ -1,8 +1,8 @@
 -- The words of settings' lines: no two settings have the same, and those of a form are all that begin with its word.
 use Rattle.std.proofs.lemmas.Grind.{common_steps}
-use Rattle.std.proofs.Common.{◌≡◌, ◌≢◌, ℕ, ◌+◌, ◌*◌, ◌^◌, ◌<◌, ◌≤◌, length, get_or, Bool, true, false, List, [], ◌∷◌, Option, Some, None, MatchOption, refl, sym, ap, ◌∙◌, arith, ◌++◌, append_assoc, length-append, rules}
+use Rattle.std.proofs.Common.{◌≡◌, ◌≢◌, ℕ, ◌+◌, ◌*◌, ◌^◌, ◌<◌, ◌≤◌, length, get_or, Bool, true, List, [], ◌∷◌, Option, MatchOption, refl, sym, ap, ◌∙◌, arith, ◌++◌, append_assoc, length-append, rules}
 use Rattle.kd_state.proofs.Prelude.{All, AllByRecursion, decimal_injective, All-from_recursion, All-push}
-use Rattle.kd_state.proofs.Prelude.{recursion_from_All, Wheel, I, Reflector, Place, One, Lug, Left, Right, wheel_text}
+use Rattle.kd_state.proofs.Prelude.{recursion_from_All, Wheel, I, Reflector, Place, One, Lug, Left, wheel_text}
 use Rattle.kd_state.proofs.Prelude.{reflector_text, place_text, lug_text, places, keyword_text, setting_words}
 use Rattle.kd_state.proofs.Prelude.{setting_line, pin_text, IsInRange, IsReadOff, list_text, IsList, BeginsWith}
 use Rattle.kd_state.proofs.Prelude.{BeginsWithLine, BeginsWithNoLine, Setting, Pull, Put, Seat, SeatReflector, RingTo}
@@ -10,7 +10,7 @@ use Rattle.kd_state.proofs.Prelude.{Turn, PinTo, LugTo, append-nil, get_or_at, T
 use Rattle.kd_state.proofs.Prelude.{OneListFault}
 use Rattle.std.specs.Fmt.{decimal}
 use Rattle.kd_tables.specs.declared.reflector.Reflector.TheVariants.{A}
-use Rattle.kd_state.specs.Words.{IsWord, IsWithout, letter_text, line_of, words_of, IsFirstPart}
+use Rattle.kd_state.specs.Words.{IsWord, IsWithout, letter_text, words_of, IsFirstPart}
 use Rattle.kd_state.specs.declared.setting.keyword.Keyword.{Keyword}
 use Rattle.kd_state.specs.declared.setting.keyword.Keyword.TheVariants as keywords
 use Rattle.kd_state.proofs.Wheels.{named, told, one_wheel, one_reflector}

@@ -1,6 +1,5 @@
 -- What stands in the slots, and things counted from 1.
-use Rattle.std.proofs.lemmas.Grind.{common_steps}
-use Rattle.std.proofs.Common.{◌≡◌, ◌≢◌, ℕ, zero, suc, ◌+◌, ◌-◌, ◌<◌, ◌≤◌, false, inl, inr, List, [], ◌∷◌, length, take, get_or, set, Contains, Option, Some, None, IfSome, slice_get, refl, sym, ap, ◌∙◌, subst, arith, add-one, rules}
+use Rattle.std.proofs.Common.{◌≡◌, ◌≢◌, ℕ, zero, suc, ◌+◌, ◌-◌, ◌<◌, ◌≤◌, false, inl, inr, List, [], ◌∷◌, length, take, get_or, set, Contains, Option, Some, None, IfSome, slice_get, refl, sym, ap, ◌∙◌, subst, arith, add-one}
 use Rattle.kd_state.proofs.Prelude.{cases_eq, false≢true, get_or-take, length-take, slice_get_within, slice_get-get_or}
 use Rattle.kd_state.proofs.Prelude.{get_or_from_slice_get, Model, Wheel, box_of, is_none, unwrap_or, numbered, StandsAt}
 use Rattle.kd_state.proofs.Prelude.{AreAllowed, AreApart}

@@ -1,9 +1,8 @@
 -- Two lists that are sorted, and hold the same elements as often, are one list.
-use Rattle.std.proofs.lemmas.Grind.{common_steps}
 use Rattle.std.specs.Prelude.{◌≡◌, ℕ, ◌+◌, ◌<◌, Bool, true, false, if◌then◌else◌, List, [], ◌∷◌, length, count_by, slice_index_or, IsPermutation, IsSortedBy}
 use Rattle.kd_state.proofs.Prelude.{IsStrictWeakOrder, sum_by-cons, sum_by-le, sorted_far, sum_by-IsPermutation}
 use Rattle.kd_state.proofs.Prelude.{IsPermutation-sym, IsPermutation-trans, Decides, pointwise_decides}
-use Rattle.std.proofs.Common.{suc, refl, sym, ap, ◌∙◌, ◌↔◌, subst, arith, rules}
+use Rattle.std.proofs.Common.{suc, refl, sym, ap, ◌∙◌, ◌↔◌, subst, arith}
 use lib.Pointwise.{pointwise}
 
 -- 1 where it holds

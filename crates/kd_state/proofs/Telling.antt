@@ -1,12 +1,12 @@
 -- What the readers of a machine tell is all that it is; so what they tell of a setting tells the machine that it makes.
 use Rattle.std.proofs.lemmas.Grind.{common_steps}
-use Rattle.std.proofs.Common.{◌≡◌, ◌≢◌, ◌⊎◌, ◌↔◌, ℕ, zero, suc, ◌+◌, ◌<◌, ◌≤◌, nat_eq, nat_le, true, List, [], ◌∷◌, length, map, Contains, Option, Some, None, slice_get, IfSome, refl, sym, ap, ◌∙◌, inl, inr, subst, arith, rules}
+use Rattle.std.proofs.Common.{◌≡◌, ◌≢◌, ◌⊎◌, ◌↔◌, ℕ, zero, suc, ◌+◌, ◌<◌, ◌≤◌, nat_eq, true, List, [], ◌∷◌, length, map, Contains, Option, Some, None, slice_get, IfSome, refl, sym, ap, ◌∙◌, inl, inr, subst, arith}
 use Rattle.kd_state.proofs.Prelude.{range_with_len, is_none, option_map, option_map_or, option_and_then, cases_eq}
-use Rattle.kd_state.proofs.Prelude.{cases_Bool, leb-true, nat_tests, not_from_Decides, none-some, same_Some}
+use Rattle.kd_state.proofs.Prelude.{cases_Bool, leb-true, nat_tests, none-some, same_Some}
 use Rattle.kd_state.proofs.Prelude.{slice_get-map, slice_get-get_or, slice_get_cases, slice_get_past, Model, Wheel}
 use Rattle.kd_state.proofs.Prelude.{Place, Lug, Left, Right, box_of, reflectors_of, place_on, RotorParts, PinParts}
 use Rattle.kd_state.proofs.Prelude.{Parts, Rotor, Pin, Setting, Pull, Put, Seat, SeatReflector, RingTo, Turn, PinTo}
-use Rattle.kd_state.proofs.Prelude.{LugTo, numbered, same_wheel, place_in_box, wheel_pins, cable_letters}
+use Rattle.kd_state.proofs.Prelude.{LugTo, numbered, place_in_box, wheel_pins, cable_letters}
 use Rattle.kd_state.proofs.Prelude.{plugged_letters, ordered, model_of, slot_in, letter_in, cable_in, standing_in}
 use Rattle.kd_state.proofs.Prelude.{IsLegalRotor, IsLegalPin, IsMachine, has_letter, are_new, lug_place, other_lug}
 use Rattle.kd_state.proofs.Prelude.{changed, Carries, Thing, TheSlot, TheReflector, TheRing, TheLetter, TheCable}

@@ -1,6 +1,5 @@
 -- A ready machine can be turned to each window.
-use Rattle.std.proofs.lemmas.Grind.{common_steps}
-use Rattle.std.proofs.Common.{◌≡◌, ◌≢◌, ℕ, zero, suc, ◌+◌, ◌<◌, List, [], ◌∷◌, length, set, slice_get, filter_map, All, Contains, Option, Some, None, refl, ap, ◌∙◌, subst, arith, length-set, rules}
+use Rattle.std.proofs.Common.{◌≡◌, ◌≢◌, ℕ, zero, suc, ◌+◌, ◌<◌, List, [], ◌∷◌, length, set, slice_get, filter_map, All, Contains, Option, Some, None, refl, ap, ◌∙◌, subst, arith, length-set}
 use Rattle.kd_state.proofs.Prelude.{AllByRecursion, cons_option, All-set, All-head, All-tail, Model, Wheel, box_of}
 use Rattle.kd_state.proofs.Prelude.{Rotor, Pin, place_in_box, MachinesCanBeTurned, StandsAt, AreApart, seated_wheels}
 use Rattle.kd_state.proofs.Wheels.{places_tell_wheels, placed, place_within}

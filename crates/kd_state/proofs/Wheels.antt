@@ -1,7 +1,6 @@
 -- Wheels and reflectors by their names, and where the wheels of the box may stand.
-use Rattle.std.proofs.lemmas.Grind.{common_steps}
-use Rattle.std.proofs.Common.{inl, inr, find, unwrap_or, ◌≡◌, ◌≢◌, ℕ, ◌<◌, ◌≤◌, nat_le, ◌==◌, Bool, true, false, cond, List, [], ◌∷◌, length, get_or, Contains, Decides, refl, sym, ap, ◌∙◌, subst, arith, ◌+◌, Some, rules}
-use Rattle.kd_state.proofs.Prelude.{list_any, position_or_len, cases_Bool, false_from_ne_true, and_parts, or_parts}
+use Rattle.std.proofs.Common.{inl, inr, find, unwrap_or, ◌≡◌, ◌≢◌, ℕ, ◌<◌, ◌≤◌, ◌==◌, Bool, true, false, cond, List, [], ◌∷◌, length, get_or, Contains, Decides, refl, sym, ap, ◌∙◌, arith, Some, rules}
+use Rattle.kd_state.proofs.Prelude.{list_any, position_or_len, cases_Bool, false_from_ne_true, or_parts}
 use Rattle.kd_state.proofs.Prelude.{leb-true, eqb-true, Decides-like, Contains-append_left, Contains-append_right}
 use Rattle.kd_state.proofs.Prelude.{Contains-get_or, is_member-Decides, position_or_len_is, passes_at_first, Model}
 use Rattle.kd_state.proofs.Prelude.{Wheel, I, II, III, IV, V, VI, VII, VIII, Beta, Gamma, Reflector, box_of, slots_of}

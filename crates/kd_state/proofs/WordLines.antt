@@ -1,6 +1,6 @@
 -- Words are told by their line, and a text's part before a byte by the text.
 use Rattle.std.proofs.lemmas.Grind.{common_steps}
-use Rattle.std.proofs.Common.{◌≡◌, ◌≢◌, ℕ, ◌^◌, ◌<◌, Bool, true, false, eqb, ltb, List, [], ◌∷◌, ◌++◌, length, map, get_or, Bor, Some, None, MatchOption, Result, Ok, Err, MatchResult, Decides, refl, sym, ap, subst, ◌∙◌, append_assoc, length-append, arith, rules}
+use Rattle.std.proofs.Common.{◌≡◌, ◌≢◌, ℕ, ◌^◌, ◌<◌, Bool, true, false, eqb, ltb, List, [], ◌∷◌, ◌++◌, length, map, get_or, Bor, Some, None, MatchOption, Result, Ok, MatchResult, Decides, refl, sym, ap, subst, ◌∙◌, append_assoc, length-append, arith, rules}
 use Rattle.kd_state.proofs.Prelude.{then_some, All, AllByRecursion, list_all, slice_split, AllPass-from_list_all}
 use Rattle.kd_state.proofs.Prelude.{ltb-true, ne_eqb, eq-eqb, false≢true, decimal_nonempty, digits_decimal}
 use Rattle.kd_state.proofs.Prelude.{IsAscii-decimal, parse-decimal, All-nil, All-cons, All-append, All-from_recursion}
@@ -13,7 +13,7 @@ use Rattle.std.specs.Fmt.{decimal}
 use Rattle.std.specs.Int.{IsInRange}
 use Rattle.std.proofs.lemmas.List.Splits.{length-slice_split, slice_split_none, slice_split_at, join_with_byte-slice_split}
 use Rattle.std.proofs.lemmas.Str.Parse.{IsNumeralModel, numerals_by_value, tells_by_index}
-use Rattle.kd_state.specs.Words.{words_of, line_of, letter_text, IsWithout, IsWord, IsFirstPart, LinesTellWords, LinesSplitIntoWords, PartsMakeLines, WordsMakeOneLine, TextsTellFirstParts, NumbersAreWords, LettersAreWords}
+use Rattle.kd_state.specs.Words.{words_of, line_of, IsWithout, IsWord, IsFirstPart, LinesTellWords, LinesSplitIntoWords, PartsMakeLines, WordsMakeOneLine, TextsTellFirstParts, NumbersAreWords, LettersAreWords}
 
 -- ---- the part before a byte
 

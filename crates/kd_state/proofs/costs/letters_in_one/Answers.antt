@@ -1,4 +1,3 @@
-use Rattle.std.proofs.lemmas.Grind.{common_steps}
 use Rattle.std.specs.Prelude.{◌≡◌, ℕ, Bool, slice_index_or}
 use Rattle.std.proofs.Common.{◌∙◌, ap, sym, arith, rules}
 use Rattle.std.proofs.lemmas.List.FromFn.{get_or-range_with_len}

@@ -1,7 +1,5 @@
-use Rattle.std.proofs.lemmas.Grind.{common_steps}
 use Rattle.std.specs.Prelude.{◌≡◌, ◌<◌, [], ◌∷◌}
-use Rattle.std.proofs.Common.{◌∙◌, sym, ap, arith, rules}
-use Rattle.kd_tables.specs.declared.place.Place.TheVariants.{ZeroLeft, ZeroRight}
+use Rattle.std.proofs.Common.{◌∙◌, sym, ap, arith}
 use Rattle.kd_state.specs.Costs.{place_at, across, standings_as}
 use Rattle.kd_state.proofs.Standings.{zeros, one_zero, no_zero}
 use Rattle.kd_state.proofs.costs.standings_of.Goals as goal

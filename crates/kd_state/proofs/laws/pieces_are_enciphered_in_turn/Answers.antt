@@ -1,4 +1,3 @@
-use Rattle.std.proofs.lemmas.Grind.{common_steps}
 use Rattle.std.proofs.Common.{ap, arith}
 use Rattle.kd_enigma.specs.Laws as wheels
 use Rattle.kd_drum.specs.Laws as drum

@@ -1,7 +1,7 @@
 use Rattle.std.proofs.lemmas.Grind.{common_steps}
-use Rattle.std.proofs.Common.{◌∙◌, sym, subst, map, arith}
-use Rattle.kd_state.proofs.Prelude.{eqb-true, length-map}
-use Rattle.kd_state.proofs.WordLines.{AreTaken, appended, one_more_taken, last_taken, more_words}
+use Rattle.std.proofs.Common.{arith}
+use Rattle.kd_state.proofs.Prelude.{eqb-true}
+use Rattle.kd_state.proofs.WordLines.{appended, one_more_taken, last_taken, more_words}
 use Rattle.kd_state.proofs.words.split_words.Goals as goal
 
 pub returns-then-is_full : goal.returns-then-is_full

@@ -1,4 +1,4 @@
-use Rattle.std.proofs.Common.{◌≡◌, sym, ◌∙◌, slice_get, arith, rules}
+use Rattle.std.proofs.Common.{◌≡◌, sym, ◌∙◌, slice_get, arith}
 use Rattle.std.proofs.lemmas.Grind.{common_steps}
 use Rattle.std.proofs.lemmas.Option.{gets}
 use Rattle.kd_state.proofs.Columns.{columns_are_the_pairs}

@@ -1,7 +1,6 @@
 use Rattle.std.proofs.lemmas.Grind.{common_steps}
-use Rattle.std.proofs.Common.{◌≡◌, ℕ, ◌∷◌, [], ◌++◌, take, get_or, Option, Some, None, refl, sym, ap, ◌∙◌, arith, rules}
+use Rattle.std.proofs.Common.{◌≡◌, ℕ, [], get_or, Option, arith}
 use Rattle.kd_state.proofs.Prelude.{cons_option, option_to_list, take_more, filter_map-append, both_ends}
-use Rattle.kd_state.proofs.DayPairs.{pairs_of}
 use Rattle.kd_state.proofs.engine.ready.plugged_pairs.Goals as goal
 
 if_there : (pair : Option (ℕ × ℕ)) → option_to_list pair ≡ cons_option pair []

@@ -1,6 +1,5 @@
-use Rattle.std.proofs.lemmas.Grind.{common_steps}
-use Rattle.std.proofs.Common.{◌∙◌, refl, sym, ap, subst, List, ℕ, map, Option, None, Contains, arith, rules}
-use Rattle.kd_state.proofs.Prelude.{is_some, false≢true, Wheel, Parts, SheetWheel, IsMachine, OfWheels}
+use Rattle.std.proofs.Common.{◌∙◌, refl, sym, ap, List, ℕ, map, arith}
+use Rattle.kd_state.proofs.Prelude.{Parts, SheetWheel, OfWheels}
 use Rattle.kd_state.specs.Seated.{seated_wheel, key_of_wheels}
 use Rattle.kd_state.proofs.Seating.{are_seats, all_seated, key_of_seats, not_ready}
 use Rattle.kd_state.proofs.machine.Machine.rotor_engine.Goals as goal

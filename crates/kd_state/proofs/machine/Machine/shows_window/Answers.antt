@@ -1,7 +1,6 @@
-use Rattle.std.proofs.lemmas.Grind.{common_steps}
-use Rattle.std.proofs.Common.{sym, ap, ◌∙◌, arith, rules}
-use Rattle.kd_state.proofs.Prelude.{pointwise_decides, Decides-eqb}
-use Rattle.kd_state.specs.Entry.{pin_values, rotor_values, values_of}
+use Rattle.std.proofs.Common.{sym, ap, ◌∙◌, arith}
+use Rattle.kd_state.proofs.Prelude.{pointwise_decides}
+use Rattle.kd_state.specs.Entry.{rotor_values, values_of}
 use Rattle.kd_state.proofs.OnKey.{letters_show, pin_letters_show}
 use Rattle.kd_state.proofs.machine.Machine.shows_window.Goals as goal
 

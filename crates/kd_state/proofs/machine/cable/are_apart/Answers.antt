@@ -1,5 +1,5 @@
-use Rattle.std.proofs.Common.{◌≡◌, ◌∙◌, arith, sym, rules, true, false}
-use Rattle.kd_state.proofs.Prelude.{both_ways, drop_all, plugged_letters, cable_letters, are_new}
+use Rattle.std.proofs.Common.{arith, false}
+use Rattle.kd_state.proofs.Prelude.{both_ways, drop_all}
 use Rattle.kd_state.proofs.Cables.{distinct_from, no_letter_twice}
 use Rattle.kd_state.proofs.machine.cable.are_apart.Goals as goal
 

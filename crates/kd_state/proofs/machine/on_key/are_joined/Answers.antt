@@ -1,6 +1,4 @@
-use Rattle.std.proofs.lemmas.Grind.{common_steps}
-use Rattle.std.proofs.Common.{refl, sym, subst, arith, rules}
-use Rattle.std.specs.Prelude.{length}
+use Rattle.std.proofs.Common.{sym, subst, arith, rules}
 use Rattle.kd_state.proofs.Prelude.{false≢true, iff_false, All-from_all_within, AllWithin-upto, AllWithin-more, at_read}
 use Rattle.kd_state.proofs.Prelude.{IsJoined}
 use Rattle.kd_state.proofs.machine.on_key.are_joined.Goals as goal

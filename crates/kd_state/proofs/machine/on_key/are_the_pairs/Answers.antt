@@ -1,5 +1,3 @@
-use Rattle.std.proofs.lemmas.Grind.{common_steps}
-use Rattle.std.proofs.Common.{arith, rules}
 use Rattle.kd_state.proofs.machine.on_key.are_the_pairs.Goals as goal
 
 pub returns-then-are_paired : goal.returns-then-are_paired

@@ -1,9 +1,8 @@
-use Rattle.std.proofs.lemmas.Grind.{common_steps}
 use Rattle.std.specs.Prelude.{◌≡◌, ℕ, Bool, false, nat_eq, ◌&&◌}
-use Rattle.kd_state.proofs.Prelude.{Decides, nat_cmp_total, on_total, then_total, nat_tests, Decides-and, Decides-eqb}
+use Rattle.kd_state.proofs.Prelude.{Decides, nat_cmp_total, on_total, then_total, Decides-and}
 use Rattle.kd_state.proofs.Prelude.{Decides-like, ranks_by}
 use Rattle.std.specs.Ordering.{is_lt, ordering_then, nat_cmp}
-use Rattle.std.proofs.Common.{ap, arith, rules}
+use Rattle.std.proofs.Common.{arith}
 use Rattle.kd_state.proofs.SortedAlike.{sorted_tell}
 use Rattle.kd_state.proofs.machine.on_key.are_the_same.Goals as goal
 

@@ -1,5 +1,4 @@
-use Rattle.std.proofs.lemmas.Grind.{common_steps}
-use Rattle.std.proofs.Common.{sym, true≢false, Some, None, arith, rules}
+use Rattle.std.proofs.Common.{sym, true≢false, Some, None}
 use Rattle.kd_state.proofs.Joined.{joins_letters, doubled, joins_none}
 use Rattle.kd_state.proofs.machine.on_key.joins.Goals as goal
 

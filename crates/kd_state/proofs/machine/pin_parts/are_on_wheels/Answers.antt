@@ -1,4 +1,3 @@
-use Rattle.std.proofs.lemmas.Grind.{common_steps}
 use Rattle.std.proofs.Common.{◌∙◌, sym, below_more, arith, rules}
 use Rattle.kd_state.proofs.Rings.{each_on_wheel, on_wheel, off_wheel}
 use Rattle.kd_state.proofs.machine.pin_parts.are_on_wheels.Goals as goal

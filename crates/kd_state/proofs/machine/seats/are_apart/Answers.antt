@@ -1,5 +1,4 @@
-use Rattle.std.proofs.lemmas.Grind.{common_steps}
-use Rattle.std.proofs.Common.{arith, sym, rules, Some, None}
+use Rattle.std.proofs.Common.{arith, sym}
 use Rattle.kd_state.proofs.Prelude.{slice_get_within, slice_get-get_or, iff_false}
 use Rattle.kd_state.proofs.Slots.{apart_more, some_new}
 use Rattle.kd_state.proofs.machine.seats.are_apart.Goals as goal

@@ -1,5 +1,4 @@
-use Rattle.std.proofs.lemmas.Grind.{common_steps}
-use Rattle.std.proofs.Common.{◌∙◌, sym, [], ◌∷◌, ◌++◌, arith, rules}
+use Rattle.std.proofs.Common.{◌∙◌, sym, [], ◌∷◌, ◌++◌, arith}
 use Rattle.kd_state.proofs.Prelude.{eqb-true, length_push}
 use Rattle.kd_state.proofs.SettingLines.{one_more}
 use Rattle.kd_state.proofs.setting.list.read_list.Goals as goal

@@ -1,5 +1,3 @@
-use Rattle.std.proofs.lemmas.Grind.{common_steps}
-use Rattle.std.proofs.Common.{arith, rules}
 use Rattle.kd_state.proofs.SettingLines.{no_line_without_break, no_line_by_first}
 use Rattle.kd_state.proofs.setting.list.split_setting.Goals as goal
 

@@ -1,8 +1,7 @@
-use Rattle.std.proofs.lemmas.Grind.{common_steps}
 use Rattle.std.specs.Prelude.{◌≡◌, ℕ, Bool, false, nat_eq}
 use Rattle.kd_state.proofs.Prelude.{nat_cmp_total, nat_tests, Decides-eqb, ranks_by}
 use Rattle.std.specs.Ordering.{is_lt, nat_cmp}
-use Rattle.std.proofs.Common.{arith, rules}
+use Rattle.std.proofs.Common.{arith}
 use Rattle.kd_state.proofs.SortedAlike.{sorted_tell}
 use Rattle.kd_state.proofs.sheet_day.rotor_entry.are_reordered.Goals as goal
 

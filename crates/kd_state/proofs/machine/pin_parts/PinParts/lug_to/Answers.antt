@@ -1,5 +1,4 @@
-use Rattle.std.proofs.lemmas.Grind.{common_steps}
-use Rattle.std.proofs.Common.{◌∙◌, sym, ap, refl, arith, rules}
+use Rattle.std.proofs.Common.{◌∙◌, sym, ap, refl}
 use Rattle.kd_state.specs.Setting.{is_at}
 use Rattle.kd_state.proofs.Changing.{would_pass}
 use Rattle.kd_state.proofs.Slots.{is_numbered}

@@ -1,5 +1,5 @@
-use Rattle.std.proofs.Common.{refl, arith}
-use Rattle.kd_state.proofs.Prelude.{iff_false, wheels_for}
+use Rattle.std.proofs.Common.{arith}
+use Rattle.kd_state.proofs.Prelude.{iff_false}
 use Rattle.kd_state.proofs.Wheels.{lacks_wheel}
 use Rattle.kd_state.proofs.machine.rotor_parts.RotorParts.seat.Goals as goal
 
