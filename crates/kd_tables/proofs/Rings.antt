@@ -23,10 +23,5 @@ place_leads_to_letter size ring h place letter e =
 pub no_ring : (wheel : ℕ) → wheel ≢ 1 → wheel ≢ 2 → wheel ≢ 3 → wheel ≢ 4 → wheel ≢ 5 → wheel ≢ 6 → ring_of wheel ≡ []
 unfolding ring_of
 no_ring zero a b c d e f = refl
-no_ring (suc zero) a b c d e f = absurd (a refl)
-no_ring (suc (suc zero)) a b c d e f = absurd (b refl)
-no_ring (suc (suc (suc zero))) a b c d e f = absurd (c refl)
-no_ring (suc (suc (suc (suc zero)))) a b c d e f = absurd (d refl)
-no_ring (suc (suc (suc (suc (suc zero))))) a b c d e f = absurd (e refl)
-no_ring (suc (suc (suc (suc (suc (suc zero)))))) a b c d e f = absurd (f refl)
 no_ring (suc (suc (suc (suc (suc (suc (suc wheel))))))) a b c d e f = refl
+no_ring wheel a b c d e f = absurd (omega arith)

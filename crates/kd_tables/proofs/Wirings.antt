@@ -16,7 +16,7 @@ use Rattle.kd_tables.specs.Tables.{letters_of, wiring_of, reflector_of}
 use Rattle.kd_tables.specs.Rings.{IsRing}
 use Rattle.kd_tables.specs.WiringText.{are_capitals, are_distinct_letters, is_permutation, is_wiring_text, is_ring_text, is_reflection}
 use Rattle.kd_tables.specs.declared.wheel.Wheel.{Wheel}
-use Rattle.kd_tables.specs.declared.wheel.Wheel.TheVariants.{I, II, III, IV, V, VI, VII, VIII, Beta, Gamma}
+use Rattle.kd_tables.specs.declared.wheel.Wheel.TheVariants.{I}
 use Rattle.kd_tables.specs.declared.reflector.Reflector.{Reflector}
 use Rattle.kd_tables.specs.declared.reflector.Reflector.TheVariants as reflectors
 
@@ -112,37 +112,20 @@ reflection_moves p h = All-weaker (λ x. (not (slice_index p x == x) && (slice_i
 -- each published table is a permutation
 pub wiring_permutes : (wheel : Wheel) → IsPermutation26 (wiring_of wheel)
 unfolding wiring_of
-wiring_permutes I = test_permutes (wiring_of I) refl
-wiring_permutes II = test_permutes (wiring_of II) refl
-wiring_permutes III = test_permutes (wiring_of III) refl
-wiring_permutes IV = test_permutes (wiring_of IV) refl
-wiring_permutes V = test_permutes (wiring_of V) refl
-wiring_permutes VI = test_permutes (wiring_of VI) refl
-wiring_permutes VII = test_permutes (wiring_of VII) refl
-wiring_permutes VIII = test_permutes (wiring_of VIII) refl
-wiring_permutes Beta = test_permutes (wiring_of Beta) refl
-wiring_permutes Gamma = test_permutes (wiring_of Gamma) refl
+wiring_permutes I = test_permutes _ refl
+wiring_permutes wheel = test_permutes (wiring_of wheel) refl
 
 pub reflector_permutes : (reflector : Reflector) → IsPermutation26 (reflector_of reflector)
 unfolding reflector_of
-reflector_permutes reflectors.A = test_permutes (reflector_of reflectors.A) refl
-reflector_permutes reflectors.B = test_permutes (reflector_of reflectors.B) refl
-reflector_permutes reflectors.C = test_permutes (reflector_of reflectors.C) refl
-reflector_permutes reflectors.ThinB = test_permutes (reflector_of reflectors.ThinB) refl
-reflector_permutes reflectors.ThinC = test_permutes (reflector_of reflectors.ThinC) refl
+reflector_permutes reflectors.A = test_permutes _ refl
+reflector_permutes reflector = test_permutes (reflector_of reflector) refl
 
 pub reflector_returns : (reflector : Reflector) → IsOwnInverse (reflector_of reflector)
 unfolding reflector_of
 reflector_returns reflectors.A = reflection_returns (reflector_of reflectors.A) refl
-reflector_returns reflectors.B = reflection_returns (reflector_of reflectors.B) refl
-reflector_returns reflectors.C = reflection_returns (reflector_of reflectors.C) refl
-reflector_returns reflectors.ThinB = reflection_returns (reflector_of reflectors.ThinB) refl
-reflector_returns reflectors.ThinC = reflection_returns (reflector_of reflectors.ThinC) refl
+reflector_returns reflector = reflection_returns (reflector_of reflector) refl
 
 pub reflector_moves : (reflector : Reflector) → MovesEachLetter (reflector_of reflector)
 unfolding reflector_of
 reflector_moves reflectors.A = reflection_moves (reflector_of reflectors.A) refl
-reflector_moves reflectors.B = reflection_moves (reflector_of reflectors.B) refl
-reflector_moves reflectors.C = reflection_moves (reflector_of reflectors.C) refl
-reflector_moves reflectors.ThinB = reflection_moves (reflector_of reflectors.ThinB) refl
-reflector_moves reflectors.ThinC = reflection_moves (reflector_of reflectors.ThinC) refl
+reflector_moves reflector = reflection_moves (reflector_of reflector) refl
