@@ -117,6 +117,5 @@ pub(crate) fn is_in_range(setting: &Setting)
 fn are_in_range(number: u8, letter: Letter)
     ensures { (number < 2 ^ 8) × (letter < 26) }
 {
-    let _number = number;
     let _place = letter.index();
 }

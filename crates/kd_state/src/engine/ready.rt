@@ -62,7 +62,6 @@ impl Machine {
         ensures ready { IsSome result ↔ IsRotorReady parts.now }
         ensures key { IfSome result (λ engine. engine ≡ physical_key (Parts.Rotor parts.now)) }
     {
-        let _slots = parts.slots.len();
         let wheels = self.seated_wheels(parts.slots.as_slice())?;
         let plugs = plugs_of(&parts.cables)?;
         Some(Engine::of_wheels(wheels.as_slice(), parts.reflector, plugs))

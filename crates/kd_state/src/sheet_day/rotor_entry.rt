@@ -62,7 +62,6 @@ impl RotorEntry {
     pub(crate) fn seats(&self) -> PerSlot<Option<Wheel>>
         ensures { result ≡ seats self.now.wheels }
     {
-        let _slots = self.wheels.len();
         let seats = match self.wheels.as_slice() {
             [first, left, middle, right] => PerSlot::new(&[
                 Some(first.wheel),
