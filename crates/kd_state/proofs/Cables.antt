@@ -1,4 +1,5 @@
 -- The letters in the cables.
+use Rattle.std.proofs.lemmas.Grind.{common_steps}
 use Rattle.std.proofs.Common.{◌≡◌, ◌↔◌, get_or, ℕ, zero, suc, ◌+◌, ◌<◌, nat_eq, true, false, not, ◌&&◌, List, [], ◌∷◌, ◌++◌, length, map, set, drop, Option, Some, None, slice_get, refl, sym, ◌∙◌, subst, arith}
 use Rattle.kd_state.proofs.Prelude.{AllByRecursion, is_none, true≢false, cond_both, eq-eqb, or_parts, or_from}
 use Rattle.kd_state.proofs.Prelude.{leb-false, le-leb, and_parts, and_from, not-true, nat_tests, append_assoc}
@@ -15,9 +16,7 @@ eqb_flips x y = grind (arith, nat_tests)
 -- none of the letters is equal to the one exactly where it isn't among them
 pub free_of_absent : (letters : List ℕ) (letter : ℕ) → has_letter letters letter ≡ false → AllByRecursion (λ other. nat_eq letter other ≡ false) letters
 free_of_absent [] letter h = tt
-free_of_absent (other ∷ letters) letter h =
-    let parts = or_parts (nat_eq other letter) (has_letter letters letter) h in
-    (eqb_flips letter other ∙ parts.0, free_of_absent letters letter parts.1)
+free_of_absent (other ∷ letters) letter h = grind (arith, or_parts, eqb_flips, free_of_absent letters letter)
 
 pub absent_of_free : (letters : List ℕ) (letter : ℕ) → AllByRecursion (λ other. nat_eq letter other ≡ false) letters → has_letter letters letter ≡ false
 absent_of_free [] letter h = refl
@@ -28,8 +27,7 @@ pub distinct_of_new : (letters others : List ℕ) → are_new letters others ≡
 unfolding IsDistinct
 distinct_of_new [] others h rest = rest
 distinct_of_new (letter ∷ letters) others h rest =
-    let parts = and_parts (not (has_letter (letters ++ others) letter)) (are_new letters others) h in
-    (free_of_absent (letters ++ others) letter (not-true _ parts.0), distinct_of_new letters others parts.1 rest)
+    grind (arith, and_parts, free_of_absent, not-true, distinct_of_new letters others)
 
 pub new_of_distinct : (letters others : List ℕ) → IsDistinct nat_eq (letters ++ others) → (are_new letters others ≡ true) × IsDistinct nat_eq others
 unfolding IsDistinct

@@ -53,14 +53,8 @@ byte_is_word n small = numbers_are_words n (omega arith)
 -- ---- settings
 
 words_are_words : (x : Setting) → IsInRange x → AllByRecursion IsWord (setting_words x)
-words_are_words (Pull cable letter) r = (form_is_word keywords.Pull, (byte_is_word cable r.0, (letters_are_words letter, tt)))
-words_are_words (Put cable letter) r = (form_is_word keywords.Put, (byte_is_word cable r.0, (letters_are_words letter, tt)))
-words_are_words (Seat slot wheel) r = (form_is_word keywords.Seat, (byte_is_word slot r, (wheel_is_word wheel, tt)))
-words_are_words (SeatReflector reflector) r = (form_is_word keywords.SeatReflector, (reflector_is_word reflector, tt))
-words_are_words (RingTo wheel letter) r = (form_is_word keywords.RingTo, (wheel_is_word wheel, (letters_are_words letter, tt)))
-words_are_words (Turn slot letter) r = (form_is_word keywords.Turn, (byte_is_word slot r.0, (letters_are_words letter, tt)))
-words_are_words (PinTo wheel letter effective) r = (form_is_word keywords.PinTo, (byte_is_word wheel r.0, (letters_are_words letter, (pin_is_word effective, tt))))
-words_are_words (LugTo bar lug place) r = (form_is_word keywords.LugTo, (byte_is_word bar r, (lug_is_word lug, (place_is_word place, tt))))
+words_are_words x r =
+    grind (arith, form_is_word, byte_is_word, letters_are_words, wheel_is_word, reflector_is_word, pin_is_word, lug_is_word, place_is_word)
 
 pub setting_words_are_words : (x : Setting) → IsInRange x → All IsWord (setting_words x)
 setting_words_are_words x r = All-from_recursion IsWord (setting_words x) (words_are_words x r)
@@ -132,12 +126,9 @@ same_first x y xs ys rest more r s e =
 same_lists : (xs ys : List Setting) (rest more : List ℕ) → AllByRecursion IsInRange xs → AllByRecursion IsInRange ys → list_text xs ++ rest ≡ list_text ys ++ more
     → BeginsWithNoLine rest → BeginsWithNoLine more → (xs ≡ ys) × (rest ≡ more)
 same_lists [] [] rest more r s e none nor = (refl, e)
-same_lists [] (y ∷ ys) rest more r s e none nor = absurd (none y (list_text ys ++ more) s.0 (e ∙ text_of_more y ys more))
-same_lists (x ∷ xs) [] rest more r s e none nor = absurd (nor x (list_text xs ++ rest) r.0 (sym e ∙ text_of_more x xs rest))
-same_lists (x ∷ xs) (y ∷ ys) rest more r s e none nor =
-    let first : (x ≡ y) × (list_text xs ++ rest ≡ list_text ys ++ more) = same_first x y xs ys rest more r.0 s.0 e in
-    let others : (xs ≡ ys) × (rest ≡ more) = same_lists xs ys rest more r.1 s.1 first.1 none nor in
-    (cc, others.1)
+same_lists [] (y ∷ ys) rest more r s e none nor = grind (arith, none, text_of_more)
+same_lists (x ∷ xs) [] rest more r s e none nor = grind (arith, nor, text_of_more)
+same_lists (x ∷ xs) (y ∷ ys) rest more r s e none nor = grind (arith, same_first, same_lists xs ys rest more r.1 s.1)
 
 -- and no list is longer than one after which none follows
 longest : (xs ys : List Setting) (rest more : List ℕ) → AllByRecursion IsInRange xs → AllByRecursion IsInRange ys → list_text xs ++ rest ≡ list_text ys ++ more

@@ -28,10 +28,7 @@ same_slices : {X : Type 0} (xs ys : List X) → ((place : ℕ) → slice_get xs 
 same_slices [] [] same = refl
 same_slices [] (y ∷ ys) same = absurd (none-some y (same 0))
 same_slices (x ∷ xs) [] same = absurd (none-some x (sym (same 0)))
-same_slices (x ∷ xs) (y ∷ ys) same =
-    let first : x ≡ y = same_Some x y (same 0) in
-    let rest : xs ≡ ys = same_slices xs ys (λ place. same (suc place)) in
-    cc
+same_slices (x ∷ xs) (y ∷ ys) same = grind (arith, same 0, same_slices xs ys (λ place. same (suc place)))
 
 same_numbered : {X : Type 0} (xs ys : List X) → ((number : ℕ) → numbered xs number ≡ numbered ys number) → xs ≡ ys
 same_numbered xs ys same = same_slices xs ys (λ place. same (suc place))
@@ -147,12 +144,9 @@ record IsInOrder (cable : Option ℕ × Option ℕ) : Type 0 where
 cables_in_order : (cables : List (Option ℕ × Option ℕ)) (place : ℕ) → all_ordered cables ≡ cables
     → IsDistinct nat_eq (plugged_letters cables) → IfSome (slice_get cables place) IsInOrder
 cables_in_order [] place same apart = tt
-cables_in_order (cable ∷ cables) zero same apart =
-    let is : ordered cable.0 cable.1 ≡ cable = cc in
-    record { ordered = is; rest = plugged_letters cables; new = (new_of_distinct (cable_letters cable) (plugged_letters cables) apart).0 }
+cables_in_order (cable ∷ cables) zero same apart = grind (arith, new_of_distinct (cable_letters cable) (plugged_letters cables) apart)
 cables_in_order (cable ∷ cables) (suc place) same apart =
-    let rest : all_ordered cables ≡ cables = cc in
-    cables_in_order cables place rest (new_of_distinct (cable_letters cable) (plugged_letters cables) apart).1
+    grind (arith, cables_in_order cables place, new_of_distinct (cable_letters cable) (plugged_letters cables) apart)
 
 in_turn : (x y : ℕ) → ordered (Some x) (Some y) ≡ (Some x, Some y) → x ≤ y
 in_turn x y is = grind (arith, cases_Bool, leb-true, same_Some)
@@ -228,10 +222,7 @@ turns_alike (Pin m) n o wheel letter one two = alike_but (TheShown wheel) (Pin m
 bar_alike : (lug : Lug) (bar other : Option (Place × Place))
     → option_map (lug_place lug) bar ≡ option_map (lug_place lug) other
     → option_map (lug_place (other_lug lug)) bar ≡ option_map (lug_place (other_lug lug)) other → bar ≡ other
-bar_alike lug None None moved stays = refl
-bar_alike Left (Some bar) (Some other) moved stays = grind (arith, same_Some, moved)
-bar_alike Right (Some bar) (Some other) moved stays = grind (arith, same_Some, moved)
-bar_alike lug bar other moved stays = absurd (cc)
+bar_alike lug bar other moved stays = grind (arith, same_Some)
 
 both_ways_same : {A B C : Type 0} → A ↔ B → C ↔ B → A ↔ C
 both_ways_same one two = (λ a. two.1 (one.0 a), λ c. one.1 (two.0 c))

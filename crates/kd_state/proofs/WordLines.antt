@@ -25,10 +25,7 @@ split_off byte part rest h = slice_split_at (λ b. eqb b byte) part byte rest (n
 
 pub texts_tell_first_parts : TextsTellFirstParts
 texts_tell_first_parts byte first other rest more a b e =
-    let parts = sym (split_off byte first rest a) ∙ ap (slice_split (λ b. eqb b byte)) e ∙ split_off byte other more b in
-    let same : first ≡ other = cc in
-    let tails : byte ∷ rest ≡ byte ∷ more = append_cancel_left other _ _ (subst (λ part. part ++ byte ∷ rest ≡ other ++ byte ∷ more) same e) in
-    (same, cc)
+    grind (arith, split_off byte first rest a, split_off byte other more b, append_cancel_left other (byte ∷ rest) (byte ∷ more))
 
 -- ---- words
 
@@ -45,9 +42,9 @@ parts_make_lines line = join_with_byte-slice_split 32 line
 
 lines_tell : (words others : List (List ℕ)) → AllByRecursion IsWord words → AllByRecursion IsWord others → line_of words ≡ line_of others → words ≡ others
 lines_tell [] [] a b e = refl
-lines_tell [] (word ∷ words) a b e = absurd (b.0.filled (let same : [] ∷ [] ≡ word ∷ words = ap words_of e ∙ split_line word words b in cc))
-lines_tell (word ∷ words) [] a b e = absurd (a.0.filled (let same : word ∷ words ≡ [] ∷ [] = sym (split_line word words a) ∙ ap words_of e in cc))
-lines_tell (word ∷ words) (other ∷ others) a b e = sym (split_line word words a) ∙ ap words_of e ∙ split_line other others b
+lines_tell [] (word ∷ words) a b e = grind (arith, split_line word words b, b.0.filled)
+lines_tell (word ∷ words) [] a b e = grind (arith, split_line word words a, a.0.filled)
+lines_tell (word ∷ words) (other ∷ others) a b e = grind (arith, split_line word words a, split_line other others b)
 
 pub lines_tell_words : LinesTellWords
 lines_tell_words words others a b e = lines_tell words others (recursion_from_All IsWord words a) (recursion_from_All IsWord others b) e
