@@ -1,5 +1,4 @@
 -- What a machine refuses, as its readers tell it.
-use Rattle.std.proofs.lemmas.Grind.{common_steps}
 use Rattle.std.proofs.Common.{◌≡◌, ◌↔◌, ℕ, zero, suc, ◌<◌, nat_eq, ◌⊎◌, Bool, Decides, true, false, not, List, [], ◌∷◌, length, Contains, Option, Some, None, IsSome, slice_get, refl, sym, ap, ◌∙◌, inl, inr, subst, arith}
 use Rattle.kd_state.proofs.Prelude.{is_none, is_some, option_map, option_map_or, option_and_then, unwrap_or}
 use Rattle.kd_state.proofs.Prelude.{false_from_ne_true, false≢true, Contains-append_cases}

@@ -4,7 +4,7 @@ use Rattle.std.proofs.Common.{◌≡◌, ◌≢◌, ◌⊎◌, ◌↔◌, ℕ, z
 use Rattle.kd_state.proofs.Prelude.{range_with_len, is_none, option_map, option_map_or, option_and_then, cases_eq}
 use Rattle.kd_state.proofs.Prelude.{cases_Bool, leb-true, nat_tests, none-some, same_Some}
 use Rattle.kd_state.proofs.Prelude.{slice_get-map, slice_get-get_or, slice_get_cases, slice_get_past, Model, Wheel}
-use Rattle.kd_state.proofs.Prelude.{Place, Lug, Left, Right, box_of, reflectors_of, place_on, RotorParts, PinParts}
+use Rattle.kd_state.proofs.Prelude.{Place, Lug, box_of, reflectors_of, place_on, RotorParts, PinParts}
 use Rattle.kd_state.proofs.Prelude.{Parts, Rotor, Pin, Setting, Pull, Put, Seat, SeatReflector, RingTo, Turn, PinTo}
 use Rattle.kd_state.proofs.Prelude.{LugTo, numbered, place_in_box, wheel_pins, cable_letters}
 use Rattle.kd_state.proofs.Prelude.{plugged_letters, ordered, model_of, slot_in, letter_in, cable_in, standing_in}

@@ -1,6 +1,6 @@
 -- Words are told by their line, and a text's part before a byte by the text.
 use Rattle.std.proofs.lemmas.Grind.{common_steps}
-use Rattle.std.proofs.Common.{◌≡◌, ◌≢◌, ℕ, ◌^◌, ◌<◌, Bool, true, false, eqb, ltb, List, [], ◌∷◌, ◌++◌, length, map, get_or, Bor, Some, None, MatchOption, Result, Ok, MatchResult, Decides, refl, sym, ap, subst, ◌∙◌, append_assoc, length-append, arith, rules}
+use Rattle.std.proofs.Common.{◌≡◌, ◌≢◌, ℕ, ◌^◌, ◌<◌, Bool, true, false, eqb, ltb, List, [], ◌∷◌, ◌++◌, length, map, get_or, Bor, Some, None, MatchOption, Result, Ok, MatchResult, Decides, refl, sym, ap, ◌∙◌, append_assoc, length-append, arith, rules}
 use Rattle.kd_state.proofs.Prelude.{then_some, All, AllByRecursion, list_all, slice_split, AllPass-from_list_all}
 use Rattle.kd_state.proofs.Prelude.{ltb-true, ne_eqb, eq-eqb, false≢true, decimal_nonempty, digits_decimal}
 use Rattle.kd_state.proofs.Prelude.{IsAscii-decimal, parse-decimal, All-nil, All-cons, All-append, All-from_recursion}
