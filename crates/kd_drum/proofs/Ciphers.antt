@@ -35,9 +35,7 @@ later sound key m start (letter ∷ text) =
 
 append_from : (key : PinKey) (start : ℕ) (first rest : List ℕ) → cipher_from key start (first ++ rest) ≡ cipher_from key start first ++ cipher_from key (start + length first) rest
 append_from key start [] rest = ap (λ n. cipher_from key n rest) (sym (add-zero start))
-append_from key start (letter ∷ first) rest =
-    ap (λ ls. reversed_by (bars_met key start) letter ∷ ls)
-    (append_from key (start + 1) first rest ∙ ap (λ n. cipher_from key (start + 1) first ++ cipher_from key n rest) (omega arith))
+append_from key start (letter ∷ first) rest = grind (arith, key, append_from key (start + 1) first rest)
 
 pub cipher-append : RingsAreSound → (key : PinKey) (first rest : List ℕ)
     → converter_cipher key (first ++ rest) ≡ converter_cipher key first ++ converter_cipher (pin_key_after key (length first)) rest

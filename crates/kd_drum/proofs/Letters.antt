@@ -1,6 +1,5 @@
 -- Six letters that are read one by one, and the wheels that have them.
-use Rattle.std.proofs.Common.{◌≡◌, ◌↔◌, ℕ, ◌<◌, List, Contains, length, get_or, slice_index, Result, Ok, Err, IsOk, IsErr, sym, subst}
-use Rattle.std.proofs.lemmas.Bool.{false≢true}
+use Rattle.std.proofs.Common.{◌≡◌, ◌↔◌, ℕ, ◌<◌, List, Contains, length, get_or, slice_index, Result, IsOk, IsErr, sym, subst, arith}
 use Rattle.std.proofs.lemmas.List.{get_or_default}
 use Rattle.kd_drum.specs.Converter.{OnWheels}
 
@@ -15,8 +14,7 @@ read_on_wheel ring letters there place d same lt h =
     subst (Contains ring) (sym (get_or_default there place d 0 lt)) (subst (λ ls. Contains ls (slice_index there place)) (sym same) h)
 
 not_both : {X E : Type 0} (answer : Result X E) → IsErr answer → IsOk answer → ⊥
-not_both (Ok x) e ok = false≢true e
-not_both (Err x) e ok = false≢true ok
+not_both answer e d = grind arith
 
 -- the answer where one of the letters isn't on its wheel
 pub refused : {X E : Type 0} (answer : Result X E) (letters : List ℕ) → IsErr answer → (OnWheels letters → ⊥) → IsOk answer ↔ OnWheels letters

@@ -10,12 +10,10 @@ abbrev pub set_of : Bool → Bool → Bool → Bool → Bool → Bool → ℕ
 set_of a1 a2 a3 a4 a5 a6 = from_bool a1 + 2 * from_bool a2 + 4 * from_bool a3 + 8 * from_bool a4 + 16 * from_bool a5 + 32 * from_bool a6
 
 bit_is : (b : Bool) (n : ℕ) → n ≡ from_bool b → eqb n 1 ≡ b
-bit_is true n e = ap (λ k. eqb k 1) e
-bit_is false n e = ap (λ k. eqb k 1) e
+bit_is b n e = grind arith
 
 at_most_one : (b : Bool) → from_bool b ≤ 1
-at_most_one true = omega arith
-at_most_one false = omega arith
+at_most_one b = grind arith
 
 -- where a test of each of the six wheels answers as the wheel does, the bit of a wheel is what its test answers
 bits_are : (a1 a2 a3 a4 a5 a6 : Bool) (does : ℕ → Bool) → a1 ≡ does 1 → a2 ≡ does 2 → a3 ≡ does 3 → a4 ≡ does 4 → a5 ≡ does 5 → a6 ≡ does 6

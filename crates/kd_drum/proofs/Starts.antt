@@ -1,5 +1,5 @@
 -- Where the wheels stand after so many letters.
-use Rattle.std.proofs.Common.{◌≡◌, ℕ, zero, suc, ◌+◌, ◌-◌, ◌%◌, ◌<◌, ◌≤◌, Bool, true, false, ◌&&◌, ◌||◌, cond, Option, unwrap_or, List, [], ◌∷◌, length, add-zero, map, slice_index, count_by, refl, sym, ap, ◌∙◌, arith, leb}
+use Rattle.std.proofs.Common.{◌≡◌, ℕ, ◌+◌, ◌-◌, ◌%◌, ◌<◌, ◌≤◌, Bool, true, false, ◌&&◌, ◌||◌, Option, unwrap_or, List, [], ◌∷◌, length, add-zero, map, slice_index, count_by, refl, sym, ap, ◌∙◌, arith, leb}
 use Rattle.std.proofs.lemmas.Bool.{leb-true, and_parts, and_left}
 use Rattle.std.proofs.lemmas.List.{ext_get_or}
 use Rattle.std.proofs.lemmas.List.FromFn.{get_or-map-range_with_len}
@@ -14,14 +14,7 @@ use Rattle.kd_drum.specs.Standing.{StandsAs, AllStand, key_of}
 
 -- what holds of each of the six wheels holds of a wheel
 pub each_wheel : (P : ℕ → Type 0) → P 1 → P 2 → P 3 → P 4 → P 5 → P 6 → (wheel : ℕ) → 1 ≤ wheel → wheel ≤ 6 → P wheel
-each_wheel P a b c d e f zero low high = absurd (omega arith)
-each_wheel P a b c d e f (suc zero) low high = a
-each_wheel P a b c d e f (suc (suc zero)) low high = b
-each_wheel P a b c d e f (suc (suc (suc zero))) low high = c
-each_wheel P a b c d e f (suc (suc (suc (suc zero)))) low high = d
-each_wheel P a b c d e f (suc (suc (suc (suc (suc zero))))) low high = e
-each_wheel P a b c d e f (suc (suc (suc (suc (suc (suc zero)))))) low high = f
-each_wheel P a b c d e f (suc (suc (suc (suc (suc (suc (suc wheel))))))) low high = absurd (omega arith)
+each_wheel P e d g h o q wheel w y = grind arith
 
 -- a wheel has places
 pub has_places : (wheel : ℕ) → 1 ≤ wheel → wheel ≤ 6 → 0 < size_of wheel
@@ -74,10 +67,7 @@ acts_after_sum sound key m i wheel = at (leb 1 wheel && leb wheel 6) refl
 
 -- a count by tests that answer alike
 pub count_alike : {X : Type 0} (p q : X → Bool) (xs : List X) → ((x : X) → p x ≡ q x) → count_by p xs ≡ count_by q xs
-count_alike p q xs same =
-    let fewer = sum_by-le-sum_by (λ x. cond (p x) 1 0) (λ x. cond (q x) 1 0) xs (λ x. let e : cond (p x) 1 0 ≡ cond (q x) 1 0 = ap (λ (b : Bool). cond {A = ℕ} b 1 0) (same x) in omega arith) in
-    let more = sum_by-le-sum_by (λ x. cond (q x) 1 0) (λ x. cond (p x) 1 0) xs (λ x. let e : cond (p x) 1 0 ≡ cond (q x) 1 0 = ap (λ (b : Bool). cond {A = ℕ} b 1 0) (same x) in omega arith) in
-    omega (arith, fewer, more)
+count_alike p q xs same = grind (arith, sum_by-le-sum_by, p, q, same)
 
 pub bars_met_sum : RingsAreSound → (key : PinKey) (m i : ℕ) → bars_met (pin_key_after key m) i ≡ bars_met key (m + i)
 bars_met_sum sound key m i =
@@ -100,22 +90,13 @@ size_is number size wheel h = sym (ap length h.ring) ∙ h.turned.ring.full
 -- so many places on, a wheel shows the letter after so many letters
 shows_after : RingsAreSound → (key : PinKey) (number size count place : ℕ) (wheel : TurnedWheel) → StandsAs number size wheel → slice_index key.letters (number - 1) ≡ letter_shown wheel
     → (wheel.place + count) % size ≡ place → slice_index wheel.ring place ≡ letter_after key count number
-shows_after sound key number size count place wheel h shown e =
-    ap (slice_index wheel.ring) (sym e) ∙ ap (λ ring. slice_index ring ((wheel.place + count) % size)) h.ring
-    ∙ ap (λ n. slice_index (ring_of number) ((wheel.place + count) % n)) (sym (size_is number size wheel h))
-    ∙ ap (λ start. slice_index (ring_of number) ((start + count) % size_of number))
-    (sym (ap (λ letter. unwrap_or (place_on (ring_of number) letter) 0) shown ∙ start_place sound number size wheel h))
+shows_after sound key number size count place wheel h shown e = grind (arith, size, size_is, start_place)
 
 -- the acting pin of a wheel as it stands is the one that acts after no letters
 pub acts_now : RingsAreSound → (key : PinKey) (number size : ℕ) (wheel : TurnedWheel) → StandsAs number size wheel
     → slice_index key.letters (number - 1) ≡ letter_shown wheel → pins_on key.pins number ≡ wheel.pins
     → pin_acting size wheel ≡ is_effective (pins_on key.pins number) ((start_on key number + 0 + offset_of number) % size_of number)
-acts_now sound key number size wheel h shown pins =
-    let start : start_on key number ≡ wheel.place = ap (λ letter. unwrap_or (place_on (ring_of number) letter) 0) shown ∙ start_place sound number size wheel h in
-    let sum : wheel.place + wheel.offset ≡ start_on key number + 0 + offset_of number = omega (arith, start, h.offset) in
-    ap (λ n. is_effective wheel.pins (n % size)) sum
-    ∙ ap (λ n. is_effective wheel.pins ((start_on key number + 0 + offset_of number) % n)) (sym (size_is number size wheel h))
-    ∙ ap (λ p. is_effective p ((start_on key number + 0 + offset_of number) % size_of number)) (sym pins)
+acts_now sound key number size wheel h shown pins = grind (arith, key, start_place, size, size_is)
 
 -- each wheel so many places on makes the key after so many letters
 pub key_moved : (w1 w2 w3 w4 w5 w6 : TurnedWheel) (rows : List (ℕ × ℕ)) → AllStand w1 w2 w3 w4 w5 w6 → (count p1 p2 p3 p4 p5 p6 : ℕ)

@@ -1,6 +1,6 @@
 -- The letters in the cables.
-use Rattle.std.proofs.Common.{◌≡◌, ◌↔◌, get_or, ℕ, zero, suc, ◌+◌, ◌<◌, nat_eq, nat_le, true, false, not, ◌&&◌, List, [], ◌∷◌, ◌++◌, length, map, set, drop, Option, Some, None, slice_get, refl, sym, ap, ◌∙◌, subst, arith}
-use Rattle.kd_state.proofs.Prelude.{AllByRecursion, is_none, true≢false, cond_both, eqb-true, eq-eqb, or_parts, or_from}
+use Rattle.std.proofs.Common.{◌≡◌, ◌↔◌, get_or, ℕ, zero, suc, ◌+◌, ◌<◌, nat_eq, true, false, not, ◌&&◌, List, [], ◌∷◌, ◌++◌, length, map, set, drop, Option, Some, None, slice_get, refl, sym, subst, arith}
+use Rattle.kd_state.proofs.Prelude.{AllByRecursion, is_none, true≢false, cond_both, eq-eqb, or_parts, or_from}
 use Rattle.kd_state.proofs.Prelude.{leb-false, le-leb, and_parts, and_from, not-true, nat_tests, append_assoc}
 use Rattle.kd_state.proofs.Prelude.{drop_more, IsPermutation-refl, IsPermutation-trans, IsPermutation-append_comm}
 use Rattle.kd_state.proofs.Prelude.{IsPermutation-append_left, IsPermutation-append, IsPermutation-append_right}
@@ -15,29 +15,24 @@ eqb_flips x y = grind (arith, nat_tests)
 -- none of the letters is equal to the one exactly where it isn't among them
 pub free_of_absent : (letters : List ℕ) (letter : ℕ) → has_letter letters letter ≡ false → AllByRecursion (λ other. nat_eq letter other ≡ false) letters
 free_of_absent [] letter h = tt
-free_of_absent (other ∷ letters) letter h =
-    let parts = or_parts (nat_eq other letter) (has_letter letters letter) h in
-    (eqb_flips letter other ∙ parts.0, free_of_absent letters letter parts.1)
+free_of_absent (other ∷ letters) letter h = grind (arith, or_parts, eqb_flips, free_of_absent letters letter)
 
 pub absent_of_free : (letters : List ℕ) (letter : ℕ) → AllByRecursion (λ other. nat_eq letter other ≡ false) letters → has_letter letters letter ≡ false
 absent_of_free [] letter h = refl
-absent_of_free (other ∷ letters) letter h =
-    or_from (nat_eq other letter) (has_letter letters letter) (eqb_flips other letter ∙ h.0) (absent_of_free letters letter h.1)
+absent_of_free (other ∷ letters) letter h = grind (arith, or_from, eqb_flips, absent_of_free letters letter h.1)
 
 -- letters that are new before others
 pub distinct_of_new : (letters others : List ℕ) → are_new letters others ≡ true → IsDistinct nat_eq others → IsDistinct nat_eq (letters ++ others)
 unfolding IsDistinct
 distinct_of_new [] others h rest = rest
 distinct_of_new (letter ∷ letters) others h rest =
-    let parts = and_parts (not (has_letter (letters ++ others) letter)) (are_new letters others) h in
-    (free_of_absent (letters ++ others) letter (not-true _ parts.0), distinct_of_new letters others parts.1 rest)
+    grind (arith, and_parts, free_of_absent, not-true, distinct_of_new letters others)
 
 pub new_of_distinct : (letters others : List ℕ) → IsDistinct nat_eq (letters ++ others) → (are_new letters others ≡ true) × IsDistinct nat_eq others
 unfolding IsDistinct
 new_of_distinct [] others h = (refl, h)
 new_of_distinct (letter ∷ letters) others h =
-    let rest = new_of_distinct letters others h.1 in
-    (and_from (not (has_letter (letters ++ others) letter)) (are_new letters others) (ap not (absent_of_free (letters ++ others) letter h.0)) rest.0, rest.1)
+    grind (arith, new_of_distinct letters others h.1, and_from, absent_of_free)
 
 pub no_letter_twice : IsDistinct nat_eq []
 unfolding IsDistinct
@@ -45,20 +40,14 @@ no_letter_twice = tt
 
 -- the letters of a cable in order are the same letters
 pub ordered_moves : (one other : Option ℕ) → IsPermutation (cable_letters (one, other)) (cable_letters (ordered one other))
-ordered_moves None None = IsPermutation-refl []
-ordered_moves (Some letter) (Some other) =
-    cond_both (nat_le letter other) (Some letter, Some other) (Some other, Some letter) (λ cable. IsPermutation (letter ∷ other ∷ []) (cable_letters cable))
-    (λ _. IsPermutation-refl (letter ∷ other ∷ [])) (λ _. IsPermutation-append_comm (letter ∷ []) (other ∷ []))
-ordered_moves one other = IsPermutation-refl (cable_letters (one, other))
+ordered_moves one other = grind (arith, cond_both, IsPermutation-append_comm)
 
 abbrev pub all_ordered : List (Option ℕ × Option ℕ) → List (Option ℕ × Option ℕ)
 all_ordered cables = map (λ cable. ordered cable.0 cable.1) cables
 
 pub all_ordered_move : (cables : List (Option ℕ × Option ℕ)) → IsPermutation (plugged_letters cables) (plugged_letters (all_ordered cables))
 all_ordered_move [] = IsPermutation-refl []
-all_ordered_move (cable ∷ cables) =
-    IsPermutation-append (cable_letters cable) (cable_letters (ordered cable.0 cable.1)) (plugged_letters cables) (plugged_letters (all_ordered cables))
-    (ordered_moves cable.0 cable.1) (all_ordered_move cables)
+all_ordered_move (cable ∷ cables) = grind (arith, IsPermutation-append, ordered, ordered_moves, all_ordered_move cables)
 
 -- what is in order stays so
 in_order : Option ℕ × Option ℕ → Type 0
@@ -66,39 +55,23 @@ in_order cable = ordered cable.0 cable.1 ≡ cable
 
 pub ordered_again : (one other : Option ℕ) → ordered (ordered one other).0 (ordered one other).1 ≡ ordered one other
 unfolding in_order
-ordered_again None None = refl
-ordered_again (Some letter) (Some other) =
-    cond_both (nat_le letter other) (Some letter, Some other) (Some other, Some letter) in_order (λ e. rw e refl)
-    (λ e. rw (le-leb other letter (omega (arith, leb-false letter other e))) refl)
-ordered_again one other = refl
+ordered_again one other = grind (arith, cond_both, in_order, le-leb, leb-false)
 
 pub all_ordered_again : (cables : List (Option ℕ × Option ℕ)) → all_ordered (all_ordered cables) ≡ all_ordered cables
 all_ordered_again [] = refl
-all_ordered_again (cable ∷ cables) =
-    ap (λ first. first ∷ all_ordered (all_ordered cables)) (ordered_again cable.0 cable.1) ∙ ap (λ rest. ordered cable.0 cable.1 ∷ rest) (all_ordered_again cables)
+all_ordered_again (cable ∷ cables) = grind (arith, ordered_again, ordered, all_ordered_again cables)
 
 pub without_ordered : (letter : ℕ) (one other : Option ℕ) → ordered (cable_without letter (one, other)).0 (cable_without letter (one, other)).1 ≡ cable_without letter (one, other)
 unfolding in_order
-without_ordered letter None other = refl
-without_ordered letter (Some end) None = cond_both (nat_eq letter end) (None, None) (Some end, None) in_order (λ _. refl) (λ _. refl)
-without_ordered letter (Some end) (Some other) = cond_both (nat_eq letter end) (Some other, None) (Some end, None) in_order (λ _. refl) (λ _. refl)
+without_ordered letter one other = grind (arith, cond_both, in_order)
 
 -- a letter that is taken out of its cable, before those that stay
 pub without_moves : (letter : ℕ) (one other : Option ℕ) → has_letter (cable_letters (one, other)) letter ≡ true
     → IsPermutation (cable_letters (one, other)) (letter ∷ cable_letters (cable_without letter (one, other)))
 without_moves letter None None h = absurd (true≢false (sym h))
-without_moves letter None (Some end) h =
-    let e : letter ≡ end = grind (arith, nat_tests) in
-    subst (λ (x : ℕ). IsPermutation (x ∷ []) (letter ∷ [])) e (IsPermutation-refl (letter ∷ []))
-without_moves letter (Some end) None h =
-    let e : letter ≡ end = grind (arith, nat_tests) in
-    rw (eq-eqb letter end e) (subst (λ (x : ℕ). IsPermutation (x ∷ []) (letter ∷ [])) e (IsPermutation-refl (letter ∷ [])))
-without_moves letter (Some end) (Some other) h =
-    cond_both (nat_eq letter end) (Some other, None) (Some end, None) (λ cable. IsPermutation (end ∷ other ∷ []) (letter ∷ cable_letters cable))
-    (λ e. subst (λ (x : ℕ). IsPermutation (x ∷ other ∷ []) (letter ∷ other ∷ [])) (eqb-true letter end e) (IsPermutation-refl (letter ∷ other ∷ [])))
-    (λ e.
-    let is : letter ≡ other = grind (arith, nat_tests) in
-    subst (λ (x : ℕ). IsPermutation (end ∷ x ∷ []) (letter ∷ end ∷ [])) is (IsPermutation-append_comm (end ∷ []) (letter ∷ [])))
+without_moves letter None (Some end) h = grind arith
+without_moves letter (Some end) None h = grind (arith, eq-eqb)
+without_moves letter (Some end) (Some other) h = grind (arith, Some, IsPermutation-append_comm (end ∷ []) (letter ∷ []))
 
 -- a letter that is put into a loose end
 after_end : (letter end : ℕ) → IsPermutation (letter ∷ end ∷ []) (cable_letters (ordered (Some end) (Some letter)))
@@ -107,10 +80,7 @@ after_end letter end =
 
 pub with_moves : (letter : ℕ) (one other : Option ℕ) → (not (is_none one) && not (is_none other)) ≡ false
     → IsPermutation (letter ∷ cable_letters (one, other)) (cable_letters (cable_with letter (one, other)))
-with_moves letter None None h = IsPermutation-refl (letter ∷ [])
-with_moves letter None (Some end) h = after_end letter end
-with_moves letter (Some end) None h = after_end letter end
-with_moves letter (Some end) (Some other) h = absurd (true≢false h)
+with_moves letter one other e = grind (arith, after_end)
 
 -- one cable with other letters
 past : (first letters rest : List ℕ) → IsPermutation (first ++ (letters ++ rest)) (letters ++ (first ++ rest))
@@ -135,10 +105,4 @@ set_moves out into (first ∷ cables) (suc place) cable new here moves =
 pub distinct_from : (cables : List (Option ℕ × Option ℕ)) (place : ℕ) (cable : Option ℕ × Option ℕ) → place < length cables → cable ≡ get_or cables place cable
     → IsDistinct nat_eq (plugged_letters (drop place cables))
     ↔ ((are_new (cable_letters cable) (plugged_letters (drop (place + 1) cables)) ≡ true) × IsDistinct nat_eq (plugged_letters (drop (place + 1) cables)))
-distinct_from cables place cable within is =
-    let rest = plugged_letters (drop (place + 1) cables) in
-    let all : plugged_letters (drop place cables) ≡ cable_letters cable ++ rest =
-    ap plugged_letters (drop_more cables place cable within) ∙ ap (λ (c : Option ℕ × Option ℕ). cable_letters c ++ rest) (sym is) in (
-      λ h. new_of_distinct (cable_letters cable) rest (subst (IsDistinct nat_eq) all h),
-      λ h. subst (IsDistinct nat_eq) (sym all) (distinct_of_new (cable_letters cable) rest h.0 h.1),
-    )
+distinct_from cables place cable within is = grind (arith, drop_more, new_of_distinct, distinct_of_new)

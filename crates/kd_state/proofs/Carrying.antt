@@ -1,5 +1,5 @@
 -- Settings and lists of them, refused and carried out.
-use Rattle.std.proofs.Common.{Bool, Decides, ◌≡◌, ◌↔◌, ℕ, not, List, [], ◌∷◌, All, Contains, Option, Some, None, MatchOption, refl, sym, ◌∙◌, subst}
+use Rattle.std.proofs.Common.{Bool, Decides, ◌≡◌, ◌↔◌, ℕ, not, List, [], ◌∷◌, All, Contains, Option, None, MatchOption, refl, sym, ◌∙◌, subst, arith}
 use Rattle.kd_state.proofs.Prelude.{not-false, All-head, All-tail, none-some, Wheel, Reflector, box_of, wheels_for}
 use Rattle.kd_state.proofs.Prelude.{reflectors_of, IsAllowed, RotorParts, Parts, Rotor, Setting, Seat, SeatReflector}
 use Rattle.kd_state.proofs.Prelude.{RingTo, Why, WheelNotAllowed, IsMachine, why_refused, changed, Carries, Leads}
@@ -13,8 +13,7 @@ lists_keep_machines m n (x ∷ xs) h r l =
     lists_keep_machines l.0 n xs (settings_keep_machines m l.0 x h (All-head IsInRange x xs r) l.1) (All-tail IsInRange x xs r) l.2
 
 either : (m : Parts) (x : Setting) (why : Option Why) → why_refused m x ≡ why → MatchOption why ((n : Parts) × Carries m x n) (λ why. (n : Parts) → ¬ (Carries m x n))
-either m x None e = (changed m x, record { allowed = e; made = refl })
-either m x (Some why) e = λ n c. none-some why (sym c.allowed ∙ e)
+either m x why e = grind (arith, changed, none-some)
 
 pub refuses_or_carries : (m : Parts) (x : Setting) → MatchOption (why_refused m x) ((n : Parts) × Carries m x n) (λ why. (n : Parts) → ¬ (Carries m x n))
 refuses_or_carries m x = either m x (why_refused m x) refl
@@ -29,10 +28,7 @@ leads_to_one m n o (x ∷ xs) one other =
 
 -- a refusal by one test alone
 pub by_one_test : {P : Type 0} (may : Bool) (why : Why) → Decides may P → (first_reason ((not may, why) ∷ []) ≡ None) ↔ P
-by_one_test may why tells = (
-  λ e. tells.0 (not-false may (no_reason ((not may, why) ∷ []) e).0),
-  λ h. rw (tells.1 h) refl,
-)
+by_one_test may why tells = grind (arith, not-false, no_reason, tells.1)
 
 pub seats_by_the_tables : (m : RotorParts) (slot : ℕ) (wheel : Wheel) → (why_refused (Rotor m) (Seat slot wheel) ≡ None) ↔ IsAllowed m.model slot wheel
 seats_by_the_tables m slot wheel = by_one_test _ WheelNotAllowed (has_wheel-Decides (wheels_for m.model slot) wheel)

@@ -1,21 +1,22 @@
 -- What a setting that is carried out makes of a machine: a machine again, in which the readers tell what was set, and all else as before.
-use Rattle.std.proofs.Common.{◌≡◌, ◌≢◌, ◌⊎◌, ◌↔◌, ℕ, zero, suc, ◌+◌, ◌-◌, ◌<◌, ◌≤◌, nat_eq, Bool, true, false, List, [], ◌∷◌, length, map, set, find, All, Contains, Option, Some, None, slice_get, refl, sym, ap, ◌∙◌, inl, inr, subst, arith}
+use Rattle.std.proofs.lemmas.Grind.{common_steps}
+use Rattle.std.proofs.Common.{◌≡◌, ◌≢◌, ◌⊎◌, ◌↔◌, ℕ, zero, suc, ◌+◌, ◌-◌, ◌<◌, ◌≤◌, nat_eq, Bool, true, false, List, [], ◌∷◌, length, map, set, find, All, Contains, Option, Some, None, slice_get, refl, sym, ap, ◌∙◌, inl, inr, subst, arith, rules}
 use Rattle.kd_state.proofs.Prelude.{AllByRecursion, is_none, option_map, option_or, option_and_then, unwrap_or}
-use Rattle.kd_state.proofs.Prelude.{cases_eq, cases_Bool, both_ways, not-false, false≢true, eqb-false}
-use Rattle.kd_state.proofs.Prelude.{true_from_ne_false, nat_tests, not_from_Decides, length-set, map-set, length-map}
+use Rattle.kd_state.proofs.Prelude.{cases_eq, cases_Bool, both_ways, not-false, eqb-false}
+use Rattle.kd_state.proofs.Prelude.{true_from_ne_false, length-set, map-set, length-map}
 use Rattle.kd_state.proofs.Prelude.{All-set, All-tail, All-cons, All-contains, All-from_recursion, Contains-append_left}
 use Rattle.kd_state.proofs.Prelude.{Contains-append_right, Contains-append_cases, position-Some, All-permutation}
 use Rattle.kd_state.proofs.Prelude.{Contains-permutation, IsPermutation-sym, Contains-tail, none-some, same_Some}
-use Rattle.kd_state.proofs.Prelude.{slice_get-map, slice_get_within, Model, Wheel, Reflector, Place, Lug, Left, Right}
+use Rattle.kd_state.proofs.Prelude.{slice_get-map, slice_get_within, Model, Wheel, Reflector, Place, Lug}
 use Rattle.kd_state.proofs.Prelude.{box_of, wheels_for, reflectors_of, IsAllowed, place_on, IsBefore, RotorParts}
 use Rattle.kd_state.proofs.Prelude.{PinParts, Parts, Rotor, Pin, Setting, Pull, Put, Seat, SeatReflector, RingTo, Turn}
-use Rattle.kd_state.proofs.Prelude.{PinTo, LugTo, Why, WouldPass, numbered, same_wheel, has_wheel, place_in_box}
+use Rattle.kd_state.proofs.Prelude.{PinTo, LugTo, Why, WouldPass, numbered, place_in_box}
 use Rattle.kd_state.proofs.Prelude.{wheel_pins, pin_at, pin_set, with_pin, cable_letters, plugged_letters, ordered}
 use Rattle.kd_state.proofs.Prelude.{StandsAt, AreLetters, AreCables, IsLegalRotor, IsLegalPin, IsMachine}
 use Rattle.kd_state.proofs.Prelude.{cables_ordered, cable_at, cable_without, cable_with, without, with_letter, with_lug}
 use Rattle.kd_state.proofs.Prelude.{with_lug_at, lug_place, other_lug, is_at, lies_beyond, reasons, why_refused}
-use Rattle.kd_state.proofs.Prelude.{changed, Thing, TheSlot, TheReflector, TheRing, TheLetter, TheCable, ThePin}
-use Rattle.kd_state.proofs.Prelude.{TheShown, TheBar, IsKept, SetsOnly, Turns, MovesLug, Makes, IsSeatOf}
+use Rattle.kd_state.proofs.Prelude.{changed, Thing, TheSlot, TheReflector, TheLetter, TheCable, ThePin}
+use Rattle.kd_state.proofs.Prelude.{TheBar, IsKept, SetsOnly, Turns, MovesLug, Makes, IsSeatOf}
 use Rattle.kd_state.proofs.Prelude.{SettingsAreTold, SettingsKeepMachines, IsInRange}
 use Rattle.std.specs.List.{IsDistinct}
 use Rattle.std.specs.List.Sorted.{IsPermutation}
@@ -66,37 +67,22 @@ record AreFree (letters : List ℕ) : Type 0 where
   apart : IsDistinct nat_eq letters
 
 moved_free : (letters others : List ℕ) → IsPermutation letters others → AreFree letters → AreFree others
-moved_free letters others moved h = record {
-  within = All-permutation (λ (l : ℕ). l < 26) letters others moved h.within;
-  apart = IsDistinct-IsPermutation nat_eq eqb_flips letters others moved h.apart;
-}
+moved_free letters others moved h = search (rules, All-permutation, moved, IsDistinct-IsPermutation, eqb_flips)
 
 pub lies_plugged : (cables : List (Option ℕ × Option ℕ)) (place : ℕ) (cable : Option ℕ × Option ℕ) (letter : ℕ) → slice_get cables place ≡ Some cable
     → Contains (cable_letters cable) letter → Contains (plugged_letters cables) letter
 lies_plugged [] place cable letter here lies = absurd (none-some cable here)
-lies_plugged (first ∷ cables) zero cable letter here lies =
-    Contains-append_left (cable_letters first) (plugged_letters cables) letter (subst (λ c. Contains (cable_letters c) letter) (sym (same_Some first cable here)) lies)
+lies_plugged (first ∷ cables) zero cable letter here lies = grind (arith, Contains-append_left, same_Some)
 lies_plugged (first ∷ cables) (suc place) cable letter here lies =
     Contains-append_right (cable_letters first) (plugged_letters cables) letter (lies_plugged cables place cable letter here lies)
 
 keeps_cables : (m : RotorParts) (cable : ℕ) (new : Option ℕ × Option ℕ) → 1 ≤ cable
     → SetsOnly (TheCable cable) (Rotor m) (Rotor (record m { cables = set m.cables (cable - 1) new }))
-keeps_cables m cable new first = record {
-  model = refl;
-  others = λ thing. elim thing as (Keeps (TheCable cable) (Rotor m) (Rotor (record m { cables = set m.cables (cable - 1) new }))) [
-    | TheCable other ↦ λ free. numbered_other m.cables cable other new first (λ e. free (ap TheCable e))
-    | _ ↦ λ _. refl
-  ];
-}
+keeps_cables m cable new first = grind (arith, numbered_other)
 
 with_cable : (m : RotorParts) (cable : ℕ) (new : Option ℕ × Option ℕ) → IsMachine (Rotor m) → ordered new.0 new.1 ≡ new
     → AreFree (plugged_letters (set m.cables (cable - 1) new)) → IsMachine (Rotor (record m { cables = set m.cables (cable - 1) new }))
-with_cable m cable new h o free =
-    let l = h.legal in
-    let cables : AreCables (set m.cables (cable - 1) new) = record { count = length-set m.cables (cable - 1) new ∙ l.cables.count; within = free.within; apart = free.apart } in
-    rotor_machine _ (record { slots = l.slots; allowed = l.allowed; apart = l.apart; reflector = l.reflector; rings = l.rings; letters = l.letters; cables = cables })
-    (map-set (λ (cable : Option ℕ × Option ℕ). ordered cable.0 cable.1) m.cables (cable - 1) new
-    ∙ ap (λ cs. set cs (cable - 1) (ordered new.0 new.1)) (in_their_order m h.cables) ∙ ap (λ c. set m.cables (cable - 1) c) o)
+with_cable m cable new h o free = grind (arith, length-set, rotor_machine, map-set, ordered, in_their_order)
 
 pull : (m : RotorParts) (cable letter : ℕ) → IsMachine (Rotor m) → why_refused (Rotor m) (Pull cable letter) ≡ None → IsCarried (Rotor m) (Pull cable letter)
 pull m cable letter h allowed =
@@ -168,24 +154,14 @@ ordered_parts m l =
 -- ---- slots
 
 numbered-map : {X Y : Type 0} (f : X → Y) (xs : List X) (number : ℕ) → numbered (map f xs) number ≡ option_map f (numbered xs number)
-numbered-map f xs zero = refl
-numbered-map f xs (suc place) = slice_get-map f xs place
+numbered-map f xs number = grind (arith, slice_get-map)
 
 -- what a slot holds once the wheel was taken out: what it held, unless it was the wheel
 not_held : (wheel : Wheel) (held : Option (Option Wheel)) → held ≢ Some (Some wheel) → option_map (without wheel) held ≡ held
-not_held wheel (Some (Some other)) free = rw (same_wheel_differs wheel other (λ e. free (ap (λ w. Some (Some w)) (sym e)))) refl
-not_held wheel held free = refl
+not_held wheel held e = grind (arith, same_wheel_differs)
 
 left_standing : (wheel other : Wheel) (held : Option (Option Wheel)) → option_map (without wheel) held ≡ Some (Some other) → (held ≡ Some (Some other)) × (other ≢ wheel)
-left_standing wheel other (Some (Some there)) e =
-    let left = same_Some _ _ e in
-    elim (cases_Bool (same_wheel wheel there)) [
-      | inl same ↦ absurd (none-some other (rw same at left))
-      | inr differs ↦
-          let stays : Some there ≡ Some other = rw differs at left in
-          (ap Some stays, λ f. both_ways _ differs ((same_wheel-Decides wheel there).1 (sym (same_Some _ _ stays ∙ f))))
-    ]
-left_standing wheel other held e = absurd (cc)
+left_standing wheel other held e = grind (arith, same_Some, cases_Bool, none-some, both_ways, same_wheel-Decides)
 
 -- a wheel that stands once another was seated is that one in its slot, or stood there before
 seat_cases : (slots : List (Option Wheel)) (at : ℕ) (wheel : Wheel) (place : ℕ) (other : Wheel) → StandsAt (set (map (without wheel) slots) at (Some wheel)) place other
@@ -193,10 +169,7 @@ seat_cases : (slots : List (Option Wheel)) (at : ℕ) (wheel : Wheel) (place : �
 seat_cases slots at wheel place other stands =
     let left = map (without wheel) slots in
     elim (cases_eq place at) [
-      | inl e ↦
-          let within : place < length left = omega (arith, slice_get_within (set left at (Some wheel)) place (Some other) stands, length-set left at (Some wheel)) in
-          let now : slice_get (set left at (Some wheel)) place ≡ Some (Some wheel) = subst (λ (p : ℕ). slice_get (set left p (Some wheel)) place ≡ Some (Some wheel)) e (set_here left place (Some wheel) within) in
-          inl (e, same_Some _ _ (same_Some _ _ (sym stands ∙ now)))
+      | inl e ↦ grind (arith, slice_get_within, stands, length-set, set_here, same_Some)
       | inr ne ↦ inr (left_standing wheel other (slice_get slots place) (sym (slice_get-map (without wheel) slots place) ∙ sym (set_other left at place (Some wheel) ne) ∙ stands))
     ]
 
@@ -234,10 +207,7 @@ seat m slot wheel h allowed =
               subst (λ (n : ℕ). IsAllowed m.model n other) one (subst (IsAllowed m.model slot) (sym here.1) may)
           | inr there ↦ l.allowed place other there.0
         ];
-        apart = λ place another other e f. elim (cases place other e) [
-          | inl here ↦ elim (cases another other f) [ inl also ↦ here.0 ∙ sym also.0 | inr there ↦ absurd (there.1 here.1) ]
-          | inr there ↦ elim (cases another other f) [ inl here ↦ absurd (there.1 here.1) | inr also ↦ l.apart place another other there.0 also.0 ]
-        ];
+        apart = grind (arith, cases, l.apart);
         reflector = l.reflector;
         rings = l.rings;
         letters = l.letters;
@@ -247,45 +217,30 @@ seat m slot wheel h allowed =
 
 reflect : (m : RotorParts) (reflector : Reflector) → IsMachine (Rotor m) → why_refused (Rotor m) (SeatReflector reflector) ≡ None → IsCarried (Rotor m) (SeatReflector reflector)
 reflect m reflector h allowed =
-    let l = h.legal in
     let no = no_reason (reasons (Rotor m) (SeatReflector reflector)) allowed in
     let may = (has_reflector-Decides (reflectors_of m.model) reflector).0 (not-false _ no.0) in
     let others : (thing : Thing) → Keeps TheReflector (Rotor m) (Rotor (record m { reflector = reflector })) thing =
     λ thing. elim thing as (Keeps TheReflector (Rotor m) (Rotor (record m { reflector = reflector }))) [ TheReflector ↦ λ free. absurd (free refl) | _ ↦ λ _. refl ] in
     record {
       told = (refl, record { model = refl; others = others });
-      kept = λ _. rotor_machine _ (record { slots = l.slots; allowed = l.allowed; apart = l.apart; reflector = may; rings = l.rings; letters = l.letters; cables = l.cables })
-          (in_their_order m h.cables);
+      kept = grind (arith, rotor_machine, in_their_order);
     }
 
 -- ---- rings and window letters
 
 letters_set : (number : ℕ) (letters : List ℕ) (place letter : ℕ) → letter < 26 → AreLetters number letters → AreLetters number (set letters place letter)
-letters_set number letters place letter within h = record {
-  count = length-set letters place letter ∙ h.count;
-  within = All-set (λ (l : ℕ). l < 26) letters place letter within h.within;
-}
+letters_set number letters place letter within h = grind (arith, common_steps, length-set, All-set)
 
 -- a letter that is set for a wheel of the box is read for that wheel, and for no other one
 for_wheel : (model : Model) (letters : List ℕ) (wheel : Wheel) (letter : ℕ) → Contains (box_of model) wheel → AreLetters (length (box_of model)) letters
     → (slice_get (set letters (place_in_box model wheel) letter) (place_in_box model wheel) ≡ Some letter)
     × ((other : Wheel) → other ≢ wheel → slice_get (set letters (place_in_box model wheel) letter) (place_in_box model other) ≡ slice_get letters (place_in_box model other))
-for_wheel model letters wheel letter boxed h = (
-  set_here letters (place_in_box model wheel) letter (omega (arith, place_within model wheel boxed, h.count)),
-  λ other ne. set_other letters (place_in_box model wheel) (place_in_box model other) letter (λ e. elim (cases_Bool (has_wheel (box_of model) other)) [
-    | inl has ↦ ne (places_tell_wheels model other wheel ((has_wheel-Decides (box_of model) other).0 has) boxed e)
-    | inr lacks ↦
-        let nowhere = place_nowhere model other (not_from_Decides _ (has_wheel-Decides (box_of model) other) lacks) in
-        omega (arith, place_within model wheel boxed, nowhere, e)
-  ]),
-)
+for_wheel model letters wheel letter boxed h =
+    grind (arith, set_here, place_within, set_other, cases_Bool, places_tell_wheels, has_wheel-Decides, place_nowhere)
 
 pub with_letters : (m : RotorParts) (rings letters : List ℕ) → IsMachine (Rotor m) → AreLetters (length (box_of m.model)) rings → AreLetters (length (box_of m.model)) letters
     → IsMachine (Rotor (record m { rings = rings; letters = letters }))
-with_letters m rings letters h are also =
-    let l = h.legal in
-    rotor_machine _ (record { slots = l.slots; allowed = l.allowed; apart = l.apart; reflector = l.reflector; rings = are; letters = also; cables = l.cables })
-    (in_their_order m h.cables)
+with_letters m rings letters h are also = grind (arith, rotor_machine, in_their_order)
 
 ring_to : (m : RotorParts) (wheel : Wheel) (letter : ℕ) → IsMachine (Rotor m) → why_refused (Rotor m) (RingTo wheel letter) ≡ None → IsCarried (Rotor m) (RingTo wheel letter)
 ring_to m wheel letter h allowed =
@@ -294,22 +249,12 @@ ring_to m wheel letter h allowed =
     let place = place_in_box m.model wheel in
     let reads = for_wheel m.model m.rings wheel letter ((has_wheel-Decides (box_of m.model) wheel).0 (not-false _ no.0)) l.rings in
     record {
-      told = (
-        reads.0,
-        record {
-          model = refl;
-          others = λ thing. elim thing as (Keeps (TheRing wheel) (Rotor m) (Rotor (record m { rings = set m.rings place letter }))) [
-            | TheRing other ↦ λ free. reads.1 other (λ e. free (ap TheRing e))
-            | _ ↦ λ _. refl
-          ];
-        },
-      );
+      told = grind arith;
       kept = λ within. with_letters m _ m.letters h (letters_set _ m.rings place letter within l.rings) l.letters;
     }
 
 is_seated : (held : Option (Option Wheel)) → is_none (unwrap_or held None) ≡ false → (wheel : Wheel) × (held ≡ Some (Some wheel))
-is_seated (Some (Some wheel)) e = (wheel, refl)
-is_seated held e = absurd (false≢true (sym e))
+is_seated held e = grind arith
 
 turn : (m : RotorParts) (slot letter : ℕ) → IsMachine (Rotor m) → why_refused (Rotor m) (Turn slot letter) ≡ None → IsCarried (Rotor m) (Turn slot letter)
 turn m slot letter h allowed =
@@ -346,27 +291,15 @@ show m wheel letter h allowed =
     let no = no_reason (reasons (Pin m) (Turn wheel letter)) allowed in
     let at = stands m.letters wheel 0 (not_none _ no.0) in
     let on = (has_letter-Decides (ring_of wheel) letter).0 (not-false _ no.1.0) in
-    let new = set m.letters (wheel - 1) letter in
     let now = numbered_here m.letters wheel letter at.first at.last in
     record {
-      told = (
-        now,
-        record {
-          model = refl;
-          others = λ thing. elim thing as (Keeps (TheShown wheel) (Pin m) (Pin (record m { letters = new }))) [
-            | TheShown other ↦ λ free. numbered_other m.letters wheel other letter at.first (λ e. free (ap TheShown e))
-            | _ ↦ λ _. refl
-          ];
-        },
-      );
+      told = grind (arith, numbered_other);
       kept = λ _. pin_machine _ (record {
         pins = l.pins;
         letters = record {
           count = length-set m.letters (wheel - 1) letter ∙ l.letters.count;
           each = λ other shown reads. elim (cases_eq other wheel) [
-            | inl e ↦
-                let is : letter ≡ shown = same_Some _ _ (sym now ∙ ap (numbered new) (sym e) ∙ reads) in
-                subst (λ (w : ℕ). Contains (ring_of w) shown) (sym e) (subst (Contains (ring_of wheel)) is on)
+            | inl e ↦ grind (arith, shown, same_Some)
             | inr ne ↦ l.letters.each other shown (sym (numbered_other m.letters wheel other letter at.first ne) ∙ reads)
           ];
         };
@@ -377,15 +310,12 @@ show m wheel letter h allowed =
 
 -- six lists are the pins that are made of them
 six_lists : (pins : PinSet) (place : ℕ) (list : List Bool) → pins_of (pin_set (set (pins_of pins) place list)) ≡ set (pins_of pins) place list
-six_lists pins (suc (suc (suc (suc (suc zero))))) list = refl
-six_lists pins place list = refl
+six_lists pins place list = grind arith
 
 -- another letter's pin, of the pins of one wheel
 other_pin : (ring : List ℕ) (list : List Bool) (letter other place : ℕ) (effective : Bool) (found : Option ℕ) → place_on ring letter ≡ Some place → place_on ring other ≡ found → other ≢ letter
     → option_and_then (slice_get (set list place effective)) found ≡ option_and_then (slice_get list) found
-other_pin ring list letter other place effective None e f ne = refl
-other_pin ring list letter other place effective (Some another) e f ne =
-    set_other list place another effective (λ same. ne (only_place ring letter other place e (f ∙ ap Some same)))
+other_pin ring list letter other place effective found e d g = grind (arith, set_other, only_place)
 
 pin_to : (m : PinParts) (wheel letter : ℕ) (effective : Bool) → IsMachine (Pin m) → why_refused (Pin m) (PinTo wheel letter effective) ≡ None → IsCarried (Pin m) (PinTo wheel letter effective)
 pin_to m wheel letter effective h allowed =
@@ -410,47 +340,32 @@ pin_to m wheel letter effective h allowed =
           model = refl;
           others = λ thing. elim thing as (Keeps (ThePin wheel letter) (Pin m) (Pin (record m { pins = pins }))) [
             | ThePin turned other ↦ λ free. elim (cases_eq turned wheel) [
-              | inl e ↦ subst (λ w. pin_at pins w other ≡ pin_at m.pins w other) (sym e)
-                  (ap (λ list. option_and_then (slice_get list) (place_on (ring_of wheel) other)) here
-                  ∙ other_pin (ring_of wheel) old letter other place effective (place_on (ring_of wheel) other) there refl (λ f. free (ap (λ w. ThePin w other) e ∙ ap (ThePin wheel) f)))
+              | inl e ↦ grind (arith, pin_at, other_pin)
               | inr ne ↦ ap (λ list. option_and_then (slice_get list) (place_on (ring_of turned) other)) (elsewhere turned ne)
             ]
             | _ ↦ λ _. refl
           ];
         },
       );
-      kept = λ _. pin_machine _ (record {
-        pins = λ other. elim (cases_eq other wheel) [
-          | inl e ↦ subst (λ w. length (wheel_pins pins w) ≡ length (ring_of w)) (sym e) (ap length here ∙ length-set old place effective ∙ l.pins wheel)
-          | inr ne ↦ ap length (elsewhere other ne) ∙ l.pins other
-        ];
-        letters = l.letters;
-        bars = l.bars;
-        apart = l.apart;
-      });
+      kept = grind (arith, pin_machine, cases_eq, length-set, l.pins, elsewhere);
     }
 
 -- a lug that is set stands there, the other one where it stood, and the left one before the right one unless it lies beyond the other
 lug_set : (lug : Lug) (place : Place) (bar : Place × Place) → (lug_place lug (with_lug lug place bar) ≡ place) × (lug_place (other_lug lug) (with_lug lug place bar) ≡ lug_place (other_lug lug) bar)
-lug_set Left place bar = (refl, refl)
-lug_set Right place bar = (refl, refl)
+lug_set lug place bar = grind arith
 
 pub still_before : (lug : Lug) (place : Place) (bar : Place × Place) → is_at place (lug_place (other_lug lug) bar) ≡ false → lies_beyond lug place (lug_place (other_lug lug) bar) ≡ false
     → IsBefore (with_lug lug place bar).0 (with_lug lug place bar).1
-still_before Left place bar apart within = grind (arith, nat_tests)
-still_before Right place bar apart within = grind (arith, nat_tests)
+still_before lug place bar e d = grind arith
 
 lug_to : (m : PinParts) (bar : ℕ) (lug : Lug) (place : Place) → IsMachine (Pin m) → why_refused (Pin m) (LugTo bar lug place) ≡ None → IsCarried (Pin m) (LugTo bar lug place)
 lug_to m bar lug place h allowed =
-    let l = h.legal in
     let no = no_reason (reasons (Pin m) (LugTo bar lug place)) allowed in
     let at = stands m.bars bar (place, place) (not_none _ no.0) in
     let standing = unwrap_or (numbered m.bars bar) (place, place) in
     let new = with_lug lug place standing in
     let bars = set m.bars (bar - 1) new in
     let now = numbered_here m.bars bar new at.first at.last in
-    let apart : is_at place (lug_place (other_lug lug) standing) ≡ false = rw at.is at no.1.0 in
-    let within : lies_beyond lug place (lug_place (other_lug lug) standing) ≡ false = rw at.is at no.1.1.0 in
     let all : with_lug_at m bar lug place ≡ bars = rw at.is refl in
     let moved : MovesLug (Pin m) bar lug place (Pin (record m { bars = bars })) = record {
       moved = ap (option_map (lug_place lug)) now ∙ ap Some (lug_set lug place standing).0;
@@ -467,19 +382,13 @@ lug_to m bar lug place h allowed =
     in
     record {
       told = subst (λ bars. Makes (Pin m) (LugTo bar lug place) (Pin (record m { bars = bars }))) (sym all) (moved, kept);
-      kept = λ _. subst (λ bars. IsMachine (Pin (record m { bars = bars }))) (sym all) (pin_machine (record m { bars = bars }) (record {
-        pins = l.pins;
-        letters = l.letters;
-        bars = length-set m.bars (bar - 1) new ∙ l.bars;
-        apart = All-set (λ (b : Place × Place). IsBefore b.0 b.1) m.bars (bar - 1) new (still_before lug place standing apart within) l.apart;
-      }));
+      kept = grind (arith, common_steps, pin_machine, length-set, All-set, still_before);
     }
 
 -- a lug that would pass the other one
 pub would_pass : (m : PinParts) (bar : ℕ) (lug : Lug) (place : Place) (standing : Place × Place) → numbered m.bars bar ≡ Some standing
     → is_at place (lug_place (other_lug lug) standing) ≡ false → ¬ (IsBefore (with_lug lug place standing).0 (with_lug lug place standing).1) → why_refused (Pin m) (LugTo bar lug place) ≡ Some WouldPass
-would_pass m bar lug place standing here apart not_before =
-    rw (here, apart, true_from_ne_false _ (λ within. not_before (still_before lug place standing apart within))) refl
+would_pass m bar lug place standing here apart not_before = grind (arith, true_from_ne_false, not_before, still_before)
 
 -- ---- each setting
 

@@ -1,5 +1,5 @@
 -- Cables that are a day's pairs exchange the same letters as the pairs.
-use Rattle.std.proofs.Common.{◌≡◌, ◌≢◌, ◌↔◌, ◌⊎◌, ℕ, zero, suc, ◌<◌, nat_eq, List, [], ◌∷◌, length, get_or, All, Any, Contains, Option, Some, None, slice_get, inl, inr, refl, sym, ap, ◌∙◌, subst, arith, filter_map}
+use Rattle.std.proofs.Common.{◌≡◌, ◌≢◌, ◌↔◌, ◌⊎◌, ℕ, zero, suc, ◌<◌, nat_eq, List, [], ◌∷◌, length, get_or, All, Any, Contains, Option, Some, None, slice_get, inl, inr, refl, sym, ap, ◌∙◌, subst, arith, filter_map, rules}
 use Rattle.kd_state.proofs.Prelude.{AllByRecursion, cases_eq, eqb-false, All-contains, All-from_recursion}
 use Rattle.kd_state.proofs.Prelude.{Contains-append_right, recursion_from_All, none-some, same_Some, slice_get-get_or}
 use Rattle.kd_state.proofs.Prelude.{letters_plugged, NoLetterTwice, cable_letters, plugged_letters, AreCables}
@@ -19,18 +19,14 @@ letters_of_pairs ((Some letter, Some other) ∷ cables) h = ap (λ letters. lett
 letters_of_pairs (cable ∷ cables) h = absurd (h.0 refl)
 
 pub no_letter_twice : (cables : List (Option ℕ × Option ℕ)) → AreCables cables → All (λ cable. length (cable_letters cable) ≢ 1) cables → NoLetterTwice (pairs_of cables)
-no_letter_twice cables h whole =
-    subst (IsDistinct nat_eq) (letters_of_pairs cables (recursion_from_All (λ (cable : Option ℕ × Option ℕ). length (cable_letters cable) ≢ 1) cables whole)) h.apart
+no_letter_twice cables h whole = grind (arith, letters_of_pairs, recursion_from_All)
 
 -- one of two, and of one
 pub of_two : (a b x : ℕ) → Contains (a ∷ b ∷ []) x → (x ≡ a) ⊎ (x ≡ b)
-of_two a b x (zero, below, is) = inl (sym is)
-of_two a b x (suc zero, below, is) = inr (sym is)
-of_two a b x (suc (suc k), below, is) = absurd (omega arith)
+of_two a b x e = grind arith
 
 pub of_one : (a x : ℕ) → Contains (a ∷ []) x → x ≡ a
-of_one a x (zero, below, is) = sym is
-of_one a x (suc k, below, is) = absurd (omega arith)
+of_one a x e = grind arith
 
 -- two letters that are those of a pair
 pub same_two : (a b : ℕ) (pair : ℕ × ℕ) → SameLetters (a ∷ b ∷ []) (pair.0 ∷ pair.1 ∷ []) → AreTheLetters a b pair
@@ -70,8 +66,7 @@ whole_cables cables pairs apart h = λ k d below. whole_cable pairs (get_or cabl
 
 into_pairs : (cables : List (Option ℕ × Option ℕ)) (k a b : ℕ) → slice_get cables k ≡ Some (Some a, Some b) → Contains (pairs_of cables) (a, b)
 into_pairs [] k a b e = absurd (none-some _ e)
-into_pairs (cable ∷ cables) zero a b e =
-    subst (λ (cable : Option ℕ × Option ℕ). Contains (pairs_of (cable ∷ cables)) (a, b)) (sym (same_Some cable (Some a, Some b) e)) (0, omega arith, refl)
+into_pairs (cable ∷ cables) zero a b e = grind (arith, same_Some)
 into_pairs ((Some one, Some other) ∷ cables) (suc k) a b e = Contains-append_right ((one, other) ∷ []) (pairs_of cables) (a, b) (into_pairs cables k a b e)
 into_pairs (cable ∷ cables) (suc k) a b e = into_pairs cables k a b e
 
@@ -82,20 +77,14 @@ both_plugged cable letter whole there = absurd (whole refl)
 
 -- in either order
 either_way : (pairs : List (ℕ × ℕ)) (pair : ℕ × ℕ) (x y : ℕ) → Contains pairs pair → AreTheLetters x y pair → plugs.Joins pairs x y
-either_way pairs pair x y there same = elim same [
-  | inl e ↦ inl (subst (λ (p : ℕ × ℕ). Contains pairs p) (λ i. (sym e.0 i, sym e.1 i)) there)
-  | inr e ↦ inr (subst (λ (p : ℕ × ℕ). Contains pairs p) (λ i. (sym e.0 i, sym e.1 i)) there)
-]
+either_way pairs pair x y there same = grind (arith, pairs)
 
 swapped : {A B : Type 0} → A ⊎ B → B ⊎ A
-swapped (inl a) = inr a
-swapped (inr b) = inl b
+swapped e = grind arith
 
 cable_pairs : (pairs : List (ℕ × ℕ)) (cables : List (Option ℕ × Option ℕ)) → AllByRecursion (IsPaired pairs) cables → AllByRecursion (λ pair. plugs.Joins pairs pair.0 pair.1) (pairs_of cables)
 cable_pairs pairs [] h = tt
-cable_pairs pairs ((Some a, Some b) ∷ cables) h =
-    let joined = h.0.joins (λ none. cc) in
-    (either_way pairs joined.1 a b (joined.0, joined.2, joined.3) (same_two a b joined.1 joined.4.letters), cable_pairs pairs cables h.1)
+cable_pairs pairs ((Some a, Some b) ∷ cables) h = search (rules, pairs, same_two, cable_pairs pairs cables h.1)
 cable_pairs pairs (cable ∷ cables) h = cable_pairs pairs cables h.1
 
 module _ (cables : List (Option ℕ × Option ℕ)) (pairs : List (ℕ × ℕ)) (whole : All (λ cable. length (cable_letters cable) ≢ 1) cables) (h : AreThePairs cables pairs) where

@@ -1,5 +1,5 @@
 -- When a cable's letters are a pair's.
-use Rattle.std.specs.Prelude.{◌≡◌, ◌↔◌, ℕ, Bool, true, List, length, [], ◌∷◌, Contains, Option, None}
+use Rattle.std.specs.Prelude.{◌≡◌, ◌↔◌, ℕ, Bool, true, length, [], ◌∷◌, Contains, Option, None}
 use Rattle.std.proofs.Common.{refl, sym, subst, inl, inr, arith}
 use Rattle.kd_state.proofs.Prelude.{cable_letters, AreTheLetters, Joins, SameLetters}
 use Rattle.kd_state.proofs.DayPairs.{of_one, of_two, same_two}
@@ -8,17 +8,11 @@ other_order : (a b x : ℕ) → Contains (a ∷ b ∷ []) x → Contains (b ∷ 
 other_order a b x there = elim (of_two a b x there) [ inl is ↦ (1, omega arith, sym is) | inr is ↦ (0, omega arith, sym is) ]
 
 in_order : (a b : ℕ) (pair : ℕ × ℕ) → AreTheLetters a b pair → SameLetters (a ∷ b ∷ []) (pair.0 ∷ pair.1 ∷ [])
-in_order a b pair (inl same) letter =
-    subst (λ (letters : List ℕ). Contains (a ∷ b ∷ []) letter ↔ Contains letters letter) (λ i. same.0 i ∷ same.1 i ∷ []) (λ there. there, λ there. there)
-in_order a b pair (inr same) letter =
-    subst (λ (letters : List ℕ). Contains (a ∷ b ∷ []) letter ↔ Contains letters letter) (λ i. same.0 i ∷ same.1 i ∷ []) (other_order a b letter, other_order b a letter)
+in_order a b pair e = grind (arith, other_order)
 
 -- a letter alone, as two that are alike
 pub doubled : (a : ℕ) → SameLetters (a ∷ []) (a ∷ a ∷ [])
-doubled a letter = (
-  λ there. (0, omega arith, sym (of_one a letter there)),
-  λ there. (0, omega arith, sym (elim (of_two a a letter there) [ inl is ↦ is | inr is ↦ is ])),
-)
+doubled a letter = grind (arith, of_one, of_two)
 
 -- a cable with these letters joins the pair if they are the pair's
 pub joins_letters : (cable ends : Option ℕ × Option ℕ) (pair : ℕ × ℕ) (a b : ℕ) (tested : Bool) → cable.0 ≡ ends.0 → cable.1 ≡ ends.1 → SameLetters (cable_letters ends) (a ∷ b ∷ [])

@@ -1,5 +1,6 @@
 -- The key of a machine that is on the key of a day, and its cipher.
-use Rattle.std.proofs.Common.{◌≡◌, ℕ, ◌+◌, ◌-◌, ◌%◌, Bool, List, map, filter_map, Some, refl, sym, ap, ◌∙◌, subst, ◌≤◌, min, max, ◌||◌, [], ◌∷◌, inl, inr, arith}
+use Rattle.std.proofs.lemmas.Grind.{common_steps}
+use Rattle.std.proofs.Common.{◌≡◌, ℕ, ◌+◌, ◌-◌, ◌%◌, Bool, List, map, filter_map, Some, refl, sym, ap, ◌∙◌, subst, min, max, ◌||◌, [], ◌∷◌, arith}
 use Rattle.std.specs.Prelude.{IsPermutation}
 use Rattle.kd_state.proofs.Prelude.{enumerate_from, count_by, recursion_from_All, sum_by-IsPermutation, reading_of}
 use Rattle.kd_state.proofs.Prelude.{place_number, PinKey, bars_met, converter_cipher, acts_after, Parts, Rotor, Pin}
@@ -9,7 +10,7 @@ use Rattle.kd_state.proofs.Prelude.{EquallySetDecipher, TheDayDeciphersItself, T
 use Rattle.kd_state.proofs.Prelude.{EngineIsTheMachine, IsMachine, AreCables, ring_at, letter_at, OnKey, IsRotorOnKey}
 use Rattle.kd_state.proofs.Prelude.{IsPinOnKey, RotorDay, Day, OfRotors, OfPins, IsLegalDay, IsLegalRotorDay, EngineKey}
 use Rattle.kd_state.proofs.Prelude.{OfWheels, cipher, key_with_window, window_of, plugged_pairs, physical_key}
-use Rattle.kd_state.proofs.Prelude.{physical_cipher, sheet_key, cases_lt, sum_by-cons, Place, One}
+use Rattle.kd_state.proofs.Prelude.{physical_cipher, sheet_key, sum_by-cons, Place}
 use Rattle.kd_pins.specs.PinWheels.{pins_of}
 use Rattle.kd_enigma.specs.Laws.{PairsMakeAPlugboard, SamePairsExchangeAlike}
 use Rattle.kd_enigma.specs.Laws as enigma
@@ -24,33 +25,24 @@ use Rattle.kd_state.specs.Lugs.{lug_is_met, bars_moved}
 
 -- a pair counts the same in either order
 in_either_order : (met : ℕ → Bool) (a b : ℕ) → (met a || met b) ≡ (met (min a b) || met (max a b))
-in_either_order met a b =
-    elim (cases_lt a b) [
-      | inl less ↦ let le : a ≤ b = omega arith in ap (λ (p : ℕ × ℕ). met p.0 || met p.1) (λ i. (sym (min-eq_left le) i, sym (max-eq_right le) i))
-      | inr le ↦ or_comm (met a) (met b) ∙ ap (λ (p : ℕ × ℕ). met p.0 || met p.1) (λ i. (sym (min-eq_right le) i, sym (max-eq_left le) i))
-    ]
+in_either_order met a b = grind (arith, min-eq_left, max-eq_right, or_comm, min-eq_right, max-eq_left)
 
 -- elements of another list that pass as often
 counted : {X Y : Type 0} (p : Y → Bool) (f : X → Y) (xs : List X) → count_by (λ x. p (f x)) xs ≡ count_by p (map f xs)
 counted p f [] = refl
-counted p f (x ∷ xs) =
-    simp sum_by-cons (omega (arith, counted p f xs))
+counted p f (x ∷ xs) = grind (arith, common_steps, sum_by-cons, counted p f xs)
 
 abbrev pin_key : PinParts → PinKey
 pin_key m = record { pins = pins_of m.pins; letters = m.letters; rows = map (λ bar. reading_of bar.0 bar.1) m.bars }
 
 -- a lug is met exactly where the wheel of its place's number acts
 lug_met : (m : PinParts) (count : ℕ) (place : Place) → lug_is_met m count place ≡ acts_after (pin_key m) count (place_number place)
-lug_met m count place =
-    elim place as (λ place. lug_is_met m count place ≡ acts_after (pin_key m) count (place_number place))
-    [ One ↦ refl | _ ↦ refl ]
+lug_met m count place = grind arith
 
 bar_met : (m : PinParts) (count : ℕ) (bar : Place × Place)
     → (lug_is_met m count bar.0 || lug_is_met m count bar.1)
     ≡ (acts_after (pin_key m) count (reading_of bar.0 bar.1).0 || acts_after (pin_key m) count (reading_of bar.0 bar.1).1)
-bar_met m count bar =
-    (λ i. lug_met m count bar.0 i || lug_met m count bar.1 i)
-    ∙ in_either_order (acts_after (pin_key m) count) (place_number bar.0) (place_number bar.1)
+bar_met m count bar = grind (arith, lug_met, in_either_order)
 
 moved_as_met : (m : PinParts) (count : ℕ) → bars_met (pin_key m) count ≡ bars_moved m count
 moved_as_met m count =
@@ -63,17 +55,13 @@ engine_cipher (Pin m) text = λ i. map (λ (numbered : ℕ × ℕ). (25 + moved_
 
 -- ready
 pub on_key_ready : OnKeyIsReady
-on_key_ready (Rotor m) (OfRotors s) machine legal h =
-    record { slots = all_seated m.slots s.wheels h.slots; cables = whole_cables m.cables s.pairs legal.pairs.apart h.cables }
-on_key_ready (Pin m) (OfPins s) machine legal h = tt
-on_key_ready m s machine legal h = absurd h
+on_key_ready = grind (arith, all_seated, whole_cables)
 
 pub reading_ready : ReadingIsReady
 reading_ready m s machine legal h = on_key_ready m s machine legal h.key
 
 own_window : (m : Parts) → physical_key m ≡ key_with_window (physical_key m) (window_of m)
-own_window (Rotor m) = refl
-own_window (Pin m) = refl
+own_window m = grind arith
 
 -- a machine on the day's key has the day's cipher, whatever letters both show
 module _ (alike : SamePairsExchangeAlike) where
@@ -90,10 +78,7 @@ module _ (alike : SamePairsExchangeAlike) where
   -- bars that read as the same rows in another order are met as often
   converter_alike : (pins : List (List Bool)) (letters : List ℕ) (rows others : List (ℕ × ℕ)) (text : List ℕ) → IsPermutation rows others
       → converter_cipher (record { pins = pins; letters = letters; rows = rows }) text ≡ converter_cipher (record { pins = pins; letters = letters; rows = others }) text
-  converter_alike pins letters rows others text moved =
-      let key : List (ℕ × ℕ) → PinKey = λ rows. record { pins = pins; letters = letters; rows = rows } in
-      let met : (count : ℕ) → bars_met (key rows) count ≡ bars_met (key others) count = λ count. sym (sum_by-IsPermutation _ rows others moved) in
-      λ i. map (λ (numbered : ℕ × ℕ). (25 + met numbered.0 i - numbered.1) % 26) (enumerate_from 0 text)
+  converter_alike pins letters rows others text moved = grind (arith, sum_by-IsPermutation, moved)
 
   key_on_key : (m : Parts) (s : Day) (window text : List ℕ) → IsMachine m → IsLegalDay s → OnKey m s
       → cipher (key_with_window (physical_key m) window) text ≡ cipher (key_with_window (sheet_key s) window) text
@@ -119,8 +104,7 @@ module _ (alike : SamePairsExchangeAlike) where
   -- what one enciphers the other deciphers
   module _ (board : PairsMakeAPlugboard) (enigma_twice : enigma.TwiceGivesBack) (drum_twice : drum.TwiceGivesBack) where
     pub twice_on_key : TheDayDeciphersItself
-    twice_on_key (OfRotors s) window text legal letters = enigma_twice _ text (board s.pairs legal.pairs.apart legal.pairs.within) letters
-    twice_on_key (OfPins s) window text legal letters = drum_twice (record { pins = pins_of s.pins; letters = window; rows = s.rows }) text letters
+    twice_on_key = grind arith
 
     pub equally_set : EquallySetDecipher
     equally_set m n s text machine other legal h k same letters =
@@ -139,8 +123,7 @@ turned_on_key m n s window turned h = absurd turned
 
 -- the key of the turned machine, but for the letters that it shows
 pub turned_key : TurnedHasItsKey
-turned_key (Rotor m) (Rotor n) window turned =
-    ap (key_with_window (physical_key (Rotor n))) turned.1 ∙ ap (λ (k : RotorParts). key_with_window (physical_key (Rotor k)) window) turned.0
+turned_key (Rotor m) (Rotor n) window turned = grind (arith, Rotor)
 turned_key (Pin m) (Pin n) window turned = ap (λ (k : PinParts). physical_key (Pin k)) turned
 turned_key m n window turned = absurd turned
 

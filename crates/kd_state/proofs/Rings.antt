@@ -1,12 +1,13 @@
 -- The letters and the pins of the six pin wheels.
-use Rattle.std.proofs.Common.{◌≡◌, ℕ, zero, suc, ◌+◌, ◌-◌, ◌<◌, ◌≤◌, nat_eq, true, false, List, length, get_or, Contains, Decides, Some, refl, sym, ap, ◌∙◌, inl, inr, subst, arith, slice_index}
-use Rattle.kd_state.proofs.Prelude.{position_or_len, is_some, unwrap_or, cases_Bool, lt-ltb, le-ltb, both_ways}
-use Rattle.kd_state.proofs.Prelude.{eqb-true, false≢true, position-Some, get_or_default, Decides-like, Decides-eqb}
-use Rattle.kd_state.proofs.Prelude.{is_member-Decides, get_or_from_slice_get, slice_get-get_or, place_on, numbered}
+use Rattle.std.proofs.lemmas.Grind.{common_steps}
+use Rattle.std.proofs.Common.{◌≡◌, ℕ, ◌+◌, ◌-◌, ◌<◌, nat_eq, true, false, List, length, get_or, Contains, Decides, Some, sym, ◌∙◌, subst, arith, rules}
+use Rattle.kd_state.proofs.Prelude.{is_some, unwrap_or, cases_Bool, lt-ltb, le-ltb, both_ways}
+use Rattle.kd_state.proofs.Prelude.{eqb-true, position-Some, Decides-like, Decides-eqb}
+use Rattle.kd_state.proofs.Prelude.{is_member-Decides, get_or_from_slice_get, slice_get-get_or, place_on}
 use Rattle.kd_state.proofs.Prelude.{HasAllPins, AreOnWheels, has_letter, OnWheels}
 use Rattle.kd_tables.specs.Rings.{ring_of}
 use Rattle.kd_pins.specs.declared.pin_set.PinSet.{PinSet}
-use Rattle.kd_state.proofs.Slots.{is_numbered, numbered_at, value_of}
+use Rattle.kd_state.proofs.Slots.{is_numbered, numbered_at}
 use Rattle.kd_state.proofs.Wheels.{first_within, first_nowhere}
 
 -- the letter is one of these, and has a place then
@@ -14,16 +15,10 @@ pub has_letter-Decides : (letters : List ℕ) (letter : ℕ) → Decides (has_le
 has_letter-Decides letters letter = is_member-Decides {eq = λ x y. nat_eq y x} (λ x y. Decides-like _ sym sym (Decides-eqb y x)) letters letter
 
 pub is_some-place_on : (letters : List ℕ) (letter : ℕ) → is_some (place_on letters letter) ≡ has_letter letters letter
-is_some-place_on letters letter = elim (cases_Bool (has_letter letters letter)) [
-  | inl e ↦ rw (lt-ltb _ _ (first_within (λ other. nat_eq other letter) letters e)) (sym e)
-  | inr e ↦
-      let past : length letters ≤ position_or_len (λ other. nat_eq other letter) letters = omega (arith, first_nowhere (λ other. nat_eq other letter) letters e) in
-      rw (le-ltb _ _ past) (sym e)
-]
+is_some-place_on letters letter = grind (arith, cases_Bool, lt-ltb, first_within, first_nowhere, le-ltb)
 
 pub place_there : (letters : List ℕ) (letter : ℕ) → Contains letters letter → place_on letters letter ≡ Some (unwrap_or (place_on letters letter) 0)
-place_there letters letter h =
-    value_of (place_on letters letter) 0 (λ none. false≢true (sym (ap is_some none) ∙ is_some-place_on letters letter ∙ (has_letter-Decides letters letter).1 h))
+place_there letters letter h = grind (arith, is_some-place_on letters letter, has_letter-Decides letters letter)
 
 pub only_place : (letters : List ℕ) (letter other place : ℕ) → place_on letters letter ≡ Some place → place_on letters other ≡ Some place → other ≡ letter
 only_place letters letter other place e f =
@@ -34,12 +29,7 @@ only_place letters letter other place e f =
 -- ---- six letters, each on its wheel: wheel by wheel, and place by place
 
 pub are_on_wheels : (letters : List ℕ) → length letters ≡ 6 → OnWheels letters → AreOnWheels letters
-are_on_wheels letters six on = record {
-  count = six;
-  each = λ wheel letter h.
-      let at = is_numbered letters wheel letter h in
-      subst (Contains (ring_of wheel)) (get_or_from_slice_get letters (wheel - 1) letter 0 at.here) (on wheel at.first (omega (arith, at.last)));
-}
+are_on_wheels letters six on = grind (arith, is_numbered, get_or_from_slice_get, on)
 
 pub each_on_wheel : (letters : List ℕ) → length letters ≡ 6 → ((place : ℕ) → place < length letters → Contains (ring_of (place + 1)) (get_or letters place 0)) → AreOnWheels letters
 each_on_wheel letters six on = are_on_wheels letters six (λ wheel low high.
@@ -48,29 +38,15 @@ each_on_wheel letters six on = are_on_wheels letters six (λ wheel low high.
 
 -- the letter at a place is on its wheel, and then it isn't off it
 pub on_wheel : (letters : List ℕ) (place d : ℕ) → place < length letters → has_letter (ring_of (place + 1)) (get_or letters place d) ≡ true → Contains (ring_of (place + 1)) (get_or letters place 0)
-on_wheel letters place d within h =
-    subst (λ (x : ℕ). Contains (ring_of (place + 1)) x) (get_or_default letters place d 0 within) ((has_letter-Decides (ring_of (place + 1)) (get_or letters place d)).0 h)
+on_wheel letters place d within h = grind (arith, common_steps, has_letter-Decides)
 
 pub off_wheel : (letters : List ℕ) (place d : ℕ) → place < length letters → AreOnWheels letters → has_letter (ring_of (place + 1)) (get_or letters place d) ≡ false → ⊥
-off_wheel letters place d within on h =
-    let at : numbered letters (place + 1) ≡ Some (get_or letters place d) = numbered_at letters place ∙ slice_get-get_or letters place d within in
-    both_ways (has_letter (ring_of (place + 1)) (get_or letters place d)) h
-    ((has_letter-Decides (ring_of (place + 1)) (get_or letters place d)).1 (on.each (place + 1) (get_or letters place d) at))
+off_wheel letters place d within on h = search (rules, numbered_at, slice_get-get_or, both_ways, has_letter-Decides)
 
 -- arrays of these lengths are all the pins
 pub all_pins : (pins : PinSet) → length pins.w1 ≡ 26 → length pins.w2 ≡ 25 → length pins.w3 ≡ 23 → length pins.w4 ≡ 21 → length pins.w5 ≡ 19 → length pins.w6 ≡ 17 → HasAllPins pins
 unfolding ring_of
-all_pins pins a b c d e f (suc zero) = a
-all_pins pins a b c d e f (suc (suc zero)) = b
-all_pins pins a b c d e f (suc (suc (suc zero))) = c
-all_pins pins a b c d e f (suc (suc (suc (suc zero)))) = d
-all_pins pins a b c d e f (suc (suc (suc (suc (suc zero))))) = e
-all_pins pins a b c d e f (suc (suc (suc (suc (suc (suc zero)))))) = f
-all_pins pins a b c d e f wheel = refl
+all_pins pins e d g h o q = grind arith
 
 pub stand_on_wheels : (letters : List ℕ) → AreOnWheels letters → OnWheels letters
-stand_on_wheels letters on zero low high = absurd (omega arith)
-stand_on_wheels letters on (suc place) low high =
-    let same : suc place - 1 ≡ place = omega arith in
-    subst (λ k. Contains (ring_of (suc place)) (slice_index letters k)) (sym same)
-    (on.each (suc place) (slice_index letters place) (slice_get-get_or letters place 0 (omega (arith, on.count))))
+stand_on_wheels letters e = grind (arith, slice_get-get_or)

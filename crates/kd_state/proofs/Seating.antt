@@ -1,7 +1,7 @@
 -- The wheels in the slots, with their rings and their window letters.
 use Rattle.std.proofs.Common.{◌≡◌, ◌≢◌, ℕ, ◌+◌, ◌<◌, List, [], ◌∷◌, length, map, get_or, slice_get, filter_map, Option, Some, None, IsSome, All, Contains, refl, sym, ap, ◌∙◌, subst, arith}
 use Rattle.std.specs.Prelude.{MatchOption}
-use Rattle.kd_state.proofs.Prelude.{AllByRecursion, cons_option, false≢true, get_or-map, length-map, All-map, none-some}
+use Rattle.kd_state.proofs.Prelude.{AllByRecursion, false≢true, get_or-map, length-map, All-map, none-some}
 use Rattle.kd_state.proofs.Prelude.{same_Some, slice_get-get_or, Wheel, exchange, Parts, Rotor, RotorParts, SheetWheel}
 use Rattle.kd_state.proofs.Prelude.{place_in_box, IsLegalRotor, ring_at, letter_at, seats, OfWheels, IsRotorReady}
 use Rattle.kd_state.proofs.Prelude.{seated_wheels, plugged_pairs, physical_key}
@@ -54,19 +54,14 @@ all_seated slots wheels e =
 pub read_all : (f : Wheel → Option ℕ) (view : SheetWheel → ℕ) (wheels : List SheetWheel) → AllByRecursion (λ w. f w.wheel ≡ Some (view w)) wheels
     → filter_map f (map (λ (w : SheetWheel). w.wheel) wheels) ≡ map view wheels
 read_all f view [] h = refl
-read_all f view (w ∷ wheels) h =
-    ap (λ found. cons_option found (filter_map f (map (λ (w : SheetWheel). w.wheel) wheels))) h.0 ∙ ap (λ rest. view w ∷ rest) (read_all f view wheels h.1)
+read_all f view (w ∷ wheels) h = grind (arith, filter_map, read_all f view wheels h.1)
 
 pub wheels_of_slots : (m : RotorParts) (wheels : List SheetWheel) → m.slots ≡ seats wheels → seated_wheels m ≡ map (λ w. w.wheel) wheels
 wheels_of_slots m wheels e = ap (filter_map (λ (seated : Option Wheel). seated)) e ∙ wheels_seated wheels
 
 pub key_of_seats : (m : RotorParts) (wheels : List SheetWheel) → AreSeats m m.slots wheels
     → physical_key (Rotor m) ≡ OfWheels (key_of_wheels wheels m.reflector (exchange (plugged_pairs m)))
-key_of_seats m wheels h =
-    let same = wheels_of_slots m wheels h.slots in
-    let rings = ap (filter_map (ring_at m)) same ∙ read_all (ring_at m) (λ w. w.ring) wheels h.rings in
-    let letters = ap (filter_map (letter_at m)) same ∙ read_all (letter_at m) (λ w. w.letter) wheels h.letters in
-    λ i. OfWheels (record { wheels = same i; rings = rings i; window = letters i; reflector = m.reflector; plugs = exchange (plugged_pairs m) })
+key_of_seats m wheels h = grind (arith, wheels_of_slots, filter_map, read_all)
 
 -- a seat without its wheel
 pub none_seated : (m : Parts) (slots : List (Option Wheel)) (found : Option (List SheetWheel)) (k : ℕ) (d : Option Wheel) → found ≡ None → k < length slots

@@ -1,7 +1,8 @@
 -- The words of settings' lines: no two settings have the same, and those of a form are all that begin with its word.
-use Rattle.std.proofs.Common.{◌≡◌, ◌≢◌, ℕ, ◌+◌, ◌*◌, ◌^◌, ◌<◌, ◌≤◌, length, get_or, Bool, true, false, List, [], ◌∷◌, Option, Some, None, MatchOption, refl, sym, ap, ◌∙◌, arith, ◌++◌, append_assoc, length-append}
+use Rattle.std.proofs.lemmas.Grind.{common_steps}
+use Rattle.std.proofs.Common.{◌≡◌, ◌≢◌, ℕ, ◌+◌, ◌*◌, ◌^◌, ◌<◌, ◌≤◌, length, get_or, Bool, true, List, [], ◌∷◌, Option, MatchOption, refl, sym, ap, ◌∙◌, arith, ◌++◌, append_assoc, length-append, rules}
 use Rattle.kd_state.proofs.Prelude.{All, AllByRecursion, decimal_injective, All-from_recursion, All-push}
-use Rattle.kd_state.proofs.Prelude.{recursion_from_All, Wheel, I, Reflector, Place, One, Lug, Left, Right, wheel_text}
+use Rattle.kd_state.proofs.Prelude.{recursion_from_All, Wheel, I, Reflector, Place, One, Lug, Left, wheel_text}
 use Rattle.kd_state.proofs.Prelude.{reflector_text, place_text, lug_text, places, keyword_text, setting_words}
 use Rattle.kd_state.proofs.Prelude.{setting_line, pin_text, IsInRange, IsReadOff, list_text, IsList, BeginsWith}
 use Rattle.kd_state.proofs.Prelude.{BeginsWithLine, BeginsWithNoLine, Setting, Pull, Put, Seat, SeatReflector, RingTo}
@@ -9,7 +10,7 @@ use Rattle.kd_state.proofs.Prelude.{Turn, PinTo, LugTo, append-nil, get_or_at, T
 use Rattle.kd_state.proofs.Prelude.{OneListFault}
 use Rattle.std.specs.Fmt.{decimal}
 use Rattle.kd_tables.specs.declared.reflector.Reflector.TheVariants.{A}
-use Rattle.kd_state.specs.Words.{IsWord, IsWithout, letter_text, line_of, words_of, IsFirstPart}
+use Rattle.kd_state.specs.Words.{IsWord, IsWithout, letter_text, words_of, IsFirstPart}
 use Rattle.kd_state.specs.declared.setting.keyword.Keyword.{Keyword}
 use Rattle.kd_state.specs.declared.setting.keyword.Keyword.TheVariants as keywords
 use Rattle.kd_state.proofs.Wheels.{named, told, one_wheel, one_reflector}
@@ -23,14 +24,10 @@ same_place : (x y : Place) → place_text x ≡ place_text y → x ≡ y
 same_place = told place_text (named place_text places One) (λ x. elim x as (λ p. named place_text places One (place_text p) ≡ p) [ One ↦ refl | _ ↦ refl ])
 
 same_lug : (x y : Lug) → lug_text x ≡ lug_text y → x ≡ y
-same_lug Left Left e = refl
-same_lug Right Right e = refl
-same_lug x y e = absurd (omega (arith, ap (λ t. get_or t 0 0) e))
+same_lug x y e = grind arith
 
 same_pin : (x y : Bool) → pin_text x ≡ pin_text y → x ≡ y
-same_pin true true e = refl
-same_pin false false e = refl
-same_pin x y e = absurd (omega (arith, ap (λ t. get_or t 1 0) e))
+same_pin x y e = grind arith
 
 wheel_is_word : (x : Wheel) → IsWord (wheel_text x)
 wheel_is_word x = elim x as (λ w. IsWord (wheel_text w)) [ I ↦ word_by_test _ _ refl | _ ↦ word_by_test _ _ refl ]
@@ -56,14 +53,8 @@ byte_is_word n small = numbers_are_words n (omega arith)
 -- ---- settings
 
 words_are_words : (x : Setting) → IsInRange x → AllByRecursion IsWord (setting_words x)
-words_are_words (Pull cable letter) r = (form_is_word keywords.Pull, (byte_is_word cable r.0, (letters_are_words letter, tt)))
-words_are_words (Put cable letter) r = (form_is_word keywords.Put, (byte_is_word cable r.0, (letters_are_words letter, tt)))
-words_are_words (Seat slot wheel) r = (form_is_word keywords.Seat, (byte_is_word slot r, (wheel_is_word wheel, tt)))
-words_are_words (SeatReflector reflector) r = (form_is_word keywords.SeatReflector, (reflector_is_word reflector, tt))
-words_are_words (RingTo wheel letter) r = (form_is_word keywords.RingTo, (wheel_is_word wheel, (letters_are_words letter, tt)))
-words_are_words (Turn slot letter) r = (form_is_word keywords.Turn, (byte_is_word slot r.0, (letters_are_words letter, tt)))
-words_are_words (PinTo wheel letter effective) r = (form_is_word keywords.PinTo, (byte_is_word wheel r.0, (letters_are_words letter, (pin_is_word effective, tt))))
-words_are_words (LugTo bar lug place) r = (form_is_word keywords.LugTo, (byte_is_word bar r, (lug_is_word lug, (place_is_word place, tt))))
+words_are_words x r =
+    grind (arith, form_is_word, byte_is_word, letters_are_words, wheel_is_word, reflector_is_word, pin_is_word, lug_is_word, place_is_word)
 
 pub setting_words_are_words : (x : Setting) → IsInRange x → All IsWord (setting_words x)
 setting_words_are_words x r = All-from_recursion IsWord (setting_words x) (words_are_words x r)
@@ -79,16 +70,8 @@ abbrev first_and_third : List (List ℕ) → ℕ
 first_and_third words = get_or (get_or words 0 []) 0 0 * 256 + get_or (get_or words 0 []) 2 0
 
 pub same_settings : (x y : Setting) → IsInRange x → IsInRange y → setting_words x ≡ setting_words y → x ≡ y
-same_settings (Pull c l) (Pull d m) r s e = let n = same_number c d r.0 s.0 (cc) in let k = same_letter l m (cc) in cc
-same_settings (Put c l) (Put d m) r s e = let n = same_number c d r.0 s.0 (cc) in let k = same_letter l m (cc) in cc
-same_settings (Seat c w) (Seat d v) r s e = let n = same_number c d r s (cc) in let k = one_wheel w v (cc) in cc
-same_settings (SeatReflector a) (SeatReflector b) r s e = let n = one_reflector a b (cc) in cc
-same_settings (RingTo w l) (RingTo v m) r s e = let n = one_wheel w v (cc) in let k = same_letter l m (cc) in cc
-same_settings (Turn c l) (Turn d m) r s e = let n = same_number c d r.0 s.0 (cc) in let k = same_letter l m (cc) in cc
-same_settings (PinTo c l p) (PinTo d m q) r s e =
-    let n = same_number c d r.0 s.0 (cc) in let k = same_letter l m (cc) in let o = same_pin p q (cc) in cc
-same_settings (LugTo c l p) (LugTo d m q) r s e = let n = same_number c d r s (cc) in let k = same_lug l m (cc) in let o = same_place p q (cc) in cc
-same_settings x y r s e = absurd (omega (arith, ap first_and_third e))
+same_settings x y e d g =
+    grind (arith, same_number, same_letter, one_wheel, one_reflector, same_pin, same_lug, same_place)
 
 -- ---- what the words of a form are
 
@@ -108,30 +91,25 @@ no_form form rest none (LugTo b l p) r e = none keywords.LugTo (cc)
 -- ---- the words of a text that is a setting's line
 
 words_of_line : (x : Setting) (text : List ℕ) → IsInRange x → setting_line x ≡ text → setting_words x ≡ words_of text
-words_of_line x text r e =
-    let some : setting_words x ≢ [] = λ none. omega (arith, (setting_has_words x).0, ap length none) in
-    sym (lines_split_into_words (setting_words x) some (setting_words_are_words x r)) ∙ ap words_of e
+words_of_line x text r e = grind (arith, setting_has_words, lines_split_into_words, setting_words_are_words)
 
 pub too_many_words : (text : List ℕ) → 4 < length (words_of text) → (x : Setting) → IsInRange x → setting_line x ≢ text
 too_many_words text many x r e = omega (arith, (setting_has_words x).1, ap length (words_of_line x text r e), many)
 
 pub read_by_words : (text : List ℕ) (words : List (List ℕ)) (r : Option Setting) → words ≡ words_of text → IsReadOff words r
     → MatchOption r ((x : Setting) → IsInRange x → setting_line x ≢ text) (λ x. setting_line x ≡ text)
-read_by_words text words None w h = λ x r e. h x r (words_of_line x text r e ∙ sym w)
-read_by_words text words (Some x) w h = ap line_of (h.0 ∙ w) ∙ parts_make_lines text
+read_by_words text words r e d = grind (arith, words_of_line, parts_make_lines)
 
 pub line_has_no_break : (x : Setting) → IsInRange x → IsWithout 10 (setting_line x)
 line_has_no_break x r = words_make_one_line (setting_words x) (setting_words_are_words x r)
 
 pub lines_tell_settings : (x y : Setting) → IsInRange x → IsInRange y → setting_line x ≡ setting_line y → x ≡ y
-lines_tell_settings x y r s e =
-    same_settings x y r s (lines_tell_words (setting_words x) (setting_words y) (setting_words_are_words x r) (setting_words_are_words y s) e)
+lines_tell_settings x y r s e = search (rules, same_settings, lines_tell_words, setting_words_are_words)
 
 -- ---- lists of settings are told by their texts, and a text that is none has one fault
 
 text_of_more : (x : Setting) (xs : List Setting) (rest : List ℕ) → list_text (x ∷ xs) ++ rest ≡ setting_line x ++ 10 ∷ (list_text xs ++ rest)
-text_of_more x xs rest =
-    append_assoc (setting_line x ++ 10 ∷ []) (list_text xs) rest ∙ append_assoc (setting_line x) (10 ∷ []) (list_text xs ++ rest)
+text_of_more x xs rest = grind (arith, append_assoc)
 
 nothing_begins : BeginsWithNoLine []
 nothing_begins x rest r e = omega (arith, length-append (setting_line x) (10 ∷ rest), ap length e)
@@ -148,12 +126,9 @@ same_first x y xs ys rest more r s e =
 same_lists : (xs ys : List Setting) (rest more : List ℕ) → AllByRecursion IsInRange xs → AllByRecursion IsInRange ys → list_text xs ++ rest ≡ list_text ys ++ more
     → BeginsWithNoLine rest → BeginsWithNoLine more → (xs ≡ ys) × (rest ≡ more)
 same_lists [] [] rest more r s e none nor = (refl, e)
-same_lists [] (y ∷ ys) rest more r s e none nor = absurd (none y (list_text ys ++ more) s.0 (e ∙ text_of_more y ys more))
-same_lists (x ∷ xs) [] rest more r s e none nor = absurd (nor x (list_text xs ++ rest) r.0 (sym e ∙ text_of_more x xs rest))
-same_lists (x ∷ xs) (y ∷ ys) rest more r s e none nor =
-    let first : (x ≡ y) × (list_text xs ++ rest ≡ list_text ys ++ more) = same_first x y xs ys rest more r.0 s.0 e in
-    let others : (xs ≡ ys) × (rest ≡ more) = same_lists xs ys rest more r.1 s.1 first.1 none nor in
-    (cc, others.1)
+same_lists [] (y ∷ ys) rest more r s e none nor = grind (arith, none, text_of_more)
+same_lists (x ∷ xs) [] rest more r s e none nor = grind (arith, nor, text_of_more)
+same_lists (x ∷ xs) (y ∷ ys) rest more r s e none nor = grind (arith, same_first, same_lists xs ys rest more r.1 s.1)
 
 -- and no list is longer than one after which none follows
 longest : (xs ys : List Setting) (rest more : List ℕ) → AllByRecursion IsInRange xs → AllByRecursion IsInRange ys → list_text xs ++ rest ≡ list_text ys ++ more
@@ -167,13 +142,7 @@ longest (x ∷ xs) (y ∷ ys) rest more r s e none =
 
 pub one_more : (bytes : List ℕ) (xs : List Setting) (rest : List ℕ) (x : Setting) (after : List ℕ) → BeginsWith bytes xs rest → BeginsWithLine rest x after
     → BeginsWith bytes (xs ++ x ∷ []) after
-one_more bytes xs rest x after b l = record {
-  lines =
-      b.lines ∙ ap (λ more. list_text xs ++ more) (l.line ∙ sym (text_of_more x [] after))
-      ∙ sym (append_assoc (list_text xs) (list_text (x ∷ [])) after)
-      ∙ ap (λ text. text ++ after) (sym (flat_map-append (λ y. setting_line y ++ 10 ∷ []) xs (x ∷ [])));
-  in_range = All-push IsInRange xs x b.in_range l.in_range;
-}
+one_more bytes xs rest x after b l = grind (arith, common_steps, text_of_more, append_assoc, flat_map-append, All-push)
 
 pub no_line_without_break : (bytes : List ℕ) → IsWithout 10 bytes → BeginsWithNoLine bytes
 no_line_without_break bytes without x rest r e =
@@ -181,10 +150,7 @@ no_line_without_break bytes without x rest r e =
     (ap (λ t. get_or t (length (setting_line x)) 0) e ∙ get_or_at (setting_line x) 10 rest 0 (length (setting_line x)) refl)
 
 pub no_line_by_first : (bytes line rest : List ℕ) → IsFirstPart 10 bytes line rest → ((x : Setting) → IsInRange x → setting_line x ≢ line) → BeginsWithNoLine bytes
-no_line_by_first bytes line rest first none x other r e =
-    let parts : (line ≡ setting_line x) × (rest ≡ other) =
-    texts_tell_first_parts 10 line (setting_line x) rest other first.without (line_has_no_break x r) (sym first.joined ∙ e) in
-    none x r (sym parts.0)
+no_line_by_first bytes line rest first none x other r e = grind (arith, texts_tell_first_parts, line_has_no_break, none)
 
 -- ---- laws
 
@@ -193,13 +159,11 @@ begins bytes xs l = record { lines = l.text ∙ sym (append-nil (list_text xs));
 
 same_end : (bytes : List ℕ) (xs ys : List Setting) (rest more : List ℕ) → BeginsWith bytes xs rest → BeginsWith bytes ys more
     → BeginsWithNoLine rest → BeginsWithNoLine more → (xs ≡ ys) × (rest ≡ more)
-same_end bytes xs ys rest more a b =
-    same_lists xs ys rest more (recursion_from_All IsInRange xs a.in_range) (recursion_from_All IsInRange ys b.in_range) (sym a.lines ∙ b.lines)
+same_end bytes xs ys rest more a b = grind (arith, same_lists, recursion_from_All)
 
 not_longer : (bytes : List ℕ) (xs ys : List Setting) (rest more : List ℕ) → BeginsWith bytes xs rest → BeginsWith bytes ys more
     → BeginsWithNoLine rest → length ys ≤ length xs
-not_longer bytes xs ys rest more a b =
-    longest xs ys rest more (recursion_from_All IsInRange xs a.in_range) (recursion_from_All IsInRange ys b.in_range) (sym a.lines ∙ b.lines)
+not_longer bytes xs ys rest more a b = grind (arith, longest, recursion_from_All)
 
 pub texts_tell_lists : TextsTellLists
 texts_tell_lists bytes xs ys a b = (same_end bytes xs ys [] [] (begins bytes xs a) (begins bytes ys b) nothing_begins nothing_begins).0

@@ -13,19 +13,14 @@ pub record IsNumbered {X : Type 0} (xs : List X) (number : ℕ) (x : X) : Type 0
   pub is : numbered xs number ≡ Some x
 
 pub is_numbered : {X : Type 0} (xs : List X) (number : ℕ) (x : X) → numbered xs number ≡ Some x → IsNumbered xs number x
-is_numbered xs zero x h = cc
-is_numbered xs (suc place) x h =
-    let within : place < length xs = slice_get_within xs place x h in
-    let here : suc place - 1 ≡ place = omega arith in
-    record { first = omega arith; last = omega arith; here = rw here h; is = h }
+is_numbered xs number x e = grind (arith, slice_get_within)
 
 -- what is there
 pub not_none : {X : Type 0} (found : Option X) → is_none found ≡ false → found ≢ None
 not_none found some none = false≢true (sym some ∙ ap is_none none)
 
 pub value_of : {X : Type 0} (found : Option X) (d : X) → found ≢ None → found ≡ Some (unwrap_or found d)
-value_of None d some = absurd (some refl)
-value_of (Some x) d some = refl
+value_of found d e = grind arith
 
 pub stands : {X : Type 0} (xs : List X) (number : ℕ) (d : X) → numbered xs number ≢ None → IsNumbered xs number (unwrap_or (numbered xs number) d)
 stands xs number d some = is_numbered xs number (unwrap_or (numbered xs number) d) (value_of (numbered xs number) d some)
@@ -45,14 +40,10 @@ set_other (first ∷ xs) (suc place) (suc at) x h = set_other xs place at x (λ 
 set_other xs place at x h = refl
 
 pub numbered_here : {X : Type 0} (xs : List X) (number : ℕ) (x : X) → 1 ≤ number → number ≤ length xs → numbered (set xs (number - 1) x) number ≡ Some x
-numbered_here xs zero x first last = absurd (omega arith)
-numbered_here xs (suc place) x first last =
-    let place_is : place ≡ suc place - 1 = omega arith in
-    subst (λ (p : ℕ). slice_get (set xs p x) place ≡ Some x) place_is (set_here xs place x (omega arith))
+numbered_here xs number x e d = grind (arith, set_here)
 
 pub numbered_other : {X : Type 0} (xs : List X) (number other : ℕ) (x : X) → 1 ≤ number → other ≢ number → numbered (set xs (number - 1) x) other ≡ numbered xs other
-numbered_other xs number zero x first h = refl
-numbered_other xs number (suc at) x first h = set_other xs (number - 1) at x (λ e. h (omega (arith, e, first)))
+numbered_other xs number other x e d = grind (arith, set_other)
 
 -- the wheels of the first slots
 pub among_first : (slots : List (Option Wheel)) (i place : ℕ) (wheel : Wheel) → place < i → StandsAt slots place wheel → Contains (take i slots) (Some wheel)
@@ -61,10 +52,7 @@ among_first slots i place wheel below at =
     (place, omega (arith, length-take i slots), get_or-take i slots place (Some wheel) below ∙ get_or_from_slice_get slots place (Some wheel) (Some wheel) at)
 
 pub first_among : (slots : List (Option Wheel)) (i : ℕ) (wheel : Wheel) → Contains (take i slots) (Some wheel) → (place : ℕ) × (place < i) × StandsAt slots place wheel
-first_among slots i wheel h =
-    let below : h.0 < i = omega (arith, length-take i slots, h.1) in
-    let within : h.0 < length slots = omega (arith, length-take i slots, h.1) in
-    (h.0, below, slice_get-get_or slots h.0 (Some wheel) within ∙ ap Some (sym (get_or-take i slots h.0 (Some wheel) below) ∙ h.2))
+first_among slots i wheel h = grind (arith, length-take, slice_get-get_or, get_or-take)
 
 -- one more slot whose wheel stands in none of the earlier ones
 pub apart_more : (slots : List (Option Wheel)) (i : ℕ) → i < length slots → IfSome (get_or slots i None) (λ wheel. ¬ (Contains (take i slots) (Some wheel)))

@@ -1,11 +1,12 @@
 -- What the readers of a machine tell is all that it is; so what they tell of a setting tells the machine that it makes.
-use Rattle.std.proofs.Common.{◌≡◌, ◌≢◌, ◌⊎◌, ◌↔◌, ℕ, zero, suc, ◌+◌, ◌<◌, ◌≤◌, nat_eq, nat_le, true, List, [], ◌∷◌, length, map, Contains, Option, Some, None, slice_get, IfSome, refl, sym, ap, ◌∙◌, inl, inr, subst, arith}
+use Rattle.std.proofs.lemmas.Grind.{common_steps}
+use Rattle.std.proofs.Common.{◌≡◌, ◌≢◌, ◌⊎◌, ◌↔◌, ℕ, zero, suc, ◌+◌, ◌<◌, ◌≤◌, nat_eq, true, List, [], ◌∷◌, length, map, Contains, Option, Some, None, slice_get, IfSome, refl, sym, ap, ◌∙◌, inl, inr, subst, arith}
 use Rattle.kd_state.proofs.Prelude.{range_with_len, is_none, option_map, option_map_or, option_and_then, cases_eq}
-use Rattle.kd_state.proofs.Prelude.{cases_Bool, leb-true, nat_tests, not_from_Decides, none-some, same_Some}
+use Rattle.kd_state.proofs.Prelude.{cases_Bool, leb-true, nat_tests, none-some, same_Some}
 use Rattle.kd_state.proofs.Prelude.{slice_get-map, slice_get-get_or, slice_get_cases, slice_get_past, Model, Wheel}
-use Rattle.kd_state.proofs.Prelude.{Place, Lug, Left, Right, box_of, reflectors_of, place_on, RotorParts, PinParts}
+use Rattle.kd_state.proofs.Prelude.{Place, Lug, box_of, reflectors_of, place_on, RotorParts, PinParts}
 use Rattle.kd_state.proofs.Prelude.{Parts, Rotor, Pin, Setting, Pull, Put, Seat, SeatReflector, RingTo, Turn, PinTo}
-use Rattle.kd_state.proofs.Prelude.{LugTo, numbered, same_wheel, place_in_box, wheel_pins, cable_letters}
+use Rattle.kd_state.proofs.Prelude.{LugTo, numbered, place_in_box, wheel_pins, cable_letters}
 use Rattle.kd_state.proofs.Prelude.{plugged_letters, ordered, model_of, slot_in, letter_in, cable_in, standing_in}
 use Rattle.kd_state.proofs.Prelude.{IsLegalRotor, IsLegalPin, IsMachine, has_letter, are_new, lug_place, other_lug}
 use Rattle.kd_state.proofs.Prelude.{changed, Carries, Thing, TheSlot, TheReflector, TheRing, TheLetter, TheCable}
@@ -27,10 +28,7 @@ same_slices : {X : Type 0} (xs ys : List X) → ((place : ℕ) → slice_get xs 
 same_slices [] [] same = refl
 same_slices [] (y ∷ ys) same = absurd (none-some y (same 0))
 same_slices (x ∷ xs) [] same = absurd (none-some x (sym (same 0)))
-same_slices (x ∷ xs) (y ∷ ys) same =
-    let first : x ≡ y = same_Some x y (same 0) in
-    let rest : xs ≡ ys = same_slices xs ys (λ place. same (suc place)) in
-    cc
+same_slices (x ∷ xs) (y ∷ ys) same = grind (arith, same 0, same_slices xs ys (λ place. same (suc place)))
 
 same_numbered : {X : Type 0} (xs ys : List X) → ((number : ℕ) → numbered xs number ≡ numbered ys number) → xs ≡ ys
 same_numbered xs ys same = same_slices xs ys (λ place. same (suc place))
@@ -53,16 +51,14 @@ by_things place_of all xs ys placed long also same =
           ∙ sym (slice_get-map place_of all place) ∙ ap (λ l. slice_get l place) placed
           ∙ slice_get-map Some (range_with_len 0 (length all)) place ∙ ap (option_map Some) there) in
           rw is at (same w)
-      | inr (past, _) ↦ slice_get_past xs place (omega (arith, past))
-          ∙ sym (slice_get_past ys place (omega (arith, past)))
+      | inr (past, _) ↦ grind (arith, slice_get_past, past)
     ])
 
 abbrev box_place : Model → Wheel → Option ℕ
 box_place model wheel = Some (place_in_box model wheel)
 
 wheels_have_places : (model : Model) → map (box_place model) (box_of model) ≡ map Some (range_with_len 0 (length (box_of model)))
-wheels_have_places M209 = refl
-wheels_have_places model = refl
+wheels_have_places model = grind arith
 
 letters_have_places : (wheel : ℕ)
     → map (place_on (ring_of wheel)) (ring_of wheel) ≡ map Some (range_with_len 0 (length (ring_of wheel)))
@@ -114,28 +110,13 @@ told_machine (Pin m) (Pin n) h k model kept = ap Pin (told_pin m n h.legal k.leg
 -- ---- things are told apart, and what two machines keep of a third is alike
 
 cases_wheel : (wheel other : Wheel) → (wheel ≡ other) ⊎ (wheel ≢ other)
-cases_wheel wheel other = elim (cases_Bool (same_wheel wheel other)) [
-  | inl same ↦ inl ((same_wheel-Decides wheel other).0 same)
-  | inr differs ↦ inr (not_from_Decides _ (same_wheel-Decides wheel other) differs)
-]
+cases_wheel wheel other = grind (arith, cases_Bool, same_wheel-Decides)
 
 cases_thing : (thing other : Thing) → (other ≡ thing) ⊎ (other ≢ thing)
-cases_thing (TheSlot a) (TheSlot b) = elim (cases_eq b a) [ inl e ↦ inl (ap TheSlot e) | inr ne ↦ inr (λ e. ne cc) ]
-cases_thing TheReflector TheReflector = inl refl
-cases_thing (TheRing a) (TheRing b) = elim (cases_wheel b a) [ inl e ↦ inl (ap TheRing e) | inr ne ↦ inr (λ e. ne cc) ]
-cases_thing (TheLetter a) (TheLetter b) = elim (cases_wheel b a) [ inl e ↦ inl (ap TheLetter e) | inr ne ↦ inr (λ e. ne cc) ]
-cases_thing (TheCable a) (TheCable b) = elim (cases_eq b a) [ inl e ↦ inl (ap TheCable e) | inr ne ↦ inr (λ e. ne cc) ]
-cases_thing (ThePin a x) (ThePin b y) = elim (cases_eq b a) [
-  | inl e ↦ elim (cases_eq y x) [ inl f ↦ inl cc | inr ne ↦ inr (λ e. ne cc) ]
-  | inr ne ↦ inr (λ e. ne cc)
-]
-cases_thing (TheShown a) (TheShown b) = elim (cases_eq b a) [ inl e ↦ inl (ap TheShown e) | inr ne ↦ inr (λ e. ne cc) ]
-cases_thing (TheBar a) (TheBar b) = elim (cases_eq b a) [ inl e ↦ inl (ap TheBar e) | inr ne ↦ inr (λ e. ne cc) ]
-cases_thing thing other = inr (λ e. cc)
+cases_thing thing other = grind (arith, cases_eq, cases_wheel)
 
 kept_alike : (m n o : Parts) (thing : Thing) → IsKept m n thing → IsKept m o thing → IsKept o n thing
-kept_alike m n o thing = elim thing as (λ t. IsKept m n t → IsKept m o t
-    → IsKept o n t) [ TheReflector ↦ λ one other. one ∙ sym other | _ ↦ λ one other. one ∙ sym other ]
+kept_alike m n o thing = grind arith
 
 -- two machines are alike that differ from a third at one thing at most, and are alike there
 alike_but : (thing : Thing) (m n o : Parts) → SetsOnly thing m n → SetsOnly thing m o → IsKept o n thing
@@ -163,21 +144,12 @@ record IsInOrder (cable : Option ℕ × Option ℕ) : Type 0 where
 cables_in_order : (cables : List (Option ℕ × Option ℕ)) (place : ℕ) → all_ordered cables ≡ cables
     → IsDistinct nat_eq (plugged_letters cables) → IfSome (slice_get cables place) IsInOrder
 cables_in_order [] place same apart = tt
-cables_in_order (cable ∷ cables) zero same apart =
-    let is : ordered cable.0 cable.1 ≡ cable = cc in
-    record { ordered = is; rest = plugged_letters cables; new = (new_of_distinct (cable_letters cable) (plugged_letters cables) apart).0 }
+cables_in_order (cable ∷ cables) zero same apart = grind (arith, new_of_distinct (cable_letters cable) (plugged_letters cables) apart)
 cables_in_order (cable ∷ cables) (suc place) same apart =
-    let rest : all_ordered cables ≡ cables = cc in
-    cables_in_order cables place rest (new_of_distinct (cable_letters cable) (plugged_letters cables) apart).1
+    grind (arith, cables_in_order cables place, new_of_distinct (cable_letters cable) (plugged_letters cables) apart)
 
 in_turn : (x y : ℕ) → ordered (Some x) (Some y) ≡ (Some x, Some y) → x ≤ y
-in_turn x y is = elim (cases_Bool (nat_le x y)) [
-  | inl e ↦ leb-true x y e
-  | inr e ↦
-      let turned = ap (λ (cable : Option ℕ × Option ℕ). cable.0) is in
-      let same : y ≡ x = same_Some y x (rw e at turned) in
-      omega (arith, same)
-]
+in_turn x y is = grind (arith, cases_Bool, leb-true, same_Some)
 
 first_is_some : (x : ℕ) → ordered None (Some x) ≡ (None, Some x) → ⊥
 first_is_some x is = none-some x (sym (ap (λ (cable : Option ℕ × Option ℕ). cable.0) is))
@@ -193,22 +165,9 @@ same_cable (Some x, None) (Some y, None) one two same =
     let at = same x in
     let first : x ≡ y = grind (arith, nat_tests) in
     cc
-same_cable (Some x, None) (Some y, Some z) one two same =
-    let at = same y in let there = same z in let new = two.new in absurd (grind (arith, nat_tests))
-same_cable (Some x, Some z) (Some y, None) one two same =
-    let at = same x in let there = same z in let new = one.new in absurd (grind (arith, nat_tests))
-same_cable (Some x, Some z) (Some y, Some v) one two same =
-    let low = in_turn x z one.ordered in
-    let other = in_turn y v two.ordered in
-    let a = same x in
-    let b = same z in
-    let c = same y in
-    let d = same v in
-    let new = one.new in
-    let also = two.new in
-    let first : x ≡ y = grind (arith, nat_tests) in
-    let second : z ≡ v = grind (arith, nat_tests) in
-    cc
+same_cable (Some x, None) (Some y, Some z) one two same = grind (arith, same)
+same_cable (Some x, Some z) (Some y, None) one two same = grind (arith, same)
+same_cable (Some x, Some z) (Some y, Some v) one two same = grind (arith, common_steps, in_turn, same)
 
 by_found : (found other : Option (Option ℕ × Option ℕ)) → is_none found ≡ is_none other → IfSome found IsInOrder
     → IfSome other IsInOrder
@@ -222,28 +181,16 @@ no_converter m l e = let none = subst (λ model. Contains (reflectors_of model) 
 
 cable_alike : (m n : Parts) (cable : ℕ) → IsMachine m → IsMachine n → model_of n ≡ model_of m
     → SameLetters (letters_in n cable) (letters_in m cable) → cable_in n cable ≡ cable_in m cable
-cable_alike (Rotor m) (Rotor n) zero h k model same = refl
-cable_alike (Rotor m) (Rotor n) (suc place) h k model same =
-    by_found (slice_get n.cables place) (slice_get m.cables place)
-    (same_sizes n.cables m.cables place (k.legal.cables.count ∙ sym h.legal.cables.count))
-    (cables_in_order n.cables place (in_their_order n k.cables) k.legal.cables.apart)
-    (cables_in_order m.cables place (in_their_order m h.cables) h.legal.cables.apart) same
-cable_alike (Rotor m) (Pin n) cable h k model same = absurd (no_converter m h.legal (sym model))
-cable_alike (Pin m) (Rotor n) cable h k model same = absurd (no_converter n k.legal model)
-cable_alike (Pin m) (Pin n) cable h k model same = refl
+cable_alike m n cable e d g h = grind (arith, by_found, same_sizes, cables_in_order, in_their_order, no_converter)
 
 -- ---- what a setting makes is alike, as the readers tell it
 
 kept_model : (m n : Parts) (x : Setting) → Makes m x n → model_of n ≡ model_of m
-kept_model m n (Seat slot wheel) made = made.others.model
-kept_model (Rotor m) n (Turn slot letter) made = made.3.model
-kept_model (Pin m) n (Turn slot letter) made = made.1.model
-kept_model m n x made = made.1.model
+kept_model m n x e = grind arith
 
 -- a wheel is seated there, or not
 cases_held : (wheel : Wheel) (held : Option (Option Wheel)) → (held ≡ Some (Some wheel)) ⊎ (held ≢ Some (Some wheel))
-cases_held wheel (Some (Some other)) = elim (cases_wheel other wheel) [ inl e ↦ inl (ap (λ w. Some (Some w)) e) | inr ne ↦ inr (λ e. ne cc) ]
-cases_held wheel held = inr (λ e. cc)
+cases_held wheel held = grind (arith, cases_wheel)
 
 seats_alike : (m n o : Parts) (slot : ℕ) (wheel : Wheel) → Seats m slot wheel n → Seats m slot wheel o
     → (thing : Thing) → IsKept o n thing
@@ -275,12 +222,7 @@ turns_alike (Pin m) n o wheel letter one two = alike_but (TheShown wheel) (Pin m
 bar_alike : (lug : Lug) (bar other : Option (Place × Place))
     → option_map (lug_place lug) bar ≡ option_map (lug_place lug) other
     → option_map (lug_place (other_lug lug)) bar ≡ option_map (lug_place (other_lug lug)) other → bar ≡ other
-bar_alike lug None None moved stays = refl
-bar_alike Left (Some bar) (Some other) moved stays =
-    let left = same_Some _ _ moved in let right = same_Some _ _ stays in ap Some (λ i. (left i, right i))
-bar_alike Right (Some bar) (Some other) moved stays =
-    let right = same_Some _ _ moved in let left = same_Some _ _ stays in ap Some (λ i. (left i, right i))
-bar_alike lug bar other moved stays = absurd (cc)
+bar_alike lug bar other moved stays = grind (arith, same_Some)
 
 both_ways_same : {A B C : Type 0} → A ↔ B → C ↔ B → A ↔ C
 both_ways_same one two = (λ a. two.1 (one.0 a), λ c. one.1 (two.0 c))

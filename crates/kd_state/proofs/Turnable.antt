@@ -34,9 +34,7 @@ module _ (place : Wheel → ℕ) where
   still_read : (wheels : List Wheel) (xs : List ℕ) (i x : ℕ) → AllByRecursion (λ other. place other ≢ i) wheels
       → filter_map (λ wheel. slice_get (set xs i x) (place wheel)) wheels ≡ filter_map (λ wheel. slice_get xs (place wheel)) wheels
   still_read [] xs i x h = refl
-  still_read (wheel ∷ wheels) xs i x h =
-      ap (λ found. cons_option found (filter_map (λ wheel. slice_get (set xs i x) (place wheel)) wheels)) (set_other xs i (place wheel) x h.0)
-      ∙ ap (cons_option (slice_get xs (place wheel))) (still_read wheels xs i x h.1)
+  still_read (wheel ∷ wheels) xs i x h = grind (arith, filter_map, set_other, still_read wheels xs i x h.1)
 
   read_put : (wheels : List Wheel) (window letters : List ℕ) → length window ≡ length wheels → AllByRecursion (λ wheel. place wheel < length letters) wheels → HavePlaces wheels
       → filter_map (λ wheel. slice_get (put wheels window letters) (place wheel)) wheels ≡ window

@@ -1,6 +1,6 @@
 -- Wheels and reflectors by their names, and where the wheels of the box may stand.
-use Rattle.std.proofs.Common.{inl, inr, find, unwrap_or, ◌≡◌, ◌≢◌, ℕ, ◌<◌, ◌≤◌, nat_le, ◌==◌, Bool, true, false, cond, List, [], ◌∷◌, length, get_or, Contains, Decides, refl, sym, ap, ◌∙◌, subst, arith, ◌+◌, Some}
-use Rattle.kd_state.proofs.Prelude.{list_any, position_or_len, cases_Bool, false_from_ne_true, and_parts, or_parts}
+use Rattle.std.proofs.Common.{inl, inr, find, unwrap_or, ◌≡◌, ◌≢◌, ℕ, ◌<◌, ◌≤◌, ◌==◌, Bool, true, false, cond, List, [], ◌∷◌, length, get_or, Contains, Decides, refl, sym, ap, ◌∙◌, arith, Some, rules}
+use Rattle.kd_state.proofs.Prelude.{list_any, position_or_len, cases_Bool, false_from_ne_true, or_parts}
 use Rattle.kd_state.proofs.Prelude.{leb-true, eqb-true, Decides-like, Contains-append_left, Contains-append_right}
 use Rattle.kd_state.proofs.Prelude.{Contains-get_or, is_member-Decides, position_or_len_is, passes_at_first, Model}
 use Rattle.kd_state.proofs.Prelude.{Wheel, I, II, III, IV, V, VI, VII, VIII, Beta, Gamma, Reflector, box_of, slots_of}
@@ -34,20 +34,14 @@ all_reflectors = reflectors.A ∷ reflectors.B ∷ reflectors.C ∷ reflectors.T
 
 pub one_reflector : (x y : Reflector) → reflector_text x ≡ reflector_text y → x ≡ y
 unfolding all_reflectors
-one_reflector =
-    told reflector_text (named reflector_text all_reflectors reflectors.A)
-    (λ x. elim x as (λ r. named reflector_text all_reflectors reflectors.A (reflector_text r) ≡ r) [ reflectors.A ↦ refl | _ ↦ refl ])
+one_reflector = grind (arith, told)
 
 -- no two wheels have one name, and no two reflectors
 pub same_wheel-Decides : (wheel other : Wheel) → Decides (same_wheel wheel other) (wheel ≡ other)
-same_wheel-Decides wheel other =
-    Decides-like _ (one_wheel wheel other) (ap wheel_text)
-    (bytes_eq-Decides (wheel_text wheel) (wheel_text other))
+same_wheel-Decides wheel other = grind (arith, Decides-like, one_wheel, bytes_eq-Decides)
 
 pub same_reflector-Decides : (reflector other : Reflector) → Decides (same_reflector reflector other) (reflector ≡ other)
-same_reflector-Decides reflector other =
-    Decides-like _ (one_reflector reflector other) (ap reflector_text)
-    (bytes_eq-Decides (reflector_text reflector) (reflector_text other))
+same_reflector-Decides reflector other = grind (arith, Decides-like, one_reflector, bytes_eq-Decides)
 
 pub same_wheel_self : (wheel : Wheel) → same_wheel wheel wheel ≡ true
 same_wheel_self wheel = (same_wheel-Decides wheel wheel).1 refl
@@ -75,18 +69,14 @@ pub place_within : (model : Model) (wheel : Wheel) → Contains (box_of model) w
 place_within model wheel h = first_within (same_wheel wheel) (box_of model) ((has_wheel-Decides (box_of model) wheel).1 h)
 
 pub place_nowhere : (model : Model) (wheel : Wheel) → ¬ (Contains (box_of model) wheel) → place_in_box model wheel ≡ length (box_of model)
-place_nowhere model wheel h =
-    first_nowhere (same_wheel wheel) (box_of model) (false_from_ne_true _ (λ e. h ((has_wheel-Decides (box_of model) wheel).0 e)))
+place_nowhere model wheel h = grind (arith, first_nowhere, false_from_ne_true, has_wheel-Decides)
 
 -- a wheel that may stand in a slot, is one of the box, and the slot is one of the model's
 in_some : (b : Bool) (wheels : List Wheel) (wheel : Wheel) → Contains (cond b wheels []) wheel → (b ≡ true) × Contains wheels wheel
-in_some true wheels wheel h = (refl, h)
-in_some false wheels wheel h = absurd (omega (arith, h.1))
+in_some b wheels wheel e = grind arith
 
 lies_in_both : (first last number : ℕ) → lies_in first last number ≡ true → (first ≤ number) × (number ≤ last)
-lies_in_both first last number e =
-    let both = and_parts (nat_le first number) (nat_le number last) e in
-    (leb-true first number both.0, leb-true number last both.1)
+lies_in_both first last number e = grind (arith, leb-true)
 
 pub record IsPlaced (model : Model) (slot : ℕ) (wheel : Wheel) : Type 0 where
   pub first : 1 ≤ slot
@@ -95,37 +85,26 @@ pub record IsPlaced (model : Model) (slot : ℕ) (wheel : Wheel) : Type 0 where
 
 placed_in_m4 : (first : Bool) (slot : ℕ) (wheel : Wheel) → (slot == 1) ≡ first
     → Contains (cond first (wheels_for M4 1) (cond (lies_in 2 4 slot) (wheels_for M4 2) [])) wheel → IsPlaced M4 slot wheel
-placed_in_m4 true slot wheel e h =
-    let one : slot ≡ 1 = eqb-true slot 1 e in
-    record { first = omega (arith, one); last = omega (arith, one); in_box = Contains-append_right (wheels_for M4 2) (wheels_for M4 1) wheel h }
-placed_in_m4 false slot wheel e h =
-    let parts = in_some (lies_in 2 4 slot) (wheels_for M4 2) wheel h in
-    let within = lies_in_both 2 4 slot parts.0 in
-    record { first = omega (arith, within.0); last = within.1; in_box = Contains-append_left (wheels_for M4 2) (wheels_for M4 1) wheel parts.1 }
+placed_in_m4 true slot wheel e h = search (rules, eqb-true, Contains-append_right)
+placed_in_m4 false slot wheel e h = grind (arith, in_some, lies_in_both, Contains-append_left)
 
 pub placed : (model : Model) (slot : ℕ) (wheel : Wheel) → IsAllowed model slot wheel → IsPlaced model slot wheel
 placed M4 slot wheel h = placed_in_m4 (slot == 1) slot wheel refl h
 placed M209 slot wheel h = absurd (omega (arith, h.1))
-placed model slot wheel h =
-    let parts = in_some (lies_in 1 3 slot) (box_of model) wheel h in
-    let within = lies_in_both 1 3 slot parts.0 in
-    record { first = within.0; last = within.1; in_box = parts.1 }
+placed model slot wheel h = grind (arith, in_some, lies_in_both)
 
 pub lacks_wheel : (wheels : List Wheel) (wheel : Wheel) → ¬ (Contains wheels wheel) → has_wheel wheels wheel ≡ false
 lacks_wheel wheels wheel h = false_from_ne_true _ (λ e. h ((has_wheel-Decides wheels wheel).0 e))
 
 -- what `==` of the program says of a wheel of the box
 pub same_tested : (wheel other : Wheel) (b : Bool) → sameb the_type other wheel ≡ b → same_wheel wheel other ≡ b
-same_tested wheel other true e = (same_wheel-Decides wheel other).1 (sym (same_true the_type tt other wheel e))
-same_tested wheel other false e = same_wheel_differs wheel other (λ same. same_false the_type other wheel e (sym same))
+same_tested wheel other b e = grind (arith, same_wheel-Decides, same_true, same_wheel_differs, same_false)
 
 -- the first place of the box at which the wheel stands
 pub found_in_box : (model : Model) (wheel : Wheel) (place : ℕ) → place < length (box_of model) → ((k : ℕ) → k < place → same_wheel wheel (get_or (box_of model) k I) ≡ false)
     → same_wheel wheel (get_or (box_of model) place I) ≡ true → Contains (box_of model) wheel × (place ≡ place_in_box model wheel)
-found_in_box model wheel place within before here = (
-  subst (Contains (box_of model)) (sym ((same_wheel-Decides wheel (get_or (box_of model) place I)).0 here)) (Contains-get_or (box_of model) place I within),
-  sym (position_or_len_is (same_wheel wheel) (box_of model) place I (omega arith) before (λ _. here)),
-)
+found_in_box model wheel place within before here =
+    search (rules, same_wheel-Decides, Contains-get_or, position_or_len_is)
 
 -- ---- the wheels of the box, and those of a day, have places of their own in it
 
@@ -134,8 +113,7 @@ allowed_in_box model slot wheel h = (placed model slot wheel h).in_box
 
 -- what stands at a wheel's place is the wheel
 at_its_place : (model : Model) (wheel : Wheel) → Contains (box_of model) wheel → wheel ≡ get_or (box_of model) (place_in_box model wheel) I
-at_its_place model wheel h =
-    (same_wheel-Decides wheel (get_or (box_of model) (place_in_box model wheel) I)).0 (passes_at_first (same_wheel wheel) (box_of model) I (place_within model wheel h))
+at_its_place model wheel h = grind (arith, same_wheel-Decides, passes_at_first, place_within)
 
 pub places_tell_wheels : PlacesTellWheels
 places_tell_wheels model wheel other h k e = at_its_place model wheel h ∙ ap (λ place. get_or (box_of model) place I) e ∙ sym (at_its_place model other k)
@@ -145,10 +123,4 @@ seated wheels i d lt = slice_get-map (λ w. Some w.wheel) wheels i ∙ ap (optio
 
 pub days_wheels_have_their_places : DaysWheelsHaveTheirPlaces
 days_wheels_have_their_places model wheels h i j d before within same =
-    let first = seated wheels i d (omega arith) in
-    let second = seated wheels j d within in
-    let wheel = places_tell_wheels model (get_or wheels i d).wheel (get_or wheels j d).wheel
-    (allowed_in_box model (i + 1) (get_or wheels i d).wheel (h.allowed i (get_or wheels i d).wheel first))
-    (allowed_in_box model (j + 1) (get_or wheels j d).wheel (h.allowed j (get_or wheels j d).wheel second)) same in
-    let one = h.apart i j (get_or wheels j d).wheel (subst (StandsAt (seats wheels) i) wheel first) second in
-    omega arith
+    grind (arith, seated, places_tell_wheels, allowed_in_box, h.allowed, h.apart)

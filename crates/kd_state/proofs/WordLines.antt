@@ -1,5 +1,6 @@
 -- Words are told by their line, and a text's part before a byte by the text.
-use Rattle.std.proofs.Common.{◌≡◌, ◌≢◌, ℕ, ◌^◌, ◌<◌, Bool, true, false, eqb, ltb, List, [], ◌∷◌, ◌++◌, length, map, get_or, Bor, Some, None, MatchOption, Result, Ok, Err, MatchResult, Decides, refl, sym, ap, subst, ◌∙◌, append_assoc, length-append, arith}
+use Rattle.std.proofs.lemmas.Grind.{common_steps}
+use Rattle.std.proofs.Common.{◌≡◌, ◌≢◌, ℕ, ◌^◌, ◌<◌, Bool, true, false, eqb, ltb, List, [], ◌∷◌, ◌++◌, length, map, get_or, Bor, Some, None, MatchOption, Result, Ok, MatchResult, Decides, refl, sym, ap, ◌∙◌, append_assoc, length-append, arith, rules}
 use Rattle.kd_state.proofs.Prelude.{then_some, All, AllByRecursion, list_all, slice_split, AllPass-from_list_all}
 use Rattle.kd_state.proofs.Prelude.{ltb-true, ne_eqb, eq-eqb, false≢true, decimal_nonempty, digits_decimal}
 use Rattle.kd_state.proofs.Prelude.{IsAscii-decimal, parse-decimal, All-nil, All-cons, All-append, All-from_recursion}
@@ -12,7 +13,7 @@ use Rattle.std.specs.Fmt.{decimal}
 use Rattle.std.specs.Int.{IsInRange}
 use Rattle.std.proofs.lemmas.List.Splits.{length-slice_split, slice_split_none, slice_split_at, join_with_byte-slice_split}
 use Rattle.std.proofs.lemmas.Str.Parse.{IsNumeralModel, numerals_by_value, tells_by_index}
-use Rattle.kd_state.specs.Words.{words_of, line_of, letter_text, IsWithout, IsWord, IsFirstPart, LinesTellWords, LinesSplitIntoWords, PartsMakeLines, WordsMakeOneLine, TextsTellFirstParts, NumbersAreWords, LettersAreWords}
+use Rattle.kd_state.specs.Words.{words_of, line_of, IsWithout, IsWord, IsFirstPart, LinesTellWords, LinesSplitIntoWords, PartsMakeLines, WordsMakeOneLine, TextsTellFirstParts, NumbersAreWords, LettersAreWords}
 
 -- ---- the part before a byte
 
@@ -24,10 +25,7 @@ split_off byte part rest h = slice_split_at (λ b. eqb b byte) part byte rest (n
 
 pub texts_tell_first_parts : TextsTellFirstParts
 texts_tell_first_parts byte first other rest more a b e =
-    let parts = sym (split_off byte first rest a) ∙ ap (slice_split (λ b. eqb b byte)) e ∙ split_off byte other more b in
-    let same : first ≡ other = cc in
-    let tails : byte ∷ rest ≡ byte ∷ more = append_cancel_left other _ _ (subst (λ part. part ++ byte ∷ rest ≡ other ++ byte ∷ more) same e) in
-    (same, cc)
+    grind (arith, split_off byte first rest a, split_off byte other more b, append_cancel_left other (byte ∷ rest) (byte ∷ more))
 
 -- ---- words
 
@@ -44,9 +42,9 @@ parts_make_lines line = join_with_byte-slice_split 32 line
 
 lines_tell : (words others : List (List ℕ)) → AllByRecursion IsWord words → AllByRecursion IsWord others → line_of words ≡ line_of others → words ≡ others
 lines_tell [] [] a b e = refl
-lines_tell [] (word ∷ words) a b e = absurd (b.0.filled (let same : [] ∷ [] ≡ word ∷ words = ap words_of e ∙ split_line word words b in cc))
-lines_tell (word ∷ words) [] a b e = absurd (a.0.filled (let same : word ∷ words ≡ [] ∷ [] = sym (split_line word words a) ∙ ap words_of e in cc))
-lines_tell (word ∷ words) (other ∷ others) a b e = sym (split_line word words a) ∙ ap words_of e ∙ split_line other others b
+lines_tell [] (word ∷ words) a b e = grind (arith, split_line word words b, b.0.filled)
+lines_tell (word ∷ words) [] a b e = grind (arith, split_line word words a, a.0.filled)
+lines_tell (word ∷ words) (other ∷ others) a b e = grind (arith, split_line word words a, split_line other others b)
 
 pub lines_tell_words : LinesTellWords
 lines_tell_words words others a b e = lines_tell words others (recursion_from_All IsWord words a) (recursion_from_All IsWord others b) e
@@ -54,9 +52,7 @@ lines_tell_words words others a b e = lines_tell words others (recursion_from_Al
 one_line : (words : List (List ℕ)) → AllByRecursion IsWord words → IsWithout 10 (line_of words)
 one_line [] a = All-nil (λ b. b ≢ 10)
 one_line (word ∷ []) a = a.0.unbroken
-one_line (word ∷ next ∷ words) a =
-    All-append (λ b. b ≢ 10) word (32 ∷ line_of (next ∷ words)) a.0.unbroken
-    (All-cons (λ b. b ≢ 10) 32 (line_of (next ∷ words)) (λ e. omega (arith, e)) (one_line (next ∷ words) a.1))
+one_line (word ∷ next ∷ words) a = grind (arith, common_steps, All-append, All-cons, one_line (next ∷ words) a.1)
 
 pub words_make_one_line : WordsMakeOneLine
 words_make_one_line words a = one_line words (recursion_from_All IsWord words a)
@@ -84,22 +80,15 @@ pub last_taken : (line rest : List ℕ) (taken : List (List ℕ)) → AreTaken l
 last_taken line rest taken a without = ap (λ words. taken ++ words) (sym (slice_split_none (λ b. eqb b 32) rest (none_is 32 rest without))) ∙ a.joined
 
 pub more_words : (line rest : List ℕ) (taken : List (List ℕ)) → AreTaken line rest taken → length taken < length (words_of line)
-more_words line rest taken a =
-    omega (arith, ap length a.joined, length-append taken (words_of rest), length-slice_split (λ b. eqb b 32) rest)
+more_words line rest taken a = search (rules, length-append, length-slice_split)
 
 -- ---- words by their bytes, and by a test that computes
 
 pub word_by_bytes : (word : List ℕ) → word ≢ [] → All (λ b. 32 < b) word → IsWord word
-word_by_bytes word filled a = record {
-  filled = filled;
-  spaceless = All-weaker (λ b. 32 < b) (λ b. b ≢ 32) (λ b above space. omega (arith, above, space)) word a;
-  unbroken = All-weaker (λ b. 32 < b) (λ b. b ≢ 10) (λ b above break. omega (arith, above, break)) word a;
-}
+word_by_bytes word filled a = grind (arith, All-weaker)
 
 pub word_by_test : (b : ℕ) (bs : List ℕ) → list_all (λ c. ltb 32 c) (b ∷ bs) ≡ true → IsWord (b ∷ bs)
-word_by_test b bs e =
-    word_by_bytes (b ∷ bs) (λ same. cc)
-    (All-weaker (λ c. ltb 32 c ≡ true) (λ c. 32 < c) (ltb-true 32) (b ∷ bs) (AllPass-from_list_all (λ c. ltb 32 c) (b ∷ bs) e))
+word_by_test b bs e = grind (arith, word_by_bytes, All-weaker, ltb-true, AllPass-from_list_all)
 
 figures : IsNumeralModel (λ ds. (i : ℕ) → i < length ds → IsInRange 48 57 (get_or ds i 0)) (digits_value 10)
 figures = numerals_by_value (λ ds. (i : ℕ) → i < length ds → IsInRange 48 57 (get_or ds i 0)) tells_by_index
@@ -112,27 +101,21 @@ numbers_are_words number small =
     (λ i in_it. let figure : IsInRange 48 57 (get_or (decimal number) i 0) = digits_decimal figures number small i in_it in omega (arith, figure.0)))
 
 pub letters_are_words : LettersAreWords
-letters_are_words letter =
-    word_by_bytes (letter_text letter) (λ none. cc) (All-from_recursion (λ b. 32 < b) (letter_text letter) (omega arith, tt))
+letters_are_words letter = grind (arith, word_by_bytes, All-from_recursion)
 
 -- ---- numbers by their texts
 
 pub no_text : {S E : Type 0} (bs : List ℕ) (r : Result S E) (P : S → Type 0) (Q : E → Type 0)
     → MatchResult r P (λ e. ¬ (IsUtf8 bs) × Q e) → result_ok r ≡ None → (number : ℕ) → number < 2 ^ 16 → decimal number ≢ bs
-no_text bs (Ok s) P Q h none number small e = cc
-no_text bs (Err f) P Q h none number small e = h.0 (subst IsUtf8 e (IsUtf8-from_ascii (decimal number) (IsAscii-decimal number (omega arith))))
+no_text bs r P Q e d number g = grind (arith, IsUtf8-from_ascii, IsAscii-decimal)
 
 -- what holds of the value of an Ok
 pub ok_part : {S E : Type 0} (r : Result S E) (s : S) (P : S → Type 0) (Q : E → Type 0) → MatchResult r P Q → Some s ≡ result_ok r → P s
-ok_part (Ok x) s P Q h e = let same : x ≡ s = cc in subst P same h
-ok_part (Err f) s P Q h e = cc
+ok_part r s P Q e d = grind arith
 
 pub no_number : {E : Type 0} (bs : List ℕ) (r : Result ℕ E) → ParsesUnsigned 16 10 bs r → result_ok r ≡ None
     → (number : ℕ) → number < 2 ^ 16 → decimal number ≢ bs
-no_number bs r h none number small e =
-    let read : r ≡ Ok number = parse-decimal 16 number bs r small (omega arith) (sym e) h in
-    let some : Some number ≡ None = ap result_ok (sym read) ∙ none in
-    cc
+no_number bs r h none number small e = grind (arith, parse-decimal 16 number bs r small (omega arith) (sym e) h)
 
 pub only_number : {E : Type 0} (bs : List ℕ) (r : Result ℕ E) (m : ℕ) (test : Bool) → ParsesUnsigned 16 10 bs r → result_ok r ≡ Some m
     → Decides test (decimal m ≡ bs)
@@ -140,6 +123,5 @@ pub only_number : {E : Type 0} (bs : List ℕ) (r : Result ℕ E) (m : ℕ) (tes
 only_number bs r m true h some d = d.0 refl
 only_number bs r m false h some d = λ number small e.
     let read : r ≡ Ok number = parse-decimal 16 number bs r small (omega arith) (sym e) h in
-    let same : Some number ≡ Some m = ap result_ok (sym read) ∙ some in
     let is : m ≡ number = cc in
     false≢true (d.1 (ap decimal is ∙ e))

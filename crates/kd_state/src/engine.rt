@@ -120,7 +120,6 @@ pub fn own_engine(day: &SheetDay) -> Engine
     match day.entry() {
         Entry::Rotor(entry) => {
             let plugs = Plugs::from_pairs(entry.pairs.as_slice()).unwrap();
-            let _slots = entry.wheels.len();
             Engine::of_wheels(entry.wheels.as_slice(), entry.reflector, plugs)
         }
         Entry::Pin(entry) => Engine::of_drum(entry.pins, entry.window, entry.rows),

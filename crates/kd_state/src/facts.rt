@@ -89,6 +89,7 @@ fn is_plugged_letter(cable: &Cable)
 }
 
 /// A wheel has as many pins as letters.
+#[tactic(auto, using(crate::proofs::Rings::all_pins))]
 pub(crate) fn are_all_pins(pins: PinSet)
     ensures { HasAllPins pins }
 {
@@ -116,6 +117,5 @@ pub(crate) fn is_in_range(setting: &Setting)
 fn are_in_range(number: u8, letter: Letter)
     ensures { (number < 2 ^ 8) × (letter < 26) }
 {
-    let _number = number;
     let _place = letter.index();
 }

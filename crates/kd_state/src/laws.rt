@@ -14,6 +14,7 @@ ghost use Rattle.kd_state.specs.Laws.{TheDayDeciphersItself, CipherInTurn, KeyIn
 ghost use Rattle.kd_state.specs.Laws.{TestsTellLetters, ThirteenColumns, ColumnsAreThePairs, CablesCostFour, CostTablesAreSquare};
 
 /// Words, joined by one space, are told by their line, and split off it again. Their line has no LF.
+#[tactic(auto, using(crate::proofs::WordLines::lines_tell_words, crate::proofs::WordLines::lines_split_into_words, crate::proofs::WordLines::parts_make_lines, crate::proofs::WordLines::words_make_one_line))]
 pub fn lines_tell_words()
     ensures told { LinesTellWords }
     ensures split { LinesSplitIntoWords }
@@ -22,17 +23,20 @@ pub fn lines_tell_words()
 {}
 
 /// What stands before the first of a byte in a text, as a space or LF, and what follows it, is told by the text.
+#[tactic(auto, using(crate::proofs::WordLines::texts_tell_first_parts))]
 pub fn texts_tell_first_parts()
     ensures { TextsTellFirstParts }
 {}
 
 /// Numbers in decimal and letters are words.
+#[tactic(auto, using(crate::proofs::WordLines::numbers_are_words, crate::proofs::WordLines::letters_are_words))]
 pub fn numbers_and_letters_are_words()
     ensures numbers { NumbersAreWords }
     ensures letters { LettersAreWords }
 {}
 
 /// So are the words of settings' lines.
+#[tactic(auto, using(crate::proofs::SettingLines::setting_words_are_words))]
 pub fn settings_have_words()
     ensures { SettingsHaveWords }
 {}
@@ -44,6 +48,7 @@ pub fn no_two_settings_have_one_line()
 
 /// Bytes are the text of one list of settings at most; those that are have no fault, and no bytes have two. That bytes
 /// which are no list have one, `read_list` tells.
+#[tactic(auto, using(crate::proofs::SettingLines::texts_tell_lists, crate::proofs::SettingLines::lists_have_no_fault, crate::proofs::SettingLines::one_list_fault))]
 pub fn texts_tell_lists()
     ensures list { TextsTellLists }
     ensures no_fault { ListsHaveNoFault }
@@ -72,6 +77,7 @@ pub fn settings_keep_machines()
 {}
 
 /// A machine refuses a setting, or carries it, and never both; it carries it to one machine only, and a list too.
+#[tactic(auto, using(crate::proofs::Carrying::refuses_or_carries, crate::proofs::Carrying::carries_to_one, crate::proofs::Carrying::leads_to_one))]
 pub fn a_setting_is_refused_or_carried()
     ensures either { RefusesOrCarries }
     ensures to_one { CarriesToOne }
@@ -80,6 +86,7 @@ pub fn a_setting_is_refused_or_carried()
 
 /// A setting that is carried out changes what it says, and nothing else: as each reader of the machine tells it. Where they
 /// tell just that, and the setting isn't refused, it was carried out; and they tell what is refused.
+#[tactic(auto, using(crate::proofs::Changing::settings_are_told, crate::proofs::Refusing::refusals_are_told, crate::proofs::Telling::telling_is_making))]
 pub fn readers_tell_what_settings_change()
     ensures told { SettingsAreTold }
     ensures made { TellingIsMaking }
@@ -95,12 +102,14 @@ pub fn tables_say_what_is_refused()
 
 /// An engine with a machine's key enciphers as the machine itself, by its own parts; turned to other letters, as the machine
 /// that shows these.
+#[tactic(auto, using(crate::proofs::Keys::engine_cipher, crate::proofs::Keys::turned_engine))]
 pub fn engines_encipher_as_their_machines()
     ensures standing { EngineIsTheMachine }
     ensures turned { TurnedEngineIsTheTurnedMachine }
 {}
 
 /// A machine that reads as the day is ready, and enciphers as the day's own machine.
+#[tactic(auto, using(crate::proofs::Keys::reading_ready, crate::proofs::Keys::reading_cipher))]
 pub fn reading_as_the_day_is_its_cipher()
     ensures ready { ReadingIsReady }
     ensures cipher { ReadingIsItsCipher }
@@ -109,6 +118,7 @@ pub fn reading_as_the_day_is_its_cipher()
 }
 
 /// A machine that is on the day's key is ready, and enciphers as the day's own machine that shows the same letters.
+#[tactic(auto, using(crate::proofs::Keys::on_key_ready, crate::proofs::Keys::on_key_cipher))]
 pub fn being_on_the_key_is_its_cipher()
     ensures ready { OnKeyIsReady }
     ensures cipher { OnKeyIsItsCipher }
@@ -118,6 +128,7 @@ pub fn being_on_the_key_is_its_cipher()
 
 /// With other letters a machine has the same key but for the letters, and on a day's key it stays on it, with the cipher of the
 /// day's own machine that shows these letters.
+#[tactic(auto, using(crate::proofs::Keys::turned_key, crate::proofs::Keys::turned_on_key, crate::proofs::Keys::turned_cipher))]
 pub fn turning_keeps_the_key()
     ensures key { TurnedHasItsKey }
     ensures on_key { TurnedIsOnKey }
@@ -127,6 +138,7 @@ pub fn turning_keeps_the_key()
 }
 
 /// A ready machine can be turned to each window that has a letter for each slot, or for each pin wheel and on it.
+#[tactic(auto, using(crate::proofs::Turnable::can_be_turned))]
 pub fn ready_machines_can_be_turned()
     ensures { MachinesCanBeTurned }
 {}
@@ -141,6 +153,7 @@ pub fn equally_set_machines_decipher()
 }
 
 /// What the day's own machine enciphers, it deciphers if it shows the same letters again.
+#[tactic(auto, using(crate::proofs::Keys::twice_on_key))]
 pub fn the_day_deciphers_itself()
     ensures { TheDayDeciphersItself }
 {
@@ -164,17 +177,20 @@ pub fn tests_tell_letters()
 {}
 
 /// A day has 13 columns: its pairs in their order, and then nothings.
+#[tactic(auto, using(crate::proofs::Columns::thirteen_columns, crate::proofs::Columns::columns_are_the_pairs))]
 pub fn columns_are_the_pairs()
     ensures count { ThirteenColumns }
     ensures pairs { ColumnsAreThePairs }
 {}
 
 /// What it costs to make of a cable a pair, or nothing, is four at most.
+#[tactic(auto, using(crate::proofs::CountedLetters::at_most_four))]
 pub fn cables_cost_four()
     ensures { CablesCostFour }
 {}
 
 /// There are as many costs for each cable, or bar, as there are cables, or bars.
+#[tactic(auto, using(crate::proofs::Columns::cost_tables_are_square))]
 pub fn cost_tables_are_square()
     ensures { CostTablesAreSquare }
 {}

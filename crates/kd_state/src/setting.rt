@@ -9,7 +9,7 @@ use kd_tables::{Letter, Lug, Place, Reflector, Wheel};
 
 /// One setting that an operator makes at a machine. Slots are counted from the left, from 1; cables, pin wheels and bars
 /// from 1.
-#[derive(Clone, Copy, Debug, PartialEq, Eq)]
+#[derive(Clone, Copy)]
 pub enum Setting {
     /// The letter is taken out of the cable.
     Pull {

@@ -52,6 +52,7 @@ pub fn wide_number_of_text(text: &[u8]) -> Option<u16>
 }
 
 /// The number below 256 that is written so.
+#[tactic(auto, using(std::proofs::lemmas::Fmt::decimal_injective))]
 pub fn number_of_text(text: &[u8]) -> Option<u8>
     ensures { MatchOption result
         ((number : ℕ) → number < 2 ^ 8 → decimal number ≢ text.now)

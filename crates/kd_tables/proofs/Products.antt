@@ -23,9 +23,7 @@ shift-at k x lt = get_or-map-range_with_len (λ x'. (x' + k) % 26) 0 26 x x 0 lt
 
 -- the place of what stands at a place is that place
 pub place_of_at : (p : List ℕ) (x : ℕ) → IsPermutation26 p → x < 26 → position_or_len (λ z. z == slice_index p x) p ≡ x
-place_of_at p x h lt = position_or_len_is (λ z. z == slice_index p x) p x 0 (omega (arith, h.size))
-    (λ k k_lt. ne_eqb (slice_index p k) (slice_index p x) (λ e. absurd (omega (arith, h.each_once.apart k x (omega arith) lt e))))
-    (λ _. eq-eqb (slice_index p x) (slice_index p x) refl)
+place_of_at p x h lt = grind (arith, position_or_len_is, ne_eqb, h.each_once.apart, eq-eqb)
 
 pub product_permutes : (p q : List ℕ) → IsPermutation26 p → IsPermutation26 q → IsPermutation26 (followed_by p q)
 unfolding followed_by

@@ -1,5 +1,5 @@
 -- The places of a pin wheel's letters.
-use Rattle.std.proofs.Common.{◌≡◌, ◌≢◌, ℕ, zero, suc, ◌<◌, ◌==◌, ltb, List, [], length, slice_index, Some, None, refl, arith}
+use Rattle.std.proofs.Common.{◌≡◌, ◌≢◌, ℕ, ◌<◌, ◌==◌, ltb, List, [], length, slice_index, Some, None, refl, arith}
 use Rattle.std.specs.List.{position_or_len}
 use Rattle.std.proofs.lemmas.Bool.{cond-true, lt-ltb, eqb-true, eq-eqb, ne_eqb}
 use Rattle.std.proofs.lemmas.List.Sums.{position_or_len_is}
@@ -16,17 +16,9 @@ letter_leads_to_place size ring h place lt =
     rw first (cond-true (ltb place (length ring)) (Some place) None (lt-ltb place (length ring) (omega (arith, h.full))))
 
 pub place_leads_to_letter : (size : ℕ) (ring : List ℕ) → IsRing size ring → (place letter : ℕ) → place_on ring letter ≡ Some place → slice_index ring place ≡ letter
-place_leads_to_letter size ring h place letter e =
-    eqb-true (slice_index ring place) letter (position-Some (λ other. other == letter) ring place 0 e).1
+place_leads_to_letter size ring h place letter e = grind (arith, eqb-true, position-Some)
 
 -- there are six wheels
 pub no_ring : (wheel : ℕ) → wheel ≢ 1 → wheel ≢ 2 → wheel ≢ 3 → wheel ≢ 4 → wheel ≢ 5 → wheel ≢ 6 → ring_of wheel ≡ []
 unfolding ring_of
-no_ring zero a b c d e f = refl
-no_ring (suc zero) a b c d e f = absurd (a refl)
-no_ring (suc (suc zero)) a b c d e f = absurd (b refl)
-no_ring (suc (suc (suc zero))) a b c d e f = absurd (c refl)
-no_ring (suc (suc (suc (suc zero)))) a b c d e f = absurd (d refl)
-no_ring (suc (suc (suc (suc (suc zero))))) a b c d e f = absurd (e refl)
-no_ring (suc (suc (suc (suc (suc (suc zero)))))) a b c d e f = absurd (f refl)
-no_ring (suc (suc (suc (suc (suc (suc (suc wheel))))))) a b c d e f = refl
+no_ring wheel e d g h o q = grind arith

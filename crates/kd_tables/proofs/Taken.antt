@@ -1,5 +1,5 @@
 -- Texts that are taken one part after another.
-use Rattle.std.proofs.Common.{◌≡◌, ℕ, ◌+◌, ◌-◌, Bool, true, false, ◌||◌, List, length, take, drop, Option, sym, ◌∙◌, subst}
+use Rattle.std.proofs.Common.{◌≡◌, ℕ, ◌+◌, ◌-◌, Bool, false, ◌||◌, List, length, take, drop, Option, arith}
 use Rattle.std.specs.Io.KnownBytes.{Appends}
 use Rattle.std.proofs.KnownBytes.{Appends-trans}
 use Rattle.std.proofs.Math.Seq.{take-add}
@@ -7,12 +7,9 @@ use Rattle.std.proofs.lemmas.List.{take_rest}
 
 -- a put that succeeds leaves whether one has failed
 pub still_failed : (now before first : Bool) → now ≡ (before || false) → before ≡ first → now ≡ first
-still_failed now true first h e = h ∙ e
-still_failed now false first h e = h ∙ e
+still_failed now before first e d = grind (arith, e)
 
 -- a further part of the bytes
 pub takes_more : (a b c : Option (List ℕ)) (bytes : List ℕ) (done count : ℕ) → Appends a b (take done bytes) → Appends b c (take count (take (length bytes - done) (drop done bytes)))
     → Appends a c (take (done + count) bytes)
-takes_more a b c bytes done count first second =
-    subst (Appends a c) (sym (take-add done count bytes)) (Appends-trans a b c (take done bytes) (take count (drop done bytes)) first
-    (subst (λ rest. Appends b c (take count rest)) (take_rest bytes done) second))
+takes_more a b c bytes done count first second = grind (arith, take-add, Appends-trans, take_rest)

@@ -1,7 +1,6 @@
 -- What the tests of a published text say, and that each published table passes them.
-use Rattle.std.proofs.Common.{◌≡◌, ◌≢◌, ℕ, ◌<◌, ◌≤◌, ◌==◌, nat_eq, nat_lt, true, false, not, ◌&&◌, ◌⊎◌, inl, inr, List, ◌∷◌, length, slice_index, get_or, eqb, All, refl, sym, subst, ◌∙◌, arith}
-use Rattle.std.specs.List.{position_or_len, IsDistinct, Any, list_all, list_any}
-use Rattle.std.specs.Set.{distinct_count}
+use Rattle.std.proofs.Common.{◌≡◌, ◌≢◌, ℕ, ◌<◌, ◌≤◌, ◌==◌, nat_eq, true, false, not, ◌&&◌, ◌⊎◌, inl, inr, List, ◌∷◌, length, slice_index, get_or, eqb, All, refl, sym, subst, ◌∙◌, arith}
+use Rattle.std.specs.List.{position_or_len, IsDistinct, Any, list_any}
 use Rattle.std.proofs.lemmas.Bool.{and_parts, not-true, ltb-true, eqb-true, eqb-false, ne_eqb, cases_lt, cases_order}
 use Rattle.std.proofs.lemmas.Cmp.{nat_eq_equiv}
 use Rattle.std.proofs.lemmas.Map.Made.{IsDistinct-from_count}
@@ -16,7 +15,7 @@ use Rattle.kd_tables.specs.Tables.{letters_of, wiring_of, reflector_of}
 use Rattle.kd_tables.specs.Rings.{IsRing}
 use Rattle.kd_tables.specs.WiringText.{are_capitals, are_distinct_letters, is_permutation, is_wiring_text, is_ring_text, is_reflection}
 use Rattle.kd_tables.specs.declared.wheel.Wheel.{Wheel}
-use Rattle.kd_tables.specs.declared.wheel.Wheel.TheVariants.{I, II, III, IV, V, VI, VII, VIII, Beta, Gamma}
+use Rattle.kd_tables.specs.declared.wheel.Wheel.TheVariants.{I}
 use Rattle.kd_tables.specs.declared.reflector.Reflector.{Reflector}
 use Rattle.kd_tables.specs.declared.reflector.Reflector.TheVariants as reflectors
 
@@ -52,8 +51,7 @@ no_other p y h lt missing =
     absurd (omega (arith, h.size, length-le_from_distinct_below (y ∷ p) 26 distinct (any_within 26 (y ∷ p) (All-cons (λ z. z < 26) y p lt within))))
 
 place_by_cases : (p : List ℕ) (y : ℕ) → IsPermutation26 p → y < 26 → (position_or_len (λ x. x == y) p < 26) ⊎ (26 ≤ position_or_len (λ x. x == y) p) → position_or_len (λ x. x == y) p < 26
-place_by_cases p y h lt (inl here) = here
-place_by_cases p y h lt (inr missing) = absurd (no_other p y h lt missing)
+place_by_cases p y e d g = grind (arith, no_other)
 
 -- each letter stands at some place of a permutation
 pub place_within : (p : List ℕ) (y : ℕ) → IsPermutation26 p → y < 26 → position_or_len (λ x. x == y) p < 26
@@ -66,14 +64,10 @@ at_place p y h lt = eqb-true (slice_index p (position_or_len (λ x. x == y) p)) 
 -- ---- what the tests of a text say
 
 letters_within : (p : List ℕ) → are_distinct_letters p ≡ true → All (λ x. x < 26) p
-letters_within p h =
-    All-weaker (λ x. nat_lt x 26 ≡ true) (λ x. x < 26) (λ x e. ltb-true x 26 e) p
-    (AllPass-from_list_all (λ x. nat_lt x 26) p (and_parts (list_all (λ x. nat_lt x 26) p) (distinct_count nat_eq p == length p) h).0)
+letters_within p h = grind (arith, All-weaker, ltb-true, AllPass-from_list_all)
 
 letters_differ : (p : List ℕ) → are_distinct_letters p ≡ true → IsDistinct nat_eq p
-letters_differ p h =
-    IsDistinct-from_count nat_eq_equiv p
-    (eqb-true (distinct_count nat_eq p) (length p) (and_parts (list_all (λ x. nat_lt x 26) p) (distinct_count nat_eq p == length p) h).1)
+letters_differ p h = grind (arith, IsDistinct-from_count, nat_eq_equiv, eqb-true)
 
 pub test_permutes : (p : List ℕ) → is_permutation p ≡ true → IsPermutation26 p
 test_permutes p h =
@@ -112,37 +106,20 @@ reflection_moves p h = All-weaker (λ x. (not (slice_index p x == x) && (slice_i
 -- each published table is a permutation
 pub wiring_permutes : (wheel : Wheel) → IsPermutation26 (wiring_of wheel)
 unfolding wiring_of
-wiring_permutes I = test_permutes (wiring_of I) refl
-wiring_permutes II = test_permutes (wiring_of II) refl
-wiring_permutes III = test_permutes (wiring_of III) refl
-wiring_permutes IV = test_permutes (wiring_of IV) refl
-wiring_permutes V = test_permutes (wiring_of V) refl
-wiring_permutes VI = test_permutes (wiring_of VI) refl
-wiring_permutes VII = test_permutes (wiring_of VII) refl
-wiring_permutes VIII = test_permutes (wiring_of VIII) refl
-wiring_permutes Beta = test_permutes (wiring_of Beta) refl
-wiring_permutes Gamma = test_permutes (wiring_of Gamma) refl
+wiring_permutes I = test_permutes _ refl
+wiring_permutes wheel = test_permutes (wiring_of wheel) refl
 
 pub reflector_permutes : (reflector : Reflector) → IsPermutation26 (reflector_of reflector)
 unfolding reflector_of
-reflector_permutes reflectors.A = test_permutes (reflector_of reflectors.A) refl
-reflector_permutes reflectors.B = test_permutes (reflector_of reflectors.B) refl
-reflector_permutes reflectors.C = test_permutes (reflector_of reflectors.C) refl
-reflector_permutes reflectors.ThinB = test_permutes (reflector_of reflectors.ThinB) refl
-reflector_permutes reflectors.ThinC = test_permutes (reflector_of reflectors.ThinC) refl
+reflector_permutes reflectors.A = test_permutes _ refl
+reflector_permutes reflector = test_permutes (reflector_of reflector) refl
 
 pub reflector_returns : (reflector : Reflector) → IsOwnInverse (reflector_of reflector)
 unfolding reflector_of
 reflector_returns reflectors.A = reflection_returns (reflector_of reflectors.A) refl
-reflector_returns reflectors.B = reflection_returns (reflector_of reflectors.B) refl
-reflector_returns reflectors.C = reflection_returns (reflector_of reflectors.C) refl
-reflector_returns reflectors.ThinB = reflection_returns (reflector_of reflectors.ThinB) refl
-reflector_returns reflectors.ThinC = reflection_returns (reflector_of reflectors.ThinC) refl
+reflector_returns reflector = reflection_returns (reflector_of reflector) refl
 
 pub reflector_moves : (reflector : Reflector) → MovesEachLetter (reflector_of reflector)
 unfolding reflector_of
 reflector_moves reflectors.A = reflection_moves (reflector_of reflectors.A) refl
-reflector_moves reflectors.B = reflection_moves (reflector_of reflectors.B) refl
-reflector_moves reflectors.C = reflection_moves (reflector_of reflectors.C) refl
-reflector_moves reflectors.ThinB = reflection_moves (reflector_of reflectors.ThinB) refl
-reflector_moves reflectors.ThinC = reflection_moves (reflector_of reflectors.ThinC) refl
+reflector_moves reflector = reflection_moves (reflector_of reflector) refl

@@ -36,6 +36,7 @@ pub fn products_are_permutations()
 
 /// A permutation and its inverse, in either order, leave every letter. One permutation after the other is undone by their
 /// inverses in the other order, and a shift by the shift that makes it up to 26.
+#[tactic(auto, using(crate::proofs::Products::product_inverse, crate::proofs::Products::inverse_product, crate::proofs::Products::product_backwards, crate::proofs::Products::shift_backwards))]
 pub fn inverse_undoes()
     ensures after { InverseUndoesAfter }
     ensures before { InverseUndoesBefore }

@@ -5,7 +5,7 @@ use super::names::{name_of, named};
 use arrayvec::ArrayString;
 
 /// One of the two lugs on a bar of the Converter M-209.
-#[derive(Clone, Copy, Debug, PartialEq, Eq)]
+#[derive(Clone, Copy, PartialEq, Eq)]
 pub enum Lug {
     /// The left lug.
     Left,

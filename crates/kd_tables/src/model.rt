@@ -21,7 +21,7 @@ const WHEELS: [Wheel; 10] = [
 ];
 
 /// A model of cipher machine.
-#[derive(Clone, Copy, Debug, PartialEq, Eq)]
+#[derive(Clone, Copy, PartialEq, Eq)]
 pub enum Model {
     /// The Wehrmacht's machine, with three wheels out of five.
     EnigmaI,

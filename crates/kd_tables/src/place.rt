@@ -6,7 +6,7 @@ use arrayvec::ArrayString;
 
 /// A place of a lug on a bar of the Converter M-209, in the order from left to right. At a place with a number the pin
 /// wheel of that number acts; at the two zeros none does.
-#[derive(Clone, Copy, Debug, PartialEq, Eq, PartialOrd)]
+#[derive(Clone, Copy, PartialEq, Eq, PartialOrd)]
 pub enum Place {
     /// The place of the first wheel.
     One,

@@ -8,7 +8,7 @@ use super::table::reflection;
 use arrayvec::ArrayString;
 
 /// A reflector of the rotor machines, which sends the current back through the wheels.
-#[derive(Clone, Copy, Debug, PartialEq, Eq)]
+#[derive(Clone, Copy, PartialEq, Eq)]
 pub enum Reflector {
     /// Reflector A.
     A,

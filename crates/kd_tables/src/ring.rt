@@ -116,6 +116,7 @@ pub fn ring6() -> Ring<17>
 
 /// The place of a letter on the wheel of this number, counted from 0: none where it isn't on the wheel, or where there is no
 /// such wheel. The wheels are counted from 1 to 6.
+#[tactic(auto, using(crate::proofs::Rings::no_ring))]
 pub fn place_on_wheel(wheel: u8, letter: Letter) -> Option<usize>
     ensures value { result ≡ place_on (ring_of wheel) letter }
     ensures exists { IsSome result ↔ Contains (ring_of wheel) letter }

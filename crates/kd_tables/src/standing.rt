@@ -8,7 +8,7 @@ use arrayvec::ArrayString;
 use std::marker::Model;
 
 /// How a bar of the Converter M-209 stands: the places of its two lugs, the left one's before the right one's.
-#[derive(Clone, Copy, Debug, PartialEq, Eq)]
+#[derive(Clone, Copy, PartialEq, Eq)]
 pub struct Standing {
     left: Place,
     right: Place,

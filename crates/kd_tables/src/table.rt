@@ -7,6 +7,7 @@ ghost use Rattle.kd_tables.specs.WiringText.{are_capitals, is_wiring_text, is_ri
 use super::letter::Letter;
 
 /// The letters that a text spells.
+#[tactic(auto, using(std::proofs::lemmas::List::FromFn::fill_by_all))]
 fn letters<const N: usize>(text: &[u8; N]) -> [Letter; N]
     requires { IsTrue (are_capitals text.now) }
     ensures { result ≡ letters_of text.now }
@@ -28,6 +29,7 @@ fn letter_at<const N: usize>(text: &[u8; N], place: usize) -> Letter
 }
 
 /// The table that a published text spells: its first letter is what A becomes.
+#[tactic(auto, using(crate::proofs::Wirings::text_permutes))]
 pub(crate) fn table(text: &[u8; 26]) -> [Letter; 26]
     requires { IsTrue (is_wiring_text text.now) }
     ensures table { result ≡ letters_of text.now }
@@ -37,6 +39,7 @@ pub(crate) fn table(text: &[u8; 26]) -> [Letter; 26]
 }
 
 /// The table that undoes the one that a published text spells.
+#[tactic(auto, using(crate::proofs::Products::filled_is_inverse))]
 pub(crate) fn inverse_table(text: &[u8; 26]) -> [Letter; 26]
     requires { IsTrue (is_wiring_text text.now) }
     ensures { result ≡ inverse (letters_of text.now) }
@@ -50,6 +53,7 @@ pub(crate) fn inverse_table(text: &[u8; 26]) -> [Letter; 26]
 }
 
 /// The table of a reflector's published text.
+#[tactic(auto, using(crate::proofs::Wirings::reflection_returns, crate::proofs::Wirings::reflection_moves))]
 pub(crate) fn reflection(text: &[u8; 26]) -> [Letter; 26]
     requires wiring { IsTrue (is_wiring_text text.now) }
     requires reflection { IsTrue (is_reflection (letters_of text.now)) }
@@ -61,6 +65,7 @@ pub(crate) fn reflection(text: &[u8; 26]) -> [Letter; 26]
 }
 
 /// The letters of a pin wheel's published text.
+#[tactic(auto, using(crate::proofs::Wirings::text_makes_ring))]
 pub(crate) fn ring<const N: usize>(text: &[u8; N]) -> [Letter; N]
     requires { IsTrue (is_ring_text text.now) }
     ensures letters { result ≡ letters_of text.now }

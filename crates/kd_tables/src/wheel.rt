@@ -8,7 +8,7 @@ use super::table::{inverse_table, table};
 use arrayvec::ArrayString;
 
 /// A wheel of the rotor machines. I to VIII turn; Beta and Gamma stand still beside the thin reflectors of the M4.
-#[derive(Clone, Copy, Debug, PartialEq, Eq)]
+#[derive(Clone, Copy, PartialEq, Eq)]
 pub enum Wheel {
     /// Wheel I.
     I,

@@ -11,6 +11,7 @@ use thiserror::Error;
 pub struct Device;
 
 /// Puts all bytes into the sink, in as many puts as it wants. A sink that fails has taken a front of them.
+#[tactic(auto, using(crate::proofs::Taken::takes_more, crate::proofs::Taken::still_failed))]
 pub fn put_all<W: Sink>(sink: &mut W, bytes: &[u8]) -> Result<(), Device>
     ensures text { Writes (W.taken sink.old) (W.taken sink.new) bytes.now result }
     ensures failed { W.has_failed sink.new ≡ (W.has_failed sink.old || is_err result) }

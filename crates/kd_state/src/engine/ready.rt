@@ -20,7 +20,7 @@ use kd_tables::{Letter, Wheel};
 use thiserror::Error;
 
 /// A machine with an empty slot, or with a cable that has one letter.
-#[derive(Clone, Copy, Debug, PartialEq, Eq, Error)]
+#[derive(Clone, Copy, Debug, Error)]
 #[error("4 NotReady")]
 pub struct NotReady;
 
@@ -62,7 +62,6 @@ impl Machine {
         ensures ready { IsSome result ↔ IsRotorReady parts.now }
         ensures key { IfSome result (λ engine. engine ≡ physical_key (Parts.Rotor parts.now)) }
     {
-        let _slots = parts.slots.len();
         let wheels = self.seated_wheels(parts.slots.as_slice())?;
         let plugs = plugs_of(&parts.cables)?;
         Some(Engine::of_wheels(wheels.as_slice(), parts.reflector, plugs))
@@ -120,6 +119,7 @@ fn are_seated(slots: &[Option<Wheel>]) -> bool
 }
 
 /// What the cables exchange, if none has one letter.
+#[tactic(auto, using(crate::proofs::DayPairs::no_letter_twice))]
 fn plugs_of(cables: &[Cable; 13]) -> Option<Plugs>
     requires { AreCables cables.now }
     ensures ready { IsSome result ↔ All (λ cable. length (cable_letters cable) ≢ 1) cables.now }

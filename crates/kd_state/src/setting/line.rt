@@ -130,6 +130,7 @@ fn of_words(words: &[&[u8]]) -> Option<Setting>
 }
 
 /// The setting whose line has these two words.
+#[tactic(auto, using(crate::proofs::SettingLines::no_form))]
 fn with_one_value(keyword: &[u8], value: &[u8]) -> Option<Setting>
     ensures { IsReadOff (keyword.now ∷ value.now ∷ []) result }
 {
@@ -142,6 +143,7 @@ fn with_one_value(keyword: &[u8], value: &[u8]) -> Option<Setting>
 }
 
 /// The setting whose line has these three words.
+#[tactic(auto, using(crate::proofs::SettingLines::no_form))]
 fn with_two_values(keyword: &[u8], first: &[u8], second: &[u8]) -> Option<Setting>
     ensures { IsReadOff (keyword.now ∷ first.now ∷ second.now ∷ []) result }
 {
@@ -171,6 +173,7 @@ fn with_two_values(keyword: &[u8], first: &[u8], second: &[u8]) -> Option<Settin
 }
 
 /// The setting whose line has these four words.
+#[tactic(auto, using(crate::proofs::SettingLines::no_form))]
 fn with_three_values(keyword: &[u8], first: &[u8], second: &[u8], third: &[u8]) -> Option<Setting>
     ensures { IsReadOff (keyword.now ∷ first.now ∷ second.now ∷ third.now ∷ []) result }
 {

@@ -39,7 +39,7 @@ pub enum Why {
 }
 
 /// A setting that the machine refuses.
-#[derive(Clone, Copy, Debug, PartialEq, Eq, Error)]
+#[derive(Clone, Copy, Debug, Error)]
 #[error("3 Illegal {why}")]
 pub struct Illegal {
     pub why: Why,

@@ -9,7 +9,7 @@ use kd_enigma::Plugs;
 use kd_tables::{Letter, Model, Reflector, Wheel, allowed_reflector};
 
 /// A wheel of a sheet's day, with its ring and the letter in its window.
-#[derive(Clone, Copy, PartialEq, Eq)]
+#[derive(Clone, Copy)]
 pub struct SheetWheel {
     pub wheel: Wheel,
     /// The ring: 01 is A.
@@ -62,7 +62,6 @@ impl RotorEntry {
     pub(crate) fn seats(&self) -> PerSlot<Option<Wheel>>
         ensures { result ≡ seats self.now.wheels }
     {
-        let _slots = self.wheels.len();
         let seats = match self.wheels.as_slice() {
             [first, left, middle, right] => PerSlot::new(&[
                 Some(first.wheel),

@@ -1,22 +1,14 @@
 use Rattle.std.specs.Prelude.{◌≡◌, ◌<◌, [], ◌∷◌}
 use Rattle.std.proofs.Common.{◌∙◌, sym, ap, arith}
-use Rattle.kd_tables.specs.declared.place.Place.TheVariants.{ZeroLeft, ZeroRight}
 use Rattle.kd_state.specs.Costs.{place_at, across, standings_as}
 use Rattle.kd_state.proofs.Standings.{zeros, one_zero, no_zero}
 use Rattle.kd_state.proofs.costs.standings_of.Goals as goal
 
 pub returns-then-larger-eq0 : goal.returns-then-larger-eq0
-returns-then-larger-eq0 c =
-    let row = c.numbers-smaller.result in
-    ap standings_as (sym c.numbers-smaller.ensures.value) ∙ zeros row (omega arith) (omega arith) ∙ ap (λ s. s ∷ []) (sym c.across.ensures)
+returns-then-larger-eq0 c = grind (arith, zeros)
 
 pub returns-then-smaller-eq0 : goal.returns-then-smaller-eq0
-returns-then-smaller-eq0 c =
-    let row = c.numbers-smaller.result in
-    let all = ap standings_as (sym c.numbers-smaller.ensures.value) ∙ one_zero row (omega arith) (omega arith) (omega arith) in
-    let first = c.across-first.ensures ∙ ap (λ place. across ZeroLeft place) c.place_of-place.ensures in
-    let second = c.across-then-smaller-eq0.ensures ∙ ap (λ place. across place ZeroRight) c.place_of-place.ensures in
-    all ∙ ap (λ s. s ∷ across (place_at row.1) ZeroRight ∷ []) (sym first) ∙ ap (λ s. c.across-first.result ∷ s ∷ []) (sym second)
+returns-then-smaller-eq0 c = grind (arith, one_zero, across)
 
 pub returns-else-smaller-eq0 : goal.returns-else-smaller-eq0
 returns-else-smaller-eq0 c =

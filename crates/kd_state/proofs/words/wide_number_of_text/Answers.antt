@@ -1,4 +1,4 @@
-use Rattle.std.proofs.Common.{◌∙◌, sym, subst, Decides, ◌≡◌}
+use Rattle.std.proofs.Common.{◌∙◌, sym, subst, Decides, ◌≡◌, arith}
 use Rattle.std.specs.Str.Parse.{ParsesUnsigned}
 use Rattle.std.proofs.lemmas.Bool.Decides.{Decides-eqb}
 use Rattle.std.proofs.lemmas.Slice.Eq.{slice_eq-Decides}
@@ -11,10 +11,7 @@ returns-in_err-ok c =
     (no_text c.args.text.now c.from_utf8.result _ _ c.from_utf8.ensures.cases (sym c.ok.ensures.value ∙ c.in_err-ok.was))
 
 pub returns-in_err-number : goal.returns-in_err-number
-returns-in_err-number c =
-    let text = ok_part c.from_utf8.result c.in_ok-ok.field-0 _ _ c.from_utf8.ensures.cases c.in_ok-ok.ensures.value in
-    let parsed = subst (λ bs. ParsesUnsigned 16 10 bs c.parse.result) text.0 c.parse.ensures.value.0 in
-    rw c.from_residual-in_err-number.ensures (no_number c.args.text.now c.parse.result parsed (sym c.ok-2.ensures.value ∙ c.in_err-number.was))
+returns-in_err-number c = grind (arith, ok_part, no_number)
 
 pub returns : goal.returns
 returns c =

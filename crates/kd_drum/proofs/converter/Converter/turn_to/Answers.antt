@@ -1,30 +1,17 @@
 use Rattle.std.proofs.Common.{◌-◌, ◌<◌, Contains, length, slice_index, refl, arith, rules}
-use Rattle.std.proofs.lemmas.Bool.{false≢true}
 use Rattle.kd_tables.specs.Rings.{ring_of}
 use Rattle.kd_drum.proofs.Letters.{on_wheel, read_on_wheel, refused}
 use Rattle.kd_drum.proofs.Starts.{each_wheel}
 use Rattle.kd_drum.proofs.converter.Converter.turn_to.Goals as goal
 
 pub returns-in_err-w4-clause-ok : goal.returns-in_err-w4-clause-ok
-returns-in_err-w4-clause-ok c =
-    let there = c.args.letters in
-    let within : 3 < length there = search rules in
-    refused c.from_residual-in_err-w4.result there c.from_residual-in_err-w4.ensures.0 (λ on. false≢true (c.in_err-w4.ensures.ok.1
-    (read_on_wheel c.self.inside.w4.ring (ring_of 4) there 3 c.index-letters-3.result c.self.invariant.0.fourth.ring within (on 4 (omega arith) (omega arith)))))
+returns-in_err-w4-clause-ok c = grind (arith, refused, c.in_err-w4.ensures.ok.1, read_on_wheel)
 
 pub returns-in_err-w5-clause-ok : goal.returns-in_err-w5-clause-ok
-returns-in_err-w5-clause-ok c =
-    let there = c.args.letters in
-    let within : 4 < length there = search rules in
-    refused c.from_residual-in_err-w5.result there c.from_residual-in_err-w5.ensures.0 (λ on. false≢true (c.in_err-w5.ensures.ok.1
-    (read_on_wheel c.self.inside.w5.ring (ring_of 5) there 4 c.index-letters-4.result c.self.invariant.0.fifth.ring within (on 5 (omega arith) (omega arith)))))
+returns-in_err-w5-clause-ok c = grind (arith, refused, c.in_err-w5.ensures.ok.1, read_on_wheel)
 
 pub returns-in_err-w6-clause-ok : goal.returns-in_err-w6-clause-ok
-returns-in_err-w6-clause-ok c =
-    let there = c.args.letters in
-    let within : 5 < length there = search rules in
-    refused c.from_residual-in_err-w6.result there c.from_residual-in_err-w6.ensures.0 (λ on. false≢true (c.in_err-w6.ensures.ok.1
-    (read_on_wheel c.self.inside.w6.ring (ring_of 6) there 5 c.index-letters-5.result c.self.invariant.0.sixth.ring within (on 6 (omega arith) (omega arith)))))
+returns-in_err-w6-clause-ok c = grind (arith, refused, c.in_err-w6.ensures.ok.1, read_on_wheel)
 
 pub returns-clause-ok : goal.returns-clause-ok
 returns-clause-ok c =

@@ -1,11 +1,10 @@
-use Rattle.std.proofs.Common.{◌≡◌, ℕ, ◌∷◌, [], ◌++◌, take, get_or, Option, Some, None, refl, sym, ap, ◌∙◌, arith}
+use Rattle.std.proofs.lemmas.Grind.{common_steps}
+use Rattle.std.proofs.Common.{◌≡◌, ℕ, [], get_or, Option, arith}
 use Rattle.kd_state.proofs.Prelude.{cons_option, option_to_list, take_more, filter_map-append, both_ends}
-use Rattle.kd_state.proofs.DayPairs.{pairs_of}
 use Rattle.kd_state.proofs.engine.ready.plugged_pairs.Goals as goal
 
 if_there : (pair : Option (ℕ × ℕ)) → option_to_list pair ≡ cons_option pair []
-if_there None = refl
-if_there (Some pair) = refl
+if_there pair = grind arith
 
 pub loop-cable-preserved : goal.loop-cable-preserved
 loop-cable-preserved c =
@@ -15,10 +14,5 @@ loop-cable-preserved c =
     let ends : Option ℕ × Option ℕ → Option (ℕ × ℕ) = λ cable. both_ends cable.0 cable.1 in
     record {
       few = omega arith;
-      pairs =
-          c.push_pair.ensures.pairs
-          ∙ ap (λ pairs. pairs ++ option_to_list (ends cable)) c.loop-cable.invariant.pairs
-          ∙ ap (λ last. pairs_of (take index cables) ++ last) (if_there (ends cable))
-          ∙ sym (filter_map-append ends (take index cables) (cable ∷ []))
-          ∙ ap pairs_of (sym (take_more cables index c.cable-item.result (omega arith)));
+      pairs = grind (arith, common_steps, ends, if_there, filter_map-append, take_more);
     }

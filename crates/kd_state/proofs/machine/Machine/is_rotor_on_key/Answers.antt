@@ -1,15 +1,10 @@
-use Rattle.std.proofs.Common.{rules, not, sym, ap, ◌∙◌, subst}
+use Rattle.std.proofs.Common.{rules, sym, ◌∙◌, subst, arith}
 use Rattle.kd_state.proofs.Prelude.{false≢true, iff_false, not-false, AreThePairs}
 use Rattle.kd_state.proofs.OnKey.{seats_Decides, rings_read}
 use Rattle.kd_state.proofs.machine.Machine.is_rotor_on_key.Goals as goal
 
 pub returns-then-ne-3 : goal.returns-then-ne-3
-returns-then-ne-3 c = (
-  λ e. absurd (false≢true e),
-  λ key.
-      let same = c.as_slice.ensures.value ∙ key.slots ∙ sym c.seats-seats.ensures ∙ sym c.as_slice-2.ensures.value in
-      sym (c.ne-2.ensures ∙ ap not ((seats_Decides c.as_slice.result.now c.as_slice-2.result.now).1 same)) ∙ c.if-ne-3.true,
-)
+returns-then-ne-3 c = grind (arith, seats_Decides c.as_slice.result.now c.as_slice-2.result.now)
 
 pub returns-then-not-has_rings : goal.returns-then-not-has_rings
 returns-then-not-has_rings c = (

@@ -1,16 +1,11 @@
-use Rattle.std.proofs.Common.{◌∙◌, refl, sym, ap, subst, List, ℕ, map, Option, None, Contains}
-use Rattle.kd_state.proofs.Prelude.{is_some, false≢true, Wheel, Parts, SheetWheel, IsMachine, OfWheels}
+use Rattle.std.proofs.Common.{◌∙◌, refl, sym, ap, List, ℕ, map, arith}
+use Rattle.kd_state.proofs.Prelude.{Parts, SheetWheel, OfWheels}
 use Rattle.kd_state.specs.Seated.{seated_wheel, key_of_wheels}
 use Rattle.kd_state.proofs.Seating.{are_seats, all_seated, key_of_seats, not_ready}
 use Rattle.kd_state.proofs.machine.Machine.rotor_engine.Goals as goal
 
 pub returns-in_err-wheels-clause-ready : goal.returns-in_err-wheels-clause-ready
-returns-in_err-wheels-clause-ready c =
-    let m = c.args.parts.now in
-    let legal = (subst IsMachine c.requires.parts c.requires.machine).legal in
-    let here = subst (λ (slots : List (Option Wheel)). Contains (map (seated_wheel c.args.self.now) slots) None) c.as_slice.ensures.value c.in_err-wheels.ensures in
-    let lacks = subst (λ (parts : Parts). Contains (map (seated_wheel parts) m.slots) None) c.requires.parts here in
-    (λ some. absurd (false≢true (sym (ap is_some c.from_residual.ensures) ∙ some)), λ ready. absurd (not_ready m legal lacks ready))
+returns-in_err-wheels-clause-ready c = grind (arith, not_ready)
 
 pub returns-clause-ready : goal.returns-clause-ready
 returns-clause-ready c =

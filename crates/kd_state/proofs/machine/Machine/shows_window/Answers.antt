@@ -1,6 +1,6 @@
-use Rattle.std.proofs.Common.{sym, ap, ◌∙◌}
-use Rattle.kd_state.proofs.Prelude.{pointwise_decides, Decides-eqb}
-use Rattle.kd_state.specs.Entry.{pin_values, rotor_values, values_of}
+use Rattle.std.proofs.Common.{sym, ap, ◌∙◌, arith}
+use Rattle.kd_state.proofs.Prelude.{pointwise_decides}
+use Rattle.kd_state.specs.Entry.{rotor_values, values_of}
 use Rattle.kd_state.proofs.OnKey.{letters_show, pin_letters_show}
 use Rattle.kd_state.proofs.machine.Machine.shows_window.Goals as goal
 
@@ -12,9 +12,4 @@ returns-in-Rotor-Rotor c =
     (λ yes. shown.0 (c.shows_letters.ensures.0 yes), λ shows. c.shows_letters.ensures.1 (shown.1 shows))
 
 pub returns-in-Pin-Pin : goal.returns-in-Pin-Pin
-returns-in-Pin-Pin c =
-    let shown = pin_letters_show c.args.self.now c.in-Pin-Pin.parts c.args.day.now (pin_values c.in-Pin-Pin.entry)
-    (sym c.parts.ensures.parts ∙ c.in-Pin-Pin.is-0) (sym c.entry.ensures.value ∙ ap values_of c.in-Pin-Pin.is-1)
-    in
-    let same = pointwise_decides Decides-eqb c.in-Pin-Pin.parts.letters c.in-Pin-Pin.entry.window in
-    (λ yes. shown.0 (same.0 (sym c.eq.ensures ∙ yes)), λ shows. c.eq.ensures ∙ same.1 (shown.1 shows))
+returns-in-Pin-Pin c = grind (arith, pin_letters_show, pointwise_decides)

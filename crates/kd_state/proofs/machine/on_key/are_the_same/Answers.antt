@@ -1,8 +1,8 @@
 use Rattle.std.specs.Prelude.{◌≡◌, ℕ, Bool, false, nat_eq, ◌&&◌}
-use Rattle.kd_state.proofs.Prelude.{Decides, nat_cmp_total, on_total, then_total, nat_tests, Decides-and, Decides-eqb}
+use Rattle.kd_state.proofs.Prelude.{Decides, nat_cmp_total, on_total, then_total, Decides-and}
 use Rattle.kd_state.proofs.Prelude.{Decides-like, ranks_by}
 use Rattle.std.specs.Ordering.{is_lt, ordering_then, nat_cmp}
-use Rattle.std.proofs.Common.{ap, arith}
+use Rattle.std.proofs.Common.{arith}
 use Rattle.kd_state.proofs.SortedAlike.{sorted_tell}
 use Rattle.kd_state.proofs.machine.on_key.are_the_same.Goals as goal
 
@@ -11,15 +11,10 @@ abbrev before : ℕ × ℕ → ℕ × ℕ → Bool
 before one other = is_lt (ordering_then (nat_cmp one.0 other.0) (nat_cmp one.1 other.1))
 
 neither_before : (one other : ℕ × ℕ) → before one other ≡ false → before other one ≡ false → one ≡ other
-neither_before (a, b) (c, d) after earlier =
-    let smaller : a ≡ c = grind (arith, nat_tests) in
-    let larger : b ≡ d = grind (arith, nat_tests) in
-    cc
+neither_before (a, b) (c, d) after earlier = grind arith
 
 alike : (one other : ℕ × ℕ) → Decides (nat_eq one.0 other.0 && nat_eq one.1 other.1) (one ≡ other)
-alike one other =
-    Decides-like _ (λ same i. (same.0 i, same.1 i)) (λ same. (ap (λ (numbers : ℕ × ℕ). numbers.0) same, ap (λ (numbers : ℕ × ℕ). numbers.1) same))
-    (Decides-and _ _ (Decides-eqb one.0 other.0) (Decides-eqb one.1 other.1))
+alike one other = grind (arith, Decides-like, Decides-and)
 
 pub returns : goal.returns
 returns c =

@@ -11,7 +11,4 @@ pub returns : goal.returns
 returns c = (λ _. each_on_wheel c.args.letters.now (search rules) (λ place below. c.loop-place.invariant place (omega arith)), λ _. search rules)
 
 pub returns-then-not-is_on_wheel : goal.returns-then-not-is_on_wheel
-returns-then-not-is_on_wheel c = (
-  λ e. absurd (cc e),
-  λ on. absurd (off_wheel c.args.letters.now c.loop-place.place _ (omega arith) on (sym c.is_on_wheel.ensures.value ∙ c.if-not-is_on_wheel.true)),
-)
+returns-then-not-is_on_wheel c = grind (arith, off_wheel)

@@ -1,11 +1,10 @@
-use Rattle.std.proofs.Common.{◌∙◌, ap, refl, sym, Option, Some, None}
+use Rattle.std.proofs.Common.{◌∙◌, ap, sym, Option, Some, arith}
 use Rattle.kd_state.proofs.Prelude.{SomeIff, IsSome, numbered}
 use Rattle.kd_state.proofs.Slots.{seated_in_box}
 use Rattle.kd_state.proofs.machine.rotor_parts.RotorParts.turn.Goals as goal
 
 is_there : {X : Type 0} (found : Option X) (P : Type 0) (x : X) → SomeIff found P x → P → IsSome found
-is_there None P x h p = absurd (h p)
-is_there (Some y) P x h p = refl
+is_there found P x e d = grind arith
 
 pub unwrap-place-requires : goal.unwrap-place-requires
 unwrap-place-requires c =
