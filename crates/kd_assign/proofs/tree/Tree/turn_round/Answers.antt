@@ -1,3 +1,4 @@
+use Rattle.std.proofs.lemmas.Grind.{common_steps}
 use Rattle.std.proofs.Common.{sym, ◌∙◌, rules, arith}
 use Rattle.kd_assign.proofs.Turning.{row_in_range, partial_still, edges_still, kept_at_end, count_at_end, others_at_end, turns}
 use Rattle.kd_assign.proofs.tree.Tree.turn_round.Goals as goal
@@ -10,8 +11,7 @@ bounds-to-row g c =
 
 pub offset_bounds-to-row : goal.offset_bounds-to-row
 offset_bounds-to-row g c =
-    let within = row_in_range _ c.loop-row.invariant.turning (sym c.take.ensures.value ∙ c.in-Some.is) in
-    search rules
+    grind (arith, row_in_range _ c.loop-row.invariant.turning (sym c.take.ensures.value ∙ c.in-Some.is))
 
 pub loop-row-preserved : goal.loop-row-preserved
 loop-row-preserved g c =
