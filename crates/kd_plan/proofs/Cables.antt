@@ -1,12 +1,12 @@
 -- PULL and PUT: each cable loses the letters that its column hasn't, and then takes those that it lacks. That goes by how
 -- often a letter stands among others.
-use Rattle.std.proofs.Common.{◌≡◌, ℕ, suc, ◌+◌, ◌-◌, ◌<◌, ◌≤◌, nat_eq, nat_lt, Bool, false, not, cond, List, [], ◌∷◌, ◌++◌, filter, get_or, length, map, zip, count_by, Option, Some, None, refl, ap, ◌∙◌, arith}
+use Rattle.std.proofs.Common.{◌≡◌, ℕ, suc, ◌+◌, ◌-◌, ◌<◌, ◌≤◌, nat_eq, nat_lt, Bool, false, not, cond, List, [], ◌∷◌, ◌++◌, filter, get_or, length, map, zip, count_by, Option, Some, None, refl, ap, ◌∙◌, arith, rules}
 use Rattle.kd_plan.proofs.Prelude.{AllByRecursion, enumerate_from, flat_map, option_to_list, lt-ltb, nat_tests}
 use Rattle.kd_plan.proofs.Prelude.{sum_by-append, sum_by-cons, alphabet, RotorParts, Parts, Rotor, Setting, Pull, Put}
 use Rattle.kd_plan.proofs.Prelude.{cable_letters, plugged_letters, has_letter, is_plugged, cable_without, cable_with}
 use Rattle.kd_plan.proofs.Prelude.{Day, column_letters, columns_of, is_moved, work_setting, cable_work, work_lines}
 use Rattle.kd_plan.proofs.Prelude.{unless_so, lies_apart, letters_apart}
-use Rattle.std.proofs.lemmas.Grind.{flat_map-append}
+use Rattle.std.proofs.lemmas.Grind.{flat_map-append, common_steps}
 use Rattle.kd_plan.specs.declared.cable_lines.Work.{Work}
 use Rattle.kd_plan.specs.declared.cable_lines.Work.TheVariants as works
 use Rattle.kd_plan.proofs.Carrying.{Led, led_none, led_cons, priced, lines_from, EachLeads}
@@ -43,17 +43,11 @@ ArePlain letters = (y : ℕ) → (times y letters ≤ 1) × (times y letters ≤
 -- A letter is pulled, and put.
 pulled : (x y : ℕ) (cable : Cable) → 0 < times x (cable_letters cable)
     → times y (cable_letters (cable_without x cable)) + times y (x ∷ []) ≡ times y (cable_letters cable)
-pulled x y (None, None) h = omega arith
-pulled x y (None, Some b) h = grind (arith, nat_tests)
-pulled x y (Some a, None) h = grind (arith, nat_tests)
-pulled x y (Some a, Some b) h = grind (arith, nat_tests)
+pulled x y cable e = grind arith
 
 put : (x y : ℕ) (cable : Cable) → is_plugged cable ≡ false
     → times y (cable_letters (cable_with x cable)) ≡ times y (cable_letters cable) + times y (x ∷ [])
-put x y (None, None) loose = omega arith
-put x y (None, Some b) loose = grind (arith, nat_tests)
-put x y (Some a, None) loose = grind (arith, nat_tests)
-put x y (Some a, Some b) loose = grind arith
+put x y cable e = grind arith
 
 -- a cable whose letters are those of a column, and not all of them, has a loose end: a column has no three letters
 loose_end : (x : ℕ) (cable : Cable) (column : Column)
@@ -182,8 +176,7 @@ numbered_lines : (f : ℕ → List ℕ → List ℕ → List Setting) (pairs : L
     ≡ lines_from (λ n (z : Beside). f n (cable_letters z.0) (column_letters z.1)) number (besides cables pairs to)
 numbered_lines f pairs [] to number = refl
 numbered_lines f pairs (cable ∷ cables) [] number = refl
-numbered_lines f pairs (cable ∷ cables) (j ∷ to) number =
-    ap (λ lines. f number (cable_letters cable) (column_letters (column_at pairs j)) ++ lines) (numbered_lines f pairs cables to (number + 1))
+numbered_lines f pairs (cable ∷ cables) (j ∷ to) number = grind (arith, numbered_lines f pairs cables to (number + 1))
 
 pub lines_beside : (work : Work) (cables : List Cable) (pairs : List (ℕ × ℕ)) (to : List ℕ)
     → work_lines work cables pairs to ≡ lines_from (work_beside work) 1 (besides cables pairs to)
@@ -206,8 +199,7 @@ module _ (s : Day) (m : RotorParts) where
   pub pulls_each : (front : List Cable) (zs : List Beside) → AllByRecursion IsPluggable zs
       → EachLeads s with_cables present once_pulled (work_beside works.Pull) front zs
   pulls_each front [] h = tt
-  pulls_each front (z ∷ zs) h =
-      (pulls_led front (map present zs) (pulls z) z.0 (pullable z h.0), pulls_each (front ++ once_pulled z ∷ []) zs h.1)
+  pulls_each front (z ∷ zs) h = search (rules, pulls_led, pullable, pulls_each (front ++ once_pulled z ∷ []) zs h.1)
 
   -- a letter that is to be put lies nowhere yet
   socket_free : (front back : List Cable) (x : ℕ) (xs : List ℕ) (cable : Cable) (column : Column) → ArePuttable (x ∷ xs) cable column

@@ -1,5 +1,6 @@
 -- How many lines there are, and how many of them the prices speak of: as many as the pairing costs.
-use Rattle.std.proofs.Common.{◌≡◌, ℕ, ◌+◌, ◌*◌, ◌<◌, ◌≤◌, nat_eq, nat_lt, min, Bool, true, false, not, ◌&&◌, cond, List, [], ◌∷◌, ◌++◌, length, get_or, map, zip, filter_map, fold, count_by, Option, Some, None, refl, sym, ◌∙◌, subst, arith, length-append}
+use Rattle.std.proofs.lemmas.Grind.{common_steps}
+use Rattle.std.proofs.Common.{◌≡◌, ℕ, ◌+◌, ◌*◌, ◌<◌, ◌≤◌, nat_eq, nat_lt, min, Bool, true, false, not, ◌&&◌, cond, List, [], ◌∷◌, ◌++◌, length, get_or, map, zip, filter_map, fold, count_by, Option, Some, None, refl, sym, ◌∙◌, subst, arith, length-append, rules}
 use Rattle.kd_plan.proofs.Prelude.{AllByRecursion, cons_option, enumerate_from, flat_map, sum_by}
 use Rattle.kd_plan.proofs.Prelude.{option_map_or, option_to_list, cond_both, get_or-map, length-map}
 use Rattle.kd_plan.proofs.Prelude.{length-enumerate_from, sum_by-append, sum_by-cons, length-filter}
@@ -45,16 +46,14 @@ counted_unless true x e = record { few = omega arith; priced = refl }
 counted_unless false x e = record { few = omega arith; priced = rw e refl }
 
 one_at_most : {Y : Type 0} (o : Option Y) (ys : List Y) → length (cons_option o ys) ≤ length ys + 1
-one_at_most None ys = omega arith
-one_at_most (Some y) ys = omega arith
+one_at_most o ys = grind arith
 
 pub found_at_most : {X Y : Type 0} (f : X → Option Y) (xs : List X) → length (filter_map f xs) ≤ length xs
 found_at_most f [] = omega arith
 found_at_most f (x ∷ xs) = omega (arith, one_at_most (f x) (filter_map f xs), found_at_most f xs)
 
 one_unpriced : (so : Bool) (x : Setting) (xs : List Setting) → is_priced x ≡ false → priced_count (cons_option (unless_so so x) xs) ≡ priced_count xs
-one_unpriced true x xs e = refl
-one_unpriced false x xs e = rw priced-cons (rw e (omega arith))
+one_unpriced so x xs e = grind (arith, priced-cons)
 
 none_priced : {X : Type 0} (so : X → Bool) (line : X → Setting) (xs : List X) → ((x : X) → is_priced (line x) ≡ false)
     → priced_count (filter_map (λ x. unless_so (so x) (line x)) xs) ≡ 0

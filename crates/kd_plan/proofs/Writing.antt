@@ -1,5 +1,6 @@
 -- The lines of each kind, thing by thing, and lines that are written one after another.
-use Rattle.std.proofs.Common.{◌≡◌, ℕ, ◌+◌, ◌<◌, ◌≤◌, nat_eq, min, Bool, true, false, not, cond, zip, List, [], ◌∷◌, ◌++◌, length, get_or, drop, map, filter, filter_map, find, Option, Some, None, refl, sym, ap, ◌∙◌, arith, append_assoc, length-append}
+use Rattle.std.proofs.lemmas.Grind.{common_steps}
+use Rattle.std.proofs.Common.{◌≡◌, ℕ, ◌+◌, ◌<◌, ◌≤◌, nat_eq, min, Bool, true, false, not, cond, zip, List, [], ◌∷◌, ◌++◌, length, get_or, drop, map, filter, filter_map, find, Option, Some, None, refl, sym, ap, ◌∙◌, arith, append_assoc, length-append, rules}
 use Rattle.kd_plan.proofs.Prelude.{cons_option, enumerate_from, flat_map, option_and_then, option_map_or}
 use Rattle.kd_plan.proofs.Prelude.{option_to_list, append-nil, drop_more, drop_all, get_or_default, get_or-map}
 use Rattle.kd_plan.proofs.Prelude.{length-map, get_or-zip, length-zip, Place, Wheel, box_of, RotorParts, SheetWheel}
@@ -11,13 +12,11 @@ use Rattle.kd_plan.proofs.Carrying.{lines_from}
 
 -- from lines of all things to lines of one after another
 pub one_line : (line : Option Setting) (xs ys : List Setting) → xs ≡ ys → cons_option line xs ≡ option_to_list line ++ ys
-one_line None xs ys e = e
-one_line (Some x) xs ys e = ap (λ l. x ∷ l) e
+one_line line xs ys e = grind (arith, e)
 
 first_found : {Y : Type 0} (f : Y → Option Setting) (o : Option Y) (ys : List Y)
     → filter_map f (cons_option o ys) ≡ option_to_list (option_and_then f o) ++ filter_map f ys
-first_found f None ys = refl
-first_found f (Some y) ys = one_line (f y) _ _ refl
+first_found f o ys = grind (arith, one_line, f)
 
 module _ {X : Type 0} where
   flat_lines : (f : ℕ × X → List Setting) (xs : List X) (number : ℕ) → flat_map f (enumerate_from number xs) ≡ lines_from (λ n x. f (n, x)) number xs
@@ -40,14 +39,12 @@ module _ {X : Type 0} where
       first_found f (find x) (filter_map find xs) ∙ ap (λ lines. option_to_list (option_and_then f (find x)) ++ lines) (lines_of_found f find xs (number + 1))
 
   first_kept : (b : Bool) (line : X → Setting) (x : X) (xs : List X) → map line (cond b (x ∷ xs) xs) ≡ option_to_list (unless_so (not b) (line x)) ++ map line xs
-  first_kept true line x xs = refl
-  first_kept false line x xs = refl
+  first_kept b line x xs = grind arith
 
   pub lines_of_kept : (p : X → Bool) (line : X → Setting) (xs : List X) (number : ℕ)
       → map line (filter p xs) ≡ lines_from (λ n x. option_to_list (unless_so (not (p x)) (line x))) number xs
   lines_of_kept p line [] number = refl
-  lines_of_kept p line (x ∷ xs) number =
-      first_kept (p x) line x (filter p xs) ∙ ap (λ lines. option_to_list (unless_so (not (p x)) (line x)) ++ lines) (lines_of_kept p line xs (number + 1))
+  lines_of_kept p line (x ∷ xs) number = grind (arith, first_kept, p, line, lines_of_kept p line xs (number + 1))
 
 -- the lines of each kind
 abbrev pub seat_of : ℕ → Option Wheel × SheetWheel → List Setting
@@ -118,10 +115,7 @@ module _ {Z : Type 0} {lines : ℕ → Z → List Setting} {zs : List Z} where
   begins old all e = record { written = ap (λ xs. old ++ xs) (sym e) }
 
   pub is_line : {place : ℕ} {line : List Setting} (z : Z) → place < length zs → get_or zs place z ≡ z → line ≡ lines (place + 1) z → IsLine lines zs place line
-  is_line {place = place} z lt at e = record {
-    parts = ap (lines_from lines (place + 1)) (drop_more zs place z lt) ∙ ap (λ one. lines (place + 1) one ++ left_from lines zs (place + 1)) at
-        ∙ ap (λ one. one ++ left_from lines zs (place + 1)) (sym e);
-  }
+  is_line {place = place} z lt at e = grind (arith, drop_more)
 
   pub room : {old all items line : List Setting} {place : ℕ} → IsWriting lines zs old all items place → IsLine lines zs place line
       → length old + length all ≤ 192 → length items + length line ≤ 192
@@ -137,22 +131,15 @@ module _ {Z : Type 0} {lines : ℕ → Z → List Setting} {zs : List Z} where
 
   pub writes : {old all items line after : List Setting} {place : ℕ} → IsWriting lines zs old all items place → IsLine lines zs place line
       → after ≡ items ++ line → IsWriting lines zs old all after (place + 1)
-  writes {items = items} {line = line} {place = place} h next e = record {
-    written = ap (λ xs. xs ++ left_from lines zs (place + 1)) e ∙ append_assoc items line (left_from lines zs (place + 1))
-        ∙ ap (λ xs. items ++ xs) (sym next.parts) ∙ h.written;
-  }
+  writes {items = items} {line = line} {place = place} h next e = grind (arith, append_assoc)
 
   pub ends : {old all items : List Setting} {place : ℕ} → IsWriting lines zs old all items place → length zs ≤ place → items ≡ old ++ all
-  ends {items = items} {place = place} h le =
-      sym (append-nil items) ∙ ap (λ xs. items ++ xs) (sym (ap (lines_from lines (place + 1)) (drop_all place zs le))) ∙ h.written
+  ends {items = items} {place = place} h le = grind (arith, append-nil, drop_all)
 
 -- things side by side, by their place
 pub beside_at : {A B : Type 0} (xs : List A) (ys : List B) (place : ℕ) (x dx : A) (y dy : B) → place < length xs → place < length ys
     → x ≡ get_or xs place dx → y ≡ get_or ys place dy → get_or (zip xs ys) place (x, y) ≡ (x, y)
-beside_at xs ys place x dx y dy lt lt' e e' =
-    get_or-zip xs ys place (x, y) lt lt'
-    ∙ ap (λ a. (a, get_or ys place y)) (get_or_default xs place x dx lt ∙ sym e)
-    ∙ ap (λ b. (x, b)) (get_or_default ys place y dy lt' ∙ sym e')
+beside_at xs ys place x dx y dy lt lt' e e' = grind (arith, common_steps, get_or-zip)
 
 -- and each beside what is chosen for it
 module _ {A B : Type 0} (xs : List A) (f : ℕ → B) (to : List ℕ) where

@@ -1,4 +1,5 @@
-use Rattle.std.proofs.Common.{◌+◌, ◌<◌, unwrap_or, get_or, sym, ap, arith}
+use Rattle.std.proofs.lemmas.Grind.{common_steps}
+use Rattle.std.proofs.Common.{◌+◌, ◌<◌, unwrap_or, get_or, sym, ap, arith, rules}
 use Rattle.kd_plan.proofs.Prelude.{get_or_default, lugs_to}
 use Rattle.kd_plan.proofs.Bars.{lugs_of}
 use Rattle.kd_plan.proofs.Writing.{row_at, bars_beside, lug_lines_are, IsLine, begins, is_line, room, writes, ends, chosen_length, chosen_at}
@@ -18,7 +19,6 @@ next c =
     let place = c.loop-place.place in
     let bar = get_or bars place c.index-bars-place.result in
     let row = get_or rows c.from.result c.index-rows-from.result in
-    let within : c.from.result < 27 = omega (arith, c.requires.within place 0 (omega arith), c.from.ensures) in
     is_line (bar, row) (omega (arith, chosen_length bars (row_at rows) to))
     (chosen_at bars (row_at rows) to place c.from.result c.index-bars-place.result row (omega arith) (omega arith) c.from.ensures
     (get_or_default rows c.from.result c.index-rows-from.result (0, 0) (omega arith)))

@@ -1,3 +1,4 @@
+use Rattle.std.proofs.lemmas.Grind.{common_steps}
 use Rattle.std.proofs.Common.{rules, ◌≡◌, ap, ◌∙◌, arith}
 use Rattle.kd_plan.proofs.Prelude.{option_to_list, get_or-range_with_len, length-range_with_len, alphabet}
 use Rattle.kd_plan.proofs.Prelude.{cable_letters, column_letters, is_moved, work_setting}
@@ -6,8 +7,7 @@ use Rattle.kd_plan.proofs.Writing.{lines_of_kept, IsLine, begins, is_line, room,
 use Rattle.kd_plan.proofs.cable_lines.push_cable.Goals as goal
 
 pub loop-index-init : goal.loop-index-init
-loop-index-init c =
-    begins _ _ (lines_of_kept (is_moved c.args.work (cable_letters c.args.cable.now) (column_letters c.args.column.now)) (work_setting c.args.work c.args.number) alphabet 1)
+loop-index-init c = search (rules, begins, lines_of_kept)
 
 next : (c : goal.After-cable_line)
     → IsLine (work_of_letter c.args.work c.args.number (cable_letters c.args.cable.now) (column_letters c.args.column.now)) alphabet c.loop-index.index

@@ -1,4 +1,5 @@
-use Rattle.std.proofs.Common.{◌+◌, get_or, refl, arith}
+use Rattle.std.proofs.lemmas.Grind.{common_steps}
+use Rattle.std.proofs.Common.{◌+◌, get_or, refl, arith, rules}
 use Rattle.kd_plan.proofs.Prelude.{cable_letters, column_letters, cable_work}
 use Rattle.kd_plan.proofs.Cables.{column_at, besides, work_beside, lines_beside}
 use Rattle.kd_plan.proofs.Writing.{IsLine, begins, is_line, room, writes, ends, chosen_length, chosen_at}

@@ -1,4 +1,5 @@
-use Rattle.std.proofs.Common.{zip, get_or, refl, ap, arith}
+use Rattle.std.proofs.lemmas.Grind.{common_steps}
+use Rattle.std.proofs.Common.{zip, get_or, refl, ap, arith, rules}
 use Rattle.kd_plan.proofs.Prelude.{option_to_list, length-zip}
 use Rattle.kd_plan.proofs.Writing.{pin_turn_of, pin_turn_lines_are, IsLine, begins, is_line, room, writes, ends, beside_at}
 use Rattle.kd_plan.proofs.pin_lines.push_pin_turns.Goals as goal

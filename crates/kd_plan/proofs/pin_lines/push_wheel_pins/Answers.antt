@@ -1,3 +1,4 @@
+use Rattle.std.proofs.lemmas.Grind.{common_steps}
 use Rattle.std.proofs.Common.{◌≡◌, ◌<◌, ℕ, List, false, Bool, not, get_or, length, Some, sym, ap, ◌∙◌, arith}
 use Rattle.kd_plan.proofs.Prelude.{option_to_list, get_or_default, unwrap_or-slice_get, place_on, PinTo, differ}
 use Rattle.kd_plan.proofs.Prelude.{unless_so, pin_on}
@@ -13,16 +14,7 @@ loop-place-init g c = begins _ _ (wheel_pin_lines_are c.args.wheel c.args.ring.n
 
 next : (g : _) (c : goal.After-pin_line g)
     → IsLine (pin_of c.args.wheel c.args.ring.now c.args.present.now c.args.wanted.now) c.args.ring.now c.loop-place.place (option_to_list c.pin_line.result)
-next g c =
-    let ring = c.args.ring.now in
-    let place = c.loop-place.place in
-    let letter = c.letter_of.result in
-    let within : place < length ring = omega (arith, ap length c.letters-letters.ensures.value, c.letters-letters.ensures.ring.full) in
-    let line = λ (now wanted : Bool). option_to_list (unless_so (not (differ now wanted)) (PinTo c.args.wheel letter wanted)) in
-    is_line letter within (get_or_default ring place letter 0 within ∙ sym c.letter_of.ensures.value)
-    (ap option_to_list c.pin_line.ensures
-    ∙ ap (λ now. line now (get_or c.args.wanted.now place false)) (pin_read ring c.args.present.now letter place c.letter_of.ensures.there_alone)
-    ∙ ap (line (pin_on ring c.args.present.now letter)) (pin_read ring c.args.wanted.now letter place c.letter_of.ensures.there_alone))
+next g c = grind (arith, common_steps, is_line, false, pin_read)
 
 pub push_line-requires : goal.push_line-requires
 push_line-requires g c = room c.loop-place.invariant (next g c) (omega (arith, c.requires))

@@ -1,4 +1,5 @@
-use Rattle.std.proofs.Common.{None, zip, get_or, refl, ap, arith}
+use Rattle.std.proofs.lemmas.Grind.{common_steps}
+use Rattle.std.proofs.Common.{None, zip, get_or, refl, ap, arith, rules}
 use Rattle.kd_plan.proofs.Prelude.{option_to_list, length-zip}
 use Rattle.kd_plan.proofs.Writing.{seat_of, seat_lines_are, IsLine, begins, is_line, room, writes, ends, beside_at}
 use Rattle.kd_plan.proofs.rotor_lines.push_seats.Goals as goal

@@ -7,10 +7,7 @@ pub loop-place-init : goal.loop-place-init
 loop-place-init c = begins _ _ (turn_lines_are c.args.parts.now c.args.wheels.now)
 
 next : (c : goal.After-turn_line) → IsLine (turn_of c.args.parts.now) c.args.wheels.now c.loop-place.place (option_to_list c.turn_line.result)
-next c =
-    let w = c.index-wheels-place.result in
-    let line = λ (m : Parts). unless_so (option_map_or (nat_eq w.letter) (letter_in m w.wheel) false) (Turn (c.loop-place.place + 1) w.letter) in
-    is_line w (omega arith) (sym c.index-wheels-place.is) (ap option_to_list (c.turn_line.ensures ∙ ap line c.requires.machine))
+next c = grind (arith, false, is_line)
 
 pub push_line-requires : goal.push_line-requires
 push_line-requires c = room c.loop-place.invariant (next c) (omega (arith, c.requires))
