@@ -1,9 +1,9 @@
 -- The card that is made of an assignment, its prices and its lines is a planned one.
 use Rattle.std.proofs.lemmas.Grind.{common_steps}
-use Rattle.std.proofs.Common.{◌≡◌, ℕ, ◌≤◌, ◌++◌, nat_eq, if◌then◌else◌, List, [], ◌∷◌, length, All, fold, replicate, ℤ, pos, unsigned_abs, ◌+ℤ◌, refl, sym, ap, ◌∙◌, subst, arith, get_or, map, Option, Some, rules}
+use Rattle.std.proofs.Common.{◌≡◌, ℕ, ◌≤◌, ◌++◌, nat_eq, if◌then◌else◌, List, [], ◌∷◌, length, All, fold, replicate, ℤ, pos, unsigned_abs, ◌+ℤ◌, ap, arith, get_or, map, Option, Some, rules}
 use Rattle.kd_plan.proofs.Prelude.{cond_both, eqb-true, eqb-false, get_or-replicate, length-replicate, length-map}
-use Rattle.kd_plan.proofs.Prelude.{Rotor, Pin, Cables, Bars, Parts, AreOfKind, assignment_cost, IsOneToOne, All-map}
-use Rattle.kd_plan.proofs.Prelude.{sum_by-le, Model, EnigmaI, Place, box_of, slots_of, RotorParts, PinParts, Setting}
+use Rattle.kd_plan.proofs.Prelude.{Rotor, Pin, Parts, AreOfKind, assignment_cost, IsOneToOne, All-map}
+use Rattle.kd_plan.proofs.Prelude.{sum_by-le, Model, Place, box_of, slots_of, RotorParts, PinParts, Setting}
 use Rattle.kd_plan.proofs.Prelude.{IsMachine, model_of, RotorDay, PinDay, Day, OfRotors, OfPins, IsLegalRotorDay}
 use Rattle.kd_plan.proofs.Prelude.{day_model, cable_cost, bar_cost, lugs_moved, columns_of, cable_costs, bar_costs}
 use Rattle.kd_plan.proofs.Prelude.{cost_table, planned_lines, table_size, IsPlanned}
@@ -11,7 +11,6 @@ use Rattle.std.proofs.lemmas.Int.{ints}
 use Rattle.kd_card.specs.declared.prices.PriceParts.{PriceParts}
 use Rattle.kd_card.specs.declared.prices.Version.TheVariants.{ByNumber}
 use Rattle.kd_card.specs.Prices.{ArePrices, version_of, how_many, row_kinds, column_kinds, row_prices, column_prices}
-use Rattle.kd_card.specs.Kinds.{AreKinds}
 use Rattle.kd_card.specs.Prices as card
 use Rattle.kd_assign.specs.Prices.{Fits, price_sum, sum_of, CostsAtMost}
 use Rattle.kd_state.specs.Laws.{CablesCostFour}

@@ -1,12 +1,12 @@
 -- LUG: where a bar is to stand, a standing that reads as the row with no more lugs moved than must be; and that its two
 -- lugs are moved there, first the one that isn't in the other's way.
 use Rattle.std.proofs.lemmas.Grind.{common_steps}
-use Rattle.std.proofs.Common.{◌≡◌, ℕ, ◌<◌, ◌≤◌, nat_eq, nat_le, nat_lt, min, Bool, true, not, ◌&&◌, ◌||◌, ◌⊎◌, inl, inr, List, [], ◌∷◌, length, get_or, map, filter, find, fold, All, Some, unwrap_or, refl, sym, ap, ◌∙◌, subst, arith, suc, false, ◌++◌, None, rules}
+use Rattle.std.proofs.Common.{◌≡◌, ℕ, ◌<◌, ◌≤◌, nat_eq, nat_le, nat_lt, min, Bool, true, not, ◌&&◌, ◌||◌, ◌⊎◌, inl, inr, List, [], ◌∷◌, length, get_or, map, filter, find, fold, All, Some, unwrap_or, refl, sym, ap, ◌∙◌, subst, arith, suc, false, ◌++◌, None}
 use Rattle.kd_plan.proofs.Prelude.{list_any, AllByRecursion, agree_below, agree_below_at, false≢true, and_parts}
-use Rattle.kd_plan.proofs.Prelude.{eqb-true, ltb-true, ltb-false, cond_both, eqb_tells, nat_tests, All-contains}
+use Rattle.kd_plan.proofs.Prelude.{eqb-true, ltb-true, ltb-false, cond_both, eqb_tells, All-contains}
 use Rattle.kd_plan.proofs.Prelude.{All-filter, filter_passes, AllPass-from_list_all, Place, places, place_rank}
 use Rattle.kd_plan.proofs.Prelude.{standings, reading_of, IsBefore, IsReading, is_at, why_refused, lug_place, with_lug}
-use Rattle.kd_plan.proofs.Prelude.{unless_same, lugs_moved, reads_as_row, bar_cost, target_of, unless_so, lugs_to}
+use Rattle.kd_plan.proofs.Prelude.{lugs_moved, reads_as_row, bar_cost, target_of, unless_so, lugs_to}
 use Rattle.kd_plan.proofs.Prelude.{option_to_list, PinParts, Parts, Pin, Setting, LugTo, Day}
 use Rattle.kd_tables.specs.declared.place.Place.TheVariants.{One}
 use Rattle.kd_state.specs.Costs.{standings_as}

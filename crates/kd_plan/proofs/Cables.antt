@@ -6,11 +6,12 @@ use Rattle.kd_plan.proofs.Prelude.{sum_by-append, sum_by-cons, alphabet, RotorPa
 use Rattle.kd_plan.proofs.Prelude.{cable_letters, plugged_letters, has_letter, is_plugged, cable_without, cable_with}
 use Rattle.kd_plan.proofs.Prelude.{Day, column_letters, columns_of, is_moved, work_setting, cable_work, work_lines}
 use Rattle.kd_plan.proofs.Prelude.{unless_so, lies_apart, letters_apart}
-use Rattle.std.proofs.lemmas.Grind.{flat_map-append, common_steps}
+use Rattle.std.proofs.lemmas.Grind.{flat_map-append}
 use Rattle.kd_plan.specs.declared.cable_lines.Work.{Work}
 use Rattle.kd_plan.specs.declared.cable_lines.Work.TheVariants as works
 use Rattle.kd_plan.proofs.Carrying.{Led, led_none, led_cons, priced, lines_from, EachLeads}
 use Rattle.kd_plan.proofs.Lists.{seam_get, seam_set}
+use Rattle.kd_plan.proofs.Writing.{lines_of_kept}
 
 abbrev pub Cable : Type 0
 Cable = Option ℕ × Option ℕ
@@ -169,6 +170,10 @@ work_beside work number z = cable_work work number (cable_letters z.0) (column_l
 
 abbrev pub work_of_letter : Work → ℕ → List ℕ → List ℕ → ℕ → ℕ → List Setting
 work_of_letter work cable letters others number letter = option_to_list (unless_so (not (is_moved work letters others letter)) (work_setting work cable letter))
+
+pub cable_work_are : (work : Work) (cable : ℕ) (letters others : List ℕ)
+    → cable_work work cable letters others ≡ lines_from (work_of_letter work cable letters others) 1 alphabet
+cable_work_are work cable letters others = lines_of_kept (is_moved work letters others) (work_setting work cable) alphabet 1
 
 numbered_lines : (f : ℕ → List ℕ → List ℕ → List Setting) (pairs : List (ℕ × ℕ)) (cables : List Cable) (to : List ℕ) (number : ℕ)
     → flat_map (λ (cable : ℕ × (List ℕ × List ℕ)). f cable.0 cable.1.0 cable.1.1)

@@ -1,6 +1,5 @@
 -- Settings carried out one after another, each of them allowed and needed.
-use Rattle.std.proofs.lemmas.Grind.{common_steps}
-use Rattle.std.proofs.Common.{◌≡◌, ℕ, suc, ◌+◌, Bool, true, false, List, [], ◌∷◌, ◌++◌, length, map, None, refl, sym, subst, arith, append_assoc, length-append, rules}
+use Rattle.std.proofs.Common.{◌≡◌, ℕ, suc, ◌+◌, Bool, true, false, List, [], ◌∷◌, ◌++◌, length, map, None, refl, sym, subst, arith, append_assoc, length-append}
 use Rattle.std.specs.Prelude.{IsFalse}
 use Rattle.kd_plan.proofs.Prelude.{option_to_list, false≢true, Parts, Setting, why_refused, changed, Leads, Day}
 use Rattle.kd_plan.proofs.Prelude.{loose_count, is_priced, IsNeeded, AreNeeded, unless_so}

@@ -1,6 +1,6 @@
 -- The cables of a machine beside the columns of a day, one to one: no letter lies in two columns, and cables with the letters
 -- of their columns are the day's pairs.
-use Rattle.std.proofs.Common.{◌≡◌, ℕ, zero, suc, ◌+◌, ◌<◌, ◌≤◌, nat_eq, nat_lt, false, List, [], ◌∷◌, ◌++◌, length, get_or, map, zip, replicate, All, Contains, IsPermutation, Some, None, refl, sym, ap, ◌∙◌, subst, arith, rules}
+use Rattle.std.proofs.Common.{◌≡◌, ℕ, zero, suc, ◌+◌, ◌<◌, ◌≤◌, nat_eq, nat_lt, false, List, [], ◌∷◌, ◌++◌, length, get_or, map, zip, replicate, All, Contains, IsPermutation, Some, None, refl, sym, ap, ◌∙◌, subst, arith}
 use Rattle.kd_plan.proofs.Prelude.{AllByRecursion, flat_map, range_with_len, sum_by, nat_tests, length-map}
 use Rattle.kd_plan.proofs.Prelude.{get_or_default, get_or-map, All-from_recursion, All-map, recursion_from_All}
 use Rattle.kd_plan.proofs.Prelude.{flat_map-map, Contains-permutation, sum_by-IsPermutation, sum_by-cons}

@@ -1,6 +1,5 @@
 -- How many lines there are, and how many of them the prices speak of: as many as the pairing costs.
-use Rattle.std.proofs.lemmas.Grind.{common_steps}
-use Rattle.std.proofs.Common.{◌≡◌, ℕ, ◌+◌, ◌*◌, ◌<◌, ◌≤◌, nat_eq, nat_lt, min, Bool, true, false, not, ◌&&◌, cond, List, [], ◌∷◌, ◌++◌, length, get_or, map, zip, filter_map, fold, count_by, Option, Some, None, refl, sym, ◌∙◌, subst, arith, length-append, rules}
+use Rattle.std.proofs.Common.{◌≡◌, ℕ, ◌+◌, ◌*◌, ◌<◌, ◌≤◌, nat_eq, nat_lt, min, Bool, true, false, not, ◌&&◌, cond, List, [], ◌∷◌, ◌++◌, length, get_or, map, zip, filter_map, fold, count_by, Option, refl, sym, ◌∙◌, subst, arith, length-append}
 use Rattle.kd_plan.proofs.Prelude.{AllByRecursion, cons_option, enumerate_from, flat_map, sum_by}
 use Rattle.kd_plan.proofs.Prelude.{option_map_or, option_to_list, cond_both, get_or-map, length-map}
 use Rattle.kd_plan.proofs.Prelude.{length-enumerate_from, sum_by-append, sum_by-cons, length-filter}

@@ -1,6 +1,6 @@
 -- Lines that each set the number at a place of a list, where it is another one, as RING and TURN do.
 use Rattle.std.proofs.lemmas.Grind.{common_steps}
-use Rattle.std.proofs.Common.{◌≡◌, ◌≢◌, ℕ, zero, suc, ◌+◌, ◌<◌, nat_eq, Bool, true, false, not, cond, List, [], ◌∷◌, length, get_or, set, filter_map, count_by, Some, None, slice_get, refl, sym, ap, ◌∙◌, subst, arith, rules}
+use Rattle.std.proofs.Common.{◌≡◌, ◌≢◌, ℕ, zero, suc, ◌+◌, ◌<◌, nat_eq, Bool, true, false, not, cond, List, [], ◌∷◌, length, get_or, set, filter_map, count_by, Some, None, slice_get, refl, sym, ap, ◌∙◌, subst, arith}
 use Rattle.kd_plan.proofs.Prelude.{AllByRecursion, option_map_or, eq-eqb, get_or-set_same, length-set, slice_get-get_or}
 use Rattle.kd_plan.proofs.Prelude.{sum_by-cons, Parts, Setting, why_refused, changed, Day, IsNeeded, unless_so}
 use Rattle.kd_plan.proofs.Carrying.{Led, led_none, led_cons}

@@ -1,9 +1,8 @@
 -- Numbers that are one to one, and lists with one element in the middle.
-use Rattle.std.proofs.lemmas.Grind.{common_steps}
-use Rattle.std.proofs.Common.{◌≡◌, ◌≢◌, ℕ, zero, suc, ◌+◌, ◌-◌, ◌<◌, List, [], ◌∷◌, ◌++◌, length, get_or, set, slice_get, map, zip, find, nat_eq, Bool, true, false, Option, Some, None, remove, All, AllPairs, Contains, IsPermutation, refl, sym, ap, ◌∙◌, subst, arith, rules}
+use Rattle.std.proofs.Common.{◌≡◌, ◌≢◌, ℕ, zero, suc, ◌+◌, ◌-◌, ◌<◌, List, [], ◌∷◌, ◌++◌, length, get_or, set, slice_get, map, zip, find, nat_eq, Bool, true, false, Option, Some, remove, All, AllPairs, Contains, IsPermutation, refl, sym, ap, ◌∙◌, subst, arith}
 use Rattle.std.specs.List.{enumerate_from}
 use Rattle.std.proofs.lemmas.List.FromFn.{length-enumerate_from, get_or-enumerate_from}
-use Rattle.kd_plan.proofs.Prelude.{AllByRecursion, range_with_len, sum_by, option_map_or, eqb-true, false≢true, set_at}
+use Rattle.kd_plan.proofs.Prelude.{AllByRecursion, range_with_len, sum_by, option_map_or, eqb-true, set_at}
 use Rattle.kd_plan.proofs.Prelude.{recursion_from_All, length-range_with_len, get_or-range_with_len, fill_by_all}
 use Rattle.kd_plan.proofs.Prelude.{Contains-permutation, IsPermutation-refl, IsPermutation-cons, IsPermutation-trans}
 use Rattle.kd_plan.proofs.Prelude.{IsPermutation-remove, IsPermutation-map, find_at, sum_by-cons, passes_at_first}

@@ -1,6 +1,5 @@
 -- The planned lines of any pairing lead to the day, and a planned card proves itself.
-use Rattle.std.proofs.lemmas.Grind.{common_steps}
-use Rattle.std.proofs.Common.{◌≡◌, ℕ, ◌<◌, List, [], ◌∷◌, length, Contains, None, refl, sym, ap, ◌∙◌, subst, arith, pos, rules}
+use Rattle.std.proofs.Common.{◌≡◌, ℕ, ◌<◌, List, [], ◌∷◌, length, Contains, None, refl, sym, ap, ◌∙◌, subst, arith, pos}
 use Rattle.kd_plan.proofs.Prelude.{AllByRecursion, sum_by, recursion_from_All, sum_by-cons, Model, M209, reflectors_of}
 use Rattle.kd_plan.proofs.Prelude.{Parts, Rotor, Pin, IsMachine, model_of, Day, OfRotors, OfPins, IsLegalDay, day_model}
 use Rattle.kd_plan.proofs.Prelude.{columns_of, cable_cost, bar_cost, lugs_moved, cost_table, priced_count}

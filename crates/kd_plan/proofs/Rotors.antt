@@ -1,10 +1,9 @@
 -- The planned lines of a rotor machine lead to the day, and each is needed.
-use Rattle.std.proofs.lemmas.Grind.{common_steps}
-use Rattle.std.proofs.Common.{◌≡◌, ℕ, ◌+◌, List, [], length, set, map, Contains, Some, None, unwrap_or, slice_get, refl, sym, ap, ◌∙◌, subst, arith, rules}
+use Rattle.std.proofs.Common.{◌≡◌, ℕ, ◌+◌, List, [], length, set, map, Contains, Some, None, unwrap_or, slice_get, refl, sym, ap, ◌∙◌, subst, arith}
 use Rattle.kd_plan.proofs.Prelude.{AllByRecursion, enumerate_from, length-map, All-from_recursion, box_of, slots_of}
-use Rattle.kd_plan.proofs.Prelude.{reflectors_of, RotorParts, Parts, Rotor, Setting, SeatReflector, RingTo, Turn}
-use Rattle.kd_plan.proofs.Prelude.{SheetWheel, same_reflector, numbered, IsMachine, with_letter, changed, RotorDay}
-use Rattle.kd_plan.proofs.Prelude.{OfRotors, seats, AreSeated, IsLegalRotorDay, unless_same, loose_count, seat_lines}
+use Rattle.kd_plan.proofs.Prelude.{reflectors_of, RotorParts, Parts, Rotor, Setting, RingTo, Turn}
+use Rattle.kd_plan.proofs.Prelude.{SheetWheel, numbered, IsMachine, with_letter, changed, RotorDay}
+use Rattle.kd_plan.proofs.Prelude.{OfRotors, seats, AreSeated, IsLegalRotorDay, loose_count, seat_lines}
 use Rattle.kd_plan.proofs.Prelude.{reflector_lines, ring_lines, turn_lines, pull_lines, put_lines, planned_lines, Told}
 use Rattle.kd_plan.proofs.Carrying.{Reaches, Led, led_unless, led_append, lines_from, cells_led}
 use Rattle.kd_plan.proofs.Columns.{are_pluggable, few_columns, same_cables, are_the_pairs}

@@ -1,7 +1,7 @@
 -- SEAT, one slot after another: a slot that is right already is never emptied, since the day's wheels differ.
 use Rattle.std.proofs.lemmas.Grind.{common_steps}
-use Rattle.std.proofs.Common.{◌≡◌, ◌≢◌, ℕ, suc, ◌+◌, ◌-◌, Bool, true, false, not, cond, inl, inr, List, [], ◌∷◌, ◌++◌, length, map, set, zip, filter_map, count_by, Option, Some, None, refl, sym, ap, ◌∙◌, subst, arith, append_assoc, length-append, rules}
-use Rattle.kd_plan.proofs.Prelude.{AllByRecursion, enumerate_from, option_map_or, cases_Bool, cond_both, false≢true}
+use Rattle.std.proofs.Common.{◌≡◌, ◌≢◌, ℕ, suc, ◌+◌, ◌-◌, Bool, true, false, not, cond, inl, inr, List, [], ◌∷◌, ◌++◌, length, map, set, zip, filter_map, count_by, Option, Some, None, refl, sym, ap, ◌∙◌, subst, arith, append_assoc, length-append}
+use Rattle.kd_plan.proofs.Prelude.{AllByRecursion, enumerate_from, option_map_or, cases_Bool, cond_both}
 use Rattle.kd_plan.proofs.Prelude.{false_from_ne_true, append-nil, map-append, length-map, Wheel, IsAllowed, wheels_for}
 use Rattle.kd_plan.proofs.Prelude.{RotorParts, Parts, Rotor, Setting, Seat, SheetWheel, same_wheel, AreAllowed}
 use Rattle.kd_plan.proofs.Prelude.{why_refused, without, RotorDay, OfRotors, seats, loose_slots, IsNeeded, unless_so}

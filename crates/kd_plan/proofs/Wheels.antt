@@ -1,11 +1,10 @@
 -- The wheels and the reflector of a day: among others, by their places in the box, in box order and by their slots.
-use Rattle.std.proofs.lemmas.Grind.{common_steps}
-use Rattle.std.proofs.Common.{map, ◌≡◌, ◌≢◌, ℕ, zero, suc, ◌+◌, Bool, true, List, [], ◌∷◌, Contains, refl, sym, ap, ◌∙◌, ◌<◌, ◌++◌, length, get_or, filter_map, find, All, Option, Some, None, slice_get, arith, rules}
+use Rattle.std.proofs.Common.{map, ◌≡◌, ◌≢◌, ℕ, zero, suc, ◌+◌, Bool, true, List, [], ◌∷◌, Contains, refl, sym, ap, ◌∙◌, ◌++◌, length, get_or, filter_map, find, All, Option, Some, None, slice_get, arith}
 use Rattle.std.proofs.lemmas.List.{get_or-map}
 use Rattle.std.proofs.lemmas.List.FromFn.{get_or-range_with_len}
 use Rattle.std.specs.List.{range_with_len}
 use Rattle.kd_plan.proofs.Prelude.{AllByRecursion, list_any, cons_option, enumerate_from}
-use Rattle.kd_plan.proofs.Prelude.{list_any_at, Model, EnigmaI, Wheel, box_of, wheel_text}
+use Rattle.kd_plan.proofs.Prelude.{list_any_at, Model, Wheel, box_of, wheel_text}
 use Rattle.kd_plan.proofs.Prelude.{reflector_text, SheetWheel, same_wheel, same_reflector, has_wheel, has_reflector}
 use Rattle.kd_plan.proofs.Prelude.{place_in_box, StandsAt, AreAllowed, seats, AreSeated, Told, All-contains}
 use Rattle.kd_plan.proofs.Prelude.{All-from_recursion, Contains-get_or, recursion_from_All}

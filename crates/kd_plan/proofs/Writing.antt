@@ -1,12 +1,13 @@
 -- The lines of each kind, thing by thing, and lines that are written one after another.
 use Rattle.std.proofs.lemmas.Grind.{common_steps}
-use Rattle.std.proofs.Common.{◌≡◌, ℕ, ◌+◌, ◌<◌, ◌≤◌, nat_eq, min, Bool, true, false, not, cond, zip, List, [], ◌∷◌, ◌++◌, length, get_or, drop, map, filter, filter_map, find, Option, Some, None, refl, sym, ap, ◌∙◌, arith, append_assoc, length-append, rules}
+use Rattle.std.proofs.Common.{◌≡◌, ℕ, ◌+◌, ◌<◌, ◌≤◌, nat_eq, min, Bool, false, not, cond, zip, List, [], ◌∷◌, ◌++◌, length, get_or, drop, map, filter, filter_map, find, Option, Some, refl, sym, ap, ◌∙◌, arith, append_assoc, length-append}
 use Rattle.kd_plan.proofs.Prelude.{cons_option, enumerate_from, flat_map, option_and_then, option_map_or}
 use Rattle.kd_plan.proofs.Prelude.{option_to_list, append-nil, drop_more, drop_all, get_or_default, get_or-map}
 use Rattle.kd_plan.proofs.Prelude.{length-map, get_or-zip, length-zip, Place, Wheel, box_of, RotorParts, SheetWheel}
 use Rattle.kd_plan.proofs.Prelude.{Setting, Seat, RingTo, Turn, PinTo, same_wheel, ring_at, letter_at, differ}
 use Rattle.kd_plan.proofs.Prelude.{unless_so, seat_lines, ring_lines, turn_lines, pin_on, wheel_pin_lines}
 use Rattle.kd_plan.proofs.Prelude.{pin_turn_lines, lug_lines}
+use Rattle.kd_plan.proofs.Prelude.{place_on, unwrap_or-slice_get}
 use Rattle.kd_plan.proofs.Bars.{BarRow, lugs_of}
 use Rattle.kd_plan.proofs.Carrying.{lines_from}
 
@@ -136,18 +137,27 @@ module _ {Z : Type 0} {lines : ℕ → Z → List Setting} {zs : List Z} where
   pub ends : {old all items : List Setting} {place : ℕ} → IsWriting lines zs old all items place → length zs ≤ place → items ≡ old ++ all
   ends {items = items} {place = place} h le = grind (arith, append-nil, drop_all)
 
--- things side by side, by their place
-pub beside_at : {A B : Type 0} (xs : List A) (ys : List B) (place : ℕ) (x dx : A) (y dy : B) → place < length xs → place < length ys
-    → x ≡ get_or xs place dx → y ≡ get_or ys place dy → get_or (zip xs ys) place (x, y) ≡ (x, y)
-beside_at xs ys place x dx y dy lt lt' e e' = grind (arith, common_steps, get_or-zip)
+-- the line of things side by side, by their place
+module _ {A B : Type 0} {lines : ℕ → A × B → List Setting} where
+  pub pair_line : (xs : List A) (ys : List B) {place : ℕ} {line : List Setting} (x dx : A) (y dy : B) → place < length xs → place < length ys
+      → x ≡ get_or xs place dx → y ≡ get_or ys place dy → line ≡ lines (place + 1) (x, y) → IsLine lines (zip xs ys) place line
+  pair_line xs ys {place = place} x dx y dy lt lt' at at' e =
+      is_line (x, y) (omega (arith, length-zip xs ys)) (grind (arith, common_steps, get_or-zip)) e
 
--- and each beside what is chosen for it
-module _ {A B : Type 0} (xs : List A) (f : ℕ → B) (to : List ℕ) where
-  pub chosen_length : length (zip xs (map f to)) ≡ min (length xs) (length to)
-  chosen_length = length-zip xs (map f to) ∙ ap (min (length xs)) (length-map to f)
+  -- and of a thing beside what is chosen for it
+  pub chosen_line : (xs : List A) (f : ℕ → B) (to : List ℕ) {place : ℕ} {line : List Setting} (x dx : A) (j : ℕ) (y : B) → place < length xs
+      → place < length to → x ≡ get_or xs place dx → j ≡ get_or to place 0 → y ≡ f j → line ≡ lines (place + 1) (x, y)
+      → IsLine lines (zip xs (map f to)) place line
+  chosen_line xs f to {place = place} x dx j y lt lt' at is here e =
+      pair_line xs (map f to) x dx y y lt (omega (arith, lt', length-map to f)) at (here ∙ ap f is ∙ sym (get_or-map f to place 0 y lt')) e
 
-  pub chosen_at : (place j : ℕ) (x : A) (y : B) → place < length xs → place < length to → j ≡ get_or to place 0 → y ≡ f j
-      → get_or (zip xs (map f to)) place (get_or xs place x, y) ≡ (get_or xs place x, y)
-  chosen_at place j x y within inside at is =
-      beside_at xs (map f to) place (get_or xs place x) x y y within (omega (arith, inside, length-map to f)) refl
-      (is ∙ ap f at ∙ sym (get_or-map f to place 0 y inside))
+pub chosen_length : {A B : Type 0} (xs : List A) (f : ℕ → B) (to : List ℕ) → length (zip xs (map f to)) ≡ min (length xs) (length to)
+chosen_length xs f to = length-zip xs (map f to) ∙ ap (min (length xs)) (length-map to f)
+
+-- what a pin is, by its place and by its letter
+pub pin_read : (ring : List ℕ) (pins : List Bool) (letter place : ℕ) → place_on ring letter ≡ Some place
+    → get_or pins place false ≡ pin_on ring pins letter
+pin_read ring pins letter place e = rw e (sym (unwrap_or-slice_get pins place false))
+
+-- what a loop that writes lines goes by
+pub ruleset writing = (begins, is_line, room, writes, ends, chosen_length, length-zip, common_steps)

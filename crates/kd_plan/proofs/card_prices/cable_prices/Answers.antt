@@ -1,5 +1,5 @@
-use Rattle.std.proofs.Common.{rules, refl, arith}
-use Rattle.kd_plan.proofs.Prelude.{some_since, Cables}
+use Rattle.std.proofs.Common.{arith}
+use Rattle.kd_plan.proofs.Prelude.{some_since}
 use Rattle.kd_plan.proofs.Assembling.{prices_of}
 use Rattle.kd_plan.proofs.card_prices.cable_prices.Goals as goal
 

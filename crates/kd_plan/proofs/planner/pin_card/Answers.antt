@@ -1,4 +1,3 @@
-use Rattle.std.proofs.lemmas.Grind.{common_steps}
 use Rattle.std.proofs.Common.{List, ℤ, pos, nat_eq, replicate, rules, refl, sym, subst, arith}
 use Rattle.kd_plan.proofs.Prelude.{cond_both, Pin, OfPins, Bars, AreOfKind}
 use Rattle.kd_state.specs.Entry.{pin_values}

@@ -1,5 +1,4 @@
-use Rattle.std.proofs.lemmas.Grind.{common_steps}
-use Rattle.std.proofs.Common.{refl, subst, arith, rules}
+use Rattle.std.proofs.Common.{refl, subst}
 use Rattle.kd_card.specs.Proving.{Same}
 use Rattle.kd_plan.proofs.Assembling.{by_number}
 use Rattle.kd_card.specs.Prices.{ArePrices}

@@ -1,4 +1,3 @@
-use Rattle.std.proofs.lemmas.Grind.{common_steps}
 use Rattle.std.proofs.Common.{List, ℤ, pos, nat_eq, replicate, rules, refl, sym, ap, ◌∙◌, subst, arith}
 use Rattle.kd_plan.proofs.Prelude.{cond_both, Rotor, OfRotors, cable_costs, Cables, AreOfKind}
 use Rattle.kd_state.specs.Entry.{rotor_values}
