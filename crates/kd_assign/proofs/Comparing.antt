@@ -1,7 +1,6 @@
 -- A comparison of a column with a row, and what a root's comparisons leave.
-use Rattle.std.proofs.lemmas.Grind.{common_steps}
-use Rattle.std.proofs.Common.{◌≡◌, ℕ, ◌<◌, List, length, get_or, All, true, false, eqb, Option, None, inl, inr, ℤ, pos, refl, sym, ◌∙◌, arith, rules}
-use Rattle.kd_assign.proofs.Prelude.{eqb-true, eq-eqb, or_cases, ints, CostsAtMost, AreSmall, AreNearest, IsCompared}
+use Rattle.std.proofs.Common.{◌≡◌, ℕ, ◌<◌, List, length, get_or, All, true, false, Option, None, inl, inr, ℤ, pos, refl, sym, ◌∙◌, arith}
+use Rattle.kd_assign.proofs.Prelude.{eqb-true, eq-eqb, or_cases, CostsAtMost, AreSmall, AreNearest, IsCompared}
 use Rattle.kd_assign.proofs.Prelude.{has_column, has_row, slack_at, slack_of}
 use Rattle.kd_assign.proofs.Free.{no_column}
 use Rattle.kd_assign.proofs.Growing.{column_given, cost_at_most}

@@ -1,6 +1,5 @@
 -- How many comparisons are made.
-use Rattle.std.proofs.lemmas.Grind.{common_steps}
-use Rattle.std.proofs.Common.{◌≡◌, ◌≢◌, ℕ, zero, suc, ◌+◌, ◌*◌, ◌/◌, ◌<◌, ◌≤◌, List, [], ◌∷◌, length, set, true, cond, Option, Some, None, is_some, count_by, inl, inr, refl, sym, ◌∙◌, arith, rules}
+use Rattle.std.proofs.Common.{◌≡◌, ◌≢◌, ℕ, zero, suc, ◌+◌, ◌*◌, ◌/◌, ◌<◌, ◌≤◌, List, [], ◌∷◌, length, set, true, cond, Option, Some, None, is_some, count_by, inl, inr, refl, sym, ◌∙◌, arith}
 use Rattle.kd_assign.proofs.Prelude.{cases_eq, cases_lt, cases_Bool, false≢true, get_or_past, get_or-set_other}
 use Rattle.kd_assign.proofs.Prelude.{get_or-set_same, sum_by-cons, none-some, same_Some, IsTaken, scans_of_tree}
 use Rattle.kd_assign.proofs.Prelude.{scans_of_trees, has_column}

@@ -1,9 +1,9 @@
 -- While some row has no column, some column is free.
 use Rattle.std.proofs.lemmas.Grind.{common_steps}
-use Rattle.std.proofs.Common.{◌≡◌, ◌≢◌, ℕ, zero, suc, ◌<◌, List, length, get_or, set, All, Bool, true, false, eqb, cond, Option, Some, None, is_some, count_by, ◌⊎◌, inl, inr, refl, sym, ap, ◌∙◌, arith, rules}
+use Rattle.std.proofs.Common.{◌≡◌, ◌≢◌, ℕ, zero, suc, ◌<◌, List, length, get_or, set, All, Bool, true, false, eqb, cond, Option, Some, None, is_some, count_by, ◌⊎◌, inl, inr, refl, sym, ◌∙◌, arith}
 use Rattle.std.specs.List.{list_any}
 use Rattle.std.specs.Option.{option_map_or}
-use Rattle.kd_assign.proofs.Prelude.{cases_Bool, cases_eq, cases_lt, eq-eqb, eqb-true, false≢true, get_or_default}
+use Rattle.kd_assign.proofs.Prelude.{cases_Bool, cases_eq, cases_lt, eq-eqb, eqb-true, false≢true}
 use Rattle.kd_assign.proofs.Prelude.{get_or-set_other, get_or_past, same_Some, HasNone, IsTaken, has_column}
 use Rattle.std.proofs.lemmas.List.Folds.{Any-from_list_any, list_any_at}
 use Rattle.kd_assign.proofs.Places.{within, unwritten, count-set}

@@ -1,8 +1,7 @@
 -- Prices that move with a tree, and a tree that gains an edge.
 use Rattle.std.proofs.lemmas.Grind.{common_steps}
-use Rattle.std.proofs.Common.{◌≡◌, ◌≢◌, ℕ, suc, ◌<◌, ◌≤◌, List, [], length, get_or, set, Bool, true, false, cond, eqb, Option, Some, None, ◌⊎◌, inl, inr, ℤ, pos, neg_ℤ, ◌+ℤ◌, ◌-ℤ◌, ◌≤ℤ◌, refl, ap, sym, ◌∙◌, arith, rules}
-use Rattle.std.proofs.lemmas.Bool.Decides.{nat_tests}
-use Rattle.kd_assign.proofs.Prelude.{false_from_ne_true, cases_eq, cases_lt, eqb-true, eq-eqb, ne_eqb, false≢true}
+use Rattle.std.proofs.Common.{◌≡◌, ◌≢◌, ℕ, suc, ◌<◌, ◌≤◌, List, length, get_or, set, Bool, true, false, cond, eqb, Option, Some, None, ◌⊎◌, inl, inr, ℤ, pos, neg_ℤ, ◌+ℤ◌, ◌-ℤ◌, ◌≤ℤ◌, refl, ap, sym, ◌∙◌, arith}
+use Rattle.kd_assign.proofs.Prelude.{false_from_ne_true, cases_eq, eqb-true, eq-eqb, ne_eqb, false≢true}
 use Rattle.kd_assign.proofs.Prelude.{cond-true, cond-false, or_cases, or_right, ints, get_or_past, get_or-set_same}
 use Rattle.kd_assign.proofs.Prelude.{get_or-set_other, length-set, same_Some, CostsAtMost, Fits, cost_at, price_at, Has}
 use Rattle.kd_assign.proofs.Prelude.{IsSound, IsTaken, IsTight, AreNearest, IsCompared, IsTree, LeadsToRoot, IsGrowing}

@@ -1,8 +1,7 @@
 -- Sums of prices over one-to-one assignments.
-use Rattle.std.proofs.lemmas.Grind.{common_steps}
-use Rattle.std.proofs.Common.{◌≡◌, ◌≢◌, ℕ, zero, suc, ◌+◌, ◌<◌, ◌≤◌, List, [], ◌∷◌, ◌++◌, length, get_or, take, map, All, AllPairs, ◌⊎◌, inl, inr, ℤ, eqb, false, pos, ◌+ℤ◌, ◌≤ℤ◌, remove, refl, sym, ap, ◌∙◌, arith, add-one, rules}
+use Rattle.std.proofs.Common.{◌≡◌, ◌≢◌, ℕ, zero, suc, ◌+◌, ◌<◌, ◌≤◌, List, [], ◌∷◌, ◌++◌, length, get_or, take, map, All, AllPairs, ◌⊎◌, inl, inr, ℤ, eqb, false, pos, ◌+ℤ◌, ◌≤ℤ◌, remove, refl, sym, ap, ◌∙◌, arith, add-one}
 use Rattle.std.specs.List.{list_any}
-use Rattle.kd_assign.proofs.Prelude.{cases_Bool, cases_lt, eqb-true, eqb-false, false_from_ne_true, false≢true, ints}
+use Rattle.kd_assign.proofs.Prelude.{cases_Bool, cases_lt, eqb-true, eqb-false, false_from_ne_true, ints}
 use Rattle.kd_assign.proofs.Prelude.{get_or_default, take_all, take_more, Fits, price_at, sum_of, IsOneToOne}
 use Rattle.kd_assign.proofs.Prelude.{assignment_cost, IsTight}
 use Rattle.std.proofs.lemmas.List.Folds.{Any-from_list_any, list_any_at}

@@ -1,6 +1,5 @@
 -- The assignment while it is turned round along a path.
-use Rattle.std.proofs.lemmas.Grind.{common_steps}
-use Rattle.std.proofs.Common.{◌≡◌, ◌≢◌, ℕ, ◌+◌, ◌<◌, ◌≤◌, List, length, get_or, set, Option, Some, None, true, is_some, count_by, cond, ◌⊎◌, inl, inr, refl, ap, sym, arith, rules}
+use Rattle.std.proofs.Common.{◌≡◌, ◌≢◌, ℕ, ◌+◌, ◌<◌, ◌≤◌, List, length, get_or, set, Option, Some, None, true, is_some, count_by, cond, ◌⊎◌, inl, inr, ap, sym, arith, rules}
 use Rattle.kd_assign.proofs.Prelude.{cases_eq, get_or-set_same, get_or-set_other, length-set, Has, HasNone, IsPartial}
 use Rattle.kd_assign.proofs.Prelude.{IsTaken, LeadsOn, has_column}
 use Rattle.kd_assign.proofs.Places.{within, same_number, vacant_or, written, unwritten, count-set}
@@ -138,3 +137,6 @@ module _ {before tree : List (Option ℕ)} {root : ℕ} {to reached : List (Opti
       count = grind (arith, count_now);
       others = grind (arith, unwritten, vacant_or);
     }
+
+-- what the last turn leaves
+pub ruleset last_turn = (partial_still, edges_still, others_at_end)

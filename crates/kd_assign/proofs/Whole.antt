@@ -1,6 +1,5 @@
 -- An assignment of all rows.
-use Rattle.std.proofs.lemmas.Grind.{common_steps}
-use Rattle.std.proofs.Common.{◌≡◌, ℕ, ◌*◌, ◌<◌, ◌≤◌, List, length, get_or, set, All, cond, Option, Some, None, is_some, count_by, ℤ, pos, negsuc, neg_ℤ, ◌≤ℤ◌, refl, ◌∙◌, arith, rules}
+use Rattle.std.proofs.Common.{◌≡◌, ℕ, ◌*◌, ◌<◌, ◌≤◌, List, length, get_or, set, All, Option, Some, None, is_some, count_by, ℤ, pos, neg_ℤ, ◌≤ℤ◌, refl, ◌∙◌, arith}
 use Rattle.std.specs.Int.RustNames.{unsigned_abs}
 use Rattle.kd_assign.proofs.Prelude.{ints, get_or_default, length-set, count_by-le-length, IsOneToOne, assignment_cost}
 use Rattle.kd_assign.proofs.Prelude.{Fits, price_sum, AreSmall, Has, IsPartial, IsSound}

@@ -1,12 +1,12 @@
 -- What cables do to the letters, pair by pair.
-use Rattle.std.proofs.Common.{◌≡◌, ◌≢◌, ◌⊎◌, inl, inr, ℕ, zero, suc, ◌<◌, Bool, true, false, not, ◌&&◌, List, [], ◌∷◌, ◌++◌, All, Contains, cond, eqb, length, get_or, set, slice_index, refl, sym, ap, ◌∙◌, subst, arith, rules}
+use Rattle.std.proofs.Common.{◌≡◌, ◌≢◌, ◌⊎◌, inl, inr, ℕ, zero, suc, ◌<◌, Bool, true, false, not, ◌&&◌, List, [], ◌∷◌, ◌++◌, All, Contains, cond, eqb, length, get_or, set, slice_index, refl, sym, ap, ◌∙◌, arith, rules}
 use Rattle.std.specs.List.{IsDistinct, list_any}
 use Rattle.std.proofs.lemmas.Bool.{and_parts, cases_Bool, cases_eq, eq-eqb, eqb-true, eqb-false, ne_eqb, false_from_ne_true, false≢true, not-true}
 use Rattle.std.proofs.lemmas.Bool.Decides.{nat_tests}
 use Rattle.std.proofs.lemmas.Grind.{common_steps, flat_map-append}
 use Rattle.std.proofs.lemmas.List.Elements.{All-from_recursion, recursion_from_All, All-nil, All-cons, All-append}
 use Rattle.std.proofs.lemmas.List.Folds.{Any-from_list_any, list_any-append, list_any_at, list_any_none}
-use Rattle.std.proofs.lemmas.List.{get_or_default, length-set, map-id}
+use Rattle.std.proofs.lemmas.List.{length-set, map-id}
 use Rattle.std.proofs.lemmas.List.FromFn.{fill_by_all, get_or-map-range_with_len, length-map-range_with_len}
 use Rattle.kd_tables.specs.Permutation.{alphabet, exchanged, exchange}
 use Rattle.kd_enigma.specs.Cipher.{IsPlugboard}

@@ -1,6 +1,5 @@
 -- What a machine keeps beside its key, as its wheels stand and step.
-use Rattle.std.proofs.lemmas.Grind.{common_steps}
-use Rattle.std.proofs.Common.{◌≡◌, ℕ, ◌-◌, ◌<◌, List, length, map, get_or, slice_get, Some, sym, ap, ◌∙◌, arith, rules}
+use Rattle.std.proofs.Common.{◌≡◌, ℕ, ◌-◌, ◌<◌, List, length, map, get_or, slice_get, Some, sym, ap, ◌∙◌, arith}
 use Rattle.std.proofs.lemmas.List.{get_or_default}
 use Rattle.kd_tables.specs.Tables.{reflector_of}
 use Rattle.kd_tables.specs.declared.reflector.Reflector.{Reflector}

@@ -1,6 +1,4 @@
-use Rattle.std.proofs.lemmas.Grind.{common_steps}
-use Rattle.std.proofs.Common.{◌≡◌, ◌≤◌, rules, pos, ap, sym, ◌∙◌, arith}
-use Rattle.kd_assign.specs.Scans.{scans_of_trees}
+use Rattle.std.proofs.Common.{arith}
 use Rattle.kd_assign.proofs.Counting.{scans_of_all, scans_of_trees-most}
 use Rattle.kd_assign.proofs.Whole.{columns_at_most, is_least, price_sum_is, rows_at_most}
 use Rattle.kd_assign.proofs.solution.assign.Goals as goal

@@ -1,6 +1,5 @@
-use Rattle.std.proofs.lemmas.Grind.{common_steps}
 use Rattle.kd_enigma.proofs.Cables.{differ_of, plugboard_of, exchanges, exchanged_by, exchanged_alike, exchange-at, exchange-size, exchange_is}
-use Rattle.std.proofs.Common.{◌∙◌, arith, rules}
+use Rattle.std.proofs.Common.{◌∙◌}
 use Rattle.kd_enigma.specs.Plugs.{letters_plugged}
 use Rattle.kd_enigma.proofs.laws.pairs_make_a_plugboard.Goals as goal
 

@@ -1,6 +1,5 @@
 use Rattle.std.proofs.lemmas.Grind.{common_steps}
-use Rattle.std.proofs.Common.{[], arith, rules}
-use Rattle.std.proofs.lemmas.Int.{ints}
+use Rattle.std.proofs.Common.{arith, rules}
 use Rattle.kd_assign.proofs.prices.Prices.slack.Goals as goal
 
 pub overflow_sub-result-2 : goal.overflow_sub-result-2

@@ -1,4 +1,3 @@
-use Rattle.std.proofs.lemmas.Grind.{common_steps}
 use Rattle.std.proofs.Common.{refl, Some, get_or, set, w16, rules, arith}
 use Rattle.kd_assign.proofs.Prelude.{ints, to_z-of_z, IsSound, AreNearest, IsTree, slack_at}
 use Rattle.kd_assign.proofs.Free.{taken-set}

@@ -1,4 +1,3 @@
-use Rattle.std.proofs.lemmas.Grind.{common_steps}
 use Rattle.std.proofs.Common.{None, inl, inr, refl, sym, ◌∙◌, rules, arith}
 use Rattle.kd_assign.proofs.Prelude.{cases_eq, false≢true, count_by_more_no, count_by_more_yes}
 use Rattle.std.specs.Prelude.{is_some}

@@ -1,4 +1,3 @@
-use Rattle.std.proofs.lemmas.Grind.{common_steps}
 use Rattle.std.proofs.Common.{◌∙◌, sym, subst, arith, rules}
 use Rattle.kd_step.specs.Stepper.{Stepping}
 use Rattle.kd_enigma.specs.Cipher.{IsPlugboard}

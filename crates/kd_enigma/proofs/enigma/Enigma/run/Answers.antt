@@ -1,5 +1,4 @@
-use Rattle.std.proofs.lemmas.Grind.{common_steps}
-use Rattle.std.proofs.Common.{◌≡◌, ◌≢◌, ◌∙◌, ◌<◌, ap, subst, length, get_or, slice_index, slice_set, get_or-set_other, get_or-set_same, below_more, [], ◌∷◌, arith, rules}
+use Rattle.std.proofs.Common.{◌≡◌, ◌≢◌, ◌∙◌, ◌<◌, ap, subst, length, get_or, slice_index, slice_set, get_or-set_other, get_or-set_same, below_more, [], ◌∷◌, arith}
 use Rattle.std.proofs.lemmas.List.{get_or_default, ext_get_or}
 use Rattle.kd_enigma.specs.Cipher.{RotorKey, enigma_cipher, key_after}
 use Rattle.kd_enigma.proofs.Ciphers.{length-cipher, key_after_sum, next_letter_of_cipher}

@@ -1,5 +1,4 @@
-use Rattle.std.proofs.lemmas.Grind.{common_steps}
-use Rattle.std.proofs.Common.{◌≡◌, ◌-◌, ◌∙◌, List, ℕ, ap, sym, subst, length, get_or, slice_index, arith, rules}
+use Rattle.std.proofs.Common.{◌≡◌, ◌-◌, ◌∙◌, List, ℕ, sym, get_or, arith, rules}
 use Rattle.kd_enigma.specs.declared.enigma.Enigma.TheInside.{Inside}
 use Rattle.kd_enigma.specs.Around.{around, boarded}
 use Rattle.kd_enigma.specs.Rotor.{rotor}

@@ -1,5 +1,4 @@
-use Rattle.std.proofs.lemmas.Grind.{common_steps}
-use Rattle.std.proofs.Common.{◌∙◌, ◌+◌, ◌%◌, arith, rules}
+use Rattle.std.proofs.Common.{◌∙◌, ◌+◌, ◌%◌, arith}
 use Rattle.std.proofs.lemmas.List.FromFn.{fill_by_all}
 use Rattle.kd_tables.specs.Permutation.{shift}
 use Rattle.kd_enigma.proofs.map.Map.shift.Goals as goal

@@ -1,5 +1,4 @@
-use Rattle.std.proofs.Common.{◌∙◌, ap, take, arith}
-use Rattle.kd_tables.specs.Permutation.{followed_by}
+use Rattle.std.proofs.Common.{arith}
 use Rattle.kd_enigma.proofs.Maps.{followed_by_is_safe, followed_by_has_lanes, followed_by_is}
 use Rattle.kd_enigma.proofs.map.Map.then.Goals as goal
 

@@ -1,5 +1,4 @@
-use Rattle.std.proofs.lemmas.Grind.{common_steps}
-use Rattle.std.proofs.Common.{◌∙◌, ◌<◌, ap, arith, rules}
+use Rattle.std.proofs.Common.{◌∙◌, ◌<◌, ap, arith}
 use Rattle.kd_tables.specs.Permutation.{followed_by, inverse}
 use Rattle.kd_enigma.specs.Around.{boarded}
 use Rattle.kd_enigma.specs.Rotor.{rotor}
