@@ -161,3 +161,6 @@ pin_read ring pins letter place e = rw e (sym (unwrap_or-slice_get pins place fa
 
 -- what a loop that writes lines goes by
 pub ruleset writing = (begins, is_line, room, writes, ends, chosen_length, length-zip, common_steps)
+
+-- and one that writes the lines of pins
+pub ruleset writing_pins = (writing, wheel_pin_lines_are, pin_read)

@@ -37,7 +37,7 @@ pub(crate) fn push_pin_turns(settings: &mut Settings, letters: &[Letter; 6], win
 }
 
 /// Appends PIN for each pin of a wheel that isn't as the day has it, in the wheel's own order.
-#[tactic(auto, using(crate::proofs::Writing::writing, crate::proofs::Writing::wheel_pin_lines_are, crate::proofs::Writing::pin_read))]
+#[tactic(auto, using(crate::proofs::Writing::writing_pins))]
 fn push_wheel_pins<const N: usize>(
     settings: &mut Settings,
     wheel: u8,
