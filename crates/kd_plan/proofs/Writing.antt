@@ -139,14 +139,15 @@ module _ {Z : Type 0} {lines : ℕ → Z → List Setting} {zs : List Z} where
 
 -- the line of things side by side, by their place
 module _ {A B : Type 0} {lines : ℕ → A × B → List Setting} where
-  pub pair_line : (xs : List A) (ys : List B) {place : ℕ} {line : List Setting} (x dx : A) (y dy : B) → place < length xs → place < length ys
+  pub pair_line : (xs : List A) (ys : List B) {place : ℕ} {line : List Setting} (x dx : A) (y dy : B)
+      → place < length xs → place < length ys
       → x ≡ get_or xs place dx → y ≡ get_or ys place dy → line ≡ lines (place + 1) (x, y) → IsLine lines (zip xs ys) place line
   pair_line xs ys {place = place} x dx y dy lt lt' at at' e =
       is_line (x, y) (omega (arith, length-zip xs ys)) (grind (arith, common_steps, get_or-zip)) e
 
   -- and of a thing beside what is chosen for it
-  pub chosen_line : (xs : List A) (f : ℕ → B) (to : List ℕ) {place : ℕ} {line : List Setting} (x dx : A) (j : ℕ) (y : B) → place < length xs
-      → place < length to → x ≡ get_or xs place dx → j ≡ get_or to place 0 → y ≡ f j → line ≡ lines (place + 1) (x, y)
+  pub chosen_line : (xs : List A) (f : ℕ → B) (to : List ℕ) {place : ℕ} {line : List Setting} (x dx : A) (j : ℕ) (y : B)
+      → place < length xs → place < length to → x ≡ get_or xs place dx → j ≡ get_or to place 0 → y ≡ f j → line ≡ lines (place + 1) (x, y)
       → IsLine lines (zip xs (map f to)) place line
   chosen_line xs f to {place = place} x dx j y lt lt' at is here e =
       pair_line xs (map f to) x dx y y lt (omega (arith, lt', length-map to f)) at (here ∙ ap f is ∙ sym (get_or-map f to place 0 y lt')) e
