@@ -1,6 +1,6 @@
 -- A comparison of a column with a row, and what a root's comparisons leave.
-use Rattle.std.proofs.Common.{◌≡◌, ℕ, ◌<◌, List, length, get_or, All, true, false, eqb, Option, None, inl, inr, ℤ, pos, refl, sym, ◌∙◌, arith}
-use Rattle.kd_assign.proofs.Prelude.{eqb-true, eq-eqb, or_cases, ints, CostsAtMost, AreSmall, AreNearest, IsCompared}
+use Rattle.std.proofs.Common.{◌≡◌, ℕ, ◌<◌, List, length, get_or, All, true, false, Option, None, inl, inr, ℤ, pos, refl, sym, ◌∙◌, arith}
+use Rattle.kd_assign.proofs.Prelude.{eqb-true, eq-eqb, or_cases, CostsAtMost, AreSmall, AreNearest, IsCompared}
 use Rattle.kd_assign.proofs.Prelude.{has_column, has_row, slack_at, slack_of}
 use Rattle.kd_assign.proofs.Free.{no_column}
 use Rattle.kd_assign.proofs.Growing.{column_given, cost_at_most}
@@ -32,13 +32,7 @@ nearest_root cost row col to root reached near near' slacks slacks' costs small 
     -- the first slack is far above each one that a cost leaves
     taken_row : (j : ℕ) → j < length reached → has_column reached j ≡ false →
         (get_or near' j 0 ≡ root) × (slack_at slacks' j ≡ slack_of cost row col root j)
-    taken_row j h misses = elim (compared j h misses).one [
-      | inl was ↦ absurd (omega (arith, ints, was.1, far j (pos 0) (omega arith), (compared j h misses).least_here, cost_at_most cost costs root j, small.row_low root, small.col_low j))
-      | inr is ↦ is
-    ]
+    taken_row j h misses = grind (arith, compared, cost_at_most, root)
 
     is_root : (i : ℕ) → has_row to root reached i ≡ true → i ≡ root
-    is_root i has = elim (or_cases (eqb i root) _ has) [
-      | inl same ↦ eqb-true i root same
-      | inr other ↦ (let on = column_given reached (get_or to i None) other in absurd (no_column reached none on.0 on.2))
-    ]
+    is_root i has = grind (arith, or_cases, root, eqb-true, column_given, no_column)

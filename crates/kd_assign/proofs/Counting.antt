@@ -20,10 +20,7 @@ scans_of_tree-most n (suc rows) h = let fewer = scans_of_tree-most n rows h in o
 
 pub scans_of_trees-most : (n trees : ℕ) → n ≤ 32 → trees ≤ n → scans_of_trees n trees ≤ 1024 * trees
 scans_of_trees-most n zero h few = omega arith
-scans_of_trees-most n (suc trees) h few =
-    let fewer = scans_of_trees-most n trees h (omega arith) in
-    let last = scans_of_tree-most n (suc trees) h in
-    omega arith
+scans_of_trees-most n (suc trees) h few = grind (arith, scans_of_trees-most n trees h (omega arith), scans_of_tree-most)
 
 -- what a tree takes, summed up
 scans_of_tree-is : (n rows : ℕ) → rows ≤ n → 2 * scans_of_tree n rows + rows * rows ≡ 2 * (n * rows) + rows
@@ -34,10 +31,7 @@ scans_of_tree-is n (suc rows) h = let fewer = scans_of_tree-is n rows (omega ari
 scans_of_trees-is : (n trees : ℕ) → trees ≤ n →
     6 * scans_of_trees n trees + trees * trees * trees ≡ 3 * (n * (trees * trees)) + 3 * (n * trees) + trees
 scans_of_trees-is n zero h = omega arith
-scans_of_trees-is n (suc trees) h =
-    let fewer = scans_of_trees-is n trees (omega arith) in
-    let last = scans_of_tree-is n (suc trees) h in
-    omega arith
+scans_of_trees-is n (suc trees) h = grind (arith, scans_of_trees-is n trees (omega arith), scans_of_tree-is)
 
 -- a sixth of the product
 sixth : (s x : ℕ) → 6 * s ≡ x → s ≤ x / 6
@@ -56,15 +50,11 @@ none_counted (Some i ∷ reached) none = absurd (none 0 refl)
 -- a column that the tree has when one is taken out
 without : (reached : List (Option ℕ)) (k j : ℕ) → k < length reached → has_column (set reached k None) j ≡ true →
     (j ≢ k) × (has_column reached j ≡ true)
-without reached k j within has = elim (cases_eq j k) [
-  | inl same ↦ absurd (false≢true (rw (same, get_or-set_same reached k None None within) at has))
-  | inr other ↦ (other, rw (get_or-set_other reached k j None None other) at has)
-]
+without reached k j within has = grind (arith, cases_eq, get_or-set_same, within, get_or-set_other)
 
 -- a column that the first row doesn't have
 taken_later : (given : Option ℕ) (to : List (Option ℕ)) (j : ℕ) → given ≢ Some j → IsTaken (given ∷ to) j → IsTaken to j
-taken_later given to j other (zero, h) = absurd (other h)
-taken_later given to j other (suc i, h) = (i, h)
+taken_later given to j e d = grind arith
 
 -- a tree has at most as many columns as are taken
 pub reached_at_most : (to reached : List (Option ℕ)) → ((j : ℕ) → has_column reached j ≡ true → IsTaken to j) →

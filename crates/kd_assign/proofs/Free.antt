@@ -1,26 +1,23 @@
 -- While some row has no column, some column is free.
-use Rattle.std.proofs.Common.{◌≡◌, ◌≢◌, ℕ, zero, suc, ◌<◌, List, length, get_or, set, All, Bool, true, false, eqb, cond, Option, Some, None, is_some, count_by, ◌⊎◌, inl, inr, refl, sym, ap, ◌∙◌, arith}
+use Rattle.std.proofs.lemmas.Grind.{common_steps}
+use Rattle.std.proofs.Common.{◌≡◌, ◌≢◌, ℕ, zero, suc, ◌<◌, List, length, get_or, set, All, Bool, true, false, eqb, cond, Option, Some, None, is_some, count_by, ◌⊎◌, inl, inr, refl, sym, ◌∙◌, arith}
 use Rattle.std.specs.List.{list_any}
 use Rattle.std.specs.Option.{option_map_or}
-use Rattle.kd_assign.proofs.Prelude.{cases_Bool, cases_eq, cases_lt, eq-eqb, eqb-true, false≢true, get_or_default}
+use Rattle.kd_assign.proofs.Prelude.{cases_Bool, cases_eq, cases_lt, eq-eqb, eqb-true, false≢true}
 use Rattle.kd_assign.proofs.Prelude.{get_or-set_other, get_or_past, same_Some, HasNone, IsTaken, has_column}
 use Rattle.std.proofs.lemmas.List.Folds.{Any-from_list_any, list_any_at}
 use Rattle.kd_assign.proofs.Places.{within, unwritten, count-set}
 
 -- whether a column is taken
 is_number : (given : Option ℕ) (j : ℕ) → option_map_or (eqb j) given false ≡ true → given ≡ Some j
-is_number None j e = absurd (false≢true e)
-is_number (Some k) j e = ap Some (sym (eqb-true j k e))
+is_number given j e = grind (arith, eqb-true)
 
 taken_or_free : (to : List (Option ℕ)) (j : ℕ) → IsTaken to j ⊎ (IsTaken to j → ⊥)
 taken_or_free to j =
     let has : Option ℕ → Bool = λ given. option_map_or (eqb j) given false in
     elim (cases_Bool (list_any has to)) [
-      | inl some ↦
-          let any = Any-from_list_any has to some in
-          inl (any.0, get_or_default to any.0 None any.1 any.2 ∙ any.3 ∙ is_number any.1 j any.4)
-      | inr none ↦ inr (λ taken. false≢true (sym none
-          ∙ list_any_at has to taken.0 None (within to taken.0 j taken.1) (ap has taken.1 ∙ eq-eqb j j refl)))
+      | inl some ↦ grind (arith, common_steps, Any-from_list_any, is_number)
+      | inr none ↦ grind (arith, common_steps, list_any_at, within, eq-eqb)
     ]
 
 -- fewer than n columns are taken, so one of the first n is free
@@ -54,7 +51,4 @@ no_column reached none j h = false≢true (rw (no_edge reached none j) at h)
 pub taken-set : (to reached : List (Option ℕ)) (column : ℕ) (origin : Option ℕ) →
     ((j : ℕ) → has_column reached j ≡ true → IsTaken to j) → IsTaken to column → (j : ℕ) →
     has_column (set reached column origin) j ≡ true → IsTaken to j
-taken-set to reached column origin before taken j h = elim (cases_eq j column) [
-  | inl same ↦ rw same taken
-  | inr other ↦ before j (rw (get_or-set_other reached column j origin None other) at h)
-]
+taken-set to reached column origin before taken j h = grind (arith, cases_eq, taken, before, get_or-set_other)

@@ -1,7 +1,7 @@
 -- Prices that move with a tree, and a tree that gains an edge.
-use Rattle.std.proofs.Common.{◌≡◌, ◌≢◌, ℕ, suc, ◌<◌, ◌≤◌, List, [], length, get_or, set, Bool, true, false, cond, eqb, Option, Some, None, ◌⊎◌, inl, inr, ℤ, pos, neg_ℤ, ◌+ℤ◌, ◌-ℤ◌, ◌≤ℤ◌, refl, ap, sym, ◌∙◌, arith}
-use Rattle.std.proofs.lemmas.Bool.Decides.{nat_tests}
-use Rattle.kd_assign.proofs.Prelude.{false_from_ne_true, cases_eq, cases_lt, eqb-true, eq-eqb, ne_eqb, false≢true}
+use Rattle.std.proofs.lemmas.Grind.{common_steps}
+use Rattle.std.proofs.Common.{◌≡◌, ◌≢◌, ℕ, suc, ◌<◌, ◌≤◌, List, length, get_or, set, Bool, true, false, cond, eqb, Option, Some, None, ◌⊎◌, inl, inr, ℤ, pos, neg_ℤ, ◌+ℤ◌, ◌-ℤ◌, ◌≤ℤ◌, refl, ap, sym, ◌∙◌, arith}
+use Rattle.kd_assign.proofs.Prelude.{false_from_ne_true, cases_eq, eqb-true, eq-eqb, ne_eqb, false≢true}
 use Rattle.kd_assign.proofs.Prelude.{cond-true, cond-false, or_cases, or_right, ints, get_or_past, get_or-set_same}
 use Rattle.kd_assign.proofs.Prelude.{get_or-set_other, length-set, same_Some, CostsAtMost, Fits, cost_at, price_at, Has}
 use Rattle.kd_assign.proofs.Prelude.{IsSound, IsTaken, IsTight, AreNearest, IsCompared, IsTree, LeadsToRoot, IsGrowing}
@@ -10,20 +10,12 @@ use Rattle.kd_assign.proofs.Places.{vacant_or, within, written}
 
 -- no cost is above 4, nor is what stands past the end
 pub cost_at_most : (cost : List (List ℕ)) → CostsAtMost 4 cost → (i j : ℕ) → cost_at cost i j ≤ 4
-cost_at_most cost costs i j =
-    elim (cases_lt i (length cost)) [
-      | inl inside ↦ elim (cases_lt j (length (get_or cost i []))) [
-        | inl inside' ↦ costs i [] inside j 0 inside'
-        | inr past ↦ rw (get_or_past (get_or cost i []) j 0 past) (omega arith)
-      ]
-      | inr past ↦ rw (get_or_past cost i [] past) (omega arith)
-    ]
+cost_at_most cost costs i j = grind (arith, costs, get_or_past)
 
 -- where the tree has the column of a row, the row has one
 pub column_given : (reached : List (Option ℕ)) (given : Option ℕ) → has_column_of reached given ≡ true →
     (j : ℕ) × (given ≡ Some j) × (has_column reached j ≡ true)
-column_given reached None h = absurd (false≢true h)
-column_given reached (Some j) h = (j, refl, h)
+column_given reached given e = grind arith
 
 -- an order that has one place changed
 abbrev order_with : (ℕ → ℕ) → ℕ → ℕ → ℕ → ℕ
@@ -32,9 +24,7 @@ order_with order end top j = cond (eqb j end) top (order j)
 -- a column that the tree has stays as another one is reached
 pub reached_still : (reached : List (Option ℕ)) (end from : ℕ) → has_column reached end ≡ false → (j : ℕ) →
     has_column reached j ≡ true → has_column (set reached end (Some from)) j ≡ true
-reached_still reached end from outside j reaches =
-    let other : j ≢ end = λ same. false≢true (sym outside ∙ rw same at reaches) in
-    rw (get_or-set_other reached end j (Some from) None other) reaches
+reached_still reached end from outside j reaches = grind (arith, outside, get_or-set_other)
 
 -- a tree whose paths lead to the root gains a column, which comes last
 LeadsToRoot-set : (to reached : List (Option ℕ)) (root from end top : ℕ) → end < length reached →
@@ -43,21 +33,7 @@ LeadsToRoot-set : (to reached : List (Option ℕ)) (root from end top : ℕ) →
     LeadsToRoot to root (set reached end (Some from))
 LeadsToRoot-set to reached root from end top h outside paths first = record {
   order = order_with paths.order end top;
-  leads_on = λ i j edge. elim (written reached end (Some from) j i h edge) [
-    | inl here ↦ elim first [
-      | inl same ↦ inl (sym (same_Some from i here.1) ∙ same)
-      | inr on ↦
-          let other = is_other on.0 on.2 in
-          let same = rw (same_Some from i here.1) at on.1 in
-          inr (on.0, same, reached_still reached end from outside on.0 on.2, grind (arith, nat_tests, on.3, here.0))
-    ]
-    | inr there ↦ elim (paths.leads_on i j there.1) [
-      | inl same ↦ inl same
-      | inr on ↦
-          let other = is_other on.0 on.2 in
-          inr (on.0, on.1, reached_still reached end from outside on.0 on.2, grind (arith, nat_tests, on.3, there.0))
-    ]
-  ];
+  leads_on = grind (arith, written, same_Some, is_other, reached_still, outside, paths.leads_on);
 }
   where
     is_other : (j : ℕ) → has_column reached j ≡ true → j ≢ end
@@ -85,20 +61,12 @@ pub record AreMoved (to : List (Option ℕ)) (root : ℕ) (reached : List (Optio
 -- by nothing
 pub AreMoved-none : (to : List (Option ℕ)) (root : ℕ) (reached : List (Option ℕ)) (by : ℤ) (row col slacks : List ℤ) →
     length row ≡ length to → length col ≡ length to → by ≡ pos 0 → AreMoved to root reached by row col slacks row col slacks
-AreMoved-none to root reached by row col slacks rows columns none = record {
-  rows = rows;
-  columns = columns;
-  raised = λ i h. grind (arith, ints);
-  lowered = λ j h. grind (arith, ints);
-  fallen = λ j h misses. omega (arith, ints);
-}
+AreMoved-none to root reached by row col slacks rows columns none = grind (arith, rows)
 
 -- what holds of a row's price and a column's, as they move
 module _ (r c by k : ℤ) where
   moves_tight : (p q : Bool) → p ≡ q → (r +ℤ c) ≡ k → (cond p (r +ℤ by) r +ℤ cond q (c -ℤ by) c) ≡ k
-  moves_tight true true same tight = omega (arith, ints)
-  moves_tight false false same tight = tight
-  moves_tight p q same tight = cc
+  moves_tight p q e d = grind (arith, common_steps)
 
   moves_fit : (p q : Bool) → pos 0 ≤ℤ by → (r +ℤ c) ≤ℤ k → (p ≡ true → q ≡ false → by ≤ℤ ((k -ℤ r) -ℤ c))
       → (cond p (r +ℤ by) r +ℤ cond q (c -ℤ by) c) ≤ℤ k
@@ -117,10 +85,7 @@ module _ {cost : List (List ℕ)} {row col : List ℤ} {to : List (Option ℕ)} 
     (costs : CostsAtMost 4 cost) (growing : IsGrowing cost row col to root reached) where
   -- the tree has a row just where it has the row's column
   has_row_at : (i j : ℕ) → Has to i j → has_row to root reached i ≡ has_column reached j
-  has_row_at i j h = elim (cases_eq i root) [
-    | inl same ↦ vacant_or to root j growing.vacant (rw same at h)
-    | inr other ↦ rw (ne_eqb i root other, h) refl
-  ]
+  has_row_at i j h = grind (arith, cases_eq, root, vacant_or, ne_eqb)
 
   -- a free column is outside of the tree
   pub not_reached : (j : ℕ) → (IsTaken to j → ⊥) → has_column reached j ≡ false
@@ -128,19 +93,12 @@ module _ {cost : List (List ℕ)} {row col : List ℤ} {to : List (Option ℕ)} 
 
   -- both ends of an edge of the tree are in the tree
   has_ends : (i j : ℕ) → Has reached j i → (has_row to root reached i ≡ true) × (has_column reached j ≡ true)
-  has_ends i j h =
-      let row = elim (growing.tree.paths.leads_on i j h) as (λ _. has_row to root reached i ≡ true) [
-        | inl same ↦ rw (eq-eqb i root same) refl
-        | inr on ↦ has_row_at i on.0 on.1 ∙ on.2
-      ] in (row, rw h refl)
+  has_ends i j h = grind (arith, root, eq-eqb, has_row_at)
 
   -- a row of the tree is the root, or has a column of the tree
   row_of_tree : (i : ℕ) → has_row to root reached i ≡ true
       → (i ≡ root) ⊎ ((j : ℕ) × Has to i j × (has_column reached j ≡ true))
-  row_of_tree i h = elim (or_cases (eqb i root) (has_column_of reached (get_or to i None)) h) [
-    | inl is_root ↦ inl (eqb-true i root is_root)
-    | inr other ↦ inr (column_given reached (get_or to i None) other)
-  ]
+  row_of_tree i h = grind (arith, or_cases, root, eqb-true, column_given)
 
   -- its rows and columns are rows and columns of the table
   row_in_range : (i : ℕ) → has_row to root reached i ≡ true → i < length to
@@ -166,9 +124,7 @@ module _ {cost : List (List ℕ)} {row col : List ℤ} {to : List (Option ℕ)} 
   module _ {from end : ℕ} {slack by : ℤ} (nearest : IsNearest cost row col to root reached from end slack) (by_is : by ≡ slack) where
     -- the prices fit, so no slack is negative
     pub by_low : pos 0 ≤ℤ by
-    by_low =
-        let in_range : end < length to = rw (← growing.tree.places) nearest.within in
-        omega (arith, ints, growing.sound.fits from end (rw growing.sound.rows (row_in_range from nearest.inside)) (rw growing.sound.columns in_range), nearest.slack_is)
+    by_low = grind (arith, common_steps, row_in_range)
 
     -- the free column has the price 0, so that no row's price comes above the highest cost
     pub raised_at_most : (i : ℕ) → has_row to root reached i ≡ true → (price_at row i +ℤ by) ≤ℤ pos 4
@@ -187,26 +143,15 @@ module _ {cost : List (List ℕ)} {row col : List ℤ} {to : List (Option ℕ)} 
     module _ {slacks row' col' slacks' : List ℤ} (moved : AreMoved to root reached by row col slacks row' col' slacks') where
       -- what is in the tree moves, and what is outside stays, also past the end
       row_is : (i : ℕ) → price_at row' i ≡ cond (has_row to root reached i) (price_at row i +ℤ by) (price_at row i)
-      row_is i = elim (cases_lt i (length to)) [
-        | inl lt ↦ moved.raised i lt
-        | inr past ↦ rw (false_from_ne_true (has_row to root reached i) (λ has. let lt = row_in_range i has in absurd (omega arith)))
-            (get_or_past row' i (pos 0) (rw moved.rows past) ∙ sym (get_or_past row i (pos 0) (rw growing.sound.rows past)))
-      ]
+      row_is i = grind (arith, false_from_ne_true, root, row_in_range, get_or_past)
 
       column_is : (j : ℕ) → price_at col' j ≡ cond (has_column reached j) (price_at col j -ℤ by) (price_at col j)
-      column_is j = elim (cases_lt j (length to)) [
-        | inl lt ↦ moved.lowered j lt
-        | inr past ↦ rw (false_from_ne_true (has_column reached j) (λ has. let lt = column_in_range j has in absurd (omega arith)))
-            (get_or_past col' j (pos 0) (rw moved.columns past) ∙ sym (get_or_past col j (pos 0) (rw growing.sound.columns past)))
-      ]
+      column_is j = grind (arith, false_from_ne_true, column_in_range, get_or_past)
 
       -- an edge stays tight where both of its ends move, or neither
       tight_still : (i j : ℕ) → has_row to root reached i ≡ has_column reached j → IsTight cost row col i j
           → IsTight cost row' col' i j
-      tight_still i j same tight =
-          rw (row_is i, column_is j)
-          (moves_tight (price_at row i) (price_at col j) by (pos (cost_at cost i j))
-          (has_row to root reached i) (has_column reached j) same tight)
+      tight_still i j same tight = grind (arith, row_is, column_is, moves_tight, root)
 
       -- the least slack leaves room at every edge out of the tree
       fits_still : Fits cost row' col'
@@ -221,10 +166,7 @@ module _ {cost : List (List ℕ)} {row col : List ℤ} {to : List (Option ℕ)} 
 
       -- the prices stay small
       row_small : (i : ℕ) → (pos 0 ≤ℤ price_at row' i) × (price_at row' i ≤ℤ pos 4)
-      row_small i =
-          let small = growing.sound.small in
-          rises_little (has_row to root reached i) (price_at row i) by (price_at row' i) by_low
-          (row_is i) (small.row_low i) (small.row_high i) (raised_at_most i)
+      row_small i = grind (arith, common_steps, rises_little, root, by_low, row_is, raised_at_most)
 
       column_small : (j : ℕ) → (neg_ℤ (pos 4) ≤ℤ price_at col' j) × (price_at col' j ≤ℤ pos 0)
       column_small j =
@@ -255,8 +197,7 @@ module _ {cost : List (List ℕ)} {row col : List ℤ} {to : List (Option ℕ)} 
             let raised = row_is from ∙ cond-true _ _ _ nearest.inside in
             let kept = column_is end ∙ cond-false _ _ _ nearest.outside in
             rw (here.0, ← same_Some from i here.1) (omega (arith, ints, raised, kept, nearest.slack_is))
-        | inr there ↦
-            let ends = has_ends i j there.1 in tight_still i j (ends.0 ∙ sym ends.1) (growing.tree.tight i j there.1)
+        | inr there ↦ grind (arith, has_ends, tight_still)
       ]
 
       -- the tree with that edge is a tree
@@ -274,10 +215,7 @@ module _ {cost : List (List ℕ)} {row col : List ℤ} {to : List (Option ℕ)} 
       module _ (holder : ℕ) (holds : Has to holder end) where
         -- a row that it had, it has
         row_still : (i : ℕ) → has_row to root reached i ≡ true → has_row to root (set reached end (Some from)) i ≡ true
-        row_still i has = elim (row_of_tree i has) [
-          | inl same ↦ rw (eq-eqb i root same) refl
-          | inr on ↦ or_right (eqb i root) _ (rw on.1 (reached_still reached end from nearest.outside on.0 on.2))
-        ]
+        row_still i has = grind (arith, row_of_tree, eq-eqb, root, or_right, reached_still)
 
         -- and it has this one
         holder_joins : has_row to root (set reached end (Some from)) holder ≡ true
@@ -286,15 +224,8 @@ module _ {cost : List (List ℕ)} {row col : List ℤ} {to : List (Option ℕ)} 
         -- and no further one
         row_old_or_new : (i : ℕ) → has_row to root (set reached end (Some from)) i ≡ true →
             (has_row to root reached i ≡ true) ⊎ (i ≡ holder)
-        row_old_or_new i has = elim (or_cases (eqb i root) (has_column_of (set reached end (Some from)) (get_or to i None)) has) [
-          | inl is_root ↦ inl (rw is_root refl)
-          | inr other ↦ (
-              let on = column_given (set reached end (Some from)) (get_or to i None) other in
-              elim (cases_eq on.0 end) [
-                | inl same ↦ inr (growing.partial.distinct i holder end (rw same at on.1) holds)
-                | inr differs ↦ inl (has_row_at i on.0 on.1 ∙ rw (get_or-set_other reached end on.0 (Some from) None differs) at on.2)
-              ])
-        ]
+        row_old_or_new i has =
+            grind (arith, or_cases, root, column_given, cases_eq, holds, has_row_at, get_or-set_other)
 
         -- outside of the tree slacks fall as prices move
         slack_moves : (i j : ℕ) → has_row to root reached i ≡ true → has_column reached j ≡ false →
@@ -331,8 +262,7 @@ module _ {cost : List (List ℕ)} {row col : List ℤ} {to : List (Option ℕ)} 
             in_tree j h = rw (length-set reached end (Some from)) at h
 
             missed : (j : ℕ) → has_column (set reached end (Some from)) j ≡ false → has_column reached j ≡ false
-            missed j misses = false_from_ne_true (has_column reached j)
-                (λ has. false≢true (sym misses ∙ reached_still reached end from nearest.outside j has))
+            missed j misses = grind (arith, false_from_ne_true, reached_still)
 
 -- what was taken is taken after the turn, and each edge is an old one or one of the tree
 pub IsSound-turned : (cost : List (List ℕ)) (row col : List ℤ) (before after : List (Option ℕ)) (root : ℕ) (reached : List (Option ℕ)) →

@@ -1,5 +1,5 @@
 -- What stands at a place, and after a write.
-use Rattle.std.proofs.Common.{◌≡◌, ◌≢◌, ℕ, ◌<◌, ◌+◌, List, length, get_or, set, Option, Some, None, is_some, count_by, cond, ◌⊎◌, inl, inr, sym, ◌∙◌}
+use Rattle.std.proofs.Common.{◌≡◌, ◌≢◌, ℕ, ◌<◌, ◌+◌, List, length, get_or, set, Option, Some, None, is_some, count_by, cond, ◌⊎◌, inl, inr, sym, ◌∙◌, arith}
 use Rattle.kd_assign.proofs.Prelude.{cases_eq, cases_lt, get_or_past, get_or-set_same, get_or-set_other, sum_by-set}
 use Rattle.kd_assign.proofs.Prelude.{none-some, same_Some, Has, HasNone}
 
@@ -18,11 +18,7 @@ vacant_or xs i j none h = absurd (none-some j (sym none ∙ h))
 -- after a write a place has what was written, or what it had
 pub written : (xs : List (Option ℕ)) (k : ℕ) (v : Option ℕ) (i j : ℕ) → k < length xs →
     Has (set xs k v) i j → ((i ≡ k) × (v ≡ Some j)) ⊎ ((i ≢ k) × Has xs i j)
-written xs k v i j h e =
-    elim (cases_eq i k) [
-      | inl same ↦ inl (same, sym (get_or-set_same xs k v None h) ∙ rw same at e)
-      | inr other ↦ inr (other, sym (get_or-set_other xs k i v None other) ∙ e)
-    ]
+written xs k v i j h e = grind (arith, cases_eq, get_or-set_same, get_or-set_other)
 
 -- and every other place what it had
 pub unwritten : (xs : List (Option ℕ)) (k : ℕ) (v w : Option ℕ) (i : ℕ) → i ≢ k → get_or xs i None ≡ w →

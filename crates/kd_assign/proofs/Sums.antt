@@ -1,7 +1,7 @@
 -- Sums of prices over one-to-one assignments.
 use Rattle.std.proofs.Common.{◌≡◌, ◌≢◌, ℕ, zero, suc, ◌+◌, ◌<◌, ◌≤◌, List, [], ◌∷◌, ◌++◌, length, get_or, take, map, All, AllPairs, ◌⊎◌, inl, inr, ℤ, eqb, false, pos, ◌+ℤ◌, ◌≤ℤ◌, remove, refl, sym, ap, ◌∙◌, arith, add-one}
 use Rattle.std.specs.List.{list_any}
-use Rattle.kd_assign.proofs.Prelude.{cases_Bool, cases_lt, eqb-true, eqb-false, false_from_ne_true, false≢true, ints}
+use Rattle.kd_assign.proofs.Prelude.{cases_Bool, cases_lt, eqb-true, eqb-false, false_from_ne_true, ints}
 use Rattle.kd_assign.proofs.Prelude.{get_or_default, take_all, take_more, Fits, price_at, sum_of, IsOneToOne}
 use Rattle.kd_assign.proofs.Prelude.{assignment_cost, IsTight}
 use Rattle.std.proofs.lemmas.List.Folds.{Any-from_list_any, list_any_at}
@@ -31,8 +31,7 @@ place_or_none xs m =
       | inl has ↦
           let any = Any-from_list_any (eqb m) xs has in
           inl (any.0, any.2, get_or_default xs any.0 0 any.1 any.2 ∙ any.3 ∙ sym (eqb-true m any.1 any.4))
-      | inr misses ↦ inr (none (λ k lt. false_from_ne_true (eqb m (get_or xs k 0))
-          (λ e. false≢true (sym misses ∙ list_any_at (eqb m) xs k 0 lt e))))
+      | inr misses ↦ grind (arith, none, false_from_ne_true, list_any_at)
     ]
 
 -- distinct numbers up to m are below m once m is taken out

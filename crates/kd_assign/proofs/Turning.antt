@@ -1,5 +1,5 @@
 -- The assignment while it is turned round along a path.
-use Rattle.std.proofs.Common.{◌≡◌, ◌≢◌, ℕ, ◌+◌, ◌<◌, ◌≤◌, List, length, get_or, set, Option, Some, None, true, is_some, count_by, cond, ◌⊎◌, inl, inr, refl, ap, sym, arith}
+use Rattle.std.proofs.Common.{◌≡◌, ◌≢◌, ℕ, ◌+◌, ◌<◌, ◌≤◌, List, length, get_or, set, Option, Some, None, true, is_some, count_by, cond, ◌⊎◌, inl, inr, ap, sym, arith, rules}
 use Rattle.kd_assign.proofs.Prelude.{cases_eq, get_or-set_same, get_or-set_other, length-set, Has, HasNone, IsPartial}
 use Rattle.kd_assign.proofs.Prelude.{IsTaken, LeadsOn, has_column}
 use Rattle.kd_assign.proofs.Places.{within, same_number, vacant_or, written, unwritten, count-set}
@@ -28,8 +28,7 @@ pub record Turning (before tree : List (Option ℕ)) (root : ℕ) (to reached : 
 pub IsPartial-set : (to : List (Option ℕ)) (row column : ℕ) → row < length to → column < length to →
     IsPartial to → (IsTaken to column → ⊥) → IsPartial (set to row (Some column))
 IsPartial-set to row column within_row within_column partial free = record {
-  in_range = λ i j h.
-      grind (arith, length-set {A = Option ℕ}, written to row (Some column) i j within_row h, partial.in_range i j);
+  in_range = grind (arith, length-set, written, partial.in_range);
   distinct = λ i k j h e.
       let free_of = λ (l : ℕ) (taken : Has to l column). free (l, taken) in
       let one = written to row (Some column) i j within_row h in
@@ -56,8 +55,7 @@ module _ {before tree : List (Option ℕ)} {root : ℕ} {to reached : List (Opti
 
   -- each edge is an old one or one of the tree
   pub edges_still : (i j : ℕ) → Has (set to row (Some column)) i j → Has before i j ⊎ Has tree j i
-  edges_still i j h =
-      grind (arith, written to row (Some column) i j row_in_range h, turning.fewer row column next, turning.edges i j)
+  edges_still i j h = search (rules, written, row_in_range)
 
   -- each column that was taken is taken, or the row has it
   kept_or_left : (j : ℕ) → IsTaken before j → IsTaken (set to row (Some column)) j ⊎ Has to row j
@@ -80,13 +78,11 @@ module _ {before tree : List (Option ℕ)} {root : ℕ} {to reached : List (Opti
 
     -- one row more has a column
     pub count_at_end : count_by is_some (set to row (Some column)) ≡ count_by is_some before + 1
-    count_at_end =
-        let was : ◌≡◌ {A = ℕ} (cond (is_some (get_or to row None)) 1 0) 0 = rw last refl in omega (arith, count_now)
+    count_at_end = grind (arith, count_now)
 
     -- no row but the root gained a column
     pub others_at_end : (i : ℕ) → i ≢ root → HasNone before i → HasNone (set to row (Some column)) i
-    others_at_end i other none =
-        unwritten to row (Some column) None i (λ same. grind (arith, leads_on, vacant_or to row)) (turning.others i none)
+    others_at_end i other none = grind (arith, unwritten, leads_on, vacant_or)
 
   -- another row takes the column, and leaves its own
   module _ (left : ℕ) (leaves : Has to row left) where
@@ -95,16 +91,12 @@ module _ {before tree : List (Option ℕ)} {root : ℕ} {to reached : List (Opti
     row_is_not_root same = vacant_or to root left turning.vacant (rw same at leaves)
 
     earlier : (has_column reached left ≡ true) × (turning.path.order left < turning.path.order column)
-    earlier = elim leads_on [
-      | inl same ↦ absurd (row_is_not_root same)
-      | inr on ↦ rw (same_number to row left on.0 leaves on.1) (on.2, on.3)
-    ]
+    earlier = grind (arith, leads_on, row_is_not_root, same_number)
 
     -- a column that comes earlier is in what is left of the tree
     reached_still : (j : ℕ) → turning.path.order j < turning.path.order column → has_column reached j ≡ true
         → has_column (set reached column None) j ≡ true
-    reached_still j lt h =
-        let other : j ≢ column = λ same. let same_order = ap turning.path.order same in omega arith in rw get_or-set_other h
+    reached_still j lt h = grind (arith, get_or-set_other)
 
     -- what is still in the tree was in it
     in_tree_before : (i j : ℕ) → Has (set reached column None) j i → Has reached j i
@@ -142,9 +134,9 @@ module _ {before tree : List (Option ℕ)} {root : ℕ} {to reached : List (Opti
         | inl still ↦ inl still
         | inr has ↦ inr (same_number to row j left has leaves)
       ];
-      count =
-          (let was : ◌≡◌ {A = ℕ} (cond (is_some (get_or to row None)) 1 0) 1 = rw leaves refl in omega (arith, count_now));
-      others = λ i none.
-          let still = turning.others i none in
-          unwritten to row (Some column) None i (λ same. vacant_or to i left still (rw same leaves)) still;
+      count = grind (arith, count_now);
+      others = grind (arith, unwritten, vacant_or);
     }
+
+-- what the last turn leaves
+pub ruleset last_turn = (partial_still, edges_still, others_at_end)

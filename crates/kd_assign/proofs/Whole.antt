@@ -1,5 +1,5 @@
 -- An assignment of all rows.
-use Rattle.std.proofs.Common.{◌≡◌, ℕ, ◌*◌, ◌<◌, ◌≤◌, List, length, get_or, set, All, cond, Option, Some, None, is_some, count_by, ℤ, pos, negsuc, neg_ℤ, ◌≤ℤ◌, refl, ◌∙◌, arith}
+use Rattle.std.proofs.Common.{◌≡◌, ℕ, ◌*◌, ◌<◌, ◌≤◌, List, length, get_or, set, All, Option, Some, None, is_some, count_by, ℤ, pos, neg_ℤ, ◌≤ℤ◌, refl, ◌∙◌, arith}
 use Rattle.std.specs.Int.RustNames.{unsigned_abs}
 use Rattle.kd_assign.proofs.Prelude.{ints, get_or_default, length-set, count_by-le-length, IsOneToOne, assignment_cost}
 use Rattle.kd_assign.proofs.Prelude.{Fits, price_sum, AreSmall, Has, IsPartial, IsSound}
@@ -13,19 +13,14 @@ has_some : (to : List (Option ℕ)) → count_by is_some to ≡ length to → (i
     i < length to → get_or to i None ≡ given → (j : ℕ) × Has to i j
 has_some to full i (Some j) h e = (j, e)
 has_some to full i None h e =
-    let step = count-set to i (Some 0) h in
-    let was : ◌≡◌ {A = ℕ} (cond (is_some (get_or to i None)) 1 0) 0 = rw e refl in
-    let few = count_by-le-length is_some (set to i (Some 0)) in
-    absurd (omega (arith, length-set to i (Some 0)))
+    grind (arith, count-set to i (Some 0) h, count_by-le-length is_some (set to i (Some 0)), length-set to i (Some 0))
 
 -- the columns that are given to all rows
 module _ (to : List (Option ℕ)) (columns : List ℕ) (partial : IsPartial to) (full : count_by is_some to ≡ length to)
     (places : length columns ≡ length to) (given : (i j : ℕ) → Has to i j → get_or columns i 0 ≡ j) where
   -- each row has the column that is written down
   pub has_given : (i : ℕ) → i < length to → Has to i (get_or columns i 0)
-  has_given i h =
-      let some = has_some to full i (get_or to i None) h refl in
-      rw (given i some.0 some.1) some.1
+  has_given i h = grind (arith, has_some to full i (get_or to i None) h refl)
 
   -- and no two rows have the same
   pub one_to_one : IsOneToOne columns
@@ -41,8 +36,7 @@ module _ (to : List (Option ℕ)) (columns : List ℕ) (partial : IsPartial to) 
 
 -- a price from -4 to 4 is from -4n to 4n
 abs_at_most : (n : ℕ) (price : ℤ) → 1 ≤ n → neg_ℤ (pos 4) ≤ℤ price → price ≤ℤ pos 4 → unsigned_abs price ≤ 4 * n
-abs_at_most n (pos p) some low high = omega (arith, ints)
-abs_at_most n (negsuc p) some low high = omega (arith, ints)
+abs_at_most n price e d g = grind arith
 
 -- so are the prices of all rows
 pub rows_at_most : (n : ℕ) (row col : List ℤ) → 1 ≤ n → AreSmall row col →
@@ -60,8 +54,6 @@ pub price_sum_is : (cost : List (List ℕ)) (row col : List ℤ) (to : List (Opt
     ((i : ℕ) → i < length to → Has to i (get_or columns i 0)) → IsOneToOne columns →
     price_sum row col ≡ pos (assignment_cost cost columns)
 price_sum_is cost row col to columns lines places sound given once =
-    let rows = sound.rows in
-    let cols = sound.columns in
     let by_row = tight_rows cost row col columns (omega arith) (omega arith) (λ i h. sound.tight i (get_or columns i 0) (given i (omega arith))) in
     let by_column = sum_of-columns col columns (omega arith) once in
     omega (arith, ints)
@@ -70,5 +62,4 @@ price_sum_is cost row col to columns lines places sound given once =
 pub is_least : (cost : List (List ℕ)) (row col : List ℤ) (total : ℕ) → length row ≡ length cost →
     length col ≡ length cost → Fits cost row col → price_sum row col ≡ pos total → IsLeastCost cost total
 is_least cost row col total rows columns fits sum to places once =
-    let bound = fitting_prices_bound_costs cost row col to (omega arith) (omega arith) (omega arith) fits once in
-    omega (arith, ints)
+    grind (arith, fitting_prices_bound_costs cost row col to (omega arith) (omega arith) (omega arith) fits once)

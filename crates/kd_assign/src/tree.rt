@@ -207,6 +207,7 @@ impl<const N: usize> Tree<N> {
 
     /// Gives the column to the row from which it was reached, that row's column to the row from
     /// which that one was reached, and so on up to the root.
+    #[tactic(auto, using(crate::proofs::Turning::last_turn))]
     pub fn turn_round(&self, to: &mut [Option<usize>; N], free: usize)
         requires partial { IsPartial to.old }
         requires open { HasNone to.old self.now.root }

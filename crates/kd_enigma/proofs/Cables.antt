@@ -1,12 +1,12 @@
 -- What cables do to the letters, pair by pair.
-use Rattle.std.proofs.Common.{◌≡◌, ◌≢◌, ◌⊎◌, inl, inr, ℕ, zero, suc, ◌<◌, Bool, true, false, not, ◌&&◌, List, [], ◌∷◌, ◌++◌, All, Contains, cond, eqb, length, get_or, set, slice_index, refl, sym, ap, ◌∙◌, subst, arith}
+use Rattle.std.proofs.Common.{◌≡◌, ◌≢◌, ◌⊎◌, inl, inr, ℕ, zero, suc, ◌<◌, Bool, true, false, not, ◌&&◌, List, [], ◌∷◌, ◌++◌, All, Contains, cond, eqb, length, get_or, set, slice_index, refl, sym, ap, ◌∙◌, arith, rules}
 use Rattle.std.specs.List.{IsDistinct, list_any}
 use Rattle.std.proofs.lemmas.Bool.{and_parts, cases_Bool, cases_eq, eq-eqb, eqb-true, eqb-false, ne_eqb, false_from_ne_true, false≢true, not-true}
 use Rattle.std.proofs.lemmas.Bool.Decides.{nat_tests}
 use Rattle.std.proofs.lemmas.Grind.{common_steps, flat_map-append}
 use Rattle.std.proofs.lemmas.List.Elements.{All-from_recursion, recursion_from_All, All-nil, All-cons, All-append}
 use Rattle.std.proofs.lemmas.List.Folds.{Any-from_list_any, list_any-append, list_any_at, list_any_none}
-use Rattle.std.proofs.lemmas.List.{get_or_default, length-set, map-id}
+use Rattle.std.proofs.lemmas.List.{length-set, map-id}
 use Rattle.std.proofs.lemmas.List.FromFn.{fill_by_all, get_or-map-range_with_len, length-map-range_with_len}
 use Rattle.kd_tables.specs.Permutation.{alphabet, exchanged, exchange}
 use Rattle.kd_enigma.specs.Cipher.{IsPlugboard}
@@ -52,9 +52,7 @@ pub record AreNew (letters : List ℕ) (one other : ℕ) : Type 0 where
 
 differ_push : (letters : List ℕ) (one other : ℕ) → differ letters ≡ true → AreNew letters one other → differ (letters ++ one ∷ other ∷ []) ≡ true
 differ_push [] one other h new = rw new.unlike refl
-differ_push (x ∷ letters) one other h new =
-    let rest : AreNew letters one other = record { unlike = new.unlike; one_free = grind (arith, new.one_free); other_free = grind (arith, new.other_free) } in
-    grind (arith, nat_tests, list_any-append (eqb x) letters (one ∷ other ∷ []), differ_push letters one other, rest, new.one_free, new.other_free)
+differ_push (x ∷ letters) one other h new = grind (arith, letters, list_any-append, differ_push letters one other)
 
 differ_middle : (letters : List ℕ) (one other : ℕ) (rest : List ℕ) → differ (letters ++ one ∷ other ∷ rest) ≡ true → AreNew letters one other
 differ_middle [] one other rest h = record { unlike = grind arith; one_free = refl; other_free = refl }
@@ -114,29 +112,18 @@ record IsCable (pairs : List (ℕ × ℕ)) (x y : ℕ) : Type 0 where
 
 cable_at : (pairs : List (ℕ × ℕ)) (v : ℕ × ℕ) (k : ℕ) → AreApart pairs → k < length pairs → get_or pairs k v ≡ v → IsCable pairs v.0 v.1
 cable_at [] v k h lt e = absurd (omega arith)
-cable_at (pair ∷ pairs) v zero h lt e =
-    subst (λ (w : ℕ × ℕ). IsCable (pair ∷ pairs) w.0 w.1) e
-    (record { there = grind (arith, nat_tests); back = grind (arith, nat_tests); first = grind (arith, nat_tests); second = grind (arith, nat_tests) })
-cable_at (pair ∷ pairs) v (suc k) h lt e =
-    let later = cable_at pairs v k (grind arith) (omega arith) e in
-    record { there = grind (arith, nat_tests); back = grind (arith, nat_tests); first = grind (arith, nat_tests); second = grind (arith, nat_tests) }
+cable_at (pair ∷ pairs) v zero h lt e = grind arith
+cable_at (pair ∷ pairs) v (suc k) h lt e = grind (arith, cable_at pairs v k (grind arith) (omega arith) e)
 
 joined : (pairs : List (ℕ × ℕ)) (x y : ℕ) → AreApart pairs → Joins pairs x y → exchanged pairs x ≡ y
-joined pairs x y h (inl c) = (cable_at pairs (x, y) c.0 h c.1 c.2).there
-joined pairs x y h (inr c) = (cable_at pairs (y, x) c.0 h c.1 c.2).back
+joined pairs x y e d = grind (arith, cable_at)
 
 pub exchanges : (pairs : List (ℕ × ℕ)) (x y : ℕ) → exchanged pairs x ≡ y → Joins pairs x y ⊎ ((x ≡ y) × ¬ Contains (letters_plugged pairs) x)
-exchanges pairs x y e = elim (cases_Bool (lies_in x pairs)) [
-  | inl lies ↦ inl (leads pairs x y lies e)
-  | inr free ↦ inr (sym (exchanged_free pairs x free) ∙ e, λ c. false≢true (sym free ∙ list_any_at (eqb x) (letters_plugged pairs) c.0 x c.1 (eq-eqb x _ (sym c.2))))
-]
+exchanges pairs x y e = grind (arith, cases_Bool, leads, exchanged_free, list_any_at, eq-eqb)
 
 pub exchanged_by : (pairs : List (ℕ × ℕ)) (x y : ℕ) → AreApart pairs → Joins pairs x y ⊎ ((x ≡ y) × ¬ Contains (letters_plugged pairs) x) → exchanged pairs x ≡ y
 exchanged_by pairs x y h (inl j) = joined pairs x y h j
-exchanged_by pairs x y h (inr left) =
-    exchanged_free pairs x (false_from_ne_true (lies_in x pairs) (λ lies.
-    let any = Any-from_list_any (eqb x) (letters_plugged pairs) lies in
-    left.1 (any.0, any.2, get_or_default (letters_plugged pairs) any.0 x any.1 any.2 ∙ any.3 ∙ sym (eqb-true x any.1 any.4)))) ∙ left.0
+exchanged_by pairs x y h (inr left) = search (rules, exchanged_free, false_from_ne_true, Any-from_list_any, eqb-true)
 
 pub exchanged_alike : (ps qs : List (ℕ × ℕ)) (x : ℕ) → AreApart ps → AreApart qs → ((y : ℕ) → Joins ps x y → Joins qs x y) → ((y : ℕ) → Joins qs x y → Joins ps x y)
     → exchanged ps x ≡ exchanged qs x
@@ -175,10 +162,7 @@ plugboard_of pairs h letters =
     record {
       permutation = record {
         size = exchange-size pairs;
-        each_once = record {
-          within = within;
-          apart = λ j k j_lt k_lt e. sym (back j j_lt) ∙ ap (slice_index (exchange pairs)) e ∙ back k k_lt;
-        };
+        each_once = grind (arith, back);
       };
       own_inverse = each_letter (λ x. slice_index (exchange pairs) (slice_index (exchange pairs) x) ≡ x) back;
     }
@@ -229,7 +213,6 @@ plugged_more pairs pair new one_lt other_lt =
 pub is_plugged_more : (table after : List ℕ) (pairs : List (ℕ × ℕ)) (pair : ℕ × ℕ) → IsPlugged table pairs → CanPlug table pair → pair.0 < 26 → pair.1 < 26
     → after ≡ set (set table pair.0 pair.1) pair.1 pair.0 → IsPlugged after (pairs ++ pair ∷ [])
 is_plugged_more table after pairs pair h can one_lt other_lt e =
-    let letter = λ (y : ℕ). y < 26 in
     let free : (x : ℕ) → x < 26 → slice_index table x ≡ x → lies_in x pairs ≡ false = λ x lt left.
     false_from_ne_true (lies_in x pairs) (λ lies. exchanged_moves pairs x h.apart lies (sym (ap (λ t. slice_index t x) h.table ∙ exchange-at pairs x lt) ∙ left)) in
     let new : AreNew (letters_plugged pairs) pair.0 pair.1 =
@@ -237,14 +220,10 @@ is_plugged_more table after pairs pair h can one_lt other_lt e =
     record {
       table = e ∙ ap (λ t. set (set t pair.0 pair.1) pair.1 pair.0) h.table ∙ plugged_more pairs pair new one_lt other_lt;
       apart = rw flat_map-append (differ_push (letters_plugged pairs) pair.0 pair.1 h.apart new);
-      letters = rw flat_map-append (All-append letter (letters_plugged pairs) (pair.0 ∷ pair.1 ∷ []) h.letters
-          (All-cons letter pair.0 (pair.1 ∷ []) one_lt (All-cons letter pair.1 [] other_lt (All-nil letter))));
+      letters = grind (arith, common_steps, flat_map-append, All-append, All-cons, All-nil);
     }
 
 -- where no letter lies twice, each pair can be plugged in in its turn
 pub can_plug : (table : List ℕ) (pairs rest : List (ℕ × ℕ)) (pair : ℕ × ℕ) → IsPlugged table pairs → NoLetterTwice (pairs ++ pair ∷ rest) → pair.0 < 26 → pair.1 < 26 → CanPlug table pair
 can_plug table pairs rest pair h once one_lt other_lt =
-    let apart = rw flat_map-append at (differ_of (letters_plugged (pairs ++ pair ∷ rest)) once) in
-    let new = differ_middle (letters_plugged pairs) pair.0 pair.1 (letters_plugged rest) apart in
-    let stays = λ (x : ℕ) (lt : x < 26) (free : lies_in x pairs ≡ false). ap (λ t. slice_index t x) h.table ∙ exchange-at pairs x lt ∙ exchanged_free pairs x free in
-    record { differ = eqb-false pair.0 pair.1 new.unlike; one = stays pair.0 one_lt new.one_free; other = stays pair.1 other_lt new.other_free }
+    grind (arith, flat_map-append, differ_of, differ_middle, false, exchange-at, exchanged_free, eqb-false)

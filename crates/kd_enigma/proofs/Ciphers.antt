@@ -1,8 +1,9 @@
 -- The cipher, letter by letter.
+use Rattle.std.proofs.lemmas.Grind.{common_steps}
 use Rattle.std.proofs.Common.{zero, ◌≡◌, ℕ, suc, ◌+◌, ◌<◌, List, [], ◌∷◌, ◌++◌, length, map, get_or, slice_index, All, refl, sym, ap, ◌∙◌, arith, add-zero, add-suc}
 use Rattle.std.proofs.lemmas.List.Elements.{All-head, All-tail}
 use Rattle.std.specs.List.{enumerate_from}
-use Rattle.std.proofs.lemmas.List.{get_or-map, length-map}
+use Rattle.std.proofs.lemmas.List.{get_or-map}
 use Rattle.std.proofs.lemmas.List.FromFn.{get_or-enumerate_from, length-enumerate_from}
 use Rattle.kd_tables.specs.declared.wheel.Wheel.{Wheel}
 use Rattle.kd_step.specs.Stepper.{next_window, window_after}
@@ -18,8 +19,7 @@ abbrev cipher_from : RotorKey → ℕ → List ℕ → List ℕ
 cipher_from key start text = map (λ numbered. lit key numbered.0 numbered.1) (enumerate_from start text)
 
 pub length-cipher : (key : RotorKey) (text : List ℕ) → length (enigma_cipher key text) ≡ length text
-length-cipher key text =
-    length-map (enumerate_from 1 text) (λ numbered. slice_index (path key (window_after key.wheels key.window numbered.0)) numbered.1) ∙ length-enumerate_from 1 text
+length-cipher key text = grind (arith, common_steps, path, key, length-enumerate_from)
 
 pub cipher-at : (key : RotorKey) (text : List ℕ) (k : ℕ) → k < length text
     → get_or (enigma_cipher key text) k 0 ≡ slice_index (path key (window_after key.wheels key.window (suc k))) (get_or text k 0)
@@ -47,11 +47,7 @@ twice_from sound key start (letter ∷ text) board h =
 -- what a press after so many letters lights up is the next letter of the cipher
 pub next_letter_of_cipher : (key : RotorKey) (text : List ℕ) (n letter light : ℕ) → n < length text → letter ≡ get_or text n 0
     → enigma_cipher (key_after key n) (letter ∷ []) ≡ light ∷ [] → light ≡ get_or (enigma_cipher key text) n 0
-next_letter_of_cipher key text n letter light lt is e =
-    ap (λ l. get_or l 0 0) (sym e)
-    ∙ ap (λ p. slice_index p letter) (path-turned key (window_after key.wheels key.window n) (window_after key.wheels key.window (suc n)))
-    ∙ ap (slice_index (path key (window_after key.wheels key.window (suc n)))) is
-    ∙ sym (cipher-at key text n lt)
+next_letter_of_cipher key text n letter light lt is e = grind (arith, path-turned, key, path, cipher-at)
 
 -- ---- a text in two pieces
 
@@ -66,16 +62,11 @@ key_after_sum key m n = ap (key_turned key) (window_after_sum key.wheels key.win
 later : (key : RotorKey) (m start : ℕ) (text : List ℕ) → cipher_from key (m + start) text ≡ cipher_from (key_after key m) start text
 later key m start [] = refl
 later key m start (letter ∷ text) =
-    let shown = window_after key.wheels (window_after key.wheels key.window m) start in
-    ap (λ l. l ∷ cipher_from key (m + start + 1) text)
-    (ap (λ w. slice_index (path key w) letter) (sym (window_after_sum key.wheels key.window m start))
-    ∙ ap (λ p. slice_index p letter) (sym (path-turned key (window_after key.wheels key.window m) shown)))
-    ∙ ap (λ rest. lit (key_after key m) start letter ∷ rest) (ap (λ n. cipher_from key n text) (omega arith) ∙ later key m (start + 1) text)
+    grind (arith, key, path, window_after_sum, path-turned, later key m (start + 1) text)
 
 append_from : (key : RotorKey) (start : ℕ) (first rest : List ℕ) → cipher_from key start (first ++ rest) ≡ cipher_from key start first ++ cipher_from key (start + length first) rest
 append_from key start [] rest = ap (λ n. cipher_from key n rest) (sym (add-zero start))
-append_from key start (letter ∷ first) rest =
-    ap (λ ls. lit key start letter ∷ ls) (append_from key (start + 1) first rest ∙ ap (λ n. cipher_from key (start + 1) first ++ cipher_from key n rest) (omega arith))
+append_from key start (letter ∷ first) rest = grind (arith, key, append_from key (start + 1) first rest)
 
 pub cipher-append : (key : RotorKey) (first rest : List ℕ)
     → enigma_cipher key (first ++ rest) ≡ enigma_cipher key first ++ enigma_cipher (key_after key (length first)) rest

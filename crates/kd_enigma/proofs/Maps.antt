@@ -1,5 +1,5 @@
 -- Maps as they lie in 32 lanes.
-use Rattle.std.proofs.Common.{◌≡◌, ℕ, ◌+◌, ◌-◌, ◌<◌, ◌≤◌, List, [], ◌++◌, length, take, map, set, get_or, slice_index, w8, inl, inr, refl, sym, ap, ◌∙◌, subst, arith, length-append}
+use Rattle.std.proofs.Common.{◌≡◌, ℕ, ◌+◌, ◌-◌, ◌<◌, ◌≤◌, List, [], ◌++◌, length, take, map, set, get_or, slice_index, w8, inl, inr, refl, sym, ap, ◌∙◌, arith, length-append, rules}
 use Rattle.std.proofs.lemmas.Bool.{cases_lt}
 use Rattle.std.proofs.lemmas.List.{ext_get_or, get_or-take, get_or_append_left, get_or-append_right, length-take-le}
 use Rattle.std.proofs.lemmas.List.Edits.{fill_by_more}
@@ -42,15 +42,10 @@ followed_by_is_safe lanes h =
     SwzOk-from_below w8 32 1 32 0 lanes refl (omega (arith, h.size)) (Each1-from_get_or (λ j. j < 32) lanes 0 (λ k lt. lane_within lanes h k (omega (arith, h.size))))
 
 lane-at : (first second : List ℕ) → AreLanes first → (k : ℕ) → k < 32 → slice_index (swz_l w8 32 second 0 first) k ≡ slice_index second (slice_index first k)
-lane-at first second h k lt =
-    get_or-swz_l_below w8 32 second 0 first k (omega (arith, h.size)) (lane_within first h k lt)
-    ∙ ap (slice_index second) (omega arith)
+lane-at first second h k lt = grind (arith, get_or-swz_l_below, lane_within)
 
 pub followed_by_has_lanes : (first second : List ℕ) → AreLanes first → AreLanes second → AreLanes (swz_l w8 32 second 0 first)
-followed_by_has_lanes first second h g =
-    lanes_of (swz_l w8 32 second 0 first) (length-swz_l w8 32 second 0 first ∙ h.size)
-    (λ k lt. subst (λ n. n < 26) (sym (lane-at first second h k (omega arith))) (g.letters (slice_index first k) (h.letters k lt)))
-    (λ k low lt. lane-at first second h k lt ∙ ap (slice_index second) (lane_behind first h k low lt) ∙ lane_behind second g k low lt)
+followed_by_has_lanes first second h g = search (rules, lanes_of, length-swz_l, lane-at, lane_behind)
 
 pub followed_by_is : (first second : List ℕ) → AreLanes first → AreLanes second → take 26 (swz_l w8 32 second 0 first) ≡ followed_by (take 26 first) (take 26 second)
 followed_by_is first second h g =
@@ -66,12 +61,8 @@ followed_by_is first second h g =
 -- ---- a map for each letter in a window
 
 pub read_at : (f : ℕ → List ℕ) (maps : List (List ℕ)) (window place : ℕ) (d : List ℕ) → maps ≡ map f alphabet → place ≡ window → window < 26 → get_or maps place d ≡ f window
-read_at f maps window place d is here lt =
-    ap (λ ms. get_or ms place d) is ∙ ap (λ k. get_or (map f alphabet) k d) here
-    ∙ get_or-map-range_with_len f 0 26 window window d lt (omega arith)
+read_at f maps window place d is here lt = grind (arith, get_or-map-range_with_len)
 
 pub made_more : (f : ℕ → List ℕ) (maps : List (List ℕ)) (window place : ℕ) (made : List ℕ) → length maps ≡ 26 → window < 26 → place ≡ window → made ≡ f window
     → ((k : ℕ) → k < window → get_or maps k [] ≡ f k) → (k : ℕ) → k < window + 1 → get_or (set maps place made) k [] ≡ f k
-made_more f maps window place made size lt here is so_far k more =
-    ap (λ n. get_or (set maps n made) k []) here ∙ ap (λ m. get_or (set maps window m) k []) is
-    ∙ fill_by_more f maps window [] (omega arith) so_far k more
+made_more f maps window place made size lt here is so_far k more = grind (arith, fill_by_more)

@@ -1,5 +1,5 @@
 -- Turned permutations.
-use Rattle.std.proofs.Common.{◌≡◌, ℕ, ◌-◌, ◌<◌, List, length, slice_index, All, sym, ap, ◌∙◌, subst, arith}
+use Rattle.std.proofs.Common.{◌≡◌, ℕ, ◌-◌, ◌<◌, List, length, slice_index, All, sym, ap, ◌∙◌, subst, arith, rules}
 use Rattle.std.proofs.lemmas.List.{ext_get_or, get_or-map, length-map}
 use Rattle.std.proofs.lemmas.List.FromFn.{get_or-range_with_len}
 use Rattle.kd_tables.specs.Permutation.{alphabet, followed_by, inverse, shift, IsPermutation26}
@@ -37,11 +37,4 @@ grouped p q r h size =
 -- what undoes a turned permutation is what undoes the permutation, turned by as much
 pub turned_undone : PermutationLaws → (by : ℕ) (p : List ℕ) → by < 26 → IsPermutation26 p → inverse (turned by p) ≡ turned by (inverse p)
 unfolding turned
-turned_undone laws by p lt h =
-    let there = shift by in
-    let again = shift (26 - by) in
-    let back = inverse p in
-    laws.product_undone (followed_by there p) again (laws.products there p (laws.shifts by) h) (laws.shifts (26 - by))
-    ∙ ap (followed_by (inverse again)) (laws.product_undone there p (laws.shifts by) h ∙ ap (followed_by back) (laws.shift_undone by (omega arith)))
-    ∙ ap (λ s. followed_by s (followed_by back again)) (laws.shift_undone (26 - by) (omega arith) ∙ ap shift (omega arith))
-    ∙ sym (grouped there back again (laws.shifts by) (laws.inverses p h).size)
+turned_undone laws by p lt h = search (rules, grouped)

@@ -79,29 +79,18 @@ pub path-at : TablesAreSound → (key : RotorKey) (window : List ℕ) (x : ℕ) 
     (slice_index (reflector_of key.reflector) (through (reverse (rotors key.wheels key.rings window)) (slice_index key.plugs x))))
 unfolding path
 path-at sound key window x board lt =
-    let ws = rotors key.wheels key.rings window in
-    let turns = rotors_permute sound key.wheels key.rings window in
-    let plugs = board.permutation in
-    let reflector = sound.reflector key.reflector in
-    products-at (key.plugs ∷ reverse ws ++ reflector_of key.reflector ∷ map inverse ws ++ key.plugs ∷ []) x
-    (all_append (key.plugs ∷ reverse ws ++ reflector_of key.reflector ∷ map inverse ws) (key.plugs ∷ [])
-    (all_append (key.plugs ∷ reverse ws) (reflector_of key.reflector ∷ map inverse ws) (plugs, all_inward ws turns) (reflector, all_outward sound.laws ws turns)) (plugs, tt)) lt
-    ∙ through-append (key.plugs ∷ reverse ws ++ reflector_of key.reflector ∷ map inverse ws) (key.plugs ∷ []) x
-    ∙ ap (slice_index key.plugs) (through-append (key.plugs ∷ reverse ws) (reflector_of key.reflector ∷ map inverse ws) x)
+    grind (arith, rotors_permute, sound.reflector, products-at, all_append, all_inward, all_outward, through-append)
 
 -- ---- the way around
 
 enclosed-at : (core w : List ℕ) (x : ℕ) → length w ≡ 26 → x < 26 → slice_index (enclosed core w) x ≡ slice_index (inverse w) (slice_index core (slice_index w x))
-enclosed-at core w x size lt =
-    product-at (followed_by w core) (inverse w) x (product-size w core ∙ size) lt ∙ ap (slice_index (inverse w)) (product-at w core x size lt)
+enclosed-at core w x size lt = grind (arith, product-at, product-size, size)
 
 around-at : (core : List ℕ) (ws : List (List ℕ)) (x : ℕ) → AllByRecursion IsPermutation26 ws → x < 26
     → slice_index (around core ws) x ≡ through (map inverse ws) (slice_index core (through (reverse ws) x))
 around-at core [] x h lt = refl
 around-at core (w ∷ ws) x h lt =
-    around-at (enclosed core w) ws x h.1 lt
-    ∙ ap (through (map inverse ws)) (enclosed-at core w (through (reverse ws) x) h.0.size (through_within (reverse ws) x (all_inward ws h.1) lt)
-    ∙ ap (λ z. slice_index (inverse w) (slice_index core z)) (sym (inward_cons w ws x)))
+    grind (arith, around-at (enclosed core w) ws x h.1 lt, enclosed-at, through_within, all_inward, inward_cons)
 
 around_last : (core : List ℕ) (ws : List (List ℕ)) (w : List ℕ) → around core (ws ++ w ∷ []) ≡ enclosed (around core ws) w
 around_last core [] w = refl
@@ -170,10 +159,7 @@ module _ (sound : TablesAreSound) (key : RotorKey) (window : List ℕ) (board : 
 
   -- where the letter that comes out is put in, it goes in to where it came from
   in_again : (x : ℕ) → x < 26 → go_in (slice_index (path key window) x) ≡ reflect (go_in x)
-  in_again x lt =
-      ap go_in (path-at sound key window x board lt)
-      ∙ ap (through (reverse ws)) (board_returns key.plugs (through (map inverse ws) (reflect (go_in x))) board (out_lt _ ((sound.reflector key.reflector).each_once.within _ (in_lt x lt))))
-      ∙ in_of_back sound.laws ws (reflect (go_in x)) (rotors_permute sound key.wheels key.rings window) ((sound.reflector key.reflector).each_once.within _ (in_lt x lt))
+  in_again x lt = grind (arith, path-at, key, board, board_returns, out_lt, in_lt, in_of_back, rotors_permute)
 
   pub path_returns : (x : ℕ) → x < 26 → slice_index (path key window) (slice_index (path key window) x) ≡ x
   path_returns x lt =

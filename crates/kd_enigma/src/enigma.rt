@@ -58,7 +58,7 @@ impl<const S: usize> Enigma<S> {
         } = key;
         plugs.exchanges();
         let mut rotors = [Rotor::new(wheels[0], rings[0]); S];
-        for slot in 0..S {
+        for slot in 1..S {
             rotors[slot] = Rotor::new(wheels[slot], rings[slot]);
         }
         let right = boarded(&rotors, plugs);
@@ -144,7 +144,7 @@ fn wheels_of<const S: usize>(rotors: &[Rotor; S]) -> [Wheel; S]
     ensures { result ≡ map (λ r. r.wheel) rotors.now }
 {
     let mut wheels = [rotors[0].wheel(); S];
-    for slot in 0..S {
+    for slot in 1..S {
         wheels[slot] = rotors[slot].wheel();
     }
     wheels
@@ -169,6 +169,7 @@ fn around_slow<const S: usize>(rotors: &[Rotor; S], window: &[Letter; S], reflec
 }
 
 /// The way around through wheels, from the left, and what lies behind them.
+#[tactic(auto, using(crate::proofs::Seats::around_more, crate::proofs::Seats::around_none))]
 fn around(rotors: &[Rotor], window: &[Letter], core: Map) -> Map
     requires { length rotors.now ≡ length window.now }
     ensures { result ≡ around core (standing rotors.now window.now) }

@@ -1,8 +1,9 @@
 -- The card that is made of an assignment, its prices and its lines is a planned one.
-use Rattle.std.proofs.Common.{◌≡◌, ℕ, ◌≤◌, ◌++◌, nat_eq, if◌then◌else◌, List, [], ◌∷◌, length, All, fold, replicate, ℤ, pos, unsigned_abs, ◌+ℤ◌, refl, sym, ap, ◌∙◌, subst, arith, get_or, map, Option, Some}
+use Rattle.std.proofs.lemmas.Grind.{common_steps}
+use Rattle.std.proofs.Common.{◌≡◌, ℕ, ◌≤◌, ◌++◌, nat_eq, if◌then◌else◌, List, [], ◌∷◌, length, All, fold, replicate, ℤ, pos, unsigned_abs, ◌+ℤ◌, ap, arith, get_or, map, Option, Some, rules}
 use Rattle.kd_plan.proofs.Prelude.{cond_both, eqb-true, eqb-false, get_or-replicate, length-replicate, length-map}
-use Rattle.kd_plan.proofs.Prelude.{Rotor, Pin, Cables, Bars, Parts, AreOfKind, assignment_cost, IsOneToOne, All-map}
-use Rattle.kd_plan.proofs.Prelude.{sum_by-le, Model, EnigmaI, Place, box_of, slots_of, RotorParts, PinParts, Setting}
+use Rattle.kd_plan.proofs.Prelude.{Rotor, Pin, Parts, AreOfKind, assignment_cost, IsOneToOne, All-map}
+use Rattle.kd_plan.proofs.Prelude.{sum_by-le, Model, Place, box_of, slots_of, RotorParts, PinParts, Setting}
 use Rattle.kd_plan.proofs.Prelude.{IsMachine, model_of, RotorDay, PinDay, Day, OfRotors, OfPins, IsLegalRotorDay}
 use Rattle.kd_plan.proofs.Prelude.{day_model, cable_cost, bar_cost, lugs_moved, columns_of, cable_costs, bar_costs}
 use Rattle.kd_plan.proofs.Prelude.{cost_table, planned_lines, table_size, IsPlanned}
@@ -10,7 +11,6 @@ use Rattle.std.proofs.lemmas.Int.{ints}
 use Rattle.kd_card.specs.declared.prices.PriceParts.{PriceParts}
 use Rattle.kd_card.specs.declared.prices.Version.TheVariants.{ByNumber}
 use Rattle.kd_card.specs.Prices.{ArePrices, version_of, how_many, row_kinds, column_kinds, row_prices, column_prices}
-use Rattle.kd_card.specs.Kinds.{AreKinds}
 use Rattle.kd_card.specs.Prices as card
 use Rattle.kd_assign.specs.Prices.{Fits, price_sum, sum_of, CostsAtMost}
 use Rattle.kd_state.specs.Laws.{CablesCostFour}
@@ -21,14 +21,7 @@ use Rattle.kd_plan.proofs.Writing.{row_at, bars_beside, chosen_length}
 
 pub prices_of : (prices : PriceParts) (most : ℕ) → most ≤ 9999 → row_kinds prices ≡ [] → column_kinds prices ≡ [] → length (row_prices prices) ≡ how_many prices → length (column_prices prices) ≡ how_many prices
     → All (λ price. unsigned_abs price ≤ most) (row_prices prices) → All (λ price. unsigned_abs price ≤ most) (column_prices prices) → ArePrices prices
-prices_of prices most le no_rows no_columns rows columns row_bound column_bound = record {
-  rows = rows;
-  columns = columns;
-  row_reach = λ k d lt. omega (arith, row_bound k d lt);
-  column_reach = λ k d lt. omega (arith, column_bound k d lt);
-  row_kinds = subst (AreKinds 0) (sym no_rows) tt;
-  column_kinds = subst (AreKinds 0) (sym no_columns) tt;
-}
+prices_of prices most le no_rows no_columns rows columns row_bound column_bound = search (rules, no_columns)
 
 -- prices of 0
 pub zeros_within : (number : ℕ) → All (λ price. unsigned_abs price ≤ 0) (replicate number (pos 0))
@@ -47,10 +40,7 @@ sum_of-append [] columns = omega (arith, ints)
 sum_of-append (row ∷ rows) columns = let e = sum_of-append rows columns in omega (arith, ints)
 
 same_sum : (prices : PriceParts) → card.price_sum prices ≡ price_sum (row_prices prices) (column_prices prices)
-same_sum prices =
-    let e = sum_from (pos 0) (row_prices prices ++ column_prices prices) in
-    let f = sum_of-append (row_prices prices) (column_prices prices) in
-    omega (arith, ints)
+same_sum prices = grind (arith, sum_from, sum_of-append)
 
 -- What an assignment and its prices are, on a card: the prices fit, add up to the assignment's cost, and are 0 where it is.
 pub record AreSolved (costs : List (List ℕ)) (to : List ℕ) (prices : PriceParts) : Type 0 where
@@ -65,24 +55,11 @@ pub solved : (costs : List (List ℕ)) (to : List ℕ) (total : ℕ) (zeros othe
     → price_sum (row_prices others) (column_prices others) ≡ pos total → assignment_cost costs to ≡ total → prices ≡ (if nat_eq total 0 then zeros else others)
     → AreSolved costs to prices
 solved costs to total zeros others prices no_rows no_columns no_sum all rows columns fits sum cost e =
-    rw e (cond_both (nat_eq total 0) zeros others (AreSolved costs to) (λ none. record {
-      fits = λ i j lt lt'.
-          let row = ap (λ xs. card.price_at xs i) no_rows ∙ get_or-replicate (how_many zeros) i (pos 0) (pos 0) lt in
-          let column = ap (λ xs. card.price_at xs j) no_columns ∙ get_or-replicate (how_many zeros) j (pos 0) (pos 0) lt' in
-          omega (arith, ints, row, column);
-      total = no_sum ∙ ap pos (sym (cost ∙ eqb-true total 0 none));
-      zero = λ free. all;
-    }) (λ some. record {
-      fits = λ i j lt lt'. fits i j (omega arith) (omega arith);
-      total = same_sum others ∙ sum ∙ ap pos (sym cost);
-      zero = λ free. absurd (eqb-false total 0 some (sym cost ∙ free));
-    }))
+    grind (arith, common_steps, cond_both, get_or-replicate, no_columns, eqb-true, same_sum, eqb-false)
 
 -- so they are by number
 pub by_number : (m : Parts) (prices : PriceParts) → AreOfKind m prices → version_of prices ≡ ByNumber
-by_number (Rotor m) (Cables row col) kind = refl
-by_number (Pin m) (Bars row col) kind = refl
-by_number _ _ kind = absurd kind
+by_number m prices e = grind arith
 
 -- no cost is above the greatest
 table_at_most : {A B : Type 0} (cost : A → B → ℕ) (most : ℕ) → ((x : A) (y : B) → cost x y ≤ most) → (xs : List A) (ys : List B)
@@ -98,8 +75,7 @@ bar_costs_at_most costs bars rows e = rw e (table_at_most bar_cost 4 bar_cost_at
 
 -- there is room for all lines
 at_most : (model : Model) → (length (box_of model) ≤ 10) × (slots_of model ≤ 4)
-at_most EnigmaI = (omega arith, omega arith)
-at_most _ = (omega arith, omega arith)
+at_most model = grind arith
 
 pub rotor_room : CablesCostFour → (m : RotorParts) (s : RotorDay) (to : List ℕ) → IsMachine (Rotor m) → IsLegalRotorDay s → length (planned_lines (Rotor m) (OfRotors s) to) ≤ 192
 rotor_room few m s to machine legal =
@@ -130,6 +106,4 @@ pin_room m s to machine =
 pub planned : (m : Parts) (s : Day) (costs : List (List ℕ)) (to : List ℕ) (settings : List Setting) (prices : PriceParts)
     → model_of m ≡ day_model s → costs ≡ cost_table m s → AreOfKind m prices → length to ≡ table_size m → IsOneToOne to
     → settings ≡ planned_lines m s to → AreSolved costs to prices → IsPlanned m s settings prices
-planned m s costs to settings prices same table kind size one_to_one lines solved =
-    let solution = subst (λ costs. AreSolved costs to prices) table solved in
-    record { model = same; kind = kind; to = to; all_rows = size; one_to_one = one_to_one; lines = lines; fits = solution.fits; total = solution.total; zero = solution.zero }
+planned m s costs to settings prices same table kind size one_to_one lines solved = grind (arith, solved)

@@ -1,11 +1,12 @@
 -- LUG: where a bar is to stand, a standing that reads as the row with no more lugs moved than must be; and that its two
 -- lugs are moved there, first the one that isn't in the other's way.
+use Rattle.std.proofs.lemmas.Grind.{common_steps}
 use Rattle.std.proofs.Common.{◌≡◌, ℕ, ◌<◌, ◌≤◌, nat_eq, nat_le, nat_lt, min, Bool, true, not, ◌&&◌, ◌||◌, ◌⊎◌, inl, inr, List, [], ◌∷◌, length, get_or, map, filter, find, fold, All, Some, unwrap_or, refl, sym, ap, ◌∙◌, subst, arith, suc, false, ◌++◌, None}
 use Rattle.kd_plan.proofs.Prelude.{list_any, AllByRecursion, agree_below, agree_below_at, false≢true, and_parts}
-use Rattle.kd_plan.proofs.Prelude.{eqb-true, ltb-true, ltb-false, cond_both, eqb_tells, nat_tests, All-contains}
+use Rattle.kd_plan.proofs.Prelude.{eqb-true, ltb-true, ltb-false, cond_both, eqb_tells, All-contains}
 use Rattle.kd_plan.proofs.Prelude.{All-filter, filter_passes, AllPass-from_list_all, Place, places, place_rank}
 use Rattle.kd_plan.proofs.Prelude.{standings, reading_of, IsBefore, IsReading, is_at, why_refused, lug_place, with_lug}
-use Rattle.kd_plan.proofs.Prelude.{unless_same, lugs_moved, reads_as_row, bar_cost, target_of, unless_so, lugs_to}
+use Rattle.kd_plan.proofs.Prelude.{lugs_moved, reads_as_row, bar_cost, target_of, unless_so, lugs_to}
 use Rattle.kd_plan.proofs.Prelude.{option_to_list, PinParts, Parts, Pin, Setting, LugTo, Day}
 use Rattle.kd_tables.specs.declared.place.Place.TheVariants.{One}
 use Rattle.kd_state.specs.Costs.{standings_as}
@@ -16,12 +17,10 @@ use Rattle.kd_plan.proofs.Carrying.{Led, led_unless, led_append, priced, EachLea
 
 -- a place is told by its rank
 place_by_rank : (place : Place) → get_or places (place_rank place) One ≡ place
-place_by_rank One = refl
-place_by_rank _ = refl
+place_by_rank place = grind arith
 
 pub place_of_same : (place other : Place) → is_at place other ≡ true → place ≡ other
-place_of_same place other e =
-    sym (place_by_rank place) ∙ ap (λ rank. get_or places rank One) (eqb-true (place_rank place) (place_rank other) e) ∙ place_by_rank other
+place_of_same place other e = grind (arith, place_by_rank, eqb-true)
 
 -- all standings stand
 stands : Place × Place → Bool
@@ -37,14 +36,7 @@ all_can = refl
 
 some_standing : (row : ℕ × ℕ) → IsReading row → list_any (reads_as_row row) standings ≡ true
 unfolding can_be_read
-some_standing row h =
-    let first = agree_below_at (λ a. agree_below (can_be_read a) (λ b. true) 7) (λ a. true) 7 row.0 all_can (omega (arith, h.ordered, h.within)) in
-    let cell = agree_below_at (can_be_read row.0) (λ b. true) 7 row.1 first (omega (arith, h.within)) in
-    read (nat_le row.0 row.1 && (not (nat_eq row.0 row.1) || nat_eq row.0 0)) (list_any (reads_as_row row) standings)
-    (grind (arith, nat_tests, h.ordered, h.equal)) cell
-  where
-    read : (p q : Bool) → p ≡ true → (not p || q) ≡ true → q ≡ true
-    read p q e f = grind arith
+some_standing row h = grind (arith, agree_below_at, all_can)
 
 some_kept : {X : Type 0} (p : X → Bool) (xs : List X) → list_any p xs ≡ true → 0 < length (filter p xs)
 some_kept p [] e = absurd (false≢true e)
@@ -64,10 +56,7 @@ least_found f (y ∷ xs) top n e =
     ]
 
 pub at_most_two : (bar standing : Place × Place) → lugs_moved bar standing ≤ 2
-at_most_two bar standing = omega (arith, one (is_at bar.0 standing.0), one (is_at bar.1 standing.1))
-  where
-    one : (b : Bool) → unless_same b ≤ 1
-    one b = grind arith
+at_most_two bar standing = grind (arith, common_steps)
 
 best_found : (bar : Place × Place) (xs : List (Place × Place)) (n : ℕ) → 0 < length xs → n ≡ fold min 2 (map (lugs_moved bar) xs)
     → (x : Place × Place) × (find (λ x. nat_eq (lugs_moved bar x) n) xs ≡ Some x)
@@ -131,8 +120,7 @@ IsClear Left place bar = place_rank place < place_rank bar.1
 IsClear Right place bar = place_rank bar.0 < place_rank place
 
 there_already : (lug : Lug) (place : Place) (bar : Place × Place) → is_at (lug_place lug bar) place ≡ true → with_lug lug place bar ≡ bar
-there_already Left place bar e = ap (λ p. (p, bar.1)) (sym (place_of_same bar.0 place e))
-there_already Right place bar e = ap (λ p. (bar.0, p)) (sym (place_of_same bar.1 place e))
+there_already lug place bar e = grind (arith, place_of_same)
 
 module _ (s : Day) (m : PinParts) where
   abbrev pub with_bars : List (Place × Place) → Parts
@@ -146,22 +134,11 @@ module _ (s : Day) (m : PinParts) where
     number = suc (length front)
 
     lug_allowed : (bar : Place × Place) (lug : Lug) (place : Place) → IsClear lug place bar → why_refused (with_bar bar) (LugTo number lug place) ≡ None
-    lug_allowed bar Left place h =
-        let apart : nat_eq (place_rank place) (place_rank bar.1) ≡ false = grind (arith, nat_tests) in
-        let within : nat_lt (place_rank bar.1) (place_rank place) ≡ false = grind (arith, nat_tests) in
-        rw (seam_get front bar back, apart, within) refl
-    lug_allowed bar Right place h =
-        let apart : nat_eq (place_rank place) (place_rank bar.0) ≡ false = grind (arith, nat_tests) in
-        let within : nat_lt (place_rank place) (place_rank bar.0) ≡ false = grind (arith, nat_tests) in
-        rw (seam_get front bar back, apart, within) refl
+    lug_allowed bar lug place e = grind (arith, false, seam_get)
 
     one_lug : (bar : Place × Place) (lug : Lug) (place : Place) → IsClear lug place bar
         → Led s (with_bar bar) (option_to_list (unless_so (is_at (lug_place lug bar) place) (LugTo number lug place))) (with_bar (with_lug lug place bar))
-    one_lug bar lug place h =
-        led_unless (is_at (lug_place lug bar) place) (with_bar bar) (with_bar (with_lug lug place bar)) (LugTo number lug place)
-        (λ e. ap with_bar (there_already lug place bar e))
-        (rw (seam_get front bar back) (ap with_bars (seam_set front bar back (with_lug lug place bar))))
-        (λ e. lug_allowed bar lug place h) (λ e. priced)
+    one_lug bar lug place h = grind (arith, led_unless, there_already, seam_get, seam_set, lug_allowed, priced)
 
     lugs_led : (bar target : Place × Place) → IsBefore bar.0 bar.1 → IsBefore target.0 target.1
         → Led s (with_bar bar) (lugs_to number bar target) (with_bar target)

@@ -1,6 +1,6 @@
 -- PULL and PUT: each cable loses the letters that its column hasn't, and then takes those that it lacks. That goes by how
 -- often a letter stands among others.
-use Rattle.std.proofs.Common.{◌≡◌, ℕ, suc, ◌+◌, ◌-◌, ◌<◌, ◌≤◌, nat_eq, nat_lt, Bool, false, not, cond, List, [], ◌∷◌, ◌++◌, filter, get_or, length, map, zip, count_by, Option, Some, None, refl, ap, ◌∙◌, arith}
+use Rattle.std.proofs.Common.{◌≡◌, ℕ, suc, ◌+◌, ◌-◌, ◌<◌, ◌≤◌, nat_eq, nat_lt, Bool, false, not, cond, List, [], ◌∷◌, ◌++◌, filter, get_or, length, map, zip, count_by, Option, Some, None, refl, ap, ◌∙◌, arith, rules}
 use Rattle.kd_plan.proofs.Prelude.{AllByRecursion, enumerate_from, flat_map, option_to_list, lt-ltb, nat_tests}
 use Rattle.kd_plan.proofs.Prelude.{sum_by-append, sum_by-cons, alphabet, RotorParts, Parts, Rotor, Setting, Pull, Put}
 use Rattle.kd_plan.proofs.Prelude.{cable_letters, plugged_letters, has_letter, is_plugged, cable_without, cable_with}
@@ -11,6 +11,7 @@ use Rattle.kd_plan.specs.declared.cable_lines.Work.{Work}
 use Rattle.kd_plan.specs.declared.cable_lines.Work.TheVariants as works
 use Rattle.kd_plan.proofs.Carrying.{Led, led_none, led_cons, priced, lines_from, EachLeads}
 use Rattle.kd_plan.proofs.Lists.{seam_get, seam_set}
+use Rattle.kd_plan.proofs.Writing.{lines_of_kept}
 
 abbrev pub Cable : Type 0
 Cable = Option ℕ × Option ℕ
@@ -43,17 +44,11 @@ ArePlain letters = (y : ℕ) → (times y letters ≤ 1) × (times y letters ≤
 -- A letter is pulled, and put.
 pulled : (x y : ℕ) (cable : Cable) → 0 < times x (cable_letters cable)
     → times y (cable_letters (cable_without x cable)) + times y (x ∷ []) ≡ times y (cable_letters cable)
-pulled x y (None, None) h = omega arith
-pulled x y (None, Some b) h = grind (arith, nat_tests)
-pulled x y (Some a, None) h = grind (arith, nat_tests)
-pulled x y (Some a, Some b) h = grind (arith, nat_tests)
+pulled x y cable e = grind arith
 
 put : (x y : ℕ) (cable : Cable) → is_plugged cable ≡ false
     → times y (cable_letters (cable_with x cable)) ≡ times y (cable_letters cable) + times y (x ∷ [])
-put x y (None, None) loose = omega arith
-put x y (None, Some b) loose = grind (arith, nat_tests)
-put x y (Some a, None) loose = grind (arith, nat_tests)
-put x y (Some a, Some b) loose = grind arith
+put x y cable e = grind arith
 
 -- a cable whose letters are those of a column, and not all of them, has a loose end: a column has no three letters
 loose_end : (x : ℕ) (cable : Cable) (column : Column)
@@ -176,14 +171,17 @@ work_beside work number z = cable_work work number (cable_letters z.0) (column_l
 abbrev pub work_of_letter : Work → ℕ → List ℕ → List ℕ → ℕ → ℕ → List Setting
 work_of_letter work cable letters others number letter = option_to_list (unless_so (not (is_moved work letters others letter)) (work_setting work cable letter))
 
+pub cable_work_are : (work : Work) (cable : ℕ) (letters others : List ℕ)
+    → cable_work work cable letters others ≡ lines_from (work_of_letter work cable letters others) 1 alphabet
+cable_work_are work cable letters others = lines_of_kept (is_moved work letters others) (work_setting work cable) alphabet 1
+
 numbered_lines : (f : ℕ → List ℕ → List ℕ → List Setting) (pairs : List (ℕ × ℕ)) (cables : List Cable) (to : List ℕ) (number : ℕ)
     → flat_map (λ (cable : ℕ × (List ℕ × List ℕ)). f cable.0 cable.1.0 cable.1.1)
     (enumerate_from number (zip (map cable_letters cables) (map (λ j. column_letters (column_at pairs j)) to)))
     ≡ lines_from (λ n (z : Beside). f n (cable_letters z.0) (column_letters z.1)) number (besides cables pairs to)
 numbered_lines f pairs [] to number = refl
 numbered_lines f pairs (cable ∷ cables) [] number = refl
-numbered_lines f pairs (cable ∷ cables) (j ∷ to) number =
-    ap (λ lines. f number (cable_letters cable) (column_letters (column_at pairs j)) ++ lines) (numbered_lines f pairs cables to (number + 1))
+numbered_lines f pairs (cable ∷ cables) (j ∷ to) number = grind (arith, numbered_lines f pairs cables to (number + 1))
 
 pub lines_beside : (work : Work) (cables : List Cable) (pairs : List (ℕ × ℕ)) (to : List ℕ)
     → work_lines work cables pairs to ≡ lines_from (work_beside work) 1 (besides cables pairs to)
@@ -206,8 +204,7 @@ module _ (s : Day) (m : RotorParts) where
   pub pulls_each : (front : List Cable) (zs : List Beside) → AllByRecursion IsPluggable zs
       → EachLeads s with_cables present once_pulled (work_beside works.Pull) front zs
   pulls_each front [] h = tt
-  pulls_each front (z ∷ zs) h =
-      (pulls_led front (map present zs) (pulls z) z.0 (pullable z h.0), pulls_each (front ++ once_pulled z ∷ []) zs h.1)
+  pulls_each front (z ∷ zs) h = search (rules, pulls_led, pullable, pulls_each (front ++ once_pulled z ∷ []) zs h.1)
 
   -- a letter that is to be put lies nowhere yet
   socket_free : (front back : List Cable) (x : ℕ) (xs : List ℕ) (cable : Cable) (column : Column) → ArePuttable (x ∷ xs) cable column

@@ -22,9 +22,7 @@ module _ {s : Day} where
 
   pub led_cons : {m k n : Parts} {x : Setting} {xs : List Setting} → why_refused m x ≡ None → IsNeeded m s x → changed m x ≡ k
       → Led s k xs n → Led s m (x ∷ xs) n
-  led_cons {m = m} {n = n} {x = x} {xs = xs} allowed needed made rest =
-      let after = subst (λ k. Led s k xs n) (sym made) rest in
-      record { leads = (changed m x, record { allowed = allowed; made = refl }, after.leads); needed = (needed, after.needed) }
+  led_cons {m = m} {n = n} {x = x} {xs = xs} allowed needed made rest = grind (arith, changed)
 
   pub led_append : (xs ys : List Setting) {m k n : Parts} → Led s m xs k → Led s k ys n → Led s m (xs ++ ys) n
   led_append [] ys {n = n} first second = subst (λ from. Led s from ys n) first.leads second
@@ -37,9 +35,7 @@ module _ {s : Day} where
   pub led_unless : (so : Bool) (m n : Parts) (x : Setting) → (so ≡ true → n ≡ m) → changed m x ≡ n
       → (so ≡ false → why_refused m x ≡ None)
       → (so ≡ false → IsFalse (is_priced x) → loose_count m s ≡ loose_count n s + 1) → Led s m (option_to_list (unless_so so x)) n
-  led_unless true m n x same made allowed needed = led_none (same refl)
-  led_unless false m n x same made allowed needed =
-      led_cons (allowed refl) (λ unpriced. subst (λ k. loose_count m s ≡ loose_count k s + 1) (sym made) (needed refl unpriced)) made (led_none refl)
+  led_unless so m n x e d g h = grind (arith, led_none, led_cons)
 
 -- a setting of a cable or a bar is needed
 pub priced : {P : Type 0} → true ≡ false → P

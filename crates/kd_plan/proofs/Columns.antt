@@ -8,7 +8,7 @@ use Rattle.kd_plan.proofs.Prelude.{slice_get_within, slice_get-get_or, get_or_fr
 use Rattle.kd_plan.proofs.Prelude.{firsts-zip, seconds-zip, cable_letters, plugged_letters, AreCables, ArePairs}
 use Rattle.kd_plan.proofs.Prelude.{column_letters, columns_of, Told}
 use Rattle.std.specs.List.{IsDistinct}
-use Rattle.std.proofs.lemmas.Grind.{flat_map-append}
+use Rattle.std.proofs.lemmas.Grind.{flat_map-append, common_steps}
 use Rattle.kd_enigma.specs.Plugs.{letters_plugged}
 use Rattle.kd_state.specs.OnKey.{Joins, IsPaired, AreThePairs}
 use Rattle.kd_plan.proofs.Cables.{Cable, Column, Beside, column_at, besides, times, times-cons, times-append, has_times, ArePlain, IsPluggable, in_columns, present, once_put, has_column}
@@ -27,8 +27,7 @@ distinct_times : (xs : List ℕ) → IsDistinct nat_eq xs → AllByRecursion (λ
 unfolding IsDistinct
 distinct_times [] h within y = (omega arith, λ lt. absurd (omega arith))
 distinct_times (x ∷ xs) h within y =
-    let rest = distinct_times xs h.1 within.1 y in
-    (grind (arith, nat_tests, times-cons y x xs, none_times x xs h.0), λ lt. grind (arith, nat_tests, times-cons y x xs, rest.1))
+    grind (arith, distinct_times xs h.1 within.1 y, times-cons y x xs, none_times x xs h.0)
 
 plain : (xs : List ℕ) → IsDistinct nat_eq xs → All (λ x. x < 26) xs → ArePlain xs
 plain xs h within y =
@@ -53,16 +52,14 @@ all_pluggable (cable ∷ cables) (column ∷ columns) h k =
 -- the letters of a day's columns are those of its pairs, and in another order they stand in them as often
 times-flat_map : (y : ℕ) (columns : List Column) → times y (flat_map column_letters columns) ≡ sum_by (λ c. times y (column_letters c)) columns
 times-flat_map y [] = refl
-times-flat_map y (column ∷ columns) =
-    simp sum_by-cons (omega (arith, times-append y (column_letters column) (flat_map column_letters columns), times-flat_map y columns))
+times-flat_map y (column ∷ columns) = grind (arith, common_steps, sum_by-cons, times-append, times-flat_map y columns)
 
 no_columns : (n : ℕ) → flat_map column_letters (replicate n None) ≡ []
 no_columns zero = refl
 no_columns (suc n) = no_columns n
 
 letters_of_columns : (pairs : List (ℕ × ℕ)) → flat_map column_letters (columns_of pairs) ≡ letters_plugged pairs ++ []
-letters_of_columns pairs =
-    rw (flat_map-append, no_columns) (ap (λ xs. xs ++ []) (flat_map-map column_letters (λ pair. Some pair) pairs))
+letters_of_columns pairs = grind (arith, flat_map-append, no_columns, flat_map-map)
 
 -- a cable with the letters of its column is empty, or has a pair's letters
 no_letters : (xs : List ℕ) → ((y : ℕ) → times y xs ≡ 0) → xs ≡ []
@@ -122,8 +119,7 @@ module _ (told : Told) (pairs : List (ℕ × ℕ)) where
     same_cables = firsts-zip cables (map (column_at pairs) to) sizes
 
     column_is : (k : ℕ) (z : Beside) → k < length beside → (get_or beside k z).1 ≡ get_or (map (column_at pairs) to) k z.1
-    column_is k z lt =
-        ap (λ (z : Beside). z.1) (get_or-zip cables (map (column_at pairs) to) k z (omega (arith, length-zip cables (map (column_at pairs) to))) (omega (arith, length-zip cables (map (column_at pairs) to))))
+    column_is k z lt = grind (arith, get_or-zip, length-zip)
 
     pub are_the_pairs : AreThePairs (map once_put beside) pairs
     are_the_pairs = record {

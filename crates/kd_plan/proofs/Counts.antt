@@ -1,5 +1,5 @@
 -- How many lines there are, and how many of them the prices speak of: as many as the pairing costs.
-use Rattle.std.proofs.Common.{◌≡◌, ℕ, ◌+◌, ◌*◌, ◌<◌, ◌≤◌, nat_eq, nat_lt, min, Bool, true, false, not, ◌&&◌, cond, List, [], ◌∷◌, ◌++◌, length, get_or, map, zip, filter_map, fold, count_by, Option, Some, None, refl, sym, ◌∙◌, subst, arith, length-append}
+use Rattle.std.proofs.Common.{◌≡◌, ℕ, ◌+◌, ◌*◌, ◌<◌, ◌≤◌, nat_eq, nat_lt, min, Bool, true, false, not, ◌&&◌, cond, List, [], ◌∷◌, ◌++◌, length, get_or, map, zip, filter_map, fold, count_by, Option, refl, sym, ◌∙◌, subst, arith, length-append}
 use Rattle.kd_plan.proofs.Prelude.{AllByRecursion, cons_option, enumerate_from, flat_map, sum_by}
 use Rattle.kd_plan.proofs.Prelude.{option_map_or, option_to_list, cond_both, get_or-map, length-map}
 use Rattle.kd_plan.proofs.Prelude.{length-enumerate_from, sum_by-append, sum_by-cons, length-filter}
@@ -19,7 +19,9 @@ use Rattle.kd_state.specs.Costs.{standings_as}
 use Rattle.kd_plan.proofs.Cables.{Beside, pulls, puts, besides, work_beside, lines_beside}
 use Rattle.kd_plan.proofs.Bars.{BarRow, to_stand, lugs_of}
 use Rattle.kd_plan.proofs.Carrying.{lines_from}
-use Rattle.kd_plan.proofs.Writing.{wheel_found, bars_beside, lug_lines_are}
+use Rattle.kd_plan.proofs.Writing.{wheel_found, bars_beside, lug_lines_are, seat_of, seat_lines_are, ring_wanted, ring_of_wheel, ring_lines_are, turn_of, turn_lines_are, pin_of, wheel_pin_lines_are, pin_turn_of, pin_turn_lines_are}
+use Rattle.std.proofs.Common.{None, Some}
+use Rattle.kd_plan.proofs.Prelude.{option_and_then}
 use Rattle.kd_plan.specs.declared.cable_lines.Work.TheVariants as works
 
 -- so many lines at most, and so many of cables and bars
@@ -44,27 +46,16 @@ pub counted_unless : (so : Bool) (x : Setting) → is_priced x ≡ false → Are
 counted_unless true x e = record { few = omega arith; priced = refl }
 counted_unless false x e = record { few = omega arith; priced = rw e refl }
 
-one_at_most : {Y : Type 0} (o : Option Y) (ys : List Y) → length (cons_option o ys) ≤ length ys + 1
-one_at_most None ys = omega arith
-one_at_most (Some y) ys = omega arith
+counted_found : (m : RotorParts) (o : Option SheetWheel) → AreCounted (option_to_list (option_and_then (ring_wanted m) o)) 1 0
+counted_found m None = record { few = omega arith; priced = refl }
+counted_found m (Some w) = counted_unless _ _ refl
 
-pub found_at_most : {X Y : Type 0} (f : X → Option Y) (xs : List X) → length (filter_map f xs) ≤ length xs
-found_at_most f [] = omega arith
-found_at_most f (x ∷ xs) = omega (arith, one_at_most (f x) (filter_map f xs), found_at_most f xs)
-
-one_unpriced : (so : Bool) (x : Setting) (xs : List Setting) → is_priced x ≡ false → priced_count (cons_option (unless_so so x) xs) ≡ priced_count xs
-one_unpriced true x xs e = refl
-one_unpriced false x xs e = rw priced-cons (rw e (omega arith))
-
-none_priced : {X : Type 0} (so : X → Bool) (line : X → Setting) (xs : List X) → ((x : X) → is_priced (line x) ≡ false)
-    → priced_count (filter_map (λ x. unless_so (so x) (line x)) xs) ≡ 0
-none_priced so line [] h = refl
-none_priced so line (x ∷ xs) h = one_unpriced (so x) (line x) _ (h x) ∙ none_priced so line xs h
-
-pub counted_lines : {X : Type 0} (so : X → Bool) (line : X → Setting) (xs : List X) (most : ℕ) → ((x : X) → is_priced (line x) ≡ false) → length xs ≤ most
-    → AreCounted (filter_map (λ x. unless_so (so x) (line x)) xs) most 0
-counted_lines so line xs most h le =
-    record { few = omega (arith, found_at_most (λ x. unless_so (so x) (line x)) xs); priced = none_priced so line xs h }
+pub counted_each : {Z : Type 0} (lines : ℕ → Z → List Setting) → ((number : ℕ) (z : Z) → AreCounted (lines number z) 1 0)
+    → (zs : List Z) (number : ℕ) → AreCounted (lines_from lines number zs) (length zs) 0
+counted_each lines h [] number = record { few = omega arith; priced = refl }
+counted_each lines h (z ∷ zs) number =
+    let all = counted-append _ _ (h number z) (counted_each lines h zs (number + 1)) in
+    record { few = omega (arith, all.few); priced = all.priced }
 
 -- lines of cables and of bars
 pub counted_from : {Z : Type 0} (lines : ℕ → Z → List Setting) (f : Z → ℕ) → ((number : ℕ) (z : Z) → AreCounted (lines number z) (f z) (f z))
@@ -88,10 +79,6 @@ sums_add : {X : Type 0} (f g h : X → ℕ) → ((x : X) → f x + g x ≡ h x) 
 sums_add f g h e [] = refl
 sums_add f g h e (x ∷ xs) = simp sum_by-cons (omega (arith, e x, sums_add f g h e xs))
 
-apart_count : (p q : ℕ → Bool) (xs : List ℕ)
-    → count_by (λ l. p l && not (q l)) xs + count_by (λ l. q l && not (p l)) xs ≡ count_by (λ l. differ (p l) (q l)) xs
-apart_count p q xs = sums_add _ _ _ (λ l. one_letter (p l) (q l)) xs
-
 pub cable_lines : (z : Beside) → length (pulls z) + length (puts z) ≡ cable_cost z.0 z.1
 cable_lines z =
     let held = has_letter (cable_letters z.0) in
@@ -100,7 +87,7 @@ cable_lines z =
       arith,
       length-filter (λ l. held l && not (due l)) alphabet,
       length-filter (λ l. due l && not (held l)) alphabet,
-      apart_count held due alphabet,
+      sums_add _ _ _ (λ l. one_letter (held l) (due l)) alphabet,
     )
 
 -- a bar's lines are as many as lugs are moved
@@ -111,14 +98,12 @@ one_lug false number lug place = record { few = omega arith; priced = refl }
 
 pub counted_lugs : (number : ℕ) (bar target : Place × Place) → AreCounted (lugs_to number bar target) (lugs_moved bar target) (lugs_moved bar target)
 counted_lugs number bar target =
-    let left = option_to_list (unless_so (is_at bar.0 target.0) (LugTo number Left target.0)) in
-    let right = option_to_list (unless_so (is_at bar.1 target.1) (LugTo number Right target.1)) in
+    let left = one_lug (is_at bar.0 target.0) number Left target.0 in
+    let right = one_lug (is_at bar.1 target.1) number Right target.1 in
     let moved = lugs_moved bar target in
-    let first = one_lug (is_at bar.0 target.0) number Left target.0 in
-    let second = one_lug (is_at bar.1 target.1) number Right target.1 in
-    cond_both (nat_lt (place_rank target.0) (place_rank bar.1)) (left ++ right) (right ++ left) (λ lines. AreCounted lines moved moved)
-    (λ e. counted-append left right first second)
-    (λ e. let both = counted-append right left second first in record { few = omega (arith, both.few); priced = omega (arith, both.priced) })
+    cond_both (nat_lt (place_rank target.0) (place_rank bar.1)) _ _ (λ lines. AreCounted lines moved moved)
+    (λ e. counted-append _ _ left right)
+    (λ e. let both = counted-append _ _ right left in record { few = omega (arith, both.few); priced = omega (arith, both.priced) })
 
 least_at_most : (n : ℕ) (xs : List ℕ) → fold min n xs ≤ n
 least_at_most n [] = omega arith
@@ -147,18 +132,17 @@ module _ (m : RotorParts) (s : RotorDay) (to : List ℕ) where
   pub rotor_counted : AreCounted (planned_lines (Rotor m) (OfRotors s) to) (2 * length s.wheels + 1 + length (box_of m.model) + sum_by (λ z. cable_cost z.0 z.1) cables)
       (sum_by (λ z. cable_cost z.0 z.1) cables)
   rotor_counted =
-      let seats = counted_lines (λ (slot : ℕ × (Option Wheel × SheetWheel)). option_map_or (same_wheel slot.1.1.wheel) slot.1.0 false) (λ slot. Seat slot.0 slot.1.1.wheel)
-      (enumerate_from 1 (zip m.slots s.wheels)) (length s.wheels) (λ slot. refl) (omega (arith, length-enumerate_from 1 (zip m.slots s.wheels), length-zip m.slots s.wheels)) in
+      let seats = counted_each seat_of (λ n z. counted_unless _ _ refl) (zip m.slots s.wheels) 1 in
       let reflector = counted_unless (same_reflector m.reflector s.reflector) (SeatReflector s.reflector) refl in
-      let rings = counted_lines (λ (w : SheetWheel). option_map_or (nat_eq w.ring) (ring_at m w.wheel) false) (λ w. RingTo w.wheel w.ring)
-      (in_box_order m.model s.wheels) (length (box_of m.model)) (λ w. refl) (found_at_most (wheel_found s.wheels) (box_of m.model)) in
-      let turns = counted_lines (λ (slot : ℕ × SheetWheel). option_map_or (nat_eq slot.1.letter) (letter_at m slot.1.wheel) false) (λ slot. Turn slot.0 slot.1.letter)
-      (enumerate_from 1 s.wheels) (length s.wheels) (λ slot. refl) (omega (arith, length-enumerate_from 1 s.wheels)) in
+      let rings = counted_each (ring_of_wheel m s.wheels) (λ n wheel. counted_found m (wheel_found s.wheels wheel)) (box_of m.model) 1 in
+      let turns = counted_each (turn_of m) (λ n w. counted_unless _ _ refl) s.wheels 1 in
       let pulled = counted_from (work_beside works.Pull) (λ z. length (pulls z)) (λ n z. counted_map (Pull n) (pulls z) (λ x. refl)) cables 1 in
       let put = counted_from (work_beside works.Put) (λ z. length (puts z)) (λ n z. counted_map (Put n) (puts z) (λ x. refl)) cables 1 in
-      let all = counted-append _ _ (counted-append _ _ (counted-append _ _ (counted-append _ _ (counted-append _ _ seats reflector) rings) turns)
-      (counted_as (lines_beside works.Pull m.cables s.pairs to) pulled)) (counted_as (lines_beside works.Put m.cables s.pairs to) put) in
-      record { few = omega (arith, all.few, cable_sums); priced = omega (arith, all.priced, cable_sums) }
+      let all = counted-append _ _ (counted-append _ _ (counted-append _ _ (counted-append _ _ (counted-append _ _
+      (counted_as (seat_lines_are m.slots s.wheels) seats) reflector) (counted_as (ring_lines_are m s.wheels) rings))
+      (counted_as (turn_lines_are m s.wheels) turns)) (counted_as (lines_beside works.Pull m.cables s.pairs to) pulled))
+      (counted_as (lines_beside works.Put m.cables s.pairs to) put) in
+      record { few = omega (arith, all.few, cable_sums, length-zip m.slots s.wheels); priced = omega (arith, all.priced, cable_sums) }
 
 -- And of a Converter M-209.
 counted_flat : (lines : ℕ → List Setting) (most : ℕ → ℕ) → ((n : ℕ) → AreCounted (lines n) (most n) 0) → (ns : List ℕ)
@@ -178,11 +162,10 @@ module _ (m : PinParts) (s : PinDay) (to : List ℕ) where
       (sum_by (λ z. lugs_moved z.0 (to_stand z)) bars)
   pin_counted =
       let wheel : (n : ℕ) → AreCounted (wheel_pin_lines n (ring_of n) (wheel_pins m.pins n) (wheel_pins s.pins n)) (length (ring_of n)) 0 = λ n.
-      counted_lines (λ letter. not (differ (pin_on (ring_of n) (wheel_pins m.pins n) letter) (pin_on (ring_of n) (wheel_pins s.pins n) letter)))
-      (λ letter. PinTo n letter (pin_on (ring_of n) (wheel_pins s.pins n) letter)) (ring_of n) (length (ring_of n)) (λ letter. refl) (omega arith) in
-      let pins = counted_flat (λ n. wheel_pin_lines n (ring_of n) (wheel_pins m.pins n) (wheel_pins s.pins n)) (λ n. length (ring_of n)) wheel pin_wheels in
-      let turns = counted_lines (λ (z : ℕ × (ℕ × ℕ)). nat_eq z.1.0 z.1.1) (λ z. Turn z.0 z.1.1) (enumerate_from 1 (zip m.letters s.window)) (length m.letters) (λ z. refl)
-      (omega (arith, length-enumerate_from 1 (zip m.letters s.window), length-zip m.letters s.window)) in
+      counted_as (wheel_pin_lines_are n (ring_of n) (wheel_pins m.pins n) (wheel_pins s.pins n))
+      (counted_each (pin_of n (ring_of n) (wheel_pins m.pins n) (wheel_pins s.pins n)) (λ i letter. counted_unless _ _ refl) (ring_of n) 1) in
+      let pins = counted_flat _ _ wheel pin_wheels in
+      let turns = counted_as (pin_turn_lines_are m.letters s.window) (counted_each pin_turn_of (λ n z. counted_unless _ _ refl) (zip m.letters s.window) 1) in
       let lugs = counted_from lugs_of (λ z. lugs_moved z.0 (to_stand z)) (λ n z. counted_lugs n z.0 (to_stand z)) bars 1 in
       let all = counted-append _ _ (counted-append (pin_lines m.pins s.pins) _ pins turns) (counted_as (lug_lines_are m.bars s.rows to) lugs) in
-      record { few = omega (arith, all.few, all_pins); priced = omega (arith, all.priced) }
+      record { few = omega (arith, all.few, all_pins, length-zip m.letters s.window); priced = omega (arith, all.priced) }

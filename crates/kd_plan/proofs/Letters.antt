@@ -1,4 +1,5 @@
 -- Lines that each set the number at a place of a list, where it is another one, as RING and TURN do.
+use Rattle.std.proofs.lemmas.Grind.{common_steps}
 use Rattle.std.proofs.Common.{◌≡◌, ◌≢◌, ℕ, zero, suc, ◌+◌, ◌<◌, nat_eq, Bool, true, false, not, cond, List, [], ◌∷◌, length, get_or, set, filter_map, count_by, Some, None, slice_get, refl, sym, ap, ◌∙◌, subst, arith}
 use Rattle.kd_plan.proofs.Prelude.{AllByRecursion, option_map_or, eq-eqb, get_or-set_same, length-set, slice_get-get_or}
 use Rattle.kd_plan.proofs.Prelude.{sum_by-cons, Parts, Setting, why_refused, changed, Day, IsNeeded, unless_so}
@@ -36,8 +37,7 @@ module _ {X : Type 0} (place target : X → ℕ) where
   other_places : (letters : List ℕ) (p l : ℕ) (xs : List X) → AllByRecursion (λ y. place y ≢ p) xs → count_by (wrong (set letters p l)) xs ≡ count_by (wrong letters) xs
   other_places letters p l [] h = refl
   other_places letters p l (x ∷ xs) h =
-      let head = ap (λ b. cond {A = ℕ} (not b) 1 0) (right_elsewhere letters p l x h.0) in
-      omega (arith, count_by-cons (wrong (set letters p l)) x xs, count_by-cons (wrong letters) x xs, other_places letters p l xs h.1)
+      grind (arith, common_steps, right_elsewhere, count_by-cons, other_places letters p l xs h.1)
 
   -- where one of them is set right that was wrong, one fewer is wrong
   pub one_fewer : (letters : List ℕ) (xs : List X) (k : ℕ) (x : X) → k < length xs → get_or xs k x ≡ x → AreApartAt place xs → place x < length letters → right letters x ≡ false
@@ -83,14 +83,7 @@ module _ {X : Type 0} (place target : X → ℕ) where
 
     set_cond : (b : Bool) (letters : List ℕ) (x : X) (xs : List X) → right letters x ≡ b → length letters ≡ size → SetsIts x → AreApartAt place (x ∷ xs)
         → ((letters : List ℕ) → length letters ≡ size → AreSet letters xs) → AreSet letters (x ∷ xs)
-    set_cond true letters x xs e count h apart next =
-        let rest = next letters count in
-        record {
-          end = rest.end;
-          led = rw e rest.led;
-          done = (rest.kept (place x) apart.0 ∙ is_number (slice_get letters (place x)) (target x) e, rest.done);
-          kept = λ p away. rest.kept p away.1;
-        }
+    set_cond true letters x xs e count h apart next = grind (arith, next, is_number)
     set_cond false letters x xs e count h apart next =
         let after = set letters (place x) (target x) in
         let rest = next after (length-set letters (place x) (target x) ∙ count) in

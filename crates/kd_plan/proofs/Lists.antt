@@ -1,8 +1,8 @@
 -- Numbers that are one to one, and lists with one element in the middle.
-use Rattle.std.proofs.Common.{◌≡◌, ◌≢◌, ℕ, zero, suc, ◌+◌, ◌-◌, ◌<◌, List, [], ◌∷◌, ◌++◌, length, get_or, set, slice_get, map, zip, find, nat_eq, Bool, true, false, Option, Some, None, remove, All, AllPairs, Contains, IsPermutation, refl, sym, ap, ◌∙◌, subst, arith}
+use Rattle.std.proofs.Common.{◌≡◌, ◌≢◌, ℕ, zero, suc, ◌+◌, ◌-◌, ◌<◌, List, [], ◌∷◌, ◌++◌, length, get_or, set, slice_get, map, zip, find, nat_eq, Bool, true, false, Option, Some, remove, All, AllPairs, Contains, IsPermutation, refl, sym, ap, ◌∙◌, subst, arith}
 use Rattle.std.specs.List.{enumerate_from}
 use Rattle.std.proofs.lemmas.List.FromFn.{length-enumerate_from, get_or-enumerate_from}
-use Rattle.kd_plan.proofs.Prelude.{AllByRecursion, range_with_len, sum_by, option_map_or, eqb-true, false≢true, set_at}
+use Rattle.kd_plan.proofs.Prelude.{AllByRecursion, range_with_len, sum_by, option_map_or, eqb-true, set_at}
 use Rattle.kd_plan.proofs.Prelude.{recursion_from_All, length-range_with_len, get_or-range_with_len, fill_by_all}
 use Rattle.kd_plan.proofs.Prelude.{Contains-permutation, IsPermutation-refl, IsPermutation-cons, IsPermutation-trans}
 use Rattle.kd_plan.proofs.Prelude.{IsPermutation-remove, IsPermutation-map, find_at, sum_by-cons, passes_at_first}
@@ -24,8 +24,7 @@ pairing_of number to count h = record {
 
 -- as many different ones of some numbers as there are, are all of them in another order
 other_than : (x y : ℕ) (xs : List ℕ) → x ≢ y → Contains (x ∷ xs) y → Contains xs y
-other_than x y xs h (zero, lt, e) = absurd (h e)
-other_than x y xs h (suc place, lt, e) = (place, omega arith, e)
+other_than x y xs e d = grind arith
 
 reordered : (js xs : List ℕ) → AllPairs (λ j k. j ≢ k) js → All (Contains xs) js → length js ≡ length xs → IsPermutation xs js
 reordered [] [] apart among e = IsPermutation-refl []
@@ -52,8 +51,7 @@ paired d xs to h =
 
 -- a number that is found where one is sought
 pub is_number : (seen : Option ℕ) (n : ℕ) → option_map_or (nat_eq n) seen false ≡ true → seen ≡ Some n
-is_number None n e = absurd (false≢true e)
-is_number (Some other) n e = ap Some (sym (eqb-true n other e))
+is_number seen n e = grind (arith, eqb-true)
 
 -- what is found passes the test and is there
 pub found : {X : Type 0} (p : X → Bool) (xs : List X) (x : X) → find p xs ≡ Some x → (p x ≡ true) × Contains xs x
@@ -78,18 +76,11 @@ each_two_of_pairs R (x ∷ xs) h = (
 -- elements with their numbers
 module _ {X : Type 0} (xs : List X) (n : ℕ) where
   pub enumerated_all : (P : ℕ × X → Type 0) → ((k : ℕ) (d : X) → k < length xs → P (n + k, get_or xs k d)) → AllByRecursion P (enumerate_from n xs)
-  enumerated_all P h =
-      recursion_from_All P (enumerate_from n xs) (λ k d lt.
-      let within : k < length xs = omega (arith, length-enumerate_from n xs) in
-      subst P (sym (get_or-enumerate_from n xs k d within)) (h k d.1 within))
+  enumerated_all P h = grind (arith, recursion_from_All, length-enumerate_from, get_or-enumerate_from, h)
 
   pub enumerated_two : (R : ℕ × X → ℕ × X → Type 0) → ((i j : ℕ) (d : X) → i < j → j < length xs → R (n + i, get_or xs i d) (n + j, get_or xs j d))
       → EachTwo R (enumerate_from n xs)
-  enumerated_two R h =
-      each_two_of_pairs R (enumerate_from n xs) (λ i j d before lt.
-      let within : j < length xs = omega (arith, length-enumerate_from n xs) in
-      let first : i < length xs = omega arith in
-      rw (get_or-enumerate_from n xs i d first, get_or-enumerate_from n xs j d within) (h i j d.1 before within))
+  enumerated_two R h = grind (arith, each_two_of_pairs, length-enumerate_from, get_or-enumerate_from, h)
 
 -- the element in the middle
 module _ {X : Type 0} where

@@ -1,6 +1,7 @@
 -- PIN and TURN of a Converter M-209: wheel after wheel, and on each wheel letter after letter. All its planned lines lead to
 -- the day, and each is needed.
-use Rattle.std.proofs.Common.{◌≡◌, ℕ, zero, suc, ◌+◌, ◌<◌, nat_eq, Bool, true, false, not, cond, List, [], ◌∷◌, ◌++◌, length, get_or, map, zip, sum, filter_map, count_by, Some, refl, sym, ap, ◌∙◌, arith, append_assoc, length-append, All, IsPermutation, subst}
+use Rattle.std.proofs.lemmas.Grind.{common_steps}
+use Rattle.std.proofs.Common.{◌≡◌, ℕ, zero, suc, ◌+◌, ◌<◌, nat_eq, Bool, true, false, not, List, [], ◌∷◌, ◌++◌, length, get_or, map, zip, filter_map, count_by, Some, refl, sym, ap, ◌∙◌, arith, append_assoc, length-append, All, IsPermutation, subst}
 use Rattle.kd_plan.proofs.Prelude.{sum_by, AllByRecursion, option_map_or, option_to_list, agree_below, agree_below_at}
 use Rattle.kd_plan.proofs.Prelude.{eq-eqb, eqb-true, set_at, get_or_at, length-map, list_any_at, sum-map}
 use Rattle.kd_plan.proofs.Prelude.{unwrap_or-slice_get, place_on, PinParts, Parts, Pin, Setting, PinTo, Turn}
@@ -33,8 +34,7 @@ place_of_letter number place lt within =
 
 -- six wheels
 pins_of_set : (lists : List (List Bool)) → length lists ≡ 6 → pins_of (pin_set lists) ≡ lists
-pins_of_set (a ∷ b ∷ c ∷ d ∷ f ∷ g ∷ []) e = refl
-pins_of_set _ e = absurd (omega arith)
+pins_of_set lists e = grind (arith, common_steps)
 
 same_of_differ : (a b : Bool) → not (differ a b) ≡ true → a ≡ b
 same_of_differ a b e = grind arith
@@ -64,11 +64,7 @@ cells_are : (letters : List ℕ) (now wanted : List Bool) → length now ≡ len
     → AreCells letters now wanted (zip letters (zip now wanted))
 cells_are [] [] [] e f = record { letters_are = refl; now_are = refl; wanted_are = refl }
 cells_are (l ∷ letters) (a ∷ now) (b ∷ wanted) e f =
-    let rest = cells_are letters now wanted (omega arith) (omega arith) in record {
-      letters_are = ap (λ ls. l ∷ ls) rest.letters_are;
-      now_are = ap (λ pins. a ∷ pins) rest.now_are;
-      wanted_are = ap (λ pins. b ∷ pins) rest.wanted_are;
-    }
+    grind (arith, cells_are letters now wanted (omega arith) (omega arith))
 cells_are _ _ _ e f = absurd (omega arith)
 
 -- the planned lines of a wheel, letter by letter
@@ -116,18 +112,11 @@ module _ (m : PinParts) (s : PinDay) where
     differing wheel = count_by (λ (pin : Bool × Bool). differ pin.0 pin.1) (zip wheel.0 wheel.1)
 
     loose_here : (pins : List Bool) → loose_pins (record m { pins = pin_set (front ++ pins ∷ back) }) s ≡ sum_by differing (zip (front ++ pins ∷ back) (front ++ day ∷ due))
-    loose_here pins =
-        ap (λ lists. sum (map differing (zip lists (pins_of s.pins)))) (set_is pins)
-        ∙ ap (λ lists. sum (map differing (zip (front ++ pins ∷ back) lists))) are
-        ∙ sum-map differing (zip (front ++ pins ∷ back) (front ++ day ∷ due))
+    loose_here pins = grind (arith, set_is, sum-map)
 
     pin_needed : (done rest later : List Bool) (now effective : Bool) → done ++ effective ∷ later ≡ day → not (differ now effective) ≡ false
         → loose_count (with_wheel (done ++ now ∷ rest)) (OfPins s) ≡ loose_count (with_wheel (done ++ effective ∷ rest)) (OfPins s) + 1
-    pin_needed done rest later now effective e wrong =
-        let one : cond {A = ℕ} (differ now effective) 1 0 ≡ cond (differ effective effective) 1 0 + 1 = grind (arith, not_differ effective) in
-        let fewer = one_less (λ (pin : Bool × Bool). cond (differ pin.0 pin.1) 1 0) done rest later now effective effective one in
-        let all = one_less differing front back due (done ++ now ∷ rest) (done ++ effective ∷ rest) day (rw e at fewer) in
-        omega (arith, all, loose_here (done ++ now ∷ rest), loose_here (done ++ effective ∷ rest))
+    pin_needed done rest later now effective e wrong = grind (arith, not_differ, one_less, loose_here)
 
     one_pin : (done rest later : List Bool) (now effective : Bool) (letter : ℕ) → done ++ effective ∷ later ≡ day
         → place_on (ring_of number) letter ≡ Some (length done) → has_letter (ring_of number) letter ≡ true
@@ -201,11 +190,7 @@ module _ (m : PinParts) (s : PinDay) where
 
   turn_needed : (front back due : List ℕ) (now letter : ℕ) → front ++ letter ∷ due ≡ s.window → nat_eq now letter ≡ false
       → loose_count (with_shown (front ++ now ∷ back)) (OfPins s) ≡ loose_count (with_shown (front ++ letter ∷ back)) (OfPins s) + 1
-  turn_needed front back due now letter e wrong =
-      let one : cond {A = ℕ} (not (nat_eq now letter)) 1 0 ≡ cond (not (nat_eq letter letter)) 1 0 + 1 = rw (wrong, eq-eqb letter letter refl) (omega arith) in
-      let fewer = one_less (λ (z : ℕ × ℕ). cond (not (nat_eq z.0 z.1)) 1 0) front back due now letter letter one in
-      let here = rw e at fewer in
-      omega (arith, here)
+  turn_needed front back due now letter e wrong = grind (arith, eq-eqb, one_less)
 
   pub turns_each : (front : List ℕ) (zs : List (ℕ × ℕ)) → front ++ map wanted zs ≡ s.window → AreOnWheels s.window
       → EachLeads (OfPins s) with_shown shown wanted pin_turn_of front zs
@@ -252,9 +237,7 @@ module _ (m : PinParts) (s : PinDay) (to : List ℕ) (machine : IsMachine (Pin m
   sizes = length-map to (row_at s.rows) ∙ pairing.count ∙ sym machine.legal.bars
 
   pub are_movable : AllByRecursion IsMovable zs
-  are_movable =
-      movable m.bars s.rows to (recursion_from_All (λ (bar : Place × Place). IsBefore bar.0 bar.1) m.bars machine.legal.apart) legal.rows
-      (rw legal.count (recursion_from_All (λ j. j < 27) to pairing.within))
+  are_movable = grind (arith, movable, recursion_from_All)
 
   lugs_reach : Led (OfPins s) (Pin after_turns) (lug_lines m.bars s.rows to) (with_bars (OfPins s) after_turns (map to_stand zs))
   lugs_reach =

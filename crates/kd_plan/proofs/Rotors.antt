@@ -1,9 +1,9 @@
 -- The planned lines of a rotor machine lead to the day, and each is needed.
 use Rattle.std.proofs.Common.{◌≡◌, ℕ, ◌+◌, List, [], length, set, map, Contains, Some, None, unwrap_or, slice_get, refl, sym, ap, ◌∙◌, subst, arith}
 use Rattle.kd_plan.proofs.Prelude.{AllByRecursion, enumerate_from, length-map, All-from_recursion, box_of, slots_of}
-use Rattle.kd_plan.proofs.Prelude.{reflectors_of, RotorParts, Parts, Rotor, Setting, SeatReflector, RingTo, Turn}
-use Rattle.kd_plan.proofs.Prelude.{SheetWheel, same_reflector, numbered, IsMachine, with_letter, changed, RotorDay}
-use Rattle.kd_plan.proofs.Prelude.{OfRotors, seats, AreSeated, IsLegalRotorDay, unless_same, loose_count, seat_lines}
+use Rattle.kd_plan.proofs.Prelude.{reflectors_of, RotorParts, Parts, Rotor, Setting, RingTo, Turn}
+use Rattle.kd_plan.proofs.Prelude.{SheetWheel, numbered, IsMachine, with_letter, changed, RotorDay}
+use Rattle.kd_plan.proofs.Prelude.{OfRotors, seats, AreSeated, IsLegalRotorDay, loose_count, seat_lines}
 use Rattle.kd_plan.proofs.Prelude.{reflector_lines, ring_lines, turn_lines, pull_lines, put_lines, planned_lines, Told}
 use Rattle.kd_plan.proofs.Carrying.{Reaches, Led, led_unless, led_append, lines_from, cells_led}
 use Rattle.kd_plan.proofs.Columns.{are_pluggable, few_columns, same_cables, are_the_pairs}
@@ -18,11 +18,7 @@ use Rattle.kd_plan.proofs.Seats.{seats_led}
 -- REFLECTOR
 reflector_led : Told → (m : RotorParts) (s : RotorDay) → Contains (reflectors_of m.model) s.reflector
     → Led (OfRotors s) (Rotor m) (reflector_lines m.reflector s.reflector) (Rotor (record m { reflector = s.reflector }))
-reflector_led told m s h =
-    let has = has_reflector_of (reflectors_of m.model) s.reflector h in
-    led_unless (same_reflector m.reflector s.reflector) (Rotor m) (Rotor (record m { reflector = s.reflector })) (SeatReflector s.reflector)
-    (λ so. ap (λ r. Rotor (record m { reflector = r })) (sym ((told.reflectors m.reflector s.reflector).0 so))) refl
-    (λ wrong. rw has refl) (λ wrong unpriced. omega (arith, ap unless_same wrong, ap unless_same (same_reflector_self s.reflector)))
+reflector_led told m s h = grind (arith, has_reflector_of, led_unless, told.reflectors, same_reflector_self)
 
 module _ (told : Told) (m : RotorParts) (s : RotorDay) where
   -- The machine after the lines of each kind.
@@ -108,8 +104,7 @@ module _ (told : Told) (m : RotorParts) (s : RotorDay) where
     seats_reach = seats_led told.wheels m s seated_wheels.allowed (each_two told m.model s.wheels seated_wheels) (machine.legal.slots ∙ ap slots_of same ∙ sym (sym (length-map s.wheels (λ w. Some w.wheel)) ∙ legal.wheels.count))
 
     reflector_reaches : Led (OfRotors s) (Rotor after_seats) (reflector_lines m.reflector s.reflector) (Rotor after_reflector)
-    reflector_reaches =
-        reflector_led told after_seats s (subst (λ model. Contains (reflectors_of model) s.reflector) (sym same) legal.reflector)
+    reflector_reaches = grind (arith, reflector_led)
 
     rings_set : AreSet (place_of m.model) ring_wanted (OfRotors s) with_rings (length (box_of m.model)) ring_line m.rings (in_box_order m.model s.wheels)
     rings_set =

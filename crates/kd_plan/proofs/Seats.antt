@@ -1,6 +1,7 @@
 -- SEAT, one slot after another: a slot that is right already is never emptied, since the day's wheels differ.
+use Rattle.std.proofs.lemmas.Grind.{common_steps}
 use Rattle.std.proofs.Common.{◌≡◌, ◌≢◌, ℕ, suc, ◌+◌, ◌-◌, Bool, true, false, not, cond, inl, inr, List, [], ◌∷◌, ◌++◌, length, map, set, zip, filter_map, count_by, Option, Some, None, refl, sym, ap, ◌∙◌, subst, arith, append_assoc, length-append}
-use Rattle.kd_plan.proofs.Prelude.{AllByRecursion, enumerate_from, option_map_or, cases_Bool, cond_both, false≢true}
+use Rattle.kd_plan.proofs.Prelude.{AllByRecursion, enumerate_from, option_map_or, cases_Bool, cond_both}
 use Rattle.kd_plan.proofs.Prelude.{false_from_ne_true, append-nil, map-append, length-map, Wheel, IsAllowed, wheels_for}
 use Rattle.kd_plan.proofs.Prelude.{RotorParts, Parts, Rotor, Setting, Seat, SheetWheel, same_wheel, AreAllowed}
 use Rattle.kd_plan.proofs.Prelude.{why_refused, without, RotorDay, OfRotors, seats, loose_slots, IsNeeded, unless_so}
@@ -25,9 +26,7 @@ seat_lines_from number slots wheels =
 -- slots that are done are right
 done_right : (done : List SheetWheel) (slots : List (Option Wheel)) (wheels : List SheetWheel) → count_by wrong_slot (zip (seats done ++ slots) (done ++ wheels)) ≡ count_by wrong_slot (zip slots wheels)
 done_right [] slots wheels = refl
-done_right (v ∷ done) slots wheels =
-    let head = ap (λ b. cond {A = ℕ} (not b) 1 0) (same_wheel_self v.wheel) in
-    omega (arith, count_by-cons wrong_slot (Some v.wheel, v) (zip (seats done ++ slots) (done ++ wheels)), done_right done slots wheels)
+done_right (v ∷ done) slots wheels = grind (arith, same_wheel_self, count_by-cons, done_right done slots wheels)
 
 -- the slots after a SEAT behind those that are done
 abbrev seated_at : ℕ → Wheel → List (Option Wheel) → List (Option Wheel)
@@ -43,14 +42,10 @@ module _ (told : NamesTellWheels) where
 
   -- a slot that loses a wheel held no other one
   holds_without : (wheel : Wheel) (seated : Option Wheel) (w : SheetWheel) → wheel ≢ w.wheel → holds (without wheel seated) w ≡ holds seated w
-  holds_without wheel None w h = refl
-  holds_without wheel (Some other) w h =
-      cond_both (same_wheel wheel other) None (Some other) (λ left. holds left w ≡ same_wheel w.wheel other)
-      (λ e. sym (differs w.wheel other (λ same. h ((told wheel other).0 e ∙ sym same)))) (λ e. refl)
+  holds_without wheel seated w e = grind (arith, cond_both, differs)
 
   holds_is : (seated : Option Wheel) (w : SheetWheel) → holds seated w ≡ true → seated ≡ Some w.wheel
-  holds_is None w e = absurd (false≢true e)
-  holds_is (Some other) w e = ap Some (sym ((told w.wheel other).0 e))
+  holds_is seated w e = grind arith
 
   -- nothing changes for slots of other wheels
   same_lines : (wheel : Wheel) (slots : List (Option Wheel)) (wheels : List SheetWheel) (number : ℕ) → AllByRecursion (λ v. wheel ≢ v.wheel) wheels
@@ -61,8 +56,7 @@ module _ (told : NamesTellWheels) where
   same_count : (wheel : Wheel) (slots : List (Option Wheel)) (wheels : List SheetWheel) → AllByRecursion (λ v. wheel ≢ v.wheel) wheels
       → count_by wrong_slot (zip (map (without wheel) slots) wheels) ≡ count_by wrong_slot (zip slots wheels)
   same_count wheel (now ∷ slots) (w ∷ wheels) h =
-      let head = ap (λ b. cond {A = ℕ} (not b) 1 0) (holds_without wheel now w h.0) in
-      omega (arith, count_by-cons wrong_slot (without wheel now, w) (zip (map (without wheel) slots) wheels), count_by-cons wrong_slot (now, w) (zip slots wheels), same_count wheel slots wheels h.1)
+      grind (arith, common_steps, holds_without, count_by-cons, same_count wheel slots wheels h.1)
   same_count wheel _ _ h = refl
 
   seats_without : (wheel : Wheel) (done : List SheetWheel) → AllByRecursion (λ v. v.wheel ≢ wheel) done → map (without wheel) (seats done) ≡ seats done
@@ -71,13 +65,7 @@ module _ (told : NamesTellWheels) where
 
   seated_behind : (done : List SheetWheel) (w : SheetWheel) (now : Option Wheel) (slots : List (Option Wheel)) → AllByRecursion (λ v. v.wheel ≢ w.wheel) done
       → seats (done ++ w ∷ []) ++ map (without w.wheel) slots ≡ seated_at (suc (length done)) w.wheel (seats done ++ now ∷ slots)
-  seated_behind done w now slots h =
-      let front = map-append (without w.wheel) (seats done) (now ∷ slots) ∙ ap (λ first. first ++ map (without w.wheel) (now ∷ slots)) (seats_without w.wheel done h) in
-      let size = length-map done (λ (v : SheetWheel). Some v.wheel) in
-      more_seats done w (map (without w.wheel) slots)
-      ∙ sym (ap (λ all. set all (suc (length done) - 1) (Some w.wheel)) front
-      ∙ ap (λ n. set (seats done ++ map (without w.wheel) (now ∷ slots)) (suc n - 1) (Some w.wheel)) (sym size)
-      ∙ seam_set (seats done) (without w.wheel now) (map (without w.wheel) slots) (Some w.wheel))
+  seated_behind done w now slots h = grind (arith, common_steps, map-append, seats_without, more_seats, seam_set)
 
   module _ (m : RotorParts) (s : RotorDay) (allowed : AreAllowed m.model (seats s.wheels)) (apart : EachTwo OtherWheels s.wheels) where
     abbrev pub with_slots : List (Option Wheel) → Parts
@@ -112,8 +100,7 @@ module _ (told : NamesTellWheels) where
         let here = with_slots (seats done ++ now ∷ slots) in
         let further = seat_lines_from (number + 1) slots rest in
         elim (cases_Bool (holds now w)) [
-          | inl is ↦ rw is (subst (λ all. Led (OfRotors s) (with_slots all) further end)
-              (more_seats done w slots ∙ ap (λ seated. seats done ++ seated ∷ slots) (sym (holds_is now w is))) (next slots refl))
+          | inl is ↦ grind (arith, more_seats, holds_is, next)
           | inr other ↦
               let then_so = rw (same_lines w.wheel slots rest (number + 1) (beside_back OtherWheels done w rest two)) at (next (map (without w.wheel) slots) (length-map slots (without w.wheel))) in
               rw other (subst (λ n. Led (OfRotors s) here (Seat n w.wheel ∷ further) end) (sym at) (led_cons (seat_allowed (seats done ++ now ∷ slots) done rest w e) (seat_needed done rest w now slots e other)
@@ -122,8 +109,7 @@ module _ (told : NamesTellWheels) where
 
     seats_from : (done rest : List SheetWheel) (slots : List (Option Wheel)) (number : ℕ) → done ++ rest ≡ s.wheels → length slots ≡ length rest → number ≡ suc (length done)
         → Led (OfRotors s) (with_slots (seats done ++ slots)) (seat_lines_from number slots rest) (with_slots (seats s.wheels))
-    seats_from done [] [] number e size at =
-        led_none (ap with_slots (ap seats (sym e ∙ append-nil done) ∙ sym (append-nil (seats done))))
+    seats_from done [] [] number e size at = grind (arith, led_none, append-nil)
     seats_from done (w ∷ rest) (now ∷ slots) number e size at =
         seat_led done rest w now slots number (with_slots (seats s.wheels)) e at
         (λ others same. seats_from (done ++ w ∷ []) rest others (number + 1) (append_assoc done (w ∷ []) rest ∙ e) (omega arith) (omega (arith, length-append done (w ∷ []))))

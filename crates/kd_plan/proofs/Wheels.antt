@@ -1,10 +1,10 @@
 -- The wheels and the reflector of a day: among others, by their places in the box, in box order and by their slots.
-use Rattle.std.proofs.Common.{map, ◌≡◌, ◌≢◌, ℕ, zero, suc, ◌+◌, Bool, true, List, [], ◌∷◌, Contains, refl, sym, ap, ◌∙◌, ◌<◌, ◌++◌, length, get_or, filter_map, find, All, Option, Some, None, slice_get, arith}
+use Rattle.std.proofs.Common.{map, ◌≡◌, ◌≢◌, ℕ, zero, suc, ◌+◌, Bool, true, List, [], ◌∷◌, Contains, refl, sym, ap, ◌∙◌, ◌++◌, length, get_or, filter_map, find, All, Option, Some, None, slice_get, arith}
 use Rattle.std.proofs.lemmas.List.{get_or-map}
 use Rattle.std.proofs.lemmas.List.FromFn.{get_or-range_with_len}
 use Rattle.std.specs.List.{range_with_len}
 use Rattle.kd_plan.proofs.Prelude.{AllByRecursion, list_any, cons_option, enumerate_from}
-use Rattle.kd_plan.proofs.Prelude.{list_any_at, Model, EnigmaI, Wheel, box_of, wheel_text}
+use Rattle.kd_plan.proofs.Prelude.{list_any_at, Model, Wheel, box_of, wheel_text}
 use Rattle.kd_plan.proofs.Prelude.{reflector_text, SheetWheel, same_wheel, same_reflector, has_wheel, has_reflector}
 use Rattle.kd_plan.proofs.Prelude.{place_in_box, StandsAt, AreAllowed, seats, AreSeated, Told, All-contains}
 use Rattle.kd_plan.proofs.Prelude.{All-from_recursion, Contains-get_or, recursion_from_All}
@@ -43,21 +43,14 @@ abbrev pub place_of : Model → SheetWheel → ℕ
 place_of model wheel = place_in_box model wheel.wheel
 
 pub wheels_apart : Told → (model : Model) (wheels : List SheetWheel) → AreSeated model (seats wheels) → AreApartAt (place_of model) wheels
-wheels_apart told model wheels h =
-    each_two_of_pairs (λ x y. place_of model y ≢ place_of model x) wheels (λ i j d before within same. told.days model wheels h i j d before within (sym same))
+wheels_apart told model wheels h = grind (arith, each_two_of_pairs)
 
 -- the box has no wheel twice
 places_in_box : (model : Model) → map (place_in_box model) (box_of model) ≡ range_with_len 0 (length (box_of model))
-places_in_box EnigmaI = refl
-places_in_box _ = refl
+places_in_box model = grind arith
 
 box_apart : (model : Model) → AreApartAt (place_in_box model) (box_of model)
-box_apart model =
-    each_two_of_pairs (λ wheel other. place_in_box model other ≢ place_in_box model wheel) (box_of model) (λ i j d before lt same.
-    let at : (k : ℕ) → k < length (box_of model) → place_in_box model (get_or (box_of model) k d) ≡ 0 + k = λ k within.
-    sym (get_or-map (place_in_box model) (box_of model) k d 0 within) ∙ ap (λ places. get_or places k 0) (places_in_box model)
-    ∙ get_or-range_with_len 0 (length (box_of model)) k 0 within in
-    omega (arith, at i (omega arith), at j lt, same))
+box_apart model = grind (arith, each_two_of_pairs, get_or-map, places_in_box, get_or-range_with_len)
 
 -- every wheel of a day is in the box
 pub wheels_boxed : Told → (model : Model) (wheels : List SheetWheel) → AreAllowed model (seats wheels) → AllByRecursion (λ w. Contains (box_of model) w.wheel) wheels
@@ -92,12 +85,10 @@ each_two told model wheels h = each_two_of_pairs OtherWheels wheels (λ i j d be
 -- what is found of some things
 module _ {X Y : Type 0} (f : X → Option Y) where
   all_cons : (Q : Y → Type 0) (o : Option Y) (rest : List Y) → ((y : Y) → o ≡ Some y → Q y) → AllByRecursion Q rest → AllByRecursion Q (cons_option o rest)
-  all_cons Q None rest h all = all
-  all_cons Q (Some y) rest h all = (h y refl, all)
+  all_cons Q o rest e d = grind arith
 
   two_cons : (S : Y → Y → Type 0) (o : Option Y) (rest : List Y) → ((y : Y) → o ≡ Some y → AllByRecursion (S y) rest) → EachTwo S rest → EachTwo S (cons_option o rest)
-  two_cons S None rest h all = all
-  two_cons S (Some y) rest h all = (h y refl, all)
+  two_cons S o rest e d = grind arith
 
   all_found : (P : X → Type 0) (Q : Y → Type 0) → ((x : X) (y : Y) → f x ≡ Some y → P x → Q y) → (xs : List X) → AllByRecursion P xs → AllByRecursion Q (filter_map f xs)
   all_found P Q h [] all = tt

@@ -1,23 +1,23 @@
 -- The lines of each kind, thing by thing, and lines that are written one after another.
-use Rattle.std.proofs.Common.{◌≡◌, ℕ, ◌+◌, ◌<◌, ◌≤◌, nat_eq, min, Bool, true, false, not, cond, zip, List, [], ◌∷◌, ◌++◌, length, get_or, drop, map, filter, filter_map, find, Option, Some, None, refl, sym, ap, ◌∙◌, arith, append_assoc, length-append}
+use Rattle.std.proofs.lemmas.Grind.{common_steps}
+use Rattle.std.proofs.Common.{◌≡◌, ℕ, ◌+◌, ◌<◌, ◌≤◌, nat_eq, min, Bool, false, not, cond, zip, List, [], ◌∷◌, ◌++◌, length, get_or, drop, map, filter, filter_map, find, Option, Some, refl, sym, ap, ◌∙◌, arith, append_assoc, length-append}
 use Rattle.kd_plan.proofs.Prelude.{cons_option, enumerate_from, flat_map, option_and_then, option_map_or}
 use Rattle.kd_plan.proofs.Prelude.{option_to_list, append-nil, drop_more, drop_all, get_or_default, get_or-map}
 use Rattle.kd_plan.proofs.Prelude.{length-map, get_or-zip, length-zip, Place, Wheel, box_of, RotorParts, SheetWheel}
 use Rattle.kd_plan.proofs.Prelude.{Setting, Seat, RingTo, Turn, PinTo, same_wheel, ring_at, letter_at, differ}
 use Rattle.kd_plan.proofs.Prelude.{unless_so, seat_lines, ring_lines, turn_lines, pin_on, wheel_pin_lines}
 use Rattle.kd_plan.proofs.Prelude.{pin_turn_lines, lug_lines}
+use Rattle.kd_plan.proofs.Prelude.{place_on, unwrap_or-slice_get}
 use Rattle.kd_plan.proofs.Bars.{BarRow, lugs_of}
 use Rattle.kd_plan.proofs.Carrying.{lines_from}
 
 -- from lines of all things to lines of one after another
 pub one_line : (line : Option Setting) (xs ys : List Setting) → xs ≡ ys → cons_option line xs ≡ option_to_list line ++ ys
-one_line None xs ys e = e
-one_line (Some x) xs ys e = ap (λ l. x ∷ l) e
+one_line line xs ys e = grind (arith, e)
 
 first_found : {Y : Type 0} (f : Y → Option Setting) (o : Option Y) (ys : List Y)
     → filter_map f (cons_option o ys) ≡ option_to_list (option_and_then f o) ++ filter_map f ys
-first_found f None ys = refl
-first_found f (Some y) ys = one_line (f y) _ _ refl
+first_found f o ys = grind (arith, one_line, f)
 
 module _ {X : Type 0} where
   flat_lines : (f : ℕ × X → List Setting) (xs : List X) (number : ℕ) → flat_map f (enumerate_from number xs) ≡ lines_from (λ n x. f (n, x)) number xs
@@ -40,14 +40,12 @@ module _ {X : Type 0} where
       first_found f (find x) (filter_map find xs) ∙ ap (λ lines. option_to_list (option_and_then f (find x)) ++ lines) (lines_of_found f find xs (number + 1))
 
   first_kept : (b : Bool) (line : X → Setting) (x : X) (xs : List X) → map line (cond b (x ∷ xs) xs) ≡ option_to_list (unless_so (not b) (line x)) ++ map line xs
-  first_kept true line x xs = refl
-  first_kept false line x xs = refl
+  first_kept b line x xs = grind arith
 
   pub lines_of_kept : (p : X → Bool) (line : X → Setting) (xs : List X) (number : ℕ)
       → map line (filter p xs) ≡ lines_from (λ n x. option_to_list (unless_so (not (p x)) (line x))) number xs
   lines_of_kept p line [] number = refl
-  lines_of_kept p line (x ∷ xs) number =
-      first_kept (p x) line x (filter p xs) ∙ ap (λ lines. option_to_list (unless_so (not (p x)) (line x)) ++ lines) (lines_of_kept p line xs (number + 1))
+  lines_of_kept p line (x ∷ xs) number = grind (arith, first_kept, p, line, lines_of_kept p line xs (number + 1))
 
 -- the lines of each kind
 abbrev pub seat_of : ℕ → Option Wheel × SheetWheel → List Setting
@@ -118,10 +116,7 @@ module _ {Z : Type 0} {lines : ℕ → Z → List Setting} {zs : List Z} where
   begins old all e = record { written = ap (λ xs. old ++ xs) (sym e) }
 
   pub is_line : {place : ℕ} {line : List Setting} (z : Z) → place < length zs → get_or zs place z ≡ z → line ≡ lines (place + 1) z → IsLine lines zs place line
-  is_line {place = place} z lt at e = record {
-    parts = ap (lines_from lines (place + 1)) (drop_more zs place z lt) ∙ ap (λ one. lines (place + 1) one ++ left_from lines zs (place + 1)) at
-        ∙ ap (λ one. one ++ left_from lines zs (place + 1)) (sym e);
-  }
+  is_line {place = place} z lt at e = grind (arith, drop_more)
 
   pub room : {old all items line : List Setting} {place : ℕ} → IsWriting lines zs old all items place → IsLine lines zs place line
       → length old + length all ≤ 192 → length items + length line ≤ 192
@@ -137,30 +132,36 @@ module _ {Z : Type 0} {lines : ℕ → Z → List Setting} {zs : List Z} where
 
   pub writes : {old all items line after : List Setting} {place : ℕ} → IsWriting lines zs old all items place → IsLine lines zs place line
       → after ≡ items ++ line → IsWriting lines zs old all after (place + 1)
-  writes {items = items} {line = line} {place = place} h next e = record {
-    written = ap (λ xs. xs ++ left_from lines zs (place + 1)) e ∙ append_assoc items line (left_from lines zs (place + 1))
-        ∙ ap (λ xs. items ++ xs) (sym next.parts) ∙ h.written;
-  }
+  writes {items = items} {line = line} {place = place} h next e = grind (arith, append_assoc)
 
   pub ends : {old all items : List Setting} {place : ℕ} → IsWriting lines zs old all items place → length zs ≤ place → items ≡ old ++ all
-  ends {items = items} {place = place} h le =
-      sym (append-nil items) ∙ ap (λ xs. items ++ xs) (sym (ap (lines_from lines (place + 1)) (drop_all place zs le))) ∙ h.written
+  ends {items = items} {place = place} h le = grind (arith, append-nil, drop_all)
 
--- things side by side, by their place
-pub beside_at : {A B : Type 0} (xs : List A) (ys : List B) (place : ℕ) (x dx : A) (y dy : B) → place < length xs → place < length ys
-    → x ≡ get_or xs place dx → y ≡ get_or ys place dy → get_or (zip xs ys) place (x, y) ≡ (x, y)
-beside_at xs ys place x dx y dy lt lt' e e' =
-    get_or-zip xs ys place (x, y) lt lt'
-    ∙ ap (λ a. (a, get_or ys place y)) (get_or_default xs place x dx lt ∙ sym e)
-    ∙ ap (λ b. (x, b)) (get_or_default ys place y dy lt' ∙ sym e')
+-- the line of things side by side, by their place
+module _ {A B : Type 0} {lines : ℕ → A × B → List Setting} where
+  pub pair_line : (xs : List A) (ys : List B) {place : ℕ} {line : List Setting} (x dx : A) (y dy : B)
+      → place < length xs → place < length ys
+      → x ≡ get_or xs place dx → y ≡ get_or ys place dy → line ≡ lines (place + 1) (x, y) → IsLine lines (zip xs ys) place line
+  pair_line xs ys {place = place} x dx y dy lt lt' at at' e =
+      is_line (x, y) (omega (arith, length-zip xs ys)) (grind (arith, common_steps, get_or-zip)) e
 
--- and each beside what is chosen for it
-module _ {A B : Type 0} (xs : List A) (f : ℕ → B) (to : List ℕ) where
-  pub chosen_length : length (zip xs (map f to)) ≡ min (length xs) (length to)
-  chosen_length = length-zip xs (map f to) ∙ ap (min (length xs)) (length-map to f)
+  -- and of a thing beside what is chosen for it
+  pub chosen_line : (xs : List A) (f : ℕ → B) (to : List ℕ) {place : ℕ} {line : List Setting} (x dx : A) (j : ℕ) (y : B)
+      → place < length xs → place < length to → x ≡ get_or xs place dx → j ≡ get_or to place 0 → y ≡ f j → line ≡ lines (place + 1) (x, y)
+      → IsLine lines (zip xs (map f to)) place line
+  chosen_line xs f to {place = place} x dx j y lt lt' at is here e =
+      pair_line xs (map f to) x dx y y lt (omega (arith, lt', length-map to f)) at (here ∙ ap f is ∙ sym (get_or-map f to place 0 y lt')) e
 
-  pub chosen_at : (place j : ℕ) (x : A) (y : B) → place < length xs → place < length to → j ≡ get_or to place 0 → y ≡ f j
-      → get_or (zip xs (map f to)) place (get_or xs place x, y) ≡ (get_or xs place x, y)
-  chosen_at place j x y within inside at is =
-      beside_at xs (map f to) place (get_or xs place x) x y y within (omega (arith, inside, length-map to f)) refl
-      (is ∙ ap f at ∙ sym (get_or-map f to place 0 y inside))
+pub chosen_length : {A B : Type 0} (xs : List A) (f : ℕ → B) (to : List ℕ) → length (zip xs (map f to)) ≡ min (length xs) (length to)
+chosen_length xs f to = length-zip xs (map f to) ∙ ap (min (length xs)) (length-map to f)
+
+-- what a pin is, by its place and by its letter
+pub pin_read : (ring : List ℕ) (pins : List Bool) (letter place : ℕ) → place_on ring letter ≡ Some place
+    → get_or pins place false ≡ pin_on ring pins letter
+pin_read ring pins letter place e = rw e (sym (unwrap_or-slice_get pins place false))
+
+-- what a loop that writes lines goes by
+pub ruleset writing = (begins, is_line, room, writes, ends, chosen_length, length-zip, common_steps)
+
+-- and one that writes the lines of pins
+pub ruleset writing_pins = (writing, wheel_pin_lines_are, pin_read)

@@ -25,6 +25,7 @@ pub(crate) enum Work {
 }
 
 /// Appends PULL, or PUT, for each letter that each cable loses, or takes, to become the pair that it is paired with.
+#[tactic(auto, using(crate::proofs::Writing::writing, crate::proofs::Cables::lines_beside))]
 pub(crate) fn push_cables(
     settings: &mut Settings,
     work: Work,
@@ -44,6 +45,7 @@ pub(crate) fn push_cables(
 }
 
 /// Appends the lines of one cable, letter by letter.
+#[tactic(auto, using(crate::proofs::Writing::writing, crate::proofs::Cables::cable_work_are))]
 fn push_cable(settings: &mut Settings, work: Work, number: u8, cable: &Cable, column: &Column)
     requires { let held = cable_letters cable.now in
         let due = column_letters column.now in

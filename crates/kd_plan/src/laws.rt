@@ -7,6 +7,7 @@ use kd_state::laws::{
 };
 
 /// The planned lines of any pairing, carried out one after another, are each allowed, and lead the machine to the day.
+#[tactic(auto, using(crate::proofs::Planning::planned_lines_lead))]
 pub fn planned_lines_lead_to_the_day()
     ensures { PlannedLinesLead }
 {

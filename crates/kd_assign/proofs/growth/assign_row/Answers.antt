@@ -33,11 +33,7 @@ loop-free-init g c =
     }
 
 pub grow-requires : goal.grow-requires
-grow-requires g c =
-    let so_far = c.loop-free.invariant in
-    let columns = count_by-le-length is_some c.loop-free.tree.reached in
-    let most = scans_of_tree-most g.row.N (count_by is_some c.loop-free.tree.reached + 1) c.requires.few in
-    (search rules, (search rules, (search rules, (search rules, (search rules, (search rules, (rw so_far.same_to c.holders_of-holders.ensures.holders, (c.requires.costs, (so_far.growing, (so_far.nearest, omega arith))))))))))
+grow-requires g c = grind (arith, count_by-le-length, scans_of_tree-most)
 
 pub returns-in-Some-clause-solved : goal.returns-in-Some-clause-solved
 returns-in-Some-clause-solved g c =
@@ -54,14 +50,7 @@ returns-in-Some-clause-solved g c =
 
 pub returns-in-Some-clause-least_scans : goal.returns-in-Some-clause-least_scans
 returns-in-Some-clause-least_scans g c =
-    let so_far = c.loop-free.invariant in
-    let least = scans_of_tree-grows g.row.N 1 (count_by is_some c.loop-free.tree.reached + 1) (omega arith) in
-    omega (arith, so_far.scans, c.in-Some.ensures.not_counted)
+    grind (arith, scans_of_tree-grows g.row.N 1 (count_by is_some c.loop-free.tree.reached + 1) (omega arith))
 
 pub returns-in-Some-clause-most_scans : goal.returns-in-Some-clause-most_scans
-returns-in-Some-clause-most_scans g c =
-    let so_far = c.loop-free.invariant in
-    let few = reached_at_most _ _ so_far.growing.taken in
-    let same = ap (λ to. count_by is_some to) so_far.same_to ∙ c.requires.solved.count in
-    let most = scans_of_tree-grows g.row.N (count_by is_some c.loop-free.tree.reached + 1) (c.args.row + 1) (omega arith) in
-    omega (arith, so_far.scans, c.in-Some.ensures.not_counted)
+returns-in-Some-clause-most_scans g c = grind (arith, reached_at_most, scans_of_tree-grows)

@@ -1,13 +1,9 @@
 use Rattle.std.proofs.Common.{rules, ◌≡◌, ap, ◌∙◌, arith}
 use Rattle.kd_plan.proofs.Prelude.{option_to_list, get_or-range_with_len, length-range_with_len, alphabet}
-use Rattle.kd_plan.proofs.Prelude.{cable_letters, column_letters, is_moved, work_setting}
+use Rattle.kd_plan.proofs.Prelude.{cable_letters, column_letters}
 use Rattle.kd_plan.proofs.Cables.{work_of_letter}
-use Rattle.kd_plan.proofs.Writing.{lines_of_kept, IsLine, begins, is_line, room, writes, ends}
+use Rattle.kd_plan.proofs.Writing.{IsLine, is_line, room, writes}
 use Rattle.kd_plan.proofs.cable_lines.push_cable.Goals as goal
-
-pub loop-index-init : goal.loop-index-init
-loop-index-init c =
-    begins _ _ (lines_of_kept (is_moved c.args.work (cable_letters c.args.cable.now) (column_letters c.args.column.now)) (work_setting c.args.work c.args.number) alphabet 1)
 
 next : (c : goal.After-cable_line)
     → IsLine (work_of_letter c.args.work c.args.number (cable_letters c.args.cable.now) (column_letters c.args.column.now)) alphabet c.loop-index.index
@@ -22,6 +18,3 @@ push_line-requires c = room c.loop-index.invariant (next c) (omega (arith, c.req
 
 pub loop-index-preserved : goal.loop-index-preserved
 loop-index-preserved c = writes c.loop-index.invariant (next c.before) c.push_line.ensures
-
-pub returns : goal.returns
-returns c = ends c.loop-index.invariant (omega (arith, length-range_with_len 0 26))

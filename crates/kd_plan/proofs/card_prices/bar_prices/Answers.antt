@@ -1,4 +1,4 @@
-use Rattle.std.proofs.Common.{rules, refl, List, ℤ, pos, replicate, arith}
+use Rattle.std.proofs.Common.{refl, List, ℤ, pos, replicate, arith}
 use Rattle.kd_plan.proofs.Prelude.{some_since, length-replicate, Bars}
 use Rattle.kd_plan.proofs.Assembling.{prices_of, zeros_within}
 use Rattle.kd_plan.proofs.card_prices.bar_prices.Goals as goal
@@ -10,6 +10,4 @@ unwrap-requires c =
     some_since _ _ _ c.bars.ensures (λ none. none (prices_of (Bars zeros zeros) 0 (omega arith) refl refl size size (zeros_within 27) (zeros_within 27)))
 
 pub unwrap-requires-else-total-eq0 : goal.unwrap-requires-else-total-eq0
-unwrap-requires-else-total-eq0 c =
-    some_since _ _ _ c.bars-else-total-eq0.ensures
-    (λ none. none (prices_of (Bars c.args.bars c.args.rows) 108 (omega arith) refl refl (search rules) (search rules) c.requires.bars c.requires.rows))
+unwrap-requires-else-total-eq0 c = grind (arith, some_since, prices_of)

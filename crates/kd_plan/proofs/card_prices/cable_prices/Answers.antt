@@ -1,9 +1,7 @@
-use Rattle.std.proofs.Common.{rules, refl, arith}
-use Rattle.kd_plan.proofs.Prelude.{some_since, Cables}
+use Rattle.std.proofs.Common.{arith}
+use Rattle.kd_plan.proofs.Prelude.{some_since}
 use Rattle.kd_plan.proofs.Assembling.{prices_of}
 use Rattle.kd_plan.proofs.card_prices.cable_prices.Goals as goal
 
 pub unwrap-requires-else-total-eq0 : goal.unwrap-requires-else-total-eq0
-unwrap-requires-else-total-eq0 c =
-    some_since _ _ _ c.cables-else-total-eq0.ensures
-    (λ none. none (prices_of (Cables c.args.cables c.args.pairs) 52 (omega arith) refl refl (search rules) (search rules) c.requires.cables c.requires.pairs))
+unwrap-requires-else-total-eq0 c = grind (arith, some_since, prices_of)

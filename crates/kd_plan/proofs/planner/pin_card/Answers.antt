@@ -5,9 +5,7 @@ use Rattle.kd_plan.proofs.Assembling.{bar_costs_at_most, pin_room, planned, solv
 use Rattle.kd_plan.proofs.planner.pin_card.Goals as goal
 
 pub assign-total-requires : goal.assign-total-requires
-assign-total-requires c =
-    let costs = bar_costs_at_most c.bar_costs-costs.result c.args.parts.now.bars c.args.entry.now.rows c.bar_costs-costs.ensures in
-    (omega arith, (omega arith, (omega arith, (omega arith, (omega arith, costs)))))
+assign-total-requires c = grind (arith, bar_costs_at_most)
 
 pub pin_settings-settings-requires-clause-room : goal.pin_settings-settings-requires-clause-room
 pin_settings-settings-requires-clause-room c = pin_room c.args.parts.now (pin_values c.args.entry.now) _ c.requires.machine

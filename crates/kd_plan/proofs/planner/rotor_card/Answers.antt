@@ -5,10 +5,7 @@ use Rattle.kd_plan.proofs.Assembling.{cable_costs_at_most, rotor_room, planned, 
 use Rattle.kd_plan.proofs.planner.rotor_card.Goals as goal
 
 pub assign-total-requires : goal.assign-total-requires
-assign-total-requires c =
-    let table = c.cable_costs-costs.ensures ∙ ap (cable_costs c.args.parts.now.cables) c.as_slice.ensures.value in
-    let costs = cable_costs_at_most c.cables_cost_four.ensures c.cable_costs-costs.result c.args.parts.now.cables c.args.entry.now.pairs.items table in
-    (omega arith, (omega arith, (omega arith, (omega arith, (omega arith, costs)))))
+assign-total-requires c = grind (arith, cable_costs_at_most)
 
 pub rotor_settings-settings-requires-clause-room : goal.rotor_settings-settings-requires-clause-room
 rotor_settings-settings-requires-clause-room c = rotor_room c.cables_cost_four.ensures c.args.parts.now (rotor_values c.args.entry.now) _ c.requires.machine c.requires.legal

@@ -9,9 +9,7 @@ use Rattle.kd_assign.proofs.tree.Tree.grow.Goals.{After-nearest_column-column, J
 
 -- the edge to the nearest column is the nearest one
 leaving : (g : Over) (c : After-nearest_column-column g) → IsNearest c.args.cost.now c.args.prices.now.row c.args.prices.now.col c.args.to.now c.args.self.now.root c.args.self.now.reached (get_or c.args.nearest.now.row c.nearest_column-column.result 0) c.nearest_column-column.result (slack_at c.args.nearest.now.slack c.nearest_column-column.result)
-leaving g c =
-    let call = c.nearest_column-column.ensures in
-    is_nearest c.requires.costs c.requires.growing c.requires.nearest _ (omega arith) call.outside (λ j h. call.least j (omega arith))
+leaving g c = grind (arith, is_nearest)
 
 -- what is kept of rows stays as prices move
 kept : (g : Over) (c : Joined-by-gt0 g) → AreNearest c.args.cost.now c.args.prices.now.row c.args.prices.now.col c.args.to.now c.args.self.now.root c.args.self.now.reached c.if-by-gt0.nearest.row c.args.nearest.now.slack
@@ -48,9 +46,7 @@ tree : (g : Over) (c : Joined-by-gt0 g) → IsTree c.args.cost.now c.if-by-gt0.p
 tree g c = grown c.requires.costs c.requires.growing (nearest_edge g c) refl (moved g c)
 
 pub nearest_column-column-requires : goal.nearest_column-column-requires
-nearest_column-column-requires g c =
-    let free = c.requires.growing.free in
-    (search rules, (search rules, (search rules, (free.0, omega (arith, free.1), not_reached c.requires.costs c.requires.growing free.0 free.2))))
+nearest_column-column-requires g c = grind (arith, not_reached)
 
 pub raise_rows-requires : goal.raise_rows-requires
 raise_rows-requires g c =

@@ -1,5 +1,5 @@
 use Rattle.std.proofs.Common.{sym, ◌∙◌, rules, arith}
-use Rattle.kd_assign.proofs.Turning.{row_in_range, partial_still, edges_still, kept_at_end, count_at_end, others_at_end, turns}
+use Rattle.kd_assign.proofs.Turning.{row_in_range, kept_at_end, count_at_end, turns}
 use Rattle.kd_assign.proofs.tree.Tree.turn_round.Goals as goal
 
 pub bounds-to-row : goal.bounds-to-row
@@ -10,8 +10,7 @@ bounds-to-row g c =
 
 pub offset_bounds-to-row : goal.offset_bounds-to-row
 offset_bounds-to-row g c =
-    let within = row_in_range _ c.loop-row.invariant.turning (sym c.take.ensures.value ∙ c.in-Some.is) in
-    search rules
+    grind (arith, row_in_range _ c.loop-row.invariant.turning (sym c.take.ensures.value ∙ c.in-Some.is))
 
 pub loop-row-preserved : goal.loop-row-preserved
 loop-row-preserved g c =
@@ -22,17 +21,8 @@ loop-row-preserved g c =
       turning = rw (c.replace.ensures.after, c.take.ensures.after) (turns _ so_far.turning (sym c.take.ensures.value ∙ c.in-Some.is) _ (sym c.replace.ensures.value ∙ c.in-Some-replace.is));
     }
 
-pub returns-in-None-clause-partial : goal.returns-in-None-clause-partial
-returns-in-None-clause-partial g c = rw c.replace.ensures.after (partial_still _ c.loop-row.invariant.turning (sym c.take.ensures.value ∙ c.in-Some.is))
-
-pub returns-in-None-clause-edges : goal.returns-in-None-clause-edges
-returns-in-None-clause-edges g c = rw c.replace.ensures.after (edges_still _ c.loop-row.invariant.turning (sym c.take.ensures.value ∙ c.in-Some.is))
-
 pub returns-in-None-clause-kept : goal.returns-in-None-clause-kept
 returns-in-None-clause-kept g c = rw c.replace.ensures.after (kept_at_end _ c.loop-row.invariant.turning (sym c.take.ensures.value ∙ c.in-Some.is) (sym c.replace.ensures.value ∙ c.in-None.is))
 
 pub returns-in-None-clause-count : goal.returns-in-None-clause-count
 returns-in-None-clause-count g c = rw c.replace.ensures.after (count_at_end _ c.loop-row.invariant.turning (sym c.take.ensures.value ∙ c.in-Some.is) (sym c.replace.ensures.value ∙ c.in-None.is))
-
-pub returns-in-None-clause-others : goal.returns-in-None-clause-others
-returns-in-None-clause-others g c = rw c.replace.ensures.after (others_at_end _ c.loop-row.invariant.turning (sym c.take.ensures.value ∙ c.in-Some.is) (sym c.replace.ensures.value ∙ c.in-None.is))

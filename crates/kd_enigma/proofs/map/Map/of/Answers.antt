@@ -13,9 +13,7 @@ loop-place-init c = record {
 }
 
 pub invariant_of-result : goal.invariant_of-result
-invariant_of-result c =
-    let so_far = c.loop-place.invariant in
-    lanes_of c.loop-place.lanes so_far.size (λ k lt. so_far.letters k (omega arith)) (λ k low lt. so_far.still k (omega arith) lt)
+invariant_of-result c = grind (arith, lanes_of)
 
 pub returns : goal.returns
 returns c =

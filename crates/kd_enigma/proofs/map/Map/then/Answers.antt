@@ -1,5 +1,4 @@
-use Rattle.std.proofs.Common.{◌∙◌, ap, take}
-use Rattle.kd_tables.specs.Permutation.{followed_by}
+use Rattle.std.proofs.Common.{arith}
 use Rattle.kd_enigma.proofs.Maps.{followed_by_is_safe, followed_by_has_lanes, followed_by_is}
 use Rattle.kd_enigma.proofs.map.Map.then.Goals as goal
 
@@ -10,7 +9,4 @@ pub invariant_of-result : goal.invariant_of-result
 invariant_of-result c = followed_by_has_lanes c.self.inside.lanes c.second.inside.lanes c.self.invariant c.second.invariant
 
 pub returns : goal.returns
-returns c =
-    followed_by_is c.self.inside.lanes c.second.inside.lanes c.self.invariant c.second.invariant
-    ∙ ap (λ p. followed_by p (take 26 c.second.inside.lanes)) c.self.view_is
-    ∙ ap (followed_by c.args.self) c.second.view_is
+returns c = grind (arith, followed_by_is)

@@ -1,4 +1,4 @@
-use Rattle.std.proofs.Common.{◌≡◌, ◌∙◌, ◌-◌, [], length-set, IfSome, sym, ap, subst, arith}
+use Rattle.std.proofs.Common.{◌≡◌, ◌∙◌, [], length-set, IfSome, sym, subst, arith}
 use Rattle.std.proofs.lemmas.List.FromFn.{fill_by_all}
 use Rattle.kd_tables.specs.Permutation.{inverse}
 use Rattle.kd_tables.specs.Tables.{wiring_of}
@@ -18,7 +18,6 @@ loop-window-preserved c =
     let back = inverse (wiring_of wheel) in
     let by = offset ring window in
     let shown : c.unwrap.result ≡ window = subst (λ letter. IfSome letter (λ l. l ≡ window)) c.unwrap.ensures c.new.ensures.value in
-    let turns : c.index-by.result ≡ by = c.index-by.ensures.value ∙ c.back.ensures.value ∙ ap (offset ring) shown in
     let inward : c.then-in-loop-window.result ≡ rotor wheel ring window = cc in
     let outward : c.then-in-loop-window-3.result ≡ inverse (rotor wheel ring window) =
     (let again : c.then-in-loop-window-3.result ≡ turned by back = cc in again) ∙ sym (turned_undone sound.laws by (wiring_of wheel) (omega arith) (sound.wiring wheel)) in
