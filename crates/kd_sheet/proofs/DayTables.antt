@@ -1,5 +1,6 @@
 -- Each legal day is described by a table: by the one with the texts of its parts.
-use Rattle.std.proofs.Common.{◌≡◌, ℕ, zero, suc, replicate, min, max, ◌+◌, ◌-◌, ◌<◌, nat_le, true, false, ◌==◌, List, [], ◌∷◌, length, map, Option, Some, None, Ok, ok_or, pos, refl, sym, ap, ◌∙◌, inl, inr, arith}
+use Rattle.std.proofs.lemmas.Grind.{common_steps}
+use Rattle.std.proofs.Common.{◌≡◌, ℕ, zero, suc, replicate, min, max, ◌+◌, ◌-◌, ◌<◌, nat_le, true, false, ◌==◌, List, [], ◌∷◌, length, map, Option, Some, None, Ok, ok_or, pos, refl, sym, ap, ◌∙◌, inl, inr, arith, rules}
 use Rattle.std.specs.List.{AllByRecursion}
 use Rattle.std.proofs.lemmas.Bool.{cases_eq, eq-eqb, ne_eqb, le-leb, false≢true}
 use Rattle.std.proofs.lemmas.List.{append-nil, length-map}
@@ -69,23 +70,11 @@ pairs_found pairs = rw (filter_map-append, pairs_joined_again pairs, no_pairs) (
 -- ---- rows
 
 may_read_again : (row : ℕ × ℕ) → IsReading row → may_read (row.0 + 48) (row.1 + 48) ≡ true
-may_read_again row is = elim (cases_eq row.0 row.1) [
-  | inl e ↦ let zero : (row.0 + 48 == 48) ≡ true = eq-eqb _ _ (omega (arith, is.equal e)) in rw (zero, or-true) refl
-  | inr ne ↦ let differ : (row.0 + 48 == row.1 + 48) ≡ false = ne_eqb _ _ (λ e. ne (omega (arith, e))) in rw differ refl
-]
+may_read_again row is = grind (arith, cases_eq, eq-eqb, is.equal, or-true, false, ne_eqb)
 
 row_again : (row : ℕ × ℕ) → IsReading row → row_of_text (reading_text row) ≡ Some row
 unfolding row_of_text
-row_again row is =
-    let low : nat_le 48 (row.0 + 48) ≡ true = le-leb 48 (row.0 + 48) (omega arith) in
-    let within : nat_le (row.0 + 48) 54 ≡ true = le-leb (row.0 + 48) 54 (omega (arith, is.ordered, is.within)) in
-    let high : nat_le 48 (row.1 + 48) ≡ true = le-leb 48 (row.1 + 48) (omega arith) in
-    let also : nat_le (row.1 + 48) 54 ≡ true = le-leb (row.1 + 48) 54 (omega (arith, is.within)) in
-    let first : row.0 + 48 - 48 ≡ row.0 = omega arith in
-    let second : row.1 + 48 - 48 ≡ row.1 = omega arith in
-    let smaller : min row.0 row.1 ≡ row.0 = omega (arith, is.ordered) in
-    let larger : max row.0 row.1 ≡ row.1 = omega (arith, is.ordered) in
-    rw (low, within, high, also, may_read_again row is, first, second, smaller, larger) refl
+row_again row is = grind (arith, le-leb, may_read_again)
 
 -- ---- the tables
 
@@ -116,8 +105,7 @@ by_model : (number : ℕ) (model : Model) (reflector : Reflector) (table : Membe
     → has_reflector (reflectors_of model) reflector ≡ true
     → rotor_day_in number model table ≡ Ok day → model_day_in number model table ≡ Ok day
 unfolding model_day_in
-by_model number M209 reflector table day has is = absurd (false≢true has)
-by_model number model reflector table day has is = is
+by_model number model reflector table day e d = grind arith
 
 all_seated : (wheels : List SheetWheel) → AllByRecursion (MayStand keys.Wheels) (seats wheels)
 all_seated [] = tt
@@ -126,14 +114,7 @@ all_seated (w ∷ wheels) = (tt, all_seated wheels)
 pairs_in_again : (s : RotorDay) → IsLegalRotorDay s → pairs_in (rotor_table s) ≡ Ok s.pairs
 unfolding pairs_in
 pairs_in_again s legal =
-    let cables = map pair_cable s.pairs in
-    let joined = pairs_plugged s.pairs in
-    then_read (all_cables_in keys.Plugs (texts cable_text cables)) (λ cables. Ok (pairs_of cables))
-    (thirteen (map single_first cables)) _
-    (all_cables_again keys.Plugs cables (omega (arith, length-map s.pairs pair_cable, legal.pairs.few))
-    (two_each s.pairs)
-    (rw joined (recursion_from_All (λ letter. letter < 26) _ legal.pairs.within)) (rw joined legal.pairs.apart))
-    (ap Ok (pairs_found s.pairs))
+    grind (arith, common_steps, pairs_plugged, then_read, all_cables_again, two_each, recursion_from_All, pairs_found)
 
 group_again : (earlier : List Data) (group : List ℕ) → AreLetters 3 group
     → group_for earlier (string (letters_text group)) ≡ Ok group
@@ -199,14 +180,7 @@ rows_in_again s legal =
 
 pin_again : (s : PinDay) → IsLegalPinDay s → pin_day_in s.day (pin_table s) ≡ Ok (OfPins s)
 unfolding pin_day_in shown_in list_in
-pin_again s legal =
-    let table = pin_table s in
-    then_read (rows_in table) _ s.rows _ (rows_in_again s legal)
-    (then_read (pins_in table) _ s.pins _ (pins_in_again table s.pins refl legal.pins)
-    (then_read (shown_in keys.Window table) _ s.window _
-    (ap (λ found. ok_or found (BadValue keys.Window)) (window_again s.window legal.window))
-    (then_read (list_in table) _ s.list _
-    (ap (λ found. ok_or found (BadValue keys.List)) (capitals_again 2 s.list legal.list)) refl)))
+pin_again s legal = grind (arith, then_read, rows_in_again, pins_in_again, window_again, capitals_again)
 
 pub legal_is_described : (day : Day) → IsLegalDay day → (table : Members) × (day_in [] table ≡ Ok day)
 unfolding number_in model_in model_day_in

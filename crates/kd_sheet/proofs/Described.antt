@@ -1,5 +1,6 @@
 -- The day that a table describes is legal.
-use Rattle.std.proofs.Common.{◌≡◌, ℕ, suc, replicate, ◌+◌, ◌-◌, ◌<◌, ◌≤◌, nat_eq, nat_le, Bool, true, false, not, ◌&&◌, ◌==◌, cond, inl, inr, List, [], ◌∷◌, ◌++◌, length, map, filter_map, find, All, Contains, Option, Some, None, IsSome, IfSome, is_some, Ok, ok_or, pos, refl, sym, ap, ◌∙◌, subst, arith}
+use Rattle.std.proofs.lemmas.Grind.{common_steps}
+use Rattle.std.proofs.Common.{◌≡◌, ℕ, suc, replicate, ◌+◌, ◌-◌, ◌<◌, ◌≤◌, nat_eq, nat_le, Bool, true, false, not, ◌&&◌, ◌==◌, cond, inl, inr, List, [], ◌∷◌, ◌++◌, length, map, filter_map, find, All, Contains, Option, Some, None, IsSome, IfSome, is_some, Ok, ok_or, pos, refl, sym, ap, ◌∙◌, subst, arith, rules}
 use Rattle.std.specs.List.{list_all, list_any, flat_map, IsDistinct, AllByRecursion}
 use Rattle.std.specs.Option.{option_map, option_map_or, option_and_then}
 use Rattle.std.proofs.lemmas.Bool.{cases_Bool, and_parts, leb-true, eqb-true, not-true}
@@ -44,23 +45,14 @@ use Rattle.kd_sheet.proofs.Wheels.{has_wheel-Decides, is_seated-Decides}
 
 number_within : (last : ℕ) (value : Data) (number : ℕ) → number_to last value ≡ Some number
     → (1 ≤ number) × (number ≤ last)
-number_within last (integer (pos n)) number e =
-    let is = some_if (nat_le 1 n && nat_le n last) n number e in
-    let both = and_parts (nat_le 1 n) (nat_le n last) is.0 in
-    subst (λ k. (1 ≤ k) × (k ≤ last)) is.1 (leb-true 1 n both.0, leb-true n last both.1)
-number_within last value number e = absurd (none-some number e)
+number_within last value number e = grind (arith, some_if, leb-true, none-some)
 
 pub day_number_within : (table : Members) (number : ℕ) → number_in table ≡ Ok number → IsDayNumber number
 unfolding number_in
-day_number_within table number e =
-    let value = given (value_at keys.Day table) _ number e in
-    let within = number_within 31 value.0 number (there_was (number_to 31 value.0) _ number value.2) in
-    record { first = within.0; last = within.1 }
+day_number_within table number e = grind (arith, given, value_at, number_within, there_was)
 
 capital_within : (byte : ℕ) → is_capital byte ≡ true → byte - 65 < 26
-capital_within byte e =
-    let both = and_parts (nat_le 65 byte) (nat_le byte 90) e in omega
-    (arith, leb-true 65 byte both.0, leb-true byte 90 both.1)
+capital_within byte e = grind (arith, leb-true)
 
 capitals_within : (text : List ℕ) → list_all is_capital text ≡ true
     → AllByRecursion (λ letter. letter < 26) (letters_of text)
@@ -75,11 +67,7 @@ letters_read text e =
 
 pub capitals_are_letters : (count : ℕ) (text letters : List ℕ) → capital_letters count text ≡ Some letters
     → AreLetters count letters
-capitals_are_letters count text letters e =
-    let is = some_if (length text == count && list_all is_capital text) (letters_of text) letters e in
-    let both = and_parts (length text == count) (list_all is_capital text) is.0 in
-    subst (AreLetters count) is.1
-    (subst (λ n. AreLetters n (letters_of text)) (eqb-true _ _ both.0) (letters_read text both.1))
+capitals_are_letters count text letters e = grind (arith, some_if, count, letters, eqb-true, letters_read)
 
 letter_found : (item : Data) (found : Option ℕ) → number_to 26 item ≡ found
     → is_some (option_map (λ number. number - 1) found) ≡ true
@@ -200,12 +188,7 @@ two_letters letters two = absurd (omega arith)
 
 some_text : (item : Data) (letters : List ℕ) → letters_of_item keys.Plugs item ≡ Some letters → AreLetters 2 letters
 unfolding letters_of_item plugged_letters_in
-some_text (string text) letters e =
-    let is = some_if (may_have keys.Plugs (length text) && list_all is_capital text) (letters_of text) letters e in
-    let both = and_parts (may_have keys.Plugs (length text)) (list_all is_capital text) is.0 in
-    let two : length text ≡ 2 = eqb-true (length text) 2 both.0 in
-    subst (AreLetters 2) is.1 (subst (λ n. AreLetters n (letters_of text)) two (letters_read text both.1))
-some_text item letters e = absurd (none-some letters e)
+some_text item letters e = grind (arith, some_if, letters, eqb-true, letters_read, none-some)
 
 cable_read : (plugged : List ℕ) (item : Data) (cable : Option ℕ × Option ℕ)
     → cable_for keys.Plugs plugged item ≡ Ok cable → IsCable plugged item cable
@@ -281,8 +264,7 @@ pairs_are_pairs table pairs e =
 
 group_read : (item : Data) (group : List ℕ) → group_of_item item ≡ Some group → AreLetters 3 group
 unfolding group_of_item
-group_read (string text) group e = capitals_are_letters 3 text group e
-group_read item group e = absurd (none-some group e)
+group_read item group e = grind (arith, capitals_are_letters, none-some)
 
 groups_read : (earlier items : List Data) (groups : List (List ℕ)) → Reads group_for earlier items groups
     → AllByRecursion (AreLetters 3) groups
@@ -379,8 +361,7 @@ rotor_day number model table day is e =
 -- ---- a day of the Converter
 
 figure_within : (byte : ℕ) → is_figure byte ≡ true → (48 ≤ byte) × (byte ≤ 54)
-figure_within byte e =
-    let both = and_parts (nat_le 48 byte) (nat_le byte 54) e in (leb-true 48 byte both.0, leb-true byte 54 both.1)
+figure_within byte e = grind (arith, leb-true)
 
 row_is_reading : (one other : ℕ) → is_figure one ≡ true → is_figure other ≡ true → may_read one other ≡ true
     → IsReading (in_order (one - 48) (other - 48))
@@ -395,20 +376,11 @@ row_is_reading one other low high may =
 
 row_read : (text : List ℕ) (numbers : ℕ × ℕ) → row_of_text text ≡ Some numbers → IsReading numbers
 unfolding row_of_text
-row_read (one ∷ dash ∷ other ∷ []) numbers e =
-    let is =
-    some_if (((is_figure one && dash == 45) && is_figure other) && may_read one other)
-    (in_order (one - 48) (other - 48)) numbers e in
-    let last = and_parts ((is_figure one && dash == 45) && is_figure other) (may_read one other) is.0 in
-    let second = and_parts (is_figure one && dash == 45) (is_figure other) last.0 in
-    let first = and_parts (is_figure one) (dash == 45) second.0 in
-    subst IsReading is.1 (row_is_reading one other first.0 second.1 last.1)
-row_read text numbers e = absurd (none-some numbers e)
+row_read text numbers e = grind (arith, some_if, numbers, row_is_reading, none-some)
 
 text_row : (item : Data) (numbers : ℕ × ℕ) → option_and_then row_of_text (as_str item) ≡ Some numbers
     → IsReading numbers
-text_row (string text) numbers e = row_read text numbers e
-text_row item numbers e = absurd (none-some numbers e)
+text_row item numbers e = grind (arith, row_read, numbers, none-some)
 
 rows_read : (earlier items : List Data) (rows : List (ℕ × ℕ)) → Reads row_for earlier items rows
     → AllByRecursion IsReading rows
@@ -425,36 +397,25 @@ Fit wheel (pins ∷ lists) = (length pins ≡ length (ring_of wheel)) × Fit (wh
 text_pins : (ring : List ℕ) (item : Data) (pins : List Bool)
     → option_and_then (pins_of_text ring) (as_str item) ≡ Some pins → length pins ≡ length ring
 unfolding pins_of_text
-text_pins ring (string text) pins e =
-    let is = some_if (is_pin_text ring text) (map (has_capital text) ring) pins e in
-    ap length (sym is.1) ∙ length-map ring (has_capital text)
-text_pins ring item pins e = absurd (none-some pins e)
+text_pins ring item pins e = grind (arith, common_steps, some_if, none-some)
 
 pins_read : (earlier items : List Data) (lists : List (List Bool)) → Reads pins_behind earlier items lists
     → Fit (length earlier + 1) lists
 unfolding pins_of_item
 pins_read earlier [] [] r = tt
 pins_read earlier (item ∷ items) (pins ∷ lists) r =
-    let next : length (earlier ++ item ∷ []) + 1 ≡ length earlier + 1 + 1 = omega
-    (arith, length-append earlier (item ∷ [])) in (
-      text_pins (ring_of (length earlier + 1)) item pins (there_was _ _ pins r.0),
-      subst (λ wheel. Fit wheel lists) next (pins_read (earlier ++ item ∷ []) items lists r.1),
-    )
+    grind (arith, length-append, text_pins, there_was, pins_read (earlier ++ item ∷ []) items lists r.1)
 pins_read earlier items lists r = absurd r
 
 six_fit : (lists : List (List Bool)) → length lists ≡ 6 → Fit 1 lists → HasAllPins (pin_set lists)
 unfolding ring_of
-six_fit (a ∷ b ∷ c ∷ d ∷ e ∷ f ∷ []) six fit =
-    all_pins (pin_set (a ∷ b ∷ c ∷ d ∷ e ∷ f ∷ [])) fit.0 fit.1.0 fit.1.1.0 fit.1.1.1.0 fit.1.1.1.1.0 fit.1.1.1.1.1.0
-six_fit lists six fit = absurd (omega arith)
+six_fit lists e d = grind (arith, common_steps, all_pins)
 
 found_letters : (found : Option (List ℕ)) (text letters : List ℕ) → capital_letters 6 text ≡ found
     → option_and_then (λ letters. cond (are_on_wheels letters) (Some letters) None) found ≡ Some letters
     → AreOnWheels letters
-found_letters None text letters is e = absurd (none-some letters e)
-found_letters (Some found) text letters is e =
-    let passes = some_if (are_on_wheels found) found letters e in
-    subst AreOnWheels passes.1 (on_wheels found (capitals_are_letters 6 text found is).count passes.0)
+found_letters found text letters e d =
+    grind (arith, common_steps, none-some, letters, some_if, found, on_wheels, capitals_are_letters)
 
 letters_shown : (text letters : List ℕ) → letters_on_wheels text ≡ Some letters → AreOnWheels letters
 unfolding letters_on_wheels
@@ -502,9 +463,7 @@ model_day number model table day is e = rotor_day number model table day is e
 pub day_again : (number : ℕ) (model : Model) (table : Members) (day : Day) → number_in table ≡ Ok number
     → model_in table ≡ Ok model → model_day_in number model table ≡ Ok day → day_in [] table ≡ Ok day
 unfolding day_in new_number_in
-day_again number model table day is of_model rest =
-    then_read (new_number_in [] table) _ number _ (then_read (number_in table) _ number _ is refl)
-    (then_read (model_in table) _ model _ of_model rest)
+day_again number model table day is of_model rest = grind (arith, then_read, number_in)
 
 -- what a table tells that describes a day behind others with these numbers
 pub record Tells (taken : List ℕ) (table : Members) (day : Day) : Type 0 where

@@ -1,5 +1,6 @@
 -- A file of lines, each with a key and its value, is read as the table of these.
-use Rattle.std.proofs.Common.{◌≡◌, ℕ, suc, ◌<◌, ◌≤◌, nat_le, nat_lt, Bool, true, false, not, ◌&&◌, ◌||◌, ◌==◌, List, [], ◌∷◌, ◌++◌, length, map, codes, Some, option_map, Ok, refl, sym, ap, ◌∙◌, subst, append_assoc, arith}
+use Rattle.std.proofs.lemmas.Grind.{common_steps}
+use Rattle.std.proofs.Common.{◌≡◌, ℕ, suc, ◌<◌, ◌≤◌, nat_le, nat_lt, Bool, true, false, not, ◌&&◌, ◌||◌, ◌==◌, List, [], ◌∷◌, ◌++◌, length, map, codes, Some, option_map, Ok, refl, sym, ap, ◌∙◌, subst, append_assoc, arith, rules}
 use Rattle.std.specs.List.{list_all, list_any, flat_map, concat, AllByRecursion}
 use Rattle.std.proofs.lemmas.Bool.{and_parts, ltb-true, ne_eqb, false≢true}
 use Rattle.std.proofs.lemmas.Bool.Decides.{nat_tests}
@@ -32,8 +33,7 @@ abbrev pub IsPlain : List ℕ → Type 0
 IsPlain text = list_all is_plain text ≡ true
 
 is_other : (byte other : ℕ) → is_plain byte ≡ true → is_plain other ≡ false → (byte == other) ≡ false
-is_other byte other plain none =
-    ne_eqb byte other (λ e. false≢true (sym none ∙ subst (λ b. is_plain b ≡ true) e plain))
+is_other byte other plain none = grind (arith, ne_eqb)
 
 no_control : (byte : ℕ) → is_plain byte ≡ true → is_control byte ≡ false
 no_control byte plain = grind (arith, nat_tests)
@@ -58,11 +58,7 @@ escaped_plain (byte ∷ text) plain =
 
 quoted_is : (text : List ℕ) → IsPlain text → quoted text ≡ string_text text
 unfolding string_text encoding_of
-quoted_is text plain =
-    let none : (byte : ℕ) → is_plain byte ≡ false → has byte text ≡ false =
-    λ byte other. none_of (λ x. x == byte) (λ x is. is_other x byte is other) text plain in
-    let controls = none_of is_control no_control text plain in
-    rw (controls, none 92 refl, none 34 refl, none 10 refl, escaped_plain text plain) refl
+quoted_is text plain = grind (arith, false, none_of, is_other, no_control, escaped_plain)
 
 -- ---- the lines
 
@@ -95,12 +91,7 @@ pub record IsWritten (entry : Entry) : Type 0 where
   pub low : list_all is_low entry.2 ≡ true
 
 pub text_written : (key : Key) (text : List ℕ) → IsPlain text → IsWritten (text_entry key text)
-text_written key text plain = record {
-  writes = quoted_is text plain;
-  shallow = omega arith;
-  dated = refl;
-  low = simp (list_all-append, plain_low text plain);
-}
+text_written key text plain = grind (arith, quoted_is, list_all-append, plain_low)
 
 -- what stands behind the first text of an array
 abbrev behind : {X : Type 0} → (X → List ℕ) → List X → List ℕ
@@ -121,39 +112,25 @@ are_written text_of [] plain = record { writes = refl; shallow = refl; dated = r
 are_written text_of (x ∷ things) plain =
     let rest = are_written text_of things plain.1 in
     record {
-      writes = (
-        quoted (text_of x),
-        behind text_of things ++ codes "]",
-        ap (λ text. codes ", " ++ text) (append_assoc (quoted (text_of x)) (behind text_of things) (codes "]")),
-        quoted_is (text_of x) plain.0,
-        rest.writes,
-      );
+      writes = grind (arith, quoted, text_of, append_assoc, quoted_is);
       shallow = rw rest.shallow refl;
       dated = rest.dated;
       low = simp (list_all-append, plain_low (text_of x) plain.0, rest.low);
     }
 
 one_line : (ds : Items) → breaks_lines false ds ≡ false
-one_line no_items = refl
-one_line (item d no_items) = refl
-one_line (item d (item e ds)) = refl
+one_line ds = grind arith
 
 pub texts_written : {X : Type 0} (key : Key) (text_of : X → List ℕ) (things : List X)
     → AllByRecursion (λ x. IsPlain (text_of x)) things → IsWritten (texts_entry key text_of things)
-texts_written key text_of [] plain =
-    record { writes = (codes "]", refl, refl); shallow = omega arith; dated = refl; low = refl }
+texts_written key text_of [] plain = grind arith
 texts_written key text_of (x ∷ things) plain =
     let rest = are_written text_of things plain.1 in
     let text = quoted (text_of x) ++ (behind text_of things ++ codes "]") in
     let writes : IsItemsText false false true (items text_of (x ∷ things)) text =
     (quoted (text_of x), behind text_of things ++ codes "]", refl, quoted_is (text_of x) plain.0, rest.writes) in
     record {
-      writes = (
-        text,
-        ap (λ text. codes "[" ++ text) (append_assoc (quoted (text_of x)) (behind text_of things) (codes "]")),
-        subst (λ lines. IsItemsText false lines true (items text_of (x ∷ things)) text)
-            (sym (one_line (items text_of (x ∷ things)))) writes,
-      );
+      writes = grind (arith, append_assoc, quoted, text_of, false, one_line);
       shallow = rw rest.shallow (omega arith);
       dated = rest.dated;
       low = simp (list_all-append, plain_low (text_of x) plain.0, rest.low);
@@ -169,20 +146,15 @@ expression_of entry = (([], key_name entry.0), key_value entry.1)
 
 key_bare : (key : Key) → key_text (key_name key) ≡ key_name key
 unfolding key_text
-key_bare keys.Version = refl
-key_bare key = refl
+key_bare key = grind arith
 
 key_low : (key : Key) → list_all is_low (key_name key) ≡ true
-key_low keys.Version = refl
-key_low key = refl
+key_low key = grind arith
 
 lines_text : (started : Bool) (entries : List Entry) → AllByRecursion IsWritten entries
     → IsLinesText false started (map expression_of entries) (concat (map line_of entries))
 lines_text started [] all = refl
-lines_text started (entry ∷ entries) all =
-    let same : line_of entry ≡ key_text (key_name entry.0) ++ (codes " = " ++ (entry.2 ++ 10 ∷ [])) =
-    rw (key_bare entry.0) (simp append_assoc) in
-    (line_of entry, concat (map line_of entries), refl, (entry.2, same, all.0.writes), lines_text true entries all.1)
+lines_text started (entry ∷ entries) all = grind (arith, key_bare, append_assoc, lines_text true entries all.1)
 
 all_printed : (entries : List Entry) → AllByRecursion IsWritten entries → AllPrinted (map expression_of entries)
 all_printed [] all = tt
@@ -195,10 +167,7 @@ file_low (entry ∷ entries) all = simp (list_all-append, key_low entry.0, all.0
 
 no_mark : (text : List ℕ) → list_all is_low text ≡ true → skip_bom text ≡ text
 unfolding skip_bom
-no_mark [] low = refl
-no_mark (byte ∷ text) low =
-    let below = ltb-true byte 128 (and_parts (is_low byte) (list_all is_low text) low).0 in
-    let other : (byte == 239) ≡ false = ne_eqb byte 239 (λ e. omega arith) in rw other refl
+no_mark text e = grind (arith, ltb-true, false, ne_eqb)
 
 pub file_read : (entries : List Entry) (table : Members) → AllByRecursion IsWritten entries
     → option_map (λ doc. close doc.0) (run (no_nodes, []) (map expression_of entries)) ≡ Some table

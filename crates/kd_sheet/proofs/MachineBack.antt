@@ -1,4 +1,5 @@
 -- The machine file of a machine is read as just that machine.
+use Rattle.std.proofs.lemmas.Grind.{common_steps}
 use Rattle.std.proofs.Common.{◌≡◌, ℕ, ◌+◌, ◌<◌, Bool, true, pos, List, [], ◌∷◌, length, map, All, Option, Some, None, Ok, ok_or, refl, ap, ◌∙◌, arith, rules}
 use Rattle.std.specs.Fmt.{digits}
 use Rattle.std.specs.List.{AllByRecursion}
@@ -57,16 +58,13 @@ letters_plain [] within = refl
 letters_plain (letter ∷ letters) within = rw (letter_plain letter within.0, letters_plain letters within.1) refl
 
 model_plain : (model : Model) → IsPlain (model_text model)
-model_plain EnigmaI = refl
-model_plain model = refl
+model_plain model = grind arith
 
 reflector_plain : (reflector : Reflector) → IsPlain (reflector_text reflector)
-reflector_plain reflectors.A = refl
-reflector_plain reflector = refl
+reflector_plain reflector = grind arith
 
 wheel_plain : (wheel : Wheel) → IsPlain (wheel_text wheel)
-wheel_plain I = refl
-wheel_plain wheel = refl
+wheel_plain wheel = grind arith
 
 seats_plain : (slots : List (Option Wheel)) → AllByRecursion (λ seat. IsPlain (seat_text seat)) slots
 seats_plain [] = tt
@@ -86,8 +84,7 @@ pins_plain wheel pins = each_byte is_plain (ring_of wheel) pins (letters_apart w
     letter_plain letter (on_ring_below wheel letter ((has_letter-Decides (ring_of wheel) letter).0 has)))
 
 place_plain : (place : Place) → IsPlain (place_text place)
-place_plain One = refl
-place_plain place = refl
+place_plain place = grind arith
 
 bars_plain : (bars : List (Place × Place)) → AllByRecursion (λ bar. IsPlain (standing_text bar)) bars
 bars_plain [] = tt
@@ -100,36 +97,26 @@ version_entry model = (keys.Version, integer (pos (version_of model)), figure (v
 
 version_written : (model : Model) → IsWritten (version_entry model)
 unfolding digits
-version_written EnigmaI = record { writes = (refl, search rules); shallow = omega arith; dated = refl; low = refl }
-version_written model = record { writes = (refl, search rules); shallow = omega arith; dated = refl; low = refl }
+version_written model = grind arith
 
 version_again : (model : Model) → number_to 2 (integer (pos (version_of model))) ≡ Some (version_of model)
-version_again EnigmaI = refl
-version_again model = refl
+version_again model = grind arith
 
 version_knows : (model : Model) → knows (version_of model) model ≡ true
-version_knows EnigmaI = refl
-version_knows model = refl
+version_knows model = grind arith
 
 -- a table with version and model that tells these parts
 told : (model : Model) (table : Members) (m : Parts) → version_in table ≡ Ok (version_of model)
     → model_in table ≡ Ok model → parts_in model table ≡ Ok m → machine_in table ≡ Ok m
 unfolding machine_in known_model_in
-told model table m version is parts =
-    then_read (version_in table) _ (version_of model) _ version
-    (then_read (known_model_in (version_of model) table) _ model _
-    (then_read (model_in table) _ model _ is
-    (passing (knows (version_of model) model) UnknownModel _ _ (version_knows model) refl)) parts)
+told model table m version is parts = grind (arith, then_read, passing, version_knows)
 
 -- ---- a rotor machine
 
 -- with a single letter first a cable holds the same letters
 same_cable : (one other : Option ℕ)
     → ordered (single_first (one, other)).0 (single_first (one, other)).1 ≡ ordered one other
-same_cable None None = refl
-same_cable None (Some other) = refl
-same_cable (Some one) None = refl
-same_cable (Some one) (Some other) = refl
+same_cable one other = grind arith
 
 same_cables : (cables : List (Option ℕ × Option ℕ))
     → map (λ cable. ordered cable.0 cable.1) (map single_first cables) ≡ map (λ cable. ordered cable.0 cable.1) cables
@@ -137,10 +124,7 @@ same_cables [] = refl
 same_cables (cable ∷ cables) = rw (same_cable cable.0 cable.1, same_cables cables) refl
 
 few_letters : (one other : Option ℕ) → MayPlug keys.Cables (one, other)
-few_letters None None = refl
-few_letters None (Some other) = refl
-few_letters (Some one) None = refl
-few_letters (Some one) (Some other) = refl
+few_letters one other = grind arith
 
 all_few : (cables : List (Option ℕ × Option ℕ)) → AllByRecursion (MayPlug keys.Cables) cables
 all_few [] = tt
@@ -202,10 +186,7 @@ rotor_read m legal =
 
 cables_in_again : (m : RotorParts) → IsLegalRotor m → cables_in (rotor_table m) ≡ Ok (map single_first m.cables)
 unfolding cables_in
-cables_in_again m legal =
-    all_cables_again keys.Cables m.cables (omega (arith, legal.cables.count)) (all_few m.cables)
-    (recursion_from_All (λ letter. letter < 26) _ legal.cables.within) legal.cables.apart
-    ∙ ap Ok (thirteen_are (map single_first m.cables) (length-map m.cables single_first ∙ legal.cables.count))
+cables_in_again m legal = grind (arith, common_steps, all_cables_again, all_few, recursion_from_All, thirteen_are)
 
 rotor_parts_again : (m : RotorParts) → IsLegalRotor m
     → rotor_parts_in m.model (rotor_table m) ≡ Ok (record m { cables = map single_first m.cables })
@@ -228,8 +209,7 @@ by_model : (model : Model) (reflector : Reflector) (table : Members) (m : RotorP
     → has_reflector (reflectors_of model) reflector ≡ true → rotor_parts_in model table ≡ Ok m
     → parts_in model table ≡ Ok (cables_ordered (Rotor m))
 unfolding parts_in
-by_model M209 reflector table m has is = absurd (false≢true has)
-by_model model reflector table m has is = ap (λ parts. parts >>= (λ m. Ok (cables_ordered (Rotor m)))) is
+by_model model reflector table m e d = grind arith
 
 -- ---- a Converter
 
@@ -249,13 +229,7 @@ pin_table m =
 pin_read : (m : PinParts) → IsLegalPin m → document_of (machine_text (Pin m)) ≡ Ok (pin_table m)
 unfolding machine_text define along_header along_dots at_key
 pin_read m legal =
-    let all_pins : AllByRecursion IsPlain (pin_texts m.pins) = (
-      pins_plain 1 m.pins.w1,
-      (
-        pins_plain 2 m.pins.w2,
-        (pins_plain 3 m.pins.w3, (pins_plain 4 m.pins.w4, (pins_plain 5 m.pins.w5, (pins_plain 6 m.pins.w6, tt)))),
-      ),
-    ) in
+    let all_pins : AllByRecursion IsPlain (pin_texts m.pins) = grind (arith, pins_plain) in
     file_read (pin_entries m) (pin_table m) (
       version_written M209,
       (
@@ -280,12 +254,7 @@ bars_again m legal =
 
 pin_parts_again : (m : PinParts) → IsLegalPin m → pin_parts_in (pin_table m) ≡ Ok m
 unfolding pin_parts_in shown_in
-pin_parts_again m legal =
-    let table = pin_table m in
-    then_read (shown_in keys.Letters table) _ m.letters _
-    (ap (λ found. ok_or found (BadValue keys.Letters)) (window_again m.letters legal.letters))
-    (then_read (pins_in table) _ m.pins _ (pins_in_again table m.pins refl legal.pins)
-    (then_read (bars_in table) _ m.bars _ (bars_again m legal) refl))
+pin_parts_again m legal = grind (arith, then_read, window_again, pins_in_again, bars_again)
 
 -- ---- each machine
 

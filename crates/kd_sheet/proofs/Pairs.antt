@@ -1,5 +1,6 @@
 -- The pairs that cables join.
-use Rattle.std.proofs.Common.{◌≡◌, ℕ, ◌+◌, ◌<◌, ◌≤◌, nat_eq, false, List, [], ◌∷◌, ◌++◌, length, take, get_or, Option, Some, None, refl, arith}
+use Rattle.std.proofs.lemmas.Grind.{common_steps}
+use Rattle.std.proofs.Common.{◌≡◌, ℕ, ◌+◌, ◌<◌, ◌≤◌, nat_eq, false, List, [], ◌∷◌, ◌++◌, length, take, get_or, Option, Some, None, refl, arith, rules}
 use Rattle.std.specs.List.{cons_option, flat_map, IsDistinct, AllByRecursion}
 use Rattle.std.specs.Option.{option_to_list}
 use Rattle.std.proofs.lemmas.List.{take_more}
@@ -10,8 +11,7 @@ use Rattle.kd_state.specs.TwoCiphers.{both_ends}
 use Rattle.kd_sheet.specs.Cables.{pairs_of}
 
 one_or_none : {Y : Type 0} (o : Option Y) → cons_option o [] ≡ option_to_list o
-one_or_none None = refl
-one_or_none (Some y) = refl
+one_or_none o = grind arith
 
 -- one more cable
 pub pairs_more : (cables : List (Option ℕ × Option ℕ)) (place : ℕ) (d : Option ℕ × Option ℕ) → place < length cables

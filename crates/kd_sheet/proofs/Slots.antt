@@ -6,7 +6,4 @@ use Rattle.kd_tables.specs.declared.model.Model.TheVariants.{EnigmaI, M3, M4, M2
 
 -- no model has more than four
 pub few_slots : (model : Model) → slots_of model ≤ 4
-few_slots EnigmaI = omega arith
-few_slots M3 = omega arith
-few_slots M4 = omega arith
-few_slots M209 = omega arith
+few_slots model = grind arith

@@ -1,3 +1,4 @@
+use Rattle.std.proofs.lemmas.Grind.{common_steps}
 use Rattle.std.proofs.Common.{◌-◌, ◌<◌, length, Ok, arith, rules, length-set, refl, sym, ap, ◌∙◌}
 use Rattle.std.proofs.lemmas.List.{take_more_set}
 use Rattle.std.proofs.lemmas.List.Elements.{All-append, All-nil}
@@ -38,9 +39,7 @@ returns-in_err-cable-clause-value c =
     rw (read_stops (cable_behind c.args.key) _ _ _ _ _ left c.index-items-place.is found c.loop-place.invariant.read) (search rules)
 
 pub returns-clause-value : goal.returns-clause-value
-returns-clause-value c =
-    sym (ap (λ answer. answer >>= (λ cables. Ok (thirteen cables))) (read_all (cable_behind c.args.key) _ _ _ (omega arith) c.loop-place.invariant.read)
-    ∙ ap Ok (all_thirteen _ _ c.loop-place.invariant.count (omega arith) c.loop-place.invariant.empty))
+returns-clause-value c = grind (arith, read_all, all_thirteen)
 
 pub returns-clause-plugged : goal.returns-clause-plugged
 returns-clause-plugged c =
