@@ -1,4 +1,5 @@
 -- Files that are read one after another, and what the program answers to a command.
+use Rattle.kd_desk.proofs.Failing.{err_is}
 use Rattle.kd_desk.proofs.Prelude.{◌≡◌, ℕ, suc, Bool, true, false, List, [], ◌∷◌, ◌++◌, take, Option, Some, None, IfSome, IsSomeAnd, Result, Ok, Err, IsErr, IsErrAnd, is_ok, refl, sym, ap, ◌∙◌, subst, inl, inr, append_assoc, Row, subcommand_of, DeskFault, Stop, Unread, Named, files_of, IsOf, Says, KnownCommand, KnownAction, KnownTask, command_over, AskFor, CarriesOut, DoesTask, IsDone, IsTaskDone, has_read, OnDay, Gives, Opened, Port}
 use Rattle.std.proofs.lemmas.Bool.{false≢true}
 use Rattle.kd_desk.specs.declared.files.fault.FileFault.{FileFault}
@@ -42,42 +43,13 @@ said_by (Some said) one other is are = same_command said one other is are
 pub said_command : (words : List (List ℕ)) (one other : Named) → Says words one → Says words other → one ≡ other
 said_command words one other says same = said_by (subcommand_of desk_grammar words) one other says.said same.said
 
--- what is so of a command is so of each that the words say
-pub asked_for : (one other : Named) (old new : List (List ℕ)) (all : Bool) → one ≡ other → AskFor (files_of one) old new all → AskFor (files_of other) old new all
-asked_for one other old new all same asks = subst (λ command. AskFor (files_of command) old new all) same asks
-
 -- ---- what is done
-
--- a task that is another one does what that does
-module _ (machine sheet : List ℕ) (number : ℕ) (sink : Port) where
-  pub does_task : (one other : Task (List ℕ) Port) (answer : Result (Unit {0}) DeskFault) → one ≡ other
-      → OnDay machine sheet number (DoesTask other number sink answer) answer → OnDay machine sheet number (DoesTask one number sink answer) answer
-  does_task one other answer same does = subst (λ task. OnDay machine sheet number (DoesTask task number sink answer) answer) (sym same) does
-
-  pub task_done : (one other : KnownTask) (answer : Result (Unit {0}) Stop) → one ≡ other
-      → IsTaskDone machine sheet number other sink answer → IsTaskDone machine sheet number one sink answer
-  task_done one other answer same done = subst (λ task. IsTaskDone machine sheet number task sink answer) (sym same) done
-
--- a command of the same files and the same action does the same
-pub command_done : (source sink : Port) (answer : Result (Unit {0}) Stop) (machine same : List ℕ) (action other : KnownAction) → same ≡ machine → action ≡ other
-    → IsDone (record { machine = same; action = other }) source sink answer → IsDone (record { machine = machine; action = action }) source sink answer
-command_done source sink answer machine same action other is are done =
-    subst (λ m. IsDone (record { machine = m; action = action }) source sink answer) is
-    (subst (λ a. IsDone (record { machine = same; action = a }) source sink answer) (sym are) done)
 
 -- of a file that was not opened nothing is left
 pub nothing_left : Opened
 nothing_left = record { bytes = None; failed = false }
 
 -- ---- what is answered
-
-pub stops_after : (answer : Result (Unit {0}) Stop) (told : Result (Unit {0}) DeskFault) (failed now : Bool) → answer ≡ stop_after failed told → failed ≡ now
-    → answer ≡ stop_after now told
-stops_after answer told failed now answers same = subst (λ f. answer ≡ stop_after f told) same answers
-
-pub err_is : (answer : Result (Unit {0}) Stop) (stop : Stop) → IsErrAnd answer (λ made. made ≡ stop) → answer ≡ Err stop
-err_is (Ok x) stop made = absurd made
-err_is (Err other) stop made = ap Err made
 
 abbrev fails : FileFault → Result KnownCommand FileFault
 fails fault = Err fault

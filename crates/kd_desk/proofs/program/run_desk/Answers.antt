@@ -1,5 +1,5 @@
 use Rattle.kd_desk.proofs.Prelude.{map, named, port}
-use Rattle.kd_desk.proofs.Runs.{asked_all, asked_for, asked_yet, said_command, done, unread}
+use Rattle.kd_desk.proofs.Runs.{asked_all, asked_yet, said_command, done, unread}
 use Rattle.kd_desk.proofs.program.run_desk.Goals as goal
 
 pub returns-in_err-command-2-clause-carried : goal.returns-in_err-command-2-clause-carried
@@ -23,14 +23,14 @@ pub returns-in_err-command-2-clause-asked : goal.returns-in_err-command-2-clause
 returns-in_err-command-2-clause-asked g c =
     let said = named c.in_ok-command.command in
     let words = map g.S.AsStr.text c.args.words.now in
-    λ command says. asked_for said command _ _ _ (said_command words said command c.in_ok-command.ensures.said says)
+    λ command says. rw (← said_command words said command c.in_ok-command.ensures.said says)
     (asked_yet _ _ _ _ _ c.from_residual-in_err-command-2.ensures.1 c.in_err-command-2.ensures.asked)
 
 pub returns-clause-asked : goal.returns-clause-asked
 returns-clause-asked g c =
     let said = named c.in_ok-command.command in
     let words = map g.S.AsStr.text c.args.words.now in
-    λ command says. asked_for said command _ _ _ (said_command words said command c.in_ok-command.ensures.said says) (asked_all _ _ _ _ c.in_ok-command-2.ensures.asked)
+    λ command says. rw (← said_command words said command c.in_ok-command.ensures.said says) (asked_all _ _ _ _ c.in_ok-command-2.ensures.asked)
 
 pub returns-in_err-command-2-clause-other_words : goal.returns-in_err-command-2-clause-other_words
 returns-in_err-command-2-clause-other_words g c = λ none. absurd (none (named c.in_ok-command.command) c.in_ok-command.ensures.said)
