@@ -1,4 +1,5 @@
 -- What is told of a card.
+use Rattle.std.proofs.Common.{arith}
 use Rattle.kd_desk.specs.Ports.{WritesText}
 use Rattle.kd_desk.proofs.Prelude.{◌≡◌, ℕ, List, length, Result, Ok, Err, IsErrAnd, refl, subst, Appends, TakesFront, Parts, Setting, IsMachine, Day, IsLegalDay, PriceParts, IsCard, DeskFault, Port, Checks, NoCard, Doubtful, Shortest, verdict_text}
 use Rattle.kd_card.specs.declared.fault.CardFault.{CardFault}

@@ -78,12 +78,10 @@ no_entered entered f e = grind (arith)
 -- the answer of a command that may not be there
 pub ok_said : (said : Option Lent) (answer : Result Lent Stop) (P Q : Lent → Type 0) → answer ≡ ok_or said Usage → ((command : Lent) → P command → Q command)
     → IfSome said P → IfOk answer Q
-ok_said None answer P Q e more is = rw e tt
-ok_said (Some command) answer P Q e more is = rw e (more command is)
+ok_said said answer P Q e d g = grind arith
 
 pub no_command_of : (said : Option Lent) (answer : Result Lent Stop) → answer ≡ ok_or said Usage → answer ≡ Err Usage → said ≡ None
 no_command_of said answer e usage = grind (arith)
 
 pub usage_or_said : (said : Option Lent) (answer : Result Lent Stop) → answer ≡ ok_or said Usage → IfErr answer (λ stop. stop ≢ Usage → stop ≡ Refused (File NoMemory))
-usage_or_said None answer e = rw e (λ other. absurd (other refl))
-usage_or_said (Some command) answer e = rw e tt
+usage_or_said said answer e = grind arith

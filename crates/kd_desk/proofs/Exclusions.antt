@@ -1,4 +1,6 @@
 -- Settings that bytes say, and lines that a machine refuses.
+use Rattle.std.proofs.lemmas.Grind.{common_steps}
+use Rattle.std.proofs.Common.{arith}
 use Rattle.kd_desk.proofs.Prelude.{◌≡◌, Bool, List, [], ◌∷◌, ◌++◌, Some, None, sym, subst, Parts, Setting, why_refused, Leads, IsTrue, IsFalse, ap, ◌∙◌, OfCard, OfList, InCard, InList}
 use Rattle.kd_state.specs.declared.setting.why.Why.{Why}
 use Rattle.kd_state.specs.Laws as lists
@@ -35,5 +37,4 @@ refused_behind to_one (y ∷ front) rest x m between n why leads at refused =
     refused_behind to_one front rest x at.0 between n why (subst (λ k. Leads k (front ++ x ∷ rest) n) same leads.2) at.2 refused
 
 pub lead_or_refuse : lists.CarriesToOne → LeadsOrRefuses
-lead_or_refuse to_one m n xs line why leads first =
-    refused_behind to_one first.front first.rest first.setting m first.between n why (subst (λ l. Leads m l n) first.split leads) first.leads first.refused
+lead_or_refuse to_one m n xs line why leads first = grind (arith, refused_behind)

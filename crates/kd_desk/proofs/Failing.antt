@@ -1,4 +1,6 @@
 -- What a failed call leaves of its ports.
+use Rattle.std.proofs.lemmas.Grind.{common_steps}
+use Rattle.std.proofs.Common.{arith}
 use Rattle.kd_desk.specs.declared.fault.DeskFault.TheVariants.{Device}
 use Rattle.kd_desk.specs.Ports.{WritesText}
 use Rattle.kd_desk.proofs.Prelude.{◌≡◌, ℕ, Bool, true, false, ◌||◌, List, Option, Result, Ok, Err, IsErrAnd, IsTrue, inr, sym, subst, Port, IsWell, Fail, ap, refl, Appends, TakesFront, DeskFault}
@@ -9,13 +11,11 @@ over had has before after = record { had = had; has = has; had_failed = before; 
 
 -- a failed call leaves the flag up
 pub failed_now : (before after : Bool) → after ≡ (before || true) → IsTrue after
-failed_now true after e = e
-failed_now false after e = e
+failed_now before after e = grind (arith, e)
 
 -- a call that did not fail leaves the flag as it was
 pub well_now : (before after : Bool) → after ≡ (before || false) → after ≡ before
-well_now true after e = e
-well_now false after e = e
+well_now before after e = grind (arith, e)
 
 -- a sink failed, or it did not, and the source was let be
 pub sink_fails : (source sink : Port) (failed : Bool) → IsWell source → sink.has_failed ≡ (sink.had_failed || failed) → Fail source sink failed
@@ -24,8 +24,7 @@ sink_fails source sink true well is = inr (record { failed = failed_now sink.had
 
 -- the error that `?` makes
 pub err_is : {T F : Type 0} (answer : Result T F) (fault : F) → IsErrAnd answer (λ made. made ≡ fault) → answer ≡ Err fault
-err_is (Ok x) fault made = absurd made
-err_is (Err other) fault made = ap Err made
+err_is answer fault e = grind arith
 
 -- what holds of that error
 pub answered : {T F : Type 0} (answer : Result T F) (fault : F) (P : Result T F → Type 0) → IsErrAnd answer (λ made. made ≡ fault) → P (Err fault) → P answer
@@ -37,5 +36,4 @@ in_whole text sink taken = record { written = record { whole = taken; front = tt
 
 pub in_part : (text : List ℕ) (sink : Port) (answer : Result (Unit {0}) DeskFault) → TakesFront sink.had sink.has text
     → IsErrAnd answer (λ made. made ≡ Device) → WritesText text sink answer
-in_part text sink answer taken made =
-    answered answer Device (WritesText text sink) made (record { written = record { whole = tt; front = taken }; device = refl })
+in_part text sink answer taken made = grind (arith, answered)

@@ -1,4 +1,5 @@
 -- The cards and the files of a month.
+use Rattle.std.proofs.lemmas.Grind.{common_steps}
 use Rattle.kd_desk.proofs.Failing.{in_whole}
 use Rattle.std.proofs.Common.{◌≡◌, ◌⊎◌, ℕ, List, [], ◌∷◌, All, Option, Some, Result, Ok, Err, IfOk, MatchResult, IsTrue, inl, inr, refl, sym, ap, ◌∙◌, subst, arith}
 use Rattle.std.proofs.lemmas.List.Elements.{All-tail}
@@ -113,10 +114,8 @@ sets tell to_one file sheet number papers are =
 
 pub months_set_the_machine : TextsTellSettings → LeadsToOne → MonthsSetTheMachine
 months_set_the_machine tell to_one file sheet [] [] are = tt
-months_set_the_machine tell to_one file sheet (number ∷ numbers) (papers ∷ more) are = (
-  sets tell to_one file sheet number papers are.0,
-  months_set_the_machine tell to_one papers.file sheet numbers more are.1,
-)
+months_set_the_machine tell to_one file sheet (number ∷ numbers) (papers ∷ more) are =
+    grind (arith, sets, months_set_the_machine tell to_one papers.file sheet numbers more are.1)
 months_set_the_machine tell to_one file sheet numbers papers are = absurd are
 
 -- ---- and there is something to be written

@@ -1,5 +1,5 @@
 -- What a card that was planned and written promises.
-use Rattle.std.proofs.Common.{◌≡◌, ℕ, List, Result, Ok, Err, IsErrAnd, refl, sym, subst}
+use Rattle.std.proofs.Common.{◌≡◌, ℕ, List, Result, Ok, Err, IsErrAnd, refl, sym, subst, arith}
 use Rattle.std.specs.Io.KnownBytes.{Appends}
 use Rattle.kd_tables.specs.Writing.{TakesFront}
 use Rattle.kd_state.specs.declared.machine.parts.Parts.{Parts}
@@ -22,18 +22,7 @@ module _ (keep : ListsKeepMachines) (ready : ReadingIsReady) (cipher : ReadingIs
     (m : Parts) (s : Day) (is_machine : IsMachine m) (legal : IsLegalDay s) where
   leaves : (text settings : List _) (numbered prices : PriceParts) → Plans m s settings numbered
       → IsCard text (day_number s) settings prices → headline.LeavesTheSheetsMachine m s settings
-  leaves text settings numbered prices plans card =
-      let n = plans.leads.0 in
-      let machine = keep m n settings is_machine card.in_range plans.leads.1 in (
-        n,
-        plans.leads.1,
-        record {
-          machine = machine;
-          reads = plans.leads.2;
-          ready = ready n s machine legal plans.leads.2;
-          enciphers = λ letters. cipher n s letters machine legal plans.leads.2;
-        },
-      )
+  leaves text settings numbered prices plans card = grind arith
 
   decipher : headline.EquallySetDecipher s
   decipher one other text set are =

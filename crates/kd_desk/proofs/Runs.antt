@@ -1,4 +1,6 @@
 -- Files that are read one after another, and what the program answers to a command.
+use Rattle.std.proofs.lemmas.Grind.{common_steps}
+use Rattle.std.proofs.Common.{arith}
 use Rattle.kd_desk.proofs.Failing.{err_is}
 use Rattle.kd_desk.proofs.Prelude.{◌≡◌, ℕ, suc, Bool, true, false, List, [], ◌∷◌, ◌++◌, take, Option, Some, None, IfSome, IsSomeAnd, Result, Ok, Err, IsErr, IsErrAnd, is_ok, refl, sym, ap, ◌∙◌, subst, inl, inr, append_assoc, Row, subcommand_of, DeskFault, Stop, Unread, Named, files_of, IsOf, Says, KnownCommand, KnownAction, KnownTask, command_over, AskFor, CarriesOut, DoesTask, IsDone, IsTaskDone, has_read, OnDay, Gives, Opened, Port}
 use Rattle.std.proofs.lemmas.Bool.{false≢true}
@@ -27,8 +29,7 @@ asks_on name names old new newer all is more =
 
 pub asks_no_more : {T : Type 0} (names old new : List (List ℕ)) (all : Bool) (answer : Result T FileFault) → IsErr answer → AskFor names old new all
     → AskFor names old new (is_ok answer)
-asks_no_more names old new all (Ok x) failed asks = absurd (false≢true failed)
-asks_no_more names old new all (Err fault) failed asks = record { number = asks.number; asked = asks.asked; whole = λ none. absurd (false≢true none) }
+asks_no_more names old new all answer e d = grind arith
 
 pub asked_all : (names old new : List (List ℕ)) (all : Bool) → AskFor names old new true → AskFor names old new all
 asked_all names old new all asks = record { number = asks.number; asked = asks.asked; whole = λ _. asks.whole refl }
@@ -36,8 +37,7 @@ asked_all names old new all asks = record { number = asks.number; asked = asks.a
 -- ---- what the words say
 
 said_by : (said : Option (List ℕ × List Row)) (one other : Named) → IsSomeAnd said (λ x. IsOf x one) → IsSomeAnd said (λ x. IsOf x other) → one ≡ other
-said_by None one other is are = absurd is
-said_by (Some said) one other is are = same_command said one other is are
+said_by said one other e d = grind (arith, same_command)
 
 -- the words say one command
 pub said_command : (words : List (List ℕ)) (one other : Named) → Says words one → Says words other → one ≡ other
@@ -67,10 +67,7 @@ module _ (source sink : Port) (answer : Result (Unit {0}) Stop) where
 
   file_refused : (meant : Result KnownCommand FileFault) (fault : FileFault) → Gives meant (Err fault) → answer ≡ Err (Unread fault)
       → CarriesOut meant source sink answer
-  file_refused (Ok command) fault (inl is) answers = cc
-  file_refused (Ok command) fault (inr lacks) answers = inr (inr (unread_by fault files.NoMemory lacks answers))
-  file_refused (Err other) fault (inl is) answers = inl (unread_by fault other is answers)
-  file_refused (Err other) fault (inr lacks) answers = inr (inr (unread_by fault files.NoMemory lacks answers))
+  file_refused meant fault e d = grind (arith, unread_by)
 
   carried_out : (meant : Result KnownCommand FileFault) (command : KnownCommand) → Gives meant (Ok command) → IsDone command source sink answer
       → CarriesOut meant source sink answer
@@ -83,9 +80,7 @@ module _ (source sink : Port) (answer : Result (Unit {0}) Stop) where
     Meant held = CarriesOut (command_over held command) source sink answer
 
     unread_of : (fault : FileFault) → answer ≡ Err (Unread fault) → (k : Known) → IfSome k (λ held. Gives (command_over held said) (Err fault)) → IfSome k Meant
-    unread_of fault answers None gives = tt
-    unread_of fault answers (Some held) gives =
-        file_refused (command_over held command) fault (subst (λ c. Gives (command_over held c) (Err fault)) same gives) answers
+    unread_of fault e k d = grind (arith, file_refused, same)
 
     pub unread : (fault : FileFault) → IsErrAnd answer (λ made. made ≡ Unread fault) → IfSome known (λ held. Gives (command_over held said) (Err fault))
         → IfSome known Meant
@@ -94,8 +89,7 @@ module _ (source sink : Port) (answer : Result (Unit {0}) Stop) where
     done_of : (of_files : KnownCommand) → IsDone of_files source sink answer → (k : Known) → IfSome k (λ held. Gives (command_over held said) (Ok of_files))
         → IfSome k Meant
     done_of of_files done None gives = tt
-    done_of of_files done (Some held) gives =
-        carried_out (command_over held command) of_files (subst (λ c. Gives (command_over held c) (Ok of_files)) same gives) done
+    done_of of_files done (Some held) gives = grind (arith, carried_out, same, done)
 
     pub done : (of_files : KnownCommand) → IsDone of_files source sink answer → IfSome known (λ held. Gives (command_over held said) (Ok of_files))
         → IfSome known Meant
