@@ -155,21 +155,16 @@ letters_are s legal = record {
 rotor_again : (s : RotorDay) → IsLegalRotorDay s → rotor_day_in s.day s.model (rotor_table s) ≡ Ok (OfRotors s)
 unfolding rotor_day_in reflector_in rings_in window_in
 rotor_again s legal =
-    let table = rotor_table s in
     let has = (has_reflector-Decides (reflectors_of s.model) s.reflector).1 legal.reflector in
-    let rings = map (λ w. w.ring) s.wheels in
-    let letters = map (λ w. w.letter) s.wheels in
-    then_read (reflector_in s.model table) _ s.reflector _
-    (ap (λ found. ok_or found (BadValue keys.Reflector)) (reflector_again s.model s.reflector has))
-    (then_read (seats_in keys.Wheels s.model table) _ (seats s.wheels) _
-    (seats_in_again keys.Wheels s.model table (seats s.wheels) refl (all_seated s.wheels) legal.wheels)
-    (then_read (rings_in s.model table) _ rings _
-    (ap (λ found. ok_or found (BadValue keys.Rings)) (capitals_again _ rings (rings_are s legal)))
-    (then_read (window_in s.model table) _ letters _
-    (ap (λ found. ok_or found (BadValue keys.Window)) (capitals_again _ letters (letters_are s legal)))
-    (then_read (pairs_in table) _ s.pairs _ (pairs_in_again s legal)
-    (then_read (groups_in table) _ s.groups _ (groups_in_again s legal)
-    (ap (λ wheels. Ok (OfRotors (record s { wheels = wheels }))) (wheels_again s.wheels)))))))
+    rw (
+      reflector_again s.model s.reflector has,
+      seats_in_again keys.Wheels s.model (rotor_table s) (seats s.wheels) refl (all_seated s.wheels) legal.wheels,
+      capitals_again _ _ (rings_are s legal),
+      capitals_again _ _ (letters_are s legal),
+      pairs_in_again s legal,
+      groups_in_again s legal,
+      wheels_again s.wheels,
+    ) refl
 
 rows_in_again : (s : PinDay) → IsLegalPinDay s → rows_in (pin_table s) ≡ Ok s.rows
 unfolding rows_in

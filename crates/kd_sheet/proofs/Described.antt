@@ -57,9 +57,7 @@ capital_within byte e = grind (arith, leb-true)
 capitals_within : (text : List ℕ) → list_all is_capital text ≡ true
     → AllByRecursion (λ letter. letter < 26) (letters_of text)
 capitals_within [] e = tt
-capitals_within (byte ∷ text) e =
-    let both = and_parts (is_capital byte) (list_all is_capital text) e in
-    (capital_within byte both.0, capitals_within text both.1)
+capitals_within (byte ∷ text) e = grind (arith, nat_tests, capital_within, capitals_within text)
 
 letters_read : (text : List ℕ) → list_all is_capital text ≡ true → AreLetters (length text) (letters_of text)
 letters_read text e =
@@ -79,34 +77,19 @@ letter_found item (Some number) is e =
 
 some_letter : (item : Data) → is_some (numbered_letter item) ≡ true
     → (letter : ℕ) × (numbered_letter item ≡ Some letter) × (letter < 26)
-some_letter item e = letter_found item (number_to 26 item) refl e
+some_letter item e = grind (arith, nat_tests, number_within)
 
 numbered_letters_within : (items : List Data) → list_all (λ item. is_some (numbered_letter item)) items ≡ true
     → AllByRecursion (λ letter. letter < 26) (filter_map numbered_letter items)
     × (length (filter_map numbered_letter items) ≡ length items)
 numbered_letters_within [] e = (tt, refl)
 numbered_letters_within (item ∷ items) e =
-    let both = and_parts (is_some (numbered_letter item)) (list_all (λ item. is_some (numbered_letter item)) items) e in
-    let rest = numbered_letters_within items both.1 in
-    let first = some_letter item both.0 in
-    rw first.1 ((first.2, rest.0), ap suc rest.1)
+    grind (arith, nat_tests, some_letter, numbered_letters_within items)
 
 rings_are_letters : (count : ℕ) (value : Data) (rings : List ℕ) → rings_of count value ≡ Some rings
     → AreLetters count rings
-rings_are_letters count (string text) rings e = capitals_are_letters count text rings e
-rings_are_letters count (array items) rings e =
-    let all = list_of items in
-    let is =
-    some_if (length all == count && list_all (λ item. is_some (numbered_letter item)) all)
-    (filter_map numbered_letter all) rings e in
-    let both = and_parts (length all == count) (list_all (λ item. is_some (numbered_letter item)) all) is.0 in
-    let letters = numbered_letters_within all both.1 in
-    subst (AreLetters count) is.1 (record {
-      count = letters.1
-          ∙ eqb-true _ _ both.0;
-      within = All-from_recursion (λ letter. letter < 26) _ letters.0;
-    })
-rings_are_letters count value rings e = absurd (none-some rings e)
+rings_are_letters count value rings e =
+    grind (arith, nat_tests, some_if, capitals_are_letters, numbered_letters_within, All-from_recursion)
 
 -- ---- wheels
 
@@ -117,13 +100,7 @@ record Seats (model : Model) (slots : List (Option Wheel)) : Type 0 where
   filled : AllByRecursion IsSome slots
 
 no_seats : (model : Model) → Seats model []
-no_seats model =
-    record {
-      allowed = λ place wheel at. absurd (none-some _ at);
-      apart = λ place other wheel at there. absurd
-          (none-some _ at);
-      filled = tt;
-    }
+no_seats model = grind (arith, none-some)
 
 record IsSeat (model : Model) (slots : List (Option Wheel)) (item : Data) (seat : Option Wheel) : Type 0 where
   named : wheel_of_item item ≡ seat
@@ -193,20 +170,7 @@ some_text item letters e = grind (arith, some_if, letters, eqb-true, letters_rea
 cable_read : (plugged : List ℕ) (item : Data) (cable : Option ℕ × Option ℕ)
     → cable_for keys.Plugs plugged item ≡ Ok cable → IsCable plugged item cable
 unfolding cable_for
-cable_read plugged item cable e =
-    let first = given (ok_or (letters_of_item keys.Plugs item) (BadValue keys.Plugs)) _ cable e in
-    let letters = there_was (letters_of_item keys.Plugs item) _ first.0 first.1 in
-    let new = passed _ _ _ cable first.2 in
-    let two = some_text item first.0 letters in
-    let same : cable_of first.0 ≡ cable = same_found _ _ new.1 in
-    record {
-      letters = first.0;
-      plugs = letters;
-      within = two.within;
-      free = new.0;
-      is = ap cable_letters (sym same)
-          ∙ two_letters first.0 two.count;
-    }
+cable_read plugged item cable e = grind (arith, some_text, two_letters)
 
 cables_read : (earlier items : List Data) (done cables : List (Option ℕ × Option ℕ))
     → flat_map (plugged_by keys.Plugs) earlier ≡ plugged_letters done
@@ -291,10 +255,7 @@ all_groups value groups e =
 
 groups_found : (found : Option Data) (groups : List (List ℕ)) → option_map_or all_groups_in found (Ok []) ≡ Ok groups
     → AreGroups groups
-groups_found None groups e =
-    let none : [] ≡ groups = same_found _ _ e in
-    subst AreGroups none (record { few = omega arith; words = All-nil (AreLetters 3) })
-groups_found (Some value) groups e = all_groups value groups e
+groups_found found groups e = grind (arith, all_groups, All-nil)
 
 groups_are_groups : (table : Members) (groups : List (List ℕ)) → groups_in table ≡ Ok groups → AreGroups groups
 unfolding groups_in
@@ -365,14 +326,7 @@ figure_within byte e = grind (arith, leb-true)
 
 row_is_reading : (one other : ℕ) → is_figure one ≡ true → is_figure other ≡ true → may_read one other ≡ true
     → IsReading (in_order (one - 48) (other - 48))
-row_is_reading one other low high may =
-    let a = figure_within one low in
-    let b = figure_within other high in
-    record {
-      ordered = omega arith;
-      within = omega (arith, a, b);
-      equal = λ same. grind (arith, nat_tests);
-    }
+row_is_reading one other low high may = grind (arith, nat_tests, figure_within)
 
 row_read : (text : List ℕ) (numbers : ℕ × ℕ) → row_of_text text ≡ Some numbers → IsReading numbers
 unfolding row_of_text
@@ -419,7 +373,7 @@ found_letters found text letters e d =
 
 letters_shown : (text letters : List ℕ) → letters_on_wheels text ≡ Some letters → AreOnWheels letters
 unfolding letters_on_wheels
-letters_shown text letters e = found_letters (capital_letters 6 text) text letters refl e
+letters_shown text letters e = grind (arith, common_steps, some_if, on_wheels, capitals_are_letters)
 
 pin_day : (number : ℕ) (table : Members) (day : Day) → IsDayNumber number → pin_day_in number table ≡ Ok day
     → IsDay number day

@@ -45,16 +45,12 @@ no_escape byte plain = grind (arith, nat_tests)
 none_of : (test : ℕ → Bool) → ((byte : ℕ) → is_plain byte ≡ true → test byte ≡ false) → (text : List ℕ) → IsPlain text
     → list_any test text ≡ false
 none_of test none [] plain = refl
-none_of test none (byte ∷ text) plain =
-    let parts = and_parts (is_plain byte) (list_all is_plain text) plain in
-    rw (none byte parts.0, none_of test none text parts.1) refl
+none_of test none (byte ∷ text) plain = grind (arith, nat_tests, none, none_of test none text)
 
 escaped_plain : (text : List ℕ) → IsPlain text → escaped false 0 text ≡ text
 unfolding escaped quotes_after
 escaped_plain [] plain = refl
-escaped_plain (byte ∷ text) plain =
-    let parts = and_parts (is_plain byte) (list_all is_plain text) plain in
-    rw (no_escape byte parts.0, is_other byte 34 parts.0 refl, escaped_plain text parts.1) refl
+escaped_plain (byte ∷ text) plain = grind (arith, nat_tests, no_escape, is_other, escaped_plain text)
 
 quoted_is : (text : List ℕ) → IsPlain text → quoted text ≡ string_text text
 unfolding string_text encoding_of
@@ -68,10 +64,7 @@ is_low byte = nat_lt byte 128
 
 plain_low : (text : List ℕ) → IsPlain text → list_all is_low text ≡ true
 plain_low [] plain = refl
-plain_low (byte ∷ text) plain =
-    let parts = and_parts (is_plain byte) (list_all is_plain text) plain in
-    let low : (byte : ℕ) → is_plain byte ≡ true → is_low byte ≡ true = λ byte is. grind (arith, nat_tests) in
-    rw (low byte parts.0, plain_low text parts.1) refl
+plain_low (byte ∷ text) plain = grind (arith, nat_tests, plain_low text)
 
 -- what stands in a line of a file: the key, its value, and the text that writes the value
 abbrev pub Entry : Type 0
@@ -110,13 +103,7 @@ are_written : {X : Type 0} (text_of : X → List ℕ) (things : List X) → AllB
     → AreWritten text_of things
 are_written text_of [] plain = record { writes = refl; shallow = refl; dated = refl; low = refl }
 are_written text_of (x ∷ things) plain =
-    let rest = are_written text_of things plain.1 in
-    record {
-      writes = grind (arith, quoted, text_of, append_assoc, quoted_is);
-      shallow = rw rest.shallow refl;
-      dated = rest.dated;
-      low = simp (list_all-append, plain_low (text_of x) plain.0, rest.low);
-    }
+    grind (arith, common_steps, append_assoc, quoted_is, list_all-append, plain_low, are_written text_of things plain.1)
 
 one_line : (ds : Items) → breaks_lines false ds ≡ false
 one_line ds = grind arith
@@ -163,7 +150,7 @@ all_printed (entry ∷ entries) all = ((refl, all.0.shallow, all.0.dated), all_p
 file_low : (entries : List Entry) → AllByRecursion IsWritten entries
     → list_all is_low (concat (map line_of entries)) ≡ true
 file_low [] all = refl
-file_low (entry ∷ entries) all = simp (list_all-append, key_low entry.0, all.0.low, file_low entries all.1)
+file_low (entry ∷ entries) all = grind (arith, list_all-append, key_low, file_low entries all.1)
 
 no_mark : (text : List ℕ) → list_all is_low text ≡ true → skip_bom text ≡ text
 unfolding skip_bom

@@ -75,11 +75,7 @@ pub reads : {A : Type 0} (reading : List Data → Data
 reads reading earlier [] [] e = tt
 reads reading earlier [] (value ∷ values) e = absurd (cc)
 reads reading earlier (item ∷ items) values e =
-    let first = given (reading earlier item) _ values (sym (ap all_values (one_answer reading earlier item items))
-    ∙ e) in
-    let rest = given (all_values (answers reading (earlier ++ item ∷ []) items)) _ values first.2 in
-    subst (Reads reading earlier (item ∷ items)) (same_found _ _ rest.2)
-    (first.1, reads reading (earlier ++ item ∷ []) items rest.0 rest.1)
+    grind (arith, one_answer, given, reads reading (earlier ++ item ∷ []) items)
 
 pub reads_again : {A : Type 0} (reading : List Data → Data
     → Result A SheetFault) (earlier items : List Data) (values : List A)

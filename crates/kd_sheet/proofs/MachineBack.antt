@@ -74,9 +74,7 @@ seats_plain (Some wheel ∷ slots) = (wheel_plain wheel, seats_plain slots)
 cables_plain : (cables : List (Option ℕ × Option ℕ)) → AllByRecursion (λ letter. letter < 26) (plugged_letters cables)
     → AllByRecursion (λ cable. IsPlain (cable_text cable)) cables
 cables_plain [] within = tt
-cables_plain (cable ∷ cables) within =
-    let parts = all_parts (λ letter. letter < 26) (cable_letters cable) (plugged_letters cables) within in
-    (letters_plain (cable_letters cable) parts.0, cables_plain cables parts.1)
+cables_plain (cable ∷ cables) within = grind (arith, all_parts, letters_plain, cables_plain cables)
 
 pins_plain : (wheel : ℕ) (pins : List Bool) → IsPlain (pins_text (ring_of wheel) pins)
 pins_plain wheel pins = each_byte is_plain (ring_of wheel) pins (letters_apart wheel)
@@ -158,31 +156,10 @@ rotor_table m =
 rotor_read : (m : RotorParts) → IsLegalRotor m → document_of (machine_text (Rotor m)) ≡ Ok (rotor_table m)
 unfolding machine_text define along_header along_dots at_key
 rotor_read m legal =
-    let within : (letters : List ℕ) → All (λ letter. letter < 26) letters → IsPlain (letters_text letters) =
-    λ letters all. letters_plain letters (recursion_from_All (λ letter. letter < 26) letters all) in
-    file_read (rotor_entries m) (rotor_table m) (
-      version_written m.model,
-      (
-        text_written keys.Model (model_text m.model) (model_plain m.model),
-        (
-          text_written keys.Reflector (reflector_text m.reflector) (reflector_plain m.reflector),
-          (
-            texts_written keys.Slots seat_text m.slots (seats_plain m.slots),
-            (
-              text_written keys.Rings (letters_text m.rings) (within m.rings legal.rings.within),
-              (
-                text_written keys.Letters (letters_text m.letters) (within m.letters legal.letters.within),
-                (
-                  texts_written keys.Cables cable_text m.cables
-                      (cables_plain m.cables (recursion_from_All (λ letter. letter < 26) _ legal.cables.within)),
-                  tt,
-                ),
-              ),
-            ),
-          ),
-        ),
-      ),
-    ) refl
+    let all : AllByRecursion IsWritten (rotor_entries m) =
+    search (rules, version_written, text_written, texts_written, model_plain, reflector_plain, seats_plain, letters_plain,
+    cables_plain, recursion_from_All, legal.rings.within, legal.letters.within, legal.cables.within) in
+    file_read (rotor_entries m) (rotor_table m) all refl
 
 cables_in_again : (m : RotorParts) → IsLegalRotor m → cables_in (rotor_table m) ≡ Ok (map single_first m.cables)
 unfolding cables_in
@@ -192,18 +169,10 @@ rotor_parts_again : (m : RotorParts) → IsLegalRotor m
     → rotor_parts_in m.model (rotor_table m) ≡ Ok (record m { cables = map single_first m.cables })
 unfolding rotor_parts_in reflector_in box_letters_in
 rotor_parts_again m legal =
-    let table = rotor_table m in
     let has = (has_reflector-Decides (reflectors_of m.model) m.reflector).1 legal.reflector in
-    then_read (reflector_in m.model table) _ m.reflector _
-    (ap (λ found. ok_or found (BadValue keys.Reflector)) (reflector_again m.model m.reflector has))
-    (then_read (seats_in keys.Slots m.model table) _ m.slots _
-    (seats_in_again keys.Slots m.model table m.slots refl (all_may_stand m.slots)
-    (record { count = legal.slots; allowed = legal.allowed; apart = legal.apart }))
-    (then_read (box_letters_in keys.Rings m.model table) _ m.rings _
-    (ap (λ found. ok_or found (BadValue keys.Rings)) (capitals_again _ m.rings legal.rings))
-    (then_read (box_letters_in keys.Letters m.model table) _ m.letters _
-    (ap (λ found. ok_or found (BadValue keys.Letters)) (capitals_again _ m.letters legal.letters))
-    (then_read (cables_in table) _ (map single_first m.cables) _ (cables_in_again m legal) refl))))
+    let seated = seats_in_again keys.Slots m.model (rotor_table m) m.slots refl (all_may_stand m.slots)
+    (record { count = legal.slots; allowed = legal.allowed; apart = legal.apart }) in
+    grind (arith, then_read, reflector_again, capitals_again, cables_in_again)
 
 by_model : (model : Model) (reflector : Reflector) (table : Members) (m : RotorParts)
     → has_reflector (reflectors_of model) reflector ≡ true → rotor_parts_in model table ≡ Ok m
@@ -230,20 +199,10 @@ pin_read : (m : PinParts) → IsLegalPin m → document_of (machine_text (Pin m)
 unfolding machine_text define along_header along_dots at_key
 pin_read m legal =
     let all_pins : AllByRecursion IsPlain (pin_texts m.pins) = grind (arith, pins_plain) in
-    file_read (pin_entries m) (pin_table m) (
-      version_written M209,
-      (
-        text_written keys.Model (model_text M209) (model_plain M209),
-        (
-          text_written keys.Letters (letters_text m.letters)
-              (letters_plain m.letters (wheels_letters_within m.letters legal.letters)),
-          (
-            texts_written keys.Pins (λ text. text) (pin_texts m.pins) all_pins,
-            (texts_written keys.Bars standing_text m.bars (bars_plain m.bars), tt),
-          ),
-        ),
-      ),
-    ) refl
+    let all : AllByRecursion IsWritten (pin_entries m) =
+    search (rules, version_written, text_written, texts_written, model_plain, all_pins, letters_plain, bars_plain,
+    wheels_letters_within, legal.letters) in
+    file_read (pin_entries m) (pin_table m) all refl
 
 bars_again : (m : PinParts) → IsLegalPin m → bars_in (pin_table m) ≡ Ok m.bars
 unfolding bars_in

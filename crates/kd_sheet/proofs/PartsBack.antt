@@ -123,10 +123,7 @@ on_wheels_again (letter ∷ letters) first on =
 on_six_wheels : (letters : List ℕ) → AreOnWheels letters
     → (list_all (λ (numbered : ℕ × ℕ). has_letter (ring_of numbered.0) numbered.1) (enumerate_from 1 letters) ≡ true)
     × AllByRecursion (λ letter. letter < 26) letters
-on_six_wheels letters are =
-    on_wheels_again letters 1 (λ place letter at.
-    let wheel : suc place ≡ 1 + place = omega arith in
-    subst (λ w. Contains (ring_of w) letter) wheel (are.each (suc place) letter at))
+on_six_wheels letters are = on_wheels_again letters 1 (λ place letter at. grind (arith, are.each))
 
 pub wheels_letters_within : (letters : List ℕ) → AreOnWheels letters → AllByRecursion (λ letter. letter < 26) letters
 wheels_letters_within letters are = (on_six_wheels letters are).1
@@ -246,9 +243,7 @@ new_letters : (plugged letters rest : List ℕ) → IsDistinct nat_eq (plugged +
     → are_new plugged letters ≡ true
 new_letters plugged [] rest apart = refl
 new_letters plugged (letter ∷ letters) rest apart =
-    let more : IsDistinct nat_eq ((plugged ++ letter ∷ []) ++ (letters ++ rest)) =
-    rw (append_assoc plugged (letter ∷ []) (letters ++ rest)) apart in
-    rw (new_behind plugged letter (letters ++ rest) apart, new_letters (plugged ++ letter ∷ []) letters rest more) refl
+    grind (arith, append_assoc, new_behind, new_letters (plugged ++ letter ∷ []) letters rest)
 
 pub all_parts : {X : Type 0} (P : X → Type 0) (xs ys : List X) → AllByRecursion P (xs ++ ys)
     → AllByRecursion P xs × AllByRecursion P ys
@@ -263,15 +258,9 @@ cables_again : (key : Key) (earlier : List Data) (plugged : List ℕ) (cables : 
 unfolding cable_for
 cables_again key earlier plugged [] so_far may within apart = tt
 cables_again key earlier plugged (cable ∷ cables) so_far may within apart =
+    let more = cables_again key (earlier ++ cable_item cable ∷ []) (plugged ++ cable_letters cable) cables in
     let parts = all_parts (λ letter. letter < 26) (cable_letters cable) (plugged_letters cables) within in
-    let letters = cable_spelled key cable may.0 parts.0 in
-    let new = new_letters plugged (cable_letters cable) (plugged_letters cables) apart in
-    let now : flat_map (plugged_by key) (earlier ++ cable_item cable ∷ []) ≡ plugged ++ cable_letters cable =
-    rw (flat_map-append, so_far, letters, append-nil) refl in (
-      rw (so_far, letters, new) refl,
-      cables_again key (earlier ++ cable_item cable ∷ []) (plugged ++ cable_letters cable) cables now may.1 parts.1
-          (rw (append_assoc plugged (cable_letters cable) (plugged_letters cables)) apart),
-    )
+    grind (arith, cable_spelled, new_letters, flat_map-append, append_assoc, append-nil, more)
 
 pub all_cables_again : (key : Key) (cables : List (Option ℕ × Option ℕ)) → length cables ≤ 13
     → AllByRecursion (MayPlug key) cables → AllByRecursion (λ letter. letter < 26) (plugged_letters cables)
