@@ -140,16 +140,12 @@ groups_in_again s legal =
     (each_again group_for (λ group. string (letters_text group)) (AreLetters 3) group_again [] s.groups
     (recursion_from_All _ _ legal.groups))))
 
-rings_are : (s : RotorDay) → IsLegalRotorDay s → AreLetters (slots_of s.model) (map (λ w. w.ring) s.wheels)
-rings_are s legal = record {
+-- what each wheel has, the ring or the letter in the window
+parts_are : (s : RotorDay) → IsLegalRotorDay s → (part : SheetWheel → ℕ) → ((w : SheetWheel) → HasLetters w → part w < 26)
+    → AreLetters (slots_of s.model) (map part s.wheels)
+parts_are s legal part low = record {
   count = length-map s.wheels _ ∙ sym (length-map s.wheels _) ∙ legal.wheels.count;
-  within = All-map (λ letter. letter < 26) _ s.wheels (All-weaker HasLetters _ (λ w has. has.ring) s.wheels legal.letters);
-}
-
-letters_are : (s : RotorDay) → IsLegalRotorDay s → AreLetters (slots_of s.model) (map (λ w. w.letter) s.wheels)
-letters_are s legal = record {
-  count = length-map s.wheels _ ∙ sym (length-map s.wheels _) ∙ legal.wheels.count;
-  within = All-map (λ letter. letter < 26) _ s.wheels (All-weaker HasLetters _ (λ w has. has.letter) s.wheels legal.letters);
+  within = All-map (λ letter. letter < 26) _ s.wheels (All-weaker HasLetters _ low s.wheels legal.letters);
 }
 
 rotor_again : (s : RotorDay) → IsLegalRotorDay s → rotor_day_in s.day s.model (rotor_table s) ≡ Ok (OfRotors s)
@@ -159,8 +155,8 @@ rotor_again s legal =
     rw (
       reflector_again s.model s.reflector has,
       seats_in_again keys.Wheels s.model (rotor_table s) (seats s.wheels) refl (all_seated s.wheels) legal.wheels,
-      capitals_again _ _ (rings_are s legal),
-      capitals_again _ _ (letters_are s legal),
+      capitals_again _ _ (parts_are s legal (λ w. w.ring) (λ w has. has.ring)),
+      capitals_again _ _ (parts_are s legal (λ w. w.letter) (λ w has. has.letter)),
       pairs_in_again s legal,
       groups_in_again s legal,
       wheels_again s.wheels,
@@ -180,14 +176,12 @@ pin_again s legal = grind (arith, then_read, rows_in_again, pins_in_again, windo
 pub legal_is_described : (day : Day) → IsLegalDay day → (table : Members) × (day_in [] table ≡ Ok day)
 unfolding number_in model_in model_day_in
 legal_is_described (OfRotors s) legal =
-    let number = ap (λ found. ok_or found (BadValue keys.Day)) (number_again s.day legal.day) in
-    let model = ap (λ found. ok_or found UnknownModel) (model_by_name-text s.model) in
     let has = (has_reflector-Decides (reflectors_of s.model) s.reflector).1 legal.reflector in (
       rotor_table s,
-      day_again s.day s.model (rotor_table s) (OfRotors s) number model
+      day_again s.day s.model (rotor_table s) (OfRotors s) (rw (number_again s.day legal.day) refl)
+          (rw (model_by_name-text s.model) refl)
           (by_model s.day s.model s.reflector (rotor_table s) (OfRotors s) has (rotor_again s legal)),
     )
 legal_is_described (OfPins s) legal =
-    let number = ap (λ found. ok_or found (BadValue keys.Day)) (number_again s.day legal.day) in
     let model = ap (λ found. ok_or found UnknownModel) (model_by_name-text M209) in
-    (pin_table s, day_again s.day M209 (pin_table s) (OfPins s) number model (pin_again s legal))
+    (pin_table s, day_again s.day M209 (pin_table s) (OfPins s) (rw (number_again s.day legal.day) refl) model (pin_again s legal))

@@ -67,14 +67,6 @@ pub capitals_are_letters : (count : ℕ) (text letters : List ℕ) → capital_l
     → AreLetters count letters
 capitals_are_letters count text letters e = grind (arith, some_if, count, letters, eqb-true, letters_read)
 
-letter_found : (item : Data) (found : Option ℕ) → number_to 26 item ≡ found
-    → is_some (option_map (λ number. number - 1) found) ≡ true
-    → (letter : ℕ) × (numbered_letter item ≡ Some letter) × (letter < 26)
-letter_found item None is e = absurd (cc)
-letter_found item (Some number) is e =
-    let within = number_within 26 item number is in
-    (number - 1, ap (option_map (λ n. n - 1)) is, omega (arith, within.0, within.1))
-
 some_letter : (item : Data) → is_some (numbered_letter item) ≡ true
     → (letter : ℕ) × (numbered_letter item ≡ Some letter) × (letter < 26)
 some_letter item e = grind (arith, nat_tests, number_within)
@@ -248,10 +240,7 @@ all_groups value groups e =
     let items = given (items_in keys.Groups value) _ groups e in
     let few = passed (nat_le (length items.0) 4) _ _ groups items.2 in
     let read = reads group_for [] items.0 groups few.1 in
-    record {
-      few = omega (arith, leb-true (length items.0) 4 few.0, reads_each group_for [] items.0 groups read);
-      words = All-from_recursion (AreLetters 3) groups (groups_read [] items.0 groups read);
-    }
+    grind (arith, leb-true, reads_each, groups_read, All-from_recursion)
 
 groups_found : (found : Option Data) (groups : List (List ℕ)) → option_map_or all_groups_in found (Ok []) ≡ Ok groups
     → AreGroups groups
@@ -364,12 +353,6 @@ pins_read earlier items lists r = absurd r
 six_fit : (lists : List (List Bool)) → length lists ≡ 6 → Fit 1 lists → HasAllPins (pin_set lists)
 unfolding ring_of
 six_fit lists e d = grind (arith, common_steps, all_pins)
-
-found_letters : (found : Option (List ℕ)) (text letters : List ℕ) → capital_letters 6 text ≡ found
-    → option_and_then (λ letters. cond (are_on_wheels letters) (Some letters) None) found ≡ Some letters
-    → AreOnWheels letters
-found_letters found text letters e d =
-    grind (arith, common_steps, none-some, letters, some_if, found, on_wheels, capitals_are_letters)
 
 letters_shown : (text letters : List ℕ) → letters_on_wheels text ≡ Some letters → AreOnWheels letters
 unfolding letters_on_wheels

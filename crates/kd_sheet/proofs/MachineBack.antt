@@ -221,13 +221,11 @@ pub parts_are_read_back : LegalPartsAreReadBack
 unfolding version_in model_in parts_in
 parts_are_read_back (Rotor m) legal =
     let has = (has_reflector-Decides (reflectors_of m.model) m.reflector).1 legal.reflector in
-    let read = told m.model (rotor_table m) _
-    (ap (λ found. ok_or found (BadValue keys.Version)) (version_again m.model))
-    (ap (λ found. ok_or found UnknownModel) (model_by_name-text m.model))
+    let read = told m.model (rotor_table m) _ (rw (version_again m.model) refl) (rw (model_by_name-text m.model) refl)
     (by_model m.model m.reflector (rotor_table m) _ has (rotor_parts_again m legal)) in
     then_read (document_of (machine_text (Rotor m))) machine_in (rotor_table m) _ (rotor_read m legal) read
     ∙ ap (λ cables. Ok (Rotor (record m { cables = cables }))) (same_cables m.cables)
 parts_are_read_back (Pin m) legal =
     let read = told M209 (pin_table m) _ refl (ap (λ found. ok_or found UnknownModel) (model_by_name-text M209))
-    (ap (λ parts. parts >>= (λ m. Ok (Pin m))) (pin_parts_again m legal)) in
+    (rw (pin_parts_again m legal) refl) in
     then_read (document_of (machine_text (Pin m))) machine_in (pin_table m) _ (pin_read m legal) read

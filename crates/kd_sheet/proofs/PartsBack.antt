@@ -1,4 +1,5 @@
 -- What is written of the parts of a machine, or of a day, is read as just these.
+use Rattle.std.proofs.lemmas.Bool.Decides.{nat_tests}
 use Rattle.std.proofs.lemmas.Grind.{common_steps}
 use Rattle.std.proofs.Common.{◌≡◌, ℕ, zero, suc, nat_lt, ◌+◌, ◌-◌, ◌<◌, ◌≤◌, nat_eq, nat_le, Bool, true, false, cond, ◌==◌, List, [], ◌∷◌, ◌++◌, length, map, Contains, slice_get, Option, Some, None, Result, Ok, ok_or, refl, sym, ap, ◌∙◌, subst, arith, rules}
 use Rattle.std.specs.List.{list_all, flat_map, enumerate_from, IsDistinct, AllByRecursion}
@@ -94,9 +95,7 @@ capitals_again count letters are =
 pub all_below : (limit : ℕ) (xs : List ℕ) → list_all (λ x. nat_lt x limit) xs ≡ true
     → AllByRecursion (λ x. x < limit) xs
 all_below limit [] e = tt
-all_below limit (x ∷ xs) e =
-    let both = and_parts (nat_lt x limit) (list_all (λ x. nat_lt x limit) xs) e in
-    (ltb-true x limit both.0, all_below limit xs both.1)
+all_below limit (x ∷ xs) e = grind (arith, nat_tests, all_below limit xs)
 
 ring_below : (wheel : ℕ) → list_all (λ letter. nat_lt letter 26) (ring_of wheel) ≡ true
 unfolding ring_of
@@ -132,11 +131,8 @@ pub window_again : (window : List ℕ) → AreOnWheels window → letters_on_whe
 unfolding letters_on_wheels
 window_again window are =
     let on = on_six_wheels window are in
-    rw (
-      capitals_again 6 window
-          (record { count = are.count; within = All-from_recursion (λ letter. letter < 26) window on.1 }),
-      on.0,
-    ) refl
+    let letters : AreLetters 6 window = record { count = are.count; within = All-from_recursion _ window on.1 } in
+    rw (capitals_again 6 window letters, on.0) refl
 
 -- ---- reflector and wheels
 
