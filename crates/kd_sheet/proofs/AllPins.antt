@@ -1,5 +1,5 @@
 -- As many pins as letters.
-use Rattle.std.proofs.Common.{◌≡◌, zero, suc, length, refl, arith}
+use Rattle.std.proofs.Common.{◌≡◌, length, arith}
 use Rattle.kd_tables.specs.Rings.{ring_of}
 use Rattle.kd_pins.specs.declared.pin_set.PinSet.{PinSet}
 use Rattle.kd_state.specs.Machine.{HasAllPins}

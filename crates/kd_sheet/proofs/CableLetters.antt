@@ -1,6 +1,5 @@
 -- The letters in cables.
-use Rattle.std.proofs.lemmas.Grind.{common_steps}
-use Rattle.std.proofs.Common.{◌≡◌, ℕ, zero, suc, ◌+◌, ◌-◌, ◌<◌, ◌≤◌, nat_eq, true, false, not, List, [], ◌∷◌, ◌++◌, length, map, set, take, drop, get_or, replicate, Option, Some, None, unwrap_or, refl, sym, ap, ◌∙◌, arith, rules}
+use Rattle.std.proofs.Common.{◌≡◌, ℕ, zero, suc, ◌+◌, ◌-◌, ◌<◌, ◌≤◌, nat_eq, true, false, not, List, [], ◌∷◌, ◌++◌, length, map, set, take, drop, get_or, replicate, Option, Some, None, unwrap_or, refl, sym, ap, ◌∙◌, arith}
 use Rattle.std.specs.List.{flat_map, IsDistinct, AllByRecursion}
 use Rattle.std.proofs.lemmas.Bool.{or_parts, and_parts, not-true}
 use Rattle.std.proofs.lemmas.List.{append_assoc, append-nil, length-map, take_more, take_more_set, take-append-drop, length-take-le, drop-set-lt, drop_more}
@@ -75,7 +74,7 @@ plugged_more key cables items place item cable room left here read before =
 
 -- the cables that are filled, with the empty ones behind them
 pub all_thirteen : (cables : List (Option ℕ × Option ℕ)) (count : ℕ) → length cables ≡ 13 → count ≤ 13 → drop count cables ≡ replicate (13 - count) (None, None) → thirteen (take count cables) ≡ cables
-all_thirteen cables count long few empty = grind (arith, count, length-take-le, empty, take-append-drop)
+all_thirteen cables count long few empty = grind (arith, length-take-le, empty, take-append-drop)
 
 pub plugged_letters-take : (cables : List (Option ℕ × Option ℕ)) (count n : ℕ) → drop count cables ≡ replicate n (None, None) → plugged_letters (take count cables) ≡ plugged_letters cables
 plugged_letters-take cables count n empty =

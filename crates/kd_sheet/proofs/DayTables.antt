@@ -1,8 +1,8 @@
 -- Each legal day is described by a table: by the one with the texts of its parts.
 use Rattle.std.proofs.lemmas.Grind.{common_steps}
-use Rattle.std.proofs.Common.{◌≡◌, ℕ, zero, suc, replicate, min, max, ◌+◌, ◌-◌, ◌<◌, nat_le, true, false, ◌==◌, List, [], ◌∷◌, length, map, Option, Some, None, Ok, ok_or, pos, refl, sym, ap, ◌∙◌, inl, inr, arith, rules}
+use Rattle.std.proofs.Common.{◌≡◌, ℕ, zero, suc, replicate, ◌+◌, ◌<◌, nat_le, true, List, [], ◌∷◌, length, map, Option, Some, None, Ok, ok_or, pos, refl, sym, ap, ◌∙◌, arith}
 use Rattle.std.specs.List.{AllByRecursion}
-use Rattle.std.proofs.lemmas.Bool.{cases_eq, eq-eqb, ne_eqb, le-leb, false≢true}
+use Rattle.std.proofs.lemmas.Bool.{cases_eq, eq-eqb, ne_eqb, le-leb}
 use Rattle.std.proofs.lemmas.List.{append-nil, length-map}
 use Rattle.std.proofs.lemmas.List.Elements.{recursion_from_All, All-map, All-weaker, filter_map-append}
 use Rattle.std.proofs.Math.Bool.{or-true}
@@ -18,15 +18,14 @@ use Rattle.kd_state.specs.Machine.{plugged_letters, AreLetters}
 use Rattle.kd_state.specs.SheetDay.{Day, OfRotors, OfPins, RotorDay, PinDay, IsDayNumber, IsLegalDay, IsLegalRotorDay, IsLegalPinDay, HasLetters, seats}
 use Rattle.kd_state.specs.declared.sheet_day.rotor_entry.SheetWheel.{SheetWheel}
 use Rattle.kd_state.proofs.Wheels.{has_reflector-Decides}
-use Rattle.kd_sheet.specs.Cables.{thirteen, all_cables_in, pairs_in, pairs_of}
+use Rattle.kd_sheet.specs.Cables.{thirteen, pairs_in, pairs_of}
 use Rattle.kd_sheet.specs.Document.{◌>>◌, demand, items_in, all_values, given_earlier}
 use Rattle.kd_sheet.specs.Drum.{may_read, row_of_text, row_for, rows_in}
 use Rattle.kd_sheet.specs.Key.{key_name}
 use Rattle.kd_sheet.specs.MachineFile.{model_in, reflector_in}
 use Rattle.kd_sheet.specs.MachineText.{seat_text, cable_text, pin_texts}
 use Rattle.kd_sheet.specs.Numbers.{number_to}
-use Rattle.kd_sheet.specs.PinWheels.{shown_in, pins_in}
-use Rattle.kd_sheet.specs.Seats.{seats_in}
+use Rattle.kd_sheet.specs.PinWheels.{shown_in}
 use Rattle.kd_sheet.specs.SheetFile.{number_in, rings_in, window_in, group_of_item, group_for, all_groups_in, groups_in, list_in, sheet_wheels, rotor_day_in, pin_day_in, model_day_in, day_in}
 use Rattle.kd_sheet.specs.declared.key.Key.TheVariants as keys
 use Rattle.kd_sheet.specs.declared.fault.SheetFault.TheVariants.{BadValue, UnknownModel}
@@ -70,7 +69,7 @@ pairs_found pairs = rw (filter_map-append, pairs_joined_again pairs, no_pairs) (
 -- ---- rows
 
 may_read_again : (row : ℕ × ℕ) → IsReading row → may_read (row.0 + 48) (row.1 + 48) ≡ true
-may_read_again row is = grind (arith, cases_eq, eq-eqb, is.equal, or-true, false, ne_eqb)
+may_read_again row is = grind (arith, cases_eq, eq-eqb, is.equal, or-true, ne_eqb)
 
 row_again : (row : ℕ × ℕ) → IsReading row → row_of_text (reading_text row) ≡ Some row
 unfolding row_of_text

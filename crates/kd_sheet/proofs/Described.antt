@@ -1,14 +1,14 @@
 -- The day that a table describes is legal.
 use Rattle.std.proofs.lemmas.Grind.{common_steps}
-use Rattle.std.proofs.Common.{◌≡◌, ℕ, suc, replicate, ◌+◌, ◌-◌, ◌<◌, ◌≤◌, nat_eq, nat_le, Bool, true, false, not, ◌&&◌, ◌==◌, cond, inl, inr, List, [], ◌∷◌, ◌++◌, length, map, filter_map, find, All, Contains, Option, Some, None, IsSome, IfSome, is_some, Ok, ok_or, pos, refl, sym, ap, ◌∙◌, subst, arith, rules}
+use Rattle.std.proofs.Common.{◌≡◌, ℕ, suc, replicate, ◌+◌, ◌-◌, ◌<◌, ◌≤◌, nat_eq, nat_le, Bool, true, false, not, ◌==◌, inl, inr, List, [], ◌∷◌, ◌++◌, length, map, filter_map, find, All, Contains, Option, Some, None, IsSome, IfSome, is_some, Ok, ok_or, refl, sym, ap, ◌∙◌, subst, arith}
 use Rattle.std.specs.List.{list_all, list_any, flat_map, IsDistinct, AllByRecursion}
-use Rattle.std.specs.Option.{option_map, option_map_or, option_and_then}
-use Rattle.std.proofs.lemmas.Bool.{cases_Bool, and_parts, leb-true, eqb-true, not-true}
+use Rattle.std.specs.Option.{option_map_or, option_and_then}
+use Rattle.std.proofs.lemmas.Bool.{cases_Bool, leb-true, eqb-true, not-true}
 use Rattle.std.proofs.lemmas.Bool.Decides.{not_from_Decides, nat_tests}
 use Rattle.std.proofs.lemmas.List.{append_assoc, length-map, append-nil, length-append, length-replicate, map-append}
 use Rattle.std.proofs.lemmas.List.Elements.{All-from_recursion, recursion_from_All, All-append, All-nil}
 use Rattle.std.proofs.lemmas.Option.{none-some, same_Some}
-use Rattle.toml.specs.Data.{Data, string, integer, array, Members, get_member, as_str}
+use Rattle.toml.specs.Data.{Data, Members, get_member, as_str}
 use Rattle.kd_tables.specs.Places.{IsReading, in_order}
 use Rattle.kd_tables.specs.Tables.{letters_of, slots_of, IsAllowed}
 use Rattle.kd_tables.specs.Text.{is_capital}
@@ -18,15 +18,15 @@ use Rattle.kd_tables.specs.declared.model.Model.TheVariants.{M209}
 use Rattle.kd_tables.specs.declared.wheel.Wheel.{Wheel}
 use Rattle.kd_state.specs.Machine.{cable_letters, plugged_letters, AreAllowed, AreApart, AreLetters, AreCables, AreOnWheels, HasAllPins}
 use Rattle.kd_state.specs.SheetDay.{Day, OfRotors, OfPins, RotorDay, PinDay, IsDayNumber, IsLegalDay, IsLegalPinDay, day_number, ArePairs, HasLetters}
-use Rattle.kd_sheet.specs.Cables.{may_have, plugged_letters_in, letters_of_item, are_new, cable_of, cable_for, plugged_by, cable_behind, thirteen, cables_of, all_cables_in, pairs_in, pairs_of}
-use Rattle.kd_sheet.specs.Document.{value_at, text_at, list_of, items_at, items_in, given_earlier, all_values}
+use Rattle.kd_sheet.specs.Cables.{plugged_letters_in, letters_of_item, are_new, cable_of, cable_for, plugged_by, cable_behind, thirteen, cables_of, all_cables_in, pairs_in, pairs_of}
+use Rattle.kd_sheet.specs.Document.{value_at, text_at, items_at, items_in, given_earlier, all_values}
 use Rattle.kd_sheet.specs.Drum.{is_figure, may_read, row_of_text, row_for, rows_in}
 use Rattle.kd_sheet.specs.Key.{key_name}
 use Rattle.kd_sheet.specs.Letters.{capital_letters}
 use Rattle.kd_sheet.specs.MachineFile.{model_in, reflector_in}
 use Rattle.kd_sheet.specs.Names.{reflector_by_name, wheel_by_name}
 use Rattle.kd_sheet.specs.Numbers.{number_to, numbered_letter}
-use Rattle.kd_sheet.specs.PinWheels.{are_on_wheels, letters_on_wheels, shown_in, is_pin_text, has_capital, pins_of_text, pins_of_item, pins_behind, pins_in}
+use Rattle.kd_sheet.specs.PinWheels.{letters_on_wheels, shown_in, pins_of_text, pins_of_item, pins_behind, pins_in}
 use Rattle.kd_sheet.specs.Seats.{wheel_of_item, wheel_for, seat_for, seat_of_item, seat_behind, seats_in}
 use Rattle.kd_sheet.specs.SheetFile.{number_in, new_number_in, rings_of, rings_in, window_in, group_of_item, group_for, all_groups_in, groups_in, list_in, sheet_wheels, rotor_day_in, pin_day_in, model_day_in, day_in}
 use Rattle.kd_sheet.specs.declared.key.Key.TheVariants as keys
@@ -65,7 +65,7 @@ letters_read text e =
 
 pub capitals_are_letters : (count : ℕ) (text letters : List ℕ) → capital_letters count text ≡ Some letters
     → AreLetters count letters
-capitals_are_letters count text letters e = grind (arith, some_if, count, letters, eqb-true, letters_read)
+capitals_are_letters count text letters e = grind (arith, some_if, eqb-true, letters_read)
 
 some_letter : (item : Data) → is_some (numbered_letter item) ≡ true
     → (letter : ℕ) × (numbered_letter item ≡ Some letter) × (letter < 26)
@@ -157,7 +157,7 @@ two_letters letters two = absurd (omega arith)
 
 some_text : (item : Data) (letters : List ℕ) → letters_of_item keys.Plugs item ≡ Some letters → AreLetters 2 letters
 unfolding letters_of_item plugged_letters_in
-some_text item letters e = grind (arith, some_if, letters, eqb-true, letters_read, none-some)
+some_text item letters e = grind (arith, some_if, eqb-true, letters_read, none-some)
 
 cable_read : (plugged : List ℕ) (item : Data) (cable : Option ℕ × Option ℕ)
     → cable_for keys.Plugs plugged item ≡ Ok cable → IsCable plugged item cable
@@ -319,11 +319,11 @@ row_is_reading one other low high may = grind (arith, nat_tests, figure_within)
 
 row_read : (text : List ℕ) (numbers : ℕ × ℕ) → row_of_text text ≡ Some numbers → IsReading numbers
 unfolding row_of_text
-row_read text numbers e = grind (arith, some_if, numbers, row_is_reading, none-some)
+row_read text numbers e = grind (arith, some_if, row_is_reading, none-some)
 
 text_row : (item : Data) (numbers : ℕ × ℕ) → option_and_then row_of_text (as_str item) ≡ Some numbers
     → IsReading numbers
-text_row item numbers e = grind (arith, row_read, numbers, none-some)
+text_row item numbers e = grind (arith, row_read, none-some)
 
 rows_read : (earlier items : List Data) (rows : List (ℕ × ℕ)) → Reads row_for earlier items rows
     → AllByRecursion IsReading rows

@@ -1,15 +1,15 @@
 -- A file of lines, each with a key and its value, is read as the table of these.
 use Rattle.std.proofs.lemmas.Grind.{common_steps}
-use Rattle.std.proofs.Common.{◌≡◌, ℕ, suc, ◌<◌, ◌≤◌, nat_le, nat_lt, Bool, true, false, not, ◌&&◌, ◌||◌, ◌==◌, List, [], ◌∷◌, ◌++◌, length, map, codes, Some, option_map, Ok, refl, sym, ap, ◌∙◌, subst, append_assoc, arith, rules}
+use Rattle.std.proofs.Common.{◌≡◌, ℕ, suc, ◌<◌, ◌≤◌, nat_le, nat_lt, Bool, true, false, not, ◌&&◌, ◌||◌, ◌==◌, List, [], ◌∷◌, ◌++◌, length, map, codes, Some, option_map, Ok, refl, append_assoc, arith}
 use Rattle.std.specs.List.{list_all, list_any, flat_map, concat, AllByRecursion}
-use Rattle.std.proofs.lemmas.Bool.{and_parts, ltb-true, ne_eqb, false≢true}
+use Rattle.std.proofs.lemmas.Bool.{ltb-true, ne_eqb}
 use Rattle.std.proofs.lemmas.Bool.Decides.{nat_tests}
 use Rattle.std.proofs.lemmas.List.Elements.{All-from_recursion}
 use Rattle.std.proofs.lemmas.List.Folds.{list_all-append}
 use Rattle.std.proofs.lemmas.Str.{IsUtf8-from_ascii}
 use Rattle.std.proofs.lemmas.Str.Ascii.{IsAscii-from_all}
-use Rattle.toml_writer.specs.Text.{needs_escape, quotes_after, escaped, is_control, has, encoding_of, string_text, key_text}
-use Rattle.toml.specs.Data.{Data, string, Items, no_items, item, Members, depth, items_depth, has_valid_dates, items_have_valid_dates}
+use Rattle.toml_writer.specs.Text.{needs_escape, quotes_after, escaped, is_control, encoding_of, string_text, key_text}
+use Rattle.toml.specs.Data.{Data, string, Items, Members, depth, items_depth, has_valid_dates, items_have_valid_dates}
 use Rattle.toml.specs.Parse.{skip_bom, parse_document}
 use Rattle.toml.specs.Tables.{Expression, key_value, no_nodes, close}
 use Rattle.toml.specs.Text.{breaks_lines, IsValueText, IsItemsText, IsLinesText}
@@ -19,7 +19,6 @@ use Rattle.kd_sheet.specs.Document.{document_of}
 use Rattle.kd_sheet.specs.Key.{key_name}
 use Rattle.kd_sheet.specs.MachineText.{quoted, listed, key_line}
 use Rattle.kd_sheet.specs.declared.key.Key.{Key}
-use Rattle.kd_sheet.specs.declared.key.Key.TheVariants as keys
 use Rattle.kd_sheet.proofs.Documents.{document_parsed}
 use Rattle.kd_sheet.proofs.PartsBack.{texts, all_below}
 
@@ -54,7 +53,7 @@ escaped_plain (byte ∷ text) plain = grind (arith, nat_tests, no_escape, is_oth
 
 quoted_is : (text : List ℕ) → IsPlain text → quoted text ≡ string_text text
 unfolding string_text encoding_of
-quoted_is text plain = grind (arith, false, none_of, is_other, no_control, escaped_plain)
+quoted_is text plain = grind (arith, none_of, is_other, no_control, escaped_plain)
 
 -- ---- the lines
 
@@ -117,7 +116,7 @@ texts_written key text_of (x ∷ things) plain =
     let writes : IsItemsText false false true (items text_of (x ∷ things)) text =
     (quoted (text_of x), behind text_of things ++ codes "]", refl, quoted_is (text_of x) plain.0, rest.writes) in
     record {
-      writes = grind (arith, append_assoc, quoted, text_of, false, one_line);
+      writes = grind (arith, append_assoc, quoted, one_line);
       shallow = rw rest.shallow (omega arith);
       dated = rest.dated;
       low = simp (list_all-append, plain_low (text_of x) plain.0, rest.low);
@@ -154,7 +153,7 @@ file_low (entry ∷ entries) all = grind (arith, list_all-append, key_low, file_
 
 no_mark : (text : List ℕ) → list_all is_low text ≡ true → skip_bom text ≡ text
 unfolding skip_bom
-no_mark text e = grind (arith, ltb-true, false, ne_eqb)
+no_mark text e = grind (arith, ltb-true, ne_eqb)
 
 pub file_read : (entries : List Entry) (table : Members) → AllByRecursion IsWritten entries
     → option_map (λ doc. close doc.0) (run (no_nodes, []) (map expression_of entries)) ≡ Some table

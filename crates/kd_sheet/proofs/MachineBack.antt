@@ -1,11 +1,10 @@
 -- The machine file of a machine is read as just that machine.
 use Rattle.std.proofs.lemmas.Grind.{common_steps}
-use Rattle.std.proofs.Common.{◌≡◌, ℕ, ◌+◌, ◌<◌, Bool, true, pos, List, [], ◌∷◌, length, map, All, Option, Some, None, Ok, ok_or, refl, ap, ◌∙◌, arith, rules}
+use Rattle.std.proofs.Common.{◌≡◌, ℕ, ◌+◌, ◌<◌, Bool, true, pos, List, [], ◌∷◌, length, map, Option, Some, None, Ok, ok_or, refl, ap, ◌∙◌, arith, rules}
 use Rattle.std.specs.Fmt.{digits}
 use Rattle.std.specs.List.{AllByRecursion}
-use Rattle.std.proofs.lemmas.Bool.{false≢true}
 use Rattle.std.proofs.lemmas.Bool.Decides.{nat_tests}
-use Rattle.std.proofs.lemmas.List.{append-nil, length-map}
+use Rattle.std.proofs.lemmas.List.{append-nil}
 use Rattle.std.proofs.lemmas.List.Elements.{recursion_from_All}
 use Rattle.std.proofs.lemmas.List.Folds.{list_all-append}
 use Rattle.toml.specs.Data.{string, integer, Members, no_members, member}
@@ -15,15 +14,12 @@ use Rattle.kd_tables.specs.Rings.{ring_of}
 use Rattle.kd_tables.specs.Tables.{reflectors_of, model_text, reflector_text, wheel_text}
 use Rattle.kd_tables.specs.Text.{letters_text}
 use Rattle.kd_tables.specs.declared.model.Model.{Model}
-use Rattle.kd_tables.specs.declared.model.Model.TheVariants.{EnigmaI, M209}
+use Rattle.kd_tables.specs.declared.model.Model.TheVariants.{M209}
 use Rattle.kd_tables.specs.declared.place.Place.{Place}
-use Rattle.kd_tables.specs.declared.place.Place.TheVariants.{One}
 use Rattle.kd_tables.specs.declared.reflector.Reflector.{Reflector}
-use Rattle.kd_tables.specs.declared.reflector.Reflector.TheVariants as reflectors
 use Rattle.kd_tables.specs.declared.wheel.Wheel.{Wheel}
-use Rattle.kd_tables.specs.declared.wheel.Wheel.TheVariants.{I}
 use Rattle.kd_state.specs.Box.{has_reflector}
-use Rattle.kd_state.specs.Machine.{cable_letters, plugged_letters, ordered, cables_ordered, IsLegalRotor, IsLegalPin}
+use Rattle.kd_state.specs.Machine.{plugged_letters, ordered, cables_ordered, IsLegalRotor, IsLegalPin}
 use Rattle.kd_state.specs.declared.machine.rotor_parts.RotorParts.{RotorParts}
 use Rattle.kd_state.specs.declared.machine.pin_parts.PinParts.{PinParts}
 use Rattle.kd_state.specs.declared.machine.parts.Parts.{Parts}
@@ -31,17 +27,16 @@ use Rattle.kd_state.specs.declared.machine.parts.Parts.TheVariants.{Rotor, Pin}
 use Rattle.kd_state.proofs.Rings.{has_letter-Decides}
 use Rattle.kd_state.proofs.Wheels.{has_reflector-Decides}
 use Rattle.kd_sheet.specs.Cables.{thirteen, cables_in}
-use Rattle.kd_sheet.specs.Document.{◌>>=◌, document_of}
+use Rattle.kd_sheet.specs.Document.{document_of}
 use Rattle.kd_sheet.specs.Drum.{standing_for, bars_in}
 use Rattle.kd_sheet.specs.Key.{key_name}
 use Rattle.kd_sheet.specs.Laws.{LegalPartsAreReadBack}
 use Rattle.kd_sheet.specs.MachineFile.{version_in, model_in, knows, known_model_in, reflector_in, box_letters_in, rotor_parts_in, pin_parts_in, parts_in, machine_in}
 use Rattle.kd_sheet.specs.MachineText.{version_of, seat_text, cable_text, pins_text, pin_texts, machine_text}
 use Rattle.kd_sheet.specs.Numbers.{number_to}
-use Rattle.kd_sheet.specs.PinWheels.{shown_in, pins_in}
-use Rattle.kd_sheet.specs.Seats.{seats_in}
+use Rattle.kd_sheet.specs.PinWheels.{shown_in}
 use Rattle.kd_sheet.specs.declared.key.Key.TheVariants as keys
-use Rattle.kd_sheet.specs.declared.fault.SheetFault.TheVariants.{BadValue, UnknownModel}
+use Rattle.kd_sheet.specs.declared.fault.SheetFault.TheVariants.{UnknownModel}
 use Rattle.kd_sheet.proofs.FileTexts.{is_plain, IsPlain, Entry, text_entry, texts_entry, IsWritten, text_written, texts_written, file_read}
 use Rattle.kd_sheet.proofs.InTurn.{then_read, passing}
 use Rattle.kd_sheet.proofs.Namings.{model_by_name-text}
@@ -157,8 +152,21 @@ rotor_read : (m : RotorParts) → IsLegalRotor m → document_of (machine_text (
 unfolding machine_text define along_header along_dots at_key
 rotor_read m legal =
     let all : AllByRecursion IsWritten (rotor_entries m) =
-    search (rules, version_written, text_written, texts_written, model_plain, reflector_plain, seats_plain, letters_plain,
-    cables_plain, recursion_from_All, legal.rings.within, legal.letters.within, legal.cables.within) in
+    search (
+      rules,
+      version_written,
+      text_written,
+      texts_written,
+      model_plain,
+      reflector_plain,
+      seats_plain,
+      letters_plain,
+      cables_plain,
+      recursion_from_All,
+      legal.rings.within,
+      legal.letters.within,
+      legal.cables.within,
+    ) in
     file_read (rotor_entries m) (rotor_table m) all refl
 
 cables_in_again : (m : RotorParts) → IsLegalRotor m → cables_in (rotor_table m) ≡ Ok (map single_first m.cables)
@@ -200,8 +208,18 @@ unfolding machine_text define along_header along_dots at_key
 pin_read m legal =
     let all_pins : AllByRecursion IsPlain (pin_texts m.pins) = grind (arith, pins_plain) in
     let all : AllByRecursion IsWritten (pin_entries m) =
-    search (rules, version_written, text_written, texts_written, model_plain, all_pins, letters_plain, bars_plain,
-    wheels_letters_within, legal.letters) in
+    search (
+      rules,
+      version_written,
+      text_written,
+      texts_written,
+      model_plain,
+      all_pins,
+      letters_plain,
+      bars_plain,
+      wheels_letters_within,
+      legal.letters,
+    ) in
     file_read (pin_entries m) (pin_table m) all refl
 
 bars_again : (m : PinParts) → IsLegalPin m → bars_in (pin_table m) ≡ Ok m.bars

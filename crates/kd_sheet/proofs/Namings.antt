@@ -1,20 +1,17 @@
 -- What has a name, and that nothing else has it.
-use Rattle.std.proofs.lemmas.Grind.{common_steps}
-use Rattle.std.proofs.Common.{◌≡◌, ◌≢◌, ℕ, List, [], ◌∷◌, find, MatchOption, bytes_eq, Option, Some, None, refl, sym, ap, ◌∙◌, inl, inr, arith}
+use Rattle.std.proofs.Common.{◌≡◌, ◌≢◌, ℕ, List, [], ◌∷◌, find, MatchOption, bytes_eq, Option, Some, None, refl, sym, ap, ◌∙◌, arith}
 use Rattle.std.proofs.lemmas.Bool.{cases_Bool}
 use Rattle.std.proofs.lemmas.Slice.Eq.{bytes_eq-Decides}
 use Rattle.kd_tables.specs.Tables.{model_text, wheel_text}
 use Rattle.kd_tables.specs.declared.model.Model.{Model}
-use Rattle.kd_tables.specs.declared.model.Model.TheVariants.{EnigmaI, M3, M4, M209}
 use Rattle.kd_tables.specs.declared.wheel.Wheel.{Wheel}
-use Rattle.kd_tables.specs.declared.wheel.Wheel.TheVariants.{I, II, III, IV, V, VI, VII, VIII, Beta, Gamma}
 use Rattle.kd_sheet.specs.Names.{every_model, every_wheel, model_by_name, wheel_by_name}
 
 -- a list has nothing of a name that none has
 find_unnamed : {A : Type 0} (text_of : A → List ℕ) (name : List ℕ) → ((x : A) → text_of x ≢ name) → (xs : List A) → find (λ x. bytes_eq (text_of x) name) xs ≡ None
 find_unnamed text_of name none [] = refl
 find_unnamed text_of name none (x ∷ xs) =
-    grind (arith, cases_Bool, text_of, none, bytes_eq-Decides, find_unnamed text_of name none xs)
+    grind (arith, cases_Bool, none, bytes_eq-Decides, find_unnamed text_of name none xs)
 
 -- what has the name is what the list finds, where the list finds each by its own name
 find_named : {A : Type 0} (text_of : A → List ℕ) (xs : List A) → ((x : A) → find (λ y. bytes_eq (text_of y) (text_of x)) xs ≡ Some x)

@@ -1,9 +1,9 @@
 -- What is written of the parts of a machine, or of a day, is read as just these.
 use Rattle.std.proofs.lemmas.Bool.Decides.{nat_tests}
 use Rattle.std.proofs.lemmas.Grind.{common_steps}
-use Rattle.std.proofs.Common.{◌≡◌, ℕ, zero, suc, nat_lt, ◌+◌, ◌-◌, ◌<◌, ◌≤◌, nat_eq, nat_le, Bool, true, false, cond, ◌==◌, List, [], ◌∷◌, ◌++◌, length, map, Contains, slice_get, Option, Some, None, Result, Ok, ok_or, refl, sym, ap, ◌∙◌, subst, arith, rules}
+use Rattle.std.proofs.Common.{◌≡◌, ℕ, zero, suc, nat_lt, ◌+◌, ◌<◌, ◌≤◌, nat_eq, nat_le, true, false, cond, ◌==◌, List, [], ◌∷◌, ◌++◌, length, map, Contains, slice_get, Option, Some, None, Result, Ok, refl, ap, ◌∙◌, subst, arith, rules}
 use Rattle.std.specs.List.{list_all, flat_map, enumerate_from, IsDistinct, AllByRecursion}
-use Rattle.std.proofs.lemmas.Bool.{and_parts, eq-eqb, le-leb, lt-ltb, ltb-true, false≢true, false_from_ne_true}
+use Rattle.std.proofs.lemmas.Bool.{eq-eqb, le-leb, lt-ltb, false_from_ne_true}
 use Rattle.std.proofs.lemmas.List.{append_assoc, append-nil, length-map, map-append}
 use Rattle.std.proofs.lemmas.List.Elements.{recursion_from_All, All-from_recursion, All-contains}
 use Rattle.std.proofs.lemmas.Option.{none-some, slice_get-get_or}
@@ -15,26 +15,21 @@ use Rattle.kd_tables.specs.Rings.{ring_of}
 use Rattle.kd_tables.specs.Tables.{letters_of, slots_of, reflectors_of, reflector_text, wheel_text}
 use Rattle.kd_tables.specs.Text.{is_capital, letters_text}
 use Rattle.kd_tables.specs.declared.model.Model.{Model}
-use Rattle.kd_tables.specs.declared.model.Model.TheVariants.{EnigmaI, M3, M4}
 use Rattle.kd_tables.specs.declared.place.Place.{Place}
-use Rattle.kd_tables.specs.declared.place.Place.TheVariants.{One}
 use Rattle.kd_tables.specs.declared.wheel.Wheel.{Wheel}
-use Rattle.kd_tables.specs.declared.wheel.Wheel.TheVariants.{I}
 use Rattle.kd_tables.specs.declared.reflector.Reflector.{Reflector}
-use Rattle.kd_tables.specs.declared.reflector.Reflector.TheVariants as reflectors
 use Rattle.kd_pins.specs.declared.pin_set.PinSet.{PinSet}
 use Rattle.kd_state.specs.Box.{has_reflector}
 use Rattle.kd_state.specs.Machine.{cable_letters, plugged_letters, AreAllowed, AreApart, AreLetters, AreOnWheels, HasAllPins}
-use Rattle.kd_state.specs.Pins.{pin_set}
 use Rattle.kd_state.specs.Setting.{has_letter}
 use Rattle.kd_state.specs.SheetDay.{AreSeated}
 use Rattle.kd_state.proofs.Rings.{has_letter-Decides}
 use Rattle.kd_sheet.specs.Cables.{may_have, plugged_letters_in, letters_of_item, are_new, cable_of, cable_for, plugged_by, cable_behind, cables_of, thirteen, thirteen_of, all_cables_in}
 use Rattle.kd_sheet.specs.Document.{◌>>=◌, ◌>>◌, demand, value_at, items_in, items_at, all_values, given_earlier}
 use Rattle.kd_sheet.specs.Letters.{capital_letters}
-use Rattle.kd_sheet.specs.MachineText.{seat_text, cable_text, pins_text, pin_texts}
+use Rattle.kd_sheet.specs.MachineText.{seat_text, cable_text, pin_texts}
 use Rattle.kd_sheet.specs.Names.{reflector_by_name, standing_by_text, wheel_by_name}
-use Rattle.kd_sheet.specs.PinWheels.{letters_on_wheels, pins_of_item, pins_behind, pins_in}
+use Rattle.kd_sheet.specs.PinWheels.{letters_on_wheels, pins_of_item, pins_in}
 use Rattle.kd_sheet.specs.Seats.{may_be_empty, wheel_of_item, wheel_for, seat_for, seat_of_item, seat_behind, seats_in, is_seated}
 use Rattle.kd_sheet.specs.declared.key.Key.{Key}
 use Rattle.kd_sheet.specs.declared.key.Key.TheVariants as keys
@@ -70,7 +65,7 @@ pub counted_again : {X A : Type 0} (key : Key) (table : Members) (count : ℕ) (
     (λ items. demand (length items == count) (BadValue key) >> all_values (given_earlier reading items)))
     ≡ Ok values
 counted_again key table count text_of things reading values there counted read =
-    grind (arith, common_steps, text_of, count, eq-eqb, then_read, items_at, texts_at, passing, reads_again, read)
+    grind (arith, common_steps, eq-eqb, then_read, items_at, texts_at, passing, reads_again, read)
 
 -- items that are read as their values, whatever stands before them
 pub each_again : {A : Type 0} (reading : List Data → Data → Result A SheetFault) (item_of : A → Data) (P : A → Type 0)
@@ -85,12 +80,12 @@ each_again reading item_of P again earlier (x ∷ xs) all =
 letters_spelled : (letters : List ℕ) → AllByRecursion (λ letter. letter < 26) letters
     → (list_all is_capital (letters_text letters) ≡ true) × (letters_of (letters_text letters) ≡ letters)
 letters_spelled [] within = (refl, refl)
-letters_spelled (letter ∷ letters) within = grind (arith, letters_spelled letters within.1, letters, le-leb)
+letters_spelled (letter ∷ letters) within = grind (arith, letters_spelled letters within.1, le-leb)
 
 pub capitals_again : (count : ℕ) (letters : List ℕ) → AreLetters count letters
     → capital_letters count (letters_text letters) ≡ Some letters
 capitals_again count letters are =
-    grind (arith, common_steps, letters_spelled, letters, recursion_from_All, count, eq-eqb)
+    grind (arith, common_steps, letters_spelled, recursion_from_All, eq-eqb)
 
 pub all_below : (limit : ℕ) (xs : List ℕ) → list_all (λ x. nat_lt x limit) xs ≡ true
     → AllByRecursion (λ x. x < limit) xs

@@ -19,4 +19,4 @@ pub pins_more : (before text after : List ℕ) (letters : List ℕ) (pins : List
     → letter ≡ get_or letters place letter → text ≡ before ++ pins_text (take place letters) (take place pins) → after ≡ text ++ pin_text letter (get_or pins place e)
     → after ≡ before ++ pins_text (take (place + 1) letters) (take (place + 1) pins)
 pins_more before text after letters pins place letter e left same here so_far put =
-    grind (arith, common_steps, letters, length-take-le, pins_same, take_more, pins_push, append_assoc, before)
+    grind (arith, common_steps, length-take-le, pins_same, take_more, pins_push, append_assoc, before)

@@ -1,6 +1,5 @@
 -- The text of a wheel's effective pins is read as these pins.
-use Rattle.std.proofs.lemmas.Grind.{common_steps}
-use Rattle.std.proofs.Common.{◌≡◌, ℕ, suc, zero, ◌+◌, nat_eq, ◌==◌, Bool, true, false, not, ◌&&◌, cond, List, [], ◌∷◌, ◌++◌, length, map, Some, inl, inr, refl, sym, ap, ◌∙◌, arith}
+use Rattle.std.proofs.Common.{◌≡◌, ℕ, ◌+◌, nat_eq, ◌==◌, Bool, true, false, not, ◌&&◌, cond, List, [], ◌∷◌, ◌++◌, length, map, Some, inl, inr, refl, sym, ap, ◌∙◌, arith}
 use Rattle.std.specs.List.{list_all, count_by}
 use Rattle.std.proofs.lemmas.Bool.{cases_Bool, both_ways, and_parts, or_parts, not-true, eqb-true, ne_eqb}
 use Rattle.std.proofs.lemmas.Bool.Decides.{nat_tests}
@@ -128,7 +127,7 @@ each_byte test (x ∷ ring) (pin ∷ pins) apart each =
 
 is_on_ring : (ring : List ℕ) (letter : ℕ) → has_letter ring letter ≡ true → is_on ring (letter + 65) ≡ true
 is_on_ring [] letter has = has
-is_on_ring (x ∷ ring) letter has = grind (arith, cases_Bool, false)
+is_on_ring (x ∷ ring) letter has = grind (arith, cases_Bool)
 
 pub pins_back : (wheel : ℕ) (pins : List Bool) → length pins ≡ length (ring_of wheel)
     → pins_of_text (ring_of wheel) (pins_text (ring_of wheel) pins) ≡ Some pins

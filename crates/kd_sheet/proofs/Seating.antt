@@ -1,6 +1,5 @@
 -- One more slot to the right of those that are filled.
-use Rattle.std.proofs.lemmas.Grind.{common_steps}
-use Rattle.std.proofs.Common.{◌≡◌, ℕ, zero, suc, ◌+◌, ◌<◌, List, [], ◌∷◌, ◌++◌, length, take, get_or, set, map, Contains, slice_get, Option, Some, IfSome, ◌⊎◌, inl, inr, refl, sym, ap, ◌∙◌, arith, rules}
+use Rattle.std.proofs.Common.{◌≡◌, ℕ, zero, suc, ◌+◌, ◌<◌, List, [], ◌∷◌, ◌++◌, length, take, get_or, set, map, Contains, slice_get, Option, Some, IfSome, ◌⊎◌, inl, inr, refl, arith}
 use Rattle.std.proofs.lemmas.List.{length-map, map_push, take_more, take_more_set}
 use Rattle.std.proofs.lemmas.Option.{none-some, same_Some, slice_get_within, get_or_from_slice_get}
 use Rattle.toml.specs.View.{view}

@@ -1,11 +1,9 @@
 -- The days of a sheet are what its entries describe.
-use Rattle.std.proofs.lemmas.Grind.{common_steps}
-use Rattle.std.proofs.Common.{◌≡◌, ℕ, zero, suc, ◌<◌, ◌==◌, ◌||◌, Bool, true, false, List, [], ◌∷◌, ◌++◌, length, filter_map, find, get_or, Contains, Some, None, Ok, ok_or, refl, sym, ap, ◌∙◌, inl, inr, subst, arith, rules}
+use Rattle.std.proofs.Common.{◌≡◌, ℕ, zero, suc, ◌<◌, ◌==◌, Bool, false, List, [], ◌∷◌, ◌++◌, length, filter_map, find, get_or, Contains, Some, Ok, ok_or, refl, sym, ap, ◌∙◌, inl, inr, subst, arith, rules}
 use Rattle.std.specs.List.{list_any}
-use Rattle.std.proofs.lemmas.Bool.{cases_Bool, eqb-true, eq-eqb, or_parts}
+use Rattle.std.proofs.lemmas.Bool.{cases_Bool, eqb-true, or_parts}
 use Rattle.std.proofs.lemmas.List.Elements.{filter_map-append}
 use Rattle.std.proofs.lemmas.List.Folds.{list_any-append}
-use Rattle.std.proofs.lemmas.List.FromFn.{length-map-range_with_len}
 use Rattle.std.proofs.lemmas.Option.{none-some, same_Some, slice_get_cases}
 use Rattle.toml.specs.Data.{Data, table, Members, as_table}
 use Rattle.kd_state.specs.SheetDay.{Day, IsDayNumber, day_number}
@@ -78,7 +76,7 @@ same_table e = cc
 grow : (earlier : List Data) (item : Data) (first number : ℕ) → number_of_item item ≡ Some first
     → list_any (λ other. other == number) (filter_map number_of_item (earlier ++ item ∷ [])) ≡ false
     → (list_any (λ other. other == number) (filter_map number_of_item earlier) ≡ false) × ((first == number) ≡ false)
-grow earlier item first number is none = search (rules, filter_map-append, list_any-append, filter_map, or_parts, false)
+grow earlier item first number is none = search (rules, filter_map-append, list_any-append, filter_map, or_parts)
 
 -- and the day of the number is that one, since no earlier entry has the number
 found_first : (earlier items : List Data) (days : List Day) (place : ℕ) (entry : Members) (day : Day)
@@ -88,7 +86,7 @@ found_first : (earlier items : List Data) (days : List Day) (place : ℕ) (entry
     × (list_any (λ other. other == day_number day) (filter_map number_of_item earlier) ≡ false)
 found_first earlier [] days place entry day r within here is = absurd (omega arith)
 found_first earlier (item ∷ items) (first ∷ days) zero entry day r within here is =
-    grind (arith, entry_read _ item first r.0, filter_map number_of_item earlier, false)
+    grind (arith, entry_read _ item first r.0, filter_map number_of_item earlier)
 found_first earlier (item ∷ items) (first ∷ days) (suc place) entry day r within here is =
     let read = entry_read _ item first r.0 in
     let rest = found_first (earlier ++ item ∷ []) items days place entry day r.1 (omega arith) here is in

@@ -2,7 +2,6 @@
 use Rattle.std.proofs.Common.{◌≤◌, arith}
 use Rattle.kd_tables.specs.Tables.{slots_of}
 use Rattle.kd_tables.specs.declared.model.Model.{Model}
-use Rattle.kd_tables.specs.declared.model.Model.TheVariants.{EnigmaI, M3, M4, M209}
 
 -- no model has more than four
 pub few_slots : (model : Model) → slots_of model ≤ 4

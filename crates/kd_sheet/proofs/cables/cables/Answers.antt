@@ -1,9 +1,7 @@
-use Rattle.std.proofs.lemmas.Grind.{common_steps}
-use Rattle.std.proofs.Common.{◌-◌, ◌<◌, length, Ok, arith, rules, length-set, refl, sym, ap, ◌∙◌}
+use Rattle.std.proofs.Common.{◌-◌, ◌<◌, length, arith, rules, length-set, refl}
 use Rattle.std.proofs.lemmas.List.{take_more_set}
 use Rattle.std.proofs.lemmas.List.Elements.{All-append, All-nil}
-use Rattle.kd_sheet.specs.Cables.{cable_behind, thirteen}
-use Rattle.kd_sheet.specs.Document.{◌>>=◌}
+use Rattle.kd_sheet.specs.Cables.{cable_behind}
 use Rattle.kd_sheet.proofs.CableLetters.{no_letter_twice, plugged_letters-push, plugged_more, distinct_new, empty_fewer, all_thirteen, plugged_letters-take}
 use Rattle.kd_sheet.proofs.Earlier.{read_more, read_stops, read_all}
 use Rattle.kd_sheet.proofs.cables.cables.Goals as goal

@@ -1,5 +1,4 @@
-use Rattle.std.proofs.lemmas.Grind.{common_steps}
-use Rattle.std.proofs.Common.{◌<◌, length, arith, rules, length-set, sym}
+use Rattle.std.proofs.Common.{◌<◌, length, arith, rules, length-set}
 use Rattle.std.proofs.lemmas.List.{take_all, take_more_set}
 use Rattle.std.proofs.lemmas.List.Elements.{All-push}
 use Rattle.kd_tables.specs.Places.{IsReading}

@@ -1,4 +1,3 @@
-use Rattle.std.proofs.lemmas.Grind.{common_steps}
 use Rattle.std.proofs.Common.{[], sym, rules, arith}
 use Rattle.std.proofs.lemmas.List.Elements.{All-push}
 use Rattle.kd_state.specs.Machine.{AreLetters}

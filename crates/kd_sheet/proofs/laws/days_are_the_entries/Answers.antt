@@ -1,5 +1,4 @@
-use Rattle.std.proofs.lemmas.Grind.{common_steps}
-use Rattle.std.proofs.Common.{[], arith}
+use Rattle.std.proofs.Common.{[]}
 use Rattle.kd_sheet.proofs.DayTables.{legal_is_described}
 use Rattle.kd_sheet.proofs.Described.{described}
 use Rattle.kd_sheet.proofs.SheetEntries.{days_are_the_entries}

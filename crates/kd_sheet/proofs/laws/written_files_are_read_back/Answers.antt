@@ -1,4 +1,4 @@
-use Rattle.std.proofs.Common.{Ok, ap, ◌∙◌, arith}
+use Rattle.std.proofs.Common.{arith}
 use Rattle.kd_sheet.proofs.MachineBack.{parts_are_read_back}
 use Rattle.kd_sheet.proofs.laws.written_files_are_read_back.Goals as goal
 

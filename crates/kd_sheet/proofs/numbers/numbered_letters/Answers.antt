@@ -1,4 +1,4 @@
-use Rattle.std.proofs.Common.{◌<◌, length, map, ◌∙◌, sym, arith, length-set}
+use Rattle.std.proofs.Common.{◌<◌, length, map, sym, arith, length-set}
 use Rattle.std.proofs.lemmas.List.{length-map, take_more_set}
 use Rattle.std.proofs.lemmas.List.Elements.{All-set}
 use Rattle.toml.specs.View.{view}

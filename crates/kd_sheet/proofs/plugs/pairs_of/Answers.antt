@@ -1,4 +1,3 @@
-use Rattle.std.proofs.lemmas.Grind.{common_steps}
 use Rattle.std.proofs.Common.{◌≡◌, ◌<◌, length, sym, arith, rules}
 use Rattle.kd_sheet.proofs.Pairs.{pairs_more}
 use Rattle.kd_sheet.proofs.plugs.pairs_of.Goals as goal

@@ -1,5 +1,4 @@
-use Rattle.std.proofs.lemmas.Grind.{common_steps}
-use Rattle.std.proofs.Common.{map, sym, ◌∙◌, rules, arith}
+use Rattle.std.proofs.Common.{map, sym, ◌∙◌, rules}
 use Rattle.toml.specs.View.{view}
 use Rattle.toml.specs.declared.value.Value.{the_lemmas}
 use Rattle.kd_sheet.proofs.Rings.{rings_of_array}

@@ -1,4 +1,4 @@
-use Rattle.std.proofs.Common.{refl, ◌∙◌, arith, rules}
+use Rattle.std.proofs.Common.{refl, ◌∙◌}
 use Rattle.kd_sheet.proofs.LegalDays.{legal_rotor_day}
 use Rattle.kd_sheet.proofs.sheet_day.rotor_day_in.Goals as goal
 

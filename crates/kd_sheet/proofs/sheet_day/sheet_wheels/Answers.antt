@@ -1,4 +1,3 @@
-use Rattle.std.proofs.lemmas.Grind.{common_steps}
 use Rattle.std.proofs.Common.{◌<◌, length, arith, length-set, sym, ◌∙◌}
 use Rattle.kd_sheet.proofs.SheetWheels.{wheels_more}
 use Rattle.kd_sheet.proofs.Slots.{few_slots}

@@ -1,5 +1,4 @@
-use Rattle.std.proofs.lemmas.Grind.{common_steps}
-use Rattle.std.proofs.Common.{Ok, ap, rules, arith}
+use Rattle.std.proofs.Common.{rules, arith}
 use Rattle.kd_sheet.specs.SheetFile.{day_behind}
 use Rattle.kd_sheet.proofs.Earlier.{read_stops, read_all}
 use Rattle.kd_sheet.proofs.Months.{month_none, takes_so_far, month_more_items}

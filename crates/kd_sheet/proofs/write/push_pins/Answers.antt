@@ -1,5 +1,4 @@
-use Rattle.std.proofs.lemmas.Grind.{common_steps}
-use Rattle.std.proofs.Common.{false, arith, rules}
+use Rattle.std.proofs.Common.{false, arith}
 use Rattle.kd_sheet.proofs.PinTexts.{pins_more}
 use Rattle.kd_sheet.proofs.write.push_pins.Goals as goal
 
