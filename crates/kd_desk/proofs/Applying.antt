@@ -1,20 +1,11 @@
 -- What becomes of settings that were read, and of a machine that was.
-use Rattle.std.proofs.lemmas.Grind.{common_steps}
-use Rattle.std.proofs.Common.{◌≡◌, ◌⊎◌, ℕ, List, Result, Ok, Err, IfOk, IsErrAnd, IsFalse, MatchResult, inl, refl, subst, sym, arith}
-use Rattle.kd_tables.specs.Writing.{TakesFront}
+use Rattle.std.proofs.Common.{◌≡◌, ◌⊎◌, ℕ, List, Result, Ok, Err, IfOk, IsErrAnd, IsFalse, MatchResult, inl, subst, sym}
 use Rattle.kd_state.specs.declared.machine.parts.Parts.{Parts}
 use Rattle.kd_state.specs.declared.setting.Setting.{Setting}
 use Rattle.kd_state.specs.declared.setting.list.ListFault.{ListFault}
-use Rattle.kd_state.specs.Setting.{Leads}
 use Rattle.kd_state.specs.Line.{IsList, IsListFault}
-use Rattle.kd_card.specs.declared.carrying.IllegalAt.{IllegalAt}
-use Rattle.kd_card.specs.Carrying.{IsFirstIllegal}
-use Rattle.kd_sheet.specs.MachineFile.{machine_of}
-use Rattle.kd_sheet.specs.MachineText.{machine_text}
 use Rattle.kd_desk.specs.declared.fault.DeskFault.{DeskFault}
 use Rattle.kd_desk.specs.declared.fault.DeskFault.TheVariants as faults
-use Rattle.kd_tables.specs.Ports.{Port}
-use Rattle.kd_desk.specs.RunApply.{Applies, NoSettings, RefusedLine, Carried}
 use Rattle.kd_desk.specs.Settings.{begins_as_card, AreSettings, OfList, IsSettingsFault, InList}
 
 -- what holds of the machine that was read holds of the one that is meant

@@ -1,14 +1,8 @@
 -- What is told of a card.
-use Rattle.std.proofs.Common.{arith}
 use Rattle.kd_desk.specs.Ports.{WritesText}
-use Rattle.kd_desk.proofs.Prelude.{◌≡◌, ℕ, List, length, Result, Ok, Err, IsErrAnd, refl, subst, Appends, TakesFront, Parts, Setting, IsMachine, Day, IsLegalDay, PriceParts, IsCard, DeskFault, Port, Checks, NoCard, Doubtful, Shortest, verdict_text}
-use Rattle.kd_card.specs.declared.fault.CardFault.{CardFault}
-use Rattle.kd_card.specs.CardFault.{IsCardFault}
+use Rattle.kd_desk.proofs.Prelude.{◌≡◌, ℕ, List, length, Result, Parts, Setting, IsMachine, Day, IsLegalDay, PriceParts, IsCard, DeskFault, Port, Checks, Shortest, verdict_text}
 use Rattle.kd_card.specs.Laws.{ProvingCardsAreShortest}
 use Rattle.kd_card.specs.Proving.{Proves}
-use Rattle.kd_prices.specs.declared.doubt.Doubt.{Doubt}
-use Rattle.kd_prices.specs.Doubt.{IsDoubt}
-use Rattle.kd_desk.specs.declared.fault.DeskFault.TheVariants as faults
 
 -- a card that proves itself
 pub told : ProvingCardsAreShortest → (m : Parts) (s : Day) (number : ℕ) (bytes : List ℕ) (sink : Port) (answer : Result (Unit {0}) DeskFault)

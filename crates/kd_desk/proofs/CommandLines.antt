@@ -1,5 +1,5 @@
 -- Commands and the values of their words.
-use Rattle.kd_desk.proofs.Prelude.{◌≡◌, ◌≢◌, ℕ, List, Option, Some, None, Bor, decimal, option_map, sym, ap, ◌∙◌, Result, Ok, Err, IsSomeAnd, IfSome, IfOk, IfErr, is_some, true, false, [], inl, inr, refl, subst, ap₂, App, FailsBy, HasKind, HasMatchesOf, Row, fault_of, first_of, first_value, is_simple, is_simple_and_free, kind_of, rows_of, subcommand_of, subcommand_rows_of, same_Some, IsDayNumber, DeskFault, Stop, Usage, Refused, Named, IsOf, Says, arith}
+use Rattle.kd_desk.proofs.Prelude.{◌≡◌, ◌≢◌, ℕ, List, Option, Some, None, Bor, decimal, option_map, sym, ap, ◌∙◌, Result, Ok, Err, IfSome, IfOk, IfErr, is_some, true, false, [], refl, subst, App, FailsBy, HasKind, HasMatchesOf, Row, fault_of, first_of, first_value, is_simple, is_simple_and_free, kind_of, rows_of, subcommand_of, subcommand_rows_of, same_Some, IsDayNumber, Stop, Usage, Refused, Named, IsOf, Says, arith}
 use Rattle.std.proofs.Common.{ok_or}
 use Rattle.clap.specs.declared.parser.matches.ArgMatches.{ArgMatches}
 use Rattle.clap.specs.declared.error.Error.{Error}

@@ -1,6 +1,6 @@
 -- A grammar as it grows: no help, and a word or a command more.
 use Rattle.std.proofs.Common.{arith}
-use Rattle.kd_desk.proofs.Prelude.{◌≡◌, ◌∙◌, ◌||◌, Bool, true, false, Result, Ok, Err, IfOk, ap, ap₂, sym, subst, App, Rule, app_of, rule_of, with_rule, app_of_fields, Arg}
+use Rattle.kd_desk.proofs.Prelude.{◌≡◌, ◌∙◌, true, false, Result, IfOk, ap, sym, subst, App, Rule, app_of, rule_of, with_rule, app_of_fields, Arg}
 use Rattle.clap.specs.Built.{AddsArg}
 use Rattle.clap.specs.declared.builder.command.Command.{Command}
 use Rattle.clap.specs.declared.builder.command.Command.TheViews.{out-Command}

@@ -1,5 +1,4 @@
 -- The cards and the files of a month.
-use Rattle.std.proofs.lemmas.Grind.{common_steps}
 use Rattle.kd_desk.proofs.Failing.{in_whole}
 use Rattle.std.proofs.Common.{◌≡◌, ◌⊎◌, ℕ, List, [], ◌∷◌, All, Option, Some, Result, Ok, Err, IfOk, MatchResult, IsTrue, inl, inr, refl, sym, ap, ◌∙◌, subst, arith}
 use Rattle.std.proofs.lemmas.List.Elements.{All-tail}
@@ -25,10 +24,10 @@ use Rattle.kd_sheet.specs.SheetFile.{sheet_of}
 use Rattle.kd_desk.specs.declared.fault.DeskFault.{DeskFault}
 use Rattle.kd_desk.specs.Laws.{TextsTellSettings, MonthsSetTheMachine}
 use Rattle.kd_desk.specs.Month.{Papers, taken, well, AreWritten, SetTheMachine, HasDayOf, HasPapers, HasPapersInTurn}
-use Rattle.kd_desk.specs.OnDay.{FindsDay, LackedMemory, NoMachine, NoSheet, NoDay, Found}
+use Rattle.kd_desk.specs.OnDay.{FindsDay, Found}
 use Rattle.kd_desk.specs.Ports.{WritesText}
-use Rattle.kd_desk.specs.RunApply.{Applies, NoSettings, RefusedLine, Carried}
-use Rattle.kd_desk.specs.RunCard.{WritesCard, Prints, Different, Card}
+use Rattle.kd_desk.specs.RunApply.{Applies, Carried}
+use Rattle.kd_desk.specs.RunCard.{WritesCard, Prints}
 use Rattle.kd_desk.specs.RunSteps.{LacksMemory}
 use Rattle.kd_desk.specs.Settings.{begins_as_card, AreSettings, OfCard}
 use Rattle.kd_desk.proofs.Applying.{of_read}

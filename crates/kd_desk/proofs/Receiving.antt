@@ -1,5 +1,4 @@
 -- What forms tell of orders, by the laws on both.
-use Rattle.std.proofs.Common.{arith}
 use Rattle.kd_desk.proofs.Prelude.{List, ℕ, ◌++◌, inl, Day, IsLegalDay, FormFault, TellOfOrders}
 use Rattle.kd_form.specs.FormText.{IsReceiveFault}
 use Rattle.kd_form.specs.Sending.{IsFormOf}

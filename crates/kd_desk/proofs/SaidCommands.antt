@@ -1,6 +1,6 @@
 -- A name and the values of words say one command at most, and which ones say none. A command more is one branch of
 -- `kind_by`.
-use Rattle.kd_desk.proofs.Prelude.{◌≡◌, ℕ, ◌<◌, ◌^◌, Bool, true, false, List, Option, Some, None, codes, decimal, bytes_eq, option_map, refl, sym, ap, ◌∙◌, if◌then◌else◌, arith, option_and_then, same_Some, Row, first_of, Send, Receive, Named, NamedAction, way_name, way_word, action_name, HaveDay, HasWords, IsActionOf, IsOf}
+use Rattle.kd_desk.proofs.Prelude.{◌≡◌, ℕ, ◌<◌, ◌^◌, Bool, true, false, List, Option, Some, None, codes, decimal, bytes_eq, option_map, refl, ap, ◌∙◌, if◌then◌else◌, arith, option_and_then, same_Some, Row, first_of, Send, Receive, Named, NamedAction, way_name, way_word, action_name, HaveDay, HasWords, IsActionOf, IsOf}
 use Rattle.std.proofs.lemmas.Fmt.{decimal_injective}
 use Rattle.kd_desk.specs.declared.command.Action.TheVariants as actions
 use Rattle.kd_desk.specs.declared.command.Task.TheVariants as tasks

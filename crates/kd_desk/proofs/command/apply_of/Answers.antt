@@ -1,5 +1,5 @@
 use Rattle.std.proofs.Common.{arith}
-use Rattle.kd_desk.proofs.Prelude.{rules, codes, refl, found_of, rows_of}
+use Rattle.kd_desk.proofs.Prelude.{rules, codes, refl, found_of}
 use Rattle.kd_desk.proofs.CommandLines.{read_none, read_some}
 use Rattle.kd_desk.proofs.SaidCommands.{no_list}
 use Rattle.kd_desk.proofs.command.apply_of.Goals as goal

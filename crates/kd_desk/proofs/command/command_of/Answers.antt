@@ -1,5 +1,5 @@
 use Rattle.std.proofs.Common.{arith}
-use Rattle.kd_desk.proofs.Prelude.{codes, rules, found_of, rows_of}
+use Rattle.kd_desk.proofs.Prelude.{codes, rules, found_of}
 use Rattle.kd_desk.proofs.CommandLines.{read_none, read_some}
 use Rattle.kd_desk.proofs.SaidCommands.{no_machine}
 use Rattle.kd_desk.proofs.command.command_of.Goals as goal

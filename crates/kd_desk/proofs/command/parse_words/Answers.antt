@@ -1,4 +1,3 @@
-use Rattle.std.proofs.Common.{arith}
 use Rattle.kd_desk.proofs.Prelude.{map, ℕ, List, Err, sym, ◌∙◌, Row, app_of, found_of, rows_of, named, IsOf, Says}
 use Rattle.kd_desk.proofs.CommandLines.{parse_fails_by, parse_takes, parse_enters, no_fault_said, no_subcommand_said, subcommand_said, said_subcommand, paired, no_entered, ok_said, no_command_of, usage_or_said}
 use Rattle.kd_desk.proofs.command.parse_words.Goals as goal

@@ -1,5 +1,4 @@
 use Rattle.std.proofs.Common.{arith}
-use Rattle.kd_desk.proofs.Prelude.{[], ◌∷◌, Bool, ◌||◌, ◌∙◌, ap₂, codes, with_rule, alone, command_shape, word_named}
 use Rattle.kd_desk.proofs.Grammars.{takes_word, stays_local}
 use Rattle.kd_desk.proofs.command.with_day.Goals as goal
 

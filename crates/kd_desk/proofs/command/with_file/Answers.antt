@@ -1,5 +1,4 @@
 use Rattle.std.proofs.Common.{arith}
-use Rattle.kd_desk.proofs.Prelude.{alone, command_shape, day_words, word_named}
 use Rattle.kd_desk.proofs.Grammars.{takes_word, stays_local}
 use Rattle.kd_desk.proofs.command.with_file.Goals as goal
 

@@ -1,5 +1,4 @@
 use Rattle.std.proofs.Common.{arith}
-use Rattle.kd_desk.proofs.Prelude.{alone, command_shape, word_named, [], ◌∷◌, codes}
 use Rattle.kd_desk.proofs.Grammars.{takes_word, stays_local}
 use Rattle.kd_desk.proofs.command.with_list.Goals as goal
 

@@ -1,6 +1,5 @@
 use Rattle.std.proofs.Common.{arith}
-use Rattle.kd_desk.proofs.Prelude.{codes, new_app, word_named}
-use Rattle.kd_desk.proofs.Grammars.{without_help, app_without_help, local_without_help, takes_word, stays_local}
+use Rattle.kd_desk.proofs.Grammars.{app_without_help, local_without_help, takes_word, stays_local}
 use Rattle.kd_desk.proofs.command.with_machine.Goals as goal
 
 pub returns-clause-shape : goal.returns-clause-shape

@@ -1,4 +1,4 @@
-use Rattle.std.proofs.Common.{subst, rules, arith}
+use Rattle.std.proofs.Common.{rules}
 use Rattle.kd_state.specs.Setting.{Leads}
 use Rattle.kd_plan.specs.Planned.{Plans}
 use Rattle.kd_desk.proofs.Months.{papers_for}

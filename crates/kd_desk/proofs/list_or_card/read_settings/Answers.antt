@@ -1,4 +1,3 @@
-use Rattle.std.proofs.Common.{arith}
 use Rattle.kd_desk.proofs.Prelude.{sym, refl, ◌∙◌, OfCard, InCard}
 use Rattle.kd_desk.proofs.Applying.{list_read}
 use Rattle.kd_desk.proofs.list_or_card.read_settings.Goals as goal

@@ -1,4 +1,3 @@
-use Rattle.std.proofs.Common.{arith}
 use Rattle.kd_desk.proofs.Days.{no_machine, no_sheet, no_day, a_day}
 use Rattle.kd_desk.proofs.machine_and_day.find_day.Goals as goal
 

@@ -1,4 +1,3 @@
-use Rattle.std.proofs.Common.{arith}
 use Rattle.kd_desk.proofs.Prelude.{refl}
 use Rattle.kd_desk.proofs.Failing.{sink_fails}
 use Rattle.kd_desk.proofs.Runs.{nothing_left}

@@ -1,4 +1,3 @@
-use Rattle.std.proofs.Common.{arith}
 use Rattle.kd_desk.proofs.Prelude.{opened}
 use Rattle.kd_desk.proofs.Runs.{nothing_left}
 use Rattle.kd_desk.proofs.program.carry_task.Goals as goal

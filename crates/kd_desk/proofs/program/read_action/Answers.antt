@@ -1,10 +1,9 @@
 use Rattle.std.proofs.Common.{arith}
-use Rattle.kd_desk.proofs.Prelude.{true, false, subst, sym, action_files, action_named, AskFor}
 use Rattle.kd_desk.proofs.Runs.{asks_on, asks_no_more}
 use Rattle.kd_desk.proofs.program.read_action.Goals as goal
 
 pub returns-in_err-task-in-OnDay-clause-asked : goal.returns-in_err-task-in-OnDay-clause-asked
-returns-in_err-task-in-OnDay-clause-asked g c = grind (arith, asks_on, asks_no_more, g.F.Files.asked, false)
+returns-in_err-task-in-OnDay-clause-asked g c = grind (arith, asks_on, asks_no_more, g.F.Files.asked)
 
 pub returns-in_ok-task-in-OnDay-clause-asked : goal.returns-in_ok-task-in-OnDay-clause-asked
 returns-in_ok-task-in-OnDay-clause-asked g c = grind (arith, g.F.Files.asked, asks_on)

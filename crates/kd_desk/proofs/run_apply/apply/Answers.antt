@@ -1,4 +1,3 @@
-use Rattle.std.proofs.Common.{arith}
 use Rattle.kd_desk.specs.RunApply.{NoSettings, RefusedLine, Carried}
 use Rattle.kd_desk.proofs.Failing.{err_is, in_part, in_whole}
 use Rattle.kd_desk.proofs.run_apply.apply.Goals as goal

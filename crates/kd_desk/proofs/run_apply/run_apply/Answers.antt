@@ -1,4 +1,3 @@
-use Rattle.std.proofs.Common.{arith}
 use Rattle.kd_sheet.specs.MachineFile.{machine_of}
 use Rattle.kd_tables.specs.Ports.{port}
 use Rattle.kd_desk.specs.RunApply.{Applies}

@@ -1,4 +1,3 @@
-use Rattle.std.proofs.Common.{arith}
 use Rattle.kd_desk.proofs.Failing.{in_part, in_whole}
 use Rattle.kd_desk.proofs.Prelude.{rules}
 use Rattle.kd_desk.proofs.Printing.{printed}

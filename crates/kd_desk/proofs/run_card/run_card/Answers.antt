@@ -1,4 +1,3 @@
-use Rattle.std.proofs.Common.{arith}
 use Rattle.kd_desk.proofs.Days.{not_found, on_day}
 use Rattle.kd_desk.proofs.run_card.run_card.Goals as goal
 

@@ -1,4 +1,3 @@
-use Rattle.std.proofs.Common.{arith}
 use Rattle.kd_desk.proofs.Prelude.{refl, rules, NoCard, Other, Doubtful, ◌≡◌}
 use Rattle.kd_desk.proofs.Checking.{told}
 use Rattle.kd_desk.proofs.Failing.{err_is, in_part, in_whole}

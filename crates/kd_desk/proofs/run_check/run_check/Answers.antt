@@ -1,4 +1,3 @@
-use Rattle.std.proofs.Common.{arith}
 use Rattle.kd_desk.proofs.Days.{not_found, on_day}
 use Rattle.kd_desk.proofs.run_check.run_check.Goals as goal
 

@@ -1,4 +1,3 @@
-use Rattle.std.proofs.Common.{arith}
 use Rattle.kd_desk.proofs.Days.{not_found, on_day}
 use Rattle.kd_desk.proofs.Receiving.{tell_of_orders}
 use Rattle.kd_desk.proofs.Streaming.{off_key, fails}

@@ -1,4 +1,3 @@
-use Rattle.std.proofs.Common.{arith}
 use Rattle.kd_desk.proofs.Prelude.{machine_of, port, Types, LacksMemory}
 use Rattle.kd_desk.proofs.Applying.{of_read}
 use Rattle.kd_desk.proofs.Streaming.{off_key, fails}

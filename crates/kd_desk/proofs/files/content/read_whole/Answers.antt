@@ -1,4 +1,3 @@
-use Rattle.std.proofs.Common.{arith}
 use Rattle.std.proofs.KnownBytes.{Consumes-trans}
 use Rattle.kd_desk.proofs.Prelude.{port, IsReadWhole}
 use Rattle.kd_desk.proofs.Failing.{answered, well_now}
