@@ -5,7 +5,8 @@ use Rattle.kd_card.specs.Laws.{ProvingCardsAreShortest}
 use Rattle.kd_card.specs.Proving.{Proves}
 
 -- a card that proves itself
-pub told : ProvingCardsAreShortest → (m : Parts) (s : Day) (number : ℕ) (bytes : List ℕ) (sink : Port) (answer : Result (Unit {0}) DeskFault)
+pub told : ProvingCardsAreShortest → (m : Parts) (s : Day) (number : ℕ) (bytes : List ℕ)
+    (sink : Port) (answer : Result (Unit {0}) DeskFault)
     → IsMachine m → IsLegalDay s → (day : ℕ) (settings : List Setting) (prices : PriceParts) (count : ℕ)
     → IsCard bytes day settings prices → day ≡ number → Proves m s settings prices → count ≡ length settings
     → WritesText (verdict_text count) sink answer → Checks m s number bytes sink answer

@@ -22,7 +22,8 @@ sink_fails source sink false well is = (well, well_now sink.had_failed sink.has_
 sink_fails source sink true well is = inr (record { failed = failed_now sink.had_failed sink.has_failed is; well = well })
 
 -- the error that `?` makes
-pub err_is : {T F : Type 0} (answer : Result T F) (fault : F) → IsErrAnd answer (λ made. made ≡ fault) → answer ≡ Err fault
+pub err_is : {T F : Type 0} (answer : Result T F) (fault : F)
+    → IsErrAnd answer (λ made. made ≡ fault) → answer ≡ Err fault
 err_is answer fault e = grind arith
 
 -- what holds of that error

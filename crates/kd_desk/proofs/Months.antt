@@ -120,14 +120,16 @@ months_set_the_machine tell to_one file sheet numbers papers are = absurd are
 -- ---- and there is something to be written
 
 -- the card that was planned for a day, and the file of the machine to which it leads
-pub papers_for : ListsKeepMachines → ReadingIsReady → ReadingIsItsCipher → EquallySetDecipher → WrittenFilesAreReadBack → (m n : Parts) (s : Day) → IsMachine m → IsLegalDay s
+pub papers_for : ListsKeepMachines → ReadingIsReady → ReadingIsItsCipher → EquallySetDecipher
+    → WrittenFilesAreReadBack → (m n : Parts) (s : Day) → IsMachine m → IsLegalDay s
     → (planned card : declared.Card) → Plans m s planned.settings.items planned.prices → IsByKind m s planned card
     → (text : List ℕ) (day : ℕ) → day ≡ day_number s → IsCard text day card.settings.items card.prices
     → Leads m card.settings.items n → HasPapers m s n
 papers_for keep ready cipher equal read_back m n s machine legal planned card plans kinds text day number is_card leads
     file sheet month of_file of_sheet of_month =
     let back = read_back n (keep m n card.settings.items machine is_card.in_range leads) in
-    let prints = printed keep ready cipher equal m s machine legal planned card plans kinds text day (taken text) well number is_card
+    let prints = printed keep ready cipher equal m s machine legal planned card plans kinds
+    text day (taken text) well number is_card
     (in_whole text (taken text) refl) in
     let applies : Applies m text (taken (machine_text n)) well =
     Carried card.settings.items n (settings_of text day card.settings.items card.prices is_card) leads back

@@ -108,7 +108,8 @@ is_dated (Some checking) = true
 is_dated (Some (passing way)) = true
 is_dated _ = false
 
-pub no_day : (name : List ℕ) (rows : List Row) → is_dated (kind_by name) ≡ true → ((sheet : List ℕ) (day : ℕ) → ¬ (HaveDay rows sheet day))
+pub no_day : (name : List ℕ) (rows : List Row)
+    → is_dated (kind_by name) ≡ true → ((sheet : List ℕ) (day : ℕ) → ¬ (HaveDay rows sheet day))
     → (action : NamedAction) → IsActionOf (name, rows) action → ⊥
 no_day name rows e d action g = grind arith
 

@@ -140,7 +140,8 @@ groups_in_again s legal =
     (recursion_from_All _ _ legal.groups))))
 
 -- what each wheel has, the ring or the letter in the window
-parts_are : (s : RotorDay) → IsLegalRotorDay s → (part : SheetWheel → ℕ) → ((w : SheetWheel) → HasLetters w → part w < 26)
+parts_are : (s : RotorDay) → IsLegalRotorDay s → (part : SheetWheel → ℕ)
+    → ((w : SheetWheel) → HasLetters w → part w < 26)
     → AreLetters (slots_of s.model) (map part s.wheels)
 parts_are s legal part low = record {
   count = length-map s.wheels _ ∙ sym (length-map s.wheels _) ∙ legal.wheels.count;
@@ -183,4 +184,5 @@ legal_is_described (OfRotors s) legal =
     )
 legal_is_described (OfPins s) legal =
     let model = ap (λ found. ok_or found UnknownModel) (model_by_name-text M209) in
-    (pin_table s, day_again s.day M209 (pin_table s) (OfPins s) (rw (number_again s.day legal.day) refl) model (pin_again s legal))
+    (pin_table s, day_again s.day M209 (pin_table s) (OfPins s) (rw (number_again s.day legal.day) refl) model
+        (pin_again s legal))

@@ -5,7 +5,8 @@ use Rattle.kd_desk.proofs.SaidCommands.{no_card, no_day}
 use Rattle.kd_desk.proofs.command.check_of.Goals as goal
 
 pub returns-in_err-sheet-clause-none : goal.returns-in_err-sheet-clause-none
-returns-in_err-sheet-clause-none c = λ _. no_day (codes "check") (rows_of (found_of c.args.words.now)) refl (c.in_err-sheet.ensures.none refl)
+returns-in_err-sheet-clause-none c =
+    λ _. no_day (codes "check") (rows_of (found_of c.args.words.now)) refl (c.in_err-sheet.ensures.none refl)
 
 pub returns-in_err-card-clause-none : goal.returns-in_err-card-clause-none
 returns-in_err-card-clause-none c = grind (arith, no_card, read_none)

@@ -3,7 +3,8 @@ use Rattle.kd_desk.proofs.Failing.{err_is, in_part, in_whole}
 use Rattle.kd_desk.proofs.run_apply.apply.Goals as goal
 
 pub returns-in_err-settings-clause-applied : goal.returns-in_err-settings-clause-applied
-returns-in_err-settings-clause-applied g c = NoSettings _ c.in_err-settings.ensures (err_is _ _ c.from_residual.ensures.1)
+returns-in_err-settings-clause-applied g c =
+    NoSettings _ c.in_err-settings.ensures (err_is _ _ c.from_residual.ensures.1)
 
 pub returns-in_err-machine-clause-applied : goal.returns-in_err-machine-clause-applied
 returns-in_err-machine-clause-applied g c =

@@ -13,7 +13,8 @@ returns-then-dated-number-clause-checks g c =
 pub returns-in_err-check-clause-checks : goal.returns-in_err-check-clause-checks
 returns-in_err-check-clause-checks g c =
     let same : c.in_ok-dated.dated ≡ c.args.number = search rules in
-    Doubtful _ _ _ (rw same at c.in_ok-dated.ensures) c.in_err-check.ensures.doubt (err_is _ _ c.from_residual-in_err-check.ensures.1)
+    Doubtful _ _ _ (rw same at c.in_ok-dated.ensures) c.in_err-check.ensures.doubt
+    (err_is _ _ c.from_residual-in_err-check.ensures.1)
 
 pub returns-in_err-write_verdict-clause-checks : goal.returns-in_err-write_verdict-clause-checks
 returns-in_err-write_verdict-clause-checks g c =
