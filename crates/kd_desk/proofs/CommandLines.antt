@@ -1,5 +1,5 @@
 -- Commands and the values of their words.
-use Rattle.kd_desk.proofs.Prelude.{◌≡◌, ◌≢◌, ℕ, List, Option, Some, None, Bor, decimal, option_map, sym, ap, ◌∙◌, Result, Ok, Err, IsSomeAnd, IfSome, IfOk, IfErr, is_some, true, false, [], inl, inr, refl, subst, ap₂, App, FailsBy, HasKind, HasMatchesOf, Row, fault_of, first_of, first_value, is_simple, is_simple_and_free, kind_of, rows_of, subcommand_of, subcommand_rows_of, same_Some, IsDayNumber, DeskFault, Stop, Usage, Refused, Named, IsOf, Says}
+use Rattle.kd_desk.proofs.Prelude.{◌≡◌, ◌≢◌, ℕ, List, Option, Some, None, Bor, decimal, option_map, sym, ap, ◌∙◌, Result, Ok, Err, IfSome, IfOk, IfErr, is_some, true, false, [], refl, subst, App, FailsBy, HasKind, HasMatchesOf, Row, fault_of, first_of, first_value, is_simple, is_simple_and_free, kind_of, rows_of, subcommand_of, subcommand_rows_of, same_Some, IsDayNumber, Stop, Usage, Refused, Named, IsOf, Says, arith}
 use Rattle.std.proofs.Common.{ok_or}
 use Rattle.clap.specs.declared.parser.matches.ArgMatches.{ArgMatches}
 use Rattle.clap.specs.declared.error.Error.{Error}
@@ -24,13 +24,10 @@ pub read_some : (found : Found) (id : List ℕ) (word : Option (Bor (List ℕ)))
     → first_of id (rows_of found) ≡ Some read.now
 read_some found id word read reads some = sym (first_value-rows found id) ∙ sym reads ∙ ap (option_map (λ s. s.now)) some
 
-pub none_or_some : {X : Type 0} (o : Option X) (x : X) → o ≡ None → o ≡ Some x → ⊥
-none_or_some o x none some = cc
-
 -- a word that is not there
 pub no_word : (found : Found) (id : List ℕ) (word : Option (Bor (List ℕ))) → option_map (λ s. s.now) word ≡ first_value found id → word ≡ None
     → (value : List ℕ) → first_of id (rows_of found) ≢ Some value
-no_word found id word reads none value is = none_or_some _ _ (read_none found id word reads none) is
+no_word found id word reads none value is = cc (read_none found id word reads none)
 
 -- a word that says no day
 pub other_word : (found : Found) (id : List ℕ) (word : Option (Bor (List ℕ))) (read : Bor (List ℕ)) → option_map (λ s. s.now) word ≡ first_value found id → word ≡ Some read
@@ -59,59 +56,32 @@ pub parse_enters : (app : App) (words : List (List ℕ)) (m : ArgMatches) → ap
 parse_enters app words m is has = (subst (λ a. HasMatchesOf a words m) is has grammar_is_known).1
 
 pub no_fault_said : (words : List (List ℕ)) (error : Error) → HasKind (fault_of desk_grammar words) error → kind_of error ≢ OutOfMemory → (command : Named) → Says words command → ⊥
-no_fault_said words error has other command says = elim (subst (λ kinds. HasKind kinds error) says.taken has) [
-  | inl memory ↦ other memory
-  | inr among ↦ among
-]
-
-entered_none : {X : Type 0} (said : Option X) (P : X → Type 0) → said ≡ None → IsSomeAnd said P → ⊥
-entered_none None P e is = is
-entered_none (Some x) P e is = cc
+no_fault_said words error has other command says = let kinds = rw says.taken at has in grind (arith, other)
 
 pub no_subcommand_said : (words : List (List ℕ)) → subcommand_of desk_grammar words ≡ None → (command : Named) → Says words command → ⊥
-no_subcommand_said words none command says = entered_none (subcommand_of desk_grammar words) (λ said. IsOf said command) none says.said
-
-entered_some : {X : Type 0} (said : Option X) (x : X) (P : X → Type 0) → said ≡ Some x → IsSomeAnd said P → P x
-entered_some said x P e is = subst (λ o. IsSomeAnd o P) e is
-
-some_entered : {X : Type 0} (said : Option X) (x : X) (P : X → Type 0) → said ≡ Some x → P x → IsSomeAnd said P
-some_entered said x P e p = subst (λ o. IsSomeAnd o P) (sym e) p
+no_subcommand_said words none command says = rw none at says.said
 
 pub subcommand_said : (words : List (List ℕ)) (said : List ℕ × List Row) → subcommand_of desk_grammar words ≡ Some said → (command : Named) → Says words command → IsOf said command
-subcommand_said words said e command says = entered_some (subcommand_of desk_grammar words) said (λ x. IsOf x command) e says.said
+subcommand_said words said e command says = rw e at says.said
 
 pub said_subcommand : (words : List (List ℕ)) (said : List ℕ × List Row) → fault_of desk_grammar words ≡ [] → subcommand_of desk_grammar words ≡ Some said → (command : Named) → IsOf said command → Says words command
-said_subcommand words said taken e command is = record {
-  taken = taken;
-  said = some_entered (subcommand_of desk_grammar words) said (λ x. IsOf x command) e is;
-}
+said_subcommand words said taken e command is = record { taken = taken; said = rw e is }
 
 -- a name and rows that are read apart
 pub paired : {X : Type 0} (entered : Option X) (name : X → List ℕ) (rows : X → List Row) (n : List ℕ) (r : List Row)
     → Some n ≡ option_map name entered → Some r ≡ option_map (λ (p : List ℕ × List Row). p.1) (option_map {U = List ℕ × List Row} (λ x. (name x, rows x)) entered) → option_map {U = List ℕ × List Row} (λ x. (name x, rows x)) entered ≡ Some (n, r)
-paired None name rows n r is is_rows = cc
-paired (Some x) name rows n r is is_rows = ap₂ (λ a b. Some (a, b)) (sym (same_Some _ _ is)) (sym (same_Some _ _ is_rows))
+paired entered name rows n r is is_rows = grind (arith)
 
 pub no_entered : {X Y : Type 0} (entered : Option X) (f : X → Y) → false ≡ is_some entered → option_map f entered ≡ None
-no_entered None f e = refl
-no_entered (Some x) f e = cc
-
-abbrev as_answer : Stop → Result Lent Stop
-as_answer = Err
-
-pub usage_refused : (stop : Stop) (fault : DeskFault) → stop ≡ Refused fault → as_answer stop ≡ as_answer Usage → ⊥
-usage_refused stop fault refused usage = cc
+no_entered entered f e = grind (arith)
 
 -- the answer of a command that may not be there
 pub ok_said : (said : Option Lent) (answer : Result Lent Stop) (P Q : Lent → Type 0) → answer ≡ ok_or said Usage → ((command : Lent) → P command → Q command)
     → IfSome said P → IfOk answer Q
-ok_said None answer P Q e more is = subst (λ (a : Result Lent Stop). IfOk a Q) (sym e) tt
-ok_said (Some command) answer P Q e more is = subst (λ (a : Result Lent Stop). IfOk a Q) (sym e) (more command is)
+ok_said said answer P Q e d g = grind arith
 
 pub no_command_of : (said : Option Lent) (answer : Result Lent Stop) → answer ≡ ok_or said Usage → answer ≡ Err Usage → said ≡ None
-no_command_of None answer e usage = refl
-no_command_of (Some command) answer e usage = cc
+no_command_of said answer e usage = grind (arith)
 
 pub usage_or_said : (said : Option Lent) (answer : Result Lent Stop) → answer ≡ ok_or said Usage → IfErr answer (λ stop. stop ≢ Usage → stop ≡ Refused (File NoMemory))
-usage_or_said None answer e = subst (λ (a : Result Lent Stop). IfErr a (λ stop. stop ≢ Usage → stop ≡ Refused (File NoMemory))) (sym e) (λ other. absurd (other refl))
-usage_or_said (Some command) answer e = subst (λ (a : Result Lent Stop). IfErr a (λ stop. stop ≢ Usage → stop ≡ Refused (File NoMemory))) (sym e) tt
+usage_or_said said answer e = grind arith

@@ -1,5 +1,5 @@
 -- The machine and the day that files say, and what is answered to them.
-use Rattle.kd_desk.proofs.Prelude.{◌≡◌, ◌⊎◌, ℕ, List, Option, Some, None, Result, Ok, Err, IsErrAnd, IsOkAnd, inl, inr, refl, sym, ap, ◌∙◌, subst, ok_or, Parts, Day, machine_of, DeskFault, FindsDay, LackedMemory, NoMachine, NoSheet, NoDay, Found, OnDay}
+use Rattle.kd_desk.proofs.Prelude.{◌≡◌, ◌⊎◌, ℕ, List, Option, Some, None, Result, Ok, Err, IsErrAnd, inl, inr, refl, sym, ap, ◌∙◌, ok_or, Parts, Day, machine_of, DeskFault, FindsDay, LackedMemory, NoMachine, NoSheet, NoDay, Found, OnDay, arith}
 use Rattle.kd_sheet.specs.declared.fault.SheetFault.{SheetFault}
 use Rattle.kd_sheet.specs.declared.fault.SheetFault.TheVariants as files
 use Rattle.kd_sheet.specs.Document.{Answers}
@@ -10,24 +10,13 @@ use Rattle.kd_desk.proofs.Failing.{answered}
 
 -- a fault that is answered is the one that is meant, or want of memory
 is_meant : {A : Type 0} (fault : SheetFault) (meant : Result A SheetFault) → Answers (Err fault) meant → (fault ≡ files.NoMemory) ⊎ (meant ≡ Err fault)
-is_meant files.NoMemory meant is = inl refl
-is_meant files.NotToml meant is = inr (sym is)
-is_meant files.UnknownModel meant is = inr (sym is)
-is_meant (files.Missing key) meant is = inr (sym is)
-is_meant (files.BadValue key) meant is = inr (sym is)
-is_meant files.LetterTwice meant is = inr (sym is)
-is_meant files.WheelTwice meant is = inr (sym is)
-is_meant files.WheelNotAllowed meant is = inr (sym is)
-is_meant (files.BadRow number) meant is = inr (sym is)
-is_meant (files.DayTwice day) meant is = inr (sym is)
+is_meant fault meant is = grind (arith)
 
 no_day_found : (found : Option Day) (fault : DeskFault) → Err fault ≡ ok_or found faults.NoSuchDay → (found ≡ None) × (fault ≡ faults.NoSuchDay)
-no_day_found None fault told = (refl, subst (λ (r : Result _ DeskFault). IsErrAnd r (λ made. made ≡ faults.NoSuchDay)) (sym told) refl)
-no_day_found (Some s) fault told = absurd (subst (λ (r : Result _ DeskFault). IsErrAnd r (λ _. Unit {0})) told tt)
+no_day_found found fault told = grind (arith)
 
 day_found : (found : Option Day) (s : Day) → Ok s ≡ ok_or found faults.NoSuchDay → found ≡ Some s
-day_found None s told = absurd (subst (λ (r : Result _ DeskFault). IsOkAnd r (λ _. Unit {0})) told tt)
-day_found (Some other) s told = ap Some (sym (subst (λ (r : Result _ DeskFault). IsOkAnd r (λ z. s ≡ z)) told refl))
+day_found found s told = grind (arith)
 
 module _ (machine sheet : List ℕ) (number : ℕ) (answer : Result (Parts × Day) DeskFault) where
   abbrev Finds : Result (Parts × Day) DeskFault → Type 0

@@ -1,5 +1,6 @@
 -- Settings that bytes say, and lines that a machine refuses.
-use Rattle.kd_desk.proofs.Prelude.{◌≡◌, Bool, List, [], ◌∷◌, ◌++◌, Some, None, IsTrue, IsFalse, sym, ◌∙◌, ap, subst, Parts, Setting, why_refused, Leads, OfCard, OfList, InCard, InList}
+use Rattle.std.proofs.Common.{arith}
+use Rattle.kd_desk.proofs.Prelude.{◌≡◌, Bool, List, [], ◌∷◌, ◌++◌, Some, sym, subst, Parts, Setting, why_refused, Leads, IsTrue, IsFalse, ap, ◌∙◌, OfCard, OfList, InCard, InList}
 use Rattle.kd_state.specs.declared.setting.why.Why.{Why}
 use Rattle.kd_state.specs.Laws as lists
 use Rattle.kd_card.specs.Laws as cards
@@ -27,16 +28,12 @@ one_fault of_cards of_lists bytes fault other (InCard begun card is told) (InLis
 one_fault of_cards of_lists bytes fault other (InList unbegun list is told) (InCard begun card are as_told) = absurd (both _ begun unbegun)
 one_fault of_cards of_lists bytes fault other (InList unbegun list is told) (InList also same are as_told) = told ∙ ap (λ f. faults.List f) (of_lists bytes list same is are) ∙ sym as_told
 
-none_and_some : (m n : Parts) (x : Setting) (why : Why) → n ≡ m → why_refused m x ≡ None → why_refused n x ≡ Some why → ⊥
-none_and_some m n x why same none some = let e : None ≡ Some why = sym none ∙ ap (λ k. why_refused k x) (sym same) ∙ some in cc
-
 refused_behind : lists.CarriesToOne → (front rest : List Setting) (x : Setting) (m between n : Parts) (why : Why)
     → Leads m (front ++ x ∷ rest) n → Leads m front between → why_refused between x ≡ Some why → ⊥
-refused_behind to_one [] rest x m between n why leads at refused = none_and_some m between x why at leads.1.allowed refused
+refused_behind to_one [] rest x m between n why leads at refused = cc (at, leads.1.allowed, refused)
 refused_behind to_one (y ∷ front) rest x m between n why leads at refused =
     let same = to_one m leads.0 at.0 y leads.1 at.1 in
     refused_behind to_one front rest x at.0 between n why (subst (λ k. Leads k (front ++ x ∷ rest) n) same leads.2) at.2 refused
 
 pub lead_or_refuse : lists.CarriesToOne → LeadsOrRefuses
-lead_or_refuse to_one m n xs line why leads first =
-    refused_behind to_one first.front first.rest first.setting m first.between n why (subst (λ l. Leads m l n) first.split leads) first.leads first.refused
+lead_or_refuse to_one m n xs line why leads first = grind (arith, refused_behind)

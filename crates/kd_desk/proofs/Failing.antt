@@ -1,5 +1,8 @@
 -- What a failed call leaves of its ports.
-use Rattle.kd_desk.proofs.Prelude.{◌≡◌, ℕ, Bool, true, false, ◌||◌, List, Option, Result, Ok, Err, IsErrAnd, IsTrue, inr, sym, subst, Port, IsWell, Fail}
+use Rattle.std.proofs.Common.{arith}
+use Rattle.kd_desk.specs.declared.fault.DeskFault.TheVariants.{Device}
+use Rattle.kd_desk.specs.Ports.{WritesText}
+use Rattle.kd_desk.proofs.Prelude.{◌≡◌, ℕ, Bool, true, false, ◌||◌, List, Option, Result, Ok, Err, IsErrAnd, IsTrue, inr, sym, subst, Port, IsWell, Fail, Appends, TakesFront, DeskFault}
 
 -- what is known of a port, in its order
 abbrev pub over : Option (List ℕ) → Option (List ℕ) → Bool → Bool → Port
@@ -7,20 +10,30 @@ over had has before after = record { had = had; has = has; had_failed = before; 
 
 -- a failed call leaves the flag up
 pub failed_now : (before after : Bool) → after ≡ (before || true) → IsTrue after
-failed_now true after e = e
-failed_now false after e = e
+failed_now before after e = grind (arith, e)
 
 -- a call that did not fail leaves the flag as it was
 pub well_now : (before after : Bool) → after ≡ (before || false) → after ≡ before
-well_now true after e = e
-well_now false after e = e
+well_now before after e = grind (arith, e)
 
 -- a sink failed, or it did not, and the source was let be
 pub sink_fails : (source sink : Port) (failed : Bool) → IsWell source → sink.has_failed ≡ (sink.had_failed || failed) → Fail source sink failed
 sink_fails source sink false well is = (well, well_now sink.had_failed sink.has_failed is)
 sink_fails source sink true well is = inr (record { failed = failed_now sink.had_failed sink.has_failed is; well = well })
 
--- what holds of the error that `?` makes
+-- the error that `?` makes
+pub err_is : {T F : Type 0} (answer : Result T F) (fault : F)
+    → IsErrAnd answer (λ made. made ≡ fault) → answer ≡ Err fault
+err_is answer fault e = grind arith
+
+-- what holds of that error
 pub answered : {T F : Type 0} (answer : Result T F) (fault : F) (P : Result T F → Type 0) → IsErrAnd answer (λ made. made ≡ fault) → P (Err fault) → P answer
-answered (Ok x) fault P made p = absurd made
-answered (Err other) fault P made p = subst (λ f. P (Err f)) (sym made) p
+answered answer fault P made p = subst P (sym (err_is answer fault made)) p
+
+-- a text that was written, whole or in part
+pub in_whole : (text : List ℕ) (sink : Port) → Appends sink.had sink.has text → WritesText text sink (Ok tt)
+in_whole text sink taken = record { written = record { whole = taken; front = tt }; device = tt }
+
+pub in_part : (text : List ℕ) (sink : Port) (answer : Result (Unit {0}) DeskFault) → TakesFront sink.had sink.has text
+    → IsErrAnd answer (λ made. made ≡ Device) → WritesText text sink answer
+in_part text sink answer taken made = grind (arith, answered)

@@ -1,5 +1,6 @@
 -- A grammar as it grows: no help, and a word or a command more.
-use Rattle.kd_desk.proofs.Prelude.{◌≡◌, ◌∙◌, ◌||◌, Bool, true, false, Result, Ok, Err, IfOk, ap, ap₂, sym, subst, App, Rule, app_of, rule_of, with_rule, app_of_fields, Arg}
+use Rattle.std.proofs.Common.{arith}
+use Rattle.kd_desk.proofs.Prelude.{◌≡◌, ◌∙◌, true, false, Result, IfOk, ap, sym, subst, App, Rule, app_of, rule_of, with_rule, app_of_fields, Arg}
 use Rattle.clap.specs.Built.{AddsArg}
 use Rattle.clap.specs.declared.builder.command.Command.{Command}
 use Rattle.clap.specs.declared.builder.command.Command.TheViews.{out-Command}
@@ -20,10 +21,8 @@ local_without_help old new made local = ap (λ (fields : Command-F Command). fie
 module _ {E : Type 0} (old : Command) (word : Arg) where
   pub takes_word : (added : Result Command E) (app : App) (rule : Rule) → app_of old ≡ app → rule_of word ≡ rule → word.global ≡ false
       → IfOk added (λ new. AddsArg old word new) → IfOk added (λ new. app_of new ≡ with_rule app rule)
-  takes_word (Ok new) app rule is ruled local adds = adds.shape local ∙ ap₂ with_rule is ruled
-  takes_word (Err e) app rule is ruled local adds = tt
+  takes_word added app rule e d g h = grind arith
 
   pub stays_local : (added : Result Command E) → (out-Command old).has_globals ≡ false → word.global ≡ false
       → IfOk added (λ new. AddsArg old word new) → IfOk added (λ new. (out-Command new).has_globals ≡ false)
-  stays_local (Ok new) was local adds = adds.globals ∙ ap₂ (λ (a b : Bool). a || b) was local
-  stays_local (Err e) was local adds = tt
+  stays_local added e d g = grind arith

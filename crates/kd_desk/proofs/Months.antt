@@ -1,11 +1,12 @@
 -- The cards and the files of a month.
-use Rattle.std.proofs.Common.{◌≡◌, ◌⊎◌, ℕ, List, [], ◌∷◌, All, Option, Some, Result, Ok, Err, IfOk, MatchResult, IsTrue, inl, inr, refl, sym, ap, ◌∙◌, subst}
+use Rattle.kd_desk.proofs.Failing.{in_whole}
+use Rattle.std.proofs.Common.{◌≡◌, ◌⊎◌, ℕ, List, [], ◌∷◌, All, Option, Some, Result, Ok, Err, IfOk, MatchResult, IsTrue, inl, inr, refl, sym, ap, ◌∙◌, subst, arith}
 use Rattle.std.proofs.lemmas.List.Elements.{All-tail}
 use Rattle.kd_tables.specs.declared.model.Model.{Model}
 use Rattle.kd_tables.specs.Ports.{Port}
 use Rattle.kd_state.specs.declared.machine.parts.Parts.{Parts}
 use Rattle.kd_state.specs.declared.setting.Setting.{Setting}
-use Rattle.kd_state.specs.Laws.{LeadsToOne}
+use Rattle.kd_state.specs.Laws.{LeadsToOne, ListsKeepMachines, ReadingIsReady, ReadingIsItsCipher, EquallySetDecipher}
 use Rattle.kd_state.specs.Machine.{IsMachine}
 use Rattle.kd_state.specs.Setting.{Leads}
 use Rattle.kd_state.specs.SheetDay.{Day, IsLegalDay, day_number}
@@ -23,22 +24,21 @@ use Rattle.kd_sheet.specs.SheetFile.{sheet_of}
 use Rattle.kd_desk.specs.declared.fault.DeskFault.{DeskFault}
 use Rattle.kd_desk.specs.Laws.{TextsTellSettings, MonthsSetTheMachine}
 use Rattle.kd_desk.specs.Month.{Papers, taken, well, AreWritten, SetTheMachine, HasDayOf, HasPapers, HasPapersInTurn}
-use Rattle.kd_desk.specs.OnDay.{FindsDay, LackedMemory, NoMachine, NoSheet, NoDay, Found}
+use Rattle.kd_desk.specs.OnDay.{FindsDay, Found}
 use Rattle.kd_desk.specs.Ports.{WritesText}
-use Rattle.kd_desk.specs.RunApply.{Applies, NoSettings, RefusedLine, Carried}
-use Rattle.kd_desk.specs.RunCard.{WritesCard, Prints, Different, Card}
+use Rattle.kd_desk.specs.RunApply.{Applies, Carried}
+use Rattle.kd_desk.specs.RunCard.{WritesCard, Prints}
 use Rattle.kd_desk.specs.RunSteps.{LacksMemory}
 use Rattle.kd_desk.specs.Settings.{begins_as_card, AreSettings, OfCard}
 use Rattle.kd_desk.proofs.Applying.{of_read}
 use Rattle.kd_desk.proofs.Days.{on_day}
-use Rattle.kd_desk.proofs.Printing.{Laws, whole}
+use Rattle.kd_desk.proofs.Printing.{printed}
 
 -- ---- whatever is written sets the machine
 
 card_printed : (m : Parts) (s : Day) (number : ℕ) (sink : Port) → Prints m s number sink well
     → WritesCard m s number sink well
-card_printed m s number sink (Different other refused) = absurd (cc)
-card_printed m s number sink (Card writes) = writes
+card_printed m s number sink prints = grind (arith)
 
 record IsCarried (m : Parts) (bytes : List ℕ) (sink : Port) : Type 0 where
   settings : List Setting
@@ -49,10 +49,7 @@ record IsCarried (m : Parts) (bytes : List ℕ) (sink : Port) : Type 0 where
   written : WritesText (machine_text n) sink well
 
 carried : (m : Parts) (bytes : List ℕ) (sink : Port) → Applies m bytes sink well → IsCarried m bytes sink
-carried m bytes sink (NoSettings fault is refused) = absurd (cc)
-carried m bytes sink (RefusedLine settings fault are first refused) = absurd (cc)
-carried m bytes sink (Carried settings n are leads back written) =
-    record { settings = settings; n = n; of_card = are; leads = leads; back = back; written = written }
+carried m bytes sink applies = grind (arith)
 
 begins : (text : List ℕ) (day : ℕ) (settings : List Setting) (prices : PriceParts) → IsCard text day settings prices
     → IsTrue (begins_as_card text)
@@ -75,22 +72,7 @@ record IsFound (file sheet : List ℕ) (number : ℕ) (does : Parts → Day → 
 found_on : (file sheet : List ℕ) (number : ℕ) (does : Parts → Day → Type 0) (found : Result (Parts × Day) DeskFault)
     → FindsDay file sheet number found → MatchResult found (λ on. does on.0 on.1) (λ fault. well ≡ Err fault)
     → IsFound file sheet number does
-found_on file sheet number does (Err fault) finds refused = absurd (cc)
-found_on file sheet number does (Ok on) (LackedMemory e) done = absurd (cc)
-found_on file sheet number does (Ok on) (NoMachine fault is e) done = absurd (cc)
-found_on file sheet number does (Ok on) (NoSheet m fault of_file is e) done = absurd (cc)
-found_on file sheet number does (Ok on) (NoDay m month of_file of_sheet is e) done = absurd (cc)
-found_on file sheet number does (Ok on) (Found m month s of_file of_sheet of_month e) done =
-    let same : on ≡ (m, s) = cc in
-    record {
-      m = m;
-      of_file = of_file;
-      month = month;
-      of_sheet = of_sheet;
-      s = s;
-      of_month = of_month;
-      done = subst (λ (on : Parts × Day). does on.0 on.1) same done;
-    }
+found_on file sheet number does found finds done = grind (arith)
 
 applied : (m : Parts) (bytes : List ℕ) (sink : Port) → Applies m bytes sink well ⊎ LacksMemory well
     → Applies m bytes sink well
@@ -131,26 +113,27 @@ sets tell to_one file sheet number papers are =
 
 pub months_set_the_machine : TextsTellSettings → LeadsToOne → MonthsSetTheMachine
 months_set_the_machine tell to_one file sheet [] [] are = tt
-months_set_the_machine tell to_one file sheet (number ∷ numbers) (papers ∷ more) are = (
-  sets tell to_one file sheet number papers are.0,
-  months_set_the_machine tell to_one papers.file sheet numbers more are.1,
-)
+months_set_the_machine tell to_one file sheet (number ∷ numbers) (papers ∷ more) are =
+    grind (arith, sets, months_set_the_machine tell to_one papers.file sheet numbers more are.1)
 months_set_the_machine tell to_one file sheet numbers papers are = absurd are
 
 -- ---- and there is something to be written
 
 -- the card that was planned for a day, and the file of the machine to which it leads
-pub papers_for : Laws → WrittenFilesAreReadBack → (m n : Parts) (s : Day) → IsMachine m → IsLegalDay s
+pub papers_for : ListsKeepMachines → ReadingIsReady → ReadingIsItsCipher → EquallySetDecipher
+    → WrittenFilesAreReadBack → (m n : Parts) (s : Day) → IsMachine m → IsLegalDay s
     → (planned card : declared.Card) → Plans m s planned.settings.items planned.prices → IsByKind m s planned card
     → (text : List ℕ) (day : ℕ) → day ≡ day_number s → IsCard text day card.settings.items card.prices
     → Leads m card.settings.items n → HasPapers m s n
-papers_for laws read_back m n s machine legal planned card plans kinds text day number is_card leads
+papers_for keep ready cipher equal read_back m n s machine legal planned card plans kinds text day number is_card leads
     file sheet month of_file of_sheet of_month =
-    let back = read_back n (laws.keep m n card.settings.items machine is_card.in_range leads) in
-    let prints = whole laws m s machine legal planned card plans kinds text day (taken text) number is_card refl in
+    let back = read_back n (keep m n card.settings.items machine is_card.in_range leads) in
+    let prints = printed keep ready cipher equal m s machine legal planned card plans kinds
+    text day (taken text) well number is_card
+    (in_whole text (taken text) refl) in
     let applies : Applies m text (taken (machine_text n)) well =
     Carried card.settings.items n (settings_of text day card.settings.items card.prices is_card) leads back
-    (record { written = record { whole = refl; front = tt }; device = tt }) in (
+    (in_whole (machine_text n) (taken (machine_text n)) refl) in (
       record { card = text; file = machine_text n },
       record {
         printed = on_day file sheet (day_number s) _ well m s (Found m month s of_file of_sheet of_month refl) prints;

@@ -1,7 +1,5 @@
 -- What a card that was planned and written promises.
-use Rattle.std.proofs.Common.{◌≡◌, ℕ, List, Result, Ok, Err, IsErrAnd, refl, sym, subst}
-use Rattle.std.specs.Io.KnownBytes.{Appends}
-use Rattle.kd_tables.specs.Writing.{TakesFront}
+use Rattle.std.proofs.Common.{◌≡◌, ℕ, List, Result, sym, subst, arith}
 use Rattle.kd_state.specs.declared.machine.parts.Parts.{Parts}
 use Rattle.kd_state.specs.Machine.{IsMachine}
 use Rattle.kd_state.specs.SheetDay.{Day, IsLegalDay, day_number}
@@ -12,48 +10,29 @@ use Rattle.kd_card.specs.CardText.{IsCard}
 use Rattle.kd_plan.specs.Planned.{Plans}
 use Rattle.kd_prices.specs.KindCards.{IsByKind}
 use Rattle.kd_desk.specs.declared.fault.DeskFault.{DeskFault}
-use Rattle.kd_desk.specs.declared.fault.DeskFault.TheVariants as faults
 use Rattle.kd_desk.specs.Headline as headline
 use Rattle.kd_tables.specs.Ports.{Port}
 use Rattle.kd_desk.specs.Ports.{WritesText}
 use Rattle.kd_desk.specs.RunCard.{Prints, Card}
-use Rattle.kd_desk.proofs.Failing.{answered}
 
--- the laws on which it rests
-pub record Laws : Type 0 where
-  pub keep : ListsKeepMachines
-  pub ready : ReadingIsReady
-  pub cipher : ReadingIsItsCipher
-  pub decipher : EquallySetDecipher
-
-module _ (laws : Laws) (m : Parts) (s : Day) (is_machine : IsMachine m) (legal : IsLegalDay s) where
+module _ (keep : ListsKeepMachines) (ready : ReadingIsReady) (cipher : ReadingIsItsCipher) (equal : EquallySetDecipher)
+    (m : Parts) (s : Day) (is_machine : IsMachine m) (legal : IsLegalDay s) where
   leaves : (text settings : List _) (numbered prices : PriceParts) → Plans m s settings numbered
       → IsCard text (day_number s) settings prices → headline.LeavesTheSheetsMachine m s settings
-  leaves text settings numbered prices plans card =
-      let n = plans.leads.0 in
-      let machine = laws.keep m n settings is_machine card.in_range plans.leads.1 in (
-        n,
-        plans.leads.1,
-        record {
-          machine = machine;
-          reads = plans.leads.2;
-          ready = laws.ready n s machine legal plans.leads.2;
-          enciphers = λ letters. laws.cipher n s letters machine legal plans.leads.2;
-        },
-      )
+  leaves text settings numbered prices plans card = grind arith
 
   decipher : headline.EquallySetDecipher s
   decipher one other text set are =
-      laws.decipher one other s text set.machine set.other_machine legal set.on_key set.other_on_key set.letters are
+      equal one other s text set.machine set.other_machine legal set.on_key set.other_on_key set.letters are
 
   -- the card that was planned and the same one with prices by kind
   module _ (planned card : declared.Card) (plans : Plans m s planned.settings.items planned.prices) (kinds : IsByKind m s planned card) where
     same : Plans m s card.settings.items planned.prices
     same = subst (λ settings. Plans m s settings planned.prices) (sym kinds.settings) plans
 
-    written : (text : List ℕ) (day : ℕ) (sink : Port) (answer : Result (Unit {0}) DeskFault) → day ≡ day_number s
+    pub printed : (text : List ℕ) (day : ℕ) (sink : Port) (answer : Result (Unit {0}) DeskFault) → day ≡ day_number s
         → IsCard text day card.settings.items card.prices → WritesText text sink answer → Prints m s (day_number s) sink answer
-    written text day sink answer number is_card takes =
+    printed text day sink answer number is_card takes =
         let dated = subst (λ d. IsCard text d card.settings.items card.prices) number is_card in
         Card (record {
           settings = card.settings.items;
@@ -67,19 +46,3 @@ module _ (laws : Laws) (m : Parts) (s : Day) (is_machine : IsMachine m) (legal :
           card = dated;
           written = takes;
         })
-
-    pub whole : (text : List ℕ) (day : ℕ) (sink : Port) → day ≡ day_number s → IsCard text day card.settings.items card.prices
-        → Appends sink.had sink.has text → Prints m s (day_number s) sink (Ok (tt {0}))
-    whole text day sink number is_card taken =
-        written text day sink (Ok tt) number is_card (record { written = record { whole = taken; front = tt }; device = tt })
-
-    pub part : (text : List ℕ) (day : ℕ) (sink : Port) (answer : Result (Unit {0}) DeskFault) → day ≡ day_number s
-        → IsCard text day card.settings.items card.prices → TakesFront sink.had sink.has text
-        → IsErrAnd answer (λ made. made ≡ faults.Device) → Prints m s (day_number s) sink answer
-    part text day sink answer number is_card taken made =
-        answered answer faults.Device (Prints m s (day_number s) sink) made
-        (written text day sink (Err faults.Device) number is_card (record { written = record { whole = tt; front = taken }; device = refl }))
-
-pub printed_for : (m : Parts) (s : Day) (number asked : ℕ) (sink : Port) (answer : Result (Unit {0}) DeskFault) → number ≡ asked
-    → Prints m s number sink answer → Prints m s asked sink answer
-printed_for m s number asked sink answer same prints = subst (λ n. Prints m s n sink answer) same prints

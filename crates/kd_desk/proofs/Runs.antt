@@ -1,11 +1,9 @@
 -- Files that are read one after another, and what the program answers to a command.
-use Rattle.kd_desk.proofs.Prelude.{◌≡◌, ℕ, suc, Bool, true, false, List, [], ◌∷◌, ◌++◌, take, Option, Some, None, IfSome, IsSomeAnd, Result, Ok, Err, IsErr, IsErrAnd, is_ok, refl, sym, ap, ◌∙◌, subst, inl, inr, append_assoc, Row, subcommand_of, DeskFault, Stop, Unread, Named, files_of, IsOf, Says, KnownCommand, KnownAction, KnownTask, command_over, AskFor, CarriesOut, DoesTask, IsDone, IsTaskDone, has_read, OnDay, Gives, Opened, Port}
-use Rattle.std.proofs.lemmas.Bool.{false≢true}
+use Rattle.std.proofs.Common.{arith}
+use Rattle.kd_desk.proofs.Failing.{err_is}
+use Rattle.kd_desk.proofs.Prelude.{◌≡◌, ℕ, suc, Bool, true, false, List, [], ◌∷◌, ◌++◌, take, Option, Some, None, IfSome, IsSomeAnd, Result, Ok, Err, IsErr, IsErrAnd, is_ok, refl, sym, ap, ◌∙◌, subst, inl, inr, append_assoc, Row, subcommand_of, Stop, Unread, Named, IsOf, Says, KnownCommand, command_over, AskFor, CarriesOut, IsDone, has_read, Gives, Opened, Port}
 use Rattle.kd_desk.specs.declared.files.fault.FileFault.{FileFault}
-use Rattle.kd_desk.specs.declared.files.fault.FileFault.TheVariants as files
 use Rattle.kd_desk.specs.CommandLine.{desk_grammar}
-use Rattle.kd_desk.specs.declared.command.Task.{Task}
-use Rattle.kd_desk.specs.Stops.{stop_after}
 use Rattle.kd_desk.proofs.SaidCommands.{same_command}
 
 -- what is known of files
@@ -26,8 +24,7 @@ asks_on name names old new newer all is more =
 
 pub asks_no_more : {T : Type 0} (names old new : List (List ℕ)) (all : Bool) (answer : Result T FileFault) → IsErr answer → AskFor names old new all
     → AskFor names old new (is_ok answer)
-asks_no_more names old new all (Ok x) failed asks = absurd (false≢true failed)
-asks_no_more names old new all (Err fault) failed asks = record { number = asks.number; asked = asks.asked; whole = λ none. absurd (false≢true none) }
+asks_no_more names old new all answer e d = grind arith
 
 pub asked_all : (names old new : List (List ℕ)) (all : Bool) → AskFor names old new true → AskFor names old new all
 asked_all names old new all asks = record { number = asks.number; asked = asks.asked; whole = λ _. asks.whole refl }
@@ -35,49 +32,19 @@ asked_all names old new all asks = record { number = asks.number; asked = asks.a
 -- ---- what the words say
 
 said_by : (said : Option (List ℕ × List Row)) (one other : Named) → IsSomeAnd said (λ x. IsOf x one) → IsSomeAnd said (λ x. IsOf x other) → one ≡ other
-said_by None one other is are = absurd is
-said_by (Some said) one other is are = same_command said one other is are
+said_by said one other e d = grind (arith, same_command)
 
 -- the words say one command
 pub said_command : (words : List (List ℕ)) (one other : Named) → Says words one → Says words other → one ≡ other
 said_command words one other says same = said_by (subcommand_of desk_grammar words) one other says.said same.said
 
--- what is so of a command is so of each that the words say
-pub asked_for : (one other : Named) (old new : List (List ℕ)) (all : Bool) → one ≡ other → AskFor (files_of one) old new all → AskFor (files_of other) old new all
-asked_for one other old new all same asks = subst (λ command. AskFor (files_of command) old new all) same asks
-
 -- ---- what is done
-
--- a task that is another one does what that does
-module _ (machine sheet : List ℕ) (number : ℕ) (sink : Port) where
-  pub does_task : (one other : Task (List ℕ) Port) (answer : Result (Unit {0}) DeskFault) → one ≡ other
-      → OnDay machine sheet number (DoesTask other number sink answer) answer → OnDay machine sheet number (DoesTask one number sink answer) answer
-  does_task one other answer same does = subst (λ task. OnDay machine sheet number (DoesTask task number sink answer) answer) (sym same) does
-
-  pub task_done : (one other : KnownTask) (answer : Result (Unit {0}) Stop) → one ≡ other
-      → IsTaskDone machine sheet number other sink answer → IsTaskDone machine sheet number one sink answer
-  task_done one other answer same done = subst (λ task. IsTaskDone machine sheet number task sink answer) (sym same) done
-
--- a command of the same files and the same action does the same
-pub command_done : (source sink : Port) (answer : Result (Unit {0}) Stop) (machine same : List ℕ) (action other : KnownAction) → same ≡ machine → action ≡ other
-    → IsDone (record { machine = same; action = other }) source sink answer → IsDone (record { machine = machine; action = action }) source sink answer
-command_done source sink answer machine same action other is are done =
-    subst (λ m. IsDone (record { machine = m; action = action }) source sink answer) is
-    (subst (λ a. IsDone (record { machine = same; action = a }) source sink answer) (sym are) done)
 
 -- of a file that was not opened nothing is left
 pub nothing_left : Opened
 nothing_left = record { bytes = None; failed = false }
 
 -- ---- what is answered
-
-pub stops_after : (answer : Result (Unit {0}) Stop) (told : Result (Unit {0}) DeskFault) (failed now : Bool) → answer ≡ stop_after failed told → failed ≡ now
-    → answer ≡ stop_after now told
-stops_after answer told failed now answers same = subst (λ f. answer ≡ stop_after f told) same answers
-
-pub err_is : (answer : Result (Unit {0}) Stop) (stop : Stop) → IsErrAnd answer (λ made. made ≡ stop) → answer ≡ Err stop
-err_is (Ok x) stop made = absurd made
-err_is (Err other) stop made = ap Err made
 
 abbrev fails : FileFault → Result KnownCommand FileFault
 fails fault = Err fault
@@ -95,10 +62,7 @@ module _ (source sink : Port) (answer : Result (Unit {0}) Stop) where
 
   file_refused : (meant : Result KnownCommand FileFault) (fault : FileFault) → Gives meant (Err fault) → answer ≡ Err (Unread fault)
       → CarriesOut meant source sink answer
-  file_refused (Ok command) fault (inl is) answers = cc
-  file_refused (Ok command) fault (inr lacks) answers = inr (inr (unread_by fault files.NoMemory lacks answers))
-  file_refused (Err other) fault (inl is) answers = inl (unread_by fault other is answers)
-  file_refused (Err other) fault (inr lacks) answers = inr (inr (unread_by fault files.NoMemory lacks answers))
+  file_refused meant fault e d = grind (arith, unread_by)
 
   carried_out : (meant : Result KnownCommand FileFault) (command : KnownCommand) → Gives meant (Ok command) → IsDone command source sink answer
       → CarriesOut meant source sink answer
@@ -111,9 +75,7 @@ module _ (source sink : Port) (answer : Result (Unit {0}) Stop) where
     Meant held = CarriesOut (command_over held command) source sink answer
 
     unread_of : (fault : FileFault) → answer ≡ Err (Unread fault) → (k : Known) → IfSome k (λ held. Gives (command_over held said) (Err fault)) → IfSome k Meant
-    unread_of fault answers None gives = tt
-    unread_of fault answers (Some held) gives =
-        file_refused (command_over held command) fault (subst (λ c. Gives (command_over held c) (Err fault)) same gives) answers
+    unread_of fault e k d = grind (arith, file_refused, same)
 
     pub unread : (fault : FileFault) → IsErrAnd answer (λ made. made ≡ Unread fault) → IfSome known (λ held. Gives (command_over held said) (Err fault))
         → IfSome known Meant
@@ -122,8 +84,7 @@ module _ (source sink : Port) (answer : Result (Unit {0}) Stop) where
     done_of : (of_files : KnownCommand) → IsDone of_files source sink answer → (k : Known) → IfSome k (λ held. Gives (command_over held said) (Ok of_files))
         → IfSome k Meant
     done_of of_files done None gives = tt
-    done_of of_files done (Some held) gives =
-        carried_out (command_over held command) of_files (subst (λ c. Gives (command_over held c) (Ok of_files)) same gives) done
+    done_of of_files done (Some held) gives = grind (arith, carried_out, same, done)
 
     pub done : (of_files : KnownCommand) → IsDone of_files source sink answer → IfSome known (λ held. Gives (command_over held said) (Ok of_files))
         → IfSome known Meant

@@ -1,11 +1,10 @@
 -- A name and the values of words say one command at most, and which ones say none. A command more is one branch of
 -- `kind_by`.
-use Rattle.kd_desk.proofs.Prelude.{◌≡◌, ℕ, ◌<◌, ◌^◌, Bool, true, false, List, Option, Some, None, codes, decimal, bytes_eq, option_map, refl, sym, ap, ◌∙◌, if◌then◌else◌, arith, option_and_then, same_Some, Row, first_of, Send, Receive, Named, NamedAction, way_name, way_word, action_name, HaveDay, HasWords, IsActionOf, IsOf}
+use Rattle.kd_desk.proofs.Prelude.{◌≡◌, ℕ, ◌<◌, ◌^◌, Bool, true, false, List, Option, Some, None, codes, decimal, bytes_eq, option_map, refl, ap, ◌∙◌, if◌then◌else◌, arith, option_and_then, same_Some, Row, first_of, Send, Receive, Named, NamedAction, way_name, way_word, action_name, HaveDay, HasWords, IsActionOf, IsOf}
 use Rattle.std.proofs.lemmas.Fmt.{decimal_injective}
 use Rattle.kd_desk.specs.declared.command.Action.TheVariants as actions
 use Rattle.kd_desk.specs.declared.command.Task.TheVariants as tasks
 use Rattle.kd_desk.specs.declared.command.Way.{Way}
-use Rattle.kd_desk.proofs.CommandLines.{none_or_some}
 
 -- which command it is, without its files and its day
 pub data Kind : Type 0 where
@@ -33,15 +32,10 @@ kind_of (actions.OnDay sheet day (tasks.Check card)) = checking
 kind_of (actions.OnDay sheet day (tasks.Message way file)) = passing way
 
 way_kind : (way : Way) → kind_by (way_name way) ≡ Some (passing way)
-way_kind Send = refl
-way_kind Receive = refl
+way_kind way = grind arith
 
 name_kind : (action : NamedAction) → kind_by (action_name action) ≡ Some (kind_of action)
-name_kind actions.Type = refl
-name_kind (actions.Apply list) = refl
-name_kind (actions.OnDay sheet day tasks.Card) = refl
-name_kind (actions.OnDay sheet day (tasks.Check card)) = refl
-name_kind (actions.OnDay sheet day (tasks.Message way file)) = way_kind way
+name_kind action = grind (arith, way_kind)
 
 kind_said : (said : List ℕ × List Row) (action : NamedAction) → IsActionOf said action → kind_by said.0 ≡ Some (kind_of action)
 kind_said said action is = ap kind_by is.name ∙ name_kind action
@@ -58,14 +52,6 @@ action_by rows day printing = option_map (λ sheet. actions.OnDay sheet day task
 action_by rows day checking = with_third rows (codes "CARD") (λ sheet card. actions.OnDay sheet day (tasks.Check card))
 action_by rows day (passing way) = with_third rows (way_word way) (λ sheet file. actions.OnDay sheet day (tasks.Message way file))
 
-third_said : (rows : List Row) (word sheet file : List ℕ) (made : List ℕ → List ℕ → NamedAction) → first_of (codes "SHEET") rows ≡ Some sheet
-    → first_of word rows ≡ Some file → with_third rows word made ≡ Some (made sheet file)
-third_said rows word sheet file made is are =
-    ap (option_and_then (λ f. option_map (λ s. made s f) (first_of (codes "SHEET") rows))) are ∙ ap (option_map (λ s. made s file)) is
-
-none_third : (rows : List Row) (word : List ℕ) (made : List ℕ → List ℕ → NamedAction) → first_of word rows ≡ None → with_third rows word made ≡ None
-none_third rows word made none = ap (option_and_then (λ f. option_map (λ s. made s f) (first_of (codes "SHEET") rows))) none
-
 -- the day of an action, and 0 where it has none
 abbrev day_in : NamedAction → ℕ
 day_in actions.Type = 0
@@ -73,13 +59,7 @@ day_in (actions.Apply list) = 0
 day_in (actions.OnDay sheet day task) = day
 
 action_said : (rows : List Row) (action : NamedAction) → HasWords rows action → action_by rows (day_in action) (kind_of action) ≡ Some action
-action_said rows actions.Type words = refl
-action_said rows (actions.Apply list) words = ap (option_map (λ l. actions.Apply l)) words
-action_said rows (actions.OnDay sheet day tasks.Card) words = ap (option_map (λ s. actions.OnDay s day tasks.Card)) words.0.sheet_word
-action_said rows (actions.OnDay sheet day (tasks.Check card)) words =
-    third_said rows (codes "CARD") sheet card (λ s f. actions.OnDay s day (tasks.Check f)) words.0.sheet_word words.1
-action_said rows (actions.OnDay sheet day (tasks.Message way file)) words =
-    third_said rows (way_word way) sheet file (λ s f. actions.OnDay s day (tasks.Message way f)) words.0.sheet_word words.1
+action_said rows action e = grind arith
 
 -- the word that says the day, and the word of 0 where there is none
 abbrev day_word : List Row → Kind → Option (List ℕ)
@@ -90,52 +70,36 @@ day_word rows checking = first_of (codes "DAY") rows
 day_word rows (passing way) = first_of (codes "DAY") rows
 
 day_said : (rows : List Row) (action : NamedAction) → HasWords rows action → day_word rows (kind_of action) ≡ Some (decimal (day_in action))
-day_said rows actions.Type words = refl
-day_said rows (actions.Apply list) words = refl
-day_said rows (actions.OnDay sheet day tasks.Card) words = words.0.day_word
-day_said rows (actions.OnDay sheet day (tasks.Check card)) words = words.0.day_word
-day_said rows (actions.OnDay sheet day (tasks.Message way file)) words = words.0.day_word
+day_said rows action e = grind arith
 
 is_small : (rows : List Row) (action : NamedAction) → HasWords rows action → day_in action < 2 ^ 64
-is_small rows actions.Type words = omega arith
-is_small rows (actions.Apply list) words = omega arith
-is_small rows (actions.OnDay sheet day task) words = let month = words.0.of_month in omega (arith, month.last)
+is_small rows action e = grind arith
 
 same_action : (said : List ℕ × List Row) (one other : NamedAction) → IsActionOf said one → IsActionOf said other → one ≡ other
 same_action said one other is are =
-    let kinds = same_Some _ _ (sym (kind_said said one is) ∙ kind_said said other are) in
-    let days = decimal_injective (day_in one) (day_in other) (is_small said.1 one is.words) (is_small said.1 other are.words)
-    (same_Some _ _ (sym (day_said said.1 one is.words) ∙ ap (day_word said.1) kinds ∙ day_said said.1 other are.words)) in
-    same_Some _ _ (sym (action_said said.1 one is.words)
-    ∙ ap (λ day. action_by said.1 day (kind_of one)) days ∙ ap (action_by said.1 (day_in other)) kinds
-    ∙ action_said said.1 other are.words)
+    grind (arith, same_Some, kind_said, decimal_injective, is_small, day_said, action_said)
 
 -- no machine is named
 pub no_machine : (said : List ℕ × List Row) → first_of (codes "MACHINE") said.1 ≡ None → (command : Named) → IsOf said command → ⊥
-no_machine said none command is = none_or_some _ command.machine none is.machine
+no_machine said none command is = cc (none, is.machine)
 
 pub same_command : (said : List ℕ × List Row) (one other : Named) → IsOf said one → IsOf said other → one ≡ other
-same_command said one other is are =
-    ap (λ machine. record { machine = machine; action = one.action }) (same_Some _ _ (sym is.machine ∙ are.machine))
-    ∙ ap (λ action. record { machine = other.machine; action = action }) (same_action said one.action other.action is.action are.action)
+same_command said one other is are = grind (arith, same_Some, same_action)
 
 -- ---- words that aren't all there
 
 none_of_kind : (name : List ℕ) (rows : List Row) (kind : Kind) → kind_by name ≡ Some kind → ((day : ℕ) → action_by rows day kind ≡ None)
     → (action : NamedAction) → IsActionOf (name, rows) action → ⊥
-none_of_kind name rows kind known none action is =
-    let same : kind_of action ≡ kind = same_Some _ _ (sym (kind_said (name, rows) action is) ∙ known) in
-    none_or_some _ action (ap (action_by rows (day_in action)) same ∙ none (day_in action)) (action_said rows action is.words)
+none_of_kind name rows kind known none action is = grind (arith, same_Some, kind_said, none, action_said)
 
 pub no_list : (rows : List Row) → first_of (codes "LIST") rows ≡ None → (action : NamedAction) → IsActionOf (codes "apply", rows) action → ⊥
-no_list rows none = none_of_kind (codes "apply") rows applying refl (λ day. ap (option_map (λ l. actions.Apply l)) none)
+no_list rows none = none_of_kind (codes "apply") rows applying refl (λ day. rw none)
 
 pub no_card : (rows : List Row) → first_of (codes "CARD") rows ≡ None → (action : NamedAction) → IsActionOf (codes "check", rows) action → ⊥
-no_card rows none = none_of_kind (codes "check") rows checking refl (λ day. none_third rows (codes "CARD") (λ s f. actions.OnDay s day (tasks.Check f)) none)
+no_card rows none = none_of_kind (codes "check") rows checking refl (λ day. rw none)
 
 pub no_message : (way : Way) (rows : List Row) → first_of (way_word way) rows ≡ None → (action : NamedAction) → IsActionOf (way_name way, rows) action → ⊥
-no_message way rows none = none_of_kind (way_name way) rows (passing way) (way_kind way)
-    (λ day. none_third rows (way_word way) (λ s f. actions.OnDay s day (tasks.Message way f)) none)
+no_message way rows none = none_of_kind (way_name way) rows (passing way) (way_kind way) (λ day. rw none)
 
 -- no day is named, and the command is one of those that want a day
 abbrev is_dated : Option Kind → Bool
@@ -144,22 +108,10 @@ is_dated (Some checking) = true
 is_dated (Some (passing way)) = true
 is_dated _ = false
 
-not_dated : (b : Bool) → b ≡ true → b ≡ false → ⊥
-not_dated b is isn't = cc
-
-no_day : (name : List ℕ) (rows : List Row) → is_dated (kind_by name) ≡ true → ((sheet : List ℕ) (day : ℕ) → ¬ (HaveDay rows sheet day))
+pub no_day : (name : List ℕ) (rows : List Row)
+    → is_dated (kind_by name) ≡ true → ((sheet : List ℕ) (day : ℕ) → ¬ (HaveDay rows sheet day))
     → (action : NamedAction) → IsActionOf (name, rows) action → ⊥
-no_day name rows dated none actions.Type is = not_dated _ dated (ap (λ n. is_dated (kind_by n)) is.name)
-no_day name rows dated none (actions.Apply list) is = not_dated _ dated (ap (λ n. is_dated (kind_by n)) is.name)
-no_day name rows dated none (actions.OnDay sheet day task) is = none sheet day is.words.0
-
-pub no_day_of_card : (rows : List Row) → ((sheet : List ℕ) (day : ℕ) → ¬ (HaveDay rows sheet day))
-    → (action : NamedAction) → IsActionOf (codes "card", rows) action → ⊥
-no_day_of_card rows = no_day (codes "card") rows refl
-
-pub no_day_of_check : (rows : List Row) → ((sheet : List ℕ) (day : ℕ) → ¬ (HaveDay rows sheet day))
-    → (action : NamedAction) → IsActionOf (codes "check", rows) action → ⊥
-no_day_of_check rows = no_day (codes "check") rows refl
+no_day name rows e d action g = grind arith
 
 pub no_day_of_message : (way : Way) (rows : List Row) → ((sheet : List ℕ) (day : ℕ) → ¬ (HaveDay rows sheet day))
     → (action : NamedAction) → IsActionOf (way_name way, rows) action → ⊥

@@ -15,8 +15,7 @@ use Rattle.kd_sheet.proofs.Documents.{viewed_at}
 -- the letters of cables one after the other
 pub plugged_letters-append : (cables others : List (Option ℕ × Option ℕ)) → plugged_letters (cables ++ others) ≡ plugged_letters cables ++ plugged_letters others
 plugged_letters-append [] others = refl
-plugged_letters-append (cable ∷ cables) others =
-    ap (λ rest. cable_letters cable ++ rest) (plugged_letters-append cables others) ∙ sym (append_assoc (cable_letters cable) (plugged_letters cables) (plugged_letters others))
+plugged_letters-append (cable ∷ cables) others = grind (arith, plugged_letters-append cables others, append_assoc)
 
 pub plugged_letters-push : (cables : List (Option ℕ × Option ℕ)) (cable : Option ℕ × Option ℕ) → plugged_letters (cables ++ cable ∷ []) ≡ plugged_letters cables ++ cable_letters cable
 plugged_letters-push cables cable = plugged_letters-append cables (cable ∷ []) ∙ ap (λ rest. plugged_letters cables ++ rest) (append-nil (cable_letters cable))
@@ -75,9 +74,7 @@ plugged_more key cables items place item cable room left here read before =
 
 -- the cables that are filled, with the empty ones behind them
 pub all_thirteen : (cables : List (Option ℕ × Option ℕ)) (count : ℕ) → length cables ≡ 13 → count ≤ 13 → drop count cables ≡ replicate (13 - count) (None, None) → thirteen (take count cables) ≡ cables
-all_thirteen cables count long few empty =
-    let taken : length (take count cables) ≡ count = length-take-le count cables (omega arith) in
-    ap (λ n. take count cables ++ replicate (13 - n) (None, None)) taken ∙ ap (λ rest. take count cables ++ rest) (sym empty) ∙ take-append-drop count cables
+all_thirteen cables count long few empty = grind (arith, length-take-le, empty, take-append-drop)
 
 pub plugged_letters-take : (cables : List (Option ℕ × Option ℕ)) (count n : ℕ) → drop count cables ≡ replicate n (None, None) → plugged_letters (take count cables) ≡ plugged_letters cables
 plugged_letters-take cables count n empty =
@@ -87,9 +84,7 @@ plugged_letters-take cables count n empty =
 -- one cable fewer is empty
 pub empty_fewer : (cables : List (Option ℕ × Option ℕ)) (place : ℕ) (cable : Option ℕ × Option ℕ) → length cables ≡ 13 → place < 13 → drop place cables ≡ replicate (13 - place) (None, None)
     → drop (place + 1) (set cables place cable) ≡ replicate (13 - (place + 1)) (None, None)
-empty_fewer cables place cable long left empty =
-    let fewer : 13 - place ≡ suc (13 - (place + 1)) = omega arith in
-    drop-set-lt (place + 1) cables place cable (omega arith) ∙ drop_rest cables place (None, None) (replicate (13 - (place + 1)) (None, None)) (omega arith) (empty ∙ ap (λ n. replicate n (None, None)) fewer)
+empty_fewer cables place cable long left empty = grind (arith, drop-set-lt, drop_rest, empty)
 
 -- no cable is plugged
 pub none_plugged : AreCables (replicate 13 (None, None))

@@ -1,7 +1,8 @@
 -- Each legal day is described by a table: by the one with the texts of its parts.
-use Rattle.std.proofs.Common.{◌≡◌, ℕ, zero, suc, replicate, min, max, ◌+◌, ◌-◌, ◌<◌, nat_le, true, false, ◌==◌, List, [], ◌∷◌, length, map, Option, Some, None, Ok, ok_or, pos, refl, sym, ap, ◌∙◌, inl, inr, arith}
+use Rattle.std.proofs.lemmas.Grind.{common_steps}
+use Rattle.std.proofs.Common.{◌≡◌, ℕ, zero, suc, replicate, ◌+◌, ◌<◌, nat_le, true, List, [], ◌∷◌, length, map, Option, Some, None, Ok, ok_or, pos, refl, sym, ap, ◌∙◌, arith}
 use Rattle.std.specs.List.{AllByRecursion}
-use Rattle.std.proofs.lemmas.Bool.{cases_eq, eq-eqb, ne_eqb, le-leb, false≢true}
+use Rattle.std.proofs.lemmas.Bool.{cases_eq, eq-eqb, ne_eqb, le-leb}
 use Rattle.std.proofs.lemmas.List.{append-nil, length-map}
 use Rattle.std.proofs.lemmas.List.Elements.{recursion_from_All, All-map, All-weaker, filter_map-append}
 use Rattle.std.proofs.Math.Bool.{or-true}
@@ -17,15 +18,14 @@ use Rattle.kd_state.specs.Machine.{plugged_letters, AreLetters}
 use Rattle.kd_state.specs.SheetDay.{Day, OfRotors, OfPins, RotorDay, PinDay, IsDayNumber, IsLegalDay, IsLegalRotorDay, IsLegalPinDay, HasLetters, seats}
 use Rattle.kd_state.specs.declared.sheet_day.rotor_entry.SheetWheel.{SheetWheel}
 use Rattle.kd_state.proofs.Wheels.{has_reflector-Decides}
-use Rattle.kd_sheet.specs.Cables.{thirteen, all_cables_in, pairs_in, pairs_of}
+use Rattle.kd_sheet.specs.Cables.{thirteen, pairs_in, pairs_of}
 use Rattle.kd_sheet.specs.Document.{◌>>◌, demand, items_in, all_values, given_earlier}
 use Rattle.kd_sheet.specs.Drum.{may_read, row_of_text, row_for, rows_in}
 use Rattle.kd_sheet.specs.Key.{key_name}
 use Rattle.kd_sheet.specs.MachineFile.{model_in, reflector_in}
 use Rattle.kd_sheet.specs.MachineText.{seat_text, cable_text, pin_texts}
 use Rattle.kd_sheet.specs.Numbers.{number_to}
-use Rattle.kd_sheet.specs.PinWheels.{shown_in, pins_in}
-use Rattle.kd_sheet.specs.Seats.{seats_in}
+use Rattle.kd_sheet.specs.PinWheels.{shown_in}
 use Rattle.kd_sheet.specs.SheetFile.{number_in, rings_in, window_in, group_of_item, group_for, all_groups_in, groups_in, list_in, sheet_wheels, rotor_day_in, pin_day_in, model_day_in, day_in}
 use Rattle.kd_sheet.specs.declared.key.Key.TheVariants as keys
 use Rattle.kd_sheet.specs.declared.fault.SheetFault.TheVariants.{BadValue, UnknownModel}
@@ -69,23 +69,11 @@ pairs_found pairs = rw (filter_map-append, pairs_joined_again pairs, no_pairs) (
 -- ---- rows
 
 may_read_again : (row : ℕ × ℕ) → IsReading row → may_read (row.0 + 48) (row.1 + 48) ≡ true
-may_read_again row is = elim (cases_eq row.0 row.1) [
-  | inl e ↦ let zero : (row.0 + 48 == 48) ≡ true = eq-eqb _ _ (omega (arith, is.equal e)) in rw (zero, or-true) refl
-  | inr ne ↦ let differ : (row.0 + 48 == row.1 + 48) ≡ false = ne_eqb _ _ (λ e. ne (omega (arith, e))) in rw differ refl
-]
+may_read_again row is = grind (arith, cases_eq, eq-eqb, is.equal, or-true, ne_eqb)
 
 row_again : (row : ℕ × ℕ) → IsReading row → row_of_text (reading_text row) ≡ Some row
 unfolding row_of_text
-row_again row is =
-    let low : nat_le 48 (row.0 + 48) ≡ true = le-leb 48 (row.0 + 48) (omega arith) in
-    let within : nat_le (row.0 + 48) 54 ≡ true = le-leb (row.0 + 48) 54 (omega (arith, is.ordered, is.within)) in
-    let high : nat_le 48 (row.1 + 48) ≡ true = le-leb 48 (row.1 + 48) (omega arith) in
-    let also : nat_le (row.1 + 48) 54 ≡ true = le-leb (row.1 + 48) 54 (omega (arith, is.within)) in
-    let first : row.0 + 48 - 48 ≡ row.0 = omega arith in
-    let second : row.1 + 48 - 48 ≡ row.1 = omega arith in
-    let smaller : min row.0 row.1 ≡ row.0 = omega (arith, is.ordered) in
-    let larger : max row.0 row.1 ≡ row.1 = omega (arith, is.ordered) in
-    rw (low, within, high, also, may_read_again row is, first, second, smaller, larger) refl
+row_again row is = grind (arith, le-leb, may_read_again)
 
 -- ---- the tables
 
@@ -116,8 +104,7 @@ by_model : (number : ℕ) (model : Model) (reflector : Reflector) (table : Membe
     → has_reflector (reflectors_of model) reflector ≡ true
     → rotor_day_in number model table ≡ Ok day → model_day_in number model table ≡ Ok day
 unfolding model_day_in
-by_model number M209 reflector table day has is = absurd (false≢true has)
-by_model number model reflector table day has is = is
+by_model number model reflector table day e d = grind arith
 
 all_seated : (wheels : List SheetWheel) → AllByRecursion (MayStand keys.Wheels) (seats wheels)
 all_seated [] = tt
@@ -126,14 +113,7 @@ all_seated (w ∷ wheels) = (tt, all_seated wheels)
 pairs_in_again : (s : RotorDay) → IsLegalRotorDay s → pairs_in (rotor_table s) ≡ Ok s.pairs
 unfolding pairs_in
 pairs_in_again s legal =
-    let cables = map pair_cable s.pairs in
-    let joined = pairs_plugged s.pairs in
-    then_read (all_cables_in keys.Plugs (texts cable_text cables)) (λ cables. Ok (pairs_of cables))
-    (thirteen (map single_first cables)) _
-    (all_cables_again keys.Plugs cables (omega (arith, length-map s.pairs pair_cable, legal.pairs.few))
-    (two_each s.pairs)
-    (rw joined (recursion_from_All (λ letter. letter < 26) _ legal.pairs.within)) (rw joined legal.pairs.apart))
-    (ap Ok (pairs_found s.pairs))
+    grind (arith, common_steps, pairs_plugged, then_read, all_cables_again, two_each, recursion_from_All, pairs_found)
 
 group_again : (earlier : List Data) (group : List ℕ) → AreLetters 3 group
     → group_for earlier (string (letters_text group)) ≡ Ok group
@@ -159,36 +139,28 @@ groups_in_again s legal =
     (each_again group_for (λ group. string (letters_text group)) (AreLetters 3) group_again [] s.groups
     (recursion_from_All _ _ legal.groups))))
 
-rings_are : (s : RotorDay) → IsLegalRotorDay s → AreLetters (slots_of s.model) (map (λ w. w.ring) s.wheels)
-rings_are s legal = record {
+-- what each wheel has, the ring or the letter in the window
+parts_are : (s : RotorDay) → IsLegalRotorDay s → (part : SheetWheel → ℕ)
+    → ((w : SheetWheel) → HasLetters w → part w < 26)
+    → AreLetters (slots_of s.model) (map part s.wheels)
+parts_are s legal part low = record {
   count = length-map s.wheels _ ∙ sym (length-map s.wheels _) ∙ legal.wheels.count;
-  within = All-map (λ letter. letter < 26) _ s.wheels (All-weaker HasLetters _ (λ w has. has.ring) s.wheels legal.letters);
-}
-
-letters_are : (s : RotorDay) → IsLegalRotorDay s → AreLetters (slots_of s.model) (map (λ w. w.letter) s.wheels)
-letters_are s legal = record {
-  count = length-map s.wheels _ ∙ sym (length-map s.wheels _) ∙ legal.wheels.count;
-  within = All-map (λ letter. letter < 26) _ s.wheels (All-weaker HasLetters _ (λ w has. has.letter) s.wheels legal.letters);
+  within = All-map (λ letter. letter < 26) _ s.wheels (All-weaker HasLetters _ low s.wheels legal.letters);
 }
 
 rotor_again : (s : RotorDay) → IsLegalRotorDay s → rotor_day_in s.day s.model (rotor_table s) ≡ Ok (OfRotors s)
 unfolding rotor_day_in reflector_in rings_in window_in
 rotor_again s legal =
-    let table = rotor_table s in
     let has = (has_reflector-Decides (reflectors_of s.model) s.reflector).1 legal.reflector in
-    let rings = map (λ w. w.ring) s.wheels in
-    let letters = map (λ w. w.letter) s.wheels in
-    then_read (reflector_in s.model table) _ s.reflector _
-    (ap (λ found. ok_or found (BadValue keys.Reflector)) (reflector_again s.model s.reflector has))
-    (then_read (seats_in keys.Wheels s.model table) _ (seats s.wheels) _
-    (seats_in_again keys.Wheels s.model table (seats s.wheels) refl (all_seated s.wheels) legal.wheels)
-    (then_read (rings_in s.model table) _ rings _
-    (ap (λ found. ok_or found (BadValue keys.Rings)) (capitals_again _ rings (rings_are s legal)))
-    (then_read (window_in s.model table) _ letters _
-    (ap (λ found. ok_or found (BadValue keys.Window)) (capitals_again _ letters (letters_are s legal)))
-    (then_read (pairs_in table) _ s.pairs _ (pairs_in_again s legal)
-    (then_read (groups_in table) _ s.groups _ (groups_in_again s legal)
-    (ap (λ wheels. Ok (OfRotors (record s { wheels = wheels }))) (wheels_again s.wheels)))))))
+    rw (
+      reflector_again s.model s.reflector has,
+      seats_in_again keys.Wheels s.model (rotor_table s) (seats s.wheels) refl (all_seated s.wheels) legal.wheels,
+      capitals_again _ _ (parts_are s legal (λ w. w.ring) (λ w has. has.ring)),
+      capitals_again _ _ (parts_are s legal (λ w. w.letter) (λ w has. has.letter)),
+      pairs_in_again s legal,
+      groups_in_again s legal,
+      wheels_again s.wheels,
+    ) refl
 
 rows_in_again : (s : PinDay) → IsLegalPinDay s → rows_in (pin_table s) ≡ Ok s.rows
 unfolding rows_in
@@ -199,26 +171,18 @@ rows_in_again s legal =
 
 pin_again : (s : PinDay) → IsLegalPinDay s → pin_day_in s.day (pin_table s) ≡ Ok (OfPins s)
 unfolding pin_day_in shown_in list_in
-pin_again s legal =
-    let table = pin_table s in
-    then_read (rows_in table) _ s.rows _ (rows_in_again s legal)
-    (then_read (pins_in table) _ s.pins _ (pins_in_again table s.pins refl legal.pins)
-    (then_read (shown_in keys.Window table) _ s.window _
-    (ap (λ found. ok_or found (BadValue keys.Window)) (window_again s.window legal.window))
-    (then_read (list_in table) _ s.list _
-    (ap (λ found. ok_or found (BadValue keys.List)) (capitals_again 2 s.list legal.list)) refl)))
+pin_again s legal = grind (arith, then_read, rows_in_again, pins_in_again, window_again, capitals_again)
 
 pub legal_is_described : (day : Day) → IsLegalDay day → (table : Members) × (day_in [] table ≡ Ok day)
 unfolding number_in model_in model_day_in
 legal_is_described (OfRotors s) legal =
-    let number = ap (λ found. ok_or found (BadValue keys.Day)) (number_again s.day legal.day) in
-    let model = ap (λ found. ok_or found UnknownModel) (model_by_name-text s.model) in
     let has = (has_reflector-Decides (reflectors_of s.model) s.reflector).1 legal.reflector in (
       rotor_table s,
-      day_again s.day s.model (rotor_table s) (OfRotors s) number model
+      day_again s.day s.model (rotor_table s) (OfRotors s) (rw (number_again s.day legal.day) refl)
+          (rw (model_by_name-text s.model) refl)
           (by_model s.day s.model s.reflector (rotor_table s) (OfRotors s) has (rotor_again s legal)),
     )
 legal_is_described (OfPins s) legal =
-    let number = ap (λ found. ok_or found (BadValue keys.Day)) (number_again s.day legal.day) in
     let model = ap (λ found. ok_or found UnknownModel) (model_by_name-text M209) in
-    (pin_table s, day_again s.day M209 (pin_table s) (OfPins s) number model (pin_again s legal))
+    (pin_table s, day_again s.day M209 (pin_table s) (OfPins s) (rw (number_again s.day legal.day) refl) model
+        (pin_again s legal))

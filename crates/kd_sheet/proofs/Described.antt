@@ -1,13 +1,14 @@
 -- The day that a table describes is legal.
-use Rattle.std.proofs.Common.{◌≡◌, ℕ, suc, replicate, ◌+◌, ◌-◌, ◌<◌, ◌≤◌, nat_eq, nat_le, Bool, true, false, not, ◌&&◌, ◌==◌, cond, inl, inr, List, [], ◌∷◌, ◌++◌, length, map, filter_map, find, All, Contains, Option, Some, None, IsSome, IfSome, is_some, Ok, ok_or, pos, refl, sym, ap, ◌∙◌, subst, arith}
+use Rattle.std.proofs.lemmas.Grind.{common_steps}
+use Rattle.std.proofs.Common.{◌≡◌, ℕ, suc, replicate, ◌+◌, ◌-◌, ◌<◌, ◌≤◌, nat_eq, nat_le, Bool, true, false, not, ◌==◌, inl, inr, List, [], ◌∷◌, ◌++◌, length, map, filter_map, find, All, Contains, Option, Some, None, IsSome, IfSome, is_some, Ok, ok_or, refl, sym, ap, ◌∙◌, subst, arith}
 use Rattle.std.specs.List.{list_all, list_any, flat_map, IsDistinct, AllByRecursion}
-use Rattle.std.specs.Option.{option_map, option_map_or, option_and_then}
-use Rattle.std.proofs.lemmas.Bool.{cases_Bool, and_parts, leb-true, eqb-true, not-true}
+use Rattle.std.specs.Option.{option_map_or, option_and_then}
+use Rattle.std.proofs.lemmas.Bool.{cases_Bool, leb-true, eqb-true, not-true}
 use Rattle.std.proofs.lemmas.Bool.Decides.{not_from_Decides, nat_tests}
 use Rattle.std.proofs.lemmas.List.{append_assoc, length-map, append-nil, length-append, length-replicate, map-append}
 use Rattle.std.proofs.lemmas.List.Elements.{All-from_recursion, recursion_from_All, All-append, All-nil}
 use Rattle.std.proofs.lemmas.Option.{none-some, same_Some}
-use Rattle.toml.specs.Data.{Data, string, integer, array, Members, get_member, as_str}
+use Rattle.toml.specs.Data.{Data, Members, get_member, as_str}
 use Rattle.kd_tables.specs.Places.{IsReading, in_order}
 use Rattle.kd_tables.specs.Tables.{letters_of, slots_of, IsAllowed}
 use Rattle.kd_tables.specs.Text.{is_capital}
@@ -17,15 +18,15 @@ use Rattle.kd_tables.specs.declared.model.Model.TheVariants.{M209}
 use Rattle.kd_tables.specs.declared.wheel.Wheel.{Wheel}
 use Rattle.kd_state.specs.Machine.{cable_letters, plugged_letters, AreAllowed, AreApart, AreLetters, AreCables, AreOnWheels, HasAllPins}
 use Rattle.kd_state.specs.SheetDay.{Day, OfRotors, OfPins, RotorDay, PinDay, IsDayNumber, IsLegalDay, IsLegalPinDay, day_number, ArePairs, HasLetters}
-use Rattle.kd_sheet.specs.Cables.{may_have, plugged_letters_in, letters_of_item, are_new, cable_of, cable_for, plugged_by, cable_behind, thirteen, cables_of, all_cables_in, pairs_in, pairs_of}
-use Rattle.kd_sheet.specs.Document.{value_at, text_at, list_of, items_at, items_in, given_earlier, all_values}
+use Rattle.kd_sheet.specs.Cables.{plugged_letters_in, letters_of_item, are_new, cable_of, cable_for, plugged_by, cable_behind, thirteen, cables_of, all_cables_in, pairs_in, pairs_of}
+use Rattle.kd_sheet.specs.Document.{value_at, text_at, items_at, items_in, given_earlier, all_values}
 use Rattle.kd_sheet.specs.Drum.{is_figure, may_read, row_of_text, row_for, rows_in}
 use Rattle.kd_sheet.specs.Key.{key_name}
 use Rattle.kd_sheet.specs.Letters.{capital_letters}
 use Rattle.kd_sheet.specs.MachineFile.{model_in, reflector_in}
 use Rattle.kd_sheet.specs.Names.{reflector_by_name, wheel_by_name}
 use Rattle.kd_sheet.specs.Numbers.{number_to, numbered_letter}
-use Rattle.kd_sheet.specs.PinWheels.{are_on_wheels, letters_on_wheels, shown_in, is_pin_text, has_capital, pins_of_text, pins_of_item, pins_behind, pins_in}
+use Rattle.kd_sheet.specs.PinWheels.{letters_on_wheels, shown_in, pins_of_text, pins_of_item, pins_behind, pins_in}
 use Rattle.kd_sheet.specs.Seats.{wheel_of_item, wheel_for, seat_for, seat_of_item, seat_behind, seats_in}
 use Rattle.kd_sheet.specs.SheetFile.{number_in, new_number_in, rings_of, rings_in, window_in, group_of_item, group_for, all_groups_in, groups_in, list_in, sheet_wheels, rotor_day_in, pin_day_in, model_day_in, day_in}
 use Rattle.kd_sheet.specs.declared.key.Key.TheVariants as keys
@@ -44,30 +45,19 @@ use Rattle.kd_sheet.proofs.Wheels.{has_wheel-Decides, is_seated-Decides}
 
 number_within : (last : ℕ) (value : Data) (number : ℕ) → number_to last value ≡ Some number
     → (1 ≤ number) × (number ≤ last)
-number_within last (integer (pos n)) number e =
-    let is = some_if (nat_le 1 n && nat_le n last) n number e in
-    let both = and_parts (nat_le 1 n) (nat_le n last) is.0 in
-    subst (λ k. (1 ≤ k) × (k ≤ last)) is.1 (leb-true 1 n both.0, leb-true n last both.1)
-number_within last value number e = absurd (none-some number e)
+number_within last value number e = grind (arith, some_if, leb-true, none-some)
 
 pub day_number_within : (table : Members) (number : ℕ) → number_in table ≡ Ok number → IsDayNumber number
 unfolding number_in
-day_number_within table number e =
-    let value = given (value_at keys.Day table) _ number e in
-    let within = number_within 31 value.0 number (there_was (number_to 31 value.0) _ number value.2) in
-    record { first = within.0; last = within.1 }
+day_number_within table number e = grind (arith, given, value_at, number_within, there_was)
 
 capital_within : (byte : ℕ) → is_capital byte ≡ true → byte - 65 < 26
-capital_within byte e =
-    let both = and_parts (nat_le 65 byte) (nat_le byte 90) e in omega
-    (arith, leb-true 65 byte both.0, leb-true byte 90 both.1)
+capital_within byte e = grind (arith, leb-true)
 
 capitals_within : (text : List ℕ) → list_all is_capital text ≡ true
     → AllByRecursion (λ letter. letter < 26) (letters_of text)
 capitals_within [] e = tt
-capitals_within (byte ∷ text) e =
-    let both = and_parts (is_capital byte) (list_all is_capital text) e in
-    (capital_within byte both.0, capitals_within text both.1)
+capitals_within (byte ∷ text) e = grind (arith, nat_tests, capital_within, capitals_within text)
 
 letters_read : (text : List ℕ) → list_all is_capital text ≡ true → AreLetters (length text) (letters_of text)
 letters_read text e =
@@ -75,50 +65,23 @@ letters_read text e =
 
 pub capitals_are_letters : (count : ℕ) (text letters : List ℕ) → capital_letters count text ≡ Some letters
     → AreLetters count letters
-capitals_are_letters count text letters e =
-    let is = some_if (length text == count && list_all is_capital text) (letters_of text) letters e in
-    let both = and_parts (length text == count) (list_all is_capital text) is.0 in
-    subst (AreLetters count) is.1
-    (subst (λ n. AreLetters n (letters_of text)) (eqb-true _ _ both.0) (letters_read text both.1))
-
-letter_found : (item : Data) (found : Option ℕ) → number_to 26 item ≡ found
-    → is_some (option_map (λ number. number - 1) found) ≡ true
-    → (letter : ℕ) × (numbered_letter item ≡ Some letter) × (letter < 26)
-letter_found item None is e = absurd (cc)
-letter_found item (Some number) is e =
-    let within = number_within 26 item number is in
-    (number - 1, ap (option_map (λ n. n - 1)) is, omega (arith, within.0, within.1))
+capitals_are_letters count text letters e = grind (arith, some_if, eqb-true, letters_read)
 
 some_letter : (item : Data) → is_some (numbered_letter item) ≡ true
     → (letter : ℕ) × (numbered_letter item ≡ Some letter) × (letter < 26)
-some_letter item e = letter_found item (number_to 26 item) refl e
+some_letter item e = grind (arith, nat_tests, number_within)
 
 numbered_letters_within : (items : List Data) → list_all (λ item. is_some (numbered_letter item)) items ≡ true
     → AllByRecursion (λ letter. letter < 26) (filter_map numbered_letter items)
     × (length (filter_map numbered_letter items) ≡ length items)
 numbered_letters_within [] e = (tt, refl)
 numbered_letters_within (item ∷ items) e =
-    let both = and_parts (is_some (numbered_letter item)) (list_all (λ item. is_some (numbered_letter item)) items) e in
-    let rest = numbered_letters_within items both.1 in
-    let first = some_letter item both.0 in
-    rw first.1 ((first.2, rest.0), ap suc rest.1)
+    grind (arith, nat_tests, some_letter, numbered_letters_within items)
 
 rings_are_letters : (count : ℕ) (value : Data) (rings : List ℕ) → rings_of count value ≡ Some rings
     → AreLetters count rings
-rings_are_letters count (string text) rings e = capitals_are_letters count text rings e
-rings_are_letters count (array items) rings e =
-    let all = list_of items in
-    let is =
-    some_if (length all == count && list_all (λ item. is_some (numbered_letter item)) all)
-    (filter_map numbered_letter all) rings e in
-    let both = and_parts (length all == count) (list_all (λ item. is_some (numbered_letter item)) all) is.0 in
-    let letters = numbered_letters_within all both.1 in
-    subst (AreLetters count) is.1 (record {
-      count = letters.1
-          ∙ eqb-true _ _ both.0;
-      within = All-from_recursion (λ letter. letter < 26) _ letters.0;
-    })
-rings_are_letters count value rings e = absurd (none-some rings e)
+rings_are_letters count value rings e =
+    grind (arith, nat_tests, some_if, capitals_are_letters, numbered_letters_within, All-from_recursion)
 
 -- ---- wheels
 
@@ -129,13 +92,7 @@ record Seats (model : Model) (slots : List (Option Wheel)) : Type 0 where
   filled : AllByRecursion IsSome slots
 
 no_seats : (model : Model) → Seats model []
-no_seats model =
-    record {
-      allowed = λ place wheel at. absurd (none-some _ at);
-      apart = λ place other wheel at there. absurd
-          (none-some _ at);
-      filled = tt;
-    }
+no_seats model = grind (arith, none-some)
 
 record IsSeat (model : Model) (slots : List (Option Wheel)) (item : Data) (seat : Option Wheel) : Type 0 where
   named : wheel_of_item item ≡ seat
@@ -200,30 +157,12 @@ two_letters letters two = absurd (omega arith)
 
 some_text : (item : Data) (letters : List ℕ) → letters_of_item keys.Plugs item ≡ Some letters → AreLetters 2 letters
 unfolding letters_of_item plugged_letters_in
-some_text (string text) letters e =
-    let is = some_if (may_have keys.Plugs (length text) && list_all is_capital text) (letters_of text) letters e in
-    let both = and_parts (may_have keys.Plugs (length text)) (list_all is_capital text) is.0 in
-    let two : length text ≡ 2 = eqb-true (length text) 2 both.0 in
-    subst (AreLetters 2) is.1 (subst (λ n. AreLetters n (letters_of text)) two (letters_read text both.1))
-some_text item letters e = absurd (none-some letters e)
+some_text item letters e = grind (arith, some_if, eqb-true, letters_read, none-some)
 
 cable_read : (plugged : List ℕ) (item : Data) (cable : Option ℕ × Option ℕ)
     → cable_for keys.Plugs plugged item ≡ Ok cable → IsCable plugged item cable
 unfolding cable_for
-cable_read plugged item cable e =
-    let first = given (ok_or (letters_of_item keys.Plugs item) (BadValue keys.Plugs)) _ cable e in
-    let letters = there_was (letters_of_item keys.Plugs item) _ first.0 first.1 in
-    let new = passed _ _ _ cable first.2 in
-    let two = some_text item first.0 letters in
-    let same : cable_of first.0 ≡ cable = same_found _ _ new.1 in
-    record {
-      letters = first.0;
-      plugs = letters;
-      within = two.within;
-      free = new.0;
-      is = ap cable_letters (sym same)
-          ∙ two_letters first.0 two.count;
-    }
+cable_read plugged item cable e = grind (arith, some_text, two_letters)
 
 cables_read : (earlier items : List Data) (done cables : List (Option ℕ × Option ℕ))
     → flat_map (plugged_by keys.Plugs) earlier ≡ plugged_letters done
@@ -281,8 +220,7 @@ pairs_are_pairs table pairs e =
 
 group_read : (item : Data) (group : List ℕ) → group_of_item item ≡ Some group → AreLetters 3 group
 unfolding group_of_item
-group_read (string text) group e = capitals_are_letters 3 text group e
-group_read item group e = absurd (none-some group e)
+group_read item group e = grind (arith, capitals_are_letters, none-some)
 
 groups_read : (earlier items : List Data) (groups : List (List ℕ)) → Reads group_for earlier items groups
     → AllByRecursion (AreLetters 3) groups
@@ -302,17 +240,11 @@ all_groups value groups e =
     let items = given (items_in keys.Groups value) _ groups e in
     let few = passed (nat_le (length items.0) 4) _ _ groups items.2 in
     let read = reads group_for [] items.0 groups few.1 in
-    record {
-      few = omega (arith, leb-true (length items.0) 4 few.0, reads_each group_for [] items.0 groups read);
-      words = All-from_recursion (AreLetters 3) groups (groups_read [] items.0 groups read);
-    }
+    grind (arith, leb-true, reads_each, groups_read, All-from_recursion)
 
 groups_found : (found : Option Data) (groups : List (List ℕ)) → option_map_or all_groups_in found (Ok []) ≡ Ok groups
     → AreGroups groups
-groups_found None groups e =
-    let none : [] ≡ groups = same_found _ _ e in
-    subst AreGroups none (record { few = omega arith; words = All-nil (AreLetters 3) })
-groups_found (Some value) groups e = all_groups value groups e
+groups_found found groups e = grind (arith, all_groups, All-nil)
 
 groups_are_groups : (table : Members) (groups : List (List ℕ)) → groups_in table ≡ Ok groups → AreGroups groups
 unfolding groups_in
@@ -379,36 +311,19 @@ rotor_day number model table day is e =
 -- ---- a day of the Converter
 
 figure_within : (byte : ℕ) → is_figure byte ≡ true → (48 ≤ byte) × (byte ≤ 54)
-figure_within byte e =
-    let both = and_parts (nat_le 48 byte) (nat_le byte 54) e in (leb-true 48 byte both.0, leb-true byte 54 both.1)
+figure_within byte e = grind (arith, leb-true)
 
 row_is_reading : (one other : ℕ) → is_figure one ≡ true → is_figure other ≡ true → may_read one other ≡ true
     → IsReading (in_order (one - 48) (other - 48))
-row_is_reading one other low high may =
-    let a = figure_within one low in
-    let b = figure_within other high in
-    record {
-      ordered = omega arith;
-      within = omega (arith, a, b);
-      equal = λ same. grind (arith, nat_tests);
-    }
+row_is_reading one other low high may = grind (arith, nat_tests, figure_within)
 
 row_read : (text : List ℕ) (numbers : ℕ × ℕ) → row_of_text text ≡ Some numbers → IsReading numbers
 unfolding row_of_text
-row_read (one ∷ dash ∷ other ∷ []) numbers e =
-    let is =
-    some_if (((is_figure one && dash == 45) && is_figure other) && may_read one other)
-    (in_order (one - 48) (other - 48)) numbers e in
-    let last = and_parts ((is_figure one && dash == 45) && is_figure other) (may_read one other) is.0 in
-    let second = and_parts (is_figure one && dash == 45) (is_figure other) last.0 in
-    let first = and_parts (is_figure one) (dash == 45) second.0 in
-    subst IsReading is.1 (row_is_reading one other first.0 second.1 last.1)
-row_read text numbers e = absurd (none-some numbers e)
+row_read text numbers e = grind (arith, some_if, row_is_reading, none-some)
 
 text_row : (item : Data) (numbers : ℕ × ℕ) → option_and_then row_of_text (as_str item) ≡ Some numbers
     → IsReading numbers
-text_row (string text) numbers e = row_read text numbers e
-text_row item numbers e = absurd (none-some numbers e)
+text_row item numbers e = grind (arith, row_read, none-some)
 
 rows_read : (earlier items : List Data) (rows : List (ℕ × ℕ)) → Reads row_for earlier items rows
     → AllByRecursion IsReading rows
@@ -425,40 +340,23 @@ Fit wheel (pins ∷ lists) = (length pins ≡ length (ring_of wheel)) × Fit (wh
 text_pins : (ring : List ℕ) (item : Data) (pins : List Bool)
     → option_and_then (pins_of_text ring) (as_str item) ≡ Some pins → length pins ≡ length ring
 unfolding pins_of_text
-text_pins ring (string text) pins e =
-    let is = some_if (is_pin_text ring text) (map (has_capital text) ring) pins e in
-    ap length (sym is.1) ∙ length-map ring (has_capital text)
-text_pins ring item pins e = absurd (none-some pins e)
+text_pins ring item pins e = grind (arith, common_steps, some_if, none-some)
 
 pins_read : (earlier items : List Data) (lists : List (List Bool)) → Reads pins_behind earlier items lists
     → Fit (length earlier + 1) lists
 unfolding pins_of_item
 pins_read earlier [] [] r = tt
 pins_read earlier (item ∷ items) (pins ∷ lists) r =
-    let next : length (earlier ++ item ∷ []) + 1 ≡ length earlier + 1 + 1 = omega
-    (arith, length-append earlier (item ∷ [])) in (
-      text_pins (ring_of (length earlier + 1)) item pins (there_was _ _ pins r.0),
-      subst (λ wheel. Fit wheel lists) next (pins_read (earlier ++ item ∷ []) items lists r.1),
-    )
+    grind (arith, length-append, text_pins, there_was, pins_read (earlier ++ item ∷ []) items lists r.1)
 pins_read earlier items lists r = absurd r
 
 six_fit : (lists : List (List Bool)) → length lists ≡ 6 → Fit 1 lists → HasAllPins (pin_set lists)
 unfolding ring_of
-six_fit (a ∷ b ∷ c ∷ d ∷ e ∷ f ∷ []) six fit =
-    all_pins (pin_set (a ∷ b ∷ c ∷ d ∷ e ∷ f ∷ [])) fit.0 fit.1.0 fit.1.1.0 fit.1.1.1.0 fit.1.1.1.1.0 fit.1.1.1.1.1.0
-six_fit lists six fit = absurd (omega arith)
-
-found_letters : (found : Option (List ℕ)) (text letters : List ℕ) → capital_letters 6 text ≡ found
-    → option_and_then (λ letters. cond (are_on_wheels letters) (Some letters) None) found ≡ Some letters
-    → AreOnWheels letters
-found_letters None text letters is e = absurd (none-some letters e)
-found_letters (Some found) text letters is e =
-    let passes = some_if (are_on_wheels found) found letters e in
-    subst AreOnWheels passes.1 (on_wheels found (capitals_are_letters 6 text found is).count passes.0)
+six_fit lists e d = grind (arith, common_steps, all_pins)
 
 letters_shown : (text letters : List ℕ) → letters_on_wheels text ≡ Some letters → AreOnWheels letters
 unfolding letters_on_wheels
-letters_shown text letters e = found_letters (capital_letters 6 text) text letters refl e
+letters_shown text letters e = grind (arith, common_steps, some_if, on_wheels, capitals_are_letters)
 
 pin_day : (number : ℕ) (table : Members) (day : Day) → IsDayNumber number → pin_day_in number table ≡ Ok day
     → IsDay number day
@@ -502,9 +400,7 @@ model_day number model table day is e = rotor_day number model table day is e
 pub day_again : (number : ℕ) (model : Model) (table : Members) (day : Day) → number_in table ≡ Ok number
     → model_in table ≡ Ok model → model_day_in number model table ≡ Ok day → day_in [] table ≡ Ok day
 unfolding day_in new_number_in
-day_again number model table day is of_model rest =
-    then_read (new_number_in [] table) _ number _ (then_read (number_in table) _ number _ is refl)
-    (then_read (model_in table) _ model _ of_model rest)
+day_again number model table day is of_model rest = grind (arith, then_read, number_in)
 
 -- what a table tells that describes a day behind others with these numbers
 pub record Tells (taken : List ℕ) (table : Members) (day : Day) : Type 0 where

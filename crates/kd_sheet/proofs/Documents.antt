@@ -1,6 +1,5 @@
 -- What the document reader's steps find, in the definitions' words.
-use Rattle.std.proofs.Common.{◌≡◌, ℕ, ◌<◌, List, [], ◌∷◌, length, get_or, map, Option, Some, None, Ok, Err, ok_or, option_map, Vec, Global, IsUtf8, Bor, refl, sym, ap, ◌∙◌, inl, inr}
-use Rattle.std.specs.Str.{is_utf8}
+use Rattle.std.proofs.Common.{◌≡◌, ℕ, ◌<◌, List, [], ◌∷◌, length, get_or, map, Option, Some, None, Ok, Err, ok_or, option_map, Vec, Global, IsUtf8, Bor, refl, sym, ap, ◌∙◌, arith}
 use Rattle.std.proofs.lemmas.Str.{is_utf8-from_IsUtf8, IsUtf8-from_is_utf8}
 use Rattle.std.proofs.lemmas.Bool.{cases_Bool}
 use Rattle.std.proofs.lemmas.List.{get_or-map}
@@ -20,11 +19,7 @@ document_parsed bytes table text parsed = rw (is_utf8-from_IsUtf8 bytes text, pa
 -- bytes that are no text or that the parser refuses
 pub document_refused : (bytes : List ℕ) → (IsUtf8 bytes → parse_document bytes ≡ None) → document_of bytes ≡ Err NotToml
 unfolding document_of
-document_refused bytes refused =
-    elim (cases_Bool (is_utf8 bytes)) [
-      | inl text ↦ rw (text, refused (IsUtf8-from_is_utf8 bytes text))
-      | inr other ↦ rw other
-    ]
+document_refused bytes refused = grind (arith, cases_Bool, bytes, refused, IsUtf8-from_is_utf8)
 
 -- a list's items, in order
 pub list_of-items_of : (items : List Data) → list_of (items_of items) ≡ items
@@ -34,9 +29,7 @@ list_of-items_of (first ∷ rest) = ap (λ more. first ∷ more) (list_of-items_
 -- the items of an array, as a call found them
 pub items_in_found : (key : Key) (value : Data) (found : Option (Bor (Vec Value Global))) → option_map (λ v. array_view v.now) found ≡ as_array value
     → result_map (λ items. map view items.now.items) (ok_or found (BadValue key)) ≡ items_in key value
-items_in_found key value None none = ap (λ o. ok_or (option_map list_of o) (BadValue key)) none
-items_in_found key value (Some items) some =
-    ap Ok (sym (list_of-items_of (map view items.now.items))) ∙ ap (λ o. ok_or (option_map list_of o) (BadValue key)) some
+items_in_found key value found e = grind (arith, option_map, list_of-items_of)
 
 -- the item at a place stands there as data, too
 pub viewed_at : (items : List Value) (place : ℕ) (item : Value) → place < length items → item ≡ get_or items place item → get_or (map view items) place (view item) ≡ view item

@@ -1,5 +1,6 @@
 -- Items that are read one after another, each given the items before it.
-use Rattle.std.proofs.Common.{◌≡◌, ℕ, ◌+◌, ◌<◌, ◌≤◌, List, [], ◌∷◌, ◌++◌, length, take, drop, get_or, map, Result, Ok, Err, refl, sym, ap, ◌∙◌, arith}
+use Rattle.std.proofs.lemmas.Grind.{common_steps}
+use Rattle.std.proofs.Common.{◌≡◌, ℕ, ◌+◌, ◌<◌, ◌≤◌, List, [], ◌∷◌, ◌++◌, length, take, get_or, map, Result, Ok, Err, refl, sym, ap, ◌∙◌, arith}
 use Rattle.std.specs.List.{enumerate_from}
 use Rattle.std.proofs.lemmas.List.{length-map, get_or-map, take_more, take_all, drop_more, take-append-drop, length-take-le}
 use Rattle.std.proofs.lemmas.List.FromFn.{length-enumerate_from, get_or-enumerate_from}
@@ -16,13 +17,10 @@ abbrev values_joined : {A : Type 0} → Result (List A) SheetFault → Result (L
 values_joined front rest = front >>= (λ xs. rest >>= (λ ys. Ok (xs ++ ys)))
 
 joined_nil : {A : Type 0} (rest : Result (List A) SheetFault) → rest ≡ values_joined (Ok []) rest
-joined_nil (Ok ys) = refl
-joined_nil (Err fault) = refl
+joined_nil rest = grind arith
 
 joined_cons : {A : Type 0} (x : A) (front rest : Result (List A) SheetFault) → (values_joined front rest >>= (λ xs. Ok (x ∷ xs))) ≡ values_joined (front >>= (λ xs. Ok (x ∷ xs))) rest
-joined_cons x (Err fault) rest = refl
-joined_cons x (Ok xs) (Err fault) = refl
-joined_cons x (Ok xs) (Ok ys) = refl
+joined_cons x front rest = grind arith
 
 all_values-append : {A : Type 0} (front rest : List (Result A SheetFault)) → all_values (front ++ rest) ≡ values_joined (all_values front) (all_values rest)
 all_values-append [] rest = joined_nil (all_values rest)
@@ -38,9 +36,7 @@ values_more answers place values value left here before = rw (take_more answers 
 values_stop : {A : Type 0} (answers : List (Result A SheetFault)) (place : ℕ) (values : List A) (fault : SheetFault) → place < length answers → get_or answers place (Err fault) ≡ Err fault
     → all_values (take place answers) ≡ Ok values → all_values answers ≡ Err fault
 values_stop answers place values fault left here before =
-    let parts : answers ≡ take place answers ++ Err fault ∷ drop (place + 1) answers =
-    sym (take-append-drop place answers) ∙ ap (λ rest. take place answers ++ rest) (drop_more answers place (Err fault) left ∙ ap (λ x. x ∷ drop (place + 1) answers) here) in
-    ap all_values parts ∙ rw (all_values-append, before) refl
+    grind (arith, take-append-drop place answers, drop_more answers place (Err fault) left, all_values-append, before)
 
 -- as many answers as items, and which one stands at a place
 length-given_earlier : {A : Type 0} (reading : List Data → Data → A) (items : List Data) → length (given_earlier reading items) ≡ length items
@@ -75,8 +71,7 @@ read_stops reading items place item values fault left here found before =
 -- the items are at their end
 pub read_all : {A : Type 0} (reading : List Data → Data → Result A SheetFault) (items : List Value) (place : ℕ) (values : List A) → length items ≤ place
     → all_values (take place (given_earlier reading (map view items))) ≡ Ok values → all_values (given_earlier reading (map view items)) ≡ Ok values
-read_all reading items place values done before =
-    ap all_values (sym (take_all place (given_earlier reading (map view items)) (omega (arith, length-given_earlier reading (map view items), length-map items view)))) ∙ before
+read_all reading items place values done before = grind (arith, common_steps, take_all, length-given_earlier, before)
 
 -- as many items stand before the item at a place
 pub counted_earlier : (items : List Value) (place : ℕ) → place < length items → place + 1 ≡ length (take place (map view items)) + 1

@@ -1,14 +1,15 @@
 -- A file of lines, each with a key and its value, is read as the table of these.
-use Rattle.std.proofs.Common.{◌≡◌, ℕ, suc, ◌<◌, ◌≤◌, nat_le, nat_lt, Bool, true, false, not, ◌&&◌, ◌||◌, ◌==◌, List, [], ◌∷◌, ◌++◌, length, map, codes, Some, option_map, Ok, refl, sym, ap, ◌∙◌, subst, append_assoc, arith}
+use Rattle.std.proofs.lemmas.Grind.{common_steps}
+use Rattle.std.proofs.Common.{◌≡◌, ℕ, suc, ◌<◌, ◌≤◌, nat_le, nat_lt, Bool, true, false, not, ◌&&◌, ◌||◌, ◌==◌, List, [], ◌∷◌, ◌++◌, length, map, codes, Some, option_map, Ok, refl, append_assoc, arith}
 use Rattle.std.specs.List.{list_all, list_any, flat_map, concat, AllByRecursion}
-use Rattle.std.proofs.lemmas.Bool.{and_parts, ltb-true, ne_eqb, false≢true}
+use Rattle.std.proofs.lemmas.Bool.{ltb-true, ne_eqb}
 use Rattle.std.proofs.lemmas.Bool.Decides.{nat_tests}
 use Rattle.std.proofs.lemmas.List.Elements.{All-from_recursion}
 use Rattle.std.proofs.lemmas.List.Folds.{list_all-append}
 use Rattle.std.proofs.lemmas.Str.{IsUtf8-from_ascii}
 use Rattle.std.proofs.lemmas.Str.Ascii.{IsAscii-from_all}
-use Rattle.toml_writer.specs.Text.{needs_escape, quotes_after, escaped, is_control, has, encoding_of, string_text, key_text}
-use Rattle.toml.specs.Data.{Data, string, Items, no_items, item, Members, depth, items_depth, has_valid_dates, items_have_valid_dates}
+use Rattle.toml_writer.specs.Text.{needs_escape, quotes_after, escaped, is_control, encoding_of, string_text, key_text}
+use Rattle.toml.specs.Data.{Data, string, Items, Members, depth, items_depth, has_valid_dates, items_have_valid_dates}
 use Rattle.toml.specs.Parse.{skip_bom, parse_document}
 use Rattle.toml.specs.Tables.{Expression, key_value, no_nodes, close}
 use Rattle.toml.specs.Text.{breaks_lines, IsValueText, IsItemsText, IsLinesText}
@@ -18,7 +19,6 @@ use Rattle.kd_sheet.specs.Document.{document_of}
 use Rattle.kd_sheet.specs.Key.{key_name}
 use Rattle.kd_sheet.specs.MachineText.{quoted, listed, key_line}
 use Rattle.kd_sheet.specs.declared.key.Key.{Key}
-use Rattle.kd_sheet.specs.declared.key.Key.TheVariants as keys
 use Rattle.kd_sheet.proofs.Documents.{document_parsed}
 use Rattle.kd_sheet.proofs.PartsBack.{texts, all_below}
 
@@ -32,8 +32,7 @@ abbrev pub IsPlain : List ℕ → Type 0
 IsPlain text = list_all is_plain text ≡ true
 
 is_other : (byte other : ℕ) → is_plain byte ≡ true → is_plain other ≡ false → (byte == other) ≡ false
-is_other byte other plain none =
-    ne_eqb byte other (λ e. false≢true (sym none ∙ subst (λ b. is_plain b ≡ true) e plain))
+is_other byte other plain none = grind (arith, ne_eqb)
 
 no_control : (byte : ℕ) → is_plain byte ≡ true → is_control byte ≡ false
 no_control byte plain = grind (arith, nat_tests)
@@ -45,24 +44,16 @@ no_escape byte plain = grind (arith, nat_tests)
 none_of : (test : ℕ → Bool) → ((byte : ℕ) → is_plain byte ≡ true → test byte ≡ false) → (text : List ℕ) → IsPlain text
     → list_any test text ≡ false
 none_of test none [] plain = refl
-none_of test none (byte ∷ text) plain =
-    let parts = and_parts (is_plain byte) (list_all is_plain text) plain in
-    rw (none byte parts.0, none_of test none text parts.1) refl
+none_of test none (byte ∷ text) plain = grind (arith, nat_tests, none, none_of test none text)
 
 escaped_plain : (text : List ℕ) → IsPlain text → escaped false 0 text ≡ text
 unfolding escaped quotes_after
 escaped_plain [] plain = refl
-escaped_plain (byte ∷ text) plain =
-    let parts = and_parts (is_plain byte) (list_all is_plain text) plain in
-    rw (no_escape byte parts.0, is_other byte 34 parts.0 refl, escaped_plain text parts.1) refl
+escaped_plain (byte ∷ text) plain = grind (arith, nat_tests, no_escape, is_other, escaped_plain text)
 
 quoted_is : (text : List ℕ) → IsPlain text → quoted text ≡ string_text text
 unfolding string_text encoding_of
-quoted_is text plain =
-    let none : (byte : ℕ) → is_plain byte ≡ false → has byte text ≡ false =
-    λ byte other. none_of (λ x. x == byte) (λ x is. is_other x byte is other) text plain in
-    let controls = none_of is_control no_control text plain in
-    rw (controls, none 92 refl, none 34 refl, none 10 refl, escaped_plain text plain) refl
+quoted_is text plain = grind (arith, none_of, is_other, no_control, escaped_plain)
 
 -- ---- the lines
 
@@ -72,10 +63,7 @@ is_low byte = nat_lt byte 128
 
 plain_low : (text : List ℕ) → IsPlain text → list_all is_low text ≡ true
 plain_low [] plain = refl
-plain_low (byte ∷ text) plain =
-    let parts = and_parts (is_plain byte) (list_all is_plain text) plain in
-    let low : (byte : ℕ) → is_plain byte ≡ true → is_low byte ≡ true = λ byte is. grind (arith, nat_tests) in
-    rw (low byte parts.0, plain_low text parts.1) refl
+plain_low (byte ∷ text) plain = grind (arith, nat_tests, plain_low text)
 
 -- what stands in a line of a file: the key, its value, and the text that writes the value
 abbrev pub Entry : Type 0
@@ -95,12 +83,7 @@ pub record IsWritten (entry : Entry) : Type 0 where
   pub low : list_all is_low entry.2 ≡ true
 
 pub text_written : (key : Key) (text : List ℕ) → IsPlain text → IsWritten (text_entry key text)
-text_written key text plain = record {
-  writes = quoted_is text plain;
-  shallow = omega arith;
-  dated = refl;
-  low = simp (list_all-append, plain_low text plain);
-}
+text_written key text plain = grind (arith, quoted_is, list_all-append, plain_low)
 
 -- what stands behind the first text of an array
 abbrev behind : {X : Type 0} → (X → List ℕ) → List X → List ℕ
@@ -119,41 +102,21 @@ are_written : {X : Type 0} (text_of : X → List ℕ) (things : List X) → AllB
     → AreWritten text_of things
 are_written text_of [] plain = record { writes = refl; shallow = refl; dated = refl; low = refl }
 are_written text_of (x ∷ things) plain =
-    let rest = are_written text_of things plain.1 in
-    record {
-      writes = (
-        quoted (text_of x),
-        behind text_of things ++ codes "]",
-        ap (λ text. codes ", " ++ text) (append_assoc (quoted (text_of x)) (behind text_of things) (codes "]")),
-        quoted_is (text_of x) plain.0,
-        rest.writes,
-      );
-      shallow = rw rest.shallow refl;
-      dated = rest.dated;
-      low = simp (list_all-append, plain_low (text_of x) plain.0, rest.low);
-    }
+    grind (arith, common_steps, append_assoc, quoted_is, list_all-append, plain_low, are_written text_of things plain.1)
 
 one_line : (ds : Items) → breaks_lines false ds ≡ false
-one_line no_items = refl
-one_line (item d no_items) = refl
-one_line (item d (item e ds)) = refl
+one_line ds = grind arith
 
 pub texts_written : {X : Type 0} (key : Key) (text_of : X → List ℕ) (things : List X)
     → AllByRecursion (λ x. IsPlain (text_of x)) things → IsWritten (texts_entry key text_of things)
-texts_written key text_of [] plain =
-    record { writes = (codes "]", refl, refl); shallow = omega arith; dated = refl; low = refl }
+texts_written key text_of [] plain = grind arith
 texts_written key text_of (x ∷ things) plain =
     let rest = are_written text_of things plain.1 in
     let text = quoted (text_of x) ++ (behind text_of things ++ codes "]") in
     let writes : IsItemsText false false true (items text_of (x ∷ things)) text =
     (quoted (text_of x), behind text_of things ++ codes "]", refl, quoted_is (text_of x) plain.0, rest.writes) in
     record {
-      writes = (
-        text,
-        ap (λ text. codes "[" ++ text) (append_assoc (quoted (text_of x)) (behind text_of things) (codes "]")),
-        subst (λ lines. IsItemsText false lines true (items text_of (x ∷ things)) text)
-            (sym (one_line (items text_of (x ∷ things)))) writes,
-      );
+      writes = grind (arith, append_assoc, quoted, one_line);
       shallow = rw rest.shallow (omega arith);
       dated = rest.dated;
       low = simp (list_all-append, plain_low (text_of x) plain.0, rest.low);
@@ -169,20 +132,15 @@ expression_of entry = (([], key_name entry.0), key_value entry.1)
 
 key_bare : (key : Key) → key_text (key_name key) ≡ key_name key
 unfolding key_text
-key_bare keys.Version = refl
-key_bare key = refl
+key_bare key = grind arith
 
 key_low : (key : Key) → list_all is_low (key_name key) ≡ true
-key_low keys.Version = refl
-key_low key = refl
+key_low key = grind arith
 
 lines_text : (started : Bool) (entries : List Entry) → AllByRecursion IsWritten entries
     → IsLinesText false started (map expression_of entries) (concat (map line_of entries))
 lines_text started [] all = refl
-lines_text started (entry ∷ entries) all =
-    let same : line_of entry ≡ key_text (key_name entry.0) ++ (codes " = " ++ (entry.2 ++ 10 ∷ [])) =
-    rw (key_bare entry.0) (simp append_assoc) in
-    (line_of entry, concat (map line_of entries), refl, (entry.2, same, all.0.writes), lines_text true entries all.1)
+lines_text started (entry ∷ entries) all = grind (arith, key_bare, append_assoc, lines_text true entries all.1)
 
 all_printed : (entries : List Entry) → AllByRecursion IsWritten entries → AllPrinted (map expression_of entries)
 all_printed [] all = tt
@@ -191,14 +149,11 @@ all_printed (entry ∷ entries) all = ((refl, all.0.shallow, all.0.dated), all_p
 file_low : (entries : List Entry) → AllByRecursion IsWritten entries
     → list_all is_low (concat (map line_of entries)) ≡ true
 file_low [] all = refl
-file_low (entry ∷ entries) all = simp (list_all-append, key_low entry.0, all.0.low, file_low entries all.1)
+file_low (entry ∷ entries) all = grind (arith, list_all-append, key_low, file_low entries all.1)
 
 no_mark : (text : List ℕ) → list_all is_low text ≡ true → skip_bom text ≡ text
 unfolding skip_bom
-no_mark [] low = refl
-no_mark (byte ∷ text) low =
-    let below = ltb-true byte 128 (and_parts (is_low byte) (list_all is_low text) low).0 in
-    let other : (byte == 239) ≡ false = ne_eqb byte 239 (λ e. omega arith) in rw other refl
+no_mark text e = grind (arith, ltb-true, ne_eqb)
 
 pub file_read : (entries : List Entry) (table : Members) → AllByRecursion IsWritten entries
     → option_map (λ doc. close doc.0) (run (no_nodes, []) (map expression_of entries)) ≡ Some table

@@ -1,5 +1,5 @@
 -- What is read of items one after another, each given those before it; and what a reading that succeeds has found on its way.
-use Rattle.std.proofs.Common.{◌≡◌, suc, Bool, true, false, cond, List, [], ◌∷◌, ◌++◌, length, take, map, Option, Some, None, Result, Ok, Err, ok_or, refl, sym, ap, ◌∙◌, subst}
+use Rattle.std.proofs.Common.{◌≡◌, suc, Bool, true, cond, List, [], ◌∷◌, ◌++◌, length, take, map, Option, Some, None, Result, Ok, ok_or, refl, ap, ◌∙◌, arith}
 use Rattle.std.specs.List.{enumerate_from}
 use Rattle.std.proofs.Math.Seq.{take-append_seam}
 use Rattle.std.proofs.lemmas.List.{append_assoc, length-append}
@@ -20,26 +20,22 @@ same_found x y e = cc
 pub given : {A B : Type 0} (first : Result A SheetFault) (next : A → Result B SheetFault) (value : B)
     → (first >>= next) ≡ Ok value
     → (x : A) × (first ≡ Ok x) × (next x ≡ Ok value)
-given (Ok x) next value e = (x, refl, e)
-given (Err fault) next value e = absurd (cc)
+given first next value e = grind arith
 
 -- a test that passed
 pub passed : {B : Type 0} (test : Bool) (fault : SheetFault) (next : Result B SheetFault) (value : B)
     → (demand test fault >> next) ≡ Ok value
     → (test ≡ true) × (next ≡ Ok value)
-passed true fault next value e = (refl, e)
-passed false fault next value e = absurd (cc)
+passed test fault next value e = grind arith
 
 -- what there was
 pub there_was : {A : Type 0} (thing : Option A) (fault : SheetFault) (value : A) → ok_or thing fault ≡ Ok value
     → thing ≡ Some value
-there_was (Some x) fault value e = ap Some (same_found x value e)
-there_was None fault value e = absurd (cc)
+there_was thing fault value e = grind (arith, same_found)
 
 pub some_if : {A : Type 0} (test : Bool) (x value : A) → cond test (Some x) None ≡ Some value
     → (test ≡ true) × (x ≡ value)
-some_if true x value e = (refl, same_Some x value e)
-some_if false x value e = absurd (none-some value e)
+some_if test x value e = grind (arith, same_Some, none-some)
 
 -- and what is read on, where all goes well
 pub then_read : {A B : Type 0} (first : Result A SheetFault) (next : A
@@ -50,8 +46,7 @@ then_read first next x result is rest = ap (λ answer. answer >>= next) is ∙ r
 pub passing : {B : Type 0} (test : Bool) (fault : SheetFault) (next result : Result B SheetFault) → test ≡ true
     → next ≡ result
     → (demand test fault >> next) ≡ result
-passing true fault next result passes rest = rest
-passing false fault next result passes rest = absurd (cc)
+passing test fault next result e d = grind arith
 
 -- ---- items, one after another
 
@@ -71,8 +66,7 @@ answers reading earlier items =
 one_answer : {A : Type 0} (reading : List Data → Data
     → Result A SheetFault) (earlier : List Data) (item : Data) (items : List Data)
     → answers reading earlier (item ∷ items) ≡ reading earlier item ∷ answers reading (earlier ++ item ∷ []) items
-one_answer reading earlier item items =
-    rw (take-append_seam, append_assoc earlier (item ∷ []) items, length-append earlier (item ∷ [])) refl
+one_answer reading earlier item items = grind (arith, take-append_seam, append_assoc, length-append)
 
 pub reads : {A : Type 0} (reading : List Data → Data
     → Result A SheetFault) (earlier items : List Data) (values : List A)
@@ -80,19 +74,14 @@ pub reads : {A : Type 0} (reading : List Data → Data
 reads reading earlier [] [] e = tt
 reads reading earlier [] (value ∷ values) e = absurd (cc)
 reads reading earlier (item ∷ items) values e =
-    let first = given (reading earlier item) _ values (sym (ap all_values (one_answer reading earlier item items))
-    ∙ e) in
-    let rest = given (all_values (answers reading (earlier ++ item ∷ []) items)) _ values first.2 in
-    subst (Reads reading earlier (item ∷ items)) (same_found _ _ rest.2)
-    (first.1, reads reading (earlier ++ item ∷ []) items rest.0 rest.1)
+    grind (arith, one_answer, given, reads reading (earlier ++ item ∷ []) items)
 
 pub reads_again : {A : Type 0} (reading : List Data → Data
     → Result A SheetFault) (earlier items : List Data) (values : List A)
     → Reads reading earlier items values → all_values (answers reading earlier items) ≡ Ok values
 reads_again reading earlier [] [] r = refl
 reads_again reading earlier (item ∷ items) (value ∷ values) r =
-    ap all_values (one_answer reading earlier item items)
-    ∙ rw (r.0, reads_again reading (earlier ++ item ∷ []) items values r.1) refl
+    grind (arith, one_answer, reads_again reading (earlier ++ item ∷ []) items values r.1)
 reads_again reading earlier items values r = absurd r
 
 -- as many values as items

@@ -1,10 +1,10 @@
 -- The machine file of a machine is read as just that machine.
-use Rattle.std.proofs.Common.{◌≡◌, ℕ, ◌+◌, ◌<◌, Bool, true, pos, List, [], ◌∷◌, length, map, All, Option, Some, None, Ok, ok_or, refl, ap, ◌∙◌, arith, rules}
+use Rattle.std.proofs.lemmas.Grind.{common_steps}
+use Rattle.std.proofs.Common.{◌≡◌, ℕ, ◌+◌, ◌<◌, Bool, true, pos, List, [], ◌∷◌, length, map, Option, Some, None, Ok, ok_or, refl, ap, ◌∙◌, arith, rules}
 use Rattle.std.specs.Fmt.{digits}
 use Rattle.std.specs.List.{AllByRecursion}
-use Rattle.std.proofs.lemmas.Bool.{false≢true}
 use Rattle.std.proofs.lemmas.Bool.Decides.{nat_tests}
-use Rattle.std.proofs.lemmas.List.{append-nil, length-map}
+use Rattle.std.proofs.lemmas.List.{append-nil}
 use Rattle.std.proofs.lemmas.List.Elements.{recursion_from_All}
 use Rattle.std.proofs.lemmas.List.Folds.{list_all-append}
 use Rattle.toml.specs.Data.{string, integer, Members, no_members, member}
@@ -14,15 +14,12 @@ use Rattle.kd_tables.specs.Rings.{ring_of}
 use Rattle.kd_tables.specs.Tables.{reflectors_of, model_text, reflector_text, wheel_text}
 use Rattle.kd_tables.specs.Text.{letters_text}
 use Rattle.kd_tables.specs.declared.model.Model.{Model}
-use Rattle.kd_tables.specs.declared.model.Model.TheVariants.{EnigmaI, M209}
+use Rattle.kd_tables.specs.declared.model.Model.TheVariants.{M209}
 use Rattle.kd_tables.specs.declared.place.Place.{Place}
-use Rattle.kd_tables.specs.declared.place.Place.TheVariants.{One}
 use Rattle.kd_tables.specs.declared.reflector.Reflector.{Reflector}
-use Rattle.kd_tables.specs.declared.reflector.Reflector.TheVariants as reflectors
 use Rattle.kd_tables.specs.declared.wheel.Wheel.{Wheel}
-use Rattle.kd_tables.specs.declared.wheel.Wheel.TheVariants.{I}
 use Rattle.kd_state.specs.Box.{has_reflector}
-use Rattle.kd_state.specs.Machine.{cable_letters, plugged_letters, ordered, cables_ordered, IsLegalRotor, IsLegalPin}
+use Rattle.kd_state.specs.Machine.{plugged_letters, ordered, cables_ordered, IsLegalRotor, IsLegalPin}
 use Rattle.kd_state.specs.declared.machine.rotor_parts.RotorParts.{RotorParts}
 use Rattle.kd_state.specs.declared.machine.pin_parts.PinParts.{PinParts}
 use Rattle.kd_state.specs.declared.machine.parts.Parts.{Parts}
@@ -30,17 +27,16 @@ use Rattle.kd_state.specs.declared.machine.parts.Parts.TheVariants.{Rotor, Pin}
 use Rattle.kd_state.proofs.Rings.{has_letter-Decides}
 use Rattle.kd_state.proofs.Wheels.{has_reflector-Decides}
 use Rattle.kd_sheet.specs.Cables.{thirteen, cables_in}
-use Rattle.kd_sheet.specs.Document.{◌>>=◌, document_of}
+use Rattle.kd_sheet.specs.Document.{document_of}
 use Rattle.kd_sheet.specs.Drum.{standing_for, bars_in}
 use Rattle.kd_sheet.specs.Key.{key_name}
 use Rattle.kd_sheet.specs.Laws.{LegalPartsAreReadBack}
 use Rattle.kd_sheet.specs.MachineFile.{version_in, model_in, knows, known_model_in, reflector_in, box_letters_in, rotor_parts_in, pin_parts_in, parts_in, machine_in}
 use Rattle.kd_sheet.specs.MachineText.{version_of, seat_text, cable_text, pins_text, pin_texts, machine_text}
 use Rattle.kd_sheet.specs.Numbers.{number_to}
-use Rattle.kd_sheet.specs.PinWheels.{shown_in, pins_in}
-use Rattle.kd_sheet.specs.Seats.{seats_in}
+use Rattle.kd_sheet.specs.PinWheels.{shown_in}
 use Rattle.kd_sheet.specs.declared.key.Key.TheVariants as keys
-use Rattle.kd_sheet.specs.declared.fault.SheetFault.TheVariants.{BadValue, UnknownModel}
+use Rattle.kd_sheet.specs.declared.fault.SheetFault.TheVariants.{UnknownModel}
 use Rattle.kd_sheet.proofs.FileTexts.{is_plain, IsPlain, Entry, text_entry, texts_entry, IsWritten, text_written, texts_written, file_read}
 use Rattle.kd_sheet.proofs.InTurn.{then_read, passing}
 use Rattle.kd_sheet.proofs.Namings.{model_by_name-text}
@@ -57,16 +53,13 @@ letters_plain [] within = refl
 letters_plain (letter ∷ letters) within = rw (letter_plain letter within.0, letters_plain letters within.1) refl
 
 model_plain : (model : Model) → IsPlain (model_text model)
-model_plain EnigmaI = refl
-model_plain model = refl
+model_plain model = grind arith
 
 reflector_plain : (reflector : Reflector) → IsPlain (reflector_text reflector)
-reflector_plain reflectors.A = refl
-reflector_plain reflector = refl
+reflector_plain reflector = grind arith
 
 wheel_plain : (wheel : Wheel) → IsPlain (wheel_text wheel)
-wheel_plain I = refl
-wheel_plain wheel = refl
+wheel_plain wheel = grind arith
 
 seats_plain : (slots : List (Option Wheel)) → AllByRecursion (λ seat. IsPlain (seat_text seat)) slots
 seats_plain [] = tt
@@ -76,9 +69,7 @@ seats_plain (Some wheel ∷ slots) = (wheel_plain wheel, seats_plain slots)
 cables_plain : (cables : List (Option ℕ × Option ℕ)) → AllByRecursion (λ letter. letter < 26) (plugged_letters cables)
     → AllByRecursion (λ cable. IsPlain (cable_text cable)) cables
 cables_plain [] within = tt
-cables_plain (cable ∷ cables) within =
-    let parts = all_parts (λ letter. letter < 26) (cable_letters cable) (plugged_letters cables) within in
-    (letters_plain (cable_letters cable) parts.0, cables_plain cables parts.1)
+cables_plain (cable ∷ cables) within = grind (arith, all_parts, letters_plain, cables_plain cables)
 
 pins_plain : (wheel : ℕ) (pins : List Bool) → IsPlain (pins_text (ring_of wheel) pins)
 pins_plain wheel pins = each_byte is_plain (ring_of wheel) pins (letters_apart wheel)
@@ -86,8 +77,7 @@ pins_plain wheel pins = each_byte is_plain (ring_of wheel) pins (letters_apart w
     letter_plain letter (on_ring_below wheel letter ((has_letter-Decides (ring_of wheel) letter).0 has)))
 
 place_plain : (place : Place) → IsPlain (place_text place)
-place_plain One = refl
-place_plain place = refl
+place_plain place = grind arith
 
 bars_plain : (bars : List (Place × Place)) → AllByRecursion (λ bar. IsPlain (standing_text bar)) bars
 bars_plain [] = tt
@@ -100,36 +90,26 @@ version_entry model = (keys.Version, integer (pos (version_of model)), figure (v
 
 version_written : (model : Model) → IsWritten (version_entry model)
 unfolding digits
-version_written EnigmaI = record { writes = (refl, search rules); shallow = omega arith; dated = refl; low = refl }
-version_written model = record { writes = (refl, search rules); shallow = omega arith; dated = refl; low = refl }
+version_written model = grind arith
 
 version_again : (model : Model) → number_to 2 (integer (pos (version_of model))) ≡ Some (version_of model)
-version_again EnigmaI = refl
-version_again model = refl
+version_again model = grind arith
 
 version_knows : (model : Model) → knows (version_of model) model ≡ true
-version_knows EnigmaI = refl
-version_knows model = refl
+version_knows model = grind arith
 
 -- a table with version and model that tells these parts
 told : (model : Model) (table : Members) (m : Parts) → version_in table ≡ Ok (version_of model)
     → model_in table ≡ Ok model → parts_in model table ≡ Ok m → machine_in table ≡ Ok m
 unfolding machine_in known_model_in
-told model table m version is parts =
-    then_read (version_in table) _ (version_of model) _ version
-    (then_read (known_model_in (version_of model) table) _ model _
-    (then_read (model_in table) _ model _ is
-    (passing (knows (version_of model) model) UnknownModel _ _ (version_knows model) refl)) parts)
+told model table m version is parts = grind (arith, then_read, passing, version_knows)
 
 -- ---- a rotor machine
 
 -- with a single letter first a cable holds the same letters
 same_cable : (one other : Option ℕ)
     → ordered (single_first (one, other)).0 (single_first (one, other)).1 ≡ ordered one other
-same_cable None None = refl
-same_cable None (Some other) = refl
-same_cable (Some one) None = refl
-same_cable (Some one) (Some other) = refl
+same_cable one other = grind arith
 
 same_cables : (cables : List (Option ℕ × Option ℕ))
     → map (λ cable. ordered cable.0 cable.1) (map single_first cables) ≡ map (λ cable. ordered cable.0 cable.1) cables
@@ -137,10 +117,7 @@ same_cables [] = refl
 same_cables (cable ∷ cables) = rw (same_cable cable.0 cable.1, same_cables cables) refl
 
 few_letters : (one other : Option ℕ) → MayPlug keys.Cables (one, other)
-few_letters None None = refl
-few_letters None (Some other) = refl
-few_letters (Some one) None = refl
-few_letters (Some one) (Some other) = refl
+few_letters one other = grind arith
 
 all_few : (cables : List (Option ℕ × Option ℕ)) → AllByRecursion (MayPlug keys.Cables) cables
 all_few [] = tt
@@ -174,62 +151,42 @@ rotor_table m =
 rotor_read : (m : RotorParts) → IsLegalRotor m → document_of (machine_text (Rotor m)) ≡ Ok (rotor_table m)
 unfolding machine_text define along_header along_dots at_key
 rotor_read m legal =
-    let within : (letters : List ℕ) → All (λ letter. letter < 26) letters → IsPlain (letters_text letters) =
-    λ letters all. letters_plain letters (recursion_from_All (λ letter. letter < 26) letters all) in
-    file_read (rotor_entries m) (rotor_table m) (
-      version_written m.model,
-      (
-        text_written keys.Model (model_text m.model) (model_plain m.model),
-        (
-          text_written keys.Reflector (reflector_text m.reflector) (reflector_plain m.reflector),
-          (
-            texts_written keys.Slots seat_text m.slots (seats_plain m.slots),
-            (
-              text_written keys.Rings (letters_text m.rings) (within m.rings legal.rings.within),
-              (
-                text_written keys.Letters (letters_text m.letters) (within m.letters legal.letters.within),
-                (
-                  texts_written keys.Cables cable_text m.cables
-                      (cables_plain m.cables (recursion_from_All (λ letter. letter < 26) _ legal.cables.within)),
-                  tt,
-                ),
-              ),
-            ),
-          ),
-        ),
-      ),
-    ) refl
+    let all : AllByRecursion IsWritten (rotor_entries m) =
+    search (
+      rules,
+      version_written,
+      text_written,
+      texts_written,
+      model_plain,
+      reflector_plain,
+      seats_plain,
+      letters_plain,
+      cables_plain,
+      recursion_from_All,
+      legal.rings.within,
+      legal.letters.within,
+      legal.cables.within,
+    ) in
+    file_read (rotor_entries m) (rotor_table m) all refl
 
 cables_in_again : (m : RotorParts) → IsLegalRotor m → cables_in (rotor_table m) ≡ Ok (map single_first m.cables)
 unfolding cables_in
-cables_in_again m legal =
-    all_cables_again keys.Cables m.cables (omega (arith, legal.cables.count)) (all_few m.cables)
-    (recursion_from_All (λ letter. letter < 26) _ legal.cables.within) legal.cables.apart
-    ∙ ap Ok (thirteen_are (map single_first m.cables) (length-map m.cables single_first ∙ legal.cables.count))
+cables_in_again m legal = grind (arith, common_steps, all_cables_again, all_few, recursion_from_All, thirteen_are)
 
 rotor_parts_again : (m : RotorParts) → IsLegalRotor m
     → rotor_parts_in m.model (rotor_table m) ≡ Ok (record m { cables = map single_first m.cables })
 unfolding rotor_parts_in reflector_in box_letters_in
 rotor_parts_again m legal =
-    let table = rotor_table m in
     let has = (has_reflector-Decides (reflectors_of m.model) m.reflector).1 legal.reflector in
-    then_read (reflector_in m.model table) _ m.reflector _
-    (ap (λ found. ok_or found (BadValue keys.Reflector)) (reflector_again m.model m.reflector has))
-    (then_read (seats_in keys.Slots m.model table) _ m.slots _
-    (seats_in_again keys.Slots m.model table m.slots refl (all_may_stand m.slots)
-    (record { count = legal.slots; allowed = legal.allowed; apart = legal.apart }))
-    (then_read (box_letters_in keys.Rings m.model table) _ m.rings _
-    (ap (λ found. ok_or found (BadValue keys.Rings)) (capitals_again _ m.rings legal.rings))
-    (then_read (box_letters_in keys.Letters m.model table) _ m.letters _
-    (ap (λ found. ok_or found (BadValue keys.Letters)) (capitals_again _ m.letters legal.letters))
-    (then_read (cables_in table) _ (map single_first m.cables) _ (cables_in_again m legal) refl))))
+    let seated = seats_in_again keys.Slots m.model (rotor_table m) m.slots refl (all_may_stand m.slots)
+    (record { count = legal.slots; allowed = legal.allowed; apart = legal.apart }) in
+    grind (arith, then_read, reflector_again, capitals_again, cables_in_again)
 
 by_model : (model : Model) (reflector : Reflector) (table : Members) (m : RotorParts)
     → has_reflector (reflectors_of model) reflector ≡ true → rotor_parts_in model table ≡ Ok m
     → parts_in model table ≡ Ok (cables_ordered (Rotor m))
 unfolding parts_in
-by_model M209 reflector table m has is = absurd (false≢true has)
-by_model model reflector table m has is = ap (λ parts. parts >>= (λ m. Ok (cables_ordered (Rotor m)))) is
+by_model model reflector table m e d = grind arith
 
 -- ---- a Converter
 
@@ -249,27 +206,21 @@ pin_table m =
 pin_read : (m : PinParts) → IsLegalPin m → document_of (machine_text (Pin m)) ≡ Ok (pin_table m)
 unfolding machine_text define along_header along_dots at_key
 pin_read m legal =
-    let all_pins : AllByRecursion IsPlain (pin_texts m.pins) = (
-      pins_plain 1 m.pins.w1,
-      (
-        pins_plain 2 m.pins.w2,
-        (pins_plain 3 m.pins.w3, (pins_plain 4 m.pins.w4, (pins_plain 5 m.pins.w5, (pins_plain 6 m.pins.w6, tt)))),
-      ),
+    let all_pins : AllByRecursion IsPlain (pin_texts m.pins) = grind (arith, pins_plain) in
+    let all : AllByRecursion IsWritten (pin_entries m) =
+    search (
+      rules,
+      version_written,
+      text_written,
+      texts_written,
+      model_plain,
+      all_pins,
+      letters_plain,
+      bars_plain,
+      wheels_letters_within,
+      legal.letters,
     ) in
-    file_read (pin_entries m) (pin_table m) (
-      version_written M209,
-      (
-        text_written keys.Model (model_text M209) (model_plain M209),
-        (
-          text_written keys.Letters (letters_text m.letters)
-              (letters_plain m.letters (wheels_letters_within m.letters legal.letters)),
-          (
-            texts_written keys.Pins (λ text. text) (pin_texts m.pins) all_pins,
-            (texts_written keys.Bars standing_text m.bars (bars_plain m.bars), tt),
-          ),
-        ),
-      ),
-    ) refl
+    file_read (pin_entries m) (pin_table m) all refl
 
 bars_again : (m : PinParts) → IsLegalPin m → bars_in (pin_table m) ≡ Ok m.bars
 unfolding bars_in
@@ -280,12 +231,7 @@ bars_again m legal =
 
 pin_parts_again : (m : PinParts) → IsLegalPin m → pin_parts_in (pin_table m) ≡ Ok m
 unfolding pin_parts_in shown_in
-pin_parts_again m legal =
-    let table = pin_table m in
-    then_read (shown_in keys.Letters table) _ m.letters _
-    (ap (λ found. ok_or found (BadValue keys.Letters)) (window_again m.letters legal.letters))
-    (then_read (pins_in table) _ m.pins _ (pins_in_again table m.pins refl legal.pins)
-    (then_read (bars_in table) _ m.bars _ (bars_again m legal) refl))
+pin_parts_again m legal = grind (arith, then_read, window_again, pins_in_again, bars_again)
 
 -- ---- each machine
 
@@ -293,13 +239,11 @@ pub parts_are_read_back : LegalPartsAreReadBack
 unfolding version_in model_in parts_in
 parts_are_read_back (Rotor m) legal =
     let has = (has_reflector-Decides (reflectors_of m.model) m.reflector).1 legal.reflector in
-    let read = told m.model (rotor_table m) _
-    (ap (λ found. ok_or found (BadValue keys.Version)) (version_again m.model))
-    (ap (λ found. ok_or found UnknownModel) (model_by_name-text m.model))
+    let read = told m.model (rotor_table m) _ (rw (version_again m.model) refl) (rw (model_by_name-text m.model) refl)
     (by_model m.model m.reflector (rotor_table m) _ has (rotor_parts_again m legal)) in
     then_read (document_of (machine_text (Rotor m))) machine_in (rotor_table m) _ (rotor_read m legal) read
     ∙ ap (λ cables. Ok (Rotor (record m { cables = cables }))) (same_cables m.cables)
 parts_are_read_back (Pin m) legal =
     let read = told M209 (pin_table m) _ refl (ap (λ found. ok_or found UnknownModel) (model_by_name-text M209))
-    (ap (λ parts. parts >>= (λ m. Ok (Pin m))) (pin_parts_again m legal)) in
+    (rw (pin_parts_again m legal) refl) in
     then_read (document_of (machine_text (Pin m))) machine_in (pin_table m) _ (pin_read m legal) read

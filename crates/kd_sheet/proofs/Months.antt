@@ -51,11 +51,7 @@ put_each : (month : List (Option Day)) (place : ℕ) (new : Day) → IsMonth mon
 put_each month place new before here left zero day e = absurd (none-some _ e)
 put_each month place new before here left (suc other) day e =
     elim (cases_Bool (nat_eq other place)) [
-      | inl same ↦
-          let at : other ≡ place = eqb-true other place same in
-          let found : Some new ≡ Some day = ap (option_and_then (λ d. d)) (sym (slice_get-set_same month place (Some new) (omega (arith, before.count)))) ∙ ap (λ k. option_and_then (λ d. d) (slice_get (set month place (Some new)) k)) (sym at) ∙ e in
-          let number : day_number day ≡ place + 1 = ap day_number (sym (same_Some _ _ found)) ∙ sym here in
-          omega arith
+      | inl same ↦ grind (arith, eqb-true, slice_get-set_same, same_Some)
       | inr differs ↦
           let apart : other ≢ place = eqb-false other place differs in
           before.each (suc other) day (ap (option_and_then (λ d. d)) (sym (slice_get-set_other month place other (Some new) apart)) ∙ e)
@@ -69,8 +65,7 @@ put_day month place new before here left = record {
 
 -- the day that is found has the number
 pub found_number : (month : List (Option Day)) (number : ℕ) (found : Option (Bor Day)) → IsMonth month → option_copied found ≡ day_of month number → IfSome found (λ day. day_number day.now ≡ number)
-found_number month number None is e = tt
-found_number month number (Some day) is e = is.each number day.now (sym e)
+found_number month number found e d = grind arith
 
 -- the month's day of a number is the first of the days that has it
 abbrev has : ℕ → Day → Bool
@@ -86,10 +81,7 @@ day_of_month days (suc place) is =
 
 is_some-find : {X : Type 0} (p : X → Bool) (xs : List X) → is_some (find p xs) ≡ list_any p xs
 is_some-find p [] = refl
-is_some-find p (x ∷ xs) = elim (cases_Bool (p x)) [
-  | inl passes ↦ rw passes refl
-  | inr fails ↦ rw fails (is_some-find p xs)
-]
+is_some-find p (x ∷ xs) = grind (arith, cases_Bool, p, is_some-find p xs)
 
 number_taken : (days : List Day) (number : ℕ) → list_any (has number) days ≡ list_any (λ other. other == number) (map day_number days)
 number_taken [] number = refl
@@ -100,8 +92,7 @@ takes_days days number is = ap is_some (day_of_month days number is) ∙ is_some
 
 -- one more day, of a number that none has
 or_none : {X : Type 0} (o : Option X) → option_or o None ≡ o
-or_none None = refl
-or_none (Some x) = refl
+or_none o = grind arith
 
 pub month_more : (days : List Day) (new : Day) → IsDayNumber (day_number new) → day_of (month_of days) (day_number new) ≡ None
     → set (month_of days) (day_number new - 1) (Some new) ≡ month_of (days ++ new ∷ [])
@@ -165,12 +156,8 @@ month_more_items sheet after items place item new left here found number is free
 
 -- 31 places without a day
 pub blank_month : (month : List (Option Day)) → AllOfLen (λ day. day ≡ None) month 31 → month ≡ month_of []
-blank_month month blank =
-    same_lists month (month_of []) blank.long (λ place d left.
-    let within : place < 31 = omega (arith, blank.long) in
-    blank.at place d within ∙ sym (get_or-map-range_with_len (λ number. find (has number) []) 1 31 place (1 + place) d within refl))
+blank_month month blank = grind (arith, same_lists, blank.at, get_or-map-range_with_len)
 
 pub number_of_found : (month : List (Option Day)) (number : ℕ) (found : Option Day) → IsMonth month → found ≡ day_of month number
     → IfSome found (λ day. day_number day ≡ number)
-number_of_found month number None is value = tt
-number_of_found month number (Some day) is value = is.each number day (sym value)
+number_of_found month number found e d = grind arith

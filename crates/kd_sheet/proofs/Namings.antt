@@ -1,22 +1,17 @@
 -- What has a name, and that nothing else has it.
-use Rattle.std.proofs.Common.{◌≡◌, ◌≢◌, ℕ, List, [], ◌∷◌, find, MatchOption, bytes_eq, Option, Some, None, refl, sym, ap, ◌∙◌, inl, inr}
+use Rattle.std.proofs.Common.{◌≡◌, ◌≢◌, ℕ, List, [], ◌∷◌, find, MatchOption, bytes_eq, Option, Some, None, refl, sym, ap, ◌∙◌, arith}
 use Rattle.std.proofs.lemmas.Bool.{cases_Bool}
 use Rattle.std.proofs.lemmas.Slice.Eq.{bytes_eq-Decides}
 use Rattle.kd_tables.specs.Tables.{model_text, wheel_text}
 use Rattle.kd_tables.specs.declared.model.Model.{Model}
-use Rattle.kd_tables.specs.declared.model.Model.TheVariants.{EnigmaI, M3, M4, M209}
 use Rattle.kd_tables.specs.declared.wheel.Wheel.{Wheel}
-use Rattle.kd_tables.specs.declared.wheel.Wheel.TheVariants.{I, II, III, IV, V, VI, VII, VIII, Beta, Gamma}
 use Rattle.kd_sheet.specs.Names.{every_model, every_wheel, model_by_name, wheel_by_name}
 
 -- a list has nothing of a name that none has
 find_unnamed : {A : Type 0} (text_of : A → List ℕ) (name : List ℕ) → ((x : A) → text_of x ≢ name) → (xs : List A) → find (λ x. bytes_eq (text_of x) name) xs ≡ None
 find_unnamed text_of name none [] = refl
 find_unnamed text_of name none (x ∷ xs) =
-    elim (cases_Bool (bytes_eq (text_of x) name)) [
-      | inl same ↦ absurd (none x ((bytes_eq-Decides (text_of x) name).0 same))
-      | inr other ↦ rw other (find_unnamed text_of name none xs)
-    ]
+    grind (arith, cases_Bool, none, bytes_eq-Decides, find_unnamed text_of name none xs)
 
 -- what has the name is what the list finds, where the list finds each by its own name
 find_named : {A : Type 0} (text_of : A → List ℕ) (xs : List A) → ((x : A) → find (λ y. bytes_eq (text_of y) (text_of x)) xs ≡ Some x)
@@ -27,24 +22,12 @@ find_named text_of xs own name (Some x) named = sym (own x) ∙ ap (λ text. fin
 -- each model is the one of its name
 pub model_by_name-text : (model : Model) → model_by_name (model_text model) ≡ Some model
 unfolding model_by_name
-model_by_name-text EnigmaI = refl
-model_by_name-text M3 = refl
-model_by_name-text M4 = refl
-model_by_name-text M209 = refl
+model_by_name-text model = grind arith
 
 -- each wheel is the one of its name
 pub wheel_by_name-text : (wheel : Wheel) → wheel_by_name (wheel_text wheel) ≡ Some wheel
 unfolding wheel_by_name
-wheel_by_name-text I = refl
-wheel_by_name-text II = refl
-wheel_by_name-text III = refl
-wheel_by_name-text IV = refl
-wheel_by_name-text V = refl
-wheel_by_name-text VI = refl
-wheel_by_name-text VII = refl
-wheel_by_name-text VIII = refl
-wheel_by_name-text Beta = refl
-wheel_by_name-text Gamma = refl
+wheel_by_name-text wheel = grind arith
 
 -- the model that has the name, if one has it
 pub model_by_name_found : (name : List ℕ) (found : Option Model) → MatchOption found ((model : Model) → model_text model ≢ name) (λ model. model_text model ≡ name) → found ≡ model_by_name name

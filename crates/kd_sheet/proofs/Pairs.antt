@@ -10,8 +10,7 @@ use Rattle.kd_state.specs.TwoCiphers.{both_ends}
 use Rattle.kd_sheet.specs.Cables.{pairs_of}
 
 one_or_none : {Y : Type 0} (o : Option Y) → cons_option o [] ≡ option_to_list o
-one_or_none None = refl
-one_or_none (Some y) = refl
+one_or_none o = grind arith
 
 -- one more cable
 pub pairs_more : (cables : List (Option ℕ × Option ℕ)) (place : ℕ) (d : Option ℕ × Option ℕ) → place < length cables

@@ -1,7 +1,9 @@
 -- What is written of the parts of a machine, or of a day, is read as just these.
-use Rattle.std.proofs.Common.{◌≡◌, ℕ, zero, suc, nat_lt, ◌+◌, ◌-◌, ◌<◌, ◌≤◌, nat_eq, nat_le, Bool, true, false, cond, ◌==◌, List, [], ◌∷◌, ◌++◌, length, map, Contains, slice_get, Option, Some, None, Result, Ok, ok_or, refl, sym, ap, ◌∙◌, subst, arith}
+use Rattle.std.proofs.lemmas.Bool.Decides.{nat_tests}
+use Rattle.std.proofs.lemmas.Grind.{common_steps}
+use Rattle.std.proofs.Common.{◌≡◌, ℕ, zero, suc, nat_lt, ◌+◌, ◌<◌, ◌≤◌, nat_eq, nat_le, true, false, cond, ◌==◌, List, [], ◌∷◌, ◌++◌, length, map, Contains, slice_get, Option, Some, None, Result, Ok, refl, ap, ◌∙◌, subst, arith, rules}
 use Rattle.std.specs.List.{list_all, flat_map, enumerate_from, IsDistinct, AllByRecursion}
-use Rattle.std.proofs.lemmas.Bool.{and_parts, eq-eqb, le-leb, lt-ltb, ltb-true, false≢true, false_from_ne_true}
+use Rattle.std.proofs.lemmas.Bool.{eq-eqb, le-leb, lt-ltb, false_from_ne_true}
 use Rattle.std.proofs.lemmas.List.{append_assoc, append-nil, length-map, map-append}
 use Rattle.std.proofs.lemmas.List.Elements.{recursion_from_All, All-from_recursion, All-contains}
 use Rattle.std.proofs.lemmas.Option.{none-some, slice_get-get_or}
@@ -13,26 +15,21 @@ use Rattle.kd_tables.specs.Rings.{ring_of}
 use Rattle.kd_tables.specs.Tables.{letters_of, slots_of, reflectors_of, reflector_text, wheel_text}
 use Rattle.kd_tables.specs.Text.{is_capital, letters_text}
 use Rattle.kd_tables.specs.declared.model.Model.{Model}
-use Rattle.kd_tables.specs.declared.model.Model.TheVariants.{EnigmaI, M3, M4}
 use Rattle.kd_tables.specs.declared.place.Place.{Place}
-use Rattle.kd_tables.specs.declared.place.Place.TheVariants.{One}
 use Rattle.kd_tables.specs.declared.wheel.Wheel.{Wheel}
-use Rattle.kd_tables.specs.declared.wheel.Wheel.TheVariants.{I}
 use Rattle.kd_tables.specs.declared.reflector.Reflector.{Reflector}
-use Rattle.kd_tables.specs.declared.reflector.Reflector.TheVariants as reflectors
 use Rattle.kd_pins.specs.declared.pin_set.PinSet.{PinSet}
 use Rattle.kd_state.specs.Box.{has_reflector}
 use Rattle.kd_state.specs.Machine.{cable_letters, plugged_letters, AreAllowed, AreApart, AreLetters, AreOnWheels, HasAllPins}
-use Rattle.kd_state.specs.Pins.{pin_set}
 use Rattle.kd_state.specs.Setting.{has_letter}
 use Rattle.kd_state.specs.SheetDay.{AreSeated}
 use Rattle.kd_state.proofs.Rings.{has_letter-Decides}
 use Rattle.kd_sheet.specs.Cables.{may_have, plugged_letters_in, letters_of_item, are_new, cable_of, cable_for, plugged_by, cable_behind, cables_of, thirteen, thirteen_of, all_cables_in}
 use Rattle.kd_sheet.specs.Document.{◌>>=◌, ◌>>◌, demand, value_at, items_in, items_at, all_values, given_earlier}
 use Rattle.kd_sheet.specs.Letters.{capital_letters}
-use Rattle.kd_sheet.specs.MachineText.{seat_text, cable_text, pins_text, pin_texts}
+use Rattle.kd_sheet.specs.MachineText.{seat_text, cable_text, pin_texts}
 use Rattle.kd_sheet.specs.Names.{reflector_by_name, standing_by_text, wheel_by_name}
-use Rattle.kd_sheet.specs.PinWheels.{letters_on_wheels, pins_of_item, pins_behind, pins_in}
+use Rattle.kd_sheet.specs.PinWheels.{letters_on_wheels, pins_of_item, pins_in}
 use Rattle.kd_sheet.specs.Seats.{may_be_empty, wheel_of_item, wheel_for, seat_for, seat_of_item, seat_behind, seats_in, is_seated}
 use Rattle.kd_sheet.specs.declared.key.Key.{Key}
 use Rattle.kd_sheet.specs.declared.key.Key.TheVariants as keys
@@ -57,8 +54,7 @@ texts_read key text_of things = ap Ok (list_of-items_of (map (λ x. string (text
 
 pub texts_at : {X : Type 0} (key : Key) (table : Members) (text_of : X → List ℕ) (things : List X)
     → value_at key table ≡ Ok (texts text_of things) → items_at key table ≡ Ok (map (λ x. string (text_of x)) things)
-texts_at key table text_of things there =
-    then_read (value_at key table) (items_in key) (texts text_of things) _ there (texts_read key text_of things)
+texts_at key table text_of things there = search (rules, then_read, value_at, texts_read)
 
 -- an array of a fixed number of texts, each of which is read as its value
 pub counted_again : {X A : Type 0} (key : Key) (table : Members) (count : ℕ) (text_of : X → List ℕ) (things : List X)
@@ -69,12 +65,7 @@ pub counted_again : {X A : Type 0} (key : Key) (table : Members) (count : ℕ) (
     (λ items. demand (length items == count) (BadValue key) >> all_values (given_earlier reading items)))
     ≡ Ok values
 counted_again key table count text_of things reading values there counted read =
-    let items = map (λ x. string (text_of x)) things in
-    let many : (length items == count) ≡ true = eq-eqb _ _ (length-map things _ ∙ counted) in
-    then_read (items_at key table)
-    (λ items. demand (length items == count) (BadValue key) >> all_values (given_earlier reading items)) items _
-    (texts_at key table text_of things there)
-    (passing (length items == count) (BadValue key) _ _ many (reads_again reading [] items values read))
+    grind (arith, common_steps, eq-eqb, then_read, items_at, texts_at, passing, reads_again, read)
 
 -- items that are read as their values, whatever stands before them
 pub each_again : {A : Type 0} (reading : List Data → Data → Result A SheetFault) (item_of : A → Data) (P : A → Type 0)
@@ -89,36 +80,21 @@ each_again reading item_of P again earlier (x ∷ xs) all =
 letters_spelled : (letters : List ℕ) → AllByRecursion (λ letter. letter < 26) letters
     → (list_all is_capital (letters_text letters) ≡ true) × (letters_of (letters_text letters) ≡ letters)
 letters_spelled [] within = (refl, refl)
-letters_spelled (letter ∷ letters) within =
-    let rest = letters_spelled letters within.1 in
-    let low : nat_le 65 (letter + 65) ≡ true = le-leb 65 (letter + 65) (omega arith) in
-    let high : nat_le (letter + 65) 90 ≡ true = le-leb (letter + 65) 90 (omega (arith, within.0)) in
-    let back : letter + 65 - 65 ≡ letter = omega arith in
-    rw (low, high, rest.0, back, rest.1) (refl, refl)
+letters_spelled (letter ∷ letters) within = grind (arith, letters_spelled letters within.1, le-leb)
 
 pub capitals_again : (count : ℕ) (letters : List ℕ) → AreLetters count letters
     → capital_letters count (letters_text letters) ≡ Some letters
 capitals_again count letters are =
-    let spelled = letters_spelled letters (recursion_from_All _ letters are.within) in
-    let many : (length (letters_text letters) == count) ≡ true = eq-eqb _ _ (length-map letters _ ∙ are.count) in
-    rw (many, spelled.0, spelled.1) refl
+    grind (arith, common_steps, letters_spelled, recursion_from_All, eq-eqb)
 
 pub all_below : (limit : ℕ) (xs : List ℕ) → list_all (λ x. nat_lt x limit) xs ≡ true
     → AllByRecursion (λ x. x < limit) xs
 all_below limit [] e = tt
-all_below limit (x ∷ xs) e =
-    let both = and_parts (nat_lt x limit) (list_all (λ x. nat_lt x limit) xs) e in
-    (ltb-true x limit both.0, all_below limit xs both.1)
+all_below limit (x ∷ xs) e = grind (arith, nat_tests, all_below limit xs)
 
 ring_below : (wheel : ℕ) → list_all (λ letter. nat_lt letter 26) (ring_of wheel) ≡ true
 unfolding ring_of
-ring_below (suc zero) = refl
-ring_below (suc (suc zero)) = refl
-ring_below (suc (suc (suc zero))) = refl
-ring_below (suc (suc (suc (suc zero)))) = refl
-ring_below (suc (suc (suc (suc (suc zero))))) = refl
-ring_below (suc (suc (suc (suc (suc (suc zero)))))) = refl
-ring_below wheel = refl
+ring_below wheel = grind arith
 
 pub on_ring_below : (wheel letter : ℕ) → Contains (ring_of wheel) letter → letter < 26
 on_ring_below wheel letter on =
@@ -141,10 +117,7 @@ on_wheels_again (letter ∷ letters) first on =
 on_six_wheels : (letters : List ℕ) → AreOnWheels letters
     → (list_all (λ (numbered : ℕ × ℕ). has_letter (ring_of numbered.0) numbered.1) (enumerate_from 1 letters) ≡ true)
     × AllByRecursion (λ letter. letter < 26) letters
-on_six_wheels letters are =
-    on_wheels_again letters 1 (λ place letter at.
-    let wheel : suc place ≡ 1 + place = omega arith in
-    subst (λ w. Contains (ring_of w) letter) wheel (are.each (suc place) letter at))
+on_six_wheels letters are = on_wheels_again letters 1 (λ place letter at. grind (arith, are.each))
 
 pub wheels_letters_within : (letters : List ℕ) → AreOnWheels letters → AllByRecursion (λ letter. letter < 26) letters
 wheels_letters_within letters are = (on_six_wheels letters are).1
@@ -153,25 +126,15 @@ pub window_again : (window : List ℕ) → AreOnWheels window → letters_on_whe
 unfolding letters_on_wheels
 window_again window are =
     let on = on_six_wheels window are in
-    rw (
-      capitals_again 6 window
-          (record { count = are.count; within = All-from_recursion (λ letter. letter < 26) window on.1 }),
-      on.0,
-    ) refl
+    let letters : AreLetters 6 window = record { count = are.count; within = All-from_recursion _ window on.1 } in
+    rw (capitals_again 6 window letters, on.0) refl
 
 -- ---- reflector and wheels
 
 pub reflector_again : (model : Model) (reflector : Reflector) → has_reflector (reflectors_of model) reflector ≡ true
     → reflector_by_name model (reflector_text reflector) ≡ Some reflector
 unfolding reflector_by_name
-reflector_again EnigmaI reflectors.A has = refl
-reflector_again EnigmaI reflectors.B has = refl
-reflector_again EnigmaI reflectors.C has = refl
-reflector_again M3 reflectors.B has = refl
-reflector_again M3 reflectors.C has = refl
-reflector_again M4 reflectors.ThinB has = refl
-reflector_again M4 reflectors.ThinC has = refl
-reflector_again model reflector has = absurd (false≢true has)
+reflector_again model reflector e = grind arith
 
 -- the seat may stand in an array at the key
 abbrev pub MayStand : Key → Option Wheel → Type 0
@@ -183,12 +146,10 @@ seat_item seat = string (seat_text seat)
 
 seat_named : (seat : Option Wheel) → wheel_of_item (seat_item seat) ≡ seat
 unfolding wheel_of_item wheel_by_name
-seat_named None = refl
-seat_named (Some wheel) = wheel_by_name-text wheel
+seat_named seat = grind (arith, wheel_by_name-text)
 
 has_name : (wheel : Wheel) → (length (wheel_text wheel) == 0) ≡ false
-has_name I = refl
-has_name wheel = refl
+has_name wheel = grind arith
 
 stands_behind : {X : Type 0} (front rest : List X) (x : X) → slice_get (front ++ x ∷ rest) (length front) ≡ Some x
 stands_behind [] rest x = refl
@@ -254,12 +215,7 @@ cable_spelled : (key : Key) (cable : Option ℕ × Option ℕ) → MayPlug key c
     → AllByRecursion (λ letter. letter < 26) (cable_letters cable)
     → letters_of_item key (cable_item cable) ≡ Some (cable_letters cable)
 unfolding letters_of_item plugged_letters_in
-cable_spelled key cable may within =
-    let letters = cable_letters cable in
-    let spelled = letters_spelled letters within in
-    let count : may_have key (length (letters_text letters)) ≡ true =
-    subst (λ n. may_have key n ≡ true) (sym (length-map letters _)) may in
-    rw (count, spelled.0, spelled.1) refl
+cable_spelled key cable may within = grind (arith, letters_spelled, within)
 
 -- a letter that comes after others, none twice, is none of them
 at_joined : (P : ℕ → Type 0) (front : List ℕ) (letter : ℕ) (rest : List ℕ) → AllByRecursion P (front ++ letter ∷ rest)
@@ -278,9 +234,7 @@ new_letters : (plugged letters rest : List ℕ) → IsDistinct nat_eq (plugged +
     → are_new plugged letters ≡ true
 new_letters plugged [] rest apart = refl
 new_letters plugged (letter ∷ letters) rest apart =
-    let more : IsDistinct nat_eq ((plugged ++ letter ∷ []) ++ (letters ++ rest)) =
-    rw (append_assoc plugged (letter ∷ []) (letters ++ rest)) apart in
-    rw (new_behind plugged letter (letters ++ rest) apart, new_letters (plugged ++ letter ∷ []) letters rest more) refl
+    grind (arith, append_assoc, new_behind, new_letters (plugged ++ letter ∷ []) letters rest)
 
 pub all_parts : {X : Type 0} (P : X → Type 0) (xs ys : List X) → AllByRecursion P (xs ++ ys)
     → AllByRecursion P xs × AllByRecursion P ys
@@ -295,15 +249,9 @@ cables_again : (key : Key) (earlier : List Data) (plugged : List ℕ) (cables : 
 unfolding cable_for
 cables_again key earlier plugged [] so_far may within apart = tt
 cables_again key earlier plugged (cable ∷ cables) so_far may within apart =
+    let more = cables_again key (earlier ++ cable_item cable ∷ []) (plugged ++ cable_letters cable) cables in
     let parts = all_parts (λ letter. letter < 26) (cable_letters cable) (plugged_letters cables) within in
-    let letters = cable_spelled key cable may.0 parts.0 in
-    let new = new_letters plugged (cable_letters cable) (plugged_letters cables) apart in
-    let now : flat_map (plugged_by key) (earlier ++ cable_item cable ∷ []) ≡ plugged ++ cable_letters cable =
-    rw (flat_map-append, so_far, letters, append-nil) refl in (
-      rw (so_far, letters, new) refl,
-      cables_again key (earlier ++ cable_item cable ∷ []) (plugged ++ cable_letters cable) cables now may.1 parts.1
-          (rw (append_assoc plugged (cable_letters cable) (plugged_letters cables)) apart),
-    )
+    grind (arith, cable_spelled, new_letters, flat_map-append, append_assoc, append-nil, more)
 
 pub all_cables_again : (key : Key) (cables : List (Option ℕ × Option ℕ)) → length cables ≤ 13
     → AllByRecursion (MayPlug key) cables → AllByRecursion (λ letter. letter < 26) (plugged_letters cables)
@@ -327,25 +275,7 @@ pub pins_in_again : (table : Members) (pins : PinSet)
     → value_at keys.Pins table ≡ Ok (texts (λ text. text) (pin_texts pins))
     → HasAllPins pins → pins_in table ≡ Ok pins
 unfolding pins_in pins_of_item
-pins_in_again table pins there fit =
-    let items = map (λ text. string text) (pin_texts pins) in
-    let back : (wheel : ℕ) (pins : List Bool) → length pins ≡ length (ring_of wheel)
-    → pins_of_item (ring_of wheel) (string (pins_text (ring_of wheel) pins)) ≡ Ok pins =
-    λ wheel pins same. ap (λ found. ok_or found (BadValue keys.Pins)) (pins_back wheel pins same) in
-    let all = pins.w1 ∷ pins.w2 ∷ pins.w3 ∷ pins.w4 ∷ pins.w5 ∷ pins.w6 ∷ [] in
-    let read : Reads pins_behind [] items all = (
-      back 1 pins.w1 (fit 1),
-      (
-        back 2 pins.w2 (fit 2),
-        (back 3 pins.w3 (fit 3), (back 4 pins.w4 (fit 4), (back 5 pins.w5 (fit 5), (back 6 pins.w6 (fit 6), tt)))),
-      ),
-    ) in
-    then_read (items_at keys.Pins table)
-    (λ items. demand (length items == 6) (BadValue keys.Pins) >>
-    (all_values (given_earlier pins_behind items) >>= (λ pins. Ok (pin_set pins)))) items _
-    (texts_at keys.Pins table (λ text. text) (pin_texts pins) there)
-    (then_read (all_values (given_earlier pins_behind items)) (λ pins. Ok (pin_set pins)) all _
-    (reads_again pins_behind [] items all read) refl)
+pins_in_again table pins there fit = grind (arith, pins_back, fit, then_read, items_at, texts_at, reads_again)
 
 -- a text finds the standing that has it, if the left lug's place is the first
 abbrev Found : Place → Place → Type 0
@@ -354,9 +284,7 @@ Found left right = standing_by_text (standing_text (left, right))
 
 standing_found : (left right : Place) → Found left right
 unfolding standing_by_text
-standing_found One right = elim right as (λ place. Found One place) [ One ↦ refl | _ ↦ refl ]
-standing_found left right = elim right as (λ place. Found left place) [ One ↦ refl | _ ↦ refl ]
+standing_found left right = grind arith
 
 pub standing_again : (bar : Place × Place) → IsBefore bar.0 bar.1 → standing_by_text (standing_text bar) ≡ Some bar
-standing_again bar before =
-    standing_found bar.0 bar.1 ∙ rw (lt-ltb (place_rank bar.0) (place_rank bar.1) before) refl
+standing_again bar before = grind (arith, standing_found, lt-ltb, before)

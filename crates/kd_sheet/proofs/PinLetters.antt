@@ -18,10 +18,7 @@ has_letter_found letters letter found = Contains-from_any {eq = λ q other. nat_
 behind_on_wheels : (letters : List ℕ) (first place letter : ℕ) → list_all (λ (n : ℕ × ℕ). has_letter (ring_of n.0) n.1) (enumerate_from first letters) ≡ true
     → slice_get letters place ≡ Some letter → has_letter (ring_of (first + place)) letter ≡ true
 behind_on_wheels [] first place letter all here = absurd (none-some _ here)
-behind_on_wheels (other ∷ letters) first zero letter all here =
-    let parts = and_parts (has_letter (ring_of first) other) (list_all (λ (n : ℕ × ℕ). has_letter (ring_of n.0) n.1) (enumerate_from (first + 1) letters)) all in
-    let same : first + 0 ≡ first = omega arith in
-    rw (same, ← same_Some _ _ here) parts.0
+behind_on_wheels (other ∷ letters) first zero letter all here = grind (arith, same_Some)
 behind_on_wheels (other ∷ letters) first (suc place) letter all here =
     let parts = and_parts (has_letter (ring_of first) other) (list_all (λ (n : ℕ × ℕ). has_letter (ring_of n.0) n.1) (enumerate_from (first + 1) letters)) all in
     let same : first + suc place ≡ first + 1 + place = omega arith in

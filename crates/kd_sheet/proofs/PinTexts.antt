@@ -1,4 +1,5 @@
 -- The letters of effective pins.
+use Rattle.std.proofs.lemmas.Grind.{common_steps}
 use Rattle.std.proofs.Common.{◌≡◌, ℕ, ◌+◌, ◌<◌, Bool, List, [], ◌∷◌, ◌++◌, length, take, get_or, sym, ap, ◌∙◌, arith}
 use Rattle.std.proofs.lemmas.List.{append_assoc, append-nil, take_more, length-take-le}
 use Rattle.kd_sheet.specs.MachineText.{pin_text, pins_text}
@@ -18,8 +19,4 @@ pub pins_more : (before text after : List ℕ) (letters : List ℕ) (pins : List
     → letter ≡ get_or letters place letter → text ≡ before ++ pins_text (take place letters) (take place pins) → after ≡ text ++ pin_text letter (get_or pins place e)
     → after ≡ before ++ pins_text (take (place + 1) letters) (take (place + 1) pins)
 pins_more before text after letters pins place letter e left same here so_far put =
-    let long : length (take place pins) ≡ length (take place letters) = length-take-le place pins (omega arith) ∙ sym (length-take-le place letters (omega arith)) in
-    let pin : Bool = get_or pins place e in
-    let more : pins_text (take (place + 1) letters) (take (place + 1) pins) ≡ pins_text (take place letters) (take place pins) ++ pin_text letter pin =
-    pins_same (take_more letters place letter left ∙ ap (λ x. take place letters ++ x ∷ []) (sym here)) (take_more pins place e (omega arith)) ∙ pins_push (take place letters) (take place pins) letter pin long in
-    put ∙ ap (λ bytes. bytes ++ pin_text letter pin) so_far ∙ append_assoc before (pins_text (take place letters) (take place pins)) (pin_text letter pin) ∙ ap (λ rest. before ++ rest) (sym more)
+    grind (arith, common_steps, length-take-le, pins_same, take_more, pins_push, append_assoc, before)

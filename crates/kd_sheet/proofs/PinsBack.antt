@@ -1,5 +1,5 @@
 -- The text of a wheel's effective pins is read as these pins.
-use Rattle.std.proofs.Common.{◌≡◌, ℕ, suc, zero, ◌+◌, nat_eq, ◌==◌, Bool, true, false, not, ◌&&◌, cond, List, [], ◌∷◌, ◌++◌, length, map, Some, inl, inr, refl, sym, ap, ◌∙◌, arith}
+use Rattle.std.proofs.Common.{◌≡◌, ℕ, ◌+◌, nat_eq, ◌==◌, Bool, true, false, not, ◌&&◌, cond, List, [], ◌∷◌, ◌++◌, length, map, Some, inl, inr, refl, sym, ap, ◌∙◌, arith}
 use Rattle.std.specs.List.{list_all, count_by}
 use Rattle.std.proofs.lemmas.Bool.{cases_Bool, both_ways, and_parts, or_parts, not-true, eqb-true, ne_eqb}
 use Rattle.std.proofs.lemmas.Bool.Decides.{nat_tests}
@@ -16,13 +16,7 @@ are_apart (letter ∷ letters) = not (has_letter letters letter) && are_apart le
 
 pub letters_apart : (wheel : ℕ) → are_apart (ring_of wheel) ≡ true
 unfolding ring_of
-letters_apart (suc zero) = refl
-letters_apart (suc (suc zero)) = refl
-letters_apart (suc (suc (suc zero))) = refl
-letters_apart (suc (suc (suc (suc zero)))) = refl
-letters_apart (suc (suc (suc (suc (suc zero))))) = refl
-letters_apart (suc (suc (suc (suc (suc (suc zero)))))) = refl
-letters_apart wheel = refl
+letters_apart wheel = grind arith
 
 -- whether the pin at the letter is effective
 abbrev is_set : List ℕ → List Bool → ℕ → Bool
@@ -133,12 +127,7 @@ each_byte test (x ∷ ring) (pin ∷ pins) apart each =
 
 is_on_ring : (ring : List ℕ) (letter : ℕ) → has_letter ring letter ≡ true → is_on ring (letter + 65) ≡ true
 is_on_ring [] letter has = has
-is_on_ring (x ∷ ring) letter has = elim (cases_Bool (nat_eq x letter)) [
-  | inl e ↦ let here : (x + 65 == letter + 65) ≡ true = grind (arith, nat_tests) in rw here refl
-  | inr e ↦
-      let other : (x + 65 == letter + 65) ≡ false = grind (arith, nat_tests) in
-      rw other (is_on_ring ring letter (rw e at has))
-]
+is_on_ring (x ∷ ring) letter has = grind (arith, cases_Bool)
 
 pub pins_back : (wheel : ℕ) (pins : List Bool) → length pins ≡ length (ring_of wheel)
     → pins_of_text (ring_of wheel) (pins_text (ring_of wheel) pins) ≡ Some pins

@@ -1,27 +1,20 @@
 -- Rings that stand as numbers, and values that are no rings.
-use Rattle.std.proofs.Common.{◌≡◌, ℕ, ◌+◌, ◌<◌, true, false, List, length, take, get_or, map, Some, None, is_some, refl, sym, ap, ◌∙◌, arith}
+use Rattle.std.proofs.Common.{◌≡◌, ℕ, ◌+◌, ◌<◌, true, false, List, length, take, get_or, map, Some, None, is_some, refl, arith}
 use Rattle.std.specs.List.{list_all}
 use Rattle.std.proofs.Math.Bool.{and-false}
 use Rattle.std.proofs.lemmas.List.{length-map}
 use Rattle.std.proofs.lemmas.List.Folds.{list_all_more, list_all_at}
 use Rattle.std.proofs.lemmas.Option.{none-some, same_Some}
-use Rattle.toml.specs.Data.{Data, string, integer, float, boolean, datetime, array, table, as_array}
+use Rattle.toml.specs.Data.{Data, as_array}
 use Rattle.toml.specs.View.{view, items_of}
 use Rattle.toml.specs.declared.value.Value.{Value}
-use Rattle.kd_sheet.specs.Document.{list_of}
 use Rattle.kd_sheet.specs.Numbers.{numbered_letter, numbered_letters}
 use Rattle.kd_sheet.specs.SheetFile.{rings_of}
 use Rattle.kd_sheet.proofs.Documents.{list_of-items_of, viewed_at}
 
 -- the rings of an array are its numbers
 pub rings_of_array : (count : ℕ) (value : Data) (items : List Data) → Some (items_of items) ≡ as_array value → rings_of count value ≡ numbered_letters count items
-rings_of_array count (string text) items some = absurd (none-some _ (sym some))
-rings_of_array count (integer number) items some = absurd (none-some _ (sym some))
-rings_of_array count (float number) items some = absurd (none-some _ (sym some))
-rings_of_array count (boolean flag) items some = absurd (none-some _ (sym some))
-rings_of_array count (datetime date) items some = absurd (none-some _ (sym some))
-rings_of_array count (array found) items some = ap (numbered_letters count) (ap list_of (sym (same_Some _ _ some)) ∙ list_of-items_of items)
-rings_of_array count (table entries) items some = absurd (none-some _ (sym some))
+rings_of_array count value items e = grind (arith, none-some, same_Some, list_of-items_of)
 
 -- one more item that names a letter
 pub all_numbers_more : (items : List Value) (place : ℕ) (item : Value) (letter : ℕ) → place < length items → item ≡ get_or items place item → Some letter ≡ numbered_letter (view item)

@@ -1,5 +1,5 @@
 -- One more slot to the right of those that are filled.
-use Rattle.std.proofs.Common.{◌≡◌, ℕ, zero, suc, ◌+◌, ◌<◌, List, [], ◌∷◌, ◌++◌, length, take, get_or, set, map, Contains, slice_get, Option, Some, IfSome, ◌⊎◌, inl, inr, refl, sym, ap, ◌∙◌, arith}
+use Rattle.std.proofs.Common.{◌≡◌, ℕ, zero, suc, ◌+◌, ◌<◌, List, [], ◌∷◌, ◌++◌, length, take, get_or, set, map, Contains, slice_get, Option, Some, IfSome, ◌⊎◌, inl, inr, refl, arith}
 use Rattle.std.proofs.lemmas.List.{length-map, map_push, take_more, take_more_set}
 use Rattle.std.proofs.lemmas.Option.{none-some, same_Some, slice_get_within, get_or_from_slice_get}
 use Rattle.toml.specs.View.{view}
@@ -16,19 +16,11 @@ pub push_cases : {A : Type 0} (xs : List A) (y : A) (place : ℕ) (x : A) → sl
 push_cases [] y zero x h = inr (refl, same_Some _ _ h)
 push_cases [] y (suc place) x h = absurd (none-some _ h)
 push_cases (z ∷ xs) y zero x h = inl h
-push_cases (z ∷ xs) y (suc place) x h =
-    elim (push_cases xs y place x h) [
-      | inl among ↦ inl among
-      | inr last ↦ inr (ap suc last.0, last.1)
-    ]
+push_cases (z ∷ xs) y (suc place) x h = grind (arith, push_cases xs y place x h)
 
 -- an allowed seat more
 pub AreAllowed-push : (model : Model) (slots : List (Option Wheel)) (seat : Option Wheel) → AreAllowed model slots → IfSome seat (λ wheel. IsAllowed model (length slots + 1) wheel) → AreAllowed model (slots ++ seat ∷ [])
-AreAllowed-push model slots seat before new place wheel stands =
-    elim (push_cases slots seat place (Some wheel) stands) [
-      | inl among ↦ before place wheel among
-      | inr last ↦ rw last.0 (rw last.1 at new)
-    ]
+AreAllowed-push model slots seat before new place wheel stands = grind (arith, push_cases, before)
 
 -- what stands at a place is among the slots
 stands_among : (slots : List (Option Wheel)) (place : ℕ) (wheel : Wheel) → StandsAt slots place wheel → Contains slots (Some wheel)
@@ -36,17 +28,7 @@ stands_among slots place wheel stands = (place, slice_get_within slots place (So
 
 -- a seat more, of a wheel that is not seated
 pub AreApart-push : (slots : List (Option Wheel)) (seat : Option Wheel) → AreApart slots → IfSome seat (λ wheel. ¬ Contains slots (Some wheel)) → AreApart (slots ++ seat ∷ [])
-AreApart-push slots seat before new place other wheel stands again =
-    elim (push_cases slots seat place (Some wheel) stands) [
-      | inl among ↦ elim (push_cases slots seat other (Some wheel) again) [
-        | inl beside ↦ before place other wheel among beside
-        | inr last ↦ absurd ((rw last.1 at new) (stands_among slots place wheel among))
-      ]
-      | inr first ↦ elim (push_cases slots seat other (Some wheel) again) [
-        | inl beside ↦ absurd ((rw first.1 at new) (stands_among slots other wheel beside))
-        | inr last ↦ first.0 ∙ sym last.0
-      ]
-    ]
+AreApart-push slots seat before new place other wheel stands again = grind (arith, push_cases, before, stands_among)
 
 -- a slot more that is filled by what an item names
 pub named_more : (slots : List (Option Wheel)) (items : List Value) (place : ℕ) (item : Value) (seat : Option Wheel) → place < length slots → place < length items → item ≡ get_or items place item

@@ -1,10 +1,9 @@
 -- The days of a sheet are what its entries describe.
-use Rattle.std.proofs.Common.{◌≡◌, ℕ, zero, suc, ◌<◌, ◌==◌, ◌||◌, Bool, true, false, List, [], ◌∷◌, ◌++◌, length, filter_map, find, get_or, Contains, Some, None, Ok, ok_or, refl, sym, ap, ◌∙◌, inl, inr, subst, arith}
+use Rattle.std.proofs.Common.{◌≡◌, ℕ, zero, suc, ◌<◌, ◌==◌, Bool, false, List, [], ◌∷◌, ◌++◌, length, filter_map, find, get_or, Contains, Some, Ok, ok_or, refl, sym, ap, ◌∙◌, inl, inr, subst, arith, rules}
 use Rattle.std.specs.List.{list_any}
-use Rattle.std.proofs.lemmas.Bool.{cases_Bool, eqb-true, eq-eqb, or_parts}
+use Rattle.std.proofs.lemmas.Bool.{cases_Bool, eqb-true, or_parts}
 use Rattle.std.proofs.lemmas.List.Elements.{filter_map-append}
 use Rattle.std.proofs.lemmas.List.Folds.{list_any-append}
-use Rattle.std.proofs.lemmas.List.FromFn.{length-map-range_with_len}
 use Rattle.std.proofs.lemmas.Option.{none-some, same_Some, slice_get_cases}
 use Rattle.toml.specs.Data.{Data, table, Members, as_table}
 use Rattle.kd_state.specs.SheetDay.{Day, IsDayNumber, day_number}
@@ -25,8 +24,7 @@ record IsEntry (taken : List ℕ) (item : Data) (day : Day) : Type 0 where
   tells : Tells taken entry day
 
 table_there : (item : Data) (entry : Members) → as_table item ≡ Some entry → item ≡ table entry
-table_there (table found) entry e = ap table (same_Some _ _ e)
-table_there item entry e = absurd (none-some entry e)
+table_there item entry e = grind (arith, same_Some, none-some)
 
 entry_read : (taken : List ℕ) (item : Data) (day : Day) → day_for taken item ≡ Ok day → IsEntry taken item day
 unfolding day_for
@@ -78,14 +76,7 @@ same_table e = cc
 grow : (earlier : List Data) (item : Data) (first number : ℕ) → number_of_item item ≡ Some first
     → list_any (λ other. other == number) (filter_map number_of_item (earlier ++ item ∷ [])) ≡ false
     → (list_any (λ other. other == number) (filter_map number_of_item earlier) ≡ false) × ((first == number) ≡ false)
-grow earlier item first number is none =
-    let all = sym (ap (list_any (λ other. other == number)) (filter_map-append number_of_item earlier (item ∷ [])))
-    ∙ none in
-    let split = sym (list_any-append (λ other. other == number) (filter_map number_of_item earlier)
-    (filter_map number_of_item (item ∷ []))) ∙ all in
-    let parts = or_parts _ _ split in
-    let last : ((first == number) || false) ≡ false = rw is at parts.1 in
-    (parts.0, (or_parts (first == number) false last).0)
+grow earlier item first number is none = search (rules, filter_map-append, list_any-append, filter_map, or_parts)
 
 -- and the day of the number is that one, since no earlier entry has the number
 found_first : (earlier items : List Data) (days : List Day) (place : ℕ) (entry : Members) (day : Day)
@@ -95,14 +86,7 @@ found_first : (earlier items : List Data) (days : List Day) (place : ℕ) (entry
     × (list_any (λ other. other == day_number day) (filter_map number_of_item earlier) ≡ false)
 found_first earlier [] days place entry day r within here is = absurd (omega arith)
 found_first earlier (item ∷ items) (first ∷ days) zero entry day r within here is =
-    let read = entry_read _ item first r.0 in
-    let one : read.entry ≡ entry = same_table (sym read.is ∙ here) in
-    let same : first ≡ day = same_found _ _ (sym read.tells.alone ∙ ap (day_in []) one ∙ is) in
-    let test : has (day_number day) first ≡ true = eq-eqb _ _ (ap day_number same) in (
-      rw test (ap Some same),
-      subst
-          (λ d. list_any (λ other. other == day_number d) (filter_map number_of_item earlier) ≡ false) same read.tells.free,
-    )
+    grind (arith, entry_read _ item first r.0, filter_map number_of_item earlier)
 found_first earlier (item ∷ items) (first ∷ days) (suc place) entry day r within here is =
     let read = entry_read _ item first r.0 in
     let rest = found_first (earlier ++ item ∷ []) items days place entry day r.1 (omega arith) here is in
@@ -114,12 +98,7 @@ found_first earlier items days place entry day r within here is = absurd r
 within_month : (days : List Day) (number : ℕ) (day : Day) → day_of (month_of days) number ≡ Some day
     → IsDayNumber number
 within_month days zero day e = absurd (none-some day e)
-within_month days (suc place) day e =
-    let long : length (month_of days) ≡ 31 = length-map-range_with_len (λ n. find (has n) days) 1 31 in
-    elim (slice_get_cases (month_of days) place).1 [
-      | inl (found, within, at, _) ↦ record { first = omega arith; last = omega (arith, within, long) }
-      | inr (past, none) ↦ let nothing : None ≡ Some day = rw none at e in absurd (none-some day nothing)
-    ]
+within_month days (suc place) day e = grind (arith, slice_get_cases (month_of days) place)
 
 pub days_are_the_entries : DaysAreTheEntries
 unfolding sheet_in

@@ -2,11 +2,7 @@
 use Rattle.std.proofs.Common.{◌≤◌, arith}
 use Rattle.kd_tables.specs.Tables.{slots_of}
 use Rattle.kd_tables.specs.declared.model.Model.{Model}
-use Rattle.kd_tables.specs.declared.model.Model.TheVariants.{EnigmaI, M3, M4, M209}
 
 -- no model has more than four
 pub few_slots : (model : Model) → slots_of model ≤ 4
-few_slots EnigmaI = omega arith
-few_slots M3 = omega arith
-few_slots M4 = omega arith
-few_slots M209 = omega arith
+few_slots model = grind arith

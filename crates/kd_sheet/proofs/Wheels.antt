@@ -1,7 +1,6 @@
 -- Wheels told apart, and which of them are among others.
-use Rattle.std.proofs.Common.{◌≡◌, List, Contains, Decides, Option, Some, None, sym, ap, ◌∙◌, refl}
+use Rattle.std.proofs.Common.{◌≡◌, List, Contains, Decides, Option, Some, sym, ap, ◌∙◌, refl, arith}
 use Rattle.std.specs.List.{list_any}
-use Rattle.std.proofs.lemmas.Bool.{false≢true}
 use Rattle.std.proofs.lemmas.Bool.Decides.{Decides-by_or, Decides-like}
 use Rattle.std.proofs.lemmas.List.Elements.{Decides-contains}
 use Rattle.std.proofs.lemmas.Option.{same_Some}
@@ -19,14 +18,11 @@ wheel_of_name wheel other e = same_Some _ _ (sym (wheel_by_name-text wheel) ∙ 
 
 -- the test of two wheels
 same_wheel-Decides : (wheel other : Wheel) → Decides (same_wheel wheel other) (wheel ≡ other)
-same_wheel-Decides wheel other =
-    let names = bytes_eq-Decides (wheel_text wheel) (wheel_text other) in
-    (λ e. wheel_of_name wheel other (names.0 e), λ e. names.1 (ap wheel_text e))
+same_wheel-Decides wheel other = grind (arith, bytes_eq-Decides, wheel_of_name)
 
 -- a seat holds the wheel
 holds-Decides : (wheel : Wheel) (seat : Option Wheel) → Decides (holds wheel seat) (seat ≡ Some wheel)
-holds-Decides wheel None = (λ e. absurd (false≢true e), λ e. cc)
-holds-Decides wheel (Some other) = Decides-like _ (λ e. ap Some (sym e)) (λ e. sym (same_Some _ _ e)) (same_wheel-Decides wheel other)
+holds-Decides wheel seat = grind (arith, Decides-like, same_Some, same_wheel-Decides)
 
 -- some slot seats the wheel
 pub is_seated-Decides : (slots : List (Option Wheel)) (wheel : Wheel) → Decides (is_seated slots wheel) (Contains slots (Some wheel))

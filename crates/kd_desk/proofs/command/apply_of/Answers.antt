@@ -1,12 +1,11 @@
-use Rattle.kd_desk.proofs.Prelude.{rules, codes, refl, found_of, rows_of}
+use Rattle.std.proofs.Common.{arith}
+use Rattle.kd_desk.proofs.Prelude.{rules, codes, refl, found_of}
 use Rattle.kd_desk.proofs.CommandLines.{read_none, read_some}
 use Rattle.kd_desk.proofs.SaidCommands.{no_list}
 use Rattle.kd_desk.proofs.command.apply_of.Goals as goal
 
 pub returns-in_err-list-clause-none : goal.returns-in_err-list-clause-none
-returns-in_err-list-clause-none c =
-    let found = found_of c.args.words.now in
-    λ _. no_list (rows_of found) (read_none found (codes "LIST") c.get_str.result c.get_str.ensures (search rules))
+returns-in_err-list-clause-none c = grind (arith, no_list, read_none)
 
 pub returns-clause-said : goal.returns-clause-said
 returns-clause-said c =

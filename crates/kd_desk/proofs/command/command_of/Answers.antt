@@ -1,12 +1,11 @@
-use Rattle.kd_desk.proofs.Prelude.{codes, rules, found_of, rows_of}
+use Rattle.std.proofs.Common.{arith}
+use Rattle.kd_desk.proofs.Prelude.{codes, rules, found_of}
 use Rattle.kd_desk.proofs.CommandLines.{read_none, read_some}
 use Rattle.kd_desk.proofs.SaidCommands.{no_machine}
 use Rattle.kd_desk.proofs.command.command_of.Goals as goal
 
 pub returns-in_err-machine-clause-none : goal.returns-in_err-machine-clause-none
-returns-in_err-machine-clause-none c =
-    let found = found_of c.args.words.now in
-    λ _. no_machine (c.args.name.now, rows_of found) (read_none found (codes "MACHINE") c.get_str.result c.get_str.ensures (search rules))
+returns-in_err-machine-clause-none c = grind (arith, no_machine, read_none)
 
 pub returns-clause-said : goal.returns-clause-said
 returns-clause-said c =

@@ -1,20 +1,16 @@
+use Rattle.std.proofs.Common.{arith}
 use Rattle.kd_desk.proofs.Prelude.{rules, Some, codes, ap, ◌∙◌, found_of}
 use Rattle.kd_desk.proofs.CommandLines.{read_some, no_word, other_word}
 use Rattle.kd_desk.proofs.command.day_of.Goals as goal
 
 pub returns-in_err-sheet-clause-none : goal.returns-in_err-sheet-clause-none
-returns-in_err-sheet-clause-none c =
-    λ _ sheet day have. no_word (found_of c.args.words.now) (codes "SHEET") c.get_str.result c.get_str.ensures (search rules) sheet have.sheet_word
+returns-in_err-sheet-clause-none c = grind (arith, no_word)
 
 pub returns-in_err-get_str-clause-none : goal.returns-in_err-get_str-clause-none
-returns-in_err-get_str-clause-none c =
-    λ _ sheet day have. no_word (found_of c.args.words.now) (codes "DAY") c.get_str-2.result c.get_str-2.ensures (search rules) _ have.day_word
+returns-in_err-get_str-clause-none c = grind (arith, no_word)
 
 pub returns-in_err-day-clause-none : goal.returns-in_err-day-clause-none
-returns-in_err-day-clause-none c =
-    λ _ sheet day have.
-    other_word (found_of c.args.words.now) (codes "DAY") c.get_str-2.result c.in_ok-get_str.field-0 c.get_str-2.ensures (search rules) (c.day_number.ensures.none (search rules))
-    day have.of_month have.day_word
+returns-in_err-day-clause-none c = grind (arith, other_word, c.day_number.ensures.none)
 
 pub returns-clause-said : goal.returns-clause-said
 returns-clause-said c =

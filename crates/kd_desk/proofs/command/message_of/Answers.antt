@@ -1,3 +1,4 @@
+use Rattle.std.proofs.Common.{arith}
 use Rattle.kd_desk.proofs.Prelude.{ap, refl, rules, sym, ◌∙◌, first_of, found_of, rows_of}
 use Rattle.kd_desk.proofs.CommandLines.{read_none, read_some}
 use Rattle.kd_desk.proofs.SaidCommands.{no_day_of_message, no_message}
@@ -7,10 +8,7 @@ pub returns-in_err-sheet-clause-none : goal.returns-in_err-sheet-clause-none
 returns-in_err-sheet-clause-none c = λ _. no_day_of_message c.args.way (rows_of (found_of c.args.words.now)) (c.in_err-sheet.ensures.none refl)
 
 pub returns-in_err-file-clause-none : goal.returns-in_err-file-clause-none
-returns-in_err-file-clause-none c =
-    let found = found_of c.args.words.now in
-    λ _. no_message c.args.way (rows_of found)
-    (ap (λ word. first_of word (rows_of found)) (sym c.word.ensures) ∙ read_none found c.word.result.now c.get_str.result c.get_str.ensures (search rules))
+returns-in_err-file-clause-none c = grind (arith, no_message, read_none)
 
 pub returns-clause-said : goal.returns-clause-said
 returns-clause-said c =

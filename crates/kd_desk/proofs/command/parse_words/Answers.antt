@@ -1,12 +1,12 @@
 use Rattle.kd_desk.proofs.Prelude.{map, ℕ, List, Err, sym, ◌∙◌, Row, app_of, found_of, rows_of, named, IsOf, Says}
-use Rattle.kd_desk.proofs.CommandLines.{parse_fails_by, parse_takes, parse_enters, no_fault_said, no_subcommand_said, subcommand_said, said_subcommand, paired, usage_refused, no_entered, ok_said, no_command_of, usage_or_said}
+use Rattle.kd_desk.proofs.CommandLines.{parse_fails_by, parse_takes, parse_enters, no_fault_said, no_subcommand_said, subcommand_said, said_subcommand, paired, no_entered, ok_said, no_command_of, usage_or_said}
 use Rattle.kd_desk.proofs.command.parse_words.Goals as goal
 
 pub returns-in-Err-clause-usage : goal.returns-in-Err-clause-usage
 returns-in-Err-clause-usage g c =
     let words = map g.S.AsStr.text c.args.words.now in
     λ usage. no_fault_said words c.in-Err.error (parse_fails_by (app_of c.in_ok-grammar.field-0) words (Err c.in-Err.error) c.in_ok-grammar.ensures c.in-Err.ensures.kinds)
-    (λ memory. usage_refused c.stop.result _ (c.stop.ensures.memory memory) usage)
+    (λ memory. cc (c.stop.ensures.memory memory))
 
 pub returns-in_default-clause-usage : goal.returns-in_default-clause-usage
 returns-in_default-clause-usage g c =

@@ -1,26 +1,18 @@
-use Rattle.kd_desk.proofs.Prelude.{ap, refl, sym, ◌∙◌, with_action_opened, opened}
-use Rattle.kd_desk.specs.declared.command.Action.TheVariants as actions
+use Rattle.kd_desk.proofs.Prelude.{refl}
 use Rattle.kd_desk.proofs.Failing.{sink_fails}
-use Rattle.kd_desk.proofs.Runs.{nothing_left, command_done}
+use Rattle.kd_desk.proofs.Runs.{nothing_left}
 use Rattle.kd_desk.proofs.program.carry_out.Goals as goal
 
 pub returns-in-Type-clause-does : goal.returns-in-Type-clause-does
 returns-in-Type-clause-does g c =
     let run = c.run_type.ensures in
-    command_done _ _ _ _ c.as_slice-machine.result.now _ actions.Type c.as_slice-machine.ensures
-    (ap (with_action_opened (opened g.O.Source.remaining g.O.Source.has_failed)) c.in-Type.is)
-    (record {
-      left = nothing_left;
-      told = c.run_type.result;
-      does = record { refused = run.refused; typed = run.typed };
-      answers = c.after.ensures;
-    })
+    rw (c.in-Type.is, ← c.as_slice-machine.ensures)
+    (record { left = nothing_left; told = c.run_type.result; does = record { refused = run.refused; typed = run.typed }; answers = c.after.ensures })
 
 pub returns-in-Apply-clause-does : goal.returns-in-Apply-clause-does
 returns-in-Apply-clause-does g c =
     let run = c.run_apply.ensures in
-    command_done _ _ _ _ c.as_slice-machine.result.now _ (actions.Apply c.as_slice.result.now) c.as_slice-machine.ensures
-    (ap (with_action_opened (opened g.O.Source.remaining g.O.Source.has_failed)) c.in-Apply.is ∙ ap (λ list. actions.Apply list) (sym c.as_slice.ensures))
+    rw (c.in-Apply.is, ← c.as_slice-machine.ensures, ← c.as_slice.ensures)
     (record {
       left = nothing_left;
       told = c.run_apply.result;

@@ -1,5 +1,4 @@
 use Rattle.kd_desk.proofs.Days.{not_found, on_day}
-use Rattle.kd_desk.proofs.Printing.{printed_for}
 use Rattle.kd_desk.proofs.run_card.run_card.Goals as goal
 
 pub returns-in_err-machine-clause-card : goal.returns-in_err-machine-clause-card
@@ -8,4 +7,4 @@ returns-in_err-machine-clause-card g c =
 
 pub returns-clause-card : goal.returns-clause-card
 returns-clause-card g c =
-    on_day _ _ _ _ _ _ _ c.in_ok-machine.ensures.day (printed_for _ _ _ _ _ _ c.in_ok-machine.ensures.number c.print_card.ensures.prints)
+    on_day _ _ _ _ _ _ _ c.in_ok-machine.ensures.day (rw c.in_ok-machine.ensures.number at c.print_card.ensures.prints)

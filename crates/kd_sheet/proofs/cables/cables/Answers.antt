@@ -1,8 +1,7 @@
-use Rattle.std.proofs.Common.{◌-◌, ◌<◌, length, Ok, arith, rules, length-set, refl, sym, ap, ◌∙◌}
+use Rattle.std.proofs.Common.{◌-◌, ◌<◌, length, arith, rules, length-set, refl}
 use Rattle.std.proofs.lemmas.List.{take_more_set}
 use Rattle.std.proofs.lemmas.List.Elements.{All-append, All-nil}
-use Rattle.kd_sheet.specs.Cables.{cable_behind, thirteen}
-use Rattle.kd_sheet.specs.Document.{◌>>=◌}
+use Rattle.kd_sheet.specs.Cables.{cable_behind}
 use Rattle.kd_sheet.proofs.CableLetters.{no_letter_twice, plugged_letters-push, plugged_more, distinct_new, empty_fewer, all_thirteen, plugged_letters-take}
 use Rattle.kd_sheet.proofs.Earlier.{read_more, read_stops, read_all}
 use Rattle.kd_sheet.proofs.cables.cables.Goals as goal
@@ -38,9 +37,7 @@ returns-in_err-cable-clause-value c =
     rw (read_stops (cable_behind c.args.key) _ _ _ _ _ left c.index-items-place.is found c.loop-place.invariant.read) (search rules)
 
 pub returns-clause-value : goal.returns-clause-value
-returns-clause-value c =
-    sym (ap (λ answer. answer >>= (λ cables. Ok (thirteen cables))) (read_all (cable_behind c.args.key) _ _ _ (omega arith) c.loop-place.invariant.read)
-    ∙ ap Ok (all_thirteen _ _ c.loop-place.invariant.count (omega arith) c.loop-place.invariant.empty))
+returns-clause-value c = grind (arith, read_all, all_thirteen)
 
 pub returns-clause-plugged : goal.returns-clause-plugged
 returns-clause-plugged c =

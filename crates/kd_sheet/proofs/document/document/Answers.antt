@@ -1,4 +1,4 @@
-use Rattle.std.proofs.Common.{sym}
+use Rattle.std.proofs.Common.{sym, arith}
 use Rattle.kd_sheet.proofs.Documents.{document_parsed, document_refused}
 use Rattle.kd_sheet.proofs.document.document.Goals as goal
 
@@ -6,5 +6,4 @@ pub returns-in-Ok : goal.returns-in-Ok
 returns-in-Ok c = sym (document_parsed _ _ c.in-Ok.ensures.ok.0 c.in-Ok.ensures.ok.1)
 
 pub returns-in-Err-2 : goal.returns-in-Err-2
-returns-in-Err-2 c =
-    sym (document_refused _ (c.in-Err.ensures.refused (λ memory. let told = c.is_memory.ensures.1 memory in cc c.if-is_memory.false)))
+returns-in-Err-2 c = grind (arith, document_refused, c.in-Err.ensures.refused, c.is_memory.ensures.1)

@@ -1,4 +1,4 @@
-use Rattle.std.proofs.Common.{◌<◌, length, arith, rules, length-set, sym}
+use Rattle.std.proofs.Common.{◌<◌, length, arith, rules, length-set}
 use Rattle.std.proofs.lemmas.List.{take_all, take_more_set}
 use Rattle.std.proofs.lemmas.List.Elements.{All-push}
 use Rattle.kd_tables.specs.Places.{IsBefore}
@@ -25,6 +25,4 @@ returns-in_err-standing-clause-value c =
     rw (read_stops standing_for _ _ _ _ _ left c.index-items-place.is found c.loop-place.invariant.read) (search rules)
 
 pub returns-clause-value : goal.returns-clause-value
-returns-clause-value c =
-    let whole = take_all c.loop-place.place c.loop-place.bars (omega arith) in
-    sym (read_all standing_for _ _ _ (omega arith) (rw whole at c.loop-place.invariant.read))
+returns-clause-value c = grind (arith, take_all, read_all)

@@ -1,4 +1,4 @@
-use Rattle.std.proofs.Common.{◌<◌, length, map, ◌∙◌, sym, arith, length-set}
+use Rattle.std.proofs.Common.{◌<◌, length, map, sym, arith, length-set}
 use Rattle.std.proofs.lemmas.List.{length-map, take_more_set}
 use Rattle.std.proofs.lemmas.List.Elements.{All-set}
 use Rattle.toml.specs.View.{view}
@@ -8,8 +8,7 @@ use Rattle.kd_sheet.proofs.Rings.{all_numbers_more, not_all_numbers}
 use Rattle.kd_sheet.proofs.numbers.numbered_letters.Goals as goal
 
 pub returns-in_err-letters-clause-value : goal.returns-in_err-letters-clause-value
-returns-in_err-letters-clause-value g c =
-    c.from_residual.ensures ∙ not_all_numbers _ _ _ _ c.loop-place-test.true c.index-items-place.is c.in_err-letters.ensures.value
+returns-in_err-letters-clause-value g c = grind (arith, not_all_numbers)
 
 pub loop-place-preserved : goal.loop-place-preserved
 loop-place-preserved g c =
