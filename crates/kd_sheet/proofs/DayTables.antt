@@ -183,6 +183,8 @@ legal_is_described (OfRotors s) legal =
           (by_model s.day s.model s.reflector (rotor_table s) (OfRotors s) has (rotor_again s legal)),
     )
 legal_is_described (OfPins s) legal =
-    let model = ap (λ found. ok_or found UnknownModel) (model_by_name-text M209) in
-    (pin_table s, day_again s.day M209 (pin_table s) (OfPins s) (rw (number_again s.day legal.day) refl) model
-        (pin_again s legal))
+    let model = ap (λ found. ok_or found UnknownModel) (model_by_name-text M209) in (
+      pin_table s,
+      day_again s.day M209 (pin_table s) (OfPins s) (rw (number_again s.day legal.day) refl) model
+          (pin_again s legal),
+    )
