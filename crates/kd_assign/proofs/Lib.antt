@@ -1,9 +1,6 @@
 pub mod Prelude
-pub mod Comparing
 pub mod Counting
-pub mod Free
 pub mod Growing
 pub mod Places
 pub mod Sums
-pub mod Turning
 pub mod Whole

@@ -1,31 +1,40 @@
 -- What stands at a place, and after a write.
-use Rattle.std.proofs.Common.{◌≡◌, ◌≢◌, ℕ, ◌<◌, ◌+◌, List, length, get_or, set, Option, Some, None, is_some, count_by, cond, ◌⊎◌, inl, inr, sym, ◌∙◌, arith}
+use Rattle.std.proofs.Common.{◌≡◌, ◌≢◌, ℕ, suc, ◌+◌, ◌<◌, ◌≤◌, List, [], ◌∷◌, length, get_or, set, Bool, true, false, Option, Some, None, is_some, count_by, cond, ◌⊎◌, refl, arith}
 use Rattle.kd_assign.proofs.Prelude.{cases_eq, cases_lt, get_or_past, get_or-set_same, get_or-set_other, sum_by-set}
-use Rattle.kd_assign.proofs.Prelude.{none-some, same_Some, Has, HasNone}
+use Rattle.kd_assign.proofs.Prelude.{none-some, sum_by-cons, Has, IsFree, has_column}
 
--- a place that has a number is a place of the list
-pub within : (xs : List (Option ℕ)) (i j : ℕ) → Has xs i j → i < length xs
-within xs i j h = elim (cases_lt i (length xs)) [ inl lt ↦ lt | inr past ↦ absurd (none-some j (sym (get_or_past xs i None past) ∙ h)) ]
+-- a column that has a row is a column of the list
+pub within : (xs : List (Option ℕ)) (j i : ℕ) → Has xs j i → j < length xs
+within xs j i h = grind (arith, cases_lt, get_or_past, none-some)
 
--- a place has one number
-pub same_number : (xs : List (Option ℕ)) (i j k : ℕ) → Has xs i j → Has xs i k → j ≡ k
-same_number xs i j k h e = same_Some j k (sym h ∙ e)
+-- after a write a column has what was written, or what it had
+pub written : (xs : List (Option ℕ)) (k : ℕ) (v w : Option ℕ) (j : ℕ) → k < length xs →
+    get_or (set xs k v) j None ≡ w → ((j ≡ k) × (v ≡ w)) ⊎ ((j ≢ k) × (get_or xs j None ≡ w))
+written xs k v w j h e = grind (arith, cases_eq, get_or-set_same, get_or-set_other)
 
--- a place has a number or none
-pub vacant_or : (xs : List (Option ℕ)) (i j : ℕ) {P : Type 0} → HasNone xs i → Has xs i j → P
-vacant_or xs i j none h = absurd (none-some j (sym none ∙ h))
-
--- after a write a place has what was written, or what it had
-pub written : (xs : List (Option ℕ)) (k : ℕ) (v : Option ℕ) (i j : ℕ) → k < length xs →
-    Has (set xs k v) i j → ((i ≡ k) × (v ≡ Some j)) ⊎ ((i ≢ k) × Has xs i j)
-written xs k v i j h e = grind (arith, cases_eq, get_or-set_same, get_or-set_other)
-
--- and every other place what it had
-pub unwritten : (xs : List (Option ℕ)) (k : ℕ) (v w : Option ℕ) (i : ℕ) → i ≢ k → get_or xs i None ≡ w →
-    get_or (set xs k v) i None ≡ w
-unwritten xs k v w i other e = get_or-set_other xs k i v None other ∙ e
-
--- how a write changes the number of places that are taken
+-- how a write changes the number of columns that are taken
 pub count-set : (xs : List (Option ℕ)) (k : ℕ) (v : Option ℕ) → k < length xs →
     count_by is_some (set xs k v) + cond (is_some (get_or xs k None)) 1 0 ≡ count_by is_some xs + cond (is_some v) 1 0
 count-set xs k v h = sum_by-set (λ x. cond (is_some x) 1 0) xs k v None h
+
+pub count-reached : (reached : List Bool) (k : ℕ) → k < length reached → has_column reached k ≡ false →
+    count_by (λ r. r) (set reached k true) ≡ count_by (λ r. r) reached + 1
+count-reached reached k h e = grind (arith, sum_by-set (λ (r : Bool). cond r 1 0) reached k true false h)
+
+-- where not all columns are taken, one is free
+pub free_column : (xs : List (Option ℕ)) → count_by is_some xs < length xs → (j : ℕ) × (j < length xs) × IsFree xs j
+free_column [] h = absurd (omega arith)
+free_column (None ∷ xs) h = (0, omega arith, refl)
+free_column (Some i ∷ xs) h =
+    let head = sum_by-cons (λ x. cond (is_some x) 1 0) (Some i) xs in
+    let rest = free_column xs (omega arith) in
+    (suc rest.0, omega (arith, rest.1), rest.2)
+
+-- where each that passes one test passes the other, as many pass it
+pub count_at_most : {X Y : Type 0} (p : X → Bool) (q : Y → Bool) (d : X) (e : Y) (xs : List X) (ys : List Y) →
+    length xs ≡ length ys → ((j : ℕ) → p (get_or xs j d) ≡ true → q (get_or ys j e) ≡ true) → count_by p xs ≤ count_by q ys
+count_at_most p q d e [] [] same passes = omega arith
+count_at_most p q d e (x ∷ xs) (y ∷ ys) same passes =
+    let rest = count_at_most p q d e xs ys (omega arith) (λ j. passes (suc j)) in
+    grind (arith, rest, passes 0, sum_by-cons (λ z. cond (p z) 1 0) x xs, sum_by-cons (λ z. cond (q z) 1 0) y ys)
+count_at_most p q d e _ _ same passes = absurd (omega arith)

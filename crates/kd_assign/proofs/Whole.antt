@@ -1,65 +1,67 @@
 -- An assignment of all rows.
-use Rattle.std.proofs.Common.{◌≡◌, ℕ, ◌*◌, ◌<◌, ◌≤◌, List, length, get_or, set, All, Option, Some, None, is_some, count_by, ℤ, pos, neg_ℤ, ◌≤ℤ◌, refl, ◌∙◌, arith}
+use Rattle.std.proofs.Common.{◌≡◌, ℕ, ◌*◌, ◌<◌, ◌≤◌, List, length, get_or, All, Option, ℤ, pos, neg_ℤ, ◌-ℤ◌, ◌≤ℤ◌, arith, refl}
 use Rattle.std.specs.Int.RustNames.{unsigned_abs}
-use Rattle.kd_assign.proofs.Prelude.{ints, get_or_default, length-set, count_by-le-length, IsOneToOne, assignment_cost}
-use Rattle.kd_assign.proofs.Prelude.{Fits, price_sum, AreSmall, Has, IsPartial, IsSound}
 use Rattle.std.proofs.lemmas.List.Elements.{All-from_get_or}
+use Rattle.kd_assign.proofs.Prelude.{ints, get_or_default, get_or_past, CostsAtMost, Fits, Has, IsOneToOne, IsSolvedTo}
+use Rattle.kd_assign.proofs.Prelude.{assignment_cost, cost_at, price_at, price_sum}
+use Rattle.kd_assign.proofs.Places.{within}
 use Rattle.kd_assign.specs.Cheapest.{IsLeastCost}
-use Rattle.kd_assign.proofs.Places.{count-set}
-use Rattle.kd_assign.proofs.Sums.{fitting_prices_bound_costs, sum_of-columns, tight_rows}
+use Rattle.kd_assign.proofs.Counting.{scans_of_trees-most}
+use Rattle.kd_assign.proofs.Sums.{by_sums, fitting_prices_bound_costs}
 
--- where as many rows have columns as there are rows, each has
-has_some : (to : List (Option ℕ)) → count_by is_some to ≡ length to → (i : ℕ) (given : Option ℕ) →
-    i < length to → get_or to i None ≡ given → (j : ℕ) × Has to i j
-has_some to full i (Some j) h e = (j, e)
-has_some to full i None h e =
-    grind (arith, count-set to i (Some 0) h, count_by-le-length is_some (set to i (Some 0)), length-set to i (Some 0))
+-- no two rows have the same column
+pub one_to_one : (holders : List (Option ℕ)) (to : List ℕ) → length to ≡ length holders →
+    ((i : ℕ) → i < length to → Has holders (get_or to i 0) i) → IsOneToOne to
+one_to_one holders to places has = record {
+  in_range = λ i d h. omega (arith, within holders (get_or to i 0) i (has i h), get_or_default to i d 0 h);
+  distinct = λ i k d before h same. grind (arith, has i, has k, get_or_default to i d 0, get_or_default to k d 0);
+}
 
--- the columns that are given to all rows
-module _ (to : List (Option ℕ)) (columns : List ℕ) (partial : IsPartial to) (full : count_by is_some to ≡ length to)
-    (places : length columns ≡ length to) (given : (i j : ℕ) → Has to i j → get_or columns i 0 ≡ j) where
-  -- each row has the column that is written down
-  pub has_given : (i : ℕ) → i < length to → Has to i (get_or columns i 0)
-  has_given i h = grind (arith, has_some to full i (get_or to i None) h refl)
+-- no cost is above 4, nor is what stands past the end
+pub cost_at_most : (cost : List (List ℕ)) → CostsAtMost 4 cost → (i j : ℕ) → cost_at cost i j ≤ 4
+cost_at_most cost costs i j = grind (arith, costs, get_or_past)
 
-  -- and no two rows have the same
-  pub one_to_one : IsOneToOne columns
-  one_to_one = record {
-    in_range = λ i d h.
-        let within = partial.in_range i (get_or columns i 0) (has_given i (omega arith)) in
-        omega (arith, get_or_default columns i d 0 h);
-    distinct = λ i k d before h same.
-        let same_column : get_or columns i 0 ≡ get_or columns k 0 = get_or_default columns i 0 d (omega arith) ∙ same ∙ get_or_default columns k d 0 h in
-        let same_row = partial.distinct i k (get_or columns k 0) (rw (← same_column) (has_given i (omega arith))) (has_given k (omega arith)) in
-        omega arith;
-  }
+-- a price from -4n to 4n
+abs_at_most : (n : ℕ) (price : ℤ) → neg_ℤ (pos (4 * n)) ≤ℤ price → price ≤ℤ pos (4 * n) → unsigned_abs price ≤ 4 * n
+abs_at_most n price low high = grind arith
 
--- a price from -4 to 4 is from -4n to 4n
-abs_at_most : (n : ℕ) (price : ℤ) → 1 ≤ n → neg_ℤ (pos 4) ≤ℤ price → price ≤ℤ pos 4 → unsigned_abs price ≤ 4 * n
-abs_at_most n price e d g = grind arith
+-- where prices fit and are tight, they prove the assignment cheapest
+module _ {n next : ℕ} {cost : List (List ℕ)} {prices : List ℤ} {holders : List (Option ℕ)} (row : List ℤ) (to : List ℕ)
+    (few : next ≤ n) (solved : IsSolvedTo n cost prices holders next) (lines : length cost ≡ n)
+    (columns : length prices ≡ n) (rows : length row ≡ n) (places : length to ≡ n)
+    (has : (i : ℕ) → i < n → Has holders (get_or to i 0) i)
+    (row_is : (i : ℕ) → i < n →
+    price_at row i ≡ (pos (cost_at cost i (get_or to i 0)) -ℤ price_at prices (get_or to i 0))) where
+  pub fits : Fits cost row prices
+  fits i j h g =
+      let least = solved.cheapest i (get_or to i 0) (has i (omega arith)) j (omega arith) in
+      omega (arith, ints, row_is i (omega arith))
 
--- so are the prices of all rows
-pub rows_at_most : (n : ℕ) (row col : List ℤ) → 1 ≤ n → AreSmall row col →
-    All (λ price. unsigned_abs price ≤ 4 * n) row
-rows_at_most n row col some small = All-from_get_or (λ price. unsigned_abs price ≤ 4 * n) row (pos 0) (λ i h. abs_at_most n (get_or row i (pos 0)) some (omega (arith, ints, small.row_low i)) (small.row_high i))
+  pub price_sum_is : IsOneToOne to → price_sum row prices ≡ pos (assignment_cost cost to)
+  price_sum_is once =
+      by_sums (λ x y. x ≡ y) refl (λ r s c t k l h g. omega (arith, ints)) prices cost row to
+      (omega arith) (omega arith) (omega arith) (λ i h. omega (arith, ints, row_is i (omega arith))) once
 
--- and those of all columns
-pub columns_at_most : (n : ℕ) (row col : List ℤ) → 1 ≤ n → AreSmall row col →
-    All (λ price. unsigned_abs price ≤ 4 * n) col
-columns_at_most n row col some small = All-from_get_or (λ price. unsigned_abs price ≤ 4 * n) col (pos 0) (λ j h. abs_at_most n (get_or col j (pos 0)) some (small.col_low j) (omega (arith, ints, small.col_high j)))
+  pub rows_at_most : CostsAtMost 4 cost → IsOneToOne to → All (λ price. unsigned_abs price ≤ 4 * n) row
+  rows_at_most costs once = All-from_get_or (λ price. unsigned_abs price ≤ 4 * n) row (pos 0) (λ i h.
+      let j = get_or to i 0 in
+      let z = solved.zero.0 in
+      let is = row_is i (omega arith) in
+      let high = solved.high j (omega (arith, once.in_range i 0 (omega arith))) in
+      let least = solved.cheapest i j (has i (omega arith)) z solved.zero.1 in
+      let few = cost_at_most cost costs i z in
+      abs_at_most n (price_at row i) (omega (arith, ints)) (omega (arith, ints, solved.zero.2)))
 
--- tight at each of its edges, an assignment costs what the prices add up to
-pub price_sum_is : (cost : List (List ℕ)) (row col : List ℤ) (to : List (Option ℕ)) (columns : List ℕ) →
-    length cost ≡ length to → length columns ≡ length to → IsSound cost row col to →
-    ((i : ℕ) → i < length to → Has to i (get_or columns i 0)) → IsOneToOne columns →
-    price_sum row col ≡ pos (assignment_cost cost columns)
-price_sum_is cost row col to columns lines places sound given once =
-    let by_row = tight_rows cost row col columns (omega arith) (omega arith) (λ i h. sound.tight i (get_or columns i 0) (given i (omega arith))) in
-    let by_column = sum_of-columns col columns (omega arith) once in
-    omega (arith, ints)
+  pub columns_at_most : All (λ price. unsigned_abs price ≤ 4 * n) prices
+  columns_at_most = All-from_get_or (λ price. unsigned_abs price ≤ 4 * n) prices (pos 0) (λ j h.
+      let low = solved.low j (omega arith) in
+      let high = solved.high j (omega arith) in
+      abs_at_most n (price_at prices j) (omega (arith, ints)) (omega (arith, ints)))
 
--- prices that fit prove the assignment cheapest whose cost is their sum
-pub is_least : (cost : List (List ℕ)) (row col : List ℤ) (total : ℕ) → length row ≡ length cost →
-    length col ≡ length cost → Fits cost row col → price_sum row col ≡ pos total → IsLeastCost cost total
-is_least cost row col total rows columns fits sum to places once =
-    grind (arith, fitting_prices_bound_costs cost row col to (omega arith) (omega arith) (omega arith) fits once)
+  pub is_least : {total : ℕ} → IsOneToOne to → total ≡ assignment_cost cost to → IsLeastCost cost total
+  is_least once is other same one =
+      let bound = fitting_prices_bound_costs cost row prices other (omega arith) (omega arith) (omega arith) fits one in
+      grind (arith, price_sum_is once)
+
+-- what the solution is
+pub ruleset whole = (scans_of_trees-most, price_sum_is)

@@ -1,72 +1,55 @@
--- A tree of tight edges, grown from a row that has no column. A column that was reached has the row from which it was.
-use Rattle.std.specs.Prelude.{◌≡◌, ℕ, ◌<◌, Bool, true, false, ◌||◌, ◌==◌, List, length, slice_index, Option, Some, None, is_some, slice_index_or, ◌⊎◌, ℤ, pos, ◌-ℤ◌, ◌≤ℤ◌}
+-- A tree of rows and columns, grown from a row that has no column yet.
+use Rattle.std.specs.Prelude.{◌≡◌, ◌≢◌, ℕ, ◌<◌, ◌≤◌, Bool, false, true, List, [], length, slice_index, Option, None, is_some, slice_index_or, ◌⊎◌, ℤ, pos, neg_ℤ, ◌+ℤ◌, ◌-ℤ◌, ◌≤ℤ◌}
 use Rattle.kd_assign.specs.Prices.{cost_at, price_at}
-use Rattle.kd_assign.specs.Partial.{Has, HasNone, IsPartial, IsSound, IsTaken, IsTight}
+use Rattle.kd_assign.specs.Solved.{Has, IsCheapest, IsSeated}
 
 -- whether the tree has column j
-abbrev pub has_column : List (Option ℕ) → ℕ → Bool
-has_column reached j = is_some (slice_index_or reached j None)
+abbrev pub has_column : List Bool → ℕ → Bool
+has_column reached j = slice_index_or reached j false
 
--- whether the tree has the column that a row has
-abbrev pub has_column_of : List (Option ℕ) → Option ℕ → Bool
-has_column_of reached None = false
-has_column_of reached (Some j) = has_column reached j
+-- how much less than its ceiling the price of column j is
+abbrev pub room_at : List ℤ → List ℤ → ℕ → ℤ
+room_at ceilings prices j = price_at ceilings j -ℤ price_at prices j
 
--- whether the tree has row i: the root, and the rows of its columns
-abbrev pub has_row : List (Option ℕ) → ℕ → List (Option ℕ) → ℕ → Bool
-has_row to root reached i = i == root || has_column_of reached (slice_index_or to i None)
+-- ceilings that are not below the prices, and all within a small range
+pub record AreClose (n : ℕ) (prices ceilings : List ℤ) : Type 0 where
+  pub low : (j : ℕ) → j < n → neg_ℤ (pos 128) ≤ℤ price_at prices j
+  pub between : (j : ℕ) → j < n → price_at prices j ≤ℤ price_at ceilings j
+  pub high : (j : ℕ) → j < n → price_at ceilings j ≤ℤ pos 4
 
--- what the cost leaves above the two prices
-abbrev pub slack_of : List (List ℕ) → List ℤ → List ℤ → ℕ → ℕ → ℤ
-slack_of cost row col i j = (pos (cost_at cost i j) -ℤ price_at row i) -ℤ price_at col j
+-- the nearest column outside of the tree
+pub record IsNearest (n : ℕ) (prices : List ℤ) (reached : List Bool) (ceilings : List ℤ) (end : ℕ) : Type 0 where
+  pub within : end < n
+  pub outside : has_column reached end ≡ false
+  pub least : (j : ℕ) → j < n → has_column reached j ≡ false → room_at ceilings prices end ≤ℤ room_at ceilings prices j
 
--- row i is the root, or has a column of the tree that was reached before column j
-abbrev pub LeadsOn : List (Option ℕ) → ℕ → List (Option ℕ) → (ℕ → ℕ) → ℕ → ℕ → Type 0
-LeadsOn to root reached order i j =
-    (i ≡ root) ⊎ ((c : ℕ) × Has to i c × (has_column reached c ≡ true) × (order c < order j))
+-- a column was compared with a row: it keeps the row and the ceiling that it had, or takes these, and the ceiling is the lesser one; a column of the tree keeps them
+pub record IsCompared (reached : Bool) (row : ℕ) (offer : ℤ) (near : ℕ) (ceiling : ℤ) (near' : ℕ) (ceiling' : ℤ) : Type 0 where
+  pub one : ((near' ≡ near) × (ceiling' ≡ ceiling)) ⊎ ((reached ≡ false) × (near' ≡ row) × (ceiling' ≡ offer))
+  pub least : ceiling' ≤ℤ ceiling
+  pub here : reached ≡ false → ceiling' ≤ℤ offer
 
--- from each column of the tree a path leads to the root, by way of columns that were reached earlier
-pub record LeadsToRoot (to : List (Option ℕ)) (root : ℕ) (reached : List (Option ℕ)) : Type 0 where
-  pub order : ℕ → ℕ
-  pub leads_on : (i j : ℕ) → Has reached j i → LeadsOn to root reached order i j
+-- so was each column, where a cost adds to the level of the row
+pub record AreCompared (n : ℕ) (cost : List (List ℕ)) (reached : List Bool) (row : ℕ) (level : ℤ) (near : List ℕ) (ceilings : List ℤ) (near' : List ℕ) (ceilings' : List ℤ) : Type 0 where
+  pub at : (j : ℕ) → j < n → IsCompared (has_column reached j) row (level +ℤ pos (cost_at cost row j)) (slice_index near j) (price_at ceilings j) (slice_index near' j) (price_at ceilings' j)
 
--- the least slack that is kept for column j
-abbrev pub slack_at : List ℤ → ℕ → ℤ
-slack_at slacks j = slice_index_or slacks j (pos 0)
+module _ (n : ℕ) (cost : List (List ℕ)) (prices : List ℤ) (holders : List (Option ℕ)) (root : ℕ) (reached : List Bool) (ceilings : List ℤ) where
+  -- all rows up to the root but one have columns: those of the tree are cheapest at the ceilings, and the others as before
+  pub record IsPlan (plan : List (Option ℕ)) (out : ℕ) : Type 0 where
+    pub places : length plan ≡ n
+    pub out_in_range : out < n
+    pub rows : (i j : ℕ) → Has plan j i → i < n
+    pub seated : (i : ℕ) → i ≤ root → i ≢ out → IsSeated plan i
+    pub cheapest : (i j : ℕ) → j < n → has_column reached j ≡ true → Has plan j i → IsCheapest n cost ceilings i j
+    pub same : (j : ℕ) → has_column reached j ≡ false → slice_index_or plan j None ≡ slice_index_or holders j None
+    pub taken : (j : ℕ) → is_some (slice_index_or plan j None) ≡ is_some (slice_index_or holders j None)
 
--- column j was compared with row i: it keeps the row and the slack that it had, or takes these, and the slack is the lesser one
-pub record IsCompared (cost : List (List ℕ)) (row col : List ℤ) (i j : ℕ) (near : List ℕ) (slacks : List ℤ) (near' : List ℕ) (slacks' : List ℤ)
-    : Type 0 where
-  pub one : ((slice_index near' j ≡ slice_index near j) × (slack_at slacks' j ≡ slack_at slacks j))
-      ⊎ ((slice_index near' j ≡ i) × (slack_at slacks' j ≡ slack_of cost row col i j))
-  pub least : slack_at slacks' j ≤ℤ slack_at slacks j
-  pub least_here : slack_at slacks' j ≤ℤ slack_of cost row col i j
-
--- column j ends the tree: it was reached, and no row has it
-pub record IsFreeEnd (to reached : List (Option ℕ)) (j : ℕ) : Type 0 where
-  pub within : j < length to
-  pub here : has_column reached j ≡ true
-  pub free : IsTaken to j → ⊥
-
-module _ (cost : List (List ℕ)) (row col : List ℤ) (to : List (Option ℕ)) (root : ℕ) (reached : List (Option ℕ)) where
-  -- the paths to the root go by tight edges
-  pub record IsTree : Type 0 where
-    pub places : length reached ≡ length to
-    pub tight : (i j : ℕ) → Has reached j i → IsTight cost row col i j
-    pub paths : LeadsToRoot to root reached
-
-  -- a tree that is to grow: its root has no column, each of its columns is taken, and some other column is not
-  pub record IsGrowing : Type 0 where
-    pub partial : IsPartial to
-    pub sound : IsSound cost row col to
-    pub root_in_range : root < length to
-    pub vacant : HasNone to root
-    pub tree : IsTree
-    pub taken : (j : ℕ) → has_column reached j ≡ true → IsTaken to j
-    pub free : (j : ℕ) × (j < length to) × (IsTaken to j → ⊥)
-
-  -- for each column outside of the tree the row of the tree that is nearest to it, and the slack there
-  pub record AreNearest (near : List ℕ) (slacks : List ℤ) : Type 0 where
-    pub inside : (j : ℕ) → j < length reached → has_column reached j ≡ false → has_row to root reached (slice_index near j) ≡ true
-    pub slack_is : (j : ℕ) → j < length reached → has_column reached j ≡ false → slack_at slacks j ≡ slack_of cost row col (slice_index near j) j
-    pub least : (i j : ℕ) → j < length reached → has_row to root reached i ≡ true → has_column reached j ≡ false → slack_at slacks j ≤ℤ slack_of cost row col i j
+  -- each column of the tree has a row, and was nearer than those outside; each one outside is cheapest for the row that is nearest to it, and there is a plan for when that row takes it
+  pub record IsGrown (near : List ℕ) (plans : List (List (Option ℕ))) : Type 0 where
+    pub places : length reached ≡ n
+    pub plan_places : length plans ≡ n
+    pub close : AreClose n prices ceilings
+    pub taken : (j : ℕ) → has_column reached j ≡ true → is_some (slice_index_or holders j None) ≡ true
+    pub ordered : (j k : ℕ) → j < n → k < n → has_column reached j ≡ true → has_column reached k ≡ false → room_at ceilings prices j ≤ℤ room_at ceilings prices k
+    pub cheapest : (j : ℕ) → j < n → has_column reached j ≡ false → IsCheapest n cost ceilings (slice_index near j) j
+    pub plan : (j : ℕ) → j < n → has_column reached j ≡ false → IsPlan (slice_index_or plans (slice_index near j) []) (slice_index near j)

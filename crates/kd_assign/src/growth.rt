@@ -1,42 +1,70 @@
 //! A column for one more row.
-ghost use Rattle.std.specs.Prelude.{◌≡◌, ◌+◌, ◌^◌, ◌<◌, ◌≤◌, length};
-ghost use Rattle.kd_assign.specs.Partial.{IsSolvedTo};
-ghost use Rattle.kd_assign.specs.Prices.{CostsAtMost};
+ghost use Rattle.std.specs.Prelude.{◌≡◌, ℕ, ◌+◌, ◌^◌, ◌<◌, ◌≤◌, length, ℤ, pos, neg_ℤ, ◌+ℤ◌, ◌-ℤ◌, ◌≤ℤ◌};
+ghost use Rattle.std.specs.Int.{int_min};
+ghost use Rattle.kd_assign.specs.Prices.{CostsAtMost, price_at};
 ghost use Rattle.kd_assign.specs.Scans.{scans_of_tree};
+ghost use Rattle.kd_assign.specs.Solved.{IsSolvedTo};
 
 use crate::nearest::Nearest;
-use crate::partial::holders_of;
-use crate::prices::Prices;
 use crate::scans::Scans;
-use crate::tree::Tree;
 
 /// Gives a column to the next row, and moves other rows to other columns where that is cheapest.
-/// A tree grows from the row; each further row of it joins as its column is reached.
+/// A tree of rows and columns grows from the row. It gains the column that is nearest to it, and
+/// the row that has this column, until a column is free. For each of its rows it keeps which row
+/// would have each column if that row had none and all others had one.
 pub fn assign_row<const N: usize>(
     cost: &[[u8; N]; N],
-    prices: &mut Prices<N>,
-    to: &mut [Option<usize>; N],
-    row: usize,
+    prices: &mut [i16; N],
+    holders: &mut [Option<usize>; N],
+    root: usize,
     scans: &mut Scans,
 )
-    requires row { row < N }
+    requires row { root < N }
     requires few { N ≤ 32 }
     requires costs { CostsAtMost 4 cost.now }
-    requires solved { IsSolvedTo cost.now prices.old.row prices.old.col to.old row }
+    requires solved { IsSolvedTo N cost.now prices.old holders.old root }
     requires room { scans.old ≤ 2 ^ 16 }
-    ensures len { length to.new ≡ N }
-    ensures solved { IsSolvedTo cost.now prices.new.row prices.new.col to.new (row + 1) }
+    ensures len { length prices.new ≡ N }
+    ensures solved { IsSolvedTo N cost.now prices.new holders.new (root + 1) }
     ensures least_scans { scans.old + N ≤ scans.new }
-    ensures most_scans { scans.new ≤ scans.old + scans_of_tree N (row + 1) }
+    ensures most_scans { scans.new ≤ scans.old + scans_of_tree N (root + 1) }
 {
-    let holders = holders_of(to);
-    let mut tree = Tree::new(row);
-    let mut nearest = Nearest::new(row);
-    tree.join(&mut nearest, cost, prices, row, scans);
+    let mut reached = [false; N];
+    let mut plans = [*holders; N];
+    let mut nearest = Nearest::new(root);
+    nearest.join(&reached, cost, root, 0, scans);
     loop {
-        if let Some(free) = tree.grow(&mut nearest, cost, prices, to, &holders, scans) {
-            tree.turn_round(to, free);
-            return;
+        let column = nearest.column(&reached, prices, holders);
+        let row = nearest.row[column];
+        let mut plan = plans[row];
+        plan[column] = Some(row);
+        match holders[column] {
+            Some(holder) => {
+                reached[column] = true;
+                plans[holder] = plan;
+                let level = nearest.level(cost, holder, column);
+                nearest.join(&reached, cost, holder, level, scans);
+            }
+            None => {
+                let by = nearest.room(prices, column);
+                lower(prices, &nearest.ceiling, by);
+                *holders = plan;
+                return;
+            }
         }
+    }
+}
+
+/// Lowers the price of each column to its ceiling, less what all ceilings are too high by.
+fn lower<const N: usize>(prices: &mut [i16; N], ceilings: &[i16; N], by: i16)
+    requires low { (j : ℕ) → j < N → neg_ℤ (pos 128) ≤ℤ price_at ceilings.now j }
+    requires by { pos 0 ≤ℤ by }
+    requires little { by ≤ℤ pos 4 }
+    ensures len { length prices.new ≡ N }
+    ensures lowered { (j : ℕ) → j < N →
+        price_at prices.new j ≡ int_min (price_at prices.old j) (price_at ceilings.now j -ℤ by) }
+{
+    for column in 0..N {
+        prices[column] = prices[column].min(ceilings[column] - by);
     }
 }

@@ -1,76 +1,147 @@
 //! How near each column is to a tree.
-ghost use Rattle.std.specs.Prelude.{◌≡◌, ℕ, ◌+◌, ◌<◌, ◌≢◌, ◌⊎◌, Some, IfSome, IsSomeAnd, All, length, slice_index, ℤ, pos, ◌≤ℤ◌};
-ghost use Rattle.kd_assign.specs.Partial.{AreSmall};
-ghost use Rattle.kd_assign.specs.Prices.{CostsAtMost};
-ghost use Rattle.kd_assign.specs.Tree.{IsCompared, slack_at};
+ghost use Rattle.std.specs.Prelude.{◌≡◌, ℕ, ◌+◌, ◌^◌, ◌<◌, ◌≢◌, ◌⊎◌, false, if◌then◌else◌, Some, IfSome, IsSomeAnd, All, length, count_by, slice_index, ℤ, pos, neg_ℤ, ◌+ℤ◌, ◌-ℤ◌, ◌≤ℤ◌};
+ghost use Rattle.kd_assign.specs.Prices.{CostsAtMost, cost_at, price_at};
+ghost use Rattle.kd_assign.specs.Tree.{AreClose, AreCompared, IsCompared, IsNearest, has_column, room_at};
 
-use crate::prices::Prices;
 use crate::scans::Scans;
 
-/// For each column the row of a tree that is nearest to it, and the slack of that row there.
+/// For each column the row of a tree that is nearest to it.
 #[derive(Drop)]
 pub struct Nearest<const N: usize> {
     pub row: [usize; N],
-    pub slack: [i16; N],
+    /// The price of each column at which this row would take it. All of them are too high by the
+    /// same, which isn't known before the tree reaches a free column.
+    pub ceiling: [i16; N],
 }
 
 impl<const N: usize> Nearest<N> {
     /// Before any comparison: every column is as far as can be.
     pub fn new(root: usize) -> Self
-        ensures far { All (λ s. s ≡ pos 32767) result.slack }
+        ensures far { All (λ s. s ≡ pos 32767) result.ceiling }
     {
         Nearest {
             row: [root; N],
-            slack: [i16::MAX; N],
+            ceiling: [i16::MAX; N],
         }
     }
 
-    /// Compares the column with the row, and keeps whichever is nearer.
-    pub fn compare(
+    /// Compares each column outside of the tree with the row that has just joined.
+    pub fn join(
         &mut self,
+        reached: &[bool; N],
         cost: &[[u8; N]; N],
-        prices: &Prices<N>,
         row: usize,
-        column: usize,
+        level: i16,
         scans: &mut Scans,
     )
         requires row { row < N }
-        requires column { column < N }
         requires costs { CostsAtMost 4 cost.now }
-        requires prices { AreSmall prices.now.row prices.now.col }
-        requires room { scans.old < 4294967295 }
+        requires low { neg_ℤ (pos 256) ≤ℤ level }
+        requires high { level ≤ℤ pos 4 }
+        requires room { scans.old + N < 2 ^ 32 }
         ensures rows { length self.new.row ≡ N }
-        ensures slacks { length self.new.slack ≡ N }
-        ensures compared { IsCompared cost.now prices.now.row prices.now.col row column
-            self.old.row self.old.slack self.new.row self.new.slack }
-        ensures other_rows { (j : ℕ) → j ≢ column →
-            slice_index self.new.row j ≡ slice_index self.old.row j }
-        ensures other_slacks { (j : ℕ) → j ≢ column →
-            slack_at self.new.slack j ≡ slack_at self.old.slack j }
-        ensures counted { scans.new ≡ scans.old + 1 }
+        ensures ceilings { length self.new.ceiling ≡ N }
+        ensures compared { AreCompared N cost.now reached.now row level
+            self.old.row self.old.ceiling self.new.row self.new.ceiling }
+        ensures counted { scans.new + count_by (λ r. r) reached.now ≡ scans.old + N }
     {
-        let slack = prices.slack(cost, row, column);
-        if scans.closer(self.slack[column], slack) {
-            self.row[column] = row;
-            self.slack[column] = slack;
+        for column in 0..N {
+            let offer = level + i16::from(cost[row][column]);
+            self.compare(reached[column], row, column, offer, scans);
         }
     }
 
-    /// Of two columns the nearer one. Which of two equals it is isn't promised: a free one serves
-    /// better, since a tree ends there.
-    pub fn nearer(&self, first: Option<usize>, second: usize, holders: &[Option<usize>; N]) -> usize
+    /// Compares a column outside of the tree with the row, and keeps whichever is nearer.
+    fn compare(&mut self, reached: bool, row: usize, column: usize, offer: i16, scans: &mut Scans)
+        requires column { column < N }
+        requires room { scans.old < 4294967295 }
+        ensures rows { length self.new.row ≡ N }
+        ensures ceilings { length self.new.ceiling ≡ N }
+        ensures compared { IsCompared reached row offer
+            (slice_index self.old.row column) (price_at self.old.ceiling column)
+            (slice_index self.new.row column) (price_at self.new.ceiling column) }
+        ensures other_rows { (j : ℕ) → j ≢ column →
+            slice_index self.new.row j ≡ slice_index self.old.row j }
+        ensures other_ceilings { (j : ℕ) → j ≢ column →
+            price_at self.new.ceiling j ≡ price_at self.old.ceiling j }
+        ensures counted { scans.new + (if reached then 1 else 0) ≡ scans.old + 1 }
+    {
+        if !reached && scans.closer(self.ceiling[column], offer) {
+            self.row[column] = row;
+            self.ceiling[column] = offer;
+        }
+    }
+
+    /// How much less than its ceiling the price of a column is.
+    pub fn room(&self, prices: &[i16; N], column: usize) -> i16
+        requires column { column < N }
+        requires close { AreClose N prices.now self.now.ceiling }
+        ensures { result ≡ room_at self.now.ceiling prices.now column }
+    {
+        self.ceiling[column] - prices[column]
+    }
+
+    /// What a row adds to its costs when it joins by the column that it has: then its cost there gives
+    /// the ceiling of that column.
+    pub fn level(&self, cost: &[[u8; N]; N], row: usize, column: usize) -> i16
+        requires row { row < N }
+        requires column { column < N }
+        requires costs { CostsAtMost 4 cost.now }
+        requires low { neg_ℤ (pos 128) ≤ℤ price_at self.now.ceiling column }
+        requires high { price_at self.now.ceiling column ≤ℤ pos 4 }
+        ensures low { neg_ℤ (pos 256) ≤ℤ result }
+        ensures high { result ≤ℤ pos 4 }
+        ensures value { result ≡ price_at self.now.ceiling column -ℤ pos (cost_at cost.now row column) }
+    {
+        self.ceiling[column] - i16::from(cost[row][column])
+    }
+
+    /// The nearest column outside of the tree.
+    pub fn column(
+        &self,
+        reached: &[bool; N],
+        prices: &[i16; N],
+        holders: &[Option<usize>; N],
+    ) -> usize
+        requires close { AreClose N prices.now self.now.ceiling }
+        requires some { (j : ℕ) × (j < N) × (has_column reached.now j ≡ false) }
+        ensures { IsNearest N prices.now reached.now self.now.ceiling result }
+    {
+        let mut least = None;
+        for column in 0..N {
+            least = self.nearer(reached, prices, holders, least, column);
+        }
+        least.unwrap()
+    }
+
+    /// Of a column and another one the nearer one, where this isn't in the tree. Which of two equals
+    /// it is isn't promised: a free one serves better, since a tree ends there.
+    fn nearer(
+        &self,
+        reached: &[bool; N],
+        prices: &[i16; N],
+        holders: &[Option<usize>; N],
+        first: Option<usize>,
+        second: usize,
+    ) -> Option<usize>
+        requires close { AreClose N prices.now self.now.ceiling }
         requires first { IfSome first (λ j. j < N) }
         requires second { second < N }
-        ensures one { (first ≡ Some result) ⊎ (result ≡ second) }
-        ensures first { (s : ℤ) → IsSomeAnd first (λ j. slack_at self.now.slack j ≤ℤ s) →
-            slack_at self.now.slack result ≤ℤ s }
-        ensures second { slack_at self.now.slack result ≤ℤ slack_at self.now.slack second }
+        ensures one { (first ≡ result) ⊎ ((has_column reached.now second ≡ false) × (result ≡ Some second)) }
+        ensures first { (s : ℤ) → IsSomeAnd first (λ j. room_at self.now.ceiling prices.now j ≤ℤ s) →
+            IsSomeAnd result (λ j. room_at self.now.ceiling prices.now j ≤ℤ s) }
+        ensures second { has_column reached.now second ≡ false → IsSomeAnd result (λ j.
+            room_at self.now.ceiling prices.now j ≤ℤ room_at self.now.ceiling prices.now second) }
     {
+        if reached[second] {
+            return first;
+        }
         let taken = holders[second].is_some();
+        let room = self.room(prices, second);
         match first {
-            Some(column) if self.slack[column] < self.slack[second] => column,
-            Some(column) if taken && self.slack[column] == self.slack[second] => column,
-            _ => second,
+            Some(column) if self.room(prices, column) < room => first,
+            Some(column) if taken && self.room(prices, column) == room => first,
+            _ => Some(second),
         }
     }
 }

@@ -4,9 +4,8 @@ ghost use Rattle.kd_assign.specs.Assignment.{IsOneToOne, assignment_cost};
 ghost use Rattle.kd_assign.specs.Cheapest.{IsLeastCost};
 ghost use Rattle.kd_assign.specs.Prices.{CostsAtMost, Fits, price_sum};
 
+use crate::columns::{columns_of, cost_of, row_prices};
 use crate::growth::assign_row;
-use crate::partial::{columns_of, cost_of};
-use crate::prices::Prices;
 use crate::scans::Scans;
 
 /// A cheapest one-to-one assignment of rows to columns. Rows and columns are counted from 0.
@@ -27,6 +26,7 @@ pub struct Solution<const N: usize> {
 /// Finds a cheapest one-to-one assignment by the Hungarian method of Kuhn and Munkres, in the form
 /// that grows a tree of tight edges from each row. An edge is tight where the two prices add up to
 /// its cost. Which of several cheapest assignments is answered is not promised.
+#[tactic(auto, using(crate::proofs::Whole::whole))]
 pub fn assign<const N: usize>(cost: &[[u8; N]; N]) -> Solution<N>
     requires some { 1 ≤ N }
     requires few { N ≤ 32 }
@@ -41,20 +41,17 @@ pub fn assign<const N: usize>(cost: &[[u8; N]; N]) -> Solution<N>
     ensures least_scans { N * N ≤ result.scans }
     ensures most_scans { result.scans ≤ N * (N + 1) * (2 * N + 1) / 6 }
 {
-    let mut prices = Prices {
-        row: [0; N],
-        col: [0; N],
-    };
-    let mut to = [None; N];
+    let mut col = [0; N];
+    let mut holders = [None; N];
     let mut scans = Scans::new();
     for row in 0..N {
-        assign_row(cost, &mut prices, &mut to, row, &mut scans);
+        assign_row(cost, &mut col, &mut holders, row, &mut scans);
     }
-    let columns = columns_of(&to);
-    let total = cost_of(cost, &columns);
-    let Prices { row, col } = prices;
+    let to = columns_of(&holders);
+    let row = row_prices(cost, &col, &to);
+    let total = cost_of(cost, &to);
     Solution {
-        to: columns,
+        to,
         row,
         col,
         total,

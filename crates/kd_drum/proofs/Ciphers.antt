@@ -1,8 +1,8 @@
 -- The Converter's cipher, letter by letter.
-use Rattle.std.proofs.Common.{◌≡◌, ℕ, ◌+◌, ◌-◌, ◌%◌, ◌<◌, List, [], ◌∷◌, ◌++◌, length, map, get_or, All, refl, sym, ap, ◌∙◌, arith, add-zero}
+use Rattle.std.proofs.Common.{◌≡◌, ℕ, ◌+◌, ◌-◌, ◌%◌, ◌<◌, List, [], ◌∷◌, ◌++◌, length, map, get_or, set, take, drop, All, refl, sym, ap, ◌∙◌, arith, add-zero}
 use Rattle.std.specs.List.{enumerate_from}
-use Rattle.std.proofs.lemmas.List.{get_or-map, length-map}
-use Rattle.std.proofs.lemmas.List.FromFn.{get_or-enumerate_from, length-enumerate_from}
+use Rattle.std.proofs.lemmas.List.{append_assoc, drop_more, get_or_at, length-map, length-take-le, set_at, take_more}
+use Rattle.std.proofs.lemmas.List.FromFn.{length-enumerate_from}
 use Rattle.std.proofs.lemmas.List.Elements.{All-head, All-tail}
 use Rattle.kd_drum.specs.Converter.{PinKey, bars_met, converter_cipher, pin_key_after}
 use Rattle.kd_drum.specs.Sound.{RingsAreSound}
@@ -49,19 +49,17 @@ pub length-cipher : (key : PinKey) (text : List ℕ) → length (converter_ciphe
 length-cipher key text =
     length-map (enumerate_from 0 text) (λ numbered. reversed_by (bars_met key numbered.0) numbered.1) ∙ length-enumerate_from 0 text
 
-cipher-at : (key : PinKey) (text : List ℕ) (k : ℕ) → k < length text → get_or (converter_cipher key text) k 0 ≡ reversed_by (bars_met key k) (get_or text k 0)
-cipher-at key text k lt =
-    let become : ℕ × ℕ → ℕ = λ numbered. reversed_by (bars_met key numbered.0) numbered.1 in
-    get_or-map become (enumerate_from 0 text) k (0, 0) 0 (omega (arith, length-enumerate_from 0 text))
-    ∙ ap become (get_or-enumerate_from 0 text k (0, 0) lt)
-    ∙ ap (λ n. reversed_by (bars_met key n) (get_or text k 0)) (omega arith)
-
 -- what a press after so many letters makes of the next one is the next letter of the cipher
-pub next_letter_of_cipher : RingsAreSound → (key : PinKey) (text : List ℕ) (n letter become : ℕ) → n < length text → letter ≡ get_or text n 0
-    → converter_cipher (pin_key_after key n) (letter ∷ []) ≡ become ∷ [] → become ≡ get_or (converter_cipher key text) n 0
-next_letter_of_cipher sound key text n letter become lt is e =
-    ap (λ l. get_or l 0 0) (sym e)
-    ∙ ap (λ met. reversed_by met letter) (bars_met_sum sound key n 0)
-    ∙ ap (λ m. reversed_by (bars_met key m) letter) (add-zero n)
-    ∙ ap (reversed_by (bars_met key n)) is
-    ∙ sym (cipher-at key text n lt)
+pub one_more : RingsAreSound → (key : PinKey) (text before : List ℕ) (n d become : ℕ) → n < length text
+    → before ≡ converter_cipher key (take n text) ++ drop n text
+    → converter_cipher (pin_key_after key n) (get_or before n d ∷ []) ≡ become ∷ []
+    → set before n become ≡ converter_cipher key (take (n + 1) text) ++ drop (n + 1) text
+one_more sound key text before n d become lt is e =
+    let letter = get_or text n d in
+    let done = converter_cipher key (take n text) in
+    let so_many = length-take-le n text (omega arith) in
+    let size : length done ≡ n = length-cipher key (take n text) ∙ so_many in
+    let rest = drop_more text n d lt in
+    let next = rw (is, rest, get_or_at done letter (drop (n + 1) text) d n size) at e in
+    let more = cipher-append sound key (take n text) (letter ∷ []) in
+    rw (is, rest, set_at done letter (drop (n + 1) text) become n size, take_more text n d lt, more, so_many, next, append_assoc) refl

@@ -9,7 +9,7 @@ ghost use Rattle.kd_drum.specs.Standing.{IsSetTo};
 use super::counts::counts;
 use super::laws::rings_are_sound;
 use kd_pins::{NotOnWheel, PinSet, PinWheel};
-use kd_tables::{Letter, Reading, Ring, ring1, ring2, ring3, ring4, ring5, ring6};
+use kd_tables::{Letter, Reading, ring1, ring2, ring3, ring4, ring5, ring6};
 use std::marker::Model;
 
 /// A Converter M-209 that is set to a key, ready for letters to be enciphered.
@@ -50,23 +50,18 @@ impl Converter {
             converter ≡ record { pins = pins_of pins; letters = letters; rows = rows }) }
     {
         rings_are_sound();
-        let [l1, l2, l3, l4, l5, l6] = letters;
-        let w1 = set_to(ring1(), 15, pins.w1, l1)?;
-        let w2 = set_to(ring2(), 14, pins.w2, l2)?;
-        let w3 = set_to(ring3(), 13, pins.w3, l3)?;
-        let w4 = set_to(ring4(), 12, pins.w4, l4)?;
-        let w5 = set_to(ring5(), 11, pins.w5, l5)?;
-        let w6 = set_to(ring6(), 10, pins.w6, l6)?;
-        Ok(Converter {
-            w1,
-            w2,
-            w3,
-            w4,
-            w5,
-            w6,
+        let mut converter = Converter {
+            w1: PinWheel::new(ring1(), 15, pins.w1),
+            w2: PinWheel::new(ring2(), 14, pins.w2),
+            w3: PinWheel::new(ring3(), 13, pins.w3),
+            w4: PinWheel::new(ring4(), 12, pins.w4),
+            w5: PinWheel::new(ring5(), 11, pins.w5),
+            w6: PinWheel::new(ring6(), 10, pins.w6),
             counts: counts(&rows),
             rows,
-        })
+        };
+        converter.turn_to(letters)?;
+        Ok(converter)
     }
 
     /// Turns the wheels until they show these letters, from the first wheel on. Refused, and then no wheel is turned, where a
@@ -171,22 +166,6 @@ impl Converter {
         self.w5.advance();
         self.w6.advance();
     }
-}
-
-/// The wheel with these letters and pins, turned until it shows the letter.
-fn set_to<const N: usize>(
-    ring: Ring<N>,
-    offset: usize,
-    pins: [bool; N],
-    letter: Letter,
-) -> Result<PinWheel<N>, NotOnWheel>
-    requires { offset < N }
-    ensures ok { IsOk result ↔ Contains ring.entry letter }
-    ensures value { IfOk result (IsSetTo N ring.entry offset pins.entry letter) }
-{
-    let mut wheel = PinWheel::new(ring, offset, pins);
-    wheel.set(letter)?;
-    Ok(wheel)
 }
 
 /// The wheel, turned until it shows the letter.

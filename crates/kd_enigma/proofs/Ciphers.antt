@@ -1,10 +1,10 @@
 -- The cipher, letter by letter.
 use Rattle.std.proofs.lemmas.Grind.{common_steps}
-use Rattle.std.proofs.Common.{zero, ◌≡◌, ℕ, suc, ◌+◌, ◌<◌, List, [], ◌∷◌, ◌++◌, length, map, get_or, slice_index, All, refl, sym, ap, ◌∙◌, arith, add-zero, add-suc}
+use Rattle.std.proofs.Common.{zero, ◌≡◌, ℕ, suc, ◌+◌, ◌<◌, List, [], ◌∷◌, ◌++◌, length, map, get_or, set, take, drop, slice_index, All, refl, sym, ap, ◌∙◌, arith, add-zero, add-suc}
 use Rattle.std.proofs.lemmas.List.Elements.{All-head, All-tail}
 use Rattle.std.specs.List.{enumerate_from}
-use Rattle.std.proofs.lemmas.List.{get_or-map}
-use Rattle.std.proofs.lemmas.List.FromFn.{get_or-enumerate_from, length-enumerate_from}
+use Rattle.std.proofs.lemmas.List.{append_assoc, drop_more, get_or_at, length-take-le, set_at, take_more}
+use Rattle.std.proofs.lemmas.List.FromFn.{length-enumerate_from}
 use Rattle.kd_tables.specs.declared.wheel.Wheel.{Wheel}
 use Rattle.kd_step.specs.Stepper.{next_window, window_after}
 use Rattle.kd_enigma.specs.Cipher.{RotorKey, IsPlugboard, key_turned, key_after, path, enigma_cipher}
@@ -21,15 +21,6 @@ cipher_from key start text = map (λ numbered. lit key numbered.0 numbered.1) (e
 pub length-cipher : (key : RotorKey) (text : List ℕ) → length (enigma_cipher key text) ≡ length text
 length-cipher key text = grind (arith, common_steps, path, key, length-enumerate_from)
 
-pub cipher-at : (key : RotorKey) (text : List ℕ) (k : ℕ) → k < length text
-    → get_or (enigma_cipher key text) k 0 ≡ slice_index (path key (window_after key.wheels key.window (suc k))) (get_or text k 0)
-cipher-at key text k lt =
-    let next : 1 + k ≡ suc k = omega arith in
-    let light : ℕ × ℕ → ℕ = λ numbered. slice_index (path key (window_after key.wheels key.window numbered.0)) numbered.1 in
-    get_or-map light (enumerate_from 1 text) k (0, 0) 0 (omega (arith, length-enumerate_from 1 text))
-    ∙ ap light (get_or-enumerate_from 1 text k (0, 0) lt)
-    ∙ ap (λ n. slice_index (path key (window_after key.wheels key.window n)) (get_or text k 0)) next
-
 -- the window is no part of the path's other parts
 pub path-turned : (key : RotorKey) (window shown : List ℕ) → path (key_turned key window) shown ≡ path key shown
 unfolding path
@@ -43,11 +34,6 @@ twice_from sound key start (letter ∷ text) board h =
     ap (λ l. l ∷ cipher_from key (start + 1) (cipher_from key (start + 1) text))
     (path_returns sound key (window_after key.wheels key.window start) board letter (All-head (λ l. l < 26) letter text h))
     ∙ ap (λ ls. letter ∷ ls) (twice_from sound key (start + 1) text board (All-tail (λ l. l < 26) letter text h))
-
--- what a press after so many letters lights up is the next letter of the cipher
-pub next_letter_of_cipher : (key : RotorKey) (text : List ℕ) (n letter light : ℕ) → n < length text → letter ≡ get_or text n 0
-    → enigma_cipher (key_after key n) (letter ∷ []) ≡ light ∷ [] → light ≡ get_or (enigma_cipher key text) n 0
-next_letter_of_cipher key text n letter light lt is e = grind (arith, path-turned, key, path, cipher-at)
 
 -- ---- a text in two pieces
 
@@ -72,3 +58,18 @@ pub cipher-append : (key : RotorKey) (first rest : List ℕ)
     → enigma_cipher key (first ++ rest) ≡ enigma_cipher key first ++ enigma_cipher (key_after key (length first)) rest
 cipher-append key first rest =
     append_from key 1 first rest ∙ ap (λ ls. enigma_cipher key first ++ ls) (ap (λ n. cipher_from key n rest) (omega arith) ∙ later key (length first) 1 rest)
+
+-- what a press after so many letters makes of the next one is the next letter of the cipher
+pub one_more : (key : RotorKey) (text before : List ℕ) (n d light : ℕ) → n < length text
+    → before ≡ enigma_cipher key (take n text) ++ drop n text
+    → enigma_cipher (key_after key n) (get_or before n d ∷ []) ≡ light ∷ []
+    → set before n light ≡ enigma_cipher key (take (n + 1) text) ++ drop (n + 1) text
+one_more key text before n d light lt is e =
+    let letter = get_or text n d in
+    let done = enigma_cipher key (take n text) in
+    let so_many = length-take-le n text (omega arith) in
+    let size : length done ≡ n = length-cipher key (take n text) ∙ so_many in
+    let rest = drop_more text n d lt in
+    let next = rw (is, rest, get_or_at done letter (drop (n + 1) text) d n size) at e in
+    let more = cipher-append key (take n text) (letter ∷ []) in
+    rw (is, rest, set_at done letter (drop (n + 1) text) light n size, take_more text n d lt, more, so_many, next, append_assoc) refl

@@ -1,56 +1,58 @@
-use Rattle.std.proofs.Common.{◌+◌, count_by, is_some, ap, ◌∙◌, rules, arith}
-use Rattle.std.proofs.lemmas.List.Sums.{count_by-le-length}
-use Rattle.kd_assign.proofs.Comparing.{nearest_root}
-use Rattle.kd_assign.proofs.Counting.{none_counted, reached_at_most, scans_of_tree-grows, scans_of_tree-most}
-use Rattle.kd_assign.proofs.Free.{free_column, no_column, no_edge}
-use Rattle.kd_assign.proofs.Growing.{IsSound-turned}
-use Rattle.kd_assign.proofs.Places.{vacant_or}
+use Rattle.std.proofs.Common.{◌+◌, ◌∙◌, count_by, is_some, None, set, false, w16, rules, arith}
+use Rattle.kd_assign.proofs.Counting.{scans_of_tree-grows, scans_of_tree-more, scans_of_tree-most}
+use Rattle.kd_assign.proofs.Growing.{ends, first_grown, grows, some_outside}
+use Rattle.kd_assign.proofs.Places.{count-reached, count_at_most}
+use Rattle.kd_assign.proofs.Prelude.{common_steps, length-set, to_z-of_z, count_by-le-length}
 use Rattle.kd_assign.proofs.growth.assign_row.Goals as goal
 
-pub loop-free-init : goal.loop-free-init
-loop-free-init g c =
-    let solved = c.requires.solved in
-    let none = c.new-tree.ensures.none in
-    rw c.new-tree.ensures.root record {
-      len = search rules;
-      same_to = search rules;
-      root = search rules;
-      growing = record {
-        partial = solved.partial;
-        sound = solved.sound;
-        root_in_range = omega arith;
-        vacant = solved.rest c.args.row (omega arith);
-        tree = record {
-          places = omega arith;
-          tight = λ i j h. vacant_or _ j i (no_edge _ none j) h;
-          paths = record { order = λ j. 0; leads_on = λ i j h. vacant_or _ j i (no_edge _ none j) h };
-        };
-        taken = λ j h. absurd (no_column _ none j h);
-        free = free_column _ c.args.to.now (omega arith);
-      };
-      nearest = nearest_root _ _ _ _ _ _ _ _ _ _ c.requires.costs solved.sound.small none c.new-nearest.ensures.far (omega arith) (λ j h. c.join.ensures.compared j (omega arith));
-      scans = (let empty = none_counted _ (no_column _ none) in rw empty (omega (arith, c.join.ensures.counted)));
-    }
+pub loop-holders-init : goal.loop-holders-init
+loop-holders-init g c = record {
+  prices = search rules;
+  rows = search rules;
+  ceilings = search rules;
+  solved = search rules;
+  grown = first_grown c.requires.few c.requires.row c.requires.costs c.requires.solved (grind (arith, common_steps))
+      (λ j. grind (arith, common_steps)) (search rules) c.new-nearest.ensures.far c.join.ensures.compared
+      (grind (arith, common_steps)) (grind (arith, common_steps));
+  scans = grind (arith, common_steps);
+}
 
-pub grow-requires : goal.grow-requires
-grow-requires g c = grind (arith, count_by-le-length, scans_of_tree-most)
+pub column-column-requires : goal.column-column-requires
+column-column-requires g c =
+    let so_far = c.loop-holders.invariant in
+    let some = some_outside so_far.solved so_far.grown (omega arith) in
+    (search rules, (search rules, (search rules, (search rules, (so_far.grown.close, some)))))
 
-pub returns-in-Some-clause-solved : goal.returns-in-Some-clause-solved
-returns-in-Some-clause-solved g c =
-    let so_far = c.loop-free.invariant in
-    let solved = c.requires.solved in
-    let grow = c.grow.ensures in
-    let turn = c.turn_round.ensures in
+pub join-requires-in-Some : goal.join-requires-in-Some
+join-requires-in-Some g c = grind (arith, to_z-of_z, scans_of_tree-most, count_by-le-length)
+
+pub loop-holders-preserved : goal.loop-holders-preserved
+loop-holders-preserved g c =
+    let so_far = c.loop-holders.invariant in
+    let level = to_z-of_z w16 c.level-level.result (search rules) ∙ c.level-level.ensures.value in
     record {
-      partial = turn.partial;
-      sound = IsSound-turned _ _ _ _ _ _ _ (omega arith) grow.sound grow.tree turn.edges turn.kept;
-      count = turn.count ∙ ap (λ to. count_by is_some to + 1) so_far.same_to ∙ ap (λ n. n + 1) solved.count;
-      rest = λ i h. turn.others i (λ same. omega arith) (rw so_far.same_to (solved.rest i (omega arith)));
+      prices = search rules;
+      rows = search rules;
+      ceilings = search rules;
+      solved = search rules;
+      grown = grows so_far.solved so_far.grown c.column-column.ensures c.in-Some.is level c.join-in-Some.ensures.compared;
+      scans = grind (arith, count-reached, set, count_by-le-length, length-set, scans_of_tree-more);
     }
 
-pub returns-in-Some-clause-least_scans : goal.returns-in-Some-clause-least_scans
-returns-in-Some-clause-least_scans g c =
-    grind (arith, scans_of_tree-grows g.row.N 1 (count_by is_some c.loop-free.tree.reached + 1) (omega arith))
+pub returns-in-None-clause-solved : goal.returns-in-None-clause-solved
+returns-in-None-clause-solved g c =
+    let so_far = c.loop-holders.invariant in
+    let room = to_z-of_z w16 c.room-by.result (search rules) ∙ c.room-by.ensures in
+    ends so_far.solved so_far.grown c.column-column.ensures c.in-None.is room _ c.lower.ensures.lowered
 
-pub returns-in-Some-clause-most_scans : goal.returns-in-Some-clause-most_scans
-returns-in-Some-clause-most_scans g c = grind (arith, reached_at_most, scans_of_tree-grows)
+pub returns-in-None-clause-least_scans : goal.returns-in-None-clause-least_scans
+returns-in-None-clause-least_scans g c =
+    grind (arith, scans_of_tree-grows g.row.N 1 (count_by (λ r. r) c.loop-holders.reached + 1) (omega arith))
+
+pub returns-in-None-clause-most_scans : goal.returns-in-None-clause-most_scans
+returns-in-None-clause-most_scans g c =
+    let so_far = c.loop-holders.invariant in
+    let same = so_far.solved.places in
+    let few = count_at_most (λ r. r) is_some false None c.loop-holders.reached c.loop-holders.holders
+    (omega (arith, so_far.grown.places)) so_far.grown.taken in
+    grind (arith, scans_of_tree-grows)

@@ -4,8 +4,8 @@ use Rattle.kd_assign.proofs.solution.assign.Given as goal
 
 abbrev pub invariant-loop-row : goal.invariant-loop-row
 invariant-loop-row g l = record {
-  len : length l.to ≡ g.row.N;
+  len : length l.col ≡ g.row.N;
   least_scans : g.row.N * l.row ≤ l.scans;
   most_scans : l.scans ≤ scans_of_trees g.row.N l.row;
-  solved : IsSolvedTo l.cost l.prices.row l.prices.col l.to l.row;
+  solved : IsSolvedTo g.row.N l.cost l.col l.holders l.row;
 }

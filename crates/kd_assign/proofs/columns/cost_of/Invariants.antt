@@ -1,6 +1,6 @@
 use Rattle.std.proofs.Common.{◌≡◌, ◌+◌, ◌*◌, ◌≤◌, drop}
 use Rattle.kd_assign.specs.Assignment.{assignment_cost}
-use Rattle.kd_assign.proofs.partial.cost_of.Given as goal
+use Rattle.kd_assign.proofs.columns.cost_of.Given as goal
 
 abbrev pub invariant-loop-row : goal.invariant-loop-row
 invariant-loop-row g l = record {
