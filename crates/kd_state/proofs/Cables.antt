@@ -13,26 +13,15 @@ pub eqb_flips : (x y : ℕ) → nat_eq x y ≡ nat_eq y x
 eqb_flips x y = grind (arith, nat_tests)
 
 -- none of the letters is equal to the one exactly where it isn't among them
-pub free_of_absent : (letters : List ℕ) (letter : ℕ) → has_letter letters letter ≡ false → AllByRecursion (λ other. nat_eq letter other ≡ false) letters
-free_of_absent [] letter h = tt
-free_of_absent (other ∷ letters) letter h = grind (arith, or_parts, eqb_flips, free_of_absent letters letter)
-
-pub absent_of_free : (letters : List ℕ) (letter : ℕ) → AllByRecursion (λ other. nat_eq letter other ≡ false) letters → has_letter letters letter ≡ false
-absent_of_free [] letter h = refl
-absent_of_free (other ∷ letters) letter h = grind (arith, or_from, eqb_flips, absent_of_free letters letter h.1)
+pub free_tells : (letters : List ℕ) (letter : ℕ) → (has_letter letters letter ≡ false) ↔ AllByRecursion (λ other. nat_eq letter other ≡ false) letters
+free_tells [] letter = (λ _. tt, λ _. refl)
+free_tells (other ∷ letters) letter = grind (arith, or_parts, or_from, eqb_flips, free_tells letters letter)
 
 -- letters that are new before others
-pub distinct_of_new : (letters others : List ℕ) → are_new letters others ≡ true → IsDistinct nat_eq others → IsDistinct nat_eq (letters ++ others)
+pub new_tells : (letters others : List ℕ) → IsDistinct nat_eq (letters ++ others) ↔ ((are_new letters others ≡ true) × IsDistinct nat_eq others)
 unfolding IsDistinct
-distinct_of_new [] others h rest = rest
-distinct_of_new (letter ∷ letters) others h rest =
-    grind (arith, and_parts, free_of_absent, not-true, distinct_of_new letters others)
-
-pub new_of_distinct : (letters others : List ℕ) → IsDistinct nat_eq (letters ++ others) → (are_new letters others ≡ true) × IsDistinct nat_eq others
-unfolding IsDistinct
-new_of_distinct [] others h = (refl, h)
-new_of_distinct (letter ∷ letters) others h =
-    grind (arith, new_of_distinct letters others h.1, and_from, absent_of_free)
+new_tells [] others = (λ h. (refl, h), λ h. h.1)
+new_tells (letter ∷ letters) others = grind (arith, and_parts, and_from, not-true, free_tells, new_tells letters others)
 
 pub no_letter_twice : IsDistinct nat_eq []
 unfolding IsDistinct
@@ -105,4 +94,4 @@ set_moves out into (first ∷ cables) (suc place) cable new here moves =
 pub distinct_from : (cables : List (Option ℕ × Option ℕ)) (place : ℕ) (cable : Option ℕ × Option ℕ) → place < length cables → cable ≡ get_or cables place cable
     → IsDistinct nat_eq (plugged_letters (drop place cables))
     ↔ ((are_new (cable_letters cable) (plugged_letters (drop (place + 1) cables)) ≡ true) × IsDistinct nat_eq (plugged_letters (drop (place + 1) cables)))
-distinct_from cables place cable within is = grind (arith, drop_more, new_of_distinct, distinct_of_new)
+distinct_from cables place cable within is = grind (arith, drop_more, new_tells)

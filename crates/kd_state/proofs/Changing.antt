@@ -1,33 +1,32 @@
 -- What a setting that is carried out makes of a machine: a machine again, in which the readers tell what was set, and all else as before.
 use Rattle.std.proofs.lemmas.Grind.{common_steps}
 use Rattle.std.proofs.Common.{◌≡◌, ◌≢◌, ◌⊎◌, ◌↔◌, ℕ, zero, suc, ◌+◌, ◌-◌, ◌<◌, ◌≤◌, nat_eq, Bool, true, false, List, [], ◌∷◌, length, map, set, find, All, Contains, Option, Some, None, slice_get, refl, sym, ap, ◌∙◌, inl, inr, subst, arith, rules}
-use Rattle.kd_state.proofs.Prelude.{AllByRecursion, is_none, option_map, option_or, option_and_then, unwrap_or}
-use Rattle.kd_state.proofs.Prelude.{cases_eq, cases_Bool, both_ways, not-false, eqb-false}
-use Rattle.kd_state.proofs.Prelude.{true_from_ne_false, length-set, map-set, length-map}
-use Rattle.kd_state.proofs.Prelude.{All-set, All-tail, All-cons, All-contains, All-from_recursion, Contains-append_left}
-use Rattle.kd_state.proofs.Prelude.{Contains-append_right, Contains-append_cases, position-Some, All-permutation}
-use Rattle.kd_state.proofs.Prelude.{Contains-permutation, IsPermutation-sym, Contains-tail, none-some, same_Some}
-use Rattle.kd_state.proofs.Prelude.{slice_get-map, slice_get_within, Model, Wheel, Reflector, Place, Lug}
-use Rattle.kd_state.proofs.Prelude.{box_of, wheels_for, reflectors_of, IsAllowed, place_on, IsBefore, RotorParts}
-use Rattle.kd_state.proofs.Prelude.{PinParts, Parts, Rotor, Pin, Setting, Pull, Put, Seat, SeatReflector, RingTo, Turn}
-use Rattle.kd_state.proofs.Prelude.{PinTo, LugTo, Why, WouldPass, numbered, place_in_box}
-use Rattle.kd_state.proofs.Prelude.{wheel_pins, pin_at, pin_set, with_pin, cable_letters, plugged_letters, ordered}
-use Rattle.kd_state.proofs.Prelude.{StandsAt, AreLetters, AreCables, IsLegalRotor, IsLegalPin, IsMachine}
-use Rattle.kd_state.proofs.Prelude.{cables_ordered, cable_at, cable_without, cable_with, without, with_letter, with_lug}
-use Rattle.kd_state.proofs.Prelude.{with_lug_at, lug_place, other_lug, is_at, lies_beyond, reasons, why_refused}
-use Rattle.kd_state.proofs.Prelude.{changed, Thing, TheSlot, TheReflector, TheLetter, TheCable, ThePin}
-use Rattle.kd_state.proofs.Prelude.{TheBar, IsKept, SetsOnly, Turns, MovesLug, Makes, IsSeatOf}
-use Rattle.kd_state.proofs.Prelude.{SettingsAreTold, SettingsKeepMachines, IsInRange}
+use Rattle.kd_state.proofs.Prelude.{AllByRecursion, is_none, option_map, option_map_or, option_or, option_and_then}
+use Rattle.kd_state.proofs.Prelude.{unwrap_or, cases_eq, cases_Bool, both_ways, not-false, eqb-false}
+use Rattle.kd_state.proofs.Prelude.{true_from_ne_false, length-set, map-set, length-map, All-set, All-tail, All-cons}
+use Rattle.kd_state.proofs.Prelude.{All-contains, All-from_recursion, Contains-append_left, Contains-append_right}
+use Rattle.kd_state.proofs.Prelude.{Contains-append_cases, position-Some, All-permutation, Contains-permutation}
+use Rattle.kd_state.proofs.Prelude.{IsPermutation-sym, Contains-tail, none-some, same_Some, slice_get-map}
+use Rattle.kd_state.proofs.Prelude.{slice_get_within, Model, Wheel, Reflector, Place, Lug, box_of, wheels_for}
+use Rattle.kd_state.proofs.Prelude.{reflectors_of, IsAllowed, place_on, IsBefore, RotorParts, PinParts, Parts, Rotor}
+use Rattle.kd_state.proofs.Prelude.{Pin, Setting, Pull, Put, Seat, SeatReflector, RingTo, Turn, PinTo, LugTo, Why}
+use Rattle.kd_state.proofs.Prelude.{WouldPass, numbered, place_in_box, wheel_pins, pin_at, pin_set, with_pin}
+use Rattle.kd_state.proofs.Prelude.{cable_letters, plugged_letters, ordered, StandsAt, AreLetters, AreCables}
+use Rattle.kd_state.proofs.Prelude.{IsLegalRotor, IsLegalPin, IsMachine, letter_at, cables_ordered, cable_at}
+use Rattle.kd_state.proofs.Prelude.{cable_without, cable_with, without, with_letter, with_lug, with_lug_at, lug_place}
+use Rattle.kd_state.proofs.Prelude.{other_lug, is_at, lies_beyond, reasons, why_refused, changed, Thing, TheSlot}
+use Rattle.kd_state.proofs.Prelude.{TheReflector, TheLetter, TheCable, ThePin, TheBar, IsKept, SetsOnly, Turns}
+use Rattle.kd_state.proofs.Prelude.{MovesLug, Makes, IsSeatOf, SettingsAreTold, SettingsKeepMachines, IsInRange}
 use Rattle.std.specs.List.{IsDistinct}
 use Rattle.std.specs.List.Sorted.{IsPermutation}
 use Rattle.std.proofs.lemmas.Map.Keys.{IsDistinct-IsPermutation, IsDistinct-head, IsDistinct-tail, IsDistinct-cons}
 use Rattle.kd_tables.specs.Rings.{ring_of}
 use Rattle.kd_pins.specs.declared.pin_set.PinSet.{PinSet}
 use Rattle.kd_pins.specs.PinWheels.{pins_of}
-use Rattle.kd_state.proofs.Cables.{all_ordered, all_ordered_move, all_ordered_again, ordered_again, without_ordered, without_moves, with_moves, set_moves, eqb_flips, free_of_absent}
+use Rattle.kd_state.proofs.Cables.{all_ordered, all_ordered_move, all_ordered_again, ordered_again, without_ordered, without_moves, with_moves, set_moves, eqb_flips, free_tells}
 use Rattle.kd_state.proofs.DayPairs.{of_one}
 use Rattle.kd_state.proofs.Rings.{has_letter-Decides, place_there, only_place}
-use Rattle.kd_state.proofs.Slots.{stands, not_none, set_here, set_other, numbered_here, numbered_other, seated_in_box}
+use Rattle.kd_state.proofs.Slots.{stands, set_here, set_other, numbered_here, numbered_other, seated_in_box}
 use Rattle.kd_state.proofs.Wheels.{places_tell_wheels, has_wheel-Decides, has_reflector-Decides, same_wheel-Decides, same_wheel_self, same_wheel_differs, placed, place_within, place_nowhere}
 
 -- ---- reasons, and machines that differ in one thing
@@ -69,12 +68,12 @@ record AreFree (letters : List ℕ) : Type 0 where
 moved_free : (letters others : List ℕ) → IsPermutation letters others → AreFree letters → AreFree others
 moved_free letters others moved h = search (rules, All-permutation, moved, IsDistinct-IsPermutation, eqb_flips)
 
-pub lies_plugged : (cables : List (Option ℕ × Option ℕ)) (place : ℕ) (cable : Option ℕ × Option ℕ) (letter : ℕ) → slice_get cables place ≡ Some cable
-    → Contains (cable_letters cable) letter → Contains (plugged_letters cables) letter
-lies_plugged [] place cable letter here lies = absurd (none-some cable here)
-lies_plugged (first ∷ cables) zero cable letter here lies = grind (arith, Contains-append_left, same_Some)
-lies_plugged (first ∷ cables) (suc place) cable letter here lies =
-    Contains-append_right (cable_letters first) (plugged_letters cables) letter (lies_plugged cables place cable letter here lies)
+pub lies_plugged : (cables : List (Option ℕ × Option ℕ)) (place letter : ℕ)
+    → Contains (option_map_or cable_letters (slice_get cables place) []) letter → Contains (plugged_letters cables) letter
+lies_plugged [] place letter lies = lies
+lies_plugged (first ∷ cables) zero letter lies = Contains-append_left (cable_letters first) (plugged_letters cables) letter lies
+lies_plugged (first ∷ cables) (suc place) letter lies =
+    Contains-append_right (cable_letters first) (plugged_letters cables) letter (lies_plugged cables place letter lies)
 
 keeps_cables : (m : RotorParts) (cable : ℕ) (new : Option ℕ × Option ℕ) → 1 ≤ cable
     → SetsOnly (TheCable cable) (Rotor m) (Rotor (record m { cables = set m.cables (cable - 1) new }))
@@ -90,7 +89,7 @@ pull m cable letter h allowed =
     let old = cable_at m cable in
     let new = cable_without letter old in
     let left = set m.cables (cable - 1) new in
-    let at = stands m.cables cable (None, None) (not_none _ no.0) in
+    let at = stands m.cables cable (None, None) no.0 in
     let now = numbered_here m.cables cable new at.first at.last in
     let moved : IsPermutation (cable_letters old) (letter ∷ cable_letters new) = without_moves letter old.0 old.1 (not-false _ no.1.0) in
     let moves : IsPermutation (plugged_letters m.cables) (letter ∷ plugged_letters left) = set_moves [] (letter ∷ []) m.cables (cable - 1) old new at.here moved in
@@ -100,7 +99,7 @@ pull m cable letter h allowed =
     let out : (other : ℕ) → Contains (cable_letters new) other ↔ (Contains (cable_letters old) other × (other ≢ letter)) = λ other. (
       λ lies. (
         Contains-permutation _ _ other (IsPermutation-sym _ _ moved) (Contains-append_right (letter ∷ []) (cable_letters new) other lies),
-        λ e. eqb-false letter other (All-contains (λ (l : ℕ). nat_eq letter l ≡ false) (plugged_letters left) other gone (lies_plugged left (cable - 1) new other there lies)) (sym e),
+        λ e. eqb-false letter other (All-contains (λ (l : ℕ). nat_eq letter l ≡ false) (plugged_letters left) other gone (lies_plugged left (cable - 1) other (rw there lies))) (sym e),
       ),
       λ lay. Contains-tail letter (cable_letters new) other (λ e. lay.1 (sym e)) (Contains-permutation _ _ other moved lay.0),
     )
@@ -118,7 +117,7 @@ put m cable letter h allowed =
     let no = no_reason (reasons (Rotor m) (Put cable letter)) allowed in
     let old = cable_at m cable in
     let new = cable_with letter old in
-    let at = stands m.cables cable (None, None) (not_none _ no.0) in
+    let at = stands m.cables cable (None, None) no.0 in
     let now = numbered_here m.cables cable new at.first at.last in
     let moved : IsPermutation (letter ∷ cable_letters old) (cable_letters new) = with_moves letter old.0 old.1 no.1.0 in
     let moves = set_moves (letter ∷ []) [] m.cables (cable - 1) old new at.here moved in
@@ -137,7 +136,7 @@ put m cable letter h allowed =
       told = (rw (now, at.is) into, keeps_cables m cable new at.first);
       kept = λ r. with_cable m cable new h (ordered_again (option_or old.0 old.1) (Some letter)) (moved_free _ _ moves (record {
         within = All-cons (λ (l : ℕ). l < 26) letter (plugged_letters m.cables) r.1 h.legal.cables.within;
-        apart = IsDistinct-cons nat_eq letter (plugged_letters m.cables) (free_of_absent (plugged_letters m.cables) letter no.1.1.0) h.legal.cables.apart;
+        apart = IsDistinct-cons nat_eq letter (plugged_letters m.cables) ((free_tells (plugged_letters m.cables) letter).0 no.1.1.0) h.legal.cables.apart;
       }));
     }
 
@@ -228,7 +227,7 @@ reflect m reflector h allowed =
 
 -- ---- rings and window letters
 
-letters_set : (number : ℕ) (letters : List ℕ) (place letter : ℕ) → letter < 26 → AreLetters number letters → AreLetters number (set letters place letter)
+pub letters_set : (number : ℕ) (letters : List ℕ) (place letter : ℕ) → letter < 26 → AreLetters number letters → AreLetters number (set letters place letter)
 letters_set number letters place letter within h = grind (arith, common_steps, length-set, All-set)
 
 -- a letter that is set for a wheel of the box is read for that wheel, and for no other one
@@ -253,6 +252,11 @@ ring_to m wheel letter h allowed =
       kept = λ within. with_letters m _ m.letters h (letters_set _ m.rings place letter within l.rings) l.letters;
     }
 
+keeps_letters : (m : RotorParts) (wheel : Wheel) (letters : List ℕ)
+    → ((other : Wheel) → other ≢ wheel → slice_get letters (place_in_box m.model other) ≡ letter_at m other)
+    → SetsOnly (TheLetter wheel) (Rotor m) (Rotor (record m { letters = letters }))
+keeps_letters m wheel letters same = grind (arith, same)
+
 is_seated : (held : Option (Option Wheel)) → is_none (unwrap_or held None) ≡ false → (wheel : Wheel) × (held ≡ Some (Some wheel))
 is_seated held e = grind arith
 
@@ -265,19 +269,8 @@ turn m slot letter h allowed =
     let place = place_in_box m.model wheel in
     let reads = for_wheel m.model m.letters wheel letter (seated_in_box m.model m.slots slot wheel l.allowed found.1) l.letters in
     let turned = ap (λ held. with_letter m (unwrap_or held None) letter) found.1 in
-    let tells : Turns (Rotor m) slot letter (Rotor (record m { letters = set m.letters place letter })) = (
-      wheel,
-      found.1,
-      reads.0,
-      record {
-        model = refl;
-        others = λ thing. elim thing as (Keeps (TheLetter wheel) (Rotor m) (Rotor (record m { letters = set m.letters place letter }))) [
-          | TheLetter other ↦ λ free. reads.1 other (λ e. free (ap TheLetter e))
-          | _ ↦ λ _. refl
-        ];
-      },
-    )
-    in
+    let tells : Turns (Rotor m) slot letter (Rotor (record m { letters = set m.letters place letter })) =
+    (wheel, found.1, reads.0, keeps_letters m wheel (set m.letters place letter) reads.1) in
     record {
       told = subst (λ letters. Turns (Rotor m) slot letter (Rotor (record m { letters = letters }))) (sym turned) tells;
       kept = λ r. with_letters m m.rings _ h l.rings (rw turned (letters_set _ m.letters place letter r.1 l.letters));
@@ -289,7 +282,7 @@ show : (m : PinParts) (wheel letter : ℕ) → IsMachine (Pin m) → why_refused
 show m wheel letter h allowed =
     let l = h.legal in
     let no = no_reason (reasons (Pin m) (Turn wheel letter)) allowed in
-    let at = stands m.letters wheel 0 (not_none _ no.0) in
+    let at = stands m.letters wheel 0 no.0 in
     let on = (has_letter-Decides (ring_of wheel) letter).0 (not-false _ no.1.0) in
     let now = numbered_here m.letters wheel letter at.first at.last in
     record {
@@ -317,6 +310,9 @@ other_pin : (ring : List ℕ) (list : List Bool) (letter other place : ℕ) (eff
     → option_and_then (slice_get (set list place effective)) found ≡ option_and_then (slice_get list) found
 other_pin ring list letter other place effective found e d g = grind (arith, set_other, only_place)
 
+filled : (found : Option (List Bool)) (place : ℕ) → place < length (unwrap_or found []) → is_none found ≡ false
+filled found place within = grind arith
+
 pin_to : (m : PinParts) (wheel letter : ℕ) (effective : Bool) → IsMachine (Pin m) → why_refused (Pin m) (PinTo wheel letter effective) ≡ None → IsCarried (Pin m) (PinTo wheel letter effective)
 pin_to m wheel letter effective h allowed =
     let l = h.legal in
@@ -325,7 +321,7 @@ pin_to m wheel letter effective h allowed =
     let there = place_there (ring_of wheel) letter ((has_letter-Decides (ring_of wheel) letter).0 (not-false _ no.0)) in
     let old = wheel_pins m.pins wheel in
     let within : place < length old = omega (arith, l.pins wheel, (position-Some (λ (l : ℕ). nat_eq l letter) (ring_of wheel) place 0 there).0) in
-    let at = stands (pins_of m.pins) wheel [] (λ none. omega (arith, within, ap (λ (found : Option (List Bool)). length (unwrap_or found [])) none)) in
+    let at = stands (pins_of m.pins) wheel [] (filled (numbered (pins_of m.pins) wheel) place within) in
     let new = set old place effective in
     let pins = with_pin m.pins wheel letter effective in
     let lists : (other : ℕ) → wheel_pins pins other ≡ unwrap_or (numbered (set (pins_of m.pins) (wheel - 1) new) other) [] =
@@ -358,10 +354,20 @@ pub still_before : (lug : Lug) (place : Place) (bar : Place × Place) → is_at 
     → IsBefore (with_lug lug place bar).0 (with_lug lug place bar).1
 still_before lug place bar e d = grind arith
 
+keeps_bars : (m : PinParts) (bar : ℕ) (new : Place × Place) → 1 ≤ bar
+    → SetsOnly (TheBar bar) (Pin m) (Pin (record m { bars = set m.bars (bar - 1) new }))
+keeps_bars m bar new first = record {
+  model = refl;
+  others = λ thing. elim thing as (Keeps (TheBar bar) (Pin m) (Pin (record m { bars = set m.bars (bar - 1) new }))) [
+    | TheBar other ↦ λ free. numbered_other m.bars bar other new first (λ e. free (ap TheBar e))
+    | _ ↦ λ _. refl
+  ];
+}
+
 lug_to : (m : PinParts) (bar : ℕ) (lug : Lug) (place : Place) → IsMachine (Pin m) → why_refused (Pin m) (LugTo bar lug place) ≡ None → IsCarried (Pin m) (LugTo bar lug place)
 lug_to m bar lug place h allowed =
     let no = no_reason (reasons (Pin m) (LugTo bar lug place)) allowed in
-    let at = stands m.bars bar (place, place) (not_none _ no.0) in
+    let at = stands m.bars bar (place, place) no.0 in
     let standing = unwrap_or (numbered m.bars bar) (place, place) in
     let new = with_lug lug place standing in
     let bars = set m.bars (bar - 1) new in
@@ -372,16 +378,8 @@ lug_to m bar lug place h allowed =
       other = ap (option_map (lug_place (other_lug lug))) now ∙ ap Some (lug_set lug place standing).1 ∙ ap (option_map (lug_place (other_lug lug))) (sym at.is);
     }
     in
-    let kept : SetsOnly (TheBar bar) (Pin m) (Pin (record m { bars = bars })) = record {
-      model = refl;
-      others = λ thing. elim thing as (Keeps (TheBar bar) (Pin m) (Pin (record m { bars = bars }))) [
-        | TheBar other ↦ λ free. numbered_other m.bars bar other new at.first (λ e. free (ap TheBar e))
-        | _ ↦ λ _. refl
-      ];
-    }
-    in
     record {
-      told = subst (λ bars. Makes (Pin m) (LugTo bar lug place) (Pin (record m { bars = bars }))) (sym all) (moved, kept);
+      told = subst (λ bars. Makes (Pin m) (LugTo bar lug place) (Pin (record m { bars = bars }))) (sym all) (moved, keeps_bars m bar new at.first);
       kept = grind (arith, common_steps, pin_machine, length-set, All-set, still_before);
     }
 

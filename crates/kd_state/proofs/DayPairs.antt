@@ -1,11 +1,13 @@
 -- Cables that are a day's pairs exchange the same letters as the pairs.
-use Rattle.std.proofs.Common.{◌≡◌, ◌≢◌, ◌↔◌, ◌⊎◌, ℕ, zero, suc, ◌<◌, nat_eq, List, [], ◌∷◌, length, get_or, All, Any, Contains, Option, Some, None, slice_get, inl, inr, refl, sym, ap, ◌∙◌, subst, arith, filter_map, rules}
-use Rattle.kd_state.proofs.Prelude.{AllByRecursion, cases_eq, eqb-false, All-contains, All-from_recursion}
-use Rattle.kd_state.proofs.Prelude.{Contains-append_right, recursion_from_All, none-some, same_Some, slice_get-get_or}
-use Rattle.kd_state.proofs.Prelude.{letters_plugged, NoLetterTwice, cable_letters, plugged_letters, AreCables}
-use Rattle.kd_state.proofs.Prelude.{SameLetters, AreTheLetters, Joins, IsPaired, IsJoined, AreThePairs, both_ends}
+use Rattle.std.proofs.Common.{◌≡◌, ◌≢◌, ◌↔◌, ◌⊎◌, ℕ, zero, suc, ◌<◌, nat_eq, List, [], ◌∷◌, length, get_or, All, Any, Contains, Option, Some, None, slice_get, inl, inr, refl, sym, ap, ◌∙◌, subst, arith, filter_map, rules, true}
+use Rattle.kd_state.proofs.Prelude.{AllByRecursion, eqb-false, All-contains, All-from_recursion, Contains-append_right}
+use Rattle.kd_state.proofs.Prelude.{recursion_from_All, none-some, same_Some, slice_get-get_or, letters_plugged}
+use Rattle.kd_state.proofs.Prelude.{NoLetterTwice, cable_letters, plugged_letters, AreCables, SameLetters}
+use Rattle.kd_state.proofs.Prelude.{AreTheLetters, Joins, IsPaired, IsJoined, AreThePairs, both_ends, has_letter}
+use Rattle.kd_state.proofs.Prelude.{option_map_or, nat_tests}
 use Rattle.std.specs.List.{IsDistinct}
 use Rattle.kd_enigma.specs.Plugs as plugs
+use Rattle.kd_state.proofs.CostTable.{tests_tell_letters}
 
 -- ---- the pairs that whole cables exchange
 
@@ -30,15 +32,9 @@ of_one a x e = grind arith
 
 -- two letters that are those of a pair
 pub same_two : (a b : ℕ) (pair : ℕ × ℕ) → SameLetters (a ∷ b ∷ []) (pair.0 ∷ pair.1 ∷ []) → AreTheLetters a b pair
-same_two a b (p, q) same =
-    let p_in = of_two a b p ((same p).1 (0, omega arith, refl)) in
-    let q_in = of_two a b q ((same q).1 (1, omega arith, refl)) in
-    let a_in = of_two p q a ((same a).0 (0, omega arith, refl)) in
-    let b_in = of_two p q b ((same b).0 (1, omega arith, refl)) in
-    elim (cases_eq a p) [
-      | inl first ↦ let second : b ≡ q = grind arith in inl (first, second)
-      | inr ne ↦ let first : b ≡ p = grind arith in let second : a ≡ q = grind arith in inr (first, second)
-    ]
+same_two a b pair same =
+    let tests = (tests_tell_letters (a ∷ b ∷ []) (pair.0 ∷ pair.1 ∷ [])).0 same in
+    grind (arith, nat_tests, tests a, tests b, tests pair.0, tests pair.1)
 
 -- the two letters of a day's pair differ
 apart_at : (pairs : List (ℕ × ℕ)) (k : ℕ) (d : ℕ × ℕ) → IsDistinct nat_eq (letters_plugged pairs) → k < length pairs → (get_or pairs k d).0 ≢ (get_or pairs k d).1
@@ -110,3 +106,22 @@ module _ (cables : List (Option ℕ × Option ℕ)) (pairs : List (ℕ × ℕ)) 
     λ joins. elim joins [ inl one ↦ cable_pair x y one | inr other ↦ swapped (cable_pair y x other) ],
     λ joins. elim joins [ inl one ↦ day_pair x y one | inr other ↦ swapped (day_pair y x other) ],
   )
+
+-- ---- when a cable's letters are a pair's
+
+-- each letter of the pair lies in the cable, and each end of the cable is loose, or its letter is one of the pair
+same_tests : (cable : Option ℕ × Option ℕ) (p q letter : ℕ) → has_letter (cable_letters cable) p ≡ true → has_letter (cable_letters cable) q ≡ true
+    → option_map_or (has_letter (p ∷ q ∷ [])) cable.0 true ≡ true → option_map_or (has_letter (p ∷ q ∷ [])) cable.1 true ≡ true
+    → has_letter (cable_letters cable) letter ≡ has_letter (p ∷ q ∷ []) letter
+same_tests cable p q letter a b c d = grind (arith, nat_tests)
+
+pub joined_by_tests : (cable : Option ℕ × Option ℕ) (pair : ℕ × ℕ) → has_letter (cable_letters cable) pair.0 ≡ true → has_letter (cable_letters cable) pair.1 ≡ true
+    → option_map_or (has_letter (pair.0 ∷ pair.1 ∷ [])) cable.0 true ≡ true → option_map_or (has_letter (pair.0 ∷ pair.1 ∷ [])) cable.1 true ≡ true → Joins cable pair
+joined_by_tests cable pair a b c d = record { letters = (tests_tell_letters (cable_letters cable) (pair.0 ∷ pair.1 ∷ [])).1 (λ letter. same_tests cable pair.0 pair.1 letter a b c d) }
+
+pub tests_of_joined : (cable : Option ℕ × Option ℕ) (pair : ℕ × ℕ) → Joins cable pair
+    → (has_letter (cable_letters cable) pair.0 ≡ true) × (has_letter (cable_letters cable) pair.1 ≡ true)
+    × (option_map_or (has_letter (pair.0 ∷ pair.1 ∷ [])) cable.0 true ≡ true) × (option_map_or (has_letter (pair.0 ∷ pair.1 ∷ [])) cable.1 true ≡ true)
+tests_of_joined cable pair joined =
+    let same = (tests_tell_letters (cable_letters cable) (pair.0 ∷ pair.1 ∷ [])).0 joined.letters in
+    grind (arith, nat_tests, same)

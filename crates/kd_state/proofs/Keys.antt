@@ -117,9 +117,7 @@ pub turned_on_key : TurnedIsOnKey
 turned_on_key (Rotor m) (Rotor n) (OfRotors s) window turned h =
     subst (λ (k : RotorParts). IsRotorOnKey k s) (sym turned.0) (record { model = h.model; slots = h.slots; rings = h.rings; reflector = h.reflector; cables = h.cables })
 turned_on_key (Pin m) (Pin n) (OfPins s) window turned h = subst (λ (k : PinParts). IsPinOnKey k s) (sym turned) (record { pins = h.pins; rows = h.rows })
-turned_on_key (Rotor m) (Rotor n) (OfPins s) window turned h = absurd h
-turned_on_key (Pin m) (Pin n) (OfRotors s) window turned h = absurd h
-turned_on_key m n s window turned h = absurd turned
+turned_on_key m n s window turned h = grind arith
 
 -- the key of the turned machine, but for the letters that it shows
 pub turned_key : TurnedHasItsKey

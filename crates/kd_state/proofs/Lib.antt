@@ -5,17 +5,12 @@ pub mod Slots
 pub mod Rings
 pub mod WordLines
 pub mod SettingLines
-mod CountedLetters
-pub mod Columns
-mod DayPairs
-mod Joined
+pub mod CostTable
+pub mod DayPairs
 mod Keys
-mod OnKey
 mod Seating
 mod SortedAlike
-mod Standings
 mod Turnable
-pub mod Carrying
 pub mod Changing
-mod Refusing
+pub mod Refusing
 mod Telling

@@ -1,18 +1,51 @@
--- What a machine refuses, as its readers tell it.
-use Rattle.std.proofs.Common.{◌≡◌, ◌↔◌, ℕ, zero, suc, ◌<◌, nat_eq, ◌⊎◌, Bool, Decides, true, false, not, List, [], ◌∷◌, length, Contains, Option, Some, None, IsSome, slice_get, refl, sym, ap, ◌∙◌, inl, inr, subst, arith}
-use Rattle.kd_state.proofs.Prelude.{is_none, is_some, option_map, option_map_or, option_and_then, unwrap_or}
-use Rattle.kd_state.proofs.Prelude.{false_from_ne_true, false≢true, Contains-append_cases}
-use Rattle.kd_state.proofs.Prelude.{position-Some, none-some, same_Some, slice_get-get_or, slice_get_cases, Wheel}
-use Rattle.kd_state.proofs.Prelude.{Place, Lug, place_on, RotorParts, PinParts, Rotor, Pin, Pull, Put}
-use Rattle.kd_state.proofs.Prelude.{Seat, SeatReflector, RingTo, Turn, PinTo, LugTo, Why, OtherModel, NoSuchCable}
-use Rattle.kd_state.proofs.Prelude.{NotThere, NoLooseEnd, SocketTaken, SlotEmpty, NotOnWheel, NoSuchBar, PlaceTaken}
-use Rattle.kd_state.proofs.Prelude.{WouldPass, numbered, wheel_pins, pin_at, cable_letters, plugged_letters, HasAllPins}
-use Rattle.kd_state.proofs.Prelude.{has_letter, is_plugged, is_at, lies_beyond, lug_place, other_lug, with_lug}
-use Rattle.kd_state.proofs.Prelude.{why_refused, Stands, Allows, RefusalsAreTold}
+-- What a machine refuses, as its readers tell it; and settings and lists of them, refused and carried out.
+use Rattle.std.proofs.Common.{Bool, Decides, ◌≡◌, ◌↔◌, ℕ, not, List, [], ◌∷◌, All, Contains, Option, None, MatchOption, refl, sym, ◌∙◌, subst, arith, zero, suc, ◌<◌, nat_eq, ◌⊎◌, true, false, length, Some, IsSome, slice_get, ap, inl, inr}
+use Rattle.kd_state.proofs.Prelude.{not-false, All-head, All-tail, none-some, Wheel, Reflector, box_of, wheels_for}
+use Rattle.kd_state.proofs.Prelude.{reflectors_of, IsAllowed, RotorParts, Parts, Rotor, Setting, Seat, SeatReflector}
+use Rattle.kd_state.proofs.Prelude.{RingTo, Why, WheelNotAllowed, IsMachine, why_refused, changed, Carries, Leads}
+use Rattle.kd_state.proofs.Prelude.{IsInRange, is_none, is_some, option_map, option_map_or, option_and_then, unwrap_or}
+use Rattle.kd_state.proofs.Prelude.{false_from_ne_true, false≢true, Contains-append_cases, position-Some, same_Some}
+use Rattle.kd_state.proofs.Prelude.{slice_get-get_or, Place, Lug, place_on, PinParts, Pin, Pull, Put, Turn, PinTo}
+use Rattle.kd_state.proofs.Prelude.{LugTo, OtherModel, NoSuchCable, NotThere, NoLooseEnd, SocketTaken, SlotEmpty}
+use Rattle.kd_state.proofs.Prelude.{NotOnWheel, NoSuchBar, PlaceTaken, WouldPass, numbered, wheel_pins, pin_at}
+use Rattle.kd_state.proofs.Prelude.{cable_letters, plugged_letters, HasAllPins, has_letter, is_plugged, is_at}
+use Rattle.kd_state.proofs.Prelude.{lies_beyond, lug_place, other_lug, with_lug, Stands, Allows, RefusalsAreTold}
+use Rattle.kd_state.proofs.Changing.{first_reason, settings_keep_machines, no_reason, lies_plugged, still_before}
+use Rattle.kd_state.proofs.Wheels.{has_wheel-Decides, has_reflector-Decides}
 use Rattle.kd_tables.specs.Rings.{ring_of}
-use Rattle.kd_state.proofs.Carrying.{by_one_test, seats_by_the_tables, reflectors_by_the_tables, rings_by_the_tables}
-use Rattle.kd_state.proofs.Changing.{first_reason, no_reason, lies_plugged, still_before}
 use Rattle.kd_state.proofs.Rings.{has_letter-Decides, is_some-place_on, place_there}
+
+pub lists_keep_machines : (m n : Parts) (xs : List Setting) → IsMachine m → All IsInRange xs → Leads m xs n → IsMachine n
+lists_keep_machines m n [] h r l = subst IsMachine (sym l) h
+lists_keep_machines m n (x ∷ xs) h r l =
+    lists_keep_machines l.0 n xs (settings_keep_machines m l.0 x h (All-head IsInRange x xs r) l.1) (All-tail IsInRange x xs r) l.2
+
+either : (m : Parts) (x : Setting) (why : Option Why) → why_refused m x ≡ why → MatchOption why ((n : Parts) × Carries m x n) (λ why. (n : Parts) → ¬ (Carries m x n))
+either m x why e = grind (arith, changed, none-some)
+
+pub refuses_or_carries : (m : Parts) (x : Setting) → MatchOption (why_refused m x) ((n : Parts) × Carries m x n) (λ why. (n : Parts) → ¬ (Carries m x n))
+refuses_or_carries m x = either m x (why_refused m x) refl
+
+pub carries_to_one : (m n o : Parts) (x : Setting) → Carries m x n → Carries m x o → n ≡ o
+carries_to_one m n o x one other = one.made ∙ sym other.made
+
+pub leads_to_one : (m n o : Parts) (xs : List Setting) → Leads m xs n → Leads m xs o → n ≡ o
+leads_to_one m n o [] one other = one ∙ sym other
+leads_to_one m n o (x ∷ xs) one other =
+    leads_to_one one.0 n o xs one.2 (subst (λ (between : Parts). Leads between xs o) (carries_to_one m other.0 one.0 x other.1 one.1) other.2)
+
+-- a refusal by one test alone
+pub by_one_test : {P : Type 0} (may : Bool) (why : Why) → Decides may P → (first_reason ((not may, why) ∷ []) ≡ None) ↔ P
+by_one_test may why tells = grind (arith, not-false, no_reason, tells.1)
+
+pub seats_by_the_tables : (m : RotorParts) (slot : ℕ) (wheel : Wheel) → (why_refused (Rotor m) (Seat slot wheel) ≡ None) ↔ IsAllowed m.model slot wheel
+seats_by_the_tables m slot wheel = by_one_test _ WheelNotAllowed (has_wheel-Decides (wheels_for m.model slot) wheel)
+
+pub reflectors_by_the_tables : (m : RotorParts) (reflector : Reflector) → (why_refused (Rotor m) (SeatReflector reflector) ≡ None) ↔ Contains (reflectors_of m.model) reflector
+reflectors_by_the_tables m reflector = by_one_test _ WheelNotAllowed (has_reflector-Decides (reflectors_of m.model) reflector)
+
+pub rings_by_the_tables : (m : RotorParts) (wheel : Wheel) (letter : ℕ) → (why_refused (Rotor m) (RingTo wheel letter) ≡ None) ↔ Contains (box_of m.model) wheel
+rings_by_the_tables m wheel letter = by_one_test _ WheelNotAllowed (has_wheel-Decides (box_of m.model) wheel)
 
 -- ---- cables
 
@@ -31,13 +64,9 @@ lies_somewhere (cable ∷ cables) letter lies = elim (Contains-append_cases (cab
 ]
 
 lies_in_all : (cables : List (Option ℕ × Option ℕ)) (number letter : ℕ)
-    → Contains (option_map_or cable_letters (numbered cables number) []) letter
-    → Contains (plugged_letters cables) letter
+    → Contains (option_map_or cable_letters (numbered cables number) []) letter → Contains (plugged_letters cables) letter
 lies_in_all cables zero letter lies = absurd (omega (arith, lies.1))
-lies_in_all cables (suc place) letter lies = elim (slice_get_cases cables place).1 [
-  | inl (cable, _, here, _) ↦ lies_plugged cables place cable letter here (rw here at lies)
-  | inr (_, none) ↦ let nowhere : Contains [] letter = rw none at lies in absurd (omega (arith, nowhere.1))
-]
+lies_in_all cables (suc place) letter lies = lies_plugged cables place letter lies
 
 loose_in : {P : Type 0} (cable : Option ℕ × Option ℕ) (taken : Bool) → Decides taken P
     → length (cable_letters cable) < 2 → (first_reason ((taken, SocketTaken) ∷ []) ≡ None)
@@ -116,13 +145,7 @@ refusals_are_told (Rotor m) (Seat slot wheel) h = seats_by_the_tables m slot whe
 refusals_are_told (Rotor m) (SeatReflector reflector) h = reflectors_by_the_tables m reflector
 refusals_are_told (Rotor m) (RingTo wheel letter) h = rings_by_the_tables m wheel letter
 refusals_are_told (Rotor m) (Turn slot letter) h = turned (numbered m.slots slot) (λ may. false≢true may.0)
-refusals_are_told (Rotor m) (PinTo wheel letter effective) h = never false≢true
-refusals_are_told (Rotor m) (LugTo bar lug place) h = never (λ may. none-some _ may.1)
-refusals_are_told (Pin m) (Pull cable letter) h = never (λ lies. omega (arith, lies.1))
-refusals_are_told (Pin m) (Put cable letter) h = never (λ may. none-some _ may.0.1)
-refusals_are_told (Pin m) (Seat slot wheel) h = never (λ lies. omega (arith, lies.1))
-refusals_are_told (Pin m) (SeatReflector reflector) h = never (λ lies. omega (arith, lies.1))
-refusals_are_told (Pin m) (RingTo wheel letter) h = never (λ lies. omega (arith, lies.1))
 refusals_are_told (Pin m) (Turn wheel letter) h = grind (arith, shown, has_letter-Decides, none-some)
 refusals_are_told (Pin m) (PinTo wheel letter effective) h = by_one_test _ NotOnWheel (pin_told m wheel letter h.legal.pins)
 refusals_are_told (Pin m) (LugTo bar lug place) h = moved lug place (numbered m.bars bar)
+refusals_are_told m x h = never (λ may. grind arith)

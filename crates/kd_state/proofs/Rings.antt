@@ -1,13 +1,11 @@
 -- The letters and the pins of the six pin wheels.
-use Rattle.std.proofs.lemmas.Grind.{common_steps}
-use Rattle.std.proofs.Common.{◌≡◌, ℕ, ◌+◌, ◌-◌, ◌<◌, nat_eq, true, false, List, length, get_or, Contains, Decides, Some, sym, ◌∙◌, subst, arith, rules}
-use Rattle.kd_state.proofs.Prelude.{is_some, unwrap_or, cases_Bool, lt-ltb, le-ltb, both_ways}
-use Rattle.kd_state.proofs.Prelude.{eqb-true, position-Some, Decides-like, Decides-eqb}
-use Rattle.kd_state.proofs.Prelude.{is_member-Decides, get_or_from_slice_get, slice_get-get_or, place_on}
-use Rattle.kd_state.proofs.Prelude.{HasAllPins, AreOnWheels, has_letter, OnWheels}
+use Rattle.std.proofs.Common.{◌≡◌, ℕ, nat_eq, List, length, Contains, Decides, Some, sym, ◌∙◌, arith}
+use Rattle.kd_state.proofs.Prelude.{is_some, unwrap_or, cases_Bool, lt-ltb, le-ltb, eqb-true, position-Some}
+use Rattle.kd_state.proofs.Prelude.{Decides-like, Decides-eqb, is_member-Decides, get_or_from_slice_get}
+use Rattle.kd_state.proofs.Prelude.{slice_get-get_or, place_on, HasAllPins, AreOnWheels, has_letter, OnWheels}
 use Rattle.kd_tables.specs.Rings.{ring_of}
 use Rattle.kd_pins.specs.declared.pin_set.PinSet.{PinSet}
-use Rattle.kd_state.proofs.Slots.{is_numbered, numbered_at}
+use Rattle.kd_state.proofs.Slots.{is_numbered}
 use Rattle.kd_state.proofs.Wheels.{first_within, first_nowhere}
 
 -- the letter is one of these, and has a place then
@@ -31,18 +29,6 @@ only_place letters letter other place e f =
 pub are_on_wheels : (letters : List ℕ) → length letters ≡ 6 → OnWheels letters → AreOnWheels letters
 are_on_wheels letters six on = grind (arith, is_numbered, get_or_from_slice_get, on)
 
-pub each_on_wheel : (letters : List ℕ) → length letters ≡ 6 → ((place : ℕ) → place < length letters → Contains (ring_of (place + 1)) (get_or letters place 0)) → AreOnWheels letters
-each_on_wheel letters six on = are_on_wheels letters six (λ wheel low high.
-    let back : wheel - 1 + 1 ≡ wheel = omega arith in
-    subst (λ (n : ℕ). Contains (ring_of n) (get_or letters (wheel - 1) 0)) back (on (wheel - 1) (omega arith)))
-
--- the letter at a place is on its wheel, and then it isn't off it
-pub on_wheel : (letters : List ℕ) (place d : ℕ) → place < length letters → has_letter (ring_of (place + 1)) (get_or letters place d) ≡ true → Contains (ring_of (place + 1)) (get_or letters place 0)
-on_wheel letters place d within h = grind (arith, common_steps, has_letter-Decides)
-
-pub off_wheel : (letters : List ℕ) (place d : ℕ) → place < length letters → AreOnWheels letters → has_letter (ring_of (place + 1)) (get_or letters place d) ≡ false → ⊥
-off_wheel letters place d within on h = search (rules, numbered_at, slice_get-get_or, both_ways, has_letter-Decides)
-
 -- arrays of these lengths are all the pins
 pub all_pins : (pins : PinSet) → length pins.w1 ≡ 26 → length pins.w2 ≡ 25 → length pins.w3 ≡ 23 → length pins.w4 ≡ 21 → length pins.w5 ≡ 19 → length pins.w6 ≡ 17 → HasAllPins pins
 unfolding ring_of
@@ -50,3 +36,5 @@ all_pins pins e d g h o q = grind arith
 
 pub stand_on_wheels : (letters : List ℕ) → AreOnWheels letters → OnWheels letters
 stand_on_wheels letters e = grind (arith, slice_get-get_or)
+
+pub ruleset on_wheels = (has_letter-Decides, is_some-place_on)

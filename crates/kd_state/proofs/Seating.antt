@@ -2,9 +2,9 @@
 use Rattle.std.proofs.Common.{◌≡◌, ◌≢◌, ℕ, ◌+◌, ◌<◌, List, [], ◌∷◌, length, map, get_or, slice_get, filter_map, Option, Some, None, IsSome, All, Contains, refl, sym, ap, ◌∙◌, subst, arith}
 use Rattle.std.specs.Prelude.{MatchOption}
 use Rattle.kd_state.proofs.Prelude.{AllByRecursion, false≢true, get_or-map, length-map, All-map, none-some}
-use Rattle.kd_state.proofs.Prelude.{same_Some, slice_get-get_or, Wheel, exchange, Parts, Rotor, RotorParts, SheetWheel}
-use Rattle.kd_state.proofs.Prelude.{place_in_box, IsLegalRotor, ring_at, letter_at, seats, OfWheels, IsRotorReady}
-use Rattle.kd_state.proofs.Prelude.{seated_wheels, plugged_pairs, physical_key}
+use Rattle.kd_state.proofs.Prelude.{slice_get-get_or, Wheel, exchange, Rotor, RotorParts, SheetWheel, place_in_box}
+use Rattle.kd_state.proofs.Prelude.{IsLegalRotor, ring_at, letter_at, seats, OfWheels, IsRotorReady, seated_wheels}
+use Rattle.kd_state.proofs.Prelude.{plugged_pairs, physical_key}
 use Rattle.kd_state.specs.Seated.{wheel_with, seated_wheel, key_of_wheels}
 use Rattle.kd_state.proofs.Wheels.{placed, place_within}
 
@@ -19,19 +19,21 @@ record IsSeat (m : RotorParts) (seat : Option Wheel) (w : SheetWheel) : Type 0 w
   ring : ring_at m w.wheel ≡ Some w.ring
   letter : letter_at m w.wheel ≡ Some w.letter
 
-is_seat : (m : RotorParts) (seat : Option Wheel) (w : SheetWheel) → Some w ≡ seated_wheel (Rotor m) seat → IsSeat m seat w
-is_seat m None w e = absurd (none-some w (sym e))
-is_seat m (Some wheel) w e = by_reads (ring_at m wheel) (letter_at m wheel) refl refl e
-  where
-    by_reads : (ring letter : Option ℕ) → ring_at m wheel ≡ ring → letter_at m wheel ≡ letter → Some w ≡ wheel_with wheel ring letter → IsSeat m (Some wheel) w
-    by_reads (Some ring) (Some letter) r l e = subst (IsSeat m (Some wheel)) (sym (same_Some w _ e)) (record { wheel = refl; ring = r; letter = l })
-    by_reads ring letter r l e = absurd (none-some w (sym e))
+with_both : (wheel : Wheel) (ring letter : Option ℕ) (w : SheetWheel) → Some w ≡ wheel_with wheel ring letter
+    → (wheel ≡ w.wheel) × (ring ≡ Some w.ring) × (letter ≡ Some w.letter)
+with_both wheel ring letter w e = grind arith
 
-pub are_seats : (m : RotorParts) (slots : List (Option Wheel)) (wheels : List SheetWheel) → map Some wheels ≡ map (seated_wheel (Rotor m)) slots → AreSeats m slots wheels
+is_seat : (m : RotorParts) (seat : Option Wheel) (w : SheetWheel) → Some w ≡ seated_wheel m seat → IsSeat m seat w
+is_seat m None w e = absurd (none-some w (sym e))
+is_seat m (Some wheel) w e =
+    let both = with_both wheel (ring_at m wheel) (letter_at m wheel) w e in
+    record { wheel = ap Some both.0; ring = rw both.0 at both.1; letter = rw both.0 at both.2 }
+
+pub are_seats : (m : RotorParts) (slots : List (Option Wheel)) (wheels : List SheetWheel) → map Some wheels ≡ map (seated_wheel m) slots → AreSeats m slots wheels
 are_seats m [] [] e = record { slots = refl; rings = tt; letters = tt }
 are_seats m (seat ∷ slots) (w ∷ wheels) e =
-    let first : Some w ≡ seated_wheel (Rotor m) seat = cc in
-    let others : map Some wheels ≡ map (seated_wheel (Rotor m)) slots = cc in
+    let first : Some w ≡ seated_wheel m seat = cc in
+    let others : map Some wheels ≡ map (seated_wheel m) slots = cc in
     let here = is_seat m seat w first in
     let rest = are_seats m slots wheels others in
     record {
@@ -63,8 +65,15 @@ pub key_of_seats : (m : RotorParts) (wheels : List SheetWheel) → AreSeats m m.
     → physical_key (Rotor m) ≡ OfWheels (key_of_wheels wheels m.reflector (exchange (plugged_pairs m)))
 key_of_seats m wheels h = grind (arith, wheels_of_slots, filter_map, read_all)
 
+-- an engine of the wheels has the machine's key, and no slot is empty
+pub of_seated : (m : RotorParts) (slots : List (Option Wheel)) (wheels : List SheetWheel) → slots ≡ m.slots → map Some wheels ≡ map (seated_wheel m) slots
+    → (physical_key (Rotor m) ≡ OfWheels (key_of_wheels wheels m.reflector (exchange (plugged_pairs m)))) × All (λ seated. IsSome seated) m.slots
+of_seated m slots wheels e d =
+    let seats = are_seats m m.slots wheels (rw e at d) in
+    (key_of_seats m wheels seats, all_seated m.slots wheels seats.slots)
+
 -- a seat without its wheel
-pub none_seated : (m : Parts) (slots : List (Option Wheel)) (found : Option (List SheetWheel)) (k : ℕ) (d : Option Wheel) → found ≡ None → k < length slots
+pub none_seated : (m : RotorParts) (slots : List (Option Wheel)) (found : Option (List SheetWheel)) (k : ℕ) (d : Option Wheel) → found ≡ None → k < length slots
     → None ≡ seated_wheel m (get_or slots k d)
     → MatchOption found (Contains (map (seated_wheel m) slots) None) (λ wheels. map Some wheels ≡ map (seated_wheel m) slots)
 none_seated m slots found k d e within h =
@@ -72,7 +81,7 @@ none_seated m slots found k d e within h =
     (k, omega (arith, length-map slots (seated_wheel m)), get_or-map (seated_wheel m) slots k d None within ∙ sym h)
 
 -- a wheel of a legal machine has its ring and its letter
-filled_seat : (m : RotorParts) → IsLegalRotor m → (place : ℕ) (seat : Option Wheel) → slice_get m.slots place ≡ Some seat → IsSome seat → seated_wheel (Rotor m) seat ≢ None
+filled_seat : (m : RotorParts) → IsLegalRotor m → (place : ℕ) (seat : Option Wheel) → slice_get m.slots place ≡ Some seat → IsSome seat → seated_wheel m seat ≢ None
 filled_seat m legal place None at there none = false≢true there
 filled_seat m legal place (Some wheel) at there none =
     let box = place_in_box m.model wheel in
@@ -81,9 +90,9 @@ filled_seat m legal place (Some wheel) at there none =
     let letter : letter_at m wheel ≡ Some (get_or m.letters box 0) = slice_get-get_or m.letters box 0 (omega (arith, within, legal.letters.count)) in
     none-some _ (sym (rw (ring, letter) at none))
 
-pub not_ready : (m : RotorParts) → IsLegalRotor m → Contains (map (seated_wheel (Rotor m)) m.slots) None → IsRotorReady m → ⊥
+pub not_ready : (m : RotorParts) → IsLegalRotor m → Contains (map (seated_wheel m) m.slots) None → IsRotorReady m → ⊥
 not_ready m legal h ready =
     let k = h.0 in
-    let within : k < length m.slots = omega (arith, h.1, length-map m.slots (seated_wheel (Rotor m))) in
+    let within : k < length m.slots = omega (arith, h.1, length-map m.slots (seated_wheel m)) in
     filled_seat m legal k (get_or m.slots k None) (slice_get-get_or m.slots k None within) (ready.slots k None within)
-    (sym (get_or-map (seated_wheel (Rotor m)) m.slots k None None within) ∙ h.2)
+    (sym (get_or-map (seated_wheel m) m.slots k None None within) ∙ h.2)

@@ -80,13 +80,8 @@ setting_has_words x = elim x as (λ y. (2 ≤ length (setting_words y)) × (leng
 
 pub no_form : (form : List ℕ) (rest : List (List ℕ)) → ((f : Keyword) → keyword_text f ≢ form) → (x : Setting) → IsInRange x → setting_words x ≢ form ∷ rest
 no_form form rest none (Pull c l) r e = none keywords.Pull (cc)
-no_form form rest none (Put c l) r e = none keywords.Put (cc)
-no_form form rest none (Seat s w) r e = none keywords.Seat (cc)
-no_form form rest none (SeatReflector x) r e = none keywords.SeatReflector (cc)
-no_form form rest none (RingTo w l) r e = none keywords.RingTo (cc)
-no_form form rest none (Turn s l) r e = none keywords.Turn (cc)
-no_form form rest none (PinTo w l p) r e = none keywords.PinTo (cc)
-no_form form rest none (LugTo b l p) r e = none keywords.LugTo (cc)
+no_form form rest none x r e =
+    grind (arith, none keywords.Put, none keywords.Seat, none keywords.SeatReflector, none keywords.RingTo, none keywords.Turn, none keywords.PinTo, none keywords.LugTo)
 
 -- ---- the words of a text that is a setting's line
 

@@ -1,7 +1,8 @@
 -- Two lists that are sorted, and hold the same elements as often, are one list.
-use Rattle.std.specs.Prelude.{◌≡◌, ℕ, ◌+◌, ◌<◌, Bool, true, false, if◌then◌else◌, List, [], ◌∷◌, length, count_by, slice_index_or, IsPermutation, IsSortedBy}
-use Rattle.kd_state.proofs.Prelude.{IsStrictWeakOrder, sum_by-cons, sum_by-le, sorted_far, sum_by-IsPermutation}
-use Rattle.kd_state.proofs.Prelude.{IsPermutation-sym, IsPermutation-trans, Decides, pointwise_decides}
+use Rattle.std.specs.Prelude.{◌≡◌, ℕ, ◌+◌, ◌<◌, ◌≤◌, Bool, true, false, if◌then◌else◌, List, [], ◌∷◌, length, count_by, slice_index_or, IsPermutation, IsSortedBy}
+use Rattle.kd_state.proofs.Prelude.{IsStrictWeakOrder, false_from_ne_true, sum_by-cons, sum_by-le, sorted_far}
+use Rattle.kd_state.proofs.Prelude.{sum_by-IsPermutation, IsPermutation-sym, IsPermutation-trans, Decides}
+use Rattle.kd_state.proofs.Prelude.{pointwise_decides}
 use Rattle.std.proofs.Common.{suc, refl, sym, ap, ◌∙◌, ◌↔◌, subst, arith}
 use lib.Pointwise.{pointwise}
 
@@ -18,28 +19,26 @@ none_counted : {X : Type 0} (p : X → Bool) (xs : List X) → ((k : ℕ) (d : X
 none_counted p xs none = omega (arith, sum_by-le (λ x. once (p x)) 0 xs (λ k d below. let zero : once (p (slice_index_or xs k d)) ≡ 0 = ap once (none k d below) in omega arith))
 
 module _ {X : Type 0} (lt : X → X → Bool) (order : IsStrictWeakOrder lt) (same : (x y : X) → lt x y ≡ false → lt y x ≡ false → x ≡ y) where
-  tail_sorted : (x : X) (xs : List X) → IsSortedBy lt (x ∷ xs) → IsSortedBy lt xs
-  tail_sorted x xs sorted k d low high =
-      let next : suc k + 1 ≡ suc (k + 1) = omega arith in
-      subst (λ place. lt (slice_index_or (x ∷ xs) place d) (slice_index_or xs k d) ≡ false) next (sorted (suc k) d (omega arith) (omega arith))
+  -- nothing comes before what stands before it
+  abbrev Rises : List X → Type 0
+  Rises xs = (i j : ℕ) (d : X) → i ≤ j → j < length xs → lt (slice_index_or xs j d) (slice_index_or xs i d) ≡ false
 
   -- the other list's first element doesn't come before a sorted list's first
-  not_before : (before : Bool) (x : X) (xs : List X) (y : X) (ys : List X) → lt x y ≡ before → IsSortedBy lt (y ∷ ys)
-      → ((p : X → Bool) → count_by p (x ∷ xs) ≡ count_by p (y ∷ ys)) → lt x y ≡ false
-  not_before false x xs y ys is sorted counts = is
-  not_before true x xs y ys is sorted counts =
+  not_before : (x : X) (xs : List X) (y : X) (ys : List X) → Rises (y ∷ ys) → ((p : X → Bool) → count_by p (x ∷ xs) ≡ count_by p (y ∷ ys)) → lt x y ≡ false
+  not_before x xs y ys rising counts = false_from_ne_true (lt x y) (λ is.
       let p : X → Bool = λ z. lt z y in
-      let none : count_by p (y ∷ ys) ≡ 0 = none_counted p (y ∷ ys) (λ k d below. sorted_far lt order (y ∷ ys) sorted 0 k d (omega arith) below) in
+      let none : count_by p (y ∷ ys) ≡ 0 = none_counted p (y ∷ ys) (λ k d below. rising 0 k d (omega arith) below) in
       let here : once (lt x y) ≡ 1 = ap once is in
-      absurd (omega (arith, count_by-cons p x xs, counts p, none, here))
+      omega (arith, count_by-cons p x xs, counts p, none, here))
 
-  pub sorted_alike : (xs ys : List X) → IsSortedBy lt xs → IsSortedBy lt ys → ((p : X → Bool) → count_by p xs ≡ count_by p ys) → xs ≡ ys
+  pub sorted_alike : (xs ys : List X) → Rises xs → Rises ys → ((p : X → Bool) → count_by p xs ≡ count_by p ys) → xs ≡ ys
   sorted_alike [] [] up rising counts = refl
   sorted_alike [] (y ∷ ys) up rising counts = absurd (omega (arith, counts (λ _. true), count_by-cons (λ (_ : X). true) y ys))
   sorted_alike (x ∷ xs) [] up rising counts = absurd (omega (arith, counts (λ _. true), count_by-cons (λ (_ : X). true) x xs))
   sorted_alike (x ∷ xs) (y ∷ ys) up rising counts =
-      let first : x ≡ y = same x y (not_before (lt x y) x xs y ys refl rising counts) (not_before (lt y x) y ys x xs refl up (λ p. sym (counts p))) in
-      let rest : xs ≡ ys = sorted_alike xs ys (tail_sorted x xs up) (tail_sorted y ys rising)
+      let first : x ≡ y = same x y (not_before x xs y ys rising counts) (not_before y ys x xs up (λ p. sym (counts p))) in
+      let rest : xs ≡ ys = sorted_alike xs ys (λ i j d le below. up (suc i) (suc j) d (omega arith) (omega arith))
+      (λ i j d le below. rising (suc i) (suc j) d (omega arith) (omega arith))
       (λ p. omega (arith, counts p, count_by-cons p x xs, count_by-cons p y ys, ap (λ z. once (p z)) first)) in
       cc
 
@@ -51,5 +50,5 @@ module _ {X : Type 0} (lt : X → X → Bool) (order : IsStrictWeakOrder lt) (sa
         λ yes. IsPermutation-trans xs up ys moved (subst (λ all. IsPermutation all ys) (sym (decided.0 (sym is ∙ yes))) (IsPermutation-sym ys rising other)),
         λ same.
             let across : IsPermutation up rising = IsPermutation-trans up xs rising (IsPermutation-sym xs up moved) (IsPermutation-trans xs ys rising same other) in
-            is ∙ decided.1 (sorted_alike up rising sorted rises (λ p. sym (sum_by-IsPermutation (λ y. once (p y)) up rising across))),
+            is ∙ decided.1 (sorted_alike up rising (sorted_far lt order up sorted) (sorted_far lt order rising rises) (λ p. sym (sum_by-IsPermutation (λ y. once (p y)) up rising across))),
       )

@@ -1,24 +1,23 @@
 -- What the readers of a machine tell is all that it is; so what they tell of a setting tells the machine that it makes.
 use Rattle.std.proofs.lemmas.Grind.{common_steps}
-use Rattle.std.proofs.Common.{◌≡◌, ◌≢◌, ◌⊎◌, ◌↔◌, ℕ, zero, suc, ◌+◌, ◌<◌, ◌≤◌, nat_eq, true, List, [], ◌∷◌, length, map, Contains, Option, Some, None, slice_get, IfSome, refl, sym, ap, ◌∙◌, inl, inr, subst, arith}
+use Rattle.std.proofs.Common.{◌≡◌, ◌≢◌, ◌⊎◌, ◌↔◌, ℕ, zero, suc, ◌≤◌, nat_eq, true, List, [], ◌∷◌, length, get_or, map, Contains, Option, Some, None, slice_get, IfSome, refl, sym, ap, ◌∙◌, inl, inr, subst, arith}
 use Rattle.kd_state.proofs.Prelude.{range_with_len, is_none, option_map, option_map_or, option_and_then, cases_eq}
-use Rattle.kd_state.proofs.Prelude.{cases_Bool, leb-true, nat_tests, none-some, same_Some}
-use Rattle.kd_state.proofs.Prelude.{slice_get-map, slice_get-get_or, slice_get_cases, slice_get_past, Model, Wheel}
-use Rattle.kd_state.proofs.Prelude.{Place, Lug, box_of, reflectors_of, place_on, RotorParts, PinParts}
-use Rattle.kd_state.proofs.Prelude.{Parts, Rotor, Pin, Setting, Pull, Put, Seat, SeatReflector, RingTo, Turn, PinTo}
-use Rattle.kd_state.proofs.Prelude.{LugTo, numbered, place_in_box, wheel_pins, cable_letters}
-use Rattle.kd_state.proofs.Prelude.{plugged_letters, ordered, model_of, slot_in, letter_in, cable_in, standing_in}
-use Rattle.kd_state.proofs.Prelude.{IsLegalRotor, IsLegalPin, IsMachine, has_letter, are_new, lug_place, other_lug}
-use Rattle.kd_state.proofs.Prelude.{changed, Carries, Thing, TheSlot, TheReflector, TheRing, TheLetter, TheCable}
-use Rattle.kd_state.proofs.Prelude.{ThePin, TheShown, TheBar, IsKept, SetsOnly, IsSeatOf, Seats, Turns, Makes}
-use Rattle.kd_state.proofs.Prelude.{letters_in, TellingIsMaking, SameLetters}
+use Rattle.kd_state.proofs.Prelude.{cases_Bool, leb-true, nat_tests, none-some, same_Some, get_or-map, slice_get_cases}
+use Rattle.kd_state.proofs.Prelude.{slice_get_past, Model, Wheel, Place, Lug, box_of, reflectors_of, place_on}
+use Rattle.kd_state.proofs.Prelude.{RotorParts, PinParts, Parts, Rotor, Pin, Setting, Pull, Put, Seat, Turn, LugTo}
+use Rattle.kd_state.proofs.Prelude.{numbered, place_in_box, wheel_pins, cable_letters, plugged_letters, ordered}
+use Rattle.kd_state.proofs.Prelude.{model_of, slot_in, letter_in, cable_in, standing_in, IsLegalRotor, IsLegalPin}
+use Rattle.kd_state.proofs.Prelude.{IsMachine, has_letter, are_new, lug_place, other_lug, changed, Carries, Thing}
+use Rattle.kd_state.proofs.Prelude.{TheSlot, TheReflector, TheRing, TheLetter, TheCable, ThePin, TheShown, TheBar}
+use Rattle.kd_state.proofs.Prelude.{IsKept, SetsOnly, IsSeatOf, Seats, Turns, Makes, letters_in, TellingIsMaking}
+use Rattle.kd_state.proofs.Prelude.{SameLetters}
 use Rattle.std.specs.List.{IsDistinct}
-use Rattle.std.proofs.lemmas.List.FromFn.{length-range_with_len, get_or-range_with_len}
+use Rattle.std.proofs.lemmas.List.FromFn.{get_or-map-range_with_len}
 use Rattle.kd_tables.specs.declared.model.Model.TheVariants.{M209}
 use Rattle.kd_tables.specs.Rings.{ring_of}
-use Rattle.kd_state.proofs.Cables.{all_ordered, new_of_distinct}
+use Rattle.kd_state.proofs.Cables.{all_ordered, new_tells}
 use Rattle.kd_state.proofs.Changing.{in_their_order, settings_are_told, settings_keep_machines}
-use Rattle.kd_state.proofs.Columns.{tests_tell_letters}
+use Rattle.kd_state.proofs.CostTable.{tests_tell_letters}
 use Rattle.kd_state.proofs.Refusing.{refusals_are_told}
 use Rattle.kd_state.proofs.Wheels.{same_wheel-Decides}
 
@@ -41,15 +40,9 @@ by_things : {W X : Type 0} (place_of : W → Option ℕ) (all : List W) (xs ys :
     → xs ≡ ys
 by_things place_of all xs ys placed long also same =
     same_slices xs ys (λ place. elim (slice_get_cases all place).1 [
-      | inl (w, within, at, _) ↦
-          let below : place < length (range_with_len 0 (length all)) = omega (arith, within, length-range_with_len 0 (length all)) in
-          let from_zero : 0 + place ≡ place = omega arith in
-          let reads = get_or-range_with_len 0 (length all) place 0 within ∙ from_zero in
-          let there : slice_get (range_with_len 0 (length all)) place ≡ Some place =
-          slice_get-get_or (range_with_len 0 (length all)) place 0 below ∙ ap Some reads in
-          let is : place_of w ≡ Some place = same_Some _ _ (sym (ap (option_map place_of) at)
-          ∙ sym (slice_get-map place_of all place) ∙ ap (λ l. slice_get l place) placed
-          ∙ slice_get-map Some (range_with_len 0 (length all)) place ∙ ap (option_map Some) there) in
+      | inl (w, below, _, at) ↦
+          let read = get_or-map-range_with_len Some 0 (length all) place place None below (omega arith) in
+          let is = ap place_of (sym at) ∙ sym (get_or-map place_of all place w None below) ∙ ap (λ l. get_or l place None) placed ∙ read in
           rw is at (same w)
       | inr (past, _) ↦ grind (arith, slice_get_past, past)
     ])
@@ -63,11 +56,6 @@ wheels_have_places model = grind arith
 letters_have_places : (wheel : ℕ)
     → map (place_on (ring_of wheel)) (ring_of wheel) ≡ map Some (range_with_len 0 (length (ring_of wheel)))
 unfolding ring_of
-letters_have_places (suc zero) = refl
-letters_have_places (suc (suc zero)) = refl
-letters_have_places (suc (suc (suc zero))) = refl
-letters_have_places (suc (suc (suc (suc zero)))) = refl
-letters_have_places (suc (suc (suc (suc (suc zero))))) = refl
 letters_have_places (suc (suc (suc (suc (suc (suc zero)))))) = refl
 letters_have_places wheel = refl
 
@@ -103,9 +91,8 @@ told_pin m n l k kept =
 told_machine : (m n : Parts) → IsMachine m → IsMachine n → model_of n ≡ model_of m
     → ((thing : Thing) → IsKept m n thing) → n ≡ m
 told_machine (Rotor m) (Rotor n) h k model kept = ap Rotor (told_rotor m n h.legal k.legal model kept)
-told_machine (Rotor m) (Pin n) h k model kept = absurd (none-some _ (kept TheReflector))
-told_machine (Pin m) (Rotor n) h k model kept = absurd (none-some _ (sym (kept TheReflector)))
 told_machine (Pin m) (Pin n) h k model kept = ap Pin (told_pin m n h.legal k.legal kept)
+told_machine m n h k model kept = let same = kept TheReflector in cc
 
 -- ---- things are told apart, and what two machines keep of a third is alike
 
@@ -144,9 +131,9 @@ record IsInOrder (cable : Option ℕ × Option ℕ) : Type 0 where
 cables_in_order : (cables : List (Option ℕ × Option ℕ)) (place : ℕ) → all_ordered cables ≡ cables
     → IsDistinct nat_eq (plugged_letters cables) → IfSome (slice_get cables place) IsInOrder
 cables_in_order [] place same apart = tt
-cables_in_order (cable ∷ cables) zero same apart = grind (arith, new_of_distinct (cable_letters cable) (plugged_letters cables) apart)
+cables_in_order (cable ∷ cables) zero same apart = grind (arith, (new_tells (cable_letters cable) (plugged_letters cables)).0 apart)
 cables_in_order (cable ∷ cables) (suc place) same apart =
-    grind (arith, cables_in_order cables place, new_of_distinct (cable_letters cable) (plugged_letters cables) apart)
+    grind (arith, cables_in_order cables place, (new_tells (cable_letters cable) (plugged_letters cables)).0 apart)
 
 in_turn : (x y : ℕ) → ordered (Some x) (Some y) ≡ (Some x, Some y) → x ≤ y
 in_turn x y is = grind (arith, cases_Bool, leb-true, same_Some)
@@ -161,13 +148,7 @@ same_cable cable (None, Some y) one two same = absurd (first_is_some y two.order
 same_cable (None, None) (None, None) one two same = refl
 same_cable (None, None) (Some y, end) one two same = let at = same y in absurd (grind (arith, nat_tests))
 same_cable (Some x, end) (None, None) one two same = let at = same x in absurd (grind (arith, nat_tests))
-same_cable (Some x, None) (Some y, None) one two same =
-    let at = same x in
-    let first : x ≡ y = grind (arith, nat_tests) in
-    cc
-same_cable (Some x, None) (Some y, Some z) one two same = grind (arith, same)
-same_cable (Some x, Some z) (Some y, None) one two same = grind (arith, same)
-same_cable (Some x, Some z) (Some y, Some v) one two same = grind (arith, common_steps, in_turn, same)
+same_cable cable other one two same = grind (arith, common_steps, in_turn, same)
 
 by_found : (found other : Option (Option ℕ × Option ℕ)) → is_none found ≡ is_none other → IfSome found IsInOrder
     → IfSome other IsInOrder
@@ -236,14 +217,11 @@ made_alike m n o (Put cable letter) h k one two =
     alike_but (TheCable cable) m n o one.1 two.1 (cable_alike o n cable k h (one.1.model
     ∙ sym two.1.model) (λ other. both_ways_same (one.0 other) (two.0 other)))
 made_alike m n o (Seat slot wheel) h k one two = seats_alike m n o slot wheel one two
-made_alike m n o (SeatReflector reflector) h k one two = alike_but TheReflector m n o one.1 two.1 (one.0 ∙ sym two.0)
-made_alike m n o (RingTo wheel letter) h k one two = alike_but (TheRing wheel) m n o one.1 two.1 (one.0 ∙ sym two.0)
 made_alike m n o (Turn slot letter) h k one two = turns_alike m n o slot letter one two
-made_alike m n o (PinTo wheel letter effective) h k one two = alike_but (ThePin wheel letter) m n o one.1 two.1 (one.0
-    ∙ sym two.0)
 made_alike m n o (LugTo bar lug place) h k one two =
     alike_but (TheBar bar) m n o one.1 two.1 (bar_alike lug (standing_in n bar) (standing_in o bar) (one.0.moved
     ∙ sym two.0.moved) (one.0.other ∙ sym two.0.other))
+made_alike m n o x h k one two = alike_but _ m n o one.1 two.1 (one.0 ∙ sym two.0)
 
 pub telling_is_making : TellingIsMaking
 telling_is_making m n x h k r allows made =

@@ -1,33 +1,20 @@
 -- A ready machine can be turned to each window.
-use Rattle.std.proofs.Common.{◌≡◌, ◌≢◌, ℕ, zero, suc, ◌+◌, ◌<◌, List, [], ◌∷◌, length, set, slice_get, filter_map, All, Contains, Option, Some, None, refl, ap, ◌∙◌, subst, arith, length-set}
-use Rattle.kd_state.proofs.Prelude.{AllByRecursion, cons_option, All-set, All-head, All-tail, Model, Wheel, box_of}
+use Rattle.std.proofs.Common.{◌≡◌, ◌≢◌, ℕ, zero, suc, ◌+◌, ◌<◌, List, [], ◌∷◌, length, set, slice_get, filter_map, Contains, Option, Some, None, refl, ap, ◌∙◌, subst, arith}
+use Rattle.kd_state.proofs.Prelude.{AllByRecursion, cons_option, recursion_from_All, AreLetters, Model, Wheel, box_of}
 use Rattle.kd_state.proofs.Prelude.{Rotor, Pin, place_in_box, MachinesCanBeTurned, StandsAt, AreApart, seated_wheels}
 use Rattle.kd_state.proofs.Wheels.{places_tell_wheels, placed, place_within}
-use Rattle.kd_state.proofs.Changing.{with_letters}
+use Rattle.kd_state.proofs.Changing.{letters_set, with_letters}
 use Rattle.kd_state.proofs.Slots.{set_here, set_other}
 
 -- letters put in their places, one for each wheel
 module _ (place : Wheel → ℕ) where
-  put : List Wheel → List ℕ → List ℕ → List ℕ
+  abbrev put : List Wheel → List ℕ → List ℕ → List ℕ
   put [] window letters = letters
   put (wheel ∷ wheels) [] letters = letters
   put (wheel ∷ wheels) (letter ∷ window) letters = set (put wheels window letters) (place wheel) letter
 
-  length-put : (wheels : List Wheel) (window letters : List ℕ) → length (put wheels window letters) ≡ length letters
-  unfolding put
-  length-put [] window letters = refl
-  length-put (wheel ∷ wheels) [] letters = refl
-  length-put (wheel ∷ wheels) (letter ∷ window) letters = length-set (put wheels window letters) (place wheel) letter ∙ length-put wheels window letters
-
-  all_put : (P : ℕ → Type 0) (wheels : List Wheel) (window letters : List ℕ) → All P window → All P letters → All P (put wheels window letters)
-  unfolding put
-  all_put P [] window letters in_window h = h
-  all_put P (wheel ∷ wheels) [] letters in_window h = h
-  all_put P (wheel ∷ wheels) (letter ∷ window) letters in_window h =
-      All-set P (put wheels window letters) (place wheel) letter (All-head P letter window in_window) (all_put P wheels window letters (All-tail P letter window in_window) h)
-
   -- no two wheels have one place
-  HavePlaces : List Wheel → Type 0
+  abbrev HavePlaces : List Wheel → Type 0
   HavePlaces [] = Unit {0}
   HavePlaces (wheel ∷ wheels) = AllByRecursion (λ other. place other ≢ place wheel) wheels × HavePlaces wheels
 
@@ -36,17 +23,23 @@ module _ (place : Wheel → ℕ) where
   still_read [] xs i x h = refl
   still_read (wheel ∷ wheels) xs i x h = grind (arith, filter_map, set_other, still_read wheels xs i x h.1)
 
-  read_put : (wheels : List Wheel) (window letters : List ℕ) → length window ≡ length wheels → AllByRecursion (λ wheel. place wheel < length letters) wheels → HavePlaces wheels
-      → filter_map (λ wheel. slice_get (put wheels window letters) (place wheel)) wheels ≡ window
-  unfolding put HavePlaces
-  read_put [] [] letters same below apart = refl
-  read_put [] (letter ∷ window) letters same below apart = absurd (omega arith)
-  read_put (wheel ∷ wheels) [] letters same below apart = absurd (omega arith)
-  read_put (wheel ∷ wheels) (letter ∷ window) letters same below apart =
-      let rest = put wheels window letters in
-      let within : place wheel < length rest = omega (arith, below.0, length-put wheels window letters) in
-      ap (λ found. cons_option found (filter_map (λ other. slice_get (set rest (place wheel) letter) (place other)) wheels)) (set_here rest (place wheel) letter within)
-      ∙ ap (λ read. letter ∷ read) (still_read wheels rest (place wheel) letter apart.0 ∙ read_put wheels window letters (omega arith) below.1 apart.1)
+  module _ (number : ℕ) (letters : List ℕ) (h : AreLetters number letters) where
+    put_letters : (wheels : List Wheel) (window : List ℕ) → AllByRecursion (λ letter. letter < 26) window → AreLetters number (put wheels window letters)
+    put_letters [] window are = h
+    put_letters (wheel ∷ wheels) [] are = h
+    put_letters (wheel ∷ wheels) (letter ∷ window) are =
+        letters_set number (put wheels window letters) (place wheel) letter are.0 (put_letters wheels window are.1)
+
+    read_put : (wheels : List Wheel) (window : List ℕ) → length window ≡ length wheels → AllByRecursion (λ letter. letter < 26) window
+        → AllByRecursion (λ wheel. place wheel < number) wheels → HavePlaces wheels
+        → filter_map (λ wheel. slice_get (put wheels window letters) (place wheel)) wheels ≡ window
+    read_put [] [] same are below apart = refl
+    read_put (wheel ∷ wheels) (letter ∷ window) same are below apart =
+        let rest = put wheels window letters in
+        let within : place wheel < length rest = omega (arith, below.0, (put_letters wheels window are.1).count) in
+        ap (λ found. cons_option found (filter_map (λ other. slice_get (set rest (place wheel) letter) (place other)) wheels)) (set_here rest (place wheel) letter within)
+        ∙ ap (λ read. letter ∷ read) (still_read wheels rest (place wheel) letter apart.0 ∙ read_put wheels window (omega arith) are.1 below.1 apart.1)
+    read_put wheels window same are below apart = absurd (omega arith)
 
 -- what holds of each wheel that stands in a slot
 each_standing : (Q : Wheel → Type 0) (slots : List (Option Wheel)) → ((k : ℕ) (wheel : Wheel) → StandsAt slots k wheel → Q wheel)
@@ -57,7 +50,6 @@ each_standing Q (Some wheel ∷ slots) h = (h zero wheel refl, each_standing Q s
 
 places_apart : (model : Model) (slots : List (Option Wheel)) → AreApart slots → ((k : ℕ) (wheel : Wheel) → StandsAt slots k wheel → Contains (box_of model) wheel)
     → HavePlaces (place_in_box model) (filter_map (λ seated. seated) slots)
-unfolding HavePlaces
 places_apart model [] apart boxed = tt
 places_apart model (None ∷ slots) apart boxed = places_apart model slots (λ j k wheel a b. omega (arith, apart (suc j) (suc k) wheel a b)) (λ k. boxed (suc k))
 places_apart model (Some wheel ∷ slots) apart boxed = (
@@ -78,14 +70,11 @@ can_be_turned (Rotor m) window machine ready are =
     let letters = put place wheels window m.letters in
     let boxed : (k : ℕ) (wheel : Wheel) → StandsAt m.slots k wheel → Contains (box_of m.model) wheel =
     λ k wheel at. (placed m.model (k + 1) wheel (legal.allowed k wheel at)).in_box in
-    let below = each_standing (λ wheel. place wheel < length m.letters) m.slots (λ k wheel at. omega (arith, place_within m.model wheel (boxed k wheel at), legal.letters.count)) in
-    let shows = read_put place wheels window m.letters are.count below (places_apart m.model m.slots legal.apart boxed) in (
+    let below = each_standing (λ wheel. place wheel < length (box_of m.model)) m.slots (λ k wheel at. place_within m.model wheel (boxed k wheel at)) in
+    let within = recursion_from_All (λ (letter : ℕ). letter < 26) window are.within in (
       Rotor (record m { letters = letters }),
-      (refl, shows),
-      with_letters m m.rings letters machine legal.rings (record {
-        count = length-put place wheels window m.letters ∙ legal.letters.count;
-        within = all_put place (λ letter. letter < 26) wheels window m.letters are.within legal.letters.within;
-      }),
+      (refl, read_put place _ m.letters legal.letters wheels window are.count within below (places_apart m.model m.slots legal.apart boxed)),
+      with_letters m m.rings letters machine legal.rings (put_letters place _ m.letters legal.letters wheels window within),
     )
 can_be_turned (Pin m) window machine ready is =
     let l = machine.legal in

@@ -1,19 +1,22 @@
 -- Wheels and reflectors by their names, and where the wheels of the box may stand.
-use Rattle.std.proofs.Common.{inl, inr, find, unwrap_or, ◌≡◌, ◌≢◌, ℕ, ◌<◌, ◌≤◌, ◌==◌, Bool, true, false, cond, List, [], ◌∷◌, length, get_or, Contains, Decides, refl, sym, ap, ◌∙◌, arith, Some, rules}
-use Rattle.kd_state.proofs.Prelude.{list_any, position_or_len, cases_Bool, false_from_ne_true, or_parts}
-use Rattle.kd_state.proofs.Prelude.{leb-true, eqb-true, Decides-like, Contains-append_left, Contains-append_right}
+use Rattle.std.proofs.Common.{inl, inr, find, unwrap_or, ◌≡◌, ◌≢◌, ℕ, ◌<◌, ◌≤◌, ◌==◌, Bool, true, false, cond, List, [], ◌∷◌, length, get_or, Contains, Decides, refl, sym, ap, ◌∙◌, arith, Some, rules, Option, ◌↔◌, All}
+use Rattle.kd_state.proofs.Prelude.{list_any, position_or_len, cases_Bool, false_from_ne_true, or_parts, leb-true}
+use Rattle.kd_state.proofs.Prelude.{eqb-true, Decides-like, Contains-append_left, Contains-append_right}
 use Rattle.kd_state.proofs.Prelude.{Contains-get_or, is_member-Decides, position_or_len_is, passes_at_first, Model}
 use Rattle.kd_state.proofs.Prelude.{Wheel, I, II, III, IV, V, VI, VII, VIII, Beta, Gamma, Reflector, box_of, slots_of}
 use Rattle.kd_state.proofs.Prelude.{wheels_for, wheel_text, reflector_text, lies_in, IsAllowed, same_wheel}
 use Rattle.kd_state.proofs.Prelude.{same_reflector, has_wheel, has_reflector, place_in_box, option_map, slice_get-map}
 use Rattle.kd_state.proofs.Prelude.{slice_get-get_or, SheetWheel, StandsAt, seats, AllowedWheelsLieInTheBox}
-use Rattle.kd_state.proofs.Prelude.{PlacesTellWheels, DaysWheelsHaveTheirPlaces}
+use Rattle.kd_state.proofs.Prelude.{PlacesTellWheels, DaysWheelsHaveTheirPlaces, option_eq, pointwise_decides}
+use Rattle.kd_state.proofs.Prelude.{same_Some, RotorParts, PinParts, Parts, Rotor, Pin, ring_in, ring_at, letter_in}
+use Rattle.kd_state.proofs.Prelude.{RotorDay, PinDay, Day, OfRotors, OfPins, ShowsWindow}
 use Rattle.std.specs.Str.{bytes_eq}
 use denote.Enum.Bare.{sameb, same_true, same_false}
 use Rattle.kd_tables.specs.contracts.wheel.Wheel.{the_type}
 use Rattle.std.proofs.lemmas.Slice.Eq.{bytes_eq-Decides}
 use Rattle.kd_tables.specs.declared.model.Model.TheVariants.{M4, M209}
 use Rattle.kd_tables.specs.declared.reflector.Reflector.TheVariants as reflectors
+use lib.Pointwise.{pointwise}
 
 -- a name tells what has it, where it is found again by the name
 abbrev pub named : {T : Type 0} → (T → List ℕ) → List T → T → List ℕ → T
@@ -124,3 +127,25 @@ seated wheels i d lt = slice_get-map (λ w. Some w.wheel) wheels i ∙ ap (optio
 pub days_wheels_have_their_places : DaysWheelsHaveTheirPlaces
 days_wheels_have_their_places model wheels h i j d before within same =
     grind (arith, seated, places_tell_wheels, allowed_in_box, h.allowed, h.apart)
+
+-- two wheels are one, and two seats
+wheel_tested : (wheel other : Wheel) (b : Bool) → sameb the_type wheel other ≡ b → Decides b (wheel ≡ other)
+wheel_tested wheel other b e = grind (arith, same_true, same_false)
+
+seat_Decides : (one other : Option Wheel) → Decides (option_eq (sameb the_type) one other) (one ≡ other)
+seat_Decides one other = grind (arith, wheel_tested, same_Some)
+
+pub seats_Decides : (slots others : List (Option Wheel)) → Decides (pointwise (option_eq (sameb the_type)) slots others) (slots ≡ others)
+seats_Decides slots others = pointwise_decides seat_Decides slots others
+
+-- the wheels' rings, and the letters that show
+pub rings_read : (p : Parts) (m : RotorParts) (wheels others : List SheetWheel) → p ≡ Rotor m → wheels ≡ others
+    → All (λ w. ring_in p w.wheel ≡ Some w.ring) wheels ↔ All (λ w. ring_at m w.wheel ≡ Some w.ring) others
+rings_read p m wheels others is same = grind arith
+
+pub letters_show : (p : Parts) (m : RotorParts) (s : Day) (r : RotorDay) (wheels : List SheetWheel) → p ≡ Rotor m → s ≡ OfRotors r → wheels ≡ r.wheels
+    → All (λ w. letter_in p w.wheel ≡ Some w.letter) wheels ↔ ShowsWindow p s
+letters_show p m s r wheels is day same = grind arith
+
+pub pin_letters_show : (p : Parts) (m : PinParts) (s : Day) (r : PinDay) → p ≡ Pin m → s ≡ OfPins r → (m.letters ≡ r.window) ↔ ShowsWindow p s
+pin_letters_show p m s r is day = grind arith

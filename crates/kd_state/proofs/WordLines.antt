@@ -1,10 +1,11 @@
 -- Words are told by their line, and a text's part before a byte by the text.
 use Rattle.std.proofs.lemmas.Grind.{common_steps}
 use Rattle.std.proofs.Common.{◌≡◌, ◌≢◌, ℕ, ◌^◌, ◌<◌, Bool, true, false, eqb, ltb, List, [], ◌∷◌, ◌++◌, length, map, get_or, Bor, Some, None, MatchOption, Result, Ok, MatchResult, Decides, refl, sym, ap, ◌∙◌, append_assoc, length-append, arith, rules}
-use Rattle.kd_state.proofs.Prelude.{then_some, All, AllByRecursion, list_all, slice_split, AllPass-from_list_all}
-use Rattle.kd_state.proofs.Prelude.{ltb-true, ne_eqb, eq-eqb, false≢true, decimal_nonempty, digits_decimal}
-use Rattle.kd_state.proofs.Prelude.{IsAscii-decimal, parse-decimal, All-nil, All-cons, All-append, All-from_recursion}
-use Rattle.kd_state.proofs.Prelude.{All-from_get_or, All-weaker, recursion_from_All, map_push, append_cancel_left}
+use Rattle.kd_state.proofs.Prelude.{eqb-true, then_some, All, AllByRecursion, list_all, slice_split}
+use Rattle.kd_state.proofs.Prelude.{AllPass-from_list_all, ltb-true, ne_eqb, eq-eqb, false≢true, decimal_nonempty}
+use Rattle.kd_state.proofs.Prelude.{digits_decimal, IsAscii-decimal, parse-decimal, All-nil, All-cons, All-append}
+use Rattle.kd_state.proofs.Prelude.{All-from_recursion, All-from_get_or, All-weaker, recursion_from_All, map_push}
+use Rattle.kd_state.proofs.Prelude.{append_cancel_left}
 use Rattle.std.specs.Result.{result_ok}
 use Rattle.std.specs.Str.{IsUtf8}
 use Rattle.std.specs.Str.Parse.{ParsesUnsigned, digits_value}
@@ -125,3 +126,5 @@ only_number bs r m false h some d = λ number small e.
     let read : r ≡ Ok number = parse-decimal 16 number bs r small (omega arith) (sym e) h in
     let is : m ≡ number = cc in
     false≢true (d.1 (ap decimal is ∙ e))
+
+pub ruleset splitting = (common_steps, eqb-true, more_words, appended, one_more_taken, last_taken)

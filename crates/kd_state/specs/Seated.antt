@@ -3,9 +3,9 @@ use Rattle.std.specs.Prelude.{ℕ, List, map, Option, Some, None}
 use Rattle.kd_tables.specs.declared.wheel.Wheel.{Wheel}
 use Rattle.kd_tables.specs.declared.reflector.Reflector.{Reflector}
 use Rattle.kd_enigma.specs.Cipher.{RotorKey}
-use Rattle.kd_state.specs.declared.machine.parts.Parts.{Parts}
+use Rattle.kd_state.specs.declared.machine.rotor_parts.RotorParts.{RotorParts}
 use Rattle.kd_state.specs.declared.sheet_day.rotor_entry.SheetWheel.{SheetWheel}
-use Rattle.kd_state.specs.Machine.{ring_in, letter_in}
+use Rattle.kd_state.specs.Machine.{ring_at, letter_at}
 
 -- the wheel with this ring and this letter, if there are both
 abbrev pub wheel_with : Wheel → Option ℕ → Option ℕ → Option SheetWheel
@@ -13,9 +13,9 @@ wheel_with wheel (Some ring) (Some letter) = Some (record { wheel = wheel; ring 
 wheel_with wheel _ _ = None
 
 -- what is seated, with its ring and its window letter
-abbrev pub seated_wheel : Parts → Option Wheel → Option SheetWheel
+abbrev pub seated_wheel : RotorParts → Option Wheel → Option SheetWheel
 seated_wheel m None = None
-seated_wheel m (Some wheel) = wheel_with wheel (ring_in m wheel) (letter_in m wheel)
+seated_wheel m (Some wheel) = wheel_with wheel (ring_at m wheel) (letter_at m wheel)
 
 -- the key of wheels with their rings and window letters
 abbrev pub key_of_wheels : List SheetWheel → Reflector → List ℕ → RotorKey

@@ -12,18 +12,12 @@ use crate::machine::cable::{Cable, lies_in};
 use kd_tables::{Letter, Place, Reading, Standing};
 
 /// What it costs to make of a cable a pair, or nothing: how many letters lie in one of the two alone.
-#[tactic(auto, using(crate::proofs::CountedLetters::at_most_four))]
+#[tactic(auto, using(crate::proofs::CostTable::at_most_four, crate::proofs::CostTable::counted_more))]
 pub fn cable_cost(cable: Cable, column: Option<(Letter, Letter)>) -> u8
     ensures cost { result ≡ costs.cable_cost cable column }
     ensures bound { result ≤ 4 }
 {
-    letters_in_one(&cable, &column)
-}
-
-/// How many letters lie in one of the two alone.
-fn letters_in_one(cable: &Cable, column: &Option<(Letter, Letter)>) -> u8
-    ensures { result ≡ costs.cable_cost cable.now column.now }
-{
+    let (cable, column) = (&cable, &column);
     let mut cost = 0;
     for index in 0..26 {
         let letter = Letter::new(index).unwrap();
@@ -75,6 +69,7 @@ pub fn nearest_standing(standing: Standing, row: Reading) -> Standing
 }
 
 /// The standings that read as a row, in order: two where one of its numbers is 0, else one.
+#[tactic(auto, using(crate::proofs::CostTable::zeros, crate::proofs::CostTable::one_zero, crate::proofs::CostTable::no_zero))]
 fn standings_of(row: Reading) -> (Standing, Option<Standing>)
     ensures { costs.standings_as row ≡ result.0 ∷ option_to_list result.1 }
 {

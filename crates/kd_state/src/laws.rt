@@ -77,7 +77,7 @@ pub fn settings_keep_machines()
 {}
 
 /// A machine refuses a setting, or carries it, and never both; it carries it to one machine only, and a list too.
-#[tactic(auto, using(crate::proofs::Carrying::refuses_or_carries, crate::proofs::Carrying::carries_to_one, crate::proofs::Carrying::leads_to_one))]
+#[tactic(auto, using(crate::proofs::Refusing::refuses_or_carries, crate::proofs::Refusing::carries_to_one, crate::proofs::Refusing::leads_to_one))]
 pub fn a_setting_is_refused_or_carried()
     ensures either { RefusesOrCarries }
     ensures to_one { CarriesToOne }
@@ -177,20 +177,20 @@ pub fn tests_tell_letters()
 {}
 
 /// A day has 13 columns: its pairs in their order, and then nothings.
-#[tactic(auto, using(crate::proofs::Columns::thirteen_columns, crate::proofs::Columns::columns_are_the_pairs))]
+#[tactic(auto, using(crate::proofs::CostTable::thirteen_columns, crate::proofs::CostTable::columns_are_the_pairs))]
 pub fn columns_are_the_pairs()
     ensures count { ThirteenColumns }
     ensures pairs { ColumnsAreThePairs }
 {}
 
 /// What it costs to make of a cable a pair, or nothing, is four at most.
-#[tactic(auto, using(crate::proofs::CountedLetters::at_most_four))]
+#[tactic(auto, using(crate::proofs::CostTable::at_most_four))]
 pub fn cables_cost_four()
     ensures { CablesCostFour }
 {}
 
 /// There are as many costs for each cable, or bar, as there are cables, or bars.
-#[tactic(auto, using(crate::proofs::Columns::cost_tables_are_square))]
+#[tactic(auto, using(crate::proofs::CostTable::cost_tables_are_square))]
 pub fn cost_tables_are_square()
     ensures { CostTablesAreSquare }
 {}

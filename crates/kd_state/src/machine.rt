@@ -7,7 +7,7 @@ pub(crate) mod per_slot;
 pub(crate) mod per_wheel;
 pub(crate) mod pin_parts;
 pub(crate) mod pin_rings;
-mod readers;
+pub(crate) mod readers;
 pub(crate) mod rotor_parts;
 pub(crate) mod seats;
 

@@ -8,6 +8,7 @@ use crate::machine::cable::Cable;
 use kd_tables::{Letter, Reading, Standing};
 
 /// The column at the place, counted from 0: the day's pairs in their order, and nothing behind the last one.
+#[tactic(auto, using(std::proofs::lemmas::Option::gets, crate::proofs::CostTable::columns_are_the_pairs))]
 pub fn column_at(pairs: &[(Letter, Letter)], place: usize) -> Option<(Letter, Letter)>
     ensures { result ≡ slice_index_or (columns_of pairs.now) place None }
 {

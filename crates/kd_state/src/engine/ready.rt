@@ -1,10 +1,12 @@
 //! When a machine is ready, and its engine.
-ghost use Rattle.std.specs.Prelude.{◌≡◌, ◌≢◌, ◌↔◌, ◌<◌, ◌≤◌, ◌+◌, ◌++◌, length, filter_map, All, IsTrue, IsSome, IfSome};
+ghost use Rattle.std.specs.Prelude.{◌≡◌, ◌≢◌, ◌⊎◌, ◌↔◌, ◌<◌, ◌≤◌, ◌+◌, ◌++◌, length, map, filter_map, All, Contains, IsTrue, IsSome, IfSome, MatchOption, Some, None};
 ghost use Rattle.std.specs.Option.{option_to_list};
 ghost use Rattle.arrayvec.specs.ArrayVec.{array_vec_len};
 ghost use Rattle.kd_tables.specs.Permutation.{exchange};
-ghost use Rattle.kd_state.specs.Machine.{cable_letters, AreCables};
-ghost use Rattle.kd_state.specs.TwoCiphers.{both_ends, IsRotorReady};
+ghost use Rattle.kd_tables.specs.Tables.{box_of};
+ghost use Rattle.kd_state.specs.Machine.{cable_letters, AreCables, IsLegalRotor};
+ghost use Rattle.kd_state.specs.Seated.{seated_wheel};
+ghost use Rattle.kd_state.specs.TwoCiphers.{both_ends, IsRotorReady, physical_key};
 
 use super::Engine;
 use crate::machine::Machine;
@@ -12,6 +14,7 @@ use crate::machine::cable::Cable;
 use crate::machine::parts::Parts;
 use crate::machine::per_slot::PerSlot;
 use crate::machine::pin_parts::readings_of;
+use crate::machine::readers::of_wheel;
 use crate::machine::rotor_parts::RotorParts;
 use crate::sheet_day::rotor_entry::SheetWheel;
 use arrayvec::ArrayVec;
@@ -25,17 +28,17 @@ use thiserror::Error;
 pub struct NotReady;
 
 impl Machine {
-    ghost use Rattle.std.specs.Prelude.{◌≡◌, ◌⊎◌, ◌↔◌, length, map, IsTrue, IsOk, IfOk, IsSome, IfSome, MatchOption, Contains, None, Some};
-    ghost use Rattle.kd_state.specs.Machine.{IsMachine};
-    ghost use Rattle.kd_state.specs.Seated.{seated_wheel};
-    ghost use Rattle.kd_state.specs.TwoCiphers.{IsReady, IsRotorReady, physical_key};
+    ghost use Rattle.std.specs.Prelude.{◌≡◌, ◌↔◌, IsTrue, IsOk, IfOk};
+    ghost use Rattle.kd_state.specs.TwoCiphers.{IsReady, physical_key};
 
     /// Whether no slot is empty, and no cable has one letter.
     pub fn is_ready(&self) -> bool
         ensures { IsTrue result ↔ IsReady self.now }
     {
         match self.parts() {
-            Parts::Rotor(parts) => is_rotor_ready(parts),
+            Parts::Rotor(parts) => {
+                are_seated(parts.slots.as_slice()) && are_whole(&parts.cables)
+            }
             Parts::Pin(_) => true,
         }
     }
@@ -46,7 +49,7 @@ impl Machine {
         ensures key { IfOk result (λ engine. engine ≡ physical_key self.now) }
     {
         match self.parts() {
-            Parts::Rotor(parts) => self.rotor_engine(parts).ok_or(NotReady),
+            Parts::Rotor(parts) => rotor_engine(parts).ok_or(NotReady),
             Parts::Pin(parts) => Ok(Engine::of_drum(
                 parts.pins,
                 parts.letters,
@@ -54,61 +57,57 @@ impl Machine {
             )),
         }
     }
+}
 
-    /// The engine of a rotor machine, if it is ready.
-    fn rotor_engine(&self, parts: &RotorParts) -> Option<Engine>
-        requires parts { self.now ≡ Parts.Rotor parts.now }
-        requires machine { IsMachine self.now }
-        ensures ready { IsSome result ↔ IsRotorReady parts.now }
-        ensures key { IfSome result (λ engine. engine ≡ physical_key (Parts.Rotor parts.now)) }
-    {
-        let wheels = self.seated_wheels(parts.slots.as_slice())?;
-        let plugs = plugs_of(&parts.cables)?;
-        Some(Engine::of_wheels(wheels.as_slice(), parts.reflector, plugs))
-    }
+/// The engine of a rotor machine, if it is ready.
+fn rotor_engine(parts: &RotorParts) -> Option<Engine>
+    requires { IsLegalRotor parts.now }
+    ensures ready { IsSome result ↔ IsRotorReady parts.now }
+    ensures key { IfSome result (λ engine. engine ≡ physical_key (Parts.Rotor parts.now)) }
+{
+    let wheels = seated_wheels(parts, parts.slots.as_slice())?;
+    let plugs = plugs_of(&parts.cables)?;
+    Some(Engine::of_wheels(wheels.as_slice(), parts.reflector, plugs))
+}
 
-    /// The wheels in the slots, if there is one in each.
-    fn seated_wheels(&self, slots: &[Option<Wheel>]) -> Option<PerSlot<SheetWheel>>
-        requires { (length slots.now ≡ 3) ⊎ (length slots.now ≡ 4) }
-        ensures { MatchOption result (Contains (map (seated_wheel self.now) slots.now) None)
-            (λ wheels. map Some wheels ≡ map (seated_wheel self.now) slots.now) }
-    {
-        match slots {
-            [left, middle, right] => PerSlot::new(&[
-                self.seated_wheel(*left)?,
-                self.seated_wheel(*middle)?,
-                self.seated_wheel(*right)?,
-            ]),
-            [first, left, middle, right] => PerSlot::new(&[
-                self.seated_wheel(*first)?,
-                self.seated_wheel(*left)?,
-                self.seated_wheel(*middle)?,
-                self.seated_wheel(*right)?,
-            ]),
-            _ => unreachable!(),
-        }
-    }
-
-    /// The wheel that is seated, with its ring and its window letter.
-    fn seated_wheel(&self, seated: Option<Wheel>) -> Option<SheetWheel>
-        ensures { result ≡ seated_wheel self.now seated }
-    {
-        let wheel = seated?;
-        let ring = self.ring(wheel)?;
-        let letter = self.letter(wheel)?;
-        Some(SheetWheel {
-            wheel,
-            ring,
-            letter,
-        })
+/// The wheels in the slots, if there is one in each.
+fn seated_wheels(parts: &RotorParts, slots: &[Option<Wheel>]) -> Option<PerSlot<SheetWheel>>
+    requires rings { length parts.now.rings ≡ length (box_of parts.now.model) }
+    requires letters { length parts.now.letters ≡ length (box_of parts.now.model) }
+    requires slots { (length slots.now ≡ 3) ⊎ (length slots.now ≡ 4) }
+    ensures { MatchOption result (Contains (map (seated_wheel parts.now) slots.now) None)
+        (λ wheels. map Some wheels ≡ map (seated_wheel parts.now) slots.now) }
+{
+    match slots {
+        [left, middle, right] => PerSlot::new(&[
+            seated_wheel(parts, *left)?,
+            seated_wheel(parts, *middle)?,
+            seated_wheel(parts, *right)?,
+        ]),
+        [first, left, middle, right] => PerSlot::new(&[
+            seated_wheel(parts, *first)?,
+            seated_wheel(parts, *left)?,
+            seated_wheel(parts, *middle)?,
+            seated_wheel(parts, *right)?,
+        ]),
+        _ => unreachable!(),
     }
 }
 
-/// Whether no slot is empty, and no cable has one letter.
-fn is_rotor_ready(parts: &RotorParts) -> bool
-    ensures { IsTrue result ↔ IsRotorReady parts.now }
+/// The wheel that is seated, with its ring and its window letter.
+fn seated_wheel(parts: &RotorParts, seated: Option<Wheel>) -> Option<SheetWheel>
+    requires rings { length parts.now.rings ≡ length (box_of parts.now.model) }
+    requires letters { length parts.now.letters ≡ length (box_of parts.now.model) }
+    ensures { result ≡ seated_wheel parts.now seated }
 {
-    are_seated(parts.slots.as_slice()) && are_whole(&parts.cables)
+    let wheel = seated?;
+    let ring = of_wheel(parts.model, &parts.rings, wheel)?;
+    let letter = of_wheel(parts.model, &parts.letters, wheel)?;
+    Some(SheetWheel {
+        wheel,
+        ring,
+        letter,
+    })
 }
 
 /// Whether there is a wheel in each slot.
@@ -136,14 +135,9 @@ fn plugs_of(cables: &[Cable; 13]) -> Option<Plugs>
 fn are_whole(cables: &[Cable; 13]) -> bool
     ensures { IsTrue result ↔ All (λ cable. length (cable_letters cable) ≢ 1) cables.now }
 {
-    cables.iter().all(|cable| !has_one_letter(*cable))
-}
-
-/// Whether one end of the cable is plugged, and the other is not.
-fn has_one_letter(cable: Cable) -> bool
-    ensures { IsTrue result ↔ (length (cable_letters cable) ≡ 1) }
-{
-    cable.0.is_some() != cable.1.is_some()
+    cables
+        .iter()
+        .all(|cable| cable.0.is_some() == cable.1.is_some())
 }
 
 /// The letters of the cables that have two.

@@ -1,9 +1,11 @@
-ghost use Rattle.std.specs.Prelude.{◌↔◌, IsTrue, IsPermutation, All};
+ghost use Rattle.std.specs.Prelude.{◌≡◌, ◌↔◌, IsTrue, IsPermutation, All, true, [], ◌∷◌};
+ghost use Rattle.std.specs.Option.{option_map_or};
 ghost use Rattle.kd_state.specs.Entry.{pin_values};
-ghost use Rattle.kd_state.specs.OnKey.{IsPinOnKey, AreThePairs, IsPaired, IsJoined, Joins, AreTheLetters};
+ghost use Rattle.kd_state.specs.OnKey.{IsPinOnKey, AreThePairs, IsPaired, IsJoined, Joins};
+ghost use Rattle.kd_state.specs.Setting.{has_letter};
 
 use crate::machine::Machine;
-use crate::machine::cable::Cable;
+use crate::machine::cable::{Cable, lies_in};
 use crate::machine::parts::Parts;
 use crate::machine::pin_parts::{PinParts, readings_of};
 use crate::machine::rotor_parts::RotorParts;
@@ -142,21 +144,23 @@ fn is_joined(cables: &[Cable], pair: (Letter, Letter)) -> bool
     cables.iter().any(|cable| joins(*cable, pair))
 }
 
-/// Whether the cable's letters are those of the pair.
+/// Whether the cable's letters are those of the pair, in whichever order: each lies in the other.
+#[tactic(auto, using(crate::proofs::DayPairs::joined_by_tests, crate::proofs::DayPairs::tests_of_joined))]
 fn joins(cable: Cable, pair: (Letter, Letter)) -> bool
     ensures { IsTrue result ↔ Joins cable pair }
 {
-    match cable {
-        (Some(first), Some(second)) => are_the_letters(first, second, pair),
-        (Some(only), None) => are_the_letters(only, only, pair),
-        (None, Some(only)) => are_the_letters(only, only, pair),
-        (None, None) => false,
-    }
+    lies_in(&cable, pair.0)
+        && lies_in(&cable, pair.1)
+        && is_one_of(cable.0, &pair)
+        && is_one_of(cable.1, &pair)
 }
 
-/// Whether the two letters are those of the pair, in either order.
-fn are_the_letters(one: Letter, other: Letter, pair: (Letter, Letter)) -> bool
-    ensures { IsTrue result ↔ AreTheLetters one other pair }
+/// Whether the end is loose, or its letter is one of the pair.
+fn is_one_of(end: Option<Letter>, pair: &(Letter, Letter)) -> bool
+    ensures { result ≡ option_map_or (has_letter (pair.now.0 ∷ pair.now.1 ∷ [])) end true }
 {
-    (one, other) == pair || (other, one) == pair
+    match end {
+        None => true,
+        Some(letter) => letter == pair.0 || letter == pair.1,
+    }
 }

@@ -30,6 +30,7 @@ impl PinParts {
 }
 
 /// Whether each letter is on its wheel.
+#[tactic(auto, using(crate::proofs::Slots::is_numbered, crate::proofs::Slots::numbered_at))]
 pub(crate) fn are_on_wheels(letters: &[Letter; 6]) -> bool
     ensures { IsTrue result ↔ AreOnWheels letters.now }
 {

@@ -1,5 +1,5 @@
 //! The letters and the pins of the Converter's six wheels, by the wheels' numbers.
-ghost use Rattle.std.specs.Prelude.{◌≡◌, ◌≤◌, slice_get, slice_set, unwrap_or, IsSome, IsTrue};
+ghost use Rattle.std.specs.Prelude.{◌≡◌, ◌↔◌, ◌≤◌, slice_get, slice_set, unwrap_or, Contains, IsSome, IsTrue};
 ghost use Rattle.std.specs.Option.{option_and_then};
 ghost use Rattle.kd_tables.specs.Rings.{ring_of, place_on};
 ghost use Rattle.kd_state.specs.Pins.{pin_at, with_pin};
@@ -9,8 +9,10 @@ use kd_pins::PinSet;
 use kd_tables::{Letter, Ring, place_on_wheel, ring1, ring2, ring3, ring4, ring5, ring6};
 
 /// Whether the letter is on the wheel of that number.
+#[tactic(auto, using(crate::proofs::Rings::on_wheels))]
 pub(crate) fn is_on_wheel(wheel: u8, letter: Letter) -> bool
     ensures value { result ≡ has_letter (ring_of wheel) letter }
+    ensures on { IsTrue result ↔ Contains (ring_of wheel) letter }
     ensures wheel { IsTrue result → (1 ≤ wheel) × (wheel ≤ 6) }
 {
     place_on_wheel(wheel, letter).is_some()

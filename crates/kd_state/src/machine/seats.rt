@@ -1,9 +1,9 @@
 //! The wheels in the slots.
-ghost use Rattle.std.specs.Prelude.{◌≡◌, ◌↔◌, ◌≤◌, IsTrue, IfSome, Some, Contains, length};
+ghost use Rattle.std.specs.Prelude.{◌≡◌, ◌↔◌, ℕ, ◌≤◌, IsTrue, IfSome, Some, Contains, length};
 ghost use Rattle.std.specs.Option.{SomeIff};
 ghost use Rattle.kd_tables.specs.Tables.{box_of, slots_of, IsAllowed};
 ghost use Rattle.kd_state.specs.Box.{place_in_box};
-ghost use Rattle.kd_state.specs.Machine.{AreAllowed, AreApart};
+ghost use Rattle.kd_state.specs.Machine.{AreAllowed, AreApart, StandsAt};
 
 use crate::machine::per_slot::PerSlot;
 use kd_tables::{Model, Wheel, allowed};
@@ -63,34 +63,34 @@ fn are_apart(slots: &[Option<Wheel>]) -> bool
     ensures { IsTrue result ↔ AreApart slots.now }
 {
     for (place, seated) in slots.iter().enumerate() {
-        let (earlier, _) = slots.split_at(place);
-        if !is_nowhere_else(earlier, *seated) {
+        if !is_alone(slots, place, *seated) {
             return false;
         }
     }
     true
 }
 
-/// Whether the wheel that is seated, if any, stands in none of the other slots.
-fn is_nowhere_else(others: &[Option<Wheel>], seated: Option<Wheel>) -> bool
-    ensures { IsTrue result ↔ IfSome seated (λ wheel. ¬ (Contains others.now (Some wheel))) }
+/// Whether the wheel that is seated at a place, if any, stands at no other one.
+fn is_alone(slots: &[Option<Wheel>], place: usize, seated: Option<Wheel>) -> bool
+    ensures { IsTrue result ↔ IfSome seated
+        (λ wheel. (other : ℕ) → StandsAt slots.now other wheel → other ≡ place) }
 {
     match seated {
         None => true,
-        Some(wheel) => !is_seated(others, wheel),
+        Some(wheel) => stands_only_at(slots, place, wheel),
     }
 }
 
-/// Whether the wheel stands in one of the slots.
-fn is_seated(slots: &[Option<Wheel>], wheel: Wheel) -> bool
-    ensures { IsTrue result ↔ Contains slots.now (Some wheel) }
+/// Whether the wheel stands at no other place of the slots, counted from 0.
+fn stands_only_at(slots: &[Option<Wheel>], place: usize, wheel: Wheel) -> bool
+    ensures { IsTrue result ↔ ((other : ℕ) → StandsAt slots.now other wheel → other ≡ place) }
 {
-    for seated in slots {
-        if is_wheel(*seated, wheel) {
-            return true;
+    for (other, seated) in slots.iter().enumerate() {
+        if other != place && is_wheel(*seated, wheel) {
+            return false;
         }
     }
-    false
+    true
 }
 
 /// Whether the wheel is the one that is seated.

@@ -45,6 +45,7 @@ impl Setting {
     }
 
     /// The setting whose line this is, without the LF at its end.
+    #[tactic(auto, using(crate::proofs::SettingLines::too_many_words, crate::proofs::SettingLines::read_by_words))]
     pub fn from_line(text: &[u8]) -> Option<Self>
         ensures value { MatchOption result
             ((x : _) → IsInRange x → setting_line x ≢ text.now)

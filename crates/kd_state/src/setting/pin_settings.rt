@@ -44,6 +44,7 @@ impl PinParts {
     }
 
     /// Makes the wheel's pin at the letter effective, or not.
+    #[tactic(auto, using(crate::proofs::Rings::on_wheels))]
     fn pin_to(&mut self, wheel: u8, letter: Letter, effective: bool) -> Result<(), Why>
         ensures { Answers (Parts.Pin self.old) (Setting.PinTo wheel letter effective)
             (Parts.Pin self.new) result }
@@ -56,6 +57,7 @@ impl PinParts {
     }
 
     /// Moves a lug of the bar to the place.
+    #[tactic(auto, using(crate::proofs::Slots::is_numbered))]
     fn lug_to(&mut self, bar: u8, lug: Lug, place: Place) -> Result<(), Why>
         ensures { Answers (Parts.Pin self.old) (Setting.LugTo bar lug place)
             (Parts.Pin self.new) result }

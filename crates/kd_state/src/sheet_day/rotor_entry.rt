@@ -34,7 +34,7 @@ pub struct RotorEntry {
 
 impl RotorEntry {
     ghost use Rattle.std.specs.Prelude.{◌≡◌, ◌↔◌, IsTrue};
-    ghost use Rattle.kd_state.specs.SheetDay.{IsLegalRotorDay, AreSeated, AreOfAGroup, seats};
+    ghost use Rattle.kd_state.specs.SheetDay.{IsLegalRotorDay, AreOfAGroup, seats};
     ghost use Rattle.kd_state.specs.Entry.{rotor_values};
 
     /// Whether an accepted entry has these values.
@@ -47,15 +47,8 @@ impl RotorEntry {
         are_words(groups);
         is_day_number(self.day)
             && allowed_reflector(self.model, self.reflector)
-            && self.are_seated()
+            && seats::are_legal(self.model, &self.seats())
             && Plugs::from_pairs(pairs).is_ok()
-    }
-
-    /// Whether the wheels fill the model's slots, and each may stand in its own and in no other.
-    fn are_seated(&self) -> bool
-        ensures { IsTrue result ↔ AreSeated self.now.model (seats self.now.wheels) }
-    {
-        seats::are_legal(self.model, &self.seats())
     }
 
     /// The seats that the wheels take.

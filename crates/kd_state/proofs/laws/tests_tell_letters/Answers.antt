@@ -1,4 +1,4 @@
-use Rattle.kd_state.proofs.Columns.{tests_tell_letters}
+use Rattle.kd_state.proofs.CostTable.{tests_tell_letters}
 use Rattle.kd_state.proofs.laws.tests_tell_letters.Goals as goal
 
 pub returns : goal.returns

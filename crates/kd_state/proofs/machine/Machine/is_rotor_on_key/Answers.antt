@@ -1,6 +1,6 @@
 use Rattle.std.proofs.Common.{rules, sym, ◌∙◌, subst, arith}
 use Rattle.kd_state.proofs.Prelude.{false≢true, iff_false, not-false, AreThePairs}
-use Rattle.kd_state.proofs.OnKey.{seats_Decides, rings_read}
+use Rattle.kd_state.proofs.Wheels.{seats_Decides, rings_read}
 use Rattle.kd_state.proofs.machine.Machine.is_rotor_on_key.Goals as goal
 
 pub returns-then-ne-3 : goal.returns-then-ne-3

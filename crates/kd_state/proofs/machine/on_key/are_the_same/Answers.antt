@@ -1,6 +1,5 @@
 use Rattle.std.specs.Prelude.{◌≡◌, ℕ, Bool, false, nat_eq, ◌&&◌}
-use Rattle.kd_state.proofs.Prelude.{Decides, nat_cmp_total, on_total, then_total, Decides-and}
-use Rattle.kd_state.proofs.Prelude.{Decides-like, ranks_by}
+use Rattle.kd_state.proofs.Prelude.{Decides, nat_cmp_total, on_total, then_total, Decides-and, Decides-like, ranks_by}
 use Rattle.std.specs.Ordering.{is_lt, ordering_then, nat_cmp}
 use Rattle.std.proofs.Common.{arith}
 use Rattle.kd_state.proofs.SortedAlike.{sorted_tell}

@@ -1,7 +1,6 @@
 use Rattle.std.proofs.Common.{◌∙◌, sym, ap, refl}
 use Rattle.kd_state.specs.Setting.{is_at}
 use Rattle.kd_state.proofs.Changing.{would_pass}
-use Rattle.kd_state.proofs.Slots.{is_numbered}
 use Rattle.kd_state.proofs.machine.pin_parts.PinParts.lug_to.Goals as goal
 
 pub returns-in_default-with_lug : goal.returns-in_default-with_lug
@@ -10,6 +9,3 @@ returns-in_default-with_lug c = (
       (ap (is_at c.args.place) (sym c.other_place-other.ensures) ∙ sym c.is_at.ensures ∙ c.if-is_at.false) (λ stands. absurd (cc (c.in_default-with_lug.ensures.exists.1 stands))),
   refl,
 )
-
-pub set_numbered-requires-clause-last : goal.set_numbered-requires-clause-last
-set_numbered-requires-clause-last c = (is_numbered c.args.self.now.bars c.args.bar c.in-Some.standing (sym c.in-Some.ensures)).last

@@ -1,6 +1,6 @@
 use Rattle.std.specs.Prelude.{◌≡◌, count_by, take}
 use Rattle.kd_state.proofs.Prelude.{alphabet, lies_in_one}
-use Rattle.kd_state.proofs.costs.letters_in_one.Given as goal
+use Rattle.kd_state.proofs.costs.cable_cost.Given as goal
 
 abbrev pub invariant-loop-index : goal.invariant-loop-index
 invariant-loop-index l = l.cost ≡ count_by (lies_in_one l.cable l.column) (take l.index alphabet)

@@ -1,6 +1,6 @@
 use Rattle.std.proofs.Common.{arith}
 use Rattle.kd_state.proofs.Seating.{none_seated}
-use Rattle.kd_state.proofs.machine.Machine.seated_wheels.Goals as goal
+use Rattle.kd_state.proofs.engine.ready.seated_wheels.Goals as goal
 
 pub returns-in_err-seated_wheel-in-len3-3 : goal.returns-in_err-seated_wheel-in-len3-3
 returns-in_err-seated_wheel-in-len3-3 c = grind (arith, none_seated)

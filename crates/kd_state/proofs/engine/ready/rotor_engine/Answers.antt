@@ -1,0 +1,16 @@
+use Rattle.std.proofs.Common.{refl, sym, arith}
+use Rattle.kd_state.proofs.Seating.{of_seated, not_ready}
+use Rattle.kd_state.proofs.engine.ready.rotor_engine.Goals as goal
+
+pub returns-in_err-wheels-clause-ready : goal.returns-in_err-wheels-clause-ready
+returns-in_err-wheels-clause-ready c = grind (arith, not_ready)
+
+pub returns-clause-ready : goal.returns-clause-ready
+returns-clause-ready c =
+    let seated = of_seated c.args.parts.now c.as_slice.result.now c.in_ok-wheels.wheels c.as_slice.ensures.value c.in_ok-wheels.ensures in
+    (λ _. record { slots = seated.1; cables = c.in_ok-plugs.ensures.ready.0 refl }, λ _. refl)
+
+pub returns-clause-key : goal.returns-clause-key
+returns-clause-key c =
+    let seated = of_seated c.args.parts.now c.as_slice.result.now c.in_ok-wheels.wheels c.as_slice.ensures.value c.in_ok-wheels.ensures in
+    rw (c.of_wheels.ensures, c.as_slice-2.ensures.value, c.in_ok-plugs.ensures.plugs) (sym seated.0)
