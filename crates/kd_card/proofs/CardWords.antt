@@ -1,9 +1,34 @@
 -- What stands in a card's lines are words, and its numbers have the keywords that are read.
-use Rattle.kd_card.proofs.Prelude.{Bool, true, codes, ◌≡◌, ◌≢◌, ℕ, zero, suc, ◌+◌, ◌*◌, ◌^◌, ◌<◌, ◌≤◌, inl, inr, List, [], ◌∷◌, ◌++◌, length, map, get_or, fold, decimal, Ok, Err, refl, ap, arith, ℤ, pos, negsuc, ◌+ℤ◌, unsigned_abs, length-append, ltb, sym, subst, ◌∙◌, All, AllByRecursion, list_all, digits_value, signed_decimal, decimal_nonempty, digits_decimal, decimal_digit, first_decimal, All-cons, All-map, All-weaker, All-append, All-from_recursion, All-from_get_or, recursion_from_All, IsWord, NumbersAreWords, PriceParts, Version, how_many, price_sum, AreWithinReach, ArePrices, Group, Name, PricedKind, BadLine, CountWrong, PriceMissing, Refused, Found, kinds_text, row_word, column_word, version_text, head_words, price_words, IsGroup, IsDigit, IsNumberText, IsNumeral, with_line, HasWords, SaysValue, SaysLine, SaysFirst, SaysPrices, SaysPriceLine, SaysGroup, nil_from_length, common_steps}
+use Rattle.kd_card.proofs.Prelude.{Bool, true, codes, ◌≡◌, ◌≢◌, ℕ, zero, suc, ◌+◌, ◌*◌, ◌^◌, ◌<◌, ◌≤◌, inl, inr, List, [], ◌∷◌, ◌++◌, length, map, get_or, fold, decimal, Ok, Err, Result, MatchResult, not, eqb, false, pointwise, not-false, false≢true, Decides-eqb, slice_eq-Decides, err_from_is_err_and, refl, ap, arith, ℤ, pos, negsuc, ◌+ℤ◌, unsigned_abs, length-append, ltb, sym, subst, ◌∙◌, All, AllByRecursion, list_all, digits_value, signed_decimal, decimal_nonempty, digits_decimal, decimal_digit, first_decimal, All-cons, All-map, All-weaker, All-append, All-from_recursion, All-from_get_or, recursion_from_All, IsWord, NumbersAreWords, PriceParts, Version, how_many, price_sum, AreWithinReach, ArePrices, Group, Name, PricedKind, BadLine, CountWrong, PriceMissing, Refused, Found, kinds_text, row_word, column_word, version_text, head_words, price_words, IsGroup, IsDigit, IsNumberText, IsNumeral, with_line, HasWords, SaysValue, SaysLine, SaysFirst, SaysPrices, SaysPriceLine, SaysGroup, nil_from_length, common_steps}
 use Rattle.std.specs.Int.{IsInRange}
+use Rattle.std.specs.Result.{IsErrAnd}
 use Rattle.std.proofs.lemmas.Str.Parse.{IsNumeralModel, numerals_by_value, tells_by_index}
 use Rattle.kd_card.specs.Steps.{passed}
+use Rattle.kd_card.specs.declared.fault.CardFault.{CardFault}
 use Rattle.kd_card.proofs.Lines.{bytes_above, is_line, some_bytes}
+
+-- ---- answers
+
+-- a step's fault is handed on
+pub stops : {F Y : Type 0} (answer : Result Y F) (fault : F) (Good : Y → Type 0) (Bad : F → Type 0)
+    → IsErrAnd answer (λ made. made ≡ fault) → Bad fault → MatchResult answer Good Bad
+stops answer fault Good Bad made bad = let is = err_from_is_err_and answer made in rw (is.1, is.2) bad
+
+-- two texts are compared
+pub same_text : {a b : List ℕ} {test : Bool} → test ≡ not (pointwise eqb a b) → test ≡ false → a ≡ b
+same_text {a} {b} is e = (slice_eq-Decides Decides-eqb a b _ refl).0 (not-false _ (sym is ∙ e))
+
+pub other_text : {a b : List ℕ} {test : Bool} → test ≡ not (pointwise eqb a b) → test ≡ true → a ≢ b
+other_text {a} {b} is e same = false≢true (sym (is ∙ ap not ((slice_eq-Decides Decides-eqb a b _ refl).1 same)) ∙ e)
+
+pub filled : {text : List ℕ} {test : Bool} → test ≡ eqb (length text) 0 → test ≡ false → text ≢ []
+filled is e none = false≢true (sym e ∙ is ∙ ap (λ t. eqb (length t) 0) none)
+
+-- no line is due where there are bytes: there is none
+pub no_line : {line : ℕ} {bytes : List ℕ} {fault : CardFault} → bytes ≢ [] → SaysLine line bytes (Err fault)
+    → ((found : List (List ℕ) × List ℕ) → ¬ (HasWords bytes found.0 found.1)) × (fault ≡ BadLine line)
+no_line some (Refused f none e) = absurd (none.0 tt some)
+no_line some (Found x is next) = next
 
 -- ---- words
 

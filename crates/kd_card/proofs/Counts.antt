@@ -1,5 +1,5 @@
 -- How often letters are among others.
-use Rattle.kd_card.proofs.Prelude.{◌≡◌, ◌≢◌, ℕ, zero, suc, ◌+◌, ◌≤◌, nat_eq, Bool, true, false, ◌||◌, cond, inl, inr, List, [], ◌∷◌, ◌++◌, AllPairs, count_by, refl, sym, ap, ◌∙◌, arith, ◌⊎◌, Option, Some, None, AllByRecursion, IsDistinct, eqb-true, eq-eqb, false≢true, ne_eqb, or_parts, eqb_tells, recursion_from_All, sum_by-append, sum_by-cons, alphabet, has_letter, is_plugged, cable_without, cable_with, list_any-append, cable_letters, common_steps}
+use Rattle.kd_card.proofs.Prelude.{◌≡◌, ◌≢◌, ℕ, zero, suc, ◌+◌, ◌≤◌, nat_eq, set, get_or, zip, sum_by, Bool, true, false, ◌||◌, cond, inl, inr, List, [], ◌∷◌, ◌++◌, AllPairs, count_by, refl, sym, ap, ◌∙◌, arith, ◌⊎◌, Option, Some, None, AllByRecursion, IsDistinct, eqb-true, eq-eqb, false≢true, ne_eqb, or_parts, eqb_tells, recursion_from_All, sum_by-append, sum_by-cons, alphabet, has_letter, is_plugged, cable_without, cable_with, list_any-append, cable_letters, common_steps}
 use Rattle.std.proofs.lemmas.Cmp.{nat_eq_equiv}
 use Rattle.std.proofs.lemmas.Map.Made.{AllPairs-from_IsDistinct, IsDistinct-from_count}
 
@@ -9,6 +9,14 @@ count_by-cons p x xs = sum_by-cons (λ y. cond (p y) 1 0) x xs
 
 pub at_most_one : (b : Bool) → cond b 1 0 ≤ 1
 at_most_one b = grind arith
+
+-- one of two lists that stand side by side is changed at a place
+pub zip_set : {X Y : Type 0} (f : X × Y → ℕ) (xs : List X) (ys : List Y) (i : ℕ) (v d : X) → ((y : Y) → f (get_or xs i d, y) ≤ f (v, y) + 1)
+    → sum_by f (zip xs ys) ≤ sum_by f (zip (set xs i v) ys) + 1
+zip_set f (x ∷ xs) (y ∷ ys) zero v d h = omega (arith, h y, sum_by-cons f (x, y) (zip xs ys), sum_by-cons f (v, y) (zip xs ys))
+zip_set f (x ∷ xs) (y ∷ ys) (suc i) v d h =
+    omega (arith, sum_by-cons f (x, y) (zip xs ys), sum_by-cons f (x, y) (zip (set xs i v) ys), zip_set f xs ys i v d h)
+zip_set f xs ys i v d h = omega arith
 
 -- how often the letter is among these
 abbrev pub times : ℕ → List ℕ → ℕ

@@ -1,5 +1,8 @@
 -- Prices that fit bound from below what any pairing of rows and columns costs.
-use Rattle.kd_card.proofs.Prelude.{◌≡◌, ℕ, zero, suc, ◌+◌, ◌<◌, List, [], ◌∷◌, ◌++◌, length, get_or, set, map, zip, fold, ℤ, pos, ◌+ℤ◌, ◌≤ℤ◌, IsPermutation, refl, arith, AllByRecursion, AllZip, ints, fold-append, sum_by-cons, sum_by-IsPermutation, All-permutation, IsPermutation-keeps, IsPermutation-refl, IsPermutation-trans, IsPermutation-swap, AllZip-long, All-from_recursion, recursion_from_All, common_steps, rules}
+use Rattle.kd_card.proofs.Prelude.{◌≡◌, ℕ, zero, suc, ◌+◌, ◌<◌, List, [], ◌∷◌, ◌++◌, length, get_or, set, map, zip, fold, ℤ, pos, ◌+ℤ◌, ◌≤ℤ◌, ◌∙◌, ap, IsPermutation, refl, arith, All, AllZip, ints, fold-append, sum_by-cons, sum_by-IsPermutation, IsPermutation-keeps, IsPermutation-refl, IsPermutation-trans, IsPermutation-swap, AllZip-long, common_steps}
+use Rattle.std.proofs.lemmas.List.Elements.{All-head, All-tail}
+use Rattle.std.proofs.lemmas.List.Sorted.{IsPermutation-map}
+use Rattle.std.proofs.lemmas.Slice.Zip.{seconds-zip}
 use Rattle.std.specs.List as lists
 use borrow.Author.Differences.{up, down}
 
@@ -19,29 +22,26 @@ fold_of_both rows columns =
     let second = fold_from (fold (λ sum price. sum +ℤ price) (pos 0) rows) columns in
     omega (arith, ints)
 
+parts : (xs : List ℤ) → (sum_of xs +ℤ pos (lists.sum_by down xs)) ≡ pos (lists.sum_by up xs)
+parts [] = refl
+parts (x ∷ xs) = grind (arith, common_steps, parts xs, sum_by-cons)
+
 module _ {B : Type 0} where
   -- the prices that stand with columns
   abbrev pub prices_with : List (B × ℤ) → ℤ
-  prices_with [] = pos 0
-  prices_with (w ∷ ws) = w.1 +ℤ prices_with ws
-
-  parts_with : (ws : List (B × ℤ)) → (prices_with ws +ℤ pos (lists.sum_by (λ (w : B × ℤ). down w.1) ws)) ≡ pos (lists.sum_by (λ (w : B × ℤ). up w.1) ws)
-  parts_with [] = refl
-  parts_with (w ∷ ws) = grind (arith, common_steps, parts_with ws, sum_by-cons)
+  prices_with ws = sum_of (map (λ (w : B × ℤ). w.1) ws)
 
   -- in another order they add up to the same
-  pub prices_with-IsPermutation : (xs ys : List (B × ℤ)) → IsPermutation xs ys → prices_with ys ≡ prices_with xs
-  prices_with-IsPermutation xs ys h =
-      let here = parts_with xs in
-      let there = parts_with ys in
-      let ups = sum_by-IsPermutation (λ (w : B × ℤ). up w.1) xs ys h in
-      let downs = sum_by-IsPermutation (λ (w : B × ℤ). down w.1) xs ys h in
-      omega (arith, ints)
-
-  pub prices_with-zip : (columns : List B) (prices : List ℤ) → length columns ≡ length prices → prices_with (zip columns prices) ≡ sum_of prices
-  prices_with-zip [] [] e = refl
-  prices_with-zip (column ∷ columns) (price ∷ prices) e = let rest = prices_with-zip columns prices (omega arith) in omega (arith, ints)
-  prices_with-zip columns prices e = absurd (omega arith)
+  pub prices_moved : (columns : List B) (prices : List ℤ) (beside : List (B × ℤ)) → length prices ≡ length columns
+      → IsPermutation (zip columns prices) beside → prices_with beside ≡ sum_of prices
+  prices_moved columns prices beside e order =
+      let here = map (λ (w : B × ℤ). w.1) (zip columns prices) in
+      let there = map (λ (w : B × ℤ). w.1) beside in
+      let moved = IsPermutation-map (λ (w : B × ℤ). w.1) (zip columns prices) beside order in
+      let ups = sum_by-IsPermutation up here there moved in
+      let downs = sum_by-IsPermutation down here there moved in
+      let same : sum_of there ≡ sum_of here = omega (arith, ints, parts here, parts there) in
+      same ∙ ap sum_of (seconds-zip columns prices e)
 
 -- Things of two kinds that stand side by side, each with its like.
 module _ {A C : Type 0} (R : A → C → Type 0) where
@@ -80,53 +80,40 @@ module _ {A C : Type 0} (R : A → C → Type 0) where
 module _ {A B : Type 0} (cost : A → B → ℕ) where
   -- what the rows cost at the columns beside them
   abbrev pub pairing_cost : List A → List (B × ℤ) → ℕ
-  pairing_cost [] ws = 0
-  pairing_cost (row ∷ rows) [] = 0
-  pairing_cost (row ∷ rows) (w ∷ ws) = cost row w.0 + pairing_cost rows ws
+  pairing_cost rows ws = lists.sum_by (λ (pair : A × (B × ℤ)). cost pair.0 pair.1.0) (zip rows ws)
 
   -- a row's price and a column's are together at most the cost where they meet
   abbrev pub FitTogether : A → ℤ → B × ℤ → Type 0
   FitTogether row price w = (price +ℤ w.1) ≤ℤ pos (cost row w.0)
 
-  abbrev pub FitAll : List A → List ℤ → List (B × ℤ) → Type 0
-  FitAll rows prices ws = AllZip (λ row price. AllByRecursion (FitTogether row price) ws) rows prices
+  module _ (a : A) where
+    abbrev pub FitAll : List A → List ℤ → List (B × ℤ) → Type 0
+    FitAll rows prices ws = (i : ℕ) → i < length rows → All (FitTogether (get_or rows i a) (get_or prices i (pos 0))) ws
 
-  pub without_first : (rows : List A) (prices : List ℤ) (w : B × ℤ) (ws : List (B × ℤ)) → FitAll rows prices (w ∷ ws) → FitAll rows prices ws
-  without_first [] [] w ws h = tt
-  without_first (row ∷ rows) (price ∷ prices) w ws h = (h.0.1, without_first rows prices w ws h.1)
-  without_first rows prices w ws h = h
+    without_first : (row : A) (rows : List A) (price : ℤ) (prices : List ℤ) (w : B × ℤ) (ws : List (B × ℤ))
+        → FitAll (row ∷ rows) (price ∷ prices) (w ∷ ws) → FitAll rows prices ws
+    without_first row rows price prices w ws fit = λ i lt.
+        All-tail (FitTogether (get_or rows i a) (get_or prices i (pos 0))) w ws (fit (suc i) (omega arith))
 
-  pub fitting_prices : (rows : List A) (prices : List ℤ) (ws : List (B × ℤ)) → length rows ≡ length ws → FitAll rows prices ws
-      → (sum_of prices +ℤ prices_with ws) ≤ℤ pos (pairing_cost rows ws)
-  fitting_prices [] [] [] e h = omega (arith, ints)
-  fitting_prices (row ∷ rows) (price ∷ prices) (w ∷ ws) e h =
-      search (rules, fitting_prices rows prices ws (omega arith) (without_first rows prices w ws h.1), without_first)
-  fitting_prices [] (price ∷ prices) [] e h = absurd h
-  fitting_prices (row ∷ rows) [] (w ∷ ws) e h = absurd h
-  fitting_prices rows prices ws e h = absurd (omega arith)
+    pub fitting_prices : (rows : List A) (prices : List ℤ) (ws : List (B × ℤ)) → length rows ≡ length ws → length rows ≡ length prices
+        → FitAll rows prices ws → (sum_of prices +ℤ prices_with ws) ≤ℤ pos (pairing_cost rows ws)
+    fitting_prices [] [] [] e d fit = omega (arith, ints)
+    fitting_prices (row ∷ rows) (price ∷ prices) (w ∷ ws) e d fit =
+        let here = All-head (FitTogether row price) w ws (fit zero (omega arith)) in
+        let rest = fitting_prices rows prices ws (omega arith) (omega arith) (without_first row rows price prices w ws fit) in
+        omega (arith, ints, sum_by-cons (λ (pair : A × (B × ℤ)). cost pair.0 pair.1.0) (row, w) (zip rows ws))
+    fitting_prices rows prices ws e d fit = absurd (omega arith)
 
-  -- prices that fit, fit in whatever order the columns are
-  pub FitAll-IsPermutation : (rows : List A) (prices : List ℤ) (ws zs : List (B × ℤ)) → IsPermutation ws zs → FitAll rows prices ws → FitAll rows prices zs
-  FitAll-IsPermutation [] [] ws zs order h = tt
-  FitAll-IsPermutation (row ∷ rows) (price ∷ prices) ws zs order h = (
-    recursion_from_All (FitTogether row price) zs (All-permutation (FitTogether row price) ws zs order (All-from_recursion (FitTogether row price) ws h.0)),
-    FitAll-IsPermutation rows prices ws zs order h.1,
-  )
-  FitAll-IsPermutation rows prices ws zs order h = h
-
-  -- from prices that fit place by place
-  fit_row : (row : A) (price : ℤ) (columns : List B) (prices : List ℤ) → length columns ≡ length prices
-      → ((j : ℕ) → j < length columns → (price +ℤ get_or prices j (pos 0)) ≤ℤ pos (get_or (map (cost row) columns) j 0))
-      → AllByRecursion (FitTogether row price) (zip columns prices)
-  fit_row row price (column ∷ columns) (other ∷ prices) e fits =
-      (fits zero (omega arith), fit_row row price columns prices (omega arith) (λ j lt. fits (suc j) (omega arith)))
-  fit_row row price columns prices e fits = tt
-
-  pub fit_all : (rows : List A) (row_prices : List ℤ) (columns : List B) (prices : List ℤ) → length rows ≡ length row_prices → length columns ≡ length prices
-      → ((i j : ℕ) → i < length rows → j < length columns
-      → (get_or row_prices i (pos 0) +ℤ get_or prices j (pos 0)) ≤ℤ pos (get_or (get_or (map (λ row. map (cost row) columns) rows) i []) j 0))
-      → FitAll rows row_prices (zip columns prices)
-  fit_all [] [] columns prices e f fits = tt
-  fit_all (row ∷ rows) (price ∷ row_prices) columns prices e f fits =
-      (fit_row row price columns prices f (λ j lt. fits zero j (omega arith) lt), fit_all rows row_prices columns prices (omega arith) f (λ i j lt. fits (suc i) j (omega arith)))
-  fit_all rows row_prices columns prices e f fits = absurd (omega arith)
+    -- where fitting prices add up to what the pairing costs, they are so in each row
+    pub tight_at : (rows : List A) (prices : List ℤ) (ws : List (B × ℤ)) (i : ℕ) (w : B × ℤ) → length rows ≡ length ws → length rows ≡ length prices
+        → FitAll rows prices ws → pos (pairing_cost rows ws) ≤ℤ (sum_of prices +ℤ prices_with ws) → i < length rows
+        → (get_or prices i (pos 0) +ℤ (get_or ws i w).1) ≡ pos (cost (get_or rows i a) (get_or ws i w).0)
+    tight_at (row ∷ rows) (price ∷ prices) (v ∷ ws) zero w e d fit enough lt =
+        let here = All-head (FitTogether row price) v ws (fit zero (omega arith)) in
+        let rest = fitting_prices rows prices ws (omega arith) (omega arith) (without_first row rows price prices v ws fit) in
+        omega (arith, ints, sum_by-cons (λ (pair : A × (B × ℤ)). cost pair.0 pair.1.0) (row, v) (zip rows ws))
+    tight_at (row ∷ rows) (price ∷ prices) (v ∷ ws) (suc i) w e d fit enough lt =
+        let here = All-head (FitTogether row price) v ws (fit zero (omega arith)) in
+        tight_at rows prices ws i w (omega arith) (omega arith) (without_first row rows price prices v ws fit)
+        (omega (arith, ints, sum_by-cons (λ (pair : A × (B × ℤ)). cost pair.0 pair.1.0) (row, v) (zip rows ws))) (omega arith)
+    tight_at rows prices ws i w e d fit enough lt = absurd (omega arith)

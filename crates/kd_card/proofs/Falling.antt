@@ -2,17 +2,11 @@
 -- cable or a bar, and doesn't change with the others.
 use Rattle.kd_card.proofs.Prelude.{◌≡◌, ℕ, zero, suc, ◌+◌, ◌-◌, ◌≤◌, nat_eq, min, Bool, true, false, cond, inl, inr, List, [], ◌∷◌, get_or, set, map, fold, count_by, Option, Some, None, unwrap_or, slice_get, ℤ, refl, sym, ap, ◌∙◌, subst, arith, length, AllByRecursion, option_map, option_map_or, unwrap_or-slice_get, Place, alphabet, RotorParts, Parts, Rotor, Pin, Setting, Pull, Put, LugTo, Why, cable_letters, plugged_letters, IsLegal, has_letter, is_at, reasons, why_refused, cable_at, cable_without, cable_with, with_lug, changed, lies_beyond, other_lug, lug_place, Leads, differ, unless_same, column_letters, cable_cost, lugs_moved, bar_cost, is_priced, eqb-false, ltb-false, All-set, length-set, place_rank, IsBefore, numbered, common_steps, find, All}
 use Rattle.kd_state.specs.Costs.{standings_as}
+use Rattle.kd_state.specs.Setting.{Stands}
 use Rattle.kd_tables.specs.declared.lug.Lug.{Lug}
 use Rattle.kd_tables.specs.declared.lug.Lug.TheVariants.{Left, Right}
-use Rattle.kd_card.proofs.Counts.{count_by-cons, at_most_one, once_in_alphabet, times, times-append, AreOnce, once_of_distinct, once_more, SameBut, same_but, same_but-sym, pulled, put, times_more}
+use Rattle.kd_card.proofs.Counts.{count_by-cons, zip_set, at_most_one, once_in_alphabet, times, times-append, AreOnce, once_of_distinct, once_more, SameBut, same_but, same_but-sym, pulled, put, times_more}
 use Rattle.kd_card.proofs.Duality.{pairing_cost}
-
--- one row is changed
-pairing_cost-set : {A B : Type 0} (cost : A → B → ℕ) (rows : List A) (ws : List (B × ℤ)) (i : ℕ) (row d : A)
-    → ((column : B) → cost (get_or rows i d) column ≤ cost row column + 1) → pairing_cost cost rows ws ≤ pairing_cost cost (set rows i row) ws + 1
-pairing_cost-set cost (now ∷ rows) (w ∷ ws) zero row d h = omega (arith, h w.0)
-pairing_cost-set cost (now ∷ rows) (w ∷ ws) (suc i) row d h = omega (arith, pairing_cost-set cost rows ws i row d h)
-pairing_cost-set cost rows ws i row d h = omega arith
 
 pub not_differing : (b : Bool) → differ b b ≡ false
 not_differing b = grind arith
@@ -39,11 +33,11 @@ cables_fall : (m : RotorParts) (place : ℕ) (now : Option ℕ × Option ℕ) (w
     → pairing_cost cable_cost m.cables ws ≤ pairing_cost cable_cost (set m.cables (suc place - 1) now) ws + 1
 cables_fall m place now ws x same =
     rw (one_less place)
-    (pairing_cost-set cable_cost m.cables ws place now (None, None) (λ column.
-    subst (λ cable. cable_cost cable column ≤ cable_cost now column + 1) (unwrap_or-slice_get m.cables place (None, None))
-    (omega (arith, counted_apart (cable_letters (cable_at m (suc place))) (cable_letters now) (column_letters column) x same alphabet, once_in_alphabet x))))
+    (zip_set (λ pair. cable_cost pair.0 pair.1.0) m.cables ws place now (None, None) (λ w.
+    subst (λ cable. cable_cost cable w.0 ≤ cable_cost now w.0 + 1) (unwrap_or-slice_get m.cables place (None, None))
+    (omega (arith, counted_apart (cable_letters (cable_at m (suc place))) (cable_letters now) (column_letters w.0) x same alphabet, once_in_alphabet x))))
 
-pull_falls : (m : RotorParts) (cable letter : ℕ) (ws : List (Option (ℕ × ℕ) × ℤ)) → why_refused (Rotor m) (Pull cable letter) ≡ None
+pub pull_falls : (m : RotorParts) (cable letter : ℕ) (ws : List (Option (ℕ × ℕ) × ℤ)) → why_refused (Rotor m) (Pull cable letter) ≡ None
     → pairing_cost cable_cost m.cables ws ≤ pairing_cost cable_cost (set m.cables (cable - 1) (cable_without letter (cable_at m cable))) ws + 1
 pull_falls m zero letter ws e = cc
 pull_falls m (suc place) letter ws e =
@@ -54,7 +48,7 @@ pull_falls m (suc place) letter ws e =
       | inr less ↦ cables_fall m place now ws less.0 (same_but less.0 (cable_letters now) (cable_letters was) less.1)
     ]
 
-put_falls : (m : RotorParts) (cable letter : ℕ) (ws : List (Option (ℕ × ℕ) × ℤ)) → why_refused (Rotor m) (Put cable letter) ≡ None
+pub put_falls : (m : RotorParts) (cable letter : ℕ) (ws : List (Option (ℕ × ℕ) × ℤ)) → why_refused (Rotor m) (Put cable letter) ≡ None
     → pairing_cost cable_cost m.cables ws ≤ pairing_cost cable_cost (set m.cables (cable - 1) (cable_with letter (cable_at m cable))) ws + 1
 put_falls m zero letter ws e = cc
 put_falls m (suc place) letter ws e =
@@ -74,28 +68,15 @@ least_falls : {X : Type 0} (f g : X → ℕ) → ((x : X) → f x ≤ g x + 1) �
 least_falls f g h [] a b start = start
 least_falls f g h (x ∷ xs) a b start = least_falls f g h xs (min a (f x)) (min b (g x)) (omega (arith, h x))
 
-lug_falls : (bars : List (Place × Place)) (ws : List ((ℕ × ℕ) × ℤ)) (bar : ℕ) (lug : Lug) (place : Place) (found : Option (Place × Place)) → slice_get bars bar ≡ found
+pub lug_falls : (bars : List (Place × Place)) (ws : List ((ℕ × ℕ) × ℤ)) (bar : ℕ) (lug : Lug) (place : Place) (found : Option (Place × Place)) → slice_get bars bar ≡ found
     → pairing_cost bar_cost bars ws ≤ pairing_cost bar_cost (option_map_or (λ standing. set bars (suc bar - 1) (with_lug lug place standing)) found bars) ws + 1
 lug_falls bars ws bar lug place None e = omega arith
 lug_falls bars ws bar lug place (Some standing) e =
     let here : get_or bars bar standing ≡ standing = sym (unwrap_or-slice_get bars bar standing) ∙ ap (λ o. unwrap_or o standing) e in
     rw (one_less bar)
-    (pairing_cost-set bar_cost bars ws bar (with_lug lug place standing) standing
-    (λ row. subst (λ was. bar_cost was row ≤ bar_cost (with_lug lug place standing) row + 1) (sym here)
-    (least_falls (lugs_moved standing) (lugs_moved (with_lug lug place standing)) (lugs_moved_step lug place standing) (standings_as row) 2 2 (omega arith))))
-
--- What a machine's cables cost at some columns, or its bars at some rows, each with a price of its own.
-abbrev pub paired_cost : Parts → List (Option (ℕ × ℕ) × ℤ) → List ((ℕ × ℕ) × ℤ) → ℕ
-paired_cost (Rotor m) columns rows = pairing_cost cable_cost m.cables columns
-paired_cost (Pin m) columns rows = pairing_cost bar_cost m.bars rows
-
-pub falls : (m : Parts) (x : Setting) (columns : List (Option (ℕ × ℕ) × ℤ)) (rows : List ((ℕ × ℕ) × ℤ)) → why_refused m x ≡ None
-    → paired_cost m columns rows ≤ paired_cost (changed m x) columns rows + cond (is_priced x) 1 0
-falls (Rotor m) (Pull cable letter) columns rows e = pull_falls m cable letter columns e
-falls (Rotor m) (Put cable letter) columns rows e = put_falls m cable letter columns e
-falls (Pin m) (LugTo zero lug place) columns rows e = omega arith
-falls (Pin m) (LugTo (suc bar) lug place) columns rows e = lug_falls m.bars rows bar lug place (slice_get m.bars bar) refl
-falls m x columns rows e = omega arith
+    (zip_set (λ pair. bar_cost pair.0 pair.1.0) bars ws bar (with_lug lug place standing) standing
+    (λ w. subst (λ was. bar_cost was w.0 ≤ bar_cost (with_lug lug place standing) w.0 + 1) (sym here)
+    (least_falls (lugs_moved standing) (lugs_moved (with_lug lug place standing)) (lugs_moved_step lug place standing) (standings_as w.0) 2 2 (omega arith))))
 
 -- ---- what settings keep
 
@@ -133,9 +114,6 @@ put_keeps m (suc place) letter e once l =
     (omega (arith, once_more l letter (plugged_letters m.cables) once reasons.1.1.0, times-set l (times l (letter ∷ [])) m.cables place now (None, None) (omega arith)))
 
 -- each bar's left lug stands before its right one, one setting later
-abbrev pub Stands : Place × Place → Type 0
-Stands bar = IsBefore bar.0 bar.1
-
 stands_again : (lug : Lug) (place : Place) (standing : Place × Place) → is_at place (lug_place (other_lug lug) standing) ≡ false → lies_beyond lug place (lug_place (other_lug lug) standing) ≡ false
     → Stands (with_lug lug place standing)
 stands_again Left place standing apart within = omega (arith, eqb-false (place_rank place) (place_rank standing.1) apart, ltb-false (place_rank standing.1) (place_rank place) within)

@@ -27,7 +27,7 @@ too_long priced kinds are count long =
     omega (arith, few_kinds 0 (map priced kinds) are, length_of_kinds (map priced kinds), length-map kinds priced)
 
 -- prices by kind that may stand on a card
-prices_of : (parts : PriceParts) → version_of parts ≡ ByKind
+pub prices_of : (parts : PriceParts) → version_of parts ≡ ByKind
     → (row_prices parts ≡ prices_of_kinds (row_kinds parts)) × (column_prices parts ≡ prices_of_kinds (column_kinds parts))
 prices_of parts e = grind arith
 
@@ -45,12 +45,11 @@ are_prices parts number by many rows columns =
       column_kinds = columns.0;
     }
 
-pub counts : (parts : PriceParts) → version_of parts ≡ ByKind → ArePrices parts
-    → (counted (row_kinds parts) ≡ how_many parts) × (counted (column_kinds parts) ≡ how_many parts)
-counts parts by are = (
-  sym (length_of_kinds (row_kinds parts)) ∙ sym (ap length (prices_of parts by).0) ∙ are.rows,
-  sym (length_of_kinds (column_kinds parts)) ∙ sym (ap length (prices_of parts by).1) ∙ are.columns,
-)
+pub row_count : (parts : PriceParts) → version_of parts ≡ ByKind → ArePrices parts → counted (row_kinds parts) ≡ how_many parts
+row_count parts by are = sym (length_of_kinds (row_kinds parts)) ∙ sym (ap length (prices_of parts by).0) ∙ are.rows
+
+pub column_count : (parts : PriceParts) → version_of parts ≡ ByKind → ArePrices parts → counted (column_kinds parts) ≡ how_many parts
+column_count parts by are = sym (length_of_kinds (column_kinds parts)) ∙ sym (ap length (prices_of parts by).1) ∙ are.columns
 
 -- ---- kinds and their lines
 

@@ -5,7 +5,7 @@ use Rattle.kd_card.specs.declared.look.Name.TheVariants as names
 use Rattle.kd_card.proofs.Lines.{bytes_above, same_words, some_bytes, no_first_part}
 use Rattle.kd_card.proofs.CardWords.{word_by_bytes, bytes_are_word, word_by_test, signed_word}
 use Rattle.kd_card.proofs.PriceTexts.{small}
-use Rattle.kd_card.specs.Reading.{IsFirstWord, EndsAt, IsBadAt}
+use Rattle.kd_card.specs.Reading.{EndsAt, IsBadAt}
 
 -- ---- names and places by their texts
 
@@ -104,9 +104,6 @@ ranks_tell_looks = grind (arith, ranked_ends, ranked_pair, alike, same_rank, low
 
 -- ---- a line of a group, read
 
-pub begins : {text words rest first : List ℕ} → IsFirstPart 10 text words rest → IsFirstWord words first → BeginsWithWord first text
-begins {words} {rest} ends f = record { behind = f.behind; rest = rest; has = record { line = words; first = ends; parts = f.words } }
-
 pub no_count : (name : Name) (look count price : List ℕ) → decimal 0 ≡ count
     → (kind : PricedKind) → ¬ (HasKindWords name (name_text name ∷ look ∷ count ∷ price ∷ []) kind)
 no_count name look count price zero kind has =
@@ -127,19 +124,20 @@ module _ (tells : TextsTellFirstParts) where
   }
 
   pub end_has_no_next : {name : Name} {bytes : List ℕ} (floor : ℕ) → EndsGroup name bytes → HasNoNext name floor bytes
-  end_has_no_next floor e = grind (arith, common_steps, some_bytes, one_word, begins, kind_begins)
+  end_has_no_next floor e = grind (arith, common_steps, some_bytes, one_word, kind_begins)
 
   pub ends_at : {name : Name} {bytes : List ℕ} (floor : ℕ) → EndsGroup name bytes → EndsAt name floor bytes
   ends_at floor ends = record { ends = ends; none_more = end_has_no_next floor ends }
 
-  -- there are bytes without LF
-  pub unended : {name : Name} {bytes : List ℕ} (floor : ℕ) → bytes ≢ [] → IsWithout 10 bytes → IsBadAt name floor bytes
-  unended floor some without = record {
+  -- no line stands there, though there are bytes
+  pub unended : {name : Name} {bytes : List ℕ} (floor : ℕ) → bytes ≢ []
+      → ((found : List (List ℕ) × List ℕ) → ¬ (HasWords bytes found.0 found.1)) → IsBadAt name floor bytes
+  unended floor some none = record {
     goes_on = λ ends. elim ends [
-      | AtNothing none ↦ some none
-      | AtOther word begins differs ↦ no_first_part begins.has.first without
+      | AtNothing empty ↦ some empty
+      | AtOther word begins differs ↦ none (word ∷ begins.behind, begins.rest) begins.has
     ];
-    none_more = λ kind rest next. no_first_part next.line.first without;
+    none_more = λ kind rest next. none (kind_words kind, rest) next.line;
   }
 
   -- or a line of that name that isn't a kind's
@@ -147,42 +145,21 @@ module _ (tells : TextsTellFirstParts) where
       → IsBadAt name floor bytes
   no_kind floor named none = grind (arith, common_steps, some_bytes, one_word)
 
-module _ (tells : TextsTellFirstParts) {name : Name} {text words rest : List ℕ} (ends : IsFirstPart 10 text words rest) where
-  pub words_are : {floor : ℕ} {kind : PricedKind} {more : List ℕ} → IsNextKind name floor text kind more → HasKindWords name (words_of words) kind
-  words_are {kind} {more} next =
-      record {
-        called = next.called;
-        good = next.good;
-        written = (same_words tells next.line (record { line = words; first = ends; parts = refl })).0;
-      }
+module _ (tells : TextsTellFirstParts) {name : Name} {text : List ℕ} {words : List (List ℕ)} {rest : List ℕ} (has : HasWords text words rest) where
+  pub words_are : {floor : ℕ} {kind : PricedKind} {more : List ℕ} → IsNextKind name floor text kind more → HasKindWords name words kind
+  words_are next = record { called = next.called; good = next.good; written = (same_words tells next.line has).0 }
 
-  pub low_next : {floor rank : ℕ} {kind : PricedKind} → HasKindWords name (words_of words) kind → rank ≡ look_rank kind.look → rank < floor
+  pub low_next : {floor rank : ℕ} {kind : PricedKind} → HasKindWords name words kind → rank ≡ look_rank kind.look → rank < floor
       → (other : PricedKind) (more : List ℕ) → ¬ (IsNextKind name floor text other more)
-  low_next {kind} has ranked low other more next =
-      let same : kind ≡ other = same_kind tells kind other has.good next.good (has.written ∙ sym (words_are next).written) in
+  low_next {kind} is ranked low other more next =
+      let same : kind ≡ other = same_kind tells kind other is.good next.good (is.written ∙ sym (words_are next).written) in
       omega (arith, ap (λ (k : PricedKind). look_rank k.look) same)
 
 -- four words
-pub four_words : (name : Name) (line : List ℕ) (items : List (Bor (List ℕ))) (a b d : Bor (List ℕ)) → map (λ (word : Bor (List ℕ)). word.now) items ≡ words_of line
-    → IsFirstWord line (name_text name) → length items ≡ 4
-    → name_text name ∷ (get_or items 1 a).now ∷ (get_or items 2 b).now ∷ (get_or items 3 d).now ∷ [] ≡ words_of line
-four_words name line items a b d e g h = grind (arith, common_steps)
-
--- ---- two bytes that aren't letters in order
-
-abbrev NoLetters : List ℕ → ℕ → ℕ → Type 0
-NoLetters text a b = (first second : ℕ) → first < second → second < 26 → get_or text 0 a ≡ first + 65 → get_or text 1 b ≢ second + 65
-
-pub no_ends : (text : List ℕ) (a b : ℕ) → length text ≡ 2 → NoLetters text a b → (ends : Option ℕ × Option ℕ) → ¬ (HasLook names.Cable text (Cable ends))
-no_ends text a b two none (None, Some other) has = has.form
-no_ends text a b two none (Some one, Some other) has =
-    none one other has.form.0 has.form.1 (ap (λ t. get_or t 0 a) (sym has.written)) (ap (λ t. get_or t 1 b) (sym has.written))
-no_ends text a b two none ends has = omega (arith, two, ap length has.written)
-
-pub no_pair : (text : List ℕ) (a b : ℕ) → length text ≡ 2 → NoLetters text a b → (pair : Option (ℕ × ℕ)) → ¬ (HasLook names.Pair text (Pair pair))
-no_pair text a b two none None has = omega (arith, two, ap length has.written)
-no_pair text a b two none (Some (one, other)) has =
-    none one other has.form.0 has.form.1 (ap (λ t. get_or t 0 a) (sym has.written)) (ap (λ t. get_or t 1 b) (sym has.written))
+pub four_words : (name : Name) (behind : List (List ℕ)) (items : List (Bor (List ℕ))) (a b d : Bor (List ℕ)) → map (λ (word : Bor (List ℕ)). word.now) items ≡ behind
+    → length items ≡ 3
+    → name_text name ∷ (get_or items 0 a).now ∷ (get_or items 1 b).now ∷ (get_or items 2 d).now ∷ [] ≡ name_text name ∷ behind
+four_words name behind items a b d e h = grind (arith, common_steps)
 
 -- ---- a line, written
 

@@ -1,21 +1,14 @@
--- A setting that changes no cable and no bar puts at most one loose thing right; the others leave what is loose.
-use Rattle.kd_card.proofs.Prelude.{◌≡◌, ◌≢◌, ℕ, zero, suc, ◌+◌, ◌-◌, ◌≤◌, nat_eq, Bool, true, false, not, cond, List, [], ◌∷◌, get_or, set, map, zip, sum, count_by, AllPairs, Option, Some, None, slice_get, unwrap_or, inl, inr, refl, sym, ap, ◌∙◌, subst, arith, AllByRecursion, sum_by, option_map_or, bytes_eq, cases_eq, eq-eqb, recursion_from_All, map-id, sum-map, sum_by-cons, unwrap_or-slice_get, bytes_eq-Decides, Model, wheel_text, reflector_text, RotorParts, PinParts, Parts, Rotor, Pin, Setting, Seat, SeatReflector, RingTo, Turn, PinTo, same_wheel, same_reflector, place_in_box, model_of, ring_at, letter_at, why_refused, seated_in, without, with_letter, changed, RotorDay, PinDay, Day, OfRotors, OfPins, IsLegalDay, day_model, ReadsAs, DaysWheelsHaveTheirPlaces, differ, unless_same, loose_slots, loose_reflector, loose_rings, loose_letters, loose_pins, loose_pin_letters, loose_count, is_priced, common_steps}
+-- A setting puts at most one loose thing right, or lowers what the cables or bars cost by one at most, and never both.
+use Rattle.kd_card.proofs.Prelude.{◌≡◌, ◌≢◌, ℕ, zero, suc, ◌+◌, ◌-◌, ◌≤◌, nat_eq, Bool, true, false, not, cond, List, [], ◌∷◌, get_or, set, map, zip, sum, count_by, AllPairs, Option, Some, None, slice_get, unwrap_or, inl, inr, refl, sym, ap, ◌∙◌, subst, arith, AllByRecursion, sum_by, option_map_or, bytes_eq, cases_eq, eq-eqb, recursion_from_All, map-id, sum-map, sum_by-cons, unwrap_or-slice_get, bytes_eq-Decides, Model, wheel_text, reflector_text, RotorParts, PinParts, Parts, Rotor, Pin, Setting, Pull, Put, Seat, SeatReflector, RingTo, Turn, PinTo, LugTo, same_wheel, same_reflector, place_in_box, model_of, ring_at, letter_at, why_refused, seated_in, without, with_letter, changed, RotorDay, PinDay, Day, OfRotors, OfPins, IsLegalDay, day_model, ReadsAs, DaysWheelsHaveTheirPlaces, differ, unless_same, loose_slots, loose_reflector, loose_rings, loose_letters, loose_pins, loose_pin_letters, loose_count, cable_cost, bar_cost, ℤ, is_priced, common_steps}
 use Rattle.kd_tables.specs.declared.wheel.Wheel.{Wheel}
 use Rattle.kd_tables.specs.Rings.{ring_of, place_on}
 use Rattle.kd_pins.specs.declared.pin_set.PinSet.{PinSet}
 use Rattle.kd_pins.specs.PinWheels.{pins_of}
 use Rattle.kd_state.specs.declared.sheet_day.rotor_entry.SheetWheel.{SheetWheel}
 use Rattle.kd_state.specs.Pins.{pin_set, wheel_pins, with_pin}
-use Rattle.kd_card.proofs.Counts.{count_by-cons, at_most_one}
-use Rattle.kd_card.proofs.Falling.{unless_same_at_most, one_less, not_differing}
-
--- one of two lists that stand side by side is changed at a place
-zip_set : {X Y : Type 0} (f : X × Y → ℕ) (xs : List X) (ys : List Y) (i : ℕ) (v d : X) → ((y : Y) → f (get_or xs i d, y) ≤ f (v, y) + 1)
-    → sum_by f (zip xs ys) ≤ sum_by f (zip (set xs i v) ys) + 1
-zip_set f (x ∷ xs) (y ∷ ys) zero v d h = omega (arith, h y, sum_by-cons f (x, y) (zip xs ys), sum_by-cons f (v, y) (zip xs ys))
-zip_set f (x ∷ xs) (y ∷ ys) (suc i) v d h =
-    omega (arith, sum_by-cons f (x, y) (zip xs ys), sum_by-cons f (x, y) (zip (set xs i v) ys), zip_set f xs ys i v d h)
-zip_set f xs ys i v d h = omega arith
+use Rattle.kd_card.proofs.Counts.{count_by-cons, zip_set, at_most_one}
+use Rattle.kd_card.proofs.Duality.{pairing_cost}
+use Rattle.kd_card.proofs.Falling.{unless_same_at_most, one_less, not_differing, pull_falls, put_falls, lug_falls}
 
 zip_set_lowers : {X Y : Type 0} (p : X × Y → Bool) (xs : List X) (ys : List Y) (i : ℕ) (v : X) → count_by p (zip xs ys) ≤ count_by p (zip (set xs i v) ys) + 1
 zip_set_lowers p xs ys i v = zip_set (λ z. cond (p z) 1 0) xs ys i v v (λ y. omega (arith, at_most_one (p (get_or xs i v, y))))
@@ -71,8 +64,14 @@ without_raises wheel (now ∷ slots) (wanted ∷ wheels) =
 abbrev HaveTheirPlaces : Model → List SheetWheel → Type 0
 HaveTheirPlaces model wheels = AllPairs (λ (w other : SheetWheel). place_in_box model w.wheel ≢ place_in_box model other.wheel) wheels
 
--- a wheel is turned, if there is one
-module _ (m : RotorParts) (s : RotorDay) (apart : HaveTheirPlaces m.model s.wheels) where
+-- What is still to be done: things to put right, and what it costs to make of the cables these columns, or of the bars these rows.
+abbrev pub left : List (Option (ℕ × ℕ) × ℤ) → List ((ℕ × ℕ) × ℤ) → Parts → Day → ℕ
+left columns rows (Rotor m) (OfRotors s) = loose_count (Rotor m) (OfRotors s) + pairing_cost cable_cost m.cables columns
+left columns rows (Pin m) (OfPins s) = loose_count (Pin m) (OfPins s) + pairing_cost bar_cost m.bars rows
+left columns rows m s = 0
+
+-- each setting does one of these things at most
+module _ (columns : List (Option (ℕ × ℕ) × ℤ)) (rows : List ((ℕ × ℕ) × ℤ)) (m : RotorParts) (s : RotorDay) (apart : HaveTheirPlaces m.model s.wheels) where
   abbrev place : SheetWheel → ℕ
   place w = place_in_box m.model w.wheel
 
@@ -80,13 +79,16 @@ module _ (m : RotorParts) (s : RotorDay) (apart : HaveTheirPlaces m.model s.whee
   turned_lowers None letter = omega arith
   turned_lowers (Some wheel) letter = omega (arith, set_lowers place (λ (w : SheetWheel). w.letter) m.letters (place_in_box m.model wheel) letter s.wheels apart)
 
-  rotor_lowers : (x : Setting) → loose_count (Rotor m) (OfRotors s) ≤ loose_count (changed (Rotor m) x) (OfRotors s) + cond (is_priced x) 0 1
-  rotor_lowers (Seat slot wheel) =
+  rotor_lowers : (x : Setting) → why_refused (Rotor m) x ≡ None
+      → left columns rows (Rotor m) (OfRotors s) ≤ left columns rows (changed (Rotor m) x) (OfRotors s) + 1
+  rotor_lowers (Pull cable letter) e = omega (arith, pull_falls m cable letter columns e)
+  rotor_lowers (Put cable letter) e = omega (arith, put_falls m cable letter columns e)
+  rotor_lowers (Seat slot wheel) e =
       omega (arith, without_raises wheel m.slots s.wheels, zip_set_lowers wrong_slot (map (without wheel) m.slots) s.wheels (slot - 1) (Some wheel))
-  rotor_lowers (SeatReflector reflector) = omega (arith, unless_same_at_most (same_reflector m.reflector s.reflector))
-  rotor_lowers (RingTo wheel letter) = omega (arith, set_lowers place (λ (w : SheetWheel). w.ring) m.rings (place_in_box m.model wheel) letter s.wheels apart)
-  rotor_lowers (Turn slot letter) = turned_lowers (seated_in m slot) letter
-  rotor_lowers x = omega arith
+  rotor_lowers (SeatReflector reflector) e = omega (arith, unless_same_at_most (same_reflector m.reflector s.reflector))
+  rotor_lowers (RingTo wheel letter) e = omega (arith, set_lowers place (λ (w : SheetWheel). w.ring) m.rings (place_in_box m.model wheel) letter s.wheels apart)
+  rotor_lowers (Turn slot letter) e = omega (arith, turned_lowers (seated_in m slot) letter)
+  rotor_lowers x e = omega arith
 
 -- a pin is set
 abbrev differing : List Bool × List Bool → ℕ
@@ -117,14 +119,19 @@ pin_lowers m s (suc wheel) letter effective e =
     ∙ ap (λ pins. set (pins_of m.pins) wheel (set pins place effective)) (unwrap_or-slice_get (pins_of m.pins) wheel []) in
     subst (λ pins. loose_pins m s ≤ sum (map differing (zip pins (pins_of s.pins))) + 1) (sym all) (wheel_set_lowers (pins_of m.pins) (pins_of s.pins) wheel place effective)
 
-pin_machine_lowers : (m : PinParts) (s : PinDay) (x : Setting) → why_refused (Pin m) x ≡ None → loose_count (Pin m) (OfPins s) ≤ loose_count (changed (Pin m) x) (OfPins s) + cond (is_priced x) 0 1
-pin_machine_lowers m s x e = grind (arith, zip_set_lowers, pin_lowers)
+pin_machine_lowers : (columns : List (Option (ℕ × ℕ) × ℤ)) (rows : List ((ℕ × ℕ) × ℤ)) (m : PinParts) (s : PinDay) (x : Setting) → why_refused (Pin m) x ≡ None
+    → left columns rows (Pin m) (OfPins s) ≤ left columns rows (changed (Pin m) x) (OfPins s) + 1
+pin_machine_lowers columns rows m s (LugTo zero lug place) e = omega arith
+pin_machine_lowers columns rows m s (LugTo (suc bar) lug place) e = omega (arith, lug_falls m.bars rows bar lug place (slice_get m.bars bar) refl)
+pin_machine_lowers columns rows m s x e = grind (arith, zip_set_lowers, pin_lowers)
 
 -- whatever the setting and the machine
-pub lowers : DaysWheelsHaveTheirPlaces → (m : Parts) (s : Day) (x : Setting) → IsLegalDay s → model_of m ≡ day_model s → why_refused m x ≡ None → loose_count m s ≤ loose_count (changed m x) s + cond (is_priced x) 0 1
-lowers places (Rotor m) (OfRotors s) x h same e = rotor_lowers m s (subst (λ model. HaveTheirPlaces model s.wheels) (sym same) (places s.model s.wheels h.wheels)) x
-lowers places (Pin m) (OfPins s) x h same e = pin_machine_lowers m s x e
-lowers places m s x h same e = omega arith
+pub lowers : DaysWheelsHaveTheirPlaces → (columns : List (Option (ℕ × ℕ) × ℤ)) (rows : List ((ℕ × ℕ) × ℤ)) (m : Parts) (s : Day) (x : Setting) → IsLegalDay s
+    → model_of m ≡ day_model s → why_refused m x ≡ None → left columns rows m s ≤ left columns rows (changed m x) s + 1
+lowers places columns rows (Rotor m) (OfRotors s) x h same e =
+    rotor_lowers columns rows m s (subst (λ model. HaveTheirPlaces model s.wheels) (sym same) (places s.model s.wheels h.wheels)) x e
+lowers places columns rows (Pin m) (OfPins s) x h same e = pin_machine_lowers columns rows m s x e
+lowers places columns rows m s x h same e = omega arith
 
 -- no setting makes another model of a machine, and those of cables and bars leave what is loose
 pub model_of-changed : (m : Parts) (x : Setting) → model_of (changed m x) ≡ model_of m

@@ -2,11 +2,12 @@
 -- each with one that costs nothing.
 use Rattle.kd_card.proofs.Prelude.{◌≡◌, ◌≢◌, ℕ, zero, suc, ◌+◌, ◌-◌, ◌<◌, ◌≤◌, ◌==◌, nat_eq, nat_lt, Bool, true, not, ◌||◌, cond, ◌⊎◌, inl, inr, List, [], ◌∷◌, ◌++◌, length, get_or, map, zip, replicate, Contains, IsPermutation, count_by, remove, Option, Some, None, ℤ, refl, sym, ap, ◌∙◌, subst, arith, AllByRecursion, AllZip, flat_map, list_all, false≢true, eq-eqb, lt-ltb, eqb_tells, All-contains, recursion_from_All, sum_by-cons, get_or-le-sum_by, AllPass-from_list_all, sum_by-IsPermutation, Contains-permutation, IsPermutation-refl, IsPermutation-sym, IsPermutation-cons, IsPermutation-trans, IsPermutation-remove, Place, One, alphabet, places, place_rank, reading_of, IsBefore, letters_plugged, cable_letters, plugged_letters, has_letter, SameLetters, IsPaired, IsJoined, AreThePairs, differ, cable_cost, bar_cost, columns_of, DaysWheelsHaveTheirPlaces, TestsTellLetters, ThirteenColumns}
 use Rattle.kd_state.specs.Costs.{standings_as}
+use Rattle.kd_state.specs.Setting.{Stands}
 use Rattle.std.specs.List as lists
 use Rattle.std.proofs.lemmas.List.Edits.{length-remove}
 use Rattle.kd_card.proofs.Duality.{pairing_cost, reordered}
 use Rattle.kd_card.proofs.Counts.{count_by-cons, times, times-append, AreOnce}
-use Rattle.kd_card.proofs.Falling.{CablesAreOnce, HasCables, HasBars, Stands, not_differing}
+use Rattle.kd_card.proofs.Falling.{CablesAreOnce, HasCables, HasBars, not_differing}
 
 -- What the laws of kd_state say, as far as the proofs of this crate need it.
 pub record Told : Type 0 where
@@ -164,8 +165,9 @@ pub record FreePairing {A B : Type 0} (cost : A → B → ℕ) (rows : List A) (
 
 module _ {A B : Type 0} (cost : A → B → ℕ) where
   free_of_all : (rows : List A) (ws : List (B × ℤ)) → AllZip (λ row w. cost row w.0 ≡ 0) rows ws → pairing_cost cost rows ws ≡ 0
-  free_of_all (row ∷ rows) (w ∷ ws) h = omega (arith, h.0, free_of_all rows ws h.1)
-  free_of_all rows ws h = refl
+  free_of_all (row ∷ rows) (w ∷ ws) h = omega (arith, sum_by-cons (λ (pair : A × (B × ℤ)). cost pair.0 pair.1.0) (row, w) (zip rows ws), h.0, free_of_all rows ws h.1)
+  free_of_all [] ws h = refl
+  free_of_all rows ws h = absurd h
 
 with_prices : {A B : Type 0} (R : A → B → Type 0) (xs : List A) (columns : List B) (prices : List ℤ) → length columns ≡ length prices → AllZip R xs columns
     → AllZip (λ x (w : B × ℤ). R x w.0) xs (zip columns prices)

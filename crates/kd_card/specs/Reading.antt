@@ -10,11 +10,6 @@ use Rattle.kd_card.specs.CardFault.{EndsGroup, HasNoNext}
 abbrev pub IsHeadFront : Version → List ℕ → Type 0
 IsHeadFront version front = (day : List ℕ) → line_of (codes "CARD" ∷ version_text version ∷ codes "DAY" ∷ day ∷ []) ≡ front ++ day
 
--- this stands before the first space of the line, or is all of it
-pub record IsFirstWord (line first : List ℕ) : Type 0 where
-  pub behind : List (List ℕ)
-  pub words : words_of line ≡ first ∷ behind
-
 -- the words behind the first one of a line: of the text behind its space, if there is one
 abbrev pub words_behind : Option (List ℕ) → List (List ℕ)
 words_behind None = []

@@ -1,5 +1,5 @@
 ghost use Rattle.std.specs.Prelude.{◌≡◌};
-ghost use Rattle.kd_card.specs.CardText.{row_name, column_name, price_count};
+ghost use Rattle.kd_card.specs.CardText.{row_name, column_name, column_word, price_count};
 ghost use Rattle.kd_card.specs.CardFault.{first_text};
 
 use super::look::Name;
@@ -43,6 +43,16 @@ impl Group {
             (Version::ByNumber, Group::OfCables) => "CABLES",
             (Version::ByNumber, Group::OfBars) => "BARS",
             (Version::ByKind, _) => self.row_name().text(),
+        }
+    }
+
+    /// The first word of the second line of prices by number.
+    pub(crate) fn column_text(self) -> &'static str
+        ensures { result.now ≡ column_word self }
+    {
+        match self {
+            Group::OfCables => "PAIRS",
+            Group::OfBars => "ROWS",
         }
     }
 

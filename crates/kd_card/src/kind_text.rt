@@ -2,44 +2,34 @@
 ghost use Rattle.std.specs.Prelude.{◌≡◌, ◌+◌, ◌*◌, ◌<◌, ◌≤◌, [], ◌∷◌, ◌++◌, length, All};
 ghost use Rattle.std.specs.Prelude.{MatchOption, MatchResult, Ok, Err};
 ghost use Rattle.arrayvec.specs.ArrayString.{array_string_len};
-ghost use Rattle.kd_state.specs.Words.{words_of};
+ghost use Rattle.std.specs.Option.{option_copied};
 ghost use Rattle.kd_card.specs.Kinds.{name_text, kinds_text, HasKindWords, IsPricedKind};
 ghost use Rattle.kd_card.specs.CardFault.{IsNextKind, SaysGroup};
-ghost use Rattle.kd_card.specs.Reading.{IsFirstWord, EndsAt, IsBadAt};
+ghost use Rattle.kd_card.specs.Reading.{words_behind, EndsAt, IsBadAt};
 
 use super::fault::CardFault;
 use super::kinds::PricedKind;
 use super::look::{Look, Name};
-use super::price_text::price_of_text;
+use super::price_text::{price_of_text, split_first};
 use arrayvec::{ArrayString, ArrayVec};
 use itoa::Buffer;
 use kd_state::laws::texts_tell_first_parts;
-use kd_state::{number_of_text, push_number, split_once, split_words};
+use kd_state::{number_of_text, push_number, split_words};
 
 /// No group has more kinds in order, each once: their ranks are below this.
 const MOST: usize = 703;
 
-/// The first word of a line.
-fn first_word(line: &[u8]) -> &[u8]
-    ensures { IsFirstWord line.now result.now }
-{
-    match split_once(line, b' ') {
-        Some((first, _)) => first,
-        None => line,
-    }
-}
-
-/// The kind of things of that name whose line this is.
+/// The kind of things of that name whose line has these words behind its first one, which is the name.
 #[tactic(auto, using(crate::proofs::KindWords::four_words))]
-fn kind_of_line(name: Name, line: &[u8]) -> Option<PricedKind>
-    requires { IsFirstWord line.now (name_text name) }
-    ensures { MatchOption result
-        ((kind : _) → ¬ (HasKindWords name (words_of line.now) kind))
-        (λ kind. HasKindWords name (words_of line.now) kind) }
+fn kind_behind(name: Name, behind: Option<&[u8]>) -> Option<PricedKind>
+    ensures { let words = name_text name ∷ words_behind (option_copied behind.entry) in
+        MatchOption result
+        ((kind : _) → ¬ (HasKindWords name words kind))
+        (λ kind. HasKindWords name words kind) }
 {
-    let words = split_words::<4>(line)?;
+    let words = split_words::<3>(behind?)?;
     match words.as_slice() {
-        [_, look, count, price] => kind_of_parts(name, look, count, price),
+        [look, count, price] => kind_of_parts(name, look, count, price),
         _ => None,
     }
 }
@@ -79,13 +69,14 @@ fn next_kind(
     if text.is_empty() {
         return Ok(None);
     }
-    let Some((words, rest)) = split_once(text, b'\n') else {
-        return Err(CardFault::BadLine(line));
+    let (first, behind, rest) = match split_first(text, line) {
+        Ok(found) => found,
+        Err(fault) => return Err(fault),
     };
-    if first_word(words) != name.text().as_bytes() {
+    if first != name.text().as_bytes() {
         return Ok(None);
     }
-    match kind_of_line(name, words) {
+    match kind_behind(name, behind) {
         Some(kind) if floor <= kind.look.rank() => Ok(Some((kind, rest))),
         _ => Err(CardFault::BadLine(line)),
     }

@@ -1,6 +1,7 @@
 //! Kinds: things that are alike, how many there are of them, and the price that each of them has.
-ghost use Rattle.std.specs.Prelude.{◌≡◌, ◌≢◌, ◌↔◌, ◌+◌, ◌*◌, ◌<◌, ◌≤◌, length, map, fold};
-ghost use Rattle.std.specs.Prelude.{unsigned_abs, pos, ◌+ℤ◌, ◌*ℤ◌, IsTrue, MatchOption};
+ghost use Rattle.std.specs.Prelude.{◌≡◌, ◌≢◌, ◌↔◌, ◌+◌, ◌<◌, ◌≤◌, ◌++◌, length, map, replicate};
+ghost use Rattle.std.specs.Prelude.{IsTrue, MatchOption};
+ghost use Rattle.arrayvec.specs.ArrayVec.{array_vec_len};
 ghost use Rattle.kd_card.specs.declared.look.Name.{Name};
 ghost use Rattle.kd_card.specs.declared.kinds.PricedKind.{PricedKind};
 ghost use Rattle.kd_card.specs.Kinds.{look_name, look_rank, counted, prices_of_kinds, IsPricedKind};
@@ -53,27 +54,14 @@ pub struct RowKind {
 }
 
 /// A kind of whatever things: what they have in common, how many there are, and the price of each.
-#[derive(Clone, Copy)]
+#[derive(Clone, Copy, Default)]
 pub struct PricedKind {
     pub look: Look,
     pub count: u8,
     pub price: i16,
 }
 
-/// What stands in the unused places of a list of kinds. It may be anything: no contract says which value it is, here and
-/// of the two kinds below.
-impl Default for PricedKind {
-    ghost is_default = { λ _. Unit {0} };
-
-    fn default() -> Self {
-        PricedKind {
-            look: Look::Pair(None),
-            count: 0,
-            price: 0,
-        }
-    }
-}
-
+/// What stands in the unused places of a list of kinds. It may be anything: no contract says which value it is.
 impl Default for BarKind {
     ghost is_default = { λ _. Unit {0} };
 
@@ -257,14 +245,6 @@ fn own_kind<K: AsKind>(kind: PricedKind) -> K
 }
 
 impl PricedKind {
-    /// The price of all things of the kind together.
-    fn price_of_all(&self) -> i32
-        requires { unsigned_abs self.now.price ≤ 9999 }
-        ensures { result ≡ pos self.now.count *ℤ self.now.price }
-    {
-        i32::from(self.count) * i32::from(self.price)
-    }
-
     /// Whether the kind may stand on a card, behind kinds that all have lower ranks than this one.
     fn may_follow(&self, floor: usize) -> bool
         ensures { IsTrue result ↔ (IsPricedKind self.now × (floor ≤ look_rank self.now.look)) }
@@ -276,33 +256,40 @@ impl PricedKind {
     }
 }
 
-/// Whether the kinds are in their order, each once, and count so many things together.
-pub(crate) fn are_kinds(kinds: &[PricedKind], number: usize) -> bool
-    ensures { IsTrue result ↔ (AreKinds 0 kinds.now × (counted kinds.now ≡ number)) }
+/// Whether the kinds are in their order from that rank on, each once, and count so many things together.
+pub(crate) fn are_kinds(kinds: &[PricedKind], floor: usize, number: usize) -> bool
+    ensures { IsTrue result ↔ (AreKinds floor kinds.now × (counted kinds.now ≡ number)) }
 {
-    let mut floor = 0;
-    let mut total = 0;
-    for kind in kinds {
-        if !kind.may_follow(floor) {
-            return false;
+    match kinds {
+        [] => number == 0,
+        [kind, rest @ ..] => {
+            let count = usize::from(kind.count);
+            kind.may_follow(floor)
+                && count <= number
+                && are_kinds(rest, kind.look.rank() + 1, number - count)
         }
-        floor = kind.look.rank() + 1;
-        total += usize::from(kind.count);
     }
-    total == number
 }
 
-/// The sum and the price of each thing that the kinds count, added up.
-pub(crate) fn sum_of_kinds(sum: i32, kinds: &[PricedKind]) -> i32
-    requires kinds { AreKinds 0 kinds.now }
-    requires few { counted kinds.now ≤ 27 }
-    requires small { unsigned_abs sum ≤ 27 * 9999 }
-    ensures value { result ≡ fold (λ sum price. sum +ℤ price) sum (prices_of_kinds kinds.now) }
-    ensures bound { unsigned_abs result ≤ unsigned_abs sum + 9999 * counted kinds.now }
+/// A price for each thing that the kinds count.
+#[tactic(auto, using(crate::proofs::KindLists::counted_within, crate::proofs::KindPrices::length_of_kinds))]
+pub(crate) fn prices_of_kinds(kinds: &[PricedKind]) -> ArrayVec<i16, 27>
+    requires { counted kinds.now ≤ 27 }
+    ensures { result.items ≡ prices_of_kinds kinds.now }
 {
-    let mut total = sum;
+    let mut prices = ArrayVec::new();
     for kind in kinds {
-        total += kind.price_of_all();
+        push_prices(&mut prices, kind);
     }
-    total
+    prices
+}
+
+/// Appends the price of the kind, once for each thing.
+fn push_prices(prices: &mut ArrayVec<i16, 27>, kind: &PricedKind)
+    requires { array_vec_len prices.old + kind.now.count ≤ 27 }
+    ensures { prices.new.items ≡ prices.old.items ++ replicate kind.now.count kind.now.price }
+{
+    for _ in 0..kind.count {
+        prices.push(kind.price);
+    }
 }

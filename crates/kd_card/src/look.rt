@@ -1,5 +1,5 @@
 //! What alike things have in common, and its text.
-ghost use Rattle.std.specs.Prelude.{◌≡◌, ◌≢◌, ◌↔◌, ℕ, ◌+◌, ◌<◌, IsTrue, MatchOption, Some};
+ghost use Rattle.std.specs.Prelude.{◌≡◌, ◌≢◌, ◌↔◌, ℕ, ◌+◌, ◌<◌, [], ◌∷◌, IsTrue, MatchOption, Some};
 ghost use Rattle.kd_state.specs.Machine.{cable_letters};
 ghost use Rattle.kd_tables.specs.Places as places;
 ghost use Rattle.kd_card.specs.Kinds.{name_text, look_name, look_text, look_rank, letters_text};
@@ -45,6 +45,15 @@ pub enum Look {
     Pair(Option<(Letter, Letter)>),
     Bar(Standing),
     Row(Reading),
+}
+
+/// What stands in the unused places of a list of looks. It may be anything: no contract says which value it is.
+impl Default for Look {
+    ghost is_default = { λ _. Unit {0} };
+
+    fn default() -> Self {
+        Look::Pair(None)
+    }
 }
 
 impl Look {
@@ -275,11 +284,10 @@ fn ends_of_text(text: &[u8]) -> Option<Ends>
     match text {
         [b'-'] => Some((None, None)),
         [letter] => Some((Some(Letter::from_byte(*letter)?), None)),
-        [one, other] => {
-            let (one, other) = two_letters(*one, *other)?;
+        _ => {
+            let (one, other) = two_letters(text)?;
             Some((Some(one), Some(other)))
         }
-        _ => None,
     }
 }
 
@@ -291,21 +299,25 @@ fn pair_of_text(text: &[u8]) -> Option<Option<(Letter, Letter)>>
 {
     match text {
         [b'-'] => Some(None),
-        [one, other] => Some(Some(two_letters(*one, *other)?)),
-        _ => None,
+        _ => Some(Some(two_letters(text)?)),
     }
 }
 
-/// The two letters of these capital letters, if the first comes before the second.
-fn two_letters(one: u8, other: u8) -> Option<(Letter, Letter)>
+/// The two capital letters of that text, if the first comes before the second.
+fn two_letters(text: &[u8]) -> Option<(Letter, Letter)>
     ensures { MatchOption result
-        ((first second : ℕ) → first < second → second < 26 → one ≡ first + 65 → other ≢ second + 65)
+        ((one other : ℕ) → one < other → other < 26 → letters_text (one ∷ other ∷ []) ≢ text.now)
         (λ letters. (letters.0 < letters.1) × (letters.1 < 26)
-        × (one ≡ letters.0 + 65) × (other ≡ letters.1 + 65)) }
+        × (letters_text (letters.0 ∷ letters.1 ∷ []) ≡ text.now)) }
 {
-    let one = Letter::from_byte(one)?;
-    let other = Letter::from_byte(other)?;
-    is_before(one, other).then_some((one, other))
+    match text {
+        [one, other] => {
+            let one = Letter::from_byte(*one)?;
+            let other = Letter::from_byte(*other)?;
+            is_before(one, other).then_some((one, other))
+        }
+        _ => None,
+    }
 }
 
 /// The standing of that text.

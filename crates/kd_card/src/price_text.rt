@@ -99,41 +99,43 @@ pub(crate) fn first_group(
     }
 }
 
-/// The prices behind the first word of the line of that number, which have to be `N`.
-pub(crate) fn prices_behind<const N: usize>(
+/// The prices behind the first word of the line of that number, which have to be so many.
+pub(crate) fn prices_behind(
     behind: Option<&[u8]>,
+    number: usize,
     line: usize,
-) -> Result<[i16; N], CardFault>
-    requires some { 0 < N }
-    requires few { N ≤ 27 }
-    ensures { let says = SaysPrices N line (words_behind (option_copied behind.entry)) in
-        MatchResult result (λ prices. says (Ok prices)) (λ fault. says (Err fault)) }
+) -> Result<ArrayVec<i16, 27>, CardFault>
+    requires some { 0 < number }
+    requires few { number ≤ 27 }
+    ensures { let says = SaysPrices number line (words_behind (option_copied behind.entry)) in
+        MatchResult result (λ prices. says (Ok prices.items)) (λ fault. says (Err fault)) }
 {
     match behind {
-        Some(text) => prices_of_text(text, line),
+        Some(text) => prices_of_text(text, number, line),
         None => Err(CardFault::PriceMissing),
     }
 }
 
-/// The prices between the spaces of a text that has to be `N` of them, in the line of that number.
-fn prices_of_text<const N: usize>(text: &[u8], line: usize) -> Result<[i16; N], CardFault>
-    requires { N ≤ 27 }
+/// The prices between the spaces of a text that has to be so many of them, in the line of that number.
+fn prices_of_text(text: &[u8], number: usize, line: usize) -> Result<ArrayVec<i16, 27>, CardFault>
+    requires { number ≤ 27 }
     ensures { MatchResult result
-        (λ prices. SaysPrices N line (words_of text.now) (Ok prices))
-        (λ fault. SaysPrices N line (words_of text.now) (Err fault)) }
+        (λ prices. SaysPrices number line (words_of text.now) (Ok prices.items))
+        (λ fault. SaysPrices number line (words_of text.now) (Err fault)) }
 {
-    let Some(words) = split_words::<N>(text) else {
+    let Some(words) = split_words::<27>(text) else {
         if are_prices(text) {
             return Err(CardFault::PriceMissing);
         }
         return Err(CardFault::BadLine(line));
     };
-    let Some(prices) = prices_of_words::<N>(words.as_slice()) else {
+    let Some(prices) = prices_of_words(words.as_slice()) else {
         return Err(CardFault::BadLine(line));
     };
-    match prices.into_inner() {
-        Ok(prices) => Ok(prices),
-        Err(_) => Err(CardFault::PriceMissing),
+    if prices.len() == number {
+        Ok(prices)
+    } else {
+        Err(CardFault::PriceMissing)
     }
 }
 
@@ -152,9 +154,8 @@ fn are_prices(text: &[u8]) -> bool
 }
 
 /// The prices that are these words; none where one of them is no price.
-fn prices_of_words<const N: usize>(words: &[&[u8]]) -> Option<ArrayVec<i16, N>>
-    requires room { length words.now ≤ N }
-    requires few { N ≤ 27 }
+fn prices_of_words(words: &[&[u8]]) -> Option<ArrayVec<i16, 27>>
+    requires { length words.now ≤ 27 }
     ensures { let texts = map (λ word. word.now) words.now in
         MatchOption result
         (¬ (All IsPriceText texts))

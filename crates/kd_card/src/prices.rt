@@ -1,14 +1,16 @@
 ghost use Rattle.std.specs.Prelude.{◌≡◌, ◌↔◌, ◌+◌, ◌*◌, ◌<◌, ◌≤◌, length, fold, unsigned_abs, ◌+ℤ◌};
 ghost use Rattle.std.specs.Prelude.{IsTrue, MatchOption};
 ghost use Rattle.kd_card.specs.Prices.{price_sum, how_many, version_of, row_kinds, column_kinds};
+ghost use Rattle.kd_card.specs.Prices.{row_prices, column_prices};
+ghost use Rattle.kd_card.specs.CardFault.{numbered};
 ghost use Rattle.kd_card.specs.Prices.{AreWithinReach, ArePrices};
-ghost use Rattle.kd_card.specs.CardText.{row_name, column_name, price_count, price_lines, IsGroup};
+ghost use Rattle.kd_card.specs.CardText.{row_name, column_name, price_count, price_lines, group_of, IsGroup};
 ghost use Rattle.kd_card.specs.CardText.{HaveKinds};
 
 use super::group::Group;
 use super::kinds::{
     AsKind, BarKind, CableKind, PairKind, PricedKind, RowKind, are_kinds, kinds_of, own_kinds,
-    sum_of_kinds,
+    prices_of_kinds,
 };
 use arrayvec::ArrayVec;
 use std::marker::Model;
@@ -108,37 +110,68 @@ impl Prices {
     }
 
     /// The prices of these kinds, if the kinds of both groups are in order, each once, and of so many things.
-    #[tactic(auto, using(crate::proofs::KindPrices::are_prices, crate::proofs::KindPrices::counts))]
+    #[tactic(auto, using(crate::proofs::KindPrices::are_prices, crate::proofs::KindPrices::row_count, crate::proofs::KindPrices::column_count))]
     fn of_kinds(parts: PriceParts, number: usize) -> Option<Self>
         requires kinds { version_of parts ≡ Version.ByKind }
         requires number { number ≡ how_many parts }
         ensures { MatchOption result (¬ (ArePrices parts)) (λ prices. prices ≡ parts) }
     {
-        if !are_kinds(parts.row_kinds().as_slice(), number) {
+        if !are_kinds(parts.row_kinds().as_slice(), 0, number) {
             return None;
         }
-        if !are_kinds(parts.column_kinds().as_slice(), number) {
+        if !are_kinds(parts.column_kinds().as_slice(), 0, number) {
             return None;
         }
         Some(Prices::of_parts(parts))
     }
 
+    /// The prices of these rows and columns of a group, one for each.
+    pub fn numbered(group: Group, rows: &[i16], columns: &[i16]) -> Self
+        requires rows { length rows.now ≡ price_count group }
+        requires columns { length columns.now ≡ price_count group }
+        requires row_reach { AreWithinReach rows.now }
+        requires column_reach { AreWithinReach columns.now }
+        ensures value { result ≡ numbered group rows.now columns.now }
+        ensures are_prices { ArePrices result }
+    {
+        match group {
+            Group::OfCables => {
+                Prices::of_parts(PriceParts::Cables(array_of(rows), array_of(columns)))
+            }
+            Group::OfBars => Prices::of_parts(PriceParts::Bars(array_of(rows), array_of(columns))),
+        }
+    }
+
     /// The prices of these kinds of rows and columns of a group.
+    #[tactic(auto, using(crate::proofs::KindPrices::group_fits))]
     pub fn of_groups(group: Group, rows: &[PricedKind], columns: &[PricedKind]) -> Self
         requires rows { IsGroup (row_name group) (price_count group) rows.now }
         requires columns { IsGroup (column_name group) (price_count group) columns.now }
         ensures kinds { HaveKinds group rows.now columns.now result }
         ensures are_prices { ArePrices result }
     {
-        let parts = match group {
-            Group::OfCables => PriceParts::CableKinds(own_kinds(rows), own_kinds(columns)),
-            Group::OfBars => PriceParts::BarKinds(own_kinds(rows), own_kinds(columns)),
-        };
-        Prices::of_parts(parts)
+        match group {
+            Group::OfCables => {
+                Prices::of_parts(PriceParts::CableKinds(own_kinds(rows), own_kinds(columns)))
+            }
+            Group::OfBars => {
+                Prices::of_parts(PriceParts::BarKinds(own_kinds(rows), own_kinds(columns)))
+            }
+        }
+    }
+
+    /// What the prices are of.
+    pub fn group(&self) -> Group
+        ensures { result ≡ group_of self.now }
+    {
+        match self.parts {
+            PriceParts::Cables(..) | PriceParts::CableKinds(..) => Group::OfCables,
+            PriceParts::Bars(..) | PriceParts::BarKinds(..) => Group::OfBars,
+        }
     }
 
     /// What the prices are by.
-    pub(crate) fn version(&self) -> Version
+    pub fn version(&self) -> Version
         ensures value { result ≡ version_of self.now }
         ensures are_prices { ArePrices self.now }
     {
@@ -189,30 +222,43 @@ impl Prices {
         self.parts.column_kinds()
     }
 
+    /// The prices of the cables, or of the bars, one for each; those of a kind stand together.
+    #[tactic(auto, using(crate::proofs::CardWords::few_prices, crate::proofs::KindPrices::row_count, crate::proofs::KindPrices::prices_of))]
+    pub fn row_prices(&self) -> ArrayVec<i16, 27>
+        ensures value { result.items ≡ row_prices self.now }
+        ensures are_prices { ArePrices self.now }
+    {
+        match &self.parts {
+            PriceParts::Cables(cables, _) => copied(cables).unwrap(),
+            PriceParts::Bars(bars, _) => copied(bars).unwrap(),
+            _ => prices_of_kinds(self.row_kinds().as_slice()),
+        }
+    }
+
+    /// The prices of the pairs and nothings, or of the sheet's rows, one for each; those of a kind stand together.
+    #[tactic(auto, using(crate::proofs::CardWords::few_prices, crate::proofs::KindPrices::column_count, crate::proofs::KindPrices::prices_of))]
+    pub fn column_prices(&self) -> ArrayVec<i16, 27>
+        ensures value { result.items ≡ column_prices self.now }
+        ensures are_prices { ArePrices self.now }
+    {
+        match &self.parts {
+            PriceParts::Cables(_, pairs) => copied(pairs).unwrap(),
+            PriceParts::Bars(_, rows) => copied(rows).unwrap(),
+            _ => prices_of_kinds(self.column_kinds().as_slice()),
+        }
+    }
+
     /// The sum of all prices.
+    #[tactic(auto, using(crate::proofs::CardWords::few_prices))]
     pub fn sum(&self) -> i32
         ensures { result ≡ price_sum self.now }
     {
-        match &self.parts {
-            PriceParts::Cables(rows, columns) => sum_onto(sum_onto(0, rows), columns),
-            PriceParts::Bars(rows, columns) => sum_onto(sum_onto(0, rows), columns),
-            PriceParts::CableKinds(..) | PriceParts::BarKinds(..) => self.parts.sum_by_kind(),
-        }
+        let rows = sum_onto(0, self.row_prices().as_slice());
+        sum_onto(rows, self.column_prices().as_slice())
     }
 }
 
 impl PriceParts {
-    /// The sum of the prices by kind, each as often as there are things of the kind.
-    #[tactic(auto, using(crate::proofs::CardWords::few_prices, crate::proofs::KindPrices::counts))]
-    fn sum_by_kind(&self) -> i32
-        requires kinds { version_of self.now ≡ Version.ByKind }
-        requires prices { ArePrices self.now }
-        ensures { result ≡ price_sum self.now }
-    {
-        let rows = sum_of_kinds(0, self.row_kinds().as_slice());
-        sum_of_kinds(rows, self.column_kinds().as_slice())
-    }
-
     /// The same prices once more.
     fn copied(&self) -> Self
         requires { ArePrices self.now }
@@ -271,6 +317,14 @@ fn sum_onto(sum: i32, prices: &[i16]) -> i32
         total += i32::from(*price);
     }
     total
+}
+
+/// The prices, of which there are so many.
+fn array_of<const N: usize>(prices: &[i16]) -> [i16; N]
+    requires { length prices.now ≡ N }
+    ensures { result ≡ prices.now }
+{
+    <[i16; N]>::try_from(prices).unwrap()
 }
 
 /// The elements, if there is room for them.

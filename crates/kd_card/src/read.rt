@@ -11,10 +11,9 @@ ghost use Rattle.kd_card.specs.Reading.{IsHeadFront};
 
 use super::card::Card;
 use super::fault::CardFault;
-use super::group::Group;
 use super::kind_text::read_kinds;
 use super::price_text::{first_group, is_numeral, prices_behind, split_first};
-use super::prices::{PriceParts, Prices, Version};
+use super::prices::{Prices, Version};
 use arrayvec::ArrayVec;
 use itoa::Buffer;
 use kd_state::laws::{numbers_and_letters_are_words, texts_tell_first_parts};
@@ -185,18 +184,12 @@ fn read_numbered(text: &[u8], line: usize) -> Result<(Prices, &[u8]), CardFault>
         (λ fault. SaysNumbered line text.now (Err fault)) }
 {
     let (group, behind, rest) = first_group(text, Version::ByNumber, line)?;
-    match group {
-        Group::OfCables => {
-            let cables = prices_behind::<13>(behind, line)?;
-            let (pairs, rest) = read_price_line::<13>(rest, b"PAIRS", line + 1)?;
-            Ok((Prices::of_parts(PriceParts::Cables(cables, pairs)), rest))
-        }
-        Group::OfBars => {
-            let bars = prices_behind::<27>(behind, line)?;
-            let (rows, rest) = read_price_line::<27>(rest, b"ROWS", line + 1)?;
-            Ok((Prices::of_parts(PriceParts::Bars(bars, rows)), rest))
-        }
-    }
+    let number = group.number();
+    let rows = prices_behind(behind, number, line)?;
+    let word = group.column_text().as_bytes();
+    let (columns, rest) = read_price_line(rest, word, number, line + 1)?;
+    let prices = Prices::numbered(group, rows.as_slice(), columns.as_slice());
+    Ok((prices, rest))
 }
 
 /// The prices of the two groups of kinds at the front of the text, of which the first line is that of this number, and
@@ -218,19 +211,21 @@ fn read_kinded(text: &[u8], line: usize) -> Result<(Prices, &[u8]), CardFault>
 }
 
 /// The prices behind the word in the first line of the text, which is that of this number, and what follows it.
-fn read_price_line<'a, const N: usize>(
+fn read_price_line<'a>(
     text: &'a [u8],
     word: &[u8],
+    number: usize,
     line: usize,
-) -> Result<([i16; N], &'a [u8]), CardFault>
-    requires some { 0 < N }
-    requires few { N ≤ 27 }
-    ensures { let says = SaysPriceLine (λ (_ : Unit {0}). word.now) (λ _. N) line text.now in
-        MatchResult result (λ found. says (Ok (tt, found.0, found.1.now))) (λ fault. says (Err fault)) }
+) -> Result<(ArrayVec<i16, 27>, &'a [u8]), CardFault>
+    requires some { 0 < number }
+    requires few { number ≤ 27 }
+    ensures { let says = SaysPriceLine (λ (_ : Unit {0}). word.now) (λ _. number) line text.now in
+        MatchResult result (λ found. says (Ok (tt, found.0.items, found.1.now)))
+        (λ fault. says (Err fault)) }
 {
     let (first, behind, rest) = split_first(text, line)?;
     if first != word {
         return Err(CardFault::PriceMissing);
     }
-    Ok((prices_behind(behind, line)?, rest))
+    Ok((prices_behind(behind, number, line)?, rest))
 }

@@ -1,8 +1,9 @@
 -- Things that stand or read alike have looks of one rank, and looks of one rank are of such things.
 use Rattle.std.specs.List.{IsDistinct}
-use Rattle.kd_prices.proofs.Prelude.{◌≡◌, ◌⊎◌, ℕ, zero, suc, ◌<◌, ◌≤◌, false, eqb, inl, inr, List, [], ◌∷◌, length, get_or, Contains, Option, Some, None, MatchOption, slice_get, refl, sym, ap, ◌∙◌, subst, arith, ℤ, All, AllByRecursion, eqb-false, get_or-map, length-map, All-get_or, All-weaker, All-contains_itself, recursion_from_All, slice_get-get_or, One, in_order, letters_plugged, NoLetterTwice, Parts, Rotor, Pin, cable_letters, IsMachine, Day, OfRotors, OfPins, IsLegalDay, SameLetters, columns_of, ThirteenColumns, ColumnsAreThePairs, Look, Cable, Pair, Bar, Row, look_name, look_rank, AreEnds, IsInForm, Group, PriceParts, ByNumber, version_of, row_kinds, column_kinds, row_prices, column_prices, how_many, price_at, ArePrices, AreWithinReach, group_of, price_count, row_name, column_name, row_looks, column_looks, pair_in_order, look_at, group_of_machine, Expanded, RanksTellLooks, StandAlike, ReadAlike, AreNumbered, CanBeByKind, AreByKind, AreAlikePriced, AreThings, AreOfGroup, ◌↔◌, map}
+use Rattle.kd_prices.proofs.Prelude.{◌≡◌, ◌⊎◌, ℕ, zero, suc, ◌<◌, ◌≤◌, false, eqb, inl, inr, List, [], ◌∷◌, length, get_or, Contains, Option, Some, None, MatchOption, slice_get, refl, sym, ap, ◌∙◌, subst, arith, ℤ, All, AllByRecursion, eqb-false, get_or-map, length-map, All-get_or, All-weaker, All-contains_itself, recursion_from_All, slice_get-get_or, One, in_order, letters_plugged, NoLetterTwice, Parts, Rotor, Pin, cable_letters, IsMachine, Day, OfRotors, OfPins, IsLegalDay, SameLetters, columns_of, ThirteenColumns, ColumnsAreThePairs, Look, Cable, Pair, Bar, Row, look_name, look_rank, AreEnds, IsInForm, Group, PriceParts, ByNumber, version_of, row_kinds, column_kinds, row_prices, column_prices, how_many, price_at, ArePrices, AreWithinReach, group_of, price_count, row_name, column_name, row_looks, column_looks, pair_in_order, look_at, group_of_machine, Expanded, RanksTellLooks, StandAlike, ReadAlike, AreOfOneModel, CanBeByKind, AreByKind, AreAlikePriced, AreThings, AreOfGroup, ◌↔◌, map}
 use Rattle.kd_prices.proofs.Grouping.{alike_priced}
-use Rattle.kd_prices.proofs.Things.{pair_look, rows_are_things, group_of_day, columns_are_things}
+use Rattle.kd_prices.proofs.Meaning.{kind_is}
+use Rattle.kd_prices.proofs.Things.{pair_look, rows_are_things, groups_meet, columns_are_things}
 use Rattle.kd_prices.proofs.AlikePrices.{same_at, nothing_at}
 
 -- ---- cables with the same letters
@@ -108,64 +109,40 @@ priced_alike looks Alike prices n told many = (
 
 -- ---- what is answered of a group
 
-size_of : (prices : PriceParts) → price_count (group_of prices) ≡ how_many prices
+pub size_of : (prices : PriceParts) → price_count (group_of prices) ≡ how_many prices
 size_of prices = grind arith
 
--- machine, day and prices by number are of one model and of this group, and these are their looks and prices
-pub record AreOfOneGroup (group : Group) (m : Parts) (s : Day) (prices : PriceParts) (rows columns : List Look) (row column : List ℤ) : Type 0 where
-  pub machine : IsMachine m
-  pub legal : IsLegalDay s
-  pub numbered : AreNumbered m s prices
-  pub are_prices : ArePrices prices
-  pub version : version_of prices ≡ ByNumber
-  pub of_machine : group_of_machine m ≡ group
-  pub of_day : group_of_day s ≡ group
-  pub of_prices : group_of prices ≡ group
-  pub are_rows : rows ≡ row_looks m
-  pub are_columns : columns ≡ column_looks s
-  pub are_row : row ≡ row_prices prices
-  pub are_column : column ≡ column_prices prices
+-- machine, day and prices by number are of one model
+module _ (told : RanksTold) (m : Parts) (s : Day) (prices : PriceParts) (machine : IsMachine m) (legal : IsLegalDay s) (are : ArePrices prices)
+    (one : AreOfOneModel m s prices) (by : version_of prices ≡ ByNumber) where
+  pub rows_of_group : AreThings (row_name (group_of prices)) (price_count (group_of prices)) (row_looks m)
+  rows_of_group = rw one.group (rows_are_things m machine)
 
-pub one_group : {group : Group} {m n : Parts} {s d : Day} {prices p : PriceParts} {rows columns : List Look} → m ≡ n → s ≡ d → prices ≡ p → IsMachine m → IsLegalDay s → ArePrices prices
-    → AreNumbered n d p → version_of p ≡ ByNumber → group_of_machine n ≡ group → group_of_day d ≡ group → group_of p ≡ group → rows ≡ row_looks n → columns ≡ column_looks d
-    → AreOfOneGroup group m s prices rows columns (row_prices p) (column_prices p)
-one_group em es ep machine legal are_prices numbered version of_machine of_day of_prices are_rows are_columns =
-    grind (arith, at)
+  pub columns_of_group : AreThings (column_name (group_of prices)) (price_count (group_of prices)) (column_looks s)
+  columns_of_group = rw (one.group, ← groups_meet m s machine legal one.model) (columns_are_things told.thirteen s legal)
 
-module _ (told : RanksTold) {group : Group} {m : Parts} {s : Day} {prices : PriceParts} {rows columns : List Look} {row column : List ℤ}
-    (one : AreOfOneGroup group m s prices rows columns row column) where
-  rows_of_group : AreThings (row_name group) (price_count group) rows
-  rows_of_group = rw (one.are_rows, ← one.of_machine) (rows_are_things m one.machine)
+  rows_iff : AreAlikePriced (row_looks m) (row_prices prices)
+      ↔ ((i k : ℕ) → i < how_many prices → k < how_many prices → StandAlike m i k → price_at (row_prices prices) i ≡ price_at (row_prices prices) k)
+  rows_iff = priced_alike (row_looks m) (StandAlike m) (row_prices prices) (how_many prices) (rows_told told.ranks m machine) (rows_of_group.count ∙ size_of prices)
 
-  columns_of_group : AreThings (column_name group) (price_count group) columns
-  columns_of_group = rw (one.are_columns, ← one.of_day) (columns_are_things told.thirteen s one.legal)
-
-  pub requires_met : AreThings (row_name group) (price_count group) rows × (AreThings (column_name group) (price_count group) columns × (AreWithinReach row × AreWithinReach column))
-  requires_met = (rows_of_group, (columns_of_group, (rw one.are_row one.are_prices.row_reach, rw one.are_column one.are_prices.column_reach)))
-
-  size : (looks : List Look) → length looks ≡ price_count group → length looks ≡ how_many prices
-  size looks e = e ∙ ap price_count (sym one.of_prices) ∙ size_of prices
-
-  rows_iff : AreAlikePriced rows row ↔ ((i k : ℕ) → i < how_many prices → k < how_many prices → StandAlike m i k → price_at (row_prices prices) i ≡ price_at (row_prices prices) k)
-  rows_iff = rw one.are_row (priced_alike rows (StandAlike m) (row_prices prices) (how_many prices) (rw one.are_rows (rows_told told.ranks m one.machine)) (size rows rows_of_group.count))
-
-  columns_iff : AreAlikePriced columns column
+  columns_iff : AreAlikePriced (column_looks s) (column_prices prices)
       ↔ ((i k : ℕ) → i < how_many prices → k < how_many prices → ReadAlike s i k → price_at (column_prices prices) i ≡ price_at (column_prices prices) k)
   columns_iff =
-      rw one.are_column (priced_alike columns (ReadAlike s) (column_prices prices) (how_many prices) (rw one.are_columns (columns_told told s one.legal)) (size columns columns_of_group.count))
+      priced_alike (column_looks s) (ReadAlike s) (column_prices prices) (how_many prices) (columns_told told s legal) (columns_of_group.count ∙ size_of prices)
 
-  pub by_kind_told : (r : Option PriceParts) → MatchOption r (¬ (AreAlikePriced rows row × AreAlikePriced columns column)) (AreOfGroup group rows columns row column)
+  pub by_kind_told : (r : Option PriceParts)
+      → MatchOption r (¬ (AreAlikePriced (row_looks m) (row_prices prices) × AreAlikePriced (column_looks s) (column_prices prices)))
+      (AreOfGroup (group_of prices) (row_looks m) (column_looks s) (row_prices prices) (column_prices prices))
       → MatchOption r (¬ (CanBeByKind m s prices)) (AreByKind m s prices)
   by_kind_told None h = λ can. h (rows_iff.1 can.equal.rows, columns_iff.1 can.equal.columns)
   by_kind_told (Some other) h = record {
     can = record {
-      numbered = one.numbered;
+      numbered = record { model = one.model; kind = kind_is m prices by one.group };
       equal = record {
-        rows = rows_iff.0 (alike_priced rows row (row_kinds other) h.row_kinds);
-        columns = columns_iff.0 (alike_priced columns column (column_kinds other) h.column_kinds);
+        rows = rows_iff.0 (alike_priced (row_looks m) (row_prices prices) (row_kinds other) h.row_kinds);
+        columns = columns_iff.0 (alike_priced (column_looks s) (column_prices prices) (column_kinds other) h.column_kinds);
       };
     };
     version = h.version;
-    expands = Expanded h.version one.version (h.of_group ∙ sym one.of_prices) h.are_prices one.are_prices
-        (rw (one.are_rows, one.are_row) at h.row_kinds.expanded) (rw (one.are_columns, one.are_column) at h.column_kinds.expanded);
+    expands = Expanded h.version by h.of_group h.are_prices are h.row_kinds.expanded h.column_kinds.expanded;
   }

@@ -1,10 +1,7 @@
 -- In a card that proves itself, what is alike has equal prices: it costs the same everywhere, and each price is tight
 -- somewhere.
-use Rattle.kd_prices.proofs.Prelude.{subst, Contains, ◌≡◌, ℕ, ◌<◌, ◌≤◌, List, get_or, length, None, unwrap_or, slice_get, sym, ap, ◌∙◌, arith, ints, get_or-map, unwrap_or-slice_get, slice_get_past, One, Rotor, Pin, cable_letters, Day, OfRotors, OfPins, TestsTellLetters, ThirteenColumns, ColumnsAreThePairs, cable_cost, bar_cost, columns_of, PriceParts, Cables, Bars, how_many, cost_at, Fits, AreTight, ProvingPricesAreTight, Parts, StandAlike, ReadAlike, AlikePricesAreEqual, AreEqualWhereAlike, map}
-use Rattle.kd_tables.specs.declared.model.Model.{Model}
-use Rattle.kd_tables.specs.declared.model.Model.TheVariants.{M209}
-use Rattle.kd_tables.specs.declared.reflector.Reflector.{Reflector}
-use Rattle.kd_tables.specs.Tables.{reflectors_of}
+use Rattle.kd_prices.proofs.Prelude.{◌≡◌, ℕ, ◌<◌, ◌≤◌, List, get_or, length, None, unwrap_or, slice_get, sym, ap, ◌∙◌, arith, ints, get_or-map, unwrap_or-slice_get, slice_get_past, One, Rotor, Pin, cable_letters, Day, OfRotors, OfPins, TestsTellLetters, ThirteenColumns, ColumnsAreThePairs, cable_cost, bar_cost, columns_of, PriceParts, Cables, Bars, how_many, cost_at, Fits, AreTight, ProvingPricesAreTight, Parts, StandAlike, ReadAlike, AlikePricesAreEqual, AreEqualWhereAlike, map}
+use Rattle.kd_prices.proofs.Things.{no_rotors}
 
 -- prices that fit a table of costs, each tight somewhere
 module _ {A B : Type 0} (cost : A → B → ℕ) (rows : List A) (columns : List B) (a : A) (b : B) (m : Parts) (s : Day) (prices : PriceParts)
@@ -41,9 +38,6 @@ pub record Told : Type 0 where
   pub letters : TestsTellLetters
   pub thirteen : ThirteenColumns
   pub columns : ColumnsAreThePairs
-
-no_rotors : (model : Model) (reflector : Reflector) → model ≡ M209 → Contains (reflectors_of model) reflector → ⊥
-no_rotors model reflector e h = let none = subst (λ model. Contains (reflectors_of model) reflector) e h in omega (arith, none.1)
 
 pub alike_prices_are_equal : Told → AlikePricesAreEqual
 alike_prices_are_equal told (Rotor m) (OfRotors s) settings (Cables row column) machine legal are_prices h =

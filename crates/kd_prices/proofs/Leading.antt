@@ -1,5 +1,5 @@
 -- Settings that lead from one machine to another, taken apart and put together.
-use Rattle.kd_prices.proofs.Prelude.{◌≡◌, Some, None, ℕ, ◌+◌, ◌<◌, List, [], ◌∷◌, ◌++◌, length, get_or, refl, sym, ap, ◌∙◌, subst, arith, drop_more, Parts, Setting, Why, why_refused, changed, Leads, Day, IsNeeded, AreNeeded, IsFirstNeedless, drop}
+use Rattle.kd_prices.proofs.Prelude.{◌≡◌, Some, None, ℕ, ◌+◌, ◌-◌, ◌<◌, ◌≤◌, List, [], ◌∷◌, ◌++◌, length, get_or, refl, sym, ap, ◌∙◌, subst, arith, drop_more, take, take_all, Parts, Setting, Why, why_refused, changed, Leads, Day, IsNeeded, AreNeeded, IsFirstNeedless, drop}
 
 pub leads_join : (m between n : Parts) (front rest : List Setting) → Leads m front between → Leads between rest n → Leads m (front ++ rest) n
 leads_join m between n [] rest first then_on = subst (λ machine. Leads machine rest n) first then_on
@@ -47,6 +47,10 @@ one_in_front m s x rest line allowed needed h =
 -- a list from one of its places on
 pub drop_at : {X : Type 0} (xs : List X) (i : ℕ) (x : X) → i < length xs → x ≡ get_or xs i x → drop i xs ≡ x ∷ drop (i + 1) xs
 drop_at xs i x inside is = drop_more xs i x inside ∙ ap (λ y. y ∷ drop (i + 1) xs) (sym is)
+
+pub first_and_rest : {X : Type 0} (xs : List X) (x : X) → 1 ≤ length xs → x ≡ get_or xs 0 x → xs ≡ x ∷ take (length xs - 1) (drop 1 xs)
+first_and_rest [] x some is = absurd (omega arith)
+first_and_rest (y ∷ xs) x some is = grind (arith, take_all)
 
 module _ (m now : Parts) (s : Day) (settings : List Setting) (place : ℕ) (x : Setting) (inside : place < length settings)
     (is : x ≡ get_or settings place x) (so_far : AreNeededTo m now s settings place (drop place settings)) where

@@ -1,5 +1,7 @@
 -- Prices mean one list of prices by number at most, and those are of the same model.
-use Rattle.kd_prices.proofs.Prelude.{below_more, ◌≡◌, ℕ, ◌+◌, ◌<◌, ◌≤◌, inl, inr, List, [], ◌∷◌, length, get_or, sym, ◌∙◌, subst, arith, ℤ, pos, unsigned_abs, Option, None, MatchOption, set, All-from_get_or, Pair, ext_get_or, get_or_default, get_or-set_same, get_or-set_other, Parts, Setting, Day, Look, PricedKind, PriceParts, ByNumber, ByKind, look_rank, AreKinds, version_of, row_kinds, column_kinds, ArePrices, row_prices, column_prices, price_at, AreWithinReach, how_many, group_of, AreOfKind, row_looks, column_looks, IsPriced, look_at, AreExpanded, Expands, Same, Expanded, group_of_machine, Proves, AreOfOneModel, AreNumbered}
+use Rattle.kd_prices.proofs.Prelude.{below_more, ◌≡◌, ◌≢◌, Some, ℕ, ◌+◌, ◌<◌, ◌≤◌, inl, inr, List, [], ◌∷◌, ◌++◌, length, get_or, sym, ◌∙◌, subst, arith, ℤ, pos, unsigned_abs, Option, None, MatchOption, set, All-from_get_or, Pair, ext_get_or, get_or_default, get_or-set_same, get_or-set_other, Parts, Setting, Day, Look, PricedKind, PriceParts, Group, ByNumber, ByKind, look_rank, AreKinds, version_of, row_kinds, column_kinds, ArePrices, row_prices, column_prices, price_at, AreWithinReach, how_many, group_of, AreOfKind, row_looks, column_looks, IsPriced, look_at, AreExpanded, Expands, Same, Expanded, group_of_machine, Proves, AreOfOneModel, AreNumbered, common_steps}
+use Rattle.std.proofs.lemmas.List.{get_or_append_left, get_or_at}
+use Rattle.kd_card.specs.CardFault.{numbered}
 
 above : (floor : ℕ) (kinds : List PricedKind) (look : Look) (price : ℤ) → AreKinds floor kinds → IsPriced look price kinds → floor ≤ look_rank look
 above floor [] look price are priced = absurd priced
@@ -52,17 +54,27 @@ are_numbered m s prices numbered model expands = grind (arith, same_group, kind_
 
 -- ---- prices found
 
+pub other_price : (look : Look) (kind : PricedKind) (rest : List PricedKind) {kinds : List PricedKind} → kinds ≡ kind ∷ rest
+    → (r : Option ℤ) → look_rank kind.look ≢ look_rank look
+    → MatchOption r ((price : ℤ) → ¬ (IsPriced look price rest)) (λ price. IsPriced look price rest)
+    → MatchOption r ((price : ℤ) → ¬ (IsPriced look price kinds)) (λ price. IsPriced look price kinds)
+other_price look kind rest e None differs none = rw e (λ price priced. elim priced [ inl has ↦ differs has.alike | inr later ↦ none price later ])
+other_price look kind rest e (Some price) differs is = rw e (inr is)
+
 pub no_expansion : (looks : List Look) (kinds : List PricedKind) (i : ℕ) (look : Look) → i < length looks → look ≡ get_or looks i look
     → ((price : ℤ) → ¬ (IsPriced look price kinds)) → (prices : List ℤ) → ¬ (AreExpanded looks kinds prices)
 no_expansion looks kinds i look inside is none prices e =
     none (price_at prices i)
     (subst (λ l. IsPriced l (price_at prices i) kinds) (get_or_default looks i (Pair None) look inside ∙ sym is) (e.each i inside))
 
-pub one_more_price : (looks : List Look) (kinds : List PricedKind) (prices : List ℤ) (i : ℕ) (look : Look) (price : ℤ) → i < length looks → i < length prices
-    → look ≡ get_or looks i look → IsPriced look price kinds → ((place : ℕ) → place < i → IsPriced (look_at looks place) (price_at prices place) kinds)
-    → (place : ℕ) → place < i + 1 → IsPriced (look_at looks place) (price_at (set prices i price) place) kinds
-one_more_price looks kinds prices i look price inside within is here before =
-    grind (arith, below_more, look_at, get_or-set_other, before, get_or-set_same, get_or_default, here)
+pub one_more_price : (looks : List Look) (kinds : List PricedKind) (prices : List ℤ) (i : ℕ) (look : Look) (price : ℤ) → length prices ≡ i
+    → i < length looks → look ≡ get_or looks i look → IsPriced look price kinds
+    → ((place : ℕ) → place < i → IsPriced (look_at looks place) (price_at prices place) kinds)
+    → (place : ℕ) → place < i + 1 → IsPriced (look_at looks place) (price_at (prices ++ price ∷ []) place) kinds
+one_more_price looks kinds prices i look price size inside is here before =
+    below_more _ i (λ place low. subst (λ p. IsPriced (look_at looks place) p kinds) (sym (get_or_append_left prices (price ∷ []) (pos 0) place (omega arith))) (before place low))
+    (subst (λ p. IsPriced (look_at looks i) p kinds) (sym (get_or_at prices price [] (pos 0) i size))
+    (subst (λ l. IsPriced l price kinds) (is ∙ get_or_default looks i look (Pair None) inside) here))
 
 priced_within : (floor : ℕ) (kinds : List PricedKind) (look : Look) (price : ℤ) → AreKinds floor kinds → IsPriced look price kinds → unsigned_abs price ≤ 9999
 priced_within floor [] look price are none = absurd none
@@ -75,13 +87,15 @@ expanded_within looks kinds prices are e =
     All-from_get_or (λ price. unsigned_abs price ≤ 9999) prices (pos 0)
     (λ i inside. priced_within 0 kinds (look_at looks i) (price_at prices i) are (e.each i (omega (arith, number, inside))))
 
--- what is answered of prices by kind, once the prices of their kinds are found
-pub expanded_told : (machine n : Parts) (s d : Day) (prices p numbered : PriceParts) (r : Option PriceParts) → machine ≡ n → s ≡ d → prices ≡ p → ArePrices prices
-    → version_of p ≡ ByKind → version_of numbered ≡ ByNumber → group_of p ≡ group_of numbered
-    → length (row_prices numbered) ≡ how_many numbered → length (column_prices numbered) ≡ how_many numbered
-    → AreKinds 0 (row_kinds numbered) → AreKinds 0 (column_kinds numbered)
-    → AreExpanded (row_looks n) (row_kinds prices) (row_prices numbered) → AreExpanded (column_looks d) (column_kinds prices) (column_prices numbered)
-    → MatchOption r (¬ (ArePrices numbered)) (λ p. p ≡ numbered)
-    → MatchOption r ((numbered : PriceParts) → ¬ (Expands machine s prices numbered)) (λ numbered. Expands machine s prices numbered)
-expanded_told machine n s d prices p numbered r em es ep are kind number group rows columns no_rows no_columns row column h =
-    grind (arith, expanded_within, Expanded)
+-- prices by number of a group
+pub numbered_is : (group : Group) (rows columns : List ℤ)
+    → (version_of (numbered group rows columns) ≡ ByNumber) × (group_of (numbered group rows columns) ≡ group)
+    × (row_prices (numbered group rows columns) ≡ rows) × (column_prices (numbered group rows columns) ≡ columns)
+numbered_is group rows columns = grind arith
+
+pub expands_kinds : (m : Parts) (s : Day) (prices : PriceParts) (rows columns : List ℤ) → version_of prices ≡ ByKind → ArePrices prices
+    → ArePrices (numbered (group_of prices) rows columns) → AreExpanded (row_looks m) (row_kinds prices) rows
+    → AreExpanded (column_looks s) (column_kinds prices) columns → Expands m s prices (numbered (group_of prices) rows columns)
+expands_kinds m s prices rows columns by are also row column =
+    let is = numbered_is (group_of prices) rows columns in
+    Expanded by is.0 (sym is.1) are also (rw is.2 row) (rw is.3 column)

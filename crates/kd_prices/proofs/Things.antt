@@ -1,6 +1,15 @@
 -- What a machine's cables or bars look like, and a day's pairs and nothings or rows: so many, called so, each in its form.
 use Rattle.std.specs.List.{IsDistinct}
-use Rattle.kd_prices.proofs.Prelude.{◌≡◌, ℕ, zero, suc, ◌-◌, ◌<◌, false, eqb, List, [], ◌∷◌, ◌++◌, length, get_or, replicate, Option, Some, None, refl, ap, ◌∙◌, arith, AllByRecursion, eqb-false, length-map, All-from_recursion, recursion_from_All, All-map, letters_plugged, NoLetterTwice, Parts, Rotor, Pin, plugged_letters, ordered, IsMachine, Day, OfRotors, OfPins, IsLegalDay, columns_of, ThirteenColumns, Look, Cable, Pair, Bar, Row, look_name, IsInForm, All, nat_tests, Group, OfCables, OfBars, row_name, column_name, price_count, row_looks, column_looks, pair_in_order, group_of_machine, AreThings, map}
+use Rattle.kd_state.specs.Machine.{model_of}
+use Rattle.kd_state.specs.SheetDay.{day_model}
+use Rattle.kd_tables.specs.declared.model.Model.{Model}
+use Rattle.kd_tables.specs.declared.model.Model.TheVariants.{M209}
+use Rattle.kd_tables.specs.declared.reflector.Reflector.{Reflector}
+use Rattle.kd_tables.specs.Tables.{reflectors_of}
+use Rattle.kd_prices.proofs.Prelude.{◌≡◌, ℕ, zero, suc, ◌-◌, ◌<◌, false, eqb, List, [], ◌∷◌, ◌++◌, length, get_or, replicate, Option, Some, None, refl, sym, subst, Contains, ap, ◌∙◌, arith, AllByRecursion, eqb-false, length-map, All-from_recursion, recursion_from_All, All-map, letters_plugged, NoLetterTwice, Parts, Rotor, Pin, plugged_letters, ordered, IsMachine, Day, OfRotors, OfPins, IsLegalDay, columns_of, ThirteenColumns, Look, Cable, Pair, Bar, Row, look_name, IsInForm, All, nat_tests, Group, OfCables, OfBars, row_name, column_name, price_count, row_looks, column_looks, pair_in_order, group_of_machine, AreThings, map}
+
+pub no_rotors : (model : Model) (reflector : Reflector) → model ≡ M209 → Contains (reflectors_of model) reflector → ⊥
+no_rotors model reflector e h = let none = subst (λ model. Contains (reflectors_of model) reflector) e h in omega (arith, none.1)
 
 abbrev in_each_order : List (Option ℕ × Option ℕ) → List (Option ℕ × Option ℕ)
 in_each_order cables = map (λ cable. ordered cable.0 cable.1) cables
@@ -57,6 +66,13 @@ rows_are_things (Pin m) machine =
 abbrev pub group_of_day : Day → Group
 group_of_day (OfRotors s) = OfCables
 group_of_day (OfPins s) = OfBars
+
+-- a machine and a day of one model are of one group
+pub groups_meet : (m : Parts) (s : Day) → IsMachine m → IsLegalDay s → model_of m ≡ day_model s → group_of_day s ≡ group_of_machine m
+groups_meet (Rotor m) (OfRotors s) machine legal same = refl
+groups_meet (Pin m) (OfPins s) machine legal same = refl
+groups_meet (Rotor m) (OfPins s) machine legal same = absurd (no_rotors m.model m.reflector same machine.legal.reflector)
+groups_meet (Pin m) (OfRotors s) machine legal same = absurd (no_rotors s.model s.reflector (sym same) legal.reflector)
 
 pub columns_are_things : ThirteenColumns → (s : Day) → IsLegalDay s → AreThings (column_name (group_of_day s)) (price_count (group_of_day s)) (column_looks s)
 columns_are_things thirteen (OfRotors s) legal =

@@ -10,7 +10,7 @@ use super::doubt::Doubt;
 use super::expanding::expanded;
 use super::fitting::{Cell, first_too_high};
 use super::needless::{first_needless, is_priced};
-use kd_card::{Card, PriceParts, Prices, carry_all};
+use kd_card::{Card, Group, PriceParts, Prices, carry_all};
 use kd_state::laws::a_setting_is_refused_or_carried;
 use kd_state::{Machine, OneModel, Parts, Setting, SheetDay, bar_costs, cable_costs};
 
@@ -87,14 +87,8 @@ fn are_of_kind(machine: &Machine, prices: &Prices) -> bool
     ensures { IsTrue result ↔ (group_of prices.now ≡ group_of_machine machine.now) }
 {
     matches!(
-        (machine.parts(), prices.parts()),
-        (
-            Parts::Rotor(_),
-            PriceParts::Cables(..) | PriceParts::CableKinds(..)
-        ) | (
-            Parts::Pin(_),
-            PriceParts::Bars(..) | PriceParts::BarKinds(..)
-        )
+        (machine.parts(), prices.group()),
+        (Parts::Rotor(_), Group::OfCables) | (Parts::Pin(_), Group::OfBars)
     )
 }
 

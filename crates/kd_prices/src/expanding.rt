@@ -1,12 +1,17 @@
 //! Prices by kind, written out as prices by number for a machine and a day.
 ghost use Rattle.std.specs.Prelude.{◌≡◌, ◌↔◌, ◌≤◌, length, map, All, ℤ, List, IsTrue, MatchOption};
+ghost use Rattle.kd_card.specs.declared.prices.Version.{Version};
+ghost use Rattle.kd_card.specs.Kinds.{AreKinds};
+ghost use Rattle.kd_card.specs.Prices.{version_of, ArePrices, AreWithinReach};
 ghost use Rattle.kd_card.specs.Proving as proving;
 ghost use Rattle.kd_card.specs.Proving.{IsPriced, HasCount, AreExpanded, Expands};
 ghost use Rattle.kd_prices.specs.Doubt.{AreOfOneModel};
 
-use super::looks::{bar_looks, cable_looks, pair_looks, row_looks};
+use super::looks::{column_looks, row_looks};
+use arrayvec::ArrayVec;
 use kd_card::{Look, PriceParts, PricedKind, Prices};
-use kd_state::{Machine, OneModel, SheetDay};
+use kd_state::laws::columns_are_the_pairs;
+use kd_state::{Machine, SheetDay};
 
 /// The prices by number that prices mean for the machine and the day: those of the machine's cables or bars, each that of its
 /// kind, and those of the day's pairs and nothings, or rows. None where the kinds, or how many there are of each, aren't those
@@ -17,38 +22,49 @@ pub(crate) fn expanded(machine: &Machine, day: &SheetDay, prices: &Prices) -> Op
         ((numbered : _) → ¬ (Expands machine.now day.now prices.now numbered))
         (λ numbered. Expands machine.now day.now prices.now numbered) }
 {
-    let rows = prices.row_kinds();
-    let columns = prices.column_kinds();
-    match (machine.of_one_model(day)?, prices.parts()) {
-        (_, PriceParts::Cables(cables, pairs)) => Prices::cables(cables, pairs),
-        (_, PriceParts::Bars(bars, sheet)) => Prices::bars(bars, sheet),
-        (OneModel::Rotor(parts, entry), PriceParts::CableKinds(..)) => {
-            let cables = priced(&cable_looks(&parts.cables), rows.as_slice())?;
-            let pairs = priced(&pair_looks(entry.pairs.as_slice()), columns.as_slice())?;
-            Prices::cables(cables, pairs)
+    match prices.parts() {
+        PriceParts::Cables(cables, pairs) => Prices::cables(cables, pairs),
+        PriceParts::Bars(bars, rows) => Prices::bars(bars, rows),
+        PriceParts::CableKinds(..) | PriceParts::BarKinds(..) => {
+            expanded_kinds(machine, day, prices)
         }
-        (OneModel::Pin(parts, entry), PriceParts::BarKinds(..)) => {
-            let bars = priced(&bar_looks(&parts.bars), rows.as_slice())?;
-            let sheet = priced(&row_looks(&entry.rows), columns.as_slice())?;
-            Prices::bars(bars, sheet)
-        }
-        _ => unreachable!(),
     }
+}
+
+/// The same of prices by kind.
+fn expanded_kinds(machine: &Machine, day: &SheetDay, prices: &Prices) -> Option<Prices>
+    requires model { AreOfOneModel machine.now day.now prices.now }
+    requires kinds { version_of prices.now ≡ Version.ByKind }
+    requires are_prices { ArePrices prices.now }
+    ensures { MatchOption result
+        ((numbered : _) → ¬ (Expands machine.now day.now prices.now numbered))
+        (λ numbered. Expands machine.now day.now prices.now numbered) }
+{
+    columns_are_the_pairs();
+    let group = prices.group();
+    let rows = priced(row_looks(machine).as_slice(), prices.row_kinds().as_slice())?;
+    let columns = priced(
+        column_looks(day).as_slice(),
+        prices.column_kinds().as_slice(),
+    )?;
+    Some(Prices::numbered(group, rows.as_slice(), columns.as_slice()))
 }
 
 /// A price for each of the things that look so, that of its kind; none where the kinds aren't theirs, or there are other
 /// numbers of them.
-pub(crate) fn priced<const N: usize>(looks: &[Look; N], kinds: &[PricedKind]) -> Option<[i16; N]>
+pub(crate) fn priced(looks: &[Look], kinds: &[PricedKind]) -> Option<ArrayVec<i16, 27>>
+    requires few { length looks.now ≤ 27 }
+    requires kinds { AreKinds 0 kinds.now }
     ensures { MatchOption result
         ((prices : List ℤ) → ¬ (AreExpanded looks.now kinds.now prices))
-        (λ prices. AreExpanded looks.now kinds.now prices) }
+        (λ prices. AreExpanded looks.now kinds.now prices.items × AreWithinReach prices.items) }
 {
     if !are_counted(looks, kinds) {
         return None;
     }
-    let mut prices = [0; N];
-    for place in 0..N {
-        prices[place] = price_of(looks[place], kinds)?;
+    let mut prices = ArrayVec::new();
+    for look in looks {
+        prices.push(price_of(look, kinds)?);
     }
     Some(prices)
 }
@@ -82,16 +98,14 @@ pub(crate) fn alike_count(look: Look, looks: &[Look]) -> usize
 }
 
 /// The price of the kind that looks so.
-fn price_of(look: Look, kinds: &[PricedKind]) -> Option<i16>
+fn price_of(look: &Look, kinds: &[PricedKind]) -> Option<i16>
     ensures { MatchOption result
-        ((price : ℤ) → ¬ (IsPriced look price kinds.now))
-        (λ price. IsPriced look price kinds.now) }
+        ((price : ℤ) → ¬ (IsPriced look.now price kinds.now))
+        (λ price. IsPriced look.now price kinds.now) }
 {
-    let rank = look.rank();
-    for kind in kinds {
-        if kind.look.rank() == rank {
-            return Some(kind.price);
-        }
+    match kinds {
+        [] => None,
+        [kind, ..] if kind.look.rank() == look.rank() => Some(kind.price),
+        [_, rest @ ..] => price_of(look, rest),
     }
-    None
 }

@@ -8,13 +8,14 @@ ghost use Rattle.kd_card.specs.Proving.{look_at, AreExpanded};
 ghost use Rattle.kd_prices.specs.KindCards.{CanBeByKind, IsByKind, AreByKind, AreAlikePriced};
 ghost use Rattle.kd_prices.specs.KindCards.{IsKindAt, AreKindsOf, AreWithPrices, AreThings, AreOfGroup};
 
+use super::checking::are_of_one_model;
 use super::expanding::{alike_count, priced};
-use super::looks::{bar_looks, cable_looks, pair_looks, row_looks};
+use super::looks::{column_looks, row_looks};
 use arrayvec::ArrayVec;
 use kd_card::laws::ranks_tell_looks;
-use kd_card::{Card, Group, Look, PriceParts, PricedKind, Prices};
+use kd_card::{Card, Group, Look, PricedKind, Prices, Version};
 use kd_state::laws::columns_are_the_pairs;
-use kd_state::{Machine, OneModel, Settings, SheetDay};
+use kd_state::{Machine, Settings, SheetDay};
 
 /// The ranks of all looks in their one form are below this.
 const RANKS: usize = 703;
@@ -47,32 +48,34 @@ fn prices_by_kind(machine: &Machine, day: &SheetDay, prices: &Prices) -> Option<
 {
     ranks_tell_looks();
     columns_are_the_pairs();
-    match (machine.of_one_model(day)?, prices.parts()) {
-        (OneModel::Rotor(parts, entry), PriceParts::Cables(cables, pairs)) => {
-            let rows = cable_looks(&parts.cables);
-            let columns = pair_looks(entry.pairs.as_slice());
-            of_group(Group::OfCables, &rows, &cables, &columns, &pairs)
-        }
-        (OneModel::Pin(parts, entry), PriceParts::Bars(bars, sheet)) => {
-            let rows = bar_looks(&parts.bars);
-            let columns = row_looks(&entry.rows);
-            of_group(Group::OfBars, &rows, &bars, &columns, &sheet)
-        }
-        _ => None,
+    if !are_of_one_model(machine, day, prices) {
+        return None;
+    }
+    match prices.version() {
+        Version::ByNumber => of_group(
+            prices.group(),
+            row_looks(machine).as_slice(),
+            prices.row_prices().as_slice(),
+            column_looks(day).as_slice(),
+            prices.column_prices().as_slice(),
+        ),
+        Version::ByKind => None,
     }
 }
 
 /// The prices by kind of a group whose rows and columns look so and have these prices; none where two that are alike
 /// have different prices.
-fn of_group<const N: usize>(
+fn of_group(
     group: Group,
-    rows: &[Look; N],
-    row_prices: &[i16; N],
-    columns: &[Look; N],
-    column_prices: &[i16; N],
+    rows: &[Look],
+    row_prices: &[i16],
+    columns: &[Look],
+    column_prices: &[i16],
 ) -> Option<Prices>
     requires rows { AreThings (row_name group) (price_count group) rows.now }
     requires columns { AreThings (column_name group) (price_count group) columns.now }
+    requires row_prices { length row_prices.now ≡ length rows.now }
+    requires column_prices { length column_prices.now ≡ length columns.now }
     requires row_reach { AreWithinReach row_prices.now }
     requires column_reach { AreWithinReach column_prices.now }
     ensures { MatchOption result
@@ -86,11 +89,9 @@ fn of_group<const N: usize>(
 
 /// The kinds of the things that look so and have these prices, in order; none where two that are alike have different
 /// prices.
-fn kinds_of<const N: usize>(
-    looks: &[Look; N],
-    prices: &[i16; N],
-) -> Option<ArrayVec<PricedKind, 27>>
-    requires few { N ≤ 27 }
+fn kinds_of(looks: &[Look], prices: &[i16]) -> Option<ArrayVec<PricedKind, 27>>
+    requires few { length looks.now ≤ 27 }
+    requires each { length prices.now ≡ length looks.now }
     requires form { All IsInForm looks.now }
     requires reach { AreWithinReach prices.now }
     ensures { MatchOption result
@@ -98,7 +99,7 @@ fn kinds_of<const N: usize>(
         (λ kinds. AreWithPrices looks.now prices.now kinds.items) }
 {
     let kinds = first_kinds(looks, prices);
-    if priced(looks, kinds.as_slice())? == *prices {
+    if priced(looks, kinds.as_slice())?.as_slice() == prices {
         Some(kinds)
     } else {
         None
@@ -116,9 +117,9 @@ fn first_kinds(looks: &[Look], prices: &[i16]) -> ArrayVec<PricedKind, 27>
         → AreExpanded looks.now result.items prices.now }
 {
     let mut kinds = ArrayVec::new();
-    for rank in 0..RANKS {
+    for rank in (0..RANKS).rev() {
         if let Some(place) = place_of(rank, looks) {
-            kinds.push(kind_at(place, looks, prices));
+            kinds.insert(0, kind_at(place, looks, prices));
         }
     }
     kinds

@@ -1,33 +1,55 @@
 //! What the cables or bars of a machine look like, and the pairs and nothings or the rows of a day.
 ghost use Rattle.std.specs.Prelude.{◌≡◌, ◌≤◌, length, map, None};
 ghost use Rattle.kd_card.specs.declared.look.Look.TheVariants as look;
-ghost use Rattle.kd_card.specs.Proving.{pair_in_order};
+ghost use Rattle.kd_card.specs.Proving.{row_looks, column_looks, pair_in_order};
 ghost use Rattle.kd_tables.specs.Places.{in_order};
 ghost use Rattle.kd_state.specs.Costs.{columns_of};
+ghost use Rattle.kd_state.specs.Machine.{IsMachine};
+ghost use Rattle.kd_state.specs.SheetDay.{IsLegalDay};
 
+use arrayvec::ArrayVec;
 use kd_card::Look;
-use kd_state::column_at;
+use kd_state::{Entry, Machine, Parts, SheetDay, column_at};
 use kd_tables::{Letter, Reading, Standing};
 
-/// The looks of the cables.
-pub(crate) fn cable_looks(cables: &[(Option<Letter>, Option<Letter>); 13]) -> [Look; 13]
-    ensures { result ≡ map (λ ends. look.Cable ends) cables.now }
+/// The looks of the machine's cables, or of its bars.
+pub(crate) fn row_looks(machine: &Machine) -> ArrayVec<Look, 27>
+    ensures looks { result.items ≡ row_looks machine.now }
+    ensures machine { IsMachine machine.now }
 {
-    let mut looks = [Look::Pair(None); 13];
-    for place in 0..13 {
-        looks[place] = Look::Cable(cables[place]);
+    let mut looks = ArrayVec::new();
+    match machine.parts() {
+        Parts::Rotor(parts) => {
+            for ends in &parts.cables {
+                looks.push(Look::Cable(*ends));
+            }
+        }
+        Parts::Pin(parts) => {
+            for standing in &parts.bars {
+                looks.push(Look::Bar(*standing));
+            }
+        }
     }
     looks
 }
 
-/// The looks of the pairs, and then of nothings up to 13.
-pub(crate) fn pair_looks(pairs: &[(Letter, Letter)]) -> [Look; 13]
-    requires { length pairs.now ≤ 13 }
-    ensures { result ≡ map (λ column. look.Pair (pair_in_order column)) (columns_of pairs.now) }
+/// The looks of the day's pairs and nothings, or of its rows.
+pub(crate) fn column_looks(day: &SheetDay) -> ArrayVec<Look, 27>
+    ensures looks { result.items ≡ column_looks day.now }
+    ensures day { IsLegalDay day.now }
 {
-    let mut looks = [Look::Pair(None); 13];
-    for place in 0..13 {
-        looks[place] = Look::Pair(in_order(column_at(pairs, place)));
+    let mut looks = ArrayVec::new();
+    match day.entry() {
+        Entry::Rotor(entry) => {
+            for place in 0..13 {
+                looks.push(Look::Pair(in_order(column_at(entry.pairs.as_slice(), place))));
+            }
+        }
+        Entry::Pin(entry) => {
+            for reading in &entry.rows {
+                looks.push(Look::Row(*reading));
+            }
+        }
     }
     looks
 }
@@ -51,26 +73,4 @@ fn letters_in_order(one: Letter, other: Letter) -> (Letter, Letter)
     } else {
         (other, one)
     }
-}
-
-/// The looks of the bars.
-pub(crate) fn bar_looks(bars: &[Standing; 27]) -> [Look; 27]
-    ensures { result ≡ map (λ standing. look.Bar standing) bars.now }
-{
-    let mut looks = [Look::Pair(None); 27];
-    for place in 0..27 {
-        looks[place] = Look::Bar(bars[place]);
-    }
-    looks
-}
-
-/// The looks of the sheet's rows.
-pub(crate) fn row_looks(rows: &[Reading; 27]) -> [Look; 27]
-    ensures { result ≡ map (λ numbers. look.Row numbers) rows.now }
-{
-    let mut looks = [Look::Pair(None); 27];
-    for place in 0..27 {
-        looks[place] = Look::Row(rows[place]);
-    }
-    looks
 }

@@ -1,11 +1,10 @@
-use Rattle.kd_card.proofs.Prelude.{◌∙◌, ◌≢◌, ℕ, List, sym, refl, false≢true, Decides-eqb, err_from_is_err_and, slice_eq-Decides, Version, Group, OfCables, OfBars, Refused, first_text, arith}
-use Rattle.kd_card.proofs.CardWords.{first_found, other_first}
+use Rattle.kd_card.proofs.Prelude.{◌∙◌, ◌≢◌, ℕ, List, sym, refl, false≢true, Decides-eqb, slice_eq-Decides, Version, Group, OfCables, OfBars, Refused, first_text, arith}
+use Rattle.kd_card.proofs.CardWords.{stops, first_found, other_first}
 use Rattle.kd_card.proofs.price_text.first_group.Goals as goal
 
 pub returns-in_err-first : goal.returns-in_err-first
 returns-in_err-first c =
-    let p = err_from_is_err_and c.from_residual.result c.from_residual.ensures.1 in
-    rw (p.1, p.2) (Refused c.in_err-first.field-0.0 c.in_err-first.ensures refl)
+    stops _ _ _ _ c.from_residual.ensures.1 (Refused _ c.in_err-first.ensures refl)
 
 pub returns-then-eq : goal.returns-then-eq
 returns-then-eq c =

@@ -1,4 +1,5 @@
-use Rattle.kd_card.proofs.Prelude.{◌∙◌, eqb, length, sym, ap, refl, false≢true, eqb-true, nil_from_length, PriceMissing, Refused, Found}
+use Rattle.kd_card.proofs.Prelude.{◌∙◌, sym, refl, eqb-true, nil_from_length, PriceMissing, Refused, Found}
+use Rattle.kd_card.proofs.CardWords.{filled}
 use Rattle.kd_card.proofs.Lines.{no_first_part, words_of_first, words_of_last}
 use Rattle.kd_card.proofs.price_text.split_first.Goals as goal
 
@@ -9,15 +10,15 @@ returns-then-is_empty c =
 
 pub returns-in_default : goal.returns-in_default
 returns-in_default c =
-    Found tt (λ none. false≢true (sym c.if-is_empty.false ∙ c.is_empty.ensures ∙ ap (λ t. eqb (length t) 0) none))
+    Found tt (filled c.is_empty.ensures c.if-is_empty.false)
     ((λ found has. no_first_part has.first c.in_default.ensures), refl)
 
 pub returns-in-Some-split_once : goal.returns-in-Some-split_once
 returns-in-Some-split_once c =
-    Found tt (λ none. false≢true (sym c.if-is_empty.false ∙ c.is_empty.ensures ∙ ap (λ t. eqb (length t) 0) none))
+    Found tt (filled c.is_empty.ensures c.if-is_empty.false)
     (record { line = c.in-Some.words.now; first = c.in-Some.ensures; parts = words_of_first c.in-Some-split_once.ensures })
 
 pub returns-in-None : goal.returns-in-None
 returns-in-None c =
-    Found tt (λ none. false≢true (sym c.if-is_empty.false ∙ c.is_empty.ensures ∙ ap (λ t. eqb (length t) 0) none))
+    Found tt (filled c.is_empty.ensures c.if-is_empty.false)
     (record { line = c.in-Some.words.now; first = c.in-Some.ensures; parts = words_of_last c.in-Some.words.now c.in-None.ensures })

@@ -1,4 +1,5 @@
-use Rattle.kd_card.proofs.Prelude.{rules, ◌∙◌, sym, ap, refl, eqb, length, w32, false≢true, eqb-true, to_z-of_z, nil_from_length, err_from_is_err_and, BadHead, TooMany, Trailing, Refused, Found}
+use Rattle.kd_card.proofs.Prelude.{rules, ◌∙◌, sym, ap, refl, eqb, length, w32, false≢true, eqb-true, to_z-of_z, nil_from_length, BadHead, TooMany, Trailing, Refused, Found}
+use Rattle.kd_card.proofs.CardWords.{stops}
 use Rattle.kd_card.proofs.OneCard.{up_to_settings, card_said}
 use Rattle.kd_card.proofs.read.read_card.Goals as goal
 
@@ -10,10 +11,8 @@ returns-in_default-read_settings c = Found _ c.in-Some.ensures (Refused TooMany 
 
 pub returns-in_err-rest : goal.returns-in_err-rest
 returns-in_err-rest c =
-    let p = err_from_is_err_and c.from_residual.result c.from_residual.ensures.1 in
-    rw (p.1, p.2)
-    (up_to_settings c.in-Some.ensures c.in-Some-read_settings.ensures c.len-count.ensures.value
-    (Refused _ c.in_err-rest.ensures refl))
+    stops _ _ _ _ c.from_residual.ensures.1
+    (up_to_settings c.in-Some.ensures c.in-Some-read_settings.ensures c.len-count.ensures.value (Refused _ c.in_err-rest.ensures refl))
 
 pub returns-in-Err : goal.returns-in-Err
 returns-in-Err c =
@@ -22,9 +21,8 @@ returns-in-Err c =
 
 pub returns-in_err-rest-2 : goal.returns-in_err-rest-2
 returns-in_err-rest-2 c =
-    let p = err_from_is_err_and c.from_residual-in_err-rest-2.result c.from_residual-in_err-rest-2.ensures.1 in
     let sum = to_z-of_z w32 c.sum.result (search rules) ∙ c.sum.ensures in
-    rw (p.1, p.2)
+    stops _ _ _ _ c.from_residual-in_err-rest-2.ensures.1
     (up_to_settings c.in-Some.ensures c.in-Some-read_settings.ensures c.len-count.ensures.value
     (Found _ c.in_ok-rest.ensures
     (Found _ c.in-Ok.ensures (Refused _ (rw (sum, c.line_count.ensures.value) at c.in_err-rest-2.ensures) refl))))

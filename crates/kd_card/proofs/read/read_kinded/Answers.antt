@@ -1,23 +1,19 @@
-use Rattle.kd_card.proofs.Prelude.{refl, arith, err_from_is_err_and, Refused, Found}
-use Rattle.kd_card.proofs.CardWords.{group_said}
+use Rattle.kd_card.proofs.Prelude.{refl, arith, Refused, Found}
+use Rattle.kd_card.proofs.CardWords.{group_said, stops}
 use Rattle.kd_card.proofs.KindPrices.{few_kinds, few_prices_of}
 use Rattle.kd_card.proofs.read.read_kinded.Goals as goal
 
 pub returns-in_err-group : goal.returns-in_err-group
-returns-in_err-group c =
-    let p = err_from_is_err_and c.from_residual.result c.from_residual.ensures.1 in
-    rw (p.1, p.2) (Refused _ c.in_err-group.ensures refl)
+returns-in_err-group c = stops _ _ _ _ c.from_residual.ensures.1 (Refused _ c.in_err-group.ensures refl)
 
 pub returns-in_err-rows : goal.returns-in_err-rows
 returns-in_err-rows c =
-    let p = err_from_is_err_and c.from_residual-in_err-rows.result c.from_residual-in_err-rows.ensures.1 in
-    rw (p.1, p.2)
+    stops _ _ _ _ c.from_residual-in_err-rows.ensures.1
     (Found _ c.in_ok-group.ensures (Refused _ (rw (c.row_name.ensures, c.number-number.ensures) at c.in_err-rows.ensures) refl))
 
 pub returns-in_err-columns : goal.returns-in_err-columns
 returns-in_err-columns c =
-    let p = err_from_is_err_and c.from_residual-in_err-columns.result c.from_residual-in_err-columns.ensures.1 in
-    rw (p.1, p.2)
+    stops _ _ _ _ c.from_residual-in_err-columns.ensures.1
     (Found _ c.in_ok-group.ensures
     (Found _ (rw (c.row_name.ensures, c.number-number.ensures) at c.in_ok-rows.ensures)
     (Refused _ (rw (c.column_name.ensures, c.number-number.ensures, c.len.ensures.value) at c.in_err-columns.ensures) refl)))

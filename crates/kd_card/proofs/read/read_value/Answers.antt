@@ -1,6 +1,6 @@
-use Rattle.kd_card.proofs.Prelude.{◌∙◌, [], ◌∷◌, not, sym, ap, subst, refl, append_assoc, false≢true, not-false, Decides-eqb, slice_eq-Decides, IsNumeral, with_line}
+use Rattle.kd_card.proofs.Prelude.{◌∙◌, [], ◌∷◌, sym, ap, subst, append_assoc, false≢true, IsNumeral, with_line}
 use Rattle.kd_card.proofs.Lines.{same_behind, not_behind, name_and_value}
-use Rattle.kd_card.proofs.CardWords.{numeral_word, value_says, other_value, no_value}
+use Rattle.kd_card.proofs.CardWords.{same_text, other_text, numeral_word, value_says, other_value, no_value}
 use Rattle.kd_card.proofs.read.read_value.Goals as goal
 
 pub returns-in_default : goal.returns-in_default
@@ -20,17 +20,15 @@ returns-then-not-is_numeral c = λ word is plain.
 pub returns-then-ne : goal.returns-then-ne
 returns-then-ne c = λ word is plain.
     let number = c.in-Some.number.now in
-    let compared = slice_eq-Decides Decides-eqb number c.args.due.now _ refl in
     other_value c.args.signed word c.args.due.now c.args.line number c.in-Some.rest.now
     (c.is_numeral.ensures.0 c.if-not-is_numeral.false)
     (c.in-Some.ensures.joined ∙ append_assoc c.args.name.now number _ ∙ sym (name_and_value word number c.in-Some.rest.now is))
-    (λ same. false≢true (sym (c.ne.ensures ∙ ap not (compared.1 same)) ∙ c.if-ne.true))
+    (other_text c.ne.ensures c.if-ne.true)
 
 pub returns : goal.returns
 returns c = λ word is plain.
     let number = c.in-Some.number.now in
-    let compared = slice_eq-Decides Decides-eqb number c.args.due.now _ refl in
-    let due = compared.0 (not-false _ (sym c.ne.ensures ∙ c.if-ne.false)) in
+    let due = same_text c.ne.ensures c.if-ne.false in
     value_says c.args.signed word c.args.due.now c.args.line
     (subst (IsNumeral c.args.signed) due (c.is_numeral.ensures.0 c.if-not-is_numeral.false))
     (c.in-Some.ensures.joined ∙ append_assoc c.args.name.now number _ ∙ sym (name_and_value word number c.in-Some.rest.now is)

@@ -1,8 +1,8 @@
 use Rattle.kd_prices.proofs.Prelude.{price_at, IsPriced, look_at, ◌≡◌, ℕ, ◌<◌, length}
 use Rattle.kd_prices.proofs.expanding.priced.Given as goal
 
-abbrev pub invariant-loop-place : goal.invariant-loop-place
-invariant-loop-place g l = record {
-  size : length l.prices ≡ g.row.N;
-  done : (place : ℕ) → place < l.place → IsPriced (look_at l.looks place) (price_at l.prices place) l.kinds;
+abbrev pub invariant-loop-look : goal.invariant-loop-look
+invariant-loop-look l = record {
+  size : length l.prices.items ≡ l.look-index;
+  done : (place : ℕ) → place < l.look-index → IsPriced (look_at l.looks place) (price_at l.prices.items place) l.kinds;
 }

@@ -1,34 +1,44 @@
-use Rattle.kd_prices.proofs.Prelude.{sym, refl, ◌∙◌, subst, rules, arith, AreParted, OfCables, OfBars}
-use Rattle.kd_prices.proofs.AlikeLooks.{RanksTold, AreOfOneGroup, one_group, requires_met, by_kind_told}
+use Rattle.kd_prices.proofs.Prelude.{sym, ◌∙◌, ap, length, price_count}
+use Rattle.kd_prices.proofs.AlikeLooks.{by_kind_told, size_of}
+use Rattle.kd_prices.proofs.Things.{rows_are_things, columns_are_things, groups_meet}
 use Rattle.kd_prices.proofs.kind_cards.prices_by_kind.Goals as goal
-use Rattle.kd_prices.proofs.kind_cards.prices_by_kind.Goals.{After-pair_looks-columns, After-row_looks-columns, After-columns_are_the_pairs}
 
-told : After-columns_are_the_pairs → RanksTold
-told c = record { ranks = c.ranks_tell_looks.ensures; thirteen = c.columns_are_the_pairs.ensures.count; columns = c.columns_are_the_pairs.ensures.pairs }
+pub of_group-requires-clause-rows : goal.of_group-requires-clause-rows
+of_group-requires-clause-rows c =
+    let one = c.are_of_one_model.ensures.0 c.if-not-are_of_one_model.false in
+    rw (c.group.ensures, one.group, c.as_slice.ensures.value, c.row_looks.ensures.looks) (rows_are_things _ c.row_looks.ensures.machine)
 
-cables : (c : After-pair_looks-columns) → AreOfOneGroup OfCables c.args.machine.now c.args.day.now c.args.prices.now c.cable_looks-rows.result c.pair_looks-columns.result
-    c.in-Rotor-Cables.cables c.in-Rotor-Cables.pairs
-cables c =
-    let apart = subst (AreParted c.args.machine.now c.args.day.now) c.in-Rotor-Cables.is-0 c.in_ok-parts.ensures.parted in
-    one_group apart.0 apart.1 (sym c.parts.ensures.value ∙ c.in-Rotor-Cables.is-1) c.of_one_model.ensures.machine c.of_one_model.ensures.day (search rules)
-    (record { model = apart.2; kind = tt }) refl refl refl refl c.cable_looks-rows.ensures (rw c.as_slice.ensures.value at c.pair_looks-columns.ensures)
+pub of_group-requires-clause-columns : goal.of_group-requires-clause-columns
+of_group-requires-clause-columns c =
+    let one = c.are_of_one_model.ensures.0 c.if-not-are_of_one_model.false in
+    let meet = groups_meet _ _ c.row_looks.ensures.machine c.column_looks.ensures.day one.model in
+    rw (c.group.ensures, one.group, ← meet, c.as_slice-in-ByNumber-2.ensures.value, c.column_looks.ensures.looks)
+    (columns_are_things c.columns_are_the_pairs.ensures.count _ c.column_looks.ensures.day)
 
-bars : (c : After-row_looks-columns) → AreOfOneGroup OfBars c.args.machine.now c.args.day.now c.args.prices.now c.bar_looks-rows.result c.row_looks-columns.result
-    c.in-Pin-Bars.bars c.in-Pin-Bars.sheet
-bars c = grind (arith, one_group)
+pub of_group-requires-clause-column_prices : goal.of_group-requires-clause-column_prices
+of_group-requires-clause-column_prices c =
+    let one = c.are_of_one_model.ensures.0 c.if-not-are_of_one_model.false in
+    let meet = groups_meet _ _ c.row_looks.ensures.machine c.column_looks.ensures.day one.model in
+    let things = columns_are_things c.columns_are_the_pairs.ensures.count _ c.column_looks.ensures.day in
+    ap length (c.as_slice-in-ByNumber-3.ensures.value ∙ c.column_prices.ensures.value) ∙ c.column_prices.ensures.are_prices.columns
+    ∙ sym (size_of c.args.prices.now) ∙ ap price_count (one.group ∙ sym meet) ∙ sym things.count
+    ∙ sym (ap length (c.as_slice-in-ByNumber-2.ensures.value ∙ c.column_looks.ensures.looks))
 
-pub of_group-requires : goal.of_group-requires
-of_group-requires c =
-    let at = goal.at.of_group-requires c in
-    (omega arith, (omega arith, (requires_met (told at.After-columns_are_the_pairs) (cables at.After-pair_looks-columns))))
-
-pub of_group-requires-in-Pin-Bars : goal.of_group-requires-in-Pin-Bars
-of_group-requires-in-Pin-Bars c =
-    let at = goal.at.of_group-requires-in-Pin-Bars c in
-    (omega arith, (omega arith, (requires_met (told at.After-columns_are_the_pairs) (bars at.After-row_looks-columns))))
-
-pub returns-in-Rotor-Cables : goal.returns-in-Rotor-Cables
-returns-in-Rotor-Cables c = grind (arith, by_kind_told, told, cables)
-
-pub returns-in-Pin-Bars : goal.returns-in-Pin-Bars
-returns-in-Pin-Bars c = grind (arith, by_kind_told, told, bars)
+pub returns-in-ByNumber : goal.returns-in-ByNumber
+returns-in-ByNumber c =
+    by_kind_told
+    (record { ranks = c.ranks_tell_looks.ensures; thirteen = c.columns_are_the_pairs.ensures.count; columns = c.columns_are_the_pairs.ensures.pairs })
+    _ _ _ c.row_looks.ensures.machine c.column_looks.ensures.day c.row_prices.ensures.are_prices
+    (c.are_of_one_model.ensures.0 c.if-not-are_of_one_model.false) (sym c.version.ensures.value ∙ c.in-ByNumber.is) _
+    (rw (
+      c.group.ensures,
+      c.as_slice.ensures.value,
+      c.row_looks.ensures.looks,
+      c.as_slice-in-ByNumber.ensures.value,
+      c.row_prices.ensures.value,
+      c.as_slice-in-ByNumber-2.ensures.value,
+      c.column_looks.ensures.looks,
+      c.as_slice-in-ByNumber-3.ensures.value,
+      c.column_prices.ensures.value,
+    )
+    at c.of_group.ensures)

@@ -1,0 +1,5 @@
+use Rattle.kd_card.proofs.Prelude.{length}
+use Rattle.kd_card.proofs.kinds.+are_kinds.Given as goal
+
+abbrev pub decreases-are_kinds : goal.decreases-are_kinds
+decreases-are_kinds l = length l.kinds.now
