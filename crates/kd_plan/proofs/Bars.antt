@@ -1,74 +1,31 @@
 -- LUG: where a bar is to stand, a standing that reads as the row with no more lugs moved than must be; and that its two
 -- lugs are moved there, first the one that isn't in the other's way.
 use Rattle.std.proofs.lemmas.Grind.{common_steps}
-use Rattle.std.proofs.Common.{◌≡◌, ℕ, ◌<◌, ◌≤◌, nat_eq, nat_le, nat_lt, min, Bool, true, not, ◌&&◌, ◌||◌, ◌⊎◌, inl, inr, List, [], ◌∷◌, length, get_or, map, filter, find, fold, All, Some, unwrap_or, refl, sym, ap, ◌∙◌, subst, arith, suc, false, ◌++◌, None}
-use Rattle.kd_plan.proofs.Prelude.{list_any, AllByRecursion, agree_below, agree_below_at, false≢true, and_parts}
-use Rattle.kd_plan.proofs.Prelude.{eqb-true, ltb-true, ltb-false, cond_both, eqb_tells, All-contains}
-use Rattle.kd_plan.proofs.Prelude.{All-filter, filter_passes, AllPass-from_list_all, Place, places, place_rank}
-use Rattle.kd_plan.proofs.Prelude.{standings, reading_of, IsBefore, IsReading, is_at, why_refused, lug_place, with_lug}
+use Rattle.std.proofs.Common.{◌≡◌, ℕ, ◌<◌, ◌≤◌, nat_eq, nat_le, nat_lt, min, Bool, true, not, ◌&&◌, ◌||◌, List, [], ◌∷◌, length, get_or, map, find, fold, unwrap_or, refl, ap, ◌∙◌, arith, suc, false, ◌++◌, None}
+use Rattle.kd_plan.proofs.Prelude.{AllByRecursion, agree_below, agree_below_at, and_parts}
+use Rattle.kd_plan.proofs.Prelude.{eqb-true, ltb-true, ltb-false, cond_both, nat_tests}
+use Rattle.kd_plan.proofs.Prelude.{Place, places, place_rank}
+use Rattle.kd_plan.proofs.Prelude.{reading_of, IsBefore, IsReading, is_at, why_refused, lug_place, with_lug}
 use Rattle.kd_plan.proofs.Prelude.{lugs_moved, reads_as_row, bar_cost, target_of, unless_so, lugs_to}
 use Rattle.kd_plan.proofs.Prelude.{option_to_list, PinParts, Parts, Pin, Setting, LugTo, Day}
 use Rattle.kd_tables.specs.declared.place.Place.TheVariants.{One}
 use Rattle.kd_state.specs.Costs.{standings_as}
-use Rattle.kd_plan.proofs.Lists.{found, seam_get, seam_set}
+use Rattle.kd_plan.proofs.Carrying.{seam_get, seam_set, Led, led_unless, led_append, priced, EachLeads}
 use Rattle.kd_tables.specs.declared.lug.Lug.{Lug}
 use Rattle.kd_tables.specs.declared.lug.Lug.TheVariants.{Left, Right}
-use Rattle.kd_plan.proofs.Carrying.{Led, led_unless, led_append, priced, EachLeads}
 
 -- a place is told by its rank
 place_by_rank : (place : Place) → get_or places (place_rank place) One ≡ place
 place_by_rank place = grind arith
 
+rank_below : (place : Place) → place_rank place < 8
+rank_below place = grind arith
+
 pub place_of_same : (place other : Place) → is_at place other ≡ true → place ≡ other
 place_of_same place other e = grind (arith, place_by_rank, eqb-true)
 
--- all standings stand
-stands : Place × Place → Bool
-stands standing = nat_lt (place_rank standing.0) (place_rank standing.1)
-
--- for each row there is a standing that reads so
-can_be_read : ℕ → ℕ → Bool
-can_be_read a b = not (nat_le a b && (not (nat_eq a b) || nat_eq a 0)) || list_any (reads_as_row (a, b)) standings
-
-all_can : agree_below (λ a. agree_below (can_be_read a) (λ b. true) 7) (λ a. true) 7 ≡ true
-unfolding can_be_read
-all_can = refl
-
-some_standing : (row : ℕ × ℕ) → IsReading row → list_any (reads_as_row row) standings ≡ true
-unfolding can_be_read
-some_standing row h = grind (arith, agree_below_at, all_can)
-
-some_kept : {X : Type 0} (p : X → Bool) (xs : List X) → list_any p xs ≡ true → 0 < length (filter p xs)
-some_kept p [] e = absurd (false≢true e)
-some_kept p (y ∷ xs) e = grind (arith, some_kept p xs)
-
--- the least of some numbers is found, but for the number to begin with
-least_found : {X : Type 0} (f : X → ℕ) (xs : List X) (top n : ℕ) → n ≡ fold min top (map f xs)
-    → (n ≡ top) ⊎ ((x : X) × (find (λ x. nat_eq (f x) n) xs ≡ Some x))
-least_found f [] top n e = inl e
-least_found f (y ∷ xs) top n e =
-    elim (eqb_tells (f y) n) [
-      | inl same ↦ inr (y, rw same.0 refl)
-      | inr other ↦ elim (least_found f xs (min top (f y)) n e) [
-        | inl at ↦ inl (omega (arith, at, other.1))
-        | inr later ↦ inr (later.0, rw other.0 later.1)
-      ]
-    ]
-
 pub at_most_two : (bar standing : Place × Place) → lugs_moved bar standing ≤ 2
 at_most_two bar standing = grind (arith, common_steps)
-
-best_found : (bar : Place × Place) (xs : List (Place × Place)) (n : ℕ) → 0 < length xs → n ≡ fold min 2 (map (lugs_moved bar) xs)
-    → (x : Place × Place) × (find (λ x. nat_eq (lugs_moved bar x) n) xs ≡ Some x)
-best_found bar [] n some e = absurd (omega arith)
-best_found bar (y ∷ xs) n some e =
-    elim (eqb_tells (lugs_moved bar y) n) [
-      | inl same ↦ (y, rw same.0 refl)
-      | inr other ↦ elim (least_found (lugs_moved bar) xs (min 2 (lugs_moved bar y)) n e) [
-        | inl at ↦ absurd (omega (arith, at, other.1, at_most_two bar y))
-        | inr later ↦ (later.0, rw other.0 later.1)
-      ]
-    ]
 
 -- what a target is
 pub record IsTarget (bar : Place × Place) (row : ℕ × ℕ) (target : Place × Place) : Type 0 where
@@ -76,23 +33,46 @@ pub record IsTarget (bar : Place × Place) (row : ℕ × ℕ) (target : Place ×
   pub reads : reading_of target.0 target.1 ≡ row
   pub moved : lugs_moved bar target ≡ bar_cost bar row
 
+-- whether the target of a bar, of these standings that read as the row, is one
+is_fine : List (Place × Place) → ℕ × ℕ → Place × Place → Bool
+is_fine xs row bar =
+    let least = fold min 2 (map (lugs_moved bar) xs) in
+    let target = unwrap_or (find (λ x. nat_eq (lugs_moved bar x) least) xs) bar in
+    nat_lt (place_rank target.0) (place_rank target.1) && (reads_as_row row target && nat_eq (lugs_moved bar target) least)
+
+-- of all bars, by the ranks of their lugs' places, and all rows
+are_fine : ℕ → ℕ → Bool
+are_fine a b =
+    not (nat_le a b && (not (nat_eq a b) || nat_eq a 0))
+    || agree_below (λ l. agree_below (λ r. is_fine (standings_as (a, b)) (a, b) (get_or places l One, get_or places r One)) (λ r. true) 8) (λ l. true) 8
+
+all_fine : agree_below (λ a. agree_below (are_fine a) (λ b. true) 7) (λ a. true) 7 ≡ true
+unfolding is_fine are_fine standings_as
+all_fine = refl
+
+target_fine : (bar : Place × Place) (row : ℕ × ℕ) → IsReading row → is_fine (standings_as row) row bar ≡ true
+unfolding are_fine
+target_fine bar row h =
+    let here = agree_below_at (λ a. agree_below (are_fine a) (λ b. true) 7) (λ a. true) 7 row.0 all_fine (omega (arith, h.ordered, h.within)) in
+    let fine : are_fine row.0 row.1 ≡ true = agree_below_at (are_fine row.0) (λ b. true) 7 row.1 here (omega (arith, h.within)) in
+    let valid : (nat_le row.0 row.1 && (not (nat_eq row.0 row.1) || nat_eq row.0 0)) ≡ true = grind (arith, nat_tests, h.ordered, h.equal) in
+    let all : agree_below (λ l. agree_below (λ r. is_fine (standings_as row) row (get_or places l One, get_or places r One)) (λ r. true) 8) (λ l. true) 8 ≡ true = rw valid at fine in
+    let lefts = agree_below_at (λ l. agree_below (λ r. is_fine (standings_as row) row (get_or places l One, get_or places r One)) (λ r. true) 8) (λ l. true) 8 (place_rank bar.0) all (rank_below bar.0) in
+    rw (place_by_rank, place_by_rank) at (agree_below_at (λ r. is_fine (standings_as row) row (get_or places (place_rank bar.0) One, get_or places r One)) (λ r. true) 8 (place_rank bar.1) lefts (rank_below bar.1))
+
 pub is_target : (bar : Place × Place) (row : ℕ × ℕ) → IsReading row → IsTarget bar row (target_of bar row)
-unfolding standings_as stands
+unfolding is_fine standings_as
 is_target bar row h =
-    let reads = reads_as_row row in
-    let xs = filter reads standings in
-    let best = best_found bar xs (bar_cost bar row) (some_kept reads standings (some_standing row h)) refl in
-    let target = best.0 in
-    let is = found (λ x. nat_eq (lugs_moved bar x) (bar_cost bar row)) xs target best.1 in
-    let passes = All-contains (λ x. reads x ≡ true) xs target (filter_passes reads standings) is.1 in
-    let both = and_parts (nat_eq (reading_of target.0 target.1).0 row.0) (nat_eq (reading_of target.0 target.1).1 row.1) passes in
-    let all : All (λ x. stands x ≡ true) standings = AllPass-from_list_all stands standings refl in
-    let stand = All-contains (λ x. stands x ≡ true) xs target (All-filter reads (λ x. stands x ≡ true) standings all) is.1 in
-    subst (IsTarget bar row) (sym (ap (λ o. unwrap_or o bar) best.1)) (record {
-      stands = ltb-true (place_rank target.0) (place_rank target.1) stand;
-      reads = pair (reading_of target.0 target.1) row (eqb-true (reading_of target.0 target.1).0 row.0 both.0) (eqb-true (reading_of target.0 target.1).1 row.1 both.1);
-      moved = eqb-true (lugs_moved bar target) (bar_cost bar row) is.0;
-    })
+    let target = target_of bar row in
+    let reading = reading_of target.0 target.1 in
+    let first = and_parts (nat_lt (place_rank target.0) (place_rank target.1)) _ (target_fine bar row h) in
+    let second = and_parts (reads_as_row row target) _ first.1 in
+    let both = and_parts (nat_eq reading.0 row.0) (nat_eq reading.1 row.1) second.0 in
+    record {
+      stands = ltb-true (place_rank target.0) (place_rank target.1) first.0;
+      reads = pair reading row (eqb-true reading.0 row.0 both.0) (eqb-true reading.1 row.1 both.1);
+      moved = eqb-true (lugs_moved bar target) (bar_cost bar row) second.1;
+    }
   where
     pair : (a b : ℕ × ℕ) → a.0 ≡ b.0 → a.1 ≡ b.1 → a ≡ b
     pair a b e f = ap (λ x. (x, a.1)) e ∙ ap (λ y. (b.0, y)) f

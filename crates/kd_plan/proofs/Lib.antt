@@ -1,15 +1,8 @@
 pub mod Prelude
-pub mod Lists
 pub mod Carrying
-pub mod Cables
-pub mod Columns
-pub mod Wheels
-pub mod Letters
-pub mod Seats
-pub mod Rotors
 pub mod Bars
 pub mod Writing
+pub mod Cables
+pub mod Rotors
 pub mod Pins
-pub mod Counts
 pub mod Planning
-pub mod Assembling

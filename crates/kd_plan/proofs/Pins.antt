@@ -1,20 +1,20 @@
 -- PIN and TURN of a Converter M-209: wheel after wheel, and on each wheel letter after letter. All its planned lines lead to
 -- the day, and each is needed.
 use Rattle.std.proofs.lemmas.Grind.{common_steps}
-use Rattle.std.proofs.Common.{◌≡◌, ℕ, zero, suc, ◌+◌, ◌<◌, nat_eq, Bool, true, false, not, List, [], ◌∷◌, ◌++◌, length, get_or, map, zip, filter_map, count_by, Some, refl, sym, ap, ◌∙◌, arith, append_assoc, length-append, All, IsPermutation, subst}
+use Rattle.std.proofs.Common.{◌≡◌, ℕ, suc, ◌+◌, ◌<◌, nat_eq, Bool, true, false, not, List, [], ◌∷◌, ◌++◌, length, get_or, map, zip, count_by, Some, refl, sym, ap, ◌∙◌, arith, append_assoc, length-append, All, IsPermutation, subst}
 use Rattle.kd_plan.proofs.Prelude.{sum_by, AllByRecursion, option_map_or, option_to_list, agree_below, agree_below_at}
 use Rattle.kd_plan.proofs.Prelude.{eq-eqb, eqb-true, set_at, get_or_at, length-map, list_any_at, sum-map}
-use Rattle.kd_plan.proofs.Prelude.{unwrap_or-slice_get, place_on, PinParts, Parts, Pin, Setting, PinTo, Turn}
+use Rattle.kd_plan.proofs.Prelude.{place_on, PinParts, Parts, Pin, Setting, PinTo, Turn}
 use Rattle.kd_plan.proofs.Prelude.{HasAllPins, AreOnWheels, IsMachine, has_letter, PinDay, OfPins, IsLegalPinDay}
-use Rattle.kd_plan.proofs.Prelude.{differ, loose_pins, loose_count, unless_so, pin_on, pin_lines, wheel_pin_lines}
+use Rattle.kd_plan.proofs.Prelude.{differ, loose_pins, loose_count, unless_so, pin_lines, wheel_pin_lines}
 use Rattle.kd_plan.proofs.Prelude.{pin_turn_lines, lug_lines, planned_lines, recursion_from_All, IsPermutation-sym}
 use Rattle.kd_plan.proofs.Prelude.{firsts-zip, seconds-zip, Place, reading_of, IsBefore, IsReading}
 use Rattle.kd_tables.specs.Rings.{ring_of}
 use Rattle.kd_pins.specs.PinWheels.{pins_of}
 use Rattle.kd_state.specs.Pins.{pin_set, with_pin}
-use Rattle.kd_plan.proofs.Carrying.{Led, led_unless, lines_from, EachLeads, cells_led, Reaches, led_append}
-use Rattle.kd_plan.proofs.Lists.{is_number, seam_get, seam_set, one_less, paired, IsPairing}
-use Rattle.kd_plan.proofs.Writing.{one_line, pin_turn_of, row_at, bars_beside, lug_lines_are, pin_turn_lines_are}
+use Rattle.kd_plan.proofs.Carrying.{Led, led_unless, EachLeads, cells_led, Reaches, led_append, is_number, seam_get, seam_set, one_less, paired, IsPairing}
+use Rattle.kd_plan.proofs.Writing.{row_at, bars_beside, lines_of_each}
+use Rattle.kd_plan.proofs.Prelude.{pin_of, pin_turn_of}
 use Rattle.kd_plan.proofs.Bars.{BarRow, IsMovable, now_stands, to_stand, with_bars, lugs_of, lugs_each, rows_read}
 
 -- each letter of a pin wheel stands at its own place
@@ -53,7 +53,7 @@ abbrev to_be : Cell → Bool
 to_be w = w.1.1
 
 abbrev pin_line : ℕ → ℕ → Cell → List Setting
-pin_line number k w = option_to_list (unless_so (not (differ (is_so w) (to_be w))) (PinTo number w.0 (to_be w)))
+pin_line number k w = pin_of number w
 
 record AreCells (letters : List ℕ) (now wanted : List Bool) (cells : List Cell) : Type 0 where
   letters_are : map (λ (w : Cell). w.0) cells ≡ letters
@@ -70,22 +70,6 @@ cells_are _ _ _ e f = absurd (omega arith)
 -- the planned lines of a wheel, letter by letter
 abbrev pub wheel_lines : ℕ → List Bool × List Bool → List Setting
 wheel_lines number z = wheel_pin_lines number (ring_of number) z.0 z.1
-
-lines_of_cells : (f g : ℕ → Bool) (number k : ℕ) (letters : List ℕ) (now wanted : List Bool) → length now ≡ length letters → length wanted ≡ length letters
-    → ((i : ℕ) → i < length letters → (f (get_or letters i 0) ≡ get_or now i false) × (g (get_or letters i 0) ≡ get_or wanted i false))
-    → filter_map (λ letter. unless_so (not (differ (f letter) (g letter))) (PinTo number letter (g letter))) letters
-    ≡ lines_from (pin_line number) k (zip letters (zip now wanted))
-lines_of_cells f g number k [] now wanted e d h = refl
-lines_of_cells f g number k (l ∷ letters) (a ∷ now) (b ∷ wanted) e d h =
-    let here = h zero (omega arith) in
-    rw (here.0, here.1)
-    (one_line (unless_so (not (differ a b)) (PinTo number l b)) _ _
-    (lines_of_cells f g number (k + 1) letters now wanted (omega arith) (omega arith) (λ i lt. h (suc i) (omega arith))))
-lines_of_cells f g number k _ _ _ e d h = absurd (omega arith)
-
-pin_there : (number place : ℕ) (pins : List Bool) → number < 7 → place < length (ring_of number)
-    → pin_on (ring_of number) pins (get_or (ring_of number) place 0) ≡ get_or pins place false
-pin_there number place pins lt within = rw (place_of_letter number place lt within) (unwrap_or-slice_get pins place false)
 
 module _ (m : PinParts) (s : PinDay) where
   abbrev pub with_pins : List (List Bool) → Parts
@@ -148,9 +132,7 @@ module _ (m : PinParts) (s : PinDay) where
         let cells = zip (ring_of number) (zip now day) in
         let are = cells_are (ring_of number) now day now_size day_size in
         let led = cells_led (OfPins s) with_wheel is_so to_be (pin_line number) [] cells 1 refl (pins_each [] [] cells within refl are.letters_are are.wanted_are) in
-        let lines = lines_of_cells (pin_on (ring_of number) now) (pin_on (ring_of number) day) number 1 (ring_of number) now day now_size day_size
-        (λ i lt. (pin_there number i now within lt, pin_there number i day within lt)) in
-        rw lines (rw (are.now_are, are.wanted_are) at led)
+        rw (lines_of_each (pin_of number) cells 1) (rw (are.now_are, are.wanted_are) at led)
 
   -- all wheels
   abbrev wheels : List (List Bool × List Bool)
@@ -231,7 +213,7 @@ module _ (m : PinParts) (s : PinDay) (to : List ℕ) (machine : IsMachine (Pin m
       let size : length s.window ≡ length m.letters = legal.window.count ∙ sym machine.legal.letters.count in
       let due = seconds-zip m.letters s.window size in
       let led = cells_led (OfPins s) (with_shown after_pins s) shown wanted pin_turn_of [] letters 1 refl (turns_each after_pins s [] letters due legal.window) in
-      rw pin_turn_lines_are (rw (firsts-zip m.letters s.window size, due) at led)
+      rw (firsts-zip m.letters s.window size, due) at led
 
   sizes : length (map (row_at s.rows) to) ≡ length m.bars
   sizes = length-map to (row_at s.rows) ∙ pairing.count ∙ sym machine.legal.bars
@@ -242,7 +224,7 @@ module _ (m : PinParts) (s : PinDay) (to : List ℕ) (machine : IsMachine (Pin m
   lugs_reach : Led (OfPins s) (Pin after_turns) (lug_lines m.bars s.rows to) (with_bars (OfPins s) after_turns (map to_stand zs))
   lugs_reach =
       let led = cells_led (OfPins s) (with_bars (OfPins s) after_turns) now_stands to_stand lugs_of [] zs 1 refl (lugs_each (OfPins s) after_turns [] zs are_movable) in
-      rw lug_lines_are (rw (firsts-zip m.bars (map (row_at s.rows) to) sizes) at led)
+      rw (firsts-zip m.bars (map (row_at s.rows) to) sizes) at led
 
   rows_are : IsPermutation (map (λ (bar : Place × Place). reading_of bar.0 bar.1) (map to_stand zs)) s.rows
   rows_are =

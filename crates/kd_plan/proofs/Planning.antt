@@ -1,18 +1,201 @@
--- The planned lines of any pairing lead to the day, and a planned card proves itself.
-use Rattle.std.proofs.Common.{◌≡◌, ℕ, ◌<◌, List, [], ◌∷◌, length, Contains, None, refl, sym, ap, ◌∙◌, subst, arith, pos}
-use Rattle.kd_plan.proofs.Prelude.{AllByRecursion, sum_by, recursion_from_All, sum_by-cons, Model, M209, reflectors_of}
-use Rattle.kd_plan.proofs.Prelude.{Parts, Rotor, Pin, IsMachine, model_of, Day, OfRotors, OfPins, IsLegalDay, day_model}
-use Rattle.kd_plan.proofs.Prelude.{columns_of, cable_cost, bar_cost, lugs_moved, cost_table, priced_count}
-use Rattle.kd_plan.proofs.Prelude.{ProvesByNumber, assignment_cost, planned_lines, table_size, Told}
+-- How many lines there are, and how many of them the prices speak of: as many as the pairing costs.
+use Rattle.std.proofs.Common.{◌≡◌, ℕ, ◌+◌, ◌*◌, ◌<◌, ◌≤◌, nat_eq, nat_lt, min, Bool, true, false, not, ◌&&◌, cond, List, [], ◌∷◌, ◌++◌, length, get_or, map, zip, fold, Option, refl, sym, ◌∙◌, subst, arith, length-append, None, Some, Contains, ap, pos, if◌then◌else◌, All, replicate, ℤ, unsigned_abs, ◌+ℤ◌, rules}
+use Rattle.std.proofs.lemmas.Grind.{common_steps}
+use Rattle.std.proofs.lemmas.Int.{ints}
+use Rattle.kd_assign.specs.Prices.{CostsAtMost, Fits, price_sum, sum_of}
+use Rattle.kd_card.specs.Prices.{ArePrices, column_kinds, column_prices, how_many, row_kinds, row_prices, version_of}
+use Rattle.kd_card.specs.declared.prices.PriceParts.{PriceParts}
+use Rattle.kd_card.specs.declared.prices.Version.TheVariants.{ByNumber}
+use Rattle.kd_plan.proofs.Prelude.{All-map, AllByRecursion, AreOfKind, Day, IsLegalDay, IsLegalRotorDay, IsMachine}
+use Rattle.kd_plan.proofs.Prelude.{IsOneToOne, IsPlanned, LugTo, M209, Model, OfPins, OfRotors, Parts, Pin, PinDay}
+use Rattle.kd_plan.proofs.Prelude.{PinParts, Place, ProvesByNumber, Pull, Put, Rotor, RotorDay}
+use Rattle.kd_plan.proofs.Prelude.{RotorParts, SeatReflector, Setting, SheetWheel, Told, alphabet}
+use Rattle.kd_plan.proofs.Prelude.{assignment_cost, bar_cost, bar_costs, box_of, cable_cost, cable_costs, cable_letters}
+use Rattle.kd_plan.proofs.Prelude.{column_letters, columns_of, cond_both, cost_table, day_model, differ}
+use Rattle.kd_plan.proofs.Prelude.{eqb-false, eqb-true, get_or-map, get_or-replicate}
+use Rattle.kd_plan.proofs.Prelude.{has_letter, is_at, is_priced, length-filter}
+use Rattle.kd_plan.proofs.Prelude.{length-map, length-replicate, length-zip, lugs_moved, lugs_to, model_of}
+use Rattle.kd_plan.proofs.Prelude.{option_and_then, option_to_list, pin_lines, place_rank}
+use Rattle.kd_plan.proofs.Prelude.{planned_lines, priced_count, recursion_from_All, reflectors_of}
+use Rattle.kd_plan.proofs.Prelude.{same_reflector, slots_of, sum_by, sum_by-append, sum_by-cons, sum_by-le}
+use Rattle.kd_plan.proofs.Prelude.{table_size, unless_same, unless_so, wheel_pin_lines}
+use Rattle.kd_plan.specs.Laws.{PlannedCardsProve, PlannedLinesLead}
+use Rattle.kd_state.specs.Costs.{standings_as}
+use Rattle.kd_state.specs.Laws.{CablesCostFour}
+use Rattle.kd_tables.specs.Rings.{ring_of}
+use Rattle.kd_tables.specs.declared.lug.Lug.{Lug}
+use Rattle.kd_tables.specs.declared.lug.Lug.TheVariants.{Left, Right}
 use Rattle.kd_tables.specs.declared.reflector.Reflector.{Reflector}
-use Rattle.kd_plan.specs.Laws.{PlannedLinesLead, PlannedCardsProve}
-use Rattle.kd_plan.proofs.Bars.{BarRow, IsMovable, to_stand, is_target}
-use Rattle.kd_plan.proofs.Carrying.{Reaches}
-use Rattle.kd_plan.proofs.Counts.{rotor_counted, pin_counted, table_cost}
-use Rattle.kd_plan.proofs.Lists.{IsPairing, pairing_of}
+use Rattle.kd_plan.proofs.Bars.{BarRow, IsMovable, at_most_two, is_target, lugs_of, to_stand}
+use Rattle.kd_plan.proofs.Cables.{Beside, column_at, pulls, puts}
+use Rattle.kd_plan.proofs.Carrying.{Reaches, IsPairing, pairing_of}
 use Rattle.kd_plan.proofs.Pins.{are_movable, pin_machines_reach}
 use Rattle.kd_plan.proofs.Rotors.{rotors_reach}
+use Rattle.kd_plan.proofs.Writing.{bars_beside, chosen_length, lines_of_each, row_at}
+use Rattle.kd_plan.proofs.Prelude.{RingTo, Wheel, same_wheel, option_map_or, ring_at, besides, lines_from, pin_of, pin_turn_of, ring_of_wheel, seat_of, turn_of, work_beside}
+use Rattle.kd_pins.specs.declared.pin_set.PinSet.{PinSet}
+use Rattle.kd_pins.specs.PinWheels.{pins_of}
+use Rattle.std.proofs.Common.{find}
+use Rattle.kd_plan.specs.declared.cable_lines.Work.TheVariants as works
+use Rattle.kd_card.specs.Prices as card
 
+-- so many lines at most, and so many of cables and bars
+pub record AreCounted (lines : List Setting) (most cost : ℕ) : Type 0 where
+  pub few : length lines ≤ most
+  pub priced : priced_count lines ≡ cost
+
+counted_as : {a p : ℕ} {xs ys : List Setting} → xs ≡ ys → AreCounted ys a p → AreCounted xs a p
+counted_as {a = a} {p = p} e h = subst (λ lines. AreCounted lines a p) (sym e) h
+
+pub counted-append : {a b p q : ℕ} (xs ys : List Setting) → AreCounted xs a p → AreCounted ys b q → AreCounted (xs ++ ys) (a + b) (p + q)
+counted-append xs ys h k = record {
+  few = omega (arith, length-append xs ys, h.few, k.few);
+  priced = omega (arith, sum_by-append (λ x. cond (is_priced x) 1 0) xs ys, h.priced, k.priced);
+}
+
+priced-cons : (x : Setting) (xs : List Setting) → priced_count (x ∷ xs) ≡ cond (is_priced x) 1 0 + priced_count xs
+priced-cons x xs = sum_by-cons (λ x. cond (is_priced x) 1 0) x xs
+
+-- lines of other things
+pub counted_unless : (so : Bool) (x : Setting) → is_priced x ≡ false → AreCounted (option_to_list (unless_so so x)) 1 0
+counted_unless true x e = record { few = omega arith; priced = refl }
+counted_unless false x e = record { few = omega arith; priced = rw e refl }
+
+counted_ring : (m : RotorParts) (wheels : List SheetWheel) (wheel : Wheel) → AreCounted (ring_of_wheel m wheels wheel) 1 0
+counted_ring m wheels wheel = counted_found (find (λ w. same_wheel wheel w.wheel) wheels)
+  where
+    counted_found : (o : Option SheetWheel)
+        → AreCounted (option_to_list (option_and_then (λ w. unless_so (option_map_or (nat_eq w.ring) (ring_at m w.wheel) false) (RingTo w.wheel w.ring)) o)) 1 0
+    counted_found None = record { few = omega arith; priced = refl }
+    counted_found (Some w) = counted_unless _ _ refl
+
+pub counted_each : {Z : Type 0} (lines : ℕ → Z → List Setting) → ((number : ℕ) (z : Z) → AreCounted (lines number z) 1 0)
+    → (zs : List Z) (number : ℕ) → AreCounted (lines_from lines number zs) (length zs) 0
+counted_each lines h [] number = record { few = omega arith; priced = refl }
+counted_each lines h (z ∷ zs) number =
+    let all = counted-append _ _ (h number z) (counted_each lines h zs (number + 1)) in
+    record { few = omega (arith, all.few); priced = all.priced }
+
+-- lines of cables and of bars
+pub counted_from : {Z : Type 0} (lines : ℕ → Z → List Setting) (f : Z → ℕ) → ((number : ℕ) (z : Z) → AreCounted (lines number z) (f z) (f z))
+    → (zs : List Z) (number : ℕ) → AreCounted (lines_from lines number zs) (sum_by f zs) (sum_by f zs)
+counted_from lines f h [] number = record { few = omega arith; priced = refl }
+counted_from lines f h (z ∷ zs) number =
+    rw sum_by-cons (counted-append (lines number z) (lines_from lines (number + 1) zs) (h number z) (counted_from lines f h zs (number + 1)))
+
+all_priced : (line : ℕ → Setting) (xs : List ℕ) → ((x : ℕ) → is_priced (line x) ≡ true) → priced_count (map line xs) ≡ length xs
+all_priced line [] h = refl
+all_priced line (x ∷ xs) h = rw (priced-cons, h x, all_priced line xs h) (omega arith)
+
+pub counted_map : (line : ℕ → Setting) (xs : List ℕ) → ((x : ℕ) → is_priced (line x) ≡ true) → AreCounted (map line xs) (length xs) (length xs)
+counted_map line xs h = record { few = omega (arith, length-map xs line); priced = all_priced line xs h }
+
+-- a cable's letters are pulled and put as many as its column costs, and 4 at most
+one_letter : (p q : Bool) → cond {A = ℕ} (p && not q) 1 0 + cond (q && not p) 1 0 ≡ cond (differ p q) 1 0
+one_letter p q = grind arith
+
+sums_add : {X : Type 0} (f g h : X → ℕ) → ((x : X) → f x + g x ≡ h x) → (xs : List X) → sum_by f xs + sum_by g xs ≡ sum_by h xs
+sums_add f g h e [] = refl
+sums_add f g h e (x ∷ xs) = simp sum_by-cons (omega (arith, e x, sums_add f g h e xs))
+
+pub cable_lines : (z : Beside) → length (pulls z) + length (puts z) ≡ cable_cost z.0 z.1
+cable_lines z =
+    let held = has_letter (cable_letters z.0) in
+    let due = has_letter (column_letters z.1) in
+    omega (
+      arith,
+      length-filter (λ l. held l && not (due l)) alphabet,
+      length-filter (λ l. due l && not (held l)) alphabet,
+      sums_add _ _ _ (λ l. one_letter (held l) (due l)) alphabet,
+    )
+
+-- a bar's lines are as many as lugs are moved
+one_lug : (so : Bool) (number : ℕ) (lug : Lug) (place : Place)
+    → AreCounted (option_to_list (unless_so so (LugTo number lug place))) (unless_same so) (unless_same so)
+one_lug true number lug place = record { few = omega arith; priced = refl }
+one_lug false number lug place = record { few = omega arith; priced = refl }
+
+pub counted_lugs : (number : ℕ) (bar target : Place × Place) → AreCounted (lugs_to number bar target) (lugs_moved bar target) (lugs_moved bar target)
+counted_lugs number bar target =
+    let left = one_lug (is_at bar.0 target.0) number Left target.0 in
+    let right = one_lug (is_at bar.1 target.1) number Right target.1 in
+    let moved = lugs_moved bar target in
+    cond_both (nat_lt (place_rank target.0) (place_rank bar.1)) _ _ (λ lines. AreCounted lines moved moved)
+    (λ e. counted-append _ _ left right)
+    (λ e. let both = counted-append _ _ right left in record { few = omega (arith, both.few); priced = omega (arith, both.priced) })
+
+least_at_most : (n : ℕ) (xs : List ℕ) → fold min n xs ≤ n
+least_at_most n [] = omega arith
+least_at_most n (x ∷ xs) = omega (arith, least_at_most (min n x) xs)
+
+pub bar_cost_at_most : (bar : Place × Place) (row : ℕ × ℕ) → bar_cost bar row ≤ 4
+bar_cost_at_most bar row = omega (arith, least_at_most 2 (map (lugs_moved bar) (standings_as row)))
+
+-- what a pairing costs, by the table
+pub table_cost : {A B : Type 0} (cost : A → B → ℕ) (columns : List B) (d : B) (all : List A) (to : List ℕ) → length all ≡ length to
+    → AllByRecursion (λ j. j < length columns) to
+    → assignment_cost (map (λ x. map (cost x) columns) all) to ≡ sum_by (λ (z : A × B). cost z.0 z.1) (zip all (map (λ j. get_or columns j d) to))
+table_cost cost columns d [] [] size within = refl
+table_cost cost columns d (x ∷ all) (j ∷ to) size within =
+    simp sum_by-cons (omega (arith, get_or-map (cost x) columns j d 0 within.0, table_cost cost columns d all to (omega arith) within.1))
+table_cost cost columns d _ _ size within = absurd (omega arith)
+
+-- All planned lines of a rotor machine.
+module _ (m : RotorParts) (s : RotorDay) (to : List ℕ) where
+  abbrev cables : List Beside
+  cables = besides m.cables s.pairs to
+
+  cable_sums : sum_by (λ z. length (pulls z)) cables + sum_by (λ z. length (puts z)) cables ≡ sum_by (λ z. cable_cost z.0 z.1) cables
+  cable_sums = sums_add _ _ (λ z. cable_cost z.0 z.1) cable_lines cables
+
+  pub rotor_counted : AreCounted (planned_lines (Rotor m) (OfRotors s) to) (2 * length s.wheels + 1 + length (box_of m.model) + sum_by (λ z. cable_cost z.0 z.1) cables)
+      (sum_by (λ z. cable_cost z.0 z.1) cables)
+  rotor_counted =
+      let seats = counted_each seat_of (λ n z. counted_unless _ _ refl) (zip m.slots s.wheels) 1 in
+      let reflector = counted_unless (same_reflector m.reflector s.reflector) (SeatReflector s.reflector) refl in
+      let rings = counted_as (lines_of_each (ring_of_wheel m s.wheels) (box_of m.model) 1) (counted_each (λ n wheel. ring_of_wheel m s.wheels wheel) (λ n wheel. counted_ring m s.wheels wheel) (box_of m.model) 1) in
+      let turns = counted_each (turn_of m) (λ n w. counted_unless _ _ refl) s.wheels 1 in
+      let pulled = counted_from (work_beside works.Pull) (λ z. length (pulls z)) (λ n z. counted_map (Pull n) (pulls z) (λ x. refl)) cables 1 in
+      let put = counted_from (work_beside works.Put) (λ z. length (puts z)) (λ n z. counted_map (Put n) (puts z) (λ x. refl)) cables 1 in
+      let all = counted-append _ _ (counted-append _ _ (counted-append _ _ (counted-append _ _ (counted-append _ _
+      seats reflector) rings) turns) pulled) put in
+      record { few = omega (arith, all.few, cable_sums, length-zip m.slots s.wheels); priced = omega (arith, all.priced, cable_sums) }
+
+-- And of a Converter M-209.
+abbrev sizes_from : {Z : Type 0} → ℕ → List Z → ℕ
+sizes_from number [] = 0
+sizes_from number (z ∷ zs) = length (ring_of number) + sizes_from (number + 1) zs
+
+abbrev wheel_lines : ℕ → List Bool × List Bool → List Setting
+wheel_lines number z = wheel_pin_lines number (ring_of number) z.0 z.1
+
+counted_wheels : (zs : List (List Bool × List Bool)) (number : ℕ) → AreCounted (lines_from wheel_lines number zs) (sizes_from number zs) 0
+counted_wheels [] number = record { few = omega arith; priced = refl }
+counted_wheels (z ∷ zs) number =
+    let ring = ring_of number in
+    let cells = zip ring (zip z.0 z.1) in
+    let wheel = counted_as (lines_of_each (pin_of number) cells 1) (counted_each (λ n cell. pin_of number cell) (λ n cell. counted_unless _ _ refl) cells 1) in
+    let all = counted-append (wheel_lines number z) (lines_from wheel_lines (number + 1) zs) wheel (counted_wheels zs (number + 1)) in
+    record { few = omega (arith, all.few, length-zip ring (zip z.0 z.1)); priced = all.priced }
+
+all_sizes : (now wanted : PinSet) → sizes_from 1 (zip (pins_of now) (pins_of wanted)) ≡ 131
+unfolding ring_of
+all_sizes now wanted = refl
+
+module _ (m : PinParts) (s : PinDay) (to : List ℕ) where
+  abbrev bars : List BarRow
+  bars = bars_beside m.bars s.rows to
+
+  pub pin_counted : AreCounted (planned_lines (Pin m) (OfPins s) to) (131 + length m.letters + sum_by (λ z. lugs_moved z.0 (to_stand z)) bars)
+      (sum_by (λ z. lugs_moved z.0 (to_stand z)) bars)
+  pin_counted =
+      let pins = counted_wheels (zip (pins_of m.pins) (pins_of s.pins)) 1 in
+      let turns = counted_each pin_turn_of (λ n z. counted_unless _ _ refl) (zip m.letters s.window) 1 in
+      let lugs = counted_from lugs_of (λ z. lugs_moved z.0 (to_stand z)) (λ n z. counted_lugs n z.0 (to_stand z)) bars 1 in
+      let all = counted-append _ _ (counted-append (pin_lines m.pins s.pins) _ pins turns) lugs in
+      record { few = omega (arith, all.few, all_sizes m.pins s.pins, length-zip m.letters s.window); priced = omega (arith, all.priced) }
+
+-- ---- the planned lines of any pairing lead to the day, and a planned card proves itself.
 -- the bars are moved by as many lugs as their rows cost
 least_moved : (zs : List BarRow) → AllByRecursion IsMovable zs → sum_by (λ z. lugs_moved z.0 (to_stand z)) zs ≡ sum_by (λ z. bar_cost z.0 z.1) zs
 least_moved [] h = refl
@@ -59,3 +242,93 @@ planned_cards_prove told m s settings prices machine legal h =
       sum = h.total ∙ ap pos (sym so.total);
       needed = there.led.needed;
     })
+
+-- ---- the card that is made of an assignment, its prices and its lines is a planned one.
+pub prices_of : (prices : PriceParts) (most : ℕ) → most ≤ 9999 → row_kinds prices ≡ [] → column_kinds prices ≡ [] → length (row_prices prices) ≡ how_many prices → length (column_prices prices) ≡ how_many prices
+    → All (λ price. unsigned_abs price ≤ most) (row_prices prices) → All (λ price. unsigned_abs price ≤ most) (column_prices prices) → ArePrices prices
+prices_of prices most le no_rows no_columns rows columns row_bound column_bound = search (rules, no_columns)
+
+-- prices of 0
+pub zeros_within : (number : ℕ) → All (λ price. unsigned_abs price ≤ 0) (replicate number (pos 0))
+zeros_within number k d lt = omega (arith, ap unsigned_abs (get_or-replicate number k (pos 0) d (omega (arith, length-replicate number (pos 0)))))
+
+pub zeros_all : (number : ℕ) → All (λ price. price ≡ pos 0) (replicate number (pos 0))
+zeros_all number k d lt = get_or-replicate number k (pos 0) d (omega (arith, length-replicate number (pos 0)))
+
+-- the sum of prices, added up from the front
+sum_from : (start : ℤ) (prices : List ℤ) → fold (λ sum price. sum +ℤ price) start prices ≡ (start +ℤ sum_of prices)
+sum_from start [] = omega (arith, ints)
+sum_from start (price ∷ prices) = let e = sum_from (start +ℤ price) prices in omega (arith, ints)
+
+sum_of-append : (rows columns : List ℤ) → sum_of (rows ++ columns) ≡ (sum_of rows +ℤ sum_of columns)
+sum_of-append [] columns = omega (arith, ints)
+sum_of-append (row ∷ rows) columns = let e = sum_of-append rows columns in omega (arith, ints)
+
+same_sum : (prices : PriceParts) → card.price_sum prices ≡ price_sum (row_prices prices) (column_prices prices)
+same_sum prices = grind (arith, sum_from, sum_of-append)
+
+-- What an assignment and its prices are, on a card: the prices fit, add up to the assignment's cost, and are 0 where it is.
+pub record AreSolved (costs : List (List ℕ)) (to : List ℕ) (prices : PriceParts) : Type 0 where
+  pub fits : card.Fits costs prices
+  pub total : card.price_sum prices ≡ pos (assignment_cost costs to)
+  pub zero : assignment_cost costs to ≡ 0 → All (λ price. price ≡ pos 0) (row_prices prices ++ column_prices prices)
+
+-- prices of 0, or other ones
+pub solved : (costs : List (List ℕ)) (to : List ℕ) (total : ℕ) (zeros others prices : PriceParts) → let none = replicate (how_many zeros) (pos 0) in
+    row_prices zeros ≡ none → column_prices zeros ≡ none → card.price_sum zeros ≡ pos 0 → All (λ price. price ≡ pos 0) (row_prices zeros ++ column_prices zeros)
+    → length (row_prices others) ≡ how_many others → length (column_prices others) ≡ how_many others → Fits costs (row_prices others) (column_prices others)
+    → price_sum (row_prices others) (column_prices others) ≡ pos total → assignment_cost costs to ≡ total → prices ≡ (if nat_eq total 0 then zeros else others)
+    → AreSolved costs to prices
+solved costs to total zeros others prices no_rows no_columns no_sum all rows columns fits sum cost e =
+    grind (arith, common_steps, cond_both, get_or-replicate, no_columns, eqb-true, same_sum, eqb-false)
+
+-- so they are by number
+pub by_number : (m : Parts) (prices : PriceParts) → AreOfKind m prices → version_of prices ≡ ByNumber
+by_number m prices e = grind arith
+
+-- no cost is above the greatest
+table_at_most : {A B : Type 0} (cost : A → B → ℕ) (most : ℕ) → ((x : A) (y : B) → cost x y ≤ most) → (xs : List A) (ys : List B)
+    → CostsAtMost most (map (λ x. map (cost x) ys) xs)
+table_at_most cost most h xs ys =
+    All-map (All (λ c. c ≤ most)) (λ x. map (cost x) ys) xs (λ k d lt. All-map (λ c. c ≤ most) (cost _) ys (λ j e lt'. h _ _))
+
+pub cable_costs_at_most : CablesCostFour → (costs : List (List ℕ)) (cables : List (Option ℕ × Option ℕ)) (pairs : List (ℕ × ℕ)) → costs ≡ cable_costs cables pairs → CostsAtMost 4 costs
+cable_costs_at_most few costs cables pairs e = rw e (table_at_most cable_cost 4 few cables (columns_of pairs))
+
+pub bar_costs_at_most : (costs : List (List ℕ)) (bars : List (Place × Place)) (rows : List (ℕ × ℕ)) → costs ≡ bar_costs bars rows → CostsAtMost 4 costs
+bar_costs_at_most costs bars rows e = rw e (table_at_most bar_cost 4 bar_cost_at_most bars rows)
+
+-- there is room for all lines
+at_most : (model : Model) → (length (box_of model) ≤ 10) × (slots_of model ≤ 4)
+at_most model = grind arith
+
+pub rotor_room : CablesCostFour → (m : RotorParts) (s : RotorDay) (to : List ℕ) → IsMachine (Rotor m) → IsLegalRotorDay s → length (planned_lines (Rotor m) (OfRotors s) to) ≤ 192
+rotor_room few m s to machine legal =
+    omega (
+      arith,
+      (rotor_counted m s to).few,
+      sum_by-le (λ (z : Beside). cable_cost z.0 z.1) 4 (besides m.cables s.pairs to) (λ k d lt. let z : Beside = get_or (besides m.cables s.pairs to) k d in few z.0 z.1),
+      chosen_length m.cables (column_at s.pairs) to,
+      machine.legal.cables.count,
+      (at_most m.model).0,
+      (at_most s.model).1,
+      legal.wheels.count,
+      length-map s.wheels (λ w. Some w.wheel),
+    )
+
+pub pin_room : (m : PinParts) (s : PinDay) (to : List ℕ) → IsMachine (Pin m) → length (planned_lines (Pin m) (OfPins s) to) ≤ 192
+pin_room m s to machine =
+    omega (
+      arith,
+      (pin_counted m s to).few,
+      sum_by-le (λ (z : BarRow). lugs_moved z.0 (to_stand z)) 2 (bars_beside m.bars s.rows to) (λ k d lt. at_most_two _ _),
+      chosen_length m.bars (row_at s.rows) to,
+      machine.legal.letters.count,
+      machine.legal.bars,
+    )
+
+-- the card
+pub planned : (m : Parts) (s : Day) (costs : List (List ℕ)) (to : List ℕ) (settings : List Setting) (prices : PriceParts)
+    → model_of m ≡ day_model s → costs ≡ cost_table m s → AreOfKind m prices → length to ≡ table_size m → IsOneToOne to
+    → settings ≡ planned_lines m s to → AreSolved costs to prices → IsPlanned m s settings prices
+planned m s costs to settings prices same table kind size one_to_one lines solved = grind (arith, solved)

@@ -1,19 +1,17 @@
 -- The card that a planner prints: the settings that differ from the day, in a fixed order, and nothing else. Which cable
 -- becomes which pair, and which bar takes which row, may be chosen; so may the prices.
-use Rattle.std.specs.Prelude.{◌≡◌, ℕ, nat_eq, nat_lt, Bool, false, not, ◌&&◌, List, [], ◌++◌, length, map, filter, filter_map, flat_map, find, zip, All, pos, slice_get, slice_index_or, Option, Some, None, unwrap_or, if◌then◌else◌}
-use Rattle.std.specs.List.{enumerate_from}
+use Rattle.std.specs.Prelude.{◌≡◌, ℕ, nat_eq, nat_lt, Bool, false, not, ◌&&◌, List, [], ◌∷◌, ◌++◌, ◌+◌, length, map, filter, flat_map, find, zip, All, pos, slice_index_or, Option, Some, None, unwrap_or, if◌then◌else◌}
 use Rattle.std.specs.Option.{option_and_then, option_map_or, option_to_list}
-use Rattle.kd_tables.specs.declared.model.Model.{Model}
 use Rattle.kd_tables.specs.declared.wheel.Wheel.{Wheel}
 use Rattle.kd_tables.specs.declared.reflector.Reflector.{Reflector}
 use Rattle.kd_tables.specs.declared.place.Place.{Place}
 use Rattle.kd_tables.specs.declared.lug.Lug.TheVariants.{Left, Right}
 use Rattle.kd_tables.specs.Permutation.{alphabet}
 use Rattle.kd_tables.specs.Tables.{box_of}
-use Rattle.kd_tables.specs.Rings.{ring_of, place_on}
+use Rattle.kd_tables.specs.Rings.{ring_of}
 use Rattle.kd_tables.specs.Places.{place_rank}
 use Rattle.kd_pins.specs.declared.pin_set.PinSet.{PinSet}
-use Rattle.kd_pins.specs.PinWheels.{pin_wheels}
+use Rattle.kd_pins.specs.PinWheels.{pins_of}
 use Rattle.kd_state.specs.declared.machine.rotor_parts.RotorParts.{RotorParts}
 use Rattle.kd_state.specs.declared.machine.parts.Parts.{Parts}
 use Rattle.kd_state.specs.declared.machine.parts.Parts.TheVariants.{Rotor, Pin}
@@ -21,7 +19,6 @@ use Rattle.kd_state.specs.declared.sheet_day.rotor_entry.SheetWheel.{SheetWheel}
 use Rattle.kd_state.specs.declared.setting.Setting.{Setting}
 use Rattle.kd_state.specs.declared.setting.Setting.TheVariants.{Pull, Put, Seat, SeatReflector, RingTo, Turn, PinTo, LugTo}
 use Rattle.kd_state.specs.Box.{same_wheel, same_reflector}
-use Rattle.kd_state.specs.Pins.{wheel_pins}
 use Rattle.kd_state.specs.Machine.{model_of, cable_letters, ring_at, letter_at}
 use Rattle.kd_state.specs.Setting.{has_letter, is_at}
 use Rattle.kd_state.specs.SheetDay.{Day, OfRotors, OfPins, day_model}
@@ -35,27 +32,36 @@ use Rattle.kd_assign.specs.Assignment.{IsOneToOne, assignment_cost}
 abbrev pub unless_so : Bool → Setting → Option Setting
 unless_so so x = if so then None else Some x
 
--- SEAT, by slot
+-- the lines of things, each by its number
+abbrev pub lines_from : {Z : Type 0} → (ℕ → Z → List Setting) → ℕ → List Z → List Setting
+lines_from lines number [] = []
+lines_from lines number (z ∷ zs) = lines number z ++ lines_from lines (number + 1) zs
+
+-- SEAT, of a slot with the day's wheel, and by slot
+abbrev pub seat_of : ℕ → Option Wheel × SheetWheel → List Setting
+seat_of slot z = option_to_list (unless_so (option_map_or (same_wheel z.1.wheel) z.0 false) (Seat slot z.1.wheel))
+
 abbrev pub seat_lines : List (Option Wheel) → List SheetWheel → List Setting
-seat_lines slots wheels =
-    filter_map (λ slot. unless_so (option_map_or (same_wheel slot.1.1.wheel) slot.1.0 false) (Seat slot.0 slot.1.1.wheel)) (enumerate_from 1 (zip slots wheels))
+seat_lines slots wheels = lines_from seat_of 1 (zip slots wheels)
 
 -- REFLECTOR
 abbrev pub reflector_lines : Reflector → Reflector → List Setting
 reflector_lines present wanted = option_to_list (unless_so (same_reflector present wanted) (SeatReflector wanted))
 
--- the day's wheels in box order
-abbrev pub in_box_order : Model → List SheetWheel → List SheetWheel
-in_box_order model wheels = filter_map (λ wheel. find (λ w. same_wheel wheel w.wheel) wheels) (box_of model)
+-- RING, of a wheel of the box, if it is one of the day's; and by wheel in box order
+abbrev pub ring_of_wheel : RotorParts → List SheetWheel → Wheel → List Setting
+ring_of_wheel m wheels wheel =
+    option_to_list (option_and_then (λ w. unless_so (option_map_or (nat_eq w.ring) (ring_at m w.wheel) false) (RingTo w.wheel w.ring)) (find (λ w. same_wheel wheel w.wheel) wheels))
 
--- RING, by wheel in box order
 abbrev pub ring_lines : RotorParts → List SheetWheel → List Setting
-ring_lines m wheels = filter_map (λ w. unless_so (option_map_or (nat_eq w.ring) (ring_at m w.wheel) false) (RingTo w.wheel w.ring)) (in_box_order m.model wheels)
+ring_lines m wheels = flat_map (ring_of_wheel m wheels) (box_of m.model)
 
--- TURN, by slot
+-- TURN, of the wheel in a slot, and by slot
+abbrev pub turn_of : RotorParts → ℕ → SheetWheel → List Setting
+turn_of m slot w = option_to_list (unless_so (option_map_or (nat_eq w.letter) (letter_at m w.wheel) false) (Turn slot w.letter))
+
 abbrev pub turn_lines : RotorParts → List SheetWheel → List Setting
-turn_lines m wheels =
-    filter_map (λ slot. unless_so (option_map_or (nat_eq slot.1.letter) (letter_at m slot.1.wheel) false) (Turn slot.0 slot.1.letter)) (enumerate_from 1 wheels)
+turn_lines m wheels = lines_from (turn_of m) 1 wheels
 
 -- the letter lies in the first and not in the second
 abbrev pub lies_apart : List ℕ → List ℕ → ℕ → Bool
@@ -65,35 +71,33 @@ lies_apart letters others letter = has_letter letters letter && not (has_letter 
 abbrev pub letters_apart : List ℕ → List ℕ → List ℕ
 letters_apart letters others = filter (lies_apart letters others) alphabet
 
--- the cables with their numbers, each with the letters of the column that it is paired with
-abbrev pub paired_cables : List (Option ℕ × Option ℕ) → List (ℕ × ℕ) → List ℕ → List (ℕ × (List ℕ × List ℕ))
-paired_cables cables pairs to =
-    enumerate_from 1 (zip (map cable_letters cables) (map (λ j. column_letters (slice_index_or (columns_of pairs) j None)) to))
+-- the cables, each beside the column that it is paired with
+abbrev pub besides : List (Option ℕ × Option ℕ) → List (ℕ × ℕ) → List ℕ → List ((Option ℕ × Option ℕ) × Option (ℕ × ℕ))
+besides cables pairs to = zip cables (map (λ j. slice_index_or (columns_of pairs) j None) to)
 
 -- PULL and PUT, by cable and then by letter
 abbrev pub pull_lines : List (Option ℕ × Option ℕ) → List (ℕ × ℕ) → List ℕ → List Setting
-pull_lines cables pairs to = flat_map (λ cable. map (λ letter. Pull cable.0 letter) (letters_apart cable.1.0 cable.1.1)) (paired_cables cables pairs to)
+pull_lines cables pairs to = lines_from (λ cable z. map (λ letter. Pull cable letter) (letters_apart (cable_letters z.0) (column_letters z.1))) 1 (besides cables pairs to)
 
 abbrev pub put_lines : List (Option ℕ × Option ℕ) → List (ℕ × ℕ) → List ℕ → List Setting
-put_lines cables pairs to = flat_map (λ cable. map (λ letter. Put cable.0 letter) (letters_apart cable.1.1 cable.1.0)) (paired_cables cables pairs to)
+put_lines cables pairs to = lines_from (λ cable z. map (λ letter. Put cable letter) (letters_apart (column_letters z.1) (cable_letters z.0))) 1 (besides cables pairs to)
 
--- whether a wheel's pin at the letter is effective
-abbrev pub pin_on : List ℕ → List Bool → ℕ → Bool
-pin_on ring pins letter = unwrap_or (option_and_then (slice_get pins) (place_on ring letter)) false
+-- PIN, of one letter of a wheel, with its pin and the day's; of one wheel, by its own order; and by wheel
+abbrev pub pin_of : ℕ → ℕ × (Bool × Bool) → List Setting
+pin_of wheel z = option_to_list (unless_so (not (differ z.1.0 z.1.1)) (PinTo wheel z.0 z.1.1))
 
--- PIN, of one wheel, by the wheel's own order
 abbrev pub wheel_pin_lines : ℕ → List ℕ → List Bool → List Bool → List Setting
-wheel_pin_lines wheel ring present wanted =
-    filter_map (λ letter. unless_so (not (differ (pin_on ring present letter) (pin_on ring wanted letter))) (PinTo wheel letter (pin_on ring wanted letter))) ring
+wheel_pin_lines wheel ring present wanted = flat_map (pin_of wheel) (zip ring (zip present wanted))
 
--- PIN, by wheel
 abbrev pub pin_lines : PinSet → PinSet → List Setting
-pin_lines present wanted =
-    flat_map (λ wheel. wheel_pin_lines wheel (ring_of wheel) (wheel_pins present wheel) (wheel_pins wanted wheel)) pin_wheels
+pin_lines present wanted = lines_from (λ wheel z. wheel_pin_lines wheel (ring_of wheel) z.0 z.1) 1 (zip (pins_of present) (pins_of wanted))
 
--- TURN, by pin wheel
+-- TURN, of a pin wheel's letter and the day's, and by pin wheel
+abbrev pub pin_turn_of : ℕ → ℕ × ℕ → List Setting
+pin_turn_of wheel z = option_to_list (unless_so (nat_eq z.0 z.1) (Turn wheel z.1))
+
 abbrev pub pin_turn_lines : List ℕ → List ℕ → List Setting
-pin_turn_lines letters window = filter_map (λ wheel. unless_so (nat_eq wheel.1.0 wheel.1.1) (Turn wheel.0 wheel.1.1)) (enumerate_from 1 (zip letters window))
+pin_turn_lines letters window = lines_from pin_turn_of 1 (zip letters window)
 
 -- where a bar is to stand: the first standing that reads as the row with the least number of lugs moved
 abbrev pub target_of : Place × Place → ℕ × ℕ → Place × Place
@@ -109,7 +113,7 @@ lugs_to number bar target =
 -- LUG, by bar
 abbrev pub lug_lines : List (Place × Place) → List (ℕ × ℕ) → List ℕ → List Setting
 lug_lines bars rows to =
-    flat_map (λ bar. lugs_to bar.0 bar.1.0 (target_of bar.1.0 bar.1.1)) (enumerate_from 1 (zip bars (map (λ j. slice_index_or rows j (0, 0)) to)))
+    lines_from (λ bar z. lugs_to bar z.0 (target_of z.0 z.1)) 1 (zip bars (map (λ j. slice_index_or rows j (0, 0)) to))
 
 -- all lines, in the order in which they are carried out
 abbrev pub planned_lines : Parts → Day → List ℕ → List Setting

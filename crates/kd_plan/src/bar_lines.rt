@@ -9,7 +9,7 @@ use kd_state::{Setting, Settings, nearest_standing};
 use kd_tables::{Lug, Place, Reading, Standing};
 
 /// Appends LUG for each lug that has to move, so that each bar reads as the row that it is paired with.
-#[tactic(auto, using(crate::proofs::Writing::writing, crate::proofs::Writing::lug_lines_are))]
+#[tactic(auto, using(crate::proofs::Writing::writing))]
 pub(crate) fn push_lugs(
     settings: &mut Settings,
     bars: &[Standing; 27],

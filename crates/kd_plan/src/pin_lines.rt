@@ -23,7 +23,7 @@ pub(crate) fn push_pins(settings: &mut Settings, present: &PinSet, wanted: &PinS
 }
 
 /// Appends TURN for each pin wheel that shows another letter than the day's.
-#[tactic(auto, using(crate::proofs::Writing::writing, crate::proofs::Writing::pin_turn_lines_are))]
+#[tactic(auto, using(crate::proofs::Writing::writing))]
 pub(crate) fn push_pin_turns(settings: &mut Settings, letters: &[Letter; 6], window: &[Letter; 6])
     requires { array_vec_len settings.old + length (pin_turn_lines letters.now window.now) ≤ 192 }
     ensures { settings.new.items ≡ settings.old.items ++ pin_turn_lines letters.now window.now }
@@ -37,7 +37,7 @@ pub(crate) fn push_pin_turns(settings: &mut Settings, letters: &[Letter; 6], win
 }
 
 /// Appends PIN for each pin of a wheel that isn't as the day has it, in the wheel's own order.
-#[tactic(auto, using(crate::proofs::Writing::writing_pins))]
+#[tactic(auto, using(crate::proofs::Writing::writing, crate::proofs::Writing::lines_of_each))]
 fn push_wheel_pins<const N: usize>(
     settings: &mut Settings,
     wheel: u8,

@@ -12,7 +12,7 @@ use kd_state::{Machine, RotorParts, Setting, Settings, SheetWheel};
 use kd_tables::{Reflector, Wheel};
 
 /// Appends SEAT for each slot that doesn't hold the day's wheel.
-#[tactic(auto, using(crate::proofs::Writing::writing, crate::proofs::Writing::seat_lines_are))]
+#[tactic(auto, using(crate::proofs::Writing::writing))]
 pub(crate) fn push_seats(settings: &mut Settings, slots: &[Option<Wheel>], wheels: &[SheetWheel])
     requires slots { length slots.now ≡ length wheels.now }
     requires few { length wheels.now ≤ 4 }
@@ -36,7 +36,7 @@ pub(crate) fn push_reflector(settings: &mut Settings, present: Reflector, wanted
 }
 
 /// Appends RING for each of the day's wheels whose ring differs, in box order.
-#[tactic(auto, using(crate::proofs::Writing::writing, crate::proofs::Writing::ring_lines_are))]
+#[tactic(auto, using(crate::proofs::Writing::writing, crate::proofs::Writing::lines_of_each))]
 pub(crate) fn push_rings(
     settings: &mut Settings,
     machine: &Machine,
@@ -53,7 +53,7 @@ pub(crate) fn push_rings(
 }
 
 /// Appends TURN for each slot whose wheel shows another letter than the day's.
-#[tactic(auto, using(crate::proofs::Writing::writing, crate::proofs::Writing::turn_lines_are))]
+#[tactic(auto, using(crate::proofs::Writing::writing))]
 pub(crate) fn push_turns(
     settings: &mut Settings,
     machine: &Machine,

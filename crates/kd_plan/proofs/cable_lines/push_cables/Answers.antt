@@ -1,6 +1,6 @@
 use Rattle.std.proofs.Common.{◌+◌, get_or, refl, arith}
 use Rattle.kd_plan.proofs.Prelude.{cable_letters, column_letters, cable_work}
-use Rattle.kd_plan.proofs.Cables.{besides, work_beside}
+use Rattle.kd_plan.proofs.Prelude.{besides, work_beside}
 use Rattle.kd_plan.proofs.Writing.{IsLine, room, writes, chosen_line}
 use Rattle.kd_plan.proofs.cable_lines.push_cables.Goals as goal
 use Rattle.kd_plan.proofs.cable_lines.push_cables.Goals.{After-column_at-column}

@@ -1,5 +1,5 @@
 use Rattle.kd_plan.specs.CableWork.{work_lines}
-use Rattle.kd_plan.proofs.Cables.{besides, work_beside}
+use Rattle.kd_plan.proofs.Prelude.{besides, work_beside}
 use Rattle.kd_plan.proofs.Writing.{IsWriting}
 use Rattle.kd_plan.proofs.cable_lines.push_cables.Given as goal
 

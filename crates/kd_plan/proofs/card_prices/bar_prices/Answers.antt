@@ -1,6 +1,6 @@
 use Rattle.std.proofs.Common.{refl, List, ℤ, pos, replicate, arith}
 use Rattle.kd_plan.proofs.Prelude.{some_since, length-replicate, Bars}
-use Rattle.kd_plan.proofs.Assembling.{prices_of, zeros_within}
+use Rattle.kd_plan.proofs.Planning.{prices_of, zeros_within}
 use Rattle.kd_plan.proofs.card_prices.bar_prices.Goals as goal
 
 pub unwrap-requires : goal.unwrap-requires

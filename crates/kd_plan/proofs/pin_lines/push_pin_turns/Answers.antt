@@ -1,6 +1,6 @@
 use Rattle.std.proofs.Common.{zip, refl, ap, arith}
-use Rattle.kd_plan.proofs.Prelude.{option_to_list}
-use Rattle.kd_plan.proofs.Writing.{pin_turn_of, IsLine, room, writes, pair_line}
+use Rattle.kd_plan.proofs.Prelude.{pin_turn_of, option_to_list}
+use Rattle.kd_plan.proofs.Writing.{IsLine, room, writes, pair_line}
 use Rattle.kd_plan.proofs.pin_lines.push_pin_turns.Goals as goal
 use Rattle.kd_plan.proofs.pin_lines.push_pin_turns.Goals.{After-pin_turn_line}
 

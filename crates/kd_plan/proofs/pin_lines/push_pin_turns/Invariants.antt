@@ -1,6 +1,6 @@
 use Rattle.std.proofs.Common.{zip}
-use Rattle.kd_plan.specs.Planned.{pin_turn_lines}
-use Rattle.kd_plan.proofs.Writing.{pin_turn_of, IsWriting}
+use Rattle.kd_plan.specs.Planned.{pin_turn_of, pin_turn_lines}
+use Rattle.kd_plan.proofs.Writing.{IsWriting}
 use Rattle.kd_plan.proofs.pin_lines.push_pin_turns.Given as goal
 
 abbrev pub invariant-loop-place : goal.invariant-loop-place

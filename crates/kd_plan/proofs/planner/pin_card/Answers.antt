@@ -1,7 +1,7 @@
 use Rattle.std.proofs.Common.{List, ℤ, pos, nat_eq, replicate, rules, refl, sym, subst, arith}
 use Rattle.kd_plan.proofs.Prelude.{cond_both, Pin, OfPins, Bars, AreOfKind}
 use Rattle.kd_state.specs.Entry.{pin_values}
-use Rattle.kd_plan.proofs.Assembling.{bar_costs_at_most, pin_room, planned, solved, zeros_all}
+use Rattle.kd_plan.proofs.Planning.{bar_costs_at_most, pin_room, planned, solved, zeros_all}
 use Rattle.kd_plan.proofs.planner.pin_card.Goals as goal
 
 pub assign-total-requires : goal.assign-total-requires

@@ -1,7 +1,7 @@
 use Rattle.std.proofs.Common.{List, ℤ, pos, nat_eq, replicate, rules, refl, sym, ap, ◌∙◌, subst, arith}
 use Rattle.kd_plan.proofs.Prelude.{cond_both, Rotor, OfRotors, cable_costs, Cables, AreOfKind}
 use Rattle.kd_state.specs.Entry.{rotor_values}
-use Rattle.kd_plan.proofs.Assembling.{cable_costs_at_most, rotor_room, planned, solved, zeros_all}
+use Rattle.kd_plan.proofs.Planning.{cable_costs_at_most, rotor_room, planned, solved, zeros_all}
 use Rattle.kd_plan.proofs.planner.rotor_card.Goals as goal
 
 pub assign-total-requires : goal.assign-total-requires

@@ -1,6 +1,6 @@
 use Rattle.std.proofs.Common.{None, zip, refl, ap, arith}
-use Rattle.kd_plan.proofs.Prelude.{option_to_list}
-use Rattle.kd_plan.proofs.Writing.{seat_of, IsLine, room, writes, pair_line}
+use Rattle.kd_plan.proofs.Prelude.{seat_of, option_to_list}
+use Rattle.kd_plan.proofs.Writing.{IsLine, room, writes, pair_line}
 use Rattle.kd_plan.proofs.rotor_lines.push_seats.Goals as goal
 
 next : (c : goal.After-seat_line) → IsLine seat_of (zip c.args.slots.now c.args.wheels.now) c.loop-place.place (option_to_list c.seat_line.result)

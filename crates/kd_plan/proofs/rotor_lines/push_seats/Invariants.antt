@@ -1,6 +1,6 @@
 use Rattle.std.proofs.Common.{zip}
-use Rattle.kd_plan.specs.Planned.{seat_lines}
-use Rattle.kd_plan.proofs.Writing.{seat_of, IsWriting}
+use Rattle.kd_plan.specs.Planned.{seat_of, seat_lines}
+use Rattle.kd_plan.proofs.Writing.{IsWriting}
 use Rattle.kd_plan.proofs.rotor_lines.push_seats.Given as goal
 
 abbrev pub invariant-loop-place : goal.invariant-loop-place

@@ -1,5 +1,5 @@
-use Rattle.kd_plan.specs.Planned.{turn_lines}
-use Rattle.kd_plan.proofs.Writing.{turn_of, IsWriting}
+use Rattle.kd_plan.specs.Planned.{turn_of, turn_lines}
+use Rattle.kd_plan.proofs.Writing.{IsWriting}
 use Rattle.kd_plan.proofs.rotor_lines.push_turns.Given as goal
 
 abbrev pub invariant-loop-place : goal.invariant-loop-place
