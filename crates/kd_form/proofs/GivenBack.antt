@@ -1,8 +1,8 @@
 -- The form that an order becomes gives the order's letters back.
-use Rattle.kd_form.proofs.Prelude.{◌≡◌, ◌≢◌, ℕ, ◌+◌, ◌%◌, ◌<◌, ◌≤◌, ◌⊎◌, inl, inr, List, [], ◌∷◌, ◌++◌, length, take, drop, refl, sym, ap, subst, ◌∙◌, append_assoc, length-append, arith, All, Option, Some, None, IfSome, flat_map, cons_option, cases_lt, append-nil, take_all, drop_all, length-take, length-take-le, take-append-drop, All-nil, All-cons, All-head, All-tail, All-take, All-drop, TheDayDeciphersItself, Day, IsLegalDay, TextsTellFirstParts, Keys, BeginsHeading, AreFirstParts, ArePartsRead, given_text, sent_letters, AreKeys, OrdersGiveLetters, FormsGiveTheirOrders, Suits, part_size, filled, Part, part_text, pieces, body_text, IsLettersText, IsPartRead, letters_from, text_letters, parts_needed, AreMadeTexts}
+use Rattle.kd_form.proofs.Prelude.{◌≡◌, ◌≢◌, ℕ, ◌+◌, ◌%◌, ◌<◌, ◌≤◌, ◌⊎◌, inl, inr, List, [], ◌∷◌, ◌++◌, length, take, drop, refl, sym, ap, subst, ◌∙◌, append_assoc, length-append, arith, All, Option, Some, None, IfSome, flat_map, cons_option, cases_lt, append-nil, take_all, drop_all, length-take, length-take-le, take-append-drop, All-nil, All-cons, All-head, All-tail, All-take, All-drop, TheDayDeciphersItself, Day, IsLegalDay, Keys, BeginsHeading, AreFirstParts, ArePartsRead, given_text, sent_letters, AreKeys, OrdersGiveLetters, FormsGiveTheirOrders, Suits, part_size, filled, Part, part_text, pieces, body_text, IsLettersText, IsPartRead, letters_from, text_letters, parts_needed, AreMadeTexts}
 use Rattle.kd_form.proofs.PartTexts.{by_pieces, gives_body, part_has_heading, part_begins_heading, part_is_first}
 use Rattle.kd_form.proofs.MadeParts.{more_pieces, pieces-next, pieces-none, IsPiece, GivesBack, part_gives_back}
-use Rattle.kd_form.proofs.OneOrder.{one_order}
+use Rattle.kd_form.proofs.OneOrder.{all_of_the_day, one_order}
 use Rattle.kd_form.proofs.OrderSteps.{size_some}
 
 -- ---- the letters of a text are letters of the alphabet
@@ -108,21 +108,23 @@ some_parts s (letter ∷ letters) texts some needed none = grind (arith, more_pi
 pub orders_give_letters : OrdersGiveLetters
 orders_give_letters s order form is = (
   given_text s (sent_letters s (text_letters s is.text)),
-  record { keys = is.keys; head = is.sent.head; text = is.text; is_order = is.sent.is_order; is = refl },
+  record { keys = is.keys; head = is.head; text = is.text; is_order = is.sendable.is_order; is = refl },
 )
 
-pub forms_give_their_orders : TheDayDeciphersItself → TextsTellFirstParts → FormsGiveTheirOrders
-forms_give_their_orders decipher tell s order form given legal is due =
+pub forms_give_their_orders : TheDayDeciphersItself → FormsGiveTheirOrders
+forms_give_their_orders decipher s order form given legal is due =
     let letters : List ℕ = text_letters s is.text in
     let sent : List ℕ = sent_letters s letters in
-    let same = one_order s order is.keys due.keys is.sent.head due.head is.text due.text tell is.sent.is_order due.is_order in
+    let order_is = is.sendable.is_order in
+    let same = one_order s order is.keys due.keys is.head due.head is.text due.text order_is due.is_order in
     let back : AreGivenBack s 1 (length is.keys) (length is.keys) (pieces (part_size s) letters) form =
-    parts_are_given_back s 1 (length is.keys) is.keys (pieces (part_size s) letters) form decipher legal is.sent.is_order.is_head.of_the_day is.sent.suited
-    (are_pieces s letters (text_letters_within s is.text)) (omega arith) (omega arith) is.sent.is_order.is_head.few is.made in
+    parts_are_given_back s 1 (length is.keys) is.keys (pieces (part_size s) letters) form decipher legal
+    (all_of_the_day _ s is.keys is.head order_is.is_head.lines) is.sendable.suited
+    (are_pieces s letters (text_letters_within s is.text)) (omega arith) (omega arith) order_is.is_head.few is.made in
     record {
       parts = back.texts;
       letters = sent;
-      some = some_parts s letters back.texts is.sent.some (back.counted ∙ sym is.sent.counted);
+      some = some_parts s letters back.texts is.some (back.counted ∙ sym is.counted);
       read = record { cut = back.cut; read = rw back.counted (subst (ArePartsRead s 1 (length is.keys) back.texts) (sent_pieces s letters) back.read) };
-      is = due.is ∙ ap (λ t. given_text s (sent_letters s (text_letters s t))) (sym same.text_is);
+      is = due.is ∙ ap (λ t. given_text s (sent_letters s (text_letters s t))) (sym same.2);
     }

@@ -1,5 +1,6 @@
 -- Forms to which bytes are added.
-use Rattle.kd_form.proofs.Prelude.{[], rules, ◌≡◌, ◌≢◌, inl, inr, ℕ, ◌+◌, ◌-◌, ◌≤◌, ◌<◌, List, ◌∷◌, ◌++◌, length, take, drop, get_or, refl, sym, ap, subst, ◌∙◌, append_assoc, length-append, length-drop, arith, codes, IsTrue, ◌==◌, get_or-append, get_or-append_seam, take-append_seam, cases_lt, append-nil, drop_more, take-append-le, drop-append-le, take-append-drop, All-get_or, Day, IsWithout, BeginsHeading, IsFirstOf, AreFirstParts, Turn, MayBegin}
+use Rattle.kd_form.proofs.Prelude.{[], rules, ◌≡◌, ◌≢◌, inl, inr, ℕ, ◌+◌, ◌-◌, ◌≤◌, ◌<◌, List, ◌∷◌, ◌++◌, length, take, drop, get_or, refl, sym, ap, subst, ◌∙◌, append_assoc, length-append, length-drop, arith, codes, IsTrue, ◌==◌, get_or-append, get_or-append_seam, take-append_seam, cases_lt, append-nil, drop_more, take_more, take-append-le, drop-append-le, take-append-drop, All-get_or, Day, IsWithout, BeginsHeading, IsFirstOf, AreFirstParts, Turn, MayBegin}
+use Rattle.std.proofs.lemmas.List.{same_from_push}
 use Rattle.kd_form.proofs.Plain.{head_unbroken, nothing_more, whole_line}
 use Rattle.kd_form.proofs.OneOrder.{Shorter, Longer, fronts}
 use Rattle.kd_form.proofs.Headings.{has_byte}
@@ -17,11 +18,9 @@ begins_more bytes more begins = grind arith
 
 -- its first six bytes tell
 pub begins_front : (bytes more : List ℕ) → 6 ≤ length bytes → BeginsHeading (bytes ++ more) → BeginsHeading bytes
-begins_front bytes more long begins = elim (fronts bytes more (codes "PART " ++ begins.digit ∷ []) begins.rest begins.is) [
-  | Shorter [] longer left ↦ record { digit = begins.digit; rest = []; is = sym (longer ∙ append-nil bytes); low = begins.low; high = begins.high }
-  | Shorter (x ∷ beyond) longer left ↦ absurd (omega (arith, ap length longer, length-append bytes (x ∷ beyond)))
-  | Longer x beyond longer left ↦ record { digit = begins.digit; rest = x ∷ beyond; is = longer; low = begins.low; high = begins.high }
-]
+begins_front (a ∷ b ∷ c ∷ d ∷ e ∷ f ∷ bytes) more long begins =
+    record { digit = begins.digit; rest = bytes; is = cc (begins.is); low = begins.low; high = begins.high }
+begins_front _ more long begins = absurd (omega arith)
 
 -- ---- the first part of more bytes
 
@@ -79,28 +78,39 @@ last_whole s form t last = grind (arith, last_rest, append-nil {A = ℕ})
 pub all_follow : (part : List ℕ) (byte : ℕ) → 6 ≤ length part → MayBegin part → MayBegin (part ++ byte ∷ [])
 all_follow part byte long may = ([], subst BeginsHeading (sym (append-nil (part ++ byte ∷ []))) (begins_more part (byte ∷ []) (begins_front part may.0 long may.1)))
 
+-- fewer than six bytes may begin a heading exactly if they are its first ones
+pub few_begin : (bytes : List ℕ) → length bytes ≤ 5 → MayBegin bytes → bytes ≡ take (length bytes) (codes "PART ")
+few_begin bytes few (more, begins) = sym (take-append_seam bytes more) ∙ ap (take (length bytes)) begins.is
+    ∙ take-append-le (length bytes) (codes "PART ") (begins.digit ∷ begins.rest) few
+
+may_begin : (bytes : List ℕ) → bytes ≡ take (length bytes) (codes "PART ") → MayBegin bytes
+may_begin bytes is =
+    let left : List ℕ = drop (length bytes) (codes "PART ") in (
+      left ++ codes "0",
+      record {
+        digit = 48;
+        rest = [];
+        is = cc (append_assoc bytes left (codes "0"), take-append-drop (length bytes) (codes "PART "), is);
+        low = omega arith;
+        high = omega arith;
+      },
+    )
+
 -- where the bytes may begin a heading, this byte may follow them exactly if it is the one that is due
 pub due_told : (part line : List ℕ) (byte due : ℕ) → line ≡ take 64 part → MayBegin part → (length line < 5) × (due ≡ get_or (codes "PART ") (length line) 0)
     → (IsTrue (byte == due) → MayBegin (part ++ byte ∷ [])) × (MayBegin (part ++ byte ∷ []) → IsTrue (byte == due))
 due_told part line byte due kept may (few, is) =
     let whole : line ≡ part = whole_line part line kept (omega arith) in
     let n : ℕ = length part in
-    let few : n < 5 = omega (arith, ap length whole) in
-    let head : List ℕ = codes "PART 0" in
-    let front : part ≡ take n head =
-    sym (take-append_seam part may.0) ∙ ap (take n) may.1.is ∙ take-append-le n (codes "PART ") (may.1.digit ∷ may.1.rest) (omega arith)
-    ∙ sym (take-append-le n (codes "PART ") (codes "0") (omega arith)) in
-    let here : due ≡ get_or head n 0 = is ∙ ap (λ (l : List ℕ). get_or (codes "PART ") (length l) 0) whole ∙ sym (get_or-append (codes "PART ") (codes "0") 0 n (omega arith)) in (
-      λ told.
-          let same : byte ≡ due = search rules in
-          let joined : (part ++ byte ∷ []) ++ drop (n + 1) head ≡ head =
-          cc (append_assoc part (byte ∷ []) (drop (n + 1) head), drop_more head n 0 (omega arith), take-append-drop n head, front, here, same) in
-          (drop (n + 1) head, record { digit = 48; rest = []; is = joined; low = omega arith; high = omega arith }),
+    let below : n < 5 = omega (arith, ap length whole) in
+    let size : length (part ++ byte ∷ []) ≡ n + 1 = length-append part (byte ∷ []) in
+    let next : take (n + 1) (codes "PART ") ≡ part ++ due ∷ [] =
+    cc (take_more (codes "PART ") n 0 below, few_begin part (omega (arith, below)) may, is, whole) in (
+      λ told. may_begin (part ++ byte ∷ []) (let same : byte ≡ due = search rules in cc (size, next)),
       λ then_may.
-          let same : byte ≡ due =
-          sym (ap (λ l. get_or l n 0) (append_assoc part (byte ∷ []) then_may.0) ∙ get_or-append_seam part byte then_may.0 0)
-          ∙ ap (λ l. get_or l n 0) then_may.1.is ∙ get_or-append (codes "PART ") (then_may.1.digit ∷ then_may.1.rest) 0 n (omega arith)
-          ∙ sym (get_or-append (codes "PART ") (codes "0") 0 n (omega arith)) ∙ sym here in
+          let all = few_begin (part ++ byte ∷ []) (omega (arith, size, below)) then_may in
+          let both = same_from_push part part byte due (all ∙ ap (λ k. take k (codes "PART ")) size ∙ next) in
+          let same : byte ≡ due = both.1 in
           search rules,
     )
 
@@ -124,13 +134,8 @@ same_last front tail other end without also same = elim (fronts front (10 ∷ ta
 
 -- five bytes and one more that begin a heading
 last_digit : (bytes : List ℕ) (byte : ℕ) → length bytes < 6 → BeginsHeading (bytes ++ byte ∷ []) → (bytes ≡ codes "PART ") × (48 ≤ byte) × (byte ≤ 57)
-last_digit bytes byte few begins = elim (fronts bytes (byte ∷ []) (codes "PART ") (begins.digit ∷ begins.rest) begins.is) [
-  | Shorter [] longer left ↦
-      let same : begins.digit ≡ byte = ap (λ l. get_or l 0 0) (sym left) in
-      (sym (longer ∙ append-nil bytes), subst (λ x. 48 ≤ x) same begins.low, subst (λ x. x ≤ 57) same begins.high)
-  | Shorter (x ∷ beyond) longer left ↦ absurd (omega (arith, ap length left, length-append (x ∷ beyond) (begins.digit ∷ begins.rest)))
-  | Longer x beyond longer left ↦ absurd (omega (arith, ap length longer))
-]
+last_digit (a ∷ b ∷ c ∷ d ∷ e ∷ []) byte few begins = grind arith
+last_digit _ byte few begins = absurd (omega (arith, ap length begins.is))
 
 -- no heading begins in the last line, unless a digit stands behind its five bytes
 pub first_more : (bytes front tail : List ℕ) (byte : ℕ) → IsFirstOf bytes bytes [] → bytes ≡ front ++ 10 ∷ tail → IsWithout 10 tail
@@ -148,24 +153,21 @@ first_more bytes front tail byte first lines unbroken not = whole_part (bytes ++
     ])
 
 -- the digit of a heading ends the part before it
-pub first_ends : (bytes part front : List ℕ) (digit : ℕ) → IsFirstOf bytes bytes [] → bytes ≡ part ++ codes "PART " → part ≡ front ++ 10 ∷ []
-    → 48 ≤ digit → digit ≤ 57 → IsFirstOf (bytes ++ digit ∷ []) part (codes "PART " ++ digit ∷ [])
+pub first_ends : (bytes part front : List ℕ) (digit : ℕ) → IsFirstOf bytes bytes [] → bytes ≡ part ++ codes "PART "
+    → part ≡ front ++ 10 ∷ [] → 48 ≤ digit → digit ≤ 57
+    → IsFirstOf (bytes ++ digit ∷ []) part (codes "PART " ++ digit ∷ [])
 first_ends bytes part front digit first split broken low high =
+    let begun : List ℕ = codes "PART " ++ digit ∷ [] in
     let size : length bytes ≡ length part + 5 = ap length split ∙ length-append part (codes "PART ") in
-    let some : length part ≡ length front + 1 = ap length broken ∙ length-append front (10 ∷ []) in
-    let last : length part - 1 ≡ length front = omega arith in
+    let last : length part - 1 ≡ length front = omega (arith, ap length broken, length-append front (10 ∷ [])) in
+    let joined : bytes ++ digit ∷ [] ≡ part ++ begun = cc (split, append_assoc part (codes "PART ") (digit ∷ [])) in
+    let whole : bytes ++ digit ∷ [] ≡ front ++ 10 ∷ begun = cc (joined, broken, append_assoc front (10 ∷ []) begun) in
     record {
-      joined = ap (λ l. l ++ digit ∷ []) split ∙ append_assoc part (codes "PART ") (digit ∷ []);
-      whole = λ place below. none_more bytes bytes [] (digit ∷ []) place first (omega (arith, size, below)) (omega (arith, size, below));
+      joined = joined;
+      whole = λ place below.
+          none_more bytes bytes [] (digit ∷ []) place first (omega (arith, size, below)) (omega (arith, size, below));
       ends = inr (
-        cc (
-          last,
-          split,
-          broken,
-          append_assoc front (10 ∷ []) (codes "PART "),
-          append_assoc front (10 ∷ codes "PART ") (digit ∷ []),
-          get_or-append_seam front 10 (codes "PART " ++ digit ∷ []) 0,
-        ),
+        cc (last, whole, get_or-append_seam front 10 begun 0),
         record { digit = digit; rest = []; is = refl; low = low; high = high },
       );
     }

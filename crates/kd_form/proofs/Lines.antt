@@ -1,137 +1,103 @@
 -- The lines of an order up to its text.
-use Rattle.std.proofs.lemmas.Grind.{common_steps}
-use Rattle.kd_form.proofs.Prelude.{◌≡◌, ◌≢◌, ℕ, zero, suc, ◌+◌, ◌<◌, ◌≤◌, inl, inr, Bool, true, false, List, [], ◌∷◌, ◌++◌, length, get_or, take, drop, replicate, refl, sym, ap, subst, ◌∙◌, append_assoc, length-append, length-drop, arith, ◌==◌, nat_lt, All, codes, get_or-append, AllWithin, nat_tests, cases_Bool, get_or-take, drop_all, take_more, take-append-drop, length-replicate, take_all, get_or_default, length-take-le, append-nil, drop_more, All-append, All-cons, All-nil, All-tail, All-replicate, All-take, All-drop, All-push, Unread, IsEnded, IsKeyLine, AreKeyLines, IsHead, filled_in, blanks, fits, letters_at, IsFilledLine, IsPatternLine, BreaksOff, letters_text, line_of, IsWithout, TextsTellFirstParts, Day, OfRotors, OfPins, Keys, Rotor, Pin, key_words, AreKeys, ArePinKeys, places_for, rotor_pattern, key_pattern, key_letters, IsAnyKeyLine, FormFault, Suits, IsKeysFault, IsFirstKeysFault}
+use Rattle.kd_form.proofs.Prelude.{common_steps, ◌≡◌, ◌≢◌, ℕ, zero, suc, ◌+◌, ◌<◌, ◌≤◌, inl, inr, Bool, true, false, List, [], ◌∷◌, ◌++◌, length, get_or, take, drop, replicate, refl, sym, ap, subst, ◌∙◌, append_assoc, length-append, length-drop, arith, ◌==◌, if◌then◌else◌, nat_lt, All, codes, get_or-append, AllWithin, nat_tests, cases_Bool, get_or-take, drop_all, take_more, take-append-drop, length-replicate, take_all, get_or_default, length-take-le, append-nil, drop_more, All-append, All-cons, All-nil, All-tail, All-replicate, All-take, All-drop, All-push, Unread, IsEnded, IsKeyLine, filled_in, blanks, fits, letters_at, IsFilledLine, IsPatternLine, BreaksOff, letters_text, line_of, IsWithout, Day, OfRotors, OfPins, Keys, Rotor, Pin, key_words, AreKeys, ArePinKeys, places_for, rotor_pattern, key_pattern, key_letters, IsAnyKeyLine, FormFault, Suits, IsKeysFault, IsFirstKeysFault, BeginsWithKeys, nil_from_length, All-head, false≢true}
 use Rattle.kd_state.specs.Machine.{AreLetters}
 use Rattle.kd_form.specs.declared.pattern_line.Unread.TheVariants.{Open, Off}
 use Rattle.kd_form.proofs.Ciphers.{letter_read}
-use Rattle.kd_form.proofs.Plain.{IsPlain, plain_keys, same_sized, same_front}
+use Rattle.kd_form.proofs.Plain.{IsPlain, plain_keys, same_front}
 
 -- -------- lines of a pattern, mark by mark
-
--- ---- each byte of a line fits its mark
 
 pub length-filled : (pattern letters : List ℕ) → length (filled_in pattern letters) ≡ length pattern
 length-filled [] letters = refl
 length-filled (mark ∷ pattern) letters = grind (arith, length-filled pattern)
 
-filled-fits : (pattern letters : List ℕ) (i : ℕ) → i < length pattern → All (λ l. l < 26) letters
-    → fits (get_or pattern i 0) (get_or (filled_in pattern letters) i 0) ≡ true
-filled-fits [] letters i inside within = absurd (omega arith)
-filled-fits (mark ∷ pattern) letters zero inside within = grind (arith, nat_tests, letter_read letters 0 within)
-filled-fits (mark ∷ pattern) letters (suc i) inside within = grind (arith, filled-fits pattern, All-drop (λ l. l < 26) 1 letters)
+line_more : (mark byte : ℕ) (pattern letters bytes : List ℕ) → fits mark byte ≡ true
+    → IsFilledLine pattern letters bytes
+    → IsFilledLine (mark ∷ pattern) (letters_at mark byte ++ letters) (byte ∷ bytes)
+line_more mark byte pattern letters bytes fit is = grind (arith, nat_tests, cases_Bool, All-cons)
 
--- ---- reading mark by mark
+line_less : (mark byte : ℕ) (pattern letters bytes : List ℕ) → IsFilledLine (mark ∷ pattern) letters (byte ∷ bytes)
+    → (fits mark byte ≡ true) × IsPatternLine pattern bytes
+line_less mark byte pattern letters bytes is = elim (cases_Bool (mark == 95)) [
+  | inl one ↦ (grind (arith, nat_tests), (drop 1 letters, grind (arith, nat_tests, All-drop (λ l. l < 26) 1 letters)))
+  | inr other ↦ (grind (arith, nat_tests), (letters, grind (arith, nat_tests)))
+]
 
--- So far these letters fill the pattern: any letters behind them fill what is left of it.
-pub record IsFilling (pattern bytes : List ℕ) (place : ℕ) (letters : List ℕ) : Type 0 where
-  pub inside : place ≤ length bytes
-  pub counted : length letters + blanks (drop place pattern) ≡ blanks pattern
-  pub within : All (λ l. l < 26) letters
-  pub filled : (more : List ℕ) → filled_in pattern (letters ++ more) ≡ take place bytes ++ filled_in (drop place pattern) more
+no_letters : AreLetters 0 []
+no_letters = record { count = refl; within = All-nil (λ l. l < 26) }
 
-one_letter : (mark byte : ℕ) (pattern : List ℕ) → fits mark byte ≡ true
-    → (length (letters_at mark byte) + blanks pattern ≡ blanks (mark ∷ pattern)) × All (λ l. l < 26) (letters_at mark byte)
-    × ((more : List ℕ) → filled_in (mark ∷ pattern) (letters_at mark byte ++ more) ≡ byte ∷ filled_in pattern more)
-one_letter mark byte pattern fit = grind (arith, cases_Bool, All-cons, All-nil)
+filled_end : (bytes : List ℕ) → IsEnded [] bytes → IsFilledLine [] [] bytes
+filled_end bytes ended = record { are_letters = no_letters; ended = ended }
 
-pub filling_more : (pattern bytes letters more : List ℕ) (place mark byte : ℕ) → IsFilling pattern bytes place letters → place < length pattern → place < length bytes
-    → get_or pattern place 0 ≡ mark → get_or bytes place 0 ≡ byte → fits mark byte ≡ true → more ≡ letters ++ letters_at mark byte
-    → IsFilling pattern bytes (place + 1) more
-filling_more pattern bytes letters more place mark byte filling below inside marked read fit put =
-    let rest : List ℕ = drop (place + 1) pattern in
-    let (counts, within, fills) = one_letter mark byte rest fit in
-    let left : drop place pattern ≡ mark ∷ rest = cc (drop_more pattern place 0 below) in
-    rw put (record {
-      inside = omega arith;
-      counted = omega (arith, length-append letters (letters_at mark byte), filling.counted, counts, ap blanks left);
-      within = All-append (λ l. l < 26) letters (letters_at mark byte) filling.within within;
-      filled = λ after. grind (arith, append_assoc {A = ℕ}, filling.filled (letters_at mark byte ++ after), fills after, take_more bytes place 0 inside);
+-- So far these letters are read: a line goes on as what is left of the pattern does.
+pub record IsReading (pattern bytes marks rest letters : List ℕ) : Type 0 where
+  pub counted : length letters + blanks marks ≡ blanks pattern
+  pub fills : (others more : List ℕ) → IsFilledLine marks others (rest ++ more)
+      → IsFilledLine pattern (letters ++ others) (bytes ++ more)
+  pub leaves : (more : List ℕ) → IsPatternLine pattern (bytes ++ more) → IsPatternLine marks (rest ++ more)
+
+pub reading_none : (pattern bytes : List ℕ) → IsReading pattern bytes pattern bytes []
+reading_none pattern bytes = record { counted = omega arith; fills = λ others more is. is; leaves = λ more line. line }
+
+module _ (pattern bytes marks rest letters : List ℕ) (reading : IsReading pattern bytes marks rest letters) where
+  pub letter_room : (mark : ℕ) (others : List ℕ) → marks ≡ mark ∷ others → blanks pattern ≤ 13 → mark ≡ 95
+      → length letters < 13
+  letter_room mark others next few blank = grind (arith, reading.counted)
+
+  -- the bytes end: a line goes on with the letter A in each place that is left
+  pub line_open : length rest ≡ 0 → BreaksOff (IsPatternLine pattern) bytes Open
+  line_open none =
+      let others : List ℕ = replicate (blanks marks) 0 in
+      let text : List ℕ = filled_in marks others in
+      let line : IsFilledLine pattern (letters ++ others) (bytes ++ (text ++ 10 ∷ [])) =
+      reading.fills others (text ++ 10 ∷ []) (rw (nil_from_length rest none) (record {
+        are_letters = record {
+          count = length-replicate {A = ℕ} (blanks marks) 0;
+          within = All-replicate (λ l. l < 26) (blanks marks) 0 (omega arith);
+        };
+        ended = inl refl;
+      })) in
+      (text ++ 10 ∷ [], λ none. omega (arith, ap length none, length-append text (10 ∷ [])), (letters ++ others, line))
+
+  module _ (mark byte : ℕ) (others after : List ℕ) (next : marks ≡ mark ∷ others) (first : rest ≡ byte ∷ after) where
+    left_over : (tail : List ℕ) → IsPatternLine pattern (bytes ++ tail)
+        → (fits mark byte ≡ true) × IsPatternLine others (after ++ tail)
+    left_over tail line =
+        let (found, is) = rw (next, first) at (reading.leaves tail line) in
+        line_less mark byte others found (after ++ tail) is
+
+    pub reading_more : (more : List ℕ) → fits mark byte ≡ true → more ≡ letters ++ letters_at mark byte
+        → IsReading pattern bytes others after more
+    reading_more more fit put = rw put (record {
+      counted = grind (arith, reading.counted, length-append {A = ℕ});
+      fills = λ left tail is. rw append_assoc (reading.fills (letters_at mark byte ++ left) tail
+          (rw (next, first) (line_more mark byte others left (after ++ tail) fit is)));
+      leaves = λ tail line. (left_over tail line).1;
     })
 
--- ---- where the bytes don't go on as a line
+    -- a byte doesn't fit its mark
+    pub line_off : fits mark byte ≡ false → BreaksOff (IsPatternLine pattern) bytes Off
+    line_off unfit = λ tail line. false≢true (sym unfit ∙ (left_over tail line).0)
 
-pub letter_room : (pattern bytes letters : List ℕ) (place : ℕ) → IsFilling pattern bytes place letters → place < length pattern → blanks pattern ≤ 13
-    → get_or pattern place 0 ≡ 95 → length letters < 13
-letter_room pattern bytes letters place filling below few blank = grind (arith, drop_more)
+  -- the pattern is filled, and this follows
+  module _ (all : length marks ≡ 0) where
+    pub line_read : IsEnded [] rest → IsFilledLine pattern letters bytes
+    line_read ended = rw (append-nil letters, append-nil bytes) at
+        (reading.fills [] [] (rw (nil_from_length marks all, append-nil rest) (filled_end rest ended)))
 
--- the bytes end where the next mark is due: a line goes on with the letter A in each place that is left
-pub line_open : (pattern bytes letters : List ℕ) (place : ℕ) → IsFilling pattern bytes place letters → false ≡ nat_lt place (length bytes)
-    → BreaksOff (IsPatternLine pattern) bytes Open
-line_open pattern bytes letters place filling past =
-    let beyond : length bytes ≤ place = grind (arith, nat_tests) in
-    let others : List ℕ = replicate (blanks (drop place pattern)) 0 in
-    let rest : List ℕ = filled_in (drop place pattern) others in
-    let line : filled_in pattern (letters ++ others) ≡ bytes ++ rest = filling.filled others ∙ ap (λ b. b ++ rest) (take_all place bytes beyond) in (
-      rest ++ 10 ∷ [],
-      λ none. omega (arith, ap length none, length-append rest (10 ∷ [])),
-      record {
-        letters = letters ++ others;
-        are_letters = record {
-          count = omega (arith, length-append letters others, length-replicate {A = ℕ} (blanks (drop place pattern)) 0, filling.counted);
-          within = All-append (λ l. l < 26) letters others filling.within (All-replicate (λ l. l < 26) (blanks (drop place pattern)) 0 (omega arith));
-        };
-        ended = inl (sym (append_assoc bytes rest (10 ∷ [])) ∙ ap (λ t. t ++ 10 ∷ []) (sym line));
-      },
-    )
-
--- ---- the end of a line
-
-ended_tail : (text line : List ℕ) → IsEnded text line → (tail : List ℕ) × IsEnded [] tail × (line ≡ text ++ tail)
-ended_tail text line ended = grind arith
-
-line_fits : (pattern line : List ℕ) (i : ℕ) → i < length pattern → IsPatternLine pattern line → fits (get_or pattern i 0) (get_or line i 0) ≡ true
-line_fits pattern line i inside is =
-    let text : List ℕ = filled_in pattern is.letters in
-    let (tail, ended, joined) = ended_tail text line is.ended in
-    rw (joined, get_or-append text tail 0 i (omega (arith, length-filled pattern is.letters))) (filled-fits pattern is.letters i inside is.are_letters.within)
-
--- a byte doesn't fit its mark
-pub line_off : (pattern bytes : List ℕ) (place : ℕ) → place < length pattern → place < length bytes
-    → fits (get_or pattern place 0) (get_or bytes place 0) ≡ false → BreaksOff (IsPatternLine pattern) bytes Off
-line_off pattern bytes place below inside unfit = λ more line. grind (arith, get_or-append {A = ℕ}, line_fits pattern (bytes ++ more) place below line)
-
--- the pattern is filled, and this follows
-module _ (pattern bytes letters tail : List ℕ) (place : ℕ) (filling : IsFilling pattern bytes place letters) (all : place ≡ length pattern)
-    (cut : tail ≡ drop (length pattern) bytes) where
-  none_left : drop place pattern ≡ []
-  none_left = drop_all place pattern (omega arith)
-
-  line_with : (more : List ℕ) → bytes ++ more ≡ filled_in pattern letters ++ (tail ++ more)
-  line_with more = grind (arith, append_assoc {A = ℕ}, take-append-drop place bytes, filling.filled [], none_left, append-nil {A = ℕ})
-
-  line_ends : (more : List ℕ) → IsEnded [] (tail ++ more) → IsFilledLine pattern letters (bytes ++ more)
-  line_ends more ended = record {
-    are_letters = record { count = omega (arith, filling.counted, ap blanks none_left); within = filling.within };
-    ended = rw (line_with more) (grind arith);
-  }
-
-  pub line_read : IsEnded [] tail → IsFilledLine pattern letters bytes
-  line_read ended = subst (IsFilledLine pattern letters) (append-nil bytes) (line_ends [] (rw (append-nil tail) ended))
-
-  pub line_broken : (why : Unread) → BreaksOff (IsEnded []) tail why → BreaksOff (IsPatternLine pattern) bytes why
-  line_broken Open (more, some, ended) = grind (arith, line_ends more ended)
-  line_broken Off none = λ more is.
-      let (end, ended, joined) = ended_tail (filled_in pattern is.letters) (bytes ++ more) is.ended in
-      let same = same_sized (filled_in pattern letters) (filled_in pattern is.letters) (tail ++ more) end
-      (length-filled pattern letters ∙ sym (length-filled pattern is.letters)) (sym (line_with more) ∙ joined) in
-      none more (rw (same.1) ended)
+    pub line_broken : (why : Unread) → BreaksOff (IsEnded []) rest why → BreaksOff (IsPatternLine pattern) bytes why
+    line_broken Open (more, some, ended) =
+        let line = reading.fills [] more (rw (nil_from_length marks all) (filled_end (rest ++ more) ended)) in
+        (more, some, (letters ++ [], line))
+    line_broken Off none = λ more line. none more (rw (nil_from_length marks all) at (reading.leaves more line)).1.ended
 
 -- of the end nothing is there, or its CR
 pub end_open : (bytes : List ℕ) → length bytes < 2 → (1 ≤ length bytes → get_or bytes 0 0 ≡ 13) → BreaksOff (IsEnded []) bytes Open
 end_open [] few first = (10 ∷ [], (λ none. cc), inl refl)
-end_open (a ∷ []) few first = let same : a ≡ 13 = first (omega arith) in (10 ∷ [], (λ none. cc), inr cc)
-end_open (a ∷ b ∷ bytes) few first = absurd (omega arith)
+end_open (a ∷ bytes) few first = (10 ∷ [], (λ none. cc), inr (grind (arith, nil_from_length bytes)))
 
 pub end_off : (bytes more : List ℕ) → 3 ≤ length bytes → ¬ (IsEnded [] (bytes ++ more))
 end_off bytes more long ended = grind (arith, length-append {A = ℕ})
-
--- ---- what a read tells
-
-pub read_inside : (bytes : List ℕ) (place : ℕ) → true ≡ nat_lt place (length bytes) → place < length bytes
-read_inside bytes place inside = grind (arith, nat_tests)
-
-pub read_at : (bytes : List ℕ) (place byte : ℕ) → true ≡ nat_lt place (length bytes) → byte ≡ get_or bytes place byte → get_or bytes place 0 ≡ byte
-read_at bytes place byte inside is = get_or_default bytes place 0 byte (read_inside bytes place inside) ∙ sym is
 
 -- -------- lines of keys, as forms with letters
 
@@ -163,56 +129,48 @@ rotor_blanks : (slots : ℕ) → blanks (rotor_pattern slots) ≡ slots + (slots
 rotor_blanks slots = grind (arith, blanks-places)
 
 letters_joined : {m n : ℕ} {one other : List ℕ} → AreLetters m one → AreLetters n other → AreLetters (m + n) (one ++ other)
-letters_joined {one = one} {other = other} a b = record {
-  count = omega (arith, length-append one other, a.count, b.count);
-  within = All-append (λ l. l < 26) one other a.within b.within;
-}
+letters_joined {one = one} {other = other} a b =
+    grind (arith, length-append one other, All-append (λ l. l < 26) one other)
 
 letters_cut : (m n : ℕ) (letters : List ℕ) → AreLetters (m + n) letters → AreLetters m (take m letters) × AreLetters n (drop m letters)
-letters_cut m n letters are = (
-  record { count = length-take-le m letters (omega (arith, are.count)); within = All-take (λ l. l < 26) m letters are.within },
-  record { count = omega (arith, length-drop m letters, are.count); within = All-drop (λ l. l < 26) m letters are.within },
-)
+letters_cut m n letters are =
+    let few : (ℕ → Type 0) = λ l. l < 26 in
+    grind (arith, length-take-le m letters, length-drop m letters, All-take few m letters, All-drop few m letters)
 
 -- ---- any letters make keys
 
-keys_exist : (s : Day) (letters : List ℕ) → AreLetters (blanks (key_pattern s)) letters → (k : Keys) × AreKeys s k × (key_letters k ≡ letters)
+keys_exist : (s : Day) (letters : List ℕ) → AreLetters (blanks (key_pattern s)) letters
+    → (k : Keys) × AreKeys s k × (key_letters k ≡ letters)
 keys_exist (OfRotors s) letters are =
     let slots : ℕ = length s.wheels in
-    let others : List ℕ = drop slots letters in
-    let last : List ℕ = drop slots others in
-    let one = letters_cut slots (slots + (2 + 3)) letters (rw (rotor_blanks slots) at are) in
-    let two = letters_cut slots (2 + 3) others one.1 in
-    let three = letters_cut 2 3 last two.1 in (
-      Rotor (record { start = take slots letters; key = take slots others; fillers = take 2 last; group = drop 2 last }),
-      record { start = one.0; key = two.0; fillers = three.0; group = three.1 },
-      simp take-append-drop,
-    )
+    let (start, others) = letters_cut slots (slots + (2 + 3)) letters (rw (rotor_blanks slots) at are) in
+    let (key, last) = letters_cut slots (2 + 3) (drop slots letters) others in
+    let (fillers, group) = letters_cut 2 3 (drop slots (drop slots letters)) last in
+    (Rotor _, record { start = start; key = key; fillers = fillers; group = group }, simp take-append-drop)
 keys_exist (OfPins s) [] are = absurd (omega (arith, are.count))
 keys_exist (OfPins s) (l ∷ letters) are =
-    let known : ArePinKeys (record { chosen = l; external = letters }) =
-    record { chosen = letter_read (l ∷ letters) 0 are.within; external = (letters_cut 1 6 (l ∷ letters) are).1 } in
-    (Pin (record { chosen = l; external = letters }), known, refl)
+    let (one, external) = letters_cut 1 6 (l ∷ letters) are in
+    let chosen = letter_read (l ∷ letters) 0 are.within in
+    (Pin (record { chosen = l; external = letters }), record { chosen = chosen; external = external }, refl)
 
 pub as_key_line : (s : Day) (line : List ℕ) → IsPatternLine (key_pattern s) line → IsAnyKeyLine s line
 as_key_line s line is =
-    let made = keys_exist s is.letters is.are_letters in
-    record {
-      keys = made.0;
-      of_the_day = made.1;
-      keyed = subst (λ text. IsEnded text line) (ap (filled_in (key_pattern s)) (sym made.2) ∙ key_line s made.0 made.1) is.ended;
-    }
+    let (keys, are, same) = keys_exist s is.0 is.1.are_letters in
+    record { keys = keys; of_the_day = are; keyed = rw (key_line s keys are) at (rw (← same) at is.1.ended) }
 
 pub as_form_line : (s : Day) (line : List ℕ) → IsAnyKeyLine s line → IsPatternLine (key_pattern s) line
-as_form_line s line is = record {
-  letters = key_letters is.keys;
-  are_letters = grind (arith, rotor_blanks, letters_joined, All-cons);
-  ended = subst (λ text. IsEnded text line) (sym (key_line s is.keys is.of_the_day)) is.keyed;
-}
+as_form_line s line is = (
+  key_letters is.keys,
+  record {
+    are_letters = grind (arith, rotor_blanks, letters_joined, All-cons);
+    ended = subst (λ text. IsEnded text line) (sym (key_line s is.keys is.of_the_day)) is.keyed;
+  },
+)
 
-pub breaks_alike : {P Q : List ℕ → Type 0} (bytes : List ℕ) (why : Unread) → ((line : List ℕ) → P line → Q line) → ((line : List ℕ) → Q line → P line)
-    → BreaksOff P bytes why → BreaksOff Q bytes why
-breaks_alike bytes why to back broken = grind arith
+pub keys_broken : (s : Day) (bytes : List ℕ) (why : Unread) → BreaksOff (IsPatternLine (key_pattern s)) bytes why
+    → BreaksOff (IsAnyKeyLine s) bytes why
+keys_broken s bytes Open (more, some, line) = (more, some, as_key_line s (bytes ++ more) line)
+keys_broken s bytes Off none = λ more line. none more (as_form_line s (bytes ++ more) line)
 
 pub keys_read : (s : Day) (bytes letters : List ℕ) (k : Keys) → IsFilledLine (key_pattern s) letters bytes → key_letters k ≡ letters → AreKeys s k
     → AreKeys s k × IsKeyLine k bytes
@@ -220,26 +178,22 @@ keys_read s bytes letters k filled told are = grind (arith, key_line)
 
 -- -------- keys that suit the day, and those that don't
 
--- ---- one part after another
-
-pub record AreSuited (s : Day) (keys : List Keys) (part index : ℕ) : Type 0 where
-  pub counted : part ≡ index + 1
-  pub suited : AllWithin (Suits s) keys 0 index
-
-pub unsuited : (s : Day) (keys : List Keys) (part index : ℕ) (k : Keys) (fault : FormFault) → index < length keys → get_or keys index k ≡ k
-    → AreSuited s keys part index → IsKeysFault s part k fault → IsFirstKeysFault s keys fault
-unsuited s keys part index k fault inside is before found =
-    let number : part ≡ length (take index keys) + 1 = omega (arith, before.counted, length-take-le index keys (omega arith)) in
+pub unsuited : (s : Day) (keys : List Keys) (index : ℕ) (k : Keys) (fault : FormFault) → index < length keys
+    → get_or keys index k ≡ k → AllWithin (Suits s) keys 0 index → IsKeysFault s (index + 1) k fault
+    → IsFirstKeysFault s keys fault
+unsuited s keys index k fault inside is before found =
+    let size : length (take index keys) ≡ index = length-take-le index keys (omega arith) in
     record {
       before = take index keys;
       unsuited = k;
       others = drop (index + 1) keys;
-      joined = sym (take-append-drop index keys) ∙ ap (λ ks. take index keys ++ ks) (drop_more keys index k inside ∙ ap (λ x. x ∷ drop (index + 1) keys) is);
-      suited = λ k d below. subst (Suits s) (sym (get_or-take index keys k d (omega (arith, number)))) (before.suited k d (omega arith) (omega (arith, number)));
-      is = subst (λ n. IsKeysFault s n k fault) number found;
+      joined = cc (take-append-drop index keys, drop_more keys index k inside, is);
+      suited = λ i d below.
+          rw (get_or-take index keys i d (omega (arith, size))) (before i d (omega arith) (omega (arith, size)));
+      is = rw size found;
     }
 
--- -------- an order up to its text, line by line
+-- -------- lines of keys, and what follows them
 
 -- ---- one line
 
@@ -259,6 +213,9 @@ up_to_break text line unbroken ended = elim ended [
   }
 ]
 
+ended_tail : (text line : List ℕ) → IsEnded text line → (tail : List ℕ) × IsEnded [] tail × (line ≡ text ++ tail)
+ended_tail text line ended = grind arith
+
 -- the line is told by the bytes that it begins, and so are its words and what follows it
 pub same_line : (text other line end rest more : List ℕ) → IsPlain text → IsPlain other → IsEnded text line → IsEnded other end
     → line ++ rest ≡ end ++ more → (text ≡ other) × (line ≡ end) × (rest ≡ more)
@@ -272,72 +229,27 @@ same_line text other line end rest more one two a b same =
 pub key_first : (k : Keys) (line more : List ℕ) → IsKeyLine k line → get_or (line ++ more) 0 0 ≡ 80
 key_first k line more ended = grind arith
 
-pub text_first : (last : List ℕ) → IsEnded (codes "TEXT") last → get_or last 0 0 ≡ 84
-text_first last ended = elim ended [ inl short ↦ ap (λ l. get_or l 0 0) short | inr long ↦ ap (λ l. get_or l 0 0) long ]
-
 pub text_front : (last text : List ℕ) → IsEnded (codes "TEXT") last → get_or (last ++ text) 0 0 ≡ 84
-text_front last text ended = elim ended [ inl short ↦ ap (λ l. get_or (l ++ text) 0 0) short | inr long ↦ ap (λ l. get_or (l ++ text) 0 0) long ]
-
--- ---- heads that begin with a line
-
--- the first byte of a head tells whether a line of keys comes first
-pub key_line_first : (s : Day) (k : Keys) (others : List Keys) (bytes : List ℕ) → IsHead s (k ∷ others) bytes → get_or bytes 0 0 ≡ 80
-key_line_first s k others bytes head = grind (arith, key_first, append_assoc {A = ℕ})
-
-pub text_only : (s : Day) (bytes : List ℕ) → IsHead s [] bytes → IsEnded (codes "TEXT") bytes
-text_only s bytes head = subst (IsEnded (codes "TEXT")) (sym (head.joined ∙ ap (λ l. l ++ head.last) head.keyed)) head.ended
-
-pub without_line : (s : Day) (k : Keys) (line more : List ℕ) (others : List Keys) → TextsTellFirstParts → IsKeyLine k line → IsHead s others (line ++ more)
-    → (after : List Keys) × IsHead s after more × (length others ≡ suc (length after))
-without_line s k line more [] tell ended head = grind (arith, key_first, text_first, text_only)
-without_line s k line more (other ∷ others) tell ended head =
-    let first = head.keyed in
-    let same : line ++ more ≡ first.0 ++ (first.1 ++ head.last) = head.joined ∙ ap (λ l. l ++ head.last) first.4 ∙ append_assoc first.0 first.1 head.last in (
-      others,
-      record {
-        lines = first.1;
-        last = head.last;
-        joined = (same_line _ _ line first.0 more (first.1 ++ head.last) (plain_keys k) (plain_keys other) ended first.2 same).2;
-        keyed = first.3;
-        ended = head.ended;
-        of_the_day = All-tail (AreKeys s) other others head.of_the_day;
-        few = omega (arith, head.few);
-      },
-      refl,
-    )
+text_front last text ended = elim ended [
+  | inl short ↦ ap (λ l. get_or (l ++ text) 0 0) short
+  | inr long ↦ ap (λ l. get_or (l ++ text) 0 0) long
+]
 
 -- ---- line after line
 
-pub lines_more : (keys : List Keys) (k : Keys) (lines line : List ℕ) → AreKeyLines keys lines → IsKeyLine k line → AreKeyLines (keys ++ k ∷ []) (lines ++ line)
-lines_more [] k lines line keyed ended = grind (arith, append-nil)
-lines_more (first ∷ keys) k lines line (one, others, is, more, joined) ended =
-    (one, others ++ line, is, lines_more keys k others line more ended, ap (λ l. l ++ line) joined ∙ append_assoc one others line)
+module _ {P : List ℕ → Type 0} (Q : List ℕ → Type 0) (s : Day) (more : List ℕ) where
+  -- with more bytes the lines may be followed by other ones
+  pub lines_more : (keys others : List Keys) (bytes : List ℕ)
+      → ((rest : List ℕ) → P rest → BeginsWithKeys s others Q (rest ++ more))
+      → BeginsWithKeys s keys P bytes → BeginsWithKeys s (keys ++ others) Q (bytes ++ more)
+  lines_more [] others bytes on is = on bytes is
+  lines_more (k ∷ keys) others bytes on (line, rest, are, is, later, joined) =
+      let all = lines_more keys others rest on later in
+      (line, rest ++ more, are, is, all, ap (λ b. b ++ more) joined ∙ append_assoc line rest more)
 
--- ---- where an order goes on
-
-pub some_more : (text more : List ℕ) → text ≢ [] → text ++ more ≢ []
-some_more [] more some none = some refl
-some_more (x ∷ text) more some none = absurd (let gone : length (x ∷ (text ++ more)) ≡ 0 = ap length none in omega arith)
-
-pub front_byte : (before after other : List ℕ) (byte : ℕ) → get_or (before ++ byte ∷ after) 0 0 ≡ get_or (before ++ byte ∷ other) 0 0
-front_byte before after other byte = grind (arith, common_steps)
+  pub lines_then : (keys : List Keys) (bytes : List ℕ) → ((rest : List ℕ) → P rest → Q (rest ++ more))
+      → BeginsWithKeys s keys P bytes → BeginsWithKeys s keys Q (bytes ++ more)
+  lines_then keys bytes on is = rw (append-nil keys) at (lines_more keys [] bytes on is)
 
 pub text_line : (last : List ℕ) → IsEnded (codes "TEXT") last → IsPatternLine (codes "TEXT") last
-text_line last ended = record { letters = []; are_letters = record { count = refl; within = All-nil (λ l. l < 26) }; ended = ended }
-
-pub keys_begin : (s : Day) (k : Keys) (keys : List Keys) (lines before more : List ℕ) → length keys < 99 → AreKeyLines keys lines → All (AreKeys s) keys
-    → AreKeys s k → IsKeyLine k (before ++ more) → IsHead s (keys ++ k ∷ []) ((lines ++ before) ++ (more ++ codes "TEXT\n"))
-keys_begin s k keys lines before more room keyed all are ended = record {
-  lines = lines ++ (before ++ more);
-  last = codes "TEXT\n";
-  joined = simp append_assoc;
-  keyed = lines_more keys k lines (before ++ more) keyed ended;
-  ended = inl refl;
-  of_the_day = All-push (AreKeys s) keys k all are;
-  few = omega (arith, length-append keys (k ∷ []));
-}
-
--- ---- as the loop finds it
-
-pub room_left : (full : Bool) (n : ℕ) → full ≡ (n == 99) → full ≡ false → n ≤ 99 → n < 99
-room_left full n told left few = grind (arith, nat_tests)
+text_line last ended = ([], record { are_letters = no_letters; ended = ended })

@@ -1,13 +1,9 @@
 -- How a part of a form is made.
-use Rattle.std.proofs.lemmas.Grind.{common_steps}
 use Rattle.kd_form.proofs.Prelude.{[], ◌≡◌, ℕ, ◌+◌, ◌-◌, ◌%◌, ◌<◌, List, ◌∷◌, ◌++◌, length, map, take, drop, refl, sym, ap, ◌∙◌, append_assoc, length-drop, add-one, arith, min, Bool, true, false, subst, ◌≤◌, replicate, length-append, ◌==◌, codes, decimal, Option, Some, None, MatchOption, IsSome, All, option_map, div_ceil, flat_map, join_with_byte, div-eq_of_lt, mod-eq_of_lt, eqb-true, append-nil, take_min, drop_min, length-map, length-replicate, letters_text, Heading, fraction, indicator_words, heading_words, pieces, groups_of, behind_spaces, with_line, body_text, part_text, Part, Day, OfRotors, OfPins, pin_day, RotorDay, PinDay, IsLegalDay, Keys, Rotor, Pin, RotorKeys, PinKeys, Indicator, IsInternalKey, HaveRunOut, Suits, IsMadeText, part_of, indicator_of, rotor_letters, enciphered_choice, pin_letters, list_letters, IsMade, cipher_from, part_size, pin_indicators, filled, sheet_key, IsWindow, take-append_seam, drop-append_seam, HasIndicator, message_key, HasIndicatorsAround, group_in, keys_in, list_in, text_in, IsLettersText, All-append, All-cons, All-replicate, TheDayDeciphersItself, IsFraction, IsHeading, sent_letters, AreKeys}
 use Rattle.std.specs.Simd.{first_chunks}
 use Rattle.kd_form.proofs.Ciphers.{length-cipher_from, letters-cipher_from}
 
 -- -------- letters in groups and lines, piece by piece
-
-pub no_piece : (size : ℕ) → 0 < size → div_ceil 0 size ≡ 0
-no_piece size large = rw (div-eq_of_lt large, mod-eq_of_lt large) refl
 
 pub more_pieces : (size n : ℕ) → 0 < size → 0 < n → div_ceil n size ≡ div_ceil (n - size) size + 1
 more_pieces size n large some = grind arith
@@ -17,75 +13,19 @@ pub pieces-next : (size : ℕ) (letters : List ℕ) → 0 < size → 0 < length 
 pieces-next size letters large some = grind (arith, more_pieces, length-drop {A = ℕ}, add-one)
 
 pub pieces-none : (size : ℕ) → 0 < size → pieces size [] ≡ []
-pieces-none size large = ap (λ n. first_chunks size n []) (no_piece size large)
+pieces-none size large = rw (div-eq_of_lt large, mod-eq_of_lt large) refl
 
-pub line-of_groups : (group : List ℕ) (groups : List (List ℕ)) → join_with_byte 32 (group ∷ groups) ≡ group ++ behind_spaces groups
-line-of_groups group [] = sym (append-nil group)
-line-of_groups group (next ∷ groups) = ap (λ text. group ++ 32 ∷ text) (line-of_groups next groups)
+pub line_of_groups : (group : List ℕ) (groups : List (List ℕ))
+    → join_with_byte 32 (group ∷ groups) ≡ group ++ behind_spaces groups
+line_of_groups group [] = sym (append-nil group)
+line_of_groups group (next ∷ groups) = ap (λ text. group ++ 32 ∷ text) (line_of_groups next groups)
 
--- the first group of the rest, and the others
-pub groups-next : (letters : List ℕ) → 0 < length letters
-    → behind_spaces (groups_of letters) ≡ 32 ∷ (letters_text (take 5 letters) ++ behind_spaces (groups_of (drop 5 letters)))
-groups-next letters some = ap (λ groups. behind_spaces (map letters_text groups)) (pieces-next 5 letters (omega arith) some)
-
-pub groups-none : behind_spaces (groups_of []) ≡ []
-groups-none = ap (λ groups. behind_spaces (map letters_text groups)) (pieces-none 5 (omega arith))
-
--- a whole line
-pub line-first : (letters : List ℕ) → 0 < length letters
-    → with_line (groups_of letters) [] ≡ (letters_text (take 5 letters) ++ behind_spaces (groups_of (drop 5 letters))) ++ 10 ∷ []
-line-first letters some = grind (arith, pieces-next, line-of_groups)
-
--- the first line of the body, and the others
-pub body-next : (letters : List ℕ) → 0 < length letters
-    → body_text letters ≡ with_line (groups_of (take 50 letters)) [] ++ body_text (drop 50 letters)
-body-next letters some = ap (λ lines. flat_map (λ line. with_line (groups_of line) []) lines) (pieces-next 50 letters (omega arith) some)
-
-pub body-none : body_text [] ≡ []
-body-none = ap (λ lines. flat_map (λ line. with_line (groups_of line) []) lines) (pieces-none 50 (omega arith))
-
--- ---- cutting off what there is of a piece
-
-pub fitting-take : (n m : ℕ) (xs : List ℕ) → n ≡ min (length xs) m → take n xs ≡ take m xs
-fitting-take n m xs is = let same : n ≡ min m (length xs) = omega arith in rw same (take_min m xs)
-
-pub fitting-drop : (n m : ℕ) (xs : List ℕ) → n ≡ min (length xs) m → drop n xs ≡ drop m xs
-fitting-drop n m xs is = let same : n ≡ min m (length xs) = omega arith in rw same (drop_min m xs)
-
--- ---- what is written, and what is left to be
-
-pub line_turn : (initial text spaced written rest group after : List ℕ) (k : ℕ) → k ≡ min (length rest) 5 → 0 < length rest
-    → group ≡ take k rest → after ≡ drop k rest → spaced ≡ text ++ 32 ∷ [] → written ≡ spaced ++ letters_text group
-    → text ++ behind_spaces (groups_of rest) ≡ initial → written ++ behind_spaces (groups_of after) ≡ initial
-line_turn initial text spaced written rest group after k is some first others space put before = grind (arith, fitting-take, fitting-drop, groups-next, append_assoc {A = ℕ})
-
-pub line_end : (text begun written whole letters group after rest : List ℕ) (k : ℕ) → k ≡ min (length letters) 5 → 0 < length letters
-    → group ≡ take k letters → after ≡ drop k letters → begun ≡ text ++ letters_text group
-    → written ++ behind_spaces (groups_of rest) ≡ begun ++ behind_spaces (groups_of after) → rest ≡ [] → whole ≡ written ++ 10 ∷ []
-    → whole ≡ text ++ with_line (groups_of letters) []
-line_end text begun written whole letters group after rest k is some first others put before done last = grind (arith, fitting-take, fitting-drop, groups-none, append-nil {A = ℕ}, line-first, append_assoc {A = ℕ})
-
-pub body_turn : (initial text written rest line after : List ℕ) (k : ℕ) → k ≡ min (length rest) 50 → 0 < length rest → line ≡ take k rest
-    → after ≡ drop k rest → written ≡ text ++ with_line (groups_of line) [] → text ++ body_text rest ≡ initial
-    → written ++ body_text after ≡ initial
-body_turn initial text written rest line after k is some first others put before =
-    cc (
-      fitting-take k 50 rest is,
-      fitting-drop k 50 rest is,
-      body-next rest some,
-      append_assoc text (with_line (groups_of (take 50 rest)) []) (body_text (drop 50 rest)),
-    )
-
-pub body_end : (initial text rest : List ℕ) → rest ≡ [] → text ++ body_text rest ≡ initial → text ≡ initial
-body_end initial text rest done before = cc (append-nil text, body-none)
-
--- ---- the test whether anything is left
-
-pub some_left : (empty : Bool) (xs : List ℕ) → empty ≡ (length xs == 0) → empty ≡ false → 0 < length xs
-some_left empty xs told filled = grind arith
-
-pub nothing_left : (empty : Bool) (xs : List ℕ) → empty ≡ (length xs == 0) → empty ≡ true → xs ≡ []
-nothing_left empty xs e d = grind (arith, common_steps, eqb-true)
+pub first_pieces : (size n : ℕ) (letters front rest : List ℕ) → 0 < size → 0 < length letters
+    → n ≡ min (length letters) size → front ≡ take n letters → rest ≡ drop n letters
+    → pieces size letters ≡ front ∷ pieces size rest
+first_pieces size n letters front rest large some is one other =
+    let same : n ≡ min size (length letters) = omega arith in
+    cc (pieces-next size letters large some, same, take_min size letters, drop_min size letters)
 
 -- ---- the line of a heading
 
@@ -93,38 +33,17 @@ pub heading_line : (front whole : List ℕ) (h : Heading)
     → whole ≡ (((((((front ++ codes "PART ") ++ decimal h.part) ++ codes "/") ++ decimal h.parts) ++ codes " ") ++ decimal h.letters)
     ++ behind_spaces (indicator_words h.indicator)) ++ codes "\n"
     → whole ≡ front ++ with_line (heading_words h) []
-heading_line front whole h written = grind (arith, append_assoc {A = ℕ}, line-of_groups)
-
--- -------- what is made of a part, as its text is put together
-
-pub made_of_rotor : (s : Day) (part parts : ℕ) (keys : Keys) (k : RotorKeys) (text letters shown bytes : List ℕ) (indicator : Indicator) → keys ≡ Rotor k
-    → indicator ≡ indicator_of s k → letters ≡ rotor_letters s k text → shown ≡ letters
-    → bytes ≡ part_text (part_of part parts (Some indicator) shown) → IsMadeText s part parts keys text bytes
-made_of_rotor s part parts keys k text letters shown bytes indicator is told made same written =
-    rw is (
-      part_of part parts (Some (indicator_of s k)) (rotor_letters s k text),
-      refl,
-      written ∙ ap (λ i. part_text (part_of part parts (Some i) shown)) told
-          ∙ ap (λ ls. part_text (part_of part parts (Some (indicator_of s k)) ls)) (same ∙ made),
-    )
-
-pub made_of_pin : (s : Day) (part parts : ℕ) (keys : Keys) (k : PinKeys) (text letters shown bytes : List ℕ) → keys ≡ Pin k
-    → (internal : List ℕ) × IsInternalKey (enciphered_choice s k) internal × (letters ≡ pin_letters s k internal text) → shown ≡ letters
-    → bytes ≡ part_text (part_of part parts None shown) → IsMadeText s part parts keys text bytes
-made_of_pin s part parts keys k text letters shown bytes is (internal, first, made) same written =
-    rw is (
-      part_of part parts None (pin_letters s k internal text),
-      (internal, first, refl),
-      written ∙ ap (λ ls. part_text (part_of part parts None ls)) (same ∙ made),
-    )
+heading_line front whole h written = grind (arith, append_assoc {A = ℕ}, line_of_groups)
 
 -- ---- the internal key is there where the keys suit the day
 
-pub has_internal : (s : Day) (k : PinKeys) → Suits s (Pin k) → (internal : List ℕ) × IsInternalKey (enciphered_choice s k) internal
+pub has_internal : (s : Day) (k : PinKeys) → Suits s (Pin k)
+    → (internal : List ℕ) × IsInternalKey (enciphered_choice s k) internal
 has_internal s k suits = grind arith
 
 pub not_spent : {X : Type 0} (found : Option X) (items : X → List ℕ) (letters : List ℕ)
-    → MatchOption found (HaveRunOut letters) (λ key. IsInternalKey letters (items key)) → (internal : List ℕ) × IsInternalKey letters internal → IsSome found
+    → MatchOption found (HaveRunOut letters) (λ key. IsInternalKey letters (items key))
+    → (internal : List ℕ) × IsInternalKey letters internal → IsSome found
 not_spent found items letters told internal = grind arith
 
 -- -------- the letters of a part's body, taken apart
@@ -183,19 +102,19 @@ pin_places k (a ∷ b ∷ c ∷ d ∷ e ∷ f ∷ []) (x ∷ y ∷ []) text is s
     })
 pin_places k _ _ text is six two = absurd (omega arith)
 
--- ---- rotor machines
+-- ---- the whole part
 
-rotor_part_back : (s : RotorDay) (part parts : ℕ) (k : RotorKeys) (piece : List ℕ) → TheDayDeciphersItself → IsLegalDay (OfRotors s)
-    → AreKeys (OfRotors s) (Rotor k) → Suits (OfRotors s) (Rotor k) → IsFraction part parts → IsPiece (OfRotors s) piece
-    → GivesBack (OfRotors s) part parts piece (part_of part parts (Some (indicator_of (OfRotors s) k)) (rotor_letters (OfRotors s) k piece))
-rotor_part_back s part parts k piece decipher legal are suits fraction is =
+pub part_gives_back : (s : Day) (part parts : ℕ) (k : Keys) (piece : List ℕ) (made : Part) → TheDayDeciphersItself
+    → IsLegalDay s → AreKeys s k → Suits s k → IsFraction part parts → IsPiece s piece
+    → IsMade s part parts k piece made → GivesBack s part parts (sent_letters s piece) made
+part_gives_back (OfRotors s) part parts (Rotor k) piece made decipher legal are suits fraction is makes =
     let day : Day = OfRotors s in
     let enciphered : List ℕ = cipher_from day k.key piece in
     let count : length (rotor_letters day k piece) ≡ 5 + length piece =
     omega (arith, length-append {A = ℕ}, length-cipher_from day k.key piece, are.fillers.count, are.group.count) in
     let key : cipher_from day k.start (cipher_from day k.start k.key) ≡ k.key = decipher day k.start k.key legal are.key.within in
     let text : cipher_from day k.key enciphered ≡ piece = decipher day k.key piece legal is.within in
-    record {
+    rw makes (record {
       is_heading = grind (arith, count, length-cipher_from day k.start k.key, letters-cipher_from day k.start k.key);
       numbered = refl;
       so_many = refl;
@@ -206,14 +125,8 @@ rotor_part_back s part parts k piece decipher legal are suits fraction is =
         of_the_day = rw (placed.0) suits;
         is = sym text ∙ ap (λ window. cipher_from day window enciphered) (sym key) ∙ ap (cipher_from day (message_key day (indicator_of day k))) (sym placed.1);
       };
-    }
-
--- ---- the Converter M-209
-
-pin_part_back : (s : PinDay) (part parts : ℕ) (k : PinKeys) (internal piece : List ℕ) → TheDayDeciphersItself → IsLegalDay (OfPins s)
-    → AreKeys (OfPins s) (Pin k) → Suits (OfPins s) (Pin k) → IsInternalKey (enciphered_choice (OfPins s) k) internal → IsFraction part parts
-    → IsPiece (OfPins s) piece → GivesBack (OfPins s) part parts (filled piece) (part_of part parts None (pin_letters (OfPins s) k internal piece))
-pin_part_back s part parts k internal piece decipher legal are suits first fraction is =
+    })
+part_gives_back (OfPins s) part parts (Pin k) piece made decipher legal are suits fraction is (internal, first, makes) =
     let day : Day = OfPins s in
     let indicators : List ℕ = pin_indicators day k in
     let enciphered : List ℕ = cipher_from day internal (filled piece) in
@@ -224,10 +137,10 @@ pin_part_back s part parts k internal piece decipher legal are suits first fract
       arith,
       length-append (indicators ++ enciphered) indicators,
       length-append indicators enciphered,
+      legal.list.count,
       length-cipher_from day internal (filled piece),
       length-append k.external (list_letters day),
       are.external.count,
-      legal.list.count,
     ) in
     let outer : All (λ letter. letter < 26) indicators =
     All-cons (λ letter. letter < 26) k.chosen (k.chosen ∷ k.external ++ list_letters day) are.chosen
@@ -235,7 +148,7 @@ pin_part_back s part parts k internal piece decipher legal are suits first fract
     (All-append (λ letter. letter < 26) k.external (list_letters day) are.external.within legal.list.within)) in
     let inner : All (λ letter. letter < 26) (filled piece) =
     All-append (λ letter. letter < 26) piece (replicate more 23) is.within (All-replicate (λ letter. letter < 26) more 23 (omega arith)) in
-    record {
+    rw makes (record {
       is_heading = grind (arith, count, groups);
       numbered = refl;
       so_many = refl;
@@ -250,15 +163,5 @@ pin_part_back s part parts k internal piece decipher legal are suits first fract
         first = subst (λ (x : PinKeys). IsInternalKey (enciphered_choice day x) internal) placed.keys first;
         is = sym (decipher day internal (filled piece) legal inner) ∙ ap (cipher_from day internal) placed.text_is;
       };
-    }
-
--- ---- every model
-
-pub part_gives_back : (s : Day) (part parts : ℕ) (k : Keys) (piece : List ℕ) (made : Part) → TheDayDeciphersItself → IsLegalDay s → AreKeys s k → Suits s k
-    → IsFraction part parts → IsPiece s piece → IsMade s part parts k piece made → GivesBack s part parts (sent_letters s piece) made
-part_gives_back (OfRotors s) part parts (Rotor k) piece made decipher legal are suits fraction is makes =
-    subst (GivesBack (OfRotors s) part parts piece) (sym makes) (rotor_part_back s part parts k piece decipher legal are suits fraction is)
-part_gives_back (OfPins s) part parts (Pin k) piece made decipher legal are suits fraction is (internal, first, makes) =
-    subst (GivesBack (OfPins s) part parts (filled piece)) (sym makes) (pin_part_back s part parts k internal piece decipher legal are suits first fraction is)
-part_gives_back (OfRotors s) part parts (Pin k) piece made decipher legal are suits fraction is makes = absurd suits
-part_gives_back (OfPins s) part parts (Rotor k) piece made decipher legal are suits fraction is makes = absurd suits
+    })
+part_gives_back _ part parts _ piece made decipher legal are suits fraction is makes = absurd suits

@@ -1,6 +1,5 @@
 -- An order is read in one way, and becomes one form, or has one fault.
-use Rattle.std.proofs.lemmas.Grind.{common_steps}
-use Rattle.kd_form.proofs.Prelude.{◌≡◌, ◌≢◌, ℕ, ◌+◌, inl, inr, List, [], ◌∷◌, ◌++◌, length, map, refl, sym, ap, subst, ◌∙◌, append_assoc, arith, Err, Ok, Result, drop, ◌≤◌, ◌⊎◌, codes, All, slice_index, IsTrue, IsFalse, append_cancel_right, append-nil, All-head, All-tail, All-map, letters_text, is_text_byte, line_of, TextsTellFirstParts, Day, OfRotors, OfPins, Keys, Rotor, Pin, ComesFirst, IsInternalKey, key_words, AreKeys, IsEnded, AreKeyLines, IsOrder, IsHead, IsHeadFault, IsKeyLine, IsMadeText, enciphered_choice, part_size, Suits, pieces, AreMadeTexts, text_letters, parts_needed, IsBadAt, IsKeysFault, IsFirstKeysFault, StandsInOrder, InHead, InKeys, InText, Cut, NoLetter, InParts, IsSendFault, IsFormOf, OrdersBecomeOneForm, SentOrdersHaveNoFault, OrdersHaveOneFault, false≢true, FormFault, BadByte, EmptyText, PartKeys}
+use Rattle.kd_form.proofs.Prelude.{common_steps, ◌≡◌, ◌≢◌, ℕ, ◌+◌, inl, inr, List, [], ◌∷◌, ◌++◌, length, map, refl, sym, ap, subst, ◌∙◌, append_assoc, arith, Err, Ok, Result, drop, ◌≤◌, ◌⊎◌, codes, All, slice_index, IsTrue, IsFalse, append_cancel_right, append-nil, All-cons, All-nil, All-head, All-tail, All-map, letters_text, is_text_byte, line_of, Day, OfRotors, OfPins, Keys, Rotor, Pin, ComesFirst, IsInternalKey, key_words, AreKeys, IsEnded, BeginsWithKeys, IsOrder, IsAnyHead, IsHead, IsHeadFault, IsKeyLine, IsMadeText, enciphered_choice, part_size, Suits, pieces, AreMadeTexts, text_letters, parts_needed, IsBadAt, IsKeysFault, IsFirstKeysFault, StandsInOrder, InHead, InKeys, InText, Cut, NoLetter, InParts, IsSendFault, IsSendable, IsFormOf, OrdersBecomeOneForm, SentOrdersHaveNoFault, OrdersHaveOneFault, false≢true, FormFault, BadByte, EmptyText, PartKeys}
 use Rattle.kd_form.proofs.Plain.{same_front, plain_keys, text_plain, nothing_more}
 use Rattle.kd_form.proofs.Lines.{key_first, text_front, same_line}
 
@@ -94,41 +93,41 @@ same_keys (OfPins s) _ _ are also same = search
 
 -- ---- one order
 
--- the bytes are the lines of these keys, the line TEXT, and this text
-abbrev AreRead : List Keys → List ℕ → List ℕ → Type 0
-AreRead [] text bytes = (last : List ℕ) × IsEnded (codes "TEXT") last × (bytes ≡ last ++ text)
-AreRead (k ∷ keys) text bytes = (line rest : List ℕ) × IsKeyLine k line × AreRead keys text rest × (bytes ≡ line ++ rest)
+pub all_of_the_day : (P : List ℕ → Type 0) (s : Day) (keys : List Keys) (bytes : List ℕ) → BeginsWithKeys s keys P bytes
+    → All (AreKeys s) keys
+all_of_the_day P s [] bytes lines = All-nil (AreKeys s)
+all_of_the_day P s (k ∷ keys) bytes lines = grind (arith, All-cons, all_of_the_day P s keys)
 
-are_read : (keys : List Keys) (lines last text : List ℕ) → AreKeyLines keys lines → IsEnded (codes "TEXT") last → AreRead keys text ((lines ++ last) ++ text)
-are_read [] lines last text none ended = (last, ended, ap (λ l. (l ++ last) ++ text) none)
-are_read (k ∷ keys) lines last text (line, rest, is, more, joined) ended =
-    (line, (rest ++ last) ++ text, is, are_read keys rest last text more ended, rw joined (simp append_assoc))
+-- a head goes on as the bytes do behind these lines of keys
+pub behind : {P : List ℕ → Type 0} (s : Day) (keys others : List Keys) (bytes head text more : List ℕ)
+    → BeginsWithKeys s keys P bytes → BeginsWithKeys s others (IsEnded (codes "TEXT")) head
+    → bytes ++ text ≡ head ++ more → (after : List Keys) × (rest last : List ℕ) × (others ≡ keys ++ after) × P rest
+    × BeginsWithKeys s after (IsEnded (codes "TEXT")) last × (rest ++ text ≡ last ++ more)
+behind s [] others bytes head text more mine yours same = (others, bytes, head, refl, mine, yours, same)
+behind s (k ∷ keys) [] bytes head text more (line, rest, are, is, mine, joined) ended same =
+    absurd (grind (arith, text_front, key_first, append_assoc))
+behind s (k ∷ keys) (j ∷ others) bytes head text more (line, rest, are, is, mine, e) (end, left, all, so, its, d) same =
+    let whole : line ++ (rest ++ text) ≡ end ++ (left ++ more) =
+    cc (same, append_assoc line rest text, append_assoc end left more) in
+    let (words, lines, rests) = same_line _ _ line end _ _ (plain_keys k) (plain_keys j) is so whole in
+    let (after, beyond, last, they, holds, ended, alike) = behind s keys others rest left text more mine its rests in
+    (after, beyond, last, cc (same_keys s k j are all words, they), holds, ended, alike)
 
-one_read : (s : Day) (keys others : List Keys) (text more bytes : List ℕ) → All (AreKeys s) keys → All (AreKeys s) others → AreRead keys text bytes
-    → AreRead others more bytes → (keys ≡ others) × (text ≡ more)
-one_read s [] [] text more bytes all alls (last, ended, is) (final, end, also) =
-    (refl, (same_line (codes "TEXT") (codes "TEXT") last final text more text_plain text_plain ended end (sym is ∙ also)).2)
-one_read s [] (k ∷ others) text more bytes all alls one other = absurd (grind (arith, text_front, key_first))
-one_read s (k ∷ keys) [] text more bytes all alls one other = absurd (grind (arith, text_front, key_first))
-one_read s (k ∷ keys) (j ∷ others) text more bytes all alls (line, rest, is, later, joined) (first, left, also, latter, linked) =
-    let lines = same_line (line_of (key_words k)) (line_of (key_words j)) line first rest left (plain_keys k) (plain_keys j) is also (sym joined ∙ linked) in
-    let one = same_keys s k j (All-head (AreKeys s) k keys all) (All-head (AreKeys s) j others alls) lines.0 in
-    grind (arith, one_read s keys others text more rest (All-tail (AreKeys s) k keys all) (All-tail (AreKeys s) j others alls) later)
+only_text : (s : Day) (keys : List Keys) (line last text more : List ℕ) → IsEnded (codes "TEXT") line
+    → BeginsWithKeys s keys (IsEnded (codes "TEXT")) last → line ++ text ≡ last ++ more → (keys ≡ []) × (text ≡ more)
+only_text s [] line last text more ended end same =
+    (refl, (same_line (codes "TEXT") (codes "TEXT") line last text more text_plain text_plain ended end same).2)
+only_text s (k ∷ keys) line last text more ended (first, rest, are, is, later, joined) same =
+    absurd (grind (arith, text_front, key_first, append_assoc))
 
-pub record IsSameOrder (keys others : List Keys) (head other text more : List ℕ) : Type 0 where
-  pub keys_are : keys ≡ others
-  pub head_is : head ≡ other
-  pub text_is : text ≡ more
-
-order_read : (s : Day) (order : List ℕ) (keys : List Keys) (head text : List ℕ) → IsOrder s order keys head text → AreRead keys text order
-order_read s order keys head text is = grind (arith, are_read)
-
-pub one_order : (s : Day) (order : List ℕ) (keys others : List Keys) (head other text more : List ℕ) → TextsTellFirstParts → IsOrder s order keys head text
-    → IsOrder s order others other more → IsSameOrder keys others head other text more
-one_order s order keys others head other text more tell a b =
-    let same = one_read s keys others text more order a.is_head.of_the_day b.is_head.of_the_day (order_read s order keys head text a)
-    (order_read s order others other more b) in
-    record { keys_are = same.0; head_is = append_cancel_right head other text (cc (a.joined, b.joined, same.1)); text_is = same.1 }
+pub one_order : (s : Day) (order : List ℕ) (keys others : List Keys) (head other text more : List ℕ)
+    → IsOrder s order keys head text → IsOrder s order others other more
+    → (keys ≡ others) × (head ≡ other) × (text ≡ more)
+one_order s order keys others head other text more a b =
+    let (after, rest, last, are, ended, end, same) =
+    behind s keys others head other text more a.is_head.lines b.is_head.lines (sym a.joined ∙ b.joined) in
+    let (none, texts) = only_text s after rest last text more ended end same in
+    (cc (none, are, append-nil keys), append_cancel_right head other text (cc (a.joined, b.joined, texts)), texts)
 
 -- -------- an order has a form, or one fault
 
@@ -148,24 +147,27 @@ fronts (x ∷ xs) ys (z ∷ zs) ws same = elim (fronts xs ys zs ws (cc)) [
 
 -- ---- faults in the head
 
-pub no_head_fault : (s : Day) (order : List ℕ) (keys : List Keys) (head text : List ℕ) (position : ℕ) → TextsTellFirstParts → IsOrder s order keys head text
-    → ¬ (IsHeadFault s order position)
-no_head_fault s order keys head text position tell is fault =
+pub no_head_fault : (s : Day) (order : List ℕ) (keys : List Keys) (head text : List ℕ) (position : ℕ)
+    → IsOrder s order keys head text → ¬ (IsHeadFault s order position)
+no_head_fault s order keys head text position is fault =
+    let (ahead, some, (all, begun)) = fault.begins in
     elim (fronts head text fault.before fault.rest (sym is.joined ∙ fault.joined)) [
       | Shorter more longer rest ↦
-          let same = one_order s (fault.before ++ fault.more) keys fault.keys head (fault.before ++ fault.more) (more ++ fault.more) [] tell
-          (record { joined = cc (longer, append_assoc head more fault.more); is_head = is.is_head })
-          (record { joined = sym (append-nil (fault.before ++ fault.more)); is_head = fault.begins }) in
-          fault.missing (nothing_more more fault.more same.text_is)
-      | Longer byte more longer rest ↦ fault.stops byte (more ++ text) keys more rest (subst (IsHead s keys) longer is.is_head)
+          let whole : List ℕ = fault.before ++ ahead in
+          let same = one_order s whole keys all head whole (more ++ ahead) []
+          (record { joined = cc (longer, append_assoc head more ahead); is_head = is.is_head })
+          (record { joined = sym (append-nil whole); is_head = begun }) in
+          some (nothing_more more ahead same.2)
+      | Longer byte more longer rest ↦
+          fault.stops byte (more ++ text) more rest (keys, subst (IsHead s keys) longer is.is_head)
     ]
 
 -- no order goes on behind the place of a fault
-not_later : (s : Day) (order : List ℕ) (one other byte : ℕ) (more : List ℕ) (a : IsHeadFault s order one) (b : IsHeadFault s order other)
-    → b.before ≡ a.before ++ byte ∷ more → ¬ (a.rest ≡ byte ∷ (more ++ b.rest))
+not_later : (s : Day) (order : List ℕ) (one other byte : ℕ) (more : List ℕ) (a : IsHeadFault s order one)
+    (b : IsHeadFault s order other) → b.before ≡ a.before ++ byte ∷ more → ¬ (a.rest ≡ byte ∷ (more ++ b.rest))
 not_later s order one other byte more a b longer rest =
-    a.stops byte (more ++ b.rest) b.keys (more ++ b.more) rest
-    (subst (IsHead s b.keys) (ap (λ l. l ++ b.more) longer ∙ append_assoc a.before (byte ∷ more) b.more) b.begins)
+    let (ahead, some, head) = b.begins in
+    a.stops byte (more ++ b.rest) (more ++ ahead) rest (rw (longer, append_assoc a.before (byte ∷ more) ahead) at head)
 
 one_place : (s : Day) (order : List ℕ) → IsOnly (IsHeadFault s order)
 one_place s order one other a b = elim (fronts a.before a.rest b.before b.rest (sym a.joined ∙ b.joined)) [
@@ -232,51 +234,56 @@ IsOrderAnswer s order v =
     IsFound (IsHeadFault s order) (λ position w. w ≡ Err (BadByte position)) v
     ⊎ IsFound (λ (x : List Keys × List ℕ × List ℕ). IsOrder s order x.0 x.1 x.2) (IsLaterAnswer s) v
 
-only_order : (s : Day) (order : List ℕ) → TextsTellFirstParts → IsOnly (IsOrderAnswer s order)
-only_order s order tell =
+only_order : (s : Day) (order : List ℕ) → IsOnly (IsOrderAnswer s order)
+only_order s order =
     only_either (only_found (one_place s order) (λ position. only_this))
-    (only_found (λ x y a b. grind (arith, one_order s order x.0 y.0 x.1 y.1 x.2 y.2 tell a b))
+    (only_found (λ x y a b. grind (arith, one_order s order x.0 y.0 x.1 y.1 x.2 y.2 a b))
     (λ (keys, head, text). only_caught (first_keys_fault s keys) (no_keys_fault s keys) (only_caught (one_bad_byte text) (no_bad_byte text)
     (only_judged (only_judged (only_found (one_form s 1 (length keys) keys (pieces (part_size s) (text_letters s text))) (λ form. only_this)))))))
-    (λ v w a b. no_head_fault s order b.0.0 b.0.1 b.0.2 a.0 tell b.1 a.1)
+    (λ v w a b. no_head_fault s order b.0.0 b.0.1 b.0.2 a.0 b.1 a.1)
 
 form_answer : (s : Day) (order form : List ℕ) → IsFormOf s order form → IsOrderAnswer s order (Ok form)
 form_answer s order form a =
-    inr ((a.keys, a.sent.head, a.text), a.sent.is_order, inr (a.sent.suited, inr (a.sent.allowed, inr (a.sent.some, inr (a.sent.counted, (form, a.made, refl))))))
+    let is = a.sendable in
+    let size = inr (a.some, inr (a.counted, (form, a.made, refl))) in
+    inr ((a.keys, a.head, a.text), is.is_order, inr (is.suited, inr (is.allowed, size)))
 
 fault_answer : (s : Day) (order : List ℕ) (fault : FormFault) → IsSendFault s order fault → IsOrderAnswer s order (Err fault)
 fault_answer s order fault (inl (InHead position is few e)) = inl (position, is, ap Err e)
 fault_answer s order fault (inl (InKeys keys head text is k)) = inr ((keys, head, text), is, inl (fault, k, refl))
-fault_answer s order fault (inl (InText keys head text place is suited bad e)) = inr ((keys, head, text), is, inr (suited, inl (place, bad, ap Err e)))
+fault_answer s order fault (inl (InText keys head text place is suited bad e)) =
+    inr ((keys, head, text), is, inr (suited, inl (place, bad, ap Err e)))
 fault_answer s order fault (inr (Cut is e)) = inl (length order + 1, is, ap Err e)
-fault_answer s order fault (inr (NoLetter keys head text is suited allowed none e)) = inr ((keys, head, text), is, grind arith)
-fault_answer s order fault (inr (InParts keys head text is suited allowed some differ e)) = inr ((keys, head, text), is, grind arith)
+fault_answer s order fault (inr (NoLetter ks hd t is none e)) = inr ((ks, hd, t), is.is_order, grind arith)
+fault_answer s order fault (inr (InParts ks hd t is some differ e)) = inr ((ks, hd, t), is.is_order, grind arith)
 
-pub orders_become_one_form : TextsTellFirstParts → OrdersBecomeOneForm
-orders_become_one_form tell s order form other a b =
-    let same : Ok form ≡ Ok other = only_order s order tell (Ok form) (Ok other) (form_answer s order form a) (form_answer s order other b) in cc
+pub orders_become_one_form : OrdersBecomeOneForm
+orders_become_one_form s order form other a b =
+    let same = only_order s order (Ok form) (Ok other) (form_answer s order form a) (form_answer s order other b) in cc
 
-pub sent_orders_have_no_fault : TextsTellFirstParts → SentOrdersHaveNoFault
-sent_orders_have_no_fault tell s order form fault a is =
-    let clash : Ok form ≡ Err fault = only_order s order tell (Ok form) (Err fault) (form_answer s order form a) (fault_answer s order fault is) in cc
+pub sent_orders_have_no_fault : SentOrdersHaveNoFault
+sent_orders_have_no_fault s order form fault a is =
+    let no = only_order s order (Ok form) (Err fault) (form_answer s order form a) (fault_answer s order fault is) in cc
 
-pub orders_have_one_fault : TextsTellFirstParts → OrdersHaveOneFault
-orders_have_one_fault tell s order fault other a b =
-    let same : Err fault ≡ Err other = only_order s order tell (Err fault) (Err other) (fault_answer s order fault a) (fault_answer s order other b) in cc
+pub orders_have_one_fault : OrdersHaveOneFault
+orders_have_one_fault s order fault other a b =
+    let e = only_order s order (Err fault) (Err other) (fault_answer s order fault a) (fault_answer s order other b) in
+    cc
 
 -- ---- nothing stands
 
 -- in an order whose keys suit and whose text is allowed so far
-pub nothing_stands : TextsTellFirstParts → (s : Day) (order : List ℕ) (keys : List Keys) (head text : List ℕ) (fault : FormFault) → IsOrder s order keys head text
-    → All (Suits s) keys → All (λ x. IsTrue (is_text_byte x)) text → ¬ (StandsInOrder s order fault)
-nothing_stands tell s order keys head text fault o suited allowed (InHead p h few e) = no_head_fault s order keys head text p tell o h
-nothing_stands tell s order keys head text fault o suited allowed (InKeys ks hd t q k) =
-    no_keys_fault s ks fault (rw ((one_order s order keys ks head hd text t tell o q).keys_are) at suited) k
-nothing_stands tell s order keys head text fault o suited allowed (InText ks hd t n q su b e) =
-    no_bad_byte t n (rw ((one_order s order keys ks head hd text t tell o q).text_is) at allowed) b
+pub nothing_stands : (s : Day) (order : List ℕ) (keys : List Keys) (head text : List ℕ) (fault : FormFault)
+    → IsSendable s order keys head text → ¬ (StandsInOrder s order fault)
+nothing_stands s order keys head text fault is (InHead p h few e) = no_head_fault s order keys head text p is.is_order h
+nothing_stands s order keys head text fault is (InKeys ks hd t q k) =
+    no_keys_fault s ks fault (rw ((one_order s order keys ks head hd text t is.is_order q).0) at is.suited) k
+nothing_stands s order keys head text fault is (InText ks hd t n q su b e) =
+    no_bad_byte t n (rw ((one_order s order keys ks head hd text t is.is_order q).2) at is.allowed) b
 
 -- and in one that ends in its head
-pub nothing_stands_yet : TextsTellFirstParts → (s : Day) (order : List ℕ) (fault : FormFault) → IsHeadFault s order (length order + 1) → ¬ (StandsInOrder s order fault)
-nothing_stands_yet tell s order fault cut (InHead p h few e) = omega (arith, one_place s order (length order + 1) p cut h)
-nothing_stands_yet tell s order fault cut (InKeys ks hd t o k) = no_head_fault s order ks hd t (length order + 1) tell o cut
-nothing_stands_yet tell s order fault cut (InText ks hd t n o su b e) = no_head_fault s order ks hd t (length order + 1) tell o cut
+pub nothing_stands_yet : (s : Day) (order : List ℕ) (fault : FormFault) → IsHeadFault s order (length order + 1)
+    → ¬ (StandsInOrder s order fault)
+nothing_stands_yet s order fault cut (InHead p h few e) = omega (arith, one_place s order (length order + 1) p cut h)
+nothing_stands_yet s order fault cut (InKeys ks hd t o k) = no_head_fault s order ks hd t _ o cut
+nothing_stands_yet s order fault cut (InText ks hd t n o su b e) = no_head_fault s order ks hd t _ o cut

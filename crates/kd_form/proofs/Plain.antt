@@ -42,14 +42,8 @@ plain_keys (Pin k) = grind (arith, plain_more, plain_text, plain_letters)
 pub without : (byte : ℕ) (text : List ℕ) → byte < 32 → IsPlain text → IsWithout byte text
 without byte text low plain = All-weaker (λ b. 32 ≤ b) (λ b. b ≢ byte) (λ b above same. omega (arith, above, same)) text plain
 
-pub key_line_without : (byte : ℕ) (k : Keys) → byte < 32 → IsWithout byte (line_of (key_words k))
-key_line_without byte k low = without byte (line_of (key_words k)) low (plain_keys k)
-
 pub text_plain : IsPlain (codes "TEXT")
 text_plain = plain_text (codes "TEXT") refl
-
-pub text_unbroken : IsWithout 10 (codes "TEXT")
-text_unbroken = without 10 (codes "TEXT") (omega arith) text_plain
 
 pub head_unbroken : IsWithout 10 (codes "PART ")
 head_unbroken = without 10 (codes "PART ") (omega arith) (plain_text (codes "PART ") refl)
@@ -57,12 +51,6 @@ head_unbroken = without 10 (codes "PART ") (omega arith) (plain_text (codes "PAR
 -- a line of which less was kept than could be is whole
 pub whole_line : (part line : List ℕ) → line ≡ take 64 part → length line < 64 → line ≡ part
 whole_line part line kept short = kept ∙ take_all 64 part (omega (arith, ap length kept, length-take 64 part))
-
--- fronts of one size are told by their list
-pub same_sized : (first other rest more : List ℕ) → length first ≡ length other → first ++ rest ≡ other ++ more → (first ≡ other) × (rest ≡ more)
-same_sized [] [] rest more sizes same = (refl, same)
-same_sized (x ∷ first) (y ∷ other) rest more sizes same = let both = same_sized first other rest more (omega arith) (cc) in (cc, both.1)
-same_sized _ _ rest more sizes same = absurd (omega arith)
 
 pub nothing_more : (some more : List ℕ) → some ++ more ≡ [] → more ≡ []
 nothing_more [] more none = none

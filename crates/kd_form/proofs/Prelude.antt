@@ -6,6 +6,7 @@ pub use Rattle.std.proofs.Math.Seq.{drop-append_seam, get_or-append_seam, take-a
 pub use Rattle.std.proofs.Transfers.{starts_with_of_append}
 pub use Rattle.std.proofs.lemmas.Bool.{cases_Bool, cases_eq, cases_lt, eqb-true, false≢true}
 pub use Rattle.std.proofs.lemmas.Bool.Decides.{Decides-and, Decides-eqb, Decides-ltb, nat_tests, not_from_Decides}
+pub use Rattle.std.proofs.lemmas.Grind.{common_steps}
 pub use Rattle.std.proofs.lemmas.List.{append-nil, append_cancel_right, drop-append-le, drop-drop, drop-take, drop_all, drop_at, drop_min, drop_more, get_or-map, get_or-take, get_or_append_left, get_or_default, get_or_past, get_or_read, length-map, length-replicate, length-take, length-take-le, map-append, map_push, nil_from_length, take-append-drop, take-append-le, take-take, take_all, take_at, take_min, take_more, take_rest}
 pub use Rattle.std.proofs.lemmas.List.Elements.{All-append, All-cons, All-drop, All-from_get_or, All-get_or, All-head, All-map, All-nil, All-push, All-replicate, All-same, All-tail, All-take, All-weaker, filter_map-append}
 pub use Rattle.std.proofs.lemmas.List.Sums.{AllPass-from_list_all}
@@ -23,14 +24,14 @@ pub use Rattle.kd_form.specs.Keys.{AreKeys, ArePinKeys, AreRotorKeys, key_words}
 pub use Rattle.kd_form.specs.Laws.{FormsBecomeOneText, FormsGiveTheirOrders, FormsHaveOneFault, FormsStayRefused, OrdersBecomeOneForm, OrdersGiveLetters, OrdersHaveOneFault, ReceivedFormsHaveNoFault, SentOrdersHaveNoFault}
 pub use Rattle.kd_form.specs.Making.{IsMade, IsMadeText, Suits, cipher_from, enciphered_choice, filled, indicator_of, list_letters, part_of, part_size, pin_indicators, pin_letters, rotor_letters}
 pub use Rattle.kd_form.specs.OnTheKey.{IsKeyFault, OffKey}
-pub use Rattle.kd_form.specs.Order.{AreKeyLines, IsEnded, IsHead, IsHeadFault, IsKeyLine, IsOrder}
+pub use Rattle.kd_form.specs.Order.{BeginsWithKeys, BreaksOff, IsAnyHead, IsEnded, IsHead, IsHeadFault, IsKeyLine, IsOrder}
 pub use Rattle.kd_form.specs.Part.{Part, behind_spaces, body_text, fraction, groups_of, heading_words, indicator_words, part_text, pieces, with_line}
-pub use Rattle.kd_form.specs.Patterns.{BreaksOff, IsFilledLine, IsPatternLine, blanks, filled_in, fits, letters_at}
+pub use Rattle.kd_form.specs.Patterns.{IsFilledLine, IsPatternLine, blanks, filled_in, fits, letters_at}
 pub use Rattle.kd_form.specs.Reading.{HasIndicator, HasIndicatorsAround, InChoice, InExternal, InIndicators, InList, IsLettersFault, IsLettersText, IsPinFault, IsPinText, group_in, keys_in, list_in, message_key, text_in}
 pub use Rattle.kd_form.specs.Receiving.{HasHeading, InBody, InHeading, InNumber, IsBodyFault, IsBodyText, IsEarlyFault, IsExpected, IsPartFault, IsPartRead}
-pub use Rattle.kd_form.specs.SendSteps.{AreTaken, HeadIsRead, IsFresh, IsHeadRead, IsLastTaken, IsOrderRead, IsTextRead, OfHead, OfText, step_of}
+pub use Rattle.kd_form.specs.SendSteps.{AreSuitedKeys, AreTaken, HeadIsRead, IsFresh, IsHeadRead, IsHeadLine, IsLastTaken, IsOrderRead, IsStageRead, IsTextRead}
 pub use Rattle.kd_form.specs.SendStream.{CanBeWritten, IsAllowedFront, IsSentBefore, orders}
-pub use Rattle.kd_form.specs.Sending.{AreMadeTexts, Cut, InHead, InKeys, InParts, InText, IsBadAt, IsFirstKeysFault, IsFormOf, IsKeysFault, IsSendFault, NoLetter, StandsInOrder, blank_of, letter_of_byte, letters_from, parts_needed, text_letters}
+pub use Rattle.kd_form.specs.Sending.{AreMadeTexts, Cut, InHead, InKeys, InParts, InText, IsBadAt, IsFirstKeysFault, IsFormOf, IsKeysFault, IsSendFault, IsSendable, NoLetter, StandsInOrder, blank_of, letter_of_byte, letters_from, parts_needed, text_letters}
 pub use Rattle.kd_form.specs.StreamSteps.{ClosesAs, ClosesAt, EndsIn, FedTo, FeedsAll, HasRoom, Held, IsFed, IsRead, ReadsNext, WritesWhole, answer_to, fault_of, stops_at_device}
 pub use Rattle.kd_form.specs.Streams.{Answers, AreWell, AtEnd, ByTheEnd, ByThen, Closes, FallsShort, IsOpen, IsRefused, IsStreamed, Message, Off, SinkFails, SourceFails, Stands, TooLong, Whole, is_device, is_off_key}
 pub use Rattle.kd_form.specs.Striking.{IsNextPlace, NoneIsOnWheel}

@@ -1,10 +1,9 @@
 -- What refuses a form: its parts, one after another, and for good.
-use Rattle.kd_form.proofs.Prelude.{[], ◌≡◌, inl, inr, ℕ, false, List, refl, sym, ap, subst, ◌∙◌, Option, Result, Err, ◌≢◌, ◌⊎◌, ◌+◌, ◌-◌, ◌<◌, ◌≤◌, ◌∷◌, ◌++◌, length, drop, get_or, append_assoc, length-append, arith, codes, All, IsTrue, Port, Fail, Parts, Day, FormFault, BadByte, InHeading, InNumber, InBody, IsEarlyFault, IsRefusedForGood, NoHeading, InWhole, InLast, form_message, given_letters, count_due, Turn, IsRefusedEarly, IsKeyFault, IsBadAt, orders, Answers, AreWell, is_device, is_off_key, texts, drop-append_seam, get_or-append, cases_lt, append-nil, nil_from_length, All-same, is_text_byte, IsWithout, IsFirstPart, TextsTellFirstParts, NumbersAreWords, BeginsHeading, IsFirstOf, FormsStayRefused, AllPass-from_list_all}
-use Rattle.kd_form.proofs.Plain.{All-front}
+use Rattle.kd_form.proofs.Prelude.{All-take, false≢true, get_or-append_seam, take, [], ◌≡◌, inl, inr, ℕ, false, List, refl, sym, ap, subst, ◌∙◌, Option, Result, Err, ◌≢◌, ◌⊎◌, ◌+◌, ◌-◌, ◌<◌, ◌≤◌, ◌∷◌, ◌++◌, length, drop, get_or, append_assoc, length-append, arith, codes, All, IsTrue, Port, Fail, Parts, Day, FormFault, BadByte, InHeading, InNumber, InBody, IsEarlyFault, IsRefusedForGood, NoHeading, InWhole, InLast, form_message, given_letters, count_due, Turn, IsRefusedEarly, IsKeyFault, IsBadAt, orders, Answers, AreWell, is_device, is_off_key, texts, drop-append_seam, get_or-append, cases_lt, append-nil, nil_from_length, All-same, is_text_byte, IsWithout, IsFirstPart, TextsTellFirstParts, NumbersAreWords, BeginsHeading, IsFirstOf, FormsStayRefused, AllPass-from_list_all}
 use Rattle.kd_form.proofs.Headings.{ended_heading, heading_there}
 use Rattle.kd_form.proofs.OneCut.{FirstCut, first_cut, some_byte}
-use Rattle.kd_form.proofs.Growing.{begins_front, first_grows, last_rest, last_whole, no_break, same_start, turn_with}
-use Rattle.kd_form.proofs.OneOrder.{Shorter, Longer, fronts, bad_longer, no_bad_byte}
+use Rattle.kd_form.proofs.Growing.{begins_front, few_begin, first_grows, last_rest, last_whole, no_break, same_start, turn_with}
+use Rattle.kd_form.proofs.OneOrder.{Shorter, Longer, fronts, bad_longer}
 
 -- -------- of which answers a device is the reason, or the machine
 
@@ -47,25 +46,20 @@ early_as_well s number expected start line body other fault tell unbroken bad (I
 
 bad_in_less : (body more : List ℕ) (place : ℕ) → All (λ b. IsTrue (is_text_byte b)) more → IsBadAt (body ++ more) place → IsBadAt body place
 bad_in_less body more place good at = elim (fronts body more at.before (at.byte ∷ at.rest) at.joined) [
-  | Shorter beyond longer left ↦ absurd (no_bad_byte more (length beyond) good (record {
-    before = beyond;
-    byte = at.byte;
-    rest = at.rest;
-    joined = left;
-    size = refl;
-    allowed = All-front (λ b. IsTrue (is_text_byte b)) beyond (at.byte ∷ at.rest) (rw left at good);
-    bad = at.bad;
-  }))
+  | Shorter beyond longer left ↦
+      let size : length beyond < length more =
+      omega (arith, ap length left, length-append beyond (at.byte ∷ at.rest)) in
+      let here : get_or more (length beyond) 0 ≡ at.byte = cc (left, get_or-append_seam beyond at.byte at.rest 0) in
+      absurd (false≢true (sym at.bad ∙ (rw here at (good (length beyond) 0 size))))
   | Longer x beyond longer left ↦ grind arith
 ]
 
 -- fewer than six bytes of what begins a heading may stand in a body
 few_allowed : (bytes more : List ℕ) → length bytes < 6 → BeginsHeading (bytes ++ more) → All (λ b. IsTrue (is_text_byte b)) bytes
-few_allowed bytes more few begins = elim (fronts bytes more (codes "PART ") (begins.digit ∷ begins.rest) begins.is) [
-  | Shorter beyond longer left ↦
-      All-front (λ b. IsTrue (is_text_byte b)) bytes beyond (All-same (λ b. IsTrue (is_text_byte b)) (bytes ++ beyond) (codes "PART ") (sym longer) (AllPass-from_list_all is_text_byte (codes "PART ") refl))
-  | Longer x beyond longer left ↦ absurd (omega (arith, ap length longer))
-]
+few_allowed bytes more few begins =
+    let Good : (ℕ → Type 0) = λ b. IsTrue (is_text_byte b) in
+    All-same Good bytes (take (length bytes) (codes "PART ")) (few_begin bytes (omega arith) (more, begins))
+    (All-take Good (length bytes) (codes "PART ") (AllPass-from_list_all is_text_byte (codes "PART ") refl))
 
 -- ---- the last part, with more bytes
 

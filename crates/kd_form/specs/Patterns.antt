@@ -1,8 +1,6 @@
 -- Patterns of lines: `_` stands for a letter, and each other byte for itself.
-use Rattle.std.specs.Prelude.{◌≢◌, ℕ, ◌+◌, ◌-◌, ◌==◌, ◌&&◌, nat_le, Bool, List, [], ◌∷◌, ◌++◌, drop, slice_index, if◌then◌else◌}
+use Rattle.std.specs.Prelude.{ℕ, ◌+◌, ◌-◌, ◌==◌, ◌&&◌, nat_le, Bool, List, [], ◌∷◌, drop, slice_index, if◌then◌else◌}
 use Rattle.kd_state.specs.Machine.{AreLetters}
-use Rattle.kd_form.specs.declared.pattern_line.Unread.{Unread}
-use Rattle.kd_form.specs.declared.pattern_line.Unread.TheVariants.{Open, Off}
 use Rattle.kd_form.specs.Order.{IsEnded}
 
 -- the pattern with these letters in the places of its `_`, each with the next one
@@ -16,21 +14,14 @@ abbrev pub blanks : List ℕ → ℕ
 blanks [] = 0
 blanks (mark ∷ pattern) = if mark == 95 then blanks pattern + 1 else blanks pattern
 
--- the bytes are a line of that pattern, with its end
-pub record IsPatternLine (pattern bytes : List ℕ) : Type 0 where
-  pub letters : List ℕ
-  pub are_letters : AreLetters (blanks pattern) letters
-  pub ended : IsEnded (filled_in pattern letters) bytes
-
--- the bytes are the line of that pattern with these letters
+-- the bytes are the line of that pattern with these letters, with its end
 pub record IsFilledLine (pattern letters bytes : List ℕ) : Type 0 where
   pub are_letters : AreLetters (blanks pattern) letters
   pub ended : IsEnded (filled_in pattern letters) bytes
 
--- the bytes begin such a line, and more has to follow; or no such line begins so
-abbrev pub BreaksOff : (List ℕ → Type 0) → List ℕ → Unread → Type 0
-BreaksOff IsLine bytes Open = (more : List ℕ) × (more ≢ []) × IsLine (bytes ++ more)
-BreaksOff IsLine bytes Off = (more : List ℕ) → ¬ (IsLine (bytes ++ more))
+-- or with any letters
+abbrev pub IsPatternLine : List ℕ → List ℕ → Type 0
+IsPatternLine pattern bytes = (letters : List ℕ) × IsFilledLine pattern letters bytes
 
 -- ---- one byte
 

@@ -1,7 +1,5 @@
 -- What the reader of an order holds. The contracts of the public calls do not speak of it.
-use Rattle.std.specs.Prelude.{◌≡◌, ◌≢◌, ◌⊎◌, Result, Ok, Err, ℕ, ◌+◌, ◌*◌, ◌≤◌, List, [], ◌++◌, length, take, drop, All, IsTrue}
-use Rattle.kd_tables.specs.Text.{is_text_byte}
-use Rattle.kd_state.specs.Words.{IsWithout}
+use Rattle.std.specs.Prelude.{codes, ◌≡◌, ◌≢◌, ◌⊎◌, Result, Ok, Err, ℕ, ◌+◌, ◌*◌, ◌<◌, ◌≤◌, List, [], ◌++◌, length, take, drop, All}
 use Rattle.kd_state.specs.SheetDay.{Day}
 use Rattle.kd_form.specs.declared.fault.FormFault.{FormFault}
 use Rattle.kd_form.specs.declared.fault.FormFault.TheVariants.{EmptyText, PartKeys}
@@ -9,38 +7,33 @@ use Rattle.kd_form.specs.declared.keys.Keys.{Keys}
 use Rattle.kd_form.specs.declared.order_reader.head.HeadReader.{HeadReader}
 use Rattle.kd_form.specs.declared.order_reader.head.HeadStep.{HeadStep}
 use Rattle.kd_form.specs.declared.order_reader.head.HeadStep.TheVariants.{Open, Text, Bad}
-use Rattle.kd_form.specs.declared.pattern_line.Unread.{Unread}
 use Rattle.kd_form.specs.declared.pattern_line.Unread.TheVariants as unread
 use Rattle.kd_form.specs.declared.order_reader.parts.PartWriter.{PartWriter}
 use Rattle.kd_form.specs.declared.order_reader.OrderReader.{OrderReader}
+use Rattle.kd_form.specs.declared.order_reader.Stage.{Stage}
 use Rattle.kd_form.specs.declared.order_reader.Stage.TheVariants as stages
 use Rattle.kd_form.specs.Keys.{AreKeys}
 use Rattle.kd_form.specs.Part.{pieces}
 use Rattle.kd_form.specs.Making.{Suits, part_size}
-use Rattle.kd_form.specs.Order.{AreKeyLines, IsOrder, IsHeadFault}
-use Rattle.kd_form.specs.Sending.{text_letters, parts_needed, AreMadeTexts}
+use Rattle.kd_form.specs.Order.{BeginsWithKeys, BreaksOff, IsEnded, IsHeadFault, IsOrder}
+use Rattle.kd_form.specs.KeyPatterns.{IsAnyKeyLine}
+use Rattle.kd_form.specs.Sending.{text_letters, parts_needed, AreMadeTexts, IsSendable}
 use Rattle.kd_form.specs.SendStream.{CanBeWritten}
 
--- whole lines of keys were read, and the front of another line, with which the order can't end
-pub record IsHeadRead (s : Day) (h : HeadReader) (order : List ℕ) : Type 0 where
-  pub lines : List ℕ
-  pub joined : order ≡ lines ++ h.line.items
-  pub keyed : AreKeyLines h.keys.items lines
-  pub of_the_day : All (AreKeys s) h.keys.items
-  pub few : length h.keys.items ≤ 99
-  pub unbroken : IsWithout 10 h.line.items
-  pub short : length h.line.items ≤ 24
-  pub cut : IsHeadFault s order (length order + 1)
+-- the bytes are the line behind so many lines of keys: another one of them, or the line TEXT
+abbrev pub IsHeadLine : Day → ℕ → List ℕ → Type 0
+IsHeadLine s count line = (IsAnyKeyLine s line × (count < 99)) ⊎ IsEnded (codes "TEXT") line
 
-abbrev pub HeadIsRead : Day → HeadReader → List ℕ → HeadStep → Type 0
-HeadIsRead s h order Open = IsHeadRead s h order
-HeadIsRead s h order Text = IsOrder s order h.keys.items order []
-HeadIsRead s h order Bad = IsHeadFault s order (length order)
+-- whole lines of keys were read, and the front of the next line
+pub record IsHeadRead (s : Day) (keys : List Keys) (line order : List ℕ) : Type 0 where
+  pub lines : BeginsWithKeys s keys (λ rest. rest ≡ line) order
+  pub few : length keys ≤ 99
+  pub begins : BreaksOff (IsHeadLine s (length keys)) line unread.Open
 
--- what the last byte of bytes is that are no line
-abbrev pub step_of : Unread → HeadStep
-step_of unread.Open = Open
-step_of unread.Off = Bad
+abbrev pub HeadIsRead : Day → List Keys → List ℕ → List ℕ → HeadStep → Type 0
+HeadIsRead s keys line order Open = IsHeadRead s keys line order
+HeadIsRead s keys line order Text = IsOrder s order keys order []
+HeadIsRead s keys line order Bad = IsHeadFault s order (length order)
 
 -- the keys of an order, all of which suit the day
 pub record AreSuitedKeys (s : Day) (keys : List Keys) : Type 0 where
@@ -79,12 +72,13 @@ pub record IsFresh (w : PartWriter) : Type 0 where
 pub record IsTextRead (s : Day) (keys : List Keys) (w : PartWriter) (order sent : List ℕ) : Type 0 where
   pub head : List ℕ
   pub text : List ℕ
-  pub is_order : IsOrder s order keys head text
-  pub suited : All (Suits s) keys
-  pub allowed : All (λ b. IsTrue (is_text_byte b)) text
+  pub sendable : IsSendable s order keys head text
   pub taken : AreTaken s keys w (text_letters s text) sent
 
-pub data IsOrderRead (s : Day) (r : OrderReader) (order sent : List ℕ) : Type 0 where
-  OfHead : r.stage ≡ stages.Head → r.read ≡ length order → IsHeadRead s r.head order → sent ≡ [] → IsFresh r.parts
-      → IsOrderRead s r order sent
-  OfText : r.stage ≡ stages.Text → r.read ≡ length order → IsTextRead s r.head.keys.items r.parts order sent → IsOrderRead s r order sent
+abbrev pub IsStageRead : Day → Stage → HeadReader → PartWriter → List ℕ → List ℕ → Type 0
+IsStageRead s stages.Head h w order sent = IsHeadRead s h.keys.items h.line.items order × (sent ≡ []) × IsFresh w
+IsStageRead s stages.Text h w order sent = IsTextRead s h.keys.items w order sent
+
+pub record IsOrderRead (s : Day) (r : OrderReader) (order sent : List ℕ) : Type 0 where
+  pub counted : r.read ≡ length order
+  pub stage : IsStageRead s r.stage r.head r.parts order sent

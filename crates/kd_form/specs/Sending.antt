@@ -65,6 +65,12 @@ pub record IsFirstKeysFault (s : Day) (keys : List Keys) (fault : FormFault) : T
   pub suited : All (Suits s) before
   pub is : IsKeysFault s (length before + 1) unsuited fault
 
+-- Nothing in the order is refused so far: its keys suit the day, and its text has no byte that may not stand there.
+pub record IsSendable (s : Day) (order : List ℕ) (keys : List Keys) (head text : List ℕ) : Type 0 where
+  pub is_order : IsOrder s order keys head text
+  pub suited : All (Suits s) keys
+  pub allowed : All (λ b. IsTrue (is_text_byte b)) text
+
 -- The refusal that an order shows, whatever follows it: in the lines up to the text; in the keys; or in the bytes of the text.
 pub data StandsInOrder (s : Day) (order : List ℕ) (fault : FormFault) : Type 0 where
   InHead : (position : ℕ) → IsHeadFault s order position → position ≤ length order → fault ≡ BadByte position
@@ -78,10 +84,9 @@ pub data StandsInOrder (s : Day) (order : List ℕ) (fault : FormFault) : Type 0
 -- letter; or there are not as many lines of keys as parts.
 pub data EndsOrder (s : Day) (order : List ℕ) (fault : FormFault) : Type 0 where
   Cut : IsHeadFault s order (length order + 1) → fault ≡ BadByte (length order + 1) → EndsOrder s order fault
-  NoLetter : (keys : List Keys) (head text : List ℕ) → IsOrder s order keys head text → All (Suits s) keys
-      → All (λ b. IsTrue (is_text_byte b)) text → text_letters s text ≡ [] → fault ≡ EmptyText → EndsOrder s order fault
-  InParts : (keys : List Keys) (head text : List ℕ) → IsOrder s order keys head text → All (Suits s) keys
-      → All (λ b. IsTrue (is_text_byte b)) text → text_letters s text ≢ []
+  NoLetter : (keys : List Keys) (head text : List ℕ) → IsSendable s order keys head text → text_letters s text ≡ [] → fault ≡ EmptyText
+      → EndsOrder s order fault
+  InParts : (keys : List Keys) (head text : List ℕ) → IsSendable s order keys head text → text_letters s text ≢ []
       → parts_needed s (length (text_letters s text)) ≢ length keys
       → fault ≡ PartKeys (parts_needed s (length (text_letters s text))) (length keys) → EndsOrder s order fault
 
@@ -99,18 +104,12 @@ AreMadeTexts s part parts (k ∷ keys) (piece ∷ pieces) bytes =
 AreMadeTexts s part parts [] (piece ∷ pieces) bytes = ⊥
 AreMadeTexts s part parts (k ∷ keys) [] bytes = ⊥
 
--- the order can be sent: no reason is against it
-pub record CanBeSent (s : Day) (order : List ℕ) (keys : List Keys) (text : List ℕ) : Type 0 where
-  pub head : List ℕ
-  pub is_order : IsOrder s order keys head text
-  pub suited : All (Suits s) keys
-  pub allowed : All (λ b. IsTrue (is_text_byte b)) text
-  pub some : text_letters s text ≢ []
-  pub counted : parts_needed s (length (text_letters s text)) ≡ length keys
-
--- the form that the order becomes: all of its parts but the last are full
+-- the form that the order becomes, where no reason is against it: all of its parts but the last are full
 pub record IsFormOf (s : Day) (order form : List ℕ) : Type 0 where
   pub keys : List Keys
+  pub head : List ℕ
   pub text : List ℕ
-  pub sent : CanBeSent s order keys text
+  pub sendable : IsSendable s order keys head text
+  pub some : text_letters s text ≢ []
+  pub counted : parts_needed s (length (text_letters s text)) ≡ length keys
   pub made : AreMadeTexts s 1 (length keys) keys (pieces (part_size s) (text_letters s text)) form

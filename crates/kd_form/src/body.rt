@@ -1,15 +1,14 @@
 //! How the letters of a part are written.
-ghost use Rattle.std.specs.Prelude.{◌≡◌, ◌+◌, ◌*◌, ◌≤◌, [], ◌++◌, length};
+ghost use Rattle.std.specs.Prelude.{◌≡◌, ◌+◌, ◌*◌, ◌≤◌, [], ◌∷◌, ◌++◌, length};
 ghost use Rattle.arrayvec.specs.ArrayString.{array_string_len};
 ghost use Rattle.kd_tables.specs.Text.{letters_text};
-ghost use Rattle.kd_form.specs.Part.{body_text, groups_of, with_line};
+ghost use Rattle.kd_form.specs.Part.{body_text, groups_of, pieces, with_line};
 
 use arrayvec::ArrayString;
 use kd_state::push_letter;
 use kd_tables::Letter;
 
 /// Appends the letters in groups of five, ten groups a line.
-#[tactic(auto, using(crate::proofs::MadeParts::body_end, crate::proofs::MadeParts::nothing_left))]
 pub(crate) fn push_body<const N: usize>(text: &mut ArrayString<N>, letters: &[Letter])
     requires { array_string_len text.old + 2 * length letters.now ≤ N }
     ensures bytes { text.new.bytes ≡ text.old.bytes ++ body_text letters.now }
@@ -17,7 +16,7 @@ pub(crate) fn push_body<const N: usize>(text: &mut ArrayString<N>, letters: &[Le
 {
     let mut rest = letters;
     while !rest.is_empty() {
-        let (line, after) = rest.split_at(rest.len().min(50));
+        let (line, after) = first_piece(rest, 50);
         push_line(text, line);
         rest = after;
     }
@@ -30,15 +29,28 @@ fn push_line<const N: usize>(text: &mut ArrayString<N>, letters: &[Letter])
     ensures bytes { text.new.bytes ≡ text.old.bytes ++ with_line (groups_of letters.now) [] }
     ensures len { array_string_len text.new ≤ array_string_len text.old + 2 * length letters.now }
 {
-    let (group, mut rest) = letters.split_at(letters.len().min(5));
+    let (group, mut rest) = first_piece(letters, 5);
     push_letters(text, group);
     while !rest.is_empty() {
-        let (group, after) = rest.split_at(rest.len().min(5));
+        let (group, after) = first_piece(rest, 5);
         text.push_str(" ");
         push_letters(text, group);
         rest = after;
     }
     text.push_str("\n");
+}
+
+/// The first so many letters, or all if there are fewer, and the others.
+#[tactic(auto, using(crate::proofs::MadeParts::first_pieces))]
+fn first_piece(letters: &[Letter], size: usize) -> (&[Letter], &[Letter])
+    requires size { 1 ≤ size }
+    requires some { 1 ≤ length letters.now }
+    ensures pieces { pieces size letters.now ≡ result.0.now ∷ pieces size result.1.now }
+    ensures some { 1 ≤ length result.0.now }
+    ensures few { length result.0.now ≤ size }
+    ensures len { length result.0.now + length result.1.now ≡ length letters.now }
+{
+    letters.split_at(letters.len().min(size))
 }
 
 /// Appends the letters.

@@ -4,8 +4,8 @@ ghost use Rattle.std.specs.Prelude.{MatchResult, ◌<◌, []};
 ghost use Rattle.kd_state.specs.Machine.{AreLetters};
 ghost use Rattle.kd_form.specs.Keys.{AreKeys, AreRotorKeys, ArePinKeys};
 ghost use Rattle.kd_form.specs.declared.keys.Keys.{Keys};
-ghost use Rattle.kd_form.specs.Order.{IsKeyLine};
-ghost use Rattle.kd_form.specs.Patterns.{blanks, BreaksOff};
+ghost use Rattle.kd_form.specs.Order.{BreaksOff, IsKeyLine};
+ghost use Rattle.kd_form.specs.Patterns.{blanks};
 ghost use Rattle.kd_form.specs.KeyPatterns.{key_pattern, key_letters, IsAnyKeyLine, HasSlots};
 ghost use Rattle.kd_form.specs.KeyPatterns.{HasPins};
 
@@ -15,7 +15,6 @@ use kd_state::{PerSlot, SheetDay};
 use kd_tables::Letter;
 
 /// The keys in the line, with its end. They come in a tuple, as the prover can't carry them alone.
-#[tactic(auto, using(crate::proofs::Lines::breaks_alike, crate::proofs::Lines::as_key_line, crate::proofs::Lines::as_form_line))]
 pub(crate) fn read_keys(day: &SheetDay, bytes: &[u8]) -> Result<(Keys,), Unread>
     ensures { MatchResult result
         (λ read. AreKeys day.now read.0 × IsKeyLine read.0 bytes.now)

@@ -20,9 +20,7 @@ pub fn orders_have_one_answer()
     ensures form { OrdersBecomeOneForm }
     ensures fault { OrdersHaveOneFault }
     ensures never_both { SentOrdersHaveNoFault }
-{
-    texts_tell_first_parts();
-}
+{}
 
 /// Every order has an answer. To see it, the order is read.
 pub fn orders_have_an_answer(day: &SheetDay, order: &[u8])
@@ -67,6 +65,5 @@ pub fn forms_give_their_orders()
     ensures letters { OrdersGiveLetters }
     ensures back { FormsGiveTheirOrders }
 {
-    texts_tell_first_parts();
     the_day_deciphers_itself();
 }

@@ -7,10 +7,9 @@ pub(crate) mod parts;
 use crate::fault::FormFault;
 use crate::stream::reader::{Made, MessageReader};
 use crate::suiting::check_keys;
-use crate::text::{blank_of, is_text_byte, letter_of_byte};
+use crate::text::is_text_byte;
 use head::{HeadReader, HeadStep};
 use kd_state::SheetDay;
-use kd_state::laws::texts_tell_first_parts;
 use parts::PartWriter;
 
 /// What reads an order, and writes its parts.
@@ -41,7 +40,6 @@ impl MessageReader for OrderReader {
     ghost holds = { λ day reader order sent. IsOrderRead day reader order sent };
 
     fn start(_day: &SheetDay) -> Self {
-        texts_tell_first_parts();
         OrderReader {
             read: 0,
             stage: Stage::Head,
@@ -51,7 +49,6 @@ impl MessageReader for OrderReader {
     }
 
     fn feed(&mut self, day: &SheetDay, byte: u8, made: &mut Made) -> Result<(), FormFault> {
-        texts_tell_first_parts();
         self.read += 1;
         match self.stage {
             Stage::Head => match self.head.take(day, byte) {
@@ -66,9 +63,7 @@ impl MessageReader for OrderReader {
                 if !is_text_byte(byte) {
                     return Err(FormFault::BadByte(self.read));
                 }
-                if let Some(letter) = letter_of_byte(&blank_of(day), byte) {
-                    self.parts.take(day, self.head.keys(), letter, made);
-                }
+                self.parts.take(day, self.head.keys(), byte, made);
                 Ok(())
             }
         }

@@ -2,9 +2,8 @@
 ghost use Rattle.std.specs.Prelude.{◌≡◌, ◌≤◌, ◌<◌, [], ◌++◌, MatchResult};
 ghost use Rattle.std.specs.Bool.{OnTrue, OnFalse};
 ghost use Rattle.arrayvec.specs.ArrayVec.{array_vec_len};
-ghost use Rattle.kd_form.specs.Order.{IsEnded};
+ghost use Rattle.kd_form.specs.Order.{BreaksOff, IsEnded};
 ghost use Rattle.kd_form.specs.Patterns.{blanks, fits, letters_at, IsFilledLine, IsPatternLine};
-ghost use Rattle.kd_form.specs.Patterns.{BreaksOff};
 
 use arrayvec::ArrayVec;
 use kd_tables::Letter;
@@ -22,7 +21,7 @@ pub(crate) enum Unread {
 }
 
 /// The letters of the line of that pattern, with its end.
-#[tactic(auto, using(crate::proofs::Lines::letter_room, crate::proofs::Lines::line_open))]
+#[tactic(auto, using(crate::proofs::Lines::reading_none, crate::proofs::Lines::letter_room))]
 pub(crate) fn read_pattern(pattern: &[u8], bytes: &[u8]) -> Result<ArrayVec<Letter, MOST>, Unread>
     requires { blanks pattern.now ≤ 13 }
     ensures { MatchResult result
@@ -30,15 +29,19 @@ pub(crate) fn read_pattern(pattern: &[u8], bytes: &[u8]) -> Result<ArrayVec<Lett
         (BreaksOff (IsPatternLine pattern.now) bytes.now) }
 {
     let mut letters = ArrayVec::new();
-    for (place, mark) in pattern.iter().enumerate() {
-        let Some(byte) = bytes.get(place) else {
+    let mut marks = pattern;
+    let mut rest = bytes;
+    while let Some((mark, others)) = marks.split_first() {
+        let Some((byte, after)) = rest.split_first() else {
             return Err(Unread::Open);
         };
         if !take_letter(&mut letters, *mark, *byte) {
             return Err(Unread::Off);
         }
+        marks = others;
+        rest = after;
     }
-    match read_end(&bytes[pattern.len()..]) {
+    match read_end(rest) {
         Ok(()) => Ok(letters),
         Err(why) => Err(why),
     }

@@ -20,12 +20,8 @@ pub(crate) fn check_keys(day: &SheetDay, keys: &[Keys]) -> Result<(), FormFault>
         (λ _. All (Suits day.now) keys.now)
         (IsFirstKeysFault day.now keys.now) }
 {
-    let mut part = 1;
-    for keys in keys {
-        match check_part(day, part, keys) {
-            Ok(()) => part += 1,
-            Err(fault) => return Err(fault),
-        }
+    for (index, keys) in keys.iter().enumerate() {
+        check_part(day, index as u8 + 1, keys)?;
     }
     Ok(())
 }

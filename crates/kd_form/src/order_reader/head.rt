@@ -1,13 +1,15 @@
 //! The lines of an order up to its text, byte by byte.
-ghost use Rattle.std.specs.Prelude.{◌≡◌, ◌↔◌, IsTrue, slice_index, List, ℕ, [], ◌∷◌, ◌++◌};
-ghost use Rattle.kd_form.specs.SendSteps.{IsHeadRead, HeadIsRead, step_of};
+ghost use Rattle.std.specs.Prelude.{◌≡◌, ◌<◌, ◌↔◌, IsTrue, slice_index, List, ℕ, [], ◌∷◌, ◌++◌};
+ghost use Rattle.std.specs.Prelude.{codes, MatchOption, MatchResult};
+ghost use Rattle.kd_form.specs.Keys.{AreKeys};
+ghost use Rattle.kd_form.specs.Order.{BreaksOff, IsEnded, IsKeyLine};
+ghost use Rattle.kd_form.specs.SendSteps.{HeadIsRead, IsHeadRead, IsHeadLine};
 
 use crate::key_line::{key_lines_are_short, read_keys};
 use crate::keys::Keys;
 use crate::pattern_line::{Unread, read_pattern};
 use arrayvec::ArrayVec;
 use kd_state::SheetDay;
-use kd_state::laws::texts_tell_first_parts;
 
 /// No line up to the text is longer.
 const LINE: usize = 25;
@@ -52,29 +54,44 @@ impl HeadReader {
 
     /// Takes the next byte. It stands apart, as a byte of the text would make room for what this one keeps.
     #[inline(never)]
+    #[tactic(auto, using(crate::proofs::OrderSteps::line_short, crate::proofs::OrderSteps::head_open))]
     pub(crate) fn take(&mut self, day: &SheetDay, byte: u8) -> HeadStep
-        requires { (order : List ℕ) × IsHeadRead day.now self.old order }
-        ensures { (order : List ℕ) → IsHeadRead day.now self.old order
-            → HeadIsRead day.now self.new (order ++ byte ∷ []) result }
+        requires { (order : List ℕ) × IsHeadRead day.now self.old.keys.items self.old.line.items order }
+        ensures { (order : List ℕ) → IsHeadRead day.now self.old.keys.items self.old.line.items order
+            → HeadIsRead day.now self.new.keys.items self.new.line.items (order ++ byte ∷ []) result }
     {
-        texts_tell_first_parts();
         key_lines_are_short(day);
         self.line.push(byte);
-        let line = self.line.as_slice();
-        if is_key_line(line) && !self.keys.is_full() {
-            match read_keys(day, line) {
-                Ok((keys,)) => {
-                    self.keys.push(keys);
-                    self.line.clear();
-                    HeadStep::Open
-                }
-                Err(why) => step_of(why),
+        match read_line(day, self.keys.len(), self.line.as_slice()) {
+            Ok(Some(keys)) => {
+                self.keys.push(keys);
+                self.line.clear();
+                HeadStep::Open
             }
-        } else {
-            match read_pattern(b"TEXT", line) {
-                Ok(_) => HeadStep::Text,
-                Err(why) => step_of(why),
-            }
+            Ok(None) => HeadStep::Text,
+            Err(Unread::Open) => HeadStep::Open,
+            Err(Unread::Off) => HeadStep::Bad,
+        }
+    }
+}
+
+/// The keys in the line behind so many lines of keys, or none in the line TEXT. Its first byte tells which it can be.
+#[tactic(auto, using(crate::proofs::OrderSteps::next_keys, crate::proofs::OrderSteps::next_text))]
+fn read_line(day: &SheetDay, count: usize, line: &[u8]) -> Result<Option<Keys>, Unread>
+    ensures { MatchResult result
+        (λ found. MatchOption found (IsEnded (codes "TEXT") line.now)
+        (λ keys. AreKeys day.now keys × IsKeyLine keys line.now × (count < 99)))
+        (BreaksOff (IsHeadLine day.now count) line.now) }
+{
+    if count < 99 && is_key_line(line) {
+        match read_keys(day, line) {
+            Ok((keys,)) => Ok(Some(keys)),
+            Err(why) => Err(why),
+        }
+    } else {
+        match read_pattern(b"TEXT", line) {
+            Ok(_) => Ok(None),
+            Err(why) => Err(why),
         }
     }
 }
@@ -84,14 +101,4 @@ fn is_key_line(bytes: &[u8]) -> bool
     ensures { IsTrue result ↔ (slice_index bytes.now 0 ≡ 80) }
 {
     matches!(bytes, [b'P', ..])
-}
-
-/// What the last byte of bytes is that are no line.
-fn step_of(why: Unread) -> HeadStep
-    ensures { result ≡ step_of why }
-{
-    match why {
-        Unread::Open => HeadStep::Open,
-        Unread::Off => HeadStep::Bad,
-    }
 }

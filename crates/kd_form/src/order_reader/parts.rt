@@ -3,6 +3,7 @@ ghost use Rattle.std.specs.Prelude.{◌≡◌, ◌<◌, ◌≤◌, ◌+◌, ◌^
 ghost use Rattle.std.specs.Prelude.{slice_get};
 ghost use Rattle.kd_form.specs.declared.keys.Keys.{Keys};
 ghost use Rattle.kd_form.specs.Making.{IsMadeText, part_size};
+ghost use Rattle.kd_form.specs.Sending.{text_letters};
 ghost use Rattle.kd_form.specs.SendSteps.{AreSuitedKeys, AreTaken, IsLastTaken, IsFresh};
 
 use crate::fault::FormFault;
@@ -10,6 +11,7 @@ use crate::keys::Keys;
 use crate::making::make_part;
 use crate::sending::part_size;
 use crate::stream::reader::Made;
+use crate::text::{blank_of, letter_of_byte};
 use arrayvec::ArrayVec;
 use kd_state::SheetDay;
 use kd_tables::Letter;
@@ -37,8 +39,22 @@ impl PartWriter {
         }
     }
 
+    /// Takes the next byte of the text, and the letter that it gives, if it gives one.
+    pub(crate) fn take(&mut self, day: &SheetDay, keys: &[Keys], byte: u8, made: &mut Made)
+        requires keys { AreSuitedKeys day.now keys.now }
+        requires taken { (letters sent : List ℕ) × AreTaken day.now keys.now self.old letters sent
+            × (length letters < 2 ^ 63) }
+        requires empty { made.old.items ≡ [] }
+        ensures { (letters sent : List ℕ) → AreTaken day.now keys.now self.old letters sent
+            → AreTaken day.now keys.now self.new (letters ++ text_letters day.now (byte ∷ [])) (sent ++ made.new.items) }
+    {
+        if let Some(letter) = letter_of_byte(&blank_of(day), byte) {
+            self.take_letter(day, keys, letter, made);
+        }
+    }
+
     /// Takes the next letter. Where it shows that a part is full and another one follows, that part is made.
-    pub(crate) fn take(&mut self, day: &SheetDay, keys: &[Keys], letter: Letter, made: &mut Made)
+    fn take_letter(&mut self, day: &SheetDay, keys: &[Keys], letter: Letter, made: &mut Made)
         requires keys { AreSuitedKeys day.now keys.now }
         requires taken { (letters sent : List ℕ) × AreTaken day.now keys.now self.old letters sent
             × (length letters < 2 ^ 63) }

@@ -1,5 +1,5 @@
-use Rattle.kd_form.proofs.Lines.{AreSuited}
+use Rattle.kd_form.proofs.Prelude.{AllWithin, Suits}
 use Rattle.kd_form.proofs.suiting.check_keys.Given as goal
 
-abbrev pub invariant-loop-keys : goal.invariant-loop-keys
-invariant-loop-keys l = AreSuited l.day l.keys l.part l.keys-index
+abbrev pub invariant-loop-index : goal.invariant-loop-index
+invariant-loop-index l = AllWithin (Suits l.day) l.keys 0 l.index
