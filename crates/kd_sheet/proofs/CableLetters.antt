@@ -1,91 +1,184 @@
--- The letters in cables.
-use Rattle.std.proofs.Common.{◌≡◌, ℕ, zero, suc, ◌+◌, ◌-◌, ◌<◌, ◌≤◌, nat_eq, true, false, not, List, [], ◌∷◌, ◌++◌, length, map, set, take, drop, get_or, replicate, Option, Some, None, unwrap_or, refl, sym, ap, ◌∙◌, arith}
-use Rattle.std.specs.List.{flat_map, IsDistinct, AllByRecursion}
-use Rattle.std.proofs.lemmas.Bool.{or_parts, and_parts, not-true}
-use Rattle.std.proofs.lemmas.List.{append_assoc, append-nil, length-map, take_more, take_more_set, take-append-drop, length-take-le, drop-set-lt, drop_more}
-use Rattle.std.proofs.lemmas.List.Elements.{All-nil}
-use Rattle.toml.specs.View.{view}
-use Rattle.toml.specs.declared.value.Value.{Value}
-use Rattle.kd_state.specs.Machine.{cable_letters, plugged_letters, AreCables}
-use Rattle.kd_state.specs.Setting.{has_letter}
-use Rattle.kd_sheet.specs.Cables.{are_new, plugged_by, letters_of_item, thirteen}
-use Rattle.kd_sheet.specs.declared.key.Key.{Key}
-use Rattle.kd_sheet.proofs.Documents.{viewed_at}
+-- The cables that an array tells, their letters, and the pairs that they join.
+use Rattle.kd_sheet.proofs.Prelude.{All, List, None, Ok, Option, Some, [], append_assoc, arith, false, length, nat_eq}
+use Rattle.kd_sheet.proofs.Prelude.{nat_le, not, refl, replicate, subst, suc, true, zero, ℕ, ◌++◌, ◌-◌, ◌<◌, ◌∷◌, ◌≡◌}
+use Rattle.kd_sheet.proofs.Prelude.{◌≤◌, and_parts, eqb-true, leb-true, not-true, or_parts, append-nil, length-append}
+use Rattle.kd_sheet.proofs.Prelude.{length-replicate, All-append, All-from_recursion, All-nil, recursion_from_All}
+use Rattle.kd_sheet.proofs.Prelude.{none-some, IsDistinct, AllByRecursion, flat_map, option_map_or, all_cables_in}
+use Rattle.kd_sheet.proofs.Prelude.{cable_for, cables_in, letters_of_item, pairs_in, plugged_letters_in, are_new}
+use Rattle.kd_sheet.proofs.Prelude.{cable_behind, cable_of, cables_of, may_have, pairs_of, plugged_by, thirteen}
+use Rattle.kd_sheet.proofs.Prelude.{items_in, value_at, key_name, Key, AreCables, cable_letters, plugged_letters}
+use Rattle.kd_sheet.proofs.Prelude.{has_letter, ArePairs, Data, Members, get_member, flat_map-append}
+use Rattle.kd_sheet.specs.declared.key.Key.TheVariants as keys
+use Rattle.kd_sheet.proofs.Bounds.{letters_read}
+use Rattle.kd_sheet.proofs.InTurn.{same_found, given, passed, some_if, keeps, counted}
 
--- the letters of cables one after the other
-pub plugged_letters-append : (cables others : List (Option ℕ × Option ℕ)) → plugged_letters (cables ++ others) ≡ plugged_letters cables ++ plugged_letters others
-plugged_letters-append [] others = refl
-plugged_letters-append (cable ∷ cables) others = grind (arith, plugged_letters-append cables others, append_assoc)
+abbrev pub Cable : Type 0
+Cable = Option ℕ × Option ℕ
 
-pub plugged_letters-push : (cables : List (Option ℕ × Option ℕ)) (cable : Option ℕ × Option ℕ) → plugged_letters (cables ++ cable ∷ []) ≡ plugged_letters cables ++ cable_letters cable
-plugged_letters-push cables cable = plugged_letters-append cables (cable ∷ []) ∙ ap (λ rest. plugged_letters cables ++ rest) (append-nil (cable_letters cable))
+-- ---- no letter in two places
 
--- empty cables have no letters
-pub plugged_letters-empty : (n : ℕ) → plugged_letters (replicate n (None, None)) ≡ []
-plugged_letters-empty zero = refl
-plugged_letters-empty (suc n) = plugged_letters-empty n
+pub no_letter_twice : IsDistinct nat_eq []
+unfolding IsDistinct
+no_letter_twice = tt
 
 -- what holds of a list and of one element more
-pub by_recursion_push : {X : Type 0} (P : X → Type 0) (xs : List X) (x : X) → AllByRecursion P xs → P x → AllByRecursion P (xs ++ x ∷ [])
+pub by_recursion_push : {X : Type 0} (P : X → Type 0) (xs : List X) (x : X) → AllByRecursion P xs → P x
+    → AllByRecursion P (xs ++ x ∷ [])
 by_recursion_push P [] x all here = (here, tt)
 by_recursion_push P (y ∷ xs) x all here = (all.0, by_recursion_push P xs x all.1 here)
 
 -- one more letter that is none of these
-distinct_push : (letters : List ℕ) (letter : ℕ) → IsDistinct nat_eq letters → has_letter letters letter ≡ false → IsDistinct nat_eq (letters ++ letter ∷ [])
+distinct_push : (letters : List ℕ) (letter : ℕ) → IsDistinct nat_eq letters → has_letter letters letter ≡ false
+    → IsDistinct nat_eq (letters ++ letter ∷ [])
 unfolding IsDistinct
 distinct_push [] letter apart free = (tt, tt)
 distinct_push (other ∷ letters) letter apart free =
     let parts = or_parts (nat_eq other letter) (has_letter letters letter) free in
     (by_recursion_push (λ y. nat_eq other y ≡ false) letters letter apart.0 parts.0, distinct_push letters letter apart.1 parts.1)
 
-pub no_letter_twice : IsDistinct nat_eq []
-unfolding IsDistinct
-no_letter_twice = tt
-
 -- more letters that are new
-pub distinct_new : (plugged letters : List ℕ) → IsDistinct nat_eq plugged → are_new plugged letters ≡ true → IsDistinct nat_eq (plugged ++ letters)
+distinct_new : (plugged letters : List ℕ) → IsDistinct nat_eq plugged → are_new plugged letters ≡ true
+    → IsDistinct nat_eq (plugged ++ letters)
 distinct_new plugged [] apart new = rw append-nil apart
 distinct_new plugged (letter ∷ letters) apart new =
     let parts = and_parts (not (has_letter plugged letter)) (are_new (plugged ++ letter ∷ []) letters) new in
-    rw (← append_assoc plugged (letter ∷ []) letters) (distinct_new (plugged ++ letter ∷ []) letters (distinct_push plugged letter apart (not-true _ parts.0)) parts.1)
+    rw (← append_assoc plugged (letter ∷ []) letters) (distinct_new (plugged ++ letter ∷ []) letters
+    (distinct_push plugged letter apart (not-true _ parts.0)) parts.1)
 
--- one more element of which a function gives a list
-pub flat_map-append : {X A : Type 0} (f : X → List A) (xs ys : List X) → flat_map f (xs ++ ys) ≡ flat_map f xs ++ flat_map f ys
-flat_map-append f [] ys = refl
-flat_map-append f (x ∷ xs) ys = ap (λ rest. f x ++ rest) (flat_map-append f xs ys) ∙ sym (append_assoc (f x) (flat_map f xs) (flat_map f ys))
+-- ---- cables
 
-flat_map_more : {X A : Type 0} (f : X → List A) (xs : List X) (place : ℕ) (x : X) (given : List A) → place < length xs → get_or xs place x ≡ x → f x ≡ given
-    → flat_map f (take (place + 1) xs) ≡ flat_map f (take place xs) ++ given
-flat_map_more f xs place x given left here is = rw (take_more xs place x left, here, flat_map-append, append-nil, is) refl
+two_letters : (letters : List ℕ) → length letters ≤ 2 → cable_letters (cable_of letters) ≡ letters
+two_letters [] few = refl
+two_letters (one ∷ []) few = refl
+two_letters (one ∷ other ∷ []) few = refl
+two_letters letters few = absurd (omega arith)
 
--- what is behind a place, and one element more
-drop_rest : {X : Type 0} (xs : List X) (place : ℕ) (x : X) (rest : List X) → place < length xs → drop place xs ≡ x ∷ rest → drop (place + 1) xs ≡ rest
-drop_rest xs place x rest left is = ap (drop 1) (sym (drop_more xs place x left) ∙ is)
+few_letters : (key : Key) (count : ℕ) → may_have key count ≡ true → count ≤ 2
+few_letters key count may = grind (arith, leb-true, eqb-true)
 
--- one more item and its cable: the letters that are plugged
-pub plugged_more : (key : Key) (cables : List (Option ℕ × Option ℕ)) (items : List Value) (place : ℕ) (item : Value) (cable : Option ℕ × Option ℕ) → place < length cables → place < length items
-    → item ≡ get_or items place item → letters_of_item key (view item) ≡ Some (cable_letters cable)
-    → plugged_letters (take place cables) ≡ flat_map (plugged_by key) (take place (map view items))
-    → plugged_letters (take (place + 1) (set cables place cable)) ≡ flat_map (plugged_by key) (take (place + 1) (map view items))
-plugged_more key cables items place item cable room left here read before =
-    let within : place < length (map view items) = omega (arith, length-map items view) in
-    ap plugged_letters (take_more_set cables place cable room) ∙ plugged_letters-push (take place cables) cable ∙
-    ap (λ letters. letters ++ cable_letters cable) before ∙ sym (flat_map_more (plugged_by key) (map view items) place (view item) (cable_letters cable) within (viewed_at items place item left here) (ap (λ o. unwrap_or o []) read))
+-- what an item plugs behind these letters
+record IsCable (key : Key) (plugged : List ℕ) (item : Data) (cable : Cable) : Type 0 where
+  plugs : letters_of_item key item ≡ Some (cable_letters cable)
+  within : All (λ letter. letter < 26) (cable_letters cable)
+  free : are_new plugged (cable_letters cable) ≡ true
 
--- the cables that are filled, with the empty ones behind them
-pub all_thirteen : (cables : List (Option ℕ × Option ℕ)) (count : ℕ) → length cables ≡ 13 → count ≤ 13 → drop count cables ≡ replicate (13 - count) (None, None) → thirteen (take count cables) ≡ cables
-all_thirteen cables count long few empty = grind (arith, length-take-le, empty, take-append-drop)
+cable_read : (key : Key) (plugged : List ℕ) (item : Data) (cable : Cable) → cable_for key plugged item ≡ Ok cable
+    → IsCable key plugged item cable
+unfolding cable_for letters_of_item plugged_letters_in
+cable_read key plugged item cable e = grind (arith, some_if, letters_read, two_letters, few_letters, none-some)
 
-pub plugged_letters-take : (cables : List (Option ℕ × Option ℕ)) (count n : ℕ) → drop count cables ≡ replicate n (None, None) → plugged_letters (take count cables) ≡ plugged_letters cables
-plugged_letters-take cables count n empty =
-    sym (append-nil (plugged_letters (take count cables))) ∙ ap (λ rest. plugged_letters (take count cables) ++ rest) (sym (plugged_letters-empty n)) ∙
-    ap (λ rest. plugged_letters (take count cables) ++ plugged_letters rest) (sym empty) ∙ sym (plugged_letters-append (take count cables) (drop count cables)) ∙ ap plugged_letters (take-append-drop count cables)
+-- the cables so far have the letters that the items so far plug, and none lies in two places
+record AreFree (key : Key) (items : List Data) (cables : List Cable) : Type 0 where
+  plugged : flat_map (plugged_by key) items ≡ plugged_letters cables
+  within : All (λ letter. letter < 26) (plugged_letters cables)
+  apart : IsDistinct nat_eq (plugged_letters cables)
 
--- one cable fewer is empty
-pub empty_fewer : (cables : List (Option ℕ × Option ℕ)) (place : ℕ) (cable : Option ℕ × Option ℕ) → length cables ≡ 13 → place < 13 → drop place cables ≡ replicate (13 - place) (None, None)
-    → drop (place + 1) (set cables place cable) ≡ replicate (13 - (place + 1)) (None, None)
-empty_fewer cables place cable long left empty = grind (arith, drop-set-lt, drop_rest, empty)
+one_more : (key : Key) (items : List Data) (cables : List Cable) (item : Data) (cable : Cable) → AreFree key items cables
+    → cable_behind key items item ≡ Ok cable → AreFree key (items ++ item ∷ []) (cables ++ cable ∷ [])
+one_more key items cables item cable free e =
+    let here = cable_read key (plugged_letters cables) item cable (rw free.plugged at e) in
+    let now : plugged_letters (cables ++ cable ∷ []) ≡ plugged_letters cables ++ cable_letters cable =
+    rw (flat_map-append, append-nil) refl in
+    record {
+      plugged = rw (now, flat_map-append, free.plugged, here.plugs, append-nil) refl;
+      within = rw now (All-append (λ letter. letter < 26) _ _ free.within here.within);
+      apart = rw now (distinct_new _ _ free.apart here.free);
+    }
 
--- no cable is plugged
-pub none_plugged : AreCables (replicate 13 (None, None))
-none_plugged = record { count = refl; within = All-nil (λ letter. letter < 26); apart = no_letter_twice }
+cables_free : (key : Key) (items : List Data) (cables : List Cable) → cables_of key items ≡ Ok cables
+    → AreFree key items cables
+cables_free key items cables e = keeps (cable_behind key) (AreFree key) (one_more key) items cables
+    (record { plugged = refl; within = All-nil (λ letter. letter < 26); apart = no_letter_twice }) e
+
+pub plugged_so_far : (key : Key) (items : List Data) (cables : List Cable) → cables_of key items ≡ Ok cables
+    → flat_map (plugged_by key) items ≡ plugged_letters cables
+plugged_so_far key items cables e = (cables_free key items cables e).plugged
+
+none_in : (n : ℕ) → plugged_letters (replicate n (None, None)) ≡ []
+none_in zero = refl
+none_in (suc n) = none_in n
+
+abbrev empty_cable : Cable
+empty_cable = (None, None)
+
+pub filled_up : (cables : List Cable) → length cables ≤ 13 → All (λ letter. letter < 26) (plugged_letters cables)
+    → IsDistinct nat_eq (plugged_letters cables) → AreCables (thirteen cables)
+filled_up cables few within apart =
+    let empty = replicate (13 - length cables) empty_cable in
+    let letters : plugged_letters (thirteen cables) ≡ plugged_letters cables =
+    rw (flat_map-append, none_in, append-nil) refl in
+    record {
+      count = omega (arith, length-append cables empty, length-replicate (13 - length cables) empty_cable);
+      within = rw letters within;
+      apart = rw letters apart;
+    }
+
+pub all_are_cables : (key : Key) (value : Data) (cables : List Cable) → all_cables_in key value ≡ Ok cables
+    → AreCables cables
+unfolding all_cables_in
+all_are_cables key value cables e =
+    let items = given (items_in key value) _ cables e in
+    let few = passed (nat_le (length items.0) 13) _ _ cables items.2 in
+    let read = given (cables_of key items.0) _ cables few.1 in
+    let free = cables_free key items.0 read.0 read.1 in
+    let count = counted (cable_behind key) items.0 read.0 read.1 in
+    subst AreCables (same_found _ _ read.2)
+    (filled_up read.0 (omega (arith, leb-true (length items.0) 13 few.0)) free.within free.apart)
+
+pub are_cables : (table : Members) (cables : List Cable) → cables_in table ≡ Ok cables → AreCables cables
+unfolding cables_in
+are_cables table cables e = cases (get_member (key_name keys.Cables) table) e
+  where
+    cases : (found : Option Data) → option_map_or (all_cables_in keys.Cables) found (Ok (thirteen [])) ≡ Ok cables → AreCables cables
+    cases None e = subst AreCables (same_found _ _ e) (filled_up [] (omega arith) (All-nil (λ letter. letter < 26)) no_letter_twice)
+    cases (Some value) e = all_are_cables keys.Cables value cables e
+
+-- ---- pairs
+
+-- the letters of pairs, one pair after the other
+abbrev pub letters_joined : List (ℕ × ℕ) → List ℕ
+letters_joined pairs = flat_map (λ pair. pair.0 ∷ pair.1 ∷ []) pairs
+
+-- what holds of each letter in the cables holds of each letter in the pairs
+each_joined : (P : ℕ → Type 0) (cables : List Cable) → AllByRecursion P (plugged_letters cables)
+    → AllByRecursion P (letters_joined (pairs_of cables))
+each_joined P [] all = tt
+each_joined P ((None, None) ∷ cables) all = each_joined P cables all
+each_joined P ((None, Some other) ∷ cables) all = each_joined P cables all.1
+each_joined P ((Some one, None) ∷ cables) all = each_joined P cables all.1
+each_joined P ((Some one, Some other) ∷ cables) all = (all.0, (all.1.0, each_joined P cables all.1.1))
+
+-- no letter lies in two places of the pairs
+joined_apart : (cables : List Cable) → IsDistinct nat_eq (plugged_letters cables)
+    → IsDistinct nat_eq (letters_joined (pairs_of cables))
+unfolding IsDistinct
+joined_apart [] apart = tt
+joined_apart ((None, None) ∷ cables) apart = joined_apart cables apart
+joined_apart ((None, Some other) ∷ cables) apart = joined_apart cables apart.1
+joined_apart ((Some one, None) ∷ cables) apart = joined_apart cables apart.1
+joined_apart ((Some one, Some other) ∷ cables) apart = (
+  (apart.0.0, each_joined (λ y. nat_eq one y ≡ false) cables apart.0.1),
+  (each_joined (λ y. nat_eq other y ≡ false) cables apart.1.0, joined_apart cables apart.1.1),
+)
+
+few_joined : (cables : List Cable) → length (pairs_of cables) ≤ length cables
+few_joined [] = omega arith
+few_joined (cable ∷ cables) = grind (arith, few_joined cables)
+
+-- the pairs of a plugboard
+pub pairs_joined : (cables : List Cable) → AreCables cables → ArePairs (pairs_of cables)
+pairs_joined cables plugged =
+    let few = few_joined cables in
+    record {
+      few = omega (arith, plugged.count);
+      within = All-from_recursion (λ letter. letter < 26) _
+          (each_joined (λ letter. letter < 26) cables (recursion_from_All (λ letter. letter < 26) _ plugged.within));
+      apart = joined_apart cables plugged.apart;
+    }
+
+pub are_pairs : (table : Members) (pairs : List (ℕ × ℕ)) → pairs_in table ≡ Ok pairs → ArePairs pairs
+unfolding pairs_in
+are_pairs table pairs e =
+    let value = given (value_at keys.Plugs table) _ pairs e in
+    let cables = given (all_cables_in keys.Plugs value.0) _ pairs value.2 in
+    subst ArePairs (same_found _ _ cables.2) (pairs_joined cables.0 (all_are_cables keys.Plugs value.0 cables.0 cables.1))

@@ -1,15 +1,9 @@
 -- What the document reader's steps find, in the definitions' words.
-use Rattle.std.proofs.Common.{◌≡◌, ℕ, ◌<◌, List, [], ◌∷◌, length, get_or, map, Option, Some, None, Ok, Err, ok_or, option_map, Vec, Global, IsUtf8, Bor, refl, sym, ap, ◌∙◌, arith}
-use Rattle.std.proofs.lemmas.Str.{is_utf8-from_IsUtf8, IsUtf8-from_is_utf8}
-use Rattle.std.proofs.lemmas.Bool.{cases_Bool}
-use Rattle.std.proofs.lemmas.List.{get_or-map}
-use Rattle.toml.specs.Data.{Data, Members, as_array}
-use Rattle.toml.specs.Parse.{parse_document}
-use Rattle.toml.specs.View.{view, items_of, array_view}
-use Rattle.toml.specs.declared.value.Value.{Value}
-use Rattle.kd_sheet.specs.Document.{document_of, result_map, items_in, list_of}
-use Rattle.kd_sheet.specs.declared.key.Key.{Key}
-use Rattle.kd_sheet.specs.declared.fault.SheetFault.TheVariants.{NotToml, BadValue}
+use Rattle.kd_sheet.proofs.Prelude.{Bor, Err, Global, IsUtf8, List, None, Ok, Option, Some, Vec, [], ap, arith, get_or}
+use Rattle.kd_sheet.proofs.Prelude.{length, map, ok_or, option_map, refl, sym, ℕ, ◌<◌, ◌∙◌, ◌∷◌, ◌≡◌, cases_Bool}
+use Rattle.kd_sheet.proofs.Prelude.{get_or-map, IsUtf8-from_is_utf8, is_utf8-from_IsUtf8, document_of, items_in}
+use Rattle.kd_sheet.proofs.Prelude.{list_of, result_map, BadValue, NotToml, Key, Data, Members, as_array}
+use Rattle.kd_sheet.proofs.Prelude.{parse_document, array_view, items_of, view, Value}
 
 -- bytes that were parsed
 pub document_parsed : (bytes : List ℕ) (table : Members) → IsUtf8 bytes → parse_document bytes ≡ Some table → document_of bytes ≡ Ok table

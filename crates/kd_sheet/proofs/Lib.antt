@@ -1,24 +1,12 @@
-pub mod AllPins
-pub mod CableLetters
+pub mod Prelude
 pub mod Documents
-pub mod Earlier
-pub mod LegalDays
-pub mod Lists
-pub mod Months
+pub mod InTurn
+pub mod Bounds
 pub mod Namings
-pub mod Pairs
-pub mod PinLetters
-pub mod PinTexts
-pub mod Rings
+pub mod CableLetters
 pub mod Seating
-pub mod SheetWheels
-pub mod Slots
-pub mod Wheels
-mod InTurn
-mod Described
-mod PinsBack
+pub mod PinLetters
+pub mod Legal
+pub mod Months
 mod PartsBack
-mod DayTables
-mod FileTexts
-mod MachineBack
-mod SheetEntries
+pub mod MachineBack

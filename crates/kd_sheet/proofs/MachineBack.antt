@@ -1,47 +1,177 @@
--- The machine file of a machine is read as just that machine.
-use Rattle.std.proofs.lemmas.Grind.{common_steps}
-use Rattle.std.proofs.Common.{◌≡◌, ℕ, ◌+◌, ◌<◌, Bool, true, pos, List, [], ◌∷◌, length, map, Option, Some, None, Ok, ok_or, refl, ap, ◌∙◌, arith, rules}
-use Rattle.std.specs.Fmt.{digits}
-use Rattle.std.specs.List.{AllByRecursion}
-use Rattle.std.proofs.lemmas.Bool.Decides.{nat_tests}
-use Rattle.std.proofs.lemmas.List.{append-nil}
-use Rattle.std.proofs.lemmas.List.Elements.{recursion_from_All}
-use Rattle.std.proofs.lemmas.List.Folds.{list_all-append}
-use Rattle.toml.specs.Data.{string, integer, Members, no_members, member}
-use Rattle.toml.specs.Tables.{at_key, along_dots, along_header, define}
-use Rattle.kd_tables.specs.Places.{IsBefore, figure, place_text, standing_text}
-use Rattle.kd_tables.specs.Rings.{ring_of}
-use Rattle.kd_tables.specs.Tables.{reflectors_of, model_text, reflector_text, wheel_text}
-use Rattle.kd_tables.specs.Text.{letters_text}
-use Rattle.kd_tables.specs.declared.model.Model.{Model}
-use Rattle.kd_tables.specs.declared.model.Model.TheVariants.{M209}
-use Rattle.kd_tables.specs.declared.place.Place.{Place}
-use Rattle.kd_tables.specs.declared.reflector.Reflector.{Reflector}
-use Rattle.kd_tables.specs.declared.wheel.Wheel.{Wheel}
-use Rattle.kd_state.specs.Box.{has_reflector}
-use Rattle.kd_state.specs.Machine.{plugged_letters, ordered, cables_ordered, IsLegalRotor, IsLegalPin}
-use Rattle.kd_state.specs.declared.machine.rotor_parts.RotorParts.{RotorParts}
-use Rattle.kd_state.specs.declared.machine.pin_parts.PinParts.{PinParts}
-use Rattle.kd_state.specs.declared.machine.parts.Parts.{Parts}
-use Rattle.kd_state.specs.declared.machine.parts.Parts.TheVariants.{Rotor, Pin}
-use Rattle.kd_state.proofs.Rings.{has_letter-Decides}
-use Rattle.kd_state.proofs.Wheels.{has_reflector-Decides}
-use Rattle.kd_sheet.specs.Cables.{thirteen, cables_in}
-use Rattle.kd_sheet.specs.Document.{document_of}
-use Rattle.kd_sheet.specs.Drum.{standing_for, bars_in}
-use Rattle.kd_sheet.specs.Key.{key_name}
-use Rattle.kd_sheet.specs.Laws.{LegalPartsAreReadBack}
-use Rattle.kd_sheet.specs.MachineFile.{version_in, model_in, knows, known_model_in, reflector_in, box_letters_in, rotor_parts_in, pin_parts_in, parts_in, machine_in}
-use Rattle.kd_sheet.specs.MachineText.{version_of, seat_text, cable_text, pins_text, pin_texts, machine_text}
-use Rattle.kd_sheet.specs.Numbers.{number_to}
-use Rattle.kd_sheet.specs.PinWheels.{shown_in}
+-- A file of lines is read as the table of their keys and values, and the machine file of a machine as just that machine.
+use Rattle.kd_sheet.proofs.Prelude.{Bool, List, None, Ok, Option, Some, [], ap, append_assoc, arith, codes, false}
+use Rattle.kd_sheet.proofs.Prelude.{length, map, nat_le, nat_lt, not, ok_or, option_map, pos, refl, rules, suc, true, ℕ}
+use Rattle.kd_sheet.proofs.Prelude.{◌&&◌, ◌++◌, ◌+◌, ◌<◌, ◌==◌, ◌||◌, ◌∙◌, ◌∷◌, ◌≡◌, ◌≤◌, ltb-true, ne_eqb, nat_tests}
+use Rattle.kd_sheet.proofs.Prelude.{common_steps, append-nil, recursion_from_All, list_all-append}
+use Rattle.kd_sheet.proofs.Prelude.{AllPass-from_list_all, IsUtf8-from_ascii, IsAscii-from_all, digits, AllByRecursion}
+use Rattle.kd_sheet.proofs.Prelude.{concat, flat_map, list_all, list_any, cables_in, thirteen, document_of, bars_in}
+use Rattle.kd_sheet.proofs.Prelude.{standing_for, key_name, LegalPartsAreReadBack, box_letters_in, known_model_in}
+use Rattle.kd_sheet.proofs.Prelude.{machine_in, model_in, parts_in, pin_parts_in, reflector_in, rotor_parts_in}
+use Rattle.kd_sheet.proofs.Prelude.{version_in, knows, machine_text, cable_text, key_line, listed, pin_texts, pins_text}
+use Rattle.kd_sheet.proofs.Prelude.{quoted, seat_text, version_of, number_to, shown_in, UnknownModel, Key, all_pins}
+use Rattle.kd_sheet.proofs.Prelude.{has_reflector-Decides, has_reflector, IsLegalPin, IsLegalRotor, cables_ordered}
+use Rattle.kd_sheet.proofs.Prelude.{ordered, plugged_letters, Parts, Pin, Rotor, PinParts, RotorParts, IsBefore, figure}
+use Rattle.kd_sheet.proofs.Prelude.{place_text, standing_text, model_text, reflector_text, reflectors_of, wheel_text}
+use Rattle.kd_sheet.proofs.Prelude.{letters_text, Model, M209, Place, Reflector, Wheel, AllPrinted, read_lines, run}
+use Rattle.kd_sheet.proofs.Prelude.{Data, Items, Members, depth, has_valid_dates, integer, items_depth}
+use Rattle.kd_sheet.proofs.Prelude.{items_have_valid_dates, member, no_members, string, parse_document, skip_bom}
+use Rattle.kd_sheet.proofs.Prelude.{along_dots, along_header, at_key, define, Expression, close, key_value, no_nodes}
+use Rattle.kd_sheet.proofs.Prelude.{IsItemsText, IsLinesText, IsValueText, breaks_lines, items_of, encoding_of, escaped}
+use Rattle.kd_sheet.proofs.Prelude.{key_text, needs_escape, quotes_after, string_text, is_control}
 use Rattle.kd_sheet.specs.declared.key.Key.TheVariants as keys
-use Rattle.kd_sheet.specs.declared.fault.SheetFault.TheVariants.{UnknownModel}
-use Rattle.kd_sheet.proofs.FileTexts.{is_plain, IsPlain, Entry, text_entry, texts_entry, IsWritten, text_written, texts_written, file_read}
-use Rattle.kd_sheet.proofs.InTurn.{then_read, passing}
+use Rattle.kd_sheet.proofs.Documents.{document_parsed}
+use Rattle.kd_sheet.proofs.InTurn.{then_read, passing, each_again}
 use Rattle.kd_sheet.proofs.Namings.{model_by_name-text}
-use Rattle.kd_sheet.proofs.PartsBack.{texts, counted_again, each_again, capitals_again, on_ring_below, wheels_letters_within, window_again, reflector_again, MayStand, seats_in_again, single_first, MayPlug, all_parts, all_cables_again, pins_in_again, standing_again}
-use Rattle.kd_sheet.proofs.PinsBack.{letters_apart, each_byte}
+use Rattle.kd_sheet.proofs.PartsBack.{texts, counted_again, capitals_again, window_again, reflector_again, MayStand}
+use Rattle.kd_sheet.proofs.PartsBack.{seats_in_again, single_first, MayPlug, all_parts, all_cables_again, pins_in_again}
+use Rattle.kd_sheet.proofs.PartsBack.{standing_again}
+use Rattle.kd_sheet.proofs.PinLetters.{rings_below, letters_below}
+
+-- ---- texts in double quotes
+
+-- a byte that a text in double quotes has as it is
+abbrev pub is_plain : ℕ → Bool
+is_plain byte = (nat_le 32 byte && nat_le byte 126) && not (byte == 34 || byte == 92)
+
+abbrev pub IsPlain : List ℕ → Type 0
+IsPlain text = list_all is_plain text ≡ true
+
+is_other : (byte other : ℕ) → is_plain byte ≡ true → is_plain other ≡ false → (byte == other) ≡ false
+is_other byte other plain none = grind (arith, ne_eqb)
+
+no_control : (byte : ℕ) → is_plain byte ≡ true → is_control byte ≡ false
+no_control byte plain = grind (arith, nat_tests)
+
+no_escape : (byte : ℕ) → is_plain byte ≡ true → needs_escape false 0 byte ≡ false
+unfolding needs_escape
+no_escape byte plain = grind (arith, nat_tests)
+
+none_of : (test : ℕ → Bool) → ((byte : ℕ) → is_plain byte ≡ true → test byte ≡ false) → (text : List ℕ) → IsPlain text
+    → list_any test text ≡ false
+none_of test none [] plain = refl
+none_of test none (byte ∷ text) plain = grind (arith, nat_tests, none, none_of test none text)
+
+escaped_plain : (text : List ℕ) → IsPlain text → escaped false 0 text ≡ text
+unfolding escaped quotes_after
+escaped_plain [] plain = refl
+escaped_plain (byte ∷ text) plain = grind (arith, nat_tests, no_escape, is_other, escaped_plain text)
+
+quoted_is : (text : List ℕ) → IsPlain text → quoted text ≡ string_text text
+unfolding string_text encoding_of
+quoted_is text plain = grind (arith, none_of, is_other, no_control, escaped_plain)
+
+-- ---- the lines
+
+-- a byte of one figure of UTF-8
+abbrev is_low : ℕ → Bool
+is_low byte = nat_lt byte 128
+
+plain_low : (text : List ℕ) → IsPlain text → list_all is_low text ≡ true
+plain_low [] plain = refl
+plain_low (byte ∷ text) plain = grind (arith, nat_tests, plain_low text)
+
+-- what stands in a line of a file: the key, its value, and the text that writes the value
+abbrev pub Entry : Type 0
+Entry = Key × Data × List ℕ
+
+abbrev pub text_entry : Key → List ℕ → Entry
+text_entry key text = (key, string text, quoted text)
+
+abbrev pub texts_entry : {X : Type 0} → Key → (X → List ℕ) → List X → Entry
+texts_entry key text_of things = (key, texts text_of things, listed (map text_of things))
+
+-- the text writes the value, and the reader takes it
+pub record IsWritten (entry : Entry) : Type 0 where
+  pub writes : IsValueText false entry.1 entry.2
+  pub shallow : depth entry.1 ≤ 80
+  pub dated : has_valid_dates entry.1 ≡ true
+  pub low : list_all is_low entry.2 ≡ true
+
+pub text_written : (key : Key) (text : List ℕ) → IsPlain text → IsWritten (text_entry key text)
+text_written key text plain = grind (arith, quoted_is, list_all-append, plain_low)
+
+-- what stands behind the first text of an array
+abbrev behind : {X : Type 0} → (X → List ℕ) → List X → List ℕ
+behind text_of things = flat_map (λ text. codes ", " ++ quoted text) (map text_of things)
+
+abbrev items : {X : Type 0} → (X → List ℕ) → List X → Items
+items text_of things = items_of (map (λ x. string (text_of x)) things)
+
+record AreWritten {X : Type 0} (text_of : X → List ℕ) (things : List X) : Type 0 where
+  writes : IsItemsText false false false (items text_of things) (behind text_of things ++ codes "]")
+  shallow : items_depth (items text_of things) ≡ 0
+  dated : items_have_valid_dates (items text_of things) ≡ true
+  low : list_all is_low (behind text_of things) ≡ true
+
+are_written : {X : Type 0} (text_of : X → List ℕ) (things : List X) → AllByRecursion (λ x. IsPlain (text_of x)) things
+    → AreWritten text_of things
+are_written text_of [] plain = record { writes = refl; shallow = refl; dated = refl; low = refl }
+are_written text_of (x ∷ things) plain =
+    grind (arith, common_steps, append_assoc, quoted_is, list_all-append, plain_low, are_written text_of things plain.1)
+
+one_line : (ds : Items) → breaks_lines false ds ≡ false
+one_line ds = grind arith
+
+pub texts_written : {X : Type 0} (key : Key) (text_of : X → List ℕ) (things : List X)
+    → AllByRecursion (λ x. IsPlain (text_of x)) things → IsWritten (texts_entry key text_of things)
+texts_written key text_of [] plain = grind arith
+texts_written key text_of (x ∷ things) plain =
+    let rest = are_written text_of things plain.1 in
+    let text = quoted (text_of x) ++ (behind text_of things ++ codes "]") in
+    let writes : IsItemsText false false true (items text_of (x ∷ things)) text =
+    (quoted (text_of x), behind text_of things ++ codes "]", refl, quoted_is (text_of x) plain.0, rest.writes) in
+    record {
+      writes = grind (arith, append_assoc, quoted, one_line);
+      shallow = rw rest.shallow (omega arith);
+      dated = rest.dated;
+      low = simp (list_all-append, plain_low (text_of x) plain.0, rest.low);
+    }
+
+-- ---- the file
+
+abbrev pub line_of : Entry → List ℕ
+line_of entry = key_line entry.0 entry.2
+
+abbrev pub expression_of : Entry → Expression
+expression_of entry = (([], key_name entry.0), key_value entry.1)
+
+key_bare : (key : Key) → key_text (key_name key) ≡ key_name key
+unfolding key_text
+key_bare key = grind arith
+
+key_low : (key : Key) → list_all is_low (key_name key) ≡ true
+key_low key = grind arith
+
+lines_text : (started : Bool) (entries : List Entry) → AllByRecursion IsWritten entries
+    → IsLinesText false started (map expression_of entries) (concat (map line_of entries))
+lines_text started [] all = refl
+lines_text started (entry ∷ entries) all = grind (arith, key_bare, append_assoc, lines_text true entries all.1)
+
+all_printed : (entries : List Entry) → AllByRecursion IsWritten entries → AllPrinted (map expression_of entries)
+all_printed [] all = tt
+all_printed (entry ∷ entries) all = ((refl, all.0.shallow, all.0.dated), all_printed entries all.1)
+
+file_low : (entries : List Entry) → AllByRecursion IsWritten entries
+    → list_all is_low (concat (map line_of entries)) ≡ true
+file_low [] all = refl
+file_low (entry ∷ entries) all = grind (arith, list_all-append, key_low, file_low entries all.1)
+
+no_mark : (text : List ℕ) → list_all is_low text ≡ true → skip_bom text ≡ text
+unfolding skip_bom
+no_mark text e = grind (arith, ltb-true, ne_eqb)
+
+pub file_read : (entries : List Entry) (table : Members) → AllByRecursion IsWritten entries
+    → option_map (λ doc. close doc.0) (run (no_nodes, []) (map expression_of entries)) ≡ Some table
+    → document_of (concat (map line_of entries)) ≡ Ok table
+unfolding parse_document
+file_read entries table all is =
+    let text = concat (map line_of entries) in
+    let low = file_low entries all in
+    let read = read_lines false false (map expression_of entries) text text (no_nodes, []) (suc (length text))
+    (lines_text false entries all) (all_printed entries all) refl (omega arith) in
+    document_parsed text table
+    (IsUtf8-from_ascii text (IsAscii-from_all text (λ place d within. ltb-true _ _ (AllPass-from_list_all is_low text low place d within))))
+    (rw (no_mark text low, read) is)
 
 -- ---- what is written is plain text
 
@@ -71,10 +201,11 @@ cables_plain : (cables : List (Option ℕ × Option ℕ)) → AllByRecursion (λ
 cables_plain [] within = tt
 cables_plain (cable ∷ cables) within = grind (arith, all_parts, letters_plain, cables_plain cables)
 
-pins_plain : (wheel : ℕ) (pins : List Bool) → IsPlain (pins_text (ring_of wheel) pins)
-pins_plain wheel pins = each_byte is_plain (ring_of wheel) pins (letters_apart wheel)
-    (λ letter has set.
-    letter_plain letter (on_ring_below wheel letter ((has_letter-Decides (ring_of wheel) letter).0 has)))
+pins_plain : (ring : List ℕ) (pins : List Bool) → AllByRecursion (λ letter. letter < 26) ring
+    → IsPlain (pins_text ring pins)
+pins_plain [] pins within = refl
+pins_plain (letter ∷ ring) [] within = refl
+pins_plain (letter ∷ ring) (pin ∷ pins) within = grind (arith, letter_plain, pins_plain ring pins within.1)
 
 place_plain : (place : Place) → IsPlain (place_text place)
 place_plain place = grind arith
@@ -206,7 +337,7 @@ pin_table m =
 pin_read : (m : PinParts) → IsLegalPin m → document_of (machine_text (Pin m)) ≡ Ok (pin_table m)
 unfolding machine_text define along_header along_dots at_key
 pin_read m legal =
-    let all_pins : AllByRecursion IsPlain (pin_texts m.pins) = grind (arith, pins_plain) in
+    let all_pins : AllByRecursion IsPlain (pin_texts m.pins) = grind (arith, pins_plain, rings_below) in
     let all : AllByRecursion IsWritten (pin_entries m) =
     search (
       rules,
@@ -217,7 +348,8 @@ pin_read m legal =
       all_pins,
       letters_plain,
       bars_plain,
-      wheels_letters_within,
+      letters_below,
+      recursion_from_All,
       legal.letters,
     ) in
     file_read (pin_entries m) (pin_table m) all refl
@@ -227,7 +359,7 @@ unfolding bars_in
 bars_again m legal =
     counted_again keys.Bars (pin_table m) 27 standing_text m.bars standing_for m.bars refl legal.bars
     (each_again standing_for (λ bar. string (standing_text bar)) (λ bar. IsBefore bar.0 bar.1)
-    (λ earlier bar before. rw (standing_again bar before) refl) [] m.bars (recursion_from_All _ _ legal.apart))
+    (λ earlier bar before. rw (standing_again bar before) refl) m.bars legal.apart)
 
 pin_parts_again : (m : PinParts) → IsLegalPin m → pin_parts_in (pin_table m) ≡ Ok m
 unfolding pin_parts_in shown_in

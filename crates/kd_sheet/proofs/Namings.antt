@@ -1,11 +1,7 @@
 -- What has a name, and that nothing else has it.
-use Rattle.std.proofs.Common.{◌≡◌, ◌≢◌, ℕ, List, [], ◌∷◌, find, MatchOption, bytes_eq, Option, Some, None, refl, sym, ap, ◌∙◌, arith}
-use Rattle.std.proofs.lemmas.Bool.{cases_Bool}
-use Rattle.std.proofs.lemmas.Slice.Eq.{bytes_eq-Decides}
-use Rattle.kd_tables.specs.Tables.{model_text, wheel_text}
-use Rattle.kd_tables.specs.declared.model.Model.{Model}
-use Rattle.kd_tables.specs.declared.wheel.Wheel.{Wheel}
-use Rattle.kd_sheet.specs.Names.{every_model, every_wheel, model_by_name, wheel_by_name}
+use Rattle.kd_sheet.proofs.Prelude.{List, MatchOption, None, Option, Some, [], ap, arith, bytes_eq, find, refl, sym, ℕ}
+use Rattle.kd_sheet.proofs.Prelude.{◌∙◌, ◌∷◌, ◌≡◌, ◌≢◌, cases_Bool, bytes_eq-Decides, model_by_name, wheel_by_name}
+use Rattle.kd_sheet.proofs.Prelude.{every_model, every_wheel, model_text, wheel_text, Model, Wheel}
 
 -- a list has nothing of a name that none has
 find_unnamed : {A : Type 0} (text_of : A → List ℕ) (name : List ℕ) → ((x : A) → text_of x ≢ name) → (xs : List A) → find (λ x. bytes_eq (text_of x) name) xs ≡ None

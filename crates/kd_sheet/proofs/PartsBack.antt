@@ -1,46 +1,36 @@
--- What is written of the parts of a machine, or of a day, is read as just these.
-use Rattle.std.proofs.lemmas.Bool.Decides.{nat_tests}
-use Rattle.std.proofs.lemmas.Grind.{common_steps}
-use Rattle.std.proofs.Common.{◌≡◌, ℕ, zero, suc, nat_lt, ◌+◌, ◌<◌, ◌≤◌, nat_eq, nat_le, true, false, cond, ◌==◌, List, [], ◌∷◌, ◌++◌, length, map, Contains, slice_get, Option, Some, None, Result, Ok, refl, ap, ◌∙◌, subst, arith, rules}
-use Rattle.std.specs.List.{list_all, flat_map, enumerate_from, IsDistinct, AllByRecursion}
-use Rattle.std.proofs.lemmas.Bool.{eq-eqb, le-leb, lt-ltb, false_from_ne_true}
-use Rattle.std.proofs.lemmas.List.{append_assoc, append-nil, length-map, map-append}
-use Rattle.std.proofs.lemmas.List.Elements.{recursion_from_All, All-from_recursion, All-contains}
-use Rattle.std.proofs.lemmas.Option.{none-some, slice_get-get_or}
-use Rattle.std.proofs.Math.Bool.{and-false}
-use Rattle.toml.specs.Data.{Data, string, array, Members}
-use Rattle.toml.specs.View.{items_of}
-use Rattle.kd_tables.specs.Places.{IsBefore, place_rank, standing_text}
-use Rattle.kd_tables.specs.Rings.{ring_of}
-use Rattle.kd_tables.specs.Tables.{letters_of, slots_of, reflectors_of, reflector_text, wheel_text}
-use Rattle.kd_tables.specs.Text.{is_capital, letters_text}
-use Rattle.kd_tables.specs.declared.model.Model.{Model}
-use Rattle.kd_tables.specs.declared.place.Place.{Place}
-use Rattle.kd_tables.specs.declared.wheel.Wheel.{Wheel}
-use Rattle.kd_tables.specs.declared.reflector.Reflector.{Reflector}
-use Rattle.kd_pins.specs.declared.pin_set.PinSet.{PinSet}
-use Rattle.kd_state.specs.Box.{has_reflector}
-use Rattle.kd_state.specs.Machine.{cable_letters, plugged_letters, AreAllowed, AreApart, AreLetters, AreOnWheels, HasAllPins}
-use Rattle.kd_state.specs.Setting.{has_letter}
-use Rattle.kd_state.specs.SheetDay.{AreSeated}
-use Rattle.kd_state.proofs.Rings.{has_letter-Decides}
-use Rattle.kd_sheet.specs.Cables.{may_have, plugged_letters_in, letters_of_item, are_new, cable_of, cable_for, plugged_by, cable_behind, cables_of, thirteen, thirteen_of, all_cables_in}
-use Rattle.kd_sheet.specs.Document.{◌>>=◌, ◌>>◌, demand, value_at, items_in, items_at, all_values, given_earlier}
-use Rattle.kd_sheet.specs.Letters.{capital_letters}
-use Rattle.kd_sheet.specs.MachineText.{seat_text, cable_text, pin_texts}
-use Rattle.kd_sheet.specs.Names.{reflector_by_name, standing_by_text, wheel_by_name}
-use Rattle.kd_sheet.specs.PinWheels.{letters_on_wheels, pins_of_item, pins_in}
-use Rattle.kd_sheet.specs.Seats.{may_be_empty, wheel_of_item, wheel_for, seat_for, seat_of_item, seat_behind, seats_in, is_seated}
-use Rattle.kd_sheet.specs.declared.key.Key.{Key}
+-- What is written of the parts of a machine, or of a day, is read as just these; and each legal day is described by a table.
+use Rattle.kd_sheet.proofs.Prelude.{List, None, Ok, Option, Result, Some, [], ap, append_assoc, arith, cond, false}
+use Rattle.kd_sheet.proofs.Prelude.{length, map, nat_eq, nat_le, nat_lt, ok_or, pos, refl, replicate, rules, slice_get}
+use Rattle.kd_sheet.proofs.Prelude.{suc, sym, true, zero, ℕ, ◌++◌, ◌+◌, ◌<◌, ◌==◌, ◌∙◌, ◌∷◌, ◌≡◌, ◌≤◌, and-false}
+use Rattle.kd_sheet.proofs.Prelude.{or-true, cases_eq, eq-eqb, false_from_ne_true, le-leb, lt-ltb, ne_eqb, common_steps}
+use Rattle.kd_sheet.proofs.Prelude.{append-nil, length-map, flat_map-append, All-map, All-weaker, filter_map-append}
+use Rattle.kd_sheet.proofs.Prelude.{recursion_from_All, none-some, slice_get-get_or, IsDistinct, AllByRecursion}
+use Rattle.kd_sheet.proofs.Prelude.{flat_map, list_all, PinSet, all_cables_in, cable_for, letters_of_item, pairs_in}
+use Rattle.kd_sheet.proofs.Prelude.{plugged_letters_in, are_new, cable_behind, cable_of, cables_of, may_have, pairs_of}
+use Rattle.kd_sheet.proofs.Prelude.{plugged_by, thirteen, thirteen_of, all_values, demand, given_earlier, items_at}
+use Rattle.kd_sheet.proofs.Prelude.{items_in, value_at, ◌>>=◌, ◌>>◌, row_of_text, rows_in, may_read, row_for, key_name}
+use Rattle.kd_sheet.proofs.Prelude.{capital_letters, model_in, reflector_in, cable_text, pin_texts, seat_text}
+use Rattle.kd_sheet.proofs.Prelude.{reflector_by_name, standing_by_text, wheel_by_name, number_to, letters_on_wheels}
+use Rattle.kd_sheet.proofs.Prelude.{pins_in, pins_of_item, shown_in, is_seated, seat_for, seat_of_item, seats_in}
+use Rattle.kd_sheet.proofs.Prelude.{wheel_for, wheel_of_item, may_be_empty, seat_behind, all_groups_in, day_in}
+use Rattle.kd_sheet.proofs.Prelude.{group_of_item, groups_in, list_in, model_day_in, number_in, pin_day_in, rings_in}
+use Rattle.kd_sheet.proofs.Prelude.{rotor_day_in, window_in, group_for, sheet_wheels, SheetFault, BadValue}
+use Rattle.kd_sheet.proofs.Prelude.{UnknownModel, Key, has_reflector-Decides, has_wheel-Decides, has_reflector}
+use Rattle.kd_sheet.proofs.Prelude.{AreAllowed, AreApart, AreLetters, AreOnWheels, HasAllPins, cable_letters}
+use Rattle.kd_sheet.proofs.Prelude.{plugged_letters, has_letter, AreSeated, Day, HasLetters, IsDayNumber, IsLegalDay}
+use Rattle.kd_sheet.proofs.Prelude.{IsLegalPinDay, IsLegalRotorDay, OfPins, OfRotors, PinDay, RotorDay, seats}
+use Rattle.kd_sheet.proofs.Prelude.{SheetWheel, IsBefore, IsReading, place_rank, reading_text, standing_text}
+use Rattle.kd_sheet.proofs.Prelude.{letters_of, model_text, reflector_text, reflectors_of, slots_of, wheel_text}
+use Rattle.kd_sheet.proofs.Prelude.{is_capital, letters_text, Model, M209, Place, Reflector, Wheel, Data, Members}
+use Rattle.kd_sheet.proofs.Prelude.{array, integer, member, no_members, string, items_of}
 use Rattle.kd_sheet.specs.declared.key.Key.TheVariants as keys
-use Rattle.kd_sheet.specs.declared.fault.SheetFault.{SheetFault}
-use Rattle.kd_sheet.specs.declared.fault.SheetFault.TheVariants.{BadValue}
-use Rattle.kd_sheet.proofs.CableLetters.{flat_map-append}
+use Rattle.kd_sheet.proofs.CableLetters.{letters_joined}
 use Rattle.kd_sheet.proofs.Documents.{list_of-items_of}
-use Rattle.kd_sheet.proofs.InTurn.{Reads, reads_again, then_read, passing}
-use Rattle.kd_sheet.proofs.Namings.{wheel_by_name-text}
-use Rattle.kd_sheet.proofs.PinsBack.{pins_back}
-use Rattle.kd_sheet.proofs.Wheels.{has_wheel-Decides, is_seated-Decides}
+use Rattle.kd_sheet.proofs.InTurn.{then_read, passing, read_again, at_joined, again, each_again}
+use Rattle.kd_sheet.proofs.Legal.{day_again}
+use Rattle.kd_sheet.proofs.Namings.{model_by_name-text, wheel_by_name-text}
+use Rattle.kd_sheet.proofs.PinLetters.{are_own, letters_below, pins_back}
+use Rattle.kd_sheet.proofs.Seating.{is_seated-Decides}
 
 -- ---- arrays of texts
 
@@ -60,20 +50,12 @@ texts_at key table text_of things there = search (rules, then_read, value_at, te
 pub counted_again : {X A : Type 0} (key : Key) (table : Members) (count : ℕ) (text_of : X → List ℕ) (things : List X)
     (reading : List Data → Data → Result A SheetFault) (values : List A)
     → value_at key table ≡ Ok (texts text_of things) → length things ≡ count
-    → Reads reading [] (map (λ x. string (text_of x)) things) values
+    → all_values (given_earlier reading (map (λ x. string (text_of x)) things)) ≡ Ok values
     → (items_at key table >>=
     (λ items. demand (length items == count) (BadValue key) >> all_values (given_earlier reading items)))
     ≡ Ok values
 counted_again key table count text_of things reading values there counted read =
-    grind (arith, common_steps, eq-eqb, then_read, items_at, texts_at, passing, reads_again, read)
-
--- items that are read as their values, whatever stands before them
-pub each_again : {A : Type 0} (reading : List Data → Data → Result A SheetFault) (item_of : A → Data) (P : A → Type 0)
-    → ((earlier : List Data) (x : A) → P x → reading earlier (item_of x) ≡ Ok x) → (earlier : List Data) (xs : List A)
-    → AllByRecursion P xs → Reads reading earlier (map item_of xs) xs
-each_again reading item_of P again earlier [] all = tt
-each_again reading item_of P again earlier (x ∷ xs) all =
-    (again earlier x all.0, each_again reading item_of P again (earlier ++ item_of x ∷ []) xs all.1)
+    grind (arith, common_steps, eq-eqb, then_read, items_at, texts_at, passing, read)
 
 -- ---- letters
 
@@ -87,47 +69,10 @@ pub capitals_again : (count : ℕ) (letters : List ℕ) → AreLetters count let
 capitals_again count letters are =
     grind (arith, common_steps, letters_spelled, recursion_from_All, eq-eqb)
 
-pub all_below : (limit : ℕ) (xs : List ℕ) → list_all (λ x. nat_lt x limit) xs ≡ true
-    → AllByRecursion (λ x. x < limit) xs
-all_below limit [] e = tt
-all_below limit (x ∷ xs) e = grind (arith, nat_tests, all_below limit xs)
-
-ring_below : (wheel : ℕ) → list_all (λ letter. nat_lt letter 26) (ring_of wheel) ≡ true
-unfolding ring_of
-ring_below wheel = grind arith
-
-pub on_ring_below : (wheel letter : ℕ) → Contains (ring_of wheel) letter → letter < 26
-on_ring_below wheel letter on =
-    All-contains (λ letter. letter < 26) (ring_of wheel) letter
-    (All-from_recursion (λ letter. letter < 26) _ (all_below 26 _ (ring_below wheel))) on
-
-on_wheels_again : (letters : List ℕ) (first : ℕ)
-    → ((place letter : ℕ) → slice_get letters place ≡ Some letter → Contains (ring_of (first + place)) letter)
-    → (list_all (λ (numbered : ℕ × ℕ). has_letter (ring_of numbered.0) numbered.1)
-    (enumerate_from first letters) ≡ true) × AllByRecursion (λ letter. letter < 26) letters
-on_wheels_again [] first on = (refl, tt)
-on_wheels_again (letter ∷ letters) first on =
-    let no_more : first + 0 ≡ first = omega arith in
-    let there = subst (λ wheel. Contains (ring_of wheel) letter) no_more (on 0 letter refl) in
-    let rest = on_wheels_again letters (first + 1) (λ place other at.
-    let wheel : first + suc place ≡ first + 1 + place = omega arith in
-    subst (λ w. Contains (ring_of w) other) wheel (on (suc place) other at)) in
-    (rw ((has_letter-Decides (ring_of first) letter).1 there, rest.0) refl, (on_ring_below first letter there, rest.1))
-
-on_six_wheels : (letters : List ℕ) → AreOnWheels letters
-    → (list_all (λ (numbered : ℕ × ℕ). has_letter (ring_of numbered.0) numbered.1) (enumerate_from 1 letters) ≡ true)
-    × AllByRecursion (λ letter. letter < 26) letters
-on_six_wheels letters are = on_wheels_again letters 1 (λ place letter at. grind (arith, are.each))
-
-pub wheels_letters_within : (letters : List ℕ) → AreOnWheels letters → AllByRecursion (λ letter. letter < 26) letters
-wheels_letters_within letters are = (on_six_wheels letters are).1
-
 pub window_again : (window : List ℕ) → AreOnWheels window → letters_on_wheels (letters_text window) ≡ Some window
 unfolding letters_on_wheels
 window_again window are =
-    let on = on_six_wheels window are in
-    let letters : AreLetters 6 window = record { count = are.count; within = All-from_recursion _ window on.1 } in
-    rw (capitals_again 6 window letters, on.0) refl
+    rw (capitals_again 6 window (record { count = are.count; within = letters_below window are }), are_own window are) refl
 
 -- ---- reflector and wheels
 
@@ -144,9 +89,10 @@ MayStand key (Some wheel) = Unit {0}
 abbrev seat_item : Option Wheel → Data
 seat_item seat = string (seat_text seat)
 
-seat_named : (seat : Option Wheel) → wheel_of_item (seat_item seat) ≡ seat
+seats_named : (slots : List (Option Wheel)) → map wheel_of_item (map seat_item slots) ≡ slots
 unfolding wheel_of_item wheel_by_name
-seat_named seat = grind (arith, wheel_by_name-text)
+seats_named [] = refl
+seats_named (seat ∷ slots) = grind (arith, wheel_by_name-text, seats_named slots)
 
 has_name : (wheel : Wheel) → (length (wheel_text wheel) == 0) ≡ false
 has_name wheel = grind arith
@@ -177,26 +123,15 @@ seat_again key model slots rest (Some wheel) may allowed apart =
     omega (arith, same, among.1)) in
     rw (has_name wheel, and-false, wheel_by_name-text wheel, among_them, free) refl
 
-seats_again : (key : Key) (model : Model) (earlier : List Data) (done slots : List (Option Wheel))
-    → map wheel_of_item earlier ≡ done → AllByRecursion (MayStand key) slots → AreAllowed model (done ++ slots)
-    → AreApart (done ++ slots) → Reads (seat_behind key model) earlier (map seat_item slots) slots
-seats_again key model earlier done [] named may allowed apart = tt
-seats_again key model earlier done (seat ∷ slots) named may allowed apart =
-    let also : map wheel_of_item (earlier ++ seat_item seat ∷ []) ≡ done ++ seat ∷ [] =
-    rw (map-append, named, seat_named seat) refl in
-    let more = append_assoc done (seat ∷ []) slots in (
-      rw named (seat_again key model done slots seat may.0 allowed apart),
-      seats_again key model (earlier ++ seat_item seat ∷ []) (done ++ seat ∷ []) slots also may.1 (rw more allowed)
-          (rw more apart),
-    )
-
 pub seats_in_again : (key : Key) (model : Model) (table : Members) (slots : List (Option Wheel))
     → value_at key table ≡ Ok (texts seat_text slots) → AllByRecursion (MayStand key) slots → AreSeated model slots
     → seats_in key model table ≡ Ok slots
 unfolding seats_in
 seats_in_again key model table slots there may seated =
     counted_again key table (slots_of model) seat_text slots (seat_behind key model) slots there seated.count
-    (seats_again key model [] [] slots refl may seated.allowed seated.apart)
+    (again (seat_behind key model) seat_item slots (λ front rest seat is.
+    rw (seats_named front) (seat_again key model front rest seat (at_joined (MayStand key) front seat rest (rw is at may))
+    (rw is at seated.allowed) (rw is at seated.apart))))
 
 -- ---- cables
 
@@ -217,12 +152,6 @@ cable_spelled : (key : Key) (cable : Option ℕ × Option ℕ) → MayPlug key c
 unfolding letters_of_item plugged_letters_in
 cable_spelled key cable may within = grind (arith, letters_spelled, within)
 
--- a letter that comes after others, none twice, is none of them
-at_joined : (P : ℕ → Type 0) (front : List ℕ) (letter : ℕ) (rest : List ℕ) → AllByRecursion P (front ++ letter ∷ rest)
-    → P letter
-at_joined P [] letter rest all = all.0
-at_joined P (x ∷ front) letter rest all = at_joined P front letter rest all.1
-
 new_behind : (front : List ℕ) (letter : ℕ) (rest : List ℕ) → IsDistinct nat_eq (front ++ letter ∷ rest)
     → has_letter front letter ≡ false
 unfolding IsDistinct
@@ -241,17 +170,27 @@ pub all_parts : {X : Type 0} (P : X → Type 0) (xs ys : List X) → AllByRecurs
 all_parts P [] ys all = (tt, all)
 all_parts P (x ∷ xs) ys all = let rest = all_parts P xs ys all.1 in ((all.0, rest.0), rest.1)
 
-cables_again : (key : Key) (earlier : List Data) (plugged : List ℕ) (cables : List (Option ℕ × Option ℕ))
-    → flat_map (plugged_by key) earlier ≡ plugged → AllByRecursion (MayPlug key) cables
+-- the letters that the cables' texts plug
+all_plugged : (key : Key) (cables : List (Option ℕ × Option ℕ)) → AllByRecursion (MayPlug key) cables
     → AllByRecursion (λ letter. letter < 26) (plugged_letters cables)
-    → IsDistinct nat_eq (plugged ++ plugged_letters cables)
-    → Reads (cable_behind key) earlier (map cable_item cables) (map single_first cables)
+    → flat_map (plugged_by key) (map cable_item cables) ≡ plugged_letters cables
+all_plugged key [] may within = refl
+all_plugged key (cable ∷ cables) may within = grind (arith, cable_spelled, all_parts, all_plugged key cables)
+
+cables_again : (key : Key) (cables : List (Option ℕ × Option ℕ)) → AllByRecursion (MayPlug key) cables
+    → AllByRecursion (λ letter. letter < 26) (plugged_letters cables) → IsDistinct nat_eq (plugged_letters cables)
+    → cables_of key (map cable_item cables) ≡ Ok (map single_first cables)
 unfolding cable_for
-cables_again key earlier plugged [] so_far may within apart = tt
-cables_again key earlier plugged (cable ∷ cables) so_far may within apart =
-    let more = cables_again key (earlier ++ cable_item cable ∷ []) (plugged ++ cable_letters cable) cables in
-    let parts = all_parts (λ letter. letter < 26) (cable_letters cable) (plugged_letters cables) within in
-    grind (arith, cable_spelled, new_letters, flat_map-append, append_assoc, append-nil, more)
+cables_again key cables may within apart =
+    read_again (cable_behind key) cable_item single_first cables (λ front rest cable is.
+    let all_may = all_parts (MayPlug key) front (cable ∷ rest) (rw is at may) in
+    let letters : plugged_letters cables ≡ plugged_letters front ++ (cable_letters cable ++ plugged_letters rest) = rw (is, flat_map-append) refl in
+    let lie = all_parts (λ letter. letter < 26) (plugged_letters front) _ (rw letters at within) in
+    rw (
+      all_plugged key front all_may.0 lie.0,
+      cable_spelled key cable all_may.1.0 (all_parts (λ letter. letter < 26) _ _ lie.1).0,
+      new_letters (plugged_letters front) (cable_letters cable) (plugged_letters rest) (rw letters at apart),
+    ) refl)
 
 pub all_cables_again : (key : Key) (cables : List (Option ℕ × Option ℕ)) → length cables ≤ 13
     → AllByRecursion (MayPlug key) cables → AllByRecursion (λ letter. letter < 26) (plugged_letters cables)
@@ -261,13 +200,12 @@ unfolding all_cables_in
 all_cables_again key cables few may within apart =
     let items = map cable_item cables in
     let room : nat_le (length items) 13 ≡ true = le-leb _ _ (omega (arith, length-map cables cable_item)) in
-    let read = reads_again (cable_behind key) [] items (map single_first cables)
-    (cables_again key [] [] cables refl may within apart) in
     then_read (items_in key (texts cable_text cables))
     (λ items. demand (nat_le (length items) 13) (BadValue key) >> thirteen_of key items) items _
     (texts_read key cable_text cables)
     (passing (nat_le (length items) 13) (BadValue key) _ _ room
-    (then_read (cables_of key items) (λ cables. Ok (thirteen cables)) (map single_first cables) _ read refl))
+    (then_read (cables_of key items) (λ cables. Ok (thirteen cables)) (map single_first cables) _
+    (cables_again key cables may within apart) refl))
 
 -- ---- pins and bars
 
@@ -275,7 +213,7 @@ pub pins_in_again : (table : Members) (pins : PinSet)
     → value_at keys.Pins table ≡ Ok (texts (λ text. text) (pin_texts pins))
     → HasAllPins pins → pins_in table ≡ Ok pins
 unfolding pins_in pins_of_item
-pins_in_again table pins there fit = grind (arith, pins_back, fit, then_read, items_at, texts_at, reads_again)
+pins_in_again table pins there fit = grind (arith, pins_back, fit, then_read, items_at, texts_at)
 
 -- a text finds the standing that has it, if the left lug's place is the first
 abbrev Found : Place → Place → Type 0
@@ -288,3 +226,150 @@ standing_found left right = grind arith
 
 pub standing_again : (bar : Place × Place) → IsBefore bar.0 bar.1 → standing_by_text (standing_text bar) ≡ Some bar
 standing_again bar before = grind (arith, standing_found, lt-ltb, before)
+
+-- ---- wheels
+
+wheels_again : (wheels : List SheetWheel)
+    → sheet_wheels (seats wheels) (map (λ w. w.ring) wheels) (map (λ w. w.letter) wheels) ≡ wheels
+wheels_again [] = refl
+wheels_again (w ∷ wheels) = ap (λ rest. w ∷ rest) (wheels_again wheels)
+
+-- ---- pairs
+
+abbrev pair_cable : ℕ × ℕ → Option ℕ × Option ℕ
+pair_cable pair = (Some pair.0, Some pair.1)
+
+two_each : (pairs : List (ℕ × ℕ)) → AllByRecursion (MayPlug keys.Plugs) (map pair_cable pairs)
+two_each [] = tt
+two_each (pair ∷ pairs) = (refl, two_each pairs)
+
+pairs_plugged : (pairs : List (ℕ × ℕ)) → plugged_letters (map pair_cable pairs) ≡ letters_joined pairs
+pairs_plugged [] = refl
+pairs_plugged (pair ∷ pairs) = ap (λ rest. pair.0 ∷ pair.1 ∷ rest) (pairs_plugged pairs)
+
+no_pairs : (n : ℕ) → pairs_of (replicate n (None, None)) ≡ []
+no_pairs zero = refl
+no_pairs (suc n) = no_pairs n
+
+pairs_joined_again : (pairs : List (ℕ × ℕ)) → pairs_of (map single_first (map pair_cable pairs)) ≡ pairs
+pairs_joined_again [] = refl
+pairs_joined_again (pair ∷ pairs) = ap (λ rest. pair ∷ rest) (pairs_joined_again pairs)
+
+pairs_found : (pairs : List (ℕ × ℕ)) → pairs_of (thirteen (map single_first (map pair_cable pairs))) ≡ pairs
+pairs_found pairs = rw (filter_map-append, pairs_joined_again pairs, no_pairs) (append-nil pairs)
+
+-- ---- rows
+
+may_read_again : (row : ℕ × ℕ) → IsReading row → may_read (row.0 + 48) (row.1 + 48) ≡ true
+may_read_again row is = grind (arith, cases_eq, eq-eqb, is.equal, or-true, ne_eqb)
+
+row_again : (row : ℕ × ℕ) → IsReading row → row_of_text (reading_text row) ≡ Some row
+unfolding row_of_text
+row_again row is = grind (arith, le-leb, may_read_again)
+
+-- ---- the tables
+
+abbrev rotor_table : RotorDay → Members
+rotor_table s =
+    member (key_name keys.Day) (integer (pos s.day))
+    (member (key_name keys.Groups) (texts letters_text s.groups)
+    (member (key_name keys.Model) (string (model_text s.model))
+    (member (key_name keys.Plugs) (texts cable_text (map pair_cable s.pairs))
+    (member (key_name keys.Reflector) (string (reflector_text s.reflector))
+    (member (key_name keys.Rings) (string (letters_text (map (λ w. w.ring) s.wheels)))
+    (member (key_name keys.Wheels) (texts seat_text (seats s.wheels))
+    (member (key_name keys.Window) (string (letters_text (map (λ w. w.letter) s.wheels))) no_members)))))))
+
+abbrev pin_table : PinDay → Members
+pin_table s =
+    member (key_name keys.Day) (integer (pos s.day))
+    (member (key_name keys.List) (string (letters_text s.list))
+    (member (key_name keys.Model) (string (model_text M209))
+    (member (key_name keys.Pins) (texts (λ text. text) (pin_texts s.pins))
+    (member (key_name keys.Rows) (texts reading_text s.rows)
+    (member (key_name keys.Window) (string (letters_text s.window)) no_members)))))
+
+number_again : (number : ℕ) → IsDayNumber number → number_to 31 (integer (pos number)) ≡ Some number
+number_again number is = rw (le-leb 1 number is.first, le-leb number 31 is.last) refl
+
+by_model : (number : ℕ) (model : Model) (reflector : Reflector) (table : Members) (day : Day)
+    → has_reflector (reflectors_of model) reflector ≡ true
+    → rotor_day_in number model table ≡ Ok day → model_day_in number model table ≡ Ok day
+unfolding model_day_in
+by_model number model reflector table day e d = grind arith
+
+all_seated : (wheels : List SheetWheel) → AllByRecursion (MayStand keys.Wheels) (seats wheels)
+all_seated [] = tt
+all_seated (w ∷ wheels) = (tt, all_seated wheels)
+
+pairs_in_again : (s : RotorDay) → IsLegalRotorDay s → pairs_in (rotor_table s) ≡ Ok s.pairs
+unfolding pairs_in
+pairs_in_again s legal =
+    grind (arith, common_steps, pairs_plugged, then_read, all_cables_again, two_each, recursion_from_All, pairs_found)
+
+group_again : (earlier : List Data) (group : List ℕ) → AreLetters 3 group
+    → group_for earlier (string (letters_text group)) ≡ Ok group
+unfolding group_of_item
+group_again earlier group are = rw (capitals_again 3 group are) refl
+
+groups_in_again : (s : RotorDay) → IsLegalRotorDay s → groups_in (rotor_table s) ≡ Ok s.groups
+unfolding groups_in all_groups_in
+groups_in_again s legal =
+    let items = map (λ group. string (letters_text group)) s.groups in
+    let few : nat_le (length items) 4 ≡ true =
+    le-leb _ _ (omega (arith, length-map s.groups (λ (group : List ℕ). string (letters_text group)), legal.few_groups)) in
+    then_read (items_in keys.Groups (texts letters_text s.groups))
+    (λ items. demand (nat_le (length items) 4) (BadValue keys.Groups) >> all_values (given_earlier group_for items)) items _
+    (texts_read keys.Groups letters_text s.groups)
+    (passing (nat_le (length items) 4) (BadValue keys.Groups) _ _ few
+    (each_again group_for (λ group. string (letters_text group)) (AreLetters 3) group_again s.groups legal.groups))
+
+-- what each wheel has, the ring or the letter in the window
+parts_are : (s : RotorDay) → IsLegalRotorDay s → (part : SheetWheel → ℕ)
+    → ((w : SheetWheel) → HasLetters w → part w < 26)
+    → AreLetters (slots_of s.model) (map part s.wheels)
+parts_are s legal part low = record {
+  count = length-map s.wheels _ ∙ sym (length-map s.wheels _) ∙ legal.wheels.count;
+  within = All-map (λ letter. letter < 26) _ s.wheels (All-weaker HasLetters _ low s.wheels legal.letters);
+}
+
+rotor_again : (s : RotorDay) → IsLegalRotorDay s → rotor_day_in s.day s.model (rotor_table s) ≡ Ok (OfRotors s)
+unfolding rotor_day_in reflector_in rings_in window_in
+rotor_again s legal =
+    let has = (has_reflector-Decides (reflectors_of s.model) s.reflector).1 legal.reflector in
+    rw (
+      reflector_again s.model s.reflector has,
+      seats_in_again keys.Wheels s.model (rotor_table s) (seats s.wheels) refl (all_seated s.wheels) legal.wheels,
+      capitals_again _ _ (parts_are s legal (λ w. w.ring) (λ w has. has.ring)),
+      capitals_again _ _ (parts_are s legal (λ w. w.letter) (λ w has. has.letter)),
+      pairs_in_again s legal,
+      groups_in_again s legal,
+      wheels_again s.wheels,
+    ) refl
+
+rows_in_again : (s : PinDay) → IsLegalPinDay s → rows_in (pin_table s) ≡ Ok s.rows
+unfolding rows_in
+rows_in_again s legal =
+    counted_again keys.Rows (pin_table s) 27 reading_text s.rows row_for s.rows refl legal.count
+    (each_again row_for (λ row. string (reading_text row)) IsReading (λ earlier row is. rw (row_again row is) refl)
+    s.rows legal.rows)
+
+pin_again : (s : PinDay) → IsLegalPinDay s → pin_day_in s.day (pin_table s) ≡ Ok (OfPins s)
+unfolding pin_day_in shown_in list_in
+pin_again s legal = grind (arith, then_read, rows_in_again, pins_in_again, window_again, capitals_again)
+
+pub legal_is_described : (day : Day) → IsLegalDay day → (table : Members) × (day_in [] table ≡ Ok day)
+unfolding number_in model_in model_day_in
+legal_is_described (OfRotors s) legal =
+    let has = (has_reflector-Decides (reflectors_of s.model) s.reflector).1 legal.reflector in (
+      rotor_table s,
+      day_again s.day s.model (rotor_table s) (OfRotors s) (rw (number_again s.day legal.day) refl)
+          (rw (model_by_name-text s.model) refl)
+          (by_model s.day s.model s.reflector (rotor_table s) (OfRotors s) has (rotor_again s legal)),
+    )
+legal_is_described (OfPins s) legal =
+    let model = ap (λ found. ok_or found UnknownModel) (model_by_name-text M209) in (
+      pin_table s,
+      day_again s.day M209 (pin_table s) (OfPins s) (rw (number_again s.day legal.day) refl) model
+          (pin_again s legal),
+    )

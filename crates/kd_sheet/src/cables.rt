@@ -1,15 +1,15 @@
 //! What the items of an array plug, cable by cable.
-ghost use Rattle.std.specs.Prelude.{◌≡◌, ◌≤◌, ◌<◌, ◌&&◌, nat_eq, true, None, Some, map, length, All, IfOk, IfSome, if◌then◌else◌};
-ghost use Rattle.std.specs.List.{IsDistinct};
+ghost use Rattle.std.specs.Prelude.{◌≡◌, ◌≤◌, None, Some, map, length, IfSome};
 ghost use Rattle.std.specs.Option.{option_map};
 ghost use Rattle.toml.specs.View.{view, table_view};
 ghost use Rattle.kd_tables.specs.Text.{is_capital};
-ghost use Rattle.kd_state.specs.Machine.{cable_letters, plugged_letters, AreCables};
+ghost use Rattle.kd_state.specs.Machine.{cable_letters, plugged_letters};
 ghost use Rattle.kd_state.specs.Setting.{has_letter};
-ghost use Rattle.kd_sheet.specs.Cables.{may_have, plugged_letters_in, letters_of_item, are_new, cable_of, cable_for, thirteen_of, all_cables_in, cables_in};
+ghost use Rattle.kd_sheet.specs.Cables.{may_have, plugged_letters_in, letters_of_item, are_new, cable_of, cable_for, cable_behind, thirteen_of, all_cables_in, cables_in};
 
 use super::document::{find_at, items_in};
 use super::fault::SheetFault;
+use super::items::{ItemReader, read_items};
 use super::key::Key;
 use super::letters::capital_letter;
 use kd_tables::Letter;
@@ -37,7 +37,6 @@ fn cable_of_text(key: Key, text: &[u8]) -> Option<Cable>
     ensures value { result ≡ option_map cable_of (plugged_letters_in key text.now) }
     ensures letters { IfSome result
         (λ cable. plugged_letters_in key text.now ≡ Some (cable_letters cable)) }
-    ensures within { IfSome result (λ cable. All (λ letter. letter < 26) (cable_letters cable)) }
 {
     if !may_have(key, text.len()) {
         return None;
@@ -102,12 +101,7 @@ fn are_new(cables: &[Cable], cable: &Cable) -> bool
 /// The cable of an item behind these cables.
 #[tactic(auto, unfolding(crate::specs::Cables::cable_for, crate::specs::Cables::letters_of_item))]
 fn cable_for(key: Key, cables: &[Cable], item: &Value) -> Result<Cable, SheetFault>
-    ensures value { result ≡ cable_for key (plugged_letters cables.now) (view item.now) }
-    ensures letters { IfOk result
-        (λ cable. letters_of_item key (view item.now) ≡ Some (cable_letters cable)) }
-    ensures within { IfOk result (λ cable. All (λ letter. letter < 26) (cable_letters cable)) }
-    ensures free { IfOk result
-        (λ cable. are_new (plugged_letters cables.now) (cable_letters cable) ≡ true) }
+    ensures { result ≡ cable_for key (plugged_letters cables.now) (view item.now) }
 {
     let text = item.as_str().ok_or(SheetFault::BadValue(key))?;
     let cable = cable_of_text(key, text.as_bytes()).ok_or(SheetFault::BadValue(key))?;
@@ -118,38 +112,39 @@ fn cable_for(key: Key, cables: &[Cable], item: &Value) -> Result<Cable, SheetFau
     }
 }
 
-/// The cables of at most 13 items, and empty ones behind them.
-fn cables(key: Key, items: &[Value]) -> Result<[Cable; CABLES], SheetFault>
-    requires { length items.now ≤ 13 }
-    ensures value { result ≡ thirteen_of key (map view items.now) }
-    ensures plugged { IfOk result AreCables }
-{
-    let mut cables = [(None, None); CABLES];
-    for (place, item) in items.iter().enumerate() {
-        let cable = cable_for(key, &cables[..place], item)?;
-        cables[place] = cable;
+/// Reads the cables of an array at a key.
+#[derive(Clone, Copy)]
+struct CableReader {
+    key: Key,
+}
+
+impl ItemReader<Cable> for CableReader {
+    ghost room = { λ _. 13 };
+
+    ghost reading = { λ reader. cable_behind reader.key };
+
+    #[tactic(auto, using(crate::proofs::CableLetters::plugged_so_far))]
+    fn read(&self, before: &[Cable], item: &Value) -> Result<Cable, SheetFault> {
+        cable_for(self.key, before, item)
     }
-    Ok(cables)
 }
 
 /// The 13 cables of an array of at most 13.
 #[tactic(auto, unfolding(crate::specs::Cables::all_cables_in))]
 pub fn all_cables_in(value: &Value, key: Key) -> Result<[Cable; CABLES], SheetFault>
-    ensures value { result ≡ all_cables_in key (view value.now) }
-    ensures plugged { IfOk result AreCables }
+    ensures { result ≡ all_cables_in key (view value.now) }
 {
     let items = items_in(value, key)?;
     if items.len() > CABLES {
         return Err(SheetFault::BadValue(key));
     }
-    cables(key, items)
+    read_items(&CableReader { key }, items, (None, None))
 }
 
 /// The machine's cables: none is plugged where the file does not speak of them.
 #[tactic(auto, unfolding(crate::specs::Cables::cables_in))]
 pub fn cables_in(table: &Table) -> Result<[Cable; CABLES], SheetFault>
-    ensures value { result ≡ cables_in (table_view table.now) }
-    ensures plugged { IfOk result AreCables }
+    ensures { result ≡ cables_in (table_view table.now) }
 {
     match find_at(table, Key::Cables) {
         Some(value) => all_cables_in(value, Key::Cables),

@@ -1,12 +1,12 @@
 //! The groups of a day's messages.
-ghost use Rattle.std.specs.Prelude.{◌≡◌, ◌≤◌, map, length, All, IfOk, IfSome};
+ghost use Rattle.std.specs.Prelude.{◌≡◌};
 ghost use Rattle.toml.specs.View.{view, table_view};
-ghost use Rattle.kd_state.specs.Machine.{AreLetters};
-ghost use Rattle.kd_sheet.specs.Document.{all_values, given_earlier, result_map};
+ghost use Rattle.kd_sheet.specs.Document.{result_map};
 ghost use Rattle.kd_sheet.specs.SheetFile.{group_of_item, group_for, all_groups_in, groups_in};
 
 use super::document::{find_at, items_in};
 use super::fault::SheetFault;
+use super::items::{ItemReader, read_items};
 use super::key::Key;
 use super::letters::capital_letters;
 use arrayvec::ArrayVec;
@@ -22,56 +22,42 @@ pub type Groups = ArrayVec<[Letter; 3], GROUPS>;
 /// The letters of an item that is a text of three capital letters.
 #[tactic(auto, unfolding(crate::specs::SheetFile::group_of_item))]
 fn group_of_item(item: &Value) -> Option<[Letter; 3]>
-    ensures value { result ≡ group_of_item (view item.now) }
-    ensures word { IfSome result (AreLetters 3) }
+    ensures { result ≡ group_of_item (view item.now) }
 {
     capital_letters(item.as_str()?.as_bytes())
 }
 
-/// The group of an item.
-fn group_for(item: &Value) -> Result<[Letter; 3], SheetFault>
-    ensures value { (earlier : _) → result ≡ group_for earlier (view item.now) }
-    ensures word { IfOk result (AreLetters 3) }
-{
-    group_of_item(item).ok_or(SheetFault::BadValue(Key::Groups))
-}
+/// Reads the groups.
+#[derive(Clone, Copy)]
+struct GroupReader;
 
-/// The groups of at most four items.
-fn groups(items: &[Value]) -> Result<Groups, SheetFault>
-    requires { length items.now ≤ 4 }
-    ensures value { result_map (λ groups. groups.items) result
-        ≡ all_values (given_earlier group_for (map view items.now)) }
-    ensures few { IfOk result (λ groups. length groups.items ≤ 4) }
-    ensures words { IfOk result (λ groups. All (AreLetters 3) groups.items) }
-{
-    let mut groups = ArrayVec::new();
-    for item in items {
-        let group = group_for(item)?;
-        groups.push(group);
+impl ItemReader<[Letter; 3]> for GroupReader {
+    ghost room = { λ _. 4 };
+
+    ghost reading = { λ _. group_for };
+
+    fn read(&self, _before: &[[Letter; 3]], item: &Value) -> Result<[Letter; 3], SheetFault> {
+        group_of_item(item).ok_or(SheetFault::BadValue(Key::Groups))
     }
-    Ok(groups)
 }
 
 /// The groups of an array of at most four.
-#[tactic(auto, unfolding(crate::specs::SheetFile::all_groups_in))]
+#[tactic(auto, using(crate::proofs::InTurn::front_filled), unfolding(crate::specs::SheetFile::all_groups_in))]
 fn all_groups_in(value: &Value) -> Result<Groups, SheetFault>
-    ensures value { result_map (λ groups. groups.items) result ≡ all_groups_in (view value.now) }
-    ensures few { IfOk result (λ groups. length groups.items ≤ 4) }
-    ensures words { IfOk result (λ groups. All (AreLetters 3) groups.items) }
+    ensures { result_map (λ groups. groups.items) result ≡ all_groups_in (view value.now) }
 {
     let items = items_in(value, Key::Groups)?;
     if items.len() > GROUPS {
         return Err(SheetFault::BadValue(Key::Groups));
     }
-    groups(items)
+    let groups: [_; GROUPS] = read_items(&GroupReader, items, [Letter::A; 3])?;
+    Ok(Groups::try_from(&groups[..items.len()]).ok().unwrap())
 }
 
 /// The groups: none where the day does not speak of them.
 #[tactic(auto, unfolding(crate::specs::SheetFile::groups_in))]
 pub fn groups_in(table: &Table) -> Result<Groups, SheetFault>
-    ensures value { result_map (λ groups. groups.items) result ≡ groups_in (table_view table.now) }
-    ensures few { IfOk result (λ groups. length groups.items ≤ 4) }
-    ensures words { IfOk result (λ groups. All (AreLetters 3) groups.items) }
+    ensures { result_map (λ groups. groups.items) result ≡ groups_in (table_view table.now) }
 {
     match find_at(table, Key::Groups) {
         Some(value) => all_groups_in(value),

@@ -1,8 +1,7 @@
 //! Texts of capital letters.
-ghost use Rattle.std.specs.Prelude.{◌≡◌, ◌-◌, ◌<◌, length, All, None, Some, IfSome, if◌then◌else◌};
+ghost use Rattle.std.specs.Prelude.{◌≡◌, ◌-◌, ◌<◌, length, None, Some, IfSome, if◌then◌else◌};
 ghost use Rattle.kd_tables.specs.Tables.{box_of, slots_of};
 ghost use Rattle.kd_tables.specs.Text.{is_capital};
-ghost use Rattle.kd_state.specs.Machine.{AreLetters};
 ghost use Rattle.kd_sheet.specs.Letters.{capital_letters};
 
 use kd_state::{PerSlot, PerWheel};
@@ -10,8 +9,7 @@ use kd_tables::{Letter, Model};
 
 /// The letter of a capital letter.
 pub fn capital_letter(byte: u8) -> Option<Letter>
-    ensures value { result ≡ (if is_capital byte then Some (byte - 65) else None) }
-    ensures within { IfSome result (λ letter. letter < 26) }
+    ensures { result ≡ (if is_capital byte then Some (byte - 65) else None) }
 {
     Letter::from_byte(byte)
 }
@@ -20,7 +18,6 @@ pub fn capital_letter(byte: u8) -> Option<Letter>
 pub fn capital_letters<const N: usize>(text: &[u8]) -> Option<[Letter; N]>
     ensures value { result ≡ capital_letters N text.now }
     ensures count { IfSome result (λ letters. length letters ≡ N) }
-    ensures within { IfSome result (All (λ letter. letter < 26)) }
 {
     if text.len() != N {
         return None;
@@ -35,8 +32,7 @@ pub fn capital_letters<const N: usize>(text: &[u8]) -> Option<[Letter; N]>
 /// A letter for each of the model's slots.
 pub fn slot_letters(model: Model, text: &[u8]) -> Option<PerSlot<Letter>>
     requires { 0 < slots_of model }
-    ensures value { result ≡ capital_letters (slots_of model) text.now }
-    ensures letters { IfSome result (AreLetters (slots_of model)) }
+    ensures { result ≡ capital_letters (slots_of model) text.now }
 {
     if model.slots() == 4 {
         PerSlot::new(&capital_letters::<4>(text)?)
@@ -48,8 +44,7 @@ pub fn slot_letters(model: Model, text: &[u8]) -> Option<PerSlot<Letter>>
 /// A letter for each wheel of the model's box, in box order.
 pub fn box_letters(model: Model, text: &[u8]) -> Option<PerWheel<Letter>>
     requires { 0 < slots_of model }
-    ensures value { result ≡ capital_letters (length (box_of model)) text.now }
-    ensures letters { IfSome result (AreLetters (length (box_of model))) }
+    ensures { result ≡ capital_letters (length (box_of model)) text.now }
 {
     match model {
         Model::EnigmaI => PerWheel::new(&capital_letters::<5>(text)?),

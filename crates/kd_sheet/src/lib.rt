@@ -7,6 +7,7 @@ mod drum;
 mod fault;
 mod groups;
 mod item_text;
+mod items;
 mod key;
 pub mod laws;
 mod letters;

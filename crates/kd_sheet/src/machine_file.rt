@@ -1,8 +1,7 @@
 //! Machine files: what stands on the desk.
-ghost use Rattle.std.specs.Prelude.{◌≡◌, ◌≤◌, ◌<◌, length, Contains, IfOk, Ok};
+ghost use Rattle.std.specs.Prelude.{◌≡◌, ◌≤◌, ◌<◌};
 ghost use Rattle.toml.specs.View.{table_view};
-ghost use Rattle.kd_tables.specs.Tables.{box_of, slots_of, reflectors_of};
-ghost use Rattle.kd_state.specs.Machine.{AreLetters, IsLegalRotor, IsLegalPin};
+ghost use Rattle.kd_tables.specs.Tables.{slots_of};
 ghost use Rattle.kd_sheet.specs.Document.{Answers};
 ghost use Rattle.kd_sheet.specs.MachineFile.{version_in, model_in, knows, known_model_in, reflector_in, box_letters_in, rotor_parts_in, pin_parts_in, parts_in, machine_in, machine_of};
 
@@ -66,8 +65,7 @@ fn known_model_in(version: u8, table: &Table) -> Result<Model, SheetFault>
 /// The model's reflector whose name stands in the table.
 #[tactic(auto, unfolding(crate::specs::MachineFile::reflector_in))]
 pub fn reflector_in(table: &Table, model: Model) -> Result<Reflector, SheetFault>
-    ensures value { result ≡ reflector_in model (table_view table.now) }
-    ensures of_model { IfOk result (Contains (reflectors_of model)) }
+    ensures { result ≡ reflector_in model (table_view table.now) }
 {
     let name = text_at(table, Key::Reflector)?;
     reflector_by_name(model, name).ok_or(SheetFault::BadValue(Key::Reflector))
@@ -77,8 +75,7 @@ pub fn reflector_in(table: &Table, model: Model) -> Result<Reflector, SheetFault
 #[tactic(auto, unfolding(crate::specs::MachineFile::box_letters_in))]
 fn box_letters_in(table: &Table, key: Key, model: Model) -> Result<PerWheel<Letter>, SheetFault>
     requires { 0 < slots_of model }
-    ensures value { result ≡ box_letters_in key model (table_view table.now) }
-    ensures letters { IfOk result (AreLetters (length (box_of model))) }
+    ensures { result ≡ box_letters_in key model (table_view table.now) }
 {
     box_letters(model, text_at(table, key)?.as_bytes()).ok_or(SheetFault::BadValue(key))
 }
@@ -87,8 +84,7 @@ fn box_letters_in(table: &Table, key: Key, model: Model) -> Result<PerWheel<Lett
 #[tactic(auto, unfolding(crate::specs::MachineFile::rotor_parts_in))]
 fn rotor_parts_in(table: &Table, model: Model) -> Result<RotorParts, SheetFault>
     requires { 0 < slots_of model }
-    ensures value { result ≡ rotor_parts_in model (table_view table.now) }
-    ensures legal { IfOk result IsLegalRotor }
+    ensures { result ≡ rotor_parts_in model (table_view table.now) }
 {
     let reflector = reflector_in(table, model)?;
     let slots = seats_in(table, Key::Slots, model)?;
@@ -108,8 +104,7 @@ fn rotor_parts_in(table: &Table, model: Model) -> Result<RotorParts, SheetFault>
 /// The parts of a Converter M-209.
 #[tactic(auto, unfolding(crate::specs::MachineFile::pin_parts_in))]
 fn pin_parts_in(table: &Table) -> Result<PinParts, SheetFault>
-    ensures value { result ≡ pin_parts_in (table_view table.now) }
-    ensures legal { IfOk result IsLegalPin }
+    ensures { result ≡ pin_parts_in (table_view table.now) }
 {
     let letters = shown_in(table, Key::Letters)?;
     let pins = pins_in(table)?;
@@ -122,7 +117,7 @@ fn pin_parts_in(table: &Table) -> Result<PinParts, SheetFault>
 }
 
 /// The machine of a model that the table describes.
-#[tactic(auto, unfolding(crate::specs::MachineFile::parts_in))]
+#[tactic(auto, using(crate::proofs::Legal::rotor_parts_legal, crate::proofs::Legal::pin_parts_legal), unfolding(crate::specs::MachineFile::parts_in))]
 fn parts_in(table: &Table, model: Model) -> Result<Machine, SheetFault>
     ensures { result ≡ parts_in model (table_view table.now) }
 {

@@ -1,6 +1,5 @@
 //! Models, reflectors, wheels and standings by their names.
-ghost use Rattle.std.specs.Prelude.{◌≡◌, Contains, IfSome};
-ghost use Rattle.kd_tables.specs.Tables.{reflectors_of};
+ghost use Rattle.std.specs.Prelude.{◌≡◌};
 ghost use Rattle.kd_sheet.specs.Names.{model_by_name, reflector_by_name, wheel_by_name, standing_by_text};
 
 use kd_tables::{Model, Reflector, Standing, Wheel};
@@ -15,8 +14,7 @@ pub fn model_by_name(name: &str) -> Option<Model>
 /// The model's reflector of that name.
 #[tactic(auto, unfolding(crate::specs::Names::reflector_by_name))]
 pub fn reflector_by_name(model: Model, name: &str) -> Option<Reflector>
-    ensures value { result ≡ reflector_by_name model name.now }
-    ensures of_model { IfSome result (Contains (reflectors_of model)) }
+    ensures { result ≡ reflector_by_name model name.now }
 {
     model
         .reflectors()

@@ -1,8 +1,7 @@
 //! Whole numbers, and the letters that numbers from 1 to 26 stand for.
-ghost use Rattle.std.specs.Prelude.{◌≡◌, ◌<◌, ◌≤◌, map, length, All, IfSome};
+ghost use Rattle.std.specs.Prelude.{◌≡◌, ◌<◌, ◌≤◌, map, length, IfSome};
 ghost use Rattle.toml.specs.View.{view};
 ghost use Rattle.kd_tables.specs.Tables.{slots_of};
-ghost use Rattle.kd_state.specs.Machine.{AreLetters};
 ghost use Rattle.kd_sheet.specs.Numbers.{number_to, numbered_letter, numbered_letters};
 
 use kd_state::PerSlot;
@@ -24,8 +23,7 @@ pub fn number_to(value: &Value, last: u8) -> Option<u8>
 
 /// The letter that a number from 1 to 26 stands for. 1 is A.
 fn numbered_letter(item: &Value) -> Option<Letter>
-    ensures value { result ≡ numbered_letter (view item.now) }
-    ensures within { IfSome result (λ letter. letter < 26) }
+    ensures { result ≡ numbered_letter (view item.now) }
 {
     let number = number_to(item, 26)?;
     Letter::new(number - 1)
@@ -36,7 +34,6 @@ pub fn numbered_letters<const N: usize>(items: &[Value]) -> Option<[Letter; N]>
     requires { length items.now ≡ N }
     ensures value { result ≡ numbered_letters N (map view items.now) }
     ensures count { IfSome result (λ letters. length letters ≡ N) }
-    ensures within { IfSome result (All (λ letter. letter < 26)) }
 {
     let mut letters = [Letter::A; N];
     for (place, item) in items.iter().enumerate() {
@@ -48,8 +45,7 @@ pub fn numbered_letters<const N: usize>(items: &[Value]) -> Option<[Letter; N]>
 /// The letters that numbers stand for, one for each of the model's slots.
 pub fn numbered_slots(model: Model, items: &[Value]) -> Option<PerSlot<Letter>>
     requires { 0 < slots_of model }
-    ensures value { result ≡ numbered_letters (slots_of model) (map view items.now) }
-    ensures letters { IfSome result (AreLetters (slots_of model)) }
+    ensures { result ≡ numbered_letters (slots_of model) (map view items.now) }
 {
     if items.len() != usize::from(model.slots()) {
         return None;

@@ -3,7 +3,6 @@ ghost use Rattle.std.specs.Prelude.{◌≡◌, ◌+◌, ◌==◌, ◌<◌, [], �
 ghost use Rattle.std.specs.List.{list_any, count_by};
 ghost use Rattle.toml.specs.View.{view, table_view};
 ghost use Rattle.kd_tables.specs.Rings.{ring_of};
-ghost use Rattle.kd_state.specs.Machine.{AreOnWheels, HasAllPins};
 ghost use Rattle.kd_state.specs.Pins.{pin_set};
 ghost use Rattle.kd_state.specs.Setting.{has_letter};
 ghost use Rattle.kd_sheet.specs.Document.{◌>>=◌ as ◌followed_by◌, all_values};
@@ -40,8 +39,7 @@ fn are_on_wheels(letters: &[Letter; 6]) -> bool
 /// The letters of a text of six capital letters, each on its wheel.
 #[tactic(auto, unfolding(crate::specs::PinWheels::letters_on_wheels))]
 fn letters_on_wheels(text: &[u8]) -> Option<[Letter; 6]>
-    ensures value { result ≡ letters_on_wheels text.now }
-    ensures on_wheels { IfSome result AreOnWheels }
+    ensures { result ≡ letters_on_wheels text.now }
 {
     let letters = capital_letters::<6>(text)?;
     if are_on_wheels(&letters) {
@@ -54,8 +52,7 @@ fn letters_on_wheels(text: &[u8]) -> Option<[Letter; 6]>
 /// A letter for each of the six wheels.
 #[tactic(auto, unfolding(crate::specs::PinWheels::shown_in))]
 pub fn shown_in(table: &Table, key: Key) -> Result<[Letter; 6], SheetFault>
-    ensures value { result ≡ shown_in key (table_view table.now) }
-    ensures on_wheels { IfOk result AreOnWheels }
+    ensures { result ≡ shown_in key (table_view table.now) }
 {
     letters_on_wheels(text_at(table, key)?.as_bytes()).ok_or(SheetFault::BadValue(key))
 }
@@ -89,8 +86,7 @@ fn is_pin_text(ring: &[Letter], text: &[u8]) -> bool
 
 /// Which of the letters the text has.
 fn letters_in<const N: usize>(letters: &[Letter; N], text: &[u8]) -> [bool; N]
-    ensures value { result ≡ map (has_capital text.now) letters.now }
-    ensures count { length result ≡ N }
+    ensures { result ≡ map (has_capital text.now) letters.now }
 {
     let mut found = [false; N];
     for (place, letter) in letters.iter().enumerate() {
@@ -102,8 +98,7 @@ fn letters_in<const N: usize>(letters: &[Letter; N], text: &[u8]) -> [bool; N]
 /// Which pins of the wheel are effective, where the text has the letters of those that are.
 #[tactic(auto, unfolding(crate::specs::PinWheels::pins_of_text))]
 fn pins_of_text<const N: usize>(ring: &Ring<N>, text: &[u8]) -> Option<[bool; N]>
-    ensures value { result ≡ pins_of_text ring.now text.now }
-    ensures count { IfSome result (λ pins. length pins ≡ N) }
+    ensures { result ≡ pins_of_text ring.now text.now }
 {
     let letters = ring.letters();
     if is_pin_text(&letters, text) {
@@ -116,8 +111,7 @@ fn pins_of_text<const N: usize>(ring: &Ring<N>, text: &[u8]) -> Option<[bool; N]
 /// Which pins of the wheel the item makes effective.
 #[tactic(auto, unfolding(crate::specs::PinWheels::pins_of_item))]
 fn pins_of_item<const N: usize>(ring: &Ring<N>, item: &Value) -> Result<[bool; N], SheetFault>
-    ensures value { result ≡ pins_of_item ring.now (view item.now) }
-    ensures count { IfOk result (λ pins. length pins ≡ N) }
+    ensures { result ≡ pins_of_item ring.now (view item.now) }
 {
     let text = item.as_str().ok_or(SheetFault::BadValue(Key::Pins))?;
     pins_of_text(ring, text.as_bytes()).ok_or(SheetFault::BadValue(Key::Pins))
@@ -126,8 +120,7 @@ fn pins_of_item<const N: usize>(ring: &Ring<N>, item: &Value) -> Result<[bool; N
 /// The effective pins of the six wheels, an item for each.
 #[tactic(auto, unfolding(crate::specs::PinWheels::pins_in))]
 pub fn pins_in(table: &Table) -> Result<PinSet, SheetFault>
-    ensures value { result ≡ pins_in (table_view table.now) }
-    ensures count { IfOk result HasAllPins }
+    ensures { result ≡ pins_in (table_view table.now) }
 {
     let items = items_at(table, Key::Pins)?.as_slice();
     let [one, two, three, four, five, six] = items else {
@@ -145,12 +138,11 @@ fn pins_of_six(
     five: &Value,
     six: &Value,
 ) -> Result<PinSet, SheetFault>
-    ensures value { result ≡ (all_values
+    ensures { result ≡ (all_values
         (pins_of_item (ring_of 1) (view one.now) ∷ pins_of_item (ring_of 2) (view two.now)
         ∷ pins_of_item (ring_of 3) (view three.now) ∷ pins_of_item (ring_of 4) (view four.now)
         ∷ pins_of_item (ring_of 5) (view five.now) ∷ pins_of_item (ring_of 6) (view six.now) ∷ [])
         followed_by (λ pins. Ok (pin_set pins))) }
-    ensures count { IfOk result HasAllPins }
 {
     let w1 = pins_of_item(&ring1(), one)?;
     let w2 = pins_of_item(&ring2(), two)?;

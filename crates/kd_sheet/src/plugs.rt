@@ -1,9 +1,8 @@
 //! The pairs that a sheet plugs.
-ghost use Rattle.std.specs.Prelude.{◌≡◌, ◌+◌, ◌<◌, ◌≤◌, ◌++◌, IfOk};
+ghost use Rattle.std.specs.Prelude.{◌≡◌, ◌+◌, ◌<◌, ◌≤◌, ◌++◌};
 ghost use Rattle.std.specs.Option.{option_to_list};
 ghost use Rattle.arrayvec.specs.ArrayVec.{array_vec_len};
 ghost use Rattle.toml.specs.View.{table_view};
-ghost use Rattle.kd_state.specs.SheetDay.{ArePairs};
 ghost use Rattle.kd_state.specs.TwoCiphers.{both_ends};
 ghost use Rattle.kd_sheet.specs.Document.{result_map};
 ghost use Rattle.kd_sheet.specs.Cables.{pairs_of, pairs_in};
@@ -55,8 +54,7 @@ fn pairs_of(cables: &[Cable; 13]) -> Pairs
 /// The sheet's pairs.
 #[tactic(auto, unfolding(crate::specs::Cables::pairs_in))]
 pub fn pairs_in(table: &Table) -> Result<Pairs, SheetFault>
-    ensures value { result_map (λ pairs. pairs.items) result ≡ pairs_in (table_view table.now) }
-    ensures pairs { IfOk result (λ pairs. ArePairs pairs.items) }
+    ensures { result_map (λ pairs. pairs.items) result ≡ pairs_in (table_view table.now) }
 {
     let cables = all_cables_in(value_at(table, Key::Plugs)?, Key::Plugs)?;
     Ok(pairs_of(&cables))

@@ -29,6 +29,7 @@ impl Model for Sheet {
 
 impl Sheet {
     /// The sheet without days.
+    #[tactic(auto, using(crate::proofs::Months::blank_month, crate::proofs::Months::empty_month))]
     pub(crate) fn new() -> Self
         ensures { result ≡ month_of [] }
     {

@@ -1,9 +1,8 @@
 //! A day of a key sheet, key by key.
-ghost use Rattle.std.specs.Prelude.{◌≡◌, ◌≤◌, ◌<◌, length, All, IsSome, IfOk, IfSome};
+ghost use Rattle.std.specs.Prelude.{◌≡◌, ◌≤◌, ◌<◌, ◌⊎◌, length, All, IsSome};
 ghost use Rattle.toml.specs.View.{view, table_view};
 ghost use Rattle.kd_tables.specs.Tables.{slots_of};
-ghost use Rattle.kd_state.specs.Machine.{AreLetters};
-ghost use Rattle.kd_state.specs.SheetDay.{IsDayNumber, HasLetters, day_number};
+ghost use Rattle.kd_state.specs.SheetDay.{IsDayNumber};
 ghost use Rattle.kd_sheet.specs.SheetFile.{rings_of, rings_in, window_in, list_in, sheet_wheels, rotor_day_in, pin_day_in, model_day_in};
 
 use super::document::{text_at, value_at};
@@ -24,8 +23,7 @@ use toml::{Table, Value};
 /// The rings of the model's slots, as a text of capital letters or as numbers.
 fn rings_of(value: &Value, model: Model) -> Option<PerSlot<Letter>>
     requires { 0 < slots_of model }
-    ensures value { result ≡ rings_of (slots_of model) (view value.now) }
-    ensures letters { IfSome result (AreLetters (slots_of model)) }
+    ensures { result ≡ rings_of (slots_of model) (view value.now) }
 {
     match value {
         Value::String(text) => slot_letters(model, text.as_bytes()),
@@ -38,8 +36,7 @@ fn rings_of(value: &Value, model: Model) -> Option<PerSlot<Letter>>
 #[tactic(auto, unfolding(crate::specs::SheetFile::rings_in))]
 fn rings_in(table: &Table, model: Model) -> Result<PerSlot<Letter>, SheetFault>
     requires { 0 < slots_of model }
-    ensures value { result ≡ rings_in model (table_view table.now) }
-    ensures letters { IfOk result (AreLetters (slots_of model)) }
+    ensures { result ≡ rings_in model (table_view table.now) }
 {
     rings_of(value_at(table, Key::Rings)?, model).ok_or(SheetFault::BadValue(Key::Rings))
 }
@@ -48,8 +45,7 @@ fn rings_in(table: &Table, model: Model) -> Result<PerSlot<Letter>, SheetFault>
 #[tactic(auto, unfolding(crate::specs::SheetFile::window_in))]
 fn window_in(table: &Table, model: Model) -> Result<PerSlot<Letter>, SheetFault>
     requires { 0 < slots_of model }
-    ensures value { result ≡ window_in model (table_view table.now) }
-    ensures letters { IfOk result (AreLetters (slots_of model)) }
+    ensures { result ≡ window_in model (table_view table.now) }
 {
     let text = text_at(table, Key::Window)?;
     slot_letters(model, text.as_bytes()).ok_or(SheetFault::BadValue(Key::Window))
@@ -58,27 +54,19 @@ fn window_in(table: &Table, model: Model) -> Result<PerSlot<Letter>, SheetFault>
 /// The two letters of the key list.
 #[tactic(auto, unfolding(crate::specs::SheetFile::list_in))]
 fn list_in(table: &Table) -> Result<[Letter; 2], SheetFault>
-    ensures value { result ≡ list_in (table_view table.now) }
-    ensures word { IfOk result (AreLetters 2) }
+    ensures { result ≡ list_in (table_view table.now) }
 {
     let text = text_at(table, Key::List)?;
     capital_letters(text.as_bytes()).ok_or(SheetFault::BadValue(Key::List))
 }
 
-/// The wheels in the model's slots, each with its ring and the letter in its window.
-fn sheet_wheels(
-    model: Model,
-    slots: &[Option<Wheel>],
-    rings: &[Letter],
-    window: &[Letter],
-) -> PerSlot<SheetWheel>
-    requires some { 0 < slots_of model }
-    requires count { length slots.now ≡ slots_of model }
+/// The wheels in their slots, each with its ring and the letter in its window.
+fn sheet_wheels(slots: &[Option<Wheel>], rings: &[Letter], window: &[Letter]) -> PerSlot<SheetWheel>
+    requires few { (length slots.now ≡ 3) ⊎ (length slots.now ≡ 4) }
     requires filled { All IsSome slots.now }
-    requires rings { AreLetters (slots_of model) rings.now }
-    requires window { AreLetters (slots_of model) window.now }
-    ensures value { result ≡ sheet_wheels slots.now rings.now window.now }
-    ensures letters { All HasLetters result }
+    requires rings { length rings.now ≡ length slots.now }
+    requires window { length window.now ≡ length slots.now }
+    ensures { result ≡ sheet_wheels slots.now rings.now window.now }
 {
     let blank = SheetWheel {
         wheel: Wheel::I,
@@ -100,12 +88,11 @@ fn sheet_wheels(
 }
 
 /// The day of a rotor model.
-#[tactic(auto, unfolding(crate::specs::SheetFile::rotor_day_in))]
+#[tactic(auto, using(crate::proofs::Seating::wheels_fill, crate::proofs::Bounds::rings_in_letters, crate::proofs::Bounds::window_in_letters), unfolding(crate::specs::SheetFile::rotor_day_in))]
 fn rotor_day_in(table: &Table, day: u8, model: Model) -> Result<SheetDay, SheetFault>
     requires slots { 0 < slots_of model }
     requires day { IsDayNumber day }
-    ensures value { result ≡ rotor_day_in day model (table_view table.now) }
-    ensures number { IfOk result (λ new. day_number new ≡ day) }
+    ensures { result ≡ rotor_day_in day model (table_view table.now) }
 {
     let reflector = reflector_in(table, model)?;
     let slots = seats_in(table, Key::Wheels, model)?;
@@ -113,7 +100,7 @@ fn rotor_day_in(table: &Table, day: u8, model: Model) -> Result<SheetDay, SheetF
     let window = window_in(table, model)?;
     let pairs = pairs_in(table)?;
     let groups = groups_in(table)?;
-    let wheels = sheet_wheels(model, slots.as_slice(), rings.as_slice(), window.as_slice());
+    let wheels = sheet_wheels(slots.as_slice(), rings.as_slice(), window.as_slice());
     let new = SheetDay::rotor(
         day,
         model,
@@ -126,11 +113,10 @@ fn rotor_day_in(table: &Table, day: u8, model: Model) -> Result<SheetDay, SheetF
 }
 
 /// The day of a Converter M-209.
-#[tactic(auto, unfolding(crate::specs::SheetFile::pin_day_in))]
+#[tactic(auto, using(crate::proofs::Legal::pin_day), unfolding(crate::specs::SheetFile::pin_day_in))]
 fn pin_day_in(table: &Table, day: u8) -> Result<SheetDay, SheetFault>
     requires { IsDayNumber day }
-    ensures value { result ≡ pin_day_in day (table_view table.now) }
-    ensures number { IfOk result (λ new. day_number new ≡ day) }
+    ensures { result ≡ pin_day_in day (table_view table.now) }
 {
     let rows = rows_in(table)?;
     let pins = pins_in(table)?;
@@ -143,8 +129,7 @@ fn pin_day_in(table: &Table, day: u8) -> Result<SheetDay, SheetFault>
 #[tactic(auto, unfolding(crate::specs::SheetFile::model_day_in))]
 pub fn model_day_in(table: &Table, day: u8, model: Model) -> Result<SheetDay, SheetFault>
     requires { IsDayNumber day }
-    ensures value { result ≡ model_day_in day model (table_view table.now) }
-    ensures number { IfOk result (λ new. day_number new ≡ day) }
+    ensures { result ≡ model_day_in day model (table_view table.now) }
 {
     match model {
         Model::M209 => pin_day_in(table, day),

@@ -1,11 +1,10 @@
 //! Key sheets: the days for which a machine can be set.
-ghost use Rattle.std.specs.Prelude.{◌≡◌, ◌==◌, ◌-◌, ◌≤◌, ◌<◌, false, map, length, IfOk, Ok, Some, None, slice_set, is_some};
-ghost use Rattle.std.specs.List.{list_any};
+ghost use Rattle.std.specs.Prelude.{◌≡◌, map, IfOk};
 ghost use Rattle.toml.specs.View.{view, table_view};
-ghost use Rattle.kd_state.specs.SheetDay.{IsDayNumber, day_number};
+ghost use Rattle.kd_state.specs.SheetDay.{IsDayNumber};
 ghost use Rattle.kd_sheet.specs.Document.{Answers, result_map};
-ghost use Rattle.kd_sheet.specs.Sheet.{day_of, month_of, Takes};
-ghost use Rattle.kd_sheet.specs.SheetFile.{number_in, new_number_in, day_in, day_for, number_of_item, days_of, sheet_in, sheet_of};
+ghost use Rattle.kd_sheet.specs.Sheet.{month_of, Takes};
+ghost use Rattle.kd_sheet.specs.SheetFile.{number_in, new_number_in, day_in, day_for, days_of, sheet_in, sheet_of};
 
 use super::document::{document, items_at, value_at};
 use super::fault::SheetFault;
@@ -35,9 +34,7 @@ fn number_in(table: &Table) -> Result<u8, SheetFault>
 fn new_number_in(sheet: &Sheet, table: &Table) -> Result<u8, SheetFault>
     ensures value { (taken : _) → Takes sheet.now taken
         → result ≡ new_number_in taken (table_view table.now) }
-    ensures number { IfOk result (λ number. number_in (table_view table.now) ≡ Ok number) }
     ensures within { IfOk result IsDayNumber }
-    ensures free { IfOk result (λ number. day_of sheet.now number ≡ None) }
 {
     let number = number_in(table)?;
     if sheet.day(number).is_some() {
@@ -50,11 +47,7 @@ fn new_number_in(sheet: &Sheet, table: &Table) -> Result<u8, SheetFault>
 /// The day that an entry's table describes, behind the days of the sheet, or its first fault.
 #[tactic(auto, unfolding(crate::specs::SheetFile::day_in))]
 fn day_in(sheet: &Sheet, table: &Table) -> Result<SheetDay, SheetFault>
-    ensures value { (taken : _) → Takes sheet.now taken
-        → result ≡ day_in taken (table_view table.now) }
-    ensures number { IfOk result (λ day. number_in (table_view table.now) ≡ Ok (day_number day)) }
-    ensures within { IfOk result (λ day. IsDayNumber (day_number day)) }
-    ensures free { IfOk result (λ day. day_of sheet.now (day_number day) ≡ None) }
+    ensures { (taken : _) → Takes sheet.now taken → result ≡ day_in taken (table_view table.now) }
 {
     let number = new_number_in(sheet, table)?;
     let model = model_in(table)?;
@@ -62,12 +55,9 @@ fn day_in(sheet: &Sheet, table: &Table) -> Result<SheetDay, SheetFault>
 }
 
 /// The day of an item behind the days of the sheet.
-#[tactic(auto, unfolding(crate::specs::SheetFile::day_for, crate::specs::SheetFile::number_of_item))]
+#[tactic(auto, unfolding(crate::specs::SheetFile::day_for))]
 fn day_for(sheet: &Sheet, item: &Value) -> Result<SheetDay, SheetFault>
-    ensures value { (taken : _) → Takes sheet.now taken → result ≡ day_for taken (view item.now) }
-    ensures number { IfOk result (λ day. number_of_item (view item.now) ≡ Some (day_number day)) }
-    ensures within { IfOk result (λ day. IsDayNumber (day_number day)) }
-    ensures free { IfOk result (λ day. day_of sheet.now (day_number day) ≡ None) }
+    ensures { (taken : _) → Takes sheet.now taken → result ≡ day_for taken (view item.now) }
 {
     day_in(
         sheet,
@@ -76,6 +66,7 @@ fn day_for(sheet: &Sheet, item: &Value) -> Result<SheetDay, SheetFault>
 }
 
 /// The month with the days of the items.
+#[tactic(auto, using(crate::proofs::Months::next_month, crate::proofs::Months::taken_so_far))]
 fn month(items: &[Value]) -> Result<Sheet, SheetFault>
     ensures { result ≡ result_map month_of (days_of (map view items.now)) }
 {

@@ -1,7 +1,7 @@
-use Rattle.std.proofs.Common.{[]}
-use Rattle.kd_sheet.proofs.DayTables.{legal_is_described}
-use Rattle.kd_sheet.proofs.Described.{described}
-use Rattle.kd_sheet.proofs.SheetEntries.{days_are_the_entries}
+use Rattle.kd_sheet.proofs.Prelude.{[]}
+use Rattle.kd_sheet.proofs.Legal.{described}
+use Rattle.kd_sheet.proofs.Months.{days_are_the_entries}
+use Rattle.kd_sheet.proofs.PartsBack.{legal_is_described}
 use Rattle.kd_sheet.proofs.laws.days_are_the_entries.Goals as goal
 
 pub returns : goal.returns

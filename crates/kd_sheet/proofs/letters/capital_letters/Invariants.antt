@@ -1,7 +1,4 @@
-use Rattle.std.proofs.Common.{◌≡◌, ◌<◌, All, true, length, take}
-use Rattle.std.specs.List.{list_all}
-use Rattle.kd_tables.specs.Tables.{letters_of}
-use Rattle.kd_tables.specs.Text.{is_capital}
+use Rattle.kd_sheet.proofs.Prelude.{◌≡◌, ◌<◌, All, true, length, take, list_all, letters_of, is_capital}
 use Rattle.kd_sheet.proofs.letters.capital_letters.Given as goal
 
 -- the bytes so far are capital letters, and their letters stand in the array, which holds nothing but letters

@@ -1,7 +1,4 @@
-use Rattle.std.proofs.Common.{◌≡◌, ◌+◌, ◌*◌, ◌≤◌, ◌++◌, length, map, take}
-use Rattle.std.specs.Prelude.{codes}
-use Rattle.std.specs.List.{flat_map}
-use Rattle.kd_sheet.specs.MachineText.{quoted}
+use Rattle.kd_sheet.proofs.Prelude.{◌≡◌, ◌+◌, ◌*◌, ◌≤◌, ◌++◌, length, map, take, codes, flat_map, quoted}
 use Rattle.kd_sheet.proofs.lines.push_rest.Given as goal
 
 abbrev pub invariant-loop-item : goal.invariant-loop-item

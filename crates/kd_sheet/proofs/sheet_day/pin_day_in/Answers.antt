@@ -1,0 +1,8 @@
+use Rattle.kd_sheet.proofs.Prelude.{arith, common_steps, pin_day_in, OfPins, table_view}
+use Rattle.kd_sheet.proofs.Legal.{pin_day}
+use Rattle.kd_sheet.proofs.sheet_day.pin_day_in.Goals as goal
+
+pub unwrap-requires : goal.unwrap-requires
+unfolding pin_day_in
+unwrap-requires c =
+    c.pin.ensures.exists.1 (pin_day c.args.day (table_view c.args.table.now) (OfPins _) c.requires (grind (arith, common_steps))).legal
