@@ -1,7 +1,11 @@
 -- A grammar as it grows: no help, and a word or a command more.
 use Rattle.std.proofs.Common.{arith}
-use Rattle.kd_desk.proofs.Prelude.{◌≡◌, ◌∙◌, true, false, Result, IfOk, ap, sym, subst, App, Rule, app_of, rule_of, with_rule, app_of_fields, Arg}
-use Rattle.clap.specs.Built.{AddsArg}
+use Rattle.kd_desk.proofs.Prelude.{◌≡◌, ◌∙◌, [], ◌∷◌, ◌++◌, ℕ, List, map, true, false, ap, ap₂, sym, subst, App, app_of, rule_of, app_of_fields, Arg}
+use Rattle.std.proofs.Common.{Bor}
+use Rattle.std.proofs.lemmas.List.{map-append}
+use Rattle.clap.specs.Simple.{new_app, with_subcommand}
+use Rattle.kd_desk.specs.CommandLine.{IsMadeOf, word_named, shape_with}
+use Rattle.clap.specs.Built.{AddsArg, AddsSubcommand}
 use Rattle.clap.specs.declared.builder.command.Command.{Command}
 use Rattle.clap.specs.declared.builder.command.Command.TheViews.{out-Command}
 use Rattle.clap.specs.declared.builder.command.Command.TheOpen.{Command-F}
@@ -18,11 +22,22 @@ app_without_help old new app made is = subst (λ fields. app_of_fields fields �
 pub local_without_help : (old new : Command) → out-Command new ≡ no_help (out-Command old) → (out-Command old).has_globals ≡ false → (out-Command new).has_globals ≡ false
 local_without_help old new made local = ap (λ (fields : Command-F Command). fields.has_globals) made ∙ local
 
-module _ {E : Type 0} (old : Command) (word : Arg) where
-  pub takes_word : (added : Result Command E) (app : App) (rule : Rule) → app_of old ≡ app → rule_of word ≡ rule → word.global ≡ false
-      → IfOk added (λ new. AddsArg old word new) → IfOk added (λ new. app_of new ≡ with_rule app rule)
-  takes_word added app rule e d g h = grind arith
+pub first_word : {name : List ℕ} (new old : Command) → app_of old ≡ new_app name → (out-Command old).has_globals ≡ false
+    → out-Command new ≡ no_help (out-Command old) → IsMadeOf new name []
+first_word new old is local made = record {
+  shape = app_without_help old new _ made is;
+  local = local_without_help old new made local;
+}
 
-  pub stays_local : (added : Result Command E) → (out-Command old).has_globals ≡ false → word.global ≡ false
-      → IfOk added (λ new. AddsArg old word new) → IfOk added (λ new. (out-Command new).has_globals ≡ false)
-  stays_local added e d g = grind arith
+pub one_word_more : {name : List ℕ} {words : List (Bor (List ℕ))} {old new : Command} (word : Arg) (more : Bor (List ℕ))
+    → IsMadeOf old name words → rule_of word ≡ word_named more.now → word.global ≡ false → AddsArg old word new
+    → IsMadeOf new name (words ++ more ∷ [])
+one_word_more word more has rule local adds = record {
+  shape = grind (arith, map-append);
+  local = grind arith;
+}
+
+-- a command more, with these words
+pub one_command_more : {name : List ℕ} {words : List (Bor (List ℕ))} {app : App} {old sub new : Command} → app_of old ≡ app
+    → IsMadeOf sub name words → AddsSubcommand old sub new → app_of new ≡ with_subcommand app (shape_with name words)
+one_command_more is has adds = adds.shape has.local ∙ ap₂ with_subcommand is (ap (λ (a : App). a.top) has.shape)

@@ -1,7 +1,8 @@
 -- What the program's words say, by what clap makes of the desk's grammar.
 use Rattle.std.specs.Prelude.{codes, decimal, ◌≡◌, ℕ, true, false, List, [], ◌∷◌, ◌++◌, map, Option, Some, None, IsSomeAnd}
 use Rattle.std.specs.Borrow.{Bor}
-use Rattle.clap.specs.Words.{App, Row, Rule, Shape, first_of, fault_of, new_rule, subcommand_of}
+use Rattle.clap.specs.declared.builder.command.Command.{Command as Grammar, out-Command}
+use Rattle.clap.specs.Words.{App, app_of, Row, Rule, Shape, first_of, fault_of, new_rule, subcommand_of}
 use Rattle.clap.specs.Simple.{new_shape}
 use Rattle.kd_state.specs.SheetDay.{IsDayNumber}
 use Rattle.kd_desk.specs.declared.command.Command.{Command}
@@ -26,6 +27,15 @@ command_shape name words = record (new_shape name) {
 -- a command that has no commands of its own
 abbrev pub alone : Shape → App
 alone shape = record { top = shape; subs = [] }
+
+-- the same with the words as they are borrowed
+abbrev pub shape_with : List ℕ → List (Bor (List ℕ)) → Shape
+shape_with name words = command_shape name (map (λ word. word.now) words)
+
+-- a grammar is that command, and its words are its own alone
+pub record IsMadeOf (grammar : Grammar) (name : List ℕ) (words : List (Bor (List ℕ))) : Type 0 where
+  pub shape : app_of grammar ≡ alone (shape_with name words)
+  pub local : (out-Command grammar).has_globals ≡ false
 
 -- the words that name a machine file, a sheet and a day
 abbrev pub day_words : List (List ℕ)

@@ -1,8 +1,7 @@
 ghost use Rattle.std.specs.Prelude.{◌≡◌, ◌≢◌, [], ◌∷◌, ℕ, List, false, codes, decimal, map, Err, IfSome, IfOk, IfErr};
-ghost use Rattle.clap.specs.declared.builder.command.Command.{out-Command};
 ghost use Rattle.clap.specs.Words.{app_of, found_of, kind_of, rows_of, rule_of};
 ghost use Rattle.kd_state.specs.SheetDay.{IsDayNumber};
-ghost use Rattle.kd_desk.specs.CommandLine.{word_named, command_shape, alone, day_words, way_name, way_word, file_shape, desk_grammar};
+ghost use Rattle.kd_desk.specs.CommandLine.{word_named, IsMadeOf, way_name, way_word, desk_grammar};
 ghost use Rattle.kd_desk.specs.CommandLine.{named, action_named, HaveDay, IsActionOf, IsOf, IsOfNone, Says, SaysNothing};
 
 use crate::fault::DeskFault;
@@ -16,7 +15,7 @@ use std::convert::AsStr;
 
 /// A command of the desk, with its files: those that are read whole, as `F`, and the one that is read as it comes, as `O`.
 /// Either is a name, or what the name stands for.
-#[derive(Clone, Copy, Debug, PartialEq, Eq, Drop)]
+#[derive(Drop)]
 pub struct Command<F, O> {
     /// The machine file.
     pub machine: F,
@@ -25,7 +24,7 @@ pub struct Command<F, O> {
 }
 
 /// What is done with a machine.
-#[derive(Clone, Copy, Debug, PartialEq, Eq, Drop)]
+#[derive(Drop)]
 pub enum Action<F, O> {
     /// The standard input is typed on it.
     Type,
@@ -43,7 +42,7 @@ pub enum Action<F, O> {
 }
 
 /// What is done with a machine and a day.
-#[derive(Clone, Copy, Debug, PartialEq, Eq, Drop)]
+#[derive(Drop)]
 pub enum Task<F, O> {
     /// The card that leads the machine to the day is printed.
     Card,
@@ -54,7 +53,7 @@ pub enum Task<F, O> {
 }
 
 /// Which way a message goes.
-#[derive(Clone, Copy, Debug, PartialEq, Eq)]
+#[derive(Clone, Copy)]
 pub enum Way {
     /// The form is printed that an order becomes.
     Send,
@@ -209,50 +208,27 @@ fn grammar<'a>(alloc: Global) -> Result<Grammar<'a>, AllocError>
     Grammar::new(alloc, "desk")
         .disable_help_flag(true)
         .disable_help_subcommand(true)
-        .subcommand(with_machine(alloc, "type")?)?
-        .subcommand(with_list(alloc, "apply")?)?
-        .subcommand(with_day(alloc, "card")?)?
-        .subcommand(with_file(alloc, "check", "CARD")?)?
-        .subcommand(with_file(alloc, "send", "ORDER")?)?
-        .subcommand(with_file(alloc, "receive", "FORM")?)
+        .subcommand(with_words(alloc, "type", &["MACHINE"])?)?
+        .subcommand(with_words(alloc, "apply", &["MACHINE", "LIST"])?)?
+        .subcommand(with_words(alloc, "card", &["MACHINE", "SHEET", "DAY"])?)?
+        .subcommand(with_words(alloc, "check", &["MACHINE", "SHEET", "DAY", "CARD"])?)?
+        .subcommand(with_words(alloc, "send", &["MACHINE", "SHEET", "DAY", "ORDER"])?)?
+        .subcommand(with_words(alloc, "receive", &["MACHINE", "SHEET", "DAY", "FORM"])?)
 }
 
-/// A command with the word MACHINE.
-fn with_machine<'a>(alloc: Global, name: &'a str) -> Result<Grammar<'a>, AllocError>
-    ensures shape { IfOk result
-        (λ g. app_of g ≡ alone (command_shape name.entry.now (codes "MACHINE" ∷ []))) }
-    ensures local { IfOk result (λ g. (out-Command g).has_globals ≡ false) }
+/// A command with these words.
+fn with_words<'a>(
+    alloc: Global,
+    name: &'a str,
+    words: &[&'a str],
+) -> Result<Grammar<'a>, AllocError>
+    ensures { IfOk result (λ g. IsMadeOf g name.entry.now words.now) }
 {
-    Grammar::new(alloc, name)
-        .disable_help_flag(true)
-        .arg(word(alloc, "MACHINE"))
-}
-
-/// A command with the words MACHINE, SHEET and DAY.
-fn with_day<'a>(alloc: Global, name: &'a str) -> Result<Grammar<'a>, AllocError>
-    ensures shape { IfOk result (λ g. app_of g ≡ alone (command_shape name.entry.now day_words)) }
-    ensures local { IfOk result (λ g. (out-Command g).has_globals ≡ false) }
-{
-    with_machine(alloc, name)?
-        .arg(word(alloc, "SHEET"))?
-        .arg(word(alloc, "DAY"))
-}
-
-/// A command with the words MACHINE, SHEET and DAY, and a file's.
-fn with_file<'a>(alloc: Global, name: &'a str, file: &'a str) -> Result<Grammar<'a>, AllocError>
-    ensures shape { IfOk result (λ g. app_of g ≡ alone (file_shape name.entry.now file.entry.now)) }
-    ensures local { IfOk result (λ g. (out-Command g).has_globals ≡ false) }
-{
-    with_day(alloc, name)?.arg(word(alloc, file))
-}
-
-/// A command with the words MACHINE and LIST.
-fn with_list<'a>(alloc: Global, name: &'a str) -> Result<Grammar<'a>, AllocError>
-    ensures shape { IfOk result
-        (λ g. app_of g ≡ alone (command_shape name.entry.now (codes "MACHINE" ∷ codes "LIST" ∷ []))) }
-    ensures local { IfOk result (λ g. (out-Command g).has_globals ≡ false) }
-{
-    with_machine(alloc, name)?.arg(word(alloc, "LIST"))
+    let mut command = Grammar::new(alloc, name).disable_help_flag(true);
+    for word_name in words {
+        command = command.arg(word(alloc, *word_name))?;
+    }
+    Ok(command)
 }
 
 /// A word that has to be there.

@@ -6,17 +6,13 @@ mod asked;
 mod content;
 mod fault;
 mod host;
-mod memory;
 
+pub use asked::Asked;
 pub use content::{Content, read_whole};
 pub use fault::FileFault;
 pub use host::{HostFile, HostFiles};
 use kd_tables::Source;
-pub use memory::MemoryFiles;
 use std::alloc::Global;
-
-/// How many bytes of a file are read or given at once, at most.
-const PIECE: usize = 4096;
 
 /// Files, each under its name. They keep the names that were asked for.
 pub trait Files<'n> {

@@ -1,6 +1,7 @@
 //! The machine and the day that files say.
 ghost use Rattle.std.specs.Prelude.{◌≡◌, IfOk};
-ghost use Rattle.kd_state.specs.SheetDay.{day_number};
+ghost use Rattle.kd_state.specs.Machine.{IsMachine};
+ghost use Rattle.kd_state.specs.SheetDay.{IsLegalDay, day_number};
 ghost use Rattle.kd_desk.specs.OnDay.{FindsDay};
 
 use crate::fault::DeskFault;
@@ -19,9 +20,13 @@ pub fn find_day(
 ) -> Result<(Machine, SheetDay), DeskFault>
     ensures day { FindsDay machine.now sheet.now number result }
     ensures number { IfOk result (λ found. day_number found.1 ≡ number) }
+    ensures legal { IfOk result (λ found. IsMachine found.0 × IsLegalDay found.1) }
 {
     let machine = read_machine(alloc, machine)?;
     let sheet = read_sheet(alloc, sheet)?;
     let day = sheet.into_day(number).ok_or(DeskFault::NoSuchDay)?;
+    // Getters tell that both are legal.
+    let _parts = machine.parts();
+    let _model = day.model();
     Ok((machine, day))
 }

@@ -1,7 +1,8 @@
 ghost use Rattle.std.specs.Prelude.{◌≡◌, ◌||◌, IsTrue};
 ghost use Rattle.kd_card.specs.Proving.{ProvesByNumber};
 ghost use Rattle.kd_prices.specs.KindCards.{IsByKind};
-ghost use Rattle.kd_state.specs.SheetDay.{day_number};
+ghost use Rattle.kd_state.specs.Machine.{IsMachine};
+ghost use Rattle.kd_state.specs.SheetDay.{IsLegalDay, day_number};
 ghost use Rattle.kd_desk.specs.OnDay.{OnDay};
 ghost use Rattle.kd_tables.specs.Ports.{port};
 ghost use Rattle.kd_desk.specs.RunCard.{Prints};
@@ -39,13 +40,13 @@ pub fn run_card<W: Sink>(
 
 /// Writes the shortest card that leads the machine to the day.
 fn print_card<W: Sink>(machine: &Machine, day: &SheetDay, sink: &mut W) -> Result<(), DeskFault>
+    requires machine { IsMachine machine.now }
+    requires day { IsLegalDay day.now }
     ensures prints { Prints machine.now day.now (day_number day.now)
         (port W.taken W.has_failed sink.old sink.new) result }
     ensures untouched { IsTrue (is_refused_before result) → sink.new ≡ sink.old }
     ensures failed { W.has_failed sink.new ≡ (W.has_failed sink.old || is_device result) }
 {
-    let _legal_day = day.model();
-    let _legal_machine = machine.parts();
     laws::settings_keep_machines();
     laws::reading_as_the_day_is_its_cipher();
     laws::equally_set_machines_decipher();
@@ -56,11 +57,11 @@ fn print_card<W: Sink>(machine: &Machine, day: &SheetDay, sink: &mut W) -> Resul
 
 /// The same card with a price for each kind.
 pub(crate) fn in_kinds(machine: &Machine, day: &SheetDay, card: &Card) -> Card
-    requires { ProvesByNumber machine.now day.now card.now.settings.items card.now.prices }
+    requires machine { IsMachine machine.now }
+    requires day { IsLegalDay day.now }
+    requires proves { ProvesByNumber machine.now day.now card.now.settings.items card.now.prices }
     ensures { IsByKind machine.now day.now card.now result }
 {
-    let _legal_day = day.model();
-    let _legal_machine = machine.parts();
     let _prices = card.prices.parts();
     alike_prices_are_equal();
     by_kind(machine, day, card).unwrap()

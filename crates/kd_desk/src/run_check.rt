@@ -1,5 +1,7 @@
 ghost use Rattle.std.specs.Prelude.{◌≡◌, ◌||◌, is_err, IsTrue};
 ghost use Rattle.kd_tables.specs.Writing.{Writes};
+ghost use Rattle.kd_state.specs.Machine.{IsMachine};
+ghost use Rattle.kd_state.specs.SheetDay.{IsLegalDay};
 ghost use Rattle.kd_desk.specs.OnDay.{OnDay};
 ghost use Rattle.kd_tables.specs.Ports.{port};
 ghost use Rattle.kd_desk.specs.RunCheck.{Checks, verdict_text};
@@ -46,13 +48,13 @@ fn check_card<W: Sink>(
     card: &[u8],
     sink: &mut W,
 ) -> Result<(), DeskFault>
+    requires machine { IsMachine machine.now }
+    requires day { IsLegalDay day.now }
     ensures checks { Checks machine.now day.now number card.now
         (port W.taken W.has_failed sink.old sink.new) result }
     ensures untouched { IsTrue (is_refused_before result) → sink.new ≡ sink.old }
     ensures failed { W.has_failed sink.new ≡ (W.has_failed sink.old || is_device result) }
 {
-    let _legal_day = day.model();
-    let _legal_machine = machine.parts();
     laws::proving_cards_are_shortest();
     let (dated, card) = read_card(card)?;
     if dated != number {

@@ -34,8 +34,6 @@ pub fn run_receive<R: Source, W: Sink>(
         (port W.taken W.has_failed sink.old sink.new) (is_device result) }
 {
     let (machine, day) = find_day(alloc, machine, sheet, number)?;
-    // The laws speak of legal days, and a getter tells that this one is.
-    let _legal_day = day.model();
     laws::forms_have_one_answer();
     laws::forms_stay_refused();
     laws::forms_give_their_orders();

@@ -1,6 +1,5 @@
 use kd_desk::{Action, Command, Stop, Task, Way, parse_words};
 use std::alloc::Global;
-use std::process::Abort;
 
 /// The program's words, and the machine file that they name.
 static TYPE: [(&[&str], &str); 7] = [
@@ -29,12 +28,12 @@ static APPLY: [(&[&str], &str, &str); 4] = [
     ),
 ];
 
-/// The name of a command with a day, how many words it has, and what it does.
-static ON_A_DAY: [(&str, usize, Task<&str, &str>); 4] = [
-    ("card", 5, Task::Card),
-    ("check", 6, Task::Check("x.txt")),
-    ("send", 6, Task::Message(Way::Send, "x.txt")),
-    ("receive", 6, Task::Message(Way::Receive, "x.txt")),
+/// The name of a command with a day, how many words it has, and the third file that it names, if it names one.
+static ON_A_DAY: [(&str, usize, &str); 4] = [
+    ("card", 5, ""),
+    ("check", 6, "x.txt"),
+    ("send", 6, "x.txt"),
+    ("receive", 6, "x.txt"),
 ];
 
 /// Words for a day, and the day that they are.
@@ -85,43 +84,66 @@ static OTHERS: [&[&str]; 26] = [
     &["desk", "receive", "m.toml", "s.toml", "1"],
 ];
 
-/// The words say this command, or none.
-fn say(rt: &impl Abort, alloc: Global, words: &[&str], command: Option<Command<&str, &str>>) {
-    assert_eq!(rt; parse_words(alloc, words), command.ok_or(Stop::Usage));
-}
-
 #[test]
 fn finds_the_machine_file(rt: HostRuntime) {
-    let action = Action::Type;
     for (words, machine) in &TYPE {
-        let machine = *machine;
-        say(&rt, rt.alloc(), words, Some(Command { machine, action }));
+        let found = match parse_words(rt.alloc(), words) {
+            Ok(
+                Command {
+                    machine,
+                    action: Action::Type,
+                },
+            ) => Some(machine),
+            _ => None,
+        };
+        assert_eq!(rt; found, Some(*machine));
     }
 }
 
 #[test]
 fn finds_the_machine_and_the_list(rt: HostRuntime) {
     for (words, machine, list) in &APPLY {
-        let action = Action::Apply { list: *list };
-        let machine = *machine;
-        say(&rt, rt.alloc(), words, Some(Command { machine, action }));
+        let found = match parse_words(rt.alloc(), words) {
+            Ok(
+                Command {
+                    machine,
+                    action: Action::Apply { list },
+                },
+            ) => Some((machine, list)),
+            _ => None,
+        };
+        assert_eq!(rt; found, Some((*machine, *list)));
     }
+}
+
+/// What the words say of a day: the machine, the sheet, the day, the command's name, and the third file.
+type Said<'a> = (&'a str, &'a str, u8, &'a str, &'a str);
+
+/// The command with a day that the words say, if they say one.
+fn on_a_day<'a>(alloc: Global, words: &'a [&'a str]) -> Option<Said<'a>> {
+    let Command { machine, action } = parse_words(alloc, words).ok()?;
+    let Action::OnDay { sheet, day, task } = action else {
+        return None;
+    };
+    let (name, file) = match task {
+        Task::Card => ("card", ""),
+        Task::Check(card) => ("check", card),
+        Task::Message(Way::Send, order) => ("send", order),
+        Task::Message(Way::Receive, form) => ("receive", form),
+    };
+    Some((machine, sheet, day, name, file))
 }
 
 #[test]
 fn finds_the_day(rt: HostRuntime) {
     for (word, day) in &DAYS {
-        for (name, count, task) in &ON_A_DAY {
+        for (name, count, file) in &ON_A_DAY {
             let words = ["desk", name, "m.toml", "s.toml", word, "x.txt"];
-            let command = day.map(|day| Command {
-                machine: "m.toml",
-                action: Action::OnDay {
-                    sheet: "s.toml",
-                    day,
-                    task: *task,
-                },
-            });
-            say(&rt, rt.alloc(), &words[..(*count).min(6)], command);
+            let due = match day {
+                Some(day) => Some(("m.toml", "s.toml", *day, *name, *file)),
+                None => None,
+            };
+            assert_eq!(rt; on_a_day(rt.alloc(), &words[..(*count).min(6)]), due);
         }
     }
 }
@@ -129,6 +151,6 @@ fn finds_the_day(rt: HostRuntime) {
 #[test]
 fn refuses_other_words(rt: HostRuntime) {
     for words in &OTHERS {
-        say(&rt, rt.alloc(), words, None);
+        assert_eq!(rt; parse_words(rt.alloc(), words).err(), Some(Stop::Usage));
     }
 }

@@ -1,9 +1,10 @@
 ghost use Rattle.std.specs.Prelude.{◌≡◌, []};
 
+use crate::memory_files::MemoryFiles;
 use crate::samples::{DAYS, FORM, MACHINE, ORDER, SHEET, TEXT, UNREADY};
 use kd_card::IllegalAt;
 use kd_desk::Stop::{self, ReadFailed, Refused, Unread, Usage};
-use kd_desk::{Content, DeskFault, Exit, FileFault, Files, MemoryFiles, run_desk};
+use kd_desk::{Content, DeskFault, Exit, FileFault, Files, run_desk};
 use kd_form::FormFault;
 use kd_sheet::SheetFault::NotToml;
 use kd_state::Why;

@@ -2,13 +2,16 @@ ghost use Rattle.std.specs.Prelude.{◌≡◌, Some};
 ghost use Rattle.kd_tables.specs.Ports.{port};
 ghost use Rattle.kd_desk.specs.Files.{content_of, IsReadWhole};
 
-use super::{FileFault, PIECE};
+use super::FileFault;
 use kd_tables::{READ_LIMIT, Source};
 use std::alloc::Global;
 use std::marker::Model;
 
+/// How many bytes of a file are read at once, at most.
+const PIECE: usize = 4096;
+
 /// The bytes of a file: at most 1,048,576.
-#[derive(Debug, Drop)]
+#[derive(Drop)]
 pub struct Content {
     bytes: Vec<u8>,
 }

@@ -1,7 +1,7 @@
-use Rattle.kd_desk.proofs.Prelude.{true, ap, ap₂, codes, ◌≡◌, ◌∙◌, App, app_of, new_app, with_subcommand, app_of_fields}
+use Rattle.kd_desk.proofs.Prelude.{true, ap, codes, ◌≡◌, ◌∙◌, App, app_of, new_app, app_of_fields}
 use Rattle.std.proofs.lemmas.Result.{IfOk-weaker}
 use Rattle.kd_desk.specs.CommandLine.{desk_grammar}
-use Rattle.kd_desk.proofs.Grammars.{without_help}
+use Rattle.kd_desk.proofs.Grammars.{without_help, one_command_more}
 use Rattle.kd_desk.proofs.command.grammar.Goals as goal
 
 abbrev without_help_command : App → App
@@ -13,15 +13,9 @@ returns c =
     let desk_new : app_of c.disable_help_subcommand.result ≡ without_help_command (without_help (new_app (codes "desk"))) =
     ap app_of_fields c.disable_help_subcommand.ensures
     ∙ ap without_help_command (ap app_of_fields c.disable_help_flag.ensures ∙ ap without_help c.new.ensures.app) in
-    let types = c.in_ok-subcommand.ensures.shape c.in_ok-with_machine.ensures.local
-    ∙ ap₂ with_subcommand desk_new (ap (λ (a : App). a.top) c.in_ok-with_machine.ensures.shape) in
-    let lists = c.in_ok-subcommand-2.ensures.shape c.in_ok-with_list.ensures.local
-    ∙ ap₂ with_subcommand types (ap (λ (a : App). a.top) c.in_ok-with_list.ensures.shape) in
-    let cards = c.in_ok-subcommand-3.ensures.shape c.in_ok-with_day.ensures.local
-    ∙ ap₂ with_subcommand lists (ap (λ (a : App). a.top) c.in_ok-with_day.ensures.shape) in
-    let checks = c.in_ok-subcommand-4.ensures.shape c.in_ok-with_file.ensures.local
-    ∙ ap₂ with_subcommand cards (ap (λ (a : App). a.top) c.in_ok-with_file.ensures.shape) in
-    let orders = c.in_ok-subcommand-5.ensures.shape c.in_ok-with_file-2.ensures.local
-    ∙ ap₂ with_subcommand checks (ap (λ (a : App). a.top) c.in_ok-with_file-2.ensures.shape) in
-    IfOk-weaker c.subcommand-6.result _ _ (λ r adds. adds.shape c.in_ok-with_file-3.ensures.local
-    ∙ ap₂ with_subcommand orders (ap (λ (a : App). a.top) c.in_ok-with_file-3.ensures.shape)) c.subcommand-6.ensures
+    let types = one_command_more desk_new c.in_ok-with_words.ensures c.in_ok-subcommand.ensures in
+    let lists = one_command_more types c.in_ok-with_words-2.ensures c.in_ok-subcommand-2.ensures in
+    let cards = one_command_more lists c.in_ok-with_words-3.ensures c.in_ok-subcommand-3.ensures in
+    let checks = one_command_more cards c.in_ok-with_words-4.ensures c.in_ok-subcommand-4.ensures in
+    let orders = one_command_more checks c.in_ok-with_words-5.ensures c.in_ok-subcommand-5.ensures in
+    IfOk-weaker c.subcommand-6.result _ _ (λ r adds. one_command_more orders c.in_ok-with_words-6.ensures adds) c.subcommand-6.ensures

@@ -1,8 +1,7 @@
 ghost use Rattle.std.specs.Prelude.{◌≡◌, [], option_map};
 ghost use Rattle.kd_desk.specs.Files.{held_in};
 
-use super::asked::Asked;
-use super::{Content, FileFault, Files, PIECE};
+use kd_desk::{Asked, Content, FileFault, Files};
 use kd_tables::MemorySource;
 use std::alloc::Global;
 
@@ -53,6 +52,6 @@ impl<'n> Files<'n> for MemoryFiles<'n> {
     fn open(&mut self, name: &'n str) -> Result<MemorySource<'n>, FileFault> {
         self.asked.add(name);
         let bytes = self.find(name).ok_or(FileFault::Device)?;
-        Ok(MemorySource::new(bytes, PIECE, None))
+        Ok(MemorySource::new(bytes, 4096, None))
     }
 }

@@ -1,0 +1,6 @@
+use Rattle.std.proofs.Common.{take}
+use Rattle.kd_desk.specs.CommandLine.{IsMadeOf}
+use Rattle.kd_desk.proofs.command.with_words.Given as goal
+
+abbrev pub invariant-loop-word_name : goal.invariant-loop-word_name
+invariant-loop-word_name l = IsMadeOf l.command l.name (take l.word_name-index l.words)
