@@ -1,12 +1,12 @@
 -- The letters of the Converter's six wheels, and that the text of a wheel's effective pins is read as these pins.
-use Rattle.kd_sheet.proofs.Prelude.{All, Bool, List, Some, [], ap, append_assoc, arith, false, get_or, length, map}
-use Rattle.kd_sheet.proofs.Prelude.{nat_eq, nat_lt, not, refl, suc, true, ℕ, ◌&&◌, ◌++◌, ◌+◌, ◌<◌, ◌==◌, ◌∷◌, ◌≡◌}
+use Rattle.kd_sheet.proofs.Prelude.{All, Bool, List, Some, [], ap, append_assoc, arith, false, get_or, length, map, subst}
+use Rattle.kd_sheet.proofs.Prelude.{nat_eq, nat_lt, not, refl, suc, true, ℕ, ◌&&◌, ◌++◌, ◌+◌, ◌-◌, ◌<◌, ◌==◌, ◌∷◌, ◌≡◌}
 use Rattle.kd_sheet.proofs.Prelude.{or-true, and_parts, both_ways, cases_Bool, ltb-true, ne_eqb, not-true, nat_tests}
 use Rattle.kd_sheet.proofs.Prelude.{All-contains, recursion_from_All, list_any-append, get_or-enumerate_from}
 use Rattle.kd_sheet.proofs.Prelude.{length-enumerate_from, AllPass-from_list_all, list_all-from_AllPass, sum_by-append}
 use Rattle.kd_sheet.proofs.Prelude.{sum_by-cons, slice_get-get_or, AllByRecursion, count_by, enumerate_from, list_all}
 use Rattle.kd_sheet.proofs.Prelude.{pins_text, pins_of_text, are_on_wheels, has_capital, is_on, stands_once}
-use Rattle.kd_sheet.proofs.Prelude.{each_on_wheel, has_letter-Decides, on_wheel, numbered, AreOnWheels, has_letter}
+use Rattle.kd_sheet.proofs.Prelude.{on_all_wheels, has_letter-Decides, numbered, AreOnWheels, has_letter}
 use Rattle.kd_sheet.proofs.Prelude.{ring_of}
 
 abbrev is_own : ℕ × ℕ → Bool
@@ -15,11 +15,13 @@ is_own numbered = has_letter (ring_of numbered.0) numbered.1
 -- letters that pass the test are on their wheels
 pub on_wheels : (letters : List ℕ) → length letters ≡ 6 → are_on_wheels letters ≡ true → AreOnWheels letters
 on_wheels letters long all =
-    each_on_wheel letters long (λ place within.
-    let here = AllPass-from_list_all is_own (enumerate_from 1 letters) all place (0, 0)
+    on_all_wheels letters long (λ wheel low high.
+    let within : wheel - 1 < length letters = omega arith in
+    let here = AllPass-from_list_all is_own (enumerate_from 1 letters) all (wheel - 1) (0, 0)
     (omega (arith, length-enumerate_from 1 letters)) in
-    let wheel : 1 + place ≡ place + 1 = omega arith in
-    on_wheel letters place 0 within (rw (← wheel) (rw (get_or-enumerate_from 1 letters place (0, 0) within) at here)))
+    let same : 1 + (wheel - 1) ≡ wheel = omega arith in
+    (has_letter-Decides _ _).0 (subst (λ ring. has_letter (ring_of ring) (get_or letters (wheel - 1) 0) ≡ true) same
+    (rw (get_or-enumerate_from 1 letters (wheel - 1) (0, 0) within) at here)))
 
 -- and letters on their wheels pass it
 pub are_own : (letters : List ℕ) → AreOnWheels letters → are_on_wheels letters ≡ true

@@ -47,7 +47,7 @@ pub use Rattle.kd_sheet.specs.SheetFile.{day_behind, days_of, group_for, rings_o
 pub use Rattle.kd_sheet.specs.declared.fault.SheetFault.{SheetFault}
 pub use Rattle.kd_sheet.specs.declared.fault.SheetFault.TheVariants.{BadValue, NotToml, UnknownModel}
 pub use Rattle.kd_sheet.specs.declared.key.Key.{Key}
-pub use Rattle.kd_state.proofs.Rings.{all_pins, each_on_wheel, has_letter-Decides, on_wheel}
+pub use Rattle.kd_state.proofs.Rings.{all_pins, are_on_wheels as on_all_wheels, has_letter-Decides}
 pub use Rattle.kd_state.proofs.Slots.{numbered_here, numbered_other}
 pub use Rattle.kd_state.proofs.Wheels.{has_reflector-Decides, has_wheel-Decides, same_wheel-Decides}
 pub use Rattle.kd_state.specs.Box.{has_reflector, numbered}
