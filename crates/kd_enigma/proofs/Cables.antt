@@ -11,7 +11,7 @@ use Rattle.std.proofs.lemmas.List.FromFn.{fill_by_all, get_or-map-range_with_len
 use Rattle.kd_tables.specs.Permutation.{alphabet, exchanged, exchange}
 use Rattle.kd_enigma.specs.Cipher.{IsPlugboard}
 use Rattle.kd_enigma.specs.Plugs.{letters_plugged, NoLetterTwice, Joins}
-use Rattle.kd_enigma.proofs.Turning.{each_letter}
+use Rattle.kd_enigma.proofs.Ways.{each_letter}
 
 -- ---- letters of pairs, and letters of which none stands twice
 

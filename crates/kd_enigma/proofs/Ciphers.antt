@@ -8,8 +8,8 @@ use Rattle.std.proofs.lemmas.List.FromFn.{length-enumerate_from}
 use Rattle.kd_tables.specs.declared.wheel.Wheel.{Wheel}
 use Rattle.kd_step.specs.Stepper.{next_window, window_after}
 use Rattle.kd_enigma.specs.Cipher.{RotorKey, IsPlugboard, key_turned, key_after, path, enigma_cipher}
-use Rattle.kd_enigma.specs.Seated.{TablesAreSound}
-use Rattle.kd_enigma.proofs.Ways.{path_returns}
+use Rattle.kd_enigma.specs.Sound.{TablesAreSound}
+use Rattle.kd_enigma.proofs.Ways.{path_exchanges}
 
 -- what lights up for a letter after so many steps, and the cipher of a text that begins so many steps after the key
 abbrev lit : RotorKey → ℕ → ℕ → ℕ
@@ -32,7 +32,7 @@ pub twice_from : TablesAreSound → (key : RotorKey) (start : ℕ) (text : List 
 twice_from sound key start [] board h = refl
 twice_from sound key start (letter ∷ text) board h =
     ap (λ l. l ∷ cipher_from key (start + 1) (cipher_from key (start + 1) text))
-    (path_returns sound key (window_after key.wheels key.window start) board letter (All-head (λ l. l < 26) letter text h))
+    ((path_exchanges sound key (window_after key.wheels key.window start) board).back letter (All-head (λ l. l < 26) letter text h))
     ∙ ap (λ ls. letter ∷ ls) (twice_from sound key (start + 1) text board (All-tail (λ l. l < 26) letter text h))
 
 -- ---- a text in two pieces

@@ -74,11 +74,7 @@ impl Plugs {
 fn unplugged() -> [Letter; 26]
     ensures { result ≡ alphabet }
 {
-    let mut table = [Letter::A; 26];
-    for index in 0..26 {
-        table[usize::from(index)] = Letter::new(index).unwrap();
-    }
-    table
+    std::array::from_fn(|index| Letter::new(index as u8).unwrap())
 }
 
 /// Exchanges two letters that have been left so far.
