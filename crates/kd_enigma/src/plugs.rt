@@ -41,8 +41,10 @@ impl Plugs {
         ensures plugboard { IfOk result IsPlugboard }
     {
         let mut table = unplugged();
-        for (one, other) in pairs {
+        let mut left = pairs;
+        while let Some(((one, other), others)) = left.split_last() {
             plug(&mut table, *one, *other)?;
+            left = others;
         }
         Ok(Plugs { table })
     }

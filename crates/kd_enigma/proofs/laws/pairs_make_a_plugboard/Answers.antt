@@ -12,4 +12,4 @@ returns-clause-exchanged c = λ pairs x y once. (exchanges pairs x y, exchanged_
 pub returns-clause-same : goal.returns-clause-same
 returns-clause-same c = λ ps qs ps_once qs_once joins.
     exchange_is _ qs (exchange-size ps)
-    (λ x lt. exchange-at ps x lt ∙ exchanged_alike ps qs x (differ_of (letters_plugged ps) ps_once) (differ_of (letters_plugged qs) qs_once) (λ y. (joins x y).0) (λ y. (joins x y).1))
+    (λ x lt. exchange-at ps x lt ∙ exchanged_alike ps qs x (differ_of (letters_plugged ps) ps_once) (differ_of (letters_plugged qs) qs_once) (joins x))
