@@ -5,8 +5,8 @@ use Rattle.kd_state.proofs.Prelude.{All, AllByRecursion, decimal_injective, All-
 use Rattle.kd_state.proofs.Prelude.{recursion_from_All, Wheel, I, Reflector, Place, One, Lug, Left, wheel_text}
 use Rattle.kd_state.proofs.Prelude.{reflector_text, place_text, lug_text, places, keyword_text, setting_words}
 use Rattle.kd_state.proofs.Prelude.{setting_line, pin_text, IsInRange, IsReadOff, list_text, IsList, BeginsWith}
-use Rattle.kd_state.proofs.Prelude.{BeginsWithLine, BeginsWithNoLine, Setting, Pull, Put, Seat, SeatReflector, RingTo}
-use Rattle.kd_state.proofs.Prelude.{Turn, PinTo, LugTo, append-nil, get_or_at, TextsTellLists, ListsHaveNoFault}
+use Rattle.kd_state.proofs.Prelude.{BeginsWithLine, BeginsWithNoLine, Setting, Pull}
+use Rattle.kd_state.proofs.Prelude.{append-nil, get_or_at, TextsTellLists, ListsHaveNoFault}
 use Rattle.kd_state.proofs.Prelude.{OneListFault}
 use Rattle.std.specs.Fmt.{decimal}
 use Rattle.kd_tables.specs.declared.reflector.Reflector.TheVariants.{A}
