@@ -23,10 +23,8 @@ use Rattle.std.proofs.lemmas.Map.Keys.{IsDistinct-IsPermutation, IsDistinct-head
 use Rattle.kd_tables.specs.Rings.{ring_of}
 use Rattle.kd_pins.specs.declared.pin_set.PinSet.{PinSet}
 use Rattle.kd_pins.specs.PinWheels.{pins_of}
-use Rattle.kd_state.proofs.Cables.{all_ordered, all_ordered_move, all_ordered_again, ordered_again, without_ordered, without_moves, with_moves, set_moves, eqb_flips, free_tells}
-use Rattle.kd_state.proofs.DayPairs.{of_one}
-use Rattle.kd_state.proofs.Rings.{has_letter-Decides, place_there, only_place}
-use Rattle.kd_state.proofs.Slots.{stands, set_here, set_other, numbered_here, numbered_other, seated_in_box}
+use Rattle.kd_state.proofs.Cables.{all_ordered, all_ordered_move, all_ordered_again, ordered_again, without_ordered, without_moves, with_moves, set_moves, eqb_flips, free_tells, of_one}
+use Rattle.kd_state.proofs.Slots.{has_letter-Decides, place_there, only_place, stands, set_here, set_other, numbered_here, numbered_other, seated_in_box}
 use Rattle.kd_state.proofs.Wheels.{places_tell_wheels, has_wheel-Decides, has_reflector-Decides, same_wheel-Decides, same_wheel_self, same_wheel_differs, placed, place_within, place_nowhere}
 
 -- ---- reasons, and machines that differ in one thing

@@ -138,7 +138,7 @@ pub fn turning_keeps_the_key()
 }
 
 /// A ready machine can be turned to each window that has a letter for each slot, or for each pin wheel and on it.
-#[tactic(auto, using(crate::proofs::Turnable::can_be_turned))]
+#[tactic(auto, using(crate::proofs::Seating::can_be_turned))]
 pub fn ready_machines_can_be_turned()
     ensures { MachinesCanBeTurned }
 {}
