@@ -1,5 +1,5 @@
 -- What cables do to the letters, pair by pair.
-use Rattle.std.proofs.Common.{◌≡◌, ◌≢◌, ◌⊎◌, ◌↔◌, append_assoc, inl, inr, ℕ, zero, suc, ◌<◌, Bool, true, false, not, ◌&&◌, List, [], ◌∷◌, ◌++◌, All, Contains, eqb, length, get_or, set, slice_index, refl, sym, ap, ◌∙◌, subst, arith, rules}
+use Rattle.std.proofs.Common.{◌≡◌, ◌≢◌, ◌⊎◌, ◌↔◌, append_assoc, inl, inr, ℕ, zero, suc, ◌<◌, Bool, true, false, not, ◌&&◌, List, [], ◌∷◌, ◌++◌, All, Contains, eqb, length, get_or, set, slice_index, refl, sym, ap, ◌∙◌, arith, rules}
 use Rattle.std.specs.List.{IsDistinct, list_any}
 use Rattle.std.proofs.lemmas.Bool.{and_parts, cases_Bool, cases_eq, eq-eqb, eqb-true, ne_eqb, false_from_ne_true, false≢true, not-true}
 use Rattle.std.proofs.lemmas.Bool.Decides.{nat_tests}
@@ -158,16 +158,11 @@ pub record IsPlugged (board : List ℕ) (pairs : List (ℕ × ℕ)) : Type 0 whe
 
 pub is_plugged_none : (table : List ℕ) → table ≡ alphabet → IsPlugged table []
 unfolding exchange
-is_plugged_none table e = record {
-  table = e ∙ sym (map-id alphabet);
-  apart = refl;
-  letters = All-nil (λ letter. letter < 26);
-}
+is_plugged_none table e = grind (arith, map-id, All-nil)
 
 -- a letter that the table leaves, lies in none of the pairs
 left_free : (pairs : List (ℕ × ℕ)) (x : ℕ) → AreApart pairs → x < 26 → slice_index (exchange pairs) x ≡ x → lies_in x pairs ≡ false
-left_free pairs x apart lt left =
-    false_from_ne_true (lies_in x pairs) (λ lies. exchanged_moves pairs x apart lies (sym (exchange-at pairs x lt) ∙ left))
+left_free pairs x apart lt left = grind (arith, false_from_ne_true, exchanged_moves, exchange-at)
 
 pub is_plugged_more : (table after : List ℕ) (pairs : List (ℕ × ℕ)) (pair : ℕ × ℕ) → IsPlugged table pairs → (pair.0 ≢ pair.1) × IsLeft table pair.0 × IsLeft table pair.1
     → pair.0 < 26 → pair.1 < 26 → after ≡ set (set table pair.0 pair.1) pair.1 pair.0 → IsPlugged after (pair ∷ pairs)
@@ -190,13 +185,11 @@ is_plugged_more table after pairs pair h can one_lt other_lt e =
 pub can_plug : (table : List ℕ) (front pairs : List (ℕ × ℕ)) (pair : ℕ × ℕ) → IsPlugged table pairs → NoLetterTwice (front ++ pair ∷ pairs) → pair.0 < 26 → pair.1 < 26
     → (pair.0 ≢ pair.1) × IsLeft table pair.0 × IsLeft table pair.1
 can_plug table front pairs pair h once one_lt other_lt =
-    let apart : AreApart (pair ∷ pairs) = differ_rest (letters_plugged front) (letters_plugged (pair ∷ pairs)) (rw flat_map-append at (differ_of _ once)) in
-    grind (arith, nat_tests, exchange-at, exchanged_free)
+    grind (arith, differ_rest, flat_map-append, differ_of, exchange-at, exchanged_free)
 
 -- the last pair of those that are left stands before those plugged in
 pub cut : (pairs left front done : List (ℕ × ℕ)) (pair : ℕ × ℕ) → pairs ≡ left ++ done → left ≡ front ++ pair ∷ [] → pairs ≡ front ++ pair ∷ done
 cut pairs left front done pair e d = grind (arith, append_assoc)
 
 pub none_left : (board : List ℕ) (pairs left done : List (ℕ × ℕ)) → length left ≡ 0 → pairs ≡ left ++ done → IsPlugged board done → IsPlugged board pairs
-none_left board pairs [] done none e plugged = subst (IsPlugged board) (sym e) plugged
-none_left board pairs (pair ∷ left) done none e plugged = absurd (omega (arith, none))
+none_left board pairs left done e d g = grind (arith, common_steps, board)

@@ -1,5 +1,5 @@
 -- The cipher, letter by letter.
-use Rattle.std.proofs.Common.{zero, ◌≡◌, ℕ, suc, ◌+◌, ◌<◌, List, [], ◌∷◌, ◌++◌, length, map, get_or, set, take, drop, slice_index, All, refl, sym, ap, ◌∙◌, arith, add-zero, add-one, add-suc}
+use Rattle.std.proofs.Common.{zero, ◌≡◌, ℕ, suc, ◌+◌, ◌<◌, List, [], ◌∷◌, ◌++◌, length, map, get_or, set, take, drop, slice_index, All, refl, sym, ap, ◌∙◌, arith, add-zero, add-one, add-suc, rules}
 use Rattle.std.proofs.lemmas.List.Elements.{All-head, All-tail}
 use Rattle.std.specs.List.{enumerate_from}
 use Rattle.kd_tables.specs.declared.wheel.Wheel.{Wheel}
@@ -41,8 +41,7 @@ key_after_sum key m n = ap (key_turned key) (window_after_sum key.wheels key.win
 -- what is enciphered later is enciphered on the key of that time
 later : (key : RotorKey) (m start : ℕ) (text : List ℕ) → cipher_from key (m + start) text ≡ cipher_from (key_after key m) start text
 later key m start [] = refl
-later key m start (letter ∷ text) =
-    grind (arith, key, path, window_after_sum, path-turned, later key m (start + 1) text)
+later key m start (letter ∷ text) = search (rules, key, window_after_sum, path-turned, later key m (start + 1) text)
 
 append_from : (key : RotorKey) (start : ℕ) (first rest : List ℕ) → cipher_from key start (first ++ rest) ≡ cipher_from key start first ++ cipher_from key (start + length first) rest
 append_from key start [] rest = ap (λ n. cipher_from key n rest) (sym (add-zero start))

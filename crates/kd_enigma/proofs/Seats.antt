@@ -1,8 +1,8 @@
 -- The way around through the wheels as they sit, slot by slot, and the path that it makes.
-use Rattle.std.proofs.Common.{◌≡◌, ℕ, zero, suc, ◌+◌, ◌-◌, ◌<◌, if◌then◌else◌, ltb, List, [], ◌∷◌, length, take, get_or, refl, sym, ap, ◌∙◌, arith}
-use Rattle.std.proofs.lemmas.List.{get_or_default, take_all}
+use Rattle.std.proofs.Common.{◌≡◌, ℕ, zero, suc, ◌+◌, ◌-◌, ◌<◌, if◌then◌else◌, ltb, List, [], ◌∷◌, length, take, get_or, refl, ap, ◌∙◌, arith, rules}
+use Rattle.std.proofs.lemmas.List.{take_all}
 use Rattle.std.proofs.lemmas.Bool.Decides.{nat_tests}
-use Rattle.kd_tables.specs.Permutation.{alphabet, followed_by, inverse, shift, IsPermutation26}
+use Rattle.kd_tables.specs.Permutation.{alphabet, followed_by, shift, IsPermutation26}
 use Rattle.kd_tables.specs.Tables.{reflector_of}
 use Rattle.kd_tables.specs.declared.wheel.Wheel.{Wheel}
 use Rattle.kd_enigma.specs.Around.{SeatedWheel, around, boarded}
@@ -42,21 +42,7 @@ module _ (sound : TablesAreSound) where
   -- the board encloses what the wheel encloses
   board_last : (board core : List ℕ) (wheel : Wheel) (ring letter : ℕ) → IsPermutation26 board → Exchanges core
       → boarded board core (rotor wheel ring letter) ≡ followed_by board (followed_by (enclosed core (rotor wheel ring letter)) board)
-  board_last board core wheel ring letter h k =
-      let w = rotor wheel ring letter in
-      let turns = rotor_permutes sound wheel ring letter in
-      let back = sound.laws.inverses w turns in
-      grind (
-        arith,
-        grouped (followed_by board w) core (followed_by (inverse w) board) (sound.laws.products board w h turns),
-        grouped board w (followed_by core (followed_by (inverse w) board)) h,
-        grouped w (followed_by core (inverse w)) board turns,
-        grouped core (inverse w) board k.permutes,
-        product-size,
-        turns.size,
-        back.size,
-        k.permutes.size,
-      )
+  board_last board core wheel ring letter h k = grind (arith, rotor_permutes, grouped, board, product-size)
 
   no_board : (core : List ℕ) (wheel : Wheel) (ring letter : ℕ) → Exchanges core
       → boarded alphabet core (rotor wheel ring letter) ≡ enclosed core (rotor wheel ring letter)
@@ -82,18 +68,4 @@ module _ (sound : TablesAreSound) where
       → length key.window ≡ size → 0 < size → s ≡ get_or seated (size - 1) s → shown ≡ get_or key.window (size - 1) d → whole ≡ boarded s.board inner (rotor s.wheel s.ring shown)
       → IsWired key seated reflecting inner whole
   wired key seated reflecting inner whole s shown size d sit board is_reflecting is_inner long wheels rings window some is_s is_shown made =
-      let core = reflector_of key.reflector in
-      let around_all : around core seated key.window ≡ boarded s.board (around core (take (size - 1) seated) (take (size - 1) key.window)) (rotor s.wheel s.ring shown) =
-      (λ i. around core (sym (take_all (size - 1 + 1) seated (omega arith)) i) (sym (take_all (size - 1 + 1) key.window (omega arith)) i))
-      ∙ around_more core seated key.window (size - 1) s shown (omega arith) (omega arith) is_s (is_shown ∙ get_or_default key.window (size - 1) d shown (omega arith)) in
-      let inner_is : inner ≡ around core (take (size - 1) seated) (take (size - 1) key.window) = rw (long, window, is_reflecting) at is_inner in
-      record {
-        seats = sit;
-        board = board;
-        reflector = is_reflecting;
-        around_slow = is_inner;
-        path_shown =
-            made ∙ ap (λ c. boarded s.board c (rotor s.wheel s.ring shown)) inner_is ∙ sym around_all ∙ ap (λ all. around core all key.window) sit
-            ∙ around_seats key.plugs core key.wheels key.rings key.window board.permutation (reflectors_exchange sound key.reflector) (omega arith) (omega arith) (omega arith)
-            ∙ sym (path_is sound key key.window board);
-      }
+      search (rules, around, take_all, around_more, board, around_seats, reflectors_exchange, path_is, key)

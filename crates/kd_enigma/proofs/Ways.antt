@@ -1,13 +1,13 @@
 -- The way in through wheels, through what lies behind them, and back.
-use Rattle.std.proofs.Common.{◌≡◌, ◌≢◌, ℕ, ◌-◌, ◌<◌, List, [], ◌∷◌, ◌++◌, map, reverse, slice_index, All, length, refl, sym, ap, ◌∙◌, subst, arith, rules, append_assoc}
+use Rattle.std.proofs.Common.{◌≡◌, ◌≢◌, ℕ, ◌<◌, List, [], ◌∷◌, ◌++◌, map, reverse, slice_index, All, length, refl, sym, ap, ◌∙◌, subst, arith, rules, append_assoc}
 use Rattle.std.specs.List.{AllByRecursion}
 use Rattle.std.proofs.lemmas.List.{ext_get_or, get_or-map, length-map, reverse-append}
 use Rattle.std.proofs.lemmas.List.FromFn.{get_or-range_with_len}
 use Rattle.kd_tables.specs.Permutation.{alphabet, followed_by, inverse, shift, IsPermutation26}
-use Rattle.kd_tables.specs.Tables.{wiring_of, reflector_of}
+use Rattle.kd_tables.specs.Tables.{reflector_of}
 use Rattle.kd_tables.specs.declared.wheel.Wheel.{Wheel}
 use Rattle.kd_tables.specs.declared.reflector.Reflector.{Reflector}
-use Rattle.kd_enigma.specs.Rotor.{turned, offset, rotor}
+use Rattle.kd_enigma.specs.Rotor.{turned, rotor}
 use Rattle.kd_enigma.specs.Cipher.{RotorKey, IsPlugboard, rotors, product, path}
 use Rattle.kd_enigma.specs.Sound.{TablesAreSound, PermutationLaws}
 
@@ -39,9 +39,7 @@ same_maps p q long also each = ext_get_or 0 p q (omega arith) (λ x lt. each x (
 
 -- three maps one after the other, the first two or the last two taken together
 pub grouped : (p q r : List ℕ) → IsPermutation26 p → length q ≡ 26 → followed_by (followed_by p q) r ≡ followed_by p (followed_by q r)
-grouped p q r h size =
-    same_maps _ _ (grind (arith, product-size, h.size)) (grind (arith, product-size, h.size))
-    (λ x lt. grind (arith, product-at, product-size, h.size, h.each_once.within))
+grouped p q r h size = grind (arith, same_maps, product-size, product-at)
 
 -- what leaves each letter, before or after a map
 pub nothing_before : (p : List ℕ) → length p ≡ 26 → followed_by alphabet p ≡ p
@@ -81,12 +79,7 @@ record Undo (there back : List ℕ) : Type 0 where
   into : (x : ℕ) → x < 26 → slice_index there (slice_index back x) ≡ x
 
 wheels_undo : PermutationLaws → (w : List ℕ) → IsPermutation26 w → Undo w (inverse w)
-wheels_undo laws w h = record {
-  in_permutes = h;
-  out_permutes = laws.inverses w h;
-  out = λ x lt. (laws.inverse_at w x (slice_index w x) h lt (h.each_once.within x lt)).0 refl;
-  into = λ x lt. (laws.inverse_at w (slice_index (inverse w) x) x h ((laws.inverses w h).each_once.within x lt) lt).1 refl;
-}
+wheels_undo laws w h = grind (arith, laws.inverses, laws.inverse_at, h.each_once.within)
 
 boards_undo : (plugs : List ℕ) → IsPlugboard plugs → Undo plugs plugs
 boards_undo plugs board =
@@ -119,10 +112,7 @@ nested core (w ∷ ws) = nested (enclosed core w) ws
 
 pub rotor_permutes : TablesAreSound → (wheel : Wheel) (ring letter : ℕ) → IsPermutation26 (rotor wheel ring letter)
 unfolding turned
-rotor_permutes sound wheel ring letter =
-    let by = offset ring letter in
-    let on = sound.laws.products (shift by) (wiring_of wheel) (sound.laws.shifts by) (sound.wiring wheel) in
-    sound.laws.products _ _ on (sound.laws.shifts (26 - by))
+rotor_permutes sound wheel ring letter = grind (arith, sound.laws.products, sound.laws.shifts, sound.wiring)
 
 rotors_permute : TablesAreSound → (wheels : List Wheel) (rings window : List ℕ) → AllByRecursion IsPermutation26 (rotors wheels rings window)
 unfolding rotors
@@ -164,14 +154,8 @@ pub path_is : TablesAreSound → (key : RotorKey) (window : List ℕ) → IsPlug
     → path key window ≡ followed_by key.plugs (followed_by (nested (reflector_of key.reflector) (rotors key.wheels key.rings window)) key.plugs)
 unfolding path product
 path_is sound key window board =
-    let ws = rotors key.wheels key.rings window in
-    let core = reflector_of key.reflector in
-    ap (λ ps. followed_by key.plugs (product ps)) (append_assoc (reverse ws) (core ∷ map inverse ws) (key.plugs ∷ []))
-    ∙ ap (followed_by key.plugs) (product_around sound.laws core ws (key.plugs ∷ []) (rotors_permute sound key.wheels key.rings window) (reflectors_exchange sound key.reflector)
-    ∙ ap (followed_by (nested core ws)) (nothing_after key.plugs board.permutation))
+    grind (arith, append_assoc, product_around, rotors_permute, reflectors_exchange, nothing_after)
 
 pub path_exchanges : TablesAreSound → (key : RotorKey) (window : List ℕ) → IsPlugboard key.plugs → Exchanges (path key window)
 path_exchanges sound key window board =
-    let ws = rotors key.wheels key.rings window in
-    let inner = nested_exchanges sound.laws (reflector_of key.reflector) ws (rotors_permute sound key.wheels key.rings window) (reflectors_exchange sound key.reflector) in
-    subst Exchanges (sym (path_is sound key window board)) (conjugate sound.laws key.plugs _ key.plugs (boards_undo key.plugs board) inner)
+    search (rules, nested_exchanges, rotors_permute, reflectors_exchange, path_is, key, board, conjugate, boards_undo)
