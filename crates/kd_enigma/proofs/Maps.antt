@@ -53,13 +53,9 @@ followed_by_has_lanes first second h g = search (rules, lanes_of, length-swz_l, 
 
 pub followed_by_is : (first second : List ℕ) → AreLanes first → AreLanes second → take 26 (swz_l w8 32 second 0 first) ≡ followed_by (take 26 first) (take 26 second)
 followed_by_is first second h g =
-    let lanes = swz_l w8 32 second 0 first in
-    let front : length (take 26 lanes) ≡ 26 = length-take-le 26 lanes (omega (arith, length-swz_l w8 32 second 0 first, h.size)) in
-    let first_front : length (take 26 first) ≡ 26 = length-take-le 26 first (omega (arith, h.size)) in
-    ext_get_or 0 (take 26 lanes) (followed_by (take 26 first) (take 26 second)) (front ∙ sym (product-size (take 26 first) (take 26 second) ∙ first_front))
-    (λ k in_front. let lt : k < 26 = omega arith in
-    get_or-take 26 lanes k 0 lt ∙ lane-at first second h k (omega arith)
-    ∙ sym (product-at (take 26 first) (take 26 second) k first_front lt
+    let front : length (take 26 first) ≡ 26 = length-take-le 26 first (omega (arith, h.size)) in
+    told_front (swz_l w8 32 second 0 first) (followed_by (take 26 first) (take 26 second)) (grind (arith, length-swz_l, h.size)) (product-size _ _ ∙ front)
+    (λ k lt. lane-at first second h k (omega arith) ∙ sym (product-at (take 26 first) (take 26 second) k front lt
     ∙ ap (slice_index (take 26 second)) (get_or-take 26 first k 0 lt) ∙ get_or-take 26 second (slice_index first k) 0 (h.letters k lt)))
 
 -- ---- a map for each letter in a window
