@@ -2,8 +2,7 @@ pub mod Prelude
 pub mod Wheels
 pub mod Cables
 pub mod Slots
-pub mod WordLines
-pub mod SettingLines
+pub mod Lines
 pub mod CostTable
 mod Keys
 mod Seating
