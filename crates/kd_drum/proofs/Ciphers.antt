@@ -1,8 +1,6 @@
 -- The Converter's cipher, letter by letter.
-use Rattle.std.proofs.Common.{◌≡◌, ℕ, ◌+◌, ◌-◌, ◌%◌, ◌<◌, List, [], ◌∷◌, ◌++◌, length, map, get_or, set, take, drop, All, refl, sym, ap, ◌∙◌, arith, add-zero}
+use Rattle.std.proofs.Common.{zero, suc, add-one, ◌≡◌, ℕ, ◌+◌, ◌-◌, ◌%◌, ◌<◌, List, [], ◌∷◌, ◌++◌, length, map, get_or, set, take, drop, All, refl, sym, ap, ◌∙◌, arith, add-zero}
 use Rattle.std.specs.List.{enumerate_from}
-use Rattle.std.proofs.lemmas.List.{append_assoc, drop_more, get_or_at, length-map, length-take-le, set_at, take_more}
-use Rattle.std.proofs.lemmas.List.FromFn.{length-enumerate_from}
 use Rattle.std.proofs.lemmas.List.Elements.{All-head, All-tail}
 use Rattle.kd_drum.specs.Converter.{PinKey, bars_met, converter_cipher, pin_key_after}
 use Rattle.kd_drum.specs.Sound.{RingsAreSound}
@@ -30,8 +28,9 @@ twice_from key start (letter ∷ text) h =
 later : RingsAreSound → (key : PinKey) (m start : ℕ) (text : List ℕ) → cipher_from key (m + start) text ≡ cipher_from (pin_key_after key m) start text
 later sound key m start [] = refl
 later sound key m start (letter ∷ text) =
-    ap (λ met. reversed_by met letter ∷ cipher_from key (m + start + 1) text) (sym (bars_met_sum sound key m start))
-    ∙ ap (λ rest. reversed_by (bars_met (pin_key_after key m) start) letter ∷ rest) (ap (λ n. cipher_from key n text) (omega arith) ∙ later sound key m (start + 1) text)
+    let place : m + start + 1 ≡ m + (start + 1) = omega arith in
+    let rest = ap (λ n. cipher_from key n text) place ∙ later sound key m (start + 1) text in
+    λ i. reversed_by (sym (bars_met_sum sound key m start) i) letter ∷ rest i
 
 append_from : (key : PinKey) (start : ℕ) (first rest : List ℕ) → cipher_from key start (first ++ rest) ≡ cipher_from key start first ++ cipher_from key (start + length first) rest
 append_from key start [] rest = ap (λ n. cipher_from key n rest) (sym (add-zero start))
@@ -43,23 +42,10 @@ cipher-append sound key first rest =
     append_from key 0 first rest
     ∙ ap (λ ls. converter_cipher key first ++ ls) (ap (λ n. cipher_from key n rest) (omega arith) ∙ later sound key (length first) 0 rest)
 
--- ---- a text enciphered letter by letter
-
-pub length-cipher : (key : PinKey) (text : List ℕ) → length (converter_cipher key text) ≡ length text
-length-cipher key text =
-    length-map (enumerate_from 0 text) (λ numbered. reversed_by (bars_met key numbered.0) numbered.1) ∙ length-enumerate_from 0 text
-
--- what a press after so many letters makes of the next one is the next letter of the cipher
-pub one_more : RingsAreSound → (key : PinKey) (text before : List ℕ) (n d become : ℕ) → n < length text
-    → before ≡ converter_cipher key (take n text) ++ drop n text
-    → converter_cipher (pin_key_after key n) (get_or before n d ∷ []) ≡ become ∷ []
-    → set before n become ≡ converter_cipher key (take (n + 1) text) ++ drop (n + 1) text
-one_more sound key text before n d become lt is e =
-    let letter = get_or text n d in
-    let done = converter_cipher key (take n text) in
-    let so_many = length-take-le n text (omega arith) in
-    let size : length done ≡ n = length-cipher key (take n text) ∙ so_many in
-    let rest = drop_more text n d lt in
-    let next = rw (is, rest, get_or_at done letter (drop (n + 1) text) d n size) at e in
-    let more = cipher-append sound key (take n text) (letter ∷ []) in
-    rw (is, rest, set_at done letter (drop (n + 1) text) become n size, take_more text n d lt, more, so_many, next, append_assoc) refl
+-- a letter more is enciphered, and the rest is so on the key that it leaves
+pub one_more : RingsAreSound → (key : PinKey) (text : List ℕ) (n d become : ℕ) → n < length text → converter_cipher key (get_or text n d ∷ []) ≡ become ∷ []
+    → take n text ++ converter_cipher key (drop n text) ≡ take (n + 1) (set text n become) ++ converter_cipher (pin_key_after key 1) (drop (n + 1) (set text n become))
+one_more sound key [] n d become lt e = absurd (omega arith)
+one_more sound key (letter ∷ text) zero d become lt e = cipher-append sound key (letter ∷ []) text ∙ ap (λ l. l ++ converter_cipher (pin_key_after key 1) text) e
+one_more sound key (letter ∷ text) (suc n) d become lt e =
+    let rest = one_more sound key text n d become (omega arith) e in rw (add-one (suc n)) (ap (λ l. letter ∷ l) (rw (add-one n) at rest))

@@ -1,21 +1,16 @@
 -- Six letters that are read one by one, and the wheels that have them.
-use Rattle.std.proofs.Common.{◌≡◌, ◌↔◌, ℕ, ◌<◌, List, Contains, length, get_or, slice_index, Result, IsOk, IsErr, sym, subst, arith}
+use Rattle.std.proofs.Common.{◌≡◌, ◌↔◌, ℕ, ◌<◌, List, Contains, length, get_or, slice_index, Result, IsOk, IsErr, arith}
 use Rattle.std.proofs.lemmas.List.{get_or_default}
 use Rattle.kd_drum.specs.Converter.{OnWheels}
 
 -- a letter that was read from the list is on a wheel with these letters
 pub on_wheel : (ring letters there : List ℕ) (place d : ℕ) → ring ≡ letters → place < length there → Contains ring (get_or there place d) → Contains letters (slice_index there place)
-on_wheel ring letters there place d same lt h =
-    subst (λ ls. Contains ls (slice_index there place)) same (subst (Contains ring) (get_or_default there place d 0 lt) h)
+on_wheel ring letters there place d same lt h = grind (arith, get_or_default)
 
 -- and the other way round
 pub read_on_wheel : (ring letters there : List ℕ) (place d : ℕ) → ring ≡ letters → place < length there → Contains letters (slice_index there place) → Contains ring (get_or there place d)
-read_on_wheel ring letters there place d same lt h =
-    subst (Contains ring) (sym (get_or_default there place d 0 lt)) (subst (λ ls. Contains ls (slice_index there place)) (sym same) h)
-
-not_both : {X E : Type 0} (answer : Result X E) → IsErr answer → IsOk answer → ⊥
-not_both answer e d = grind arith
+read_on_wheel ring letters there place d same lt h = grind (arith, get_or_default)
 
 -- the answer where one of the letters isn't on its wheel
 pub refused : {X E : Type 0} (answer : Result X E) (letters : List ℕ) → IsErr answer → (OnWheels letters → ⊥) → IsOk answer ↔ OnWheels letters
-refused answer letters e off = (λ ok. absurd (not_both answer e ok), λ on. absurd (off on))
+refused answer letters e off = grind arith

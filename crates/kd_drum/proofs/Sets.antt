@@ -1,7 +1,7 @@
 -- Sets of wheels, made of what each wheel does.
 use Rattle.std.specs.Int.{from_bool}
-use Rattle.std.proofs.Common.{◌≡◌, ℕ, ◌+◌, ◌*◌, ◌-◌, ◌/◌, ◌%◌, ◌^◌, ◌≤◌, Bool, true, false, ◌&&◌, eqb, leb, refl, sym, ap, ◌∙◌, arith}
-use Rattle.std.proofs.lemmas.Bool.{leb-true, and_parts, and_left}
+use Rattle.std.proofs.Common.{◌≡◌, ℕ, ◌+◌, ◌*◌, ◌-◌, ◌/◌, ◌%◌, ◌^◌, ◌≤◌, Bool, ◌&&◌, eqb, leb, ◌∙◌, arith}
+use Rattle.std.proofs.lemmas.Bool.Decides.{nat_tests}
 use Rattle.kd_drum.specs.Counts.{is_in}
 use Rattle.kd_drum.proofs.Starts.{each_wheel}
 
@@ -33,10 +33,4 @@ bits_are a1 a2 a3 a4 a5 a6 does e1 e2 e3 e4 e5 e6 =
 -- and a wheel is in the set exactly where its test holds
 pub in_set_of : (a1 a2 a3 a4 a5 a6 : Bool) (does : ℕ → Bool) → a1 ≡ does 1 → a2 ≡ does 2 → a3 ≡ does 3 → a4 ≡ does 4 → a5 ≡ does 5 → a6 ≡ does 6
     → (wheel : ℕ) → is_in (set_of a1 a2 a3 a4 a5 a6) wheel ≡ ((leb 1 wheel && leb wheel 6) && does wheel)
-in_set_of a1 a2 a3 a4 a5 a6 does e1 e2 e3 e4 e5 e6 wheel = at (leb 1 wheel && leb wheel 6) refl
-  where
-    at : (b : Bool) → (leb 1 wheel && leb wheel 6) ≡ b → is_in (set_of a1 a2 a3 a4 a5 a6) wheel ≡ ((leb 1 wheel && leb wheel 6) && does wheel)
-    at false e = and_left _ _ e ∙ sym (and_left _ _ e)
-    at true e =
-        let bounds = and_parts (leb 1 wheel) (leb wheel 6) e in
-        ap (λ b. (leb 1 wheel && leb wheel 6) && b) (bits_are a1 a2 a3 a4 a5 a6 does e1 e2 e3 e4 e5 e6 wheel (leb-true 1 wheel bounds.0) (leb-true wheel 6 bounds.1))
+in_set_of a1 a2 a3 a4 a5 a6 does e1 e2 e3 e4 e5 e6 wheel = grind (arith, nat_tests, bits_are a1 a2 a3 a4 a5 a6 does e1 e2 e3 e4 e5 e6 wheel)

@@ -1,10 +1,10 @@
 -- Where the wheels stand after so many letters.
-use Rattle.std.proofs.Common.{◌≡◌, ℕ, ◌+◌, ◌-◌, ◌%◌, ◌<◌, ◌≤◌, Bool, true, false, ◌&&◌, ◌||◌, Option, unwrap_or, List, [], ◌∷◌, length, add-zero, map, slice_index, count_by, refl, sym, ap, ◌∙◌, arith, leb}
-use Rattle.std.proofs.lemmas.Bool.{leb-true, and_parts, and_left}
+use Rattle.std.proofs.Common.{◌≡◌, ℕ, ◌+◌, ◌-◌, ◌%◌, ◌<◌, ◌≤◌, Bool, ◌&&◌, ◌||◌, Option, unwrap_or, List, [], ◌∷◌, length, map, slice_index, count_by, refl, sym, ap, ◌∙◌, arith, leb}
+use Rattle.std.proofs.lemmas.Bool.Decides.{nat_tests}
 use Rattle.std.proofs.lemmas.List.{ext_get_or}
 use Rattle.std.proofs.lemmas.List.FromFn.{get_or-map-range_with_len}
 use Rattle.std.proofs.lemmas.List.Sums.{sum_by-le-sum_by}
-use Rattle.std.proofs.Math.Nat.{mod-add-mod, mod-lt, mod-eq_of_lt}
+use Rattle.std.proofs.Math.Nat.{mod-add-mod, mod-lt}
 use Rattle.kd_tables.specs.Rings.{ring_of, place_on}
 use Rattle.kd_pins.specs.PinWheel.{TurnedWheel, is_effective, letter_shown, pin_acting, turned_to}
 use Rattle.kd_pins.specs.PinWheels.{pin_wheels, pins_on, offset_of, size_of}
@@ -31,20 +31,10 @@ start_after sound key count wheel low high =
 
 -- so many places on, and so many more
 three_on : (s m i o n : ℕ) → ((s + m) % n + i + o) % n ≡ (s + (m + i) + o) % n
-three_on s m i o n = ap (λ k. k % n) (regroup ((s + m) % n) i o) ∙ mod-add-mod (s + m) n (i + o) ∙ ap (λ k. k % n) (regrouped s m i o)
-  where
-    regroup : (a b c : ℕ) → a + b + c ≡ a + (b + c)
-    regroup a b c = omega arith
-
-    regrouped : (a b c d : ℕ) → a + b + (c + d) ≡ a + (b + c) + d
-    regrouped a b c d = omega arith
+three_on s m i o n = grind (arith, mod-add-mod (s + m) n (i + o))
 
 pub letter_after_sum : RingsAreSound → (key : PinKey) (m n wheel : ℕ) → 1 ≤ wheel → wheel ≤ 6 → letter_after (pin_key_after key m) n wheel ≡ letter_after key (m + n) wheel
-letter_after_sum sound key m n wheel low high =
-    let start = start_on key wheel in
-    let size = size_of wheel in
-    ap (λ s. slice_index (ring_of wheel) ((s + n) % size)) (start_after sound key m wheel low high)
-    ∙ ap (slice_index (ring_of wheel)) (mod-add-mod (start + m) size n ∙ ap (λ k. k % size) (omega arith))
+letter_after_sum sound key m n wheel low high = grind (arith, start_after, mod-add-mod (start_on key wheel + m) (size_of wheel) n)
 
 pub key_after_sum : RingsAreSound → (key : PinKey) (m n : ℕ) → pin_key_after (pin_key_after key m) n ≡ pin_key_after key (m + n)
 key_after_sum sound key m n =
@@ -54,35 +44,27 @@ key_after_sum sound key m n =
     (λ i lt. get_or-map-range_with_len once 1 6 i (1 + i) 0 lt refl ∙ letter_after_sum sound key m n (1 + i) (omega arith) (omega arith)
     ∙ sym (get_or-map-range_with_len whole 1 6 i (1 + i) 0 lt refl)))
 
+-- tests of the six wheels are alike where they are of each of the six
+alike_on_wheels : (wheel : ℕ) (x y : Bool) → (1 ≤ wheel → wheel ≤ 6 → x ≡ y) → ((leb 1 wheel && leb wheel 6) && x) ≡ ((leb 1 wheel && leb wheel 6) && y)
+alike_on_wheels wheel x y same = grind (arith, nat_tests, same)
+
 pub acts_after_sum : RingsAreSound → (key : PinKey) (m i wheel : ℕ) → acts_after (pin_key_after key m) i wheel ≡ acts_after key (m + i) wheel
-acts_after_sum sound key m i wheel = at (leb 1 wheel && leb wheel 6) refl
-  where
-    at : (b : Bool) → (leb 1 wheel && leb wheel 6) ≡ b → acts_after (pin_key_after key m) i wheel ≡ acts_after key (m + i) wheel
-    at false e = and_left _ _ e ∙ sym (and_left _ _ e)
-    at true e =
-        let bounds = and_parts (leb 1 wheel) (leb wheel 6) e in
-        ap (λ place. (leb 1 wheel && leb wheel 6) && is_effective (pins_on key.pins wheel) place)
-        (ap (λ s. (s + i + offset_of wheel) % size_of wheel) (start_after sound key m wheel (leb-true 1 wheel bounds.0) (leb-true wheel 6 bounds.1))
-        ∙ three_on (start_on key wheel) m i (offset_of wheel) (size_of wheel))
+acts_after_sum sound key m i wheel = alike_on_wheels wheel _ _ (λ low high.
+    ap (λ start. is_effective (pins_on key.pins wheel) ((start + i + offset_of wheel) % size_of wheel)) (start_after sound key m wheel low high)
+    ∙ ap (is_effective (pins_on key.pins wheel)) (three_on (start_on key wheel) m i (offset_of wheel) (size_of wheel)))
 
 -- a count by tests that answer alike
 pub count_alike : {X : Type 0} (p q : X → Bool) (xs : List X) → ((x : X) → p x ≡ q x) → count_by p xs ≡ count_by q xs
 count_alike p q xs same = grind (arith, sum_by-le-sum_by, p, q, same)
 
-pub bars_met_sum : RingsAreSound → (key : PinKey) (m i : ℕ) → bars_met (pin_key_after key m) i ≡ bars_met key (m + i)
-bars_met_sum sound key m i =
-    count_alike (λ (row : ℕ × ℕ). acts_after (pin_key_after key m) i row.0 || acts_after (pin_key_after key m) i row.1)
-    (λ (row : ℕ × ℕ). acts_after key (m + i) row.0 || acts_after key (m + i) row.1) key.rows
-    (λ row. ap (λ b. b || acts_after (pin_key_after key m) i row.1) (acts_after_sum sound key m i row.0)
-    ∙ ap (λ b. acts_after key (m + i) row.0 || b) (acts_after_sum sound key m i row.1))
+pub bars_met_sum : RingsAreSound → (key : PinKey) (m n : ℕ) → bars_met (pin_key_after key m) n ≡ bars_met key (m + n)
+bars_met_sum sound key m n = λ i. count_by (λ row. acts_after_sum sound key m n row.0 i || acts_after_sum sound key m n row.1 i) key.rows
 
 -- ---- the wheels as they stand
 
 -- the letter that shows leads to the place that shows it
 start_place : RingsAreSound → (number size : ℕ) (wheel : TurnedWheel) → StandsAs number size wheel → unwrap_or (place_on (ring_of number) (letter_shown wheel)) 0 ≡ wheel.place
-start_place sound number size wheel h =
-    ap (λ ring. unwrap_or (place_on ring (letter_shown wheel)) 0) (sym h.ring)
-    ∙ ap (λ (found : Option ℕ). unwrap_or found 0) (sound.places size wheel.ring h.turned.ring wheel.place h.turned.place)
+start_place sound number size wheel h = grind (arith, sound.places size wheel.ring h.turned.ring wheel.place h.turned.place)
 
 size_is : (number size : ℕ) (wheel : TurnedWheel) → StandsAs number size wheel → size_of number ≡ size
 size_is number size wheel h = sym (ap length h.ring) ∙ h.turned.ring.full
@@ -105,24 +87,17 @@ pub key_moved : (w1 w2 w3 w4 w5 w6 : TurnedWheel) (rows : List (ℕ × ℕ)) →
     → key_of (turned_to w1 p1) (turned_to w2 p2) (turned_to w3 p3) (turned_to w4 p4) (turned_to w5 p5) (turned_to w6 p6) rows ≡ pin_key_after (key_of w1 w2 w3 w4 w5 w6 rows) count
 key_moved w1 w2 w3 w4 w5 w6 rows all count p1 p2 p3 p4 p5 p6 e1 e2 e3 e4 e5 e6 =
     let key = key_of w1 w2 w3 w4 w5 w6 rows in
-    let s1 = shows_after all.sound key 1 26 count p1 w1 all.first refl e1 in
-    let s2 = shows_after all.sound key 2 25 count p2 w2 all.second refl e2 in
-    let s3 = shows_after all.sound key 3 23 count p3 w3 all.third refl e3 in
-    let s4 = shows_after all.sound key 4 21 count p4 w4 all.fourth refl e4 in
-    let s5 = shows_after all.sound key 5 19 count p5 w5 all.fifth refl e5 in
-    let s6 = shows_after all.sound key 6 17 count p6 w6 all.sixth refl e6 in
-    ap (pin_key_turned key) (six s1 s2 s3 s4 s5 s6)
-  where
-    six : {a1 a2 a3 a4 a5 a6 b1 b2 b3 b4 b5 b6 : ℕ} → a1 ≡ b1 → a2 ≡ b2 → a3 ≡ b3 → a4 ≡ b4 → a5 ≡ b5 → a6 ≡ b6
-        → a1 ∷ a2 ∷ a3 ∷ a4 ∷ a5 ∷ a6 ∷ [] ≡ b1 ∷ b2 ∷ b3 ∷ b4 ∷ b5 ∷ b6 ∷ []
-    six e1 e2 e3 e4 e5 e6 = cc
+    let first = shows_after all.sound key 1 26 count p1 w1 all.first refl e1 in
+    let second = shows_after all.sound key 2 25 count p2 w2 all.second refl e2 in
+    let third = shows_after all.sound key 3 23 count p3 w3 all.third refl e3 in
+    let fourth = shows_after all.sound key 4 21 count p4 w4 all.fourth refl e4 in
+    let fifth = shows_after all.sound key 5 19 count p5 w5 all.fifth refl e5 in
+    let sixth = shows_after all.sound key 6 17 count p6 w6 all.sixth refl e6 in
+    λ i. pin_key_turned key (first i ∷ second i ∷ third i ∷ fourth i ∷ fifth i ∷ sixth i ∷ [])
 
 -- the key after no letters
 pub key_stands : (w1 w2 w3 w4 w5 w6 : TurnedWheel) (rows : List (ℕ × ℕ)) → AllStand w1 w2 w3 w4 w5 w6 → key_of w1 w2 w3 w4 w5 w6 rows ≡ pin_key_after (key_of w1 w2 w3 w4 w5 w6 rows) 0
 key_stands w1 w2 w3 w4 w5 w6 rows all =
     key_moved w1 w2 w3 w4 w5 w6 rows all 0 w1.place w2.place w3.place w4.place w5.place w6.place
-    (still w1.place 26 all.first.turned.place) (still w2.place 25 all.second.turned.place) (still w3.place 23 all.third.turned.place)
-    (still w4.place 21 all.fourth.turned.place) (still w5.place 19 all.fifth.turned.place) (still w6.place 17 all.sixth.turned.place)
-  where
-    still : (place size : ℕ) → place < size → (place + 0) % size ≡ place
-    still place size lt = ap (λ n. n % size) (add-zero place) ∙ mod-eq_of_lt lt
+    (omega (arith, all.first.turned.place)) (omega (arith, all.second.turned.place)) (omega (arith, all.third.turned.place))
+    (omega (arith, all.fourth.turned.place)) (omega (arith, all.fifth.turned.place)) (omega (arith, all.sixth.turned.place))

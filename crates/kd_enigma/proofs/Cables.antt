@@ -1,17 +1,17 @@
 -- What cables do to the letters, pair by pair.
-use Rattle.std.proofs.Common.{◌≡◌, ◌≢◌, ◌⊎◌, inl, inr, ℕ, zero, suc, ◌<◌, Bool, true, false, not, ◌&&◌, List, [], ◌∷◌, ◌++◌, All, Contains, cond, eqb, length, get_or, set, slice_index, refl, sym, ap, ◌∙◌, arith, rules}
+use Rattle.std.proofs.Common.{◌≡◌, ◌≢◌, ◌⊎◌, ◌↔◌, append_assoc, inl, inr, ℕ, zero, suc, ◌<◌, Bool, true, false, not, ◌&&◌, List, [], ◌∷◌, ◌++◌, All, Contains, eqb, length, get_or, set, slice_index, refl, sym, ap, ◌∙◌, arith, rules}
 use Rattle.std.specs.List.{IsDistinct, list_any}
-use Rattle.std.proofs.lemmas.Bool.{and_parts, cases_Bool, cases_eq, eq-eqb, eqb-true, eqb-false, ne_eqb, false_from_ne_true, false≢true, not-true}
+use Rattle.std.proofs.lemmas.Bool.{and_parts, cases_Bool, cases_eq, eq-eqb, eqb-true, ne_eqb, false_from_ne_true, false≢true, not-true}
 use Rattle.std.proofs.lemmas.Bool.Decides.{nat_tests}
 use Rattle.std.proofs.lemmas.Grind.{common_steps, flat_map-append}
-use Rattle.std.proofs.lemmas.List.Elements.{All-from_recursion, recursion_from_All, All-nil, All-cons, All-append}
-use Rattle.std.proofs.lemmas.List.Folds.{Any-from_list_any, list_any-append, list_any_at, list_any_none}
+use Rattle.std.proofs.lemmas.List.Elements.{All-from_recursion, recursion_from_All, All-nil, All-cons}
+use Rattle.std.proofs.lemmas.List.Folds.{Any-from_list_any, list_any_at, list_any_none}
 use Rattle.std.proofs.lemmas.List.{length-set, map-id}
 use Rattle.std.proofs.lemmas.List.FromFn.{fill_by_all, get_or-map-range_with_len, length-map-range_with_len}
 use Rattle.kd_tables.specs.Permutation.{alphabet, exchanged, exchange}
 use Rattle.kd_enigma.specs.Cipher.{IsPlugboard}
-use Rattle.kd_enigma.specs.Plugs.{letters_plugged, NoLetterTwice, Joins}
-use Rattle.kd_enigma.proofs.Turning.{each_letter}
+use Rattle.kd_enigma.specs.Plugs.{IsLeft, letters_plugged, NoLetterTwice, Joins}
+use Rattle.kd_enigma.proofs.Ways.{each_letter}
 
 -- ---- letters of pairs, and letters of which none stands twice
 
@@ -44,33 +44,15 @@ of_differ (x ∷ letters) h =
       of_differ letters both.1,
     )
 
--- two more letters, at the end or before others
-pub record AreNew (letters : List ℕ) (one other : ℕ) : Type 0 where
-  pub unlike : eqb one other ≡ false
-  pub one_free : is_among one letters ≡ false
-  pub other_free : is_among other letters ≡ false
-
-differ_push : (letters : List ℕ) (one other : ℕ) → differ letters ≡ true → AreNew letters one other → differ (letters ++ one ∷ other ∷ []) ≡ true
-differ_push [] one other h new = rw new.unlike refl
-differ_push (x ∷ letters) one other h new = grind (arith, letters, list_any-append, differ_push letters one other)
-
-differ_middle : (letters : List ℕ) (one other : ℕ) (rest : List ℕ) → differ (letters ++ one ∷ other ∷ rest) ≡ true → AreNew letters one other
-differ_middle [] one other rest h = record { unlike = grind arith; one_free = refl; other_free = refl }
-differ_middle (x ∷ letters) one other rest h =
-    let both = and_parts (not (is_among x (letters ++ one ∷ other ∷ rest))) (differ (letters ++ one ∷ other ∷ rest)) h in
-    let new = differ_middle letters one other rest both.1 in
-    let parts = list_any-append (eqb x) letters (one ∷ other ∷ rest) in
-    record { unlike = new.unlike; one_free = grind (arith, nat_tests, both.0, new.one_free, parts); other_free = grind (arith, nat_tests, both.0, new.other_free, parts) }
+differ_rest : (letters rest : List ℕ) → differ (letters ++ rest) ≡ true → differ rest ≡ true
+differ_rest [] rest h = h
+differ_rest (x ∷ letters) rest h = differ_rest letters rest (and_parts (not (is_among x (letters ++ rest))) (differ (letters ++ rest)) h).1
 
 -- ---- what a letter is exchanged for
 
 pub exchanged_free : (pairs : List (ℕ × ℕ)) (x : ℕ) → lies_in x pairs ≡ false → exchanged pairs x ≡ x
 exchanged_free [] x h = refl
 exchanged_free (pair ∷ pairs) x h = grind (arith, nat_tests, exchanged_free pairs x)
-
-exchanged_append : (pairs more : List (ℕ × ℕ)) (x : ℕ) → exchanged (pairs ++ more) x ≡ cond (lies_in x pairs) (exchanged pairs x) (exchanged more x)
-exchanged_append [] more x = refl
-exchanged_append (pair ∷ pairs) more x = grind (arith, nat_tests, exchanged_append pairs more x)
 
 exchanged_stays : (pairs : List (ℕ × ℕ)) (x : ℕ) → lies_in x pairs ≡ true → lies_in (exchanged pairs x) pairs ≡ true
 exchanged_stays [] x h = h
@@ -125,13 +107,12 @@ pub exchanged_by : (pairs : List (ℕ × ℕ)) (x y : ℕ) → AreApart pairs �
 exchanged_by pairs x y h (inl j) = joined pairs x y h j
 exchanged_by pairs x y h (inr left) = search (rules, exchanged_free, false_from_ne_true, Any-from_list_any, eqb-true)
 
-pub exchanged_alike : (ps qs : List (ℕ × ℕ)) (x : ℕ) → AreApart ps → AreApart qs → ((y : ℕ) → Joins ps x y → Joins qs x y) → ((y : ℕ) → Joins qs x y → Joins ps x y)
-    → exchanged ps x ≡ exchanged qs x
-exchanged_alike ps qs x hp hq there back = elim (cases_Bool (lies_in x ps)) [
-  | inl lies ↦ sym (joined qs x (exchanged ps x) hq (there (exchanged ps x) (leads ps x (exchanged ps x) lies refl)))
-  | inr free ↦ elim (cases_Bool (lies_in x qs)) [
-    | inl lies ↦ joined ps x (exchanged qs x) hp (back (exchanged qs x) (leads qs x (exchanged qs x) lies refl))
-    | inr free' ↦ exchanged_free ps x free ∙ sym (exchanged_free qs x free')
+pub exchanged_alike : (ps qs : List (ℕ × ℕ)) (x : ℕ) → AreApart ps → AreApart qs → ((y : ℕ) → Joins ps x y ↔ Joins qs x y) → exchanged ps x ≡ exchanged qs x
+exchanged_alike ps qs x hp hq same = elim (exchanges ps x (exchanged ps x) refl) [
+  | inl there ↦ sym (joined qs x (exchanged ps x) hq ((same (exchanged ps x)).0 there))
+  | inr free ↦ elim (exchanges qs x (exchanged qs x) refl) [
+    | inl there ↦ joined ps x (exchanged qs x) hp ((same (exchanged qs x)).1 there)
+    | inr also ↦ sym free.0 ∙ also.0
   ]
 ]
 
@@ -167,13 +148,7 @@ plugboard_of pairs h letters =
       own_inverse = each_letter (λ x. slice_index (exchange pairs) (slice_index (exchange pairs) x) ≡ x) back;
     }
 
--- ---- plugged in one after the other
-
--- a pair whose letters differ and have been left so far
-pub record CanPlug (table : List ℕ) (pair : ℕ × ℕ) : Type 0 where
-  pub differ : pair.0 ≢ pair.1
-  pub one : slice_index table pair.0 ≡ pair.0
-  pub other : slice_index table pair.1 ≡ pair.1
+-- ---- plugged in one after the other, from the last pair on
 
 -- what is so of the pairs plugged in so far, and of the table that they have made
 pub record IsPlugged (board : List ℕ) (pairs : List (ℕ × ℕ)) : Type 0 where
@@ -183,47 +158,38 @@ pub record IsPlugged (board : List ℕ) (pairs : List (ℕ × ℕ)) : Type 0 whe
 
 pub is_plugged_none : (table : List ℕ) → table ≡ alphabet → IsPlugged table []
 unfolding exchange
-is_plugged_none table e = record {
-  table = e ∙ sym (map-id alphabet);
-  apart = refl;
-  letters = All-nil (λ letter. letter < 26);
-}
+is_plugged_none table e = grind (arith, map-id, All-nil)
 
--- one more cable: the board is that of the pairs with one more
-plugged_more : (pairs : List (ℕ × ℕ)) (pair : ℕ × ℕ) → AreNew (letters_plugged pairs) pair.0 pair.1 → pair.0 < 26 → pair.1 < 26
-    → set (set (exchange pairs) pair.0 pair.1) pair.1 pair.0 ≡ exchange (pairs ++ pair ∷ [])
-plugged_more pairs pair new one_lt other_lt =
+-- a letter that the table leaves, lies in none of the pairs
+left_free : (pairs : List (ℕ × ℕ)) (x : ℕ) → AreApart pairs → x < 26 → slice_index (exchange pairs) x ≡ x → lies_in x pairs ≡ false
+left_free pairs x apart lt left = grind (arith, false_from_ne_true, exchanged_moves, exchange-at)
+
+pub is_plugged_more : (table after : List ℕ) (pairs : List (ℕ × ℕ)) (pair : ℕ × ℕ) → IsPlugged table pairs → (pair.0 ≢ pair.1) × IsLeft table pair.0 × IsLeft table pair.1
+    → pair.0 < 26 → pair.1 < 26 → after ≡ set (set table pair.0 pair.1) pair.1 pair.0 → IsPlugged after (pair ∷ pairs)
+is_plugged_more table after pairs pair h can one_lt other_lt e =
     let once = set (exchange pairs) pair.0 pair.1 in
     let size : length once ≡ 26 = length-set (exchange pairs) pair.0 pair.1 ∙ exchange-size pairs in
-    exchange_is (set once pair.1 pair.0) (pairs ++ pair ∷ []) (length-set once pair.1 pair.0 ∙ size) (λ x lt.
-    grind (
-      arith,
-      nat_tests,
-      common_steps,
-      size,
-      exchange-size pairs,
-      exchanged_append pairs (pair ∷ []) x,
-      exchange-at pairs x lt,
-      exchanged_free pairs x,
-      new.unlike,
-      new.one_free,
-      new.other_free,
-    ))
-
-pub is_plugged_more : (table after : List ℕ) (pairs : List (ℕ × ℕ)) (pair : ℕ × ℕ) → IsPlugged table pairs → CanPlug table pair → pair.0 < 26 → pair.1 < 26
-    → after ≡ set (set table pair.0 pair.1) pair.1 pair.0 → IsPlugged after (pairs ++ pair ∷ [])
-is_plugged_more table after pairs pair h can one_lt other_lt e =
-    let free : (x : ℕ) → x < 26 → slice_index table x ≡ x → lies_in x pairs ≡ false = λ x lt left.
-    false_from_ne_true (lies_in x pairs) (λ lies. exchanged_moves pairs x h.apart lies (sym (ap (λ t. slice_index t x) h.table ∙ exchange-at pairs x lt) ∙ left)) in
-    let new : AreNew (letters_plugged pairs) pair.0 pair.1 =
-    record { unlike = ne_eqb pair.0 pair.1 can.differ; one_free = free pair.0 one_lt can.one; other_free = free pair.1 other_lt can.other } in
+    let one = left_free pairs pair.0 h.apart one_lt (rw h.table at can.1) in
+    let other = left_free pairs pair.1 h.apart other_lt (rw h.table at can.2) in
+    let unlike = ne_eqb pair.0 pair.1 can.0 in
+    let twice : set once pair.1 pair.0 ≡ exchange (pair ∷ pairs) =
+    exchange_is (set once pair.1 pair.0) (pair ∷ pairs) (length-set once pair.1 pair.0 ∙ size)
+    (λ x lt. grind (arith, nat_tests, common_steps, size, exchange-size pairs, exchange-at pairs x lt)) in
     record {
-      table = e ∙ ap (λ t. set (set t pair.0 pair.1) pair.1 pair.0) h.table ∙ plugged_more pairs pair new one_lt other_lt;
-      apart = rw flat_map-append (differ_push (letters_plugged pairs) pair.0 pair.1 h.apart new);
-      letters = grind (arith, common_steps, flat_map-append, All-append, All-cons, All-nil);
+      table = e ∙ ap (λ t. set (set t pair.0 pair.1) pair.1 pair.0) h.table ∙ twice;
+      apart = rw (unlike, one, other) h.apart;
+      letters = All-cons (λ letter. letter < 26) pair.0 (pair.1 ∷ letters_plugged pairs) one_lt (All-cons (λ letter. letter < 26) pair.1 (letters_plugged pairs) other_lt h.letters);
     }
 
 -- where no letter lies twice, each pair can be plugged in in its turn
-pub can_plug : (table : List ℕ) (pairs rest : List (ℕ × ℕ)) (pair : ℕ × ℕ) → IsPlugged table pairs → NoLetterTwice (pairs ++ pair ∷ rest) → pair.0 < 26 → pair.1 < 26 → CanPlug table pair
-can_plug table pairs rest pair h once one_lt other_lt =
-    grind (arith, flat_map-append, differ_of, differ_middle, false, exchange-at, exchanged_free, eqb-false)
+pub can_plug : (table : List ℕ) (front pairs : List (ℕ × ℕ)) (pair : ℕ × ℕ) → IsPlugged table pairs → NoLetterTwice (front ++ pair ∷ pairs) → pair.0 < 26 → pair.1 < 26
+    → (pair.0 ≢ pair.1) × IsLeft table pair.0 × IsLeft table pair.1
+can_plug table front pairs pair h once one_lt other_lt =
+    grind (arith, differ_rest, flat_map-append, differ_of, exchange-at, exchanged_free)
+
+-- the last pair of those that are left stands before those plugged in
+pub cut : (pairs left front done : List (ℕ × ℕ)) (pair : ℕ × ℕ) → pairs ≡ left ++ done → left ≡ front ++ pair ∷ [] → pairs ≡ front ++ pair ∷ done
+cut pairs left front done pair e d = grind (arith, append_assoc)
+
+pub none_left : (board : List ℕ) (pairs left done : List (ℕ × ℕ)) → length left ≡ 0 → pairs ≡ left ++ done → IsPlugged board done → IsPlugged board pairs
+none_left board pairs left done e d g = grind (arith, common_steps, board)

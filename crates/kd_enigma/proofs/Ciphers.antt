@@ -1,15 +1,12 @@
 -- The cipher, letter by letter.
-use Rattle.std.proofs.lemmas.Grind.{common_steps}
-use Rattle.std.proofs.Common.{zero, ◌≡◌, ℕ, suc, ◌+◌, ◌<◌, List, [], ◌∷◌, ◌++◌, length, map, get_or, set, take, drop, slice_index, All, refl, sym, ap, ◌∙◌, arith, add-zero, add-suc}
+use Rattle.std.proofs.Common.{zero, ◌≡◌, ℕ, suc, ◌+◌, ◌<◌, List, [], ◌∷◌, ◌++◌, length, map, get_or, set, take, drop, slice_index, All, refl, sym, ap, ◌∙◌, arith, add-zero, add-one, add-suc, rules}
 use Rattle.std.proofs.lemmas.List.Elements.{All-head, All-tail}
 use Rattle.std.specs.List.{enumerate_from}
-use Rattle.std.proofs.lemmas.List.{append_assoc, drop_more, get_or_at, length-take-le, set_at, take_more}
-use Rattle.std.proofs.lemmas.List.FromFn.{length-enumerate_from}
 use Rattle.kd_tables.specs.declared.wheel.Wheel.{Wheel}
 use Rattle.kd_step.specs.Stepper.{next_window, window_after}
 use Rattle.kd_enigma.specs.Cipher.{RotorKey, IsPlugboard, key_turned, key_after, path, enigma_cipher}
-use Rattle.kd_enigma.specs.Seated.{TablesAreSound}
-use Rattle.kd_enigma.proofs.Ways.{path_returns}
+use Rattle.kd_enigma.specs.Sound.{TablesAreSound}
+use Rattle.kd_enigma.proofs.Ways.{path_exchanges}
 
 -- what lights up for a letter after so many steps, and the cipher of a text that begins so many steps after the key
 abbrev lit : RotorKey → ℕ → ℕ → ℕ
@@ -17,9 +14,6 @@ lit key steps letter = slice_index (path key (window_after key.wheels key.window
 
 abbrev cipher_from : RotorKey → ℕ → List ℕ → List ℕ
 cipher_from key start text = map (λ numbered. lit key numbered.0 numbered.1) (enumerate_from start text)
-
-pub length-cipher : (key : RotorKey) (text : List ℕ) → length (enigma_cipher key text) ≡ length text
-length-cipher key text = grind (arith, common_steps, path, key, length-enumerate_from)
 
 -- the window is no part of the path's other parts
 pub path-turned : (key : RotorKey) (window shown : List ℕ) → path (key_turned key window) shown ≡ path key shown
@@ -32,7 +26,7 @@ pub twice_from : TablesAreSound → (key : RotorKey) (start : ℕ) (text : List 
 twice_from sound key start [] board h = refl
 twice_from sound key start (letter ∷ text) board h =
     ap (λ l. l ∷ cipher_from key (start + 1) (cipher_from key (start + 1) text))
-    (path_returns sound key (window_after key.wheels key.window start) board letter (All-head (λ l. l < 26) letter text h))
+    ((path_exchanges sound key (window_after key.wheels key.window start) board).back letter (All-head (λ l. l < 26) letter text h))
     ∙ ap (λ ls. letter ∷ ls) (twice_from sound key (start + 1) text board (All-tail (λ l. l < 26) letter text h))
 
 -- ---- a text in two pieces
@@ -47,8 +41,7 @@ key_after_sum key m n = ap (key_turned key) (window_after_sum key.wheels key.win
 -- what is enciphered later is enciphered on the key of that time
 later : (key : RotorKey) (m start : ℕ) (text : List ℕ) → cipher_from key (m + start) text ≡ cipher_from (key_after key m) start text
 later key m start [] = refl
-later key m start (letter ∷ text) =
-    grind (arith, key, path, window_after_sum, path-turned, later key m (start + 1) text)
+later key m start (letter ∷ text) = search (rules, key, window_after_sum, path-turned, later key m (start + 1) text)
 
 append_from : (key : RotorKey) (start : ℕ) (first rest : List ℕ) → cipher_from key start (first ++ rest) ≡ cipher_from key start first ++ cipher_from key (start + length first) rest
 append_from key start [] rest = ap (λ n. cipher_from key n rest) (sym (add-zero start))
@@ -59,17 +52,10 @@ pub cipher-append : (key : RotorKey) (first rest : List ℕ)
 cipher-append key first rest =
     append_from key 1 first rest ∙ ap (λ ls. enigma_cipher key first ++ ls) (ap (λ n. cipher_from key n rest) (omega arith) ∙ later key (length first) 1 rest)
 
--- what a press after so many letters makes of the next one is the next letter of the cipher
-pub one_more : (key : RotorKey) (text before : List ℕ) (n d light : ℕ) → n < length text
-    → before ≡ enigma_cipher key (take n text) ++ drop n text
-    → enigma_cipher (key_after key n) (get_or before n d ∷ []) ≡ light ∷ []
-    → set before n light ≡ enigma_cipher key (take (n + 1) text) ++ drop (n + 1) text
-one_more key text before n d light lt is e =
-    let letter = get_or text n d in
-    let done = enigma_cipher key (take n text) in
-    let so_many = length-take-le n text (omega arith) in
-    let size : length done ≡ n = length-cipher key (take n text) ∙ so_many in
-    let rest = drop_more text n d lt in
-    let next = rw (is, rest, get_or_at done letter (drop (n + 1) text) d n size) at e in
-    let more = cipher-append key (take n text) (letter ∷ []) in
-    rw (is, rest, set_at done letter (drop (n + 1) text) light n size, take_more text n d lt, more, so_many, next, append_assoc) refl
+-- a letter more is enciphered, and the rest is so on the key that it leaves
+pub one_more : (key : RotorKey) (text : List ℕ) (n d light : ℕ) → n < length text → enigma_cipher key (get_or text n d ∷ []) ≡ light ∷ []
+    → take n text ++ enigma_cipher key (drop n text) ≡ take (n + 1) (set text n light) ++ enigma_cipher (key_after key 1) (drop (n + 1) (set text n light))
+one_more key [] n d light lt e = absurd (omega arith)
+one_more key (letter ∷ text) zero d light lt e = cipher-append key (letter ∷ []) text ∙ ap (λ l. l ++ enigma_cipher (key_after key 1) text) e
+one_more key (letter ∷ text) (suc n) d light lt e =
+    let rest = one_more key text n d light (omega arith) e in rw (add-one (suc n)) (ap (λ l. letter ∷ l) (rw (add-one n) at rest))

@@ -1,7 +1,6 @@
 pub mod Cables
+pub mod Made
 pub mod Maps
-pub mod Turning
 pub mod Ways
 pub mod Seats
-pub mod Wiring
 pub mod Ciphers

@@ -1,13 +1,12 @@
 -- Maps as they lie in 32 lanes.
-use Rattle.std.proofs.Common.{◌≡◌, ℕ, ◌+◌, ◌-◌, ◌<◌, ◌≤◌, List, [], ◌++◌, length, take, map, set, get_or, slice_index, w8, inl, inr, refl, sym, ap, ◌∙◌, arith, length-append, rules}
+use Rattle.std.proofs.Common.{◌≡◌, ℕ, ◌-◌, ◌<◌, ◌≤◌, List, ◌++◌, length, take, map, get_or, slice_index, w8, inl, inr, refl, sym, ap, ◌∙◌, arith, length-append, rules}
 use Rattle.std.proofs.lemmas.Bool.{cases_lt}
 use Rattle.std.proofs.lemmas.List.{ext_get_or, get_or-take, get_or_append_left, get_or-append_right, length-take-le}
-use Rattle.std.proofs.lemmas.List.Edits.{fill_by_more}
 use Rattle.std.proofs.lemmas.List.FromFn.{get_or-range_with_len, get_or-map-range_with_len}
 use Rattle.std.proofs.lemmas.Simd.{swz_l, SwzOk, SwzOk-from_below, Each1-from_get_or, length-swz_l, get_or-swz_l_below}
 use Rattle.kd_tables.specs.Permutation.{alphabet, followed_by}
 use Rattle.kd_enigma.specs.Map.{AreLanes, spare}
-use Rattle.kd_enigma.proofs.Turning.{product-at, product-size}
+use Rattle.kd_enigma.proofs.Ways.{product-at, product-size}
 
 -- the lanes behind the letters
 spare_at : (lanes : List ℕ) → length lanes ≡ 32 → (k : ℕ) → 26 ≤ k → k < 32 → get_or (take 26 lanes ++ spare) k 0 ≡ k
@@ -27,6 +26,11 @@ lanes_of lanes size letters still =
         | inr high ↦ spare_at lanes size k high (omega arith) ∙ sym (still k high (omega arith))
       ]);
     }
+
+pub told_front : (lanes table : List ℕ) → length lanes ≡ 32 → length table ≡ 26 → ((k : ℕ) → k < 26 → slice_index lanes k ≡ slice_index table k) → take 26 lanes ≡ table
+told_front lanes table size front each =
+    let long = length-take-le 26 lanes (omega arith) in
+    ext_get_or 0 (take 26 lanes) table (long ∙ sym front) (λ k lt. get_or-take 26 lanes k 0 (omega arith) ∙ each k (omega arith))
 
 pub lane_behind : (lanes : List ℕ) → AreLanes lanes → (k : ℕ) → 26 ≤ k → k < 32 → slice_index lanes k ≡ k
 lane_behind lanes h k low lt = ap (λ l. get_or l k 0) (sym h.behind) ∙ spare_at lanes h.size k low lt
@@ -49,20 +53,12 @@ followed_by_has_lanes first second h g = search (rules, lanes_of, length-swz_l, 
 
 pub followed_by_is : (first second : List ℕ) → AreLanes first → AreLanes second → take 26 (swz_l w8 32 second 0 first) ≡ followed_by (take 26 first) (take 26 second)
 followed_by_is first second h g =
-    let lanes = swz_l w8 32 second 0 first in
-    let front : length (take 26 lanes) ≡ 26 = length-take-le 26 lanes (omega (arith, length-swz_l w8 32 second 0 first, h.size)) in
-    let first_front : length (take 26 first) ≡ 26 = length-take-le 26 first (omega (arith, h.size)) in
-    ext_get_or 0 (take 26 lanes) (followed_by (take 26 first) (take 26 second)) (front ∙ sym (product-size (take 26 first) (take 26 second) ∙ first_front))
-    (λ k in_front. let lt : k < 26 = omega arith in
-    get_or-take 26 lanes k 0 lt ∙ lane-at first second h k (omega arith)
-    ∙ sym (product-at (take 26 first) (take 26 second) k first_front lt
+    let front : length (take 26 first) ≡ 26 = length-take-le 26 first (omega (arith, h.size)) in
+    told_front (swz_l w8 32 second 0 first) (followed_by (take 26 first) (take 26 second)) (grind (arith, length-swz_l, h.size)) (product-size _ _ ∙ front)
+    (λ k lt. lane-at first second h k (omega arith) ∙ sym (product-at (take 26 first) (take 26 second) k front lt
     ∙ ap (slice_index (take 26 second)) (get_or-take 26 first k 0 lt) ∙ get_or-take 26 second (slice_index first k) 0 (h.letters k lt)))
 
 -- ---- a map for each letter in a window
 
 pub read_at : (f : ℕ → List ℕ) (maps : List (List ℕ)) (window place : ℕ) (d : List ℕ) → maps ≡ map f alphabet → place ≡ window → window < 26 → get_or maps place d ≡ f window
 read_at f maps window place d is here lt = grind (arith, get_or-map-range_with_len)
-
-pub made_more : (f : ℕ → List ℕ) (maps : List (List ℕ)) (window place : ℕ) (made : List ℕ) → length maps ≡ 26 → window < 26 → place ≡ window → made ≡ f window
-    → ((k : ℕ) → k < window → get_or maps k [] ≡ f k) → (k : ℕ) → k < window + 1 → get_or (set maps place made) k [] ≡ f k
-made_more f maps window place made size lt here is so_far k more = grind (arith, fill_by_more)

@@ -1,64 +1,71 @@
--- The rotors of seated wheels, slot by slot.
-use Rattle.std.proofs.Common.{◌≡◌, ℕ, zero, suc, ◌+◌, ◌-◌, ◌<◌, ◌≤◌, List, [], ◌∷◌, ◌++◌, length, map, take, drop, get_or, slice_get, Some, refl, sym, ap, ◌∙◌, arith, add-one}
-use Rattle.std.proofs.lemmas.List.{drop_all, take_more, take_all}
-use Rattle.std.proofs.lemmas.Option.{get_or_from_slice_get}
-use Rattle.std.proofs.Math.Seq.{drop-cons}
-use Rattle.kd_enigma.specs.Around.{around, enclosed}
+-- The way around through the wheels as they sit, slot by slot, and the path that it makes.
+use Rattle.std.proofs.Common.{◌≡◌, ℕ, zero, suc, ◌+◌, ◌-◌, ◌<◌, if◌then◌else◌, ltb, List, [], ◌∷◌, length, take, get_or, refl, ap, ◌∙◌, arith, rules}
+use Rattle.std.proofs.lemmas.List.{take_all}
+use Rattle.std.proofs.lemmas.Bool.Decides.{nat_tests}
+use Rattle.kd_tables.specs.Permutation.{alphabet, followed_by, shift, IsPermutation26}
+use Rattle.kd_tables.specs.Tables.{reflector_of}
+use Rattle.kd_tables.specs.declared.wheel.Wheel.{Wheel}
+use Rattle.kd_enigma.specs.Around.{SeatedWheel, around, boarded}
+use Rattle.kd_enigma.specs.Cipher.{RotorKey, IsPlugboard, rotors}
 use Rattle.kd_enigma.specs.Rotor.{rotor}
-use Rattle.kd_enigma.specs.Cipher.{rotors}
-use Rattle.kd_enigma.specs.Seated.{SeatedWheel}
-use Rattle.kd_enigma.specs.Through.{standing}
-use Rattle.kd_enigma.specs.Wired.{slow}
+use Rattle.kd_enigma.specs.Sound.{TablesAreSound}
+use Rattle.kd_enigma.specs.Wired.{IsWired, seats, slow}
+use Rattle.kd_enigma.proofs.Ways.{Exchanges, enclosed, nested, grouped, product-size, nothing_before, nothing_after, rotor_permutes, reflectors_exchange, wheel_exchanges, path_is}
 
-length-standing : (seated : List SeatedWheel) (window : List ℕ) → length seated ≡ length window → length (standing seated window) ≡ length window
-unfolding rotors
-length-standing [] window e = e
-length-standing (s ∷ seated) [] e = absurd (omega arith)
-length-standing (s ∷ seated) (letter ∷ window) e = ap suc (length-standing seated window (omega arith))
+-- one wheel more around the core
+pub around_more : (core : List ℕ) (seated : List SeatedWheel) (window : List ℕ) (slot : ℕ) (s : SeatedWheel) (letter : ℕ) → slot < length seated → length seated ≡ length window
+    → s ≡ get_or seated slot s → letter ≡ get_or window slot letter
+    → around core (take (slot + 1) seated) (take (slot + 1) window) ≡ boarded s.board (around core (take slot seated) (take slot window)) (rotor s.wheel s.ring letter)
+around_more core (t ∷ seated) (l ∷ window) zero s letter lt same is_s is_letter = grind arith
+around_more core (t ∷ seated) (l ∷ window) (suc slot) s letter lt same is_s is_letter =
+    grind (arith, around_more (boarded t.board core (rotor t.wheel t.ring l)) seated window slot s letter)
+around_more core seated window slot s letter lt same is_s is_letter = absurd (omega arith)
 
--- the wheel in a slot, as it is read
-standing_in : (seated : List SeatedWheel) (window : List ℕ) (slot : ℕ) (s : SeatedWheel) (letter : ℕ) → length seated ≡ length window → slot < length window
-    → s ≡ get_or seated slot s → letter ≡ get_or window slot letter → get_or (standing seated window) slot [] ≡ rotor s.wheel s.ring letter
-unfolding rotors
-standing_in (t ∷ seated) (w ∷ window) zero s letter e lt is_s is_letter = λ i. rotor (sym is_s i).wheel (sym is_s i).ring (sym is_letter i)
-standing_in (t ∷ seated) (w ∷ window) (suc slot) s letter e lt is_s is_letter = standing_in seated window slot s letter (omega arith) (omega arith) is_s is_letter
-standing_in _ _ slot s letter e lt is_s is_letter = absurd (omega arith)
+-- the wheel sits so in the slot; and wheels that sit so
+abbrev pub SitsAt : List ℕ → List Wheel → List ℕ → ℕ → SeatedWheel → Type 0
+SitsAt plugs wheels rings slot s =
+    (s.wheel ≡ get_or wheels slot s.wheel) × (s.ring ≡ get_or rings slot s.ring) × (s.board ≡ (if ltb (slot + 1) (length wheels) then alphabet else plugs))
 
--- one wheel more around the core, and none left
-pub around_more : (seated : List SeatedWheel) (window : List ℕ) (slot : ℕ) (s : SeatedWheel) (shown : ℕ) (core : List ℕ) → length seated ≡ length window → slot < length window
-    → s ≡ get_or seated slot s → shown ≡ get_or window slot shown
-    → around (enclosed core (rotor s.wheel s.ring shown)) (drop (slot + 1) (standing seated window)) ≡ around core (drop slot (standing seated window))
-around_more seated window slot s shown core e lt is_s is_shown =
-    let ws = standing seated window in
-    ap (λ n. around (enclosed core (rotor s.wheel s.ring shown)) (drop n ws)) (add-one slot)
-    ∙ ap (λ w. around (enclosed core w) (drop (suc slot) ws)) (sym (standing_in seated window slot s shown e lt is_s is_shown))
-    ∙ sym (ap (around core) (drop-cons ws slot [] (omega (arith, length-standing seated window e))))
+pub are_seats : (plugs : List ℕ) (seated : List SeatedWheel) (wheels : List Wheel) (rings : List ℕ) → length seated ≡ length wheels → length rings ≡ length wheels
+    → ((slot : ℕ) (s : SeatedWheel) → slot < length wheels → SitsAt plugs wheels rings slot (get_or seated slot s)) → seated ≡ seats plugs wheels rings
+are_seats plugs [] [] [] long slots each = refl
+are_seats plugs (s ∷ []) (wheel ∷ []) (ring ∷ []) long slots each = grind (arith, nat_tests, each 0 s)
+are_seats plugs (s ∷ t ∷ seated) (wheel ∷ next ∷ wheels) (ring ∷ rings) long slots each =
+    let rest = are_seats plugs (t ∷ seated) (next ∷ wheels) rings (omega arith) (omega arith) (λ slot d lt. grind (arith, nat_tests, each (suc slot) d)) in
+    let first : s ≡ record { wheel = wheel; ring = ring; board = alphabet } = grind (arith, nat_tests, each 0 s) in
+    λ i. first i ∷ rest i
+are_seats plugs seated wheels rings long slots each = absurd (omega arith)
 
-pub around_none : (seated : List SeatedWheel) (window : List ℕ) (slot : ℕ) (core : List ℕ) → length seated ≡ length window → length seated ≤ slot
-    → around core (drop slot (standing seated window)) ≡ core
-around_none seated window slot core e h = ap (around core) (drop_all slot (standing seated window) (omega (arith, length-standing seated window e)))
+-- ---- the path, where nothing lies to the right of the slow wheels, and the plugboard to the right of the last one
 
-standing-take : (n : ℕ) (seated : List SeatedWheel) (window : List ℕ) → standing (take n seated) (take n window) ≡ take n (standing seated window)
-unfolding rotors
-standing-take zero seated window = refl
-standing-take (suc n) [] window = refl
-standing-take (suc n) (s ∷ seated) [] = refl
-standing-take (suc n) (s ∷ seated) (letter ∷ window) = ap (λ ws. rotor s.wheel s.ring letter ∷ ws) (standing-take n seated window)
+module _ (sound : TablesAreSound) where
+  -- the board encloses what the wheel encloses
+  board_last : (board core : List ℕ) (wheel : Wheel) (ring letter : ℕ) → IsPermutation26 board → Exchanges core
+      → boarded board core (rotor wheel ring letter) ≡ followed_by board (followed_by (enclosed core (rotor wheel ring letter)) board)
+  board_last board core wheel ring letter h k = grind (arith, rotor_permutes, grouped, board, product-size)
 
--- the slow wheels and the right one
-pub standing_slow : (seated : List SeatedWheel) (window : List ℕ) (s : SeatedWheel) (shown : ℕ) → length seated ≡ length window → 0 < length seated
-    → slice_get seated (length seated - 1) ≡ Some s → shown ≡ get_or window (length window - 1) shown
-    → standing seated window ≡ standing (slow seated) (slow window) ++ rotor s.wheel s.ring shown ∷ []
-standing_slow seated window s shown e some is_s is_shown =
-    let ws = standing seated window in
-    let size = length-standing seated window e in
-    let slot = length window - 1 in
-    let seat : s ≡ get_or seated slot s = sym (get_or_from_slice_get seated slot s s (ap (λ n. slice_get seated (n - 1)) (sym e) ∙ is_s)) in
-    sym (take_all (slot + 1) ws (omega arith)) ∙ take_more ws slot [] (omega arith)
-    ∙ ap (λ w. take slot ws ++ w ∷ []) (standing_in seated window slot s shown e (omega arith) seat is_shown)
-    ∙ ap (λ front. front ++ rotor s.wheel s.ring shown ∷ []) (sym (standing-take slot seated window) ∙ ap (λ n. standing (take (n - 1) seated) (slow window)) (sym e))
+  no_board : (core : List ℕ) (wheel : Wheel) (ring letter : ℕ) → Exchanges core
+      → boarded alphabet core (rotor wheel ring letter) ≡ enclosed core (rotor wheel ring letter)
+  unfolding shift
+  no_board core wheel ring letter k =
+      let e = enclosed core (rotor wheel ring letter) in
+      let inner = (wheel_exchanges sound core wheel ring letter k).permutes in
+      board_last alphabet core wheel ring letter (sound.laws.shifts 0) k
+      ∙ nothing_before (followed_by e alphabet) (product-size e alphabet ∙ inner.size) ∙ nothing_after e inner
 
--- the seats filled so far, seen by one of their parts
-pub seen_all : {X : Type 0} (view : SeatedWheel → X) (seated : List SeatedWheel) (xs : List X) (slot : ℕ) → length seated ≤ slot → length xs ≤ slot
-    → map view (take slot seated) ≡ take slot xs → map view seated ≡ xs
-seen_all view seated xs slot in_seated in_xs h = ap (map view) (sym (take_all slot seated in_seated)) ∙ h ∙ take_all slot xs in_xs
+  around_seats : (plugs core : List ℕ) (wheels : List Wheel) (rings window : List ℕ) → IsPermutation26 plugs → Exchanges core → 0 < length wheels → length rings ≡ length wheels
+      → length window ≡ length wheels → around core (seats plugs wheels rings) window ≡ followed_by plugs (followed_by (nested core (rotors wheels rings window)) plugs)
+  unfolding rotors
+  around_seats plugs core (wheel ∷ []) (ring ∷ []) (letter ∷ []) h k some slots shown = board_last plugs core wheel ring letter h k
+  around_seats plugs core (wheel ∷ next ∷ wheels) (ring ∷ rings) (letter ∷ window) h k some slots shown =
+      ap (λ c. around c (seats plugs (next ∷ wheels) rings) window) (no_board core wheel ring letter k)
+      ∙ around_seats plugs (enclosed core (rotor wheel ring letter)) (next ∷ wheels) rings window h (wheel_exchanges sound core wheel ring letter k) (omega arith) (omega arith) (omega arith)
+  around_seats plugs core wheels rings window h k some slots shown = absurd (omega arith)
+
+  -- so the path is made of the way around through the slow wheels
+  pub wired : (key : RotorKey) (seated : List SeatedWheel) (reflecting inner whole : List ℕ) (s : SeatedWheel) (shown size d : ℕ) → seated ≡ seats key.plugs key.wheels key.rings → IsPlugboard key.plugs
+      → reflecting ≡ reflector_of key.reflector → inner ≡ around reflecting (slow seated) (slow key.window) → length seated ≡ size → length key.wheels ≡ size → length key.rings ≡ size
+      → length key.window ≡ size → 0 < size → s ≡ get_or seated (size - 1) s → shown ≡ get_or key.window (size - 1) d → whole ≡ boarded s.board inner (rotor s.wheel s.ring shown)
+      → IsWired key seated reflecting inner whole
+  wired key seated reflecting inner whole s shown size d sit board is_reflecting is_inner long wheels rings window some is_s is_shown made =
+      search (rules, around, take_all, around_more, board, around_seats, reflectors_exchange, path_is, key)

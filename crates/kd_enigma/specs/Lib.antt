@@ -3,7 +3,6 @@ pub mod Rotor
 pub mod Cipher
 pub mod Map
 pub mod Around
-pub mod Seated
-pub mod Through
+pub mod Sound
 pub mod Laws
 pub mod Wired

@@ -1,37 +1,38 @@
 -- What a machine keeps beside its key.
-use Rattle.std.specs.Prelude.{◌≡◌, ℕ, ◌-◌, List, length, take, map, slice_get, Some}
+use Rattle.std.specs.Prelude.{◌≡◌, ℕ, ◌-◌, List, [], ◌∷◌, length, take}
+use Rattle.kd_tables.specs.Permutation.{alphabet}
 use Rattle.kd_tables.specs.Tables.{reflector_of}
 use Rattle.kd_tables.specs.declared.reflector.Reflector.{Reflector}
+use Rattle.kd_tables.specs.declared.wheel.Wheel.{Wheel}
 use Rattle.kd_step.specs.Stepper.{Stepping}
-use Rattle.kd_enigma.specs.Around.{around}
+use Rattle.kd_enigma.specs.Around.{SeatedWheel, around}
 use Rattle.kd_enigma.specs.Cipher.{RotorKey, IsPlugboard, path}
-use Rattle.kd_enigma.specs.Seated.{SeatedWheel, BoardedWheel}
-use Rattle.kd_enigma.specs.Through.{standing}
 
 -- all slots but the right one
 abbrev pub slow : {X : Type 0} → List X → List X
 slow slots = take (length slots - 1) slots
 
--- a wheel as it sits, without the plugboard beside it
-abbrev pub seat_of : BoardedWheel → SeatedWheel
-seat_of boarded = record { wheel = boarded.wheel; ring = boarded.ring }
+-- the wheels with these rings as they sit: the right one beside the plugboard, and nothing to the right of the others
+abbrev pub seats : List ℕ → List Wheel → List ℕ → List SeatedWheel
+seats plugs (wheel ∷ []) (ring ∷ rings) = record { wheel = wheel; ring = ring; board = plugs } ∷ []
+seats plugs (wheel ∷ wheels) (ring ∷ rings) = record { wheel = wheel; ring = ring; board = alphabet } ∷ seats plugs wheels rings
+seats plugs _ _ = []
 
--- the key that is set, slot by slot
-abbrev pub key_in : Stepping → List SeatedWheel → Reflector → BoardedWheel → RotorKey
-key_in stepper seated reflector right = record {
+-- the key that is set
+abbrev pub key_in : Stepping → List ℕ → Reflector → List ℕ → RotorKey
+key_in stepper rings reflector plugs = record {
   wheels = stepper.wheels;
-  rings = map (λ s. s.ring) seated;
+  rings = rings;
   window = stepper.window;
   reflector = reflector;
-  plugs = right.plugs;
+  plugs = plugs;
 }
 
--- The wheels of the key sit in the slots, and the right one beside the plugboard. Kept are the reflector, the way around
--- through the slow wheels, and the path of the letters that show.
-pub record IsWired (seated : List SeatedWheel) (boarded : BoardedWheel) (key : RotorKey) (reflecting inner whole : List ℕ) : Type 0 where
-  pub wheels : map (λ s. s.wheel) seated ≡ key.wheels
-  pub last : slice_get seated (length seated - 1) ≡ Some (seat_of boarded)
+-- The wheels of the key sit in the slots. Kept are the reflector, the way around through the slow wheels, and the path of the
+-- letters that show.
+pub record IsWired (key : RotorKey) (seated : List SeatedWheel) (reflecting inner whole : List ℕ) : Type 0 where
+  pub seats : seated ≡ seats key.plugs key.wheels key.rings
   pub board : IsPlugboard key.plugs
   pub reflector : reflecting ≡ reflector_of key.reflector
-  pub around_slow : inner ≡ around reflecting (standing (slow seated) (slow key.window))
+  pub around_slow : inner ≡ around reflecting (slow seated) (slow key.window)
   pub path_shown : whole ≡ path key key.window

@@ -1,14 +1,12 @@
-ghost use Rattle.std.specs.Prelude.{◌≡◌, ◌≤◌, ◌-◌, ◌∷◌, [], length, map, slice_get, slice_index, Some};
+ghost use Rattle.std.specs.Prelude.{◌≡◌, ◌<◌, ◌≤◌, ◌+◌, nat_lt, ◌∷◌, [], length, slice_index, slice_index_or, if◌then◌else◌};
 ghost use Rattle.kd_enigma.specs.Around.{around};
 ghost use Rattle.kd_enigma.specs.Cipher.{enigma_cipher, key_after, key_turned, path};
-ghost use Rattle.kd_enigma.specs.Through.{standing};
-ghost use Rattle.kd_enigma.specs.Wired.{seat_of, slow};
+ghost use Rattle.kd_enigma.specs.Wired.{slow};
 
 use super::key::EnigmaKey;
 use super::laws::tables_are_sound;
 use super::map::Map;
 use super::plugs::Plugs;
-use super::right_wheel::RightWheel;
 use super::rotor::Rotor;
 use kd_step::Stepper;
 use kd_step::laws::slow_wheels_move_together;
@@ -18,27 +16,29 @@ use std::marker::Model;
 /// A rotor machine that is set to a key, ready for its keys to be pressed.
 #[derive(Drop)]
 pub struct Enigma<const S: usize> {
+    wheels: [Wheel; S],
+    rings: [Letter; S],
+    reflector: Reflector,
+    plugs: Plugs,
     stepper: Stepper<S>,
     rotors: [Rotor; S],
-    right: RightWheel,
-    reflector: Reflector,
     reflecting: Map,
     inner: Map,
     whole: Map,
 }
 
 impl<const S: usize> Model for Enigma<S> {
-    ghost use Rattle.std.specs.Prelude.{◌≡◌, ◌≤◌, map};
+    ghost use Rattle.std.specs.Prelude.{◌≡◌, ◌≤◌};
     ghost use Rattle.kd_enigma.specs.Cipher.{RotorKey};
     ghost use Rattle.kd_enigma.specs.Wired.{IsWired, key_in};
 
     ghost Value = { RotorKey };
 
-    ghost view = { λ e. key_in e.stepper e.rotors e.reflector e.right };
+    ghost view = { λ e. key_in e.stepper e.rings e.reflector e.plugs };
 
-    ghost invariant = { λ e.
-        IsWired e.rotors e.right (key_in e.stepper e.rotors e.reflector e.right)
-        e.reflecting e.inner e.whole × (3 ≤ S) × (S ≤ 4) };
+    ghost invariant = { λ e. (e.wheels ≡ e.stepper.wheels)
+        × IsWired (key_in e.stepper e.rings e.reflector e.plugs) e.rotors e.reflecting e.inner e.whole
+        × (3 ≤ S) × (S ≤ 4) };
 }
 
 impl<const S: usize> Enigma<S> {
@@ -57,19 +57,28 @@ impl<const S: usize> Enigma<S> {
             plugs,
         } = key;
         plugs.exchanges();
-        let mut rotors = [Rotor::new(wheels[0], rings[0]); S];
-        for slot in 1..S {
-            rotors[slot] = Rotor::new(wheels[slot], rings[slot]);
-        }
-        let right = boarded(&rotors, plugs);
+        let (none, board) = (Map::shift(0), plugs.map());
+        let rotors = std::array::from_fn(
+            |slot: usize|
+                requires { slot < S }
+                ensures wheel { result.wheel ≡ slice_index_or wheels slot result.wheel }
+                ensures ring { result.ring ≡ slice_index_or rings slot result.ring }
+                ensures board { result.board ≡ (if nat_lt (slot + 1) S then none else board) }
+            {
+                let beside = if slot + 1 < S { none } else { board };
+                Rotor::new(wheels[slot], rings[slot], beside)
+            },
+        );
         let reflecting = Map::of(&reflecting(reflector));
         let inner = around_slow(&rotors, &window, reflecting);
-        let whole = right.enclosing(inner, window[S - 1]);
+        let whole = rotors[S - 1].enclosing(inner, window[S - 1]);
         Enigma {
+            wheels,
+            rings,
+            reflector,
+            plugs,
             stepper: Stepper::new(wheels, window),
             rotors,
-            right,
-            reflector,
             reflecting,
             inner,
             whole,
@@ -100,9 +109,9 @@ impl<const S: usize> Enigma<S> {
         ensures { self.new ≡ key_turned self.old window.entry }
     {
         tables_are_sound();
-        self.stepper = Stepper::new(wheels_of(&self.rotors), window);
+        self.stepper = Stepper::new(self.wheels, window);
         self.inner = around_slow(&self.rotors, &window, self.reflecting);
-        self.whole = self.right.enclosing(self.inner, window[S - 1]);
+        self.whole = self.rotors[S - 1].enclosing(self.inner, window[S - 1]);
     }
 
     /// The letters that show in the windows, from the left.
@@ -126,7 +135,7 @@ impl<const S: usize> Enigma<S> {
             self.inner = around_slow(&self.rotors, &self.stepper.window(), self.reflecting);
         }
         let right = self.stepper.shown(S - 1);
-        self.whole = self.right.enclosing(self.inner, right);
+        self.whole = self.rotors[S - 1].enclosing(self.inner, right);
     }
 
     /// The letter that lights up for a letter while no wheel moves.
@@ -138,44 +147,14 @@ impl<const S: usize> Enigma<S> {
     }
 }
 
-/// The wheels of the rotors. There is at least one.
-fn wheels_of<const S: usize>(rotors: &[Rotor; S]) -> [Wheel; S]
-    requires { 1 ≤ S }
-    ensures { result ≡ map (λ r. r.wheel) rotors.now }
-{
-    let mut wheels = [rotors[0].wheel(); S];
-    for slot in 1..S {
-        wheels[slot] = rotors[slot].wheel();
-    }
-    wheels
-}
-
-/// The right wheel with the plugboard beside it.
-fn boarded(rotors: &[Rotor], plugs: Plugs) -> RightWheel
-    requires { 1 ≤ length rotors.now }
-    ensures board { result.plugs ≡ plugs }
-    ensures last { slice_get rotors.now (length rotors.now - 1) ≡ Some (seat_of result) }
-{
-    RightWheel::new(&rotors[rotors.len() - 1], plugs)
-}
-
 /// The way around through all wheels but the right one, and the reflector.
+#[tactic(auto, using(crate::proofs::Seats::around_more))]
 fn around_slow<const S: usize>(rotors: &[Rotor; S], window: &[Letter; S], reflecting: Map) -> Map
     requires { 1 ≤ S }
-    ensures { result ≡ around reflecting (standing (slow rotors.now) (slow window.now)) }
+    ensures { result ≡ around reflecting (slow rotors.now) (slow window.now) }
 {
-    let (rotors, window) = (&rotors[..], &window[..]);
-    around(&rotors[..S - 1], &window[..S - 1], reflecting)
-}
-
-/// The way around through wheels, from the left, and what lies behind them.
-#[tactic(auto, using(crate::proofs::Seats::around_more, crate::proofs::Seats::around_none))]
-fn around(rotors: &[Rotor], window: &[Letter], core: Map) -> Map
-    requires { length rotors.now ≡ length window.now }
-    ensures { result ≡ around core (standing rotors.now window.now) }
-{
-    let mut core = core;
-    for slot in 0..rotors.len() {
+    let mut core = reflecting;
+    for slot in 0..S - 1 {
         core = rotors[slot].enclosing(core, window[slot]);
     }
     core

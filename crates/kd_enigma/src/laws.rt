@@ -4,7 +4,7 @@ ghost use Rattle.kd_tables.specs.Permutation.{exchange};
 ghost use Rattle.kd_enigma.specs.Cipher.{IsPlugboard};
 ghost use Rattle.kd_enigma.specs.Laws.{PairsMakeAPlugboard, PairsExchange, SamePairsExchangeAlike};
 ghost use Rattle.kd_enigma.specs.Laws.{PathsLeadBack, PathsMoveEachLetter, TwiceGivesBack, CipherInTurn, KeyInTurn};
-ghost use Rattle.kd_enigma.specs.Seated.{PermutationLaws, TablesAreSound};
+ghost use Rattle.kd_enigma.specs.Sound.{PermutationLaws, TablesAreSound};
 
 /// The laws of permutations, together.
 pub(crate) fn permutations_obey_laws()

@@ -6,7 +6,6 @@ mod key;
 pub mod laws;
 mod map;
 mod plugs;
-mod right_wheel;
 mod rotor;
 
 pub use enigma::Enigma;

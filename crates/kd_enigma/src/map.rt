@@ -1,14 +1,9 @@
-ghost use Rattle.std.specs.Prelude.{◌≡◌, ◌≤◌, slice_index};
+ghost use Rattle.std.specs.Prelude.{◌≡◌, ◌<◌, ◌≤◌, nat_lt, slice_index, if◌then◌else◌};
 ghost use Rattle.kd_tables.specs.Permutation.{followed_by, shift};
 
 use kd_tables::Letter;
 use std::marker::Model;
 use std::simd::prelude::*;
-
-const EACH_TO_ITSELF: [u8; 32] = [
-    0, 1, 2, 3, 4, 5, 6, 7, 8, 9, 10, 11, 12, 13, 14, 15, 16, 17, 18, 19, 20, 21, 22, 23, 24, 25,
-    26, 27, 28, 29, 30, 31,
-];
 
 /// What each letter becomes. The six lanes behind the letters lead to themselves.
 #[derive(Clone, Copy)]
@@ -36,10 +31,19 @@ impl Map {
     pub(crate) fn of(table: &[Letter; 26]) -> Self
         ensures { result ≡ table.now }
     {
-        let mut lanes = EACH_TO_ITSELF;
-        for place in 0..26 {
-            lanes[place] = table[place].index() as u8;
-        }
+        let lanes = std::array::from_fn(
+            |lane: usize|
+                requires { lane < 32 }
+                ensures letter { lane < 26 → result < 26 }
+                ensures value { result ≡ (if nat_lt lane 26 then slice_index table.entry.now lane else lane) }
+            {
+                if lane < 26 {
+                    table[lane].index() as u8
+                } else {
+                    lane as u8
+                }
+            },
+        );
         Map {
             lanes: u8x32::from_array(lanes),
         }
@@ -50,11 +54,7 @@ impl Map {
         requires { by ≤ 26 }
         ensures { result ≡ shift by }
     {
-        let mut table = [Letter::A; 26];
-        for index in 0..26 {
-            table[usize::from(index)] = Letter::new((index + by) % 26).unwrap();
-        }
-        Map::of(&table)
+        Map::of(&std::array::from_fn(|index| { Letter::new((index as u8 + by) % 26).unwrap() }))
     }
 
     /// First this map, and then the second one.

@@ -41,8 +41,10 @@ impl Plugs {
         ensures plugboard { IfOk result IsPlugboard }
     {
         let mut table = unplugged();
-        for (one, other) in pairs {
+        let mut left = pairs;
+        while let Some(((one, other), others)) = left.split_last() {
             plug(&mut table, *one, *other)?;
+            left = others;
         }
         Ok(Plugs { table })
     }
@@ -74,11 +76,7 @@ impl Plugs {
 fn unplugged() -> [Letter; 26]
     ensures { result ≡ alphabet }
 {
-    let mut table = [Letter::A; 26];
-    for index in 0..26 {
-        table[usize::from(index)] = Letter::new(index).unwrap();
-    }
-    table
+    std::array::from_fn(|index| Letter::new(index as u8).unwrap())
 }
 
 /// Exchanges two letters that have been left so far.

@@ -1,95 +1,79 @@
-ghost use Rattle.std.specs.Prelude.{◌≡◌};
-ghost use Rattle.kd_tables.specs.Permutation.{inverse};
-ghost use Rattle.kd_enigma.specs.Around.{enclosed};
-ghost use Rattle.kd_enigma.specs.Rotor.{rotor};
+ghost use Rattle.std.specs.Prelude.{◌≡◌, ◌<◌};
+ghost use Rattle.kd_tables.specs.Permutation.{followed_by};
+ghost use Rattle.kd_enigma.specs.Around.{boarded};
+ghost use Rattle.kd_enigma.specs.Rotor.{offset, rotor, turned};
 
 use super::laws::tables_are_sound;
 use super::map::Map;
 use kd_tables::{Letter, Wheel, unwiring, wiring};
 use std::marker::Model;
 
-/// A wheel with its ring, and its two ways for each letter in its window.
-#[derive(Clone, Copy)]
+/// A wheel with its ring and with what lies to its right, the plugboard or nothing, and its two ways through both for each
+/// letter in its window.
+#[derive(Drop)]
 pub(crate) struct Rotor {
     wheel: Wheel,
     ring: Letter,
+    board: Map,
     inward: [Map; 26],
     outward: [Map; 26],
 }
 
 impl Model for Rotor {
     ghost use Rattle.std.specs.Prelude.{◌≡◌};
-    ghost use Rattle.kd_enigma.specs.Around.{inward_of, outward_of};
-    ghost use Rattle.kd_enigma.specs.Seated.{SeatedWheel};
+    ghost use Rattle.kd_enigma.specs.Around.{SeatedWheel, inward_of, outward_of};
 
     ghost Value = { SeatedWheel };
 
-    ghost view = { λ r. record { wheel = r.wheel; ring = r.ring } };
+    ghost view = { λ r. record { wheel = r.wheel; ring = r.ring; board = r.board } };
 
-    ghost invariant = { λ r. (r.inward ≡ inward_of r.wheel r.ring)
-        × (r.outward ≡ outward_of r.wheel r.ring) };
-
-    ghost inverse = { λ s. record {
-      wheel = s.wheel;
-      ring = s.ring;
-      inward = inward_of s.wheel s.ring;
-      outward = outward_of s.wheel s.ring;
-    } };
+    ghost invariant = { λ r. (r.inward ≡ inward_of r.wheel r.ring r.board)
+        × (r.outward ≡ outward_of r.wheel r.ring r.board) };
 }
 
 impl Rotor {
-    pub(crate) fn new(wheel: Wheel, ring: Letter) -> Self
-        ensures { result ≡ record { wheel = wheel; ring = ring } }
+    pub(crate) fn new(wheel: Wheel, ring: Letter, board: Map) -> Self
+        ensures { result ≡ record { wheel = wheel; ring = ring; board = board } }
     {
         tables_are_sound();
         let (there, back) = (Map::of(&wiring(wheel)), Map::of(&unwiring(wheel)));
-        let (mut inward, mut outward) = ([there; 26], [back; 26]);
-        for window in 0..26 {
-            let by = Letter::new(window).unwrap().back(ring).index() as u8;
-            let (on, off) = (Map::shift(by), Map::shift(26 - by));
-            inward[usize::from(window)] = on.then(there).then(off);
-            outward[usize::from(window)] = on.then(back).then(off);
-        }
+        let inward = std::array::from_fn(
+            |window: usize|
+                requires { window < 26 }
+                ensures { result ≡ followed_by board (turned (offset ring window) there) }
+            { board.then(turned(there, ring, window)) },
+        );
+        let outward = std::array::from_fn(
+            |window: usize|
+                requires { window < 26 }
+                ensures { result ≡ followed_by (turned (offset ring window) back) board }
+            { turned(back, ring, window).then(board) },
+        );
         Rotor {
             wheel,
             ring,
+            board,
             inward,
             outward,
         }
     }
 
-    /// The wheel.
-    pub(crate) fn wheel(&self) -> Wheel
-        ensures { result ≡ self.now.wheel }
-    {
-        self.wheel
-    }
-
-    /// The letter of the ring.
-    pub(crate) fn ring(&self) -> Letter
-        ensures { result ≡ self.now.ring }
-    {
-        self.ring
-    }
-
-    /// What the wheel makes of the letters on the way in, while this letter shows in its window.
-    pub(crate) fn inward(&self, window: Letter) -> Map
-        ensures { result ≡ rotor self.now.wheel self.now.ring window }
+    /// In through the board and the wheel, around, and back through both, while this letter shows in the wheel's window.
+    pub(crate) fn enclosing(&self, core: Map, window: Letter) -> Map
+        ensures { result ≡ boarded self.now.board core (rotor self.now.wheel self.now.ring window) }
     {
         self.inward[window.index()]
+            .then(core)
+            .then(self.outward[window.index()])
     }
+}
 
-    /// What the wheel makes of the letters on the way back.
-    pub(crate) fn outward(&self, window: Letter) -> Map
-        ensures { result ≡ inverse (rotor self.now.wheel self.now.ring window) }
-    {
-        self.outward[window.index()]
-    }
-
-    /// In through the wheel, around, and back through the wheel.
-    pub(crate) fn enclosing(&self, core: Map, window: Letter) -> Map
-        ensures { result ≡ enclosed core (rotor self.now.wheel self.now.ring window) }
-    {
-        self.inward(window).then(core).then(self.outward(window))
-    }
+/// The map, turned on as a wheel with this ring is while the letter of that place shows in its window.
+#[tactic(auto, unfolding(crate::specs::Rotor::turned))]
+fn turned(map: Map, ring: Letter, window: usize) -> Map
+    requires { window < 26 }
+    ensures { result ≡ turned (offset ring window) map }
+{
+    let by = Letter::new(window as u8).unwrap().back(ring).index() as u8;
+    Map::shift(by).then(map).then(Map::shift(26 - by))
 }

@@ -1,13 +1,18 @@
--- The letters in the cables.
-use Rattle.std.proofs.Common.{◌≡◌, ◌↔◌, get_or, ℕ, zero, suc, ◌+◌, ◌<◌, nat_eq, true, false, not, ◌&&◌, List, [], ◌∷◌, ◌++◌, length, map, set, drop, Option, Some, None, slice_get, refl, sym, subst, arith}
+-- The letters in the cables, and cables that are a day's pairs.
+use Rattle.std.proofs.Common.{◌≡◌, ◌↔◌, get_or, ℕ, zero, suc, ◌+◌, ◌<◌, nat_eq, true, false, not, ◌&&◌, List, [], ◌∷◌, ◌++◌, length, map, set, drop, Option, Some, None, slice_get, refl, sym, subst, arith, ◌≢◌, ◌⊎◌, All, Any, Contains, inl, inr, ap, ◌∙◌, filter_map, rules}
 use Rattle.kd_state.proofs.Prelude.{AllByRecursion, is_none, true≢false, cond_both, eq-eqb, or_parts, or_from}
 use Rattle.kd_state.proofs.Prelude.{leb-false, le-leb, and_parts, and_from, not-true, nat_tests, append_assoc}
 use Rattle.kd_state.proofs.Prelude.{drop_more, IsPermutation-refl, IsPermutation-trans, IsPermutation-append_comm}
 use Rattle.kd_state.proofs.Prelude.{IsPermutation-append_left, IsPermutation-append, IsPermutation-append_right}
 use Rattle.kd_state.proofs.Prelude.{cable_letters, plugged_letters, ordered, has_letter, are_new, cable_without}
-use Rattle.kd_state.proofs.Prelude.{cable_with}
+use Rattle.kd_state.proofs.Prelude.{cable_with, eqb-false, All-contains, All-from_recursion, Contains-append_right}
+use Rattle.kd_state.proofs.Prelude.{recursion_from_All, none-some, same_Some, slice_get-get_or, letters_plugged}
+use Rattle.kd_state.proofs.Prelude.{NoLetterTwice, AreCables, SameLetters, AreTheLetters, Joins, IsPaired, IsJoined}
+use Rattle.kd_state.proofs.Prelude.{AreThePairs, both_ends, option_map_or}
 use Rattle.std.specs.List.{IsDistinct}
 use Rattle.std.specs.List.Sorted.{IsPermutation}
+use Rattle.kd_state.proofs.CostTable.{tests_tell_letters}
+use Rattle.kd_enigma.specs.Plugs as plugs
 
 pub eqb_flips : (x y : ℕ) → nat_eq x y ≡ nat_eq y x
 eqb_flips x y = grind (arith, nat_tests)
@@ -23,9 +28,9 @@ unfolding IsDistinct
 new_tells [] others = (λ h. (refl, h), λ h. h.1)
 new_tells (letter ∷ letters) others = grind (arith, and_parts, and_from, not-true, free_tells, new_tells letters others)
 
-pub no_letter_twice : IsDistinct nat_eq []
+pub no_letters : IsDistinct nat_eq []
 unfolding IsDistinct
-no_letter_twice = tt
+no_letters = tt
 
 -- the letters of a cable in order are the same letters
 pub ordered_moves : (one other : Option ℕ) → IsPermutation (cable_letters (one, other)) (cable_letters (ordered one other))
@@ -95,3 +100,120 @@ pub distinct_from : (cables : List (Option ℕ × Option ℕ)) (place : ℕ) (ca
     → IsDistinct nat_eq (plugged_letters (drop place cables))
     ↔ ((are_new (cable_letters cable) (plugged_letters (drop (place + 1) cables)) ≡ true) × IsDistinct nat_eq (plugged_letters (drop (place + 1) cables)))
 distinct_from cables place cable within is = grind (arith, drop_more, new_tells)
+
+-- ---- the pairs that whole cables exchange
+
+abbrev pub pairs_of : List (Option ℕ × Option ℕ) → List (ℕ × ℕ)
+pairs_of cables = filter_map (λ cable. both_ends cable.0 cable.1) cables
+
+letters_of_pairs : (cables : List (Option ℕ × Option ℕ)) → AllByRecursion (λ cable. length (cable_letters cable) ≢ 1) cables → plugged_letters cables ≡ letters_plugged (pairs_of cables)
+letters_of_pairs [] h = refl
+letters_of_pairs ((None, None) ∷ cables) h = letters_of_pairs cables h.1
+letters_of_pairs ((Some letter, Some other) ∷ cables) h = ap (λ letters. letter ∷ other ∷ letters) (letters_of_pairs cables h.1)
+letters_of_pairs (cable ∷ cables) h = absurd (h.0 refl)
+
+pub no_letter_twice : (cables : List (Option ℕ × Option ℕ)) → AreCables cables → All (λ cable. length (cable_letters cable) ≢ 1) cables → NoLetterTwice (pairs_of cables)
+no_letter_twice cables h whole = grind (arith, letters_of_pairs, recursion_from_All)
+
+-- one of two, and of one
+pub of_two : (a b x : ℕ) → Contains (a ∷ b ∷ []) x → (x ≡ a) ⊎ (x ≡ b)
+of_two a b x e = grind arith
+
+pub of_one : (a x : ℕ) → Contains (a ∷ []) x → x ≡ a
+of_one a x e = grind arith
+
+-- two letters that are those of a pair
+pub same_two : (a b : ℕ) (pair : ℕ × ℕ) → SameLetters (a ∷ b ∷ []) (pair.0 ∷ pair.1 ∷ []) → AreTheLetters a b pair
+same_two a b pair same =
+    let tests = (tests_tell_letters (a ∷ b ∷ []) (pair.0 ∷ pair.1 ∷ [])).0 same in
+    grind (arith, nat_tests, tests a, tests b, tests pair.0, tests pair.1)
+
+-- the two letters of a day's pair differ
+apart_at : (pairs : List (ℕ × ℕ)) (k : ℕ) (d : ℕ × ℕ) → IsDistinct nat_eq (letters_plugged pairs) → k < length pairs → (get_or pairs k d).0 ≢ (get_or pairs k d).1
+unfolding IsDistinct
+apart_at [] k d h below = absurd (omega arith)
+apart_at (pair ∷ pairs) zero d h below = eqb-false pair.0 pair.1 h.0.0
+apart_at (pair ∷ pairs) (suc k) d h below = apart_at pairs k d h.1.1 (omega arith)
+
+one_letter : (pairs : List (ℕ × ℕ)) (cable : Option ℕ × Option ℕ) (letter : ℕ) → NoLetterTwice pairs → ((x : ℕ) → Contains (cable_letters cable) x → x ≡ letter) → Any (Joins cable) pairs → ⊥
+one_letter pairs cable letter apart only there =
+    let pair = there.1 in
+    let first = only pair.0 ((there.4.letters pair.0).1 (0, omega arith, refl)) in
+    let second = only pair.1 ((there.4.letters pair.1).1 (1, omega arith, refl)) in
+    apart_at pairs there.0 pair apart there.2 (ap (λ (p : ℕ × ℕ). p.0) there.3 ∙ first ∙ sym second ∙ sym (ap (λ (p : ℕ × ℕ). p.1) there.3))
+
+whole_cable : (pairs : List (ℕ × ℕ)) (cable : Option ℕ × Option ℕ) → NoLetterTwice pairs → IsPaired pairs cable → length (cable_letters cable) ≢ 1
+whole_cable pairs (Some a, None) apart paired one = one_letter pairs (Some a, None) a apart (of_one a) (paired.joins (λ none. cc))
+whole_cable pairs (None, Some a) apart paired one = one_letter pairs (None, Some a) a apart (of_one a) (paired.joins (λ none. cc))
+whole_cable pairs cable apart paired one = omega (arith, one)
+
+pub whole_cables : (cables : List (Option ℕ × Option ℕ)) (pairs : List (ℕ × ℕ)) → NoLetterTwice pairs → AreThePairs cables pairs → All (λ cable. length (cable_letters cable) ≢ 1) cables
+whole_cables cables pairs apart h = λ k d below. whole_cable pairs (get_or cables k d) apart (h.pair k d below)
+
+-- ---- cables that are the pairs
+
+into_pairs : (cables : List (Option ℕ × Option ℕ)) (k a b : ℕ) → slice_get cables k ≡ Some (Some a, Some b) → Contains (pairs_of cables) (a, b)
+into_pairs [] k a b e = absurd (none-some _ e)
+into_pairs (cable ∷ cables) zero a b e = grind (arith, same_Some)
+into_pairs ((Some one, Some other) ∷ cables) (suc k) a b e = Contains-append_right ((one, other) ∷ []) (pairs_of cables) (a, b) (into_pairs cables k a b e)
+into_pairs (cable ∷ cables) (suc k) a b e = into_pairs cables k a b e
+
+both_plugged : (cable : Option ℕ × Option ℕ) (letter : ℕ) → length (cable_letters cable) ≢ 1 → Contains (cable_letters cable) letter → (pair : ℕ × ℕ) × (cable ≡ (Some pair.0, Some pair.1))
+both_plugged (None, None) letter whole there = absurd (omega (arith, there.1))
+both_plugged (Some one, Some other) letter whole there = ((one, other), refl)
+both_plugged cable letter whole there = absurd (whole refl)
+
+-- in either order
+either_way : (pairs : List (ℕ × ℕ)) (pair : ℕ × ℕ) (x y : ℕ) → Contains pairs pair → AreTheLetters x y pair → plugs.Joins pairs x y
+either_way pairs pair x y there same = grind (arith, pairs)
+
+swapped : {A B : Type 0} → A ⊎ B → B ⊎ A
+swapped e = grind arith
+
+cable_pairs : (pairs : List (ℕ × ℕ)) (cables : List (Option ℕ × Option ℕ)) → AllByRecursion (IsPaired pairs) cables → AllByRecursion (λ pair. plugs.Joins pairs pair.0 pair.1) (pairs_of cables)
+cable_pairs pairs [] h = tt
+cable_pairs pairs ((Some a, Some b) ∷ cables) h = search (rules, pairs, same_two, cable_pairs pairs cables h.1)
+cable_pairs pairs (cable ∷ cables) h = cable_pairs pairs cables h.1
+
+module _ (cables : List (Option ℕ × Option ℕ)) (pairs : List (ℕ × ℕ)) (whole : All (λ cable. length (cable_letters cable) ≢ 1) cables) (h : AreThePairs cables pairs) where
+  cable_pair : (x y : ℕ) → Contains (pairs_of cables) (x, y) → plugs.Joins pairs x y
+  cable_pair x y there =
+      All-contains (λ (pair : ℕ × ℕ). plugs.Joins pairs pair.0 pair.1) (pairs_of cables) (x, y)
+      (All-from_recursion (λ (pair : ℕ × ℕ). plugs.Joins pairs pair.0 pair.1) (pairs_of cables) (cable_pairs pairs cables (recursion_from_All (IsPaired pairs) cables h.pair))) there
+
+  day_pair : (x y : ℕ) → Contains pairs (x, y) → plugs.Joins (pairs_of cables) x y
+  day_pair x y there =
+      let joined = (All-contains (IsJoined cables) pairs (x, y) h.cable there).joins in
+      let cable = joined.1 in
+      let at : slice_get cables joined.0 ≡ Some cable = slice_get-get_or cables joined.0 cable joined.2 ∙ ap Some joined.3 in
+      let one = All-contains (λ (cable : Option ℕ × Option ℕ). length (cable_letters cable) ≢ 1) cables cable whole (joined.0, joined.2, joined.3) in
+      let ends = both_plugged cable x one ((joined.4.letters x).1 (0, omega arith, refl)) in
+      let pair = ends.0 in
+      let same : SameLetters (x ∷ y ∷ []) (pair.0 ∷ pair.1 ∷ []) =
+      λ letter. let both = subst (λ (c : Option ℕ × Option ℕ). Contains (cable_letters c) letter ↔ Contains (x ∷ y ∷ []) letter) ends.1 (joined.4.letters letter) in (both.1, both.0) in
+      either_way (pairs_of cables) pair x y (into_pairs cables joined.0 pair.0 pair.1 (at ∙ ap Some ends.1)) (same_two x y pair same)
+
+  pub pairs_joined : (x y : ℕ) → plugs.Joins (pairs_of cables) x y ↔ plugs.Joins pairs x y
+  pairs_joined x y = (
+    λ joins. elim joins [ inl one ↦ cable_pair x y one | inr other ↦ swapped (cable_pair y x other) ],
+    λ joins. elim joins [ inl one ↦ day_pair x y one | inr other ↦ swapped (day_pair y x other) ],
+  )
+
+-- ---- when a cable's letters are a pair's
+
+-- each letter of the pair lies in the cable, and each end of the cable is loose, or its letter is one of the pair
+same_tests : (cable : Option ℕ × Option ℕ) (p q letter : ℕ) → has_letter (cable_letters cable) p ≡ true → has_letter (cable_letters cable) q ≡ true
+    → option_map_or (has_letter (p ∷ q ∷ [])) cable.0 true ≡ true → option_map_or (has_letter (p ∷ q ∷ [])) cable.1 true ≡ true
+    → has_letter (cable_letters cable) letter ≡ has_letter (p ∷ q ∷ []) letter
+same_tests cable p q letter a b c d = grind (arith, nat_tests)
+
+pub joined_by_tests : (cable : Option ℕ × Option ℕ) (pair : ℕ × ℕ) → has_letter (cable_letters cable) pair.0 ≡ true → has_letter (cable_letters cable) pair.1 ≡ true
+    → option_map_or (has_letter (pair.0 ∷ pair.1 ∷ [])) cable.0 true ≡ true → option_map_or (has_letter (pair.0 ∷ pair.1 ∷ [])) cable.1 true ≡ true → Joins cable pair
+joined_by_tests cable pair a b c d = record { letters = (tests_tell_letters (cable_letters cable) (pair.0 ∷ pair.1 ∷ [])).1 (λ letter. same_tests cable pair.0 pair.1 letter a b c d) }
+
+pub tests_of_joined : (cable : Option ℕ × Option ℕ) (pair : ℕ × ℕ) → Joins cable pair
+    → (has_letter (cable_letters cable) pair.0 ≡ true) × (has_letter (cable_letters cable) pair.1 ≡ true)
+    × (option_map_or (has_letter (pair.0 ∷ pair.1 ∷ [])) cable.0 true ≡ true) × (option_map_or (has_letter (pair.0 ∷ pair.1 ∷ [])) cable.1 true ≡ true)
+tests_of_joined cable pair joined =
+    let same = (tests_tell_letters (cable_letters cable) (pair.0 ∷ pair.1 ∷ [])).0 joined.letters in
+    grind (arith, nat_tests, same)

@@ -2,12 +2,12 @@
 use Rattle.std.proofs.lemmas.Grind.{common_steps}
 use Rattle.std.proofs.Common.{◌≡◌, ◌≢◌, ◌⊎◌, ◌↔◌, ℕ, zero, suc, ◌+◌, ◌-◌, ◌<◌, ◌≤◌, nat_eq, Bool, true, false, List, [], ◌∷◌, length, map, set, find, All, Contains, Option, Some, None, slice_get, refl, sym, ap, ◌∙◌, inl, inr, subst, arith, rules}
 use Rattle.kd_state.proofs.Prelude.{AllByRecursion, is_none, option_map, option_map_or, option_or, option_and_then}
-use Rattle.kd_state.proofs.Prelude.{unwrap_or, cases_eq, cases_Bool, both_ways, not-false, eqb-false}
+use Rattle.kd_state.proofs.Prelude.{AreAllowed, AreApart, AreOnWheels, true≢false, unwrap_or, cases_eq, cases_Bool, both_ways, not-false, eqb-false}
 use Rattle.kd_state.proofs.Prelude.{true_from_ne_false, length-set, map-set, length-map, All-set, All-tail, All-cons}
 use Rattle.kd_state.proofs.Prelude.{All-contains, All-from_recursion, Contains-append_left, Contains-append_right}
 use Rattle.kd_state.proofs.Prelude.{Contains-append_cases, position-Some, All-permutation, Contains-permutation}
 use Rattle.kd_state.proofs.Prelude.{IsPermutation-sym, Contains-tail, none-some, same_Some, slice_get-map}
-use Rattle.kd_state.proofs.Prelude.{slice_get_within, Model, Wheel, Reflector, Place, Lug, box_of, wheels_for}
+use Rattle.kd_state.proofs.Prelude.{slice_get_within, Model, Wheel, Place, Lug, box_of, wheels_for}
 use Rattle.kd_state.proofs.Prelude.{reflectors_of, IsAllowed, place_on, IsBefore, RotorParts, PinParts, Parts, Rotor}
 use Rattle.kd_state.proofs.Prelude.{Pin, Setting, Pull, Put, Seat, SeatReflector, RingTo, Turn, PinTo, LugTo, Why}
 use Rattle.kd_state.proofs.Prelude.{WouldPass, numbered, place_in_box, wheel_pins, pin_at, pin_set, with_pin}
@@ -23,10 +23,8 @@ use Rattle.std.proofs.lemmas.Map.Keys.{IsDistinct-IsPermutation, IsDistinct-head
 use Rattle.kd_tables.specs.Rings.{ring_of}
 use Rattle.kd_pins.specs.declared.pin_set.PinSet.{PinSet}
 use Rattle.kd_pins.specs.PinWheels.{pins_of}
-use Rattle.kd_state.proofs.Cables.{all_ordered, all_ordered_move, all_ordered_again, ordered_again, without_ordered, without_moves, with_moves, set_moves, eqb_flips, free_tells}
-use Rattle.kd_state.proofs.DayPairs.{of_one}
-use Rattle.kd_state.proofs.Rings.{has_letter-Decides, place_there, only_place}
-use Rattle.kd_state.proofs.Slots.{stands, set_here, set_other, numbered_here, numbered_other, seated_in_box}
+use Rattle.kd_state.proofs.Cables.{all_ordered, all_ordered_move, all_ordered_again, ordered_again, without_ordered, without_moves, with_moves, set_moves, eqb_flips, free_tells, of_one}
+use Rattle.kd_state.proofs.Slots.{has_letter-Decides, place_there, only_place, stands, set_here, set_other, numbered_here, numbered_other, seated_in_box}
 use Rattle.kd_state.proofs.Wheels.{places_tell_wheels, has_wheel-Decides, has_reflector-Decides, same_wheel-Decides, same_wheel_self, same_wheel_differs, placed, place_within, place_nowhere}
 
 -- ---- reasons, and machines that differ in one thing
@@ -83,63 +81,6 @@ with_cable : (m : RotorParts) (cable : ℕ) (new : Option ℕ × Option ℕ) →
     → AreFree (plugged_letters (set m.cables (cable - 1) new)) → IsMachine (Rotor (record m { cables = set m.cables (cable - 1) new }))
 with_cable m cable new h o free = grind (arith, length-set, rotor_machine, map-set, ordered, in_their_order)
 
-pull : (m : RotorParts) (cable letter : ℕ) → IsMachine (Rotor m) → why_refused (Rotor m) (Pull cable letter) ≡ None → IsCarried (Rotor m) (Pull cable letter)
-pull m cable letter h allowed =
-    let no = no_reason (reasons (Rotor m) (Pull cable letter)) allowed in
-    let old = cable_at m cable in
-    let new = cable_without letter old in
-    let left = set m.cables (cable - 1) new in
-    let at = stands m.cables cable (None, None) no.0 in
-    let now = numbered_here m.cables cable new at.first at.last in
-    let moved : IsPermutation (cable_letters old) (letter ∷ cable_letters new) = without_moves letter old.0 old.1 (not-false _ no.1.0) in
-    let moves : IsPermutation (plugged_letters m.cables) (letter ∷ plugged_letters left) = set_moves [] (letter ∷ []) m.cables (cable - 1) old new at.here moved in
-    let free = moved_free _ _ moves (record { within = h.legal.cables.within; apart = h.legal.cables.apart }) in
-    let gone = All-from_recursion (λ (l : ℕ). nat_eq letter l ≡ false) (plugged_letters left) (IsDistinct-head nat_eq letter (plugged_letters left) free.apart) in
-    let there = set_here m.cables (cable - 1) new (slice_get_within m.cables (cable - 1) old at.here) in
-    let out : (other : ℕ) → Contains (cable_letters new) other ↔ (Contains (cable_letters old) other × (other ≢ letter)) = λ other. (
-      λ lies. (
-        Contains-permutation _ _ other (IsPermutation-sym _ _ moved) (Contains-append_right (letter ∷ []) (cable_letters new) other lies),
-        λ e. eqb-false letter other (All-contains (λ (l : ℕ). nat_eq letter l ≡ false) (plugged_letters left) other gone (lies_plugged left (cable - 1) other (rw there lies))) (sym e),
-      ),
-      λ lay. Contains-tail letter (cable_letters new) other (λ e. lay.1 (sym e)) (Contains-permutation _ _ other moved lay.0),
-    )
-    in
-    record {
-      told = (rw (now, at.is) out, keeps_cables m cable new at.first);
-      kept = λ _. with_cable m cable new h (without_ordered letter old.0 old.1) (record {
-        within = All-tail (λ (l : ℕ). l < 26) letter (plugged_letters left) free.within;
-        apart = IsDistinct-tail nat_eq letter (plugged_letters left) free.apart;
-      });
-    }
-
-put : (m : RotorParts) (cable letter : ℕ) → IsMachine (Rotor m) → why_refused (Rotor m) (Put cable letter) ≡ None → IsCarried (Rotor m) (Put cable letter)
-put m cable letter h allowed =
-    let no = no_reason (reasons (Rotor m) (Put cable letter)) allowed in
-    let old = cable_at m cable in
-    let new = cable_with letter old in
-    let at = stands m.cables cable (None, None) no.0 in
-    let now = numbered_here m.cables cable new at.first at.last in
-    let moved : IsPermutation (letter ∷ cable_letters old) (cable_letters new) = with_moves letter old.0 old.1 no.1.0 in
-    let moves = set_moves (letter ∷ []) [] m.cables (cable - 1) old new at.here moved in
-    let into : (other : ℕ) → Contains (cable_letters new) other ↔ (Contains (cable_letters old) other ⊎ (other ≡ letter)) = λ other. (
-      λ lies. elim (Contains-append_cases (letter ∷ []) (cable_letters old) other (Contains-permutation _ _ other (IsPermutation-sym _ _ moved) lies)) [
-        | inl here ↦ inr (of_one letter other here)
-        | inr lay ↦ inl lay
-      ],
-      λ lay. Contains-permutation _ _ other moved (elim lay [
-        | inl lay ↦ Contains-append_right (letter ∷ []) (cable_letters old) other lay
-        | inr e ↦ (0, omega arith, sym e)
-      ]),
-    )
-    in
-    record {
-      told = (rw (now, at.is) into, keeps_cables m cable new at.first);
-      kept = λ r. with_cable m cable new h (ordered_again (option_or old.0 old.1) (Some letter)) (moved_free _ _ moves (record {
-        within = All-cons (λ (l : ℕ). l < 26) letter (plugged_letters m.cables) r.1 h.legal.cables.within;
-        apart = IsDistinct-cons nat_eq letter (plugged_letters m.cables) ((free_tells (plugged_letters m.cables) letter).0 no.1.1.0) h.legal.cables.apart;
-      }));
-    }
-
 -- parts that are legal make a machine once their cables are in order
 pub ordered_parts : (m : RotorParts) → IsLegalRotor m → IsMachine (cables_ordered (Rotor m))
 ordered_parts m l =
@@ -172,11 +113,124 @@ seat_cases slots at wheel place other stands =
       | inr ne ↦ inr (left_standing wheel other (slice_get slots place) (sym (slice_get-map (without wheel) slots place) ∙ sym (set_other left at place (Some wheel) ne) ∙ stands))
     ]
 
-seat : (m : RotorParts) (slot : ℕ) (wheel : Wheel) → IsMachine (Rotor m) → why_refused (Rotor m) (Seat slot wheel) ≡ None → IsCarried (Rotor m) (Seat slot wheel)
-seat m slot wheel h allowed =
+-- ---- rings and window letters
+
+pub letters_set : (number : ℕ) (letters : List ℕ) (place letter : ℕ) → letter < 26 → AreLetters number letters → AreLetters number (set letters place letter)
+letters_set number letters place letter within h = grind (arith, common_steps, length-set, All-set)
+
+-- a letter that is set for a wheel of the box is read for that wheel, and for no other one
+for_wheel : (model : Model) (letters : List ℕ) (wheel : Wheel) (letter : ℕ) → Contains (box_of model) wheel → AreLetters (length (box_of model)) letters
+    → (slice_get (set letters (place_in_box model wheel) letter) (place_in_box model wheel) ≡ Some letter)
+    × ((other : Wheel) → other ≢ wheel → slice_get (set letters (place_in_box model wheel) letter) (place_in_box model other) ≡ slice_get letters (place_in_box model other))
+for_wheel model letters wheel letter boxed h =
+    grind (arith, set_here, place_within, set_other, cases_Bool, places_tell_wheels, has_wheel-Decides, place_nowhere)
+
+pub with_letters : (m : RotorParts) (rings letters : List ℕ) → IsMachine (Rotor m) → AreLetters (length (box_of m.model)) rings → AreLetters (length (box_of m.model)) letters
+    → IsMachine (Rotor (record m { rings = rings; letters = letters }))
+with_letters m rings letters h are also = grind (arith, rotor_machine, in_their_order)
+
+keeps_letters : (m : RotorParts) (wheel : Wheel) (letters : List ℕ)
+    → ((other : Wheel) → other ≢ wheel → slice_get letters (place_in_box m.model other) ≡ letter_at m other)
+    → SetsOnly (TheLetter wheel) (Rotor m) (Rotor (record m { letters = letters }))
+keeps_letters m wheel letters same = grind (arith, same)
+
+is_seated : (held : Option (Option Wheel)) → is_none (unwrap_or held None) ≡ false → (wheel : Wheel) × (held ≡ Some (Some wheel))
+is_seated held e = grind arith
+
+-- ---- the Converter
+
+-- six lists are the pins that are made of them
+six_lists : (pins : PinSet) (place : ℕ) (list : List Bool) → pins_of (pin_set (set (pins_of pins) place list)) ≡ set (pins_of pins) place list
+six_lists pins place list = grind arith
+
+-- another letter's pin, of the pins of one wheel
+other_pin : (ring : List ℕ) (list : List Bool) (letter other place : ℕ) (effective : Bool) (found : Option ℕ) → place_on ring letter ≡ Some place → place_on ring other ≡ found → other ≢ letter
+    → option_and_then (slice_get (set list place effective)) found ≡ option_and_then (slice_get list) found
+other_pin ring list letter other place effective found e d g = grind (arith, set_other, only_place)
+
+filled : (found : Option (List Bool)) (place : ℕ) → place < length (unwrap_or found []) → is_none found ≡ false
+filled found place within = grind arith
+
+-- a lug that is set stands there, the other one where it stood, and the left one before the right one unless it lies beyond the other
+lug_set : (lug : Lug) (place : Place) (bar : Place × Place) → (lug_place lug (with_lug lug place bar) ≡ place) × (lug_place (other_lug lug) (with_lug lug place bar) ≡ lug_place (other_lug lug) bar)
+lug_set lug place bar = grind arith
+
+pub still_before : (lug : Lug) (place : Place) (bar : Place × Place) → is_at place (lug_place (other_lug lug) bar) ≡ false → lies_beyond lug place (lug_place (other_lug lug) bar) ≡ false
+    → IsBefore (with_lug lug place bar).0 (with_lug lug place bar).1
+still_before lug place bar e d = grind arith
+
+keeps_bars : (m : PinParts) (bar : ℕ) (new : Place × Place) → 1 ≤ bar
+    → SetsOnly (TheBar bar) (Pin m) (Pin (record m { bars = set m.bars (bar - 1) new }))
+keeps_bars m bar new first = record {
+  model = refl;
+  others = λ thing. elim thing as (Keeps (TheBar bar) (Pin m) (Pin (record m { bars = set m.bars (bar - 1) new }))) [
+    | TheBar other ↦ λ free. numbered_other m.bars bar other new first (λ e. free (ap TheBar e))
+    | _ ↦ λ _. refl
+  ];
+}
+
+-- a lug that would pass the other one
+pub would_pass : (m : PinParts) (bar : ℕ) (lug : Lug) (place : Place) (standing : Place × Place) → numbered m.bars bar ≡ Some standing
+    → is_at place (lug_place (other_lug lug) standing) ≡ false → ¬ (IsBefore (with_lug lug place standing).0 (with_lug lug place standing).1) → why_refused (Pin m) (LugTo bar lug place) ≡ Some WouldPass
+would_pass m bar lug place standing here apart not_before = grind (arith, true_from_ne_false, not_before, still_before)
+
+-- ---- each setting
+
+carried : (m : Parts) (x : Setting) → IsMachine m → AllByRecursion (λ reason. reason.0 ≡ false) (reasons m x) → IsCarried m x
+carried (Rotor m) (Pull cable letter) h allowed =
+    let old = cable_at m cable in
+    let new = cable_without letter old in
+    let left = set m.cables (cable - 1) new in
+    let at = stands m.cables cable (None, None) allowed.0 in
+    let now = numbered_here m.cables cable new at.first at.last in
+    let moved : IsPermutation (cable_letters old) (letter ∷ cable_letters new) = without_moves letter old.0 old.1 (not-false _ allowed.1.0) in
+    let moves : IsPermutation (plugged_letters m.cables) (letter ∷ plugged_letters left) = set_moves [] (letter ∷ []) m.cables (cable - 1) old new at.here moved in
+    let free = moved_free _ _ moves (record { within = h.legal.cables.within; apart = h.legal.cables.apart }) in
+    let gone = All-from_recursion (λ (l : ℕ). nat_eq letter l ≡ false) (plugged_letters left) (IsDistinct-head nat_eq letter (plugged_letters left) free.apart) in
+    let there = set_here m.cables (cable - 1) new (slice_get_within m.cables (cable - 1) old at.here) in
+    let out : (other : ℕ) → Contains (cable_letters new) other ↔ (Contains (cable_letters old) other × (other ≢ letter)) = λ other. (
+      λ lies. (
+        Contains-permutation _ _ other (IsPermutation-sym _ _ moved) (Contains-append_right (letter ∷ []) (cable_letters new) other lies),
+        λ e. eqb-false letter other (All-contains (λ (l : ℕ). nat_eq letter l ≡ false) (plugged_letters left) other gone (lies_plugged left (cable - 1) other (rw there lies))) (sym e),
+      ),
+      λ lay. Contains-tail letter (cable_letters new) other (λ e. lay.1 (sym e)) (Contains-permutation _ _ other moved lay.0),
+    )
+    in
+    record {
+      told = (rw (now, at.is) out, keeps_cables m cable new at.first);
+      kept = λ _. with_cable m cable new h (without_ordered letter old.0 old.1) (record {
+        within = All-tail (λ (l : ℕ). l < 26) letter (plugged_letters left) free.within;
+        apart = IsDistinct-tail nat_eq letter (plugged_letters left) free.apart;
+      });
+    }
+carried (Rotor m) (Put cable letter) h allowed =
+    let old = cable_at m cable in
+    let new = cable_with letter old in
+    let at = stands m.cables cable (None, None) allowed.0 in
+    let now = numbered_here m.cables cable new at.first at.last in
+    let moved : IsPermutation (letter ∷ cable_letters old) (cable_letters new) = with_moves letter old.0 old.1 allowed.1.0 in
+    let moves = set_moves (letter ∷ []) [] m.cables (cable - 1) old new at.here moved in
+    let into : (other : ℕ) → Contains (cable_letters new) other ↔ (Contains (cable_letters old) other ⊎ (other ≡ letter)) = λ other. (
+      λ lies. elim (Contains-append_cases (letter ∷ []) (cable_letters old) other (Contains-permutation _ _ other (IsPermutation-sym _ _ moved) lies)) [
+        | inl here ↦ inr (of_one letter other here)
+        | inr lay ↦ inl lay
+      ],
+      λ lay. Contains-permutation _ _ other moved (elim lay [
+        | inl lay ↦ Contains-append_right (letter ∷ []) (cable_letters old) other lay
+        | inr e ↦ (0, omega arith, sym e)
+      ]),
+    )
+    in
+    record {
+      told = (rw (now, at.is) into, keeps_cables m cable new at.first);
+      kept = λ r. with_cable m cable new h (ordered_again (option_or old.0 old.1) (Some letter)) (moved_free _ _ moves (record {
+        within = All-cons (λ (l : ℕ). l < 26) letter (plugged_letters m.cables) r.1 h.legal.cables.within;
+        apart = IsDistinct-cons nat_eq letter (plugged_letters m.cables) ((free_tells (plugged_letters m.cables) letter).0 allowed.1.1.0) h.legal.cables.apart;
+      }));
+    }
+carried (Rotor m) (Seat slot wheel) h allowed =
     let l = h.legal in
-    let no = no_reason (reasons (Rotor m) (Seat slot wheel)) allowed in
-    let may = (has_wheel-Decides (wheels_for m.model slot) wheel).0 (not-false _ no.0) in
+    let may = (has_wheel-Decides (wheels_for m.model slot) wheel).0 (not-false _ allowed.0) in
     let at = placed m.model slot wheel may in
     let left = map (without wheel) m.slots in
     let new = set left (slot - 1) (Some wheel) in
@@ -198,73 +252,36 @@ seat m slot wheel h allowed =
           ];
         };
       };
-      kept = λ _. rotor_machine _ (record {
-        slots = length-set left (slot - 1) (Some wheel) ∙ length-map m.slots (without wheel) ∙ l.slots;
-        allowed = λ place other e. elim (cases place other e) [
-          | inl here ↦
-              let one : slot ≡ place + 1 = omega (arith, here.0, at.first) in
-              subst (λ (n : ℕ). IsAllowed m.model n other) one (subst (IsAllowed m.model slot) (sym here.1) may)
-          | inr there ↦ l.allowed place other there.0
-        ];
-        apart = grind (arith, cases, l.apart);
-        reflector = l.reflector;
-        rings = l.rings;
-        letters = l.letters;
-        cables = l.cables;
-      }) (in_their_order m h.cables);
+      kept = λ _.
+          let alone : AreApart new = λ place other which here there. grind (arith, cases, l.apart) in
+          let may_stand : AreAllowed m.model new = λ place other e. elim (cases place other e) [
+            | inl here ↦
+                let one : slot ≡ place + 1 = omega (arith, here.0, at.first) in
+                subst (λ (n : ℕ). IsAllowed m.model n other) one (subst (IsAllowed m.model slot) (sym here.1) may)
+            | inr there ↦ l.allowed place other there.0
+          ]
+          in
+          grind (arith, rotor_machine, in_their_order, length-set, length-map, may_stand, alone);
     }
-
-reflect : (m : RotorParts) (reflector : Reflector) → IsMachine (Rotor m) → why_refused (Rotor m) (SeatReflector reflector) ≡ None → IsCarried (Rotor m) (SeatReflector reflector)
-reflect m reflector h allowed =
-    let no = no_reason (reasons (Rotor m) (SeatReflector reflector)) allowed in
-    let may = (has_reflector-Decides (reflectors_of m.model) reflector).0 (not-false _ no.0) in
+carried (Rotor m) (SeatReflector reflector) h allowed =
+    let may = (has_reflector-Decides (reflectors_of m.model) reflector).0 (not-false _ allowed.0) in
     let others : (thing : Thing) → Keeps TheReflector (Rotor m) (Rotor (record m { reflector = reflector })) thing =
     λ thing. elim thing as (Keeps TheReflector (Rotor m) (Rotor (record m { reflector = reflector }))) [ TheReflector ↦ λ free. absurd (free refl) | _ ↦ λ _. refl ] in
     record {
       told = (refl, record { model = refl; others = others });
       kept = grind (arith, rotor_machine, in_their_order);
     }
-
--- ---- rings and window letters
-
-pub letters_set : (number : ℕ) (letters : List ℕ) (place letter : ℕ) → letter < 26 → AreLetters number letters → AreLetters number (set letters place letter)
-letters_set number letters place letter within h = grind (arith, common_steps, length-set, All-set)
-
--- a letter that is set for a wheel of the box is read for that wheel, and for no other one
-for_wheel : (model : Model) (letters : List ℕ) (wheel : Wheel) (letter : ℕ) → Contains (box_of model) wheel → AreLetters (length (box_of model)) letters
-    → (slice_get (set letters (place_in_box model wheel) letter) (place_in_box model wheel) ≡ Some letter)
-    × ((other : Wheel) → other ≢ wheel → slice_get (set letters (place_in_box model wheel) letter) (place_in_box model other) ≡ slice_get letters (place_in_box model other))
-for_wheel model letters wheel letter boxed h =
-    grind (arith, set_here, place_within, set_other, cases_Bool, places_tell_wheels, has_wheel-Decides, place_nowhere)
-
-pub with_letters : (m : RotorParts) (rings letters : List ℕ) → IsMachine (Rotor m) → AreLetters (length (box_of m.model)) rings → AreLetters (length (box_of m.model)) letters
-    → IsMachine (Rotor (record m { rings = rings; letters = letters }))
-with_letters m rings letters h are also = grind (arith, rotor_machine, in_their_order)
-
-ring_to : (m : RotorParts) (wheel : Wheel) (letter : ℕ) → IsMachine (Rotor m) → why_refused (Rotor m) (RingTo wheel letter) ≡ None → IsCarried (Rotor m) (RingTo wheel letter)
-ring_to m wheel letter h allowed =
+carried (Rotor m) (RingTo wheel letter) h allowed =
     let l = h.legal in
-    let no = no_reason (reasons (Rotor m) (RingTo wheel letter)) allowed in
     let place = place_in_box m.model wheel in
-    let reads = for_wheel m.model m.rings wheel letter ((has_wheel-Decides (box_of m.model) wheel).0 (not-false _ no.0)) l.rings in
+    let reads = for_wheel m.model m.rings wheel letter ((has_wheel-Decides (box_of m.model) wheel).0 (not-false _ allowed.0)) l.rings in
     record {
       told = grind arith;
       kept = λ within. with_letters m _ m.letters h (letters_set _ m.rings place letter within l.rings) l.letters;
     }
-
-keeps_letters : (m : RotorParts) (wheel : Wheel) (letters : List ℕ)
-    → ((other : Wheel) → other ≢ wheel → slice_get letters (place_in_box m.model other) ≡ letter_at m other)
-    → SetsOnly (TheLetter wheel) (Rotor m) (Rotor (record m { letters = letters }))
-keeps_letters m wheel letters same = grind (arith, same)
-
-is_seated : (held : Option (Option Wheel)) → is_none (unwrap_or held None) ≡ false → (wheel : Wheel) × (held ≡ Some (Some wheel))
-is_seated held e = grind arith
-
-turn : (m : RotorParts) (slot letter : ℕ) → IsMachine (Rotor m) → why_refused (Rotor m) (Turn slot letter) ≡ None → IsCarried (Rotor m) (Turn slot letter)
-turn m slot letter h allowed =
+carried (Rotor m) (Turn slot letter) h allowed =
     let l = h.legal in
-    let no = no_reason (reasons (Rotor m) (Turn slot letter)) allowed in
-    let found = is_seated (numbered m.slots slot) no.0 in
+    let found = is_seated (numbered m.slots slot) allowed.0 in
     let wheel = found.0 in
     let place = place_in_box m.model wheel in
     let reads = for_wheel m.model m.letters wheel letter (seated_in_box m.model m.slots slot wheel l.allowed found.1) l.letters in
@@ -275,50 +292,28 @@ turn m slot letter h allowed =
       told = subst (λ letters. Turns (Rotor m) slot letter (Rotor (record m { letters = letters }))) (sym turned) tells;
       kept = λ r. with_letters m m.rings _ h l.rings (rw turned (letters_set _ m.letters place letter r.1 l.letters));
     }
-
--- ---- the Converter
-
-show : (m : PinParts) (wheel letter : ℕ) → IsMachine (Pin m) → why_refused (Pin m) (Turn wheel letter) ≡ None → IsCarried (Pin m) (Turn wheel letter)
-show m wheel letter h allowed =
+carried (Pin m) (Turn wheel letter) h allowed =
     let l = h.legal in
-    let no = no_reason (reasons (Pin m) (Turn wheel letter)) allowed in
-    let at = stands m.letters wheel 0 no.0 in
-    let on = (has_letter-Decides (ring_of wheel) letter).0 (not-false _ no.1.0) in
+    let at = stands m.letters wheel 0 allowed.0 in
+    let on = (has_letter-Decides (ring_of wheel) letter).0 (not-false _ allowed.1.0) in
     let now = numbered_here m.letters wheel letter at.first at.last in
     record {
       told = grind (arith, numbered_other);
-      kept = λ _. pin_machine _ (record {
-        pins = l.pins;
-        letters = record {
-          count = length-set m.letters (wheel - 1) letter ∙ l.letters.count;
-          each = λ other shown reads. elim (cases_eq other wheel) [
-            | inl e ↦ grind (arith, shown, same_Some)
-            | inr ne ↦ l.letters.each other shown (sym (numbered_other m.letters wheel other letter at.first ne) ∙ reads)
-          ];
-        };
-        bars = l.bars;
-        apart = l.apart;
-      });
+      kept = λ _.
+          let letters : AreOnWheels (set m.letters (wheel - 1) letter) = record {
+            count = length-set m.letters (wheel - 1) letter ∙ l.letters.count;
+            each = λ other shown reads. elim (cases_eq other wheel) [
+              | inl e ↦ grind (arith, shown, same_Some)
+              | inr ne ↦ l.letters.each other shown (sym (numbered_other m.letters wheel other letter at.first ne) ∙ reads)
+            ];
+          }
+          in
+          grind (arith, pin_machine);
     }
-
--- six lists are the pins that are made of them
-six_lists : (pins : PinSet) (place : ℕ) (list : List Bool) → pins_of (pin_set (set (pins_of pins) place list)) ≡ set (pins_of pins) place list
-six_lists pins place list = grind arith
-
--- another letter's pin, of the pins of one wheel
-other_pin : (ring : List ℕ) (list : List Bool) (letter other place : ℕ) (effective : Bool) (found : Option ℕ) → place_on ring letter ≡ Some place → place_on ring other ≡ found → other ≢ letter
-    → option_and_then (slice_get (set list place effective)) found ≡ option_and_then (slice_get list) found
-other_pin ring list letter other place effective found e d g = grind (arith, set_other, only_place)
-
-filled : (found : Option (List Bool)) (place : ℕ) → place < length (unwrap_or found []) → is_none found ≡ false
-filled found place within = grind arith
-
-pin_to : (m : PinParts) (wheel letter : ℕ) (effective : Bool) → IsMachine (Pin m) → why_refused (Pin m) (PinTo wheel letter effective) ≡ None → IsCarried (Pin m) (PinTo wheel letter effective)
-pin_to m wheel letter effective h allowed =
+carried (Pin m) (PinTo wheel letter effective) h allowed =
     let l = h.legal in
-    let no = no_reason (reasons (Pin m) (PinTo wheel letter effective)) allowed in
     let place = unwrap_or (place_on (ring_of wheel) letter) 0 in
-    let there = place_there (ring_of wheel) letter ((has_letter-Decides (ring_of wheel) letter).0 (not-false _ no.0)) in
+    let there = place_there (ring_of wheel) letter ((has_letter-Decides (ring_of wheel) letter).0 (not-false _ allowed.0)) in
     let old = wheel_pins m.pins wheel in
     let within : place < length old = omega (arith, l.pins wheel, (position-Some (λ (l : ℕ). nat_eq l letter) (ring_of wheel) place 0 there).0) in
     let at = stands (pins_of m.pins) wheel [] (filled (numbered (pins_of m.pins) wheel) place within) in
@@ -345,29 +340,8 @@ pin_to m wheel letter effective h allowed =
       );
       kept = grind (arith, pin_machine, cases_eq, length-set, l.pins, elsewhere);
     }
-
--- a lug that is set stands there, the other one where it stood, and the left one before the right one unless it lies beyond the other
-lug_set : (lug : Lug) (place : Place) (bar : Place × Place) → (lug_place lug (with_lug lug place bar) ≡ place) × (lug_place (other_lug lug) (with_lug lug place bar) ≡ lug_place (other_lug lug) bar)
-lug_set lug place bar = grind arith
-
-pub still_before : (lug : Lug) (place : Place) (bar : Place × Place) → is_at place (lug_place (other_lug lug) bar) ≡ false → lies_beyond lug place (lug_place (other_lug lug) bar) ≡ false
-    → IsBefore (with_lug lug place bar).0 (with_lug lug place bar).1
-still_before lug place bar e d = grind arith
-
-keeps_bars : (m : PinParts) (bar : ℕ) (new : Place × Place) → 1 ≤ bar
-    → SetsOnly (TheBar bar) (Pin m) (Pin (record m { bars = set m.bars (bar - 1) new }))
-keeps_bars m bar new first = record {
-  model = refl;
-  others = λ thing. elim thing as (Keeps (TheBar bar) (Pin m) (Pin (record m { bars = set m.bars (bar - 1) new }))) [
-    | TheBar other ↦ λ free. numbered_other m.bars bar other new first (λ e. free (ap TheBar e))
-    | _ ↦ λ _. refl
-  ];
-}
-
-lug_to : (m : PinParts) (bar : ℕ) (lug : Lug) (place : Place) → IsMachine (Pin m) → why_refused (Pin m) (LugTo bar lug place) ≡ None → IsCarried (Pin m) (LugTo bar lug place)
-lug_to m bar lug place h allowed =
-    let no = no_reason (reasons (Pin m) (LugTo bar lug place)) allowed in
-    let at = stands m.bars bar (place, place) no.0 in
+carried (Pin m) (LugTo bar lug place) h allowed =
+    let at = stands m.bars bar (place, place) allowed.0 in
     let standing = unwrap_or (numbered m.bars bar) (place, place) in
     let new = with_lug lug place standing in
     let bars = set m.bars (bar - 1) new in
@@ -382,28 +356,10 @@ lug_to m bar lug place h allowed =
       told = subst (λ bars. Makes (Pin m) (LugTo bar lug place) (Pin (record m { bars = bars }))) (sym all) (moved, keeps_bars m bar new at.first);
       kept = grind (arith, common_steps, pin_machine, length-set, All-set, still_before);
     }
-
--- a lug that would pass the other one
-pub would_pass : (m : PinParts) (bar : ℕ) (lug : Lug) (place : Place) (standing : Place × Place) → numbered m.bars bar ≡ Some standing
-    → is_at place (lug_place (other_lug lug) standing) ≡ false → ¬ (IsBefore (with_lug lug place standing).0 (with_lug lug place standing).1) → why_refused (Pin m) (LugTo bar lug place) ≡ Some WouldPass
-would_pass m bar lug place standing here apart not_before = grind (arith, true_from_ne_false, not_before, still_before)
-
--- ---- each setting
-
-carried : (m : Parts) (x : Setting) → IsMachine m → why_refused m x ≡ None → IsCarried m x
-carried (Rotor m) (Pull cable letter) h allowed = pull m cable letter h allowed
-carried (Rotor m) (Put cable letter) h allowed = put m cable letter h allowed
-carried (Rotor m) (Seat slot wheel) h allowed = seat m slot wheel h allowed
-carried (Rotor m) (SeatReflector reflector) h allowed = reflect m reflector h allowed
-carried (Rotor m) (RingTo wheel letter) h allowed = ring_to m wheel letter h allowed
-carried (Rotor m) (Turn slot letter) h allowed = turn m slot letter h allowed
-carried (Pin m) (Turn wheel letter) h allowed = show m wheel letter h allowed
-carried (Pin m) (PinTo wheel letter effective) h allowed = pin_to m wheel letter effective h allowed
-carried (Pin m) (LugTo bar lug place) h allowed = lug_to m bar lug place h allowed
-carried m x h allowed = absurd (none-some _ (sym allowed))
+carried m x h allowed = absurd (true≢false allowed.0)
 
 pub settings_are_told : SettingsAreTold
-settings_are_told m n x h c = subst (Makes m x) (sym c.made) (carried m x h c.allowed).told
+settings_are_told m n x h c = subst (Makes m x) (sym c.made) (carried m x h (no_reason (reasons m x) c.allowed)).told
 
 pub settings_keep_machines : SettingsKeepMachines
-settings_keep_machines m n x h r c = subst IsMachine (sym c.made) ((carried m x h c.allowed).kept r)
+settings_keep_machines m n x h r c = subst IsMachine (sym c.made) ((carried m x h (no_reason (reasons m x) c.allowed)).kept r)

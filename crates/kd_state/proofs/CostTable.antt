@@ -8,7 +8,7 @@ use Rattle.kd_state.proofs.Prelude.{Pin, OfRotors, OfPins, bar_cost, columns_of,
 use Rattle.std.proofs.Common.{zero, suc, arith, rules, ◌≡◌, ℕ, ◌+◌, ◌-◌, ◌<◌, ◌≤◌, nat_eq, Bool, ◌||◌, List, [], ◌∷◌, ◌++◌, length, get_or, map, replicate, Option, Some, None, slice_get, refl, sym, ◌∙◌, All, ap, take, ◌≢◌}
 use Rattle.kd_state.proofs.SortedAlike.{once, count_by-cons}
 use Rattle.std.specs.Cmp.{both_ways}
-use Rattle.kd_state.proofs.Rings.{has_letter-Decides}
+use Rattle.kd_state.proofs.Slots.{has_letter-Decides}
 use Rattle.kd_tables.specs.declared.place.Place.TheVariants.{ZeroLeft, ZeroRight}
 use Rattle.kd_state.specs.Costs.{place_at, across, standings_as}
 use Rattle.std.proofs.lemmas.List.FromFn.{get_or-range_with_len}

@@ -13,7 +13,7 @@ use Rattle.kd_state.proofs.Prelude.{lies_beyond, lug_place, other_lug, with_lug,
 use Rattle.kd_state.proofs.Changing.{first_reason, settings_keep_machines, no_reason, lies_plugged, still_before}
 use Rattle.kd_state.proofs.Wheels.{has_wheel-Decides, has_reflector-Decides}
 use Rattle.kd_tables.specs.Rings.{ring_of}
-use Rattle.kd_state.proofs.Rings.{has_letter-Decides, is_some-place_on, place_there}
+use Rattle.kd_state.proofs.Slots.{has_letter-Decides, is_some-place_on, place_there}
 
 pub lists_keep_machines : (m n : Parts) (xs : List Setting) → IsMachine m → All IsInRange xs → Leads m xs n → IsMachine n
 lists_keep_machines m n [] h r l = subst IsMachine (sym l) h

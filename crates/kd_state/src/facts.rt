@@ -89,7 +89,7 @@ fn is_plugged_letter(cable: &Cable)
 }
 
 /// A wheel has as many pins as letters.
-#[tactic(auto, using(crate::proofs::Rings::all_pins))]
+#[tactic(auto, using(crate::proofs::Slots::all_pins))]
 pub(crate) fn are_all_pins(pins: PinSet)
     ensures { HasAllPins pins }
 {

@@ -14,7 +14,7 @@ ghost use Rattle.kd_state.specs.Laws.{TheDayDeciphersItself, CipherInTurn, KeyIn
 ghost use Rattle.kd_state.specs.Laws.{TestsTellLetters, ThirteenColumns, ColumnsAreThePairs, CablesCostFour, CostTablesAreSquare};
 
 /// Words, joined by one space, are told by their line, and split off it again. Their line has no LF.
-#[tactic(auto, using(crate::proofs::WordLines::lines_tell_words, crate::proofs::WordLines::lines_split_into_words, crate::proofs::WordLines::parts_make_lines, crate::proofs::WordLines::words_make_one_line))]
+#[tactic(auto, using(crate::proofs::Lines::lines_tell_words, crate::proofs::Lines::lines_split_into_words, crate::proofs::Lines::parts_make_lines, crate::proofs::Lines::words_make_one_line))]
 pub fn lines_tell_words()
     ensures told { LinesTellWords }
     ensures split { LinesSplitIntoWords }
@@ -23,20 +23,20 @@ pub fn lines_tell_words()
 {}
 
 /// What stands before the first of a byte in a text, as a space or LF, and what follows it, is told by the text.
-#[tactic(auto, using(crate::proofs::WordLines::texts_tell_first_parts))]
+#[tactic(auto, using(crate::proofs::Lines::texts_tell_first_parts))]
 pub fn texts_tell_first_parts()
     ensures { TextsTellFirstParts }
 {}
 
 /// Numbers in decimal and letters are words.
-#[tactic(auto, using(crate::proofs::WordLines::numbers_are_words, crate::proofs::WordLines::letters_are_words))]
+#[tactic(auto, using(crate::proofs::Lines::numbers_are_words, crate::proofs::Lines::letters_are_words))]
 pub fn numbers_and_letters_are_words()
     ensures numbers { NumbersAreWords }
     ensures letters { LettersAreWords }
 {}
 
 /// So are the words of settings' lines.
-#[tactic(auto, using(crate::proofs::SettingLines::setting_words_are_words))]
+#[tactic(auto, using(crate::proofs::Lines::setting_words_are_words))]
 pub fn settings_have_words()
     ensures { SettingsHaveWords }
 {}
@@ -48,7 +48,7 @@ pub fn no_two_settings_have_one_line()
 
 /// Bytes are the text of one list of settings at most; those that are have no fault, and no bytes have two. That bytes
 /// which are no list have one, `read_list` tells.
-#[tactic(auto, using(crate::proofs::SettingLines::texts_tell_lists, crate::proofs::SettingLines::lists_have_no_fault, crate::proofs::SettingLines::one_list_fault))]
+#[tactic(auto, using(crate::proofs::Lines::texts_tell_lists, crate::proofs::Lines::lists_have_no_fault, crate::proofs::Lines::one_list_fault))]
 pub fn texts_tell_lists()
     ensures list { TextsTellLists }
     ensures no_fault { ListsHaveNoFault }
@@ -138,7 +138,7 @@ pub fn turning_keeps_the_key()
 }
 
 /// A ready machine can be turned to each window that has a letter for each slot, or for each pin wheel and on it.
-#[tactic(auto, using(crate::proofs::Turnable::can_be_turned))]
+#[tactic(auto, using(crate::proofs::Seating::can_be_turned))]
 pub fn ready_machines_can_be_turned()
     ensures { MachinesCanBeTurned }
 {}

@@ -118,7 +118,7 @@ fn are_seated(slots: &[Option<Wheel>]) -> bool
 }
 
 /// What the cables exchange, if none has one letter.
-#[tactic(auto, using(crate::proofs::DayPairs::no_letter_twice))]
+#[tactic(auto, using(crate::proofs::Cables::no_letter_twice))]
 fn plugs_of(cables: &[Cable; 13]) -> Option<Plugs>
     requires { AreCables cables.now }
     ensures ready { IsSome result ↔ All (λ cable. length (cable_letters cable) ≢ 1) cables.now }

@@ -92,18 +92,24 @@ impl PerSlot<Option<Wheel>> {
         ensures { self.new ≡ map (without wheel) self.old }
     {
         match &mut self.values {
-            Slots::Three(slots) => take_out(slots, wheel),
-            Slots::Four(slots) => take_out(slots, wheel),
+            Slots::Three(slots) => {
+                let [left, middle, right] = *slots;
+                *slots = [
+                    left_in(left, wheel),
+                    left_in(middle, wheel),
+                    left_in(right, wheel),
+                ];
+            }
+            Slots::Four(slots) => {
+                let [first, left, middle, right] = *slots;
+                *slots = [
+                    left_in(first, wheel),
+                    left_in(left, wheel),
+                    left_in(middle, wheel),
+                    left_in(right, wheel),
+                ];
+            }
         }
-    }
-}
-
-/// Takes the wheel out of the slots.
-fn take_out(slots: &mut [Option<Wheel>], wheel: Wheel)
-    ensures { slots.new ≡ map (without wheel) slots.old }
-{
-    for seated in slots.iter_mut() {
-        *seated = left_in(*seated, wheel);
     }
 }
 

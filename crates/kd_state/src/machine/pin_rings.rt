@@ -9,7 +9,7 @@ use kd_pins::PinSet;
 use kd_tables::{Letter, Ring, place_on_wheel, ring1, ring2, ring3, ring4, ring5, ring6};
 
 /// Whether the letter is on the wheel of that number.
-#[tactic(auto, using(crate::proofs::Rings::on_wheels))]
+#[tactic(auto, using(crate::proofs::Slots::on_wheels))]
 pub(crate) fn is_on_wheel(wheel: u8, letter: Letter) -> bool
     ensures value { result ≡ has_letter (ring_of wheel) letter }
     ensures on { IsTrue result ↔ Contains (ring_of wheel) letter }

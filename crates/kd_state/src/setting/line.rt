@@ -45,7 +45,7 @@ impl Setting {
     }
 
     /// The setting whose line this is, without the LF at its end.
-    #[tactic(auto, using(crate::proofs::SettingLines::too_many_words, crate::proofs::SettingLines::read_by_words))]
+    #[tactic(auto, using(crate::proofs::Lines::too_many_words, crate::proofs::Lines::read_by_words))]
     pub fn from_line(text: &[u8]) -> Option<Self>
         ensures value { MatchOption result
             ((x : _) → IsInRange x → setting_line x ≢ text.now)
@@ -131,7 +131,7 @@ fn of_words(words: &[&[u8]]) -> Option<Setting>
 }
 
 /// The setting whose line has these two words.
-#[tactic(auto, using(crate::proofs::SettingLines::no_form))]
+#[tactic(auto, using(crate::proofs::Lines::no_form))]
 fn with_one_value(keyword: &[u8], value: &[u8]) -> Option<Setting>
     ensures { IsReadOff (keyword.now ∷ value.now ∷ []) result }
 {
@@ -144,7 +144,7 @@ fn with_one_value(keyword: &[u8], value: &[u8]) -> Option<Setting>
 }
 
 /// The setting whose line has these three words.
-#[tactic(auto, using(crate::proofs::SettingLines::no_form))]
+#[tactic(auto, using(crate::proofs::Lines::no_form))]
 fn with_two_values(keyword: &[u8], first: &[u8], second: &[u8]) -> Option<Setting>
     ensures { IsReadOff (keyword.now ∷ first.now ∷ second.now ∷ []) result }
 {
@@ -174,7 +174,7 @@ fn with_two_values(keyword: &[u8], first: &[u8], second: &[u8]) -> Option<Settin
 }
 
 /// The setting whose line has these four words.
-#[tactic(auto, using(crate::proofs::SettingLines::no_form))]
+#[tactic(auto, using(crate::proofs::Lines::no_form))]
 fn with_three_values(keyword: &[u8], first: &[u8], second: &[u8], third: &[u8]) -> Option<Setting>
     ensures { IsReadOff (keyword.now ∷ first.now ∷ second.now ∷ third.now ∷ []) result }
 {

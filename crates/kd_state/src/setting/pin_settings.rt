@@ -44,7 +44,7 @@ impl PinParts {
     }
 
     /// Makes the wheel's pin at the letter effective, or not.
-    #[tactic(auto, using(crate::proofs::Rings::on_wheels))]
+    #[tactic(auto, using(crate::proofs::Slots::on_wheels))]
     fn pin_to(&mut self, wheel: u8, letter: Letter, effective: bool) -> Result<(), Why>
         ensures { Answers (Parts.Pin self.old) (Setting.PinTo wheel letter effective)
             (Parts.Pin self.new) result }

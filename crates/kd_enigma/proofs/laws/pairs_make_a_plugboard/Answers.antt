@@ -1,5 +1,5 @@
 use Rattle.kd_enigma.proofs.Cables.{differ_of, plugboard_of, exchanges, exchanged_by, exchanged_alike, exchange-at, exchange-size, exchange_is}
-use Rattle.std.proofs.Common.{◌∙◌}
+use Rattle.std.proofs.Common.{rules}
 use Rattle.kd_enigma.specs.Plugs.{letters_plugged}
 use Rattle.kd_enigma.proofs.laws.pairs_make_a_plugboard.Goals as goal
 
@@ -10,6 +10,4 @@ pub returns-clause-exchanged : goal.returns-clause-exchanged
 returns-clause-exchanged c = λ pairs x y once. (exchanges pairs x y, exchanged_by pairs x y (differ_of (letters_plugged pairs) once))
 
 pub returns-clause-same : goal.returns-clause-same
-returns-clause-same c = λ ps qs ps_once qs_once joins.
-    exchange_is _ qs (exchange-size ps)
-    (λ x lt. exchange-at ps x lt ∙ exchanged_alike ps qs x (differ_of (letters_plugged ps) ps_once) (differ_of (letters_plugged qs) qs_once) (λ y. (joins x y).0) (λ y. (joins x y).1))
+returns-clause-same c = search (rules, exchange_is, exchange-size, exchange-at, exchanged_alike, differ_of)

@@ -1,6 +1,6 @@
 use Rattle.std.proofs.Common.{◌∙◌, sym, subst}
 use Rattle.kd_drum.specs.Converter.{OnWheels}
-use Rattle.kd_state.proofs.Rings.{are_on_wheels, stand_on_wheels}
+use Rattle.kd_state.proofs.Slots.{are_on_wheels, stand_on_wheels}
 use Rattle.kd_state.proofs.engine.turn_drum.Goals as goal
 
 pub returns-in-Ok-clause-window : goal.returns-in-Ok-clause-window

@@ -1,4 +1,4 @@
-use Rattle.kd_state.proofs.SettingLines.{lines_tell_settings}
+use Rattle.kd_state.proofs.Lines.{lines_tell_settings}
 use Rattle.kd_state.proofs.laws.no_two_settings_have_one_line.Goals as goal
 
 pub returns : goal.returns

@@ -1,5 +1,5 @@
 use Rattle.std.proofs.Common.{length, map}
-use Rattle.kd_state.proofs.WordLines.{AreTaken}
+use Rattle.kd_state.proofs.Lines.{AreTaken}
 use Rattle.kd_state.proofs.words.split_words.Given as goal
 
 abbrev pub invariant-loop-word : goal.invariant-loop-word

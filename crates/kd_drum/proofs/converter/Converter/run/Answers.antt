@@ -8,7 +8,6 @@ pub loop-letter-preserved : goal.loop-letter-preserved
 loop-letter-preserved c = record {
   key = c.press.ensures.after ∙ ap (λ (k : PinKey). pin_key_after k 1) c.loop-letter.invariant.key
       ∙ key_after_sum c.stands.ensures.sound c.args.self.now c.loop-letter.letter-index 1;
-  done = one_more c.stands.ensures.sound c.args.self.now c.args.text.now c.loop-letter.text c.loop-letter.letter-index
-      c.letter-item.result c.press.result (omega arith) c.loop-letter.invariant.done
-      (rw c.loop-letter.invariant.key at c.press.ensures.cipher);
+  rest = rw c.press.ensures.after (c.loop-letter.invariant.rest
+      ∙ one_more c.stands.ensures.sound c.loop-letter.self c.loop-letter.text c.loop-letter.letter-index c.letter-item.result c.press.result (omega arith) c.press.ensures.cipher);
 }

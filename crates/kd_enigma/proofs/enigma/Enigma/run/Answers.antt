@@ -7,7 +7,5 @@ pub loop-letter-preserved : goal.loop-letter-preserved
 loop-letter-preserved g c = record {
   key = c.press.ensures.after ∙ ap (λ k. key_after k 1) c.loop-letter.invariant.key
       ∙ key_after_sum c.args.self.now c.loop-letter.letter-index 1;
-  done = one_more c.args.self.now c.args.text.now c.loop-letter.text c.loop-letter.letter-index c.letter-item.result
-      c.press.result (omega arith) c.loop-letter.invariant.done
-      (rw c.loop-letter.invariant.key at c.press.ensures.cipher);
+  rest = grind (arith, one_more);
 }

@@ -1,25 +1,15 @@
-use Rattle.std.proofs.Common.{◌≡◌, ◌∙◌, length, take, refl, sym, arith, rules}
-use Rattle.std.proofs.lemmas.List.{ext_get_or, get_or-take, length-take-le}
-use Rattle.std.proofs.lemmas.List.FromFn.{get_or-range_with_len}
-use Rattle.kd_enigma.proofs.Maps.{lanes_of}
+use Rattle.std.proofs.Common.{◌≡◌, ◌<◌, ℕ, slice_index, if◌then◌else◌, ltb, arith, rules}
+use Rattle.std.proofs.lemmas.Bool.Decides.{nat_tests}
+use Rattle.kd_enigma.proofs.Made.{each_made}
+use Rattle.kd_enigma.proofs.Maps.{lanes_of, told_front}
 use Rattle.kd_enigma.proofs.map.Map.of.Goals as goal
 
-pub loop-place-init : goal.loop-place-init
-loop-place-init c = record {
-  size = refl;
-  done = λ k lt. absurd (omega arith);
-  letters = λ k lt. absurd (omega arith);
-  still = λ k low lt. get_or-range_with_len 0 32 k 0 lt ∙ omega arith;
-}
+each_lane : (c : goal.After-from_fn-lanes) (k : ℕ) → k < 32
+    → (k < 26 → slice_index c.from_fn-lanes.result k < 26) × (slice_index c.from_fn-lanes.result k ≡ (if ltb k 26 then slice_index c.args.table.now k else k))
+each_lane c k = grind (arith, each_made)
 
 pub invariant_of-result : goal.invariant_of-result
-invariant_of-result c = grind (arith, lanes_of)
+invariant_of-result c = grind (arith, lanes_of, each_lane)
 
 pub returns : goal.returns
-returns c =
-    let lanes = c.loop-place.lanes in
-    let table = c.args.table.now in
-    let size : length table ≡ 26 = search rules in
-    let front : length (take 26 lanes) ≡ 26 = length-take-le 26 lanes (omega (arith, c.loop-place.invariant.size)) in
-    ext_get_or 0 (take 26 lanes) table (front ∙ sym size)
-    (λ k lt. get_or-take 26 lanes k 0 (omega arith) ∙ c.loop-place.invariant.done k (omega arith))
+returns c = told_front c.from_fn-lanes.result c.args.table.now c.from_fn-lanes.ensures.items.long (search rules) (λ k lt. grind (arith, nat_tests, each_lane c k))

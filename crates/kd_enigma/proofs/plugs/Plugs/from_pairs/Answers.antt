@@ -1,50 +1,42 @@
-use Rattle.std.proofs.Common.{◌≡◌, ℕ, ◌+◌, List, [], ◌∷◌, ◌++◌, take, drop, refl, sym, ap, ◌∙◌, subst, arith}
-use Rattle.std.proofs.lemmas.List.{take_more, take_all, drop_more, take-append-drop}
+use Rattle.std.proofs.Common.{[], ◌∷◌, refl, sym, subst, arith}
 use Rattle.std.proofs.lemmas.Bool.{false≢true}
+use Rattle.std.proofs.lemmas.List.{append-nil}
 use Rattle.std.proofs.lemmas.Result.{err_from_is_err_and}
 use Rattle.kd_enigma.specs.Plugs.{letters_plugged, NoLetterTwice}
 use Rattle.kd_enigma.specs.Cipher.{IsPlugboard}
-use Rattle.kd_enigma.proofs.Cables.{IsPlugged, is_plugged_none, is_plugged_more, can_plug, plugboard_of, of_differ}
+use Rattle.kd_enigma.proofs.Cables.{IsPlugged, is_plugged_none, is_plugged_more, can_plug, cut, none_left, plugboard_of, of_differ}
 use Rattle.kd_enigma.proofs.plugs.Plugs.from_pairs.Goals as goal
 
 pub loop-one-init : goal.loop-one-init
-loop-one-init c = is_plugged_none c.unplugged-table.result c.unplugged-table.ensures
+loop-one-init c = ([], sym (append-nil c.args.pairs.now), is_plugged_none c.unplugged-table.result c.unplugged-table.ensures)
 
 pub loop-one-preserved : goal.loop-one-preserved
 loop-one-preserved c =
-    let pairs = c.args.pairs.now in
-    let so_far = take c.loop-one.one-index pairs in
-    let pair = c.loop-one-item.result in
-    let says = c.in_ok-plug.ensures in
-    let left = says.ok.0 refl in
-    let more : take (c.loop-one.one-index + 1) pairs ≡ so_far ++ pair ∷ [] =
-    take_more pairs c.loop-one.one-index pair (omega arith) ∙ ap (λ (p : ℕ × ℕ). so_far ++ p ∷ []) (sym c.loop-one-item.is) in
-    subst (IsPlugged c.plug.new.table) (sym more)
-    (is_plugged_more c.loop-one.table c.plug.new.table so_far pair c.loop-one.invariant (record { differ = left.0; one = left.1; other = left.2 }) says.letters.0 says.letters.1 says.after)
+    let (done, joined, plugged) = c.loop-one.invariant in
+    let pair = c.in-Some.field-0-0.now in
+    let says = c.in_ok-plug.ensures in (
+      pair ∷ done,
+      cut c.args.pairs.now c.loop-one.left.now c.in-Some.others.now done pair joined (grind arith),
+      is_plugged_more c.loop-one.table c.plug.new.table done pair plugged (grind arith) (grind arith) (grind arith) (grind arith),
+    )
 
 pub returns-in_err-plug-clause-ok : goal.returns-in_err-plug-clause-ok
 returns-in_err-plug-clause-ok c =
-    let pairs = c.args.pairs.now in
-    let so_far = take c.loop-one.one-index pairs in
-    let rest = drop (c.loop-one.one-index + 1) pairs in
-    let pair = c.loop-one-item.result in
+    let (done, joined, plugged) = c.loop-one.invariant in
+    let pair = c.in-Some.field-0-0.now in
     let says = c.in_err-plug.ensures in
-    let cut : pairs ≡ so_far ++ pair ∷ rest =
-    sym (take-append-drop c.loop-one.one-index pairs) ∙ ap (λ (l : List (ℕ × ℕ)). so_far ++ l) (drop_more pairs c.loop-one.one-index pair (omega arith))
-    ∙ ap (λ (p : ℕ × ℕ). so_far ++ p ∷ rest) (sym c.loop-one-item.is) in
+    let whole = cut c.args.pairs.now c.loop-one.left.now c.in-Some.others.now done pair joined (grind arith) in
     let err = err_from_is_err_and c.from_residual.result c.from_residual.ensures.1 in
     rw err.1 (
       λ ok. absurd (false≢true ok),
-      λ once. absurd (false≢true (
-          let can = can_plug c.loop-one.table so_far rest pair c.loop-one.invariant (subst NoLetterTwice cut once) says.letters.0 says.letters.1 in
-          says.ok.1 (can.differ, can.one, can.other)
-          )),
+      λ once. absurd (false≢true (says.ok.1 (can_plug c.loop-one.table c.in-Some.others.now done pair plugged (subst NoLetterTwice whole once) (grind arith) (grind arith)))),
     )
 
-whole : (c : goal.After-loop-one) → IsPlugged c.loop-one.table c.args.pairs.now
-whole c = subst (IsPlugged c.loop-one.table) (take_all c.loop-one.one-index c.args.pairs.now (omega arith)) c.loop-one.invariant
+whole : (c : goal.In_default) → IsPlugged c.loop-one.table c.args.pairs.now
+whole c =
+    let (done, joined, plugged) = c.loop-one.invariant in none_left c.loop-one.table c.args.pairs.now c.loop-one.left.now done c.in_default.ensures.cases joined plugged
 
-board : (c : goal.After-loop-one) → IsPlugboard c.loop-one.table
+board : (c : goal.In_default) → IsPlugboard c.loop-one.table
 board c = let h = whole c in subst IsPlugboard (sym h.table) (plugboard_of c.args.pairs.now h.apart h.letters)
 
 pub invariant_of-result : goal.invariant_of-result

@@ -1,6 +1,6 @@
 use Rattle.std.proofs.Common.{◌∙◌, sym, [], ◌∷◌, ◌++◌, arith}
 use Rattle.kd_state.proofs.Prelude.{eqb-true, length_push}
-use Rattle.kd_state.proofs.SettingLines.{one_more}
+use Rattle.kd_state.proofs.Lines.{one_more}
 use Rattle.kd_state.proofs.setting.list.read_list.Goals as goal
 
 pub returns-then-is_full : goal.returns-then-is_full

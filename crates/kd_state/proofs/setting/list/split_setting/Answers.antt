@@ -1,4 +1,4 @@
-use Rattle.kd_state.proofs.SettingLines.{no_line_without_break, no_line_by_first}
+use Rattle.kd_state.proofs.Lines.{no_line_without_break, no_line_by_first}
 use Rattle.kd_state.proofs.setting.list.split_setting.Goals as goal
 
 pub returns-in_err-line : goal.returns-in_err-line

@@ -1,14 +1,7 @@
--- Wheels as they sit, and what the published tables are.
-use Rattle.std.specs.Prelude.{ℕ, List}
+-- What the published tables are.
 use Rattle.kd_tables.specs.Laws.{WiringsArePermutations, ReflectorsArePermutations, ReflectorsLeadBack, ReflectorsMoveEachLetter}
 use Rattle.kd_tables.specs.Laws.{ProductsByLetter, InversesByLetter, ShiftsByLetter}
 use Rattle.kd_tables.specs.Laws.{ProductsArePermutations, InversesArePermutations, ShiftsArePermutations, ProductsBackwards, ShiftsBackwards}
-use Rattle.kd_tables.specs.declared.wheel.Wheel.{Wheel}
-
--- a wheel and its ring
-pub record SeatedWheel : Type 0 where
-  pub wheel : Wheel
-  pub ring : ℕ
 
 -- The laws of permutations: what a letter becomes by a product, an inverse and a shift, that these are permutations, and
 -- what undoes them.
@@ -29,9 +22,3 @@ pub record TablesAreSound : Type 0 where
   pub reflector : ReflectorsArePermutations
   pub own_inverse : ReflectorsLeadBack
   pub none_fixed : ReflectorsMoveEachLetter
-
--- a wheel, its ring, and the plugboard beside it
-pub record BoardedWheel : Type 0 where
-  pub wheel : Wheel
-  pub ring : ℕ
-  pub plugs : List ℕ
