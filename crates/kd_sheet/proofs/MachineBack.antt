@@ -22,7 +22,7 @@ use Rattle.kd_sheet.specs.declared.key.Key.TheVariants as keys
 use Rattle.kd_sheet.proofs.Documents.{document_parsed}
 use Rattle.kd_sheet.proofs.InTurn.{then_read, passing, each_again}
 use Rattle.kd_sheet.proofs.Namings.{model_by_name-text}
-use Rattle.kd_sheet.proofs.PartsBack.{texts, counted_again, capitals_again, window_again, reflector_again, MayStand}
+use Rattle.kd_sheet.proofs.PartsBack.{texts, each_at_again, capitals_again, window_again, reflector_again, MayStand}
 use Rattle.kd_sheet.proofs.PartsBack.{seats_in_again, single_first, MayPlug, all_parts, all_cables_again, pins_in_again}
 use Rattle.kd_sheet.proofs.PartsBack.{standing_again}
 use Rattle.kd_sheet.proofs.PinLetters.{rings_below, letters_below}
@@ -357,9 +357,10 @@ pin_read m legal =
 bars_again : (m : PinParts) → IsLegalPin m → bars_in (pin_table m) ≡ Ok m.bars
 unfolding bars_in
 bars_again m legal =
-    counted_again keys.Bars (pin_table m) 27 standing_text m.bars standing_for m.bars refl legal.bars
+    each_at_again keys.Bars 27 standing_text m.bars standing_for m.bars
     (each_again standing_for (λ bar. string (standing_text bar)) (λ bar. IsBefore bar.0 bar.1)
-    (λ earlier bar before. rw (standing_again bar before) refl) m.bars legal.apart)
+    (λ earlier bar before. rw (standing_again bar before) refl) m.bars (recursion_from_All _ _ legal.apart))
+    (pin_table m) refl legal.bars
 
 pin_parts_again : (m : PinParts) → IsLegalPin m → pin_parts_in (pin_table m) ≡ Ok m
 unfolding pin_parts_in shown_in
