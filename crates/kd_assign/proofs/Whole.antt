@@ -6,7 +6,7 @@ use Rattle.kd_assign.proofs.Prelude.{ints, get_or_default, get_or_past, CostsAtM
 use Rattle.kd_assign.proofs.Prelude.{assignment_cost, cost_at, price_at, price_sum}
 use Rattle.kd_assign.proofs.Places.{within}
 use Rattle.kd_assign.specs.Cheapest.{IsLeastCost}
-use Rattle.kd_assign.proofs.Counting.{scans_of_trees-most}
+use Rattle.kd_assign.proofs.Counting.{scans_of_all, scans_of_trees-most}
 use Rattle.kd_assign.proofs.Sums.{by_sums, fitting_prices_bound_costs}
 
 -- no two rows have the same column
@@ -64,4 +64,4 @@ module _ {n next : ℕ} {cost : List (List ℕ)} {prices : List ℤ} {holders : 
       grind (arith, price_sum_is once)
 
 -- what the solution is
-pub ruleset whole = (scans_of_trees-most, price_sum_is)
+pub ruleset whole = (scans_of_trees-most, scans_of_all, price_sum_is, fits, columns_at_most)
