@@ -2,9 +2,10 @@
 use Rattle.kd_sheet.proofs.Prelude.{Bool, Err, List, None, Ok, Option, Result, Some, [], ap, arith, cond, get_or}
 use Rattle.kd_sheet.proofs.Prelude.{length, map, nat_le, ok_or, refl, replicate, subst, take, true, ℕ, ◌++◌, ◌+◌, ◌-◌}
 use Rattle.kd_sheet.proofs.Prelude.{◌<◌, ◌==◌, ◌∙◌, ◌∷◌, ◌≡◌, ◌≤◌, eqb-true, leb-true, common_steps, append-nil}
-use Rattle.kd_sheet.proofs.Prelude.{drop_more, length-append, length-map, take-append-drop, take_more, none-some}
-use Rattle.kd_sheet.proofs.Prelude.{same_Some, AllByRecursion, option_map_or, demand, each_at, in_turn, items_at}
-use Rattle.kd_sheet.proofs.Prelude.{items_in, up_to, ◌>>=◌, ◌>>◌, holds, SheetFault, Key, Data, Members, view, Value}
+use Rattle.kd_sheet.proofs.Prelude.{drop_more, length-append, length-map, take-append-drop, take_more, map-id}
+use Rattle.kd_sheet.proofs.Prelude.{none-some, same_Some, AllByRecursion, option_map_or, demand, each_at, in_turn}
+use Rattle.kd_sheet.proofs.Prelude.{items_at, items_in, up_to, ◌>>=◌, ◌>>◌, holds, SheetFault, Key, Data, Members, view}
+use Rattle.kd_sheet.proofs.Prelude.{Value}
 use Rattle.kd_sheet.proofs.Documents.{viewed_at}
 
 -- ---- on the way of a reading
@@ -81,24 +82,16 @@ module _ {A : Type 0} where
   abbrev on : (List A → Data → Result A SheetFault) → List A → List Data → Result (List A) SheetFault
   on reading values items = in_turn (λ more. reading (values ++ more)) items >>= (λ more. Ok (values ++ more))
 
-  no_more : (answer : Result (List A) SheetFault) → answer ≡ (answer >>= (λ more. Ok more))
-  no_more answer = grind arith
-
-  one_before : (value : A) (values : List A) (answer : Result (List A) SheetFault)
-      → ((answer >>= (λ more. Ok (values ++ more))) >>= (λ more. Ok (value ∷ more)))
-      ≡ (answer >>= (λ more. Ok (value ∷ values ++ more)))
-  one_before value values answer = grind arith
-
   joined : (reading : List A → Data → Result A SheetFault) (front rest : List Data) (values : List A)
       → in_turn reading front ≡ Ok values → in_turn reading (front ++ rest) ≡ on reading values rest
   joined reading [] rest values e =
-      subst (λ vs. in_turn reading rest ≡ on reading vs rest) (same_found _ _ e) (no_more (in_turn reading rest))
+      subst (λ vs. in_turn reading rest ≡ on reading vs rest) (same_found _ _ e) (grind arith)
   joined reading (item ∷ front) rest values e =
       let first = given (reading [] item) _ values e in
       let more = given (in_turn (λ earlier. reading (first.0 ∷ earlier)) front) _ values first.2 in
       let rest_is = joined (λ earlier. reading (first.0 ∷ earlier)) front rest more.0 more.1 in
       subst (λ vs. in_turn reading (item ∷ front ++ rest) ≡ on reading vs rest) (same_found _ _ more.2)
-      (then_read _ _ _ _ first.1 (ap (λ answer. answer >>= (λ more. Ok (first.0 ∷ more))) rest_is ∙ one_before first.0 more.0 _))
+      (then_read _ _ _ _ first.1 (ap (λ answer. answer >>= (λ more. Ok (first.0 ∷ more))) rest_is ∙ grind arith))
 
   module _ (reading : List A → Data → Result A SheetFault) (items : List Value) (place : ℕ) (item : Value)
       (left : place < length items) (here : item ≡ get_or items place item) (values : List A)
@@ -106,14 +99,7 @@ module _ {A : Type 0} where
     -- one item more
     pub read_more : (value : A) → Ok value ≡ reading values (view item)
         → in_turn reading (take (place + 1) (map view items)) ≡ Ok (values ++ value ∷ [])
-    read_more value is =
-        rw (
-          take_more (map view items) place (view item) (omega (arith, length-map items view)),
-          viewed_at items place item left here,
-          joined reading (take place (map view items)) (view item ∷ []) values before,
-          append-nil,
-          ← is,
-        ) refl
+    read_more value is = grind (arith, take_more (map view items) place (view item), length-map, viewed_at items place item, joined reading (take place (map view items)) (view item ∷ []), append-nil)
 
     -- the first fault
     pub read_stops : (fault : SheetFault) → Err fault ≡ reading values (view item)
@@ -199,13 +185,8 @@ module _ {A : Type 0} where
   pub again : (reading : List A → Data → Result A SheetFault) (item_of : A → Data) (all : List A)
       → ((front rest : List A) (x : A) → all ≡ front ++ x ∷ rest → reading front (item_of x) ≡ Ok x)
       → in_turn reading (map item_of all) ≡ Ok all
-  again reading item_of [] each = refl
-  again reading item_of (x ∷ all) each =
-      rw (
-        each [] all x refl,
-        again (λ done. reading (x ∷ done)) item_of all
-            (λ front rest y is. each (x ∷ front) rest y (ap (λ ys. x ∷ ys) is)),
-      ) refl
+  again reading item_of all each =
+      read_again reading item_of (λ x. x) all (λ front rest x is. rw map-id (each front rest x is)) ∙ ap Ok (map-id all)
 
   pub each_again : (reading : List A → Data → Result A SheetFault) (item_of : A → Data) (P : A → Type 0)
       → ((earlier : List A) (x : A) → P x → reading earlier (item_of x) ≡ Ok x)

@@ -48,10 +48,7 @@ within_month days (suc place) day e = grind (arith, slice_get_cases (month_of da
 
 -- there is no day in an empty month
 pub empty_month : IsMonth (month_of [])
-empty_month = record {
-  count = refl;
-  each = λ number day e. absurd (none-some day (sym (day_of_month [] number (within_month [] number day e)) ∙ e));
-}
+empty_month = record { count = refl; each = λ number day e. grind (arith, within_month [] number day, day_of_month []) }
 
 -- 31 places without a day
 pub blank_month : (month : List (Option Day)) → AllOfLen (λ day. day ≡ None) month 31 → month ≡ month_of []

@@ -1,28 +1,27 @@
 -- What is written of the parts of a machine, or of a day, is read as just these; and each legal day is described by a table.
-use Rattle.kd_sheet.proofs.Prelude.{List, None, Ok, Option, Result, Some, [], ap, append_assoc, arith, cond, false}
-use Rattle.kd_sheet.proofs.Prelude.{length, map, nat_eq, nat_lt, ok_or, pos, refl, rules, slice_get, suc, sym, true}
-use Rattle.kd_sheet.proofs.Prelude.{zero, ℕ, ◌++◌, ◌+◌, ◌<◌, ◌==◌, ◌∙◌, ◌∷◌, ◌≡◌, ◌≤◌, and-false, or-true, cases_eq}
-use Rattle.kd_sheet.proofs.Prelude.{eq-eqb, false_from_ne_true, le-leb, lt-ltb, ne_eqb, common_steps, append-nil}
-use Rattle.kd_sheet.proofs.Prelude.{length-map, flat_map-append, All-map, All-weaker, filter_map-append}
-use Rattle.kd_sheet.proofs.Prelude.{recursion_from_All, IsPermutation-append_comm, IsPermutation-append_left}
-use Rattle.kd_sheet.proofs.Prelude.{IsPermutation-trans, IsDistinct-IsPermutation, none-some, slice_get-get_or}
-use Rattle.kd_sheet.proofs.Prelude.{IsDistinct, AllByRecursion, list_all, PinSet, all_cables_in, cable_for, pairs_in}
-use Rattle.kd_sheet.proofs.Prelude.{plugged_letters_in, cable_of, may_have, pairs_of, thirteen, each_at, in_turn}
-use Rattle.kd_sheet.proofs.Prelude.{items_at, items_in, up_to, value_at, row_of_text, rows_in, may_read, row_for}
-use Rattle.kd_sheet.proofs.Prelude.{key_name, capital_letters, model_in, reflector_in, cable_text, pin_texts, seat_text}
-use Rattle.kd_sheet.proofs.Prelude.{reflector_by_name, standing_by_text, number_to, letters_on_wheels, pins_in}
-use Rattle.kd_sheet.proofs.Prelude.{pins_of_item, shown_in, is_seated, seat_for, seat_of_item, seats_in, wheel_for}
-use Rattle.kd_sheet.proofs.Prelude.{may_be_empty, all_groups_in, day_in, group_of_item, groups_in, list_in}
-use Rattle.kd_sheet.proofs.Prelude.{model_day_in, number_in, pin_day_in, rings_in, rotor_day_in, window_in, group_for}
-use Rattle.kd_sheet.proofs.Prelude.{sheet_wheels, SheetFault, UnknownModel, Key, letters_plugged, eqb_flips, new_tells}
-use Rattle.kd_sheet.proofs.Prelude.{has_reflector-Decides, has_wheel-Decides, has_reflector, AreAllowed, AreApart}
-use Rattle.kd_sheet.proofs.Prelude.{AreLetters, AreOnWheels, HasAllPins, cable_letters, plugged_letters, are_new}
-use Rattle.kd_sheet.proofs.Prelude.{AreSeated, Day, HasLetters, IsDayNumber, IsLegalDay, IsLegalPinDay, IsLegalRotorDay}
-use Rattle.kd_sheet.proofs.Prelude.{OfPins, OfRotors, PinDay, RotorDay, seats, SheetWheel, IsBefore, IsReading}
-use Rattle.kd_sheet.proofs.Prelude.{place_rank, reading_text, standing_text, letters_of, model_text, reflector_text}
-use Rattle.kd_sheet.proofs.Prelude.{reflectors_of, slots_of, wheel_text, is_capital, letters_text, Model, M209, Place}
-use Rattle.kd_sheet.proofs.Prelude.{Reflector, Wheel, Data, Members, array, integer, member, no_members, string}
-use Rattle.kd_sheet.proofs.Prelude.{items_of}
+use Rattle.kd_sheet.proofs.Prelude.{List, None, Ok, Option, Result, Some, [], ap, append_assoc, arith, false, length}
+use Rattle.kd_sheet.proofs.Prelude.{map, nat_eq, ok_or, pos, refl, rules, slice_get, sym, true, ℕ, ◌++◌, ◌+◌, ◌<◌, ◌==◌}
+use Rattle.kd_sheet.proofs.Prelude.{◌∙◌, ◌∷◌, ◌≡◌, ◌≤◌, and-false, or-true, cases_eq, eq-eqb, false_from_ne_true}
+use Rattle.kd_sheet.proofs.Prelude.{le-leb, ne_eqb, common_steps, append-nil, length-map, flat_map-append, All-map}
+use Rattle.kd_sheet.proofs.Prelude.{All-weaker, filter_map-append, recursion_from_All, IsPermutation-append_comm}
+use Rattle.kd_sheet.proofs.Prelude.{IsPermutation-append_left, IsPermutation-trans, IsDistinct-IsPermutation, gets}
+use Rattle.kd_sheet.proofs.Prelude.{slice_get-get_or, slice_get_within, IsDistinct, AllByRecursion, list_all, PinSet}
+use Rattle.kd_sheet.proofs.Prelude.{all_cables_in, cable_for, pairs_in, plugged_letters_in, cable_of, may_have}
+use Rattle.kd_sheet.proofs.Prelude.{pairs_of, thirteen, each_at, in_turn, items_at, items_in, up_to, value_at}
+use Rattle.kd_sheet.proofs.Prelude.{row_of_text, rows_in, may_read, row_for, key_name, capital_letters, model_in}
+use Rattle.kd_sheet.proofs.Prelude.{reflector_in, cable_text, pin_texts, seat_text, reflector_by_name, standing_by_text}
+use Rattle.kd_sheet.proofs.Prelude.{number_to, letters_on_wheels, pins_in, pins_of_item, shown_in, is_seated, seat_for}
+use Rattle.kd_sheet.proofs.Prelude.{seat_of_item, seats_in, wheel_for, may_be_empty, all_groups_in, day_in}
+use Rattle.kd_sheet.proofs.Prelude.{group_of_item, groups_in, list_in, model_day_in, number_in, pin_day_in, rings_in}
+use Rattle.kd_sheet.proofs.Prelude.{rotor_day_in, window_in, group_for, sheet_wheels, SheetFault, UnknownModel, Key}
+use Rattle.kd_sheet.proofs.Prelude.{letters_plugged, eqb_flips, new_tells, has_reflector-Decides, has_wheel-Decides}
+use Rattle.kd_sheet.proofs.Prelude.{has_reflector, AreAllowed, AreApart, AreLetters, AreOnWheels, HasAllPins}
+use Rattle.kd_sheet.proofs.Prelude.{cable_letters, plugged_letters, are_new, AreSeated, Day, HasLetters, IsDayNumber}
+use Rattle.kd_sheet.proofs.Prelude.{IsLegalDay, IsLegalPinDay, IsLegalRotorDay, OfPins, OfRotors, PinDay, RotorDay}
+use Rattle.kd_sheet.proofs.Prelude.{seats, SheetWheel, IsBefore, IsReading, reading_text, standing_text, letters_of}
+use Rattle.kd_sheet.proofs.Prelude.{model_text, reflector_text, reflectors_of, slots_of, wheel_text, is_capital}
+use Rattle.kd_sheet.proofs.Prelude.{letters_text, Model, M209, Place, Reflector, Wheel, Data, Members, array, integer}
+use Rattle.kd_sheet.proofs.Prelude.{member, no_members, string, items_of}
 use Rattle.kd_sheet.specs.declared.key.Key.TheVariants as keys
 use Rattle.kd_sheet.proofs.CableLetters.{none_in, two_letters}
 use Rattle.kd_sheet.proofs.Documents.{list_of-items_of}
@@ -96,14 +95,11 @@ has_name : (wheel : Wheel) → (length (wheel_text wheel) == 0) ≡ false
 has_name wheel = grind arith
 
 stands_behind : {X : Type 0} (front rest : List X) (x : X) → slice_get (front ++ x ∷ rest) (length front) ≡ Some x
-stands_behind [] rest x = refl
-stands_behind (y ∷ front) rest x = stands_behind front rest x
+stands_behind front rest x = grind (arith, common_steps, gets)
 
 stands_before : {X : Type 0} (front rest : List X) (place : ℕ) (x : X) → slice_get front place ≡ Some x
     → slice_get (front ++ rest) place ≡ Some x
-stands_before [] rest place x at = absurd (none-some x at)
-stands_before (y ∷ front) rest zero x at = at
-stands_before (y ∷ front) rest (suc place) x at = stands_before front rest place x at
+stands_before front rest place x at = grind (arith, common_steps, gets, slice_get_within)
 
 seat_again : (key : Key) (model : Model) (slots rest : List (Option Wheel)) (seat : Option Wheel) → MayStand key seat
     → AreAllowed model (slots ++ seat ∷ rest) → AreApart (slots ++ seat ∷ rest)
@@ -201,17 +197,9 @@ pub pins_in_again : (table : Members) (pins : PinSet)
 unfolding pins_in pins_of_item
 pins_in_again table pins there fit = grind (arith, pins_back, fit, then_read, items_at, texts_read)
 
--- a text finds the standing that has it, if the left lug's place is the first
-abbrev Found : Place → Place → Type 0
-Found left right = standing_by_text (standing_text (left, right))
-    ≡ cond (nat_lt (place_rank left) (place_rank right)) (Some (left, right)) None
-
-standing_found : (left right : Place) → Found left right
-unfolding standing_by_text
-standing_found left right = grind arith
-
 pub standing_again : (bar : Place × Place) → IsBefore bar.0 bar.1 → standing_by_text (standing_text bar) ≡ Some bar
-standing_again bar before = grind (arith, standing_found, lt-ltb, before)
+unfolding standing_by_text
+standing_again bar before = grind arith
 
 -- ---- wheels
 
@@ -314,15 +302,10 @@ rotor_again : (s : RotorDay) → IsLegalRotorDay s → rotor_day_in s.day s.mode
 unfolding rotor_day_in reflector_in rings_in window_in
 rotor_again s legal =
     let has = (has_reflector-Decides (reflectors_of s.model) s.reflector).1 legal.reflector in
-    rw (
-      reflector_again s.model s.reflector has,
-      seats_in_again keys.Wheels s.model (rotor_table s) (seats s.wheels) refl (all_seated s.wheels) legal.wheels,
-      capitals_again _ _ (parts_are s legal (λ w. w.ring) (λ w has. has.ring)),
-      capitals_again _ _ (parts_are s legal (λ w. w.letter) (λ w has. has.letter)),
-      pairs_in_again s legal,
-      groups_in_again s legal,
-      wheels_again s.wheels,
-    ) refl
+    let wheels = seats_in_again keys.Wheels s.model (rotor_table s) (seats s.wheels) refl (all_seated s.wheels) legal.wheels in
+    let rings = capitals_again _ _ (parts_are s legal (λ w. w.ring) (λ w has. has.ring)) in
+    let letters = capitals_again _ _ (parts_are s legal (λ w. w.letter) (λ w has. has.letter)) in
+    grind (arith, then_read, reflector_again, pairs_in_again, groups_in_again, wheels_again)
 
 rows_in_again : (s : PinDay) → IsLegalPinDay s → rows_in (pin_table s) ≡ Ok s.rows
 unfolding rows_in

@@ -1,10 +1,10 @@
 -- What the proofs of this crate speak of.
 pub use Rattle.std.proofs.Common.{All, Bool, Bor, Contains, Decides, Err, Global, IfSome, IsSome, IsUtf8, List, MatchOption, None, Ok, Option, Result, Some, Vec, [], ap, append_assoc, arith, bytes_eq, codes, cond, drop, false, filter_map, find, get_or, inl, inr, is_some, length, length-set, map, nat_eq, nat_le, nat_lt, not, ok_or, option_map, pos, refl, replicate, rules, set, slice_get, subst, suc, sym, take, true, zero, ℕ, ◌&&◌, ◌*◌, ◌++◌, ◌+◌, ◌-◌, ◌<◌, ◌==◌, ◌||◌, ◌↔◌, ◌∙◌, ◌∷◌, ◌≡◌, ◌≢◌, ◌≤◌, ◌⊎◌}
 pub use Rattle.std.proofs.Math.Bool.{and-false, or-true}
-pub use Rattle.std.proofs.lemmas.Bool.{and_parts, both_ways, cases_Bool, cases_eq, eq-eqb, eqb-false, eqb-true, false_from_ne_true, false≢true, le-leb, leb-true, lt-ltb, ltb-true, ne_eqb, not-true}
+pub use Rattle.std.proofs.lemmas.Bool.{and_parts, both_ways, cases_Bool, cases_eq, cases_lt, eq-eqb, eqb-false, eqb-true, false_from_ne_true, false≢true, le-leb, leb-true, ltb-true, ne_eqb, not-true}
 pub use Rattle.std.proofs.lemmas.Bool.Decides.{Decides-by_or, Decides-like, nat_tests, not_from_Decides, same_from_decides}
 pub use Rattle.std.proofs.lemmas.Grind.{common_steps, get_or-set_at}
-pub use Rattle.std.proofs.lemmas.List.{append-nil, drop-set-lt, drop_more, get_or-map, get_or-set_other, length-append, length-map, length-take-le, same_lists, take-append-drop, take_all, take_more, take_more_set}
+pub use Rattle.std.proofs.lemmas.List.{append-nil, drop-set-lt, drop_more, get_or-map, get_or-set_other, length-append, length-map, length-take-le, same_lists, take-append-drop, take_all, take_more, take_more_set, map-id}
 pub use Rattle.std.proofs.lemmas.List.Concat.{flat_map-append}
 pub use Rattle.std.proofs.lemmas.List.Elements.{All-append, All-contains, All-from_recursion, All-map, All-nil, All-push, All-weaker, Contains-append_left, Contains-push, Contains-push_cases, Decides-contains, filter_map-append, recursion_from_All}
 pub use Rattle.std.proofs.lemmas.List.Folds.{find-append, list_all-append, list_any-append}
@@ -12,7 +12,7 @@ pub use Rattle.std.proofs.lemmas.List.FromFn.{get_or-enumerate_from, get_or-map-
 pub use Rattle.std.proofs.lemmas.List.Sums.{AllPass-from_list_all, list_all-from_AllPass, sum_by-append, sum_by-cons}
 pub use Rattle.std.proofs.lemmas.List.Sorted.{IsPermutation-append_comm, IsPermutation-append_left, IsPermutation-trans}
 pub use Rattle.std.proofs.lemmas.Map.Keys.{IsDistinct-IsPermutation}
-pub use Rattle.std.proofs.lemmas.Option.{get_or_from_slice_get, none-some, same_Some, slice_get-get_or, slice_get_cases, slice_get_within}
+pub use Rattle.std.proofs.lemmas.Option.{get_or_from_slice_get, gets, none-some, same_Some, slice_get-get_or, slice_get_cases, slice_get_within}
 pub use Rattle.std.proofs.lemmas.Slice.Eq.{bytes_eq-Decides}
 pub use Rattle.std.proofs.lemmas.Str.{IsUtf8-from_ascii, IsUtf8-from_is_utf8, is_utf8-from_IsUtf8}
 pub use Rattle.std.proofs.lemmas.Str.Ascii.{IsAscii-from_all}
@@ -32,7 +32,6 @@ pub use Rattle.kd_sheet.specs.Key.{key_name}
 pub use Rattle.kd_sheet.specs.Laws.{DaysAreTheEntries, LegalPartsAreReadBack}
 pub use Rattle.kd_sheet.specs.Letters.{capital_letters}
 unfoldable pub use Rattle.kd_sheet.specs.MachineFile.{box_letters_in, known_model_in, machine_in, model_in, parts_in, pin_parts_in, reflector_in, rotor_parts_in, version_in}
-pub use Rattle.kd_sheet.specs.MachineFile.{knows}
 unfoldable pub use Rattle.kd_sheet.specs.MachineText.{machine_text}
 pub use Rattle.kd_sheet.specs.MachineText.{cable_text, key_line, listed, pin_texts, pins_text, quoted, seat_text, version_of}
 unfoldable pub use Rattle.kd_sheet.specs.Names.{model_by_name, reflector_by_name, standing_by_text, wheel_by_name}
@@ -63,7 +62,7 @@ pub use Rattle.kd_state.specs.declared.machine.parts.Parts.TheVariants.{Pin, Rot
 pub use Rattle.kd_state.specs.declared.machine.pin_parts.PinParts.{PinParts}
 pub use Rattle.kd_state.specs.declared.machine.rotor_parts.RotorParts.{RotorParts}
 pub use Rattle.kd_state.specs.declared.sheet_day.rotor_entry.SheetWheel.{SheetWheel}
-pub use Rattle.kd_tables.specs.Places.{IsBefore, IsReading, figure, in_order, place_rank, place_text, reading_text, standing_text, standings}
+pub use Rattle.kd_tables.specs.Places.{IsBefore, IsReading, figure, in_order, place_rank, reading_text, standing_text, standings}
 unfoldable pub use Rattle.kd_tables.specs.Rings.{ring_of}
 pub use Rattle.kd_tables.specs.Tables.{IsAllowed, box_of, letters_of, model_text, reflector_text, reflectors_of, slots_of, wheel_text}
 pub use Rattle.kd_tables.specs.Text.{is_capital, letters_text}
@@ -82,4 +81,3 @@ pub use Rattle.toml.specs.Text.{IsItemsText, IsLinesText, IsValueText, breaks_li
 pub use Rattle.toml.specs.View.{array_view, items_of, table_view, view}
 pub use Rattle.toml.specs.declared.value.Value.{Value, the_lemmas}
 unfoldable pub use Rattle.toml_writer.specs.Text.{encoding_of, escaped, key_text, needs_escape, quotes_after, string_text}
-pub use Rattle.toml_writer.specs.Text.{is_control}

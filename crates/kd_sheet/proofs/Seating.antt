@@ -1,12 +1,12 @@
 -- The wheels that an array seats, slot by slot, and the wheels of a day in their slots.
-use Rattle.kd_sheet.proofs.Prelude.{All, Contains, Decides, IfSome, IsSome, List, None, Ok, Option, Some, [], ap, arith}
-use Rattle.kd_sheet.proofs.Prelude.{false, inl, inr, length, refl, slice_get, suc, zero, ℕ, ◌++◌, ◌+◌, ◌<◌, ◌∷◌, ◌≡◌}
-use Rattle.kd_sheet.proofs.Prelude.{◌⊎◌, false≢true, not-true, Decides-by_or, Decides-like, not_from_Decides, All-nil}
-use Rattle.kd_sheet.proofs.Prelude.{All-push, Decides-contains, get_or_from_slice_get, none-some, same_Some}
-use Rattle.kd_sheet.proofs.Prelude.{slice_get_within, AllByRecursion, list_any, is_seated, seat_for, seat_of_item}
-use Rattle.kd_sheet.proofs.Prelude.{seats_in, wheel_for, holds, may_be_empty, sheet_wheels, Key, has_wheel-Decides}
-use Rattle.kd_sheet.proofs.Prelude.{same_wheel-Decides, AreAllowed, AreApart, StandsAt, AreSeated, HasLetters, seats}
-use Rattle.kd_sheet.proofs.Prelude.{IsAllowed, slots_of, Model, Wheel, Data, Members}
+use Rattle.kd_sheet.proofs.Prelude.{All, Contains, Decides, IfSome, IsSome, List, Ok, Option, Some, [], ap, arith}
+use Rattle.kd_sheet.proofs.Prelude.{false, length, refl, slice_get, ℕ, ◌++◌, ◌+◌, ◌<◌, ◌∷◌, ◌≡◌, ◌⊎◌, cases_lt}
+use Rattle.kd_sheet.proofs.Prelude.{false≢true, not-true, Decides-by_or, Decides-like, not_from_Decides, common_steps}
+use Rattle.kd_sheet.proofs.Prelude.{All-nil, All-push, Decides-contains, get_or_from_slice_get, gets, none-some}
+use Rattle.kd_sheet.proofs.Prelude.{same_Some, slice_get_within, AllByRecursion, list_any, is_seated, seat_for}
+use Rattle.kd_sheet.proofs.Prelude.{seat_of_item, seats_in, wheel_for, holds, may_be_empty, sheet_wheels, Key}
+use Rattle.kd_sheet.proofs.Prelude.{has_wheel-Decides, same_wheel-Decides, AreAllowed, AreApart, StandsAt, AreSeated}
+use Rattle.kd_sheet.proofs.Prelude.{HasLetters, seats, IsAllowed, slots_of, Model, Wheel, Data, Members}
 use Rattle.kd_sheet.specs.declared.key.Key.TheVariants as keys
 use Rattle.kd_sheet.proofs.InTurn.{Gives, after_any, done, each_read, tested}
 
@@ -52,19 +52,14 @@ seat_read key model slots item seat e = record { free = grind (arith, wheel_read
 -- what stands at a place stands among the first slots, or is the last
 push_cases : {A : Type 0} (xs : List A) (y : A) (place : ℕ) (x : A) → slice_get (xs ++ y ∷ []) place ≡ Some x
     → (slice_get xs place ≡ Some x) ⊎ ((place ≡ length xs) × (y ≡ x))
-push_cases [] y zero x h = inr (refl, same_Some _ _ h)
-push_cases [] y (suc place) x h = absurd (none-some _ h)
-push_cases (z ∷ xs) y zero x h = inl h
-push_cases (z ∷ xs) y (suc place) x h = grind (arith, push_cases xs y place x h)
+push_cases xs y place x h = grind (arith, common_steps, gets, cases_lt place (length xs))
 
 -- what stands at a place is among the slots
 stands_among : (slots : List (Option Wheel)) (place : ℕ) (wheel : Wheel) → StandsAt slots place wheel
     → Contains slots (Some wheel)
-stands_among slots place wheel stands = (
-  place,
-  slice_get_within slots place (Some wheel) stands,
-  get_or_from_slice_get slots place (Some wheel) (Some wheel) stands,
-)
+stands_among slots place wheel stands =
+    let seat = Some wheel in
+    (place, slice_get_within slots place seat stands, get_or_from_slice_get slots place seat seat stands)
 
 -- each wheel stands where it may, and none in two slots
 record AreSeats (key : Key) (model : Model) (slots : List (Option Wheel)) : Type 0 where
@@ -108,11 +103,9 @@ wheels_fill model table slots e =
 pub seats-sheet_wheels : (slots : List (Option Wheel)) (rings letters : List ℕ) → AllByRecursion IsSome slots
     → length rings ≡ length slots → length letters ≡ length slots → seats (sheet_wheels slots rings letters) ≡ slots
 seats-sheet_wheels [] rings letters filled same equal = refl
-seats-sheet_wheels (None ∷ slots) rings letters filled same equal = absurd (false≢true filled.0)
-seats-sheet_wheels (Some w ∷ slots) [] letters filled same equal = absurd (omega arith)
-seats-sheet_wheels (Some w ∷ slots) (r ∷ rings) [] filled same equal = absurd (omega arith)
 seats-sheet_wheels (Some w ∷ slots) (r ∷ rings) (l ∷ letters) filled same equal =
     ap (λ rest. Some w ∷ rest) (seats-sheet_wheels slots rings letters filled.1 (omega arith) (omega arith))
+seats-sheet_wheels (seat ∷ slots) rings letters filled same equal = grind (arith, false≢true)
 
 pub wheels_have_letters : (slots : List (Option Wheel)) (rings letters : List ℕ)
     → AllByRecursion (λ letter. letter < 26) rings → AllByRecursion (λ letter. letter < 26) letters
