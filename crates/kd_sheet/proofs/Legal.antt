@@ -1,17 +1,18 @@
 -- The machine and the day that a table describes are legal.
-use Rattle.kd_sheet.proofs.Prelude.{All, Bool, Contains, IsSome, List, Ok, Some, [], arith, bytes_eq, false, find}
-use Rattle.kd_sheet.proofs.Prelude.{get_or, inl, inr, length, nat_lt, not, refl, subst, suc, sym, true, ℕ, ◌++◌, ◌+◌}
-use Rattle.kd_sheet.proofs.Prelude.{◌-◌, ◌<◌, ◌==◌, ◌∙◌, ◌∷◌, ◌≡◌, ◌≤◌, cases_Bool, leb-true, ltb-true, not-true}
+use Rattle.kd_sheet.proofs.Prelude.{All, Bool, Contains, IsSome, List, Ok, Result, Some, [], arith, bytes_eq, false}
+use Rattle.kd_sheet.proofs.Prelude.{find, get_or, inl, inr, length, nat_lt, not, refl, subst, suc, sym, true, ℕ, ◌++◌}
+use Rattle.kd_sheet.proofs.Prelude.{◌+◌, ◌-◌, ◌<◌, ◌==◌, ◌∙◌, ◌∷◌, ◌≡◌, ◌≤◌, cases_Bool, leb-true, ltb-true, not-true}
 use Rattle.kd_sheet.proofs.Prelude.{nat_tests, common_steps, All-contains, All-from_recursion, All-nil, All-push}
-use Rattle.kd_sheet.proofs.Prelude.{recursion_from_All, AllPass-from_list_all, none-some, same_Some, list_any, bars_in}
-use Rattle.kd_sheet.proofs.Prelude.{row_of_text, rows_in, is_figure, may_read, row_for, standing_for, model_in}
+use Rattle.kd_sheet.proofs.Prelude.{recursion_from_All, AllPass-from_list_all, none-some, same_Some, list_any, each_at}
+use Rattle.kd_sheet.proofs.Prelude.{bars_in, row_of_text, rows_in, is_figure, may_read, row_for, standing_for, model_in}
 use Rattle.kd_sheet.proofs.Prelude.{pin_parts_in, reflector_in, rotor_parts_in, reflector_by_name, standing_by_text}
 use Rattle.kd_sheet.proofs.Prelude.{letters_on_wheels, pins_in, pins_of_item, pins_of_text, shown_in, pins_behind}
 use Rattle.kd_sheet.proofs.Prelude.{all_groups_in, day_in, group_of_item, groups_in, model_day_in, new_number_in}
-use Rattle.kd_sheet.proofs.Prelude.{number_in, pin_day_in, rotor_day_in, group_for, Key, all_pins, AreLetters}
-use Rattle.kd_sheet.proofs.Prelude.{AreOnWheels, HasAllPins, IsLegalPin, IsLegalRotor, pin_set, Day, HasLetters}
-use Rattle.kd_sheet.proofs.Prelude.{IsDayNumber, IsLegalDay, day_number, IsBefore, IsReading, in_order, place_rank}
-use Rattle.kd_sheet.proofs.Prelude.{standing_text, standings, ring_of, reflectors_of, Model, M209, Place, Data, Members}
+use Rattle.kd_sheet.proofs.Prelude.{number_in, pin_day_in, rotor_day_in, group_for, SheetFault, Key, all_pins}
+use Rattle.kd_sheet.proofs.Prelude.{AreLetters, AreOnWheels, HasAllPins, IsLegalPin, IsLegalRotor, pin_set, Day}
+use Rattle.kd_sheet.proofs.Prelude.{HasLetters, IsDayNumber, IsLegalDay, day_number, IsBefore, IsReading, in_order}
+use Rattle.kd_sheet.proofs.Prelude.{place_rank, standing_text, standings, ring_of, reflectors_of, Model, M209, Place}
+use Rattle.kd_sheet.proofs.Prelude.{Data, Members}
 use Rattle.kd_sheet.specs.declared.key.Key.TheVariants as keys
 use Rattle.kd_sheet.proofs.Bounds.{day_number_within, capitals_are_letters, rings_in_letters, window_in_letters}
 use Rattle.kd_sheet.proofs.Bounds.{list_in_letters, box_letters_in_letters}
@@ -39,6 +40,14 @@ reflector_there model table reflector e = grind (arith, given, there_was, found_
 abbrev Each : {A : Type 0} → (A → Type 0) → ℕ → List A → Type 0
 Each P count xs = (length xs ≡ count) × All P xs
 
+module _ {A : Type 0} (reading : List A → Data → Result A SheetFault) (P : A → Type 0)
+    (has : (earlier : List A) (item : Data) (x : A) → reading earlier item ≡ Ok x → P x) where
+  more_read : (done : List A) (item : Data) (x : A) → All P done → reading done item ≡ Ok x → All P (done ++ x ∷ [])
+  more_read done item x all e = All-push P done x all (has done item x e)
+
+  all_read : (key : Key) (count : ℕ) (table : Members) → Gives (each_at key count reading table) (Each P count)
+  all_read = each_read reading (All P) (All-nil P) more_read
+
 group_read : (earlier : List (List ℕ)) (item : Data) (group : List ℕ) → group_for earlier item ≡ Ok group → AreLetters 3 group
 unfolding group_of_item
 group_read earlier item group e = grind (arith, there_was, capitals_are_letters, none-some)
@@ -46,29 +55,21 @@ group_read earlier item group e = grind (arith, there_was, capitals_are_letters,
 groups_in_groups : (table : Members) → Gives (groups_in table) (λ groups. (length groups ≤ 4) × All (AreLetters 3) groups)
 unfolding groups_in all_groups_in
 groups_in_groups table groups e =
-    let read = some_read group_for (All (AreLetters 3)) (All-nil (AreLetters 3))
-    (λ done item group all e. All-push (AreLetters 3) done group all (group_read done item group e)) keys.Groups 4 in
+    let read = some_read group_for (All (AreLetters 3)) (All-nil (AreLetters 3)) (more_read group_for (AreLetters 3) group_read)
+    keys.Groups 4 in
     grind (arith, read, All-nil (AreLetters 3))
-
-figure_within : (byte : ℕ) → is_figure byte ≡ true → (48 ≤ byte) × (byte ≤ 54)
-figure_within byte e = grind (arith, leb-true)
 
 row_is_reading : (one other : ℕ) → is_figure one ≡ true → is_figure other ≡ true → may_read one other ≡ true
     → IsReading (in_order (one - 48) (other - 48))
-row_is_reading one other low high may = grind (arith, nat_tests, figure_within)
+row_is_reading one other low high may = grind (arith, nat_tests, leb-true)
 
-row_read : (text : List ℕ) (numbers : ℕ × ℕ) → row_of_text text ≡ Some numbers → IsReading numbers
+row_read : (earlier : List (ℕ × ℕ)) (item : Data) (row : ℕ × ℕ) → row_for earlier item ≡ Ok row → IsReading row
 unfolding row_of_text
-row_read text numbers e = grind (arith, some_if, row_is_reading, none-some)
-
-text_row : (earlier : List (ℕ × ℕ)) (item : Data) (row : ℕ × ℕ) → row_for earlier item ≡ Ok row → IsReading row
-text_row earlier item row e = grind (arith, there_was, row_read, none-some)
+row_read earlier item row e = grind (arith, there_was, some_if, row_is_reading, none-some)
 
 rows_in_rows : (table : Members) → Gives (rows_in table) (Each IsReading 27)
 unfolding rows_in
-rows_in_rows table =
-    each_read row_for (All IsReading) (All-nil IsReading)
-    (λ done item row all e. All-push IsReading done row all (text_row done item row e)) keys.Rows 27 table
+rows_in_rows table = all_read row_for IsReading row_read keys.Rows 27 table
 
 abbrev IsStanding : Place × Place → Type 0
 IsStanding bar = IsBefore bar.0 bar.1
@@ -84,9 +85,7 @@ text_bar earlier item bar e = grind (arith, there_was, standing_read, none-some)
 
 bars_in_bars : (table : Members) → Gives (bars_in table) (Each IsStanding 27)
 unfolding bars_in
-bars_in_bars table =
-    each_read standing_for (All IsStanding) (All-nil IsStanding)
-    (λ done item bar all e. All-push IsStanding done bar all (text_bar done item bar e)) keys.Bars 27 table
+bars_in_bars table = all_read standing_for IsStanding text_bar keys.Bars 27 table
 
 -- ---- pins, and the letters that pin wheels show
 
