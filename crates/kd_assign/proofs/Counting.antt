@@ -1,5 +1,5 @@
 -- How many comparisons are made.
-use Rattle.std.proofs.Common.{◌≡◌, ℕ, zero, suc, ◌+◌, ◌-◌, ◌*◌, ◌/◌, ◌≤◌, inl, inr, refl, add-one, arith}
+use Rattle.std.proofs.Common.{◌≡◌, ℕ, zero, suc, ◌+◌, ◌*◌, ◌/◌, ◌≤◌, inl, inr, arith}
 use Rattle.kd_assign.proofs.Prelude.{cases_eq, scans_of_tree, scans_of_trees}
 
 -- a tree of more rows takes no fewer
@@ -9,10 +9,6 @@ scans_of_tree-grows n few (suc rows) h = elim (cases_eq few (suc rows)) [
   | inl same ↦ rw same (omega arith)
   | inr other ↦ (let fewer = scans_of_tree-grows n few rows (omega arith) in omega arith)
 ]
-
--- one row more
-pub scans_of_tree-more : (n rows : ℕ) → scans_of_tree n (rows + 1) ≡ scans_of_tree n rows + (n - rows)
-scans_of_tree-more n rows = rw add-one refl
 
 -- of at most 32 columns
 pub scans_of_tree-most : (n rows : ℕ) → n ≤ 32 → scans_of_tree n rows ≤ 32 * rows

@@ -78,9 +78,6 @@ module _ {n root : ℕ} {cost : List (List ℕ)} {prices ceilings : List ℤ} {h
           IsCheapest n cost ceilings' i j
       cheapest_still i j e cheapest k lt = omega (arith, ints, cheapest k lt, (compared.at k lt).least)
 
-      end_stays : price_at ceilings' end ≡ price_at ceilings end
-      end_stays = ceiling_stays end nearest.within end_joins
-
       -- no column of the tree is further away
       no_further : (j : ℕ) → j < n → has_column reached' j ≡ true → room_at ceilings prices j ≤ℤ room_at ceilings prices end
       no_further j lt h = elim (cases_eq j end) [
@@ -91,7 +88,7 @@ module _ {n root : ℕ} {cost : List (List ℕ)} {prices ceilings : List ℤ} {h
       -- the column is the cheapest one for its row at the new ceilings
       holder_stays : IsCheapest n cost ceilings' holder end
       holder_stays k lt =
-          let same = end_stays in
+          let same = ceiling_stays end nearest.within end_joins in
           let before = solved.cheapest holder end held k lt in
           let now = compared.at k lt in
           elim (cases_Bool (has_column reached' k)) [
@@ -154,7 +151,7 @@ module _ {n root : ℕ} {cost : List (List ℕ)} {prices ceilings : List ℤ} {h
             ];
         cheapest = λ j lt h. elim (compared.at j lt).one [
           | inl was ↦ rw was.0 (cheapest_still (get_or near j 0) j was.1 (grown.cheapest j lt (outside_before j h).1))
-          | inr is ↦ rw is.1 (λ k lt'. omega (arith, ints, holder_stays k lt', end_stays, is.2))
+          | inr is ↦ rw is.1 (λ k lt'. omega (arith, ints, holder_stays k lt', ceiling_stays end nearest.within end_joins, is.2))
         ];
         plan = λ j lt h.
             let there : holder < length plans = omega (arith, grown.plan_places, solved.rows holder end held) in
@@ -175,14 +172,6 @@ module _ {n root : ℕ} {cost : List (List ℕ)} {prices ceilings : List ℤ} {h
       -- outside of the tree prices stay
       price_stays : (j : ℕ) → j < n → has_column reached j ≡ false → price_at prices' j ≡ price_at prices j
       price_stays j lt h = omega (arith, ints, clamps, nearest.least j lt h, lowered j lt)
-
-      end_price : price_at prices' end ≡ pos 0
-      end_price = price_stays end nearest.within nearest.outside ∙ solved.free end nearest.within free
-
-      -- in the tree they are the ceilings
-      price_falls : (j : ℕ) → j < n → has_column reached j ≡ true → price_at prices' j ≡ (price_at ceilings j -ℤ by)
-      price_falls j lt h =
-          let near = grown.ordered j end lt nearest.within h nearest.outside in omega (arith, ints, clamps, lowered j lt)
 
       -- one row more has a column
       pub ends : IsSolvedTo n cost prices' plan' (root + 1)
@@ -205,14 +194,15 @@ module _ {n root : ℕ} {cost : List (List ℕ)} {prices ceilings : List ℤ} {h
               elim (cases_Bool (has_column reached j)) [
                 | inl inside ↦
                     let least = plan_is.cheapest i j lt' inside there.1 k lt in
-                    omega (arith, ints, clamps, price_falls j lt' inside, lowered k lt)
+                    let near = grown.ordered j end lt' nearest.within inside nearest.outside in
+                    omega (arith, ints, clamps, lowered j lt', lowered k lt)
                 | inr out ↦
                     let least = solved.cheapest i j (sym (plan_is.same j out) ∙ there.1) k lt in
                     omega (arith, ints, clamps, price_stays j lt' out, lowered k lt)
               ]
         ];
         free = λ j lt h. grind (arith, now_at j h, plan_is.taken j, outside j, price_stays j lt, solved.free j lt);
-        zero = (end, nearest.within, end_price);
+        zero = (end, nearest.within, price_stays end nearest.within nearest.outside ∙ solved.free end nearest.within free);
         high = λ j lt. omega (arith, ints, clamps, lowered j lt, solved.high j lt);
         low = λ j lt.
             let zero = solved.free end nearest.within free in

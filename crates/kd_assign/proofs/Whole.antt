@@ -1,5 +1,5 @@
 -- An assignment of all rows.
-use Rattle.std.proofs.Common.{◌≡◌, ℕ, ◌*◌, ◌<◌, ◌≤◌, List, length, get_or, All, Option, ℤ, pos, neg_ℤ, ◌-ℤ◌, ◌≤ℤ◌, arith, refl}
+use Rattle.std.proofs.Common.{◌≡◌, ℕ, ◌*◌, ◌<◌, ◌≤◌, List, length, get_or, All, Option, ℤ, pos, ◌-ℤ◌, arith, refl}
 use Rattle.std.specs.Int.RustNames.{unsigned_abs}
 use Rattle.std.proofs.lemmas.List.Elements.{All-from_get_or}
 use Rattle.kd_assign.proofs.Prelude.{ints, get_or_default, get_or_past, CostsAtMost, Fits, Has, IsOneToOne, IsSolvedTo}
@@ -20,10 +20,6 @@ one_to_one holders to places has = record {
 -- no cost is above 4, nor is what stands past the end
 pub cost_at_most : (cost : List (List ℕ)) → CostsAtMost 4 cost → (i j : ℕ) → cost_at cost i j ≤ 4
 cost_at_most cost costs i j = grind (arith, costs, get_or_past)
-
--- a price from -4n to 4n
-abs_at_most : (n : ℕ) (price : ℤ) → neg_ℤ (pos (4 * n)) ≤ℤ price → price ≤ℤ pos (4 * n) → unsigned_abs price ≤ 4 * n
-abs_at_most n price low high = grind arith
 
 -- where prices fit and are tight, they prove the assignment cheapest
 module _ {n next : ℕ} {cost : List (List ℕ)} {prices : List ℤ} {holders : List (Option ℕ)} (row : List ℤ) (to : List ℕ)
@@ -50,13 +46,11 @@ module _ {n next : ℕ} {cost : List (List ℕ)} {prices : List ℤ} {holders : 
       let high = solved.high j (omega (arith, once.in_range i 0 (omega arith))) in
       let least = solved.cheapest i j (has i (omega arith)) z solved.zero.1 in
       let few = cost_at_most cost costs i z in
-      abs_at_most n (price_at row i) (omega (arith, ints)) (omega (arith, ints, solved.zero.2)))
+      grind (arith, ints, solved.zero.2))
 
   pub columns_at_most : All (λ price. unsigned_abs price ≤ 4 * n) prices
   columns_at_most = All-from_get_or (λ price. unsigned_abs price ≤ 4 * n) prices (pos 0) (λ j h.
-      let low = solved.low j (omega arith) in
-      let high = solved.high j (omega arith) in
-      abs_at_most n (price_at prices j) (omega (arith, ints)) (omega (arith, ints)))
+      grind (arith, ints, solved.low j (omega arith), solved.high j (omega arith)))
 
   pub is_least : {total : ℕ} → IsOneToOne to → total ≡ assignment_cost cost to → IsLeastCost cost total
   is_least once is other same one =

@@ -1,12 +1,10 @@
 -- What becomes of settings that were read, and of a machine that was.
-use Rattle.std.proofs.Common.{◌≡◌, ◌⊎◌, ℕ, List, Result, Ok, Err, IfOk, IsErrAnd, IsFalse, MatchResult, inl, subst, sym}
-use Rattle.kd_state.specs.declared.machine.parts.Parts.{Parts}
-use Rattle.kd_state.specs.declared.setting.Setting.{Setting}
+use Rattle.kd_desk.proofs.Prelude.{◌≡◌, ◌⊎◌, ℕ, List, Result, Ok, Err, IfOk, IsErrAnd, IsFalse, MatchResult, inl, subst}
+use Rattle.kd_desk.proofs.Prelude.{sym, Parts, Setting, DeskFault, begins_as_card, AreSettings, OfList, IsSettingsFault}
+use Rattle.kd_desk.proofs.Prelude.{InList}
 use Rattle.kd_state.specs.declared.setting.list.ListFault.{ListFault}
 use Rattle.kd_state.specs.Line.{IsList, IsListFault}
-use Rattle.kd_desk.specs.declared.fault.DeskFault.{DeskFault}
 use Rattle.kd_desk.specs.declared.fault.DeskFault.TheVariants as faults
-use Rattle.kd_desk.specs.Settings.{begins_as_card, AreSettings, OfList, IsSettingsFault, InList}
 
 -- what holds of the machine that was read holds of the one that is meant
 pub of_read : {F : Type 0} (meant : Result Parts F) (m : Parts) (P : Parts → Type 0) (Q : Type 0) → Ok m ≡ meant → P m → IfOk meant (λ n. P n ⊎ Q)

@@ -1,5 +1,5 @@
 -- Commands and the values of their words.
-use Rattle.kd_desk.proofs.Prelude.{◌≡◌, ◌≢◌, ℕ, List, Option, Some, None, Bor, decimal, option_map, sym, ap, ◌∙◌, Result, Ok, Err, IfSome, IfOk, IfErr, is_some, true, false, [], refl, subst, App, FailsBy, HasKind, HasMatchesOf, Row, fault_of, first_of, first_value, is_simple, is_simple_and_free, kind_of, rows_of, subcommand_of, subcommand_rows_of, same_Some, IsDayNumber, Stop, Usage, Refused, Named, IsOf, Says, arith}
+use Rattle.kd_desk.proofs.Prelude.{◌≡◌, ◌≢◌, ℕ, List, Option, Some, None, Bor, decimal, option_map, sym, ap, ◌∙◌, Result, Ok, IfSome, IfOk, true, [], refl, subst, App, FailsBy, HasKind, HasMatchesOf, Row, fault_of, first_of, first_value, is_simple, is_simple_and_free, kind_of, rows_of, subcommand_of, subcommand_rows_of, same_Some, IsDayNumber, Stop, Usage, Named, IsOf, Says, arith}
 use Rattle.std.proofs.Common.{ok_or}
 use Rattle.clap.specs.declared.parser.matches.ArgMatches.{ArgMatches}
 use Rattle.clap.specs.declared.error.Error.{Error}
@@ -8,8 +8,6 @@ use Rattle.clap.proofs.OnLiterals.{clap_on_literals}
 use Rattle.clap.specs.declared.parser.matches.Found.{Found}
 use Rattle.clap.proofs.WalkLemmas.{first_value-rows}
 use Rattle.kd_desk.specs.declared.command.Command.{Command}
-use Rattle.kd_desk.specs.declared.fault.DeskFault.TheVariants.{File}
-use Rattle.kd_sheet.specs.declared.fault.SheetFault.TheVariants.{NoMemory}
 use Rattle.kd_desk.specs.CommandLine.{desk_grammar}
 
 -- a command with its files' names as they were lent
@@ -23,11 +21,6 @@ read_none found id word reads none = sym (first_value-rows found id) ∙ sym rea
 pub read_some : (found : Found) (id : List ℕ) (word : Option (Bor (List ℕ))) (read : Bor (List ℕ)) → option_map (λ s. s.now) word ≡ first_value found id → word ≡ Some read
     → first_of id (rows_of found) ≡ Some read.now
 read_some found id word read reads some = sym (first_value-rows found id) ∙ sym reads ∙ ap (option_map (λ s. s.now)) some
-
--- a word that is not there
-pub no_word : (found : Found) (id : List ℕ) (word : Option (Bor (List ℕ))) → option_map (λ s. s.now) word ≡ first_value found id → word ≡ None
-    → (value : List ℕ) → first_of id (rows_of found) ≢ Some value
-no_word found id word reads none value is = cc (read_none found id word reads none)
 
 -- a word that says no day
 pub other_word : (found : Found) (id : List ℕ) (word : Option (Bor (List ℕ))) (read : Bor (List ℕ)) → option_map (λ s. s.now) word ≡ first_value found id → word ≡ Some read
@@ -72,16 +65,7 @@ pub paired : {X : Type 0} (entered : Option X) (name : X → List ℕ) (rows : X
     → Some n ≡ option_map name entered → Some r ≡ option_map (λ (p : List ℕ × List Row). p.1) (option_map {U = List ℕ × List Row} (λ x. (name x, rows x)) entered) → option_map {U = List ℕ × List Row} (λ x. (name x, rows x)) entered ≡ Some (n, r)
 paired entered name rows n r is is_rows = grind (arith)
 
-pub no_entered : {X Y : Type 0} (entered : Option X) (f : X → Y) → false ≡ is_some entered → option_map f entered ≡ None
-no_entered entered f e = grind (arith)
-
 -- the answer of a command that may not be there
 pub ok_said : (said : Option Lent) (answer : Result Lent Stop) (P Q : Lent → Type 0) → answer ≡ ok_or said Usage → ((command : Lent) → P command → Q command)
     → IfSome said P → IfOk answer Q
 ok_said said answer P Q e d g = grind arith
-
-pub no_command_of : (said : Option Lent) (answer : Result Lent Stop) → answer ≡ ok_or said Usage → answer ≡ Err Usage → said ≡ None
-no_command_of said answer e usage = grind (arith)
-
-pub usage_or_said : (said : Option Lent) (answer : Result Lent Stop) → answer ≡ ok_or said Usage → IfErr answer (λ stop. stop ≢ Usage → stop ≡ Refused (File NoMemory))
-usage_or_said said answer e = grind arith

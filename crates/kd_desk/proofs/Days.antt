@@ -22,20 +22,18 @@ module _ (machine sheet : List ℕ) (number : ℕ) (answer : Result (Parts × Da
   abbrev Finds : Result (Parts × Day) DeskFault → Type 0
   Finds found = FindsDay machine sheet number found
 
-  first_fault : (fault : SheetFault) → (fault ≡ files.NoMemory) ⊎ (machine_of machine ≡ Err fault) → Finds (Err (faults.File fault))
-  first_fault fault (inl same) = LackedMemory (ap (λ f. Err (faults.File f)) same)
-  first_fault fault (inr is) = NoMachine fault is refl
-
   pub no_machine : (fault : SheetFault) → IsErrAnd answer (λ made. made ≡ faults.File fault) → Answers (Err fault) (machine_of machine) → Finds answer
-  no_machine fault made is = answered answer (faults.File fault) Finds made (first_fault fault (is_meant fault _ is))
-
-  second_fault : (m : Parts) (fault : SheetFault) → Ok m ≡ machine_of machine → (fault ≡ files.NoMemory) ⊎ (sheet_of sheet ≡ Err fault) → Finds (Err (faults.File fault))
-  second_fault m fault read (inl same) = LackedMemory (ap (λ f. Err (faults.File f)) same)
-  second_fault m fault read (inr is) = NoSheet m fault (sym read) is refl
+  no_machine fault made is = answered answer (faults.File fault) Finds made (elim (is_meant fault _ is) [
+    | inl same ↦ LackedMemory (ap (λ f. Err (faults.File f)) same)
+    | inr meant ↦ NoMachine fault meant refl
+  ])
 
   pub no_sheet : (m : Parts) (fault : SheetFault) → IsErrAnd answer (λ made. made ≡ faults.File fault) → Ok m ≡ machine_of machine
       → Answers (Err fault) (sheet_of sheet) → Finds answer
-  no_sheet m fault made read is = answered answer (faults.File fault) Finds made (second_fault m fault read (is_meant fault _ is))
+  no_sheet m fault made read is = answered answer (faults.File fault) Finds made (elim (is_meant fault _ is) [
+    | inl same ↦ LackedMemory (ap (λ f. Err (faults.File f)) same)
+    | inr meant ↦ NoSheet m fault (sym read) meant refl
+  ])
 
   pub no_day : (found : Option Day) (m : Parts) (days : List (Option Day)) (fault : DeskFault) → IsErrAnd answer (λ made. made ≡ fault)
       → Ok m ≡ machine_of machine → Ok days ≡ sheet_of sheet → Err fault ≡ ok_or found faults.NoSuchDay → found ≡ day_of days number → Finds answer

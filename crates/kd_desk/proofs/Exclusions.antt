@@ -1,6 +1,6 @@
 -- Settings that bytes say, and lines that a machine refuses.
-use Rattle.std.proofs.Common.{arith}
-use Rattle.kd_desk.proofs.Prelude.{◌≡◌, Bool, List, [], ◌∷◌, ◌++◌, Some, sym, subst, Parts, Setting, why_refused, Leads, IsTrue, IsFalse, ap, ◌∙◌, OfCard, OfList, InCard, InList}
+use Rattle.kd_desk.proofs.Prelude.{arith, ◌≡◌, Bool, List, [], ◌∷◌, ◌++◌, Some, sym, subst, Parts, Setting, why_refused}
+use Rattle.kd_desk.proofs.Prelude.{Leads, IsTrue, IsFalse, ap, ◌∙◌, OfCard, OfList, InCard, InList}
 use Rattle.kd_state.specs.declared.setting.why.Why.{Why}
 use Rattle.kd_state.specs.Laws as lists
 use Rattle.kd_card.specs.Laws as cards

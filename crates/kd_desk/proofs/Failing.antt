@@ -1,8 +1,8 @@
 -- What a failed call leaves of its ports.
-use Rattle.std.proofs.Common.{arith}
+use Rattle.kd_desk.proofs.Prelude.{arith, ◌≡◌, ℕ, Bool, true, false, ◌||◌, List, Option, Result, Ok, Err, IsErrAnd}
+use Rattle.kd_desk.proofs.Prelude.{IsTrue, inr, sym, subst, Port, IsWell, Fail, Appends, TakesFront, DeskFault}
 use Rattle.kd_desk.specs.declared.fault.DeskFault.TheVariants.{Device}
 use Rattle.kd_desk.specs.Ports.{WritesText}
-use Rattle.kd_desk.proofs.Prelude.{◌≡◌, ℕ, Bool, true, false, ◌||◌, List, Option, Result, Ok, Err, IsErrAnd, IsTrue, inr, sym, subst, Port, IsWell, Fail, Appends, TakesFront, DeskFault}
 
 -- what is known of a port, in its order
 abbrev pub over : Option (List ℕ) → Option (List ℕ) → Bool → Bool → Port

@@ -1,10 +1,9 @@
 -- A grammar as it grows: no help, and a word or a command more.
-use Rattle.std.proofs.Common.{arith}
-use Rattle.kd_desk.proofs.Prelude.{◌≡◌, ◌∙◌, [], ◌∷◌, ◌++◌, ℕ, List, map, true, false, ap, ap₂, sym, subst, App, app_of, rule_of, app_of_fields, Arg}
-use Rattle.std.proofs.Common.{Bor}
+use Rattle.kd_desk.proofs.Prelude.{arith, ◌≡◌, ◌∙◌, [], ◌∷◌, ◌++◌, ℕ, List, true, false, ap, ap₂, sym, subst, App}
+use Rattle.kd_desk.proofs.Prelude.{app_of, rule_of, app_of_fields, Arg, Bor, word_named}
 use Rattle.std.proofs.lemmas.List.{map-append}
 use Rattle.clap.specs.Simple.{new_app, with_subcommand}
-use Rattle.kd_desk.specs.CommandLine.{IsMadeOf, word_named, shape_with}
+use Rattle.kd_desk.specs.CommandLine.{IsMadeOf, shape_with}
 use Rattle.clap.specs.Built.{AddsArg, AddsSubcommand}
 use Rattle.clap.specs.declared.builder.command.Command.{Command}
 use Rattle.clap.specs.declared.builder.command.Command.TheViews.{out-Command}

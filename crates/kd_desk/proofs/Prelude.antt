@@ -1,26 +1,25 @@
 -- What the proofs of this crate speak of.
-pub use Rattle.std.proofs.Common.{Bool, Bor, Err, IfErr, IfOk, IfSome, IsErr, IsErrAnd, IsFalse, IsOkAnd, IsSomeAnd, IsTrue, List, MatchResult, None, Ok, Option, Result, Some, [], ap, append_assoc, ap₂, arith, bytes_eq, codes, decimal, false, if◌then◌else◌, inl, inr, is_ok, is_some, length, map, option_map, refl, rules, subst, suc, sym, take, true, true≢false, ℕ, ◌++◌, ◌+◌, ◌-◌, ◌<◌, ◌^◌, ◌||◌, ◌∙◌, ◌∷◌, ◌≡◌, ◌≢◌, ◌≤◌, ◌⊎◌}
+pub use Rattle.std.proofs.Common.{Bool, Bor, Err, IfOk, IfSome, IsErr, IsErrAnd, IsFalse, IsSomeAnd, IsTrue, List, MatchResult, None, Ok, Option, Result, Some, [], ap, append_assoc, ap₂, arith, codes, decimal, false, inl, inr, is_ok, length, map, option_map, refl, rules, subst, suc, sym, take, true, true≢false, ℕ, ◌++◌, ◌+◌, ◌-◌, ◌<◌, ◌||◌, ◌∙◌, ◌∷◌, ◌≡◌, ◌≢◌, ◌≤◌, ◌⊎◌}
 pub use Rattle.std.proofs.lemmas.Option.{same_Some}
 pub use Rattle.std.specs.Io.KnownBytes.{Appends, Consumes}
-pub use Rattle.std.specs.Option.{ok_or, option_and_then}
+pub use Rattle.std.specs.Option.{ok_or}
 pub use Rattle.clap.specs.Simple.{app_of_fields}
-pub use Rattle.clap.specs.Words.{App, FailsBy, HasKind, HasMatchesOf, Row, Rule, app_of, fault_of, first_of, first_value, found_of, is_simple, is_simple_and_free, kind_of, new_app, rows_of, rule_of, subcommand_of, subcommand_rows_of, with_rule, with_subcommand}
+pub use Rattle.clap.specs.Words.{App, FailsBy, HasKind, HasMatchesOf, Row, Rule, app_of, fault_of, first_of, first_value, found_of, is_simple, is_simple_and_free, kind_of, new_app, rows_of, rule_of, subcommand_of, subcommand_rows_of}
 pub use Rattle.clap.specs.declared.builder.arg.Arg.{Arg}
 pub use Rattle.kd_card.specs.CardText.{IsCard}
 pub use Rattle.kd_card.specs.declared.prices.PriceParts.{PriceParts}
-pub use Rattle.kd_desk.specs.CommandLine.{HasWords, HaveDay, IsActionOf, IsOf, Named, NamedAction, Says, action_files, action_name, action_named, alone, apply_shape, card_shape, check_shape, command_shape, day_words, files_of, named, type_shape, way_name, way_shape, way_word, with_action_opened, with_task_opened, word_named}
+pub use Rattle.kd_desk.specs.CommandLine.{IsActionOf, IsOf, Named, NamedAction, Says, named, word_named}
 pub use Rattle.kd_desk.specs.Files.{Gives, IsReadWhole, Opened, opened}
 pub use Rattle.kd_desk.specs.Messages.{TellOfOrders, Types, answer_to_message}
 pub use Rattle.kd_desk.specs.OnDay.{FindsDay, Found, LackedMemory, NoDay, NoMachine, NoSheet, OnDay}
-pub use Rattle.kd_desk.specs.Program.{AskFor, CarriesOut, DoesTask, IsDone, IsTaskDone, KnownAction, KnownCommand, KnownTask, command_over, has_read}
+pub use Rattle.kd_desk.specs.Program.{AskFor, CarriesOut, IsDone, KnownCommand, command_over, has_read}
 pub use Rattle.kd_desk.specs.RunApply.{Applies, Carried, NoSettings, RefusedLine}
 pub use Rattle.kd_desk.specs.RunCheck.{Checks, Doubtful, NoCard, Other, Shortest, verdict_text}
 pub use Rattle.kd_desk.specs.RunSteps.{LacksMemory, is_device, is_refused_before}
 pub use Rattle.kd_desk.specs.Settings.{AreSettings, InCard, InList, IsSettingsFault, OfCard, OfList, begins_as_card}
-pub use Rattle.kd_desk.specs.declared.command.Way.TheVariants.{Receive, Send}
 pub use Rattle.kd_desk.specs.declared.fault.DeskFault.{DeskFault}
 pub use Rattle.kd_desk.specs.declared.stop.Stop.{Stop}
-pub use Rattle.kd_desk.specs.declared.stop.Stop.TheVariants.{Refused, Unread, Usage}
+pub use Rattle.kd_desk.specs.declared.stop.Stop.TheVariants.{Unread, Usage}
 pub use Rattle.kd_form.specs.declared.fault.FormFault.{FormFault}
 pub use Rattle.kd_sheet.specs.MachineFile.{machine_of}
 pub use Rattle.kd_state.specs.Machine.{IsMachine}

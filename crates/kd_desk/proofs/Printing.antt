@@ -1,17 +1,11 @@
 -- What a card that was planned and written promises.
-use Rattle.std.proofs.Common.{◌≡◌, ℕ, List, Result, sym, subst, arith}
-use Rattle.kd_state.specs.declared.machine.parts.Parts.{Parts}
-use Rattle.kd_state.specs.Machine.{IsMachine}
-use Rattle.kd_state.specs.SheetDay.{Day, IsLegalDay, day_number}
+use Rattle.kd_desk.proofs.Prelude.{◌≡◌, ℕ, List, Result, sym, subst, arith, Parts, IsMachine, Day, IsLegalDay}
+use Rattle.kd_desk.proofs.Prelude.{day_number, PriceParts, IsCard, DeskFault, Port}
 use Rattle.kd_state.specs.Laws.{ListsKeepMachines, ReadingIsReady, ReadingIsItsCipher, EquallySetDecipher}
 use Rattle.kd_card.specs.declared.card.Card as declared
-use Rattle.kd_card.specs.declared.prices.PriceParts.{PriceParts}
-use Rattle.kd_card.specs.CardText.{IsCard}
 use Rattle.kd_plan.specs.Planned.{Plans}
 use Rattle.kd_prices.specs.KindCards.{IsByKind}
-use Rattle.kd_desk.specs.declared.fault.DeskFault.{DeskFault}
 use Rattle.kd_desk.specs.Headline as headline
-use Rattle.kd_tables.specs.Ports.{Port}
 use Rattle.kd_desk.specs.Ports.{WritesText}
 use Rattle.kd_desk.specs.RunCard.{Prints, Card}
 

@@ -1,27 +1,23 @@
 -- Numbers and letters that are read lie within their bounds.
-use Rattle.kd_sheet.proofs.Prelude.{List, Ok, Some, [], arith, filter_map, is_some, length, refl, true, ℕ, ◌-◌, ◌<◌}
-use Rattle.kd_sheet.proofs.Prelude.{◌∷◌, ◌≡◌, ◌≤◌, eqb-true, leb-true, nat_tests, length-map, All-from_recursion}
-use Rattle.kd_sheet.proofs.Prelude.{none-some, AllByRecursion, list_all, value_at, capital_letters, box_letters_in}
-use Rattle.kd_sheet.proofs.Prelude.{number_to, numbered_letter, list_in, number_in, rings_in, window_in, rings_of, Key}
-use Rattle.kd_sheet.proofs.Prelude.{AreLetters, IsDayNumber, letters_of, slots_of, is_capital, Model, Data, Members}
-use Rattle.kd_sheet.proofs.Prelude.{box_of}
-use Rattle.kd_sheet.proofs.InTurn.{given, there_was, some_if}
+use Rattle.kd_sheet.proofs.Prelude.{List, Some, [], arith, filter_map, is_some, length, refl, true, ℕ, ◌<◌, ◌∷◌, ◌≡◌}
+use Rattle.kd_sheet.proofs.Prelude.{◌≤◌, eqb-true, leb-true, nat_tests, length-map, All-from_recursion, none-some}
+use Rattle.kd_sheet.proofs.Prelude.{AllByRecursion, list_all, value_at, capital_letters, box_letters_in, number_to}
+use Rattle.kd_sheet.proofs.Prelude.{numbered_letter, list_in, number_in, rings_in, window_in, rings_of, Key, AreLetters}
+use Rattle.kd_sheet.proofs.Prelude.{IsDayNumber, box_of, letters_of, slots_of, is_capital, Model, Data, Members}
+use Rattle.kd_sheet.proofs.InTurn.{Gives, given, there_was, some_if}
 
 number_within : (last : ℕ) (value : Data) (number : ℕ) → number_to last value ≡ Some number
     → (1 ≤ number) × (number ≤ last)
 number_within last value number e = grind (arith, some_if, leb-true, none-some)
 
-pub day_number_within : (table : Members) (number : ℕ) → number_in table ≡ Ok number → IsDayNumber number
+pub day_number_within : (table : Members) → Gives (number_in table) IsDayNumber
 unfolding number_in
 day_number_within table number e = grind (arith, given, value_at, number_within, there_was)
-
-capital_within : (byte : ℕ) → is_capital byte ≡ true → byte - 65 < 26
-capital_within byte e = grind (arith, leb-true)
 
 capitals_within : (text : List ℕ) → list_all is_capital text ≡ true
     → AllByRecursion (λ letter. letter < 26) (letters_of text)
 capitals_within [] e = tt
-capitals_within (byte ∷ text) e = grind (arith, nat_tests, capital_within, capitals_within text)
+capitals_within (byte ∷ text) e = grind (arith, nat_tests, leb-true, capitals_within text)
 
 pub letters_read : (text : List ℕ) → list_all is_capital text ≡ true → AreLetters (length text) (letters_of text)
 letters_read text e =
@@ -31,37 +27,30 @@ pub capitals_are_letters : (count : ℕ) (text letters : List ℕ) → capital_l
     → AreLetters count letters
 capitals_are_letters count text letters e = grind (arith, some_if, eqb-true, letters_read)
 
-some_letter : (item : Data) → is_some (numbered_letter item) ≡ true
-    → (letter : ℕ) × (numbered_letter item ≡ Some letter) × (letter < 26)
-some_letter item e = grind (arith, nat_tests, number_within)
-
 numbered_letters_within : (items : List Data) → list_all (λ item. is_some (numbered_letter item)) items ≡ true
     → AllByRecursion (λ letter. letter < 26) (filter_map numbered_letter items)
     × (length (filter_map numbered_letter items) ≡ length items)
 numbered_letters_within [] e = (tt, refl)
-numbered_letters_within (item ∷ items) e =
-    grind (arith, nat_tests, some_letter, numbered_letters_within items)
+numbered_letters_within (item ∷ items) e = grind (arith, nat_tests, number_within, numbered_letters_within items)
 
 rings_are_letters : (count : ℕ) (value : Data) (rings : List ℕ) → rings_of count value ≡ Some rings
     → AreLetters count rings
 rings_are_letters count value rings e =
     grind (arith, nat_tests, some_if, capitals_are_letters, numbered_letters_within, All-from_recursion)
 
-pub rings_in_letters : (model : Model) (table : Members) (rings : List ℕ) → rings_in model table ≡ Ok rings
-    → AreLetters (slots_of model) rings
+pub rings_in_letters : (model : Model) (table : Members) → Gives (rings_in model table) (AreLetters (slots_of model))
 unfolding rings_in
 rings_in_letters model table rings e = grind (arith, given, there_was, rings_are_letters)
 
-pub window_in_letters : (model : Model) (table : Members) (window : List ℕ) → window_in model table ≡ Ok window
-    → AreLetters (slots_of model) window
+pub window_in_letters : (model : Model) (table : Members) → Gives (window_in model table) (AreLetters (slots_of model))
 unfolding window_in
 window_in_letters model table window e = grind (arith, given, there_was, capitals_are_letters)
 
-pub list_in_letters : (table : Members) (list : List ℕ) → list_in table ≡ Ok list → AreLetters 2 list
+pub list_in_letters : (table : Members) → Gives (list_in table) (AreLetters 2)
 unfolding list_in
 list_in_letters table list e = grind (arith, given, there_was, capitals_are_letters)
 
-pub box_letters_in_letters : (key : Key) (model : Model) (table : Members) (letters : List ℕ)
-    → box_letters_in key model table ≡ Ok letters → AreLetters (length (box_of model)) letters
+pub box_letters_in_letters : (key : Key) (model : Model) (table : Members)
+    → Gives (box_letters_in key model table) (AreLetters (length (box_of model)))
 unfolding box_letters_in
 box_letters_in_letters key model table letters e = grind (arith, given, there_was, capitals_are_letters)

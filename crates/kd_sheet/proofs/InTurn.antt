@@ -1,11 +1,11 @@
--- What is read of items one after another, each given those before it; and what a reading that succeeds has found on its way.
-use Rattle.kd_sheet.proofs.Prelude.{All, Bool, Err, List, None, Ok, Option, Result, Some, [], ap, append_assoc, arith}
-use Rattle.kd_sheet.proofs.Prelude.{cond, drop, get_or, length, map, ok_or, refl, replicate, subst, sym, take, true, ℕ}
-use Rattle.kd_sheet.proofs.Prelude.{◌++◌, ◌+◌, ◌-◌, ◌<◌, ◌∙◌, ◌∷◌, ◌≡◌, take-append_seam, common_steps, append-nil}
-use Rattle.kd_sheet.proofs.Prelude.{drop_more, length-append, length-map, map-append, map-id, take-append-drop}
-use Rattle.kd_sheet.proofs.Prelude.{take_more, All-nil, All-push, recursion_from_All, none-some, same_Some}
-use Rattle.kd_sheet.proofs.Prelude.{AllByRecursion, enumerate_from, all_values, demand, given_earlier, ◌>>=◌, ◌>>◌}
-use Rattle.kd_sheet.proofs.Prelude.{SheetFault, numbered, Data, view, Value}
+-- What is read of items one after another, each given what those before it are; and what a reading that succeeds has found on its way.
+use Rattle.kd_sheet.proofs.Prelude.{Bool, Err, List, None, Ok, Option, Result, Some, [], ap, arith, cond, get_or}
+use Rattle.kd_sheet.proofs.Prelude.{length, map, nat_le, ok_or, refl, replicate, subst, take, true, ℕ, ◌++◌, ◌+◌, ◌-◌}
+use Rattle.kd_sheet.proofs.Prelude.{◌<◌, ◌==◌, ◌∙◌, ◌∷◌, ◌≡◌, ◌≤◌, eqb-true, leb-true, common_steps, append-nil}
+use Rattle.kd_sheet.proofs.Prelude.{drop_more, length-append, length-map, take-append-drop, take_more, map-id}
+use Rattle.kd_sheet.proofs.Prelude.{none-some, same_Some, AllByRecursion, option_map_or, demand, each_at, in_turn}
+use Rattle.kd_sheet.proofs.Prelude.{items_at, items_in, up_to, ◌>>=◌, ◌>>◌, holds, SheetFault, Key, Data, Members, view}
+use Rattle.kd_sheet.proofs.Prelude.{Value}
 use Rattle.kd_sheet.proofs.Documents.{viewed_at}
 
 -- ---- on the way of a reading
@@ -27,6 +27,33 @@ pub passed : {B : Type 0} (test : Bool) (fault : SheetFault) (next : Result B Sh
     → (demand test fault >> next) ≡ Ok value
     → (test ≡ true) × (next ≡ Ok value)
 passed test fault next value e = grind arith
+
+-- what holds of what is read, where something is
+abbrev pub Gives : {A : Type 0} → Result A SheetFault → (A → Type 0) → Type 0
+Gives answer P = (x : _) → answer ≡ Ok x → P x
+
+pub done : {A : Type 0} (P : A → Type 0) (x : A) → P x → Gives (Ok x) P
+done P x holds y e = subst P (same_found x y e) holds
+
+-- of what is read first, and then of what is read by it
+pub after : {A B : Type 0} (first : Result A SheetFault) (next : A → Result B SheetFault) (P : A → Type 0)
+    (Q : B → Type 0) → Gives first P → ((x : A) → P x → Gives (next x) Q) → Gives (first >>= next) Q
+after first next P Q here rest y e = let before = given first next y e in rest before.0 (here before.0 before.1) y before.2
+
+pub after_any : {A B : Type 0} (first : Result A SheetFault) (next : A → Result B SheetFault) (Q : B → Type 0)
+    → ((x : A) → Gives (next x) Q) → Gives (first >>= next) Q
+after_any first next Q rest y e = let before = given first next y e in rest before.0 y before.2
+
+-- of what is read once a test has passed
+pub tested : {B : Type 0} (test : Bool) (fault : SheetFault) (next : Result B SheetFault) (Q : B → Type 0)
+    → (test ≡ true → Gives next Q) → Gives (demand test fault >> next) Q
+tested test fault next Q rest y e = let both = passed test fault next y e in rest both.0 y both.1
+
+-- of what may be absent
+pub if_there : {A : Type 0} (there : Option Data) (reading : Data → Result A SheetFault) (none : A) (P : A → Type 0)
+    → ((value : Data) → Gives (reading value) P) → P none → Gives (option_map_or reading there (Ok none)) P
+if_there None reading none P each holds = done P none holds
+if_there (Some value) reading none P each holds = each value
 
 -- what there was
 pub there_was : {A : Type 0} (thing : Option A) (fault : SheetFault) (value : A) → ok_or thing fault ≡ Ok value
@@ -50,133 +77,125 @@ passing test fault next result e d = grind arith
 
 -- ---- items, one after another
 
-module _ {A : Type 0} (reading : List Data → Data → Result A SheetFault) where
-  -- the answers to the items behind the earlier ones
-  abbrev answers : List Data → List Data → List (Result A SheetFault)
-  answers earlier items =
-      map (λ numbered. reading (take numbered.0 (earlier ++ items)) numbered.1) (enumerate_from (length earlier) items)
+module _ {A : Type 0} where
+  -- the values of some items, and what is read of more behind them
+  abbrev on : (List A → Data → Result A SheetFault) → List A → List Data → Result (List A) SheetFault
+  on reading values items = in_turn (λ more. reading (values ++ more)) items >>= (λ more. Ok (values ++ more))
 
-  one_answer : (earlier : List Data) (item : Data) (items : List Data)
-      → answers earlier (item ∷ items) ≡ reading earlier item ∷ answers (earlier ++ item ∷ []) items
-  one_answer earlier item items = grind (arith, take-append_seam, append_assoc, length-append)
+  joined : (reading : List A → Data → Result A SheetFault) (front rest : List Data) (values : List A)
+      → in_turn reading front ≡ Ok values → in_turn reading (front ++ rest) ≡ on reading values rest
+  joined reading [] rest values e =
+      subst (λ vs. in_turn reading rest ≡ on reading vs rest) (same_found _ _ e) (grind arith)
+  joined reading (item ∷ front) rest values e =
+      let first = given (reading [] item) _ values e in
+      let more = given (in_turn (λ earlier. reading (first.0 ∷ earlier)) front) _ values first.2 in
+      let rest_is = joined (λ earlier. reading (first.0 ∷ earlier)) front rest more.0 more.1 in
+      subst (λ vs. in_turn reading (item ∷ front ++ rest) ≡ on reading vs rest) (same_found _ _ more.2)
+      (then_read _ _ _ _ first.1 (ap (λ answer. answer >>= (λ more. Ok (first.0 ∷ more))) rest_is ∙ grind arith))
 
-  first_answer : (earlier : List Data) (item : Data) (items : List Data) → all_values (answers earlier (item ∷ items))
-      ≡ (reading earlier item
-      >>= (λ value. all_values (answers (earlier ++ item ∷ []) items) >>= (λ values. Ok (value ∷ values))))
-  first_answer earlier item items = ap all_values (one_answer earlier item items)
-
-  -- some items, and more behind them
-  joined : (earlier front rest : List Data) → all_values (answers earlier (front ++ rest))
-      ≡ (all_values (answers earlier front)
-      >>= (λ xs. all_values (answers (earlier ++ front) rest) >>= (λ ys. Ok (xs ++ ys))))
-  joined earlier [] rest = grind (arith, append-nil)
-  joined earlier (item ∷ front) rest = grind (arith, one_answer, append_assoc, joined (earlier ++ item ∷ []) front rest)
-
-  module _ (items : List Value) (place : ℕ) (item : Value) (left : place < length items)
-      (here : item ≡ get_or items place item) (values : List A)
-      (before : all_values (given_earlier reading (take place (map view items))) ≡ Ok values) where
+  module _ (reading : List A → Data → Result A SheetFault) (items : List Value) (place : ℕ) (item : Value)
+      (left : place < length items) (here : item ≡ get_or items place item) (values : List A)
+      (before : in_turn reading (take place (map view items)) ≡ Ok values) where
     -- one item more
-    pub read_more : (value : A) → Ok value ≡ reading (take place (map view items)) (view item)
-        → all_values (given_earlier reading (take (place + 1) (map view items))) ≡ Ok (values ++ value ∷ [])
-    read_more value is =
+    pub read_more : (value : A) → Ok value ≡ reading values (view item)
+        → in_turn reading (take (place + 1) (map view items)) ≡ Ok (values ++ value ∷ [])
+    read_more value is = grind (arith, take_more (map view items) place (view item), length-map, viewed_at items place item, joined reading (take place (map view items)) (view item ∷ []), append-nil)
+
+    -- the first fault
+    pub read_stops : (fault : SheetFault) → Err fault ≡ reading values (view item)
+        → in_turn reading (map view items) ≡ Err fault
+    read_stops fault is =
         rw (
-          take_more (map view items) place (view item) (omega (arith, length-map items view)),
+          ← take-append-drop place (map view items),
+          drop_more (map view items) place (view item) (omega (arith, length-map items view)),
           viewed_at items place item left here,
-          joined [] (take place (map view items)) (view item ∷ []),
-          before,
-          first_answer (take place (map view items)) (view item) [],
+          joined reading (take place (map view items)) _ values before,
+          append-nil,
           ← is,
         ) refl
 
-    -- the first fault
-    pub read_stops : (fault : SheetFault) → Err fault ≡ reading (take place (map view items)) (view item)
-        → all_values (given_earlier reading (map view items)) ≡ Err fault
-    read_stops fault is =
-        let within : place < length (map view items) = omega (arith, length-map items view) in
-        let rest = drop (place + 1) (map view items) in
-        let split : take place (map view items) ++ view item ∷ rest ≡ map view items =
-        ap (λ x. take place (map view items) ++ x ∷ rest) (sym (viewed_at items place item left here))
-        ∙ ap (λ xs. take place (map view items) ++ xs) (sym (drop_more (map view items) place (view item) within))
-        ∙ take-append-drop place (map view items) in
-        subst (λ xs. all_values (given_earlier reading xs) ≡ Err fault) split
-        (rw (joined [] (take place (map view items)) (view item ∷ rest), before, first_answer (take place (map view items)) (view item) rest, ← is) refl)
-
   -- what holds of no items, and with each one that is read of one more, holds of all
-  module _ (Holds : List Data → List A → Type 0)
-      (more : (earlier : List Data) (done : List A) (item : Data) (value : A) → Holds earlier done
-      → reading earlier item ≡ Ok value → Holds (earlier ++ item ∷ []) (done ++ value ∷ [])) where
-    keeps_behind : (earlier items : List Data) (done values : List A) → Holds earlier done
-        → all_values (answers earlier items) ≡ Ok values → Holds (earlier ++ items) (done ++ values)
-    keeps_behind earlier [] done values so_far e = rw (append-nil, ← same_found _ _ e, append-nil) so_far
-    keeps_behind earlier (item ∷ items) done values so_far e =
-        let first = given (reading earlier item) _ values (sym (first_answer earlier item items) ∙ e) in
-        let rest = given (all_values (answers (earlier ++ item ∷ []) items)) _ values first.2 in
-        subst (λ vs. Holds (earlier ++ item ∷ items) (done ++ vs)) (same_found _ _ rest.2)
-        (simp append_assoc at (keeps_behind (earlier ++ item ∷ []) items (done ++ first.0 ∷ []) rest.0
-        (more earlier done item first.0 so_far first.1) rest.1))
+  pub keeps : (reading : List A → Data → Result A SheetFault) (Holds : List Data → List A → Type 0) → Holds [] []
+      → ((earlier : List Data) (done : List A) (item : Data) (value : A) → Holds earlier done
+      → reading done item ≡ Ok value → Holds (earlier ++ item ∷ []) (done ++ value ∷ []))
+      → (items : List Data) → Gives (in_turn reading items) (Holds items)
+  keeps reading Holds start more [] = done (Holds []) [] start
+  keeps reading Holds start more (item ∷ items) =
+      after (reading [] item) _ _ _ (λ value. more [] [] item value start) (λ value so_far.
+      after (in_turn (λ done. reading (value ∷ done)) items) _ _ _
+      (keeps (λ done. reading (value ∷ done)) (λ xs ys. Holds (item ∷ xs) (value ∷ ys)) so_far
+      (λ earlier done. more (item ∷ earlier) (value ∷ done)) items)
+      (λ values all. done (Holds (item ∷ items)) (value ∷ values) all))
 
-    pub keeps : (items : List Data) (values : List A) → Holds [] []
-        → all_values (given_earlier reading items) ≡ Ok values → Holds items values
-    keeps items values start e = keeps_behind [] items [] values start e
+  module _ (reading : List A → Data → Result A SheetFault) (Holds : List A → Type 0) (start : Holds [])
+      (more : (done : List A) (item : Data) (value : A) → Holds done → reading done item ≡ Ok value
+      → Holds (done ++ value ∷ [])) where
+    -- as many values as items, and what holds of them
+    pub counted : (items : List Data)
+        → Gives (in_turn reading items) (λ values. (length values ≡ length items) × Holds values)
+    counted = keeps reading (λ items values. (length values ≡ length items) × Holds values) (refl, start)
+        (λ earlier done item value so_far is. (
+          omega (arith, so_far.0, length-append earlier (item ∷ []), length-append done (value ∷ [])),
+          more done item value so_far.1 is,
+        ))
 
-  -- as many values as items
-  pub counted : (items : List Data) (values : List A) → all_values (given_earlier reading items) ≡ Ok values
-      → length items ≡ length values
-  counted items values e = keeps (λ earlier done. length earlier ≡ length done)
-      (λ earlier done item value same is. omega (arith, same, length-append earlier (item ∷ []), length-append done (value ∷ [])))
-      items values refl e
+    pub each_read : (key : Key) (count : ℕ) (table : Members)
+        → Gives (each_at key count reading table) (λ values. (length values ≡ count) × Holds values)
+    each_read key count table =
+        after_any (items_at key table) _ _ (λ items. tested (length items == count) _ _ _ (λ same values e.
+        let all = counted items values e in (all.0 ∙ eqb-true _ _ same, all.1)))
 
-  -- what holds of each value that is read
-  pub each_read : (P : A → Type 0)
-      → ((earlier : List Data) (item : Data) (value : A) → reading earlier item ≡ Ok value → P value)
-      → (items : List Data) (values : List A) → all_values (given_earlier reading items) ≡ Ok values → All P values
-  each_read P has items values e = keeps (λ earlier done. All P done)
-      (λ earlier done item value all is. All-push P done value all (has earlier item value is)) items values (All-nil P) e
+    pub some_read : (key : Key) (count : ℕ) (value : Data)
+        → Gives (up_to key count reading value) (λ values. (length values ≤ count) × Holds values)
+    some_read key count value =
+        after_any (items_in key value) _ _ (λ items. tested (nat_le (length items) count) _ _ _ (λ few values e.
+        let all = counted items values e in (omega (arith, leb-true _ _ few, all.0), all.1)))
 
-  module _ (items : List Data) (n : ℕ) (blank : A) where
+  as_many : (reading : List A → Data → Result A SheetFault) (items : List Data)
+      → Gives (in_turn reading items) (λ values. length values ≡ length items)
+  as_many reading items values e = (counted reading (λ _. Unit {0}) tt (λ _ _ _ _ _. tt) items values e).0
+
+  module _ (reading : List A → Data → Result A SheetFault) (items : List Data) (n : ℕ) (blank : A) where
     abbrev behind : List A → Result (List A) SheetFault
     behind values = Ok (values ++ replicate (n - length values) blank)
 
     -- no place is blank where there is an item for each
-    pub filled : length items ≡ n
-        → (all_values (given_earlier reading items) >>= behind) ≡ all_values (given_earlier reading items)
-    filled same = grind (arith, counted, append-nil)
+    pub filled : length items ≡ n → (in_turn reading items >>= behind) ≡ in_turn reading items
+    filled same = grind (arith, as_many reading items, append-nil)
 
     -- what stands before the blanks
-    pub front_filled : (values : List A) → (all_values (given_earlier reading items) >>= behind) ≡ Ok values
-        → all_values (given_earlier reading items) ≡ Ok (take (length items) values)
-    front_filled values e = grind (arith, common_steps, counted)
+    pub front_filled : (values : List A) → (in_turn reading items >>= behind) ≡ Ok values
+        → in_turn reading items ≡ Ok (take (length items) values)
+    front_filled values e = grind (arith, common_steps, as_many reading items)
 
-  -- things of which each is read again behind those before it
-  module _ {X : Type 0} (item_of : X → Data) where
-    again_behind : (value_of : X → A) (front rest : List X)
-        → ((more left : List X) (x : X) → rest ≡ more ++ x ∷ left → reading (map item_of (front ++ more)) (item_of x) ≡ Ok (value_of x))
-        → all_values (answers (map item_of front) (map item_of rest)) ≡ Ok (map value_of rest)
-    again_behind value_of front [] each = refl
-    again_behind value_of front (x ∷ rest) each =
-        let here = rw append-nil at (each [] rest x refl) in
-        let next = again_behind value_of (front ++ x ∷ []) rest
-        (λ more left y is. rw append_assoc (each (x ∷ more) left y (ap (λ ys. x ∷ ys) is))) in
-        rw (first_answer (map item_of front) (item_of x) (map item_of rest), here, rw map-append at next) refl
+  -- things that are read again
+  pub read_again : {X : Type 0} (reading : List A → Data → Result A SheetFault) (item_of : X → Data) (value_of : X → A)
+      (all : List X)
+      → ((front rest : List X) (x : X) → all ≡ front ++ x ∷ rest → reading (map value_of front) (item_of x) ≡ Ok (value_of x))
+      → in_turn reading (map item_of all) ≡ Ok (map value_of all)
+  read_again reading item_of value_of [] each = refl
+  read_again reading item_of value_of (x ∷ all) each =
+      rw (
+        each [] all x refl,
+        read_again (λ done. reading (value_of x ∷ done)) item_of value_of all
+            (λ front rest y is. each (x ∷ front) rest y (ap (λ ys. x ∷ ys) is)),
+      ) refl
 
-    pub read_again : (value_of : X → A) (all : List X)
-        → ((front rest : List X) (x : X) → all ≡ front ++ x ∷ rest → reading (map item_of front) (item_of x) ≡ Ok (value_of x))
-        → all_values (given_earlier reading (map item_of all)) ≡ Ok (map value_of all)
-    read_again value_of all each = again_behind value_of [] all each
+  -- and as themselves
+  pub again : (reading : List A → Data → Result A SheetFault) (item_of : A → Data) (all : List A)
+      → ((front rest : List A) (x : A) → all ≡ front ++ x ∷ rest → reading front (item_of x) ≡ Ok x)
+      → in_turn reading (map item_of all) ≡ Ok all
+  again reading item_of all each =
+      read_again reading item_of (λ x. x) all (λ front rest x is. rw map-id (each front rest x is)) ∙ ap Ok (map-id all)
+
+  pub each_again : (reading : List A → Data → Result A SheetFault) (item_of : A → Data) (P : A → Type 0)
+      → ((earlier : List A) (x : A) → P x → reading earlier (item_of x) ≡ Ok x)
+      → (all : List A) → AllByRecursion P all → in_turn reading (map item_of all) ≡ Ok all
+  each_again reading item_of P read [] has = refl
+  each_again reading item_of P read (x ∷ all) has =
+      rw (read [] x has.0, each_again (λ done. reading (x ∷ done)) item_of P (λ done. read (x ∷ done)) all has.1) refl
 
 -- what holds of all holds of one
 pub at_joined : {X : Type 0} (P : X → Type 0) (front : List X) (x : X) (rest : List X) → AllByRecursion P (front ++ x ∷ rest) → P x
 at_joined P [] x rest all = all.0
 at_joined P (y ∷ front) x rest all = at_joined P front x rest all.1
-
--- things that are read again as themselves
-module _ {A : Type 0} (reading : List Data → Data → Result A SheetFault) (item_of : A → Data) where
-  pub again : (all : List A)
-      → ((front rest : List A) (x : A) → all ≡ front ++ x ∷ rest → reading (map item_of front) (item_of x) ≡ Ok x)
-      → all_values (given_earlier reading (map item_of all)) ≡ Ok all
-  again all each = read_again reading item_of (λ x. x) all each ∙ ap Ok (map-id all)
-
-  pub each_again : (P : A → Type 0) → ((earlier : List Data) (x : A) → P x → reading earlier (item_of x) ≡ Ok x)
-      → (all : List A) → All P all → all_values (given_earlier reading (map item_of all)) ≡ Ok all
-  each_again P read all has = again all (λ front rest x is.
-      read (map item_of front) x (at_joined P front x rest (recursion_from_All P _ (rw is at has))))

@@ -1,28 +1,28 @@
 -- A file of lines is read as the table of their keys and values, and the machine file of a machine as just that machine.
-use Rattle.kd_sheet.proofs.Prelude.{Bool, List, None, Ok, Option, Some, [], ap, append_assoc, arith, codes, false}
-use Rattle.kd_sheet.proofs.Prelude.{length, map, nat_le, nat_lt, not, ok_or, option_map, pos, refl, rules, suc, true, ℕ}
-use Rattle.kd_sheet.proofs.Prelude.{◌&&◌, ◌++◌, ◌+◌, ◌<◌, ◌==◌, ◌||◌, ◌∙◌, ◌∷◌, ◌≡◌, ◌≤◌, ltb-true, ne_eqb, nat_tests}
-use Rattle.kd_sheet.proofs.Prelude.{common_steps, append-nil, recursion_from_All, list_all-append}
-use Rattle.kd_sheet.proofs.Prelude.{AllPass-from_list_all, IsUtf8-from_ascii, IsAscii-from_all, digits, AllByRecursion}
-use Rattle.kd_sheet.proofs.Prelude.{concat, flat_map, list_all, list_any, cables_in, thirteen, document_of, bars_in}
-use Rattle.kd_sheet.proofs.Prelude.{standing_for, key_name, LegalPartsAreReadBack, box_letters_in, known_model_in}
-use Rattle.kd_sheet.proofs.Prelude.{machine_in, model_in, parts_in, pin_parts_in, reflector_in, rotor_parts_in}
-use Rattle.kd_sheet.proofs.Prelude.{version_in, knows, machine_text, cable_text, key_line, listed, pin_texts, pins_text}
-use Rattle.kd_sheet.proofs.Prelude.{quoted, seat_text, version_of, number_to, shown_in, UnknownModel, Key, all_pins}
-use Rattle.kd_sheet.proofs.Prelude.{has_reflector-Decides, has_reflector, IsLegalPin, IsLegalRotor, cables_ordered}
-use Rattle.kd_sheet.proofs.Prelude.{ordered, plugged_letters, Parts, Pin, Rotor, PinParts, RotorParts, IsBefore, figure}
-use Rattle.kd_sheet.proofs.Prelude.{place_text, standing_text, model_text, reflector_text, reflectors_of, wheel_text}
-use Rattle.kd_sheet.proofs.Prelude.{letters_text, Model, M209, Place, Reflector, Wheel, AllPrinted, read_lines, run}
-use Rattle.kd_sheet.proofs.Prelude.{Data, Items, Members, depth, has_valid_dates, integer, items_depth}
-use Rattle.kd_sheet.proofs.Prelude.{items_have_valid_dates, member, no_members, string, parse_document, skip_bom}
-use Rattle.kd_sheet.proofs.Prelude.{along_dots, along_header, at_key, define, Expression, close, key_value, no_nodes}
-use Rattle.kd_sheet.proofs.Prelude.{IsItemsText, IsLinesText, IsValueText, breaks_lines, items_of, encoding_of, escaped}
-use Rattle.kd_sheet.proofs.Prelude.{key_text, needs_escape, quotes_after, string_text, is_control}
+use Rattle.kd_sheet.proofs.Prelude.{Bool, List, Ok, Option, Some, [], ap, append_assoc, arith, codes, false, length}
+use Rattle.kd_sheet.proofs.Prelude.{map, nat_le, nat_lt, not, ok_or, option_map, pos, refl, rules, suc, true, ℕ, ◌&&◌}
+use Rattle.kd_sheet.proofs.Prelude.{◌++◌, ◌+◌, ◌<◌, ◌==◌, ◌||◌, ◌∙◌, ◌∷◌, ◌≡◌, ◌≤◌, ltb-true, ne_eqb, nat_tests}
+use Rattle.kd_sheet.proofs.Prelude.{common_steps, recursion_from_All, list_all-append, AllPass-from_list_all}
+use Rattle.kd_sheet.proofs.Prelude.{IsUtf8-from_ascii, IsAscii-from_all, digits, AllByRecursion, concat, flat_map}
+use Rattle.kd_sheet.proofs.Prelude.{list_all, list_any, cables_in, document_of, bars_in, standing_for, key_name}
+use Rattle.kd_sheet.proofs.Prelude.{LegalPartsAreReadBack, box_letters_in, known_model_in, machine_in, model_in}
+use Rattle.kd_sheet.proofs.Prelude.{parts_in, pin_parts_in, reflector_in, rotor_parts_in, version_in, machine_text}
+use Rattle.kd_sheet.proofs.Prelude.{cable_text, key_line, listed, pin_texts, pins_text, quoted, seat_text, version_of}
+use Rattle.kd_sheet.proofs.Prelude.{number_to, shown_in, UnknownModel, Key, all_pins, has_reflector-Decides}
+use Rattle.kd_sheet.proofs.Prelude.{has_reflector, IsLegalPin, IsLegalRotor, cables_ordered, ordered, plugged_letters}
+use Rattle.kd_sheet.proofs.Prelude.{Parts, Pin, Rotor, PinParts, RotorParts, IsBefore, figure, standing_text}
+use Rattle.kd_sheet.proofs.Prelude.{model_text, reflector_text, reflectors_of, letters_text, Model, M209, Place}
+use Rattle.kd_sheet.proofs.Prelude.{Reflector, Wheel, AllPrinted, read_lines, run, Data, Items, Members, depth}
+use Rattle.kd_sheet.proofs.Prelude.{has_valid_dates, integer, items_depth, items_have_valid_dates, member, no_members}
+use Rattle.kd_sheet.proofs.Prelude.{string, parse_document, skip_bom, along_dots, along_header, at_key, define}
+use Rattle.kd_sheet.proofs.Prelude.{Expression, close, key_value, no_nodes, IsItemsText, IsLinesText, IsValueText}
+use Rattle.kd_sheet.proofs.Prelude.{breaks_lines, items_of, encoding_of, escaped, key_text, needs_escape, quotes_after}
+use Rattle.kd_sheet.proofs.Prelude.{string_text}
 use Rattle.kd_sheet.specs.declared.key.Key.TheVariants as keys
 use Rattle.kd_sheet.proofs.Documents.{document_parsed}
 use Rattle.kd_sheet.proofs.InTurn.{then_read, passing, each_again}
 use Rattle.kd_sheet.proofs.Namings.{model_by_name-text}
-use Rattle.kd_sheet.proofs.PartsBack.{texts, counted_again, capitals_again, window_again, reflector_again, MayStand}
+use Rattle.kd_sheet.proofs.PartsBack.{texts, each_at_again, capitals_again, window_again, reflector_again, MayStand}
 use Rattle.kd_sheet.proofs.PartsBack.{seats_in_again, single_first, MayPlug, all_parts, all_cables_again, pins_in_again}
 use Rattle.kd_sheet.proofs.PartsBack.{standing_again}
 use Rattle.kd_sheet.proofs.PinLetters.{rings_below, letters_below}
@@ -36,29 +36,22 @@ is_plain byte = (nat_le 32 byte && nat_le byte 126) && not (byte == 34 || byte =
 abbrev pub IsPlain : List ℕ → Type 0
 IsPlain text = list_all is_plain text ≡ true
 
-is_other : (byte other : ℕ) → is_plain byte ≡ true → is_plain other ≡ false → (byte == other) ≡ false
-is_other byte other plain none = grind (arith, ne_eqb)
-
-no_control : (byte : ℕ) → is_plain byte ≡ true → is_control byte ≡ false
-no_control byte plain = grind (arith, nat_tests)
-
-no_escape : (byte : ℕ) → is_plain byte ≡ true → needs_escape false 0 byte ≡ false
-unfolding needs_escape
-no_escape byte plain = grind (arith, nat_tests)
-
 none_of : (test : ℕ → Bool) → ((byte : ℕ) → is_plain byte ≡ true → test byte ≡ false) → (text : List ℕ) → IsPlain text
     → list_any test text ≡ false
 none_of test none [] plain = refl
 none_of test none (byte ∷ text) plain = grind (arith, nat_tests, none, none_of test none text)
 
+is_other : (byte other : ℕ) → is_plain byte ≡ true → is_plain other ≡ false → (byte == other) ≡ false
+is_other byte other plain none = grind (arith, ne_eqb)
+
 escaped_plain : (text : List ℕ) → IsPlain text → escaped false 0 text ≡ text
-unfolding escaped quotes_after
+unfolding escaped quotes_after needs_escape
 escaped_plain [] plain = refl
-escaped_plain (byte ∷ text) plain = grind (arith, nat_tests, no_escape, is_other, escaped_plain text)
+escaped_plain (byte ∷ text) plain = grind (arith, nat_tests, is_other, escaped_plain text)
 
 quoted_is : (text : List ℕ) → IsPlain text → quoted text ≡ string_text text
 unfolding string_text encoding_of
-quoted_is text plain = grind (arith, none_of, is_other, no_control, escaped_plain)
+quoted_is text plain = grind (arith, nat_tests, none_of, is_other, escaped_plain)
 
 -- ---- the lines
 
@@ -188,13 +181,9 @@ model_plain model = grind arith
 reflector_plain : (reflector : Reflector) → IsPlain (reflector_text reflector)
 reflector_plain reflector = grind arith
 
-wheel_plain : (wheel : Wheel) → IsPlain (wheel_text wheel)
-wheel_plain wheel = grind arith
-
 seats_plain : (slots : List (Option Wheel)) → AllByRecursion (λ seat. IsPlain (seat_text seat)) slots
 seats_plain [] = tt
-seats_plain (None ∷ slots) = (refl, seats_plain slots)
-seats_plain (Some wheel ∷ slots) = (wheel_plain wheel, seats_plain slots)
+seats_plain (seat ∷ slots) = grind (arith, seats_plain slots)
 
 cables_plain : (cables : List (Option ℕ × Option ℕ)) → AllByRecursion (λ letter. letter < 26) (plugged_letters cables)
     → AllByRecursion (λ cable. IsPlain (cable_text cable)) cables
@@ -207,12 +196,9 @@ pins_plain [] pins within = refl
 pins_plain (letter ∷ ring) [] within = refl
 pins_plain (letter ∷ ring) (pin ∷ pins) within = grind (arith, letter_plain, pins_plain ring pins within.1)
 
-place_plain : (place : Place) → IsPlain (place_text place)
-place_plain place = grind arith
-
 bars_plain : (bars : List (Place × Place)) → AllByRecursion (λ bar. IsPlain (standing_text bar)) bars
 bars_plain [] = tt
-bars_plain (bar ∷ bars) = (simp (list_all-append, place_plain bar.0, place_plain bar.1), bars_plain bars)
+bars_plain (bar ∷ bars) = grind (arith, list_all-append, bars_plain bars)
 
 -- ---- version and model
 
@@ -226,41 +212,29 @@ version_written model = grind arith
 version_again : (model : Model) → number_to 2 (integer (pos (version_of model))) ≡ Some (version_of model)
 version_again model = grind arith
 
-version_knows : (model : Model) → knows (version_of model) model ≡ true
-version_knows model = grind arith
+ruleset are_plain = (version_written, text_written, texts_written, model_plain, reflector_plain, seats_plain, letters_plain, cables_plain, bars_plain, recursion_from_All)
 
 -- a table with version and model that tells these parts
 told : (model : Model) (table : Members) (m : Parts) → version_in table ≡ Ok (version_of model)
     → model_in table ≡ Ok model → parts_in model table ≡ Ok m → machine_in table ≡ Ok m
 unfolding machine_in known_model_in
-told model table m version is parts = grind (arith, then_read, passing, version_knows)
+told model table m version is parts = grind (arith, then_read, passing)
 
 -- ---- a rotor machine
 
 -- with a single letter first a cable holds the same letters
-same_cable : (one other : Option ℕ)
-    → ordered (single_first (one, other)).0 (single_first (one, other)).1 ≡ ordered one other
-same_cable one other = grind arith
-
 same_cables : (cables : List (Option ℕ × Option ℕ))
     → map (λ cable. ordered cable.0 cable.1) (map single_first cables) ≡ map (λ cable. ordered cable.0 cable.1) cables
 same_cables [] = refl
-same_cables (cable ∷ cables) = rw (same_cable cable.0 cable.1, same_cables cables) refl
-
-few_letters : (one other : Option ℕ) → MayPlug keys.Cables (one, other)
-few_letters one other = grind arith
+same_cables (cable ∷ cables) = grind (arith, same_cables cables)
 
 all_few : (cables : List (Option ℕ × Option ℕ)) → AllByRecursion (MayPlug keys.Cables) cables
 all_few [] = tt
-all_few (cable ∷ cables) = (few_letters cable.0 cable.1, all_few cables)
+all_few (cable ∷ cables) = grind (arith, all_few cables)
 
 all_may_stand : (slots : List (Option Wheel)) → AllByRecursion (MayStand keys.Slots) slots
 all_may_stand [] = tt
-all_may_stand (None ∷ slots) = (refl, all_may_stand slots)
-all_may_stand (Some wheel ∷ slots) = (tt, all_may_stand slots)
-
-thirteen_are : (cables : List (Option ℕ × Option ℕ)) → length cables ≡ 13 → thirteen cables ≡ cables
-thirteen_are cables count = rw count (append-nil cables)
+all_may_stand (seat ∷ slots) = grind (arith, all_may_stand slots)
 
 abbrev rotor_entries : RotorParts → List Entry
 rotor_entries m =
@@ -283,26 +257,12 @@ rotor_read : (m : RotorParts) → IsLegalRotor m → document_of (machine_text (
 unfolding machine_text define along_header along_dots at_key
 rotor_read m legal =
     let all : AllByRecursion IsWritten (rotor_entries m) =
-    search (
-      rules,
-      version_written,
-      text_written,
-      texts_written,
-      model_plain,
-      reflector_plain,
-      seats_plain,
-      letters_plain,
-      cables_plain,
-      recursion_from_All,
-      legal.rings.within,
-      legal.letters.within,
-      legal.cables.within,
-    ) in
+    search (rules, are_plain, legal.rings.within, legal.letters.within, legal.cables.within) in
     file_read (rotor_entries m) (rotor_table m) all refl
 
 cables_in_again : (m : RotorParts) → IsLegalRotor m → cables_in (rotor_table m) ≡ Ok (map single_first m.cables)
 unfolding cables_in
-cables_in_again m legal = grind (arith, common_steps, all_cables_again, all_few, recursion_from_All, thirteen_are)
+cables_in_again m legal = grind (arith, common_steps, all_cables_again, all_few, recursion_from_All)
 
 rotor_parts_again : (m : RotorParts) → IsLegalRotor m
     → rotor_parts_in m.model (rotor_table m) ≡ Ok (record m { cables = map single_first m.cables })
@@ -338,28 +298,16 @@ pin_read : (m : PinParts) → IsLegalPin m → document_of (machine_text (Pin m)
 unfolding machine_text define along_header along_dots at_key
 pin_read m legal =
     let all_pins : AllByRecursion IsPlain (pin_texts m.pins) = grind (arith, pins_plain, rings_below) in
-    let all : AllByRecursion IsWritten (pin_entries m) =
-    search (
-      rules,
-      version_written,
-      text_written,
-      texts_written,
-      model_plain,
-      all_pins,
-      letters_plain,
-      bars_plain,
-      letters_below,
-      recursion_from_All,
-      legal.letters,
-    ) in
+    let all : AllByRecursion IsWritten (pin_entries m) = search (rules, are_plain, all_pins, letters_below, legal.letters) in
     file_read (pin_entries m) (pin_table m) all refl
 
 bars_again : (m : PinParts) → IsLegalPin m → bars_in (pin_table m) ≡ Ok m.bars
 unfolding bars_in
 bars_again m legal =
-    counted_again keys.Bars (pin_table m) 27 standing_text m.bars standing_for m.bars refl legal.bars
+    each_at_again keys.Bars 27 standing_text m.bars standing_for m.bars
     (each_again standing_for (λ bar. string (standing_text bar)) (λ bar. IsBefore bar.0 bar.1)
-    (λ earlier bar before. rw (standing_again bar before) refl) m.bars legal.apart)
+    (λ earlier bar before. rw (standing_again bar before) refl) m.bars (recursion_from_All _ _ legal.apart))
+    (pin_table m) refl legal.bars
 
 pin_parts_again : (m : PinParts) → IsLegalPin m → pin_parts_in (pin_table m) ≡ Ok m
 unfolding pin_parts_in shown_in

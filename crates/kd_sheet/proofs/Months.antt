@@ -1,19 +1,17 @@
 -- A month with a day here and there: the days that a sheet's entries describe, each at its number.
 use Rattle.kd_sheet.proofs.Prelude.{Bool, Bor, Contains, IfSome, List, None, Ok, Option, Some, [], ap, arith, false}
-use Rattle.kd_sheet.proofs.Prelude.{filter_map, find, get_or, inl, inr, is_some, length, length-set, map, nat_eq, ok_or}
-use Rattle.kd_sheet.proofs.Prelude.{refl, set, subst, suc, sym, take, true, zero, ℕ, ◌++◌, ◌+◌, ◌-◌, ◌<◌, ◌==◌, ◌∙◌}
-use Rattle.kd_sheet.proofs.Prelude.{◌∷◌, ◌≡◌, ◌≢◌, ◌≤◌, ◌⊎◌, cases_Bool, eq-eqb, eqb-false, eqb-true, ne_eqb}
-use Rattle.kd_sheet.proofs.Prelude.{map-append, same_lists, Contains-append_left, Contains-push, Contains-push_cases}
-use Rattle.kd_sheet.proofs.Prelude.{filter_map-append, find-append, get_or-map-range_with_len}
+use Rattle.kd_sheet.proofs.Prelude.{find, get_or, inl, inr, is_some, length, length-set, map, nat_eq, ok_or, refl, set}
+use Rattle.kd_sheet.proofs.Prelude.{subst, suc, sym, take, true, zero, ℕ, ◌++◌, ◌+◌, ◌-◌, ◌<◌, ◌==◌, ◌↔◌, ◌∙◌, ◌∷◌, ◌≡◌}
+use Rattle.kd_sheet.proofs.Prelude.{◌≢◌, ◌⊎◌, cases_Bool, eq-eqb, eqb-false, eqb-true, ne_eqb, get_or-set_at}
+use Rattle.kd_sheet.proofs.Prelude.{get_or-set_other, same_lists, Contains-append_left, Contains-push}
+use Rattle.kd_sheet.proofs.Prelude.{Contains-push_cases, find-append, get_or-map-range_with_len}
 use Rattle.kd_sheet.proofs.Prelude.{length-map-range_with_len, none-some, same_Some, slice_get-get_or, slice_get_cases}
-use Rattle.kd_sheet.proofs.Prelude.{AllOfLen, list_any, option_and_then, option_copied, option_or, items_at}
-use Rattle.kd_sheet.proofs.Prelude.{DaysAreTheEntries, IsMonth, Takes, day_of, month_of, day_for, day_in}
-use Rattle.kd_sheet.proofs.Prelude.{number_of_item, sheet_in, day_behind, days_of, BadValue, numbered_here}
-use Rattle.kd_sheet.proofs.Prelude.{numbered_other, Day, IsDayNumber, day_number, data_of_table, Data, Members}
-use Rattle.kd_sheet.proofs.Prelude.{as_table, table, view, Value, range_with_len}
+use Rattle.kd_sheet.proofs.Prelude.{AllOfLen, list_any, option_and_then, option_copied, option_or, in_turn, items_at}
+use Rattle.kd_sheet.proofs.Prelude.{DaysAreTheEntries, IsMonth, day_of, month_of, day_for, day_in, sheet_in, BadValue}
+use Rattle.kd_sheet.proofs.Prelude.{numbered_here, numbered_other, Day, IsDayNumber, OfPins, OfRotors, day_number}
+use Rattle.kd_sheet.proofs.Prelude.{data_of_table, Data, Members, as_table, table, view, Value}
 use Rattle.kd_sheet.specs.declared.key.Key.TheVariants as keys
-use Rattle.kd_sheet.proofs.Bounds.{day_number_within}
-use Rattle.kd_sheet.proofs.InTurn.{same_found, given, there_was, read_more, keeps}
+use Rattle.kd_sheet.proofs.InTurn.{Gives, same_found, given, there_was, read_more, keeps}
 use Rattle.kd_sheet.proofs.Legal.{Tells, described}
 
 -- the day has the number
@@ -33,6 +31,15 @@ day_of_month days (suc place) is =
     ap (option_and_then (λ d. d)) (slice_get-get_or (month_of days) place None within)
     ∙ get_or-map-range_with_len f 1 31 place (suc place) None (omega arith) (omega arith)
 
+-- one of the days has the number where one is found
+any_found : (days : List Day) (number : ℕ) → is_some (find (has number) days) ≡ list_any (has number) days
+any_found [] number = refl
+any_found (day ∷ days) number = grind (arith, cases_Bool, has, any_found days number)
+
+pub taken : (days : List Day) (number : ℕ) → IsDayNumber number
+    → is_some (day_of (month_of days) number) ≡ list_any (has number) days
+taken days number is = rw (day_of_month days number is) (any_found days number)
+
 -- a month has no day but at its numbers
 within_month : (days : List Day) (number : ℕ) (day : Day) → day_of (month_of days) number ≡ Some day
     → IsDayNumber number
@@ -41,31 +48,24 @@ within_month days (suc place) day e = grind (arith, slice_get_cases (month_of da
 
 -- there is no day in an empty month
 pub empty_month : IsMonth (month_of [])
-empty_month = record {
-  count = refl;
-  each = λ number day e. absurd (none-some day (sym (day_of_month [] number (within_month [] number day e)) ∙ e));
-}
+empty_month = record { count = refl; each = λ number day e. grind (arith, within_month [] number day, day_of_month []) }
 
 -- 31 places without a day
 pub blank_month : (month : List (Option Day)) → AllOfLen (λ day. day ≡ None) month 31 → month ≡ month_of []
 blank_month month blank = grind (arith, same_lists, blank.at, get_or-map-range_with_len)
 
 -- a day is put at its number
-put_at : (month : List (Option Day)) (new : Day) → IsMonth month → 1 ≤ day_number new → day_number new ≤ 31
-    → IsMonth (set month (day_number new - 1) (Some new))
-put_at month new before first last = record {
-  count = length-set month (day_number new - 1) (Some new) ∙ before.count;
-  each = λ number day e. elim (cases_Bool (nat_eq number (day_number new))) [
-    | inl same ↦ grind (arith, eqb-true, numbered_here, same_Some, before.count)
-    | inr differs ↦ grind (arith, eqb-false, numbered_other, before.each)
-  ];
-}
-
 pub put_day : (month : List (Option Day)) (place : ℕ) (new : Day) → IsMonth month → place + 1 ≡ day_number new → place < 31
     → IsMonth (set month place (Some new))
 put_day month place new before here left =
     let at : day_number new - 1 ≡ place = omega arith in
-    subst (λ p. IsMonth (set month p (Some new))) at (put_at month new before (omega arith) (omega arith))
+    subst (λ p. IsMonth (set month p (Some new))) at (record {
+      count = length-set month (day_number new - 1) (Some new) ∙ before.count;
+      each = λ number day e. elim (cases_Bool (nat_eq number (day_number new))) [
+        | inl same ↦ grind (arith, eqb-true, numbered_here, same_Some, before.count)
+        | inr differs ↦ grind (arith, eqb-false, numbered_other, before.each)
+      ];
+    })
 
 -- the day that is found has the number
 pub found_number : (month : List (Option Day)) (number : ℕ) (found : Option (Bor Day)) → IsMonth month
@@ -77,83 +77,67 @@ pub number_of_found : (month : List (Option Day)) (number : ℕ) (found : Option
 number_of_found month number found e d = grind arith
 
 -- one more day, of a number that none has
-or_none : {X : Type 0} (o : Option X) → option_or o None ≡ o
-or_none o = grind arith
+none_found : (days : List Day) (number : ℕ) → list_any (has number) days ≡ false → find (has number) days ≡ None
+none_found days number free = grind (arith, any_found days number)
 
-module _ {X : Type 0} (f g : ℕ → X) where
-  same_map : (first count : ℕ) → ((n : ℕ) → first ≤ n → g n ≡ f n)
-      → map f (range_with_len first count) ≡ map g (range_with_len first count)
-  same_map first zero same = refl
-  same_map first (suc count) same =
-      rw (same first (omega arith), same_map (first + 1) count (λ n low. same n (omega arith))) refl
+one_found : (days : List Day) (new : Day) (number : ℕ) → number ≡ day_number new → list_any (has (day_number new)) days ≡ false
+    → find (has number) (days ++ new ∷ []) ≡ Some new
+one_found days new number same free = grind (arith, find-append, none_found, eq-eqb)
 
-  -- where the functions differ in one number
-  set_map : (first count place : ℕ) (x : X) → place < count → g (first + place) ≡ x
-      → ((n : ℕ) → n ≢ first + place → g n ≡ f n)
-      → set (map f (range_with_len first count)) place x ≡ map g (range_with_len first count)
-  set_map first zero place x left here same = absurd (omega arith)
-  set_map first (suc count) zero x left here same =
-      let at : first + 0 ≡ first = omega arith in
-      rw (same_map (first + 1) count (λ n low. same n (λ e. omega arith)), ← here, at) refl
-  set_map first (suc count) (suc place) x left here same =
-      let at : first + suc place ≡ first + 1 + place = omega arith in
-      rw (same first (λ e. omega arith), set_map (first + 1) count place x (omega arith) (rw at at here) (rw at at same)) refl
+other_found : (days : List Day) (new : Day) (number : ℕ) → number ≢ day_number new
+    → find (has number) (days ++ new ∷ []) ≡ find (has number) days
+other_found days new number differs = grind (arith, find-append, ne_eqb)
 
-month_more : (days : List Day) (new : Day) → IsDayNumber (day_number new) → find (has (day_number new)) days ≡ None
+month_more : (days : List Day) (new : Day) → IsDayNumber (day_number new) → list_any (has (day_number new)) days ≡ false
     → set (month_of days) (day_number new - 1) (Some new) ≡ month_of (days ++ new ∷ [])
 month_more days new is free =
-    let at : 1 + (day_number new - 1) ≡ day_number new = omega (arith, is.first) in
-    set_map (λ n. find (has n) days) (λ n. find (has n) (days ++ new ∷ [])) 1 31 (day_number new - 1) (Some new)
-    (omega (arith, is.last, is.first))
-    (rw (at, find-append, free, eq-eqb (day_number new) (day_number new) refl) refl)
-    (λ n away. rw (find-append, ne_eqb (day_number new) n (λ e. away (sym e ∙ sym at))) (or_none (find (has n) days)))
+    let f : ℕ → Option Day = λ n. find (has n) days in
+    let g : ℕ → Option Day = λ n. find (has n) (days ++ new ∷ []) in
+    let first = is.first in
+    let last = is.last in
+    let count = length-set (month_of days) (day_number new - 1) (Some new) ∙ length-map-range_with_len f 1 31 in
+    same_lists _ _ (count ∙ sym (length-map-range_with_len g 1 31)) (λ k d within.
+    let inside : k < 31 = omega (arith, count) in
+    elim (cases_Bool (nat_eq (k + 1) (day_number new))) [
+      | inl same ↦
+          let here = eqb-true (k + 1) (day_number new) same in
+          get_or-set_at (month_of days) (day_number new - 1) k (Some new) d (omega arith) (omega (arith, length-map-range_with_len f 1 31))
+          ∙ sym (one_found days new (k + 1) here free)
+          ∙ sym (get_or-map-range_with_len g 1 31 k (k + 1) d inside (omega arith))
+      | inr differs ↦
+          let away = eqb-false (k + 1) (day_number new) differs in
+          get_or-set_other (month_of days) (day_number new - 1) k (Some new) d (λ e. away (omega arith))
+          ∙ get_or-map-range_with_len f 1 31 k (k + 1) d inside (omega arith)
+          ∙ sym (other_found days new (k + 1) away)
+          ∙ sym (get_or-map-range_with_len g 1 31 k (k + 1) d inside (omega arith))
+    ])
 
 -- ---- the days of entries
 
 -- an item that is read is the table of an entry
-record IsEntry (taken : List ℕ) (item : Data) (day : Day) : Type 0 where
+record IsEntry (days : List Day) (item : Data) (day : Day) : Type 0 where
   entry : Members
   is : item ≡ table entry
-  tells : Tells taken entry day
+  tells : Tells days entry day
 
-entry_read : (taken : List ℕ) (item : Data) (day : Day) → day_for taken item ≡ Ok day → IsEntry taken item day
+entry_read : (days : List Day) (item : Data) (day : Day) → day_for days item ≡ Ok day → IsEntry days item day
 unfolding day_for
-entry_read taken item day e =
+entry_read days item day e =
     let members = given (ok_or (as_table item) (BadValue keys.Day)) _ day e in
     record {
       entry = members.0;
       is = data_of_table item members.0 (there_was (as_table item) _ members.0 members.1);
-      tells = described taken members.0 day members.2;
+      tells = described days members.0 day members.2;
     }
-
-numbered_item : (taken : List ℕ) (item : Data) (day : Day) → IsEntry taken item day
-    → number_of_item item ≡ Some (day_number day)
-unfolding number_of_item
-numbered_item taken item day entry = rw (entry.is, entry.tells.numbered) refl
 
 -- an entry among the items describes the day of that number
 abbrev IsTold : List Data → ℕ → Day → Type 0
 IsTold items number day = (entry : Members) × Contains items (table entry) × (day_in [] entry ≡ Ok day)
     × (day_number day ≡ number)
 
--- the days have the numbers of the items; each is what an item describes, and no other item has its number
-record AreDays (items : List Data) (days : List Day) : Type 0 where
-  numbers : filter_map number_of_item items ≡ map day_number days
-  told : (number : ℕ) (day : Day) → find (has number) days ≡ Some day → IsTold items number day
-  first : (entry : Members) (day : Day) → Contains items (table entry) → day_in [] entry ≡ Ok day
-      → find (has (day_number day)) days ≡ Some day
-
--- whether one of the days has the number
-number_taken : (days : List Day) (number : ℕ)
-    → is_some (find (has number) days) ≡ list_any (λ other. other == number) (map day_number days)
-number_taken [] number = refl
-number_taken (day ∷ days) number = grind (arith, cases_Bool, has, number_taken days number)
-
-none_has : (days : List Day) (items : List Data) (number : ℕ) → filter_map number_of_item items ≡ map day_number days
-    → list_any (λ other. other == number) (filter_map number_of_item items) ≡ false → find (has number) days ≡ None
-none_has days items number numbers free =
-    let taken = number_taken days number ∙ ap (list_any (λ other. other == number)) (sym numbers) ∙ free in
-    grind arith
+-- what is found among the days is what an entry among the items describes
+abbrev AreDays : List Data → List Day → Type 0
+AreDays items days = (number : ℕ) (day : Day) → (find (has number) days ≡ Some day) ↔ IsTold items number day
 
 or_cases : {X : Type 0} (o p : Option X) (x : X) → option_or o p ≡ Some x → (o ≡ Some x) ⊎ (p ≡ Some x)
 or_cases o p x e = grind arith
@@ -165,15 +149,12 @@ same_table : {entry other : Members} → table entry ≡ table other → entry �
 same_table e = cc
 
 one_more : (items : List Data) (days : List Day) (item : Data) (day : Day) → AreDays items days
-    → day_behind items item ≡ Ok day → AreDays (items ++ item ∷ []) (days ++ day ∷ [])
-one_more items days item day are e =
-    let entry = entry_read _ item day e in
-    let free = none_has days items (day_number day) are.numbers entry.tells.free in
-    record {
-      numbers = rw (filter_map-append, numbered_item _ item day entry, are.numbers, map-append) refl;
-      told = λ number other found. elim (or_cases _ _ other (rw find-append at found)) [
+    → day_for days item ≡ Ok day → AreDays (items ++ item ∷ []) (days ++ day ∷ [])
+one_more items days item day are e number other =
+    let entry = entry_read days item day e in (
+      λ found. elim (or_cases _ _ other (rw find-append at found)) [
         | inl old ↦
-            let before = are.told number other old in
+            let before = (are number other).0 old in
             (before.0, Contains-append_left items (item ∷ []) (table before.0) before.1, before.2, before.3)
         | inr new ↦
             let only = only_found (has number) day other new in (
@@ -182,36 +163,37 @@ one_more items days item day are e =
               entry.tells.alone ∙ ap Ok only.1,
               ap day_number (sym only.1) ∙ eqb-true (day_number day) number only.0,
             )
-      ];
-      first = λ members other there is. elim (Contains-push_cases items item (table members) there) [
-        | inl old ↦ rw (find-append, are.first members other old is) refl
-        | inr here ↦ grind (arith, same_table, find-append, cases_Bool, eq-eqb, entry.is, entry.tells.alone)
-      ];
-    }
+      ],
+      λ told. elim (Contains-push_cases items item (table told.0) told.1) [
+        | inl old ↦ rw (find-append, (are number other).1 (told.0, old, told.2, told.3)) refl
+        | inr here ↦ grind (arith, same_table, one_found, entry.is, entry.tells.alone, entry.tells.free)
+      ],
+    )
 
-are_days : (items : List Data) (days : List Day) → days_of items ≡ Ok days → AreDays items days
-are_days items days e = keeps day_behind AreDays one_more items days (record {
-  numbers = refl;
-  told = λ number day found. absurd (none-some day found);
-  first = λ entry day there is. absurd (omega (arith, there.1));
-}) e
+are_days : (items : List Data) → Gives (in_turn day_for items) (AreDays items)
+are_days = keeps day_for AreDays (λ number day. (
+  λ found. absurd (none-some day found),
+  λ told. absurd (omega (arith, told.1.1)),
+)) one_more
+
+numbered : (entry : Members) (day : Day) → day_in [] entry ≡ Ok day → IsDayNumber (day_number day)
+numbered entry (OfRotors s) e = (described [] entry (OfRotors s) e).legal.day
+numbered entry (OfPins s) e = (described [] entry (OfPins s) e).legal.day
 
 pub days_are_the_entries : DaysAreTheEntries
 unfolding sheet_in
 days_are_the_entries members items month number day at e =
     let all = given (items_at keys.Day members) _ month e in
-    let days = given (days_of all.0) _ month all.2 in
+    let days = given (in_turn day_for all.0) _ month all.2 in
     let is : all.0 ≡ items = same_found _ _ (sym all.1 ∙ at) in
-    let are : AreDays items days.0 = subst (λ items. AreDays items days.0) is (are_days all.0 days.0 days.1) in
+    let are = subst (λ xs. AreDays xs days.0) is (are_days all.0 days.0 days.1) number day in
     let same : month_of days.0 ≡ month = same_found _ _ days.2 in (
       λ found.
           let here = ap (λ m. day_of m number) same ∙ found in
-          are.told number day (sym (day_of_month days.0 number (within_month days.0 number day here)) ∙ here),
-      λ entry.
-          let within = subst IsDayNumber entry.3 (day_number_within entry.0 (day_number day)
-          (described [] entry.0 day entry.2).numbered) in
-          ap (λ m. day_of m number) (sym same) ∙ day_of_month days.0 number within
-          ∙ subst (λ n. find (has n) days.0 ≡ Some day) entry.3 (are.first entry.0 day entry.1 entry.2),
+          are.0 (sym (day_of_month days.0 number (within_month days.0 number day here)) ∙ here),
+      λ told.
+          ap (λ m. day_of m number) (sym same)
+          ∙ day_of_month days.0 number (subst IsDayNumber told.3 (numbered told.0 day told.2)) ∙ are.1 told,
     )
 
 -- ---- a sheet that is read
@@ -219,26 +201,18 @@ days_are_the_entries members items month number day at e =
 -- the sheet has the days of these items
 pub record IsMonthOf (sheet : List (Option Day)) (items : List Data) : Type 0 where
   pub days : List Day
-  pub read : days_of items ≡ Ok days
+  pub read : in_turn day_for items ≡ Ok days
   pub month : sheet ≡ month_of days
 
--- the numbers that are taken
-pub taken_so_far : (sheet : List (Option Day)) (items : List Data) → IsMonthOf sheet items
-    → Takes sheet (filter_map number_of_item items)
-taken_so_far sheet items so_far number is =
-    rw (so_far.month, (are_days items so_far.days so_far.read).numbers, day_of_month so_far.days number is)
-    (number_taken so_far.days number)
-
 pub next_month : (sheet after : List (Option Day)) (items : List Value) (place : ℕ) (item : Value) (new : Day)
-    → place < length items → item ≡ get_or items place item
-    → Ok new ≡ day_behind (take place (map view items)) (view item) → after ≡ set sheet (day_number new - 1) (Some new)
-    → IsMonthOf sheet (take place (map view items)) → IsMonthOf after (take (place + 1) (map view items))
-next_month sheet after items place item new left here found put so_far =
-    let entry = entry_read _ (view item) new (sym found) in
-    let are = are_days _ so_far.days so_far.read in
+    → place < length items → item ≡ get_or items place item → (so_far : IsMonthOf sheet (take place (map view items)))
+    → Ok new ≡ day_for so_far.days (view item) → after ≡ set sheet (day_number new - 1) (Some new)
+    → IsMonthOf after (take (place + 1) (map view items))
+next_month sheet after items place item new left here so_far found put =
+    let entry = entry_read so_far.days (view item) new (sym found) in
     record {
       days = so_far.days ++ new ∷ [];
-      read = read_more day_behind items place item left here so_far.days so_far.read new found;
+      read = read_more day_for items place item left here so_far.days so_far.read new found;
       month = put ∙ ap (λ month. set month (day_number new - 1) (Some new)) so_far.month
-          ∙ month_more so_far.days new (day_number_within _ _ entry.tells.numbered) (none_has so_far.days _ _ are.numbers entry.tells.free);
+          ∙ month_more so_far.days new (numbered entry.entry new entry.tells.alone) entry.tells.free;
     }

@@ -1,30 +1,29 @@
 -- What is written of the parts of a machine, or of a day, is read as just these; and each legal day is described by a table.
-use Rattle.kd_sheet.proofs.Prelude.{List, None, Ok, Option, Result, Some, [], ap, append_assoc, arith, cond, false}
-use Rattle.kd_sheet.proofs.Prelude.{length, map, nat_eq, nat_le, nat_lt, ok_or, pos, refl, replicate, rules, slice_get}
-use Rattle.kd_sheet.proofs.Prelude.{suc, sym, true, zero, ℕ, ◌++◌, ◌+◌, ◌<◌, ◌==◌, ◌∙◌, ◌∷◌, ◌≡◌, ◌≤◌, and-false}
-use Rattle.kd_sheet.proofs.Prelude.{or-true, cases_eq, eq-eqb, false_from_ne_true, le-leb, lt-ltb, ne_eqb, common_steps}
-use Rattle.kd_sheet.proofs.Prelude.{append-nil, length-map, flat_map-append, All-map, All-weaker, filter_map-append}
-use Rattle.kd_sheet.proofs.Prelude.{recursion_from_All, none-some, slice_get-get_or, IsDistinct, AllByRecursion}
-use Rattle.kd_sheet.proofs.Prelude.{flat_map, list_all, PinSet, all_cables_in, cable_for, letters_of_item, pairs_in}
-use Rattle.kd_sheet.proofs.Prelude.{plugged_letters_in, are_new, cable_behind, cable_of, cables_of, may_have, pairs_of}
-use Rattle.kd_sheet.proofs.Prelude.{plugged_by, thirteen, thirteen_of, all_values, demand, given_earlier, items_at}
-use Rattle.kd_sheet.proofs.Prelude.{items_in, value_at, ◌>>=◌, ◌>>◌, row_of_text, rows_in, may_read, row_for, key_name}
-use Rattle.kd_sheet.proofs.Prelude.{capital_letters, model_in, reflector_in, cable_text, pin_texts, seat_text}
-use Rattle.kd_sheet.proofs.Prelude.{reflector_by_name, standing_by_text, wheel_by_name, number_to, letters_on_wheels}
-use Rattle.kd_sheet.proofs.Prelude.{pins_in, pins_of_item, shown_in, is_seated, seat_for, seat_of_item, seats_in}
-use Rattle.kd_sheet.proofs.Prelude.{wheel_for, wheel_of_item, may_be_empty, seat_behind, all_groups_in, day_in}
+use Rattle.kd_sheet.proofs.Prelude.{List, None, Ok, Option, Result, Some, [], ap, append_assoc, arith, false, length}
+use Rattle.kd_sheet.proofs.Prelude.{map, nat_eq, ok_or, pos, refl, rules, slice_get, sym, true, ℕ, ◌++◌, ◌+◌, ◌<◌, ◌==◌}
+use Rattle.kd_sheet.proofs.Prelude.{◌∙◌, ◌∷◌, ◌≡◌, ◌≤◌, and-false, or-true, cases_eq, eq-eqb, false_from_ne_true}
+use Rattle.kd_sheet.proofs.Prelude.{le-leb, ne_eqb, common_steps, append-nil, length-map, flat_map-append, All-map}
+use Rattle.kd_sheet.proofs.Prelude.{All-weaker, filter_map-append, recursion_from_All, IsPermutation-append_comm}
+use Rattle.kd_sheet.proofs.Prelude.{IsPermutation-append_left, IsPermutation-trans, IsDistinct-IsPermutation, gets}
+use Rattle.kd_sheet.proofs.Prelude.{slice_get-get_or, slice_get_within, IsDistinct, AllByRecursion, list_all, PinSet}
+use Rattle.kd_sheet.proofs.Prelude.{all_cables_in, cable_for, pairs_in, plugged_letters_in, cable_of, may_have}
+use Rattle.kd_sheet.proofs.Prelude.{pairs_of, thirteen, each_at, in_turn, items_at, items_in, up_to, value_at}
+use Rattle.kd_sheet.proofs.Prelude.{row_of_text, rows_in, may_read, row_for, key_name, capital_letters, model_in}
+use Rattle.kd_sheet.proofs.Prelude.{reflector_in, cable_text, pin_texts, seat_text, reflector_by_name, standing_by_text}
+use Rattle.kd_sheet.proofs.Prelude.{number_to, letters_on_wheels, pins_in, pins_of_item, shown_in, is_seated, seat_for}
+use Rattle.kd_sheet.proofs.Prelude.{seat_of_item, seats_in, wheel_for, may_be_empty, all_groups_in, day_in}
 use Rattle.kd_sheet.proofs.Prelude.{group_of_item, groups_in, list_in, model_day_in, number_in, pin_day_in, rings_in}
-use Rattle.kd_sheet.proofs.Prelude.{rotor_day_in, window_in, group_for, sheet_wheels, SheetFault, BadValue}
-use Rattle.kd_sheet.proofs.Prelude.{UnknownModel, Key, has_reflector-Decides, has_wheel-Decides, has_reflector}
-use Rattle.kd_sheet.proofs.Prelude.{AreAllowed, AreApart, AreLetters, AreOnWheels, HasAllPins, cable_letters}
-use Rattle.kd_sheet.proofs.Prelude.{plugged_letters, has_letter, AreSeated, Day, HasLetters, IsDayNumber, IsLegalDay}
-use Rattle.kd_sheet.proofs.Prelude.{IsLegalPinDay, IsLegalRotorDay, OfPins, OfRotors, PinDay, RotorDay, seats}
-use Rattle.kd_sheet.proofs.Prelude.{SheetWheel, IsBefore, IsReading, place_rank, reading_text, standing_text}
-use Rattle.kd_sheet.proofs.Prelude.{letters_of, model_text, reflector_text, reflectors_of, slots_of, wheel_text}
-use Rattle.kd_sheet.proofs.Prelude.{is_capital, letters_text, Model, M209, Place, Reflector, Wheel, Data, Members}
-use Rattle.kd_sheet.proofs.Prelude.{array, integer, member, no_members, string, items_of}
+use Rattle.kd_sheet.proofs.Prelude.{rotor_day_in, window_in, group_for, sheet_wheels, SheetFault, UnknownModel, Key}
+use Rattle.kd_sheet.proofs.Prelude.{letters_plugged, eqb_flips, new_tells, has_reflector-Decides, has_wheel-Decides}
+use Rattle.kd_sheet.proofs.Prelude.{has_reflector, AreAllowed, AreApart, AreLetters, AreOnWheels, HasAllPins}
+use Rattle.kd_sheet.proofs.Prelude.{cable_letters, plugged_letters, are_new, AreSeated, Day, HasLetters, IsDayNumber}
+use Rattle.kd_sheet.proofs.Prelude.{IsLegalDay, IsLegalPinDay, IsLegalRotorDay, OfPins, OfRotors, PinDay, RotorDay}
+use Rattle.kd_sheet.proofs.Prelude.{seats, SheetWheel, IsBefore, IsReading, reading_text, standing_text, letters_of}
+use Rattle.kd_sheet.proofs.Prelude.{model_text, reflector_text, reflectors_of, slots_of, wheel_text, is_capital}
+use Rattle.kd_sheet.proofs.Prelude.{letters_text, Model, M209, Place, Reflector, Wheel, Data, Members, array, integer}
+use Rattle.kd_sheet.proofs.Prelude.{member, no_members, string, items_of}
 use Rattle.kd_sheet.specs.declared.key.Key.TheVariants as keys
-use Rattle.kd_sheet.proofs.CableLetters.{letters_joined}
+use Rattle.kd_sheet.proofs.CableLetters.{none_in, two_letters}
 use Rattle.kd_sheet.proofs.Documents.{list_of-items_of}
 use Rattle.kd_sheet.proofs.InTurn.{then_read, passing, read_again, at_joined, again, each_again}
 use Rattle.kd_sheet.proofs.Legal.{day_again}
@@ -42,20 +41,23 @@ pub texts_read : {X : Type 0} (key : Key) (text_of : X → List ℕ) (things : L
     → items_in key (texts text_of things) ≡ Ok (map (λ x. string (text_of x)) things)
 texts_read key text_of things = ap Ok (list_of-items_of (map (λ x. string (text_of x)) things))
 
-pub texts_at : {X : Type 0} (key : Key) (table : Members) (text_of : X → List ℕ) (things : List X)
+texts_at : {X : Type 0} (key : Key) (table : Members) (text_of : X → List ℕ) (things : List X)
     → value_at key table ≡ Ok (texts text_of things) → items_at key table ≡ Ok (map (λ x. string (text_of x)) things)
 texts_at key table text_of things there = search (rules, then_read, value_at, texts_read)
 
--- an array of a fixed number of texts, each of which is read as its value
-pub counted_again : {X A : Type 0} (key : Key) (table : Members) (count : ℕ) (text_of : X → List ℕ) (things : List X)
-    (reading : List Data → Data → Result A SheetFault) (values : List A)
-    → value_at key table ≡ Ok (texts text_of things) → length things ≡ count
-    → all_values (given_earlier reading (map (λ x. string (text_of x)) things)) ≡ Ok values
-    → (items_at key table >>=
-    (λ items. demand (length items == count) (BadValue key) >> all_values (given_earlier reading items)))
-    ≡ Ok values
-counted_again key table count text_of things reading values there counted read =
-    grind (arith, common_steps, eq-eqb, then_read, items_at, texts_at, passing, read)
+-- an array of so many texts, and one of so many at most, of which each is read as its value
+module _ {X A : Type 0} (key : Key) (count : ℕ) (text_of : X → List ℕ) (things : List X)
+    (reading : List A → Data → Result A SheetFault) (values : List A)
+    (read : in_turn reading (map (λ x. string (text_of x)) things) ≡ Ok values) where
+  pub each_at_again : (table : Members) → value_at key table ≡ Ok (texts text_of things) → length things ≡ count
+      → each_at key count reading table ≡ Ok values
+  each_at_again table there counted =
+      grind (arith, common_steps, eq-eqb, then_read, items_at, texts_at, passing, read)
+
+  pub up_to_again : length things ≤ count → up_to key count reading (texts text_of things) ≡ Ok values
+  up_to_again few =
+      let items = map (λ x. string (text_of x)) things in
+      rw (list_of-items_of items, le-leb (length items) count (omega (arith, few, length-map things (λ x. string (text_of x))))) read
 
 -- ---- letters
 
@@ -89,23 +91,15 @@ MayStand key (Some wheel) = Unit {0}
 abbrev seat_item : Option Wheel → Data
 seat_item seat = string (seat_text seat)
 
-seats_named : (slots : List (Option Wheel)) → map wheel_of_item (map seat_item slots) ≡ slots
-unfolding wheel_of_item wheel_by_name
-seats_named [] = refl
-seats_named (seat ∷ slots) = grind (arith, wheel_by_name-text, seats_named slots)
-
 has_name : (wheel : Wheel) → (length (wheel_text wheel) == 0) ≡ false
 has_name wheel = grind arith
 
 stands_behind : {X : Type 0} (front rest : List X) (x : X) → slice_get (front ++ x ∷ rest) (length front) ≡ Some x
-stands_behind [] rest x = refl
-stands_behind (y ∷ front) rest x = stands_behind front rest x
+stands_behind front rest x = grind (arith, common_steps, gets)
 
 stands_before : {X : Type 0} (front rest : List X) (place : ℕ) (x : X) → slice_get front place ≡ Some x
     → slice_get (front ++ rest) place ≡ Some x
-stands_before [] rest place x at = absurd (none-some x at)
-stands_before (y ∷ front) rest zero x at = at
-stands_before (y ∷ front) rest (suc place) x at = stands_before front rest place x at
+stands_before front rest place x at = grind (arith, common_steps, gets, slice_get_within)
 
 seat_again : (key : Key) (model : Model) (slots rest : List (Option Wheel)) (seat : Option Wheel) → MayStand key seat
     → AreAllowed model (slots ++ seat ∷ rest) → AreApart (slots ++ seat ∷ rest)
@@ -128,10 +122,11 @@ pub seats_in_again : (key : Key) (model : Model) (table : Members) (slots : List
     → seats_in key model table ≡ Ok slots
 unfolding seats_in
 seats_in_again key model table slots there may seated =
-    counted_again key table (slots_of model) seat_text slots (seat_behind key model) slots there seated.count
-    (again (seat_behind key model) seat_item slots (λ front rest seat is.
-    rw (seats_named front) (seat_again key model front rest seat (at_joined (MayStand key) front seat rest (rw is at may))
-    (rw is at seated.allowed) (rw is at seated.apart))))
+    each_at_again key (slots_of model) seat_text slots (seat_of_item key model) slots
+    (again (seat_of_item key model) seat_item slots (λ front rest seat is.
+    seat_again key model front rest seat (at_joined (MayStand key) front seat rest (rw is at may))
+    (rw is at seated.allowed) (rw is at seated.apart)))
+    table there seated.count
 
 -- ---- cables
 
@@ -148,47 +143,40 @@ MayPlug key cable = may_have key (length (cable_letters cable)) ≡ true
 
 cable_spelled : (key : Key) (cable : Option ℕ × Option ℕ) → MayPlug key cable
     → AllByRecursion (λ letter. letter < 26) (cable_letters cable)
-    → letters_of_item key (cable_item cable) ≡ Some (cable_letters cable)
-unfolding letters_of_item plugged_letters_in
+    → plugged_letters_in key (cable_text cable) ≡ Some (cable_letters cable)
+unfolding plugged_letters_in
 cable_spelled key cable may within = grind (arith, letters_spelled, within)
 
-new_behind : (front : List ℕ) (letter : ℕ) (rest : List ℕ) → IsDistinct nat_eq (front ++ letter ∷ rest)
-    → has_letter front letter ≡ false
-unfolding IsDistinct
-new_behind [] letter rest apart = refl
-new_behind (x ∷ front) letter rest apart =
-    rw (at_joined (λ y. nat_eq x y ≡ false) front letter rest apart.0, new_behind front letter rest apart.1) refl
-
+-- letters that lie in one place, among others, are new behind the first of these
 new_letters : (plugged letters rest : List ℕ) → IsDistinct nat_eq (plugged ++ (letters ++ rest))
-    → are_new plugged letters ≡ true
-new_letters plugged [] rest apart = refl
-new_letters plugged (letter ∷ letters) rest apart =
-    grind (arith, append_assoc, new_behind, new_letters (plugged ++ letter ∷ []) letters rest)
+    → are_new letters plugged ≡ true
+new_letters plugged letters rest apart =
+    let moved = IsPermutation-trans _ _ _ (IsPermutation-append_comm plugged (letters ++ rest))
+    (IsPermutation-append_left plugged _ _ (IsPermutation-append_comm letters rest)) in
+    let behind = (new_tells rest (letters ++ plugged)).0
+    (IsDistinct-IsPermutation nat_eq eqb_flips _ _ (rw append_assoc at moved) apart) in
+    ((new_tells letters plugged).0 behind.1).0
 
 pub all_parts : {X : Type 0} (P : X → Type 0) (xs ys : List X) → AllByRecursion P (xs ++ ys)
     → AllByRecursion P xs × AllByRecursion P ys
 all_parts P [] ys all = (tt, all)
 all_parts P (x ∷ xs) ys all = let rest = all_parts P xs ys all.1 in ((all.0, rest.0), rest.1)
 
--- the letters that the cables' texts plug
-all_plugged : (key : Key) (cables : List (Option ℕ × Option ℕ)) → AllByRecursion (MayPlug key) cables
-    → AllByRecursion (λ letter. letter < 26) (plugged_letters cables)
-    → flat_map (plugged_by key) (map cable_item cables) ≡ plugged_letters cables
-all_plugged key [] may within = refl
-all_plugged key (cable ∷ cables) may within = grind (arith, cable_spelled, all_parts, all_plugged key cables)
+same_letters : (cables : List (Option ℕ × Option ℕ)) → plugged_letters (map single_first cables) ≡ plugged_letters cables
+same_letters [] = refl
+same_letters (cable ∷ cables) = grind (arith, same_letters cables)
 
 cables_again : (key : Key) (cables : List (Option ℕ × Option ℕ)) → AllByRecursion (MayPlug key) cables
     → AllByRecursion (λ letter. letter < 26) (plugged_letters cables) → IsDistinct nat_eq (plugged_letters cables)
-    → cables_of key (map cable_item cables) ≡ Ok (map single_first cables)
+    → in_turn (cable_for key) (map cable_item cables) ≡ Ok (map single_first cables)
 unfolding cable_for
 cables_again key cables may within apart =
-    read_again (cable_behind key) cable_item single_first cables (λ front rest cable is.
-    let all_may = all_parts (MayPlug key) front (cable ∷ rest) (rw is at may) in
+    read_again (cable_for key) cable_item single_first cables (λ front rest cable is.
     let letters : plugged_letters cables ≡ plugged_letters front ++ (cable_letters cable ++ plugged_letters rest) = rw (is, flat_map-append) refl in
     let lie = all_parts (λ letter. letter < 26) (plugged_letters front) _ (rw letters at within) in
     rw (
-      all_plugged key front all_may.0 lie.0,
-      cable_spelled key cable all_may.1.0 (all_parts (λ letter. letter < 26) _ _ lie.1).0,
+      same_letters front,
+      cable_spelled key cable (at_joined (MayPlug key) front cable rest (rw is at may)) (all_parts (λ letter. letter < 26) _ _ lie.1).0,
       new_letters (plugged_letters front) (cable_letters cable) (plugged_letters rest) (rw letters at apart),
     ) refl)
 
@@ -198,14 +186,8 @@ pub all_cables_again : (key : Key) (cables : List (Option ℕ × Option ℕ)) �
     → all_cables_in key (texts cable_text cables) ≡ Ok (thirteen (map single_first cables))
 unfolding all_cables_in
 all_cables_again key cables few may within apart =
-    let items = map cable_item cables in
-    let room : nat_le (length items) 13 ≡ true = le-leb _ _ (omega (arith, length-map cables cable_item)) in
-    then_read (items_in key (texts cable_text cables))
-    (λ items. demand (nat_le (length items) 13) (BadValue key) >> thirteen_of key items) items _
-    (texts_read key cable_text cables)
-    (passing (nat_le (length items) 13) (BadValue key) _ _ room
-    (then_read (cables_of key items) (λ cables. Ok (thirteen cables)) (map single_first cables) _
-    (cables_again key cables may within apart) refl))
+    then_read (up_to key 13 (cable_for key) (texts cable_text cables)) (λ cables. Ok (thirteen cables)) (map single_first cables) _
+    (up_to_again key 13 cable_text cables (cable_for key) _ (cables_again key cables may within apart) few) refl
 
 -- ---- pins and bars
 
@@ -213,19 +195,11 @@ pub pins_in_again : (table : Members) (pins : PinSet)
     → value_at keys.Pins table ≡ Ok (texts (λ text. text) (pin_texts pins))
     → HasAllPins pins → pins_in table ≡ Ok pins
 unfolding pins_in pins_of_item
-pins_in_again table pins there fit = grind (arith, pins_back, fit, then_read, items_at, texts_at)
-
--- a text finds the standing that has it, if the left lug's place is the first
-abbrev Found : Place → Place → Type 0
-Found left right = standing_by_text (standing_text (left, right))
-    ≡ cond (nat_lt (place_rank left) (place_rank right)) (Some (left, right)) None
-
-standing_found : (left right : Place) → Found left right
-unfolding standing_by_text
-standing_found left right = grind arith
+pins_in_again table pins there fit = grind (arith, pins_back, fit, then_read, items_at, texts_read)
 
 pub standing_again : (bar : Place × Place) → IsBefore bar.0 bar.1 → standing_by_text (standing_text bar) ≡ Some bar
-standing_again bar before = grind (arith, standing_found, lt-ltb, before)
+unfolding standing_by_text
+standing_again bar before = grind arith
 
 -- ---- wheels
 
@@ -243,20 +217,16 @@ two_each : (pairs : List (ℕ × ℕ)) → AllByRecursion (MayPlug keys.Plugs) (
 two_each [] = tt
 two_each (pair ∷ pairs) = (refl, two_each pairs)
 
-pairs_plugged : (pairs : List (ℕ × ℕ)) → plugged_letters (map pair_cable pairs) ≡ letters_joined pairs
+pairs_plugged : (pairs : List (ℕ × ℕ)) → plugged_letters (map pair_cable pairs) ≡ letters_plugged pairs
 pairs_plugged [] = refl
 pairs_plugged (pair ∷ pairs) = ap (λ rest. pair.0 ∷ pair.1 ∷ rest) (pairs_plugged pairs)
-
-no_pairs : (n : ℕ) → pairs_of (replicate n (None, None)) ≡ []
-no_pairs zero = refl
-no_pairs (suc n) = no_pairs n
 
 pairs_joined_again : (pairs : List (ℕ × ℕ)) → pairs_of (map single_first (map pair_cable pairs)) ≡ pairs
 pairs_joined_again [] = refl
 pairs_joined_again (pair ∷ pairs) = ap (λ rest. pair ∷ rest) (pairs_joined_again pairs)
 
 pairs_found : (pairs : List (ℕ × ℕ)) → pairs_of (thirteen (map single_first (map pair_cable pairs))) ≡ pairs
-pairs_found pairs = rw (filter_map-append, pairs_joined_again pairs, no_pairs) (append-nil pairs)
+pairs_found pairs = rw (filter_map-append, pairs_joined_again pairs, (none_in _).1) (append-nil pairs)
 
 -- ---- rows
 
@@ -307,7 +277,7 @@ unfolding pairs_in
 pairs_in_again s legal =
     grind (arith, common_steps, pairs_plugged, then_read, all_cables_again, two_each, recursion_from_All, pairs_found)
 
-group_again : (earlier : List Data) (group : List ℕ) → AreLetters 3 group
+group_again : (earlier : List (List ℕ)) (group : List ℕ) → AreLetters 3 group
     → group_for earlier (string (letters_text group)) ≡ Ok group
 unfolding group_of_item
 group_again earlier group are = rw (capitals_again 3 group are) refl
@@ -315,14 +285,9 @@ group_again earlier group are = rw (capitals_again 3 group are) refl
 groups_in_again : (s : RotorDay) → IsLegalRotorDay s → groups_in (rotor_table s) ≡ Ok s.groups
 unfolding groups_in all_groups_in
 groups_in_again s legal =
-    let items = map (λ group. string (letters_text group)) s.groups in
-    let few : nat_le (length items) 4 ≡ true =
-    le-leb _ _ (omega (arith, length-map s.groups (λ (group : List ℕ). string (letters_text group)), legal.few_groups)) in
-    then_read (items_in keys.Groups (texts letters_text s.groups))
-    (λ items. demand (nat_le (length items) 4) (BadValue keys.Groups) >> all_values (given_earlier group_for items)) items _
-    (texts_read keys.Groups letters_text s.groups)
-    (passing (nat_le (length items) 4) (BadValue keys.Groups) _ _ few
-    (each_again group_for (λ group. string (letters_text group)) (AreLetters 3) group_again s.groups legal.groups))
+    up_to_again keys.Groups 4 letters_text s.groups group_for s.groups
+    (each_again group_for (λ group. string (letters_text group)) (AreLetters 3) group_again s.groups
+    (recursion_from_All (AreLetters 3) _ legal.groups)) legal.few_groups
 
 -- what each wheel has, the ring or the letter in the window
 parts_are : (s : RotorDay) → IsLegalRotorDay s → (part : SheetWheel → ℕ)
@@ -337,22 +302,17 @@ rotor_again : (s : RotorDay) → IsLegalRotorDay s → rotor_day_in s.day s.mode
 unfolding rotor_day_in reflector_in rings_in window_in
 rotor_again s legal =
     let has = (has_reflector-Decides (reflectors_of s.model) s.reflector).1 legal.reflector in
-    rw (
-      reflector_again s.model s.reflector has,
-      seats_in_again keys.Wheels s.model (rotor_table s) (seats s.wheels) refl (all_seated s.wheels) legal.wheels,
-      capitals_again _ _ (parts_are s legal (λ w. w.ring) (λ w has. has.ring)),
-      capitals_again _ _ (parts_are s legal (λ w. w.letter) (λ w has. has.letter)),
-      pairs_in_again s legal,
-      groups_in_again s legal,
-      wheels_again s.wheels,
-    ) refl
+    let wheels = seats_in_again keys.Wheels s.model (rotor_table s) (seats s.wheels) refl (all_seated s.wheels) legal.wheels in
+    let rings = capitals_again _ _ (parts_are s legal (λ w. w.ring) (λ w has. has.ring)) in
+    let letters = capitals_again _ _ (parts_are s legal (λ w. w.letter) (λ w has. has.letter)) in
+    grind (arith, then_read, reflector_again, pairs_in_again, groups_in_again, wheels_again)
 
 rows_in_again : (s : PinDay) → IsLegalPinDay s → rows_in (pin_table s) ≡ Ok s.rows
 unfolding rows_in
 rows_in_again s legal =
-    counted_again keys.Rows (pin_table s) 27 reading_text s.rows row_for s.rows refl legal.count
+    each_at_again keys.Rows 27 reading_text s.rows row_for s.rows
     (each_again row_for (λ row. string (reading_text row)) IsReading (λ earlier row is. rw (row_again row is) refl)
-    s.rows legal.rows)
+    s.rows (recursion_from_All IsReading _ legal.rows)) (pin_table s) refl legal.count
 
 pin_again : (s : PinDay) → IsLegalPinDay s → pin_day_in s.day (pin_table s) ≡ Ok (OfPins s)
 unfolding pin_day_in shown_in list_in

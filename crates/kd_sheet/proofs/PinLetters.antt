@@ -1,13 +1,12 @@
 -- The letters of the Converter's six wheels, and that the text of a wheel's effective pins is read as these pins.
-use Rattle.kd_sheet.proofs.Prelude.{All, Bool, List, Some, [], ap, append_assoc, arith, false, get_or, length, map, subst}
-use Rattle.kd_sheet.proofs.Prelude.{nat_eq, nat_lt, not, refl, suc, true, ℕ, ◌&&◌, ◌++◌, ◌+◌, ◌-◌, ◌<◌, ◌==◌, ◌∷◌, ◌≡◌}
-use Rattle.kd_sheet.proofs.Prelude.{or-true, and_parts, both_ways, cases_Bool, ltb-true, ne_eqb, not-true, nat_tests}
-use Rattle.kd_sheet.proofs.Prelude.{All-contains, recursion_from_All, list_any-append, get_or-enumerate_from}
+use Rattle.kd_sheet.proofs.Prelude.{All, Bool, List, Some, [], ap, append_assoc, arith, false, get_or, length, map}
+use Rattle.kd_sheet.proofs.Prelude.{nat_eq, nat_lt, not, refl, subst, suc, true, ℕ, ◌&&◌, ◌++◌, ◌+◌, ◌-◌, ◌<◌, ◌==◌}
+use Rattle.kd_sheet.proofs.Prelude.{◌∷◌, ◌≡◌, or-true, and_parts, both_ways, cases_Bool, ltb-true, ne_eqb, not-true}
+use Rattle.kd_sheet.proofs.Prelude.{nat_tests, All-contains, recursion_from_All, list_any-append, get_or-enumerate_from}
 use Rattle.kd_sheet.proofs.Prelude.{length-enumerate_from, AllPass-from_list_all, list_all-from_AllPass, sum_by-append}
 use Rattle.kd_sheet.proofs.Prelude.{sum_by-cons, slice_get-get_or, AllByRecursion, count_by, enumerate_from, list_all}
 use Rattle.kd_sheet.proofs.Prelude.{pins_text, pins_of_text, are_on_wheels, has_capital, is_on, stands_once}
-use Rattle.kd_sheet.proofs.Prelude.{on_all_wheels, has_letter-Decides, numbered, AreOnWheels, has_letter}
-use Rattle.kd_sheet.proofs.Prelude.{ring_of}
+use Rattle.kd_sheet.proofs.Prelude.{on_all_wheels, has_letter-Decides, numbered, AreOnWheels, has_letter, ring_of}
 
 abbrev is_own : ℕ × ℕ → Bool
 is_own numbered = has_letter (ring_of numbered.0) numbered.1

@@ -1,6 +1,5 @@
 -- What the bytes of a document mean, and what stands in its table at a key.
-use Rattle.std.specs.Prelude.{◌≡◌, ℕ, Bool, List, [], ◌∷◌, map, take, Result, Ok, Err, ok_or, option_map, ⊤, if◌then◌else◌}
-use Rattle.std.specs.List.{enumerate_from}
+use Rattle.std.specs.Prelude.{◌≡◌, ◌==◌, ℕ, nat_le, Bool, List, [], ◌∷◌, length, Result, Ok, Err, ok_or, option_map, ⊤, if◌then◌else◌}
 use Rattle.std.specs.Result.{result_map_both}
 use Rattle.std.specs.Str.{is_utf8}
 use Rattle.toml.specs.Data.{Data, Items, no_items, item, Members, get_member, as_str, as_array}
@@ -21,17 +20,13 @@ infixl 10 ◌>>◌
 abbrev pub ◌>>◌ : {B : Type 0} → Result (Unit {0}) SheetFault → Result B SheetFault → Result B SheetFault
 test >> reading = test >>= (λ _. reading)
 
--- all the values, or else the first fault
-abbrev pub all_values : {A : Type 0} → List (Result A SheetFault) → Result (List A) SheetFault
-all_values [] = Ok []
-all_values (answer ∷ answers) = do
-  value ← answer
-  values ← all_values answers
+-- what each item is, given what those before it are, up to the first fault
+abbrev pub in_turn : {A : Type 0} → (List A → Data → Result A SheetFault) → List Data → Result (List A) SheetFault
+in_turn reading [] = Ok []
+in_turn reading (first ∷ rest) = do
+  value ← reading [] first
+  values ← in_turn (λ earlier. reading (value ∷ earlier)) rest
   Ok (value ∷ values)
-
--- what each item is, given the items before it
-abbrev pub given_earlier : {A : Type 0} → (List Data → Data → A) → List Data → List A
-given_earlier reading items = map (λ numbered. reading (take numbered.0 items) numbered.1) (enumerate_from 0 items)
 
 -- What was answered is what was meant, unless memory ran out.
 abbrev pub Answers : {A : Type 0} → Result A SheetFault → Result A SheetFault → Type 0
@@ -70,3 +65,17 @@ items_in key value = ok_or (option_map list_of (as_array value)) (BadValue key)
 -- the items of the array at a key
 abbrev pub items_at : Key → Members → Result (List Data) SheetFault
 items_at key table = value_at key table >>= items_in key
+
+-- what the items of the array at a key are, of which there have to be so many
+abbrev pub each_at : {A : Type 0} → Key → ℕ → (List A → Data → Result A SheetFault) → Members → Result (List A) SheetFault
+each_at key count reading table = do
+  items ← items_at key table
+  demand (length items == count) (BadValue key)
+  in_turn reading items
+
+-- what the items of an array are, of which there may be so many
+abbrev pub up_to : {A : Type 0} → Key → ℕ → (List A → Data → Result A SheetFault) → Data → Result (List A) SheetFault
+up_to key count reading value = do
+  items ← items_in key value
+  demand (nat_le (length items) count) (BadValue key)
+  in_turn reading items

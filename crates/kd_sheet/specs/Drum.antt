@@ -4,22 +4,19 @@ use Rattle.std.specs.Option.{option_and_then}
 use Rattle.toml.specs.Data.{Data, Members, as_str}
 use Rattle.kd_tables.specs.Places.{in_order}
 use Rattle.kd_tables.specs.declared.place.Place.{Place}
-use Rattle.kd_sheet.specs.Document.{◌>>=◌, ◌>>◌, all_values, demand, given_earlier, items_at}
+use Rattle.kd_sheet.specs.Document.{each_at}
 use Rattle.kd_sheet.specs.Names.{standing_by_text}
 use Rattle.kd_sheet.specs.declared.key.Key.TheVariants as keys
 use Rattle.kd_sheet.specs.declared.fault.SheetFault.{SheetFault}
-use Rattle.kd_sheet.specs.declared.fault.SheetFault.TheVariants.{BadValue, BadRow}
+use Rattle.kd_sheet.specs.declared.fault.SheetFault.TheVariants.{BadRow}
 
--- how the bar behind those of the earlier items stands. Bars are counted from 1
-abbrev pub standing_for : List Data → Data → Result (Place × Place) SheetFault
+-- how the bar behind the earlier ones stands. Bars are counted from 1
+abbrev pub standing_for : List (Place × Place) → Data → Result (Place × Place) SheetFault
 standing_for earlier item = ok_or (option_and_then standing_by_text (as_str item)) (BadRow (length earlier + 1))
 
 -- how the 27 bars stand, an item for each
 unfoldable pub bars_in : Members → Result (List (Place × Place)) SheetFault
-bars_in table = do
-  items ← items_at keys.Bars table
-  demand (length items == 27) (BadValue keys.Bars)
-  all_values (given_earlier standing_for items)
+bars_in table = each_at keys.Bars 27 standing_for table
 
 -- the byte is a figure from 0 to 6
 abbrev pub is_figure : ℕ → Bool
@@ -35,13 +32,10 @@ row_of_text (one ∷ dash ∷ other ∷ []) =
     if ((is_figure one && dash == 45) && is_figure other) && may_read one other then Some (in_order (one - 48) (other - 48)) else None
 row_of_text _ = None
 
--- what the row behind those of the earlier items says. Rows are counted from 1
-abbrev pub row_for : List Data → Data → Result (ℕ × ℕ) SheetFault
+-- what the row behind the earlier ones says. Rows are counted from 1
+abbrev pub row_for : List (ℕ × ℕ) → Data → Result (ℕ × ℕ) SheetFault
 row_for earlier item = ok_or (option_and_then row_of_text (as_str item)) (BadRow (length earlier + 1))
 
 -- what the 27 bars are to read as, an item for each
 unfoldable pub rows_in : Members → Result (List (ℕ × ℕ)) SheetFault
-rows_in table = do
-  items ← items_at keys.Rows table
-  demand (length items == 27) (BadValue keys.Rows)
-  all_values (given_earlier row_for items)
+rows_in table = each_at keys.Rows 27 row_for table

@@ -7,7 +7,7 @@ use Rattle.kd_tables.specs.Rings.{ring_of}
 use Rattle.kd_pins.specs.declared.pin_set.PinSet.{PinSet}
 use Rattle.kd_state.specs.Pins.{pin_set}
 use Rattle.kd_state.specs.Setting.{has_letter}
-use Rattle.kd_sheet.specs.Document.{◌>>=◌, ◌>>◌, all_values, demand, given_earlier, text_at, items_at}
+use Rattle.kd_sheet.specs.Document.{◌>>=◌, each_at, text_at}
 use Rattle.kd_sheet.specs.Letters.{capital_letters}
 use Rattle.kd_sheet.specs.declared.key.Key.{Key}
 use Rattle.kd_sheet.specs.declared.key.Key.TheVariants as keys
@@ -52,14 +52,10 @@ pins_of_text ring text = if is_pin_text ring text then Some (map (has_capital te
 unfoldable pub pins_of_item : List ℕ → Data → Result (List Bool) SheetFault
 pins_of_item ring item = ok_or (option_and_then (pins_of_text ring) (as_str item)) (BadValue keys.Pins)
 
--- which pins an item makes effective: those of the wheel behind the wheels of the earlier items
-abbrev pub pins_behind : List Data → Data → Result (List Bool) SheetFault
+-- which pins an item makes effective: those of the wheel behind these
+abbrev pub pins_behind : List (List Bool) → Data → Result (List Bool) SheetFault
 pins_behind earlier item = pins_of_item (ring_of (length earlier + 1)) item
 
 -- the effective pins of the six wheels, an item for each
 unfoldable pub pins_in : Members → Result PinSet SheetFault
-pins_in table = do
-  items ← items_at keys.Pins table
-  demand (length items == 6) (BadValue keys.Pins)
-  pins ← all_values (given_earlier pins_behind items)
-  Ok (pin_set pins)
+pins_in table = each_at keys.Pins 6 pins_behind table >>= (λ pins. Ok (pin_set pins))

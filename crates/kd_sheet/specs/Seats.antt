@@ -1,13 +1,13 @@
 -- Which wheels the items of an array seat, slot by slot from the left.
-use Rattle.std.specs.Prelude.{ℕ, ◌+◌, ◌==◌, ◌&&◌, Bool, true, false, not, List, length, map, Option, Some, None, Result, Ok, ok_or, if◌then◌else◌}
+use Rattle.std.specs.Prelude.{ℕ, ◌+◌, ◌==◌, ◌&&◌, Bool, true, false, not, List, length, Option, Some, None, Result, Ok, ok_or, if◌then◌else◌}
 use Rattle.std.specs.List.{list_any}
-use Rattle.std.specs.Option.{option_and_then, option_map_or}
+use Rattle.std.specs.Option.{option_map_or}
 use Rattle.toml.specs.Data.{Data, Members, as_str}
 use Rattle.kd_tables.specs.Tables.{slots_of, wheels_for}
 use Rattle.kd_tables.specs.declared.model.Model.{Model}
 use Rattle.kd_tables.specs.declared.wheel.Wheel.{Wheel}
 use Rattle.kd_state.specs.Box.{same_wheel, has_wheel}
-use Rattle.kd_sheet.specs.Document.{◌>>=◌, ◌>>◌, all_values, demand, given_earlier, items_at}
+use Rattle.kd_sheet.specs.Document.{◌>>=◌, ◌>>◌, demand, each_at}
 use Rattle.kd_sheet.specs.Names.{wheel_by_name}
 use Rattle.kd_sheet.specs.declared.key.Key.{Key}
 use Rattle.kd_sheet.specs.declared.key.Key.TheVariants as keys
@@ -40,27 +40,12 @@ unfoldable pub seat_for : Key → Model → List (Option Wheel) → List ℕ →
 seat_for key model slots name =
     if may_be_empty key && length name == 0 then Ok None else wheel_for key model slots name >>= (λ wheel. Ok (Some wheel))
 
--- the wheel that an item names, if it names one
-unfoldable pub wheel_of_item : Data → Option Wheel
-wheel_of_item item = option_and_then wheel_by_name (as_str item)
-
 -- what an item seats in the slot to the right of these
 unfoldable pub seat_of_item : Key → Model → List (Option Wheel) → Data → Result (Option Wheel) SheetFault
 seat_of_item key model slots item = do
   name ← ok_or (as_str item) (BadValue key)
   seat_for key model slots name
 
--- what an item seats, where the earlier items have filled the slots before it
-abbrev pub seat_behind : Key → Model → List Data → Data → Result (Option Wheel) SheetFault
-seat_behind key model earlier item = seat_of_item key model (map wheel_of_item earlier) item
-
--- what the items seat, slot by slot from the left, or else the first fault
-abbrev pub seats_of : Key → Model → List Data → Result (List (Option Wheel)) SheetFault
-seats_of key model items = all_values (given_earlier (seat_behind key model) items)
-
 -- the seats of the model's slots, an item for each
 unfoldable pub seats_in : Key → Model → Members → Result (List (Option Wheel)) SheetFault
-seats_in key model table = do
-  items ← items_at key table
-  demand (length items == slots_of model) (BadValue key)
-  seats_of key model items
+seats_in key model table = each_at key (slots_of model) (seat_of_item key model) table

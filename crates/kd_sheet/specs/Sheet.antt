@@ -1,9 +1,9 @@
 -- A key sheet: a month with a day here and there.
-use Rattle.std.specs.Prelude.{◌≡◌, ℕ, ◌==◌, List, length, map, find, is_some, Option, Some}
-use Rattle.std.specs.List.{list_any, range_with_len}
+use Rattle.std.specs.Prelude.{◌≡◌, ℕ, ◌==◌, List, length, map, find, Option, Some}
+use Rattle.std.specs.List.{range_with_len}
 use Rattle.std.specs.Option.{option_and_then}
 use Rattle.kd_state.specs.Box.{numbered}
-use Rattle.kd_state.specs.SheetDay.{Day, IsDayNumber, day_number}
+use Rattle.kd_state.specs.SheetDay.{Day, day_number}
 
 -- for each number of a month, from 1 to 31, the day that has it
 abbrev pub month_of : List Day → List (Option Day)
@@ -17,7 +17,3 @@ day_of month number = option_and_then (λ day. day) (numbered month number)
 pub record IsMonth (month : List (Option Day)) : Type 0 where
   pub count : length month ≡ 31
   pub each : (number : ℕ) (day : Day) → day_of month number ≡ Some day → day_number day ≡ number
-
--- the numbers of a month that the days of the sheet have
-abbrev pub Takes : List (Option Day) → List ℕ → Type 0
-Takes month taken = (number : ℕ) → IsDayNumber number → is_some (day_of month number) ≡ list_any (λ other. other == number) taken

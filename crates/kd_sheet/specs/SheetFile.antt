@@ -1,17 +1,16 @@
 -- What a key sheet says, day by day, and in each day key by key, in the order in which its keys are tested.
-use Rattle.std.specs.Prelude.{ℕ, ◌==◌, nat_le, not, List, [], ◌∷◌, length, Option, Some, None, Result, Ok, ok_or}
-use Rattle.std.specs.List.{list_any, filter_map}
+use Rattle.std.specs.Prelude.{ℕ, ◌==◌, not, List, [], ◌∷◌, Option, Some, None, Result, Ok, ok_or}
+use Rattle.std.specs.List.{list_any}
 use Rattle.std.specs.Option.{option_and_then, option_map_or}
-use Rattle.std.specs.Result.{result_ok}
 use Rattle.toml.specs.Data.{Data, string, array, Members, get_member, as_str, as_table}
 use Rattle.kd_tables.specs.Tables.{slots_of}
 use Rattle.kd_tables.specs.declared.model.Model.{Model}
 use Rattle.kd_tables.specs.declared.model.Model.TheVariants.{M209}
 use Rattle.kd_tables.specs.declared.wheel.Wheel.{Wheel}
-use Rattle.kd_state.specs.SheetDay.{Day, OfRotors, OfPins}
+use Rattle.kd_state.specs.SheetDay.{Day, OfRotors, OfPins, day_number}
 use Rattle.kd_state.specs.declared.sheet_day.rotor_entry.SheetWheel.{SheetWheel}
 use Rattle.kd_sheet.specs.Cables.{pairs_in}
-use Rattle.kd_sheet.specs.Document.{◌>>=◌, ◌>>◌, all_values, demand, document_of, given_earlier, value_at, text_at, list_of, items_in, items_at}
+use Rattle.kd_sheet.specs.Document.{◌>>=◌, ◌>>◌, demand, document_of, in_turn, value_at, text_at, list_of, items_at, up_to}
 use Rattle.kd_sheet.specs.Drum.{rows_in}
 use Rattle.kd_sheet.specs.Key.{key_name}
 use Rattle.kd_sheet.specs.Letters.{capital_letters}
@@ -30,11 +29,11 @@ number_in table = do
   value ← value_at keys.Day table
   ok_or (number_to 31 value) (BadValue keys.Day)
 
--- the day's number, where these are taken
-unfoldable pub new_number_in : List ℕ → Members → Result ℕ SheetFault
-new_number_in taken table = do
+-- the day's number, which none of these days has
+unfoldable pub new_number_in : List Day → Members → Result ℕ SheetFault
+new_number_in days table = do
   number ← number_in table
-  demand (not (list_any (λ other. other == number) taken)) (DayTwice number)
+  demand (not (list_any (λ day. day_number day == number) days)) (DayTwice number)
   Ok number
 
 -- exactly so many rings, as a text of capital letters or as numbers of which 1 is A
@@ -60,15 +59,12 @@ unfoldable pub group_of_item : Data → Option (List ℕ)
 group_of_item item = option_and_then (capital_letters 3) (as_str item)
 
 -- the group of an item, whatever the earlier ones are
-abbrev pub group_for : List Data → Data → Result (List ℕ) SheetFault
+abbrev pub group_for : List (List ℕ) → Data → Result (List ℕ) SheetFault
 group_for earlier item = ok_or (group_of_item item) (BadValue keys.Groups)
 
 -- an array of at most four groups
 unfoldable pub all_groups_in : Data → Result (List (List ℕ)) SheetFault
-all_groups_in value = do
-  items ← items_in keys.Groups value
-  demand (nat_le (length items) 4) (BadValue keys.Groups)
-  all_values (given_earlier group_for items)
+all_groups_in value = up_to keys.Groups 4 group_for value
 
 -- the groups: none where the day does not speak of them
 unfoldable pub groups_in : Members → Result (List (List ℕ)) SheetFault
@@ -111,36 +107,24 @@ unfoldable pub model_day_in : ℕ → Model → Members → Result Day SheetFaul
 model_day_in number M209 table = pin_day_in number table
 model_day_in number model table = rotor_day_in number model table
 
--- the day that an entry's table describes, where these numbers are taken, or its first fault
-unfoldable pub day_in : List ℕ → Members → Result Day SheetFault
-day_in taken table = do
-  number ← new_number_in taken table
+-- the day that an entry's table describes, behind these days, or its first fault
+unfoldable pub day_in : List Day → Members → Result Day SheetFault
+day_in days table = do
+  number ← new_number_in days table
   model ← model_in table
   model_day_in number model table
 
--- the day of an item, where these numbers are taken
-unfoldable pub day_for : List ℕ → Data → Result Day SheetFault
-day_for taken item = do
+-- the day of an item behind these days
+unfoldable pub day_for : List Day → Data → Result Day SheetFault
+day_for days item = do
   table ← ok_or (as_table item) (BadValue keys.Day)
-  day_in taken table
-
--- the number of the day that an item describes, if it has one
-unfoldable pub number_of_item : Data → Option ℕ
-number_of_item item = option_and_then (λ table. result_ok (number_in table)) (as_table item)
-
--- the day of an item, where the earlier items have taken their numbers
-abbrev pub day_behind : List Data → Data → Result Day SheetFault
-day_behind earlier item = day_for (filter_map number_of_item earlier) item
-
--- the days of the items, or else the first fault
-abbrev pub days_of : List Data → Result (List Day) SheetFault
-days_of items = all_values (given_earlier day_behind items)
+  day_in days table
 
 -- the month that a sheet's table describes, or its first fault
 unfoldable pub sheet_in : Members → Result (List (Option Day)) SheetFault
 sheet_in table = do
   items ← items_at keys.Day table
-  days ← days_of items
+  days ← in_turn day_for items
   Ok (month_of days)
 
 -- the month that the bytes of a sheet describe, or the sheet's first fault

@@ -4,8 +4,8 @@ ghost use Rattle.std.specs.Option.{option_map};
 ghost use Rattle.toml.specs.View.{view, table_view};
 ghost use Rattle.kd_tables.specs.Text.{is_capital};
 ghost use Rattle.kd_state.specs.Machine.{cable_letters, plugged_letters};
-ghost use Rattle.kd_state.specs.Setting.{has_letter};
-ghost use Rattle.kd_sheet.specs.Cables.{may_have, plugged_letters_in, letters_of_item, are_new, cable_of, cable_for, cable_behind, thirteen_of, all_cables_in, cables_in};
+ghost use Rattle.kd_state.specs.Setting.{has_letter, are_new};
+ghost use Rattle.kd_sheet.specs.Cables.{may_have, plugged_letters_in, cable_of, cable_for, all_cables_in, cables_in};
 
 use super::document::{find_at, items_in};
 use super::fault::SheetFault;
@@ -87,21 +87,21 @@ fn is_plugged(cables: &[Cable], letter: Letter) -> bool
 
 /// Whether none of the cable's letters lies in one of the others, nor comes twice.
 fn are_new(cables: &[Cable], cable: &Cable) -> bool
-    ensures { result ≡ are_new (plugged_letters cables.now) (cable_letters cable.now) }
+    ensures { result ≡ are_new (cable_letters cable.now) (plugged_letters cables.now) }
 {
     match *cable {
         (None, None) => true,
         (Some(letter), None) | (None, Some(letter)) => !is_plugged(cables, letter),
         (Some(one), Some(other)) => {
-            !is_plugged(cables, one) && !(is_plugged(cables, other) || one == other)
+            !(one == other || is_plugged(cables, one)) && !is_plugged(cables, other)
         }
     }
 }
 
 /// The cable of an item behind these cables.
-#[tactic(auto, unfolding(crate::specs::Cables::cable_for, crate::specs::Cables::letters_of_item))]
+#[tactic(auto, unfolding(crate::specs::Cables::cable_for))]
 fn cable_for(key: Key, cables: &[Cable], item: &Value) -> Result<Cable, SheetFault>
-    ensures { result ≡ cable_for key (plugged_letters cables.now) (view item.now) }
+    ensures { result ≡ cable_for key cables.now (view item.now) }
 {
     let text = item.as_str().ok_or(SheetFault::BadValue(key))?;
     let cable = cable_of_text(key, text.as_bytes()).ok_or(SheetFault::BadValue(key))?;
@@ -121,9 +121,8 @@ struct CableReader {
 impl ItemReader<Cable> for CableReader {
     ghost room = { λ _. 13 };
 
-    ghost reading = { λ reader. cable_behind reader.key };
+    ghost reading = { λ reader. cable_for reader.key };
 
-    #[tactic(auto, using(crate::proofs::CableLetters::plugged_so_far))]
     fn read(&self, before: &[Cable], item: &Value) -> Result<Cable, SheetFault> {
         cable_for(self.key, before, item)
     }

@@ -22,7 +22,6 @@ impl ItemReader<Standing> for BarReader {
 
     ghost reading = { λ _. standing_for };
 
-    #[tactic(auto, using(crate::proofs::InTurn::counted))]
     fn read(&self, before: &[Standing], item: &Value) -> Result<Standing, SheetFault> {
         let bar = before.len() as u8 + 1;
         let text = item.as_str().ok_or(SheetFault::BadRow(bar))?;
@@ -72,7 +71,6 @@ impl ItemReader<Reading> for RowReader {
 
     ghost reading = { λ _. row_for };
 
-    #[tactic(auto, using(crate::proofs::InTurn::counted))]
     fn read(&self, before: &[Reading], item: &Value) -> Result<Reading, SheetFault> {
         let row = before.len() as u8 + 1;
         let text = item.as_str().ok_or(SheetFault::BadRow(row))?;

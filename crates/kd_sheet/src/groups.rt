@@ -42,7 +42,7 @@ impl ItemReader<[Letter; 3]> for GroupReader {
 }
 
 /// The groups of an array of at most four.
-#[tactic(auto, using(crate::proofs::InTurn::front_filled), unfolding(crate::specs::SheetFile::all_groups_in))]
+#[tactic(auto, unfolding(crate::specs::SheetFile::all_groups_in))]
 fn all_groups_in(value: &Value) -> Result<Groups, SheetFault>
     ensures { result_map (λ groups. groups.items) result ≡ all_groups_in (view value.now) }
 {

@@ -1,9 +1,8 @@
 //! The items of an array, read one after another, each in the light of those before it.
-ghost use Rattle.std.specs.Prelude.{◌≡◌, ◌-◌, ◌==◌, ◌<◌, ◌≤◌, ◌++◌, ℕ, List, Result, Ok, map, length, replicate};
+ghost use Rattle.std.specs.Prelude.{◌≡◌, ◌-◌, ◌<◌, ◌≤◌, ◌++◌, ℕ, List, Result, Ok, map, length, replicate};
 ghost use Rattle.toml.specs.Data.{Data};
 ghost use Rattle.toml.specs.View.{view, table_view};
-ghost use Rattle.kd_sheet.specs.Document.{◌>>=◌ as ◌followed_by◌, ◌>>◌ as ◌once_passed◌, all_values, demand, given_earlier, items_at};
-ghost use Rattle.kd_sheet.specs.declared.fault.SheetFault.TheVariants.{BadValue};
+ghost use Rattle.kd_sheet.specs.Document.{◌>>=◌ as ◌followed_by◌, in_turn, each_at};
 
 use super::document::items_at;
 use super::fault::SheetFault;
@@ -17,15 +16,13 @@ pub trait ItemReader<T> {
     /// How many items there may be.
     ghost room: { Self → ℕ };
 
-    /// What an item is, given the items before it.
-    ghost reading: { Self → List Data → Data → Result T SheetFault };
+    /// What an item is, given what the items before it are.
+    ghost reading: { Self → List T → Data → Result T SheetFault };
 
     /// Reads an item, given what the items before it are.
     fn read(&self, before: &[T], item: &Value) -> Result<T, SheetFault>
         requires { length before.now < room self.now }
-        ensures { (earlier : List Data)
-            → all_values (given_earlier (reading self.now) earlier) ≡ Ok before.now
-            → result ≡ reading self.now earlier (view item.now) };
+        ensures { result ≡ reading self.now before.now (view item.now) };
 }
 
 /// What the items are, with blanks behind them.
@@ -36,7 +33,7 @@ pub fn read_items<T: Copy, R: ItemReader<T>, const N: usize>(
 ) -> Result<[T; N], SheetFault>
     requires room { length items.now ≤ R.room reader.now }
     requires count { length items.now ≤ N }
-    ensures { result ≡ (all_values (given_earlier (R.reading reader.now) (map view items.now))
+    ensures { result ≡ (in_turn (R.reading reader.now) (map view items.now)
         followed_by (λ values. Ok (values ++ replicate (N - length values) blank))) }
 {
     let mut values = [blank; N];
@@ -55,9 +52,7 @@ pub fn read_each<T: Copy, R: ItemReader<T>, const N: usize>(
     blank: T,
 ) -> Result<[T; N], SheetFault>
     requires { R.room reader.now ≡ N }
-    ensures { result ≡ (items_at key (table_view table.now) followed_by (λ items.
-        demand (length items == N) (BadValue key)
-        once_passed all_values (given_earlier (R.reading reader.now) items))) }
+    ensures { result ≡ each_at key N (R.reading reader.now) (table_view table.now) }
 {
     let items = items_at(table, key)?;
     if items.len() != N {

@@ -2,11 +2,10 @@
 ghost use Rattle.std.specs.Prelude.{◌≡◌, ◌+◌, ◌==◌, ◌<◌, [], ◌∷◌, map, length, All, Ok, IfOk, IfSome};
 ghost use Rattle.std.specs.List.{list_any, count_by};
 ghost use Rattle.toml.specs.View.{view, table_view};
-ghost use Rattle.kd_tables.specs.Rings.{ring_of};
 ghost use Rattle.kd_state.specs.Pins.{pin_set};
 ghost use Rattle.kd_state.specs.Setting.{has_letter};
-ghost use Rattle.kd_sheet.specs.Document.{◌>>=◌ as ◌followed_by◌, all_values};
-ghost use Rattle.kd_sheet.specs.PinWheels.{are_on_wheels, letters_on_wheels, shown_in, is_on, stands_once, is_pin_text, has_capital, pins_of_text, pins_of_item, pins_in};
+ghost use Rattle.kd_sheet.specs.Document.{◌>>=◌ as ◌followed_by◌, in_turn};
+ghost use Rattle.kd_sheet.specs.PinWheels.{are_on_wheels, letters_on_wheels, shown_in, is_on, stands_once, is_pin_text, has_capital, pins_of_text, pins_of_item, pins_behind, pins_in};
 
 use super::document::{items_at, text_at};
 use super::fault::SheetFault;
@@ -138,10 +137,8 @@ fn pins_of_six(
     five: &Value,
     six: &Value,
 ) -> Result<PinSet, SheetFault>
-    ensures { result ≡ (all_values
-        (pins_of_item (ring_of 1) (view one.now) ∷ pins_of_item (ring_of 2) (view two.now)
-        ∷ pins_of_item (ring_of 3) (view three.now) ∷ pins_of_item (ring_of 4) (view four.now)
-        ∷ pins_of_item (ring_of 5) (view five.now) ∷ pins_of_item (ring_of 6) (view six.now) ∷ [])
+    ensures { result ≡ (in_turn pins_behind
+        (view one.now ∷ view two.now ∷ view three.now ∷ view four.now ∷ view five.now ∷ view six.now ∷ [])
         followed_by (λ pins. Ok (pin_set pins))) }
 {
     let w1 = pins_of_item(&ring1(), one)?;

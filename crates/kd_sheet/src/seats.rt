@@ -3,7 +3,7 @@ ghost use Rattle.std.specs.Prelude.{◌≡◌, ◌+◌, ◌<◌, length};
 ghost use Rattle.toml.specs.View.{table_view};
 ghost use Rattle.kd_tables.specs.Tables.{slots_of, wheels_for};
 ghost use Rattle.kd_state.specs.Box.{has_wheel};
-ghost use Rattle.kd_sheet.specs.Seats.{may_be_empty, is_seated, wheel_for, seat_for, seat_behind, seats_in};
+ghost use Rattle.kd_sheet.specs.Seats.{may_be_empty, is_seated, wheel_for, seat_for, seat_of_item, seats_in};
 
 use super::fault::SheetFault;
 use super::items::{ItemReader, read_each};
@@ -84,9 +84,9 @@ struct SeatReader {
 impl ItemReader<Option<Wheel>> for SeatReader {
     ghost room = { λ reader. slots_of reader.model };
 
-    ghost reading = { λ reader. seat_behind reader.key reader.model };
+    ghost reading = { λ reader. seat_of_item reader.key reader.model };
 
-    #[tactic(auto, using(crate::proofs::Seating::named_so_far), unfolding(crate::specs::Seats::seat_of_item))]
+    #[tactic(auto, unfolding(crate::specs::Seats::seat_of_item))]
     fn read(&self, before: &[Option<Wheel>], item: &Value) -> Result<Option<Wheel>, SheetFault> {
         let name = item.as_str().ok_or(SheetFault::BadValue(self.key))?;
         seat_for(self.key, self.model, before, name)

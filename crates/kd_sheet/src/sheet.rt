@@ -39,6 +39,7 @@ impl Sheet {
     }
 
     /// The day of that number, if the sheet has one.
+    #[tactic(auto, using(crate::proofs::Months::found_number))]
     pub fn day(&self, number: u8) -> Option<&SheetDay>
         ensures value { option_copied result ≡ day_of self.now number }
         ensures number { IfSome result (λ day. day_number day.now ≡ number) }
@@ -47,6 +48,7 @@ impl Sheet {
     }
 
     /// The day of that number, if the sheet has one, given away.
+    #[tactic(auto, using(crate::proofs::Months::number_of_found))]
     pub fn into_day(self, number: u8) -> Option<SheetDay>
         ensures value { result ≡ day_of self number }
         ensures number { IfSome result (λ day. day_number day ≡ number) }

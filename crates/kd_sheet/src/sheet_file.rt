@@ -1,10 +1,10 @@
 //! Key sheets: the days for which a machine can be set.
-ghost use Rattle.std.specs.Prelude.{◌≡◌, map, IfOk};
+ghost use Rattle.std.specs.Prelude.{◌≡◌, map, List, IfOk};
 ghost use Rattle.toml.specs.View.{view, table_view};
-ghost use Rattle.kd_state.specs.SheetDay.{IsDayNumber};
-ghost use Rattle.kd_sheet.specs.Document.{Answers, result_map};
-ghost use Rattle.kd_sheet.specs.Sheet.{month_of, Takes};
-ghost use Rattle.kd_sheet.specs.SheetFile.{number_in, new_number_in, day_in, day_for, days_of, sheet_in, sheet_of};
+ghost use Rattle.kd_state.specs.SheetDay.{Day, IsDayNumber};
+ghost use Rattle.kd_sheet.specs.Document.{Answers, in_turn, result_map};
+ghost use Rattle.kd_sheet.specs.Sheet.{month_of};
+ghost use Rattle.kd_sheet.specs.SheetFile.{number_in, new_number_in, day_in, day_for, sheet_in, sheet_of};
 
 use super::document::{document, items_at, value_at};
 use super::fault::SheetFault;
@@ -30,10 +30,10 @@ fn number_in(table: &Table) -> Result<u8, SheetFault>
 }
 
 /// The day's number, which no day of the sheet has.
-#[tactic(auto, unfolding(crate::specs::SheetFile::new_number_in))]
+#[tactic(auto, using(crate::proofs::Months::taken), unfolding(crate::specs::SheetFile::new_number_in))]
 fn new_number_in(sheet: &Sheet, table: &Table) -> Result<u8, SheetFault>
-    ensures value { (taken : _) → Takes sheet.now taken
-        → result ≡ new_number_in taken (table_view table.now) }
+    ensures value { (days : List Day) → sheet.now ≡ month_of days
+        → result ≡ new_number_in days (table_view table.now) }
     ensures within { IfOk result IsDayNumber }
 {
     let number = number_in(table)?;
@@ -47,7 +47,7 @@ fn new_number_in(sheet: &Sheet, table: &Table) -> Result<u8, SheetFault>
 /// The day that an entry's table describes, behind the days of the sheet, or its first fault.
 #[tactic(auto, unfolding(crate::specs::SheetFile::day_in))]
 fn day_in(sheet: &Sheet, table: &Table) -> Result<SheetDay, SheetFault>
-    ensures { (taken : _) → Takes sheet.now taken → result ≡ day_in taken (table_view table.now) }
+    ensures { (days : List Day) → sheet.now ≡ month_of days → result ≡ day_in days (table_view table.now) }
 {
     let number = new_number_in(sheet, table)?;
     let model = model_in(table)?;
@@ -57,7 +57,7 @@ fn day_in(sheet: &Sheet, table: &Table) -> Result<SheetDay, SheetFault>
 /// The day of an item behind the days of the sheet.
 #[tactic(auto, unfolding(crate::specs::SheetFile::day_for))]
 fn day_for(sheet: &Sheet, item: &Value) -> Result<SheetDay, SheetFault>
-    ensures { (taken : _) → Takes sheet.now taken → result ≡ day_for taken (view item.now) }
+    ensures { (days : List Day) → sheet.now ≡ month_of days → result ≡ day_for days (view item.now) }
 {
     day_in(
         sheet,
@@ -66,9 +66,9 @@ fn day_for(sheet: &Sheet, item: &Value) -> Result<SheetDay, SheetFault>
 }
 
 /// The month with the days of the items.
-#[tactic(auto, using(crate::proofs::Months::next_month, crate::proofs::Months::taken_so_far))]
+#[tactic(auto, using(crate::proofs::Months::next_month))]
 fn month(items: &[Value]) -> Result<Sheet, SheetFault>
-    ensures { result ≡ result_map month_of (days_of (map view items.now)) }
+    ensures { result ≡ result_map month_of (in_turn day_for (map view items.now)) }
 {
     let mut sheet = Sheet::new();
     for item in items {

@@ -1,5 +1,5 @@
-use Rattle.std.proofs.Common.{◌+◌, ◌∙◌, count_by, is_some, None, set, false, w16, rules, arith}
-use Rattle.kd_assign.proofs.Counting.{scans_of_tree-grows, scans_of_tree-more, scans_of_tree-most}
+use Rattle.std.proofs.Common.{add-one, ◌+◌, ◌∙◌, count_by, is_some, None, set, false, w16, rules, arith}
+use Rattle.kd_assign.proofs.Counting.{scans_of_tree-grows, scans_of_tree-most}
 use Rattle.kd_assign.proofs.Growing.{ends, first_grown, grows, some_outside}
 use Rattle.kd_assign.proofs.Places.{count-reached, count_at_most}
 use Rattle.kd_assign.proofs.Prelude.{common_steps, length-set, to_z-of_z, count_by-le-length}
@@ -36,7 +36,7 @@ loop-holders-preserved g c =
       ceilings = search rules;
       solved = search rules;
       grown = grows so_far.solved so_far.grown c.column-column.ensures c.in-Some.is level c.join-in-Some.ensures.compared;
-      scans = grind (arith, count-reached, set, count_by-le-length, length-set, scans_of_tree-more);
+      scans = grind (arith, count-reached, set, count_by-le-length, length-set, add-one);
     }
 
 pub returns-in-None-clause-solved : goal.returns-in-None-clause-solved

@@ -1,11 +1,9 @@
-use Rattle.std.proofs.Common.{arith}
-use Rattle.kd_desk.proofs.Prelude.{rules, codes, refl, found_of}
+use Rattle.kd_desk.proofs.Prelude.{arith, codes, found_of, refl, rules}
 use Rattle.kd_desk.proofs.CommandLines.{read_none, read_some}
-use Rattle.kd_desk.proofs.SaidCommands.{no_list}
 use Rattle.kd_desk.proofs.command.apply_of.Goals as goal
 
 pub returns-in_err-list-clause-none : goal.returns-in_err-list-clause-none
-returns-in_err-list-clause-none c = grind (arith, no_list, read_none)
+returns-in_err-list-clause-none c = grind (arith, read_none)
 
 pub returns-clause-said : goal.returns-clause-said
 returns-clause-said c =

@@ -1,15 +1,12 @@
-use Rattle.std.proofs.Common.{arith}
-use Rattle.kd_desk.proofs.Prelude.{codes, refl, rules, found_of, rows_of}
+use Rattle.kd_desk.proofs.Prelude.{arith, codes, found_of, refl, rules}
 use Rattle.kd_desk.proofs.CommandLines.{read_none, read_some}
-use Rattle.kd_desk.proofs.SaidCommands.{no_card, no_day}
 use Rattle.kd_desk.proofs.command.check_of.Goals as goal
 
 pub returns-in_err-sheet-clause-none : goal.returns-in_err-sheet-clause-none
-returns-in_err-sheet-clause-none c =
-    λ _. no_day (codes "check") (rows_of (found_of c.args.words.now)) refl (c.in_err-sheet.ensures.none refl)
+returns-in_err-sheet-clause-none c = grind (arith, c.in_err-sheet.ensures.none)
 
 pub returns-in_err-card-clause-none : goal.returns-in_err-card-clause-none
-returns-in_err-card-clause-none c = grind (arith, no_card, read_none)
+returns-in_err-card-clause-none c = grind (arith, read_none)
 
 pub returns-clause-said : goal.returns-clause-said
 returns-clause-said c =

@@ -1,11 +1,9 @@
-use Rattle.std.proofs.Common.{arith}
-use Rattle.kd_desk.proofs.Prelude.{codes, rules, found_of}
+use Rattle.kd_desk.proofs.Prelude.{arith, codes, found_of, rules}
 use Rattle.kd_desk.proofs.CommandLines.{read_none, read_some}
-use Rattle.kd_desk.proofs.SaidCommands.{no_machine}
 use Rattle.kd_desk.proofs.command.command_of.Goals as goal
 
 pub returns-in_err-machine-clause-none : goal.returns-in_err-machine-clause-none
-returns-in_err-machine-clause-none c = grind (arith, no_machine, read_none)
+returns-in_err-machine-clause-none c = grind (arith, read_none)
 
 pub returns-clause-said : goal.returns-clause-said
 returns-clause-said c =

@@ -1,13 +1,12 @@
-use Rattle.std.proofs.Common.{arith}
-use Rattle.kd_desk.proofs.Prelude.{rules, Some, codes, ap, ◌∙◌, found_of}
-use Rattle.kd_desk.proofs.CommandLines.{read_some, no_word, other_word}
+use Rattle.kd_desk.proofs.Prelude.{arith, Some, ap, codes, found_of, rules, ◌∙◌}
+use Rattle.kd_desk.proofs.CommandLines.{read_none, read_some, other_word}
 use Rattle.kd_desk.proofs.command.day_of.Goals as goal
 
 pub returns-in_err-sheet-clause-none : goal.returns-in_err-sheet-clause-none
-returns-in_err-sheet-clause-none c = grind (arith, no_word)
+returns-in_err-sheet-clause-none c = grind (arith, read_none)
 
 pub returns-in_err-get_str-clause-none : goal.returns-in_err-get_str-clause-none
-returns-in_err-get_str-clause-none c = grind (arith, no_word)
+returns-in_err-get_str-clause-none c = grind (arith, read_none)
 
 pub returns-in_err-day-clause-none : goal.returns-in_err-day-clause-none
 returns-in_err-day-clause-none c = grind (arith, other_word, c.day_number.ensures.none)

@@ -1,14 +1,12 @@
-use Rattle.std.proofs.Common.{arith}
-use Rattle.kd_desk.proofs.Prelude.{ap, refl, rules, sym, ◌∙◌, first_of, found_of, rows_of}
+use Rattle.kd_desk.proofs.Prelude.{arith, ap, first_of, found_of, refl, rows_of, rules, sym, ◌∙◌}
 use Rattle.kd_desk.proofs.CommandLines.{read_none, read_some}
-use Rattle.kd_desk.proofs.SaidCommands.{no_day_of_message, no_message}
 use Rattle.kd_desk.proofs.command.message_of.Goals as goal
 
 pub returns-in_err-sheet-clause-none : goal.returns-in_err-sheet-clause-none
-returns-in_err-sheet-clause-none c = λ _. no_day_of_message c.args.way (rows_of (found_of c.args.words.now)) (c.in_err-sheet.ensures.none refl)
+returns-in_err-sheet-clause-none c = grind (arith, c.in_err-sheet.ensures.none)
 
 pub returns-in_err-file-clause-none : goal.returns-in_err-file-clause-none
-returns-in_err-file-clause-none c = grind (arith, no_message, read_none)
+returns-in_err-file-clause-none c = grind (arith, read_none)
 
 pub returns-clause-said : goal.returns-clause-said
 returns-clause-said c =

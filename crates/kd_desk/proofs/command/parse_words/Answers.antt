@@ -1,5 +1,5 @@
-use Rattle.kd_desk.proofs.Prelude.{map, ℕ, List, Err, sym, ◌∙◌, Row, app_of, found_of, rows_of, named, IsOf, Says}
-use Rattle.kd_desk.proofs.CommandLines.{parse_fails_by, parse_takes, parse_enters, no_fault_said, no_subcommand_said, subcommand_said, said_subcommand, paired, no_entered, ok_said, no_command_of, usage_or_said}
+use Rattle.kd_desk.proofs.Prelude.{arith, map, ℕ, List, Err, sym, ◌∙◌, Row, app_of, found_of, rows_of, named, IsOf, Says}
+use Rattle.kd_desk.proofs.CommandLines.{parse_fails_by, parse_takes, parse_enters, no_fault_said, no_subcommand_said, subcommand_said, said_subcommand, paired, ok_said}
 use Rattle.kd_desk.proofs.command.parse_words.Goals as goal
 
 pub returns-in-Err-clause-usage : goal.returns-in-Err-clause-usage
@@ -11,7 +11,7 @@ returns-in-Err-clause-usage g c =
 pub returns-in_default-clause-usage : goal.returns-in_default-clause-usage
 returns-in_default-clause-usage g c =
     let words = map g.S.AsStr.text c.args.words.now in
-    λ _. no_subcommand_said words (sym (parse_enters (app_of c.in_ok-grammar.field-0) words c.in-Ok.matches c.in_ok-grammar.ensures c.in-Ok.ensures.matches) ∙ no_entered _ _ c.in_default.ensures.variant)
+    λ _. no_subcommand_said words (sym (parse_enters (app_of c.in_ok-grammar.field-0) words c.in-Ok.matches c.in_ok-grammar.ensures c.in-Ok.ensures.matches) ∙ grind arith)
 
 pub returns-clause-said : goal.returns-clause-said
 returns-clause-said g c =
@@ -29,7 +29,7 @@ returns-clause-usage g c =
     let said : List ℕ × List Row = (c.in-Some.name.now, rows_of (found_of c.in-Some.words.now)) in
     let entered = sym (parse_enters (app_of c.in_ok-grammar.field-0) words c.in-Ok.matches c.in_ok-grammar.ensures c.in-Ok.ensures.matches)
     ∙ paired _ _ _ said.0 said.1 c.in-Some.ensures.name c.in-Some.ensures.rows in
-    λ usage command says. c.command_of.ensures.none (no_command_of c.command_of.result c.ok_or.result c.ok_or.ensures.value usage) command (subcommand_said words said entered command says)
+    λ usage command says. c.command_of.ensures.none (grind arith) command (subcommand_said words said entered command says)
 
 pub returns-clause-memory : goal.returns-clause-memory
-returns-clause-memory g c = usage_or_said c.command_of.result c.ok_or.result c.ok_or.ensures.value
+returns-clause-memory g c = grind arith

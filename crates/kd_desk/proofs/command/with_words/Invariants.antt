@@ -1,4 +1,4 @@
-use Rattle.std.proofs.Common.{take}
+use Rattle.kd_desk.proofs.Prelude.{take}
 use Rattle.kd_desk.specs.CommandLine.{IsMadeOf}
 use Rattle.kd_desk.proofs.command.with_words.Given as goal
 

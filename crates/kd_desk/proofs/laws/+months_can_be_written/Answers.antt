@@ -1,4 +1,4 @@
-use Rattle.std.proofs.Common.{subst, sym, arith}
+use Rattle.kd_desk.proofs.Prelude.{subst, sym, arith}
 use Rattle.kd_state.specs.Machine.{model_of}
 use Rattle.kd_desk.specs.Month.{HasPapersInTurn}
 use Rattle.kd_desk.proofs.Months.{papers_on, days_on}

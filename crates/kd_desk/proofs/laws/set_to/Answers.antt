@@ -1,5 +1,4 @@
-use Rattle.std.proofs.Common.{rules}
-use Rattle.kd_state.specs.Setting.{Leads}
+use Rattle.kd_desk.proofs.Prelude.{rules, Leads}
 use Rattle.kd_plan.specs.Planned.{Plans}
 use Rattle.kd_desk.proofs.Months.{papers_for}
 use Rattle.kd_desk.proofs.laws.set_to.Goals as goal

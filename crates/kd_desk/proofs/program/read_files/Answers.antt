@@ -1,4 +1,4 @@
-use Rattle.std.proofs.Common.{arith}
+use Rattle.kd_desk.proofs.Prelude.{arith}
 use Rattle.kd_desk.proofs.Runs.{asks_on, asks_no_more}
 use Rattle.kd_desk.proofs.program.read_files.Goals as goal
 

@@ -1,5 +1,4 @@
-use Rattle.std.proofs.Common.{arith}
-use Rattle.kd_desk.proofs.Prelude.{named}
+use Rattle.kd_desk.proofs.Prelude.{arith, named}
 use Rattle.kd_desk.proofs.Runs.{asked_all, asked_yet, said_command, done, unread}
 use Rattle.kd_desk.proofs.program.run_desk.Goals as goal
 

@@ -1,4 +1,4 @@
-use Rattle.kd_desk.specs.RunApply.{NoSettings, RefusedLine, Carried}
+use Rattle.kd_desk.proofs.Prelude.{NoSettings, RefusedLine, Carried}
 use Rattle.kd_desk.proofs.Failing.{err_is, in_part, in_whole}
 use Rattle.kd_desk.proofs.run_apply.apply.Goals as goal
 

@@ -1,7 +1,4 @@
-use Rattle.kd_sheet.specs.MachineFile.{machine_of}
-use Rattle.kd_tables.specs.Ports.{port}
-use Rattle.kd_desk.specs.RunApply.{Applies}
-use Rattle.kd_desk.specs.RunSteps.{LacksMemory}
+use Rattle.kd_desk.proofs.Prelude.{machine_of, port, Applies, LacksMemory}
 use Rattle.kd_desk.proofs.Applying.{of_read}
 use Rattle.kd_desk.proofs.run_apply.run_apply.Goals as goal
 

@@ -1,4 +1,4 @@
-use Rattle.std.proofs.Common.{arith}
+use Rattle.kd_desk.proofs.Prelude.{arith}
 use Rattle.kd_desk.proofs.run_card.in_kinds.Goals as goal
 
 pub unwrap-requires : goal.unwrap-requires

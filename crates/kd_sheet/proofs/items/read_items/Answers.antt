@@ -18,20 +18,18 @@ pub loop-place-preserved : goal.loop-place-preserved
 loop-place-preserved g c =
     let room : c.loop-place.place < length c.loop-place.values = omega (arith, c.loop-place.invariant.count) in
     let left : c.loop-place.place < length c.args.items.now = omega arith in
-    let found = c.in_ok-value.ensures (take c.loop-place.place (map view c.args.items.now)) c.loop-place.invariant.read in
     record {
       count = simp length-set c.loop-place.invariant.count;
       read = rw take_more_set (read_more (g.R.ItemReader.reading c.args.reader.now) _ _ _ left c.index-items-place.is _
-          c.loop-place.invariant.read _ found);
+          c.loop-place.invariant.read _ c.in_ok-value.ensures);
       blank = fewer_blank _ _ _ _ _ c.loop-place.invariant.count room c.loop-place.invariant.blank;
     }
 
 pub returns-in_err-value : goal.returns-in_err-value
 returns-in_err-value g c =
     let left : c.loop-place.place < length c.args.items.now = omega arith in
-    let found = c.in_err-value.ensures (take c.loop-place.place (map view c.args.items.now)) c.loop-place.invariant.read in
-    rw (read_stops (g.R.ItemReader.reading c.args.reader.now) _ _ _ left c.index-items-place.is _ c.loop-place.invariant.read _ found)
-    (search rules)
+    rw (read_stops (g.R.ItemReader.reading c.args.reader.now) _ _ _ left c.index-items-place.is _ c.loop-place.invariant.read _
+    c.in_err-value.ensures) (search rules)
 
 pub returns : goal.returns
 returns g c = grind (arith, take_all, length-map, all_blank)

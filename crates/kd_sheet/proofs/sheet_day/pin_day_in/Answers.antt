@@ -5,4 +5,4 @@ use Rattle.kd_sheet.proofs.sheet_day.pin_day_in.Goals as goal
 pub unwrap-requires : goal.unwrap-requires
 unfolding pin_day_in
 unwrap-requires c =
-    c.pin.ensures.exists.1 (pin_day c.args.day (table_view c.args.table.now) (OfPins _) c.requires (grind (arith, common_steps))).legal
+    c.pin.ensures.exists.1 (pin_day c.args.day (table_view c.args.table.now) c.requires (OfPins _) (grind (arith, common_steps))).0

@@ -1,10 +1,10 @@
-use Rattle.kd_sheet.proofs.Prelude.{rules, day_behind}
+use Rattle.kd_sheet.proofs.Prelude.{rules, day_for}
 use Rattle.kd_sheet.proofs.InTurn.{read_stops}
-use Rattle.kd_sheet.proofs.Months.{taken_so_far}
 use Rattle.kd_sheet.proofs.sheet_file.month.Goals as goal
 
 pub returns-in_err-day : goal.returns-in_err-day
+unfolding day_for
 returns-in_err-day c =
     let so_far = c.loop-item.invariant in
-    rw (read_stops day_behind _ _ _ c.loop-item-test.true c.item-item.is _ so_far.read _
-    (c.in_err-day.ensures _ (taken_so_far _ _ so_far))) (search rules)
+    rw (read_stops day_for _ _ _ c.loop-item-test.true c.item-item.is _ so_far.read _
+    (c.in_err-day.ensures so_far.days so_far.month)) (search rules)
