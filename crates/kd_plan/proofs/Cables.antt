@@ -1,6 +1,6 @@
 -- PULL and PUT: each cable loses the letters that its column hasn't, and then takes those that it lacks.
 use Rattle.std.proofs.Common.{◌≡◌, ◌≢◌, ℕ, zero, suc, ◌<◌, nat_eq, Bool, true, false, not, ◌&&◌, ◌||◌, List, [], ◌∷◌, ◌++◌, get_or, length, map, zip, slice_get, Option, Some, None, refl, ap, ◌∙◌, arith, AllPairs, Contains, IsPermutation, sym, subst}
-use Rattle.std.proofs.lemmas.Grind.{flat_map-append}
+use Rattle.std.proofs.lemmas.Grind.{flat_map-append, common_steps}
 use Rattle.std.proofs.lemmas.Bool.{false_from_ne_true, false≢true}
 use Rattle.std.proofs.lemmas.List.{append-nil}
 use Rattle.std.proofs.lemmas.List.Folds.{list_any-append}
@@ -80,8 +80,7 @@ loose_end x (Some a, Some b) (Some pair) plain among e d = grind (arith, nat_tes
 
 -- the letters of the alphabet
 letter_at : (P : ℕ → Type 0) → AllByRecursion P alphabet → (y : ℕ) → y < 26 → P y
-letter_at P h y lt =
-    subst P (get_or-range_with_len 0 26 y 0 lt ∙ omega arith) (All-from_recursion P alphabet h y 0 (omega (arith, length-range_with_len 0 26)))
+letter_at P h y lt = grind (arith, get_or-range_with_len, All-from_recursion, length-range_with_len)
 
 letters_differ : AllPairs (λ x y. x ≢ y) alphabet
 letters_differ i j d before lt e = omega (arith, e, get_or-range_with_len 0 26 i d, get_or-range_with_len 0 26 j d, length-range_with_len 0 26)
@@ -138,14 +137,7 @@ module _ (m : RotorParts) where
     put_in x = Put (suc (length front)) x
 
     pull_serves : (x : ℕ) (cable : Cable) → IsOwn cable → may_stay z.1 cable x ≡ false → Serves (may_stay z.1) cable_without with_cable pull IsOwn cable x
-    pull_serves x cable own wrong =
-        let has : holds cable x ≡ true = grind arith in
-        record {
-          allowed = rw (seam_get front cable back, has) refl;
-          made = rw (seam_get front cable back) (ap with_cables (seam_set front cable back (cable_without x cable)));
-          fits = (pulled_plain x cable has, λ y e. own.1 y (grind (arith, pulled x cable y own.0 has)));
-          done = grind (arith, nat_tests, pulled x cable x own.0 has);
-        }
+    pull_serves x cable own wrong = grind (arith, seam_get, seam_set, pulled_plain, pulled)
 
     pull_spares : (x y : ℕ) → x ≢ y → (cable : Cable) → IsOwn cable → may_stay z.1 cable x ≡ false → may_stay z.1 (cable_without x cable) y ≡ may_stay z.1 cable y
     pull_spares x y other cable own wrong = grind (arith, nat_tests, pulled x cable y own.0)
@@ -173,21 +165,10 @@ module _ (m : RotorParts) where
     module _ (free : AreFree) where
       put_serves : (x : ℕ) (cable : Cable) → IsAmong z.1 cable → may_lack z.1 cable x ≡ false → Serves (may_lack z.1) cable_with with_cable put_in (IsAmong z.1) cable x
       put_serves x cable own wrong =
-          let has : wants z.1 x ≡ true = grind arith in
-          let lacks : holds cable x ≡ false = grind arith in
-          let loose = loose_end x cable z.1 own.0 own.1 has lacks in
-          let nowhere : has_letter (plugged_letters (front ++ cable ∷ back)) x ≡ false = grind (arith, flat_map-append, list_any-append, free x has) in
-          record {
-            allowed = rw (seam_get front cable back, loose, nowhere) refl;
-            made = rw (seam_get front cable back) (ap with_cables (seam_set front cable back (cable_with x cable)));
-            fits = (put_plain x cable loose lacks, λ y e. grind (arith, nat_tests, put x cable y loose, own.1 y));
-            done = grind (arith, nat_tests, put x cable x loose);
-          }
+          grind (arith, false, loose_end, flat_map-append, list_any-append, seam_get, seam_set, put_plain, put, own.1)
 
       put_spares : (x y : ℕ) → x ≢ y → (cable : Cable) → IsAmong z.1 cable → may_lack z.1 cable x ≡ false → may_lack z.1 (cable_with x cable) y ≡ may_lack z.1 cable y
-      put_spares x y other cable own wrong =
-          let loose = loose_end x cable z.1 own.0 own.1 (grind arith) (grind arith) in
-          grind (arith, nat_tests, put x cable y loose)
+      put_spares x y other cable own wrong = grind (arith, loose_end, put)
 
       puts_met : AreMet (may_lack z.1) cable_with with_cable put_in (IsAmong z.1) (once_pulled z) (once_put z) alphabet
       puts_met =
@@ -349,9 +330,7 @@ module _ (told : Told) (m : RotorParts) (pairs : List (ℕ × ℕ)) where
     within k lt = omega (arith, length-zip cables (map (column_at pairs) to), length-map to (column_at pairs))
 
     due_within : (j y : ℕ) → wants (column_at pairs j) y ≡ true → y < 26
-    due_within j y e =
-        within_letters (letters_plugged pairs) (recursion_from_All (λ x. x < 26) (letters_plugged pairs) legal.within) y
-        (pair_among pairs j y (ap (λ column. wants column y) (sym (told.columns pairs j)) ∙ e))
+    due_within j y e = grind (arith, within_letters, recursion_from_All, pair_among)
 
     pub are_pluggable : AllByRecursion IsPluggable beside
     are_pluggable =
@@ -364,9 +343,7 @@ module _ (told : Told) (m : RotorParts) (pairs : List (ℕ × ℕ)) where
     same_cables = firsts-zip cables (map (column_at pairs) to) sizes
 
     column_is : (k : ℕ) (z : Beside) → k < length beside → (get_or beside k z).1 ≡ slice_get pairs (get_or to k 0)
-    column_is k z lt =
-        let at : (get_or beside k z).1 ≡ get_or (map (column_at pairs) to) k z.1 = grind (arith, get_or-zip, length-zip) in
-        at ∙ get_or-map (column_at pairs) to k 0 z.1 (within k lt) ∙ told.columns pairs (get_or to k 0)
+    column_is k z lt = grind (arith, get_or-zip, length-zip, get_or-map, within)
 
     pub are_disjoint : AreDisjoint m beside
     are_disjoint =

@@ -1,5 +1,6 @@
 -- Settings carried out one after another, each of them allowed and needed; numbers that are one to one; and lists with one
 -- element in the middle.
+use Rattle.std.proofs.lemmas.Grind.{common_steps}
 use Rattle.std.proofs.Common.{◌≡◌, ◌≢◌, ℕ, zero, suc, ◌+◌, ◌-◌, ◌<◌, List, [], ◌∷◌, ◌++◌, length, get_or, set, slice_get, map, find, nat_eq, Bool, true, false, Option, Some, remove, All, AllPairs, Contains, IsPermutation, refl, sym, ap, ◌∙◌, subst, arith, None, cond, append_assoc, length-append}
 use Rattle.std.proofs.lemmas.List.Edits.{length-remove}
 use Rattle.std.proofs.lemmas.List.FromFn.{get_or-enumerate_from, length-enumerate_from}
@@ -107,8 +108,7 @@ led_cons {k = k} allowed made rest = record { leads = (k, record { allowed = all
 
 pub led_append : (xs ys : List Setting) {m k n : Parts} → Led m xs k → Led k ys n → Led m (xs ++ ys) n
 led_append [] ys {n = n} first second = subst (λ from. Led from ys n) first.leads second
-led_append (x ∷ xs) ys first second =
-    led_cons first.leads.1.allowed (sym first.leads.1.made) (led_append xs ys (record { leads = first.leads.2 }) second)
+led_append (x ∷ xs) ys first second = grind (arith, led_cons, led_append xs ys (record {leads = first.leads.2}) second)
 
 -- a setting that is left out where things are so already
 pub led_unless : (so : Bool) (m n : Parts) (x : Setting) → (so ≡ true → n ≡ m) → changed m x ≡ n → (so ≡ false → why_refused m x ≡ None)

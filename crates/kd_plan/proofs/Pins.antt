@@ -93,11 +93,7 @@ module _ (m : PinParts) (s : PinDay) where
     one_pin : (done rest : List Bool) (now effective : Bool) (letter : ℕ)
         → place_on (ring_of number) letter ≡ Some (length done) → has_letter (ring_of number) letter ≡ true
         → Led (with_wheel (done ++ now ∷ rest)) (option_to_list (unless_so (not (differ now effective)) (PinTo number letter effective))) (with_wheel (done ++ effective ∷ rest))
-    one_pin done rest now effective letter placed has =
-        led_unless (not (differ now effective)) (with_wheel (done ++ now ∷ rest)) (with_wheel (done ++ effective ∷ rest)) (PinTo number letter effective)
-        (λ so. ap (λ pin. with_wheel (done ++ pin ∷ rest)) (sym (same_of_differ now effective so)))
-        (ap (λ pins. Pin (record m { pins = pins })) (pin_made done rest now effective letter placed))
-        (λ wrong. rw has refl)
+    one_pin done rest now effective letter placed has = grind (arith, pin_made done rest now effective letter placed)
 
     -- one wheel, of which these letters are done
     pins_each : (letters : List ℕ) (done : List Bool) (cells : List Cell) → number < 7 → length letters ≡ length done

@@ -52,10 +52,7 @@ counted_as : {a p : ℕ} {xs ys : List Setting} → xs ≡ ys → AreCounted ys 
 counted_as {a = a} {p = p} e h = subst (λ lines. AreCounted lines a p) (sym e) h
 
 pub counted-append : {a b p q : ℕ} (xs ys : List Setting) → AreCounted xs a p → AreCounted ys b q → AreCounted (xs ++ ys) (a + b) (p + q)
-counted-append xs ys h k = record {
-  few = omega (arith, length-append xs ys, h.few, k.few);
-  priced = omega (arith, sum_by-append (λ x. cond (is_priced x) 1 0) xs ys, h.priced, k.priced);
-}
+counted-append xs ys h k = grind (arith, length-append, sum_by-append)
 
 counted_most : {a b p : ℕ} {xs : List Setting} → a ≤ b → AreCounted xs a p → AreCounted xs b p
 counted_most le h = record { few = omega (arith, h.few, le); priced = h.priced }
@@ -65,12 +62,10 @@ priced-cons x xs = sum_by-cons (λ x. cond (is_priced x) 1 0) x xs
 
 -- a line that is left out where things are so: of other things, and of cables and bars
 counted_loose : (so : Bool) (x : Setting) → is_priced x ≡ false → AreCounted (option_to_list (unless_so so x)) (cond (not so) 1 0) 0
-counted_loose true x e = record { few = omega arith; priced = refl }
-counted_loose false x e = record { few = omega arith; priced = rw e refl }
+counted_loose so x e = grind arith
 
 counted_priced : (so : Bool) (x : Setting) → is_priced x ≡ true → AreCounted (option_to_list (unless_so so x)) 0 (unless_same so)
-counted_priced true x e = record { few = omega arith; priced = refl }
-counted_priced false x e = record { few = omega arith; priced = rw e refl }
+counted_priced so x e = grind arith
 
 not_same : (b : Bool) → cond {A = ℕ} (not b) 1 0 ≡ unless_same b
 not_same b = grind arith
@@ -99,9 +94,7 @@ counted_priced_each lines g h zs number = rw sum_none at (counted_each lines (λ
 
 counted_map : (line : ℕ → Setting) → ((x : ℕ) → is_priced (line x) ≡ true) → (xs : List ℕ) → AreCounted (map line xs) 0 (length xs)
 counted_map line h [] = record { few = omega arith; priced = refl }
-counted_map line h (x ∷ xs) =
-    let rest = counted_map line h xs in
-    record { few = omega (arith, rest.few); priced = rw (priced-cons, h x, rest.priced) (omega arith) }
+counted_map line h (x ∷ xs) = grind (arith, counted_map line h xs, priced-cons, h)
 
 -- a cable's letters are pulled and put as many as its column costs, and 4 at most
 one_letter : (p q : Bool) → cond {A = ℕ} (p && not q) 1 0 + cond (q && not p) 1 0 ≡ cond (differ p q) 1 0
@@ -124,12 +117,7 @@ cable_lines z =
 
 -- a bar's lines are as many as lugs are moved
 counted_lugs : (number : ℕ) (bar target : Place × Place) → AreCounted (lugs_to number bar target) 0 (lugs_moved bar target)
-counted_lugs number bar target =
-    let left = counted_priced (is_at bar.0 target.0) (LugTo number Left target.0) refl in
-    let right = counted_priced (is_at bar.1 target.1) (LugTo number Right target.1) refl in
-    cond_both (nat_lt (place_rank target.0) (place_rank bar.1)) _ _ (λ lines. AreCounted lines 0 (lugs_moved bar target))
-    (λ e. counted-append _ _ left right)
-    (λ e. let both = counted-append _ _ right left in record { few = omega (arith, both.few); priced = omega (arith, both.priced) })
+counted_lugs number bar target = grind (arith, common_steps, counted_priced, cond_both, counted-append)
 
 least_at_most : (n : ℕ) (xs : List ℕ) → fold min n xs ≤ n
 least_at_most n [] = omega arith
@@ -148,41 +136,26 @@ table_cost cost columns d (x ∷ all) (j ∷ to) size within =
 table_cost cost columns d _ _ size within = absurd (omega arith)
 
 -- a wheel is found under one name only
-once_in_box : (model : Model) (wheel : Wheel) → count_by (λ b. same_wheel b wheel) (box_of model) ≤ 1
-once_in_box model wheel = grind arith
+once_in_box : (model : Model) (wheel : Wheel) (b : Bool) → count_by (λ x. same_wheel x wheel && b) (box_of model) ≤ cond b 1 0
+once_in_box model wheel b = grind arith
 
-one_more : (b : Bool) (k n : ℕ) → cond b k 0 + k * n ≡ k * (cond b 1 0 + n)
-one_more true k n = omega arith
-one_more false k n = omega arith
+abbrev finds : (SheetWheel → Bool) → List SheetWheel → Wheel → Bool
+finds test wheels wheel = option_map_or test (find (λ w. same_wheel wheel w.wheel) wheels) false
 
-sum_of_passing : {X : Type 0} (test : X → Bool) (k : ℕ) (xs : List X) → sum_by (λ x. cond (test x) k 0) xs ≡ k * count_by test xs
-sum_of_passing test k [] = omega arith
-sum_of_passing test k (x ∷ xs) = simp sum_by-cons (rw (sum_of_passing test k xs) (one_more (test x) k (count_by test xs)))
+finds_first : (test : SheetWheel → Bool) (w : SheetWheel) (wheels : List SheetWheel) (b : Wheel)
+    → cond {A = ℕ} (finds test (w ∷ wheels) b) 1 0 ≤ cond (same_wheel b w.wheel && test w) 1 0 + cond (finds test wheels b) 1 0
+finds_first test w wheels b = grind arith
 
-once_at_most : (k n : ℕ) → n ≤ 1 → k * n ≤ k
-once_at_most k zero le = omega arith
-once_at_most k (suc zero) le = omega arith
-once_at_most k (suc (suc n)) le = absurd (omega arith)
-
-abbrev found_cost : (SheetWheel → ℕ) → List SheetWheel → Wheel → ℕ
-found_cost f wheels wheel = option_map_or f (find (λ w. same_wheel wheel w.wheel) wheels) 0
-
-found_first : (f : SheetWheel → ℕ) (w : SheetWheel) (wheels : List SheetWheel) (wheel : Wheel)
-    → found_cost f (w ∷ wheels) wheel ≤ cond (same_wheel wheel w.wheel) (f w) 0 + found_cost f wheels wheel
-found_first f w wheels wheel = grind arith
-
-found_at_most : (f : SheetWheel → ℕ) (model : Model) (wheels : List SheetWheel) → sum_by (found_cost f wheels) (box_of model) ≤ sum_by f wheels
-found_at_most f model [] = omega (arith, sum_none (box_of model))
-found_at_most f model (w ∷ wheels) =
-    let box = box_of model in
+found_at_most : (test : SheetWheel → Bool) (model : Model) (wheels : List SheetWheel) → count_by (finds test wheels) (box_of model) ≤ count_by test wheels
+found_at_most test model [] = omega (arith, sum_none (box_of model))
+found_at_most test model (w ∷ wheels) =
     omega (
       arith,
-      sum_by-le-sum_by (found_cost f (w ∷ wheels)) (λ b. cond (same_wheel b w.wheel) (f w) 0 + found_cost f wheels b) box (found_first f w wheels),
-      sums_add (λ b. cond (same_wheel b w.wheel) (f w) 0) (found_cost f wheels) (λ b. cond (same_wheel b w.wheel) (f w) 0 + found_cost f wheels b) (λ b. refl) box,
-      sum_of_passing (λ b. same_wheel b w.wheel) (f w) box,
-      once_at_most (f w) (count_by (λ b. same_wheel b w.wheel) box) (once_in_box model w.wheel),
-      found_at_most f model wheels,
-      sum_by-cons f w wheels,
+      sum_by-le-sum_by _ _ (box_of model) (finds_first test w wheels),
+      sums_add (λ b. cond (same_wheel b w.wheel && test w) 1 0) (λ b. cond (finds test wheels b) 1 0) _ (λ b. refl) (box_of model),
+      once_in_box model w.wheel (test w),
+      found_at_most test model wheels,
+      sum_by-cons (λ w. cond (test w) 1 0) w wheels,
     )
 
 -- things beside things by their numbers
@@ -205,16 +178,15 @@ module _ (m : RotorParts) (s : RotorDay) (to : List ℕ) where
 
   counted_rings : AreCounted (ring_lines m s.wheels) (loose_rings m s) 0
   counted_rings =
-      let wrong = λ (w : SheetWheel). cond (not (option_map_or (nat_eq w.ring) (ring_at m w.wheel) false)) 1 0 in
+      let wrong = λ (w : SheetWheel). not (option_map_or (nat_eq w.ring) (ring_at m w.wheel) false) in
       counted_most (found_at_most wrong m.model s.wheels)
       (counted_as (lines_of_each (ring_of_wheel m s.wheels) (box_of m.model) 1)
-      (counted_loose_each (λ n wheel. ring_of_wheel m s.wheels wheel) (found_cost wrong s.wheels) (λ n wheel. counted_ring (find (λ (w : SheetWheel). same_wheel wheel w.wheel) s.wheels)) (box_of m.model) 1))
+      (counted_loose_each (λ n wheel. ring_of_wheel m s.wheels wheel) (λ wheel. cond (finds wrong s.wheels wheel) 1 0) (λ n wheel. counted_ring (find (λ (w : SheetWheel). same_wheel wheel w.wheel) s.wheels)) (box_of m.model) 1))
     where
       counted_ring : (o : Option SheetWheel)
           → AreCounted (option_to_list (option_and_then (λ (w : SheetWheel). unless_so (option_map_or (nat_eq w.ring) (ring_at m w.wheel) false) (RingTo w.wheel w.ring)) o))
-          (option_map_or (λ (w : SheetWheel). cond (not (option_map_or (nat_eq w.ring) (ring_at m w.wheel) false)) 1 0) o 0) 0
-      counted_ring None = record { few = omega arith; priced = refl }
-      counted_ring (Some w) = counted_loose _ _ refl
+          (cond (option_map_or (λ (w : SheetWheel). not (option_map_or (nat_eq w.ring) (ring_at m w.wheel) false)) o false) 1 0) 0
+      counted_ring o = grind (arith, counted_loose)
 
   counted_seats : length m.slots ≡ length s.wheels → AreCounted (seat_lines m s.wheels) (loose_slots m s) 0
   counted_seats size =

@@ -1,4 +1,5 @@
 -- SEAT, REFLECTOR, RING and TURN, and that all lines of a rotor machine lead to the day.
+use Rattle.std.proofs.lemmas.Grind.{common_steps}
 use Rattle.std.proofs.Common.{map, ◌≡◌, ◌≢◌, ℕ, zero, suc, ◌+◌, ◌-◌, ◌<◌, Bool, true, false, List, [], ◌∷◌, length, get_or, set, find, Option, Some, None, slice_get, unwrap_or, nat_eq, All, AllPairs, Contains, refl, sym, ap, ◌∙◌, subst, arith}
 use Rattle.std.proofs.lemmas.Bool.{false_from_ne_true}
 use Rattle.std.proofs.lemmas.List.{ext_get_or}
@@ -69,8 +70,7 @@ module _ {X : Type 0} (xs : List X) where
 
   two_by_number : (R : ℕ × X → ℕ × X → Type 0) → ((j k : ℕ) (d : X) → j < k → k < length xs → R (suc j, get_or xs j d) (suc k, get_or xs k d))
       → AllPairs R (enumerate_from 1 xs)
-  two_by_number R h j k d before lt =
-      rw (at_place j d (omega arith), at_place k d lt) (h j k d.1 before (omega (arith, length-enumerate_from 1 xs)))
+  two_by_number R h j k d before lt = grind (arith, at_place, h, length-enumerate_from)
 
   at_number : (P : ℕ × X → Type 0) → AllByRecursion P (enumerate_from 1 xs) → (k : ℕ) (d : X) → k < length xs → P (suc k, get_or xs k d)
   at_number P h k d lt =
@@ -114,22 +114,14 @@ module _ {X : Type 0} (place : X → ℕ) (target : X → Option ℕ) where
       made : (letters : List ℕ) → changed (put letters) (line x) ≡ put (with_its x letters)
 
     its_own : (o : Option ℕ) → option_map_or (λ l. option_map_or (nat_eq l) (Some (unwrap_or o 0)) false) o true ≡ true
-    its_own None = refl
-    its_own (Some l) = eq-eqb l l refl
+    its_own o = grind (arith, eq-eqb)
 
     sets_its : (x : X) → SetsIts x → (letters : List ℕ) → HasSize letters → has_its letters x ≡ false → Serves has_its with_its put line HasSize letters x
-    sets_its x h letters size wrong = record {
-      allowed = h.allowed letters;
-      made = h.made letters;
-      fits = length-set letters (place x) (unwrap_or (target x) 0) ∙ size;
-      done = rw (slice_get-set_same letters (place x) (unwrap_or (target x) 0) (omega (arith, size, h.within))) (its_own (target x));
-    }
+    sets_its x h letters size wrong = grind (arith, h.allowed, h.made, length-set, slice_get-set_same, its_own)
 
     others_kept : (x y : X) → place y ≢ place x → (letters : List ℕ) → HasSize letters → has_its letters x ≡ false
         → has_its (with_its x letters) y ≡ has_its letters y
-    others_kept x y away letters size wrong =
-        ap (λ seen. option_map_or (λ l. option_map_or (nat_eq l) seen false) (target y) true)
-        (slice_get-set_other letters (place x) (place y) (unwrap_or (target x) 0) away)
+    others_kept x y away letters size wrong = grind (arith, false, slice_get-set_other)
 
     set_all : (letters : List ℕ) (xs : List X) → length letters ≡ size → All SetsIts xs → AllPairs (λ x y. place x ≢ place y) xs
         → AreMet has_its with_its put line HasSize letters (met has_its with_its xs letters) xs
@@ -183,15 +175,11 @@ module _ (told : Told) (m : RotorParts) (s : RotorDay) (seated : AreSeated m.mod
 
   kept_without : (w v : SheetWheel) → w.wheel ≢ v.wheel → (seated : Option (Option Wheel))
       → option_map_or (same_wheel v.wheel) (unwrap_or (option_map (without w.wheel) seated) None) false ≡ option_map_or (same_wheel v.wheel) (unwrap_or seated None) false
-  kept_without w v other None = refl
-  kept_without w v other (Some None) = refl
-  kept_without w v other (Some (Some wheel)) = grind (arith, cond_both, told.wheels)
+  kept_without w v e seated = grind (arith, cond_both)
 
   seat_spares : (j k : ℕ) (w v : SheetWheel) → k ≢ j → w.wheel ≢ v.wheel → (slots : List (Option Wheel)) → HasSlots slots → is_seated slots (suc j, w) ≡ false
       → is_seated (seat (suc j, w) slots) (suc k, v) ≡ is_seated slots (suc k, v)
-  seat_spares j k w v away other slots size wrong =
-      rw (slice_get-set_other (map (without w.wheel) slots) (suc j - 1) k (Some w.wheel) (λ e. away (omega (arith, e))), slice_get-map (without w.wheel) slots k)
-      (kept_without w v other (slice_get slots k))
+  seat_spares j k w v away other slots size wrong = grind (arith, slice_get-set_other, slice_get-map, kept_without)
 
   seats_met : length m.slots ≡ length s.wheels → AreMet is_seated seat with_slots seat_line HasSlots m.slots (met is_seated seat slotted m.slots) slotted
   seats_met size =
@@ -205,12 +193,7 @@ module _ (told : Told) (m : RotorParts) (s : RotorDay) (seated : AreSeated m.mod
 
   -- all of them are the day's then
   seat_is : (k : ℕ) (w : SheetWheel) (slots : List (Option Wheel)) → is_seated slots (suc k, w) ≡ true → slice_get slots k ≡ Some (Some w.wheel)
-  seat_is k w slots e = seen (slice_get slots k) e
-    where
-      seen : (o : Option (Option Wheel)) → option_map_or (same_wheel w.wheel) (unwrap_or o None) false ≡ true → o ≡ Some (Some w.wheel)
-      seen None e = absurd cc
-      seen (Some None) e = absurd cc
-      seen (Some (Some wheel)) e = ap (λ wheel. Some (Some wheel)) (sym ((told.wheels w.wheel wheel).0 e))
+  seat_is k w slots e = grind (arith, false)
 
   all_seated : (wheels : List SheetWheel) (slots : List (Option Wheel)) → length slots ≡ length wheels → AllByRecursion (λ n. is_seated slots n ≡ true) (enumerate_from 1 wheels)
       → slots ≡ seats wheels
