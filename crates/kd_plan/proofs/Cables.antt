@@ -249,7 +249,6 @@ pub lines_beside : (work : Work) (cables : List Cable) (pairs : List (ℕ × ℕ
 lines_beside works.Pull cables pairs to = refl
 lines_beside works.Put cables pairs to = refl
 
-
 -- ---- the cables of a machine beside the columns of a day, one to one: no letter lies in two columns, and cables with the letters
 -- of their columns are the day's pairs.
 within_letters : (xs : List ℕ) → AllByRecursion (λ x. x < 26) xs → (y : ℕ) → has_letter xs y ≡ true → y < 26

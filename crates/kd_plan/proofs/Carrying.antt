@@ -108,7 +108,7 @@ led_cons {k = k} allowed made rest = record { leads = (k, record { allowed = all
 
 pub led_append : (xs ys : List Setting) {m k n : Parts} → Led m xs k → Led k ys n → Led m (xs ++ ys) n
 led_append [] ys {n = n} first second = subst (λ from. Led from ys n) first.leads second
-led_append (x ∷ xs) ys first second = grind (arith, led_cons, led_append xs ys (record {leads = first.leads.2}) second)
+led_append (x ∷ xs) ys first second = grind (arith, led_cons, led_append xs ys (record { leads = first.leads.2 }) second)
 
 -- a setting that is left out where things are so already
 pub led_unless : (so : Bool) (m n : Parts) (x : Setting) → (so ≡ true → n ≡ m) → changed m x ≡ n → (so ≡ false → why_refused m x ≡ None)

@@ -148,24 +148,13 @@ finds_first test w wheels b = grind arith
 
 found_at_most : (test : SheetWheel → Bool) (model : Model) (wheels : List SheetWheel) → count_by (finds test wheels) (box_of model) ≤ count_by test wheels
 found_at_most test model [] = omega (arith, sum_none (box_of model))
-found_at_most test model (w ∷ wheels) =
-    omega (
-      arith,
-      sum_by-le-sum_by _ _ (box_of model) (finds_first test w wheels),
-      sums_add (λ b. cond (same_wheel b w.wheel && test w) 1 0) (λ b. cond (finds test wheels b) 1 0) _ (λ b. refl) (box_of model),
-      once_in_box model w.wheel (test w),
-      found_at_most test model wheels,
-      sum_by-cons (λ w. cond (test w) 1 0) w wheels,
-    )
+found_at_most test model (w ∷ wheels) = grind (arith, common_steps, sum_by-le-sum_by, finds_first, sums_add, once_in_box, sum_by-cons, found_at_most test model wheels)
 
 -- things beside things by their numbers
 by_slot : {A B : Type 0} (lines : ℕ → Option A → B → List Setting) (front xs : List A) (ys : List B) (number : ℕ) → number ≡ suc (length front) → length xs ≡ length ys
     → lines_from (λ n y. lines n (numbered (front ++ xs) n) y) number ys ≡ lines_from (λ n z. lines n (Some z.0) z.1) number (zip xs ys)
 by_slot lines front [] [] number e size = refl
-by_slot lines front (x ∷ xs) (y ∷ ys) number e size =
-    let here : numbered (front ++ x ∷ xs) number ≡ Some x = rw e (seam_get front x xs) in
-    let rest = by_slot lines (front ++ x ∷ []) xs ys (number + 1) (omega (arith, length-append front (x ∷ []))) (omega arith) in
-    rw (here, ← (rw append_assoc at rest)) refl
+by_slot lines front (x ∷ xs) (y ∷ ys) number e size = grind (arith, seam_get, append_assoc, length-append, by_slot lines (front ++ x ∷ []) xs ys (number + 1))
 by_slot lines front _ _ number e size = absurd (omega arith)
 
 -- All planned lines of a rotor machine.
@@ -285,7 +274,7 @@ prices_of prices most le no_rows no_columns rows columns row_bound column_bound 
 
 -- prices of 0
 pub zeros_within : (number : ℕ) → All (λ price. unsigned_abs price ≤ 0) (replicate number (pos 0))
-zeros_within number k d lt = omega (arith, ap unsigned_abs (get_or-replicate number k (pos 0) d (omega (arith, length-replicate number (pos 0)))))
+zeros_within number k d lt = grind (arith, get_or-replicate, length-replicate)
 
 pub zeros_all : (number : ℕ) → All (λ price. price ≡ pos 0) (replicate number (pos 0))
 zeros_all number k d lt = get_or-replicate number k (pos 0) d (omega (arith, length-replicate number (pos 0)))
@@ -344,58 +333,20 @@ pub rotor_room : CablesCostFour → (m : RotorParts) (s : RotorDay) (to : List �
     → length (planned_lines (Rotor m) (OfRotors s) to) ≤ 192
 rotor_room few m s to machine legal same =
     let counted = rotor_counted m s to (slots_count m s machine legal same) in
-    omega (
-      arith,
-      counted.few,
-      sum_by-le (λ (z : Beside). cable_cost z.0 z.1) 4 (besides m.cables s.pairs to) (λ k d lt. let z : Beside = get_or (besides m.cables s.pairs to) k d in few z.0 z.1),
-      chosen_length m.cables (column_at s.pairs) to,
-      machine.legal.cables.count,
-      count_by-le-length (λ (slot : Option Wheel × SheetWheel). not (option_map_or (same_wheel slot.1.wheel) slot.0 false)) (zip m.slots s.wheels),
-      length-zip m.slots s.wheels,
-      at_most_one (same_reflector m.reflector s.reflector),
-      count_by-le-length (λ (w : SheetWheel). not (option_map_or (nat_eq w.ring) (ring_at m w.wheel) false)) s.wheels,
-      count_by-le-length (λ (w : SheetWheel). not (option_map_or (nat_eq w.letter) (letter_at m w.wheel) false)) s.wheels,
-      few_slots s.model,
-      legal.wheels.count,
-      length-map s.wheels (λ w. Some w.wheel),
-    )
+    let cables = sum_by-le (λ (z : Beside). cable_cost z.0 z.1) 4 (besides m.cables s.pairs to) (λ k d lt. let z : Beside = get_or (besides m.cables s.pairs to) k d in few z.0 z.1) in
+    grind (arith, counted.few, chosen_length, count_by-le-length, length-zip, at_most_one, few_slots, length-map)
 
 pins_at_most : (now wanted : PinSet) → HasAllPins now → sum_by (λ (z : List Bool × List Bool). length (zip z.0 z.1)) (zip (pins_of now) (pins_of wanted)) ≤ 131
 unfolding ring_of
-pins_at_most now wanted has =
-    omega (
-      arith,
-      has 1,
-      has 2,
-      has 3,
-      has 4,
-      has 5,
-      has 6,
-      length-zip now.w1 wanted.w1,
-      length-zip now.w2 wanted.w2,
-      length-zip now.w3 wanted.w3,
-      length-zip now.w4 wanted.w4,
-      length-zip now.w5 wanted.w5,
-      length-zip now.w6 wanted.w6,
-    )
+pins_at_most now wanted has = grind (arith, length-zip, has 1, has 2, has 3, has 4, has 5, has 6)
 
 pub pin_room : (m : PinParts) (s : PinDay) (to : List ℕ) → IsMachine (Pin m) → length (planned_lines (Pin m) (OfPins s) to) ≤ 192
 pin_room m s to machine =
     let wheels = zip (pins_of m.pins) (pins_of s.pins) in
     let differing = λ (z : List Bool × List Bool). count_by (λ (pin : Bool × Bool). differ pin.0 pin.1) (zip z.0 z.1) in
-    omega (
-      arith,
-      (pin_counted m s to).few,
-      sum-map differing wheels,
-      sum_by-le-sum_by differing (λ z. length (zip z.0 z.1)) wheels (λ z. count_by-le-length (λ (pin : Bool × Bool). differ pin.0 pin.1) (zip z.0 z.1)),
-      pins_at_most m.pins s.pins machine.legal.pins,
-      count_by-le-length (λ (letter : ℕ × ℕ). not (nat_eq letter.0 letter.1)) (zip m.letters s.window),
-      length-zip m.letters s.window,
-      sum_by-le (λ (z : BarRow). lugs_moved z.0 (to_stand z)) 2 (bars_beside m.bars s.rows to) (λ k d lt. at_most_two _ _),
-      chosen_length m.bars (row_at s.rows) to,
-      machine.legal.letters.count,
-      machine.legal.bars,
-    )
+    let pins = sum_by-le-sum_by differing (λ z. length (zip z.0 z.1)) wheels (λ z. count_by-le-length (λ (pin : Bool × Bool). differ pin.0 pin.1) (zip z.0 z.1)) in
+    let bars = sum_by-le (λ (z : BarRow). lugs_moved z.0 (to_stand z)) 2 (bars_beside m.bars s.rows to) (λ k d lt. at_most_two _ _) in
+    grind (arith, (pin_counted m s to).few, sum-map differing wheels, pins_at_most, chosen_length, count_by-le-length, length-zip)
 
 -- the card
 pub planned : (m : Parts) (s : Day) (costs : List (List ℕ)) (to : List ℕ) (settings : List Setting) (prices : PriceParts)

@@ -94,7 +94,6 @@ module _ (told : Told) (model : Model) (wheels : List SheetWheel) where
       (λ below. ap test e ∙ same_wheel_self w.wheel) in
       find_at test wheels ∙ ap (slice_get wheels) first ∙ slice_get-get_or wheels k w lt ∙ ap Some e
 
-
 -- ---- lines that each set the number at a place of a list, where it is another one, as RING and TURN do.
 module _ {X : Type 0} (place : X → ℕ) (target : X → Option ℕ) where
   -- the number at the thing's place is its own, if it has one
@@ -281,7 +280,7 @@ module _ (told : Told) (m : RotorParts) (s : RotorDay) (seated : AreSeated m.mod
       (two_by_number s.wheels (λ n v. place_of n ≢ place_of v) (told.days m.model s.wheels seated))
 
 pub slots_count : (m : RotorParts) (s : RotorDay) → IsMachine (Rotor m) → IsLegalRotorDay s → m.model ≡ s.model → length m.slots ≡ length s.wheels
-slots_count m s machine legal same = machine.legal.slots ∙ ap slots_of same ∙ sym (sym (length-map s.wheels (λ w. Some w.wheel)) ∙ legal.wheels.count)
+slots_count m s machine legal same = grind (arith, length-map)
 
 module _ (told : Told) (m : RotorParts) (s : RotorDay) (machine : IsMachine (Rotor m)) (legal : IsLegalRotorDay s) (same : m.model ≡ s.model) (to : List ℕ) (pairing : IsPairing 13 to) where
   seated : AreSeated m.model (seats s.wheels)
@@ -316,19 +315,23 @@ module _ (told : Told) (m : RotorParts) (s : RotorDay) (machine : IsMachine (Rot
       led_append _ _ (led_append _ _ (led_append _ _ (led_append _ _ (led_append _ _ seats_led reflector) rings) turns) (rw (same_cables told m s.pairs legal.pairs m.cables to machine.legal.cables pairing) at pulled)) put
 
   pub rotors_lead : LeadsToTheDay (Rotor m) (OfRotors s) (planned_lines (Rotor m) (OfRotors s) to)
-  rotors_lead = (plugged (map once_put zs), all_led.leads, record {
-    key = record {
-      model = same;
-      slots = refl;
-      rings = λ k d lt.
-          let w = get_or s.wheels k d in
-          let wanted = one_is told m.model s.wheels seated w (Contains-get_or s.wheels k d lt) in
-          let rings = then_rings told m s seated in
-          let all = (rings_met told m s seated machine.legal.rings.count).done in
-          let right = λ (wheel : Wheel). has_its (place_in_box m.model) (ring_wanted told m s seated) rings wheel ≡ true in
-          is_number _ _ (rw wanted at (All-contains right (box_of m.model) w.wheel (All-from_recursion right (box_of m.model) all) (boxed told m s seated k d lt)));
-      reflector = refl;
-      cables = are_the_pairs told m s.pairs legal.pairs m.cables to machine.legal.cables pairing;
-    };
-    window = λ k d lt. is_number _ _ (at_number s.wheels _ (turns_met told m s seated machine.legal.letters.count).done k d lt);
-  })
+  rotors_lead = (
+    plugged (map once_put zs),
+    all_led.leads,
+    record {
+      key = record {
+        model = same;
+        slots = refl;
+        rings = λ k d lt.
+            let w = get_or s.wheels k d in
+            let wanted = one_is told m.model s.wheels seated w (Contains-get_or s.wheels k d lt) in
+            let rings = then_rings told m s seated in
+            let all = (rings_met told m s seated machine.legal.rings.count).done in
+            let right = λ (wheel : Wheel). has_its (place_in_box m.model) (ring_wanted told m s seated) rings wheel ≡ true in
+            is_number _ _ (rw wanted at (All-contains right (box_of m.model) w.wheel (All-from_recursion right (box_of m.model) all) (boxed told m s seated k d lt)));
+        reflector = refl;
+        cables = are_the_pairs told m s.pairs legal.pairs m.cables to machine.legal.cables pairing;
+      };
+      window = λ k d lt. is_number _ _ (at_number s.wheels _ (turns_met told m s seated machine.legal.letters.count).done k d lt);
+    },
+  )
