@@ -58,13 +58,10 @@ paired d xs to h =
 pub is_number : (seen : Option ℕ) (n : ℕ) → option_map_or (nat_eq n) seen false ≡ true → seen ≡ Some n
 is_number seen n e = grind (arith, eqb-true)
 
--- what is found passes the test and is there
-pub found : {X : Type 0} (p : X → Bool) (xs : List X) (x : X) → find p xs ≡ Some x → (p x ≡ true) × Contains xs x
-found p xs x e =
-    let at = sym (find_at p xs) ∙ e in
-    let lt = slice_get_within xs _ x at in
-    let is = get_or_from_slice_get xs _ x x at in
-    (ap p (sym is) ∙ passes_at_first p xs x lt, (_, lt, is))
+-- what is found passes the test
+pub found : {X : Type 0} (p : X → Bool) (xs : List X) (x : X) → find p xs ≡ Some x → p x ≡ true
+found p [] x e = absurd cc
+found p (y ∷ xs) x e = grind (arith, found p xs x)
 
 -- what holds of each of them and each later one
 abbrev pub EachTwo : {X : Type 0} → (X → X → Type 0) → List X → Type 0
@@ -77,15 +74,6 @@ each_two_of_pairs R (x ∷ xs) h = (
   recursion_from_All (R x) xs (λ k d lt. h zero (suc k) d (omega arith) (omega arith)),
   each_two_of_pairs R xs (λ i k d before lt. h (suc i) (suc k) d (omega arith) (omega arith)),
 )
-
--- elements with their numbers
-module _ {X : Type 0} (xs : List X) (n : ℕ) where
-  pub enumerated_all : (P : ℕ × X → Type 0) → ((k : ℕ) (d : X) → k < length xs → P (n + k, get_or xs k d)) → AllByRecursion P (enumerate_from n xs)
-  enumerated_all P h = grind (arith, recursion_from_All, length-enumerate_from, get_or-enumerate_from, h)
-
-  pub enumerated_two : (R : ℕ × X → ℕ × X → Type 0) → ((i j : ℕ) (d : X) → i < j → j < length xs → R (n + i, get_or xs i d) (n + j, get_or xs j d))
-      → EachTwo R (enumerate_from n xs)
-  enumerated_two R h = grind (arith, each_two_of_pairs, length-enumerate_from, get_or-enumerate_from, h)
 
 -- the element in the middle
 module _ {X : Type 0} where

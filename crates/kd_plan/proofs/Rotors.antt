@@ -39,7 +39,6 @@ has_wheel_of wheels wheel h = found_at (same_wheel wheel) wheel wheels (same_whe
 pub has_reflector_of : (reflectors : List Reflector) (reflector : Reflector) → Contains reflectors reflector → has_reflector reflectors reflector ≡ true
 has_reflector_of reflectors reflector h = found_at (same_reflector reflector) reflector reflectors (same_reflector_self reflector) h
 
--- the wheels of a day have different places in the box
 -- the box has no wheel twice
 places_in_box : (model : Model) → map (place_in_box model) (box_of model) ≡ range_with_len 0 (length (box_of model))
 places_in_box model = grind arith
@@ -82,8 +81,8 @@ module _ (told : Told) (model : Model) (wheels : List SheetWheel) where
   abbrev the_one : Wheel → Option SheetWheel
   the_one wheel = find (λ (w : SheetWheel). same_wheel wheel w.wheel) wheels
 
-  is_the_one : (wheel : Wheel) (w : SheetWheel) → the_one wheel ≡ Some w → (wheel ≡ w.wheel) × Contains wheels w
-  is_the_one wheel w e = let seen = found (λ (w : SheetWheel). same_wheel wheel w.wheel) wheels w e in ((told.wheels wheel w.wheel).0 seen.0, seen.1)
+  is_the_one : (wheel : Wheel) (w : SheetWheel) → the_one wheel ≡ Some w → wheel ≡ w.wheel
+  is_the_one wheel w e = (told.wheels wheel w.wheel).0 (found (λ (w : SheetWheel). same_wheel wheel w.wheel) wheels w e)
 
   one_is : AreSeated model (seats wheels) → (w : SheetWheel) → Contains wheels w → the_one w.wheel ≡ Some w
   one_is seated w (k, lt, e) =
@@ -234,7 +233,7 @@ module _ (told : Told) (m : RotorParts) (s : RotorDay) (seated : AreSeated m.mod
           → option_to_list (option_and_then (λ (w : SheetWheel). unless_so (option_map_or (nat_eq w.ring) (ring_at m w.wheel) false) (RingTo w.wheel w.ring)) o)
           ≡ option_to_list (unless_so (option_map_or (λ l. option_map_or (nat_eq l) (ring_at m wheel) false) (option_map (λ (w : SheetWheel). w.ring) o) true) (RingTo wheel (unwrap_or (option_map (λ (w : SheetWheel). w.ring) o) 0)))
       same wheel None e = refl
-      same wheel (Some w) e = rw (is_the_one told m.model s.wheels wheel w e).0 refl
+      same wheel (Some w) e = rw (is_the_one told m.model s.wheels wheel w e) refl
 
   rings_met : length m.rings ≡ size
       → AreMet (has_its (place_in_box m.model) ring_wanted) (with_its (place_in_box m.model) ring_wanted) with_rings ring_line (HasSize (place_in_box m.model) ring_wanted with_rings ring_line size) m.rings then_rings (box_of m.model)
