@@ -18,7 +18,7 @@ use Rattle.kd_plan.specs.declared.cable_lines.Work.{Work}
 use Rattle.kd_state.specs.OnKey.{AreThePairs, IsPaired, Joins}
 use Rattle.kd_plan.proofs.Carrying.{AreMet, EachLeads, EachTwo, IsPairing, Serves, spare_all, each_two_of_pairs, meet, met, paired, seam_get, seam_set}
 use Rattle.kd_plan.proofs.Writing.{kept_lines, lines_of_kept}
-use Rattle.kd_plan.proofs.Prelude.{besides, lines_from, work_beside}
+use Rattle.kd_plan.proofs.Prelude.{besides, lines_from, list_any, work_beside}
 use Rattle.kd_plan.specs.declared.cable_lines.Work.TheVariants as works
 
 abbrev pub Cable : Type 0
@@ -122,6 +122,9 @@ told_pulled after before due kept done own held = grind arith
 told_put : (after due : Bool) {P : Type 0} → (P → not (due && not after) ≡ true) → (after ≡ true → due ≡ true) → (due ≡ true → P) → after ≡ due
 told_put after due done among own = grind arith
 
+one_wants : (first rest before due others : Bool) → (first || rest) ≡ true → first ≡ (before && due) → (rest ≡ true → others ≡ true) → (due || others) ≡ true
+one_wants first rest before due others e is more = grind arith
+
 module _ (m : RotorParts) where
   abbrev pub with_cables : List Cable → Parts
   with_cables cables = Rotor (record m { cables = cables })
@@ -192,33 +195,38 @@ module _ (m : RotorParts) where
     pulls_each (front ++ once_pulled z ∷ []) zs h.1,
   )
 
-  -- columns of which no two have a letter in common
+  -- some column has the letter; and columns of which no two have one in common
+  abbrev all_want : List Beside → ℕ → Bool
+  all_want zs y = list_any (λ (z : Beside). wants z.1 y) zs
+
   abbrev pub AreDisjoint : List Beside → Type 0
   AreDisjoint zs = EachTwo (λ z v. (y : ℕ) → wants z.1 y ≡ true → wants v.1 y ≡ false) zs
 
-  -- what another column has lies in none of the cables that are only pulled, and in none that is done
-  behind : (column : Column) (y : ℕ) (zs : List Beside) → wants column y ≡ true → AllByRecursion IsPluggable zs
-      → AllByRecursion (λ v. (y : ℕ) → wants column y ≡ true → wants v.1 y ≡ false) zs → has_letter (plugged_letters (map once_pulled zs)) y ≡ false
-  behind column y [] e h apart = refl
-  behind column y (z ∷ zs) e h apart =
-      list_any-append (λ other. nat_eq other y) (cable_letters (once_pulled z)) (plugged_letters (map once_pulled zs))
-      ∙ rw (pulled_is [] [] z h.0 y, apart.0 y e, behind column y zs e h.1 apart.1) (grind arith)
+  none_wants : (column : Column) (y : ℕ) (zs : List Beside) → wants column y ≡ true → AllByRecursion (λ v. (y : ℕ) → wants column y ≡ true → wants v.1 y ≡ false) zs
+      → all_want zs y ≡ false
+  none_wants column y [] e apart = refl
+  none_wants column y (z ∷ zs) e apart = grind (arith, apart.0, none_wants column y zs e apart.1)
 
-  abbrev AllFree : List Cable → List Beside → Type 0
-  AllFree front zs = AllByRecursion (λ z. (y : ℕ) → wants z.1 y ≡ true → has_letter (plugged_letters front) y ≡ false) zs
+  -- what lies in cables that are only pulled, some column wants
+  behind : (y : ℕ) (zs : List Beside) → AllByRecursion IsPluggable zs → has_letter (plugged_letters (map once_pulled zs)) y ≡ true → all_want zs y ≡ true
+  behind y [] h e = e
+  behind y (z ∷ zs) h e =
+      let parts = list_any-append (λ other. nat_eq other y) (cable_letters (once_pulled z)) (plugged_letters (map once_pulled zs)) in
+      one_wants (holds (once_pulled z) y) (has_letter (plugged_letters (map once_pulled zs)) y) (holds z.0 y) (wants z.1 y) (all_want zs y)
+      (sym parts ∙ e) (pulled_is [] [] z h.0 y) (behind y zs h.1)
 
-  next_free : (front : List Cable) (z v : Beside) → IsPluggable z → ((y : ℕ) → wants v.1 y ≡ true → has_letter (plugged_letters front) y ≡ false)
-      → ((y : ℕ) → wants z.1 y ≡ true → wants v.1 y ≡ false) → (y : ℕ) → wants v.1 y ≡ true → has_letter (plugged_letters (front ++ once_put z ∷ [])) y ≡ false
-  next_free front z v h free apart y e =
-      let other : wants z.1 y ≡ false = false_from_ne_true (wants z.1 y) (λ due. false≢true (sym (apart y due) ∙ e)) in
-      rw flat_map-append
-      (list_any-append (λ other. nat_eq other y) (plugged_letters front) (plugged_letters (once_put z ∷ []))
-      ∙ rw (free y e, append-nil, has_column z h y, other) refl)
+  -- what lies in the cables that are done, none of the other columns wants
+  abbrev IsFree : List Cable → List Beside → Type 0
+  IsFree front zs = (y : ℕ) → has_letter (plugged_letters front) y ≡ true → all_want zs y ≡ false
 
-  still_free : (front : List Cable) (z : Beside) (zs : List Beside) → IsPluggable z → AllFree front zs
-      → AllByRecursion (λ v. (y : ℕ) → wants z.1 y ≡ true → wants v.1 y ≡ false) zs → AllFree (front ++ once_put z ∷ []) zs
-  still_free front z [] h free apart = tt
-  still_free front z (v ∷ zs) h free apart = (λ y e. next_free front z v h free.0 apart.0 y e, still_free front z zs h free.1 apart.1)
+  still_free : (front : List Cable) (z : Beside) (zs : List Beside) → IsPluggable z → IsFree front (z ∷ zs)
+      → AllByRecursion (λ v. (y : ℕ) → wants z.1 y ≡ true → wants v.1 y ≡ false) zs → IsFree (front ++ once_put z ∷ []) zs
+  still_free front z zs h free apart y e = grind (arith, flat_map-append, list_any-append, append-nil, has_column z h y, free y, none_wants z.1 y zs)
+
+  nowhere : (front : List Cable) (z : Beside) (zs : List Beside) → AllByRecursion IsPluggable zs → IsFree front (z ∷ zs)
+      → AllByRecursion (λ v. (y : ℕ) → wants z.1 y ≡ true → wants v.1 y ≡ false) zs
+      → (y : ℕ) → wants z.1 y ≡ true → (has_letter (plugged_letters front) y ≡ false) × (has_letter (plugged_letters (map once_pulled zs)) y ≡ false)
+  nowhere front z zs h free apart y e = grind (arith, free y, behind y zs, none_wants z.1 y zs)
 
   -- nothing that is pulled is put
   put_lines_are : (z : Beside) → IsPluggable z → (number : ℕ)
@@ -228,12 +236,12 @@ module _ (m : RotorParts) where
       let same : (x : ℕ) → may_lack z.1 (once_pulled z) x ≡ may_lack z.1 z.0 x = λ x. grind (arith, pulled_is [] [] z h x) in
       ap (λ (test : ℕ → Bool). flat_map (λ x. option_to_list (unless_so (test x) (Put number x))) alphabet) (λ i x. same x i)
 
-  pub puts_each : (front : List Cable) (zs : List Beside) → AllByRecursion IsPluggable zs → AreDisjoint zs → AllFree front zs
+  pub puts_each : (front : List Cable) (zs : List Beside) → AllByRecursion IsPluggable zs → AreDisjoint zs → IsFree front zs
       → EachLeads with_cables once_pulled once_put (work_beside works.Put) front zs
   puts_each front [] h apart free = tt
   puts_each front (z ∷ zs) h apart free = (
-    rw kept_lines (rw (put_lines_are z h.0 (suc (length front))) at (puts_met front (map once_pulled zs) z h.0 (λ y e. (free.0 y e, behind z.1 y zs e h.1 apart.0))).led),
-    puts_each (front ++ once_put z ∷ []) zs h.1 apart.1 (still_free front z zs h.0 free.1 apart.0),
+    rw kept_lines (rw (put_lines_are z h.0 (suc (length front))) at (puts_met front (map once_pulled zs) z h.0 (nowhere front z zs h.1 free apart.0)).led),
+    puts_each (front ++ once_put z ∷ []) zs h.1 apart.1 (still_free front z zs h.0 free apart.0),
   )
 
 -- the lines of a cable, by letter

@@ -310,7 +310,7 @@ module _ (told : Told) (m : RotorParts) (s : RotorDay) (machine : IsMachine (Rot
       let turns = rw (flat_lines) at (turns_met told m s seated machine.legal.letters.count).led in
       let pulled = cells_led plugged present once_pulled (work_beside works.Pull) [] zs 1 refl (pulls_each turned [] zs pluggable) in
       let put = cells_led plugged once_pulled once_put (work_beside works.Put) [] zs 1 refl (puts_each turned [] zs pluggable (are_disjoint told m s.pairs legal.pairs m.cables to machine.legal.cables pairing)
-      (recursion_from_All (λ (z : Beside). (y : ℕ) → wants z.1 y ≡ true → has_letter (plugged_letters []) y ≡ false) zs (λ k d lt y e. refl))) in
+      (λ y e. absurd cc)) in
       led_append _ _ (led_append _ _ (led_append _ _ (led_append _ _ (led_append _ _ seats_led reflector) rings) turns) (rw (same_cables told m s.pairs legal.pairs m.cables to machine.legal.cables pairing) at pulled)) put
 
   pub rotors_lead : LeadsToTheDay (Rotor m) (OfRotors s) (planned_lines (Rotor m) (OfRotors s) to)
