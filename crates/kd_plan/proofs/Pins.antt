@@ -12,6 +12,7 @@ use Rattle.kd_plan.proofs.Prelude.{firsts-zip, seconds-zip, Place, reading_of, I
 use Rattle.kd_card.specs.Proving.{LeadsToTheDay}
 use Rattle.kd_tables.specs.Rings.{ring_of}
 use Rattle.kd_pins.specs.PinWheels.{pins_of}
+use Rattle.kd_pins.specs.declared.pin_set.PinSet.{PinSet}
 use Rattle.kd_state.specs.Pins.{pin_set, with_pin}
 use Rattle.kd_plan.proofs.Carrying.{Led, led_unless, EachLeads, cells_led, led_append, is_number, seam_get, seam_set, paired, IsPairing}
 use Rattle.kd_plan.proofs.Writing.{row_at, bars_beside, lines_of_each}
@@ -36,9 +37,6 @@ place_of_letter number place lt within =
 -- six wheels
 pins_of_set : (lists : List (List Bool)) → length lists ≡ 6 → pins_of (pin_set lists) ≡ lists
 pins_of_set lists e = grind (arith, common_steps)
-
-same_of_differ : (a b : Bool) → not (differ a b) ≡ true → a ≡ b
-same_of_differ a b e = grind arith
 
 -- a letter of a wheel, with its pin and the day's
 abbrev Cell : Type 0
@@ -69,12 +67,12 @@ cells_are _ _ _ e f = absurd (omega arith)
 abbrev pub wheel_lines : ℕ → List Bool × List Bool → List Setting
 wheel_lines number z = wheel_pin_lines number (ring_of number) z.0 z.1
 
-module _ (m : PinParts) (s : PinDay) where
+module _ (m : PinParts) where
   abbrev pub with_pins : List (List Bool) → Parts
   with_pins lists = Pin (record m { pins = pin_set lists })
 
-  -- what stands around one wheel: the other wheels, and the day's
-  module _ (front back due : List (List Bool)) (day : List Bool) (six : length front + length back ≡ 5) (are : pins_of s.pins ≡ front ++ day ∷ due) where
+  -- what stands around one wheel: the other wheels
+  module _ (front back : List (List Bool)) (six : length front + length back ≡ 5) where
     abbrev with_wheel : List Bool → Parts
     with_wheel pins = with_pins (front ++ pins ∷ back)
 
@@ -97,50 +95,46 @@ module _ (m : PinParts) (s : PinDay) where
 
     -- one wheel, of which these letters are done
     pins_each : (letters : List ℕ) (done : List Bool) (cells : List Cell) → number < 7 → length letters ≡ length done
-        → letters ++ map (λ (w : Cell). w.0) cells ≡ ring_of number → done ++ map to_be cells ≡ day → EachLeads with_wheel is_so to_be (pin_line number) done cells
-    pins_each letters done [] within size ring e = tt
-    pins_each letters done (w ∷ cells) within size ring e =
+        → letters ++ map (λ (w : Cell). w.0) cells ≡ ring_of number → EachLeads with_wheel is_so to_be (pin_line number) done cells
+    pins_each letters done [] within size ring = tt
+    pins_each letters done (w ∷ cells) within size ring =
         let lt : length done < length (ring_of number) = omega (arith, ap length ring, length-append letters (w.0 ∷ map (λ (w : Cell). w.0) cells)) in
         let letter_is : get_or (ring_of number) (length done) 0 ≡ w.0 = rw (← ring) (get_or_at letters w.0 (map (λ (w : Cell). w.0) cells) 0 (length done) size) in
         let placed = ap (place_on (ring_of number)) (sym letter_is) ∙ place_of_letter number (length done) within lt in
         let has = list_any_at (λ other. nat_eq other w.0) (ring_of number) (length done) 0 lt (eq-eqb (get_or (ring_of number) (length done) 0) w.0 letter_is) in (
           one_pin done (map is_so cells) (is_so w) (to_be w) w.0 placed has,
           pins_each (letters ++ w.0 ∷ []) (done ++ to_be w ∷ []) cells within (omega (arith, length-append letters (w.0 ∷ []), length-append done (to_be w ∷ [])))
-              (append_assoc letters (w.0 ∷ []) (map (λ (w : Cell). w.0) cells) ∙ ring) (append_assoc done (to_be w ∷ []) (map to_be cells) ∙ e),
+              (append_assoc letters (w.0 ∷ []) (map (λ (w : Cell). w.0) cells) ∙ ring),
         )
 
-    wheel_led : (now : List Bool) → number < 7 → length now ≡ length (ring_of number) → length day ≡ length (ring_of number)
+    wheel_led : (now day : List Bool) → number < 7 → length now ≡ length (ring_of number) → length day ≡ length (ring_of number)
         → Led (with_wheel now) (wheel_lines number (now, day)) (with_wheel day)
-    wheel_led now within now_size day_size =
+    wheel_led now day within now_size day_size =
         let cells = zip (ring_of number) (zip now day) in
         let are = cells_are (ring_of number) now day now_size day_size in
-        let led = cells_led with_wheel is_so to_be (pin_line number) [] cells 1 refl (pins_each [] [] cells within refl are.letters_are are.wanted_are) in
+        let led = cells_led with_wheel is_so to_be (pin_line number) [] cells 1 refl (pins_each [] [] cells within refl are.letters_are) in
         rw (lines_of_each (pin_of number) cells 1) (rw (are.now_are, are.wanted_are) at led)
 
-  -- all wheels
-  abbrev wheels : List (List Bool × List Bool)
-  wheels = zip (pins_of m.pins) (pins_of s.pins)
+  -- all wheels: each has as many pins as letters, now and by the day
+  abbrev AreSized : ℕ → List (List Bool × List Bool) → Type 0
+  AreSized number [] = Unit {0}
+  AreSized number (z ∷ zs) = (length z.0 ≡ length (ring_of number)) × (length z.1 ≡ length (ring_of number)) × AreSized (suc number) zs
 
-  pub pins_reach : HasAllPins m.pins → HasAllPins s.pins → Led (Pin m) (pin_lines m.pins s.pins) (Pin (record m { pins = s.pins }))
-  pins_reach has day_has =
-      let n = m.pins in
-      let d = s.pins in
-      cells_led with_pins (λ z. z.0) (λ z. z.1) wheel_lines [] wheels 1 refl (
-        wheel_led [] (n.w2 ∷ n.w3 ∷ n.w4 ∷ n.w5 ∷ n.w6 ∷ []) (d.w2 ∷ d.w3 ∷ d.w4 ∷ d.w5 ∷ d.w6 ∷ []) d.w1 refl refl n.w1 (omega arith) (has 1) (day_has 1),
-        (
-          wheel_led (d.w1 ∷ []) (n.w3 ∷ n.w4 ∷ n.w5 ∷ n.w6 ∷ []) (d.w3 ∷ d.w4 ∷ d.w5 ∷ d.w6 ∷ []) d.w2 refl refl n.w2 (omega arith) (has 2) (day_has 2),
-          (
-            wheel_led (d.w1 ∷ d.w2 ∷ []) (n.w4 ∷ n.w5 ∷ n.w6 ∷ []) (d.w4 ∷ d.w5 ∷ d.w6 ∷ []) d.w3 refl refl n.w3 (omega arith) (has 3) (day_has 3),
-            (
-              wheel_led (d.w1 ∷ d.w2 ∷ d.w3 ∷ []) (n.w5 ∷ n.w6 ∷ []) (d.w5 ∷ d.w6 ∷ []) d.w4 refl refl n.w4 (omega arith) (has 4) (day_has 4),
-              (
-                wheel_led (d.w1 ∷ d.w2 ∷ d.w3 ∷ d.w4 ∷ []) (n.w6 ∷ []) (d.w6 ∷ []) d.w5 refl refl n.w5 (omega arith) (has 5) (day_has 5),
-                (wheel_led (d.w1 ∷ d.w2 ∷ d.w3 ∷ d.w4 ∷ d.w5 ∷ []) [] [] d.w6 refl refl n.w6 (omega arith) (has 6) (day_has 6), tt),
-              ),
-            ),
-          ),
-        ),
+  wheels_each : (front : List (List Bool)) (zs : List (List Bool × List Bool)) → length front + length zs ≡ 6 → AreSized (suc (length front)) zs
+      → EachLeads with_pins (λ z. z.0) (λ z. z.1) wheel_lines front zs
+  wheels_each front [] six sized = tt
+  wheels_each front (z ∷ zs) six sized =
+      let back = map (λ (z : List Bool × List Bool). z.0) zs in
+      let next : suc (length front) ≡ length (front ++ z.1 ∷ []) = omega (arith, length-append front (z.1 ∷ [])) in (
+        wheel_led front back (omega (arith, six, length-map zs (λ (z : List Bool × List Bool). z.0))) z.0 z.1 (omega arith) sized.0 sized.1,
+        wheels_each (front ++ z.1 ∷ []) zs (omega (arith, six, next)) (subst (λ n. AreSized (suc n) zs) next sized.2),
       )
+
+  pub pins_reach : (day : PinSet) → HasAllPins m.pins → HasAllPins day → Led (Pin m) (pin_lines m.pins day) (Pin (record m { pins = day }))
+  pins_reach day has due =
+      let wheels = zip (pins_of m.pins) (pins_of day) in
+      cells_led with_pins (λ z. z.0) (λ z. z.1) wheel_lines [] wheels 1 refl
+      (wheels_each [] wheels refl (has 1, due 1, (has 2, due 2, (has 3, due 3, (has 4, due 4, (has 5, due 5, (has 6, due 6, tt)))))))
 
 -- TURN: the letter that shows on a wheel, and the day's
 abbrev pub shown : ℕ × ℕ → ℕ
@@ -212,6 +206,6 @@ module _ (m : PinParts) (s : PinDay) (to : List ℕ) (machine : IsMachine (Pin m
 
   pub pins_lead : LeadsToTheDay (Pin m) (OfPins s) (planned_lines (Pin m) (OfPins s) to)
   pins_lead =
-      let pins = led_append (pin_lines m.pins s.pins) (pin_turn_lines m.letters s.window) (pins_reach m s machine.legal.pins legal.pins) turns_reach in
+      let pins = led_append (pin_lines m.pins s.pins) (pin_turn_lines m.letters s.window) (pins_reach m s.pins machine.legal.pins legal.pins) turns_reach in
       let all = led_append (pin_lines m.pins s.pins ++ pin_turn_lines m.letters s.window) (lug_lines m.bars s.rows to) pins lugs_reach in
       (with_bars after_turns (map to_stand zs), all.leads, record { key = record { pins = refl; rows = rows_are }; window = refl })
