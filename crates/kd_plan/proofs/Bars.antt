@@ -133,8 +133,7 @@ module _ (m : PinParts) where
 
   pub lugs_each : (front : List (Place × Place)) (zs : List BarRow) → AllByRecursion IsMovable zs → EachLeads with_bars now_stands to_stand lugs_of front zs
   lugs_each front [] h = tt
-  lugs_each front (z ∷ zs) h =
-      (lugs_led front (map now_stands zs) z.0 (to_stand z) h.0.stands (is_target z.0 z.1 h.0.reading).stands, lugs_each (front ++ to_stand z ∷ []) zs h.1)
+  lugs_each front (z ∷ zs) h = grind (arith, lugs_led, is_target, lugs_each (front ++ to_stand z ∷ []) zs h.1)
 
 -- the rows that the bars read as in the end
 pub rows_read : (zs : List BarRow) → AllByRecursion IsMovable zs → map (λ (bar : Place × Place). reading_of bar.0 bar.1) (map to_stand zs) ≡ map (λ (z : BarRow). z.1) zs

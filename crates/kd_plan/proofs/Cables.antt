@@ -318,7 +318,7 @@ module _ (told : Told) (m : RotorParts) (pairs : List (ℕ × ℕ)) where
       → IsPaired pairs (once_put z)
   is_paired z None e known h =
       record { joins = λ some. absurd (some (no_letters (cable_letters (once_put z)) (λ y. has_column m z h y ∙ ap (λ column. wants column y) e))) }
-  is_paired z (Some pair) e known h = let there = known pair refl in record { joins = λ some. (there.0, pair, there.1, there.2, joins z pair h e) }
+  is_paired z (Some pair) e known h = grind (arith, known pair, joins z pair)
 
   pair_of : (j : ℕ) (pair : ℕ × ℕ) → slice_get pairs j ≡ Some pair → Contains pairs pair
   pair_of j pair e = (j, slice_get_within pairs j pair e, get_or_from_slice_get pairs j pair pair e)

@@ -150,15 +150,7 @@ module _ (m : PinParts) (s : PinDay) where
   pub turns_each : (front : List ℕ) (zs : List (ℕ × ℕ)) → front ++ map wanted zs ≡ s.window → AreOnWheels s.window
       → EachLeads with_shown shown wanted pin_turn_of front zs
   turns_each front [] e on = tt
-  turns_each front (z ∷ zs) e on =
-      let there = on.each (suc (length front)) z.1 (rw (← e) (seam_get front z.1 (map wanted zs))) in
-      let has = list_any_at (λ other. nat_eq other z.1) (ring_of (suc (length front))) there.0 z.1 there.1 (eq-eqb _ z.1 there.2) in (
-        led_unless (nat_eq z.0 z.1) (with_shown (front ++ z.0 ∷ map shown zs)) (with_shown (front ++ z.1 ∷ map shown zs)) (Turn (suc (length front)) z.1)
-            (λ so. ap (λ l. with_shown (front ++ l ∷ map shown zs)) (sym (eqb-true z.0 z.1 so)))
-            (ap with_shown (seam_set front z.0 (map shown zs) z.1))
-            (λ wrong. rw (seam_get front z.0 (map shown zs), has) refl),
-        turns_each (front ++ z.1 ∷ []) zs (append_assoc front (z.1 ∷ []) (map wanted zs) ∙ e) on,
-      )
+  turns_each front (z ∷ zs) e on = grind (arith, list_any_at, eq-eqb, eqb-true, led_unless, seam_get, seam_set, append_assoc, on.each (suc (length front)) z.1, turns_each (front ++ z.1 ∷ []) zs)
 
 -- ---- all lines
 
