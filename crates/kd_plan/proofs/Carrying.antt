@@ -1,17 +1,14 @@
 -- Settings carried out one after another, each of them allowed and needed; numbers that are one to one; and lists with one
 -- element in the middle.
-use Rattle.std.proofs.lemmas.Grind.{common_steps}
 use Rattle.std.proofs.Common.{◌≡◌, ◌≢◌, ℕ, zero, suc, ◌+◌, ◌-◌, ◌<◌, List, [], ◌∷◌, ◌++◌, length, get_or, set, slice_get, map, find, nat_eq, Bool, true, false, Option, Some, remove, All, AllPairs, Contains, IsPermutation, refl, sym, ap, ◌∙◌, subst, arith, None, cond, append_assoc, length-append}
 use Rattle.std.proofs.lemmas.List.Edits.{length-remove}
-use Rattle.std.proofs.lemmas.List.FromFn.{get_or-enumerate_from, length-enumerate_from}
-use Rattle.std.specs.List.{enumerate_from}
 use Rattle.kd_plan.proofs.Prelude.{lines_from}
 use Rattle.kd_plan.proofs.Prelude.{AllByRecursion, Contains-permutation, IsOneToOne, flat_map}
 use Rattle.kd_plan.proofs.Prelude.{IsPermutation-cons, IsPermutation-map, IsPermutation-refl, IsPermutation-remove}
 use Rattle.kd_plan.proofs.Prelude.{IsPermutation-trans, Leads, Parts, Setting, changed, eqb-true}
-use Rattle.kd_plan.proofs.Prelude.{fill_by_all, find_at, get_or-range_with_len, get_or_from_slice_get}
-use Rattle.kd_plan.proofs.Prelude.{length-range_with_len, option_map_or, option_to_list, passes_at_first}
-use Rattle.kd_plan.proofs.Prelude.{range_with_len, recursion_from_All, set_at, slice_get_within}
+use Rattle.kd_plan.proofs.Prelude.{fill_by_all, get_or-range_with_len}
+use Rattle.kd_plan.proofs.Prelude.{length-range_with_len, option_map_or, option_to_list}
+use Rattle.kd_plan.proofs.Prelude.{range_with_len, recursion_from_All, set_at}
 use Rattle.kd_plan.proofs.Prelude.{unless_so, why_refused}
 
 -- the column of each row of a table, one to one

@@ -4,7 +4,7 @@ use Rattle.std.proofs.lemmas.Grind.{common_steps}
 use Rattle.std.proofs.Common.{◌≡◌, ℕ, suc, ◌+◌, ◌<◌, nat_eq, Bool, true, false, not, List, [], ◌∷◌, ◌++◌, length, get_or, map, zip, Some, refl, sym, ap, ◌∙◌, arith, append_assoc, length-append, All, IsPermutation, subst}
 use Rattle.kd_plan.proofs.Prelude.{AllByRecursion, option_map_or, option_to_list, agree_below, agree_below_at}
 use Rattle.kd_plan.proofs.Prelude.{eq-eqb, eqb-true, set_at, get_or_at, length-map, list_any_at}
-use Rattle.kd_plan.proofs.Prelude.{place_on, PinParts, Parts, Pin, Setting, PinTo, Turn}
+use Rattle.kd_plan.proofs.Prelude.{place_on, PinParts, Parts, Pin, Setting, PinTo}
 use Rattle.kd_plan.proofs.Prelude.{HasAllPins, AreOnWheels, IsMachine, has_letter, PinDay, OfPins, IsLegalPinDay}
 use Rattle.kd_plan.proofs.Prelude.{differ, unless_so, pin_lines, wheel_pin_lines}
 use Rattle.kd_plan.proofs.Prelude.{pin_turn_lines, lug_lines, planned_lines, recursion_from_All, IsPermutation-sym}

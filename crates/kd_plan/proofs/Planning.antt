@@ -1,5 +1,5 @@
 -- How many lines there are, and how many of them the prices speak of: as many as the pairing costs.
-use Rattle.std.proofs.Common.{◌≡◌, ℕ, zero, suc, unwrap_or, append_assoc, ◌+◌, ◌*◌, ◌<◌, ◌≤◌, nat_eq, nat_lt, min, Bool, true, false, not, ◌&&◌, cond, List, [], ◌∷◌, ◌++◌, length, get_or, map, zip, fold, Option, refl, sym, ◌∙◌, subst, arith, length-append, None, Some, Contains, ap, pos, if◌then◌else◌, All, replicate, ℤ, unsigned_abs, ◌+ℤ◌, rules}
+use Rattle.std.proofs.Common.{◌≡◌, ℕ, suc, unwrap_or, append_assoc, ◌+◌, ◌<◌, ◌≤◌, nat_eq, min, Bool, true, false, not, ◌&&◌, cond, List, [], ◌∷◌, ◌++◌, length, get_or, map, zip, fold, Option, refl, sym, ◌∙◌, subst, arith, length-append, None, Some, Contains, ap, pos, if◌then◌else◌, All, replicate, ℤ, unsigned_abs, ◌+ℤ◌, rules}
 use Rattle.std.proofs.lemmas.Grind.{common_steps}
 use Rattle.std.proofs.lemmas.Int.{ints}
 use Rattle.kd_assign.specs.Prices.{CostsAtMost, Fits, price_sum, sum_of}
@@ -7,15 +7,15 @@ use Rattle.kd_card.specs.Prices.{ArePrices, column_kinds, column_prices, how_man
 use Rattle.kd_card.specs.declared.prices.PriceParts.{PriceParts}
 use Rattle.kd_card.specs.declared.prices.Version.TheVariants.{ByNumber}
 use Rattle.kd_plan.proofs.Prelude.{All-map, AllByRecursion, AreOfKind, Day, IsLegalDay, IsLegalRotorDay, IsMachine}
-use Rattle.kd_plan.proofs.Prelude.{IsOneToOne, IsPlanned, LugTo, M209, Model, OfPins, OfRotors, Parts, Pin, PinDay}
+use Rattle.kd_plan.proofs.Prelude.{IsOneToOne, IsPlanned, M209, Model, OfPins, OfRotors, Parts, Pin, PinDay}
 use Rattle.kd_plan.proofs.Prelude.{PinParts, Place, ProvesByNumber, Pull, Put, Rotor, RotorDay}
 use Rattle.kd_plan.proofs.Prelude.{RotorParts, SeatReflector, Setting, SheetWheel, Told, alphabet}
 use Rattle.kd_plan.proofs.Prelude.{assignment_cost, bar_cost, bar_costs, box_of, cable_cost, cable_costs, cable_letters}
 use Rattle.kd_plan.proofs.Prelude.{column_letters, columns_of, cond_both, cost_table, day_model, differ}
 use Rattle.kd_plan.proofs.Prelude.{eqb-false, eqb-true, get_or-map, get_or-replicate}
-use Rattle.kd_plan.proofs.Prelude.{has_letter, is_at, is_priced, length-filter}
+use Rattle.kd_plan.proofs.Prelude.{has_letter, is_priced, length-filter}
 use Rattle.kd_plan.proofs.Prelude.{length-map, length-replicate, length-zip, lugs_moved, lugs_to, model_of}
-use Rattle.kd_plan.proofs.Prelude.{option_and_then, option_to_list, pin_lines, place_rank}
+use Rattle.kd_plan.proofs.Prelude.{option_and_then, option_to_list, pin_lines}
 use Rattle.kd_plan.proofs.Prelude.{planned_lines, priced_count, recursion_from_All, reflectors_of}
 use Rattle.kd_plan.proofs.Prelude.{same_reflector, slots_of, sum_by, sum_by-append, sum_by-cons, sum_by-le}
 use Rattle.kd_plan.proofs.Prelude.{table_size, unless_same, unless_so, wheel_pin_lines}
@@ -23,19 +23,18 @@ use Rattle.kd_plan.specs.Laws.{PlannedCardsProve, PlannedLinesLead}
 use Rattle.kd_card.specs.Proving.{LeadsToTheDay}
 use Rattle.kd_state.specs.Costs.{loose_rings, loose_slots, loose_count}
 use Rattle.std.specs.List.{count_by}
-use Rattle.kd_plan.proofs.Prelude.{PinTo, Seat, HasAllPins, letter_at, numbered, ring_lines, seat_lines, sum-map, sum_by-le-sum_by}
+use Rattle.kd_plan.proofs.Prelude.{PinTo, Seat, HasAllPins, numbered, ring_lines, seat_lines, sum-map, sum_by-le-sum_by}
 use Rattle.std.proofs.lemmas.List.Sums.{count_by-le-length}
 use Rattle.kd_state.specs.Costs.{standings_as}
 use Rattle.kd_state.specs.Laws.{CablesCostFour}
 use Rattle.kd_tables.specs.Rings.{ring_of}
-use Rattle.kd_tables.specs.declared.lug.Lug.TheVariants.{Left, Right}
 use Rattle.kd_tables.specs.declared.reflector.Reflector.{Reflector}
 use Rattle.kd_plan.proofs.Bars.{BarRow, IsMovable, at_most_two, is_target, lugs_of, to_stand}
-use Rattle.kd_plan.proofs.Cables.{Beside, column_at, pulls, puts}
+use Rattle.kd_plan.proofs.Cables.{Beside, pulls, puts}
 use Rattle.kd_plan.proofs.Carrying.{IsPairing, pairing_of, seam_get}
 use Rattle.kd_plan.proofs.Pins.{are_movable, pins_lead}
 use Rattle.kd_plan.proofs.Rotors.{rotors_lead, slots_count}
-use Rattle.kd_plan.proofs.Writing.{bars_beside, chosen_length, lines_of_each, row_at}
+use Rattle.kd_plan.proofs.Writing.{bars_beside, chosen_length, lines_of_each}
 use Rattle.kd_plan.proofs.Prelude.{RingTo, Wheel, same_wheel, option_map_or, ring_at, besides, lines_from, pin_of, pin_turn_of, ring_of_wheel, turn_of, work_beside}
 use Rattle.kd_pins.specs.declared.pin_set.PinSet.{PinSet}
 use Rattle.kd_pins.specs.PinWheels.{pins_of}

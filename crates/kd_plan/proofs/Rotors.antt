@@ -1,5 +1,4 @@
 -- SEAT, REFLECTOR, RING and TURN, and that all lines of a rotor machine lead to the day.
-use Rattle.std.proofs.lemmas.Grind.{common_steps}
 use Rattle.std.proofs.Common.{map, ◌≡◌, ◌≢◌, ℕ, zero, suc, ◌+◌, ◌-◌, ◌<◌, Bool, true, false, List, [], ◌∷◌, length, get_or, set, find, Option, Some, None, slice_get, unwrap_or, nat_eq, All, AllPairs, Contains, refl, sym, ap, ◌∙◌, subst, arith}
 use Rattle.std.proofs.lemmas.Bool.{false_from_ne_true}
 use Rattle.std.proofs.lemmas.List.{ext_get_or}
@@ -15,11 +14,11 @@ use Rattle.kd_plan.proofs.Prelude.{Model, OfRotors, Parts, RingTo, Rotor, RotorD
 use Rattle.kd_plan.proofs.Prelude.{besides, box_of, changed, cond_both, enumerate_from, eq-eqb, find_at, flat_map, get_or-map, get_or-range_with_len}
 use Rattle.kd_plan.proofs.Prelude.{get_or-set_same, get_or_from_slice_get, has_reflector, has_wheel, length-enumerate_from, length-map, length-set}
 use Rattle.kd_plan.proofs.Prelude.{list_any, list_any_at, numbered, option_and_then, option_map_or, option_to_list, place_in_box}
-use Rattle.kd_plan.proofs.Prelude.{has_letter, planned_lines, plugged_letters, range_with_len, recursion_from_All, reflector_lines, reflector_text, reflectors_of, ring_at, ring_lines}
-use Rattle.kd_plan.proofs.Prelude.{same_reflector, same_wheel, seat_lines, seat_of, seats, slice_get-get_or, slots_of, unless_so}
+use Rattle.kd_plan.proofs.Prelude.{planned_lines, range_with_len, reflector_lines, reflector_text, reflectors_of, ring_at, ring_lines}
+use Rattle.kd_plan.proofs.Prelude.{same_reflector, same_wheel, seat_lines, seat_of, seats, slice_get-get_or, unless_so}
 use Rattle.kd_plan.proofs.Prelude.{wheel_text, wheels_for, why_refused, with_letter, without, work_beside}
 use Rattle.kd_plan.proofs.Carrying.{AlwaysServes, AreMet, IsPairing, Led, Serves, SpareEachOther, cells_led, found, is_number, led_append, led_unless, lines_for, meet, met}
-use Rattle.kd_plan.proofs.Cables.{Beside, Cable, IsPluggable, are_disjoint, are_pluggable, are_the_pairs, once_pulled, once_put, present, pulls_each, puts_each, same_cables, wants, with_cables}
+use Rattle.kd_plan.proofs.Cables.{Beside, Cable, IsPluggable, are_disjoint, are_pluggable, are_the_pairs, once_pulled, once_put, present, pulls_each, puts_each, same_cables, with_cables}
 use Rattle.kd_plan.proofs.Writing.{flat_lines}
 use Rattle.kd_plan.specs.declared.cable_lines.Work.TheVariants as works
 
