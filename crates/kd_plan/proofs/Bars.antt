@@ -1,18 +1,16 @@
 -- LUG: where a bar is to stand, a standing that reads as the row with no more lugs moved than must be; and that its two
 -- lugs are moved there, first the one that isn't in the other's way.
-use Rattle.std.proofs.lemmas.Grind.{common_steps}
-use Rattle.std.proofs.Common.{◌≡◌, ℕ, ◌<◌, ◌≤◌, nat_eq, nat_le, nat_lt, min, Bool, true, not, ◌&&◌, ◌||◌, List, [], ◌∷◌, length, get_or, map, find, fold, unwrap_or, refl, ap, ◌∙◌, arith, suc, false, ◌++◌, None}
-use Rattle.kd_plan.proofs.Prelude.{AllByRecursion, agree_below, agree_below_at, and_parts}
-use Rattle.kd_plan.proofs.Prelude.{eqb-true, ltb-true, ltb-false, cond_both, nat_tests}
-use Rattle.kd_plan.proofs.Prelude.{Place, places, place_rank}
-use Rattle.kd_plan.proofs.Prelude.{reading_of, IsBefore, IsReading, is_at, why_refused, lug_place, with_lug}
-use Rattle.kd_plan.proofs.Prelude.{lugs_moved, reads_as_row, bar_cost, target_of, unless_so, lugs_to}
-use Rattle.kd_plan.proofs.Prelude.{option_to_list, PinParts, Parts, Pin, Setting, LugTo}
+use Rattle.std.proofs.Common.{Bool, List, None, [], ap, arith, false, find, fold, get_or, length, map, min, nat_eq, nat_le, nat_lt, not, refl, suc, true, unwrap_or, ℕ, ◌&&◌, ◌++◌, ◌<◌, ◌||◌, ◌∙◌, ◌∷◌, ◌≡◌, ◌≤◌}
 use Rattle.kd_tables.specs.declared.place.Place.TheVariants.{One}
 use Rattle.kd_state.specs.Costs.{standings_as}
-use Rattle.kd_plan.proofs.Carrying.{Led, seam_get, seam_set, led_unless, led_append, EachLeads}
 use Rattle.kd_tables.specs.declared.lug.Lug.{Lug}
 use Rattle.kd_tables.specs.declared.lug.Lug.TheVariants.{Left, Right}
+use Rattle.kd_plan.proofs.Prelude.{AllByRecursion, IsBefore, IsReading, LugTo, Parts, Pin, PinParts, Place, Setting}
+use Rattle.kd_plan.proofs.Prelude.{agree_below, agree_below_at, and_parts, bar_cost, common_steps, cond_both, eqb-true}
+use Rattle.kd_plan.proofs.Prelude.{is_at, ltb-false, ltb-true, lug_place, lugs_moved, lugs_to, nat_tests}
+use Rattle.kd_plan.proofs.Prelude.{option_to_list, place_rank, places, reading_of, reads_as_row, target_of, unless_so}
+use Rattle.kd_plan.proofs.Prelude.{why_refused, with_lug}
+use Rattle.kd_plan.proofs.Carrying.{EachLeads, Led, led_append, led_unless, seam_get, seam_set}
 
 -- a place is told by its rank
 place_by_rank : (place : Place) → get_or places (place_rank place) One ≡ place

@@ -1,24 +1,22 @@
 -- PULL and PUT: each cable loses the letters that its column hasn't, and then takes those that it lacks.
-use Rattle.std.proofs.Common.{◌≡◌, ◌≢◌, ℕ, zero, suc, ◌<◌, nat_eq, Bool, true, false, not, ◌&&◌, ◌||◌, List, [], ◌∷◌, ◌++◌, get_or, length, map, zip, slice_get, Option, Some, None, refl, ap, ◌∙◌, arith, AllPairs, Contains, IsPermutation, sym, subst}
-use Rattle.std.proofs.lemmas.Grind.{flat_map-append}
-use Rattle.std.proofs.lemmas.Bool.{false_from_ne_true}
-use Rattle.std.proofs.lemmas.List.{append-nil}
+use Rattle.std.proofs.Common.{AllPairs, Bool, Contains, IsPermutation, List, None, Option, Some, [], ap, arith, false, get_or, length, map, nat_eq, not, refl, slice_get, subst, suc, sym, true, zero, zip, ℕ, ◌&&◌, ◌++◌, ◌<◌, ◌||◌, ◌∙◌, ◌∷◌, ◌≡◌, ◌≢◌}
 use Rattle.std.proofs.lemmas.List.Folds.{list_any-append}
 use Rattle.std.specs.List.{IsDistinct}
 use Rattle.kd_enigma.specs.Plugs.{letters_plugged}
-use Rattle.kd_plan.proofs.Prelude.{All-from_recursion, All-map, AllByRecursion, AreCables, ArePairs}
-use Rattle.kd_plan.proofs.Prelude.{Contains-permutation, Parts, Pull, Put, Rotor, RotorParts, Setting, Told}
-use Rattle.kd_plan.proofs.Prelude.{alphabet, cable_letters, cable_with, cable_without, cable_work, column_letters}
-use Rattle.kd_plan.proofs.Prelude.{columns_of, firsts-zip, flat_map, get_or-map, get_or-range_with_len, length-range_with_len}
-use Rattle.kd_plan.proofs.Prelude.{get_or-zip, get_or_default, get_or_from_slice_get, has_letter, is_moved, is_plugged}
-use Rattle.kd_plan.proofs.Prelude.{length-map, length-zip, letters_apart, lies_apart, nat_tests, option_to_list}
-use Rattle.kd_plan.proofs.Prelude.{plugged_letters, recursion_from_All, slice_get-get_or}
-use Rattle.kd_plan.proofs.Prelude.{slice_get_within, unless_so, work_lines, work_setting}
-use Rattle.kd_plan.specs.declared.cable_lines.Work.{Work}
 use Rattle.kd_state.specs.OnKey.{AreThePairs, IsPaired, Joins}
-use Rattle.kd_plan.proofs.Carrying.{AreMet, EachLeads, EachTwo, IsPairing, Serves, spare_all, each_two_of_pairs, meet, met, paired, seam_get, seam_set}
+use Rattle.kd_plan.proofs.Prelude.{All-from_recursion, All-map, AllByRecursion, AreCables, ArePairs}
+use Rattle.kd_plan.proofs.Prelude.{Contains-permutation, Parts, Pull, Put, Rotor, RotorParts, Setting, Told, alphabet}
+use Rattle.kd_plan.proofs.Prelude.{append-nil, besides, cable_letters, cable_with, cable_without, cable_work}
+use Rattle.kd_plan.proofs.Prelude.{column_letters, columns_of, false_from_ne_true, firsts-zip, flat_map}
+use Rattle.kd_plan.proofs.Prelude.{flat_map-append, get_or-map, get_or-range_with_len, get_or-zip, get_or_default}
+use Rattle.kd_plan.proofs.Prelude.{get_or_from_slice_get, has_letter, is_moved, is_plugged, length-map}
+use Rattle.kd_plan.proofs.Prelude.{length-range_with_len, length-zip, letters_apart, lies_apart, lines_from, list_any}
+use Rattle.kd_plan.proofs.Prelude.{nat_tests, option_to_list, plugged_letters, recursion_from_All, slice_get-get_or}
+use Rattle.kd_plan.proofs.Prelude.{slice_get_within, unless_so, work_beside, work_lines, work_setting}
+use Rattle.kd_plan.specs.declared.cable_lines.Work.{Work}
+use Rattle.kd_plan.proofs.Carrying.{AreMet, EachLeads, EachTwo, IsPairing, Serves, each_two_of_pairs, meet, met, paired}
+use Rattle.kd_plan.proofs.Carrying.{seam_get, seam_set, spare_all}
 use Rattle.kd_plan.proofs.Writing.{kept_lines, lines_of_kept}
-use Rattle.kd_plan.proofs.Prelude.{besides, lines_from, list_any, work_beside}
 use Rattle.kd_plan.specs.declared.cable_lines.Work.TheVariants as works
 
 abbrev pub Cable : Type 0

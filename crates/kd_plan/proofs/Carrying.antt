@@ -1,15 +1,12 @@
 -- Settings carried out one after another, each of them allowed and needed; numbers that are one to one; and lists with one
 -- element in the middle.
-use Rattle.std.proofs.Common.{◌≡◌, ◌≢◌, ℕ, zero, suc, ◌+◌, ◌-◌, ◌<◌, List, [], ◌∷◌, ◌++◌, length, get_or, set, slice_get, map, find, nat_eq, Bool, true, false, Option, Some, remove, All, AllPairs, Contains, IsPermutation, refl, sym, ap, ◌∙◌, subst, arith, None, cond, append_assoc, length-append}
+use Rattle.std.proofs.Common.{All, AllPairs, Bool, Contains, IsPermutation, List, None, Option, Some, [], ap, append_assoc, arith, cond, false, find, get_or, length, length-append, map, nat_eq, refl, remove, set, slice_get, subst, suc, sym, true, zero, ℕ, ◌++◌, ◌+◌, ◌-◌, ◌<◌, ◌∙◌, ◌∷◌, ◌≡◌, ◌≢◌}
 use Rattle.std.proofs.lemmas.List.Edits.{length-remove}
-use Rattle.kd_plan.proofs.Prelude.{lines_from}
-use Rattle.kd_plan.proofs.Prelude.{AllByRecursion, Contains-permutation, IsOneToOne, flat_map}
-use Rattle.kd_plan.proofs.Prelude.{IsPermutation-cons, IsPermutation-map, IsPermutation-refl, IsPermutation-remove}
-use Rattle.kd_plan.proofs.Prelude.{IsPermutation-trans, Leads, Parts, Setting, changed, eqb-true}
-use Rattle.kd_plan.proofs.Prelude.{fill_by_all, get_or-range_with_len}
-use Rattle.kd_plan.proofs.Prelude.{length-range_with_len, option_map_or, option_to_list}
-use Rattle.kd_plan.proofs.Prelude.{range_with_len, recursion_from_All, set_at}
-use Rattle.kd_plan.proofs.Prelude.{unless_so, why_refused}
+use Rattle.kd_plan.proofs.Prelude.{AllByRecursion, Contains-permutation, IsOneToOne, IsPermutation-cons}
+use Rattle.kd_plan.proofs.Prelude.{IsPermutation-map, IsPermutation-refl, IsPermutation-remove, IsPermutation-trans}
+use Rattle.kd_plan.proofs.Prelude.{Leads, Parts, Setting, changed, eqb-true, fill_by_all, flat_map}
+use Rattle.kd_plan.proofs.Prelude.{get_or-range_with_len, length-range_with_len, lines_from, option_map_or}
+use Rattle.kd_plan.proofs.Prelude.{option_to_list, range_with_len, recursion_from_All, set_at, unless_so, why_refused}
 
 -- the column of each row of a table, one to one
 pub record IsPairing (number : ℕ) (to : List ℕ) : Type 0 where

@@ -1,23 +1,19 @@
 -- PIN and TURN of a Converter M-209: wheel after wheel, and on each wheel letter after letter. All its planned lines lead to
 -- the day, and each is needed.
-use Rattle.std.proofs.lemmas.Grind.{common_steps}
-use Rattle.std.proofs.Common.{◌≡◌, ℕ, suc, ◌+◌, ◌<◌, nat_eq, Bool, true, false, not, List, [], ◌∷◌, ◌++◌, length, get_or, map, zip, Some, refl, sym, ap, ◌∙◌, arith, append_assoc, length-append, All, IsPermutation, subst}
-use Rattle.kd_plan.proofs.Prelude.{AllByRecursion, option_map_or, option_to_list, agree_below, agree_below_at}
-use Rattle.kd_plan.proofs.Prelude.{eq-eqb, eqb-true, set_at, get_or_at, length-map, list_any_at}
-use Rattle.kd_plan.proofs.Prelude.{place_on, PinParts, Parts, Pin, Setting, PinTo}
-use Rattle.kd_plan.proofs.Prelude.{HasAllPins, AreOnWheels, IsMachine, has_letter, PinDay, OfPins, IsLegalPinDay}
-use Rattle.kd_plan.proofs.Prelude.{differ, unless_so, pin_lines, wheel_pin_lines}
-use Rattle.kd_plan.proofs.Prelude.{pin_turn_lines, lug_lines, planned_lines, recursion_from_All, IsPermutation-sym}
-use Rattle.kd_plan.proofs.Prelude.{firsts-zip, seconds-zip, Place, reading_of, IsBefore, IsReading}
-use Rattle.kd_card.specs.Proving.{LeadsToTheDay}
+use Rattle.std.proofs.Common.{All, Bool, IsPermutation, List, Some, [], ap, append_assoc, arith, false, get_or, length, length-append, map, nat_eq, not, refl, subst, suc, sym, true, zip, ℕ, ◌++◌, ◌+◌, ◌<◌, ◌∙◌, ◌∷◌, ◌≡◌}
 use Rattle.kd_tables.specs.Rings.{ring_of}
-use Rattle.kd_pins.specs.PinWheels.{pins_of}
-use Rattle.kd_pins.specs.declared.pin_set.PinSet.{PinSet}
 use Rattle.kd_state.specs.Pins.{pin_set, with_pin}
-use Rattle.kd_plan.proofs.Carrying.{Led, led_unless, EachLeads, cells_led, led_append, is_number, seam_get, seam_set, paired, IsPairing}
-use Rattle.kd_plan.proofs.Writing.{row_at, bars_beside, lines_of_each}
-use Rattle.kd_plan.proofs.Prelude.{pin_of, pin_turn_of}
-use Rattle.kd_plan.proofs.Bars.{BarRow, IsMovable, now_stands, to_stand, with_bars, lugs_of, lugs_each, rows_read}
+use Rattle.kd_plan.proofs.Prelude.{AllByRecursion, AreOnWheels, HasAllPins, IsBefore, IsLegalPinDay, IsMachine}
+use Rattle.kd_plan.proofs.Prelude.{IsPermutation-sym, IsReading, LeadsToTheDay, OfPins, Parts, Pin, PinDay, PinParts}
+use Rattle.kd_plan.proofs.Prelude.{PinSet, PinTo, Place, Setting, agree_below, agree_below_at, common_steps, differ}
+use Rattle.kd_plan.proofs.Prelude.{eq-eqb, eqb-true, firsts-zip, get_or_at, has_letter, length-map, list_any_at}
+use Rattle.kd_plan.proofs.Prelude.{lug_lines, option_map_or, option_to_list, pin_lines, pin_of, pin_turn_lines}
+use Rattle.kd_plan.proofs.Prelude.{pin_turn_of, pins_of, place_on, planned_lines, reading_of, recursion_from_All}
+use Rattle.kd_plan.proofs.Prelude.{seconds-zip, set_at, unless_so, wheel_pin_lines}
+use Rattle.kd_plan.proofs.Carrying.{EachLeads, IsPairing, Led, cells_led, is_number, led_append, led_unless, paired}
+use Rattle.kd_plan.proofs.Carrying.{seam_get, seam_set}
+use Rattle.kd_plan.proofs.Writing.{bars_beside, lines_of_each, row_at}
+use Rattle.kd_plan.proofs.Bars.{BarRow, IsMovable, lugs_each, lugs_of, now_stands, rows_read, to_stand, with_bars}
 
 -- each letter of a pin wheel stands at its own place
 place_found : ℕ → ℕ → Bool

@@ -1,44 +1,35 @@
 -- How many lines there are, and how many of them the prices speak of: as many as the pairing costs.
-use Rattle.std.proofs.Common.{◌≡◌, ℕ, suc, unwrap_or, append_assoc, ◌+◌, ◌<◌, ◌≤◌, nat_eq, min, Bool, true, false, not, ◌&&◌, cond, List, [], ◌∷◌, ◌++◌, length, get_or, map, zip, fold, Option, refl, sym, ◌∙◌, subst, arith, length-append, None, Some, Contains, ap, pos, if◌then◌else◌, All, replicate, ℤ, unsigned_abs, ◌+ℤ◌, rules}
-use Rattle.std.proofs.lemmas.Grind.{common_steps}
+use Rattle.std.proofs.Common.{All, Bool, Contains, List, None, Option, Some, [], ap, append_assoc, arith, cond, false, find, fold, get_or, if◌then◌else◌, length, length-append, map, min, nat_eq, not, pos, refl, replicate, rules, subst, suc, sym, true, unsigned_abs, unwrap_or, zip, ℕ, ℤ, ◌&&◌, ◌++◌, ◌+ℤ◌, ◌+◌, ◌<◌, ◌∙◌, ◌∷◌, ◌≡◌, ◌≤◌}
 use Rattle.std.proofs.lemmas.Int.{ints}
 use Rattle.kd_assign.specs.Prices.{CostsAtMost, Fits, price_sum, sum_of}
 use Rattle.kd_card.specs.Prices.{ArePrices, column_kinds, column_prices, how_many, row_kinds, row_prices, version_of}
 use Rattle.kd_card.specs.declared.prices.PriceParts.{PriceParts}
 use Rattle.kd_card.specs.declared.prices.Version.TheVariants.{ByNumber}
-use Rattle.kd_plan.proofs.Prelude.{All-map, AllByRecursion, AreOfKind, Day, IsLegalDay, IsLegalRotorDay, IsMachine}
-use Rattle.kd_plan.proofs.Prelude.{IsOneToOne, IsPlanned, M209, Model, OfPins, OfRotors, Parts, Pin, PinDay}
-use Rattle.kd_plan.proofs.Prelude.{PinParts, Place, ProvesByNumber, Pull, Put, Rotor, RotorDay}
-use Rattle.kd_plan.proofs.Prelude.{RotorParts, SeatReflector, Setting, SheetWheel, Told, alphabet}
-use Rattle.kd_plan.proofs.Prelude.{assignment_cost, bar_cost, bar_costs, box_of, cable_cost, cable_costs, cable_letters}
-use Rattle.kd_plan.proofs.Prelude.{column_letters, columns_of, cond_both, cost_table, day_model, differ}
-use Rattle.kd_plan.proofs.Prelude.{eqb-false, eqb-true, get_or-map, get_or-replicate}
-use Rattle.kd_plan.proofs.Prelude.{has_letter, is_priced, length-filter}
-use Rattle.kd_plan.proofs.Prelude.{length-map, length-replicate, length-zip, lugs_moved, lugs_to, model_of}
-use Rattle.kd_plan.proofs.Prelude.{option_and_then, option_to_list, pin_lines}
-use Rattle.kd_plan.proofs.Prelude.{planned_lines, priced_count, recursion_from_All, reflectors_of}
-use Rattle.kd_plan.proofs.Prelude.{same_reflector, slots_of, sum_by, sum_by-append, sum_by-cons, sum_by-le}
-use Rattle.kd_plan.proofs.Prelude.{table_size, unless_same, unless_so, wheel_pin_lines}
-use Rattle.kd_plan.specs.Laws.{PlannedCardsProve, PlannedLinesLead}
-use Rattle.kd_card.specs.Proving.{LeadsToTheDay}
-use Rattle.kd_state.specs.Costs.{loose_rings, loose_slots, loose_count}
-use Rattle.std.specs.List.{count_by}
-use Rattle.kd_plan.proofs.Prelude.{PinTo, Seat, HasAllPins, numbered, ring_lines, seat_lines, sum-map, sum_by-le-sum_by}
-use Rattle.std.proofs.lemmas.List.Sums.{count_by-le-length}
-use Rattle.kd_state.specs.Costs.{standings_as}
+use Rattle.kd_state.specs.Costs.{loose_count, loose_rings, loose_slots, standings_as}
 use Rattle.kd_state.specs.Laws.{CablesCostFour}
 use Rattle.kd_tables.specs.Rings.{ring_of}
-use Rattle.kd_tables.specs.declared.reflector.Reflector.{Reflector}
+use Rattle.kd_plan.proofs.Prelude.{All-map, AllByRecursion, AreOfKind, Day, HasAllPins, IsLegalDay, IsLegalRotorDay}
+use Rattle.kd_plan.proofs.Prelude.{IsMachine, IsOneToOne, IsPlanned, LeadsToTheDay, M209, Model, OfPins, OfRotors}
+use Rattle.kd_plan.proofs.Prelude.{Parts, Pin, PinDay, PinParts, PinSet, PinTo, Place, ProvesByNumber, Pull, Put}
+use Rattle.kd_plan.proofs.Prelude.{Reflector, RingTo, Rotor, RotorDay, RotorParts, Seat, SeatReflector, Setting}
+use Rattle.kd_plan.proofs.Prelude.{SheetWheel, Told, Wheel, alphabet, assignment_cost, bar_cost, bar_costs, besides}
+use Rattle.kd_plan.proofs.Prelude.{box_of, cable_cost, cable_costs, cable_letters, column_letters, columns_of}
+use Rattle.kd_plan.proofs.Prelude.{common_steps, cond_both, cost_table, count_by, count_by-le-length, day_model, differ}
+use Rattle.kd_plan.proofs.Prelude.{eqb-false, eqb-true, get_or-map, get_or-replicate, has_letter, is_priced}
+use Rattle.kd_plan.proofs.Prelude.{length-filter, length-map, length-replicate, length-zip, lines_from, lugs_moved}
+use Rattle.kd_plan.proofs.Prelude.{lugs_to, model_of, numbered, option_and_then, option_map_or, option_to_list}
+use Rattle.kd_plan.proofs.Prelude.{pin_lines, pin_of, pin_turn_of, pins_of, planned_lines, priced_count}
+use Rattle.kd_plan.proofs.Prelude.{recursion_from_All, reflectors_of, ring_at, ring_lines, ring_of_wheel}
+use Rattle.kd_plan.proofs.Prelude.{same_reflector, same_wheel, seat_lines, slots_of, sum-map, sum_by, sum_by-append}
+use Rattle.kd_plan.proofs.Prelude.{sum_by-cons, sum_by-le, sum_by-le-sum_by, table_size, turn_of, unless_same}
+use Rattle.kd_plan.proofs.Prelude.{unless_so, wheel_pin_lines, work_beside}
+use Rattle.kd_plan.specs.Laws.{PlannedCardsProve, PlannedLinesLead}
 use Rattle.kd_plan.proofs.Bars.{BarRow, IsMovable, at_most_two, is_target, lugs_of, to_stand}
 use Rattle.kd_plan.proofs.Cables.{Beside, pulls, puts}
 use Rattle.kd_plan.proofs.Carrying.{IsPairing, pairing_of, seam_get}
 use Rattle.kd_plan.proofs.Pins.{are_movable, pins_lead}
 use Rattle.kd_plan.proofs.Rotors.{rotors_lead, slots_count}
 use Rattle.kd_plan.proofs.Writing.{bars_beside, chosen_length, lines_of_each}
-use Rattle.kd_plan.proofs.Prelude.{RingTo, Wheel, same_wheel, option_map_or, ring_at, besides, lines_from, pin_of, pin_turn_of, ring_of_wheel, turn_of, work_beside}
-use Rattle.kd_pins.specs.declared.pin_set.PinSet.{PinSet}
-use Rattle.kd_pins.specs.PinWheels.{pins_of}
-use Rattle.std.proofs.Common.{find}
 use Rattle.kd_plan.specs.declared.cable_lines.Work.TheVariants as works
 use Rattle.kd_card.specs.Prices as card
 

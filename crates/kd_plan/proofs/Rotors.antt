@@ -1,24 +1,25 @@
 -- SEAT, REFLECTOR, RING and TURN, and that all lines of a rotor machine lead to the day.
-use Rattle.std.proofs.Common.{map, ◌≡◌, ◌≢◌, ℕ, zero, suc, ◌+◌, ◌-◌, ◌<◌, Bool, true, false, List, [], ◌∷◌, length, get_or, set, find, Option, Some, None, slice_get, unwrap_or, nat_eq, All, AllPairs, Contains, refl, sym, ap, ◌∙◌, subst, arith}
-use Rattle.std.proofs.lemmas.Bool.{false_from_ne_true}
-use Rattle.std.proofs.lemmas.List.{ext_get_or}
+use Rattle.std.proofs.Common.{All, AllPairs, Bool, Contains, List, None, Option, Some, [], ap, arith, false, find, get_or, length, map, nat_eq, refl, set, slice_get, subst, suc, sym, true, unwrap_or, zero, ℕ, ◌+◌, ◌-◌, ◌<◌, ◌∙◌, ◌∷◌, ◌≡◌, ◌≢◌}
 use Rattle.std.proofs.lemmas.List.FromFn.{get_or-enumerate_from}
-use Rattle.std.proofs.lemmas.List.Sums.{position_or_len_is}
 use Rattle.std.proofs.lemmas.Option.{slice_get-map}
 use Rattle.std.proofs.lemmas.Slice.Eq.{bytes_eq-Decides}
 use Rattle.std.specs.Option.{option_map}
-use Rattle.kd_tables.specs.declared.reflector.Reflector.{Reflector}
-use Rattle.kd_card.specs.Proving.{LeadsToTheDay}
-use Rattle.kd_plan.proofs.Prelude.{All-contains, All-from_recursion, AllByRecursion, AreSeated, Contains-get_or, IsAllowed, IsLegalRotorDay, IsMachine}
-use Rattle.kd_plan.proofs.Prelude.{Model, OfRotors, Parts, RingTo, Rotor, RotorDay, RotorParts, Seat, Setting, SheetWheel, Told, Turn, Wheel}
-use Rattle.kd_plan.proofs.Prelude.{besides, box_of, changed, cond_both, enumerate_from, eq-eqb, find_at, flat_map, get_or-map, get_or-range_with_len}
-use Rattle.kd_plan.proofs.Prelude.{get_or-set_same, get_or_from_slice_get, has_reflector, has_wheel, length-enumerate_from, length-map, length-set}
-use Rattle.kd_plan.proofs.Prelude.{list_any, list_any_at, numbered, option_and_then, option_map_or, option_to_list, place_in_box}
-use Rattle.kd_plan.proofs.Prelude.{planned_lines, range_with_len, reflector_lines, reflector_text, reflectors_of, ring_at, ring_lines}
-use Rattle.kd_plan.proofs.Prelude.{same_reflector, same_wheel, seat_lines, seat_of, seats, slice_get-get_or, unless_so}
-use Rattle.kd_plan.proofs.Prelude.{wheel_text, wheels_for, why_refused, with_letter, without, work_beside}
-use Rattle.kd_plan.proofs.Carrying.{AlwaysServes, AreMet, IsPairing, Led, Serves, SpareEachOther, cells_led, found, is_number, led_append, led_unless, lines_for, meet, met}
-use Rattle.kd_plan.proofs.Cables.{Beside, Cable, IsPluggable, are_disjoint, are_pluggable, are_the_pairs, once_pulled, once_put, present, pulls_each, puts_each, same_cables, with_cables}
+use Rattle.kd_plan.proofs.Prelude.{All-contains, All-from_recursion, AllByRecursion, AreSeated, Contains-get_or}
+use Rattle.kd_plan.proofs.Prelude.{IsAllowed, IsLegalRotorDay, IsMachine, LeadsToTheDay, Model, OfRotors, Parts}
+use Rattle.kd_plan.proofs.Prelude.{Reflector, RingTo, Rotor, RotorDay, RotorParts, Seat, Setting, SheetWheel, Told}
+use Rattle.kd_plan.proofs.Prelude.{Turn, Wheel, besides, box_of, changed, cond_both, enumerate_from, eq-eqb, ext_get_or}
+use Rattle.kd_plan.proofs.Prelude.{false_from_ne_true, find_at, flat_map, get_or-map, get_or-range_with_len}
+use Rattle.kd_plan.proofs.Prelude.{get_or-set_same, get_or_from_slice_get, has_reflector, has_wheel}
+use Rattle.kd_plan.proofs.Prelude.{length-enumerate_from, length-map, length-set, list_any, list_any_at, numbered}
+use Rattle.kd_plan.proofs.Prelude.{option_and_then, option_map_or, option_to_list, place_in_box, planned_lines}
+use Rattle.kd_plan.proofs.Prelude.{position_or_len_is, range_with_len, reflector_lines, reflector_text, reflectors_of}
+use Rattle.kd_plan.proofs.Prelude.{ring_at, ring_lines, same_reflector, same_wheel, seat_lines, seat_of, seats}
+use Rattle.kd_plan.proofs.Prelude.{slice_get-get_or, unless_so, wheel_text, wheels_for, why_refused, with_letter}
+use Rattle.kd_plan.proofs.Prelude.{without, work_beside}
+use Rattle.kd_plan.proofs.Carrying.{AlwaysServes, AreMet, IsPairing, Led, Serves, SpareEachOther, cells_led, found}
+use Rattle.kd_plan.proofs.Carrying.{is_number, led_append, led_unless, lines_for, meet, met}
+use Rattle.kd_plan.proofs.Cables.{Beside, Cable, IsPluggable, are_disjoint, are_pluggable, are_the_pairs, once_pulled}
+use Rattle.kd_plan.proofs.Cables.{once_put, present, pulls_each, puts_each, same_cables, with_cables}
 use Rattle.kd_plan.proofs.Writing.{flat_lines}
 use Rattle.kd_plan.specs.declared.cable_lines.Work.TheVariants as works
 

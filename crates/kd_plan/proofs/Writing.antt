@@ -1,8 +1,8 @@
 -- Lines that are written one after another.
-use Rattle.std.proofs.lemmas.Grind.{common_steps}
-use Rattle.std.proofs.Common.{◌≡◌, ℕ, ◌+◌, ◌<◌, ◌≤◌, min, Bool, not, cond, zip, List, [], ◌∷◌, ◌++◌, length, get_or, drop, map, filter, refl, sym, ap, ◌∙◌, arith, append_assoc, length-append}
-use Rattle.kd_plan.proofs.Prelude.{append-nil, drop_all, drop_more, enumerate_from, flat_map, get_or-map, get_or-zip, length-map, length-zip}
-use Rattle.kd_plan.proofs.Prelude.{lines_from, option_to_list, unless_so, Place, Setting}
+use Rattle.std.proofs.Common.{Bool, List, [], ap, append_assoc, arith, cond, drop, filter, get_or, length, length-append, map, min, not, refl, sym, zip, ℕ, ◌++◌, ◌+◌, ◌<◌, ◌∙◌, ◌∷◌, ◌≡◌, ◌≤◌}
+use Rattle.kd_plan.proofs.Prelude.{Place, Setting, append-nil, common_steps, drop_all, drop_more, enumerate_from}
+use Rattle.kd_plan.proofs.Prelude.{flat_map, get_or-map, get_or-zip, length-map, length-zip, lines_from, option_to_list}
+use Rattle.kd_plan.proofs.Prelude.{unless_so}
 use Rattle.kd_plan.proofs.Bars.{BarRow}
 
 module _ {X : Type 0} where
