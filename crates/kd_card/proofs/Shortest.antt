@@ -1,6 +1,6 @@
 -- No list of settings that leads to the day has fewer than there are loose things and prices in sum, and a card that proves
 -- itself has as many.
-use Rattle.kd_card.proofs.Prelude.{◌≡◌, ℕ, suc, ◌+◌, ◌<◌, ◌≤◌, Bool, cond, List, [], ◌∷◌, ◌++◌, length, get_or, map, zip, fold, Contains, Option, ℤ, pos, ◌+ℤ◌, ◌≤ℤ◌, IsPermutation, refl, sym, ap, ◌∙◌, subst, arith, None, ints, length_permutation, All-permutation, Contains-permutation, IsPermutation-sym, Model, reflectors_of, letters_plugged, Parts, Rotor, Pin, Setting, model_of, IsMachine, Leads, changed, Day, OfRotors, OfPins, day_model, IsLegalDay, ReadsAs, cable_cost, bar_cost, columns_of, cost_table, loose_count, PriceParts, Cables, Bars, ArePrices, Fits, AreTight, price_sum, is_priced, priced_count, AreOfKind, IsNeeded, AreNeeded, Same, Expanded, FittingPricesBoundLists, ProvingCardsAreAsLong, ProvingCardsAreShortest, ProvingPricesAreTight, get_or_default, get_or-map, length-zip, get_or-zip, One}
+use Rattle.kd_card.proofs.Prelude.{◌≡◌, ℕ, suc, ◌+◌, ◌<◌, ◌≤◌, Bool, cond, List, [], ◌∷◌, ◌++◌, length, get_or, map, zip, fold, Contains, Option, ℤ, pos, ◌+ℤ◌, ◌≤ℤ◌, IsPermutation, refl, sym, ap, ◌∙◌, subst, arith, None, ints, length_permutation, All-permutation, Contains-permutation, IsPermutation-sym, Model, reflectors_of, letters_plugged, Parts, Rotor, Pin, Setting, model_of, IsMachine, Leads, changed, Day, OfRotors, OfPins, day_model, IsLegalDay, ReadsAs, cable_cost, bar_cost, columns_of, cost_table, loose_count, PriceParts, Cables, Bars, ArePrices, Fits, AreTight, price_sum, is_priced, priced_count, AreOfKind, IsNeeded, AreNeeded, Same, Expanded, FittingPricesBoundLists, ProvingCardsAreAsLong, ProvingCardsAreShortest, ProvingPricesAreTight, get_or_default, get_or-map, length-zip, get_or-zip, One, AsFewAreNeeded, DaysWheelsHaveTheirPlaces, why_refused, sum_by}
 use Rattle.std.proofs.lemmas.List.Elements.{All-from_get_or, Contains-get_or}
 use Rattle.kd_tables.specs.declared.model.Model.TheVariants.{M209}
 use Rattle.kd_tables.specs.declared.reflector.Reflector.{Reflector}
@@ -183,6 +183,43 @@ needed_all m n s [] leads needed = subst (λ n. loose_count m s + 0 ≡ loose_co
 needed_all m n s (x ∷ xs) leads needed =
     let rest = needed_all (changed m x) n s xs (subst (λ between. Leads between xs n) leads.1.made leads.2) needed.1 in
     omega (arith, needed_one m s x (is_priced x) refl needed.0, count_by-cons is_priced x xs, rest)
+
+-- What is loose falls by one at most, with a setting that changes no cable and no bar.
+either : (b : Bool) → cond {A = ℕ} b 1 0 + cond {A = ℕ} b 0 1 ≡ 1
+either b = grind arith
+
+unpriced : {X Y : Type 0} (f : X × Y → ℕ) (xs : List X) → sum_by f (zip xs []) ≡ 0
+unpriced f [] = refl
+unpriced f (x ∷ xs) = refl
+
+module _ (places : DaysWheelsHaveTheirPlaces) (s : Day) (legal : IsLegalDay s) where
+  loose_falls : (m : Parts) (x : Setting) → model_of m ≡ day_model s → why_refused m x ≡ None
+      → loose_count m s ≤ loose_count (changed m x) s + cond (is_priced x) 0 1
+  loose_falls m x same allowed = grind (arith, lowers places [] [] m s x legal same allowed, leaves m s x, unpriced)
+
+  no_fewer : (m n : Parts) (xs : List Setting) → model_of m ≡ day_model s → Leads m xs n → loose_count m s + priced_count xs ≤ loose_count n s + length xs
+  no_fewer m n [] same leads = subst (λ n. loose_count m s + 0 ≤ loose_count n s + 0) (sym leads) (omega arith)
+  no_fewer m n (x ∷ xs) same leads =
+      let rest = no_fewer (changed m x) n xs (model_of-changed m x ∙ same) (subst (λ between. Leads between xs n) leads.1.made leads.2) in
+      omega (arith, rest, loose_falls m x same leads.1.allowed, count_by-cons is_priced x xs, either (is_priced x))
+
+  needed_in_turn : (m n : Parts) (xs : List Setting) → model_of m ≡ day_model s → Leads m xs n → loose_count n s ≡ 0
+      → length xs ≤ loose_count m s + priced_count xs → AreNeeded m s xs
+  needed_in_turn m n [] same leads none few = tt
+  needed_in_turn m n (x ∷ xs) same leads none few =
+      let then_same = model_of-changed m x ∙ same in
+      let after = subst (λ between. Leads between xs n) leads.1.made leads.2 in
+      let rest = no_fewer (changed m x) n xs then_same after in
+      let one = loose_falls m x same leads.1.allowed in
+      let head = count_by-cons is_priced x xs in
+      (
+        λ unpriced. grind (arith, either),
+        needed_in_turn (changed m x) n xs then_same after none (grind (arith, leaves m s x)),
+      )
+
+pub as_few_are_needed : DaysWheelsHaveTheirPlaces → AsFewAreNeeded
+as_few_are_needed places m s settings legal same reached few =
+    needed_in_turn places s legal m reached.0 settings same reached.1 (nothing_loose reached.0 s reached.2) few
 
 pub proving_cards_are_as_long : ProvingCardsAreAsLong
 proving_cards_are_as_long m s settings prices h =

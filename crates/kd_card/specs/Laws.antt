@@ -1,9 +1,9 @@
 -- What holds of cards.
-use Rattle.std.specs.Prelude.{◌≡◌, ℕ, List, [], ◌++◌, length, pos, ◌+ℤ◌, ◌≤ℤ◌, ◌↔◌, Ok}
+use Rattle.std.specs.Prelude.{◌≡◌, ℕ, ◌+◌, ◌≤◌, List, [], ◌++◌, length, pos, ◌+ℤ◌, ◌≤ℤ◌, ◌↔◌, Ok}
 use Rattle.kd_state.specs.declared.machine.parts.Parts.{Parts}
 use Rattle.kd_state.specs.declared.setting.Setting.{Setting}
-use Rattle.kd_state.specs.Machine.{IsMachine}
-use Rattle.kd_state.specs.SheetDay.{Day, IsLegalDay}
+use Rattle.kd_state.specs.Machine.{IsMachine, model_of}
+use Rattle.kd_state.specs.SheetDay.{Day, IsLegalDay, day_model}
 use Rattle.kd_state.specs.Costs.{cost_table, loose_count}
 use Rattle.kd_card.specs.declared.prices.PriceParts.{PriceParts}
 use Rattle.kd_card.specs.declared.fault.CardFault.{CardFault}
@@ -12,7 +12,7 @@ use Rattle.kd_card.specs.Kinds.{look_name, look_rank, IsInForm}
 use Rattle.kd_card.specs.Prices.{Fits, price_sum, ArePrices, AreTight}
 use Rattle.kd_card.specs.CardText.{IsCard}
 use Rattle.kd_card.specs.CardFault.{SaysCard, IsCardFault}
-use Rattle.kd_card.specs.Proving.{AreOfKind, ProvesByNumber, Proves, IsShortest, LeadsToTheDay}
+use Rattle.kd_card.specs.Proving.{AreNeeded, AreOfKind, ProvesByNumber, Proves, IsShortest, LeadsToTheDay, priced_count}
 
 -- Where prices fit, no settings whatever that lead the machine to the day are fewer than the loose things and the sum of
 -- the prices.
@@ -21,6 +21,12 @@ FittingPricesBoundLists =
     (m : Parts) (s : Day) (prices : PriceParts) (settings : List Setting) → IsMachine m → IsLegalDay s → ArePrices prices → AreOfKind m prices
     → Fits (cost_table m s) prices → LeadsToTheDay m s settings
     → (pos (loose_count m s) +ℤ price_sum prices) ≤ℤ pos (length settings)
+
+-- settings that lead to the day, and are no more than the loose things and those of cables and bars, are each needed
+abbrev pub AsFewAreNeeded : Type 0
+AsFewAreNeeded =
+    (m : Parts) (s : Day) (settings : List Setting) → IsLegalDay s → model_of m ≡ day_model s → LeadsToTheDay m s settings
+    → length settings ≤ loose_count m s + priced_count settings → AreNeeded m s settings
 
 -- a card that proves itself by number has as many lines as there are loose things and prices in sum; and each that proves
 -- itself is shortest

@@ -1,7 +1,7 @@
 //! What holds of cards.
 ghost use Rattle.kd_card.specs.Laws.{RanksTellLooks, TextsTellCards, NoCardBeginsAnother};
 ghost use Rattle.kd_card.specs.Laws.{CardsAreSaid, CardsHaveNoFault, OneCardFault, FittingPricesBoundLists};
-ghost use Rattle.kd_card.specs.Laws.{ProvingCardsAreAsLong, ProvingCardsAreShortest};
+ghost use Rattle.kd_card.specs.Laws.{AsFewAreNeeded, ProvingCardsAreAsLong, ProvingCardsAreShortest};
 ghost use Rattle.kd_card.specs.Laws.{ProvingPricesAreTight};
 
 use kd_state::laws::{
@@ -42,6 +42,14 @@ pub fn fitting_prices_bound_lists()
 pub fn ranks_tell_looks()
     ensures { RanksTellLooks }
 {}
+
+/// Settings that lead to the day, and are no more than the loose things and those of cables and bars, are each needed.
+#[tactic(auto, using(crate::proofs::Shortest::as_few_are_needed))]
+pub fn as_few_are_needed()
+    ensures { AsFewAreNeeded }
+{
+    places_tell_wheels();
+}
 
 /// A card that proves itself by number has as many settings as there are loose things and prices in sum.
 #[tactic(auto, using(crate::proofs::Shortest::proving_cards_are_as_long))]

@@ -1,18 +1,16 @@
 -- LUG: where a bar is to stand, a standing that reads as the row with no more lugs moved than must be; and that its two
 -- lugs are moved there, first the one that isn't in the other's way.
-use Rattle.std.proofs.lemmas.Grind.{common_steps}
-use Rattle.std.proofs.Common.{◌≡◌, ℕ, ◌<◌, ◌≤◌, nat_eq, nat_le, nat_lt, min, Bool, true, not, ◌&&◌, ◌||◌, List, [], ◌∷◌, length, get_or, map, find, fold, unwrap_or, refl, ap, ◌∙◌, arith, suc, false, ◌++◌, None}
-use Rattle.kd_plan.proofs.Prelude.{AllByRecursion, agree_below, agree_below_at, and_parts}
-use Rattle.kd_plan.proofs.Prelude.{eqb-true, ltb-true, ltb-false, cond_both, nat_tests}
-use Rattle.kd_plan.proofs.Prelude.{Place, places, place_rank}
-use Rattle.kd_plan.proofs.Prelude.{reading_of, IsBefore, IsReading, is_at, why_refused, lug_place, with_lug}
-use Rattle.kd_plan.proofs.Prelude.{lugs_moved, reads_as_row, bar_cost, target_of, unless_so, lugs_to}
-use Rattle.kd_plan.proofs.Prelude.{option_to_list, PinParts, Parts, Pin, Setting, LugTo, Day}
+use Rattle.std.proofs.Common.{Bool, List, None, [], ap, arith, false, find, fold, get_or, length, map, min, nat_eq, nat_le, nat_lt, not, refl, suc, true, unwrap_or, ℕ, ◌&&◌, ◌++◌, ◌<◌, ◌||◌, ◌∙◌, ◌∷◌, ◌≡◌, ◌≤◌}
 use Rattle.kd_tables.specs.declared.place.Place.TheVariants.{One}
 use Rattle.kd_state.specs.Costs.{standings_as}
-use Rattle.kd_plan.proofs.Carrying.{seam_get, seam_set, Led, led_unless, led_append, priced, EachLeads}
 use Rattle.kd_tables.specs.declared.lug.Lug.{Lug}
 use Rattle.kd_tables.specs.declared.lug.Lug.TheVariants.{Left, Right}
+use Rattle.kd_plan.proofs.Prelude.{AllByRecursion, IsBefore, IsReading, LugTo, Parts, Pin, PinParts, Place, Setting}
+use Rattle.kd_plan.proofs.Prelude.{agree_below, agree_below_at, and_parts, bar_cost, common_steps, cond_both, eqb-true}
+use Rattle.kd_plan.proofs.Prelude.{is_at, ltb-false, ltb-true, lug_place, lugs_moved, lugs_to, nat_tests}
+use Rattle.kd_plan.proofs.Prelude.{option_to_list, place_rank, places, reading_of, reads_as_row, target_of, unless_so}
+use Rattle.kd_plan.proofs.Prelude.{why_refused, with_lug}
+use Rattle.kd_plan.proofs.Carrying.{EachLeads, Led, led_append, led_unless, seam_get, seam_set}
 
 -- a place is told by its rank
 place_by_rank : (place : Place) → get_or places (place_rank place) One ≡ place
@@ -102,7 +100,7 @@ IsClear Right place bar = place_rank bar.0 < place_rank place
 there_already : (lug : Lug) (place : Place) (bar : Place × Place) → is_at (lug_place lug bar) place ≡ true → with_lug lug place bar ≡ bar
 there_already lug place bar e = grind (arith, place_of_same)
 
-module _ (s : Day) (m : PinParts) where
+module _ (m : PinParts) where
   abbrev pub with_bars : List (Place × Place) → Parts
   with_bars bars = Pin (record m { bars = bars })
 
@@ -117,24 +115,23 @@ module _ (s : Day) (m : PinParts) where
     lug_allowed bar lug place e = grind (arith, false, seam_get)
 
     one_lug : (bar : Place × Place) (lug : Lug) (place : Place) → IsClear lug place bar
-        → Led s (with_bar bar) (option_to_list (unless_so (is_at (lug_place lug bar) place) (LugTo number lug place))) (with_bar (with_lug lug place bar))
-    one_lug bar lug place h = grind (arith, led_unless, there_already, seam_get, seam_set, lug_allowed, priced)
+        → Led (with_bar bar) (option_to_list (unless_so (is_at (lug_place lug bar) place) (LugTo number lug place))) (with_bar (with_lug lug place bar))
+    one_lug bar lug place h = grind (arith, led_unless, there_already, seam_get, seam_set, lug_allowed)
 
     lugs_led : (bar target : Place × Place) → IsBefore bar.0 bar.1 → IsBefore target.0 target.1
-        → Led s (with_bar bar) (lugs_to number bar target) (with_bar target)
+        → Led (with_bar bar) (lugs_to number bar target) (with_bar target)
     lugs_led bar target stands wanted =
         let left = option_to_list (unless_so (is_at bar.0 target.0) (LugTo number Left target.0)) in
         let right = option_to_list (unless_so (is_at bar.1 target.1) (LugTo number Right target.1)) in
-        cond_both (nat_lt (place_rank target.0) (place_rank bar.1)) (left ++ right) (right ++ left) (λ lines. Led s (with_bar bar) lines (with_bar target))
+        cond_both (nat_lt (place_rank target.0) (place_rank bar.1)) (left ++ right) (right ++ left) (λ lines. Led (with_bar bar) lines (with_bar target))
         (λ e. led_append left right (one_lug bar Left target.0 (ltb-true (place_rank target.0) (place_rank bar.1) e)) (one_lug (target.0, bar.1) Right target.1 wanted))
         (λ e.
         let clear : place_rank bar.0 < place_rank target.1 = omega (arith, stands, wanted, ltb-false (place_rank target.0) (place_rank bar.1) e) in
         led_append right left (one_lug bar Right target.1 clear) (one_lug (bar.0, target.1) Left target.0 wanted))
 
-  pub lugs_each : (front : List (Place × Place)) (zs : List BarRow) → AllByRecursion IsMovable zs → EachLeads s with_bars now_stands to_stand lugs_of front zs
+  pub lugs_each : (front : List (Place × Place)) (zs : List BarRow) → AllByRecursion IsMovable zs → EachLeads with_bars now_stands to_stand lugs_of front zs
   lugs_each front [] h = tt
-  lugs_each front (z ∷ zs) h =
-      (lugs_led front (map now_stands zs) z.0 (to_stand z) h.0.stands (is_target z.0 z.1 h.0.reading).stands, lugs_each (front ++ to_stand z ∷ []) zs h.1)
+  lugs_each front (z ∷ zs) h = grind (arith, lugs_led, is_target, lugs_each (front ++ to_stand z ∷ []) zs h.1)
 
 -- the rows that the bars read as in the end
 pub rows_read : (zs : List BarRow) → AllByRecursion IsMovable zs → map (λ (bar : Place × Place). reading_of bar.0 bar.1) (map to_stand zs) ≡ map (λ (z : BarRow). z.1) zs

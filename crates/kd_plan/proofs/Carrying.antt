@@ -1,19 +1,12 @@
 -- Settings carried out one after another, each of them allowed and needed; numbers that are one to one; and lists with one
 -- element in the middle.
-use Rattle.std.proofs.Common.{◌≡◌, ◌≢◌, ℕ, zero, suc, ◌+◌, ◌-◌, ◌<◌, List, [], ◌∷◌, ◌++◌, length, get_or, set, slice_get, map, zip, find, nat_eq, Bool, true, false, Option, Some, remove, All, AllPairs, Contains, IsPermutation, refl, sym, ap, ◌∙◌, subst, arith, None, append_assoc, length-append}
+use Rattle.std.proofs.Common.{All, AllPairs, Bool, Contains, IsPermutation, List, None, Option, Some, [], ap, append_assoc, arith, cond, false, find, get_or, length, length-append, map, nat_eq, refl, remove, set, slice_get, subst, suc, sym, true, zero, ℕ, ◌++◌, ◌+◌, ◌-◌, ◌<◌, ◌∙◌, ◌∷◌, ◌≡◌, ◌≢◌}
 use Rattle.std.proofs.lemmas.List.Edits.{length-remove}
-use Rattle.std.proofs.lemmas.List.FromFn.{get_or-enumerate_from, length-enumerate_from}
-use Rattle.std.specs.List.{enumerate_from}
-use Rattle.std.specs.Prelude.{IsFalse}
-use Rattle.kd_plan.proofs.Prelude.{lines_from}
-use Rattle.kd_plan.proofs.Prelude.{AllByRecursion, AreNeeded, Contains-permutation, Day, IsNeeded, IsOneToOne}
-use Rattle.kd_plan.proofs.Prelude.{IsPermutation-cons, IsPermutation-map, IsPermutation-refl, IsPermutation-remove}
-use Rattle.kd_plan.proofs.Prelude.{IsPermutation-trans, Leads, Parts, Setting, changed, eqb-true, false≢true}
-use Rattle.kd_plan.proofs.Prelude.{fill_by_all, find_at, get_or-range_with_len, get_or_from_slice_get, is_priced}
-use Rattle.kd_plan.proofs.Prelude.{length-range_with_len, loose_count, option_map_or, option_to_list, passes_at_first}
-use Rattle.kd_plan.proofs.Prelude.{range_with_len, recursion_from_All, set_at, slice_get_within, sum_by, sum_by-cons}
-use Rattle.kd_plan.proofs.Prelude.{unless_so, why_refused}
-use Rattle.kd_state.specs.OnKey.{ReadsAs}
+use Rattle.kd_plan.proofs.Prelude.{AllByRecursion, Contains-permutation, IsOneToOne, IsPermutation-cons}
+use Rattle.kd_plan.proofs.Prelude.{IsPermutation-map, IsPermutation-refl, IsPermutation-remove, IsPermutation-trans}
+use Rattle.kd_plan.proofs.Prelude.{Leads, Parts, Setting, changed, eqb-true, fill_by_all, flat_map}
+use Rattle.kd_plan.proofs.Prelude.{get_or-range_with_len, length-range_with_len, lines_from, option_map_or}
+use Rattle.kd_plan.proofs.Prelude.{option_to_list, range_with_len, recursion_from_All, set_at, unless_so, why_refused}
 
 -- the column of each row of a table, one to one
 pub record IsPairing (number : ℕ) (to : List ℕ) : Type 0 where
@@ -59,13 +52,10 @@ paired d xs to h =
 pub is_number : (seen : Option ℕ) (n : ℕ) → option_map_or (nat_eq n) seen false ≡ true → seen ≡ Some n
 is_number seen n e = grind (arith, eqb-true)
 
--- what is found passes the test and is there
-pub found : {X : Type 0} (p : X → Bool) (xs : List X) (x : X) → find p xs ≡ Some x → (p x ≡ true) × Contains xs x
-found p xs x e =
-    let at = sym (find_at p xs) ∙ e in
-    let lt = slice_get_within xs _ x at in
-    let is = get_or_from_slice_get xs _ x x at in
-    (ap p (sym is) ∙ passes_at_first p xs x lt, (_, lt, is))
+-- what is found passes the test
+pub found : {X : Type 0} (p : X → Bool) (xs : List X) (x : X) → find p xs ≡ Some x → p x ≡ true
+found p [] x e = absurd cc
+found p (y ∷ xs) x e = grind (arith, found p xs x)
 
 -- what holds of each of them and each later one
 abbrev pub EachTwo : {X : Type 0} → (X → X → Type 0) → List X → Type 0
@@ -79,15 +69,6 @@ each_two_of_pairs R (x ∷ xs) h = (
   each_two_of_pairs R xs (λ i k d before lt. h (suc i) (suc k) d (omega arith) (omega arith)),
 )
 
--- elements with their numbers
-module _ {X : Type 0} (xs : List X) (n : ℕ) where
-  pub enumerated_all : (P : ℕ × X → Type 0) → ((k : ℕ) (d : X) → k < length xs → P (n + k, get_or xs k d)) → AllByRecursion P (enumerate_from n xs)
-  enumerated_all P h = grind (arith, recursion_from_All, length-enumerate_from, get_or-enumerate_from, h)
-
-  pub enumerated_two : (R : ℕ × X → ℕ × X → Type 0) → ((i j : ℕ) (d : X) → i < j → j < length xs → R (n + i, get_or xs i d) (n + j, get_or xs j d))
-      → EachTwo R (enumerate_from n xs)
-  enumerated_two R h = grind (arith, each_two_of_pairs, length-enumerate_from, get_or-enumerate_from, h)
-
 -- the element in the middle
 module _ {X : Type 0} where
   pub seam_get : (front : List X) (x : X) (back : List X) → slice_get (front ++ x ∷ back) (length front) ≡ Some x
@@ -97,74 +78,112 @@ module _ {X : Type 0} where
   pub seam_set : (front : List X) (x : X) (back : List X) (new : X) → set (front ++ x ∷ back) (suc (length front) - 1) new ≡ front ++ new ∷ back
   seam_set front x back new = ap (λ place. set (front ++ x ∷ back) place new) (omega arith) ∙ set_at front x back new (length front) refl
 
-  -- beside a list that is as it should be up to there: what is added up falls by one with it
-  pub one_less : (f : X × X → ℕ) (front back due : List X) (now next wanted : X) → f (now, wanted) ≡ f (next, wanted) + 1
-      → sum_by f (zip (front ++ now ∷ back) (front ++ wanted ∷ due)) ≡ sum_by f (zip (front ++ next ∷ back) (front ++ wanted ∷ due)) + 1
-  one_less f [] back due now next wanted e = simp sum_by-cons (omega (arith, e))
-  one_less f (x ∷ front) back due now next wanted e = simp sum_by-cons (omega (arith, one_less f front back due now next wanted e))
-
-  all_at : (P : X → Type 0) (front : List X) (x : X) (back : List X) → AllByRecursion P (front ++ x ∷ back) → P x
-  all_at P [] x back h = h.0
-  all_at P (y ∷ front) x back h = all_at P front x back h.1
-
-  pub beside_back : (R : X → X → Type 0) (front : List X) (x : X) (back : List X) → EachTwo R (front ++ x ∷ back) → AllByRecursion (R x) back
-  beside_back R [] x back h = h.0
-  beside_back R (y ∷ front) x back h = beside_back R front x back h.1
-
-  pub beside_front : (R : X → X → Type 0) (front : List X) (x : X) (back : List X) → EachTwo R (front ++ x ∷ back) → AllByRecursion (λ y. R y x) front
-  beside_front R [] x back h = tt
-  beside_front R (y ∷ front) x back h = (all_at (R y) front x back h.0, beside_front R front x back h.1)
-
--- ---- settings carried out one after another, each of them allowed and needed.
--- the settings lead from one machine to the other, and each is needed in its turn
-pub record Led (s : Day) (m : Parts) (xs : List Setting) (n : Parts) : Type 0 where
+-- ---- settings carried out one after another.
+pub record Led (m : Parts) (xs : List Setting) (n : Parts) : Type 0 where
   pub leads : Leads m xs n
-  pub needed : AreNeeded m s xs
 
--- what the lines lead to
-pub record Reaches (s : Day) (m : Parts) (settings : List Setting) : Type 0 where
-  pub end : Parts
-  pub led : Led s m settings end
-  pub reads : ReadsAs end s
+pub led_none : {m n : Parts} → n ≡ m → Led m [] n
+led_none e = record { leads = e }
 
-module _ {s : Day} where
-  pub led_none : {m n : Parts} → n ≡ m → Led s m [] n
-  led_none e = record { leads = e; needed = tt }
+pub led_cons : {m k n : Parts} {x : Setting} {xs : List Setting} → why_refused m x ≡ None → changed m x ≡ k → Led k xs n → Led m (x ∷ xs) n
+led_cons {k = k} allowed made rest = record { leads = (k, record { allowed = allowed; made = sym made }, rest.leads) }
 
-  pub led_cons : {m k n : Parts} {x : Setting} {xs : List Setting} → why_refused m x ≡ None → IsNeeded m s x → changed m x ≡ k
-      → Led s k xs n → Led s m (x ∷ xs) n
-  led_cons {m = m} {n = n} {x = x} {xs = xs} allowed needed made rest = grind (arith, changed)
+pub led_append : (xs ys : List Setting) {m k n : Parts} → Led m xs k → Led k ys n → Led m (xs ++ ys) n
+led_append [] ys {n = n} first second = subst (λ from. Led from ys n) first.leads second
+led_append (x ∷ xs) ys first second = grind (arith, led_cons, led_append xs ys (record { leads = first.leads.2 }) second)
 
-  pub led_append : (xs ys : List Setting) {m k n : Parts} → Led s m xs k → Led s k ys n → Led s m (xs ++ ys) n
-  led_append [] ys {n = n} first second = subst (λ from. Led s from ys n) first.leads second
-  led_append (x ∷ xs) ys {k = k} first second =
-      let carried = first.leads.1 in
-      led_cons carried.allowed first.needed.0 refl
-      (led_append xs ys (record { leads = subst (λ m. Leads m xs k) carried.made first.leads.2; needed = first.needed.1 }) second)
-
-  -- a setting that is left out where things are so already
-  pub led_unless : (so : Bool) (m n : Parts) (x : Setting) → (so ≡ true → n ≡ m) → changed m x ≡ n
-      → (so ≡ false → why_refused m x ≡ None)
-      → (so ≡ false → IsFalse (is_priced x) → loose_count m s ≡ loose_count n s + 1) → Led s m (option_to_list (unless_so so x)) n
-  led_unless so m n x e d g h = grind (arith, led_none, led_cons)
-
--- a setting of a cable or a bar is needed
-pub priced : {P : Type 0} → true ≡ false → P
-priced e = absurd (false≢true (sym e))
+-- a setting that is left out where things are so already
+pub led_unless : (so : Bool) (m n : Parts) (x : Setting) → (so ≡ true → n ≡ m) → changed m x ≡ n → (so ≡ false → why_refused m x ≡ None)
+    → Led m (option_to_list (unless_so so x)) n
+led_unless so m n x same made allowed = grind (arith, led_none, led_cons)
 
 -- Things side by side, each with settings of its own that change it alone: before and after them the machine is made of
 -- what the things are before and after.
-module _ {Z A : Type 0} (s : Day) (put : List A → Parts) (before after : Z → A) (lines : ℕ → Z → List Setting) where
+module _ {Z A : Type 0} (put : List A → Parts) (before after : Z → A) (lines : ℕ → Z → List Setting) where
   -- the lines of each, behind those that are done
   abbrev pub EachLeads : List A → List Z → Type 0
   EachLeads front [] = Unit {0}
   EachLeads front (z ∷ zs) =
-      Led s (put (front ++ before z ∷ map before zs)) (lines (suc (length front)) z) (put (front ++ after z ∷ map before zs))
+      Led (put (front ++ before z ∷ map before zs)) (lines (suc (length front)) z) (put (front ++ after z ∷ map before zs))
       × EachLeads (front ++ after z ∷ []) zs
 
   pub cells_led : (front : List A) (zs : List Z) (number : ℕ) → number ≡ suc (length front) → EachLeads front zs
-      → Led s (put (front ++ map before zs)) (lines_from lines number zs) (put (front ++ map after zs))
+      → Led (put (front ++ map before zs)) (lines_from lines number zs) (put (front ++ map after zs))
   cells_led front [] number e each = led_none refl
   cells_led front (z ∷ zs) number e each =
       let rest = cells_led (front ++ after z ∷ []) zs (number + 1) (omega (arith, length-append front (after z ∷ []))) each.1 in
       led_append (lines number z) (lines_from lines (number + 1) zs) (rw e each.0) (simp append_assoc at rest)
+
+-- Things that need not stand side by side: each has a test whether it is right, and a setting that makes it so and leaves the
+-- tests of the others as they are. Then the settings of those that aren't right make all of them right.
+module _ {A X : Type 0} (right : A → X → Bool) (step : X → A → A) where
+  abbrev pub met : List X → A → A
+  met [] a = a
+  met (x ∷ xs) a = met xs (cond (right a x) a (step x a))
+
+module _ {A X : Type 0} (right : A → X → Bool) (step : X → A → A) (put : A → Parts) (line : X → Setting) (Fit : A → Type 0) where
+  abbrev pub lines_for : A → List X → List Setting
+  lines_for a xs = flat_map (λ x. option_to_list (unless_so (right a x) (line x))) xs
+
+  pub record Serves (a : A) (x : X) : Type 0 where
+    pub allowed : why_refused (put a) (line x) ≡ None
+    pub made : changed (put a) (line x) ≡ put (step x a)
+    pub fits : Fit (step x a)
+    pub done : right (step x a) x ≡ true
+
+  -- the setting of the thing leaves the test as it is
+  abbrev pub Spares : X → (A → Bool) → Type 0
+  Spares x test = (a : A) → Fit a → right a x ≡ false → test (step x a) ≡ test a
+
+  abbrev pub AlwaysServes : X → Type 0
+  AlwaysServes x = (a : A) → Fit a → right a x ≡ false → Serves a x
+
+  abbrev pub SpareEachOther : X → X → Type 0
+  SpareEachOther x y = Spares x (λ a. right a y) × Spares y (λ a. right a x)
+
+  pub spare_all : (xs : List X) → AllPairs (λ x y. x ≢ y) xs → ((x y : X) → x ≢ y → Spares x (λ a. right a y)) → AllPairs SpareEachOther xs
+  spare_all xs apart h i j d before lt = (h _ _ (apart i j d before lt), h _ _ (λ e. apart i j d before lt (sym e)))
+
+  pub record AreMet (a end : A) (xs : List X) : Type 0 where
+    pub led : Led (put a) (lines_for a xs) (put end)
+    pub fits : Fit end
+    pub done : AllByRecursion (λ x. right end x ≡ true) xs
+    pub kept : (test : A → Bool) → AllByRecursion (λ x. Spares x test) xs → test end ≡ test a
+
+  same_lines : (a : A) (x : X) (xs : List X) → Fit a → right a x ≡ false → AllByRecursion (SpareEachOther x) xs
+      → lines_for (step x a) xs ≡ lines_for a xs
+  same_lines a x [] fit wrong h = refl
+  same_lines a x (y ∷ xs) fit wrong h = rw (h.0.0 a fit wrong, same_lines a x xs fit wrong h.1) refl
+
+  spare_it : (x : X) (xs : List X) → AllByRecursion (SpareEachOther x) xs
+      → AllByRecursion (λ y. Spares y (λ a. right a x)) xs
+  spare_it x [] h = tt
+  spare_it x (y ∷ xs) h = (h.0.1, spare_it x xs h.1)
+
+  one_met : (b : Bool) (x : X) (xs : List X) (a : A) → right a x ≡ b → Fit a → AlwaysServes x
+      → AllByRecursion (SpareEachOther x) xs → ((a : A) → Fit a → AreMet a (met right step xs a) xs)
+      → AreMet a (met right step xs (cond b a (step x a))) (x ∷ xs)
+  one_met true x xs a is fit serves spared next =
+      let rest = next a fit in
+      record {
+        led = rw is rest.led;
+        fits = rest.fits;
+        done = (rest.kept (λ a. right a x) (spare_it x xs spared) ∙ is, rest.done);
+        kept = λ test h. rest.kept test h.1;
+      }
+  one_met false x xs a is fit serves spared next =
+      let served = serves a fit is in
+      let rest = next (step x a) served.fits in
+      record {
+        led = rw is (led_cons served.allowed served.made (rw (same_lines a x xs fit is spared) at rest.led));
+        fits = rest.fits;
+        done = (rest.kept (λ a. right a x) (spare_it x xs spared) ∙ served.done, rest.done);
+        kept = λ test h. rest.kept test h.1 ∙ h.0 a fit is;
+      }
+
+  all_met : (xs : List X) (a : A) → Fit a → AllByRecursion AlwaysServes xs → EachTwo SpareEachOther xs → AreMet a (met right step xs a) xs
+  all_met [] a fit serve spared = record { led = led_none refl; fits = fit; done = tt; kept = λ test h. refl }
+  all_met (x ∷ xs) a fit serve spared = one_met (right a x) x xs a refl fit serve.0 spared.0 (λ a fit. all_met xs a fit serve.1 spared.1)
+
+  pub meet : (xs : List X) (a : A) → Fit a → All AlwaysServes xs → AllPairs SpareEachOther xs → AreMet a (met right step xs a) xs
+  meet xs a fit serve spared = all_met xs a fit (recursion_from_All AlwaysServes xs serve) (each_two_of_pairs SpareEachOther xs spared)

@@ -1,21 +1,19 @@
 -- PIN and TURN of a Converter M-209: wheel after wheel, and on each wheel letter after letter. All its planned lines lead to
 -- the day, and each is needed.
-use Rattle.std.proofs.lemmas.Grind.{common_steps}
-use Rattle.std.proofs.Common.{◌≡◌, ℕ, suc, ◌+◌, ◌<◌, nat_eq, Bool, true, false, not, List, [], ◌∷◌, ◌++◌, length, get_or, map, zip, count_by, Some, refl, sym, ap, ◌∙◌, arith, append_assoc, length-append, All, IsPermutation, subst}
-use Rattle.kd_plan.proofs.Prelude.{sum_by, AllByRecursion, option_map_or, option_to_list, agree_below, agree_below_at}
-use Rattle.kd_plan.proofs.Prelude.{eq-eqb, eqb-true, set_at, get_or_at, length-map, list_any_at, sum-map}
-use Rattle.kd_plan.proofs.Prelude.{place_on, PinParts, Parts, Pin, Setting, PinTo, Turn}
-use Rattle.kd_plan.proofs.Prelude.{HasAllPins, AreOnWheels, IsMachine, has_letter, PinDay, OfPins, IsLegalPinDay}
-use Rattle.kd_plan.proofs.Prelude.{differ, loose_pins, loose_count, unless_so, pin_lines, wheel_pin_lines}
-use Rattle.kd_plan.proofs.Prelude.{pin_turn_lines, lug_lines, planned_lines, recursion_from_All, IsPermutation-sym}
-use Rattle.kd_plan.proofs.Prelude.{firsts-zip, seconds-zip, Place, reading_of, IsBefore, IsReading}
+use Rattle.std.proofs.Common.{All, Bool, IsPermutation, List, Some, [], ap, append_assoc, arith, false, get_or, length, length-append, map, nat_eq, not, refl, subst, suc, sym, true, zip, ℕ, ◌++◌, ◌+◌, ◌<◌, ◌∙◌, ◌∷◌, ◌≡◌}
 use Rattle.kd_tables.specs.Rings.{ring_of}
-use Rattle.kd_pins.specs.PinWheels.{pins_of}
 use Rattle.kd_state.specs.Pins.{pin_set, with_pin}
-use Rattle.kd_plan.proofs.Carrying.{Led, led_unless, EachLeads, cells_led, Reaches, led_append, is_number, seam_get, seam_set, one_less, paired, IsPairing}
-use Rattle.kd_plan.proofs.Writing.{row_at, bars_beside, lines_of_each}
-use Rattle.kd_plan.proofs.Prelude.{pin_of, pin_turn_of}
-use Rattle.kd_plan.proofs.Bars.{BarRow, IsMovable, now_stands, to_stand, with_bars, lugs_of, lugs_each, rows_read}
+use Rattle.kd_plan.proofs.Prelude.{AllByRecursion, AreOnWheels, HasAllPins, IsBefore, IsLegalPinDay, IsMachine}
+use Rattle.kd_plan.proofs.Prelude.{IsPermutation-sym, IsReading, LeadsToTheDay, OfPins, Parts, Pin, PinDay, PinParts}
+use Rattle.kd_plan.proofs.Prelude.{PinSet, PinTo, Place, Setting, agree_below, agree_below_at, common_steps, differ}
+use Rattle.kd_plan.proofs.Prelude.{eq-eqb, eqb-true, firsts-zip, get_or_at, has_letter, length-map, list_any_at}
+use Rattle.kd_plan.proofs.Prelude.{lug_lines, option_map_or, option_to_list, pin_lines, pin_of, pin_turn_lines}
+use Rattle.kd_plan.proofs.Prelude.{pin_turn_of, pins_of, place_on, planned_lines, reading_of, recursion_from_All}
+use Rattle.kd_plan.proofs.Prelude.{seconds-zip, set_at, unless_so, wheel_pin_lines}
+use Rattle.kd_plan.proofs.Carrying.{EachLeads, IsPairing, Led, cells_led, is_number, led_append, led_unless, paired}
+use Rattle.kd_plan.proofs.Carrying.{seam_get, seam_set}
+use Rattle.kd_plan.proofs.Writing.{bars_beside, lines_of_each, row_at}
+use Rattle.kd_plan.proofs.Bars.{BarRow, IsMovable, lugs_each, lugs_of, now_stands, rows_read, to_stand, with_bars}
 
 -- each letter of a pin wheel stands at its own place
 place_found : ℕ → ℕ → Bool
@@ -35,12 +33,6 @@ place_of_letter number place lt within =
 -- six wheels
 pins_of_set : (lists : List (List Bool)) → length lists ≡ 6 → pins_of (pin_set lists) ≡ lists
 pins_of_set lists e = grind (arith, common_steps)
-
-same_of_differ : (a b : Bool) → not (differ a b) ≡ true → a ≡ b
-same_of_differ a b e = grind arith
-
-not_differ : (a : Bool) → differ a a ≡ false
-not_differ a = grind arith
 
 -- a letter of a wheel, with its pin and the day's
 abbrev Cell : Type 0
@@ -71,12 +63,12 @@ cells_are _ _ _ e f = absurd (omega arith)
 abbrev pub wheel_lines : ℕ → List Bool × List Bool → List Setting
 wheel_lines number z = wheel_pin_lines number (ring_of number) z.0 z.1
 
-module _ (m : PinParts) (s : PinDay) where
+module _ (m : PinParts) where
   abbrev pub with_pins : List (List Bool) → Parts
   with_pins lists = Pin (record m { pins = pin_set lists })
 
-  -- what stands around one wheel: the other wheels, and the day's
-  module _ (front back due : List (List Bool)) (day : List Bool) (six : length front + length back ≡ 5) (are : pins_of s.pins ≡ front ++ day ∷ due) where
+  -- what stands around one wheel: the other wheels
+  module _ (front back : List (List Bool)) (six : length front + length back ≡ 5) where
     abbrev with_wheel : List Bool → Parts
     with_wheel pins = with_pins (front ++ pins ∷ back)
 
@@ -92,72 +84,53 @@ module _ (m : PinParts) (s : PinDay) where
         rw (set_is (done ++ now ∷ rest), seam_get front (done ++ now ∷ rest) back, placed, set_at done now rest effective (length done) refl)
         (ap pin_set (seam_set front (done ++ now ∷ rest) back (done ++ effective ∷ rest)))
 
-    abbrev differing : List Bool × List Bool → ℕ
-    differing wheel = count_by (λ (pin : Bool × Bool). differ pin.0 pin.1) (zip wheel.0 wheel.1)
-
-    loose_here : (pins : List Bool) → loose_pins (record m { pins = pin_set (front ++ pins ∷ back) }) s ≡ sum_by differing (zip (front ++ pins ∷ back) (front ++ day ∷ due))
-    loose_here pins = grind (arith, set_is, sum-map)
-
-    pin_needed : (done rest later : List Bool) (now effective : Bool) → done ++ effective ∷ later ≡ day → not (differ now effective) ≡ false
-        → loose_count (with_wheel (done ++ now ∷ rest)) (OfPins s) ≡ loose_count (with_wheel (done ++ effective ∷ rest)) (OfPins s) + 1
-    pin_needed done rest later now effective e wrong = grind (arith, not_differ, one_less, loose_here)
-
-    one_pin : (done rest later : List Bool) (now effective : Bool) (letter : ℕ) → done ++ effective ∷ later ≡ day
+    one_pin : (done rest : List Bool) (now effective : Bool) (letter : ℕ)
         → place_on (ring_of number) letter ≡ Some (length done) → has_letter (ring_of number) letter ≡ true
-        → Led (OfPins s) (with_wheel (done ++ now ∷ rest)) (option_to_list (unless_so (not (differ now effective)) (PinTo number letter effective))) (with_wheel (done ++ effective ∷ rest))
-    one_pin done rest later now effective letter e placed has =
-        led_unless (not (differ now effective)) (with_wheel (done ++ now ∷ rest)) (with_wheel (done ++ effective ∷ rest)) (PinTo number letter effective)
-        (λ so. ap (λ pin. with_wheel (done ++ pin ∷ rest)) (sym (same_of_differ now effective so)))
-        (ap (λ pins. Pin (record m { pins = pins })) (pin_made done rest now effective letter placed))
-        (λ wrong. rw has refl)
-        (λ wrong unpriced. pin_needed done rest later now effective e wrong)
+        → Led (with_wheel (done ++ now ∷ rest)) (option_to_list (unless_so (not (differ now effective)) (PinTo number letter effective))) (with_wheel (done ++ effective ∷ rest))
+    one_pin done rest now effective letter placed has = grind (arith, pin_made done rest now effective letter placed)
 
     -- one wheel, of which these letters are done
     pins_each : (letters : List ℕ) (done : List Bool) (cells : List Cell) → number < 7 → length letters ≡ length done
-        → letters ++ map (λ (w : Cell). w.0) cells ≡ ring_of number → done ++ map to_be cells ≡ day → EachLeads (OfPins s) with_wheel is_so to_be (pin_line number) done cells
-    pins_each letters done [] within size ring e = tt
-    pins_each letters done (w ∷ cells) within size ring e =
+        → letters ++ map (λ (w : Cell). w.0) cells ≡ ring_of number → EachLeads with_wheel is_so to_be (pin_line number) done cells
+    pins_each letters done [] within size ring = tt
+    pins_each letters done (w ∷ cells) within size ring =
         let lt : length done < length (ring_of number) = omega (arith, ap length ring, length-append letters (w.0 ∷ map (λ (w : Cell). w.0) cells)) in
         let letter_is : get_or (ring_of number) (length done) 0 ≡ w.0 = rw (← ring) (get_or_at letters w.0 (map (λ (w : Cell). w.0) cells) 0 (length done) size) in
         let placed = ap (place_on (ring_of number)) (sym letter_is) ∙ place_of_letter number (length done) within lt in
         let has = list_any_at (λ other. nat_eq other w.0) (ring_of number) (length done) 0 lt (eq-eqb (get_or (ring_of number) (length done) 0) w.0 letter_is) in (
-          one_pin done (map is_so cells) (map to_be cells) (is_so w) (to_be w) w.0 e placed has,
+          one_pin done (map is_so cells) (is_so w) (to_be w) w.0 placed has,
           pins_each (letters ++ w.0 ∷ []) (done ++ to_be w ∷ []) cells within (omega (arith, length-append letters (w.0 ∷ []), length-append done (to_be w ∷ [])))
-              (append_assoc letters (w.0 ∷ []) (map (λ (w : Cell). w.0) cells) ∙ ring) (append_assoc done (to_be w ∷ []) (map to_be cells) ∙ e),
+              (append_assoc letters (w.0 ∷ []) (map (λ (w : Cell). w.0) cells) ∙ ring),
         )
 
-    wheel_led : (now : List Bool) → number < 7 → length now ≡ length (ring_of number) → length day ≡ length (ring_of number)
-        → Led (OfPins s) (with_wheel now) (wheel_lines number (now, day)) (with_wheel day)
-    wheel_led now within now_size day_size =
+    wheel_led : (now day : List Bool) → number < 7 → length now ≡ length (ring_of number) → length day ≡ length (ring_of number)
+        → Led (with_wheel now) (wheel_lines number (now, day)) (with_wheel day)
+    wheel_led now day within now_size day_size =
         let cells = zip (ring_of number) (zip now day) in
         let are = cells_are (ring_of number) now day now_size day_size in
-        let led = cells_led (OfPins s) with_wheel is_so to_be (pin_line number) [] cells 1 refl (pins_each [] [] cells within refl are.letters_are are.wanted_are) in
+        let led = cells_led with_wheel is_so to_be (pin_line number) [] cells 1 refl (pins_each [] [] cells within refl are.letters_are) in
         rw (lines_of_each (pin_of number) cells 1) (rw (are.now_are, are.wanted_are) at led)
 
-  -- all wheels
-  abbrev wheels : List (List Bool × List Bool)
-  wheels = zip (pins_of m.pins) (pins_of s.pins)
+  -- all wheels: each has as many pins as letters, now and by the day
+  abbrev AreSized : ℕ → List (List Bool × List Bool) → Type 0
+  AreSized number [] = Unit {0}
+  AreSized number (z ∷ zs) = (length z.0 ≡ length (ring_of number)) × (length z.1 ≡ length (ring_of number)) × AreSized (suc number) zs
 
-  pub pins_reach : HasAllPins m.pins → HasAllPins s.pins → Led (OfPins s) (Pin m) (pin_lines m.pins s.pins) (Pin (record m { pins = s.pins }))
-  pins_reach has day_has =
-      let n = m.pins in
-      let d = s.pins in
-      cells_led (OfPins s) with_pins (λ z. z.0) (λ z. z.1) wheel_lines [] wheels 1 refl (
-        wheel_led [] (n.w2 ∷ n.w3 ∷ n.w4 ∷ n.w5 ∷ n.w6 ∷ []) (d.w2 ∷ d.w3 ∷ d.w4 ∷ d.w5 ∷ d.w6 ∷ []) d.w1 refl refl n.w1 (omega arith) (has 1) (day_has 1),
-        (
-          wheel_led (d.w1 ∷ []) (n.w3 ∷ n.w4 ∷ n.w5 ∷ n.w6 ∷ []) (d.w3 ∷ d.w4 ∷ d.w5 ∷ d.w6 ∷ []) d.w2 refl refl n.w2 (omega arith) (has 2) (day_has 2),
-          (
-            wheel_led (d.w1 ∷ d.w2 ∷ []) (n.w4 ∷ n.w5 ∷ n.w6 ∷ []) (d.w4 ∷ d.w5 ∷ d.w6 ∷ []) d.w3 refl refl n.w3 (omega arith) (has 3) (day_has 3),
-            (
-              wheel_led (d.w1 ∷ d.w2 ∷ d.w3 ∷ []) (n.w5 ∷ n.w6 ∷ []) (d.w5 ∷ d.w6 ∷ []) d.w4 refl refl n.w4 (omega arith) (has 4) (day_has 4),
-              (
-                wheel_led (d.w1 ∷ d.w2 ∷ d.w3 ∷ d.w4 ∷ []) (n.w6 ∷ []) (d.w6 ∷ []) d.w5 refl refl n.w5 (omega arith) (has 5) (day_has 5),
-                (wheel_led (d.w1 ∷ d.w2 ∷ d.w3 ∷ d.w4 ∷ d.w5 ∷ []) [] [] d.w6 refl refl n.w6 (omega arith) (has 6) (day_has 6), tt),
-              ),
-            ),
-          ),
-        ),
+  wheels_each : (front : List (List Bool)) (zs : List (List Bool × List Bool)) → length front + length zs ≡ 6 → AreSized (suc (length front)) zs
+      → EachLeads with_pins (λ z. z.0) (λ z. z.1) wheel_lines front zs
+  wheels_each front [] six sized = tt
+  wheels_each front (z ∷ zs) six sized =
+      let back = map (λ (z : List Bool × List Bool). z.0) zs in
+      let next : suc (length front) ≡ length (front ++ z.1 ∷ []) = omega (arith, length-append front (z.1 ∷ [])) in (
+        wheel_led front back (omega (arith, six, length-map zs (λ (z : List Bool × List Bool). z.0))) z.0 z.1 (omega arith) sized.0 sized.1,
+        wheels_each (front ++ z.1 ∷ []) zs (omega (arith, six, next)) (subst (λ n. AreSized (suc n) zs) next sized.2),
       )
+
+  pub pins_reach : (day : PinSet) → HasAllPins m.pins → HasAllPins day → Led (Pin m) (pin_lines m.pins day) (Pin (record m { pins = day }))
+  pins_reach day has due =
+      let wheels = zip (pins_of m.pins) (pins_of day) in
+      cells_led with_pins (λ z. z.0) (λ z. z.1) wheel_lines [] wheels 1 refl
+      (wheels_each [] wheels refl (has 1, due 1, (has 2, due 2, (has 3, due 3, (has 4, due 4, (has 5, due 5, (has 6, due 6, tt)))))))
 
 -- TURN: the letter that shows on a wheel, and the day's
 abbrev pub shown : ℕ × ℕ → ℕ
@@ -170,23 +143,10 @@ module _ (m : PinParts) (s : PinDay) where
   abbrev pub with_shown : List ℕ → Parts
   with_shown letters = Pin (record m { letters = letters })
 
-  turn_needed : (front back due : List ℕ) (now letter : ℕ) → front ++ letter ∷ due ≡ s.window → nat_eq now letter ≡ false
-      → loose_count (with_shown (front ++ now ∷ back)) (OfPins s) ≡ loose_count (with_shown (front ++ letter ∷ back)) (OfPins s) + 1
-  turn_needed front back due now letter e wrong = grind (arith, eq-eqb, one_less)
-
   pub turns_each : (front : List ℕ) (zs : List (ℕ × ℕ)) → front ++ map wanted zs ≡ s.window → AreOnWheels s.window
-      → EachLeads (OfPins s) with_shown shown wanted pin_turn_of front zs
+      → EachLeads with_shown shown wanted pin_turn_of front zs
   turns_each front [] e on = tt
-  turns_each front (z ∷ zs) e on =
-      let there = on.each (suc (length front)) z.1 (rw (← e) (seam_get front z.1 (map wanted zs))) in
-      let has = list_any_at (λ other. nat_eq other z.1) (ring_of (suc (length front))) there.0 z.1 there.1 (eq-eqb _ z.1 there.2) in (
-        led_unless (nat_eq z.0 z.1) (with_shown (front ++ z.0 ∷ map shown zs)) (with_shown (front ++ z.1 ∷ map shown zs)) (Turn (suc (length front)) z.1)
-            (λ so. ap (λ l. with_shown (front ++ l ∷ map shown zs)) (sym (eqb-true z.0 z.1 so)))
-            (ap with_shown (seam_set front z.0 (map shown zs) z.1))
-            (λ wrong. rw (seam_get front z.0 (map shown zs), has) refl)
-            (λ wrong unpriced. turn_needed front (map shown zs) (map wanted zs) z.0 z.1 e wrong),
-        turns_each (front ++ z.1 ∷ []) zs (append_assoc front (z.1 ∷ []) (map wanted zs) ∙ e) on,
-      )
+  turns_each front (z ∷ zs) e on = grind (arith, list_any_at, eq-eqb, eqb-true, led_unless, seam_get, seam_set, append_assoc, on.each (suc (length front)) z.1, turns_each (front ++ z.1 ∷ []) zs)
 
 -- ---- all lines
 
@@ -207,12 +167,12 @@ module _ (m : PinParts) (s : PinDay) (to : List ℕ) (machine : IsMachine (Pin m
   abbrev zs : List BarRow
   zs = bars_beside m.bars s.rows to
 
-  turns_reach : Led (OfPins s) (Pin after_pins) (pin_turn_lines m.letters s.window) (Pin after_turns)
+  turns_reach : Led (Pin after_pins) (pin_turn_lines m.letters s.window) (Pin after_turns)
   turns_reach =
       let letters = zip m.letters s.window in
       let size : length s.window ≡ length m.letters = legal.window.count ∙ sym machine.legal.letters.count in
       let due = seconds-zip m.letters s.window size in
-      let led = cells_led (OfPins s) (with_shown after_pins s) shown wanted pin_turn_of [] letters 1 refl (turns_each after_pins s [] letters due legal.window) in
+      let led = cells_led (with_shown after_pins s) shown wanted pin_turn_of [] letters 1 refl (turns_each after_pins s [] letters due legal.window) in
       rw (firsts-zip m.letters s.window size, due) at led
 
   sizes : length (map (row_at s.rows) to) ≡ length m.bars
@@ -221,9 +181,9 @@ module _ (m : PinParts) (s : PinDay) (to : List ℕ) (machine : IsMachine (Pin m
   pub are_movable : AllByRecursion IsMovable zs
   are_movable = grind (arith, movable, recursion_from_All)
 
-  lugs_reach : Led (OfPins s) (Pin after_turns) (lug_lines m.bars s.rows to) (with_bars (OfPins s) after_turns (map to_stand zs))
+  lugs_reach : Led (Pin after_turns) (lug_lines m.bars s.rows to) (with_bars after_turns (map to_stand zs))
   lugs_reach =
-      let led = cells_led (OfPins s) (with_bars (OfPins s) after_turns) now_stands to_stand lugs_of [] zs 1 refl (lugs_each (OfPins s) after_turns [] zs are_movable) in
+      let led = cells_led (with_bars after_turns) now_stands to_stand lugs_of [] zs 1 refl (lugs_each after_turns [] zs are_movable) in
       rw (firsts-zip m.bars (map (row_at s.rows) to) sizes) at led
 
   rows_are : IsPermutation (map (λ (bar : Place × Place). reading_of bar.0 bar.1) (map to_stand zs)) s.rows
@@ -232,10 +192,8 @@ module _ (m : PinParts) (s : PinDay) (to : List ℕ) (machine : IsMachine (Pin m
       let rows = rows_read zs are_movable ∙ seconds-zip m.bars (map (row_at s.rows) to) sizes in
       rw rows (IsPermutation-sym s.rows (map (row_at s.rows) to) order)
 
-  pub pin_machines_reach : Reaches (OfPins s) (Pin m) (planned_lines (Pin m) (OfPins s) to)
-  pin_machines_reach = record {
-    end = with_bars (OfPins s) after_turns (map to_stand zs);
-    led = led_append (pin_lines m.pins s.pins ++ pin_turn_lines m.letters s.window) (lug_lines m.bars s.rows to)
-        (led_append (pin_lines m.pins s.pins) (pin_turn_lines m.letters s.window) (pins_reach m s machine.legal.pins legal.pins) turns_reach) lugs_reach;
-    reads = record { key = record { pins = refl; rows = rows_are }; window = refl };
-  }
+  pub pins_lead : LeadsToTheDay (Pin m) (OfPins s) (planned_lines (Pin m) (OfPins s) to)
+  pins_lead =
+      let pins = led_append (pin_lines m.pins s.pins) (pin_turn_lines m.letters s.window) (pins_reach m s.pins machine.legal.pins legal.pins) turns_reach in
+      let all = led_append (pin_lines m.pins s.pins ++ pin_turn_lines m.letters s.window) (lug_lines m.bars s.rows to) pins lugs_reach in
+      (with_bars after_turns (map to_stand zs), all.leads, record { key = record { pins = refl; rows = rows_are }; window = refl })

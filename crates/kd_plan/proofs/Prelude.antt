@@ -1,6 +1,6 @@
 -- The words of other crates, and of this one's definitions, that its proofs speak of.
 pub use Rattle.kd_assign.specs.Assignment.{IsOneToOne, assignment_cost}
-pub use Rattle.kd_card.specs.Proving.{AreNeeded, AreOfKind, IsNeeded, ProvesByNumber, Same, is_priced, priced_count}
+pub use Rattle.kd_card.specs.Proving.{AreNeeded, AreOfKind, IsNeeded, LeadsToTheDay, ProvesByNumber, Same, is_priced, priced_count}
 pub use Rattle.kd_card.specs.declared.prices.PriceParts.TheVariants.{Bars, Cables}
 pub use Rattle.kd_plan.specs.CableWork.{cable_work, is_moved, work_beside, work_lines, work_setting}
 pub use Rattle.kd_plan.specs.Planned.{IsPlanned, besides, letters_apart, lies_apart, lines_from, lug_lines, lugs_to, pin_lines, pin_of, pin_turn_lines, pin_turn_of, planned_lines, pull_lines, put_lines, reflector_lines, ring_lines, ring_of_wheel, seat_lines, seat_of, table_size, target_of, turn_lines, turn_of, unless_so, wheel_pin_lines}
@@ -27,13 +27,17 @@ pub use Rattle.kd_tables.specs.declared.place.Place.{Place}
 pub use Rattle.kd_tables.specs.declared.wheel.Wheel.{Wheel}
 pub use Rattle.std.proofs.lemmas.Bool.{agree_below, agree_below_at, and_parts, cases_Bool, cond_both, eq-eqb, eqb-false, eqb-true, false_from_ne_true, false≢true, lt-ltb, ltb-false, ltb-true, not-true, or_parts, some_since}
 pub use Rattle.std.proofs.lemmas.Bool.Decides.{eqb_tells, nat_tests}
-pub use Rattle.std.proofs.lemmas.List.{append-nil, drop_all, drop_more, get_or-map, get_or-replicate, get_or-set_same, get_or_at, get_or_default, length-map, length-replicate, length-set, map-append, set_at}
+pub use Rattle.std.proofs.lemmas.List.{append-nil, drop_all, drop_more, ext_get_or, get_or-map, get_or-replicate, get_or-set_same, get_or_at, get_or_default, length-map, length-replicate, length-set, map-append, set_at}
 pub use Rattle.std.proofs.lemmas.List.Elements.{All-contains, All-filter, All-from_recursion, All-map, Contains-get_or, filter_passes, recursion_from_All}
 pub use Rattle.std.proofs.lemmas.List.Folds.{find_at, flat_map-map, list_any_at}
 pub use Rattle.std.proofs.lemmas.List.FromFn.{fill_by_all, get_or-range_with_len, length-enumerate_from, length-range_with_len}
 pub use Rattle.std.proofs.lemmas.List.Sorted.{Contains-permutation, IsPermutation-cons, IsPermutation-map, IsPermutation-refl, IsPermutation-remove, IsPermutation-sym, IsPermutation-trans, sum_by-IsPermutation}
-pub use Rattle.std.proofs.lemmas.List.Sums.{AllPass-from_list_all, length-filter, passes_at_first, sum-map, sum_by-append, sum_by-cons, sum_by-le, sum_by-le-sum_by}
+pub use Rattle.std.proofs.lemmas.List.Sums.{AllPass-from_list_all, count_by-le-length, length-filter, passes_at_first, position_or_len_is, sum-map, sum_by-append, sum_by-cons, sum_by-le, sum_by-le-sum_by}
 pub use Rattle.std.proofs.lemmas.Option.{get_or_from_slice_get, slice_get-get_or, slice_get_within, unwrap_or-slice_get}
 pub use Rattle.std.proofs.lemmas.Slice.Zip.{firsts-zip, get_or-zip, length-zip, seconds-zip}
-pub use Rattle.std.specs.List.{AllByRecursion, cons_option, enumerate_from, flat_map, list_any, range_with_len, sum_by}
+pub use Rattle.std.specs.List.{AllByRecursion, cons_option, count_by, enumerate_from, flat_map, list_any, range_with_len, sum_by}
 pub use Rattle.std.specs.Option.{option_and_then, option_map_or, option_to_list}
+pub use Rattle.kd_pins.specs.PinWheels.{pins_of}
+pub use Rattle.kd_pins.specs.declared.pin_set.PinSet.{PinSet}
+pub use Rattle.kd_tables.specs.declared.reflector.Reflector.{Reflector}
+pub use Rattle.std.proofs.lemmas.Grind.{common_steps, flat_map-append}

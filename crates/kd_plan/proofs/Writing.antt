@@ -1,8 +1,8 @@
 -- Lines that are written one after another.
-use Rattle.std.proofs.lemmas.Grind.{common_steps}
-use Rattle.std.proofs.Common.{◌≡◌, ℕ, ◌+◌, ◌<◌, ◌≤◌, min, Bool, not, cond, zip, List, [], ◌∷◌, ◌++◌, length, get_or, drop, map, filter, refl, sym, ap, ◌∙◌, arith, append_assoc, length-append}
-use Rattle.kd_plan.proofs.Prelude.{append-nil, drop_all, drop_more, enumerate_from, flat_map, get_or-map, get_or-zip, length-map, length-zip}
-use Rattle.kd_plan.proofs.Prelude.{lines_from, option_to_list, unless_so, Place, Setting}
+use Rattle.std.proofs.Common.{Bool, List, [], ap, append_assoc, arith, cond, drop, filter, get_or, length, length-append, map, min, not, refl, sym, zip, ℕ, ◌++◌, ◌+◌, ◌<◌, ◌∙◌, ◌∷◌, ◌≡◌, ◌≤◌}
+use Rattle.kd_plan.proofs.Prelude.{Place, Setting, append-nil, common_steps, drop_all, drop_more, enumerate_from}
+use Rattle.kd_plan.proofs.Prelude.{flat_map, get_or-map, get_or-zip, length-map, length-zip, lines_from, option_to_list}
+use Rattle.kd_plan.proofs.Prelude.{unless_so}
 use Rattle.kd_plan.proofs.Bars.{BarRow}
 
 module _ {X : Type 0} where
@@ -22,6 +22,9 @@ module _ {X : Type 0} where
       → map line (filter p xs) ≡ lines_from (λ n x. option_to_list (unless_so (not (p x)) (line x))) number xs
   lines_of_kept p line [] number = refl
   lines_of_kept p line (x ∷ xs) number = grind (arith, first_kept, p, line, lines_of_kept p line xs (number + 1))
+
+  pub kept_lines : (p : X → Bool) (line : X → Setting) (xs : List X) → map line (filter p xs) ≡ flat_map (λ x. option_to_list (unless_so (not (p x)) (line x))) xs
+  kept_lines p line xs = lines_of_kept p line xs 1 ∙ sym (lines_of_each (λ x. option_to_list (unless_so (not (p x)) (line x))) xs 1)
 
 -- a row of the day by its place, and the bars beside their rows
 abbrev pub row_at : List (ℕ × ℕ) → ℕ → ℕ × ℕ

@@ -20,7 +20,7 @@ use Rattle.kd_state.specs.declared.setting.Setting.{Setting}
 use Rattle.kd_state.specs.declared.setting.Setting.TheVariants.{Pull, Put, Seat, SeatReflector, RingTo, Turn, PinTo, LugTo}
 use Rattle.kd_state.specs.Box.{same_wheel, same_reflector}
 use Rattle.kd_state.specs.Machine.{model_of, cable_letters, ring_at, letter_at}
-use Rattle.kd_state.specs.Setting.{has_letter, is_at}
+use Rattle.kd_state.specs.Setting.{has_letter, is_at, seated_in}
 use Rattle.kd_state.specs.SheetDay.{Day, OfRotors, OfPins, day_model}
 use Rattle.kd_state.specs.Costs.{differ, column_letters, columns_of, nearest_standing, cost_table}
 use Rattle.kd_card.specs.declared.prices.PriceParts.{PriceParts}
@@ -38,11 +38,11 @@ lines_from lines number [] = []
 lines_from lines number (z ∷ zs) = lines number z ++ lines_from lines (number + 1) zs
 
 -- SEAT, of a slot with the day's wheel, and by slot
-abbrev pub seat_of : ℕ → Option Wheel × SheetWheel → List Setting
-seat_of slot z = option_to_list (unless_so (option_map_or (same_wheel z.1.wheel) z.0 false) (Seat slot z.1.wheel))
+abbrev pub seat_of : RotorParts → ℕ → SheetWheel → List Setting
+seat_of m slot w = option_to_list (unless_so (option_map_or (same_wheel w.wheel) (seated_in m slot) false) (Seat slot w.wheel))
 
-abbrev pub seat_lines : List (Option Wheel) → List SheetWheel → List Setting
-seat_lines slots wheels = lines_from seat_of 1 (zip slots wheels)
+abbrev pub seat_lines : RotorParts → List SheetWheel → List Setting
+seat_lines m wheels = lines_from (seat_of m) 1 wheels
 
 -- REFLECTOR
 abbrev pub reflector_lines : Reflector → Reflector → List Setting
@@ -118,7 +118,7 @@ lug_lines bars rows to =
 -- all lines, in the order in which they are carried out
 abbrev pub planned_lines : Parts → Day → List ℕ → List Setting
 planned_lines (Rotor m) (OfRotors s) to =
-    seat_lines m.slots s.wheels ++ reflector_lines m.reflector s.reflector ++ ring_lines m s.wheels ++ turn_lines m s.wheels ++ pull_lines m.cables s.pairs to ++ put_lines m.cables s.pairs to
+    seat_lines m s.wheels ++ reflector_lines m.reflector s.reflector ++ ring_lines m s.wheels ++ turn_lines m s.wheels ++ pull_lines m.cables s.pairs to ++ put_lines m.cables s.pairs to
 planned_lines (Pin m) (OfPins s) to = pin_lines m.pins s.pins ++ pin_turn_lines m.letters s.window ++ lug_lines m.bars s.rows to
 planned_lines _ _ _ = []
 

@@ -2,6 +2,7 @@
 ghost use Rattle.kd_plan.specs.Laws.{PlannedCardsProve, PlannedLinesLead};
 ghost use Rattle.kd_plan.specs.Told.{Told};
 
+use kd_card::laws::as_few_are_needed;
 use kd_state::laws::{
     columns_are_the_pairs, names_tell_parts, places_tell_wheels, tests_tell_letters,
 };
@@ -30,4 +31,5 @@ fn laws_are_told()
     places_tell_wheels();
     tests_tell_letters();
     columns_are_the_pairs();
+    as_few_are_needed();
 }

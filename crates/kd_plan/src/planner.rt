@@ -114,7 +114,7 @@ fn rotor_settings(
     let wheels = entry.wheels.as_slice();
     let pairs = entry.pairs.as_slice();
     let mut settings = ArrayVec::new();
-    push_seats(&mut settings, parts.slots.as_slice(), wheels);
+    push_seats(&mut settings, machine, parts, wheels);
     push_reflector(&mut settings, parts.reflector, entry.reflector);
     push_rings(&mut settings, machine, parts, wheels);
     push_turns(&mut settings, machine, parts, wheels);

@@ -1,10 +1,10 @@
 //! The lines of wheels, reflector, rings and window letters.
-ghost use Rattle.std.specs.Prelude.{◌≡◌, ◌+◌, ◌≤◌, ◌++◌, false, nat_eq, length, find, option_and_then};
+ghost use Rattle.std.specs.Prelude.{◌≡◌, ◌+◌, ◌≤◌, ◌++◌, false, nat_eq, length, find, option_and_then, None, unwrap_or};
 ghost use Rattle.std.specs.Option.{option_map_or};
 ghost use Rattle.arrayvec.specs.ArrayVec.{array_vec_len};
 ghost use Rattle.kd_state.specs.declared.machine.parts.Parts.TheVariants.{Rotor};
 ghost use Rattle.kd_state.specs.Box.{same_wheel, same_reflector};
-ghost use Rattle.kd_state.specs.Machine.{ring_in, letter_in};
+ghost use Rattle.kd_state.specs.Machine.{slot_in, ring_in, letter_in};
 ghost use Rattle.kd_plan.specs.Planned.{unless_so, seat_lines, reflector_lines, ring_lines, turn_lines};
 
 use super::lines::push_line;
@@ -13,17 +13,19 @@ use kd_tables::{Reflector, Wheel};
 
 /// Appends SEAT for each slot that doesn't hold the day's wheel.
 #[tactic(auto, using(crate::proofs::Writing::writing))]
-pub(crate) fn push_seats(settings: &mut Settings, slots: &[Option<Wheel>], wheels: &[SheetWheel])
-    requires slots { length slots.now ≡ length wheels.now }
+pub(crate) fn push_seats(
+    settings: &mut Settings,
+    machine: &Machine,
+    parts: &RotorParts,
+    wheels: &[SheetWheel],
+)
+    requires machine { machine.now ≡ Rotor parts.now }
     requires few { length wheels.now ≤ 4 }
-    requires room { array_vec_len settings.old + length (seat_lines slots.now wheels.now) ≤ 192 }
-    ensures { settings.new.items ≡ settings.old.items ++ seat_lines slots.now wheels.now }
+    requires room { array_vec_len settings.old + length (seat_lines parts.now wheels.now) ≤ 192 }
+    ensures { settings.new.items ≡ settings.old.items ++ seat_lines parts.now wheels.now }
 {
     for (place, wheel) in wheels.iter().enumerate() {
-        push_line(
-            settings,
-            seat_line(place as u8 + 1, slots[place], wheel.wheel),
-        );
+        push_line(settings, seat_line(machine, place as u8 + 1, wheel.wheel));
     }
 }
 
@@ -71,12 +73,13 @@ pub(crate) fn push_turns(
 }
 
 /// SEAT, unless the wheel is seated there.
-fn seat_line(slot: u8, seated: Option<Wheel>, wheel: Wheel) -> Option<Setting>
-    ensures { let so = option_map_or (same_wheel wheel) seated false in
+fn seat_line(machine: &Machine, slot: u8, wheel: Wheel) -> Option<Setting>
+    ensures { let seated = unwrap_or (slot_in machine.now slot) None in
+        let so = option_map_or (same_wheel wheel) seated false in
         result ≡ unless_so so (Setting.Seat slot wheel) }
 {
-    match seated {
-        Some(present) if wheel == present => None,
+    match machine.slot(slot) {
+        Some(Some(present)) if wheel == present => None,
         _ => Some(Setting::Seat { slot, wheel }),
     }
 }
