@@ -8,6 +8,7 @@ use Rattle.std.proofs.lemmas.Str.Parse.{IsNumeralModel, numerals_by_value, tells
 use Rattle.std.proofs.Math.Seq.{drop-cons}
 use Rattle.kd_form.proofs.Plain.{IsOff, same_front, IsPlain, plain_text, plain_letters, plain_more, without, whole_line}
 use Rattle.kd_form.proofs.Lines.{up_to_break}
+use Rattle.kd_form.proofs.Cutting.{begins}
 use Rattle.kd_form.proofs.OneOrder.{same_letters, same_word}
 
 -- -------- which part of how many, as it is written
@@ -267,14 +268,8 @@ words_begin s h more is =
     let small = (are_small s h is).part in
     let some : 0 < length (decimal h.part) = decimal_nonempty h.part small in
     let figure : IsInRange 48 57 (get_or (decimal h.part) 0 0) = digits_decimal figures h.part small 0 some in
-    let end : List ℕ = line_of (decimal h.letters ∷ indicator_words h.indicator) in
-    record {
-      digit = get_or (decimal h.part) 0 0;
-      rest = (((drop 1 (decimal h.part) ++ codes "/") ++ decimal h.parts) ++ 32 ∷ end) ++ more;
-      is = ap (λ n. ((codes "PART" ++ 32 ∷ (((n ++ codes "/") ++ decimal h.parts) ++ 32 ∷ end))) ++ more) (drop-cons (decimal h.part) 0 0 some);
-      low = figure.0;
-      high = figure.1;
-    }
+    let first : decimal h.part ≡ get_or (decimal h.part) 0 0 ∷ drop 1 (decimal h.part) = drop-cons (decimal h.part) 0 0 some in
+    rw first (begins (get_or (decimal h.part) 0 0) _ figure.0 figure.1)
 
 pub begins_there : (s : Day) (part : List ℕ) (h : Heading) (body : List ℕ) → NumbersAreWords → HasHeading s part h body → BeginsHeading part
 begins_there s part h body numbers has = grind (arith, common_steps, heading_tail, words_begin)
