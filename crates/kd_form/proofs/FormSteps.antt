@@ -1,5 +1,5 @@
 -- The reader of a form, byte by byte, and at the end.
-use Rattle.kd_form.proofs.Prelude.{[], ◌≡◌, ◌≢◌, ◌⊎◌, inl, inr, ℕ, ◌+◌, ◌-◌, ◌≤◌, List, ◌∷◌, ◌++◌, length, take, refl, sym, ap, subst, ◌∙◌, append_assoc, length-append, Result, Ok, Err, MatchResult, arith, codes, All, IsTrue, Option, Some, None, IsFalse, MatchOption, option_to_list, take-append_seam, cases_lt, cases_eq, append-nil, take_all, take-take, take-append-le, length-take, length-take-le, filter_map-append, All-nil, All-push, ArrayVec, is_text_byte, Day, line_of, IsWithout, IsFirstPart, TextsTellFirstParts, NumbersAreWords, FormFault, Heading, IsEnded, heading_words, letter_of_byte, letters_from, IsHeading, BeginsHeading, IsBodyText, IsBodyFault, HasHeading, IsExpected, IsEarlyFault, InHeading, InNumber, InBody, IsPartRead, IsPartFault, IsNextLine, Broken, Longer, Begins, HoldsBody, IsBodyGiven, MayBegin, HoldsPart, HoldsStage, HoldsForm, IsHeadingDue, IsHeadingOff, Missing, Other, IsLastText, BadByte, BadHeading, PartOrder, given_letters, IsRefusedForGood, NoHeading, form_message, IsRefusedAtEnd, IsRefused, Closes, Held, OfRest, ReadsTo, IsReadTo, StandsAt, EndsAt, IsComplete, IsLast, AtPart, cut, parts_of, HoldsAt, HoldsLast}
+use Rattle.kd_form.proofs.Prelude.{[], ◌≡◌, ◌≢◌, ◌⊎◌, inl, inr, ℕ, ◌+◌, ◌-◌, ◌≤◌, List, ◌∷◌, ◌++◌, length, take, refl, sym, ap, subst, ◌∙◌, append_assoc, length-append, Result, Ok, Err, MatchResult, arith, codes, All, IsTrue, Option, Some, None, IsFalse, MatchOption, option_to_list, take-append_seam, cases_lt, cases_eq, append-nil, take_all, take-take, take-append-le, length-take, length-take-le, filter_map-append, All-nil, All-push, ArrayVec, is_text_byte, Day, line_of, IsWithout, IsFirstPart, TextsTellFirstParts, NumbersAreWords, FormFault, Heading, IsEnded, heading_words, letter_of_byte, letters_from, IsHeading, BeginsHeading, IsBodyText, IsBodyFault, HasHeading, IsExpected, IsEarlyFault, InHeading, InNumber, InBody, IsPartFault, IsNextLine, Broken, Longer, Begins, HoldsBody, IsBodyGiven, MayBegin, HoldsPart, HoldsStage, HoldsForm, IsHeadingDue, IsHeadingOff, Missing, Other, IsLastText, BadByte, BadHeading, PartOrder, given_letters, IsRefusedForGood, NoHeading, form_message, IsRefusedAtEnd, IsRefused, Closes, Held, OfRest, ReadsTo, IsReadTo, StandsAt, EndsAt, IsComplete, IsLast, AtPart, cut, parts_of, HoldsAt, HoldsLast, Place, at_first, place_behind}
 use Rattle.kd_form.specs.declared.part_body.PartBody.{PartBody}
 use Rattle.kd_form.proofs.Headings.{at_most, plain_heading, has_byte, ended_heading, one_heading, begins_there}
 use Rattle.kd_form.proofs.TextLetters.{letters_first}
@@ -7,11 +7,11 @@ use Rattle.kd_form.specs.declared.form_reader.FormReader.{FormReader}
 use Rattle.kd_form.specs.declared.form_reader.Stage.{Stage}
 use Rattle.kd_form.specs.declared.form_reader.Stage.TheVariants as stages
 use Rattle.kd_form.proofs.Plain.{All-front, without, head_unbroken}
-use Rattle.kd_form.proofs.Cutting.{all_follow, begins, begins_more, first_done, first_ends, first_more, first_there, may_begin, one_more, single}
+use Rattle.kd_form.proofs.Cutting.{all_follow, begins, begins_more, first_ends, first_more, first_there, may_begin, one_more, single}
 use Rattle.kd_form.proofs.Lines.{IsUpToBreak, up_to_break}
 use Rattle.kd_form.proofs.OneOrder.{no_bad_byte}
-use Rattle.kd_form.proofs.OneText.{NeverPasses, read_or_refused, reads_as, reads_end, reads_meet, stands_at}
-use Rattle.kd_form.proofs.Standing.{Makes, grow, stays_refused}
+use Rattle.kd_form.proofs.OneText.{NeverPasses, read_or_refused, reads_as, reads_meet, stands_at}
+use Rattle.kd_form.proofs.Standing.{Makes, reached, stays_refused}
 
 -- -------- the body of a part, byte by byte
 
@@ -165,35 +165,33 @@ not_refused s (stages.Body b) number expected start part line body fault tell nu
     no_bad_byte rest place (rw same.1 at held.holds.allowed) bad
 
 module _ (s : Day) (r : FormReader) where
-  only_last : (number : ℕ) (expected : Option ℕ) (start : ℕ) (first : List ℕ) (others : List (List ℕ)) → HoldsLast s r number expected start (first ∷ others)
-      → (others ≡ []) × HoldsAt s r number expected start first
-  only_last number expected start first [] held = (refl, held)
-  only_last number expected start first (next ∷ others) held = absurd held
+  only_last : (p : Place) (first : List ℕ) (others : List (List ℕ)) → HoldsLast s r p (first ∷ others) → (others ≡ []) × HoldsAt s r p first
+  only_last p first [] held = (refl, held)
+  only_last p first (next ∷ others) held = absurd held
 
-  is_last : (number : ℕ) (expected : Option ℕ) (start : ℕ) (parts : List (List ℕ)) → HoldsLast s r number expected start parts → IsLast number expected start parts
-  is_last number expected start [] held = absurd held
-  is_last number expected start (first ∷ others) held = let none = (only_last number expected start first others held).0 in (first, rw none refl)
+  is_last : (p : Place) (parts : List (List ℕ)) → HoldsLast s r p parts → IsLast p parts
+  is_last p [] held = absurd held
+  is_last p (first ∷ others) held = let none = (only_last p first others held).0 in (first, rw none refl)
 
   held_to_the_end : (fault : FormFault) → NeverPasses s (HoldsLast s r) (StandsAt s fault)
-  held_to_the_end fault number expected start part [] count one more held is due rest = rest.0
-  held_to_the_end fault number expected start part (next ∷ others) count one more held is due rest = held
+  held_to_the_end fault p part [] count one more held is due rest = rest.0
+  held_to_the_end fault p part (next ∷ others) count one more held is due rest = held
 
   module _ (tell : TextsTellFirstParts) (numbers : NumbersAreWords) where
     refused_is_unread : (fault : FormFault) → NeverPasses s (StandsAt s fault) (HoldsLast s r)
-    refused_is_unread fault number expected start part parts count one more stands is due rest =
-        read_or_refused s tell numbers (stands_at s fault number expected start (part ∷ parts) stands).1 is due
+    refused_is_unread fault p part parts count one more stands is due rest =
+        read_or_refused s tell numbers (stands_at s fault p (part ∷ parts) stands).1 is due
 
     -- what is held is neither refused, nor passed by what is
-    never_refused : (fault : FormFault) (number : ℕ) (expected : Option ℕ) (start : ℕ) (parts : List (List ℕ)) → HoldsLast s r number expected start parts
-        → ¬ (StandsAt s fault number expected start parts)
-    never_refused fault number expected start [] held stands = held
-    never_refused fault number expected start (part ∷ next ∷ others) held stands = held
-    never_refused fault number expected start (part ∷ []) held ((line, body, broken), early) =
-        not_refused s r.stage r.number r.expected start part line body fault tell numbers held.stage broken (rw (held.numbered, held.due) early)
+    never_refused : (fault : FormFault) (p : Place) (parts : List (List ℕ)) → HoldsLast s r p parts → ¬ (StandsAt s fault p parts)
+    never_refused fault p [] held stands = held
+    never_refused fault p (part ∷ next ∷ others) held stands = held
+    never_refused fault p (part ∷ []) held ((line, body, broken), early) =
+        not_refused s r.stage r.number r.expected p.start part line body fault tell numbers held.stage broken (rw (held.numbered, held.due) early)
 
     no_heading : (form text : List ℕ) → HoldsForm s r form text → ¬ ((more : List ℕ) → ¬ (BeginsHeading (form ++ more)))
     no_heading form text (letters, inl (held, nil), is) none =
-        let last = only_last 1 None 0 (cut form).0 (cut form).1 held in
+        let last = only_last at_first (cut form).0 (cut form).1 held in
         let (more, begun) = may_begin_there s r.stage r.number r.expected (cut form).0 numbers last.1.stage in
         none more (subst (λ l. BeginsHeading (l ++ more)) (single form last.0) begun)
     no_heading form text (letters, inr (count, one, more, read, due, rest, joined), is) none =
@@ -203,15 +201,15 @@ module _ (s : Day) (r : FormReader) where
     unrefused : (form text before : List ℕ) (fault : FormFault) → HoldsForm s r form text → ¬ (IsRefusedForGood s form before fault)
     unrefused form text before fault held (NoHeading none empty is) = no_heading form text held none
     unrefused form text before fault (letters, reads, is) (AtPart (others, stands, so)) =
-        (reads_meet s tell numbers {A = HoldsLast s r} {B = StandsAt s fault} (held_to_the_end fault) (refused_is_unread fault) (never_refused fault)
-        1 None 0 (parts_of form) letters others reads stands).1
+        (reads_meet s tell numbers (HoldsLast s r) (StandsAt s fault) ⊥ (held_to_the_end fault) (refused_is_unread fault) (never_refused fault)
+        at_first (parts_of form) letters others reads stands).1
 
     pub held : (form text : List ℕ) → HoldsForm s r form text → Held (form_message s) (HoldsForm s r) form text
     held form text h = record {
       is = h;
       open_yet = record {
         unrefused = λ fault found. unrefused form text found.0 fault h found.1;
-        written = (h.0, reads_as s {A = HoldsLast s r} {B = IsLast} is_last 1 None 0 (parts_of form) h.0 h.1, h.2);
+        written = (h.0, reads_as s (HoldsLast s r) IsLast is_last at_first (parts_of form) h.0 h.1, h.2);
       };
     }
 
@@ -290,203 +288,162 @@ settled s b part body holds begun =
 abbrev pub behind : FormReader → Stage → FormReader
 behind r stage = record r { position = r.position + 1; stage = stage }
 
-module _ (s : Day) (r : FormReader) where
-  in_stage : (stage : Stage) (number : ℕ) (expected : Option ℕ) (start : ℕ) (last : List ℕ) → r.stage ≡ stage → HoldsAt s r number expected start last
-      → HoldsStage s stage r.number r.expected last
-  in_stage stage number expected start last is at = subst (λ st. HoldsStage s st r.number r.expected last) is at.stage
+-- The last part, and where it begins: what is so of it with more bytes is so of the form with them.
+pub record Going (s : Day) (r : FormReader) (form text : List ℕ) : Type 1 where
+  pub last : List ℕ
+  pub start : ℕ
+  pub alone : (cut last).1 ≡ []
+  pub counted : r.position ≡ start + length last
+  pub whole : r.position ≡ length form
+  pub stage : HoldsStage s r.stage r.number r.expected last
+  pub first : r.number ≡ 1 → (form ≡ last) × (text ≡ [])
+  pub goes_on : (B : OfRest) (more made : List ℕ) → Makes s B (record { number = r.number; expected = r.expected; start = start }) (last ++ more) made
+      → IsReadTo s B (form ++ more) (text ++ made)
 
-  -- what is so of its number, and of so many, is so of those that are due
-  at_place : (P : ℕ → Option ℕ → Type 0) (number : ℕ) (expected : Option ℕ) (start : ℕ) (last : List ℕ) → HoldsAt s r number expected start last → P r.number r.expected
-      → P number expected
-  at_place P number expected start last at is = rw at.due at (rw at.numbered at is)
+pub going : (s : Day) (r : FormReader) (form text : List ℕ) → HoldsForm s r form text → Going s r form text
+going s r form text (letters, reads, is) =
+    let g = reached s (HoldsLast s r) (λ p none. none) at_first (parts_of form) form letters refl reads in
+    let (alone, held) = only_last s r g.there (cut g.rest).0 (cut g.rest).1 g.so in
+    let last : (cut g.rest).0 ≡ g.rest = single g.rest alone in
+    let at : HoldsAt s r g.there g.rest = subst (HoldsAt s r g.there) last held in
+    record {
+      last = g.rest;
+      start = g.there.start;
+      alone = alone;
+      counted = at.counted;
+      whole = omega (arith, at.counted, g.counted);
+      stage = at.stage;
+      first = λ one. let (same, nil) = g.first (sym at.numbered ∙ one) in (same, is ∙ ap (given_letters s) nil);
+      goes_on = λ B more made makes.
+          let (whole, further, given) = g.goes_on B more made
+          (subst (λ n. Makes s B (record { number = n; expected = g.there.expected; start = g.there.start }) (g.rest ++ more) made) at.numbered
+          (subst (λ e. Makes s B (record { number = r.number; expected = e; start = g.there.start }) (g.rest ++ more) made) at.due makes)) in
+          (whole, further, ap (λ t. t ++ made) is ∙ given);
+    }
 
-  -- what is so of the last part, whichever it is
-  pub of_last : (P : Type 0) (form text : List ℕ) → HoldsForm s r form text
-      → ((number : ℕ) (expected : Option ℕ) (start : ℕ) (last : List ℕ) → HoldsAt s r number expected start last → P) → P
-  of_last P form text (letters, reads, is) so = reads_end s (HoldsLast s r) P at_rest 1 None 0 (parts_of form) letters reads where
-    at_rest : (number : ℕ) (expected : Option ℕ) (start : ℕ) (parts : List (List ℕ)) → HoldsLast s r number expected start parts → P
-    at_rest number expected start [] held = absurd held
-    at_rest number expected start (first ∷ others) held = so number expected start first (only_last s r number expected start first others held).1
+module _ (s : Day) (r : FormReader) (form text : List ℕ) (h : HoldsForm s r form text) where
+  abbrev g : Going s r form text
+  g = going s r form text h
 
-  pub last_there : (form text : List ℕ) (stage : Stage) → r.stage ≡ stage → HoldsForm s r form text → (part : List ℕ) × HoldsStage s stage r.number r.expected part
-  last_there form text stage is held = of_last ((part : List ℕ) × HoldsStage s stage r.number r.expected part) form text held (λ number expected start last at.
-      (last, in_stage stage number expected start last is at))
+  pub in_stage : (stage : Stage) → r.stage ≡ stage → HoldsStage s stage r.number r.expected g.last
+  in_stage stage is = subst (λ st. HoldsStage s st r.number r.expected g.last) is g.stage
 
-  -- all bytes have come
-  counted : (number : ℕ) (expected : Option ℕ) (start : ℕ) (parts : List (List ℕ)) (form letters : List ℕ) → parts_of form ≡ parts
-      → ReadsTo s (HoldsLast s r) number expected start parts letters → r.position ≡ start + length form
-  counted number expected start [] form letters same reads = absurd reads.0
-  counted number expected start (part ∷ parts) form letters same (inl (held, nil)) =
-      let (none, at) = only_last s r number expected start part parts held in
-      let whole : part ≡ form = cc (same, single form (cc)) in
-      at.counted ∙ ap (λ l. start + length l) whole
-  counted number expected start (part ∷ []) form letters same (inr (count, one, more, is, due, rest, joined)) = absurd rest.0
-  counted number expected start (part ∷ next ∷ parts) form letters same (inr (count, one, more, is, due, rest, joined)) =
-      let done = first_done form (λ nil. cc) in
-      let behind : parts_of done.rest ≡ next ∷ parts = cc (done.others, same) in
-      let first : (cut form).0 ≡ part = cc in
-      omega (arith, counted (number + 1) (Some count) (start + length part) (next ∷ parts) done.rest more behind rest, ap length done.joined, ap length first, length-append (cut form).0 done.rest)
-
-  pub position_is : (form text : List ℕ) → HoldsForm s r form text → r.position ≡ length form
-  position_is form text (letters, reads, is) = omega (arith, counted 1 None 0 (parts_of form) form letters refl reads)
-
-  -- its number is the next one
-  counted_up : (number : ℕ) (expected : Option ℕ) (start : ℕ) (parts : List (List ℕ)) (letters : List ℕ) → ReadsTo s (HoldsLast s r) number expected start parts letters
-      → number ≤ r.number
-  counted_up number expected start [] letters reads = absurd reads.0
-  counted_up number expected start (part ∷ parts) letters (inl (held, nil)) = omega (arith, (only_last s r number expected start part parts held).1.numbered)
-  counted_up number expected start (part ∷ parts) letters (inr (count, one, more, is, due, rest, joined)) =
-      omega (arith, counted_up (number + 1) (Some count) (start + length part) parts more rest)
-
-  -- what is so of the last part with more bytes is so of the form with them
-  pub step : (B : OfRest) (form text more made : List ℕ) → HoldsForm s r form text
-      → ((number : ℕ) (expected : Option ℕ) (start : ℕ) (last : List ℕ) → (cut last).1 ≡ [] → HoldsAt s r number expected start last
-      → Makes s B number expected start (last ++ more) made) → IsReadTo s B (form ++ more) (text ++ made)
-  step B form text more made (letters, reads, is) on =
-      let (whole, further, given) = grow s (HoldsLast s r) B more made (λ number expected start rest held.
-      let last = only_last s r number expected start (cut rest).0 (cut rest).1 held in
-      on number expected start rest last.0 (subst (HoldsAt s r number expected start) (single rest last.0) last.1)) (λ n e st none. none)
-      1 None 0 (parts_of form) form letters refl reads in
-      (whole, further, ap (λ t. t ++ made) is ∙ given)
+  pub position_is : r.position ≡ length form
+  position_is = g.whole
 
   -- a byte more of the same part, of which this is so
-  grown : (B : OfRest) (form text made : List ℕ) (byte : ℕ) → HoldsForm s r form text → made ≡ []
-      → ((number : ℕ) (expected : Option ℕ) (start : ℕ) (last : List ℕ) → (cut last).1 ≡ [] → HoldsAt s r number expected start last
-      → (cut (last ++ byte ∷ []) ≡ (last ++ byte ∷ [], [])) × B number expected start ((last ++ byte ∷ []) ∷ [])) → IsReadTo s B (form ++ byte ∷ []) (text ++ made)
-  grown B form text made byte held none so = step B form text (byte ∷ []) made held (λ number expected start last alone at.
-      let (one, is) = so number expected start last alone at in
-      ([], subst (λ (c : List ℕ × List (List ℕ)). ReadsTo s B number expected start (c.0 ∷ c.1) []) (sym one) (inl (is, refl)), none))
+  grown : (B : OfRest) (made : List ℕ) (byte : ℕ) → made ≡ [] → cut (g.last ++ byte ∷ []) ≡ (g.last ++ byte ∷ [], [])
+      → B (record { number = r.number; expected = r.expected; start = g.start }) ((g.last ++ byte ∷ []) ∷ []) → IsReadTo s B (form ++ byte ∷ []) (text ++ made)
+  grown B made byte none one is = g.goes_on B (byte ∷ []) made
+      ([], subst (λ (c : List ℕ × List (List ℕ)). ReadsTo s B (record { number = r.number; expected = r.expected; start = g.start }) (c.0 ∷ c.1) []) (sym one) (inl (is, refl)), none)
 
-  -- and with it the part is refused
-  grown_refused : (fault : FormFault) (form text : List ℕ) (byte : ℕ) → HoldsForm s r form text
-      → ((number : ℕ) (expected : Option ℕ) (start : ℕ) (last : List ℕ) → (cut last).1 ≡ [] → HoldsAt s r number expected start last
-      → (cut (last ++ byte ∷ []) ≡ (last ++ byte ∷ [], [])) × StandsAt s fault number expected start ((last ++ byte ∷ []) ∷ [])) → IsRefusedForGood s (form ++ byte ∷ []) text fault
-  grown_refused fault form text byte held so =
-      AtPart (subst (IsReadTo s (StandsAt s fault) (form ++ byte ∷ [])) (append-nil text) (grown (StandsAt s fault) form text [] byte held refl so))
+  -- with more bytes the part is refused
+  at_part : (fault : FormFault) (more : List ℕ) → IsReadTo s (StandsAt s fault) (form ++ more) (text ++ []) → IsRefusedForGood s (form ++ more) text fault
+  at_part fault more is = AtPart (subst (IsReadTo s (StandsAt s fault) (form ++ more)) (append-nil text) is)
 
   -- no heading begins with that byte
-  pub not_following : (form text : List ℕ) (line : ArrayVec ℕ) (byte : ℕ) → r.stage ≡ stages.Heading line
-      → ((part : List ℕ) → line.items ≡ take 64 part → MayBegin part → ¬ (MayBegin (part ++ byte ∷ []))) → HoldsForm s r form text
-      → IsRefusedForGood s (form ++ byte ∷ []) text (BadHeading r.number)
-  not_following form text line byte stage not held =
-      let (part, there) = last_there form text (stages.Heading line) stage held in
-      let first : r.number ≡ 1 = elim (cases_lt (length part) 6) [
+  pub not_following : (line : ArrayVec ℕ) (byte : ℕ) → r.stage ≡ stages.Heading line
+      → ((part : List ℕ) → line.items ≡ take 64 part → MayBegin part → ¬ (MayBegin (part ++ byte ∷ []))) → IsRefusedForGood s (form ++ byte ∷ []) text (BadHeading r.number)
+  not_following line byte stage not =
+      let there = in_stage (stages.Heading line) stage in
+      let one : r.number ≡ 1 = elim (cases_lt (length g.last) 6) [
         | inl short ↦ there.1 short
-        | inr long ↦ absurd (not part there.0.kept there.0.begins (all_follow part byte long there.0.begins))
+        | inr long ↦ absurd (not g.last there.0.kept there.0.begins (all_follow g.last byte long there.0.begins))
       ] in
-      no_first first held
-    where
-      no_first : r.number ≡ 1 → HoldsForm s r form text → IsRefusedForGood s (form ++ byte ∷ []) text (BadHeading r.number)
-      no_first first (letters, inr (count, one, more, is, due, rest, joined), given) = absurd (omega (arith, first, counted_up 2 (Some count) _ _ more rest))
-      no_first first (letters, inl (held, nil), given) =
-          let last = only_last s r 1 None 0 (cut form).0 (cut form).1 held in
-          let there = in_stage (stages.Heading line) 1 None 0 (cut form).0 stage last.1 in
-          NoHeading (λ more begun. not (cut form).0 there.0.kept there.0.begins (more, subst (λ l. BeginsHeading ((l ++ byte ∷ []) ++ more)) (sym (single form last.0)) begun))
-          (given ∙ ap (given_letters s) nil) (ap BadHeading first)
+      let (same, nil) = g.first one in
+      NoHeading (λ more begun. not g.last there.0.kept there.0.begins (more, subst (λ l. BeginsHeading ((l ++ byte ∷ []) ++ more)) same begun)) nil (ap BadHeading one)
 
-  pub longer_line : (form text made : List ℕ) (line next : ArrayVec ℕ) (byte : ℕ) → r.stage ≡ stages.Heading line → byte ≢ 10
+  pub longer_line : (line next : ArrayVec ℕ) (made : List ℕ) (byte : ℕ) → r.stage ≡ stages.Heading line → byte ≢ 10
       → ((part : List ℕ) → line.items ≡ take 64 part → MayBegin part → MayBegin (part ++ byte ∷ [])) → next.items ≡ take 64 (line.items ++ byte ∷ [])
-      → made ≡ [] → HoldsForm s r form text → HoldsForm s (behind r (stages.Heading next)) (form ++ byte ∷ []) (text ++ made)
-  longer_line form text made line next byte stage other follows kept none held =
-      grown (HoldsLast s (behind r (stages.Heading next))) form text made byte held none (λ number expected start last alone at.
-      let there = in_stage (stages.Heading line) number expected start last stage at in (
-        one_more last byte there.0.unbroken,
-        record {
-          counted = omega (arith, at.counted, length-append last (byte ∷ []));
-          numbered = at.numbered;
-          due = at.due;
-          stage = (
-            record {
-              kept = kept ∙ ap (λ l. take 64 (l ++ byte ∷ [])) there.0.kept ∙ take_kept 64 last (byte ∷ []);
-              unbroken = All-push (λ b. b ≢ 10) last byte there.0.unbroken other;
-              begins = follows last there.0.kept there.0.begins;
-            },
-            λ few. there.1 (omega (arith, length-append last (byte ∷ []))),
-          );
-        },
-      ))
+      → made ≡ [] → HoldsForm s (behind r (stages.Heading next)) (form ++ byte ∷ []) (text ++ made)
+  longer_line line next made byte stage other follows kept none =
+      let there = in_stage (stages.Heading line) stage in
+      grown (HoldsLast s (behind r (stages.Heading next))) made byte none (one_more g.last byte there.0.unbroken) (record {
+        counted = omega (arith, g.counted, length-append g.last (byte ∷ []));
+        numbered = refl;
+        due = refl;
+        stage = (
+          record {
+            kept = kept ∙ ap (λ l. take 64 (l ++ byte ∷ [])) there.0.kept ∙ take_kept 64 g.last (byte ∷ []);
+            unbroken = All-push (λ b. b ≢ 10) g.last byte there.0.unbroken other;
+            begins = follows g.last there.0.kept there.0.begins;
+          },
+          λ few. there.1 (omega (arith, length-append g.last (byte ∷ []))),
+        );
+      })
 
   -- the heading is the one that is due: its body begins
-  pub heading_read : (form text made : List ℕ) (line : ArrayVec ℕ) (found : Option Heading) (heading : Heading) (b : PartBody) → r.stage ≡ stages.Heading line
+  pub heading_read : (line : ArrayVec ℕ) (made : List ℕ) (found : Option Heading) (heading : Heading) (b : PartBody) → r.stage ≡ stages.Heading line
       → ((part : List ℕ) → IsWithout 10 part → line.items ≡ take 64 part → IsEndedBy s part found) → IsHeadingDue r.number r.expected found heading
-      → b.heading ≡ heading → b.letters.items ≡ [] → b.begun ≡ Some 0 → made ≡ [] → HoldsForm s r form text
-      → HoldsForm s (behind r (stages.Body b)) (form ++ 10 ∷ []) (text ++ made)
-  heading_read form text made line found heading b stage told due heads letters begun none held =
-      grown (HoldsLast s (behind r (stages.Body b))) form text made 10 held none (λ number expected start last alone at.
-      let there = in_stage (stages.Heading line) number expected start last stage at in
-      let ended : IsHeading s heading × IsEnded (line_of (heading_words heading)) (last ++ 10 ∷ []) = rw due.is at (told last there.0.unbroken there.0.kept) in (
-        one_more last 10 there.0.unbroken,
-        record {
-          counted = omega (arith, at.counted, length-append last (10 ∷ []));
-          numbered = at.numbered;
-          due = at.due;
-          stage = record {
-            body = [];
-            holds = record {
-              line = last ++ 10 ∷ [];
-              settled = [];
-              tail = [];
-              front = last;
-              joined = sym (append-nil (last ++ 10 ∷ []));
-              ended = subst (λ x. IsEnded (line_of (heading_words x)) (last ++ 10 ∷ [])) (sym heads) ended.1;
-              is_heading = rw heads ended.0;
-              lines = refl;
-              broken = append-nil (last ++ 10 ∷ []);
-              unbroken = All-nil (λ b. b ≢ 10);
-              marked = rw begun (omega arith, refl);
-              allowed = All-nil (λ b. IsTrue (is_text_byte b));
-              kept = letters;
-            };
-            numbered = rw heads due.numbered;
-            due = rw heads due.due;
+      → b.heading ≡ heading → b.letters.items ≡ [] → b.begun ≡ Some 0 → made ≡ [] → HoldsForm s (behind r (stages.Body b)) (form ++ 10 ∷ []) (text ++ made)
+  heading_read line made found heading b stage told due heads letters begun none =
+      let there = in_stage (stages.Heading line) stage in
+      let ended : IsHeading s heading × IsEnded (line_of (heading_words heading)) (g.last ++ 10 ∷ []) = rw due.is at (told g.last there.0.unbroken there.0.kept) in
+      grown (HoldsLast s (behind r (stages.Body b))) made 10 none (one_more g.last 10 there.0.unbroken) (record {
+        counted = omega (arith, g.counted, length-append g.last (10 ∷ []));
+        numbered = refl;
+        due = refl;
+        stage = record {
+          body = [];
+          holds = record {
+            line = g.last ++ 10 ∷ [];
+            settled = [];
+            tail = [];
+            front = g.last;
+            joined = sym (append-nil (g.last ++ 10 ∷ []));
+            ended = subst (λ x. IsEnded (line_of (heading_words x)) (g.last ++ 10 ∷ [])) (sym heads) ended.1;
+            is_heading = rw heads ended.0;
+            lines = refl;
+            broken = append-nil (g.last ++ 10 ∷ []);
+            unbroken = All-nil (λ b. b ≢ 10);
+            marked = rw begun (omega arith, refl);
+            allowed = All-nil (λ b. IsTrue (is_text_byte b));
+            kept = letters;
           };
-        },
-      ))
+          numbered = rw heads due.numbered;
+          due = rw heads due.due;
+        };
+      })
 
   -- or it isn't
-  pub heading_refused : (form text : List ℕ) (line : ArrayVec ℕ) (found : Option Heading) (fault : FormFault) → r.stage ≡ stages.Heading line
+  pub heading_refused : (line : ArrayVec ℕ) (found : Option Heading) (fault : FormFault) → r.stage ≡ stages.Heading line
       → ((part : List ℕ) → IsWithout 10 part → line.items ≡ take 64 part → IsEndedBy s part found) → IsHeadingOff r.number r.expected found fault
-      → HoldsForm s r form text → IsRefusedForGood s (form ++ 10 ∷ []) text fault
-  heading_refused form text line found fault stage told wrong held = grown_refused fault form text 10 held (λ number expected start last alone at.
-      let there = in_stage (stages.Heading line) number expected start last stage at in
-      let ended = told last there.0.unbroken there.0.kept in
-      let early = off s r.number r.expected start (last ++ 10 ∷ []) found fault (grind (arith, ended_heading)) wrong in
-      (one_more last 10 there.0.unbroken, ((last, [], record { joined = refl; without = there.0.unbroken }), rw (at.numbered, at.due) at early)))
+      → IsRefusedForGood s (form ++ 10 ∷ []) text fault
+  heading_refused line found fault stage told wrong =
+      let there = in_stage (stages.Heading line) stage in
+      let ended = told g.last there.0.unbroken there.0.kept in
+      at_part fault (10 ∷ []) (grown (StandsAt s fault) [] 10 refl (one_more g.last 10 there.0.unbroken)
+      ((g.last, [], record { joined = refl; without = there.0.unbroken }), off s r.number r.expected g.start (g.last ++ 10 ∷ []) found fault (grind (arith, ended_heading)) wrong))
 
-  pub longer_body : (form text made : List ℕ) (b next : PartBody) (byte : ℕ) → r.stage ≡ stages.Body b → ¬ (IsDigitDue b byte)
+  pub longer_body : (b next : PartBody) (made : List ℕ) (byte : ℕ) → r.stage ≡ stages.Body b → ¬ (IsDigitDue b byte)
       → ((day : Day) (part body : List ℕ) → HoldsBody day b part body → HoldsBody day next (part ++ byte ∷ []) (body ++ byte ∷ []))
-      → next.heading ≡ b.heading → made ≡ [] → HoldsForm s r form text → HoldsForm s (behind r (stages.Body next)) (form ++ byte ∷ []) (text ++ made)
-  longer_body form text made b next byte stage not pushed same none held =
-      grown (HoldsLast s (behind r (stages.Body next))) form text made byte held none (λ number expected start last alone at.
-      let there = in_stage (stages.Body b) number expected start last stage at in (
-        goes_on s b last there.body byte there.holds alone not,
-        record {
-          counted = omega (arith, at.counted, length-append last (byte ∷ []));
-          numbered = at.numbered;
-          due = at.due;
-          stage = record {
-            body = there.body ++ byte ∷ [];
-            holds = pushed s last there.body there.holds;
-            numbered = rw same there.numbered;
-            due = rw same there.due;
-          };
-        },
-      ))
+      → next.heading ≡ b.heading → made ≡ [] → HoldsForm s (behind r (stages.Body next)) (form ++ byte ∷ []) (text ++ made)
+  longer_body b next made byte stage not pushed same none =
+      let there = in_stage (stages.Body b) stage in
+      grown (HoldsLast s (behind r (stages.Body next))) made byte none (goes_on s b g.last there.body byte there.holds g.alone not) (record {
+        counted = omega (arith, g.counted, length-append g.last (byte ∷ []));
+        numbered = refl;
+        due = refl;
+        stage = record {
+          body = there.body ++ byte ∷ [];
+          holds = pushed s g.last there.body there.holds;
+          numbered = rw same there.numbered;
+          due = rw same there.due;
+        };
+      })
 
-  pub bad_byte : (form text : List ℕ) (b : PartBody) (byte : ℕ) → r.stage ≡ stages.Body b → ¬ (IsDigitDue b byte) → IsFalse (is_text_byte byte)
-      → HoldsForm s r form text → IsRefusedForGood s (form ++ byte ∷ []) text (BadByte (r.position + 1))
-  bad_byte form text b byte stage not bad held = grown_refused (BadByte (r.position + 1)) form text byte held (λ number expected start last alone at.
-      let there = in_stage (stages.Body b) number expected start last stage at in
+  pub bad_byte : (b : PartBody) (byte : ℕ) → r.stage ≡ stages.Body b → ¬ (IsDigitDue b byte) → IsFalse (is_text_byte byte)
+      → IsRefusedForGood s (form ++ byte ∷ []) text (BadByte (r.position + 1))
+  bad_byte b byte stage not bad =
+      let there = in_stage (stages.Body b) stage in
       let body : List ℕ = there.body ++ byte ∷ [] in
-      let ended = heading_ended s b last there.body there.holds in
-      let place : r.position + 1 ≡ start + (length (last ++ byte ∷ []) - length body) + length there.body + 1 =
-      omega (arith, at.counted, length-append {A = ℕ}, ap length there.holds.joined) in (
-        goes_on s b last there.body byte there.holds alone not,
-        (
-          (ended.0, body, grind (arith, append_assoc {A = ℕ})),
-          InBody b.heading body (length there.body) (grind (arith, append_assoc {A = ℕ})) (there.numbered ∙ at.numbered) (rw at.due at there.due)
-              (record { before = there.body; byte = byte; rest = []; joined = refl; size = refl; allowed = there.holds.allowed; bad = bad }) (ap BadByte place),
-        ),
+      let ended = heading_ended s b g.last there.body there.holds in
+      let place : r.position + 1 ≡ g.start + (length (g.last ++ byte ∷ []) - length body) + length there.body + 1 =
+      omega (arith, g.counted, length-append {A = ℕ}, ap length there.holds.joined) in
+      at_part (BadByte (r.position + 1)) (byte ∷ []) (grown (StandsAt s (BadByte (r.position + 1))) [] byte refl (goes_on s b g.last there.body byte there.holds g.alone not) (
+        (ended.0, body, grind (arith, append_assoc {A = ℕ})),
+        InBody b.heading body (length there.body) (grind (arith, append_assoc {A = ℕ})) there.numbered there.due
+            (record { before = there.body; byte = byte; rest = []; joined = refl; size = refl; allowed = there.holds.allowed; bad = bad }) (ap BadByte place),
       ))
 
   -- ---- the part ends, as a digit stands behind the five bytes of a heading
@@ -496,112 +453,81 @@ module _ (s : Day) (r : FormReader) where
   IsSaid b P = (letters more : List ℕ) → length more ≡ 4 → b.letters.items ≡ take 525 (letters ++ more) → P letters
 
   module _ (b : PartBody) (byte : ℕ) (stage : r.stage ≡ stages.Body b) (digit : IsDigitDue b byte) where
-    pub four_letters : (form text : List ℕ) → HoldsForm s r form text → 4 ≤ length b.letters.items
-    four_letters form text held =
-        let (last, there) = last_there form text (stages.Body b) stage held in
-        omega (arith, ap length there.holds.kept, length-take {A = ℕ}, ap length (settled s b last there.body there.holds digit.0).letters, length-append {A = ℕ})
+    abbrev there : HoldsPart s b r.number r.expected g.last
+    there = in_stage (stages.Body b) stage
 
-    -- it is cut off, and is this part
-    ended : (last : List ℕ) (there : HoldsPart s b r.number r.expected last) → (cut last).1 ≡ [] → Settled s b last there.body there.holds
-        × (cut (last ++ byte ∷ []) ≡ (there.holds.front ++ 10 ∷ [], (codes "PART " ++ byte ∷ []) ∷ []))
-    ended last there alone =
-        let whole = settled s b last there.body there.holds digit.0 in
-        let joined : last ++ byte ∷ [] ≡ there.holds.front ++ 10 ∷ (codes "PART " ++ byte ∷ []) =
-        ap (λ l. l ++ byte ∷ []) whole.split ∙ append_assoc there.holds.front (10 ∷ codes "PART ") (byte ∷ []) in
-        (whole, ap cut joined ∙ first_ends there.holds.front byte (rw whole.split at alone) digit.1 digit.2)
+    abbrev ended : Settled s b g.last there.body there.holds
+    ended = settled s b g.last there.body there.holds digit.0
 
-    said : (P : List ℕ → Type 0) (last : List ℕ) (there : HoldsPart s b r.number r.expected last) → IsSaid b P → P (letters_from None there.holds.settled)
-    said P last there told = told (letters_from None there.holds.settled) (letters_from None (codes "PART ")) refl
-        (there.holds.kept ∙ ap (take 525) (settled s b last there.body there.holds digit.0).letters)
+    abbrev whole : List ℕ
+    whole = there.holds.front ++ 10 ∷ []
 
-    pub part_refused : (form text : List ℕ) (fault : FormFault) → IsSaid b (λ letters. IsBodyFault s b.heading.part b.heading letters fault) → HoldsForm s r form text
-        → IsRefusedForGood s (form ++ byte ∷ []) text fault
-    part_refused form text fault told held = AtPart (subst (IsReadTo s (StandsAt s fault) (form ++ byte ∷ [])) (append-nil text)
-        (step (StandsAt s fault) form text (byte ∷ []) [] held (λ number expected start last alone at.
-        let there = in_stage (stages.Body b) number expected start last stage at in
-        let (whole, cutting) = ended last there alone in
-        let whole_part : List ℕ = there.holds.front ++ 10 ∷ [] in
-        let found = last_told {X = List ℕ} (λ one. b.heading.parts) (λ one. one) s r.number r.expected (there.holds.front ++ 10 ∷ []) there.holds.settled b.heading (Err fault) whole.has
-        there.numbered there.due whole.allowed (said (λ letters. IsBodyFault s b.heading.part b.heading letters fault) last there told) in (
-          [],
-          subst (λ (c : List ℕ × List (List ℕ)). ReadsTo s (StandsAt s fault) number expected start (c.0 ∷ c.1) []) (sym cutting)
-              (inl (at_place (λ n e. IsPartFault s n e start whole_part fault) number expected start last at (found start), refl)),
-          refl,
-        ))))
+    pub four_letters : 4 ≤ length b.letters.items
+    four_letters = omega (arith, ap length there.holds.kept, length-take {A = ℕ}, ap length ended.letters, length-append {A = ℕ})
 
-    pub part_read : (form text made : List ℕ) (line : ArrayVec ℕ) → IsSaid b (λ letters. IsBodyGiven s b.heading letters made) → line.items ≡ codes "PART " ++ byte ∷ []
-        → HoldsForm s r form text
+    cut_off : cut (g.last ++ byte ∷ []) ≡ (whole, (codes "PART " ++ byte ∷ []) ∷ [])
+    cut_off =
+        ap (λ l. cut (l ++ byte ∷ [])) ended.split ∙ ap cut (append_assoc there.holds.front (10 ∷ codes "PART ") (byte ∷ []))
+        ∙ first_ends there.holds.front byte (rw ended.split at g.alone) digit.1 digit.2
+
+    pub part_refused : (fault : FormFault) → IsSaid b (λ letters. IsBodyFault s b.heading.part b.heading letters fault) → IsRefusedForGood s (form ++ byte ∷ []) text fault
+    part_refused fault told =
+        let found = last_told {X = List ℕ} (λ one. b.heading.parts) (λ one. one) s r.number r.expected whole there.holds.settled b.heading (Err fault) ended.has
+        there.numbered there.due ended.allowed (told (letters_from None there.holds.settled) (letters_from None (codes "PART ")) refl (there.holds.kept ∙ ap (take 525) ended.letters)) in
+        at_part fault (byte ∷ []) (g.goes_on (StandsAt s fault) (byte ∷ []) [] ([], subst (λ (c : List ℕ × List (List ℕ)). ReadsTo s (StandsAt s fault)
+        (record { number = r.number; expected = r.expected; start = g.start }) (c.0 ∷ c.1) []) (sym cut_off) (inl (found g.start, refl)), refl))
+
+    pub part_read : (made : List ℕ) (line : ArrayVec ℕ) → IsSaid b (λ letters. IsBodyGiven s b.heading letters made) → line.items ≡ codes "PART " ++ byte ∷ []
         → HoldsForm s (record { position = r.position + 1; number = r.number + 1; expected = Some b.heading.parts; stage = stages.Heading line }) (form ++ byte ∷ []) (text ++ made)
-    part_read form text made line told is_head held =
+    part_read made line told is_head =
         let next : FormReader = record { position = r.position + 1; number = r.number + 1; expected = Some b.heading.parts; stage = stages.Heading line } in
-        step (HoldsLast s next) form text (byte ∷ []) made held (λ number expected start last alone at.
-        let there = in_stage (stages.Body b) number expected start last stage at in
-        let (whole, cutting) = ended last there alone in
-        let whole_part : List ℕ = there.holds.front ++ 10 ∷ [] in
-        let found = said (λ letters. IsBodyGiven s b.heading letters made) last there told in
-        let is = last_told (λ one. b.heading.parts) (λ one. one) s r.number r.expected (there.holds.front ++ 10 ∷ []) there.holds.settled b.heading (Ok found.0) whole.has
-        there.numbered there.due whole.allowed (refl, found.1) in
-        let head : HoldsAt s next (number + 1) (Some b.heading.parts) (start + length (there.holds.front ++ 10 ∷ [])) (codes "PART " ++ byte ∷ []) = record {
-          counted = omega (arith, at.counted, ap length whole.split, length-append {A = ℕ});
-          numbered = ap (λ n. n + 1) at.numbered;
+        let found = told (letters_from None there.holds.settled) (letters_from None (codes "PART ")) refl (there.holds.kept ∙ ap (take 525) ended.letters) in
+        let is = last_told (λ one. b.heading.parts) (λ one. one) s r.number r.expected whole there.holds.settled b.heading (Ok found.0) ended.has
+        there.numbered there.due ended.allowed (refl, found.1) in
+        let p : Place = record { number = r.number; expected = r.expected; start = g.start } in
+        let head : HoldsAt s next (place_behind p b.heading.parts whole) (codes "PART " ++ byte ∷ []) = record {
+          counted = omega (arith, g.counted, ap length ended.split, length-append {A = ℕ});
+          numbered = refl;
           due = refl;
           stage = (
             record { kept = is_head; unbroken = All-push (λ b. b ≢ 10) (codes "PART ") byte head_unbroken (omega (arith, digit.1)); begins = ([], begins byte [] digit.1 digit.2) },
             λ few. absurd (omega (arith, few)),
           );
-        } in (
-          found.0,
-          subst (λ (c : List ℕ × List (List ℕ)). ReadsTo s (HoldsLast s next) number expected start (c.0 ∷ c.1) found.0) (sym cutting)
-              (inr (
-                b.heading.parts,
-                found.0,
-                [],
-                at_place (λ n e. IsPartRead s n b.heading.parts whole_part found.0) number expected start last at is.read,
-                at_place (λ n e. IsExpected e b.heading.parts) number expected start last at is.due,
-                inl (head, refl),
-                sym (append-nil found.0),
-              )),
-          found.2,
-        ))
+        } in
+        g.goes_on (HoldsLast s next) (byte ∷ []) made (found.0, subst (λ (c : List ℕ × List (List ℕ)). ReadsTo s (HoldsLast s next) p (c.0 ∷ c.1) found.0) (sym cut_off)
+        (inr (b.heading.parts, found.0, [], is.read, is.due, inl (head, refl), sym (append-nil found.0))), found.2)
 
   -- ---- the end
 
-  ends_so : (B : OfRest) (form text made : List ℕ) → HoldsForm s r form text → ((number : ℕ) (expected : Option ℕ) (start : ℕ) (last : List ℕ) → HoldsAt s r number expected start last
-      → (letters : List ℕ) × ReadsTo s B number expected start (last ∷ []) letters × (made ≡ given_letters s letters)) → IsReadTo s B form (text ++ made)
-  ends_so B form text made held so = subst (λ f. IsReadTo s B f (text ++ made)) (append-nil form) (step B form text [] made held (λ number expected start last alone at.
-      let (letters, reads, given) = so number expected start last at in
-      let whole : last ∷ [] ≡ parts_of (last ++ []) = cc (single last alone, alone, append-nil last) in
-      (letters, subst (λ ps. ReadsTo s B number expected start ps letters) whole reads, given)))
+  ends_so : (B : OfRest) (letters made : List ℕ) → ReadsTo s B (record { number = r.number; expected = r.expected; start = g.start }) (g.last ∷ []) letters
+      → made ≡ given_letters s letters → IsReadTo s B form (text ++ made)
+  ends_so B letters made reads given =
+      let one : g.last ∷ [] ≡ parts_of (g.last ++ []) = cc (single g.last g.alone, g.alone, append-nil g.last) in
+      subst (λ f. IsReadTo s B f (text ++ made)) (append-nil form)
+      (g.goes_on B [] made (letters, subst (λ ps. ReadsTo s B (record { number = r.number; expected = r.expected; start = g.start }) ps letters) one reads, given))
 
   -- the last part is read, and then this is so
-  ends_read : (B : OfRest) (form text made one : List ℕ) (parts : ℕ) → HoldsForm s r form text
-      → ((part : List ℕ) → HoldsStage s r.stage r.number r.expected part → IsLastText s r.number r.expected part parts one)
-      → ((part : List ℕ) (start : ℕ) → IsPartRead s r.number parts part one → B (r.number + 1) (Some parts) start []) → made ≡ given_letters s one
-      → IsReadTo s B form (text ++ made)
-  ends_read B form text made one parts held last so given = ends_so B form text made held (λ number expected start part at.
-      let is = last part at.stage in
-      (one, inr (parts, one, [], rw at.numbered at is.read, rw at.due at is.due, (rw at.numbered at (so part (start + length part) is.read), refl), sym (append-nil one)), given))
+  ends_read : (B : OfRest) (one made : List ℕ) (parts : ℕ) → IsLastText s r.number r.expected g.last parts one
+      → B (record { number = r.number + 1; expected = Some parts; start = g.start + length g.last }) [] → made ≡ given_letters s one → IsReadTo s B form (text ++ made)
+  ends_read B one made parts is so given = ends_so B one made (inr (parts, one, [], is.read, is.due, (so, refl), sym (append-nil one))) given
 
-  pub closes : (form text made one : List ℕ) (parts : ℕ) → HoldsForm s r form text
-      → ((part : List ℕ) → HoldsStage s r.stage r.number r.expected part → IsLastText s r.number r.expected part parts one) → parts ≡ r.number
-      → made ≡ given_letters s one ++ 10 ∷ [] → Closes (form_message s) form (text ++ made) (Ok tt)
-  closes form text made one parts held last same given =
-      let (letters, read, is) = ends_read IsComplete form text (given_letters s one) one parts held last (λ part start is. (parts, refl, ap (λ n. n + 1) (sym same))) refl in
+  pub closes : (made one : List ℕ) (parts : ℕ) → ((part : List ℕ) → HoldsStage s r.stage r.number r.expected part → IsLastText s r.number r.expected part parts one)
+      → parts ≡ r.number → made ≡ given_letters s one ++ 10 ∷ [] → Closes (form_message s) form (text ++ made) (Ok tt)
+  closes made one parts last same given =
+      let (letters, read, is) = ends_read IsComplete one (given_letters s one) parts (last g.last g.stage) (parts, refl, ap (λ n. n + 1) (sym same)) refl in
       record { letters = letters; read = read; is = ap (λ m. text ++ m) given ∙ sym (append_assoc text (given_letters s one) (10 ∷ [])) ∙ ap (λ t. t ++ 10 ∷ []) is }
 
-  ends_refused : (form text : List ℕ) (fault : FormFault) → IsRefusedAtEnd s form text fault → Closes (form_message s) form text (Err fault)
-  ends_refused form text fault found = ((text, inr found), inr found)
+  ends_refused : (before : List ℕ) (fault : FormFault) → IsRefusedAtEnd s form before fault → Closes (form_message s) form before (Err fault)
+  ends_refused before fault found = ((before, inr found), inr found)
 
-  pub closes_short : (form text made one : List ℕ) (parts : ℕ) → HoldsForm s r form text
-      → ((part : List ℕ) → HoldsStage s r.stage r.number r.expected part → IsLastText s r.number r.expected part parts one) → parts ≢ r.number → made ≡ given_letters s one
-      → Closes (form_message s) form (text ++ made) (Err PartOrder)
-  closes_short form text made one parts held last other given =
-      ends_refused form (text ++ made) PartOrder (ends_read (EndsAt s PartOrder) form text made one parts held last (λ part start is.
-      (refl, parts, refl, omega (arith, is.numbered, is.so_many, is.has.is_heading.number.in_order, other))) given)
+  pub closes_short : (made one : List ℕ) (parts : ℕ) → ((part : List ℕ) → HoldsStage s r.stage r.number r.expected part → IsLastText s r.number r.expected part parts one)
+      → parts ≢ r.number → made ≡ given_letters s one → Closes (form_message s) form (text ++ made) (Err PartOrder)
+  closes_short made one parts last other given =
+      let is = last g.last g.stage in
+      ends_refused (text ++ made) PartOrder (ends_read (EndsAt s PartOrder) one made parts is
+      (refl, parts, refl, omega (arith, is.read.numbered, is.read.so_many, is.read.has.is_heading.number.in_order, other)) given)
 
-  pub closes_refused : (form text made : List ℕ) (fault : FormFault) → HoldsForm s r form text
+  pub closes_refused : (made : List ℕ) (fault : FormFault)
       → ((part : List ℕ) → HoldsStage s r.stage r.number r.expected part → (start : ℕ) → IsPartFault s r.number r.expected start part fault) → made ≡ []
       → Closes (form_message s) form (text ++ made) (Err fault)
-  closes_refused form text made fault held found none =
-      ends_refused form (text ++ made) fault (ends_so (EndsAt s fault) form text made held (λ number expected start part at.
-      ([], inl (rw (at.numbered, at.due) at (found part at.stage start), refl), none)))
+  closes_refused made fault found none = ends_refused (text ++ made) fault (ends_so (EndsAt s fault) [] made (inl (found g.last g.stage g.start, refl)) none)

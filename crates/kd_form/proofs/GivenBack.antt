@@ -1,5 +1,5 @@
 -- The form that an order becomes gives the order's letters back.
-use Rattle.kd_form.proofs.Prelude.{◌≡◌, ◌≢◌, ℕ, ◌+◌, ◌%◌, ◌<◌, ◌≤◌, inl, inr, List, [], ◌∷◌, ◌++◌, length, take, drop, refl, sym, ap, subst, ◌∙◌, append_assoc, length-append, arith, All, Option, Some, None, IfSome, flat_map, cons_option, cases_lt, append-nil, take_all, drop_all, length-take, length-take-le, take-append-drop, All-nil, All-cons, All-head, All-tail, All-take, All-drop, TheDayDeciphersItself, Day, IsLegalDay, Keys, BeginsHeading, given_text, sent_letters, AreKeys, OrdersGiveLetters, FormsGiveTheirOrders, Suits, part_size, filled, Part, part_text, pieces, body_text, IsLettersText, IsPartRead, letters_from, text_letters, parts_needed, AreMadeTexts, cut, ReadsTo, IsComplete, IsExpected}
+use Rattle.kd_form.proofs.Prelude.{◌≡◌, ◌≢◌, ℕ, ◌+◌, ◌%◌, ◌<◌, ◌≤◌, inl, inr, List, [], ◌∷◌, ◌++◌, length, take, drop, refl, sym, ap, subst, ◌∙◌, append_assoc, length-append, arith, All, Option, Some, None, IfSome, flat_map, cons_option, cases_lt, append-nil, take_all, drop_all, length-take, length-take-le, take-append-drop, All-nil, All-cons, All-head, All-tail, All-take, All-drop, TheDayDeciphersItself, Day, IsLegalDay, Keys, BeginsHeading, given_text, sent_letters, AreKeys, OrdersGiveLetters, FormsGiveTheirOrders, Suits, part_size, filled, Part, part_text, pieces, body_text, IsLettersText, IsPartRead, letters_from, text_letters, parts_needed, AreMadeTexts, cut, ReadsTo, at_first, IsComplete, IsExpected}
 use Rattle.kd_form.proofs.Cutting.{one_byte, parts_behind}
 use Rattle.kd_form.proofs.PartTexts.{by_pieces, gives_body, part_has_heading, part_begins_heading, part_is_first}
 use Rattle.kd_form.proofs.MadeParts.{more_pieces, pieces-next, pieces-none, IsPiece, GivesBack, part_gives_back}
@@ -78,7 +78,7 @@ record AreGivenBack (s : Day) (part parts count : ℕ) (pieces : List (List ℕ)
   begins : texts ≢ [] → BeginsHeading form
   cut_so : cut (10 ∷ form) ≡ (10 ∷ [], texts)
   read : (expected : Option ℕ) (start : ℕ) → IsExpected expected parts → (texts ≡ [] → expected ≡ Some parts)
-      → ReadsTo s IsComplete part expected start texts (flat_map (sent_letters s) pieces)
+      → ReadsTo s IsComplete (record { number = part; expected = expected; start = start }) texts (flat_map (sent_letters s) pieces)
 
 parts_are_given_back : (s : Day) (part parts : ℕ) (keys : List Keys) (pieces : List (List ℕ)) (form : List ℕ) → TheDayDeciphersItself → IsLegalDay s
     → All (AreKeys s) keys → All (Suits s) keys → All (IsPiece s) pieces → 1 ≤ part → part + length keys ≡ parts + 1 → parts ≤ 99
@@ -140,7 +140,7 @@ forms_give_their_orders decipher s order form given legal is due =
     let read = back.read None 0 tt (λ none. absurd (some none)) in
     record {
       letters = sent;
-      read = subst (λ ps. ReadsTo s IsComplete 1 None 0 ps sent) (sym (parts_behind form back.texts (back.begins some) back.cut_so))
-          (subst (ReadsTo s IsComplete 1 None 0 back.texts) (sent_pieces s letters) read);
+      read = subst (λ ps. ReadsTo s IsComplete at_first ps sent) (sym (parts_behind form back.texts (back.begins some) back.cut_so))
+          (subst (ReadsTo s IsComplete at_first back.texts) (sent_pieces s letters) read);
       is = due.is ∙ ap (λ t. given_text s (sent_letters s (text_letters s t))) (sym same.2);
     }

@@ -1,6 +1,6 @@
 -- A form becomes one text, or has one fault.
 use Rattle.std.proofs.Common.{append-nil}
-use Rattle.kd_form.proofs.Prelude.{◌≡◌, ℕ, ◌+◌, ◌-◌, ◌⊎◌, inl, inr, List, [], ◌∷◌, ◌++◌, length, Result, Ok, Err, MatchResult, refl, sym, ap, subst, ◌∙◌, arith, All, IsTrue, Option, Some, None, is_text_byte, Day, sheet_key, IsWindow, TextsTellFirstParts, NumbersAreWords, FormFault, BadByte, BadHeading, CountWrong, PartOrder, KeyNotOnWheel, WrongGroup, IndicatorSpent, IndicatorsDiffer, Heading, Indicator, IsInternalKey, cipher_from, list_letters, enciphered_choice, letters_from, IsBadAt, HasIndicatorsAround, keys_in, list_in, text_in, IsPinText, IsPinFault, IsLettersText, IsLettersFault, HasHeading, IsExpected, IsPartRead, IsPartFault, InHeading, InNumber, InBody, IsBodyFault, BeginsHeading, OfRest, ReadsTo, IsComplete, StandsAt, EndsAt, AtPart, cut, parts_of, given_text, IsTextOf, NoHeading, IsReceiveFault, FormsBecomeOneText, ReceivedFormsHaveNoFault, FormsHaveOneFault}
+use Rattle.kd_form.proofs.Prelude.{◌≡◌, ℕ, ◌+◌, ◌-◌, ◌⊎◌, inl, inr, List, [], ◌∷◌, ◌++◌, length, Result, Ok, Err, MatchResult, refl, sym, ap, subst, ◌∙◌, arith, All, IsTrue, Option, Some, None, is_text_byte, Day, sheet_key, IsWindow, TextsTellFirstParts, NumbersAreWords, FormFault, BadByte, BadHeading, CountWrong, PartOrder, KeyNotOnWheel, WrongGroup, IndicatorSpent, IndicatorsDiffer, Heading, Indicator, IsInternalKey, cipher_from, list_letters, enciphered_choice, letters_from, IsBadAt, HasIndicatorsAround, keys_in, list_in, text_in, IsPinText, IsPinFault, IsLettersText, IsLettersFault, HasHeading, IsExpected, IsPartRead, IsPartFault, InHeading, InNumber, InBody, IsBodyFault, BeginsHeading, OfRest, Place, at_first, place_behind, ReadsTo, IsComplete, StandsAt, EndsAt, AtPart, cut, parts_of, given_text, IsTextOf, NoHeading, IsReceiveFault, FormsBecomeOneText, ReceivedFormsHaveNoFault, FormsHaveOneFault}
 use Rattle.kd_form.proofs.OneOrder.{IsCaught, only_this, only_either, only_found, only_judged, only_caught, one_internal_key, one_bad_byte, no_bad_byte, IsFound, IsJudged, IsOnly}
 use Rattle.kd_form.proofs.Headings.{one_heading, begins_there}
 use Rattle.kd_form.proofs.Cutting.{begins_more, first_there}
@@ -42,50 +42,45 @@ only_letters s part None letters v w a b =
 -- -------- parts that are read
 
 module _ (s : Day) where
-  pub reads_as : {A B : OfRest} → ((number : ℕ) (expected : Option ℕ) (start : ℕ) (parts : List (List ℕ)) → A number expected start parts → B number expected start parts)
-      → (number : ℕ) (expected : Option ℕ) (start : ℕ) (parts : List (List ℕ)) (letters : List ℕ) → ReadsTo s A number expected start parts letters
-      → ReadsTo s B number expected start parts letters
-  reads_as to number expected start [] letters (held, none) = (to number expected start [] held, none)
-  reads_as to number expected start (part ∷ parts) letters (inl (held, none)) = inl (to number expected start (part ∷ parts) held, none)
-  reads_as to number expected start (part ∷ parts) letters (inr (count, one, more, is, due, rest, joined)) =
-      inr (count, one, more, is, due, reads_as to (number + 1) (Some count) (start + length part) parts more rest, joined)
+  pub reads_as : (A B : OfRest) → ((p : Place) (parts : List (List ℕ)) → A p parts → B p parts) → (p : Place) (parts : List (List ℕ)) (letters : List ℕ)
+      → ReadsTo s A p parts letters → ReadsTo s B p parts letters
+  reads_as A B to p [] letters (held, none) = (to p [] held, none)
+  reads_as A B to p (part ∷ parts) letters (inl (held, none)) = inl (to p (part ∷ parts) held, none)
+  reads_as A B to p (part ∷ parts) letters (inr (count, one, more, is, due, rest, joined)) =
+      inr (count, one, more, is, due, reads_as A B to (place_behind p count part) parts more rest, joined)
 
   -- what is so at a rest, whichever it is
-  pub reads_end : (A : OfRest) (P : Type 0) → ((number : ℕ) (expected : Option ℕ) (start : ℕ) (parts : List (List ℕ)) → A number expected start parts → P)
-      → (number : ℕ) (expected : Option ℕ) (start : ℕ) (parts : List (List ℕ)) (letters : List ℕ) → ReadsTo s A number expected start parts letters → P
-  reads_end A P so number expected start [] letters (held, none) = so number expected start [] held
-  reads_end A P so number expected start (part ∷ parts) letters (inl (held, none)) = so number expected start (part ∷ parts) held
-  reads_end A P so number expected start (part ∷ parts) letters (inr (count, one, more, is, due, rest, joined)) =
-      reads_end A P so (number + 1) (Some count) (start + length part) parts more rest
+  pub reads_end : (A : OfRest) (P : Type 0) → ((p : Place) (parts : List (List ℕ)) → A p parts → P) → (p : Place) (parts : List (List ℕ)) (letters : List ℕ)
+      → ReadsTo s A p parts letters → P
+  reads_end A P so p [] letters (held, none) = so p [] held
+  reads_end A P so p (part ∷ parts) letters (inl (held, none)) = so p (part ∷ parts) held
+  reads_end A P so p (part ∷ parts) letters (inr (count, one, more, is, due, rest, joined)) = reads_end A P so (place_behind p count part) parts more rest
 
   -- where the one is so of a rest, no part of that is read up to where the other is
   abbrev pub NeverPasses : OfRest → OfRest → Type 0
-  NeverPasses A B = (number : ℕ) (expected : Option ℕ) (start : ℕ) (part : List ℕ) (parts : List (List ℕ)) (count : ℕ) (one more : List ℕ)
-      → A number expected start (part ∷ parts) → IsPartRead s number count part one → IsExpected expected count
-      → ¬ (ReadsTo s B (number + 1) (Some count) (start + length part) parts more)
+  NeverPasses A B = (p : Place) (part : List ℕ) (parts : List (List ℕ)) (count : ℕ) (one more : List ℕ) → A p (part ∷ parts) → IsPartRead s p.number count part one
+      → IsExpected p.expected count → ¬ (ReadsTo s B (place_behind p count part) parts more)
 
   -- ---- what is answered at a rest
 
   -- all parts are read, and are too few or make the text; or a part is refused
   abbrev pub AnswersAt : Result (Unit {0}) FormFault → OfRest
-  AnswersAt v number expected start [] = (count : ℕ) × (expected ≡ Some count) × IsJudged (number ≡ count + 1) (Err PartOrder) (λ w. w ≡ Ok tt) v
-  AnswersAt v number expected start (part ∷ parts) = (fault : FormFault) × IsPartFault s number expected start part fault × (v ≡ Err fault)
+  AnswersAt v p [] = (count : ℕ) × (p.expected ≡ Some count) × IsJudged (p.number ≡ count + 1) (Err PartOrder) (λ w. w ≡ Ok tt) v
+  AnswersAt v p (part ∷ parts) = (fault : FormFault) × IsPartFault s p.number p.expected p.start part fault × (v ≡ Err fault)
 
-  complete : (number : ℕ) (expected : Option ℕ) (start : ℕ) (parts : List (List ℕ)) → IsComplete number expected start parts → AnswersAt (Ok tt) number expected start parts
-  complete number expected start [] (count, is, all) = (count, is, inr (all, refl))
-  complete number expected start (part ∷ parts) none = absurd none
+  complete : (p : Place) (parts : List (List ℕ)) → IsComplete p parts → AnswersAt (Ok tt) p parts
+  complete p [] (count, is, all) = (count, is, inr (all, refl))
+  complete p (part ∷ parts) none = absurd none
 
-  pub stands_at : (fault : FormFault) (number : ℕ) (expected : Option ℕ) (start : ℕ) (parts : List (List ℕ)) → StandsAt s fault number expected start parts
-      → AnswersAt (Err fault) number expected start parts
-  stands_at fault number expected start [] none = absurd none
-  stands_at fault number expected start (part ∷ []) (ended, early) = (fault, inl early, refl)
-  stands_at fault number expected start (part ∷ next ∷ others) refused = (fault, refused, refl)
+  pub stands_at : (fault : FormFault) (p : Place) (parts : List (List ℕ)) → StandsAt s fault p parts → AnswersAt (Err fault) p parts
+  stands_at fault p [] none = absurd none
+  stands_at fault p (part ∷ []) (ended, early) = (fault, inl early, refl)
+  stands_at fault p (part ∷ next ∷ others) refused = (fault, refused, refl)
 
-  pub ends_at : (fault : FormFault) (number : ℕ) (expected : Option ℕ) (start : ℕ) (parts : List (List ℕ)) → EndsAt s fault number expected start parts
-      → AnswersAt (Err fault) number expected start parts
-  ends_at fault number expected start [] (is, count, due, few) = (count, due, inl (λ all. omega (arith, all, few), ap Err is))
-  ends_at fault number expected start (part ∷ []) refused = (fault, refused, refl)
-  ends_at fault number expected start (part ∷ next ∷ others) none = absurd none
+  pub ends_at : (fault : FormFault) (p : Place) (parts : List (List ℕ)) → EndsAt s fault p parts → AnswersAt (Err fault) p parts
+  ends_at fault p [] (is, count, due, few) = (count, due, inl (λ all. omega (arith, all, few), ap Err is))
+  ends_at fault p (part ∷ []) refused = (fault, refused, refl)
+  ends_at fault p (part ∷ next ∷ others) none = absurd none
 
 -- ---- the part
 
@@ -132,21 +127,18 @@ module _ (s : Day) (tell : TextsTellFirstParts) (numbers : NumbersAreWords) wher
   -- ---- parts that are read
 
   -- so parts that are read up to the one and up to the other are read up to the same rest
-  pub reads_meet : {A B : OfRest} {R : Type 0} → NeverPasses s A B → NeverPasses s B A
-      → ((number : ℕ) (expected : Option ℕ) (start : ℕ) (parts : List (List ℕ)) → A number expected start parts → B number expected start parts → R)
-      → (number : ℕ) (expected : Option ℕ) (start : ℕ) (parts : List (List ℕ)) (letters more : List ℕ) → ReadsTo s A number expected start parts letters
-      → ReadsTo s B number expected start parts more → (letters ≡ more) × R
-  reads_meet over under at number expected start [] letters more (a, none) (b, nil) = (none ∙ sym nil, at number expected start [] a b)
-  reads_meet over under at number expected start (part ∷ parts) letters more (inl (a, none)) (inl (b, nil)) =
-      (none ∙ sym nil, at number expected start (part ∷ parts) a b)
-  reads_meet over under at number expected start (part ∷ parts) letters more (inl (a, none)) (inr (count, one, left, is, due, rest, joined)) =
-      absurd (over number expected start part parts count one left a is due rest)
-  reads_meet over under at number expected start (part ∷ parts) letters more (inr (count, one, left, is, due, rest, joined)) (inl (b, nil)) =
-      absurd (under number expected start part parts count one left b is due rest)
-  reads_meet {B = B} over under at number expected start (part ∷ parts) letters more (inr (count, one, left, is, due, rest, joined)) (inr (other, two, gone, also, duo, beyond, linked)) =
+  pub reads_meet : (A B : OfRest) (R : Type 0) → NeverPasses s A B → NeverPasses s B A → ((p : Place) (parts : List (List ℕ)) → A p parts → B p parts → R)
+      → (p : Place) (parts : List (List ℕ)) (letters more : List ℕ) → ReadsTo s A p parts letters → ReadsTo s B p parts more → (letters ≡ more) × R
+  reads_meet A B R over under at p [] letters more (a, none) (b, nil) = (none ∙ sym nil, at p [] a b)
+  reads_meet A B R over under at p (part ∷ parts) letters more (inl (a, none)) (inl (b, nil)) = (none ∙ sym nil, at p (part ∷ parts) a b)
+  reads_meet A B R over under at p (part ∷ parts) letters more (inl (a, none)) (inr (count, one, left, is, due, rest, joined)) =
+      absurd (over p part parts count one left a is due rest)
+  reads_meet A B R over under at p (part ∷ parts) letters more (inr (count, one, left, is, due, rest, joined)) (inl (b, nil)) =
+      absurd (under p part parts count one left b is due rest)
+  reads_meet A B R over under at p (part ∷ parts) letters more (inr (count, one, left, is, due, rest, joined)) (inr (other, two, gone, also, duo, beyond, linked)) =
       let same = one_text is also in
-      let both = reads_meet over under at (number + 1) (Some count) (start + length part) parts left gone rest
-      (subst (λ n. ReadsTo s B (number + 1) (Some n) (start + length part) parts gone) (sym same.0) beyond) in
+      let both = reads_meet A B R over under at (place_behind p count part) parts left gone rest
+      (subst (λ n. ReadsTo s B (place_behind p n part) parts gone) (sym same.0) beyond) in
       (cc (joined, linked, same.1, both.0), both.1)
 
   -- ---- one answer
@@ -158,24 +150,23 @@ module _ (s : Day) (tell : TextsTellFirstParts) (numbers : NumbersAreWords) wher
       let clash : Ok one ≡ Err fault = only_part number expected start part (Ok one) (Err fault) (part_read expected start is due) (part_fault refused) in cc
 
   never_passes : (v w : Result (Unit {0}) FormFault) → NeverPasses s (AnswersAt s v) (AnswersAt s w)
-  never_passes v w number expected start part parts count one more (fault, refused, answer) is due rest = read_or_refused refused is due
+  never_passes v w p part parts count one more (fault, refused, answer) is due rest = read_or_refused refused is due
 
-  one_at : (v w : Result (Unit {0}) FormFault) (number : ℕ) (expected : Option ℕ) (start : ℕ) (parts : List (List ℕ)) → AnswersAt s v number expected start parts
-      → AnswersAt s w number expected start parts → v ≡ w
-  one_at v w number expected start [] (count, is, answer) (other, also, answers) = grind arith
-  one_at v w number expected start (part ∷ parts) (fault, refused, answer) (found, also, answers) =
-      let both : Err fault ≡ Err found = only_part number expected start part (Err fault) (Err found) (part_fault refused) (part_fault also) in cc
+  one_at : (v w : Result (Unit {0}) FormFault) (p : Place) (parts : List (List ℕ)) → AnswersAt s v p parts → AnswersAt s w p parts → v ≡ w
+  one_at v w p [] (count, is, answer) (other, also, answers) = grind arith
+  one_at v w p (part ∷ parts) (fault, refused, answer) (found, also, answers) =
+      let both : Err fault ≡ Err found = only_part p.number p.expected p.start part (Err fault) (Err found) (part_fault refused) (part_fault also) in cc
 
   module _ (form : List ℕ) where
     -- and the parts before that have these letters
     abbrev IsFormAnswer : Result (Unit {0}) FormFault → List ℕ → Type 0
-    IsFormAnswer v letters = ReadsTo s (AnswersAt s v) 1 None 0 (parts_of form) letters
+    IsFormAnswer v letters = ReadsTo s (AnswersAt s v) at_first (parts_of form) letters
 
     only_form : (v w : Result (Unit {0}) FormFault) (letters more : List ℕ) → IsFormAnswer v letters → IsFormAnswer w more → (letters ≡ more) × (v ≡ w)
-    only_form v w letters more a b = reads_meet (never_passes v w) (never_passes w v) (one_at v w) 1 None 0 (parts_of form) letters more a b
+    only_form v w = reads_meet (AnswersAt s v) (AnswersAt s w) (v ≡ w) (never_passes v w) (never_passes w v) (one_at v w) at_first (parts_of form)
 
     text_answer : (text : List ℕ) (is : IsTextOf s form text) → IsFormAnswer (Ok tt) is.letters
-    text_answer text is = reads_as s (complete s) 1 None 0 (parts_of form) is.letters is.read
+    text_answer text is = reads_as s IsComplete (AnswersAt s (Ok tt)) (complete s) at_first (parts_of form) is.letters is.read
 
     -- where no heading begins the form, its first part has none
     unheaded : ((more : List ℕ) → ¬ (BeginsHeading (form ++ more))) → (h : Heading) (body : List ℕ) → ¬ (HasHeading s (cut form).0 h body)
@@ -185,8 +176,10 @@ module _ (s : Day) (tell : TextsTellFirstParts) (numbers : NumbersAreWords) wher
 
     fault_answer : (fault : FormFault) → IsReceiveFault s form fault → (letters : List ℕ) × IsFormAnswer (Err fault) letters
     fault_answer fault (text, inl (NoHeading none empty is)) = ([], inl ((fault, inl (InHeading (unheaded none) is), refl), refl))
-    fault_answer fault (text, inl (AtPart (letters, reads, is))) = (letters, reads_as s (stands_at s fault) 1 None 0 (parts_of form) letters reads)
-    fault_answer fault (text, inr (letters, reads, is)) = (letters, reads_as s (ends_at s fault) 1 None 0 (parts_of form) letters reads)
+    fault_answer fault (text, inl (AtPart (letters, reads, is))) =
+        (letters, reads_as s (StandsAt s fault) (AnswersAt s (Err fault)) (stands_at s fault) at_first (parts_of form) letters reads)
+    fault_answer fault (text, inr (letters, reads, is)) =
+        (letters, reads_as s (EndsAt s fault) (AnswersAt s (Err fault)) (ends_at s fault) at_first (parts_of form) letters reads)
 
 pub forms_become_one_text : TextsTellFirstParts → NumbersAreWords → FormsBecomeOneText
 forms_become_one_text tell numbers s form text other a b =

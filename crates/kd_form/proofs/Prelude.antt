@@ -17,7 +17,7 @@ pub use Rattle.arrayvec.specs.ArrayString.{array_string_len}
 pub use Rattle.arrayvec.specs.ArrayVec.{ArrayVec, array_vec_len}
 pub use Rattle.kd_form.specs.FormParts.{AreFewLetters, AreHeadingWords, BeginsHeading, IsFraction, IsHeading, IsLetterCount, IsLineText, WithReturn, WithoutReturn, cut, parts_of}
 pub use Rattle.kd_form.specs.FormReading.{Begins, Broken, HoldsAt, HoldsBody, HoldsForm, HoldsLast, HoldsPart, HoldsStage, IsBodyGiven, IsHeadingDue, IsHeadingOff, IsLastText, IsNextLine, Longer, MayBegin, Missing, Other}
-pub use Rattle.kd_form.specs.FormText.{AtPart, EndsAt, IsComplete, IsLast, IsReadTo, IsReceiveFault, IsRefusedAtEnd, IsRefusedForGood, IsTextOf, NoHeading, OfRest, ReadsTo, StandsAt, form_message, given_byte, given_letters, given_text, sent_letters}
+pub use Rattle.kd_form.specs.FormText.{AtPart, EndsAt, IsComplete, IsLast, IsReadTo, IsReceiveFault, IsRefusedAtEnd, IsRefusedForGood, IsTextOf, NoHeading, OfRest, Place, ReadsTo, StandsAt, at_first, form_message, given_byte, given_letters, given_text, place_behind, sent_letters}
 pub use Rattle.kd_form.specs.InternalKey.{ArePicked, AreRising, ComesFirst, HaveRunOut, IsInternalKey, IsTakenInTurn, OffWheel, OnWheel}
 pub use Rattle.kd_form.specs.KeyPatterns.{HasPins, HasSlots, IsAnyKeyLine, key_letters, key_pattern, places_for, rotor_pattern}
 pub use Rattle.kd_form.specs.Keys.{AreKeys, ArePinKeys, AreRotorKeys, key_words}

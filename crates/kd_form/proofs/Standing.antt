@@ -1,5 +1,5 @@
 -- What refuses a form: its parts, one after another, and for good.
-use Rattle.kd_form.proofs.Prelude.{[], ◌≡◌, inl, inr, ℕ, false, List, refl, sym, ap, subst, ◌∙◌, Option, Result, Err, ◌⊎◌, ◌+◌, ◌-◌, ◌∷◌, ◌++◌, length, append_assoc, length-append, arith, Port, Fail, Parts, Day, FormFault, BadByte, InHeading, InNumber, InBody, IsEarlyFault, IsRefusedForGood, NoHeading, form_message, given_letters, IsKeyFault, IsBadAt, orders, Answers, AreWell, is_device, is_off_key, texts, append-nil, IsWithout, TextsTellFirstParts, NumbersAreWords, BeginsHeading, FormsStayRefused, Message, map-append, given_byte, blank_of, OfRest, ReadsTo, StandsAt, EndsAt, IsRefusedAtEnd, AtPart, cut, parts_of, Some, None}
+use Rattle.kd_form.proofs.Prelude.{◌≤◌, [], ◌≡◌, inl, inr, ℕ, false, List, refl, sym, ap, subst, ◌∙◌, Option, Result, Err, ◌⊎◌, ◌+◌, ◌-◌, ◌∷◌, ◌++◌, length, append_assoc, length-append, arith, Port, Fail, Parts, Day, FormFault, BadByte, InHeading, InNumber, InBody, IsEarlyFault, IsRefusedForGood, NoHeading, form_message, given_letters, IsKeyFault, IsBadAt, orders, Answers, AreWell, is_device, is_off_key, texts, append-nil, IsWithout, TextsTellFirstParts, NumbersAreWords, BeginsHeading, FormsStayRefused, Message, map-append, given_byte, blank_of, OfRest, ReadsTo, Place, at_first, place_behind, StandsAt, EndsAt, IsRefusedAtEnd, AtPart, cut, parts_of}
 use Rattle.kd_form.proofs.Headings.{ended_heading, heading_there}
 use Rattle.kd_form.proofs.OneText.{AnswersAt, ends_at, reads_end, stands_at}
 use Rattle.kd_form.proofs.Cutting.{IsAlike, alike, first_done, single}
@@ -17,17 +17,16 @@ order_told s source sink read text answer answers = grind arith
 abbrev IsOfForms : FormFault → Type 0
 IsOfForms fault = (is_device (Err fault) ≡ false) × (is_off_key (Err fault) ≡ false)
 
-at_told : (s : Day) (fault : FormFault) (number : ℕ) (expected : Option ℕ) (start : ℕ) (parts : List (List ℕ)) → AnswersAt s (Err fault) number expected start parts
-    → IsOfForms fault
-at_told s fault number expected start [] answer = grind arith
-at_told s fault number expected start (part ∷ parts) answer = grind arith
+at_told : (s : Day) (fault : FormFault) (p : Place) (parts : List (List ℕ)) → AnswersAt s (Err fault) p parts → IsOfForms fault
+at_told s fault p [] answer = grind arith
+at_told s fault p (part ∷ parts) answer = grind arith
 
 refused_told : (s : Day) (form text : List ℕ) (fault : FormFault) → IsRefusedForGood s form text fault ⊎ IsRefusedAtEnd s form text fault → IsOfForms fault
 refused_told s form text fault (inl (NoHeading none empty is)) = rw is (refl, refl)
 refused_told s form text fault (inl (AtPart (letters, reads, is))) =
-    reads_end s (StandsAt s fault) (IsOfForms fault) (λ n e st ps at. at_told s fault n e st ps (stands_at s fault n e st ps at)) 1 None 0 (parts_of form) letters reads
+    reads_end s (StandsAt s fault) (IsOfForms fault) (λ p ps at. at_told s fault p ps (stands_at s fault p ps at)) at_first (parts_of form) letters reads
 refused_told s form text fault (inr (letters, reads, is)) =
-    reads_end s (EndsAt s fault) (IsOfForms fault) (λ n e st ps at. at_told s fault n e st ps (ends_at s fault n e st ps at)) 1 None 0 (parts_of form) letters reads
+    reads_end s (EndsAt s fault) (IsOfForms fault) (λ p ps at. at_told s fault p ps (ends_at s fault p ps at)) at_first (parts_of form) letters reads
 
 told_of : (m : Message) (source sink : Port) (read text : List ℕ) (answer : Result (Unit {0}) FormFault)
     → ((fault : FormFault) → m.stands read fault ⊎ m.refused read fault → IsOfForms fault) → Answers m source sink read text answer → IsToldOf source sink answer
@@ -67,64 +66,79 @@ early_as_well s number expected start line body other fault tell unbroken bad (I
 
 -- ---- part after part, as more comes
 
--- the parts are read so far, and this text is made of them
-abbrev pub Makes : Day → OfRest → ℕ → Option ℕ → ℕ → List ℕ → List ℕ → Type 0
-Makes s B number expected start form text = (letters : List ℕ) × ReadsTo s B number expected start (parts_of form) letters × (text ≡ given_letters s letters)
+-- the form is read so from a place on, and this text is made of its parts
+abbrev pub Makes : Day → OfRest → Place → List ℕ → List ℕ → Type 0
+Makes s B p form text = (letters : List ℕ) × ReadsTo s B p (parts_of form) letters × (text ≡ given_letters s letters)
 
--- what is so of the part in turn with more bytes is so of the form with them
-pub grow : (s : Day) (A B : OfRest) (more made : List ℕ)
-    → ((number : ℕ) (expected : Option ℕ) (start : ℕ) (rest : List ℕ) → A number expected start (parts_of rest) → Makes s B number expected start (rest ++ more) made)
-    → ((number : ℕ) (expected : Option ℕ) (start : ℕ) → ¬ (A number expected start []))
-    → (number : ℕ) (expected : Option ℕ) (start : ℕ) (parts : List (List ℕ)) (form letters : List ℕ) → parts_of form ≡ parts
-    → ReadsTo s A number expected start parts letters → Makes s B number expected start (form ++ more) (given_letters s letters ++ made)
-grow s A B more made on none number expected start [] form letters same reads = absurd (none number expected start reads.0)
-grow s A B more made on none number expected start (part ∷ parts) form letters same (inl (held, nil)) =
-    rw nil (on number expected start form (subst (A number expected start) (sym same) held))
-grow s A B more made on none number expected start (part ∷ []) form letters same (inr (count, one, left, is, due, rest, joined)) =
-    absurd (none (number + 1) (Some count) (start + length part) rest.0)
-grow s A B more made on none number expected start (part ∷ next ∷ parts) form letters same (inr (count, one, left, is, due, rest, joined)) =
+-- Where the parts are read to, and what is left there: what is so of that with more bytes is so of the form with them.
+pub record Reached (s : Day) (A : OfRest) (p : Place) (form letters : List ℕ) : Type 1 where
+  pub there : Place
+  pub rest : List ℕ
+  pub so : A there (parts_of rest)
+  pub counted : there.start + length rest ≡ p.start + length form
+  pub later : p.number ≤ there.number
+  pub first : there.number ≡ p.number → (form ≡ rest) × (letters ≡ [])
+  pub goes_on : (B : OfRest) (more made : List ℕ) → Makes s B there (rest ++ more) made → Makes s B p (form ++ more) (given_letters s letters ++ made)
+
+pub reached : (s : Day) (A : OfRest) → ((p : Place) → ¬ (A p [])) → (p : Place) (parts : List (List ℕ)) (form letters : List ℕ) → parts_of form ≡ parts
+    → ReadsTo s A p parts letters → Reached s A p form letters
+reached s A none p [] form letters same reads = absurd (none p reads.0)
+reached s A none p (part ∷ parts) form letters same (inl (held, nil)) = rw nil (record {
+  there = p;
+  rest = form;
+  so = subst (A p) (sym same) held;
+  counted = refl;
+  later = omega arith;
+  first = λ is. (refl, refl);
+  goes_on = λ B more made makes. makes;
+})
+reached s A none p (part ∷ []) form letters same (inr (count, one, left, is, due, reads, joined)) = absurd (none (place_behind p count part) reads.0)
+reached s A none p (part ∷ next ∷ parts) form letters same (inr (count, one, left, is, due, reads, joined)) =
     let others : (cut form).1 ≡ next ∷ parts = cc in
     let first : (cut form).0 ≡ part = cc in
     let done = first_done form (λ nil. cc) in
-    let (whole, reads, given) =
-    grow s A B more made on none (number + 1) (Some count) (start + length part) (next ∷ parts) done.rest left (sym done.others ∙ others) rest in
-    let parts_are : part ∷ parts_of (done.rest ++ more) ≡ parts_of (form ++ more) =
-    ap (λ p. p ∷ parts_of (done.rest ++ more)) (sym first) ∙ ap (λ (c : List ℕ × List (List ℕ)). c.0 ∷ c.1) (sym (done.grows more)) in (
-      one ++ whole,
-      subst (λ ps. ReadsTo s B number expected start ps (one ++ whole)) parts_are (inr (count, one, whole, is, due, reads, refl)),
-      rw joined (cc (
-        map-append (given_byte (blank_of s)) one left,
-        map-append (given_byte (blank_of s)) one whole,
-        given,
-        append_assoc (given_letters s one) (given_letters s left) made,
-      )),
-    )
+    let g = reached s A none (place_behind p count part) (next ∷ parts) done.rest left (sym done.others ∙ others) reads in
+    record {
+      there = g.there;
+      rest = g.rest;
+      so = g.so;
+      counted = omega (arith, g.counted, ap length done.joined, ap length first, length-append (cut form).0 done.rest);
+      later = omega (arith, g.later);
+      first = λ same. absurd (omega (arith, same, g.later));
+      goes_on = λ B more made makes.
+          let (whole, further, given) = g.goes_on B more made makes in
+          let parts_are : part ∷ parts_of (done.rest ++ more) ≡ parts_of (form ++ more) =
+          ap (λ p. p ∷ parts_of (done.rest ++ more)) (sym first) ∙ ap (λ (c : List ℕ × List (List ℕ)). c.0 ∷ c.1) (sym (done.grows more)) in
+          (one ++ whole, subst (λ ps. ReadsTo s B p ps (one ++ whole)) parts_are (inr (count, one, whole, is, due, further, refl)),
+          rw joined (cc (map-append (given_byte (blank_of s)) one left, map-append (given_byte (blank_of s)) one whole, given,
+          append_assoc (given_letters s one) (given_letters s left) made)));
+    }
 
 -- what refuses a part for good does so with more bytes
-stands_on : (s : Day) (fault : FormFault) (more : List ℕ) → TextsTellFirstParts → (number : ℕ) (expected : Option ℕ) (start : ℕ) (rest : List ℕ)
-    → StandsAt s fault number expected start (parts_of rest) → StandsAt s fault number expected start (parts_of (rest ++ more))
-stands_on s fault more tell number expected start rest stands = split (cut rest).1 refl stands where
+stands_on : (s : Day) (fault : FormFault) (more : List ℕ) → TextsTellFirstParts → (p : Place) (rest : List ℕ)
+    → StandsAt s fault p (parts_of rest) → StandsAt s fault p (parts_of (rest ++ more))
+stands_on s fault more tell p rest stands = split (cut rest).1 refl stands where
   first_stands : (first line other : List ℕ) (others : List (List ℕ)) → first ≡ line ++ 10 ∷ other → IsWithout 10 line
-      → IsEarlyFault s number expected start first fault → StandsAt s fault number expected start (first ∷ others)
+      → IsEarlyFault s p.number p.expected p.start first fault → StandsAt s fault p (first ∷ others)
   first_stands first line other [] is without early = ((line, other, record { joined = is; without = without }), early)
   first_stands first line other (next ∷ others) is without early = inl early
 
-  split : (others : List (List ℕ)) → (cut rest).1 ≡ others → StandsAt s fault number expected start ((cut rest).0 ∷ others)
-      → StandsAt s fault number expected start (parts_of (rest ++ more))
+  split : (others : List (List ℕ)) → (cut rest).1 ≡ others → StandsAt s fault p ((cut rest).0 ∷ others)
+      → StandsAt s fault p (parts_of (rest ++ more))
   split [] none ((line, body, broken), early) =
       let whole : rest ≡ line ++ 10 ∷ body = sym (single rest none) ∙ broken.joined in
       let like : IsAlike (cut (rest ++ more)).0 line body =
       rw whole (alike line body more broken.without (rw whole at none)) in
       first_stands (cut (rest ++ more)).0 line like.other (cut (rest ++ more)).1 like.is broken.without
-      (rw like.is (early_as_well s number expected start line body like.other fault tell broken.without like.bad (rw broken.joined at early)))
+      (rw like.is (early_as_well s p.number p.expected p.start line body like.other fault tell broken.without like.bad (rw broken.joined at early)))
   split (next ∷ others) some refused =
       let done = first_done rest (λ none. cc) in
-      subst (λ (c : List ℕ × List (List ℕ)). StandsAt s fault number expected start (c.0 ∷ c.1)) (sym (done.grows more)) refused
+      subst (λ (c : List ℕ × List (List ℕ)). StandsAt s fault p (c.0 ∷ c.1)) (sym (done.grows more)) refused
 
 pub stays_refused : TextsTellFirstParts → NumbersAreWords → FormsStayRefused
 stays_refused tell numbers s form more text fault (NoHeading none empty is) =
     NoHeading (λ others. subst (λ l. ¬ (BeginsHeading l)) (sym (append_assoc form more others)) (none (more ++ others))) empty is
 stays_refused tell numbers s form more text fault (AtPart (letters, reads, is)) =
-    let (whole, stand, given) = grow s (StandsAt s fault) (StandsAt s fault) more []
-    (λ n e st rest stands. ([], inl (stands_on s fault more tell n e st rest stands, refl), refl)) (λ n e st none. none) 1 None 0 (parts_of form) form letters refl reads in
+    let g = reached s (StandsAt s fault) (λ p none. none) at_first (parts_of form) form letters refl reads in
+    let (whole, stand, given) = g.goes_on (StandsAt s fault) more [] ([], inl (stands_on s fault more tell g.there g.rest g.so, refl), refl) in
     AtPart (whole, stand, is ∙ sym (append-nil (given_letters s letters)) ∙ given)

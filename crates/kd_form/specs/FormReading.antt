@@ -15,7 +15,7 @@ use Rattle.kd_form.specs.Part.{heading_words}
 use Rattle.kd_form.specs.Sending.{letters_from}
 use Rattle.kd_form.specs.FormParts.{BeginsHeading, IsHeading}
 use Rattle.kd_form.specs.Receiving.{IsExpected, IsPartRead, IsBodyText}
-use Rattle.kd_form.specs.FormText.{OfRest, IsReadTo, given_letters}
+use Rattle.kd_form.specs.FormText.{Place, OfRest, IsReadTo, given_letters}
 
 -- ---- the last line
 
@@ -86,17 +86,17 @@ pub data IsHeadingOff (number : ℕ) (expected : Option ℕ) (found : Option Hea
 
 -- ---- the form
 
--- the last part, as far as it has come
-pub record HoldsAt (s : Day) (r : FormReader) (number : ℕ) (expected : Option ℕ) (start : ℕ) (last : List ℕ) : Type 0 where
-  pub counted : r.position ≡ start + length last
-  pub numbered : r.number ≡ number
-  pub due : r.expected ≡ expected
+-- the last part is held, as far as it has come
+pub record HoldsAt (s : Day) (r : FormReader) (p : Place) (last : List ℕ) : Type 0 where
+  pub counted : r.position ≡ p.start + length last
+  pub numbered : r.number ≡ p.number
+  pub due : r.expected ≡ p.expected
   pub stage : HoldsStage s r.stage r.number r.expected last
 
 abbrev pub HoldsLast : Day → FormReader → OfRest
-HoldsLast s r number expected start [] = ⊥
-HoldsLast s r number expected start (last ∷ []) = HoldsAt s r number expected start last
-HoldsLast s r number expected start (last ∷ next ∷ others) = ⊥
+HoldsLast s r p [] = ⊥
+HoldsLast s r p (last ∷ []) = HoldsAt s r p last
+HoldsLast s r p (last ∷ next ∷ others) = ⊥
 
 -- the form, as far as it has come, has made this text; its last part is still to be read
 abbrev pub HoldsForm : Day → FormReader → List ℕ → List ℕ → Type 0

@@ -12,18 +12,30 @@ use Rattle.kd_form.specs.Sending.{blank_of, text_letters}
 use Rattle.kd_form.specs.FormParts.{BeginsHeading, parts_of}
 use Rattle.kd_form.specs.Receiving.{IsPartRead, IsExpected, IsEarlyFault, IsPartFault}
 
--- what may be said of the rest of a form: of the number of its first part, of how many parts the form is to have, once one of them
--- says it, of how many bytes stand before it, and of its parts
+-- where a part begins: its number, of how many parts the form is to have, once one of them says it, and how many bytes stand before it
+pub record Place : Type 0 where
+  pub number : ℕ
+  pub expected : Option ℕ
+  pub start : ℕ
+
+abbrev pub at_first : Place
+at_first = record { number = 1; expected = None; start = 0 }
+
+-- behind a part there that says that it is one of so many
+abbrev pub place_behind : Place → ℕ → List ℕ → Place
+place_behind p count part = record { number = p.number + 1; expected = Some count; start = p.start + length part }
+
+-- what may be said of the parts from a place on
 abbrev pub OfRest : Type 1
-OfRest = ℕ → Option ℕ → ℕ → List (List ℕ) → Type 0
+OfRest = Place → List (List ℕ) → Type 0
 
 -- Parts are read one after another, as the next ones, up to a rest of which this holds, and their texts have these letters.
-abbrev pub ReadsTo : Day → OfRest → ℕ → Option ℕ → ℕ → List (List ℕ) → List ℕ → Type 0
-ReadsTo s Holds number expected start [] letters = Holds number expected start [] × (letters ≡ [])
-ReadsTo s Holds number expected start (part ∷ parts) letters =
-    (Holds number expected start (part ∷ parts) × (letters ≡ []))
-    ⊎ ((count : ℕ) × (one more : List ℕ) × IsPartRead s number count part one × IsExpected expected count
-    × ReadsTo s Holds (number + 1) (Some count) (start + length part) parts more × (letters ≡ one ++ more))
+abbrev pub ReadsTo : Day → OfRest → Place → List (List ℕ) → List ℕ → Type 0
+ReadsTo s Holds p [] letters = Holds p [] × (letters ≡ [])
+ReadsTo s Holds p (part ∷ parts) letters =
+    (Holds p (part ∷ parts) × (letters ≡ []))
+    ⊎ ((count : ℕ) × (one more : List ℕ) × IsPartRead s p.number count part one × IsExpected p.expected count
+    × ReadsTo s Holds (place_behind p count part) parts more × (letters ≡ one ++ more))
 
 -- ---- the text
 
@@ -42,27 +54,27 @@ given_text s letters = given_letters s letters ++ 10 ∷ []
 
 -- the form is read up to such a rest, and this is the text of the parts before it
 abbrev pub IsReadTo : Day → OfRest → List ℕ → List ℕ → Type 0
-IsReadTo s Holds form text = (letters : List ℕ) × ReadsTo s Holds 1 None 0 (parts_of form) letters × (text ≡ given_letters s letters)
+IsReadTo s Holds form text = (letters : List ℕ) × ReadsTo s Holds at_first (parts_of form) letters × (text ≡ given_letters s letters)
 
 -- nothing is left, and there were as many parts as their headings say
 abbrev pub IsComplete : OfRest
-IsComplete number expected start [] = (count : ℕ) × (expected ≡ Some count) × (number ≡ count + 1)
-IsComplete number expected start (part ∷ parts) = ⊥
+IsComplete p [] = (count : ℕ) × (p.expected ≡ Some count) × (p.number ≡ count + 1)
+IsComplete p (part ∷ parts) = ⊥
 
 -- the form has as many parts as their headings say, and their letters are given
 pub record IsTextOf (s : Day) (form text : List ℕ) : Type 0 where
   pub letters : List ℕ
-  pub read : ReadsTo s IsComplete 1 None 0 (parts_of form) letters
+  pub read : ReadsTo s IsComplete at_first (parts_of form) letters
   pub is : text ≡ given_text s letters
 
 -- ---- why there is no text
 
 -- a part is refused whatever follows: whole, as the next one has begun; or for what shows early, as the line of its heading has ended
 abbrev pub StandsAt : Day → FormFault → OfRest
-StandsAt s fault number expected start [] = ⊥
-StandsAt s fault number expected start (part ∷ []) =
-    ((line body : List ℕ) × IsFirstPart 10 part line body) × IsEarlyFault s number expected start part fault
-StandsAt s fault number expected start (part ∷ next ∷ others) = IsPartFault s number expected start part fault
+StandsAt s fault p [] = ⊥
+StandsAt s fault p (part ∷ []) =
+    ((line body : List ℕ) × IsFirstPart 10 part line body) × IsEarlyFault s p.number p.expected p.start part fault
+StandsAt s fault p (part ∷ next ∷ others) = IsPartFault s p.number p.expected p.start part fault
 
 -- The form is refused behind that text, whatever follows: a heading line neither begins it nor may yet do so; or a part is refused.
 pub data IsRefusedForGood (s : Day) (form text : List ℕ) (fault : FormFault) : Type 0 where
@@ -71,9 +83,9 @@ pub data IsRefusedForGood (s : Day) (form text : List ℕ) (fault : FormFault) :
 
 -- the form ends: its last part is refused; or all parts are read, and are fewer than their headings say
 abbrev pub EndsAt : Day → FormFault → OfRest
-EndsAt s fault number expected start [] = (fault ≡ PartOrder) × (count : ℕ) × (expected ≡ Some count) × (number ≤ count)
-EndsAt s fault number expected start (part ∷ []) = IsPartFault s number expected start part fault
-EndsAt s fault number expected start (part ∷ next ∷ others) = ⊥
+EndsAt s fault p [] = (fault ≡ PartOrder) × (count : ℕ) × (p.expected ≡ Some count) × (p.number ≤ count)
+EndsAt s fault p (part ∷ []) = IsPartFault s p.number p.expected p.start part fault
+EndsAt s fault p (part ∷ next ∷ others) = ⊥
 
 -- The form is refused behind that text if it ends here. Where it is empty, its first part is refused.
 abbrev pub IsRefusedAtEnd : Day → List ℕ → List ℕ → FormFault → Type 0
@@ -85,7 +97,7 @@ IsReceiveFault s form fault = (text : List ℕ) × (IsRefusedForGood s form text
 
 -- the last part is left
 abbrev pub IsLast : OfRest
-IsLast number expected start parts = (part : List ℕ) × (parts ≡ part ∷ [])
+IsLast p parts = (part : List ℕ) × (parts ≡ part ∷ [])
 
 -- what is written before the form is refused so, or before more of it has come: the text of the parts before the last one
 abbrev pub IsTextBefore : Day → Option FormFault → List ℕ → List ℕ → Type 0
