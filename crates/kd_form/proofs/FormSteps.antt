@@ -224,20 +224,12 @@ refused s form text fault tell numbers found = record {
 -- ---- at the start
 
 pub starts : (s : Day) (r : FormReader) → r.position ≡ 0 → r.number ≡ 1 → r.expected ≡ None → (line : ArrayVec ℕ) → r.stage ≡ stages.Heading line → line.items ≡ [] → HoldsForm s r [] []
-starts s r position number expected line stage none = (
-  [],
-  inl (
-    record {
-      counted = position;
-      numbered = number;
-      due = expected;
-      stage = subst (λ st. HoldsStage s st r.number r.expected []) (sym stage)
-          (record { kept = none; unbroken = All-nil (λ b. b ≢ 10); begins = may_begin 0 (omega arith) }, λ few. number);
-    },
-    refl,
-  ),
-  refl,
-)
+starts s r position number expected line stage none =
+    let held : HoldsStage s (stages.Heading line) r.number r.expected [] =
+    (record { kept = none; unbroken = All-nil (λ b. b ≢ 10); begins = may_begin 0 (omega arith) }, λ few. number) in
+    let at : HoldsAt s r at_first [] =
+    record { counted = position; numbered = number; due = expected; stage = subst (λ st. HoldsStage s st r.number r.expected []) (sym stage) held } in
+    ([], inl (at, refl), refl)
 
 -- ---- the body
 
@@ -325,17 +317,18 @@ module _ (s : Day) (r : FormReader) (form text : List ℕ) (h : HoldsForm s r fo
   abbrev g : Going s r form text
   g = going s r form text h
 
+  -- where the last part begins
+  abbrev here : Place
+  here = record { number = r.number; expected = r.expected; start = g.start }
+
   pub in_stage : (stage : Stage) → r.stage ≡ stage → HoldsStage s stage r.number r.expected g.last
   in_stage stage is = subst (λ st. HoldsStage s st r.number r.expected g.last) is g.stage
 
-  pub position_is : r.position ≡ length form
-  position_is = g.whole
-
   -- a byte more of the same part, of which this is so
   grown : (B : OfRest) (made : List ℕ) (byte : ℕ) → made ≡ [] → cut (g.last ++ byte ∷ []) ≡ (g.last ++ byte ∷ [], [])
-      → B (record { number = r.number; expected = r.expected; start = g.start }) ((g.last ++ byte ∷ []) ∷ []) → IsReadTo s B (form ++ byte ∷ []) (text ++ made)
+      → B here ((g.last ++ byte ∷ []) ∷ []) → IsReadTo s B (form ++ byte ∷ []) (text ++ made)
   grown B made byte none one is = g.goes_on B (byte ∷ []) made
-      ([], subst (λ (c : List ℕ × List (List ℕ)). ReadsTo s B (record { number = r.number; expected = r.expected; start = g.start }) (c.0 ∷ c.1) []) (sym one) (inl (is, refl)), none)
+      ([], subst (λ (c : List ℕ × List (List ℕ)). ReadsTo s B here (c.0 ∷ c.1) []) (sym one) (inl (is, refl)), none)
 
   -- with more bytes the part is refused
   at_part : (fault : FormFault) (more : List ℕ) → IsReadTo s (StandsAt s fault) (form ++ more) (text ++ []) → IsRefusedForGood s (form ++ more) text fault
@@ -474,8 +467,12 @@ module _ (s : Day) (r : FormReader) (form text : List ℕ) (h : HoldsForm s r fo
     part_refused fault told =
         let found = last_told {X = List ℕ} (λ one. b.heading.parts) (λ one. one) s r.number r.expected whole there.holds.settled b.heading (Err fault) ended.has
         there.numbered there.due ended.allowed (told (letters_from None there.holds.settled) (letters_from None (codes "PART ")) refl (there.holds.kept ∙ ap (take 525) ended.letters)) in
-        at_part fault (byte ∷ []) (g.goes_on (StandsAt s fault) (byte ∷ []) [] ([], subst (λ (c : List ℕ × List (List ℕ)). ReadsTo s (StandsAt s fault)
-        (record { number = r.number; expected = r.expected; start = g.start }) (c.0 ∷ c.1) []) (sym cut_off) (inl (found g.start, refl)), refl))
+        at_part fault (byte ∷ []) (g.goes_on (StandsAt s fault) (byte ∷ []) [] (
+          [],
+          subst (λ (c : List ℕ × List (List ℕ)). ReadsTo s (StandsAt s fault)
+              here (c.0 ∷ c.1) []) (sym cut_off) (inl (found g.start, refl)),
+          refl,
+        ))
 
     pub part_read : (made : List ℕ) (line : ArrayVec ℕ) → IsSaid b (λ letters. IsBodyGiven s b.heading letters made) → line.items ≡ codes "PART " ++ byte ∷ []
         → HoldsForm s (record { position = r.position + 1; number = r.number + 1; expected = Some b.heading.parts; stage = stages.Heading line }) (form ++ byte ∷ []) (text ++ made)
@@ -484,8 +481,7 @@ module _ (s : Day) (r : FormReader) (form text : List ℕ) (h : HoldsForm s r fo
         let found = told (letters_from None there.holds.settled) (letters_from None (codes "PART ")) refl (there.holds.kept ∙ ap (take 525) ended.letters) in
         let is = last_told (λ one. b.heading.parts) (λ one. one) s r.number r.expected whole there.holds.settled b.heading (Ok found.0) ended.has
         there.numbered there.due ended.allowed (refl, found.1) in
-        let p : Place = record { number = r.number; expected = r.expected; start = g.start } in
-        let head : HoldsAt s next (place_behind p b.heading.parts whole) (codes "PART " ++ byte ∷ []) = record {
+        let head : HoldsAt s next (place_behind here b.heading.parts whole) (codes "PART " ++ byte ∷ []) = record {
           counted = omega (arith, g.counted, ap length ended.split, length-append {A = ℕ});
           numbered = refl;
           due = refl;
@@ -494,21 +490,25 @@ module _ (s : Day) (r : FormReader) (form text : List ℕ) (h : HoldsForm s r fo
             λ few. absurd (omega (arith, few)),
           );
         } in
-        g.goes_on (HoldsLast s next) (byte ∷ []) made (found.0, subst (λ (c : List ℕ × List (List ℕ)). ReadsTo s (HoldsLast s next) p (c.0 ∷ c.1) found.0) (sym cut_off)
-        (inr (b.heading.parts, found.0, [], is.read, is.due, inl (head, refl), sym (append-nil found.0))), found.2)
+        g.goes_on (HoldsLast s next) (byte ∷ []) made (
+          found.0,
+          subst (λ (c : List ℕ × List (List ℕ)). ReadsTo s (HoldsLast s next) here (c.0 ∷ c.1) found.0) (sym cut_off)
+              (inr (b.heading.parts, found.0, [], is.read, is.due, inl (head, refl), sym (append-nil found.0))),
+          found.2,
+        )
 
   -- ---- the end
 
-  ends_so : (B : OfRest) (letters made : List ℕ) → ReadsTo s B (record { number = r.number; expected = r.expected; start = g.start }) (g.last ∷ []) letters
+  ends_so : (B : OfRest) (letters made : List ℕ) → ReadsTo s B here (g.last ∷ []) letters
       → made ≡ given_letters s letters → IsReadTo s B form (text ++ made)
   ends_so B letters made reads given =
       let one : g.last ∷ [] ≡ parts_of (g.last ++ []) = cc (single g.last g.alone, g.alone, append-nil g.last) in
       subst (λ f. IsReadTo s B f (text ++ made)) (append-nil form)
-      (g.goes_on B [] made (letters, subst (λ ps. ReadsTo s B (record { number = r.number; expected = r.expected; start = g.start }) ps letters) one reads, given))
+      (g.goes_on B [] made (letters, subst (λ ps. ReadsTo s B here ps letters) one reads, given))
 
   -- the last part is read, and then this is so
   ends_read : (B : OfRest) (one made : List ℕ) (parts : ℕ) → IsLastText s r.number r.expected g.last parts one
-      → B (record { number = r.number + 1; expected = Some parts; start = g.start + length g.last }) [] → made ≡ given_letters s one → IsReadTo s B form (text ++ made)
+      → B (place_behind here parts g.last) [] → made ≡ given_letters s one → IsReadTo s B form (text ++ made)
   ends_read B one made parts is so given = ends_so B one made (inr (parts, one, [], is.read, is.due, (so, refl), sym (append-nil one))) given
 
   pub closes : (made one : List ℕ) (parts : ℕ) → ((part : List ℕ) → HoldsStage s r.stage r.number r.expected part → IsLastText s r.number r.expected part parts one)

@@ -32,7 +32,7 @@ pub use Rattle.kd_form.specs.Receiving.{HasHeading, InBody, InHeading, InNumber,
 pub use Rattle.kd_form.specs.SendSteps.{AreSuitedKeys, AreTaken, HeadIsRead, IsFresh, IsHeadRead, IsHeadLine, IsLastTaken, IsOrderRead, IsStageRead, IsTextRead}
 pub use Rattle.kd_form.specs.SendStream.{CanBeWritten, IsAllowedFront, IsSentBefore, orders}
 pub use Rattle.kd_form.specs.Sending.{AreMadeTexts, Cut, InHead, InKeys, InParts, InText, IsBadAt, IsFirstKeysFault, IsFormOf, IsKeysFault, IsSendFault, IsSendable, NoLetter, StandsInOrder, blank_of, letter_of_byte, letters_from, parts_needed, text_letters}
-pub use Rattle.kd_form.specs.StreamSteps.{ClosesAs, ClosesAt, EndsIn, FedTo, FeedsAll, HasRoom, Held, IsFed, IsRead, ReadsNext, WritesWhole, answer_to, fault_of, stops_at_device}
+pub use Rattle.kd_form.specs.StreamSteps.{AtSource, ClosesAs, ClosesAt, EndsIn, FedTo, FeedsAll, HasRoom, Held, InFeeding, IsFed, IsRead, IsStopped, ReadsNext, WritesWhole, answer_to, fault_of, stops_at_device}
 pub use Rattle.kd_form.specs.Streams.{Answers, AreWell, AtEnd, ByTheEnd, ByThen, Closes, FallsShort, IsOpen, IsRefused, IsStreamed, Message, Off, SinkFails, SourceFails, Stands, TooLong, Whole, is_device, is_off_key}
 pub use Rattle.kd_form.specs.Typing.{IsAllowedTo, IsTextFault, IsTypedTo, Lights, cipher_text, texts, typed_letters}
 pub use Rattle.kd_form.specs.declared.fault.FormFault.{FormFault}

@@ -108,10 +108,16 @@ reached s A none p (part ∷ next ∷ parts) form letters same (inr (count, one,
       goes_on = λ B more made makes.
           let (whole, further, given) = g.goes_on B more made makes in
           let parts_are : part ∷ parts_of (done.rest ++ more) ≡ parts_of (form ++ more) =
-          ap (λ p. p ∷ parts_of (done.rest ++ more)) (sym first) ∙ ap (λ (c : List ℕ × List (List ℕ)). c.0 ∷ c.1) (sym (done.grows more)) in
-          (one ++ whole, subst (λ ps. ReadsTo s B p ps (one ++ whole)) parts_are (inr (count, one, whole, is, due, further, refl)),
-          rw joined (cc (map-append (given_byte (blank_of s)) one left, map-append (given_byte (blank_of s)) one whole, given,
-          append_assoc (given_letters s one) (given_letters s left) made)));
+          ap (λ p. p ∷ parts_of (done.rest ++ more)) (sym first) ∙ ap (λ (c : List ℕ × List (List ℕ)). c.0 ∷ c.1) (sym (done.grows more)) in (
+            one ++ whole,
+            subst (λ ps. ReadsTo s B p ps (one ++ whole)) parts_are (inr (count, one, whole, is, due, further, refl)),
+            rw joined (cc (
+              map-append (given_byte (blank_of s)) one left,
+              map-append (given_byte (blank_of s)) one whole,
+              given,
+              append_assoc (given_letters s one) (given_letters s left) made,
+            )),
+          );
     }
 
 -- what refuses a part for good does so with more bytes

@@ -1,5 +1,5 @@
 use Rattle.kd_form.proofs.Prelude.{arith, sym, ◌∙◌, false≢true}
-use Rattle.kd_form.proofs.FormSteps.{held, in_stage, position_is, refused, not_following, longer_line, heading_read, heading_refused, longer_body, bad_byte, four_letters, part_refused, part_read}
+use Rattle.kd_form.proofs.FormSteps.{held, in_stage, going, refused, not_following, longer_line, heading_read, heading_refused, longer_body, bad_byte, four_letters, part_refused, part_read}
 use Rattle.kd_form.proofs.form_reader.FormReaderMessageReader.feed.Goals as goal
 
 pub returns-then-not-may_follow : goal.returns-then-not-may_follow
@@ -27,7 +27,7 @@ returns-then-not-ends_before c = λ form text so_far.
     (λ digit. false≢true (sym c.if-not-ends_before.true ∙ c.ends_before.ensures.1 digit)) c.push.ensures.body c.push.ensures.heading c.requires.empty)
 
 pub overflow_add-self : goal.overflow_add-self
-overflow_add-self c = omega (arith, position_is _ c.args.self.now c.requires.room.bytes _ c.requires.room.held.is, c.requires.room.within)
+overflow_add-self c = omega (arith, (going _ c.args.self.now c.requires.room.bytes _ c.requires.room.held.is).whole, c.requires.room.within)
 
 pub overflow_add-self-in-Ok-give : goal.overflow_add-self-in-Ok-give
 overflow_add-self-in-Ok-give c =
