@@ -115,6 +115,9 @@ uncut byte bytes none = elim (cut_or_not byte bytes) [
   | inr not ↦ record { not = not; single = sym (ap (λ c. c.1) (no_cut byte bytes not)) ∙ none }
 ]
 
+pub as_parts : (form part : List ℕ) (others : List (List ℕ)) → cut form ≡ (part, others) → parts_of form ≡ part ∷ others
+as_parts form part others is = ap (λ (c : List ℕ × List (List ℕ)). c.0 ∷ c.1) is
+
 pub first_there : (form : List ℕ) → (rest : List ℕ) × (form ≡ (cut form).0 ++ rest)
 first_there [] = ([], refl)
 first_there (byte ∷ bytes) = elim (cut_or_not byte bytes) [

@@ -7,11 +7,11 @@ use Rattle.kd_form.specs.declared.form_reader.FormReader.{FormReader}
 use Rattle.kd_form.specs.declared.form_reader.Stage.{Stage}
 use Rattle.kd_form.specs.declared.form_reader.Stage.TheVariants as stages
 use Rattle.kd_form.proofs.Plain.{All-front, without, head_unbroken}
-use Rattle.kd_form.proofs.Cutting.{all_follow, begins, begins_more, first_ends, first_more, first_there, may_begin, one_more, single}
+use Rattle.kd_form.proofs.Cutting.{all_follow, as_parts, begins, begins_more, first_ends, first_more, first_there, may_begin, one_more, single}
 use Rattle.kd_form.proofs.Lines.{IsUpToBreak, up_to_break}
 use Rattle.kd_form.proofs.OneOrder.{no_bad_byte}
 use Rattle.kd_form.proofs.OneText.{NeverPasses, read_or_refused, reads_as, reads_meet, stands_at}
-use Rattle.kd_form.proofs.Standing.{Makes, reached, stays_refused}
+use Rattle.kd_form.proofs.Standing.{reached, stays_refused}
 
 -- -------- the body of a part, byte by byte
 
@@ -289,8 +289,8 @@ pub record Going (s : Day) (r : FormReader) (form text : List ℕ) : Type 1 wher
   pub whole : r.position ≡ length form
   pub stage : HoldsStage s r.stage r.number r.expected last
   pub first : r.number ≡ 1 → (form ≡ last) × (text ≡ [])
-  pub goes_on : (B : OfRest) (more made : List ℕ) → Makes s B (record { number = r.number; expected = r.expected; start = start }) (last ++ more) made
-      → IsReadTo s B (form ++ more) (text ++ made)
+  pub goes_on : (B : OfRest) (more made letters : List ℕ) (parts : List (List ℕ)) → parts_of (last ++ more) ≡ parts
+      → ReadsTo s B (record { number = r.number; expected = r.expected; start = start }) parts letters → made ≡ given_letters s letters → IsReadTo s B (form ++ more) (text ++ made)
 
 pub going : (s : Day) (r : FormReader) (form text : List ℕ) → HoldsForm s r form text → Going s r form text
 going s r form text (letters, reads, is) =
@@ -306,10 +306,10 @@ going s r form text (letters, reads, is) =
       whole = omega (arith, at.counted, g.counted);
       stage = at.stage;
       first = λ one. let (same, nil) = g.first (sym at.numbered ∙ one) in (same, is ∙ ap (given_letters s) nil);
-      goes_on = λ B more made makes.
-          let (whole, further, given) = g.goes_on B more made
-          (subst (λ n. Makes s B (record { number = n; expected = g.there.expected; start = g.there.start }) (g.rest ++ more) made) at.numbered
-          (subst (λ e. Makes s B (record { number = r.number; expected = e; start = g.there.start }) (g.rest ++ more) made) at.due makes)) in
+      goes_on = λ B more made ls ps are reads given.
+          let (whole, further, given) = g.goes_on B more made ls ps are
+          (subst (λ n. ReadsTo s B (record { number = n; expected = g.there.expected; start = g.there.start }) ps ls) at.numbered
+          (subst (λ e. ReadsTo s B (record { number = r.number; expected = e; start = g.there.start }) ps ls) at.due reads)) given in
           (whole, further, ap (λ t. t ++ made) is ∙ given);
     }
 
@@ -327,8 +327,7 @@ module _ (s : Day) (r : FormReader) (form text : List ℕ) (h : HoldsForm s r fo
   -- a byte more of the same part, of which this is so
   grown : (B : OfRest) (made : List ℕ) (byte : ℕ) → made ≡ [] → cut (g.last ++ byte ∷ []) ≡ (g.last ++ byte ∷ [], [])
       → B here ((g.last ++ byte ∷ []) ∷ []) → IsReadTo s B (form ++ byte ∷ []) (text ++ made)
-  grown B made byte none one is = g.goes_on B (byte ∷ []) made
-      ([], subst (λ (c : List ℕ × List (List ℕ)). ReadsTo s B here (c.0 ∷ c.1) []) (sym one) (inl (is, refl)), none)
+  grown B made byte none one is = g.goes_on B (byte ∷ []) made [] ((g.last ++ byte ∷ []) ∷ []) (as_parts (g.last ++ byte ∷ []) _ _ one) (inl (is, refl)) none
 
   -- with more bytes the part is refused
   at_part : (fault : FormFault) (more : List ℕ) → IsReadTo s (StandsAt s fault) (form ++ more) (text ++ []) → IsRefusedForGood s (form ++ more) text fault
@@ -467,12 +466,7 @@ module _ (s : Day) (r : FormReader) (form text : List ℕ) (h : HoldsForm s r fo
     part_refused fault told =
         let found = last_told {X = List ℕ} (λ one. b.heading.parts) (λ one. one) s r.number r.expected whole there.holds.settled b.heading (Err fault) ended.has
         there.numbered there.due ended.allowed (told (letters_from None there.holds.settled) (letters_from None (codes "PART ")) refl (there.holds.kept ∙ ap (take 525) ended.letters)) in
-        at_part fault (byte ∷ []) (g.goes_on (StandsAt s fault) (byte ∷ []) [] (
-          [],
-          subst (λ (c : List ℕ × List (List ℕ)). ReadsTo s (StandsAt s fault)
-              here (c.0 ∷ c.1) []) (sym cut_off) (inl (found g.start, refl)),
-          refl,
-        ))
+        at_part fault (byte ∷ []) (g.goes_on (StandsAt s fault) (byte ∷ []) [] [] (whole ∷ (codes "PART " ++ byte ∷ []) ∷ []) (as_parts (g.last ++ byte ∷ []) _ _ cut_off) (inl (found g.start, refl)) refl)
 
     pub part_read : (made : List ℕ) (line : ArrayVec ℕ) → IsSaid b (λ letters. IsBodyGiven s b.heading letters made) → line.items ≡ codes "PART " ++ byte ∷ []
         → HoldsForm s (record { position = r.position + 1; number = r.number + 1; expected = Some b.heading.parts; stage = stages.Heading line }) (form ++ byte ∷ []) (text ++ made)
@@ -490,21 +484,15 @@ module _ (s : Day) (r : FormReader) (form text : List ℕ) (h : HoldsForm s r fo
             λ few. absurd (omega (arith, few)),
           );
         } in
-        g.goes_on (HoldsLast s next) (byte ∷ []) made (
-          found.0,
-          subst (λ (c : List ℕ × List (List ℕ)). ReadsTo s (HoldsLast s next) here (c.0 ∷ c.1) found.0) (sym cut_off)
-              (inr (b.heading.parts, found.0, [], is.read, is.due, inl (head, refl), sym (append-nil found.0))),
-          found.2,
-        )
+        g.goes_on (HoldsLast s next) (byte ∷ []) made found.0 (whole ∷ (codes "PART " ++ byte ∷ []) ∷ []) (as_parts (g.last ++ byte ∷ []) _ _ cut_off)
+        (inr (b.heading.parts, found.0, [], is.read, is.due, inl (head, refl), sym (append-nil found.0))) found.2
 
   -- ---- the end
 
   ends_so : (B : OfRest) (letters made : List ℕ) → ReadsTo s B here (g.last ∷ []) letters
       → made ≡ given_letters s letters → IsReadTo s B form (text ++ made)
-  ends_so B letters made reads given =
-      let one : g.last ∷ [] ≡ parts_of (g.last ++ []) = cc (single g.last g.alone, g.alone, append-nil g.last) in
-      subst (λ f. IsReadTo s B f (text ++ made)) (append-nil form)
-      (g.goes_on B [] made (letters, subst (λ ps. ReadsTo s B here ps letters) one reads, given))
+  ends_so B letters made reads given = subst (λ f. IsReadTo s B f (text ++ made)) (append-nil form)
+      (g.goes_on B [] made letters (g.last ∷ []) (cc (single g.last g.alone, g.alone, append-nil g.last)) reads given)
 
   -- the last part is read, and then this is so
   ends_read : (B : OfRest) (one made : List ℕ) (parts : ℕ) → IsLastText s r.number r.expected g.last parts one

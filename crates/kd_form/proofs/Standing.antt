@@ -2,7 +2,7 @@
 use Rattle.kd_form.proofs.Prelude.{◌≤◌, [], ◌≡◌, inl, inr, ℕ, false, List, refl, sym, ap, subst, ◌∙◌, Option, Result, Err, ◌⊎◌, ◌+◌, ◌-◌, ◌∷◌, ◌++◌, length, append_assoc, length-append, arith, Port, Fail, Parts, Day, FormFault, BadByte, InHeading, InNumber, InBody, IsEarlyFault, IsRefusedForGood, NoHeading, form_message, given_letters, IsKeyFault, IsBadAt, orders, Answers, AreWell, is_device, is_off_key, texts, append-nil, IsWithout, TextsTellFirstParts, NumbersAreWords, BeginsHeading, FormsStayRefused, Message, map-append, given_byte, blank_of, OfRest, ReadsTo, Place, at_first, place_behind, StandsAt, EndsAt, IsRefusedAtEnd, AtPart, cut, parts_of}
 use Rattle.kd_form.proofs.Headings.{ended_heading, heading_there}
 use Rattle.kd_form.proofs.OneText.{AnswersAt, ends_at, reads_end, stands_at}
-use Rattle.kd_form.proofs.Cutting.{IsAlike, alike, first_done, single}
+use Rattle.kd_form.proofs.Cutting.{IsAlike, alike, as_parts, first_done, single}
 
 -- -------- of which answers a device is the reason, or the machine
 
@@ -78,7 +78,8 @@ pub record Reached (s : Day) (A : OfRest) (p : Place) (form letters : List ℕ) 
   pub counted : there.start + length rest ≡ p.start + length form
   pub later : p.number ≤ there.number
   pub first : there.number ≡ p.number → (form ≡ rest) × (letters ≡ [])
-  pub goes_on : (B : OfRest) (more made : List ℕ) → Makes s B there (rest ++ more) made → Makes s B p (form ++ more) (given_letters s letters ++ made)
+  pub goes_on : (B : OfRest) (more made others : List ℕ) (parts : List (List ℕ)) → parts_of (rest ++ more) ≡ parts → ReadsTo s B there parts others
+      → made ≡ given_letters s others → Makes s B p (form ++ more) (given_letters s letters ++ made)
 
 pub reached : (s : Day) (A : OfRest) → ((p : Place) → ¬ (A p [])) → (p : Place) (parts : List (List ℕ)) (form letters : List ℕ) → parts_of form ≡ parts
     → ReadsTo s A p parts letters → Reached s A p form letters
@@ -90,7 +91,7 @@ reached s A none p (part ∷ parts) form letters same (inl (held, nil)) = rw nil
   counted = refl;
   later = omega arith;
   first = λ is. (refl, refl);
-  goes_on = λ B more made makes. makes;
+  goes_on = λ B more made others parts is reads given. (others, subst (λ ps. ReadsTo s B p ps others) (sym is) reads, given);
 })
 reached s A none p (part ∷ []) form letters same (inr (count, one, left, is, due, reads, joined)) = absurd (none (place_behind p count part) reads.0)
 reached s A none p (part ∷ next ∷ parts) form letters same (inr (count, one, left, is, due, reads, joined)) =
@@ -105,10 +106,10 @@ reached s A none p (part ∷ next ∷ parts) form letters same (inr (count, one,
       counted = omega (arith, g.counted, ap length done.joined, ap length first, length-append (cut form).0 done.rest);
       later = omega (arith, g.later);
       first = λ same. absurd (omega (arith, same, g.later));
-      goes_on = λ B more made makes.
-          let (whole, further, given) = g.goes_on B more made makes in
+      goes_on = λ B more made ls ps are reads given.
+          let (whole, further, given) = g.goes_on B more made ls ps are reads given in
           let parts_are : part ∷ parts_of (done.rest ++ more) ≡ parts_of (form ++ more) =
-          ap (λ p. p ∷ parts_of (done.rest ++ more)) (sym first) ∙ ap (λ (c : List ℕ × List (List ℕ)). c.0 ∷ c.1) (sym (done.grows more)) in (
+          ap (λ p. p ∷ parts_of (done.rest ++ more)) (sym first) ∙ sym (as_parts (form ++ more) _ _ (done.grows more)) in (
             one ++ whole,
             subst (λ ps. ReadsTo s B p ps (one ++ whole)) parts_are (inr (count, one, whole, is, due, further, refl)),
             rw joined (cc (
@@ -146,5 +147,5 @@ stays_refused tell numbers s form more text fault (NoHeading none empty is) =
     NoHeading (λ others. subst (λ l. ¬ (BeginsHeading l)) (sym (append_assoc form more others)) (none (more ++ others))) empty is
 stays_refused tell numbers s form more text fault (AtPart (letters, reads, is)) =
     let g = reached s (StandsAt s fault) (λ p none. none) at_first (parts_of form) form letters refl reads in
-    let (whole, stand, given) = g.goes_on (StandsAt s fault) more [] ([], inl (stands_on s fault more tell g.there g.rest g.so, refl), refl) in
+    let (whole, stand, given) = g.goes_on (StandsAt s fault) more [] [] _ refl (inl (stands_on s fault more tell g.there g.rest g.so, refl)) refl in
     AtPart (whole, stand, is ∙ sym (append-nil (given_letters s letters)) ∙ given)
