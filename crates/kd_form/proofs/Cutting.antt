@@ -17,10 +17,7 @@ unfolding begins_heading
 begins digit rest low high = grind (arith, nat_tests)
 
 pub heading_size : (bytes : List ℕ) → BeginsHeading bytes → 6 ≤ length bytes
-heading_size bytes begun = elim (cases_lt 5 (length bytes)) [
-  | inl long ↦ omega (arith, long)
-  | inr short ↦ absurd (omega (arith, told bytes begun, get_or_past bytes 5 0 short))
-]
+heading_size bytes begun = grind (arith, told bytes begun, cases_lt 5 (length bytes), get_or_past bytes 5 0)
 
 -- its first six bytes tell
 pub begins_front : (bytes more : List ℕ) → 6 ≤ length bytes → begins_heading (bytes ++ more) ≡ begins_heading bytes
@@ -41,10 +38,8 @@ heading_byte bytes place begun inside = elim (cases_lt place 5) [
 
 -- an LF isn't among them
 pub before_break : (front rest : List ℕ) → BeginsHeading (front ++ 10 ∷ rest) → BeginsHeading front
-before_break front rest begun = elim (cases_lt (length front) 6) [
-  | inl short ↦ absurd (omega (arith, heading_byte (front ++ 10 ∷ rest) (length front) begun short, get_or-append_seam front 10 rest 0))
-  | inr long ↦ sym (begins_front front (10 ∷ rest) long) ∙ begun
-]
+before_break front rest begun =
+    grind (arith, heading_byte (front ++ 10 ∷ rest) (length front), get_or-append_seam front 10 rest 0, begins_front front (10 ∷ rest), cases_lt (length front) 6)
 
 -- ---- what may become a heading
 
@@ -110,10 +105,7 @@ record IsUncut (byte : ℕ) (bytes : List ℕ) : Type 0 where
   single : (cut bytes).1 ≡ []
 
 uncut : (byte : ℕ) (bytes : List ℕ) → (cut (byte ∷ bytes)).1 ≡ [] → IsUncut byte bytes
-uncut byte bytes none = elim (cut_or_not byte bytes) [
-  | inl (is, begun) ↦ absurd (cc (none, ap (λ c. c.1) (at_cut bytes begun), is))
-  | inr not ↦ record { not = not; single = sym (ap (λ c. c.1) (no_cut byte bytes not)) ∙ none }
-]
+uncut byte bytes none = grind (arith, cut_or_not byte bytes, at_cut bytes, no_cut byte bytes)
 
 pub as_parts : (form part : List ℕ) (others : List (List ℕ)) → cut form ≡ (part, others) → parts_of form ≡ part ∷ others
 as_parts form part others is = ap (λ (c : List ℕ × List (List ℕ)). c.0 ∷ c.1) is
@@ -178,20 +170,15 @@ one_more line byte unbroken = cut_behind line (byte ∷ []) unbroken ∙ rw (one
 -- five bytes and one more that begin a heading
 last_digit : (bytes : List ℕ) (byte : ℕ) → length bytes < 6 → BeginsHeading (bytes ++ byte ∷ []) → (bytes ≡ codes "PART ") × (48 ≤ byte) × (byte ≤ 57)
 last_digit bytes byte few begun =
-    let size : length bytes ≡ 5 = omega (arith, few, heading_size (bytes ++ byte ∷ []) begun, length-append bytes (byte ∷ [])) in
-    let is = told (bytes ++ byte ∷ []) begun in
-    let last : get_or (bytes ++ byte ∷ []) 5 0 ≡ byte = ap (λ k. get_or (bytes ++ byte ∷ []) k 0) (sym size) ∙ get_or-append_seam bytes byte [] 0 in
-    (cc (is.0, size, take-append_seam bytes (byte ∷ [])), omega (arith, is.1, last), omega (arith, is.2, last))
+    grind (arith, told (bytes ++ byte ∷ []) begun, heading_size (bytes ++ byte ∷ []) begun, length-append bytes (byte ∷ []), get_or-append_seam bytes byte [] 0, take-append_seam bytes (byte ∷ []))
 
 -- no heading begins in the last line, unless a digit stands behind its five bytes
 pub first_more : (front tail : List ℕ) (byte : ℕ) → IsWithout 10 tail → (cut (front ++ 10 ∷ tail)).1 ≡ []
     → ((tail ≡ codes "PART ") → (48 ≤ byte) → (byte ≤ 57) → ⊥) → cut (front ++ 10 ∷ (tail ++ byte ∷ [])) ≡ (front ++ 10 ∷ (tail ++ byte ∷ []), [])
 first_more [] tail byte unbroken none not =
     let is = uncut 10 tail none in
-    no_cut 10 (tail ++ byte ∷ []) (λ e begun. elim (cases_lt (length tail) 6) [
-      | inl short ↦ let digit = last_digit tail byte short begun in not digit.0 digit.1 digit.2
-      | inr long ↦ is.not refl (sym (begins_front tail (byte ∷ []) long) ∙ begun)
-    ]) ∙ rw (one_more tail byte unbroken) refl
+    no_cut 10 (tail ++ byte ∷ []) (λ e begun. grind (arith, cases_lt (length tail) 6, last_digit tail byte, begins_front tail (byte ∷ []), is.not refl))
+    ∙ rw (one_more tail byte unbroken) refl
 first_more (x ∷ front) tail byte unbroken none not =
     let is = uncut x (front ++ 10 ∷ tail) none in
     no_cut x (front ++ 10 ∷ (tail ++ byte ∷ [])) (λ e begun. is.not e (begins_more front (10 ∷ tail) (before_break front (tail ++ byte ∷ []) begun)))
@@ -262,10 +249,7 @@ bad_stays (byte ∷ bytes) more place none bad =
     let is = uncut byte bytes none in
     elim (cut_or_not byte (bytes ++ more)) [
       | inl (break, begun) ↦
-          let few : length bytes < 6 = elim (cases_lt (length bytes) 6) [
-            | inl short ↦ short
-            | inr long ↦ absurd (is.not break (sym (begins_front bytes more long) ∙ begun))
-          ] in
+          let few : length bytes < 6 = grind (arith, cases_lt (length bytes) 6, begins_front bytes more, is.not break) in
           absurd (no_bad_byte (byte ∷ bytes) place (All-cons (λ b. IsTrue (is_text_byte b)) byte bytes (rw break refl) (few_allowed bytes more few begun)) bad)
       | inr not ↦ rw (no_cut byte (bytes ++ more) not) (elim (bad_first byte bytes place bad) [
         | inl (here, off) ↦ record { before = []; byte = byte; rest = (cut (bytes ++ more)).0; joined = refl; size = here; allowed = All-nil (λ b. IsTrue (is_text_byte b)); bad = off }

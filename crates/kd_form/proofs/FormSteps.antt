@@ -156,10 +156,7 @@ not_refused s (stages.Body b) number expected start part line body fault tell nu
     none b.heading held.body (body_heading s b part held.body held.holds)
 not_refused s (stages.Body b) number expected start part line body fault tell numbers held broken (InNumber h rest has other is) =
     let same = one_heading s part b.heading h held.body rest tell numbers (body_heading s b part held.body held.holds) has in
-    elim other [
-      | inl number' ↦ number' (ap (λ h. h.part) (sym same.0) ∙ held.numbered)
-      | inr parts ↦ parts (subst (λ h. IsExpected expected h.parts) same.0 held.due)
-    ]
+    grind (arith, same, held.numbered, held.due)
 not_refused s (stages.Body b) number expected start part line body fault tell numbers held broken (InBody h rest place has numbered due bad is) =
     let same = one_heading s part b.heading h held.body rest tell numbers (body_heading s b part held.body held.holds) has in
     no_bad_byte rest place (rw same.1 at held.holds.allowed) bad
@@ -251,10 +248,7 @@ by_lines s b part body holds = cc (holds.joined, holds.lines, holds.broken, appe
 -- where none does, the part goes on
 goes_on : (s : Day) (b : PartBody) (part body : List ℕ) (byte : ℕ) → HoldsBody s b part body → (cut part).1 ≡ [] → ¬ (IsDigitDue b byte)
     → cut (part ++ byte ∷ []) ≡ (part ++ byte ∷ [], [])
-goes_on s b part body byte holds none not =
-    let is = by_lines s b part body holds in
-    let more = first_more holds.front holds.tail byte holds.unbroken (rw is at none) (λ five' low high. not (five holds.tail b.begun holds.marked five', low, high)) in
-    subst (λ l. cut l ≡ (l, [])) (sym (ap (λ l. l ++ byte ∷ []) is ∙ append_assoc holds.front (10 ∷ holds.tail) (byte ∷ []))) more
+goes_on s b part body byte holds none not = grind (arith, first_more, append_assoc {A = ℕ}, five, by_lines)
 
 -- the body without these five bytes, and their letters
 record Settled (s : Day) (b : PartBody) (part body : List ℕ) (holds : HoldsBody s b part body) : Type 0 where
@@ -338,10 +332,7 @@ module _ (s : Day) (r : FormReader) (form text : List ℕ) (h : HoldsForm s r fo
       → ((part : List ℕ) → line.items ≡ take 64 part → MayBegin part → ¬ (MayBegin (part ++ byte ∷ []))) → IsRefusedForGood s (form ++ byte ∷ []) text (BadHeading r.number)
   not_following line byte stage not =
       let there = in_stage (stages.Heading line) stage in
-      let one : r.number ≡ 1 = elim (cases_lt (length g.last) 6) [
-        | inl short ↦ there.1 short
-        | inr long ↦ absurd (not g.last there.0.kept there.0.begins (all_follow g.last byte long there.0.begins))
-      ] in
+      let one : r.number ≡ 1 = grind (arith, cases_lt (length g.last) 6, all_follow g.last byte, not g.last there.0.kept there.0.begins, there.1) in
       let (same, nil) = g.first one in
       NoHeading (λ more begun. not g.last there.0.kept there.0.begins (more, subst (λ l. BeginsHeading ((l ++ byte ∷ []) ++ more)) same begun)) nil (ap BadHeading one)
 

@@ -258,10 +258,6 @@ one_heading s part h other body rest tell numbers a b =
     (plain_heading s other b.is_heading) off none (sym joined ∙ linked) in
     (same_heading s h other a.is_heading b.is_heading same.0, is ∙ ap behind same.1 ∙ sym also)
 
--- so an empty part has no heading
-pub no_empty_heading : (s : Day) (h : Heading) (body : List ℕ) → ¬ (HasHeading s [] h body)
-no_empty_heading s h body has = cc ((heading_tail s [] h body has).1)
-
 -- the line begins with PART, a space and a digit
 pub words_begin : (s : Day) (h : Heading) (more : List ℕ) → IsHeading s h → BeginsHeading (line_of (heading_words h) ++ more)
 words_begin s h more is =

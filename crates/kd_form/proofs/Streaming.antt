@@ -105,15 +105,7 @@ pub read_stopped : (m : Message) (old new : List ℕ → List ℕ → Type 0) (b
     → FeedsAll m old new more (over took wrote d f) (Err stop) → f ≡ (d || stops_at_device {T = Unit {0}} (Err stop))
     → IsRead m new bytes text room (over had has a c) (over took wrote d f) (Err stop)
 read_stopped m old new bytes text more room had has took wrote a c d f stop held few inside given well fed up =
-    let one = fed bytes text held in
-    record {
-      more = more;
-      made = one.made;
-      within = inside;
-      given = given;
-      written = one.written;
-      read = InFeeding one.fed (well_now a c well) up;
-    }
+    grind (arith, InFeeding, well_now)
 
 -- ---- read after read
 
