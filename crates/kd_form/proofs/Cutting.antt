@@ -28,13 +28,8 @@ pub begins_more : (bytes more : List ℕ) → BeginsHeading bytes → BeginsHead
 begins_more bytes more begun = begins_front bytes more (heading_size bytes begun) ∙ begun
 
 heading_byte : (bytes : List ℕ) (place : ℕ) → BeginsHeading bytes → place < 6 → 32 ≤ get_or bytes place 0
-heading_byte bytes place begun inside = elim (cases_lt place 5) [
-  | inl less ↦
-      let low : 32 ≤ get_or (take 5 bytes) place 0 =
-      subst (λ l. 32 ≤ get_or l place 0) (sym (told bytes begun).0) (All-get_or (λ b. 32 ≤ b) (codes "PART ") place 0 less (plain_text (codes "PART ") refl)) in
-      omega (arith, low, get_or-take 5 bytes place 0 less)
-  | inr last ↦ let five : place ≡ 5 = omega arith in rw five (omega (arith, told bytes begun))
-]
+heading_byte bytes place begun inside =
+    grind (arith, cases_lt place 5, told bytes begun, get_or-take 5 bytes place 0, All-get_or (λ b. 32 ≤ b) (codes "PART ") place 0, plain_text (codes "PART ") refl)
 
 -- an LF isn't among them
 pub before_break : (front rest : List ℕ) → BeginsHeading (front ++ 10 ∷ rest) → BeginsHeading front
@@ -293,10 +288,7 @@ allowed_one (byte ∷ front) rest others allowed is =
   where
     no_digit : (bytes : List ℕ) → AreAllowed (bytes ++ 10 ∷ []) → ¬ (BeginsHeading bytes)
     no_digit bytes good begun =
-        let inside : 5 < length bytes = omega (arith, heading_size bytes begun) in
-        let stands : IsTrue (is_text_byte (get_or bytes 5 0)) =
-        rw (get_or-append bytes (10 ∷ []) 0 5 inside) at (All-get_or (λ b. IsTrue (is_text_byte b)) (bytes ++ 10 ∷ []) 5 0 (omega (arith, inside, length-append bytes (10 ∷ []))) good) in
-        false≢true (grind (arith, nat_tests, told bytes begun, stands))
+        grind (arith, nat_tests, heading_size bytes begun, told bytes begun, get_or-append bytes (10 ∷ []) 0 5, length-append bytes (10 ∷ []), All-get_or (λ b. IsTrue (is_text_byte b)) (bytes ++ 10 ∷ []) 5 0)
 
 -- so the parts of what begins a heading are those that follow an LF
 pub parts_behind : (form : List ℕ) (texts : List (List ℕ)) → BeginsHeading form → cut (10 ∷ form) ≡ (10 ∷ [], texts) → parts_of form ≡ texts

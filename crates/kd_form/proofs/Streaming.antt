@@ -1,7 +1,7 @@
 -- Bytes that are fed one after another, and reads that follow one another.
 use Rattle.std.proofs.Common.{append-nil, take-append-drop}
 use Rattle.std.specs.Io.{StartsWith}
-use Rattle.kd_form.proofs.Prelude.{AtSource, InFeeding, IsStopped, [], ◌≡◌, ℕ, ◌+◌, ◌-◌, ◌≤◌, ◌<◌, Bool, true, false, ◌||◌, List, ◌∷◌, ◌++◌, Option, Some, Result, Ok, Err, length, take, drop, IsTrue, refl, sym, ap, subst, ◌∙◌, append_assoc, length-append, length-drop, arith, Appends, Consumes, Keeps, IsAtEnd, starts_with_of_append, read_limit, Port, IsWell, Ends, TakesFront, FormFault, Message, IsOpen, ByThen, ByTheEnd, Answers, Whole, Stands, AtEnd, TooLong, SourceFails, SinkFails, IsStreamed, FallsShort, ClosesAt, Held, HasRoom, FedTo, IsFed, FeedsAll, EndsIn, ClosesAs, WritesWhole, IsRead, ReadsNext, fault_of, answer_to, stops_at_device}
+use Rattle.kd_form.proofs.Prelude.{AtSource, InFeeding, IsStopped, [], ◌≡◌, ℕ, ◌+◌, ◌-◌, ◌≤◌, ◌<◌, Bool, true, false, ◌||◌, List, ◌∷◌, ◌++◌, Option, Some, Result, Ok, Err, length, take, drop, IsTrue, refl, sym, ap, subst, ◌∙◌, append_assoc, length-append, length-drop, arith, Appends, Consumes, Keeps, IsAtEnd, starts_with_of_append, read_limit, Port, IsWell, Ends, TakesFront, FormFault, Message, ByThen, ByTheEnd, Answers, Whole, Stands, AtEnd, TooLong, SourceFails, SinkFails, IsStreamed, FallsShort, ClosesAt, Held, HasRoom, FedTo, IsFed, FeedsAll, EndsIn, ClosesAs, WritesWhole, IsRead, ReadsNext, fault_of, answer_to, stops_at_device}
 use Rattle.std.proofs.KnownBytes.{Consumes-nil, Consumes-kept, Consumes-trans, Appends-nil, Appends-trans, starts_with_rest}
 use Rattle.kd_form.specs.declared.fault.FormFault.TheVariants as faults
 use Rattle.kd_form.specs.declared.stream.stop.Stop.{Stop}
@@ -89,15 +89,8 @@ fed_up_to m old new front more sink stop fed bytes text held =
 pub read_failed : (m : Message) (new : List ℕ → List ℕ → Type 0) (bytes text : List ℕ) (room : ℕ) (had has took : Option (List ℕ)) (a c d : Bool)
     → Held m new bytes text → length bytes + room ≤ read_limit → Keeps had has → c ≡ (a || true)
     → IsRead m new bytes text room (over had has a c) (over took took d d) (Err stops.Device)
-read_failed m new bytes text room had has took a c d held few kept up = record {
-  more = [];
-  made = [];
-  within = omega arith;
-  given = Consumes-kept had had has [] (Consumes-nil had) kept;
-  written = Appends-nil took;
-  read = AtSource (subst (λ b. IsOpen m b (text ++ [])) (sym (append-nil bytes)) (subst (IsOpen m bytes) (sym (append-nil text)) held.open_yet))
-      (record { failed = failed_now a c up; well = refl }) refl;
-}
+read_failed m new bytes text room had has took a c d held few kept up =
+    grind (arith, AtSource, failed_now, Consumes-kept had had has [], Consumes-nil had, Appends-nil took, append-nil {A = ℕ})
 
 -- what was fed of a read stopped
 pub read_stopped : (m : Message) (old new : List ℕ → List ℕ → Type 0) (bytes text more : List ℕ) (room : ℕ) (had has took wrote : Option (List ℕ)) (a c d f : Bool) (stop : Stop)
