@@ -1,6 +1,5 @@
 -- The reader of a form, byte by byte, and at the end.
-use Rattle.std.proofs.lemmas.Grind.{common_steps}
-use Rattle.kd_form.proofs.Prelude.{[], ◌≡◌, ◌≢◌, ◌⊎◌, inl, inr, ℕ, ◌+◌, ◌-◌, ◌≤◌, List, ◌∷◌, ◌++◌, length, take, refl, sym, ap, subst, ◌∙◌, append_assoc, length-append, Result, Ok, Err, MatchResult, arith, codes, All, IsTrue, Option, Some, None, IsFalse, MatchOption, option_to_list, take-append_seam, cases_lt, cases_eq, append-nil, take_all, take-take, take-append-le, length-take, length-take-le, filter_map-append, All-nil, All-push, ArrayVec, is_text_byte, Day, line_of, IsWithout, IsFirstPart, TextsTellFirstParts, NumbersAreWords, FormFault, Heading, IsEnded, heading_words, letter_of_byte, letters_from, IsHeading, BeginsHeading, IsFirstOf, IsBodyText, IsBodyFault, HasHeading, IsExpected, IsEarlyFault, InHeading, InNumber, InBody, IsPartRead, IsPartFault, IsNextLine, Broken, Longer, Begins, HoldsBody, IsBodyGiven, MayBegin, HoldsPart, HoldsStage, HoldsForm, IsHeadingDue, IsHeadingOff, Missing, Other, IsLastText, BadByte, BadHeading, PartOrder, given_letters, count_due, Turn, IsRefusedForGood, NoHeading, InWhole, InLast, form_message, IsRefusedAtEnd, InPart, IsRefused, Closes, Held}
+use Rattle.kd_form.proofs.Prelude.{[], ◌≡◌, ◌≢◌, ◌⊎◌, inl, inr, ℕ, ◌+◌, ◌-◌, ◌≤◌, List, ◌∷◌, ◌++◌, length, take, refl, sym, ap, subst, ◌∙◌, append_assoc, length-append, Result, Ok, Err, MatchResult, arith, codes, All, IsTrue, Option, Some, None, IsFalse, MatchOption, option_to_list, take-append_seam, cases_lt, cases_eq, append-nil, take_all, take-take, take-append-le, length-take, length-take-le, filter_map-append, All-nil, All-push, ArrayVec, is_text_byte, Day, line_of, IsWithout, IsFirstPart, TextsTellFirstParts, NumbersAreWords, FormFault, Heading, IsEnded, heading_words, letter_of_byte, letters_from, IsHeading, BeginsHeading, IsBodyText, IsBodyFault, HasHeading, IsExpected, IsEarlyFault, InHeading, InNumber, InBody, IsPartFault, IsNextLine, Broken, Longer, Begins, HoldsBody, IsBodyGiven, MayBegin, HoldsPart, HoldsStage, HoldsForm, IsHeadingDue, IsHeadingOff, Missing, Other, IsLastText, BadByte, BadHeading, PartOrder, given_letters, IsRefusedForGood, NoHeading, form_message, IsRefusedAtEnd, IsRefused, Closes, Held, OfRest, ReadsTo, IsReadTo, StandsAt, EndsAt, IsComplete, IsLast, AtPart, cut, parts_of, HoldsAt, HoldsLast, Place, at_first, place_behind}
 use Rattle.kd_form.specs.declared.part_body.PartBody.{PartBody}
 use Rattle.kd_form.proofs.Headings.{at_most, plain_heading, has_byte, ended_heading, one_heading, begins_there}
 use Rattle.kd_form.proofs.TextLetters.{letters_first}
@@ -8,12 +7,11 @@ use Rattle.kd_form.specs.declared.form_reader.FormReader.{FormReader}
 use Rattle.kd_form.specs.declared.form_reader.Stage.{Stage}
 use Rattle.kd_form.specs.declared.form_reader.Stage.TheVariants as stages
 use Rattle.kd_form.proofs.Plain.{All-front, without, head_unbroken}
-use Rattle.kd_form.proofs.Growing.{all_follow, first_unbroken, first_more, first_ends, turn_with, last_rest, last_whole, rest_within}
+use Rattle.kd_form.proofs.Cutting.{all_follow, as_parts, begins, begins_more, first_ends, first_more, first_there, may_begin, one_more, single}
 use Rattle.kd_form.proofs.Lines.{IsUpToBreak, up_to_break}
 use Rattle.kd_form.proofs.OneOrder.{no_bad_byte}
-use Rattle.kd_form.proofs.OneText.{nothing_stands}
-use Rattle.kd_form.proofs.Received.{given_more, due_more, next_turn, first_turn, too_few_parts, all_received}
-use Rattle.kd_form.proofs.Standing.{stays_refused}
+use Rattle.kd_form.proofs.OneText.{NeverPasses, read_or_refused, reads_as, reads_meet, stands_at}
+use Rattle.kd_form.proofs.Standing.{reached, stays_refused}
 
 -- -------- the body of a part, byte by byte
 
@@ -145,9 +143,9 @@ off s number expected start part found fault told (Other h there wrong is) = InN
 
 -- ---- nothing is refused
 
-may_begin : (s : Day) (stage : Stage) (number : ℕ) (expected : Option ℕ) (part : List ℕ) → NumbersAreWords → HoldsStage s stage number expected part → MayBegin part
-may_begin s (stages.Heading line) number expected part numbers held = held.0.begins
-may_begin s (stages.Body b) number expected part numbers held =
+may_begin_there : (s : Day) (stage : Stage) (number : ℕ) (expected : Option ℕ) (part : List ℕ) → NumbersAreWords → HoldsStage s stage number expected part → MayBegin part
+may_begin_there s (stages.Heading line) number expected part numbers held = held.0.begins
+may_begin_there s (stages.Body b) number expected part numbers held =
     ([], subst BeginsHeading (sym (append-nil part)) (begins_there s part b.heading held.body numbers (body_heading s b part held.body held.holds)))
 
 not_refused : (s : Day) (stage : Stage) (number : ℕ) (expected : Option ℕ) (start : ℕ) (part line body : List ℕ) (fault : FormFault) → TextsTellFirstParts → NumbersAreWords
@@ -158,29 +156,57 @@ not_refused s (stages.Body b) number expected start part line body fault tell nu
     none b.heading held.body (body_heading s b part held.body held.holds)
 not_refused s (stages.Body b) number expected start part line body fault tell numbers held broken (InNumber h rest has other is) =
     let same = one_heading s part b.heading h held.body rest tell numbers (body_heading s b part held.body held.holds) has in
-    elim other [
-      | inl number' ↦ number' (ap (λ h. h.part) (sym same.0) ∙ held.numbered)
-      | inr parts ↦ parts (subst (λ h. IsExpected expected h.parts) same.0 held.due)
-    ]
+    grind (arith, same, held.numbered, held.due)
 not_refused s (stages.Body b) number expected start part line body fault tell numbers held broken (InBody h rest place has numbered due bad is) =
     let same = one_heading s part b.heading h held.body rest tell numbers (body_heading s b part held.body held.holds) has in
     no_bad_byte rest place (rw same.1 at held.holds.allowed) bad
 
--- the last part is what the parts before it leave
-at_rest : (s : Day) (r : FormReader) (form text : List ℕ) (h : HoldsForm s r form text) → HoldsStage s r.stage r.number r.expected h.so_far.turn.rest
-at_rest s r form text h = grind (arith, last_rest s form h.so_far.turn h.so_far.last)
+module _ (s : Day) (r : FormReader) where
+  only_last : (p : Place) (first : List ℕ) (others : List (List ℕ)) → HoldsLast s r p (first ∷ others) → (others ≡ []) × HoldsAt s r p first
+  only_last p first [] held = (refl, held)
+  only_last p first (next ∷ others) held = absurd held
 
-pub held : (s : Day) (r : FormReader) (form text : List ℕ) → TextsTellFirstParts → NumbersAreWords → HoldsForm s r form text
-    → Held (form_message s) (HoldsForm s r) form text
-held s r form text tell numbers h =
-    let t : Turn s form = h.so_far.turn in record {
+  is_last : (p : Place) (parts : List (List ℕ)) → HoldsLast s r p parts → IsLast p parts
+  is_last p [] held = absurd held
+  is_last p (first ∷ others) held = let none = (only_last p first others held).0 in (first, rw none refl)
+
+  held_to_the_end : (fault : FormFault) → NeverPasses s (HoldsLast s r) (StandsAt s fault)
+  held_to_the_end fault p part [] count one more held is due rest = rest.0
+  held_to_the_end fault p part (next ∷ others) count one more held is due rest = held
+
+  module _ (tell : TextsTellFirstParts) (numbers : NumbersAreWords) where
+    refused_is_unread : (fault : FormFault) → NeverPasses s (StandsAt s fault) (HoldsLast s r)
+    refused_is_unread fault p part parts count one more stands is due rest =
+        read_or_refused s tell numbers (stands_at s fault p (part ∷ parts) stands).1 is due
+
+    -- what is held is neither refused, nor passed by what is
+    never_refused : (fault : FormFault) (p : Place) (parts : List (List ℕ)) → HoldsLast s r p parts → ¬ (StandsAt s fault p parts)
+    never_refused fault p [] held stands = held
+    never_refused fault p (part ∷ next ∷ others) held stands = held
+    never_refused fault p (part ∷ []) held ((line, body, broken), early) =
+        not_refused s r.stage r.number r.expected p.start part line body fault tell numbers held.stage broken (rw (held.numbered, held.due) early)
+
+    no_heading : (form text : List ℕ) → HoldsForm s r form text → ¬ ((more : List ℕ) → ¬ (BeginsHeading (form ++ more)))
+    no_heading form text (letters, inl (held, nil), is) none =
+        let last = only_last at_first (cut form).0 (cut form).1 held in
+        let (more, begun) = may_begin_there s r.stage r.number r.expected (cut form).0 numbers last.1.stage in
+        none more (subst (λ l. BeginsHeading (l ++ more)) (single form last.0) begun)
+    no_heading form text (letters, inr (count, one, more, read, due, rest, joined), is) none =
+        let (behind, whole) = first_there form in
+        none [] (subst BeginsHeading (sym whole ∙ sym (append-nil form)) (begins_more (cut form).0 behind (begins_there s (cut form).0 read.heading read.body numbers read.has)))
+
+    unrefused : (form text before : List ℕ) (fault : FormFault) → HoldsForm s r form text → ¬ (IsRefusedForGood s form before fault)
+    unrefused form text before fault held (NoHeading none empty is) = no_heading form text held none
+    unrefused form text before fault (letters, reads, is) (AtPart (others, stands, so)) =
+        (reads_meet s tell numbers (HoldsLast s r) (StandsAt s fault) ⊥ (held_to_the_end fault) (refused_is_unread fault) (never_refused fault)
+        at_first (parts_of form) letters others reads stands).1
+
+    pub held : (form text : List ℕ) → HoldsForm s r form text → Held (form_message s) (HoldsForm s r) form text
+    held form text h = record {
       is = h;
       open_yet = record {
-        unrefused = λ fault found.
-            nothing_stands s form t tell numbers h.so_far.last (may_begin s r.stage r.number r.expected t.rest numbers (at_rest s r form text h))
-            (λ other line body broken early. not_refused s r.stage r.number r.expected (length form - length t.rest) t.part line body other tell numbers h.stage broken
-            (rw (h.numbered, h.due) early)) found.0 fault found.1;
-        written = h.so_far;
+        unrefused = λ fault found. unrefused form text found.0 fault h found.1;
+        written = (h.0, reads_as s (HoldsLast s r) IsLast is_last at_first (parts_of form) h.0 h.1, h.2);
       };
     }
 
@@ -195,15 +221,12 @@ refused s form text fault tell numbers found = record {
 -- ---- at the start
 
 pub starts : (s : Day) (r : FormReader) → r.position ≡ 0 → r.number ≡ 1 → r.expected ≡ None → (line : ArrayVec ℕ) → r.stage ≡ stages.Heading line → line.items ≡ [] → HoldsForm s r [] []
-starts s r position number expected line stage none = record {
-  so_far = record { turn = first_turn s; last = refl; is = refl };
-  counted = position;
-  numbered = number;
-  due = expected;
-  stage = subst (λ st. HoldsStage s st r.number r.expected []) (sym stage) (record { kept = none; unbroken = All-nil (λ b. b ≢ 10); begins = (codes "PART 0", record { digit = 48; rest = []; is = refl; low = omega arith; high = omega arith }) }, λ few. number);
-}
-
--- ---- the line of a heading
+starts s r position number expected line stage none =
+    let held : HoldsStage s (stages.Heading line) r.number r.expected [] =
+    (record { kept = none; unbroken = All-nil (λ b. b ≢ 10); begins = may_begin 0 (omega arith) }, λ few. number) in
+    let at : HoldsAt s r at_first [] =
+    record { counted = position; numbered = number; due = expected; stage = subst (λ st. HoldsStage s st r.number r.expected []) (sym stage) held } in
+    ([], inl (at, refl), refl)
 
 -- ---- the body
 
@@ -218,144 +241,178 @@ heading_ended s b part body holds =
 abbrev pub IsDigitDue : PartBody → ℕ → Type 0
 IsDigitDue b byte = (b.begun ≡ Some 5) × (48 ≤ byte) × (byte ≤ 57)
 
+-- its last line
+by_lines : (s : Day) (b : PartBody) (part body : List ℕ) (holds : HoldsBody s b part body) → part ≡ holds.front ++ 10 ∷ holds.tail
+by_lines s b part body holds = cc (holds.joined, holds.lines, holds.broken, append_assoc holds.line holds.settled holds.tail, append_assoc holds.front (10 ∷ []) holds.tail)
+
 -- where none does, the part goes on
-goes_on : (s : Day) (b : PartBody) (part body : List ℕ) (byte : ℕ) → HoldsBody s b part body → IsFirstOf part part [] → ¬ (IsDigitDue b byte)
-    → IsFirstOf (part ++ byte ∷ []) (part ++ byte ∷ []) []
-goes_on s b part body byte holds first not = grind (arith, first_more, append_assoc {A = ℕ}, five)
+goes_on : (s : Day) (b : PartBody) (part body : List ℕ) (byte : ℕ) → HoldsBody s b part body → (cut part).1 ≡ [] → ¬ (IsDigitDue b byte)
+    → cut (part ++ byte ∷ []) ≡ (part ++ byte ∷ [], [])
+goes_on s b part body byte holds none not = grind (arith, first_more, append_assoc {A = ℕ}, five, by_lines)
 
 -- the body without these five bytes, and their letters
 record Settled (s : Day) (b : PartBody) (part body : List ℕ) (holds : HoldsBody s b part body) : Type 0 where
-  whole : List ℕ
-  split : part ≡ whole ++ codes "PART "
-  broken : whole ≡ holds.front ++ 10 ∷ []
-  has : HasHeading s whole b.heading holds.settled
+  has : HasHeading s (holds.front ++ 10 ∷ []) b.heading holds.settled
+  split : part ≡ holds.front ++ 10 ∷ codes "PART "
   letters : letters_from None body ≡ letters_from None holds.settled ++ letters_from None (codes "PART ")
   allowed : All (λ b. IsTrue (is_text_byte b)) holds.settled
 
 settled : (s : Day) (b : PartBody) (part body : List ℕ) (holds : HoldsBody s b part body) → b.begun ≡ Some 5 → Settled s b part body holds
 settled s b part body holds begun =
-    let lines : body ≡ holds.settled ++ codes "PART " = holds.lines ∙ ap (λ l. holds.settled ++ l) (grind arith) in
+    let tail : holds.tail ≡ codes "PART " = grind arith in
+    let lines : body ≡ holds.settled ++ codes "PART " = holds.lines ∙ ap (λ l. holds.settled ++ l) tail in
     record {
-      whole = holds.line ++ holds.settled;
-      split = holds.joined ∙ ap (λ l. holds.line ++ l) lines ∙ sym (append_assoc holds.line holds.settled (codes "PART "));
-      broken = holds.broken;
-      has = record { line = holds.line; joined = refl; ended = inl holds.ended; is_heading = holds.is_heading };
+      has = record { line = holds.line; joined = sym holds.broken; ended = inl holds.ended; is_heading = holds.is_heading };
+      split = by_lines s b part body holds ∙ ap (λ l. holds.front ++ 10 ∷ l) tail;
       letters = ap (letters_from None) lines ∙ filter_map-append (letter_of_byte None) holds.settled (codes "PART ");
       allowed = All-front (λ b. IsTrue (is_text_byte b)) holds.settled (codes "PART ") (rw lines at holds.allowed);
     }
 
 -- ---- a byte more of a form that is held
 
-some_byte : (byte : ℕ) → byte ∷ [] ≢ []
-some_byte byte = λ e. cc
-
 -- the reader behind that byte
 abbrev pub behind : FormReader → Stage → FormReader
 behind r stage = record r { position = r.position + 1; stage = stage }
 
+-- The last part, and where it begins: what is so of it with more bytes is so of the form with them.
+pub record Going (s : Day) (r : FormReader) (form text : List ℕ) : Type 1 where
+  pub last : List ℕ
+  pub start : ℕ
+  pub alone : (cut last).1 ≡ []
+  pub counted : r.position ≡ start + length last
+  pub whole : r.position ≡ length form
+  pub stage : HoldsStage s r.stage r.number r.expected last
+  pub first : r.number ≡ 1 → (form ≡ last) × (text ≡ [])
+  pub goes_on : (B : OfRest) (more made letters : List ℕ) (parts : List (List ℕ)) → parts_of (last ++ more) ≡ parts
+      → ReadsTo s B (record { number = r.number; expected = r.expected; start = start }) parts letters → made ≡ given_letters s letters → IsReadTo s B (form ++ more) (text ++ made)
+
+pub going : (s : Day) (r : FormReader) (form text : List ℕ) → HoldsForm s r form text → Going s r form text
+going s r form text (letters, reads, is) =
+    let g = reached s (HoldsLast s r) (λ p none. none) at_first (parts_of form) form letters refl reads in
+    let (alone, held) = only_last s r g.there (cut g.rest).0 (cut g.rest).1 g.so in
+    let last : (cut g.rest).0 ≡ g.rest = single g.rest alone in
+    let at : HoldsAt s r g.there g.rest = subst (HoldsAt s r g.there) last held in
+    record {
+      last = g.rest;
+      start = g.there.start;
+      alone = alone;
+      counted = at.counted;
+      whole = omega (arith, at.counted, g.counted);
+      stage = at.stage;
+      first = λ one. let (same, nil) = g.first (sym at.numbered ∙ one) in (same, is ∙ ap (given_letters s) nil);
+      goes_on = λ B more made ls ps are reads given.
+          let (whole, further, given) = g.goes_on B more made ls ps are
+          (subst (λ n. ReadsTo s B (record { number = n; expected = g.there.expected; start = g.there.start }) ps ls) at.numbered
+          (subst (λ e. ReadsTo s B (record { number = r.number; expected = e; start = g.there.start }) ps ls) at.due reads)) given in
+          (whole, further, ap (λ t. t ++ made) is ∙ given);
+    }
+
 module _ (s : Day) (r : FormReader) (form text : List ℕ) (h : HoldsForm s r form text) where
-  abbrev pub turn : Turn s form
-  turn = h.so_far.turn
+  abbrev g : Going s r form text
+  g = going s r form text h
 
-  abbrev pub part : List ℕ
-  part = turn.rest
+  -- where the last part begins
+  abbrev here : Place
+  here = record { number = r.number; expected = r.expected; start = g.start }
 
-  pub in_stage : (stage : Stage) → r.stage ≡ stage → HoldsStage s stage r.number r.expected part
-  in_stage stage is = subst (λ st. HoldsStage s st r.number r.expected part) is (at_rest s r form text h)
+  pub in_stage : (stage : Stage) → r.stage ≡ stage → HoldsStage s stage r.number r.expected g.last
+  in_stage stage is = subst (λ st. HoldsStage s st r.number r.expected g.last) is g.stage
 
-  -- what is so of that number, and of so many, is so of the part whose turn it is
-  in_number : (P : ℕ → Option ℕ → Type 0) → P r.number r.expected → P (length turn.before + 1) (count_due turn.before turn.count)
-  in_number P found = rw h.due at (rw h.numbered at found)
+  -- a byte more of the same part, of which this is so
+  grown : (B : OfRest) (made : List ℕ) (byte : ℕ) → made ≡ [] → cut (g.last ++ byte ∷ []) ≡ (g.last ++ byte ∷ [], [])
+      → B here ((g.last ++ byte ∷ []) ∷ []) → IsReadTo s B (form ++ byte ∷ []) (text ++ made)
+  grown B made byte none one is = g.goes_on B (byte ∷ []) made [] ((g.last ++ byte ∷ []) ∷ []) (as_parts (g.last ++ byte ∷ []) _ _ one) (inl (is, refl)) none
 
-  in_turn : (p one : List ℕ) (parts : ℕ) → IsLastText s r.number r.expected p parts one
-      → IsPartRead s (length turn.before + 1) parts p one × IsExpected (count_due turn.before turn.count) parts
-  in_turn p one parts last = grind arith
-
-  -- a byte more of the same part
-  grown : (stage : Stage) (made : List ℕ) (byte : ℕ) → IsFirstOf (part ++ byte ∷ []) (part ++ byte ∷ []) [] → made ≡ []
-      → HoldsStage s stage r.number r.expected (part ++ byte ∷ []) → HoldsForm s (behind r stage) (form ++ byte ∷ []) (text ++ made)
-  grown stage made byte first none holds = record {
-    so_far = record {
-      turn = turn_with s form (byte ∷ []) (part ++ byte ∷ []) [] turn (some_byte byte) first;
-      last = refl;
-      is = rw (none, append-nil text) h.so_far.is;
-    };
-    counted = omega (arith, h.counted, length-append form (byte ∷ []));
-    numbered = h.numbered;
-    due = h.due;
-    stage = holds;
-  }
+  -- with more bytes the part is refused
+  at_part : (fault : FormFault) (more : List ℕ) → IsReadTo s (StandsAt s fault) (form ++ more) (text ++ []) → IsRefusedForGood s (form ++ more) text fault
+  at_part fault more is = AtPart (subst (IsReadTo s (StandsAt s fault) (form ++ more)) (append-nil text) is)
 
   -- no heading begins with that byte
-  pub not_following : (line : ArrayVec ℕ) (byte : ℕ) → r.stage ≡ stages.Heading line → ¬ (MayBegin (part ++ byte ∷ []))
-      → IsRefusedForGood s (form ++ byte ∷ []) text (BadHeading r.number)
-  not_following line byte stage none = grind (arith, in_stage, cases_lt, all_follow, NoHeading, common_steps)
+  pub not_following : (line : ArrayVec ℕ) (byte : ℕ) → r.stage ≡ stages.Heading line
+      → ((part : List ℕ) → line.items ≡ take 64 part → MayBegin part → ¬ (MayBegin (part ++ byte ∷ []))) → IsRefusedForGood s (form ++ byte ∷ []) text (BadHeading r.number)
+  not_following line byte stage not =
+      let there = in_stage (stages.Heading line) stage in
+      let one : r.number ≡ 1 = grind (arith, cases_lt (length g.last) 6, all_follow g.last byte, not g.last there.0.kept there.0.begins, there.1) in
+      let (same, nil) = g.first one in
+      NoHeading (λ more begun. not g.last there.0.kept there.0.begins (more, subst (λ l. BeginsHeading ((l ++ byte ∷ []) ++ more)) same begun)) nil (ap BadHeading one)
 
-  pub longer_line : (line next : ArrayVec ℕ) (made : List ℕ) (byte : ℕ) → r.stage ≡ stages.Heading line → byte ≢ 10 → MayBegin (part ++ byte ∷ [])
-      → next.items ≡ take 64 (line.items ++ byte ∷ []) → made ≡ [] → HoldsForm s (behind r (stages.Heading next)) (form ++ byte ∷ []) (text ++ made)
+  pub longer_line : (line next : ArrayVec ℕ) (made : List ℕ) (byte : ℕ) → r.stage ≡ stages.Heading line → byte ≢ 10
+      → ((part : List ℕ) → line.items ≡ take 64 part → MayBegin part → MayBegin (part ++ byte ∷ [])) → next.items ≡ take 64 (line.items ++ byte ∷ [])
+      → made ≡ [] → HoldsForm s (behind r (stages.Heading next)) (form ++ byte ∷ []) (text ++ made)
   longer_line line next made byte stage other follows kept none =
       let there = in_stage (stages.Heading line) stage in
-      grown (stages.Heading next) made byte (first_unbroken part byte there.0.unbroken) none (
-        record {
-          kept = kept ∙ ap (λ l. take 64 (l ++ byte ∷ [])) there.0.kept ∙ take_kept 64 part (byte ∷ []);
-          unbroken = All-push (λ b. b ≢ 10) part byte there.0.unbroken other;
-          begins = follows;
-        },
-        λ few. there.1 (omega (arith, length-append part (byte ∷ []))),
-      )
+      grown (HoldsLast s (behind r (stages.Heading next))) made byte none (one_more g.last byte there.0.unbroken) (record {
+        counted = omega (arith, g.counted, length-append g.last (byte ∷ []));
+        numbered = refl;
+        due = refl;
+        stage = (
+          record {
+            kept = kept ∙ ap (λ l. take 64 (l ++ byte ∷ [])) there.0.kept ∙ take_kept 64 g.last (byte ∷ []);
+            unbroken = All-push (λ b. b ≢ 10) g.last byte there.0.unbroken other;
+            begins = follows g.last there.0.kept there.0.begins;
+          },
+          λ few. there.1 (omega (arith, length-append g.last (byte ∷ []))),
+        );
+      })
 
   -- the heading is the one that is due: its body begins
-  pub heading_read : (line : ArrayVec ℕ) (made : List ℕ) (found : Option Heading) (heading : Heading) (b : PartBody) → r.stage ≡ stages.Heading line → IsEndedBy s part found
-      → IsHeadingDue r.number r.expected found heading → b.heading ≡ heading → b.letters.items ≡ [] → b.begun ≡ Some 0 → made ≡ []
-      → HoldsForm s (behind r (stages.Body b)) (form ++ 10 ∷ []) (text ++ made)
+  pub heading_read : (line : ArrayVec ℕ) (made : List ℕ) (found : Option Heading) (heading : Heading) (b : PartBody) → r.stage ≡ stages.Heading line
+      → ((part : List ℕ) → IsWithout 10 part → line.items ≡ take 64 part → IsEndedBy s part found) → IsHeadingDue r.number r.expected found heading
+      → b.heading ≡ heading → b.letters.items ≡ [] → b.begun ≡ Some 0 → made ≡ [] → HoldsForm s (behind r (stages.Body b)) (form ++ 10 ∷ []) (text ++ made)
   heading_read line made found heading b stage told due heads letters begun none =
       let there = in_stage (stages.Heading line) stage in
-      let ended : IsHeading s heading × IsEnded (line_of (heading_words heading)) (part ++ 10 ∷ []) = rw due.is at told in
-      grown (stages.Body b) made 10 (first_unbroken part 10 there.0.unbroken) none (record {
-        body = [];
-        holds = record {
-          line = part ++ 10 ∷ [];
-          settled = [];
-          tail = [];
-          front = part;
-          joined = sym (append-nil (part ++ 10 ∷ []));
-          ended = subst (λ x. IsEnded (line_of (heading_words x)) (part ++ 10 ∷ [])) (sym heads) ended.1;
-          is_heading = rw heads ended.0;
-          lines = refl;
-          broken = append-nil (part ++ 10 ∷ []);
-          unbroken = All-nil (λ b. b ≢ 10);
-          marked = rw begun (omega arith, refl);
-          allowed = All-nil (λ b. IsTrue (is_text_byte b));
-          kept = letters;
+      let ended : IsHeading s heading × IsEnded (line_of (heading_words heading)) (g.last ++ 10 ∷ []) = rw due.is at (told g.last there.0.unbroken there.0.kept) in
+      grown (HoldsLast s (behind r (stages.Body b))) made 10 none (one_more g.last 10 there.0.unbroken) (record {
+        counted = omega (arith, g.counted, length-append g.last (10 ∷ []));
+        numbered = refl;
+        due = refl;
+        stage = record {
+          body = [];
+          holds = record {
+            line = g.last ++ 10 ∷ [];
+            settled = [];
+            tail = [];
+            front = g.last;
+            joined = sym (append-nil (g.last ++ 10 ∷ []));
+            ended = subst (λ x. IsEnded (line_of (heading_words x)) (g.last ++ 10 ∷ [])) (sym heads) ended.1;
+            is_heading = rw heads ended.0;
+            lines = refl;
+            broken = append-nil (g.last ++ 10 ∷ []);
+            unbroken = All-nil (λ b. b ≢ 10);
+            marked = rw begun (omega arith, refl);
+            allowed = All-nil (λ b. IsTrue (is_text_byte b));
+            kept = letters;
+          };
+          numbered = rw heads due.numbered;
+          due = rw heads due.due;
         };
-        numbered = rw heads due.numbered;
-        due = rw heads due.due;
       })
 
   -- or it isn't
-  pub heading_refused : (line : ArrayVec ℕ) (found : Option Heading) (fault : FormFault) → r.stage ≡ stages.Heading line → IsEndedBy s part found
-      → IsHeadingOff r.number r.expected found fault → IsRefusedForGood s (form ++ 10 ∷ []) text fault
+  pub heading_refused : (line : ArrayVec ℕ) (found : Option Heading) (fault : FormFault) → r.stage ≡ stages.Heading line
+      → ((part : List ℕ) → IsWithout 10 part → line.items ≡ take 64 part → IsEndedBy s part found) → IsHeadingOff r.number r.expected found fault
+      → IsRefusedForGood s (form ++ 10 ∷ []) text fault
   heading_refused line found fault stage told wrong =
       let there = in_stage (stages.Heading line) stage in
-      let u : Turn s (form ++ 10 ∷ []) = turn_with s form (10 ∷ []) (part ++ 10 ∷ []) [] turn (some_byte 10) (first_unbroken part 10 there.0.unbroken) in
-      InLast u part [] refl (record { joined = refl; without = there.0.unbroken })
-      (let start : ℕ = length (form ++ 10 ∷ []) - length (part ++ 10 ∷ []) in in_number (λ n e. IsEarlyFault s n e start (part ++ 10 ∷ []) fault)
-      (off s r.number r.expected start (part ++ 10 ∷ []) found fault (grind (arith, ended_heading)) wrong)) h.so_far.is
-
-  -- the last part is one part, as far as it has come
-  one_part : IsFirstOf part part []
-  one_part = last_whole s form turn h.so_far.last
+      let ended = told g.last there.0.unbroken there.0.kept in
+      at_part fault (10 ∷ []) (grown (StandsAt s fault) [] 10 refl (one_more g.last 10 there.0.unbroken)
+      ((g.last, [], record { joined = refl; without = there.0.unbroken }), off s r.number r.expected g.start (g.last ++ 10 ∷ []) found fault (grind (arith, ended_heading)) wrong))
 
   pub longer_body : (b next : PartBody) (made : List ℕ) (byte : ℕ) → r.stage ≡ stages.Body b → ¬ (IsDigitDue b byte)
       → ((day : Day) (part body : List ℕ) → HoldsBody day b part body → HoldsBody day next (part ++ byte ∷ []) (body ++ byte ∷ []))
       → next.heading ≡ b.heading → made ≡ [] → HoldsForm s (behind r (stages.Body next)) (form ++ byte ∷ []) (text ++ made)
   longer_body b next made byte stage not pushed same none =
       let there = in_stage (stages.Body b) stage in
-      grown (stages.Body next) made byte (goes_on s b part there.body byte there.holds one_part not) none (record {
-        body = there.body ++ byte ∷ [];
-        holds = pushed s part there.body there.holds;
-        numbered = rw same there.numbered;
-        due = rw same there.due;
+      grown (HoldsLast s (behind r (stages.Body next))) made byte none (goes_on s b g.last there.body byte there.holds g.alone not) (record {
+        counted = omega (arith, g.counted, length-append g.last (byte ∷ []));
+        numbered = refl;
+        due = refl;
+        stage = record {
+          body = there.body ++ byte ∷ [];
+          holds = pushed s g.last there.body there.holds;
+          numbered = rw same there.numbered;
+          due = rw same there.due;
+        };
       })
 
   pub bad_byte : (b : PartBody) (byte : ℕ) → r.stage ≡ stages.Body b → ¬ (IsDigitDue b byte) → IsFalse (is_text_byte byte)
@@ -363,85 +420,93 @@ module _ (s : Day) (r : FormReader) (form text : List ℕ) (h : HoldsForm s r fo
   bad_byte b byte stage not bad =
       let there = in_stage (stages.Body b) stage in
       let body : List ℕ = there.body ++ byte ∷ [] in
-      let ended = heading_ended s b part there.body there.holds in
-      let u : Turn s (form ++ byte ∷ []) =
-      turn_with s form (byte ∷ []) (part ++ byte ∷ []) [] turn (some_byte byte) (goes_on s b part there.body byte there.holds one_part not) in
-      let place : r.position + 1 ≡ (length (form ++ byte ∷ []) - length (part ++ byte ∷ [])) + (length (part ++ byte ∷ []) - length body) + length there.body + 1 =
-      omega (arith, h.counted, rest_within turn.before form part turn.read.cut, length-append {A = ℕ}, ap length there.holds.joined) in
-      InLast u ended.0 body refl (grind (arith, append_assoc {A = ℕ})) (InBody b.heading body (length there.body) (grind (arith, append_assoc {A = ℕ})) (there.numbered ∙ h.numbered) (rw h.due at there.due)
-      (record { before = there.body; byte = byte; rest = []; joined = refl; size = refl; allowed = there.holds.allowed; bad = bad }) (ap BadByte place)) h.so_far.is
+      let ended = heading_ended s b g.last there.body there.holds in
+      let place : r.position + 1 ≡ g.start + (length (g.last ++ byte ∷ []) - length body) + length there.body + 1 =
+      omega (arith, g.counted, length-append {A = ℕ}, ap length there.holds.joined) in
+      at_part (BadByte (r.position + 1)) (byte ∷ []) (grown (StandsAt s (BadByte (r.position + 1))) [] byte refl (goes_on s b g.last there.body byte there.holds g.alone not) (
+        (ended.0, body, grind (arith, append_assoc {A = ℕ})),
+        InBody b.heading body (length there.body) (grind (arith, append_assoc {A = ℕ})) there.numbered there.due
+            (record { before = there.body; byte = byte; rest = []; joined = refl; size = refl; allowed = there.holds.allowed; bad = bad }) (ap BadByte place),
+      ))
 
   -- ---- the part ends, as a digit stands behind the five bytes of a heading
 
+  -- what is said of the letters that are kept, however many more follow
+  abbrev pub IsSaid : PartBody → (List ℕ → Type 0) → Type 0
+  IsSaid b P = (letters more : List ℕ) → length more ≡ 4 → b.letters.items ≡ take 525 (letters ++ more) → P letters
+
   module _ (b : PartBody) (byte : ℕ) (stage : r.stage ≡ stages.Body b) (digit : IsDigitDue b byte) where
-    abbrev pub there : HoldsPart s b r.number r.expected part
+    abbrev there : HoldsPart s b r.number r.expected g.last
     there = in_stage (stages.Body b) stage
 
-    ended : Settled s b part there.body there.holds
-    ended = settled s b part there.body there.holds digit.0
+    abbrev ended : Settled s b g.last there.body there.holds
+    ended = settled s b g.last there.body there.holds digit.0
+
+    abbrev whole : List ℕ
+    whole = there.holds.front ++ 10 ∷ []
 
     pub four_letters : 4 ≤ length b.letters.items
-    four_letters =
-        omega (arith, ap length there.holds.kept, length-take {A = ℕ}, ap length ended.letters, length-append {A = ℕ})
+    four_letters = omega (arith, ap length there.holds.kept, length-take {A = ℕ}, ap length ended.letters, length-append {A = ℕ})
 
-    abbrev ended_turn : Turn s (form ++ byte ∷ [])
-    ended_turn =
-        turn_with s form (byte ∷ []) ended.whole (codes "PART " ++ byte ∷ []) turn (some_byte byte)
-        (first_ends part ended.whole there.holds.front byte one_part ended.split ended.broken digit.1 digit.2)
+    cut_off : cut (g.last ++ byte ∷ []) ≡ (whole, (codes "PART " ++ byte ∷ []) ∷ [])
+    cut_off =
+        ap (λ l. cut (l ++ byte ∷ [])) ended.split ∙ ap cut (append_assoc there.holds.front (10 ∷ codes "PART ") (byte ∷ []))
+        ∙ first_ends there.holds.front byte (rw ended.split at g.alone) digit.1 digit.2
 
-    -- what is said of the letters that are kept, however many more follow
-    abbrev pub IsSaid : (List ℕ → Type 0) → Type 0
-    IsSaid P = (letters more : List ℕ) → length more ≡ 4 → b.letters.items ≡ take 525 (letters ++ more) → P letters
-
-    said : (P : List ℕ → Type 0) → IsSaid P → P (letters_from None there.holds.settled)
-    said P told = told (letters_from None there.holds.settled) (letters_from None (codes "PART ")) refl (there.holds.kept ∙ ap (take 525) ended.letters)
-
-    pub part_refused : (fault : FormFault) → IsSaid (λ letters. IsBodyFault s b.heading.part b.heading letters fault) → IsRefusedForGood s (form ++ byte ∷ []) text fault
+    pub part_refused : (fault : FormFault) → IsSaid b (λ letters. IsBodyFault s b.heading.part b.heading letters fault) → IsRefusedForGood s (form ++ byte ∷ []) text fault
     part_refused fault told =
-        let start : ℕ = length (form ++ byte ∷ []) - length (part ++ byte ∷ []) in
-        let found = last_told {X = List ℕ} (λ one. b.heading.parts) (λ one. one) s r.number r.expected ended.whole there.holds.settled b.heading (Err fault) ended.has
-        there.numbered there.due ended.allowed (said (λ letters. IsBodyFault s b.heading.part b.heading letters fault) told) in
-        InWhole ended_turn (λ e. cc) (in_number (λ n e. IsPartFault s n e start ended.whole fault) (found start)) h.so_far.is
+        let found = last_told {X = List ℕ} (λ one. b.heading.parts) (λ one. one) s r.number r.expected whole there.holds.settled b.heading (Err fault) ended.has
+        there.numbered there.due ended.allowed (told (letters_from None there.holds.settled) (letters_from None (codes "PART ")) refl (there.holds.kept ∙ ap (take 525) ended.letters)) in
+        at_part fault (byte ∷ []) (g.goes_on (StandsAt s fault) (byte ∷ []) [] [] (whole ∷ (codes "PART " ++ byte ∷ []) ∷ []) (as_parts (g.last ++ byte ∷ []) _ _ cut_off) (inl (found g.start, refl)) refl)
 
-    pub part_read : (made : List ℕ) (line : ArrayVec ℕ) → IsSaid (λ letters. IsBodyGiven s b.heading letters made) → line.items ≡ codes "PART " ++ byte ∷ []
-        → HoldsForm s (record { position = r.position + 1; number = r.number + 1; expected = Some b.heading.parts; stage = stages.Heading line })
-        (form ++ byte ∷ []) (text ++ made)
-    part_read made line told begins =
-        let head : List ℕ = codes "PART " ++ byte ∷ [] in
-        let found = said (λ letters. IsBodyGiven s b.heading letters made) told in
-        let read = in_turn ended.whole found.0 b.heading.parts (last_told (λ one. b.heading.parts) (λ one. one) s r.number r.expected ended.whole there.holds.settled b.heading (Ok found.0) ended.has
-        there.numbered there.due ended.allowed (refl, found.1)) in
-        let v : Turn s (form ++ byte ∷ []) = next_turn s (form ++ byte ∷ []) ended_turn b.heading.parts found.0
-        (record { read = read.0; due = read.1 }) (λ e. cc) (first_unbroken (codes "PART ") byte head_unbroken) in
-        record {
-          so_far = record { turn = v; last = refl; is = rw (given_more s turn.letters found.0, ← h.so_far.is, ← found.2) refl };
-          counted = omega (arith, h.counted, length-append form (byte ∷ []));
-          numbered = omega (arith, h.numbered, length-append turn.before (ended.whole ∷ []));
-          due = sym (due_more turn.before ended.whole b.heading.parts);
-          stage = grind (arith, All-push, head_unbroken);
-        }
+    pub part_read : (made : List ℕ) (line : ArrayVec ℕ) → IsSaid b (λ letters. IsBodyGiven s b.heading letters made) → line.items ≡ codes "PART " ++ byte ∷ []
+        → HoldsForm s (record { position = r.position + 1; number = r.number + 1; expected = Some b.heading.parts; stage = stages.Heading line }) (form ++ byte ∷ []) (text ++ made)
+    part_read made line told is_head =
+        let next : FormReader = record { position = r.position + 1; number = r.number + 1; expected = Some b.heading.parts; stage = stages.Heading line } in
+        let found = told (letters_from None there.holds.settled) (letters_from None (codes "PART ")) refl (there.holds.kept ∙ ap (take 525) ended.letters) in
+        let is = last_told (λ one. b.heading.parts) (λ one. one) s r.number r.expected whole there.holds.settled b.heading (Ok found.0) ended.has
+        there.numbered there.due ended.allowed (refl, found.1) in
+        let head : HoldsAt s next (place_behind here b.heading.parts whole) (codes "PART " ++ byte ∷ []) = record {
+          counted = omega (arith, g.counted, ap length ended.split, length-append {A = ℕ});
+          numbered = refl;
+          due = refl;
+          stage = (
+            record { kept = is_head; unbroken = All-push (λ b. b ≢ 10) (codes "PART ") byte head_unbroken (omega (arith, digit.1)); begins = ([], begins byte [] digit.1 digit.2) },
+            λ few. absurd (omega (arith, few)),
+          );
+        } in
+        g.goes_on (HoldsLast s next) (byte ∷ []) made found.0 (whole ∷ (codes "PART " ++ byte ∷ []) ∷ []) (as_parts (g.last ++ byte ∷ []) _ _ cut_off)
+        (inr (b.heading.parts, found.0, [], is.read, is.due, inl (head, refl), sym (append-nil found.0))) found.2
 
   -- ---- the end
 
-  pub closes : (made one : List ℕ) (parts : ℕ) → IsLastText s r.number r.expected turn.part parts one → parts ≡ r.number → made ≡ given_letters s one ++ 10 ∷ []
-      → Closes (form_message s) form (text ++ made) (Ok tt)
+  ends_so : (B : OfRest) (letters made : List ℕ) → ReadsTo s B here (g.last ∷ []) letters
+      → made ≡ given_letters s letters → IsReadTo s B form (text ++ made)
+  ends_so B letters made reads given = subst (λ f. IsReadTo s B f (text ++ made)) (append-nil form)
+      (g.goes_on B [] made letters (g.last ∷ []) (cc (single g.last g.alone, g.alone, append-nil g.last)) reads given)
+
+  -- the last part is read, and then this is so
+  ends_read : (B : OfRest) (one made : List ℕ) (parts : ℕ) → IsLastText s r.number r.expected g.last parts one
+      → B (place_behind here parts g.last) [] → made ≡ given_letters s one → IsReadTo s B form (text ++ made)
+  ends_read B one made parts is so given = ends_so B one made (inr (parts, one, [], is.read, is.due, (so, refl), sym (append-nil one))) given
+
+  pub closes : (made one : List ℕ) (parts : ℕ) → ((part : List ℕ) → HoldsStage s r.stage r.number r.expected part → IsLastText s r.number r.expected part parts one)
+      → parts ≡ r.number → made ≡ given_letters s one ++ 10 ∷ [] → Closes (form_message s) form (text ++ made) (Ok tt)
   closes made one parts last same given =
-      let read = in_turn turn.part one parts last in
-      all_received s form text made turn parts one (record { read = read.0; due = read.1 }) h.so_far.last (same ∙ h.numbered) h.so_far.is given
+      let (letters, read, is) = ends_read IsComplete one (given_letters s one) parts (last g.last g.stage) (parts, refl, ap (λ n. n + 1) (sym same)) refl in
+      record { letters = letters; read = read; is = ap (λ m. text ++ m) given ∙ sym (append_assoc text (given_letters s one) (10 ∷ [])) ∙ ap (λ t. t ++ 10 ∷ []) is }
 
-  ends_refused : (made : List ℕ) (fault : FormFault) → IsRefusedAtEnd s form (text ++ made) fault → Closes (form_message s) form (text ++ made) (Err fault)
-  ends_refused made fault found = ((text ++ made, inr found), inr found)
+  ends_refused : (before : List ℕ) (fault : FormFault) → IsRefusedAtEnd s form before fault → Closes (form_message s) form before (Err fault)
+  ends_refused before fault found = ((before, inr found), inr found)
 
-  pub closes_short : (made one : List ℕ) (parts : ℕ) → IsLastText s r.number r.expected turn.part parts one → parts ≢ r.number → made ≡ given_letters s one
-      → Closes (form_message s) form (text ++ made) (Err PartOrder)
+  pub closes_short : (made one : List ℕ) (parts : ℕ) → ((part : List ℕ) → HoldsStage s r.stage r.number r.expected part → IsLastText s r.number r.expected part parts one)
+      → parts ≢ r.number → made ≡ given_letters s one → Closes (form_message s) form (text ++ made) (Err PartOrder)
   closes_short made one parts last other given =
-      let read = in_turn turn.part one parts last in
-      ends_refused made PartOrder (too_few_parts s form text made turn parts one (record { read = read.0; due = read.1 }) h.so_far.last
-      (λ same. other (same ∙ sym h.numbered)) h.so_far.is given)
+      let is = last g.last g.stage in
+      ends_refused (text ++ made) PartOrder (ends_read (EndsAt s PartOrder) one made parts is
+      (refl, parts, refl, omega (arith, is.read.numbered, is.read.so_many, is.read.has.is_heading.number.in_order, other)) given)
 
-  pub closes_refused : (made : List ℕ) (fault : FormFault) → ((start : ℕ) → IsPartFault s r.number r.expected start turn.part fault) → made ≡ []
+  pub closes_refused : (made : List ℕ) (fault : FormFault)
+      → ((part : List ℕ) → HoldsStage s r.stage r.number r.expected part → (start : ℕ) → IsPartFault s r.number r.expected start part fault) → made ≡ []
       → Closes (form_message s) form (text ++ made) (Err fault)
-  closes_refused made fault found none =
-      let start : ℕ = length form - length part in
-      ends_refused made fault (InPart turn h.so_far.last (in_number (λ n e. IsPartFault s n e start turn.part fault) (found start))
-      (rw (none, append-nil text) h.so_far.is))
+  closes_refused made fault found none = ends_refused (text ++ made) fault (ends_so (EndsAt s fault) [] made (inl (found g.last g.stage g.start, refl)) none)

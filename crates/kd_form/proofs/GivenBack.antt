@@ -1,5 +1,6 @@
 -- The form that an order becomes gives the order's letters back.
-use Rattle.kd_form.proofs.Prelude.{◌≡◌, ◌≢◌, ℕ, ◌+◌, ◌%◌, ◌<◌, ◌≤◌, ◌⊎◌, inl, inr, List, [], ◌∷◌, ◌++◌, length, take, drop, refl, sym, ap, subst, ◌∙◌, append_assoc, length-append, arith, All, Option, Some, None, IfSome, flat_map, cons_option, cases_lt, append-nil, take_all, drop_all, length-take, length-take-le, take-append-drop, All-nil, All-cons, All-head, All-tail, All-take, All-drop, TheDayDeciphersItself, Day, IsLegalDay, Keys, BeginsHeading, AreFirstParts, ArePartsRead, given_text, sent_letters, AreKeys, OrdersGiveLetters, FormsGiveTheirOrders, Suits, part_size, filled, Part, part_text, pieces, body_text, IsLettersText, IsPartRead, letters_from, text_letters, parts_needed, AreMadeTexts}
+use Rattle.kd_form.proofs.Prelude.{◌≡◌, ◌≢◌, ℕ, ◌+◌, ◌%◌, ◌<◌, ◌≤◌, inl, inr, List, [], ◌∷◌, ◌++◌, length, take, drop, refl, sym, ap, subst, ◌∙◌, append_assoc, length-append, arith, All, Option, Some, None, IfSome, flat_map, cons_option, cases_lt, append-nil, take_all, drop_all, length-take, length-take-le, take-append-drop, All-nil, All-cons, All-head, All-tail, All-take, All-drop, TheDayDeciphersItself, Day, IsLegalDay, Keys, BeginsHeading, given_text, sent_letters, AreKeys, OrdersGiveLetters, FormsGiveTheirOrders, Suits, part_size, filled, Part, part_text, pieces, body_text, IsLettersText, IsPartRead, letters_from, text_letters, parts_needed, AreMadeTexts, cut, ReadsTo, at_first, IsComplete, IsExpected}
+use Rattle.kd_form.proofs.Cutting.{one_byte, parts_behind}
 use Rattle.kd_form.proofs.PartTexts.{by_pieces, gives_body, part_has_heading, part_begins_heading, part_is_first}
 use Rattle.kd_form.proofs.MadeParts.{more_pieces, pieces-next, pieces-none, IsPiece, GivesBack, part_gives_back}
 use Rattle.kd_form.proofs.OneOrder.{all_of_the_day, one_order}
@@ -70,19 +71,25 @@ part_is_read s part parts text made back =
       read = subst (λ ls. IsLettersText s made.heading.indicator ls text) (sym given.gives) back.read;
     }
 
--- the form is nothing but parts, which are read as the letters of the pieces
+-- behind an LF the form is nothing but parts, which are read as the letters of the pieces
 record AreGivenBack (s : Day) (part parts count : ℕ) (pieces : List (List ℕ)) (form : List ℕ) : Type 0 where
   texts : List (List ℕ)
   counted : length texts ≡ count
-  begins : (form ≡ []) ⊎ BeginsHeading form
-  cut : AreFirstParts texts form []
-  read : ArePartsRead s part parts texts (flat_map (sent_letters s) pieces)
+  begins : texts ≢ [] → BeginsHeading form
+  cut_so : cut (10 ∷ form) ≡ (10 ∷ [], texts)
+  read : (expected : Option ℕ) (start : ℕ) → IsExpected expected parts → (texts ≡ [] → expected ≡ Some parts)
+      → ReadsTo s IsComplete (record { number = part; expected = expected; start = start }) texts (flat_map (sent_letters s) pieces)
 
 parts_are_given_back : (s : Day) (part parts : ℕ) (keys : List Keys) (pieces : List (List ℕ)) (form : List ℕ) → TheDayDeciphersItself → IsLegalDay s
-    → All (AreKeys s) keys → All (Suits s) keys → All (IsPiece s) pieces → 1 ≤ part → part + length keys ≤ parts + 1 → parts ≤ 99
+    → All (AreKeys s) keys → All (Suits s) keys → All (IsPiece s) pieces → 1 ≤ part → part + length keys ≡ parts + 1 → parts ≤ 99
     → AreMadeTexts s part parts keys pieces form → AreGivenBack s part parts (length keys) pieces form
-parts_are_given_back s part parts [] [] form decipher legal are suited all first last few made =
-    record { texts = []; counted = refl; begins = inl made; cut = made; read = refl }
+parts_are_given_back s part parts [] [] form decipher legal are suited all first last few made = rw made (record {
+  texts = [];
+  counted = refl;
+  begins = λ some. absurd (some refl);
+  cut_so = one_byte 10;
+  read = λ expected start due known. ((parts, known refl, omega arith), refl);
+})
 parts_are_given_back s part parts (k ∷ keys) (piece ∷ pieces) form decipher legal are suited all first last few (one, more, (made, makes, written), others, joined) =
     let rest : AreGivenBack s (part + 1) parts (length keys) pieces more =
     parts_are_given_back s (part + 1) parts keys pieces more decipher legal (All-tail (AreKeys s) k keys are) (All-tail (Suits s) k keys suited)
@@ -93,9 +100,17 @@ parts_are_given_back s part parts (k ∷ keys) (piece ∷ pieces) form decipher 
     rw (joined, written) (record {
       texts = part_text made ∷ rest.texts;
       counted = omega (arith, rest.counted);
-      begins = inr (part_begins_heading s made more back.is_heading);
-      cut = (more, part_is_first s made more back.is_heading back.within rest.begins, rest.cut);
-      read = (sent_letters s piece, flat_map (sent_letters s) pieces, part_is_read s part parts (sent_letters s piece) made back, rest.read, refl);
+      begins = λ some. part_begins_heading s made more back.is_heading;
+      cut_so = part_is_first s made more rest.texts back.is_heading back.within rest.cut_so;
+      read = λ expected start due known. inr (
+        parts,
+        sent_letters s piece,
+        flat_map (sent_letters s) pieces,
+        part_is_read s part parts (sent_letters s piece) made back,
+        due,
+        rest.read (Some parts) (start + length (part_text made)) refl (λ none. refl),
+        refl,
+      );
     })
 parts_are_given_back s part parts _ _ form decipher legal are suited all first last few made = absurd made
 
@@ -121,10 +136,11 @@ forms_give_their_orders decipher s order form given legal is due =
     parts_are_given_back s 1 (length is.keys) is.keys (pieces (part_size s) letters) form decipher legal
     (all_of_the_day _ s is.keys is.head order_is.is_head.lines) is.sendable.suited
     (are_pieces s letters (text_letters_within s is.text)) (omega arith) (omega arith) order_is.is_head.few is.made in
+    let some : back.texts ≢ [] = some_parts s letters back.texts is.some (back.counted ∙ sym is.counted) in
+    let read = back.read None 0 tt (λ none. absurd (some none)) in
     record {
-      parts = back.texts;
       letters = sent;
-      some = some_parts s letters back.texts is.some (back.counted ∙ sym is.counted);
-      read = record { cut = back.cut; read = rw back.counted (subst (ArePartsRead s 1 (length is.keys) back.texts) (sent_pieces s letters) back.read) };
+      read = subst (λ ps. ReadsTo s IsComplete at_first ps sent) (sym (parts_behind form back.texts (back.begins some) back.cut_so))
+          (subst (ReadsTo s IsComplete at_first back.texts) (sent_pieces s letters) read);
       is = due.is ∙ ap (λ t. given_text s (sent_letters s (text_letters s t))) (sym same.2);
     }

@@ -8,6 +8,7 @@ use Rattle.std.proofs.lemmas.Str.Parse.{IsNumeralModel, numerals_by_value, tells
 use Rattle.std.proofs.Math.Seq.{drop-cons}
 use Rattle.kd_form.proofs.Plain.{IsOff, same_front, IsPlain, plain_text, plain_letters, plain_more, without, whole_line}
 use Rattle.kd_form.proofs.Lines.{up_to_break}
+use Rattle.kd_form.proofs.Cutting.{begins}
 use Rattle.kd_form.proofs.OneOrder.{same_letters, same_word}
 
 -- -------- which part of how many, as it is written
@@ -257,24 +258,14 @@ one_heading s part h other body rest tell numbers a b =
     (plain_heading s other b.is_heading) off none (sym joined ∙ linked) in
     (same_heading s h other a.is_heading b.is_heading same.0, is ∙ ap behind same.1 ∙ sym also)
 
--- so an empty part has no heading
-pub no_empty_heading : (s : Day) (h : Heading) (body : List ℕ) → ¬ (HasHeading s [] h body)
-no_empty_heading s h body has = cc ((heading_tail s [] h body has).1)
-
 -- the line begins with PART, a space and a digit
 pub words_begin : (s : Day) (h : Heading) (more : List ℕ) → IsHeading s h → BeginsHeading (line_of (heading_words h) ++ more)
 words_begin s h more is =
     let small = (are_small s h is).part in
     let some : 0 < length (decimal h.part) = decimal_nonempty h.part small in
     let figure : IsInRange 48 57 (get_or (decimal h.part) 0 0) = digits_decimal figures h.part small 0 some in
-    let end : List ℕ = line_of (decimal h.letters ∷ indicator_words h.indicator) in
-    record {
-      digit = get_or (decimal h.part) 0 0;
-      rest = (((drop 1 (decimal h.part) ++ codes "/") ++ decimal h.parts) ++ 32 ∷ end) ++ more;
-      is = ap (λ n. ((codes "PART" ++ 32 ∷ (((n ++ codes "/") ++ decimal h.parts) ++ 32 ∷ end))) ++ more) (drop-cons (decimal h.part) 0 0 some);
-      low = figure.0;
-      high = figure.1;
-    }
+    let first : decimal h.part ≡ get_or (decimal h.part) 0 0 ∷ drop 1 (decimal h.part) = drop-cons (decimal h.part) 0 0 some in
+    rw first (begins (get_or (decimal h.part) 0 0) _ figure.0 figure.1)
 
 pub begins_there : (s : Day) (part : List ℕ) (h : Heading) (body : List ℕ) → NumbersAreWords → HasHeading s part h body → BeginsHeading part
 begins_there s part h body numbers has = grind (arith, common_steps, heading_tail, words_begin)

@@ -7,11 +7,9 @@ pub mod TextLetters
 pub mod MadeParts
 pub mod GivenBack
 pub mod OneOrder
-pub mod Growing
 pub mod Headings
-pub mod Received
 pub mod PartTexts
-pub mod OneCut
+pub mod Cutting
 pub mod OneText
 pub mod Standing
 pub mod FormSteps

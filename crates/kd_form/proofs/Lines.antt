@@ -1,9 +1,9 @@
 -- The lines of an order up to its text.
-use Rattle.kd_form.proofs.Prelude.{common_steps, ◌≡◌, ◌≢◌, ℕ, zero, suc, ◌+◌, ◌<◌, ◌≤◌, inl, inr, Bool, true, false, List, [], ◌∷◌, ◌++◌, length, get_or, take, drop, replicate, refl, sym, ap, subst, ◌∙◌, append_assoc, length-append, length-drop, arith, ◌==◌, if◌then◌else◌, nat_lt, All, codes, get_or-append, AllWithin, nat_tests, cases_Bool, get_or-take, drop_all, take_more, take-append-drop, length-replicate, take_all, get_or_default, length-take-le, append-nil, drop_more, All-append, All-cons, All-nil, All-tail, All-replicate, All-take, All-drop, All-push, Unread, IsEnded, IsKeyLine, filled_in, blanks, fits, letters_at, IsFilledLine, IsPatternLine, BreaksOff, letters_text, line_of, IsWithout, Day, OfRotors, OfPins, Keys, Rotor, Pin, key_words, AreKeys, ArePinKeys, places_for, rotor_pattern, key_pattern, key_letters, IsAnyKeyLine, FormFault, Suits, IsKeysFault, IsFirstKeysFault, BeginsWithKeys, nil_from_length, All-head, false≢true}
+use Rattle.kd_form.proofs.Prelude.{common_steps, ◌≡◌, ◌≢◌, ℕ, zero, suc, ◌+◌, ◌<◌, ◌≤◌, inl, inr, true, false, List, [], ◌∷◌, ◌++◌, length, get_or, take, drop, replicate, refl, sym, ap, subst, ◌∙◌, append_assoc, length-append, length-drop, arith, ◌==◌, codes, AllWithin, nat_tests, cases_Bool, get_or-take, take-append-drop, length-replicate, length-take-le, append-nil, drop_more, All-append, All-cons, All-nil, All-replicate, All-take, All-drop, All-push, Unread, IsEnded, IsKeyLine, filled_in, blanks, fits, letters_at, IsFilledLine, IsPatternLine, AreAppended, BreaksOff, Result, Ok, Err, MatchResult, letters_text, line_of, IsWithout, Day, OfRotors, OfPins, Keys, Rotor, Pin, key_words, AreKeys, places_for, rotor_pattern, key_pattern, key_letters, IsAnyKeyLine, FormFault, Suits, IsKeysFault, IsFirstKeysFault, BeginsWithKeys, nil_from_length, false≢true}
 use Rattle.kd_state.specs.Machine.{AreLetters}
 use Rattle.kd_form.specs.declared.pattern_line.Unread.TheVariants.{Open, Off}
 use Rattle.kd_form.proofs.Ciphers.{letter_read}
-use Rattle.kd_form.proofs.Plain.{IsPlain, plain_keys, same_front}
+use Rattle.kd_form.proofs.Plain.{IsPlain, same_front}
 
 -- -------- lines of a pattern, mark by mark
 
@@ -26,70 +26,43 @@ line_less mark byte pattern letters bytes is = elim (cases_Bool (mark == 95)) [
 no_letters : AreLetters 0 []
 no_letters = record { count = refl; within = All-nil (λ l. l < 26) }
 
-filled_end : (bytes : List ℕ) → IsEnded [] bytes → IsFilledLine [] [] bytes
-filled_end bytes ended = record { are_letters = no_letters; ended = ended }
+-- the bytes end: a line goes on with the letter A in each place that is left
+pub line_open : (pattern bytes : List ℕ) → length bytes ≡ 0 → BreaksOff (IsPatternLine pattern) bytes Open
+line_open pattern bytes none =
+    let others : List ℕ = replicate (blanks pattern) 0 in
+    let text : List ℕ = filled_in pattern others ++ 10 ∷ [] in
+    let are : AreLetters (blanks pattern) others = record {
+      count = length-replicate {A = ℕ} (blanks pattern) 0;
+      within = All-replicate (λ l. l < 26) (blanks pattern) 0 (omega arith);
+    } in
+    rw (nil_from_length bytes none) (text, (λ nil. omega (arith, ap length nil, length-append {A = ℕ})), (others, record { are_letters = are; ended = inl refl }))
 
--- So far these letters are read: a line goes on as what is left of the pattern does.
-pub record IsReading (pattern bytes marks rest letters : List ℕ) : Type 0 where
-  pub counted : length letters + blanks marks ≡ blanks pattern
-  pub fills : (others more : List ℕ) → IsFilledLine marks others (rest ++ more)
-      → IsFilledLine pattern (letters ++ others) (bytes ++ more)
-  pub leaves : (more : List ℕ) → IsPatternLine pattern (bytes ++ more) → IsPatternLine marks (rest ++ more)
+-- a byte doesn't fit its mark
+pub line_off : (mark byte : ℕ) (marks rest pattern bytes : List ℕ) → pattern ≡ mark ∷ marks → bytes ≡ byte ∷ rest → fits mark byte ≡ false
+    → BreaksOff (IsPatternLine pattern) bytes Off
+line_off mark byte marks rest pattern bytes first next unfit =
+    rw (first, next) (λ more line. false≢true (sym unfit ∙ (line_less mark byte marks line.0 (rest ++ more) line.1).0))
 
-pub reading_none : (pattern bytes : List ℕ) → IsReading pattern bytes pattern bytes []
-reading_none pattern bytes = record { counted = omega arith; fills = λ others more is. is; leaves = λ more line. line }
+-- or it does, and the line goes on as what is left of the pattern does
+pub line_on : (mark byte : ℕ) (marks rest pattern bytes old now new : List ℕ) (answer : Result (Unit {0}) Unread) → pattern ≡ mark ∷ marks → bytes ≡ byte ∷ rest
+    → fits mark byte ≡ true → now ≡ old ++ letters_at mark byte
+    → MatchResult answer (λ _. AreAppended marks rest now new) (BreaksOff (IsPatternLine marks) rest)
+    → MatchResult answer (λ _. AreAppended pattern bytes old new) (BreaksOff (IsPatternLine pattern) bytes)
+line_on mark byte marks rest pattern bytes old now new (Ok done) first next fit put (more, line, is) =
+    rw (first, next) (letters_at mark byte ++ more, line_more mark byte marks more rest fit line, cc (put, is, append_assoc old (letters_at mark byte) more))
+line_on mark byte marks rest pattern bytes old now new (Err Open) first next fit put (more, some, (letters, line)) =
+    rw (first, next) (more, some, (letters_at mark byte ++ letters, line_more mark byte marks letters (rest ++ more) fit line))
+line_on mark byte marks rest pattern bytes old now new (Err Off) first next fit put none =
+    rw (first, next) (λ more line. none more (line_less mark byte marks line.0 (rest ++ more) line.1).1)
 
-module _ (pattern bytes marks rest letters : List ℕ) (reading : IsReading pattern bytes marks rest letters) where
-  pub letter_room : (mark : ℕ) (others : List ℕ) → marks ≡ mark ∷ others → blanks pattern ≤ 13 → mark ≡ 95
-      → length letters < 13
-  letter_room mark others next few blank = grind (arith, reading.counted)
-
-  -- the bytes end: a line goes on with the letter A in each place that is left
-  pub line_open : length rest ≡ 0 → BreaksOff (IsPatternLine pattern) bytes Open
-  line_open none =
-      let others : List ℕ = replicate (blanks marks) 0 in
-      let text : List ℕ = filled_in marks others in
-      let line : IsFilledLine pattern (letters ++ others) (bytes ++ (text ++ 10 ∷ [])) =
-      reading.fills others (text ++ 10 ∷ []) (rw (nil_from_length rest none) (record {
-        are_letters = record {
-          count = length-replicate {A = ℕ} (blanks marks) 0;
-          within = All-replicate (λ l. l < 26) (blanks marks) 0 (omega arith);
-        };
-        ended = inl refl;
-      })) in
-      (text ++ 10 ∷ [], λ none. omega (arith, ap length none, length-append text (10 ∷ [])), (letters ++ others, line))
-
-  module _ (mark byte : ℕ) (others after : List ℕ) (next : marks ≡ mark ∷ others) (first : rest ≡ byte ∷ after) where
-    left_over : (tail : List ℕ) → IsPatternLine pattern (bytes ++ tail)
-        → (fits mark byte ≡ true) × IsPatternLine others (after ++ tail)
-    left_over tail line =
-        let (found, is) = rw (next, first) at (reading.leaves tail line) in
-        line_less mark byte others found (after ++ tail) is
-
-    pub reading_more : (more : List ℕ) → fits mark byte ≡ true → more ≡ letters ++ letters_at mark byte
-        → IsReading pattern bytes others after more
-    reading_more more fit put = rw put (record {
-      counted = grind (arith, reading.counted, length-append {A = ℕ});
-      fills = λ left tail is. rw append_assoc (reading.fills (letters_at mark byte ++ left) tail
-          (rw (next, first) (line_more mark byte others left (after ++ tail) fit is)));
-      leaves = λ tail line. (left_over tail line).1;
-    })
-
-    -- a byte doesn't fit its mark
-    pub line_off : fits mark byte ≡ false → BreaksOff (IsPatternLine pattern) bytes Off
-    line_off unfit = λ tail line. false≢true (sym unfit ∙ (left_over tail line).0)
-
-  -- the pattern is filled, and this follows
-  module _ (all : length marks ≡ 0) where
-    pub line_read : IsEnded [] rest → IsFilledLine pattern letters bytes
-    line_read ended = rw (append-nil letters, append-nil bytes) at
-        (reading.fills [] [] (rw (nil_from_length marks all, append-nil rest) (filled_end rest ended)))
-
-    pub line_broken : (why : Unread) → BreaksOff (IsEnded []) rest why → BreaksOff (IsPatternLine pattern) bytes why
-    line_broken Open (more, some, ended) =
-        let line = reading.fills [] more (rw (nil_from_length marks all) (filled_end (rest ++ more) ended)) in
-        (more, some, (letters ++ [], line))
-    line_broken Off none = λ more line. none more (rw (nil_from_length marks all) at (reading.leaves more line)).1.ended
+-- the pattern ends
+pub line_ends : (pattern bytes letters : List ℕ) (answer : Result (Unit {0}) Unread) → length pattern ≡ 0
+    → MatchResult answer (λ _. IsEnded [] bytes) (BreaksOff (IsEnded []) bytes)
+    → MatchResult answer (λ _. AreAppended pattern bytes letters letters) (BreaksOff (IsPatternLine pattern) bytes)
+line_ends [] bytes letters (Ok done) none ended = ([], record { are_letters = no_letters; ended = ended }, sym (append-nil letters))
+line_ends [] bytes letters (Err Open) none (more, some, ended) = (more, some, ([], record { are_letters = no_letters; ended = ended }))
+line_ends [] bytes letters (Err Off) none off = λ more line. off more line.1.ended
+line_ends (mark ∷ pattern) bytes letters answer none told = absurd (omega arith)
 
 -- of the end nothing is there, or its CR
 pub end_open : (bytes : List ℕ) → length bytes < 2 → (1 ≤ length bytes → get_or bytes 0 0 ≡ 13) → BreaksOff (IsEnded []) bytes Open

@@ -1,6 +1,5 @@
 -- How a part of a form is made.
-use Rattle.kd_form.proofs.Prelude.{[], ◌≡◌, ℕ, ◌+◌, ◌-◌, ◌%◌, ◌<◌, List, ◌∷◌, ◌++◌, length, map, take, drop, refl, sym, ap, ◌∙◌, append_assoc, length-drop, add-one, arith, min, Bool, true, false, subst, ◌≤◌, replicate, length-append, ◌==◌, codes, decimal, Option, Some, None, MatchOption, IsSome, All, option_map, div_ceil, flat_map, join_with_byte, div-eq_of_lt, mod-eq_of_lt, eqb-true, append-nil, take_min, drop_min, length-map, length-replicate, letters_text, Heading, fraction, indicator_words, heading_words, pieces, groups_of, behind_spaces, with_line, body_text, part_text, Part, Day, OfRotors, OfPins, pin_day, RotorDay, PinDay, IsLegalDay, Keys, Rotor, Pin, RotorKeys, PinKeys, Indicator, IsInternalKey, HaveRunOut, Suits, IsMadeText, part_of, indicator_of, rotor_letters, enciphered_choice, pin_letters, list_letters, IsMade, cipher_from, part_size, pin_indicators, filled, sheet_key, IsWindow, take-append_seam, drop-append_seam, HasIndicator, message_key, HasIndicatorsAround, group_in, keys_in, list_in, text_in, IsLettersText, All-append, All-cons, All-replicate, TheDayDeciphersItself, IsFraction, IsHeading, sent_letters, AreKeys}
-use Rattle.std.specs.Simd.{first_chunks}
+use Rattle.kd_form.proofs.Prelude.{[], ◌≡◌, ℕ, ◌+◌, ◌-◌, ◌%◌, ◌<◌, List, ◌∷◌, ◌++◌, length, take, drop, refl, sym, ap, ◌∙◌, append_assoc, length-drop, add-one, arith, min, subst, ◌≤◌, replicate, length-append, codes, decimal, Option, Some, MatchOption, IsSome, All, option_map, div_ceil, join_with_byte, div-eq_of_lt, mod-eq_of_lt, append-nil, take_min, drop_min, length-map, length-replicate, Heading, fraction, indicator_words, heading_words, pieces, behind_spaces, with_line, Part, Day, OfRotors, OfPins, pin_day, IsLegalDay, Keys, Rotor, Pin, PinKeys, Indicator, IsInternalKey, HaveRunOut, Suits, indicator_of, rotor_letters, enciphered_choice, pin_letters, list_letters, IsMade, cipher_from, part_size, pin_indicators, filled, sheet_key, IsWindow, take-append_seam, drop-append_seam, HasIndicator, message_key, HasIndicatorsAround, group_in, keys_in, list_in, text_in, IsLettersText, All-append, All-cons, All-replicate, TheDayDeciphersItself, IsFraction, IsHeading, sent_letters, AreKeys}
 use Rattle.kd_form.proofs.Ciphers.{length-cipher_from, letters-cipher_from}
 
 -- -------- letters in groups and lines, piece by piece

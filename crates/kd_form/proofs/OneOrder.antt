@@ -1,5 +1,5 @@
 -- An order is read in one way, and becomes one form, or has one fault.
-use Rattle.kd_form.proofs.Prelude.{common_steps, ◌≡◌, ◌≢◌, ℕ, ◌+◌, inl, inr, List, [], ◌∷◌, ◌++◌, length, map, refl, sym, ap, subst, ◌∙◌, append_assoc, arith, Err, Ok, Result, drop, ◌≤◌, ◌⊎◌, codes, All, slice_index, IsTrue, IsFalse, append_cancel_right, append-nil, All-cons, All-nil, All-head, All-tail, All-map, letters_text, is_text_byte, line_of, Day, OfRotors, OfPins, Keys, Rotor, Pin, ComesFirst, IsInternalKey, key_words, AreKeys, IsEnded, BeginsWithKeys, IsOrder, IsAnyHead, IsHead, IsHeadFault, IsKeyLine, IsMadeText, enciphered_choice, part_size, Suits, pieces, AreMadeTexts, text_letters, parts_needed, IsBadAt, IsKeysFault, IsFirstKeysFault, StandsInOrder, InHead, InKeys, InText, Cut, NoLetter, InParts, IsSendFault, IsSendable, IsFormOf, OrdersBecomeOneForm, SentOrdersHaveNoFault, OrdersHaveOneFault, false≢true, FormFault, BadByte, EmptyText, PartKeys}
+use Rattle.kd_form.proofs.Prelude.{common_steps, ◌≡◌, ◌≢◌, ℕ, ◌+◌, inl, inr, List, [], ◌∷◌, ◌++◌, length, map, refl, sym, ap, subst, ◌∙◌, append_assoc, arith, Err, Ok, Result, drop, ◌≤◌, ◌⊎◌, codes, All, slice_index, IsTrue, IsFalse, append_cancel_right, append-nil, All-cons, All-nil, All-map, letters_text, is_text_byte, line_of, Day, OfRotors, OfPins, Keys, Rotor, Pin, ComesFirst, IsInternalKey, key_words, AreKeys, IsEnded, BeginsWithKeys, IsOrder, IsHead, IsHeadFault, IsMadeText, enciphered_choice, part_size, Suits, pieces, AreMadeTexts, text_letters, parts_needed, IsBadAt, IsKeysFault, IsFirstKeysFault, StandsInOrder, InHead, InKeys, InText, Cut, NoLetter, InParts, IsSendFault, IsSendable, IsFormOf, OrdersBecomeOneForm, SentOrdersHaveNoFault, OrdersHaveOneFault, false≢true, FormFault, BadByte, EmptyText, PartKeys}
 use Rattle.kd_form.proofs.Plain.{same_front, plain_keys, text_plain, nothing_more}
 use Rattle.kd_form.proofs.Lines.{key_first, text_front, same_line}
 

@@ -1,11 +1,9 @@
 -- A form becomes one text, or has one fault.
 use Rattle.std.proofs.Common.{append-nil}
-use Rattle.kd_form.proofs.Prelude.{◌≡◌, ◌≢◌, ℕ, ◌+◌, ◌-◌, ◌⊎◌, inl, inr, List, [], ◌∷◌, ◌++◌, length, Result, Ok, Err, MatchResult, refl, sym, ap, subst, ◌∙◌, length-append, arith, All, IsTrue, Option, Some, None, is_text_byte, Day, sheet_key, IsWindow, TextsTellFirstParts, NumbersAreWords, IsFirstPart, FormFault, BadByte, BadHeading, CountWrong, PartOrder, KeyNotOnWheel, WrongGroup, IndicatorSpent, IndicatorsDiffer, Heading, Indicator, IsInternalKey, cipher_from, list_letters, enciphered_choice, letters_from, IsBadAt, HasIndicatorsAround, keys_in, list_in, text_in, IsPinText, IsPinFault, IsLettersText, IsLettersFault, HasHeading, IsExpected, IsPartRead, IsPartFault, InHeading, InNumber, InBody, IsEarlyFault, IsBodyFault, BeginsHeading, AreFirstParts, ArePartsRead, IsReadTo, given_text, IsTextOf, count_due, Turn, IsRefusedPart, IsRefusedEarly, IsRefusedForGood, NoHeading, InWhole, InLast, InPart, TooFew, IsReceiveFault, MayBegin, FormsBecomeOneText, ReceivedFormsHaveNoFault, FormsHaveOneFault}
-use Rattle.kd_form.proofs.Received.{turn_at_start}
+use Rattle.kd_form.proofs.Prelude.{◌≡◌, ℕ, ◌+◌, ◌-◌, ◌⊎◌, inl, inr, List, [], ◌∷◌, ◌++◌, length, Result, Ok, Err, MatchResult, refl, sym, ap, subst, ◌∙◌, arith, All, IsTrue, Option, Some, None, is_text_byte, Day, sheet_key, IsWindow, TextsTellFirstParts, NumbersAreWords, FormFault, BadByte, BadHeading, CountWrong, PartOrder, KeyNotOnWheel, WrongGroup, IndicatorSpent, IndicatorsDiffer, Heading, Indicator, IsInternalKey, cipher_from, list_letters, enciphered_choice, letters_from, IsBadAt, HasIndicatorsAround, keys_in, list_in, text_in, IsPinText, IsPinFault, IsLettersText, IsLettersFault, HasHeading, IsExpected, IsPartRead, IsPartFault, InHeading, InNumber, InBody, IsBodyFault, BeginsHeading, OfRest, Place, at_first, place_behind, ReadsTo, IsComplete, StandsAt, EndsAt, AtPart, cut, parts_of, given_text, IsTextOf, NoHeading, IsReceiveFault, FormsBecomeOneText, ReceivedFormsHaveNoFault, FormsHaveOneFault}
 use Rattle.kd_form.proofs.OneOrder.{IsCaught, only_this, only_either, only_found, only_judged, only_caught, one_internal_key, one_bad_byte, no_bad_byte, IsFound, IsJudged, IsOnly}
-use Rattle.kd_form.proofs.Headings.{one_heading, no_empty_heading, begins_there}
-use Rattle.kd_form.proofs.OneCut.{one_cut, empty_part, Alike, Further, Before, cuts, FirstCut, first_cut}
-use Rattle.kd_form.proofs.Growing.{begins_more, nothing_left}
+use Rattle.kd_form.proofs.Headings.{one_heading, begins_there}
+use Rattle.kd_form.proofs.Cutting.{begins_more, first_there}
 
 -- -------- a part of a form has one text, or one fault
 
@@ -40,6 +38,49 @@ only_letters s part (Some i) letters v w a b = grind arith
 only_letters s part None letters v w a b =
     only_judged (only_judged (only_judged (only_sought (one_internal_key (enciphered_choice s (keys_in letters))) (λ internal. only_this)))) v w
     (pin_answer s part letters v a) (pin_answer s part letters w b)
+
+-- -------- parts that are read
+
+module _ (s : Day) where
+  pub reads_as : (A B : OfRest) → ((p : Place) (parts : List (List ℕ)) → A p parts → B p parts) → (p : Place) (parts : List (List ℕ)) (letters : List ℕ)
+      → ReadsTo s A p parts letters → ReadsTo s B p parts letters
+  reads_as A B to p [] letters (held, none) = (to p [] held, none)
+  reads_as A B to p (part ∷ parts) letters (inl (held, none)) = inl (to p (part ∷ parts) held, none)
+  reads_as A B to p (part ∷ parts) letters (inr (count, one, more, is, due, rest, joined)) =
+      inr (count, one, more, is, due, reads_as A B to (place_behind p count part) parts more rest, joined)
+
+  -- what is so at a rest, whichever it is
+  pub reads_end : (A : OfRest) (P : Type 0) → ((p : Place) (parts : List (List ℕ)) → A p parts → P) → (p : Place) (parts : List (List ℕ)) (letters : List ℕ)
+      → ReadsTo s A p parts letters → P
+  reads_end A P so p [] letters (held, none) = so p [] held
+  reads_end A P so p (part ∷ parts) letters (inl (held, none)) = so p (part ∷ parts) held
+  reads_end A P so p (part ∷ parts) letters (inr (count, one, more, is, due, rest, joined)) = reads_end A P so (place_behind p count part) parts more rest
+
+  -- where the one is so of a rest, no part of that is read up to where the other is
+  abbrev pub NeverPasses : OfRest → OfRest → Type 0
+  NeverPasses A B = (p : Place) (part : List ℕ) (parts : List (List ℕ)) (count : ℕ) (one more : List ℕ) → A p (part ∷ parts) → IsPartRead s p.number count part one
+      → IsExpected p.expected count → ¬ (ReadsTo s B (place_behind p count part) parts more)
+
+  -- ---- what is answered at a rest
+
+  -- all parts are read, and are too few or make the text; or a part is refused
+  abbrev pub AnswersAt : Result (Unit {0}) FormFault → OfRest
+  AnswersAt v p [] = (count : ℕ) × (p.expected ≡ Some count) × IsJudged (p.number ≡ count + 1) (Err PartOrder) (λ w. w ≡ Ok tt) v
+  AnswersAt v p (part ∷ parts) = (fault : FormFault) × IsPartFault s p.number p.expected p.start part fault × (v ≡ Err fault)
+
+  complete : (p : Place) (parts : List (List ℕ)) → IsComplete p parts → AnswersAt (Ok tt) p parts
+  complete p [] (count, is, all) = (count, is, inr (all, refl))
+  complete p (part ∷ parts) none = absurd none
+
+  pub stands_at : (fault : FormFault) (p : Place) (parts : List (List ℕ)) → StandsAt s fault p parts → AnswersAt (Err fault) p parts
+  stands_at fault p [] none = absurd none
+  stands_at fault p (part ∷ []) (ended, early) = (fault, inl early, refl)
+  stands_at fault p (part ∷ next ∷ others) refused = (fault, refused, refl)
+
+  pub ends_at : (fault : FormFault) (p : Place) (parts : List (List ℕ)) → EndsAt s fault p parts → AnswersAt (Err fault) p parts
+  ends_at fault p [] (is, count, due, few) = (count, due, inl (λ all. omega (arith, all, few), ap Err is))
+  ends_at fault p (part ∷ []) refused = (fault, refused, refl)
+  ends_at fault p (part ∷ next ∷ others) none = absurd none
 
 -- ---- the part
 
@@ -85,174 +126,73 @@ module _ (s : Day) (tell : TextsTellFirstParts) (numbers : NumbersAreWords) wher
 
   -- ---- parts that are read
 
-  -- a part among those that are read
-  read_there : (number count : ℕ) (before : List (List ℕ)) (part : List ℕ) (behind : List (List ℕ)) (letters : List ℕ)
-      → ArePartsRead s number count (before ++ part ∷ behind) letters → (text : List ℕ) × IsPartRead s (length before + number) count part text
-  read_there number count [] part behind letters (one, more, is, others, joined) = (one, subst (λ n. IsPartRead s n count part one) (omega arith) is)
-  read_there number count (first ∷ before) part behind letters (one, more, is, others, joined) =
-      grind (arith, read_there (number + 1) count before part behind more others)
+  -- so parts that are read up to the one and up to the other are read up to the same rest
+  pub reads_meet : (A B : OfRest) (R : Type 0) → NeverPasses s A B → NeverPasses s B A → ((p : Place) (parts : List (List ℕ)) → A p parts → B p parts → R)
+      → (p : Place) (parts : List (List ℕ)) (letters more : List ℕ) → ReadsTo s A p parts letters → ReadsTo s B p parts more → (letters ≡ more) × R
+  reads_meet A B R over under at p [] letters more (a, none) (b, nil) = (none ∙ sym nil, at p [] a b)
+  reads_meet A B R over under at p (part ∷ parts) letters more (inl (a, none)) (inl (b, nil)) = (none ∙ sym nil, at p (part ∷ parts) a b)
+  reads_meet A B R over under at p (part ∷ parts) letters more (inl (a, none)) (inr (count, one, left, is, due, rest, joined)) =
+      absurd (over p part parts count one left a is due rest)
+  reads_meet A B R over under at p (part ∷ parts) letters more (inr (count, one, left, is, due, rest, joined)) (inl (b, nil)) =
+      absurd (under p part parts count one left b is due rest)
+  reads_meet A B R over under at p (part ∷ parts) letters more (inr (count, one, left, is, due, rest, joined)) (inr (other, two, gone, also, duo, beyond, linked)) =
+      let same = one_text is also in
+      let both = reads_meet A B R over under at (place_behind p count part) parts left gone rest
+      (subst (λ n. ReadsTo s B (place_behind p n part) parts gone) (sym same.0) beyond) in
+      (cc (joined, linked, same.1, both.0), both.1)
 
-  letters_alike : (number count other : ℕ) (parts : List (List ℕ)) (letters more : List ℕ) → ArePartsRead s number count parts letters
-      → ArePartsRead s number other parts more → letters ≡ more
-  letters_alike number count other [] letters more a b = a ∙ sym b
-  letters_alike number count other (part ∷ parts) letters more (one, rest, is, later, joined) (two, left, also, latter, linked) =
-      grind (arith, one_text is also, letters_alike (number + 1) count other parts rest left later latter)
+  -- ---- one answer
 
-  -- the first part says of how many parts the form is
-  expected_too : (before behind : List (List ℕ)) (count other : ℕ) (letters more : List ℕ) → ArePartsRead s 1 count before letters
-      → ArePartsRead s 1 other (before ++ behind) more → IsExpected (count_due before count) other
-  expected_too [] behind count other letters more a b = tt
-  expected_too (part ∷ before) behind count other letters more a b = (one_text a.2 b.2).0
+  -- a part that is read isn't refused
+  pub read_or_refused : {number : ℕ} {expected : Option ℕ} {start count : ℕ} {part one : List ℕ} {fault : FormFault} → IsPartFault s number expected start part fault
+      → IsPartRead s number count part one → ¬ (IsExpected expected count)
+  read_or_refused {number} {expected} {start} {part = part} {one = one} {fault = fault} refused is due =
+      let clash : Ok one ≡ Err fault = only_part number expected start part (Ok one) (Err fault) (part_read expected start is due) (part_fault refused) in cc
 
-  due_alike : (before : List (List ℕ)) (count other : ℕ) (letters more : List ℕ) → ArePartsRead s 1 count before letters → ArePartsRead s 1 other before more
-      → count_due before count ≡ count_due before other
-  due_alike [] count other letters more a b = refl
-  due_alike (part ∷ before) count other letters more a b = ap Some (one_text a.2 b.2).0
+  never_passes : (v w : Result (Unit {0}) FormFault) → NeverPasses s (AnswersAt s v) (AnswersAt s w)
+  never_passes v w p part parts count one more (fault, refused, answer) is due rest = read_or_refused refused is due
 
-  -- no part is read where nothing is left
-  none_left : (count : ℕ) (before : List (List ℕ)) (part : List ℕ) (behind : List (List ℕ)) (rest letters : List ℕ) → AreFirstParts (part ∷ behind) [] rest
-      → ¬ (ArePartsRead s 1 count (before ++ part ∷ behind) letters)
-  none_left count before part behind rest letters cut read = grind (arith, read_there 1, empty_part, no_empty_heading)
-
-  -- ---- forms that are read to their end
-
-  read_alike : (form : List ℕ) (x y : List (List ℕ) × ℕ × List ℕ) → (x.0 ≢ []) × IsReadTo s form [] x.0 x.1 x.2 → (y.0 ≢ []) × IsReadTo s form [] y.0 y.1 y.2 → x ≡ y
-  read_alike form ([], count, letters) (others, other, more) (some, a) (any, b) = absurd (some refl)
-  read_alike form (first ∷ parts, count, letters) (others, other, more) (some, a) (any, b) = elim (cuts form (first ∷ parts) others [] [] a.cut b.cut) [
-    | Alike same left ↦
-        let also = subst (λ ps. ArePartsRead s 1 other ps more) (sym same) b.read in
-        let is = a.read in
-        λ i. (same i, (one_text is.2 also.2).0 i, letters_alike 1 count other (first ∷ parts) letters more is also i)
-    | Further part behind further cut ↦ absurd (none_left other (first ∷ parts) part behind [] more cut (rw further at b.read))
-    | Before part behind further cut ↦ absurd (none_left count others part behind [] letters cut (subst (λ ps. ArePartsRead s 1 count ps letters) further a.read))
-  ]
-
-  -- ---- forms of which a part is refused
+  one_at : (v w : Result (Unit {0}) FormFault) (p : Place) (parts : List (List ℕ)) → AnswersAt s v p parts → AnswersAt s w p parts → v ≡ w
+  one_at v w p [] (count, is, answer) (other, also, answers) = grind arith
+  one_at v w p (part ∷ parts) (fault, refused, answer) (found, also, answers) =
+      let both : Err fault ≡ Err found = only_part p.number p.expected p.start part (Err fault) (Err found) (part_fault refused) (part_fault also) in cc
 
   module _ (form : List ℕ) where
-    -- what is said of the part in turn: its number, the parts that are due, the bytes before it, and the part
-    abbrev AtTurn : (ℕ → Option ℕ → ℕ → List ℕ → Type 0) → Turn s form → Type 0
-    AtTurn Says t = Says (length t.before + 1) (count_due t.before t.count) (length form - length t.rest) t.part
+    -- and the parts before that have these letters
+    abbrev IsFormAnswer : Result (Unit {0}) FormFault → List ℕ → Type 0
+    IsFormAnswer v letters = ReadsTo s (AnswersAt s v) at_first (parts_of form) letters
 
-    -- none of the parts that are read is refused
-    not_refused : (t : Turn s form) (fault : FormFault) (part : List ℕ) (behind : List (List ℕ)) (other : ℕ) (letters more : List ℕ)
-        → AreFirstParts (part ∷ behind) t.rest more → ArePartsRead s 1 other (t.before ++ part ∷ behind) letters → ¬ (IsRefusedPart s form t fault)
-    not_refused t fault part behind other letters more (after, first, later) read refused =
-        let (text, is) = read_there 1 other t.before part behind letters read in
-        let clash : Ok text ≡ Err fault =
-        only_part (length t.before + 1) (count_due t.before t.count) (length form - length t.rest) t.part (Ok text) (Err fault)
-        (part_read _ _ (subst (λ p. IsPartRead s (length t.before + 1) other p text) (one_cut t.rest part after t.part t.after first t.first).0 is)
-        (expected_too t.before (part ∷ behind) t.count other t.letters letters t.read.read read)) (part_fault refused) in
-        cc
+    only_form : (v w : Result (Unit {0}) FormFault) (letters more : List ℕ) → IsFormAnswer v letters → IsFormAnswer w more → (letters ≡ more) × (v ≡ w)
+    only_form v w = reads_meet (AnswersAt s v) (AnswersAt s w) (v ≡ w) (never_passes v w) (never_passes w v) (one_at v w) at_first (parts_of form)
 
-    -- a form that is read to its end has no part that is refused
-    whole_not_refused : (parts : List (List ℕ)) (other : ℕ) (letters : List ℕ) (t : Turn s form) (fault : FormFault) → parts ≢ []
-        → IsReadTo s form [] parts other letters → ¬ (IsRefusedPart s form t fault)
-    whole_not_refused parts other letters t fault some whole refused = elim (cuts form parts t.before [] t.rest whole.cut t.read.cut) [
-      | Alike same left ↦ grind arith
-      | Further part behind further cut ↦ none_left t.count parts part behind t.rest t.letters cut (rw further at t.read.read)
-      | Before part behind further cut ↦ not_refused t fault part behind other letters [] cut (rw further at whole.read) refused
-    ]
-
-    -- what is said at one place
-    said_alike : (Says : ℕ → Option ℕ → ℕ → List ℕ → Type 0) (t u : Turn s form) → t.before ≡ u.before → t.rest ≡ u.rest → AtTurn Says t → AtTurn Says u
-    said_alike Says t u same left is =
-        let due : count_due t.before t.count ≡ count_due u.before u.count =
-        due_alike t.before t.count u.count t.letters u.letters t.read.read (rw same u.read.read) ∙ ap (λ ps. count_due ps u.count) same in
-        let part : t.part ≡ u.part = (one_cut u.rest t.part t.after u.part u.after (rw left at t.first) u.first).0 in
-        rw (due, part, left, ap length same) at is
-
-    one_refused : (t u : Turn s form) (fault found : FormFault) → IsRefusedPart s form t fault → IsRefusedPart s form u found → fault ≡ found
-    one_refused t u fault found a b = elim (cuts form t.before u.before t.rest u.rest t.read.cut u.read.cut) [
-      | Alike same left ↦
-          let both : Err fault ≡ Err found =
-          only_part _ _ _ u.part (Err fault) (Err found)
-          (part_fault (said_alike (λ number expected start part. IsPartFault s number expected start part fault) t u same left a)) (part_fault b) in
-          cc
-      | Further part behind further cut ↦ absurd (not_refused t fault part behind u.count u.letters u.rest cut (rw further at u.read.read) a)
-      | Before part behind further cut ↦ absurd (not_refused u found part behind t.count t.letters t.rest cut (rw further at t.read.read) b)
-    ]
-
-    -- where the last part is in turn, only it can be refused
-    same_turn : (t u : Turn s form) (fault : FormFault) → t.after ≡ [] → IsRefusedPart s form u fault → (t.before ≡ u.before) × (t.rest ≡ u.rest)
-    same_turn t u fault last refused = elim (cuts form t.before u.before t.rest u.rest t.read.cut u.read.cut) [
-      | Alike same left ↦ (same, left)
-      | Further part behind further (after, first, later) ↦
-          let none : after ≡ [] = (one_cut t.rest part after t.part t.after first t.first).1 ∙ last in
-          absurd (elim u.left [
-            | inl empty ↦ omega (arith, ap length (sym further ∙ empty), length-append t.before (part ∷ behind))
-            | inr some ↦ some (nothing_left behind after u.rest none later)
-          ])
-      | Before part behind further cut ↦ absurd (not_refused u fault part behind t.count t.letters t.rest cut (rw further at t.read.read) refused)
-    ]
-
-    -- ---- one answer
-
-    -- refused at a part; or all parts are read, and are too few or make the text
-    abbrev IsFormAnswer : Answer → Type 0
-    IsFormAnswer v =
-        ((t : Turn s form) × (fault : FormFault) × IsRefusedPart s form t fault × (v ≡ Err fault))
-        ⊎ IsFound (λ (x : List (List ℕ) × ℕ × List ℕ). (x.0 ≢ []) × IsReadTo s form [] x.0 x.1 x.2)
-        (λ x. IsJudged (x.1 ≡ length x.0) (Err PartOrder) (λ w. w ≡ Ok (given_text s x.2))) v
-
-    only_form : IsOnly IsFormAnswer
-    only_form =
-        only_either (λ v w (t, fault, at, is) (u, found, also, it). is ∙ ap Err (one_refused t u fault found at also) ∙ sym it)
-        (only_found (read_alike form) (λ x. only_judged only_this))
-        (λ v w a b. whole_not_refused b.0.0 b.0.1 b.0.2 a.0 a.1 b.1.0 b.1.1 a.2)
-
-    text_answer : (text : List ℕ) → IsTextOf s form text → IsFormAnswer (Ok text)
-    text_answer text a = inr ((a.parts, length a.parts, a.letters), (a.some, a.read), inr (refl, ap Ok a.is))
+    text_answer : (text : List ℕ) (is : IsTextOf s form text) → IsFormAnswer (Ok tt) is.letters
+    text_answer text is = reads_as s IsComplete (AnswersAt s (Ok tt)) (complete s) at_first (parts_of form) is.letters is.read
 
     -- where no heading begins the form, its first part has none
-    unheaded : (fault : FormFault) → ((more : List ℕ) → ¬ (BeginsHeading (form ++ more))) → fault ≡ BadHeading 1 → IsFormAnswer (Err fault)
-    unheaded fault none is =
-        let cut : FirstCut form = first_cut form in
-        let headless : (h : Heading) (body : List ℕ) → ¬ (HasHeading s cut.part h body) = λ h body has.
-        none [] (subst BeginsHeading (sym cut.first.joined ∙ sym (append-nil form)) (begins_more cut.part cut.rest (begins_there s cut.part h body numbers has))) in
-        inl (turn_at_start s form cut.part cut.rest cut.first, fault, inl (InHeading headless is), refl)
+    unheaded : ((more : List ℕ) → ¬ (BeginsHeading (form ++ more))) → (h : Heading) (body : List ℕ) → ¬ (HasHeading s (cut form).0 h body)
+    unheaded none h body has =
+        let (rest, joined) = first_there form in
+        none [] (subst BeginsHeading (sym joined ∙ sym (append-nil form)) (begins_more (cut form).0 rest (begins_there s (cut form).0 h body numbers has)))
 
-    fault_answer : (fault : FormFault) → IsReceiveFault s form fault → IsFormAnswer (Err fault)
-    fault_answer fault (text, inl (NoHeading none empty is)) = unheaded fault none is
-    fault_answer fault (text, inl (InWhole t some refused is)) = inl (t, fault, refused, refl)
-    fault_answer fault (text, inl (InLast t line body last broken refused is)) = inl (t, fault, inl refused, refl)
-    fault_answer fault (text, inr (InPart t last refused is)) = inl (t, fault, refused, refl)
-    fault_answer fault (text, inr (TooFew parts count letters some read fewer is same)) =
-        inr ((parts, count, letters), (some, read), inl (λ all. omega (arith, all, fewer), ap Err is))
+    fault_answer : (fault : FormFault) → IsReceiveFault s form fault → (letters : List ℕ) × IsFormAnswer (Err fault) letters
+    fault_answer fault (text, inl (NoHeading none empty is)) = ([], inl ((fault, inl (InHeading (unheaded none) is), refl), refl))
+    fault_answer fault (text, inl (AtPart (letters, reads, is))) =
+        (letters, reads_as s (StandsAt s fault) (AnswersAt s (Err fault)) (stands_at s fault) at_first (parts_of form) letters reads)
+    fault_answer fault (text, inr (letters, reads, is)) =
+        (letters, reads_as s (EndsAt s fault) (AnswersAt s (Err fault)) (ends_at s fault) at_first (parts_of form) letters reads)
 
 pub forms_become_one_text : TextsTellFirstParts → NumbersAreWords → FormsBecomeOneText
 forms_become_one_text tell numbers s form text other a b =
-    let same : Ok text ≡ Ok other = only_form s tell numbers form _ _ (text_answer s tell numbers form text a) (text_answer s tell numbers form other b) in cc
+    let same = only_form s tell numbers form (Ok tt) (Ok tt) a.letters b.letters (text_answer s tell numbers form text a) (text_answer s tell numbers form other b) in
+    a.is ∙ ap (given_text s) same.0 ∙ sym b.is
 
 pub forms_have_one_fault : TextsTellFirstParts → NumbersAreWords → FormsHaveOneFault
 forms_have_one_fault tell numbers s form fault other a b =
-    let same : Err fault ≡ Err other = only_form s tell numbers form _ _ (fault_answer s tell numbers form fault a) (fault_answer s tell numbers form other b) in cc
+    let one = fault_answer s tell numbers form fault a in
+    let two = fault_answer s tell numbers form other b in
+    let same = (only_form s tell numbers form (Err fault) (Err other) one.0 two.0 one.1 two.1).1 in cc
 
 pub received_forms_have_no_fault : TextsTellFirstParts → NumbersAreWords → ReceivedFormsHaveNoFault
 received_forms_have_no_fault tell numbers s form text fault a b =
-    let clash : Ok text ≡ Err fault = only_form s tell numbers form _ _ (text_answer s tell numbers form text a) (fault_answer s tell numbers form fault b) in cc
-
--- ---- a form of which no more has come
-
-begins_by_parts : (s : Day) (form rest : List ℕ) (before : List (List ℕ)) (count : ℕ) (letters : List ℕ) → NumbersAreWords → IsReadTo s form rest before count letters
-    → MayBegin rest → MayBegin form
-begins_by_parts s form rest [] count letters numbers read may = rw (read.cut) may
-begins_by_parts s form rest (part ∷ before) count letters numbers read may =
-    let cut = read.cut in
-    let is = read.read in
-    ([], grind (arith, append-nil form, begins_more part cut.0, begins_there s part is.2.heading is.2.body numbers is.2.has))
-
--- its last part isn't whole, and isn't refused as far as it has come: then nothing refuses it for good
-pub nothing_stands : (s : Day) (form : List ℕ) (t : Turn s form) → TextsTellFirstParts → NumbersAreWords → t.after ≡ []
-    → MayBegin t.rest → ((fault : FormFault) (line body : List ℕ) → IsFirstPart 10 t.part line body → ¬ (IsRefusedEarly s form t fault))
-    → (text : List ℕ) (fault : FormFault) → ¬ (IsRefusedForGood s form text fault)
-nothing_stands s form t tell numbers last may early text fault (NoHeading none empty is) =
-    grind (arith, begins_by_parts)
-nothing_stands s form t tell numbers last may early text fault (InWhole u some refused is) =
-    let same = same_turn s tell numbers form t u fault last refused in
-    some ((one_cut t.rest u.part u.after t.part t.after (rw (same.1) u.first) t.first).1 ∙ last)
-nothing_stands s form t tell numbers last may early text fault (InLast u line body end broken refused is) =
-    let same = same_turn s tell numbers form t u fault last (inl refused) in
-    let part : u.part ≡ t.part = (one_cut t.rest u.part u.after t.part t.after (rw (same.1) u.first) t.first).0 in
-    early fault line body (rw part at broken)
-    (said_alike s tell numbers form (λ number expected start part. IsEarlyFault s number expected start part fault) u t (sym same.0) (sym same.1) refused)
+    let found = fault_answer s tell numbers form fault b in
+    let clash = (only_form s tell numbers form (Ok tt) (Err fault) a.letters found.0 (text_answer s tell numbers form text a) found.1).1 in cc

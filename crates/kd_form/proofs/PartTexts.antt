@@ -1,11 +1,10 @@
 -- The text of a part: its letters in groups and lines.
 use Rattle.std.proofs.Common.{append-nil, take-append-drop}
-use Rattle.kd_form.proofs.Prelude.{◌≡◌, ℕ, zero, suc, ◌+◌, ◌<◌, ◌≤◌, ◌⊎◌, inl, List, [], ◌∷◌, ◌++◌, length, take, drop, refl, sym, ap, subst, ◌∙◌, append_assoc, length-drop, arith, get_or, ◌≢◌, map, All, IsTrue, Some, None, codes, flat_map, cons_option, nat_tests, All-nil, All-cons, All-head, All-tail, All-append, All-push, All-take, All-drop, filter_map-append, All-get_or, is_text_byte, letters_text, line_of, IsWithout, pieces, groups_of, with_line, body_text, Part, heading_words, part_text, letter_of_byte, letters_from, false≢true, Day, IsHeading, BeginsHeading, IsFirstOf, HasHeading}
+use Rattle.kd_form.proofs.Prelude.{◌≡◌, ℕ, zero, suc, ◌+◌, ◌<◌, ◌≤◌, inl, List, [], ◌∷◌, ◌++◌, length, take, drop, refl, sym, ap, subst, ◌∙◌, append_assoc, length-drop, arith, map, All, IsTrue, Some, None, flat_map, cons_option, nat_tests, All-nil, All-cons, All-head, All-tail, All-append, All-take, All-drop, filter_map-append, is_text_byte, letters_text, line_of, pieces, groups_of, with_line, body_text, Part, heading_words, part_text, letter_of_byte, letters_from, Day, IsHeading, BeginsHeading, HasHeading, cut}
+use Rattle.kd_form.proofs.Cutting.{allowed_one, at_cut, cut_behind}
 use Rattle.kd_form.proofs.MadeParts.{pieces-next, pieces-none}
-use Rattle.kd_form.proofs.Headings.{plain_heading, words_begin, has_byte}
-use Rattle.kd_form.proofs.OneOrder.{Shorter, Longer, fronts}
-use Rattle.kd_form.proofs.Plain.{head_unbroken, without}
-use Rattle.kd_form.proofs.OneCut.{break_is_first, one_byte_more}
+use Rattle.kd_form.proofs.Headings.{plain_heading, words_begin}
+use Rattle.kd_form.proofs.Plain.{without}
 
 -- -------- the body of a part as it is written: the letters that it gives, its bytes, and its lines
 
@@ -121,44 +120,17 @@ part_has_heading s made is = record {
 pub part_begins_heading : (s : Day) (made : Part) (more : List ℕ) → IsHeading s made.heading → BeginsHeading (part_text made ++ more)
 part_begins_heading s made more is = grind (arith, append_assoc, words_begin)
 
--- ---- no other heading line begins within a part
-
--- lines of a body don't begin a heading line: their last LF would be a byte of the mark, or the mark's digit a byte of theirs
-no_mark : (lines rest : List ℕ) → AreAllowed (lines ++ 10 ∷ []) → ¬ (BeginsHeading ((lines ++ 10 ∷ []) ++ rest))
-no_mark lines rest allowed begins = elim (fronts (lines ++ 10 ∷ []) rest (codes "PART " ++ begins.digit ∷ []) begins.rest begins.is) [
-  | Shorter more longer left ↦
-      has_byte 10 lines more (subst (IsWithout 10) (longer ∙ append_assoc lines (10 ∷ []) more)
-      (All-push (λ b. b ≢ 10) (codes "PART ") begins.digit head_unbroken (omega (arith, begins.low))))
-  | Longer byte more longer left ↦
-      let figure : get_or (lines ++ 10 ∷ []) 5 0 ≡ begins.digit = ap (λ t. get_or t 5 0) longer in
-      let stands : IsTrue (is_text_byte (get_or (lines ++ 10 ∷ []) 5 0)) =
-      All-get_or (λ b. IsTrue (is_text_byte b)) (lines ++ 10 ∷ []) 5 0 (omega (arith, ap length longer)) allowed in
-      false≢true (sym (grind (arith, nat_tests)) ∙ ap is_text_byte (sym figure) ∙ stands)
-]
-
--- ---- where a part ends
-
--- what ends in LF
-ending_is_first : (front rest : List ℕ) → AreAllowed (front ++ 10 ∷ []) → (rest ≡ []) ⊎ BeginsHeading rest
-    → IsFirstOf ((front ++ 10 ∷ []) ++ rest) (front ++ 10 ∷ []) rest
-ending_is_first [] rest allowed follows = break_is_first rest follows
-ending_is_first (byte ∷ front) rest allowed follows =
-    let behind = All-tail (λ b. IsTrue (is_text_byte b)) byte (front ++ 10 ∷ []) allowed in
-    one_byte_more byte ((front ++ 10 ∷ []) ++ rest) (front ++ 10 ∷ []) rest (ending_is_first front rest behind follows) (λ is. no_mark front rest behind)
-
--- and that behind a line
-line_is_first : (line text rest : List ℕ) → IsWithout 10 line → IsFirstOf (text ++ rest) text rest → IsFirstOf ((line ++ text) ++ rest) (line ++ text) rest
-line_is_first [] text rest unbroken first = first
-line_is_first (byte ∷ line) text rest unbroken first =
-    one_byte_more byte ((line ++ text) ++ rest) (line ++ text) rest (line_is_first line text rest (All-tail (λ b. b ≢ 10) byte line unbroken) first)
-    (λ is. absurd (All-head (λ b. b ≢ 10) byte line unbroken is))
-
--- a written part is the first part of what it begins, if nothing follows it, or another heading
-pub part_is_first : (s : Day) (made : Part) (rest : List ℕ) → IsHeading s made.heading → All (λ letter. letter < 26) made.body
-    → (rest ≡ []) ⊎ BeginsHeading rest → IsFirstOf (part_text made ++ rest) (part_text made) rest
-part_is_first s made rest is are follows =
+-- a written part is the first part of what it begins, behind an LF, where another one may follow
+pub part_is_first : (s : Day) (made : Part) (rest : List ℕ) (others : List (List ℕ)) → IsHeading s made.heading → All (λ letter. letter < 26) made.body
+    → cut (10 ∷ rest) ≡ (10 ∷ [], others) → cut (10 ∷ (part_text made ++ rest)) ≡ (10 ∷ [], part_text made ∷ others)
+part_is_first s made rest others is are follows =
     let line : List ℕ = line_of (heading_words made.heading) in
     let (front, ends) = lines_end (pieces 50 made.body) in
     let allowed = All-cons (λ b. IsTrue (is_text_byte b)) 10 (body_text made.body) refl (gives_body made.body are).allowed in
-    line_is_first line (10 ∷ body_text made.body) rest (without 10 line (omega arith) (plain_heading s made.heading is))
-    (subst (λ t. IsFirstOf (t ++ rest) t rest) (sym ends) (ending_is_first front rest (subst AreAllowed ends allowed) follows))
+    let tail : cut (front ++ 10 ∷ rest) ≡ (front ++ 10 ∷ [], others) = allowed_one front rest others (subst AreAllowed ends allowed) follows in
+    let joined : part_text made ++ rest ≡ line ++ (front ++ 10 ∷ rest) =
+    append_assoc line (10 ∷ body_text made.body) rest ∙ ap (λ t. line ++ (t ++ rest)) ends ∙ ap (λ t. line ++ t) (append_assoc front (10 ∷ []) rest) in
+    let whole : cut (part_text made ++ rest) ≡ (part_text made, others) =
+    ap cut joined ∙ cut_behind line (front ++ 10 ∷ rest) (without 10 line (omega arith) (plain_heading s made.heading is))
+    ∙ ap (λ (c : List ℕ × List (List ℕ)). (line ++ c.0, c.1)) tail ∙ ap (λ t. (line ++ t, others)) (sym ends) in
+    at_cut (part_text made ++ rest) (part_begins_heading s made rest is) ∙ ap (λ (c : List ℕ × List (List ℕ)). (10 ∷ [], c.0 ∷ c.1)) whole

@@ -1,5 +1,5 @@
 -- The first of all rising places is found by striking out: letter by letter, and wheel by wheel.
-use Rattle.kd_form.proofs.Prelude.{◌≡◌, ℕ, suc, ◌+◌, ◌<◌, ◌≤◌, inl, inr, List, [], ◌∷◌, ◌++◌, length, map, refl, sym, ap, subst, ◌∙◌, append_assoc, length-append, arith, slice_index, slice_get, Some, Contains, cases_lt, cases_eq, append-nil, map_push, length-map, AreRising, ComesFirst, ArePicked, IsInternalKey, HaveRunOut, NoneIsOnWheel, IsNextPlace}
+use Rattle.kd_form.proofs.Prelude.{◌≡◌, ◌≢◌, ℕ, suc, ◌+◌, ◌<◌, ◌≤◌, inl, inr, List, [], ◌∷◌, ◌++◌, length, map, refl, ap, subst, ◌∙◌, append_assoc, length-append, arith, slice_index, slice_get, Some, Contains, cases_lt, cases_eq, append-nil, map_push, length-map, AreRising, ComesFirst, ArePicked, IsInternalKey, HaveRunOut, IsTakenInTurn, OnWheel, OffWheel}
 use Rattle.kd_tables.specs.Rings.{ring_of}
 
 -- rising places from this one on, of letters on the wheels from this one to the sixth
@@ -15,59 +15,80 @@ pub record IsFirstPick (letters : List ℕ) (wheel start : ℕ) (places : List �
 abbrev pub HasNoPick : List ℕ → ℕ → ℕ → Type 0
 HasNoPick letters wheel start = (places : List ℕ) → ¬ (Picks letters wheel start places)
 
--- ---- one wheel
+-- ---- one letter
 
 earlier : (letters : List ℕ) (wheel start other : ℕ) (places : List ℕ) → other ≤ start → Picks letters wheel start places → Picks letters wheel other places
 earlier letters wheel start other [] less picks = picks
 earlier letters wheel start other (place ∷ places) less (after, inside, on, more) = (omega arith, inside, on, more)
 
-none_left : (letters : List ℕ) (wheel start : ℕ) → wheel < 7 → NoneIsOnWheel letters wheel start (length letters) → HasNoPick letters wheel start
-none_left letters wheel start less none [] picks = omega arith
-none_left letters wheel start less none (place ∷ places) (after, inside, on, more) = none place after inside on
+module _ (letters : List ℕ) (wheel start : ℕ) (inside : start < length letters) where
+  -- it is on the wheel: a pick begins there or later, and goes on behind that
+  first_on : (places : List ℕ) → wheel < 7 → Contains (ring_of wheel) (slice_index letters start) → IsFirstPick letters (wheel + 1) (start + 1) places
+      → IsFirstPick letters wheel start (start ∷ places)
+  first_on places less on first = record {
+    picks = (omega arith, inside, on, first.picks);
+    first = λ others picks. first_there others picks;
+  } where
+    first_there : (others : List ℕ) → Picks letters wheel start others → ComesFirst (start ∷ places) others
+    first_there [] picks = omega arith
+    first_there (other ∷ others) picks = grind (arith, cases_eq, first.first)
 
-module _ (letters : List ℕ) (wheel start place : ℕ) (next : IsNextPlace letters wheel start place) (less : wheel < 7) where
-  -- a pick begins there or later, and goes on behind that
-  from_next : (other : ℕ) (others : List ℕ) → Picks letters wheel start (other ∷ others) → (place ≤ other) × Picks letters (wheel + 1) (place + 1) others
-  from_next other others (after, inside, on, more) = elim (cases_lt other place) [
-    | inl before ↦ absurd (next.off other after before on)
-    | inr from ↦ (from, earlier letters (wheel + 1) (other + 1) (place + 1) others (omega arith) more)
+  none_on : wheel < 7 → HasNoPick letters (wheel + 1) (start + 1) → HasNoPick letters wheel start
+  none_on less none [] picks = omega arith
+  none_on less none (other ∷ others) (after, within, on, more) = none others (earlier letters (wheel + 1) (other + 1) (start + 1) others (omega arith) more)
+
+  -- it isn't: a pick begins later
+  later : (places : List ℕ) → ¬ (Contains (ring_of wheel) (slice_index letters start)) → Picks letters wheel start places → Picks letters wheel (start + 1) places
+  later [] off picks = picks
+  later (place ∷ places) off (after, within, on, more) = elim (cases_eq place start) [
+    | inl same ↦ absurd (off (rw same at on))
+    | inr apart ↦ (omega (arith, after, apart), within, on, more)
   ]
 
-  first_step : (places others : List ℕ) → IsFirstPick letters (wheel + 1) (place + 1) places → Picks letters wheel start others
-      → ComesFirst (place ∷ places) others
-  first_step places [] first picks = omega arith
-  first_step places (other ∷ others) first picks = grind (arith, from_next, cases_eq, first.first)
-
-  none_step : HasNoPick letters (wheel + 1) (place + 1) → HasNoPick letters wheel start
-  none_step none [] picks = omega arith
-  none_step none (other ∷ others) picks = none others (from_next other others picks).1
-
--- ---- all six wheels
+-- ---- all letters
 
 -- So far these letters are picked, and the next place is this one or a later one. What is the first pick for the wheels that
 -- are left makes the first pick for all, and where there is none, there is none for all.
-pub record IsPicking (letters : List ℕ) (wheel start : ℕ) (done : List ℕ) : Type 0 where
+pub record IsPicking (letters : List ℕ) (start : ℕ) (done : List ℕ) : Type 0 where
   pub places : List ℕ
-  pub count : length places + 1 ≡ wheel
+  pub few : length done ≤ 6
   pub taken : done ≡ map (λ place. slice_index letters place) places
-  pub made : (more : List ℕ) → IsFirstPick letters wheel start more → IsFirstPick letters 1 0 (places ++ more)
-  pub spent : HasNoPick letters wheel start → HasNoPick letters 1 0
+  pub made : (more : List ℕ) → IsFirstPick letters (length done + 1) start more → IsFirstPick letters 1 0 (places ++ more)
+  pub spent : HasNoPick letters (length done + 1) start → HasNoPick letters 1 0
 
-pub picking_none : (letters : List ℕ) → IsPicking letters 1 0 []
-picking_none letters = record { places = []; count = refl; taken = refl; made = λ more first. first; spent = λ none. none }
+pub picking_none : (letters : List ℕ) → IsPicking letters 0 []
+picking_none letters = record { places = []; few = omega arith; taken = refl; made = λ more first. first; spent = λ none. none }
 
-pub picking_more : (letters : List ℕ) (wheel start place : ℕ) (done : List ℕ) → wheel < 7 → IsPicking letters wheel start done
-    → IsNextPlace letters wheel start place → IsPicking letters (wheel + 1) (place + 1) (done ++ slice_index letters place ∷ [])
-picking_more letters wheel start place done less picking next = record {
-  places = picking.places ++ place ∷ [];
-  count = omega (arith, length-append picking.places (place ∷ []), picking.count);
-  taken = ap (λ ls. ls ++ slice_index letters place ∷ []) picking.taken ∙ sym (map_push (λ p. slice_index letters p) picking.places place);
-  made = λ more first. rw (append_assoc picking.places (place ∷ []) more) (picking.made (place ∷ more) (record {
-    picks = (next.after, next.inside, next.on, first.picks);
-    first = λ others picks. first_step letters wheel start place next less more others first picks;
-  }));
-  spent = λ none. picking.spent (none_step letters wheel start place next less none);
-}
+no_seventh : (letter : ℕ) → ¬ (Contains (ring_of 7) letter)
+unfolding ring_of
+no_seventh letter on = grind arith
+
+pub picking_more : (letters : List ℕ) (start letter : ℕ) (done next : List ℕ) → IsPicking letters start done → start < length letters
+    → letter ≡ slice_index letters start → IsTakenInTurn done letter next → IsPicking letters (start + 1) next
+picking_more letters start letter done next picking inside is (OnWheel on taken) =
+    let less : length done < 6 = elim (cases_lt (length done) 6) [
+      | inl few ↦ few
+      | inr six ↦ absurd (no_seventh letter (subst (λ w. Contains (ring_of w) letter) (omega (arith, six, picking.few)) on))
+    ] in
+    let wheel : length next ≡ length done + 1 = ap length taken ∙ length-append done (letter ∷ []) in
+    record {
+      places = picking.places ++ start ∷ [];
+      few = omega (arith, wheel, less);
+      taken = grind (arith, map_push, picking.taken);
+      made = λ more first. rw (append_assoc picking.places (start ∷ []) more) (picking.made (start ∷ more)
+          (first_on letters (length done + 1) start inside more (omega (arith, less)) (rw is at on) (rw wheel at first)));
+      spent = λ none. picking.spent (none_on letters (length done + 1) start inside (omega (arith, less)) (rw wheel at none));
+    }
+picking_more letters start letter done next picking inside is (OffWheel off same) = rw same (record {
+  places = picking.places;
+  few = picking.few;
+  taken = picking.taken;
+  made = λ more first. picking.made more (record {
+    picks = earlier letters _ (start + 1) start more (omega arith) first.picks;
+    first = λ others picks. first.first others (later letters _ start inside others (rw is at off) picks);
+  });
+  spent = λ none. picking.spent (λ others picks. none others (later letters _ start inside others (rw is at off) picks));
+})
 
 -- ---- all rising places, said in one
 
@@ -96,9 +117,9 @@ picks_from_picked letters places picked are =
     picks_of letters 1 0 places are.rising (omega (arith, length-map places (λ p. slice_index letters p), ap length are.taken, are.on_wheels.count))
     (λ i letter is. subst (λ w. Contains (ring_of w) letter) (omega arith) (are.on_wheels.each (suc i) letter (ap (λ xs. slice_get xs i) are.taken ∙ is)))
 
-pub key_picked : (letters : List ℕ) (start : ℕ) (done : List ℕ) → IsPicking letters 7 start done → IsInternalKey letters done
-key_picked letters start done picking =
-    let best = picking.made [] (record { picks = refl; first = λ others picks. tt }) in
+pub key_picked : (letters done : List ℕ) (start : ℕ) → IsPicking letters start done → length done ≡ 6 → IsInternalKey letters done
+key_picked letters done start picking six =
+    let best = picking.made [] (record { picks = omega (arith, six); first = λ others picks. tt }) in
     let picks : Picks letters 1 0 picking.places = rw (append-nil picking.places) at best.picks in
     let all = on_wheels letters 1 0 picking.places picks in
     record {
@@ -114,18 +135,11 @@ key_picked letters start done picking =
       first = λ others other are. rw (append-nil picking.places) at (best.first others (picks_from_picked letters others other are));
     }
 
-pub run_out : (letters : List ℕ) (wheel start : ℕ) (done : List ℕ) → wheel < 7 → IsPicking letters wheel start done
-    → NoneIsOnWheel letters wheel start (length letters) → HaveRunOut letters
-run_out letters wheel start done less picking none places picked are =
-    picking.spent (none_left letters wheel start less none) places (picks_from_picked letters places picked are)
+none_left : (letters : List ℕ) (wheel : ℕ) → wheel < 7 → HasNoPick letters wheel (length letters)
+none_left letters wheel less [] picks = omega arith
+none_left letters wheel less (place ∷ places) (after, inside, on, more) = omega arith
 
-pub picked_count : (letters : List ℕ) (wheel start : ℕ) (done : List ℕ) → IsPicking letters wheel start done → length done + 1 ≡ wheel
-picked_count letters wheel start done picking = omega (arith, ap length picking.taken, length-map picking.places (λ p. slice_index letters p), picking.count)
-
--- one place more that isn't on the wheel
-pub off_more : (letters : List ℕ) (wheel start place : ℕ) → NoneIsOnWheel letters wheel start place → ¬ (Contains (ring_of wheel) (slice_index letters place))
-    → NoneIsOnWheel letters wheel start (place + 1)
-off_more letters wheel start place before off k after below on = elim (cases_eq k place) [
-  | inl same ↦ off (subst (λ i. Contains (ring_of wheel) (slice_index letters i)) same on)
-  | inr apart ↦ before k after (omega (arith, below, apart)) on
-]
+pub run_out : (letters done : List ℕ) (start : ℕ) → IsPicking letters start done → length letters ≤ start → length done ≢ 6 → HaveRunOut letters
+run_out letters done start picking end less places picked are =
+    picking.spent (λ others picks. none_left letters _ (omega (arith, less, picking.few)) others (earlier letters _ start (length letters) others end picks))
+    places (picks_from_picked letters places picked are)

@@ -15,10 +15,10 @@ pub use Rattle.std.specs.Io.KnownBytes.{Appends, Consumes, IsAtEnd, Keeps}
 pub use Rattle.std.specs.List.{AllWithin, cons_option, enumerate_from, flat_map, join_with_byte, list_all}
 pub use Rattle.arrayvec.specs.ArrayString.{array_string_len}
 pub use Rattle.arrayvec.specs.ArrayVec.{ArrayVec, array_vec_len}
-pub use Rattle.kd_form.specs.FormParts.{AreFewLetters, AreHeadingWords, BeginsHeading, IsFirstOf, IsFraction, IsHeading, IsLetterCount, IsLineText, WithReturn, WithoutReturn}
-pub use Rattle.kd_form.specs.FormReading.{Begins, Broken, HoldsBody, HoldsForm, HoldsPart, HoldsStage, IsBodyGiven, IsHeadingDue, IsHeadingOff, IsLastText, IsNextLine, Longer, MayBegin, Missing, Other}
-pub use Rattle.kd_form.specs.FormText.{AreFirstParts, ArePartsRead, InLast, InPart, InWhole, IsReadTo, IsReceiveFault, IsRefusedAtEnd, IsRefusedEarly, IsRefusedForGood, IsRefusedPart, IsTextOf, NoHeading, TooFew, Turn, count_due, form_message, given_byte, given_letters, given_text, sent_letters}
-pub use Rattle.kd_form.specs.InternalKey.{ArePicked, AreRising, ComesFirst, HaveRunOut, IsInternalKey}
+pub use Rattle.kd_form.specs.FormParts.{AreFewLetters, AreHeadingWords, BeginsHeading, IsFraction, IsHeading, IsLetterCount, IsLineText, WithReturn, WithoutReturn, cut, parts_of}
+pub use Rattle.kd_form.specs.FormReading.{Begins, Broken, HoldsAt, HoldsBody, HoldsForm, HoldsLast, HoldsPart, HoldsStage, IsBodyGiven, IsHeadingDue, IsHeadingOff, IsLastText, IsNextLine, Longer, MayBegin, Missing, Other}
+pub use Rattle.kd_form.specs.FormText.{AtPart, EndsAt, IsComplete, IsLast, IsReadTo, IsReceiveFault, IsRefusedAtEnd, IsRefusedForGood, IsTextOf, NoHeading, OfRest, Place, ReadsTo, StandsAt, at_first, form_message, given_byte, given_letters, given_text, place_behind, sent_letters}
+pub use Rattle.kd_form.specs.InternalKey.{ArePicked, AreRising, ComesFirst, HaveRunOut, IsInternalKey, IsTakenInTurn, OffWheel, OnWheel}
 pub use Rattle.kd_form.specs.KeyPatterns.{HasPins, HasSlots, IsAnyKeyLine, key_letters, key_pattern, places_for, rotor_pattern}
 pub use Rattle.kd_form.specs.Keys.{AreKeys, ArePinKeys, AreRotorKeys, key_words}
 pub use Rattle.kd_form.specs.Laws.{FormsBecomeOneText, FormsGiveTheirOrders, FormsHaveOneFault, FormsStayRefused, OrdersBecomeOneForm, OrdersGiveLetters, OrdersHaveOneFault, ReceivedFormsHaveNoFault, SentOrdersHaveNoFault}
@@ -26,15 +26,14 @@ pub use Rattle.kd_form.specs.Making.{IsMade, IsMadeText, Suits, cipher_from, enc
 pub use Rattle.kd_form.specs.OnTheKey.{IsKeyFault, OffKey}
 pub use Rattle.kd_form.specs.Order.{BeginsWithKeys, BreaksOff, IsAnyHead, IsEnded, IsHead, IsHeadFault, IsKeyLine, IsOrder}
 pub use Rattle.kd_form.specs.Part.{Part, behind_spaces, body_text, fraction, groups_of, heading_words, indicator_words, part_text, pieces, with_line}
-pub use Rattle.kd_form.specs.Patterns.{IsFilledLine, IsPatternLine, blanks, filled_in, fits, letters_at}
+pub use Rattle.kd_form.specs.Patterns.{AreAppended, IsFilledLine, IsPatternLine, blanks, filled_in, fits, letters_at}
 pub use Rattle.kd_form.specs.Reading.{HasIndicator, HasIndicatorsAround, InChoice, InExternal, InIndicators, InList, IsLettersFault, IsLettersText, IsPinFault, IsPinText, group_in, keys_in, list_in, message_key, text_in}
 pub use Rattle.kd_form.specs.Receiving.{HasHeading, InBody, InHeading, InNumber, IsBodyFault, IsBodyText, IsEarlyFault, IsExpected, IsPartFault, IsPartRead}
 pub use Rattle.kd_form.specs.SendSteps.{AreSuitedKeys, AreTaken, HeadIsRead, IsFresh, IsHeadRead, IsHeadLine, IsLastTaken, IsOrderRead, IsStageRead, IsTextRead}
 pub use Rattle.kd_form.specs.SendStream.{CanBeWritten, IsAllowedFront, IsSentBefore, orders}
 pub use Rattle.kd_form.specs.Sending.{AreMadeTexts, Cut, InHead, InKeys, InParts, InText, IsBadAt, IsFirstKeysFault, IsFormOf, IsKeysFault, IsSendFault, IsSendable, NoLetter, StandsInOrder, blank_of, letter_of_byte, letters_from, parts_needed, text_letters}
-pub use Rattle.kd_form.specs.StreamSteps.{ClosesAs, ClosesAt, EndsIn, FedTo, FeedsAll, HasRoom, Held, IsFed, IsRead, ReadsNext, WritesWhole, answer_to, fault_of, stops_at_device}
+pub use Rattle.kd_form.specs.StreamSteps.{AtSource, ClosesAs, ClosesAt, EndsIn, FedTo, FeedsAll, HasRoom, Held, InFeeding, IsFed, IsRead, IsStopped, ReadsNext, WritesWhole, answer_to, fault_of, stops_at_device}
 pub use Rattle.kd_form.specs.Streams.{Answers, AreWell, AtEnd, ByTheEnd, ByThen, Closes, FallsShort, IsOpen, IsRefused, IsStreamed, Message, Off, SinkFails, SourceFails, Stands, TooLong, Whole, is_device, is_off_key}
-pub use Rattle.kd_form.specs.Striking.{IsNextPlace, NoneIsOnWheel}
 pub use Rattle.kd_form.specs.Typing.{IsAllowedTo, IsTextFault, IsTypedTo, Lights, cipher_text, texts, typed_letters}
 pub use Rattle.kd_form.specs.declared.fault.FormFault.{FormFault}
 pub use Rattle.kd_form.specs.declared.fault.FormFault.TheVariants.{BadByte, BadHeading, CountWrong, EmptyText, IndicatorSpent, IndicatorsDiffer, KeyNotOnWheel, NotReady, PartKeys, PartOrder, WrongGroup}

@@ -1,9 +1,8 @@
 -- What refuses a form: its parts, one after another, and for good.
-use Rattle.kd_form.proofs.Prelude.{All-take, false≢true, get_or-append_seam, take, [], ◌≡◌, inl, inr, ℕ, false, List, refl, sym, ap, subst, ◌∙◌, Option, Result, Err, ◌≢◌, ◌⊎◌, ◌+◌, ◌-◌, ◌<◌, ◌≤◌, ◌∷◌, ◌++◌, length, drop, get_or, append_assoc, length-append, arith, codes, All, IsTrue, Port, Fail, Parts, Day, FormFault, BadByte, InHeading, InNumber, InBody, IsEarlyFault, IsRefusedForGood, NoHeading, InWhole, InLast, form_message, given_letters, count_due, Turn, IsRefusedEarly, IsKeyFault, IsBadAt, orders, Answers, AreWell, is_device, is_off_key, texts, drop-append_seam, get_or-append, cases_lt, append-nil, nil_from_length, All-same, is_text_byte, IsWithout, IsFirstPart, TextsTellFirstParts, NumbersAreWords, BeginsHeading, IsFirstOf, FormsStayRefused, AllPass-from_list_all}
+use Rattle.kd_form.proofs.Prelude.{◌≤◌, [], ◌≡◌, inl, inr, ℕ, false, List, refl, sym, ap, subst, ◌∙◌, Option, Result, Err, ◌⊎◌, ◌+◌, ◌-◌, ◌∷◌, ◌++◌, length, append_assoc, length-append, arith, Port, Fail, Parts, Day, FormFault, BadByte, InHeading, InNumber, InBody, IsEarlyFault, IsRefusedForGood, NoHeading, form_message, given_letters, IsKeyFault, IsBadAt, orders, Answers, AreWell, is_device, is_off_key, texts, append-nil, IsWithout, TextsTellFirstParts, NumbersAreWords, BeginsHeading, FormsStayRefused, Message, map-append, given_byte, blank_of, OfRest, ReadsTo, Place, at_first, place_behind, StandsAt, EndsAt, IsRefusedAtEnd, AtPart, cut, parts_of}
 use Rattle.kd_form.proofs.Headings.{ended_heading, heading_there}
-use Rattle.kd_form.proofs.OneCut.{FirstCut, first_cut, some_byte}
-use Rattle.kd_form.proofs.Growing.{begins_front, few_begin, first_grows, last_rest, last_whole, no_break, same_start, turn_with}
-use Rattle.kd_form.proofs.OneOrder.{Shorter, Longer, fronts, bad_longer}
+use Rattle.kd_form.proofs.OneText.{AnswersAt, ends_at, reads_end, stands_at}
+use Rattle.kd_form.proofs.Cutting.{IsAlike, alike, as_parts, first_done, single}
 
 -- -------- of which answers a device is the reason, or the machine
 
@@ -15,9 +14,30 @@ pub order_told : (s : Day) (source sink : Port) (read text : List ℕ) (answer :
     → IsToldOf source sink answer
 order_told s source sink read text answer answers = grind arith
 
+abbrev IsOfForms : FormFault → Type 0
+IsOfForms fault = (is_device (Err fault) ≡ false) × (is_off_key (Err fault) ≡ false)
+
+at_told : (s : Day) (fault : FormFault) (p : Place) (parts : List (List ℕ)) → AnswersAt s (Err fault) p parts → IsOfForms fault
+at_told s fault p [] answer = grind arith
+at_told s fault p (part ∷ parts) answer = grind arith
+
+refused_told : (s : Day) (form text : List ℕ) (fault : FormFault) → IsRefusedForGood s form text fault ⊎ IsRefusedAtEnd s form text fault → IsOfForms fault
+refused_told s form text fault (inl (NoHeading none empty is)) = rw is (refl, refl)
+refused_told s form text fault (inl (AtPart (letters, reads, is))) =
+    reads_end s (StandsAt s fault) (IsOfForms fault) (λ p ps at. at_told s fault p ps (stands_at s fault p ps at)) at_first (parts_of form) letters reads
+refused_told s form text fault (inr (letters, reads, is)) =
+    reads_end s (EndsAt s fault) (IsOfForms fault) (λ p ps at. at_told s fault p ps (ends_at s fault p ps at)) at_first (parts_of form) letters reads
+
+told_of : (m : Message) (source sink : Port) (read text : List ℕ) (answer : Result (Unit {0}) FormFault)
+    → ((fault : FormFault) → m.stands read fault ⊎ m.refused read fault → IsOfForms fault) → Answers m source sink read text answer → IsToldOf source sink answer
+told_of m source sink read text answer told answers = grind (arith, told)
+
 pub form_told : (s : Day) (source sink : Port) (read text : List ℕ) (answer : Result (Unit {0}) FormFault) → Answers (form_message s) source sink read text answer
     → IsToldOf source sink answer
-form_told s source sink read text answer answers = grind arith
+form_told s source sink read text answer = told_of (form_message s) source sink read text answer (λ fault e. elim e [
+  | inl good ↦ refused_told s read good.0 fault (inl good.1)
+  | inr either ↦ refused_told s read either.0 fault either.1
+])
 
 pub text_told : (enciphers : List ℕ → List ℕ) (source sink : Port) (read text : List ℕ) (answer : Result (Unit {0}) FormFault)
     → Answers (texts enciphers) source sink read text answer → IsToldOf source sink answer
@@ -44,97 +64,88 @@ early_as_well s number expected start line body other fault tell unbroken bad (I
     omega (arith, ap length there.1, length-append line (10 ∷ body), length-append line (10 ∷ other)) in
     InBody h other place (ended_heading s line other h has.is_heading there.0) numbered due (bad place (subst (λ x. IsBadAt x place) there.1 at)) (is ∙ ap BadByte same)
 
-bad_in_less : (body more : List ℕ) (place : ℕ) → All (λ b. IsTrue (is_text_byte b)) more → IsBadAt (body ++ more) place → IsBadAt body place
-bad_in_less body more place good at = elim (fronts body more at.before (at.byte ∷ at.rest) at.joined) [
-  | Shorter beyond longer left ↦
-      let size : length beyond < length more =
-      omega (arith, ap length left, length-append beyond (at.byte ∷ at.rest)) in
-      let here : get_or more (length beyond) 0 ≡ at.byte = cc (left, get_or-append_seam beyond at.byte at.rest 0) in
-      absurd (false≢true (sym at.bad ∙ (rw here at (good (length beyond) 0 size))))
-  | Longer x beyond longer left ↦ grind arith
-]
+-- ---- part after part, as more comes
 
--- fewer than six bytes of what begins a heading may stand in a body
-few_allowed : (bytes more : List ℕ) → length bytes < 6 → BeginsHeading (bytes ++ more) → All (λ b. IsTrue (is_text_byte b)) bytes
-few_allowed bytes more few begins =
-    let Good : (ℕ → Type 0) = λ b. IsTrue (is_text_byte b) in
-    All-same Good bytes (take (length bytes) (codes "PART ")) (few_begin bytes (omega arith) (more, begins))
-    (All-take Good (length bytes) (codes "PART ") (AllPass-from_list_all is_text_byte (codes "PART ") refl))
+-- the form is read so from a place on, and this text is made of its parts
+abbrev pub Makes : Day → OfRest → Place → List ℕ → List ℕ → Type 0
+Makes s B p form text = (letters : List ℕ) × ReadsTo s B p (parts_of form) letters × (text ≡ given_letters s letters)
 
--- ---- the last part, with more bytes
+-- Where the parts are read to, and what is left there: what is so of that with more bytes is so of the form with them.
+pub record Reached (s : Day) (A : OfRest) (p : Place) (form letters : List ℕ) : Type 1 where
+  pub there : Place
+  pub rest : List ℕ
+  pub so : A there (parts_of rest)
+  pub counted : there.start + length rest ≡ p.start + length form
+  pub later : p.number ≤ there.number
+  pub first : there.number ≡ p.number → (form ≡ rest) × (letters ≡ [])
+  pub goes_on : (B : OfRest) (more made others : List ℕ) (parts : List (List ℕ)) → parts_of (rest ++ more) ≡ parts → ReadsTo s B there parts others
+      → made ≡ given_letters s others → Makes s B p (form ++ more) (given_letters s letters ++ made)
 
--- its heading's line, and a body in which the same bytes are bad
-record IsAlike (part : List ℕ) (line body : List ℕ) : Type 0 where
-  other : List ℕ
-  is : part ≡ line ++ 10 ∷ other
-  bad : (place : ℕ) → IsBadAt body place → IsBadAt other place
+pub reached : (s : Day) (A : OfRest) → ((p : Place) → ¬ (A p [])) → (p : Place) (parts : List (List ℕ)) (form letters : List ℕ) → parts_of form ≡ parts
+    → ReadsTo s A p parts letters → Reached s A p form letters
+reached s A none p [] form letters same reads = absurd (none p reads.0)
+reached s A none p (part ∷ parts) form letters same (inl (held, nil)) = rw nil (record {
+  there = p;
+  rest = form;
+  so = subst (A p) (sym same) held;
+  counted = refl;
+  later = omega arith;
+  first = λ is. (refl, refl);
+  goes_on = λ B more made others parts is reads given. (others, subst (λ ps. ReadsTo s B p ps others) (sym is) reads, given);
+})
+reached s A none p (part ∷ []) form letters same (inr (count, one, left, is, due, reads, joined)) = absurd (none (place_behind p count part) reads.0)
+reached s A none p (part ∷ next ∷ parts) form letters same (inr (count, one, left, is, due, reads, joined)) =
+    let others : (cut form).1 ≡ next ∷ parts = cc in
+    let first : (cut form).0 ≡ part = cc in
+    let done = first_done form (λ nil. cc) in
+    let g = reached s A none (place_behind p count part) (next ∷ parts) done.rest left (sym done.others ∙ others) reads in
+    record {
+      there = g.there;
+      rest = g.rest;
+      so = g.so;
+      counted = omega (arith, g.counted, ap length done.joined, ap length first, length-append (cut form).0 done.rest);
+      later = omega (arith, g.later);
+      first = λ same. absurd (omega (arith, same, g.later));
+      goes_on = λ B more made ls ps are reads given.
+          let (whole, further, given) = g.goes_on B more made ls ps are reads given in
+          let parts_are : part ∷ parts_of (done.rest ++ more) ≡ parts_of (form ++ more) =
+          ap (λ p. p ∷ parts_of (done.rest ++ more)) (sym first) ∙ sym (as_parts (form ++ more) _ _ (done.grows more)) in (
+            one ++ whole,
+            subst (λ ps. ReadsTo s B p ps (one ++ whole)) parts_are (inr (count, one, whole, is, due, further, refl)),
+            rw joined (cc (
+              map-append (given_byte (blank_of s)) one left,
+              map-append (given_byte (blank_of s)) one whole,
+              given,
+              append_assoc (given_letters s one) (given_letters s left) made,
+            )),
+          );
+    }
 
--- the part goes on
-alike_longer : (part line body cut beyond : List ℕ) → part ≡ line ++ 10 ∷ body → cut ≡ part ++ beyond → IsAlike cut line body
-alike_longer part line body cut beyond broken longer = grind (arith, append_assoc {A = ℕ}, bad_longer)
+-- what refuses a part for good does so with more bytes
+stands_on : (s : Day) (fault : FormFault) (more : List ℕ) → TextsTellFirstParts → (p : Place) (rest : List ℕ)
+    → StandsAt s fault p (parts_of rest) → StandsAt s fault p (parts_of (rest ++ more))
+stands_on s fault more tell p rest stands = split (cut rest).1 refl stands where
+  first_stands : (first line other : List ℕ) (others : List (List ℕ)) → first ≡ line ++ 10 ∷ other → IsWithout 10 line
+      → IsEarlyFault s p.number p.expected p.start first fault → StandsAt s fault p (first ∷ others)
+  first_stands first line other [] is without early = ((line, other, record { joined = is; without = without }), early)
+  first_stands first line other (next ∷ others) is without early = inl early
 
--- or its last bytes begin the next heading
-alike_shorter : (part line body cut rest more beyond : List ℕ) (byte : ℕ) → IsFirstOf part part [] → part ≡ line ++ 10 ∷ body → IsWithout 10 line
-    → IsFirstOf (part ++ more) cut rest → part ≡ cut ++ byte ∷ beyond → rest ≡ byte ∷ (beyond ++ more) → IsAlike cut line body
-alike_shorter part line body cut rest more beyond byte first broken unbroken next split left = elim next.ends [
-  | inl none ↦ cc
-  | inr ended ↦
-      let some : 1 ≤ length cut = some_byte (part ++ more) cut rest next.joined ended.0 ended.1 in
-      let size : length part ≡ length cut + length (byte ∷ beyond) = ap length split ∙ length-append cut (byte ∷ beyond) in
-      let last : get_or part (length cut - 1) 0 ≡ 10 = sym (get_or-append part more 0 (length cut - 1) (omega (arith, size))) ∙ ended.0 in
-      let at_end : length cut - 1 + 1 ≡ length cut = omega (arith, some) in
-      let behind : drop (length cut - 1 + 1) part ≡ byte ∷ beyond = rw at_end (ap (drop (length cut)) split ∙ drop-append_seam cut (byte ∷ beyond)) in
-      let begins : BeginsHeading ((byte ∷ beyond) ++ more) = rw left at ended.1 in
-      let few : length (byte ∷ beyond) < 6 = elim (cases_lt (length (byte ∷ beyond)) 6) [
-        | inl short ↦ short
-        | inr long ↦ absurd (first.whole (length cut - 1) (omega (arith, size)) last (rw behind (begins_front (byte ∷ beyond) more long begins)))
-      ] in
-      elim (fronts (line ++ 10 ∷ []) body cut (byte ∷ beyond) (append_assoc line (10 ∷ []) body ∙ sym broken ∙ split)) [
-        | Shorter other longer gone ↦ record {
-          other = other;
-          is = longer ∙ append_assoc line (10 ∷ []) other;
-          bad = λ place at. bad_in_less other (byte ∷ beyond) place (few_allowed (byte ∷ beyond) more few begins) (rw gone at at);
-        }
-        | Longer x beyond' longer gone ↦ grind (arith, longer, length-append, no_break)
-      ]
-]
-
-alike : (part line body cut rest more : List ℕ) → IsFirstOf part part [] → part ≡ line ++ 10 ∷ body → IsWithout 10 line → IsFirstOf (part ++ more) cut rest
-    → IsAlike cut line body
-alike part line body cut rest more first broken unbroken next = grind (arith, fronts, alike_longer, alike_shorter)
-
--- ---- with more bytes behind it
-
-nothing_or_some : (xs : List ℕ) → (xs ≡ []) ⊎ (xs ≢ [])
-nothing_or_some [] = inl refl
-nothing_or_some (x ∷ xs) = inr (λ none. cc)
-
-last_stays : (s : Day) (form more text line body : List ℕ) (fault : FormFault) (t : Turn s form) → TextsTellFirstParts → more ≢ [] → t.after ≡ []
-    → IsFirstPart 10 t.part line body → IsRefusedEarly s form t fault → text ≡ given_letters s t.letters → IsRefusedForGood s (form ++ more) text fault
-last_stays s form more text line body fault t tell some last broken early is =
-    let cut : FirstCut (t.rest ++ more) = first_cut (t.rest ++ more) in
-    let u : Turn s (form ++ more) = turn_with s form more cut.part cut.rest t some cut.first in
-    let same : IsAlike cut.part line body =
-    alike t.rest line body cut.part cut.rest more (last_whole s form t last) (last_rest s form t last ∙ broken.joined) broken.without cut.first in
-    let start : ℕ = length (form ++ more) - length (t.rest ++ more) in
-    let found : IsEarlyFault s (length t.before + 1) (count_due t.before t.count) start cut.part fault =
-    rw same.is (early_as_well s (length t.before + 1) (count_due t.before t.count) start line body same.other fault tell broken.without same.bad
-    (rw broken.joined at (rw (← same_start form t.rest more) at early))) in
-    elim (nothing_or_some cut.rest) [
-      | inl none ↦ InLast u line same.other none (record { joined = same.is; without = broken.without }) found is
-      | inr left ↦ InWhole u left (inl found) is
-    ]
-
-some_more : (s : Day) (form more text : List ℕ) (fault : FormFault) → TextsTellFirstParts → more ≢ [] → IsRefusedForGood s form text fault
-    → IsRefusedForGood s (form ++ more) text fault
-some_more s form more text fault tell some (NoHeading none empty is) = grind (arith, NoHeading, append_assoc)
-some_more s form more text fault tell some (InWhole t left refused is) =
-    let u : Turn s (form ++ more) = turn_with s form more t.part (t.after ++ more) t some (first_grows t.rest t.part t.after more t.first left) in
-    InWhole u (λ none. left (nil_from_length t.after (omega (arith, ap length none, length-append t.after more)))) (rw (same_start form t.rest more) refused) is
-some_more s form more text fault tell some (InLast t line body last broken early is) = last_stays s form more text line body fault t tell some last broken early is
+  split : (others : List (List ℕ)) → (cut rest).1 ≡ others → StandsAt s fault p ((cut rest).0 ∷ others)
+      → StandsAt s fault p (parts_of (rest ++ more))
+  split [] none ((line, body, broken), early) =
+      let whole : rest ≡ line ++ 10 ∷ body = sym (single rest none) ∙ broken.joined in
+      let like : IsAlike (cut (rest ++ more)).0 line body =
+      rw whole (alike line body more broken.without (rw whole at none)) in
+      first_stands (cut (rest ++ more)).0 line like.other (cut (rest ++ more)).1 like.is broken.without
+      (rw like.is (early_as_well s p.number p.expected p.start line body like.other fault tell broken.without like.bad (rw broken.joined at early)))
+  split (next ∷ others) some refused =
+      let done = first_done rest (λ none. cc) in
+      subst (λ (c : List ℕ × List (List ℕ)). StandsAt s fault p (c.0 ∷ c.1)) (sym (done.grows more)) refused
 
 pub stays_refused : TextsTellFirstParts → NumbersAreWords → FormsStayRefused
-stays_refused tell numbers s form more text fault found = elim (nothing_or_some more) [
-  | inl none ↦ rw (none, append-nil form) found
-  | inr some ↦ some_more s form more text fault tell some found
-]
+stays_refused tell numbers s form more text fault (NoHeading none empty is) =
+    NoHeading (λ others. subst (λ l. ¬ (BeginsHeading l)) (sym (append_assoc form more others)) (none (more ++ others))) empty is
+stays_refused tell numbers s form more text fault (AtPart (letters, reads, is)) =
+    let g = reached s (StandsAt s fault) (λ p none. none) at_first (parts_of form) form letters refl reads in
+    let (whole, stand, given) = g.goes_on (StandsAt s fault) more [] [] _ refl (inl (stands_on s fault more tell g.there g.rest g.so, refl)) refl in
+    AtPart (whole, stand, is ∙ sym (append-nil (given_letters s letters)) ∙ given)

@@ -1,7 +1,7 @@
 -- Bytes that are fed one after another, and reads that follow one another.
 use Rattle.std.proofs.Common.{append-nil, take-append-drop}
 use Rattle.std.specs.Io.{StartsWith}
-use Rattle.kd_form.proofs.Prelude.{[], ◌≡◌, ℕ, ◌+◌, ◌-◌, ◌≤◌, ◌<◌, Bool, true, false, ◌||◌, List, ◌∷◌, ◌++◌, Option, Some, Result, Ok, Err, length, take, drop, IsTrue, refl, sym, ap, subst, ◌∙◌, append_assoc, length-append, length-drop, arith, Appends, Consumes, Keeps, IsAtEnd, starts_with_of_append, read_limit, Port, IsWell, Ends, TakesFront, FormFault, Message, IsOpen, ByThen, ByTheEnd, Answers, Whole, Stands, AtEnd, TooLong, SourceFails, SinkFails, IsStreamed, FallsShort, ClosesAt, Held, HasRoom, FedTo, IsFed, FeedsAll, EndsIn, ClosesAs, WritesWhole, IsRead, ReadsNext, fault_of, answer_to, stops_at_device}
+use Rattle.kd_form.proofs.Prelude.{AtSource, InFeeding, IsStopped, [], ◌≡◌, ℕ, ◌+◌, ◌-◌, ◌≤◌, ◌<◌, Bool, true, false, ◌||◌, List, ◌∷◌, ◌++◌, Option, Some, Result, Ok, Err, length, take, drop, IsTrue, refl, sym, ap, subst, ◌∙◌, append_assoc, length-append, length-drop, arith, Appends, Consumes, Keeps, IsAtEnd, starts_with_of_append, read_limit, Port, IsWell, Ends, TakesFront, FormFault, Message, ByThen, ByTheEnd, Answers, Whole, Stands, AtEnd, TooLong, SourceFails, SinkFails, IsStreamed, FallsShort, ClosesAt, Held, HasRoom, FedTo, IsFed, FeedsAll, EndsIn, ClosesAs, WritesWhole, IsRead, ReadsNext, fault_of, answer_to, stops_at_device}
 use Rattle.std.proofs.KnownBytes.{Consumes-nil, Consumes-kept, Consumes-trans, Appends-nil, Appends-trans, starts_with_rest}
 use Rattle.kd_form.specs.declared.fault.FormFault.TheVariants as faults
 use Rattle.kd_form.specs.declared.stream.stop.Stop.{Stop}
@@ -89,42 +89,16 @@ fed_up_to m old new front more sink stop fed bytes text held =
 pub read_failed : (m : Message) (new : List ℕ → List ℕ → Type 0) (bytes text : List ℕ) (room : ℕ) (had has took : Option (List ℕ)) (a c d : Bool)
     → Held m new bytes text → length bytes + room ≤ read_limit → Keeps had has → c ≡ (a || true)
     → IsRead m new bytes text room (over had has a c) (over took took d d) (Err stops.Device)
-read_failed m new bytes text room had has took a c d held few kept up = record {
-  more = [];
-  made = [];
-  within = omega arith;
-  given = Consumes-kept had had has [] (Consumes-nil had) kept;
-  written = Appends-nil took;
-  read = SourceFails (omega (arith, length-append bytes []))
-      (subst (λ b. IsOpen m b (text ++ [])) (sym (append-nil bytes)) (subst (IsOpen m bytes) (sym (append-nil text)) held.open_yet))
-      (record { failed = failed_now a c up; well = refl }) refl;
-}
+read_failed m new bytes text room had has took a c d held few kept up =
+    grind (arith, AtSource, failed_now, Consumes-kept had had has [], Consumes-nil had, Appends-nil took, append-nil {A = ℕ})
 
 -- what was fed of a read stopped
-fed_answers : (m : Message) (new : List ℕ → List ℕ → Type 0) (read text : List ℕ) (source : Port) (took wrote : Option (List ℕ)) (d f : Bool) (stop : Stop)
-    → length read ≤ read_limit → IsWell source → FedTo m new read text (Err stop) → f ≡ (d || stops_at_device {T = Unit {0}} (Err stop))
-    → Answers m source (over took wrote d f) read text (Err (fault_of stop))
-fed_answers m new read text source took wrote d f (stops.Refused fault) few well is up =
-    Stands fault few (subst (λ b. m.stands b fault) (append-nil read) (is.stands []))
-    (subst (λ b. m.before (Some fault) b text) (append-nil read) (is.written [])) (well, well_now d f up) refl
-fed_answers m new read text source took wrote d f stops.Device few well is up =
-    SinkFails is.due few (ByThen is.front is.of_bytes is.open_yet) is.of_due (record { failed = failed_now d f up; well = well }) refl
-
 pub read_stopped : (m : Message) (old new : List ℕ → List ℕ → Type 0) (bytes text more : List ℕ) (room : ℕ) (had has took wrote : Option (List ℕ)) (a c d f : Bool) (stop : Stop)
     → Held m old bytes text → length bytes + room ≤ read_limit → length more ≤ room → Consumes had has more → c ≡ (a || false)
     → FeedsAll m old new more (over took wrote d f) (Err stop) → f ≡ (d || stops_at_device {T = Unit {0}} (Err stop))
     → IsRead m new bytes text room (over had has a c) (over took wrote d f) (Err stop)
 read_stopped m old new bytes text more room had has took wrote a c d f stop held few inside given well fed up =
-    let one = fed bytes text held in
-    record {
-      more = more;
-      made = one.made;
-      within = inside;
-      given = given;
-      written = one.written;
-      read = fed_answers m new (bytes ++ more) (text ++ one.made) (over had has a c) took wrote d f stop
-          (omega (arith, length-append bytes more, few, inside)) (well_now a c well) one.fed up;
-    }
+    grind (arith, InFeeding, well_now)
 
 -- ---- read after read
 
@@ -148,18 +122,17 @@ pub room_behind : (m : Message) (holds : List ℕ → List ℕ → Type 0) (sour
 room_behind m holds source sink count before =
     record { bytes = before.read; text = before.text; held = before.held; within = omega (arith, before.counted, before.within) }
 
--- the ports since an earlier time, since which they didn't fail
-answers_since : {m : Message} {had has next took taken wrote : Option (List ℕ)} {a b c d e f : Bool} {read text : List ℕ} {answer : Result (Unit {0}) FormFault}
-    → b ≡ a → e ≡ d → Answers m (over has next b c) (over taken wrote e f) read text answer → Answers m (over had next a c) (over took wrote d f) read text answer
-answers_since p q (Whole few ended becomes well is) = Whole few ended becomes (well.0 ∙ p, well.1 ∙ q) is
-answers_since p q (Stands fault few stands before well is) = Stands fault few stands before (well.0 ∙ p, well.1 ∙ q) is
-answers_since p q (AtEnd fault few ended none refused before well is) = AtEnd fault few ended none refused before (well.0 ∙ p, well.1 ∙ q) is
-answers_since p q (TooLong front byte joined full open' well is) = TooLong front byte joined full open' (well.0 ∙ p, well.1 ∙ q) is
-answers_since p q (SourceFails few open' fails is) = SourceFails few open' (record { failed = fails.failed; well = fails.well ∙ q }) is
-answers_since p q (SinkFails due few (ByThen front begins open') starts fails is) =
-    SinkFails due few (ByThen front begins open') starts (record { failed = fails.failed; well = fails.well ∙ p }) is
-answers_since p q (SinkFails due few (ByTheEnd told ended closes) starts fails is) =
-    SinkFails due few (ByTheEnd told ended closes) starts (record { failed = fails.failed; well = fails.well ∙ p }) is
+-- the answer where a read stops, by the ports since an earlier time, since which they didn't fail
+stopped : (m : Message) (new : List ℕ → List ℕ → Type 0) (read text : List ℕ) (had has next took taken wrote : Option (List ℕ)) (a b c d e f : Bool) (stop : Stop)
+    → b ≡ a → e ≡ d → length read ≤ read_limit → IsStopped m new (over has next b c) (over taken wrote e f) read text stop
+    → Answers m (over had next a c) (over took wrote d f) read text (Err (fault_of stop))
+stopped m new read text had has next took taken wrote a b c d e f stop p q few (AtSource open' fails is) =
+    rw is (SourceFails few open' (record { failed = fails.failed; well = fails.well ∙ q }) refl)
+stopped m new read text had has next took taken wrote a b c d e f (stops.Refused fault) p q few (InFeeding is well up) =
+    Stands fault few (subst (λ b. m.stands b fault) (append-nil read) (is.stands []))
+    (subst (λ b. m.before (Some fault) b text) (append-nil read) (is.written [])) (well ∙ p, well_now e f up ∙ q) refl
+stopped m new read text had has next took taken wrote a b c d e f stops.Device p q few (InFeeding is well up) =
+    SinkFails is.due few (ByThen is.front is.of_bytes is.open_yet) is.of_due (record { failed = failed_now e f up; well = well ∙ p }) refl
 
 -- A step behind what was read, by what is known of the ports at the start, between and behind it.
 module _ (m : Message) (old new : List ℕ → List ℕ → Type 0) (had has next took taken wrote : Option (List ℕ)) (a b c d e f : Bool) (count room : ℕ)
@@ -177,7 +150,8 @@ module _ (m : Message) (old new : List ℕ → List ℕ → Type 0) (had has nex
         text = before.text ++ step.made;
         given = Consumes-trans had has next before.read step.more before.given step.given;
         written = Appends-trans took taken wrote before.text step.made before.written step.written;
-        answers = rw is (answers_since before.well.0 before.well.1 step.read);
+        answers = rw is (stopped m new _ _ had has next took taken wrote a b c d e f stop before.well.0 before.well.1
+            (omega (arith, length-append before.read step.more, before.counted, before.within, space, step.within)) step.read);
       }
 
 -- ---- the end

@@ -1,24 +1,26 @@
 -- The parts of a form: a heading line, and all lines up to the next. Places are counted from 0.
-use Rattle.std.specs.Prelude.{codes, ◌≡◌, ◌≢◌, ◌⊎◌, ℕ, ◌+◌, ◌-◌, ◌%◌, ◌<◌, ◌≤◌, List, [], ◌∷◌, ◌++◌, length, drop, slice_index, All, Option, MatchOption}
+use Rattle.std.specs.Prelude.{codes, ◌≡◌, ◌≢◌, ℕ, ◌%◌, ◌<◌, ◌≤◌, ◌==◌, ◌&&◌, nat_le, Bool, IsTrue, if◌then◌else◌, List, [], ◌∷◌, ◌++◌, length, take, slice_index, All, Option, MatchOption}
+use Rattle.std.specs.Str.{bytes_eq}
 use Rattle.kd_state.specs.SheetDay.{Day, OfRotors, OfPins}
 use Rattle.kd_form.specs.declared.heading.Heading.{Heading}
 use Rattle.kd_form.specs.Part.{heading_words}
 use Rattle.kd_form.specs.Reading.{HasIndicator}
 
--- a heading line begins here: with PART, a space and a digit
-pub record BeginsHeading (bytes : List ℕ) : Type 0 where
-  pub digit : ℕ
-  pub rest : List ℕ
-  pub is : bytes ≡ codes "PART " ++ digit ∷ rest
-  pub low : 48 ≤ digit
-  pub high : digit ≤ 57
+-- whether a heading line begins here: with PART, a space and a digit
+unfoldable pub begins_heading : List ℕ → Bool
+begins_heading bytes = bytes_eq (take 5 bytes) (codes "PART ") && (nat_le 48 (slice_index bytes 5) && nat_le (slice_index bytes 5) 57)
 
--- The first part of the bytes, and what follows it: no line of the part behind its first is a heading line, and what follows
--- begins with one, or there is nothing.
-pub record IsFirstOf (bytes part rest : List ℕ) : Type 0 where
-  pub joined : bytes ≡ part ++ rest
-  pub whole : (place : ℕ) → place + 1 < length part → slice_index bytes place ≡ 10 → ¬ (BeginsHeading (drop (place + 1) bytes))
-  pub ends : (rest ≡ []) ⊎ ((slice_index bytes (length part - 1) ≡ 10) × BeginsHeading rest)
+abbrev pub BeginsHeading : List ℕ → Type 0
+BeginsHeading bytes = IsTrue (begins_heading bytes)
+
+-- The first part of a form, and the others: behind an LF another one begins wherever a heading line does.
+abbrev pub cut : List ℕ → List ℕ × List (List ℕ)
+cut [] = ([], [])
+cut (byte ∷ bytes) =
+    if byte == 10 && begins_heading bytes then (byte ∷ [], (cut bytes).0 ∷ (cut bytes).1) else (byte ∷ (cut bytes).0, (cut bytes).1)
+
+abbrev pub parts_of : List ℕ → List (List ℕ)
+parts_of form = (cut form).0 ∷ (cut form).1
 
 -- ---- headings
 

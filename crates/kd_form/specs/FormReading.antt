@@ -15,7 +15,7 @@ use Rattle.kd_form.specs.Part.{heading_words}
 use Rattle.kd_form.specs.Sending.{letters_from}
 use Rattle.kd_form.specs.FormParts.{BeginsHeading, IsHeading}
 use Rattle.kd_form.specs.Receiving.{IsExpected, IsPartRead, IsBodyText}
-use Rattle.kd_form.specs.FormText.{given_letters, count_due, IsTextBeforeLast}
+use Rattle.kd_form.specs.FormText.{Place, OfRest, IsReadTo, given_letters}
 
 -- ---- the last line
 
@@ -86,13 +86,21 @@ pub data IsHeadingOff (number : ℕ) (expected : Option ℕ) (found : Option Hea
 
 -- ---- the form
 
+-- the last part is held, as far as it has come
+pub record HoldsAt (s : Day) (r : FormReader) (p : Place) (last : List ℕ) : Type 0 where
+  pub counted : r.position ≡ p.start + length last
+  pub numbered : r.number ≡ p.number
+  pub due : r.expected ≡ p.expected
+  pub stage : HoldsStage s r.stage r.number r.expected last
+
+abbrev pub HoldsLast : Day → FormReader → OfRest
+HoldsLast s r p [] = ⊥
+HoldsLast s r p (last ∷ []) = HoldsAt s r p last
+HoldsLast s r p (last ∷ next ∷ others) = ⊥
+
 -- the form, as far as it has come, has made this text; its last part is still to be read
-pub record HoldsForm (s : Day) (r : FormReader) (form text : List ℕ) : Type 0 where
-  pub so_far : IsTextBeforeLast s form text
-  pub counted : r.position ≡ length form
-  pub numbered : r.number ≡ length so_far.turn.before + 1
-  pub due : r.expected ≡ count_due so_far.turn.before so_far.turn.count
-  pub stage : HoldsStage s r.stage r.number r.expected so_far.turn.part
+abbrev pub HoldsForm : Day → FormReader → List ℕ → List ℕ → Type 0
+HoldsForm s r form text = IsReadTo s (HoldsLast s r) form text
 
 -- the part is read as the last one of a form, of so many
 pub record IsLastText (s : Day) (number : ℕ) (expected : Option ℕ) (part : List ℕ) (parts : ℕ) (text : List ℕ) : Type 0 where

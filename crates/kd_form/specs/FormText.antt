@@ -1,5 +1,5 @@
 -- What a form becomes: a text, or the first fault. Parts are counted from 1.
-use Rattle.std.specs.Prelude.{◌≡◌, ◌≢◌, ◌⊎◌, ℕ, ◌+◌, ◌-◌, ◌<◌, ◌==◌, List, [], ◌∷◌, ◌++◌, length, map, Option, Some, None, if◌then◌else◌}
+use Rattle.std.specs.Prelude.{◌≡◌, ◌⊎◌, ℕ, ◌+◌, ◌≤◌, ◌==◌, List, [], ◌∷◌, ◌++◌, length, map, Option, Some, None, if◌then◌else◌}
 use Rattle.kd_state.specs.SheetDay.{Day, OfRotors, OfPins}
 use Rattle.kd_state.specs.Words.{IsFirstPart}
 use Rattle.kd_form.specs.declared.fault.FormFault.{FormFault}
@@ -9,25 +9,33 @@ use Rattle.kd_form.specs.Making.{filled}
 use Rattle.kd_form.specs.Streams.{Message}
 use Rattle.kd_form.specs.Order.{IsOrder}
 use Rattle.kd_form.specs.Sending.{blank_of, text_letters}
-use Rattle.kd_form.specs.FormParts.{BeginsHeading, IsFirstOf}
-use Rattle.kd_form.specs.Receiving.{IsPartRead, IsEarlyFault, IsPartFault}
+use Rattle.kd_form.specs.FormParts.{BeginsHeading, parts_of}
+use Rattle.kd_form.specs.Receiving.{IsPartRead, IsExpected, IsEarlyFault, IsPartFault}
 
--- the bytes begin with these parts, and this follows them
-abbrev pub AreFirstParts : List (List ℕ) → List ℕ → List ℕ → Type 0
-AreFirstParts [] bytes rest = bytes ≡ rest
-AreFirstParts (part ∷ parts) bytes rest = (after : List ℕ) × IsFirstOf bytes part after × AreFirstParts parts after rest
+-- where a part begins: its number, of how many parts the form is to have, once one of them says it, and how many bytes stand before it
+pub record Place : Type 0 where
+  pub number : ℕ
+  pub expected : Option ℕ
+  pub start : ℕ
 
--- the parts, from that number on, are read as parts of so many, and their texts have these letters, one after another
-abbrev pub ArePartsRead : Day → ℕ → ℕ → List (List ℕ) → List ℕ → Type 0
-ArePartsRead s number count [] letters = letters ≡ []
-ArePartsRead s number count (part ∷ parts) letters =
-    (one more : List ℕ) × IsPartRead s number count part one × ArePartsRead s (number + 1) count parts more
-    × (letters ≡ one ++ more)
+abbrev pub at_first : Place
+at_first = record { number = 1; expected = None; start = 0 }
 
--- the form begins with these parts, which are read as the first of so many, and this follows them
-pub record IsReadTo (s : Day) (form rest : List ℕ) (parts : List (List ℕ)) (count : ℕ) (letters : List ℕ) : Type 0 where
-  pub cut : AreFirstParts parts form rest
-  pub read : ArePartsRead s 1 count parts letters
+-- behind a part there that says that it is one of so many
+abbrev pub place_behind : Place → ℕ → List ℕ → Place
+place_behind p count part = record { number = p.number + 1; expected = Some count; start = p.start + length part }
+
+-- what may be said of the parts from a place on
+abbrev pub OfRest : Type 1
+OfRest = Place → List (List ℕ) → Type 0
+
+-- Parts are read one after another, as the next ones, up to a rest of which this holds, and their texts have these letters.
+abbrev pub ReadsTo : Day → OfRest → Place → List (List ℕ) → List ℕ → Type 0
+ReadsTo s Holds p [] letters = Holds p [] × (letters ≡ [])
+ReadsTo s Holds p (part ∷ parts) letters =
+    (Holds p (part ∷ parts) × (letters ≡ []))
+    ⊎ ((count : ℕ) × (one more : List ℕ) × IsPartRead s p.number count part one × IsExpected p.expected count
+    × ReadsTo s Holds (place_behind p count part) parts more × (letters ≡ one ++ more))
 
 -- ---- the text
 
@@ -44,68 +52,56 @@ given_letters s letters = map (given_byte (blank_of s)) letters
 abbrev pub given_text : Day → List ℕ → List ℕ
 given_text s letters = given_letters s letters ++ 10 ∷ []
 
+-- the form is read up to such a rest, and this is the text of the parts before it
+abbrev pub IsReadTo : Day → OfRest → List ℕ → List ℕ → Type 0
+IsReadTo s Holds form text = (letters : List ℕ) × ReadsTo s Holds at_first (parts_of form) letters × (text ≡ given_letters s letters)
+
+-- nothing is left, and there were as many parts as their headings say
+abbrev pub IsComplete : OfRest
+IsComplete p [] = (count : ℕ) × (p.expected ≡ Some count) × (p.number ≡ count + 1)
+IsComplete p (part ∷ parts) = ⊥
+
 -- the form has as many parts as their headings say, and their letters are given
 pub record IsTextOf (s : Day) (form text : List ℕ) : Type 0 where
-  pub parts : List (List ℕ)
   pub letters : List ℕ
-  pub some : parts ≢ []
-  pub read : IsReadTo s form [] parts (length parts) letters
+  pub read : ReadsTo s IsComplete at_first (parts_of form) letters
   pub is : text ≡ given_text s letters
 
 -- ---- why there is no text
 
--- of how many parts the form has to be: the first one says it, if it was read
-abbrev pub count_due : List (List ℕ) → ℕ → Option ℕ
-count_due [] count = None
-count_due (part ∷ parts) count = Some count
+-- a part is refused whatever follows: whole, as the next one has begun; or for what shows early, as the line of its heading has ended
+abbrev pub StandsAt : Day → FormFault → OfRest
+StandsAt s fault p [] = ⊥
+StandsAt s fault p (part ∷ []) =
+    ((line body : List ℕ) × IsFirstPart 10 part line body) × IsEarlyFault s p.number p.expected p.start part fault
+StandsAt s fault p (part ∷ next ∷ others) = IsPartFault s p.number p.expected p.start part fault
 
--- The part of the form whose turn it is, and what follows it: it is the first of what the parts that are read leave.
-pub record Turn (s : Day) (form : List ℕ) : Type 0 where
-  pub before : List (List ℕ)
-  pub count : ℕ
-  pub letters : List ℕ
-  pub rest : List ℕ
-  pub part : List ℕ
-  pub after : List ℕ
-  pub read : IsReadTo s form rest before count letters
-  pub left : (before ≡ []) ⊎ (rest ≢ [])
-  pub first : IsFirstOf rest part after
-
--- that part is refused: whole, or as far as it shows early
-abbrev pub IsRefusedPart : (s : Day) (form : List ℕ) → Turn s form → FormFault → Type 0
-IsRefusedPart s form t fault = IsPartFault s (length t.before + 1) (count_due t.before t.count) (length form - length t.rest) t.part fault
-
-abbrev pub IsRefusedEarly : (s : Day) (form : List ℕ) → Turn s form → FormFault → Type 0
-IsRefusedEarly s form t fault = IsEarlyFault s (length t.before + 1) (count_due t.before t.count) (length form - length t.rest) t.part fault
-
--- The form is refused behind that text, whatever follows: a heading line neither begins it nor may yet do so; a whole part is
--- refused, as the next one has begun; or the last part is, for what shows early, and the line of its heading has ended.
+-- The form is refused behind that text, whatever follows: a heading line neither begins it nor may yet do so; or a part is refused.
 pub data IsRefusedForGood (s : Day) (form text : List ℕ) (fault : FormFault) : Type 0 where
   NoHeading : ((more : List ℕ) → ¬ (BeginsHeading (form ++ more))) → text ≡ [] → fault ≡ BadHeading 1 → IsRefusedForGood s form text fault
-  InWhole : (t : Turn s form) → t.after ≢ [] → IsRefusedPart s form t fault → text ≡ given_letters s t.letters → IsRefusedForGood s form text fault
-  InLast : (t : Turn s form) (line body : List ℕ) → t.after ≡ [] → IsFirstPart 10 t.part line body → IsRefusedEarly s form t fault
-      → text ≡ given_letters s t.letters → IsRefusedForGood s form text fault
+  AtPart : IsReadTo s (StandsAt s fault) form text → IsRefusedForGood s form text fault
 
--- The form is refused behind that text if it ends here: its last part is refused; or all parts are read, and are fewer than
--- their headings say. Where the form is empty, its first part is refused.
-pub data IsRefusedAtEnd (s : Day) (form text : List ℕ) (fault : FormFault) : Type 0 where
-  InPart : (t : Turn s form) → t.after ≡ [] → IsRefusedPart s form t fault → text ≡ given_letters s t.letters → IsRefusedAtEnd s form text fault
-  TooFew : (parts : List (List ℕ)) (count : ℕ) (letters : List ℕ) → parts ≢ [] → IsReadTo s form [] parts count letters → length parts < count
-      → fault ≡ PartOrder → text ≡ given_letters s letters → IsRefusedAtEnd s form text fault
+-- the form ends: its last part is refused; or all parts are read, and are fewer than their headings say
+abbrev pub EndsAt : Day → FormFault → OfRest
+EndsAt s fault p [] = (fault ≡ PartOrder) × (count : ℕ) × (p.expected ≡ Some count) × (p.number ≤ count)
+EndsAt s fault p (part ∷ []) = IsPartFault s p.number p.expected p.start part fault
+EndsAt s fault p (part ∷ next ∷ others) = ⊥
+
+-- The form is refused behind that text if it ends here. Where it is empty, its first part is refused.
+abbrev pub IsRefusedAtEnd : Day → List ℕ → List ℕ → FormFault → Type 0
+IsRefusedAtEnd s form text fault = IsReadTo s (EndsAt s fault) form text
 
 -- the form is refused: for good, or at its end
 abbrev pub IsReceiveFault : Day → List ℕ → FormFault → Type 0
 IsReceiveFault s form fault = (text : List ℕ) × (IsRefusedForGood s form text fault ⊎ IsRefusedAtEnd s form text fault)
 
--- the text of the parts before the last one
-pub record IsTextBeforeLast (s : Day) (form text : List ℕ) : Type 0 where
-  pub turn : Turn s form
-  pub last : turn.after ≡ []
-  pub is : text ≡ given_letters s turn.letters
+-- the last part is left
+abbrev pub IsLast : OfRest
+IsLast p parts = (part : List ℕ) × (parts ≡ part ∷ [])
 
--- what is written before the form is refused so, or before more of it has come
+-- what is written before the form is refused so, or before more of it has come: the text of the parts before the last one
 abbrev pub IsTextBefore : Day → Option FormFault → List ℕ → List ℕ → Type 0
-IsTextBefore s None form text = IsTextBeforeLast s form text
+IsTextBefore s None form text = IsReadTo s IsLast form text
 IsTextBefore s (Some fault) form text = IsRefusedForGood s form text fault ⊎ IsRefusedAtEnd s form text fault
 
 -- forms, as messages that are read as they come

@@ -1,5 +1,6 @@
 -- The internal key of the Converter M-209: letters for its six wheels, picked from the enciphered chosen letter.
-use Rattle.std.specs.Prelude.{◌≡◌, ◌⊎◌, ℕ, ◌+◌, ◌<◌, ◌≤◌, List, [], ◌∷◌, length, map, slice_index}
+use Rattle.std.specs.Prelude.{◌≡◌, ◌++◌, Contains, ◌⊎◌, ℕ, ◌+◌, ◌<◌, ◌≤◌, List, [], ◌∷◌, length, map, slice_index}
+use Rattle.kd_tables.specs.Rings.{ring_of}
 use Rattle.kd_state.specs.Machine.{AreOnWheels}
 
 -- rising places, from the first one on and below the end
@@ -28,3 +29,8 @@ pub record IsInternalKey (letters key : List ℕ) : Type 0 where
 -- there are no such places: the letters run out
 abbrev pub HaveRunOut : List ℕ → Type 0
 HaveRunOut letters = (places picked : List ℕ) → ¬ (ArePicked letters places picked)
+
+-- the letter is the key's next one if it is on the wheel in turn
+pub data IsTakenInTurn (key : List ℕ) (letter : ℕ) (next : List ℕ) : Type 0 where
+  OnWheel : Contains (ring_of (length key + 1)) letter → next ≡ key ++ letter ∷ [] → IsTakenInTurn key letter next
+  OffWheel : ¬ (Contains (ring_of (length key + 1)) letter) → next ≡ key → IsTakenInTurn key letter next

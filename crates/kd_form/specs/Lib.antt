@@ -1,6 +1,5 @@
 pub mod Keys
 pub mod InternalKey
-pub mod Striking
 pub mod Part
 pub mod Making
 pub mod Patterns

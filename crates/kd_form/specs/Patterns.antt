@@ -1,5 +1,5 @@
 -- Patterns of lines: `_` stands for a letter, and each other byte for itself.
-use Rattle.std.specs.Prelude.{ℕ, ◌+◌, ◌-◌, ◌==◌, ◌&&◌, nat_le, Bool, List, [], ◌∷◌, drop, slice_index, if◌then◌else◌}
+use Rattle.std.specs.Prelude.{◌≡◌, ℕ, ◌+◌, ◌-◌, ◌==◌, ◌++◌, ◌&&◌, nat_le, Bool, List, [], ◌∷◌, drop, slice_index, if◌then◌else◌}
 use Rattle.kd_state.specs.Machine.{AreLetters}
 use Rattle.kd_form.specs.Order.{IsEnded}
 
@@ -32,3 +32,7 @@ fits mark byte = if mark == 95 then nat_le 65 byte && nat_le byte 90 else byte =
 -- the letter that it then gives
 abbrev pub letters_at : ℕ → ℕ → List ℕ
 letters_at mark byte = if mark == 95 then (byte - 65) ∷ [] else []
+
+-- behind those letters the letters of the line were appended
+abbrev pub AreAppended : List ℕ → List ℕ → List ℕ → List ℕ → Type 0
+AreAppended pattern bytes old new = (more : List ℕ) × IsFilledLine pattern more bytes × (new ≡ old ++ more)

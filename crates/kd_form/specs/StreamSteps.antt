@@ -2,12 +2,12 @@
 use Rattle.std.specs.Prelude.{◌≡◌, ℕ, ◌+◌, ◌^◌, ◌<◌, ◌≤◌, Bool, true, false, ◌||◌, List, [], ◌∷◌, ◌++◌, length, Result, Ok, Err, MatchResult}
 use Rattle.std.specs.Io.{StartsWith}
 use Rattle.std.specs.Io.KnownBytes.{Appends, Consumes, IsAtEnd}
-use Rattle.kd_tables.specs.Ports.{read_limit, Port, IsWell}
+use Rattle.kd_tables.specs.Ports.{read_limit, Port, IsWell, FailsAlone}
 use Rattle.kd_form.specs.declared.fault.FormFault.{FormFault}
 use Rattle.kd_form.specs.declared.fault.FormFault.TheVariants as faults
 use Rattle.kd_form.specs.declared.stream.stop.Stop.{Stop}
 use Rattle.kd_form.specs.declared.stream.stop.Stop.TheVariants.{Device, Refused}
-use Rattle.kd_form.specs.Streams.{Message, IsOpen, IsRefused, Closes, Answers, FallsShort}
+use Rattle.kd_form.specs.Streams.{Message, IsOpen, IsRefused, Closes, FallsShort}
 
 -- what a reader holds, and that nothing in the bytes is refused yet
 pub record Held (m : Message) (holds : List ℕ → List ℕ → Type 0) (bytes text : List ℕ) : Type 0 where
@@ -95,11 +95,17 @@ pub record ClosesAs (m : Message) (old : List ℕ → List ℕ → Type 0) (sink
 
 -- ---- a read
 
--- so many bytes were read and fed, and at the end of the source there are none; or the whole call answers
+-- why a read stops: the source failed; or what was fed of it stopped
+pub data IsStopped (m : Message) (new : List ℕ → List ℕ → Type 0) (source sink : Port) (read text : List ℕ) (stop : Stop) : Type 0 where
+  AtSource : IsOpen m read text → FailsAlone source sink → stop ≡ Device → IsStopped m new source sink read text stop
+  InFeeding : FedTo m new read text (Err stop) → IsWell source → sink.has_failed ≡ (sink.had_failed || stops_at_device {T = Unit {0}} (Err stop))
+      → IsStopped m new source sink read text stop
+
+-- so many bytes were read and fed, and at the end of the source there are none; or it stops
 abbrev pub ReadTo : Message → (List ℕ → List ℕ → Type 0) → Port → Port → List ℕ → List ℕ → List ℕ → Result ℕ Stop → Type 0
 ReadTo m new source sink bytes more text (Ok count) =
     (count ≡ length more) × Held m new (bytes ++ more) text × (count ≡ 0 → IsAtEnd source.has) × IsWell source × IsWell sink
-ReadTo m new source sink bytes more text (Err stop) = Answers m source sink (bytes ++ more) text (Err (fault_of stop))
+ReadTo m new source sink bytes more text (Err stop) = IsStopped m new source sink (bytes ++ more) text stop
 
 pub record IsRead (m : Message) (new : List ℕ → List ℕ → Type 0) (bytes text : List ℕ) (room : ℕ) (source sink : Port) (answer : Result ℕ Stop) : Type 0 where
   pub more : List ℕ

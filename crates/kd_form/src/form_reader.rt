@@ -105,7 +105,6 @@ impl MessageReader for FormReader {
         }
     }
 
-    #[tactic(auto, using(crate::proofs::FormSteps::closes))]
     fn end(&mut self, day: &SheetDay, made: &mut Made) -> Result<(), FormFault> {
         match self.last_text(day) {
             Ok((parts, letters)) => {
@@ -163,7 +162,7 @@ fn read_last(day: &SheetDay, body: &PartBody) -> Result<(u8, ArrayVec<Letter, 50
 }
 
 /// Whether the byte may follow these in the line of a heading: up to its first digit, there is one byte or a digit.
-#[tactic(auto, using(crate::proofs::Growing::due_told))]
+#[tactic(auto, using(crate::proofs::Cutting::due_told))]
 fn may_follow(line: &[u8], byte: u8) -> bool
     ensures { (part : List ℕ) → line.now ≡ take 64 part → MayBegin part
         → (IsTrue result ↔ MayBegin (part ++ byte ∷ [])) }

@@ -1,50 +1,30 @@
 //! The internal key of the Converter M-209.
-ghost use Rattle.std.specs.Prelude.{◌≤◌, ◌↔◌, length, IsTrue, MatchOption, Contains};
-ghost use Rattle.kd_tables.specs.Rings.{ring_of};
-ghost use Rattle.kd_form.specs.InternalKey.{IsInternalKey, HaveRunOut};
-ghost use Rattle.kd_form.specs.Striking.{IsNextPlace, NoneIsOnWheel};
+ghost use Rattle.std.specs.Prelude.{◌≡◌, ◌≤◌, ◌<◌, ◌+◌, ◌++◌, ◌∷◌, MatchOption};
+ghost use Rattle.kd_form.specs.InternalKey.{IsInternalKey, HaveRunOut, IsTakenInTurn};
 
 use arrayvec::ArrayVec;
 use kd_tables::{Letter, place_on_wheel};
 
 /// The letters for the six wheels, taken in order from these: one that isn't on the wheel in turn is struck out. None where
 /// the letters run out.
-#[tactic(auto, using(crate::proofs::Picking::picking_none, crate::proofs::Picking::picked_count, std::proofs::lemmas::List::get_or_read, crate::proofs::Picking::picking_more))]
+#[tactic(auto, using(crate::proofs::Picking::picking_none, crate::proofs::Picking::picking_more))]
 pub(crate) fn internal_key(letters: &[Letter]) -> Option<ArrayVec<Letter, 6>>
     ensures { MatchOption result
         (HaveRunOut letters.now)
         (λ key. IsInternalKey letters.now key.items) }
 {
     let mut key = ArrayVec::new();
-    let mut start = 0;
-    for wheel in 1..7 {
-        let Some(place) = next_on_wheel(wheel, start, letters) else {
-            return None;
-        };
-        key.push(letters[place]);
-        start = place + 1;
+    for letter in letters {
+        take_in_turn(&mut key, *letter);
     }
-    Some(key)
+    if key.is_full() { Some(key) } else { None }
 }
 
-/// The first place, from that one on, whose letter is on the wheel.
-fn next_on_wheel(wheel: u8, start: usize, letters: &[Letter]) -> Option<usize>
-    requires { (1 ≤ wheel) × (wheel ≤ 6) }
-    ensures { MatchOption result
-        (NoneIsOnWheel letters.now wheel start (length letters.now))
-        (IsNextPlace letters.now wheel start) }
+/// Appends the letter if it is on the wheel in turn. Once each wheel has one, none is.
+fn take_in_turn(key: &mut ArrayVec<Letter, 6>, letter: Letter)
+    ensures { IsTakenInTurn key.old.items letter key.new.items }
 {
-    for place in start..letters.len() {
-        if is_on_wheel(wheel, letters[place]) {
-            return Some(place);
-        }
+    if place_on_wheel(key.len() as u8 + 1, letter).is_some() {
+        key.push(letter);
     }
-    None
-}
-
-/// Whether the letter is on the wheel of that number.
-fn is_on_wheel(wheel: u8, letter: Letter) -> bool
-    ensures { IsTrue result ↔ Contains (ring_of wheel) letter }
-{
-    place_on_wheel(wheel, letter).is_some()
 }

@@ -1,9 +1,9 @@
 //! Patterns of lines: `_` stands for a letter, and each other byte for itself.
-ghost use Rattle.std.specs.Prelude.{◌≡◌, ◌≤◌, ◌<◌, [], ◌++◌, MatchResult};
+ghost use Rattle.std.specs.Prelude.{◌≡◌, ◌≤◌, ◌<◌, [], ◌+◌, ◌++◌, MatchResult};
 ghost use Rattle.std.specs.Bool.{OnTrue, OnFalse};
 ghost use Rattle.arrayvec.specs.ArrayVec.{array_vec_len};
 ghost use Rattle.kd_form.specs.Order.{BreaksOff, IsEnded};
-ghost use Rattle.kd_form.specs.Patterns.{blanks, fits, letters_at, IsFilledLine, IsPatternLine};
+ghost use Rattle.kd_form.specs.Patterns.{blanks, fits, letters_at, IsFilledLine, IsPatternLine, AreAppended};
 
 use arrayvec::ArrayVec;
 use kd_tables::Letter;
@@ -21,7 +21,6 @@ pub(crate) enum Unread {
 }
 
 /// The letters of the line of that pattern, with its end.
-#[tactic(auto, using(crate::proofs::Lines::reading_none, crate::proofs::Lines::letter_room))]
 pub(crate) fn read_pattern(pattern: &[u8], bytes: &[u8]) -> Result<ArrayVec<Letter, MOST>, Unread>
     requires { blanks pattern.now ≤ 13 }
     ensures { MatchResult result
@@ -29,22 +28,34 @@ pub(crate) fn read_pattern(pattern: &[u8], bytes: &[u8]) -> Result<ArrayVec<Lett
         (BreaksOff (IsPatternLine pattern.now) bytes.now) }
 {
     let mut letters = ArrayVec::new();
-    let mut marks = pattern;
-    let mut rest = bytes;
-    while let Some((mark, others)) = marks.split_first() {
-        let Some((byte, after)) = rest.split_first() else {
-            return Err(Unread::Open);
-        };
-        if !take_letter(&mut letters, *mark, *byte) {
-            return Err(Unread::Off);
-        }
-        marks = others;
-        rest = after;
-    }
-    match read_end(rest) {
+    match read_letters(pattern, bytes, &mut letters) {
         Ok(()) => Ok(letters),
         Err(why) => Err(why),
     }
+}
+
+/// Appends the letters of the line of that pattern, with its end.
+#[tactic(auto, using(crate::proofs::Lines::line_open, crate::proofs::Lines::line_off, crate::proofs::Lines::line_on, crate::proofs::Lines::line_ends))]
+fn read_letters(
+    pattern: &[u8],
+    bytes: &[u8],
+    letters: &mut ArrayVec<Letter, MOST>,
+) -> Result<(), Unread>
+    requires { array_vec_len letters.old + blanks pattern.now ≤ 13 }
+    ensures { MatchResult result
+        (λ _. AreAppended pattern.now bytes.now letters.old.items letters.new.items)
+        (BreaksOff (IsPatternLine pattern.now) bytes.now) }
+{
+    let Some((mark, marks)) = pattern.split_first() else {
+        return read_end(bytes);
+    };
+    let Some((byte, rest)) = bytes.split_first() else {
+        return Err(Unread::Open);
+    };
+    if !take_letter(letters, *mark, *byte) {
+        return Err(Unread::Off);
+    }
+    read_letters(marks, rest, letters)
 }
 
 /// Whether the byte may stand for the mark; if it stands for a letter, appends that.

@@ -1,11 +1,10 @@
-use Rattle.kd_form.proofs.Prelude.{◌≡◌, arith}
+use Rattle.kd_form.proofs.Prelude.{arith, nat_tests}
 use Rattle.kd_form.proofs.Picking.{key_picked, run_out}
 use Rattle.kd_form.proofs.internal_key.internal_key.Goals as goal
 
-pub returns-in_default : goal.returns-in_default
-returns-in_default c = run_out _ _ _ _ (omega arith) c.loop-wheel.invariant c.in_default.ensures
+pub returns-then-is_full : goal.returns-then-is_full
+returns-then-is_full c = key_picked _ _ _ c.loop-letter.invariant (grind (arith, nat_tests, c.is_full.ensures.value, c.if-is_full.true))
 
-pub returns : goal.returns
-returns c =
-    let last : c.loop-wheel.wheel ≡ 7 = omega arith in
-    key_picked _ _ _ (rw last at c.loop-wheel.invariant)
+pub returns-else-is_full : goal.returns-else-is_full
+returns-else-is_full c =
+    run_out _ _ _ c.loop-letter.invariant (omega (arith, c.loop-letter-test.false)) (grind (arith, nat_tests, c.is_full.ensures.value, c.if-is_full.false))

@@ -1,58 +1,65 @@
-use Rattle.kd_form.proofs.Prelude.{sym, ◌∙◌, false≢true}
-use Rattle.kd_form.proofs.FormSteps.{held, refused, in_stage, not_following, longer_line, heading_read, heading_refused, longer_body, bad_byte, four_letters, part_refused, part_read}
+use Rattle.kd_form.proofs.Prelude.{arith, sym, ◌∙◌, false≢true}
+use Rattle.kd_form.proofs.FormSteps.{held, in_stage, going, refused, not_following, longer_line, heading_read, heading_refused, longer_body, bad_byte, four_letters, part_refused, part_read}
 use Rattle.kd_form.proofs.form_reader.FormReaderMessageReader.feed.Goals as goal
 
 pub returns-then-not-may_follow : goal.returns-then-not-may_follow
 returns-then-not-may_follow c = λ form text so_far.
-    let there = in_stage _ _ _ _ so_far.is _ c.in-Heading.is in
     refused c.args.day.now _ text _ c.texts_tell_first_parts.ensures c.numbers_and_letters_are_words.ensures.numbers
-    (not_following _ _ _ _ so_far.is _ _ c.in-Heading.is (λ then_may. false≢true (sym c.if-not-may_follow.true
-    ∙ (c.may_follow.ensures _ (c.as_slice.ensures.value ∙ there.0.kept) there.0.begins).1 then_may)))
+    (not_following _ c.args.self.now form text so_far.is _ _ c.in-Heading.is (λ part kept may then_may. false≢true (sym c.if-not-may_follow.true
+    ∙ (c.may_follow.ensures part (c.as_slice.ensures.value ∙ kept) may).1 then_may)))
 
 pub returns-then-byte-ne10 : goal.returns-then-byte-ne10
 returns-then-byte-ne10 c = λ form text so_far.
-    let there = in_stage _ _ _ _ so_far.is _ c.in-Heading.is in
-    held c.args.day.now _ _ _ c.texts_tell_first_parts.ensures c.numbers_and_letters_are_words.ensures.numbers
-    (longer_line _ _ _ _ so_far.is _ _ _ _ c.in-Heading.is c.if-byte-ne10.true
-    ((c.may_follow.ensures _ (c.as_slice.ensures.value ∙ there.0.kept) there.0.begins).0 c.if-not-may_follow.false) c.keep.ensures c.requires.empty)
+    held c.args.day.now _ c.texts_tell_first_parts.ensures c.numbers_and_letters_are_words.ensures.numbers _ _
+    (longer_line _ c.args.self.now form text so_far.is _ _ _ _ c.in-Heading.is c.if-byte-ne10.true
+    (λ part kept may. (c.may_follow.ensures part (c.as_slice.ensures.value ∙ kept) may).0 c.if-not-may_follow.false) c.keep.ensures c.requires.empty)
 
 pub returns-then-not-is_text_byte : goal.returns-then-not-is_text_byte
 returns-then-not-is_text_byte c = λ form text so_far.
     refused c.args.day.now _ text _ c.texts_tell_first_parts.ensures c.numbers_and_letters_are_words.ensures.numbers
-    (bad_byte _ _ _ _ so_far.is _ _ c.in-Body.is
+    (bad_byte _ c.args.self.now form text so_far.is _ _ c.in-Body.is
     (λ digit. false≢true (sym c.if-not-ends_before.true ∙ c.ends_before.ensures.1 digit)) (sym c.is_text_byte.ensures ∙ c.if-not-is_text_byte.true))
 
 pub returns-then-not-ends_before : goal.returns-then-not-ends_before
 returns-then-not-ends_before c = λ form text so_far.
-    held c.args.day.now _ _ _ c.texts_tell_first_parts.ensures c.numbers_and_letters_are_words.ensures.numbers
-    (longer_body _ _ _ _ so_far.is _ _ _ _ c.in-Body.is
+    held c.args.day.now _ c.texts_tell_first_parts.ensures c.numbers_and_letters_are_words.ensures.numbers _ _
+    (longer_body _ c.args.self.now form text so_far.is _ _ _ _ c.in-Body.is
     (λ digit. false≢true (sym c.if-not-ends_before.true ∙ c.ends_before.ensures.1 digit)) c.push.ensures.body c.push.ensures.heading c.requires.empty)
+
+pub overflow_add-self : goal.overflow_add-self
+overflow_add-self c = omega (arith, (going _ c.args.self.now c.requires.room.bytes _ c.requires.room.held.is).whole, c.requires.room.within)
+
+pub overflow_add-self-in-Ok-give : goal.overflow_add-self-in-Ok-give
+overflow_add-self-in-Ok-give c =
+    let there = (in_stage _ c.args.self.now c.requires.room.bytes _ c.requires.room.held.is _ c.in-Body.is) in
+    omega (arith, there.numbered, there.holds.is_heading.number.in_order, there.holds.is_heading.number.few)
+
+pub give-requires-clause-heading : goal.give-requires-clause-heading
+give-requires-clause-heading c = (in_stage _ c.args.self.now c.requires.room.bytes _ c.requires.room.held.is _ c.in-Body.is).holds.is_heading
 
 pub give-requires-clause-some : goal.give-requires-clause-some
 give-requires-clause-some c =
-    four_letters _ _ _ _ c.requires.room.held.is c.in-Body.body _ c.in-Body.is (c.ends_before.ensures.0 c.if-not-ends_before.false)
+    four_letters _ c.args.self.now c.requires.room.bytes _ c.requires.room.held.is c.in-Body.body _ c.in-Body.is (c.ends_before.ensures.0 c.if-not-ends_before.false)
 
 pub returns-in-Ok : goal.returns-in-Ok
 returns-in-Ok c = λ form text so_far.
-    let there = in_stage _ _ _ _ so_far.is _ c.in-Heading.is in
-    rw c.if-byte-ne10.false (held c.args.day.now _ _ _ c.texts_tell_first_parts.ensures c.numbers_and_letters_are_words.ensures.numbers
-    (heading_read _ _ _ _ so_far.is _ _ _ _ _ c.in-Heading.is
-    (c.heading_of_ended-heading.ensures _ there.0.unbroken (c.as_slice-in-Heading.ensures.value ∙ there.0.kept)) c.in-Ok.ensures
+    rw c.if-byte-ne10.false (held c.args.day.now _ c.texts_tell_first_parts.ensures c.numbers_and_letters_are_words.ensures.numbers _ _
+    (heading_read _ c.args.self.now form text so_far.is _ _ _ _ _ c.in-Heading.is
+    (λ part unbroken kept. c.heading_of_ended-heading.ensures part unbroken (c.as_slice-in-Heading.ensures.value ∙ kept)) c.in-Ok.ensures
     c.new.ensures.heading c.new.ensures.letters c.new.ensures.begun c.requires.empty))
 
 pub returns-in-Err : goal.returns-in-Err
 returns-in-Err c = λ form text so_far.
-    let there = in_stage _ _ _ _ so_far.is _ c.in-Heading.is in
     rw c.if-byte-ne10.false (refused c.args.day.now _ text _ c.texts_tell_first_parts.ensures c.numbers_and_letters_are_words.ensures.numbers
-    (heading_refused _ _ _ _ so_far.is _ _ _ c.in-Heading.is
-    (c.heading_of_ended-heading.ensures _ there.0.unbroken (c.as_slice-in-Heading.ensures.value ∙ there.0.kept)) c.in-Err.ensures))
+    (heading_refused _ c.args.self.now form text so_far.is _ _ _ c.in-Heading.is
+    (λ part unbroken kept. c.heading_of_ended-heading.ensures part unbroken (c.as_slice-in-Heading.ensures.value ∙ kept)) c.in-Err.ensures))
 
 pub returns-in-Ok-give : goal.returns-in-Ok-give
 returns-in-Ok-give c = λ form text so_far.
-    held c.args.day.now _ _ _ c.texts_tell_first_parts.ensures c.numbers_and_letters_are_words.ensures.numbers
-    (part_read _ _ _ _ so_far.is _ _ c.in-Body.is (c.ends_before.ensures.0 c.if-not-ends_before.false) _ _ c.in-Ok-give.ensures c.heading_from.ensures)
+    held c.args.day.now _ c.texts_tell_first_parts.ensures c.numbers_and_letters_are_words.ensures.numbers _ _
+    (part_read _ c.args.self.now form text so_far.is _ _ c.in-Body.is (c.ends_before.ensures.0 c.if-not-ends_before.false) _ _ c.in-Ok-give.ensures c.heading_from.ensures)
 
 pub returns-in-Err-give : goal.returns-in-Err-give
 returns-in-Err-give c = λ form text so_far.
     refused c.args.day.now _ text _ c.texts_tell_first_parts.ensures c.numbers_and_letters_are_words.ensures.numbers
-    (part_refused _ _ _ _ so_far.is _ _ c.in-Body.is (c.ends_before.ensures.0 c.if-not-ends_before.false) _ c.in-Err-give.ensures)
+    (part_refused _ c.args.self.now form text so_far.is _ _ c.in-Body.is (c.ends_before.ensures.0 c.if-not-ends_before.false) _ c.in-Err-give.ensures)
