@@ -14,7 +14,7 @@ use Rattle.kd_plan.proofs.Prelude.{length-range_with_len, length-zip, letters_ap
 use Rattle.kd_plan.proofs.Prelude.{nat_tests, option_to_list, plugged_letters, recursion_from_All, slice_get-get_or}
 use Rattle.kd_plan.proofs.Prelude.{slice_get_within, unless_so, work_beside, work_lines, work_setting}
 use Rattle.kd_plan.specs.declared.cable_lines.Work.{Work}
-use Rattle.kd_plan.proofs.Carrying.{AreMet, EachLeads, EachTwo, IsPairing, Serves, each_two_of_pairs, meet, met, paired}
+use Rattle.kd_plan.proofs.Carrying.{AreMet, EachLeads, EachTwo, IsPairing, Serves, Things, each_two_of_pairs, meet, met, paired}
 use Rattle.kd_plan.proofs.Carrying.{seam_get, seam_set, spare_all}
 use Rattle.kd_plan.proofs.Writing.{kept_lines, lines_of_kept}
 use Rattle.kd_plan.specs.declared.cable_lines.Work.TheVariants as works
@@ -131,23 +131,23 @@ module _ (m : RotorParts) where
     abbrev with_cable : Cable → Parts
     with_cable cable = with_cables (front ++ cable ∷ back)
 
-    abbrev pull : ℕ → Setting
-    pull x = Pull (suc (length front)) x
+    abbrev pulling : Things Cable ℕ
+    pulling = record { right = may_stay z.1; step = cable_without; put = with_cable; line = Pull (suc (length front)) }
 
-    abbrev put_in : ℕ → Setting
-    put_in x = Put (suc (length front)) x
+    abbrev putting : Things Cable ℕ
+    putting = record { right = may_lack z.1; step = cable_with; put = with_cable; line = Put (suc (length front)) }
 
-    pull_serves : (x : ℕ) (cable : Cable) → IsOwn cable → may_stay z.1 cable x ≡ false → Serves (may_stay z.1) cable_without with_cable pull IsOwn cable x
+    pull_serves : (x : ℕ) (cable : Cable) → IsOwn cable → may_stay z.1 cable x ≡ false → Serves pulling IsOwn cable x
     pull_serves x cable own wrong = grind (arith, seam_get, seam_set, pulled_plain, pulled)
 
     pull_spares : (x y : ℕ) → x ≢ y → (cable : Cable) → IsOwn cable → may_stay z.1 cable x ≡ false → may_stay z.1 (cable_without x cable) y ≡ may_stay z.1 cable y
     pull_spares x y other cable own wrong = grind (arith, nat_tests, pulled x cable y own.0)
 
-    pulls_met : AreMet (may_stay z.1) cable_without with_cable pull IsOwn z.0 (once_pulled z) alphabet
+    pulls_met : AreMet pulling IsOwn z.0 (once_pulled z) alphabet
     pulls_met =
-        meet (may_stay z.1) cable_without with_cable pull IsOwn alphabet z.0 (h.plain, h.within)
+        meet pulling IsOwn alphabet z.0 (h.plain, h.within)
         (λ k d lt. pull_serves (get_or alphabet k d))
-        (spare_all (may_stay z.1) cable_without with_cable pull IsOwn alphabet letters_differ pull_spares)
+        (spare_all pulling IsOwn alphabet letters_differ pull_spares)
 
     pulled_is : (y : ℕ) → holds (once_pulled z) y ≡ (holds z.0 y && wants z.1 y)
     pulled_is y =
@@ -164,18 +164,18 @@ module _ (m : RotorParts) where
     AreFree = (y : ℕ) → wants z.1 y ≡ true → (has_letter (plugged_letters front) y ≡ false) × (has_letter (plugged_letters back) y ≡ false)
 
     module _ (free : AreFree) where
-      put_serves : (x : ℕ) (cable : Cable) → IsAmong z.1 cable → may_lack z.1 cable x ≡ false → Serves (may_lack z.1) cable_with with_cable put_in (IsAmong z.1) cable x
+      put_serves : (x : ℕ) (cable : Cable) → IsAmong z.1 cable → may_lack z.1 cable x ≡ false → Serves putting (IsAmong z.1) cable x
       put_serves x cable own wrong =
           grind (arith, false, loose_end, flat_map-append, list_any-append, seam_get, seam_set, put_plain, put, own.1)
 
       put_spares : (x y : ℕ) → x ≢ y → (cable : Cable) → IsAmong z.1 cable → may_lack z.1 cable x ≡ false → may_lack z.1 (cable_with x cable) y ≡ may_lack z.1 cable y
       put_spares x y other cable own wrong = grind (arith, loose_end, put)
 
-      puts_met : AreMet (may_lack z.1) cable_with with_cable put_in (IsAmong z.1) (once_pulled z) (once_put z) alphabet
+      puts_met : AreMet putting (IsAmong z.1) (once_pulled z) (once_put z) alphabet
       puts_met =
-          meet (may_lack z.1) cable_with with_cable put_in (IsAmong z.1) alphabet (once_pulled z) among
+          meet putting (IsAmong z.1) alphabet (once_pulled z) among
           (λ k d lt. put_serves (get_or alphabet k d))
-          (spare_all (may_lack z.1) cable_with with_cable put_in (IsAmong z.1) alphabet letters_differ put_spares)
+          (spare_all putting (IsAmong z.1) alphabet letters_differ put_spares)
 
       put_is : (y : ℕ) → holds (once_put z) y ≡ wants z.1 y
       put_is y =
