@@ -90,10 +90,12 @@ led_cons {k = k} allowed made rest = record { leads = (k, record { allowed = all
 
 pub led_append : (xs ys : List Setting) {m k n : Parts} → Led m xs k → Led k ys n → Led m (xs ++ ys) n
 led_append [] ys {n = n} first second = subst (λ from. Led from ys n) first.leads second
-led_append (x ∷ xs) ys first second = grind (arith, led_cons, led_append xs ys (record { leads = first.leads.2 }) second)
+led_append (x ∷ xs) ys first second =
+    grind (arith, led_cons, led_append xs ys (record { leads = first.leads.2 }) second)
 
 -- a setting that is left out where things are so already
-pub led_unless : (so : Bool) (m n : Parts) (x : Setting) → (so ≡ true → n ≡ m) → changed m x ≡ n → (so ≡ false → why_refused m x ≡ None)
+pub led_unless : (so : Bool) (m n : Parts) (x : Setting) → (so ≡ true → n ≡ m) → changed m x ≡ n
+    → (so ≡ false → why_refused m x ≡ None)
     → Led m (option_to_list (unless_so so x)) n
 led_unless so m n x same made allowed = grind (arith, led_none, led_cons)
 
@@ -147,7 +149,8 @@ module _ {A X : Type 0} (t : Things A X) (Fit : A → Type 0) where
   abbrev pub SpareEachOther : X → X → Type 0
   SpareEachOther x y = Spares x (λ a. t.right a y) × Spares y (λ a. t.right a x)
 
-  pub spare_all : (xs : List X) → AllPairs (λ x y. x ≢ y) xs → ((x y : X) → x ≢ y → Spares x (λ a. t.right a y)) → AllPairs SpareEachOther xs
+  pub spare_all : (xs : List X) → AllPairs (λ x y. x ≢ y) xs → ((x y : X) → x ≢ y → Spares x (λ a. t.right a y))
+      → AllPairs SpareEachOther xs
   spare_all xs apart h i j d before lt = (h _ _ (apart i j d before lt), h _ _ (λ e. apart i j d before lt (sym e)))
 
   pub record AreMet (a end : A) (xs : List X) : Type 0 where
@@ -187,9 +190,13 @@ module _ {A X : Type 0} (t : Things A X) (Fit : A → Type 0) where
         kept = λ test h. rest.kept test h.1 ∙ h.0 a fit is;
       }
 
-  all_met : (xs : List X) (a : A) → Fit a → AllByRecursion AlwaysServes xs → EachTwo SpareEachOther xs → AreMet a (met t.right t.step xs a) xs
+  all_met : (xs : List X) (a : A) → Fit a → AllByRecursion AlwaysServes xs → EachTwo SpareEachOther xs
+      → AreMet a (met t.right t.step xs a) xs
   all_met [] a fit serve spared = record { led = led_none refl; fits = fit; done = tt; kept = λ test h. refl }
-  all_met (x ∷ xs) a fit serve spared = one_met (t.right a x) x xs a refl fit serve.0 spared.0 (λ a fit. all_met xs a fit serve.1 spared.1)
+  all_met (x ∷ xs) a fit serve spared =
+      one_met (t.right a x) x xs a refl fit serve.0 spared.0 (λ a fit. all_met xs a fit serve.1 spared.1)
 
-  pub meet : (xs : List X) (a : A) → Fit a → All AlwaysServes xs → AllPairs SpareEachOther xs → AreMet a (met t.right t.step xs a) xs
-  meet xs a fit serve spared = all_met xs a fit (recursion_from_All AlwaysServes xs serve) (each_two_of_pairs SpareEachOther xs spared)
+  pub meet : (xs : List X) (a : A) → Fit a → All AlwaysServes xs → AllPairs SpareEachOther xs
+      → AreMet a (met t.right t.step xs a) xs
+  meet xs a fit serve spared =
+      all_met xs a fit (recursion_from_All AlwaysServes xs serve) (each_two_of_pairs SpareEachOther xs spared)
