@@ -331,8 +331,10 @@ no_letters (x ∷ xs) h = absurd (grind (arith, nat_tests, h x))
 module _ (told : Told) (m : RotorParts) (pairs : List (ℕ × ℕ)) where
   joins : (z : Beside) (pair : ℕ × ℕ) → IsPluggable z → z.1 ≡ Some pair → Joins (once_put z) pair
   joins z pair h e =
-      record { letters =
-          (told.letters (cable_letters (once_put z)) (pair.0 ∷ pair.1 ∷ [])).1 (λ y. has_column m z h y ∙ ap (λ column. wants column y) e) }
+      record {
+        letters =
+            (told.letters (cable_letters (once_put z)) (pair.0 ∷ pair.1 ∷ [])).1 (λ y. has_column m z h y ∙ ap (λ column. wants column y) e);
+      }
 
   is_paired : (z : Beside) (column : Column) → z.1 ≡ column → ((pair : ℕ × ℕ) → column ≡ Some pair → Contains pairs pair) → IsPluggable z
       → IsPaired pairs (once_put z)

@@ -240,8 +240,11 @@ good : Told → (m : Parts) (s : Day) (to : List ℕ) → IsMachine m → IsLega
 good told (Rotor m) (OfRotors s) to machine legal same pairing =
     let within = recursion_from_All (λ j. j < length (columns_of s.pairs)) to (λ k d lt. omega (arith, pairing.within k d lt, told.thirteen s.pairs legal.pairs.few)) in
     let cost = table_cost cable_cost (columns_of s.pairs) None m.cables to (machine.legal.cables.count ∙ sym pairing.count) within in
-    record { leads =
-        rotors_lead told m s machine legal same to pairing; counted = rw cost (rotor_counted m s to (slots_count m s machine legal same)) }
+    record {
+      leads =
+          rotors_lead told m s machine legal same to pairing;
+      counted = rw cost (rotor_counted m s to (slots_count m s machine legal same));
+    }
 good told (Pin m) (OfPins s) to machine legal same pairing =
     let within = recursion_from_All (λ j. j < length s.rows) to (λ k d lt. omega (arith, pairing.within k d lt, legal.count)) in
     let cost = table_cost bar_cost s.rows (0, 0) m.bars to (machine.legal.bars ∙ sym pairing.count) within in

@@ -346,7 +346,7 @@ module _ (told : Told) (m : RotorParts) (s : RotorDay) (machine : IsMachine (Rot
         rings = λ k d lt.
             let w = get_or s.wheels k d in
             let wanted = one_is told m.model s.wheels seated w (Contains-get_or s.wheels k d lt) in
-              let all = (rings_met told m s seated machine.legal.rings.count).done in
+            let all = (rings_met told m s seated machine.legal.rings.count).done in
             let right = λ (wheel : Wheel). (rings told m s seated).right (then_rings told m s seated) wheel ≡ true in
             is_number _ _ (rw wanted at (All-contains right (box_of m.model) w.wheel (All-from_recursion right (box_of m.model) all) (boxed told m s seated k d lt)));
         reflector = refl;
