@@ -211,8 +211,7 @@ module _ (places : DaysWheelsHaveTheirPlaces) (s : Day) (legal : IsLegalDay s) w
       let after = subst (λ between. Leads between xs n) leads.1.made leads.2 in
       let rest = no_fewer (changed m x) n xs then_same after in
       let one = loose_falls m x same leads.1.allowed in
-      let head = count_by-cons is_priced x xs in
-      (
+      let head = count_by-cons is_priced x xs in (
         λ unpriced. grind (arith, either),
         needed_in_turn (changed m x) n xs then_same after none (grind (arith, leaves m s x)),
       )

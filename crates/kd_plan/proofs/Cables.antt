@@ -14,7 +14,7 @@ use Rattle.kd_plan.proofs.Prelude.{length-range_with_len, length-zip, letters_ap
 use Rattle.kd_plan.proofs.Prelude.{nat_tests, option_to_list, plugged_letters, recursion_from_All, slice_get-get_or}
 use Rattle.kd_plan.proofs.Prelude.{slice_get_within, unless_so, work_beside, work_lines, work_setting}
 use Rattle.kd_plan.specs.declared.cable_lines.Work.{Work}
-use Rattle.kd_plan.proofs.Carrying.{AreMet, EachLeads, EachTwo, IsPairing, Serves, each_two_of_pairs, meet, met, paired}
+use Rattle.kd_plan.proofs.Carrying.{AreMet, EachLeads, EachTwo, IsPairing, Serves, Things, each_two_of_pairs, meet, met, paired}
 use Rattle.kd_plan.proofs.Carrying.{seam_get, seam_set, spare_all}
 use Rattle.kd_plan.proofs.Writing.{kept_lines, lines_of_kept}
 use Rattle.kd_plan.specs.declared.cable_lines.Work.TheVariants as works
@@ -52,7 +52,8 @@ IsPlain cable = IsDistinct nat_eq (cable_letters cable)
 
 -- A letter is pulled, and put.
 module _ (x : ℕ) (cable : Cable) where
-  pulled : (y : ℕ) → IsPlain cable → holds cable x ≡ true → holds (cable_without x cable) y ≡ (holds cable y && not (nat_eq x y))
+  pulled : (y : ℕ) → IsPlain cable → holds cable x ≡ true
+      → holds (cable_without x cable) y ≡ (holds cable y && not (nat_eq x y))
   unfolding IsDistinct
   pulled y plain e = grind (arith, nat_tests)
 
@@ -68,7 +69,8 @@ module _ (x : ℕ) (cable : Cable) where
   put_plain e d = grind (arith, nat_tests)
 
 -- a cable whose letters are those of a column, and not all of them, has a loose end: a column has no three letters
-loose_end : (x : ℕ) (cable : Cable) (column : Column) → IsPlain cable → ((y : ℕ) → holds cable y ≡ true → wants column y ≡ true)
+loose_end : (x : ℕ) (cable : Cable) (column : Column) → IsPlain cable
+    → ((y : ℕ) → holds cable y ≡ true → wants column y ≡ true)
     → wants column x ≡ true → holds cable x ≡ false → is_plugged cable ≡ false
 unfolding IsDistinct
 loose_end x (None, b) column plain among e d = refl
@@ -81,7 +83,8 @@ letter_at : (P : ℕ → Type 0) → AllByRecursion P alphabet → (y : ℕ) →
 letter_at P h y lt = grind (arith, get_or-range_with_len, All-from_recursion, length-range_with_len)
 
 letters_differ : AllPairs (λ x y. x ≢ y) alphabet
-letters_differ i j d before lt e = omega (arith, e, get_or-range_with_len 0 26 i d, get_or-range_with_len 0 26 j d, length-range_with_len 0 26)
+letters_differ i j d before lt e =
+    omega (arith, e, get_or-range_with_len 0 26 i d, get_or-range_with_len 0 26 j d, length-range_with_len 0 26)
 
 -- What is known of a cable and its column: letters of the alphabet, and no letter twice in the cable.
 pub record IsPluggable (z : Beside) : Type 0 where
@@ -113,14 +116,17 @@ abbrev IsAmong : Column → Cable → Type 0
 IsAmong column cable = IsPlain cable × ((y : ℕ) → holds cable y ≡ true → wants column y ≡ true)
 
 -- the tests of a letter before and after, and whether it is one of the alphabet
-told_pulled : (after before due : Bool) {P : Type 0} → (due && after) ≡ (due && before) → (P → not (after && not due) ≡ true) → (after ≡ true → P) → (before ≡ true → P)
+told_pulled : (after before due : Bool) {P : Type 0} → (due && after) ≡ (due && before)
+    → (P → not (after && not due) ≡ true) → (after ≡ true → P) → (before ≡ true → P)
     → after ≡ (before && due)
 told_pulled after before due kept done own held = grind arith
 
-told_put : (after due : Bool) {P : Type 0} → (P → not (due && not after) ≡ true) → (after ≡ true → due ≡ true) → (due ≡ true → P) → after ≡ due
+told_put : (after due : Bool) {P : Type 0} → (P → not (due && not after) ≡ true) → (after ≡ true → due ≡ true)
+    → (due ≡ true → P) → after ≡ due
 told_put after due done among own = grind arith
 
-one_wants : (first rest before due others : Bool) → (first || rest) ≡ true → first ≡ (before && due) → (rest ≡ true → others ≡ true) → (due || others) ≡ true
+one_wants : (first rest before due others : Bool) → (first || rest) ≡ true → first ≡ (before && due)
+    → (rest ≡ true → others ≡ true) → (due || others) ≡ true
 one_wants first rest before due others e is more = grind arith
 
 module _ (m : RotorParts) where
@@ -131,23 +137,24 @@ module _ (m : RotorParts) where
     abbrev with_cable : Cable → Parts
     with_cable cable = with_cables (front ++ cable ∷ back)
 
-    abbrev pull : ℕ → Setting
-    pull x = Pull (suc (length front)) x
+    abbrev pulling : Things Cable ℕ
+    pulling = record { right = may_stay z.1; step = cable_without; put = with_cable; line = Pull (suc (length front)) }
 
-    abbrev put_in : ℕ → Setting
-    put_in x = Put (suc (length front)) x
+    abbrev putting : Things Cable ℕ
+    putting = record { right = may_lack z.1; step = cable_with; put = with_cable; line = Put (suc (length front)) }
 
-    pull_serves : (x : ℕ) (cable : Cable) → IsOwn cable → may_stay z.1 cable x ≡ false → Serves (may_stay z.1) cable_without with_cable pull IsOwn cable x
+    pull_serves : (x : ℕ) (cable : Cable) → IsOwn cable → may_stay z.1 cable x ≡ false → Serves pulling IsOwn cable x
     pull_serves x cable own wrong = grind (arith, seam_get, seam_set, pulled_plain, pulled)
 
-    pull_spares : (x y : ℕ) → x ≢ y → (cable : Cable) → IsOwn cable → may_stay z.1 cable x ≡ false → may_stay z.1 (cable_without x cable) y ≡ may_stay z.1 cable y
+    pull_spares : (x y : ℕ) → x ≢ y → (cable : Cable) → IsOwn cable → may_stay z.1 cable x ≡ false
+        → may_stay z.1 (cable_without x cable) y ≡ may_stay z.1 cable y
     pull_spares x y other cable own wrong = grind (arith, nat_tests, pulled x cable y own.0)
 
-    pulls_met : AreMet (may_stay z.1) cable_without with_cable pull IsOwn z.0 (once_pulled z) alphabet
+    pulls_met : AreMet pulling IsOwn z.0 (once_pulled z) alphabet
     pulls_met =
-        meet (may_stay z.1) cable_without with_cable pull IsOwn alphabet z.0 (h.plain, h.within)
+        meet pulling IsOwn alphabet z.0 (h.plain, h.within)
         (λ k d lt. pull_serves (get_or alphabet k d))
-        (spare_all (may_stay z.1) cable_without with_cable pull IsOwn alphabet letters_differ pull_spares)
+        (spare_all pulling IsOwn alphabet letters_differ pull_spares)
 
     pulled_is : (y : ℕ) → holds (once_pulled z) y ≡ (holds z.0 y && wants z.1 y)
     pulled_is y =
@@ -161,21 +168,24 @@ module _ (m : RotorParts) where
 
     -- the column's letters lie in no other cable
     abbrev AreFree : Type 0
-    AreFree = (y : ℕ) → wants z.1 y ≡ true → (has_letter (plugged_letters front) y ≡ false) × (has_letter (plugged_letters back) y ≡ false)
+    AreFree =
+        (y : ℕ) → wants z.1 y ≡ true → (has_letter (plugged_letters front) y ≡ false) × (has_letter (plugged_letters back) y ≡ false)
 
     module _ (free : AreFree) where
-      put_serves : (x : ℕ) (cable : Cable) → IsAmong z.1 cable → may_lack z.1 cable x ≡ false → Serves (may_lack z.1) cable_with with_cable put_in (IsAmong z.1) cable x
+      put_serves : (x : ℕ) (cable : Cable) → IsAmong z.1 cable → may_lack z.1 cable x ≡ false
+          → Serves putting (IsAmong z.1) cable x
       put_serves x cable own wrong =
           grind (arith, false, loose_end, flat_map-append, list_any-append, seam_get, seam_set, put_plain, put, own.1)
 
-      put_spares : (x y : ℕ) → x ≢ y → (cable : Cable) → IsAmong z.1 cable → may_lack z.1 cable x ≡ false → may_lack z.1 (cable_with x cable) y ≡ may_lack z.1 cable y
+      put_spares : (x y : ℕ) → x ≢ y → (cable : Cable) → IsAmong z.1 cable → may_lack z.1 cable x ≡ false
+          → may_lack z.1 (cable_with x cable) y ≡ may_lack z.1 cable y
       put_spares x y other cable own wrong = grind (arith, loose_end, put)
 
-      puts_met : AreMet (may_lack z.1) cable_with with_cable put_in (IsAmong z.1) (once_pulled z) (once_put z) alphabet
+      puts_met : AreMet putting (IsAmong z.1) (once_pulled z) (once_put z) alphabet
       puts_met =
-          meet (may_lack z.1) cable_with with_cable put_in (IsAmong z.1) alphabet (once_pulled z) among
+          meet putting (IsAmong z.1) alphabet (once_pulled z) among
           (λ k d lt. put_serves (get_or alphabet k d))
-          (spare_all (may_lack z.1) cable_with with_cable put_in (IsAmong z.1) alphabet letters_differ put_spares)
+          (spare_all putting (IsAmong z.1) alphabet letters_differ put_spares)
 
       put_is : (y : ℕ) → holds (once_put z) y ≡ wants z.1 y
       put_is y =
@@ -200,7 +210,8 @@ module _ (m : RotorParts) where
   abbrev pub AreDisjoint : List Beside → Type 0
   AreDisjoint zs = EachTwo (λ z v. (y : ℕ) → wants z.1 y ≡ true → wants v.1 y ≡ false) zs
 
-  none_wants : (column : Column) (y : ℕ) (zs : List Beside) → wants column y ≡ true → AllByRecursion (λ v. (y : ℕ) → wants column y ≡ true → wants v.1 y ≡ false) zs
+  none_wants : (column : Column) (y : ℕ) (zs : List Beside) → wants column y ≡ true
+      → AllByRecursion (λ v. (y : ℕ) → wants column y ≡ true → wants v.1 y ≡ false) zs
       → all_want zs y ≡ false
   none_wants column y [] e apart = refl
   none_wants column y (z ∷ zs) e apart = grind (arith, apart.0, none_wants column y zs e apart.1)
@@ -218,12 +229,15 @@ module _ (m : RotorParts) where
   IsFree front zs = (y : ℕ) → has_letter (plugged_letters front) y ≡ true → all_want zs y ≡ false
 
   still_free : (front : List Cable) (z : Beside) (zs : List Beside) → IsPluggable z → IsFree front (z ∷ zs)
-      → AllByRecursion (λ v. (y : ℕ) → wants z.1 y ≡ true → wants v.1 y ≡ false) zs → IsFree (front ++ once_put z ∷ []) zs
-  still_free front z zs h free apart y e = grind (arith, flat_map-append, list_any-append, append-nil, has_column z h y, free y, none_wants z.1 y zs)
+      → AllByRecursion (λ v. (y : ℕ) → wants z.1 y ≡ true → wants v.1 y ≡ false) zs
+      → IsFree (front ++ once_put z ∷ []) zs
+  still_free front z zs h free apart y e =
+      grind (arith, flat_map-append, list_any-append, append-nil, has_column z h y, free y, none_wants z.1 y zs)
 
   nowhere : (front : List Cable) (z : Beside) (zs : List Beside) → AllByRecursion IsPluggable zs → IsFree front (z ∷ zs)
       → AllByRecursion (λ v. (y : ℕ) → wants z.1 y ≡ true → wants v.1 y ≡ false) zs
-      → (y : ℕ) → wants z.1 y ≡ true → (has_letter (plugged_letters front) y ≡ false) × (has_letter (plugged_letters (map once_pulled zs)) y ≡ false)
+      → (y : ℕ) → wants z.1 y ≡ true
+      → (has_letter (plugged_letters front) y ≡ false) × (has_letter (plugged_letters (map once_pulled zs)) y ≡ false)
   nowhere front z zs h free apart y e = grind (arith, free y, behind y zs, none_wants z.1 y zs)
 
   -- nothing that is pulled is put
@@ -234,7 +248,8 @@ module _ (m : RotorParts) where
       let same : (x : ℕ) → may_lack z.1 (once_pulled z) x ≡ may_lack z.1 z.0 x = λ x. grind (arith, pulled_is [] [] z h x) in
       ap (λ (test : ℕ → Bool). flat_map (λ x. option_to_list (unless_so (test x) (Put number x))) alphabet) (λ i x. same x i)
 
-  pub puts_each : (front : List Cable) (zs : List Beside) → AllByRecursion IsPluggable zs → AreDisjoint zs → IsFree front zs
+  pub puts_each : (front : List Cable) (zs : List Beside) → AllByRecursion IsPluggable zs → AreDisjoint zs
+      → IsFree front zs
       → EachLeads with_cables once_pulled once_put (work_beside works.Put) front zs
   puts_each front [] h apart free = tt
   puts_each front (z ∷ zs) h apart free = (
@@ -265,12 +280,14 @@ none_again : (x : ℕ) (xs : List ℕ) → AllByRecursion (λ y. nat_eq x y ≡ 
 none_again x [] h = refl
 none_again x (y ∷ xs) h = grind (arith, nat_tests, none_again x xs h.1)
 
-plain_parts : (cable : Cable) (letters : List ℕ) → IsDistinct nat_eq (cable_letters cable ++ letters) → IsPlain cable × IsDistinct nat_eq letters
+plain_parts : (cable : Cable) (letters : List ℕ) → IsDistinct nat_eq (cable_letters cable ++ letters)
+    → IsPlain cable × IsDistinct nat_eq letters
 unfolding IsDistinct
 plain_parts cable letters h = grind arith
 
 all_pluggable : (cables : List Cable) (columns : List Column) → IsDistinct nat_eq (plugged_letters cables)
-    → ((y : ℕ) → has_letter (plugged_letters cables) y ≡ true → y < 26) → AllByRecursion (λ column. (y : ℕ) → wants column y ≡ true → y < 26) columns
+    → ((y : ℕ) → has_letter (plugged_letters cables) y ≡ true → y < 26)
+    → AllByRecursion (λ column. (y : ℕ) → wants column y ≡ true → y < 26) columns
     → AllByRecursion IsPluggable (zip cables columns)
 all_pluggable [] columns plain within due = tt
 all_pluggable (cable ∷ cables) [] plain within due = tt
@@ -280,12 +297,14 @@ all_pluggable (cable ∷ cables) (column ∷ columns) plain within due =
     (record { plain = parts.0; within = λ y e. within y (grind (arith, held y)); due = due.0 }, all_pluggable cables columns parts.1 (λ y e. within y (grind (arith, held y))) due.1)
 
 -- the letters of a pair are among those of all, and no two pairs have one in common
-pair_among : (pairs : List (ℕ × ℕ)) (k y : ℕ) → wants (slice_get pairs k) y ≡ true → has_letter (letters_plugged pairs) y ≡ true
+pair_among : (pairs : List (ℕ × ℕ)) (k y : ℕ) → wants (slice_get pairs k) y ≡ true
+    → has_letter (letters_plugged pairs) y ≡ true
 pair_among [] k y e = e
 pair_among (pair ∷ pairs) zero y e = grind arith
 pair_among (pair ∷ pairs) (suc k) y e = grind (arith, pair_among pairs k y e)
 
-first_apart : (pair : ℕ × ℕ) (pairs : List (ℕ × ℕ)) (k y : ℕ) → IsDistinct nat_eq (letters_plugged (pair ∷ pairs)) → wants (Some pair) y ≡ true
+first_apart : (pair : ℕ × ℕ) (pairs : List (ℕ × ℕ)) (k y : ℕ) → IsDistinct nat_eq (letters_plugged (pair ∷ pairs))
+    → wants (Some pair) y ≡ true
     → wants (slice_get pairs k) y ≡ true → ⊥
 unfolding IsDistinct
 first_apart pair pairs k y h e d =
@@ -293,14 +312,16 @@ first_apart pair pairs k y h e d =
     let second = none_again pair.1 (letters_plugged pairs) h.1.0 in
     grind (arith, nat_tests, pair_among pairs k y d)
 
-pairs_apart : (pairs : List (ℕ × ℕ)) (i j y : ℕ) → IsDistinct nat_eq (letters_plugged pairs) → i ≢ j → wants (slice_get pairs i) y ≡ true
+pairs_apart : (pairs : List (ℕ × ℕ)) (i j y : ℕ) → IsDistinct nat_eq (letters_plugged pairs) → i ≢ j
+    → wants (slice_get pairs i) y ≡ true
     → wants (slice_get pairs j) y ≡ true → ⊥
 unfolding IsDistinct
 pairs_apart [] i j y h other e d = absurd cc
 pairs_apart (pair ∷ pairs) zero zero y h other e d = other refl
 pairs_apart (pair ∷ pairs) zero (suc j) y h other e d = first_apart pair pairs j y h e d
 pairs_apart (pair ∷ pairs) (suc i) zero y h other e d = first_apart pair pairs i y h d e
-pairs_apart (pair ∷ pairs) (suc i) (suc j) y h other e d = pairs_apart pairs i j y h.1.1 (λ same. other (ap suc same)) e d
+pairs_apart (pair ∷ pairs) (suc i) (suc j) y h other e d =
+    pairs_apart pairs i j y h.1.1 (λ same. other (ap suc same)) e d
 
 -- a cable with the letters of its column is empty, or has a pair's letters
 no_letters : (xs : List ℕ) → ((y : ℕ) → has_letter xs y ≡ false) → xs ≡ []
@@ -310,7 +331,10 @@ no_letters (x ∷ xs) h = absurd (grind (arith, nat_tests, h x))
 module _ (told : Told) (m : RotorParts) (pairs : List (ℕ × ℕ)) where
   joins : (z : Beside) (pair : ℕ × ℕ) → IsPluggable z → z.1 ≡ Some pair → Joins (once_put z) pair
   joins z pair h e =
-      record { letters = (told.letters (cable_letters (once_put z)) (pair.0 ∷ pair.1 ∷ [])).1 (λ y. has_column m z h y ∙ ap (λ column. wants column y) e) }
+      record {
+        letters =
+            (told.letters (cable_letters (once_put z)) (pair.0 ∷ pair.1 ∷ [])).1 (λ y. has_column m z h y ∙ ap (λ column. wants column y) e);
+      }
 
   is_paired : (z : Beside) (column : Column) → z.1 ≡ column → ((pair : ℕ × ℕ) → column ≡ Some pair → Contains pairs pair) → IsPluggable z
       → IsPaired pairs (once_put z)
@@ -357,7 +381,8 @@ module _ (told : Told) (m : RotorParts) (pairs : List (ℕ × ℕ)) where
         false_from_ne_true _ (λ also. pairs_apart pairs (get_or to i 0) (get_or to j 0) y legal.apart (pairing.apart i j 0 before (within j lt))
         (ap (λ column. wants column y) (sym (column_is i d here)) ∙ e) (ap (λ column. wants column y) (sym (column_is j d lt)) ∙ also)))
 
-    at : (k : ℕ) (pair : ℕ × ℕ) → k < length beside → (get_or beside k ((None, None), Some pair)).1 ≡ get_or (map (column_at pairs) to) k (Some pair)
+    at : (k : ℕ) (pair : ℕ × ℕ) → k < length beside
+        → (get_or beside k ((None, None), Some pair)).1 ≡ get_or (map (column_at pairs) to) k (Some pair)
     at k pair lt = grind (arith, get_or-zip, length-zip)
 
     pub are_the_pairs : AreThePairs (map once_put beside) pairs

@@ -90,10 +90,12 @@ led_cons {k = k} allowed made rest = record { leads = (k, record { allowed = all
 
 pub led_append : (xs ys : List Setting) {m k n : Parts} → Led m xs k → Led k ys n → Led m (xs ++ ys) n
 led_append [] ys {n = n} first second = subst (λ from. Led from ys n) first.leads second
-led_append (x ∷ xs) ys first second = grind (arith, led_cons, led_append xs ys (record { leads = first.leads.2 }) second)
+led_append (x ∷ xs) ys first second =
+    grind (arith, led_cons, led_append xs ys (record { leads = first.leads.2 }) second)
 
 -- a setting that is left out where things are so already
-pub led_unless : (so : Bool) (m n : Parts) (x : Setting) → (so ≡ true → n ≡ m) → changed m x ≡ n → (so ≡ false → why_refused m x ≡ None)
+pub led_unless : (so : Bool) (m n : Parts) (x : Setting) → (so ≡ true → n ≡ m) → changed m x ≡ n
+    → (so ≡ false → why_refused m x ≡ None)
     → Led m (option_to_list (unless_so so x)) n
 led_unless so m n x same made allowed = grind (arith, led_none, led_cons)
 
@@ -116,74 +118,85 @@ module _ {Z A : Type 0} (put : List A → Parts) (before after : Z → A) (lines
 
 -- Things that need not stand side by side: each has a test whether it is right, and a setting that makes it so and leaves the
 -- tests of the others as they are. Then the settings of those that aren't right make all of them right.
+pub record Things (A X : Type 0) : Type 0 where
+  pub right : A → X → Bool
+  pub step : X → A → A
+  pub put : A → Parts
+  pub line : X → Setting
+
 module _ {A X : Type 0} (right : A → X → Bool) (step : X → A → A) where
   abbrev pub met : List X → A → A
   met [] a = a
   met (x ∷ xs) a = met xs (cond (right a x) a (step x a))
 
-module _ {A X : Type 0} (right : A → X → Bool) (step : X → A → A) (put : A → Parts) (line : X → Setting) (Fit : A → Type 0) where
+module _ {A X : Type 0} (t : Things A X) (Fit : A → Type 0) where
   abbrev pub lines_for : A → List X → List Setting
-  lines_for a xs = flat_map (λ x. option_to_list (unless_so (right a x) (line x))) xs
+  lines_for a xs = flat_map (λ x. option_to_list (unless_so (t.right a x) (t.line x))) xs
 
   pub record Serves (a : A) (x : X) : Type 0 where
-    pub allowed : why_refused (put a) (line x) ≡ None
-    pub made : changed (put a) (line x) ≡ put (step x a)
-    pub fits : Fit (step x a)
-    pub done : right (step x a) x ≡ true
+    pub allowed : why_refused (t.put a) (t.line x) ≡ None
+    pub made : changed (t.put a) (t.line x) ≡ t.put (t.step x a)
+    pub fits : Fit (t.step x a)
+    pub done : t.right (t.step x a) x ≡ true
 
   -- the setting of the thing leaves the test as it is
   abbrev pub Spares : X → (A → Bool) → Type 0
-  Spares x test = (a : A) → Fit a → right a x ≡ false → test (step x a) ≡ test a
+  Spares x test = (a : A) → Fit a → t.right a x ≡ false → test (t.step x a) ≡ test a
 
   abbrev pub AlwaysServes : X → Type 0
-  AlwaysServes x = (a : A) → Fit a → right a x ≡ false → Serves a x
+  AlwaysServes x = (a : A) → Fit a → t.right a x ≡ false → Serves a x
 
   abbrev pub SpareEachOther : X → X → Type 0
-  SpareEachOther x y = Spares x (λ a. right a y) × Spares y (λ a. right a x)
+  SpareEachOther x y = Spares x (λ a. t.right a y) × Spares y (λ a. t.right a x)
 
-  pub spare_all : (xs : List X) → AllPairs (λ x y. x ≢ y) xs → ((x y : X) → x ≢ y → Spares x (λ a. right a y)) → AllPairs SpareEachOther xs
+  pub spare_all : (xs : List X) → AllPairs (λ x y. x ≢ y) xs → ((x y : X) → x ≢ y → Spares x (λ a. t.right a y))
+      → AllPairs SpareEachOther xs
   spare_all xs apart h i j d before lt = (h _ _ (apart i j d before lt), h _ _ (λ e. apart i j d before lt (sym e)))
 
   pub record AreMet (a end : A) (xs : List X) : Type 0 where
-    pub led : Led (put a) (lines_for a xs) (put end)
+    pub led : Led (t.put a) (lines_for a xs) (t.put end)
     pub fits : Fit end
-    pub done : AllByRecursion (λ x. right end x ≡ true) xs
+    pub done : AllByRecursion (λ x. t.right end x ≡ true) xs
     pub kept : (test : A → Bool) → AllByRecursion (λ x. Spares x test) xs → test end ≡ test a
 
-  same_lines : (a : A) (x : X) (xs : List X) → Fit a → right a x ≡ false → AllByRecursion (SpareEachOther x) xs
-      → lines_for (step x a) xs ≡ lines_for a xs
+  same_lines : (a : A) (x : X) (xs : List X) → Fit a → t.right a x ≡ false → AllByRecursion (SpareEachOther x) xs
+      → lines_for (t.step x a) xs ≡ lines_for a xs
   same_lines a x [] fit wrong h = refl
   same_lines a x (y ∷ xs) fit wrong h = rw (h.0.0 a fit wrong, same_lines a x xs fit wrong h.1) refl
 
   spare_it : (x : X) (xs : List X) → AllByRecursion (SpareEachOther x) xs
-      → AllByRecursion (λ y. Spares y (λ a. right a x)) xs
+      → AllByRecursion (λ y. Spares y (λ a. t.right a x)) xs
   spare_it x [] h = tt
   spare_it x (y ∷ xs) h = (h.0.1, spare_it x xs h.1)
 
-  one_met : (b : Bool) (x : X) (xs : List X) (a : A) → right a x ≡ b → Fit a → AlwaysServes x
-      → AllByRecursion (SpareEachOther x) xs → ((a : A) → Fit a → AreMet a (met right step xs a) xs)
-      → AreMet a (met right step xs (cond b a (step x a))) (x ∷ xs)
+  one_met : (b : Bool) (x : X) (xs : List X) (a : A) → t.right a x ≡ b → Fit a → AlwaysServes x
+      → AllByRecursion (SpareEachOther x) xs → ((a : A) → Fit a → AreMet a (met t.right t.step xs a) xs)
+      → AreMet a (met t.right t.step xs (cond b a (t.step x a))) (x ∷ xs)
   one_met true x xs a is fit serves spared next =
       let rest = next a fit in
       record {
         led = rw is rest.led;
         fits = rest.fits;
-        done = (rest.kept (λ a. right a x) (spare_it x xs spared) ∙ is, rest.done);
+        done = (rest.kept (λ a. t.right a x) (spare_it x xs spared) ∙ is, rest.done);
         kept = λ test h. rest.kept test h.1;
       }
   one_met false x xs a is fit serves spared next =
       let served = serves a fit is in
-      let rest = next (step x a) served.fits in
+      let rest = next (t.step x a) served.fits in
       record {
         led = rw is (led_cons served.allowed served.made (rw (same_lines a x xs fit is spared) at rest.led));
         fits = rest.fits;
-        done = (rest.kept (λ a. right a x) (spare_it x xs spared) ∙ served.done, rest.done);
+        done = (rest.kept (λ a. t.right a x) (spare_it x xs spared) ∙ served.done, rest.done);
         kept = λ test h. rest.kept test h.1 ∙ h.0 a fit is;
       }
 
-  all_met : (xs : List X) (a : A) → Fit a → AllByRecursion AlwaysServes xs → EachTwo SpareEachOther xs → AreMet a (met right step xs a) xs
+  all_met : (xs : List X) (a : A) → Fit a → AllByRecursion AlwaysServes xs → EachTwo SpareEachOther xs
+      → AreMet a (met t.right t.step xs a) xs
   all_met [] a fit serve spared = record { led = led_none refl; fits = fit; done = tt; kept = λ test h. refl }
-  all_met (x ∷ xs) a fit serve spared = one_met (right a x) x xs a refl fit serve.0 spared.0 (λ a fit. all_met xs a fit serve.1 spared.1)
+  all_met (x ∷ xs) a fit serve spared =
+      one_met (t.right a x) x xs a refl fit serve.0 spared.0 (λ a fit. all_met xs a fit serve.1 spared.1)
 
-  pub meet : (xs : List X) (a : A) → Fit a → All AlwaysServes xs → AllPairs SpareEachOther xs → AreMet a (met right step xs a) xs
-  meet xs a fit serve spared = all_met xs a fit (recursion_from_All AlwaysServes xs serve) (each_two_of_pairs SpareEachOther xs spared)
+  pub meet : (xs : List X) (a : A) → Fit a → All AlwaysServes xs → AllPairs SpareEachOther xs
+      → AreMet a (met t.right t.step xs a) xs
+  meet xs a fit serve spared =
+      all_met xs a fit (recursion_from_All AlwaysServes xs serve) (each_two_of_pairs SpareEachOther xs spared)

@@ -114,9 +114,11 @@ module _ (m : PinParts) where
   -- all wheels: each has as many pins as letters, now and by the day
   abbrev AreSized : ℕ → List (List Bool × List Bool) → Type 0
   AreSized number [] = Unit {0}
-  AreSized number (z ∷ zs) = (length z.0 ≡ length (ring_of number)) × (length z.1 ≡ length (ring_of number)) × AreSized (suc number) zs
+  AreSized number (z ∷ zs) =
+      (length z.0 ≡ length (ring_of number)) × (length z.1 ≡ length (ring_of number)) × AreSized (suc number) zs
 
-  wheels_each : (front : List (List Bool)) (zs : List (List Bool × List Bool)) → length front + length zs ≡ 6 → AreSized (suc (length front)) zs
+  wheels_each : (front : List (List Bool)) (zs : List (List Bool × List Bool)) → length front + length zs ≡ 6
+      → AreSized (suc (length front)) zs
       → EachLeads with_pins (λ z. z.0) (λ z. z.1) wheel_lines front zs
   wheels_each front [] six sized = tt
   wheels_each front (z ∷ zs) six sized =
@@ -146,7 +148,8 @@ module _ (m : PinParts) (s : PinDay) where
   pub turns_each : (front : List ℕ) (zs : List (ℕ × ℕ)) → front ++ map wanted zs ≡ s.window → AreOnWheels s.window
       → EachLeads with_shown shown wanted pin_turn_of front zs
   turns_each front [] e on = tt
-  turns_each front (z ∷ zs) e on = grind (arith, list_any_at, eq-eqb, eqb-true, led_unless, seam_get, seam_set, append_assoc, on.each (suc (length front)) z.1, turns_each (front ++ z.1 ∷ []) zs)
+  turns_each front (z ∷ zs) e on =
+      grind (arith, list_any_at, eq-eqb, eqb-true, led_unless, seam_get, seam_set, append_assoc, on.each (suc (length front)) z.1, turns_each (front ++ z.1 ∷ []) zs)
 
 -- ---- all lines
 

@@ -51,10 +51,12 @@ priced-cons : (x : Setting) (xs : List Setting) → priced_count (x ∷ xs) ≡ 
 priced-cons x xs = sum_by-cons (λ x. cond (is_priced x) 1 0) x xs
 
 -- a line that is left out where things are so: of other things, and of cables and bars
-counted_loose : (so : Bool) (x : Setting) → is_priced x ≡ false → AreCounted (option_to_list (unless_so so x)) (cond (not so) 1 0) 0
+counted_loose : (so : Bool) (x : Setting) → is_priced x ≡ false
+    → AreCounted (option_to_list (unless_so so x)) (cond (not so) 1 0) 0
 counted_loose so x e = grind arith
 
-counted_priced : (so : Bool) (x : Setting) → is_priced x ≡ true → AreCounted (option_to_list (unless_so so x)) 0 (unless_same so)
+counted_priced : (so : Bool) (x : Setting) → is_priced x ≡ true
+    → AreCounted (option_to_list (unless_so so x)) 0 (unless_same so)
 counted_priced so x e = grind arith
 
 not_same : (b : Bool) → cond {A = ℕ} (not b) 1 0 ≡ unless_same b
@@ -126,7 +128,8 @@ table_cost cost columns d (x ∷ all) (j ∷ to) size within =
 table_cost cost columns d _ _ size within = absurd (omega arith)
 
 -- a wheel is found under one name only
-once_in_box : (model : Model) (wheel : Wheel) (b : Bool) → count_by (λ x. same_wheel x wheel && b) (box_of model) ≤ cond b 1 0
+once_in_box : (model : Model) (wheel : Wheel) (b : Bool)
+    → count_by (λ x. same_wheel x wheel && b) (box_of model) ≤ cond b 1 0
 once_in_box model wheel b = grind arith
 
 abbrev finds : (SheetWheel → Bool) → List SheetWheel → Wheel → Bool
@@ -136,15 +139,19 @@ finds_first : (test : SheetWheel → Bool) (w : SheetWheel) (wheels : List Sheet
     → cond {A = ℕ} (finds test (w ∷ wheels) b) 1 0 ≤ cond (same_wheel b w.wheel && test w) 1 0 + cond (finds test wheels b) 1 0
 finds_first test w wheels b = grind arith
 
-found_at_most : (test : SheetWheel → Bool) (model : Model) (wheels : List SheetWheel) → count_by (finds test wheels) (box_of model) ≤ count_by test wheels
+found_at_most : (test : SheetWheel → Bool) (model : Model) (wheels : List SheetWheel)
+    → count_by (finds test wheels) (box_of model) ≤ count_by test wheels
 found_at_most test model [] = omega (arith, sum_none (box_of model))
-found_at_most test model (w ∷ wheels) = grind (arith, common_steps, sum_by-le-sum_by, finds_first, sums_add, once_in_box, sum_by-cons, found_at_most test model wheels)
+found_at_most test model (w ∷ wheels) =
+    grind (arith, common_steps, sum_by-le-sum_by, finds_first, sums_add, once_in_box, sum_by-cons, found_at_most test model wheels)
 
 -- things beside things by their numbers
-by_slot : {A B : Type 0} (lines : ℕ → Option A → B → List Setting) (front xs : List A) (ys : List B) (number : ℕ) → number ≡ suc (length front) → length xs ≡ length ys
+by_slot : {A B : Type 0} (lines : ℕ → Option A → B → List Setting) (front xs : List A) (ys : List B) (number : ℕ)
+    → number ≡ suc (length front) → length xs ≡ length ys
     → lines_from (λ n y. lines n (numbered (front ++ xs) n) y) number ys ≡ lines_from (λ n z. lines n (Some z.0) z.1) number (zip xs ys)
 by_slot lines front [] [] number e size = refl
-by_slot lines front (x ∷ xs) (y ∷ ys) number e size = grind (arith, seam_get, append_assoc, length-append, by_slot lines (front ++ x ∷ []) xs ys (number + 1))
+by_slot lines front (x ∷ xs) (y ∷ ys) number e size =
+    grind (arith, seam_get, append_assoc, length-append, by_slot lines (front ++ x ∷ []) xs ys (number + 1))
 by_slot lines front _ _ number e size = absurd (omega arith)
 
 -- All planned lines of a rotor machine.
@@ -173,7 +180,8 @@ module _ (m : RotorParts) (s : RotorDay) (to : List ℕ) where
       (by_slot (λ slot (seated : Option (Option Wheel)) (w : SheetWheel). option_to_list (unless_so (option_map_or (same_wheel w.wheel) (unwrap_or seated None) false) (Seat slot w.wheel))) [] m.slots s.wheels 1 refl size)
       (counted_loose_each _ _ (λ n z. counted_loose _ _ refl) (zip m.slots s.wheels) 1)
 
-  pub rotor_counted : length m.slots ≡ length s.wheels → AreCounted (planned_lines (Rotor m) (OfRotors s) to) (loose_count (Rotor m) (OfRotors s)) (sum_by (λ z. cable_cost z.0 z.1) cables)
+  pub rotor_counted : length m.slots ≡ length s.wheels
+      → AreCounted (planned_lines (Rotor m) (OfRotors s) to) (loose_count (Rotor m) (OfRotors s)) (sum_by (λ z. cable_cost z.0 z.1) cables)
   rotor_counted size =
       let reflector = counted_loose (same_reflector m.reflector s.reflector) (SeatReflector s.reflector) refl in
       let turns = counted_loose_each (turn_of m) _ (λ n w. counted_loose _ _ refl) s.wheels 1 in
@@ -184,7 +192,8 @@ module _ (m : RotorParts) (s : RotorDay) (to : List ℕ) where
       record { few = omega (arith, all.few, cable_sums, not_same (same_reflector m.reflector s.reflector)); priced = omega (arith, all.priced, cable_sums) }
 
 -- And of a Converter M-209.
-beside_each : {A B : Type 0} (f : B → ℕ) (xs : List A) (ys : List B) → sum_by (λ (z : A × B). f z.1) (zip xs ys) ≤ sum_by f ys
+beside_each : {A B : Type 0} (f : B → ℕ) (xs : List A) (ys : List B)
+    → sum_by (λ (z : A × B). f z.1) (zip xs ys) ≤ sum_by f ys
 beside_each f [] ys = omega arith
 beside_each f (x ∷ xs) [] = omega arith
 beside_each f (x ∷ xs) (y ∷ ys) = simp sum_by-cons (omega (arith, beside_each f xs ys))
@@ -193,7 +202,8 @@ module _ (m : PinParts) (s : PinDay) (to : List ℕ) where
   abbrev bars : List BarRow
   bars = bars_beside m.bars s.rows to
 
-  counted_wheel : (number : ℕ) (z : List Bool × List Bool) → AreCounted (wheel_pin_lines number (ring_of number) z.0 z.1) (count_by (λ (pin : Bool × Bool). differ pin.0 pin.1) (zip z.0 z.1)) 0
+  counted_wheel : (number : ℕ) (z : List Bool × List Bool)
+      → AreCounted (wheel_pin_lines number (ring_of number) z.0 z.1) (count_by (λ (pin : Bool × Bool). differ pin.0 pin.1) (zip z.0 z.1)) 0
   counted_wheel number z =
       let cells = zip (ring_of number) (zip z.0 z.1) in
       counted_most (beside_each (λ (pin : Bool × Bool). cond (differ pin.0 pin.1) 1 0) (ring_of number) (zip z.0 z.1))
@@ -230,7 +240,11 @@ good : Told → (m : Parts) (s : Day) (to : List ℕ) → IsMachine m → IsLega
 good told (Rotor m) (OfRotors s) to machine legal same pairing =
     let within = recursion_from_All (λ j. j < length (columns_of s.pairs)) to (λ k d lt. omega (arith, pairing.within k d lt, told.thirteen s.pairs legal.pairs.few)) in
     let cost = table_cost cable_cost (columns_of s.pairs) None m.cables to (machine.legal.cables.count ∙ sym pairing.count) within in
-    record { leads = rotors_lead told m s machine legal same to pairing; counted = rw cost (rotor_counted m s to (slots_count m s machine legal same)) }
+    record {
+      leads =
+          rotors_lead told m s machine legal same to pairing;
+      counted = rw cost (rotor_counted m s to (slots_count m s machine legal same));
+    }
 good told (Pin m) (OfPins s) to machine legal same pairing =
     let within = recursion_from_All (λ j. j < length s.rows) to (λ k d lt. omega (arith, pairing.within k d lt, legal.count)) in
     let cost = table_cost bar_cost s.rows (0, 0) m.bars to (machine.legal.bars ∙ sym pairing.count) within in
@@ -326,7 +340,8 @@ rotor_room few m s to machine legal same =
     let cables = sum_by-le (λ (z : Beside). cable_cost z.0 z.1) 4 (besides m.cables s.pairs to) (λ k d lt. let z : Beside = get_or (besides m.cables s.pairs to) k d in few z.0 z.1) in
     grind (arith, counted.few, chosen_length, count_by-le-length, length-zip, at_most_one, few_slots, length-map)
 
-pins_at_most : (now wanted : PinSet) → HasAllPins now → sum_by (λ (z : List Bool × List Bool). length (zip z.0 z.1)) (zip (pins_of now) (pins_of wanted)) ≤ 131
+pins_at_most : (now wanted : PinSet) → HasAllPins now
+    → sum_by (λ (z : List Bool × List Bool). length (zip z.0 z.1)) (zip (pins_of now) (pins_of wanted)) ≤ 131
 unfolding ring_of
 pins_at_most now wanted has = grind (arith, length-zip, has 1, has 2, has 3, has 4, has 5, has 6)
 

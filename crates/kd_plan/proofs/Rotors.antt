@@ -16,7 +16,7 @@ use Rattle.kd_plan.proofs.Prelude.{position_or_len_is, range_with_len, reflector
 use Rattle.kd_plan.proofs.Prelude.{ring_at, ring_lines, same_reflector, same_wheel, seat_lines, seat_of, seats}
 use Rattle.kd_plan.proofs.Prelude.{slice_get-get_or, unless_so, wheel_text, wheels_for, why_refused, with_letter}
 use Rattle.kd_plan.proofs.Prelude.{without, work_beside}
-use Rattle.kd_plan.proofs.Carrying.{AlwaysServes, AreMet, IsPairing, Led, Serves, SpareEachOther, cells_led, found}
+use Rattle.kd_plan.proofs.Carrying.{AlwaysServes, Things, AreMet, IsPairing, Led, Serves, SpareEachOther, cells_led, found}
 use Rattle.kd_plan.proofs.Carrying.{is_number, led_append, led_unless, lines_for, meet, met}
 use Rattle.kd_plan.proofs.Cables.{Beside, Cable, IsPluggable, are_disjoint, are_pluggable, are_the_pairs, once_pulled}
 use Rattle.kd_plan.proofs.Cables.{once_put, present, pulls_each, puts_each, same_cables, with_cables}
@@ -61,17 +61,21 @@ seat_at wheels place d lt = grind (arith, slice_get-map, slice_get-get_or)
 
 -- what holds of things by their numbers
 module _ {X : Type 0} (xs : List X) where
-  at_place : (k : ℕ) (d : ℕ × X) → k < length (enumerate_from 1 xs) → get_or (enumerate_from 1 xs) k d ≡ (suc k, get_or xs k d.1)
-  at_place k d lt = get_or-enumerate_from 1 xs k d (omega (arith, length-enumerate_from 1 xs)) ∙ ap (λ n. (n, get_or xs k d.1)) (omega arith)
+  at_place : (k : ℕ) (d : ℕ × X) → k < length (enumerate_from 1 xs)
+      → get_or (enumerate_from 1 xs) k d ≡ (suc k, get_or xs k d.1)
+  at_place k d lt =
+      get_or-enumerate_from 1 xs k d (omega (arith, length-enumerate_from 1 xs)) ∙ ap (λ n. (n, get_or xs k d.1)) (omega arith)
 
   by_number : (P : ℕ × X → Type 0) → ((k : ℕ) (d : X) → k < length xs → P (suc k, get_or xs k d)) → All P (enumerate_from 1 xs)
   by_number P h k d lt = subst P (sym (at_place k d lt)) (h k d.1 (omega (arith, length-enumerate_from 1 xs)))
 
-  two_by_number : (R : ℕ × X → ℕ × X → Type 0) → ((j k : ℕ) (d : X) → j < k → k < length xs → R (suc j, get_or xs j d) (suc k, get_or xs k d))
+  two_by_number : (R : ℕ × X → ℕ × X → Type 0)
+      → ((j k : ℕ) (d : X) → j < k → k < length xs → R (suc j, get_or xs j d) (suc k, get_or xs k d))
       → AllPairs R (enumerate_from 1 xs)
   two_by_number R h j k d before lt = grind (arith, at_place, h, length-enumerate_from)
 
-  at_number : (P : ℕ × X → Type 0) → AllByRecursion P (enumerate_from 1 xs) → (k : ℕ) (d : X) → k < length xs → P (suc k, get_or xs k d)
+  at_number : (P : ℕ × X → Type 0) → AllByRecursion P (enumerate_from 1 xs) → (k : ℕ) (d : X) → k < length xs
+      → P (suc k, get_or xs k d)
   at_number P h k d lt =
       let within : k < length (enumerate_from 1 xs) = omega (arith, length-enumerate_from 1 xs) in
       subst P (at_place k (0, d) within) (All-from_recursion P (enumerate_from 1 xs) h k (0, d) within)
@@ -102,6 +106,9 @@ module _ {X : Type 0} (place : X → ℕ) (target : X → Option ℕ) where
   abbrev with_its : X → List ℕ → List ℕ
   with_its x letters = set letters (place x) (unwrap_or (target x) 0)
 
+  abbrev numbering : (List ℕ → Parts) → (X → Setting) → Things (List ℕ) X
+  numbering put line = record { right = has_its; step = with_its; put = put; line = line }
+
   module _ (put : List ℕ → Parts) (line : X → Setting) (size : ℕ) where
     abbrev HasSize : List ℕ → Type 0
     HasSize letters = length letters ≡ size
@@ -114,17 +121,19 @@ module _ {X : Type 0} (place : X → ℕ) (target : X → Option ℕ) where
     its_own : (o : Option ℕ) → option_map_or (λ l. option_map_or (nat_eq l) (Some (unwrap_or o 0)) false) o true ≡ true
     its_own o = grind (arith, eq-eqb)
 
-    sets_its : (x : X) → SetsIts x → (letters : List ℕ) → HasSize letters → has_its letters x ≡ false → Serves has_its with_its put line HasSize letters x
+    sets_its : (x : X) → SetsIts x → (letters : List ℕ) → HasSize letters → has_its letters x ≡ false
+        → Serves (numbering put line) HasSize letters x
     sets_its x h letters size wrong = grind (arith, h.allowed, h.made, length-set, slice_get-set_same, its_own)
 
     others_kept : (x y : X) → place y ≢ place x → (letters : List ℕ) → HasSize letters → has_its letters x ≡ false
         → has_its (with_its x letters) y ≡ has_its letters y
     others_kept x y away letters size wrong = grind (arith, false, slice_get-set_other)
 
-    set_all : (letters : List ℕ) (xs : List X) → length letters ≡ size → All SetsIts xs → AllPairs (λ x y. place x ≢ place y) xs
-        → AreMet has_its with_its put line HasSize letters (met has_its with_its xs letters) xs
+    set_all : (letters : List ℕ) (xs : List X) → length letters ≡ size → All SetsIts xs
+        → AllPairs (λ x y. place x ≢ place y) xs
+        → AreMet (numbering put line) HasSize letters (met has_its with_its xs letters) xs
     set_all letters xs size h apart =
-        meet has_its with_its put line HasSize xs letters size (λ k d lt. sets_its (get_or xs k d) (h k d lt))
+        meet (numbering put line) HasSize xs letters size (λ k d lt. sets_its (get_or xs k d) (h k d lt))
         (λ i j d before lt. (others_kept _ _ (λ e. apart i j d before lt (sym e)), others_kept _ _ (apart i j d before lt)))
 
 -- ---- the planned lines of a rotor machine lead to the day.
@@ -136,17 +145,16 @@ module _ (told : Told) (m : RotorParts) (s : RotorDay) (seated : AreSeated m.mod
   slotted = enumerate_from 1 s.wheels
 
   wheels_differ : AllPairs (λ (w v : SheetWheel). w.wheel ≢ v.wheel) s.wheels
-  wheels_differ i j d before lt same = told.days m.model s.wheels seated i j d before lt (ap (place_in_box m.model) same)
+  wheels_differ i j d before lt same =
+      told.days m.model s.wheels seated i j d before lt (ap (place_in_box m.model) same)
 
   boxed : (k : ℕ) (d : SheetWheel) → k < length s.wheels → Contains (box_of m.model) (get_or s.wheels k d).wheel
-  boxed k d lt = told.in_box m.model (k + 1) (get_or s.wheels k d).wheel (seated.allowed k (get_or s.wheels k d).wheel (seat_at s.wheels k d lt))
+  boxed k d lt =
+      told.in_box m.model (k + 1) (get_or s.wheels k d).wheel (seated.allowed k (get_or s.wheels k d).wheel (seat_at s.wheels k d lt))
 
   -- SEAT: a slot that is right already is never emptied, since the day's wheels differ
   abbrev with_slots : List (Option Wheel) → Parts
   with_slots slots = Rotor (record m { slots = slots })
-
-  abbrev seat_line : ℕ × SheetWheel → Setting
-  seat_line n = Seat n.0 n.1.wheel
 
   abbrev is_seated : List (Option Wheel) → ℕ × SheetWheel → Bool
   is_seated slots n = option_map_or (same_wheel n.1.wheel) (unwrap_or (numbered slots n.0) None) false
@@ -154,11 +162,15 @@ module _ (told : Told) (m : RotorParts) (s : RotorDay) (seated : AreSeated m.mod
   abbrev seat : ℕ × SheetWheel → List (Option Wheel) → List (Option Wheel)
   seat n slots = set (map (without n.1.wheel) slots) (n.0 - 1) (Some n.1.wheel)
 
+  abbrev seating : Things (List (Option Wheel)) (ℕ × SheetWheel)
+  seating = record { right = is_seated; step = seat; put = with_slots; line = λ n. Seat n.0 n.1.wheel }
+
   abbrev HasSlots : List (Option Wheel) → Type 0
   HasSlots slots = length slots ≡ length s.wheels
 
   seat_serves : (k : ℕ) (d : SheetWheel) → k < length s.wheels → (slots : List (Option Wheel)) → HasSlots slots
-      → is_seated slots (suc k, get_or s.wheels k d) ≡ false → Serves is_seated seat with_slots seat_line HasSlots slots (suc k, get_or s.wheels k d)
+      → is_seated slots (suc k, get_or s.wheels k d) ≡ false
+      → Serves seating HasSlots slots (suc k, get_or s.wheels k d)
   seat_serves k d lt slots size wrong =
       let w = get_or s.wheels k d in
       let number : k + 1 ≡ suc k = omega arith in
@@ -175,25 +187,29 @@ module _ (told : Told) (m : RotorParts) (s : RotorDay) (seated : AreSeated m.mod
       → option_map_or (same_wheel v.wheel) (unwrap_or (option_map (without w.wheel) seated) None) false ≡ option_map_or (same_wheel v.wheel) (unwrap_or seated None) false
   kept_without w v e seated = grind (arith, cond_both)
 
-  seat_spares : (j k : ℕ) (w v : SheetWheel) → k ≢ j → w.wheel ≢ v.wheel → (slots : List (Option Wheel)) → HasSlots slots → is_seated slots (suc j, w) ≡ false
+  seat_spares : (j k : ℕ) (w v : SheetWheel) → k ≢ j → w.wheel ≢ v.wheel → (slots : List (Option Wheel))
+      → HasSlots slots → is_seated slots (suc j, w) ≡ false
       → is_seated (seat (suc j, w) slots) (suc k, v) ≡ is_seated slots (suc k, v)
   seat_spares j k w v away other slots size wrong = grind (arith, slice_get-set_other, slice_get-map, kept_without)
 
-  seats_met : length m.slots ≡ length s.wheels → AreMet is_seated seat with_slots seat_line HasSlots m.slots (met is_seated seat slotted m.slots) slotted
+  seats_met : length m.slots ≡ length s.wheels
+      → AreMet seating HasSlots m.slots (met is_seated seat slotted m.slots) slotted
   seats_met size =
-      meet is_seated seat with_slots seat_line HasSlots slotted m.slots size
-      (by_number s.wheels (AlwaysServes is_seated seat with_slots seat_line HasSlots) seat_serves)
-      (two_by_number s.wheels (SpareEachOther is_seated seat with_slots seat_line HasSlots) (λ j k d before lt.
+      meet seating HasSlots slotted m.slots size
+      (by_number s.wheels (AlwaysServes seating HasSlots) seat_serves)
+      (two_by_number s.wheels (SpareEachOther seating HasSlots) (λ j k d before lt.
       let w = get_or s.wheels j d in
       let v = get_or s.wheels k d in
       let other = wheels_differ j k d before lt in
       (seat_spares j k w v (λ e. absurd (omega arith)) other, seat_spares k j v w (λ e. absurd (omega arith)) (λ same. other (sym same)))))
 
   -- all of them are the day's then
-  seat_is : (k : ℕ) (w : SheetWheel) (slots : List (Option Wheel)) → is_seated slots (suc k, w) ≡ true → slice_get slots k ≡ Some (Some w.wheel)
+  seat_is : (k : ℕ) (w : SheetWheel) (slots : List (Option Wheel)) → is_seated slots (suc k, w) ≡ true
+      → slice_get slots k ≡ Some (Some w.wheel)
   seat_is k w slots e = grind (arith, false)
 
-  all_seated : (wheels : List SheetWheel) (slots : List (Option Wheel)) → length slots ≡ length wheels → AllByRecursion (λ n. is_seated slots n ≡ true) (enumerate_from 1 wheels)
+  all_seated : (wheels : List SheetWheel) (slots : List (Option Wheel)) → length slots ≡ length wheels
+      → AllByRecursion (λ n. is_seated slots n ≡ true) (enumerate_from 1 wheels)
       → slots ≡ seats wheels
   all_seated [] [] size h = refl
   all_seated (w ∷ wheels) slots size h =
@@ -212,22 +228,24 @@ module _ (told : Told) (m : RotorParts) (s : RotorDay) (seated : AreSeated m.mod
   abbrev with_rings : List ℕ → Parts
   with_rings rings = Rotor (record m { slots = seats s.wheels; reflector = s.reflector; rings = rings })
 
-  abbrev size : ℕ
-  size = length (box_of m.model)
+  abbrev HasAll : List ℕ → Type 0
+  HasAll letters = length letters ≡ length (box_of m.model)
 
   -- RING
   abbrev ring_wanted : Wheel → Option ℕ
   ring_wanted wheel = option_map (λ (w : SheetWheel). w.ring) (the_one told m.model s.wheels wheel)
 
-  abbrev ring_line : Wheel → Setting
-  ring_line wheel = RingTo wheel (unwrap_or (ring_wanted wheel) 0)
+  abbrev rings : Things (List ℕ) Wheel
+  rings =
+      numbering (place_in_box m.model) ring_wanted with_rings (λ wheel. RingTo wheel (unwrap_or (ring_wanted wheel) 0))
 
   abbrev then_rings : List ℕ
-  then_rings = met (has_its (place_in_box m.model) ring_wanted) (with_its (place_in_box m.model) ring_wanted) (box_of m.model) m.rings
+  then_rings = met rings.right rings.step (box_of m.model) m.rings
 
   ring_lines_are : ring_lines m s.wheels
-      ≡ lines_for (has_its (place_in_box m.model) ring_wanted) (with_its (place_in_box m.model) ring_wanted) with_rings ring_line (HasSize (place_in_box m.model) ring_wanted with_rings ring_line size) m.rings (box_of m.model)
-  ring_lines_are = ap (λ (f : Wheel → List Setting). flat_map f (box_of m.model)) (λ i wheel. same wheel (the_one told m.model s.wheels wheel) refl i)
+      ≡ lines_for rings HasAll m.rings (box_of m.model)
+  ring_lines_are =
+      ap (λ (f : Wheel → List Setting). flat_map f (box_of m.model)) (λ i wheel. same wheel (the_one told m.model s.wheels wheel) refl i)
     where
       same : (wheel : Wheel) (o : Option SheetWheel) → the_one told m.model s.wheels wheel ≡ o
           → option_to_list (option_and_then (λ (w : SheetWheel). unless_so (option_map_or (nat_eq w.ring) (ring_at m w.wheel) false) (RingTo w.wheel w.ring)) o)
@@ -235,10 +253,10 @@ module _ (told : Told) (m : RotorParts) (s : RotorDay) (seated : AreSeated m.mod
       same wheel None e = refl
       same wheel (Some w) e = rw (is_the_one told m.model s.wheels wheel w e) refl
 
-  rings_met : length m.rings ≡ size
-      → AreMet (has_its (place_in_box m.model) ring_wanted) (with_its (place_in_box m.model) ring_wanted) with_rings ring_line (HasSize (place_in_box m.model) ring_wanted with_rings ring_line size) m.rings then_rings (box_of m.model)
+  rings_met : HasAll m.rings
+      → AreMet rings HasAll m.rings then_rings (box_of m.model)
   rings_met count =
-      set_all (place_in_box m.model) ring_wanted with_rings ring_line size m.rings (box_of m.model) count
+      set_all (place_in_box m.model) ring_wanted with_rings rings.line (length (box_of m.model)) m.rings (box_of m.model) count
       (λ k d lt.
       let wheel = get_or (box_of m.model) k d in
       let has = has_wheel_of (box_of m.model) wheel (Contains-get_or (box_of m.model) k d lt) in
@@ -247,7 +265,8 @@ module _ (told : Told) (m : RotorParts) (s : RotorDay) (seated : AreSeated m.mod
 
   -- TURN
   abbrev with_letters : List ℕ → Parts
-  with_letters letters = Rotor (record m { slots = seats s.wheels; reflector = s.reflector; rings = then_rings; letters = letters })
+  with_letters letters =
+      Rotor (record m { slots = seats s.wheels; reflector = s.reflector; rings = then_rings; letters = letters })
 
   abbrev letter_wanted : ℕ × SheetWheel → Option ℕ
   letter_wanted n = Some n.1.letter
@@ -255,13 +274,14 @@ module _ (told : Told) (m : RotorParts) (s : RotorDay) (seated : AreSeated m.mod
   abbrev place_of : ℕ × SheetWheel → ℕ
   place_of n = place n.1
 
-  abbrev turn_line : ℕ × SheetWheel → Setting
-  turn_line n = Turn n.0 n.1.letter
+  abbrev turns : Things (List ℕ) (ℕ × SheetWheel)
+  turns = numbering place_of letter_wanted with_letters (λ n. Turn n.0 n.1.letter)
 
   abbrev then_letters : List ℕ
-  then_letters = met (has_its place_of letter_wanted) (with_its place_of letter_wanted) slotted m.letters
+  then_letters = met turns.right turns.step slotted m.letters
 
-  turn_sets : (k : ℕ) (d : SheetWheel) → k < length s.wheels → SetsIts place_of letter_wanted with_letters turn_line size (suc k, get_or s.wheels k d)
+  turn_sets : (k : ℕ) (d : SheetWheel) → k < length s.wheels
+      → SetsIts place_of letter_wanted with_letters turns.line (length (box_of m.model)) (suc k, get_or s.wheels k d)
   turn_sets k d lt =
       let w = get_or s.wheels k d in
       let seat : unwrap_or (numbered (seats s.wheels) (suc k)) None ≡ Some w.wheel = ap (λ found. unwrap_or found None) (seat_at s.wheels k d lt) in
@@ -271,14 +291,15 @@ module _ (told : Told) (m : RotorParts) (s : RotorDay) (seated : AreSeated m.mod
         made = λ letters. ap (λ seen. with_letters (with_letter (record m { letters = letters }) seen w.letter)) seat;
       }
 
-  turns_met : length m.letters ≡ size
-      → AreMet (has_its place_of letter_wanted) (with_its place_of letter_wanted) with_letters turn_line (HasSize place_of letter_wanted with_letters turn_line size) m.letters then_letters slotted
+  turns_met : HasAll m.letters
+      → AreMet turns HasAll m.letters then_letters slotted
   turns_met count =
-      set_all place_of letter_wanted with_letters turn_line size m.letters slotted count
-      (by_number s.wheels (SetsIts place_of letter_wanted with_letters turn_line size) turn_sets)
+      set_all place_of letter_wanted with_letters turns.line (length (box_of m.model)) m.letters slotted count
+      (by_number s.wheels (SetsIts place_of letter_wanted with_letters turns.line (length (box_of m.model))) turn_sets)
       (two_by_number s.wheels (λ n v. place_of n ≢ place_of v) (told.days m.model s.wheels seated))
 
-pub slots_count : (m : RotorParts) (s : RotorDay) → IsMachine (Rotor m) → IsLegalRotorDay s → m.model ≡ s.model → length m.slots ≡ length s.wheels
+pub slots_count : (m : RotorParts) (s : RotorDay) → IsMachine (Rotor m) → IsLegalRotorDay s → m.model ≡ s.model
+    → length m.slots ≡ length s.wheels
 slots_count m s machine legal same = grind (arith, length-map)
 
 module _ (told : Told) (m : RotorParts) (s : RotorDay) (machine : IsMachine (Rotor m)) (legal : IsLegalRotorDay s) (same : m.model ≡ s.model) (to : List ℕ) (pairing : IsPairing 13 to) where
@@ -287,7 +308,8 @@ module _ (told : Told) (m : RotorParts) (s : RotorDay) (machine : IsMachine (Rot
 
   -- The machine after wheels, rings and letters; and the cables beside their columns.
   abbrev turned : RotorParts
-  turned = record m { slots = seats s.wheels; reflector = s.reflector; rings = then_rings told m s seated; letters = then_letters told m s seated }
+  turned =
+      record m { slots = seats s.wheels; reflector = s.reflector; rings = then_rings told m s seated; letters = then_letters told m s seated }
 
   abbrev zs : List Beside
   zs = besides m.cables s.pairs to
@@ -324,9 +346,8 @@ module _ (told : Told) (m : RotorParts) (s : RotorDay) (machine : IsMachine (Rot
         rings = λ k d lt.
             let w = get_or s.wheels k d in
             let wanted = one_is told m.model s.wheels seated w (Contains-get_or s.wheels k d lt) in
-            let rings = then_rings told m s seated in
             let all = (rings_met told m s seated machine.legal.rings.count).done in
-            let right = λ (wheel : Wheel). has_its (place_in_box m.model) (ring_wanted told m s seated) rings wheel ≡ true in
+            let right = λ (wheel : Wheel). (rings told m s seated).right (then_rings told m s seated) wheel ≡ true in
             is_number _ _ (rw wanted at (All-contains right (box_of m.model) w.wheel (All-from_recursion right (box_of m.model) all) (boxed told m s seated k d lt)));
         reflector = refl;
         cables = are_the_pairs told m s.pairs legal.pairs m.cables to machine.legal.cables pairing;

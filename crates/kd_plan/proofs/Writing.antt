@@ -23,8 +23,10 @@ module _ {X : Type 0} where
   lines_of_kept p line [] number = refl
   lines_of_kept p line (x ∷ xs) number = grind (arith, first_kept, p, line, lines_of_kept p line xs (number + 1))
 
-  pub kept_lines : (p : X → Bool) (line : X → Setting) (xs : List X) → map line (filter p xs) ≡ flat_map (λ x. option_to_list (unless_so (not (p x)) (line x))) xs
-  kept_lines p line xs = lines_of_kept p line xs 1 ∙ sym (lines_of_each (λ x. option_to_list (unless_so (not (p x)) (line x))) xs 1)
+  pub kept_lines : (p : X → Bool) (line : X → Setting) (xs : List X)
+      → map line (filter p xs) ≡ flat_map (λ x. option_to_list (unless_so (not (p x)) (line x))) xs
+  kept_lines p line xs =
+      lines_of_kept p line xs 1 ∙ sym (lines_of_each (λ x. option_to_list (unless_so (not (p x)) (line x))) xs 1)
 
 -- a row of the day by its place, and the bars beside their rows
 abbrev pub row_at : List (ℕ × ℕ) → ℕ → ℕ × ℕ
