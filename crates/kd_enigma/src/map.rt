@@ -58,6 +58,7 @@ impl Map {
     }
 
     /// First this map, and then the second one.
+    #[tactic(auto, using(crate::proofs::Maps::followed_by_is_safe, crate::proofs::Maps::followed_by_is))]
     pub(crate) fn then(self, second: Map) -> Self
         ensures { result ≡ followed_by self second }
     {

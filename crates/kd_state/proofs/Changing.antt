@@ -8,14 +8,14 @@ use Rattle.kd_state.proofs.Prelude.{All-contains, All-from_recursion, Contains-a
 use Rattle.kd_state.proofs.Prelude.{Contains-append_cases, position-Some, All-permutation, Contains-permutation}
 use Rattle.kd_state.proofs.Prelude.{IsPermutation-sym, Contains-tail, none-some, same_Some, slice_get-map}
 use Rattle.kd_state.proofs.Prelude.{slice_get_within, Model, Wheel, Place, Lug, box_of, wheels_for}
-use Rattle.kd_state.proofs.Prelude.{reflectors_of, IsAllowed, place_on, IsBefore, RotorParts, PinParts, Parts, Rotor}
+use Rattle.kd_state.proofs.Prelude.{reflectors_of, place_on, IsBefore, RotorParts, PinParts, Parts, Rotor}
 use Rattle.kd_state.proofs.Prelude.{Pin, Setting, Pull, Put, Seat, SeatReflector, RingTo, Turn, PinTo, LugTo, Why}
 use Rattle.kd_state.proofs.Prelude.{WouldPass, numbered, place_in_box, wheel_pins, pin_at, pin_set, with_pin}
 use Rattle.kd_state.proofs.Prelude.{cable_letters, plugged_letters, ordered, StandsAt, AreLetters, AreCables}
 use Rattle.kd_state.proofs.Prelude.{IsLegalRotor, IsLegalPin, IsMachine, letter_at, cables_ordered, cable_at}
 use Rattle.kd_state.proofs.Prelude.{cable_without, cable_with, without, with_letter, with_lug, with_lug_at, lug_place}
 use Rattle.kd_state.proofs.Prelude.{other_lug, is_at, lies_beyond, reasons, why_refused, changed, Thing, TheSlot}
-use Rattle.kd_state.proofs.Prelude.{TheReflector, TheLetter, TheCable, ThePin, TheBar, IsKept, SetsOnly, Turns}
+use Rattle.kd_state.proofs.Prelude.{TheReflector, TheLetter, TheCable, ThePin, TheBar, IsKept, SetsOnly}
 use Rattle.kd_state.proofs.Prelude.{MovesLug, Makes, IsSeatOf, SettingsAreTold, SettingsKeepMachines, IsInRange}
 use Rattle.std.specs.List.{IsDistinct}
 use Rattle.std.specs.List.Sorted.{IsPermutation}
@@ -255,9 +255,7 @@ carried (Rotor m) (Seat slot wheel) h allowed =
       kept = λ _.
           let alone : AreApart new = λ place other which here there. grind (arith, cases, l.apart) in
           let may_stand : AreAllowed m.model new = λ place other e. elim (cases place other e) [
-            | inl here ↦
-                let one : slot ≡ place + 1 = omega (arith, here.0, at.first) in
-                subst (λ (n : ℕ). IsAllowed m.model n other) one (subst (IsAllowed m.model slot) (sym here.1) may)
+            | inl here ↦ let one : slot ≡ place + 1 = omega (arith, here.0, at.first) in rw (← one, here.1) may
             | inr there ↦ l.allowed place other there.0
           ]
           in
@@ -286,10 +284,8 @@ carried (Rotor m) (Turn slot letter) h allowed =
     let place = place_in_box m.model wheel in
     let reads = for_wheel m.model m.letters wheel letter (seated_in_box m.model m.slots slot wheel l.allowed found.1) l.letters in
     let turned = ap (λ held. with_letter m (unwrap_or held None) letter) found.1 in
-    let tells : Turns (Rotor m) slot letter (Rotor (record m { letters = set m.letters place letter })) =
-    (wheel, found.1, reads.0, keeps_letters m wheel (set m.letters place letter) reads.1) in
     record {
-      told = subst (λ letters. Turns (Rotor m) slot letter (Rotor (record m { letters = letters }))) (sym turned) tells;
+      told = rw turned (wheel, found.1, reads.0, keeps_letters m wheel (set m.letters place letter) reads.1);
       kept = λ r. with_letters m m.rings _ h l.rings (rw turned (letters_set _ m.letters place letter r.1 l.letters));
     }
 carried (Pin m) (Turn wheel letter) h allowed =
@@ -302,10 +298,7 @@ carried (Pin m) (Turn wheel letter) h allowed =
       kept = λ _.
           let letters : AreOnWheels (set m.letters (wheel - 1) letter) = record {
             count = length-set m.letters (wheel - 1) letter ∙ l.letters.count;
-            each = λ other shown reads. elim (cases_eq other wheel) [
-              | inl e ↦ grind (arith, shown, same_Some)
-              | inr ne ↦ l.letters.each other shown (sym (numbered_other m.letters wheel other letter at.first ne) ∙ reads)
-            ];
+            each = λ other shown reads. grind (arith, cases_eq other wheel, shown, same_Some, numbered_other, l.letters.each other shown);
           }
           in
           grind (arith, pin_machine);
@@ -319,11 +312,10 @@ carried (Pin m) (PinTo wheel letter effective) h allowed =
     let at = stands (pins_of m.pins) wheel [] (filled (numbered (pins_of m.pins) wheel) place within) in
     let new = set old place effective in
     let pins = with_pin m.pins wheel letter effective in
-    let lists : (other : ℕ) → wheel_pins pins other ≡ unwrap_or (numbered (set (pins_of m.pins) (wheel - 1) new) other) [] =
-    λ other. ap (λ lists. unwrap_or (numbered lists other) []) (six_lists m.pins (wheel - 1) new) in
-    let here : wheel_pins pins wheel ≡ new = lists wheel ∙ ap (λ found. unwrap_or found []) (numbered_here (pins_of m.pins) wheel new at.first at.last) in
+    let lists = six_lists m.pins (wheel - 1) new in
+    let here : wheel_pins pins wheel ≡ new = grind (arith, lists, numbered_here (pins_of m.pins) wheel new at.first at.last) in
     let elsewhere : (other : ℕ) → other ≢ wheel → wheel_pins pins other ≡ wheel_pins m.pins other =
-    λ other ne. lists other ∙ ap (λ found. unwrap_or found []) (numbered_other (pins_of m.pins) wheel other new at.first ne) in
+    λ other ne. grind (arith, lists, numbered_other (pins_of m.pins) wheel other new at.first ne) in
     record {
       told = (
         ap (λ list. option_and_then (slice_get list) (place_on (ring_of wheel) letter)) here ∙ ap (option_and_then (slice_get new)) there ∙ set_here old place effective within,
@@ -347,11 +339,7 @@ carried (Pin m) (LugTo bar lug place) h allowed =
     let bars = set m.bars (bar - 1) new in
     let now = numbered_here m.bars bar new at.first at.last in
     let all : with_lug_at m bar lug place ≡ bars = rw at.is refl in
-    let moved : MovesLug (Pin m) bar lug place (Pin (record m { bars = bars })) = record {
-      moved = ap (option_map (lug_place lug)) now ∙ ap Some (lug_set lug place standing).0;
-      other = ap (option_map (lug_place (other_lug lug))) now ∙ ap Some (lug_set lug place standing).1 ∙ ap (option_map (lug_place (other_lug lug))) (sym at.is);
-    }
-    in
+    let moved : MovesLug (Pin m) bar lug place (Pin (record m { bars = bars })) = grind (arith, now, at.is, lug_set lug place standing) in
     record {
       told = subst (λ bars. Makes (Pin m) (LugTo bar lug place) (Pin (record m { bars = bars }))) (sym all) (moved, keeps_bars m bar new at.first);
       kept = grind (arith, common_steps, pin_machine, length-set, All-set, still_before);

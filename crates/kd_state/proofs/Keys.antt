@@ -10,7 +10,7 @@ use Rattle.kd_state.proofs.Prelude.{EquallySetDecipher, TheDayDeciphersItself, T
 use Rattle.kd_state.proofs.Prelude.{EngineIsTheMachine, IsMachine, AreCables, ring_at, letter_at, OnKey, IsRotorOnKey}
 use Rattle.kd_state.proofs.Prelude.{IsPinOnKey, RotorDay, Day, OfRotors, OfPins, IsLegalDay, IsLegalRotorDay, EngineKey}
 use Rattle.kd_state.proofs.Prelude.{OfWheels, cipher, key_with_window, window_of, plugged_pairs, physical_key}
-use Rattle.kd_state.proofs.Prelude.{physical_cipher, sheet_key, sum_by-cons, Place}
+use Rattle.kd_state.proofs.Prelude.{CipherInTurn, KeyInTurn, OfDrum, physical_cipher, sheet_key, sum_by-cons, Place}
 use Rattle.kd_pins.specs.PinWheels.{pins_of}
 use Rattle.kd_enigma.specs.Laws.{PairsMakeAPlugboard, SamePairsExchangeAlike}
 use Rattle.kd_enigma.specs.Laws as enigma
@@ -131,3 +131,11 @@ turned_engine m n window text turned = ap (λ key. cipher key text) (sym (turned
 
 pub turned_cipher : SamePairsExchangeAlike → TurnedHasTheDaysCipher
 turned_cipher alike m n s window text machine legal h turned = sym (turned_engine m n window text turned) ∙ key_on_key alike m s window text machine legal h
+
+-- a text in pieces
+pub cipher_in_turn : enigma.CipherInTurn → drum.CipherInTurn → CipherInTurn
+cipher_in_turn e d = grind arith
+
+pub key_in_turn : enigma.KeyInTurn → drum.KeyInTurn → KeyInTurn
+key_in_turn of_wheels of_drum (OfWheels key) m n = ap OfWheels (of_wheels key m n)
+key_in_turn of_wheels of_drum (OfDrum key) m n = ap OfDrum (of_drum key m n)

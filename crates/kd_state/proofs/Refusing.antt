@@ -9,7 +9,7 @@ use Rattle.kd_state.proofs.Prelude.{slice_get-get_or, Place, Lug, place_on, PinP
 use Rattle.kd_state.proofs.Prelude.{LugTo, OtherModel, NoSuchCable, NotThere, NoLooseEnd, SocketTaken, SlotEmpty}
 use Rattle.kd_state.proofs.Prelude.{NotOnWheel, NoSuchBar, PlaceTaken, WouldPass, numbered, wheel_pins, pin_at}
 use Rattle.kd_state.proofs.Prelude.{cable_letters, plugged_letters, HasAllPins, has_letter, is_plugged, is_at}
-use Rattle.kd_state.proofs.Prelude.{lies_beyond, lug_place, other_lug, with_lug, Stands, Allows, RefusalsAreTold}
+use Rattle.kd_state.proofs.Prelude.{lies_beyond, lug_place, other_lug, with_lug, Stands, RefusalsAreTold}
 use Rattle.kd_state.proofs.Changing.{first_reason, settings_keep_machines, no_reason, lies_plugged, still_before}
 use Rattle.kd_state.proofs.Wheels.{has_wheel-Decides, has_reflector-Decides}
 use Rattle.kd_tables.specs.Rings.{ring_of}
@@ -78,15 +78,6 @@ put_in : {P : Type 0} (found : Option (Option ℕ × Option ℕ)) (taken : Bool)
     ↔ (((held : Option ℕ × Option ℕ) × (found ≡ Some held) × (length (cable_letters held) < 2)) × ¬ P)
 put_in found taken e = grind (arith, none-some, loose_in, same_Some)
 
-put : (m : RotorParts) (cable letter : ℕ) → (why_refused (Rotor m) (Put cable letter) ≡ None)
-    ↔ Allows (Rotor m) (Put cable letter)
-put m cable letter =
-    let plugged = plugged_letters m.cables in
-    let by_found = put_in (numbered m.cables cable) (has_letter plugged letter) (has_letter-Decides plugged letter) in (
-      λ e. let may = by_found.0 e in (may.0, λ other lies. may.1 (lies_in_all m.cables other letter lies)),
-      λ may. by_found.1 (may.0, λ lies. let somewhere = lies_somewhere m.cables letter lies in may.1 (suc somewhere.0) somewhere.1),
-    )
-
 -- ---- wheels, pins and lugs
 
 turned : {P : Type 0} (found : Option (Option Wheel)) → ¬ P
@@ -140,7 +131,12 @@ never other = (λ e. absurd (none-some _ (sym e)), λ may. absurd (other may))
 
 pub refusals_are_told : RefusalsAreTold
 refusals_are_told (Rotor m) (Pull cable letter) h = pulled (numbered m.cables cable) letter
-refusals_are_told (Rotor m) (Put cable letter) h = put m cable letter
+refusals_are_told (Rotor m) (Put cable letter) h =
+    let plugged = plugged_letters m.cables in
+    let by_found = put_in (numbered m.cables cable) (has_letter plugged letter) (has_letter-Decides plugged letter) in (
+      λ e. let may = by_found.0 e in (may.0, λ other lies. may.1 (lies_in_all m.cables other letter lies)),
+      λ may. by_found.1 (may.0, λ lies. let somewhere = lies_somewhere m.cables letter lies in may.1 (suc somewhere.0) somewhere.1),
+    )
 refusals_are_told (Rotor m) (Seat slot wheel) h = seats_by_the_tables m slot wheel
 refusals_are_told (Rotor m) (SeatReflector reflector) h = reflectors_by_the_tables m reflector
 refusals_are_told (Rotor m) (RingTo wheel letter) h = rings_by_the_tables m wheel letter

@@ -35,15 +35,9 @@ is_seat m (Some wheel) w e =
 pub are_seats : (m : RotorParts) (slots : List (Option Wheel)) (wheels : List SheetWheel) → map Some wheels ≡ map (seated_wheel m) slots → AreSeats m slots wheels
 are_seats m [] [] e = record { slots = refl; rings = tt; letters = tt }
 are_seats m (seat ∷ slots) (w ∷ wheels) e =
-    let first : Some w ≡ seated_wheel m seat = cc in
-    let others : map Some wheels ≡ map (seated_wheel m) slots = cc in
-    let here = is_seat m seat w first in
-    let rest = are_seats m slots wheels others in
-    record {
-      slots = ap (λ seat. seat ∷ slots) here.wheel ∙ ap (λ rest. Some w.wheel ∷ rest) rest.slots;
-      rings = (here.ring, rest.rings);
-      letters = (here.letter, rest.letters);
-    }
+    let here = is_seat m seat w cc in
+    let rest = are_seats m slots wheels cc in
+    record { slots = λ i. here.wheel i ∷ rest.slots i; rings = (here.ring, rest.rings); letters = (here.letter, rest.letters) }
 are_seats m slots wheels e = cc
 
 -- filled slots

@@ -163,6 +163,7 @@ pub fn the_day_deciphers_itself()
 }
 
 /// A text in two pieces is enciphered piece by piece, on the key that the first piece leaves.
+#[tactic(auto, using(crate::proofs::Keys::cipher_in_turn, crate::proofs::Keys::key_in_turn))]
 pub fn pieces_are_enciphered_in_turn()
     ensures cipher { CipherInTurn }
     ensures after { KeyInTurn }

@@ -60,6 +60,7 @@ impl Machine {
 }
 
 /// The engine of a rotor machine, if it is ready.
+#[tactic(auto, using(crate::proofs::Seating::not_ready))]
 fn rotor_engine(parts: &RotorParts) -> Option<Engine>
     requires { IsLegalRotor parts.now }
     ensures ready { IsSome result ↔ IsRotorReady parts.now }
@@ -71,6 +72,7 @@ fn rotor_engine(parts: &RotorParts) -> Option<Engine>
 }
 
 /// The wheels in the slots, if there is one in each.
+#[tactic(auto, using(crate::proofs::Seating::none_seated))]
 fn seated_wheels(parts: &RotorParts, slots: &[Option<Wheel>]) -> Option<PerSlot<SheetWheel>>
     requires rings { length parts.now.rings ≡ length (box_of parts.now.model) }
     requires letters { length parts.now.letters ≡ length (box_of parts.now.model) }

@@ -1,9 +1,6 @@
-use Rattle.std.proofs.Common.{refl, sym, arith}
-use Rattle.kd_state.proofs.Seating.{of_seated, not_ready}
+use Rattle.std.proofs.Common.{refl, sym}
+use Rattle.kd_state.proofs.Seating.{of_seated}
 use Rattle.kd_state.proofs.engine.ready.rotor_engine.Goals as goal
-
-pub returns-in_err-wheels-clause-ready : goal.returns-in_err-wheels-clause-ready
-returns-in_err-wheels-clause-ready c = grind (arith, not_ready)
 
 pub returns-clause-ready : goal.returns-clause-ready
 returns-clause-ready c =
