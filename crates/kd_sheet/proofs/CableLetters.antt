@@ -62,13 +62,7 @@ one_more key cables item cable free e =
     record {
       within = rw now (All-append (λ letter. letter < 26) _ _ free.within here.within);
       apart = rw now (apart_behind _ _ free.apart here.free);
-      joined = λ plugs. rw (
-        now,
-        filter_map-append,
-        flat_map-append,
-        free.joined plugs,
-        pair_joined cable (rw plugs at here.may),
-      ) refl;
+      joined = grind (arith, filter_map-append, flat_map-append, free.joined, pair_joined);
     }
 
 pub none_in : (n : ℕ) → (plugged_letters (replicate n (None, None)) ≡ []) × (pairs_of (replicate n (None, None)) ≡ [])

@@ -8,11 +8,10 @@ use Rattle.kd_sheet.proofs.Prelude.{bars_in, row_of_text, rows_in, is_figure, ma
 use Rattle.kd_sheet.proofs.Prelude.{pin_parts_in, reflector_in, rotor_parts_in, reflector_by_name, standing_by_text}
 use Rattle.kd_sheet.proofs.Prelude.{letters_on_wheels, pins_in, pins_of_item, pins_of_text, shown_in, pins_behind}
 use Rattle.kd_sheet.proofs.Prelude.{all_groups_in, day_in, group_of_item, groups_in, model_day_in, new_number_in}
-use Rattle.kd_sheet.proofs.Prelude.{number_in, pin_day_in, rotor_day_in, group_for, SheetFault, Key, all_pins}
-use Rattle.kd_sheet.proofs.Prelude.{AreLetters, AreOnWheels, HasAllPins, IsLegalPin, IsLegalRotor, pin_set, Day}
-use Rattle.kd_sheet.proofs.Prelude.{HasLetters, IsDayNumber, IsLegalDay, day_number, IsBefore, IsReading, in_order}
-use Rattle.kd_sheet.proofs.Prelude.{place_rank, standing_text, standings, ring_of, reflectors_of, Model, M209, Place}
-use Rattle.kd_sheet.proofs.Prelude.{Data, Members}
+use Rattle.kd_sheet.proofs.Prelude.{number_in, pin_day_in, rotor_day_in, group_for, SheetFault, Key, AreLetters}
+use Rattle.kd_sheet.proofs.Prelude.{AreOnWheels, HasAllPins, IsLegalPin, IsLegalRotor, pin_set, Day, IsDayNumber}
+use Rattle.kd_sheet.proofs.Prelude.{IsLegalDay, day_number, IsBefore, IsReading, in_order, place_rank, standing_text}
+use Rattle.kd_sheet.proofs.Prelude.{standings, ring_of, reflectors_of, Model, M209, Place, Data, Members}
 use Rattle.kd_sheet.specs.declared.key.Key.TheVariants as keys
 use Rattle.kd_sheet.proofs.Bounds.{day_number_within, capitals_are_letters, rings_in_letters, window_in_letters}
 use Rattle.kd_sheet.proofs.Bounds.{list_in_letters, box_letters_in_letters}
@@ -104,9 +103,7 @@ fit_more lists item pins fit e place d within = grind (arith, common_steps, text
 
 six_fit : (lists : List (List Bool)) → length lists ≡ 6 → Fit lists → HasAllPins (pin_set lists)
 unfolding ring_of
-six_fit lists six fit =
-    all_pins (pin_set lists) (fit 0 [] (omega arith)) (fit 1 [] (omega arith)) (fit 2 [] (omega arith)) (fit 3 [] (omega arith))
-    (fit 4 [] (omega arith)) (fit 5 [] (omega arith))
+six_fit lists six fit = grind (arith, fit)
 
 pins_in_fit : (table : Members) → Gives (pins_in table) HasAllPins
 unfolding pins_in
@@ -167,8 +164,7 @@ rotor_day number model table is =
         day = is;
         reflector = there;
         wheels = rw seated fill.seated;
-        letters = All-from_recursion HasLetters _ (wheels_have_letters slots rings window
-            (recursion_from_All _ _ are_rings.within) (recursion_from_All _ _ are_letters.within));
+        letters = grind (arith, All-from_recursion, wheels_have_letters, recursion_from_All);
         pairs = are_pairs;
         few_groups = are_groups.0;
         groups = are_groups.1;
@@ -213,9 +209,7 @@ IsNew days number = list_any (λ other. day_number other == number) days ≡ fal
 
 new_number : (days : List Day) (table : Members) → Gives (new_number_in days table) (λ number. IsDayNumber number × IsNew days number)
 unfolding new_number_in
-new_number days table =
-    after _ _ _ _ (day_number_within table) (λ number is. tested _ _ _ _
-    (λ free. done (λ number. IsDayNumber number × IsNew days number) number (is, not-true _ free)))
+new_number days table = grind (arith, after, day_number_within, tested, done, not-true)
 
 day_read : (days : List Day) (table : Members) → Gives (day_in days table) (λ day. IsLegalDay day × IsNew days (day_number day))
 unfolding day_in

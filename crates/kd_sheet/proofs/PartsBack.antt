@@ -185,9 +185,7 @@ pub all_cables_again : (key : Key) (cables : List (Option ℕ × Option ℕ)) �
     → IsDistinct nat_eq (plugged_letters cables)
     → all_cables_in key (texts cable_text cables) ≡ Ok (thirteen (map single_first cables))
 unfolding all_cables_in
-all_cables_again key cables few may within apart =
-    then_read (up_to key 13 (cable_for key) (texts cable_text cables)) (λ cables. Ok (thirteen cables)) (map single_first cables) _
-    (up_to_again key 13 cable_text cables (cable_for key) _ (cables_again key cables may within apart) few) refl
+all_cables_again key cables few may within apart = grind (arith, then_read, up_to_again, cables_again, within, few)
 
 -- ---- pins and bars
 

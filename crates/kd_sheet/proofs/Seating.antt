@@ -94,8 +94,7 @@ seats_in_fill key model table slots e =
 
 pub wheels_fill : (model : Model) (table : Members) (slots : List (Option Wheel)) → seats_in keys.Wheels model table ≡ Ok slots
     → (length slots ≡ slots_of model) × All IsSome slots
-wheels_fill model table slots e =
-    let fill = seats_in_fill keys.Wheels model table slots e in (fill.seated.count, fill.filled refl)
+wheels_fill model table slots e = grind (arith, seats_in_fill)
 
 -- ---- the wheels of a day
 
