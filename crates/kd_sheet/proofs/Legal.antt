@@ -47,14 +47,17 @@ module _ {A : Type 0} (reading : List A → Data → Result A SheetFault) (P : A
   all_read : (key : Key) (count : ℕ) (table : Members) → Gives (each_at key count reading table) (Each P count)
   all_read = each_read reading (All P) (All-nil P) more_read
 
-group_read : (earlier : List (List ℕ)) (item : Data) (group : List ℕ) → group_for earlier item ≡ Ok group → AreLetters 3 group
+group_read : (earlier : List (List ℕ)) (item : Data) (group : List ℕ)
+    → group_for earlier item ≡ Ok group → AreLetters 3 group
 unfolding group_of_item
 group_read earlier item group e = grind (arith, there_was, capitals_are_letters, none-some)
 
-groups_in_groups : (table : Members) → Gives (groups_in table) (λ groups. (length groups ≤ 4) × All (AreLetters 3) groups)
+groups_in_groups : (table : Members)
+    → Gives (groups_in table) (λ groups. (length groups ≤ 4) × All (AreLetters 3) groups)
 unfolding groups_in all_groups_in
 groups_in_groups table groups e =
-    let read = some_read group_for (All (AreLetters 3)) (All-nil (AreLetters 3)) (more_read group_for (AreLetters 3) group_read)
+    let read = some_read group_for (All (AreLetters 3)) (All-nil (AreLetters 3))
+    (more_read group_for (AreLetters 3) group_read)
     keys.Groups 4 in
     grind (arith, read, All-nil (AreLetters 3))
 
@@ -79,7 +82,8 @@ standing_read text bar e =
     ltb-true _ _ (All-contains (λ bar. nat_lt (place_rank bar.0) (place_rank bar.1) ≡ true) standings bar
     (AllPass-from_list_all (λ bar. nat_lt (place_rank bar.0) (place_rank bar.1)) standings refl) (found_there (λ standing. bytes_eq (standing_text standing) text) standings bar e))
 
-text_bar : (earlier : List (Place × Place)) (item : Data) (bar : Place × Place) → standing_for earlier item ≡ Ok bar → IsStanding bar
+text_bar : (earlier : List (Place × Place)) (item : Data) (bar : Place × Place)
+    → standing_for earlier item ≡ Ok bar → IsStanding bar
 text_bar earlier item bar e = grind (arith, there_was, standing_read, none-some)
 
 bars_in_bars : (table : Members) → Gives (bars_in table) (Each IsStanding 27)
@@ -95,7 +99,8 @@ text_pins ring item pins e = grind (arith, common_steps, there_was, some_if, non
 
 -- each list has as many pins as its wheel has letters
 abbrev Fit : List (List Bool) → Type 0
-Fit lists = (place : ℕ) (d : List Bool) → place < length lists → length (get_or lists place d) ≡ length (ring_of (place + 1))
+Fit lists = (place : ℕ) (d : List Bool) → place < length lists
+    → length (get_or lists place d) ≡ length (ring_of (place + 1))
 
 fit_more : (lists : List (List Bool)) (item : Data) (pins : List Bool) → Fit lists → pins_behind lists item ≡ Ok pins
     → Fit (lists ++ pins ∷ [])
@@ -207,11 +212,13 @@ alone days table day e = grind (arith, given, day_again)
 abbrev IsNew : List Day → ℕ → Type 0
 IsNew days number = list_any (λ other. day_number other == number) days ≡ false
 
-new_number : (days : List Day) (table : Members) → Gives (new_number_in days table) (λ number. IsDayNumber number × IsNew days number)
+new_number : (days : List Day) (table : Members)
+    → Gives (new_number_in days table) (λ number. IsDayNumber number × IsNew days number)
 unfolding new_number_in
 new_number days table = grind (arith, after, day_number_within, tested, done, not-true)
 
-day_read : (days : List Day) (table : Members) → Gives (day_in days table) (λ day. IsLegalDay day × IsNew days (day_number day))
+day_read : (days : List Day) (table : Members)
+    → Gives (day_in days table) (λ day. IsLegalDay day × IsNew days (day_number day))
 unfolding day_in
 day_read days table =
     after _ _ _ _ (new_number days table) (λ number new. after_any _ _ _ (λ model day e.
