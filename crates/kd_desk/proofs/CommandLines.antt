@@ -54,9 +54,6 @@ no_fault_said words error has other command says = let kinds = rw says.taken at 
 pub no_subcommand_said : (words : List (List ℕ)) → subcommand_of desk_grammar words ≡ None → (command : Named) → Says words command → ⊥
 no_subcommand_said words none command says = rw none at says.said
 
-pub subcommand_said : (words : List (List ℕ)) (said : List ℕ × List Row) → subcommand_of desk_grammar words ≡ Some said → (command : Named) → Says words command → IsOf said command
-subcommand_said words said e command says = rw e at says.said
-
 pub said_subcommand : (words : List (List ℕ)) (said : List ℕ × List Row) → fault_of desk_grammar words ≡ [] → subcommand_of desk_grammar words ≡ Some said → (command : Named) → IsOf said command → Says words command
 said_subcommand words said taken e command is = record { taken = taken; said = rw e is }
 

@@ -12,12 +12,6 @@ use Rattle.kd_desk.proofs.Failing.{answered}
 is_meant : {A : Type 0} (fault : SheetFault) (meant : Result A SheetFault) → Answers (Err fault) meant → (fault ≡ files.NoMemory) ⊎ (meant ≡ Err fault)
 is_meant fault meant is = grind (arith)
 
-no_day_found : (found : Option Day) (fault : DeskFault) → Err fault ≡ ok_or found faults.NoSuchDay → (found ≡ None) × (fault ≡ faults.NoSuchDay)
-no_day_found found fault told = grind (arith)
-
-day_found : (found : Option Day) (s : Day) → Ok s ≡ ok_or found faults.NoSuchDay → found ≡ Some s
-day_found found s told = grind (arith)
-
 module _ (machine sheet : List ℕ) (number : ℕ) (answer : Result (Parts × Day) DeskFault) where
   abbrev Finds : Result (Parts × Day) DeskFault → Type 0
   Finds found = FindsDay machine sheet number found
@@ -38,14 +32,13 @@ module _ (machine sheet : List ℕ) (number : ℕ) (answer : Result (Parts × Da
   pub no_day : (found : Option Day) (m : Parts) (days : List (Option Day)) (fault : DeskFault) → IsErrAnd answer (λ made. made ≡ fault)
       → Ok m ≡ machine_of machine → Ok days ≡ sheet_of sheet → Err fault ≡ ok_or found faults.NoSuchDay → found ≡ day_of days number → Finds answer
   no_day found m days fault made read says told is =
-      let lacks = no_day_found found fault told in
-      answered answer fault Finds made (NoDay m days (sym read) (sym says) (sym is ∙ lacks.0) (ap Err lacks.1))
+      answered answer fault Finds made (NoDay m days (sym read) (sym says) (sym is ∙ grind arith) (grind arith))
 
 pub a_day : (machine sheet : List ℕ) (number : ℕ) (found : Option Day) (m : Parts) (days : List (Option Day)) (s : Day)
     → Ok m ≡ machine_of machine → Ok days ≡ sheet_of sheet → Ok s ≡ ok_or found faults.NoSuchDay → found ≡ day_of days number
     → FindsDay machine sheet number (Ok (m, s))
 a_day machine sheet number found m days s read says told is =
-    Found m days s (sym read) (sym says) (sym is ∙ day_found found s told) refl
+    Found m days s (sym read) (sym says) (sym is ∙ grind arith) refl
 
 -- what is answered then
 module _ (machine sheet : List ℕ) (number : ℕ) (does : Parts → Day → Type 0) (answer : Result (Unit {0}) DeskFault) where

@@ -74,12 +74,9 @@ module _ (source sink : Port) (answer : Result (Unit {0}) Stop) where
     abbrev Meant : (List ℕ → Option (List ℕ)) → Type 0
     Meant held = CarriesOut (command_over held command) source sink answer
 
-    unread_of : (fault : FileFault) → answer ≡ Err (Unread fault) → (k : Known) → IfSome k (λ held. Gives (command_over held said) (Err fault)) → IfSome k Meant
-    unread_of fault e k d = grind (arith, file_refused, same)
-
     pub unread : (fault : FileFault) → IsErrAnd answer (λ made. made ≡ Unread fault) → IfSome known (λ held. Gives (command_over held said) (Err fault))
         → IfSome known Meant
-    unread fault made gives = unread_of fault (err_is answer (Unread fault) made) known gives
+    unread fault made gives = grind (arith, err_is, file_refused, same)
 
     done_of : (of_files : KnownCommand) → IsDone of_files source sink answer → (k : Known) → IfSome k (λ held. Gives (command_over held said) (Ok of_files))
         → IfSome k Meant

@@ -39,7 +39,8 @@ record AreFree (key : Key) (cables : List Cable) : Type 0 where
   apart : IsDistinct nat_eq (plugged_letters cables)
   joined : key ≡ keys.Plugs → plugged_letters cables ≡ letters_plugged (pairs_of cables)
 
-letters_more : (cables more : List Cable) → plugged_letters (cables ++ more) ≡ plugged_letters cables ++ plugged_letters more
+letters_more : (cables more : List Cable)
+    → plugged_letters (cables ++ more) ≡ plugged_letters cables ++ plugged_letters more
 letters_more cables more = rw flat_map-append refl
 
 pub apart_behind : (plugged letters : List ℕ) → IsDistinct nat_eq plugged → are_new letters plugged ≡ true
@@ -62,13 +63,7 @@ one_more key cables item cable free e =
     record {
       within = rw now (All-append (λ letter. letter < 26) _ _ free.within here.within);
       apart = rw now (apart_behind _ _ free.apart here.free);
-      joined = λ plugs. rw (
-        now,
-        filter_map-append,
-        flat_map-append,
-        free.joined plugs,
-        pair_joined cable (rw plugs at here.may),
-      ) refl;
+      joined = grind (arith, filter_map-append, flat_map-append, free.joined, pair_joined);
     }
 
 pub none_in : (n : ℕ) → (plugged_letters (replicate n (None, None)) ≡ []) × (pairs_of (replicate n (None, None)) ≡ [])
@@ -84,7 +79,8 @@ few_joined : (cables : List Cable) → length (pairs_of cables) ≤ length cable
 few_joined [] = omega arith
 few_joined (cable ∷ cables) = grind (arith, few_joined cables)
 
-filled_up : (key : Key) (cables : List Cable) → length cables ≤ 13 → AreFree key cables → ArePlugged key (thirteen cables)
+filled_up : (key : Key) (cables : List Cable) → length cables ≤ 13 → AreFree key cables
+    → ArePlugged key (thirteen cables)
 filled_up key cables few free =
     let letters : plugged_letters (thirteen cables) ≡ plugged_letters cables =
     rw (letters_more, (none_in _).0, append-nil) refl in

@@ -1,4 +1,5 @@
--- What is read of items one after another, each given what those before it are; and what a reading that succeeds has found on its way.
+-- What is read of items one after another, each given what those before it are; and what a reading that succeeds
+-- has found on its way.
 use Rattle.kd_sheet.proofs.Prelude.{Bool, Err, List, None, Ok, Option, Result, Some, [], ap, arith, cond, get_or}
 use Rattle.kd_sheet.proofs.Prelude.{length, map, nat_le, ok_or, refl, replicate, subst, take, true, ℕ, ◌++◌, ◌+◌, ◌-◌}
 use Rattle.kd_sheet.proofs.Prelude.{◌<◌, ◌==◌, ◌∙◌, ◌∷◌, ◌≡◌, ◌≤◌, eqb-true, leb-true, common_steps, append-nil}
@@ -38,7 +39,8 @@ done P x holds y e = subst P (same_found x y e) holds
 -- of what is read first, and then of what is read by it
 pub after : {A B : Type 0} (first : Result A SheetFault) (next : A → Result B SheetFault) (P : A → Type 0)
     (Q : B → Type 0) → Gives first P → ((x : A) → P x → Gives (next x) Q) → Gives (first >>= next) Q
-after first next P Q here rest y e = let before = given first next y e in rest before.0 (here before.0 before.1) y before.2
+after first next P Q here rest y e =
+    let before = given first next y e in rest before.0 (here before.0 before.1) y before.2
 
 pub after_any : {A B : Type 0} (first : Result A SheetFault) (next : A → Result B SheetFault) (Q : B → Type 0)
     → ((x : A) → Gives (next x) Q) → Gives (first >>= next) Q
@@ -171,7 +173,8 @@ module _ {A : Type 0} where
   -- things that are read again
   pub read_again : {X : Type 0} (reading : List A → Data → Result A SheetFault) (item_of : X → Data) (value_of : X → A)
       (all : List X)
-      → ((front rest : List X) (x : X) → all ≡ front ++ x ∷ rest → reading (map value_of front) (item_of x) ≡ Ok (value_of x))
+      → ((front rest : List X) (x : X) → all ≡ front ++ x ∷ rest
+      → reading (map value_of front) (item_of x) ≡ Ok (value_of x))
       → in_turn reading (map item_of all) ≡ Ok (map value_of all)
   read_again reading item_of value_of [] each = refl
   read_again reading item_of value_of (x ∷ all) each =

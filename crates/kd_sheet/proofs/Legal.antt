@@ -8,11 +8,10 @@ use Rattle.kd_sheet.proofs.Prelude.{bars_in, row_of_text, rows_in, is_figure, ma
 use Rattle.kd_sheet.proofs.Prelude.{pin_parts_in, reflector_in, rotor_parts_in, reflector_by_name, standing_by_text}
 use Rattle.kd_sheet.proofs.Prelude.{letters_on_wheels, pins_in, pins_of_item, pins_of_text, shown_in, pins_behind}
 use Rattle.kd_sheet.proofs.Prelude.{all_groups_in, day_in, group_of_item, groups_in, model_day_in, new_number_in}
-use Rattle.kd_sheet.proofs.Prelude.{number_in, pin_day_in, rotor_day_in, group_for, SheetFault, Key, all_pins}
-use Rattle.kd_sheet.proofs.Prelude.{AreLetters, AreOnWheels, HasAllPins, IsLegalPin, IsLegalRotor, pin_set, Day}
-use Rattle.kd_sheet.proofs.Prelude.{HasLetters, IsDayNumber, IsLegalDay, day_number, IsBefore, IsReading, in_order}
-use Rattle.kd_sheet.proofs.Prelude.{place_rank, standing_text, standings, ring_of, reflectors_of, Model, M209, Place}
-use Rattle.kd_sheet.proofs.Prelude.{Data, Members}
+use Rattle.kd_sheet.proofs.Prelude.{number_in, pin_day_in, rotor_day_in, group_for, SheetFault, Key, AreLetters}
+use Rattle.kd_sheet.proofs.Prelude.{AreOnWheels, HasAllPins, IsLegalPin, IsLegalRotor, pin_set, Day, IsDayNumber}
+use Rattle.kd_sheet.proofs.Prelude.{IsLegalDay, day_number, IsBefore, IsReading, in_order, place_rank, standing_text}
+use Rattle.kd_sheet.proofs.Prelude.{standings, ring_of, reflectors_of, Model, M209, Place, Data, Members}
 use Rattle.kd_sheet.specs.declared.key.Key.TheVariants as keys
 use Rattle.kd_sheet.proofs.Bounds.{day_number_within, capitals_are_letters, rings_in_letters, window_in_letters}
 use Rattle.kd_sheet.proofs.Bounds.{list_in_letters, box_letters_in_letters}
@@ -48,14 +47,17 @@ module _ {A : Type 0} (reading : List A → Data → Result A SheetFault) (P : A
   all_read : (key : Key) (count : ℕ) (table : Members) → Gives (each_at key count reading table) (Each P count)
   all_read = each_read reading (All P) (All-nil P) more_read
 
-group_read : (earlier : List (List ℕ)) (item : Data) (group : List ℕ) → group_for earlier item ≡ Ok group → AreLetters 3 group
+group_read : (earlier : List (List ℕ)) (item : Data) (group : List ℕ)
+    → group_for earlier item ≡ Ok group → AreLetters 3 group
 unfolding group_of_item
 group_read earlier item group e = grind (arith, there_was, capitals_are_letters, none-some)
 
-groups_in_groups : (table : Members) → Gives (groups_in table) (λ groups. (length groups ≤ 4) × All (AreLetters 3) groups)
+groups_in_groups : (table : Members)
+    → Gives (groups_in table) (λ groups. (length groups ≤ 4) × All (AreLetters 3) groups)
 unfolding groups_in all_groups_in
 groups_in_groups table groups e =
-    let read = some_read group_for (All (AreLetters 3)) (All-nil (AreLetters 3)) (more_read group_for (AreLetters 3) group_read)
+    let read = some_read group_for (All (AreLetters 3)) (All-nil (AreLetters 3))
+    (more_read group_for (AreLetters 3) group_read)
     keys.Groups 4 in
     grind (arith, read, All-nil (AreLetters 3))
 
@@ -80,7 +82,8 @@ standing_read text bar e =
     ltb-true _ _ (All-contains (λ bar. nat_lt (place_rank bar.0) (place_rank bar.1) ≡ true) standings bar
     (AllPass-from_list_all (λ bar. nat_lt (place_rank bar.0) (place_rank bar.1)) standings refl) (found_there (λ standing. bytes_eq (standing_text standing) text) standings bar e))
 
-text_bar : (earlier : List (Place × Place)) (item : Data) (bar : Place × Place) → standing_for earlier item ≡ Ok bar → IsStanding bar
+text_bar : (earlier : List (Place × Place)) (item : Data) (bar : Place × Place)
+    → standing_for earlier item ≡ Ok bar → IsStanding bar
 text_bar earlier item bar e = grind (arith, there_was, standing_read, none-some)
 
 bars_in_bars : (table : Members) → Gives (bars_in table) (Each IsStanding 27)
@@ -96,7 +99,8 @@ text_pins ring item pins e = grind (arith, common_steps, there_was, some_if, non
 
 -- each list has as many pins as its wheel has letters
 abbrev Fit : List (List Bool) → Type 0
-Fit lists = (place : ℕ) (d : List Bool) → place < length lists → length (get_or lists place d) ≡ length (ring_of (place + 1))
+Fit lists = (place : ℕ) (d : List Bool) → place < length lists
+    → length (get_or lists place d) ≡ length (ring_of (place + 1))
 
 fit_more : (lists : List (List Bool)) (item : Data) (pins : List Bool) → Fit lists → pins_behind lists item ≡ Ok pins
     → Fit (lists ++ pins ∷ [])
@@ -104,9 +108,7 @@ fit_more lists item pins fit e place d within = grind (arith, common_steps, text
 
 six_fit : (lists : List (List Bool)) → length lists ≡ 6 → Fit lists → HasAllPins (pin_set lists)
 unfolding ring_of
-six_fit lists six fit =
-    all_pins (pin_set lists) (fit 0 [] (omega arith)) (fit 1 [] (omega arith)) (fit 2 [] (omega arith)) (fit 3 [] (omega arith))
-    (fit 4 [] (omega arith)) (fit 5 [] (omega arith))
+six_fit lists six fit = grind (arith, fit)
 
 pins_in_fit : (table : Members) → Gives (pins_in table) HasAllPins
 unfolding pins_in
@@ -167,8 +169,7 @@ rotor_day number model table is =
         day = is;
         reflector = there;
         wheels = rw seated fill.seated;
-        letters = All-from_recursion HasLetters _ (wheels_have_letters slots rings window
-            (recursion_from_All _ _ are_rings.within) (recursion_from_All _ _ are_letters.within));
+        letters = grind (arith, All-from_recursion, wheels_have_letters, recursion_from_All);
         pairs = are_pairs;
         few_groups = are_groups.0;
         groups = are_groups.1;
@@ -211,13 +212,13 @@ alone days table day e = grind (arith, given, day_again)
 abbrev IsNew : List Day → ℕ → Type 0
 IsNew days number = list_any (λ other. day_number other == number) days ≡ false
 
-new_number : (days : List Day) (table : Members) → Gives (new_number_in days table) (λ number. IsDayNumber number × IsNew days number)
+new_number : (days : List Day) (table : Members)
+    → Gives (new_number_in days table) (λ number. IsDayNumber number × IsNew days number)
 unfolding new_number_in
-new_number days table =
-    after _ _ _ _ (day_number_within table) (λ number is. tested _ _ _ _
-    (λ free. done (λ number. IsDayNumber number × IsNew days number) number (is, not-true _ free)))
+new_number days table = grind (arith, after, day_number_within, tested, done, not-true)
 
-day_read : (days : List Day) (table : Members) → Gives (day_in days table) (λ day. IsLegalDay day × IsNew days (day_number day))
+day_read : (days : List Day) (table : Members)
+    → Gives (day_in days table) (λ day. IsLegalDay day × IsNew days (day_number day))
 unfolding day_in
 day_read days table =
     after _ _ _ _ (new_number days table) (λ number new. after_any _ _ _ (λ model day e.

@@ -80,8 +80,8 @@ number_of_found month number found e d = grind arith
 none_found : (days : List Day) (number : ℕ) → list_any (has number) days ≡ false → find (has number) days ≡ None
 none_found days number free = grind (arith, any_found days number)
 
-one_found : (days : List Day) (new : Day) (number : ℕ) → number ≡ day_number new → list_any (has (day_number new)) days ≡ false
-    → find (has number) (days ++ new ∷ []) ≡ Some new
+one_found : (days : List Day) (new : Day) (number : ℕ) → number ≡ day_number new
+    → list_any (has (day_number new)) days ≡ false → find (has number) (days ++ new ∷ []) ≡ Some new
 one_found days new number same free = grind (arith, find-append, none_found, eq-eqb)
 
 other_found : (days : List Day) (new : Day) (number : ℕ) → number ≢ day_number new
@@ -101,7 +101,8 @@ month_more days new is free =
     elim (cases_Bool (nat_eq (k + 1) (day_number new))) [
       | inl same ↦
           let here = eqb-true (k + 1) (day_number new) same in
-          get_or-set_at (month_of days) (day_number new - 1) k (Some new) d (omega arith) (omega (arith, length-map-range_with_len f 1 31))
+          get_or-set_at (month_of days) (day_number new - 1) k (Some new) d (omega arith)
+          (omega (arith, length-map-range_with_len f 1 31))
           ∙ sym (one_found days new (k + 1) here free)
           ∙ sym (get_or-map-range_with_len g 1 31 k (k + 1) d inside (omega arith))
       | inr differs ↦

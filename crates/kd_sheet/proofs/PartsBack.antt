@@ -162,7 +162,8 @@ pub all_parts : {X : Type 0} (P : X → Type 0) (xs ys : List X) → AllByRecurs
 all_parts P [] ys all = (tt, all)
 all_parts P (x ∷ xs) ys all = let rest = all_parts P xs ys all.1 in ((all.0, rest.0), rest.1)
 
-same_letters : (cables : List (Option ℕ × Option ℕ)) → plugged_letters (map single_first cables) ≡ plugged_letters cables
+same_letters : (cables : List (Option ℕ × Option ℕ))
+    → plugged_letters (map single_first cables) ≡ plugged_letters cables
 same_letters [] = refl
 same_letters (cable ∷ cables) = grind (arith, same_letters cables)
 
@@ -185,9 +186,7 @@ pub all_cables_again : (key : Key) (cables : List (Option ℕ × Option ℕ)) �
     → IsDistinct nat_eq (plugged_letters cables)
     → all_cables_in key (texts cable_text cables) ≡ Ok (thirteen (map single_first cables))
 unfolding all_cables_in
-all_cables_again key cables few may within apart =
-    then_read (up_to key 13 (cable_for key) (texts cable_text cables)) (λ cables. Ok (thirteen cables)) (map single_first cables) _
-    (up_to_again key 13 cable_text cables (cable_for key) _ (cables_again key cables may within apart) few) refl
+all_cables_again key cables few may within apart = grind (arith, then_read, up_to_again, cables_again, within, few)
 
 -- ---- pins and bars
 
@@ -302,7 +301,8 @@ rotor_again : (s : RotorDay) → IsLegalRotorDay s → rotor_day_in s.day s.mode
 unfolding rotor_day_in reflector_in rings_in window_in
 rotor_again s legal =
     let has = (has_reflector-Decides (reflectors_of s.model) s.reflector).1 legal.reflector in
-    let wheels = seats_in_again keys.Wheels s.model (rotor_table s) (seats s.wheels) refl (all_seated s.wheels) legal.wheels in
+    let wheels = seats_in_again keys.Wheels s.model (rotor_table s) (seats s.wheels) refl
+    (all_seated s.wheels) legal.wheels in
     let rings = capitals_again _ _ (parts_are s legal (λ w. w.ring) (λ w has. has.ring)) in
     let letters = capitals_again _ _ (parts_are s legal (λ w. w.letter) (λ w has. has.letter)) in
     grind (arith, then_read, reflector_again, pairs_in_again, groups_in_again, wheels_again)

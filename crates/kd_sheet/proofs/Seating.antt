@@ -82,7 +82,8 @@ pub record FillsSlots (key : Key) (model : Model) (slots : List (Option Wheel)) 
   pub seated : AreSeated model slots
   pub filled : may_be_empty key ≡ false → All IsSome slots
 
-pub seats_in_fill : (key : Key) (model : Model) (table : Members) → Gives (seats_in key model table) (FillsSlots key model)
+pub seats_in_fill : (key : Key) (model : Model) (table : Members)
+    → Gives (seats_in key model table) (FillsSlots key model)
 unfolding seats_in
 seats_in_fill key model table slots e =
     let all = each_read (seat_of_item key model) (AreSeats key model) (record {
@@ -94,8 +95,7 @@ seats_in_fill key model table slots e =
 
 pub wheels_fill : (model : Model) (table : Members) (slots : List (Option Wheel)) → seats_in keys.Wheels model table ≡ Ok slots
     → (length slots ≡ slots_of model) × All IsSome slots
-wheels_fill model table slots e =
-    let fill = seats_in_fill keys.Wheels model table slots e in (fill.seated.count, fill.filled refl)
+wheels_fill model table slots e = grind (arith, seats_in_fill)
 
 -- ---- the wheels of a day
 

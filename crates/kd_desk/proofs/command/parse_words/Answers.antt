@@ -1,5 +1,5 @@
 use Rattle.kd_desk.proofs.Prelude.{arith, map, ℕ, List, Err, sym, ◌∙◌, Row, app_of, found_of, rows_of, named, IsOf, Says}
-use Rattle.kd_desk.proofs.CommandLines.{parse_fails_by, parse_takes, parse_enters, no_fault_said, no_subcommand_said, subcommand_said, said_subcommand, paired, ok_said}
+use Rattle.kd_desk.proofs.CommandLines.{parse_fails_by, parse_takes, parse_enters, no_fault_said, no_subcommand_said, said_subcommand, paired, ok_said}
 use Rattle.kd_desk.proofs.command.parse_words.Goals as goal
 
 pub returns-in-Err-clause-usage : goal.returns-in-Err-clause-usage
@@ -29,7 +29,7 @@ returns-clause-usage g c =
     let said : List ℕ × List Row = (c.in-Some.name.now, rows_of (found_of c.in-Some.words.now)) in
     let entered = sym (parse_enters (app_of c.in_ok-grammar.field-0) words c.in-Ok.matches c.in_ok-grammar.ensures c.in-Ok.ensures.matches)
     ∙ paired _ _ _ said.0 said.1 c.in-Some.ensures.name c.in-Some.ensures.rows in
-    λ usage command says. c.command_of.ensures.none (grind arith) command (subcommand_said words said entered command says)
+    λ usage command says. c.command_of.ensures.none (grind arith) command (rw entered at says.said)
 
 pub returns-clause-memory : goal.returns-clause-memory
 returns-clause-memory g c = grind arith
