@@ -1,6 +1,6 @@
 -- No list of settings that leads to the day has fewer than there are loose things and prices in sum, and a card that proves
 -- itself has as many.
-use Rattle.kd_card.proofs.Prelude.{◌≡◌, ℕ, suc, ◌+◌, ◌<◌, ◌≤◌, Bool, cond, List, [], ◌∷◌, ◌++◌, length, get_or, map, zip, fold, Contains, Option, ℤ, pos, ◌+ℤ◌, ◌≤ℤ◌, IsPermutation, refl, sym, ap, ◌∙◌, subst, arith, None, ints, length_permutation, All-permutation, Contains-permutation, IsPermutation-sym, Model, reflectors_of, letters_plugged, Parts, Rotor, Pin, Setting, model_of, IsMachine, Leads, changed, Day, OfRotors, OfPins, day_model, IsLegalDay, ReadsAs, cable_cost, bar_cost, columns_of, cost_table, loose_count, PriceParts, Cables, Bars, ArePrices, Fits, AreTight, price_sum, is_priced, priced_count, AreOfKind, IsNeeded, AreNeeded, Same, Expanded, FittingPricesBoundLists, ProvingCardsAreAsLong, ProvingCardsAreShortest, ProvingPricesAreTight, get_or_default, get_or-map, length-zip, get_or-zip, One}
+use Rattle.kd_card.proofs.Prelude.{◌≡◌, ℕ, ◌+◌, ◌<◌, ◌≤◌, Bool, cond, List, [], ◌∷◌, ◌++◌, length, get_or, map, zip, fold, Contains, Option, ℤ, pos, ◌+ℤ◌, ◌≤ℤ◌, IsPermutation, refl, sym, ap, ◌∙◌, subst, arith, None, ints, length_permutation, All-permutation, Contains-permutation, IsPermutation-sym, Model, reflectors_of, letters_plugged, Parts, Rotor, Pin, Setting, model_of, IsMachine, Leads, changed, Day, OfRotors, OfPins, day_model, IsLegalDay, ReadsAs, cable_cost, bar_cost, columns_of, cost_table, loose_count, PriceParts, Cables, Bars, ArePrices, Fits, AreTight, price_sum, is_priced, priced_count, AreOfKind, IsNeeded, AreNeeded, Same, Expanded, FittingPricesBoundLists, ProvingCardsAreAsLong, ProvingCardsAreShortest, ProvingPricesAreTight, get_or_default, get_or-map, length-zip, get_or-zip, One}
 use Rattle.std.proofs.lemmas.List.Elements.{All-from_get_or, Contains-get_or}
 use Rattle.kd_tables.specs.declared.model.Model.TheVariants.{M209}
 use Rattle.kd_tables.specs.declared.reflector.Reflector.{Reflector}

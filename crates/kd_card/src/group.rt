@@ -1,5 +1,6 @@
 ghost use Rattle.std.specs.Prelude.{◌≡◌};
-ghost use Rattle.kd_card.specs.CardText.{row_name, column_name, column_word, price_count};
+ghost use Rattle.kd_card.specs.Prices.{row_name, column_name, price_count};
+ghost use Rattle.kd_card.specs.CardText.{column_word};
 ghost use Rattle.kd_card.specs.CardFault.{first_text};
 
 use super::look::Name;

@@ -1,7 +1,6 @@
 ghost use Rattle.std.specs.Prelude.{◌≡◌, ◌↔◌, ◌≤◌, length, IsTrue, IsOk, IfErr, MatchOption};
 ghost use Rattle.kd_state.specs.Costs.{cost_table};
-ghost use Rattle.kd_card.specs.Prices.{Fits};
-ghost use Rattle.kd_card.specs.CardText.{group_of};
+ghost use Rattle.kd_card.specs.Prices.{group_of, Fits};
 ghost use Rattle.kd_card.specs.Proving.{Proves, group_of_machine, priced_count};
 ghost use Rattle.kd_prices.specs.Doubt.{AreOfOneModel, AreNumbered, IsFirstTooHigh, SaysChecked};
 ghost use Rattle.kd_prices.specs.Doubt.{SaysByNumber, IsDoubt};
@@ -102,11 +101,11 @@ fn too_high(machine: &Machine, day: &SheetDay, prices: &Prices) -> Option<Cell>
     match (machine.of_one_model(day).unwrap(), prices.parts()) {
         (OneModel::Rotor(parts, entry), PriceParts::Cables(rows, columns)) => {
             let costs = cable_costs(&parts.cables, entry.pairs.as_slice());
-            first_too_high(&costs, &rows, &columns)
+            first_too_high(&costs, rows, columns)
         }
         (OneModel::Pin(parts, entry), PriceParts::Bars(rows, columns)) => {
             let costs = bar_costs(&parts.bars, &entry.rows);
-            first_too_high(&costs, &rows, &columns)
+            first_too_high(&costs, rows, columns)
         }
         _ => unreachable!(),
     }

@@ -2,8 +2,7 @@
 ghost use Rattle.std.specs.Prelude.{◌≡◌, ◌≢◌, ◌↔◌, ℕ, ◌<◌, ◌≤◌, length, All};
 ghost use Rattle.std.specs.Prelude.{IfSome, IsSome, MatchOption};
 ghost use Rattle.kd_card.specs.Kinds.{look_rank, IsInForm};
-ghost use Rattle.kd_card.specs.Prices.{AreWithinReach};
-ghost use Rattle.kd_card.specs.CardText.{row_name, column_name, price_count};
+ghost use Rattle.kd_card.specs.Prices.{row_name, column_name, price_count, AreWithinReach};
 ghost use Rattle.kd_card.specs.Proving.{look_at, AreExpanded};
 ghost use Rattle.kd_prices.specs.KindCards.{CanBeByKind, IsByKind, AreByKind, AreAlikePriced};
 ghost use Rattle.kd_prices.specs.KindCards.{IsKindAt, AreKindsOf, AreWithPrices, AreThings, AreOfGroup};
