@@ -143,14 +143,8 @@ fn prices_of_text(text: &[u8], number: usize, line: usize) -> Result<ArrayVec<i1
 fn are_prices(text: &[u8]) -> bool
     ensures { IsTrue result ↔ All IsPriceText (words_of text.now) }
 {
-    let mut rest = text;
-    while let Some((word, after)) = split_once(rest, b' ') {
-        if price_of_text(word).is_none() {
-            return false;
-        }
-        rest = after;
-    }
-    price_of_text(rest).is_some()
+    text.split(|byte| *byte == b' ')
+        .all(|word| price_of_text(word).is_some())
 }
 
 /// The prices that are these words; none where one of them is no price.
