@@ -1,12 +1,12 @@
 -- A setting puts at most one loose thing right, or lowers what the cables or bars cost by one at most, and never both.
-use Rattle.kd_card.proofs.Prelude.{◌≡◌, ◌≢◌, ℕ, zero, suc, ◌+◌, ◌-◌, ◌≤◌, nat_eq, Bool, true, false, not, cond, List, [], ◌∷◌, get_or, set, map, zip, sum, count_by, AllPairs, Option, Some, None, slice_get, unwrap_or, inl, inr, refl, sym, ap, ◌∙◌, subst, arith, AllByRecursion, sum_by, option_map_or, bytes_eq, cases_eq, eq-eqb, recursion_from_All, map-id, sum-map, sum_by-cons, unwrap_or-slice_get, bytes_eq-Decides, Model, wheel_text, reflector_text, RotorParts, PinParts, Parts, Rotor, Pin, Setting, Pull, Put, Seat, SeatReflector, RingTo, Turn, PinTo, LugTo, same_wheel, same_reflector, place_in_box, model_of, ring_at, letter_at, why_refused, seated_in, without, with_letter, changed, RotorDay, PinDay, Day, OfRotors, OfPins, IsLegalDay, day_model, ReadsAs, DaysWheelsHaveTheirPlaces, differ, unless_same, loose_slots, loose_reflector, loose_rings, loose_letters, loose_pins, loose_pin_letters, loose_count, cable_cost, bar_cost, ℤ, is_priced, common_steps}
+use Rattle.kd_card.proofs.Prelude.{◌≡◌, ◌≢◌, ℕ, zero, suc, ◌+◌, ◌-◌, ◌≤◌, nat_eq, Bool, true, false, not, cond, List, [], ◌∷◌, get_or, set, map, zip, sum, count_by, AllPairs, Option, Some, None, slice_get, unwrap_or, inl, inr, refl, sym, ap, ◌∙◌, subst, arith, AllByRecursion, sum_by, option_map_or, bytes_eq, eqb_tells, eq-eqb, recursion_from_All, map-id, sum-map, sum_by-cons, unwrap_or-slice_get, bytes_eq-Decides, Model, wheel_text, reflector_text, RotorParts, PinParts, Parts, Rotor, Pin, Setting, Pull, Put, Seat, SeatReflector, RingTo, Turn, PinTo, LugTo, same_wheel, same_reflector, place_in_box, model_of, ring_at, letter_at, why_refused, seated_in, without, with_letter, changed, RotorDay, PinDay, Day, OfRotors, OfPins, IsLegalDay, day_model, ReadsAs, DaysWheelsHaveTheirPlaces, differ, unless_same, loose_slots, loose_reflector, loose_rings, loose_letters, loose_pins, loose_pin_letters, loose_count, cable_cost, bar_cost, ℤ, is_priced, common_steps}
 use Rattle.kd_tables.specs.declared.wheel.Wheel.{Wheel}
 use Rattle.kd_tables.specs.Rings.{ring_of, place_on}
 use Rattle.kd_pins.specs.declared.pin_set.PinSet.{PinSet}
 use Rattle.kd_pins.specs.PinWheels.{pins_of}
 use Rattle.kd_state.specs.declared.sheet_day.rotor_entry.SheetWheel.{SheetWheel}
 use Rattle.kd_state.specs.Pins.{pin_set, wheel_pins, with_pin}
-use Rattle.kd_card.proofs.Counts.{count_by-cons, zip_set, at_most_one}
+use Rattle.kd_card.proofs.Counts.{count_by-cons, zip_set, at_most_one, counts_apart, once_at}
 use Rattle.kd_card.proofs.Duality.{pairing_cost}
 use Rattle.kd_card.proofs.Falling.{unless_same_at_most, one_less, not_differing, pull_falls, put_falls, lug_falls}
 
@@ -23,29 +23,17 @@ module _ {X : Type 0} (place target : X → ℕ) where
   abbrev wrong : List ℕ → X → Bool
   wrong letters x = not (option_map_or (nat_eq (target x)) (slice_get letters (place x)) false)
 
-  same_elsewhere : (letters : List ℕ) (p l : ℕ) (x : X) → place x ≢ p → wrong (set letters p l) x ≡ wrong letters x
-  same_elsewhere letters p l x away =
-      ap (λ seen. not (option_map_or (nat_eq (target x)) seen false)) (set_other letters p (place x) l away)
-
-  other_places : (letters : List ℕ) (p l : ℕ) (xs : List X) → AllByRecursion (λ y. place y ≢ p) xs → count_by (wrong (set letters p l)) xs ≡ count_by (wrong letters) xs
-  other_places letters p l [] h = refl
-  other_places letters p l (x ∷ xs) h =
-      grind (arith, common_steps, same_elsewhere, count_by-cons, other_places letters p l xs h.1)
-
-  set_lowers : (letters : List ℕ) (p l : ℕ) (xs : List X) → AllPairs (λ x y. place x ≢ place y) xs → count_by (wrong letters) xs ≤ count_by (wrong (set letters p l)) xs + 1
-  set_lowers letters p l [] h = omega arith
-  set_lowers letters p l (x ∷ xs) h =
-      let now = count_by-cons (wrong letters) x xs in
-      let later = count_by-cons (wrong (set letters p l)) x xs in
-      elim (cases_eq (place x) p) [
-        | inl here ↦
-            let others = recursion_from_All (λ y. place y ≢ place x) xs (λ k d lt same. h zero (suc k) d (omega arith) (omega arith) (sym same)) in
-            let rest = other_places letters p l xs (subst (λ q. AllByRecursion (λ y. place y ≢ q) xs) here others) in
-            omega (arith, at_most_one (wrong letters x), rest)
+  set_lowers : (letters : List ℕ) (p l : ℕ) (xs : List X) → AllPairs (λ x y. place x ≢ place y) xs
+      → count_by (wrong letters) xs ≤ count_by (wrong (set letters p l)) xs + 1
+  set_lowers letters p l xs apart =
+      let elsewhere =
+      counts_apart (wrong letters) (wrong (set letters p l)) (λ x. nat_eq p (place x)) (λ x. elim (eqb_tells p (place x)) [
+        | inl here ↦ inr here.0
         | inr away ↦
-            let head = ap (λ b. cond {A = ℕ} b 1 0) (same_elsewhere letters p l x away) in
-            omega (arith, now, later, head, set_lowers letters p l xs (λ i j d before within. h (suc i) (suc j) d (omega arith) (omega arith)))
-      ]
+            let same = set_other letters p (place x) l (λ e. away.1 (sym e)) in
+            inl (ap (λ seen. not (option_map_or (nat_eq (target x)) seen false)) (sym same))
+      ]) xs in
+      omega (arith, once_at place xs apart p, elsewhere)
 
 -- a slot that becomes empty is not right
 abbrev wrong_slot : Option Wheel × SheetWheel → Bool

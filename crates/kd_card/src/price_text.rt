@@ -1,12 +1,12 @@
 //! Prices and numbers as they are written, and the first words of their lines.
-ghost use Rattle.std.specs.Prelude.{◌≡◌, ◌≢◌, ◌↔◌, ◌<◌, ◌≤◌, ◌∷◌, ℤ, map, length, unsigned_abs, All};
+ghost use Rattle.std.specs.Prelude.{◌≡◌, ◌≢◌, ◌↔◌, ◌<◌, ◌≤◌, ◌∷◌, ℕ, List, ℤ, map, length, unsigned_abs, All};
 ghost use Rattle.std.specs.Prelude.{IsTrue, MatchOption, MatchResult, Ok, Err};
 ghost use Rattle.std.specs.Option.{option_copied};
 ghost use Rattle.std.specs.Fmt.{signed_decimal};
 ghost use Rattle.kd_state.specs.Words.{words_of};
 ghost use Rattle.kd_card.specs.Prices.{AreWithinReach};
 ghost use Rattle.kd_card.specs.CardFault.{IsNumberText, IsNumeral, IsPriceText, SaysPrices};
-ghost use Rattle.kd_card.specs.CardFault.{SaysLine, SaysFirst, first_text};
+ghost use Rattle.kd_card.specs.CardFault.{HasWords, SaysLine, SaysFirst, first_text};
 ghost use Rattle.kd_card.specs.Reading.{words_behind};
 
 use super::fault::CardFault;
@@ -54,8 +54,20 @@ pub(crate) fn price_of_text(text: &[u8]) -> Option<i16>
     (buffer.format(price).as_bytes() == text).then_some(price)
 }
 
-/// The first word of the first line of the text, which is that of this number; what stands behind the space after it;
-/// and what follows the line.
+/// The first word of the first line of the text, what stands behind the space after it, and what follows the line.
+pub(crate) fn first_word(text: &[u8]) -> Option<(&[u8], Option<&[u8]>, &[u8])>
+    ensures { MatchOption result
+        ((words : List (List ℕ)) (rest : List ℕ) → ¬ (HasWords text.now words rest))
+        (λ found. HasWords text.now (found.0.now ∷ words_behind (option_copied found.1)) found.2.now) }
+{
+    let (line, rest) = split_once(text, b'\n')?;
+    match split_once(line, b' ') {
+        Some((first, behind)) => Some((first, Some(behind), rest)),
+        None => Some((line, None, rest)),
+    }
+}
+
+/// The same of a line of prices, which is that of this number.
 pub(crate) fn split_first(
     text: &[u8],
     line: usize,
@@ -68,12 +80,9 @@ pub(crate) fn split_first(
     if text.is_empty() {
         return Err(CardFault::PriceMissing);
     }
-    let Some((words, rest)) = split_once(text, b'\n') else {
-        return Err(CardFault::BadLine(line));
-    };
-    match split_once(words, b' ') {
-        Some((first, behind)) => Ok((first, Some(behind), rest)),
-        None => Ok((words, None, rest)),
+    match first_word(text) {
+        Some(found) => Ok(found),
+        None => Err(CardFault::BadLine(line)),
     }
 }
 
