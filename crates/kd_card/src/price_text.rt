@@ -99,12 +99,24 @@ pub(crate) fn first_group(
         (λ fault. says (Err fault)) }
 {
     let (first, behind, rest) = split_first(text, line)?;
-    if first == Group::OfCables.first_text(version).as_bytes() {
-        Ok((Group::OfCables, behind, rest))
-    } else if first == Group::OfBars.first_text(version).as_bytes() {
-        Ok((Group::OfBars, behind, rest))
-    } else {
-        Err(CardFault::PriceMissing)
+    match group_of_word(first, version) {
+        Some(group) => Ok((group, behind, rest)),
+        None => Err(CardFault::PriceMissing),
+    }
+}
+
+/// Whether prices that begin with that word are of cables or of bars.
+fn group_of_word(word: &[u8], version: Version) -> Option<Group>
+    ensures { MatchOption result
+        ((group : _) → word.now ≢ first_text version group)
+        (λ group. word.now ≡ first_text version group) }
+{
+    match (version, word) {
+        (Version::ByNumber, b"CABLES") => Some(Group::OfCables),
+        (Version::ByNumber, b"BARS") => Some(Group::OfBars),
+        (Version::ByKind, b"CABLE") => Some(Group::OfCables),
+        (Version::ByKind, b"BAR") => Some(Group::OfBars),
+        _ => None,
     }
 }
 
