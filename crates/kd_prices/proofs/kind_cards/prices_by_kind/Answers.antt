@@ -27,7 +27,7 @@ of_group-requires-clause-column_prices c =
 pub returns-in-ByNumber : goal.returns-in-ByNumber
 returns-in-ByNumber c =
     by_kind_told
-    (record { ranks = c.ranks_tell_looks.ensures; thirteen = c.columns_are_the_pairs.ensures.count; columns = c.columns_are_the_pairs.ensures.pairs })
+    (record { ranks = c.ranks_tell_looks.ensures; letters = c.tests_tell_letters.ensures; thirteen = c.columns_are_the_pairs.ensures.count; columns = c.columns_are_the_pairs.ensures.pairs })
     _ _ _ c.row_looks.ensures.machine c.column_looks.ensures.day c.row_prices.ensures.are_prices
     (c.are_of_one_model.ensures.0 c.if-not-are_of_one_model.false) (sym c.version.ensures.value ∙ c.in-ByNumber.is) _
     (rw (
