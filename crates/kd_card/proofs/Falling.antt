@@ -122,26 +122,20 @@ pub record HasCables (cables : List (Option ℕ × Option ℕ)) : Type 0 where
   pub count : length cables ≡ 13
   pub once : CablesAreOnce cables
 
-pub record HasBars (bars : List (Place × Place)) : Type 0 where
-  pub count : length bars ≡ 27
-  pub stand : All Stands bars
-
 bars_keep : (bars : List (Place × Place)) (i : ℕ) (lug : Lug) (place : Place) (found : Option (Place × Place))
     → option_map_or (is_at place) (option_map (lug_place (other_lug lug)) found) false ≡ false → option_map_or (lies_beyond lug place) (option_map (lug_place (other_lug lug)) found) false ≡ false
-    → HasBars bars → HasBars (option_map_or (λ standing. set bars i (with_lug lug place standing)) found bars)
+    → All Stands bars → All Stands (option_map_or (λ standing. set bars i (with_lug lug place standing)) found bars)
 bars_keep bars i lug place None apart within h = h
-bars_keep bars i lug place (Some standing) apart within h = record {
-  count = length-set bars i (with_lug lug place standing) ∙ h.count;
-  stand = All-set Stands bars i (with_lug lug place standing) (stands_again lug place standing apart within) h.stand;
-}
+bars_keep bars i lug place (Some standing) apart within h =
+    All-set Stands bars i (with_lug lug place standing) (stands_again lug place standing apart within) h
 
 abbrev pub HasAll : Parts → Type 0
 HasAll (Rotor m) = HasCables m.cables
-HasAll (Pin m) = HasBars m.bars
+HasAll (Pin m) = All Stands m.bars
 
 pub machines_have_all : (m : Parts) → IsLegal m → HasAll m
 machines_have_all (Rotor m) h = record { count = h.cables.count; once = once_of_distinct (plugged_letters m.cables) h.cables.apart }
-machines_have_all (Pin m) h = record { count = h.bars; stand = h.apart }
+machines_have_all (Pin m) h = h.apart
 
 setting_keeps : (m : Parts) (x : Setting) → why_refused m x ≡ None → HasAll m → HasAll (changed m x)
 setting_keeps (Rotor m) (Pull cable letter) e h =

@@ -100,9 +100,6 @@ priced_alike looks Alike prices n told many = (
 
 -- ---- what is answered of a group
 
-pub size_of : (prices : PriceParts) → price_count (group_of prices) ≡ how_many prices
-size_of prices = grind arith
-
 -- machine, day and prices by number are of one model
 module _ (told : RanksTold) (m : Parts) (s : Day) (prices : PriceParts) (machine : IsMachine m) (legal : IsLegalDay s) (are : ArePrices prices)
     (one : AreOfOneModel m s prices) (by : version_of prices ≡ ByNumber) where
@@ -114,12 +111,12 @@ module _ (told : RanksTold) (m : Parts) (s : Day) (prices : PriceParts) (machine
 
   rows_iff : AreAlikePriced (row_looks m) (row_prices prices)
       ↔ ((i k : ℕ) → i < how_many prices → k < how_many prices → StandAlike m i k → price_at (row_prices prices) i ≡ price_at (row_prices prices) k)
-  rows_iff = priced_alike (row_looks m) (StandAlike m) (row_prices prices) (how_many prices) (rows_told told m machine) (rows_of_group.count ∙ size_of prices)
+  rows_iff = priced_alike (row_looks m) (StandAlike m) (row_prices prices) (how_many prices) (rows_told told m machine) rows_of_group.count
 
   columns_iff : AreAlikePriced (column_looks s) (column_prices prices)
       ↔ ((i k : ℕ) → i < how_many prices → k < how_many prices → ReadAlike s i k → price_at (column_prices prices) i ≡ price_at (column_prices prices) k)
   columns_iff =
-      priced_alike (column_looks s) (ReadAlike s) (column_prices prices) (how_many prices) (columns_told told s legal) (columns_of_group.count ∙ size_of prices)
+      priced_alike (column_looks s) (ReadAlike s) (column_prices prices) (how_many prices) (columns_told told s legal) columns_of_group.count
 
   pub by_kind_told : (r : Option PriceParts)
       → MatchOption r (¬ (AreAlikePriced (row_looks m) (row_prices prices) × AreAlikePriced (column_looks s) (column_prices prices)))
