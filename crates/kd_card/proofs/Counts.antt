@@ -1,4 +1,5 @@
 -- How often letters are among others.
+use Rattle.std.proofs.Common.{rules}
 use Rattle.kd_card.proofs.Prelude.{◌≡◌, ◌≢◌, ℕ, zero, suc, ◌+◌, ◌≤◌, nat_eq, set, get_or, zip, sum_by, Bool, true, false, ◌||◌, cond, inl, inr, List, [], ◌∷◌, ◌++◌, AllPairs, count_by, refl, sym, ap, ◌∙◌, arith, ◌⊎◌, Option, Some, None, AllByRecursion, IsDistinct, eqb-true, eq-eqb, false≢true, ne_eqb, or_parts, eqb_tells, recursion_from_All, sum_by-append, sum_by-cons, alphabet, has_letter, is_plugged, cable_without, cable_with, list_any-append, cable_letters, common_steps}
 use Rattle.std.proofs.lemmas.Cmp.{nat_eq_equiv}
 use Rattle.std.proofs.lemmas.Map.Made.{AllPairs-from_IsDistinct, IsDistinct-from_count}
@@ -14,8 +15,7 @@ at_most_one b = grind arith
 pub zip_set : {X Y : Type 0} (f : X × Y → ℕ) (xs : List X) (ys : List Y) (i : ℕ) (v d : X) → ((y : Y) → f (get_or xs i d, y) ≤ f (v, y) + 1)
     → sum_by f (zip xs ys) ≤ sum_by f (zip (set xs i v) ys) + 1
 zip_set f (x ∷ xs) (y ∷ ys) zero v d h = omega (arith, h y, sum_by-cons f (x, y) (zip xs ys), sum_by-cons f (v, y) (zip xs ys))
-zip_set f (x ∷ xs) (y ∷ ys) (suc i) v d h =
-    omega (arith, sum_by-cons f (x, y) (zip xs ys), sum_by-cons f (x, y) (zip (set xs i v) ys), zip_set f xs ys i v d h)
+zip_set f (x ∷ xs) (y ∷ ys) (suc i) v d h = search (rules, sum_by-cons, zip_set f xs ys i v d h)
 zip_set f xs ys i v d h = omega arith
 
 -- how often the letter is among these
@@ -53,8 +53,7 @@ once_at f (x ∷ xs) apart number =
 pub counts_apart : {X : Type 0} (p q t : X → Bool) → ((x : X) → (p x ≡ q x) ⊎ (t x ≡ true)) → (xs : List X)
     → count_by p xs ≤ count_by q xs + count_by t xs
 counts_apart p q t apart [] = omega arith
-counts_apart p q t apart (x ∷ xs) =
-    grind (arith, common_steps, count_by-cons, counts_apart p q t apart xs, apart, at_most_one)
+counts_apart p q t apart (x ∷ xs) = search (rules, count_by-cons, counts_apart p q t apart xs, at_most_one)
 
 pub once_of_distinct : (letters : List ℕ) → IsDistinct nat_eq letters → AreOnce letters
 once_of_distinct letters distinct = once_at (λ letter. letter) letters (AllPairs-from_IsDistinct (λ a b. (eqb-true a b, eq-eqb a b)) letters distinct)

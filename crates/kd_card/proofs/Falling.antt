@@ -1,5 +1,6 @@
 -- What a pairing of cables with pairs, or of bars with rows, costs falls by at most one with each setting that changes a
 -- cable or a bar, and doesn't change with the others.
+use Rattle.std.proofs.Common.{rules}
 use Rattle.kd_card.proofs.Prelude.{◌≡◌, ℕ, zero, suc, ◌+◌, ◌-◌, ◌≤◌, nat_eq, min, Bool, true, false, inl, inr, List, [], ◌∷◌, get_or, set, map, fold, count_by, Option, Some, None, unwrap_or, slice_get, ℤ, refl, sym, ap, ◌∙◌, subst, arith, length, AllByRecursion, option_map, option_map_or, unwrap_or-slice_get, Place, alphabet, RotorParts, Parts, Rotor, Pin, Setting, Pull, Put, LugTo, Why, cable_letters, plugged_letters, IsLegal, has_letter, is_at, reasons, why_refused, cable_at, cable_without, cable_with, with_lug, changed, lies_beyond, other_lug, lug_place, Leads, differ, unless_same, column_letters, cable_cost, lugs_moved, bar_cost, eqb-false, ltb-false, All-set, length-set, place_rank, numbered, common_steps, find, All}
 use Rattle.kd_state.specs.Costs.{standings_as, lies_in_one}
 use Rattle.kd_state.specs.Setting.{Stands}
@@ -82,8 +83,7 @@ lug_falls bars ws bar lug place (Some standing) e =
 times-set : (letter k : ℕ) (cables : List (Option ℕ × Option ℕ)) (place : ℕ) (now d : Option ℕ × Option ℕ)
     → times letter (cable_letters now) ≤ times letter (cable_letters (get_or cables place d)) + k → times letter (plugged_letters (set cables place now)) ≤ times letter (plugged_letters cables) + k
 times-set letter k [] place now d h = omega arith
-times-set letter k (cable ∷ cables) zero now d h =
-    omega (arith, times-append letter (cable_letters cable) (plugged_letters cables), times-append letter (cable_letters now) (plugged_letters cables))
+times-set letter k (cable ∷ cables) zero now d h = search (rules, times-append)
 times-set letter k (cable ∷ cables) (suc place) now d h =
     grind (arith, common_steps, times-append, times-set letter k cables place now d h)
 

@@ -1,14 +1,12 @@
 -- The prices of kinds, one for each thing.
+use Rattle.std.proofs.Common.{rules}
 use Rattle.kd_card.proofs.Prelude.{◌≡◌, ℕ, ◌+◌, ◌≤◌, List, [], ◌∷◌, length, replicate, refl, sym, ◌∙◌, length-append, arith, unsigned_abs, ◌++◌, map, length-replicate, All-append, All-nil, All-replicate, PricedKind, PriceParts, Kinds, look_rank, counted, prices_of_kinds, AreKinds, kind_words, kinds_text, row_kinds, column_kinds, AreWithinReach, ArePrices, flat_map-map, line_of, Name, Group, row_name, column_name, price_count, lines_text, IsGroup, with_line, common_steps}
 use Rattle.arrayvec.specs.ArrayVec.{ArrayVec}
 use Rattle.kd_card.proofs.Lines.{line_and_more}
 
 pub length_of_kinds : (kinds : List PricedKind) → length (prices_of_kinds kinds) ≡ counted kinds
 length_of_kinds [] = refl
-length_of_kinds (kind ∷ kinds) =
-    let rest = length_of_kinds kinds in
-    let here = length-replicate kind.count kind.price in
-    omega (arith, length-append (replicate kind.count kind.price) (prices_of_kinds kinds))
+length_of_kinds (kind ∷ kinds) = grind (arith, length_of_kinds kinds, length-replicate, length-append)
 
 pub reach_of_kinds : (floor : ℕ) (kinds : List PricedKind) → AreKinds floor kinds → AreWithinReach (prices_of_kinds kinds)
 reach_of_kinds floor [] are = All-nil (λ price. unsigned_abs price ≤ 9999)
@@ -18,22 +16,12 @@ reach_of_kinds floor (kind ∷ kinds) are =
 -- each kind is of one thing at least
 pub few_kinds : (floor : ℕ) (kinds : List PricedKind) → AreKinds floor kinds → length kinds ≤ counted kinds
 few_kinds floor [] are = omega arith
-few_kinds floor (kind ∷ kinds) are =
-    omega (arith, few_kinds (look_rank kind.look + 1) kinds are.2)
+few_kinds floor (kind ∷ kinds) are = search (rules, few_kinds (look_rank kind.look + 1) kinds are.2)
 
 -- a group's kinds, as they may stand on a card
 pub are_prices : {group : Group} {rows columns : ArrayVec PricedKind} → IsGroup (row_name group) (price_count group) rows.items
     → IsGroup (column_name group) (price_count group) columns.items → ArePrices (Kinds group rows columns)
-are_prices {rows} {columns} row column = record {
-  rows = length_of_kinds rows.items ∙ row.count;
-  columns = length_of_kinds columns.items ∙ column.count;
-  row_reach = reach_of_kinds 0 rows.items row.in_order;
-  column_reach = reach_of_kinds 0 columns.items column.in_order;
-  row_kinds = row.in_order;
-  column_kinds = column.in_order;
-  row_called = row.called;
-  column_called = column.called;
-}
+are_prices {rows} {columns} row column = grind (arith, length_of_kinds, reach_of_kinds)
 
 pub row_group : {group : Group} {rows columns : ArrayVec PricedKind} → ArePrices (Kinds group rows columns)
     → IsGroup (row_name group) (price_count group) rows.items
