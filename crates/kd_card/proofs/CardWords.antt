@@ -68,8 +68,8 @@ version_is_word version = grind (arith, word_by_test)
 pub head_is_words : NumbersAreWords → (version : Version) (day : ℕ) → day ≤ 31 → All IsWord (head_words version day)
 head_is_words numbers version day small = grind (arith, All-from_recursion, word_by_test, version_is_word, numbers)
 
-pub head_has_words : Laws → {bytes : List ℕ} (version : Version) (day : ℕ) (rest : List ℕ) → BeginsWithHead bytes version day rest
-    → HasWords bytes (head_words version day) rest
+pub head_has_words : Laws → {bytes : List ℕ} (version : Version) (day : ℕ) (rest : List ℕ)
+    → BeginsWithHead bytes version day rest → HasWords bytes (head_words version day) rest
 head_has_words laws version day rest head =
     line_has_words laws (head_words version day) rest (λ none. cc)
     (head_is_words laws.numbers version day head.of_month.last) head.text

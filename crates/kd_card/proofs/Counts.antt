@@ -33,7 +33,8 @@ AreOnce letters = (letter : ℕ) → times letter letters ≤ 1
 none_at : {X : Type 0} (f : X → ℕ) (number : ℕ) (xs : List X) → AllByRecursion (λ x. number ≢ f x) xs
     → count_by (λ x. nat_eq number (f x)) xs ≡ 0
 none_at f number [] h = refl
-none_at f number (x ∷ xs) h = count_by-cons (λ x. nat_eq number (f x)) x xs ∙ rw (ne_eqb number (f x) h.0, none_at f number xs h.1) refl
+none_at f number (x ∷ xs) h =
+    count_by-cons (λ x. nat_eq number (f x)) x xs ∙ rw (ne_eqb number (f x) h.0, none_at f number xs h.1) refl
 
 pub once_at : {X : Type 0} (f : X → ℕ) (xs : List X) → AllPairs (λ x y. f x ≢ f y) xs → (number : ℕ)
     → count_by (λ x. nat_eq number (f x)) xs ≤ 1
@@ -42,7 +43,9 @@ once_at f (x ∷ xs) apart number =
     let more = count_by-cons (λ x. nat_eq number (f x)) x xs in
     elim (eqb_tells number (f x)) [
       | inl here ↦
-          let rest = none_at f number xs (recursion_from_All (λ y. number ≢ f y) xs (λ k d lt same. apart zero (suc k) d (omega arith) (omega arith) (sym here.1 ∙ same))) in
+          let rest =
+          none_at f number xs (recursion_from_All (λ y. number ≢ f y) xs
+          (λ k d lt same. apart zero (suc k) d (omega arith) (omega arith) (sym here.1 ∙ same))) in
           omega (arith, at_most_one (nat_eq number (f x)))
       | inr away ↦
           let head = ap (λ b. cond {A = ℕ} b 1 0) away.0 in

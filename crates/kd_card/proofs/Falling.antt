@@ -32,7 +32,8 @@ cables_fall m place now ws x same =
     (omega (
       arith,
       counts_apart (lies_in_one (cable_at m (suc place)) w.0) (lies_in_one now w.0) (nat_eq x)
-          (λ l. elim (same l) [ inl e ↦ inl (ap (λ b. differ b (has_letter (column_letters w.0) l)) e) | inr e ↦ inr e ]) alphabet,
+          (λ l. elim (same l) [ inl e ↦ inl (ap (λ b. differ b (has_letter (column_letters w.0) l)) e) | inr e ↦ inr e ])
+          alphabet,
       once_in_alphabet x,
     ))))
 

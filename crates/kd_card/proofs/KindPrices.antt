@@ -19,8 +19,8 @@ few_kinds floor [] are = omega arith
 few_kinds floor (kind ∷ kinds) are = search (rules, few_kinds (look_rank kind.look + 1) kinds are.2)
 
 -- a group's kinds, as they may stand on a card
-pub are_prices : {group : Group} {rows columns : ArrayVec PricedKind} → IsGroup (row_name group) (price_count group) rows.items
-    → IsGroup (column_name group) (price_count group) columns.items → ArePrices (Kinds group rows columns)
+pub are_prices : {group : Group} {rows columns : ArrayVec PricedKind}
+    → IsGroup (row_name group) (price_count group) rows.items → IsGroup (column_name group) (price_count group) columns.items → ArePrices (Kinds group rows columns)
 are_prices {rows} {columns} row column = grind (arith, length_of_kinds, reach_of_kinds)
 
 pub row_group : {group : Group} {rows columns : ArrayVec PricedKind} → ArePrices (Kinds group rows columns)
@@ -31,12 +31,14 @@ row_group {rows} are =
 pub column_group : {group : Group} {rows columns : ArrayVec PricedKind} → ArePrices (Kinds group rows columns)
     → IsGroup (column_name group) (price_count group) columns.items
 column_group {columns} are =
-    record { called = are.column_called; in_order = are.column_kinds; count = sym (length_of_kinds columns.items) ∙ are.columns }
+    let count = sym (length_of_kinds columns.items) ∙ are.columns in
+    record { called = are.column_called; in_order = are.column_kinds; count = count }
 
 pub few_prices_of : (group : Group) → price_count group ≤ 27
 few_prices_of group = grind arith
 
-pub few_of_group : {name : Name} (group : Group) {kinds : List PricedKind} → IsGroup name (price_count group) kinds → length kinds ≤ 27
+pub few_of_group : {name : Name} (group : Group) {kinds : List PricedKind} → IsGroup name (price_count group) kinds
+    → length kinds ≤ 27
 few_of_group group {kinds} is = omega (arith, is.count, few_kinds 0 kinds is.in_order, few_prices_of group)
 
 pub rows_counted : (prices : PriceParts) → ArePrices prices → counted (row_kinds prices) ≤ 27

@@ -28,7 +28,8 @@ module _ {X : Type 0} (place target : X → ℕ) where
       → count_by (wrong letters) xs ≤ count_by (wrong (set letters p l)) xs + 1
   set_lowers letters p l xs apart =
       let elsewhere =
-      counts_apart (wrong letters) (wrong (set letters p l)) (λ x. nat_eq p (place x)) (λ x. elim (eqb_tells p (place x)) [
+      counts_apart (wrong letters) (wrong (set letters p l)) (λ x. nat_eq p (place x))
+      (λ x. elim (eqb_tells p (place x)) [
         | inl here ↦ inr here.0
         | inr away ↦
             let same = set_other letters p (place x) l (λ e. away.1 (sym e)) in

@@ -54,7 +54,8 @@ by_number : (group : Group) (rows columns : List ℤ) {bytes rest : List ℕ}
 by_number group rows columns e d g h o = grind (arith, common_steps, two_lines)
 
 by_kind_lines : (group : Group) (rows columns : ArrayVec PricedKind) (rest : List ℕ)
-    → kinds_text rows.items ++ (kinds_text columns.items ++ rest) ≡ lines_text (price_lines (Kinds group rows columns)) ++ rest
+    → kinds_text rows.items ++ (kinds_text columns.items ++ rest)
+    ≡ lines_text (price_lines (Kinds group rows columns)) ++ rest
 by_kind_lines group rows columns rest = simp (text_by_kind, flat_map-append, append_assoc)
 
 all_said : (version : Version) (line : ℕ) {bytes : List ℕ} (x : PriceParts × List ℕ) → SaysAllPrices version line bytes (Ok x)
@@ -237,7 +238,8 @@ module _ (laws : Laws) where
       let second = group_begins columns.items rest (some_prices group) (column_group are) refl in
       Found (group, first.behind, first.rest) (first_says _ group first.behind first.rest first.has)
       (Found (rows.items, behind)
-      (group_says _ rows.items behind (row_group are) lines (AtOther (name_text (column_name group)) second (grind arith)))
+      (group_says _ rows.items behind (row_group are) lines
+      (AtOther (name_text (column_name group)) second (grind arith)))
       (Found (columns.items, rest) (group_says _ columns.items rest (column_group are) refl ends) refl))
 
   all_say : (prices : PriceParts) (line : ℕ) {bytes : List ℕ} (rest : List ℕ) → ArePrices prices

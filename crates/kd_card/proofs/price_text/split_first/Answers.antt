@@ -12,4 +12,5 @@ returns-in-Some c = Found tt (filled c.is_empty.ensures c.if-is_empty.false) c.i
 
 pub returns-in-None : goal.returns-in-None
 returns-in-None c =
-    Found tt (filled c.is_empty.ensures c.if-is_empty.false) ((λ found has. c.in-None.ensures found.0 found.1 has), refl)
+    Found tt (filled c.is_empty.ensures c.if-is_empty.false)
+    ((λ found has. c.in-None.ensures found.0 found.1 has), refl)

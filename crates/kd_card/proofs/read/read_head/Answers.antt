@@ -6,7 +6,8 @@ use Rattle.kd_card.proofs.read.read_head.Goals as goal
 pub returns-in_err-behind : goal.returns-in_err-behind
 returns-in_err-behind c =
     let laws : Laws = search rules in
-    rw c.from_residual.ensures (λ version day rest head. c.in_err-behind.ensures _ _ rest (head_has_words laws version day rest head))
+    rw c.from_residual.ensures (λ version day rest head.
+    c.in_err-behind.ensures _ _ rest (head_has_words laws version day rest head))
 
 pub returns-in_err-version : goal.returns-in_err-version
 returns-in_err-version c =

@@ -7,7 +7,8 @@ pub returns-in_default : goal.returns-in_default
 returns-in_default c =
     let laws : Laws = search rules in
     no_value c.args.signed c.args.name.now c.args.due.now c.args.line (λ value more form e.
-    c.in_default.ensures value [] more (value_line laws c.args.name.now value more c.requires (numeral_word c.args.signed value form) e))
+    let word = numeral_word c.args.signed value form in
+    c.in_default.ensures value [] more (value_line laws c.args.name.now value more c.requires word e))
 
 pub returns-then-not-is_numeral : goal.returns-then-not-is_numeral
 returns-then-not-is_numeral c =
