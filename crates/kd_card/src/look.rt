@@ -13,7 +13,7 @@ use kd_tables::{Letter, Place, Reading, Standing};
 type Ends = (Option<Letter>, Option<Letter>);
 
 /// What things are called in the lines of a card.
-#[derive(Clone, Copy)]
+#[derive(Clone, Copy, PartialEq, Eq)]
 pub(crate) enum Name {
     Cable,
     Pair,

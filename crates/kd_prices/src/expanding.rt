@@ -23,11 +23,9 @@ pub(crate) fn expanded(machine: &Machine, day: &SheetDay, prices: &Prices) -> Op
         (λ numbered. Expands machine.now day.now prices.now numbered) }
 {
     match prices.parts() {
-        PriceParts::Cables(cables, pairs) => Prices::cables(cables, pairs),
-        PriceParts::Bars(bars, rows) => Prices::bars(bars, rows),
-        PriceParts::CableKinds(..) | PriceParts::BarKinds(..) => {
-            expanded_kinds(machine, day, prices)
-        }
+        PriceParts::Cables(cables, pairs) => Prices::cables(*cables, *pairs),
+        PriceParts::Bars(bars, rows) => Prices::bars(*bars, *rows),
+        PriceParts::Kinds(..) => expanded_kinds(machine, day, prices),
     }
 }
 
@@ -42,11 +40,8 @@ fn expanded_kinds(machine: &Machine, day: &SheetDay, prices: &Prices) -> Option<
 {
     columns_are_the_pairs();
     let group = prices.group();
-    let rows = priced(row_looks(machine).as_slice(), prices.row_kinds().as_slice())?;
-    let columns = priced(
-        column_looks(day).as_slice(),
-        prices.column_kinds().as_slice(),
-    )?;
+    let rows = priced(row_looks(machine).as_slice(), prices.row_kinds())?;
+    let columns = priced(column_looks(day).as_slice(), prices.column_kinds())?;
     Some(Prices::numbered(group, rows.as_slice(), columns.as_slice()))
 }
 
