@@ -42,7 +42,7 @@ pub use Rattle.kd_card.specs.declared.prices.PriceParts.TheVariants.{Bars, Cable
 pub use Rattle.kd_card.specs.declared.prices.Version.{Version}
 pub use Rattle.kd_card.specs.declared.prices.Version.TheVariants.{ByKind, ByNumber}
 pub use Rattle.kd_enigma.specs.Plugs.{letters_plugged}
-pub use Rattle.kd_state.specs.Box.{numbered, place_in_box, same_reflector, same_wheel}
+pub use Rattle.kd_state.specs.ToldApart.{numbered, place_in_box, same_reflector, same_wheel}
 pub use Rattle.kd_state.specs.Costs.{bar_cost, cable_cost, column_letters, columns_of, cost_table, differ, loose_count, loose_letters, loose_pin_letters, loose_pins, loose_reflector, loose_rings, loose_slots, lugs_moved, unless_same}
 pub use Rattle.kd_state.specs.Laws.{DaysWheelsHaveTheirPlaces, LinesTellSettings, SettingsHaveWords, TestsTellLetters, ThirteenColumns}
 pub use Rattle.kd_state.specs.Line.{BeginsWith, BeginsWithLine, BeginsWithNoLine, IsInRange, list_text, setting_line, setting_words}

@@ -5,7 +5,7 @@ pub use Rattle.kd_card.specs.declared.prices.PriceParts.TheVariants.{Bars, Cable
 pub use Rattle.kd_plan.specs.CableWork.{cable_work, is_moved, work_beside, work_lines, work_setting}
 pub use Rattle.kd_plan.specs.Planned.{IsPlanned, besides, letters_apart, lies_apart, lines_from, lug_lines, lugs_to, pin_lines, pin_of, pin_turn_lines, pin_turn_of, planned_lines, pull_lines, put_lines, reflector_lines, ring_lines, ring_of_wheel, seat_lines, seat_of, table_size, target_of, turn_lines, turn_of, unless_so, wheel_pin_lines}
 pub use Rattle.kd_plan.specs.Told.{Told}
-pub use Rattle.kd_state.specs.Box.{has_reflector, has_wheel, numbered, place_in_box, same_reflector, same_wheel}
+pub use Rattle.kd_state.specs.ToldApart.{has_reflector, has_wheel, numbered, place_in_box, same_reflector, same_wheel}
 pub use Rattle.kd_state.specs.Costs.{bar_cost, bar_costs, cable_cost, cable_costs, column_letters, columns_of, cost_table, differ, lies_in_one, loose_count, loose_pins, loose_slots, lugs_moved, reads_as_row, unless_same}
 pub use Rattle.kd_state.specs.Machine.{AreAllowed, AreCables, AreOnWheels, HasAllPins, IsMachine, StandsAt, cable_letters, letter_at, letter_in, model_of, plugged_letters, ring_at, ring_in}
 pub use Rattle.kd_state.specs.Setting.{Leads, cable_with, cable_without, changed, has_letter, is_at, is_plugged, lug_place, why_refused, with_letter, with_lug, without}

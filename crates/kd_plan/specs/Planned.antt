@@ -18,7 +18,7 @@ use Rattle.kd_state.specs.declared.machine.parts.Parts.TheVariants.{Rotor, Pin}
 use Rattle.kd_state.specs.declared.sheet_day.rotor_entry.SheetWheel.{SheetWheel}
 use Rattle.kd_state.specs.declared.setting.Setting.{Setting}
 use Rattle.kd_state.specs.declared.setting.Setting.TheVariants.{Pull, Put, Seat, SeatReflector, RingTo, Turn, PinTo, LugTo}
-use Rattle.kd_state.specs.Box.{same_wheel, same_reflector}
+use Rattle.kd_state.specs.ToldApart.{same_wheel, same_reflector}
 use Rattle.kd_state.specs.Machine.{model_of, cable_letters, ring_at, letter_at}
 use Rattle.kd_state.specs.Setting.{has_letter, is_at, seated_in}
 use Rattle.kd_state.specs.SheetDay.{Day, OfRotors, OfPins, day_model}

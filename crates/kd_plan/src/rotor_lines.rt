@@ -3,7 +3,7 @@ ghost use Rattle.std.specs.Prelude.{◌≡◌, ◌+◌, ◌≤◌, ◌++◌, fal
 ghost use Rattle.std.specs.Option.{option_map_or};
 ghost use Rattle.arrayvec.specs.ArrayVec.{array_vec_len};
 ghost use Rattle.kd_state.specs.declared.machine.parts.Parts.TheVariants.{Rotor};
-ghost use Rattle.kd_state.specs.Box.{same_wheel, same_reflector};
+ghost use Rattle.kd_state.specs.ToldApart.{same_wheel, same_reflector};
 ghost use Rattle.kd_state.specs.Machine.{slot_in, ring_in, letter_in};
 ghost use Rattle.kd_plan.specs.Planned.{unless_so, seat_lines, reflector_lines, ring_lines, turn_lines};
 

@@ -2,7 +2,7 @@
 ghost use Rattle.std.specs.Prelude.{◌≡◌, ◌≤◌, length, nat_eq, false, not, zip, map, sum, count_by};
 ghost use Rattle.std.specs.Option.{option_map_or};
 ghost use Rattle.kd_pins.specs.PinWheels.{pins_of};
-ghost use Rattle.kd_state.specs.Box.{same_wheel, same_reflector};
+ghost use Rattle.kd_state.specs.ToldApart.{same_wheel, same_reflector};
 ghost use Rattle.kd_state.specs.Machine.{ring_in, letter_in};
 ghost use Rattle.kd_state.specs.SheetDay.{OfRotors, OfPins, IsLegalRotorDay};
 ghost use Rattle.kd_state.specs.Entry.{rotor_values, pin_values};

@@ -52,7 +52,7 @@ pub use Rattle.kd_state.proofs.Cables.{eqb_flips, new_tells, no_letter_twice}
 pub use Rattle.kd_state.proofs.Rings.{all_pins, are_on_wheels as on_all_wheels, has_letter-Decides}
 pub use Rattle.kd_state.proofs.Slots.{numbered_here, numbered_other}
 pub use Rattle.kd_state.proofs.Wheels.{has_reflector-Decides, has_wheel-Decides, same_wheel-Decides}
-pub use Rattle.kd_state.specs.Box.{has_reflector, numbered}
+pub use Rattle.kd_state.specs.ToldApart.{has_reflector, numbered}
 pub use Rattle.kd_state.specs.Machine.{AreAllowed, AreApart, AreCables, AreLetters, AreOnWheels, HasAllPins, IsLegalPin, IsLegalRotor, StandsAt, cable_letters, cables_ordered, ordered, plugged_letters}
 pub use Rattle.kd_state.specs.Pins.{pin_set}
 pub use Rattle.kd_state.specs.Setting.{are_new, has_letter}

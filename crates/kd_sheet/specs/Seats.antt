@@ -6,7 +6,7 @@ use Rattle.toml.specs.Data.{Data, Members, as_str}
 use Rattle.kd_tables.specs.Tables.{slots_of, wheels_for}
 use Rattle.kd_tables.specs.declared.model.Model.{Model}
 use Rattle.kd_tables.specs.declared.wheel.Wheel.{Wheel}
-use Rattle.kd_state.specs.Box.{same_wheel, has_wheel}
+use Rattle.kd_state.specs.ToldApart.{same_wheel, has_wheel}
 use Rattle.kd_sheet.specs.Document.{◌>>=◌, ◌>>◌, demand, each_at}
 use Rattle.kd_sheet.specs.Names.{wheel_by_name}
 use Rattle.kd_sheet.specs.declared.key.Key.{Key}

@@ -2,7 +2,7 @@
 use Rattle.std.specs.Prelude.{◌≡◌, ℕ, ◌==◌, List, length, map, find, Option, Some}
 use Rattle.std.specs.List.{range_with_len}
 use Rattle.std.specs.Option.{option_and_then}
-use Rattle.kd_state.specs.Box.{numbered}
+use Rattle.kd_state.specs.ToldApart.{numbered}
 use Rattle.kd_state.specs.SheetDay.{Day, day_number}
 
 -- for each number of a month, from 1 to 31, the day that has it

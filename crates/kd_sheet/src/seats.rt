@@ -2,7 +2,7 @@
 ghost use Rattle.std.specs.Prelude.{◌≡◌, ◌+◌, ◌<◌, length};
 ghost use Rattle.toml.specs.View.{table_view};
 ghost use Rattle.kd_tables.specs.Tables.{slots_of, wheels_for};
-ghost use Rattle.kd_state.specs.Box.{has_wheel};
+ghost use Rattle.kd_state.specs.ToldApart.{has_wheel};
 ghost use Rattle.kd_sheet.specs.Seats.{may_be_empty, is_seated, wheel_for, seat_for, seat_of_item, seats_in};
 
 use super::fault::SheetFault;

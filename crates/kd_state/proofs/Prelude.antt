@@ -1,7 +1,7 @@
 -- The words of other crates, and of this one's definitions, that its proofs speak of.
 pub use Rattle.kd_drum.specs.Converter.{OnWheels, PinKey, acts_after, bars_met, converter_cipher}
 pub use Rattle.kd_enigma.specs.Plugs.{NoLetterTwice, letters_plugged}
-pub use Rattle.kd_state.specs.Box.{has_reflector, has_wheel, numbered, place_in_box, same_reflector, same_wheel}
+pub use Rattle.kd_state.specs.ToldApart.{has_reflector, has_wheel, numbered, place_in_box, same_reflector, same_wheel}
 pub use Rattle.kd_state.specs.Changes.{Allows, IsKept, IsSeatOf, Makes, MovesLug, Seats, SetsOnly, TheBar, TheCable, TheLetter, ThePin, TheReflector, TheRing, TheShown, TheSlot, Thing, Turns, letters_in}
 pub use Rattle.kd_state.specs.Costs.{bar_cost, cable_cost, column_letters, columns_of, differ, lies_in_one}
 pub use Rattle.kd_state.specs.Laws.{AllowedWheelsLieInTheBox, CipherInTurn, ColumnsAreThePairs, CostTablesAreSquare, DaysWheelsHaveTheirPlaces, EngineIsTheMachine, EquallySetDecipher, KeyInTurn, ListsHaveNoFault, MachinesCanBeTurned, OnKeyIsItsCipher, OnKeyIsReady, OneListFault, PlacesTellWheels, ReadingIsItsCipher, ReadingIsReady, RefusalsAreTold, SettingsAreTold, SettingsKeepMachines, TellingIsMaking, TestsTellLetters, TextsTellLists, TheDayDeciphersItself, ThirteenColumns, TurnedEngineIsTheTurnedMachine, TurnedHasItsKey, TurnedHasTheDaysCipher, TurnedIsOnKey}

@@ -12,7 +12,7 @@ use Rattle.kd_state.specs.declared.setting.Setting.{Setting}
 use Rattle.kd_state.specs.declared.setting.Setting.TheVariants.{Seat, SeatReflector, RingTo}
 use Rattle.kd_state.specs.declared.setting.list.ListFault.{ListFault}
 use Rattle.kd_state.specs.declared.sheet_day.rotor_entry.SheetWheel.{SheetWheel}
-use Rattle.kd_state.specs.Box.{same_wheel, same_reflector, place_in_box}
+use Rattle.kd_state.specs.ToldApart.{same_wheel, same_reflector, place_in_box}
 use Rattle.kd_state.specs.Machine.{IsMachine}
 use Rattle.kd_state.specs.Setting.{has_letter, why_refused, Carries, Leads}
 use Rattle.kd_state.specs.Changes.{Makes, Allows}

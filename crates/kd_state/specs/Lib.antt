@@ -1,6 +1,6 @@
 pub mod Slots
 pub mod Wheels
-pub mod Box
+pub mod ToldApart
 pub mod Pins
 pub mod Machine
 pub mod Setting

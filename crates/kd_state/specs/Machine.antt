@@ -16,7 +16,7 @@ use Rattle.kd_state.specs.declared.machine.rotor_parts.RotorParts.{RotorParts}
 use Rattle.kd_state.specs.declared.machine.pin_parts.PinParts.{PinParts}
 use Rattle.kd_state.specs.declared.machine.parts.Parts.{Parts}
 use Rattle.kd_state.specs.declared.machine.parts.Parts.TheVariants.{Rotor, Pin}
-use Rattle.kd_state.specs.Box.{place_in_box, numbered}
+use Rattle.kd_state.specs.ToldApart.{place_in_box, numbered}
 
 -- the letters that lie in a cable
 abbrev pub cable_letters : Option ℕ × Option ℕ → List ℕ

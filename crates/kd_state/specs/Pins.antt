@@ -4,7 +4,7 @@ use Rattle.std.specs.Option.{option_and_then}
 use Rattle.kd_tables.specs.Rings.{ring_of, place_on}
 use Rattle.kd_pins.specs.declared.pin_set.PinSet.{PinSet}
 use Rattle.kd_pins.specs.PinWheels.{pins_of}
-use Rattle.kd_state.specs.Box.{numbered}
+use Rattle.kd_state.specs.ToldApart.{numbered}
 
 -- the pins of the wheel of that number, by its own order; none for another number
 abbrev pub wheel_pins : PinSet → ℕ → List Bool

@@ -18,7 +18,7 @@ use Rattle.kd_state.specs.declared.setting.Setting.{Setting}
 use Rattle.kd_state.specs.declared.setting.Setting.TheVariants.{Pull, Put, Seat, SeatReflector, RingTo, Turn, PinTo, LugTo}
 use Rattle.kd_state.specs.declared.setting.why.Why.{Why}
 use Rattle.kd_state.specs.declared.setting.why.Why.TheVariants.{OtherModel, NoSuchCable, NotThere, NoLooseEnd, SocketTaken, WheelNotAllowed, SlotEmpty, NotOnWheel, NoSuchBar, PlaceTaken, WouldPass}
-use Rattle.kd_state.specs.Box.{same_wheel, has_wheel, has_reflector, place_in_box, numbered}
+use Rattle.kd_state.specs.ToldApart.{same_wheel, has_wheel, has_reflector, place_in_box, numbered}
 use Rattle.kd_state.specs.Machine.{cable_letters, plugged_letters, ordered}
 
 -- the letter lies among these

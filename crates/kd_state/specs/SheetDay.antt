@@ -10,7 +10,7 @@ use Rattle.kd_tables.specs.Tables.{slots_of, reflectors_of}
 use Rattle.kd_pins.specs.declared.pin_set.PinSet.{PinSet}
 use Rattle.kd_enigma.specs.Plugs.{letters_plugged, NoLetterTwice}
 use Rattle.kd_state.specs.declared.sheet_day.rotor_entry.SheetWheel.{SheetWheel}
-use Rattle.kd_state.specs.Box.{numbered}
+use Rattle.kd_state.specs.ToldApart.{numbered}
 use Rattle.kd_state.specs.Machine.{AreAllowed, AreApart, AreLetters, AreOnWheels, HasAllPins}
 
 -- A day of a rotor model: its number, the model, the reflector, for each slot from the left a wheel with its ring and

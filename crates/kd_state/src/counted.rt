@@ -1,6 +1,6 @@
 //! Things that are counted from 1.
 ghost use Rattle.std.specs.Prelude.{◌≡◌, ◌-◌, ◌<◌, ◌≤◌, length, slice_set};
-ghost use Rattle.kd_state.specs.Box.{numbered};
+ghost use Rattle.kd_state.specs.ToldApart.{numbered};
 
 /// The thing of that number.
 pub(crate) fn numbered<T: Copy>(things: &[T], number: u8) -> Option<T>

@@ -1,6 +1,6 @@
 ghost use Rattle.std.specs.Prelude.{◌≡◌, length, slice_get};
 ghost use Rattle.kd_tables.specs.Tables.{box_of};
-ghost use Rattle.kd_state.specs.Box.{place_in_box};
+ghost use Rattle.kd_state.specs.ToldApart.{place_in_box};
 ghost use Rattle.kd_state.specs.Machine.{model_of, slot_in, reflector_in, ring_in, letter_in, cable_in, pin_in, shown_in, standing_in};
 
 use super::Machine;

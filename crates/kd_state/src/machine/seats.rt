@@ -2,7 +2,7 @@
 ghost use Rattle.std.specs.Prelude.{◌≡◌, ◌↔◌, ℕ, ◌≤◌, IsTrue, IfSome, Some, Contains, length};
 ghost use Rattle.std.specs.Option.{SomeIff};
 ghost use Rattle.kd_tables.specs.Tables.{box_of, slots_of, IsAllowed};
-ghost use Rattle.kd_state.specs.Box.{place_in_box};
+ghost use Rattle.kd_state.specs.ToldApart.{place_in_box};
 ghost use Rattle.kd_state.specs.Machine.{AreAllowed, AreApart, StandsAt};
 
 use crate::machine::per_slot::PerSlot;
