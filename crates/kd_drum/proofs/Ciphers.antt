@@ -1,5 +1,6 @@
 -- The Converter's cipher, letter by letter.
-use Rattle.std.proofs.Common.{zero, suc, add-one, ◌≡◌, ℕ, ◌+◌, ◌-◌, ◌%◌, ◌<◌, List, [], ◌∷◌, ◌++◌, length, map, get_or, set, take, drop, All, refl, sym, ap, ◌∙◌, arith, add-zero}
+use Rattle.std.proofs.Common.{zero, suc, add-one, ◌≡◌, ℕ, ◌+◌, ◌-◌, ◌%◌, ◌<◌, List, [], ◌∷◌, ◌++◌, length, map, get_or}
+use Rattle.std.proofs.Common.{set, take, drop, All, refl, sym, ap, ◌∙◌, arith, add-zero}
 use Rattle.std.specs.List.{enumerate_from}
 use Rattle.std.proofs.lemmas.List.Elements.{All-head, All-tail}
 use Rattle.kd_drum.specs.Converter.{PinKey, bars_met, converter_cipher, pin_key_after}
@@ -43,7 +44,8 @@ cipher-append sound key first rest =
     ∙ ap (λ ls. converter_cipher key first ++ ls) (ap (λ n. cipher_from key n rest) (omega arith) ∙ later sound key (length first) 0 rest)
 
 -- a letter more is enciphered, and the rest is so on the key that it leaves
-pub one_more : RingsAreSound → (key : PinKey) (text : List ℕ) (n d become : ℕ) → n < length text → converter_cipher key (get_or text n d ∷ []) ≡ become ∷ []
+pub one_more : RingsAreSound → (key : PinKey) (text : List ℕ) (n d become : ℕ) → n < length text
+    → converter_cipher key (get_or text n d ∷ []) ≡ become ∷ []
     → take n text ++ converter_cipher key (drop n text) ≡ take (n + 1) (set text n become) ++ converter_cipher (pin_key_after key 1) (drop (n + 1) (set text n become))
 one_more sound key [] n d become lt e = absurd (omega arith)
 one_more sound key (letter ∷ text) zero d become lt e = cipher-append sound key (letter ∷ []) text ∙ ap (λ l. l ++ converter_cipher (pin_key_after key 1) text) e

@@ -1,5 +1,6 @@
 -- Where the wheels stand after so many letters.
-use Rattle.std.proofs.Common.{◌≡◌, ℕ, ◌+◌, ◌-◌, ◌%◌, ◌<◌, ◌≤◌, Bool, ◌&&◌, ◌||◌, Option, unwrap_or, List, [], ◌∷◌, length, map, slice_index, count_by, refl, sym, ap, ◌∙◌, arith, leb}
+use Rattle.std.proofs.Common.{◌≡◌, ℕ, ◌+◌, ◌-◌, ◌%◌, ◌<◌, ◌≤◌, Bool, ◌&&◌, ◌||◌, Option, unwrap_or, List, [], ◌∷◌}
+use Rattle.std.proofs.Common.{length, map, slice_index, count_by, refl, sym, ap, ◌∙◌, arith, leb}
 use Rattle.std.proofs.lemmas.Bool.Decides.{nat_tests}
 use Rattle.std.proofs.lemmas.List.{ext_get_or}
 use Rattle.std.proofs.lemmas.List.FromFn.{get_or-map-range_with_len}
@@ -45,7 +46,8 @@ key_after_sum sound key m n =
     ∙ sym (get_or-map-range_with_len whole 1 6 i (1 + i) 0 lt refl)))
 
 -- tests of the six wheels are alike where they are of each of the six
-alike_on_wheels : (wheel : ℕ) (x y : Bool) → (1 ≤ wheel → wheel ≤ 6 → x ≡ y) → ((leb 1 wheel && leb wheel 6) && x) ≡ ((leb 1 wheel && leb wheel 6) && y)
+alike_on_wheels : (wheel : ℕ) (x y : Bool) → (1 ≤ wheel → wheel ≤ 6 → x ≡ y)
+    → ((leb 1 wheel && leb wheel 6) && x) ≡ ((leb 1 wheel && leb wheel 6) && y)
 alike_on_wheels wheel x y same = grind (arith, nat_tests, same)
 
 pub acts_after_sum : RingsAreSound → (key : PinKey) (m i wheel : ℕ) → acts_after (pin_key_after key m) i wheel ≡ acts_after key (m + i) wheel

@@ -1,7 +1,10 @@
 -- What cables do to the letters, pair by pair.
-use Rattle.std.proofs.Common.{◌≡◌, ◌≢◌, ◌⊎◌, ◌↔◌, append_assoc, inl, inr, ℕ, zero, suc, ◌<◌, Bool, true, false, not, ◌&&◌, List, [], ◌∷◌, ◌++◌, All, Contains, eqb, length, get_or, set, slice_index, refl, sym, ap, ◌∙◌, arith, rules}
+use Rattle.std.proofs.Common.{◌≡◌, ◌≢◌, ◌⊎◌, ◌↔◌, append_assoc, inl, inr, ℕ, zero, suc, ◌<◌, Bool, true, false, not}
+use Rattle.std.proofs.Common.{◌&&◌, List, [], ◌∷◌, ◌++◌, All, Contains, eqb, length, get_or, set, slice_index, refl}
+use Rattle.std.proofs.Common.{sym, ap, ◌∙◌, arith, rules}
 use Rattle.std.specs.List.{IsDistinct, list_any}
-use Rattle.std.proofs.lemmas.Bool.{and_parts, cases_Bool, cases_eq, eq-eqb, eqb-true, ne_eqb, false_from_ne_true, false≢true, not-true}
+use Rattle.std.proofs.lemmas.Bool.{and_parts, cases_Bool, cases_eq, eq-eqb, eqb-true, ne_eqb, false_from_ne_true}
+use Rattle.std.proofs.lemmas.Bool.{false≢true, not-true}
 use Rattle.std.proofs.lemmas.Bool.Decides.{nat_tests}
 use Rattle.std.proofs.lemmas.Grind.{common_steps, flat_map-append}
 use Rattle.std.proofs.lemmas.List.Elements.{All-from_recursion, recursion_from_All, All-nil, All-cons}
@@ -107,7 +110,8 @@ pub exchanged_by : (pairs : List (ℕ × ℕ)) (x y : ℕ) → AreApart pairs �
 exchanged_by pairs x y h (inl j) = joined pairs x y h j
 exchanged_by pairs x y h (inr left) = search (rules, exchanged_free, false_from_ne_true, Any-from_list_any, eqb-true)
 
-pub exchanged_alike : (ps qs : List (ℕ × ℕ)) (x : ℕ) → AreApart ps → AreApart qs → ((y : ℕ) → Joins ps x y ↔ Joins qs x y) → exchanged ps x ≡ exchanged qs x
+pub exchanged_alike : (ps qs : List (ℕ × ℕ)) (x : ℕ) → AreApart ps → AreApart qs
+    → ((y : ℕ) → Joins ps x y ↔ Joins qs x y) → exchanged ps x ≡ exchanged qs x
 exchanged_alike ps qs x hp hq same = elim (exchanges ps x (exchanged ps x) refl) [
   | inl there ↦ sym (joined qs x (exchanged ps x) hq ((same (exchanged ps x)).0 there))
   | inr free ↦ elim (exchanges qs x (exchanged qs x) refl) [
@@ -161,10 +165,12 @@ unfolding exchange
 is_plugged_none table e = grind (arith, map-id, All-nil)
 
 -- a letter that the table leaves, lies in none of the pairs
-left_free : (pairs : List (ℕ × ℕ)) (x : ℕ) → AreApart pairs → x < 26 → slice_index (exchange pairs) x ≡ x → lies_in x pairs ≡ false
+left_free : (pairs : List (ℕ × ℕ)) (x : ℕ) → AreApart pairs → x < 26 → slice_index (exchange pairs) x ≡ x
+    → lies_in x pairs ≡ false
 left_free pairs x apart lt left = grind (arith, false_from_ne_true, exchanged_moves, exchange-at)
 
-pub is_plugged_more : (table after : List ℕ) (pairs : List (ℕ × ℕ)) (pair : ℕ × ℕ) → IsPlugged table pairs → (pair.0 ≢ pair.1) × IsLeft table pair.0 × IsLeft table pair.1
+pub is_plugged_more : (table after : List ℕ) (pairs : List (ℕ × ℕ)) (pair : ℕ × ℕ) → IsPlugged table pairs
+    → (pair.0 ≢ pair.1) × IsLeft table pair.0 × IsLeft table pair.1
     → pair.0 < 26 → pair.1 < 26 → after ≡ set (set table pair.0 pair.1) pair.1 pair.0 → IsPlugged after (pair ∷ pairs)
 is_plugged_more table after pairs pair h can one_lt other_lt e =
     let once = set (exchange pairs) pair.0 pair.1 in
@@ -182,14 +188,17 @@ is_plugged_more table after pairs pair h can one_lt other_lt e =
     }
 
 -- where no letter lies twice, each pair can be plugged in in its turn
-pub can_plug : (table : List ℕ) (front pairs : List (ℕ × ℕ)) (pair : ℕ × ℕ) → IsPlugged table pairs → NoLetterTwice (front ++ pair ∷ pairs) → pair.0 < 26 → pair.1 < 26
+pub can_plug : (table : List ℕ) (front pairs : List (ℕ × ℕ)) (pair : ℕ × ℕ) → IsPlugged table pairs
+    → NoLetterTwice (front ++ pair ∷ pairs) → pair.0 < 26 → pair.1 < 26
     → (pair.0 ≢ pair.1) × IsLeft table pair.0 × IsLeft table pair.1
 can_plug table front pairs pair h once one_lt other_lt =
     grind (arith, differ_rest, flat_map-append, differ_of, exchange-at, exchanged_free)
 
 -- the last pair of those that are left stands before those plugged in
-pub cut : (pairs left front done : List (ℕ × ℕ)) (pair : ℕ × ℕ) → pairs ≡ left ++ done → left ≡ front ++ pair ∷ [] → pairs ≡ front ++ pair ∷ done
+pub cut : (pairs left front done : List (ℕ × ℕ)) (pair : ℕ × ℕ) → pairs ≡ left ++ done → left ≡ front ++ pair ∷ []
+    → pairs ≡ front ++ pair ∷ done
 cut pairs left front done pair e d = grind (arith, append_assoc)
 
-pub none_left : (board : List ℕ) (pairs left done : List (ℕ × ℕ)) → length left ≡ 0 → pairs ≡ left ++ done → IsPlugged board done → IsPlugged board pairs
+pub none_left : (board : List ℕ) (pairs left done : List (ℕ × ℕ)) → length left ≡ 0 → pairs ≡ left ++ done
+    → IsPlugged board done → IsPlugged board pairs
 none_left board pairs left done e d g = grind (arith, common_steps, board)

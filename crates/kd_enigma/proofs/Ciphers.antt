@@ -1,5 +1,6 @@
 -- The cipher, letter by letter.
-use Rattle.std.proofs.Common.{zero, ◌≡◌, ℕ, suc, ◌+◌, ◌<◌, List, [], ◌∷◌, ◌++◌, length, map, get_or, set, take, drop, slice_index, All, refl, sym, ap, ◌∙◌, arith, add-zero, add-one, add-suc, rules}
+use Rattle.std.proofs.Common.{zero, ◌≡◌, ℕ, suc, ◌+◌, ◌<◌, List, [], ◌∷◌, ◌++◌, length, map, get_or, set, take, drop}
+use Rattle.std.proofs.Common.{slice_index, All, refl, sym, ap, ◌∙◌, arith, add-zero, add-one, add-suc, rules}
 use Rattle.std.proofs.lemmas.List.Elements.{All-head, All-tail}
 use Rattle.std.specs.List.{enumerate_from}
 use Rattle.kd_tables.specs.declared.wheel.Wheel.{Wheel}
@@ -53,7 +54,8 @@ cipher-append key first rest =
     append_from key 1 first rest ∙ ap (λ ls. enigma_cipher key first ++ ls) (ap (λ n. cipher_from key n rest) (omega arith) ∙ later key (length first) 1 rest)
 
 -- a letter more is enciphered, and the rest is so on the key that it leaves
-pub one_more : (key : RotorKey) (text : List ℕ) (n d light : ℕ) → n < length text → enigma_cipher key (get_or text n d ∷ []) ≡ light ∷ []
+pub one_more : (key : RotorKey) (text : List ℕ) (n d light : ℕ) → n < length text
+    → enigma_cipher key (get_or text n d ∷ []) ≡ light ∷ []
     → take n text ++ enigma_cipher key (drop n text) ≡ take (n + 1) (set text n light) ++ enigma_cipher (key_after key 1) (drop (n + 1) (set text n light))
 one_more key [] n d light lt e = absurd (omega arith)
 one_more key (letter ∷ text) zero d light lt e = cipher-append key (letter ∷ []) text ∙ ap (λ l. l ++ enigma_cipher (key_after key 1) text) e

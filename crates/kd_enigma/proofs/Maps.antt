@@ -1,5 +1,6 @@
 -- Maps as they lie in 32 lanes.
-use Rattle.std.proofs.Common.{◌≡◌, ℕ, ◌-◌, ◌<◌, ◌≤◌, List, ◌++◌, length, take, map, get_or, slice_index, w8, inl, inr, refl, sym, ap, ◌∙◌, arith, length-append, rules}
+use Rattle.std.proofs.Common.{◌≡◌, ℕ, ◌-◌, ◌<◌, ◌≤◌, List, ◌++◌, length, take, map, get_or, slice_index, w8, inl, inr}
+use Rattle.std.proofs.Common.{refl, sym, ap, ◌∙◌, arith, length-append, rules}
 use Rattle.std.proofs.lemmas.Bool.{cases_lt}
 use Rattle.std.proofs.lemmas.List.{ext_get_or, get_or-take, get_or_append_left, get_or-append_right, length-take-le}
 use Rattle.std.proofs.lemmas.List.FromFn.{get_or-range_with_len, get_or-map-range_with_len}
@@ -27,7 +28,8 @@ lanes_of lanes size letters still =
       ]);
     }
 
-pub told_front : (lanes table : List ℕ) → length lanes ≡ 32 → length table ≡ 26 → ((k : ℕ) → k < 26 → slice_index lanes k ≡ slice_index table k) → take 26 lanes ≡ table
+pub told_front : (lanes table : List ℕ) → length lanes ≡ 32 → length table ≡ 26
+    → ((k : ℕ) → k < 26 → slice_index lanes k ≡ slice_index table k) → take 26 lanes ≡ table
 told_front lanes table size front each =
     let long = length-take-le 26 lanes (omega arith) in
     ext_get_or 0 (take 26 lanes) table (long ∙ sym front) (λ k lt. get_or-take 26 lanes k 0 (omega arith) ∙ each k (omega arith))

@@ -1,5 +1,6 @@
 -- The way around through the wheels as they sit, slot by slot, and the path that it makes.
-use Rattle.std.proofs.Common.{◌≡◌, ℕ, zero, suc, ◌+◌, ◌-◌, ◌<◌, if◌then◌else◌, ltb, List, [], ◌∷◌, length, take, get_or, refl, ap, ◌∙◌, arith, rules}
+use Rattle.std.proofs.Common.{◌≡◌, ℕ, zero, suc, ◌+◌, ◌-◌, ◌<◌, if◌then◌else◌, ltb, List, [], ◌∷◌, length, take, get_or}
+use Rattle.std.proofs.Common.{refl, ap, ◌∙◌, arith, rules}
 use Rattle.std.proofs.lemmas.List.{take_all}
 use Rattle.std.proofs.lemmas.Bool.Decides.{nat_tests}
 use Rattle.kd_tables.specs.Permutation.{alphabet, followed_by, shift, IsPermutation26}
@@ -10,7 +11,8 @@ use Rattle.kd_enigma.specs.Cipher.{RotorKey, IsPlugboard, rotors}
 use Rattle.kd_enigma.specs.Rotor.{rotor}
 use Rattle.kd_enigma.specs.Sound.{TablesAreSound}
 use Rattle.kd_enigma.specs.Wired.{IsWired, seats, slow}
-use Rattle.kd_enigma.proofs.Ways.{Exchanges, enclosed, nested, grouped, product-size, nothing_before, nothing_after, rotor_permutes, reflectors_exchange, wheel_exchanges, path_is}
+use Rattle.kd_enigma.proofs.Ways.{Exchanges, enclosed, nested, grouped, product-size, nothing_before, nothing_after}
+use Rattle.kd_enigma.proofs.Ways.{rotor_permutes, reflectors_exchange, wheel_exchanges, path_is}
 
 -- one wheel more around the core
 pub around_more : (core : List ℕ) (seated : List SeatedWheel) (window : List ℕ) (slot : ℕ) (s : SeatedWheel) (letter : ℕ) → slot < length seated → length seated ≡ length window
@@ -26,8 +28,10 @@ abbrev pub SitsAt : List ℕ → List Wheel → List ℕ → ℕ → SeatedWheel
 SitsAt plugs wheels rings slot s =
     (s.wheel ≡ get_or wheels slot s.wheel) × (s.ring ≡ get_or rings slot s.ring) × (s.board ≡ (if ltb (slot + 1) (length wheels) then alphabet else plugs))
 
-pub are_seats : (plugs : List ℕ) (seated : List SeatedWheel) (wheels : List Wheel) (rings : List ℕ) → length seated ≡ length wheels → length rings ≡ length wheels
-    → ((slot : ℕ) (s : SeatedWheel) → slot < length wheels → SitsAt plugs wheels rings slot (get_or seated slot s)) → seated ≡ seats plugs wheels rings
+pub are_seats : (plugs : List ℕ) (seated : List SeatedWheel) (wheels : List Wheel) (rings : List ℕ)
+    → length seated ≡ length wheels → length rings ≡ length wheels
+    → ((slot : ℕ) (s : SeatedWheel) → slot < length wheels → SitsAt plugs wheels rings slot (get_or seated slot s))
+    → seated ≡ seats plugs wheels rings
 are_seats plugs [] [] [] long slots each = refl
 are_seats plugs (s ∷ []) (wheel ∷ []) (ring ∷ []) long slots each = grind (arith, nat_tests, each 0 s)
 are_seats plugs (s ∷ t ∷ seated) (wheel ∷ next ∷ wheels) (ring ∷ rings) long slots each =
@@ -53,8 +57,10 @@ module _ (sound : TablesAreSound) where
       board_last alphabet core wheel ring letter (sound.laws.shifts 0) k
       ∙ nothing_before (followed_by e alphabet) (product-size e alphabet ∙ inner.size) ∙ nothing_after e inner
 
-  around_seats : (plugs core : List ℕ) (wheels : List Wheel) (rings window : List ℕ) → IsPermutation26 plugs → Exchanges core → 0 < length wheels → length rings ≡ length wheels
-      → length window ≡ length wheels → around core (seats plugs wheels rings) window ≡ followed_by plugs (followed_by (nested core (rotors wheels rings window)) plugs)
+  around_seats : (plugs core : List ℕ) (wheels : List Wheel) (rings window : List ℕ) → IsPermutation26 plugs
+      → Exchanges core → 0 < length wheels → length rings ≡ length wheels
+      → length window ≡ length wheels
+      → around core (seats plugs wheels rings) window ≡ followed_by plugs (followed_by (nested core (rotors wheels rings window)) plugs)
   unfolding rotors
   around_seats plugs core (wheel ∷ []) (ring ∷ []) (letter ∷ []) h k some slots shown = board_last plugs core wheel ring letter h k
   around_seats plugs core (wheel ∷ next ∷ wheels) (ring ∷ rings) (letter ∷ window) h k some slots shown =
@@ -64,8 +70,10 @@ module _ (sound : TablesAreSound) where
 
   -- so the path is made of the way around through the slow wheels
   pub wired : (key : RotorKey) (seated : List SeatedWheel) (reflecting inner whole : List ℕ) (s : SeatedWheel) (shown size d : ℕ) → seated ≡ seats key.plugs key.wheels key.rings → IsPlugboard key.plugs
-      → reflecting ≡ reflector_of key.reflector → inner ≡ around reflecting (slow seated) (slow key.window) → length seated ≡ size → length key.wheels ≡ size → length key.rings ≡ size
-      → length key.window ≡ size → 0 < size → s ≡ get_or seated (size - 1) s → shown ≡ get_or key.window (size - 1) d → whole ≡ boarded s.board inner (rotor s.wheel s.ring shown)
+      → reflecting ≡ reflector_of key.reflector → inner ≡ around reflecting (slow seated) (slow key.window)
+      → length seated ≡ size → length key.wheels ≡ size → length key.rings ≡ size
+      → length key.window ≡ size → 0 < size → s ≡ get_or seated (size - 1) s → shown ≡ get_or key.window (size - 1) d
+      → whole ≡ boarded s.board inner (rotor s.wheel s.ring shown)
       → IsWired key seated reflecting inner whole
   wired key seated reflecting inner whole s shown size d sit board is_reflecting is_inner long wheels rings window some is_s is_shown made =
       search (rules, around, take_all, around_more, board, around_seats, reflectors_exchange, path_is, key)

@@ -1,5 +1,6 @@
 -- The way in through wheels, through what lies behind them, and back.
-use Rattle.std.proofs.Common.{◌≡◌, ◌≢◌, ℕ, ◌<◌, List, [], ◌∷◌, ◌++◌, map, reverse, slice_index, All, length, refl, sym, ap, ◌∙◌, subst, arith, rules, append_assoc}
+use Rattle.std.proofs.Common.{◌≡◌, ◌≢◌, ℕ, ◌<◌, List, [], ◌∷◌, ◌++◌, map, reverse, slice_index, All, length, refl, sym}
+use Rattle.std.proofs.Common.{ap, ◌∙◌, subst, arith, rules, append_assoc}
 use Rattle.std.specs.List.{AllByRecursion}
 use Rattle.std.proofs.lemmas.List.{ext_get_or, get_or-map, length-map, reverse-append}
 use Rattle.std.proofs.lemmas.List.FromFn.{get_or-range_with_len}
@@ -34,11 +35,13 @@ unfolding followed_by
 product-at p q x size lt = get_or-map (slice_index q) p x 0 0 (omega arith)
 
 -- maps are told by what they make of each letter
-same_maps : (p q : List ℕ) → length p ≡ 26 → length q ≡ 26 → ((x : ℕ) → x < 26 → slice_index p x ≡ slice_index q x) → p ≡ q
+same_maps : (p q : List ℕ) → length p ≡ 26 → length q ≡ 26 → ((x : ℕ) → x < 26 → slice_index p x ≡ slice_index q x)
+    → p ≡ q
 same_maps p q long also each = ext_get_or 0 p q (omega arith) (λ x lt. each x (omega arith))
 
 -- three maps one after the other, the first two or the last two taken together
-pub grouped : (p q r : List ℕ) → IsPermutation26 p → length q ≡ 26 → followed_by (followed_by p q) r ≡ followed_by p (followed_by q r)
+pub grouped : (p q r : List ℕ) → IsPermutation26 p → length q ≡ 26
+    → followed_by (followed_by p q) r ≡ followed_by p (followed_by q r)
 grouped p q r h size = grind (arith, same_maps, product-size, product-at)
 
 -- what leaves each letter, before or after a map
@@ -87,7 +90,8 @@ boards_undo plugs board =
     record { in_permutes = board.permutation; out_permutes = board.permutation; out = back; into = back }
 
 -- in by the one, through what exchanges letters, and back by the other
-conjugate : PermutationLaws → (there core back : List ℕ) → Undo there back → Exchanges core → Exchanges (followed_by there (followed_by core back))
+conjugate : PermutationLaws → (there core back : List ℕ) → Undo there back → Exchanges core
+    → Exchanges (followed_by there (followed_by core back))
 conjugate laws there core back undo h =
     let in_lt = undo.in_permutes.each_once.within in
     let at : (x : ℕ) → x < 26 → slice_index (followed_by there (followed_by core back)) x ≡ slice_index back (slice_index core (slice_index there x)) =
@@ -114,7 +118,8 @@ pub rotor_permutes : TablesAreSound → (wheel : Wheel) (ring letter : ℕ) → 
 unfolding turned
 rotor_permutes sound wheel ring letter = grind (arith, sound.laws.products, sound.laws.shifts, sound.wiring)
 
-rotors_permute : TablesAreSound → (wheels : List Wheel) (rings window : List ℕ) → AllByRecursion IsPermutation26 (rotors wheels rings window)
+rotors_permute : TablesAreSound → (wheels : List Wheel) (rings window : List ℕ)
+    → AllByRecursion IsPermutation26 (rotors wheels rings window)
 unfolding rotors
 rotors_permute sound (wheel ∷ wheels) (ring ∷ rings) (letter ∷ window) = (rotor_permutes sound wheel ring letter, rotors_permute sound wheels rings window)
 rotors_permute sound [] rings window = tt
@@ -124,10 +129,12 @@ rotors_permute sound wheels rings [] = tt
 encloses : PermutationLaws → (core w : List ℕ) → IsPermutation26 w → Exchanges core → Exchanges (enclosed core w)
 encloses laws core w h k = conjugate laws w core (inverse w) (wheels_undo laws w h) k
 
-pub wheel_exchanges : TablesAreSound → (core : List ℕ) (wheel : Wheel) (ring letter : ℕ) → Exchanges core → Exchanges (enclosed core (rotor wheel ring letter))
+pub wheel_exchanges : TablesAreSound → (core : List ℕ) (wheel : Wheel) (ring letter : ℕ) → Exchanges core
+    → Exchanges (enclosed core (rotor wheel ring letter))
 wheel_exchanges sound core wheel ring letter k = encloses sound.laws core (rotor wheel ring letter) (rotor_permutes sound wheel ring letter) k
 
-nested_exchanges : PermutationLaws → (core : List ℕ) (ws : List (List ℕ)) → AllByRecursion IsPermutation26 ws → Exchanges core → Exchanges (nested core ws)
+nested_exchanges : PermutationLaws → (core : List ℕ) (ws : List (List ℕ)) → AllByRecursion IsPermutation26 ws
+    → Exchanges core → Exchanges (nested core ws)
 nested_exchanges laws core [] h k = k
 nested_exchanges laws core (w ∷ ws) h k = nested_exchanges laws (enclosed core w) ws h.1 (encloses laws core w h.0 k)
 
@@ -137,7 +144,8 @@ unfolding product
 behind [] ps qs e = e
 behind (x ∷ xs) ps qs e = ap (followed_by x) (behind xs ps qs e)
 
-product_around : PermutationLaws → (core : List ℕ) (ws : List (List ℕ)) (rest : List (List ℕ)) → AllByRecursion IsPermutation26 ws → Exchanges core
+product_around : PermutationLaws → (core : List ℕ) (ws : List (List ℕ)) (rest : List (List ℕ))
+    → AllByRecursion IsPermutation26 ws → Exchanges core
     → product (reverse ws ++ (core ∷ map inverse ws ++ rest)) ≡ followed_by (nested core ws) (product rest)
 unfolding product
 product_around laws core [] rest h k = refl
@@ -156,6 +164,7 @@ unfolding path product
 path_is sound key window board =
     grind (arith, append_assoc, product_around, rotors_permute, reflectors_exchange, nothing_after)
 
-pub path_exchanges : TablesAreSound → (key : RotorKey) (window : List ℕ) → IsPlugboard key.plugs → Exchanges (path key window)
+pub path_exchanges : TablesAreSound → (key : RotorKey) (window : List ℕ) → IsPlugboard key.plugs
+    → Exchanges (path key window)
 path_exchanges sound key window board =
     search (rules, nested_exchanges, rotors_permute, reflectors_exchange, path_is, key, board, conjugate, boards_undo)

@@ -1,5 +1,7 @@
 -- The letters in the cables, and cables that are a day's pairs.
-use Rattle.std.proofs.Common.{◌≡◌, ◌↔◌, get_or, ℕ, zero, suc, ◌+◌, ◌<◌, nat_eq, true, false, not, ◌&&◌, List, [], ◌∷◌, ◌++◌, length, map, set, drop, Option, Some, None, slice_get, refl, sym, subst, arith, ◌≢◌, ◌⊎◌, All, Any, Contains, inl, inr, ap, ◌∙◌, filter_map, rules}
+use Rattle.std.proofs.Common.{◌≡◌, ◌↔◌, get_or, ℕ, zero, suc, ◌+◌, ◌<◌, nat_eq, true, false, not, ◌&&◌, List, [], ◌∷◌}
+use Rattle.std.proofs.Common.{◌++◌, length, map, set, drop, Option, Some, None, slice_get, refl, sym, subst, arith, ◌≢◌}
+use Rattle.std.proofs.Common.{◌⊎◌, All, Any, Contains, inl, inr, ap, ◌∙◌, filter_map, rules}
 use Rattle.kd_state.proofs.Prelude.{AllByRecursion, is_none, true≢false, cond_both, eq-eqb, or_parts, or_from}
 use Rattle.kd_state.proofs.Prelude.{leb-false, le-leb, and_parts, and_from, not-true, nat_tests, append_assoc}
 use Rattle.kd_state.proofs.Prelude.{drop_more, IsPermutation-refl, IsPermutation-trans, IsPermutation-append_comm}

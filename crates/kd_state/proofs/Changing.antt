@@ -2,7 +2,8 @@
 use Rattle.std.proofs.lemmas.Grind.{common_steps}
 use Rattle.std.proofs.Common.{◌≡◌, ◌≢◌, ◌⊎◌, ◌↔◌, ℕ, zero, suc, ◌+◌, ◌-◌, ◌<◌, ◌≤◌, nat_eq, Bool, true, false, List, [], ◌∷◌, length, map, set, find, All, Contains, Option, Some, None, slice_get, refl, sym, ap, ◌∙◌, inl, inr, subst, arith, rules}
 use Rattle.kd_state.proofs.Prelude.{AllByRecursion, is_none, option_map, option_map_or, option_or, option_and_then}
-use Rattle.kd_state.proofs.Prelude.{AreAllowed, AreApart, AreOnWheels, true≢false, unwrap_or, cases_eq, cases_Bool, both_ways, not-false, eqb-false}
+use Rattle.kd_state.proofs.Prelude.{AreAllowed, AreApart, AreOnWheels, true≢false, unwrap_or, cases_eq, cases_Bool}
+use Rattle.kd_state.proofs.Prelude.{both_ways, not-false, eqb-false}
 use Rattle.kd_state.proofs.Prelude.{true_from_ne_false, length-set, map-set, length-map, All-set, All-tail, All-cons}
 use Rattle.kd_state.proofs.Prelude.{All-contains, All-from_recursion, Contains-append_left, Contains-append_right}
 use Rattle.kd_state.proofs.Prelude.{Contains-append_cases, position-Some, All-permutation, Contains-permutation}
@@ -23,8 +24,10 @@ use Rattle.std.proofs.lemmas.Map.Keys.{IsDistinct-IsPermutation, IsDistinct-head
 use Rattle.kd_tables.specs.Rings.{ring_of}
 use Rattle.kd_pins.specs.declared.pin_set.PinSet.{PinSet}
 use Rattle.kd_pins.specs.PinWheels.{pins_of}
-use Rattle.kd_state.proofs.Cables.{all_ordered, all_ordered_move, all_ordered_again, ordered_again, without_ordered, without_moves, with_moves, set_moves, eqb_flips, free_tells, of_one}
-use Rattle.kd_state.proofs.Slots.{has_letter-Decides, place_there, only_place, stands, set_here, set_other, numbered_here, numbered_other, seated_in_box}
+use Rattle.kd_state.proofs.Cables.{all_ordered, all_ordered_move, all_ordered_again, ordered_again, without_ordered}
+use Rattle.kd_state.proofs.Cables.{without_moves, with_moves, set_moves, eqb_flips, free_tells, of_one}
+use Rattle.kd_state.proofs.Slots.{has_letter-Decides, place_there, only_place, stands, set_here, set_other}
+use Rattle.kd_state.proofs.Slots.{numbered_here, numbered_other, seated_in_box}
 use Rattle.kd_state.proofs.Wheels.{places_tell_wheels, has_wheel-Decides, has_reflector-Decides, same_wheel-Decides, same_wheel_self, same_wheel_differs, placed, place_within, place_nowhere}
 
 -- ---- reasons, and machines that differ in one thing
@@ -176,7 +179,8 @@ would_pass m bar lug place standing here apart not_before = grind (arith, true_f
 
 -- ---- each setting
 
-carried : (m : Parts) (x : Setting) → IsMachine m → AllByRecursion (λ reason. reason.0 ≡ false) (reasons m x) → IsCarried m x
+carried : (m : Parts) (x : Setting) → IsMachine m → AllByRecursion (λ reason. reason.0 ≡ false) (reasons m x)
+    → IsCarried m x
 carried (Rotor m) (Pull cable letter) h allowed =
     let old = cable_at m cable in
     let new = cable_without letter old in

@@ -1,6 +1,8 @@
 -- Lines: words are told by them, a text's part before a byte by the text, and settings by the words of their lines.
 use Rattle.std.proofs.lemmas.Grind.{common_steps}
-use Rattle.std.proofs.Common.{◌≡◌, ◌≢◌, ℕ, ◌^◌, ◌<◌, Bool, true, false, eqb, ltb, List, [], ◌∷◌, ◌++◌, length, map, get_or, Bor, Some, None, MatchOption, Result, Ok, MatchResult, Decides, refl, sym, ap, ◌∙◌, append_assoc, length-append, arith, rules, ◌+◌, ◌*◌, ◌≤◌, Option}
+use Rattle.std.proofs.Common.{◌≡◌, ◌≢◌, ℕ, ◌^◌, ◌<◌, Bool, true, false, eqb, ltb, List, [], ◌∷◌, ◌++◌, length, map}
+use Rattle.std.proofs.Common.{get_or, Bor, Some, None, MatchOption, Result, Ok, MatchResult, Decides, refl, sym, ap}
+use Rattle.std.proofs.Common.{◌∙◌, append_assoc, length-append, arith, rules, ◌+◌, ◌*◌, ◌≤◌, Option}
 use Rattle.kd_state.proofs.Prelude.{eqb-true, then_some, All, AllByRecursion, list_all, slice_split}
 use Rattle.kd_state.proofs.Prelude.{AllPass-from_list_all, ltb-true, ne_eqb, eq-eqb, false≢true, decimal_nonempty}
 use Rattle.kd_state.proofs.Prelude.{digits_decimal, IsAscii-decimal, parse-decimal, All-nil, All-cons, All-append}
@@ -18,7 +20,9 @@ use Rattle.std.specs.Fmt.{decimal}
 use Rattle.std.specs.Int.{IsInRange as IsFigure}
 use Rattle.std.proofs.lemmas.List.Splits.{length-slice_split, slice_split_none, slice_split_at, join_with_byte-slice_split}
 use Rattle.std.proofs.lemmas.Str.Parse.{IsNumeralModel, numerals_by_value, tells_by_index}
-use Rattle.kd_state.specs.Words.{words_of, line_of, IsWithout, IsWord, IsFirstPart, LinesTellWords, LinesSplitIntoWords, PartsMakeLines, WordsMakeOneLine, TextsTellFirstParts, NumbersAreWords, LettersAreWords, letter_text}
+use Rattle.kd_state.specs.Words.{words_of, line_of, IsWithout, IsWord, IsFirstPart, LinesTellWords, LinesSplitIntoWords}
+use Rattle.kd_state.specs.Words.{PartsMakeLines, WordsMakeOneLine, TextsTellFirstParts, NumbersAreWords}
+use Rattle.kd_state.specs.Words.{LettersAreWords, letter_text}
 use Rattle.kd_tables.specs.declared.reflector.Reflector.TheVariants.{A}
 use Rattle.kd_state.specs.declared.setting.keyword.Keyword.{Keyword}
 use Rattle.kd_state.proofs.Wheels.{named, told, one_wheel, one_reflector}

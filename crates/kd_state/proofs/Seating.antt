@@ -1,5 +1,6 @@
 -- The wheels in the slots, with their rings and their window letters, and that they can be turned to each window.
-use Rattle.std.proofs.Common.{◌≡◌, ◌≢◌, ℕ, ◌+◌, ◌<◌, List, [], ◌∷◌, length, map, get_or, slice_get, filter_map, Option, Some, None, IsSome, All, Contains, refl, sym, ap, ◌∙◌, subst, arith, zero, suc, set}
+use Rattle.std.proofs.Common.{◌≡◌, ◌≢◌, ℕ, ◌+◌, ◌<◌, List, [], ◌∷◌, length, map, get_or, slice_get, filter_map, Option}
+use Rattle.std.proofs.Common.{Some, None, IsSome, All, Contains, refl, sym, ap, ◌∙◌, subst, arith, zero, suc, set}
 use Rattle.std.specs.Prelude.{MatchOption}
 use Rattle.kd_state.proofs.Prelude.{AllByRecursion, false≢true, get_or-map, length-map, All-map, none-some}
 use Rattle.kd_state.proofs.Prelude.{slice_get-get_or, Wheel, exchange, Rotor, RotorParts, SheetWheel, place_in_box}

@@ -1,6 +1,7 @@
 -- Things counted from 1: what stands in the slots, and the letters and pins of the six pin wheels.
 use Rattle.std.proofs.lemmas.Grind.{common_steps}
-use Rattle.std.proofs.Common.{◌≡◌, ◌≢◌, ℕ, ◌+◌, ◌-◌, ◌<◌, ◌≤◌, false, List, length, set, Contains, Option, Some, slice_get, refl, arith, add-one, nat_eq, Decides, sym, ◌∙◌}
+use Rattle.std.proofs.Common.{◌≡◌, ◌≢◌, ℕ, ◌+◌, ◌-◌, ◌<◌, ◌≤◌, false, List, length, set, Contains, Option, Some}
+use Rattle.std.proofs.Common.{slice_get, refl, arith, add-one, nat_eq, Decides, sym, ◌∙◌}
 use Rattle.kd_state.proofs.Prelude.{gets, slice_get_within, Model, Wheel, box_of, is_none, unwrap_or, numbered}
 use Rattle.kd_state.proofs.Prelude.{AreAllowed, is_some, cases_Bool, lt-ltb, le-ltb, eqb-true, position-Some}
 use Rattle.kd_state.proofs.Prelude.{Decides-like, Decides-eqb, is_member-Decides, get_or_from_slice_get}

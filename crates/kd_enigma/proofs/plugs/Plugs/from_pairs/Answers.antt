@@ -4,7 +4,8 @@ use Rattle.std.proofs.lemmas.List.{append-nil}
 use Rattle.std.proofs.lemmas.Result.{err_from_is_err_and}
 use Rattle.kd_enigma.specs.Plugs.{letters_plugged, NoLetterTwice}
 use Rattle.kd_enigma.specs.Cipher.{IsPlugboard}
-use Rattle.kd_enigma.proofs.Cables.{IsPlugged, is_plugged_none, is_plugged_more, can_plug, cut, none_left, plugboard_of, of_differ}
+use Rattle.kd_enigma.proofs.Cables.{IsPlugged, is_plugged_none, is_plugged_more, can_plug, cut, none_left, plugboard_of}
+use Rattle.kd_enigma.proofs.Cables.{of_differ}
 use Rattle.kd_enigma.proofs.plugs.Plugs.from_pairs.Goals as goal
 
 pub loop-one-init : goal.loop-one-init
