@@ -4,7 +4,7 @@ use Rattle.kd_sheet.proofs.Prelude.{zero, ℕ, ◌++◌, ◌<◌, ◌∷◌, ◌
 use Rattle.kd_sheet.proofs.Prelude.{flat_map-append, All-append, All-nil, filter_map-append, IsPermutation-append_comm}
 use Rattle.kd_sheet.proofs.Prelude.{IsDistinct-IsPermutation, none-some, IsDistinct, all_cables_in, cable_for}
 use Rattle.kd_sheet.proofs.Prelude.{cables_in, pairs_in, plugged_letters_in, cable_of, may_have, pairs_of, thirteen}
-use Rattle.kd_sheet.proofs.Prelude.{key_name, Key, letters_plugged, eqb_flips, new_tells, no_letter_twice, AreCables}
+use Rattle.kd_sheet.proofs.Prelude.{key_name, Key, letters_plugged, eqb_flips, new_tells, no_letters, AreCables}
 use Rattle.kd_sheet.proofs.Prelude.{cable_letters, plugged_letters, are_new, ArePairs, Data, Members, get_member}
 use Rattle.kd_sheet.specs.declared.key.Key.TheVariants as keys
 use Rattle.kd_sheet.proofs.Bounds.{letters_read}
@@ -99,7 +99,7 @@ filled_up key cables few free =
     }
 
 no_cable : (key : Key) → AreFree key []
-no_cable key = record { within = All-nil (λ letter. letter < 26); apart = no_letter_twice; joined = λ plugs. refl }
+no_cable key = record { within = All-nil (λ letter. letter < 26); apart = no_letters; joined = λ plugs. refl }
 
 all_are_cables : (key : Key) (value : Data) → Gives (all_cables_in key value) (ArePlugged key)
 unfolding all_cables_in

@@ -48,7 +48,7 @@ pub use Rattle.kd_sheet.specs.declared.fault.SheetFault.{SheetFault}
 pub use Rattle.kd_sheet.specs.declared.fault.SheetFault.TheVariants.{BadValue, NotToml, UnknownModel}
 pub use Rattle.kd_sheet.specs.declared.key.Key.{Key}
 pub use Rattle.kd_state.proofs.Prelude.{letters_plugged}
-pub use Rattle.kd_state.proofs.Cables.{eqb_flips, new_tells, no_letter_twice}
+pub use Rattle.kd_state.proofs.Cables.{eqb_flips, new_tells, no_letters}
 pub use Rattle.kd_state.proofs.Slots.{all_pins, are_on_wheels as on_all_wheels, has_letter-Decides, numbered_here, numbered_other}
 pub use Rattle.kd_state.proofs.Wheels.{has_reflector-Decides, has_wheel-Decides, same_wheel-Decides}
 pub use Rattle.kd_state.specs.ToldApart.{has_reflector, numbered}
