@@ -1,5 +1,4 @@
 -- How often letters are among others.
-use Rattle.std.proofs.Common.{rules}
 use Rattle.kd_card.proofs.Prelude.{◌≡◌, ◌≢◌, ℕ, zero, suc, ◌+◌, ◌≤◌, nat_eq, set, get_or, zip, sum_by, Bool, true, false, ◌||◌, cond, inl, inr, List, [], ◌∷◌, ◌++◌, AllPairs, count_by, refl, sym, ap, ◌∙◌, arith, ◌⊎◌, Option, Some, None, AllByRecursion, IsDistinct, eqb-true, eq-eqb, false≢true, ne_eqb, or_parts, eqb_tells, recursion_from_All, sum_by-append, sum_by-cons, alphabet, has_letter, is_plugged, cable_without, cable_with, list_any-append, cable_letters, common_steps}
 use Rattle.std.proofs.lemmas.Cmp.{nat_eq_equiv}
 use Rattle.std.proofs.lemmas.Map.Made.{AllPairs-from_IsDistinct, IsDistinct-from_count}
@@ -15,7 +14,8 @@ at_most_one b = grind arith
 pub zip_set : {X Y : Type 0} (f : X × Y → ℕ) (xs : List X) (ys : List Y) (i : ℕ) (v d : X) → ((y : Y) → f (get_or xs i d, y) ≤ f (v, y) + 1)
     → sum_by f (zip xs ys) ≤ sum_by f (zip (set xs i v) ys) + 1
 zip_set f (x ∷ xs) (y ∷ ys) zero v d h = omega (arith, h y, sum_by-cons f (x, y) (zip xs ys), sum_by-cons f (v, y) (zip xs ys))
-zip_set f (x ∷ xs) (y ∷ ys) (suc i) v d h = search (rules, sum_by-cons, zip_set f xs ys i v d h)
+zip_set f (x ∷ xs) (y ∷ ys) (suc i) v d h =
+    omega (arith, sum_by-cons f (x, y) (zip xs ys), sum_by-cons f (x, y) (zip (set xs i v) ys), zip_set f xs ys i v d h)
 zip_set f xs ys i v d h = omega arith
 
 -- how often the letter is among these
@@ -29,37 +29,26 @@ times-append letter xs ys = sum_by-append (λ other. cond (nat_eq letter other) 
 abbrev pub AreOnce : List ℕ → Type 0
 AreOnce letters = (letter : ℕ) → times letter letters ≤ 1
 
--- things of which no two have one number
-none_at : {X : Type 0} (f : X → ℕ) (number : ℕ) (xs : List X) → AllByRecursion (λ x. number ≢ f x) xs
-    → count_by (λ x. nat_eq number (f x)) xs ≡ 0
-none_at f number [] h = refl
-none_at f number (x ∷ xs) h =
-    count_by-cons (λ x. nat_eq number (f x)) x xs ∙ rw (ne_eqb number (f x) h.0, none_at f number xs h.1) refl
+times_apart : (letter : ℕ) (letters : List ℕ) → AllByRecursion (λ other. letter ≢ other) letters → times letter letters ≡ 0
+times_apart letter [] h = refl
+times_apart letter (other ∷ letters) h = count_by-cons (nat_eq letter) other letters ∙ rw (ne_eqb letter other h.0, times_apart letter letters h.1) refl
 
-pub once_at : {X : Type 0} (f : X → ℕ) (xs : List X) → AllPairs (λ x y. f x ≢ f y) xs → (number : ℕ)
-    → count_by (λ x. nat_eq number (f x)) xs ≤ 1
-once_at f [] apart number = omega arith
-once_at f (x ∷ xs) apart number =
-    let more = count_by-cons (λ x. nat_eq number (f x)) x xs in
-    elim (eqb_tells number (f x)) [
+once_of_apart : (letters : List ℕ) → AllPairs (λ letter other. letter ≢ other) letters → AreOnce letters
+once_of_apart [] apart letter = omega arith
+once_of_apart (other ∷ letters) apart letter =
+    let more = count_by-cons (nat_eq letter) other letters in
+    elim (eqb_tells letter other) [
       | inl here ↦
-          let rest =
-          none_at f number xs (recursion_from_All (λ y. number ≢ f y) xs
-          (λ k d lt same. apart zero (suc k) d (omega arith) (omega arith) (sym here.1 ∙ same))) in
-          omega (arith, at_most_one (nat_eq number (f x)))
+          let rest = times_apart other letters (recursion_from_All (λ next. other ≢ next) letters (λ k d lt. apart zero (suc k) d (omega arith) (omega arith))) in
+          let same = ap (λ x. times x letters) here.1 in
+          omega (arith, at_most_one (nat_eq letter other))
       | inr away ↦
           let head = ap (λ b. cond {A = ℕ} b 1 0) away.0 in
-          omega (arith, once_at f xs (λ i j d before lt. apart (suc i) (suc j) d (omega arith) (omega arith)) number)
+          omega (arith, once_of_apart letters (λ i j d before lt. apart (suc i) (suc j) d (omega arith) (omega arith)) letter)
     ]
 
--- two tests that hold of the same things, but for those of a third one
-pub counts_apart : {X : Type 0} (p q t : X → Bool) → ((x : X) → (p x ≡ q x) ⊎ (t x ≡ true)) → (xs : List X)
-    → count_by p xs ≤ count_by q xs + count_by t xs
-counts_apart p q t apart [] = omega arith
-counts_apart p q t apart (x ∷ xs) = search (rules, count_by-cons, counts_apart p q t apart xs, at_most_one)
-
 pub once_of_distinct : (letters : List ℕ) → IsDistinct nat_eq letters → AreOnce letters
-once_of_distinct letters distinct = once_at (λ letter. letter) letters (AllPairs-from_IsDistinct (λ a b. (eqb-true a b, eq-eqb a b)) letters distinct)
+once_of_distinct letters distinct = once_of_apart letters (AllPairs-from_IsDistinct (λ a b. (eqb-true a b, eq-eqb a b)) letters distinct)
 
 pub once_in_alphabet : AreOnce alphabet
 once_in_alphabet = once_of_distinct alphabet (IsDistinct-from_count nat_eq_equiv alphabet refl)
@@ -78,7 +67,7 @@ once_more l letter letters once none =
     elim (eqb_tells l letter) [
       | inl here ↦
           let same = ap (λ x. times x letters) here.1 in
-          omega (arith, at_most_one (nat_eq l letter), none_at (λ other. other) letter letters (not_among letters letter none))
+          omega (arith, at_most_one (nat_eq l letter), times_apart letter letters (not_among letters letter none))
       | inr away ↦ let head = ap (λ b. cond {A = ℕ} b 1 0) away.0 in omega (arith, once l)
     ]
 

@@ -1,16 +1,22 @@
 -- What a pairing of cables with pairs, or of bars with rows, costs falls by at most one with each setting that changes a
 -- cable or a bar, and doesn't change with the others.
-use Rattle.std.proofs.Common.{rules}
-use Rattle.kd_card.proofs.Prelude.{◌≡◌, ℕ, zero, suc, ◌+◌, ◌-◌, ◌≤◌, nat_eq, min, Bool, true, false, inl, inr, List, [], ◌∷◌, get_or, set, map, fold, count_by, Option, Some, None, unwrap_or, slice_get, ℤ, refl, sym, ap, ◌∙◌, subst, arith, length, AllByRecursion, option_map, option_map_or, unwrap_or-slice_get, Place, alphabet, RotorParts, Parts, Rotor, Pin, Setting, Pull, Put, LugTo, Why, cable_letters, plugged_letters, IsLegal, has_letter, is_at, reasons, why_refused, cable_at, cable_without, cable_with, with_lug, changed, lies_beyond, other_lug, lug_place, Leads, differ, unless_same, column_letters, cable_cost, lugs_moved, bar_cost, eqb-false, ltb-false, All-set, length-set, place_rank, numbered, common_steps, find, All}
-use Rattle.kd_state.specs.Costs.{standings_as, lies_in_one}
+use Rattle.kd_card.proofs.Prelude.{◌≡◌, ℕ, zero, suc, ◌+◌, ◌-◌, ◌≤◌, nat_eq, min, Bool, true, false, cond, inl, inr, List, [], ◌∷◌, get_or, set, map, fold, count_by, Option, Some, None, unwrap_or, slice_get, ℤ, refl, sym, ap, ◌∙◌, subst, arith, length, AllByRecursion, option_map, option_map_or, unwrap_or-slice_get, Place, alphabet, RotorParts, Parts, Rotor, Pin, Setting, Pull, Put, LugTo, Why, cable_letters, plugged_letters, IsLegal, has_letter, is_at, reasons, why_refused, cable_at, cable_without, cable_with, with_lug, changed, lies_beyond, other_lug, lug_place, Leads, differ, unless_same, column_letters, cable_cost, lugs_moved, bar_cost, is_priced, eqb-false, ltb-false, All-set, length-set, place_rank, IsBefore, numbered, common_steps, find, All}
+use Rattle.kd_state.specs.Costs.{standings_as}
 use Rattle.kd_state.specs.Setting.{Stands}
 use Rattle.kd_tables.specs.declared.lug.Lug.{Lug}
 use Rattle.kd_tables.specs.declared.lug.Lug.TheVariants.{Left, Right}
-use Rattle.kd_card.proofs.Counts.{counts_apart, zip_set, once_in_alphabet, times, times-append, AreOnce, once_of_distinct, once_more, SameBut, same_but, same_but-sym, pulled, put, times_more}
+use Rattle.kd_card.proofs.Counts.{count_by-cons, zip_set, at_most_one, once_in_alphabet, times, times-append, AreOnce, once_of_distinct, once_more, SameBut, same_but, same_but-sym, pulled, put, times_more}
 use Rattle.kd_card.proofs.Duality.{pairing_cost}
 
 pub not_differing : (b : Bool) → differ b b ≡ false
 not_differing b = grind arith
+
+counted_apart : (letters others wanted : List ℕ) (x : ℕ) → SameBut x letters others → (alphabet : List ℕ)
+    → count_by (λ letter. differ (has_letter letters letter) (has_letter wanted letter)) alphabet
+    ≤ count_by (λ letter. differ (has_letter others letter) (has_letter wanted letter)) alphabet + count_by (nat_eq x) alphabet
+counted_apart letters others wanted x same [] = omega arith
+counted_apart letters others wanted x same (letter ∷ alphabet) =
+    grind (arith, common_steps, count_by-cons, counted_apart letters others wanted x same alphabet, same, at_most_one)
 
 -- why a setting is not refused
 pub none_of_them : (reasons : List (Bool × Why)) → option_map (λ (reason : Bool × Why). reason.1) (find (λ reason. reason.0) reasons) ≡ None → AllByRecursion (λ reason. reason.0 ≡ false) reasons
@@ -29,13 +35,7 @@ cables_fall m place now ws x same =
     rw (one_less place)
     (zip_set (λ pair. cable_cost pair.0 pair.1.0) m.cables ws place now (None, None) (λ w.
     subst (λ cable. cable_cost cable w.0 ≤ cable_cost now w.0 + 1) (unwrap_or-slice_get m.cables place (None, None))
-    (omega (
-      arith,
-      counts_apart (lies_in_one (cable_at m (suc place)) w.0) (lies_in_one now w.0) (nat_eq x)
-          (λ l. elim (same l) [ inl e ↦ inl (ap (λ b. differ b (has_letter (column_letters w.0) l)) e) | inr e ↦ inr e ])
-          alphabet,
-      once_in_alphabet x,
-    ))))
+    (omega (arith, counted_apart (cable_letters (cable_at m (suc place))) (cable_letters now) (column_letters w.0) x same alphabet, once_in_alphabet x))))
 
 pub pull_falls : (m : RotorParts) (cable letter : ℕ) (ws : List (Option (ℕ × ℕ) × ℤ)) → why_refused (Rotor m) (Pull cable letter) ≡ None
     → pairing_cost cable_cost m.cables ws ≤ pairing_cost cable_cost (set m.cables (cable - 1) (cable_without letter (cable_at m cable))) ws + 1
@@ -84,7 +84,8 @@ lug_falls bars ws bar lug place (Some standing) e =
 times-set : (letter k : ℕ) (cables : List (Option ℕ × Option ℕ)) (place : ℕ) (now d : Option ℕ × Option ℕ)
     → times letter (cable_letters now) ≤ times letter (cable_letters (get_or cables place d)) + k → times letter (plugged_letters (set cables place now)) ≤ times letter (plugged_letters cables) + k
 times-set letter k [] place now d h = omega arith
-times-set letter k (cable ∷ cables) zero now d h = search (rules, times-append)
+times-set letter k (cable ∷ cables) zero now d h =
+    omega (arith, times-append letter (cable_letters cable) (plugged_letters cables), times-append letter (cable_letters now) (plugged_letters cables))
 times-set letter k (cable ∷ cables) (suc place) now d h =
     grind (arith, common_steps, times-append, times-set letter k cables place now d h)
 
@@ -123,20 +124,26 @@ pub record HasCables (cables : List (Option ℕ × Option ℕ)) : Type 0 where
   pub count : length cables ≡ 13
   pub once : CablesAreOnce cables
 
+pub record HasBars (bars : List (Place × Place)) : Type 0 where
+  pub count : length bars ≡ 27
+  pub stand : All Stands bars
+
 bars_keep : (bars : List (Place × Place)) (i : ℕ) (lug : Lug) (place : Place) (found : Option (Place × Place))
     → option_map_or (is_at place) (option_map (lug_place (other_lug lug)) found) false ≡ false → option_map_or (lies_beyond lug place) (option_map (lug_place (other_lug lug)) found) false ≡ false
-    → All Stands bars → All Stands (option_map_or (λ standing. set bars i (with_lug lug place standing)) found bars)
+    → HasBars bars → HasBars (option_map_or (λ standing. set bars i (with_lug lug place standing)) found bars)
 bars_keep bars i lug place None apart within h = h
-bars_keep bars i lug place (Some standing) apart within h =
-    All-set Stands bars i (with_lug lug place standing) (stands_again lug place standing apart within) h
+bars_keep bars i lug place (Some standing) apart within h = record {
+  count = length-set bars i (with_lug lug place standing) ∙ h.count;
+  stand = All-set Stands bars i (with_lug lug place standing) (stands_again lug place standing apart within) h.stand;
+}
 
 abbrev pub HasAll : Parts → Type 0
 HasAll (Rotor m) = HasCables m.cables
-HasAll (Pin m) = All Stands m.bars
+HasAll (Pin m) = HasBars m.bars
 
 pub machines_have_all : (m : Parts) → IsLegal m → HasAll m
 machines_have_all (Rotor m) h = record { count = h.cables.count; once = once_of_distinct (plugged_letters m.cables) h.cables.apart }
-machines_have_all (Pin m) h = h.apart
+machines_have_all (Pin m) h = record { count = h.bars; stand = h.apart }
 
 setting_keeps : (m : Parts) (x : Setting) → why_refused m x ≡ None → HasAll m → HasAll (changed m x)
 setting_keeps (Rotor m) (Pull cable letter) e h =

@@ -1,5 +1,5 @@
 -- Lists of kinds, kind by kind.
-use Rattle.kd_card.proofs.Prelude.{◌≡◌, ℕ, zero, suc, ◌+◌, ◌*◌, ◌<◌, ◌≤◌, List, [], ◌∷◌, ◌++◌, length, take, get_or, refl, sym, ap, subst, ◌∙◌, append_assoc, length-append, arith, All, All-nil, All-cons, flat_map-append, Name, PricedKind, look_name, look_rank, kind_words, kinds_text, counted, IsPricedKind, AreKinds, AreCalled, line_of, floor_behind, IsNextKind, BeginsWithKinds}
+use Rattle.kd_card.proofs.Prelude.{◌≡◌, ℕ, zero, suc, ◌+◌, ◌*◌, ◌<◌, ◌≤◌, List, [], ◌∷◌, ◌++◌, length, take, drop, get_or, replicate, fold, refl, sym, ap, subst, ◌∙◌, append_assoc, length-append, arith, ℤ, pos, ◌+ℤ◌, ◌*ℤ◌, unsigned_abs, FitsSigned, w32, All, All-nil, All-cons, ints, unsigned_abs-mul, fits_signed_from_abs, append-nil, take_more, take-append-drop, flat_map-append, fold-append, Look, Name, PricedKind, look_name, look_rank, kind_words, kinds_text, counted, prices_of_kinds, IsInForm, IsPricedKind, AreKinds, AreCalled, line_of, floor_behind, IsNextKind, BeginsWithKinds}
 use Rattle.kd_card.proofs.KindPrices.{text_of_more_kinds}
 use Rattle.kd_card.proofs.Lines.{is_line}
 
@@ -37,6 +37,14 @@ pub counted_within : (kinds : List PricedKind) (i : ℕ) {kind : PricedKind} →
 counted_within [] i inside is = absurd (omega arith)
 counted_within (first ∷ kinds) zero inside is = let same = ap (λ (k : PricedKind). k.count) is in omega arith
 counted_within (first ∷ kinds) (suc i) inside is = omega (arith, counted_within kinds i (omega arith) is)
+
+-- ---- what kinds are called
+
+pub called_at : (name : Name) (kinds : List PricedKind) (i : ℕ) (kind : PricedKind) → i < length kinds → kind ≡ get_or kinds i kind → AreCalled name kinds
+    → look_name kind.look ≡ name
+called_at name [] i kind inside is called = absurd (omega arith)
+called_at name (first ∷ kinds) zero kind inside is called = subst (λ k. look_name k.look ≡ name) (sym is) called.0
+called_at name (first ∷ kinds) (suc i) kind inside is called = called_at name kinds i kind (omega arith) is called.1
 
 pub all_kinds : (floor : ℕ) (kinds : List PricedKind) → AreKinds floor kinds → All IsPricedKind kinds
 all_kinds floor [] are = All-nil IsPricedKind

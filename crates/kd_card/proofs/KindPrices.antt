@@ -1,12 +1,14 @@
 -- The prices of kinds, one for each thing.
-use Rattle.std.proofs.Common.{rules}
-use Rattle.kd_card.proofs.Prelude.{◌≡◌, ℕ, ◌+◌, ◌≤◌, List, [], ◌∷◌, length, replicate, refl, sym, ◌∙◌, length-append, arith, unsigned_abs, ◌++◌, map, length-replicate, All-append, All-nil, All-replicate, PricedKind, PriceParts, Kinds, look_rank, counted, prices_of_kinds, AreKinds, kind_words, kinds_text, row_kinds, column_kinds, AreWithinReach, ArePrices, flat_map-map, line_of, Name, Group, row_name, column_name, price_count, lines_text, IsGroup, with_line, common_steps}
+use Rattle.kd_card.proofs.Prelude.{◌≡◌, ℕ, ◌+◌, ◌<◌, ◌≤◌, List, [], ◌∷◌, length, replicate, refl, sym, ap, subst, ◌∙◌, length-append, arith, unsigned_abs, ◌++◌, map, Option, None, length-replicate, length-map, All-append, All-nil, All-replicate, PricedKind, PriceParts, CableKinds, BarKinds, ByKind, look_rank, counted, prices_of_kinds, AreKinds, look_name, kind_words, kinds_text, cable_kind, pair_kind, bar_kind, row_kind, AreCalled, version_of, how_many, row_kinds, column_kinds, row_prices, column_prices, AreWithinReach, ArePrices, flat_map-append, flat_map-map, Place, One, line_of, Look, Cable, Pair, Bar, Row, Name, Group, group_of, row_name, column_name, price_count, lines_text, price_lines, IsGroup, HaveKinds, with_line, rules, common_steps}
 use Rattle.arrayvec.specs.ArrayVec.{ArrayVec}
 use Rattle.kd_card.proofs.Lines.{line_and_more}
 
 pub length_of_kinds : (kinds : List PricedKind) → length (prices_of_kinds kinds) ≡ counted kinds
 length_of_kinds [] = refl
-length_of_kinds (kind ∷ kinds) = grind (arith, length_of_kinds kinds, length-replicate, length-append)
+length_of_kinds (kind ∷ kinds) =
+    let rest = length_of_kinds kinds in
+    let here = length-replicate kind.count kind.price in
+    omega (arith, length-append (replicate kind.count kind.price) (prices_of_kinds kinds))
 
 pub reach_of_kinds : (floor : ℕ) (kinds : List PricedKind) → AreKinds floor kinds → AreWithinReach (prices_of_kinds kinds)
 reach_of_kinds floor [] are = All-nil (λ price. unsigned_abs price ≤ 9999)
@@ -16,38 +18,38 @@ reach_of_kinds floor (kind ∷ kinds) are =
 -- each kind is of one thing at least
 pub few_kinds : (floor : ℕ) (kinds : List PricedKind) → AreKinds floor kinds → length kinds ≤ counted kinds
 few_kinds floor [] are = omega arith
-few_kinds floor (kind ∷ kinds) are = search (rules, few_kinds (look_rank kind.look + 1) kinds are.2)
+few_kinds floor (kind ∷ kinds) are =
+    omega (arith, few_kinds (look_rank kind.look + 1) kinds are.2)
 
--- a group's kinds, as they may stand on a card
-pub are_prices : {group : Group} {rows columns : ArrayVec PricedKind}
-    → IsGroup (row_name group) (price_count group) rows.items → IsGroup (column_name group) (price_count group) columns.items → ArePrices (Kinds group rows columns)
-are_prices {rows} {columns} row column = grind (arith, length_of_kinds, reach_of_kinds)
+pub too_long : {K : Type 0} (priced : K → PricedKind) (kinds : List K) {number : ℕ} → AreKinds 0 (map priced kinds)
+    → length (prices_of_kinds (map priced kinds)) ≡ number → ¬ (number < length kinds)
+too_long priced kinds are count long =
+    omega (arith, few_kinds 0 (map priced kinds) are, length_of_kinds (map priced kinds), length-map kinds priced)
 
-pub row_group : {group : Group} {rows columns : ArrayVec PricedKind} → ArePrices (Kinds group rows columns)
-    → IsGroup (row_name group) (price_count group) rows.items
-row_group {rows} are =
-    record { called = are.row_called; in_order = are.row_kinds; count = sym (length_of_kinds rows.items) ∙ are.rows }
+-- prices by kind that may stand on a card
+pub prices_of : (parts : PriceParts) → version_of parts ≡ ByKind
+    → (row_prices parts ≡ prices_of_kinds (row_kinds parts)) × (column_prices parts ≡ prices_of_kinds (column_kinds parts))
+prices_of parts e = grind arith
 
-pub column_group : {group : Group} {rows columns : ArrayVec PricedKind} → ArePrices (Kinds group rows columns)
-    → IsGroup (column_name group) (price_count group) columns.items
-column_group {columns} are =
-    let count = sym (length_of_kinds columns.items) ∙ are.columns in
-    record { called = are.column_called; in_order = are.column_kinds; count = count }
+pub are_prices : (parts : PriceParts) (number : ℕ) → version_of parts ≡ ByKind → number ≡ how_many parts
+    → AreKinds 0 (row_kinds parts) × (counted (row_kinds parts) ≡ number)
+    → AreKinds 0 (column_kinds parts) × (counted (column_kinds parts) ≡ number) → ArePrices parts
+are_prices parts number by many rows columns =
+    let are = prices_of parts by in
+    record {
+      rows = ap length are.0 ∙ length_of_kinds (row_kinds parts) ∙ rows.1 ∙ many;
+      columns = ap length are.1 ∙ length_of_kinds (column_kinds parts) ∙ columns.1 ∙ many;
+      row_reach = subst AreWithinReach (sym are.0) (reach_of_kinds 0 (row_kinds parts) rows.0);
+      column_reach = subst AreWithinReach (sym are.1) (reach_of_kinds 0 (column_kinds parts) columns.0);
+      row_kinds = rows.0;
+      column_kinds = columns.0;
+    }
 
-pub few_prices_of : (group : Group) → price_count group ≤ 27
-few_prices_of group = grind arith
+pub row_count : (parts : PriceParts) → version_of parts ≡ ByKind → ArePrices parts → counted (row_kinds parts) ≡ how_many parts
+row_count parts by are = sym (length_of_kinds (row_kinds parts)) ∙ sym (ap length (prices_of parts by).0) ∙ are.rows
 
-pub few_of_group : {name : Name} (group : Group) {kinds : List PricedKind} → IsGroup name (price_count group) kinds
-    → length kinds ≤ 27
-few_of_group group {kinds} is = omega (arith, is.count, few_kinds 0 kinds is.in_order, few_prices_of group)
-
-pub rows_counted : (prices : PriceParts) → ArePrices prices → counted (row_kinds prices) ≤ 27
-rows_counted (Kinds group rows columns) are = omega (arith, (row_group are).count, few_prices_of group)
-rows_counted prices are = omega arith
-
-pub columns_counted : (prices : PriceParts) → ArePrices prices → counted (column_kinds prices) ≤ 27
-columns_counted (Kinds group rows columns) are = omega (arith, (column_group are).count, few_prices_of group)
-columns_counted prices are = omega arith
+pub column_count : (parts : PriceParts) → version_of parts ≡ ByKind → ArePrices parts → counted (column_kinds parts) ≡ how_many parts
+column_count parts by are = sym (length_of_kinds (column_kinds parts)) ∙ sym (ap length (prices_of parts by).1) ∙ are.columns
 
 -- ---- kinds and their lines
 
@@ -55,5 +57,71 @@ pub text_of_more_kinds : (kind : PricedKind) (kinds : List PricedKind) (rest : L
     → kinds_text (kind ∷ kinds) ++ rest ≡ with_line (kind_words kind) (kinds_text kinds ++ rest)
 text_of_more_kinds kind kinds rest = line_and_more (line_of (kind_words kind)) (kinds_text kinds) rest
 
-pub text_by_kind : (kinds : List PricedKind) → lines_text (map kind_words kinds) ≡ kinds_text kinds
-text_by_kind kinds = grind (arith, flat_map-map)
+pub text_by_kind : (prices : PriceParts) → version_of prices ≡ ByKind
+    → lines_text (price_lines prices) ≡ kinds_text (row_kinds prices) ++ kinds_text (column_kinds prices)
+text_by_kind prices e = grind (arith, flat_map-append, flat_map-map)
+
+-- ---- both groups are called as they should be, and of as many things
+
+all_called : {K : Type 0} (priced : K → PricedKind) (name : Name)
+    → ((kind : K) → look_name (priced kind).look ≡ name) → (kinds : List K)
+    → AreCalled name (map priced kinds)
+all_called priced name called [] = tt
+all_called priced name called (kind ∷ kinds) = (called kind, all_called priced name called kinds)
+
+group_of_kinds : {K : Type 0} {name : Name} (priced : K → PricedKind) (number : ℕ) (kinds : List K) → ((kind : K) → look_name (priced kind).look ≡ name)
+    → AreKinds 0 (map priced kinds) → length (prices_of_kinds (map priced kinds)) ≡ number → IsGroup name number (map priced kinds)
+group_of_kinds {name} priced number kinds called are count = search (rules, all_called, priced, count, length_of_kinds)
+
+pub both_groups : (prices : PriceParts) → version_of prices ≡ ByKind → ArePrices prices
+    → IsGroup (row_name (group_of prices)) (price_count (group_of prices)) (row_kinds prices)
+    × IsGroup (column_name (group_of prices)) (price_count (group_of prices)) (column_kinds prices)
+both_groups (CableKinds row col) by are = search (rules, group_of_kinds)
+both_groups (BarKinds row col) by are = search (rules, group_of_kinds)
+both_groups prices by are = cc
+
+-- ---- kinds tell the prices
+
+undone : {A B : Type 0} (there : A → B) (back : B → A) → ((x : A) → back (there x) ≡ x) → (xs : List A) → map back (map there xs) ≡ xs
+undone there back leads [] = refl
+undone there back leads (x ∷ xs) = cc (leads x, undone there back leads xs)
+
+told : {A B : Type 0} (there : A → B) (back : B → A) → ((x : A) → back (there x) ≡ x) → (a b : ArrayVec A)
+    → map there a.items ≡ map there b.items → a ≡ b
+told {A} there back leads a b e =
+    let make : List A → ArrayVec A = λ items. record { items = items } in
+    ap make (sym (undone there back leads a.items) ∙ ap (map back) e ∙ undone there back leads b.items)
+
+pub same_kind_parts : {group : Group} {rows columns : List PricedKind} (prices others : PriceParts) → HaveKinds group rows columns prices
+    → HaveKinds group rows columns others → prices ≡ others
+same_kind_parts (CableKinds a b) (CableKinds c d) are also =
+    let ends = λ (look : Look). elim look as (λ l. Option ℕ × Option ℕ) [ Cable ends ↦ ends | _ ↦ (None, None) ] in
+    let pair = λ (look : Look). elim look as (λ l. Option (ℕ × ℕ)) [ Pair pair ↦ pair | _ ↦ None ] in
+    let rows = told cable_kind (λ k. record { ends = ends k.look; count = k.count; price = k.price }) (λ x. refl) a c (are.row_kinds ∙ sym also.row_kinds) in
+    let columns = told pair_kind (λ k. record { pair = pair k.look; count = k.count; price = k.price }) (λ x. refl) b d (are.column_kinds ∙ sym also.column_kinds) in
+    cc
+same_kind_parts (BarKinds a b) (BarKinds c d) are also =
+    let standing = λ (look : Look). elim look as (λ l. Place × Place) [ Bar standing ↦ standing | _ ↦ (One, One) ] in
+    let reading = λ (look : Look). elim look as (λ l. ℕ × ℕ) [ Row reading ↦ reading | _ ↦ (0, 0) ] in
+    let rows = told bar_kind (λ k. record { standing = standing k.look; count = k.count; price = k.price }) (λ x. refl) a c (are.row_kinds ∙ sym also.row_kinds) in
+    let columns = told row_kind (λ k. record { reading = reading k.look; count = k.count; price = k.price }) (λ x. refl) b d (are.column_kinds ∙ sym also.column_kinds) in
+    cc
+same_kind_parts prices others are also = cc
+
+-- ---- prices of two groups
+
+pub group_fits : {name : Name} {number : ℕ} {kinds : List PricedKind} → IsGroup name number kinds → AreCalled name kinds × (length kinds ≤ number)
+group_fits {kinds} group = let count = group.count in (group.called, omega (arith, few_kinds 0 kinds group.in_order))
+
+pub of_two_groups : (group : Group) {rows columns : List PricedKind} (prices : PriceParts) → version_of prices ≡ ByKind → price_count group ≡ how_many prices
+    → row_kinds prices ≡ rows → column_kinds prices ≡ columns → IsGroup (row_name group) (price_count group) rows
+    → IsGroup (column_name group) (price_count group) columns → ArePrices prices
+of_two_groups group prices by many r c x y =
+    are_prices prices (price_count group) by many (subst (AreKinds 0) (sym r) x.in_order, ap counted r ∙ x.count)
+    (subst (AreKinds 0) (sym c) y.in_order, ap counted c ∙ y.count)
+
+pub size_of : (prices : PriceParts) → price_count (group_of prices) ≡ how_many prices
+size_of prices = grind arith
+
+pub few_prices_of : (group : Group) → price_count group ≤ 27
+few_prices_of group = grind arith

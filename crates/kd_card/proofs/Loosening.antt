@@ -1,13 +1,12 @@
 -- A setting puts at most one loose thing right, or lowers what the cables or bars cost by one at most, and never both.
-use Rattle.std.proofs.Common.{rules}
-use Rattle.kd_card.proofs.Prelude.{◌≡◌, ◌≢◌, ℕ, zero, suc, ◌+◌, ◌-◌, ◌≤◌, nat_eq, Bool, true, false, not, cond, List, [], ◌∷◌, get_or, set, map, zip, sum, count_by, AllPairs, Option, Some, None, slice_get, unwrap_or, inl, inr, refl, sym, ap, ◌∙◌, subst, arith, AllByRecursion, sum_by, option_map_or, bytes_eq, eqb_tells, eq-eqb, recursion_from_All, map-id, sum-map, sum_by-cons, unwrap_or-slice_get, bytes_eq-Decides, Model, wheel_text, reflector_text, RotorParts, PinParts, Parts, Rotor, Pin, Setting, Pull, Put, Seat, SeatReflector, RingTo, Turn, PinTo, LugTo, same_wheel, same_reflector, place_in_box, model_of, ring_at, letter_at, why_refused, seated_in, without, with_letter, changed, RotorDay, PinDay, Day, OfRotors, OfPins, IsLegalDay, day_model, ReadsAs, DaysWheelsHaveTheirPlaces, differ, unless_same, loose_slots, loose_reflector, loose_rings, loose_letters, loose_pins, loose_pin_letters, loose_count, cable_cost, bar_cost, ℤ, is_priced, common_steps}
+use Rattle.kd_card.proofs.Prelude.{◌≡◌, ◌≢◌, ℕ, zero, suc, ◌+◌, ◌-◌, ◌≤◌, nat_eq, Bool, true, false, not, cond, List, [], ◌∷◌, get_or, set, map, zip, sum, count_by, AllPairs, Option, Some, None, slice_get, unwrap_or, inl, inr, refl, sym, ap, ◌∙◌, subst, arith, AllByRecursion, sum_by, option_map_or, bytes_eq, cases_eq, eq-eqb, recursion_from_All, map-id, sum-map, sum_by-cons, unwrap_or-slice_get, bytes_eq-Decides, Model, wheel_text, reflector_text, RotorParts, PinParts, Parts, Rotor, Pin, Setting, Pull, Put, Seat, SeatReflector, RingTo, Turn, PinTo, LugTo, same_wheel, same_reflector, place_in_box, model_of, ring_at, letter_at, why_refused, seated_in, without, with_letter, changed, RotorDay, PinDay, Day, OfRotors, OfPins, IsLegalDay, day_model, ReadsAs, DaysWheelsHaveTheirPlaces, differ, unless_same, loose_slots, loose_reflector, loose_rings, loose_letters, loose_pins, loose_pin_letters, loose_count, cable_cost, bar_cost, ℤ, is_priced, common_steps}
 use Rattle.kd_tables.specs.declared.wheel.Wheel.{Wheel}
 use Rattle.kd_tables.specs.Rings.{ring_of, place_on}
 use Rattle.kd_pins.specs.declared.pin_set.PinSet.{PinSet}
 use Rattle.kd_pins.specs.PinWheels.{pins_of}
 use Rattle.kd_state.specs.declared.sheet_day.rotor_entry.SheetWheel.{SheetWheel}
 use Rattle.kd_state.specs.Pins.{pin_set, wheel_pins, with_pin}
-use Rattle.kd_card.proofs.Counts.{count_by-cons, zip_set, at_most_one, counts_apart, once_at}
+use Rattle.kd_card.proofs.Counts.{count_by-cons, zip_set, at_most_one}
 use Rattle.kd_card.proofs.Duality.{pairing_cost}
 use Rattle.kd_card.proofs.Falling.{unless_same_at_most, one_less, not_differing, pull_falls, put_falls, lug_falls}
 
@@ -24,18 +23,29 @@ module _ {X : Type 0} (place target : X → ℕ) where
   abbrev wrong : List ℕ → X → Bool
   wrong letters x = not (option_map_or (nat_eq (target x)) (slice_get letters (place x)) false)
 
-  set_lowers : (letters : List ℕ) (p l : ℕ) (xs : List X) → AllPairs (λ x y. place x ≢ place y) xs
-      → count_by (wrong letters) xs ≤ count_by (wrong (set letters p l)) xs + 1
-  set_lowers letters p l xs apart =
-      let elsewhere =
-      counts_apart (wrong letters) (wrong (set letters p l)) (λ x. nat_eq p (place x))
-      (λ x. elim (eqb_tells p (place x)) [
-        | inl here ↦ inr here.0
+  same_elsewhere : (letters : List ℕ) (p l : ℕ) (x : X) → place x ≢ p → wrong (set letters p l) x ≡ wrong letters x
+  same_elsewhere letters p l x away =
+      ap (λ seen. not (option_map_or (nat_eq (target x)) seen false)) (set_other letters p (place x) l away)
+
+  other_places : (letters : List ℕ) (p l : ℕ) (xs : List X) → AllByRecursion (λ y. place y ≢ p) xs → count_by (wrong (set letters p l)) xs ≡ count_by (wrong letters) xs
+  other_places letters p l [] h = refl
+  other_places letters p l (x ∷ xs) h =
+      grind (arith, common_steps, same_elsewhere, count_by-cons, other_places letters p l xs h.1)
+
+  set_lowers : (letters : List ℕ) (p l : ℕ) (xs : List X) → AllPairs (λ x y. place x ≢ place y) xs → count_by (wrong letters) xs ≤ count_by (wrong (set letters p l)) xs + 1
+  set_lowers letters p l [] h = omega arith
+  set_lowers letters p l (x ∷ xs) h =
+      let now = count_by-cons (wrong letters) x xs in
+      let later = count_by-cons (wrong (set letters p l)) x xs in
+      elim (cases_eq (place x) p) [
+        | inl here ↦
+            let others = recursion_from_All (λ y. place y ≢ place x) xs (λ k d lt same. h zero (suc k) d (omega arith) (omega arith) (sym same)) in
+            let rest = other_places letters p l xs (subst (λ q. AllByRecursion (λ y. place y ≢ q) xs) here others) in
+            omega (arith, at_most_one (wrong letters x), rest)
         | inr away ↦
-            let same = set_other letters p (place x) l (λ e. away.1 (sym e)) in
-            inl (ap (λ seen. not (option_map_or (nat_eq (target x)) seen false)) (sym same))
-      ]) xs in
-      omega (arith, once_at place xs apart p, elsewhere)
+            let head = ap (λ b. cond {A = ℕ} b 1 0) (same_elsewhere letters p l x away) in
+            omega (arith, now, later, head, set_lowers letters p l xs (λ i j d before within. h (suc i) (suc j) d (omega arith) (omega arith)))
+      ]
 
 -- a slot that becomes empty is not right
 abbrev wrong_slot : Option Wheel × SheetWheel → Bool
@@ -73,7 +83,8 @@ module _ (columns : List (Option (ℕ × ℕ) × ℤ)) (rows : List ((ℕ × ℕ
       → left columns rows (Rotor m) (OfRotors s) ≤ left columns rows (changed (Rotor m) x) (OfRotors s) + 1
   rotor_lowers (Pull cable letter) e = omega (arith, pull_falls m cable letter columns e)
   rotor_lowers (Put cable letter) e = omega (arith, put_falls m cable letter columns e)
-  rotor_lowers (Seat slot wheel) e = search (rules, without_raises, zip_set_lowers)
+  rotor_lowers (Seat slot wheel) e =
+      omega (arith, without_raises wheel m.slots s.wheels, zip_set_lowers wrong_slot (map (without wheel) m.slots) s.wheels (slot - 1) (Some wheel))
   rotor_lowers (SeatReflector reflector) e = omega (arith, unless_same_at_most (same_reflector m.reflector s.reflector))
   rotor_lowers (RingTo wheel letter) e = omega (arith, set_lowers place (λ (w : SheetWheel). w.ring) m.rings (place_in_box m.model wheel) letter s.wheels apart)
   rotor_lowers (Turn slot letter) e = omega (arith, turned_lowers (seated_in m slot) letter)
@@ -117,7 +128,8 @@ pin_machine_lowers columns rows m s x e = grind (arith, zip_set_lowers, pin_lowe
 -- whatever the setting and the machine
 pub lowers : DaysWheelsHaveTheirPlaces → (columns : List (Option (ℕ × ℕ) × ℤ)) (rows : List ((ℕ × ℕ) × ℤ)) (m : Parts) (s : Day) (x : Setting) → IsLegalDay s
     → model_of m ≡ day_model s → why_refused m x ≡ None → left columns rows m s ≤ left columns rows (changed m x) s + 1
-lowers places columns rows (Rotor m) (OfRotors s) x h same e = grind (arith, rotor_lowers, places)
+lowers places columns rows (Rotor m) (OfRotors s) x h same e =
+    rotor_lowers columns rows m s (subst (λ model. HaveTheirPlaces model s.wheels) (sym same) (places s.model s.wheels h.wheels)) x e
 lowers places columns rows (Pin m) (OfPins s) x h same e = pin_machine_lowers columns rows m s x e
 lowers places columns rows m s x h same e = omega arith
 
@@ -143,7 +155,8 @@ none_wrong : (seen : SheetWheel → Option ℕ) (wanted : SheetWheel → ℕ) (w
     → count_by (λ w. not (option_map_or (nat_eq (wanted w)) (seen w) false)) wheels ≡ 0
 none_wrong seen wanted [] h = refl
 none_wrong seen wanted (w ∷ wheels) h =
-    grind (arith, count_by-cons, wanted, seen, false, eq-eqb, none_wrong seen wanted wheels h.1)
+    count_by-cons (λ w. not (option_map_or (nat_eq (wanted w)) (seen w) false)) w wheels
+    ∙ rw (h.0, eq-eqb (wanted w) (wanted w) refl, none_wrong seen wanted wheels h.1) refl
 
 rotor_not_loose : (n : RotorParts) (s : RotorDay) → ReadsAs (Rotor n) (OfRotors s) → loose_count (Rotor n) (OfRotors s) ≡ 0
 rotor_not_loose n s h =
@@ -159,7 +172,14 @@ no_pin_wrong : (pins : List Bool) → differing (pins, pins) ≡ 0
 no_pin_wrong pins = self_none (λ (pin : Bool × Bool). cond (differ pin.0 pin.1) 1 0) (λ b. ap (λ d. cond d 1 0) (not_differing b)) pins
 
 pin_not_loose : (n : PinParts) (s : PinDay) → ReadsAs (Pin n) (OfPins s) → loose_count (Pin n) (OfPins s) ≡ 0
-pin_not_loose n s h = grind (arith, sum-map, self_none, no_pin_wrong, eq-eqb)
+pin_not_loose n s h =
+    let pins : loose_pins n s ≡ 0 =
+    ap (λ pins. sum (map differing (zip (pins_of pins) (pins_of s.pins)))) h.key.pins
+    ∙ sum-map differing (zip (pins_of s.pins) (pins_of s.pins)) ∙ self_none differing no_pin_wrong (pins_of s.pins) in
+    let letters : loose_pin_letters n s ≡ 0 =
+    ap (λ letters. count_by (λ (letter : ℕ × ℕ). not (nat_eq letter.0 letter.1)) (zip letters s.window)) h.window
+    ∙ self_none (λ (letter : ℕ × ℕ). cond (not (nat_eq letter.0 letter.1)) 1 0) (λ l. ap (λ b. cond (not b) 1 0) (eq-eqb l l refl)) s.window in
+    omega (arith, pins, letters)
 
 pub nothing_loose : (n : Parts) (s : Day) → ReadsAs n s → loose_count n s ≡ 0
 nothing_loose n s e = grind (arith, rotor_not_loose, pin_not_loose)

@@ -1,15 +1,14 @@
 -- Bytes are one card, or have one fault.
-use Rattle.kd_card.proofs.Prelude.{Bool, true, false, codes, ◌≡◌, ◌≢◌, ℕ, ◌+◌, ◌*◌, ◌^◌, ◌<◌, ◌≤◌, List, [], ◌∷◌, ◌++◌, length, map, get_or, Result, Ok, Err, refl, sym, ap, subst, ◌∙◌, arith, ℤ, unsigned_abs, append_assoc, AllByRecursion, signed_decimal, decimal_injective, signed_decimal_injective, append-nil, All-from_recursion, recursion_from_All, Setting, IsWord, setting_words, setting_line, list_text, IsInRange, BeginsWith, BeginsWithNoLine, SettingsHaveWords, LinesTellSettings, PriceParts, Cables, Bars, Kinds, Version, ByNumber, ByKind, Group, OfCables, OfBars, Name, PricedKind, Trailing, Then, Refused, Found, Only, Demands, look_rank, name_text, kind_words, kinds_text, AreKinds, AreCalled, version_of, price_sum, flat_map-append, AreWithinReach, ArePrices, row_word, column_word, row_name, column_name, price_count, version_text, head_words, settings_words, price_words, sum_words, lines_text, price_lines, card_text, IsGroup, IsCard, with_line, HasWords, SaysValue, SaysFirst, BeginsWithHead, BeginsWithSettings, SaysSettings, SaysPriceLine, SaysNumbered, BeginsWithWord, EndsGroup, AtOther, IsNextKind, HasNoNext, floor_behind, SaysGroup, SaysKinded, SaysAllPrices, SaysBehind, SaysCard, TextsTellCards, NoCardBeginsAnother, CardsHaveNoFault, OneCardFault, common_steps}
+use Rattle.kd_card.proofs.Prelude.{Bool, true, false, codes, ◌≡◌, ◌≢◌, ℕ, ◌+◌, ◌*◌, ◌^◌, ◌<◌, ◌≤◌, List, [], ◌∷◌, ◌++◌, length, map, get_or, Result, Ok, Err, refl, sym, ap, subst, ◌∙◌, arith, ℤ, unsigned_abs, append_assoc, AllByRecursion, signed_decimal, decimal_injective, signed_decimal_injective, append-nil, All-from_recursion, recursion_from_All, Setting, IsWord, setting_words, setting_line, list_text, IsInRange, BeginsWith, BeginsWithNoLine, SettingsHaveWords, LinesTellSettings, PriceParts, Cables, Bars, CableKinds, BarKinds, Version, ByNumber, ByKind, Group, OfCables, OfBars, Name, PricedKind, Trailing, Then, Refused, Found, Only, Demands, look_rank, name_text, kind_words, kinds_text, AreKinds, AreCalled, version_of, row_kinds, column_kinds, price_sum, AreWithinReach, ArePrices, group_of, row_word, column_word, row_name, column_name, price_count, version_text, head_words, settings_words, price_words, sum_words, lines_text, price_lines, card_text, IsGroup, IsCard, with_line, HasWords, SaysValue, SaysFirst, BeginsWithHead, BeginsWithSettings, SaysSettings, SaysPriceLine, SaysNumbered, BeginsWithWord, EndsGroup, AtOther, IsNextKind, HasNoNext, floor_behind, SaysGroup, SaysKinded, SaysAllPrices, SaysBehind, SaysCard, TextsTellCards, NoCardBeginsAnother, CardsHaveNoFault, OneCardFault, common_steps}
 use Rattle.kd_card.specs.declared.fault.CardFault.{CardFault}
 use Rattle.kd_card.specs.CardFault.{numbered}
 use Rattle.kd_card.specs.Laws.{CardsAreSaid}
 use Rattle.kd_card.specs.Steps.{IsOnly, only_then, only_only, only_finds, only_demands, only_takes, passed, same_ok}
-use Rattle.kd_card.proofs.Lines.{Laws, line_has_words, value_line, same_words, text_of_more, two_lines, card_and_more}
+use Rattle.kd_card.proofs.Lines.{Laws, line_has_words, same_words, text_of_more, two_lines, card_and_more}
 use Rattle.kd_card.proofs.PriceTexts.{small}
 use Rattle.kd_card.proofs.CardWords.{word_by_test, numeral_word, signed_word, head_is_words, row_is_word, column_is_word, prices_are_words, number_text, signed_text, price_sum_is_small, value_says, value_said, first_says, line_said, group_said}
 use Rattle.kd_card.proofs.KindWords.{kind_is_words, kind_begins, end_has_no_next, same_kind}
-use Rattle.arrayvec.specs.ArrayVec.{ArrayVec}
-use Rattle.kd_card.proofs.KindPrices.{text_of_more_kinds, text_by_kind, are_prices, row_group, column_group}
+use Rattle.kd_card.proofs.KindPrices.{text_of_more_kinds, text_by_kind, both_groups, size_of, of_two_groups, same_kind_parts}
 
 -- ---- what is told by its text
 
@@ -53,10 +52,9 @@ by_number : (group : Group) (rows columns : List ℤ) {bytes rest : List ℕ}
     → AreAll ByNumber bytes (numbered group rows columns) rest
 by_number group rows columns e d g h o = grind (arith, common_steps, two_lines)
 
-by_kind_lines : (group : Group) (rows columns : ArrayVec PricedKind) (rest : List ℕ)
-    → kinds_text rows.items ++ (kinds_text columns.items ++ rest)
-    ≡ lines_text (price_lines (Kinds group rows columns)) ++ rest
-by_kind_lines group rows columns rest = simp (text_by_kind, flat_map-append, append_assoc)
+kinds_lines : (prices : PriceParts) {rows columns : List PricedKind} → version_of prices ≡ ByKind → row_kinds prices ≡ rows
+    → column_kinds prices ≡ columns → kinds_text rows ++ kinds_text columns ≡ lines_text (price_lines prices)
+kinds_lines prices by r c = rw (← r, ← c) (sym (text_by_kind prices by))
 
 all_said : (version : Version) (line : ℕ) {bytes : List ℕ} (x : PriceParts × List ℕ) → SaysAllPrices version line bytes (Ok x)
     → AreAll version bytes x.0 x.1
@@ -72,14 +70,21 @@ all_said ByKind line {bytes} x says =
     let first = passed says in
     let rows = passed first.next in
     let columns = passed rows.next in
+    let both = passed columns.next in
+    let have = both.says in
+    let group = first.found.0 in
     let a = group_said _ rows.found rows.says in
     let b = group_said _ columns.found columns.says in
-    subst (λ (y : PriceParts × List ℕ). AreAll ByKind bytes y.0 y.1) (sym (same_ok columns.next)) (record {
-      version = refl;
+    subst (λ (y : PriceParts × List ℕ). AreAll ByKind bytes y.0 y.1) (sym (same_ok both.next)) (record {
+      version = have.version;
       text =
           a.lines ∙ ap (λ t. kinds_text rows.found.0 ++ t) b.lines
-          ∙ by_kind_lines first.found.0 (record { items = rows.found.0 }) (record { items = columns.found.0 }) _;
-      are = are_prices a.group b.group;
+          ∙ sym (append_assoc (kinds_text rows.found.0) (kinds_text columns.found.0) columns.found.1)
+          ∙ ap (λ t. t ++ columns.found.1)
+          (kinds_lines both.found have.version have.row_kinds have.column_kinds);
+      are =
+          of_two_groups group both.found have.version (ap price_count (sym have.of_group) ∙ size_of both.found)
+          have.row_kinds have.column_kinds a.group b.group;
     })
 
 pub up_to_settings : {bytes : List ℕ} {version : Version} {day : ℕ} {body : List ℕ} {xs : List Setting} {rest : List ℕ} {number : ℕ}
@@ -216,7 +221,7 @@ module _ (laws : Laws) where
       only_then (only_first _ (λ group other e. grind arith) line bytes)
       (λ first says. only_then (only_group (row_name first.0) (price_count first.0) line bytes)
       (λ rows say. only_then (only_group (column_name first.0) (price_count first.0) (line + length rows.0) rows.1)
-      (λ columns all. only_only _)))
+      (λ columns all. only_then (only_takes same_kind_parts) (λ prices have. only_only _))))
 
   by_number_says : (group : Group) (line : ℕ) {bytes : List ℕ} (rows columns : List ℤ) (rest : List ℕ) → AreWithinReach rows
       → AreWithinReach columns → length rows ≡ price_count group → length columns ≡ price_count group
@@ -227,20 +232,24 @@ module _ (laws : Laws) where
       Found (group, rows, second) (price_line_says _ _ group rows second (row_is_word group) a many e)
       (Found (tt, columns, rest) (price_line_says _ _ tt columns rest (column_is_word group) b also refl) refl)
 
-  by_kind_says : (line : ℕ) {bytes : List ℕ} (group : Group) (rows columns : ArrayVec PricedKind) (rest : List ℕ)
-      → ArePrices (Kinds group rows columns) → EndsGroup (column_name group) rest
-      → bytes ≡ lines_text (price_lines (Kinds group rows columns)) ++ rest
-      → SaysKinded line bytes (Ok (Kinds group rows columns, rest))
-  by_kind_says line group rows columns rest are ends e =
-      let behind = kinds_text columns.items ++ rest in
-      let lines = e ∙ sym (by_kind_lines group rows columns rest) in
-      let first = group_begins rows.items behind (some_prices group) (row_group are) lines in
-      let second = group_begins columns.items rest (some_prices group) (column_group are) refl in
+  by_kind_says : (line : ℕ) {bytes : List ℕ} (prices : PriceParts) (rest : List ℕ) → version_of prices ≡ ByKind
+      → ArePrices prices → EndsGroup (column_name (group_of prices)) rest → bytes ≡ lines_text (price_lines prices) ++ rest
+      → SaysKinded line bytes (Ok (prices, rest))
+  by_kind_says line prices rest by are ends e =
+      let group = group_of prices in
+      let rows = row_kinds prices in
+      let columns = column_kinds prices in
+      let groups = both_groups prices by are in
+      let lines =
+      e ∙ ap (λ t. t ++ rest) (text_by_kind prices by) ∙ append_assoc (kinds_text rows) (kinds_text columns) rest in
+      let first = group_begins rows (kinds_text columns ++ rest) (some_prices group) groups.0 lines in
+      let second = group_begins columns rest (some_prices group) groups.1 refl in
       Found (group, first.behind, first.rest) (first_says _ group first.behind first.rest first.has)
-      (Found (rows.items, behind)
-      (group_says _ rows.items behind (row_group are) lines
+      (Found (rows, kinds_text columns ++ rest)
+      (group_says _ rows (kinds_text columns ++ rest) groups.0 lines
       (AtOther (name_text (column_name group)) second (grind arith)))
-      (Found (columns.items, rest) (group_says _ columns.items rest (column_group are) refl ends) refl))
+      (Found (columns, rest) (group_says _ columns rest groups.1 refl ends)
+      (Found prices (record { of_group = refl; version = by; row_kinds = refl; column_kinds = refl }) refl)))
 
   all_say : (prices : PriceParts) (line : ℕ) {bytes : List ℕ} (rest : List ℕ) → ArePrices prices
       → ((name : Name) → EndsGroup name rest) → bytes ≡ lines_text (price_lines prices) ++ rest
@@ -251,7 +260,8 @@ module _ (laws : Laws) where
   all_say (Bars row col) line rest are ends e =
       by_number_says OfBars line row col rest are.row_reach are.column_reach are.rows are.columns
       (e ∙ two_lines (price_words (row_word OfBars) row) (price_words (column_word OfBars) col) rest)
-  all_say (Kinds group row col) line rest are ends e = by_kind_says line group row col rest are (ends _) e
+  all_say (CableKinds row col) line rest are ends e = by_kind_says line (CableKinds row col) rest refl are (ends _) e
+  all_say (BarKinds row col) line rest are ends e = by_kind_says line (BarKinds row col) rest refl are (ends _) e
 
   -- ---- the head, and a name and a value
 
@@ -260,13 +270,17 @@ module _ (laws : Laws) where
   one_head bytes (version, day, rest) (by, other, more) a b =
       grind (arith, common_steps, line_has_words, head_is_words, same_words, same_version, decimal_injective)
 
+  value_line : {bytes : List ℕ} (name value rest : List ℕ) → IsWord name → IsWord value
+      → bytes ≡ with_line (name ∷ value ∷ []) rest → HasWords bytes (name ∷ value ∷ []) rest
+  value_line name value rest named valued e = grind (arith, line_has_words, All-from_recursion)
+
   only_value : (signed : Bool) (name due : List ℕ) (line : ℕ) (bytes : List ℕ) → IsWord name
       → IsOnly (SaysValue signed name due line bytes)
   only_value signed name due line bytes named =
       only_then
       (only_finds _ (λ x y a b.
       let same =
-      same_words laws.first_parts (value_line laws name x.0 x.1 named (numeral_word signed x.0 a.0) a.1) (value_line laws name y.0 y.1 named (numeral_word signed y.0 b.0) b.1) in
+      same_words laws.first_parts (value_line name x.0 x.1 named (numeral_word signed x.0 a.0) a.1) (value_line name y.0 y.1 named (numeral_word signed y.0 b.0) b.1) in
       same_pair x y (ap (λ w. get_or w 1 []) same.0) same.1))
       (λ found says. only_then (only_demands _ _) (λ due is. only_only _))
 
@@ -274,7 +288,7 @@ module _ (laws : Laws) where
   sum_ends : (sum : ℤ) (rest : List ℕ) → unsigned_abs sum < 2 ^ 64 → (name : Name)
       → EndsGroup name (with_line (sum_words sum) rest)
   sum_ends sum rest near name =
-      let has = value_line laws (codes "SUM") (signed_decimal sum) rest (word_by_test _ _ refl) (signed_word laws.numbers sum near) refl in
+      let has = value_line (codes "SUM") (signed_decimal sum) rest (word_by_test _ _ refl) (signed_word laws.numbers sum near) refl in
       AtOther (codes "SUM") (record { behind = signed_decimal sum ∷ []; rest = rest; has = has }) (grind arith)
 
   -- ---- the card

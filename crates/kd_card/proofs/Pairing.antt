@@ -1,13 +1,13 @@
 -- On a machine that reads as the day the cables can be paired with the day's pairs and nothings, and the bars with its rows,
 -- each with one that costs nothing.
-use Rattle.kd_card.proofs.Prelude.{All, ◌≡◌, ◌≢◌, ℕ, zero, suc, ◌+◌, ◌-◌, ◌<◌, ◌≤◌, ◌==◌, nat_eq, nat_lt, Bool, true, not, ◌||◌, cond, ◌⊎◌, inl, inr, List, [], ◌∷◌, ◌++◌, length, get_or, map, zip, replicate, Contains, IsPermutation, count_by, remove, Option, Some, None, ℤ, refl, sym, ap, ◌∙◌, subst, arith, AllByRecursion, AllZip, flat_map, list_all, false≢true, eq-eqb, lt-ltb, eqb_tells, All-contains, recursion_from_All, sum_by-cons, get_or-le-sum_by, AllPass-from_list_all, sum_by-IsPermutation, Contains-permutation, IsPermutation-refl, IsPermutation-sym, IsPermutation-cons, IsPermutation-trans, IsPermutation-remove, Place, One, alphabet, places, place_rank, reading_of, IsBefore, letters_plugged, cable_letters, plugged_letters, has_letter, SameLetters, IsPaired, IsJoined, AreThePairs, differ, cable_cost, bar_cost, columns_of, DaysWheelsHaveTheirPlaces, TestsTellLetters, ThirteenColumns}
+use Rattle.kd_card.proofs.Prelude.{◌≡◌, ◌≢◌, ℕ, zero, suc, ◌+◌, ◌-◌, ◌<◌, ◌≤◌, ◌==◌, nat_eq, nat_lt, Bool, true, not, ◌||◌, cond, ◌⊎◌, inl, inr, List, [], ◌∷◌, ◌++◌, length, get_or, map, zip, replicate, Contains, IsPermutation, count_by, remove, Option, Some, None, ℤ, refl, sym, ap, ◌∙◌, subst, arith, AllByRecursion, AllZip, flat_map, list_all, false≢true, eq-eqb, lt-ltb, eqb_tells, All-contains, recursion_from_All, sum_by-cons, get_or-le-sum_by, AllPass-from_list_all, sum_by-IsPermutation, Contains-permutation, IsPermutation-refl, IsPermutation-sym, IsPermutation-cons, IsPermutation-trans, IsPermutation-remove, Place, One, alphabet, places, place_rank, reading_of, IsBefore, letters_plugged, cable_letters, plugged_letters, has_letter, SameLetters, IsPaired, IsJoined, AreThePairs, differ, cable_cost, bar_cost, columns_of, DaysWheelsHaveTheirPlaces, TestsTellLetters, ThirteenColumns}
 use Rattle.kd_state.specs.Costs.{standings_as}
 use Rattle.kd_state.specs.Setting.{Stands}
 use Rattle.std.specs.List as lists
 use Rattle.std.proofs.lemmas.List.Edits.{length-remove}
 use Rattle.kd_card.proofs.Duality.{pairing_cost, reordered}
 use Rattle.kd_card.proofs.Counts.{count_by-cons, times, times-append, AreOnce}
-use Rattle.kd_card.proofs.Falling.{CablesAreOnce, HasCables, not_differing}
+use Rattle.kd_card.proofs.Falling.{CablesAreOnce, HasCables, HasBars, not_differing}
 
 -- What the laws of kd_state say, as far as the proofs of this crate need it.
 pub record Told : Type 0 where
@@ -232,9 +232,9 @@ free_rows [] [] stand h = tt
 free_rows (bar ∷ bars) (w ∷ ws) stand h = (subst (λ row. bar_cost bar row ≡ 0) h.0 (own_row bar.0 bar.1 stand.0), free_rows bars ws stand.1 h.1)
 free_rows bars ws stand h = absurd h
 
-pub bars_paired : (bars : List (Place × Place)) (rows : List (ℕ × ℕ)) (prices : List ℤ) → All Stands bars → length rows ≡ length prices → IsPermutation (map (λ bar. reading_of bar.0 bar.1) bars) rows
+pub bars_paired : (bars : List (Place × Place)) (rows : List (ℕ × ℕ)) (prices : List ℤ) → HasBars bars → length rows ≡ length prices → IsPermutation (map (λ bar. reading_of bar.0 bar.1) bars) rows
     → FreePairing bar_cost bars rows prices
 bars_paired bars rows prices has count h =
     let beside = reordered (λ row (w : (ℕ × ℕ) × ℤ). row ≡ w.0) rows (map reading bars) (zip rows prices) (IsPermutation-sym (map reading bars) rows h)
     (with_prices (λ row (other : ℕ × ℕ). row ≡ other) rows rows prices count (alike_rows rows)) in
-    record { beside = beside.0; order = beside.1; free = free_of_all bar_cost bars beside.0 (free_rows bars beside.0 (recursion_from_All Stands bars has) beside.2) }
+    record { beside = beside.0; order = beside.1; free = free_of_all bar_cost bars beside.0 (free_rows bars beside.0 (recursion_from_All Stands bars has.stand) beside.2) }

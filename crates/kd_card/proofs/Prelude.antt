@@ -24,10 +24,10 @@ pub use Rattle.std.specs.Str.{IsUtf8, bytes_eq}
 pub use Rattle.std.specs.Str.Parse.{ParsesSigned, digits_value}
 pub use Rattle.arrayvec.specs.ArrayString.{array_string_len}
 pub use Rattle.kd_card.specs.CardFault.{AtNothing, AtOther, BeginsWithHead, BeginsWithKinds, BeginsWithSettings, BeginsWithWord, EndsGroup, HasNoNext, HasWords, IsDigit, IsNextKind, IsNumberText, IsPriceText, IsNumeral, SaysAllPrices, SaysBehind, SaysCard, SaysFirst, SaysGroup, SaysKinded, SaysLine, SaysNumbered, SaysPriceLine, SaysPrices, SaysSettings, SaysValue, first_text, floor_behind, with_line}
-pub use Rattle.kd_card.specs.CardText.{IsCard, card_text, column_word, head_words, lines_text, price_lines, price_words, row_word, settings_words, sum_words, version_text}
-pub use Rattle.kd_card.specs.Kinds.{AreCalled, AreEnds, AreKinds, HasKindWords, HasLook, IsInForm, IsPairInOrder, IsPricedKind, counted, ends_rank, kind_words, kinds_text, look_name, look_rank, look_text, name_text, pair_rank, prices_of_kinds}
-pub use Rattle.kd_card.specs.Laws.{AsFewAreNeeded, CardsHaveNoFault, FittingPricesBoundLists, NoCardBeginsAnother, OneCardFault, ProvingCardsAreAsLong, ProvingCardsAreShortest, ProvingPricesAreTight, RanksTellLooks, TextsTellCards}
-pub use Rattle.kd_card.specs.Prices.{ArePrices, AreTight, AreWithinReach, Fits, IsGroup, column_kinds, column_name, column_prices, group_of, how_many, price_count, price_sum, row_kinds, row_name, row_prices, version_of}
+pub use Rattle.kd_card.specs.CardText.{HaveKinds, IsCard, IsGroup, card_text, column_name, column_word, group_of, head_words, lines_text, price_count, price_lines, price_words, row_name, row_word, settings_words, sum_words, version_text}
+pub use Rattle.kd_card.specs.Kinds.{AreCalled, AreEnds, AreKinds, HasKindWords, HasLook, IsInForm, IsPairInOrder, IsPricedKind, bar_kind, cable_kind, counted, ends_rank, kind_words, kinds_text, look_name, look_rank, look_text, name_text, pair_kind, pair_rank, prices_of_kinds, row_kind}
+pub use Rattle.kd_card.specs.Laws.{CardsHaveNoFault, AsFewAreNeeded, FittingPricesBoundLists, NoCardBeginsAnother, OneCardFault, ProvingCardsAreAsLong, ProvingCardsAreShortest, ProvingPricesAreTight, RanksTellLooks, TextsTellCards}
+pub use Rattle.kd_card.specs.Prices.{ArePrices, AreTight, AreWithinReach, Fits, column_kinds, column_prices, how_many, price_sum, row_kinds, row_prices, version_of}
 pub use Rattle.kd_card.specs.Proving.{AreNeeded, AreOfKind, Expanded, IsNeeded, ProvesByNumber, Same, is_priced, priced_count}
 pub use Rattle.kd_card.specs.Steps.{Demands, Found, Only, Refused, Then}
 pub use Rattle.kd_card.specs.declared.fault.CardFault.TheVariants.{BadHead, BadLine, CountWrong, PriceMissing, TooMany, Trailing}
@@ -38,7 +38,7 @@ pub use Rattle.kd_card.specs.declared.look.Look.{Look}
 pub use Rattle.kd_card.specs.declared.look.Look.TheVariants.{Bar, Cable, Pair, Row}
 pub use Rattle.kd_card.specs.declared.look.Name.{Name}
 pub use Rattle.kd_card.specs.declared.prices.PriceParts.{PriceParts}
-pub use Rattle.kd_card.specs.declared.prices.PriceParts.TheVariants.{Bars, Cables, Kinds}
+pub use Rattle.kd_card.specs.declared.prices.PriceParts.TheVariants.{BarKinds, Bars, CableKinds, Cables}
 pub use Rattle.kd_card.specs.declared.prices.Version.{Version}
 pub use Rattle.kd_card.specs.declared.prices.Version.TheVariants.{ByKind, ByNumber}
 pub use Rattle.kd_enigma.specs.Plugs.{letters_plugged}

@@ -57,6 +57,18 @@ IsPriceOf word r =
 pub tells_price : (word : List ℕ) (r : Option ℤ) → IsPriceOf word r → IsTrue (is_some r) ↔ IsPriceText word
 tells_price word r e = grind arith
 
+-- all are prices where the first word is one, and all others are
+pub all_of_more : {rest word after : List ℕ} → IsFirstPart 32 rest word after
+    → All IsPriceText (words_of rest) ↔ (IsPriceText word × All IsPriceText (words_of after))
+all_of_more {word} {after} first =
+    rw (words_of_first first) (
+      λ all. let parts = recursion_from_All IsPriceText (word ∷ words_of after) all in (parts.0, All-from_recursion IsPriceText (words_of after) parts.1),
+      λ both. All-cons IsPriceText word (words_of after) both.0 both.1,
+    )
+
+pub all_of_last : (rest : List ℕ) → IsWithout 32 rest → All IsPriceText (words_of rest) ↔ IsPriceText rest
+all_of_last rest without = grind (arith, words_of_last, recursion_from_All, All-from_recursion)
+
 pub not_at : (words : List (Bor (List ℕ))) (i : ℕ) (d : Bor (List ℕ)) → i < length words → ¬ (IsPriceText (get_or words i d).now)
     → ¬ (All IsPriceText (map (λ (word : Bor (List ℕ)). word.now) words))
 not_at words i d inside none all =

@@ -142,12 +142,13 @@ bounds told (Rotor m) (Rotor n) (OfRotors s) (Cables row column) settings machin
       tight = λ exact. record { column_of = column_for (None, None) None table exact; row_of = row_for (None, None) None table exact };
     }
 bounds told (Pin m) (Pin n) (OfPins s) (Bars row column) settings machine legal are kind fits leads reads =
-    let at_last = list_keeps (Pin m) (Pin n) settings leads machine.legal.apart in
+    let at_first = machines_have_all (Pin m) machine.legal in
+    let at_last = list_keeps (Pin m) (Pin n) settings leads at_first in
     let pairing = bars_paired n.bars s.rows column at_last (legal.count ∙ sym are.columns) reads.key.rows in
     let falling = list_lowers told [] pairing.beside (OfPins s) legal (Pin m) (Pin n) settings refl leads in
     let table : IsTable bar_cost 27 m.bars row s.rows column (loose_count (Pin m) (OfPins s)) (length settings) =
     record {
-      rows_count = machine.legal.bars;
+      rows_count = at_first.count;
       row_prices_count = are.rows;
       columns_count = legal.count;
       prices_count = are.columns;

@@ -6,7 +6,7 @@ use Rattle.kd_state.specs.Words.{words_of, line_of, IsFirstPart}
 use Rattle.kd_state.specs.Line.{BeginsWith, BeginsWithNoLine}
 use Rattle.kd_state.specs.SheetDay.{IsDayNumber}
 use Rattle.kd_card.specs.declared.prices.PriceParts.{PriceParts}
-use Rattle.kd_card.specs.declared.prices.PriceParts.TheVariants.{Cables, Bars, Kinds}
+use Rattle.kd_card.specs.declared.prices.PriceParts.TheVariants.{Cables, Bars}
 use Rattle.kd_card.specs.declared.prices.Version.{Version}
 use Rattle.kd_card.specs.declared.prices.Version.TheVariants.{ByNumber, ByKind}
 use Rattle.kd_card.specs.declared.group.Group.{Group}
@@ -17,8 +17,8 @@ use Rattle.kd_card.specs.declared.fault.CardFault.{CardFault}
 use Rattle.kd_card.specs.declared.fault.CardFault.TheVariants.{BadHead, BadLine, TooMany, PriceMissing, CountWrong, Trailing}
 use Rattle.kd_card.specs.Steps.{Says, ◌>>=◌, Only, Finds, Demands, Takes}
 use Rattle.kd_card.specs.Kinds.{name_text, look_name, look_rank, kind_words, kinds_text, counted, IsPricedKind, AreKinds, AreCalled}
-use Rattle.kd_card.specs.Prices.{row_name, column_name, price_count, price_sum, AreWithinReach}
-use Rattle.kd_card.specs.CardText.{row_word, column_word, head_words, price_lines}
+use Rattle.kd_card.specs.Prices.{price_sum, AreWithinReach}
+use Rattle.kd_card.specs.CardText.{row_word, column_word, row_name, column_name, price_count, head_words, price_lines, HaveKinds}
 
 -- ---- numbers and prices as they are written
 
@@ -178,7 +178,8 @@ SaysKinded line bytes = do
   first ← SaysFirst (first_text ByKind) line bytes
   rows ← SaysGroup (row_name first.0) (price_count first.0) line bytes
   columns ← SaysGroup (column_name first.0) (price_count first.0) (line + length rows.0) rows.1
-  Only (Kinds first.0 (record { items = rows.0 }) (record { items = columns.0 }), columns.1)
+  prices ← Takes (HaveKinds first.0 rows.0 columns.0)
+  Only (prices, columns.1)
 
 -- ---- the card
 

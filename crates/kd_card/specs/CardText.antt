@@ -7,13 +7,23 @@ use Rattle.kd_state.specs.Words.{line_of}
 use Rattle.kd_state.specs.Line.{setting_words, IsInRange}
 use Rattle.kd_state.specs.SheetDay.{IsDayNumber}
 use Rattle.kd_card.specs.declared.prices.PriceParts.{PriceParts}
-use Rattle.kd_card.specs.declared.prices.PriceParts.TheVariants.{Cables, Bars, Kinds}
+use Rattle.kd_card.specs.declared.prices.PriceParts.TheVariants.{Cables, Bars, CableKinds, BarKinds}
 use Rattle.kd_card.specs.declared.prices.Version.{Version}
 use Rattle.kd_card.specs.declared.prices.Version.TheVariants.{ByNumber, ByKind}
 use Rattle.kd_card.specs.declared.group.Group.{Group}
 use Rattle.kd_card.specs.declared.group.Group.TheVariants.{OfCables, OfBars}
-use Rattle.kd_card.specs.Kinds.{kind_words}
-use Rattle.kd_card.specs.Prices.{version_of, price_sum, ArePrices}
+use Rattle.kd_card.specs.declared.look.Name.{Name}
+use Rattle.kd_card.specs.declared.look.Name.TheVariants as names
+use Rattle.kd_card.specs.declared.kinds.PricedKind.{PricedKind}
+use Rattle.kd_card.specs.Kinds.{kind_words, cable_kind, pair_kind, bar_kind, row_kind, counted, AreKinds, AreCalled}
+use Rattle.kd_card.specs.Prices.{version_of, row_kinds, column_kinds, price_sum, ArePrices}
+
+-- what prices are of
+abbrev pub group_of : PriceParts → Group
+group_of (Cables row col) = OfCables
+group_of (Bars row col) = OfBars
+group_of (CableKinds row col) = OfCables
+group_of (BarKinds row col) = OfBars
 
 -- the first words of the two lines of prices
 abbrev pub row_word : Group → List ℕ
@@ -23,6 +33,33 @@ row_word OfBars = codes "BARS"
 abbrev pub column_word : Group → List ℕ
 column_word OfCables = codes "PAIRS"
 column_word OfBars = codes "ROWS"
+
+-- what the things are called in the lines of their kinds
+abbrev pub row_name : Group → Name
+row_name OfCables = names.Cable
+row_name OfBars = names.Bar
+
+abbrev pub column_name : Group → Name
+column_name OfCables = names.Pair
+column_name OfBars = names.Row
+
+-- how many there are of each
+abbrev pub price_count : Group → ℕ
+price_count OfCables = 13
+price_count OfBars = 27
+
+-- kinds of things of that name, in order and each once, and of so many things together
+pub record IsGroup (name : Name) (number : ℕ) (kinds : List PricedKind) : Type 0 where
+  pub called : AreCalled name kinds
+  pub in_order : AreKinds 0 kinds
+  pub count : counted kinds ≡ number
+
+-- the prices are those of these kinds
+pub record HaveKinds (group : Group) (rows columns : List PricedKind) (prices : PriceParts) : Type 0 where
+  pub of_group : group_of prices ≡ group
+  pub version : version_of prices ≡ ByKind
+  pub row_kinds : row_kinds prices ≡ rows
+  pub column_kinds : column_kinds prices ≡ columns
 
 -- the words of the head: 1 before prices by number, 2 before prices by kind
 abbrev pub version_text : Version → List ℕ
@@ -52,7 +89,8 @@ lines_text lines = flat_map (λ words. line_of words ++ 10 ∷ []) lines
 abbrev pub price_lines : PriceParts → List (List (List ℕ))
 price_lines (Cables row col) = price_words (row_word OfCables) row ∷ price_words (column_word OfCables) col ∷ []
 price_lines (Bars row col) = price_words (row_word OfBars) row ∷ price_words (column_word OfBars) col ∷ []
-price_lines (Kinds group row col) = map kind_words (row.items ++ col.items)
+price_lines (CableKinds row col) = map kind_words (map cable_kind row.items) ++ map kind_words (map pair_kind col.items)
+price_lines (BarKinds row col) = map kind_words (map bar_kind row.items) ++ map kind_words (map row_kind col.items)
 
 -- the card's lines: the head, the settings and their number, the prices and their sum
 abbrev pub card_lines : ℕ → List Setting → PriceParts → List (List (List ℕ))

@@ -11,6 +11,10 @@ use Rattle.kd_card.specs.declared.look.Look.TheVariants.{Cable, Pair, Bar, Row}
 use Rattle.kd_card.specs.declared.look.Name.{Name}
 use Rattle.kd_card.specs.declared.look.Name.TheVariants as names
 use Rattle.kd_card.specs.declared.kinds.PricedKind.{PricedKind}
+use Rattle.kd_card.specs.declared.kinds.CableKind.{CableKind}
+use Rattle.kd_card.specs.declared.kinds.PairKind.{PairKind}
+use Rattle.kd_card.specs.declared.kinds.BarKind.{BarKind}
+use Rattle.kd_card.specs.declared.kinds.RowKind.{RowKind}
 
 -- ---- looks
 
@@ -126,3 +130,16 @@ pub record HasKindWords (name : Name) (words : List (List ℕ)) (kind : PricedKi
 -- a line for each kind, with LF at its end
 abbrev pub kinds_text : List PricedKind → List ℕ
 kinds_text kinds = flat_map (λ kind. line_of (kind_words kind) ++ 10 ∷ []) kinds
+
+-- kinds of cables, pairs, bars and rows, as kinds of whatever things
+abbrev pub cable_kind : CableKind → PricedKind
+cable_kind kind = record { look = Cable kind.ends; count = kind.count; price = kind.price }
+
+abbrev pub pair_kind : PairKind → PricedKind
+pair_kind kind = record { look = Pair kind.pair; count = kind.count; price = kind.price }
+
+abbrev pub bar_kind : BarKind → PricedKind
+bar_kind kind = record { look = Bar kind.standing; count = kind.count; price = kind.price }
+
+abbrev pub row_kind : RowKind → PricedKind
+row_kind kind = record { look = Row kind.reading; count = kind.count; price = kind.price }

@@ -1,70 +1,54 @@
 -- The prices of a card: one for each cable or bar, and one for each pair or row, counted from 0; or one for each kind of them.
-use Rattle.std.specs.Prelude.{◌≡◌, ℕ, ◌<◌, ◌≤◌, List, [], ◌++◌, length, All, fold, slice_index, slice_index_or, ℤ, pos, unsigned_abs, ◌+ℤ◌, ◌≤ℤ◌}
+use Rattle.std.specs.Prelude.{◌≡◌, ℕ, ◌<◌, ◌≤◌, List, [], ◌++◌, length, map, All, fold, slice_index, slice_index_or, ℤ, pos, unsigned_abs, ◌+ℤ◌, ◌≤ℤ◌}
 use Rattle.kd_card.specs.declared.prices.PriceParts.{PriceParts}
-use Rattle.kd_card.specs.declared.prices.PriceParts.TheVariants.{Cables, Bars, Kinds}
+use Rattle.kd_card.specs.declared.prices.PriceParts.TheVariants.{Cables, Bars, CableKinds, BarKinds}
 use Rattle.kd_card.specs.declared.prices.Version.{Version}
 use Rattle.kd_card.specs.declared.prices.Version.TheVariants.{ByNumber, ByKind}
-use Rattle.kd_card.specs.declared.group.Group.{Group}
-use Rattle.kd_card.specs.declared.group.Group.TheVariants.{OfCables, OfBars}
-use Rattle.kd_card.specs.declared.look.Name.{Name}
-use Rattle.kd_card.specs.declared.look.Name.TheVariants as names
 use Rattle.kd_card.specs.declared.kinds.PricedKind.{PricedKind}
-use Rattle.kd_card.specs.Kinds.{prices_of_kinds, counted, AreKinds, AreCalled}
-
--- what things are called in the lines of their kinds: the rows of the table of costs, and its columns
-abbrev pub row_name : Group → Name
-row_name OfCables = names.Cable
-row_name OfBars = names.Bar
-
-abbrev pub column_name : Group → Name
-column_name OfCables = names.Pair
-column_name OfBars = names.Row
-
--- how many there are of each
-abbrev pub price_count : Group → ℕ
-price_count OfCables = 13
-price_count OfBars = 27
-
--- what prices are of
-abbrev pub group_of : PriceParts → Group
-group_of (Cables row col) = OfCables
-group_of (Bars row col) = OfBars
-group_of (Kinds group row col) = group
+use Rattle.kd_card.specs.Kinds.{cable_kind, pair_kind, bar_kind, row_kind, prices_of_kinds, AreKinds}
 
 -- whether each cable, pair, bar or row has a price of its own, or each kind of them has one
 abbrev pub version_of : PriceParts → Version
 version_of (Cables row col) = ByNumber
 version_of (Bars row col) = ByNumber
-version_of (Kinds group row col) = ByKind
+version_of (CableKinds row col) = ByKind
+version_of (BarKinds row col) = ByKind
 
 -- the kinds of the rows of the table of costs: of the cables, or of the bars
 abbrev pub row_kinds : PriceParts → List PricedKind
 row_kinds (Cables row col) = []
 row_kinds (Bars row col) = []
-row_kinds (Kinds group row col) = row.items
+row_kinds (CableKinds row col) = map cable_kind row.items
+row_kinds (BarKinds row col) = map bar_kind row.items
 
 -- the kinds of its columns: of the pairs and nothings, or of the sheet's rows
 abbrev pub column_kinds : PriceParts → List PricedKind
 column_kinds (Cables row col) = []
 column_kinds (Bars row col) = []
-column_kinds (Kinds group row col) = col.items
+column_kinds (CableKinds row col) = map pair_kind col.items
+column_kinds (BarKinds row col) = map row_kind col.items
 
 -- The prices of the rows of the table of costs: of the cables, or of the bars. Those of a kind stand together, as many as
 -- there are of the kind.
 abbrev pub row_prices : PriceParts → List ℤ
 row_prices (Cables row col) = row
 row_prices (Bars row col) = row
-row_prices (Kinds group row col) = prices_of_kinds row.items
+row_prices (CableKinds row col) = prices_of_kinds (map cable_kind row.items)
+row_prices (BarKinds row col) = prices_of_kinds (map bar_kind row.items)
 
 -- the prices of its columns: of the pairs and nothings, or of the sheet's rows
 abbrev pub column_prices : PriceParts → List ℤ
 column_prices (Cables row col) = col
 column_prices (Bars row col) = col
-column_prices (Kinds group row col) = prices_of_kinds col.items
+column_prices (CableKinds row col) = prices_of_kinds (map pair_kind col.items)
+column_prices (BarKinds row col) = prices_of_kinds (map row_kind col.items)
 
 -- how many there are of each
 abbrev pub how_many : PriceParts → ℕ
-how_many prices = price_count (group_of prices)
+how_many (Cables row col) = 13
+how_many (Bars row col) = 27
+how_many (CableKinds row col) = 13
+how_many (BarKinds row col) = 27
 
 -- no price is below -9999 or above 9999
 abbrev pub AreWithinReach : List ℤ → Type 0
@@ -76,16 +60,8 @@ pub record ArePrices (prices : PriceParts) : Type 0 where
   pub columns : length (column_prices prices) ≡ how_many prices
   pub row_reach : AreWithinReach (row_prices prices)
   pub column_reach : AreWithinReach (column_prices prices)
-  pub row_called : AreCalled (row_name (group_of prices)) (row_kinds prices)
-  pub column_called : AreCalled (column_name (group_of prices)) (column_kinds prices)
   pub row_kinds : AreKinds 0 (row_kinds prices)
   pub column_kinds : AreKinds 0 (column_kinds prices)
-
--- kinds of things of that name, in order and each once, and of so many things together
-pub record IsGroup (name : Name) (number : ℕ) (kinds : List PricedKind) : Type 0 where
-  pub called : AreCalled name kinds
-  pub in_order : AreKinds 0 kinds
-  pub count : counted kinds ≡ number
 
 -- the cost where a row and a column meet
 abbrev pub cost_at : List (List ℕ) → ℕ → ℕ → ℕ

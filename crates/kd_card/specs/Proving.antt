@@ -20,7 +20,8 @@ use Rattle.kd_card.specs.declared.look.Look.{Look}
 use Rattle.kd_card.specs.declared.look.Look.TheVariants.{Cable, Pair, Bar, Row}
 use Rattle.kd_card.specs.declared.kinds.PricedKind.{PricedKind}
 use Rattle.kd_card.specs.Kinds.{look_rank}
-use Rattle.kd_card.specs.Prices.{version_of, row_kinds, column_kinds, row_prices, column_prices, group_of, price_at, price_sum, Fits, ArePrices}
+use Rattle.kd_card.specs.Prices.{version_of, row_kinds, column_kinds, row_prices, column_prices, price_at, price_sum, Fits, ArePrices}
+use Rattle.kd_card.specs.CardText.{group_of}
 
 -- the prices are by number, and those of the machine's kind: of cables for a rotor machine, and of bars for a Converter M-209
 abbrev pub AreOfKind : Parts → PriceParts → Type 0

@@ -2,11 +2,56 @@
 ghost use Rattle.std.specs.Prelude.{◌≡◌, ◌≢◌, ◌↔◌, ◌+◌, ◌<◌, ◌≤◌, ◌++◌, length, map, replicate};
 ghost use Rattle.std.specs.Prelude.{IsTrue, MatchOption};
 ghost use Rattle.arrayvec.specs.ArrayVec.{array_vec_len};
+ghost use Rattle.kd_card.specs.declared.look.Name.{Name};
+ghost use Rattle.kd_card.specs.declared.kinds.PricedKind.{PricedKind};
 ghost use Rattle.kd_card.specs.Kinds.{look_name, look_rank, counted, prices_of_kinds, IsPricedKind};
 ghost use Rattle.kd_card.specs.Kinds.{AreKinds, AreCalled};
 
 use super::look::{Look, Name};
 use arrayvec::ArrayVec;
+use kd_tables::{Letter, Reading, Standing};
+
+/// Cables that are alike.
+#[derive(Clone, Copy, Default)]
+pub struct CableKind {
+    /// Their letters: a single one comes first, two are in alphabetical order.
+    pub ends: (Option<Letter>, Option<Letter>),
+    /// How many there are, from 1.
+    pub count: u8,
+    /// The price of each, from -9999 to 9999.
+    pub price: i16,
+}
+
+/// Pairs, or nothings, that are alike.
+#[derive(Clone, Copy, Default)]
+pub struct PairKind {
+    /// The letters in alphabetical order, or nothing.
+    pub pair: Option<(Letter, Letter)>,
+    /// How many there are, from 1.
+    pub count: u8,
+    /// The price of each, from -9999 to 9999.
+    pub price: i16,
+}
+
+/// Bars that stand alike.
+#[derive(Clone, Copy)]
+pub struct BarKind {
+    pub standing: Standing,
+    /// How many there are, from 1.
+    pub count: u8,
+    /// The price of each, from -9999 to 9999.
+    pub price: i16,
+}
+
+/// Rows of a sheet that read alike.
+#[derive(Clone, Copy)]
+pub struct RowKind {
+    pub reading: Reading,
+    /// How many there are, from 1.
+    pub count: u8,
+    /// The price of each, from -9999 to 9999.
+    pub price: i16,
+}
 
 /// A kind of whatever things: what they have in common, how many there are, and the price of each.
 #[derive(Clone, Copy, Default)]
@@ -16,33 +61,212 @@ pub struct PricedKind {
     pub price: i16,
 }
 
+/// What stands in the unused places of a list of kinds. It may be anything: no contract says which value it is.
+impl Default for BarKind {
+    ghost is_default = { λ _. Unit {0} };
+
+    fn default() -> Self {
+        BarKind {
+            standing: Standing::all()[0],
+            count: 0,
+            price: 0,
+        }
+    }
+}
+
+impl Default for RowKind {
+    ghost is_default = { λ _. Unit {0} };
+
+    fn default() -> Self {
+        RowKind {
+            reading: Standing::all()[0].reading(),
+            count: 0,
+            price: 0,
+        }
+    }
+}
+
+/// Kinds of cables, pairs, bars or rows.
+pub(crate) trait AsKind: Copy + Default {
+    /// What such things are called.
+    ghost name: { Name };
+
+    /// The kind, as one of whatever things.
+    ghost kind: { Self → PricedKind };
+
+    fn kind(&self) -> PricedKind
+        ensures { result ≡ kind self.now };
+
+    /// The kind of such things that this one is; none where it is one of other things.
+    fn of_kind(any: PricedKind) -> Option<Self>
+        ensures { MatchOption result (look_name any.look ≢ name) (λ own. kind own ≡ any) };
+}
+
+impl AsKind for CableKind {
+    ghost use Rattle.kd_card.specs.declared.look.Name.TheVariants as names;
+    ghost use Rattle.kd_card.specs.Kinds.{cable_kind};
+
+    ghost name = { names.Cable };
+
+    ghost kind = { cable_kind };
+
+    fn kind(&self) -> PricedKind {
+        PricedKind {
+            look: Look::Cable(self.ends),
+            count: self.count,
+            price: self.price,
+        }
+    }
+
+    fn of_kind(any: PricedKind) -> Option<Self> {
+        let PricedKind { look, count, price } = any;
+        match look {
+            Look::Cable(ends) => Some(CableKind { ends, count, price }),
+            _ => None,
+        }
+    }
+}
+
+impl AsKind for PairKind {
+    ghost use Rattle.kd_card.specs.declared.look.Name.TheVariants as names;
+    ghost use Rattle.kd_card.specs.Kinds.{pair_kind};
+
+    ghost name = { names.Pair };
+
+    ghost kind = { pair_kind };
+
+    fn kind(&self) -> PricedKind {
+        PricedKind {
+            look: Look::Pair(self.pair),
+            count: self.count,
+            price: self.price,
+        }
+    }
+
+    fn of_kind(any: PricedKind) -> Option<Self> {
+        let PricedKind { look, count, price } = any;
+        match look {
+            Look::Pair(pair) => Some(PairKind { pair, count, price }),
+            _ => None,
+        }
+    }
+}
+
+impl AsKind for BarKind {
+    ghost use Rattle.kd_card.specs.declared.look.Name.TheVariants as names;
+    ghost use Rattle.kd_card.specs.Kinds.{bar_kind};
+
+    ghost name = { names.Bar };
+
+    ghost kind = { bar_kind };
+
+    fn kind(&self) -> PricedKind {
+        PricedKind {
+            look: Look::Bar(self.standing),
+            count: self.count,
+            price: self.price,
+        }
+    }
+
+    fn of_kind(any: PricedKind) -> Option<Self> {
+        let PricedKind { look, count, price } = any;
+        match look {
+            Look::Bar(standing) => Some(BarKind {
+                standing,
+                count,
+                price,
+            }),
+            _ => None,
+        }
+    }
+}
+
+impl AsKind for RowKind {
+    ghost use Rattle.kd_card.specs.declared.look.Name.TheVariants as names;
+    ghost use Rattle.kd_card.specs.Kinds.{row_kind};
+
+    ghost name = { names.Row };
+
+    ghost kind = { row_kind };
+
+    fn kind(&self) -> PricedKind {
+        PricedKind {
+            look: Look::Row(self.reading),
+            count: self.count,
+            price: self.price,
+        }
+    }
+
+    fn of_kind(any: PricedKind) -> Option<Self> {
+        let PricedKind { look, count, price } = any;
+        match look {
+            Look::Row(reading) => Some(RowKind {
+                reading,
+                count,
+                price,
+            }),
+            _ => None,
+        }
+    }
+}
+
+/// The kinds, as those of whatever things.
+pub(crate) fn kinds_of<K: AsKind>(kinds: &[K]) -> ArrayVec<PricedKind, 27>
+    requires { length kinds.now ≤ 27 }
+    ensures { result.items ≡ map K.kind kinds.now }
+{
+    let mut all = ArrayVec::new();
+    for kind in kinds {
+        all.push(kind.kind());
+    }
+    all
+}
+
+/// The kinds, which are all of such things, as their own.
+#[tactic(auto, using(crate::proofs::KindLists::called_at))]
+pub(crate) fn own_kinds<K: AsKind, const N: usize>(kinds: &[PricedKind]) -> ArrayVec<K, N>
+    requires called { AreCalled K.name kinds.now }
+    requires room { length kinds.now ≤ N }
+    ensures { map K.kind result.items ≡ kinds.now }
+{
+    let mut own = ArrayVec::new();
+    for kind in kinds {
+        own.push(own_kind(*kind));
+    }
+    own
+}
+
+/// The kind as one of such things.
+fn own_kind<K: AsKind>(kind: PricedKind) -> K
+    requires { look_name kind.look ≡ K.name }
+    ensures { K.kind result ≡ kind }
+{
+    K::of_kind(kind).unwrap()
+}
+
 impl PricedKind {
-    /// Whether the kind may stand on a card, behind kinds of such things that all have lower ranks than this one.
-    fn may_follow(&self, name: Name, floor: usize) -> bool
-        ensures { IsTrue result
-            ↔ ((look_name self.now.look ≡ name) × IsPricedKind self.now × (floor ≤ look_rank self.now.look)) }
+    /// Whether the kind may stand on a card, behind kinds that all have lower ranks than this one.
+    fn may_follow(&self, floor: usize) -> bool
+        ensures { IsTrue result ↔ (IsPricedKind self.now × (floor ≤ look_rank self.now.look)) }
     {
-        self.look.name() == name
-            && self.look.is_in_form()
+        self.look.is_in_form()
             && self.count > 0
             && self.price.unsigned_abs() <= 9999
             && floor <= self.look.rank()
     }
 }
 
-/// Whether the kinds are of things of that name, in their order from that rank on, each once, and count so many things
-/// together.
-pub(crate) fn are_kinds(kinds: &[PricedKind], name: Name, floor: usize, number: usize) -> bool
-    ensures { IsTrue result
-        ↔ (AreCalled name kinds.now × AreKinds floor kinds.now × (counted kinds.now ≡ number)) }
+/// Whether the kinds are in their order from that rank on, each once, and count so many things together.
+pub(crate) fn are_kinds(kinds: &[PricedKind], floor: usize, number: usize) -> bool
+    ensures { IsTrue result ↔ (AreKinds floor kinds.now × (counted kinds.now ≡ number)) }
 {
     match kinds {
         [] => number == 0,
         [kind, rest @ ..] => {
             let count = usize::from(kind.count);
-            kind.may_follow(name, floor)
+            kind.may_follow(floor)
                 && count <= number
-                && are_kinds(rest, name, kind.look.rank() + 1, number - count)
+                && are_kinds(rest, kind.look.rank() + 1, number - count)
         }
     }
 }

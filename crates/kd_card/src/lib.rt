@@ -19,7 +19,7 @@ pub use card::Card;
 pub use carrying::{IllegalAt, carry_all};
 pub use fault::CardFault;
 pub use group::Group;
-pub use kinds::PricedKind;
+pub use kinds::{BarKind, CableKind, PairKind, PricedKind, RowKind};
 pub use look::Look;
 pub use prices::{PriceParts, Prices, Version};
 pub use read::read_card;

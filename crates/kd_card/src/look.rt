@@ -13,7 +13,7 @@ use kd_tables::{Letter, Place, Reading, Standing};
 type Ends = (Option<Letter>, Option<Letter>);
 
 /// What things are called in the lines of a card.
-#[derive(Clone, Copy, PartialEq, Eq)]
+#[derive(Clone, Copy)]
 pub(crate) enum Name {
     Cable,
     Pair,

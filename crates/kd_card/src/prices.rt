@@ -3,12 +3,15 @@ ghost use Rattle.std.specs.Prelude.{IsTrue, MatchOption};
 ghost use Rattle.kd_card.specs.Prices.{price_sum, how_many, version_of, row_kinds, column_kinds};
 ghost use Rattle.kd_card.specs.Prices.{row_prices, column_prices};
 ghost use Rattle.kd_card.specs.CardFault.{numbered};
-ghost use Rattle.kd_card.specs.Prices.{row_name, column_name, price_count, group_of};
-ghost use Rattle.kd_card.specs.Prices.{AreWithinReach, ArePrices, IsGroup};
-ghost use Rattle.kd_card.specs.CardText.{price_lines};
+ghost use Rattle.kd_card.specs.Prices.{AreWithinReach, ArePrices};
+ghost use Rattle.kd_card.specs.CardText.{row_name, column_name, price_count, price_lines, group_of, IsGroup};
+ghost use Rattle.kd_card.specs.CardText.{HaveKinds};
 
 use super::group::Group;
-use super::kinds::{PricedKind, are_kinds, prices_of_kinds};
+use super::kinds::{
+    AsKind, BarKind, CableKind, PairKind, PricedKind, RowKind, are_kinds, kinds_of, own_kinds,
+    prices_of_kinds,
+};
 use arrayvec::ArrayVec;
 use std::marker::Model;
 
@@ -22,12 +25,13 @@ pub enum Version {
 }
 
 /// The prices of a card: of the cables and of the pairs and nothings, or of the bars and of the sheet's rows; or of the
-/// kinds of what a group has in rows and in columns.
+/// kinds of each.
 #[derive(Drop)]
 pub enum PriceParts {
     Cables([i16; 13], [i16; 13]),
     Bars([i16; 27], [i16; 27]),
-    Kinds(Group, ArrayVec<PricedKind, 27>, ArrayVec<PricedKind, 27>),
+    CableKinds(ArrayVec<CableKind, 13>, ArrayVec<PairKind, 13>),
+    BarKinds(ArrayVec<BarKind, 27>, ArrayVec<RowKind, 27>),
 }
 
 /// The prices of a card, each from -9999 to 9999.
@@ -77,23 +81,48 @@ impl Prices {
         }
     }
 
-    /// The prices of the kinds of a group's rows and columns: of cables, and of pairs and nothings; or of bars, and of
-    /// the sheet's rows. None where a kind is of other things, or isn't in the form in which it is written, or has the
-    /// count 0, or the kinds of rows or columns aren't in order, each once, or aren't of 13 cables or 27 bars together,
-    /// or a price is below -9999 or above 9999.
-    pub fn kinds(group: Group, rows: &[PricedKind], columns: &[PricedKind]) -> Option<Self>
+    /// The prices of the kinds of cables, and of the kinds of pairs and nothings; none where a kind isn't in the form
+    /// in which it is written, or has the count 0, or the kinds of a group aren't in order, each once, or aren't of 13
+    /// things together, or a price is below -9999 or above 9999.
+    #[tactic(auto, using(crate::proofs::KindPrices::too_long))]
+    pub fn cable_kinds(cables: &[CableKind], pairs: &[PairKind]) -> Option<Self>
         ensures { let parts =
-            PriceParts.Kinds group (record { items = rows.now }) (record { items = columns.now }) in
+            PriceParts.CableKinds (record { items = cables.now }) (record { items = pairs.now }) in
             MatchOption result (¬ (ArePrices parts)) (λ prices. prices ≡ parts) }
     {
-        let number = group.number();
-        if !are_kinds(rows, group.row_name(), 0, number) {
+        let cables = copied(cables)?;
+        let pairs = copied(pairs)?;
+        Prices::of_kinds(PriceParts::CableKinds(cables, pairs), 13)
+    }
+
+    /// The prices of the kinds of bars, and of the kinds of the sheet's rows; none where a kind isn't in the form in
+    /// which it is written, or has the count 0, or the kinds of a group aren't in order, each once, or aren't of 27
+    /// things together, or a price is below -9999 or above 9999.
+    #[tactic(auto, using(crate::proofs::KindPrices::too_long))]
+    pub fn bar_kinds(bars: &[BarKind], rows: &[RowKind]) -> Option<Self>
+        ensures { let parts =
+            PriceParts.BarKinds (record { items = bars.now }) (record { items = rows.now }) in
+            MatchOption result (¬ (ArePrices parts)) (λ prices. prices ≡ parts) }
+    {
+        let bars = copied(bars)?;
+        let rows = copied(rows)?;
+        Prices::of_kinds(PriceParts::BarKinds(bars, rows), 27)
+    }
+
+    /// The prices of these kinds, if the kinds of both groups are in order, each once, and of so many things.
+    #[tactic(auto, using(crate::proofs::KindPrices::are_prices, crate::proofs::KindPrices::row_count, crate::proofs::KindPrices::column_count))]
+    fn of_kinds(parts: PriceParts, number: usize) -> Option<Self>
+        requires kinds { version_of parts ≡ Version.ByKind }
+        requires number { number ≡ how_many parts }
+        ensures { MatchOption result (¬ (ArePrices parts)) (λ prices. prices ≡ parts) }
+    {
+        if !are_kinds(parts.row_kinds().as_slice(), 0, number) {
             return None;
         }
-        if !are_kinds(columns, group.column_name(), 0, number) {
+        if !are_kinds(parts.column_kinds().as_slice(), 0, number) {
             return None;
         }
-        Some(Prices::of_groups(group, rows, columns))
+        Some(Prices::of_parts(parts))
     }
 
     /// The prices of these rows and columns of a group, one for each.
@@ -114,14 +143,21 @@ impl Prices {
     }
 
     /// The prices of these kinds of rows and columns of a group.
+    #[tactic(auto, using(crate::proofs::KindPrices::group_fits))]
     pub fn of_groups(group: Group, rows: &[PricedKind], columns: &[PricedKind]) -> Self
         requires rows { IsGroup (row_name group) (price_count group) rows.now }
         requires columns { IsGroup (column_name group) (price_count group) columns.now }
-        ensures value { result
-            ≡ PriceParts.Kinds group (record { items = rows.now }) (record { items = columns.now }) }
+        ensures kinds { HaveKinds group rows.now columns.now result }
         ensures are_prices { ArePrices result }
     {
-        Prices::of_parts(PriceParts::Kinds(group, copied(rows), copied(columns)))
+        match group {
+            Group::OfCables => {
+                Prices::of_parts(PriceParts::CableKinds(own_kinds(rows), own_kinds(columns)))
+            }
+            Group::OfBars => {
+                Prices::of_parts(PriceParts::BarKinds(own_kinds(rows), own_kinds(columns)))
+            }
+        }
     }
 
     /// What the prices are of.
@@ -129,9 +165,8 @@ impl Prices {
         ensures { result ≡ group_of self.now }
     {
         match self.parts {
-            PriceParts::Cables(..) => Group::OfCables,
-            PriceParts::Bars(..) => Group::OfBars,
-            PriceParts::Kinds(group, ..) => group,
+            PriceParts::Cables(..) | PriceParts::CableKinds(..) => Group::OfCables,
+            PriceParts::Bars(..) | PriceParts::BarKinds(..) => Group::OfBars,
         }
     }
 
@@ -142,7 +177,7 @@ impl Prices {
     {
         match self.parts {
             PriceParts::Cables(..) | PriceParts::Bars(..) => Version::ByNumber,
-            PriceParts::Kinds(..) => Version::ByKind,
+            PriceParts::CableKinds(..) | PriceParts::BarKinds(..) => Version::ByKind,
         }
     }
 
@@ -151,9 +186,9 @@ impl Prices {
         ensures value { result ≡ length (price_lines self.now) }
         ensures few { result ≤ 54 }
     {
-        match &self.parts {
-            PriceParts::Kinds(_, rows, columns) => rows.len() + columns.len(),
-            _ => 2,
+        match self.version() {
+            Version::ByNumber => 2,
+            Version::ByKind => self.row_kinds().len() + self.column_kinds().len(),
         }
     }
 
@@ -166,56 +201,50 @@ impl Prices {
     }
 
     /// The prices, row by row and column by column, or kind by kind.
-    pub fn parts(&self) -> &PriceParts
-        ensures value { result.now ≡ self.now }
-        ensures are_prices { ArePrices result.now }
+    pub fn parts(&self) -> PriceParts
+        ensures value { result ≡ self.now }
+        ensures are_prices { ArePrices result }
     {
-        &self.parts
+        self.parts.copied()
     }
 
     /// The kinds of the cables, or of the bars; none for prices by number.
-    pub fn row_kinds(&self) -> &[PricedKind]
-        ensures { result.now ≡ row_kinds self.now }
+    pub fn row_kinds(&self) -> ArrayVec<PricedKind, 27>
+        ensures { result.items ≡ row_kinds self.now }
     {
-        match &self.parts {
-            PriceParts::Kinds(_, rows, _) => rows.as_slice(),
-            _ => &[],
-        }
+        self.parts.row_kinds()
     }
 
     /// The kinds of the pairs and nothings, or of the sheet's rows; none for prices by number.
-    pub fn column_kinds(&self) -> &[PricedKind]
-        ensures { result.now ≡ column_kinds self.now }
+    pub fn column_kinds(&self) -> ArrayVec<PricedKind, 27>
+        ensures { result.items ≡ column_kinds self.now }
     {
-        match &self.parts {
-            PriceParts::Kinds(_, _, columns) => columns.as_slice(),
-            _ => &[],
-        }
+        self.parts.column_kinds()
     }
 
     /// The prices of the cables, or of the bars, one for each; those of a kind stand together.
-    #[tactic(auto, using(crate::proofs::CardWords::few_prices, crate::proofs::KindPrices::rows_counted))]
+    #[tactic(auto, using(crate::proofs::CardWords::few_prices, crate::proofs::KindPrices::row_count, crate::proofs::KindPrices::prices_of))]
     pub fn row_prices(&self) -> ArrayVec<i16, 27>
         ensures value { result.items ≡ row_prices self.now }
         ensures are_prices { ArePrices self.now }
     {
         match &self.parts {
-            PriceParts::Cables(cables, _) => copied(cables),
-            PriceParts::Bars(bars, _) => copied(bars),
-            PriceParts::Kinds(_, rows, _) => prices_of_kinds(rows.as_slice()),
+            PriceParts::Cables(cables, _) => copied(cables).unwrap(),
+            PriceParts::Bars(bars, _) => copied(bars).unwrap(),
+            _ => prices_of_kinds(self.row_kinds().as_slice()),
         }
     }
 
     /// The prices of the pairs and nothings, or of the sheet's rows, one for each; those of a kind stand together.
-    #[tactic(auto, using(crate::proofs::CardWords::few_prices, crate::proofs::KindPrices::columns_counted))]
+    #[tactic(auto, using(crate::proofs::CardWords::few_prices, crate::proofs::KindPrices::column_count, crate::proofs::KindPrices::prices_of))]
     pub fn column_prices(&self) -> ArrayVec<i16, 27>
         ensures value { result.items ≡ column_prices self.now }
         ensures are_prices { ArePrices self.now }
     {
         match &self.parts {
-            PriceParts::Cables(_, pairs) => copied(pairs),
-            PriceParts::Bars(_, rows) => copied(rows),
-            PriceParts::Kinds(_, _, columns) => prices_of_kinds(columns.as_slice()),
+            PriceParts::Cables(_, pairs) => copied(pairs).unwrap(),
+            PriceParts::Bars(_, rows) => copied(rows).unwrap(),
+            _ => prices_of_kinds(self.column_kinds().as_slice()),
         }
     }
 
@@ -226,6 +255,45 @@ impl Prices {
     {
         let rows = sum_onto(0, self.row_prices().as_slice());
         sum_onto(rows, self.column_prices().as_slice())
+    }
+}
+
+impl PriceParts {
+    /// The same prices once more.
+    fn copied(&self) -> Self
+        requires { ArePrices self.now }
+        ensures { result ≡ self.now }
+    {
+        match self {
+            PriceParts::Cables(cables, pairs) => PriceParts::Cables(*cables, *pairs),
+            PriceParts::Bars(bars, rows) => PriceParts::Bars(*bars, *rows),
+            PriceParts::CableKinds(cables, pairs) => {
+                PriceParts::CableKinds(copy_of(cables), copy_of(pairs))
+            }
+            PriceParts::BarKinds(bars, rows) => PriceParts::BarKinds(copy_of(bars), copy_of(rows)),
+        }
+    }
+
+    /// The kinds of the cables, or of the bars.
+    fn row_kinds(&self) -> ArrayVec<PricedKind, 27>
+        ensures { result.items ≡ row_kinds self.now }
+    {
+        match self {
+            PriceParts::Cables(..) | PriceParts::Bars(..) => ArrayVec::new(),
+            PriceParts::CableKinds(cables, _) => kinds_of(cables.as_slice()),
+            PriceParts::BarKinds(bars, _) => kinds_of(bars.as_slice()),
+        }
+    }
+
+    /// The kinds of the pairs and nothings, or of the sheet's rows.
+    fn column_kinds(&self) -> ArrayVec<PricedKind, 27>
+        ensures { result.items ≡ column_kinds self.now }
+    {
+        match self {
+            PriceParts::Cables(..) | PriceParts::Bars(..) => ArrayVec::new(),
+            PriceParts::CableKinds(_, pairs) => kinds_of(pairs.as_slice()),
+            PriceParts::BarKinds(_, rows) => kinds_of(rows.as_slice()),
+        }
     }
 }
 
@@ -259,10 +327,16 @@ fn array_of<const N: usize>(prices: &[i16]) -> [i16; N]
     <[i16; N]>::try_from(prices).unwrap()
 }
 
-/// The same elements once more.
-fn copied<K: Copy + Default>(elements: &[K]) -> ArrayVec<K, 27>
-    requires { length elements.now ≤ 27 }
-    ensures { result.items ≡ elements.now }
+/// The elements, if there is room for them.
+fn copied<K: Copy + Default, const N: usize>(kinds: &[K]) -> Option<ArrayVec<K, N>>
+    ensures { MatchOption result (N < length kinds.now) (λ copy. copy.items ≡ kinds.now) }
 {
-    ArrayVec::try_from(elements).unwrap()
+    ArrayVec::try_from(kinds).ok()
+}
+
+/// The same elements once more.
+fn copy_of<K: Copy + Default, const N: usize>(kinds: &ArrayVec<K, N>) -> ArrayVec<K, N>
+    ensures { result.items ≡ kinds.now.items }
+{
+    copied(kinds.as_slice()).unwrap()
 }

@@ -107,16 +107,16 @@ fn push_prices<const N: usize>(text: &mut ArrayString<N>, prices: &Prices)
 {
     match prices.parts() {
         PriceParts::Cables(cables, pairs) => {
-            push_price_line(text, "CABLES", cables);
-            push_price_line(text, "PAIRS", pairs);
+            push_price_line(text, "CABLES", &cables);
+            push_price_line(text, "PAIRS", &pairs);
         }
         PriceParts::Bars(bars, rows) => {
-            push_price_line(text, "BARS", bars);
-            push_price_line(text, "ROWS", rows);
+            push_price_line(text, "BARS", &bars);
+            push_price_line(text, "ROWS", &rows);
         }
-        PriceParts::Kinds(_, rows, columns) => {
-            push_kinds(text, rows.as_slice());
-            push_kinds(text, columns.as_slice());
+        PriceParts::CableKinds(..) | PriceParts::BarKinds(..) => {
+            push_kinds(text, prices.row_kinds().as_slice());
+            push_kinds(text, prices.column_kinds().as_slice());
         }
     }
 }

@@ -1,5 +1,5 @@
 -- Things grouped into kinds, rank by rank.
-use Rattle.kd_prices.proofs.Prelude.{◌≡◌, ◌≢◌, ℕ, ◌+◌, ◌-◌, ◌<◌, ◌≤◌, inl, inr, Bool, true, false, cond, eqb, ltb, List, [], ◌∷◌, length, count_by, refl, sym, ap, ◌∙◌, subst, arith, ℤ, pos, unsigned_abs, None, All, cases_lt, lt-ltb, ne_eqb, eq-eqb, nat_tests, All-nil, All-cons, All-head, All-tail, All-get_or, All-from_get_or, All-weaker, Look, Pair, place_rank, PricedKind, look_name, look_rank, counted, IsInForm, IsPricedKind, AreKinds, AreCalled, price_at, AreWithinReach, look_at, alike_count, IsPriced, HasCount, AreAlikePriced, IsKindAt, AreKindsOf, AreWithPrices}
+use Rattle.kd_prices.proofs.Prelude.{◌≡◌, ◌≢◌, ℕ, ◌+◌, ◌-◌, ◌<◌, ◌≤◌, inl, inr, Bool, true, false, cond, eqb, ltb, List, [], ◌∷◌, ◌++◌, length, count_by, append_assoc, length-append, refl, sym, ap, ◌∙◌, subst, arith, ℤ, pos, unsigned_abs, None, All, cases_lt, lt-ltb, ne_eqb, eq-eqb, nat_tests, append-nil, All-nil, All-cons, All-head, All-tail, All-get_or, All-from_get_or, All-weaker, Look, Pair, place_rank, PricedKind, look_name, look_rank, counted, IsInForm, IsPricedKind, AreKinds, AreCalled, price_at, AreWithinReach, look_at, alike_count, IsPriced, HasCount, AreExpanded, AreAlikePriced, IsKindAt, AreKindsOf, AreWithPrices}
 use Rattle.std.proofs.lemmas.List.Sums.{sum_by-cons, sum_by-le, count_by-le-length, get_or-le-sum_by}
 use Rattle.kd_tables.specs.declared.place.Place.{Place}
 use Rattle.kd_prices.proofs.Meaning.{one_price}

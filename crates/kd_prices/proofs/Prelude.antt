@@ -1,6 +1,6 @@
 -- What the proofs of this crate speak of.
 pub use Rattle.kd_card.specs.Steps.{Found, IsOnly, Refused, only_demands, only_finds, only_then, passed}
-pub use Rattle.std.proofs.Common.{Bool, Contains, FitsSigned, List, MatchOption, None, Option, SFits, Some, [], ap, append_assoc, arith, below_more, cond, count_by, eqb, false, get_or, inl, inr, length, length-append, length-drop, ltb, max, min, of_z, pos, refl, replicate, rules, set, slice_get, subst, suc, sym, to_z, true, unsigned_abs, unwrap_or, w16, w32, zero, ℕ, ℤ, ◌++◌, ◌+ℤ◌, ◌+◌, ◌-◌, ◌<◌, ◌^◌, ◌∙◌, ◌∷◌, ◌≡◌, ◌≢◌, ◌≤◌, ◌⊎◌, drop, map, take, ◌↔◌, Err, IfErr, IsOk, Ok, Result}
+pub use Rattle.std.proofs.Common.{Bool, Contains, FitsSigned, List, MatchOption, None, Option, SFits, Some, [], ap, append_assoc, arith, below_more, cond, count_by, eqb, false, get_or, inl, inr, length, length-append, length-drop, ltb, max, min, of_z, pos, refl, replicate, rules, set, slice_get, subst, suc, sym, to_z, true, unsigned_abs, unwrap_or, w16, w32, zero, ℕ, ℤ, ◌++◌, ◌+ℤ◌, ◌+◌, ◌-◌, ◌<◌, ◌^◌, ◌∙◌, ◌∷◌, ◌≡◌, ◌≢◌, ◌≤◌, ◌⊎◌}
 pub use Rattle.std.proofs.lemmas.Bool.{cases_lt, cases_order, eq-eqb, eqb-false, false≢true, lt-ltb, ne_eqb}
 pub use Rattle.std.proofs.lemmas.Bool.Decides.{Decides-int_eq, nat_tests}
 pub use Rattle.std.proofs.lemmas.Grind.{common_steps}
@@ -9,9 +9,11 @@ pub use Rattle.std.proofs.lemmas.List.{append-nil, drop_all, drop_more, ext_get_
 pub use Rattle.std.proofs.lemmas.List.Elements.{All-cons, All-contains_itself, All-from_get_or, All-from_recursion, All-get_or, All-head, All-map, All-more, All-nil, All-same, All-tail, All-weaker, recursion_from_All}
 pub use Rattle.std.proofs.lemmas.Option.{slice_get-get_or, slice_get_past, unwrap_or-slice_get}
 pub use Rattle.std.specs.List.{All, AllByRecursion}
+pub use Rattle.std.specs.Prelude.{drop, map, take, ◌↔◌, Err, IfErr, IsOk, Ok, Result}
+pub use Rattle.kd_card.specs.CardText.{column_name, group_of, price_count, row_name}
 pub use Rattle.kd_card.specs.Kinds.{AreCalled, AreEnds, AreKinds, IsInForm, IsPricedKind, counted, look_name, look_rank}
 pub use Rattle.kd_card.specs.Laws.{ProvingCardsAreShortest, ProvingPricesAreTight, RanksTellLooks}
-pub use Rattle.kd_card.specs.Prices.{ArePrices, AreTight, AreWithinReach, Fits, column_kinds, column_name, column_prices, cost_at, group_of, how_many, price_at, price_count, price_sum, row_kinds, row_name, row_prices, version_of}
+pub use Rattle.kd_card.specs.Prices.{ArePrices, AreTight, AreWithinReach, Fits, column_kinds, column_prices, cost_at, how_many, price_at, price_sum, row_kinds, row_prices, version_of}
 pub use Rattle.kd_card.specs.Proving.{AreExpanded, AreNeeded, AreOfKind, Expanded, Expands, HasCount, IsNeeded, IsPriced, Proves, Same, alike_count, column_looks, group_of_machine, look_at, pair_in_order, priced_count, row_looks}
 pub use Rattle.kd_card.specs.declared.group.Group.{Group}
 pub use Rattle.kd_card.specs.declared.group.Group.TheVariants.{OfBars, OfCables}
@@ -19,7 +21,7 @@ pub use Rattle.kd_card.specs.declared.kinds.PricedKind.{PricedKind}
 pub use Rattle.kd_card.specs.declared.look.Look.{Look}
 pub use Rattle.kd_card.specs.declared.look.Look.TheVariants.{Bar, Cable, Pair, Row}
 pub use Rattle.kd_card.specs.declared.prices.PriceParts.{PriceParts}
-pub use Rattle.kd_card.specs.declared.prices.PriceParts.TheVariants.{Bars, Cables, Kinds}
+pub use Rattle.kd_card.specs.declared.prices.PriceParts.TheVariants.{BarKinds, Bars, CableKinds, Cables}
 pub use Rattle.kd_card.specs.declared.prices.Version.TheVariants.{ByKind, ByNumber}
 pub use Rattle.kd_enigma.specs.Plugs.{NoLetterTwice, letters_plugged}
 pub use Rattle.kd_prices.specs.Alike.{ReadAlike, StandAlike}

@@ -10,7 +10,8 @@ use Rattle.kd_state.specs.OnKey.{ReadsAs}
 use Rattle.kd_state.specs.Costs.{cost_table}
 use Rattle.kd_card.specs.declared.prices.PriceParts.{PriceParts}
 use Rattle.kd_card.specs.Steps.{Says, ◌>>=◌, Finds, Demands}
-use Rattle.kd_card.specs.Prices.{Fits, FitsAt, group_of, how_many, price_sum}
+use Rattle.kd_card.specs.Prices.{Fits, FitsAt, how_many, price_sum}
+use Rattle.kd_card.specs.CardText.{group_of}
 use Rattle.kd_card.specs.Carrying.{IsFirstIllegal}
 use Rattle.kd_card.specs.Proving.{AreOfKind, Expands, group_of_machine, IsNeeded, AreNeeded, priced_count}
 use Rattle.kd_prices.specs.declared.doubt.Doubt.{Doubt}

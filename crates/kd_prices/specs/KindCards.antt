@@ -9,7 +9,8 @@ use Rattle.kd_card.specs.declared.prices.PriceParts.{PriceParts}
 use Rattle.kd_card.specs.declared.prices.Version.TheVariants.{ByKind}
 use Rattle.kd_card.specs.Kinds.{look_name, look_rank, counted, IsInForm, AreKinds, AreCalled}
 use Rattle.kd_card.specs.declared.group.Group.{Group}
-use Rattle.kd_card.specs.Prices.{version_of, row_kinds, column_kinds, group_of, price_at, ArePrices}
+use Rattle.kd_card.specs.Prices.{version_of, row_kinds, column_kinds, price_at, ArePrices}
+use Rattle.kd_card.specs.CardText.{group_of}
 use Rattle.kd_card.specs.Proving.{look_at, alike_count, AreExpanded, Expands}
 use Rattle.kd_prices.specs.Doubt.{AreNumbered}
 use Rattle.kd_prices.specs.Laws.{AreEqualWhereAlike}

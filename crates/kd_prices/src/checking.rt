@@ -1,11 +1,10 @@
 ghost use Rattle.std.specs.Prelude.{◌≡◌, ◌↔◌, ◌≤◌, length, IsTrue, IsOk, IfErr, MatchOption};
 ghost use Rattle.kd_state.specs.Costs.{cost_table};
-ghost use Rattle.kd_card.specs.Prices.{group_of, Fits};
+ghost use Rattle.kd_card.specs.Prices.{Fits};
+ghost use Rattle.kd_card.specs.CardText.{group_of};
 ghost use Rattle.kd_card.specs.Proving.{Proves, group_of_machine, priced_count};
 ghost use Rattle.kd_prices.specs.Doubt.{AreOfOneModel, AreNumbered, IsFirstTooHigh, SaysChecked};
-ghost use Rattle.kd_prices.specs.Doubt.{SaysByNumber, SaysNeeded, IsDoubt};
-ghost use Rattle.kd_state.specs.declared.machine.parts.Parts.{Parts};
-ghost use Rattle.kd_state.specs.Setting.{Leads};
+ghost use Rattle.kd_prices.specs.Doubt.{SaysByNumber, IsDoubt};
 
 use super::doubt::Doubt;
 use super::expanding::expanded;
@@ -70,14 +69,6 @@ fn judged_by_number(
     if prices.sum() != priced_count(settings) as i32 {
         return Err(Doubt::SumDiffers);
     }
-    judged_line_by_line(machine, day, settings)
-}
-
-/// Whether each of the settings is needed, or the first doubt about one.
-fn judged_line_by_line(machine: &Machine, day: &SheetDay, settings: &[Setting]) -> Result<(), Doubt>
-    requires { (n : Parts) × Leads machine.now settings.now n }
-    ensures { SaysNeeded machine.now day.now settings.now result }
-{
     match first_needless(machine, day, settings) {
         Some(line) => Err(Doubt::NeedlessLine(line)),
         None => Ok(()),
@@ -111,11 +102,11 @@ fn too_high(machine: &Machine, day: &SheetDay, prices: &Prices) -> Option<Cell>
     match (machine.of_one_model(day).unwrap(), prices.parts()) {
         (OneModel::Rotor(parts, entry), PriceParts::Cables(rows, columns)) => {
             let costs = cable_costs(&parts.cables, entry.pairs.as_slice());
-            first_too_high(&costs, rows, columns)
+            first_too_high(&costs, &rows, &columns)
         }
         (OneModel::Pin(parts, entry), PriceParts::Bars(rows, columns)) => {
             let costs = bar_costs(&parts.bars, &entry.rows);
-            first_too_high(&costs, rows, columns)
+            first_too_high(&costs, &rows, &columns)
         }
         _ => unreachable!(),
     }

@@ -23,9 +23,11 @@ pub(crate) fn expanded(machine: &Machine, day: &SheetDay, prices: &Prices) -> Op
         (λ numbered. Expands machine.now day.now prices.now numbered) }
 {
     match prices.parts() {
-        PriceParts::Cables(cables, pairs) => Prices::cables(*cables, *pairs),
-        PriceParts::Bars(bars, rows) => Prices::bars(*bars, *rows),
-        PriceParts::Kinds(..) => expanded_kinds(machine, day, prices),
+        PriceParts::Cables(cables, pairs) => Prices::cables(cables, pairs),
+        PriceParts::Bars(bars, rows) => Prices::bars(bars, rows),
+        PriceParts::CableKinds(..) | PriceParts::BarKinds(..) => {
+            expanded_kinds(machine, day, prices)
+        }
     }
 }
 
@@ -40,8 +42,11 @@ fn expanded_kinds(machine: &Machine, day: &SheetDay, prices: &Prices) -> Option<
 {
     columns_are_the_pairs();
     let group = prices.group();
-    let rows = priced(row_looks(machine).as_slice(), prices.row_kinds())?;
-    let columns = priced(column_looks(day).as_slice(), prices.column_kinds())?;
+    let rows = priced(row_looks(machine).as_slice(), prices.row_kinds().as_slice())?;
+    let columns = priced(
+        column_looks(day).as_slice(),
+        prices.column_kinds().as_slice(),
+    )?;
     Some(Prices::numbered(group, rows.as_slice(), columns.as_slice()))
 }
 

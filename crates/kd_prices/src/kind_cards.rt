@@ -2,7 +2,8 @@
 ghost use Rattle.std.specs.Prelude.{◌≡◌, ◌≢◌, ◌↔◌, ℕ, ◌<◌, ◌≤◌, length, All};
 ghost use Rattle.std.specs.Prelude.{IfSome, IsSome, MatchOption};
 ghost use Rattle.kd_card.specs.Kinds.{look_rank, IsInForm};
-ghost use Rattle.kd_card.specs.Prices.{row_name, column_name, price_count, AreWithinReach};
+ghost use Rattle.kd_card.specs.Prices.{AreWithinReach};
+ghost use Rattle.kd_card.specs.CardText.{row_name, column_name, price_count};
 ghost use Rattle.kd_card.specs.Proving.{look_at, AreExpanded};
 ghost use Rattle.kd_prices.specs.KindCards.{CanBeByKind, IsByKind, AreByKind, AreAlikePriced};
 ghost use Rattle.kd_prices.specs.KindCards.{IsKindAt, AreKindsOf, AreWithPrices, AreThings, AreOfGroup};
@@ -13,7 +14,7 @@ use super::looks::{column_looks, row_looks};
 use arrayvec::ArrayVec;
 use kd_card::laws::ranks_tell_looks;
 use kd_card::{Card, Group, Look, PricedKind, Prices, Version};
-use kd_state::laws::{columns_are_the_pairs, tests_tell_letters};
+use kd_state::laws::columns_are_the_pairs;
 use kd_state::{Machine, Settings, SheetDay};
 
 /// The ranks of all looks in their one form are below this.
@@ -47,7 +48,6 @@ fn prices_by_kind(machine: &Machine, day: &SheetDay, prices: &Prices) -> Option<
 {
     ranks_tell_looks();
     columns_are_the_pairs();
-    tests_tell_letters();
     if !are_of_one_model(machine, day, prices) {
         return None;
     }

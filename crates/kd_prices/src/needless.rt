@@ -20,17 +20,13 @@ pub(crate) fn first_needless(
         (AreNeeded machine.now day.now settings.now)
         (IsFirstNeedless machine.now day.now settings.now) }
 {
-    match settings {
-        [] => None,
-        [setting, rest @ ..] => {
-            let mut next = *machine;
-            if is_needed(&mut next, day, setting) {
-                Some(first_needless(&next, day, rest)? + 1)
-            } else {
-                Some(1)
-            }
+    let mut carried = *machine;
+    for (place, setting) in settings.iter().enumerate() {
+        if !is_needed(&mut carried, day, setting) {
+            return Some(place + 1);
         }
     }
+    None
 }
 
 /// Carries the setting out, and tells whether it changes a cable or a bar, or puts one loose thing right.

@@ -26,4 +26,4 @@ returns c =
     Found _ c.in_ok-group.ensures
     (Found _ (rw (c.row_name.ensures, c.number-number.ensures) at c.in_ok-rows.ensures)
     (Found _ (rw (c.column_name.ensures, c.number-number.ensures, c.len.ensures.value) at c.in_ok-columns.ensures)
-    (cc)))
+    (Found _ (rw (c.as_slice.ensures.value, c.as_slice-2.ensures.value) at c.of_groups.ensures.kinds) refl)))

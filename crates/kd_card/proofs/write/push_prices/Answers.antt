@@ -1,4 +1,4 @@
-use Rattle.kd_card.proofs.Prelude.{append_assoc, arith, flat_map-append}
+use Rattle.kd_card.proofs.Prelude.{append_assoc, arith}
 use Rattle.kd_card.proofs.KindLists.{all_kinds}
 use Rattle.kd_card.proofs.KindPrices.{text_by_kind}
 use Rattle.kd_card.proofs.write.push_prices.Goals as goal
@@ -6,8 +6,8 @@ use Rattle.kd_card.proofs.write.push_prices.Goals as goal
 pub push_kinds-requires : goal.push_kinds-requires
 push_kinds-requires g c = grind (arith, all_kinds)
 
-pub push_kinds-requires-in-Kinds : goal.push_kinds-requires-in-Kinds
-push_kinds-requires-in-Kinds g c = grind (arith, all_kinds)
+pub push_kinds-requires-in-CableKinds : goal.push_kinds-requires-in-CableKinds
+push_kinds-requires-in-CableKinds g c = grind (arith, all_kinds)
 
-pub returns-in-Kinds-clause-bytes : goal.returns-in-Kinds-clause-bytes
-returns-in-Kinds-clause-bytes g c = grind (arith, text_by_kind, append_assoc, flat_map-append)
+pub returns-in-CableKinds-clause-bytes : goal.returns-in-CableKinds-clause-bytes
+returns-in-CableKinds-clause-bytes g c = grind (arith, text_by_kind, append_assoc)

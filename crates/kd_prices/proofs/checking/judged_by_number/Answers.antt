@@ -27,11 +27,20 @@ returns-then-sum-priced_count c =
 same_sum : (sum : ℤ) (count : ℕ) → SFits w32 sum → count < 2 ^ 31 → of_z w32 sum ≡ count → sum ≡ pos count
 same_sum sum count small few e = sym (to_z-of_z w32 sum small) ∙ ap (to_z w32) e ∙ to_z_pos w32 count few
 
-pub returns : goal.returns
-returns c =
+pub returns-in-Some-first_needless : goal.returns-in-Some-first_needless
+returns-in-Some-first_needless c =
     let few : c.priced_count.result < 2 ^ 31 = omega (arith, c.priced_count.ensures.few, c.requires.few) in
     let same = same_sum c.sum.result c.priced_count.result (search rules) few c.if-sum-priced_count.false in
     Found c.in-Ok.reached c.in-Ok.ensures.carried
     (Found tt (c.reads_as.ensures.0 c.if-not-reads_as.false)
     (Found tt c.in_default.ensures
-    (Found tt (sym c.sum.ensures ∙ same ∙ ap pos c.priced_count.ensures.value) c.judged_line_by_line.ensures)))
+    (Found tt (sym c.sum.ensures ∙ same ∙ ap pos c.priced_count.ensures.value) c.in-Some-first_needless.ensures)))
+
+pub returns-in-None : goal.returns-in-None
+returns-in-None c =
+    let few : c.priced_count.result < 2 ^ 31 = omega (arith, c.priced_count.ensures.few, c.requires.few) in
+    let same = same_sum c.sum.result c.priced_count.result (search rules) few c.if-sum-priced_count.false in
+    Found c.in-Ok.reached c.in-Ok.ensures.carried
+    (Found tt (c.reads_as.ensures.0 c.if-not-reads_as.false)
+    (Found tt c.in_default.ensures
+    (Found tt (sym c.sum.ensures ∙ same ∙ ap pos c.priced_count.ensures.value) c.in-None.ensures)))

@@ -8,5 +8,5 @@ returns c =
     let same : c.numbered.result ≡ numbered (group_of c.args.prices.now) c.in_ok-rows.rows.items c.in_ok-columns.columns.items = cc in
     subst (Expands c.args.machine.now c.args.day.now c.args.prices.now) (sym same)
     (expands_kinds _ _ _ _ _ c.requires.kinds c.requires.are_prices (subst ArePrices same c.numbered.ensures.are_prices)
-    (rw (c.as_slice.ensures.value, c.row_looks.ensures.looks, c.row_kinds.ensures) at c.in_ok-rows.ensures.0)
-    (rw (c.as_slice-2.ensures.value, c.column_looks.ensures.looks, c.column_kinds.ensures) at c.in_ok-columns.ensures.0))
+    (rw (c.as_slice.ensures.value, c.row_looks.ensures.looks, c.as_slice-2.ensures.value, c.row_kinds.ensures) at c.in_ok-rows.ensures.0)
+    (rw (c.as_slice-3.ensures.value, c.column_looks.ensures.looks, c.as_slice-4.ensures.value, c.column_kinds.ensures) at c.in_ok-columns.ensures.0))

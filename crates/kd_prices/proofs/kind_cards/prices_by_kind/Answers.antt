@@ -1,5 +1,5 @@
 use Rattle.kd_prices.proofs.Prelude.{sym, ◌∙◌, ap, length, price_count}
-use Rattle.kd_prices.proofs.AlikeLooks.{by_kind_told}
+use Rattle.kd_prices.proofs.AlikeLooks.{by_kind_told, size_of}
 use Rattle.kd_prices.proofs.Things.{rows_are_things, columns_are_things, groups_meet}
 use Rattle.kd_prices.proofs.kind_cards.prices_by_kind.Goals as goal
 
@@ -21,13 +21,13 @@ of_group-requires-clause-column_prices c =
     let meet = groups_meet _ _ c.row_looks.ensures.machine c.column_looks.ensures.day one.model in
     let things = columns_are_things c.columns_are_the_pairs.ensures.count _ c.column_looks.ensures.day in
     ap length (c.as_slice-in-ByNumber-3.ensures.value ∙ c.column_prices.ensures.value) ∙ c.column_prices.ensures.are_prices.columns
-    ∙ ap price_count (one.group ∙ sym meet) ∙ sym things.count
+    ∙ sym (size_of c.args.prices.now) ∙ ap price_count (one.group ∙ sym meet) ∙ sym things.count
     ∙ sym (ap length (c.as_slice-in-ByNumber-2.ensures.value ∙ c.column_looks.ensures.looks))
 
 pub returns-in-ByNumber : goal.returns-in-ByNumber
 returns-in-ByNumber c =
     by_kind_told
-    (record { ranks = c.ranks_tell_looks.ensures; letters = c.tests_tell_letters.ensures; thirteen = c.columns_are_the_pairs.ensures.count; columns = c.columns_are_the_pairs.ensures.pairs })
+    (record { ranks = c.ranks_tell_looks.ensures; thirteen = c.columns_are_the_pairs.ensures.count; columns = c.columns_are_the_pairs.ensures.pairs })
     _ _ _ c.row_looks.ensures.machine c.column_looks.ensures.day c.row_prices.ensures.are_prices
     (c.are_of_one_model.ensures.0 c.if-not-are_of_one_model.false) (sym c.version.ensures.value ∙ c.in-ByNumber.is) _
     (rw (
