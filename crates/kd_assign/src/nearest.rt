@@ -9,8 +9,9 @@ use crate::scans::Scans;
 #[derive(Drop)]
 pub struct Nearest<const N: usize> {
     pub row: [usize; N],
-    /// The price of each column at which this row would take it. All of them are too high by the
-    /// same, which isn't known before the tree reaches a free column.
+    /// The price of each column at which this row would take it: the column's slack is what its price
+    /// lies below that. All of them are too high by the same, which isn't known before the tree
+    /// reaches a free column.
     pub ceiling: [i16; N],
 }
 

@@ -3,8 +3,8 @@ ghost use Rattle.std.specs.Prelude.{◌≡◌, ℕ, ◌+◌, ◌<◌, ◌↔◌,
 
 use std::marker::Model;
 
-/// How many ceilings have been compared with an offer. The field is private to this module, so that a
-/// formula in the place of the count doesn't compile elsewhere.
+/// How many slacks have been compared. The field is private to this module, so that a formula in
+/// the place of the count doesn't compile elsewhere.
 #[derive(Clone, Copy, Debug, PartialEq, Eq)]
 pub struct Scans {
     count: u32,
@@ -26,14 +26,14 @@ impl Scans {
         Scans { count: 0 }
     }
 
-    /// Whether the offer is below the ceiling. This is one comparison, and it is counted.
-    pub fn closer(&mut self, ceiling: i16, offer: i16) -> bool
+    /// Whether the new slack is less. This is one comparison, and it is counted.
+    pub fn closer(&mut self, slack: i16, new: i16) -> bool
         requires room { self.old < 4294967295 }
-        ensures less { IsTrue result ↔ (offer <ℤ ceiling) }
+        ensures less { IsTrue result ↔ (new <ℤ slack) }
         ensures counted { self.new ≡ self.old + 1 }
     {
         self.count += 1;
-        offer < ceiling
+        new < slack
     }
 
     /// How many comparisons were made.
