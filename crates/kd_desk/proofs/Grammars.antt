@@ -1,6 +1,6 @@
 -- A grammar as it grows: no help, and a word or a command more.
 use Rattle.kd_desk.proofs.Prelude.{arith, ◌≡◌, ◌∙◌, [], ◌∷◌, ◌++◌, ℕ, List, true, false, ap, ap₂, sym, subst, App}
-use Rattle.kd_desk.proofs.Prelude.{app_of, rule_of, app_of_fields, Arg, Bor, word_named}
+use Rattle.kd_desk.proofs.Prelude.{app_of, rule_of, new_rule, app_of_fields, Arg, Bor}
 use Rattle.std.proofs.lemmas.List.{map-append}
 use Rattle.clap.specs.Simple.{new_app, with_subcommand}
 use Rattle.kd_desk.specs.CommandLine.{IsMadeOf, shape_with}
@@ -29,7 +29,7 @@ first_word new old is local made = record {
 }
 
 pub one_word_more : {name : List ℕ} {words : List (Bor (List ℕ))} {old new : Command} (word : Arg) (more : Bor (List ℕ))
-    → IsMadeOf old name words → rule_of word ≡ word_named more.now → word.global ≡ false → AddsArg old word new
+    → IsMadeOf old name words → rule_of word ≡ new_rule more.now → word.global ≡ false → AddsArg old word new
     → IsMadeOf new name (words ++ more ∷ [])
 one_word_more word more has rule local adds = record {
   shape = grind (arith, map-append);

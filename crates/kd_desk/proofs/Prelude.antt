@@ -4,11 +4,11 @@ pub use Rattle.std.proofs.lemmas.Option.{same_Some}
 pub use Rattle.std.specs.Io.KnownBytes.{Appends, Consumes}
 pub use Rattle.std.specs.Option.{ok_or}
 pub use Rattle.clap.specs.Simple.{app_of_fields}
-pub use Rattle.clap.specs.Words.{App, FailsBy, HasKind, HasMatchesOf, Row, Rule, app_of, fault_of, first_of, first_value, found_of, is_simple, is_simple_and_free, kind_of, new_app, rows_of, rule_of, subcommand_of, subcommand_rows_of}
+pub use Rattle.clap.specs.Words.{App, FailsBy, HasKind, HasMatchesOf, Row, app_of, fault_of, first_of, first_value, found_of, is_simple, is_simple_and_free, kind_of, new_app, new_rule, rows_of, rule_of, subcommand_of, subcommand_rows_of}
 pub use Rattle.clap.specs.declared.builder.arg.Arg.{Arg}
 pub use Rattle.kd_card.specs.CardText.{IsCard}
 pub use Rattle.kd_card.specs.declared.prices.PriceParts.{PriceParts}
-pub use Rattle.kd_desk.specs.CommandLine.{IsActionOf, IsOf, Named, NamedAction, Says, named, word_named}
+pub use Rattle.kd_desk.specs.CommandLine.{IsActionOf, IsOf, Named, NamedAction, Says, named}
 pub use Rattle.kd_desk.specs.Files.{Gives, IsReadWhole, Opened, opened}
 pub use Rattle.kd_desk.specs.Messages.{TellOfOrders, Types, answer_to_message}
 pub use Rattle.kd_desk.specs.OnDay.{FindsDay, Found, LackedMemory, NoDay, NoMachine, NoSheet, OnDay}

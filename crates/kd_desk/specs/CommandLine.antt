@@ -2,7 +2,7 @@
 use Rattle.std.specs.Prelude.{codes, decimal, ◌≡◌, ℕ, true, false, List, [], ◌∷◌, ◌++◌, map, Option, Some, None, IsSomeAnd}
 use Rattle.std.specs.Borrow.{Bor}
 use Rattle.clap.specs.declared.builder.command.Command.{Command as Grammar, out-Command}
-use Rattle.clap.specs.Words.{App, app_of, Row, Rule, Shape, first_of, fault_of, new_rule, subcommand_of}
+use Rattle.clap.specs.Words.{App, app_of, Row, Shape, first_of, fault_of, new_rule, subcommand_of}
 use Rattle.clap.specs.Simple.{new_shape}
 use Rattle.kd_state.specs.SheetDay.{IsDayNumber}
 use Rattle.kd_desk.specs.declared.command.Command.{Command}
@@ -13,15 +13,11 @@ use Rattle.kd_desk.specs.declared.command.Task.TheVariants as tasks
 use Rattle.kd_desk.specs.declared.command.Way.{Way}
 use Rattle.kd_desk.specs.declared.command.Way.TheVariants.{Send, Receive}
 
--- a word that has to be there
-abbrev pub word_named : List ℕ → Rule
-word_named name = record (new_rule name) { required = true }
-
 -- a command with its words: no options and no help
 abbrev pub command_shape : List ℕ → List (List ℕ) → Shape
 command_shape name words = record (new_shape name) {
   disable_help_flag = true;
-  rules = map word_named words;
+  rules = map new_rule words;
 }
 
 -- a command that has no commands of its own

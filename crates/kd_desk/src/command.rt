@@ -1,7 +1,7 @@
 ghost use Rattle.std.specs.Prelude.{◌≡◌, ◌≢◌, [], ◌∷◌, ℕ, List, false, codes, decimal, map, Err, IfSome, IfOk, IfErr};
-ghost use Rattle.clap.specs.Words.{app_of, found_of, kind_of, rows_of, rule_of};
+ghost use Rattle.clap.specs.Words.{app_of, found_of, kind_of, rows_of};
 ghost use Rattle.kd_state.specs.SheetDay.{IsDayNumber};
-ghost use Rattle.kd_desk.specs.CommandLine.{word_named, IsMadeOf, way_name, way_word, desk_grammar};
+ghost use Rattle.kd_desk.specs.CommandLine.{IsMadeOf, way_name, way_word, desk_grammar};
 ghost use Rattle.kd_desk.specs.CommandLine.{named, action_named, HaveDay, IsActionOf, IsOf, IsOfNone, Says, SaysNothing};
 
 use crate::fault::DeskFault;
@@ -226,17 +226,9 @@ fn with_words<'a>(
 {
     let mut command = Grammar::new(alloc, name).disable_help_flag(true);
     for word_name in words {
-        command = command.arg(word(alloc, *word_name))?;
+        command = command.arg(Arg::new(alloc, *word_name))?;
     }
     Ok(command)
-}
-
-/// A word that has to be there.
-fn word<'a>(alloc: Global, name: &'a str) -> Arg<'a>
-    ensures rule { rule_of result ≡ word_named name.entry.now }
-    ensures local { result.global ≡ false }
-{
-    Arg::new(alloc, name).required(true)
 }
 
 /// Why words that don't parse stop the program.
