@@ -2,6 +2,8 @@
 use kd_trials::texts::{M1, M209};
 use std::alloc::{AllocError, Global};
 
+pub use kd_trials::texts::{ALL_MET, M3, M4_AS_ENIGMA, WITHOUT_PINS};
+
 /// A text, a part of it, and what stands wherever the part stood.
 pub type Text = (&'static str, &'static str, &'static str);
 
@@ -34,53 +36,11 @@ rings = \"AAAAA\"
 letters = \"AAAAA\"
 ";
 
-/// An M3 with the same wheels and reflector.
-pub const M3: &str = "version = 1
-model = \"M3\"
-reflector = \"B\"
-slots = [\"I\", \"II\", \"III\"]
-rings = \"AAAAAAAA\"
-letters = \"AAAAAAAA\"
-";
-
-/// An M4 with all rings and letters A, and no cables: its thin reflector b with Beta at A acts as B.
-pub const M4_AS_ENIGMA: &str = "version = 2
-model = \"M4\"
-reflector = \"b\"
-slots = [\"Beta\", \"I\", \"II\", \"III\"]
-rings = \"AAAAAAAAAA\"
-letters = \"AAAAAAAAAA\"
-";
-
 /// A Converter M-209 whose first two bars have to change places, or one lug of the first has to move.
 pub const TWO_BARS: Text = (M209, "\"1-2\", \"0L-0R\"", "\"3-0R\", \"0L-3\"");
 
 /// One whose first bar has to move both lugs.
 pub const ONE_BAR: Text = (M209, "\"1-2\"", "\"1-3\"");
-
-/// One all of whose bars are met by the first wheel.
-pub const ALL_MET: &str = "version = 1
-model = \"M-209\"
-letters = \"AAAAAA\"
-pins = [\"P\", \"\", \"\", \"\", \"\", \"\"]
-bars = [
-    \"1-0L\", \"1-0L\", \"1-0L\", \"1-0L\", \"1-0L\", \"1-0L\", \"1-0L\", \"1-0L\", \"1-0L\",
-    \"1-0L\", \"1-0L\", \"1-0L\", \"1-0L\", \"1-0L\", \"1-0L\", \"1-0L\", \"1-0L\", \"1-0L\",
-    \"1-0L\", \"1-0L\", \"1-0L\", \"1-0L\", \"1-0L\", \"1-0L\", \"1-0L\", \"1-0L\", \"1-0L\",
-]
-";
-
-/// One without effective pins, all of whose lugs are idle.
-pub const WITHOUT_PINS: &str = "version = 1
-model = \"M-209\"
-letters = \"AAAAAA\"
-pins = [\"\", \"\", \"\", \"\", \"\", \"\"]
-bars = [
-    \"0L-0R\", \"0L-0R\", \"0L-0R\", \"0L-0R\", \"0L-0R\", \"0L-0R\", \"0L-0R\", \"0L-0R\", \"0L-0R\",
-    \"0L-0R\", \"0L-0R\", \"0L-0R\", \"0L-0R\", \"0L-0R\", \"0L-0R\", \"0L-0R\", \"0L-0R\", \"0L-0R\",
-    \"0L-0R\", \"0L-0R\", \"0L-0R\", \"0L-0R\", \"0L-0R\", \"0L-0R\", \"0L-0R\", \"0L-0R\", \"0L-0R\",
-]
-";
 
 /// A Converter M-209 that differs from its day in each pin and letter, and in both lugs of each bar.
 pub const FARTHEST: &str = "version = 1
