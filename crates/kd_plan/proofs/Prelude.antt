@@ -2,9 +2,7 @@
 pub use Rattle.kd_assign.specs.Assignment.{IsOneToOne, assignment_cost}
 pub use Rattle.kd_card.specs.Proving.{AreNeeded, AreOfKind, IsNeeded, LeadsToTheDay, ProvesByNumber, Same, is_priced, priced_count}
 pub use Rattle.kd_card.specs.declared.prices.PriceParts.TheVariants.{Bars, Cables}
-pub use Rattle.kd_plan.specs.CableWork.{cable_work, is_moved, work_beside, work_lines, work_setting}
-pub use Rattle.kd_plan.specs.Planned.{IsPlanned, besides, letters_apart, lies_apart, lines_from, lug_lines, lugs_to, pin_lines, pin_of, pin_turn_lines, pin_turn_of, planned_lines, pull_lines, put_lines, reflector_lines, ring_lines, ring_of_wheel, seat_lines, seat_of, table_size, target_of, turn_lines, turn_of, unless_so, wheel_pin_lines}
-pub use Rattle.kd_plan.specs.Told.{Told}
+pub use Rattle.kd_plan.specs.Planned.{IsPlanned, bars_beside, besides, letters_apart, letters_due, lines_from, lug_lines, lugs_of, lugs_to, pin_lines, pin_of, pin_turn_lines, pin_turn_of, planned_lines, pulls_of, puts_of, reflector_lines, ring_lines, ring_of_wheel, seat_lines, seat_of, table_size, target_of, turn_lines, turn_of, unless_so, wheel_pin_lines}
 pub use Rattle.kd_state.specs.ToldApart.{has_reflector, has_wheel, numbered, place_in_box, same_reflector, same_wheel}
 pub use Rattle.kd_state.specs.Costs.{bar_cost, bar_costs, cable_cost, cable_costs, column_letters, columns_of, cost_table, differ, lies_in_one, loose_count, loose_pins, loose_slots, lugs_moved, reads_as_row, unless_same}
 pub use Rattle.kd_state.specs.Machine.{AreAllowed, AreCables, AreOnWheels, HasAllPins, IsMachine, StandsAt, cable_letters, letter_at, letter_in, model_of, plugged_letters, ring_at, ring_in}

@@ -1,4 +1,2 @@
 pub mod Planned
-pub mod CableWork
 pub mod Laws
-pub mod Told

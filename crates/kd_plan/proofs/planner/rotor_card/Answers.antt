@@ -8,7 +8,7 @@ pub assign-total-requires : goal.assign-total-requires
 assign-total-requires c = grind (arith, cable_costs_at_most)
 
 pub rotor_settings-settings-requires-clause-room : goal.rotor_settings-settings-requires-clause-room
-rotor_settings-settings-requires-clause-room c = rotor_room c.cables_cost_four.ensures c.args.parts.now (rotor_values c.args.entry.now) _ c.requires.machine c.requires.legal c.requires.model
+rotor_settings-settings-requires-clause-room c = rotor_room c.args.parts.now (rotor_values c.args.entry.now) _ c.requires.machine c.requires.legal c.requires.model (search rules) c.assign-total.ensures.one_to_one
 
 pub returns : goal.returns
 returns c =
