@@ -12,7 +12,7 @@ use Rattle.kd_plan.proofs.Prelude.{Contains-get_or, Contains-permutation, count_
 use Rattle.kd_plan.proofs.Prelude.{get_or-map, get_or-zip, get_or_default, get_or_from_slice_get, has_letter, is_plugged}
 use Rattle.kd_plan.proofs.Prelude.{IsOneToOne, IsPermutation-sym, length-map, length-zip, letters_due, lines_from}
 use Rattle.kd_plan.proofs.Prelude.{nat_tests, option_map_or, option_to_list, Parts, plugged_letters, Pull, pulls_of}
-use Rattle.kd_plan.proofs.Prelude.{Put, puts_of, recursion_from_All, Rotor, RotorParts, seconds-zip, Setting}
+use Rattle.kd_plan.proofs.Prelude.{Put, puts_of, recursion_from_All, Rotor, RotorParts}
 use Rattle.kd_plan.proofs.Prelude.{slice_get-get_or, slice_get_within, sum_by, sum_by-append, sum_by-cons}
 use Rattle.kd_plan.proofs.Prelude.{sum_by-IsPermutation, unless_so}
 use Rattle.kd_plan.proofs.Carrying.{all_parts, cells_led, Led, led_append, led_cons, led_none, led_unless, paired}

@@ -1,8 +1,10 @@
 -- How many lines there are, and how many of them the prices speak of: as many as the pairing costs.
-use Rattle.std.proofs.Common.{[], All, ap, arith, Bool, cond, Contains, false, find, fold, get_or, length, length-append, List, map, min, nat_eq, nat_le, nat_lt, None, not, Option, pos, refl, replicate, rules, Some, subst, suc, sym, true, unsigned_abs, zero, zip, ℕ, ℤ, ◌&&◌, if◌then◌else◌, ◌||◌, ◌++◌, ◌+ℤ◌, ◌+◌, ◌<◌, ◌∙◌, ◌∷◌, ◌≡◌, ◌≤◌}
+use Rattle.std.proofs.Common.{[], All, ap, arith, Bool, cond, Contains, false, find, fold, get_or, length, length-append, List, map, min, nat_eq, nat_le, nat_lt, None, not, Option, pos, refl, replicate, rules, Some, subst, suc, sym, true, unsigned_abs, zero, zip, ℕ, ℤ, ◌&&◌, ◌||◌, ◌++◌, ◌+ℤ◌, ◌≤ℤ◌, ◌+◌, ◌<◌, ◌∙◌, ◌∷◌, ◌≡◌, ◌≤◌}
 use Rattle.std.proofs.lemmas.Int.{ints}
 use Rattle.std.specs.List.{IsDistinct}
-use Rattle.kd_assign.specs.Prices.{CostsAtMost, Fits, price_sum, sum_of}
+use Rattle.kd_assign.specs.Prices.{CostsAtMost, Fits, cost_at, price_at, price_sum, sum_of}
+use Rattle.kd_plan.specs.Due.{prices_due}
+use Rattle.std.proofs.lemmas.List.Elements.{All-append, All-replicate}
 use Rattle.kd_card.proofs.Shortest.{as_few_are_needed}
 use Rattle.kd_card.specs.Prices.{ArePrices, column_kinds, column_prices, how_many, row_kinds, row_prices}
 use Rattle.kd_card.specs.Prices.{version_of}
@@ -15,9 +17,9 @@ use Rattle.kd_tables.specs.Rings.{ring_of}
 use Rattle.kd_plan.proofs.Prelude.{All-map, AllByRecursion, alphabet, AreOfKind, assignment_cost, bar_cost, bar_costs}
 use Rattle.kd_plan.proofs.Prelude.{bars_beside, besides, box_of, cable_cost, cable_costs, cable_letters, column_letters}
 use Rattle.kd_plan.proofs.Prelude.{columns_of, common_steps, cond_both, cost_table, count_by, count_by-le-length, Day}
-use Rattle.kd_plan.proofs.Prelude.{day_model, differ, eqb-false, eqb-true, get_or-map, get_or-replicate, has_letter}
+use Rattle.kd_plan.proofs.Prelude.{day_model, differ, eqb-true, get_or-map, get_or-replicate, has_letter}
 use Rattle.kd_plan.proofs.Prelude.{HasAllPins, is_priced, IsLegalDay, IsLegalRotorDay, IsMachine, IsOneToOne, IsPlanned}
-use Rattle.kd_plan.proofs.Prelude.{LeadsToTheDay, length-filter, length-map, length-replicate, length-zip, lines_from}
+use Rattle.kd_plan.proofs.Prelude.{LeadsToTheDay, length-filter, length-map, length-zip, lines_from}
 use Rattle.kd_plan.proofs.Prelude.{letters_apart, letters_due}
 use Rattle.kd_plan.proofs.Prelude.{lugs_moved, lugs_of, lugs_to, M209, Model, model_of, nat_tests, OfPins, OfRotors}
 use Rattle.kd_plan.proofs.Prelude.{option_and_then, option_map_or, option_to_list, Parts, Pin, pin_lines, pin_of}
@@ -282,13 +284,6 @@ pub prices_of : (prices : PriceParts) (most : ℕ) → most ≤ 9999 → row_kin
     → All (λ price. unsigned_abs price ≤ most) (row_prices prices) → All (λ price. unsigned_abs price ≤ most) (column_prices prices) → ArePrices prices
 prices_of prices most le no_rows no_columns rows columns row_bound column_bound = search (rules, no_columns)
 
--- prices of 0
-pub zeros_within : (number : ℕ) → All (λ price. unsigned_abs price ≤ 0) (replicate number (pos 0))
-zeros_within number k d lt = grind (arith, get_or-replicate, length-replicate)
-
-pub zeros_all : (number : ℕ) → All (λ price. price ≡ pos 0) (replicate number (pos 0))
-zeros_all number k d lt = get_or-replicate number k (pos 0) d (omega (arith, length-replicate number (pos 0)))
-
 -- the sum of prices, added up from the front
 sum_from : (start : ℤ) (prices : List ℤ) → fold (λ sum price. sum +ℤ price) start prices ≡ (start +ℤ sum_of prices)
 sum_from start [] = omega (arith, ints)
@@ -301,20 +296,29 @@ sum_of-append (row ∷ rows) columns = let e = sum_of-append rows columns in ome
 same_sum : (prices : PriceParts) → card.price_sum prices ≡ price_sum (row_prices prices) (column_prices prices)
 same_sum prices = grind (arith, sum_from, sum_of-append)
 
--- What an assignment and its prices are, on a card: the prices fit, add up to the assignment's cost, and are 0 where it is.
-pub record AreSolved (costs : List (List ℕ)) (to : List ℕ) (prices : PriceParts) : Type 0 where
-  pub fits : card.Fits costs prices
-  pub total : card.price_sum prices ≡ pos (assignment_cost costs to)
-  pub zero : assignment_cost costs to ≡ 0 → All (λ price. price ≡ pos 0) (row_prices prices ++ column_prices prices)
+-- prices of 0, where nothing has to be paid, fit as well as any
+record AreDue (costs : List (List ℕ)) (total number : ℕ) (rows columns : List ℤ) : Type 0 where
+  fits : (i j : ℕ) → i < number → j < number → (price_at rows i +ℤ price_at columns j) ≤ℤ pos (cost_at costs i j)
+  sum : price_sum rows columns ≡ pos total
+  zero : total ≡ 0 → All (λ price. price ≡ pos 0) (rows ++ columns)
 
--- prices of 0, or other ones
-pub solved : (costs : List (List ℕ)) (to : List ℕ) (total : ℕ) (zeros others prices : PriceParts) → let none = replicate (how_many zeros) (pos 0) in
-    row_prices zeros ≡ none → column_prices zeros ≡ none → card.price_sum zeros ≡ pos 0 → All (λ price. price ≡ pos 0) (row_prices zeros ++ column_prices zeros)
-    → length (row_prices others) ≡ how_many others → length (column_prices others) ≡ how_many others → Fits costs (row_prices others) (column_prices others)
-    → price_sum (row_prices others) (column_prices others) ≡ pos total → assignment_cost costs to ≡ total → prices ≡ (if nat_eq total 0 then zeros else others)
-    → AreSolved costs to prices
-solved costs to total zeros others prices no_rows no_columns no_sum all rows columns fits sum cost e =
-    grind (arith, common_steps, cond_both, get_or-replicate, no_columns, eqb-true, same_sum, eqb-false)
+none_due : (number : ℕ) → sum_of (replicate number (pos 0)) ≡ pos 0
+none_due zero = refl
+none_due (suc number) = let e = none_due number in omega (arith, ints)
+
+due_are : (free : Bool) (costs : List (List ℕ)) (total : ℕ) (rows columns : List ℤ) (number : ℕ) → nat_eq total 0 ≡ free → length rows ≡ number → length columns ≡ number
+    → Fits costs rows columns → price_sum rows columns ≡ pos total
+    → AreDue costs total number (cond free (replicate (length rows) (pos 0)) rows) (cond free (replicate (length columns) (pos 0)) columns)
+due_are true costs total rows columns number free many more fits sum = record {
+  fits = λ i j lt lt'. grind (arith, ints, get_or-replicate);
+  sum = let first = none_due (length rows) in let second = none_due (length columns) in let none : total ≡ 0 = eqb-true total 0 free in omega (arith, ints);
+  zero = λ none. All-append (λ price. price ≡ pos 0) (replicate (length rows) (pos 0)) (replicate (length columns) (pos 0)) (All-replicate (λ price. price ≡ pos 0) (length rows) (pos 0) refl) (All-replicate (λ price. price ≡ pos 0) (length columns) (pos 0) refl);
+}
+due_are false costs total rows columns number free many more fits sum = record {
+  fits = λ i j lt lt'. fits i j (omega arith) (omega arith);
+  sum = sum;
+  zero = λ none. absurd (grind (arith, nat_tests));
+}
 
 -- so they are by number
 pub by_number : (m : Parts) (prices : PriceParts) → AreOfKind m prices → version_of prices ≡ ByNumber
@@ -361,7 +365,20 @@ pin_room m s to machine =
     grind (arith, (pin_counted m s to).few, sum-map differing wheels, pins_at_most, length-map, count_by-le-length, length-zip)
 
 -- the card
-pub planned : (m : Parts) (s : Day) (costs : List (List ℕ)) (to : List ℕ) (settings : List Setting) (prices : PriceParts)
-    → model_of m ≡ day_model s → costs ≡ cost_table m s → AreOfKind m prices → length to ≡ table_size m → IsOneToOne to
-    → settings ≡ planned_lines m s to → AreSolved costs to prices → IsPlanned m s settings prices
-planned m s costs to settings prices same table kind size one_to_one lines solved = grind (arith, solved)
+pub planned : (m : Parts) (s : Day) (costs : List (List ℕ)) (to : List ℕ) (settings : List Setting) (prices : PriceParts) (total : ℕ) (rows columns : List ℤ)
+    → model_of m ≡ day_model s → costs ≡ cost_table m s → AreOfKind m prices → length to ≡ table_size m → IsOneToOne to → settings ≡ planned_lines m s to
+    → row_prices prices ≡ prices_due total rows → column_prices prices ≡ prices_due total columns → length rows ≡ how_many prices → length columns ≡ how_many prices
+    → Fits costs rows columns → price_sum rows columns ≡ pos total → assignment_cost costs to ≡ total → IsPlanned m s settings prices
+planned m s costs to settings prices total rows columns same table kind size one_to_one lines first second many more fits sum cost =
+    let due = due_are (nat_eq total 0) costs total rows columns (how_many prices) refl many more fits sum in
+    record {
+      model = same;
+      kind = kind;
+      to = to;
+      all_rows = size;
+      one_to_one = one_to_one;
+      lines = lines;
+      fits = rw (← table, first, second) due.fits;
+      total = same_sum prices ∙ rw (← table, first, second, cost) due.sum;
+      zero = λ none. rw (first, second) (due.zero (sym cost ∙ ap (λ costs. assignment_cost costs to) table ∙ none));
+    }

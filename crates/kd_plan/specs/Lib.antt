@@ -1,2 +1,3 @@
 pub mod Planned
+pub mod Due
 pub mod Laws

@@ -6,15 +6,15 @@ ghost use Rattle.kd_plan.specs.Planned.{planned_lines, IsPlanned, Plans};
 
 use super::bar_lines::push_lugs;
 use super::cable_lines::{push_pulls, push_puts};
-use super::card_prices::{bar_prices, cable_prices};
+use super::card_prices::prices_due;
 use super::laws::planned_cards_prove_themselves;
 use super::other_model::OtherModel;
 use super::pin_lines::{push_pin_turns, push_pins};
 use super::rotor_lines::{push_reflector, push_rings, push_seats, push_turns};
 use arrayvec::ArrayVec;
 use kd_assign::{Solution, assign};
-use kd_card::Card;
 use kd_card::laws::proving_cards_are_shortest;
+use kd_card::{Card, Prices};
 use kd_state::{
     Machine, OneModel, Parts, PinEntry, PinParts, RotorEntry, RotorParts, Settings, SheetDay,
     bar_costs, cable_costs,
@@ -69,7 +69,7 @@ fn rotor_card(machine: &Machine, parts: &RotorParts, entry: &RotorEntry) -> Card
         ..
     } = assign(&costs);
     let settings = rotor_settings(machine, parts, entry, &to);
-    let prices = cable_prices(total, row, col);
+    let prices = Prices::cables(prices_due(total, row), prices_due(total, col)).unwrap();
     Card { settings, prices }
 }
 
@@ -89,7 +89,7 @@ fn pin_card(parts: &PinParts, entry: &PinEntry) -> Card
         ..
     } = assign(&costs);
     let settings = pin_settings(parts, entry, &to);
-    let prices = bar_prices(total, row, col);
+    let prices = Prices::bars(prices_due(total, row), prices_due(total, col)).unwrap();
     Card { settings, prices }
 }
 
