@@ -1,5 +1,6 @@
 -- PULL and PUT: each cable loses the letters that its column hasn't, and then takes those that it lacks.
-use Rattle.std.proofs.Common.{[], ap, arith, Bool, cond, Contains, false, fold, get_or, IsPermutation, length, List, map, max, min, nat_eq, None, not, Option, refl, replicate, slice_get, Some, subst, suc, sym, true, zero, zip, ℕ, ◌&&◌, ◌++◌, ◌||◌, ◌-◌, ◌<◌, ◌∙◌, ◌∷◌, ◌≡◌, ◌≤◌}
+use Rattle.std.proofs.lemmas.Grind.{common_steps}
+use Rattle.std.proofs.Common.{[], ap, arith, Bool, cond, Contains, false, fold, get_or, IsPermutation, length, List, map, max, min, nat_eq, None, not, Option, refl, replicate, slice_get, Some, subst, suc, sym, true, zero, zip, ℕ, ◌&&◌, ◌++◌, ◌||◌, ◌-◌, ◌<◌, ◌∙◌, ◌∷◌, ◌≡◌, ◌≤◌, rules}
 use Rattle.std.proofs.lemmas.List.Folds.{list_any-append, sum_by-replicate}
 use Rattle.std.specs.List.{IsDistinct}
 use Rattle.kd_card.proofs.Counts.{once_of_distinct, times}
@@ -120,15 +121,7 @@ both_due a b y = grind (arith, nat_tests)
 
 pub has_column : (z : Beside) → IsPluggable z → (y : ℕ) → holds (once_put z) y ≡ wants z.1 y
 has_column (cable, None) h y = grind (arith, left_is)
-has_column (cable, Some pair) h y =
-    let column : Column = Some pair in
-    let own = among (cable, column) h in
-    let a = min pair.0 pair.1 in
-    let b = max pair.0 pair.1 in
-    let first = put_is a y (once_pulled (cable, column)) column own (grind (arith, nat_tests)) in
-    let then_own = put_among a (once_pulled (cable, column)) column own (grind (arith, nat_tests)) in
-    let second = put_is b y (put_in (once_pulled (cable, column)) a) column then_own (grind (arith, nat_tests)) in
-    grind (arith, first, second, both_due pair.0 pair.1 y, own.1 y)
+has_column (cable, Some pair) h y = grind (arith, common_steps, Some, among, put_is, put_among, both_due)
 
 -- One cable among others.
 module _ (m : RotorParts) where
@@ -252,8 +245,7 @@ joins z pair h e =
 
 is_paired : (pairs : List (ℕ × ℕ)) (z : Beside) (column : Column) → z.1 ≡ column → ((pair : ℕ × ℕ) → column ≡ Some pair → Contains pairs pair) → IsPluggable z
     → IsPaired pairs (once_put z)
-is_paired pairs z None e known h =
-    record { joins = λ some. absurd (some (no_letters (cable_letters (once_put z)) (λ y. has_column z h y ∙ ap (λ column. wants column y) e))) }
+is_paired pairs z None e known h = grind (arith, joins, no_letters, has_column)
 is_paired pairs z (Some pair) e known h = grind (arith, known pair, joins z pair)
 
 module _ (cables : List Cable) (pairs : List (ℕ × ℕ)) (to : List ℕ) (are : AreCables cables) (legal : ArePairs pairs) (count : length to ≡ 13) (one_to_one : IsOneToOne to) where

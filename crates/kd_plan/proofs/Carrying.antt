@@ -1,6 +1,7 @@
 -- Settings carried out one after another, each of them allowed; numbers that are one to one; and lists with one element in
 -- the middle.
-use Rattle.std.proofs.Common.{[], All, AllPairs, ap, append_assoc, arith, Bool, Contains, false, get_or, IsPermutation, length, length-append, List, map, nat_eq, None, Option, refl, remove, set, slice_get, Some, subst, suc, sym, true, zero, ℕ, ◌++◌, ◌+◌, ◌-◌, ◌<◌, ◌∙◌, ◌∷◌, ◌≡◌, ◌≢◌}
+use Rattle.std.proofs.lemmas.Grind.{common_steps}
+use Rattle.std.proofs.Common.{[], All, AllPairs, ap, append_assoc, arith, Bool, Contains, false, get_or, IsPermutation, length, length-append, List, map, nat_eq, None, Option, refl, remove, set, slice_get, Some, subst, suc, sym, true, zero, ℕ, ◌++◌, ◌+◌, ◌-◌, ◌<◌, ◌∙◌, ◌∷◌, ◌≡◌, ◌≢◌, rules}
 use Rattle.std.proofs.lemmas.List.Edits.{length-remove}
 use Rattle.kd_plan.proofs.Prelude.{AllByRecursion, changed, Contains-permutation, eqb-true, fill_by_all, flat_map}
 use Rattle.kd_plan.proofs.Prelude.{get_or-range_with_len, IsOneToOne, IsPermutation-cons, IsPermutation-map}
@@ -74,8 +75,7 @@ led_cons {k = k} allowed made rest = record { leads = (k, record { allowed = all
 
 pub led_append : (xs ys : List Setting) {m k n : Parts} → Led m xs k → Led k ys n → Led m (xs ++ ys) n
 led_append [] ys {n = n} first second = subst (λ from. Led from ys n) first.leads second
-led_append (x ∷ xs) ys first second =
-    grind (arith, led_cons, led_append xs ys (record { leads = first.leads.2 }) second)
+led_append (x ∷ xs) ys first second = search (rules, led_cons, led_append xs ys (record {leads = first.leads.2}) second)
 
 -- a setting that is left out where things are so already
 pub led_unless : (so : Bool) (m n : Parts) (x : Setting) → (so ≡ true → n ≡ m) → (so ≡ false → changed m x ≡ n)

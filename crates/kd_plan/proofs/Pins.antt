@@ -1,5 +1,5 @@
 -- PIN, TURN and LUG, and that all lines of a Converter M-209 lead to the day.
-use Rattle.std.proofs.Common.{[], All, ap, arith, Bool, Contains, false, find, fold, get_or, inl, inr, is_some, IsPermutation, length, length-append, List, map, min, nat_eq, nat_lt, None, Option, refl, slice_get, Some, suc, sym, true, unwrap_or, zero, zip, ℕ, ◌++◌, ◌+◌, ◌<◌, ◌∙◌, ◌∷◌, ◌≡◌, ◌≤◌}
+use Rattle.std.proofs.Common.{[], All, ap, arith, Bool, Contains, false, find, fold, get_or, inl, inr, is_some, IsPermutation, length, length-append, List, map, min, nat_eq, nat_lt, None, Option, refl, slice_get, Some, suc, sym, true, unwrap_or, zero, zip, ℕ, ◌++◌, ◌+◌, ◌<◌, ◌∙◌, ◌∷◌, ◌≡◌, ◌≤◌, rules}
 use Rattle.std.proofs.lemmas.Bool.{cases_eq}
 use Rattle.kd_state.proofs.CostTable.{no_zero, one_zero, zeros}
 use Rattle.kd_state.proofs.Slots.{has_letter-Decides, is_some-place_on}
@@ -263,9 +263,7 @@ module _ (m : PinParts) (s : PinDay) (to : List ℕ) (machine : IsMachine (Pin m
   same_size = count ∙ sym legal.count
 
   pub are_movable : AllByRecursion IsMovable zs
-  are_movable =
-      movable m.bars s.rows to (recursion_from_All (λ bar. IsBefore bar.0 bar.1) m.bars machine.legal.apart) legal.rows
-      (recursion_from_All (λ j. j < length s.rows) to (λ k d lt. omega (arith, one_to_one.in_range k d lt, same_size)))
+  are_movable = grind (arith, movable, recursion_from_All, same_size)
 
   rows_are : IsPermutation (map (λ (bar : Place × Place). reading_of bar.0 bar.1) (map to_stand zs)) s.rows
   rows_are =

@@ -114,8 +114,7 @@ counted_among p (x ∷ xs) h =
     omega (arith, first, rest, both, sum_by-cons (λ y. cond (p y) 1 0) x xs)
 
 due_counted : (p : ℕ → Bool) (column : Option (ℕ × ℕ)) → count_by p (letters_due column) ≡ count_by p (column_letters column)
-due_counted p None = refl
-due_counted p (Some pair) = grind (arith, sum_by-cons)
+due_counted p column = grind (arith, sum_by-cons)
 
 cable_lines : (z : Beside) → IsPluggable z
     → length (letters_apart (cable_letters z.0) (column_letters z.1)) + length (letters_apart (letters_due z.1) (cable_letters z.0)) ≡ cable_cost z.0 z.1
@@ -140,9 +139,7 @@ put_letters z = length (letters_apart (letters_due z.1) (cable_letters z.0))
 
 cable_sums : (zs : List Beside) → AllByRecursion IsPluggable zs → sum_by pulled_letters zs + sum_by put_letters zs ≡ sum_by (λ z. cable_cost z.0 z.1) zs
 cable_sums [] h = refl
-cable_sums (z ∷ zs) h =
-    let cost = λ (z : Beside). cable_cost z.0 z.1 in
-    omega (arith, sum_by-cons pulled_letters z zs, sum_by-cons put_letters z zs, sum_by-cons cost z zs, cable_lines z h.0, cable_sums zs h.1)
+cable_sums (z ∷ zs) h = grind (arith, common_steps, sum_by-cons, cable_lines, cable_sums zs h.1)
 
 -- a bar's lines are as many as lugs are moved
 counted_lugs : (number : ℕ) (bar target : Place × Place) → AreCounted (lugs_to number bar target) 0 (lugs_moved bar target)
@@ -309,16 +306,8 @@ none_due (suc number) = let e = none_due number in omega (arith, ints)
 due_are : (free : Bool) (costs : List (List ℕ)) (total : ℕ) (rows columns : List ℤ) (number : ℕ) → nat_eq total 0 ≡ free → length rows ≡ number → length columns ≡ number
     → Fits costs rows columns → price_sum rows columns ≡ pos total
     → AreDue costs total number (cond free (replicate (length rows) (pos 0)) rows) (cond free (replicate (length columns) (pos 0)) columns)
-due_are true costs total rows columns number free many more fits sum = record {
-  fits = λ i j lt lt'. grind (arith, ints, get_or-replicate);
-  sum = let first = none_due (length rows) in let second = none_due (length columns) in let none : total ≡ 0 = eqb-true total 0 free in omega (arith, ints);
-  zero = λ none. All-append (λ price. price ≡ pos 0) (replicate (length rows) (pos 0)) (replicate (length columns) (pos 0)) (All-replicate (λ price. price ≡ pos 0) (length rows) (pos 0) refl) (All-replicate (λ price. price ≡ pos 0) (length columns) (pos 0) refl);
-}
-due_are false costs total rows columns number free many more fits sum = record {
-  fits = λ i j lt lt'. fits i j (omega arith) (omega arith);
-  sum = sum;
-  zero = λ none. absurd (grind (arith, nat_tests));
-}
+due_are free costs total rows columns number e d g h o =
+    grind (arith, common_steps, get_or-replicate, none_due, eqb-true, All-append, All-replicate)
 
 -- so they are by number
 pub by_number : (m : Parts) (prices : PriceParts) → AreOfKind m prices → version_of prices ≡ ByNumber

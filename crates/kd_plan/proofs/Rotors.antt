@@ -1,5 +1,6 @@
 -- SEAT, REFLECTOR, RING and TURN, and that all lines of a rotor machine lead to the day.
-use Rattle.std.proofs.Common.{[], All, AllPairs, ap, append_assoc, arith, Bool, cond, Contains, false, find, fold, get_or, length, length-append, List, map, nat_eq, None, Option, refl, set, slice_get, Some, subst, suc, sym, true, zero, zip, ℕ, ◌++◌, ◌+◌, ◌-◌, ◌<◌, ◌∙◌, ◌∷◌, ◌≡◌, ◌≢◌}
+use Rattle.std.proofs.lemmas.Grind.{common_steps}
+use Rattle.std.proofs.Common.{[], All, AllPairs, ap, append_assoc, arith, Bool, cond, Contains, false, find, fold, get_or, length, length-append, List, map, nat_eq, None, Option, refl, set, slice_get, Some, subst, suc, sym, true, zero, zip, ℕ, ◌++◌, ◌+◌, ◌-◌, ◌<◌, ◌∙◌, ◌∷◌, ◌≡◌, ◌≢◌, rules}
 use Rattle.std.proofs.lemmas.Option.{slice_get-map}
 use Rattle.kd_state.proofs.Slots.{numbered_at, set_here, set_other}
 use Rattle.kd_state.proofs.Wheels.{allowed_in_box, days_wheels_have_their_places, has_reflector-Decides}
@@ -59,14 +60,7 @@ module _ (m : RotorParts) where
 
   seat_led : (front slots : List (Option Wheel)) (now : Option Wheel) (w : SheetWheel) (number : ℕ) → number ≡ suc (length front) → IsAllowed m.model number w.wheel → IsAbsent front w
       → Led (with_slots (front ++ now ∷ slots)) (seat_of number (now, w)) (with_slots (front ++ Some w.wheel ∷ behind now w slots))
-  seat_led front slots now w number e allowed absent =
-      let so = option_map_or (same_wheel w.wheel) now false in
-      let here : so ≡ true → now ≡ Some w.wheel = λ is. grind (arith, false, same_wheel-Decides) in
-      let moved : map (without w.wheel) (front ++ now ∷ slots) ≡ front ++ without w.wheel now ∷ map (without w.wheel) slots = map-append (without w.wheel) front (now ∷ slots) ∙ ap (λ xs. xs ++ without w.wheel now ∷ map (without w.wheel) slots) absent in
-      led_unless so _ _ (Seat number w.wheel)
-      (λ is. rw (is, here is) refl)
-      (λ wrong. rw (wrong, moved, set_at front (without w.wheel now) (map (without w.wheel) slots) (Some w.wheel) (number - 1) (omega arith)) refl)
-      (λ wrong. rw ((has_wheel-Decides (wheels_for m.model number) w.wheel).1 allowed) refl)
+  seat_led front slots now w number e allowed absent = grind (arith, common_steps, false, led_unless, set_at, allowed)
 
   seats_led : (front slots : List (Option Wheel)) (wheels : List SheetWheel) (number : ℕ) → number ≡ suc (length front) → length slots ≡ length wheels
       → AllFrom (λ slot (w : SheetWheel). IsAllowed m.model slot w.wheel) number wheels → All (IsAbsent front) wheels → AllPairs (λ (w v : SheetWheel). w.wheel ≢ v.wheel) wheels

@@ -1,4 +1,4 @@
-use Rattle.std.proofs.Common.{refl, subst}
+use Rattle.std.proofs.Common.{refl, subst, arith, rules}
 use Rattle.kd_card.specs.Proving.{Same}
 use Rattle.kd_plan.proofs.Planning.{by_number}
 use Rattle.kd_card.specs.Prices.{ArePrices}

@@ -15,12 +15,4 @@ pub unwrap-prices-requires : goal.unwrap-prices-requires
 unwrap-prices-requires c = grind (arith, some_since, prices_of)
 
 pub returns : goal.returns
-returns c =
-    let solution = c.assign-total.result in
-    let told = c.assign-total.ensures in
-    let prices = Cables (prices_due solution.total solution.row) (prices_due solution.total solution.col) in
-    let same : c.unwrap-prices.result ≡ prices = grind arith in
-    rw same
-    (planned (Rotor c.args.parts.now) (OfRotors (rotor_values c.args.entry.now)) c.cable_costs-costs.result solution.to _ prices solution.total solution.row solution.col
-    c.requires.model (c.cable_costs-costs.ensures ∙ ap (cable_costs c.args.parts.now.cables) c.as_slice.ensures.value) tt (search rules) told.one_to_one
-    c.rotor_settings-settings.ensures refl refl (search rules) (search rules) told.fits told.price_sum told.cost)
+returns c = grind (arith, planned)
