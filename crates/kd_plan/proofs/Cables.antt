@@ -1,21 +1,18 @@
 -- PULL and PUT: each cable loses the letters that its column hasn't, and then takes those that it lacks.
-use Rattle.std.proofs.lemmas.Grind.{common_steps}
-use Rattle.std.proofs.Common.{[], ap, arith, Bool, cond, Contains, false, fold, get_or, IsPermutation, length, List, map, max, min, nat_eq, None, not, Option, refl, replicate, slice_get, Some, subst, suc, sym, true, zero, zip, ℕ, ◌&&◌, ◌++◌, ◌||◌, ◌-◌, ◌<◌, ◌∙◌, ◌∷◌, ◌≡◌, ◌≤◌, rules}
-use Rattle.std.proofs.lemmas.List.Folds.{list_any-append, sum_by-replicate}
-use Rattle.std.specs.List.{IsDistinct}
-use Rattle.kd_card.proofs.Counts.{once_of_distinct, times}
+use Rattle.std.proofs.Common.{[], ap, arith, Bool, cond, Contains, false, fold, get_or, IsPermutation, length, List, map, max, min, nat_eq, None, not, Option, refl, replicate, rules, slice_get, Some, subst, suc, sym, true, zero, zip, ℕ, ◌&&◌, ◌++◌, ◌-◌, ◌<◌, ◌||◌, ◌∙◌, ◌∷◌, ◌≡◌, ◌≤◌}
 use Rattle.kd_enigma.specs.Plugs.{letters_plugged}
-use Rattle.kd_state.proofs.CostTable.{columns_are_the_pairs, tests_tell_letters, thirteen_columns}
 use Rattle.kd_state.specs.OnKey.{AreThePairs, IsPaired, Joins}
+use Rattle.std.specs.List.{IsDistinct}
 use Rattle.kd_plan.proofs.Prelude.{All-from_recursion, All-map, AllByRecursion, AreCables, ArePairs, besides}
-use Rattle.kd_plan.proofs.Prelude.{cable_letters, cable_with, cable_without, column_letters, columns_of}
-use Rattle.kd_plan.proofs.Prelude.{Contains-get_or, Contains-permutation, count_by, firsts-zip, flat_map-append}
-use Rattle.kd_plan.proofs.Prelude.{get_or-map, get_or-zip, get_or_default, get_or_from_slice_get, has_letter, is_plugged}
-use Rattle.kd_plan.proofs.Prelude.{IsOneToOne, IsPermutation-sym, length-map, length-zip, letters_due, lines_from}
-use Rattle.kd_plan.proofs.Prelude.{nat_tests, option_map_or, option_to_list, Parts, plugged_letters, Pull, pulls_of}
-use Rattle.kd_plan.proofs.Prelude.{Put, puts_of, recursion_from_All, Rotor, RotorParts}
-use Rattle.kd_plan.proofs.Prelude.{slice_get-get_or, slice_get_within, sum_by, sum_by-append, sum_by-cons}
-use Rattle.kd_plan.proofs.Prelude.{sum_by-IsPermutation, unless_so}
+use Rattle.kd_plan.proofs.Prelude.{cable_letters, cable_with, cable_without, column_letters, columns_are_the_pairs}
+use Rattle.kd_plan.proofs.Prelude.{columns_of, common_steps, Contains-get_or, Contains-permutation, count_by}
+use Rattle.kd_plan.proofs.Prelude.{firsts-zip, flat_map-append, get_or-map, get_or-zip, get_or_default}
+use Rattle.kd_plan.proofs.Prelude.{get_or_from_slice_get, has_letter, is_plugged, IsOneToOne, IsPermutation-sym}
+use Rattle.kd_plan.proofs.Prelude.{length-map, length-zip, letters_due, lines_from, list_any-append, nat_tests}
+use Rattle.kd_plan.proofs.Prelude.{once_of_distinct, option_map_or, option_to_list, Parts, plugged_letters, Pull}
+use Rattle.kd_plan.proofs.Prelude.{pulls_of, Put, puts_of, recursion_from_All, Rotor, RotorParts, slice_get-get_or}
+use Rattle.kd_plan.proofs.Prelude.{slice_get_within, sum_by, sum_by-append, sum_by-cons, sum_by-IsPermutation}
+use Rattle.kd_plan.proofs.Prelude.{sum_by-replicate, tests_tell_letters, thirteen_columns, times, unless_so}
 use Rattle.kd_plan.proofs.Carrying.{all_parts, cells_led, Led, led_append, led_cons, led_none, led_unless, paired}
 use Rattle.kd_plan.proofs.Carrying.{seam_get, seam_set}
 

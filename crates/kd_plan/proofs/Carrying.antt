@@ -1,10 +1,9 @@
 -- Settings carried out one after another, each of them allowed; numbers that are one to one; and lists with one element in
 -- the middle.
-use Rattle.std.proofs.lemmas.Grind.{common_steps}
-use Rattle.std.proofs.Common.{[], All, AllPairs, ap, append_assoc, arith, Bool, Contains, false, get_or, IsPermutation, length, length-append, List, map, nat_eq, None, Option, refl, remove, set, slice_get, Some, subst, suc, sym, true, zero, ℕ, ◌++◌, ◌+◌, ◌-◌, ◌<◌, ◌∙◌, ◌∷◌, ◌≡◌, ◌≢◌, rules}
+use Rattle.std.proofs.Common.{[], All, AllPairs, ap, append_assoc, arith, Bool, Contains, false, get_or, IsPermutation, length, length-append, List, map, nat_eq, None, Option, refl, remove, rules, set, slice_get, Some, subst, suc, sym, true, zero, ℕ, ◌++◌, ◌+◌, ◌-◌, ◌<◌, ◌∙◌, ◌∷◌, ◌≡◌, ◌≢◌}
 use Rattle.std.proofs.lemmas.List.Edits.{length-remove}
-use Rattle.kd_plan.proofs.Prelude.{AllByRecursion, changed, Contains-permutation, eqb-true, fill_by_all, flat_map}
-use Rattle.kd_plan.proofs.Prelude.{get_or-range_with_len, IsOneToOne, IsPermutation-cons, IsPermutation-map}
+use Rattle.kd_plan.proofs.Prelude.{AllByRecursion, changed, common_steps, Contains-permutation, eqb-true, fill_by_all}
+use Rattle.kd_plan.proofs.Prelude.{flat_map, get_or-range_with_len, IsOneToOne, IsPermutation-cons, IsPermutation-map}
 use Rattle.kd_plan.proofs.Prelude.{IsPermutation-refl, IsPermutation-remove, IsPermutation-trans, Leads, length-map}
 use Rattle.kd_plan.proofs.Prelude.{length-range_with_len, lines_from, map-append, option_map_or, option_to_list, Parts}
 use Rattle.kd_plan.proofs.Prelude.{range_with_len, set_at, Setting, unless_so, why_refused}

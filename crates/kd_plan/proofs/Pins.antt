@@ -1,25 +1,23 @@
 -- PIN, TURN and LUG, and that all lines of a Converter M-209 lead to the day.
-use Rattle.std.proofs.Common.{[], All, ap, arith, Bool, Contains, false, find, fold, get_or, inl, inr, is_some, IsPermutation, length, length-append, List, map, min, nat_eq, nat_lt, None, Option, refl, slice_get, Some, suc, sym, true, unwrap_or, zero, zip, ℕ, ◌++◌, ◌+◌, ◌<◌, ◌∙◌, ◌∷◌, ◌≡◌, ◌≤◌, rules}
-use Rattle.std.proofs.lemmas.Bool.{cases_eq}
-use Rattle.kd_state.proofs.CostTable.{no_zero, one_zero, zeros}
-use Rattle.kd_state.proofs.Slots.{has_letter-Decides, is_some-place_on}
+use Rattle.std.proofs.Common.{[], All, ap, arith, Bool, Contains, false, find, fold, get_or, inl, inr, is_some, IsPermutation, length, length-append, List, map, min, nat_eq, nat_lt, None, Option, refl, rules, slice_get, Some, suc, sym, true, unwrap_or, zero, zip, ℕ, ◌++◌, ◌+◌, ◌<◌, ◌∙◌, ◌∷◌, ◌≡◌, ◌≤◌}
 use Rattle.kd_state.specs.Costs.{standings_as}
 use Rattle.kd_state.specs.Pins.{pin_set, wheel_pins, with_pin}
+use Rattle.kd_tables.specs.Places.{IsBefore, IsReading, place_rank, places, reading_of, standings}
 use Rattle.kd_tables.specs.Rings.{ring_of}
 use Rattle.kd_tables.specs.declared.lug.Lug.{Lug}
 use Rattle.kd_tables.specs.declared.lug.Lug.TheVariants.{Left, Right}
 use Rattle.kd_tables.specs.declared.place.Place.TheVariants.{One}
 use Rattle.kd_plan.proofs.Prelude.{All-filter, AllByRecursion, AllPass-from_list_all, AreOnWheels, bar_cost}
-use Rattle.kd_plan.proofs.Prelude.{bars_beside, common_steps, cond_both, eqb-true, filter_passes, firsts-zip}
-use Rattle.kd_plan.proofs.Prelude.{get_or-map, get_or-range_with_len, get_or_from_slice_get, has_letter, HasAllPins, is_at}
-use Rattle.kd_plan.proofs.Prelude.{IsBefore, IsLegalPinDay, IsMachine, IsOneToOne, IsPermutation-sym, IsReading}
-use Rattle.kd_plan.proofs.Prelude.{LeadsToTheDay, length-map, length-range_with_len, length-zip, lines_from, ltb-false}
-use Rattle.kd_plan.proofs.Prelude.{ltb-true, lug_place, lugs_moved, lugs_of, lugs_to, LugTo, nat_tests, OfPins}
-use Rattle.kd_plan.proofs.Prelude.{option_to_list, Parts, Pin, pin_lines, pin_of, pin_turn_lines, pin_turn_of, PinDay}
-use Rattle.kd_plan.proofs.Prelude.{PinParts, pins_of, PinSet, Place, place_on, place_rank, places, planned_lines}
-use Rattle.kd_plan.proofs.Prelude.{range_with_len, reading_of, reads_as_row, recursion_from_All, seconds-zip, set_at}
-use Rattle.kd_plan.proofs.Prelude.{Setting, slice_get_within, standings, target_of, unless_so, wheel_pin_lines}
-use Rattle.kd_plan.proofs.Prelude.{why_refused, with_lug}
+use Rattle.kd_plan.proofs.Prelude.{bars_beside, cases_eq, common_steps, cond_both, eqb-true, filter_passes, firsts-zip}
+use Rattle.kd_plan.proofs.Prelude.{get_or-map, get_or-range_with_len, get_or_from_slice_get, has_letter}
+use Rattle.kd_plan.proofs.Prelude.{has_letter-Decides, HasAllPins, is_at, is_some-place_on, IsLegalPinDay, IsMachine}
+use Rattle.kd_plan.proofs.Prelude.{IsOneToOne, IsPermutation-sym, LeadsToTheDay, length-map, length-range_with_len}
+use Rattle.kd_plan.proofs.Prelude.{length-zip, lines_from, ltb-false, ltb-true, lug_place, lugs_moved, lugs_of, lugs_to}
+use Rattle.kd_plan.proofs.Prelude.{LugTo, nat_tests, no_zero, OfPins, one_zero, option_to_list, Parts, Pin, pin_lines}
+use Rattle.kd_plan.proofs.Prelude.{pin_of, pin_turn_lines, pin_turn_of, PinDay, PinParts, pins_of, PinSet, Place}
+use Rattle.kd_plan.proofs.Prelude.{place_on, planned_lines, range_with_len, reads_as_row, recursion_from_All}
+use Rattle.kd_plan.proofs.Prelude.{seconds-zip, set_at, Setting, slice_get_within, target_of, unless_so}
+use Rattle.kd_plan.proofs.Prelude.{wheel_pin_lines, why_refused, with_lug, zeros}
 use Rattle.kd_plan.proofs.Carrying.{all_parts, cells_led, Led, led_append, led_unless, lines_of_each, paired, seam_get}
 use Rattle.kd_plan.proofs.Carrying.{seam_map, seam_set}
 

@@ -1,34 +1,31 @@
 -- How many lines there are, and how many of them the prices speak of: as many as the pairing costs.
-use Rattle.std.proofs.Common.{[], All, ap, arith, Bool, cond, Contains, false, find, fold, get_or, length, length-append, List, map, min, nat_eq, nat_le, nat_lt, None, not, Option, pos, refl, replicate, rules, Some, subst, suc, sym, true, unsigned_abs, zero, zip, ℕ, ℤ, ◌&&◌, ◌||◌, ◌++◌, ◌+ℤ◌, ◌≤ℤ◌, ◌+◌, ◌<◌, ◌∙◌, ◌∷◌, ◌≡◌, ◌≤◌}
-use Rattle.std.proofs.lemmas.Int.{ints}
-use Rattle.std.specs.List.{IsDistinct}
-use Rattle.kd_assign.specs.Prices.{CostsAtMost, Fits, cost_at, price_at, price_sum, sum_of}
-use Rattle.kd_plan.specs.Due.{prices_due}
-use Rattle.std.proofs.lemmas.List.Elements.{All-append, All-replicate}
-use Rattle.kd_card.proofs.Shortest.{as_few_are_needed}
-use Rattle.kd_card.specs.Prices.{ArePrices, column_kinds, column_prices, how_many, row_kinds, row_prices}
-use Rattle.kd_card.specs.Prices.{version_of}
+use Rattle.std.proofs.Common.{[], All, ap, arith, Bool, cond, Contains, false, find, fold, get_or, length, length-append, List, map, min, nat_eq, nat_le, nat_lt, None, not, Option, pos, refl, replicate, rules, Some, subst, suc, sym, true, unsigned_abs, zero, zip, ℕ, ℤ, ◌&&◌, ◌++◌, ◌+ℤ◌, ◌+◌, ◌<◌, ◌||◌, ◌∙◌, ◌∷◌, ◌≡◌, ◌≤ℤ◌, ◌≤◌}
+use Rattle.kd_assign.specs.Prices.{cost_at, CostsAtMost, Fits, price_at, price_sum, sum_of}
 use Rattle.kd_card.specs.declared.prices.PriceParts.{PriceParts}
 use Rattle.kd_card.specs.declared.prices.Version.TheVariants.{ByNumber}
-use Rattle.kd_state.proofs.CostTable.{at_most_four, thirteen_columns}
-use Rattle.kd_state.proofs.Wheels.{days_wheels_have_their_places}
-use Rattle.kd_state.specs.Costs.{loose_count, loose_rings, standings_as}
+use Rattle.kd_state.specs.Costs.{standings_as}
+use Rattle.kd_tables.specs.Permutation.{alphabet}
 use Rattle.kd_tables.specs.Rings.{ring_of}
-use Rattle.kd_plan.proofs.Prelude.{All-map, AllByRecursion, alphabet, AreOfKind, assignment_cost, bar_cost, bar_costs}
-use Rattle.kd_plan.proofs.Prelude.{bars_beside, besides, box_of, cable_cost, cable_costs, cable_letters, column_letters}
-use Rattle.kd_plan.proofs.Prelude.{columns_of, common_steps, cond_both, cost_table, count_by, count_by-le-length, Day}
-use Rattle.kd_plan.proofs.Prelude.{day_model, differ, eqb-true, get_or-map, get_or-replicate, has_letter}
-use Rattle.kd_plan.proofs.Prelude.{HasAllPins, is_priced, IsLegalDay, IsLegalRotorDay, IsMachine, IsOneToOne, IsPlanned}
-use Rattle.kd_plan.proofs.Prelude.{LeadsToTheDay, length-filter, length-map, length-zip, lines_from}
-use Rattle.kd_plan.proofs.Prelude.{letters_apart, letters_due}
-use Rattle.kd_plan.proofs.Prelude.{lugs_moved, lugs_of, lugs_to, M209, Model, model_of, nat_tests, OfPins, OfRotors}
-use Rattle.kd_plan.proofs.Prelude.{option_and_then, option_map_or, option_to_list, Parts, Pin, pin_lines, pin_of}
-use Rattle.kd_plan.proofs.Prelude.{pin_turn_of, PinDay, PinParts, pins_of, PinSet, PinTo, Place, planned_lines}
-use Rattle.kd_plan.proofs.Prelude.{priced_count, Pull, pulls_of, Put, puts_of, range_with_len, recursion_from_All}
-use Rattle.kd_plan.proofs.Prelude.{Reflector, reflectors_of, ring_at, ring_lines, ring_of_wheel, RingTo, Rotor}
-use Rattle.kd_plan.proofs.Prelude.{RotorDay, RotorParts, same_reflector, same_wheel, seat_of, SeatReflector, Setting}
-use Rattle.kd_plan.proofs.Prelude.{SheetWheel, slots_of, sum-map, sum_by, sum_by-append, sum_by-cons, sum_by-le}
-use Rattle.kd_plan.proofs.Prelude.{sum_by-le-sum_by, table_size, turn_of, unless_same, unless_so, Wheel}
+use Rattle.kd_tables.specs.declared.model.Model.TheVariants.{M209}
+use Rattle.std.proofs.lemmas.Int.{ints}
+use Rattle.std.specs.List.{IsDistinct}
+use Rattle.kd_plan.proofs.Prelude.{All-append, All-map, All-replicate, AllByRecursion, AreOfKind, ArePrices}
+use Rattle.kd_plan.proofs.Prelude.{as_few_are_needed, assignment_cost, at_most_four, bar_cost, bar_costs, bars_beside}
+use Rattle.kd_plan.proofs.Prelude.{besides, box_of, cable_cost, cable_costs, cable_letters, card_sum, column_kinds}
+use Rattle.kd_plan.proofs.Prelude.{column_letters, column_prices, columns_of, common_steps, cond_both, cost_table}
+use Rattle.kd_plan.proofs.Prelude.{count_by, count_by-le-length, Day, day_model, days_wheels_have_their_places, differ}
+use Rattle.kd_plan.proofs.Prelude.{eqb-true, fold_of_both, get_or-map, get_or-replicate, has_letter, HasAllPins}
+use Rattle.kd_plan.proofs.Prelude.{how_many, is_priced, IsLegalDay, IsLegalRotorDay, IsMachine, IsOneToOne, IsPlanned}
+use Rattle.kd_plan.proofs.Prelude.{LeadsToTheDay, length-filter, length-map, length-zip, letters_apart, letters_due}
+use Rattle.kd_plan.proofs.Prelude.{lines_from, loose_count, loose_rings, lugs_moved, lugs_of, lugs_to, Model, model_of}
+use Rattle.kd_plan.proofs.Prelude.{nat_tests, OfPins, OfRotors, option_and_then, option_map_or, option_to_list, Parts}
+use Rattle.kd_plan.proofs.Prelude.{Pin, pin_lines, pin_of, pin_turn_of, PinDay, PinParts, pins_of, PinSet, PinTo, Place}
+use Rattle.kd_plan.proofs.Prelude.{planned_lines, priced_count, prices_due, Pull, pulls_of, Put, puts_of}
+use Rattle.kd_plan.proofs.Prelude.{range_with_len, recursion_from_All, Reflector, reflectors_of, ring_at, ring_lines}
+use Rattle.kd_plan.proofs.Prelude.{ring_of_wheel, RingTo, Rotor, RotorDay, RotorParts, row_kinds, row_prices}
+use Rattle.kd_plan.proofs.Prelude.{same_reflector, same_wheel, seat_of, SeatReflector, Setting, SheetWheel, slots_of}
+use Rattle.kd_plan.proofs.Prelude.{sum-map, sum_by, sum_by-append, sum_by-cons, sum_by-le, sum_by-le-sum_by, table_size}
+use Rattle.kd_plan.proofs.Prelude.{thirteen_columns, turn_of, unless_same, unless_so, version_of, Wheel}
 use Rattle.kd_plan.proofs.Prelude.{wheel_pin_lines}
 use Rattle.kd_plan.proofs.Cables.{are_pluggable, AreProper, Beside, beside_each, IsPluggable}
 use Rattle.kd_plan.proofs.Carrying.{lines_of_each}
@@ -60,9 +57,6 @@ counted_priced so x e = grind arith
 not_same : (b : Bool) → cond {A = ℕ} (not b) 1 0 ≡ unless_same b
 not_same b = grind arith
 
-not_not : (b : Bool) → cond {A = ℕ} (not (not b)) 1 0 ≡ cond b 1 0
-not_not b = grind arith
-
 -- lines of things by their numbers
 counted_each : {Z : Type 0} (lines : ℕ → Z → List Setting) (f g : Z → ℕ) → ((number : ℕ) (z : Z) → AreCounted (lines number z) (f z) (g z))
     → (zs : List Z) (number : ℕ) → AreCounted (lines_from lines number zs) (sum_by f zs) (sum_by g zs)
@@ -73,14 +67,6 @@ counted_each lines f g h (z ∷ zs) number =
 sum_none : {Z : Type 0} (zs : List Z) → sum_by (λ z. 0) zs ≡ 0
 sum_none [] = refl
 sum_none (z ∷ zs) = simp sum_by-cons (omega (arith, sum_none zs))
-
-counted_loose_each : {Z : Type 0} (lines : ℕ → Z → List Setting) (f : Z → ℕ) → ((number : ℕ) (z : Z) → AreCounted (lines number z) (f z) 0)
-    → (zs : List Z) (number : ℕ) → AreCounted (lines_from lines number zs) (sum_by f zs) 0
-counted_loose_each lines f h zs number = rw sum_none at (counted_each lines f (λ z. 0) h zs number)
-
-counted_priced_each : {Z : Type 0} (lines : ℕ → Z → List Setting) (g : Z → ℕ) → ((number : ℕ) (z : Z) → AreCounted (lines number z) 0 (g z))
-    → (zs : List Z) (number : ℕ) → AreCounted (lines_from lines number zs) 0 (sum_by g zs)
-counted_priced_each lines g h zs number = rw sum_none at (counted_each lines (λ z. 0) g h zs number)
 
 counted_map : (line : ℕ → Setting) → ((x : ℕ) → is_priced (line x) ≡ true) → (xs : List ℕ) → AreCounted (map line xs) 0 (length xs)
 counted_map line h [] = record { few = omega arith; priced = refl }
@@ -184,7 +170,7 @@ module _ (m : RotorParts) (s : RotorDay) (to : List ℕ) where
   counted_rings : AreCounted (ring_lines m s.wheels) (loose_rings m s) 0
   counted_rings =
       let wrong = λ (w : SheetWheel). not (option_map_or (nat_eq w.ring) (ring_at m w.wheel) false) in
-      let all = counted_loose_each (λ n wheel. ring_of_wheel m s.wheels wheel) (λ wheel. cond (finds wrong s.wheels wheel) 1 0) (λ n wheel. counted_ring (find (λ (w : SheetWheel). same_wheel wheel w.wheel) s.wheels)) (box_of m.model) 1 in
+      let all = rw sum_none at (counted_each (λ n wheel. ring_of_wheel m s.wheels wheel) (λ wheel. cond (finds wrong s.wheels wheel) 1 0) (λ z. 0) (λ n wheel. counted_ring (find (λ (w : SheetWheel). same_wheel wheel w.wheel) s.wheels)) (box_of m.model) 1) in
       rw (lines_of_each (ring_of_wheel m s.wheels) (box_of m.model) 1) (record { few = omega (arith, all.few, found_at_most wrong m.model s.wheels); priced = all.priced })
     where
       counted_ring : (o : Option SheetWheel)
@@ -196,12 +182,12 @@ module _ (m : RotorParts) (s : RotorDay) (to : List ℕ) where
       → AreCounted (planned_lines (Rotor m) (OfRotors s) to) (loose_count (Rotor m) (OfRotors s)) (sum_by (λ z. cable_cost z.0 z.1) (besides m.cables s.pairs to))
   rotor_counted pluggable =
       let cables = besides m.cables s.pairs to in
-      let seats = counted_loose_each seat_of _ (λ n z. counted_loose _ _ refl) (zip m.slots s.wheels) 1 in
+      let seats = counted_each seat_of _ (λ z. 0) (λ n z. counted_loose _ _ refl) (zip m.slots s.wheels) 1 in
       let reflector = counted_loose (same_reflector m.reflector s.reflector) (SeatReflector s.reflector) refl in
-      let turns = counted_loose_each (turn_of m) _ (λ n w. counted_loose _ _ refl) s.wheels 1 in
-      let pulled = counted_priced_each pulls_of pulled_letters (λ n z. counted_map (λ letter. Pull n letter) (λ x. refl) (letters_apart (cable_letters z.0) (column_letters z.1))) cables 1 in
-      let put = counted_priced_each puts_of put_letters (λ n z. counted_map (λ letter. Put n letter) (λ x. refl) (letters_apart (letters_due z.1) (cable_letters z.0))) cables 1 in
-      let all = counted-append _ _ (counted-append _ _ (counted-append _ _ (counted-append _ _ (counted-append _ _ seats reflector) counted_rings) turns) pulled) put in
+      let turns = counted_each (turn_of m) _ (λ z. 0) (λ n w. counted_loose _ _ refl) s.wheels 1 in
+      let pulled = counted_each pulls_of (λ z. 0) pulled_letters (λ n z. counted_map (λ letter. Pull n letter) (λ x. refl) (letters_apart (cable_letters z.0) (column_letters z.1))) cables 1 in
+      let put = counted_each puts_of (λ z. 0) put_letters (λ n z. counted_map (λ letter. Put n letter) (λ x. refl) (letters_apart (letters_due z.1) (cable_letters z.0))) cables 1 in
+      let all = simp sum_none at (counted-append _ _ (counted-append _ _ (counted-append _ _ (counted-append _ _ (counted-append _ _ seats reflector) counted_rings) turns) pulled) put) in
       let sums = cable_sums cables pluggable in
       record { few = omega (arith, all.few, sums, not_same (same_reflector m.reflector s.reflector)); priced = omega (arith, all.priced, sums) }
 
@@ -214,15 +200,15 @@ module _ (m : PinParts) (s : PinDay) (to : List ℕ) where
       → AreCounted (wheel_pin_lines number (ring_of number) z.0 z.1) (count_by (λ (pin : Bool × Bool). differ pin.0 pin.1) (zip z.0 z.1)) 0
   counted_wheel number z =
       let cells = zip (ring_of number) (zip z.0 z.1) in
-      let all = counted_loose_each (λ n cell. pin_of number cell) (λ cell. cond (differ cell.1.0 cell.1.1) 1 0) (λ n cell. rw not_not at (counted_loose (not (differ cell.1.0 cell.1.1)) (PinTo number cell.0 cell.1.1) refl)) cells 1 in
+      let all = rw sum_none at (counted_each (λ n cell. pin_of number cell) (λ cell. cond (differ cell.1.0 cell.1.1) 1 0) (λ z. 0) (λ n cell. grind (arith, counted_loose)) cells 1) in
       rw (lines_of_each (pin_of number) cells 1) (record { few = omega (arith, all.few, beside_each (λ (pin : Bool × Bool). cond (differ pin.0 pin.1) 1 0) (ring_of number) (zip z.0 z.1)); priced = all.priced })
 
   pub pin_counted : AreCounted (planned_lines (Pin m) (OfPins s) to) (loose_count (Pin m) (OfPins s)) (sum_by (λ z. lugs_moved z.0 (to_stand z)) bars)
   pin_counted =
-      let pins = counted_loose_each (λ number z. wheel_pin_lines number (ring_of number) z.0 z.1) _ counted_wheel (zip (pins_of m.pins) (pins_of s.pins)) 1 in
-      let turns = counted_loose_each pin_turn_of _ (λ n z. counted_loose _ _ refl) (zip m.letters s.window) 1 in
-      let lugs = counted_priced_each lugs_of (λ z. lugs_moved z.0 (to_stand z)) (λ n z. counted_lugs n z.0 (to_stand z)) bars 1 in
-      let all = counted-append _ _ (counted-append (pin_lines m.pins s.pins) _ pins turns) lugs in
+      let pins = counted_each (λ number z. wheel_pin_lines number (ring_of number) z.0 z.1) _ (λ z. 0) counted_wheel (zip (pins_of m.pins) (pins_of s.pins)) 1 in
+      let turns = counted_each pin_turn_of _ (λ z. 0) (λ n z. counted_loose _ _ refl) (zip m.letters s.window) 1 in
+      let lugs = counted_each lugs_of (λ z. 0) (λ z. lugs_moved z.0 (to_stand z)) (λ n z. counted_lugs n z.0 (to_stand z)) bars 1 in
+      let all = simp sum_none at (counted-append _ _ (counted-append (pin_lines m.pins s.pins) _ pins turns) lugs) in
       record {
         few = omega (arith, all.few, sum-map (λ (z : List Bool × List Bool). count_by (λ (pin : Bool × Bool). differ pin.0 pin.1) (zip z.0 z.1)) (zip (pins_of m.pins) (pins_of s.pins)));
         priced = omega (arith, all.priced);
@@ -281,17 +267,13 @@ pub prices_of : (prices : PriceParts) (most : ℕ) → most ≤ 9999 → row_kin
     → All (λ price. unsigned_abs price ≤ most) (row_prices prices) → All (λ price. unsigned_abs price ≤ most) (column_prices prices) → ArePrices prices
 prices_of prices most le no_rows no_columns rows columns row_bound column_bound = search (rules, no_columns)
 
--- the sum of prices, added up from the front
-sum_from : (start : ℤ) (prices : List ℤ) → fold (λ sum price. sum +ℤ price) start prices ≡ (start +ℤ sum_of prices)
-sum_from start [] = omega (arith, ints)
-sum_from start (price ∷ prices) = let e = sum_from (start +ℤ price) prices in omega (arith, ints)
-
-sum_of-append : (rows columns : List ℤ) → sum_of (rows ++ columns) ≡ (sum_of rows +ℤ sum_of columns)
-sum_of-append [] columns = omega (arith, ints)
-sum_of-append (row ∷ rows) columns = let e = sum_of-append rows columns in omega (arith, ints)
+-- the sum of prices, as cards say it and as assignments do
+sums_alike : (prices : List ℤ) → card_sum prices ≡ sum_of prices
+sums_alike [] = refl
+sums_alike (price ∷ prices) = ap (λ sum. price +ℤ sum) (sums_alike prices)
 
 same_sum : (prices : PriceParts) → card.price_sum prices ≡ price_sum (row_prices prices) (column_prices prices)
-same_sum prices = grind (arith, sum_from, sum_of-append)
+same_sum prices = grind (arith, fold_of_both, sums_alike)
 
 -- prices of 0, where nothing has to be paid, fit as well as any
 record AreDue (costs : List (List ℕ)) (total number : ℕ) (rows columns : List ℤ) : Type 0 where
@@ -314,16 +296,10 @@ pub by_number : (m : Parts) (prices : PriceParts) → AreOfKind m prices → ver
 by_number m prices e = grind arith
 
 -- no cost is above the greatest
-table_at_most : {A B : Type 0} (cost : A → B → ℕ) (most : ℕ) → ((x : A) (y : B) → cost x y ≤ most) → (xs : List A) (ys : List B)
-    → CostsAtMost most (map (λ x. map (cost x) ys) xs)
-table_at_most cost most h xs ys =
-    All-map (All (λ c. c ≤ most)) (λ x. map (cost x) ys) xs (λ k d lt. All-map (λ c. c ≤ most) (cost _) ys (λ j e lt'. h _ _))
-
-pub cable_costs_at_most : (costs : List (List ℕ)) (cables : List (Option ℕ × Option ℕ)) (pairs : List (ℕ × ℕ)) → costs ≡ cable_costs cables pairs → CostsAtMost 4 costs
-cable_costs_at_most costs cables pairs e = rw e (table_at_most cable_cost 4 at_most_four cables (columns_of pairs))
-
-pub bar_costs_at_most : (costs : List (List ℕ)) (bars : List (Place × Place)) (rows : List (ℕ × ℕ)) → costs ≡ bar_costs bars rows → CostsAtMost 4 costs
-bar_costs_at_most costs bars rows e = rw e (table_at_most bar_cost 4 bar_cost_at_most bars rows)
+pub table_at_most : {A B : Type 0} (cost : A → B → ℕ) (most : ℕ) → ((x : A) (y : B) → cost x y ≤ most) → (costs : List (List ℕ)) (xs : List A) (ys : List B)
+    → costs ≡ map (λ x. map (cost x) ys) xs → CostsAtMost most costs
+table_at_most cost most h costs xs ys e =
+    rw e (All-map (All (λ c. c ≤ most)) (λ x. map (cost x) ys) xs (λ k d lt. All-map (λ c. c ≤ most) (cost _) ys (λ j e lt'. h _ _)))
 
 -- there is room for all lines
 few_slots : (model : Model) → slots_of model ≤ 4

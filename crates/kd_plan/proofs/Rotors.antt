@@ -1,21 +1,17 @@
 -- SEAT, REFLECTOR, RING and TURN, and that all lines of a rotor machine lead to the day.
-use Rattle.std.proofs.lemmas.Grind.{common_steps}
-use Rattle.std.proofs.Common.{[], All, AllPairs, ap, append_assoc, arith, Bool, cond, Contains, false, find, fold, get_or, length, length-append, List, map, nat_eq, None, Option, refl, set, slice_get, Some, subst, suc, sym, true, zero, zip, ℕ, ◌++◌, ◌+◌, ◌-◌, ◌<◌, ◌∙◌, ◌∷◌, ◌≡◌, ◌≢◌, rules}
-use Rattle.std.proofs.lemmas.Option.{slice_get-map}
-use Rattle.kd_state.proofs.Slots.{numbered_at, set_here, set_other}
-use Rattle.kd_state.proofs.Wheels.{allowed_in_box, days_wheels_have_their_places, has_reflector-Decides}
-use Rattle.kd_state.proofs.Wheels.{has_wheel-Decides, place_within, same_reflector-Decides, same_wheel-Decides}
-use Rattle.kd_state.proofs.Wheels.{same_wheel_self}
-use Rattle.kd_plan.proofs.Prelude.{AllByRecursion, AreSeated, besides, box_of, changed, cond_both, Contains-get_or}
-use Rattle.kd_plan.proofs.Prelude.{false_from_ne_true, find_at, get_or-map, get_or-range_with_len, IsAllowed}
-use Rattle.kd_plan.proofs.Prelude.{IsLegalRotorDay, IsMachine, IsOneToOne, LeadsToTheDay, length-map, length-set}
-use Rattle.kd_plan.proofs.Prelude.{lines_from, map-append, Model, OfRotors, option_and_then, option_map_or}
-use Rattle.kd_plan.proofs.Prelude.{option_to_list, Parts, place_in_box, planned_lines, position_or_len_is}
-use Rattle.kd_plan.proofs.Prelude.{range_with_len, recursion_from_All, Reflector, reflector_lines, reflectors_of}
-use Rattle.kd_plan.proofs.Prelude.{ring_of_wheel}
-use Rattle.kd_plan.proofs.Prelude.{ring_lines, RingTo, Rotor, RotorDay, RotorParts, same_wheel, Seat, seat_lines}
-use Rattle.kd_plan.proofs.Prelude.{seat_of, seats, set_at, Setting, SheetWheel, slice_get-get_or, Turn, turn_lines}
-use Rattle.kd_plan.proofs.Prelude.{unless_so, Wheel, wheels_for, why_refused, without}
+use Rattle.std.proofs.Common.{[], All, AllPairs, ap, append_assoc, arith, Bool, cond, Contains, false, find, fold, get_or, length, length-append, List, map, nat_eq, None, Option, refl, rules, set, slice_get, Some, subst, suc, sym, true, zero, zip, ℕ, ◌++◌, ◌+◌, ◌-◌, ◌<◌, ◌∙◌, ◌∷◌, ◌≡◌, ◌≢◌}
+use Rattle.kd_plan.proofs.Prelude.{AllByRecursion, allowed_in_box, AreSeated, besides, box_of, changed, common_steps}
+use Rattle.kd_plan.proofs.Prelude.{cond_both, Contains-get_or, days_wheels_have_their_places, false_from_ne_true}
+use Rattle.kd_plan.proofs.Prelude.{find_at, get_or-map, get_or-range_with_len, get_or_from_slice_get}
+use Rattle.kd_plan.proofs.Prelude.{has_reflector-Decides, has_wheel-Decides, IsAllowed, IsLegalRotorDay, IsMachine}
+use Rattle.kd_plan.proofs.Prelude.{IsOneToOne, LeadsToTheDay, length-map, length-set, lines_from, map-append, Model}
+use Rattle.kd_plan.proofs.Prelude.{numbered_at, OfRotors, option_and_then, option_map_or, option_to_list, Parts}
+use Rattle.kd_plan.proofs.Prelude.{place_in_box, place_within, planned_lines, position_or_len_is, range_with_len}
+use Rattle.kd_plan.proofs.Prelude.{recursion_from_All, Reflector, reflector_lines, reflectors_of, ring_lines}
+use Rattle.kd_plan.proofs.Prelude.{ring_of_wheel, RingTo, Rotor, RotorDay, RotorParts, same_reflector-Decides}
+use Rattle.kd_plan.proofs.Prelude.{same_wheel, same_wheel-Decides, same_wheel_self, Seat, seat_lines, seat_of, seats}
+use Rattle.kd_plan.proofs.Prelude.{set-get_or, set_at, set_here, set_other, Setting, SheetWheel, slice_get-get_or}
+use Rattle.kd_plan.proofs.Prelude.{slice_get-map, Turn, turn_lines, unless_so, Wheel, wheels_for, why_refused, without}
 use Rattle.kd_plan.proofs.Cables.{all_pulled, all_put, are_pluggable, are_the_pairs, Beside, once_put, same_cables}
 use Rattle.kd_plan.proofs.Cables.{wanted_once, with_cables}
 use Rattle.kd_plan.proofs.Carrying.{all_from, AllFrom, is_number, Led, led_append, led_none, led_unless, lines_of_each}
@@ -81,16 +77,16 @@ module _ (m : RotorParts) where
       → Led (with_slots slots) (reflector_lines m.reflector reflector) (Rotor (record m { slots = slots; reflector = reflector }))
   reflector_led slots reflector h = grind (arith, has_reflector-Decides, led_unless, same_reflector-Decides)
 
+set_same : (xs : List ℕ) (p v : ℕ) → slice_get xs p ≡ Some v → set xs p v ≡ xs
+set_same xs p v e = rw (get_or_from_slice_get xs p v 0 e) at (set-get_or xs p 0)
+
 -- ---- lines that each set the number at a place of a list, where it is another one, as RING and TURN do
 module _ {X : Type 0} (due : X → Option SheetWheel) (place value : SheetWheel → ℕ) (put : List ℕ → Parts) (line : ℕ → SheetWheel → Setting) where
-  abbrev is_so : List ℕ → SheetWheel → Bool
-  is_so letters w = option_map_or (nat_eq (value w)) (slice_get letters (place w)) false
-
   abbrev line_of : List ℕ → ℕ → X → List Setting
-  line_of letters number x = option_to_list (option_and_then (λ w. unless_so (is_so letters w) (line number w)) (due x))
+  line_of letters number x = option_to_list (option_and_then (λ w. unless_so (option_map_or (nat_eq (value w)) (slice_get letters (place w)) false) (line number w)) (due x))
 
   abbrev with_its : List ℕ → X → List ℕ
-  with_its letters x = option_map_or (λ w. cond (is_so letters w) letters (set letters (place w) (value w))) (due x) letters
+  with_its letters x = option_map_or (λ w. set letters (place w) (value w)) (due x) letters
 
   abbrev pub all_set : List ℕ → List X → List ℕ
   all_set letters xs = fold with_its letters xs
@@ -103,32 +99,23 @@ module _ {X : Type 0} (due : X → Option SheetWheel) (place value : SheetWheel 
     pub allowed : (w : SheetWheel) (letters : List ℕ) → due x ≡ Some w → why_refused (put letters) (line number w) ≡ None
     pub made : (w : SheetWheel) (letters : List ℕ) → due x ≡ Some w → changed (put letters) (line number w) ≡ put (set letters (place w) (value w))
 
+  -- at the thing's place stands what stood there
+  abbrev IsLeft : List ℕ → List ℕ → X → Type 0
+  IsLeft letters now x = (w : SheetWheel) → due x ≡ Some w → slice_get now (place w) ≡ slice_get letters (place w)
+
   kept : (letters : List ℕ) (x : X) (p : ℕ) → ((w : SheetWheel) → due x ≡ Some w → p ≢ place w) → slice_get (with_its letters x) p ≡ slice_get letters p
   kept letters x p away = grind (arith, set_other, away)
 
-  kept_line : (letters : List ℕ) (x y : X) (number : ℕ) → AreApart x y → line_of (with_its letters x) number y ≡ line_of letters number y
-  kept_line letters x y number apart = one (due y) refl
-    where
-      one : (found : Option SheetWheel) → due y ≡ found
-          → option_to_list (option_and_then (λ w. unless_so (is_so (with_its letters x) w) (line number w)) found) ≡ option_to_list (option_and_then (λ w. unless_so (is_so letters w) (line number w)) found)
-      one None e = refl
-      one (Some v) e = rw (kept letters x (place v) (λ w d. apart w v d e)) refl
+  one_set : (letters now : List ℕ) (x : X) (number : ℕ) → SetsIts number x → IsLeft letters now x → Led (put now) (line_of letters number x) (put (with_its now x))
+  one_set letters now x number h left = grind (arith, led_none, led_unless, h.allowed, h.made, left, set_same, is_number)
 
-  kept_lines : (letters : List ℕ) (x : X) (xs : List X) (number : ℕ) → AllByRecursion (AreApart x) xs
-      → lines_from (line_of (with_its letters x)) number xs ≡ lines_from (line_of letters) number xs
-  kept_lines letters x [] number h = refl
-  kept_lines letters x (y ∷ xs) number h = rw (kept_line letters x y number h.0, kept_lines letters x xs (number + 1) h.1) refl
-
-  one_set : (letters : List ℕ) (x : X) (number : ℕ) → SetsIts number x → Led (put letters) (line_of letters number x) (put (with_its letters x))
-  one_set letters x number h = grind (arith, led_none, led_unless, h.allowed, h.made)
-
-  pub sets_led : (letters : List ℕ) (xs : List X) (number : ℕ) → AllFrom SetsIts number xs → AllPairs AreApart xs
-      → Led (put letters) (lines_from (line_of letters) number xs) (put (all_set letters xs))
-  sets_led letters [] number sets apart = led_none refl
-  sets_led letters (x ∷ xs) number sets apart =
-      let others = recursion_from_All (AreApart x) xs (λ k d lt. apart zero (suc k) d (omega arith) (omega arith)) in
-      let rest = sets_led (with_its letters x) xs (number + 1) sets.1 (λ i j d before lt. apart (suc i) (suc j) d (omega arith) (omega arith)) in
-      led_append (line_of letters number x) (lines_from (line_of letters) (number + 1) xs) (one_set letters x number sets.0) (rw (kept_lines letters x xs (number + 1) others) at rest)
+  pub sets_led : (letters now : List ℕ) (xs : List X) (number : ℕ) → AllFrom SetsIts number xs → AllPairs AreApart xs → All (IsLeft letters now) xs
+      → Led (put now) (lines_from (line_of letters) number xs) (put (all_set now xs))
+  sets_led letters now [] number sets apart left = led_none refl
+  sets_led letters now (x ∷ xs) number sets apart left =
+      led_append (line_of letters number x) (lines_from (line_of letters) (number + 1) xs) (one_set letters now x number sets.0 (left zero x (omega arith)))
+      (sets_led letters (with_its now x) xs (number + 1) sets.1 (λ i j d before lt. apart (suc i) (suc j) d (omega arith) (omega arith))
+      (λ k d lt w e. kept now x (place w) (λ v f. apart zero (suc k) d (omega arith) (omega arith) v w f e) ∙ left (suc k) d (omega arith) w e))
 
   kept_by_all : (letters : List ℕ) (xs : List X) (p : ℕ) → AllByRecursion (λ x. (w : SheetWheel) → due x ≡ Some w → p ≢ place w) xs → slice_get (all_set letters xs) p ≡ slice_get letters p
   kept_by_all letters [] p h = refl
@@ -206,11 +193,11 @@ module _ (m : RotorParts) (s : RotorDay) (machine : IsMachine (Rotor m)) (legal 
   rings_lead : Led (with_rings m.rings) (ring_lines m s.wheels) (with_rings then_rings)
   rings_lead =
       rw (lines_of_each (ring_of_wheel m s.wheels) (box_of m.model) 1)
-      (sets_led the_one place (λ w. w.ring) with_rings ring_line m.rings (box_of m.model) 1
+      (sets_led the_one place (λ w. w.ring) with_rings ring_line m.rings m.rings (box_of m.model) 1
       (all_from (SetsIts the_one place (λ w. w.ring) with_rings ring_line) 1 (box_of m.model) (λ k d lt. record {
         allowed = λ w rings e. rw ((has_wheel-Decides (box_of m.model) w.wheel).1 (subst (Contains (box_of m.model)) (is_the_one (get_or (box_of m.model) k d) w e) (Contains-get_or (box_of m.model) k d lt))) refl;
         made = λ w rings e. refl;
-      })) box_apart)
+      })) box_apart (λ k d lt w e. refl))
 
   -- TURN
   abbrev with_letters : List ℕ → Parts
@@ -228,10 +215,10 @@ module _ (m : RotorParts) (s : RotorDay) (machine : IsMachine (Rotor m)) (legal 
 
   turns_lead : Led (with_letters m.letters) (turn_lines m s.wheels) (with_letters then_letters)
   turns_lead =
-      sets_led (λ w. Some w) place (λ w. w.letter) with_letters turn_line m.letters s.wheels 1
+      sets_led (λ w. Some w) place (λ w. w.letter) with_letters turn_line m.letters m.letters s.wheels 1
       (all_from (SetsIts (λ w. Some w) place (λ w. w.letter) with_letters turn_line) 1 s.wheels (λ k d lt.
       let here = numbered_at (seats s.wheels) k ∙ seated s.wheels k d lt in
-      record { allowed = λ w letters e. rw here refl; made = λ w letters e. grind (arith, here) })) turns_apart
+      record { allowed = λ w letters e. rw here refl; made = λ w letters e. grind (arith, here) })) turns_apart (λ k d lt w e. refl)
 
   -- CABLES
   abbrev turned : RotorParts

@@ -1,4 +1,4 @@
-use Rattle.std.proofs.Common.{rules, arith, ◌+◌}
+use Rattle.std.proofs.Common.{arith, rules, ◌+◌}
 use Rattle.kd_plan.proofs.Prelude.{common_steps}
 use Rattle.kd_plan.proofs.bar_lines.+push_lugs.Goals as goal
 

@@ -1,12 +1,10 @@
-use Rattle.std.proofs.Common.{refl, rules, arith, ◌≡◌}
-use Rattle.kd_plan.proofs.Prelude.{Pin, OfPins, Bars, some_since}
-use Rattle.kd_plan.specs.Due.{prices_due}
-use Rattle.kd_state.specs.Entry.{pin_values}
-use Rattle.kd_plan.proofs.Planning.{bar_costs_at_most, pin_room, planned, prices_of}
+use Rattle.std.proofs.Common.{arith, refl, rules, ◌≡◌}
+use Rattle.kd_plan.proofs.Prelude.{bar_cost, Bars, OfPins, Pin, pin_values, prices_due, some_since}
+use Rattle.kd_plan.proofs.Planning.{bar_cost_at_most, pin_room, planned, prices_of, table_at_most}
 use Rattle.kd_plan.proofs.planner.pin_card.Goals as goal
 
 pub assign-total-requires : goal.assign-total-requires
-assign-total-requires c = grind (arith, bar_costs_at_most)
+assign-total-requires c = grind (arith, table_at_most bar_cost 4 bar_cost_at_most _ _ _ c.bar_costs-costs.ensures)
 
 pub pin_settings-settings-requires-clause-room : goal.pin_settings-settings-requires-clause-room
 pin_settings-settings-requires-clause-room c = pin_room c.args.parts.now (pin_values c.args.entry.now) _ c.requires.machine

@@ -1,12 +1,11 @@
-use Rattle.std.proofs.Common.{refl, rules, arith, ap, ◌∙◌, ◌≡◌}
-use Rattle.kd_plan.proofs.Prelude.{Rotor, OfRotors, Cables, some_since, cable_costs}
-use Rattle.kd_plan.specs.Due.{prices_due}
-use Rattle.kd_state.specs.Entry.{rotor_values}
-use Rattle.kd_plan.proofs.Planning.{cable_costs_at_most, rotor_room, planned, prices_of}
+use Rattle.std.proofs.Common.{ap, arith, refl, rules, ◌∙◌, ◌≡◌}
+use Rattle.kd_plan.proofs.Prelude.{at_most_four, cable_cost, cable_costs, Cables, OfRotors, prices_due, Rotor}
+use Rattle.kd_plan.proofs.Prelude.{rotor_values, some_since}
+use Rattle.kd_plan.proofs.Planning.{planned, prices_of, rotor_room, table_at_most}
 use Rattle.kd_plan.proofs.planner.rotor_card.Goals as goal
 
 pub assign-total-requires : goal.assign-total-requires
-assign-total-requires c = grind (arith, cable_costs_at_most)
+assign-total-requires c = grind (arith, table_at_most cable_cost 4 at_most_four _ _ _ c.cable_costs-costs.ensures)
 
 pub rotor_settings-settings-requires-clause-room : goal.rotor_settings-settings-requires-clause-room
 rotor_settings-settings-requires-clause-room c = rotor_room c.args.parts.now (rotor_values c.args.entry.now) _ c.requires.machine c.requires.legal c.requires.model (search rules) c.assign-total.ensures.one_to_one
