@@ -13,7 +13,7 @@ use Rattle.kd_plan.proofs.Prelude.{All-append, All-map, All-replicate, AllByRecu
 use Rattle.kd_plan.proofs.Prelude.{as_few_are_needed, assignment_cost, at_most_four, bar_cost, bar_costs, bars_beside}
 use Rattle.kd_plan.proofs.Prelude.{besides, box_of, cable_cost, cable_costs, cable_letters, card_sum, column_kinds}
 use Rattle.kd_plan.proofs.Prelude.{column_letters, column_prices, columns_of, common_steps, cond_both, cost_table}
-use Rattle.kd_plan.proofs.Prelude.{count_by, count_by-le-length, Day, day_model, days_wheels_have_their_places, differ}
+use Rattle.kd_plan.proofs.Prelude.{count_by, count_by-le-length, Day, day_model, differ}
 use Rattle.kd_plan.proofs.Prelude.{eqb-true, fold_of_both, get_or-map, get_or-replicate, has_letter, HasAllPins}
 use Rattle.kd_plan.proofs.Prelude.{how_many, is_priced, IsLegalDay, IsLegalRotorDay, IsMachine, IsOneToOne, IsPlanned}
 use Rattle.kd_plan.proofs.Prelude.{LeadsToTheDay, length-filter, length-map, length-zip, letters_apart, letters_due}
@@ -259,7 +259,7 @@ planned_cards_prove m s settings prices machine legal h =
       leads = so.leads;
       fits = h.fits;
       sum = h.total ∙ ap pos (sym so.counted.priced);
-      needed = as_few_are_needed days_wheels_have_their_places m s (planned_lines m s h.to) legal h.model so.leads (omega (arith, so.counted.few, so.counted.priced));
+      needed = as_few_are_needed m s (planned_lines m s h.to) legal h.model so.leads (omega (arith, so.counted.few, so.counted.priced));
     })
 
 -- ---- the card that is made of an assignment, its prices and its lines is a planned one.
