@@ -113,7 +113,7 @@ record AreBounds (m : Parts) (s : Day) (prices : PriceParts) (lines : ℕ) : Typ
   bound : (pos (loose_count m s) +ℤ price_sum prices) ≤ℤ pos lines
   tight : pos lines ≡ (pos (loose_count m s) +ℤ price_sum prices) → AreTight (cost_table m s) prices
 
-no_rotors : (model : Model) (reflector : Reflector) → model ≡ M209 → Contains (reflectors_of model) reflector → ⊥
+pub no_rotors : (model : Model) (reflector : Reflector) → model ≡ M209 → Contains (reflectors_of model) reflector → ⊥
 no_rotors model reflector e h = let none = subst (λ model. Contains (reflectors_of model) reflector) e h in omega (arith, none.1)
 
 bounds : (m n : Parts) (s : Day) (prices : PriceParts) (settings : List Setting) → IsMachine m → IsLegalDay s → ArePrices prices

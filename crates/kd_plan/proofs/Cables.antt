@@ -1,5 +1,5 @@
 -- PULL and PUT: each cable loses the letters that its column hasn't, and then takes those that it lacks.
-use Rattle.std.proofs.Common.{[], ap, arith, Bool, cond, Contains, false, fold, get_or, IsPermutation, length, List, map, max, min, nat_eq, None, not, Option, refl, replicate, rules, slice_get, Some, subst, suc, sym, true, zero, zip, ℕ, ◌&&◌, ◌++◌, ◌-◌, ◌<◌, ◌||◌, ◌∙◌, ◌∷◌, ◌≡◌, ◌≤◌}
+use Rattle.std.proofs.Common.{[], ap, arith, Bool, cond, Contains, false, fold, get_or, IsPermutation, length, List, map, max, min, nat_eq, None, not, Option, refl, replicate, slice_get, Some, subst, suc, sym, true, zip, ℕ, ◌&&◌, ◌++◌, ◌-◌, ◌<◌, ◌||◌, ◌∙◌, ◌∷◌, ◌≡◌, ◌≤◌}
 use Rattle.kd_enigma.specs.Plugs.{letters_plugged}
 use Rattle.kd_state.specs.OnKey.{AreThePairs, IsPaired, Joins}
 use Rattle.std.specs.List.{IsDistinct}
@@ -99,7 +99,7 @@ put_is : (x y : ℕ) (cable : Cable) (column : Column) → IsAmong column cable 
 put_is x y cable column own e = grind (arith, nat_tests, loose_end, put_loose)
 
 put_among : (x : ℕ) (cable : Cable) (column : Column) → IsAmong column cable → wants column x ≡ true → IsAmong column (put_in cable x)
-put_among x cable column own e = (grind (arith, loose_end, put_apart), λ y d. grind (arith, nat_tests, put_is x y cable column own e, own.1 y))
+put_among x cable column own e = grind (arith, nat_tests, loose_end, put_apart, put_is)
 
 -- both letters of a pair are due, in order, and they differ
 in_order_due : (p q : ℕ) → nat_eq p q ≡ false
@@ -139,17 +139,11 @@ module _ (m : RotorParts) where
     pulled ((None, None), column) = led_none refl
     pulled ((Some a, None), column) = grind (arith, nat_tests, led_none, one_pulled a (Some a, None))
     pulled ((None, Some b), column) = grind (arith, nat_tests, led_none, one_pulled b (None, Some b))
-    pulled ((Some a, Some b), column) = two (wants column a) (wants column b) refl refl
-      where
-        two : (p q : Bool) → wants column a ≡ p → wants column b ≡ q
-            → Led (with_cable (Some a, Some b)) (map (λ letter. Pull number letter) (cond (not p) (a ∷ cond (not q) (b ∷ []) []) (cond (not q) (b ∷ []) []))) (with_cable (cond p (Some a, cond q (Some b) None) (cond q (Some b) None, None)))
-        two true true e d = led_none refl
-        two true false e d = grind (arith, nat_tests, one_pulled b (Some a, Some b))
-        two false true e d = grind (arith, nat_tests, one_pulled a (Some a, Some b))
-        two false false e d =
-            let first : Led (with_cable (Some a, Some b)) (Pull number a ∷ []) (with_cable (Some b, None)) = grind (arith, nat_tests, one_pulled a (Some a, Some b)) in
-            let second : Led (with_cable (Some b, None)) (Pull number b ∷ []) (with_cable (None, None)) = grind (arith, nat_tests, one_pulled b (Some b, None)) in
-            led_append _ _ first second
+    pulled ((Some a, Some b), column) =
+        let first : Led (with_cable (Some a, Some b)) (Pull number a ∷ []) (with_cable (Some b, None)) = grind (arith, nat_tests, one_pulled a (Some a, Some b)) in
+        let second : Led (with_cable (Some b, None)) (Pull number b ∷ []) (with_cable (None, None)) = grind (arith, nat_tests, one_pulled b (Some b, None)) in
+        let both = led_append (Pull number a ∷ []) (Pull number b ∷ []) first second in
+        grind (arith, nat_tests, led_none, one_pulled b (Some a, Some b), first, both)
 
     -- the letter lies in none of the others
     abbrev IsFree : ℕ → Type 0
@@ -212,8 +206,7 @@ cable_parts cable letters h = grind arith
 pair_proper : (pairs : List (ℕ × ℕ)) (k : ℕ) → AreProper (letters_plugged pairs) → AreProper (column_letters (slice_get pairs k))
 unfolding IsDistinct
 pair_proper [] k h = h
-pair_proper (pair ∷ pairs) zero h = record { apart = ((h.apart.0.0, tt), (tt, tt)); within = (h.within.0, (h.within.1.0, tt)) }
-pair_proper (pair ∷ pairs) (suc k) h = pair_proper pairs k (record { apart = h.apart.1.1; within = h.within.1.1 })
+pair_proper (pair ∷ pairs) k h = grind (arith, pair_proper pairs)
 
 all_pluggable : (cables : List Cable) (columns : List Column) → AreProper (plugged_letters cables) → AllByRecursion (λ column. AreProper (column_letters column)) columns
     → AllByRecursion IsPluggable (zip cables columns)

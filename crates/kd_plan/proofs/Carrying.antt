@@ -2,8 +2,8 @@
 -- the middle.
 use Rattle.std.proofs.Common.{[], All, AllPairs, ap, append_assoc, arith, Bool, Contains, false, get_or, IsPermutation, length, length-append, List, map, nat_eq, None, Option, refl, remove, rules, set, slice_get, Some, subst, suc, sym, true, zero, ℕ, ◌++◌, ◌+◌, ◌-◌, ◌<◌, ◌∙◌, ◌∷◌, ◌≡◌, ◌≢◌}
 use Rattle.std.proofs.lemmas.List.Edits.{length-remove}
-use Rattle.kd_plan.proofs.Prelude.{AllByRecursion, changed, common_steps, Contains-permutation, eqb-true, fill_by_all}
-use Rattle.kd_plan.proofs.Prelude.{flat_map, get_or-range_with_len, IsOneToOne, IsPermutation-cons, IsPermutation-map}
+use Rattle.kd_plan.proofs.Prelude.{AllByRecursion, changed, Contains-permutation, eqb-true, fill_by_all, flat_map}
+use Rattle.kd_plan.proofs.Prelude.{get_or-range_with_len, IsOneToOne, IsPermutation-cons, IsPermutation-map}
 use Rattle.kd_plan.proofs.Prelude.{IsPermutation-refl, IsPermutation-remove, IsPermutation-trans, Leads, length-map}
 use Rattle.kd_plan.proofs.Prelude.{length-range_with_len, lines_from, map-append, option_map_or, option_to_list, Parts}
 use Rattle.kd_plan.proofs.Prelude.{range_with_len, set_at, Setting, unless_so, why_refused}
@@ -74,7 +74,7 @@ led_cons {k = k} allowed made rest = record { leads = (k, record { allowed = all
 
 pub led_append : (xs ys : List Setting) {m k n : Parts} → Led m xs k → Led k ys n → Led m (xs ++ ys) n
 led_append [] ys {n = n} first second = subst (λ from. Led from ys n) first.leads second
-led_append (x ∷ xs) ys first second = search (rules, led_cons, led_append xs ys (record {leads = first.leads.2}) second)
+led_append (x ∷ xs) ys first second = search (rules, led_cons, led_append xs ys (record { leads = first.leads.2 }) second)
 
 -- a setting that is left out where things are so already
 pub led_unless : (so : Bool) (m n : Parts) (x : Setting) → (so ≡ true → n ≡ m) → (so ≡ false → changed m x ≡ n)

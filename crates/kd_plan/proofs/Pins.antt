@@ -1,5 +1,5 @@
 -- PIN, TURN and LUG, and that all lines of a Converter M-209 lead to the day.
-use Rattle.std.proofs.Common.{[], All, ap, arith, Bool, Contains, false, find, fold, get_or, inl, inr, is_some, IsPermutation, length, length-append, List, map, min, nat_eq, nat_lt, None, Option, refl, rules, slice_get, Some, suc, sym, true, unwrap_or, zero, zip, ℕ, ◌++◌, ◌+◌, ◌<◌, ◌∙◌, ◌∷◌, ◌≡◌, ◌≤◌}
+use Rattle.std.proofs.Common.{[], All, ap, arith, Bool, Contains, false, find, fold, get_or, inl, inr, is_some, IsPermutation, length, length-append, List, map, min, nat_eq, nat_lt, None, Option, refl, slice_get, Some, suc, sym, true, unwrap_or, zero, zip, ℕ, ◌++◌, ◌+◌, ◌<◌, ◌∙◌, ◌∷◌, ◌≡◌, ◌≤◌}
 use Rattle.kd_state.specs.Costs.{standings_as}
 use Rattle.kd_state.specs.Pins.{pin_set, wheel_pins, with_pin}
 use Rattle.kd_tables.specs.Places.{IsBefore, IsReading, place_rank, places, reading_of, standings}
@@ -231,7 +231,7 @@ module _ (m : PinParts) where
 -- the rows that the bars read as in the end
 rows_read : (zs : List BarRow) → AllByRecursion IsMovable zs → map (λ (bar : Place × Place). reading_of bar.0 bar.1) (map to_stand zs) ≡ map (λ (z : BarRow). z.1) zs
 rows_read [] h = refl
-rows_read (z ∷ zs) h = rw ((is_target z.0 z.1 h.0.reading).reads, rows_read zs h.1) refl
+rows_read (z ∷ zs) h = grind (arith, is_target, rows_read zs h.1)
 
 -- ---- all lines
 movable : (bars : List (Place × Place)) (rows : List (ℕ × ℕ)) (to : List ℕ) → AllByRecursion (λ bar. IsBefore bar.0 bar.1) bars → All IsReading rows

@@ -1,36 +1,35 @@
 -- How many lines there are, and how many of them the prices speak of: as many as the pairing costs.
-use Rattle.std.proofs.Common.{[], All, ap, arith, Bool, cond, Contains, false, find, fold, get_or, length, length-append, List, map, min, nat_eq, nat_le, nat_lt, None, not, Option, pos, refl, replicate, rules, Some, subst, suc, sym, true, unsigned_abs, zero, zip, ℕ, ℤ, ◌&&◌, ◌++◌, ◌+ℤ◌, ◌+◌, ◌<◌, ◌||◌, ◌∙◌, ◌∷◌, ◌≡◌, ◌≤ℤ◌, ◌≤◌}
+use Rattle.std.proofs.Common.{[], All, ap, arith, Bool, cond, false, find, fold, get_or, length, length-append, List, map, min, nat_eq, nat_le, nat_lt, None, not, Option, pos, refl, replicate, rules, suc, sym, true, unsigned_abs, zero, zip, ℕ, ℤ, ◌&&◌, ◌++◌, ◌+ℤ◌, ◌+◌, ◌<◌, ◌||◌, ◌∙◌, ◌∷◌, ◌≡◌, ◌≤ℤ◌, ◌≤◌}
 use Rattle.kd_assign.specs.Prices.{cost_at, CostsAtMost, Fits, price_at, price_sum, sum_of}
 use Rattle.kd_card.specs.declared.prices.PriceParts.{PriceParts}
 use Rattle.kd_card.specs.declared.prices.Version.TheVariants.{ByNumber}
 use Rattle.kd_state.specs.Costs.{standings_as}
 use Rattle.kd_tables.specs.Permutation.{alphabet}
 use Rattle.kd_tables.specs.Rings.{ring_of}
-use Rattle.kd_tables.specs.declared.model.Model.TheVariants.{M209}
 use Rattle.std.proofs.lemmas.Int.{ints}
 use Rattle.std.specs.List.{IsDistinct}
 use Rattle.kd_plan.proofs.Prelude.{All-append, All-map, All-replicate, AllByRecursion, AreOfKind, ArePrices}
-use Rattle.kd_plan.proofs.Prelude.{as_few_are_needed, assignment_cost, at_most_four, bar_cost, bar_costs, bars_beside}
-use Rattle.kd_plan.proofs.Prelude.{besides, box_of, cable_cost, cable_costs, cable_letters, card_sum, column_kinds}
-use Rattle.kd_plan.proofs.Prelude.{column_letters, column_prices, columns_of, common_steps, cond_both, cost_table}
-use Rattle.kd_plan.proofs.Prelude.{count_by, count_by-le-length, Day, day_model, differ}
-use Rattle.kd_plan.proofs.Prelude.{eqb-true, fold_of_both, get_or-map, get_or-replicate, has_letter, HasAllPins}
-use Rattle.kd_plan.proofs.Prelude.{how_many, is_priced, IsLegalDay, IsLegalRotorDay, IsMachine, IsOneToOne, IsPlanned}
-use Rattle.kd_plan.proofs.Prelude.{LeadsToTheDay, length-filter, length-map, length-zip, letters_apart, letters_due}
-use Rattle.kd_plan.proofs.Prelude.{lines_from, loose_count, loose_rings, lugs_moved, lugs_of, lugs_to, Model, model_of}
-use Rattle.kd_plan.proofs.Prelude.{nat_tests, OfPins, OfRotors, option_and_then, option_map_or, option_to_list, Parts}
-use Rattle.kd_plan.proofs.Prelude.{Pin, pin_lines, pin_of, pin_turn_of, PinDay, PinParts, pins_of, PinSet, PinTo, Place}
-use Rattle.kd_plan.proofs.Prelude.{planned_lines, priced_count, prices_due, Pull, pulls_of, Put, puts_of}
-use Rattle.kd_plan.proofs.Prelude.{range_with_len, recursion_from_All, Reflector, reflectors_of, ring_at, ring_lines}
-use Rattle.kd_plan.proofs.Prelude.{ring_of_wheel, RingTo, Rotor, RotorDay, RotorParts, row_kinds, row_prices}
+use Rattle.kd_plan.proofs.Prelude.{as_few_are_needed, assignment_cost, at_most_four, bar_cost, bars_beside, besides}
+use Rattle.kd_plan.proofs.Prelude.{box_of, cable_cost, cable_letters, card_sum, column_kinds, column_letters}
+use Rattle.kd_plan.proofs.Prelude.{column_prices, columns_of, common_steps, cond_both, cost_table, count_by}
+use Rattle.kd_plan.proofs.Prelude.{count_by-le-length, Day, day_model, differ, eqb-true, fold_of_both, get_or-map}
+use Rattle.kd_plan.proofs.Prelude.{get_or-replicate, has_letter, HasAllPins, how_many, is_priced, IsLegalDay}
+use Rattle.kd_plan.proofs.Prelude.{IsLegalRotorDay, IsMachine, IsOneToOne, IsPlanned, LeadsToTheDay, length-filter}
+use Rattle.kd_plan.proofs.Prelude.{length-map, length-zip, letters_apart, letters_due, lines_from, loose_count}
+use Rattle.kd_plan.proofs.Prelude.{loose_rings, lugs_moved, lugs_of, lugs_to, Model, model_of, nat_tests, no_rotors}
+use Rattle.kd_plan.proofs.Prelude.{OfPins, OfRotors, option_map_or, option_to_list, Parts, Pin, pin_lines, pin_of}
+use Rattle.kd_plan.proofs.Prelude.{pin_turn_of, PinDay, PinParts, pins_of, PinSet, Place, planned_lines, priced_count}
+use Rattle.kd_plan.proofs.Prelude.{Pull, pulls_of, Put, puts_of, range_with_len, recursion_from_All, ring_at}
+use Rattle.kd_plan.proofs.Prelude.{ring_lines, ring_of_wheel, Rotor, RotorDay, RotorParts, row_kinds, row_prices}
 use Rattle.kd_plan.proofs.Prelude.{same_reflector, same_wheel, seat_of, SeatReflector, Setting, SheetWheel, slots_of}
 use Rattle.kd_plan.proofs.Prelude.{sum-map, sum_by, sum_by-append, sum_by-cons, sum_by-le, sum_by-le-sum_by, table_size}
-use Rattle.kd_plan.proofs.Prelude.{thirteen_columns, turn_of, unless_same, unless_so, version_of, Wheel}
-use Rattle.kd_plan.proofs.Prelude.{wheel_pin_lines}
+use Rattle.kd_plan.proofs.Prelude.{thirteen_columns, turn_of, unless_same, unless_same_at_most, unless_so, version_of}
+use Rattle.kd_plan.proofs.Prelude.{Wheel, wheel_pin_lines}
 use Rattle.kd_plan.proofs.Cables.{are_pluggable, AreProper, Beside, beside_each, IsPluggable}
 use Rattle.kd_plan.proofs.Carrying.{lines_of_each}
 use Rattle.kd_plan.proofs.Pins.{are_movable, at_most_two, BarRow, is_target, IsMovable, pin_machine_leads, to_stand}
 use Rattle.kd_plan.proofs.Rotors.{rotors_lead}
+use Rattle.kd_plan.specs.Due.{prices_due}
 use Rattle.kd_plan.specs.Laws.{PlannedCardsProve, PlannedLinesLead}
 use Rattle.kd_card.specs.Prices as card
 
@@ -41,9 +40,6 @@ pub record AreCounted (lines : List Setting) (loose cost : ℕ) : Type 0 where
 
 pub counted-append : {a b p q : ℕ} (xs ys : List Setting) → AreCounted xs a p → AreCounted ys b q → AreCounted (xs ++ ys) (a + b) (p + q)
 counted-append xs ys h k = grind (arith, length-append, sum_by-append)
-
-priced-cons : (x : Setting) (xs : List Setting) → priced_count (x ∷ xs) ≡ cond (is_priced x) 1 0 + priced_count xs
-priced-cons x xs = sum_by-cons (λ x. cond (is_priced x) 1 0) x xs
 
 -- a line that is left out where things are so: of other things, and of cables and bars
 counted_loose : (so : Bool) (x : Setting) → is_priced x ≡ false
@@ -70,7 +66,7 @@ sum_none (z ∷ zs) = simp sum_by-cons (omega (arith, sum_none zs))
 
 counted_map : (line : ℕ → Setting) → ((x : ℕ) → is_priced (line x) ≡ true) → (xs : List ℕ) → AreCounted (map line xs) 0 (length xs)
 counted_map line h [] = record { few = omega arith; priced = refl }
-counted_map line h (x ∷ xs) = grind (arith, counted_map line h xs, priced-cons, h)
+counted_map line h (x ∷ xs) = grind (arith, counted_map line h xs, sum_by-cons (λ x. cond {A = ℕ} (is_priced x) 1 0) (line x) (map line xs), h)
 
 -- a cable's letters are pulled and put as many as its column costs, and 4 at most
 one_letter : (p q : Bool) → cond {A = ℕ} (p && not q) 1 0 + cond (q && not p) 1 0 ≡ cond (differ p q) 1 0
@@ -170,13 +166,8 @@ module _ (m : RotorParts) (s : RotorDay) (to : List ℕ) where
   counted_rings : AreCounted (ring_lines m s.wheels) (loose_rings m s) 0
   counted_rings =
       let wrong = λ (w : SheetWheel). not (option_map_or (nat_eq w.ring) (ring_at m w.wheel) false) in
-      let all = rw sum_none at (counted_each (λ n wheel. ring_of_wheel m s.wheels wheel) (λ wheel. cond (finds wrong s.wheels wheel) 1 0) (λ z. 0) (λ n wheel. counted_ring (find (λ (w : SheetWheel). same_wheel wheel w.wheel) s.wheels)) (box_of m.model) 1) in
+      let all = rw sum_none at (counted_each (λ n wheel. ring_of_wheel m s.wheels wheel) (λ wheel. cond (finds wrong s.wheels wheel) 1 0) (λ z. 0) (λ n wheel. grind (arith, counted_loose)) (box_of m.model) 1) in
       rw (lines_of_each (ring_of_wheel m s.wheels) (box_of m.model) 1) (record { few = omega (arith, all.few, found_at_most wrong m.model s.wheels); priced = all.priced })
-    where
-      counted_ring : (o : Option SheetWheel)
-          → AreCounted (option_to_list (option_and_then (λ (w : SheetWheel). unless_so (option_map_or (nat_eq w.ring) (ring_at m w.wheel) false) (RingTo w.wheel w.ring)) o))
-          (cond (option_map_or (λ (w : SheetWheel). not (option_map_or (nat_eq w.ring) (ring_at m w.wheel) false)) o false) 1 0) 0
-      counted_ring o = grind (arith, counted_loose)
 
   pub rotor_counted : AllByRecursion IsPluggable (besides m.cables s.pairs to)
       → AreCounted (planned_lines (Rotor m) (OfRotors s) to) (loose_count (Rotor m) (OfRotors s)) (sum_by (λ z. cable_cost z.0 z.1) (besides m.cables s.pairs to))
@@ -201,7 +192,7 @@ module _ (m : PinParts) (s : PinDay) (to : List ℕ) where
   counted_wheel number z =
       let cells = zip (ring_of number) (zip z.0 z.1) in
       let all = rw sum_none at (counted_each (λ n cell. pin_of number cell) (λ cell. cond (differ cell.1.0 cell.1.1) 1 0) (λ z. 0) (λ n cell. grind (arith, counted_loose)) cells 1) in
-      rw (lines_of_each (pin_of number) cells 1) (record { few = omega (arith, all.few, beside_each (λ (pin : Bool × Bool). cond (differ pin.0 pin.1) 1 0) (ring_of number) (zip z.0 z.1)); priced = all.priced })
+      grind (arith, lines_of_each (pin_of number) cells 1, all, beside_each (λ (pin : Bool × Bool). cond {A = ℕ} (differ pin.0 pin.1) 1 0) (ring_of number) (zip z.0 z.1))
 
   pub pin_counted : AreCounted (planned_lines (Pin m) (OfPins s) to) (loose_count (Pin m) (OfPins s)) (sum_by (λ z. lugs_moved z.0 (to_stand z)) bars)
   pin_counted =
@@ -218,16 +209,12 @@ module _ (m : PinParts) (s : PinDay) (to : List ℕ) where
 -- the bars are moved by as many lugs as their rows cost
 least_moved : (zs : List BarRow) → AllByRecursion IsMovable zs → sum_by (λ z. lugs_moved z.0 (to_stand z)) zs ≡ sum_by (λ z. bar_cost z.0 z.1) zs
 least_moved [] h = refl
-least_moved (z ∷ zs) h = simp sum_by-cons (omega (arith, (is_target z.0 z.1 h.0.reading).moved, least_moved zs h.1))
+least_moved (z ∷ zs) h = grind (arith, common_steps, sum_by-cons, is_target, least_moved zs h.1)
 
 -- What the lines lead to, and how many of them there are.
 record IsGood (m : Parts) (s : Day) (to : List ℕ) : Type 0 where
   leads : LeadsToTheDay m s (planned_lines m s to)
   counted : AreCounted (planned_lines m s to) (loose_count m s) (assignment_cost (cost_table m s) to)
-
--- a machine and a day are of one kind
-no_rotors : (model : Model) (reflector : Reflector) → model ≡ M209 → Contains (reflectors_of model) reflector → ⊥
-no_rotors model reflector e h = let none = subst (λ model. Contains (reflectors_of model) reflector) e h in omega (arith, none.1)
 
 good : (m : Parts) (s : Day) (to : List ℕ) → IsMachine m → IsLegalDay s → model_of m ≡ day_model s → length to ≡ table_size m → IsOneToOne to → IsGood m s to
 good (Rotor m) (OfRotors s) to machine legal same count one_to_one =
@@ -305,16 +292,13 @@ table_at_most cost most h costs xs ys e =
 few_slots : (model : Model) → slots_of model ≤ 4
 few_slots model = grind arith
 
-at_most_one : (b : Bool) → unless_same b ≤ 1
-at_most_one b = grind arith
-
 pub rotor_room : (m : RotorParts) (s : RotorDay) (to : List ℕ) → IsMachine (Rotor m) → IsLegalRotorDay s → m.model ≡ s.model → length to ≡ 13 → IsOneToOne to
     → length (planned_lines (Rotor m) (OfRotors s) to) ≤ 192
 rotor_room m s to machine legal same count one_to_one =
     let cables = besides m.cables s.pairs to in
     let counted = rotor_counted m s to (are_pluggable m.cables s.pairs to machine.legal.cables legal.pairs count one_to_one) in
     let costs = sum_by-le (λ (z : Beside). cable_cost z.0 z.1) 4 cables (λ k d lt. let z : Beside = get_or cables k d in at_most_four z.0 z.1) in
-    grind (arith, counted.few, count_by-le-length, length-zip, at_most_one, few_slots, length-map)
+    grind (arith, counted.few, count_by-le-length, length-zip, unless_same_at_most, few_slots, length-map)
 
 pins_at_most : (now wanted : PinSet) → HasAllPins now
     → sum_by (λ (z : List Bool × List Bool). length (zip z.0 z.1)) (zip (pins_of now) (pins_of wanted)) ≤ 131
@@ -335,15 +319,4 @@ pub planned : (m : Parts) (s : Day) (costs : List (List ℕ)) (to : List ℕ) (s
     → row_prices prices ≡ prices_due total rows → column_prices prices ≡ prices_due total columns → length rows ≡ how_many prices → length columns ≡ how_many prices
     → Fits costs rows columns → price_sum rows columns ≡ pos total → assignment_cost costs to ≡ total → IsPlanned m s settings prices
 planned m s costs to settings prices total rows columns same table kind size one_to_one lines first second many more fits sum cost =
-    let due = due_are (nat_eq total 0) costs total rows columns (how_many prices) refl many more fits sum in
-    record {
-      model = same;
-      kind = kind;
-      to = to;
-      all_rows = size;
-      one_to_one = one_to_one;
-      lines = lines;
-      fits = rw (← table, first, second) due.fits;
-      total = same_sum prices ∙ rw (← table, first, second, cost) due.sum;
-      zero = λ none. rw (first, second) (due.zero (sym cost ∙ ap (λ costs. assignment_cost costs to) table ∙ none));
-    }
+    grind (arith, same_sum, due_are (nat_eq total 0) costs total rows columns (how_many prices) refl many more fits sum)

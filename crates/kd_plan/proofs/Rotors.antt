@@ -1,5 +1,6 @@
 -- SEAT, REFLECTOR, RING and TURN, and that all lines of a rotor machine lead to the day.
-use Rattle.std.proofs.Common.{[], All, AllPairs, ap, append_assoc, arith, Bool, cond, Contains, false, find, fold, get_or, length, length-append, List, map, nat_eq, None, Option, refl, rules, set, slice_get, Some, subst, suc, sym, true, zero, zip, ℕ, ◌++◌, ◌+◌, ◌-◌, ◌<◌, ◌∙◌, ◌∷◌, ◌≡◌, ◌≢◌}
+use Rattle.std.proofs.Common.{[], All, AllPairs, ap, append_assoc, arith, Bool, cond, Contains, false, find, fold, get_or, length, length-append, List, map, nat_eq, None, Option, refl, set, slice_get, Some, subst, suc, sym, true, zero, zip, ℕ, ◌++◌, ◌+◌, ◌-◌, ◌<◌, ◌∙◌, ◌∷◌, ◌≡◌, ◌≢◌}
+use Rattle.kd_tables.specs.declared.reflector.Reflector.{Reflector}
 use Rattle.kd_plan.proofs.Prelude.{AllByRecursion, allowed_in_box, AreSeated, besides, box_of, changed, common_steps}
 use Rattle.kd_plan.proofs.Prelude.{cond_both, Contains-get_or, days_wheels_have_their_places, false_from_ne_true}
 use Rattle.kd_plan.proofs.Prelude.{find_at, get_or-map, get_or-range_with_len, get_or_from_slice_get}
@@ -7,11 +8,11 @@ use Rattle.kd_plan.proofs.Prelude.{has_reflector-Decides, has_wheel-Decides, IsA
 use Rattle.kd_plan.proofs.Prelude.{IsOneToOne, LeadsToTheDay, length-map, length-set, lines_from, map-append, Model}
 use Rattle.kd_plan.proofs.Prelude.{numbered_at, OfRotors, option_and_then, option_map_or, option_to_list, Parts}
 use Rattle.kd_plan.proofs.Prelude.{place_in_box, place_within, planned_lines, position_or_len_is, range_with_len}
-use Rattle.kd_plan.proofs.Prelude.{recursion_from_All, Reflector, reflector_lines, reflectors_of, ring_lines}
-use Rattle.kd_plan.proofs.Prelude.{ring_of_wheel, RingTo, Rotor, RotorDay, RotorParts, same_reflector-Decides}
-use Rattle.kd_plan.proofs.Prelude.{same_wheel, same_wheel-Decides, same_wheel_self, Seat, seat_lines, seat_of, seats}
-use Rattle.kd_plan.proofs.Prelude.{set-get_or, set_at, set_here, set_other, Setting, SheetWheel, slice_get-get_or}
-use Rattle.kd_plan.proofs.Prelude.{slice_get-map, Turn, turn_lines, unless_so, Wheel, wheels_for, why_refused, without}
+use Rattle.kd_plan.proofs.Prelude.{recursion_from_All, reflector_lines, reflectors_of, ring_lines, ring_of_wheel}
+use Rattle.kd_plan.proofs.Prelude.{RingTo, Rotor, RotorDay, RotorParts, same_reflector-Decides, same_wheel}
+use Rattle.kd_plan.proofs.Prelude.{same_wheel-Decides, same_wheel_self, seat_lines, seat_of, seats, set-get_or, set_at}
+use Rattle.kd_plan.proofs.Prelude.{set_here, set_other, Setting, SheetWheel, slice_get-get_or, slice_get-map, Turn}
+use Rattle.kd_plan.proofs.Prelude.{turn_lines, unless_so, Wheel, why_refused, without}
 use Rattle.kd_plan.proofs.Cables.{all_pulled, all_put, are_pluggable, are_the_pairs, Beside, once_put, same_cables}
 use Rattle.kd_plan.proofs.Cables.{wanted_once, with_cables}
 use Rattle.kd_plan.proofs.Carrying.{all_from, AllFrom, is_number, Led, led_append, led_none, led_unless, lines_of_each}
@@ -34,7 +35,7 @@ kept_seat wheel other seated e = grind (arith, cond_both, same_wheel-Decides)
 kept_seats : (wheel : Wheel) (slots : List (Option Wheel)) (wheels : List SheetWheel) (number : ℕ) → AllByRecursion (λ w. wheel ≢ w.wheel) wheels
     → lines_from seat_of number (zip (map (without wheel) slots) wheels) ≡ lines_from seat_of number (zip slots wheels)
 kept_seats wheel [] wheels number h = refl
-kept_seats wheel (now ∷ slots) [] number h = refl
+kept_seats wheel slots [] number h = grind arith
 kept_seats wheel (now ∷ slots) (w ∷ wheels) number h =
     rw (kept_seat wheel w.wheel now h.0, kept_seats wheel slots wheels (number + 1) h.1) refl
 

@@ -1,5 +1,5 @@
-use Rattle.std.proofs.Common.{arith, refl, rules, ◌≡◌}
-use Rattle.kd_plan.proofs.Prelude.{bar_cost, Bars, OfPins, Pin, pin_values, prices_due, some_since}
+use Rattle.std.proofs.Common.{arith}
+use Rattle.kd_plan.proofs.Prelude.{bar_cost, pin_values, some_since}
 use Rattle.kd_plan.proofs.Planning.{bar_cost_at_most, pin_room, planned, prices_of, table_at_most}
 use Rattle.kd_plan.proofs.planner.pin_card.Goals as goal
 
